@@ -1,0 +1,167 @@
+-- The whole call: its answer, and what every lent buffer holds afterwards.
+use Prim.Native.Nat.{ℕ, _-_, _/_}
+use mathlib.Core.Bool.{Bool, true, false, cond, _&&_}
+use mathlib.Core.List.{List, [], _∷_, _++_}
+use lib.Dec.{leb, eqb}
+use lib.ListN.{length, replicate}
+use Rattle.definitions.specs.Token.{Token, tokens, bytes}
+use Rattle.definitions.specs.Grammar.{Entry, SourceFile, ReferenceNoamp, PropValues, Cells, whole, root-kind}
+use Rattle.definitions.specs.Skeleton.{no-label, Skeleton}
+use Rattle.definitions.specs.Run.{Out, taken, exec, run}
+use Rattle.definitions.specs.Place.{root, rows, lexical-errors}
+use Rattle.definitions.specs.Report.{Room, Fit, fits, stops, Push, pushes, scan, reports, report-rows, pool}
+use Rattle.definitions.specs.Refusal.{Refusal, unknown-entry, too-long, bad-row, bad-text, too-deep, no-event-room, no-report-room, no-tree-room, number-of, place-of, Verdict, accepted, refused, check-input}
+
+-- the lent buffers: events (work only), tree rows, lexical errors, reports, expectations
+pub record Buffers : Type 0 where
+  pub events : List ℕ
+  pub trees : List ℕ
+  pub errors : List ℕ
+  pub reports : List ℕ
+  pub pool : List ℕ
+
+-- number, place, and the counts of tree rows, lexical errors, reports and expectations written
+pub record Answer : Type 0 where
+  pub number : ℕ
+  pub place : ℕ
+  pub trees : ℕ
+  pub errors : ℕ
+  pub reports : ℕ
+  pub expectations : ℕ
+
+pub record Result : Type 0 where
+  pub answer : Answer
+  pub buffers : Buffers
+
+-- how many numbers a row has
+abbrev pub EVENT-ROW : ℕ
+EVENT-ROW = 3
+
+abbrev pub TREE-ROW : ℕ
+TREE-ROW = 4
+
+abbrev pub ERROR-ROW : ℕ
+ERROR-ROW = 3
+
+abbrev pub REPORT-ROW : ℕ
+REPORT-ROW = 9
+
+-- ---------------------------------------------------------------- refused
+
+abbrev pub refusal : Refusal → Answer
+refusal r = record { number = number-of r; place = place-of r; trees = 0; errors = 0; reports = 0; expectations = 0 }
+
+-- causes 1 to 4: every buffer is left as it was
+abbrev pub untouched : Refusal → Buffers → Result
+untouched r b = record { answer = refusal r; buffers = b }
+
+abbrev pub zeros : List ℕ → List ℕ
+zeros l = replicate (length l) 0
+
+-- causes 5 to 8: every buffer is all zero
+abbrev pub cleared : Refusal → Buffers → Result
+cleared r b =
+    record {
+      answer = refusal r;
+      buffers = record { events = zeros (b .events); trees = zeros (b .trees); errors = zeros (b .errors); reports = zeros (b .reports); pool = zeros (b .pool) };
+    }
+
+-- ---------------------------------------------------------------- parsed
+
+-- at most 64 open calls; nothing taken, nothing pending
+unfoldable pub run-entry : Entry → List Token → Skeleton
+unfolding exec run whole
+run-entry e ts = exec (run 64) no-label (whole e) (taken ts) .made
+
+-- the numbers that an accepted call writes
+pub record Sheets : Type 0 where
+  pub trees : List ℕ
+  pub errors : List ℕ
+  pub reports : List ℕ
+  pub pool : List ℕ
+
+unfoldable pub sheets : Entry → List Token → Skeleton → Sheets
+unfolding root rows lexical-errors reports report-rows pool root-kind bytes
+sheets e ts o =
+    let l = reports (pushes o) in
+    record { trees = rows (root (root-kind e) o ts); errors = lexical-errors 0 ts; reports = report-rows (length ts) (bytes ts) 0 l; pool = pool l }
+
+-- written to the front of a buffer; the rest is zero
+abbrev pub written : List ℕ → List ℕ → List ℕ
+written l b = l ++ replicate (length b - length l) 0
+
+abbrev pub kept : Sheets → Buffers → Result
+kept s b =
+    record {
+      answer =
+          record {
+            number = 0;
+            place = 0;
+            trees = length (s .trees) / TREE-ROW;
+            errors = length (s .errors) / ERROR-ROW;
+            reports = length (s .reports) / REPORT-ROW;
+            expectations = length (s .pool);
+          };
+      buffers =
+          record {
+            events = zeros (b .events);
+            trees = written (s .trees) (b .trees);
+            errors = written (s .errors) (b .errors);
+            reports = written (s .reports) (b .reports);
+            pool = written (s .pool) (b .pool);
+          };
+    }
+
+-- cause 8
+unfoldable pub finish : Sheets → Buffers → Result
+finish s b =
+    let good = kept s b in
+    cond (leb (length (s .trees)) (length (b .trees)) && leb (length (s .errors)) (length (b .errors))) good (cleared no-tree-room b)
+
+-- a mark counted from the start, in a file of n tokens
+unfoldable pub forward-mark : ℕ → Refusal → Refusal
+forward-mark n unknown-entry = unknown-entry
+forward-mark n too-long = too-long
+forward-mark n (bad-row i) = bad-row i
+forward-mark n (bad-text i) = bad-text i
+forward-mark n (too-deep m) = too-deep (n - m)
+forward-mark n (no-event-room m) = no-event-room (n - m)
+forward-mark n (no-report-room m) = no-report-room (n - m)
+forward-mark n no-tree-room = no-tree-room
+
+-- causes 5 to 7, whichever the run meets first, and then 8
+unfoldable pub outcome : Fit → Entry → List Token → Skeleton → Buffers → Result
+unfolding sheets finish forward-mark number-of place-of
+outcome (stops r) e ts o b = cleared (forward-mark (length ts) r) b
+outcome (fits z) e ts o b = finish (sheets e ts o) b
+
+abbrev pub room-of : Buffers → Room
+room-of b = record { events = length (b .events) / EVENT-ROW; reports = length (b .reports) / REPORT-ROW; pool = length (b .pool) }
+
+unfoldable pub parse : Entry → List Token → Buffers → Result
+unfolding run-entry pushes scan outcome
+parse e ts b = let o = run-entry e ts in outcome (scan (pushes o) (room-of b)) e ts o b
+
+-- ---------------------------------------------------------------- the call
+
+pub data Asked : Type 0 where
+  for : Entry → Asked
+  unknown : Asked
+
+unfoldable pub entry-of : ℕ → Asked
+entry-of n = cond (eqb n 1) (for SourceFile) (cond (eqb n 2) (for ReferenceNoamp) (cond (eqb n 3) (for PropValues) (cond (eqb n 4) (for Cells) unknown)))
+
+unfoldable pub checked : Verdict → Entry → List ℕ → Buffers → Result
+unfolding parse tokens number-of place-of
+checked (refused r) e tk b = untouched r b
+checked accepted e tk b = parse e (tokens tk) b
+
+unfoldable pub asked : Asked → List ℕ → List ℕ → Buffers → Result
+unfolding checked check-input number-of place-of
+asked unknown bs tk b = untouched unknown-entry b
+asked (for e) bs tk b = checked (check-input bs tk) e tk b
+
+-- entry, input bytes, token numbers, and the lent buffers as they are at entry
+unfoldable pub call : ℕ → List ℕ → List ℕ → Buffers → Result
+unfolding asked entry-of
+call n bs tk b = asked (entry-of n) bs tk b

@@ -1,0 +1,30 @@
+-- event.rs: the events of a skeleton, in the order in which they are pushed.
+use Prim.Native.Nat.{ℕ, suc}
+use mathlib.Core.Bool.{Bool, true, false}
+use mathlib.Core.List.{List, [], _∷_, _++_}
+use lib.ListN.{length}
+use Rattle.definitions.specs.Skeleton.{Skeleton, done, token, name, node, ignored, report, over}
+
+-- StartNode: kind, and the distance to the event of the marker that was made to precede it, or 0 (`forward_parent`)
+pub data Event : Type 0 where
+  StartNode : ℕ → ℕ → Event
+  AddToken : Event
+  AddCombinedToken : ℕ → Event
+  FinishNode : Event
+  Placeholder : Event
+  Error : Event
+
+abbrev pub forward : Bool → ℕ → ℕ
+forward true n = n
+forward false n = 0
+
+-- linked: the marker after this skeleton's last node precedes it
+unfoldable pub events : Bool → Skeleton → List Event
+events linked done = []
+events linked (token t m o) = AddToken ∷ events linked o
+events linked (name ts m o) = AddCombinedToken (length ts) ∷ events linked o
+events linked (node k m m′ a i o) =
+    events true a ++ (StartNode k (forward linked (suc (suc (length (events false i))))) ∷ (events false i ++ (FinishNode ∷ events linked o)))
+events linked (ignored m m′ a i o) = events true a ++ (Placeholder ∷ (events false i ++ (Placeholder ∷ events linked o)))
+events linked (report r o) = Error ∷ events linked o
+events linked (over m o) = events linked o

@@ -1,0 +1,84 @@
+-- Document 01's table of causes: the refusals, their numbers and places, and the checks of a call's input.
+use Prim.Native.Nat.{ℕ, suc, _-_}
+use mathlib.Core.Bool.{Bool, true, false, cond, not, _&&_, _||_}
+use mathlib.Core.List.{List, [], _∷_}
+use lib.Dec.{leb, eqb}
+use lib.ListN.{length, take, drop}
+use Rattle.definitions.specs.TokenKind as K
+use Rattle.definitions.specs.StaticText.{static-texts, fits-text}
+use Rattle.definitions.specs.Token.{Token, tokens}
+
+-- in the table's order; a place is given where it is not always 0
+pub data Refusal : Type 0 where
+  unknown-entry : Refusal
+  too-long : Refusal
+  bad-row : ℕ → Refusal
+  bad-text : ℕ → Refusal
+  too-deep : ℕ → Refusal
+  no-event-room : ℕ → Refusal
+  no-report-room : ℕ → Refusal
+  no-tree-room : Refusal
+
+unfoldable pub number-of : Refusal → ℕ
+number-of unknown-entry = 1
+number-of too-long = 2
+number-of (bad-row i) = 3
+number-of (bad-text i) = 4
+number-of (too-deep m) = 5
+number-of (no-event-room m) = 6
+number-of (no-report-room m) = 7
+number-of no-tree-room = 8
+
+unfoldable pub place-of : Refusal → ℕ
+place-of unknown-entry = 0
+place-of too-long = 0
+place-of (bad-row i) = i
+place-of (bad-text i) = i
+place-of (too-deep m) = m
+place-of (no-event-room m) = m
+place-of (no-report-room m) = m
+place-of no-tree-room = 0
+
+pub data Verdict : Type 0 where
+  accepted : Verdict
+  refused : Refusal → Verdict
+
+-- the first refusal
+infixr 20 _or-else_
+unfoldable pub _or-else_ : Verdict → Verdict → Verdict
+accepted or-else v = v
+refused r or-else v = refused r
+
+abbrev pub unless : Bool → Refusal → Verdict
+unless true r = accepted
+unless false r = refused r
+
+-- cause 2
+unfoldable pub check-sizes : List ℕ → List ℕ → Verdict
+check-sizes bs tk = unless (leb (length bs) 1048576 && leb (length tk) 131072) too-long
+
+-- 0 to 60 but for Unrecognized and Name, or a lexical error, 64 to 74
+unfoldable pub is-kind : ℕ → Bool
+is-kind k = (leb k 60 && not (eqb k K.Unrecognized) && not (eqb k K.Name)) || (leb 64 k && leb k 74)
+
+-- cause 3, from row i on, with so many bytes not yet covered: the first bad row, else the count of whole rows
+unfoldable pub check-rows : ℕ → ℕ → List ℕ → Verdict
+unfolding is-kind
+check-rows i left [] = unless (eqb left 0) (bad-row i)
+check-rows i left (k ∷ []) = refused (bad-row i)
+check-rows i left (k ∷ n ∷ l) =
+    let r = check-rows (suc i) (left - n) l in
+    cond (is-kind k && leb 1 n && leb n left) r (refused (bad-row i))
+
+-- cause 4, from row i on, with the bytes from its token on
+unfoldable pub check-texts : ℕ → List ℕ → List Token → Verdict
+unfolding fits-text
+check-texts i bs [] = accepted
+check-texts i bs (t ∷ ts) =
+    let r = check-texts (suc i) (drop (t .len) bs) ts in
+    cond (fits-text static-texts (t .kind) (take (t .len) bs)) r (refused (bad-text i))
+
+-- causes 2 to 4, in that order
+unfoldable pub check-input : List ℕ → List ℕ → Verdict
+unfolding _or-else_ check-sizes check-rows check-texts tokens
+check-input bs tk = check-sizes bs tk or-else check-rows 0 (length bs) tk or-else check-texts 0 bs (tokens tk)
