@@ -1,0 +1,112 @@
+-- Rows read as a preorder give back the tree whose rows they are, and no other.
+use Prim.Native.Nat.{ℕ, suc, _+_, _*_}
+use native.Mathlib.Omega.{arith}
+use mathlib.Core.Path.{_≡_, refl, ap, sym, _∙_}
+use mathlib.Core.List.{List, [], _++_, append-assoc, append-nil}
+use lib.ListN.{length, length-append}
+use Rattle.definitions.specs.Token.{bytes}
+use Rattle.definitions.specs.Place.{Tree, nil, leaf, branch, width, count, rows, tree-row}
+use Rattle.laws.specs.Rows.{Rows, end, node, preorder, number, widths, Counts, Widths, first-rows, later-rows, read-row, read}
+use Rattle.laws.specs.Rows as R
+
+-- ---------------------------------------------------------------- reading
+
+infixr 30 _⊞_
+_⊞_ : Rows → Rows → Rows
+end ⊞ g = g
+R.leaf k w n f ⊞ g = R.leaf k w n (f ⊞ g)
+node k w n c f ⊞ g = node k w n c (f ⊞ g)
+
+beside-end : (f : Rows) → f ⊞ end ≡ f
+unfolding _⊞_
+beside-end end = refl
+beside-end (R.leaf k w n f) = ap (R.leaf k w n) (beside-end f)
+beside-end (node k w n c f) = ap (node k w n c) (beside-end f)
+
+first-of : (c g : Rows) → first-rows (number c) (c ⊞ g) ≡ c
+unfolding _⊞_ first-rows number
+first-of end g = refl
+first-of (R.leaf k w n f) g = ap (R.leaf k w n) (first-of f g)
+first-of (node k w n c f) g = ap (node k w n c) (first-of f g)
+
+later-of : (c g : Rows) → later-rows (number c) (c ⊞ g) ≡ g
+unfolding _⊞_ later-rows number
+later-of end g = refl
+later-of (R.leaf k w n f) g = later-of f g
+later-of (node k w n c f) g = later-of f g
+
+-- rows with true counts are read as what they are, whatever follows
+read-preorder : (r : Rows) (l : List ℕ) → Counts r → read (preorder r ++ l) ≡ r ⊞ read l
+unfolding read preorder Counts read-row _⊞_
+read-preorder end l h = refl
+read-preorder (R.leaf k w n f) l h = ap (R.leaf k w n) (read-preorder f l h)
+read-preorder (node k w n c f) l h =
+    let e : read ((preorder c ++ preorder f) ++ l) ≡ c ⊞ (f ⊞ read l) =
+    ap read (append-assoc (preorder c) (preorder f) l) ∙ read-preorder c (preorder f ++ l) (h .1) ∙ ap (c ⊞_) (read-preorder f l (h .2)) in
+    ap (λ (x : Rows). node k w n (first-rows n x) (later-rows n x)) e
+    ∙ ap (λ (m : ℕ). node k w n (first-rows m (c ⊞ (f ⊞ read l))) (later-rows m (c ⊞ (f ⊞ read l)))) (h .0)
+    ∙ ap (λ (x : Rows). node k w n x (later-rows (number c) (c ⊞ (f ⊞ read l)))) (first-of c (f ⊞ read l))
+    ∙ ap (node k w n c) (later-of c (f ⊞ read l))
+
+-- READ BACK
+pub read-back : (r : Rows) → Counts r → read (preorder r) ≡ r
+unfolding read
+read-back r h = ap read (sym (append-nil (preorder r))) ∙ read-preorder r [] h ∙ beside-end r
+
+-- ONLY ONE: two trees with true counts and the same rows are the same
+pub preorder-once : (r q : Rows) → Counts r → Counts q → preorder r ≡ preorder q → r ≡ q
+preorder-once r q h g e = sym (read-back r h) ∙ ap read e ∙ read-back q g
+
+-- ---------------------------------------------------------------- the rows of a tree
+
+-- a placed tree as its rows show it: without the raw tokens
+unfoldable pub shown : Tree → Rows
+shown nil = end
+shown (leaf k ts f) = R.leaf k (bytes ts) (length ts) (shown f)
+shown (branch k c f) = node k (width c) (count c) (shown c) (shown f)
+
+pub shown-preorder : (t : Tree) → preorder (shown t) ≡ rows t
+unfolding shown preorder rows
+shown-preorder nil = refl
+shown-preorder (leaf k ts f) = ap (tree-row 1 k (bytes ts) (length ts)) (shown-preorder f)
+shown-preorder (branch k c f) =
+    ap (λ (l : List ℕ). tree-row 0 k (width c) (count c) (l ++ preorder (shown f))) (shown-preorder c) ∙ ap (λ (l : List ℕ). tree-row 0 k (width c) (count c) (rows c ++ l)) (shown-preorder f)
+
+count-number : (t : Tree) → count t ≡ number (shown t)
+unfolding shown count number
+count-number nil = refl
+count-number (leaf k ts f) = ap suc (count-number f)
+count-number (branch k c f) = ap suc (count-number f)
+
+width-widths : (t : Tree) → width t ≡ widths (shown t)
+unfolding shown width widths
+width-widths nil = refl
+width-widths (leaf k ts f) = ap (bytes ts +_) (width-widths f)
+width-widths (branch k c f) = ap (width c +_) (width-widths f)
+
+pub shown-counts : (t : Tree) → Counts (shown t)
+unfolding shown Counts
+shown-counts nil = tt
+shown-counts (leaf k ts f) = shown-counts f
+shown-counts (branch k c f) = (count-number c, shown-counts c, shown-counts f)
+
+pub shown-widths : (t : Tree) → Widths (shown t)
+unfolding shown Widths
+shown-widths nil = tt
+shown-widths (leaf k ts f) = shown-widths f
+shown-widths (branch k c f) = (width-widths c, shown-widths c, shown-widths f)
+
+-- how many rows a tree has, nodes and leaves
+unfoldable pub row-count : Tree → ℕ
+row-count nil = 0
+row-count (leaf k ts f) = suc (row-count f)
+row-count (branch k c f) = suc (row-count c + row-count f)
+
+pub rows-length : (t : Tree) → length (rows t) ≡ 4 * row-count t
+unfolding rows row-count
+rows-length nil = refl
+rows-length (leaf k ts f) = let h : length (rows f) ≡ 4 * row-count f = rows-length f in omega arith
+rows-length (branch k c f) =
+    let h : length (rows c) ≡ 4 * row-count c = rows-length c in
+    let g : length (rows f) ≡ 4 * row-count f = rows-length f in
+    simp length-append (omega arith)

@@ -1,0 +1,105 @@
+-- What the checks of a call's input say, causes 2 to 4: limits, kinds, lengths, that the rows cover the input exactly, and fixed texts.
+use Prim.Native.Nat.{ℕ, suc, _-_, _*_, _≤_}
+use native.Mathlib.Omega.{arith}
+use mathlib.Core.Path.{_≡_, refl, sym}
+use mathlib.Core.Bool.{Bool, true, false, cond, _&&_}
+use mathlib.Core.List.{List, [], _∷_}
+use lib.Dec.{leb, eqb}
+use lib.ListN.{length, take, drop}
+use borrow.Author.Tests.{leb-true, eqb-true}
+use Rattle.definitions.specs.Token.{Token, tokens, bytes}
+use Rattle.definitions.specs.StaticText.{static-texts, fits-text}
+use Rattle.definitions.specs.Refusal.{Refusal, too-long, bad-row, bad-text, Verdict, accepted, refused, _or-else_, unless, check-sizes, is-kind, check-rows, check-texts, check-input}
+use Rattle.laws.proofs.Trivia.{and-left, and-right}
+
+pub or-else-left : (v w : Verdict) → (v or-else w) ≡ accepted → v ≡ accepted
+unfolding _or-else_
+or-else-left accepted w e = refl
+or-else-left (refused r) w e = e
+
+pub or-else-right : (v w : Verdict) → (v or-else w) ≡ accepted → w ≡ accepted
+unfolding _or-else_
+or-else-right accepted w e = e
+or-else-right (refused r) w e = let x : _≡_ {A = ℕ} 0 1 = cc in absurd (omega arith)
+
+pub unless-holds : (c : Bool) (r : Refusal) → unless c r ≡ accepted → c ≡ true
+unless-holds true r e = refl
+unless-holds false r e = let x : _≡_ {A = ℕ} 0 1 = cc in absurd (omega arith)
+
+-- a token of a kind that may be input, at least one byte long
+pub record Good (t : Token) : Type 0 where
+  pub kind : is-kind (t .kind) ≡ true
+  pub len : 1 ≤ t .len
+
+abbrev pub All-good : List Token → Type 0
+All-good [] = Unit {0}
+All-good (t ∷ ts) = Good t × All-good ts
+
+-- each token's bytes fit the text of its kind
+abbrev pub Texts-fit : List ℕ → List Token → Type 0
+Texts-fit bs [] = Unit {0}
+Texts-fit bs (t ∷ ts) = (fits-text static-texts (t .kind) (take (t .len) bs) ≡ true) × Texts-fit (drop (t .len) bs) ts
+
+-- what causes 2 to 4 leave
+pub record Checked (bs tk : List ℕ) : Type 0 where
+  pub bytes-limit : length bs ≤ 1048576
+  pub numbers-limit : length tk ≤ 131072
+  -- rows come in pairs, and cover the input exactly
+  pub pairs : length tk ≡ 2 * length (tokens tk)
+  pub covered : bytes (tokens tk) ≡ length bs
+  pub good : All-good (tokens tk)
+  pub texts : Texts-fit bs (tokens tk)
+
+-- cause 3, from any row on
+pub record Rows-good (left : ℕ) (tk : List ℕ) : Type 0 where
+  pub pairs : length tk ≡ 2 * length (tokens tk)
+  pub covered : bytes (tokens tk) ≡ left
+  pub good : All-good (tokens tk)
+
+cond-accepted : (c : Bool) (v : Verdict) (r : Refusal) → cond c v (refused r) ≡ accepted → (c ≡ true) × (v ≡ accepted)
+cond-accepted true v r e = (refl, e)
+cond-accepted false v r e = let x : _≡_ {A = ℕ} 0 1 = cc in absurd (omega arith)
+
+rows-good : (i left : ℕ) (tk : List ℕ) → check-rows i left tk ≡ accepted → Rows-good left tk
+unfolding check-rows tokens bytes
+rows-good i left [] e = let z : left ≡ 0 = eqb-true left 0 (unless-holds (eqb left 0) (bad-row i) e) in record { pairs = omega arith; covered = sym z; good = tt }
+rows-good i left (k ∷ []) e = let x : _≡_ {A = ℕ} 0 1 = cc in absurd (omega arith)
+rows-good i left (k ∷ n ∷ l) e =
+    let h : ((is-kind k && leb 1 n && leb n left) ≡ true) × (check-rows (suc i) (left - n) l ≡ accepted) = cond-accepted (is-kind k && leb 1 n && leb n left) (check-rows (suc i) (left - n) l) (bad-row i) e in
+    let g : Rows-good (left - n) l = rows-good (suc i) (left - n) l (h .1) in
+    let x : n ≤ left = leb-true n left (and-right (is-kind k && leb 1 n) _ (h .0)) in
+    record {
+      pairs = omega (arith, g .pairs);
+      covered = omega (arith, g .covered);
+      good = (
+        record {
+          kind = and-left (is-kind k) (leb 1 n) (and-left (is-kind k && leb 1 n) _ (h .0));
+          len = leb-true 1 n (and-right (is-kind k) (leb 1 n) (and-left (is-kind k && leb 1 n) _ (h .0)));
+        },
+        g .good,
+      );
+    }
+
+texts-fit : (i : ℕ) (bs : List ℕ) (ts : List Token) → check-texts i bs ts ≡ accepted → Texts-fit bs ts
+unfolding check-texts
+texts-fit i bs [] e = tt
+texts-fit i bs (t ∷ ts) e =
+    let h : (fits-text static-texts (t .kind) (take (t .len) bs) ≡ true) × (check-texts (suc i) (drop (t .len) bs) ts ≡ accepted) =
+    cond-accepted (fits-text static-texts (t .kind) (take (t .len) bs)) (check-texts (suc i) (drop (t .len) bs) ts) (bad-text i) e in
+    (h .0, texts-fit (suc i) (drop (t .len) bs) ts (h .1))
+
+-- INPUT THAT PASSED causes 2 to 4
+pub checked-input : (bs tk : List ℕ) → check-input bs tk ≡ accepted → Checked bs tk
+unfolding check-input check-sizes
+checked-input bs tk e =
+    let sizes : (leb (length bs) 1048576 && leb (length tk) 131072) ≡ true = unless-holds _ too-long (or-else-left (check-sizes bs tk) _ e) in
+    let rest : (check-rows 0 (length bs) tk or-else check-texts 0 bs (tokens tk)) ≡ accepted = or-else-right (check-sizes bs tk) _ e in
+    let g : Rows-good (length bs) tk = rows-good 0 (length bs) tk (or-else-left (check-rows 0 (length bs) tk) _ rest) in
+    record {
+      bytes-limit = leb-true _ _ (and-left _ _ sizes);
+      numbers-limit = leb-true _ _ (and-right (leb (length bs) 1048576) _ sizes);
+      pairs = g .pairs;
+      covered = g .covered;
+      good = g .good;
+      texts = texts-fit 0 bs (tokens tk) (or-else-right (check-rows 0 (length bs) tk) _ rest);
+    }

@@ -1,0 +1,215 @@
+-- At most 64 open calls and at most 256 pending expectations: the statement of specs/Limits.antt, proved for every run without refusal 5,
+-- and so for every accepted call.
+use Prim.Native.Nat.{ℕ, zero, suc, _≤_, _<_, zero-le, suc-le-suc}
+use native.Mathlib.Omega.{arith}
+use mathlib.Core.Path.{_≡_, refl}
+use mathlib.Core.Bool.{Bool, true, false, cond}
+use mathlib.Core.List.{List, [], _∷_, _++_}
+use lib.Dec.{ltb, eqb}
+use lib.ListN.{length, length-append}
+use borrow.Author.Tests.{ltb-true}
+use Rattle.definitions.specs.TokenKind as K
+use Rattle.definitions.specs.Token.{Token, tokens, trivia, drop-trivia}
+use Rattle.definitions.specs.Prog.{Ans, no, yes, also, again, Rule, Act, silent-at, at-end, immediate, immediate-next, add-expected, bump, bump-name, bump-argument, emit, emit-unclosed, less, Prog, ret, act, _⨟_, case, mark, loop, chain, brace, call}
+use Rattle.definitions.specs.Grammar.{grammar, Entry, whole}
+use Rattle.definitions.specs.Skeleton.{Label, no-label, Skeleton, done, _⧺_}
+use Rattle.definitions.specs.Run.{State, Out, mark-of, peeked, answer, makes, taken, do-bump, do-name, add, at-depth, do-argument, do-emit, room, do-expected, perform, choose, marked, is-again, goes-on, iter, unlinked, by-shape, links, chained, here, exec, run}
+use Rattle.definitions.specs.Report.{pushes}
+use Rattle.definitions.specs.Call.{Buffers, run-entry}
+use Rattle.laws.specs.Limits.{Place, at, deeper, iter-places, links-places, choose-places, places, run-places, entry-places, Limited, Limits}
+use Rattle.laws.proofs.Trivia.{cond-all}
+use Rattle.laws.proofs.Fuel.{turn-of}
+use Rattle.laws.proofs.Parts.{linked, closed-parts, links-parts}
+use Rattle.laws.proofs.Clear.{Clear, Within-room, join-within, closed-within, within-parts}
+use Rattle.laws.proofs.Scan.{fits-clear}
+use Rattle.laws.proofs.Accepted.{Accepted, accepted-call}
+
+limited-append : (n : ℕ) (l m : List Place) → Limited n l → Limited n m → Limited n (l ++ m)
+limited-append n [] m h g = g
+limited-append n (x ∷ l) m h g = (h .0, h .1, limited-append n l m (h .2) g)
+
+limited-deeper : (n : ℕ) (l : List Place) → Limited n l → Limited (suc n) (deeper l)
+unfolding deeper
+limited-deeper n [] h = tt
+limited-deeper n (x ∷ l) h = (suc-le-suc (h .0), h .1, limited-deeper n l (h .2))
+
+-- ---------------------------------------------------------------- what is pending
+
+abbrev Few : State → Type 0
+Few s = length (s .pending) ≤ 256
+
+abbrev Fewer : Out → Type 0
+Fewer o = Few (o .state)
+
+expected-few : (b : Bool) (m k : ℕ) (l : List ℕ) → ltb (length l) 256 ≡ b → Within-room (room b m) → length (l ++ (k ∷ [])) ≤ 256
+unfolding room pushes
+expected-few true m k l e w = let h : length l < 256 = ltb-true (length l) 256 e in simp length-append (omega arith)
+expected-few false m k l e w = absurd (w .clear)
+
+bump-few : (s : State) (l : List Token) → Few s → Fewer (do-bump s l)
+unfolding do-bump answer makes
+bump-few s [] h = h
+bump-few s (t ∷ ts) h = zero-le
+
+name-few : (ks : List ℕ) (s : State) (l : List Token) → Few s → Fewer (do-name ks s l)
+unfolding do-name answer makes
+name-few ks s [] h = h
+name-few ks s (t ∷ ts) h = zero-le
+
+depth-few : (n : ℕ) (o : Out) (f : ℕ → Out) → Fewer o → ((m : ℕ) → Fewer (f m)) → Fewer (at-depth n o f)
+unfolding at-depth
+depth-few zero o f p q = p
+depth-few (suc n) o f p q = q n
+
+argument-few : (n : ℕ) (s : State) (ts : List Token) → Few s → Fewer (do-argument n s ts)
+unfolding do-argument answer makes add
+argument-few n s [] h = h
+argument-few n s (t ∷ ts) h =
+    cond-all Fewer (trivia t) (argument-few n s ts h)
+    (cond-all Fewer (eqb (t .kind) K.LParen) (argument-few (suc n) (taken ts) ts zero-le)
+    (cond-all Fewer (eqb (t .kind) K.RParen) (depth-few n _ _ h (λ m. argument-few m (taken ts) ts zero-le))
+    (cond-all Fewer (eqb (t .kind) K.Comma) (depth-few n _ _ h (λ m. argument-few (suc m) (taken ts) ts zero-le)) (argument-few n (taken ts) ts zero-le))))
+
+act-few : (b : Label) (a : Act) (s : State) → Few s → Within-room (perform b a s .made) → Fewer (perform b a s)
+unfolding perform peeked answer makes do-expected do-emit
+act-few b (silent-at ks) s h w = h
+act-few b at-end s h w = h
+act-few b (immediate k) s h w = h
+act-few b (immediate-next k) s h w = h
+act-few b (add-expected k) s h w = expected-few (ltb (length (s .pending)) 256) (mark-of s) k (s .pending) refl w
+act-few b bump s h w = bump-few (peeked s) (drop-trivia (s .rest)) h
+act-few b (bump-name ks) s h w = name-few ks (peeked s) (drop-trivia (s .rest)) h
+act-few b bump-argument s h w = argument-few 0 s (s .rest) h
+act-few b (emit m k) s h w = h
+act-few b emit-unclosed s h w = h
+act-few b (less m n) s h w = h
+
+-- ---------------------------------------------------------------- loops and chains
+
+-- f comes to the places g, all within the limits, and ends within them
+abbrev Keeps : ℕ → (State → Out) → (State → List Place) → Type 0
+Keeps n f g = (s : State) → Few s → Within-room (f s .made) → Fewer (f s) × Limited n (g s)
+
+-- a turn, and more where the loop goes on
+turn-keeps : (n : ℕ) (b : Bool) (o x : Out) (l m : List Place) → (Within-room (o .made) → Fewer o × Limited n l) → (Fewer o → Within-room (x .made) → Fewer x × Limited n m)
+    → Within-room (cond b (add (turn-of o) x) (turn-of o) .made) → Fewer (cond b (add (turn-of o) x) (turn-of o)) × Limited n (l ++ cond b m [])
+unfolding add makes
+turn-keeps n true o x l m f g w =
+    let c : Within-room (o .made) × Within-room (x .made) = join-within (o .made) (x .made) w in
+    let p : Fewer o × Limited n l = f (c .0) in
+    let q : Fewer x × Limited n m = g (p .0) (c .1) in
+    (q .0, limited-append n l m (p .1) (q .1))
+turn-keeps n false o x l m f g w = let p : Fewer o × Limited n l = f w in (p .0, limited-append n l [] (p .1) tt)
+
+iter-keeps : (n k : ℕ) (f : State → Out) (g : State → List Place) → Keeps n f g → Keeps n (iter k f) (iter-places k f g)
+unfolding iter iter-places answer
+iter-keeps n zero f g K s h w = (h, tt)
+iter-keeps n (suc k) f g K s h w = turn-keeps n (goes-on s (f s)) (f s) (iter k f (f s .state)) (g s) (iter-places k f g (f s .state)) (K s h) (iter-keeps n k f g K (f s .state)) w
+
+-- a link, and more where the chain goes on
+link-keeps : (n k m : ℕ) (b : Bool) (a i : Skeleton) (o x : Out) (l q : List Place) → o .shape ≡ k → (Within-room (x .made) → Within-room (linked m a i o))
+    → (Within-room (o .made) → Fewer o × Limited n l) → (Fewer o → Within-room (x .made) → Fewer x × Limited n q)
+    → Within-room (by-shape k (unlinked m a (i ⧺ o .made) (o .ans) (o .state)) (cond b x (unlinked (mark-of (o .state)) (linked m a i o) done (o .ans) (o .state))) .made)
+    → Fewer (by-shape k (unlinked m a (i ⧺ o .made) (o .ans) (o .state)) (cond b x (unlinked (mark-of (o .state)) (linked m a i o) done (o .ans) (o .state))))
+    × Limited n (l ++ by-shape k [] (cond b q []))
+unfolding by-shape unlinked makes
+link-keeps n zero m b a i o x l q e t f g w =
+    let p : Fewer o × Limited n l = f (closed-parts Within-room within-parts 0 m (mark-of (o .state)) a i (o .made) w .2) in (p .0, limited-append n l [] (p .1) tt)
+link-keeps n (suc k) m true a i o x l q e t f g w =
+    let p : Fewer o × Limited n l = f (closed-parts Within-room within-parts (o .shape) m (mark-of (o .state)) a i (o .made) (t w) .2) in
+    let r : Fewer x × Limited n q = g (p .0) w in
+    (r .0, limited-append n l q (p .1) (r .1))
+link-keeps n (suc k) m false a i o x l q e t f g w =
+    let p : Fewer o × Limited n l = f (closed-parts Within-room within-parts (o .shape) m (mark-of (o .state)) a i (o .made) (closed-within 0 (mark-of (o .state)) (mark-of (o .state)) (linked m a i o) done w .0) .2) in
+    (p .0, limited-append n l [] (p .1) tt)
+
+links-keeps : (n k : ℕ) (f : State → Out) (g : State → List Place) → Keeps n f g → (m : ℕ) (a i : Skeleton) → Keeps n (links k f m a i) (links-places k f g)
+unfolding links links-places unlinked makes
+links-keeps n zero f g K m a i s h w = (h, tt)
+links-keeps n (suc k) f g K m a i s h w =
+    let o : Out = f s in
+    link-keeps n (o .shape) m (goes-on s o) a i o (links k f (mark-of (o .state)) (linked m a i o) done (o .state)) (g s) (links-places k f g (o .state)) refl
+    (λ v. links-parts Within-room within-parts k f (mark-of (o .state)) (linked m a i o) done (o .state) v .0) (K s h) (links-keeps n k f g K (mark-of (o .state)) (linked m a i o) done (o .state)) w
+
+chained-keeps : (n : ℕ) (f : State → Out) (g : State → List Place) → Keeps n f g → (s : State) (o : Out) (l : List Place) → (Within-room (o .made) → Fewer o × Limited n l)
+    → Within-room (chained f s o .made)
+    → Fewer (chained f s o) × Limited n (l ++ cond (is-again (o .ans)) (links-places (suc (length (o .state .rest))) f g (o .state)) [])
+unfolding chained unlinked makes
+chained-keeps n f g K s o l p = go (is-again (o .ans))
+  where
+    k : ℕ
+    k = suc (length (o .state .rest))
+
+    go : (b : Bool) → Within-room (cond b (links (suc (length (o .state .rest))) f (mark-of s) done (o .made) (o .state)) (unlinked (mark-of s) done (o .made) (o .ans) (o .state)) .made)
+        → Fewer (cond b (links (suc (length (o .state .rest))) f (mark-of s) done (o .made) (o .state)) (unlinked (mark-of s) done (o .made) (o .ans) (o .state)))
+        × Limited n (l ++ cond b (links-places (suc (length (o .state .rest))) f g (o .state)) [])
+    go true w =
+        let q : Fewer o × Limited n l = p (links-parts Within-room within-parts (suc (length (o .state .rest))) f (mark-of s) done (o .made) (o .state) w .1) in
+        let r : Fewer (links (suc (length (o .state .rest))) f (mark-of s) done (o .made) (o .state)) × Limited n (links-places (suc (length (o .state .rest))) f g (o .state)) =
+        links-keeps n (suc (length (o .state .rest))) f g K (mark-of s) done (o .made) (o .state) (q .0) w in
+        (r .0, limited-append n l (links-places (suc (length (o .state .rest))) f g (o .state)) (q .1) (r .1))
+    go false w = let q : Fewer o × Limited n l = p (closed-within 0 (mark-of s) (mark-of (o .state)) done (o .made) w .1) in (q .0, limited-append n l [] (q .1) tt)
+
+choose-keeps : (n : ℕ) (x : Ans) (N Y A : State → Out) (p q r : State → List Place) → Keeps n N p → Keeps n Y q → Keeps n A r → Keeps n (choose x N Y A) (choose-places x p q r)
+unfolding choose choose-places
+choose-keeps n no N Y A p q r f g h s = f s
+choose-keeps n yes N Y A p q r f g h s = g s
+choose-keeps n also N Y A p q r f g h s = h s
+choose-keeps n again N Y A p q r f g h s = g s
+
+-- ---------------------------------------------------------------- every program, every call
+
+add-keeps : (n : ℕ) (o x : Out) (l m : List Place) → (Within-room (o .made) → Fewer o × Limited n l) → (Fewer o → Within-room (x .made) → Fewer x × Limited n m)
+    → Within-room (add o x .made) → Fewer (add o x) × Limited n (l ++ m)
+unfolding add
+add-keeps n o x l m f g w =
+    let c : Within-room (o .made) × Within-room (x .made) = join-within (o .made) (x .made) w in
+    let p : Fewer o × Limited n l = f (c .0) in
+    let q : Fewer x × Limited n m = g (p .0) (c .1) in
+    (q .0, limited-append n l m (p .1) (q .1))
+
+mark-keeps : (n : ℕ) (s : State) (o : Out) (l : List Place) → (Within-room (o .made) → Fewer o × Limited n l) → Within-room (marked s o .made) → Fewer (marked s o) × Limited n l
+unfolding marked makes
+mark-keeps n s o l f w = f (closed-within (o .shape) (mark-of s) (mark-of (o .state)) done (o .made) w .1)
+
+exec-keeps : (n : ℕ) (ask : Rule → State → Out) (inside : Rule → State → List Place) → ((r : Rule) → Keeps n (ask r) (inside r)) → (b : Label) (p : Prog) → Keeps n (exec ask b p) (places ask inside b p)
+unfolding exec places
+exec-keeps n ask inside K b (ret k a) s h w = (h, (zero-le, h, tt))
+exec-keeps n ask inside K b (act a) s h w = let g : Fewer (perform b a s) = act-few b a s h w in (g, (zero-le, h, (zero-le, g, tt)))
+exec-keeps n ask inside K b (p ⨟ q) s h w =
+    add-keeps n (exec ask b p s) (exec ask b q (exec ask b p s .state)) (places ask inside b p s) (places ask inside b q (exec ask b p s .state)) (exec-keeps n ask inside K b p s h)
+    (exec-keeps n ask inside K b q (exec ask b p s .state)) w
+exec-keeps n ask inside K b (case t x y a) s h w =
+    add-keeps n (exec ask b t s) (choose (exec ask b t s .ans) (exec ask b x) (exec ask b y) (exec ask b a) (exec ask b t s .state)) (places ask inside b t s)
+    (choose-places (exec ask b t s .ans) (places ask inside b x) (places ask inside b y) (places ask inside b a) (exec ask b t s .state)) (exec-keeps n ask inside K b t s h)
+    (choose-keeps n (exec ask b t s .ans) (exec ask b x) (exec ask b y) (exec ask b a) (places ask inside b x) (places ask inside b y) (places ask inside b a) (exec-keeps n ask inside K b x)
+    (exec-keeps n ask inside K b y) (exec-keeps n ask inside K b a) (exec ask b t s .state))
+    w
+exec-keeps n ask inside K b (mark p) s h w = mark-keeps n s (exec ask b p s) (places ask inside b p s) (exec-keeps n ask inside K b p s h) w
+exec-keeps n ask inside K b (loop p) s h w = iter-keeps n (suc (length (s .rest))) (exec ask b p) (places ask inside b p) (exec-keeps n ask inside K b p) s h w
+exec-keeps n ask inside K b (chain p q) s h w =
+    chained-keeps n (exec ask b q) (places ask inside b q) (exec-keeps n ask inside K b q) s (exec ask b p s) (places ask inside b p s) (exec-keeps n ask inside K b p s h) w
+exec-keeps n ask inside K b (brace p) s h w = exec-keeps n ask inside K (here (s .rest)) p s h w
+exec-keeps n ask inside K b (call r) s h w = K r s h w
+
+run-keeps : (n : ℕ) (r : Rule) → Keeps n (run n r) (run-places n r)
+unfolding run run-places makes pushes deeper
+run-keeps zero r s h w = absurd (w .clear)
+run-keeps (suc n) r s h w =
+    let g : Fewer (exec (run n) no-label (grammar r) s) × Limited n (places (run n) (run-places n) no-label (grammar r) s) = exec-keeps n (run n) (run-places n) (run-keeps n) no-label (grammar r) s h w in
+    (g .0, limited-deeper n (at s ++ places (run n) (run-places n) no-label (grammar r) s) (zero-le, h, g .1))
+
+-- A FILE'S RUN without refusal 5 stays within the limits
+pub clear-limited : (e : Entry) (ts : List Token) → Clear (pushes (run-entry e ts)) → Limited 64 (entry-places e ts)
+unfolding run-entry entry-places
+clear-limited e ts w = exec-keeps 64 (run 64) (run-places 64) (run-keeps 64) no-label (whole e) (taken ts) zero-le (record { clear = w }) .1
+
+-- an accepted call's run meets no refusal 5
+pub accepted-clear : (n : ℕ) (bs tk : List ℕ) (b : Buffers) (a : Accepted n bs tk b) → Clear (pushes (run-entry (a .entry) (tokens tk)))
+accepted-clear n bs tk b a = fits-clear (pushes (run-entry (a .entry) (tokens tk))) _ (a .left) (a .fitted)
+
+-- LIMITS
+pub limits : Limits
+limits n bs tk b h =
+    let a : Accepted n bs tk b = accepted-call n bs tk b h in
+    (a .entry, a .asked-for, clear-limited (a .entry) (tokens tk) (accepted-clear n bs tk b a))

@@ -1,0 +1,87 @@
+-- Nothing lost: the statement of specs/Lossless.antt, proved for every accepted call.
+use Prim.Native.Nat.{ℕ, suc, _-_, _*_, _/_}
+use native.Mathlib.Nat.{add-zero, div-eq-of-eq-mul-right}
+use native.Mathlib.Omega.{arith}
+use mathlib.Core.Path.{_≡_, refl, ap, sym, _∙_, subst}
+use mathlib.Core.List.{List, _++_}
+use lib.Dec.{lit<}
+use lib.ListN.{length, take, replicate}
+use lib.Seq.{take-at}
+use Rattle.definitions.specs.Token.{Token, tokens, bytes}
+use Rattle.definitions.specs.Grammar.{Entry, root-kind}
+use Rattle.definitions.specs.Place.{Tree, lead, after, place, _⊕_, root, width, count, rows}
+use Rattle.definitions.specs.Call.{Buffers, sheets, kept, run-entry}
+use Rattle.laws.specs.Rows.{end, node, preorder, read}
+use Rattle.laws.specs.Lossless.{Cover, Lossless, Nothing-lost}
+use Rattle.laws.specs.Lossless as L
+use Rattle.laws.proofs.Tree.{leaves, width-leaves}
+use Rattle.laws.proofs.Placed.{root-whole}
+use Rattle.laws.proofs.Between.{entry-reads}
+use Rattle.laws.proofs.Swept.{entry-leaves}
+use Rattle.laws.proofs.Names.{entry-names}
+use Rattle.laws.proofs.Decode.{read-back, preorder-once, shown, shown-preorder, shown-counts, shown-widths, row-count, rows-length}
+use Rattle.laws.proofs.Leaves.{right-root, leaves-cover}
+use Rattle.laws.proofs.LexicalErrors.{errors-length, errors-of}
+use Rattle.laws.proofs.Input.{Checked, checked-input}
+use Rattle.laws.proofs.Accepted.{Accepted, accepted-call}
+
+-- THE LEAVES OF THE TREE, in order, are the tokens: for every entry and every list of tokens
+pub lossless : (e : Entry) (ts : List Token) → leaves (root (root-kind e) (run-entry e ts) ts) ≡ ts
+lossless e ts = root-whole (root-kind e) (run-entry e ts) ts (entry-leaves e ts)
+
+-- and the leaves' rows cover them
+pub root-covers : (e : Entry) (ts : List Token) → Cover (L.leaves (shown (root (root-kind e) (run-entry e ts) ts))) ts
+root-covers e ts =
+    subst (Cover (L.leaves (shown (root (root-kind e) (run-entry e ts) ts)))) (lossless e ts)
+    (leaves-cover (root (root-kind e) (run-entry e ts) ts) (right-root (root-kind e) (run-entry e ts) ts (entry-reads e ts .reads ts refl) (entry-names e ts)))
+
+-- whole rows at the front of a buffer, found again by their count
+rows-in-front : (k n : ℕ) (l z : List ℕ) → length l ≡ suc k * n → take (suc k * (length l / suc k)) (l ++ z) ≡ l
+rows-in-front k n l z e =
+    let d : length l / suc k ≡ n = div-eq-of-eq-mul-right (omega arith) e in
+    take-at l z (suc k * (length l / suc k)) (e ∙ ap (suc k *_) (sym d))
+
+-- ---------------------------------------------------------------- what an accepted call writes
+
+module _ (e : Entry) (bs : List ℕ) (ts : List Token) (b : Buffers) (full : bytes ts ≡ length bs) where
+  abbrev t : Tree
+  t = root (root-kind e) (run-entry e ts) ts
+
+  in-front : take (4 * (length (rows t) / 4)) (rows t ++ replicate (length (b .trees) - length (rows t)) 0) ≡ preorder (shown t)
+  in-front = rows-in-front 3 (row-count t) (rows t) _ (rows-length t) ∙ sym (shown-preorder t)
+
+  -- the root's width is the length of the input
+  root-width : width t ≡ length bs
+  root-width = width-leaves t ∙ ap bytes (lossless e ts) ∙ full
+
+  abbrev inside : Tree
+  inside = place (run-entry e ts) ts ⊕ lead (after (run-entry e ts) ts)
+
+  root-shown : shown t ≡ node (root-kind e) (length bs) (count inside) (shown inside) end
+  unfolding shown root width
+  root-shown = ap (λ (w : ℕ). node (root-kind e) w (count inside) (shown inside) end) (sym (add-zero (width inside)) ∙ root-width)
+
+  pub writes-lossless : Lossless e bs ts (kept (sheets e ts (run-entry e ts)) b)
+  unfolding sheets
+  writes-lossless =
+      record {
+        tree = shown t;
+        written = in-front;
+        read-back = ap read in-front ∙ read-back (shown t) (shown-counts t);
+        only-one = λ other h q. preorder-once other (shown t) h (shown-counts t) (q ∙ in-front);
+        root-count = count inside;
+        root-children = shown inside;
+        root = root-shown;
+        widths = shown-widths t;
+        counts = shown-counts t;
+        covers = root-covers e ts;
+        errors = div-eq-of-eq-mul-right (lit< tt) (errors-length 0 ts);
+        error-rows = errors-of ts _;
+      }
+
+-- NOTHING LOST
+pub nothing-lost : Nothing-lost
+nothing-lost n bs tk b h =
+    let a : Accepted n bs tk b = accepted-call n bs tk b h in
+    let c : Checked bs tk = checked-input bs tk (a .input) in
+    (a .entry, a .asked-for, subst (Lossless (a .entry) bs (tokens tk)) (sym (a .returns)) (writes-lossless (a .entry) bs (tokens tk) b (c .covered)))

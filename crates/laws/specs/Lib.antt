@@ -1,0 +1,4 @@
+-- The statements that a reviewer reads.
+pub mod Rows
+pub mod Lossless
+pub mod Limits

@@ -1,0 +1,242 @@
+-- Parts found in rows are parts of the tree whose rows they are: rows of whole parts cut a tree in two.
+use Prim.Native.Nat.{ℕ, suc, _+_}
+use native.Mathlib.Omega.{arith}
+use mathlib.Core.Path.{_≡_, refl, ap, sym, _∙_, subst}
+use mathlib.Core.Bool.{true}
+use mathlib.Core.List.{List, [], _∷_, _++_, append-assoc, append-nil}
+use lib.ListN.{length, length-append}
+use Rattle.definitions.specs.TokenKind as K
+use Rattle.definitions.specs.Token.{Token, bytes}
+use Rattle.definitions.specs.Place.{Tree, nil, leaf, branch, _⊕_, width, count}
+use Rattle.laws.proofs.Skeleton.{bytes-append}
+use Rattle.laws.proofs.Tree.{leaves, count-beside}
+use Rattle.recovery.specs.Rows.{Row, class, kind, Parts, over-leaves, raw-tokens, raw-bytes}
+use Rattle.recovery.specs.Rows as S
+use Rattle.recovery.specs.Recovery.{is-statement, Semicolon}
+use Rattle.recovery.proofs.Written.{rows-of}
+
+-- ---------------------------------------------------------------- lists
+
+first-same : {A : Type 0} {x y : A} {l m : List A} → x ∷ l ≡ y ∷ m → x ≡ y
+first-same e = cc
+
+rest-same : {A : Type 0} {x y : A} {l m : List A} → x ∷ l ≡ y ∷ m → l ≡ m
+rest-same e = cc
+
+none-some : {A : Type 0} {x : A} {l : List A} → [] ≡ x ∷ l → ⊥
+none-some e = let z : _≡_ {A = ℕ} 0 1 = cc in omega arith
+
+-- a node's row is no leaf's
+node-leaf : (r : Row) (k w n : ℕ) → r ≡ 1 ∷ k ∷ w ∷ n ∷ [] → class r ≡ 0 → ⊥
+node-leaf r k w n e h = let z : _≡_ {A = ℕ} 1 0 = sym (ap class e) ∙ h in omega arith
+
+leaf-node : (r : Row) (k w n : ℕ) → r ≡ 0 ∷ k ∷ w ∷ n ∷ [] → class r ≡ 1 → ⊥
+leaf-node r k w n e h = let z : _≡_ {A = ℕ} 0 1 = sym (ap class e) ∙ h in omega arith
+
+-- ---------------------------------------------------------------- rows of whole parts
+
+-- the rows of all the parts of c are just the parts that they begin with
+pub whole-parts : {n : ℕ} {l : List Row} → Parts n l → (c : Tree) → count c ≡ n → (x y : List Row) → rows-of c ++ x ≡ l ++ y → (rows-of c ≡ l) × (x ≡ y)
+unfolding rows-of count
+whole-parts S.none nil e x y h = (refl, h)
+whole-parts S.none (leaf k ts f) e x y h = absurd (omega arith)
+whole-parts S.none (branch k c f) e x y h = absurd (omega arith)
+whole-parts (S.leaf a p) nil e x y h = absurd (omega arith)
+whole-parts (S.leaf a p) (leaf k ts f) e x y h =
+    let g = whole-parts p f (let z : count f ≡ _ = cc in z) x y (rest-same h) in
+    ((λ i. first-same h i ∷ g .0 i), g .1)
+whole-parts (S.leaf a p) (branch k c f) e x y h = absurd (leaf-node _ k (width c) (count c) (sym (first-same h)) a)
+whole-parts (S.node a p q) nil e x y h = absurd (omega arith)
+whole-parts (S.node a p q) (leaf k ts f) e x y h = absurd (node-leaf _ k (bytes ts) (length ts) (sym (first-same h)) a)
+whole-parts (S.node {r = r} {c = d} {l = l} a p q) (branch k c f) e x y h =
+    let h′ : rows-of c ++ (rows-of f ++ x) ≡ d ++ (l ++ y) = sym (append-assoc (rows-of c) (rows-of f) x) ∙ rest-same h ∙ append-assoc d l y in
+    let m : count c ≡ S.count r = ap S.count (first-same h) in
+    let g : (rows-of c ≡ d) × (rows-of f ++ x ≡ l ++ y) = whole-parts p c m (rows-of f ++ x) (l ++ y) h′ in
+    let g′ : (rows-of f ≡ l) × (x ≡ y) = whole-parts q f (let z : count f ≡ _ = cc in z) x y (g .1) in
+    ((λ i. first-same h i ∷ (g .0 i ++ g′ .0 i)), g′ .1)
+
+-- one leaf more
+pub one-more : {n : ℕ} {l : List Row} → Parts n l → (r : Row) → class r ≡ 1 → Parts (suc n) (l ++ (r ∷ []))
+one-more S.none r e = S.leaf e S.none
+one-more (S.leaf a p) r e = S.leaf a (one-more p r e)
+one-more (S.node {n = n} {r = x} {c = c} {l = l} a p q) r e =
+    subst (λ (m : List Row). Parts (suc (suc n)) (x ∷ m)) (sym (append-assoc c l (r ∷ []))) (S.node a p (one-more q r e))
+
+-- a tree in two pieces, with the rows of each
+pub record Cut (f : Tree) (l m : List Row) : Type 0 where
+  pub one : Tree
+  pub two : Tree
+  pub is : f ≡ one ⊕ two
+  pub rows-one : rows-of one ≡ l
+  pub rows-two : rows-of two ≡ m
+
+pub cut : {n : ℕ} {l : List Row} → Parts n l → (f : Tree) (m : List Row) → rows-of f ≡ l ++ m → Cut f l m
+unfolding rows-of _⊕_
+cut S.none f m h = record { one = nil; two = f; is = refl; rows-one = refl; rows-two = h }
+cut (S.leaf a p) nil m h = absurd (none-some h)
+cut (S.leaf a p) (leaf k ts f) m h =
+    let C = cut p f m (rest-same h) in
+    record { one = leaf k ts (C .one); two = C .two; is = ap (leaf k ts) (C .is); rows-one = (λ i. first-same h i ∷ C .rows-one i); rows-two = C .rows-two }
+cut (S.leaf a p) (branch k c f) m h = absurd (leaf-node _ k (width c) (count c) (sym (first-same h)) a)
+cut (S.node a p q) nil m h = absurd (none-some h)
+cut (S.node a p q) (leaf k ts f) m h = absurd (node-leaf _ k (bytes ts) (length ts) (sym (first-same h)) a)
+cut (S.node {r = r} {c = d} {l = l} a p q) (branch k c f) m h =
+    let g : (rows-of c ≡ d) × (rows-of f ≡ l ++ m) = whole-parts p c (ap S.count (first-same h)) (rows-of f) (l ++ m) (rest-same h ∙ append-assoc d l m) in
+    let C : Cut f l m = cut q f m (g .1) in
+    record {
+      one = branch k c (C .one);
+      two = C .two;
+      is = ap (branch k c) (C .is);
+      rows-one = (λ i. first-same h i ∷ (g .0 i ++ C .rows-one i));
+      rows-two = C .rows-two;
+    }
+
+-- ---------------------------------------------------------------- the semicolon's place in the tree
+
+-- the statement that the semicolon ends, in a root's children f
+pub record Placed (f : Tree) {l : List Row} (s : Semicolon l) : Type 0 where
+  pub before : Tree
+  pub kind : ℕ
+  pub inside : Tree
+  pub raw : List Token
+  pub later : Tree
+  pub is : f ≡ before ⊕ branch kind (inside ⊕ leaf K.Semicolon raw nil) later
+  pub statement : is-statement kind ≡ true
+  pub rows-before : rows-of before ≡ s .before
+  pub rows-inside : rows-of inside ≡ s .inside
+  pub rows-later : rows-of later ≡ s .later
+
+-- rows that begin with a node's, and then its children: so does the tree
+pub record Opened (f : Tree) (r : Row) (l : List Row) : Type 0 where
+  pub kind : ℕ
+  pub inner : Tree
+  pub next : Tree
+  pub is : f ≡ branch kind inner next
+  pub row : r ≡ 0 ∷ kind ∷ width inner ∷ count inner ∷ []
+  pub rows : rows-of inner ++ rows-of next ≡ l
+
+opened : (f : Tree) (r : Row) (l : List Row) → class r ≡ 0 → rows-of f ≡ r ∷ l → Opened f r l
+unfolding rows-of
+opened nil r l e h = absurd (none-some h)
+opened (leaf k ts f) r l e h = absurd (node-leaf r k (bytes ts) (length ts) (sym (first-same h)) e)
+opened (branch k c f) r l e h = record { kind = k; inner = c; next = f; is = refl; row = sym (first-same h); rows = rest-same h }
+
+-- a single leaf
+pub record Single (f : Tree) (r : Row) : Type 0 where
+  pub raw : List Token
+  pub is : f ≡ leaf (kind r) raw nil
+
+no-rows : (f : Tree) → rows-of f ≡ [] → f ≡ nil
+unfolding rows-of
+no-rows nil h = refl
+no-rows (leaf k ts f) h = absurd (none-some (sym h))
+no-rows (branch k c f) h = absurd (none-some (sym h))
+
+single : (f : Tree) (r : Row) → class r ≡ 1 → rows-of f ≡ r ∷ [] → Single f r
+unfolding rows-of
+single nil r e h = absurd (none-some h)
+single (leaf k ts f) r e h = record { raw = ts; is = (λ i. leaf (ap kind (first-same h) i) ts (no-rows f (rest-same h) i)) }
+single (branch k c f) r e h = absurd (leaf-node r k (width c) (count c) (sym (first-same h)) e)
+
+-- THE SEMICOLON in a root's children
+pub placed : (k : ℕ) (f : Tree) {l : List Row} (s : Semicolon l) → l ≡ rows-of (branch k f nil) → Placed f s
+unfolding rows-of
+placed k f {l} s e =
+    let h : rows-of f ≡ s .before ++ (s .part ∷ (s .inside ++ (s .leaf ∷ s .later))) = sym (append-nil (rows-of f)) ∙ rest-same (sym e ∙ s .is) in
+    let C : Cut f (s .before) (s .part ∷ (s .inside ++ (s .leaf ∷ s .later))) = cut (s .before-whole) f _ h in
+    let O : Opened (C .two) (s .part) (s .inside ++ (s .leaf ∷ s .later)) = opened (C .two) (s .part) _ (s .part-node) (C .rows-two) in
+    let n : count (O .inner) ≡ suc (s .parts-inside) = sym (ap S.count (O .row)) ∙ s .leaf-last in
+    let g : (rows-of (O .inner) ≡ s .inside ++ (s .leaf ∷ [])) × (rows-of (O .next) ≡ s .later) =
+    whole-parts (one-more (s .inside-whole) (s .leaf) (s .leaf-leaf)) (O .inner) n (rows-of (O .next)) (s .later) (O .rows ∙ sym (append-assoc (s .inside) (s .leaf ∷ []) (s .later))) in
+    let D : Cut (O .inner) (s .inside) (s .leaf ∷ []) = cut (s .inside-whole) (O .inner) (s .leaf ∷ []) (g .0) in
+    let L : Single (D .two) (s .leaf) = single (D .two) (s .leaf) (s .leaf-leaf) (D .rows-two) in
+    record {
+      before = C .one;
+      kind = O .kind;
+      inside = D .one;
+      raw = L .raw;
+      later = O .next;
+      is =
+          C .is
+          ∙ ap (C .one ⊕_)
+          (O .is ∙ ap (λ (x : Tree). branch (O .kind) x (O .next)) (D .is ∙ ap (D .one ⊕_) (L .is ∙ ap (λ (j : ℕ). leaf j (L .raw) nil) (s .leaf-kind))));
+      statement = ap (λ (r : Row). is-statement (kind r)) (sym (O .row)) ∙ s .part-kind;
+      rows-before = C .rows-one;
+      rows-inside = D .rows-one;
+      rows-later = g .1;
+    }
+
+-- ---------------------------------------------------------------- raw tokens
+
+over-append : (f : Row → ℕ) (l m : List Row) → over-leaves f (l ++ m) ≡ over-leaves f l + over-leaves f m
+unfolding over-leaves
+over-append f [] m = let e : over-leaves f m ≡ 0 + over-leaves f m = omega arith in e
+over-append f (r ∷ l) m = let e : over-leaves f (l ++ m) ≡ over-leaves f l + over-leaves f m = over-append f l m in omega arith
+
+-- the raw tokens and bytes of a tree's rows are those of its leaves
+pub tokens-counted : (f : Tree) → raw-tokens (rows-of f) ≡ length (leaves f)
+unfolding rows-of over-leaves leaves
+tokens-counted nil = refl
+tokens-counted (leaf k ts f) = let e : over-leaves S.count (rows-of f) ≡ length (leaves f) = tokens-counted f in simp length-append (omega arith)
+tokens-counted (branch k c f) =
+    let d : over-leaves S.count (rows-of c) ≡ length (leaves c) = tokens-counted c in
+    let e : over-leaves S.count (rows-of f) ≡ length (leaves f) = tokens-counted f in
+    simp (length-append, over-append) (omega arith)
+
+pub bytes-counted : (f : Tree) → raw-bytes (rows-of f) ≡ bytes (leaves f)
+unfolding rows-of over-leaves leaves bytes
+bytes-counted nil = refl
+bytes-counted (leaf k ts f) = let e : over-leaves S.width (rows-of f) ≡ bytes (leaves f) = bytes-counted f in simp bytes-append (omega arith)
+bytes-counted (branch k c f) =
+    let d : over-leaves S.width (rows-of c) ≡ bytes (leaves c) = bytes-counted c in
+    let e : over-leaves S.width (rows-of f) ≡ bytes (leaves f) = bytes-counted f in
+    simp (bytes-append, over-append) (omega arith)
+
+-- ---------------------------------------------------------------- none is missed
+
+rows-beside : (f g : Tree) → rows-of (f ⊕ g) ≡ rows-of f ++ rows-of g
+unfolding rows-of _⊕_
+rows-beside nil g = refl
+rows-beside (leaf k ts f) g = ap ((1 ∷ k ∷ bytes ts ∷ length ts ∷ []) ∷_) (rows-beside f g)
+rows-beside (branch k c f) g = ap (λ (l : List Row). (0 ∷ k ∷ width c ∷ count c ∷ []) ∷ (rows-of c ++ l)) (rows-beside f g) ∙ ap ((0 ∷ k ∷ width c ∷ count c ∷ []) ∷_) (sym (append-assoc (rows-of c) (rows-of f) (rows-of g)))
+
+-- the rows of a tree are those of its parts
+rows-parts : (f : Tree) → Parts (count f) (rows-of f)
+unfolding rows-of count
+rows-parts nil = S.none
+rows-parts (leaf k ts f) = S.leaf refl (rows-parts f)
+rows-parts (branch k c f) = S.node refl (rows-parts c) (rows-parts f)
+
+-- EVERY SEMICOLON that ends a statement among a root's children is found in the rows
+pub semicolon-in : (k : ℕ) (before : Tree) (j : ℕ) (inside : Tree) (raw : List Token) (later : Tree) → is-statement j ≡ true
+    → Semicolon (rows-of (branch k (before ⊕ branch j (inside ⊕ leaf K.Semicolon raw nil) later) nil))
+unfolding rows-of count
+semicolon-in k before j inside raw later e =
+    let i : Tree = inside ⊕ leaf K.Semicolon raw nil in
+    let f : Tree = before ⊕ branch j i later in
+    let part : Row = 0 ∷ j ∷ width i ∷ count i ∷ [] in
+    let own : Row = 1 ∷ K.Semicolon ∷ bytes raw ∷ length raw ∷ [] in
+    let n : count i ≡ suc (count inside) = let z : count i ≡ count inside + 1 = count-beside inside (leaf K.Semicolon raw nil) in omega arith in
+    record {
+      root = 0 ∷ k ∷ width f ∷ count f ∷ [];
+      before = rows-of before;
+      part = part;
+      inside = rows-of inside;
+      leaf = own;
+      later = rows-of later;
+      is =
+          ap ((0 ∷ k ∷ width f ∷ count f ∷ []) ∷_)
+          (append-nil (rows-of f)
+          ∙ rows-beside before (branch j i later)
+          ∙ ap (λ (l : List Row). rows-of before ++ (part ∷ (l ++ rows-of later))) (rows-beside inside (leaf K.Semicolon raw nil))
+          ∙ ap (λ (l : List Row). rows-of before ++ (part ∷ l)) (append-assoc (rows-of inside) (own ∷ []) (rows-of later)));
+      parts-before = count before;
+      before-whole = rows-parts before;
+      part-node = refl;
+      part-kind = e;
+      parts-inside = count inside;
+      inside-whole = rows-parts inside;
+      leaf-last = n;
+      leaf-leaf = refl;
+      leaf-kind = refl;
+    }

@@ -1,0 +1,236 @@
+-- The statement's definitions, computed: on document 01's reading of `a;}` and `b,c;}`, and on a richer pair of files.
+use mathlib.Core.Path.{_≡_, refl}
+use Prim.Native.Nat.{ℕ}
+use native.Mathlib.Omega.{arith}
+use mathlib.Core.List.{List, [], _∷_}
+use lib.Dec.{leb}
+use lib.ListN.{length, replicate}
+use Rattle.definitions.specs.Token.{tokens}
+use Rattle.definitions.specs.Call.{Buffers, call}
+use Rattle.recovery.specs.Rows.{Row, mark, tree-rows, error-rows, report-rows, expectations, none, leaf, node, over-leaves}
+use Rattle.recovery.specs.Recovery.{File, result, is-statement, Semicolon, token-index, start-byte, Alike, those, later-error, later-report, pool-before, later-errors, later-reports, Each, none as no-more, more, no-label, label, ErrorMoved, ReportMoved, places, Shared}
+use Rattle.recovery.proofs.Local.{stays-local}
+
+-- buffers of n numbers each, full of sevens
+abbrev lent : ℕ → Buffers
+lent n = let l : List ℕ = replicate n 7 in record { events = l; trees = l; errors = l; reports = l; pool = l }
+
+-- ---------------------------------------------------------------- the reading
+
+-- `a;}`
+abbrev short : File
+short = record { input = 97 ∷ 59 ∷ 125 ∷ []; rows = 27 ∷ 1 ∷ 29 ∷ 1 ∷ 38 ∷ 1 ∷ []; lent = lent 60 }
+
+-- `b,c;}`
+abbrev long : File
+long = record { input = 98 ∷ 44 ∷ 99 ∷ 59 ∷ 125 ∷ []; rows = 27 ∷ 1 ∷ 2 ∷ 1 ∷ 27 ∷ 1 ∷ 29 ∷ 1 ∷ 38 ∷ 1 ∷ []; lent = lent 80 }
+
+abbrev stray : List Row
+stray = (0 ∷ 10 ∷ 1 ∷ 1 ∷ []) ∷ (1 ∷ 38 ∷ 1 ∷ 1 ∷ []) ∷ []
+
+unfoldable in-short : Semicolon (tree-rows (result short))
+unfolding tree-rows call is-statement
+in-short =
+    record {
+      root = (0 ∷ 0 ∷ 3 ∷ 2 ∷ []);
+      before = [];
+      part = (0 ∷ 16 ∷ 2 ∷ 2 ∷ []);
+      inside = (1 ∷ 26 ∷ 1 ∷ 1 ∷ []) ∷ [];
+      leaf = (1 ∷ 29 ∷ 1 ∷ 1 ∷ []);
+      later = stray;
+      is = refl;
+      parts-before = 0;
+      before-whole = none;
+      part-node = refl;
+      part-kind = refl;
+      parts-inside = 1;
+      inside-whole = leaf refl none;
+      leaf-last = refl;
+      leaf-leaf = refl;
+      leaf-kind = refl;
+    }
+
+unfoldable in-long : Semicolon (tree-rows (result long))
+unfolding tree-rows call is-statement
+in-long =
+    record {
+      root = (0 ∷ 0 ∷ 5 ∷ 2 ∷ []);
+      before = [];
+      part = (0 ∷ 16 ∷ 4 ∷ 2 ∷ []);
+      inside = (1 ∷ 26 ∷ 3 ∷ 3 ∷ []) ∷ [];
+      leaf = (1 ∷ 29 ∷ 1 ∷ 1 ∷ []);
+      later = stray;
+      is = refl;
+      parts-before = 0;
+      before-whole = none;
+      part-node = refl;
+      part-kind = refl;
+      parts-inside = 1;
+      inside-whole = leaf refl none;
+      leaf-last = refl;
+      leaf-leaf = refl;
+      leaf-kind = refl;
+    }
+
+-- message 2, at 2..3 and 4..5
+reading-reports-short : later-reports short in-short ≡ (2 ∷ 2 ∷ 3 ∷ 2 ∷ 0 ∷ 0 ∷ 0 ∷ 0 ∷ 0 ∷ []) ∷ []
+unfolding those later-report token-index over-leaves report-rows call in-short
+reading-reports-short = refl
+
+reading-reports-long : later-reports long in-long ≡ (2 ∷ 4 ∷ 5 ∷ 4 ∷ 0 ∷ 0 ∷ 0 ∷ 0 ∷ 0 ∷ []) ∷ []
+unfolding those later-report token-index over-leaves report-rows call in-long
+reading-reports-long = refl
+
+reading-alike : Alike short long in-short in-long
+unfolding token-index start-byte over-leaves tokens in-short in-long
+reading-alike = record { same-tokens = refl; same-bytes = refl }
+
+-- ---------------------------------------------------------------- a richer pair
+
+-- what both end with: " `/{y=;", with a lexical error, an open node and expectations
+abbrev tail-bytes : List ℕ
+tail-bytes = 32 ∷ 96 ∷ 47 ∷ 123 ∷ 121 ∷ 61 ∷ 59 ∷ []
+
+abbrev tail-rows : List ℕ
+tail-rows = 0 ∷ 1 ∷ 74 ∷ 1 ∷ 46 ∷ 1 ∷ 37 ∷ 1 ∷ 27 ∷ 1 ∷ 28 ∷ 1 ∷ 29 ∷ 1 ∷ []
+
+-- "/memreserve/ 1;": a report at the mark of the semicolon itself
+abbrev one : File
+one =
+    record {
+      input = 47 ∷ 109 ∷ 101 ∷ 109 ∷ 114 ∷ 101 ∷ 115 ∷ 101 ∷ 114 ∷ 118 ∷ 101 ∷ 47 ∷ 32 ∷ 49 ∷ 59 ∷ tail-bytes;
+      rows = 20 ∷ 12 ∷ 0 ∷ 1 ∷ 35 ∷ 1 ∷ 29 ∷ 1 ∷ tail-rows;
+      lent = lent 200;
+    }
+
+-- "`b="s""t";": two reports, and a lexical error
+abbrev two : File
+two =
+    record {
+      input = 96 ∷ 98 ∷ 61 ∷ 34 ∷ 115 ∷ 34 ∷ 34 ∷ 116 ∷ 34 ∷ 59 ∷ tail-bytes;
+      rows = 74 ∷ 1 ∷ 27 ∷ 1 ∷ 28 ∷ 1 ∷ 33 ∷ 3 ∷ 33 ∷ 3 ∷ 29 ∷ 1 ∷ tail-rows;
+      lent = lent 220;
+    }
+
+abbrev rest : List Row
+rest = (1 ∷ 0 ∷ 1 ∷ 1 ∷ []) ∷ (0 ∷ 10 ∷ 1 ∷ 1 ∷ []) ∷ (1 ∷ 25 ∷ 1 ∷ 1 ∷ []) ∷ (0 ∷ 15 ∷ 5 ∷ 3 ∷ []) ∷ (1 ∷ 46 ∷ 1 ∷ 1 ∷ []) ∷ (1 ∷ 37 ∷ 1 ∷ 1 ∷ []) ∷ (0 ∷ 16 ∷ 3 ∷ 3 ∷ []) ∷ (1 ∷ 26 ∷ 1 ∷ 1 ∷ []) ∷ (1 ∷ 28 ∷ 1 ∷ 1 ∷ []) ∷ (0 ∷ 20 ∷ 1 ∷ 1 ∷ []) ∷ (0 ∷ 10 ∷ 1 ∷ 1 ∷ []) ∷ (1 ∷ 29 ∷ 1 ∷ 1 ∷ []) ∷ []
+
+unfoldable in-one : Semicolon (tree-rows (result one))
+unfolding tree-rows call is-statement
+in-one =
+    record {
+      root = (0 ∷ 0 ∷ 22 ∷ 4 ∷ []);
+      before = [];
+      part = (0 ∷ 11 ∷ 15 ∷ 4 ∷ []);
+      inside = (1 ∷ 20 ∷ 12 ∷ 1 ∷ []) ∷ (1 ∷ 0 ∷ 1 ∷ 1 ∷ []) ∷ (0 ∷ 12 ∷ 1 ∷ 1 ∷ []) ∷ (1 ∷ 35 ∷ 1 ∷ 1 ∷ []) ∷ [];
+      leaf = (1 ∷ 29 ∷ 1 ∷ 1 ∷ []);
+      later = rest;
+      is = refl;
+      parts-before = 0;
+      before-whole = none;
+      part-node = refl;
+      part-kind = refl;
+      parts-inside = 3;
+      inside-whole = leaf refl (leaf refl (node refl (leaf refl none) none));
+      leaf-last = refl;
+      leaf-leaf = refl;
+      leaf-kind = refl;
+    }
+
+unfoldable in-two : Semicolon (tree-rows (result two))
+unfolding tree-rows call is-statement
+in-two =
+    record {
+      root = (0 ∷ 0 ∷ 17 ∷ 5 ∷ []);
+      before = (0 ∷ 10 ∷ 1 ∷ 1 ∷ []) ∷ (1 ∷ 25 ∷ 1 ∷ 1 ∷ []) ∷ [];
+      part = (0 ∷ 16 ∷ 9 ∷ 4 ∷ []);
+      inside = (1 ∷ 26 ∷ 1 ∷ 1 ∷ []) ∷ (1 ∷ 28 ∷ 1 ∷ 1 ∷ []) ∷ (0 ∷ 20 ∷ 6 ∷ 2 ∷ []) ∷ (1 ∷ 33 ∷ 3 ∷ 1 ∷ []) ∷ (1 ∷ 33 ∷ 3 ∷ 1 ∷ []) ∷ [];
+      leaf = (1 ∷ 29 ∷ 1 ∷ 1 ∷ []);
+      later = rest;
+      is = refl;
+      parts-before = 1;
+      before-whole = node refl (leaf refl none) none;
+      part-node = refl;
+      part-kind = refl;
+      parts-inside = 3;
+      inside-whole = leaf refl (leaf refl (node refl (leaf refl (leaf refl none)) none));
+      leaf-last = refl;
+      leaf-leaf = refl;
+      leaf-kind = refl;
+    }
+
+places-found : (token-index in-one ≡ 3) × (start-byte in-one ≡ 14) × (token-index in-two ≡ 5) × (start-byte in-two ≡ 9)
+unfolding token-index start-byte over-leaves in-one in-two
+places-found = (refl, refl, refl, refl)
+
+alike : Alike one two in-one in-two
+unfolding token-index start-byte over-leaves tokens in-one in-two
+alike = record { same-tokens = refl; same-bytes = refl }
+
+abbrev errors-one : List Row
+errors-one = (74 ∷ 16 ∷ 17 ∷ []) ∷ []
+
+abbrev errors-two : List Row
+errors-two = (74 ∷ 11 ∷ 12 ∷ []) ∷ []
+
+abbrev reports-one : List Row
+reports-one =
+    (1 ∷ 16 ∷ 17 ∷ 4 ∷ 1 ∷ 11 ∷ 0 ∷ 0 ∷ 0 ∷ []) ∷ (1 ∷ 21 ∷ 22 ∷ 10 ∷ 12 ∷ 3 ∷ 0 ∷ 0 ∷ 0 ∷ [])
+    ∷ (1 ∷ 21 ∷ 22 ∷ 11 ∷ 15 ∷ 1 ∷ 0 ∷ 0 ∷ 0 ∷ []) ∷ (7 ∷ 21 ∷ 22 ∷ 11 ∷ 16 ∷ 0 ∷ 0 ∷ 18 ∷ 19 ∷ []) ∷ []
+
+abbrev reports-two : List Row
+reports-two =
+    (1 ∷ 11 ∷ 12 ∷ 6 ∷ 13 ∷ 11 ∷ 0 ∷ 0 ∷ 0 ∷ []) ∷ (1 ∷ 16 ∷ 17 ∷ 12 ∷ 24 ∷ 3 ∷ 0 ∷ 0 ∷ 0 ∷ [])
+    ∷ (1 ∷ 16 ∷ 17 ∷ 13 ∷ 27 ∷ 1 ∷ 0 ∷ 0 ∷ 0 ∷ []) ∷ (7 ∷ 16 ∷ 17 ∷ 13 ∷ 28 ∷ 0 ∷ 0 ∷ 13 ∷ 14 ∷ []) ∷ []
+
+abbrev pool-one : List ℕ
+pool-one = 35 ∷ 18 ∷ 26 ∷ 30 ∷ 46 ∷ 23 ∷ 24 ∷ 19 ∷ 20 ∷ 21 ∷ 22 ∷ 101 ∷ 103 ∷ 19 ∷ 101 ∷ 29 ∷ []
+
+abbrev pool-two : List ℕ
+pool-two = 18 ∷ 26 ∷ 30 ∷ 46 ∷ 23 ∷ 24 ∷ 19 ∷ 20 ∷ 21 ∷ 22 ∷ 101 ∷ 2 ∷ 29 ∷ 18 ∷ 26 ∷ 30 ∷ 46 ∷ 23 ∷ 24 ∷ 19 ∷ 20 ∷ 21 ∷ 22 ∷ 101 ∷ 103 ∷ 19 ∷ 101 ∷ 29 ∷ []
+
+later-in-one : (later-errors one in-one ≡ errors-one) × (later-reports one in-one ≡ reports-one) × (expectations (result one) ≡ pool-one) × (places one in-one .pool ≡ 1)
+unfolding those later-error later-report pool-before token-index start-byte over-leaves error-rows report-rows expectations call in-one
+later-in-one = (refl, refl, refl, refl)
+
+later-in-two : (later-errors two in-two ≡ errors-two) × (later-reports two in-two ≡ reports-two) × (expectations (result two) ≡ pool-two) × (places two in-two .pool ≡ 13)
+unfolding those later-error later-report pool-before token-index start-byte over-leaves error-rows report-rows expectations call in-two
+later-in-two = (refl, refl, refl, refl)
+
+-- these lists are what the promise says, number by number
+errors-moved : Each (ErrorMoved 14 9) errors-one errors-two
+errors-moved = more (record { same-number = refl; start-moves = refl; end-moves = refl }) no-more
+
+-- the open node's `{` is at 18..19 in one, at 13..14 in the other
+eighteen : _≡_ {A = ℕ} 18 0 → ⊥
+eighteen e = omega arith
+
+reports-moved : Each (ReportMoved (record { bytes = 14; marks = 3; pool = 1 }) (record { bytes = 9; marks = 5; pool = 13 }) pool-one pool-two) reports-one reports-two
+reports-moved =
+    more (record { same-message = refl; start-moves = refl; end-moves = refl; mark-moves = refl; first-place-moves = refl; same-pool-count = refl; same-hint = refl; label-moves = no-label refl refl refl refl; same-expected = refl })
+    (more (record { same-message = refl; start-moves = refl; end-moves = refl; mark-moves = refl; first-place-moves = refl; same-pool-count = refl; same-hint = refl; label-moves = no-label refl refl refl refl; same-expected = refl })
+    (more (record { same-message = refl; start-moves = refl; end-moves = refl; mark-moves = refl; first-place-moves = refl; same-pool-count = refl; same-hint = refl; label-moves = no-label refl refl refl refl; same-expected = refl })
+    (more (record { same-message = refl; start-moves = refl; end-moves = refl; mark-moves = refl; first-place-moves = refl; same-pool-count = refl; same-hint = refl; label-moves = label (λ e _. eighteen e) refl refl; same-expected = refl }) no-more)))
+
+-- and so says the theorem
+shared : Shared one two in-one in-two
+unfolding call
+shared = stays-local one two refl refl in-one in-two alike
+
+-- ---------------------------------------------------------------- what is not promised
+
+-- By "at least" in place of "greater", the first file would have a later report more: the one that is made when the semicolon comes too soon.
+not-at-least : (length (those (λ r. leb (token-index in-one) (mark r)) (report-rows (result one))) ≡ 5) × (length (those (λ r. leb (token-index in-two) (mark r)) (report-rows (result two))) ≡ 4)
+unfolding those token-index over-leaves report-rows call in-one in-two
+not-at-least = (refl, refl)
+
+-- Pending expectations do not end with a statement that lacks its semicolon: after `/{}` the missing one is reported, and after `a;` nothing is.
+abbrev unfinished : File
+unfinished = record { input = 47 ∷ 123 ∷ 125 ∷ 98 ∷ 59 ∷ []; rows = 46 ∷ 1 ∷ 37 ∷ 1 ∷ 38 ∷ 1 ∷ 27 ∷ 1 ∷ 29 ∷ 1 ∷ []; lent = lent 100 }
+
+abbrev finished : File
+finished = record { input = 97 ∷ 59 ∷ 98 ∷ 59 ∷ []; rows = 27 ∷ 1 ∷ 29 ∷ 1 ∷ 27 ∷ 1 ∷ 29 ∷ 1 ∷ []; lent = lent 100 }
+
+not-without : (report-rows (result unfinished) ≡ (1 ∷ 3 ∷ 4 ∷ 3 ∷ 0 ∷ 1 ∷ 0 ∷ 0 ∷ 0 ∷ []) ∷ []) × (report-rows (result finished) ≡ [])
+unfolding report-rows call
+not-without = (refl, refl)

@@ -1,0 +1,171 @@
+-- One file, taken apart at the semicolon: the tokens before and after it, and that what is written of those after it is what they make
+-- by themselves.
+use Prim.Native.Nat.{ℕ, _+_, _≤_}
+use native.Mathlib.Omega.{arith}
+use mathlib.Core.Path.{_≡_, refl, ap, sym, _∙_, subst}
+use mathlib.Core.Bool.{Bool, true, false, cond, _&&_, false≢true}
+use mathlib.Core.List.{List, [], _∷_, _++_, append-assoc, append-nil}
+use lib.Dec.{eqb, leb}
+use lib.ListN.{length, take, drop, length-append, length-drop}
+use lib.Seq.{drop-drop, length-take-le}
+use Rattle.definitions.specs.TokenKind as K
+use Rattle.definitions.specs.NodeKind as N
+use Rattle.definitions.specs.StaticText.{static-texts, same, fits-text}
+use Rattle.definitions.specs.Token.{Token, is-error, seen, bytes}
+use Rattle.definitions.specs.Grammar.{SourceFile}
+use Rattle.definitions.specs.Skeleton.{Report}
+use Rattle.definitions.specs.Run.{taken}
+use Rattle.definitions.specs.Place.{Tree, nil, leaf, branch, _⊕_, root}
+use Rattle.definitions.specs.Call.{run-entry}
+use Rattle.laws.specs.Lossless.{Kind-of, one-token, a-name}
+use Rattle.laws.proofs.Skeleton.{bytes-append}
+use Rattle.laws.proofs.Tree.{leaves, leaves-beside}
+use Rattle.laws.proofs.Placed.{root-whole}
+use Rattle.laws.proofs.Between.{entry-reads}
+use Rattle.laws.proofs.Swept.{entry-leaves}
+use Rattle.laws.proofs.Names.{entry-names}
+use Rattle.laws.proofs.Leaves.{Right, right-root}
+use Rattle.laws.proofs.Input.{Texts-fit, Checked, checked-input}
+use Rattle.recovery.specs.Rows.{Row, raw-tokens, raw-bytes, tree-rows}
+use Rattle.recovery.specs.Recovery.{File, result, Accepted, is-statement, Semicolon, token-index, start-byte}
+use Rattle.recovery.proofs.Told.{All, told, told-join, Above}
+use Rattle.recovery.proofs.Meaning.{ends-in, closes, ends-beside}
+use Rattle.recovery.proofs.Turns.{children, Part, part-here, Found, find-in}
+use Rattle.recovery.proofs.Written.{rows-of, tokens-of, made-of, told-of, Wrote, wrote}
+use Rattle.recovery.proofs.Cut.{Placed, placed, tokens-counted, bytes-counted}
+
+-- ---------------------------------------------------------------- a semicolon is one byte long
+
+texts-at : (ps : List Token) (t : Token) (us : List Token) (bs : List ℕ) → Texts-fit bs (ps ++ (t ∷ us)) → fits-text static-texts (t .kind) (take (t .len) (drop (bytes ps) bs)) ≡ true
+unfolding bytes
+texts-at [] t us bs h = h .0
+texts-at (p ∷ ps) t us bs h = ap (λ (l : List ℕ). fits-text static-texts (t .kind) (take (t .len) l)) (sym (drop-drop (bytes ps) (p .len) bs)) ∙ texts-at ps t us (drop (p .len) bs) (h .1)
+
+one-byte : (l : List ℕ) → fits-text static-texts K.Semicolon l ≡ true → length l ≡ 1
+unfolding fits-text same
+one-byte [] e = absurd (false≢true e)
+one-byte (x ∷ []) e = refl
+one-byte (x ∷ y ∷ l) e = absurd (go (eqb 59 x) e)
+  where
+    go : (b : Bool) → (b && false) ≡ true → ⊥
+    go true e = false≢true e
+    go false e = false≢true e
+
+semicolon-length : (f : File) (ps : List Token) (t : Token) (us : List Token) → Checked (f .input) (f .rows) → tokens-of f ≡ ps ++ (t ∷ us) → t .kind ≡ K.Semicolon → t .len ≡ 1
+unfolding bytes
+semicolon-length f ps t us c e k =
+    let bs : List ℕ = f .input in
+    let a : bytes ps + (t .len + bytes us) ≡ length bs = sym (bytes-append ps (t ∷ us)) ∙ ap bytes (sym e) ∙ c .covered in
+    let d : t .len ≤ length (drop (bytes ps) bs) = omega (arith, length-drop (bytes ps) bs) in
+    let g : fits-text static-texts K.Semicolon (take (t .len) (drop (bytes ps) bs)) ≡ true =
+    ap (λ (n : ℕ). fits-text static-texts n (take (t .len) (drop (bytes ps) bs))) (sym k) ∙ texts-at ps t us bs (subst (Texts-fit bs) e (c .texts)) in
+    sym (length-take-le (t .len) (drop (bytes ps) bs) d) ∙ one-byte _ g
+
+-- ---------------------------------------------------------------- a semicolon's leaf is one token
+
+pub record One (raw : List Token) : Type 0 where
+  pub token : Token
+  pub is : raw ≡ token ∷ []
+  pub kind : token .kind ≡ K.Semicolon
+
+seen-semicolon : (t : Token) → K.Semicolon ≡ seen t → t .kind ≡ K.Semicolon
+unfolding seen
+seen-semicolon t e = go (is-error (t .kind)) e
+  where
+    go : (b : Bool) → K.Semicolon ≡ cond b K.Unrecognized (t .kind) → t .kind ≡ K.Semicolon
+    go true e = absurd (omega arith)
+    go false e = sym e
+
+one-of-kind : (raw : List Token) → Kind-of K.Semicolon raw → One raw
+one-of-kind raw (one-token t e) = record { token = t; is = refl; kind = seen-semicolon t e }
+one-of-kind raw (a-name t ts e h) = absurd (omega arith)
+
+right-behind : (f g : Tree) → Right (f ⊕ g) → Right g
+unfolding Right _⊕_
+right-behind nil g h = h
+right-behind (leaf k us f) g h = right-behind f g (h .1)
+right-behind (branch k c f) g h = right-behind f g (h .1)
+
+right-last : (f : Tree) (k : ℕ) (i : Tree) (raw : List Token) (v : Tree) → Right (f ⊕ branch k (i ⊕ leaf K.Semicolon raw nil) v) → One raw
+unfolding Right
+right-last f k i raw v h = one-of-kind raw (right-behind i (leaf K.Semicolon raw nil) (right-behind f _ h .0) .0)
+
+-- ---------------------------------------------------------------- a file's children
+
+children-right : (ts : List Token) → Right (children (run-entry SourceFile ts) ts)
+unfolding Right root children
+children-right ts = right-root N.SourceFile (run-entry SourceFile ts) ts (entry-reads SourceFile ts .reads ts refl) (entry-names SourceFile ts) .0
+
+children-leaves : (ts : List Token) → leaves (children (run-entry SourceFile ts) ts) ≡ ts
+unfolding root leaves children
+children-leaves ts = sym (append-nil _) ∙ root-whole N.SourceFile (run-entry SourceFile ts) ts (entry-leaves SourceFile ts)
+
+leaves-around : (f : Tree) (k : ℕ) (i : Tree) (t : Token) (v : Tree) → leaves (f ⊕ branch k (i ⊕ leaf K.Semicolon (t ∷ []) nil) v) ≡ (leaves f ++ leaves i) ++ (t ∷ leaves v)
+unfolding leaves
+leaves-around f k i t v =
+    leaves-beside f _
+    ∙ ap (λ (l : List Token). leaves f ++ (l ++ leaves v)) (leaves-beside i _)
+    ∙ ap (leaves f ++_) (append-assoc (leaves i) (t ∷ []) (leaves v))
+    ∙ sym (append-assoc (leaves f) (leaves i) _)
+
+statement-closes : (k : ℕ) (i : Tree) (raw : List Token) → is-statement k ≡ true → closes k (i ⊕ leaf K.Semicolon raw nil) ≡ true
+unfolding ends-in
+statement-closes k i raw e = ap (_&& ends-in false (i ⊕ leaf K.Semicolon raw nil)) e ∙ ends-beside false i _
+
+-- ---------------------------------------------------------------- the file
+
+pub record Tail (f : File) (s : Semicolon (tree-rows (result f))) : Type 0 where
+  pub head : List Token
+  pub semicolon : Token
+  pub rest : List Token
+  pub file : tokens-of f ≡ head ++ (semicolon ∷ rest)
+  pub one-byte-long : semicolon .len ≡ 1
+  pub no-error : is-error (semicolon .kind) ≡ false
+  pub at-index : token-index s ≡ length head
+  pub at-byte : start-byte s ≡ bytes head
+  pub parts : s .later ≡ rows-of (children (run-entry SourceFile rest) rest)
+  pub early : List Report
+  pub reports : told-of f ≡ early ++ told (run-entry SourceFile rest)
+  pub above : All (Above (length rest)) early
+
+counted : (m : Tree → ℕ) (g : List Row → ℕ) → ((x : Tree) → g (rows-of x) ≡ m x) → (f i : Tree) (l n : List Row) → rows-of f ≡ l → rows-of i ≡ n → g l + g n ≡ m f + m i
+counted m g e f i l n p q = rw (← p, ← q, e f, e i) refl
+
+-- ONE FILE
+pub tail : (f : File) → Accepted f → (s : Semicolon (tree-rows (result f))) → Tail f s
+unfolding token-index start-byte is-error
+tail f h s =
+    let W : Wrote f = wrote f h in
+    let ts : List Token = tokens-of f in
+    let X : Tree = children (made-of f) ts in
+    let P : Placed X s = placed N.SourceFile X s (W .trees) in
+    let O : One (P .raw) = right-last (P .before) (P .kind) (P .inside) (P .raw) (P .later) (subst Right (P .is) (children-right ts)) in
+    let i : Tree = P .inside ⊕ leaf K.Semicolon (P .raw) nil in
+    let F : Found (taken ts) (made-of f) (P .later) =
+    find-in (P .kind) i (P .later) (statement-closes (P .kind) (P .inside) (P .raw) (P .statement)) ts
+    (subst (λ (x : Tree). Part x (P .kind) i (P .later)) (sym (P .is)) (part-here (P .before) (P .kind) i (P .later))) in
+    let u : leaves (P .later) ≡ F .rest = ap leaves (F .behind) ∙ children-leaves (F .rest) in
+    let e : ts ≡ (leaves (P .before) ++ leaves (P .inside)) ++ (O .token ∷ F .rest) =
+    sym (children-leaves ts)
+    ∙ ap leaves (P .is)
+    ∙ ap (λ (r : List Token). leaves (P .before ⊕ branch (P .kind) (P .inside ⊕ leaf K.Semicolon r nil) (P .later))) (O .is)
+    ∙ leaves-around (P .before) (P .kind) (P .inside) (O .token) (P .later)
+    ∙ ap (λ (l : List Token). (leaves (P .before) ++ leaves (P .inside)) ++ (O .token ∷ l)) u in
+    record {
+      head = leaves (P .before) ++ leaves (P .inside);
+      semicolon = O .token;
+      rest = F .rest;
+      file = e;
+      one-byte-long = semicolon-length f (leaves (P .before) ++ leaves (P .inside)) (O .token) (F .rest) (checked-input (f .input) (f .rows) (W .input)) e (O .kind);
+      no-error = ap (leb 64) (O .kind);
+      at-index =
+          counted (λ (x : Tree). length (leaves x)) raw-tokens tokens-counted (P .before) (P .inside) (s .before) (s .inside) (P .rows-before) (P .rows-inside)
+          ∙ sym (length-append (leaves (P .before)) (leaves (P .inside)));
+      at-byte =
+          counted (λ (x : Tree). bytes (leaves x)) raw-bytes bytes-counted (P .before) (P .inside) (s .before) (s .inside) (P .rows-before) (P .rows-inside)
+          ∙ sym (bytes-append (leaves (P .before)) (leaves (P .inside)));
+      parts = sym (P .rows-later) ∙ ap rows-of (F .behind);
+      early = told (F .first);
+      reports = ap told (F .is) ∙ told-join (F .first) (run-entry SourceFile (F .rest));
+      above = F .above;
+    }

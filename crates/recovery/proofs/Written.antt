@@ -1,0 +1,184 @@
+-- What an accepted source file wrote, row by row: the rows of its tree, of its error tokens and of its reports.
+use Prim.Native.Nat.{ℕ, suc, _+_, _-_, _*_, _/_, _<_}
+use native.Mathlib.Nat.{mul-div-cancel-left}
+use native.Mathlib.Omega.{arith}
+use mathlib.Core.Path.{_≡_, refl, ap, sym, _∙_}
+use mathlib.Core.Bool.{Bool, true, false, cond}
+use mathlib.Core.List.{List, [], _∷_, _++_, append-assoc}
+use lib.ListN.{length, take, drop, replicate, length-append}
+use lib.Seq.{take-at, drop-at, take-append-seam}
+use Rattle.definitions.specs.NodeKind as N
+use Rattle.definitions.specs.Token.{Token, tokens, is-error, bytes}
+use Rattle.definitions.specs.Grammar.{Entry, SourceFile, root-kind}
+use Rattle.definitions.specs.Skeleton.{Label, no-label, label, Report, Skeleton}
+use Rattle.definitions.specs.Place.{Tree, nil, leaf, branch, root, width, count, rows, lexical-errors}
+use Rattle.definitions.specs.Report.{pushes, reports, label-numbers, report-rows, pool}
+use Rattle.definitions.specs.Refusal.{accepted, check-input}
+use Rattle.definitions.specs.Call.{Sheets, sheets, kept, written, run-entry, for, entry-of}
+use Rattle.laws.proofs.Accepted.{accepted-call}
+use Rattle.laws.proofs.Accepted as L
+use Rattle.recovery.specs.Rows.{Row, first-rows, tree-rows, error-rows, expectations}
+use Rattle.recovery.specs.Rows as S
+use Rattle.recovery.specs.Recovery.{File, result, Accepted}
+use Rattle.recovery.proofs.Turns.{children}
+
+-- ---------------------------------------------------------------- rows and numbers
+
+unfoldable pub flat : List Row → List ℕ
+flat [] = []
+flat (r ∷ l) = r ++ flat l
+
+-- every row has w numbers
+abbrev pub Wide : ℕ → List Row → Type 0
+Wide w [] = Unit {0}
+Wide w (r ∷ l) = (length r ≡ w) × Wide w l
+
+pub flat-append : (l m : List Row) → flat (l ++ m) ≡ flat l ++ flat m
+unfolding flat
+flat-append [] m = refl
+flat-append (r ∷ l) m = ap (r ++_) (flat-append l m) ∙ sym (append-assoc r (flat l) (flat m))
+
+pub wide-append : (w : ℕ) (l m : List Row) → Wide w l → Wide w m → Wide w (l ++ m)
+wide-append w [] m h g = g
+wide-append w (r ∷ l) m h g = (h .0, wide-append w l m (h .1) g)
+
+flat-length : (w : ℕ) (l : List Row) → Wide w l → length (flat l) ≡ w * length l
+unfolding flat
+flat-length w [] h = sym (native.Mathlib.Nat.mul-zero w)
+flat-length w (r ∷ l) h = length-append r (flat l) ∙ ap (_+ length (flat l)) (h .0) ∙ ap (w +_) (flat-length w l (h .1)) ∙ step
+  where
+    step : w + w * length l ≡ w * suc (length l)
+    step = native.Mathlib.Nat.add-comm w (w * length l) ∙ sym (native.Mathlib.Nat.mul-suc w (length l))
+
+first-flat : (w : ℕ) (l : List Row) (z : List ℕ) → Wide w l → first-rows (length l) w (flat l ++ z) ≡ l
+unfolding first-rows flat
+first-flat w [] z h = refl
+first-flat w (r ∷ l) z h =
+    let e : (r ++ flat l) ++ z ≡ r ++ (flat l ++ z) = append-assoc r (flat l) z in
+    (λ i. take w (e i) ∷ first-rows (length l) w (drop w (e i)))
+    ∙ (λ i. take-at r (flat l ++ z) w (h .0) i ∷ first-rows (length l) w (drop-at r (flat l ++ z) w (h .0) i))
+    ∙ ap (r ∷_) (first-flat w l z (h .1))
+
+-- WRITTEN ROWS are read back from the front of a buffer, whatever stood there
+written-rows : (w : ℕ) (l : List Row) (m b : List ℕ) → 0 < w → Wide w l → m ≡ flat l → first-rows (length m / w) w (written m b) ≡ l
+written-rows w l m b pos h e =
+    let c : length m / w ≡ length l = ap (λ (n : ℕ). n / w) (ap length e ∙ flat-length w l h) ∙ mul-div-cancel-left (length l) pos in
+    ap (λ (n : ℕ). first-rows n w (written m b)) c
+    ∙ ap (λ (x : List ℕ). first-rows (length l) w (x ++ replicate (length b - length m) 0)) e
+    ∙ first-flat w l (replicate (length b - length m) 0) h
+
+-- ---------------------------------------------------------------- the rows
+
+unfoldable pub rows-of : Tree → List Row
+unfolding bytes width count
+rows-of nil = []
+rows-of (leaf k ts f) = (1 ∷ k ∷ bytes ts ∷ length ts ∷ []) ∷ rows-of f
+rows-of (branch k c f) = (0 ∷ k ∷ width c ∷ count c ∷ []) ∷ (rows-of c ++ rows-of f)
+
+rows-wide : (f : Tree) → Wide 4 (rows-of f)
+unfolding rows-of
+rows-wide nil = tt
+rows-wide (leaf k ts f) = (refl, rows-wide f)
+rows-wide (branch k c f) = (refl, wide-append 4 (rows-of c) (rows-of f) (rows-wide c) (rows-wide f))
+
+rows-flat : (f : Tree) → rows f ≡ flat (rows-of f)
+unfolding rows-of rows flat
+rows-flat nil = refl
+rows-flat (leaf k ts f) = ap (λ (l : List ℕ). 1 ∷ k ∷ bytes ts ∷ length ts ∷ l) (rows-flat f)
+rows-flat (branch k c f) =
+    ap (λ (l : List ℕ). 0 ∷ k ∷ width c ∷ count c ∷ l) ((λ i. rows-flat c i ++ rows-flat f i) ∙ sym (flat-append (rows-of c) (rows-of f)))
+
+unfoldable pub errors-of : ℕ → List Token → List Row
+unfolding is-error
+errors-of at [] = []
+errors-of at (t ∷ ts) = cond (is-error (t .kind)) ((t .kind ∷ at ∷ (at + t .len) ∷ []) ∷ errors-of (at + t .len) ts) (errors-of (at + t .len) ts)
+
+errors-wide : (at : ℕ) (ts : List Token) → Wide 3 (errors-of at ts)
+unfolding errors-of
+errors-wide at [] = tt
+errors-wide at (t ∷ ts) = go (is-error (t .kind)) (errors-wide (at + t .len) ts)
+  where
+    go : (b : Bool) → Wide 3 (errors-of (at + t .len) ts) → Wide 3 (cond b ((t .kind ∷ at ∷ (at + t .len) ∷ []) ∷ errors-of (at + t .len) ts) (errors-of (at + t .len) ts))
+    go true h = (refl, h)
+    go false h = h
+
+errors-flat : (at : ℕ) (ts : List Token) → lexical-errors at ts ≡ flat (errors-of at ts)
+unfolding errors-of lexical-errors flat
+errors-flat at [] = refl
+errors-flat at (t ∷ ts) = go (is-error (t .kind)) (errors-flat (at + t .len) ts)
+  where
+    go : (b : Bool) → lexical-errors (at + t .len) ts ≡ flat (errors-of (at + t .len) ts)
+        → cond b (t .kind ∷ at ∷ (at + t .len) ∷ lexical-errors (at + t .len) ts) (lexical-errors (at + t .len) ts) ≡ flat (cond b ((t .kind ∷ at ∷ (at + t .len) ∷ []) ∷ errors-of (at + t .len) ts) (errors-of (at + t .len) ts))
+    go true h = ap (λ (l : List ℕ). t .kind ∷ at ∷ (at + t .len) ∷ l) h
+    go false h = h
+
+-- the row of a report, in a file of n tokens and b bytes, after `first` expectations
+abbrev pub report-row : ℕ → ℕ → ℕ → Report → Row
+report-row n b first r = r .message ∷ (b - r .range .from) ∷ (b - r .range .to) ∷ (n - r .mark) ∷ first ∷ length (r .pool) ∷ r .hint ∷ label-numbers b (r .labelled) []
+
+unfoldable pub reports-of : ℕ → ℕ → ℕ → List Report → List Row
+reports-of n b first [] = []
+reports-of n b first (r ∷ l) = report-row n b first r ∷ reports-of n b (first + length (r .pool)) l
+
+label-wide : (b : ℕ) (x : Label) → length (label-numbers b x []) ≡ 2
+label-wide b no-label = refl
+label-wide b (label s) = refl
+
+reports-wide : (n b first : ℕ) (l : List Report) → Wide 9 (reports-of n b first l)
+unfolding reports-of
+reports-wide n b first [] = tt
+reports-wide n b first (r ∷ l) = (ap (λ (x : ℕ). suc (suc (suc (suc (suc (suc (suc x))))))) (label-wide b (r .labelled)), reports-wide n b (first + length (r .pool)) l)
+
+label-flat : (b : ℕ) (x : Label) (l : List ℕ) → label-numbers b x l ≡ label-numbers b x [] ++ l
+label-flat b no-label l = refl
+label-flat b (label s) l = refl
+
+reports-flat : (n b first : ℕ) (l : List Report) → report-rows n b first l ≡ flat (reports-of n b first l)
+unfolding reports-of report-rows flat
+reports-flat n b first [] = refl
+reports-flat n b first (r ∷ l) =
+    ap (λ (x : List ℕ). r .message ∷ (b - r .range .from) ∷ (b - r .range .to) ∷ (n - r .mark) ∷ first ∷ length (r .pool) ∷ r .hint ∷ x)
+    (ap (label-numbers b (r .labelled)) (reports-flat n b (first + length (r .pool)) l) ∙ label-flat b (r .labelled) (flat (reports-of n b (first + length (r .pool)) l)))
+
+-- ---------------------------------------------------------------- an accepted source file
+
+abbrev pub tokens-of : File → List Token
+tokens-of f = tokens (f .rows)
+
+abbrev pub made-of : File → Skeleton
+made-of f = run-entry SourceFile (tokens-of f)
+
+abbrev pub told-of : File → List Report
+told-of f = reports (pushes (made-of f))
+
+pub record Wrote (f : File) : Type 0 where
+  pub input : check-input (f .input) (f .rows) ≡ accepted
+  pub trees : tree-rows (result f) ≡ rows-of (branch N.SourceFile (children (made-of f) (tokens-of f)) nil)
+  pub errors : error-rows (result f) ≡ errors-of 0 (tokens-of f)
+  pub reports : S.report-rows (result f) ≡ reports-of (length (tokens-of f)) (bytes (tokens-of f)) 0 (told-of f)
+  pub pool : expectations (result f) ≡ pool (told-of f)
+
+entry-one : (e : Entry) → entry-of 1 ≡ for e → e ≡ SourceFile
+unfolding entry-of
+entry-one e h = cc
+
+-- WHAT IT WROTE
+pub wrote : (f : File) → Accepted f → Wrote f
+unfolding tree-rows error-rows S.report-rows expectations sheets root children root-kind
+wrote f h =
+    let A : L.Accepted 1 (f .input) (f .rows) (f .lent) = accepted-call 1 (f .input) (f .rows) (f .lent) h in
+    let ts : List Token = tokens-of f in
+    let o : Skeleton = made-of f in
+    let z : Sheets = sheets SourceFile ts o in
+    let is : result f ≡ kept z (f .lent) = A .returns ∙ ap (λ (e : Entry). kept (sheets e ts (run-entry e ts)) (f .lent)) (entry-one (A .entry) (A .asked-for)) in
+    let t : Tree = branch N.SourceFile (children o ts) nil in
+    record {
+      input = A .input;
+      trees = ap tree-rows is ∙ written-rows 4 (rows-of t) (z .trees) (f .lent .trees) (omega arith) (rows-wide t) (rows-flat t);
+      errors = ap error-rows is ∙ written-rows 3 (errors-of 0 ts) (z .errors) (f .lent .errors) (omega arith) (errors-wide 0 ts) (errors-flat 0 ts);
+      reports =
+          ap S.report-rows is
+          ∙ written-rows 9 (reports-of (length ts) (bytes ts) 0 (told-of f)) (z .reports) (f .lent .reports) (omega arith) (reports-wide (length ts) (bytes ts) 0 (told-of f))
+          (reports-flat (length ts) (bytes ts) 0 (told-of f));
+      pool = ap expectations is ∙ take-append-seam (z .pool) (replicate (length (f .lent .pool) - length (z .pool)) 0);
+    }

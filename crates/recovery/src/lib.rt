@@ -1,0 +1,1 @@
+// The third promise: see specs/. There is no code here.
