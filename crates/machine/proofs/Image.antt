@@ -1,0 +1,87 @@
+-- The machine as it stands while nothing is refused: it is read off the definitions' state and what was written so far.
+use Prim.Native.Nat.{ℕ, suc, _+_, _-_, _≤_, _<_}
+use native.Mathlib.Nat.{mod-eq-of-lt}
+use native.Mathlib.Omega.{arith}
+use mathlib.Core.Path.{_≡_, ap, _∙_}
+use mathlib.Core.List.{List, _∷_}
+use lib.ListN.{length}
+use Rattle.definitions.specs.Token.{Token, bytes}
+use Rattle.definitions.specs.Skeleton.{Report}
+use Rattle.definitions.specs.Run.{State, taken, peeked}
+use Rattle.definitions.specs.Report.{pool}
+use Rattle.machine.specs.Machine.{Buffer, Machine, low, rest, passed, took}
+use Rattle.machine.specs.Outcome.{Limits, onto}
+use Rattle.machine.proofs.Coded.{low-rows}
+use Rattle.machine.proofs.Part.{Part, part-length, part-bytes, part-drop, part-trivia, bytes-trivia}
+
+-- what a call is given: the tokens and the three lent buffers
+pub record Ground : Type 0 where
+  pub tokens : List Token
+  pub events : List ℕ
+  pub reports : List ℕ
+  pub pool : List ℕ
+  pub limits : Limits tokens
+
+-- the buffer b with l written to its front
+abbrev pub written : List ℕ → List ℕ → Buffer
+written l b = record { count = length l; numbers = onto l b }
+
+abbrev pub machine-at : ℕ → ℕ → ℕ → ℕ → List ℕ → Buffer → Buffer → Buffer → Machine
+machine-at c a m b ks e r p = record { cursor = c; at = a; mark = m; mark-at = b; pending = ks; events = e; reports = r; pool = p; refusal = 0; place = 0 }
+
+-- the report numbers of a list of reports
+abbrev pub rows-of : Ground → List Report → List ℕ
+rows-of g l = low-rows (length (g .tokens)) (bytes (g .tokens)) 0 l
+
+-- e: the event numbers so far. l: the reports so far.
+unfoldable pub image : Ground → List ℕ → List Report → State → Machine
+unfolding bytes low-rows pool
+image g e l s =
+    machine-at (length (g .tokens) - length (s .rest)) (bytes (g .tokens) - bytes (s .rest)) (length (g .tokens) - length (s .since)) (bytes (g .tokens) - bytes (s .since)) (s .pending)
+    (written e (g .events)) (written (rows-of g l) (g .reports)) (written (pool l) (g .pool))
+
+-- the cursor and the last token taken are places of the file, the cursor no earlier
+pub record Inside (g : Ground) (s : State) : Type 0 where
+  pub rest : Part (g .tokens) (s .rest)
+  pub since : Part (g .tokens) (s .since)
+  pub order : bytes (s .rest) ≤ bytes (s .since)
+
+abbrev pub moved : State → List Token → State
+moved s l = record { rest = l; since = s .since; pending = s .pending }
+
+pub rest-is : (g : Ground) (e : List ℕ) (l : List Report) (s : State) → Inside g s → rest (g .tokens) (image g e l s) ≡ s .rest
+unfolding image
+rest-is g e l s h = part-drop (g .tokens) (s .rest) (h .rest)
+
+pub inside-taken : (g : Ground) (l : List Token) → Part (g .tokens) l → Inside g (taken l)
+inside-taken g l p = record { rest = p; since = p; order = omega arith }
+
+pub inside-peeked : (g : Ground) (s : State) → Inside g s → Inside g (peeked s)
+unfolding peeked
+inside-peeked g s h =
+    record { rest = part-trivia (g .tokens) (s .rest) (h .rest); since = h .since; order = omega (arith, h .order, bytes-trivia (s .rest)) }
+
+-- ---------------------------------------------------------------- one token further
+
+-- n, b: tokens and bytes of the file
+next-index : (n k : ℕ) → suc k ≤ n → n - suc k + 1 ≡ n - k
+next-index n k h = omega arith
+
+next-byte : (b k j : ℕ) → j + k ≤ b → b < 4294967296 → low (b - (j + k) + j) ≡ b - k
+next-byte b k j h l = let e : b - (j + k) + j ≡ b - k = omega arith in ap low e ∙ mod-eq-of-lt (omega arith)
+
+module _ (g : Ground) (e : List ℕ) (l : List Report) (s : State) (t : Token) (ts : List Token) (p : Part (g .tokens) (t ∷ ts)) where
+  index : length (g .tokens) - suc (length ts) + 1 ≡ length (g .tokens) - length ts
+  index = next-index (length (g .tokens)) (length ts) (part-length (g .tokens) (t ∷ ts) p)
+
+  pub byte : low (bytes (g .tokens) - bytes (t ∷ ts) + t .len) ≡ bytes (g .tokens) - bytes ts
+  unfolding bytes
+  byte = next-byte (bytes (g .tokens)) (bytes ts) (t .len) (part-bytes (g .tokens) (t ∷ ts) p) (g .limits .short)
+
+  pub pass-is : passed t (image g e l (moved s (t ∷ ts))) ≡ image g e l (moved s ts)
+  unfolding image
+  pass-is = rw (index, byte)
+
+  pub took-is : took t (image g e l (moved s (t ∷ ts))) ≡ image g e l (taken ts)
+  unfolding image
+  took-is = rw (index, byte)

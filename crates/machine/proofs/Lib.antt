@@ -1,0 +1,19 @@
+-- The machine does what `definitions` says.
+pub mod Buffers
+pub mod Coded
+pub mod Part
+pub mod Image
+pub mod Moves
+pub mod Stores
+pub mod Sticky
+pub mod Meets
+pub mod Taking
+pub mod Emitting
+pub mod Sequences
+pub mod Arguments
+pub mod Markers
+pub mod Loops
+pub mod Chains
+pub mod Programs
+pub mod Whole
+pub mod Entry

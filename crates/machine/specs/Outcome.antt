@@ -1,0 +1,83 @@
+-- What a whole walk of the machine comes to: for any tokens within the limits and any lent buffers, what `definitions` says of the same
+-- entry and tokens. The exported routine's proof cites this.
+use Prim.Native.Nat.{ℕ, _/_, _≤_, _<_}
+use mathlib.Core.Path.{_≡_}
+use mathlib.Core.Bool.{false}
+use mathlib.Core.List.{List, [], _∷_, _++_}
+use lib.ListN.{length, drop}
+use Rattle.definitions.specs.Token.{Token, tokens, bytes}
+use Rattle.definitions.specs.Skeleton.{Skeleton}
+use Rattle.definitions.specs.Event.{events}
+use Rattle.definitions.specs.Refusal.{Refusal, number-of, place-of, accepted, check-input}
+use Rattle.definitions.specs.Report.{Room, Fit, fits, stops, scan, pushes, reports, report-rows, pool}
+use Rattle.definitions.specs.Grammar.{Entry, whole}
+use Rattle.definitions.specs.Call.{EVENT-ROW, REPORT-ROW, forward-mark, run-entry}
+use Rattle.machine.specs.Machine.{Buffer, Machine}
+use Rattle.machine.specs.Walk.{unlabelled, walk-prog}
+use Rattle.machine.specs.Encode.{encode}
+
+-- every token has at least one byte
+abbrev pub Filled : List Token → Type 0
+Filled [] = Unit {0}
+Filled (t ∷ ts) = (1 ≤ t .len) × Filled ts
+
+-- what is asked of the tokens: causes 2 and 3 leave more
+pub record Limits (ts : List Token) : Type 0 where
+  pub few : length ts ≤ 65536
+  pub short : bytes ts < 4294967296
+  pub filled : Filled ts
+
+-- what is asked of a skeleton: its numbers fit 32 bits
+pub record Small (o : Skeleton) : Type 0 where
+  pub events-fit : length (events false o) < 4294967296
+  pub pool-fits : length (pool (reports (pushes o))) < 4294967296
+
+-- nothing written yet
+abbrev pub unwritten : List ℕ → Buffer
+unwritten l = record { count = 0; numbers = l }
+
+-- nothing taken, nothing pending, nothing written, nothing refused
+abbrev pub fresh : List ℕ → List ℕ → List ℕ → Machine
+fresh ev rp pl =
+    record { cursor = 0; at = 0; mark = 0; mark-at = 0; pending = []; events = unwritten ev; reports = unwritten rp; pool = unwritten pl; refusal = 0; place = 0 }
+
+-- the room of the three buffers, as `room-of` counts it
+abbrev pub room-in : List ℕ → List ℕ → List ℕ → Room
+room-in ev rp pl = record { events = length ev / EVENT-ROW; reports = length rp / REPORT-ROW; pool = length pl }
+
+-- the numbers l at the front of a buffer; the rest is as it was
+abbrev pub onto : List ℕ → List ℕ → List ℕ
+onto l b = l ++ drop (length l) b
+
+-- the buffer b with the numbers l written to its front, and no more than it has room for
+pub record Holds (l b : List ℕ) (x : Buffer) : Type 0 where
+  pub numbers : x .numbers ≡ onto l b
+  pub count : x .count ≡ length l
+  pub room : length l ≤ length b
+
+-- nothing was refused: the events encode the skeleton, reports and pool are the definitions'
+pub record Accepted (ts : List Token) (o : Skeleton) (ev rp pl : List ℕ) (m : Machine) : Type 0 where
+  pub refusal : m .refusal ≡ 0
+  pub events-hold : Holds (encode false o) ev (m .events)
+  pub reports-hold : Holds (report-rows (length ts) (bytes ts) 0 (reports (pushes o))) rp (m .reports)
+  pub pool-holds : Holds (pool (reports (pushes o))) pl (m .pool)
+
+-- refused with the number and at the place of r
+pub record Refused (ts : List Token) (r : Refusal) (m : Machine) : Type 0 where
+  pub refusal : m .refusal ≡ number-of r
+  pub some : 0 < m .refusal
+  pub place : m .place ≡ place-of (forward-mark (length ts) r)
+
+-- what the machine has come to, by what `scan` finds in the skeleton's pushes
+abbrev pub Ends : List Token → Skeleton → List ℕ → List ℕ → List ℕ → Fit → Machine → Type 0
+Ends ts o ev rp pl (fits z) m = Accepted ts o ev rp pl m
+Ends ts o ev rp pl (stops r) m = Refused ts r m
+
+-- THE MACHINE'S END: for every entry, every input that passes causes 2 to 4, and lent buffers of any lengths and contents, the machine
+-- that starts fresh comes to what `scan` says of the skeleton that `definitions` gives. If all of it fits the buffers, nothing is
+-- refused, the events encode the skeleton, reports and pool are the definitions', and behind them each buffer is as it was. If not, the
+-- refusal's number and place are those of the first push that does not fit.
+abbrev pub Machine-ends : Type 0
+Machine-ends =
+    (e : Entry) (bs tk ev rp pl : List ℕ) → check-input bs tk ≡ accepted
+    → Ends (tokens tk) (run-entry e (tokens tk)) ev rp pl (scan (pushes (run-entry e (tokens tk))) (room-in ev rp pl)) (walk-prog 64 (tokens tk) unlabelled (whole e) (fresh ev rp pl) .on)

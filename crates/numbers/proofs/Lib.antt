@@ -1,0 +1,20 @@
+-- Numbers fit, in reading order: the analysis, that it is sound, what it gives, what is written, and the statements of specs/Numbers.antt.
+pub mod Row
+pub mod RowLaws
+pub mod Cost
+pub mod Paid
+pub mod Turns
+pub mod Chains
+pub mod CostSound
+pub mod CostActs
+pub mod CostRuns
+pub mod Tables
+pub mod Counts
+pub mod Pools
+pub mod Codes
+pub mod CodedRuns
+pub mod Events
+pub mod TreeRows
+pub mod Written
+pub mod Places
+pub mod Numbers

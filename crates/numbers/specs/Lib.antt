@@ -1,0 +1,2 @@
+-- The bounds that contracts cite.
+pub mod Numbers
