@@ -7,6 +7,7 @@ pub mod Token
 pub mod Prog
 pub mod Check
 pub mod Grammar
+pub mod C
 pub mod Skeleton
 pub mod Run
 pub mod Event

@@ -1,0 +1,141 @@
+-- C's expressions, from the public precedence table (cppreference, "C operator precedence"), over document 01's operands and operators.
+-- Nothing here knows of a parser or of a binding power.
+use Prim.Native.Nat.{ℕ, zero, suc, _≤_, _<_}
+use mathlib.Core.Path.{_≡_}
+use mathlib.Core.Bool.{Bool, true, false, cond, _&&_}
+use mathlib.Core.List.{List, [], _∷_, _++_}
+use mathlib.Core.Option.{Option, none, some}
+use lib.Dec.{eqb}
+use Rattle.definitions.specs.TokenKind as K
+use Rattle.definitions.specs.Token.{Token, seen, trivia, one-of}
+
+-- ---------------------------------------------------------------- what the table sees of the tokens
+
+-- a token's kind; or that it is an LParen directly after an Ident, which opens an argument list
+pub data Symbol : Type 0 where
+  kind : ℕ → Symbol
+  arguments : Symbol
+
+-- named: an Ident stands directly before the token
+unfoldable pub symbol : Bool → Token → Symbol
+unfolding seen
+symbol named t = cond (named && eqb (seen t) K.LParen) arguments (kind (seen t))
+
+-- the tokens, trivia passed over; named: an Ident stands directly before the first
+unfoldable pub symbols : Bool → List Token → List Symbol
+unfolding seen trivia symbol
+symbols named [] = []
+symbols named (t ∷ ts) =
+    let passed = symbols false ts in
+    let more : List Symbol = symbol named t ∷ symbols (eqb (seen t) K.Ident) ts in
+    cond (trivia t) passed more
+
+-- how a symbol changes the number of open brackets
+pub data Turn : Type 0 where
+  opens closes keeps : Turn
+
+abbrev pub turn : Symbol → Turn
+turn (kind k) = cond (eqb k K.LParen) opens (cond (eqb k K.RParen) closes keeps)
+turn arguments = opens
+
+abbrev pub turned : Turn → (ℕ → Option ℕ) → ℕ → Option ℕ
+turned opens f n = f (suc n)
+turned closes f zero = none
+turned closes f (suc n) = f n
+turned keeps f n = f n
+
+-- the brackets open after the symbols, n being open before them; none if one closes that was not opened
+abbrev pub open-after : List Symbol → ℕ → Option ℕ
+open-after [] n = some n
+open-after (x ∷ xs) n = turned (turn x) (open-after xs) n
+
+-- An RParen balances an LParen if what stands between them is balanced.
+abbrev pub Balanced : List Symbol → Type 0
+Balanced xs = open-after xs 0 ≡ some 0
+
+-- ---------------------------------------------------------------- the table
+
+-- a row's number, and its operators; a smaller number binds tighter
+pub record Row : Type 0 where
+  pub number : ℕ
+  pub operators : List ℕ
+
+abbrev pub row : ℕ → List ℕ → Row
+row n ks = record { number = n; operators = ks }
+
+-- the table's row 1 is an operand and row 2 a prefix operator, row 13 the ternary (both from right to left)
+abbrev pub prefix-operators : List ℕ
+prefix-operators = K.Plus ∷ K.Minus ∷ K.BitwiseNot ∷ K.LogicalNot ∷ []
+
+-- the binary operators, each row from left to right
+abbrev pub table : List Row
+table =
+    row 3 (K.Asterisk ∷ K.Slash ∷ K.Modulo ∷ [])
+    ∷ row 4 (K.Plus ∷ K.Minus ∷ [])
+    ∷ row 5 (K.BitwiseShl ∷ K.BitwiseShr ∷ [])
+    ∷ row 6 (K.LAngle ∷ K.RelationalLtEq ∷ K.RAngle ∷ K.RelationalGtEq ∷ [])
+    ∷ row 7 (K.RelationalEq ∷ K.RelationalNeq ∷ [])
+    ∷ row 8 (K.Ampersand ∷ [])
+    ∷ row 9 (K.BitwiseXor ∷ [])
+    ∷ row 10 (K.BitwiseOr ∷ [])
+    ∷ row 11 (K.LogicalAnd ∷ [])
+    ∷ row 12 (K.LogicalOr ∷ [])
+    ∷ []
+
+-- the number of the row that has an operator, 0 if none has it
+unfoldable pub number-in : List Row → ℕ → ℕ
+unfolding one-of
+number-in [] k = 0
+number-in (r ∷ rs) k = let n = number-in rs k in cond (one-of (r .operators) k) (r .number) n
+
+abbrev pub number-of : ℕ → ℕ
+number-of k = number-in table k
+
+-- ---------------------------------------------------------------- expressions
+
+-- operands: a Number or a Char by its kind, an Ident, an Ident with its arguments, a bracketed expression; operators by their kinds
+pub data Expr : Type 0 where
+  literal : ℕ → Expr
+  name : Expr
+  invocation : List Symbol → Expr
+  bracketed : Expr → Expr
+  prefix : ℕ → Expr → Expr
+  binary : Expr → ℕ → Expr → Expr
+  ternary : Expr → Expr → Expr → Expr
+
+-- the symbols of an expression, in order
+abbrev pub written : Expr → List Symbol
+written (literal k) = kind k ∷ []
+written name = kind K.Ident ∷ []
+written (invocation xs) = kind K.Ident ∷ arguments ∷ (xs ++ (kind K.RParen ∷ []))
+written (bracketed e) = kind K.LParen ∷ (written e ++ (kind K.RParen ∷ []))
+written (prefix k e) = kind k ∷ written e
+written (binary l k r) = written l ++ (kind k ∷ written r)
+written (ternary c a b) = written c ++ (kind K.QuestionMark ∷ (written a ++ (kind K.Colon ∷ written b)))
+
+-- the number of the row that an expression's outermost operator has
+abbrev pub precedence : Expr → ℕ
+precedence (literal k) = 1
+precedence name = 1
+precedence (invocation xs) = 1
+precedence (bracketed e) = 1
+precedence (prefix k e) = 2
+precedence (binary l k r) = number-of k
+precedence (ternary c a b) = 13
+
+-- What the table allows. A prefix operator's operand binds as tight as one; a binary operator's left operand at least as tight as the operator
+-- and its right operand tighter (from left to right); a ternary's condition tighter than a ternary (from right to left), and what stands
+-- between `?` and `:`, or after `:`, is any expression.
+abbrev pub Allowed : Expr → Type 0
+Allowed (literal k) = one-of (K.Number ∷ K.Char ∷ []) k ≡ true
+Allowed name = Unit {0}
+Allowed (invocation xs) = Balanced xs
+Allowed (bracketed e) = Allowed e
+Allowed (prefix k e) = (one-of prefix-operators k ≡ true) × Allowed e × (precedence e ≤ 2)
+Allowed (binary l k r) = (1 ≤ number-of k) × Allowed l × Allowed r × (precedence l ≤ number-of k) × (precedence r < number-of k)
+Allowed (ternary c a b) = Allowed c × Allowed a × Allowed b × (precedence c < 13)
+
+-- C's table gives the symbols the tree
+pub record Gives (xs : List Symbol) (e : Expr) : Type 0 where
+  pub allowed : Allowed e
+  pub symbols-are : written e ≡ xs

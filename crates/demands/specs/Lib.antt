@@ -1,0 +1,2 @@
+-- What a reviewer reads first of the theorems.
+pub mod Demands

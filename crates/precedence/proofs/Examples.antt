@@ -1,0 +1,88 @@
+-- The definitions of the claim, computed on small calls: where a cell starts, which marks the reports have, and the rows of its tree.
+use Prim.Native.Nat.{ℕ, zero, suc, _*_}
+use mathlib.Core.Path.{_≡_, refl}
+use mathlib.Core.List.{List, [], _∷_, _++_}
+use lib.ListN.{length, take, drop, replicate}
+use Rattle.definitions.specs.TokenKind as K
+use Rattle.definitions.specs.Token.{tokens}
+use Rattle.definitions.specs.Skeleton.{_⧺_}
+use Rattle.definitions.specs.Place.{place, rows}
+use Rattle.definitions.specs.C.{kind, Expr, literal, invocation, prefix, binary, ternary}
+use Rattle.definitions.specs.Call.{Buffers, Result, call}
+use Rattle.precedence.specs.Nodes.{cell}
+use Rattle.precedence.specs.Precedence.{tokens-before, mark-in}
+
+-- the tree of a cell, if it has one
+data Tree : Type 0 where
+  holds : Expr → Tree
+  nothing : Tree
+
+-- entry, input bytes, token numbers, and the number of a DtExpr's row; its tree, the tokens before it, and the marks of all reports
+record Example : Type 0 where
+  entry : ℕ
+  input : List ℕ
+  numbers : List ℕ
+  row : ℕ
+  tree : Tree
+  before : ℕ
+  marks : List ℕ
+
+example : ℕ → List ℕ → List ℕ → ℕ → Tree → ℕ → List ℕ → Example
+example n i k p t b m = record { entry = n; input = i; numbers = k; row = p; tree = t; before = b; marks = m }
+
+one : Expr
+one = literal K.Number
+
+examples : List Example
+unfolding example one
+examples =
+    -- entry 4, `(1?1:1?1:1)`: the ternary groups from right to left, and is one InfixExpr of five parts
+    example 4 (40 ∷ 49 ∷ 63 ∷ 49 ∷ 58 ∷ 49 ∷ 63 ∷ 49 ∷ 58 ∷ 49 ∷ 41 ∷ []) (41 ∷ 1 ∷ 35 ∷ 1 ∷ 60 ∷ 1 ∷ 35 ∷ 1 ∷ 31 ∷ 1 ∷ 35 ∷ 1 ∷ 60 ∷ 1 ∷ 35 ∷ 1 ∷ 31 ∷ 1 ∷ 35 ∷ 1 ∷ 42 ∷ 1 ∷ []) 1 (holds (ternary one one (ternary one one one))) 0 []
+    -- entry 4, `( 1 - 1*1 -1)`: minus groups from left to right; trivia stand before the nodes that follow them
+    ∷ example 4 (40 ∷ 32 ∷ 49 ∷ 32 ∷ 45 ∷ 32 ∷ 49 ∷ 42 ∷ 49 ∷ 32 ∷ 45 ∷ 49 ∷ 41 ∷ []) (41 ∷ 1 ∷ 0 ∷ 1 ∷ 35 ∷ 1 ∷ 0 ∷ 1 ∷ 44 ∷ 1 ∷ 0 ∷ 1 ∷ 35 ∷ 1 ∷ 45 ∷ 1 ∷ 35 ∷ 1 ∷ 0 ∷ 1 ∷ 44 ∷ 1 ∷ 35 ∷ 1 ∷ 42 ∷ 1 ∷ []) 1 (holds (binary (binary one K.Minus (binary one K.Asterisk one)) K.Minus one)) 0 []
+    -- entry 3, `<(-1)>`
+    ∷ example 3 (60 ∷ 40 ∷ 45 ∷ 49 ∷ 41 ∷ 62 ∷ []) (39 ∷ 1 ∷ 41 ∷ 1 ∷ 44 ∷ 1 ∷ 35 ∷ 1 ∷ 42 ∷ 1 ∷ 40 ∷ 1 ∷ []) 3 (holds (prefix K.Minus one)) 1 []
+    -- entry 1, `a=<(f(1,))>;`: an argument list, the second argument empty
+    ∷ example 1 (97 ∷ 61 ∷ 60 ∷ 40 ∷ 102 ∷ 40 ∷ 49 ∷ 44 ∷ 41 ∷ 41 ∷ 62 ∷ 59 ∷ []) (27 ∷ 1 ∷ 28 ∷ 1 ∷ 39 ∷ 1 ∷ 41 ∷ 1 ∷ 27 ∷ 1 ∷ 41 ∷ 1 ∷ 35 ∷ 1 ∷ 2 ∷ 1 ∷ 42 ∷ 1 ∷ 42 ∷ 1 ∷ 40 ∷ 1 ∷ 29 ∷ 1 ∷ []) 7 (holds (invocation (kind K.Number ∷ kind K.Comma ∷ []))) 3 []
+    -- entry 1, `a=<(f (1))>;`: a blank before the bracket, so no argument list and no tree; a report between 3 and 9
+    ∷ example 1 (97 ∷ 61 ∷ 60 ∷ 40 ∷ 102 ∷ 32 ∷ 40 ∷ 49 ∷ 41 ∷ 41 ∷ 62 ∷ 59 ∷ []) (27 ∷ 1 ∷ 28 ∷ 1 ∷ 39 ∷ 1 ∷ 41 ∷ 1 ∷ 27 ∷ 1 ∷ 0 ∷ 1 ∷ 41 ∷ 1 ∷ 35 ∷ 1 ∷ 42 ∷ 1 ∷ 42 ∷ 1 ∷ 40 ∷ 1 ∷ 29 ∷ 1 ∷ []) 7 nothing 3 (5 ∷ 9 ∷ [])
+    -- entry 4, `#if (1+1) #endif` without the blanks: a cell in a conditional
+    ∷ example 4 (35 ∷ 105 ∷ 102 ∷ 40 ∷ 49 ∷ 43 ∷ 49 ∷ 41 ∷ 35 ∷ 101 ∷ 110 ∷ 100 ∷ 105 ∷ 102 ∷ []) (4 ∷ 3 ∷ 41 ∷ 1 ∷ 35 ∷ 1 ∷ 43 ∷ 1 ∷ 35 ∷ 1 ∷ 42 ∷ 1 ∷ 11 ∷ 6 ∷ []) 4 (holds (binary one K.Plus one)) 1 []
+    -- entry 4, `(1(1)`: the second cell is sound, and the report for the first has its mark at the second's LParen, not above
+    ∷ example 4 (40 ∷ 49 ∷ 40 ∷ 49 ∷ 41 ∷ []) (41 ∷ 1 ∷ 35 ∷ 1 ∷ 41 ∷ 1 ∷ 35 ∷ 1 ∷ 42 ∷ 1 ∷ []) 5 (holds one) 2 (2 ∷ [])
+    -- entry 4, `(1+)`: the report's mark is the RParen's index
+    ∷ example 4 (40 ∷ 49 ∷ 43 ∷ 41 ∷ []) (41 ∷ 1 ∷ 35 ∷ 1 ∷ 43 ∷ 1 ∷ 42 ∷ 1 ∷ []) 1 nothing 0 (3 ∷ [])
+    ∷ []
+
+-- the rows of a cell that holds a tree
+tree-rows : Tree → List ℕ → ℕ → List ℕ
+unfolding rows place _⧺_
+tree-rows (holds e) tk i = rows (place (cell e) (drop i (tokens tk)))
+tree-rows nothing tk i = []
+
+mark-list : ℕ → List ℕ → List ℕ
+mark-list zero l = []
+mark-list (suc q) l = mark-list q l ++ (mark-in q l ∷ [])
+
+-- the tokens before the row, the marks, and as many numbers from the row on
+found : ℕ → ℕ → Result → List ℕ
+unfolding mark-list tokens-before
+found p size r = tokens-before p (r .buffers .trees) ∷ (mark-list (r .answer .reports) (r .buffers .reports) ++ take size (drop (4 * p) (r .buffers .trees)))
+
+-- buffers with room enough
+room : Buffers
+room = record { events = replicate 400 7; trees = replicate 200 7; errors = replicate 9 7; reports = replicate 90 7; pool = replicate 200 7 }
+
+called : List Example → List (List ℕ)
+unfolding found tree-rows call room
+called [] = []
+called (x ∷ l) = found (x .row) (length (tree-rows (x .tree) (x .numbers) (x .before))) (call (x .entry) (x .input) (x .numbers) room) ∷ called l
+
+wanted : List Example → List (List ℕ)
+unfolding tree-rows
+wanted [] = []
+wanted (x ∷ l) = (x .before ∷ (x .marks ++ tree-rows (x .tree) (x .numbers) (x .before))) ∷ wanted l
+
+examples-hold : called examples ≡ wanted examples
+unfolding called wanted examples
+examples-hold = refl

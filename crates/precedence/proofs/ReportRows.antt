@@ -1,0 +1,76 @@
+-- Reports and their rows: a report of a run has a row whose mark is its own, and each row is a report's.
+use Prim.Native.Nat.{ℕ, zero, suc, _+_, _*_, _-_, _<_}
+use native.Mathlib.Omega.{arith}
+use mathlib.Core.Path.{_≡_, refl, _∙_, ap}
+use mathlib.Core.List.{List, [], _∷_, _++_}
+use lib.ListN.{length, getD, drop}
+use Rattle.definitions.specs.Skeleton.{Label, no-label, label, Report}
+use Rattle.definitions.specs.Report.{Push, event, reported, exceeded, reports, label-numbers, report-rows}
+use Rattle.precedence.specs.Precedence.{mark-in}
+use Rattle.precedence.proofs.Pushed.{Reported, here, there}
+
+-- r is report q of the list
+pub data Nth (r : Report) : ℕ → List Report → Type 0 where
+  first : {l : List Report} → Nth r 0 (r ∷ l)
+  later : {q : ℕ} {x : Report} {l : List Report} → Nth r q l → Nth r (suc q) (x ∷ l)
+
+pub nth-less : {r : Report} (q : ℕ) (l : List Report) → Nth r q l → q < length l
+nth-less q (x ∷ l) first = omega arith
+nth-less (suc q) (x ∷ l) (later h) = let g = nth-less q l h in omega arith
+
+pub nth-there : (q : ℕ) (l : List Report) → q < length l → (r : Report) × Nth r q l
+nth-there q [] h = absurd (omega arith)
+nth-there zero (x ∷ l) h = (x, first)
+nth-there (suc q) (x ∷ l) h = let g = nth-there q l (omega arith) in (g .0, later (g .1))
+
+-- ---------------------------------------------------------------- pushed and listed
+
+pub reported-nth : {r : Report} (l : List Push) → Reported r l → (q : ℕ) × Nth r q (reports l)
+unfolding reports
+reported-nth (reported r ∷ l) here = (0, first)
+reported-nth (event m ∷ l) (there h) = reported-nth l h
+reported-nth (reported x ∷ l) (there h) = let g = reported-nth l h in (suc (g .0), later (g .1))
+reported-nth (exceeded m ∷ l) (there h) = reported-nth l h
+
+pub nth-reported : {r : Report} (q : ℕ) (l : List Push) → Nth r q (reports l) → Reported r l
+unfolding reports
+nth-reported q [] h = elim h [ ]
+nth-reported q (event m ∷ l) h = there (nth-reported q l h)
+nth-reported zero (reported x ∷ l) first = here
+nth-reported (suc q) (reported x ∷ l) (later h) = there (nth-reported q l h)
+nth-reported q (exceeded m ∷ l) h = there (nth-reported q l h)
+
+-- ---------------------------------------------------------------- rows
+
+nine : (q : ℕ) → 9 * suc q ≡ suc (suc (suc (suc (suc (suc (suc (suc (suc (9 * q)))))))))
+nine q = omega arith
+
+label-drop : (b : ℕ) (x : Label) (k : ℕ) (l z : List ℕ) → drop (suc (suc k)) (label-numbers b x l ++ z) ≡ drop k (l ++ z)
+label-drop b no-label k l z = refl
+label-drop b (label s) k l z = refl
+
+row-drop : (n b f q : ℕ) (r : Report) (l : List Report) (z : List ℕ)
+    → drop (9 * suc q) (report-rows n b f (r ∷ l) ++ z) ≡ drop (9 * q) (report-rows n b (f + length (r .pool)) l ++ z)
+unfolding report-rows
+row-drop n b f q r l z =
+    ap (λ (k : ℕ). drop k (report-rows n b f (r ∷ l) ++ z)) (nine q)
+    ∙ label-drop b (r .labelled) (9 * q) (report-rows n b (f + length (r .pool)) l) z
+
+-- in a file of n tokens
+pub nth-mark : {r : Report} (n b f q : ℕ) (l : List Report) (z : List ℕ) → Nth r q l → mark-in q (report-rows n b f l ++ z) ≡ n - r .mark
+unfolding report-rows
+nth-mark n b f zero (r ∷ l) z first = refl
+nth-mark n b f (suc q) (x ∷ l) z (later h) =
+    ap (λ (y : List ℕ). getD y 3 0) (row-drop n b f q x l z) ∙ nth-mark n b (f + length (x .pool)) q l z h
+
+label-length : (b : ℕ) (x : Label) (l : List ℕ) → length (label-numbers b x l) ≡ suc (suc (length l))
+label-length b no-label l = refl
+label-length b (label s) l = refl
+
+pub reports-length : (n b f : ℕ) (l : List Report) → length (report-rows n b f l) ≡ 9 * length l
+unfolding report-rows
+reports-length n b f [] = refl
+reports-length n b f (r ∷ l) =
+    let h = reports-length n b (f + length (r .pool)) l in
+    let g = label-length b (r .labelled) (report-rows n b (f + length (r .pool)) l) in
+    omega arith

@@ -1,0 +1,203 @@
+-- C's table: the statements of specs/Precedence.antt, proved.
+use Prim.Native.Nat.{ℕ, suc, _+_, _*_, _-_, _≤_, _<_}
+use native.Mathlib.Nat.{div-eq-of-eq-mul-right}
+use native.Mathlib.Omega.{arith}
+use mathlib.Core.Path.{_≡_, refl, sym, _∙_, ap, subst}
+use mathlib.Core.Logic.{_⊎_, inl, inr}
+use mathlib.Core.Bool.{Bool, true, false, cond}
+use mathlib.Core.List.{List, [], _∷_, _++_, append-nil}
+use lib.Dec.{leb}
+use lib.ListN.{length, take, drop, replicate, length-append}
+use lib.Seq.{drop-drop, drop-append-seam}
+use Rattle.definitions.specs.TokenKind as K
+use Rattle.definitions.specs.NodeKind as N
+use Rattle.definitions.specs.Token.{Token, tokens, is-error, seen, bytes}
+use Rattle.definitions.specs.Grammar.{Entry, root-kind}
+use Rattle.definitions.specs.Skeleton.{Report, _⧺_}
+use Rattle.definitions.specs.Place.{Tree, nil, branch, _⊕_, lead, after, place, root, rows}
+use Rattle.definitions.specs.Report.{Push, pushes, reports}
+use Rattle.definitions.specs.C.{symbols, Expr}
+use Rattle.definitions.specs.Call.{Buffers, Result, sheets, kept, run-entry}
+use Rattle.laws.proofs.Scan.{fits-clear}
+use Rattle.laws.proofs.Decode.{row-count, rows-length}
+use Rattle.laws.proofs.Accepted.{accepted-call}
+use Rattle.precedence.specs.Nodes.{one, parts, cell}
+use Rattle.precedence.specs.Precedence.{tokens-before, mark-in, DtExpr-at, Starts-cell, Brackets, opening-index, Between, Holds, Judged, C-table, One-tree}
+use Rattle.precedence.proofs.Bare.{unique}
+use Rattle.laws.proofs.Clear.{Clear}
+use Rattle.precedence.proofs.Pushed.{Reported}
+use Rattle.precedence.proofs.Symbols.{bracket-solid}
+use Rattle.precedence.proofs.Settle.{Clean, Faulty, Settled}
+use Rattle.precedence.proofs.Placed.{entry-settled}
+use Rattle.precedence.proofs.ReportRows.{nth-less, nth-there, reported-nth, nth-reported, nth-mark, reports-length}
+use Rattle.precedence.proofs.TreeRows.{Found, find}
+
+-- ---------------------------------------------------------------- tokens by kind
+
+seen-by : (k j : ℕ) (b : Bool) → leb 64 k ≡ b → cond b K.Unrecognized k ≡ j → (j ≡ K.Unrecognized → ⊥) → k ≡ j
+seen-by k j true e h d = absurd (d (sym h))
+seen-by k j false e h d = h
+
+kind-of : (t : Token) (j : ℕ) → seen t ≡ j → (j ≡ K.Unrecognized → ⊥) → t .kind ≡ j
+unfolding seen is-error
+kind-of t j h d = seen-by (t .kind) j (leb 64 (t .kind)) refl h d
+
+seen-of : (t : Token) (j : ℕ) → t .kind ≡ j → leb 64 j ≡ false → seen t ≡ j
+unfolding seen is-error
+seen-of t j e f = rw e (rw f refl)
+
+-- ---------------------------------------------------------------- a cell's rows
+
+-- the rows of a DtExpr that holds a tree
+cell-rows : (e : Expr) (t : Token) (ts : List Token) → seen t ≡ K.LParen
+    → place (cell e) (t ∷ ts) ≡ branch N.DtExpr (place (one ⧺ (parts e ⧺ one)) (t ∷ ts)) nil
+unfolding place after lead _⊕_
+cell-rows e t ts k =
+    rw (bracket-solid t k)
+
+-- ---------------------------------------------------------------- what an accepted call leaves
+
+module _ (e : Entry) (ts : List Token) (l : Buffers) (clear : Clear (pushes (run-entry e ts))) where
+  abbrev all : List Push
+  all = pushes (run-entry e ts)
+
+  abbrev tree : Tree
+  tree = root (root-kind e) (run-entry e ts) ts
+
+  abbrev r : Result
+  r = kept (sheets e ts (run-entry e ts)) l
+
+  trees-count : r .answer .trees ≡ row-count tree
+  unfolding sheets
+  trees-count = div-eq-of-eq-mul-right (omega arith) (rows-length tree)
+
+  reports-count : r .answer .reports ≡ length (reports all)
+  unfolding sheets
+  reports-count = div-eq-of-eq-mul-right (omega arith) (reports-length (length ts) (bytes ts) 0 (reports all))
+
+  -- report row q is a report's
+  row-report : (q : ℕ) → q < r .answer .reports → (rep : Report) × Reported rep all × (mark-in q (r .buffers .reports) ≡ length ts - rep .mark)
+  unfolding sheets
+  row-report q h =
+      let g = nth-there q (reports all) (omega (arith, reports-count)) in
+      (g .0, nth-reported q all (g .1), nth-mark (length ts) (bytes ts) 0 q (reports all) _ (g .1))
+
+  -- and each report has a row
+  report-row : (rep : Report) → Reported rep all → (q : ℕ) × (q < r .answer .reports) × (mark-in q (r .buffers .reports) ≡ length ts - rep .mark)
+  unfolding sheets
+  report-row rep h =
+      let g = reported-nth all h in
+      (g .0, omega (arith, reports-count, nth-less (g .0) (reports all) (g .1)), nth-mark (length ts) (bytes ts) 0 (g .0) (reports all) _ (g .1))
+
+  found : (p : ℕ) → DtExpr-at p r → Found (Settled all) ts p (r .buffers .trees)
+  unfolding sheets
+  found p d =
+      find (Settled all) tree (replicate (length (l .trees) - length (rows tree)) 0) ts p (entry-settled e ts clear) (omega (arith, trees-count, d .written)) (d .width, d .count, d .row)
+
+  -- ---------------------------------------------------------------- it starts a cell
+
+  starts : (p : ℕ) → DtExpr-at p r → Starts-cell ts p r
+  unfolding rows bytes
+  starts p d =
+      let f = found p d in
+      let s = f .fact in
+      let l = r .buffers .trees in
+      let next : drop (4 * suc p) l ≡ drop 4 (drop (4 * p) l) =
+      ap (λ (n : ℕ). drop n l) (let z : 4 * suc p ≡ 4 * p + 4 = omega arith in z) ∙ sym (drop-drop 4 (4 * p) l) in
+      let there : drop 4 (drop (4 * p) l) ≡ rows (f .children) ++ f .more = ap (drop 4) (f .rows-are) ∙ rw (append-nil (rows (f .children))) in
+      record {
+        width = bytes (s .bracket ∷ []);
+        row = ap (take 4) (next ∙ there ∙ ap (λ (c : Tree). rows c ++ f .more) (s .begins));
+        bracket = s .bracket;
+        after = s .behind;
+        token-is = s .starts;
+        kind-is = kind-of (s .bracket) K.LParen (s .is-bracket) (λ z. omega arith);
+      }
+
+  -- ---------------------------------------------------------------- it is judged
+
+  module _ (b : Brackets ts) where
+    abbrev from-opening : List Token
+    from-opening = b .opening ∷ (b .inner ++ (b .closing ∷ b .after))
+
+    -- marks counted from the end, and from the start
+    total : length ts ≡ length (b .before) + suc (length (b .inner) + suc (length (b .after)))
+    total = ap length (b .tokens-are) ∙ simp length-append
+
+    behind-length : (behind : List Token) → behind ≡ b .inner ++ (b .closing ∷ b .after) → length behind ≡ length (b .inner) + suc (length (b .after))
+    behind-length behind e = ap length e ∙ simp length-append
+
+    -- no report row between the brackets
+    none-between : (behind : List Token) → behind ≡ b .inner ++ (b .closing ∷ b .after)
+        → ((rep : Report) → Reported rep all → length (b .closing ∷ b .after) ≤ rep .mark → rep .mark ≤ length behind → ⊥) → (q : ℕ) → Between ts b r q → ⊥
+    none-between behind e h q x =
+        let g = row-report q (x .written) in
+        h (g .0) (g .1) (omega (arith, total, g .2, x .above, x .at-most)) (omega (arith, total, behind-length behind e, g .2, x .above, x .at-most))
+
+    some-between : (behind : List Token) → behind ≡ b .inner ++ (b .closing ∷ b .after) → (rep : Report) → Reported rep all
+        → length (b .closing ∷ b .after) ≤ rep .mark → rep .mark ≤ length behind → (q : ℕ) × Between ts b r q
+    some-between behind e rep h low high =
+        let g = report-row rep h in (
+          g .0,
+          record {
+            written = g .1;
+            above = omega (arith, total, behind-length behind e, g .2);
+            at-most = omega (arith, total, behind-length behind e, g .2);
+          },
+        )
+
+    module _ (p : ℕ) (d : DtExpr-at p r) (index : opening-index ts b ≡ tokens-before p (r .buffers .trees)) where
+      -- the tokens from the DtExpr on are those from the opening bracket on
+      tokens-are : drop (tokens-before p (r .buffers .trees)) ts ≡ from-opening
+      tokens-are = ap (λ (n : ℕ). drop n ts) (sym index) ∙ ap (drop (length (b .before))) (b .tokens-are) ∙ drop-append-seam (b .before) from-opening
+
+      behind-is : found p d .fact .behind ≡ b .inner ++ (b .closing ∷ b .after)
+      behind-is = let x = found p d .fact .starts in let y = tokens-are in cc
+
+      holds : (f : Expr) → found p d .children ≡ place (one ⧺ (parts f ⧺ one)) (drop (tokens-before p (r .buffers .trees)) ts) → Holds ts b r p f
+      holds f h =
+          let c = ap (λ (us : List Token). place (one ⧺ (parts f ⧺ one)) us) tokens-are in
+          let w = cell-rows f (b .opening) (b .inner ++ (b .closing ∷ b .after)) (seen-of (b .opening) K.LParen (b .opens) refl) in
+          record {
+            more = found p d .more;
+            rows-are = found p d .rows-are ∙ ap (λ (x : Tree). rows x ++ found p d .more) (ap (λ (y : Tree). branch N.DtExpr y nil) (h ∙ c) ∙ sym w);
+          }
+
+      by-verdict : Clean all (b .inner) (b .closing) (b .after) (found p d .fact .behind) (drop (tokens-before p (r .buffers .trees)) ts) (found p d .children)
+          ⊎ Faulty all (b .inner) (b .closing) (b .after) (found p d .fact .behind) → Judged ts b r p
+      by-verdict (inl c) =
+          record {
+            tree = λ f g. (
+              none-between (found p d .fact .behind) behind-is (c .silent),
+              subst (Holds ts b r p) (unique (symbols false (b .inner)) (c .tree) f (c .gives) g) (holds (c .tree) (c .holds)),
+            );
+            no-tree = λ h. absurd (h (c .tree) (c .gives));
+          }
+      by-verdict (inr c) =
+          record {
+            tree = λ f g. absurd (c .no-tree f g);
+            no-tree = λ h. some-between (found p d .fact .behind) behind-is (c .rep) (c .among) (c .high) (c .low);
+          }
+
+      judges : Judged ts b r p
+      judges =
+          by-verdict
+          (found p d .fact .judged (b .inner) (b .closing) (b .after) behind-is (seen-of (b .closing) K.RParen (b .closes) refl) (b .balanced))
+
+-- ---------------------------------------------------------------- the theorems
+
+-- C'S TABLE
+pub c-table : C-table
+c-table n bs tk l h =
+    let a = accepted-call n bs tk l h in
+    let o = run-entry (a .entry) (tokens tk) in
+    let c : Clear (pushes o) = fits-clear (pushes o) _ (a .left) (a .fitted) in
+    subst
+    (λ (r : Result). (p : ℕ) → DtExpr-at p r → Starts-cell (tokens tk) p r
+    × ((b : Brackets (tokens tk)) → opening-index (tokens tk) b ≡ tokens-before p (r .buffers .trees) → Judged (tokens tk) b r p))
+    (sym (a .returns))
+    (λ p d. (starts (a .entry) (tokens tk) l c p d, λ b i. judges (a .entry) (tokens tk) l c b p d i))
+
+-- C'S TABLE GIVES ONE TREE
+pub one-tree : One-tree
+one-tree = unique

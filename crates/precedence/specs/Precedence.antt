@@ -1,0 +1,104 @@
+-- C'S TABLE. For every accepted call and every DtExpr among the rows that it leaves in the buffers, whether the cell is a property's value,
+-- stands in a conditional or comes from entries 3 and 4: the tokens between its LParen and the RParen that balances it are judged as C's
+-- precedence table judges them. It shuts out a parser that groups an operator the wrong way round, that takes a malformed expression
+-- without a report, or that reports a sound one.
+use Prim.Native.Nat.{ℕ, zero, suc, _+_, _*_, _≤_, _<_}
+use mathlib.Core.Path.{_≡_}
+use mathlib.Core.Bool.{false, cond}
+use mathlib.Core.List.{List, [], _∷_, _++_}
+use lib.Dec.{eqb}
+use lib.ListN.{length, getD, take, drop}
+use Rattle.definitions.specs.TokenKind as K
+use Rattle.definitions.specs.NodeKind as N
+use Rattle.definitions.specs.Token.{Token, tokens}
+use Rattle.definitions.specs.C.{Symbol, symbols, Balanced, Expr, Gives}
+use Rattle.definitions.specs.Place.{place, rows}
+use Rattle.definitions.specs.Call.{TREE-ROW, REPORT-ROW, Buffers, Result, call}
+use Rattle.precedence.specs.Nodes.{cell}
+
+-- ---------------------------------------------------------------- rows
+
+-- the numbers of tree row p: class (0 node, 1 leaf), kind, width, count
+abbrev pub tree-row : ℕ → List ℕ → List ℕ
+tree-row p l = take TREE-ROW (drop (TREE-ROW * p) l)
+
+-- how many raw tokens stand before tree row p: the counts of the leaves before it
+unfoldable pub tokens-before : ℕ → List ℕ → ℕ
+tokens-before zero l = 0
+tokens-before (suc p) [] = 0
+tokens-before (suc p) (c ∷ []) = 0
+tokens-before (suc p) (c ∷ k ∷ []) = 0
+tokens-before (suc p) (c ∷ k ∷ w ∷ []) = 0
+tokens-before (suc p) (c ∷ k ∷ w ∷ n ∷ l) = cond (eqb c 1) n 0 + tokens-before p l
+
+-- the mark in report row q, its fourth number
+abbrev pub mark-in : ℕ → List ℕ → ℕ
+mark-in q l = getD (drop (REPORT-ROW * q) l) 3 0
+
+-- ---------------------------------------------------------------- cells
+
+-- tree row p is a DtExpr
+pub record DtExpr-at (p : ℕ) (r : Result) : Type 0 where
+  pub written : p < r .answer .trees
+  pub width : ℕ
+  pub count : ℕ
+  pub row : tree-row p (r .buffers .trees) ≡ 0 ∷ N.DtExpr ∷ width ∷ count ∷ []
+
+-- "Starts a cell": the DtExpr's first child is the leaf of an LParen, and the index of that LParen is the number of tokens before the DtExpr.
+pub record Starts-cell (ts : List Token) (p : ℕ) (r : Result) : Type 0 where
+  pub width : ℕ
+  pub row : tree-row (suc p) (r .buffers .trees) ≡ 1 ∷ K.LParen ∷ width ∷ 1 ∷ []
+  pub bracket : Token
+  pub after : List Token
+  pub token-is : drop (tokens-before p (r .buffers .trees)) ts ≡ bracket ∷ after
+  pub kind-is : bracket .kind ≡ K.LParen
+
+-- "Balances": an LParen, the RParen that balances it, and the tokens before, between and after them
+pub record Brackets (ts : List Token) : Type 0 where
+  pub before : List Token
+  pub opening : Token
+  pub inner : List Token
+  pub closing : Token
+  pub after : List Token
+  pub tokens-are : ts ≡ before ++ (opening ∷ (inner ++ (closing ∷ after)))
+  pub opens : opening .kind ≡ K.LParen
+  pub closes : closing .kind ≡ K.RParen
+  pub balanced : Balanced (symbols false inner)
+
+-- the token indexes of the two
+abbrev pub opening-index : (ts : List Token) → Brackets ts → ℕ
+opening-index ts b = length (b .before)
+
+abbrev pub closing-index : (ts : List Token) → Brackets ts → ℕ
+closing-index ts b = length (b .before) + 1 + length (b .inner)
+
+-- report row q has its mark above the LParen's index and at most the RParen's
+pub record Between (ts : List Token) (b : Brackets ts) (r : Result) (q : ℕ) : Type 0 where
+  pub written : q < r .answer .reports
+  pub above : opening-index ts b < mark-in q (r .buffers .reports)
+  pub at-most : mark-in q (r .buffers .reports) ≤ closing-index ts b
+
+-- the rows from p on are those of the DtExpr that holds the tree e, the trivia among the tokens being where the sink puts them
+pub record Holds (ts : List Token) (b : Brackets ts) (r : Result) (p : ℕ) (e : Expr) : Type 0 where
+  pub more : List ℕ
+  pub rows-are : drop (TREE-ROW * p) (r .buffers .trees) ≡ rows (place (cell e) (b .opening ∷ (b .inner ++ (b .closing ∷ b .after)))) ++ more
+
+-- the judgement of the tokens between the brackets
+pub record Judged (ts : List Token) (b : Brackets ts) (r : Result) (p : ℕ) : Type 0 where
+  -- if C's table gives them a tree, no report has such a mark, and the DtExpr holds that tree
+  pub tree : (e : Expr) → Gives (symbols false (b .inner)) e → ((q : ℕ) → Between ts b r q → ⊥) × Holds ts b r p e
+  -- otherwise some report has
+  pub no-tree : ((e : Expr) → Gives (symbols false (b .inner)) e → ⊥) → (q : ℕ) × Between ts b r q
+
+-- ---------------------------------------------------------------- the claims
+
+-- every DtExpr of an accepted call starts a cell, and is judged
+abbrev pub C-table : Type 0
+C-table =
+    (n : ℕ) (bs tk : List ℕ) (l : Buffers) → call n bs tk l .answer .number ≡ 0 → (p : ℕ) → DtExpr-at p (call n bs tk l)
+    → Starts-cell (tokens tk) p (call n bs tk l)
+    × ((b : Brackets (tokens tk)) → opening-index (tokens tk) b ≡ tokens-before p (call n bs tk l .buffers .trees) → Judged (tokens tk) b (call n bs tk l) p)
+
+-- the tree that C's table gives is unique
+abbrev pub One-tree : Type 0
+One-tree = (xs : List Symbol) (e f : Expr) → Gives xs e → Gives xs f → e ≡ f
