@@ -1,0 +1,201 @@
+-- What each step of the literal machine comes to, in plain variables: the cursor's moves, refusals, events, tokens and names taken.
+-- A need of the code cites one of these.
+use Prim.Native.Nat.{ℕ, _+_, _-_, _*_, _/_, _≤_, _<_}
+use mathlib.Core.Path.{_≡_, refl, sym, _∙_, ap}
+use mathlib.Core.Bool.{Bool, true, false, cond, _&&_}
+use mathlib.Core.List.{List, [], _∷_, _++_}
+use native.Mathlib.Omega.{arith}
+use lib.Dec.{ltb, leb, eqb}
+use lib.ListN.{length, getD, set, take, drop}
+use lib.Seq.{sets, set-out}
+use Rattle.definitions.specs.Token.{Token, tokens, past, ended, one-of, first-in, seen}
+use Rattle.definitions.specs.Skeleton.{Span}
+use Rattle.definitions.specs.Prog.{Ans, yes, silent-at, at-end, add-expected, bump, bump-name}
+use Rattle.definitions.specs.Run.{truth}
+use Rattle.machine.specs.Machine.{Machine, Marker, low, with-cursor, with-taken, with-pending, with-events, took, range-at, fits, put-start, put-link}
+use Rattle.machine.specs.Machine as M
+use Rattle.machine.specs.Walk.{Walked, said, perform}
+use Rattle.parser.specs.View.{view, view-of, left, take-first}
+use Rattle.parser.specs.declared.State.{State}
+use Rattle.parser.specs.declared.Parser.{Parser}
+use Rattle.parser.proofs.Kit.{row, rows-cons, rows-end, end-row, pending-few, pending-full, pending-more, sets2}
+
+-- ---------------------------------------------------------------- tests
+
+pub on-true : {A : Type 0} (b c : Bool) (x y : A) → b ≡ c → b ≡ true → cond c x y ≡ x
+on-true b c x y e f = ap (λ (z : Bool). cond z x y) (sym e ∙ f)
+
+pub on-false : {A : Type 0} (b c : Bool) (x y : A) → b ≡ c → b ≡ false → cond c x y ≡ y
+on-false b c x y e f = ap (λ (z : Bool). cond z x y) (sym e ∙ f)
+
+-- ---------------------------------------------------------------- the whole parser
+
+-- with other numbers: what is known of the numbers is known of the parser
+pub with-view : (p : Parser) (codes : List ℕ) (s : State) (ev rep pool : List ℕ) (m : Machine) → p ≡ record { codes = codes; s = s } → view s codes ev rep pool ≡ m → view-of p ev rep pool ≡ m
+with-view p codes s ev rep pool m e f = ap (λ (x : Parser). view-of x ev rep pool) e ∙ f
+
+pub with-said : (p : Parser) (codes : List ℕ) (s : State) (ev rep pool : List ℕ) (a : Ans) (w : Walked) → p ≡ record { codes = codes; s = s } → said a (view s codes ev rep pool) ≡ w
+    → said a (view-of p ev rep pool) ≡ w
+with-said p codes s ev rep pool a w e f = ap (λ (x : Parser). said a (view-of x ev rep pool)) e ∙ f
+
+pub with-left : (p : Parser) (codes : List ℕ) (s : State) (tk : List ℕ) → p ≡ record { codes = codes; s = s } → left tk (p .s) ≡ left tk s
+with-left p codes s tk e = ap (λ (x : Parser). left tk (x .s)) e
+
+-- ---------------------------------------------------------------- the cursor
+
+pub peek-is : (ts : List Token) (m : Machine) → M.peek ts m ≡ M.skip (drop (m .cursor) ts) m
+unfolding M.peek
+peek-is ts m = refl
+
+pub silent-is : (ts : List Token) (b : Span) (ks : List ℕ) (m p : Machine) (y : Bool) → p ≡ M.peek ts m → y ≡ first-in ks (drop (p .cursor) ts) → said (truth y) p ≡ perform ts b (silent-at ks) m
+unfolding perform
+silent-is ts b ks m p y e f = ap (λ (z : Bool). said (truth z) p) f ∙ ap (λ (x : Machine). said (truth (first-in ks (drop (x .cursor) ts))) x) e
+
+pub at-end-is : (ts : List Token) (b : Span) (m p : Machine) (y : Bool) → p ≡ M.peek ts m → y ≡ ended (drop (p .cursor) ts) → said (truth y) p ≡ perform ts b at-end m
+unfolding perform
+at-end-is ts b m p y e f = ap (λ (z : Bool). said (truth z) p) f ∙ ap (λ (x : Machine). said (truth (ended (drop (x .cursor) ts))) x) e
+
+pub ended-in : (tk : List ℕ) (i : ℕ) → i < length tk / 2 → false ≡ ended (drop i (tokens tk))
+ended-in tk i h = sym (ap ended (rows-cons tk i h))
+
+pub ended-past : (tk : List ℕ) (i : ℕ) → length tk / 2 ≤ i → true ≡ ended (drop i (tokens tk))
+ended-past tk i h = sym (ap ended (rows-end tk i h))
+
+-- the row at the cursor taken; a: its first byte, e: its end
+pub took-row : (tk : List ℕ) (e : ℕ) (m : Machine) → m .cursor < length tk / 2
+    → ((x : Machine) → x .at ≡ m .at → e ≡ range-at (drop (m .cursor) (tokens tk)) x .to)
+    → with-taken (m .cursor + 1) e m ≡ take-first (drop (m .cursor) (tokens tk)) m
+unfolding take-first
+took-row tk e m h g =
+    ap (λ (x : ℕ). with-taken (m .cursor + 1) x m) (end-row tk (m .cursor) (m .at) e h g m refl) ∙ sym (ap (λ (l : List Token). take-first l m) (rows-cons tk (m .cursor) h))
+
+pub took-nothing : (tk : List ℕ) (m : Machine) → length tk / 2 ≤ m .cursor → m ≡ take-first (drop (m .cursor) (tokens tk)) m
+unfolding take-first
+took-nothing tk m h = sym (ap (λ (l : List Token). take-first l m) (rows-end tk (m .cursor) h))
+
+-- ---------------------------------------------------------------- refusals and expectations
+
+-- codes′: the codes with k stored at place n, if there is one
+module _ (ts : List Token) (b : Span) (codes codes′ : List ℕ) (n k : ℕ) (m : Machine) (long : length codes ≡ 256) (put : codes′ ≡ set codes n k) (pends : m .pending ≡ take n codes) where
+  pub expected-room : n < length codes → said yes (with-pending (take (n + 1) codes′) m) ≡ perform ts b (add-expected k) m
+  unfolding perform
+  expected-room h =
+      let few : ltb (length (m .pending)) 256 ≡ true = ap (λ (l : List ℕ). ltb (length l) 256) pends ∙ pending-few codes n long (omega (arith, long, h)) in
+      ap (λ (l : List ℕ). said yes (with-pending (take (n + 1) l) m)) put
+      ∙ ap (λ (l : List ℕ). said yes (with-pending l m)) (pending-more codes n k h ∙ ap (λ (l : List ℕ). l ++ (k ∷ [])) (sym pends))
+      ∙ sym (ap (λ (z : Bool). said yes (cond z (with-pending (m .pending ++ (k ∷ [])) m) (M.refuse 5 m))) few)
+
+  pub expected-full : (r : Machine) → length codes ≤ n → r ≡ M.refuse 5 (with-pending (take n codes′) m) → said yes r ≡ perform ts b (add-expected k) m
+  unfolding perform
+  expected-full r h q =
+      let full : ltb (length (m .pending)) 256 ≡ false = ap (λ (l : List ℕ). ltb (length l) 256) pends ∙ pending-full codes n long (omega (arith, long, h)) in
+      let same : take n codes′ ≡ m .pending = ap (take n) (put ∙ set-out codes n k h) ∙ sym pends in
+      ap (λ (x : Machine). said yes x) (q ∙ ap (λ (l : List ℕ). M.refuse 5 (with-pending l m)) same)
+      ∙ sym (ap (λ (z : Bool). said yes (cond z (with-pending (m .pending ++ (k ∷ [])) m) (M.refuse 5 m))) full)
+
+-- ---------------------------------------------------------------- events
+
+pub push-on : (tag value : ℕ) (m : Machine) → eqb (m .refusal) 0 ≡ true → M.push-row tag value m ≡ M.push tag value m
+unfolding M.push
+push-on tag value m e = sym (ap (λ (z : Bool). cond z (M.push-row tag value m) m) e)
+
+pub push-off : (tag value : ℕ) (m : Machine) → eqb (m .refusal) 0 ≡ false → m ≡ M.push tag value m
+unfolding M.push
+push-off tag value m e = sym (ap (λ (z : Bool). cond z (M.push-row tag value m) m) e)
+
+pub started : (l : List ℕ) (at tag kind : ℕ) (b : Bool) → b ≡ fits (length l) at 3 → b ≡ true → set (set l at tag) (at + 1) kind ≡ put-start (record { place = at; tag = tag }) kind l
+started l at tag kind b e f = sets2 l at tag kind ∙ sym (on-true b (fits (length l) at 3) (sets l at (tag ∷ kind ∷ [])) l e f)
+
+pub not-started : (l : List ℕ) (at tag kind : ℕ) (b : Bool) → b ≡ fits (length l) at 3 → b ≡ false → l ≡ put-start (record { place = at; tag = tag }) kind l
+not-started l at tag kind b e f = sym (on-false b (fits (length l) at 3) (sets l at (tag ∷ kind ∷ [])) l e f)
+
+pub linked : (l : List ℕ) (at to d : ℕ) (b : Bool) → b ≡ fits (length l) at 3 → b ≡ true → leb at to ≡ true → d ≡ low ((to - at) / 3) → set l (at + 2) d ≡ put-link at to l
+linked l at to d b e f g h =
+    ap (λ (x : ℕ). set l (at + 2) x) h
+    ∙ sym (ap (λ (z : Bool). cond (z && leb at to) (sets l (at + 2) (low ((to - at) / 3) ∷ [])) l) (sym e ∙ f) ∙ ap (λ (z : Bool). cond z (sets l (at + 2) (low ((to - at) / 3) ∷ [])) l) g)
+
+pub not-ahead : (l : List ℕ) (at to : ℕ) (b : Bool) → b ≡ fits (length l) at 3 → b ≡ true → leb at to ≡ false → l ≡ put-link at to l
+not-ahead l at to b e f g =
+    sym (ap (λ (z : Bool). cond (z && leb at to) (sets l (at + 2) (low ((to - at) / 3) ∷ [])) l) (sym e ∙ f) ∙ ap (λ (z : Bool). cond z (sets l (at + 2) (low ((to - at) / 3) ∷ [])) l) g)
+
+pub not-linked : (l : List ℕ) (at to : ℕ) (b : Bool) → b ≡ fits (length l) at 3 → b ≡ false → l ≡ put-link at to l
+not-linked l at to b e f = sym (ap (λ (z : Bool). cond (z && leb at to) (sets l (at + 2) (low ((to - at) / 3) ∷ [])) l) (sym e ∙ f))
+
+-- events put-started, then a finish
+pub complete-on : (k : Marker) (kind : ℕ) (m r : Machine) (l : List ℕ) → eqb (m .refusal) 0 ≡ true → l ≡ put-start k kind (m .events .numbers)
+    → r ≡ M.push-row 4 0 (with-events (record { count = m .events .count; numbers = l }) m) → r ≡ M.complete k kind m
+unfolding M.complete
+complete-on k kind m r l e f g =
+    g ∙ ap (λ (x : List ℕ). M.push-row 4 0 (with-events (record { count = m .events .count; numbers = x }) m)) f
+    ∙ sym (ap (λ (z : Bool). cond z (M.push-row 4 0 (with-events (record { count = m .events .count; numbers = put-start k kind (m .events .numbers) }) m)) m) e)
+
+pub complete-off : (k : Marker) (kind : ℕ) (m : Machine) → eqb (m .refusal) 0 ≡ false → m ≡ M.complete k kind m
+unfolding M.complete
+complete-off k kind m e = sym (ap (λ (z : Bool). cond z (M.push-row 4 0 (with-events (record { count = m .events .count; numbers = put-start k kind (m .events .numbers) }) m)) m) e)
+
+abbrev preceded : Marker → Machine → Machine → Machine
+preceded k m p = cond (eqb (p .refusal) 0) (with-events (record { count = p .events .count; numbers = put-link (k .place) (m .events .count) (p .events .numbers) }) p) p
+
+pub precede-on : (k : Marker) (m p : Machine) (l : List ℕ) → p ≡ M.push 0 0 m → eqb (p .refusal) 0 ≡ true → l ≡ put-link (k .place) (m .events .count) (p .events .numbers)
+    → with-events (record { count = p .events .count; numbers = l }) p ≡ M.precede k m
+unfolding M.precede
+precede-on k m p l e f g =
+    ap (λ (x : List ℕ). with-events (record { count = p .events .count; numbers = x }) p) g
+    ∙ sym (ap (λ (z : Bool). cond z (with-events (record { count = p .events .count; numbers = put-link (k .place) (m .events .count) (p .events .numbers) }) p) p) f)
+    ∙ ap (preceded k m) e
+
+pub precede-off : (k : Marker) (m p : Machine) → p ≡ M.push 0 0 m → eqb (p .refusal) 0 ≡ false → p ≡ M.precede k m
+unfolding M.precede
+precede-off k m p e f =
+    sym (ap (λ (z : Bool). cond z (with-events (record { count = p .events .count; numbers = put-link (k .place) (m .events .count) (p .events .numbers) }) p) p) f) ∙ ap (preceded k m) e
+
+-- ---------------------------------------------------------------- tokens and names taken
+
+pub bump-in : (tk : List ℕ) (b : Span) (m p q r : Machine) → p ≡ M.peek (tokens tk) m → p .cursor < length tk / 2 → q ≡ take-first (drop (p .cursor) (tokens tk)) p → r ≡ M.push 2 0 q
+    → said yes r ≡ perform (tokens tk) b bump m
+unfolding perform M.bump M.bump-first take-first
+bump-in tk b m p q r e h f g =
+    let d = rows-cons tk (p .cursor) h in
+    ap (λ (x : Machine). said yes x) (g ∙ ap (λ (x : Machine). M.push 2 0 x) (f ∙ ap (λ (l : List Token). take-first l p) d) ∙ sym (ap (λ (l : List Token). M.bump-first l p) d))
+    ∙ ap (λ (x : Machine). said yes (M.bump-first (drop (x .cursor) (tokens tk)) x)) e
+
+pub bump-past : (tk : List ℕ) (b : Span) (m p : Machine) → p ≡ M.peek (tokens tk) m → length tk / 2 ≤ p .cursor → said yes p ≡ perform (tokens tk) b bump m
+unfolding perform M.bump M.bump-first
+bump-past tk b m p e h =
+    ap (λ (x : Machine). said yes x) (sym (ap (λ (l : List Token). M.bump-first l p) (rows-end tk (p .cursor) h)))
+    ∙ ap (λ (x : Machine). said yes (M.bump-first (drop (x .cursor) (tokens tk)) x)) e
+
+pub name-in : (tk ks : List ℕ) (b : Span) (m p q r x : Machine) (n : ℕ) → p ≡ M.peek (tokens tk) m → p .cursor < length tk / 2 → q ≡ take-first (drop (p .cursor) (tokens tk)) p
+    → r ≡ M.name-run ks (drop (q .cursor) (tokens tk)) q → n ≡ low (r .cursor - p .cursor) → x ≡ M.push 3 n r → said yes x ≡ perform (tokens tk) b (bump-name ks) m
+unfolding perform M.bump-name M.name-first take-first
+name-in tk ks b m p q r x n e h f g i j =
+    let d = rows-cons tk (p .cursor) h in
+    let t = row tk (p .cursor) in
+    let z : r ≡ M.name-run ks (drop (p .cursor + 1) (tokens tk)) (took t p) =
+    g ∙ ap (λ (y : Machine). M.name-run ks (drop (y .cursor) (tokens tk)) y) (f ∙ ap (λ (l : List Token). take-first l p) d) in
+    ap (λ (y : Machine). said yes y)
+    (j ∙ ap (λ (v : ℕ). M.push 3 v r) i ∙ ap (λ (y : Machine). M.push 3 (low (y .cursor - p .cursor)) y) z ∙ sym (ap (λ (l : List Token). M.name-first ks l p) d))
+    ∙ ap (λ (y : Machine). said yes (M.name-first ks (drop (y .cursor) (tokens tk)) y)) e
+
+pub name-past : (tk ks : List ℕ) (b : Span) (m p : Machine) → p ≡ M.peek (tokens tk) m → length tk / 2 ≤ p .cursor → said yes p ≡ perform (tokens tk) b (bump-name ks) m
+unfolding perform M.bump-name M.name-first
+name-past tk ks b m p e h =
+    ap (λ (x : Machine). said yes x) (sym (ap (λ (l : List Token). M.name-first ks l p) (rows-end tk (p .cursor) h)))
+    ∙ ap (λ (y : Machine). said yes (M.name-first ks (drop (y .cursor) (tokens tk)) y)) e
+
+-- one more row of a name, or none
+pub name-more : (tk ks : List ℕ) (m q : Machine) → m .cursor < length tk / 2 → first-in ks (drop (m .cursor) (tokens tk)) ≡ true → q ≡ take-first (drop (m .cursor) (tokens tk)) m
+    → M.name-run ks (drop (q .cursor) (tokens tk)) q ≡ M.name-run ks (drop (m .cursor) (tokens tk)) m
+unfolding M.name-run take-first first-in
+name-more tk ks m q h f g =
+    let d = rows-cons tk (m .cursor) h in
+    let t = row tk (m .cursor) in
+    let o : one-of ks (seen t) ≡ true = sym (ap (first-in ks) d) ∙ f in
+    ap (λ (y : Machine). M.name-run ks (drop (y .cursor) (tokens tk)) y) (g ∙ ap (λ (l : List Token). take-first l m) d)
+    ∙ sym (ap (λ (z : Bool). cond z (M.name-run ks (drop (m .cursor + 1) (tokens tk)) (took t m)) m) o)
+    ∙ sym (ap (λ (l : List Token). M.name-run ks l m) d)
+
+pub name-done : (ks : List ℕ) (l : List Token) (m : Machine) → first-in ks l ≡ false → m ≡ M.name-run ks l m
+unfolding M.name-run first-in
+name-done ks [] m f = refl
+name-done ks (t ∷ ts) m f = sym (ap (λ (z : Bool). cond z (M.name-run ks ts (took t m)) m) f)

@@ -1,0 +1,21 @@
+-- `bump`: of the numbers; the codes stay.
+use Rattle.parser.proofs.Kit.{flags}
+use Rattle.parser.proofs.Moves.{with-said, with-left}
+use borrow.Author.Needs.{needs}
+use Rattle.parser.proofs.Parser.bump.Statement.{statement}
+use Rattle.parser.proofs.Parser.bump.Tie as tie
+
+bump-requires : tie.Need-bump-requires
+bump-requires c κs = tt
+
+with-requires : tie.Need-with-requires
+with-requires c κs = tt
+
+same-length : tie.Need-same-length
+same-length c = search needs
+
+returns : tie.Need-returns
+returns c = (λ b rep pool. with-said _ _ _ _ rep pool _ _ (c .with .ensures) (c .before .before .before .bump .ensures .0 b (c .before .before .before .before .before .before .before .args .self .codes) rep pool), omega (flags, with-left _ _ _ (c .before .before .before .before .before .before .before .args .t .now) (c .with .ensures), c .before .before .before .bump .ensures .1))
+
+pub bump-spec : {M : Type 1} → statement M
+bump-spec = tie.close (tie.spec bump-requires with-requires same-length returns)

@@ -1,0 +1,21 @@
+-- `ignore`: of the numbers; the codes stay.
+use Rattle.parser.proofs.Kit.{flags}
+use Rattle.parser.proofs.Moves.{with-view, with-left}
+use borrow.Author.Needs.{needs}
+use Rattle.parser.proofs.Parser.ignore.Statement.{statement}
+use Rattle.parser.proofs.Parser.ignore.Tie as tie
+
+ignore-requires : tie.Need-ignore-requires
+ignore-requires c κs = tt
+
+with-requires : tie.Need-with-requires
+with-requires c κs = tt
+
+same-length : tie.Need-same-length
+same-length c = search needs
+
+returns : tie.Need-returns
+returns c = (λ rep pool. with-view _ _ _ _ rep pool _ (c .with .ensures) (c .before .before .before .ignore .ensures .0 (c .before .before .before .before .before .before .args .self .codes) rep pool), λ tk. omega (flags, with-left _ _ _ tk (c .with .ensures), c .before .before .before .ignore .ensures .1 tk))
+
+pub ignore-spec : {M : Type 1} → statement M
+ignore-spec = tie.close (tie.spec ignore-requires with-requires same-length returns)

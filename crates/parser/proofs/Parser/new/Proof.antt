@@ -1,0 +1,12 @@
+-- `new`: nothing read, nothing written.
+use Rattle.parser.proofs.Parser.new.Statement.{statement}
+use Rattle.parser.proofs.Parser.new.Tie as tie
+
+new-requires : tie.Need-new-requires
+new-requires c κs = tt
+
+returns : tie.Need-returns
+returns c = λ ev rep pool. c .new .ensures _ ev rep pool
+
+pub new-spec : {M : Type 1} → statement M
+new-spec = tie.close (tie.spec new-requires returns)

@@ -1,0 +1,17 @@
+-- `peek`: of the numbers; the codes stay.
+use Rattle.parser.proofs.Kit.{flags}
+use Rattle.parser.proofs.Moves.{with-view, with-left}
+use Rattle.parser.proofs.Parser.peek.Statement.{statement}
+use Rattle.parser.proofs.Parser.peek.Tie as tie
+
+peek-requires : tie.Need-peek-requires
+peek-requires c κs = tt
+
+with-requires : tie.Need-with-requires
+with-requires c κs = tt
+
+returns : tie.Need-returns
+returns c = (λ ev rep pool. with-view _ _ _ ev rep pool _ (c .with .ensures) (c .before .peek .ensures .0 (c .before .before .before .args .self .codes) ev rep pool), omega (flags, with-left _ _ _ (c .before .before .before .args .t .now) (c .with .ensures), c .before .peek .ensures .1))
+
+pub peek-spec : {M : Type 1} → statement M
+peek-spec = tie.close (tie.spec peek-requires with-requires returns)

@@ -1,0 +1,17 @@
+-- `silent_at`: of the numbers; the codes stay.
+use Rattle.parser.proofs.Kit.{flags}
+use Rattle.parser.proofs.Moves.{with-said, with-left}
+use Rattle.parser.proofs.Parser.silent_at.Statement.{statement}
+use Rattle.parser.proofs.Parser.silent_at.Tie as tie
+
+silent-at-requires : tie.Need-silent-at-requires
+silent-at-requires c κs = tt
+
+with-requires : tie.Need-with-requires
+with-requires c κs = tt
+
+returns : tie.Need-returns
+returns c = (λ b ev rep pool. with-said _ _ _ ev rep pool _ _ (c .with .ensures) (c .before .silent-at .ensures .0 b (c .before .before .before .args .self .codes) ev rep pool), (omega (flags, with-left _ _ _ (c .before .before .before .args .t .now) (c .with .ensures), c .before .silent-at .ensures .1 .0), λ e. omega (flags, with-left _ _ _ (c .before .before .before .args .t .now) (c .with .ensures), c .before .silent-at .ensures .1 .1 e)))
+
+pub silent-at-spec : {M : Type 1} → statement M
+silent-at-spec = tie.close (tie.spec silent-at-requires with-requires returns)

@@ -1,0 +1,17 @@
+-- `silent_at_set`: of the numbers; the codes stay.
+use Rattle.parser.proofs.Kit.{flags}
+use Rattle.parser.proofs.Moves.{with-said, with-left}
+use Rattle.parser.proofs.Parser.silent_at_set.Statement.{statement}
+use Rattle.parser.proofs.Parser.silent_at_set.Tie as tie
+
+silent-at-set-requires : tie.Need-silent-at-set-requires
+silent-at-set-requires c κs = tt
+
+with-requires : tie.Need-with-requires
+with-requires c κs = tt
+
+returns : tie.Need-returns
+returns c = (λ b ev rep pool. with-said _ _ _ ev rep pool _ _ (c .with .ensures) (c .before .silent-at-set .ensures .0 b (c .before .before .before .before .args .self .codes) ev rep pool), (omega (flags, with-left _ _ _ (c .before .before .before .before .args .t .now) (c .with .ensures), c .before .silent-at-set .ensures .1 .0), λ e. omega (flags, with-left _ _ _ (c .before .before .before .before .args .t .now) (c .with .ensures), c .before .silent-at-set .ensures .1 .1 e)))
+
+pub silent-at-set-spec : {M : Type 1} → statement M
+silent-at-set-spec = tie.close (tie.spec silent-at-set-requires with-requires returns)

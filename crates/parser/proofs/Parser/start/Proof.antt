@@ -1,0 +1,21 @@
+-- `start`: of the numbers; the codes stay.
+use Rattle.parser.proofs.Kit.{flags}
+use Rattle.parser.proofs.Moves.{with-view, with-left}
+use borrow.Author.Needs.{needs}
+use Rattle.parser.proofs.Parser.start.Statement.{statement}
+use Rattle.parser.proofs.Parser.start.Tie as tie
+
+start-requires : tie.Need-start-requires
+start-requires c κs = tt
+
+with-requires : tie.Need-with-requires
+with-requires c κs = tt
+
+same-length : tie.Need-same-length
+same-length c = search needs
+
+returns : tie.Need-returns
+returns c = (λ rep pool. with-view _ _ _ _ rep pool _ (c .with .ensures) (c .before .before .before .start .ensures .0 (c .before .before .before .before .before .before .args .self .codes) rep pool), λ tk. omega (flags, with-left _ _ _ tk (c .with .ensures), c .before .before .before .start .ensures .1 tk))
+
+pub start-spec : {M : Type 1} → statement M
+start-spec = tie.close (tie.spec start-requires with-requires same-length returns)

@@ -1,0 +1,23 @@
+-- `next_token`: one row, or none at the end.
+use Rattle.parser.proofs.Kit.{flags}
+use Rattle.parser.specs.View.{view, left}
+use Rattle.parser.proofs.Moves.{took-row, took-nothing}
+use Rattle.parser.proofs.State.next_token.Statement.{statement}
+use Rattle.parser.proofs.State.next_token.Tie as tie
+
+add-t12 : tie.Need-add-t12
+add-t12 c = omega flags
+
+end-at-requires : tie.Need-end-at-requires
+end-at-requires c κs = tt
+
+returns : tie.Need-returns
+unfolding left
+returns c = (λ codes ev rep pool. took-row (c .before .before .before .args .t .now) _ (view (c .before .before .before .args .self) codes ev rep pool) (omega flags) (c .end-at .ensures), omega flags)
+
+returns-2 : tie.Need-returns-2
+unfolding left
+returns-2 c = (λ codes ev rep pool. took-nothing (c .before .before .args .t .now) (view (c .before .before .args .self) codes ev rep pool) (omega flags), omega flags)
+
+pub next-token-spec : {M : Type 1} → statement M
+next-token-spec = tie.close (tie.spec add-t12 end-at-requires returns returns-2)

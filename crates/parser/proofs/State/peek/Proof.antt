@@ -1,0 +1,18 @@
+-- `peek`: the trivia at the cursor passed.
+use Rattle.parser.proofs.Kit.{flags}
+use mathlib.Core.Path.{_≡_, refl, sym, _∙_, ap}
+use Rattle.definitions.specs.Token.{tokens}
+use Rattle.parser.specs.View.{view, left}
+use Rattle.parser.proofs.Moves.{peek-is}
+use Rattle.parser.proofs.State.peek.Statement.{statement}
+use Rattle.parser.proofs.State.peek.Tie as tie
+
+skip-trivia-requires : tie.Need-skip-trivia-requires
+skip-trivia-requires c κs = tt
+
+returns : tie.Need-returns
+unfolding left
+returns c = (λ codes ev rep pool. c .skip-trivia .ensures .0 (view (c .before .before .args .self) codes ev rep pool) ∙ sym (peek-is (tokens (c .before .before .args .t .now)) (view (c .before .before .args .self) codes ev rep pool)), omega flags)
+
+pub peek-spec : {M : Type 1} → statement M
+peek-spec = tie.close (tie.spec skip-trivia-requires returns)

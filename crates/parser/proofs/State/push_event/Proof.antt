@@ -1,0 +1,24 @@
+-- `push_event`: a row, unless something was refused.
+use Rattle.parser.proofs.Kit.{flags}
+use mathlib.Core.Path.{_≡_, refl, sym, _∙_, ap}
+use Rattle.parser.specs.View.{left}
+use Rattle.parser.proofs.Moves.{push-on, push-off}
+use borrow.Author.Needs.{needs}
+use Rattle.parser.proofs.State.push_event.Statement.{statement}
+use Rattle.parser.proofs.State.push_event.Tie as tie
+
+push-row-requires : tie.Need-push-row-requires
+push-row-requires c κs = tt
+
+same-length : tie.Need-same-length
+same-length c = search needs
+
+returns : tie.Need-returns
+returns c = (λ codes rep pool. c .before .before .push-row .ensures .0 codes rep pool ∙ push-on _ _ _ (c .before .before .before .before .if1 .taken), c .before .before .push-row .ensures .1)
+
+returns-2 : tie.Need-returns-2
+unfolding left
+returns-2 c = (λ codes rep pool. push-off _ _ _ (c .if1 .left), λ tk. omega flags)
+
+pub push-event-spec : {M : Type 1} → statement M
+push-event-spec = tie.close (tie.spec push-row-requires same-length returns returns-2)

@@ -1,0 +1,20 @@
+-- `silent`: a peek, and the row there.
+use Rattle.parser.proofs.Kit.{flags}
+use Rattle.definitions.specs.Token.{tokens}
+use Rattle.parser.specs.View.{view, left, kinds-of}
+use Rattle.parser.proofs.Moves.{silent-is}
+use Rattle.parser.proofs.State.silent.Statement.{statement}
+use Rattle.parser.proofs.State.silent.Tie as tie
+
+peek-requires : tie.Need-peek-requires
+peek-requires c κs = tt
+
+is-matched-at-requires : tie.Need-is-matched-at-requires
+is-matched-at-requires c κs = tt
+
+returns : tie.Need-returns
+unfolding left
+returns c = (λ b codes ev rep pool. silent-is (tokens (c .before .before .before .args .t .now)) b (kinds-of (c .before .before .before .args .m)) (view (c .before .before .before .args .self) codes ev rep pool) (view (c .before .peek .result) codes ev rep pool) _ (c .before .peek .ensures .0 codes ev rep pool) (c .is-matched-at .ensures .0), (c .before .peek .ensures .1, λ e. omega (flags, c .is-matched-at .ensures .1 e)))
+
+pub silent-spec : {M : Type 1} → statement M
+silent-spec = tie.close (tie.spec peek-requires is-matched-at-requires returns)

@@ -1,0 +1,24 @@
+-- `silent_at_macro_invocation_with_args`: an Ident, and an LParen right after it.
+use Rattle.parser.proofs.Kit.{true-false}
+use mathlib.Core.Path.{sym}
+use mathlib.Core.Bool.{true, false}
+use Rattle.definitions.specs.Token.{tokens}
+use Rattle.parser.specs.View.{view}
+use Rattle.parser.proofs.Programs.{answered, macro-args-yes, macro-args-no}
+use Rattle.parser.proofs.State.silent_at_macro_invocation_with_args.Statement.{statement}
+use Rattle.parser.proofs.State.silent_at_macro_invocation_with_args.Tie as tie
+
+silent-at-requires : tie.Need-silent-at-requires
+silent-at-requires c κs = tt
+
+is-next-at-requires : tie.Need-is-next-at-requires
+is-next-at-requires c κs = tt
+
+returns : tie.Need-returns
+returns c = (λ ask b codes ev rep pool. macro-args-yes ask (tokens (c .before .before .before .before .before .args .t .now)) b (view (c .before .before .before .before .before .args .self) codes ev rep pool) (view (c .before .before .before .silent-at .result .s) codes ev rep pool) _ (answered _ true _ _ (c .before .before .before .silent-at .ensures .0 b codes ev rep pool) (c .before .before .if1 .taken)) (c .is-next-at .ensures), (c .before .before .before .silent-at .ensures .1 .0, λ e. c .before .before .before .silent-at .ensures .1 .1 (c .before .before .if1 .taken)))
+
+returns-2 : tie.Need-returns-2
+returns-2 c = (λ ask b codes ev rep pool. macro-args-no ask (tokens (c .before .before .before .before .args .t .now)) b (view (c .before .before .before .before .args .self) codes ev rep pool) (view (c .before .before .silent-at .result .s) codes ev rep pool) (answered _ false _ _ (c .before .before .silent-at .ensures .0 b codes ev rep pool) (c .before .if1 .left)), (c .before .before .silent-at .ensures .1 .0, λ e. absurd (true-false (sym e))))
+
+pub silent-at-macro-invocation-with-args-spec : {M : Type 1} → statement M
+silent-at-macro-invocation-with-args-spec = tie.close (tie.spec silent-at-requires is-next-at-requires returns returns-2)

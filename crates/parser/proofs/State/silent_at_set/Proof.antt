@@ -1,0 +1,20 @@
+-- `silent_at_set`: a peek, and the row there.
+use Rattle.parser.proofs.Kit.{flags}
+use Rattle.definitions.specs.Token.{tokens}
+use Rattle.parser.specs.View.{view, left}
+use Rattle.parser.proofs.Moves.{silent-is}
+use Rattle.parser.proofs.State.silent_at_set.Statement.{statement}
+use Rattle.parser.proofs.State.silent_at_set.Tie as tie
+
+peek-requires : tie.Need-peek-requires
+peek-requires c κs = tt
+
+is-one-of-at-requires : tie.Need-is-one-of-at-requires
+is-one-of-at-requires c κs = tt
+
+returns : tie.Need-returns
+unfolding left
+returns c = (λ b codes ev rep pool. silent-is (tokens (c .before .before .before .before .args .t .now)) b (c .before .before .before .before .args .set .now) (view (c .before .before .before .before .args .self) codes ev rep pool) (view (c .before .peek .result) codes ev rep pool) _ (c .before .peek .ensures .0 codes ev rep pool) (c .is-one-of-at .ensures .0), (c .before .peek .ensures .1, λ e. omega (flags, c .is-one-of-at .ensures .1 e)))
+
+pub silent-at-set-spec : {M : Type 1} → statement M
+silent-at-set-spec = tie.close (tie.spec peek-requires is-one-of-at-requires returns)

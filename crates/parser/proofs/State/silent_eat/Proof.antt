@@ -1,0 +1,30 @@
+-- `silent_eat`: the test, and the token or name.
+use Rattle.parser.proofs.Kit.{flags, true-false}
+use mathlib.Core.Path.{_≡_, refl, sym, _∙_, ap}
+use mathlib.Core.Bool.{Bool, true, false}
+use Rattle.definitions.specs.Token.{tokens}
+use Rattle.definitions.specs.Run.{truth}
+use Rattle.machine.specs.Walk.{said}
+use Rattle.parser.specs.View.{view, matcher-of}
+use Rattle.parser.proofs.Programs.{answered, matches-is, silent-eat-yes, silent-eat-no}
+use borrow.Author.Needs.{needs}
+use Rattle.parser.proofs.State.silent_eat.Statement.{statement}
+use Rattle.parser.proofs.State.silent_eat.Tie as tie
+
+silent-requires : tie.Need-silent-requires
+silent-requires c κs = tt
+
+consume-requires : tie.Need-consume-requires
+consume-requires c κs = tt
+
+same-length : tie.Need-same-length
+same-length c = search needs
+
+returns : tie.Need-returns
+returns c = (λ ask b codes rep pool. silent-eat-yes ask (tokens (c .before .before .before .before .before .before .before .before .args .t .now)) b (matcher-of (c .before .before .before .before .before .before .before .before .args .m)) (view (c .before .before .before .before .before .before .before .before .args .self) codes (c .before .before .before .before .before .before .before .before .args .ev .now) rep pool) (view (c .before .before .before .before .before .silent .result .s) codes (c .before .before .before .before .before .before .before .before .args .ev .now) rep pool) _ (sym (matches-is ask (tokens (c .before .before .before .before .before .before .before .before .args .t .now)) b (c .before .before .before .before .before .before .before .before .args .m) (view (c .before .before .before .before .before .before .before .before .args .self) codes (c .before .before .before .before .before .before .before .before .args .ev .now) rep pool)) ∙ answered _ true _ _ (c .before .before .before .before .before .silent .ensures .0 b codes (c .before .before .before .before .before .before .before .before .args .ev .now) rep pool) (c .before .before .before .before .if1 .taken)) (c .before .before .consume .ensures .0 ask b codes rep pool), (omega (flags, c .before .before .before .before .before .silent .ensures .1 .0, c .before .before .consume .ensures .1), λ e. omega (flags, c .before .before .before .before .before .silent .ensures .1 .0, c .before .before .consume .ensures .1)))
+
+returns-2 : tie.Need-returns-2
+returns-2 c = (λ ask b codes rep pool. ap (λ (y : Bool). said (truth y) (view (c .before .silent .result .s) codes (c .before .before .before .before .args .ev .now) rep pool)) (c .if1 .left) ∙ silent-eat-no ask (tokens (c .before .before .before .before .args .t .now)) b (matcher-of (c .before .before .before .before .args .m)) (view (c .before .before .before .before .args .self) codes (c .before .before .before .before .args .ev .now) rep pool) (view (c .before .silent .result .s) codes (c .before .before .before .before .args .ev .now) rep pool) (sym (matches-is ask (tokens (c .before .before .before .before .args .t .now)) b (c .before .before .before .before .args .m) (view (c .before .before .before .before .args .self) codes (c .before .before .before .before .args .ev .now) rep pool)) ∙ answered _ false _ _ (c .before .silent .ensures .0 b codes (c .before .before .before .before .args .ev .now) rep pool) (c .if1 .left)), (c .before .silent .ensures .1 .0, λ e. absurd (true-false (sym e ∙ c .if1 .left))))
+
+pub silent-eat-spec : {M : Type 1} → statement M
+silent-eat-spec = tie.close (tie.spec silent-requires consume-requires same-length returns returns-2)

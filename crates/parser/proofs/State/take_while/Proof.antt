@@ -1,0 +1,41 @@
+-- `take_while`: the name's rest from here is the name's rest from the start.
+use Rattle.parser.proofs.Kit.{flags}
+use Prim.Native.Nat.{ℕ, _≤_}
+use mathlib.Core.Path.{_≡_, refl, sym, _∙_, ap}
+use native.Mathlib.Nat.{le-refl}
+use mathlib.Core.List.{List}
+use lib.ListN.{drop}
+use Rattle.definitions.specs.Token.{tokens}
+use Rattle.machine.specs.Machine.{name-run}
+use Rattle.parser.specs.View.{view, left}
+use Rattle.parser.proofs.Moves.{name-more, name-done}
+use Rattle.parser.proofs.State.take_while.Statement.{statement}
+use Rattle.parser.proofs.State.take_while.Tie as tie
+
+abbrev Inv-loop : tie.InvT-loop
+Inv-loop t set q₀ q = ((codes ev rep pool : List ℕ) → name-run set (drop (q .cursor .0) (tokens t)) (view q codes ev rep pool) ≡ name-run set (drop (q₀ .cursor .0) (tokens t)) (view q₀ codes ev rep pool)) × (left t q ≤ left t q₀)
+
+abbrev μ-loop : tie.MeasureT-loop
+μ-loop t set q₀ q = left t q
+
+loop-holds : tie.Need-loop-holds Inv-loop μ-loop
+loop-holds c = (λ codes ev rep pool. refl, le-refl _)
+
+is-one-of-at-requires : tie.Need-is-one-of-at-requires Inv-loop μ-loop
+is-one-of-at-requires c κs = tt
+
+next-token-requires : tie.Need-next-token-requires Inv-loop μ-loop
+next-token-requires c κs = tt
+
+loop-less : tie.Need-loop-less Inv-loop μ-loop
+unfolding left
+loop-less c = omega (flags, c .before .before .is-one-of-at .ensures .1 (c .before .if1 .taken), c .next-token .ensures .1)
+
+loop-again : tie.Need-loop-again Inv-loop μ-loop
+loop-again c = (λ codes ev rep pool. name-more (c .before .before .before .before .before .before .args .t .now) (c .before .before .before .before .before .before .args .set .now) (view (c .before .before .before .loop .q) codes ev rep pool) (view (c .next-token .result) codes ev rep pool) (c .before .before .is-one-of-at .ensures .1 (c .before .if1 .taken)) (sym (c .before .before .is-one-of-at .ensures .0) ∙ c .before .if1 .taken) (c .next-token .ensures .0 codes ev rep pool) ∙ c .before .before .before .loop .inv .0 codes ev rep pool, omega (flags, c .next-token .ensures .1, c .before .before .before .loop .inv .1))
+
+returns : tie.Need-returns Inv-loop μ-loop
+returns c = (λ codes ev rep pool. name-done (c .before .before .before .before .before .args .set .now) (drop (c .before .before .loop .q .cursor .0) (tokens (c .before .before .before .before .before .args .t .now))) (view (c .before .before .loop .q) codes ev rep pool) (sym (c .before .is-one-of-at .ensures .0) ∙ c .if1 .left) ∙ c .before .before .loop .inv .0 codes ev rep pool, c .before .before .loop .inv .1)
+
+pub take-while-spec : {M : Type 1} → statement M
+take-while-spec = tie.close (tie.spec Inv-loop μ-loop loop-holds is-one-of-at-requires next-token-requires loop-less loop-again returns)

@@ -1,0 +1,19 @@
+-- `fits`: the sum never wraps.
+use Rattle.parser.proofs.Kit.{flags, true-false}
+use mathlib.Core.Path.{sym}
+use Prim.Native.Nat.{_-_}
+use borrow.Author.Tests.{leb-true}
+use Rattle.parser.proofs.event.fits.Statement.{statement}
+use Rattle.parser.proofs.event.fits.Tie as tie
+
+sub-result : tie.Need-sub-result
+sub-result c = omega flags
+
+returns : tie.Need-returns
+returns c = (rw (c .if1 .taken), λ e. omega (flags, leb-true (c .before .args .n) ((c .before .args .len) - (c .before .args .at)) e))
+
+returns-2 : tie.Need-returns-2
+returns-2 c = (rw (c .if1 .left), λ e. absurd (true-false (sym e)))
+
+pub fits-spec : {M : Type 1} → statement M
+fits-spec = tie.close (tie.spec sub-result returns returns-2)

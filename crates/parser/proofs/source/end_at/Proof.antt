@@ -1,0 +1,28 @@
+-- `end_at`: the sum wraps at 32 bits, as the machine's does.
+use Rattle.parser.proofs.Kit.{flags, end-in, end-past}
+use Rattle.parser.proofs.source.end_at.Statement.{statement}
+use Rattle.parser.proofs.source.end_at.Tie as tie
+
+mul-wrapping-add-u32 : tie.Need-mul-wrapping-add-u32
+mul-wrapping-add-u32 c = omega flags
+
+add-wrapping-add-u32 : tie.Need-add-wrapping-add-u32
+add-wrapping-add-u32 c = omega flags
+
+mul-wrapping-add-u32-2 : tie.Need-mul-wrapping-add-u32-2
+mul-wrapping-add-u32-2 c = omega flags
+
+shared-slice-read-wrapping-add-u32 : tie.Need-shared-slice-read-wrapping-add-u32
+shared-slice-read-wrapping-add-u32 c = omega flags
+
+wrapping-add-u32-requires : tie.Need-wrapping-add-u32-requires
+wrapping-add-u32-requires c κs = tt
+
+returns : tie.Need-returns
+returns c = end-in (c .before .before .before .before .args .t .now) (c .before .before .before .before .args .at) (c .before .before .before .before .args .start) _ (omega flags) (c .wrapping-add-u32 .ensures)
+
+returns-2 : tie.Need-returns-2
+returns-2 c = end-past (c .before .before .args .t .now) (c .before .before .args .at) (c .before .before .args .start) (omega flags)
+
+pub end-at-spec : {M : Type 1} → statement M
+end-at-spec = tie.close (tie.spec mul-wrapping-add-u32 add-wrapping-add-u32 mul-wrapping-add-u32-2 shared-slice-read-wrapping-add-u32 wrapping-add-u32-requires returns returns-2)

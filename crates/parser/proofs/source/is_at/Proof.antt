@@ -1,0 +1,18 @@
+-- `is_at`: the kind of the row, compared.
+use Rattle.parser.proofs.Kit.{flags, true-false, is-at-rows, first-past-rows}
+use mathlib.Core.Path.{sym}
+use mathlib.Core.List.{[], _∷_}
+use Rattle.parser.proofs.source.is_at.Statement.{statement}
+use Rattle.parser.proofs.source.is_at.Tie as tie
+
+kind-at-requires : tie.Need-kind-at-requires
+kind-at-requires c κs = tt
+
+returns : tie.Need-returns
+returns c = (is-at-rows (c .before .before .before .args .t .now) (c .before .before .before .args .at) (c .before .before .before .args .k) _ (omega flags) (c .kind-at .ensures .0), λ e. omega flags)
+
+returns-2 : tie.Need-returns-2
+returns-2 c = (first-past-rows ((c .before .before .args .k) ∷ []) (c .before .before .args .t .now) (c .before .before .args .at) (omega flags), λ e. absurd (true-false (sym e)))
+
+pub is-at-spec : {M : Type 1} → statement M
+is-at-spec = tie.close (tie.spec kind-at-requires returns returns-2)

@@ -1,0 +1,21 @@
+-- `is_matched_at`: the kind of the row, looked up.
+use Rattle.parser.proofs.Kit.{flags, true-false, is-one-of-rows, first-past-rows}
+use mathlib.Core.Path.{sym}
+use Rattle.parser.specs.View.{kinds-of}
+use Rattle.parser.proofs.source.is_matched_at.Statement.{statement}
+use Rattle.parser.proofs.source.is_matched_at.Tie as tie
+
+kind-at-requires : tie.Need-kind-at-requires
+kind-at-requires c κs = tt
+
+matches-requires : tie.Need-matches-requires
+matches-requires c κs = tt
+
+returns : tie.Need-returns
+returns c = (is-one-of-rows (c .before .before .before .before .args .t .now) (kinds-of (c .before .before .before .before .args .m)) (c .before .before .before .before .args .at) _ _ (omega flags) (c .before .kind-at .ensures .0) (c .matches .ensures), λ e. omega flags)
+
+returns-2 : tie.Need-returns-2
+returns-2 c = (first-past-rows (kinds-of (c .before .before .args .m)) (c .before .before .args .t .now) (c .before .before .args .at) (omega flags), λ e. absurd (true-false (sym e)))
+
+pub is-matched-at-spec : {M : Type 1} → statement M
+is-matched-at-spec = tie.close (tie.spec kind-at-requires matches-requires returns returns-2)

@@ -1,0 +1,19 @@
+-- `is_next_at`: the row after the one at hand.
+use Rattle.parser.proofs.Kit.{flags, is-next-rows, is-next-past}
+use Rattle.parser.proofs.source.is_next_at.Statement.{statement}
+use Rattle.parser.proofs.source.is_next_at.Tie as tie
+
+add-is-at : tie.Need-add-is-at
+add-is-at c = omega flags
+
+is-at-requires : tie.Need-is-at-requires
+is-at-requires c κs = tt
+
+returns : tie.Need-returns
+returns c = is-next-rows (c .before .before .before .args .t .now) (c .before .before .before .args .at) (c .before .before .before .args .k) _ (omega flags) (c .is-at .ensures .0)
+
+returns-2 : tie.Need-returns-2
+returns-2 c = is-next-past (c .before .before .args .t .now) (c .before .before .args .at) (c .before .before .args .k) (omega flags)
+
+pub is-next-at-spec : {M : Type 1} → statement M
+is-next-at-spec = tie.close (tie.spec add-is-at is-at-requires returns returns-2)

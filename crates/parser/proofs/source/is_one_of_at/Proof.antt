@@ -1,0 +1,20 @@
+-- `is_one_of_at`: the kind of the row, looked up.
+use Rattle.parser.proofs.Kit.{flags, true-false, is-one-of-rows, first-past-rows}
+use mathlib.Core.Path.{sym}
+use Rattle.parser.proofs.source.is_one_of_at.Statement.{statement}
+use Rattle.parser.proofs.source.is_one_of_at.Tie as tie
+
+kind-at-requires : tie.Need-kind-at-requires
+kind-at-requires c κs = tt
+
+one-of-requires : tie.Need-one-of-requires
+one-of-requires c κs = tt
+
+returns : tie.Need-returns
+returns c = (is-one-of-rows (c .before .before .before .before .before .args .t .now) (c .before .before .before .before .before .args .set .now) (c .before .before .before .before .before .args .at) _ _ (omega flags) (c .before .kind-at .ensures .0) (c .one-of .ensures), λ e. omega flags)
+
+returns-2 : tie.Need-returns-2
+returns-2 c = (first-past-rows (c .before .before .before .args .set .now) (c .before .before .before .args .t .now) (c .before .before .before .args .at) (omega flags), λ e. absurd (true-false (sym e)))
+
+pub is-one-of-at-spec : {M : Type 1} → statement M
+is-one-of-at-spec = tie.close (tie.spec kind-at-requires one-of-requires returns returns-2)

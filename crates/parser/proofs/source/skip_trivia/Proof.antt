@@ -1,0 +1,39 @@
+-- `skip_trivia`: what is skipped from here is what is skipped from the start.
+use Rattle.parser.proofs.Kit.{flags, skip-more, skip-done}
+use Prim.Native.Nat.{_-_, _/_, _≤_}
+use mathlib.Core.Path.{_≡_, refl, sym, _∙_}
+use lib.ListN.{length, drop}
+use Rattle.definitions.specs.Token.{tokens}
+use Rattle.machine.specs.Machine.{Machine, with-cursor, skip}
+use Rattle.parser.proofs.source.skip_trivia.Statement.{statement}
+use Rattle.parser.proofs.source.skip_trivia.Tie as tie
+
+abbrev Inv-loop : tie.InvT-loop
+Inv-loop t from start at₀ byte₀ at byte = ((m : Machine) → skip (drop at (tokens t)) (with-cursor at byte m) ≡ skip (drop from (tokens t)) (with-cursor from start m)) × (from ≤ at)
+
+abbrev μ-loop : tie.MeasureT-loop
+μ-loop t from start at₀ byte₀ at byte = length t / 2 - at
+
+loop-holds : tie.Need-loop-holds Inv-loop μ-loop
+loop-holds c = (λ m. refl, omega flags)
+
+is-trivia-at-requires : tie.Need-is-trivia-at-requires Inv-loop μ-loop
+is-trivia-at-requires c κs = tt
+
+end-at-requires : tie.Need-end-at-requires Inv-loop μ-loop
+end-at-requires c κs = tt
+
+add-at : tie.Need-add-at Inv-loop μ-loop
+add-at c = omega (flags, c .before .before .is-trivia-at .ensures .1 (c .before .if1 .taken))
+
+loop-less : tie.Need-loop-less Inv-loop μ-loop
+loop-less c = omega (flags, c .before .before .is-trivia-at .ensures .1 (c .before .if1 .taken))
+
+loop-again : tie.Need-loop-again Inv-loop μ-loop
+loop-again c = (λ m. skip-more (c .before .before .before .before .before .args .t .now) (c .before .before .before .loop .at) (c .before .before .before .loop .byte) _ (c .before .before .is-trivia-at .ensures .1 (c .before .if1 .taken)) (sym (c .before .before .is-trivia-at .ensures .0) ∙ c .before .if1 .taken) (c .end-at .ensures) m ∙ c .before .before .before .loop .inv .0 m, omega flags)
+
+returns : tie.Need-returns Inv-loop μ-loop
+returns c = (λ m. skip-done _ _ (sym (c .before .is-trivia-at .ensures .0) ∙ c .if1 .left) ∙ c .before .before .loop .inv .0 m, omega flags)
+
+pub skip-trivia-spec : {M : Type 1} → statement M
+skip-trivia-spec = tie.close (tie.spec Inv-loop μ-loop loop-holds is-trivia-at-requires end-at-requires add-at loop-less loop-again returns)

@@ -1,0 +1,139 @@
+-- The parser's values as the literal machine of the crate `machine` sees them. What the contracts here cite.
+use Prim.Native.Nat.{ℕ, _-_, _/_}
+use mathlib.Core.Bool.{Bool, true, false, cond}
+use mathlib.Core.List.{List, [], _∷_}
+use lib.ListN.{length, take, drop}
+use Rattle.definitions.specs.TokenKind as K
+use Rattle.definitions.specs.Token.{Token, seen, trivia}
+use Rattle.definitions.specs.Skeleton.{Span}
+use Rattle.definitions.specs.Prog.{Ans, no, yes, also, again, Rule, Prog}
+use Rattle.definitions.specs.Run.{truth}
+use Rattle.definitions.specs.Check.{NAME-SET, LABEL-NAME-SET}
+use Rattle.definitions.specs.Check as C
+use Rattle.machine.specs.Machine.{Machine, Buffer}
+use Rattle.machine.specs.Machine as M
+use Rattle.machine.specs.Walk.{Walked, said, walk, marker}
+use lib.Seq.{sets}
+use Rattle.parser.specs.declared.State.{State}
+use Rattle.parser.specs.declared.Parser.{Parser}
+use Rattle.parser.specs.declared.Seen.{Seen}
+use Rattle.parser.specs.declared.Tested.{Tested}
+use Rattle.parser.specs.declared.Answer.{Answer}
+use Rattle.parser.specs.declared.Answer.the-variants as Said
+use Rattle.parser.specs.declared.errors.Bump.{Bump}
+use Rattle.parser.specs.declared.errors.Bump.the-variants.{No, Yes, YesWrapErr}
+use Rattle.parser.specs.declared.marker.Marker.{Marker}
+use Rattle.parser.specs.declared.errors.TextRange.{TextRange}
+use Rattle.parser.specs.declared.matcher.Matcher.{Matcher}
+use Rattle.parser.specs.declared.matcher.Matcher.the-variants as Of
+
+-- the numbers, the pending codes and the lent buffers
+abbrev pub view : State → List ℕ → List ℕ → List ℕ → List ℕ → Machine
+view s codes ev rep pool =
+    record {
+      cursor = s .cursor .0;
+      at = s .at .0;
+      mark = s .mark .0;
+      mark-at = s .«mark_at» .0;
+      pending = take (s .pending) codes;
+      events = record { count = s .events; numbers = ev };
+      reports = record { count = s .reports; numbers = rep };
+      pool = record { count = s .pool; numbers = pool };
+      refusal = s .refusal;
+      place = s .place .0;
+    }
+
+-- rows not yet passed: the number that falls
+unfoldable pub left : List ℕ → State → ℕ
+left tk s = length tk / 2 - s .cursor .0
+
+-- a test's answer, and the machine after it
+abbrev pub seen-as : Seen → List ℕ → List ℕ → List ℕ → List ℕ → Walked
+seen-as r codes ev rep pool = said (truth (r .yes)) (view (r .s) codes ev rep pool)
+
+-- the same of the whole parser
+abbrev pub view-of : Parser → List ℕ → List ℕ → List ℕ → Machine
+view-of p ev rep pool = view (p .s) (p .codes) ev rep pool
+
+abbrev pub tested-as : Tested → List ℕ → List ℕ → List ℕ → Walked
+tested-as r ev rep pool = said (truth (r .yes)) (view-of (r .p) ev rep pool)
+
+abbrev pub answer-of : Answer → Ans
+answer-of Said.No = no
+answer-of Said.Yes = yes
+answer-of Said.Also = also
+answer-of Said.Again = again
+
+-- what a test sees of the first of some tokens; 64 at the end
+unfoldable pub kind-of : List Token → ℕ
+unfolding seen
+kind-of [] = 64
+kind-of (t ∷ ts) = seen t
+
+-- whether the first of some tokens is trivia
+unfoldable pub trivia-first : List Token → Bool
+unfolding trivia
+trivia-first [] = false
+trivia-first (t ∷ ts) = trivia t
+
+-- the first of some tokens taken
+unfoldable pub take-first : List Token → Machine → Machine
+take-first [] m = m
+take-first (t ∷ ts) m = M.took t m
+
+abbrev pub marker-of : Marker → M.Marker
+marker-of m = record { place = m .0; tag = m .1 }
+
+abbrev pub span-of : TextRange → Span
+span-of r = record { from = r .start .0; to = r .end .0 }
+
+-- the definitions' matcher
+abbrev pub matcher-of : Matcher → C.Matcher
+matcher-of (Of.Kind a) = C.kind a
+matcher-of (Of.Either a b) = C.set (a ∷ b ∷ [])
+matcher-of Of.Name = C.Name
+matcher-of Of.LabelName = C.LabelName
+
+-- the kinds that it matches
+abbrev pub kinds-of : Matcher → List ℕ
+kinds-of (Of.Kind a) = a ∷ []
+kinds-of (Of.Either a b) = a ∷ b ∷ []
+kinds-of Of.Name = NAME-SET
+kinds-of Of.LabelName = LABEL-NAME-SET
+
+-- `eat_starting`: whether it matched, the marker, and the machine after it
+pub record Starting : Type 0 where
+  pub yes : Bool
+  pub marker : M.Marker
+  pub on : Machine
+
+abbrev pub by-answer : Ans → Starting → Starting → Starting
+by-answer no a b = a
+by-answer yes a b = b
+by-answer also a b = b
+by-answer again a b = b
+
+-- the marker is made only on a match
+unfoldable pub starting : (Rule → Machine → Walked) → List Token → Span → C.Matcher → Machine → Starting
+unfolding C.at walk M.push
+starting ask ts b k m =
+    let w = walk ask ts b (C.at k) m in
+    by-answer (w .ans)
+    (record { yes = false; marker = marker M.START (w .on); on = w .on })
+    (record { yes = true; marker = marker M.START (w .on); on = walk ask ts b (k .consume) (M.push M.PLACEHOLDER 0 (w .on)) .on })
+
+-- the program of a report with what it takes
+abbrev pub error-prog : Bump → ℕ → ℕ → Prog
+error-prog No m h = C.error m h
+error-prog Yes m h = C.error-bump m h
+error-prog YesWrapErr m h = C.error-wrap m h
+
+-- how many tokens it surely takes, where there are any
+abbrev pub takes : Bump → ℕ
+takes No = 0
+takes Yes = 1
+takes YesWrapErr = 1
+
+-- numbers stored from a place on, if they fit
+abbrev pub stored : ℕ → List ℕ → List ℕ → List ℕ
+stored at row l = cond (M.fits (length l) at 9) (sets l at row) l

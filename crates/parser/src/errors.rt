@@ -1,0 +1,319 @@
+// errors.rs: reports. Message, hint and bump go by value in the place of the builder.
+use crate::State;
+use crate::event::ERROR;
+use crate::event::fits;
+use crate::event::low32;
+use crate::marker::Marker;
+use crate::node;
+use lexer::ByteOffset;
+use lexer::kind;
+ghost use mathlib.Core.Path.{_≡_};
+ghost use mathlib.Core.Bool.{true, false};
+ghost use mathlib.Core.List.{List, [], _∷_};
+ghost use Prim.Native.Nat.{ℕ, _+_, _-_, _≤_, _<_};
+ghost use lib.ListN.{length, take, drop};
+ghost use Rattle.definitions.specs.Token.{tokens};
+ghost use Rattle.definitions.specs.Skeleton.{Span};
+ghost use Rattle.definitions.specs.Prog.{Rule, yes, case};
+ghost use Rattle.definitions.specs.Check.{if_then_else_, end?, bump!, tell, node as node-prog};
+ghost use Rattle.definitions.specs.NodeKind as N;
+ghost use Rattle.definitions.specs.Run.{only-separators, pool-of};
+ghost use Rattle.machine.specs.Machine.{Machine, error-range, write-report, emit as emit-machine};
+ghost use Rattle.machine.specs.Walk.{Walked, said, walk, unlabelled};
+ghost use Rattle.parser.specs.View.{view, left, span-of, error-prog, takes, stored};
+ghost use lib.Seq.{sets};
+
+pub struct TextRange {
+    pub start: ByteOffset,
+    pub end: ByteOffset,
+}
+
+// Whether a report takes the current token, as it stands or into a ParseError; at the end it takes nothing.
+pub enum Bump {
+    No,
+    Yes,
+    YesWrapErr,
+}
+
+// Messages.
+pub const EXPECTED: u32 = 1;
+
+pub const UNMATCHED_RCURLY: u32 = 2;
+
+pub const UNMATCHED_SEMICOLON: u32 = 3;
+
+pub const UNMATCHED_ENDIF: u32 = 4;
+
+pub const STRAY_CONTINUATION: u32 = 5;
+
+pub const AT_SIGN_IN_LABEL: u32 = 6;
+
+pub const UNCLOSED_NODE: u32 = 7;
+
+// Hints.
+pub const NO_HINT: u32 = 0;
+
+pub const UNNAMED_PROPERTY: u32 = 1;
+
+pub const UNNAMED_NODE: u32 = 2;
+
+pub const MISSING_PARENTHESES: u32 = 3;
+
+pub const IN_CELLS: u32 = 4;
+
+pub const PROPERTY_NOT_ALLOWED: u32 = 5;
+
+pub const MISSING_LEFT_SIDE: u32 = 6;
+
+// The numbers of a report row.
+pub const REPORT_SIZE: usize = 9;
+
+pub fn no_label() -> TextRange
+    ensures { λ r. ⌜ span-of r ≡ unlabelled ⌝ }
+{
+    TextRange {
+        start: ByteOffset(0),
+        end: ByteOffset(0),
+    }
+}
+
+fn wide(x: u8) -> u32
+    ensures { λ r. ⌜ r ≡ x ⌝ }
+{
+    x as u32
+}
+
+fn less_one(x: u32) -> u32
+    ensures { λ r. ⌜ r ≡ x - 1 ⌝ }
+{
+    let some = 0 < x;
+    if some { x - 1 } else { 0 }
+}
+
+// Whether the first n codes are exactly [Semicolon], [Comma] or [Comma, Semicolon].
+fn ends_statement(codes: &[u8], n: usize) -> bool
+    requires { ⌜ 2 < length (now codes) ⌝ }
+    ensures { λ r. ⌜ r ≡ only-separators (take n (now (codes .entry))) ⌝ }
+{
+    let one = n == 1;
+    if one {
+        let semicolon = codes[0] == kind::SEMICOLON;
+        if semicolon {
+            return true;
+        }
+        return codes[0] == kind::COMMA;
+    }
+    let two = n == 2;
+    if two {
+        let comma = codes[0] == kind::COMMA;
+        if comma {
+            return codes[1] == kind::SEMICOLON;
+        }
+        return false;
+    }
+    false
+}
+
+// How many of the pending codes a report with this message has.
+fn pool_count(message: u32, codes: &[u8], pending: usize) -> usize
+    ensures { λ r. ⌜ take r (now (codes .entry)) ≡ pool-of message (take pending (now (codes .entry))) ⌝ }
+    ensures { λ r. ⌜ r ≤ length (now (codes .entry)) ⌝ }
+{
+    let expectations = message == EXPECTED;
+    if expectations {
+        let few = pending <= codes.len();
+        if few { pending } else { codes.len() }
+    } else {
+        0
+    }
+}
+
+// The first n codes, written from a place of the pool on.
+fn put_codes(codes: &[u8], pool: &mut [u32], first: usize, n: usize)
+    requires { ⌜ n ≤ length (now codes) ⌝ }
+    requires { ⌜ first + n ≤ length (now pool) ⌝ }
+    ensures { λ _. ⌜ now (pool .exit) ≡ sets (now (pool .entry)) first (take n (now (codes .entry))) ⌝ }
+{
+    let mut i: usize = 0;
+    while i < n {
+        pool[first + i] = wide(codes[i]);
+        i += 1;
+    }
+}
+
+// A report row.
+fn put_report(
+    rep: &mut [u32],
+    at: usize,
+    message: u32,
+    hint: u32,
+    range: TextRange,
+    label: TextRange,
+    mark: u32,
+    first: u32,
+    count: u32,
+)
+    ensures { λ _. ⌜ now (rep .exit) ≡ stored at (message ∷ range .start .0 ∷ range .end .0 ∷ mark ∷ first ∷ count ∷ hint ∷ label .start .0 ∷ label .end .0 ∷ []) (now (rep .entry)) ⌝ }
+{
+    let room = fits(rep.len(), at, REPORT_SIZE);
+    if room {
+        rep[at] = message;
+        rep[at + 1] = range.start.0;
+        rep[at + 2] = range.end.0;
+        rep[at + 3] = mark;
+        rep[at + 4] = first;
+        rep[at + 5] = count;
+        rep[at + 6] = hint;
+        rep[at + 7] = label.start.0;
+        rep[at + 8] = label.end.0;
+    }
+}
+
+impl State {
+    // The cursor stands at a token, or at the end.
+    fn current_token_error_range(self, codes: &[u8; 256], t: &[u32]) -> TextRange
+        ensures { λ r. ⌜ ((ev rep pool : List ℕ) → span-of r ≡ error-range (drop (self .cursor .0) (tokens (now (t .entry)))) (view self (now (codes .entry)) ev rep pool)) ⌝ }
+    {
+        let at = self.cursor.0;
+        let inside = at < t.len() / 2;
+        if inside {
+            let lone = ends_statement(codes, self.pending);
+            if lone {
+                let start = self.mark_at;
+                let end = ByteOffset(std::num::wrapping_add_u32(start.0, 1));
+                TextRange {
+                    start: start,
+                    end: end,
+                }
+            } else {
+                self.range(t)
+            }
+        } else {
+            let end = self.at;
+            let start = ByteOffset(less_one(end.0));
+            TextRange {
+                start: start,
+                end: end,
+            }
+        }
+    }
+
+    // The report's row and its expectations: both fit, or neither is written.
+    fn push_report(
+        self,
+        codes: &[u8; 256],
+        rep: &mut [u32],
+        pool: &mut [u32],
+        message: u32,
+        hint: u32,
+        range: TextRange,
+        label: TextRange,
+    ) -> State
+        ensures { λ r. ⌜ ((ev : List ℕ) → self .refusal ≡ 0 → view r (now (codes .entry)) ev (now (rep .exit)) (now (pool .exit)) ≡ write-report message hint (span-of range) (span-of label) (view self (now (codes .entry)) ev (now (rep .entry)) (now (pool .entry)))) ⌝ }
+        ensures { λ r. ⌜ ((tk : List ℕ) → left tk r ≤ left tk self) ⌝ }
+    {
+        let at = self.reports;
+        let first = self.pool;
+        let n = pool_count(message, codes, self.pending);
+        let room = fits(rep.len(), at, REPORT_SIZE);
+        if room {
+            let pool_room = fits(pool.len(), first, n);
+            if pool_room {
+                let mark = low32(self.mark.0);
+                put_report(
+                    rep,
+                    at,
+                    message,
+                    hint,
+                    range,
+                    label,
+                    mark,
+                    low32(first),
+                    low32(n),
+                );
+                put_codes(codes, pool, first, n);
+                let mut q = self;
+                q.reports = at + REPORT_SIZE;
+                q.pool = first + n;
+                q
+            } else {
+                self.refuse(7)
+            }
+        } else {
+            self.refuse(7)
+        }
+    }
+
+    // A report alone: its event, and then its row. Neither is written once something was refused.
+    pub fn emit(
+        self,
+        codes: &[u8; 256],
+        t: &[u32],
+        ev: &mut [u32],
+        rep: &mut [u32],
+        pool: &mut [u32],
+        message: u32,
+        hint: u32,
+        label: TextRange,
+    ) -> State
+        ensures { λ r. ⌜ view r (now (codes .entry)) (now (ev .exit)) (now (rep .exit)) (now (pool .exit)) ≡ emit-machine (tokens (now (t .entry))) message hint (span-of label) (view self (now (codes .entry)) (now (ev .entry)) (now (rep .entry)) (now (pool .entry))) ⌝ }
+        ensures { λ r. ⌜ left (now (t .entry)) r ≤ left (now (t .entry)) self ⌝ }
+    {
+        let here = self.peek(t);
+        let range = here.current_token_error_range(codes, t);
+        let pushed = here.push_event(ev, ERROR, 0);
+        let on = pushed.refusal == 0;
+        if on {
+            pushed.push_report(codes, rep, pool, message, hint, range, label)
+        } else {
+            pushed
+        }
+    }
+
+    fn bump_unless_at_end(self, t: &[u32], ev: &mut [u32]) -> State
+        ensures { λ r. ⌜ ((ask : Rule → Machine → Walked) (b : Span) (codes rep pool : List ℕ) → said yes (view r codes (now (ev .exit)) rep pool) ≡ walk ask (tokens (now (t .entry))) b (if end? then tell yes else bump!) (view self codes (now (ev .entry)) rep pool)) ⌝ }
+        ensures { λ r. ⌜ left (now (t .entry)) r ≤ left (now (t .entry)) self - 1 ⌝ }
+    {
+        let end = self.at_end(t);
+        if end.yes { end.s } else { end.s.bump(t, ev) }
+    }
+
+    fn wrap_unless_at_end(self, t: &[u32], ev: &mut [u32]) -> State
+        ensures { λ r. ⌜ ((ask : Rule → Machine → Walked) (b : Span) (codes rep pool : List ℕ) → said yes (view r codes (now (ev .exit)) rep pool) ≡ walk ask (tokens (now (t .entry))) b (if end? then tell yes else node-prog N.ParseError bump!) (view self codes (now (ev .entry)) rep pool)) ⌝ }
+        ensures { λ r. ⌜ left (now (t .entry)) r ≤ left (now (t .entry)) self - 1 ⌝ }
+    {
+        let end = self.at_end(t);
+        if end.yes {
+            end.s
+        } else {
+            let m = Marker::new(end.s);
+            let started = end.s.start(ev);
+            let taken = started.bump(t, ev);
+            taken.complete(ev, m, node::PARSE_ERROR)
+        }
+    }
+
+    // `error().msg_..().add_hint(..).bump..().emit()`
+    pub fn error(
+        self,
+        codes: &[u8; 256],
+        t: &[u32],
+        ev: &mut [u32],
+        rep: &mut [u32],
+        pool: &mut [u32],
+        message: u32,
+        hint: u32,
+        bump: Bump,
+    ) -> State
+        ensures { λ r. ⌜ ((ask : Rule → Machine → Walked) (b : Span) → said yes (view r (now (codes .entry)) (now (ev .exit)) (now (rep .exit)) (now (pool .exit))) ≡ walk ask (tokens (now (t .entry))) b (error-prog bump message hint) (view self (now (codes .entry)) (now (ev .entry)) (now (rep .entry)) (now (pool .entry)))) ⌝ }
+        ensures { λ r. ⌜ left (now (t .entry)) r ≤ left (now (t .entry)) self - takes bump ⌝ }
+    {
+        let none = no_label();
+        let reported = self.emit(codes, t, ev, rep, pool, message, hint, none);
+        match bump {
+            Bump::No => reported,
+            Bump::Yes => reported.bump_unless_at_end(t, ev),
+            Bump::YesWrapErr => reported.wrap_unless_at_end(t, ev),
+        }
+    }
+}

@@ -1,0 +1,85 @@
+// `TokenMatcher` of parser/mod.rs, as an enum: which kinds match, what is pushed where they do not, how they are taken.
+// The grammar's own matchers (a name that may be a macro, a unit address, a reference) stand with the grammar.
+use crate::State;
+use crate::event;
+use crate::expected;
+use lexer::kind;
+ghost use mathlib.Core.Path.{_≡_};
+ghost use mathlib.Core.List.{List};
+ghost use Prim.Native.Nat.{ℕ, _≤_, _-_};
+ghost use Rattle.definitions.specs.Token.{Token, one-of, tokens};
+ghost use Rattle.definitions.specs.Skeleton.{Span};
+ghost use Rattle.definitions.specs.Prog.{Rule, yes};
+ghost use Rattle.machine.specs.Machine.{Machine};
+ghost use Rattle.machine.specs.Walk.{Walked, said, walk};
+ghost use Rattle.parser.specs.View.{view, left, matcher-of, kinds-of};
+
+pub const NAME_SET: [u8; 4] = [kind::IDENT, kind::NUMBER, kind::COMMA, kind::MINUS];
+
+pub const LABEL_NAME_SET: [u8; 2] = [kind::IDENT, kind::NUMBER];
+
+pub enum Matcher {
+    Kind(u8),
+    Either(u8, u8),
+    Name,
+    LabelName,
+}
+
+pub fn one_of(set: &[u8], k: u8) -> bool
+    ensures { λ r. ⌜ r ≡ one-of (now (set .entry)) k ⌝ }
+{
+    let mut i: usize = 0;
+    while i < set.len() {
+        let same = set[i] == k;
+        if same {
+            return true;
+        }
+        i += 1;
+    }
+    false
+}
+
+impl Matcher {
+    // Whether a token of kind k matches.
+    pub fn matches(self, k: u8) -> bool
+        ensures { λ r. ⌜ r ≡ one-of (kinds-of self) k ⌝ }
+    {
+        match self {
+            Matcher::Kind(a) => a == k,
+            Matcher::Either(a, b) => {
+                let first = a == k;
+                if first { true } else { b == k }
+            }
+            Matcher::Name => one_of(&NAME_SET, k),
+            Matcher::LabelName => one_of(&LABEL_NAME_SET, k),
+        }
+    }
+
+    pub fn push_expected(self, s: State, codes: &mut [u8; 256]) -> State
+        ensures { λ r. ⌜ ((ask : Rule → Machine → Walked) (ts : List Token) (b : Span) (ev rep pool : List ℕ) → said yes (view r (now (codes .exit)) ev rep pool) ≡ walk ask ts b (matcher-of self .push-expected) (view s (now (codes .entry)) ev rep pool)) ⌝ }
+        ensures { λ r. ⌜ ((tk : List ℕ) → left tk r ≤ left tk s) ⌝ }
+    {
+        match self {
+            Matcher::Kind(a) => s.add_expected(codes, a),
+            Matcher::Either(a, b) => {
+                let q = s.add_expected(codes, a);
+                q.add_expected(codes, b)
+            }
+            Matcher::Name => s.add_expected(codes, kind::NAME),
+            Matcher::LabelName => s.add_expected(codes, expected::LABEL_NAME),
+        }
+    }
+
+    // The matcher has matched.
+    pub fn consume(self, s: State, t: &[u32], ev: &mut [u32]) -> State
+        ensures { λ r. ⌜ ((ask : Rule → Machine → Walked) (b : Span) (codes rep pool : List ℕ) → said yes (view r codes (now (ev .exit)) rep pool) ≡ walk ask (tokens (now (t .entry))) b (matcher-of self .consume) (view s codes (now (ev .entry)) rep pool)) ⌝ }
+        ensures { λ r. ⌜ left (now (t .entry)) r ≤ left (now (t .entry)) s - 1 ⌝ }
+    {
+        match self {
+            Matcher::Kind(_) => s.bump(t, ev),
+            Matcher::Either(_, _) => s.bump(t, ev),
+            Matcher::Name => s.bump_name(t, ev, &NAME_SET),
+            Matcher::LabelName => s.bump_name(t, ev, &LABEL_NAME_SET),
+        }
+    }
+}

@@ -1,0 +1,247 @@
+// source.rs: the token rows and the cursor. A peek moves the cursor past trivia; an immediate one moves nothing.
+use crate::Seen;
+use crate::State;
+use crate::errors::TextRange;
+use crate::matcher::Matcher;
+use crate::matcher::one_of;
+use lexer::ByteOffset;
+use lexer::TokenIndex;
+use lexer::kind;
+ghost use mathlib.Core.Path.{_≡_};
+ghost use mathlib.Core.Bool.{true, false, _||_};
+ghost use mathlib.Core.List.{List, [], _∷_};
+ghost use Prim.Native.Nat.{ℕ, _-_, _/_, _≤_, _<_};
+ghost use lib.ListN.{length, drop};
+ghost use lib.Dec.{eqb};
+ghost use Rattle.definitions.specs.Token.{tokens, first-in, past};
+ghost use Rattle.definitions.specs.Skeleton.{Span};
+ghost use Rattle.definitions.specs.Prog.{Rule, silent-at, at-end};
+ghost use Rattle.definitions.specs.Grammar.{silent-at-macro-invocation-with-args};
+ghost use Rattle.machine.specs.Machine.{Machine, with-cursor, skip, peek as peek-machine, range-at};
+ghost use Rattle.machine.specs.Walk.{Walked, perform, walk};
+ghost use Rattle.parser.specs.View.{view, left, seen-as, kind-of, kinds-of, trivia-first, take-first, span-of};
+
+// What is seen past the last token. Every token is seen as a kind below it.
+pub const END: u8 = 64;
+
+// The kind of a row as a test sees it: an error token is Unrecognized.
+pub fn kind_at(t: &[u32], at: usize) -> u8
+    ensures { λ r. ⌜ r ≡ kind-of (drop at (tokens (now (t .entry)))) ⌝ }
+    ensures { λ r. ⌜ ((r ≡ 64 → ⊥) → at < length (now (t .entry)) / 2) ⌝ }
+{
+    let inside = at < t.len() / 2;
+    if inside {
+        let k = t[at * 2];
+        let plain = k < 64;
+        if plain { k as u8 } else { kind::UNRECOGNIZED }
+    } else {
+        END
+    }
+}
+
+// Whether the row is of kind k.
+pub fn is_at(t: &[u32], at: usize, k: u8) -> bool
+    ensures { λ r. ⌜ r ≡ first-in (k ∷ []) (drop at (tokens (now (t .entry)))) ⌝ }
+    ensures { λ r. ⌜ (r ≡ true → at < length (now (t .entry)) / 2) ⌝ }
+{
+    let inside = at < t.len() / 2;
+    if inside {
+        let here = kind_at(t, at);
+        k == here
+    } else {
+        false
+    }
+}
+
+// Whether the row is of a kind in the set.
+pub fn is_one_of_at(t: &[u32], at: usize, set: &[u8]) -> bool
+    ensures { λ r. ⌜ r ≡ first-in (now (set .entry)) (drop at (tokens (now (t .entry)))) ⌝ }
+    ensures { λ r. ⌜ (r ≡ true → at < length (now (t .entry)) / 2) ⌝ }
+{
+    let inside = at < t.len() / 2;
+    if inside {
+        let here = kind_at(t, at);
+        one_of(set, here)
+    } else {
+        false
+    }
+}
+
+// Whether the matcher matches the row.
+pub fn is_matched_at(t: &[u32], at: usize, m: Matcher) -> bool
+    ensures { λ r. ⌜ r ≡ first-in (kinds-of m) (drop at (tokens (now (t .entry)))) ⌝ }
+    ensures { λ r. ⌜ (r ≡ true → at < length (now (t .entry)) / 2) ⌝ }
+{
+    let inside = at < t.len() / 2;
+    if inside {
+        let here = kind_at(t, at);
+        m.matches(here)
+    } else {
+        false
+    }
+}
+
+// Whether the row after this one is of kind k.
+fn is_next_at(t: &[u32], at: usize, k: u8) -> bool
+    ensures { λ r. ⌜ r ≡ first-in (k ∷ []) (past (drop at (tokens (now (t .entry))))) ⌝ }
+{
+    let inside = at < t.len() / 2;
+    if inside { is_at(t, at + 1, k) } else { false }
+}
+
+// Where the row that starts at this byte ends.
+pub fn end_at(t: &[u32], at: usize, start: u32) -> u32
+    ensures { λ r. ⌜ ((m : Machine) → m .at ≡ start → r ≡ range-at (drop at (tokens (now (t .entry)))) m .to) ⌝ }
+{
+    let inside = at < t.len() / 2;
+    if inside {
+        std::num::wrapping_add_u32(start, t[at * 2 + 1])
+    } else {
+        start
+    }
+}
+
+// `is_trivia` of the row's kind.
+fn is_trivia_at(t: &[u32], at: usize) -> bool
+    ensures { λ r. ⌜ r ≡ trivia-first (drop at (tokens (now (t .entry)))) ⌝ }
+    ensures { λ r. ⌜ (r ≡ true → at < length (now (t .entry)) / 2) ⌝ }
+{
+    let inside = at < t.len() / 2;
+    if inside { is_trivia(t[at * 2]) } else { false }
+}
+
+fn is_trivia(k: u32) -> bool
+    ensures { λ r. ⌜ r ≡ (eqb k 0 || eqb k 3 || eqb k 1) ⌝ }
+{
+    let blank = k == 0;
+    if blank {
+        true
+    } else {
+        let line = k == 3;
+        if line { true } else { k == 1 }
+    }
+}
+
+// A row and its first byte.
+struct Seat {
+    at: usize,
+    byte: u32,
+}
+
+// The first row from here on that is no trivia.
+fn skip_trivia(t: &[u32], from: usize, start: u32) -> Seat
+    ensures { λ r. ⌜ ((m : Machine) → with-cursor (r .at) (r .byte) m ≡ skip (drop from (tokens (now (t .entry)))) (with-cursor from start m)) ⌝ }
+    ensures { λ r. ⌜ from ≤ r .at ⌝ }
+{
+    let mut at = from;
+    let mut byte = start;
+    while is_trivia_at(t, at) {
+        byte = end_at(t, at, byte);
+        at += 1;
+    }
+    Seat { at: at, byte: byte }
+}
+
+impl State {
+    // `skip_trivia`: the cursor comes to stand at a token, or at the end.
+    pub fn peek(self, t: &[u32]) -> State
+        ensures { λ r. ⌜ ((codes ev rep pool : List ℕ) → view r codes ev rep pool ≡ peek-machine (tokens (now (t .entry))) (view self codes ev rep pool)) ⌝ }
+        ensures { λ r. ⌜ left (now (t .entry)) r ≤ left (now (t .entry)) self ⌝ }
+    {
+        let seat = skip_trivia(t, self.cursor.0, self.at.0);
+        let cursor = TokenIndex(seat.at);
+        let start = ByteOffset(seat.byte);
+        let mut q = self;
+        q.cursor = cursor;
+        q.at = start;
+        q
+    }
+
+    pub fn at_end(self, t: &[u32]) -> Seen
+        ensures { λ r. ⌜ ((b : Span) (codes ev rep pool : List ℕ) → seen-as r codes ev rep pool ≡ perform (tokens (now (t .entry))) b at-end (view self codes ev rep pool)) ⌝ }
+        ensures { λ r. ⌜ left (now (t .entry)) (r .s) ≤ left (now (t .entry)) self ⌝ }
+        ensures { λ r. ⌜ (r .yes ≡ false → 0 < left (now (t .entry)) (r .s)) ⌝ }
+        ensures { λ r. ⌜ (r .yes ≡ true → left (now (t .entry)) (r .s) ≡ 0) ⌝ }
+    {
+        let q = self.peek(t);
+        let at = q.cursor.0;
+        let inside = at < t.len() / 2;
+        if inside {
+            Seen { s: q, yes: false }
+        } else {
+            Seen { s: q, yes: true }
+        }
+    }
+
+    // `check(kind).silent().at()`
+    pub fn silent_at(self, t: &[u32], k: u8) -> Seen
+        ensures { λ r. ⌜ ((b : Span) (codes ev rep pool : List ℕ) → seen-as r codes ev rep pool ≡ perform (tokens (now (t .entry))) b (silent-at (k ∷ [])) (view self codes ev rep pool)) ⌝ }
+        ensures { λ r. ⌜ left (now (t .entry)) (r .s) ≤ left (now (t .entry)) self ⌝ }
+        ensures { λ r. ⌜ (r .yes ≡ true → 0 < left (now (t .entry)) (r .s)) ⌝ }
+    {
+        let q = self.peek(t);
+        let yes = is_at(t, q.cursor.0, k);
+        Seen { s: q, yes: yes }
+    }
+
+    // `check(set).silent().at()`
+    pub fn silent_at_set(self, t: &[u32], set: &[u8]) -> Seen
+        ensures { λ r. ⌜ ((b : Span) (codes ev rep pool : List ℕ) → seen-as r codes ev rep pool ≡ perform (tokens (now (t .entry))) b (silent-at (now (set .entry))) (view self codes ev rep pool)) ⌝ }
+        ensures { λ r. ⌜ left (now (t .entry)) (r .s) ≤ left (now (t .entry)) self ⌝ }
+        ensures { λ r. ⌜ (r .yes ≡ true → 0 < left (now (t .entry)) (r .s)) ⌝ }
+    {
+        let q = self.peek(t);
+        let yes = is_one_of_at(t, q.cursor.0, set);
+        Seen { s: q, yes: yes }
+    }
+
+    pub fn silent_at_macro_invocation_with_args(self, t: &[u32]) -> Seen
+        ensures { λ r. ⌜ ((ask : Rule → Machine → Walked) (b : Span) (codes ev rep pool : List ℕ) → seen-as r codes ev rep pool ≡ walk ask (tokens (now (t .entry))) b silent-at-macro-invocation-with-args (view self codes ev rep pool)) ⌝ }
+        ensures { λ r. ⌜ left (now (t .entry)) (r .s) ≤ left (now (t .entry)) self ⌝ }
+        ensures { λ r. ⌜ (r .yes ≡ true → 0 < left (now (t .entry)) (r .s)) ⌝ }
+    {
+        let ident = self.silent_at(t, kind::IDENT);
+        if ident.yes {
+            let q = ident.s;
+            let next = is_next_at(t, q.cursor.0, kind::LPAREN);
+            Seen { s: q, yes: next }
+        } else {
+            let q = ident.s;
+            Seen { s: q, yes: false }
+        }
+    }
+
+    // The range of the row at the cursor.
+    pub fn range(self, t: &[u32]) -> TextRange
+        ensures { λ r. ⌜ ((codes ev rep pool : List ℕ) → span-of r ≡ range-at (drop (self .cursor .0) (tokens (now (t .entry)))) (view self codes ev rep pool)) ⌝ }
+    {
+        let start = self.at;
+        let end = ByteOffset(end_at(t, self.cursor.0, start.0));
+        TextRange {
+            start: start,
+            end: end,
+        }
+    }
+
+    // `next_token`, and the expectations cleared: takes the row at the cursor, whatever it is.
+    pub fn next_token(self, t: &[u32]) -> State
+        ensures { λ r. ⌜ ((codes ev rep pool : List ℕ) → view r codes ev rep pool ≡ take-first (drop (self .cursor .0) (tokens (now (t .entry)))) (view self codes ev rep pool)) ⌝ }
+        ensures { λ r. ⌜ left (now (t .entry)) r ≤ left (now (t .entry)) self - 1 ⌝ }
+    {
+        let at = self.cursor.0;
+        let inside = at < t.len() / 2;
+        if inside {
+            let next = TokenIndex(at + 1);
+            let end = ByteOffset(end_at(t, at, self.at.0));
+            let mut q = self;
+            q.cursor = next;
+            q.at = end;
+            q.mark = next;
+            q.mark_at = end;
+            q.pending = 0;
+            q
+        } else {
+            self
+        }
+    }
+}
