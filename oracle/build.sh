@@ -1,0 +1,23 @@
+#!/bin/sh
+# Builds the oracle: copies the Rust of ../docs/src to its places, once unchanged and once with doc01.patch applied,
+# then `cargo build --release --offline` (about 10 s, no registry needed). The program is target/release/oracle.
+# ast.rs is left out, since it needs crates that are not at hand; crates/parser/src/ast.rs stands in for it.
+set -eu
+cd "$(dirname "$0")"
+src=../docs/src/crates/parser/src
+
+patched=$(mktemp -d)
+trap 'rm -rf "$patched"' EXIT
+cp -R "$src" "$patched/src"
+# git apply must not look for a repository around that folder
+(cd "$patched" && GIT_CEILING_DIRECTORIES="$(dirname "$patched")" git apply "$OLDPWD/doc01.patch")
+
+# A file that is already right keeps its time, so that cargo need not build it again.
+put() { cmp -s "$1" "$2" || { mkdir -p "$(dirname "$2")" && cp "$1" "$2"; }; }
+for file in $(cd "$src" && find . -name '*.rs' ! -name ast.rs); do
+    put "$src/$file" "crates/parser/src/$file"
+    put "$patched/src/$file" "crates/parser_doc01/src/$file"
+done
+
+cargo build --release --offline --quiet
+echo "built $(pwd)/target/release/oracle"

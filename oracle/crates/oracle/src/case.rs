@@ -1,0 +1,129 @@
+//! Cases as lines of text: `ENTRY [caps N,N,N,N,N] (text ESCAPED | toks K[:LEN],.. ESCAPED | file PATH)`.
+
+/// Token rows: kind and length in bytes.
+pub type Rows = Vec<(u32, usize)>;
+
+#[derive(Clone)]
+pub enum Case {
+    /// Text that the lexer reads.
+    Text(String),
+    /// Ready token rows and the bytes they lie over.
+    Toks(Rows, Vec<u8>),
+}
+
+/// Lengths of the lent buffers in numbers: events, tree, lexical errors, reports, pool.
+pub type Caps = [usize; 5];
+
+pub struct Line {
+    pub entry: u32,
+    pub caps: Option<Caps>,
+    pub case: Case,
+}
+
+/// Which of the Rust's lines are written beside errors and reports.
+pub struct Opts {
+    pub toks: bool,
+    pub tree: bool,
+    pub pretty: bool,
+}
+
+pub fn esc(b: &[u8]) -> String {
+    let mut o = String::new();
+    for &c in b {
+        match c {
+            b'\n' => o.push_str("\\n"),
+            b'\t' => o.push_str("\\t"),
+            b'\r' => o.push_str("\\r"),
+            b'\\' => o.push_str("\\\\"),
+            32..=126 => o.push(c as char),
+            _ => o.push_str(&format!("\\x{c:02x}")),
+        }
+    }
+    o
+}
+
+pub fn unesc(s: &str) -> Vec<u8> {
+    let b = s.as_bytes();
+    let (mut o, mut i) = (vec![], 0);
+    while i < b.len() {
+        if b[i] == b'\\' {
+            i += 1;
+            match b[i] {
+                b'n' => o.push(b'\n'),
+                b't' => o.push(b'\t'),
+                b'r' => o.push(b'\r'),
+                b'x' => {
+                    o.push(u8::from_str_radix(&s[i + 1..i + 3], 16).unwrap());
+                    i += 2
+                }
+                c => o.push(c),
+            }
+        } else {
+            o.push(b[i])
+        }
+        i += 1;
+    }
+    o
+}
+
+pub fn case_line(entry: u32, case: &Case) -> String {
+    match case {
+        Case::Text(t) => format!("{entry} text {}", esc(t.as_bytes())),
+        Case::Toks(rows, bytes) => {
+            let row = |(k, n): &(u32, usize)| if *n == 1 { format!("{k}") } else { format!("{k}:{n}") };
+            let rows: Vec<String> = rows.iter().map(row).collect();
+            format!("{entry} toks {} {}", rows.join(","), esc(bytes))
+        }
+    }
+}
+
+pub fn parse_caps(s: &str) -> Caps {
+    let mut caps = [usize::MAX; 5];
+    for (c, x) in caps.iter_mut().zip(s.split(',')) {
+        *c = x.parse().unwrap_or(usize::MAX)
+    }
+    caps
+}
+
+fn parse_rows(s: &str) -> Rows {
+    let row = |x: &str| match x.split_once(':') {
+        Some((k, n)) => (k.parse().unwrap(), n.parse().unwrap()),
+        None => (x.parse().unwrap(), 1),
+    };
+    s.split(',').filter(|x| !x.is_empty()).map(row).collect()
+}
+
+fn word(s: &str) -> (&str, &str) {
+    s.split_once(' ').unwrap_or((s, ""))
+}
+
+/// Reads a line; the entry stands in front unless it is given. None for an empty line and for a remark (`%`).
+pub fn parse_line(line: &str, entry: Option<u32>) -> Option<Line> {
+    if line.is_empty() || line.starts_with('%') {
+        return None;
+    }
+    let (entry, mut rest) = match entry {
+        Some(e) => (e, line),
+        None => {
+            let (e, rest) = word(line);
+            (e.parse().expect("a case starts with its entry"), rest)
+        }
+    };
+    let mut caps = None;
+    if let Some(r) = rest.strip_prefix("caps ") {
+        let (c, r) = word(r);
+        caps = Some(parse_caps(c));
+        rest = r;
+    }
+    let (what, rest) = word(rest);
+    let case = match what {
+        "text" => Case::Text(String::from_utf8(unesc(rest)).expect("text must be UTF-8")),
+        "file" => Case::Text(std::fs::read_to_string(rest).unwrap()),
+        "toks" => {
+            let (rows, bytes) = word(rest);
+            Case::Toks(parse_rows(rows), unesc(bytes))
+        }
+        _ => panic!("text, toks or file: {line}"),
+    };
+    Some(Line { entry, caps, case })
+}

@@ -1,0 +1,147 @@
+//! Random cases. Hand-written; of the repository it uses the kinds' names and the lexer.
+use crate::Out;
+use crate::case::{Case, case_line};
+use dt_tools_parser::lexer::TokenKind;
+use std::io::Write;
+
+mod big;
+mod damage;
+mod grammar;
+mod samples;
+pub use big::big;
+pub use samples::{SAMPLES, SNIPPETS};
+
+/// The splitmix64 generator.
+pub struct Rng(u64);
+
+impl Rng {
+    pub fn new(seed: u64) -> Self {
+        Rng(seed.wrapping_mul(0x9E3779B97F4A7C15) ^ 0xD1B54A32D192ED03)
+    }
+    fn next(&mut self) -> u64 {
+        self.0 = self.0.wrapping_add(0x9E3779B97F4A7C15);
+        let mut z = self.0;
+        z = (z ^ (z >> 30)).wrapping_mul(0xBF58476D1CE4E5B9);
+        z = (z ^ (z >> 27)).wrapping_mul(0x94D049BB133111EB);
+        z ^ (z >> 31)
+    }
+    /// A number below `k`.
+    fn n(&mut self, k: usize) -> usize {
+        (self.next() % k.max(1) as u64) as usize
+    }
+    /// True in `pct` of a hundred draws.
+    fn p(&mut self, pct: usize) -> bool {
+        self.n(100) < pct
+    }
+    fn pick<T: Copy>(&mut self, v: &[T]) -> T {
+        v[self.n(v.len())]
+    }
+}
+
+/// Tokens with their texts.
+type Toks = Vec<(u32, String)>;
+
+fn sample(r: &mut Rng) -> (u32, String) {
+    let (kind, text) = r.pick(SAMPLES);
+    (kind, text.to_string())
+}
+
+fn text(t: &Toks) -> String {
+    t.iter().map(|x| x.1.as_str()).collect()
+}
+
+fn toks(t: &Toks) -> Case {
+    Case::Toks(t.iter().map(|x| (x.0, x.1.len())).collect(), text(t).into_bytes())
+}
+
+/// What the grammar would give, with up to `most` damages.
+fn damaged(r: &mut Rng, entry: u32, most: usize) -> Toks {
+    let mut t = grammar::tokens(r, entry);
+    let times = 1 + r.n(most);
+    damage::tokens(r, &mut t, times);
+    t
+}
+
+/// Tokens from a small random alphabet, as text or as rows.
+fn soup(r: &mut Rng) -> Case {
+    let alphabet: Toks = (0..2 + r.n(6)).map(|_| sample(r)).collect();
+    let t: Toks = (0..r.n(24)).map(|_| alphabet[r.n(alphabet.len())].clone()).collect();
+    if r.p(50) { toks(&t) } else { Case::Text(text(&t)) }
+}
+
+/// Rows that no lexer gives: any kind with any length, error kinds 64 to 74, runs of trivia. Fixed texts stay right.
+fn unlexable(r: &mut Rng) -> Case {
+    let (mut rows, mut bytes) = (vec![], vec![]);
+    for _ in 0..r.n(16) {
+        let (kind, text) = r.pick(&SAMPLES[..SAMPLES.len() - 1]);
+        if r.p(25) {
+            let n = 1 + r.n(4);
+            rows.push((64 + r.n(11) as u32, n));
+            bytes.extend((0..n).map(|_| r.pick(b"?x ;")))
+        } else if orig_kind(kind).static_text().is_some() {
+            rows.push((kind, text.len()));
+            bytes.extend_from_slice(text.as_bytes())
+        } else {
+            let n = 1 + r.n(5);
+            rows.push((kind, n));
+            bytes.extend((0..n).map(|_| r.pick(b"a1 ;\n")))
+        }
+    }
+    Case::Toks(rows, bytes)
+}
+
+fn orig_kind(k: u32) -> TokenKind {
+    crate::orig::kind(k).expect("a kind below 64")
+}
+
+/// A value of some property of a realistic file, for the small entries.
+fn fragment(r: &mut Rng, file: &str, entry: u32) -> Vec<u8> {
+    let value = |l| str::split_once(l, '=').map(|x| x.1.trim());
+    let values: Vec<&str> = file.split([';', '\n']).filter_map(value).collect();
+    let mut s = if values.is_empty() {
+        b"<1 2>, \"x\"".to_vec()
+    } else {
+        r.pick(&values).as_bytes().to_vec()
+    };
+    if entry == 4 {
+        s.retain(|c| !b"<>".contains(c))
+    }
+    s
+}
+
+/// A damaged realistic text.
+fn realistic(r: &mut Rng, entry: u32) -> Case {
+    let file = r.pick(SNIPPETS);
+    let mut s = if entry != 1 && r.p(70) {
+        fragment(r, file, entry)
+    } else {
+        file.as_bytes().to_vec()
+    };
+    for _ in 0..r.n(5) {
+        damage::bytes(r, &mut s)
+    }
+    Case::Text(String::from_utf8(s).unwrap())
+}
+
+/// One random case, for one entry or for any.
+pub fn one(r: &mut Rng, only: Option<u32>) -> (u32, Case) {
+    let entry = only.unwrap_or_else(|| r.pick(&[1, 1, 1, 2, 3, 3, 4, 4]));
+    let case = match r.n(20) {
+        0..4 => Case::Text(text(&grammar::tokens(r, entry))),
+        4..10 => Case::Text(text(&damaged(r, entry, 4))),
+        10..12 => toks(&damaged(r, entry, 6)),
+        12..16 => soup(r),
+        16 => unlexable(r),
+        _ => realistic(r, entry),
+    };
+    (entry, case)
+}
+
+/// oracle gen SEED COUNT [ENTRY]
+pub fn run(seed: u64, count: usize, only: Option<u32>, out: &mut Out) {
+    let mut r = Rng::new(seed);
+    for _ in 0..count {
+        let (entry, case) = one(&mut r, only);
+        writeln!(out, "{}", case_line(entry, &case)).unwrap()
+    }
+}

@@ -1,0 +1,16 @@
+//! Hand-written stand-in for ast.rs, with only what parser/mod.rs names (`Parse::source_file`).
+//! The real one needs crates that are not at hand, and no parse goes through it.
+use crate::cst::{NodeKind, RedNode};
+use std::sync::Arc;
+
+pub trait AstNode: Sized {
+    fn cast(syntax: Arc<RedNode>) -> Option<Self>;
+}
+
+pub struct SourceFile(pub Arc<RedNode>);
+
+impl AstNode for SourceFile {
+    fn cast(syntax: Arc<RedNode>) -> Option<Self> {
+        (syntax.green.kind == NodeKind::SourceFile).then_some(SourceFile(syntax))
+    }
+}

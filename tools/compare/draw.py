@@ -1,0 +1,251 @@
+"""Random cases from a seed."""
+import random
+
+from compare.case import ROW, Case, Row, rows_of
+from compare.oracle import NO_TREE
+from compare.tables import BAD_ENTRIES, BAD_KINDS, CONDITIONAL_HEADS, CONDITIONALS, ENTRIES, HEADS, LEVELS, PIECES, PREFIX
+from compare.tables import STATEMENTS, STOPS, TAILS, TRIVIA, UNITS
+
+MOST_DEEP_ROWS = 160
+
+
+class Drawer:
+    def __init__(self, oracle, seed):
+        self.oracle, self.seed, self.random = oracle, seed, random.Random(seed)
+        self.kinds = [n for n in oracle.kinds.values() if n not in (25, 26)]
+
+    # ------------------------------------------------------------ token lists
+
+    def text(self, kind):
+        """The kind's fixed text, or any bytes."""
+        fixed = self.oracle.texts.get(kind)
+        if fixed:
+            return fixed
+        return bytes(self.random.choice(b"a1 ;\n{x\xff\x00") for _ in range(self.random.randint(1, 4)))
+
+    def tokens(self, kinds):
+        return rows_of((k, self.text(k)) for k in kinds)
+
+    def named(self, names):
+        return [self.oracle.kinds[n] for n in names.split()]
+
+    def pieces(self, length):
+        """Pieces, now and then any kind, trivia or a lexical error."""
+        out, r = [], self.random
+        while len(out) < length:
+            if r.random() < 0.12:
+                out.append(r.choice(self.kinds))
+            else:
+                out += self.named(" ".join(r.choice(PIECES)))
+            if r.random() < 0.2:
+                out.append(self.oracle.kinds[r.choice(TRIVIA)])
+            if r.random() < 0.04:
+                out.append(r.randint(64, 74))
+        return self.tokens(out[: length + 2])
+
+    def statements(self):
+        """One or two statements with up to two damages, often with trivia between tokens."""
+        r, entry = self.random, self.random.choice(ENTRIES)
+        kinds = self.named(" ".join(sum((r.choice(STATEMENTS[entry]) for _ in range(r.choice((1, 1, 2)))), [])))
+        for _ in range(r.choice((0, 0, 1, 1, 2))):
+            i, how = r.randrange(len(kinds)), r.randrange(4)
+            other = r.choice(self.kinds + [64, 74]) if r.random() < 0.4 else self.oracle.kinds[r.choice(STOPS)]
+            if how == 0:
+                kinds = kinds[:i] + kinds[i + 1 :] or kinds
+            elif how == 1:
+                kinds.insert(i, other)
+            elif how == 2:
+                kinds[i] = other
+            else:
+                kinds = kinds[: i + 1]
+        blanks = r.choice((0, 0.1, 0.3))
+        kinds = [x for k in kinds for x in ([0, k] if r.random() < blanks else [k])]
+        return Case(entry, self.tokens(kinds))
+
+    def soup(self, length):
+        """Kinds from a small alphabet, or from all, lexical errors among them."""
+        every = self.kinds + list(range(64, 75))
+        if self.random.random() < 0.7:
+            every = [self.random.choice(every) for _ in range(self.random.randint(2, 6))]
+        return self.tokens(self.random.choice(every) for _ in range(length))
+
+    def operand(self):
+        r = self.random.random()
+        if r < 0.7:
+            return ["Number"]
+        return self.random.choice((["Char"], ["Ident"], ["Ident", "LParen", "Number", "RParen"], ["Ident", "LParen", "RParen"]))
+
+    def expression(self, depth, infix):
+        """Kinds of an expression over some infix operators."""
+        r = self.random.randrange(10) if depth else 9
+        inner = lambda: self.expression(depth - 1, infix)
+        if r < 5:
+            return inner() + [self.random.choice(infix)] + inner()
+        if r < 7:
+            return [self.random.choice(PREFIX)] + inner()
+        if r == 7:
+            return inner() + ["QuestionMark"] + inner() + ["Colon"] + inner()
+        if r == 8:
+            return ["LParen"] + inner() + ["RParen"]
+        return self.operand()
+
+    def operators(self):
+        """Those of two levels, mostly neighbours, so that operators often meet that bind alike or nearly."""
+        i, j = self.random.sample(range(len(LEVELS)), 2)
+        if self.random.random() < 0.7:
+            j = max(i - 1, 0)
+        return LEVELS[i] + LEVELS[j]
+
+    def expressions(self, count):
+        """Expressions in cells, one in three damaged, for the entries that have cells."""
+        out, r = [], self.random
+        while len(out) < count:
+            names = ["LParen"] + self.expression(r.randint(1, 3), self.operators()) + ["RParen"]
+            if not 6 < len(names) <= 14 and r.random() < 0.9:
+                continue
+            entry, front, back = r.choice(((4, "", ""), (4, "", ""), (3, "LAngle", "RAngle"), (1, "Ident Equals LAngle", "RAngle Semicolon")))
+            kinds = self.named(" ".join([front] + names + [back]))
+            if r.random() < 0.35:
+                kinds[r.randrange(len(kinds))] = r.choice(self.kinds)
+            if r.random() < 0.3:
+                kinds.insert(r.randrange(len(kinds)), 0)
+            out.append(Case(entry, self.tokens(kinds)))
+        return out
+
+    def generated(self, count, least, most):
+        """Lists of the oracle's own generator (grammar-like text, damaged text, soup), of a length within the limits."""
+        out, seed = [], self.seed
+        while len(out) < count:
+            lines = self.oracle.run(["totoks"], self.oracle.run(["gen", str(seed), "4000"])).splitlines()
+            cases = [read_line(line) for line in lines]
+            out += [c for c in cases if least <= len(c.rows) <= most]
+            seed += 1000003
+        return out[:count]
+
+    # ------------------------------------------------------------ near the limits
+
+    def family(self):
+        """The lists head unit*k tail of an entry, for k from 1 on."""
+        r = self.random
+        entry, head, tail = r.choice(ENTRIES), r.choice(HEADS), r.choice(TAILS)
+        unit = " ".join(r.choice(UNITS) for _ in range(r.choice((1, 1, 1, 2))))
+        if r.random() < 0.4:
+            (entry, head), unit = r.choice(CONDITIONAL_HEADS), r.choice(CONDITIONALS)
+        blank = [0] if r.random() < 0.2 else []
+        kinds = lambda k: self.named(head) + (self.named(unit) + blank) * k + self.named(tail)
+        return [Case(entry, self.tokens(kinds(k))) for k in range(1, 67)]
+
+    def deep(self, count):
+        """Around the first k at which a family is refused by a limit: the last that is not, that one, and one beyond.
+        Long lists are left out: the checker takes ten seconds for one of 250 rows."""
+        out = []
+        while len(out) < count:
+            lists = self.family()
+            said = self.oracle.ask(lists, NO_TREE)
+            at = next((i for i, p in enumerate(said) if p.number == 5), None)
+            if at is not None and len(lists[at].rows) <= MOST_DEEP_ROWS:
+                out += lists[max(at - 1, 0) : at + 2]
+        return out[:count]
+
+    # ------------------------------------------------------------ bad input: causes 1 to 4
+
+    def spoil(self, case):
+        """One thing wrong, now and then two."""
+        for _ in range(self.random.choice((1, 1, 1, 2))):
+            case = self.spoil_once(case)
+        return case
+
+    def spoil_once(self, case):
+        r, rows = self.random, list(case.rows)
+        i = r.randrange(len(rows)) if rows else 0
+        what = r.randrange(8 if rows else 3)
+        if what == 0:
+            return case._replace(entry=r.choice(BAD_ENTRIES))
+        if what == 1:
+            return case._replace(odd=r.choice((0, 27, 25, 99)))
+        if what == 2:
+            return case._replace(extra=case.extra + self.text(27))
+        row = rows[i]
+        if what == 3:
+            row = row._replace(kind=r.choice(BAD_KINDS))
+        elif what == 4:
+            row = row._replace(length=0)
+        elif what == 5:
+            row = row._replace(length=row.length + r.choice((1, 2, 100, 4294967295)))
+        elif what == 6 and row.text:
+            row = row._replace(text=row.text[:-1])
+        else:
+            row = self.wrong_text(row)
+        rows[i] = row
+        return case._replace(rows=tuple(rows))
+
+    def wrong_text(self, row):
+        """A kind with a fixed text over other bytes: one byte changed, or too short, or too long."""
+        kind = self.random.choice(list(self.oracle.texts))
+        text = bytearray(self.oracle.texts[kind])
+        how = self.random.randrange(3)
+        if how == 0:
+            text[self.random.randrange(len(text))] ^= 1
+        elif how == 1 and len(text) > 1:
+            text.pop()
+        else:
+            text += b"/"
+        return Row(kind, len(text), bytes(text))
+
+    # ------------------------------------------------------------ buffer lengths
+
+    def lengths(self, needs):
+        """Lengths that suffice, just suffice, or are short by a number, a row or more; not always whole rows."""
+        r = self.random
+        if r.random() < 0.5:
+            return tuple(n + r.randint(0, 12) for n in needs)
+        lengths = [n + r.choice((0, 0, 0, 1, 2, 5)) for n in needs]
+        full = [b for b in range(5) if needs[b]]
+        for b in r.sample(full, min(len(full), r.choice((0, 0, 1, 1, 1, 2)))):
+            n = needs[b]
+            lengths[b] = r.choice((n - 1, n - 1, max(n - ROW[b], 0), n - n % ROW[b] - 1, r.randrange(n), 0))
+        return tuple(max(n, 0) for n in lengths)
+
+    def lend(self, cases):
+        """The cases with buffers, by what each needs."""
+        out = []
+        for case, parsed in zip(cases, self.oracle.ask(cases)):
+            out.append(case._replace(lengths=self.lengths(parsed.needs())))
+        return out
+
+    # ------------------------------------------------------------ all
+
+    def cases(self, count):
+        """That many: short lists mostly, some long, some near the limits, one in eight with bad input."""
+        r = self.random
+        part = lambda percent: count * percent // 100
+        lists = self.generated(part(22), 0, 22) + self.generated(part(2), 30, 110) + self.deep(part(2))
+        lists += self.expressions(part(16)) + [self.statements() for _ in range(part(24))]
+        lists += [Case(r.choice(ENTRIES), self.pieces(r.randint(1, 14))) for _ in range(part(12))]
+        bad = [Case(r.choice(ENTRIES), self.pieces(r.randint(0, 6))) for _ in range(part(12))]
+        bad = [self.spoil(c)._replace(lengths=tuple(r.randint(0, 9) for _ in range(5))) for c in bad]
+        largest = self.largest()
+        rest = count - len(lists) - len(bad) - len(largest)
+        lists += [Case(r.choice(ENTRIES), self.soup(r.randint(0, 10))) for _ in range(rest)]
+        cases = self.lend(lists) + [self.lend_spoilt(c) for c in bad]
+        r.shuffle(cases)
+        return largest + cases
+
+    def lend_spoilt(self, case):
+        """Two wrongs can make a right; such a case is lent what it needs."""
+        return case if self.oracle.refused_early(case) else self.lend([case])[0]
+
+    def largest(self):
+        """Cause 2 by its count of token numbers, and the largest count that is not refused by it (but by row 0)."""
+        return [Case(1, (Row(0, 0, b""),) * 65536, odd=0), Case(1, (Row(0, 0, b""),) * 65536)]
+
+
+def read_line(line):
+    """A toks line of the oracle."""
+    entry, _, rows, *text = line.split(" ", 3)
+    data = (text[0] if text else "").encode().decode("unicode_escape").encode("latin-1")
+    out, at = [], 0
+    for kind, length in ((x + ":1").split(":")[:2] for x in rows.split(",") if x):
+        out.append(Row(int(kind), int(length), data[at : at + int(length)]))
+        at += int(length)
+    return Case(int(entry), tuple(out))
