@@ -10,7 +10,7 @@ use lib.Seq.{drop-cons, drop-drop}
 use borrow.Author.Tests.{ltb-true, ltb-false, leb-true, leb-false, eqb-true, eqb-false, eq-eqb, ne-eqb, le-leb}
 use Rattle.definitions.specs.Token.{Token, tokens}
 use Rattle.definitions.specs.StaticText.{static-texts, fits-text}
-use Rattle.definitions.specs.Refusal.{Refusal, bad-row, bad-text, Verdict, accepted, refused, unless, is-kind, check-rows, check-texts}
+use Rattle.definitions.specs.Refusal.{Refusal, bad-row, bad-text, Verdict, accepted, refused, unless, is-kind, too-long, check-sizes, check-rows, check-texts}
 use Rattle.lexer.specs.Checks.{is-row, is-text}
 
 pub ruleset flags = (arith, ltb-true, ltb-false, leb-true, leb-false, eqb-true)
@@ -166,3 +166,13 @@ texts-start tk bs h = let s : length bs - 0 ≡ length bs = omega arith in (ap (
 -- a part's length
 pub part-text : (bs : List ℕ) (at k n : ℕ) → fits-text static-texts k (take (at + n - at) (drop at bs)) ≡ fits-text static-texts k (take n (drop at bs))
 part-text bs at k n = let s : at + n - at ≡ n = omega arith in ap (λ (m : ℕ). fits-text static-texts k (take m (drop at bs))) s
+
+-- ---------------------------------------------------------------- cause 2 at its limits
+
+pub bytes-at-the-limit : (bs tk : List ℕ) → length bs ≡ 1048576 → length tk ≤ 131072 → check-sizes bs tk ≡ accepted
+unfolding check-sizes
+bytes-at-the-limit bs tk e h = rw (e, le-leb (length tk) 131072 h)
+
+pub bytes-over-the-limit : (bs tk : List ℕ) → length bs ≡ 1048577 → check-sizes bs tk ≡ refused too-long
+unfolding check-sizes
+bytes-over-the-limit bs tk e = rw (e)
