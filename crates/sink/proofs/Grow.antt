@@ -1,0 +1,137 @@
+-- A sink whose buffer is filled up to a place, and what writing a forest's rows makes of it.
+use native.Mathlib.Omega.{arith}
+use native.Mathlib.Nat.{mod-eq-of-lt}
+use Prim.Native.Nat.{ℕ, _+_, _*_, _≤_, _<_}
+use mathlib.Core.List.{List, [], _++_, append-assoc, append-nil}
+use mathlib.Core.Path.{_≡_, refl, sym, _∙_, ap}
+use lib.ListN.{length, getD, drop, length-append, length-drop}
+use lib.Seq.{sets-eq, take-at, drop-at, drop-drop, getD-append-add}
+use borrow.Author.Tests.{le-leb}
+use Rattle.definitions.specs.Call.{TREE-ROW}
+use Rattle.definitions.specs.Token.{Token, bytes}
+use Rattle.definitions.specs.Place.{Tree, nil, leaf, _⊕_, width, count, rows, tree-row}
+use Rattle.laws.proofs.Tree.{rows-beside, width-beside, count-beside}
+use Rattle.sink.specs.Machine.{low, put, number, On, on, moved, leaf-on}
+use Rattle.sink.proofs.Trees.{raw, size, raw-beside, size-beside, rows-length, rows-add}
+
+-- written: the numbers written. free: the rest of the buffer. The other fields are the sink's.
+pub record Filled : Type 0 where
+  pub written : List ℕ
+  pub free : List ℕ
+  pub cursor : ℕ
+  pub byte : ℕ
+  pub rows : ℕ
+  pub node : ℕ
+  pub children : ℕ
+
+unfoldable pub state : Filled → On
+state s = on (record { cursor = s .cursor; byte = s .byte; rows = s .rows; node = s .node; children = s .children }) (s .written ++ s .free)
+
+-- with a forest's rows behind what is written
+unfoldable pub grow : Tree → Filled → Filled
+grow f s =
+    record {
+      written = s .written ++ rows f;
+      free = drop (length (rows f)) (s .free);
+      cursor = s .cursor + raw f;
+      byte = s .byte + width f;
+      rows = s .rows + size f;
+      node = s .node;
+      children = s .children + count f;
+    }
+
+pub grow-grow : (f g : Tree) (s : Filled) → grow g (grow f s) ≡ grow (f ⊕ g) s
+unfolding grow
+grow-grow f g s =
+    let p : s .cursor + raw f + raw g ≡ s .cursor + raw (f ⊕ g) = omega (arith, raw-beside f g) in
+    let q : s .byte + width f + width g ≡ s .byte + width (f ⊕ g) = omega (arith, width-beside f g) in
+    let n : s .rows + size f + size g ≡ s .rows + size (f ⊕ g) = omega (arith, size-beside f g) in
+    let r : s .children + count f + count g ≡ s .children + count (f ⊕ g) = omega (arith, count-beside f g) in
+    rw (
+      p,
+      q,
+      n,
+      r,
+      drop-drop (length (rows g)) (length (rows f)) (s .free),
+      append-assoc (s .written) (rows f) (rows g),
+      ← (length-append (rows f) (rows g)),
+      ← (rows-beside f g),
+    )
+
+pub grow-nil : (s : Filled) → grow nil s ≡ s
+unfolding grow rows width count raw size
+grow-nil s =
+    let p : s .cursor + 0 ≡ s .cursor = omega arith in
+    let q : s .byte + 0 ≡ s .byte = omega arith in
+    let n : s .rows + 0 ≡ s .rows = omega arith in
+    let r : s .children + 0 ≡ s .children = omega arith in
+    rw (p, q, n, r, append-nil (s .written))
+
+-- A forest fits, and no number in it is too large. What is written are whole rows.
+pub record Room (f : Tree) (s : Filled) : Type 0 where
+  pub free : length (rows f) ≤ length (s .free)
+  pub whole : length (s .written) ≡ s .rows * TREE-ROW
+  pub byte : s .byte + width f < 4294967296
+  pub rows : s .rows + size f < 4294967296
+  pub children : s .children + count f < 4294967296
+
+pub room-front : (f g : Tree) (s : Filled) → Room (f ⊕ g) s → Room f s
+room-front f g s r =
+    record {
+      free = omega (arith, r .free, rows-add f g);
+      whole = r .whole;
+      byte = omega (arith, r .byte, width-beside f g);
+      rows = omega (arith, r .rows, size-beside f g);
+      children = omega (arith, r .children, count-beside f g);
+    }
+
+pub room-back : (f g : Tree) (s : Filled) → Room (f ⊕ g) s → Room g (grow f s)
+unfolding grow
+room-back f g s r =
+    record {
+      free = omega (arith, r .free, rows-add f g, length-drop (length (rows f)) (s .free));
+      whole = omega (arith, r .whole, rows-length f, length-append (s .written) (rows f));
+      byte = omega (arith, r .byte, width-beside f g);
+      rows = omega (arith, r .rows, size-beside f g);
+      children = omega (arith, r .children, count-beside f g);
+    }
+
+-- ---------------------------------------------------------------- a row at the seam
+
+pub low-small : (x : ℕ) → x < 4294967296 → low x ≡ x
+unfolding low
+low-small x h = mod-eq-of-lt h
+
+pub put-seam : (row : ℕ) (t r x : List ℕ) → length t ≡ row * TREE-ROW → length r ≡ TREE-ROW → TREE-ROW ≤ length x → put row r (t ++ x) ≡ t ++ (r ++ drop TREE-ROW x)
+unfolding put
+put-seam row t r x e n h =
+    let at = row * TREE-ROW in
+    let fits : at + TREE-ROW ≤ length (t ++ x) = omega (arith, length-append t x) in
+    let rest : drop (at + TREE-ROW) (t ++ x) ≡ drop TREE-ROW x = sym (drop-drop TREE-ROW at (t ++ x)) ∙ ap (λ l. drop TREE-ROW l) (drop-at t x at e) in
+    rw (le-leb (at + TREE-ROW) (length (t ++ x)) fits)
+    (sets-eq r (t ++ x) at (rw n fits) ∙ rw (n, rest, take-at t x at e, append-assoc t r (drop TREE-ROW x)))
+
+pub number-seam : (row j : ℕ) (t x : List ℕ) → length t ≡ row * TREE-ROW → number row j (t ++ x) ≡ getD x j 0
+unfolding number
+number-seam row j t x e = rw (← e) (getD-append-add t x j 0)
+
+-- ---------------------------------------------------------------- a leaf
+
+module _ (k : ℕ) (ts : List Token) (n w : ℕ) (hn : length ts ≡ n) (hw : bytes ts ≡ w) (s : Filled) (r : Room (leaf k ts nil) s) where
+  pub leaf-runs : leaf-on k w n (moved (s .cursor + n) (state s)) ≡ state (grow (leaf k ts nil) s)
+  unfolding rows width count raw size grow state leaf-on
+  leaf-runs =
+      let b : low (s .byte + w) ≡ s .byte + (bytes ts + 0) = low-small (s .byte + w) (omega (arith, r .byte)) ∙ (let z : s .byte + w ≡ s .byte + (bytes ts + 0) = omega arith in z) in
+      let m : low (s .rows + 1) ≡ s .rows + 1 = low-small (s .rows + 1) (omega (arith, r .rows)) in
+      let c : low (s .children + 1) ≡ s .children + 1 = low-small (s .children + 1) (omega (arith, r .children)) in
+      let a : s .cursor + n ≡ s .cursor + (length ts + 0) = omega arith in
+      rw (
+        put-seam (s .rows) (s .written) (tree-row 1 k w n []) (s .free) (r .whole) refl (r .free),
+        b,
+        m,
+        c,
+        a,
+        ← hn,
+        ← hw,
+        append-assoc (s .written) (tree-row 1 k (bytes ts) (length ts) []) (drop TREE-ROW (s .free)),
+      )

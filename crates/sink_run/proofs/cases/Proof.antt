@@ -1,0 +1,59 @@
+-- `cases`: the place of the next line is at most one past the end.
+use Prim.Native.Nat.{_+_, _-_, _≤_}
+use lib.ListN.{length}
+use native.Mathlib.Omega.{arith}
+use Rattle.sink_run.proofs.cases.Statement.{statement}
+use Rattle.sink_run.proofs.cases.Tie as tie
+
+abbrev Inv-loop : tie.InvT-loop
+Inv-loop text at₀ at = at ≤ length text + 1
+
+abbrev μ-loop : tie.MeasureT-loop
+μ-loop text at₀ at = length text + 1 - at
+
+loop-holds : tie.Need-loop-holds Inv-loop μ-loop
+loop-holds c = omega arith
+
+find-requires : tie.Need-find-requires Inv-loop μ-loop
+find-requires c κs = omega arith
+
+sub-case : tie.Need-sub-case Inv-loop μ-loop
+sub-case c = omega arith
+
+part-case-start : tie.Need-part-case-start Inv-loop μ-loop
+part-case-start c = omega arith
+
+part-case-end : tie.Need-part-case-end Inv-loop μ-loop
+part-case-end c = omega arith
+
+case-requires : tie.Need-case-requires Inv-loop μ-loop
+case-requires c κs = tt
+
+add-at : tie.Need-add-at Inv-loop μ-loop
+add-at c = omega arith
+
+loop-less : tie.Need-loop-less Inv-loop μ-loop
+loop-less c = omega arith
+
+loop-again : tie.Need-loop-again Inv-loop μ-loop
+loop-again c = omega arith
+
+returns : tie.Need-returns Inv-loop μ-loop
+returns c = tt
+
+pub cases-spec : {M : Type 1} → statement M
+cases-spec =
+    tie.close
+    (tie.spec
+    Inv-loop
+    μ-loop
+    loop-holds
+    find-requires
+    sub-case
+    part-case-start
+    part-case-end
+    case-requires
+    add-at
+    loop-less
+    loop-again
+    returns)
