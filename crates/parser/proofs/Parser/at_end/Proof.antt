@@ -11,7 +11,20 @@ with-requires : tie.Need-with-requires
 with-requires c κs = tt
 
 returns : tie.Need-returns
-returns c = (λ b ev rep pool. with-said _ _ _ ev rep pool _ _ (c .with .ensures) (c .before .at-end .ensures .0 b (c .before .before .before .args .self .codes) ev rep pool), (omega (flags, with-left _ _ _ (c .before .before .before .args .t .now) (c .with .ensures), c .before .at-end .ensures .1 .0), (λ e. omega (flags, with-left _ _ _ (c .before .before .before .args .t .now) (c .with .ensures), c .before .at-end .ensures .1 .1 .0 e), λ e. omega (flags, with-left _ _ _ (c .before .before .before .args .t .now) (c .with .ensures), c .before .at-end .ensures .1 .1 .1 e))))
+returns c =
+    let args = c .before .before .before .args in
+    let tk = args .t .now in
+    let at-end = c .before .at-end in
+    let kept = c .with in (
+      λ b ev rep pool. with-said _ _ _ ev rep pool _ _ (kept .ensures) (at-end .ensures .0 b (args .self .codes) ev rep pool),
+      (
+        omega (flags, with-left _ _ _ tk (kept .ensures), at-end .ensures .1 .0),
+        (
+          λ e. omega (flags, with-left _ _ _ tk (kept .ensures), at-end .ensures .1 .1 .0 e),
+          λ e. omega (flags, with-left _ _ _ tk (kept .ensures), at-end .ensures .1 .1 .1 e),
+        ),
+      ),
+    )
 
 pub at-end-spec : {M : Type 1} → statement M
 at-end-spec = tie.close (tie.spec at-end-requires with-requires returns)

@@ -15,7 +15,14 @@ same-length : tie.Need-same-length
 same-length c = search needs
 
 returns : tie.Need-returns
-returns c = (λ b rep pool. with-said _ _ _ _ rep pool _ _ (c .with .ensures) (c .before .before .before .bump .ensures .0 b (c .before .before .before .before .before .before .before .args .self .codes) rep pool), omega (flags, with-left _ _ _ (c .before .before .before .before .before .before .before .args .t .now) (c .with .ensures), c .before .before .before .bump .ensures .1))
+returns c =
+    let args = c .before .before .before .before .before .before .before .args in
+    let tk = args .t .now in
+    let bump = c .before .before .before .bump in
+    let kept = c .with in (
+      λ b rep pool. with-said _ _ _ _ rep pool _ _ (kept .ensures) (bump .ensures .0 b (args .self .codes) rep pool),
+      omega (flags, with-left _ _ _ tk (kept .ensures), bump .ensures .1),
+    )
 
 pub bump-spec : {M : Type 1} → statement M
 bump-spec = tie.close (tie.spec bump-requires with-requires same-length returns)

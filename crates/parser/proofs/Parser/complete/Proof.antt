@@ -15,7 +15,13 @@ same-length : tie.Need-same-length
 same-length c = search needs
 
 returns : tie.Need-returns
-returns c = (λ rep pool. with-view _ _ _ _ rep pool _ (c .with .ensures) (c .before .before .before .complete .ensures .0 (c .before .before .before .before .before .before .args .self .codes) rep pool), λ tk. omega (flags, with-left _ _ _ tk (c .with .ensures), c .before .before .before .complete .ensures .1 tk))
+returns c =
+    let args = c .before .before .before .before .before .before .args in
+    let complete = c .before .before .before .complete in
+    let kept = c .with in (
+      λ rep pool. with-view _ _ _ _ rep pool _ (kept .ensures) (complete .ensures .0 (args .self .codes) rep pool),
+      λ tk. omega (flags, with-left _ _ _ tk (kept .ensures), complete .ensures .1 tk),
+    )
 
 pub complete-spec : {M : Type 1} → statement M
 complete-spec = tie.close (tie.spec complete-requires with-requires same-length returns)

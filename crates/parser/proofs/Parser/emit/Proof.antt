@@ -21,7 +21,14 @@ same-length-3 : tie.Need-same-length-3
 same-length-3 c = search needs
 
 returns : tie.Need-returns
-returns c = (with-view _ _ _ _ _ _ _ (c .with .ensures) (c .before .before .before .before .before .before .before .emit .ensures .0), omega (flags, with-left _ _ _ (c .before .before .before .before .before .before .before .before .before .before .before .before .before .before .before .before .before .args .t .now) (c .with .ensures), c .before .before .before .before .before .before .before .emit .ensures .1))
+returns c =
+    let args = c .before .before .before .before .before .before .before .before .before .before .before .before .before .before .before .before .before .args in
+    let tk = args .t .now in
+    let emit = c .before .before .before .before .before .before .before .emit in
+    let kept = c .with in (
+      with-view _ _ _ _ _ _ _ (kept .ensures) (emit .ensures .0),
+      omega (flags, with-left _ _ _ tk (kept .ensures), emit .ensures .1),
+    )
 
 pub emit-spec : {M : Type 1} → statement M
 emit-spec = tie.close (tie.spec emit-requires with-requires same-length same-length-2 same-length-3 returns)

@@ -21,7 +21,14 @@ same-length-3 : tie.Need-same-length-3
 same-length-3 c = search needs
 
 returns : tie.Need-returns
-returns c = (λ ask b. with-said _ _ _ _ _ _ _ _ (c .with .ensures) (c .before .before .before .before .before .before .before .error .ensures .0 ask b), omega (flags, with-left _ _ _ (c .before .before .before .before .before .before .before .before .before .before .before .before .before .before .before .before .before .args .t .now) (c .with .ensures), c .before .before .before .before .before .before .before .error .ensures .1))
+returns c =
+    let args = c .before .before .before .before .before .before .before .before .before .before .before .before .before .before .before .before .before .args in
+    let tk = args .t .now in
+    let error = c .before .before .before .before .before .before .before .error in
+    let kept = c .with in (
+      λ ask b. with-said _ _ _ _ _ _ _ _ (kept .ensures) (error .ensures .0 ask b),
+      omega (flags, with-left _ _ _ tk (kept .ensures), error .ensures .1),
+    )
 
 pub error-spec : {M : Type 1} → statement M
 error-spec = tie.close (tie.spec error-requires with-requires same-length same-length-2 same-length-3 returns)

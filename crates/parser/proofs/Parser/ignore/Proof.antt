@@ -15,7 +15,13 @@ same-length : tie.Need-same-length
 same-length c = search needs
 
 returns : tie.Need-returns
-returns c = (λ rep pool. with-view _ _ _ _ rep pool _ (c .with .ensures) (c .before .before .before .ignore .ensures .0 (c .before .before .before .before .before .before .args .self .codes) rep pool), λ tk. omega (flags, with-left _ _ _ tk (c .with .ensures), c .before .before .before .ignore .ensures .1 tk))
+returns c =
+    let args = c .before .before .before .before .before .before .args in
+    let ignore = c .before .before .before .ignore in
+    let kept = c .with in (
+      λ rep pool. with-view _ _ _ _ rep pool _ (kept .ensures) (ignore .ensures .0 (args .self .codes) rep pool),
+      λ tk. omega (flags, with-left _ _ _ tk (kept .ensures), ignore .ensures .1 tk),
+    )
 
 pub ignore-spec : {M : Type 1} → statement M
 ignore-spec = tie.close (tie.spec ignore-requires with-requires same-length returns)

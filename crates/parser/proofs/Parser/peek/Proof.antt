@@ -11,7 +11,14 @@ with-requires : tie.Need-with-requires
 with-requires c κs = tt
 
 returns : tie.Need-returns
-returns c = (λ ev rep pool. with-view _ _ _ ev rep pool _ (c .with .ensures) (c .before .peek .ensures .0 (c .before .before .before .args .self .codes) ev rep pool), omega (flags, with-left _ _ _ (c .before .before .before .args .t .now) (c .with .ensures), c .before .peek .ensures .1))
+returns c =
+    let args = c .before .before .before .args in
+    let tk = args .t .now in
+    let peek = c .before .peek in
+    let kept = c .with in (
+      λ ev rep pool. with-view _ _ _ ev rep pool _ (kept .ensures) (peek .ensures .0 (args .self .codes) ev rep pool),
+      omega (flags, with-left _ _ _ tk (kept .ensures), peek .ensures .1),
+    )
 
 pub peek-spec : {M : Type 1} → statement M
 peek-spec = tie.close (tie.spec peek-requires with-requires returns)

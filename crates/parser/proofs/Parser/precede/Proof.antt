@@ -15,7 +15,13 @@ same-length : tie.Need-same-length
 same-length c = search needs
 
 returns : tie.Need-returns
-returns c = (λ rep pool. with-view _ _ _ _ rep pool _ (c .with .ensures) (c .before .before .before .precede .ensures .0 (c .before .before .before .before .before .before .args .self .codes) rep pool), λ tk. omega (flags, with-left _ _ _ tk (c .with .ensures), c .before .before .before .precede .ensures .1 tk))
+returns c =
+    let args = c .before .before .before .before .before .before .args in
+    let precede = c .before .before .before .precede in
+    let kept = c .with in (
+      λ rep pool. with-view _ _ _ _ rep pool _ (kept .ensures) (precede .ensures .0 (args .self .codes) rep pool),
+      λ tk. omega (flags, with-left _ _ _ tk (kept .ensures), precede .ensures .1 tk),
+    )
 
 pub precede-spec : {M : Type 1} → statement M
 precede-spec = tie.close (tie.spec precede-requires with-requires same-length returns)

@@ -14,7 +14,17 @@ with-requires : tie.Need-with-requires
 with-requires c κs = tt
 
 returns : tie.Need-returns
-returns c = (λ ev rep pool. with-view _ _ _ ev rep pool _ (c .with .ensures) (c .before .refuse .ensures .0 (c .before .before .args .self .codes) ev rep pool), λ tk h. with-left _ _ _ tk (c .with .ensures) ∙ left-none tk (c .before .refuse .result) (refused-past (c .before .before .args .number) (view (c .before .before .args .self .s) (c .before .before .args .self .codes) [] [] []) _ (c .before .refuse .ensures .0 (c .before .before .args .self .codes) [] [] [])) h)
+returns c =
+    let args = c .before .before .args in
+    let refuse = c .before .refuse in
+    let kept = c .with in (
+      λ ev rep pool. with-view _ _ _ ev rep pool _ (kept .ensures) (refuse .ensures .0 (args .self .codes) ev rep pool),
+      λ tk h.
+          with-left _ _ _ tk (kept .ensures)
+          ∙ left-none tk (refuse .result)
+          (refused-past (args .number) (view (args .self .s) (args .self .codes) [] [] []) _
+          (refuse .ensures .0 (args .self .codes) [] [] [])) h,
+    )
 
 pub refuse-spec : {M : Type 1} → statement M
 refuse-spec = tie.close (tie.spec refuse-requires with-requires returns)

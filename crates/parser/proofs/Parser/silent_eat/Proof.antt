@@ -15,7 +15,17 @@ same-length : tie.Need-same-length
 same-length c = search needs
 
 returns : tie.Need-returns
-returns c = (λ ask b rep pool. with-said _ _ _ _ rep pool _ _ (c .with .ensures) (c .before .before .before .silent-eat .ensures .0 ask b (c .before .before .before .before .before .before .before .args .self .codes) rep pool), (omega (flags, with-left _ _ _ (c .before .before .before .before .before .before .before .args .t .now) (c .with .ensures), c .before .before .before .silent-eat .ensures .1 .0), λ e. omega (flags, with-left _ _ _ (c .before .before .before .before .before .before .before .args .t .now) (c .with .ensures), c .before .before .before .silent-eat .ensures .1 .1 e)))
+returns c =
+    let args = c .before .before .before .before .before .before .before .args in
+    let tk = args .t .now in
+    let silent-eat = c .before .before .before .silent-eat in
+    let kept = c .with in (
+      λ ask b rep pool. with-said _ _ _ _ rep pool _ _ (kept .ensures) (silent-eat .ensures .0 ask b (args .self .codes) rep pool),
+      (
+        omega (flags, with-left _ _ _ tk (kept .ensures), silent-eat .ensures .1 .0),
+        λ e. omega (flags, with-left _ _ _ tk (kept .ensures), silent-eat .ensures .1 .1 e),
+      ),
+    )
 
 pub silent-eat-spec : {M : Type 1} → statement M
 silent-eat-spec = tie.close (tie.spec silent-eat-requires with-requires same-length returns)

@@ -15,17 +15,49 @@ put-code-requires : tie.Need-put-code-requires
 put-code-requires c κs = tt
 
 add-q : tie.Need-add-q
-add-q c = let long : length (c .before .before .before .args .codes .now) ≡ 256 = search needs in let has : (c .before .before .before .args .self .pending) < length (c .before .before .before .args .codes .now) = ltb-true (c .before .before .before .args .self .pending) (length (c .before .before .before .args .codes .now)) (sym (c .before .put-code .ensures .0) ∙ c .if1 .taken) in omega (arith, long, has)
+add-q c =
+    let args = c .before .before .before .args in
+    let codes₀ = args .codes .now in
+    let put-code = c .before .put-code in
+    let if1 = c .if1 in
+    let long : length codes₀ ≡ 256 = search needs in
+    let has : (args .self .pending) < length codes₀ = ltb-true (args .self .pending) (length codes₀) (sym (put-code .ensures .0) ∙ if1 .taken) in
+    omega (arith, long, has)
 
 refuse-requires : tie.Need-refuse-requires
 refuse-requires c κs = tt
 
 returns : tie.Need-returns
 unfolding left
-returns c = let long : length (c .before .before .before .args .codes .now) ≡ 256 = search needs in let has : (c .before .before .before .args .self .pending) < length (c .before .before .before .args .codes .now) = ltb-true (c .before .before .before .args .self .pending) (length (c .before .before .before .args .codes .now)) (sym (c .before .put-code .ensures .0) ∙ c .if1 .taken) in (λ ts b ev rep pool. expected-room ts b (c .before .before .before .args .codes .now) _ (c .before .before .before .args .self .pending) (c .before .before .before .args .code) (view (c .before .before .before .args .self) (c .before .before .before .args .codes .now) ev rep pool) long (c .before .put-code .ensures .1) refl has, λ tk. omega flags)
+returns c =
+    let args = c .before .before .before .args in
+    let self = args .self in
+    let codes₀ = args .codes .now in
+    let put-code = c .before .put-code in
+    let if1 = c .if1 in
+    let long : length codes₀ ≡ 256 = search needs in
+    let has : (args .self .pending) < length codes₀ = ltb-true (args .self .pending) (length codes₀) (sym (put-code .ensures .0) ∙ if1 .taken) in (
+      λ ts b ev rep pool.
+          expected-room ts b codes₀ _ (args .self .pending) (args .code) (view self codes₀ ev rep pool) long (put-code .ensures .1)
+          refl has,
+      λ tk. omega flags,
+    )
 
 returns-2 : tie.Need-returns-2
-returns-2 c = let long : length (c .before .before .before .before .args .codes .now) ≡ 256 = search needs in let full : length (c .before .before .before .before .args .codes .now) ≤ (c .before .before .before .before .args .self .pending) = ltb-false (c .before .before .before .before .args .self .pending) (length (c .before .before .before .before .args .codes .now)) (sym (c .before .before .put-code .ensures .0) ∙ c .before .if1 .left) in (λ ts b ev rep pool. expected-full ts b (c .before .before .before .before .args .codes .now) _ (c .before .before .before .before .args .self .pending) (c .before .before .before .before .args .code) (view (c .before .before .before .before .args .self) (c .before .before .before .before .args .codes .now) ev rep pool) long (c .before .before .put-code .ensures .1) refl _ full (c .refuse .ensures .0 _ ev rep pool), c .refuse .ensures .1)
+returns-2 c =
+    let args = c .before .before .before .before .args in
+    let self = args .self in
+    let codes₀ = args .codes .now in
+    let put-code = c .before .before .put-code in
+    let if1 = c .before .if1 in
+    let refuse = c .refuse in
+    let long : length codes₀ ≡ 256 = search needs in
+    let full : length codes₀ ≤ (args .self .pending) = ltb-false (args .self .pending) (length codes₀) (sym (put-code .ensures .0) ∙ if1 .left) in (
+      λ ts b ev rep pool.
+          expected-full ts b codes₀ _ (args .self .pending) (args .code) (view self codes₀ ev rep pool) long (put-code .ensures .1)
+          refl _ full (refuse .ensures .0 _ ev rep pool),
+      refuse .ensures .1,
+    )
 
 pub add-expected-spec : {M : Type 1} → statement M
 add-expected-spec = tie.close (tie.spec put-code-requires add-q refuse-requires returns returns-2)

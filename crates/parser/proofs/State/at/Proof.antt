@@ -14,7 +14,20 @@ silent-requires : tie.Need-silent-requires
 silent-requires c κs = tt
 
 returns : tie.Need-returns
-returns c = (λ ask b ev rep pool. at-is ask (tokens (c .before .before .before .before .args .t .now)) b (matcher-of (c .before .before .before .before .args .m)) (view (c .before .before .before .before .args .self) (c .before .before .before .before .args .codes .now) ev rep pool) (view (c .before .push-expected .result) _ ev rep pool) _ (c .before .push-expected .ensures .0 ask (tokens (c .before .before .before .before .args .t .now)) b ev rep pool) (c .silent .ensures .0 b _ ev rep pool ∙ matches-is ask (tokens (c .before .before .before .before .args .t .now)) b (c .before .before .before .before .args .m) (view (c .before .push-expected .result) _ ev rep pool)), (omega (flags, c .before .push-expected .ensures .1 (c .before .before .before .before .args .t .now), c .silent .ensures .1 .0), c .silent .ensures .1 .1))
+returns c =
+    let args = c .before .before .before .before .args in
+    let self = args .self in
+    let tk = args .t .now in
+    let ts = tokens tk in
+    let codes₀ = args .codes .now in
+    let push-expected = c .before .push-expected in
+    let silent = c .silent in (
+      λ ask b ev rep pool.
+          at-is ask ts b (matcher-of (args .m)) (view self codes₀ ev rep pool) (view (push-expected .result) _ ev rep pool) _
+          (push-expected .ensures .0 ask ts b ev rep pool)
+          (silent .ensures .0 b _ ev rep pool ∙ matches-is ask ts b (args .m) (view (push-expected .result) _ ev rep pool)),
+      (omega (flags, push-expected .ensures .1 tk, silent .ensures .1 .0), silent .ensures .1 .1),
+    )
 
 pub at-spec : {M : Type 1} → statement M
 at-spec = tie.close (tie.spec push-expected-requires silent-requires returns)

@@ -12,11 +12,31 @@ peek-requires c κs = tt
 
 returns : tie.Need-returns
 unfolding left
-returns c = (λ b codes ev rep pool. at-end-is (tokens (c .before .before .before .args .t .now)) b (view (c .before .before .before .args .self) codes ev rep pool) (view (c .before .peek .result) codes ev rep pool) _ (c .before .peek .ensures .0 codes ev rep pool) (ended-in (c .before .before .before .args .t .now) (c .before .peek .result .cursor .0) (omega flags)), (c .before .peek .ensures .1, (λ e. omega flags, λ e. absurd (true-false (sym e)))))
+returns c =
+    let args = c .before .before .before .args in
+    let self = args .self in
+    let tk = args .t .now in
+    let ts = tokens tk in
+    let peek = c .before .peek in (
+      λ b codes ev rep pool.
+          at-end-is ts b (view self codes ev rep pool) (view (peek .result) codes ev rep pool) _ (peek .ensures .0 codes ev rep pool)
+          (ended-in tk (peek .result .cursor .0) (omega flags)),
+      (peek .ensures .1, (λ e. omega flags, λ e. absurd (true-false (sym e)))),
+    )
 
 returns-2 : tie.Need-returns-2
 unfolding left
-returns-2 c = (λ b codes ev rep pool. at-end-is (tokens (c .before .before .before .args .t .now)) b (view (c .before .before .before .args .self) codes ev rep pool) (view (c .before .peek .result) codes ev rep pool) _ (c .before .peek .ensures .0 codes ev rep pool) (ended-past (c .before .before .before .args .t .now) (c .before .peek .result .cursor .0) (omega flags)), (c .before .peek .ensures .1, (λ e. absurd (true-false e), λ e. omega flags)))
+returns-2 c =
+    let args = c .before .before .before .args in
+    let self = args .self in
+    let tk = args .t .now in
+    let ts = tokens tk in
+    let peek = c .before .peek in (
+      λ b codes ev rep pool.
+          at-end-is ts b (view self codes ev rep pool) (view (peek .result) codes ev rep pool) _ (peek .ensures .0 codes ev rep pool)
+          (ended-past tk (peek .result .cursor .0) (omega flags)),
+      (peek .ensures .1, (λ e. absurd (true-false e), λ e. omega flags)),
+    )
 
 pub at-end-spec : {M : Type 1} → statement M
 at-end-spec = tie.close (tie.spec peek-requires returns returns-2)

@@ -14,7 +14,19 @@ is-at-requires c κs = tt
 
 returns : tie.Need-returns
 unfolding left
-returns c = (λ ask b ev rep pool. immediate-is ask (tokens (c .before .before .before .before .args .t .now)) b (c .before .before .before .before .args .k) (view (c .before .before .before .before .args .self) (c .before .before .before .before .args .codes .now) ev rep pool) (view (c .before .add-expected .result) _ ev rep pool) _ (c .before .add-expected .ensures .0 (tokens (c .before .before .before .before .args .t .now)) b ev rep pool) (c .is-at .ensures .0), (c .before .add-expected .ensures .1 (c .before .before .before .before .args .t .now), λ e. omega (flags, c .is-at .ensures .1 e)))
+returns c =
+    let args = c .before .before .before .before .args in
+    let self = args .self in
+    let tk = args .t .now in
+    let ts = tokens tk in
+    let codes₀ = args .codes .now in
+    let add-expected = c .before .add-expected in
+    let is-at = c .is-at in (
+      λ ask b ev rep pool.
+          immediate-is ask ts b (args .k) (view self codes₀ ev rep pool) (view (add-expected .result) _ ev rep pool) _
+          (add-expected .ensures .0 ts b ev rep pool) (is-at .ensures .0),
+      (add-expected .ensures .1 tk, λ e. omega (flags, is-at .ensures .1 e)),
+    )
 
 pub at-immediate-spec : {M : Type 1} → statement M
 at-immediate-spec = tie.close (tie.spec add-expected-requires is-at-requires returns)

@@ -1,5 +1,6 @@
 -- `bump_name`: a peek, a row, those of the set after it, one event.
 use Rattle.parser.proofs.Kit.{flags}
+use borrow.Author.Tests.{ltb-true, ltb-false}
 use Rattle.parser.specs.View.{view, left}
 use Rattle.parser.proofs.Moves.{name-in, name-past}
 use borrow.Author.Needs.{needs}
@@ -25,11 +26,44 @@ same-length : tie.Need-same-length
 same-length c = search needs
 
 returns : tie.Need-returns
-returns c = (λ b codes rep pool. name-in (c .before .before .before .before .before .before .before .before .before .before .before .before .args .t .now) (c .before .before .before .before .before .before .before .before .before .before .before .before .args .set .now) b (view (c .before .before .before .before .before .before .before .before .before .before .before .before .args .self) codes (c .before .before .before .before .before .before .before .before .before .before .before .before .args .ev .now) rep pool) (view (c .before .before .before .before .before .before .before .before .peek .result) codes (c .before .before .before .before .before .before .before .before .before .before .before .before .args .ev .now) rep pool) (view (c .before .before .before .before .before .before .next-token .result) codes (c .before .before .before .before .before .before .before .before .before .before .before .before .args .ev .now) rep pool) (view (c .before .before .before .before .before .take-while .result) codes (c .before .before .before .before .before .before .before .before .before .before .before .before .args .ev .now) rep pool) _ _ (c .before .before .before .before .before .before .before .before .peek .ensures .0 codes (c .before .before .before .before .before .before .before .before .before .before .before .before .args .ev .now) rep pool) (omega flags) (c .before .before .before .before .before .before .next-token .ensures .0 codes (c .before .before .before .before .before .before .before .before .before .before .before .before .args .ev .now) rep pool) (c .before .before .before .before .before .take-while .ensures .0 codes (c .before .before .before .before .before .before .before .before .before .before .before .before .args .ev .now) rep pool) (c .before .before .before .before .raw-tokens-since .ensures) (c .before .before .push-event .ensures .0 codes rep pool), omega (flags, c .before .before .before .before .before .before .before .before .peek .ensures .1, c .before .before .before .before .before .before .next-token .ensures .1, c .before .before .before .before .before .take-while .ensures .1, c .before .before .push-event .ensures .1 (c .before .before .before .before .before .before .before .before .before .before .before .before .args .t .now)))
+returns c =
+    let args = c .before .before .before .before .before .before .before .before .before .before .before .before .args in
+    let self = args .self in
+    let tk = args .t .now in
+    let ev₀ = args .ev .now in
+    let set₀ = args .set .now in
+    let peek = c .before .before .before .before .before .before .before .before .peek in
+    let if1 = c .before .before .before .before .before .before .before .if1 in
+    let next-token = c .before .before .before .before .before .before .next-token in
+    let take-while = c .before .before .before .before .before .take-while in
+    let raw-tokens-since = c .before .before .before .before .raw-tokens-since in
+    let push-event = c .before .before .push-event in (
+      λ b codes rep pool.
+          name-in tk set₀ b (view self codes ev₀ rep pool) (view (peek .result) codes ev₀ rep pool)
+          (view (next-token .result) codes ev₀ rep pool) (view (take-while .result) codes ev₀ rep pool) _ _
+          (peek .ensures .0 codes ev₀ rep pool) (ltb-true _ _ (if1 .taken)) (next-token .ensures .0 codes ev₀ rep pool)
+          (take-while .ensures .0 codes ev₀ rep pool) (raw-tokens-since .ensures) (push-event .ensures .0 codes rep pool),
+      omega (flags, peek .ensures .1, next-token .ensures .1, take-while .ensures .1, push-event .ensures .1 tk),
+    )
 
 returns-2 : tie.Need-returns-2
 unfolding left
-returns-2 c = (λ b codes rep pool. name-past (c .before .before .before .before .before .args .t .now) (c .before .before .before .before .before .args .set .now) b (view (c .before .before .before .before .before .args .self) codes (c .before .before .before .before .before .args .ev .now) rep pool) (view (c .before .peek .result) codes (c .before .before .before .before .before .args .ev .now) rep pool) (c .before .peek .ensures .0 codes (c .before .before .before .before .before .args .ev .now) rep pool) (omega flags), omega flags)
+returns-2 c =
+    let args = c .before .before .before .before .before .args in
+    let self = args .self in
+    let tk = args .t .now in
+    let ev₀ = args .ev .now in
+    let set₀ = args .set .now in
+    let peek = c .before .peek in
+    let if1 = c .if1 in (
+      λ b codes rep pool.
+          name-past tk set₀ b (view self codes ev₀ rep pool) (view (peek .result) codes ev₀ rep pool)
+          (peek .ensures .0 codes ev₀ rep pool) (ltb-false _ _ (if1 .left)),
+      omega (flags, if1 .left),
+    )
 
 pub bump-name-spec : {M : Type 1} → statement M
-bump-name-spec = tie.close (tie.spec peek-requires next-token-requires take-while-requires raw-tokens-since-requires push-event-requires same-length returns returns-2)
+bump-name-spec =
+    tie.close
+    (tie.spec peek-requires next-token-requires take-while-requires raw-tokens-since-requires push-event-requires same-length
+    returns returns-2)

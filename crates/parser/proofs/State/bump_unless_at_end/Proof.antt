@@ -18,13 +18,39 @@ bump-requires : tie.Need-bump-requires
 bump-requires c κs = tt
 
 returns : tie.Need-returns
-returns c = (λ ask b codes rep pool. end-yes ask (tokens (c .before .before .before .before .before .args .t .now)) b bump! (view (c .before .before .before .before .before .args .self) codes (c .before .before .before .before .before .args .ev .now) rep pool) (view (c .before .before .at-end .result .s) codes (c .before .before .before .before .before .args .ev .now) rep pool) (answered _ true _ _ (c .before .before .at-end .ensures .0 b codes (c .before .before .before .before .before .args .ev .now) rep pool) (c .before .if1 .taken)), omega (flags, c .before .before .at-end .ensures .1 .1 .1 (c .before .if1 .taken)))
+returns c =
+    let args = c .before .before .before .before .before .args in
+    let self = args .self in
+    let tk = args .t .now in
+    let ts = tokens tk in
+    let ev₀ = args .ev .now in
+    let at-end = c .before .before .at-end in
+    let if1 = c .before .if1 in (
+      λ ask b codes rep pool.
+          end-yes ask ts b bump! (view self codes ev₀ rep pool) (view (at-end .result .s) codes ev₀ rep pool)
+          (answered _ true _ _ (at-end .ensures .0 b codes ev₀ rep pool) (if1 .taken)),
+      omega (flags, at-end .ensures .1 .1 .1 (if1 .taken)),
+    )
 
 same-length : tie.Need-same-length
 same-length c = search needs
 
 returns-2 : tie.Need-returns-2
-returns-2 c = (λ ask b codes rep pool. end-no ask (tokens (c .before .before .before .before .before .before .before .before .args .t .now)) b bump! (view (c .before .before .before .before .before .before .before .before .args .self) codes (c .before .before .before .before .before .before .before .before .args .ev .now) rep pool) (view (c .before .before .before .before .before .at-end .result .s) codes (c .before .before .before .before .before .before .before .before .args .ev .now) rep pool) _ (answered _ false _ _ (c .before .before .before .before .before .at-end .ensures .0 b codes (c .before .before .before .before .before .before .before .before .args .ev .now) rep pool) (c .before .before .before .before .if1 .left)) (c .before .before .bump .ensures .0 b codes rep pool ∙ walk-act ask (tokens (c .before .before .before .before .before .before .before .before .args .t .now)) b bump (view (c .before .before .before .before .before .at-end .result .s) codes (c .before .before .before .before .before .before .before .before .args .ev .now) rep pool)), omega (flags, c .before .before .before .before .before .at-end .ensures .1 .0, c .before .before .bump .ensures .1))
+returns-2 c =
+    let args = c .before .before .before .before .before .before .before .before .args in
+    let self = args .self in
+    let tk = args .t .now in
+    let ts = tokens tk in
+    let ev₀ = args .ev .now in
+    let at-end = c .before .before .before .before .before .at-end in
+    let if1 = c .before .before .before .before .if1 in
+    let bump′ = c .before .before .bump in (
+      λ ask b codes rep pool.
+          end-no ask ts b bump! (view self codes ev₀ rep pool) (view (at-end .result .s) codes ev₀ rep pool) _
+          (answered _ false _ _ (at-end .ensures .0 b codes ev₀ rep pool) (if1 .left))
+          (bump′ .ensures .0 b codes rep pool ∙ walk-act ask ts b bump (view (at-end .result .s) codes ev₀ rep pool)),
+      omega (flags, at-end .ensures .1 .0, bump′ .ensures .1),
+    )
 
 pub bump-unless-at-end-spec : {M : Type 1} → statement M
 bump-unless-at-end-spec = tie.close (tie.spec at-end-requires bump-requires returns same-length returns-2)

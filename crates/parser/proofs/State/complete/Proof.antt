@@ -16,11 +16,29 @@ same-length : tie.Need-same-length
 same-length c = search needs
 
 returns : tie.Need-returns
-returns c = (λ codes rep pool. complete-on (marker-of (c .before .before .before .before .before .before .before .before .before .before .before .args .m)) (c .before .before .before .before .before .before .before .before .before .before .before .args .kind) (view (c .before .before .before .before .before .before .before .before .before .before .before .args .self) codes (c .before .before .before .before .before .before .before .before .before .before .before .args .ev .now) rep pool) _ _ (c .before .before .before .before .before .before .before .before .if1 .taken) (c .before .before .before .before .before .before .put-start .ensures) (c .before .before .push-row .ensures .0 codes rep pool), c .before .before .push-row .ensures .1)
+returns c =
+    let args = c .before .before .before .before .before .before .before .before .before .before .before .args in
+    let self = args .self in
+    let ev₀ = args .ev .now in
+    let if1 = c .before .before .before .before .before .before .before .before .if1 in
+    let put-start = c .before .before .before .before .before .before .put-start in
+    let push-row = c .before .before .push-row in (
+      λ codes rep pool.
+          complete-on (marker-of (args .m)) (args .kind) (view self codes ev₀ rep pool) _ _ (if1 .taken) (put-start .ensures)
+          (push-row .ensures .0 codes rep pool),
+      push-row .ensures .1,
+    )
 
 returns-2 : tie.Need-returns-2
 unfolding left
-returns-2 c = (λ codes rep pool. complete-off (marker-of (c .before .before .before .args .m)) (c .before .before .before .args .kind) (view (c .before .before .before .args .self) codes (c .before .before .before .args .ev .now) rep pool) (c .if1 .left), λ tk. omega flags)
+returns-2 c =
+    let args = c .before .before .before .args in
+    let self = args .self in
+    let ev₀ = args .ev .now in
+    let if1 = c .if1 in (
+      λ codes rep pool. complete-off (marker-of (args .m)) (args .kind) (view self codes ev₀ rep pool) (if1 .left),
+      λ tk. omega flags,
+    )
 
 pub complete-spec : {M : Type 1} → statement M
 complete-spec = tie.close (tie.spec put-start-requires push-row-requires same-length returns returns-2)

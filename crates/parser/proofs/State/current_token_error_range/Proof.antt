@@ -10,7 +10,10 @@ use Rattle.parser.proofs.State.current_token_error_range.Statement.{sta
 use Rattle.parser.proofs.State.current_token_error_range.Tie as tie
 
 ends-statement-requires : tie.Need-ends-statement-requires
-ends-statement-requires c κs = let long : length (c .before .before .before .args .codes .now) ≡ 256 = search needs in omega (arith, long)
+ends-statement-requires c κs =
+    let args = c .before .before .before .args in
+    let codes₀ = args .codes .now in
+    let long : length codes₀ ≡ 256 = search needs in omega (arith, long)
 
 wrapping-add-u32-requires : tie.Need-wrapping-add-u32-requires
 wrapping-add-u32-requires c κs = tt
@@ -22,13 +25,41 @@ less-one-requires : tie.Need-less-one-requires
 less-one-requires c κs = tt
 
 returns : tie.Need-returns
-returns c = λ ev rep pool. range-lone (c .before .before .before .before .before .before .before .args .t .now) (view (c .before .before .before .before .before .before .before .args .self) (c .before .before .before .before .before .before .before .args .codes .now) ev rep pool) _ _ (omega flags) (c .before .before .before .ends-statement .ensures) (c .before .before .if2 .taken) (c .wrapping-add-u32 .ensures)
+returns c =
+    let args = c .before .before .before .before .before .before .before .args in
+    let self = args .self in
+    let tk = args .t .now in
+    let codes₀ = args .codes .now in
+    let ends-statement = c .before .before .before .ends-statement in
+    let if2 = c .before .before .if2 in
+    let wrapping-add-u32 = c .wrapping-add-u32 in
+    λ ev rep pool.
+    range-lone tk (view self codes₀ ev rep pool) _ _ (omega flags) (ends-statement .ensures) (if2 .taken)
+    (wrapping-add-u32 .ensures)
 
 returns-2 : tie.Need-returns-2
-returns-2 c = λ ev rep pool. range-token (c .before .before .before .before .before .before .args .t .now) (view (c .before .before .before .before .before .before .args .self) (c .before .before .before .before .before .before .args .codes .now) ev rep pool) _ _ (omega flags) (c .before .before .ends-statement .ensures) (c .before .if2 .left) (c .range .ensures (c .before .before .before .before .before .before .args .codes .now) ev rep pool)
+returns-2 c =
+    let args = c .before .before .before .before .before .before .args in
+    let self = args .self in
+    let tk = args .t .now in
+    let codes₀ = args .codes .now in
+    let ends-statement = c .before .before .ends-statement in
+    let if2 = c .before .if2 in
+    let range = c .range in
+    λ ev rep pool.
+    range-token tk (view self codes₀ ev rep pool) _ _ (omega flags) (ends-statement .ensures) (if2 .left)
+    (range .ensures codes₀ ev rep pool)
 
 returns-3 : tie.Need-returns-3
-returns-3 c = λ ev rep pool. range-end (c .before .before .before .before .args .t .now) (view (c .before .before .before .before .args .self) (c .before .before .before .before .args .codes .now) ev rep pool) _ (omega flags) (c .less-one .ensures)
+returns-3 c =
+    let args = c .before .before .before .before .args in
+    let self = args .self in
+    let tk = args .t .now in
+    let codes₀ = args .codes .now in
+    let less-one = c .less-one in
+    λ ev rep pool. range-end tk (view self codes₀ ev rep pool) _ (omega flags) (less-one .ensures)
 
 pub current-token-error-range-spec : {M : Type 1} → statement M
-current-token-error-range-spec = tie.close (tie.spec ends-statement-requires wrapping-add-u32-requires range-requires less-one-requires returns returns-2 returns-3)
+current-token-error-range-spec =
+    tie.close
+    (tie.spec ends-statement-requires wrapping-add-u32-requires range-requires less-one-requires returns returns-2 returns-3)

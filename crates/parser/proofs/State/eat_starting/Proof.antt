@@ -25,10 +25,44 @@ same-length : tie.Need-same-length
 same-length c = search needs
 
 returns : tie.Need-returns
-returns c = (λ ask b rep pool. starting-yes ask (tokens (c .before .before .before .before .before .before .before .before .before .before .before .before .before .before .args .t .now)) b (matcher-of (c .before .before .before .before .before .before .before .before .before .before .before .before .before .before .args .matcher)) (view (c .before .before .before .before .before .before .before .before .before .before .before .before .before .before .args .self) (c .before .before .before .before .before .before .before .before .before .before .before .before .before .before .args .codes .now) (c .before .before .before .before .before .before .before .before .before .before .before .before .before .before .args .ev .now) rep pool) (view (c .before .before .before .before .before .before .before .before .before .before .at .result .s) _ (c .before .before .before .before .before .before .before .before .before .before .before .before .before .before .args .ev .now) rep pool) _ _ (marker-of (c .before .before .before .before .before .before .before .before .before .new .result)) (answered _ true _ _ (c .before .before .before .before .before .before .before .before .before .before .at .ensures .0 ask b (c .before .before .before .before .before .before .before .before .before .before .before .before .before .before .args .ev .now) rep pool) (c .before .before .before .before .before .before .before .before .if1 .taken)) (c .before .before .before .before .before .before .before .before .before .new .ensures) (c .before .before .before .before .before .before .start .ensures .0 _ rep pool) (c .before .before .consume .ensures .0 ask b _ rep pool), (omega (flags, c .before .before .before .before .before .before .before .before .before .before .at .ensures .1 .0, c .before .before .before .before .before .before .start .ensures .1 (c .before .before .before .before .before .before .before .before .before .before .before .before .before .before .args .t .now), c .before .before .consume .ensures .1), λ e. omega (flags, c .before .before .before .before .before .before .before .before .before .before .at .ensures .1 .0, c .before .before .before .before .before .before .start .ensures .1 (c .before .before .before .before .before .before .before .before .before .before .before .before .before .before .args .t .now), c .before .before .consume .ensures .1)))
+returns c =
+    let args = c .before .before .before .before .before .before .before .before .before .before .before .before .before .before .args in
+    let self = args .self in
+    let tk = args .t .now in
+    let ts = tokens tk in
+    let ev₀ = args .ev .now in
+    let codes₀ = args .codes .now in
+    let at = c .before .before .before .before .before .before .before .before .before .before .at in
+    let new = c .before .before .before .before .before .before .before .before .before .new in
+    let if1 = c .before .before .before .before .before .before .before .before .if1 in
+    let start′ = c .before .before .before .before .before .before .start in
+    let consume = c .before .before .consume in (
+      λ ask b rep pool.
+          starting-yes ask ts b (matcher-of (args .matcher)) (view self codes₀ ev₀ rep pool) (view (at .result .s) _ ev₀ rep pool) _ _
+          (marker-of (new .result)) (answered _ true _ _ (at .ensures .0 ask b ev₀ rep pool) (if1 .taken)) (new .ensures)
+          (start′ .ensures .0 _ rep pool) (consume .ensures .0 ask b _ rep pool),
+      (
+        omega (flags, at .ensures .1 .0, start′ .ensures .1 tk, consume .ensures .1),
+        λ e. omega (flags, at .ensures .1 .0, start′ .ensures .1 tk, consume .ensures .1),
+      ),
+    )
 
 returns-2 : tie.Need-returns-2
-returns-2 c = (λ ask b rep pool. starting-no ask (tokens (c .before .before .before .before .before .before .before .args .t .now)) b (matcher-of (c .before .before .before .before .before .before .before .args .matcher)) (view (c .before .before .before .before .before .before .before .args .self) (c .before .before .before .before .before .before .before .args .codes .now) (c .before .before .before .before .before .before .before .args .ev .now) rep pool) (view (c .before .before .before .at .result .s) _ (c .before .before .before .before .before .before .before .args .ev .now) rep pool) (marker-of (c .before .before .new .result)) (answered _ false _ _ (c .before .before .before .at .ensures .0 ask b (c .before .before .before .before .before .before .before .args .ev .now) rep pool) (c .before .if1 .left)) (c .before .before .new .ensures), (c .before .before .before .at .ensures .1 .0, λ e. absurd (true-false (sym e))))
+returns-2 c =
+    let args = c .before .before .before .before .before .before .before .args in
+    let self = args .self in
+    let tk = args .t .now in
+    let ts = tokens tk in
+    let ev₀ = args .ev .now in
+    let codes₀ = args .codes .now in
+    let at = c .before .before .before .at in
+    let new = c .before .before .new in
+    let if1 = c .before .if1 in (
+      λ ask b rep pool.
+          starting-no ask ts b (matcher-of (args .matcher)) (view self codes₀ ev₀ rep pool) (view (at .result .s) _ ev₀ rep pool)
+          (marker-of (new .result)) (answered _ false _ _ (at .ensures .0 ask b ev₀ rep pool) (if1 .left)) (new .ensures),
+      (at .ensures .1 .0, λ e. absurd (true-false (sym e))),
+    )
 
 pub eat-starting-spec : {M : Type 1} → statement M
 eat-starting-spec = tie.close (tie.spec at-requires new-requires start-requires consume-requires same-length returns returns-2)

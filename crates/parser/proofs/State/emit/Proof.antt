@@ -30,13 +30,54 @@ same-length-3 : tie.Need-same-length-3
 same-length-3 c = search needs
 
 returns : tie.Need-returns
-returns c = (emit-is (tokens (c .before .before .before .before .before .before .before .before .before .before .before .before .before .before .before .before .before .before .before .args .t .now)) (c .before .before .before .before .before .before .before .before .before .before .before .before .before .before .before .before .before .before .before .args .message) (c .before .before .before .before .before .before .before .before .before .before .before .before .before .before .before .before .before .before .before .args .hint) (span-of (c .before .before .before .before .before .before .before .before .before .before .before .before .before .current-token-error-range .result)) (span-of (c .before .before .before .before .before .before .before .before .before .before .before .before .before .before .before .before .before .before .before .args .label)) (view (c .before .before .before .before .before .before .before .before .before .before .before .before .before .before .before .before .before .before .before .args .self) (c .before .before .before .before .before .before .before .before .before .before .before .before .before .before .before .before .before .before .before .args .codes .now) (c .before .before .before .before .before .before .before .before .before .before .before .before .before .before .before .before .before .before .before .args .ev .now) (c .before .before .before .before .before .before .before .before .before .before .before .before .before .before .before .before .before .before .before .args .rep .now) (c .before .before .before .before .before .before .before .before .before .before .before .before .before .before .before .before .before .before .before .args .pool .now)) (view (c .before .before .before .before .before .before .before .before .before .before .before .before .before .before .peek .result) (c .before .before .before .before .before .before .before .before .before .before .before .before .before .before .before .before .before .before .before .args .codes .now) (c .before .before .before .before .before .before .before .before .before .before .before .before .before .before .before .before .before .before .before .args .ev .now) (c .before .before .before .before .before .before .before .before .before .before .before .before .before .before .before .before .before .before .before .args .rep .now) (c .before .before .before .before .before .before .before .before .before .before .before .before .before .before .before .before .before .before .before .args .pool .now)) _ _ (c .before .before .before .before .before .before .before .before .before .before .before .before .before .before .peek .ensures .0 (c .before .before .before .before .before .before .before .before .before .before .before .before .before .before .before .before .before .before .before .args .codes .now) (c .before .before .before .before .before .before .before .before .before .before .before .before .before .before .before .before .before .before .before .args .ev .now) (c .before .before .before .before .before .before .before .before .before .before .before .before .before .before .before .before .before .before .before .args .rep .now) (c .before .before .before .before .before .before .before .before .before .before .before .before .before .before .before .before .before .before .before .args .pool .now)) (c .before .before .before .before .before .before .before .before .before .before .before .before .before .current-token-error-range .ensures (c .before .before .before .before .before .before .before .before .before .before .before .before .before .before .before .before .before .before .before .args .ev .now) (c .before .before .before .before .before .before .before .before .before .before .before .before .before .before .before .before .before .before .before .args .rep .now) (c .before .before .before .before .before .before .before .before .before .before .before .before .before .before .before .before .before .before .before .args .pool .now)) (c .before .before .before .before .before .before .before .before .before .before .before .push-event .ensures .0 (c .before .before .before .before .before .before .before .before .before .before .before .before .before .before .before .before .before .before .before .args .codes .now) (c .before .before .before .before .before .before .before .before .before .before .before .before .before .before .before .before .before .before .before .args .rep .now) (c .before .before .before .before .before .before .before .before .before .before .before .before .before .before .before .before .before .before .before .args .pool .now)) (c .before .before .before .before .push-report .ensures .0 _ (eqb-true _ _ (c .before .before .before .before .before .before .before .if1 .taken))), omega (flags, c .before .before .before .before .before .before .before .before .before .before .before .before .before .before .peek .ensures .1, c .before .before .before .before .before .before .before .before .before .before .before .push-event .ensures .1 (c .before .before .before .before .before .before .before .before .before .before .before .before .before .before .before .before .before .before .before .args .t .now), c .before .before .before .before .push-report .ensures .1 (c .before .before .before .before .before .before .before .before .before .before .before .before .before .before .before .before .before .before .before .args .t .now)))
+returns c =
+    let args = c .before .before .before .before .before .before .before .before .before .before .before .before .before .before .before .before .before .before .before .args in
+    let self = args .self in
+    let tk = args .t .now in
+    let ts = tokens tk in
+    let ev₀ = args .ev .now in
+    let rep₀ = args .rep .now in
+    let pool₀ = args .pool .now in
+    let codes₀ = args .codes .now in
+    let peek = c .before .before .before .before .before .before .before .before .before .before .before .before .before .before .peek in
+    let current-token-error-range = c .before .before .before .before .before .before .before .before .before .before .before .before .before .current-token-error-range in
+    let push-event = c .before .before .before .before .before .before .before .before .before .before .before .push-event in
+    let if1 = c .before .before .before .before .before .before .before .if1 in
+    let push-report = c .before .before .before .before .push-report in (
+      emit-is ts (args .message) (args .hint) (span-of (current-token-error-range .result)) (span-of (args .label))
+          (view self codes₀ ev₀ rep₀ pool₀) (view (peek .result) codes₀ ev₀ rep₀ pool₀) _ _
+          (peek .ensures .0 codes₀ ev₀ rep₀ pool₀) (current-token-error-range .ensures ev₀ rep₀ pool₀)
+          (push-event .ensures .0 codes₀ rep₀ pool₀) (push-report .ensures .0 _ (eqb-true _ _ (if1 .taken))),
+      omega (flags, peek .ensures .1, push-event .ensures .1 tk, push-report .ensures .1 tk),
+    )
 
 same-length-4 : tie.Need-same-length-4
 same-length-4 c = search needs
 
 returns-2 : tie.Need-returns-2
-returns-2 c = (emit-is (tokens (c .before .before .before .before .before .before .before .before .before .before .before .before .args .t .now)) (c .before .before .before .before .before .before .before .before .before .before .before .before .args .message) (c .before .before .before .before .before .before .before .before .before .before .before .before .args .hint) (span-of (c .before .before .before .before .before .before .current-token-error-range .result)) (span-of (c .before .before .before .before .before .before .before .before .before .before .before .before .args .label)) (view (c .before .before .before .before .before .before .before .before .before .before .before .before .args .self) (c .before .before .before .before .before .before .before .before .before .before .before .before .args .codes .now) (c .before .before .before .before .before .before .before .before .before .before .before .before .args .ev .now) (c .before .before .before .before .before .before .before .before .before .before .before .before .args .rep .now) (c .before .before .before .before .before .before .before .before .before .before .before .before .args .pool .now)) (view (c .before .before .before .before .before .before .before .peek .result) (c .before .before .before .before .before .before .before .before .before .before .before .before .args .codes .now) (c .before .before .before .before .before .before .before .before .before .before .before .before .args .ev .now) (c .before .before .before .before .before .before .before .before .before .before .before .before .args .rep .now) (c .before .before .before .before .before .before .before .before .before .before .before .before .args .pool .now)) _ _ (c .before .before .before .before .before .before .before .peek .ensures .0 (c .before .before .before .before .before .before .before .before .before .before .before .before .args .codes .now) (c .before .before .before .before .before .before .before .before .before .before .before .before .args .ev .now) (c .before .before .before .before .before .before .before .before .before .before .before .before .args .rep .now) (c .before .before .before .before .before .before .before .before .before .before .before .before .args .pool .now)) (c .before .before .before .before .before .before .current-token-error-range .ensures (c .before .before .before .before .before .before .before .before .before .before .before .before .args .ev .now) (c .before .before .before .before .before .before .before .before .before .before .before .before .args .rep .now) (c .before .before .before .before .before .before .before .before .before .before .before .before .args .pool .now)) (c .before .before .before .before .push-event .ensures .0 (c .before .before .before .before .before .before .before .before .before .before .before .before .args .codes .now) (c .before .before .before .before .before .before .before .before .before .before .before .before .args .rep .now) (c .before .before .before .before .before .before .before .before .before .before .before .before .args .pool .now)) (report-off (c .before .before .before .before .before .before .before .before .before .before .before .before .args .message) (c .before .before .before .before .before .before .before .before .before .before .before .before .args .hint) _ (span-of (c .before .before .before .before .before .before .before .before .before .before .before .before .args .label)) _ (c .if1 .left)), omega (flags, c .before .before .before .before .before .before .before .peek .ensures .1, c .before .before .before .before .push-event .ensures .1 (c .before .before .before .before .before .before .before .before .before .before .before .before .args .t .now)))
+returns-2 c =
+    let args = c .before .before .before .before .before .before .before .before .before .before .before .before .args in
+    let self = args .self in
+    let tk = args .t .now in
+    let ts = tokens tk in
+    let ev₀ = args .ev .now in
+    let rep₀ = args .rep .now in
+    let pool₀ = args .pool .now in
+    let codes₀ = args .codes .now in
+    let peek = c .before .before .before .before .before .before .before .peek in
+    let current-token-error-range = c .before .before .before .before .before .before .current-token-error-range in
+    let push-event = c .before .before .before .before .push-event in
+    let if1 = c .if1 in (
+      emit-is ts (args .message) (args .hint) (span-of (current-token-error-range .result)) (span-of (args .label))
+          (view self codes₀ ev₀ rep₀ pool₀) (view (peek .result) codes₀ ev₀ rep₀ pool₀) _ _
+          (peek .ensures .0 codes₀ ev₀ rep₀ pool₀) (current-token-error-range .ensures ev₀ rep₀ pool₀)
+          (push-event .ensures .0 codes₀ rep₀ pool₀)
+          (report-off (args .message) (args .hint) _ (span-of (args .label)) _ (if1 .left)),
+      omega (flags, peek .ensures .1, push-event .ensures .1 tk),
+    )
 
 pub emit-spec : {M : Type 1} → statement M
-emit-spec = tie.close (tie.spec peek-requires current-token-error-range-requires push-event-requires push-report-requires same-length same-length-2 same-length-3 returns same-length-4 returns-2)
+emit-spec =
+    tie.close
+    (tie.spec peek-requires current-token-error-range-requires push-event-requires push-report-requires same-length
+    same-length-2 same-length-3 returns same-length-4 returns-2)

@@ -39,7 +39,24 @@ same-length-3 : tie.Need-same-length-3
 same-length-3 c = search needs
 
 returns : tie.Need-returns
-returns c = (λ ask b. error-no ask (tokens (c .before .before .before .before .before .before .before .before .before .before .before .before .before .before .before .before .before .args .t .now)) b (c .before .before .before .before .before .before .before .before .before .before .before .before .before .before .before .before .before .args .bump) (c .before .before .before .before .before .before .before .before .before .before .before .before .before .before .before .before .before .args .message) (c .before .before .before .before .before .before .before .before .before .before .before .before .before .before .before .before .before .args .hint) (view (c .before .before .before .before .before .before .before .before .before .before .before .before .before .before .before .before .before .args .self) (c .before .before .before .before .before .before .before .before .before .before .before .before .before .before .before .before .before .args .codes .now) (c .before .before .before .before .before .before .before .before .before .before .before .before .before .before .before .before .before .args .ev .now) (c .before .before .before .before .before .before .before .before .before .before .before .before .before .before .before .before .before .args .rep .now) (c .before .before .before .before .before .before .before .before .before .before .before .before .before .before .before .before .before .args .pool .now)) _ (c .enum-told .given .1) (error-alone ask (tokens (c .before .before .before .before .before .before .before .before .before .before .before .before .before .before .before .before .before .args .t .now)) b (c .before .before .before .before .before .before .before .before .before .before .before .before .before .before .before .before .before .args .message) (c .before .before .before .before .before .before .before .before .before .before .before .before .before .before .before .before .before .args .hint) (span-of (c .before .before .before .before .before .before .before .before .before .before .before .before .no-label .result)) (view (c .before .before .before .before .before .before .before .before .before .before .before .before .before .before .before .before .before .args .self) (c .before .before .before .before .before .before .before .before .before .before .before .before .before .before .before .before .before .args .codes .now) (c .before .before .before .before .before .before .before .before .before .before .before .before .before .before .before .before .before .args .ev .now) (c .before .before .before .before .before .before .before .before .before .before .before .before .before .before .before .before .before .args .rep .now) (c .before .before .before .before .before .before .before .before .before .before .before .before .before .before .before .before .before .args .pool .now)) _ (c .before .before .before .before .before .before .before .before .before .before .before .before .no-label .ensures) (c .before .before .before .before .before .before .before .before .emit .ensures .0)), omega (flags, c .before .before .before .before .before .before .before .before .emit .ensures .1, ap takes (c .enum-told .given .1)))
+returns c =
+    let args = c .before .before .before .before .before .before .before .before .before .before .before .before .before .before .before .before .before .args in
+    let self = args .self in
+    let tk = args .t .now in
+    let ts = tokens tk in
+    let ev₀ = args .ev .now in
+    let rep₀ = args .rep .now in
+    let pool₀ = args .pool .now in
+    let codes₀ = args .codes .now in
+    let no-label = c .before .before .before .before .before .before .before .before .before .before .before .before .no-label in
+    let emit = c .before .before .before .before .before .before .before .before .emit in
+    let enum-told = c .enum-told in (
+      λ ask b.
+          error-no ask ts b (args .bump) (args .message) (args .hint) (view self codes₀ ev₀ rep₀ pool₀) _ (enum-told .given .1)
+          (error-alone ask ts b (args .message) (args .hint) (span-of (no-label .result)) (view self codes₀ ev₀ rep₀ pool₀) _
+          (no-label .ensures) (emit .ensures .0)),
+      omega (flags, emit .ensures .1, ap takes (enum-told .given .1)),
+    )
 
 same-length-4 : tie.Need-same-length-4
 same-length-4 c = search needs
@@ -51,7 +68,25 @@ same-length-6 : tie.Need-same-length-6
 same-length-6 c = search needs
 
 returns-2 : tie.Need-returns-2
-returns-2 c = (λ ask b. error-yes ask (tokens (c .before .before .before .before .before .before .before .before .before .before .before .before .before .before .before .before .before .before .before .before .before .args .t .now)) b (c .before .before .before .before .before .before .before .before .before .before .before .before .before .before .before .before .before .before .before .before .before .args .bump) (c .before .before .before .before .before .before .before .before .before .before .before .before .before .before .before .before .before .before .before .before .before .args .message) (c .before .before .before .before .before .before .before .before .before .before .before .before .before .before .before .before .before .before .before .before .before .args .hint) (view (c .before .before .before .before .before .before .before .before .before .before .before .before .before .before .before .before .before .before .before .before .before .args .self) (c .before .before .before .before .before .before .before .before .before .before .before .before .before .before .before .before .before .before .before .before .before .args .codes .now) (c .before .before .before .before .before .before .before .before .before .before .before .before .before .before .before .before .before .before .before .before .before .args .ev .now) (c .before .before .before .before .before .before .before .before .before .before .before .before .before .before .before .before .before .before .before .before .before .args .rep .now) (c .before .before .before .before .before .before .before .before .before .before .before .before .before .before .before .before .before .before .before .before .before .args .pool .now)) _ _ (c .before .before .before .before .enum-told2 .given .1) (error-alone ask (tokens (c .before .before .before .before .before .before .before .before .before .before .before .before .before .before .before .before .before .before .before .before .before .args .t .now)) b (c .before .before .before .before .before .before .before .before .before .before .before .before .before .before .before .before .before .before .before .before .before .args .message) (c .before .before .before .before .before .before .before .before .before .before .before .before .before .before .before .before .before .before .before .before .before .args .hint) (span-of (c .before .before .before .before .before .before .before .before .before .before .before .before .before .before .before .before .no-label .result)) (view (c .before .before .before .before .before .before .before .before .before .before .before .before .before .before .before .before .before .before .before .before .before .args .self) (c .before .before .before .before .before .before .before .before .before .before .before .before .before .before .before .before .before .before .before .before .before .args .codes .now) (c .before .before .before .before .before .before .before .before .before .before .before .before .before .before .before .before .before .before .before .before .before .args .ev .now) (c .before .before .before .before .before .before .before .before .before .before .before .before .before .before .before .before .before .before .before .before .before .args .rep .now) (c .before .before .before .before .before .before .before .before .before .before .before .before .before .before .before .before .before .before .before .before .before .args .pool .now)) _ (c .before .before .before .before .before .before .before .before .before .before .before .before .before .before .before .before .no-label .ensures) (c .before .before .before .before .before .before .before .before .before .before .before .before .emit .ensures .0)) (c .before .before .bump-unless-at-end .ensures .0 ask b (c .before .before .before .before .before .before .before .before .before .before .before .before .before .before .before .before .before .before .before .before .before .args .codes .now) _ _), omega (flags, c .before .before .before .before .before .before .before .before .before .before .before .before .emit .ensures .1, c .before .before .bump-unless-at-end .ensures .1, ap takes (c .before .before .before .before .enum-told2 .given .1)))
+returns-2 c =
+    let args = c .before .before .before .before .before .before .before .before .before .before .before .before .before .before .before .before .before .before .before .before .before .args in
+    let self = args .self in
+    let tk = args .t .now in
+    let ts = tokens tk in
+    let ev₀ = args .ev .now in
+    let rep₀ = args .rep .now in
+    let pool₀ = args .pool .now in
+    let codes₀ = args .codes .now in
+    let no-label = c .before .before .before .before .before .before .before .before .before .before .before .before .before .before .before .before .no-label in
+    let emit = c .before .before .before .before .before .before .before .before .before .before .before .before .emit in
+    let enum-told2 = c .before .before .before .before .enum-told2 in
+    let bump-unless-at-end = c .before .before .bump-unless-at-end in (
+      λ ask b.
+          error-yes ask ts b (args .bump) (args .message) (args .hint) (view self codes₀ ev₀ rep₀ pool₀) _ _ (enum-told2 .given .1)
+          (error-alone ask ts b (args .message) (args .hint) (span-of (no-label .result)) (view self codes₀ ev₀ rep₀ pool₀) _
+          (no-label .ensures) (emit .ensures .0)) (bump-unless-at-end .ensures .0 ask b codes₀ _ _),
+      omega (flags, emit .ensures .1, bump-unless-at-end .ensures .1, ap takes (enum-told2 .given .1)),
+    )
 
 same-length-7 : tie.Need-same-length-7
 same-length-7 c = search needs
@@ -63,7 +98,29 @@ same-length-9 : tie.Need-same-length-9
 same-length-9 c = search needs
 
 returns-3 : tie.Need-returns-3
-returns-3 c = (λ ask b. error-wrapped ask (tokens (c .before .before .before .before .before .before .before .before .before .before .before .before .before .before .before .before .before .before .before .before .before .args .t .now)) b (c .before .before .before .before .before .before .before .before .before .before .before .before .before .before .before .before .before .before .before .before .before .args .bump) (c .before .before .before .before .before .before .before .before .before .before .before .before .before .before .before .before .before .before .before .before .before .args .message) (c .before .before .before .before .before .before .before .before .before .before .before .before .before .before .before .before .before .before .before .before .before .args .hint) (view (c .before .before .before .before .before .before .before .before .before .before .before .before .before .before .before .before .before .before .before .before .before .args .self) (c .before .before .before .before .before .before .before .before .before .before .before .before .before .before .before .before .before .before .before .before .before .args .codes .now) (c .before .before .before .before .before .before .before .before .before .before .before .before .before .before .before .before .before .before .before .before .before .args .ev .now) (c .before .before .before .before .before .before .before .before .before .before .before .before .before .before .before .before .before .before .before .before .before .args .rep .now) (c .before .before .before .before .before .before .before .before .before .before .before .before .before .before .before .before .before .before .before .before .before .args .pool .now)) _ _ (c .before .before .before .before .enum-told3 .given .1) (error-alone ask (tokens (c .before .before .before .before .before .before .before .before .before .before .before .before .before .before .before .before .before .before .before .before .before .args .t .now)) b (c .before .before .before .before .before .before .before .before .before .before .before .before .before .before .before .before .before .before .before .before .before .args .message) (c .before .before .before .before .before .before .before .before .before .before .before .before .before .before .before .before .before .before .before .before .before .args .hint) (span-of (c .before .before .before .before .before .before .before .before .before .before .before .before .before .before .before .before .no-label .result)) (view (c .before .before .before .before .before .before .before .before .before .before .before .before .before .before .before .before .before .before .before .before .before .args .self) (c .before .before .before .before .before .before .before .before .before .before .before .before .before .before .before .before .before .before .before .before .before .args .codes .now) (c .before .before .before .before .before .before .before .before .before .before .before .before .before .before .before .before .before .before .before .before .before .args .ev .now) (c .before .before .before .before .before .before .before .before .before .before .before .before .before .before .before .before .before .before .before .before .before .args .rep .now) (c .before .before .before .before .before .before .before .before .before .before .before .before .before .before .before .before .before .before .before .before .before .args .pool .now)) _ (c .before .before .before .before .before .before .before .before .before .before .before .before .before .before .before .before .no-label .ensures) (c .before .before .before .before .before .before .before .before .before .before .before .before .emit .ensures .0)) (c .before .before .wrap-unless-at-end .ensures .0 ask b (c .before .before .before .before .before .before .before .before .before .before .before .before .before .before .before .before .before .before .before .before .before .args .codes .now) _ _), omega (flags, c .before .before .before .before .before .before .before .before .before .before .before .before .emit .ensures .1, c .before .before .wrap-unless-at-end .ensures .1, ap takes (c .before .before .before .before .enum-told3 .given .1)))
+returns-3 c =
+    let args = c .before .before .before .before .before .before .before .before .before .before .before .before .before .before .before .before .before .before .before .before .before .args in
+    let self = args .self in
+    let tk = args .t .now in
+    let ts = tokens tk in
+    let ev₀ = args .ev .now in
+    let rep₀ = args .rep .now in
+    let pool₀ = args .pool .now in
+    let codes₀ = args .codes .now in
+    let no-label = c .before .before .before .before .before .before .before .before .before .before .before .before .before .before .before .before .no-label in
+    let emit = c .before .before .before .before .before .before .before .before .before .before .before .before .emit in
+    let enum-told3 = c .before .before .before .before .enum-told3 in
+    let wrap-unless-at-end = c .before .before .wrap-unless-at-end in (
+      λ ask b.
+          error-wrapped ask ts b (args .bump) (args .message) (args .hint) (view self codes₀ ev₀ rep₀ pool₀) _ _ (enum-told3 .given .1)
+          (error-alone ask ts b (args .message) (args .hint) (span-of (no-label .result)) (view self codes₀ ev₀ rep₀ pool₀) _
+          (no-label .ensures) (emit .ensures .0)) (wrap-unless-at-end .ensures .0 ask b codes₀ _ _),
+      omega (flags, emit .ensures .1, wrap-unless-at-end .ensures .1, ap takes (enum-told3 .given .1)),
+    )
 
 pub error-spec : {M : Type 1} → statement M
-error-spec = tie.close (tie.spec no-label-requires emit-requires enum-told enum-told-2 bump-unless-at-end-requires enum-told-3 wrap-unless-at-end-requires same-length same-length-2 same-length-3 returns same-length-4 same-length-5 same-length-6 returns-2 same-length-7 same-length-8 same-length-9 returns-3)
+error-spec =
+    tie.close
+    (tie.spec no-label-requires emit-requires enum-told enum-told-2 bump-unless-at-end-requires enum-told-3
+    wrap-unless-at-end-requires same-length same-length-2 same-length-3 returns same-length-4 same-length-5 same-length-6
+    returns-2 same-length-7 same-length-8 same-length-9 returns-3)

@@ -19,7 +19,22 @@ same-length : tie.Need-same-length
 same-length c = search needs
 
 returns : tie.Need-returns
-returns c = (λ ask b. expect-yes ask (tokens (c .before .before .before .before .before .before .before .before .before .before .args .t .now)) b (matcher-of (c .before .before .before .before .before .before .before .before .before .before .args .m)) (view (c .before .before .before .before .before .before .before .before .before .before .args .self) (c .before .before .before .before .before .before .before .before .before .before .args .codes .now) (c .before .before .before .before .before .before .before .before .before .before .args .ev .now) (c .before .before .before .before .before .before .before .before .before .before .args .rep .now) (c .before .before .before .before .before .before .before .before .before .before .args .pool .now)) _ _ (c .before .before .before .eat .ensures .0 ask b (c .before .before .before .before .before .before .before .before .before .before .args .rep .now) (c .before .before .before .before .before .before .before .before .before .before .args .pool .now)) (c .if1 .taken), c .before .before .before .eat .ensures .1)
+returns c =
+    let args = c .before .before .before .before .before .before .before .before .before .before .args in
+    let self = args .self in
+    let tk = args .t .now in
+    let ts = tokens tk in
+    let ev₀ = args .ev .now in
+    let rep₀ = args .rep .now in
+    let pool₀ = args .pool .now in
+    let codes₀ = args .codes .now in
+    let eat = c .before .before .before .eat in
+    let if1 = c .if1 in (
+      λ ask b.
+          expect-yes ask ts b (matcher-of (args .m)) (view self codes₀ ev₀ rep₀ pool₀) _ _ (eat .ensures .0 ask b rep₀ pool₀)
+          (if1 .taken),
+      eat .ensures .1,
+    )
 
 same-length-2 : tie.Need-same-length-2
 same-length-2 c = search needs
@@ -31,7 +46,24 @@ same-length-4 : tie.Need-same-length-4
 same-length-4 c = search needs
 
 returns-2 : tie.Need-returns-2
-returns-2 c = (λ ask b. expect-no ask (tokens (c .before .before .before .before .before .before .before .before .before .before .before .before .before .before .before .before .before .before .before .before .before .args .t .now)) b (matcher-of (c .before .before .before .before .before .before .before .before .before .before .before .before .before .before .before .before .before .before .before .before .before .args .m)) (view (c .before .before .before .before .before .before .before .before .before .before .before .before .before .before .before .before .before .before .before .before .before .args .self) (c .before .before .before .before .before .before .before .before .before .before .before .before .before .before .before .before .before .before .before .before .before .args .codes .now) (c .before .before .before .before .before .before .before .before .before .before .before .before .before .before .before .before .before .before .before .before .before .args .ev .now) (c .before .before .before .before .before .before .before .before .before .before .before .before .before .before .before .before .before .before .before .before .before .args .rep .now) (c .before .before .before .before .before .before .before .before .before .before .before .before .before .before .before .before .before .before .before .before .before .args .pool .now)) (view (c .before .before .before .before .before .before .before .before .before .before .before .before .before .before .eat .result .s) _ _ (c .before .before .before .before .before .before .before .before .before .before .before .before .before .before .before .before .before .before .before .before .before .args .rep .now) (c .before .before .before .before .before .before .before .before .before .before .before .before .before .before .before .before .before .before .before .before .before .args .pool .now)) _ (answered _ false _ _ (c .before .before .before .before .before .before .before .before .before .before .before .before .before .before .eat .ensures .0 ask b (c .before .before .before .before .before .before .before .before .before .before .before .before .before .before .before .before .before .before .before .before .before .args .rep .now) (c .before .before .before .before .before .before .before .before .before .before .before .before .before .before .before .before .before .before .before .before .before .args .pool .now)) (c .before .before .before .before .before .before .before .before .before .before .before .if1 .left)) (c .before .before .before .before .before .before .error .ensures .0 ask b), (omega (flags, c .before .before .before .before .before .before .before .before .before .before .before .before .before .before .eat .ensures .1 .0, c .before .before .before .before .before .before .error .ensures .1), λ e. absurd (true-false (sym e))))
+returns-2 c =
+    let args = c .before .before .before .before .before .before .before .before .before .before .before .before .before .before .before .before .before .before .before .before .before .args in
+    let self = args .self in
+    let tk = args .t .now in
+    let ts = tokens tk in
+    let ev₀ = args .ev .now in
+    let rep₀ = args .rep .now in
+    let pool₀ = args .pool .now in
+    let codes₀ = args .codes .now in
+    let eat = c .before .before .before .before .before .before .before .before .before .before .before .before .before .before .eat in
+    let if1 = c .before .before .before .before .before .before .before .before .before .before .before .if1 in
+    let error = c .before .before .before .before .before .before .error in (
+      λ ask b.
+          expect-no ask ts b (matcher-of (args .m)) (view self codes₀ ev₀ rep₀ pool₀) (view (eat .result .s) _ _ rep₀ pool₀) _
+          (answered _ false _ _ (eat .ensures .0 ask b rep₀ pool₀) (if1 .left)) (error .ensures .0 ask b),
+      (omega (flags, eat .ensures .1 .0, error .ensures .1), λ e. absurd (true-false (sym e))),
+    )
 
 pub expect-spec : {M : Type 1} → statement M
-expect-spec = tie.close (tie.spec eat-requires error-requires same-length returns same-length-2 same-length-3 same-length-4 returns-2)
+expect-spec =
+    tie.close (tie.spec eat-requires error-requires same-length returns same-length-2 same-length-3 same-length-4 returns-2)

@@ -15,7 +15,23 @@ same-length : tie.Need-same-length
 same-length c = search needs
 
 returns : tie.Need-returns
-returns c = (λ ask b. recoverable-yes ask (tokens (c .before .before .before .before .before .before .before .before .before .before .before .args .t .now)) b (matcher-of (c .before .before .before .before .before .before .before .before .before .before .before .args .m)) (c .before .before .before .before .before .before .before .before .before .before .before .args .recovery .now) (view (c .before .before .before .before .before .before .before .before .before .before .before .args .self) (c .before .before .before .before .before .before .before .before .before .before .before .args .codes .now) (c .before .before .before .before .before .before .before .before .before .before .before .args .ev .now) (c .before .before .before .before .before .before .before .before .before .before .before .args .rep .now) (c .before .before .before .before .before .before .before .before .before .before .before .args .pool .now)) _ _ (c .before .before .before .eat .ensures .0 ask b (c .before .before .before .before .before .before .before .before .before .before .before .args .rep .now) (c .before .before .before .before .before .before .before .before .before .before .before .args .pool .now)) (c .if1 .taken), c .before .before .before .eat .ensures .1 .0)
+returns c =
+    let args = c .before .before .before .before .before .before .before .before .before .before .before .args in
+    let self = args .self in
+    let tk = args .t .now in
+    let ts = tokens tk in
+    let ev₀ = args .ev .now in
+    let rep₀ = args .rep .now in
+    let pool₀ = args .pool .now in
+    let codes₀ = args .codes .now in
+    let recovery₀ = args .recovery .now in
+    let eat = c .before .before .before .eat in
+    let if1 = c .if1 in (
+      λ ask b.
+          recoverable-yes ask ts b (matcher-of (args .m)) recovery₀ (view self codes₀ ev₀ rep₀ pool₀) _ _
+          (eat .ensures .0 ask b rep₀ pool₀) (if1 .taken),
+      eat .ensures .1 .0,
+    )
 
 silent-at-set-requires : tie.Need-silent-at-set-requires
 silent-at-set-requires c κs = tt
@@ -33,7 +49,28 @@ same-length-4 : tie.Need-same-length-4
 same-length-4 c = search needs
 
 returns-2 : tie.Need-returns-2
-returns-2 c = (λ ask b. recoverable-in ask (tokens (c .before .before .before .before .before .before .before .before .before .before .before .before .before .before .before .before .before .before .before .before .before .before .before .before .args .t .now)) b (matcher-of (c .before .before .before .before .before .before .before .before .before .before .before .before .before .before .before .before .before .before .before .before .before .before .before .before .args .m)) (c .before .before .before .before .before .before .before .before .before .before .before .before .before .before .before .before .before .before .before .before .before .before .before .before .args .recovery .now) (view (c .before .before .before .before .before .before .before .before .before .before .before .before .before .before .before .before .before .before .before .before .before .before .before .before .args .self) (c .before .before .before .before .before .before .before .before .before .before .before .before .before .before .before .before .before .before .before .before .before .before .before .before .args .codes .now) (c .before .before .before .before .before .before .before .before .before .before .before .before .before .before .before .before .before .before .before .before .before .before .before .before .args .ev .now) (c .before .before .before .before .before .before .before .before .before .before .before .before .before .before .before .before .before .before .before .before .before .before .before .before .args .rep .now) (c .before .before .before .before .before .before .before .before .before .before .before .before .before .before .before .before .before .before .before .before .before .before .before .before .args .pool .now)) (view (c .before .before .before .before .before .before .before .before .before .before .before .before .before .before .before .before .eat .result .s) _ _ (c .before .before .before .before .before .before .before .before .before .before .before .before .before .before .before .before .before .before .before .before .before .before .before .before .args .rep .now) (c .before .before .before .before .before .before .before .before .before .before .before .before .before .before .before .before .before .before .before .before .before .before .before .before .args .pool .now)) (view (c .before .before .before .before .before .before .before .before .before .before .before .before .silent-at-set .result .s) _ _ (c .before .before .before .before .before .before .before .before .before .before .before .before .before .before .before .before .before .before .before .before .before .before .before .before .args .rep .now) (c .before .before .before .before .before .before .before .before .before .before .before .before .before .before .before .before .before .before .before .before .before .before .before .before .args .pool .now)) _ (answered _ false _ _ (c .before .before .before .before .before .before .before .before .before .before .before .before .before .before .before .before .eat .ensures .0 ask b (c .before .before .before .before .before .before .before .before .before .before .before .before .before .before .before .before .before .before .before .before .before .before .before .before .args .rep .now) (c .before .before .before .before .before .before .before .before .before .before .before .before .before .before .before .before .before .before .before .before .before .before .before .before .args .pool .now)) (c .before .before .before .before .before .before .before .before .before .before .before .before .before .if1 .left)) (answered _ true _ _ (c .before .before .before .before .before .before .before .before .before .before .before .before .silent-at-set .ensures .0 b _ _ (c .before .before .before .before .before .before .before .before .before .before .before .before .before .before .before .before .before .before .before .before .before .before .before .before .args .rep .now) (c .before .before .before .before .before .before .before .before .before .before .before .before .before .before .before .before .before .before .before .before .before .before .before .before .args .pool .now)) (c .before .before .before .before .before .before .before .before .before .before .before .if2 .taken)) (c .before .before .before .before .before .before .error .ensures .0 ask b), omega (flags, c .before .before .before .before .before .before .before .before .before .before .before .before .before .before .before .before .eat .ensures .1 .0, c .before .before .before .before .before .before .before .before .before .before .before .before .silent-at-set .ensures .1 .0, c .before .before .before .before .before .before .error .ensures .1))
+returns-2 c =
+    let args = c .before .before .before .before .before .before .before .before .before .before .before .before .before .before .before .before .before .before .before .before .before .before .before .before .args in
+    let self = args .self in
+    let tk = args .t .now in
+    let ts = tokens tk in
+    let ev₀ = args .ev .now in
+    let rep₀ = args .rep .now in
+    let pool₀ = args .pool .now in
+    let codes₀ = args .codes .now in
+    let recovery₀ = args .recovery .now in
+    let eat = c .before .before .before .before .before .before .before .before .before .before .before .before .before .before .before .before .eat in
+    let if1 = c .before .before .before .before .before .before .before .before .before .before .before .before .before .if1 in
+    let silent-at-set = c .before .before .before .before .before .before .before .before .before .before .before .before .silent-at-set in
+    let if2 = c .before .before .before .before .before .before .before .before .before .before .before .if2 in
+    let error = c .before .before .before .before .before .before .error in (
+      λ ask b.
+          recoverable-in ask ts b (matcher-of (args .m)) recovery₀ (view self codes₀ ev₀ rep₀ pool₀)
+          (view (eat .result .s) _ _ rep₀ pool₀) (view (silent-at-set .result .s) _ _ rep₀ pool₀) _
+          (answered _ false _ _ (eat .ensures .0 ask b rep₀ pool₀) (if1 .left))
+          (answered _ true _ _ (silent-at-set .ensures .0 b _ _ rep₀ pool₀) (if2 .taken)) (error .ensures .0 ask b),
+      omega (flags, eat .ensures .1 .0, silent-at-set .ensures .1 .0, error .ensures .1),
+    )
 
 error-requires-2 : tie.Need-error-requires-2
 error-requires-2 c κs = tt
@@ -48,7 +85,31 @@ same-length-7 : tie.Need-same-length-7
 same-length-7 c = search needs
 
 returns-3 : tie.Need-returns-3
-returns-3 c = (λ ask b. recoverable-out ask (tokens (c .before .before .before .before .before .before .before .before .before .before .before .before .before .before .before .before .before .before .before .before .before .before .before .before .args .t .now)) b (matcher-of (c .before .before .before .before .before .before .before .before .before .before .before .before .before .before .before .before .before .before .before .before .before .before .before .before .args .m)) (c .before .before .before .before .before .before .before .before .before .before .before .before .before .before .before .before .before .before .before .before .before .before .before .before .args .recovery .now) (view (c .before .before .before .before .before .before .before .before .before .before .before .before .before .before .before .before .before .before .before .before .before .before .before .before .args .self) (c .before .before .before .before .before .before .before .before .before .before .before .before .before .before .before .before .before .before .before .before .before .before .before .before .args .codes .now) (c .before .before .before .before .before .before .before .before .before .before .before .before .before .before .before .before .before .before .before .before .before .before .before .before .args .ev .now) (c .before .before .before .before .before .before .before .before .before .before .before .before .before .before .before .before .before .before .before .before .before .before .before .before .args .rep .now) (c .before .before .before .before .before .before .before .before .before .before .before .before .before .before .before .before .before .before .before .before .before .before .before .before .args .pool .now)) (view (c .before .before .before .before .before .before .before .before .before .before .before .before .before .before .before .before .eat .result .s) _ _ (c .before .before .before .before .before .before .before .before .before .before .before .before .before .before .before .before .before .before .before .before .before .before .before .before .args .rep .now) (c .before .before .before .before .before .before .before .before .before .before .before .before .before .before .before .before .before .before .before .before .before .before .before .before .args .pool .now)) (view (c .before .before .before .before .before .before .before .before .before .before .before .before .silent-at-set .result .s) _ _ (c .before .before .before .before .before .before .before .before .before .before .before .before .before .before .before .before .before .before .before .before .before .before .before .before .args .rep .now) (c .before .before .before .before .before .before .before .before .before .before .before .before .before .before .before .before .before .before .before .before .before .before .before .before .args .pool .now)) _ (answered _ false _ _ (c .before .before .before .before .before .before .before .before .before .before .before .before .before .before .before .before .eat .ensures .0 ask b (c .before .before .before .before .before .before .before .before .before .before .before .before .before .before .before .before .before .before .before .before .before .before .before .before .args .rep .now) (c .before .before .before .before .before .before .before .before .before .before .before .before .before .before .before .before .before .before .before .before .before .before .before .before .args .pool .now)) (c .before .before .before .before .before .before .before .before .before .before .before .before .before .if1 .left)) (answered _ false _ _ (c .before .before .before .before .before .before .before .before .before .before .before .before .silent-at-set .ensures .0 b _ _ (c .before .before .before .before .before .before .before .before .before .before .before .before .before .before .before .before .before .before .before .before .before .before .before .before .args .rep .now) (c .before .before .before .before .before .before .before .before .before .before .before .before .before .before .before .before .before .before .before .before .before .before .before .before .args .pool .now)) (c .before .before .before .before .before .before .before .before .before .before .before .if2 .left)) (c .before .before .before .before .before .before .error2 .ensures .0 ask b), omega (flags, c .before .before .before .before .before .before .before .before .before .before .before .before .before .before .before .before .eat .ensures .1 .0, c .before .before .before .before .before .before .before .before .before .before .before .before .silent-at-set .ensures .1 .0, c .before .before .before .before .before .before .error2 .ensures .1))
+returns-3 c =
+    let args = c .before .before .before .before .before .before .before .before .before .before .before .before .before .before .before .before .before .before .before .before .before .before .before .before .args in
+    let self = args .self in
+    let tk = args .t .now in
+    let ts = tokens tk in
+    let ev₀ = args .ev .now in
+    let rep₀ = args .rep .now in
+    let pool₀ = args .pool .now in
+    let codes₀ = args .codes .now in
+    let recovery₀ = args .recovery .now in
+    let eat = c .before .before .before .before .before .before .before .before .before .before .before .before .before .before .before .before .eat in
+    let if1 = c .before .before .before .before .before .before .before .before .before .before .before .before .before .if1 in
+    let silent-at-set = c .before .before .before .before .before .before .before .before .before .before .before .before .silent-at-set in
+    let if2 = c .before .before .before .before .before .before .before .before .before .before .before .if2 in
+    let error2 = c .before .before .before .before .before .before .error2 in (
+      λ ask b.
+          recoverable-out ask ts b (matcher-of (args .m)) recovery₀ (view self codes₀ ev₀ rep₀ pool₀)
+          (view (eat .result .s) _ _ rep₀ pool₀) (view (silent-at-set .result .s) _ _ rep₀ pool₀) _
+          (answered _ false _ _ (eat .ensures .0 ask b rep₀ pool₀) (if1 .left))
+          (answered _ false _ _ (silent-at-set .ensures .0 b _ _ rep₀ pool₀) (if2 .left)) (error2 .ensures .0 ask b),
+      omega (flags, eat .ensures .1 .0, silent-at-set .ensures .1 .0, error2 .ensures .1),
+    )
 
 pub expect-recoverable-spec : {M : Type 1} → statement M
-expect-recoverable-spec = tie.close (tie.spec eat-requires same-length returns silent-at-set-requires error-requires same-length-2 same-length-3 same-length-4 returns-2 error-requires-2 same-length-5 same-length-6 same-length-7 returns-3)
+expect-recoverable-spec =
+    tie.close
+    (tie.spec eat-requires same-length returns silent-at-set-requires error-requires same-length-2 same-length-3 same-length-4
+    returns-2 error-requires-2 same-length-5 same-length-6 same-length-7 returns-3)

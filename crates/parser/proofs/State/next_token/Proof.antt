@@ -13,11 +13,20 @@ end-at-requires c κs = tt
 
 returns : tie.Need-returns
 unfolding left
-returns c = (λ codes ev rep pool. took-row (c .before .before .before .args .t .now) _ (view (c .before .before .before .args .self) codes ev rep pool) (omega flags) (c .end-at .ensures), omega flags)
+returns c =
+    let args = c .before .before .before .args in
+    let self = args .self in
+    let tk = args .t .now in
+    let end-at = c .end-at in
+    (λ codes ev rep pool. took-row tk _ (view self codes ev rep pool) (omega flags) (end-at .ensures), omega flags)
 
 returns-2 : tie.Need-returns-2
 unfolding left
-returns-2 c = (λ codes ev rep pool. took-nothing (c .before .before .args .t .now) (view (c .before .before .args .self) codes ev rep pool) (omega flags), omega flags)
+returns-2 c =
+    let args = c .before .before .args in
+    let self = args .self in
+    let tk = args .t .now in
+    (λ codes ev rep pool. took-nothing tk (view self codes ev rep pool) (omega flags), omega flags)
 
 pub next-token-spec : {M : Type 1} → statement M
 next-token-spec = tie.close (tie.spec add-t12 end-at-requires returns returns-2)

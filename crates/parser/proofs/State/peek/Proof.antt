@@ -12,7 +12,15 @@ skip-trivia-requires c κs = tt
 
 returns : tie.Need-returns
 unfolding left
-returns c = (λ codes ev rep pool. c .skip-trivia .ensures .0 (view (c .before .before .args .self) codes ev rep pool) ∙ sym (peek-is (tokens (c .before .before .args .t .now)) (view (c .before .before .args .self) codes ev rep pool)), omega flags)
+returns c =
+    let args = c .before .before .args in
+    let self = args .self in
+    let tk = args .t .now in
+    let ts = tokens tk in
+    let skip-trivia = c .skip-trivia in (
+      λ codes ev rep pool. skip-trivia .ensures .0 (view self codes ev rep pool) ∙ sym (peek-is ts (view self codes ev rep pool)),
+      omega flags,
+    )
 
 pub peek-spec : {M : Type 1} → statement M
 peek-spec = tie.close (tie.spec skip-trivia-requires returns)

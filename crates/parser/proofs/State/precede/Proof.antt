@@ -15,13 +15,33 @@ same-length : tie.Need-same-length
 same-length c = search needs
 
 returns : tie.Need-returns
-returns c = (λ codes rep pool. precede-on (marker-of (c .before .before .before .before .before .before .before .before .before .before .before .args .m)) (view (c .before .before .before .before .before .before .before .before .before .before .before .args .self) codes (c .before .before .before .before .before .before .before .before .before .before .before .args .ev .now) rep pool) (view (c .before .before .before .before .before .before .before .before .push-event .result) codes _ rep pool) _ (c .before .before .before .before .before .before .before .before .push-event .ensures .0 codes rep pool) (c .before .before .before .before .if1 .taken) (c .before .before .put-link .ensures), c .before .before .before .before .before .before .before .before .push-event .ensures .1)
+returns c =
+    let args = c .before .before .before .before .before .before .before .before .before .before .before .args in
+    let self = args .self in
+    let ev₀ = args .ev .now in
+    let push-event = c .before .before .before .before .before .before .before .before .push-event in
+    let if1 = c .before .before .before .before .if1 in
+    let put-link = c .before .before .put-link in (
+      λ codes rep pool.
+          precede-on (marker-of (args .m)) (view self codes ev₀ rep pool) (view (push-event .result) codes _ rep pool) _
+          (push-event .ensures .0 codes rep pool) (if1 .taken) (put-link .ensures),
+      push-event .ensures .1,
+    )
 
 same-length-2 : tie.Need-same-length-2
 same-length-2 c = search needs
 
 returns-2 : tie.Need-returns-2
-returns-2 c = (λ codes rep pool. precede-off (marker-of (c .before .before .before .before .before .before .before .args .m)) (view (c .before .before .before .before .before .before .before .args .self) codes (c .before .before .before .before .before .before .before .args .ev .now) rep pool) _ (c .before .before .before .before .push-event .ensures .0 codes rep pool) (c .if1 .left), c .before .before .before .before .push-event .ensures .1)
+returns-2 c =
+    let args = c .before .before .before .before .before .before .before .args in
+    let self = args .self in
+    let ev₀ = args .ev .now in
+    let push-event = c .before .before .before .before .push-event in
+    let if1 = c .if1 in (
+      λ codes rep pool.
+          precede-off (marker-of (args .m)) (view self codes ev₀ rep pool) _ (push-event .ensures .0 codes rep pool) (if1 .left),
+      push-event .ensures .1,
+    )
 
 pub precede-spec : {M : Type 1} → statement M
 precede-spec = tie.close (tie.spec push-event-requires put-link-requires same-length returns same-length-2 returns-2)

@@ -14,7 +14,10 @@ same-length : tie.Need-same-length
 same-length c = search needs
 
 returns : tie.Need-returns
-returns c = (λ codes rep pool. c .before .before .push-row .ensures .0 codes rep pool ∙ push-on _ _ _ (c .before .before .before .before .if1 .taken), c .before .before .push-row .ensures .1)
+returns c =
+    let if1 = c .before .before .before .before .if1 in
+    let push-row = c .before .before .push-row in
+    (λ codes rep pool. push-row .ensures .0 codes rep pool ∙ push-on _ _ _ (if1 .taken), push-row .ensures .1)
 
 returns-2 : tie.Need-returns-2
 unfolding left

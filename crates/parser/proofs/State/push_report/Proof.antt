@@ -28,13 +28,25 @@ put-report-requires : tie.Need-put-report-requires
 put-report-requires c κs = tt
 
 put-codes-requires : tie.Need-put-codes-requires
-put-codes-requires c κs = (c .before .before .before .before .before .before .before .before .before .before .before .before .before .pool-count .ensures .1, c .before .before .before .before .before .before .before .before .before .before .fits3 .ensures .1 (c .before .before .before .before .before .before .before .before .before .if2 .taken))
+put-codes-requires c κs =
+    let pool-count = c .before .before .before .before .before .before .before .before .before .before .before .before .before .pool-count in
+    let fits3 = c .before .before .before .before .before .before .before .before .before .before .fits3 in
+    let if2 = c .before .before .before .before .before .before .before .before .before .if2 in
+    (pool-count .ensures .1, fits3 .ensures .1 (if2 .taken))
 
 add-q : tie.Need-add-q
-add-q c = omega (flags, c .before .before .before .before .before .before .before .before .before .before .before .before .before .before .before .fits2 .ensures .1 (c .before .before .before .before .before .before .before .before .before .before .before .before .before .before .if1 .taken), c .before .before .before .before .before .before .before .before .before .before .before .before .before .before .before .before .before .before .before .before .good)
+add-q c =
+    let start = c .before .before .before .before .before .before .before .before .before .before .before .before .before .before .before .before .before .before .before .before in
+    let fits2 = c .before .before .before .before .before .before .before .before .before .before .before .before .before .before .before .fits2 in
+    let if1 = c .before .before .before .before .before .before .before .before .before .before .before .before .before .before .if1 in
+    omega (flags, fits2 .ensures .1 (if1 .taken), start .good)
 
 add-q-2 : tie.Need-add-q-2
-add-q-2 c = omega (flags, c .before .before .before .before .before .before .before .before .before .before .before .before .before .fits3 .ensures .1 (c .before .before .before .before .before .before .before .before .before .before .before .before .if2 .taken), c .before .before .before .before .before .before .before .before .before .before .before .before .before .before .before .before .before .before .before .before .good)
+add-q-2 c =
+    let start = c .before .before .before .before .before .before .before .before .before .before .before .before .before .before .before .before .before .before .before .before in
+    let fits3 = c .before .before .before .before .before .before .before .before .before .before .before .before .before .fits3 in
+    let if2 = c .before .before .before .before .before .before .before .before .before .before .before .before .if2 in
+    omega (flags, fits3 .ensures .1 (if2 .taken), start .good)
 
 refuse-requires : tie.Need-refuse-requires
 refuse-requires c κs = tt
@@ -50,13 +62,68 @@ same-length-2 c = search needs
 
 returns : tie.Need-returns
 unfolding left
-returns c = (λ ev quiet. report-fits (c .before .before .before .before .before .before .before .before .before .before .before .before .before .before .before .before .before .before .before .before .args .message) (c .before .before .before .before .before .before .before .before .before .before .before .before .before .before .before .before .before .before .before .before .args .hint) (span-of (c .before .before .before .before .before .before .before .before .before .before .before .before .before .before .before .before .before .before .before .before .args .range)) (span-of (c .before .before .before .before .before .before .before .before .before .before .before .before .before .before .before .before .before .before .before .before .args .label)) (view (c .before .before .before .before .before .before .before .before .before .before .before .before .before .before .before .before .before .before .before .before .args .self) (c .before .before .before .before .before .before .before .before .before .before .before .before .before .before .before .before .before .before .before .before .args .codes .now) ev (c .before .before .before .before .before .before .before .before .before .before .before .before .before .before .before .before .before .before .before .before .args .rep .now) (c .before .before .before .before .before .before .before .before .before .before .before .before .before .before .before .before .before .before .before .before .args .pool .now)) (c .before .before .before .before .before .before .before .before .before .before .before .before .before .before .before .before .before .before .before .before .args .codes .now) _ _ _ quiet (c .before .before .before .before .before .before .before .before .before .before .before .before .before .before .before .before .pool-count .ensures .0) (c .before .before .before .before .before .before .before .before .before .before .before .before .before .before .before .before .pool-count .ensures .1) (c .before .before .before .before .before .before .before .before .before .before .before .before .before .before .before .fits2 .ensures .0) (c .before .before .before .before .before .before .before .before .before .before .before .before .before .fits3 .ensures .0) _ _ _ _ _ (c .before .before .before .before .before .before .before .before .before .before .before .before .before .before .if1 .taken) (c .before .before .before .before .before .before .before .before .before .before .before .before .if2 .taken) (c .before .before .before .before .before .before .before .before .before .before .before .low32 .ensures) (c .before .before .before .before .before .before .before .before .before .low322 .ensures) (c .before .before .before .before .before .before .before .before .low323 .ensures) (c .before .before .before .before .before .before .before .put-report .ensures) (c .before .before .put-codes .ensures), λ tk. omega flags)
+returns c =
+    let args = c .before .before .before .before .before .before .before .before .before .before .before .before .before .before .before .before .before .before .before .before .args in
+    let self = args .self in
+    let rep₀ = args .rep .now in
+    let pool₀ = args .pool .now in
+    let codes₀ = args .codes .now in
+    let pool-count = c .before .before .before .before .before .before .before .before .before .before .before .before .before .before .before .before .pool-count in
+    let fits2 = c .before .before .before .before .before .before .before .before .before .before .before .before .before .before .before .fits2 in
+    let if1 = c .before .before .before .before .before .before .before .before .before .before .before .before .before .before .if1 in
+    let fits3 = c .before .before .before .before .before .before .before .before .before .before .before .before .before .fits3 in
+    let if2 = c .before .before .before .before .before .before .before .before .before .before .before .before .if2 in
+    let low32 = c .before .before .before .before .before .before .before .before .before .before .before .low32 in
+    let low322 = c .before .before .before .before .before .before .before .before .before .low322 in
+    let low323 = c .before .before .before .before .before .before .before .before .low323 in
+    let put-report = c .before .before .before .before .before .before .before .put-report in
+    let put-codes = c .before .before .put-codes in (
+      λ ev quiet.
+          report-fits (args .message) (args .hint) (span-of (args .range)) (span-of (args .label)) (view self codes₀ ev rep₀ pool₀)
+          codes₀ _ _ _ quiet (pool-count .ensures .0) (pool-count .ensures .1) (fits2 .ensures .0) (fits3 .ensures .0) _ _ _ _ _
+          (if1 .taken) (if2 .taken) (low32 .ensures) (low322 .ensures) (low323 .ensures) (put-report .ensures) (put-codes .ensures),
+      λ tk. omega flags,
+    )
 
 returns-2 : tie.Need-returns-2
-returns-2 c = (λ ev quiet. report-no-pool (c .before .before .before .before .before .before .before .before .before .args .message) (c .before .before .before .before .before .before .before .before .before .args .hint) (span-of (c .before .before .before .before .before .before .before .before .before .args .range)) (span-of (c .before .before .before .before .before .before .before .before .before .args .label)) (view (c .before .before .before .before .before .before .before .before .before .args .self) (c .before .before .before .before .before .before .before .before .before .args .codes .now) ev (c .before .before .before .before .before .before .before .before .before .args .rep .now) (c .before .before .before .before .before .before .before .before .before .args .pool .now)) (c .before .before .before .before .before .before .before .before .before .args .codes .now) _ _ _ quiet (c .before .before .before .before .before .pool-count .ensures .0) (c .before .before .before .before .before .pool-count .ensures .1) (c .before .before .before .before .fits2 .ensures .0) (c .before .before .fits3 .ensures .0) _ (c .before .before .before .if1 .taken) (c .before .if2 .left) (c .refuse .ensures .0 (c .before .before .before .before .before .before .before .before .before .args .codes .now) ev (c .before .before .before .before .before .before .before .before .before .args .rep .now) (c .before .before .before .before .before .before .before .before .before .args .pool .now)), c .refuse .ensures .1)
+returns-2 c =
+    let args = c .before .before .before .before .before .before .before .before .before .args in
+    let self = args .self in
+    let rep₀ = args .rep .now in
+    let pool₀ = args .pool .now in
+    let codes₀ = args .codes .now in
+    let pool-count = c .before .before .before .before .before .pool-count in
+    let fits2 = c .before .before .before .before .fits2 in
+    let if1 = c .before .before .before .if1 in
+    let fits3 = c .before .before .fits3 in
+    let if2 = c .before .if2 in
+    let refuse = c .refuse in (
+      λ ev quiet.
+          report-no-pool (args .message) (args .hint) (span-of (args .range)) (span-of (args .label)) (view self codes₀ ev rep₀ pool₀)
+          codes₀ _ _ _ quiet (pool-count .ensures .0) (pool-count .ensures .1) (fits2 .ensures .0) (fits3 .ensures .0) _
+          (if1 .taken) (if2 .left) (refuse .ensures .0 codes₀ ev rep₀ pool₀),
+      refuse .ensures .1,
+    )
 
 returns-3 : tie.Need-returns-3
-returns-3 c = (λ ev quiet. report-no-row (c .before .before .before .before .before .before .before .args .message) (c .before .before .before .before .before .before .before .args .hint) (span-of (c .before .before .before .before .before .before .before .args .range)) (span-of (c .before .before .before .before .before .before .before .args .label)) (view (c .before .before .before .before .before .before .before .args .self) (c .before .before .before .before .before .before .before .args .codes .now) ev (c .before .before .before .before .before .before .before .args .rep .now) (c .before .before .before .before .before .before .before .args .pool .now)) _ _ quiet (c .before .before .fits2 .ensures .0) (c .before .if1 .left) (c .refuse2 .ensures .0 (c .before .before .before .before .before .before .before .args .codes .now) ev (c .before .before .before .before .before .before .before .args .rep .now) (c .before .before .before .before .before .before .before .args .pool .now)), c .refuse2 .ensures .1)
+returns-3 c =
+    let args = c .before .before .before .before .before .before .before .args in
+    let self = args .self in
+    let rep₀ = args .rep .now in
+    let pool₀ = args .pool .now in
+    let codes₀ = args .codes .now in
+    let fits2 = c .before .before .fits2 in
+    let if1 = c .before .if1 in
+    let refuse2 = c .refuse2 in (
+      λ ev quiet.
+          report-no-row (args .message) (args .hint) (span-of (args .range)) (span-of (args .label)) (view self codes₀ ev rep₀ pool₀) _
+          _ quiet (fits2 .ensures .0) (if1 .left) (refuse2 .ensures .0 codes₀ ev rep₀ pool₀),
+      refuse2 .ensures .1,
+    )
 
 pub push-report-spec : {M : Type 1} → statement M
-push-report-spec = tie.close (tie.spec pool-count-requires fits-requires fits-requires-2 low32-requires low32-requires-2 low32-requires-3 put-report-requires put-codes-requires add-q add-q-2 refuse-requires refuse-requires-2 same-length same-length-2 returns returns-2 returns-3)
+push-report-spec =
+    tie.close
+    (tie.spec pool-count-requires fits-requires fits-requires-2 low32-requires low32-requires-2 low32-requires-3
+    put-report-requires put-codes-requires add-q add-q-2 refuse-requires refuse-requires-2 same-length same-length-2
+    returns returns-2 returns-3)

@@ -44,11 +44,21 @@ same-length c = simp length-set
 
 returns : tie.Need-returns
 unfolding M.push-row left
-returns c = (λ codes rep pool. rw (← (c .before .fits2 .ensures .0), c .if1 .taken) (rw (sets3 _ _ _ _ _)), λ tk. omega flags)
+returns c =
+    let fits2 = c .before .fits2 in
+    let if1 = c .if1 in
+    (λ codes rep pool. rw (← (fits2 .ensures .0), if1 .taken) (rw (sets3 _ _ _ _ _)), λ tk. omega flags)
 
 returns-2 : tie.Need-returns-2
 unfolding M.push-row left
-returns-2 c = (λ codes rep pool. rw (← (c .before .before .fits2 .ensures .0), c .before .if1 .left) (c .refuse .ensures .0 codes _ rep pool), λ tk. c .refuse .ensures .1 tk)
+returns-2 c =
+    let fits2 = c .before .before .fits2 in
+    let if1 = c .before .if1 in
+    let refuse = c .refuse in
+    (λ codes rep pool. rw (← (fits2 .ensures .0), if1 .left) (refuse .ensures .0 codes _ rep pool), λ tk. refuse .ensures .1 tk)
 
 pub push-row-spec : {M : Type 1} → statement M
-push-row-spec = tie.close (tie.spec fits-requires mul-ev slice-write-ev add-ev mul-ev-2 slice-write-ev-2 add-ev-2 mul-ev-3 slice-write-ev-3 add-q refuse-requires same-length returns returns-2)
+push-row-spec =
+    tie.close
+    (tie.spec fits-requires mul-ev slice-write-ev add-ev mul-ev-2 slice-write-ev-2 add-ev-2 mul-ev-3 slice-write-ev-3 add-q
+    refuse-requires same-length returns returns-2)

@@ -11,7 +11,15 @@ end-at-requires : tie.Need-end-at-requires
 end-at-requires c κs = tt
 
 returns : tie.Need-returns
-returns c = λ codes ev rep pool. range-rows (drop (c .before .before .before .args .self .cursor .0) (tokens (c .before .before .before .args .t .now))) (view (c .before .before .before .args .self) codes ev rep pool) (c .before .before .before .args .self .at .0) _ refl (c .end-at .ensures (view (c .before .before .before .args .self) codes ev rep pool) refl)
+returns c =
+    let args = c .before .before .before .args in
+    let self = args .self in
+    let tk = args .t .now in
+    let ts = tokens tk in
+    let end-at = c .end-at in
+    λ codes ev rep pool.
+    range-rows (drop (args .self .cursor .0) ts) (view self codes ev rep pool) (args .self .at .0) _ refl
+    (end-at .ensures (view self codes ev rep pool) refl)
 
 pub range-spec : {M : Type 1} → statement M
 range-spec = tie.close (tie.spec end-at-requires returns)

@@ -15,10 +15,33 @@ is-next-at-requires : tie.Need-is-next-at-requires
 is-next-at-requires c κs = tt
 
 returns : tie.Need-returns
-returns c = (λ ask b codes ev rep pool. macro-args-yes ask (tokens (c .before .before .before .before .before .args .t .now)) b (view (c .before .before .before .before .before .args .self) codes ev rep pool) (view (c .before .before .before .silent-at .result .s) codes ev rep pool) _ (answered _ true _ _ (c .before .before .before .silent-at .ensures .0 b codes ev rep pool) (c .before .before .if1 .taken)) (c .is-next-at .ensures), (c .before .before .before .silent-at .ensures .1 .0, λ e. c .before .before .before .silent-at .ensures .1 .1 (c .before .before .if1 .taken)))
+returns c =
+    let args = c .before .before .before .before .before .args in
+    let self = args .self in
+    let tk = args .t .now in
+    let ts = tokens tk in
+    let silent-at = c .before .before .before .silent-at in
+    let if1 = c .before .before .if1 in
+    let is-next-at = c .is-next-at in (
+      λ ask b codes ev rep pool.
+          macro-args-yes ask ts b (view self codes ev rep pool) (view (silent-at .result .s) codes ev rep pool) _
+          (answered _ true _ _ (silent-at .ensures .0 b codes ev rep pool) (if1 .taken)) (is-next-at .ensures),
+      (silent-at .ensures .1 .0, λ e. silent-at .ensures .1 .1 (if1 .taken)),
+    )
 
 returns-2 : tie.Need-returns-2
-returns-2 c = (λ ask b codes ev rep pool. macro-args-no ask (tokens (c .before .before .before .before .args .t .now)) b (view (c .before .before .before .before .args .self) codes ev rep pool) (view (c .before .before .silent-at .result .s) codes ev rep pool) (answered _ false _ _ (c .before .before .silent-at .ensures .0 b codes ev rep pool) (c .before .if1 .left)), (c .before .before .silent-at .ensures .1 .0, λ e. absurd (true-false (sym e))))
+returns-2 c =
+    let args = c .before .before .before .before .args in
+    let self = args .self in
+    let tk = args .t .now in
+    let ts = tokens tk in
+    let silent-at = c .before .before .silent-at in
+    let if1 = c .before .if1 in (
+      λ ask b codes ev rep pool.
+          macro-args-no ask ts b (view self codes ev rep pool) (view (silent-at .result .s) codes ev rep pool)
+          (answered _ false _ _ (silent-at .ensures .0 b codes ev rep pool) (if1 .left)),
+      (silent-at .ensures .1 .0, λ e. absurd (true-false (sym e))),
+    )
 
 pub silent-at-macro-invocation-with-args-spec : {M : Type 1} → statement M
 silent-at-macro-invocation-with-args-spec = tie.close (tie.spec silent-at-requires is-next-at-requires returns returns-2)

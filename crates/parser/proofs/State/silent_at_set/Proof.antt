@@ -14,7 +14,19 @@ is-one-of-at-requires c κs = tt
 
 returns : tie.Need-returns
 unfolding left
-returns c = (λ b codes ev rep pool. silent-is (tokens (c .before .before .before .before .args .t .now)) b (c .before .before .before .before .args .set .now) (view (c .before .before .before .before .args .self) codes ev rep pool) (view (c .before .peek .result) codes ev rep pool) _ (c .before .peek .ensures .0 codes ev rep pool) (c .is-one-of-at .ensures .0), (c .before .peek .ensures .1, λ e. omega (flags, c .is-one-of-at .ensures .1 e)))
+returns c =
+    let args = c .before .before .before .before .args in
+    let self = args .self in
+    let tk = args .t .now in
+    let ts = tokens tk in
+    let set₀ = args .set .now in
+    let peek = c .before .peek in
+    let is-one-of-at = c .is-one-of-at in (
+      λ b codes ev rep pool.
+          silent-is ts b set₀ (view self codes ev rep pool) (view (peek .result) codes ev rep pool) _
+          (peek .ensures .0 codes ev rep pool) (is-one-of-at .ensures .0),
+      (peek .ensures .1, λ e. omega (flags, is-one-of-at .ensures .1 e)),
+    )
 
 pub silent-at-set-spec : {M : Type 1} → statement M
 silent-at-set-spec = tie.close (tie.spec peek-requires is-one-of-at-requires returns)

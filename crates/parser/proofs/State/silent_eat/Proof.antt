@@ -21,10 +21,38 @@ same-length : tie.Need-same-length
 same-length c = search needs
 
 returns : tie.Need-returns
-returns c = (λ ask b codes rep pool. silent-eat-yes ask (tokens (c .before .before .before .before .before .before .before .before .args .t .now)) b (matcher-of (c .before .before .before .before .before .before .before .before .args .m)) (view (c .before .before .before .before .before .before .before .before .args .self) codes (c .before .before .before .before .before .before .before .before .args .ev .now) rep pool) (view (c .before .before .before .before .before .silent .result .s) codes (c .before .before .before .before .before .before .before .before .args .ev .now) rep pool) _ (sym (matches-is ask (tokens (c .before .before .before .before .before .before .before .before .args .t .now)) b (c .before .before .before .before .before .before .before .before .args .m) (view (c .before .before .before .before .before .before .before .before .args .self) codes (c .before .before .before .before .before .before .before .before .args .ev .now) rep pool)) ∙ answered _ true _ _ (c .before .before .before .before .before .silent .ensures .0 b codes (c .before .before .before .before .before .before .before .before .args .ev .now) rep pool) (c .before .before .before .before .if1 .taken)) (c .before .before .consume .ensures .0 ask b codes rep pool), (omega (flags, c .before .before .before .before .before .silent .ensures .1 .0, c .before .before .consume .ensures .1), λ e. omega (flags, c .before .before .before .before .before .silent .ensures .1 .0, c .before .before .consume .ensures .1)))
+returns c =
+    let args = c .before .before .before .before .before .before .before .before .args in
+    let self = args .self in
+    let tk = args .t .now in
+    let ts = tokens tk in
+    let ev₀ = args .ev .now in
+    let silent = c .before .before .before .before .before .silent in
+    let if1 = c .before .before .before .before .if1 in
+    let consume = c .before .before .consume in (
+      λ ask b codes rep pool.
+          silent-eat-yes ask ts b (matcher-of (args .m)) (view self codes ev₀ rep pool) (view (silent .result .s) codes ev₀ rep pool) _
+          (sym (matches-is ask ts b (args .m) (view self codes ev₀ rep pool))
+          ∙ answered _ true _ _ (silent .ensures .0 b codes ev₀ rep pool) (if1 .taken)) (consume .ensures .0 ask b codes rep pool),
+      (omega (flags, silent .ensures .1 .0, consume .ensures .1), λ e. omega (flags, silent .ensures .1 .0, consume .ensures .1)),
+    )
 
 returns-2 : tie.Need-returns-2
-returns-2 c = (λ ask b codes rep pool. ap (λ (y : Bool). said (truth y) (view (c .before .silent .result .s) codes (c .before .before .before .before .args .ev .now) rep pool)) (c .if1 .left) ∙ silent-eat-no ask (tokens (c .before .before .before .before .args .t .now)) b (matcher-of (c .before .before .before .before .args .m)) (view (c .before .before .before .before .args .self) codes (c .before .before .before .before .args .ev .now) rep pool) (view (c .before .silent .result .s) codes (c .before .before .before .before .args .ev .now) rep pool) (sym (matches-is ask (tokens (c .before .before .before .before .args .t .now)) b (c .before .before .before .before .args .m) (view (c .before .before .before .before .args .self) codes (c .before .before .before .before .args .ev .now) rep pool)) ∙ answered _ false _ _ (c .before .silent .ensures .0 b codes (c .before .before .before .before .args .ev .now) rep pool) (c .if1 .left)), (c .before .silent .ensures .1 .0, λ e. absurd (true-false (sym e ∙ c .if1 .left))))
+returns-2 c =
+    let args = c .before .before .before .before .args in
+    let self = args .self in
+    let tk = args .t .now in
+    let ts = tokens tk in
+    let ev₀ = args .ev .now in
+    let silent = c .before .silent in
+    let if1 = c .if1 in (
+      λ ask b codes rep pool.
+          ap (λ (y : Bool). said (truth y) (view (silent .result .s) codes ev₀ rep pool)) (if1 .left)
+          ∙ silent-eat-no ask ts b (matcher-of (args .m)) (view self codes ev₀ rep pool) (view (silent .result .s) codes ev₀ rep pool)
+          (sym (matches-is ask ts b (args .m) (view self codes ev₀ rep pool))
+          ∙ answered _ false _ _ (silent .ensures .0 b codes ev₀ rep pool) (if1 .left)),
+      (silent .ensures .1 .0, λ e. absurd (true-false (sym e ∙ if1 .left))),
+    )
 
 pub silent-eat-spec : {M : Type 1} → statement M
 silent-eat-spec = tie.close (tie.spec silent-requires consume-requires same-length returns returns-2)

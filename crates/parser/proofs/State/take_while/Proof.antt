@@ -13,7 +13,9 @@ use Rattle.parser.proofs.State.take_while.Statement.{statement}
 use Rattle.parser.proofs.State.take_while.Tie as tie
 
 abbrev Inv-loop : tie.InvT-loop
-Inv-loop t set q₀ q = ((codes ev rep pool : List ℕ) → name-run set (drop (q .cursor .0) (tokens t)) (view q codes ev rep pool) ≡ name-run set (drop (q₀ .cursor .0) (tokens t)) (view q₀ codes ev rep pool)) × (left t q ≤ left t q₀)
+Inv-loop t set q₀ q =
+    ((codes ev rep pool : List ℕ) → name-run set (drop (q .cursor .0) (tokens t)) (view q codes ev rep pool) ≡ name-run set (drop (q₀ .cursor .0) (tokens t)) (view q₀ codes ev rep pool))
+    × (left t q ≤ left t q₀)
 
 abbrev μ-loop : tie.MeasureT-loop
 μ-loop t set q₀ q = left t q
@@ -29,13 +31,44 @@ next-token-requires c κs = tt
 
 loop-less : tie.Need-loop-less Inv-loop μ-loop
 unfolding left
-loop-less c = omega (flags, c .before .before .is-one-of-at .ensures .1 (c .before .if1 .taken), c .next-token .ensures .1)
+loop-less c =
+    let is-one-of-at = c .before .before .is-one-of-at in
+    let if1 = c .before .if1 in
+    let next-token = c .next-token in
+    omega (flags, is-one-of-at .ensures .1 (if1 .taken), next-token .ensures .1)
 
 loop-again : tie.Need-loop-again Inv-loop μ-loop
-loop-again c = (λ codes ev rep pool. name-more (c .before .before .before .before .before .before .args .t .now) (c .before .before .before .before .before .before .args .set .now) (view (c .before .before .before .loop .q) codes ev rep pool) (view (c .next-token .result) codes ev rep pool) (c .before .before .is-one-of-at .ensures .1 (c .before .if1 .taken)) (sym (c .before .before .is-one-of-at .ensures .0) ∙ c .before .if1 .taken) (c .next-token .ensures .0 codes ev rep pool) ∙ c .before .before .before .loop .inv .0 codes ev rep pool, omega (flags, c .next-token .ensures .1, c .before .before .before .loop .inv .1))
+loop-again c =
+    let args = c .before .before .before .before .before .before .args in
+    let tk = args .t .now in
+    let set₀ = args .set .now in
+    let loop = c .before .before .before .loop in
+    let is-one-of-at = c .before .before .is-one-of-at in
+    let if1 = c .before .if1 in
+    let next-token = c .next-token in (
+      λ codes ev rep pool.
+          name-more tk set₀ (view (loop .q) codes ev rep pool) (view (next-token .result) codes ev rep pool)
+          (is-one-of-at .ensures .1 (if1 .taken)) (sym (is-one-of-at .ensures .0) ∙ if1 .taken)
+          (next-token .ensures .0 codes ev rep pool)
+          ∙ loop .inv .0 codes ev rep pool,
+      omega (flags, next-token .ensures .1, loop .inv .1),
+    )
 
 returns : tie.Need-returns Inv-loop μ-loop
-returns c = (λ codes ev rep pool. name-done (c .before .before .before .before .before .args .set .now) (drop (c .before .before .loop .q .cursor .0) (tokens (c .before .before .before .before .before .args .t .now))) (view (c .before .before .loop .q) codes ev rep pool) (sym (c .before .is-one-of-at .ensures .0) ∙ c .if1 .left) ∙ c .before .before .loop .inv .0 codes ev rep pool, c .before .before .loop .inv .1)
+returns c =
+    let args = c .before .before .before .before .before .args in
+    let tk = args .t .now in
+    let ts = tokens tk in
+    let set₀ = args .set .now in
+    let loop = c .before .before .loop in
+    let is-one-of-at = c .before .is-one-of-at in
+    let if1 = c .if1 in (
+      λ codes ev rep pool.
+          name-done set₀ (drop (loop .q .cursor .0) ts) (view (loop .q) codes ev rep pool) (sym (is-one-of-at .ensures .0) ∙ if1 .left)
+          ∙ loop .inv .0 codes ev rep pool,
+      loop .inv .1,
+    )
 
 pub take-while-spec : {M : Type 1} → statement M
-take-while-spec = tie.close (tie.spec Inv-loop μ-loop loop-holds is-one-of-at-requires next-token-requires loop-less loop-again returns)
+take-while-spec =
+    tie.close (tie.spec Inv-loop μ-loop loop-holds is-one-of-at-requires next-token-requires loop-less loop-again returns)

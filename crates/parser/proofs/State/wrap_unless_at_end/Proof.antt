@@ -29,13 +29,46 @@ complete-requires : tie.Need-complete-requires
 complete-requires c κs = tt
 
 returns : tie.Need-returns
-returns c = (λ ask b codes rep pool. end-yes ask (tokens (c .before .before .before .before .before .args .t .now)) b (node N.ParseError bump!) (view (c .before .before .before .before .before .args .self) codes (c .before .before .before .before .before .args .ev .now) rep pool) (view (c .before .before .at-end .result .s) codes (c .before .before .before .before .before .args .ev .now) rep pool) (answered _ true _ _ (c .before .before .at-end .ensures .0 b codes (c .before .before .before .before .before .args .ev .now) rep pool) (c .before .if1 .taken)), omega (flags, c .before .before .at-end .ensures .1 .1 .1 (c .before .if1 .taken)))
+returns c =
+    let args = c .before .before .before .before .before .args in
+    let self = args .self in
+    let tk = args .t .now in
+    let ts = tokens tk in
+    let ev₀ = args .ev .now in
+    let at-end = c .before .before .at-end in
+    let if1 = c .before .if1 in (
+      λ ask b codes rep pool.
+          end-yes ask ts b (node N.ParseError bump!) (view self codes ev₀ rep pool) (view (at-end .result .s) codes ev₀ rep pool)
+          (answered _ true _ _ (at-end .ensures .0 b codes ev₀ rep pool) (if1 .taken)),
+      omega (flags, at-end .ensures .1 .1 .1 (if1 .taken)),
+    )
 
 same-length : tie.Need-same-length
 same-length c = search needs
 
 returns-2 : tie.Need-returns-2
-returns-2 c = (λ ask b codes rep pool. end-no ask (tokens (c .before .before .before .before .before .before .before .before .before .before .before .before .before .before .before .before .before .args .t .now)) b (node N.ParseError bump!) (view (c .before .before .before .before .before .before .before .before .before .before .before .before .before .before .before .before .before .args .self) codes (c .before .before .before .before .before .before .before .before .before .before .before .before .before .before .before .before .before .args .ev .now) rep pool) (view (c .before .before .before .before .before .before .before .before .before .before .before .before .before .before .at-end .result .s) codes (c .before .before .before .before .before .before .before .before .before .before .before .before .before .before .before .before .before .args .ev .now) rep pool) _ (answered _ false _ _ (c .before .before .before .before .before .before .before .before .before .before .before .before .before .before .at-end .ensures .0 b codes (c .before .before .before .before .before .before .before .before .before .before .before .before .before .before .before .before .before .args .ev .now) rep pool) (c .before .before .before .before .before .before .before .before .before .before .before .before .before .if1 .left)) (walk-node ask (tokens (c .before .before .before .before .before .before .before .before .before .before .before .before .before .before .before .before .before .args .t .now)) b N.ParseError bump! (marker-of (c .before .before .before .before .before .before .before .before .before .before .before .before .new .result)) (view (c .before .before .before .before .before .before .before .before .before .before .before .before .before .before .at-end .result .s) codes (c .before .before .before .before .before .before .before .before .before .before .before .before .before .before .before .before .before .args .ev .now) rep pool) (view (c .before .before .before .before .before .before .before .before .before .before .start .result) codes _ rep pool) _ _ (omega arith) (c .before .before .before .before .before .before .before .before .before .before .before .before .new .ensures) (c .before .before .before .before .before .before .before .before .before .before .start .ensures .0 codes rep pool) (sym (c .before .before .before .before .before .before .bump .ensures .0 b codes rep pool ∙ walk-act ask (tokens (c .before .before .before .before .before .before .before .before .before .before .before .before .before .before .before .before .before .args .t .now)) b bump (view (c .before .before .before .before .before .before .before .before .before .before .start .result) codes _ rep pool))) (c .before .before .complete .ensures .0 codes rep pool)), omega (flags, c .before .before .before .before .before .before .before .before .before .before .before .before .before .before .at-end .ensures .1 .0, c .before .before .before .before .before .before .before .before .before .before .start .ensures .1 (c .before .before .before .before .before .before .before .before .before .before .before .before .before .before .before .before .before .args .t .now), c .before .before .before .before .before .before .bump .ensures .1, c .before .before .complete .ensures .1 (c .before .before .before .before .before .before .before .before .before .before .before .before .before .before .before .before .before .args .t .now)))
+returns-2 c =
+    let args = c .before .before .before .before .before .before .before .before .before .before .before .before .before .before .before .before .before .args in
+    let self = args .self in
+    let tk = args .t .now in
+    let ts = tokens tk in
+    let ev₀ = args .ev .now in
+    let at-end = c .before .before .before .before .before .before .before .before .before .before .before .before .before .before .at-end in
+    let if1 = c .before .before .before .before .before .before .before .before .before .before .before .before .before .if1 in
+    let new = c .before .before .before .before .before .before .before .before .before .before .before .before .new in
+    let start′ = c .before .before .before .before .before .before .before .before .before .before .start in
+    let bump′ = c .before .before .before .before .before .before .bump in
+    let complete = c .before .before .complete in (
+      λ ask b codes rep pool.
+          end-no ask ts b (node N.ParseError bump!) (view self codes ev₀ rep pool) (view (at-end .result .s) codes ev₀ rep pool) _
+          (answered _ false _ _ (at-end .ensures .0 b codes ev₀ rep pool) (if1 .left))
+          (walk-node ask ts b N.ParseError bump! (marker-of (new .result)) (view (at-end .result .s) codes ev₀ rep pool)
+          (view (start′ .result) codes _ rep pool) _ _ (omega arith) (new .ensures) (start′ .ensures .0 codes rep pool)
+          (sym (bump′ .ensures .0 b codes rep pool ∙ walk-act ask ts b bump (view (start′ .result) codes _ rep pool)))
+          (complete .ensures .0 codes rep pool)),
+      omega (flags, at-end .ensures .1 .0, start′ .ensures .1 tk, bump′ .ensures .1, complete .ensures .1 tk),
+    )
 
 pub wrap-unless-at-end-spec : {M : Type 1} → statement M
-wrap-unless-at-end-spec = tie.close (tie.spec at-end-requires new-requires start-requires bump-requires complete-requires returns same-length returns-2)
+wrap-unless-at-end-spec =
+    tie.close (tie.spec at-end-requires new-requires start-requires bump-requires complete-requires returns same-length returns-2)

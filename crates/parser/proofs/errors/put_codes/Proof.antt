@@ -19,34 +19,74 @@ loop-holds : tie.Need-loop-holds Inv-loop μ-loop
 loop-holds c = (refl, omega flags)
 
 shared-slice-read-wide : tie.Need-shared-slice-read-wide Inv-loop μ-loop
-shared-slice-read-wide c = omega (flags, c .before .before .before .before .before .pre, c .before .before .before .before .before .good)
+shared-slice-read-wide c =
+    let start = c .before .before .before .before .before in
+    omega (flags, start .pre, start .good)
 
 wide-requires : tie.Need-wide-requires Inv-loop μ-loop
 wide-requires c κs = tt
 
 add-pool : tie.Need-add-pool Inv-loop μ-loop
-add-pool c = omega (flags, c .before .before .before .before .before .before .pre, c .before .before .before .before .before .before .good)
+add-pool c =
+    let start = c .before .before .before .before .before .before in
+    omega (flags, start .pre, start .good)
 
 mul-pool : tie.Need-mul-pool Inv-loop μ-loop
-mul-pool c = omega (flags, c .before .before .before .before .before .before .pre .1, c .before .before .before .before .before .before .good)
+mul-pool c =
+    let start = c .before .before .before .before .before .before in
+    omega (flags, start .pre .1, start .good)
 
 slice-write-pool : tie.Need-slice-write-pool Inv-loop μ-loop
-slice-write-pool c = omega (flags, c .before .before .before .before .before .before .pre .1, ap length (c .before .before .before .loop .inv .0) ∙ length-sets (c .before .before .before .before .before .before .args .pool .now) (c .before .before .before .before .before .before .args .first) (take (c .before .before .before .loop .i) (c .before .before .before .before .before .before .args .codes .now)))
+slice-write-pool c =
+    let start = c .before .before .before .before .before .before in
+    let args = start .args in
+    let pool₀ = args .pool .now in
+    let codes₀ = args .codes .now in
+    let loop = c .before .before .before .loop in
+    omega (flags, start .pre .1, ap length (loop .inv .0) ∙ length-sets pool₀ (args .first) (take (loop .i) codes₀))
 
 add-i : tie.Need-add-i Inv-loop μ-loop
-add-i c = omega (flags, c .before .before .before .before .before .before .pre, c .before .before .before .before .before .before .good)
+add-i c =
+    let start = c .before .before .before .before .before .before in
+    omega (flags, start .pre, start .good)
 
 loop-less : tie.Need-loop-less Inv-loop μ-loop
-loop-less c = omega (flags, c .before .before .before .before .before .before .pre, c .before .before .before .before .before .before .good)
+loop-less c =
+    let start = c .before .before .before .before .before .before in
+    omega (flags, start .pre, start .good)
 
 loop-again : tie.Need-loop-again Inv-loop μ-loop
-loop-again c = (ap (λ (l : List ℕ). set l ((c .before .before .before .before .before .before .args .first) + c .before .before .before .loop .i) (c .wide .result)) (c .before .before .before .loop .inv .0) ∙ ap (λ (v : ℕ). set (sets (c .before .before .before .before .before .before .args .pool .now) (c .before .before .before .before .before .before .args .first) (take (c .before .before .before .loop .i) (c .before .before .before .before .before .before .args .codes .now))) ((c .before .before .before .before .before .before .args .first) + c .before .before .before .loop .i) v) (c .wide .ensures) ∙ codes-more (c .before .before .before .before .before .before .args .pool .now) (c .before .before .before .before .before .before .args .codes .now) (c .before .before .before .before .before .before .args .first) (c .before .before .before .loop .i) (omega (flags, c .before .before .before .before .before .before .pre .0)), omega flags)
+loop-again c =
+    let start = c .before .before .before .before .before .before in
+    let args = start .args in
+    let pool₀ = args .pool .now in
+    let codes₀ = args .codes .now in
+    let loop = c .before .before .before .loop in
+    let wide = c .wide in (
+      ap (λ (l : List ℕ). set l ((args .first) + loop .i) (wide .result)) (loop .inv .0)
+          ∙ ap (λ (v : ℕ). set (sets pool₀ (args .first) (take (loop .i) codes₀)) ((args .first) + loop .i) v) (wide .ensures)
+          ∙ codes-more pool₀ codes₀ (args .first) (loop .i) (omega (flags, start .pre .0)),
+      omega flags,
+    )
 
 same-length : tie.Need-same-length Inv-loop μ-loop
-same-length c = ap length (c .before .loop .inv .0) ∙ length-sets (c .before .before .before .before .args .pool .now) (c .before .before .before .before .args .first) (take (c .before .loop .i) (c .before .before .before .before .args .codes .now))
+same-length c =
+    let args = c .before .before .before .before .args in
+    let pool₀ = args .pool .now in
+    let codes₀ = args .codes .now in
+    let loop = c .before .loop in
+    ap length (loop .inv .0) ∙ length-sets pool₀ (args .first) (take (loop .i) codes₀)
 
 returns : tie.Need-returns Inv-loop μ-loop
-returns c = let e : c .before .loop .i ≡ (c .before .before .before .before .args .n) = omega flags in c .before .loop .inv .0 ∙ ap (λ (j : ℕ). sets (c .before .before .before .before .args .pool .now) (c .before .before .before .before .args .first) (take j (c .before .before .before .before .args .codes .now))) e
+returns c =
+    let args = c .before .before .before .before .args in
+    let pool₀ = args .pool .now in
+    let codes₀ = args .codes .now in
+    let loop = c .before .loop in
+    let e : loop .i ≡ (args .n) = omega flags in loop .inv .0 ∙ ap (λ (j : ℕ). sets pool₀ (args .first) (take j codes₀)) e
 
 pub put-codes-spec : {M : Type 1} → statement M
-put-codes-spec = tie.close (tie.spec Inv-loop μ-loop loop-holds shared-slice-read-wide wide-requires add-pool mul-pool slice-write-pool add-i loop-less loop-again same-length returns)
+put-codes-spec =
+    tie.close
+    (tie.spec Inv-loop μ-loop loop-holds shared-slice-read-wide wide-requires add-pool mul-pool slice-write-pool add-i
+    loop-less loop-again same-length returns)

@@ -91,10 +91,31 @@ same-length : tie.Need-same-length
 same-length c = simp length-set
 
 returns : tie.Need-returns
-returns c = stored-row (c .before .before .before .args .rep .now) ((c .before .before .before .args .message) ∷ (c .before .before .before .args .range .start .0) ∷ (c .before .before .before .args .range .end .0) ∷ (c .before .before .before .args .mark) ∷ (c .before .before .before .args .first) ∷ (c .before .before .before .args .count) ∷ (c .before .before .before .args .hint) ∷ (c .before .before .before .args .label .start .0) ∷ (c .before .before .before .args .label .end .0) ∷ []) _ (c .before .before .before .args .at) _ (c .before .fits2 .ensures .0) (c .if1 .taken) (sets9 (c .before .before .before .args .rep .now) (c .before .before .before .args .at) (c .before .before .before .args .message) (c .before .before .before .args .range .start .0) (c .before .before .before .args .range .end .0) (c .before .before .before .args .mark) (c .before .before .before .args .first) (c .before .before .before .args .count) (c .before .before .before .args .hint) (c .before .before .before .args .label .start .0) (c .before .before .before .args .label .end .0))
+returns c =
+    let args = c .before .before .before .args in
+    let rep₀ = args .rep .now in
+    let fits2 = c .before .fits2 in
+    let if1 = c .if1 in
+    stored-row rep₀
+    ((args .message) ∷ (args .range .start .0) ∷ (args .range .end .0) ∷ (args .mark) ∷ (args .first) ∷ (args .count) ∷
+    (args .hint) ∷ (args .label .start .0) ∷ (args .label .end .0) ∷ []) _ (args .at) _ (fits2 .ensures .0) (if1 .taken)
+    (sets9 rep₀ (args .at) (args .message) (args .range .start .0) (args .range .end .0) (args .mark) (args .first)
+    (args .count) (args .hint) (args .label .start .0) (args .label .end .0))
 
 returns-2 : tie.Need-returns-2
-returns-2 c = not-stored (c .before .before .before .args .rep .now) ((c .before .before .before .args .message) ∷ (c .before .before .before .args .range .start .0) ∷ (c .before .before .before .args .range .end .0) ∷ (c .before .before .before .args .mark) ∷ (c .before .before .before .args .first) ∷ (c .before .before .before .args .count) ∷ (c .before .before .before .args .hint) ∷ (c .before .before .before .args .label .start .0) ∷ (c .before .before .before .args .label .end .0) ∷ []) (c .before .before .before .args .at) _ (c .before .fits2 .ensures .0) (c .if1 .left)
+returns-2 c =
+    let args = c .before .before .before .args in
+    let rep₀ = args .rep .now in
+    let fits2 = c .before .fits2 in
+    let if1 = c .if1 in
+    not-stored rep₀
+    ((args .message) ∷ (args .range .start .0) ∷ (args .range .end .0) ∷ (args .mark) ∷ (args .first) ∷ (args .count) ∷
+    (args .hint) ∷ (args .label .start .0) ∷ (args .label .end .0) ∷ []) (args .at) _ (fits2 .ensures .0) (if1 .left)
 
 pub put-report-spec : {M : Type 1} → statement M
-put-report-spec = tie.close (tie.spec fits-requires mul-rep slice-write-rep add-rep mul-rep-2 slice-write-rep-2 add-rep-2 mul-rep-3 slice-write-rep-3 add-rep-3 mul-rep-4 slice-write-rep-4 add-rep-4 mul-rep-5 slice-write-rep-5 add-rep-5 mul-rep-6 slice-write-rep-6 add-rep-6 mul-rep-7 slice-write-rep-7 add-rep-7 mul-rep-8 slice-write-rep-8 add-rep-8 mul-rep-9 slice-write-rep-9 same-length returns returns-2)
+put-report-spec =
+    tie.close
+    (tie.spec fits-requires mul-rep slice-write-rep add-rep mul-rep-2 slice-write-rep-2 add-rep-2 mul-rep-3 slice-write-rep-3
+    add-rep-3 mul-rep-4 slice-write-rep-4 add-rep-4 mul-rep-5 slice-write-rep-5 add-rep-5 mul-rep-6 slice-write-rep-6
+    add-rep-6 mul-rep-7 slice-write-rep-7 add-rep-7 mul-rep-8 slice-write-rep-8 add-rep-8 mul-rep-9 slice-write-rep-9
+    same-length returns returns-2)

@@ -10,7 +10,10 @@ sub-result : tie.Need-sub-result
 sub-result c = omega flags
 
 returns : tie.Need-returns
-returns c = (rw (c .if1 .taken), λ e. omega (flags, leb-true (c .before .args .n) ((c .before .args .len) - (c .before .args .at)) e))
+returns c =
+    let args = c .before .args in
+    let if1 = c .if1 in
+    (rw (if1 .taken), λ e. omega (flags, leb-true (args .n) ((args .len) - (args .at)) e))
 
 returns-2 : tie.Need-returns-2
 returns-2 c = (rw (c .if1 .left), λ e. absurd (true-false (sym e)))

@@ -27,13 +27,33 @@ same-length : tie.Need-same-length
 same-length c = simp length-set
 
 returns : tie.Need-returns
-returns c = linked (c .before .before .before .before .before .args .ev .now) (c .before .before .before .before .before .args .at) (c .before .before .before .before .before .args .to) _ _ (c .before .before .before .fits2 .ensures .0) (c .before .before .if1 .taken) (c .before .if2 .taken) (c .low32 .ensures)
+returns c =
+    let args = c .before .before .before .before .before .args in
+    let ev₀ = args .ev .now in
+    let fits2 = c .before .before .before .fits2 in
+    let if1 = c .before .before .if1 in
+    let if2 = c .before .if2 in
+    let low32 = c .low32 in
+    linked ev₀ (args .at) (args .to) _ _ (fits2 .ensures .0) (if1 .taken) (if2 .taken) (low32 .ensures)
 
 returns-2 : tie.Need-returns-2
-returns-2 c = not-ahead (c .before .before .before .before .args .ev .now) (c .before .before .before .before .args .at) (c .before .before .before .before .args .to) _ (c .before .before .fits2 .ensures .0) (c .before .if1 .taken) (c .if2 .left)
+returns-2 c =
+    let args = c .before .before .before .before .args in
+    let ev₀ = args .ev .now in
+    let fits2 = c .before .before .fits2 in
+    let if1 = c .before .if1 in
+    let if2 = c .if2 in
+    not-ahead ev₀ (args .at) (args .to) _ (fits2 .ensures .0) (if1 .taken) (if2 .left)
 
 returns-3 : tie.Need-returns-3
-returns-3 c = not-linked (c .before .before .before .args .ev .now) (c .before .before .before .args .at) (c .before .before .before .args .to) _ (c .before .fits2 .ensures .0) (c .if1 .left)
+returns-3 c =
+    let args = c .before .before .before .args in
+    let ev₀ = args .ev .now in
+    let fits2 = c .before .fits2 in
+    let if1 = c .if1 in
+    not-linked ev₀ (args .at) (args .to) _ (fits2 .ensures .0) (if1 .left)
 
 pub put-link-spec : {M : Type 1} → statement M
-put-link-spec = tie.close (tie.spec fits-requires sub-low32 low32-requires add-ev mul-ev slice-write-ev same-length returns returns-2 returns-3)
+put-link-spec =
+    tie.close
+    (tie.spec fits-requires sub-low32 low32-requires add-ev mul-ev slice-write-ev same-length returns returns-2 returns-3)

@@ -27,10 +27,21 @@ same-length : tie.Need-same-length
 same-length c = simp length-set
 
 returns : tie.Need-returns
-returns c = started (c .before .before .before .args .ev .now) (c .before .before .before .args .at) (c .before .before .before .args .tag) (c .before .before .before .args .kind) _ (c .before .fits2 .ensures .0) (c .if1 .taken)
+returns c =
+    let args = c .before .before .before .args in
+    let ev₀ = args .ev .now in
+    let fits2 = c .before .fits2 in
+    let if1 = c .if1 in
+    started ev₀ (args .at) (args .tag) (args .kind) _ (fits2 .ensures .0) (if1 .taken)
 
 returns-2 : tie.Need-returns-2
-returns-2 c = not-started (c .before .before .before .args .ev .now) (c .before .before .before .args .at) (c .before .before .before .args .tag) (c .before .before .before .args .kind) _ (c .before .fits2 .ensures .0) (c .if1 .left)
+returns-2 c =
+    let args = c .before .before .before .args in
+    let ev₀ = args .ev .now in
+    let fits2 = c .before .fits2 in
+    let if1 = c .if1 in
+    not-started ev₀ (args .at) (args .tag) (args .kind) _ (fits2 .ensures .0) (if1 .left)
 
 pub put-start-spec : {M : Type 1} → statement M
-put-start-spec = tie.close (tie.spec fits-requires mul-ev slice-write-ev add-ev mul-ev-2 slice-write-ev-2 same-length returns returns-2)
+put-start-spec =
+    tie.close (tie.spec fits-requires mul-ev slice-write-ev add-ev mul-ev-2 slice-write-ev-2 same-length returns returns-2)

@@ -21,7 +21,12 @@ shared-slice-read-same : tie.Need-shared-slice-read-same Inv-loop μ-loop
 shared-slice-read-same c = omega flags
 
 returns : tie.Need-returns Inv-loop μ-loop
-returns c = sym (c .before .before .before .loop .inv .0 ∙ one-of-found (c .before .before .before .before .args .set .now) (c .before .before .before .loop .i) (c .before .before .before .before .args .k) (omega flags) (c .if1 .taken))
+returns c =
+    let args = c .before .before .before .before .args in
+    let set₀ = args .set .now in
+    let loop = c .before .before .before .loop in
+    let if1 = c .if1 in
+    sym (loop .inv .0 ∙ one-of-found set₀ (loop .i) (args .k) (omega flags) (if1 .taken))
 
 add-i : tie.Need-add-i Inv-loop μ-loop
 add-i c = omega flags
@@ -30,10 +35,19 @@ loop-less : tie.Need-loop-less Inv-loop μ-loop
 loop-less c = omega flags
 
 loop-again : tie.Need-loop-again Inv-loop μ-loop
-loop-again c = (c .before .before .before .loop .inv .0 ∙ one-of-next (c .before .before .before .before .args .set .now) (c .before .before .before .loop .i) (c .before .before .before .before .args .k) (omega flags) (c .if1 .left), omega flags)
+loop-again c =
+    let args = c .before .before .before .before .args in
+    let set₀ = args .set .now in
+    let loop = c .before .before .before .loop in
+    let if1 = c .if1 in
+    (loop .inv .0 ∙ one-of-next set₀ (loop .i) (args .k) (omega flags) (if1 .left), omega flags)
 
 returns-2 : tie.Need-returns-2 Inv-loop μ-loop
-returns-2 c = sym (c .before .loop .inv .0 ∙ one-of-none (c .before .before .args .set .now) (c .before .loop .i) (c .before .before .args .k) (omega flags))
+returns-2 c =
+    let args = c .before .before .args in
+    let set₀ = args .set .now in
+    let loop = c .before .loop in
+    sym (loop .inv .0 ∙ one-of-none set₀ (loop .i) (args .k) (omega flags))
 
 pub one-of-spec : {M : Type 1} → statement M
 one-of-spec = tie.close (tie.spec Inv-loop μ-loop loop-holds shared-slice-read-same returns add-i loop-less loop-again returns-2)

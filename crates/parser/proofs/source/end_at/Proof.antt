@@ -19,10 +19,20 @@ wrapping-add-u32-requires : tie.Need-wrapping-add-u32-requires
 wrapping-add-u32-requires c κs = tt
 
 returns : tie.Need-returns
-returns c = end-in (c .before .before .before .before .args .t .now) (c .before .before .before .before .args .at) (c .before .before .before .before .args .start) _ (omega flags) (c .wrapping-add-u32 .ensures)
+returns c =
+    let args = c .before .before .before .before .args in
+    let tk = args .t .now in
+    let wrapping-add-u32 = c .wrapping-add-u32 in
+    end-in tk (args .at) (args .start) _ (omega flags) (wrapping-add-u32 .ensures)
 
 returns-2 : tie.Need-returns-2
-returns-2 c = end-past (c .before .before .args .t .now) (c .before .before .args .at) (c .before .before .args .start) (omega flags)
+returns-2 c =
+    let args = c .before .before .args in
+    let tk = args .t .now in
+    end-past tk (args .at) (args .start) (omega flags)
 
 pub end-at-spec : {M : Type 1} → statement M
-end-at-spec = tie.close (tie.spec mul-wrapping-add-u32 add-wrapping-add-u32 mul-wrapping-add-u32-2 shared-slice-read-wrapping-add-u32 wrapping-add-u32-requires returns returns-2)
+end-at-spec =
+    tie.close
+    (tie.spec mul-wrapping-add-u32 add-wrapping-add-u32 mul-wrapping-add-u32-2 shared-slice-read-wrapping-add-u32
+    wrapping-add-u32-requires returns returns-2)

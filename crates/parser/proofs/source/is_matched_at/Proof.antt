@@ -12,10 +12,20 @@ matches-requires : tie.Need-matches-requires
 matches-requires c κs = tt
 
 returns : tie.Need-returns
-returns c = (is-one-of-rows (c .before .before .before .before .args .t .now) (kinds-of (c .before .before .before .before .args .m)) (c .before .before .before .before .args .at) _ _ (omega flags) (c .before .kind-at .ensures .0) (c .matches .ensures), λ e. omega flags)
+returns c =
+    let args = c .before .before .before .before .args in
+    let tk = args .t .now in
+    let kind-at = c .before .kind-at in
+    let matches = c .matches in (
+      is-one-of-rows tk (kinds-of (args .m)) (args .at) _ _ (omega flags) (kind-at .ensures .0) (matches .ensures),
+      λ e. omega flags,
+    )
 
 returns-2 : tie.Need-returns-2
-returns-2 c = (first-past-rows (kinds-of (c .before .before .args .m)) (c .before .before .args .t .now) (c .before .before .args .at) (omega flags), λ e. absurd (true-false (sym e)))
+returns-2 c =
+    let args = c .before .before .args in
+    let tk = args .t .now in
+    (first-past-rows (kinds-of (args .m)) tk (args .at) (omega flags), λ e. absurd (true-false (sym e)))
 
 pub is-matched-at-spec : {M : Type 1} → statement M
 is-matched-at-spec = tie.close (tie.spec kind-at-requires matches-requires returns returns-2)

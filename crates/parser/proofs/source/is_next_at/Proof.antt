@@ -10,10 +10,17 @@ is-at-requires : tie.Need-is-at-requires
 is-at-requires c κs = tt
 
 returns : tie.Need-returns
-returns c = is-next-rows (c .before .before .before .args .t .now) (c .before .before .before .args .at) (c .before .before .before .args .k) _ (omega flags) (c .is-at .ensures .0)
+returns c =
+    let args = c .before .before .before .args in
+    let tk = args .t .now in
+    let is-at = c .is-at in
+    is-next-rows tk (args .at) (args .k) _ (omega flags) (is-at .ensures .0)
 
 returns-2 : tie.Need-returns-2
-returns-2 c = is-next-past (c .before .before .args .t .now) (c .before .before .args .at) (c .before .before .args .k) (omega flags)
+returns-2 c =
+    let args = c .before .before .args in
+    let tk = args .t .now in
+    is-next-past tk (args .at) (args .k) (omega flags)
 
 pub is-next-at-spec : {M : Type 1} → statement M
 is-next-at-spec = tie.close (tie.spec add-is-at is-at-requires returns returns-2)

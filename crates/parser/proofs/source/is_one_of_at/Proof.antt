@@ -11,10 +11,20 @@ one-of-requires : tie.Need-one-of-requires
 one-of-requires c κs = tt
 
 returns : tie.Need-returns
-returns c = (is-one-of-rows (c .before .before .before .before .before .args .t .now) (c .before .before .before .before .before .args .set .now) (c .before .before .before .before .before .args .at) _ _ (omega flags) (c .before .kind-at .ensures .0) (c .one-of .ensures), λ e. omega flags)
+returns c =
+    let args = c .before .before .before .before .before .args in
+    let tk = args .t .now in
+    let set₀ = args .set .now in
+    let kind-at = c .before .kind-at in
+    let one-of = c .one-of in
+    (is-one-of-rows tk set₀ (args .at) _ _ (omega flags) (kind-at .ensures .0) (one-of .ensures), λ e. omega flags)
 
 returns-2 : tie.Need-returns-2
-returns-2 c = (first-past-rows (c .before .before .before .args .set .now) (c .before .before .before .args .t .now) (c .before .before .before .args .at) (omega flags), λ e. absurd (true-false (sym e)))
+returns-2 c =
+    let args = c .before .before .before .args in
+    let tk = args .t .now in
+    let set₀ = args .set .now in
+    (first-past-rows set₀ tk (args .at) (omega flags), λ e. absurd (true-false (sym e)))
 
 pub is-one-of-at-spec : {M : Type 1} → statement M
 is-one-of-at-spec = tie.close (tie.spec kind-at-requires one-of-requires returns returns-2)

@@ -17,10 +17,18 @@ is-trivia-requires : tie.Need-is-trivia-requires
 is-trivia-requires c κs = tt
 
 returns : tie.Need-returns
-returns c = (trivia-in (c .before .before .before .before .args .t .now) (c .before .before .before .before .args .at) _ (omega flags) (c .is-trivia .ensures), λ e. omega flags)
+returns c =
+    let args = c .before .before .before .before .args in
+    let tk = args .t .now in
+    let is-trivia = c .is-trivia in
+    (trivia-in tk (args .at) _ (omega flags) (is-trivia .ensures), λ e. omega flags)
 
 returns-2 : tie.Need-returns-2
-returns-2 c = (trivia-past (c .before .before .args .t .now) (c .before .before .args .at) (omega flags), λ e. absurd (true-false (sym e)))
+returns-2 c =
+    let args = c .before .before .args in
+    let tk = args .t .now in
+    (trivia-past tk (args .at) (omega flags), λ e. absurd (true-false (sym e)))
 
 pub is-trivia-at-spec : {M : Type 1} → statement M
-is-trivia-at-spec = tie.close (tie.spec mul-is-trivia mul-is-trivia-2 shared-slice-read-is-trivia is-trivia-requires returns returns-2)
+is-trivia-at-spec =
+    tie.close (tie.spec mul-is-trivia mul-is-trivia-2 shared-slice-read-is-trivia is-trivia-requires returns returns-2)

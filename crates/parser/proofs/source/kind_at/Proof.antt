@@ -17,13 +17,24 @@ cast-result : tie.Need-cast-result
 cast-result c = omega flags
 
 returns : tie.Need-returns
-returns c = (kind-plain (c .before .before .before .args .t .now) (c .before .before .before .args .at) (omega flags) (c .if2 .taken), λ e. omega flags)
+returns c =
+    let args = c .before .before .before .args in
+    let tk = args .t .now in
+    let if2 = c .if2 in
+    (kind-plain tk (args .at) (omega flags) (if2 .taken), λ e. omega flags)
 
 returns-2 : tie.Need-returns-2
-returns-2 c = (kind-error (c .before .before .before .args .t .now) (c .before .before .before .args .at) (omega flags) (c .if2 .left), λ e. omega flags)
+returns-2 c =
+    let args = c .before .before .before .args in
+    let tk = args .t .now in
+    let if2 = c .if2 in
+    (kind-error tk (args .at) (omega flags) (if2 .left), λ e. omega flags)
 
 returns-3 : tie.Need-returns-3
-returns-3 c = (sym (kind-past (c .before .args .t .now) (c .before .args .at) (omega flags)), λ e. absurd (e refl))
+returns-3 c =
+    let args = c .before .args in
+    let tk = args .t .now in
+    (sym (kind-past tk (args .at) (omega flags)), λ e. absurd (e refl))
 
 pub kind-at-spec : {M : Type 1} → statement M
 kind-at-spec = tie.close (tie.spec mul-k mul-k-2 shared-slice-read-k cast-result returns returns-2 returns-3)

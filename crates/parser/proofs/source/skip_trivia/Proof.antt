@@ -9,7 +9,9 @@ use Rattle.parser.proofs.source.skip_trivia.Statement.{statement}
 use Rattle.parser.proofs.source.skip_trivia.Tie as tie
 
 abbrev Inv-loop : tie.InvT-loop
-Inv-loop t from start at₀ byte₀ at byte = ((m : Machine) → skip (drop at (tokens t)) (with-cursor at byte m) ≡ skip (drop from (tokens t)) (with-cursor from start m)) × (from ≤ at)
+Inv-loop t from start at₀ byte₀ at byte =
+    ((m : Machine) → skip (drop at (tokens t)) (with-cursor at byte m) ≡ skip (drop from (tokens t)) (with-cursor from start m))
+    × (from ≤ at)
 
 abbrev μ-loop : tie.MeasureT-loop
 μ-loop t from start at₀ byte₀ at byte = length t / 2 - at
@@ -30,10 +32,27 @@ loop-less : tie.Need-loop-less Inv-loop μ-loop
 loop-less c = omega (flags, c .before .before .is-trivia-at .ensures .1 (c .before .if1 .taken))
 
 loop-again : tie.Need-loop-again Inv-loop μ-loop
-loop-again c = (λ m. skip-more (c .before .before .before .before .before .args .t .now) (c .before .before .before .loop .at) (c .before .before .before .loop .byte) _ (c .before .before .is-trivia-at .ensures .1 (c .before .if1 .taken)) (sym (c .before .before .is-trivia-at .ensures .0) ∙ c .before .if1 .taken) (c .end-at .ensures) m ∙ c .before .before .before .loop .inv .0 m, omega flags)
+loop-again c =
+    let args = c .before .before .before .before .before .args in
+    let tk = args .t .now in
+    let loop = c .before .before .before .loop in
+    let is-trivia-at = c .before .before .is-trivia-at in
+    let if1 = c .before .if1 in
+    let end-at = c .end-at in (
+      λ m.
+          skip-more tk (loop .at) (loop .byte) _ (is-trivia-at .ensures .1 (if1 .taken)) (sym (is-trivia-at .ensures .0) ∙ if1 .taken)
+          (end-at .ensures) m
+          ∙ loop .inv .0 m,
+      omega flags,
+    )
 
 returns : tie.Need-returns Inv-loop μ-loop
-returns c = (λ m. skip-done _ _ (sym (c .before .is-trivia-at .ensures .0) ∙ c .if1 .left) ∙ c .before .before .loop .inv .0 m, omega flags)
+returns c =
+    let loop = c .before .before .loop in
+    let is-trivia-at = c .before .is-trivia-at in
+    let if1 = c .if1 in
+    (λ m. skip-done _ _ (sym (is-trivia-at .ensures .0) ∙ if1 .left) ∙ loop .inv .0 m, omega flags)
 
 pub skip-trivia-spec : {M : Type 1} → statement M
-skip-trivia-spec = tie.close (tie.spec Inv-loop μ-loop loop-holds is-trivia-at-requires end-at-requires add-at loop-less loop-again returns)
+skip-trivia-spec =
+    tie.close (tie.spec Inv-loop μ-loop loop-holds is-trivia-at-requires end-at-requires add-at loop-less loop-again returns)

@@ -40,25 +40,76 @@ same-length : tie.Need-same-length
 same-length c = search needs
 
 returns : tie.Need-returns
-returns c = (λ ask b codes rep pool. take-kind ask (tokens (c .before .before .before .before .before .before .before .before .args .t .now)) b (c .before .before .before .before .before .before .before .before .args .self) (c .before .before .before .before .enum-told .given .0 .0) (view (c .before .before .before .before .before .before .before .before .args .s) codes (c .before .before .before .before .before .before .before .before .args .ev .now) rep pool) _ (c .before .before .before .before .enum-told .given .1) (c .before .before .bump .ensures .0 b codes rep pool), c .before .before .bump .ensures .1)
+returns c =
+    let args = c .before .before .before .before .before .before .before .before .args in
+    let self = args .self in
+    let tk = args .t .now in
+    let ts = tokens tk in
+    let ev₀ = args .ev .now in
+    let enum-told = c .before .before .before .before .enum-told in
+    let bump = c .before .before .bump in (
+      λ ask b codes rep pool.
+          take-kind ask ts b self (enum-told .given .0 .0) (view (args .s) codes ev₀ rep pool) _ (enum-told .given .1)
+          (bump .ensures .0 b codes rep pool),
+      bump .ensures .1,
+    )
 
 same-length-2 : tie.Need-same-length-2
 same-length-2 c = search needs
 
 returns-2 : tie.Need-returns-2
-returns-2 c = (λ ask b codes rep pool. take-either ask (tokens (c .before .before .before .before .before .before .before .before .args .t .now)) b (c .before .before .before .before .before .before .before .before .args .self) (c .before .before .before .before .enum-told2 .given .0 .0) (c .before .before .before .before .enum-told2 .given .0 .1 .0) (view (c .before .before .before .before .before .before .before .before .args .s) codes (c .before .before .before .before .before .before .before .before .args .ev .now) rep pool) _ (c .before .before .before .before .enum-told2 .given .1) (c .before .before .bump2 .ensures .0 b codes rep pool), c .before .before .bump2 .ensures .1)
+returns-2 c =
+    let args = c .before .before .before .before .before .before .before .before .args in
+    let self = args .self in
+    let tk = args .t .now in
+    let ts = tokens tk in
+    let ev₀ = args .ev .now in
+    let enum-told2 = c .before .before .before .before .enum-told2 in
+    let bump2 = c .before .before .bump2 in (
+      λ ask b codes rep pool.
+          take-either ask ts b self (enum-told2 .given .0 .0) (enum-told2 .given .0 .1 .0) (view (args .s) codes ev₀ rep pool) _
+          (enum-told2 .given .1) (bump2 .ensures .0 b codes rep pool),
+      bump2 .ensures .1,
+    )
 
 same-length-3 : tie.Need-same-length-3
 same-length-3 c = search needs
 
 returns-3 : tie.Need-returns-3
-returns-3 c = (λ ask b codes rep pool. take-name ask (tokens (c .before .before .before .before .before .before .before .before .before .args .t .now)) b (c .before .before .before .before .before .before .before .before .before .args .self) (view (c .before .before .before .before .before .before .before .before .before .args .s) codes (c .before .before .before .before .before .before .before .before .before .args .ev .now) rep pool) _ (c .before .before .before .before .before .enum-told3 .given .1) (c .before .before .bump-name .ensures .0 b codes rep pool), c .before .before .bump-name .ensures .1)
+returns-3 c =
+    let args = c .before .before .before .before .before .before .before .before .before .args in
+    let self = args .self in
+    let tk = args .t .now in
+    let ts = tokens tk in
+    let ev₀ = args .ev .now in
+    let enum-told3 = c .before .before .before .before .before .enum-told3 in
+    let bump-name = c .before .before .bump-name in (
+      λ ask b codes rep pool.
+          take-name ask ts b self (view (args .s) codes ev₀ rep pool) _ (enum-told3 .given .1) (bump-name .ensures .0 b codes rep pool),
+      bump-name .ensures .1,
+    )
 
 same-length-4 : tie.Need-same-length-4
 same-length-4 c = search needs
 
 returns-4 : tie.Need-returns-4
-returns-4 c = (λ ask b codes rep pool. take-label ask (tokens (c .before .before .before .before .before .before .before .before .before .args .t .now)) b (c .before .before .before .before .before .before .before .before .before .args .self) (view (c .before .before .before .before .before .before .before .before .before .args .s) codes (c .before .before .before .before .before .before .before .before .before .args .ev .now) rep pool) _ (c .before .before .before .before .before .enum-told4 .given .1) (c .before .before .bump-name2 .ensures .0 b codes rep pool), c .before .before .bump-name2 .ensures .1)
+returns-4 c =
+    let args = c .before .before .before .before .before .before .before .before .before .args in
+    let self = args .self in
+    let tk = args .t .now in
+    let ts = tokens tk in
+    let ev₀ = args .ev .now in
+    let enum-told4 = c .before .before .before .before .before .enum-told4 in
+    let bump-name2 = c .before .before .bump-name2 in (
+      λ ask b codes rep pool.
+          take-label ask ts b self (view (args .s) codes ev₀ rep pool) _ (enum-told4 .given .1)
+          (bump-name2 .ensures .0 b codes rep pool),
+      bump-name2 .ensures .1,
+    )
 
 pub consume-spec : {M : Type 1} → statement M
-consume-spec = tie.close (tie.spec enum-told bump-requires enum-told-2 bump-requires-2 enum-told-3 slice-aggregate-bump-name bump-name-requires enum-told-4 slice-aggregate-bump-name-2 bump-name-requires-2 same-length returns same-length-2 returns-2 same-length-3 returns-3 same-length-4 returns-4)
+consume-spec =
+    tie.close
+    (tie.spec enum-told bump-requires enum-told-2 bump-requires-2 enum-told-3 slice-aggregate-bump-name bump-name-requires
+    enum-told-4 slice-aggregate-bump-name-2 bump-name-requires-2 same-length returns same-length-2 returns-2
+    same-length-3 returns-3 same-length-4 returns-4)
