@@ -4,6 +4,7 @@ use mathlib.Core.Bool.{Bool, true, false, cond}
 use mathlib.Core.List.{List, [], _∷_}
 use lib.ListN.{length, take, drop}
 use Rattle.definitions.specs.TokenKind as K
+use Rattle.definitions.specs.Errors as E
 use Rattle.definitions.specs.Token.{Token, seen, trivia}
 use Rattle.definitions.specs.Skeleton.{Span}
 use Rattle.definitions.specs.Prog.{Ans, no, yes, also, again, Rule, Prog}
@@ -93,6 +94,13 @@ matcher-of (Of.Kind a) = C.kind a
 matcher-of (Of.Either a b) = C.set (a ∷ b ∷ [])
 matcher-of Of.Name = C.Name
 matcher-of Of.LabelName = C.LabelName
+
+-- the expectation that it pushes first
+abbrev pub first-code : Matcher → ℕ
+first-code (Of.Kind a) = a
+first-code (Of.Either a b) = a
+first-code Of.Name = K.Name
+first-code Of.LabelName = E.LabelName
 
 -- the kinds that it matches
 abbrev pub kinds-of : Matcher → List ℕ

@@ -12,7 +12,7 @@ ghost use Rattle.definitions.specs.Skeleton.{Span};
 ghost use Rattle.definitions.specs.Prog.{Rule, yes};
 ghost use Rattle.machine.specs.Machine.{Machine};
 ghost use Rattle.machine.specs.Walk.{Walked, said, walk};
-ghost use Rattle.parser.specs.View.{view, left, matcher-of, kinds-of};
+ghost use Rattle.parser.specs.View.{view, left, first-code, matcher-of, kinds-of};
 
 pub const NAME_SET: [u8; 4] = [kind::IDENT, kind::NUMBER, kind::COMMA, kind::MINUS];
 
@@ -55,18 +55,29 @@ impl Matcher {
         }
     }
 
+    // The expectation that is pushed first.
+    fn first_code(self) -> u8
+        ensures { λ r. ⌜ r ≡ first-code self ⌝ }
+    {
+        match self {
+            Matcher::Kind(a) => a,
+            Matcher::Either(a, _) => a,
+            Matcher::Name => kind::NAME,
+            Matcher::LabelName => expected::LABEL_NAME,
+        }
+    }
+
     pub fn push_expected(self, s: State, codes: &mut [u8; 256]) -> State
         ensures { λ r. ⌜ ((ask : Rule → Machine → Walked) (ts : List Token) (b : Span) (ev rep pool : List ℕ) → said yes (view r (now (codes .exit)) ev rep pool) ≡ walk ask ts b (matcher-of self .push-expected) (view s (now (codes .entry)) ev rep pool)) ⌝ }
         ensures { λ r. ⌜ ((tk : List ℕ) → left tk r ≤ left tk s) ⌝ }
     {
+        let code = self.first_code();
+        let q = s.add_expected(codes, code);
         match self {
-            Matcher::Kind(a) => s.add_expected(codes, a),
-            Matcher::Either(a, b) => {
-                let q = s.add_expected(codes, a);
-                q.add_expected(codes, b)
-            }
-            Matcher::Name => s.add_expected(codes, kind::NAME),
-            Matcher::LabelName => s.add_expected(codes, expected::LABEL_NAME),
+            Matcher::Kind(_) => q,
+            Matcher::Either(_, b) => q.add_expected(codes, b),
+            Matcher::Name => q,
+            Matcher::LabelName => q,
         }
     }
 
