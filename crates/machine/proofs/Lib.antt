@@ -17,3 +17,5 @@ pub mod Chains
 pub mod Programs
 pub mod Whole
 pub mod Entry
+pub mod Turns
+pub mod Links
