@@ -1,8 +1,8 @@
 #!/usr/bin/env python3
 """Finds the numbers of the tables in crates/numbers/proofs/Tables.antt.
 
-    python3 tools/cost_table.py events      (or: reports, nodes)
-    python3 tools/cost_table.py 1 2 1 13 100     (any other price: leaf, marker, report, credit, base)
+    python3 tools/proofs/cost_table.py events      (or: reports, nodes)
+    python3 tools/proofs/cost_table.py 1 2 1 13 100     (any other price: leaf, marker, report, credit, base)
 
 The grammar stands here once more, without its kinds, in the order of crates/definitions/specs/Grammar.antt; the analysis is that
 of Row.antt and Cost.antt beside the tables. Nothing is believed of this program: the proof computes every bill anew and refuses a

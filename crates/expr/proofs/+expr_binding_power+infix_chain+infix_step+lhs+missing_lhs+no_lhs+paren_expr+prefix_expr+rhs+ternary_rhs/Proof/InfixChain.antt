@@ -1,0 +1,153 @@
+-- `infix_chain` is the rest of the chain, link by link.
+use Prim.Native.Nat.{ℕ, _≤_}
+use mathlib.Core.Path.{_≡_, refl, _∙_}
+use lib.ListN.{length}
+use native.Mathlib.Omega.{arith}
+use Rattle.definitions.specs.Token.{tokens}
+use Rattle.definitions.specs.Grammar.{infix-turn}
+use Rattle.parser.specs.View.{left, marker-of, view-of}
+use Rattle.expr.specs.Parts.{links-from}
+use Rattle.expr.proofs.Way.{c-fn}
+use Rattle.expr.proofs.Chain.{ahead-falls, linked-again, linked-last, linked-stop, step-again, step-last, step-none}
+use Rattle.expr.proofs.infix_chain.Reads as reads
+use Rattle.expr.proofs.+expr_binding_power+infix_chain+infix_step+lhs+missing_lhs+no_lhs+paren_expr+prefix_expr+rhs+ternary_rhs.Lts-infix_chain as lts
+use Rattle.expr.proofs.+expr_binding_power+infix_chain+infix_step+lhs+missing_lhs+no_lhs+paren_expr+prefix_expr+rhs+ternary_rhs.Proof.Measures.{infix-chain-at, infix-chain-claims}
+
+-- the chain from here is the chain from the start
+abbrev pub Inv-loop : lts.InvT-loop
+Inv-loop t ev₀ rep₀ pool₀ room min-bp m₀ q₀ ev rep pool m q =
+    (left t (q .s) ≤ left t (q₀ .s))
+    × ((length ev ≡ length ev₀)
+    × ((length rep ≡ length rep₀)
+    × ((length pool ≡ length pool₀) × (links-from room (tokens t) (infix-turn min-bp) (marker-of m) (view-of q ev rep pool) ≡ links-from room (tokens t) (infix-turn min-bp) (marker-of m₀) (view-of q₀ ev₀ rep₀ pool₀)))))
+
+abbrev pub μ-loop : lts.MeasureT-loop
+μ-loop t ev₀ rep₀ pool₀ room min-bp m₀ q₀ ev rep pool m q = left t (q .s)
+
+pub loop-holds : (t : ℕ) → lts.Need-loop-holds (infix-chain-claims t) (infix-chain-at t) reads.Post Inv-loop μ-loop
+loop-holds t c = (omega arith, (refl, (refl, (refl, refl))))
+
+pub infix-step-requires : (t : ℕ) → lts.Need-infix-step-requires (infix-chain-claims t) (infix-chain-at t) reads.Post Inv-loop μ-loop
+infix-step-requires t c κs =
+    let s′ = c .before .before .before .before .before .before .before .before in
+    (omega (arith, s′ .pre .0), tt)
+
+pub complete-requires : (t : ℕ) → lts.Need-complete-requires (infix-chain-claims t) (infix-chain-at t) reads.Post Inv-loop μ-loop
+complete-requires t c κs = tt
+
+pub linked-requires : (t : ℕ) → lts.Need-linked-requires (infix-chain-claims t) (infix-chain-at t) reads.Post Inv-loop μ-loop
+linked-requires t c κs = tt
+
+pub precede-requires : (t : ℕ) → lts.Need-precede-requires (infix-chain-claims t) (infix-chain-at t) reads.Post Inv-loop μ-loop
+precede-requires t c κs = tt
+
+pub loop-less : (t : ℕ) → lts.Need-loop-less (infix-chain-claims t) (infix-chain-at t) reads.Post Inv-loop μ-loop
+loop-less t c =
+    let precede′ = c .before .before .before in
+    let complete′ = precede′ .before .before .before .before .before in
+    let if1′ = complete′ .before .before in
+    let infix-step′ = if1′ .before .before .before .before .before .before .before in
+    let loop′ = infix-step′ .before .before .before .before in
+    let s′ = loop′ .before .before .before .before .before in
+    omega (arith, loop′ .loop .inv .0, infix-step′ .infix-step .ensures .1 .0, infix-step′ .infix-step .ensures .1 .1 (if1′ .if1 .taken), complete′ .complete .ensures .1 (s′ .args .t .now), precede′ .precede .ensures .1 (s′ .args .t .now))
+
+pub loop-again : (t : ℕ) → lts.Need-loop-again (infix-chain-claims t) (infix-chain-at t) reads.Post Inv-loop μ-loop
+loop-again t c =
+    let precede′ = c .before .before .before in
+    let linked′ = precede′ .before .before in
+    let complete′ = linked′ .before .before .before in
+    let if1′ = complete′ .before .before in
+    let infix-step′ = if1′ .before .before .before .before .before .before .before in
+    let loop′ = infix-step′ .before .before .before .before in
+    let s′ = loop′ .before .before .before .before .before in (
+      omega (arith, loop′ .loop .inv .0, infix-step′ .infix-step .ensures .1 .0, infix-step′ .infix-step .ensures .1 .1 (if1′ .if1 .taken), complete′ .complete .ensures .1 (s′ .args .t .now), precede′ .precede .ensures .1 (s′ .args .t .now)),
+      (
+        omega (arith, infix-step′ .infix-step .kept, complete′ .complete .kept, precede′ .precede .kept, loop′ .loop .inv .1),
+        (
+          omega (arith, infix-step′ .infix-step .kept, complete′ .complete .kept, precede′ .precede .kept, loop′ .loop .inv .1),
+          (
+            omega (arith, infix-step′ .infix-step .kept, complete′ .complete .kept, precede′ .precede .kept, loop′ .loop .inv .1),
+            linked-again (s′ .args .room) (s′ .args .t .now) (infix-turn (s′ .args .min-bp)) (marker-of (loop′ .loop .m)) 5 (complete′ .complete .ensures .0 _ _) (precede′ .precede .ensures .0 _ _) (linked′ .linked .ensures) (s′ .good .1 .0 .0) (step-again (c-fn (s′ .args .room) (infix-step′ .infix-step .ensures .0)) (if1′ .if1 .taken) (c .if2 .taken)) (ahead-falls (s′ .args .t .now) (loop′ .loop .q) (infix-step′ .infix-step .result .p) (infix-step′ .infix-step .ensures .1 .1 (if1′ .if1 .taken))) ∙ loop′ .loop .inv .1 .1 .1 .1,
+          ),
+        ),
+      ),
+    )
+
+pub ignore-requires : (t : ℕ) → lts.Need-ignore-requires (infix-chain-claims t) (infix-chain-at t) reads.Post Inv-loop μ-loop
+ignore-requires t c κs = tt
+
+pub same-length : (t : ℕ) → lts.Need-same-length (infix-chain-claims t) (infix-chain-at t) reads.Post Inv-loop μ-loop
+same-length t c =
+    let ignore′ = c .before .before in
+    let precede′ = ignore′ .before .before .before .before .before in
+    let complete′ = precede′ .before .before .before .before .before in
+    let infix-step′ = complete′ .before .before .before .before .before .before .before .before .before in
+    let loop′ = infix-step′ .before .before .before .before in
+    omega (arith, infix-step′ .infix-step .kept, complete′ .complete .kept, precede′ .precede .kept, ignore′ .ignore .kept, loop′ .loop .inv .1)
+
+pub same-length-2 : (t : ℕ) → lts.Need-same-length-2 (infix-chain-claims t) (infix-chain-at t) reads.Post Inv-loop μ-loop
+same-length-2 t c =
+    let ignore′ = c .before .before in
+    let precede′ = ignore′ .before .before .before .before .before in
+    let complete′ = precede′ .before .before .before .before .before in
+    let infix-step′ = complete′ .before .before .before .before .before .before .before .before .before in
+    let loop′ = infix-step′ .before .before .before .before in
+    omega (arith, infix-step′ .infix-step .kept, complete′ .complete .kept, precede′ .precede .kept, ignore′ .ignore .kept, loop′ .loop .inv .1)
+
+pub same-length-3 : (t : ℕ) → lts.Need-same-length-3 (infix-chain-claims t) (infix-chain-at t) reads.Post Inv-loop μ-loop
+same-length-3 t c =
+    let ignore′ = c .before .before in
+    let precede′ = ignore′ .before .before .before .before .before in
+    let complete′ = precede′ .before .before .before .before .before in
+    let infix-step′ = complete′ .before .before .before .before .before .before .before .before .before in
+    let loop′ = infix-step′ .before .before .before .before in
+    omega (arith, infix-step′ .infix-step .kept, complete′ .complete .kept, precede′ .precede .kept, ignore′ .ignore .kept, loop′ .loop .inv .1)
+
+pub returns : (t : ℕ) → lts.Need-returns (infix-chain-claims t) (infix-chain-at t) reads.Post Inv-loop μ-loop
+returns t c =
+    let ignore′ = c .before .before in
+    let if2′ = ignore′ .before .before in
+    let precede′ = if2′ .before .before .before in
+    let complete′ = precede′ .before .before .before .before .before in
+    let if1′ = complete′ .before .before in
+    let infix-step′ = if1′ .before .before .before .before .before .before .before in
+    let loop′ = infix-step′ .before .before .before .before in
+    let s′ = loop′ .before .before .before .before .before in (
+      linked-last (s′ .args .room) (s′ .args .t .now) (infix-turn (s′ .args .min-bp)) (marker-of (loop′ .loop .m)) 5 (complete′ .complete .ensures .0 _ _) (precede′ .precede .ensures .0 _ _) (ignore′ .ignore .ensures .0 _ _) (step-last (c-fn (s′ .args .room) (infix-step′ .infix-step .ensures .0)) (if1′ .if1 .taken) (if2′ .if2 .left)) ∙ loop′ .loop .inv .1 .1 .1 .1,
+      omega (arith, loop′ .loop .inv .0, infix-step′ .infix-step .ensures .1 .0, infix-step′ .infix-step .ensures .1 .1 (if1′ .if1 .taken), complete′ .complete .ensures .1 (s′ .args .t .now), precede′ .precede .ensures .1 (s′ .args .t .now), ignore′ .ignore .ensures .1 (s′ .args .t .now)),
+    )
+
+pub ignore-requires-2 : (t : ℕ) → lts.Need-ignore-requires-2 (infix-chain-claims t) (infix-chain-at t) reads.Post Inv-loop μ-loop
+ignore-requires-2 t c κs = tt
+
+pub same-length-4 : (t : ℕ) → lts.Need-same-length-4 (infix-chain-claims t) (infix-chain-at t) reads.Post Inv-loop μ-loop
+same-length-4 t c =
+    let ignore2′ = c .before .before in
+    let infix-step′ = ignore2′ .before .before .before .before .before .before .before .before .before in
+    let loop′ = infix-step′ .before .before .before .before in
+    omega (arith, infix-step′ .infix-step .kept, ignore2′ .ignore2 .kept, loop′ .loop .inv .1)
+
+pub same-length-5 : (t : ℕ) → lts.Need-same-length-5 (infix-chain-claims t) (infix-chain-at t) reads.Post Inv-loop μ-loop
+same-length-5 t c =
+    let ignore2′ = c .before .before in
+    let infix-step′ = ignore2′ .before .before .before .before .before .before .before .before .before in
+    let loop′ = infix-step′ .before .before .before .before in
+    omega (arith, infix-step′ .infix-step .kept, ignore2′ .ignore2 .kept, loop′ .loop .inv .1)
+
+pub same-length-6 : (t : ℕ) → lts.Need-same-length-6 (infix-chain-claims t) (infix-chain-at t) reads.Post Inv-loop μ-loop
+same-length-6 t c =
+    let ignore2′ = c .before .before in
+    let infix-step′ = ignore2′ .before .before .before .before .before .before .before .before .before in
+    let loop′ = infix-step′ .before .before .before .before in
+    omega (arith, infix-step′ .infix-step .kept, ignore2′ .ignore2 .kept, loop′ .loop .inv .1)
+
+pub returns-2 : (t : ℕ) → lts.Need-returns-2 (infix-chain-claims t) (infix-chain-at t) reads.Post Inv-loop μ-loop
+returns-2 t c =
+    let ignore2′ = c .before .before in
+    let if1′ = ignore2′ .before .before in
+    let infix-step′ = if1′ .before .before .before .before .before .before .before in
+    let loop′ = infix-step′ .before .before .before .before in
+    let s′ = loop′ .before .before .before .before .before in (
+      linked-stop (s′ .args .room) (tokens (s′ .args .t .now)) (infix-turn (s′ .args .min-bp)) (marker-of (loop′ .loop .m)) (ignore2′ .ignore2 .ensures .0 _ _) (step-none (infix-step′ .infix-step .result .again) (c-fn (s′ .args .room) (infix-step′ .infix-step .ensures .0)) (if1′ .if1 .left)) ∙ loop′ .loop .inv .1 .1 .1 .1,
+      omega (arith, loop′ .loop .inv .0, infix-step′ .infix-step .ensures .1 .0, ignore2′ .ignore2 .ensures .1 (s′ .args .t .now)),
+    )

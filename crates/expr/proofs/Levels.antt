@@ -1,0 +1,290 @@
+-- The definitions' levels by kind. A turn over infix operators tries one level after the other; which one it takes is decided by the kind
+-- at the cursor alone.
+use Prim.Native.Nat.{ℕ, zero, suc, _+_, _-_, _≤_, _<_}
+use mathlib.Core.Path.{_≡_, refl, sym, ap, _∙_}
+use mathlib.Core.Bool.{Bool, true, false, cond, _&&_}
+use mathlib.Core.List.{List, [], _∷_}
+use native.Mathlib.Omega.{arith}
+use lib.Dec.{ltb, leb, eqb}
+use lib.ListN.{length, drop, getD}
+use borrow.Author.Tests.{leb-false, ltb-true, ltb-false, lt-ltb, le-ltb, eqb-true, eqb-false, eq-eqb, ne-eqb}
+use Rattle.definitions.specs.TokenKind as K
+use Rattle.definitions.specs.Errors as E
+use Rattle.definitions.specs.Token.{Token, seen, is-error, trivia, past, one-of, first-in}
+use Rattle.definitions.specs.Skeleton.{Span}
+use Rattle.definitions.specs.Prog.{Ans, no, yes, Rule, silent-at, less, Prog, ret, act, _⨟_, case}
+use Rattle.definitions.specs.Check.{tell, if_then_else_, bump!, expected, set, silent}
+use Rattle.definitions.specs.Grammar.{INFIX-BUT-TERNARY, Level, ternary, binding-power, rhs, infix-levels, infix-turn}
+use Rattle.definitions.specs.Run.{truth}
+use Rattle.machine.specs.Machine.{Machine, rest, passed, skip, peek, expect-code}
+use Rattle.machine.specs.Walk.{Walked, said, perform, choose, walk}
+use Rattle.parser.specs.View.{kind-of}
+use Rattle.expr.specs.Power.{levels, left-power, right-power}
+use Rattle.expr.specs.Parts.{ternary-rhs}
+use Rattle.expr.proofs.Way.{Way, c-walk, c-act, c-ret, c-yes, c-no}
+
+-- ---------------------------------------------------------------- a second peek moves nothing
+
+past-drop : (c : ℕ) (ts : List Token) → drop (c + 1) ts ≡ past (drop c ts)
+past-drop c ts = let e : c + 1 ≡ suc c = omega arith in ap (λ (n : ℕ). drop n ts) e ∙ go c ts
+  where
+    go : (c : ℕ) (ts : List Token) → drop (suc c) ts ≡ past (drop c ts)
+    go zero [] = refl
+    go zero (t ∷ ts) = refl
+    go (suc c) [] = refl
+    go (suc c) (t ∷ ts) = go c ts
+
+skipped : (ts l : List Token) (m : Machine) → rest ts m ≡ l → skip (rest ts (skip l m)) (skip l m) ≡ skip l m
+unfolding skip
+skipped ts [] m e = rw e
+skipped ts (t ∷ l) m e = by (trivia t) refl (skipped ts l (passed t m) (past-drop (m .cursor) ts ∙ ap past e))
+  where
+    by : (b : Bool) → trivia t ≡ b → skip (rest ts (skip l (passed t m))) (skip l (passed t m)) ≡ skip l (passed t m)
+        → skip (rest ts (cond b (skip l (passed t m)) m)) (cond b (skip l (passed t m)) m) ≡ cond b (skip l (passed t m)) m
+    by true f r = r
+    by false f r = ap (λ (x : List Token). skip x m) e ∙ ap (λ (b : Bool). cond b (skip l (passed t m)) m) f
+
+pub peek-peek : (ts : List Token) (m : Machine) → peek ts (peek ts m) ≡ peek ts m
+unfolding peek
+peek-peek ts m = skipped ts (rest ts m) m refl
+
+-- ---------------------------------------------------------------- a level of a kind
+
+-- every left power is above 2
+unfoldable high : List Level → Bool
+high [] = true
+high (l ∷ ls) = ltb 2 (l .left) && high ls
+
+pub both-left : (a b : Bool) → (a && b) ≡ true → a ≡ true
+both-left true b e = refl
+both-left false b e = e
+
+pub true-false : {A : Type 0} → true ≡ false → A
+true-false e = let z : _≡_ {A = ℕ} 1 0 = ap (λ (b : Bool). cond b 1 0) e in absurd (omega (arith, z))
+
+pub both-right : (a b : Bool) → (a && b) ≡ true → b ≡ true
+both-right true b e = e
+both-right false b e = true-false (sym e)
+
+binding-power-high : high binding-power ≡ true
+unfolding high
+binding-power-high = refl
+
+-- a kind of no level has power 0, and any other more than 2
+high-power : (ls : List Level) (k : ℕ) → high ls ≡ true → eqb (left-power ls k) 0 ≡ false → 2 < left-power ls k
+unfolding high left-power
+high-power [] k h d = true-false d
+high-power (l ∷ ls) k h d = by (one-of (l .kinds) k) d (high-power ls k (both-right (ltb 2 (l .left)) (high ls) h))
+  where
+    by : (b : Bool) → eqb (cond b (l .left) (left-power ls k)) 0 ≡ false → (eqb (left-power ls k) 0 ≡ false → 2 < left-power ls k) → 2 < cond b (l .left) (left-power ls k)
+    by true d r = ltb-true _ _ (both-left (ltb 2 (l .left)) (high ls) h)
+    by false d r = r d
+
+-- past the last token there is no operator
+pub left-end : left-power levels 64 ≡ 0
+unfolding left-power one-of
+left-end = refl
+
+-- ---------------------------------------------------------------- a turn, from a machine that has peeked
+
+-- what follows the pushed expectation in a turn over infix operators
+abbrev pub infix-choice : ℕ → Prog
+infix-choice min =
+    if silent (set (ternary .kinds)) then (if act (less (ternary .left) min) then tell yes else bump! ⨟ ternary-rhs)
+    else infix-levels min binding-power
+
+module _ (ask : Rule → Machine → Walked) (ts : List Token) (b : Span) (min : ℕ) (m : Machine) where
+  -- an operator with these powers, of a level or the ternary
+  abbrev level-arm : ℕ → ℕ → Walked
+  level-arm l r = cond (eqb l 0) (said yes m) (cond (ltb l min) (said yes m) (walk ask ts b (bump! ⨟ rhs r) m))
+
+  abbrev pub arm : ℕ → ℕ → Walked
+  arm l r = cond (eqb l 0) (said yes m) (cond (ltb l min) (said yes m) (cond (eqb l 2) (walk ask ts b (bump! ⨟ ternary-rhs) m) (walk ask ts b (bump! ⨟ rhs r) m)))
+
+  -- a test of a set, by what is seen
+  looks : peek ts m ≡ m → (ks : List ℕ) (t : Bool) → first-in ks (rest ts m) ≡ t → Way ask ts b (silent (set ks)) m (said (truth t) m)
+  unfolding silent perform
+  looks still ks t e = c-act (ap (λ (t : Bool). said (truth t) m) (sym e) ∙ ap (λ (x : Machine). said (truth (first-in ks (rest ts x))) x) (sym still))
+
+  -- the power test of an operator that is there
+  stronger : (l : ℕ) (p : Prog) → Way ask ts b (if act (less l min) then tell yes else p) m (cond (ltb l min) (said yes m) (walk ask ts b p m))
+  unfolding perform
+  stronger l p = by (ltb l min) refl
+    where
+      by : (t : Bool) → ltb l min ≡ t → Way ask ts b (if act (less l min) then tell yes else p) m (cond t (said yes m) (walk ask ts b p m))
+      by true e = c-yes (c-act (ap (λ (t : Bool). said (truth t) m) (sym e))) refl c-ret
+      by false e = c-no (c-act (ap (λ (t : Bool). said (truth t) m) (sym e))) refl (c-walk refl)
+
+  -- at the end of the tokens no level matches
+  no-level : peek ts m ≡ m → rest ts m ≡ [] → (ls : List Level) → Way ask ts b (infix-levels min ls) m (said yes m)
+  unfolding infix-levels first-in
+  no-level still e [] = c-ret
+  no-level still e (l ∷ ls) = c-no (looks still (l .kinds) false (ap (first-in (l .kinds)) e)) refl (no-level still e ls)
+
+  -- at a token, its level does, or none
+  some-level : peek ts m ≡ m → (t : Token) (l : List Token) → rest ts m ≡ t ∷ l → (ls : List Level) → high ls ≡ true
+      → Way ask ts b (infix-levels min ls) m (level-arm (left-power ls (seen t)) (right-power ls (seen t)))
+  unfolding infix-levels first-in left-power right-power high
+  some-level still t l e [] h = c-ret
+  some-level still t l e (x ∷ ls) h = by (one-of (x .kinds) (seen t)) refl (some-level still t l e ls (both-right (ltb 2 (x .left)) (high ls) h))
+    where
+      positive : eqb (x .left) 0 ≡ false
+      positive = let q = ltb-true 2 (x .left) (both-left (ltb 2 (x .left)) (high ls) h) in ne-eqb (x .left) 0 (λ z. absurd (omega (arith, q, z)))
+
+      by : (c : Bool) → one-of (x .kinds) (seen t) ≡ c → Way ask ts b (infix-levels min ls) m (level-arm (left-power ls (seen t)) (right-power ls (seen t)))
+          → Way ask ts b (infix-levels min (x ∷ ls)) m (level-arm (cond c (x .left) (left-power ls (seen t))) (cond c (x .right) (right-power ls (seen t))))
+      by true f r =
+          c-yes (looks still (x .kinds) true (ap (first-in (x .kinds)) e ∙ f)) refl
+          (c-walk (ap (λ (c : Bool). cond c (said yes m) (cond (ltb (x .left) min) (said yes m) (walk ask ts b (bump! ⨟ rhs (x .right)) m))) positive ∙ stronger (x .left) (bump! ⨟ rhs (x .right)) .is))
+      by false f r = c-no (looks still (x .kinds) false (ap (first-in (x .kinds)) e ∙ f)) refl r
+
+  -- the ternary has power 2, and no level has
+  apart : (l r : ℕ) → (eqb l 0 ≡ false → 2 < l) → arm l r ≡ level-arm l r
+  apart l r h = by (eqb l 0) refl
+    where
+      by : (c : Bool) → eqb l 0 ≡ c
+          → cond c (said yes m) (cond (ltb l min) (said yes m) (cond (eqb l 2) (walk ask ts b (bump! ⨟ ternary-rhs) m) (walk ask ts b (bump! ⨟ rhs r) m)))
+          ≡ cond c (said yes m) (cond (ltb l min) (said yes m) (walk ask ts b (bump! ⨟ rhs r) m))
+      by true e = refl
+      by false e =
+          let q = h e in
+          ap (λ (c : Bool). cond (ltb l min) (said yes m) (cond c (walk ask ts b (bump! ⨟ ternary-rhs) m) (walk ask ts b (bump! ⨟ rhs r) m))) (ne-eqb l 2 (λ z. absurd (omega (arith, q, z))))
+
+  -- at a token: the ternary, or its level
+  choice-token : peek ts m ≡ m → (t : Token) (l : List Token) → rest ts m ≡ t ∷ l → (c : Bool) → one-of (ternary .kinds) (seen t) ≡ c
+      → Way ask ts b (infix-choice min) m (arm (cond c (ternary .left) (left-power binding-power (seen t))) (cond c (ternary .right) (right-power binding-power (seen t))))
+  unfolding first-in
+  choice-token still t l e true f = c-yes (looks still (ternary .kinds) true (ap (first-in (ternary .kinds)) e ∙ f)) refl (stronger (ternary .left) (bump! ⨟ ternary-rhs))
+  choice-token still t l e false f =
+      let k = seen t in
+      c-no (looks still (ternary .kinds) false (ap (first-in (ternary .kinds)) e ∙ f)) refl
+      (c-walk (apart (left-power binding-power k) (right-power binding-power k) (high-power binding-power k binding-power-high) ∙ some-level still t l e binding-power binding-power-high .is))
+
+  choice-at : peek ts m ≡ m → (l : List Token) → rest ts m ≡ l → Way ask ts b (infix-choice min) m (arm (left-power levels (kind-of l)) (right-power levels (kind-of l)))
+  unfolding left-power right-power kind-of first-in one-of
+  choice-at still [] e = c-no (looks still (ternary .kinds) false (ap (first-in (ternary .kinds)) e)) refl (no-level still e binding-power)
+  choice-at still (t ∷ l) e = choice-token still t l e (one-of (ternary .kinds) (seen t)) refl
+
+  -- which arm a turn takes
+  pub choice : peek ts m ≡ m → Way ask ts b (infix-choice min) m (arm (left-power levels (kind-of (rest ts m))) (right-power levels (kind-of (rest ts m))))
+  choice still = choice-at still (rest ts m) refl
+
+-- ---------------------------------------------------------------- a turn, as the code finds the operator
+
+-- a test sees the same after a peek
+silent-peeked : (ask : Rule → Machine → Walked) (ts : List Token) (b : Span) (ks : List ℕ) (n y a : Prog) (m : Machine)
+    → walk ask ts b (case (silent (set ks)) n y a) (peek ts m) ≡ walk ask ts b (case (silent (set ks)) n y a) m
+unfolding walk silent perform
+silent-peeked ask ts b ks n y a m = ap (λ (x : Machine). choose (truth (first-in ks (rest ts x))) (walk ask ts b n) (walk ask ts b y) (walk ask ts b a) x) (peek-peek ts m)
+
+still : (ts : List Token) (m x : Machine) → x ≡ peek ts m → peek ts x ≡ x
+still ts m x e = ap (peek ts) e ∙ peek-peek ts m ∙ sym e
+
+module _ {ask : Rule → Machine → Walked} {ts : List Token} {b : Span} {m x : Machine} (min l r : ℕ)
+    (ex : x ≡ peek ts (expect-code E.InfixOperator m)) (el : l ≡ left-power levels (kind-of (rest ts x))) (er : r ≡ right-power levels (kind-of (rest ts x))) where
+  turn : Way ask ts b (infix-turn min) m (arm ask ts b min x l r)
+  unfolding infix-turn walk perform
+  turn =
+      let none = if act (less (ternary .left) min) then tell yes else bump! ⨟ ternary-rhs in
+      record {
+        is =
+            ap (λ (k : ℕ). arm ask ts b min x k r) el
+            ∙ ap (arm ask ts b min x (left-power levels (kind-of (rest ts x)))) er
+            ∙ choice ask ts b min x (still ts (expect-code E.InfixOperator m) x ex) .is
+            ∙ ap (walk ask ts b (infix-choice min)) ex
+            ∙ silent-peeked ask ts b (ternary .kinds) (infix-levels min binding-power) none none (expect-code E.InfixOperator m);
+      }
+
+  -- no operator; one that binds too weakly; the ternary; any other
+  pub turn-none : eqb l 0 ≡ true → Way ask ts b (infix-turn min) m (said yes x)
+  turn-none e =
+      c-walk
+      (sym (ap (λ (c : Bool). cond c (said yes x) (cond (ltb l min) (said yes x) (cond (eqb l 2) (walk ask ts b (bump! ⨟ ternary-rhs) x) (walk ask ts b (bump! ⨟ rhs r) x)))) e)
+      ∙ turn .is)
+
+  pub turn-weaker : eqb l 0 ≡ false → ltb l min ≡ true → Way ask ts b (infix-turn min) m (said yes x)
+  turn-weaker e f =
+      c-walk
+      (sym (ap (λ (c : Bool). cond c (said yes x) (cond (eqb l 2) (walk ask ts b (bump! ⨟ ternary-rhs) x) (walk ask ts b (bump! ⨟ rhs r) x))) f)
+      ∙ sym (ap (λ (c : Bool). cond c (said yes x) (cond (ltb l min) (said yes x) (cond (eqb l 2) (walk ask ts b (bump! ⨟ ternary-rhs) x) (walk ask ts b (bump! ⨟ rhs r) x)))) e)
+      ∙ turn .is)
+
+  taken : eqb l 0 ≡ false → ltb l min ≡ false → Way ask ts b (infix-turn min) m (cond (eqb l 2) (walk ask ts b (bump! ⨟ ternary-rhs) x) (walk ask ts b (bump! ⨟ rhs r) x))
+  taken e f =
+      c-walk
+      (sym (ap (λ (c : Bool). cond c (said yes x) (cond (eqb l 2) (walk ask ts b (bump! ⨟ ternary-rhs) x) (walk ask ts b (bump! ⨟ rhs r) x))) f)
+      ∙ sym (ap (λ (c : Bool). cond c (said yes x) (cond (ltb l min) (said yes x) (cond (eqb l 2) (walk ask ts b (bump! ⨟ ternary-rhs) x) (walk ask ts b (bump! ⨟ rhs r) x)))) e)
+      ∙ turn .is)
+
+  pub turn-ternary : {w : Walked} → eqb l 0 ≡ false → ltb l min ≡ false → eqb l 2 ≡ true → Way ask ts b (bump! ⨟ ternary-rhs) x w → Way ask ts b (infix-turn min) m w
+  turn-ternary e f g h =
+      c-walk (h .is ∙ sym (ap (λ (c : Bool). cond c (walk ask ts b (bump! ⨟ ternary-rhs) x) (walk ask ts b (bump! ⨟ rhs r) x)) g) ∙ taken e f .is)
+
+  pub turn-binary : {w : Walked} → eqb l 0 ≡ false → ltb l min ≡ false → eqb l 2 ≡ false → Way ask ts b (bump! ⨟ rhs r) x w → Way ask ts b (infix-turn min) m w
+  turn-binary e f g h =
+      c-walk (h .is ∙ sym (ap (λ (c : Bool). cond c (walk ask ts b (bump! ⨟ ternary-rhs) x) (walk ask ts b (bump! ⨟ rhs r) x)) g) ∙ taken e f .is)
+
+-- ---------------------------------------------------------------- `InfixOp::at` where an expression has no left side
+
+same : Bool → Bool → Bool
+same true b = b
+same false b = cond b false true
+
+same-true : (a b : Bool) → same a b ≡ true → a ≡ b
+unfolding same
+same-true true b e = sym e
+same-true false true e = e
+same-true false false e = refl
+
+unfoldable pub all-below : (ℕ → Bool) → ℕ → Bool
+all-below f zero = true
+all-below f (suc n) = f n && all-below f n
+
+-- a test that passes at each number below n passes at any of them
+pub at-below : (f : ℕ → Bool) (n k : ℕ) → all-below f n ≡ true → k < n → f k ≡ true
+unfolding all-below
+at-below f zero k h l = absurd (omega (arith, l))
+at-below f (suc n) k h l = go (eqb k n) refl (at-below f n k (both-right (f n) (all-below f n) h))
+  where
+    go : (b : Bool) → eqb k n ≡ b → (k < n → f k ≡ true) → f k ≡ true
+    go true e r = ap f (eqb-true k n e) ∙ both-left (f n) (all-below f n) h
+    go false e r = r (omega (arith, l, eqb-false k n e))
+
+-- every infix operator but the ternary binds by more than 2
+binary-test : ℕ → Bool
+binary-test k = same (one-of INFIX-BUT-TERNARY k) (ltb 2 (left-power levels k))
+
+binary-tested : all-below binary-test 64 ≡ true
+unfolding all-below binary-test same one-of left-power
+binary-tested = refl
+
+seen-below : (t : Token) → seen t < 64
+unfolding seen is-error
+seen-below t = by (leb 64 (t .kind)) refl
+  where
+    by : (c : Bool) → leb 64 (t .kind) ≡ c → cond c K.Unrecognized (t .kind) < 64
+    by true e = omega arith
+    by false e = leb-false 64 (t .kind) e
+
+binary-end : false ≡ ltb 2 (left-power levels 64)
+unfolding left-power one-of
+binary-end = refl
+
+binary-kind : (k : ℕ) → k < 64 → one-of INFIX-BUT-TERNARY k ≡ ltb 2 (left-power levels k)
+unfolding binary-test
+binary-kind k h = same-true (one-of INFIX-BUT-TERNARY k) (ltb 2 (left-power levels k)) (at-below binary-test 64 k binary-tested h)
+
+binary-first : (l : List Token) → first-in INFIX-BUT-TERNARY l ≡ ltb 2 (left-power levels (kind-of l))
+unfolding first-in kind-of
+binary-first [] = binary-end
+binary-first (t ∷ l) = binary-kind (seen t) (seen-below t)
+
+pub at-binary : {ask : Rule → Machine → Walked} {ts : List Token} {b : Span} {m x : Machine} (l : ℕ)
+    → x ≡ peek ts (expect-code E.InfixOperator m) → l ≡ left-power levels (kind-of (rest ts x))
+    → Way ask ts b (expected E.InfixOperator ⨟ silent (set INFIX-BUT-TERNARY)) m (said (truth (ltb 2 l)) x)
+unfolding walk perform silent
+at-binary {ts = ts} {x = x} l ex el =
+    c-walk
+    (ap (λ (k : ℕ). said (truth (ltb 2 k)) x) el
+    ∙ ap (λ (t : Bool). said (truth t) x) (sym (binary-first (rest ts x)))
+    ∙ ap (λ (y : Machine). said (truth (first-in INFIX-BUT-TERNARY (rest ts y))) y) ex)

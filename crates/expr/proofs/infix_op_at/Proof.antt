@@ -1,0 +1,51 @@
+-- `infix_op_at` peeks behind the pushed expectation, and reads the powers of the kind that it sees off the table.
+use mathlib.Core.Path.{_∙_, ap}
+use native.Mathlib.Omega.{arith}
+use Rattle.definitions.specs.Token.{tokens}
+use Rattle.machine.specs.Machine.{peek}
+use Rattle.machine.specs.Walk.{Walked, perform, unlabelled}
+use Rattle.parser.specs.View.{left}
+use Rattle.expr.specs.Power.{levels, left-power, right-power}
+use Rattle.expr.proofs.Levels.{left-end}
+use borrow.Author.Needs.{needs}
+use Rattle.expr.proofs.infix_op_at.Statement.{statement}
+use Rattle.expr.proofs.infix_op_at.Tie as tie
+
+add-expected-requires : tie.Need-add-expected-requires
+add-expected-requires c κs = search needs
+
+peek-requires : tie.Need-peek-requires
+peek-requires c κs = search needs
+
+kind-at-requires : tie.Need-kind-at-requires
+kind-at-requires c κs = search needs
+
+binding-power-requires : tie.Need-binding-power-requires
+binding-power-requires c κs = search needs
+
+returns : tie.Need-returns
+unfolding perform left
+returns c =
+    let add-expected′ = c .before .before .before .add-expected in
+    let peek′ = c .before .before .peek in
+    let kind-at′ = c .before .kind-at in
+    let binding-power′ = c .binding-power in
+    let s′ = c .before .before .before .before .before in
+    let tk = s′ .args .t .now in (
+      λ ev rep pool. peek′ .ensures .0 ev rep pool ∙ ap (λ (w : Walked). peek (tokens tk) (w .on)) (add-expected′ .ensures .0 (tokens tk) unlabelled ev rep pool),
+      (
+        binding-power′ .ensures .0 ∙ ap (left-power levels) (kind-at′ .ensures .0),
+        (
+          binding-power′ .ensures .1 ∙ ap (right-power levels) (kind-at′ .ensures .0),
+          (
+            omega (arith, add-expected′ .ensures .1 tk, peek′ .ensures .1),
+            λ some. let h = kind-at′ .ensures .1 (λ e. some (binding-power′ .ensures .0 ∙ ap (left-power levels) e ∙ left-end)) in omega (arith, h),
+          ),
+        ),
+      ),
+    )
+
+pub infix-op-at-spec : {M : Type 1} → statement M
+infix-op-at-spec =
+    tie.close
+    (tie.spec add-expected-requires peek-requires kind-at-requires binding-power-requires returns)

@@ -1,0 +1,21 @@
+-- The binding powers of a kind, read off the definitions' levels.
+use Prim.Native.Nat.{ℕ}
+use mathlib.Core.Bool.{cond}
+use mathlib.Core.List.{List, [], _∷_}
+use Rattle.definitions.specs.Token.{one-of}
+use Rattle.definitions.specs.Grammar.{Level, ternary, binding-power}
+
+-- all infix operators
+abbrev pub levels : List Level
+levels = ternary ∷ binding-power
+
+-- 0 where the kind is of none of the levels
+unfoldable pub left-power : List Level → ℕ → ℕ
+unfolding one-of
+left-power [] k = 0
+left-power (l ∷ ls) k = let r = left-power ls k in cond (one-of (l .kinds) k) (l .left) r
+
+unfoldable pub right-power : List Level → ℕ → ℕ
+unfolding one-of
+right-power [] k = 0
+right-power (l ∷ ls) k = let r = right-power ls k in cond (one-of (l .kinds) k) (l .right) r

@@ -1,0 +1,539 @@
+// grammar/expr.rs: expressions by binding power.
+use lexer::kind;
+use names::macro_invocation;
+use parser::Parser;
+use parser::Tested;
+use parser::errors;
+use parser::errors::Bump;
+use parser::expected;
+use parser::marker::Marker;
+use parser::matcher::Matcher;
+use parser::node;
+use parser::source::kind_at;
+ghost use mathlib.Core.Path.{_≡_};
+ghost use mathlib.Core.Bool.{true};
+ghost use mathlib.Core.List.{List};
+ghost use Prim.Native.Nat.{ℕ, _-_, _≤_, _<_};
+ghost use lib.ListN.{drop};
+ghost use Rattle.definitions.specs.Errors as E;
+ghost use Rattle.definitions.specs.Token.{tokens};
+ghost use Rattle.definitions.specs.Skeleton.{Span};
+ghost use Rattle.definitions.specs.Prog.{Rule, no, yes, expr-binding-power};
+ghost use Rattle.definitions.specs.Grammar.{lhs as lhs-prog, rhs as rhs-prog, infix-turn};
+ghost use Rattle.machine.specs.Machine.{Machine, expect-code, peek};
+ghost use Rattle.machine.specs.Walk.{Walked, said, walk, walk-rule, walk-prog, unlabelled};
+ghost use Rattle.parser.specs.View.{left, view-of, tested-as, marker-of, kind-of};
+ghost use Rattle.expr.specs.Power.{levels, left-power, right-power};
+ghost use Rattle.expr.specs.Parts.{at-prefix-op, prefix-expr, paren-expr, literal-expr, missing-lhs, no-lhs, ternary-rhs, step-as, links-from};
+
+pub const PREFIX_OPERATORS_SET: [u8; 4] = [
+    kind::PLUS,
+    kind::MINUS,
+    kind::BITWISE_NOT,
+    kind::LOGICAL_NOT,
+];
+
+// The infix operators, the prefix operators and the colon.
+pub const OPERATORS_SET: [u8; 24] = [
+    kind::PLUS,
+    kind::MINUS,
+    kind::ASTERISK,
+    kind::SLASH,
+    kind::MODULO,
+    kind::AMPERSAND,
+    kind::BITWISE_OR,
+    kind::BITWISE_XOR,
+    kind::BITWISE_SHL,
+    kind::BITWISE_SHR,
+    kind::LOGICAL_AND,
+    kind::LOGICAL_OR,
+    kind::LANGLE,
+    kind::RANGLE,
+    kind::RELATIONAL_LT_EQ,
+    kind::RELATIONAL_GT_EQ,
+    kind::RELATIONAL_EQ,
+    kind::RELATIONAL_NEQ,
+    kind::QUESTION_MARK,
+    kind::PLUS,
+    kind::MINUS,
+    kind::BITWISE_NOT,
+    kind::LOGICAL_NOT,
+    kind::COLON,
+];
+
+// `InfixOp::binding_power`: left and right, by the operator's kind, from FIRST_OPERATOR to LAST_OPERATOR; 0 where the
+// kind is no infix operator.
+pub const FIRST_OPERATOR: u8 = kind::AMPERSAND;
+
+pub const LAST_OPERATOR: u8 = kind::QUESTION_MARK;
+
+pub const LEFT_POWERS: [u8; 31] = [
+    11, // Ampersand
+    0, // Colon
+    0, // AtSign
+    0, // String
+    0, // Char
+    0, // Number
+    0, // DtBytestring
+    0, // LCurly
+    0, // RCurly
+    15, // LAngle
+    15, // RAngle
+    0, // LParen
+    0, // RParen
+    19, // Plus
+    19, // Minus
+    21, // Asterisk
+    21, // Slash
+    21, // Modulo
+    7, // BitwiseOr
+    9, // BitwiseXor
+    0, // BitwiseNot
+    17, // BitwiseShl
+    17, // BitwiseShr
+    5, // LogicalAnd
+    3, // LogicalOr
+    0, // LogicalNot
+    15, // RelationalLtEq
+    15, // RelationalGtEq
+    13, // RelationalEq
+    13, // RelationalNeq
+    2, // QuestionMark
+];
+
+pub const RIGHT_POWERS: [u8; 31] = [
+    12, // Ampersand
+    0, // Colon
+    0, // AtSign
+    0, // String
+    0, // Char
+    0, // Number
+    0, // DtBytestring
+    0, // LCurly
+    0, // RCurly
+    16, // LAngle
+    16, // RAngle
+    0, // LParen
+    0, // RParen
+    20, // Plus
+    20, // Minus
+    22, // Asterisk
+    22, // Slash
+    22, // Modulo
+    8, // BitwiseOr
+    10, // BitwiseXor
+    0, // BitwiseNot
+    18, // BitwiseShl
+    18, // BitwiseShr
+    6, // LogicalAnd
+    4, // LogicalOr
+    0, // LogicalNot
+    16, // RelationalLtEq
+    16, // RelationalGtEq
+    14, // RelationalEq
+    14, // RelationalNeq
+    1, // QuestionMark
+];
+
+// `PrefixOp::binding_power`.
+pub const PREFIX_POWER: u8 = 23;
+
+// The operator at the cursor, if its left power is not 0.
+pub struct InfixOp {
+    pub p: Parser,
+    pub left: u8,
+    pub right: u8,
+}
+
+// What one turn of `expr_binding_power` did: whether it took an operator and so makes an InfixExpr of all before it, and
+// whether its right side was parsed.
+pub struct Step {
+    pub p: Parser,
+    pub operator: bool,
+    pub again: bool,
+}
+
+// Left and right; 0 and 0 where the kind is no infix operator.
+pub struct BindingPower(pub u8, pub u8);
+
+fn binding_power(k: u8) -> BindingPower
+    ensures { λ r. ⌜ r .0 ≡ left-power levels k ⌝ }
+    ensures { λ r. ⌜ r .1 ≡ right-power levels k ⌝ }
+{
+    let low = FIRST_OPERATOR <= k;
+    if low {
+        let high = k <= LAST_OPERATOR;
+        if high {
+            let i = (k - FIRST_OPERATOR) as usize;
+            return BindingPower(LEFT_POWERS[i], RIGHT_POWERS[i]);
+        }
+        return BindingPower(0, 0);
+    }
+    BindingPower(0, 0)
+}
+
+// `InfixOp::at`
+fn infix_op_at(p: Parser, t: &[u32]) -> InfixOp
+    ensures { λ r. ⌜ ((ev rep pool : List ℕ) → view-of (r .p) ev rep pool ≡ peek (tokens (now (t .entry))) (expect-code E.InfixOperator (view-of p ev rep pool))) ⌝ }
+    ensures { λ r. ⌜ r .left ≡ left-power levels (kind-of (drop (r .p .s .cursor .0) (tokens (now (t .entry))))) ⌝ }
+    ensures { λ r. ⌜ r .right ≡ right-power levels (kind-of (drop (r .p .s .cursor .0) (tokens (now (t .entry))))) ⌝ }
+    ensures { λ r. ⌜ left (now (t .entry)) (r .p .s) ≤ left (now (t .entry)) (p .s) ⌝ }
+    ensures { λ r. ⌜ ((r .left ≡ 0 → ⊥) → 0 < left (now (t .entry)) (r .p .s)) ⌝ }
+{
+    let pushed = p.add_expected(expected::INFIX_OPERATOR);
+    let here = pushed.peek(t);
+    let power = binding_power(kind_at(t, here.s.cursor.0));
+    InfixOp {
+        p: here,
+        left: power.0,
+        right: power.1,
+    }
+}
+
+// `PrefixOp::at`
+fn at_prefix_op(p: Parser, t: &[u32]) -> Tested
+    ensures { λ r. ⌜ ((ask : Rule → Machine → Walked) (b : Span) (ev rep pool : List ℕ) → tested-as r ev rep pool ≡ walk ask (tokens (now (t .entry))) b at-prefix-op (view-of p ev rep pool)) ⌝ }
+    ensures { λ r. ⌜ left (now (t .entry)) (r .p .s) ≤ left (now (t .entry)) (p .s) ⌝ }
+    ensures { λ r. ⌜ (r .yes ≡ true → 0 < left (now (t .entry)) (r .p .s)) ⌝ }
+{
+    let q = p.add_expected(expected::PREFIX_OPERATOR);
+    q.silent_at_set(t, &PREFIX_OPERATORS_SET)
+}
+
+pub fn expr(
+    p: Parser,
+    t: &[u32],
+    ev: &mut [u32],
+    rep: &mut [u32],
+    pool: &mut [u32],
+    room: usize,
+) -> Tested
+    ensures { λ r. ⌜ tested-as r (now (ev .exit)) (now (rep .exit)) (now (pool .exit)) ≡ walk-rule room (tokens (now (t .entry))) (expr-binding-power 0) (view-of p (now (ev .entry)) (now (rep .entry)) (now (pool .entry))) ⌝ }
+    ensures { λ r. ⌜ left (now (t .entry)) (r .p .s) ≤ left (now (t .entry)) (p .s) ⌝ }
+    ensures { λ r. ⌜ (r .yes ≡ true → left (now (t .entry)) (r .p .s) ≤ left (now (t .entry)) (p .s) - 1) ⌝ }
+{
+    expr_binding_power(p, t, ev, rep, pool, room, 0)
+}
+
+pub fn expr_binding_power(
+    p: Parser,
+    t: &[u32],
+    ev: &mut [u32],
+    rep: &mut [u32],
+    pool: &mut [u32],
+    room: usize,
+    min_bp: u8,
+) -> Tested
+    ensures { λ r. ⌜ tested-as r (now (ev .exit)) (now (rep .exit)) (now (pool .exit)) ≡ walk-rule room (tokens (now (t .entry))) (expr-binding-power «min_bp») (view-of p (now (ev .entry)) (now (rep .entry)) (now (pool .entry))) ⌝ }
+    ensures { λ r. ⌜ left (now (t .entry)) (r .p .s) ≤ left (now (t .entry)) (p .s) ⌝ }
+    ensures { λ r. ⌜ (r .yes ≡ true → left (now (t .entry)) (r .p .s) ≤ left (now (t .entry)) (p .s) - 1) ⌝ }
+{
+    let closed = room == 0;
+    if closed {
+        let q = p.refuse(5);
+        return Tested { p: q, yes: false };
+    }
+    let m = Marker::new(p.s);
+    let started = p.start(ev);
+    let left = lhs(started, t, ev, rep, pool, room - 1);
+    if left.yes {
+        infix_chain(left.p, t, ev, rep, pool, room - 1, min_bp, m)
+    } else {
+        let q = left.p.ignore(ev);
+        Tested { p: q, yes: false }
+    }
+}
+
+// Each turn's InfixExpr takes in all that stands since the first marker.
+fn infix_chain(
+    p: Parser,
+    t: &[u32],
+    ev: &mut [u32],
+    rep: &mut [u32],
+    pool: &mut [u32],
+    room: usize,
+    min_bp: u8,
+    first: Marker,
+) -> Tested
+    ensures { λ r. ⌜ tested-as r (now (ev .exit)) (now (rep .exit)) (now (pool .exit)) ≡ links-from room (tokens (now (t .entry))) (infix-turn «min_bp») (marker-of first) (view-of p (now (ev .entry)) (now (rep .entry)) (now (pool .entry))) ⌝ }
+    ensures { λ r. ⌜ left (now (t .entry)) (r .p .s) ≤ left (now (t .entry)) (p .s) ⌝ }
+{
+    let mut m = first;
+    let mut q = p;
+    loop {
+        let step = infix_step(q, t, ev, rep, pool, room, min_bp);
+        if step.operator {
+            let done = step.p.complete(ev, m, node::INFIX_EXPR);
+            let next = Marker::linked(done.s);
+            let linked = done.precede(ev, m);
+            if step.again {
+                q = linked;
+                m = next;
+            } else {
+                let end = linked.ignore(ev);
+                return Tested { p: end, yes: true };
+            }
+        } else {
+            let end = step.p.ignore(ev);
+            return Tested { p: end, yes: true };
+        }
+    }
+}
+
+fn infix_step(
+    p: Parser,
+    t: &[u32],
+    ev: &mut [u32],
+    rep: &mut [u32],
+    pool: &mut [u32],
+    room: usize,
+    min_bp: u8,
+) -> Step
+    ensures { λ r. ⌜ step-as r (now (ev .exit)) (now (rep .exit)) (now (pool .exit)) ≡ walk-prog room (tokens (now (t .entry))) unlabelled (infix-turn «min_bp») (view-of p (now (ev .entry)) (now (rep .entry)) (now (pool .entry))) ⌝ }
+    ensures { λ r. ⌜ left (now (t .entry)) (r .p .s) ≤ left (now (t .entry)) (p .s) ⌝ }
+    ensures { λ r. ⌜ (r .operator ≡ true → left (now (t .entry)) (r .p .s) < left (now (t .entry)) (p .s)) ⌝ }
+{
+    let op = infix_op_at(p, t);
+    let none = op.left == 0;
+    if none {
+        let q = op.p;
+        return Step {
+            p: q,
+            operator: false,
+            again: false,
+        };
+    }
+    let weaker = op.left < min_bp;
+    if weaker {
+        let q = op.p;
+        return Step {
+            p: q,
+            operator: false,
+            again: false,
+        };
+    }
+    let taken = op.p.bump(t, ev);
+    let ternary = op.left == 2;
+    if ternary {
+        ternary_rhs(taken, t, ev, rep, pool, room)
+    } else {
+        rhs(taken, t, ev, rep, pool, room, op.right)
+    }
+}
+
+fn rhs(
+    p: Parser,
+    t: &[u32],
+    ev: &mut [u32],
+    rep: &mut [u32],
+    pool: &mut [u32],
+    room: usize,
+    right_bp: u8,
+) -> Step
+    ensures { λ r. ⌜ step-as r (now (ev .exit)) (now (rep .exit)) (now (pool .exit)) ≡ walk-prog room (tokens (now (t .entry))) unlabelled (rhs-prog «right_bp») (view-of p (now (ev .entry)) (now (rep .entry)) (now (pool .entry))) ⌝ }
+    ensures { λ r. ⌜ left (now (t .entry)) (r .p .s) ≤ left (now (t .entry)) (p .s) ⌝ }
+{
+    let right = expr_binding_power(p, t, ev, rep, pool, room, right_bp);
+    let q = right.p;
+    Step {
+        p: q,
+        operator: true,
+        again: right.yes,
+    }
+}
+
+// After the question mark: the middle, the colon and the right side.
+fn ternary_rhs(
+    p: Parser,
+    t: &[u32],
+    ev: &mut [u32],
+    rep: &mut [u32],
+    pool: &mut [u32],
+    room: usize,
+) -> Step
+    ensures { λ r. ⌜ step-as r (now (ev .exit)) (now (rep .exit)) (now (pool .exit)) ≡ walk-prog room (tokens (now (t .entry))) unlabelled ternary-rhs (view-of p (now (ev .entry)) (now (rep .entry)) (now (pool .entry))) ⌝ }
+    ensures { λ r. ⌜ left (now (t .entry)) (r .p .s) ≤ left (now (t .entry)) (p .s) ⌝ }
+{
+    let middle = expr_binding_power(p, t, ev, rep, pool, room, 0);
+    if middle.yes {
+        let colon = middle
+            .p
+            .expect(t, ev, rep, pool, Matcher::Kind(kind::COLON));
+        if colon.yes {
+            rhs(colon.p, t, ev, rep, pool, room, 1)
+        } else {
+            let q = colon.p;
+            Step {
+                p: q,
+                operator: true,
+                again: false,
+            }
+        }
+    } else {
+        let q = middle.p;
+        Step {
+            p: q,
+            operator: true,
+            again: false,
+        }
+    }
+}
+
+fn lhs(
+    p: Parser,
+    t: &[u32],
+    ev: &mut [u32],
+    rep: &mut [u32],
+    pool: &mut [u32],
+    room: usize,
+) -> Tested
+    ensures { λ r. ⌜ tested-as r (now (ev .exit)) (now (rep .exit)) (now (pool .exit)) ≡ walk-prog room (tokens (now (t .entry))) unlabelled lhs-prog (view-of p (now (ev .entry)) (now (rep .entry)) (now (pool .entry))) ⌝ }
+    ensures { λ r. ⌜ left (now (t .entry)) (r .p .s) ≤ left (now (t .entry)) (p .s) ⌝ }
+    ensures { λ r. ⌜ (r .yes ≡ true → left (now (t .entry)) (r .p .s) ≤ left (now (t .entry)) (p .s) - 1) ⌝ }
+{
+    let op = at_prefix_op(p, t);
+    if op.yes {
+        return prefix_expr(op.p, t, ev, rep, pool, room);
+    }
+    let paren = op.p.at(t, Matcher::Kind(kind::LPAREN));
+    if paren.yes {
+        return paren_expr(paren.p, t, ev, rep, pool, room);
+    }
+    let ident = paren.p.at(t, Matcher::Kind(kind::IDENT));
+    if ident.yes {
+        let q = macro_invocation(ident.p, t, ev, rep, pool);
+        return Tested { p: q, yes: true };
+    }
+    let literal = ident.p.at(t, Matcher::Either(kind::NUMBER, kind::CHAR));
+    if literal.yes {
+        let q = literal_expr(literal.p, t, ev);
+        return Tested { p: q, yes: true };
+    }
+    let q = no_lhs(literal.p, t, ev, rep, pool, room);
+    Tested { p: q, yes: false }
+}
+
+fn prefix_expr(
+    p: Parser,
+    t: &[u32],
+    ev: &mut [u32],
+    rep: &mut [u32],
+    pool: &mut [u32],
+    room: usize,
+) -> Tested
+    ensures { λ r. ⌜ tested-as r (now (ev .exit)) (now (rep .exit)) (now (pool .exit)) ≡ walk-prog room (tokens (now (t .entry))) unlabelled prefix-expr (view-of p (now (ev .entry)) (now (rep .entry)) (now (pool .entry))) ⌝ }
+    ensures { λ r. ⌜ left (now (t .entry)) (r .p .s) ≤ left (now (t .entry)) (p .s) - 1 ⌝ }
+{
+    let m = Marker::new(p.s);
+    let started = p.start(ev);
+    let op = started.bump(t, ev);
+    let right = expr_binding_power(op, t, ev, rep, pool, room, PREFIX_POWER);
+    let q = right.p.complete(ev, m, node::PREFIX_EXPR);
+    Tested {
+        p: q,
+        yes: right.yes,
+    }
+}
+
+fn paren_expr(
+    p: Parser,
+    t: &[u32],
+    ev: &mut [u32],
+    rep: &mut [u32],
+    pool: &mut [u32],
+    room: usize,
+) -> Tested
+    ensures { λ r. ⌜ tested-as r (now (ev .exit)) (now (rep .exit)) (now (pool .exit)) ≡ walk-prog room (tokens (now (t .entry))) unlabelled paren-expr (view-of p (now (ev .entry)) (now (rep .entry)) (now (pool .entry))) ⌝ }
+    ensures { λ r. ⌜ left (now (t .entry)) (r .p .s) ≤ left (now (t .entry)) (p .s) - 1 ⌝ }
+{
+    let m = Marker::new(p.s);
+    let started = p.start(ev);
+    let opened = started.bump(t, ev);
+    let inner = expr_binding_power(opened, t, ev, rep, pool, room, 0);
+    let end = inner
+        .p
+        .expect(t, ev, rep, pool, Matcher::Kind(kind::RPAREN));
+    let q = end.p.complete(ev, m, node::PAREN_EXPR);
+    Tested {
+        p: q,
+        yes: inner.yes,
+    }
+}
+
+fn literal_expr(p: Parser, t: &[u32], ev: &mut [u32]) -> Parser
+    ensures { λ r. ⌜ ((ask : Rule → Machine → Walked) (b : Span) (rep pool : List ℕ) → said yes (view-of r (now (ev .exit)) rep pool) ≡ walk ask (tokens (now (t .entry))) b literal-expr (view-of p (now (ev .entry)) rep pool)) ⌝ }
+    ensures { λ r. ⌜ left (now (t .entry)) (r .s) ≤ left (now (t .entry)) (p .s) - 1 ⌝ }
+{
+    let m = Marker::new(p.s);
+    let started = p.start(ev);
+    let taken = started.bump(t, ev);
+    taken.complete(ev, m, node::LITERAL_EXPR)
+}
+
+// Nothing that an expression starts with.
+fn no_lhs(
+    p: Parser,
+    t: &[u32],
+    ev: &mut [u32],
+    rep: &mut [u32],
+    pool: &mut [u32],
+    room: usize,
+) -> Parser
+    ensures { λ r. ⌜ said no (view-of r (now (ev .exit)) (now (rep .exit)) (now (pool .exit))) ≡ walk-prog room (tokens (now (t .entry))) unlabelled no-lhs (view-of p (now (ev .entry)) (now (rep .entry)) (now (pool .entry))) ⌝ }
+    ensures { λ r. ⌜ left (now (t .entry)) (r .s) ≤ left (now (t .entry)) (p .s) ⌝ }
+{
+    let op = infix_op_at(p, t);
+    let binary = 2 < op.left;
+    if binary {
+        return missing_lhs(op.p, t, ev, rep, pool, room);
+    }
+    let end = op.p.silent_at(t, kind::RPAREN);
+    if end.yes {
+        return end.p.error(
+            t,
+            ev,
+            rep,
+            pool,
+            errors::EXPECTED,
+            errors::NO_HINT,
+            Bump::No,
+        );
+    }
+    end.p.error(
+        t,
+        ev,
+        rep,
+        pool,
+        errors::EXPECTED,
+        errors::NO_HINT,
+        Bump::YesWrapErr,
+    )
+}
+
+// Recovery: an operator whose left side is missing.
+fn missing_lhs(
+    p: Parser,
+    t: &[u32],
+    ev: &mut [u32],
+    rep: &mut [u32],
+    pool: &mut [u32],
+    room: usize,
+) -> Parser
+    ensures { λ r. ⌜ said no (view-of r (now (ev .exit)) (now (rep .exit)) (now (pool .exit))) ≡ walk-prog room (tokens (now (t .entry))) unlabelled missing-lhs (view-of p (now (ev .entry)) (now (rep .entry)) (now (pool .entry))) ⌝ }
+    ensures { λ r. ⌜ left (now (t .entry)) (r .s) ≤ left (now (t .entry)) (p .s) ⌝ }
+{
+    let reported = p.error(
+        t,
+        ev,
+        rep,
+        pool,
+        errors::EXPECTED,
+        errors::MISSING_LEFT_SIDE,
+        Bump::No,
+    );
+    let m = Marker::new(reported.s);
+    let started = reported.start(ev);
+    let op = started.bump(t, ev);
+    let right = expr_binding_power(op, t, ev, rep, pool, room, 0);
+    right.p.complete(ev, m, node::PARSE_ERROR)
+}

@@ -1,0 +1,115 @@
+-- A way through a program, put together step by step along the code: what each call ensures of its part gives what the whole comes to.
+-- The walks of the parts stay shut.
+use Prim.Native.Nat.{ℕ, zero, suc, _<_}
+use mathlib.Core.Path.{_≡_, refl, sym, ap, _∙_}
+use mathlib.Core.Bool.{Bool}
+use mathlib.Core.List.{List}
+use native.Mathlib.Omega.{arith}
+use Rattle.definitions.specs.Token.{Token}
+use Rattle.definitions.specs.Skeleton.{Span}
+use Rattle.definitions.specs.Prog.{Ans, no, yes, also, again, Rule, Act, Prog, ret, act, _⨟_, case, mark, loop, call}
+use Rattle.definitions.specs.Run.{truth, is-again}
+use Rattle.machine.specs.Machine.{Machine, Marker, START, PLACEHOLDER, push, complete}
+use Rattle.machine.specs.Walk.{Walked, said, perform, choose, marker, close, closed, walk}
+use Rattle.machine.proofs.Turns.{ahead, turn-again, turn-last}
+
+-- p, walked from m, comes to w
+pub record Way (ask : Rule → Machine → Walked) (ts : List Token) (b : Span) (p : Prog) (m : Machine) (w : Walked) : Type 0 where
+  pub is : w ≡ walk ask ts b p m
+
+module _ {ask : Rule → Machine → Walked} {ts : List Token} {b : Span} where
+  -- ---------------------------------------------------------------- the whole
+
+  -- with its answer, and without
+  pub whole : {p : Prog} {m : Machine} {w : Walked} → Way ask ts b p m w → w ≡ walk ask ts b p m
+  whole e = e .is
+
+  pub ends : {p : Prog} {m : Machine} {w : Walked} → Way ask ts b p m w → w .on ≡ walk ask ts b p m .on
+  ends e = ap (λ (x : Walked). x .on) (e .is)
+
+  -- an answer that a test has shown to be v
+  pub shown : {p : Prog} {m x : Machine} {y v : Bool} → y ≡ v → Way ask ts b p m (said (truth v) x) → Way ask ts b p m (said (truth y) x)
+  shown {x = x} e f = record { is = ap (λ (z : Bool). said (truth z) x) e ∙ f .is }
+
+  -- a program by another name
+  pub opened : {p q : Prog} {m : Machine} {w : Walked} → p ≡ q → Way ask ts b q m w → Way ask ts b p m w
+  opened {m = m} e f = record { is = f .is ∙ ap (λ (x : Prog). walk ask ts b x m) (sym e) }
+
+  -- ---------------------------------------------------------------- a part, by what its call ensures
+
+  pub does : {p : Prog} {m : Machine} {w : Walked} → w ≡ walk ask ts b p m → Way ask ts b p m w
+  does e = record { is = e }
+
+  pub acts : {a : Act} {m : Machine} {w : Walked} → w ≡ perform ts b a m → Way ask ts b (act a) m w
+  unfolding walk
+  acts e = record { is = e }
+
+  -- a call that does not say what is answered
+  pub lands : {p : Prog} {m x : Machine} → x ≡ walk ask ts b p m .on → Way ask ts b p m (record { ans = walk ask ts b p m .ans; shape = walk ask ts b p m .shape; on = x })
+  lands {p = p} {m = m} e = record { is = ap (λ (x : Machine). record { ans = walk ask ts b p m .ans; shape = walk ask ts b p m .shape; on = x }) e }
+
+  pub calls : {r : Rule} {m : Machine} {w : Walked} → w ≡ ask r m → Way ask ts b (call r) m w
+  unfolding walk
+  calls e = record { is = e }
+
+  -- ---------------------------------------------------------------- parts together
+
+  pub tells : {k : ℕ} {a : Ans} {m : Machine} → Way ask ts b (ret k a) m (record { ans = a; shape = k; on = m })
+  unfolding walk
+  tells = record { is = refl }
+
+  pub seq : {p q : Prog} {m : Machine} {v w : Walked} → Way ask ts b p m v → Way ask ts b q (v .on) w → Way ask ts b (p ⨟ q) m w
+  unfolding walk
+  seq {q = q} e f = record { is = f .is ∙ ap (λ (x : Walked). walk ask ts b q (x .on)) (e .is) }
+
+  pub if-no : {c n y a : Prog} {m : Machine} {v w : Walked} → Way ask ts b c m v → v .ans ≡ no → Way ask ts b n (v .on) w → Way ask ts b (case c n y a) m w
+  unfolding walk choose
+  if-no {n = n} {y = y} {a = a} {v = v} e i f =
+      record { is = f .is ∙ sym (ap (λ (x : Ans). choose x (walk ask ts b n) (walk ask ts b y) (walk ask ts b a) (v .on)) i) ∙ ap (λ (x : Walked). choose (x .ans) (walk ask ts b n) (walk ask ts b y) (walk ask ts b a) (x .on)) (e .is) }
+
+  pub if-yes : {c n y a : Prog} {m : Machine} {v w : Walked} → Way ask ts b c m v → v .ans ≡ yes → Way ask ts b y (v .on) w → Way ask ts b (case c n y a) m w
+  unfolding walk choose
+  if-yes {n = n} {y = y} {a = a} {v = v} e i f =
+      record { is = f .is ∙ sym (ap (λ (x : Ans). choose x (walk ask ts b n) (walk ask ts b y) (walk ask ts b a) (v .on)) i) ∙ ap (λ (x : Walked). choose (x .ans) (walk ask ts b n) (walk ask ts b y) (walk ask ts b a) (x .on)) (e .is) }
+
+  pub if-also : {c n y a : Prog} {m : Machine} {v w : Walked} → Way ask ts b c m v → v .ans ≡ also → Way ask ts b a (v .on) w → Way ask ts b (case c n y a) m w
+  unfolding walk choose
+  if-also {n = n} {y = y} {a = a} {v = v} e i f =
+      record { is = f .is ∙ sym (ap (λ (x : Ans). choose x (walk ask ts b n) (walk ask ts b y) (walk ask ts b a) (v .on)) i) ∙ ap (λ (x : Walked). choose (x .ans) (walk ask ts b n) (walk ask ts b y) (walk ask ts b a) (x .on)) (e .is) }
+
+  -- ---------------------------------------------------------------- markers: k, the marker; s, after its start; r, after its end
+
+  pub completes : {p : Prog} {m s x r : Machine} {k : Marker} {kind : ℕ} {a : Ans} → 0 < kind → k ≡ marker START m → s ≡ push PLACEHOLDER 0 m
+      → Way ask ts b p s (record { ans = a; shape = kind; on = x }) → r ≡ complete k kind x → Way ask ts b (mark p) m (said a r)
+  unfolding walk closed close
+  completes {kind = zero} h e f g i = absurd (omega (arith, h))
+  completes {p = p} {m = m} {x = x} {kind = suc n} {a = a} h e f g i =
+      record {
+        is =
+            ap (said a) (i ∙ ap (λ (z : Marker). complete z (suc n) x) e) ∙ ap (closed (marker START m)) (g .is)
+            ∙ ap (λ (y : Machine). closed (marker START m) (walk ask ts b p y)) f;
+      }
+
+  pub ignores : {p : Prog} {m s x r : Machine} {a : Ans} → s ≡ push PLACEHOLDER 0 m → Way ask ts b p s (said a x) → r ≡ push PLACEHOLDER 0 x → Way ask ts b (mark p) m (said a r)
+  unfolding walk closed close
+  ignores {p = p} {m = m} {a = a} f g i =
+      record {
+        is =
+            ap (said a) i ∙ ap (closed (marker START m)) (g .is)
+            ∙ ap (λ (y : Machine). closed (marker START m) (walk ask ts b p y)) f;
+      }
+
+  -- ---------------------------------------------------------------- loops
+
+  -- a turn that answers again and moved the cursor: the loop from here is the loop from there
+  pub turns : {p : Prog} {m m′ : Machine} → Way ask ts b p m (said again m′) → ahead ts m′ < ahead ts m → walk ask ts b (loop p) m′ ≡ walk ask ts b (loop p) m
+  turns {p = p} {m = m} {m′ = m′} e h = turn-again ask ts b p m m′ (e .is) h
+
+  -- a turn that ends the loop
+  pub stops-yes : {p : Prog} {m m′ : Machine} → Way ask ts b p m (said yes m′) → said yes m′ ≡ walk ask ts b (loop p) m
+  unfolding is-again
+  stops-yes {p = p} {m = m} {m′ = m′} e = turn-last ask ts b p m m′ yes refl (e .is)
+
+  pub stops-no : {p : Prog} {m m′ : Machine} → Way ask ts b p m (said no m′) → said no m′ ≡ walk ask ts b (loop p) m
+  unfolding is-again
+  stops-no {p = p} {m = m} {m′ = m′} e = turn-last ask ts b p m m′ no refl (e .is)

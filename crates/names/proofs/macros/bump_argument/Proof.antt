@@ -1,0 +1,110 @@
+-- `bump_argument`: the rest of the argument from here is the argument from its start.
+use Prim.Native.Nat.{ℕ, _+_, _≤_}
+use mathlib.Core.Path.{_≡_, refl, ap, _∙_}
+use mathlib.Core.List.{List}
+use native.Mathlib.Omega.{arith}
+use native.Mathlib.Nat.{le-refl}
+use lib.ListN.{length}
+use Rattle.definitions.specs.Token.{tokens}
+use Rattle.machine.specs.Walk.{unlabelled}
+use Rattle.machine.proofs.Turns.{argue, few-rows}
+use Rattle.parser.specs.View.{view, left}
+use Rattle.names.specs.Parts.{part}
+use Rattle.names.proofs.Kit.{flags, false-true, some-left, few-left}
+use Rattle.names.proofs.Arguments.{argue-comma, argue-end, argue-on, argue-whole, comma-some, inside-some, inside-most}
+use Rattle.names.proofs.macros.bump_argument.Statement.{statement}
+use Rattle.names.proofs.macros.bump_argument.Tie as tie
+
+abbrev Inv-loop : tie.InvT-loop
+Inv-loop t ev₀ q₀ level₀ ev q level = ((codes rep pool : List ℕ) → argue (tokens t) level (view q codes ev rep pool) ≡ argue (tokens t) level₀ (view q₀ codes ev₀ rep pool)) × ((level + left t q ≤ level₀ + left t q₀) × (length ev ≡ length ev₀))
+
+abbrev μ-loop : tie.MeasureT-loop
+μ-loop t ev₀ q₀ level₀ ev q level = left t q
+
+loop-holds : tie.Need-loop-holds Inv-loop μ-loop
+loop-holds c = (λ codes rep pool. refl, (le-refl _, refl))
+
+peek-requires : tie.Need-peek-requires Inv-loop μ-loop
+peek-requires c κs = tt
+
+kind-at-requires : tie.Need-kind-at-requires Inv-loop μ-loop
+kind-at-requires c κs = tt
+
+part-of-requires : tie.Need-part-of-requires Inv-loop μ-loop
+part-of-requires c κs =
+    let a = c .before .before in
+    let s = a .before .before .before in
+    omega (flags, a .loop .inv .1 .0, few-left (s .args .t .now) (s .args .s) (omega arith))
+
+enum-told : tie.Need-enum-told Inv-loop μ-loop
+enum-told c =
+    let a = c in
+    a .match .keys1
+
+same-length : tie.Need-same-length Inv-loop μ-loop
+same-length c =
+    let a = c .before .before .before .before .before in
+    omega (arith, a .loop .inv .1 .1)
+
+returns : tie.Need-returns Inv-loop μ-loop
+returns c =
+    let a = c in
+    let d = a .before .before in
+    let e = d .before in
+    let f = e .before in
+    let g = f .before in
+    let s = g .before .before .before in
+    (λ b codes rep pool. argue-comma (tokens (s .args .t .now)) (g .loop .level) (view (g .loop .q) codes (g .loop .ev) rep pool) (view (f .peek .result) codes (g .loop .ev) rep pool) (few-rows (s .args .t .now) (omega arith)) (f .peek .ensures .0 codes (g .loop .ev) rep pool) (d .part-of .result) (d .part-of .ensures ∙ ap (λ k. part k (g .loop .level)) (e .kind-at .ensures .0)) (a .enum-told .given .1) ∙ g .loop .inv .0 codes rep pool ∙ argue-whole (tokens (s .args .t .now)) b (view (s .args .s) codes (s .args .ev .now) rep pool), (omega (flags, f .peek .ensures .1, g .loop .inv .1 .0), λ h. some-left (s .args .t .now) (f .peek .result) (e .kind-at .ensures .1 (comma-some (e .kind-at .result) (g .loop .level) (d .part-of .result) (d .part-of .ensures) (a .enum-told .given .1)))))
+
+enum-told-2 : tie.Need-enum-told-2 Inv-loop μ-loop
+enum-told-2 c =
+    let a = c in
+    a .match .keys2
+
+same-length-2 : tie.Need-same-length-2 Inv-loop μ-loop
+same-length-2 c =
+    let a = c .before .before .before .before .before in
+    omega (arith, a .loop .inv .1 .1)
+
+returns-2 : tie.Need-returns-2 Inv-loop μ-loop
+returns-2 c =
+    let a = c in
+    let d = a .before .before in
+    let e = d .before in
+    let f = e .before in
+    let g = f .before in
+    let s = g .before .before .before in
+    (λ b codes rep pool. argue-end (tokens (s .args .t .now)) (g .loop .level) (view (g .loop .q) codes (g .loop .ev) rep pool) (view (f .peek .result) codes (g .loop .ev) rep pool) (few-rows (s .args .t .now) (omega arith)) (f .peek .ensures .0 codes (g .loop .ev) rep pool) (d .part-of .result) (d .part-of .ensures ∙ ap (λ k. part k (g .loop .level)) (e .kind-at .ensures .0)) (a .enum-told2 .given .1) ∙ g .loop .inv .0 codes rep pool ∙ argue-whole (tokens (s .args .t .now)) b (view (s .args .s) codes (s .args .ev .now) rep pool), (omega (flags, f .peek .ensures .1, g .loop .inv .1 .0), λ h. false-true h))
+
+enum-known-here-is : tie.Need-enum-known-here-is Inv-loop μ-loop
+enum-known-here-is c =
+    let a = c in
+    a .match .keys3
+
+bump-requires : tie.Need-bump-requires Inv-loop μ-loop
+bump-requires c κs = tt
+
+loop-less : tie.Need-loop-less Inv-loop μ-loop
+loop-less c =
+    let a = c .before .before in
+    let d = a .before .before .before in
+    let e = d .before .before in
+    let f = e .before in
+    let g = f .before in
+    let i = g .before in
+    let s = i .before .before .before in
+    omega (flags, some-left (s .args .t .now) (g .peek .result) (f .kind-at .ensures .1 (inside-some (f .kind-at .result) (i .loop .level) (d .here-is .given .0 .0) (e .part-of .result) (e .part-of .ensures) (d .here-is .given .1))), g .peek .ensures .1, a .bump .ensures .1)
+
+loop-again : tie.Need-loop-again Inv-loop μ-loop
+loop-again c =
+    let a = c .before .before in
+    let d = a .before .before .before in
+    let e = d .before .before in
+    let f = e .before in
+    let g = f .before in
+    let i = g .before in
+    let s = i .before .before .before in
+    (λ codes rep pool. argue-on (tokens (s .args .t .now)) (i .loop .level) (view (i .loop .q) codes (i .loop .ev) rep pool) (view (g .peek .result) codes (i .loop .ev) rep pool) (few-rows (s .args .t .now) (omega arith)) (g .peek .ensures .0 codes (i .loop .ev) rep pool) (e .part-of .result) (e .part-of .ensures ∙ ap (λ k. part k (i .loop .level)) (f .kind-at .ensures .0)) unlabelled (d .here-is .given .0 .0) (view (a .bump .result) codes _ rep pool) (d .here-is .given .1) (a .bump .ensures .0 unlabelled codes rep pool) ∙ i .loop .inv .0 codes rep pool, (omega (flags, some-left (s .args .t .now) (g .peek .result) (f .kind-at .ensures .1 (inside-some (f .kind-at .result) (i .loop .level) (d .here-is .given .0 .0) (e .part-of .result) (e .part-of .ensures) (d .here-is .given .1))), inside-most (f .kind-at .result) (i .loop .level) (d .here-is .given .0 .0) (e .part-of .result) (e .part-of .ensures) (d .here-is .given .1), g .peek .ensures .1, a .bump .ensures .1, i .loop .inv .1 .0), omega (arith, a .bump .kept, i .loop .inv .1 .1)))
+
+pub bump-argument-spec : {M : Type 1} → statement M
+bump-argument-spec = tie.close (tie.spec Inv-loop μ-loop loop-holds peek-requires kind-at-requires part-of-requires enum-told same-length returns enum-told-2 same-length-2 returns-2 enum-known-here-is bump-requires loop-less loop-again)

@@ -1,0 +1,60 @@
+-- `consume`: an Ampersand and a reference, in a DtPhandle.
+use native.Mathlib.Omega.{arith}
+use lib.Dec.{lit<}
+use Rattle.names.proofs.Ways.{whole, opened, acts, lands, tells, seq, completes}
+use Rattle.names.proofs.Opened.{reference-consume-is}
+use Rattle.names.proofs.Kit.{flags}
+use Rattle.names.proofs.reference.consume.Statement.{statement}
+use Rattle.names.proofs.reference.consume.Tie as tie
+
+new-requires : tie.Need-new-requires
+new-requires c κs = tt
+
+start-requires : tie.Need-start-requires
+start-requires c κs = tt
+
+bump-requires : tie.Need-bump-requires
+bump-requires c κs = tt
+
+reference-noamp-requires : tie.Need-reference-noamp-requires
+reference-noamp-requires c κs = tt
+
+complete-requires : tie.Need-complete-requires
+complete-requires c κs = tt
+
+same-length : tie.Need-same-length
+same-length c =
+    let a = c .before .before in
+    let d = a .before .before .before .before .before .before .before .before in
+    let e = d .before .before .before .before .before .before .before in
+    let f = e .before .before .before .before in
+    omega (arith, f .start .kept, e .bump .kept, d .reference-noamp .kept, a .complete .kept)
+
+same-length-2 : tie.Need-same-length-2
+same-length-2 c =
+    let a = c .before .before in
+    let d = a .before .before .before .before .before .before .before .before in
+    let e = d .before .before .before .before .before .before .before in
+    let f = e .before .before .before .before in
+    omega (arith, f .start .kept, e .bump .kept, d .reference-noamp .kept, a .complete .kept)
+
+same-length-3 : tie.Need-same-length-3
+same-length-3 c =
+    let a = c .before .before in
+    let d = a .before .before .before .before .before .before .before .before in
+    let e = d .before .before .before .before .before .before .before in
+    let f = e .before .before .before .before in
+    omega (arith, f .start .kept, e .bump .kept, d .reference-noamp .kept, a .complete .kept)
+
+returns : tie.Need-returns
+returns c =
+    let a = c .before .before in
+    let d = a .before .before .before .before .before .before .before .before in
+    let e = d .before .before .before .before .before .before .before in
+    let f = e .before .before .before .before in
+    let g = f .before .before in
+    let s = g .before .before .before .before .before in
+    (λ ask b. whole (opened reference-consume-is (completes (lit< tt) (g .new .ensures) (f .start .ensures .0 _ _ _) (seq (seq (acts (e .bump .ensures .0 b _ _ _)) (lands (d .reference-noamp .ensures .0 ask b))) tells) (a .complete .ensures .0 _ _ _))), omega (flags, f .start .ensures .1 (s .args .t .now), e .bump .ensures .1, d .reference-noamp .ensures .1, a .complete .ensures .1 (s .args .t .now)))
+
+pub consume-spec : {M : Type 1} → statement M
+consume-spec = tie.close (tie.spec new-requires start-requires bump-requires reference-noamp-requires complete-requires same-length same-length-2 same-length-3 returns)

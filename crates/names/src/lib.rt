@@ -1,0 +1,78 @@
+// The first part of grammar.rs: macro invocations, and the grammar's own matchers: names that may be macros, unit
+// addresses and references. No open call can be under any of these. The functions here are for the cycle of calls, which
+// holds the whole parser by value; the modules have the work.
+pub mod macro_substitutable_name;
+pub mod macros;
+pub mod reference;
+pub mod unit_address;
+
+use lexer::kind;
+use parser::Parser;
+use parser::Tested;
+ghost use mathlib.Core.Path.{_≡_};
+ghost use mathlib.Core.Bool.{true};
+ghost use Prim.Native.Nat.{_-_, _≤_};
+ghost use Rattle.definitions.specs.Token.{tokens};
+ghost use Rattle.definitions.specs.Skeleton.{Span};
+ghost use Rattle.definitions.specs.Prog.{Rule, yes};
+ghost use Rattle.definitions.specs.Check.{silent-eat as silent-eat-prog};
+ghost use Rattle.definitions.specs.Grammar.{macro-invocation as macro-invocation-prog, reference-noamp as reference-noamp-prog, Reference};
+ghost use Rattle.machine.specs.Machine.{Machine};
+ghost use Rattle.machine.specs.Walk.{Walked, said, walk};
+ghost use Rattle.parser.specs.View.{view-of, tested-as, left};
+
+// preprocessor_directive.rs: what continues a conditional. A path ends there too.
+pub const CONTINUE_COND_SET: [u8; 4] = [
+    kind::ELIFNDEF_DIRECTIVE,
+    kind::ELIFDEF_DIRECTIVE,
+    kind::ELIF_DIRECTIVE,
+    kind::ELSE_DIRECTIVE,
+];
+
+pub fn macro_invocation(
+    p: Parser,
+    t: &[u32],
+    ev: &mut [u32],
+    rep: &mut [u32],
+    pool: &mut [u32],
+) -> Parser
+    ensures { λ r. ⌜ ((ask : Rule → Machine → Walked) (b : Span) → said yes (view-of r (now (ev .exit)) (now (rep .exit)) (now (pool .exit))) ≡ walk ask (tokens (now (t .entry))) b macro-invocation-prog (view-of p (now (ev .entry)) (now (rep .entry)) (now (pool .entry)))) ⌝ }
+    ensures { λ r. ⌜ left (now (t .entry)) (r .s) ≤ left (now (t .entry)) (p .s) - 1 ⌝ }
+{
+    let mut codes = p.codes;
+    let s = macros::macro_invocation(p.s, &mut codes, t, ev, rep, pool);
+    Parser { codes: codes, s: s }
+}
+
+pub fn silent_eat_reference(
+    p: Parser,
+    t: &[u32],
+    ev: &mut [u32],
+    rep: &mut [u32],
+    pool: &mut [u32],
+) -> Tested
+    ensures { λ r. ⌜ ((ask : Rule → Machine → Walked) (b : Span) → tested-as r (now (ev .exit)) (now (rep .exit)) (now (pool .exit)) ≡ walk ask (tokens (now (t .entry))) b (silent-eat-prog Reference) (view-of p (now (ev .entry)) (now (rep .entry)) (now (pool .entry)))) ⌝ }
+    ensures { λ r. ⌜ left (now (t .entry)) (r .p .s) ≤ left (now (t .entry)) (p .s) ⌝ }
+    ensures { λ r. ⌜ (r .yes ≡ true → left (now (t .entry)) (r .p .s) ≤ left (now (t .entry)) (p .s) - 1) ⌝ }
+{
+    let mut codes = p.codes;
+    let e = reference::silent_eat(p.s, &mut codes, t, ev, rep, pool);
+    let s = e.s;
+    let q = Parser { codes: codes, s: s };
+    Tested { p: q, yes: e.yes }
+}
+
+pub fn reference_noamp(
+    p: Parser,
+    t: &[u32],
+    ev: &mut [u32],
+    rep: &mut [u32],
+    pool: &mut [u32],
+) -> Parser
+    ensures { λ r. ⌜ ((ask : Rule → Machine → Walked) (b : Span) → view-of r (now (ev .exit)) (now (rep .exit)) (now (pool .exit)) ≡ walk ask (tokens (now (t .entry))) b reference-noamp-prog (view-of p (now (ev .entry)) (now (rep .entry)) (now (pool .entry))) .on) ⌝ }
+    ensures { λ r. ⌜ left (now (t .entry)) (r .s) ≤ left (now (t .entry)) (p .s) ⌝ }
+{
+    let mut codes = p.codes;
+    let s = reference::reference_noamp(p.s, &mut codes, t, ev, rep, pool);
+    Parser { codes: codes, s: s }
+}

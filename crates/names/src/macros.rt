@@ -1,0 +1,167 @@
+// `macro_invocation` of grammar.rs: an Ident, and a bracketed argument list directly after it.
+use lexer::kind;
+use parser::Seen;
+use parser::State;
+use parser::marker::Marker;
+use parser::matcher::Matcher;
+use parser::node;
+use parser::source::END;
+use parser::source::kind_at;
+ghost use mathlib.Core.Path.{_≡_};
+ghost use mathlib.Core.Bool.{true, false};
+ghost use mathlib.Core.List.{List};
+ghost use Prim.Native.Nat.{ℕ, _-_, _≤_, _<_};
+ghost use lib.Dec.{eqb};
+ghost use Rattle.definitions.specs.Token.{tokens};
+ghost use Rattle.definitions.specs.Skeleton.{Span};
+ghost use Rattle.definitions.specs.Prog.{Rule, yes, bump-argument, loop};
+ghost use Rattle.definitions.specs.Grammar.{macro-argument-turn, macro-invocation};
+ghost use Rattle.machine.specs.Machine.{Machine};
+ghost use Rattle.machine.specs.Walk.{Walked, said, perform, walk};
+ghost use Rattle.parser.specs.View.{view, left, seen-as};
+ghost use Rattle.names.specs.Parts.{argument-list, part};
+
+// What a token is to the argument that it is read in.
+pub enum Part {
+    // The comma after it.
+    Comma,
+    // The end of the arguments.
+    End,
+    // A token of it; so many inner brackets are open after it.
+    Inside(usize),
+}
+
+// Outside inner brackets.
+fn outer_part(k: u8) -> Part
+    ensures { λ r. ⌜ (eqb k 64 ≡ false → eqb k 41 ≡ false → r ≡ part k 0) ⌝ }
+{
+    let comma = k == kind::COMMA;
+    if comma {
+        return Part::Comma;
+    }
+    let closes = k == kind::RPAREN;
+    if closes {
+        return Part::End;
+    }
+    Part::Inside(0)
+}
+
+fn part_of(k: u8, level: usize) -> Part
+    requires { ⌜ level < 18446744073709551615 ⌝ }
+    ensures { λ r. ⌜ r ≡ part k level ⌝ }
+{
+    let end = k == END;
+    if end {
+        return Part::End;
+    }
+    let opens = k == kind::LPAREN;
+    if opens {
+        return Part::Inside(level + 1);
+    }
+    let outside = level == 0;
+    if outside {
+        return outer_part(k);
+    }
+    let closes = k == kind::RPAREN;
+    if closes {
+        return Part::Inside(level - 1);
+    }
+    Part::Inside(level)
+}
+
+// One argument: every token up to a comma (yes), an RParen or the end (no) outside inner brackets.
+fn bump_argument(s: State, t: &[u32], ev: &mut [u32]) -> Seen
+    ensures { λ r. ⌜ ((b : Span) (codes rep pool : List ℕ) → seen-as r codes (now (ev .exit)) rep pool ≡ perform (tokens (now (t .entry))) b bump-argument (view s codes (now (ev .entry)) rep pool)) ⌝ }
+    ensures { λ r. ⌜ left (now (t .entry)) (r .s) ≤ left (now (t .entry)) s ⌝ }
+    ensures { λ r. ⌜ (r .yes ≡ true → 0 < left (now (t .entry)) (r .s)) ⌝ }
+{
+    let mut q = s;
+    let mut level: usize = 0;
+    loop {
+        let here = q.peek(t);
+        let here_is = part_of(kind_at(t, here.cursor.0), level);
+        match here_is {
+            Part::Comma => {
+                return Seen { s: here, yes: true };
+            }
+            Part::End => {
+                return Seen {
+                    s: here,
+                    yes: false,
+                };
+            }
+            Part::Inside(next) => {
+                q = here.bump(t, ev);
+                level = next;
+            }
+        }
+    }
+}
+
+// Arguments, each a MacroArgument, with commas between.
+fn arguments(s: State, t: &[u32], ev: &mut [u32]) -> State
+    ensures { λ r. ⌜ ((ask : Rule → Machine → Walked) (b : Span) (codes rep pool : List ℕ) → said yes (view r codes (now (ev .exit)) rep pool) ≡ walk ask (tokens (now (t .entry))) b (loop macro-argument-turn) (view s codes (now (ev .entry)) rep pool)) ⌝ }
+    ensures { λ r. ⌜ left (now (t .entry)) r ≤ left (now (t .entry)) s ⌝ }
+{
+    let mut q = s;
+    loop {
+        let m = Marker::new(q);
+        let started = q.start(ev);
+        let inside = bump_argument(started, t, ev);
+        let done = inside.s.complete(ev, m, node::MACRO_ARGUMENT);
+        if inside.yes {
+            q = done.bump(t, ev);
+        } else {
+            return done;
+        }
+    }
+}
+
+// From the LParen to the RParen.
+fn argument_list(
+    s: State,
+    codes: &mut [u8; 256],
+    t: &[u32],
+    ev: &mut [u32],
+    rep: &mut [u32],
+    pool: &mut [u32],
+) -> State
+    ensures { λ r. ⌜ ((ask : Rule → Machine → Walked) (b : Span) → view r (now (codes .exit)) (now (ev .exit)) (now (rep .exit)) (now (pool .exit)) ≡ walk ask (tokens (now (t .entry))) b argument-list (view s (now (codes .entry)) (now (ev .entry)) (now (rep .entry)) (now (pool .entry))) .on) ⌝ }
+    ensures { λ r. ⌜ left (now (t .entry)) r ≤ left (now (t .entry)) s - 1 ⌝ }
+{
+    let opened = s.bump(t, ev);
+    let none = opened.at(codes, t, Matcher::Kind(kind::RPAREN));
+    if none.yes {
+        let end = none.s
+            .expect(codes, t, ev, rep, pool, Matcher::Kind(kind::RPAREN));
+        end.s
+    } else {
+        let inner = arguments(none.s, t, ev);
+        let end = inner.expect(codes, t, ev, rep, pool, Matcher::Kind(kind::RPAREN));
+        end.s
+    }
+}
+
+// The cursor stands at the Ident.
+pub fn macro_invocation(
+    s: State,
+    codes: &mut [u8; 256],
+    t: &[u32],
+    ev: &mut [u32],
+    rep: &mut [u32],
+    pool: &mut [u32],
+) -> State
+    ensures { λ r. ⌜ ((ask : Rule → Machine → Walked) (b : Span) → said yes (view r (now (codes .exit)) (now (ev .exit)) (now (rep .exit)) (now (pool .exit))) ≡ walk ask (tokens (now (t .entry))) b macro-invocation (view s (now (codes .entry)) (now (ev .entry)) (now (rep .entry)) (now (pool .entry)))) ⌝ }
+    ensures { λ r. ⌜ left (now (t .entry)) r ≤ left (now (t .entry)) s - 1 ⌝ }
+{
+    let m = Marker::new(s);
+    let started = s.start(ev);
+    let ident = started.bump(t, ev);
+    let paren = ident.at_immediate(codes, t, kind::LPAREN);
+    if paren.yes {
+        let list = argument_list(paren.s, codes, t, ev, rep, pool);
+        list.complete(ev, m, node::MACRO_INVOCATION)
+    } else {
+        paren.s.complete(ev, m, node::MACRO_INVOCATION)
+    }
+}
