@@ -8,8 +8,6 @@ import sys
 sys.path.insert(0, os.path.dirname(__file__))
 from code_proofs import Crate
 
-ROOT = os.path.join(os.path.dirname(os.path.abspath(__file__)), "..")
-
 # What a call ensures of what is left. le: no more. all: the same, for every list. yes: no more, and something of the answer yes.
 CALLS = {
     **dict.fromkeys("bump bump-name error peek consume macro-invocation arguments argument-list path-segment path-segments path-rest path reference-noamp".split(), "le"),
@@ -122,7 +120,7 @@ def node(inside, end="complete"):
 
 
 def main(generated):
-    c = Names("names", generated, os.path.join(ROOT, "crates", "names"), CALLS, LOOKS)
+    c = Names("names", generated, os.path.join("crates", "names"), CALLS, LOOKS)
     k, level, t = "(@@ .args .k)", "(@@ .args .level)", "(@@ .args .t .now)"
     ts = f"(tokens {t})"
 
