@@ -16,7 +16,7 @@ use Rattle.machine.proofs.Links.{linked, link-again, link-last, link-stop, chai
 use Rattle.parser.specs.declared.Parser.{Parser}
 use Rattle.parser.specs.View.{left}
 use Rattle.expr.specs.Parts.{stepped, links-from}
-use Rattle.expr.proofs.Way.{Way, c-walk}
+use Rattle.machine.proofs.Way.{Way, c-walk}
 
 -- fewer tokens left as the code counts them are fewer as the machine does
 pub ahead-falls : (tk : List ℕ) (p p′ : Parser) → left tk (p′ .s) < left tk (p .s) → length (drop (p′ .s .cursor .0) (tokens tk)) < length (drop (p .s .cursor .0) (tokens tk))

@@ -21,7 +21,7 @@ use Rattle.machine.specs.Walk.{Walked, said, perform, choose, walk}
 use Rattle.parser.specs.View.{kind-of}
 use Rattle.expr.specs.Power.{levels, left-power, right-power}
 use Rattle.expr.specs.Parts.{ternary-rhs}
-use Rattle.expr.proofs.Way.{Way, c-walk, c-act, c-ret, c-yes, c-no}
+use Rattle.machine.proofs.Way.{Way, c-walk, c-act, c-ret, c-yes, c-no}
 
 -- ---------------------------------------------------------------- a second peek moves nothing
 

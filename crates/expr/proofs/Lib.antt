@@ -1,5 +1,4 @@
 -- Laws that the proofs of the code cite.
-pub mod Way
 pub mod Chain
 pub mod Levels
 pub mod Powers

@@ -88,8 +88,9 @@ pub fn is_spelled(kind: u32, text: &[u8]) -> bool
     let known = kind <= 60;
     if known {
         let k = kind as usize;
-        let start = wide(TEXT_STARTS[k]);
-        let end = wide(TEXT_STARTS[k + 1]);
+        let starts = TEXT_STARTS;
+        let start = wide(starts[k]);
+        let end = wide(starts[k + 1]);
         let free = start == end;
         if free {
             true

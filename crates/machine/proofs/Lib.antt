@@ -19,3 +19,4 @@ pub mod Whole
 pub mod Entry
 pub mod Turns
 pub mod Links
+pub mod Way

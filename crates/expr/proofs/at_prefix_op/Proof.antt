@@ -2,7 +2,7 @@
 use native.Mathlib.Omega.{arith}
 use Rattle.definitions.specs.Token.{tokens}
 use Rattle.definitions.specs.Check.{silent}
-use Rattle.expr.proofs.Way.{c-act, c-seq}
+use Rattle.machine.proofs.Way.{c-act, c-seq}
 use borrow.Author.Needs.{needs}
 use Rattle.expr.proofs.at_prefix_op.Statement.{statement}
 use Rattle.expr.proofs.at_prefix_op.Tie as tie

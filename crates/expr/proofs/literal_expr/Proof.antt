@@ -1,6 +1,6 @@
 -- `literal_expr` is the walk of a marker around one token.
 use native.Mathlib.Omega.{arith}
-use Rattle.expr.proofs.Way.{c-act, c-seq, c-ret, c-mark, completed}
+use Rattle.machine.proofs.Way.{c-act, c-seq, c-ret, c-mark, completed}
 use borrow.Author.Needs.{needs}
 use Rattle.expr.proofs.literal_expr.Statement.{statement}
 use Rattle.expr.proofs.literal_expr.Tie as tie

@@ -8,7 +8,7 @@ use Rattle.definitions.specs.Prog.{no, again, expr-binding-power}
 use Rattle.definitions.specs.Check.{tell, if_then_else_}
 use Rattle.definitions.specs.Grammar.{lhs as lhs-prog, infix-turn, expr-binding-power-body, grammar}
 use Rattle.machine.specs.Walk.{said}
-use Rattle.expr.proofs.Way.{c-ret, c-yes, c-no, c-fn, way, rule-closed, rule-body}
+use Rattle.machine.proofs.Way.{c-ret, c-yes, c-no, c-fn, way, rule-closed, rule-body}
 use Rattle.expr.proofs.Chain.{chained-on, chained-off}
 use Rattle.expr.proofs.Levels.{true-false}
 use Rattle.expr.proofs.expr_binding_power.Reads as reads

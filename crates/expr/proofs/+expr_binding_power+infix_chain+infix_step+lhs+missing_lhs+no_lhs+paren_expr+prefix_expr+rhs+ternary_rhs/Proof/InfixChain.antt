@@ -7,7 +7,7 @@ use Rattle.definitions.specs.Token.{tokens}
 use Rattle.definitions.specs.Grammar.{infix-turn}
 use Rattle.parser.specs.View.{left, marker-of, view-of}
 use Rattle.expr.specs.Parts.{links-from}
-use Rattle.expr.proofs.Way.{c-fn}
+use Rattle.machine.proofs.Way.{c-fn}
 use Rattle.expr.proofs.Chain.{ahead-falls, linked-again, linked-last, linked-stop, step-again, step-last, step-none}
 use Rattle.expr.proofs.infix_chain.Reads as reads
 use Rattle.expr.proofs.+expr_binding_power+infix_chain+infix_step+lhs+missing_lhs+no_lhs+paren_expr+prefix_expr+rhs+ternary_rhs.Lts-infix_chain as lts

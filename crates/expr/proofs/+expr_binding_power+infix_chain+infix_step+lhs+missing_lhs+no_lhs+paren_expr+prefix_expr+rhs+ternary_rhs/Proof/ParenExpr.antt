@@ -3,7 +3,7 @@ use Prim.Native.Nat.{ℕ}
 use native.Mathlib.Omega.{arith}
 use Rattle.definitions.specs.Token.{tokens}
 use Rattle.machine.specs.Walk.{walk-rule, unlabelled}
-use Rattle.expr.proofs.Way.{c-walk, c-act, c-seq, c-told-past, c-mark, completed, c-call, way}
+use Rattle.machine.proofs.Way.{c-walk, c-act, c-seq, c-told-past, c-mark, completed, c-call, way}
 use Rattle.expr.proofs.paren_expr.Reads as reads
 use Rattle.expr.proofs.+expr_binding_power+infix_chain+infix_step+lhs+missing_lhs+no_lhs+paren_expr+prefix_expr+rhs+ternary_rhs.Lts-paren_expr as lts
 use Rattle.expr.proofs.+expr_binding_power+infix_chain+infix_step+lhs+missing_lhs+no_lhs+paren_expr+prefix_expr+rhs+ternary_rhs.Proof.Measures.{paren-expr-at, paren-expr-claims}

@@ -2,7 +2,7 @@
 use Prim.Native.Nat.{ℕ}
 use native.Mathlib.Omega.{arith}
 use Rattle.machine.specs.Walk.{unlabelled}
-use Rattle.expr.proofs.Way.{c-act, c-seq, c-told, c-mark, completed, c-call, way}
+use Rattle.machine.proofs.Way.{c-act, c-seq, c-told, c-mark, completed, c-call, way}
 use Rattle.expr.proofs.prefix_expr.Reads as reads
 use Rattle.expr.proofs.+expr_binding_power+infix_chain+infix_step+lhs+missing_lhs+no_lhs+paren_expr+prefix_expr+rhs+ternary_rhs.Lts-prefix_expr as lts
 use Rattle.expr.proofs.+expr_binding_power+infix_chain+infix_step+lhs+missing_lhs+no_lhs+paren_expr+prefix_expr+rhs+ternary_rhs.Proof.Measures.{prefix-expr-at, prefix-expr-claims}

@@ -2,7 +2,7 @@
 use Prim.Native.Nat.{ℕ}
 use native.Mathlib.Omega.{arith}
 use Rattle.definitions.specs.Grammar.{rhs as rhs-prog}
-use Rattle.expr.proofs.Way.{c-again, c-call, way}
+use Rattle.machine.proofs.Way.{c-again, c-call, way}
 use Rattle.expr.proofs.rhs.Reads as reads
 use Rattle.expr.proofs.+expr_binding_power+infix_chain+infix_step+lhs+missing_lhs+no_lhs+paren_expr+prefix_expr+rhs+ternary_rhs.Lts-rhs as lts
 use Rattle.expr.proofs.+expr_binding_power+infix_chain+infix_step+lhs+missing_lhs+no_lhs+paren_expr+prefix_expr+rhs+ternary_rhs.Proof.Measures.{rhs-at, rhs-claims}

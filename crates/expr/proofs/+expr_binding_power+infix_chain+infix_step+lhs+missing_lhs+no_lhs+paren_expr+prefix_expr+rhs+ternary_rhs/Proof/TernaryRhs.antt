@@ -5,7 +5,7 @@ use mathlib.Core.Bool.{false}
 use native.Mathlib.Omega.{arith}
 use Rattle.definitions.specs.Token.{tokens}
 use Rattle.machine.specs.Walk.{walk-rule, unlabelled}
-use Rattle.expr.proofs.Way.{c-walk, c-ret, c-yes, c-no, c-call, c-fn, way}
+use Rattle.machine.proofs.Way.{c-walk, c-ret, c-yes, c-no, c-call, c-fn, way}
 use Rattle.expr.proofs.ternary_rhs.Reads as reads
 use Rattle.expr.proofs.+expr_binding_power+infix_chain+infix_step+lhs+missing_lhs+no_lhs+paren_expr+prefix_expr+rhs+ternary_rhs.Lts-ternary_rhs as lts
 use Rattle.expr.proofs.+expr_binding_power+infix_chain+infix_step+lhs+missing_lhs+no_lhs+paren_expr+prefix_expr+rhs+ternary_rhs.Proof.Measures.{ternary-rhs-at, ternary-rhs-claims}
