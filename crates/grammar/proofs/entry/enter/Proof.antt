@@ -1,0 +1,147 @@
+-- `enter`: the entry that is asked for.
+use mathlib.Core.Path.{_≡_, sym, ap, _∙_}
+use native.Mathlib.Omega.{arith}
+use mathlib.Core.List.{List}
+use Rattle.definitions.specs.Token.{Token, tokens}
+use Rattle.definitions.specs.Skeleton.{Span}
+use Rattle.definitions.specs.Prog.{Rule}
+use Rattle.definitions.specs.Grammar.{entry}
+use Rattle.machine.specs.Machine.{Machine}
+use Rattle.machine.specs.Walk.{Walked, walk, walk-rule, unlabelled}
+use Rattle.machine.proofs.Way.{Way, c-call, c-fn}
+use Rattle.parts.proofs.Steps.{c-any}
+use Rattle.grammar.specs.declared.entry.Entrypoint.{Entrypoint}
+use Rattle.grammar.specs.Parts.{entry-of}
+use Rattle.grammar.proofs.Ways.{part-on}
+use Rattle.grammar.proofs.entry.enter.Statement.{statement}
+use Rattle.grammar.proofs.entry.enter.Tie as tie
+
+-- by the variant
+entered : {ask : Rule → Machine → Walked} {ts : List Token} {b : Span} {m : Machine} {e f : Entrypoint} {w : Walked} → e ≡ f → Way ask ts b (entry (entry-of f)) m w → Way ask ts b (entry (entry-of e)) m w
+entered {ask = ask} {ts = ts} {b = b} {m = m} h k = record { is = k .is ∙ sym (ap (λ (e : Entrypoint). walk ask ts b (entry (entry-of e)) m) h) }
+
+enum-told : tie.Need-enum-told
+enum-told c = c .match .keys1
+
+entry-sourcefile-requires : tie.Need-entry-sourcefile-requires
+entry-sourcefile-requires c κs = tt
+
+enum-told-2 : tie.Need-enum-told-2
+enum-told-2 c = c .match .keys2
+
+reference-noamp-requires : tie.Need-reference-noamp-requires
+reference-noamp-requires c κs = tt
+
+enum-told-3 : tie.Need-enum-told-3
+enum-told-3 c = c .match .keys3
+
+propvalues-requires : tie.Need-propvalues-requires
+propvalues-requires c κs = tt
+
+enum-told-4 : tie.Need-enum-told-4
+enum-told-4 c = c .match .keys4
+
+cells-requires : tie.Need-cells-requires
+cells-requires c κs = tt
+
+same-length : tie.Need-same-length
+same-length c =
+    let entry-sourcefile′ = c .before .before .before .before .before .before in
+    omega (arith, entry-sourcefile′ .entry-sourcefile .kept)
+
+same-length-2 : tie.Need-same-length-2
+same-length-2 c =
+    let entry-sourcefile′ = c .before .before .before .before .before .before in
+    omega (arith, entry-sourcefile′ .entry-sourcefile .kept)
+
+same-length-3 : tie.Need-same-length-3
+same-length-3 c =
+    let entry-sourcefile′ = c .before .before .before .before .before .before in
+    omega (arith, entry-sourcefile′ .entry-sourcefile .kept)
+
+returns : tie.Need-returns
+unfolding entry
+returns c =
+    let entry-sourcefile′ = c .before .before .before .before .before .before in
+    let told′ = entry-sourcefile′ .before .before .before .before in (
+      part-on 64 (entered (told′ .enum-told .given .1) (c-fn 64 (entry-sourcefile′ .entry-sourcefile .ensures .0))),
+      omega (arith, entry-sourcefile′ .entry-sourcefile .ensures .1),
+    )
+
+same-length-4 : tie.Need-same-length-4
+same-length-4 c =
+    let reference-noamp′ = c .before .before .before .before .before .before in
+    omega (arith, reference-noamp′ .reference-noamp .kept)
+
+same-length-5 : tie.Need-same-length-5
+same-length-5 c =
+    let reference-noamp′ = c .before .before .before .before .before .before in
+    omega (arith, reference-noamp′ .reference-noamp .kept)
+
+same-length-6 : tie.Need-same-length-6
+same-length-6 c =
+    let reference-noamp′ = c .before .before .before .before .before .before in
+    omega (arith, reference-noamp′ .reference-noamp .kept)
+
+returns-2 : tie.Need-returns-2
+unfolding entry
+returns-2 c =
+    let reference-noamp′ = c .before .before .before .before .before .before in
+    let told′ = reference-noamp′ .before .before .before .before in
+    let s′ = told′ .before .before .before .before .before .before in (
+      reference-noamp′ .reference-noamp .ensures .0 (walk-rule 64 (tokens (s′ .args .t .now))) unlabelled ∙ part-on 64 (entered (told′ .enum-told2 .given .1) c-any),
+      omega (arith, reference-noamp′ .reference-noamp .ensures .1),
+    )
+
+same-length-7 : tie.Need-same-length-7
+same-length-7 c =
+    let propvalues′ = c .before .before .before .before .before .before .before in
+    omega (arith, propvalues′ .propvalues .kept)
+
+same-length-8 : tie.Need-same-length-8
+same-length-8 c =
+    let propvalues′ = c .before .before .before .before .before .before .before in
+    omega (arith, propvalues′ .propvalues .kept)
+
+same-length-9 : tie.Need-same-length-9
+same-length-9 c =
+    let propvalues′ = c .before .before .before .before .before .before .before in
+    omega (arith, propvalues′ .propvalues .kept)
+
+returns-3 : tie.Need-returns-3
+unfolding entry
+returns-3 c =
+    let propvalues′ = c .before .before .before .before .before .before .before in
+    let told′ = propvalues′ .before .before .before .before in (
+      part-on 64 (entered (told′ .enum-told3 .given .1) (c-call 64 (propvalues′ .propvalues .ensures .0))),
+      omega (arith, propvalues′ .propvalues .ensures .1),
+    )
+
+same-length-10 : tie.Need-same-length-10
+same-length-10 c =
+    let cells′ = c .before .before .before .before .before .before .before in
+    omega (arith, cells′ .cells .kept)
+
+same-length-11 : tie.Need-same-length-11
+same-length-11 c =
+    let cells′ = c .before .before .before .before .before .before .before in
+    omega (arith, cells′ .cells .kept)
+
+same-length-12 : tie.Need-same-length-12
+same-length-12 c =
+    let cells′ = c .before .before .before .before .before .before .before in
+    omega (arith, cells′ .cells .kept)
+
+returns-4 : tie.Need-returns-4
+unfolding entry
+returns-4 c =
+    let cells′ = c .before .before .before .before .before .before .before in
+    let told′ = cells′ .before .before .before .before in (
+      part-on 64 (entered (told′ .enum-told4 .given .1) (c-fn 64 (cells′ .cells .ensures .0))),
+      omega (arith, cells′ .cells .ensures .1),
+    )
+
+pub enter-spec : {M : Type 1} → statement M
+enter-spec =
+    tie.close
+    (tie.spec enum-told entry-sourcefile-requires enum-told-2 reference-noamp-requires enum-told-3 propvalues-requires enum-told-4 cells-requires same-length same-length-2 same-length-3 returns same-length-4 same-length-5 same-length-6 returns-2 same-length-7 same-length-8 same-length-9 returns-3 same-length-10 same-length-11 same-length-12 returns-4)

@@ -1,0 +1,69 @@
+-- The parts of the definitions' programs that have a function of their own here, and the code's enums as the definitions have them.
+-- proofs/Laws.antt shows each to be a part of the definitions' term.
+use Prim.Native.Nat.{ℕ}
+use mathlib.Core.Bool.{Bool}
+use mathlib.Core.List.{List, [], _∷_}
+use Rattle.definitions.specs.TokenKind as K
+use Rattle.definitions.specs.NodeKind as N
+use Rattle.definitions.specs.Errors as E
+use Rattle.definitions.specs.Prog.{no, yes, also, Prog, ret, _⨟_, mark, loop}
+use Rattle.definitions.specs.Check.{tell, if_then_else_, _and_, _or_, not!, node, bump!, error, error-wrap, error-wrap!, set, kind, silent, at, silent-eat}
+use Rattle.definitions.specs.Grammar.{Inside, Item, Values, Cell, OPERATORS-SET, macro-invocation, Reference, eat-dts-include, eat-preprocessor-directive, dt-property, dt-node-body, node-body-turn, eat-dts-directive, Entry}
+use Rattle.definitions.specs.Grammar as G
+use Rattle.grammar.specs.declared.preprocessor_directive.Inside.the-variants as I
+use Rattle.grammar.specs.declared.preprocessor_directive.Inside as D
+use Rattle.grammar.specs.declared.entry.Entrypoint.the-variants as E′
+use Rattle.grammar.specs.declared.entry.Entrypoint as D′
+
+-- ---------------------------------------------------------------- enums
+
+abbrev pub inside-of : D.Inside → Inside
+inside-of I.Item = Item
+inside-of (I.Values semicolon) = Values semicolon
+inside-of (I.Cell at-end) = Cell at-end
+
+abbrev pub entry-of : D′.Entrypoint → Entry
+entry-of E′.SourceFile = G.SourceFile
+entry-of E′.ReferenceNoamp = G.ReferenceNoamp
+entry-of E′.PropValues = G.PropValues
+entry-of E′.Cells = G.Cells
+
+-- ---------------------------------------------------------------- programs
+
+-- the last cases of `eat-cell-body`
+abbrev pub cell-rest : Bool → Prog
+cell-rest at-end =
+    if eat-dts-include or eat-preprocessor-directive (Cell at-end) then tell yes
+    else if silent (set OPERATORS-SET) and not! (at (kind K.RAngle)) then error-wrap E.msg-expected E.missing-parentheses ⨟ tell yes
+    else tell no
+
+-- the last cases of `propvalue`
+abbrev pub value-rest : Bool → Prog
+value-rest semicolon =
+    if silent-eat Reference then tell yes
+    else if silent (kind K.Ident) then macro-invocation ⨟ tell yes
+    else if silent-eat (kind K.DtBytestring) or eat-dts-include or eat-preprocessor-directive (Values semicolon) then tell yes
+    else error-wrap! ⨟ tell also
+
+-- the loop of `dt-node-body`
+abbrev pub items : Prog
+items = loop node-body-turn
+
+-- the last cases of `item-body`
+abbrev pub item-rest : Prog
+item-rest =
+    if silent (kind K.Semicolon) then error-wrap E.unmatched-semicolon E.no-hint
+    else if eat-dts-directive or eat-preprocessor-directive Item then tell yes
+    else error-wrap!
+
+-- a property that is reported; the caller's marker
+abbrev pub bad-property : ℕ → Prog
+bad-property hint = error E.msg-expected hint ⨟ mark dt-property ⨟ ret N.ParseError yes
+
+-- a node that is reported; the caller's marker
+abbrev pub bad-node : Prog
+bad-node = error E.msg-expected E.unnamed-node ⨟ mark dt-node-body ⨟ ret N.ParseError yes
+
+-- the first case of `sourcefile-part`
+abbrev pub unmatched-rcurly : Prog
+unmatched-rcurly = error E.unmatched-rcurly E.no-hint ⨟ node N.ParseError bump!

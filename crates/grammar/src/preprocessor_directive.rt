@@ -1,0 +1,85 @@
+// grammar/preprocessor_directive.rs: its sets, and what is not in the cycle of calls. The rest of it stands in lib.rt.
+use crate::cond_branches_and_end;
+use lexer::kind;
+use names::CONTINUE_COND_SET;
+use parser::Parser;
+use parser::Tested;
+use parser::errors::Bump;
+use parser::errors::NO_HINT;
+use parser::errors::STRAY_CONTINUATION;
+use parser::errors::UNMATCHED_ENDIF;
+use parser::marker::Marker;
+use parser::node;
+ghost use mathlib.Core.Path.{_≡_};
+ghost use mathlib.Core.Bool.{true, false};
+ghost use mathlib.Core.List.{List};
+ghost use Prim.Native.Nat.{ℕ, _+_, _-_, _≤_, _<_};
+ghost use Rattle.definitions.specs.Token.{tokens};
+ghost use Rattle.definitions.specs.Skeleton.{Span};
+ghost use Rattle.definitions.specs.Grammar.{catch-unmatched-pp-directive};
+ghost use Rattle.machine.specs.Walk.{walk-prog, unlabelled};
+ghost use Rattle.parser.specs.View.{view-of, tested-as, left};
+ghost use Rattle.grammar.specs.Parts.{inside-of};
+
+// What a conditional's branch holds, in the place of the closures `eat_inside`: items, values (whether a semicolon ends
+// them), or cells (whether the end of input does).
+pub enum Inside {
+    Item,
+    Values(bool),
+    Cell(bool),
+}
+
+pub const BEGIN_COND_SET: [u8; 3] = [
+    kind::IFNDEF_DIRECTIVE,
+    kind::IFDEF_DIRECTIVE,
+    kind::IF_DIRECTIVE,
+];
+
+// `TokenKind::is_preprocessor_directive`
+pub const PREPROCESSOR_DIRECTIVES: [u8; 13] = [
+    kind::IF_DIRECTIVE,
+    kind::IFDEF_DIRECTIVE,
+    kind::IFNDEF_DIRECTIVE,
+    kind::ELIF_DIRECTIVE,
+    kind::ELIFDEF_DIRECTIVE,
+    kind::ELIFNDEF_DIRECTIVE,
+    kind::ELSE_DIRECTIVE,
+    kind::ENDIF_DIRECTIVE,
+    kind::PRAGMA_DIRECTIVE,
+    kind::DEFINE_DIRECTIVE,
+    kind::UNDEF_DIRECTIVE,
+    kind::INCLUDE_DIRECTIVE,
+    kind::ERROR_DIRECTIVE,
+];
+
+pub fn catch_unmatched_pp_directive(
+    p: Parser,
+    t: &[u32],
+    ev: &mut [u32],
+    rep: &mut [u32],
+    pool: &mut [u32],
+    room: usize,
+    inside: Inside,
+) -> Tested
+    ensures { λ r. ⌜ tested-as r (now (ev .exit)) (now (rep .exit)) (now (pool .exit)) ≡ walk-prog room (tokens (now (t .entry))) unlabelled (catch-unmatched-pp-directive (inside-of inside)) (view-of p (now (ev .entry)) (now (rep .entry)) (now (pool .entry))) ⌝ }
+    ensures { λ r. ⌜ left (now (t .entry)) (r .p .s) ≤ left (now (t .entry)) (p .s) ⌝ }
+    ensures { λ r. ⌜ (r .yes ≡ true → left (now (t .entry)) (r .p .s) ≤ left (now (t .entry)) (p .s) - 1) ⌝ }
+{
+    let endif = p.silent_at(t, kind::ENDIF_DIRECTIVE);
+    if endif.yes {
+        let q = endif.p.error(t, ev, rep, pool, UNMATCHED_ENDIF, NO_HINT, Bump::YesWrapErr);
+        return Tested { p: q, yes: true };
+    }
+    let next = endif.p.silent_at_set(t, &CONTINUE_COND_SET);
+    if next.yes {
+        let reported = next.p
+            .error(t, ev, rep, pool, STRAY_CONTINUATION, NO_HINT, Bump::No);
+        let m_err = Marker::new(reported.s);
+        let started = reported.start(ev);
+        let first = started.bump(t, ev);
+        let branches = cond_branches_and_end(first, t, ev, rep, pool, room, inside);
+        let q = branches.complete(ev, m_err, node::PARSE_ERROR);
+        return Tested { p: q, yes: true };
+    }
+    next
+}

@@ -1,0 +1,3 @@
+-- What the proofs of this crate and of `grammar` share.
+pub mod Steps
+pub mod Laws

@@ -1,0 +1,172 @@
+// grammar.rs, the directives of the devicetree source that a DtsDirective wraps.
+use crate::ends::ITEM_RECOVERY_SET;
+use lexer::kind;
+use names::macro_substitutable_name;
+use names::reference;
+use names::unit_address;
+use parser::Seen;
+use parser::State;
+use parser::errors::Bump;
+use parser::errors::EXPECTED;
+use parser::errors::NO_HINT;
+use parser::marker::Marker;
+use parser::matcher::Matcher;
+use parser::node;
+ghost use mathlib.Core.Path.{_≡_};
+ghost use mathlib.Core.Bool.{true, false};
+ghost use mathlib.Core.List.{List};
+ghost use Prim.Native.Nat.{ℕ, _+_, _-_, _≤_, _<_};
+ghost use Rattle.definitions.specs.Token.{tokens};
+ghost use Rattle.definitions.specs.Skeleton.{Span};
+ghost use Rattle.definitions.specs.Prog.{Rule, yes};
+ghost use Rattle.definitions.specs.Grammar.{eat-dts-include, eat-dts-directive};
+ghost use Rattle.machine.specs.Machine.{Machine};
+ghost use Rattle.machine.specs.Walk.{Walked, said, walk, closed};
+ghost use Rattle.parser.specs.View.{view, left, seen-as, marker-of};
+ghost use Rattle.parts.specs.Parts.{directive-end, memreserve-arguments, delete-arguments};
+
+pub fn eat_dts_include(
+    s: State,
+    codes: &mut [u8; 256],
+    t: &[u32],
+    ev: &mut [u32],
+    rep: &mut [u32],
+    pool: &mut [u32],
+) -> Seen
+    ensures { λ r. ⌜ ((ask : Rule → Machine → Walked) (b : Span) → seen-as r (now (codes .exit)) (now (ev .exit)) (now (rep .exit)) (now (pool .exit)) ≡ walk ask (tokens (now (t .entry))) b eat-dts-include (view s (now (codes .entry)) (now (ev .entry)) (now (rep .entry)) (now (pool .entry)))) ⌝ }
+    ensures { λ r. ⌜ left (now (t .entry)) (r .s) ≤ left (now (t .entry)) s ⌝ }
+    ensures { λ r. ⌜ (r .yes ≡ true → left (now (t .entry)) (r .s) < left (now (t .entry)) s) ⌝ }
+{
+    let include = s.eat_starting(codes, t, ev, Matcher::Kind(kind::DT_INCLUDE_DIRECTIVE));
+    if include.yes {
+        let file = include
+            .s
+            .expect(codes, t, ev, rep, pool, Matcher::Kind(kind::STRING));
+        let q = file.s.complete(ev, include.m, node::DTS_DIRECTIVE);
+        Seen { s: q, yes: true }
+    } else {
+        let q = include.s;
+        Seen { s: q, yes: false }
+    }
+}
+
+// The semicolon, and the directive whose marker this is.
+fn directive_end(
+    s: State,
+    codes: &mut [u8; 256],
+    t: &[u32],
+    ev: &mut [u32],
+    rep: &mut [u32],
+    pool: &mut [u32],
+    m: Marker,
+) -> Seen
+    ensures { λ r. ⌜ ((ask : Rule → Machine → Walked) (b : Span) → seen-as r (now (codes .exit)) (now (ev .exit)) (now (rep .exit)) (now (pool .exit)) ≡ closed (marker-of m) (walk ask (tokens (now (t .entry))) b directive-end (view s (now (codes .entry)) (now (ev .entry)) (now (rep .entry)) (now (pool .entry))))) ⌝ }
+    ensures { λ r. ⌜ left (now (t .entry)) (r .s) ≤ left (now (t .entry)) s ⌝ }
+{
+    let end = s.expect_recoverable(
+        codes,
+        t,
+        ev,
+        rep,
+        pool,
+        Matcher::Kind(kind::SEMICOLON),
+        &ITEM_RECOVERY_SET,
+    );
+    let q = end.s.complete(ev, m, node::DTS_DIRECTIVE);
+    Seen { s: q, yes: true }
+}
+
+fn memreserve_arguments(
+    s: State,
+    codes: &mut [u8; 256],
+    t: &[u32],
+    ev: &mut [u32],
+    rep: &mut [u32],
+    pool: &mut [u32],
+) -> State
+    ensures { λ r. ⌜ ((ask : Rule → Machine → Walked) (b : Span) → said yes (view r (now (codes .exit)) (now (ev .exit)) (now (rep .exit)) (now (pool .exit))) ≡ walk ask (tokens (now (t .entry))) b memreserve-arguments (view s (now (codes .entry)) (now (ev .entry)) (now (rep .entry)) (now (pool .entry)))) ⌝ }
+    ensures { λ r. ⌜ left (now (t .entry)) r ≤ left (now (t .entry)) s ⌝ }
+{
+    let m_params = Marker::new(s);
+    let started = s.start(ev);
+    let address = started.expect(codes, t, ev, rep, pool, Matcher::Kind(kind::NUMBER));
+    let size = address
+        .s
+        .expect(codes, t, ev, rep, pool, Matcher::Kind(kind::NUMBER));
+    size.s.complete(ev, m_params, node::DTS_DIRECTIVE_ARGUMENTS)
+}
+
+fn delete_arguments(
+    s: State,
+    codes: &mut [u8; 256],
+    t: &[u32],
+    ev: &mut [u32],
+    rep: &mut [u32],
+    pool: &mut [u32],
+) -> State
+    ensures { λ r. ⌜ ((ask : Rule → Machine → Walked) (b : Span) → said yes (view r (now (codes .exit)) (now (ev .exit)) (now (rep .exit)) (now (pool .exit))) ≡ walk ask (tokens (now (t .entry))) b delete-arguments (view s (now (codes .entry)) (now (ev .entry)) (now (rep .entry)) (now (pool .entry)))) ⌝ }
+    ensures { λ r. ⌜ left (now (t .entry)) r ≤ left (now (t .entry)) s ⌝ }
+{
+    let m_params = Marker::new(s);
+    let started = s.start(ev);
+    let reference = reference::eat(started, codes, t, ev, rep, pool);
+    if reference.yes {
+        return reference
+            .s
+            .complete(ev, m_params, node::DTS_DIRECTIVE_ARGUMENTS);
+    }
+    let name = macro_substitutable_name::eat(reference.s, codes, t, ev, rep, pool);
+    if name.yes {
+        let unit = unit_address::eat(name.s, codes, t, ev, rep, pool);
+        return unit.s.complete(ev, m_params, node::DTS_DIRECTIVE_ARGUMENTS);
+    }
+    let q = name.s
+        .error(codes, t, ev, rep, pool, EXPECTED, NO_HINT, Bump::No);
+    q.complete(ev, m_params, node::DTS_DIRECTIVE_ARGUMENTS)
+}
+
+pub fn eat_dts_directive(
+    s: State,
+    codes: &mut [u8; 256],
+    t: &[u32],
+    ev: &mut [u32],
+    rep: &mut [u32],
+    pool: &mut [u32],
+) -> Seen
+    ensures { λ r. ⌜ ((ask : Rule → Machine → Walked) (b : Span) → seen-as r (now (codes .exit)) (now (ev .exit)) (now (rep .exit)) (now (pool .exit)) ≡ walk ask (tokens (now (t .entry))) b eat-dts-directive (view s (now (codes .entry)) (now (ev .entry)) (now (rep .entry)) (now (pool .entry)))) ⌝ }
+    ensures { λ r. ⌜ left (now (t .entry)) (r .s) ≤ left (now (t .entry)) s ⌝ }
+    ensures { λ r. ⌜ (r .yes ≡ true → left (now (t .entry)) (r .s) ≤ left (now (t .entry)) s - 1) ⌝ }
+{
+    let version = s.eat_starting(
+        codes,
+        t,
+        ev,
+        Matcher::Either(kind::V1_DIRECTIVE, kind::PLUGIN_DIRECTIVE),
+    );
+    if version.yes {
+        return directive_end(version.s, codes, t, ev, rep, pool, version.m);
+    }
+    let include = eat_dts_include(version.s, codes, t, ev, rep, pool);
+    if include.yes {
+        return include;
+    }
+    let memreserve = include
+        .s
+        .eat_starting(codes, t, ev, Matcher::Kind(kind::MEMRESERVE_DIRECTIVE));
+    if memreserve.yes {
+        let q = memreserve_arguments(memreserve.s, codes, t, ev, rep, pool);
+        return directive_end(q, codes, t, ev, rep, pool, memreserve.m);
+    }
+    let delete = memreserve.s.eat_starting(
+        codes,
+        t,
+        ev,
+        Matcher::Either(kind::DELETE_NODE_DIRECTIVE, kind::DELETE_PROPERTY_DIRECTIVE),
+    );
+    if delete.yes {
+        let q = delete_arguments(delete.s, codes, t, ev, rep, pool);
+        return directive_end(q, codes, t, ev, rep, pool, delete.m);
+    }
+    let q = delete.s;
+    Seen { s: q, yes: false }
+}
