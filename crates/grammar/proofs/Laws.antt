@@ -8,14 +8,14 @@ use Rattle.definitions.specs.NodeKind as N
 use Rattle.definitions.specs.Errors as E
 use Rattle.definitions.specs.Token.{Token}
 use Rattle.definitions.specs.Skeleton.{Span}
-use Rattle.definitions.specs.Prog.{no, yes, Rule, item, Prog, ret, _⨟_, case, mark, loop, brace, call, act, emit-unclosed}
-use Rattle.definitions.specs.Check.{tell, if_then_else_, _or_, node, end?, bump!, expected, error, error!, error-bump!, error-wrap, set, kind, silent, at, silent-eat, expect, expect-recoverable, assert-eat}
-use Rattle.definitions.specs.Grammar.{Item, ITEM-RECOVERY-SET, Reference, macro-invocation, dt-expr, eat-cell-body, bits-value, dt-cell-list, propvalue, dt-property, dt-node-body, forbidden-property, no-property, eat-node-or-prop, item-body, catch-unmatched-pp-directive, sourcefile-part}
+use Rattle.definitions.specs.Prog.{no, yes, Rule, item, Prog, ret, _⨟_, mark, loop, brace, call}
+use Rattle.definitions.specs.Check.{tell, if_then_else_, _or_, node, expected, error, error-bump!, set, kind, silent, at, silent-eat, assert-eat}
+use Rattle.definitions.specs.Grammar.{Item, Reference, macro-invocation, dt-expr, eat-cell-body, bits-value, dt-cell-list, propvalue, dt-property, node-body-turn, dt-node-body, forbidden-property, no-property, eat-node-or-prop, item-body, catch-unmatched-pp-directive, sourcefile-part}
 use Rattle.machine.specs.Machine.{Machine}
 use Rattle.machine.specs.Walk.{Walked, walk, walk-rule, walk-prog, unlabelled}
 use Rattle.parts.specs.Parts.{plain-cell, unfinished}
 use Rattle.parts.proofs.Laws.{cases-first}
-use Rattle.grammar.specs.Parts.{cell-rest, value-rest, items, item-rest, bad-property, bad-node, unmatched-rcurly}
+use Rattle.grammar.specs.Parts.{cell-rest, value-rest, item-rest, node-end, unmatched-rcurly}
 
 -- `eat-cell-body`: the plain cells are the test
 pub cell-parts : (ask : Rule → Machine → Walked) (ts : List Token) (b : Span) (at-end : Bool) (m : Machine)
@@ -37,9 +37,8 @@ value-parts semicolon = refl
 
 pub body-parts : dt-node-body
     ≡ brace (assert-eat K.LCurly
-    ⨟ items
-    ⨟ if end? then act emit-unclosed ⨟ ret N.DtNode yes
-    else expect (kind K.RCurly) ⨟ expect-recoverable (kind K.Semicolon) ITEM-RECOVERY-SET ⨟ ret N.DtNode yes)
+    ⨟ loop node-body-turn
+    ⨟ node-end)
 unfolding dt-node-body
 body-parts = refl
 
@@ -54,7 +53,7 @@ item-parts = refl
 pub no-property-parts : (allow-prop : Bool) → no-property allow-prop
     ≡ (if at (kind K.LCurly) then dt-node-body
     else if silent (kind K.RCurly) then error-bump! ⨟ ret N.ParseError yes
-    else if forbidden-property allow-prop then bad-property E.property-not-allowed
+    else if forbidden-property allow-prop then error E.msg-expected E.property-not-allowed ⨟ mark dt-property ⨟ ret N.ParseError yes
     else unfinished)
 unfolding no-property
 no-property-parts allow-prop = refl
@@ -66,10 +65,10 @@ pub sourcefile-parts : sourcefile-part
 unfolding sourcefile-part
 sourcefile-parts = refl
 
--- a reported property or node in a marker of its own
-pub reported-parts : (ask : Rule → Machine → Walked) (ts : List Token) (b : Span) (p q r : Prog) (m : Machine) → walk ask ts b (p ⨟ q ⨟ r) m ≡ walk ask ts b ((p ⨟ q) ⨟ r) m
+-- a sequence, one way or the other
+pub sequence-parts : (ask : Rule → Machine → Walked) (ts : List Token) (b : Span) (p q r : Prog) (m : Machine) → walk ask ts b (p ⨟ q ⨟ r) m ≡ walk ask ts b ((p ⨟ q) ⨟ r) m
 unfolding walk
-reported-parts ask ts b p q r m = refl
+sequence-parts ask ts b p q r m = refl
 
 pub cell-body-parts : (n : ℕ) (ts : List Token) (at-end : Bool) (m : Machine)
     → walk-prog n ts unlabelled (if plain-cell then tell yes else if silent (kind K.LParen) then dt-expr ⨟ tell yes else cell-rest at-end) m

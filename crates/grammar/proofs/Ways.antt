@@ -21,13 +21,13 @@ use Rattle.definitions.specs.Skeleton.{Span}
 use Rattle.definitions.specs.Grammar.{eat-inside}
 use Rattle.grammar.specs.declared.preprocessor_directive.Inside.{Inside}
 use Rattle.grammar.specs.Parts.{inside-of}
-use Rattle.definitions.specs.Prog.{Ans, no, yes, also, again, Rule, Prog, _⨟_, case, mark, loop, call}
-use Rattle.machine.specs.Machine.{Machine, Marker, push, PLACEHOLDER, START}
-use Rattle.machine.specs.Walk.{Walked, said, choose, marker, closed, walk, walk-rule, walk-prog, unlabelled}
+use Rattle.definitions.specs.Prog.{Ans, no, yes, also, again, Rule, Prog, _⨟_, case, loop, call}
+use Rattle.machine.specs.Machine.{Machine, Marker}
+use Rattle.machine.specs.Walk.{Walked, said, choose, closed, walk, walk-rule, walk-prog, unlabelled}
 use Rattle.machine.proofs.Turns.{ahead}
-use Rattle.machine.proofs.Way.{Way, Closes, c-walk, c-case, c-mark}
+use Rattle.machine.proofs.Way.{Way, Closes, c-case}
 use Rattle.parts.proofs.Steps.{c-on, went-on, ended-yes, ended-no}
-use Rattle.grammar.proofs.Laws.{reported-parts}
+use Rattle.grammar.proofs.Laws.{sequence-parts}
 
 module _ (n : ℕ) {ts : List Token} where
   -- what a part comes to, whatever that is
@@ -51,12 +51,6 @@ module _ (n : ℕ) {ts : List Token} where
   pub closes : {p : Prog} {k : Marker} {m : Machine} {v w : Walked} → Way (walk-rule n ts) ts unlabelled p m v → Closes k v w → w ≡ closed k (walk-prog n ts unlabelled p m)
   unfolding walk-prog
   closes {k = k} f g = g .is ∙ ap (closed k) (f .is)
-
-  -- a marker of which the rest is handed on
-  pub c-reported : {p q r : Prog} {k : Marker} {m x : Machine} {w : Walked} → k ≡ marker START m → x ≡ push PLACEHOLDER 0 m → w ≡ closed k (walk-prog n ts unlabelled (p ⨟ q ⨟ r) x)
-      → Way (walk-rule n ts) ts unlabelled (mark ((p ⨟ q) ⨟ r)) m w
-  unfolding walk-prog
-  c-reported {p = p} {q = q} {r = r} {x = x} i e f = c-mark i e (c-walk (reported-parts (walk-rule n ts) ts unlabelled p q r x)) (record { is = f })
 
   pub part-on : {p : Prog} {m : Machine} {w : Walked} → Way (walk-rule n ts) ts unlabelled p m w → w .on ≡ walk-prog n ts unlabelled p m .on
   unfolding walk-prog
@@ -140,7 +134,7 @@ pub c-inside : {ask : Rule → Machine → Walked} {ts : List Token} {b : Span} 
 c-inside {ask = ask} {ts = ts} {b = b} {m = m} h e = record { is = e .is ∙ sym (ap (λ (i : Inside). walk ask ts b (eat-inside (inside-of i)) m) h) }
 
 pub c-assoc : {ask : Rule → Machine → Walked} {ts : List Token} {b : Span} {p q r : Prog} {m : Machine} {w : Walked} → Way ask ts b (p ⨟ q ⨟ r) m w → Way ask ts b ((p ⨟ q) ⨟ r) m w
-c-assoc {ask = ask} {ts = ts} {b = b} {p = p} {q = q} {r = r} {m = m} e = record { is = e .is ∙ reported-parts ask ts b p q r m }
+c-assoc {ask = ask} {ts = ts} {b = b} {p = p} {q = q} {r = r} {m = m} e = record { is = e .is ∙ sequence-parts ask ts b p q r m }
 
 -- `told` leaves the parser as it is
 pub told-left : (tk : List ℕ) (r : Told) (k : Tested) → r .p ≡ k .p → left tk (r .p .s) ≡ left tk (k .p .s)

@@ -6,9 +6,9 @@ use mathlib.Core.List.{List, [], _∷_}
 use Rattle.definitions.specs.TokenKind as K
 use Rattle.definitions.specs.NodeKind as N
 use Rattle.definitions.specs.Errors as E
-use Rattle.definitions.specs.Prog.{no, yes, also, Prog, ret, _⨟_, mark, loop}
-use Rattle.definitions.specs.Check.{tell, if_then_else_, _and_, _or_, not!, node, bump!, error, error-wrap, error-wrap!, set, kind, silent, at, silent-eat}
-use Rattle.definitions.specs.Grammar.{Inside, Item, Values, Cell, OPERATORS-SET, macro-invocation, Reference, eat-dts-include, eat-preprocessor-directive, dt-property, dt-node-body, node-body-turn, eat-dts-directive, Entry}
+use Rattle.definitions.specs.Prog.{no, yes, also, emit-unclosed, Prog, ret, act, _⨟_}
+use Rattle.definitions.specs.Check.{tell, if_then_else_, _and_, _or_, not!, node, end?, bump!, error, error-wrap, error-wrap!, set, kind, silent, at, silent-eat, expect, expect-recoverable}
+use Rattle.definitions.specs.Grammar.{Inside, Item, Values, Cell, OPERATORS-SET, ITEM-RECOVERY-SET, macro-invocation, Reference, eat-dts-include, eat-preprocessor-directive, eat-dts-directive, Entry}
 use Rattle.definitions.specs.Grammar as G
 use Rattle.grammar.specs.declared.preprocessor_directive.Inside.the-variants as I
 use Rattle.grammar.specs.declared.preprocessor_directive.Inside as D
@@ -45,9 +45,11 @@ value-rest semicolon =
     else if silent-eat (kind K.DtBytestring) or eat-dts-include or eat-preprocessor-directive (Values semicolon) then tell yes
     else error-wrap! ⨟ tell also
 
--- the loop of `dt-node-body`
-abbrev pub items : Prog
-items = loop node-body-turn
+-- the end of `dt-node-body`; the caller's marker, and the brace's label
+abbrev pub node-end : Prog
+node-end =
+    if end? then act emit-unclosed ⨟ ret N.DtNode yes
+    else expect (kind K.RCurly) ⨟ expect-recoverable (kind K.Semicolon) ITEM-RECOVERY-SET ⨟ ret N.DtNode yes
 
 -- the last cases of `item-body`
 abbrev pub item-rest : Prog
@@ -55,14 +57,6 @@ item-rest =
     if silent (kind K.Semicolon) then error-wrap E.unmatched-semicolon E.no-hint
     else if eat-dts-directive or eat-preprocessor-directive Item then tell yes
     else error-wrap!
-
--- a property that is reported; the caller's marker
-abbrev pub bad-property : ℕ → Prog
-bad-property hint = error E.msg-expected hint ⨟ mark dt-property ⨟ ret N.ParseError yes
-
--- a node that is reported; the caller's marker
-abbrev pub bad-node : Prog
-bad-node = error E.msg-expected E.unnamed-node ⨟ mark dt-node-body ⨟ ret N.ParseError yes
 
 -- the first case of `sourcefile-part`
 abbrev pub unmatched-rcurly : Prog

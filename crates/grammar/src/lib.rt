@@ -2,6 +2,9 @@
 // preprocessor_directive.rs. They are one cycle of calls and so stand in one file: tokens left, and then a rank of the
 // function, fall at each call. The parser goes in and comes back by value; `room` is how many more calls of `item`,
 // `propvalues` and `eat_cell` may be opened. What no call can be opened under stands in the crates below.
+// The ten functions of the Rust have its names. The names of their parts are short, since the folder of the cycle's proof
+// is named after all its members and a file's name ends at 249 bytes: `bits`, `value` and `value2` are parts of
+// `propvalues`, `cell2` of `eat_cell`, `item2` of `item`, `rest` of `eat_node_or_prop`, `arm` of `cond_branches_and_end`.
 pub mod entry;
 mod preprocessor_directive;
 
@@ -23,6 +26,7 @@ use parser::errors::IN_CELLS;
 use parser::errors::MISSING_PARENTHESES;
 use parser::errors::NO_HINT;
 use parser::errors::PROPERTY_NOT_ALLOWED;
+use parser::errors::TextRange;
 use parser::errors::UNCLOSED_NODE;
 use parser::errors::UNMATCHED_SEMICOLON;
 use parser::errors::UNNAMED_NODE;
@@ -52,9 +56,9 @@ ghost use Rattle.definitions.specs.Run.{truth};
 ghost use Rattle.definitions.specs.Grammar.{eat-inside, branch, cond-branches-and-end, eat-preprocessor-directive, dt-expr, cells, dt-cell-list, bits-value, propvalue, dt-property, dt-node-body, forbidden-property, no-property, eat-node-or-prop};
 ghost use Rattle.machine.specs.Machine.{Machine};
 ghost use Rattle.machine.specs.Walk.{Walked, said, walk, closed, walk-rule, walk-prog, unlabelled};
-ghost use Rattle.parser.specs.View.{view-of, tested-as, left, marker-of, answer-of};
+ghost use Rattle.parser.specs.View.{view-of, tested-as, left, marker-of, answer-of, span-of};
 ghost use Rattle.parts.specs.View.{told-as};
-ghost use Rattle.grammar.specs.Parts.{inside-of, cell-rest, value-rest, items, item-rest, bad-property, bad-node};
+ghost use Rattle.grammar.specs.Parts.{inside-of, cell-rest, value-rest, item-rest, node-end};
 
 // Yes or No.
 fn told(k: Tested) -> Told
@@ -137,11 +141,11 @@ fn eat_cell(
         let q = dt_expr(paren.p, t, ev, rep, pool, room - 1);
         return Tested { p: q, yes: true };
     }
-    cell_rest(paren.p, t, ev, rep, pool, room - 1, at_end)
+    cell2(paren.p, t, ev, rep, pool, room - 1, at_end)
 }
 
 // The last cases of `eat_cell`.
-fn cell_rest(
+fn cell2(
     p: Parser,
     t: &[u32],
     ev: &mut [u32],
@@ -265,7 +269,7 @@ fn propvalues(
         if end.yes {
             return end;
         }
-        let value = propvalue(end.p, t, ev, rep, pool, room - 1, semicolon);
+        let value = value(end.p, t, ev, rep, pool, room - 1, semicolon);
         let answer = value.answer;
         match answer {
             Answer::No => {
@@ -298,7 +302,7 @@ fn propvalues(
 }
 
 // One value. Yes: it was there; No: its cells were cut off; Also: it was not there.
-fn propvalue(
+fn value(
     p: Parser,
     t: &[u32],
     ev: &mut [u32],
@@ -313,7 +317,7 @@ fn propvalue(
     let pushed = p.add_expected(expected::VALUE);
     let directive = pushed.silent_at(t, kind::BITS_DIRECTIVE);
     if directive.yes {
-        let list = bits_value(directive.p, t, ev, rep, pool, room);
+        let list = bits(directive.p, t, ev, rep, pool, room);
         return told(list);
     }
     let string = directive.p.silent_eat(t, ev, Matcher::Kind(kind::STRING));
@@ -327,11 +331,11 @@ fn propvalue(
         let list = dt_cell_list(started, t, ev, rep, pool, room, m);
         return told(list);
     }
-    value_rest(angle.p, t, ev, rep, pool, room, semicolon)
+    value2(angle.p, t, ev, rep, pool, room, semicolon)
 }
 
 // `/bits/`, its number and its cells.
-fn bits_value(
+fn bits(
     p: Parser,
     t: &[u32],
     ev: &mut [u32],
@@ -362,7 +366,7 @@ fn bits_value(
 }
 
 // The last cases of a value.
-fn value_rest(
+fn value2(
     p: Parser,
     t: &[u32],
     ev: &mut [u32],
@@ -464,9 +468,31 @@ fn dt_node_body(
     ensures { λ r. ⌜ left (now (t .entry)) (r .s) ≤ left (now (t .entry)) (p .s) - 1 ⌝ }
 {
     let lcurly_span = p.s.range(t);
-    let opened = p.bump(t, ev);
-    let inner = items(opened, t, ev, rep, pool, room);
-    let end = inner.at_end(t);
+    let mut q = p.bump(t, ev);
+    loop {
+        let more = at_item(q, t);
+        if more.yes {
+            q = item(more.p, t, ev, rep, pool, room);
+        } else {
+            return node_end(more.p, t, ev, rep, pool, m, lcurly_span);
+        }
+    }
+}
+
+// The end of a node's body. The caller's marker, and the place of its LCurly.
+fn node_end(
+    p: Parser,
+    t: &[u32],
+    ev: &mut [u32],
+    rep: &mut [u32],
+    pool: &mut [u32],
+    m: Marker,
+    lcurly_span: TextRange,
+) -> Parser
+    ensures { λ r. ⌜ ((ask : Rule → Machine → Walked) → said yes (view-of r (now (ev .exit)) (now (rep .exit)) (now (pool .exit))) ≡ closed (marker-of m) (walk ask (tokens (now (t .entry))) (span-of «lcurly_span») node-end (view-of p (now (ev .entry)) (now (rep .entry)) (now (pool .entry))))) ⌝ }
+    ensures { λ r. ⌜ left (now (t .entry)) (r .s) ≤ left (now (t .entry)) (p .s) ⌝ }
+{
+    let end = p.at_end(t);
     if end.yes {
         let q = end.p
             .emit(t, ev, rep, pool, UNCLOSED_NODE, NO_HINT, lcurly_span);
@@ -478,29 +504,6 @@ fn dt_node_body(
             .p
             .expect_recoverable(t, ev, rep, pool, semicolon, &ITEM_RECOVERY_SET);
         q.p.complete(ev, m, node::DT_NODE)
-    }
-}
-
-// The items of a node's body.
-fn items(
-    p: Parser,
-    t: &[u32],
-    ev: &mut [u32],
-    rep: &mut [u32],
-    pool: &mut [u32],
-    room: usize,
-) -> Parser
-    ensures { λ r. ⌜ ((b : Span) → said yes (view-of r (now (ev .exit)) (now (rep .exit)) (now (pool .exit))) ≡ walk-prog room (tokens (now (t .entry))) b items (view-of p (now (ev .entry)) (now (rep .entry)) (now (pool .entry)))) ⌝ }
-    ensures { λ r. ⌜ left (now (t .entry)) (r .s) ≤ left (now (t .entry)) (p .s) ⌝ }
-{
-    let mut q = p;
-    loop {
-        let more = at_item(q, t);
-        if more.yes {
-            q = item(more.p, t, ev, rep, pool, room);
-        } else {
-            return more.p;
-        }
     }
 }
 
@@ -529,19 +532,27 @@ fn item(
     if equals.yes {
         let m = Marker::new(equals.p.s);
         let started = equals.p.start(ev);
-        return bad_prop(started, t, ev, rep, pool, room - 1, m, UNNAMED_PROPERTY);
+        let reported = started.error(t, ev, rep, pool, EXPECTED, UNNAMED_PROPERTY, Bump::No);
+        let m_prop = Marker::new(reported.s);
+        let inner = reported.start(ev);
+        let property = dt_property(inner, t, ev, rep, pool, room - 1, m_prop);
+        return property.complete(ev, m, node::PARSE_ERROR);
     }
     let lcurly = equals.p.silent_at(t, kind::LCURLY);
     if lcurly.yes {
         let m = Marker::new(lcurly.p.s);
         let started = lcurly.p.start(ev);
-        return bad_node(started, t, ev, rep, pool, room - 1, m);
+        let reported = started.error(t, ev, rep, pool, EXPECTED, UNNAMED_NODE, Bump::No);
+        let m_node = Marker::new(reported.s);
+        let inner = reported.start(ev);
+        let body = dt_node_body(inner, t, ev, rep, pool, room - 1, m_node);
+        return body.complete(ev, m, node::PARSE_ERROR);
     }
-    item_rest(lcurly.p, t, ev, rep, pool, room - 1)
+    item2(lcurly.p, t, ev, rep, pool, room - 1)
 }
 
 // The last cases of `item`.
-fn item_rest(
+fn item2(
     p: Parser,
     t: &[u32],
     ev: &mut [u32],
@@ -577,47 +588,6 @@ fn item_rest(
         .error(t, ev, rep, pool, EXPECTED, NO_HINT, Bump::YesWrapErr)
 }
 
-// A property that is reported: it has no name, or is not allowed. The caller's marker.
-fn bad_prop(
-    p: Parser,
-    t: &[u32],
-    ev: &mut [u32],
-    rep: &mut [u32],
-    pool: &mut [u32],
-    room: usize,
-    m: Marker,
-    hint: u32,
-) -> Parser
-    ensures { λ r. ⌜ said yes (view-of r (now (ev .exit)) (now (rep .exit)) (now (pool .exit))) ≡ closed (marker-of m) (walk-prog room (tokens (now (t .entry))) unlabelled (bad-property hint) (view-of p (now (ev .entry)) (now (rep .entry)) (now (pool .entry)))) ⌝ }
-    ensures { λ r. ⌜ left (now (t .entry)) (r .s) ≤ left (now (t .entry)) (p .s) - 1 ⌝ }
-{
-    let reported = p.error(t, ev, rep, pool, EXPECTED, hint, Bump::No);
-    let m_prop = Marker::new(reported.s);
-    let started = reported.start(ev);
-    let property = dt_property(started, t, ev, rep, pool, room, m_prop);
-    property.complete(ev, m, node::PARSE_ERROR)
-}
-
-// A node that is reported: it has no name. The caller's marker.
-fn bad_node(
-    p: Parser,
-    t: &[u32],
-    ev: &mut [u32],
-    rep: &mut [u32],
-    pool: &mut [u32],
-    room: usize,
-    m: Marker,
-) -> Parser
-    ensures { λ r. ⌜ said yes (view-of r (now (ev .exit)) (now (rep .exit)) (now (pool .exit))) ≡ closed (marker-of m) (walk-prog room (tokens (now (t .entry))) unlabelled bad-node (view-of p (now (ev .entry)) (now (rep .entry)) (now (pool .entry)))) ⌝ }
-    ensures { λ r. ⌜ left (now (t .entry)) (r .s) ≤ left (now (t .entry)) (p .s) - 1 ⌝ }
-{
-    let reported = p.error(t, ev, rep, pool, EXPECTED, UNNAMED_NODE, Bump::No);
-    let m_node = Marker::new(reported.s);
-    let started = reported.start(ev);
-    let body = dt_node_body(started, t, ev, rep, pool, room, m_node);
-    body.complete(ev, m, node::PARSE_ERROR)
-}
-
 fn eat_node_or_prop(
     p: Parser,
     t: &[u32],
@@ -647,18 +617,18 @@ fn eat_node_or_prop(
                 let q = dt_property(property.p, t, ev, rep, pool, room, m);
                 return Tested { p: q, yes: true };
             }
-            let q = no_property(property.p, t, ev, rep, pool, room, m, true);
+            let q = rest(property.p, t, ev, rep, pool, room, m, true);
             Tested { p: q, yes: true }
         }
         _ => {
-            let q = no_property(prefix.p, t, ev, rep, pool, room, m, false);
+            let q = rest(prefix.p, t, ev, rep, pool, room, m, false);
             Tested { p: q, yes: true }
         }
     }
 }
 
 // What follows the prefix, a property apart. The caller's marker.
-fn no_property(
+fn rest(
     p: Parser,
     t: &[u32],
     ev: &mut [u32],
@@ -684,7 +654,13 @@ fn no_property(
     }
     let forbidden = forbidden_property(rcurly.p, t, allow_prop);
     if forbidden.yes {
-        return bad_prop(forbidden.p, t, ev, rep, pool, room, m, PROPERTY_NOT_ALLOWED);
+        let reported = forbidden
+            .p
+            .error(t, ev, rep, pool, EXPECTED, PROPERTY_NOT_ALLOWED, Bump::No);
+        let m_prop = Marker::new(reported.s);
+        let inner = reported.start(ev);
+        let property = dt_property(inner, t, ev, rep, pool, room, m_prop);
+        return property.complete(ev, m, node::PARSE_ERROR);
     }
     unfinished(forbidden.p, t, ev, rep, pool, m)
 }
@@ -732,7 +708,7 @@ fn eat_inside(
 }
 
 // One branch, up to its end (no) or to a continuation (yes).
-fn branch(
+fn arm(
     p: Parser,
     t: &[u32],
     ev: &mut [u32],
@@ -787,7 +763,7 @@ fn cond_branches_and_end(
 {
     let mut q = p;
     loop {
-        let more = branch(q, t, ev, rep, pool, room, inside);
+        let more = arm(q, t, ev, rep, pool, room, inside);
         if more.yes {
             q = more.p.bump(t, ev);
         } else {

@@ -13,14 +13,12 @@ use Rattle.definitions.specs.Grammar.{Cell, OPERATORS-SET, PROPERTY-VALUE-RECOV
 use Rattle.definitions.specs.Grammar as G
 use Rattle.machine.specs.Machine.{Machine}
 use Rattle.machine.specs.Walk.{Walked, choose, walk}
-use Rattle.parts.specs.Parts.{directive-end, memreserve-arguments, delete-arguments, at-item, at-cells-recovery, at-values-end, unfinished, plain-cell, unit-address-and-colon, label-or-name, labels-and-name}
+use Rattle.parts.specs.Parts.{directive-end, directive-with-arguments, at-item, at-cells-recovery, at-values-end, unfinished, plain-cell, unit-address-and-colon, label-or-name, labels-and-name}
 
 pub directive-parts : eat-dts-directive
     ≡ (eat-starting set (K.V1Directive ∷ K.PluginDirective ∷ []) inside directive-end
     else if eat-dts-include then tell yes
-    else eat-starting kind K.MemreserveDirective inside memreserve-arguments ⨟ directive-end
-    else eat-starting set (K.DeleteNodeDirective ∷ K.DeletePropertyDirective ∷ []) inside delete-arguments ⨟ directive-end
-    else tell no)
+    else directive-with-arguments)
 unfolding eat-dts-directive
 directive-parts = refl
 

@@ -7,7 +7,7 @@ use Rattle.definitions.specs.TokenKind as K
 use Rattle.definitions.specs.NodeKind as N
 use Rattle.definitions.specs.Errors as E
 use Rattle.definitions.specs.Prog.{Ans, no, yes, again, Prog, ret, _⨟_, mark, loop}
-use Rattle.definitions.specs.Check.{tell, if_then_else_, _and_, _or_, not!, node, end?, bump!, expected, error!, error-bump, set, kind, silent, at, silent-eat, eat, expect, expect-recoverable}
+use Rattle.definitions.specs.Check.{tell, if_then_else_, _and_, _or_, not!, node, end?, bump!, expected, error!, error-bump, set, kind, silent, at, silent-eat, eat, expect, expect-recoverable, eat-starting_inside_else_}
 use Rattle.definitions.specs.Grammar.{CONTINUE-COND-SET, ITEM-RECOVERY-SET, ending-kinds, macro-invocation, MacroSubstitutableName, UnitAddress, Reference, prefix-turn}
 
 -- ---------------------------------------------------------------- dts_directive.rt
@@ -19,12 +19,21 @@ directive-end = expect-recoverable (kind K.Semicolon) ITEM-RECOVERY-SET ⨟ ret 
 abbrev pub memreserve-arguments : Prog
 memreserve-arguments = node N.DtsDirectiveArguments (expect (kind K.Number) ⨟ expect (kind K.Number))
 
-abbrev pub delete-arguments : Prog
-delete-arguments =
-    node N.DtsDirectiveArguments
-    (if eat Reference then tell yes
+abbrev pub deleted : Prog
+deleted =
+    if eat Reference then tell yes
     else if eat MacroSubstitutableName then eat UnitAddress
-    else error!)
+    else error!
+
+abbrev pub delete-arguments : Prog
+delete-arguments = node N.DtsDirectiveArguments deleted
+
+-- the last cases of `eat-dts-directive`: those with arguments
+abbrev pub directive-with-arguments : Prog
+directive-with-arguments =
+    eat-starting kind K.MemreserveDirective inside memreserve-arguments ⨟ directive-end
+    else eat-starting set (K.DeleteNodeDirective ∷ K.DeletePropertyDirective ∷ []) inside delete-arguments ⨟ directive-end
+    else tell no
 
 -- ---------------------------------------------------------------- ends.rt
 

@@ -23,7 +23,7 @@ ghost use Rattle.definitions.specs.Grammar.{eat-dts-include, eat-dts-directive}
 ghost use Rattle.machine.specs.Machine.{Machine};
 ghost use Rattle.machine.specs.Walk.{Walked, said, walk, closed};
 ghost use Rattle.parser.specs.View.{view, left, seen-as, marker-of};
-ghost use Rattle.parts.specs.Parts.{directive-end, memreserve-arguments, delete-arguments};
+ghost use Rattle.parts.specs.Parts.{directive-end, memreserve-arguments, deleted, delete-arguments, directive-with-arguments};
 
 pub fn eat_dts_include(
     s: State,
@@ -96,6 +96,31 @@ fn memreserve_arguments(
     size.s.complete(ev, m_params, node::DTS_DIRECTIVE_ARGUMENTS)
 }
 
+// What is deleted: a reference, or a name and perhaps a unit address.
+fn eat_deleted(
+    s: State,
+    codes: &mut [u8; 256],
+    t: &[u32],
+    ev: &mut [u32],
+    rep: &mut [u32],
+    pool: &mut [u32],
+) -> Seen
+    ensures { λ r. ⌜ ((ask : Rule → Machine → Walked) (b : Span) → seen-as r (now (codes .exit)) (now (ev .exit)) (now (rep .exit)) (now (pool .exit)) ≡ walk ask (tokens (now (t .entry))) b deleted (view s (now (codes .entry)) (now (ev .entry)) (now (rep .entry)) (now (pool .entry)))) ⌝ }
+    ensures { λ r. ⌜ left (now (t .entry)) (r .s) ≤ left (now (t .entry)) s ⌝ }
+{
+    let reference = reference::eat(s, codes, t, ev, rep, pool);
+    if reference.yes {
+        return reference;
+    }
+    let name = macro_substitutable_name::eat(reference.s, codes, t, ev, rep, pool);
+    if name.yes {
+        return unit_address::eat(name.s, codes, t, ev, rep, pool);
+    }
+    let q = name.s
+        .error(codes, t, ev, rep, pool, EXPECTED, NO_HINT, Bump::No);
+    Seen { s: q, yes: true }
+}
+
 fn delete_arguments(
     s: State,
     codes: &mut [u8; 256],
@@ -109,20 +134,42 @@ fn delete_arguments(
 {
     let m_params = Marker::new(s);
     let started = s.start(ev);
-    let reference = reference::eat(started, codes, t, ev, rep, pool);
-    if reference.yes {
-        return reference
-            .s
-            .complete(ev, m_params, node::DTS_DIRECTIVE_ARGUMENTS);
+    let deleted = eat_deleted(started, codes, t, ev, rep, pool);
+    deleted
+        .s
+        .complete(ev, m_params, node::DTS_DIRECTIVE_ARGUMENTS)
+}
+
+// The directives with arguments.
+fn eat_directive_with_arguments(
+    s: State,
+    codes: &mut [u8; 256],
+    t: &[u32],
+    ev: &mut [u32],
+    rep: &mut [u32],
+    pool: &mut [u32],
+) -> Seen
+    ensures { λ r. ⌜ ((ask : Rule → Machine → Walked) (b : Span) → seen-as r (now (codes .exit)) (now (ev .exit)) (now (rep .exit)) (now (pool .exit)) ≡ walk ask (tokens (now (t .entry))) b directive-with-arguments (view s (now (codes .entry)) (now (ev .entry)) (now (rep .entry)) (now (pool .entry)))) ⌝ }
+    ensures { λ r. ⌜ left (now (t .entry)) (r .s) ≤ left (now (t .entry)) s ⌝ }
+    ensures { λ r. ⌜ (r .yes ≡ true → left (now (t .entry)) (r .s) ≤ left (now (t .entry)) s - 1) ⌝ }
+{
+    let memreserve = s.eat_starting(codes, t, ev, Matcher::Kind(kind::MEMRESERVE_DIRECTIVE));
+    if memreserve.yes {
+        let q = memreserve_arguments(memreserve.s, codes, t, ev, rep, pool);
+        return directive_end(q, codes, t, ev, rep, pool, memreserve.m);
     }
-    let name = macro_substitutable_name::eat(reference.s, codes, t, ev, rep, pool);
-    if name.yes {
-        let unit = unit_address::eat(name.s, codes, t, ev, rep, pool);
-        return unit.s.complete(ev, m_params, node::DTS_DIRECTIVE_ARGUMENTS);
+    let delete = memreserve.s.eat_starting(
+        codes,
+        t,
+        ev,
+        Matcher::Either(kind::DELETE_NODE_DIRECTIVE, kind::DELETE_PROPERTY_DIRECTIVE),
+    );
+    if delete.yes {
+        let q = delete_arguments(delete.s, codes, t, ev, rep, pool);
+        return directive_end(q, codes, t, ev, rep, pool, delete.m);
     }
-    let q = name.s
-        .error(codes, t, ev, rep, pool, EXPECTED, NO_HINT, Bump::No);
-    q.complete(ev, m_params, node::DTS_DIRECTIVE_ARGUMENTS)
+    let q = delete.s;
+    Seen { s: q, yes: false }
 }
 
 pub fn eat_dts_directive(
@@ -150,23 +197,5 @@ pub fn eat_dts_directive(
     if include.yes {
         return include;
     }
-    let memreserve = include
-        .s
-        .eat_starting(codes, t, ev, Matcher::Kind(kind::MEMRESERVE_DIRECTIVE));
-    if memreserve.yes {
-        let q = memreserve_arguments(memreserve.s, codes, t, ev, rep, pool);
-        return directive_end(q, codes, t, ev, rep, pool, memreserve.m);
-    }
-    let delete = memreserve.s.eat_starting(
-        codes,
-        t,
-        ev,
-        Matcher::Either(kind::DELETE_NODE_DIRECTIVE, kind::DELETE_PROPERTY_DIRECTIVE),
-    );
-    if delete.yes {
-        let q = delete_arguments(delete.s, codes, t, ev, rep, pool);
-        return directive_end(q, codes, t, ev, rep, pool, delete.m);
-    }
-    let q = delete.s;
-    Seen { s: q, yes: false }
+    eat_directive_with_arguments(include.s, codes, t, ev, rep, pool)
 }

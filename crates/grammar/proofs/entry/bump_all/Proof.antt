@@ -3,80 +3,66 @@ use Prim.Native.Nat.{ℕ, _≤_}
 use mathlib.Core.Path.{_≡_, refl, _∙_}
 use mathlib.Core.Bool.{true, false}
 use mathlib.Core.List.{List}
-use lib.ListN.{length}
 use native.Mathlib.Omega.{arith}
+use native.Mathlib.Nat.{le-refl}
+use lib.ListN.{length}
 use Rattle.definitions.specs.Token.{tokens}
 use Rattle.definitions.specs.Skeleton.{Span}
 use Rattle.definitions.specs.Prog.{Rule, loop}
 use Rattle.definitions.specs.Grammar.{left-over-turn}
 use Rattle.machine.specs.Machine.{Machine}
 use Rattle.machine.specs.Walk.{Walked, walk}
-use Rattle.parser.specs.View.{left, view-of}
 use Rattle.machine.proofs.Way.{c-act, c-ret, c-seq, c-yes, c-no}
+use Rattle.parser.specs.View.{left, view-of}
 use Rattle.parts.proofs.Steps.{ahead-falls, went-on, ended-yes}
 use Rattle.grammar.proofs.entry.bump_all.Statement.{statement}
 use Rattle.grammar.proofs.entry.bump_all.Tie as tie
 
--- the loop from here is the loop from the start
 abbrev Inv-loop : tie.InvT-loop
-Inv-loop t ev₀ q₀ ev q =
-    (left t (q .s) ≤ left t (q₀ .s))
-    × ((length ev ≡ length ev₀)
-    × ((ask : Rule → Machine → Walked) (b : Span) (rep pool : List ℕ) → walk ask (tokens t) b (loop left-over-turn) (view-of q ev rep pool) ≡ walk ask (tokens t) b (loop left-over-turn) (view-of q₀ ev₀ rep pool)))
+Inv-loop t ev₀ q₀ ev q = ((ask : Rule → Machine → Walked) (b : Span) (rep pool : List ℕ) → walk ask (tokens t) b (loop left-over-turn) (view-of q ev rep pool) ≡ walk ask (tokens t) b (loop left-over-turn) (view-of q₀ ev₀ rep pool)) × ((left t (q .s) ≤ left t (q₀ .s)) × (length ev ≡ length ev₀))
 
 abbrev μ-loop : tie.MeasureT-loop
 μ-loop t ev₀ q₀ ev q = left t (q .s)
 
 loop-holds : tie.Need-loop-holds Inv-loop μ-loop
-loop-holds c = (omega arith, (refl, λ ask b rep pool. refl))
+loop-holds c = (λ ask b rep pool. refl, (le-refl _, refl))
 
 at-end-requires : tie.Need-at-end-requires Inv-loop μ-loop
 at-end-requires c κs = tt
 
 same-length : tie.Need-same-length Inv-loop μ-loop
 same-length c =
-    let loop′ = c .before .before .before in
-    omega (arith, loop′ .loop .inv .1 .0)
+    let a = c .before .before .before in
+    omega (arith, a .loop .inv .1 .1)
 
 returns : tie.Need-returns Inv-loop μ-loop
 unfolding left-over-turn
 returns c =
-    let if1′ = c .before in
-    let at-end′ = if1′ .before in
-    let loop′ = at-end′ .before in (
-      λ ask b rep pool. ended-yes (c-no {t = false} (c-yes (c-act (at-end′ .at-end .ensures .0 b _ rep pool)) (if1′ .if1 .taken) c-ret) refl c-ret) ∙ loop′ .loop .inv .1 .1 ask b rep pool,
-      omega (arith, loop′ .loop .inv .0, at-end′ .at-end .ensures .1 .0),
-    )
+    let a = c .before in
+    let d = a .before in
+    let e = d .before in
+    (λ ask b rep pool. ended-yes (c-no {t = false} (c-yes (c-act (d .at-end .ensures .0 b _ rep pool)) (a .if1 .taken) c-ret) refl c-ret) ∙ e .loop .inv .0 ask b rep pool, omega (arith, e .loop .inv .1 .0, d .at-end .ensures .1 .0))
 
 bump-requires : tie.Need-bump-requires Inv-loop μ-loop
 bump-requires c κs = tt
 
 loop-less : tie.Need-loop-less Inv-loop μ-loop
 loop-less c =
-    let bump′ = c .before .before in
-    let if1′ = bump′ .before .before in
-    let at-end′ = if1′ .before in
-    omega (arith, at-end′ .at-end .ensures .1 .0, at-end′ .at-end .ensures .1 .1 .0 (if1′ .if1 .left), bump′ .bump .ensures .1)
+    let a = c .before .before in
+    let d = a .before .before in
+    let e = d .before in
+    let f = e .before in
+    omega (arith, f .loop .inv .1 .0, e .at-end .ensures .1 .0, e .at-end .ensures .1 .1 .0 (d .if1 .left), a .bump .ensures .1)
 
 loop-again : tie.Need-loop-again Inv-loop μ-loop
 unfolding left-over-turn
 loop-again c =
-    let bump′ = c .before .before in
-    let if1′ = bump′ .before .before in
-    let at-end′ = if1′ .before in
-    let loop′ = at-end′ .before in
-    let s′ = loop′ .before .before .before in (
-      omega (arith, loop′ .loop .inv .0, at-end′ .at-end .ensures .1 .0, bump′ .bump .ensures .1),
-      (
-        omega (arith, loop′ .loop .inv .1 .0, bump′ .bump .kept),
-        λ ask b rep pool.
-            went-on
-            (c-yes {t = true} (c-no (c-act (at-end′ .at-end .ensures .0 b _ rep pool)) (if1′ .if1 .left) c-ret) refl (c-seq (c-act (bump′ .bump .ensures .0 b rep pool)) c-ret))
-            (ahead-falls (s′ .args .t .now) (loop′ .loop .q .s) (bump′ .bump .result .s)
-            (omega (arith, at-end′ .at-end .ensures .1 .0, at-end′ .at-end .ensures .1 .1 .0 (if1′ .if1 .left), bump′ .bump .ensures .1)))
-            ∙ loop′ .loop .inv .1 .1 ask b rep pool,
-      ),
-    )
+    let a = c .before .before in
+    let d = a .before .before in
+    let e = d .before in
+    let f = e .before in
+    let s = f .before .before .before in
+    (λ ask b rep pool. went-on (c-yes {t = true} (c-no (c-act (e .at-end .ensures .0 b _ rep pool)) (d .if1 .left) c-ret) refl (c-seq (c-act (a .bump .ensures .0 b rep pool)) c-ret)) (ahead-falls (s .args .t .now) (f .loop .q .s) (a .bump .result .s) (omega (arith, f .loop .inv .1 .0, e .at-end .ensures .1 .0, e .at-end .ensures .1 .1 .0 (d .if1 .left), a .bump .ensures .1))) ∙ f .loop .inv .0 ask b rep pool, (omega (arith, f .loop .inv .1 .0, e .at-end .ensures .1 .0, e .at-end .ensures .1 .1 .0 (d .if1 .left), a .bump .ensures .1), omega (arith, f .loop .inv .1 .1, a .bump .kept)))
 
 pub bump-all-spec : {M : Type 1} → statement M
 bump-all-spec = tie.close (tie.spec Inv-loop μ-loop loop-holds at-end-requires same-length returns bump-requires loop-less loop-again)

@@ -12,11 +12,9 @@ at-end-requires c κs = tt
 returns : tie.Need-returns
 unfolding left-over
 returns c =
-    let if1′ = c .before in
-    let at-end′ = if1′ .before in (
-      λ ask b. (c-yes (c-act (at-end′ .at-end .ensures .0 b _ _ _)) (if1′ .if1 .taken) c-ret) .is,
-      omega (arith, at-end′ .at-end .ensures .1 .0),
-    )
+    let a = c .before in
+    let d = a .before in
+    (λ ask b. c-yes (c-act (d .at-end .ensures .0 b _ _ _)) (a .if1 .taken) c-ret .is, omega (arith, d .at-end .ensures .1 .0))
 
 add-expected-requires : tie.Need-add-expected-requires
 add-expected-requires c κs = tt
@@ -38,43 +36,41 @@ complete-requires c κs = tt
 
 same-length : tie.Need-same-length
 same-length c =
-    let complete′ = c .before .before in
-    let bump-all′ = complete′ .before .before .before .before in
-    let error′ = bump-all′ .before .before .before .before .before .before .before .before in
-    let start′ = error′ .before .before .before .before .before .before in
-    omega (arith, start′ .start .kept, error′ .error .kept, bump-all′ .bump-all .kept, complete′ .complete .kept)
+    let a = c .before .before in
+    let d = a .before .before .before .before in
+    let e = d .before .before .before .before .before .before .before .before in
+    let f = e .before .before .before .before .before .before in
+    omega (arith, f .start .kept, e .error .kept, d .bump-all .kept, a .complete .kept)
 
 same-length-2 : tie.Need-same-length-2
 same-length-2 c =
-    let complete′ = c .before .before in
-    let bump-all′ = complete′ .before .before .before .before in
-    let error′ = bump-all′ .before .before .before .before .before .before .before .before in
-    let start′ = error′ .before .before .before .before .before .before in
-    omega (arith, start′ .start .kept, error′ .error .kept, bump-all′ .bump-all .kept, complete′ .complete .kept)
+    let a = c .before .before in
+    let d = a .before .before .before .before in
+    let e = d .before .before .before .before .before .before .before .before in
+    let f = e .before .before .before .before .before .before in
+    omega (arith, f .start .kept, e .error .kept, d .bump-all .kept, a .complete .kept)
 
 same-length-3 : tie.Need-same-length-3
 same-length-3 c =
-    let complete′ = c .before .before in
-    let bump-all′ = complete′ .before .before .before .before in
-    let error′ = bump-all′ .before .before .before .before .before .before .before .before in
-    let start′ = error′ .before .before .before .before .before .before in
-    omega (arith, start′ .start .kept, error′ .error .kept, bump-all′ .bump-all .kept, complete′ .complete .kept)
+    let a = c .before .before in
+    let d = a .before .before .before .before in
+    let e = d .before .before .before .before .before .before .before .before in
+    let f = e .before .before .before .before .before .before in
+    omega (arith, f .start .kept, e .error .kept, d .bump-all .kept, a .complete .kept)
 
 returns-2 : tie.Need-returns-2
 unfolding left-over
 returns-2 c =
-    let complete′ = c .before .before in
-    let bump-all′ = complete′ .before .before .before .before in
-    let error′ = bump-all′ .before .before .before .before .before .before .before .before in
-    let start′ = error′ .before .before .before .before .before .before in
-    let new′ = start′ .before .before in
-    let add-expected′ = new′ .before in
-    let if1′ = add-expected′ .before in
-    let at-end′ = if1′ .before in
-    let s′ = at-end′ .before .before .before .before .before in (
-      λ ask b. (c-no (c-act (at-end′ .at-end .ensures .0 b _ _ _)) (if1′ .if1 .left) (c-seq (c-act (add-expected′ .add-expected .ensures .0 (tokens (s′ .args .t .now)) b _ _ _)) (c-mark (new′ .new .ensures) (start′ .start .ensures .0 _ _) (c-seq (c-seq (c-walk (error′ .error .ensures .0 ask b)) (c-walk (bump-all′ .bump-all .ensures .0 ask b _ _))) c-ret) (completed 9 (complete′ .complete .ensures .0 _ _))))) .is,
-      omega (arith, at-end′ .at-end .ensures .1 .0, add-expected′ .add-expected .ensures .1 (s′ .args .t .now), start′ .start .ensures .1 (s′ .args .t .now), error′ .error .ensures .1, bump-all′ .bump-all .ensures .1, complete′ .complete .ensures .1 (s′ .args .t .now)),
-    )
+    let a = c .before .before in
+    let d = a .before .before .before .before in
+    let e = d .before .before .before .before .before .before .before .before in
+    let f = e .before .before .before .before .before .before in
+    let g = f .before .before in
+    let i = g .before in
+    let j = i .before in
+    let l = j .before in
+    let s = l .before .before .before .before .before in
+    (λ ask b. c-no (c-act (l .at-end .ensures .0 b _ _ _)) (j .if1 .left) (c-seq (c-act (i .add-expected .ensures .0 (tokens (s .args .t .now)) b _ _ _)) (c-mark (g .new .ensures) (f .start .ensures .0 _ _) (c-seq (c-seq (c-walk (e .error .ensures .0 ask b)) (c-walk (d .bump-all .ensures .0 ask b _ _))) c-ret) (completed 9 (a .complete .ensures .0 _ _)))) .is, omega (arith, l .at-end .ensures .1 .0, l .at-end .ensures .1 .1 .0 (j .if1 .left), i .add-expected .ensures .1 (s .args .t .now), f .start .ensures .1 (s .args .t .now), e .error .ensures .1, d .bump-all .ensures .1, a .complete .ensures .1 (s .args .t .now)))
 
 pub left-over-spec : {M : Type 1} → statement M
 left-over-spec = tie.close (tie.spec at-end-requires returns add-expected-requires new-requires start-requires error-requires bump-all-requires complete-requires same-length same-length-2 same-length-3 returns-2)

@@ -22,31 +22,30 @@ left-over-requires c κs = tt
 
 same-length : tie.Need-same-length
 same-length c =
-    let left-over′ = c .before .before .before .before .before .before in
-    let enter′ = left-over′ .before .before .before .before .before .before .before .before .before .before in
-    omega (arith, enter′ .enter .kept, left-over′ .left-over .kept)
+    let a = c .before .before .before .before .before .before in
+    let d = a .before .before .before .before .before .before .before .before .before .before in
+    omega (arith, d .enter .kept, a .left-over .kept)
 
 same-length-2 : tie.Need-same-length-2
 same-length-2 c =
-    let left-over′ = c .before .before .before .before .before .before in
-    let enter′ = left-over′ .before .before .before .before .before .before .before .before .before .before in
-    omega (arith, enter′ .enter .kept, left-over′ .left-over .kept)
+    let a = c .before .before .before .before .before .before in
+    let d = a .before .before .before .before .before .before .before .before .before .before in
+    omega (arith, d .enter .kept, a .left-over .kept)
 
 same-length-3 : tie.Need-same-length-3
 same-length-3 c =
-    let left-over′ = c .before .before .before .before .before .before in
-    let enter′ = left-over′ .before .before .before .before .before .before .before .before .before .before in
-    omega (arith, enter′ .enter .kept, left-over′ .left-over .kept)
+    let a = c .before .before .before .before .before .before in
+    let d = a .before .before .before .before .before .before .before .before .before .before in
+    omega (arith, d .enter .kept, a .left-over .kept)
 
 returns : tie.Need-returns
 unfolding whole
 returns c =
-    let left-over′ = c .before .before .before .before .before .before in
-    let enter′ = left-over′ .before .before .before .before .before .before .before .before .before .before in
-    let new′ = enter′ .before .before .before .before in
-    let s′ = new′ .before .before .before .before .before in
-    part-on 64 (c-part-on 64 (enter′ .enter .ensures .0) (c-walk (left-over′ .left-over .ensures .0 (walk-rule 64 (tokens (s′ .args .t .now))) unlabelled)))
-    ∙ ap (λ (m : Machine). walk-prog 64 (tokens (s′ .args .t .now)) unlabelled (whole (entry-of (s′ .args .entrypoint))) m .on) (new′ .new .ensures _ _ _)
+    let a = c .before .before .before .before .before .before in
+    let d = a .before .before .before .before .before .before .before .before .before .before in
+    let e = d .before .before .before .before in
+    let s = e .before .before .before .before .before in
+    part-on 64 (c-part-on 64 (d .enter .ensures .0) (c-walk (a .left-over .ensures .0 (walk-rule 64 (tokens (s .args .t .now))) unlabelled))) ∙ ap (λ (m : Machine). walk-prog 64 (tokens (s .args .t .now)) unlabelled (whole (entry-of (s .args .entrypoint))) m .on) (e .new .ensures _ _ _)
 
 pub parse-spec : {M : Type 1} → statement M
 parse-spec = tie.close (tie.spec new-requires enter-requires left-over-requires same-length same-length-2 same-length-3 returns)

@@ -18,91 +18,85 @@ unmatched-rcurly-requires c κs = tt
 
 same-length : tie.Need-same-length
 same-length c =
-    let unmatched-rcurly′ = c .before .before .before .before .before .before in
-    omega (arith, unmatched-rcurly′ .unmatched-rcurly .kept)
+    let a = c .before .before .before .before .before .before in
+    omega (arith, a .unmatched-rcurly .kept)
 
 same-length-2 : tie.Need-same-length-2
 same-length-2 c =
-    let unmatched-rcurly′ = c .before .before .before .before .before .before in
-    omega (arith, unmatched-rcurly′ .unmatched-rcurly .kept)
+    let a = c .before .before .before .before .before .before in
+    omega (arith, a .unmatched-rcurly .kept)
 
 same-length-3 : tie.Need-same-length-3
 same-length-3 c =
-    let unmatched-rcurly′ = c .before .before .before .before .before .before in
-    omega (arith, unmatched-rcurly′ .unmatched-rcurly .kept)
+    let a = c .before .before .before .before .before .before in
+    omega (arith, a .unmatched-rcurly .kept)
 
 returns : tie.Need-returns
 unfolding sourcefile-part silent
 returns c =
-    let unmatched-rcurly′ = c .before .before .before .before .before .before in
-    let if1′ = unmatched-rcurly′ .before .before .before .before in
-    let silent-at′ = if1′ .before in
-    let s′ = silent-at′ .before .before .before .before .before in (
-      part-on 64 (c-yes (c-act (silent-at′ .silent-at .ensures .0 unlabelled _ _ _)) (if1′ .if1 .taken) (c-walk (unmatched-rcurly′ .unmatched-rcurly .ensures .0 (walk-rule 64 (tokens (s′ .args .t .now))) unlabelled))),
-      omega (arith, silent-at′ .silent-at .ensures .1 .0, silent-at′ .silent-at .ensures .1 .1 (if1′ .if1 .taken), unmatched-rcurly′ .unmatched-rcurly .ensures .1),
-    )
+    let a = c .before .before .before .before .before .before in
+    let d = a .before .before .before .before in
+    let e = d .before in
+    let s = e .before .before .before .before .before in
+    (part-on 64 (c-yes (c-act (e .silent-at .ensures .0 unlabelled _ _ _)) (d .if1 .taken) (c-walk (a .unmatched-rcurly .ensures .0 (walk-rule 64 (tokens (s .args .t .now))) unlabelled))), omega (arith, e .silent-at .ensures .1 .0, e .silent-at .ensures .1 .1 (d .if1 .taken), a .unmatched-rcurly .ensures .1))
 
 catch-unmatched-pp-directive-requires : tie.Need-catch-unmatched-pp-directive-requires
 catch-unmatched-pp-directive-requires c κs = tt
 
 same-length-4 : tie.Need-same-length-4
 same-length-4 c =
-    let catch-unmatched-pp-directive′ = c .before .before .before .before .before .before .before .before in
-    omega (arith, catch-unmatched-pp-directive′ .catch-unmatched-pp-directive .kept)
+    let a = c .before .before .before .before .before .before .before .before in
+    omega (arith, a .catch-unmatched-pp-directive .kept)
 
 same-length-5 : tie.Need-same-length-5
 same-length-5 c =
-    let catch-unmatched-pp-directive′ = c .before .before .before .before .before .before .before .before in
-    omega (arith, catch-unmatched-pp-directive′ .catch-unmatched-pp-directive .kept)
+    let a = c .before .before .before .before .before .before .before .before in
+    omega (arith, a .catch-unmatched-pp-directive .kept)
 
 same-length-6 : tie.Need-same-length-6
 same-length-6 c =
-    let catch-unmatched-pp-directive′ = c .before .before .before .before .before .before .before .before in
-    omega (arith, catch-unmatched-pp-directive′ .catch-unmatched-pp-directive .kept)
+    let a = c .before .before .before .before .before .before .before .before in
+    omega (arith, a .catch-unmatched-pp-directive .kept)
 
 returns-2 : tie.Need-returns-2
 unfolding sourcefile-part silent
 returns-2 c =
-    let if2′ = c .before in
-    let catch-unmatched-pp-directive′ = if2′ .before .before .before .before .before .before .before in
-    let if1′ = catch-unmatched-pp-directive′ .before .before .before .before in
-    let silent-at′ = if1′ .before in (
-      part-on 64 (c-no (c-act (silent-at′ .silent-at .ensures .0 unlabelled _ _ _)) (if1′ .if1 .left) (c-yes (c-fn 64 (catch-unmatched-pp-directive′ .catch-unmatched-pp-directive .ensures .0)) (if2′ .if2 .taken) c-ret)),
-      omega (arith, silent-at′ .silent-at .ensures .1 .0, catch-unmatched-pp-directive′ .catch-unmatched-pp-directive .ensures .1 .0, catch-unmatched-pp-directive′ .catch-unmatched-pp-directive .ensures .1 .1 (if2′ .if2 .taken)),
-    )
+    let a = c .before in
+    let d = a .before .before .before .before .before .before .before in
+    let e = d .before .before .before .before in
+    let f = e .before in
+    (part-on 64 (c-no (c-act (f .silent-at .ensures .0 unlabelled _ _ _)) (e .if1 .left) (c-yes (c-fn 64 (d .catch-unmatched-pp-directive .ensures .0)) (a .if2 .taken) c-ret)), omega (arith, f .silent-at .ensures .1 .0, d .catch-unmatched-pp-directive .ensures .1 .0, d .catch-unmatched-pp-directive .ensures .1 .1 (a .if2 .taken)))
 
 item-requires : tie.Need-item-requires
 item-requires c κs = tt
 
 same-length-7 : tie.Need-same-length-7
 same-length-7 c =
-    let item′ = c .before .before .before .before .before .before in
-    let catch-unmatched-pp-directive′ = item′ .before .before .before .before .before .before .before .before .before .before .before in
-    omega (arith, catch-unmatched-pp-directive′ .catch-unmatched-pp-directive .kept, item′ .item .kept)
+    let a = c .before .before .before .before .before .before in
+    let d = a .before .before .before .before .before .before .before .before .before .before .before in
+    omega (arith, d .catch-unmatched-pp-directive .kept, a .item .kept)
 
 same-length-8 : tie.Need-same-length-8
 same-length-8 c =
-    let item′ = c .before .before .before .before .before .before in
-    let catch-unmatched-pp-directive′ = item′ .before .before .before .before .before .before .before .before .before .before .before in
-    omega (arith, catch-unmatched-pp-directive′ .catch-unmatched-pp-directive .kept, item′ .item .kept)
+    let a = c .before .before .before .before .before .before in
+    let d = a .before .before .before .before .before .before .before .before .before .before .before in
+    omega (arith, d .catch-unmatched-pp-directive .kept, a .item .kept)
 
 same-length-9 : tie.Need-same-length-9
 same-length-9 c =
-    let item′ = c .before .before .before .before .before .before in
-    let catch-unmatched-pp-directive′ = item′ .before .before .before .before .before .before .before .before .before .before .before in
-    omega (arith, catch-unmatched-pp-directive′ .catch-unmatched-pp-directive .kept, item′ .item .kept)
+    let a = c .before .before .before .before .before .before in
+    let d = a .before .before .before .before .before .before .before .before .before .before .before in
+    omega (arith, d .catch-unmatched-pp-directive .kept, a .item .kept)
 
 returns-3 : tie.Need-returns-3
 unfolding sourcefile-part silent
 returns-3 c =
-    let item′ = c .before .before .before .before .before .before in
-    let if2′ = item′ .before .before .before .before in
-    let catch-unmatched-pp-directive′ = if2′ .before .before .before .before .before .before .before in
-    let if1′ = catch-unmatched-pp-directive′ .before .before .before .before in
-    let silent-at′ = if1′ .before in (
-      item′ .item .ensures .0 ∙ part-on 64 (c-no (c-act (silent-at′ .silent-at .ensures .0 unlabelled _ _ _)) (if1′ .if1 .left) (c-no (c-fn 64 (catch-unmatched-pp-directive′ .catch-unmatched-pp-directive .ensures .0)) (if2′ .if2 .left) (c-call 64 refl))),
-      omega (arith, silent-at′ .silent-at .ensures .1 .0, catch-unmatched-pp-directive′ .catch-unmatched-pp-directive .ensures .1 .0, item′ .item .ensures .1),
-    )
+    let a = c .before .before .before .before .before .before in
+    let d = a .before .before .before .before in
+    let e = d .before .before .before .before .before .before .before in
+    let f = e .before .before .before .before in
+    let g = f .before in
+    (a .item .ensures .0 ∙ part-on 64 (c-no (c-act (g .silent-at .ensures .0 unlabelled _ _ _)) (f .if1 .left) (c-no (c-fn 64 (e .catch-unmatched-pp-directive .ensures .0)) (d .if2 .left) (c-call 64 refl))), omega (arith, g .silent-at .ensures .1 .0, e .catch-unmatched-pp-directive .ensures .1 .0, a .item .ensures .1))
 
 pub sourcefile-part-spec : {M : Type 1} → statement M
 sourcefile-part-spec = tie.close (tie.spec silent-at-requires unmatched-rcurly-requires same-length same-length-2 same-length-3 returns catch-unmatched-pp-directive-requires same-length-4 same-length-5 same-length-6 returns-2 item-requires same-length-7 same-length-8 same-length-9 returns-3)

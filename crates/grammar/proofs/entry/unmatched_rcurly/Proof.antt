@@ -21,39 +21,37 @@ complete-requires c κs = tt
 
 same-length : tie.Need-same-length
 same-length c =
-    let complete′ = c .before .before in
-    let bump′ = complete′ .before .before .before .before in
-    let start′ = bump′ .before .before .before .before in
-    let error′ = start′ .before .before .before .before .before .before .before .before .before in
-    omega (arith, error′ .error .kept, start′ .start .kept, bump′ .bump .kept, complete′ .complete .kept)
+    let a = c .before .before in
+    let d = a .before .before .before .before in
+    let e = d .before .before .before .before in
+    let f = e .before .before .before .before .before .before .before .before .before in
+    omega (arith, f .error .kept, e .start .kept, d .bump .kept, a .complete .kept)
 
 same-length-2 : tie.Need-same-length-2
 same-length-2 c =
-    let complete′ = c .before .before in
-    let bump′ = complete′ .before .before .before .before in
-    let start′ = bump′ .before .before .before .before in
-    let error′ = start′ .before .before .before .before .before .before .before .before .before in
-    omega (arith, error′ .error .kept, start′ .start .kept, bump′ .bump .kept, complete′ .complete .kept)
+    let a = c .before .before in
+    let d = a .before .before .before .before in
+    let e = d .before .before .before .before in
+    let f = e .before .before .before .before .before .before .before .before .before in
+    omega (arith, f .error .kept, e .start .kept, d .bump .kept, a .complete .kept)
 
 same-length-3 : tie.Need-same-length-3
 same-length-3 c =
-    let complete′ = c .before .before in
-    let bump′ = complete′ .before .before .before .before in
-    let start′ = bump′ .before .before .before .before in
-    let error′ = start′ .before .before .before .before .before .before .before .before .before in
-    omega (arith, error′ .error .kept, start′ .start .kept, bump′ .bump .kept, complete′ .complete .kept)
+    let a = c .before .before in
+    let d = a .before .before .before .before in
+    let e = d .before .before .before .before in
+    let f = e .before .before .before .before .before .before .before .before .before in
+    omega (arith, f .error .kept, e .start .kept, d .bump .kept, a .complete .kept)
 
 returns : tie.Need-returns
 returns c =
-    let complete′ = c .before .before in
-    let bump′ = complete′ .before .before .before .before in
-    let start′ = bump′ .before .before .before .before in
-    let new′ = start′ .before .before in
-    let error′ = new′ .before .before .before .before .before .before .before in
-    let s′ = error′ .before .before .before .before .before .before .before .before in (
-      λ ask b. (c-seq (c-walk (error′ .error .ensures .0 ask b)) (c-mark (new′ .new .ensures) (start′ .start .ensures .0 _ _) (c-seq (c-act (bump′ .bump .ensures .0 b _ _)) c-ret) (completed 9 (complete′ .complete .ensures .0 _ _)))) .is,
-      omega (arith, error′ .error .ensures .1, start′ .start .ensures .1 (s′ .args .t .now), bump′ .bump .ensures .1, complete′ .complete .ensures .1 (s′ .args .t .now)),
-    )
+    let a = c .before .before in
+    let d = a .before .before .before .before in
+    let e = d .before .before .before .before in
+    let f = e .before .before in
+    let g = f .before .before .before .before .before .before .before in
+    let s = g .before .before .before .before .before .before .before .before in
+    (λ ask b. c-seq (c-walk (g .error .ensures .0 ask b)) (c-mark (f .new .ensures) (e .start .ensures .0 _ _) (c-seq (c-act (d .bump .ensures .0 b _ _)) c-ret) (completed 9 (a .complete .ensures .0 _ _))) .is, omega (arith, g .error .ensures .1, e .start .ensures .1 (s .args .t .now), d .bump .ensures .1, a .complete .ensures .1 (s .args .t .now)))
 
 pub unmatched-rcurly-spec : {M : Type 1} → statement M
 unmatched-rcurly-spec = tie.close (tie.spec error-requires new-requires start-requires bump-requires complete-requires same-length same-length-2 same-length-3 returns)

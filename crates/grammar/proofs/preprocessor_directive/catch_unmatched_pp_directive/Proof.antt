@@ -1,14 +1,14 @@
--- `catch_unmatched_pp_directive`: an `#endif` or a branch without its conditional.
+-- `catch_unmatched_pp_directive`: an `#endif`, or a branch, without its conditional.
 use mathlib.Core.Path.{sym, _∙_}
 use native.Mathlib.Omega.{arith}
-use borrow.Author.Needs.{needs}
 use Rattle.definitions.specs.Token.{tokens}
 use Rattle.definitions.specs.Check.{silent}
 use Rattle.definitions.specs.Grammar.{catch-unmatched-pp-directive}
 use Rattle.machine.specs.Walk.{walk-rule, unlabelled}
 use Rattle.machine.proofs.Way.{c-walk, c-act, c-ret, c-seq, c-yes, c-no, c-mark, completed, way}
 use Rattle.parts.proofs.Steps.{true-false, c-ret-no}
-use Rattle.grammar.proofs.Ways.{c-assoc, c-part-on}
+use Rattle.grammar.proofs.Ways.{c-part-on, c-assoc}
+use borrow.Author.Needs.{needs}
 use Rattle.grammar.proofs.preprocessor_directive.catch_unmatched_pp_directive.Statement.{statement}
 use Rattle.grammar.proofs.preprocessor_directive.catch_unmatched_pp_directive.Tie as tie
 
@@ -20,29 +20,27 @@ error-requires c κs = tt
 
 same-length : tie.Need-same-length
 same-length c =
-    let error′ = c .before .before .before .before .before .before in
-    omega (arith, error′ .error .kept)
+    let a = c .before .before .before .before .before .before in
+    omega (arith, a .error .kept)
 
 same-length-2 : tie.Need-same-length-2
 same-length-2 c =
-    let error′ = c .before .before .before .before .before .before in
-    omega (arith, error′ .error .kept)
+    let a = c .before .before .before .before .before .before in
+    omega (arith, a .error .kept)
 
 same-length-3 : tie.Need-same-length-3
 same-length-3 c =
-    let error′ = c .before .before .before .before .before .before in
-    omega (arith, error′ .error .kept)
+    let a = c .before .before .before .before .before .before in
+    omega (arith, a .error .kept)
 
 returns : tie.Need-returns
 unfolding catch-unmatched-pp-directive silent
 returns c =
-    let error′ = c .before .before .before .before .before .before in
-    let if1′ = error′ .before .before .before .before in
-    let silent-at′ = if1′ .before in
-    let s′ = silent-at′ .before .before .before .before .before in (
-      way (s′ .args .room) (c-yes (c-act (silent-at′ .silent-at .ensures .0 unlabelled _ _ _)) (if1′ .if1 .taken) (c-seq (c-walk (error′ .error .ensures .0 (walk-rule (s′ .args .room) (tokens (s′ .args .t .now))) unlabelled)) c-ret)),
-      (omega (arith, silent-at′ .silent-at .ensures .1 .0, silent-at′ .silent-at .ensures .1 .1 (if1′ .if1 .taken), error′ .error .ensures .1), λ e. omega (arith, silent-at′ .silent-at .ensures .1 .0, silent-at′ .silent-at .ensures .1 .1 (if1′ .if1 .taken), error′ .error .ensures .1)),
-    )
+    let a = c .before .before .before .before .before .before in
+    let d = a .before .before .before .before in
+    let e = d .before in
+    let s = e .before .before .before .before .before in
+    (way (s .args .room) (c-yes (c-act (e .silent-at .ensures .0 unlabelled _ _ _)) (d .if1 .taken) (c-seq (c-walk (a .error .ensures .0 (walk-rule (s .args .room) (tokens (s .args .t .now))) unlabelled)) c-ret)), (omega (arith, e .silent-at .ensures .1 .0, e .silent-at .ensures .1 .1 (d .if1 .taken), a .error .ensures .1), λ h. omega (arith, e .silent-at .ensures .1 .0, e .silent-at .ensures .1 .1 (d .if1 .taken), a .error .ensures .1)))
 
 slice-aggregate-silent-at-set : tie.Need-slice-aggregate-silent-at-set
 slice-aggregate-silent-at-set c = search needs
@@ -70,60 +68,56 @@ complete-requires c κs = tt
 
 same-length-4 : tie.Need-same-length-4
 same-length-4 c =
-    let complete′ = c .before .before in
-    let cond-branches-and-end′ = complete′ .before .before .before .before .before .before .before .before in
-    let bump′ = cond-branches-and-end′ .before .before .before .before .before .before in
-    let start′ = bump′ .before .before .before .before in
-    let error2′ = start′ .before .before .before .before .before .before .before .before .before in
-    omega (arith, error2′ .error2 .kept, start′ .start .kept, bump′ .bump .kept, cond-branches-and-end′ .cond-branches-and-end .kept, complete′ .complete .kept)
+    let a = c .before .before in
+    let d = a .before .before .before .before .before .before .before .before in
+    let e = d .before .before .before .before .before .before in
+    let f = e .before .before .before .before in
+    let g = f .before .before .before .before .before .before .before .before .before in
+    omega (arith, g .error2 .kept, f .start .kept, e .bump .kept, d .cond-branches-and-end .kept, a .complete .kept)
 
 same-length-5 : tie.Need-same-length-5
 same-length-5 c =
-    let complete′ = c .before .before in
-    let cond-branches-and-end′ = complete′ .before .before .before .before .before .before .before .before in
-    let bump′ = cond-branches-and-end′ .before .before .before .before .before .before in
-    let start′ = bump′ .before .before .before .before in
-    let error2′ = start′ .before .before .before .before .before .before .before .before .before in
-    omega (arith, error2′ .error2 .kept, start′ .start .kept, bump′ .bump .kept, cond-branches-and-end′ .cond-branches-and-end .kept, complete′ .complete .kept)
+    let a = c .before .before in
+    let d = a .before .before .before .before .before .before .before .before in
+    let e = d .before .before .before .before .before .before in
+    let f = e .before .before .before .before in
+    let g = f .before .before .before .before .before .before .before .before .before in
+    omega (arith, g .error2 .kept, f .start .kept, e .bump .kept, d .cond-branches-and-end .kept, a .complete .kept)
 
 same-length-6 : tie.Need-same-length-6
 same-length-6 c =
-    let complete′ = c .before .before in
-    let cond-branches-and-end′ = complete′ .before .before .before .before .before .before .before .before in
-    let bump′ = cond-branches-and-end′ .before .before .before .before .before .before in
-    let start′ = bump′ .before .before .before .before in
-    let error2′ = start′ .before .before .before .before .before .before .before .before .before in
-    omega (arith, error2′ .error2 .kept, start′ .start .kept, bump′ .bump .kept, cond-branches-and-end′ .cond-branches-and-end .kept, complete′ .complete .kept)
+    let a = c .before .before in
+    let d = a .before .before .before .before .before .before .before .before in
+    let e = d .before .before .before .before .before .before in
+    let f = e .before .before .before .before in
+    let g = f .before .before .before .before .before .before .before .before .before in
+    omega (arith, g .error2 .kept, f .start .kept, e .bump .kept, d .cond-branches-and-end .kept, a .complete .kept)
 
 returns-2 : tie.Need-returns-2
 unfolding catch-unmatched-pp-directive silent
 returns-2 c =
-    let complete′ = c .before .before in
-    let cond-branches-and-end′ = complete′ .before .before .before .before .before .before .before .before in
-    let bump′ = cond-branches-and-end′ .before .before .before .before .before .before in
-    let start′ = bump′ .before .before .before .before in
-    let new′ = start′ .before .before in
-    let error2′ = new′ .before .before .before .before .before .before .before in
-    let if2′ = error2′ .before .before .before .before in
-    let silent-at-set′ = if2′ .before in
-    let if1′ = silent-at-set′ .before .before in
-    let silent-at′ = if1′ .before in
-    let s′ = silent-at′ .before .before .before .before .before in (
-      way (s′ .args .room) (c-no (c-act (silent-at′ .silent-at .ensures .0 unlabelled _ _ _)) (if1′ .if1 .left) (c-yes (c-act (silent-at-set′ .silent-at-set .ensures .0 unlabelled _ _ _)) (if2′ .if2 .taken) (c-seq (c-walk (error2′ .error2 .ensures .0 (walk-rule (s′ .args .room) (tokens (s′ .args .t .now))) unlabelled)) (c-seq (c-mark (new′ .new .ensures) (start′ .start .ensures .0 _ _) (c-assoc (c-seq (c-act (bump′ .bump .ensures .0 unlabelled _ _)) (c-part-on (s′ .args .room) (cond-branches-and-end′ .cond-branches-and-end .ensures .0) c-ret))) (completed 9 (complete′ .complete .ensures .0 _ _))) c-ret)))),
-      (omega (arith, silent-at′ .silent-at .ensures .1 .0, silent-at-set′ .silent-at-set .ensures .1 .0, silent-at-set′ .silent-at-set .ensures .1 .1 (if2′ .if2 .taken), error2′ .error2 .ensures .1, start′ .start .ensures .1 (s′ .args .t .now), bump′ .bump .ensures .1, cond-branches-and-end′ .cond-branches-and-end .ensures .1, complete′ .complete .ensures .1 (s′ .args .t .now)), λ e. omega (arith, silent-at′ .silent-at .ensures .1 .0, silent-at-set′ .silent-at-set .ensures .1 .0, silent-at-set′ .silent-at-set .ensures .1 .1 (if2′ .if2 .taken), error2′ .error2 .ensures .1, start′ .start .ensures .1 (s′ .args .t .now), bump′ .bump .ensures .1, cond-branches-and-end′ .cond-branches-and-end .ensures .1, complete′ .complete .ensures .1 (s′ .args .t .now))),
-    )
+    let a = c .before .before in
+    let d = a .before .before .before .before .before .before .before .before in
+    let e = d .before .before .before .before .before .before in
+    let f = e .before .before .before .before in
+    let g = f .before .before in
+    let i = g .before .before .before .before .before .before .before in
+    let j = i .before .before .before .before in
+    let l = j .before in
+    let m = l .before .before in
+    let n = m .before in
+    let s = n .before .before .before .before .before in
+    (way (s .args .room) (c-no (c-act (n .silent-at .ensures .0 unlabelled _ _ _)) (m .if1 .left) (c-yes (c-act (l .silent-at-set .ensures .0 unlabelled _ _ _)) (j .if2 .taken) (c-seq (c-walk (i .error2 .ensures .0 (walk-rule (s .args .room) (tokens (s .args .t .now))) unlabelled)) (c-seq (c-mark (g .new .ensures) (f .start .ensures .0 _ _) (c-assoc (c-seq (c-act (e .bump .ensures .0 unlabelled _ _)) (c-part-on (s .args .room) (d .cond-branches-and-end .ensures .0) c-ret))) (completed 9 (a .complete .ensures .0 _ _))) c-ret)))), (omega (arith, n .silent-at .ensures .1 .0, l .silent-at-set .ensures .1 .0, l .silent-at-set .ensures .1 .1 (j .if2 .taken), i .error2 .ensures .1, f .start .ensures .1 (s .args .t .now), e .bump .ensures .1, d .cond-branches-and-end .ensures .1, a .complete .ensures .1 (s .args .t .now)), λ h. omega (arith, n .silent-at .ensures .1 .0, l .silent-at-set .ensures .1 .0, l .silent-at-set .ensures .1 .1 (j .if2 .taken), i .error2 .ensures .1, f .start .ensures .1 (s .args .t .now), e .bump .ensures .1, d .cond-branches-and-end .ensures .1, a .complete .ensures .1 (s .args .t .now))))
 
 returns-3 : tie.Need-returns-3
 unfolding catch-unmatched-pp-directive silent
 returns-3 c =
-    let if2′ = c in
-    let silent-at-set′ = if2′ .before in
-    let if1′ = silent-at-set′ .before .before in
-    let silent-at′ = if1′ .before in
-    let s′ = silent-at′ .before .before .before .before .before in (
-      way (s′ .args .room) (c-no (c-act (silent-at′ .silent-at .ensures .0 unlabelled _ _ _)) (if1′ .if1 .left) (c-no (c-act (silent-at-set′ .silent-at-set .ensures .0 unlabelled _ _ _)) (if2′ .if2 .left) (c-ret-no (if2′ .if2 .left)))),
-      (omega (arith, silent-at′ .silent-at .ensures .1 .0, silent-at-set′ .silent-at-set .ensures .1 .0), λ e. true-false (sym e ∙ if2′ .if2 .left)),
-    )
+    let a = c in
+    let d = a .before in
+    let e = d .before .before in
+    let f = e .before in
+    let s = f .before .before .before .before .before in
+    (way (s .args .room) (c-no (c-act (f .silent-at .ensures .0 unlabelled _ _ _)) (e .if1 .left) (c-no (c-act (d .silent-at-set .ensures .0 unlabelled _ _ _)) (a .if2 .left) (c-ret-no (a .if2 .left)))), (omega (arith, f .silent-at .ensures .1 .0, d .silent-at-set .ensures .1 .0), λ h. true-false (sym h ∙ a .if2 .left)))
 
 pub catch-unmatched-pp-directive-spec : {M : Type 1} → statement M
 catch-unmatched-pp-directive-spec = tie.close (tie.spec silent-at-requires error-requires same-length same-length-2 same-length-3 returns slice-aggregate-silent-at-set silent-at-set-requires error-requires-2 new-requires start-requires bump-requires cond-branches-and-end-requires complete-requires same-length-4 same-length-5 same-length-6 returns-2 returns-3)

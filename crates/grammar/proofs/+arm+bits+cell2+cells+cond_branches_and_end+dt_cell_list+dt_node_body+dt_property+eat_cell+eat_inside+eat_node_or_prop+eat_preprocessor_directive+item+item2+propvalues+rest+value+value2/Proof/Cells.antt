@@ -14,8 +14,8 @@ use Rattle.machine.proofs.Way.{c-walk, c-ret, c-seq, c-yes, c-no, c-call}
 use Rattle.parts.proofs.Steps.{ahead-falls}
 use Rattle.grammar.proofs.Ways.{again-part, last-yes, last-no, as-yes}
 use Rattle.grammar.proofs.cells.Reads as reads
-use Rattle.grammar.proofs.+bad_node+bad_prop+bits_value+branch+cell_rest+cells+cond_branches_and_end+dt_cell_list+dt_node_body+dt_property+eat_cell+eat_inside+eat_node_or_prop+eat_preprocessor_directive+item+item_rest+items+no_property+propvalue+propvalues+value_rest.Lts-cells as lts
-use Rattle.grammar.proofs.+bad_node+bad_prop+bits_value+branch+cell_rest+cells+cond_branches_and_end+dt_cell_list+dt_node_body+dt_property+eat_cell+eat_inside+eat_node_or_prop+eat_preprocessor_directive+item+item_rest+items+no_property+propvalue+propvalues+value_rest.Proof.Measures.{cells-at, cells-claims}
+use Rattle.grammar.proofs.+arm+bits+cell2+cells+cond_branches_and_end+dt_cell_list+dt_node_body+dt_property+eat_cell+eat_inside+eat_node_or_prop+eat_preprocessor_directive+item+item2+propvalues+rest+value+value2.Lts-cells as lts
+use Rattle.grammar.proofs.+arm+bits+cell2+cells+cond_branches_and_end+dt_cell_list+dt_node_body+dt_property+eat_cell+eat_inside+eat_node_or_prop+eat_preprocessor_directive+item+item2+propvalues+rest+value+value2.Proof.Measures.{cells-at, cells-claims}
 
 -- the loop from here is the loop from the start
 abbrev pub Inv-loop : lts.InvT-loop

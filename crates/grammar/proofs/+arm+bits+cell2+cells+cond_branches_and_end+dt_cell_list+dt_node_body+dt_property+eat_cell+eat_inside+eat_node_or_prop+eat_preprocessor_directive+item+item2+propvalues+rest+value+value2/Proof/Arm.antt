@@ -1,4 +1,4 @@
--- `branch` is the walk of its program, step by step.
+-- `arm` is the walk of its program, step by step.
 use Prim.Native.Nat.{ℕ}
 use Prim.Native.Nat.{_≤_}
 use mathlib.Core.Path.{_≡_, refl, sym, _∙_}
@@ -16,9 +16,9 @@ use Rattle.grammar.specs.Parts.{inside-of}
 use Rattle.machine.proofs.Way.{c-walk, c-act, c-ret, c-yes, c-no, c-mark, completed, c-fn, way}
 use Rattle.parts.proofs.Steps.{true-false, ahead-falls}
 use Rattle.grammar.proofs.Ways.{c-part, again-part, last-yes, last-no}
-use Rattle.grammar.proofs.branch.Reads as reads
-use Rattle.grammar.proofs.+bad_node+bad_prop+bits_value+branch+cell_rest+cells+cond_branches_and_end+dt_cell_list+dt_node_body+dt_property+eat_cell+eat_inside+eat_node_or_prop+eat_preprocessor_directive+item+item_rest+items+no_property+propvalue+propvalues+value_rest.Lts-branch as lts
-use Rattle.grammar.proofs.+bad_node+bad_prop+bits_value+branch+cell_rest+cells+cond_branches_and_end+dt_cell_list+dt_node_body+dt_property+eat_cell+eat_inside+eat_node_or_prop+eat_preprocessor_directive+item+item_rest+items+no_property+propvalue+propvalues+value_rest.Proof.Measures.{branch-at, branch-claims}
+use Rattle.grammar.proofs.arm.Reads as reads
+use Rattle.grammar.proofs.+arm+bits+cell2+cells+cond_branches_and_end+dt_cell_list+dt_node_body+dt_property+eat_cell+eat_inside+eat_node_or_prop+eat_preprocessor_directive+item+item2+propvalues+rest+value+value2.Lts-arm as lts
+use Rattle.grammar.proofs.+arm+bits+cell2+cells+cond_branches_and_end+dt_cell_list+dt_node_body+dt_property+eat_cell+eat_inside+eat_node_or_prop+eat_preprocessor_directive+item+item2+propvalues+rest+value+value2.Proof.Measures.{arm-at, arm-claims}
 
 -- the loop from here is the loop from the start
 abbrev pub Inv-loop : lts.InvT-loop
@@ -31,43 +31,43 @@ Inv-loop t ev₀ rep₀ pool₀ room inside m q₀ set ev rep pool q =
 abbrev pub μ-loop : lts.MeasureT-loop
 μ-loop t ev₀ rep₀ pool₀ room inside m q₀ set ev rep pool q = left t (q .s)
 
-pub new-requires : (t : ℕ) → lts.Need-new-requires (branch-claims t) (branch-at t) reads.Post Inv-loop μ-loop
+pub new-requires : (t : ℕ) → lts.Need-new-requires (arm-claims t) (arm-at t) reads.Post Inv-loop μ-loop
 new-requires t c κs = tt
 
-pub start-requires : (t : ℕ) → lts.Need-start-requires (branch-claims t) (branch-at t) reads.Post Inv-loop μ-loop
+pub start-requires : (t : ℕ) → lts.Need-start-requires (arm-claims t) (arm-at t) reads.Post Inv-loop μ-loop
 start-requires t c κs = tt
 
-pub loop-holds : (t : ℕ) → lts.Need-loop-holds (branch-claims t) (branch-at t) reads.Post Inv-loop μ-loop
+pub loop-holds : (t : ℕ) → lts.Need-loop-holds (arm-claims t) (arm-at t) reads.Post Inv-loop μ-loop
 loop-holds t c = (omega arith, (refl, (refl, (refl, refl))))
 
-pub at-requires : (t : ℕ) → lts.Need-at-requires (branch-claims t) (branch-at t) reads.Post Inv-loop μ-loop
+pub at-requires : (t : ℕ) → lts.Need-at-requires (arm-claims t) (arm-at t) reads.Post Inv-loop μ-loop
 at-requires t c κs = tt
 
-pub complete-requires : (t : ℕ) → lts.Need-complete-requires (branch-claims t) (branch-at t) reads.Post Inv-loop μ-loop
+pub complete-requires : (t : ℕ) → lts.Need-complete-requires (arm-claims t) (arm-at t) reads.Post Inv-loop μ-loop
 complete-requires t c κs = tt
 
-pub same-length : (t : ℕ) → lts.Need-same-length (branch-claims t) (branch-at t) reads.Post Inv-loop μ-loop
+pub same-length : (t : ℕ) → lts.Need-same-length (arm-claims t) (arm-at t) reads.Post Inv-loop μ-loop
 same-length t c =
     let complete′ = c .before .before in
     let loop′ = complete′ .before .before .before .before in
     let start′ = loop′ .before .before .before in
     omega (arith, start′ .start .kept, complete′ .complete .kept, loop′ .loop .inv .1)
 
-pub same-length-2 : (t : ℕ) → lts.Need-same-length-2 (branch-claims t) (branch-at t) reads.Post Inv-loop μ-loop
+pub same-length-2 : (t : ℕ) → lts.Need-same-length-2 (arm-claims t) (arm-at t) reads.Post Inv-loop μ-loop
 same-length-2 t c =
     let complete′ = c .before .before in
     let loop′ = complete′ .before .before .before .before in
     let start′ = loop′ .before .before .before in
     omega (arith, start′ .start .kept, complete′ .complete .kept, loop′ .loop .inv .1)
 
-pub same-length-3 : (t : ℕ) → lts.Need-same-length-3 (branch-claims t) (branch-at t) reads.Post Inv-loop μ-loop
+pub same-length-3 : (t : ℕ) → lts.Need-same-length-3 (arm-claims t) (arm-at t) reads.Post Inv-loop μ-loop
 same-length-3 t c =
     let complete′ = c .before .before in
     let loop′ = complete′ .before .before .before .before in
     let start′ = loop′ .before .before .before in
     omega (arith, start′ .start .kept, complete′ .complete .kept, loop′ .loop .inv .1)
 
-pub returns : (t : ℕ) → lts.Need-returns (branch-claims t) (branch-at t) reads.Post Inv-loop μ-loop
+pub returns : (t : ℕ) → lts.Need-returns (arm-claims t) (arm-at t) reads.Post Inv-loop μ-loop
 unfolding branch branch-turn silent
 returns t c =
     let complete′ = c .before .before in
@@ -81,34 +81,34 @@ returns t c =
       (omega (arith, start′ .start .ensures .1 (s′ .args .t .now), loop′ .loop .inv .0, at′ .at .ensures .1 .0, at′ .at .ensures .1 .1 (if1′ .if1 .taken), complete′ .complete .ensures .1 (s′ .args .t .now)), λ e. true-false (sym e)),
     )
 
-pub at-end-requires : (t : ℕ) → lts.Need-at-end-requires (branch-claims t) (branch-at t) reads.Post Inv-loop μ-loop
+pub at-end-requires : (t : ℕ) → lts.Need-at-end-requires (arm-claims t) (arm-at t) reads.Post Inv-loop μ-loop
 at-end-requires t c κs = tt
 
-pub complete-requires-2 : (t : ℕ) → lts.Need-complete-requires-2 (branch-claims t) (branch-at t) reads.Post Inv-loop μ-loop
+pub complete-requires-2 : (t : ℕ) → lts.Need-complete-requires-2 (arm-claims t) (arm-at t) reads.Post Inv-loop μ-loop
 complete-requires-2 t c κs = tt
 
-pub same-length-4 : (t : ℕ) → lts.Need-same-length-4 (branch-claims t) (branch-at t) reads.Post Inv-loop μ-loop
+pub same-length-4 : (t : ℕ) → lts.Need-same-length-4 (arm-claims t) (arm-at t) reads.Post Inv-loop μ-loop
 same-length-4 t c =
     let complete2′ = c .before .before in
     let loop′ = complete2′ .before .before .before .before .before .before in
     let start′ = loop′ .before .before .before in
     omega (arith, start′ .start .kept, complete2′ .complete2 .kept, loop′ .loop .inv .1)
 
-pub same-length-5 : (t : ℕ) → lts.Need-same-length-5 (branch-claims t) (branch-at t) reads.Post Inv-loop μ-loop
+pub same-length-5 : (t : ℕ) → lts.Need-same-length-5 (arm-claims t) (arm-at t) reads.Post Inv-loop μ-loop
 same-length-5 t c =
     let complete2′ = c .before .before in
     let loop′ = complete2′ .before .before .before .before .before .before in
     let start′ = loop′ .before .before .before in
     omega (arith, start′ .start .kept, complete2′ .complete2 .kept, loop′ .loop .inv .1)
 
-pub same-length-6 : (t : ℕ) → lts.Need-same-length-6 (branch-claims t) (branch-at t) reads.Post Inv-loop μ-loop
+pub same-length-6 : (t : ℕ) → lts.Need-same-length-6 (arm-claims t) (arm-at t) reads.Post Inv-loop μ-loop
 same-length-6 t c =
     let complete2′ = c .before .before in
     let loop′ = complete2′ .before .before .before .before .before .before in
     let start′ = loop′ .before .before .before in
     omega (arith, start′ .start .kept, complete2′ .complete2 .kept, loop′ .loop .inv .1)
 
-pub returns-2 : (t : ℕ) → lts.Need-returns-2 (branch-claims t) (branch-at t) reads.Post Inv-loop μ-loop
+pub returns-2 : (t : ℕ) → lts.Need-returns-2 (arm-claims t) (arm-at t) reads.Post Inv-loop μ-loop
 unfolding branch branch-turn silent
 returns-2 t c =
     let complete2′ = c .before .before in
@@ -124,37 +124,37 @@ returns-2 t c =
       (omega (arith, start′ .start .ensures .1 (s′ .args .t .now), loop′ .loop .inv .0, at′ .at .ensures .1 .0, at-end′ .at-end .ensures .1 .0, at-end′ .at-end .ensures .1 .1 .1 (if2′ .if2 .taken), complete2′ .complete2 .ensures .1 (s′ .args .t .now)), λ e. true-false (sym e)),
     )
 
-pub slice-aggregate-silent-at-set : (t : ℕ) → lts.Need-slice-aggregate-silent-at-set (branch-claims t) (branch-at t) reads.Post Inv-loop μ-loop
+pub slice-aggregate-silent-at-set : (t : ℕ) → lts.Need-slice-aggregate-silent-at-set (arm-claims t) (arm-at t) reads.Post Inv-loop μ-loop
 slice-aggregate-silent-at-set t c = search needs
 
-pub silent-at-set-requires : (t : ℕ) → lts.Need-silent-at-set-requires (branch-claims t) (branch-at t) reads.Post Inv-loop μ-loop
+pub silent-at-set-requires : (t : ℕ) → lts.Need-silent-at-set-requires (arm-claims t) (arm-at t) reads.Post Inv-loop μ-loop
 silent-at-set-requires t c κs = tt
 
-pub complete-requires-3 : (t : ℕ) → lts.Need-complete-requires-3 (branch-claims t) (branch-at t) reads.Post Inv-loop μ-loop
+pub complete-requires-3 : (t : ℕ) → lts.Need-complete-requires-3 (arm-claims t) (arm-at t) reads.Post Inv-loop μ-loop
 complete-requires-3 t c κs = tt
 
-pub same-length-7 : (t : ℕ) → lts.Need-same-length-7 (branch-claims t) (branch-at t) reads.Post Inv-loop μ-loop
+pub same-length-7 : (t : ℕ) → lts.Need-same-length-7 (arm-claims t) (arm-at t) reads.Post Inv-loop μ-loop
 same-length-7 t c =
     let complete3′ = c .before .before in
     let loop′ = complete3′ .before .before .before .before .before .before .before .before .before in
     let start′ = loop′ .before .before .before in
     omega (arith, start′ .start .kept, complete3′ .complete3 .kept, loop′ .loop .inv .1)
 
-pub same-length-8 : (t : ℕ) → lts.Need-same-length-8 (branch-claims t) (branch-at t) reads.Post Inv-loop μ-loop
+pub same-length-8 : (t : ℕ) → lts.Need-same-length-8 (arm-claims t) (arm-at t) reads.Post Inv-loop μ-loop
 same-length-8 t c =
     let complete3′ = c .before .before in
     let loop′ = complete3′ .before .before .before .before .before .before .before .before .before in
     let start′ = loop′ .before .before .before in
     omega (arith, start′ .start .kept, complete3′ .complete3 .kept, loop′ .loop .inv .1)
 
-pub same-length-9 : (t : ℕ) → lts.Need-same-length-9 (branch-claims t) (branch-at t) reads.Post Inv-loop μ-loop
+pub same-length-9 : (t : ℕ) → lts.Need-same-length-9 (arm-claims t) (arm-at t) reads.Post Inv-loop μ-loop
 same-length-9 t c =
     let complete3′ = c .before .before in
     let loop′ = complete3′ .before .before .before .before .before .before .before .before .before in
     let start′ = loop′ .before .before .before in
     omega (arith, start′ .start .kept, complete3′ .complete3 .kept, loop′ .loop .inv .1)
 
-pub returns-3 : (t : ℕ) → lts.Need-returns-3 (branch-claims t) (branch-at t) reads.Post Inv-loop μ-loop
+pub returns-3 : (t : ℕ) → lts.Need-returns-3 (arm-claims t) (arm-at t) reads.Post Inv-loop μ-loop
 unfolding branch branch-turn silent
 returns-3 t c =
     let complete3′ = c .before .before in
@@ -172,7 +172,7 @@ returns-3 t c =
       (omega (arith, start′ .start .ensures .1 (s′ .args .t .now), loop′ .loop .inv .0, at′ .at .ensures .1 .0, at-end′ .at-end .ensures .1 .0, at-end′ .at-end .ensures .1 .1 .0 (if2′ .if2 .left), silent-at-set′ .silent-at-set .ensures .1 .0, silent-at-set′ .silent-at-set .ensures .1 .1 (if3′ .if3 .taken), complete3′ .complete3 .ensures .1 (s′ .args .t .now)), λ e. omega (arith, start′ .start .ensures .1 (s′ .args .t .now), loop′ .loop .inv .0, at′ .at .ensures .1 .0, at-end′ .at-end .ensures .1 .0, at-end′ .at-end .ensures .1 .1 .0 (if2′ .if2 .left), silent-at-set′ .silent-at-set .ensures .1 .0, silent-at-set′ .silent-at-set .ensures .1 .1 (if3′ .if3 .taken), complete3′ .complete3 .ensures .1 (s′ .args .t .now))),
     )
 
-pub eat-inside-requires : (t : ℕ) → lts.Need-eat-inside-requires (branch-claims t) (branch-at t) reads.Post Inv-loop μ-loop
+pub eat-inside-requires : (t : ℕ) → lts.Need-eat-inside-requires (arm-claims t) (arm-at t) reads.Post Inv-loop μ-loop
 eat-inside-requires t c κs =
     let silent-at-set′ = c .before .before .before .before in
     let if2′ = silent-at-set′ .before .before in
@@ -183,7 +183,7 @@ eat-inside-requires t c κs =
     let s′ = start′ .before .before .before .before .before .before .before in
     (omega (arith, start′ .start .ensures .1 (s′ .args .t .now), loop′ .loop .inv .0, at′ .at .ensures .1 .0, at-end′ .at-end .ensures .1 .0, at-end′ .at-end .ensures .1 .1 .0 (if2′ .if2 .left), silent-at-set′ .silent-at-set .ensures .1 .0, s′ .pre .0), tt)
 
-pub loop-less : (t : ℕ) → lts.Need-loop-less (branch-claims t) (branch-at t) reads.Post Inv-loop μ-loop
+pub loop-less : (t : ℕ) → lts.Need-loop-less (arm-claims t) (arm-at t) reads.Post Inv-loop μ-loop
 loop-less t c =
     let if4′ = c .before in
     let eat-inside′ = if4′ .before .before .before .before .before .before .before in
@@ -196,7 +196,7 @@ loop-less t c =
     let s′ = start′ .before .before .before .before .before .before .before in
     omega (arith, start′ .start .ensures .1 (s′ .args .t .now), loop′ .loop .inv .0, at′ .at .ensures .1 .0, at-end′ .at-end .ensures .1 .0, at-end′ .at-end .ensures .1 .1 .0 (if2′ .if2 .left), silent-at-set′ .silent-at-set .ensures .1 .0, eat-inside′ .eat-inside .ensures .1 .0, eat-inside′ .eat-inside .ensures .1 .1 (if4′ .if4 .taken))
 
-pub loop-again : (t : ℕ) → lts.Need-loop-again (branch-claims t) (branch-at t) reads.Post Inv-loop μ-loop
+pub loop-again : (t : ℕ) → lts.Need-loop-again (arm-claims t) (arm-at t) reads.Post Inv-loop μ-loop
 unfolding branch branch-turn silent
 loop-again t c =
     let if4′ = c .before in
@@ -223,10 +223,10 @@ loop-again t c =
       ),
     )
 
-pub complete-requires-4 : (t : ℕ) → lts.Need-complete-requires-4 (branch-claims t) (branch-at t) reads.Post Inv-loop μ-loop
+pub complete-requires-4 : (t : ℕ) → lts.Need-complete-requires-4 (arm-claims t) (arm-at t) reads.Post Inv-loop μ-loop
 complete-requires-4 t c κs = tt
 
-pub same-length-10 : (t : ℕ) → lts.Need-same-length-10 (branch-claims t) (branch-at t) reads.Post Inv-loop μ-loop
+pub same-length-10 : (t : ℕ) → lts.Need-same-length-10 (arm-claims t) (arm-at t) reads.Post Inv-loop μ-loop
 same-length-10 t c =
     let complete4′ = c .before .before in
     let eat-inside′ = complete4′ .before .before .before .before .before .before .before .before .before in
@@ -234,7 +234,7 @@ same-length-10 t c =
     let start′ = loop′ .before .before .before in
     omega (arith, start′ .start .kept, eat-inside′ .eat-inside .kept, complete4′ .complete4 .kept, loop′ .loop .inv .1)
 
-pub same-length-11 : (t : ℕ) → lts.Need-same-length-11 (branch-claims t) (branch-at t) reads.Post Inv-loop μ-loop
+pub same-length-11 : (t : ℕ) → lts.Need-same-length-11 (arm-claims t) (arm-at t) reads.Post Inv-loop μ-loop
 same-length-11 t c =
     let complete4′ = c .before .before in
     let eat-inside′ = complete4′ .before .before .before .before .before .before .before .before .before in
@@ -242,7 +242,7 @@ same-length-11 t c =
     let start′ = loop′ .before .before .before in
     omega (arith, start′ .start .kept, eat-inside′ .eat-inside .kept, complete4′ .complete4 .kept, loop′ .loop .inv .1)
 
-pub same-length-12 : (t : ℕ) → lts.Need-same-length-12 (branch-claims t) (branch-at t) reads.Post Inv-loop μ-loop
+pub same-length-12 : (t : ℕ) → lts.Need-same-length-12 (arm-claims t) (arm-at t) reads.Post Inv-loop μ-loop
 same-length-12 t c =
     let complete4′ = c .before .before in
     let eat-inside′ = complete4′ .before .before .before .before .before .before .before .before .before in
@@ -250,7 +250,7 @@ same-length-12 t c =
     let start′ = loop′ .before .before .before in
     omega (arith, start′ .start .kept, eat-inside′ .eat-inside .kept, complete4′ .complete4 .kept, loop′ .loop .inv .1)
 
-pub returns-4 : (t : ℕ) → lts.Need-returns-4 (branch-claims t) (branch-at t) reads.Post Inv-loop μ-loop
+pub returns-4 : (t : ℕ) → lts.Need-returns-4 (arm-claims t) (arm-at t) reads.Post Inv-loop μ-loop
 unfolding branch branch-turn silent
 returns-4 t c =
     let complete4′ = c .before .before in

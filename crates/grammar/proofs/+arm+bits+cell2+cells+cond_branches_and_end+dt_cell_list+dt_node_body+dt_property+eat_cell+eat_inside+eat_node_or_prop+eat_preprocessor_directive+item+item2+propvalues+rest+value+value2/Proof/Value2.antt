@@ -1,4 +1,4 @@
--- `value_rest` is the walk of its program, step by step.
+-- `value2` is the walk of its program, step by step.
 use Prim.Native.Nat.{ℕ}
 use mathlib.Core.Path.{refl, _∙_}
 use mathlib.Core.Bool.{true}
@@ -9,32 +9,32 @@ use Rattle.machine.specs.Walk.{walk-rule, unlabelled}
 use Rattle.machine.proofs.Way.{c-walk, c-act, c-ret, c-seq, c-yes, c-no, c-fn, way}
 use Rattle.parts.proofs.Steps.{told-yes}
 use Rattle.grammar.proofs.Ways.{told-left}
-use Rattle.grammar.proofs.value_rest.Reads as reads
-use Rattle.grammar.proofs.+bad_node+bad_prop+bits_value+branch+cell_rest+cells+cond_branches_and_end+dt_cell_list+dt_node_body+dt_property+eat_cell+eat_inside+eat_node_or_prop+eat_preprocessor_directive+item+item_rest+items+no_property+propvalue+propvalues+value_rest.Lts-value_rest as lts
-use Rattle.grammar.proofs.+bad_node+bad_prop+bits_value+branch+cell_rest+cells+cond_branches_and_end+dt_cell_list+dt_node_body+dt_property+eat_cell+eat_inside+eat_node_or_prop+eat_preprocessor_directive+item+item_rest+items+no_property+propvalue+propvalues+value_rest.Proof.Measures.{value-rest-at, value-rest-claims}
+use Rattle.grammar.proofs.value2.Reads as reads
+use Rattle.grammar.proofs.+arm+bits+cell2+cells+cond_branches_and_end+dt_cell_list+dt_node_body+dt_property+eat_cell+eat_inside+eat_node_or_prop+eat_preprocessor_directive+item+item2+propvalues+rest+value+value2.Lts-value2 as lts
+use Rattle.grammar.proofs.+arm+bits+cell2+cells+cond_branches_and_end+dt_cell_list+dt_node_body+dt_property+eat_cell+eat_inside+eat_node_or_prop+eat_preprocessor_directive+item+item2+propvalues+rest+value+value2.Proof.Measures.{value2-at, value2-claims}
 
-pub silent-eat-reference-requires : (t : ℕ) → lts.Need-silent-eat-reference-requires (value-rest-claims t) (value-rest-at t) reads.Post
+pub silent-eat-reference-requires : (t : ℕ) → lts.Need-silent-eat-reference-requires (value2-claims t) (value2-at t) reads.Post
 silent-eat-reference-requires t c κs = tt
 
-pub told-requires : (t : ℕ) → lts.Need-told-requires (value-rest-claims t) (value-rest-at t) reads.Post
+pub told-requires : (t : ℕ) → lts.Need-told-requires (value2-claims t) (value2-at t) reads.Post
 told-requires t c κs = tt
 
-pub same-length : (t : ℕ) → lts.Need-same-length (value-rest-claims t) (value-rest-at t) reads.Post
+pub same-length : (t : ℕ) → lts.Need-same-length (value2-claims t) (value2-at t) reads.Post
 same-length t c =
     let silent-eat-reference′ = c .before .before .before .before .before .before .before .before in
     omega (arith, silent-eat-reference′ .silent-eat-reference .kept)
 
-pub same-length-2 : (t : ℕ) → lts.Need-same-length-2 (value-rest-claims t) (value-rest-at t) reads.Post
+pub same-length-2 : (t : ℕ) → lts.Need-same-length-2 (value2-claims t) (value2-at t) reads.Post
 same-length-2 t c =
     let silent-eat-reference′ = c .before .before .before .before .before .before .before .before in
     omega (arith, silent-eat-reference′ .silent-eat-reference .kept)
 
-pub same-length-3 : (t : ℕ) → lts.Need-same-length-3 (value-rest-claims t) (value-rest-at t) reads.Post
+pub same-length-3 : (t : ℕ) → lts.Need-same-length-3 (value2-claims t) (value2-at t) reads.Post
 same-length-3 t c =
     let silent-eat-reference′ = c .before .before .before .before .before .before .before .before in
     omega (arith, silent-eat-reference′ .silent-eat-reference .kept)
 
-pub returns : (t : ℕ) → lts.Need-returns (value-rest-claims t) (value-rest-at t) reads.Post
+pub returns : (t : ℕ) → lts.Need-returns (value2-claims t) (value2-at t) reads.Post
 unfolding silent
 returns t c =
     let told′ = c in
@@ -45,31 +45,31 @@ returns t c =
       omega (arith, silent-eat-reference′ .silent-eat-reference .ensures .1 .0, silent-eat-reference′ .silent-eat-reference .ensures .1 .1 (if1′ .if1 .taken), told-left (s′ .args .t .now) (told′ .told .result) (silent-eat-reference′ .silent-eat-reference .result) (told′ .told .ensures .0)),
     )
 
-pub silent-at-requires : (t : ℕ) → lts.Need-silent-at-requires (value-rest-claims t) (value-rest-at t) reads.Post
+pub silent-at-requires : (t : ℕ) → lts.Need-silent-at-requires (value2-claims t) (value2-at t) reads.Post
 silent-at-requires t c κs = tt
 
-pub macro-invocation-requires : (t : ℕ) → lts.Need-macro-invocation-requires (value-rest-claims t) (value-rest-at t) reads.Post
+pub macro-invocation-requires : (t : ℕ) → lts.Need-macro-invocation-requires (value2-claims t) (value2-at t) reads.Post
 macro-invocation-requires t c κs = tt
 
-pub same-length-4 : (t : ℕ) → lts.Need-same-length-4 (value-rest-claims t) (value-rest-at t) reads.Post
+pub same-length-4 : (t : ℕ) → lts.Need-same-length-4 (value2-claims t) (value2-at t) reads.Post
 same-length-4 t c =
     let macro-invocation′ = c .before .before .before .before .before .before in
     let silent-eat-reference′ = macro-invocation′ .before .before .before .before .before .before .before .before .before .before .before .before .before in
     omega (arith, silent-eat-reference′ .silent-eat-reference .kept, macro-invocation′ .macro-invocation .kept)
 
-pub same-length-5 : (t : ℕ) → lts.Need-same-length-5 (value-rest-claims t) (value-rest-at t) reads.Post
+pub same-length-5 : (t : ℕ) → lts.Need-same-length-5 (value2-claims t) (value2-at t) reads.Post
 same-length-5 t c =
     let macro-invocation′ = c .before .before .before .before .before .before in
     let silent-eat-reference′ = macro-invocation′ .before .before .before .before .before .before .before .before .before .before .before .before .before in
     omega (arith, silent-eat-reference′ .silent-eat-reference .kept, macro-invocation′ .macro-invocation .kept)
 
-pub same-length-6 : (t : ℕ) → lts.Need-same-length-6 (value-rest-claims t) (value-rest-at t) reads.Post
+pub same-length-6 : (t : ℕ) → lts.Need-same-length-6 (value2-claims t) (value2-at t) reads.Post
 same-length-6 t c =
     let macro-invocation′ = c .before .before .before .before .before .before in
     let silent-eat-reference′ = macro-invocation′ .before .before .before .before .before .before .before .before .before .before .before .before .before in
     omega (arith, silent-eat-reference′ .silent-eat-reference .kept, macro-invocation′ .macro-invocation .kept)
 
-pub returns-2 : (t : ℕ) → lts.Need-returns-2 (value-rest-claims t) (value-rest-at t) reads.Post
+pub returns-2 : (t : ℕ) → lts.Need-returns-2 (value2-claims t) (value2-at t) reads.Post
 unfolding silent
 returns-2 t c =
     let macro-invocation′ = c .before .before .before .before .before .before in
@@ -82,31 +82,31 @@ returns-2 t c =
       omega (arith, silent-eat-reference′ .silent-eat-reference .ensures .1 .0, silent-at′ .silent-at .ensures .1 .0, silent-at′ .silent-at .ensures .1 .1 (if2′ .if2 .taken), macro-invocation′ .macro-invocation .ensures .1),
     )
 
-pub silent-eat-requires : (t : ℕ) → lts.Need-silent-eat-requires (value-rest-claims t) (value-rest-at t) reads.Post
+pub silent-eat-requires : (t : ℕ) → lts.Need-silent-eat-requires (value2-claims t) (value2-at t) reads.Post
 silent-eat-requires t c κs = tt
 
-pub told-requires-2 : (t : ℕ) → lts.Need-told-requires-2 (value-rest-claims t) (value-rest-at t) reads.Post
+pub told-requires-2 : (t : ℕ) → lts.Need-told-requires-2 (value2-claims t) (value2-at t) reads.Post
 told-requires-2 t c κs = tt
 
-pub same-length-7 : (t : ℕ) → lts.Need-same-length-7 (value-rest-claims t) (value-rest-at t) reads.Post
+pub same-length-7 : (t : ℕ) → lts.Need-same-length-7 (value2-claims t) (value2-at t) reads.Post
 same-length-7 t c =
     let silent-eat′ = c .before .before .before .before in
     let silent-eat-reference′ = silent-eat′ .before .before .before .before .before .before .before .before .before .before .before in
     omega (arith, silent-eat-reference′ .silent-eat-reference .kept, silent-eat′ .silent-eat .kept)
 
-pub same-length-8 : (t : ℕ) → lts.Need-same-length-8 (value-rest-claims t) (value-rest-at t) reads.Post
+pub same-length-8 : (t : ℕ) → lts.Need-same-length-8 (value2-claims t) (value2-at t) reads.Post
 same-length-8 t c =
     let silent-eat′ = c .before .before .before .before in
     let silent-eat-reference′ = silent-eat′ .before .before .before .before .before .before .before .before .before .before .before in
     omega (arith, silent-eat-reference′ .silent-eat-reference .kept, silent-eat′ .silent-eat .kept)
 
-pub same-length-9 : (t : ℕ) → lts.Need-same-length-9 (value-rest-claims t) (value-rest-at t) reads.Post
+pub same-length-9 : (t : ℕ) → lts.Need-same-length-9 (value2-claims t) (value2-at t) reads.Post
 same-length-9 t c =
     let silent-eat′ = c .before .before .before .before in
     let silent-eat-reference′ = silent-eat′ .before .before .before .before .before .before .before .before .before .before .before in
     omega (arith, silent-eat-reference′ .silent-eat-reference .kept, silent-eat′ .silent-eat .kept)
 
-pub returns-3 : (t : ℕ) → lts.Need-returns-3 (value-rest-claims t) (value-rest-at t) reads.Post
+pub returns-3 : (t : ℕ) → lts.Need-returns-3 (value2-claims t) (value2-at t) reads.Post
 unfolding silent
 returns-3 t c =
     let told2′ = c in
@@ -121,34 +121,34 @@ returns-3 t c =
       omega (arith, silent-eat-reference′ .silent-eat-reference .ensures .1 .0, silent-at′ .silent-at .ensures .1 .0, silent-eat′ .silent-eat .ensures .1 .0, silent-eat′ .silent-eat .ensures .1 .1 (if3′ .if3 .taken), told-left (s′ .args .t .now) (told2′ .told2 .result) (silent-eat′ .silent-eat .result) (told2′ .told2 .ensures .0)),
     )
 
-pub eat-dts-include-requires : (t : ℕ) → lts.Need-eat-dts-include-requires (value-rest-claims t) (value-rest-at t) reads.Post
+pub eat-dts-include-requires : (t : ℕ) → lts.Need-eat-dts-include-requires (value2-claims t) (value2-at t) reads.Post
 eat-dts-include-requires t c κs = tt
 
-pub told-requires-3 : (t : ℕ) → lts.Need-told-requires-3 (value-rest-claims t) (value-rest-at t) reads.Post
+pub told-requires-3 : (t : ℕ) → lts.Need-told-requires-3 (value2-claims t) (value2-at t) reads.Post
 told-requires-3 t c κs = tt
 
-pub same-length-10 : (t : ℕ) → lts.Need-same-length-10 (value-rest-claims t) (value-rest-at t) reads.Post
+pub same-length-10 : (t : ℕ) → lts.Need-same-length-10 (value2-claims t) (value2-at t) reads.Post
 same-length-10 t c =
     let eat-dts-include′ = c .before .before .before .before .before .before .before .before in
     let silent-eat′ = eat-dts-include′ .before .before .before .before .before .before .before in
     let silent-eat-reference′ = silent-eat′ .before .before .before .before .before .before .before .before .before .before .before in
     omega (arith, silent-eat-reference′ .silent-eat-reference .kept, silent-eat′ .silent-eat .kept, eat-dts-include′ .eat-dts-include .kept)
 
-pub same-length-11 : (t : ℕ) → lts.Need-same-length-11 (value-rest-claims t) (value-rest-at t) reads.Post
+pub same-length-11 : (t : ℕ) → lts.Need-same-length-11 (value2-claims t) (value2-at t) reads.Post
 same-length-11 t c =
     let eat-dts-include′ = c .before .before .before .before .before .before .before .before in
     let silent-eat′ = eat-dts-include′ .before .before .before .before .before .before .before in
     let silent-eat-reference′ = silent-eat′ .before .before .before .before .before .before .before .before .before .before .before in
     omega (arith, silent-eat-reference′ .silent-eat-reference .kept, silent-eat′ .silent-eat .kept, eat-dts-include′ .eat-dts-include .kept)
 
-pub same-length-12 : (t : ℕ) → lts.Need-same-length-12 (value-rest-claims t) (value-rest-at t) reads.Post
+pub same-length-12 : (t : ℕ) → lts.Need-same-length-12 (value2-claims t) (value2-at t) reads.Post
 same-length-12 t c =
     let eat-dts-include′ = c .before .before .before .before .before .before .before .before in
     let silent-eat′ = eat-dts-include′ .before .before .before .before .before .before .before in
     let silent-eat-reference′ = silent-eat′ .before .before .before .before .before .before .before .before .before .before .before in
     omega (arith, silent-eat-reference′ .silent-eat-reference .kept, silent-eat′ .silent-eat .kept, eat-dts-include′ .eat-dts-include .kept)
 
-pub returns-4 : (t : ℕ) → lts.Need-returns-4 (value-rest-claims t) (value-rest-at t) reads.Post
+pub returns-4 : (t : ℕ) → lts.Need-returns-4 (value2-claims t) (value2-at t) reads.Post
 unfolding silent
 returns-4 t c =
     let told3′ = c in
@@ -165,7 +165,7 @@ returns-4 t c =
       omega (arith, silent-eat-reference′ .silent-eat-reference .ensures .1 .0, silent-at′ .silent-at .ensures .1 .0, silent-eat′ .silent-eat .ensures .1 .0, eat-dts-include′ .eat-dts-include .ensures .1 .0, eat-dts-include′ .eat-dts-include .ensures .1 .1 (if4′ .if4 .taken), told-left (s′ .args .t .now) (told3′ .told3 .result) (eat-dts-include′ .eat-dts-include .result) (told3′ .told3 .ensures .0)),
     )
 
-pub eat-preprocessor-directive-requires : (t : ℕ) → lts.Need-eat-preprocessor-directive-requires (value-rest-claims t) (value-rest-at t) reads.Post
+pub eat-preprocessor-directive-requires : (t : ℕ) → lts.Need-eat-preprocessor-directive-requires (value2-claims t) (value2-at t) reads.Post
 eat-preprocessor-directive-requires t c κs =
     let eat-dts-include′ = c .before .before .before .before .before .before .before .before .before .before in
     let silent-eat′ = eat-dts-include′ .before .before .before .before .before .before .before in
@@ -174,10 +174,10 @@ eat-preprocessor-directive-requires t c κs =
     let s′ = silent-eat-reference′ .before .before .before .before .before .before .before .before in
     (omega (arith, silent-eat-reference′ .silent-eat-reference .ensures .1 .0, silent-at′ .silent-at .ensures .1 .0, silent-eat′ .silent-eat .ensures .1 .0, eat-dts-include′ .eat-dts-include .ensures .1 .0, s′ .pre .0), tt)
 
-pub told-requires-4 : (t : ℕ) → lts.Need-told-requires-4 (value-rest-claims t) (value-rest-at t) reads.Post
+pub told-requires-4 : (t : ℕ) → lts.Need-told-requires-4 (value2-claims t) (value2-at t) reads.Post
 told-requires-4 t c κs = tt
 
-pub same-length-13 : (t : ℕ) → lts.Need-same-length-13 (value-rest-claims t) (value-rest-at t) reads.Post
+pub same-length-13 : (t : ℕ) → lts.Need-same-length-13 (value2-claims t) (value2-at t) reads.Post
 same-length-13 t c =
     let eat-preprocessor-directive′ = c .before .before .before .before .before .before .before .before in
     let eat-dts-include′ = eat-preprocessor-directive′ .before .before .before .before .before .before .before .before .before .before .before in
@@ -185,7 +185,7 @@ same-length-13 t c =
     let silent-eat-reference′ = silent-eat′ .before .before .before .before .before .before .before .before .before .before .before in
     omega (arith, silent-eat-reference′ .silent-eat-reference .kept, silent-eat′ .silent-eat .kept, eat-dts-include′ .eat-dts-include .kept, eat-preprocessor-directive′ .eat-preprocessor-directive .kept)
 
-pub same-length-14 : (t : ℕ) → lts.Need-same-length-14 (value-rest-claims t) (value-rest-at t) reads.Post
+pub same-length-14 : (t : ℕ) → lts.Need-same-length-14 (value2-claims t) (value2-at t) reads.Post
 same-length-14 t c =
     let eat-preprocessor-directive′ = c .before .before .before .before .before .before .before .before in
     let eat-dts-include′ = eat-preprocessor-directive′ .before .before .before .before .before .before .before .before .before .before .before in
@@ -193,7 +193,7 @@ same-length-14 t c =
     let silent-eat-reference′ = silent-eat′ .before .before .before .before .before .before .before .before .before .before .before in
     omega (arith, silent-eat-reference′ .silent-eat-reference .kept, silent-eat′ .silent-eat .kept, eat-dts-include′ .eat-dts-include .kept, eat-preprocessor-directive′ .eat-preprocessor-directive .kept)
 
-pub same-length-15 : (t : ℕ) → lts.Need-same-length-15 (value-rest-claims t) (value-rest-at t) reads.Post
+pub same-length-15 : (t : ℕ) → lts.Need-same-length-15 (value2-claims t) (value2-at t) reads.Post
 same-length-15 t c =
     let eat-preprocessor-directive′ = c .before .before .before .before .before .before .before .before in
     let eat-dts-include′ = eat-preprocessor-directive′ .before .before .before .before .before .before .before .before .before .before .before in
@@ -201,7 +201,7 @@ same-length-15 t c =
     let silent-eat-reference′ = silent-eat′ .before .before .before .before .before .before .before .before .before .before .before in
     omega (arith, silent-eat-reference′ .silent-eat-reference .kept, silent-eat′ .silent-eat .kept, eat-dts-include′ .eat-dts-include .kept, eat-preprocessor-directive′ .eat-preprocessor-directive .kept)
 
-pub returns-5 : (t : ℕ) → lts.Need-returns-5 (value-rest-claims t) (value-rest-at t) reads.Post
+pub returns-5 : (t : ℕ) → lts.Need-returns-5 (value2-claims t) (value2-at t) reads.Post
 unfolding silent
 returns-5 t c =
     let told4′ = c in
@@ -220,10 +220,10 @@ returns-5 t c =
       omega (arith, silent-eat-reference′ .silent-eat-reference .ensures .1 .0, silent-at′ .silent-at .ensures .1 .0, silent-eat′ .silent-eat .ensures .1 .0, eat-dts-include′ .eat-dts-include .ensures .1 .0, eat-preprocessor-directive′ .eat-preprocessor-directive .ensures .1 .0, eat-preprocessor-directive′ .eat-preprocessor-directive .ensures .1 .1 (if5′ .if5 .taken), told-left (s′ .args .t .now) (told4′ .told4 .result) (eat-preprocessor-directive′ .eat-preprocessor-directive .result) (told4′ .told4 .ensures .0)),
     )
 
-pub error-requires : (t : ℕ) → lts.Need-error-requires (value-rest-claims t) (value-rest-at t) reads.Post
+pub error-requires : (t : ℕ) → lts.Need-error-requires (value2-claims t) (value2-at t) reads.Post
 error-requires t c κs = tt
 
-pub same-length-16 : (t : ℕ) → lts.Need-same-length-16 (value-rest-claims t) (value-rest-at t) reads.Post
+pub same-length-16 : (t : ℕ) → lts.Need-same-length-16 (value2-claims t) (value2-at t) reads.Post
 same-length-16 t c =
     let error′ = c .before .before .before .before .before .before in
     let eat-preprocessor-directive′ = error′ .before .before .before .before .before .before .before .before .before .before .before in
@@ -232,7 +232,7 @@ same-length-16 t c =
     let silent-eat-reference′ = silent-eat′ .before .before .before .before .before .before .before .before .before .before .before in
     omega (arith, silent-eat-reference′ .silent-eat-reference .kept, silent-eat′ .silent-eat .kept, eat-dts-include′ .eat-dts-include .kept, eat-preprocessor-directive′ .eat-preprocessor-directive .kept, error′ .error .kept)
 
-pub same-length-17 : (t : ℕ) → lts.Need-same-length-17 (value-rest-claims t) (value-rest-at t) reads.Post
+pub same-length-17 : (t : ℕ) → lts.Need-same-length-17 (value2-claims t) (value2-at t) reads.Post
 same-length-17 t c =
     let error′ = c .before .before .before .before .before .before in
     let eat-preprocessor-directive′ = error′ .before .before .before .before .before .before .before .before .before .before .before in
@@ -241,7 +241,7 @@ same-length-17 t c =
     let silent-eat-reference′ = silent-eat′ .before .before .before .before .before .before .before .before .before .before .before in
     omega (arith, silent-eat-reference′ .silent-eat-reference .kept, silent-eat′ .silent-eat .kept, eat-dts-include′ .eat-dts-include .kept, eat-preprocessor-directive′ .eat-preprocessor-directive .kept, error′ .error .kept)
 
-pub same-length-18 : (t : ℕ) → lts.Need-same-length-18 (value-rest-claims t) (value-rest-at t) reads.Post
+pub same-length-18 : (t : ℕ) → lts.Need-same-length-18 (value2-claims t) (value2-at t) reads.Post
 same-length-18 t c =
     let error′ = c .before .before .before .before .before .before in
     let eat-preprocessor-directive′ = error′ .before .before .before .before .before .before .before .before .before .before .before in
@@ -250,7 +250,7 @@ same-length-18 t c =
     let silent-eat-reference′ = silent-eat′ .before .before .before .before .before .before .before .before .before .before .before in
     omega (arith, silent-eat-reference′ .silent-eat-reference .kept, silent-eat′ .silent-eat .kept, eat-dts-include′ .eat-dts-include .kept, eat-preprocessor-directive′ .eat-preprocessor-directive .kept, error′ .error .kept)
 
-pub returns-6 : (t : ℕ) → lts.Need-returns-6 (value-rest-claims t) (value-rest-at t) reads.Post
+pub returns-6 : (t : ℕ) → lts.Need-returns-6 (value2-claims t) (value2-at t) reads.Post
 unfolding silent
 returns-6 t c =
     let error′ = c .before .before .before .before .before .before in

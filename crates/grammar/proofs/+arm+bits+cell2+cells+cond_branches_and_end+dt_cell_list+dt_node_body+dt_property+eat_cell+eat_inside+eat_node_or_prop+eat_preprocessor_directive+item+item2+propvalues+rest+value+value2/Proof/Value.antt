@@ -1,4 +1,4 @@
--- `propvalue` is the walk of its program, step by step.
+-- `value` is the walk of its program, step by step.
 use Prim.Native.Nat.{ℕ}
 use mathlib.Core.Path.{_∙_}
 use native.Mathlib.Omega.{arith}
@@ -9,67 +9,67 @@ use Rattle.machine.specs.Walk.{walk-rule, unlabelled}
 use Rattle.machine.proofs.Way.{c-walk, c-act, c-ret, c-seq, c-yes, c-no, c-mark, c-fn, way}
 use Rattle.parts.proofs.Steps.{closing, told-is, told-yes}
 use Rattle.grammar.proofs.Ways.{c-same, told-left}
-use Rattle.grammar.proofs.propvalue.Reads as reads
-use Rattle.grammar.proofs.+bad_node+bad_prop+bits_value+branch+cell_rest+cells+cond_branches_and_end+dt_cell_list+dt_node_body+dt_property+eat_cell+eat_inside+eat_node_or_prop+eat_preprocessor_directive+item+item_rest+items+no_property+propvalue+propvalues+value_rest.Lts-propvalue as lts
-use Rattle.grammar.proofs.+bad_node+bad_prop+bits_value+branch+cell_rest+cells+cond_branches_and_end+dt_cell_list+dt_node_body+dt_property+eat_cell+eat_inside+eat_node_or_prop+eat_preprocessor_directive+item+item_rest+items+no_property+propvalue+propvalues+value_rest.Proof.Measures.{propvalue-at, propvalue-claims}
+use Rattle.grammar.proofs.value.Reads as reads
+use Rattle.grammar.proofs.+arm+bits+cell2+cells+cond_branches_and_end+dt_cell_list+dt_node_body+dt_property+eat_cell+eat_inside+eat_node_or_prop+eat_preprocessor_directive+item+item2+propvalues+rest+value+value2.Lts-value as lts
+use Rattle.grammar.proofs.+arm+bits+cell2+cells+cond_branches_and_end+dt_cell_list+dt_node_body+dt_property+eat_cell+eat_inside+eat_node_or_prop+eat_preprocessor_directive+item+item2+propvalues+rest+value+value2.Proof.Measures.{value-at, value-claims}
 
-pub add-expected-requires : (t : ℕ) → lts.Need-add-expected-requires (propvalue-claims t) (propvalue-at t) reads.Post
+pub add-expected-requires : (t : ℕ) → lts.Need-add-expected-requires (value-claims t) (value-at t) reads.Post
 add-expected-requires t c κs = tt
 
-pub silent-at-requires : (t : ℕ) → lts.Need-silent-at-requires (propvalue-claims t) (propvalue-at t) reads.Post
+pub silent-at-requires : (t : ℕ) → lts.Need-silent-at-requires (value-claims t) (value-at t) reads.Post
 silent-at-requires t c κs = tt
 
-pub bits-value-requires : (t : ℕ) → lts.Need-bits-value-requires (propvalue-claims t) (propvalue-at t) reads.Post
-bits-value-requires t c κs =
+pub bits-requires : (t : ℕ) → lts.Need-bits-requires (value-claims t) (value-at t) reads.Post
+bits-requires t c κs =
     let if1′ = c .before .before .before in
     let silent-at′ = if1′ .before in
     let add-expected′ = silent-at′ .before in
     let s′ = add-expected′ .before .before .before .before .before in
     (omega (arith, add-expected′ .add-expected .ensures .1 (s′ .args .t .now), silent-at′ .silent-at .ensures .1 .0, silent-at′ .silent-at .ensures .1 .1 (if1′ .if1 .taken), s′ .pre .0), tt)
 
-pub told-requires : (t : ℕ) → lts.Need-told-requires (propvalue-claims t) (propvalue-at t) reads.Post
+pub told-requires : (t : ℕ) → lts.Need-told-requires (value-claims t) (value-at t) reads.Post
 told-requires t c κs = tt
 
-pub same-length : (t : ℕ) → lts.Need-same-length (propvalue-claims t) (propvalue-at t) reads.Post
+pub same-length : (t : ℕ) → lts.Need-same-length (value-claims t) (value-at t) reads.Post
 same-length t c =
-    let bits-value′ = c .before .before .before .before .before .before .before in
-    omega (arith, bits-value′ .bits-value .kept)
+    let bits′ = c .before .before .before .before .before .before .before in
+    omega (arith, bits′ .bits .kept)
 
-pub same-length-2 : (t : ℕ) → lts.Need-same-length-2 (propvalue-claims t) (propvalue-at t) reads.Post
+pub same-length-2 : (t : ℕ) → lts.Need-same-length-2 (value-claims t) (value-at t) reads.Post
 same-length-2 t c =
-    let bits-value′ = c .before .before .before .before .before .before .before in
-    omega (arith, bits-value′ .bits-value .kept)
+    let bits′ = c .before .before .before .before .before .before .before in
+    omega (arith, bits′ .bits .kept)
 
-pub same-length-3 : (t : ℕ) → lts.Need-same-length-3 (propvalue-claims t) (propvalue-at t) reads.Post
+pub same-length-3 : (t : ℕ) → lts.Need-same-length-3 (value-claims t) (value-at t) reads.Post
 same-length-3 t c =
-    let bits-value′ = c .before .before .before .before .before .before .before in
-    omega (arith, bits-value′ .bits-value .kept)
+    let bits′ = c .before .before .before .before .before .before .before in
+    omega (arith, bits′ .bits .kept)
 
-pub returns : (t : ℕ) → lts.Need-returns (propvalue-claims t) (propvalue-at t) reads.Post
+pub returns : (t : ℕ) → lts.Need-returns (value-claims t) (value-at t) reads.Post
 unfolding propvalue silent
 returns t c =
     let told′ = c in
-    let bits-value′ = told′ .before .before .before .before .before .before .before in
-    let if1′ = bits-value′ .before .before .before .before in
+    let bits′ = told′ .before .before .before .before .before .before .before in
+    let if1′ = bits′ .before .before .before .before in
     let silent-at′ = if1′ .before in
     let add-expected′ = silent-at′ .before in
     let s′ = add-expected′ .before .before .before .before .before in (
-      told-is (told′ .told .result) (bits-value′ .bits-value .result) _ _ _ (told′ .told .ensures .0) (told′ .told .ensures .1) ∙ way (s′ .args .room) (c-seq (c-act (add-expected′ .add-expected .ensures .0 (tokens (s′ .args .t .now)) unlabelled _ _ _)) (c-yes (c-act (silent-at′ .silent-at .ensures .0 unlabelled _ _ _)) (if1′ .if1 .taken) (c-fn (s′ .args .room) (bits-value′ .bits-value .ensures .0)))),
-      omega (arith, add-expected′ .add-expected .ensures .1 (s′ .args .t .now), silent-at′ .silent-at .ensures .1 .0, silent-at′ .silent-at .ensures .1 .1 (if1′ .if1 .taken), bits-value′ .bits-value .ensures .1, told-left (s′ .args .t .now) (told′ .told .result) (bits-value′ .bits-value .result) (told′ .told .ensures .0)),
+      told-is (told′ .told .result) (bits′ .bits .result) _ _ _ (told′ .told .ensures .0) (told′ .told .ensures .1) ∙ way (s′ .args .room) (c-seq (c-act (add-expected′ .add-expected .ensures .0 (tokens (s′ .args .t .now)) unlabelled _ _ _)) (c-yes (c-act (silent-at′ .silent-at .ensures .0 unlabelled _ _ _)) (if1′ .if1 .taken) (c-fn (s′ .args .room) (bits′ .bits .ensures .0)))),
+      omega (arith, add-expected′ .add-expected .ensures .1 (s′ .args .t .now), silent-at′ .silent-at .ensures .1 .0, silent-at′ .silent-at .ensures .1 .1 (if1′ .if1 .taken), bits′ .bits .ensures .1, told-left (s′ .args .t .now) (told′ .told .result) (bits′ .bits .result) (told′ .told .ensures .0)),
     )
 
-pub silent-eat-requires : (t : ℕ) → lts.Need-silent-eat-requires (propvalue-claims t) (propvalue-at t) reads.Post
+pub silent-eat-requires : (t : ℕ) → lts.Need-silent-eat-requires (value-claims t) (value-at t) reads.Post
 silent-eat-requires t c κs = tt
 
-pub told-requires-2 : (t : ℕ) → lts.Need-told-requires-2 (propvalue-claims t) (propvalue-at t) reads.Post
+pub told-requires-2 : (t : ℕ) → lts.Need-told-requires-2 (value-claims t) (value-at t) reads.Post
 told-requires-2 t c κs = tt
 
-pub same-length-4 : (t : ℕ) → lts.Need-same-length-4 (propvalue-claims t) (propvalue-at t) reads.Post
+pub same-length-4 : (t : ℕ) → lts.Need-same-length-4 (value-claims t) (value-at t) reads.Post
 same-length-4 t c =
     let silent-eat′ = c .before .before .before .before in
     omega (arith, silent-eat′ .silent-eat .kept)
 
-pub returns-2 : (t : ℕ) → lts.Need-returns-2 (propvalue-claims t) (propvalue-at t) reads.Post
+pub returns-2 : (t : ℕ) → lts.Need-returns-2 (value-claims t) (value-at t) reads.Post
 unfolding propvalue silent
 returns-2 t c =
     let told2′ = c in
@@ -83,16 +83,16 @@ returns-2 t c =
       omega (arith, add-expected′ .add-expected .ensures .1 (s′ .args .t .now), silent-at′ .silent-at .ensures .1 .0, silent-eat′ .silent-eat .ensures .1 .0, silent-eat′ .silent-eat .ensures .1 .1 (if2′ .if2 .taken), told-left (s′ .args .t .now) (told2′ .told2 .result) (silent-eat′ .silent-eat .result) (told2′ .told2 .ensures .0)),
     )
 
-pub silent-at-requires-2 : (t : ℕ) → lts.Need-silent-at-requires-2 (propvalue-claims t) (propvalue-at t) reads.Post
+pub silent-at-requires-2 : (t : ℕ) → lts.Need-silent-at-requires-2 (value-claims t) (value-at t) reads.Post
 silent-at-requires-2 t c κs = tt
 
-pub new-requires : (t : ℕ) → lts.Need-new-requires (propvalue-claims t) (propvalue-at t) reads.Post
+pub new-requires : (t : ℕ) → lts.Need-new-requires (value-claims t) (value-at t) reads.Post
 new-requires t c κs = tt
 
-pub start-requires : (t : ℕ) → lts.Need-start-requires (propvalue-claims t) (propvalue-at t) reads.Post
+pub start-requires : (t : ℕ) → lts.Need-start-requires (value-claims t) (value-at t) reads.Post
 start-requires t c κs = tt
 
-pub dt-cell-list-requires : (t : ℕ) → lts.Need-dt-cell-list-requires (propvalue-claims t) (propvalue-at t) reads.Post
+pub dt-cell-list-requires : (t : ℕ) → lts.Need-dt-cell-list-requires (value-claims t) (value-at t) reads.Post
 dt-cell-list-requires t c κs =
     let start′ = c .before .before .before .before .before in
     let if3′ = start′ .before .before .before in
@@ -103,31 +103,31 @@ dt-cell-list-requires t c κs =
     let s′ = add-expected′ .before .before .before .before .before in
     (omega (arith, add-expected′ .add-expected .ensures .1 (s′ .args .t .now), silent-at′ .silent-at .ensures .1 .0, silent-eat′ .silent-eat .ensures .1 .0, silent-at2′ .silent-at2 .ensures .1 .0, silent-at2′ .silent-at2 .ensures .1 .1 (if3′ .if3 .taken), start′ .start .ensures .1 (s′ .args .t .now), s′ .pre .0), tt)
 
-pub told-requires-3 : (t : ℕ) → lts.Need-told-requires-3 (propvalue-claims t) (propvalue-at t) reads.Post
+pub told-requires-3 : (t : ℕ) → lts.Need-told-requires-3 (value-claims t) (value-at t) reads.Post
 told-requires-3 t c κs = tt
 
-pub same-length-5 : (t : ℕ) → lts.Need-same-length-5 (propvalue-claims t) (propvalue-at t) reads.Post
+pub same-length-5 : (t : ℕ) → lts.Need-same-length-5 (value-claims t) (value-at t) reads.Post
 same-length-5 t c =
     let dt-cell-list′ = c .before .before .before .before .before .before .before in
     let start′ = dt-cell-list′ .before .before .before .before .before .before in
     let silent-eat′ = start′ .before .before .before .before .before .before .before .before in
     omega (arith, silent-eat′ .silent-eat .kept, start′ .start .kept, dt-cell-list′ .dt-cell-list .kept)
 
-pub same-length-6 : (t : ℕ) → lts.Need-same-length-6 (propvalue-claims t) (propvalue-at t) reads.Post
+pub same-length-6 : (t : ℕ) → lts.Need-same-length-6 (value-claims t) (value-at t) reads.Post
 same-length-6 t c =
     let dt-cell-list′ = c .before .before .before .before .before .before .before in
     let start′ = dt-cell-list′ .before .before .before .before .before .before in
     let silent-eat′ = start′ .before .before .before .before .before .before .before .before in
     omega (arith, silent-eat′ .silent-eat .kept, start′ .start .kept, dt-cell-list′ .dt-cell-list .kept)
 
-pub same-length-7 : (t : ℕ) → lts.Need-same-length-7 (propvalue-claims t) (propvalue-at t) reads.Post
+pub same-length-7 : (t : ℕ) → lts.Need-same-length-7 (value-claims t) (value-at t) reads.Post
 same-length-7 t c =
     let dt-cell-list′ = c .before .before .before .before .before .before .before in
     let start′ = dt-cell-list′ .before .before .before .before .before .before in
     let silent-eat′ = start′ .before .before .before .before .before .before .before .before in
     omega (arith, silent-eat′ .silent-eat .kept, start′ .start .kept, dt-cell-list′ .dt-cell-list .kept)
 
-pub returns-3 : (t : ℕ) → lts.Need-returns-3 (propvalue-claims t) (propvalue-at t) reads.Post
+pub returns-3 : (t : ℕ) → lts.Need-returns-3 (value-claims t) (value-at t) reads.Post
 unfolding propvalue silent
 returns-3 t c =
     let told3′ = c in
@@ -146,8 +146,8 @@ returns-3 t c =
       omega (arith, add-expected′ .add-expected .ensures .1 (s′ .args .t .now), silent-at′ .silent-at .ensures .1 .0, silent-eat′ .silent-eat .ensures .1 .0, silent-at2′ .silent-at2 .ensures .1 .0, silent-at2′ .silent-at2 .ensures .1 .1 (if3′ .if3 .taken), start′ .start .ensures .1 (s′ .args .t .now), dt-cell-list′ .dt-cell-list .ensures .1, told-left (s′ .args .t .now) (told3′ .told3 .result) (dt-cell-list′ .dt-cell-list .result) (told3′ .told3 .ensures .0)),
     )
 
-pub value-rest-requires : (t : ℕ) → lts.Need-value-rest-requires (propvalue-claims t) (propvalue-at t) reads.Post
-value-rest-requires t c κs =
+pub value2-requires : (t : ℕ) → lts.Need-value2-requires (value-claims t) (value-at t) reads.Post
+value2-requires t c κs =
     let silent-at2′ = c .before .before .before .before in
     let silent-eat′ = silent-at2′ .before .before .before .before in
     let silent-at′ = silent-eat′ .before .before .before in
@@ -155,29 +155,29 @@ value-rest-requires t c κs =
     let s′ = add-expected′ .before .before .before .before .before in
     (omega (arith, add-expected′ .add-expected .ensures .1 (s′ .args .t .now), silent-at′ .silent-at .ensures .1 .0, silent-eat′ .silent-eat .ensures .1 .0, silent-at2′ .silent-at2 .ensures .1 .0, s′ .pre .0), tt)
 
-pub same-length-8 : (t : ℕ) → lts.Need-same-length-8 (propvalue-claims t) (propvalue-at t) reads.Post
+pub same-length-8 : (t : ℕ) → lts.Need-same-length-8 (value-claims t) (value-at t) reads.Post
 same-length-8 t c =
-    let value-rest′ = c .before .before .before .before .before .before in
-    let silent-eat′ = value-rest′ .before .before .before .before .before .before .before .before .before in
-    omega (arith, silent-eat′ .silent-eat .kept, value-rest′ .value-rest .kept)
+    let value2′ = c .before .before .before .before .before .before in
+    let silent-eat′ = value2′ .before .before .before .before .before .before .before .before .before in
+    omega (arith, silent-eat′ .silent-eat .kept, value2′ .value2 .kept)
 
-pub same-length-9 : (t : ℕ) → lts.Need-same-length-9 (propvalue-claims t) (propvalue-at t) reads.Post
+pub same-length-9 : (t : ℕ) → lts.Need-same-length-9 (value-claims t) (value-at t) reads.Post
 same-length-9 t c =
-    let value-rest′ = c .before .before .before .before .before .before in
-    let silent-eat′ = value-rest′ .before .before .before .before .before .before .before .before .before in
-    omega (arith, silent-eat′ .silent-eat .kept, value-rest′ .value-rest .kept)
+    let value2′ = c .before .before .before .before .before .before in
+    let silent-eat′ = value2′ .before .before .before .before .before .before .before .before .before in
+    omega (arith, silent-eat′ .silent-eat .kept, value2′ .value2 .kept)
 
-pub same-length-10 : (t : ℕ) → lts.Need-same-length-10 (propvalue-claims t) (propvalue-at t) reads.Post
+pub same-length-10 : (t : ℕ) → lts.Need-same-length-10 (value-claims t) (value-at t) reads.Post
 same-length-10 t c =
-    let value-rest′ = c .before .before .before .before .before .before in
-    let silent-eat′ = value-rest′ .before .before .before .before .before .before .before .before .before in
-    omega (arith, silent-eat′ .silent-eat .kept, value-rest′ .value-rest .kept)
+    let value2′ = c .before .before .before .before .before .before in
+    let silent-eat′ = value2′ .before .before .before .before .before .before .before .before .before in
+    omega (arith, silent-eat′ .silent-eat .kept, value2′ .value2 .kept)
 
-pub returns-4 : (t : ℕ) → lts.Need-returns-4 (propvalue-claims t) (propvalue-at t) reads.Post
+pub returns-4 : (t : ℕ) → lts.Need-returns-4 (value-claims t) (value-at t) reads.Post
 unfolding propvalue silent
 returns-4 t c =
-    let value-rest′ = c .before .before .before .before .before .before in
-    let if3′ = value-rest′ .before .before .before .before in
+    let value2′ = c .before .before .before .before .before .before in
+    let if3′ = value2′ .before .before .before .before in
     let silent-at2′ = if3′ .before in
     let if2′ = silent-at2′ .before in
     let silent-eat′ = if2′ .before .before .before in
@@ -185,6 +185,6 @@ returns-4 t c =
     let silent-at′ = if1′ .before in
     let add-expected′ = silent-at′ .before in
     let s′ = add-expected′ .before .before .before .before .before in (
-      way (s′ .args .room) (c-seq (c-act (add-expected′ .add-expected .ensures .0 (tokens (s′ .args .t .now)) unlabelled _ _ _)) (c-no (c-act (silent-at′ .silent-at .ensures .0 unlabelled _ _ _)) (if1′ .if1 .left) (c-no (c-walk (silent-eat′ .silent-eat .ensures .0 (walk-rule (s′ .args .room) (tokens (s′ .args .t .now))) unlabelled _ _)) (if2′ .if2 .left) (c-no (c-act (silent-at2′ .silent-at2 .ensures .0 unlabelled _ _ _)) (if3′ .if3 .left) (c-fn (s′ .args .room) (value-rest′ .value-rest .ensures .0)))))),
-      omega (arith, add-expected′ .add-expected .ensures .1 (s′ .args .t .now), silent-at′ .silent-at .ensures .1 .0, silent-eat′ .silent-eat .ensures .1 .0, silent-at2′ .silent-at2 .ensures .1 .0, value-rest′ .value-rest .ensures .1),
+      way (s′ .args .room) (c-seq (c-act (add-expected′ .add-expected .ensures .0 (tokens (s′ .args .t .now)) unlabelled _ _ _)) (c-no (c-act (silent-at′ .silent-at .ensures .0 unlabelled _ _ _)) (if1′ .if1 .left) (c-no (c-walk (silent-eat′ .silent-eat .ensures .0 (walk-rule (s′ .args .room) (tokens (s′ .args .t .now))) unlabelled _ _)) (if2′ .if2 .left) (c-no (c-act (silent-at2′ .silent-at2 .ensures .0 unlabelled _ _ _)) (if3′ .if3 .left) (c-fn (s′ .args .room) (value2′ .value2 .ensures .0)))))),
+      omega (arith, add-expected′ .add-expected .ensures .1 (s′ .args .t .now), silent-at′ .silent-at .ensures .1 .0, silent-eat′ .silent-eat .ensures .1 .0, silent-at2′ .silent-at2 .ensures .1 .0, value2′ .value2 .ensures .1),
     )

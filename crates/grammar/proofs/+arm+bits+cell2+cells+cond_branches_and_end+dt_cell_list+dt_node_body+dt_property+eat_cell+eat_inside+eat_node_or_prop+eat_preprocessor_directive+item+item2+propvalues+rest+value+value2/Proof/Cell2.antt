@@ -1,4 +1,4 @@
--- `cell_rest` is the walk of its program, step by step.
+-- `cell2` is the walk of its program, step by step.
 use Prim.Native.Nat.{ℕ}
 use mathlib.Core.Path.{refl, sym, _∙_}
 use mathlib.Core.Bool.{true, false}
@@ -9,29 +9,29 @@ use Rattle.definitions.specs.Check.{silent}
 use Rattle.machine.specs.Walk.{walk-rule, unlabelled}
 use Rattle.machine.proofs.Way.{c-walk, c-act, c-ret, c-seq, c-yes, c-no, c-fn, way}
 use Rattle.parts.proofs.Steps.{true-false, c-ret-yes, c-ret-no}
-use Rattle.grammar.proofs.cell_rest.Reads as reads
-use Rattle.grammar.proofs.+bad_node+bad_prop+bits_value+branch+cell_rest+cells+cond_branches_and_end+dt_cell_list+dt_node_body+dt_property+eat_cell+eat_inside+eat_node_or_prop+eat_preprocessor_directive+item+item_rest+items+no_property+propvalue+propvalues+value_rest.Lts-cell_rest as lts
-use Rattle.grammar.proofs.+bad_node+bad_prop+bits_value+branch+cell_rest+cells+cond_branches_and_end+dt_cell_list+dt_node_body+dt_property+eat_cell+eat_inside+eat_node_or_prop+eat_preprocessor_directive+item+item_rest+items+no_property+propvalue+propvalues+value_rest.Proof.Measures.{cell-rest-at, cell-rest-claims}
+use Rattle.grammar.proofs.cell2.Reads as reads
+use Rattle.grammar.proofs.+arm+bits+cell2+cells+cond_branches_and_end+dt_cell_list+dt_node_body+dt_property+eat_cell+eat_inside+eat_node_or_prop+eat_preprocessor_directive+item+item2+propvalues+rest+value+value2.Lts-cell2 as lts
+use Rattle.grammar.proofs.+arm+bits+cell2+cells+cond_branches_and_end+dt_cell_list+dt_node_body+dt_property+eat_cell+eat_inside+eat_node_or_prop+eat_preprocessor_directive+item+item2+propvalues+rest+value+value2.Proof.Measures.{cell2-at, cell2-claims}
 
-pub eat-dts-include-requires : (t : ℕ) → lts.Need-eat-dts-include-requires (cell-rest-claims t) (cell-rest-at t) reads.Post
+pub eat-dts-include-requires : (t : ℕ) → lts.Need-eat-dts-include-requires (cell2-claims t) (cell2-at t) reads.Post
 eat-dts-include-requires t c κs = tt
 
-pub same-length : (t : ℕ) → lts.Need-same-length (cell-rest-claims t) (cell-rest-at t) reads.Post
+pub same-length : (t : ℕ) → lts.Need-same-length (cell2-claims t) (cell2-at t) reads.Post
 same-length t c =
     let eat-dts-include′ = c .before .before .before .before .before .before .before in
     omega (arith, eat-dts-include′ .eat-dts-include .kept)
 
-pub same-length-2 : (t : ℕ) → lts.Need-same-length-2 (cell-rest-claims t) (cell-rest-at t) reads.Post
+pub same-length-2 : (t : ℕ) → lts.Need-same-length-2 (cell2-claims t) (cell2-at t) reads.Post
 same-length-2 t c =
     let eat-dts-include′ = c .before .before .before .before .before .before .before in
     omega (arith, eat-dts-include′ .eat-dts-include .kept)
 
-pub same-length-3 : (t : ℕ) → lts.Need-same-length-3 (cell-rest-claims t) (cell-rest-at t) reads.Post
+pub same-length-3 : (t : ℕ) → lts.Need-same-length-3 (cell2-claims t) (cell2-at t) reads.Post
 same-length-3 t c =
     let eat-dts-include′ = c .before .before .before .before .before .before .before in
     omega (arith, eat-dts-include′ .eat-dts-include .kept)
 
-pub returns : (t : ℕ) → lts.Need-returns (cell-rest-claims t) (cell-rest-at t) reads.Post
+pub returns : (t : ℕ) → lts.Need-returns (cell2-claims t) (cell2-at t) reads.Post
 unfolding silent
 returns t c =
     let if1′ = c in
@@ -41,31 +41,31 @@ returns t c =
       (omega (arith, eat-dts-include′ .eat-dts-include .ensures .1 .0, eat-dts-include′ .eat-dts-include .ensures .1 .1 (if1′ .if1 .taken)), λ e. omega (arith, eat-dts-include′ .eat-dts-include .ensures .1 .0, eat-dts-include′ .eat-dts-include .ensures .1 .1 (if1′ .if1 .taken))),
     )
 
-pub eat-preprocessor-directive-requires : (t : ℕ) → lts.Need-eat-preprocessor-directive-requires (cell-rest-claims t) (cell-rest-at t) reads.Post
+pub eat-preprocessor-directive-requires : (t : ℕ) → lts.Need-eat-preprocessor-directive-requires (cell2-claims t) (cell2-at t) reads.Post
 eat-preprocessor-directive-requires t c κs =
     let eat-dts-include′ = c .before .before .before .before .before .before .before .before .before .before in
     let s′ = eat-dts-include′ .before .before .before .before .before .before .before .before in
     (omega (arith, eat-dts-include′ .eat-dts-include .ensures .1 .0, s′ .pre .0), tt)
 
-pub same-length-4 : (t : ℕ) → lts.Need-same-length-4 (cell-rest-claims t) (cell-rest-at t) reads.Post
+pub same-length-4 : (t : ℕ) → lts.Need-same-length-4 (cell2-claims t) (cell2-at t) reads.Post
 same-length-4 t c =
     let eat-preprocessor-directive′ = c .before .before .before .before .before .before .before in
     let eat-dts-include′ = eat-preprocessor-directive′ .before .before .before .before .before .before .before .before .before .before .before in
     omega (arith, eat-dts-include′ .eat-dts-include .kept, eat-preprocessor-directive′ .eat-preprocessor-directive .kept)
 
-pub same-length-5 : (t : ℕ) → lts.Need-same-length-5 (cell-rest-claims t) (cell-rest-at t) reads.Post
+pub same-length-5 : (t : ℕ) → lts.Need-same-length-5 (cell2-claims t) (cell2-at t) reads.Post
 same-length-5 t c =
     let eat-preprocessor-directive′ = c .before .before .before .before .before .before .before in
     let eat-dts-include′ = eat-preprocessor-directive′ .before .before .before .before .before .before .before .before .before .before .before in
     omega (arith, eat-dts-include′ .eat-dts-include .kept, eat-preprocessor-directive′ .eat-preprocessor-directive .kept)
 
-pub same-length-6 : (t : ℕ) → lts.Need-same-length-6 (cell-rest-claims t) (cell-rest-at t) reads.Post
+pub same-length-6 : (t : ℕ) → lts.Need-same-length-6 (cell2-claims t) (cell2-at t) reads.Post
 same-length-6 t c =
     let eat-preprocessor-directive′ = c .before .before .before .before .before .before .before in
     let eat-dts-include′ = eat-preprocessor-directive′ .before .before .before .before .before .before .before .before .before .before .before in
     omega (arith, eat-dts-include′ .eat-dts-include .kept, eat-preprocessor-directive′ .eat-preprocessor-directive .kept)
 
-pub returns-2 : (t : ℕ) → lts.Need-returns-2 (cell-rest-claims t) (cell-rest-at t) reads.Post
+pub returns-2 : (t : ℕ) → lts.Need-returns-2 (cell2-claims t) (cell2-at t) reads.Post
 unfolding silent
 returns-2 t c =
     let if2′ = c in
@@ -77,34 +77,34 @@ returns-2 t c =
       (omega (arith, eat-dts-include′ .eat-dts-include .ensures .1 .0, eat-preprocessor-directive′ .eat-preprocessor-directive .ensures .1 .0, eat-preprocessor-directive′ .eat-preprocessor-directive .ensures .1 .1 (if2′ .if2 .taken)), λ e. omega (arith, eat-dts-include′ .eat-dts-include .ensures .1 .0, eat-preprocessor-directive′ .eat-preprocessor-directive .ensures .1 .0, eat-preprocessor-directive′ .eat-preprocessor-directive .ensures .1 .1 (if2′ .if2 .taken))),
     )
 
-pub slice-aggregate-silent-at-set : (t : ℕ) → lts.Need-slice-aggregate-silent-at-set (cell-rest-claims t) (cell-rest-at t) reads.Post
+pub slice-aggregate-silent-at-set : (t : ℕ) → lts.Need-slice-aggregate-silent-at-set (cell2-claims t) (cell2-at t) reads.Post
 slice-aggregate-silent-at-set t c = search needs
 
-pub silent-at-set-requires : (t : ℕ) → lts.Need-silent-at-set-requires (cell-rest-claims t) (cell-rest-at t) reads.Post
+pub silent-at-set-requires : (t : ℕ) → lts.Need-silent-at-set-requires (cell2-claims t) (cell2-at t) reads.Post
 silent-at-set-requires t c κs = tt
 
-pub at-requires : (t : ℕ) → lts.Need-at-requires (cell-rest-claims t) (cell-rest-at t) reads.Post
+pub at-requires : (t : ℕ) → lts.Need-at-requires (cell2-claims t) (cell2-at t) reads.Post
 at-requires t c κs = tt
 
-pub same-length-7 : (t : ℕ) → lts.Need-same-length-7 (cell-rest-claims t) (cell-rest-at t) reads.Post
+pub same-length-7 : (t : ℕ) → lts.Need-same-length-7 (cell2-claims t) (cell2-at t) reads.Post
 same-length-7 t c =
     let eat-preprocessor-directive′ = c .before .before .before .before .before .before .before .before .before .before .before .before .before in
     let eat-dts-include′ = eat-preprocessor-directive′ .before .before .before .before .before .before .before .before .before .before .before in
     omega (arith, eat-dts-include′ .eat-dts-include .kept, eat-preprocessor-directive′ .eat-preprocessor-directive .kept)
 
-pub same-length-8 : (t : ℕ) → lts.Need-same-length-8 (cell-rest-claims t) (cell-rest-at t) reads.Post
+pub same-length-8 : (t : ℕ) → lts.Need-same-length-8 (cell2-claims t) (cell2-at t) reads.Post
 same-length-8 t c =
     let eat-preprocessor-directive′ = c .before .before .before .before .before .before .before .before .before .before .before .before .before in
     let eat-dts-include′ = eat-preprocessor-directive′ .before .before .before .before .before .before .before .before .before .before .before in
     omega (arith, eat-dts-include′ .eat-dts-include .kept, eat-preprocessor-directive′ .eat-preprocessor-directive .kept)
 
-pub same-length-9 : (t : ℕ) → lts.Need-same-length-9 (cell-rest-claims t) (cell-rest-at t) reads.Post
+pub same-length-9 : (t : ℕ) → lts.Need-same-length-9 (cell2-claims t) (cell2-at t) reads.Post
 same-length-9 t c =
     let eat-preprocessor-directive′ = c .before .before .before .before .before .before .before .before .before .before .before .before .before in
     let eat-dts-include′ = eat-preprocessor-directive′ .before .before .before .before .before .before .before .before .before .before .before in
     omega (arith, eat-dts-include′ .eat-dts-include .kept, eat-preprocessor-directive′ .eat-preprocessor-directive .kept)
 
-pub returns-3 : (t : ℕ) → lts.Need-returns-3 (cell-rest-claims t) (cell-rest-at t) reads.Post
+pub returns-3 : (t : ℕ) → lts.Need-returns-3 (cell2-claims t) (cell2-at t) reads.Post
 unfolding silent
 returns-3 t c =
     let if4′ = c .before in
@@ -120,31 +120,31 @@ returns-3 t c =
       (omega (arith, eat-dts-include′ .eat-dts-include .ensures .1 .0, eat-preprocessor-directive′ .eat-preprocessor-directive .ensures .1 .0, silent-at-set′ .silent-at-set .ensures .1 .0, silent-at-set′ .silent-at-set .ensures .1 .1 (if3′ .if3 .taken), at′ .at .ensures .1 .0, at′ .at .ensures .1 .1 (if4′ .if4 .taken)), λ e. true-false (sym e)),
     )
 
-pub error-requires : (t : ℕ) → lts.Need-error-requires (cell-rest-claims t) (cell-rest-at t) reads.Post
+pub error-requires : (t : ℕ) → lts.Need-error-requires (cell2-claims t) (cell2-at t) reads.Post
 error-requires t c κs = tt
 
-pub same-length-10 : (t : ℕ) → lts.Need-same-length-10 (cell-rest-claims t) (cell-rest-at t) reads.Post
+pub same-length-10 : (t : ℕ) → lts.Need-same-length-10 (cell2-claims t) (cell2-at t) reads.Post
 same-length-10 t c =
     let error′ = c .before .before .before .before .before .before in
     let eat-preprocessor-directive′ = error′ .before .before .before .before .before .before .before .before .before .before .before .before .before .before .before .before in
     let eat-dts-include′ = eat-preprocessor-directive′ .before .before .before .before .before .before .before .before .before .before .before in
     omega (arith, eat-dts-include′ .eat-dts-include .kept, eat-preprocessor-directive′ .eat-preprocessor-directive .kept, error′ .error .kept)
 
-pub same-length-11 : (t : ℕ) → lts.Need-same-length-11 (cell-rest-claims t) (cell-rest-at t) reads.Post
+pub same-length-11 : (t : ℕ) → lts.Need-same-length-11 (cell2-claims t) (cell2-at t) reads.Post
 same-length-11 t c =
     let error′ = c .before .before .before .before .before .before in
     let eat-preprocessor-directive′ = error′ .before .before .before .before .before .before .before .before .before .before .before .before .before .before .before .before in
     let eat-dts-include′ = eat-preprocessor-directive′ .before .before .before .before .before .before .before .before .before .before .before in
     omega (arith, eat-dts-include′ .eat-dts-include .kept, eat-preprocessor-directive′ .eat-preprocessor-directive .kept, error′ .error .kept)
 
-pub same-length-12 : (t : ℕ) → lts.Need-same-length-12 (cell-rest-claims t) (cell-rest-at t) reads.Post
+pub same-length-12 : (t : ℕ) → lts.Need-same-length-12 (cell2-claims t) (cell2-at t) reads.Post
 same-length-12 t c =
     let error′ = c .before .before .before .before .before .before in
     let eat-preprocessor-directive′ = error′ .before .before .before .before .before .before .before .before .before .before .before .before .before .before .before .before in
     let eat-dts-include′ = eat-preprocessor-directive′ .before .before .before .before .before .before .before .before .before .before .before in
     omega (arith, eat-dts-include′ .eat-dts-include .kept, eat-preprocessor-directive′ .eat-preprocessor-directive .kept, error′ .error .kept)
 
-pub returns-4 : (t : ℕ) → lts.Need-returns-4 (cell-rest-claims t) (cell-rest-at t) reads.Post
+pub returns-4 : (t : ℕ) → lts.Need-returns-4 (cell2-claims t) (cell2-at t) reads.Post
 unfolding silent
 returns-4 t c =
     let error′ = c .before .before .before .before .before .before in
@@ -161,25 +161,25 @@ returns-4 t c =
       (omega (arith, eat-dts-include′ .eat-dts-include .ensures .1 .0, eat-preprocessor-directive′ .eat-preprocessor-directive .ensures .1 .0, silent-at-set′ .silent-at-set .ensures .1 .0, silent-at-set′ .silent-at-set .ensures .1 .1 (if3′ .if3 .taken), at′ .at .ensures .1 .0, error′ .error .ensures .1), λ e. omega (arith, eat-dts-include′ .eat-dts-include .ensures .1 .0, eat-preprocessor-directive′ .eat-preprocessor-directive .ensures .1 .0, silent-at-set′ .silent-at-set .ensures .1 .0, silent-at-set′ .silent-at-set .ensures .1 .1 (if3′ .if3 .taken), at′ .at .ensures .1 .0, error′ .error .ensures .1)),
     )
 
-pub same-length-13 : (t : ℕ) → lts.Need-same-length-13 (cell-rest-claims t) (cell-rest-at t) reads.Post
+pub same-length-13 : (t : ℕ) → lts.Need-same-length-13 (cell2-claims t) (cell2-at t) reads.Post
 same-length-13 t c =
     let eat-preprocessor-directive′ = c .before .before .before .before .before .before .before .before .before .before in
     let eat-dts-include′ = eat-preprocessor-directive′ .before .before .before .before .before .before .before .before .before .before .before in
     omega (arith, eat-dts-include′ .eat-dts-include .kept, eat-preprocessor-directive′ .eat-preprocessor-directive .kept)
 
-pub same-length-14 : (t : ℕ) → lts.Need-same-length-14 (cell-rest-claims t) (cell-rest-at t) reads.Post
+pub same-length-14 : (t : ℕ) → lts.Need-same-length-14 (cell2-claims t) (cell2-at t) reads.Post
 same-length-14 t c =
     let eat-preprocessor-directive′ = c .before .before .before .before .before .before .before .before .before .before in
     let eat-dts-include′ = eat-preprocessor-directive′ .before .before .before .before .before .before .before .before .before .before .before in
     omega (arith, eat-dts-include′ .eat-dts-include .kept, eat-preprocessor-directive′ .eat-preprocessor-directive .kept)
 
-pub same-length-15 : (t : ℕ) → lts.Need-same-length-15 (cell-rest-claims t) (cell-rest-at t) reads.Post
+pub same-length-15 : (t : ℕ) → lts.Need-same-length-15 (cell2-claims t) (cell2-at t) reads.Post
 same-length-15 t c =
     let eat-preprocessor-directive′ = c .before .before .before .before .before .before .before .before .before .before in
     let eat-dts-include′ = eat-preprocessor-directive′ .before .before .before .before .before .before .before .before .before .before .before in
     omega (arith, eat-dts-include′ .eat-dts-include .kept, eat-preprocessor-directive′ .eat-preprocessor-directive .kept)
 
-pub returns-5 : (t : ℕ) → lts.Need-returns-5 (cell-rest-claims t) (cell-rest-at t) reads.Post
+pub returns-5 : (t : ℕ) → lts.Need-returns-5 (cell2-claims t) (cell2-at t) reads.Post
 unfolding silent
 returns-5 t c =
     let if3′ = c in

@@ -14,8 +14,8 @@ use Rattle.machine.proofs.Way.{c-walk, c-act, c-ret, c-seq, c-yes, c-no, c-fn}
 use Rattle.parts.proofs.Steps.{ahead-falls}
 use Rattle.grammar.proofs.Ways.{c-part, part-on, again-part, last-yes}
 use Rattle.grammar.proofs.cond_branches_and_end.Reads as reads
-use Rattle.grammar.proofs.+bad_node+bad_prop+bits_value+branch+cell_rest+cells+cond_branches_and_end+dt_cell_list+dt_node_body+dt_property+eat_cell+eat_inside+eat_node_or_prop+eat_preprocessor_directive+item+item_rest+items+no_property+propvalue+propvalues+value_rest.Lts-cond_branches_and_end as lts
-use Rattle.grammar.proofs.+bad_node+bad_prop+bits_value+branch+cell_rest+cells+cond_branches_and_end+dt_cell_list+dt_node_body+dt_property+eat_cell+eat_inside+eat_node_or_prop+eat_preprocessor_directive+item+item_rest+items+no_property+propvalue+propvalues+value_rest.Proof.Measures.{cond-branches-and-end-at, cond-branches-and-end-claims}
+use Rattle.grammar.proofs.+arm+bits+cell2+cells+cond_branches_and_end+dt_cell_list+dt_node_body+dt_property+eat_cell+eat_inside+eat_node_or_prop+eat_preprocessor_directive+item+item2+propvalues+rest+value+value2.Lts-cond_branches_and_end as lts
+use Rattle.grammar.proofs.+arm+bits+cell2+cells+cond_branches_and_end+dt_cell_list+dt_node_body+dt_property+eat_cell+eat_inside+eat_node_or_prop+eat_preprocessor_directive+item+item2+propvalues+rest+value+value2.Proof.Measures.{cond-branches-and-end-at, cond-branches-and-end-claims}
 
 -- the loop from here is the loop from the start
 abbrev pub Inv-loop : lts.InvT-loop
@@ -31,8 +31,8 @@ abbrev pub μ-loop : lts.MeasureT-loop
 pub loop-holds : (t : ℕ) → lts.Need-loop-holds (cond-branches-and-end-claims t) (cond-branches-and-end-at t) reads.Post Inv-loop μ-loop
 loop-holds t c = (omega arith, (refl, (refl, (refl, refl))))
 
-pub branch-requires : (t : ℕ) → lts.Need-branch-requires (cond-branches-and-end-claims t) (cond-branches-and-end-at t) reads.Post Inv-loop μ-loop
-branch-requires t c κs =
+pub arm-requires : (t : ℕ) → lts.Need-arm-requires (cond-branches-and-end-claims t) (cond-branches-and-end-at t) reads.Post Inv-loop μ-loop
+arm-requires t c κs =
     let loop′ = c .before .before .before in
     let s′ = loop′ .before .before .before .before .before in
     (omega (arith, loop′ .loop .inv .0, s′ .pre .0), tt)
@@ -44,26 +44,26 @@ pub loop-less : (t : ℕ) → lts.Need-loop-less (cond-branches-and-end-claims t
 loop-less t c =
     let bump′ = c .before .before in
     let if1′ = bump′ .before .before in
-    let branch′ = if1′ .before .before .before .before .before .before .before in
-    let loop′ = branch′ .before .before .before .before in
-    omega (arith, loop′ .loop .inv .0, branch′ .branch .ensures .1 .0, branch′ .branch .ensures .1 .1 (if1′ .if1 .taken), bump′ .bump .ensures .1)
+    let arm′ = if1′ .before .before .before .before .before .before .before in
+    let loop′ = arm′ .before .before .before .before in
+    omega (arith, loop′ .loop .inv .0, arm′ .arm .ensures .1 .0, arm′ .arm .ensures .1 .1 (if1′ .if1 .taken), bump′ .bump .ensures .1)
 
 pub loop-again : (t : ℕ) → lts.Need-loop-again (cond-branches-and-end-claims t) (cond-branches-and-end-at t) reads.Post Inv-loop μ-loop
 unfolding cond-branches-and-end cond-branches-turn
 loop-again t c =
     let bump′ = c .before .before in
     let if1′ = bump′ .before .before in
-    let branch′ = if1′ .before .before .before .before .before .before .before in
-    let loop′ = branch′ .before .before .before .before in
+    let arm′ = if1′ .before .before .before .before .before .before .before in
+    let loop′ = arm′ .before .before .before .before in
     let s′ = loop′ .before .before .before .before .before in (
-      omega (arith, loop′ .loop .inv .0, branch′ .branch .ensures .1 .0, branch′ .branch .ensures .1 .1 (if1′ .if1 .taken), bump′ .bump .ensures .1),
+      omega (arith, loop′ .loop .inv .0, arm′ .arm .ensures .1 .0, arm′ .arm .ensures .1 .1 (if1′ .if1 .taken), bump′ .bump .ensures .1),
       (
-        omega (arith, branch′ .branch .kept, bump′ .bump .kept, loop′ .loop .inv .1),
+        omega (arith, arm′ .arm .kept, bump′ .bump .kept, loop′ .loop .inv .1),
         (
-          omega (arith, branch′ .branch .kept, bump′ .bump .kept, loop′ .loop .inv .1),
+          omega (arith, arm′ .arm .kept, bump′ .bump .kept, loop′ .loop .inv .1),
           (
-            omega (arith, branch′ .branch .kept, bump′ .bump .kept, loop′ .loop .inv .1),
-            again-part (s′ .args .room) (c-yes (c-fn (s′ .args .room) (branch′ .branch .ensures .0)) (if1′ .if1 .taken) (c-seq (c-act (bump′ .bump .ensures .0 unlabelled _ _)) c-ret)) (ahead-falls (s′ .args .t .now) (loop′ .loop .q .s) (bump′ .bump .result .s) (omega (arith, loop′ .loop .inv .0, branch′ .branch .ensures .1 .0, branch′ .branch .ensures .1 .1 (if1′ .if1 .taken), bump′ .bump .ensures .1))) ∙ loop′ .loop .inv .1 .1 .1 .1,
+            omega (arith, arm′ .arm .kept, bump′ .bump .kept, loop′ .loop .inv .1),
+            again-part (s′ .args .room) (c-yes (c-fn (s′ .args .room) (arm′ .arm .ensures .0)) (if1′ .if1 .taken) (c-seq (c-act (bump′ .bump .ensures .0 unlabelled _ _)) c-ret)) (ahead-falls (s′ .args .t .now) (loop′ .loop .q .s) (bump′ .bump .result .s) (omega (arith, loop′ .loop .inv .0, arm′ .arm .ensures .1 .0, arm′ .arm .ensures .1 .1 (if1′ .if1 .taken), bump′ .bump .ensures .1))) ∙ loop′ .loop .inv .1 .1 .1 .1,
           ),
         ),
       ),
@@ -75,32 +75,32 @@ expect-requires t c κs = tt
 pub same-length : (t : ℕ) → lts.Need-same-length (cond-branches-and-end-claims t) (cond-branches-and-end-at t) reads.Post Inv-loop μ-loop
 same-length t c =
     let expect′ = c .before .before .before .before .before .before .before in
-    let branch′ = expect′ .before .before .before .before .before .before .before .before .before .before .before in
-    let loop′ = branch′ .before .before .before .before in
-    omega (arith, branch′ .branch .kept, expect′ .expect .kept, loop′ .loop .inv .1)
+    let arm′ = expect′ .before .before .before .before .before .before .before .before .before .before .before in
+    let loop′ = arm′ .before .before .before .before in
+    omega (arith, arm′ .arm .kept, expect′ .expect .kept, loop′ .loop .inv .1)
 
 pub same-length-2 : (t : ℕ) → lts.Need-same-length-2 (cond-branches-and-end-claims t) (cond-branches-and-end-at t) reads.Post Inv-loop μ-loop
 same-length-2 t c =
     let expect′ = c .before .before .before .before .before .before .before in
-    let branch′ = expect′ .before .before .before .before .before .before .before .before .before .before .before in
-    let loop′ = branch′ .before .before .before .before in
-    omega (arith, branch′ .branch .kept, expect′ .expect .kept, loop′ .loop .inv .1)
+    let arm′ = expect′ .before .before .before .before .before .before .before .before .before .before .before in
+    let loop′ = arm′ .before .before .before .before in
+    omega (arith, arm′ .arm .kept, expect′ .expect .kept, loop′ .loop .inv .1)
 
 pub same-length-3 : (t : ℕ) → lts.Need-same-length-3 (cond-branches-and-end-claims t) (cond-branches-and-end-at t) reads.Post Inv-loop μ-loop
 same-length-3 t c =
     let expect′ = c .before .before .before .before .before .before .before in
-    let branch′ = expect′ .before .before .before .before .before .before .before .before .before .before .before in
-    let loop′ = branch′ .before .before .before .before in
-    omega (arith, branch′ .branch .kept, expect′ .expect .kept, loop′ .loop .inv .1)
+    let arm′ = expect′ .before .before .before .before .before .before .before .before .before .before .before in
+    let loop′ = arm′ .before .before .before .before in
+    omega (arith, arm′ .arm .kept, expect′ .expect .kept, loop′ .loop .inv .1)
 
 pub returns : (t : ℕ) → lts.Need-returns (cond-branches-and-end-claims t) (cond-branches-and-end-at t) reads.Post Inv-loop μ-loop
 unfolding cond-branches-and-end cond-branches-turn
 returns t c =
     let expect′ = c .before .before .before .before .before .before .before in
     let if1′ = expect′ .before .before .before .before in
-    let branch′ = if1′ .before .before .before .before .before .before .before in
-    let loop′ = branch′ .before .before .before .before in
+    let arm′ = if1′ .before .before .before .before .before .before .before in
+    let loop′ = arm′ .before .before .before .before in
     let s′ = loop′ .before .before .before .before .before in (
-      part-on (s′ .args .room) (c-seq (c-part (s′ .args .room) (last-yes (s′ .args .room) (c-no (c-fn (s′ .args .room) (branch′ .branch .ensures .0)) (if1′ .if1 .left) c-ret) ∙ loop′ .loop .inv .1 .1 .1 .1)) (c-walk (expect′ .expect .ensures .0 (walk-rule (s′ .args .room) (tokens (s′ .args .t .now))) unlabelled))),
-      omega (arith, loop′ .loop .inv .0, branch′ .branch .ensures .1 .0, expect′ .expect .ensures .1 .0),
+      part-on (s′ .args .room) (c-seq (c-part (s′ .args .room) (last-yes (s′ .args .room) (c-no (c-fn (s′ .args .room) (arm′ .arm .ensures .0)) (if1′ .if1 .left) c-ret) ∙ loop′ .loop .inv .1 .1 .1 .1)) (c-walk (expect′ .expect .ensures .0 (walk-rule (s′ .args .room) (tokens (s′ .args .t .now))) unlabelled))),
+      omega (arith, loop′ .loop .inv .0, arm′ .arm .ensures .1 .0, expect′ .expect .ensures .1 .0),
     )

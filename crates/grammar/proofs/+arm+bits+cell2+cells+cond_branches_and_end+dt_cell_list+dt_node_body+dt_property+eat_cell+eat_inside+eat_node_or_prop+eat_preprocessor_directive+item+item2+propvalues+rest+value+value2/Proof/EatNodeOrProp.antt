@@ -11,8 +11,8 @@ use Rattle.parts.proofs.Steps.{true-false, c-said-no, c-said-also, closing, ign
 use Rattle.parts.specs.View.{found}
 use Rattle.grammar.proofs.Ways.{c-same, c-said-other, found-other}
 use Rattle.grammar.proofs.eat_node_or_prop.Reads as reads
-use Rattle.grammar.proofs.+bad_node+bad_prop+bits_value+branch+cell_rest+cells+cond_branches_and_end+dt_cell_list+dt_node_body+dt_property+eat_cell+eat_inside+eat_node_or_prop+eat_preprocessor_directive+item+item_rest+items+no_property+propvalue+propvalues+value_rest.Lts-eat_node_or_prop as lts
-use Rattle.grammar.proofs.+bad_node+bad_prop+bits_value+branch+cell_rest+cells+cond_branches_and_end+dt_cell_list+dt_node_body+dt_property+eat_cell+eat_inside+eat_node_or_prop+eat_preprocessor_directive+item+item_rest+items+no_property+propvalue+propvalues+value_rest.Proof.Measures.{eat-node-or-prop-at, eat-node-or-prop-claims}
+use Rattle.grammar.proofs.+arm+bits+cell2+cells+cond_branches_and_end+dt_cell_list+dt_node_body+dt_property+eat_cell+eat_inside+eat_node_or_prop+eat_preprocessor_directive+item+item2+propvalues+rest+value+value2.Lts-eat_node_or_prop as lts
+use Rattle.grammar.proofs.+arm+bits+cell2+cells+cond_branches_and_end+dt_cell_list+dt_node_body+dt_property+eat_cell+eat_inside+eat_node_or_prop+eat_preprocessor_directive+item+item2+propvalues+rest+value+value2.Proof.Measures.{eat-node-or-prop-at, eat-node-or-prop-claims}
 
 pub new-requires : (t : ℕ) → lts.Need-new-requires (eat-node-or-prop-claims t) (eat-node-or-prop-at t) reads.Post
 new-requires t c κs = tt
@@ -84,16 +84,16 @@ returns t c =
       (omega (arith, start′ .start .ensures .1 (s′ .args .t .now), eat-node-or-prop-prefix′ .eat-node-or-prop-prefix .ensures .1, at′ .at .ensures .1 .0, at′ .at .ensures .1 .1 (if1′ .if1 .taken), dt-property′ .dt-property .ensures .1, ap found (enum-told2′ .enum-told2 .given .1)), λ e. omega (arith, start′ .start .ensures .1 (s′ .args .t .now), eat-node-or-prop-prefix′ .eat-node-or-prop-prefix .ensures .1, at′ .at .ensures .1 .0, at′ .at .ensures .1 .1 (if1′ .if1 .taken), dt-property′ .dt-property .ensures .1, ap found (enum-told2′ .enum-told2 .given .1))),
     )
 
-pub no-property-requires : (t : ℕ) → lts.Need-no-property-requires (eat-node-or-prop-claims t) (eat-node-or-prop-at t) reads.Post
-no-property-requires t c κs =
+pub rest-requires : (t : ℕ) → lts.Need-rest-requires (eat-node-or-prop-claims t) (eat-node-or-prop-at t) reads.Post
+rest-requires t c κs =
     let at′ = c .before .before .before .before in
     let eat-node-or-prop-prefix′ = at′ .before .before .before .before .before .before .before .before .before in
     let start′ = eat-node-or-prop-prefix′ .before .before .before .before .before .before in
     let s′ = start′ .before .before .before .before .before .before .before in
     (omega (arith, start′ .start .ensures .1 (s′ .args .t .now), eat-node-or-prop-prefix′ .eat-node-or-prop-prefix .ensures .1, at′ .at .ensures .1 .0, s′ .pre .0), tt)
 
-pub no-property-requires-2 : (t : ℕ) → lts.Need-no-property-requires-2 (eat-node-or-prop-claims t) (eat-node-or-prop-at t) reads.Post
-no-property-requires-2 t c κs =
+pub rest-requires-2 : (t : ℕ) → lts.Need-rest-requires-2 (eat-node-or-prop-claims t) (eat-node-or-prop-at t) reads.Post
+rest-requires-2 t c κs =
     let eat-node-or-prop-prefix′ = c .before .before .before .before .before .before .before .before .before .before in
     let start′ = eat-node-or-prop-prefix′ .before .before .before .before .before .before in
     let s′ = start′ .before .before .before .before .before .before .before in
@@ -135,70 +135,70 @@ returns-2 t c =
 
 pub same-length-7 : (t : ℕ) → lts.Need-same-length-7 (eat-node-or-prop-claims t) (eat-node-or-prop-at t) reads.Post
 same-length-7 t c =
-    let no-property′ = c .before .before .before .before .before .before in
-    let eat-node-or-prop-prefix′ = no-property′ .before .before .before .before .before .before .before .before .before .before .before .before .before .before in
+    let rest′ = c .before .before .before .before .before .before in
+    let eat-node-or-prop-prefix′ = rest′ .before .before .before .before .before .before .before .before .before .before .before .before .before .before in
     let start′ = eat-node-or-prop-prefix′ .before .before .before .before .before .before in
-    omega (arith, start′ .start .kept, eat-node-or-prop-prefix′ .eat-node-or-prop-prefix .kept, no-property′ .no-property .kept)
+    omega (arith, start′ .start .kept, eat-node-or-prop-prefix′ .eat-node-or-prop-prefix .kept, rest′ .rest .kept)
 
 pub same-length-8 : (t : ℕ) → lts.Need-same-length-8 (eat-node-or-prop-claims t) (eat-node-or-prop-at t) reads.Post
 same-length-8 t c =
-    let no-property′ = c .before .before .before .before .before .before in
-    let eat-node-or-prop-prefix′ = no-property′ .before .before .before .before .before .before .before .before .before .before .before .before .before .before in
+    let rest′ = c .before .before .before .before .before .before in
+    let eat-node-or-prop-prefix′ = rest′ .before .before .before .before .before .before .before .before .before .before .before .before .before .before in
     let start′ = eat-node-or-prop-prefix′ .before .before .before .before .before .before in
-    omega (arith, start′ .start .kept, eat-node-or-prop-prefix′ .eat-node-or-prop-prefix .kept, no-property′ .no-property .kept)
+    omega (arith, start′ .start .kept, eat-node-or-prop-prefix′ .eat-node-or-prop-prefix .kept, rest′ .rest .kept)
 
 pub same-length-9 : (t : ℕ) → lts.Need-same-length-9 (eat-node-or-prop-claims t) (eat-node-or-prop-at t) reads.Post
 same-length-9 t c =
-    let no-property′ = c .before .before .before .before .before .before in
-    let eat-node-or-prop-prefix′ = no-property′ .before .before .before .before .before .before .before .before .before .before .before .before .before .before in
+    let rest′ = c .before .before .before .before .before .before in
+    let eat-node-or-prop-prefix′ = rest′ .before .before .before .before .before .before .before .before .before .before .before .before .before .before in
     let start′ = eat-node-or-prop-prefix′ .before .before .before .before .before .before in
-    omega (arith, start′ .start .kept, eat-node-or-prop-prefix′ .eat-node-or-prop-prefix .kept, no-property′ .no-property .kept)
+    omega (arith, start′ .start .kept, eat-node-or-prop-prefix′ .eat-node-or-prop-prefix .kept, rest′ .rest .kept)
 
 pub returns-3 : (t : ℕ) → lts.Need-returns-3 (eat-node-or-prop-claims t) (eat-node-or-prop-at t) reads.Post
 unfolding eat-node-or-prop
 returns-3 t c =
-    let no-property′ = c .before .before .before .before .before .before in
-    let if1′ = no-property′ .before .before .before .before in
+    let rest′ = c .before .before .before .before .before .before in
+    let if1′ = rest′ .before .before .before .before in
     let at′ = if1′ .before in
     let enum-told2′ = at′ .before in
     let eat-node-or-prop-prefix′ = enum-told2′ .before .before .before .before .before .before .before .before in
     let start′ = eat-node-or-prop-prefix′ .before .before .before .before .before .before in
     let new′ = start′ .before .before in
     let s′ = new′ .before .before .before .before .before in (
-      way (s′ .args .room) (c-mark (new′ .new .ensures) (start′ .start .ensures .0 _ _) (c-said-also (eat-node-or-prop-prefix′ .eat-node-or-prop-prefix .result .answer) (c-walk (eat-node-or-prop-prefix′ .eat-node-or-prop-prefix .ensures .0 (walk-rule (s′ .args .room) (tokens (s′ .args .t .now))) unlabelled)) (ap answer-of (enum-told2′ .enum-told2 .given .1)) (c-no (c-walk (at′ .at .ensures .0 (walk-rule (s′ .args .room) (tokens (s′ .args .t .now))) unlabelled _ _ _)) (if1′ .if1 .left) (c-same (s′ .args .room)))) (closing (no-property′ .no-property .ensures .0))),
-      (omega (arith, start′ .start .ensures .1 (s′ .args .t .now), eat-node-or-prop-prefix′ .eat-node-or-prop-prefix .ensures .1, at′ .at .ensures .1 .0, no-property′ .no-property .ensures .1, ap found (enum-told2′ .enum-told2 .given .1)), λ e. omega (arith, start′ .start .ensures .1 (s′ .args .t .now), eat-node-or-prop-prefix′ .eat-node-or-prop-prefix .ensures .1, at′ .at .ensures .1 .0, no-property′ .no-property .ensures .1, ap found (enum-told2′ .enum-told2 .given .1))),
+      way (s′ .args .room) (c-mark (new′ .new .ensures) (start′ .start .ensures .0 _ _) (c-said-also (eat-node-or-prop-prefix′ .eat-node-or-prop-prefix .result .answer) (c-walk (eat-node-or-prop-prefix′ .eat-node-or-prop-prefix .ensures .0 (walk-rule (s′ .args .room) (tokens (s′ .args .t .now))) unlabelled)) (ap answer-of (enum-told2′ .enum-told2 .given .1)) (c-no (c-walk (at′ .at .ensures .0 (walk-rule (s′ .args .room) (tokens (s′ .args .t .now))) unlabelled _ _ _)) (if1′ .if1 .left) (c-same (s′ .args .room)))) (closing (rest′ .rest .ensures .0))),
+      (omega (arith, start′ .start .ensures .1 (s′ .args .t .now), eat-node-or-prop-prefix′ .eat-node-or-prop-prefix .ensures .1, at′ .at .ensures .1 .0, rest′ .rest .ensures .1, ap found (enum-told2′ .enum-told2 .given .1)), λ e. omega (arith, start′ .start .ensures .1 (s′ .args .t .now), eat-node-or-prop-prefix′ .eat-node-or-prop-prefix .ensures .1, at′ .at .ensures .1 .0, rest′ .rest .ensures .1, ap found (enum-told2′ .enum-told2 .given .1))),
     )
 
 pub same-length-10 : (t : ℕ) → lts.Need-same-length-10 (eat-node-or-prop-claims t) (eat-node-or-prop-at t) reads.Post
 same-length-10 t c =
-    let no-property2′ = c .before .before .before .before .before .before in
-    let eat-node-or-prop-prefix′ = no-property2′ .before .before .before .before .before .before .before .before .before .before .before in
+    let rest2′ = c .before .before .before .before .before .before in
+    let eat-node-or-prop-prefix′ = rest2′ .before .before .before .before .before .before .before .before .before .before .before in
     let start′ = eat-node-or-prop-prefix′ .before .before .before .before .before .before in
-    omega (arith, start′ .start .kept, eat-node-or-prop-prefix′ .eat-node-or-prop-prefix .kept, no-property2′ .no-property2 .kept)
+    omega (arith, start′ .start .kept, eat-node-or-prop-prefix′ .eat-node-or-prop-prefix .kept, rest2′ .rest2 .kept)
 
 pub same-length-11 : (t : ℕ) → lts.Need-same-length-11 (eat-node-or-prop-claims t) (eat-node-or-prop-at t) reads.Post
 same-length-11 t c =
-    let no-property2′ = c .before .before .before .before .before .before in
-    let eat-node-or-prop-prefix′ = no-property2′ .before .before .before .before .before .before .before .before .before .before .before in
+    let rest2′ = c .before .before .before .before .before .before in
+    let eat-node-or-prop-prefix′ = rest2′ .before .before .before .before .before .before .before .before .before .before .before in
     let start′ = eat-node-or-prop-prefix′ .before .before .before .before .before .before in
-    omega (arith, start′ .start .kept, eat-node-or-prop-prefix′ .eat-node-or-prop-prefix .kept, no-property2′ .no-property2 .kept)
+    omega (arith, start′ .start .kept, eat-node-or-prop-prefix′ .eat-node-or-prop-prefix .kept, rest2′ .rest2 .kept)
 
 pub same-length-12 : (t : ℕ) → lts.Need-same-length-12 (eat-node-or-prop-claims t) (eat-node-or-prop-at t) reads.Post
 same-length-12 t c =
-    let no-property2′ = c .before .before .before .before .before .before in
-    let eat-node-or-prop-prefix′ = no-property2′ .before .before .before .before .before .before .before .before .before .before .before in
+    let rest2′ = c .before .before .before .before .before .before in
+    let eat-node-or-prop-prefix′ = rest2′ .before .before .before .before .before .before .before .before .before .before .before in
     let start′ = eat-node-or-prop-prefix′ .before .before .before .before .before .before in
-    omega (arith, start′ .start .kept, eat-node-or-prop-prefix′ .eat-node-or-prop-prefix .kept, no-property2′ .no-property2 .kept)
+    omega (arith, start′ .start .kept, eat-node-or-prop-prefix′ .eat-node-or-prop-prefix .kept, rest2′ .rest2 .kept)
 
 pub returns-4 : (t : ℕ) → lts.Need-returns-4 (eat-node-or-prop-claims t) (eat-node-or-prop-at t) reads.Post
 unfolding eat-node-or-prop
 returns-4 t c =
-    let no-property2′ = c .before .before .before .before .before .before in
-    let match0′ = no-property2′ .before .before .before .before in
+    let rest2′ = c .before .before .before .before .before .before in
+    let match0′ = rest2′ .before .before .before .before in
     let eat-node-or-prop-prefix′ = match0′ .before .before .before .before .before .before .before in
     let start′ = eat-node-or-prop-prefix′ .before .before .before .before .before .before in
     let new′ = start′ .before .before in
     let s′ = new′ .before .before .before .before .before in (
-      way (s′ .args .room) (c-mark (new′ .new .ensures) (start′ .start .ensures .0 _ _) (c-said-other (eat-node-or-prop-prefix′ .eat-node-or-prop-prefix .result .answer) (c-walk (eat-node-or-prop-prefix′ .eat-node-or-prop-prefix .ensures .0 (walk-rule (s′ .args .room) (tokens (s′ .args .t .now))) unlabelled)) (match0′ .match .keys3) (c-same (s′ .args .room))) (closing (no-property2′ .no-property2 .ensures .0))),
-      (omega (arith, start′ .start .ensures .1 (s′ .args .t .now), eat-node-or-prop-prefix′ .eat-node-or-prop-prefix .ensures .1, no-property2′ .no-property2 .ensures .1, found-other (eat-node-or-prop-prefix′ .eat-node-or-prop-prefix .result .answer) (match0′ .match .keys3)), λ e. omega (arith, start′ .start .ensures .1 (s′ .args .t .now), eat-node-or-prop-prefix′ .eat-node-or-prop-prefix .ensures .1, no-property2′ .no-property2 .ensures .1, found-other (eat-node-or-prop-prefix′ .eat-node-or-prop-prefix .result .answer) (match0′ .match .keys3))),
+      way (s′ .args .room) (c-mark (new′ .new .ensures) (start′ .start .ensures .0 _ _) (c-said-other (eat-node-or-prop-prefix′ .eat-node-or-prop-prefix .result .answer) (c-walk (eat-node-or-prop-prefix′ .eat-node-or-prop-prefix .ensures .0 (walk-rule (s′ .args .room) (tokens (s′ .args .t .now))) unlabelled)) (match0′ .match .keys3) (c-same (s′ .args .room))) (closing (rest2′ .rest2 .ensures .0))),
+      (omega (arith, start′ .start .ensures .1 (s′ .args .t .now), eat-node-or-prop-prefix′ .eat-node-or-prop-prefix .ensures .1, rest2′ .rest2 .ensures .1, found-other (eat-node-or-prop-prefix′ .eat-node-or-prop-prefix .result .answer) (match0′ .match .keys3)), λ e. omega (arith, start′ .start .ensures .1 (s′ .args .t .now), eat-node-or-prop-prefix′ .eat-node-or-prop-prefix .ensures .1, rest2′ .rest2 .ensures .1, found-other (eat-node-or-prop-prefix′ .eat-node-or-prop-prefix .result .answer) (match0′ .match .keys3))),
     )

@@ -14,8 +14,8 @@ use Rattle.machine.proofs.Way.{c-walk, c-act, c-ret, c-yes, c-no, c-fn, rule-cl
 use Rattle.parts.proofs.Steps.{c-said-no, c-said-also, ahead-falls}
 use Rattle.grammar.proofs.Ways.{again-part, last-yes, last-no, as-yes, c-said-other, other-no, c-answered}
 use Rattle.grammar.proofs.propvalues.Reads as reads
-use Rattle.grammar.proofs.+bad_node+bad_prop+bits_value+branch+cell_rest+cells+cond_branches_and_end+dt_cell_list+dt_node_body+dt_property+eat_cell+eat_inside+eat_node_or_prop+eat_preprocessor_directive+item+item_rest+items+no_property+propvalue+propvalues+value_rest.Lts-propvalues as lts
-use Rattle.grammar.proofs.+bad_node+bad_prop+bits_value+branch+cell_rest+cells+cond_branches_and_end+dt_cell_list+dt_node_body+dt_property+eat_cell+eat_inside+eat_node_or_prop+eat_preprocessor_directive+item+item_rest+items+no_property+propvalue+propvalues+value_rest.Proof.Measures.{propvalues-at, propvalues-claims}
+use Rattle.grammar.proofs.+arm+bits+cell2+cells+cond_branches_and_end+dt_cell_list+dt_node_body+dt_property+eat_cell+eat_inside+eat_node_or_prop+eat_preprocessor_directive+item+item2+propvalues+rest+value+value2.Lts-propvalues as lts
+use Rattle.grammar.proofs.+arm+bits+cell2+cells+cond_branches_and_end+dt_cell_list+dt_node_body+dt_property+eat_cell+eat_inside+eat_node_or_prop+eat_preprocessor_directive+item+item2+propvalues+rest+value+value2.Proof.Measures.{propvalues-at, propvalues-claims}
 
 -- the loop from here is the loop from the start
 abbrev pub Inv-loop : lts.InvT-loop
@@ -73,14 +73,14 @@ returns-2 t c =
       omega (arith, loop′ .loop .inv .0, at-end′ .at-end .ensures .1 .0, at-end′ .at-end .ensures .1 .1 .1 (if2′ .if2 .taken), eqb-false (s′ .args .room) 0 (if1′ .if1 .left)),
     )
 
-pub sub-propvalue : (t : ℕ) → lts.Need-sub-propvalue (propvalues-claims t) (propvalues-at t) reads.Post Inv-loop μ-loop
-sub-propvalue t c =
+pub sub-value : (t : ℕ) → lts.Need-sub-value (propvalues-claims t) (propvalues-at t) reads.Post Inv-loop μ-loop
+sub-value t c =
     let if1′ = c .before .before .before .before .before .before in
     let s′ = if1′ .before .before .before .before .before in
     omega (arith, eqb-false (s′ .args .room) 0 (if1′ .if1 .left))
 
-pub propvalue-requires : (t : ℕ) → lts.Need-propvalue-requires (propvalues-claims t) (propvalues-at t) reads.Post Inv-loop μ-loop
-propvalue-requires t c κs =
+pub value-requires : (t : ℕ) → lts.Need-value-requires (propvalues-claims t) (propvalues-at t) reads.Post Inv-loop μ-loop
+value-requires t c κs =
     let if2′ = c .before .before .before in
     let at-end′ = if2′ .before in
     let loop′ = at-end′ .before in
@@ -95,34 +95,34 @@ enum-told t c =
 
 pub same-length-4 : (t : ℕ) → lts.Need-same-length-4 (propvalues-claims t) (propvalues-at t) reads.Post Inv-loop μ-loop
 same-length-4 t c =
-    let propvalue′ = c .before .before .before .before .before .before .before .before .before in
-    let loop′ = propvalue′ .before .before .before .before .before .before in
-    omega (arith, propvalue′ .propvalue .kept, loop′ .loop .inv .1)
+    let value′ = c .before .before .before .before .before .before .before .before .before in
+    let loop′ = value′ .before .before .before .before .before .before in
+    omega (arith, value′ .value .kept, loop′ .loop .inv .1)
 
 pub same-length-5 : (t : ℕ) → lts.Need-same-length-5 (propvalues-claims t) (propvalues-at t) reads.Post Inv-loop μ-loop
 same-length-5 t c =
-    let propvalue′ = c .before .before .before .before .before .before .before .before .before in
-    let loop′ = propvalue′ .before .before .before .before .before .before in
-    omega (arith, propvalue′ .propvalue .kept, loop′ .loop .inv .1)
+    let value′ = c .before .before .before .before .before .before .before .before .before in
+    let loop′ = value′ .before .before .before .before .before .before in
+    omega (arith, value′ .value .kept, loop′ .loop .inv .1)
 
 pub same-length-6 : (t : ℕ) → lts.Need-same-length-6 (propvalues-claims t) (propvalues-at t) reads.Post Inv-loop μ-loop
 same-length-6 t c =
-    let propvalue′ = c .before .before .before .before .before .before .before .before .before in
-    let loop′ = propvalue′ .before .before .before .before .before .before in
-    omega (arith, propvalue′ .propvalue .kept, loop′ .loop .inv .1)
+    let value′ = c .before .before .before .before .before .before .before .before .before in
+    let loop′ = value′ .before .before .before .before .before .before in
+    omega (arith, value′ .value .kept, loop′ .loop .inv .1)
 
 pub returns-3 : (t : ℕ) → lts.Need-returns-3 (propvalues-claims t) (propvalues-at t) reads.Post Inv-loop μ-loop
 unfolding grammar propvalues-body propvalues-turn
 returns-3 t c =
     let enum-told′ = c .before in
-    let propvalue′ = enum-told′ .before .before .before .before .before .before .before .before in
-    let if2′ = propvalue′ .before .before .before .before in
+    let value′ = enum-told′ .before .before .before .before .before .before .before .before in
+    let if2′ = value′ .before .before .before .before in
     let at-end′ = if2′ .before in
     let loop′ = at-end′ .before in
     let if1′ = loop′ .before in
     let s′ = if1′ .before .before .before .before .before in (
-      last-no (s′ .args .room - 1) (c-no (c-act (at-end′ .at-end .ensures .0 unlabelled _ _ _)) (if2′ .if2 .left) (c-said-no (propvalue′ .propvalue .result .answer) (c-fn (s′ .args .room - 1) (propvalue′ .propvalue .ensures .0)) (ap answer-of (enum-told′ .enum-told .given .1)) c-ret)) ∙ loop′ .loop .inv .1 .1 .1 .1 ∙ rule-body (s′ .args .room) (tokens (s′ .args .t .now)) (propvalues (s′ .args .semicolon)) _ (omega (arith, eqb-false (s′ .args .room) 0 (if1′ .if1 .left))),
-      omega (arith, loop′ .loop .inv .0, at-end′ .at-end .ensures .1 .0, at-end′ .at-end .ensures .1 .1 .0 (if2′ .if2 .left), propvalue′ .propvalue .ensures .1, eqb-false (s′ .args .room) 0 (if1′ .if1 .left)),
+      last-no (s′ .args .room - 1) (c-no (c-act (at-end′ .at-end .ensures .0 unlabelled _ _ _)) (if2′ .if2 .left) (c-said-no (value′ .value .result .answer) (c-fn (s′ .args .room - 1) (value′ .value .ensures .0)) (ap answer-of (enum-told′ .enum-told .given .1)) c-ret)) ∙ loop′ .loop .inv .1 .1 .1 .1 ∙ rule-body (s′ .args .room) (tokens (s′ .args .t .now)) (propvalues (s′ .args .semicolon)) _ (omega (arith, eqb-false (s′ .args .room) 0 (if1′ .if1 .left))),
+      omega (arith, loop′ .loop .inv .0, at-end′ .at-end .ensures .1 .0, at-end′ .at-end .ensures .1 .1 .0 (if2′ .if2 .left), value′ .value .ensures .1, eqb-false (s′ .args .room) 0 (if1′ .if1 .left)),
     )
 
 pub enum-told-2 : (t : ℕ) → lts.Need-enum-told-2 (propvalues-claims t) (propvalues-at t) reads.Post Inv-loop μ-loop
@@ -132,34 +132,34 @@ enum-told-2 t c =
 
 pub same-length-7 : (t : ℕ) → lts.Need-same-length-7 (propvalues-claims t) (propvalues-at t) reads.Post Inv-loop μ-loop
 same-length-7 t c =
-    let propvalue′ = c .before .before .before .before .before .before .before .before .before in
-    let loop′ = propvalue′ .before .before .before .before .before .before in
-    omega (arith, propvalue′ .propvalue .kept, loop′ .loop .inv .1)
+    let value′ = c .before .before .before .before .before .before .before .before .before in
+    let loop′ = value′ .before .before .before .before .before .before in
+    omega (arith, value′ .value .kept, loop′ .loop .inv .1)
 
 pub same-length-8 : (t : ℕ) → lts.Need-same-length-8 (propvalues-claims t) (propvalues-at t) reads.Post Inv-loop μ-loop
 same-length-8 t c =
-    let propvalue′ = c .before .before .before .before .before .before .before .before .before in
-    let loop′ = propvalue′ .before .before .before .before .before .before in
-    omega (arith, propvalue′ .propvalue .kept, loop′ .loop .inv .1)
+    let value′ = c .before .before .before .before .before .before .before .before .before in
+    let loop′ = value′ .before .before .before .before .before .before in
+    omega (arith, value′ .value .kept, loop′ .loop .inv .1)
 
 pub same-length-9 : (t : ℕ) → lts.Need-same-length-9 (propvalues-claims t) (propvalues-at t) reads.Post Inv-loop μ-loop
 same-length-9 t c =
-    let propvalue′ = c .before .before .before .before .before .before .before .before .before in
-    let loop′ = propvalue′ .before .before .before .before .before .before in
-    omega (arith, propvalue′ .propvalue .kept, loop′ .loop .inv .1)
+    let value′ = c .before .before .before .before .before .before .before .before .before in
+    let loop′ = value′ .before .before .before .before .before .before in
+    omega (arith, value′ .value .kept, loop′ .loop .inv .1)
 
 pub returns-4 : (t : ℕ) → lts.Need-returns-4 (propvalues-claims t) (propvalues-at t) reads.Post Inv-loop μ-loop
 unfolding grammar propvalues-body propvalues-turn
 returns-4 t c =
     let enum-told2′ = c .before in
-    let propvalue′ = enum-told2′ .before .before .before .before .before .before .before .before in
-    let if2′ = propvalue′ .before .before .before .before in
+    let value′ = enum-told2′ .before .before .before .before .before .before .before .before in
+    let if2′ = value′ .before .before .before .before in
     let at-end′ = if2′ .before in
     let loop′ = at-end′ .before in
     let if1′ = loop′ .before in
     let s′ = if1′ .before .before .before .before .before in (
-      last-yes (s′ .args .room - 1) (c-no (c-act (at-end′ .at-end .ensures .0 unlabelled _ _ _)) (if2′ .if2 .left) (c-said-also (propvalue′ .propvalue .result .answer) (c-fn (s′ .args .room - 1) (propvalue′ .propvalue .ensures .0)) (ap answer-of (enum-told2′ .enum-told2 .given .1)) c-ret)) ∙ loop′ .loop .inv .1 .1 .1 .1 ∙ rule-body (s′ .args .room) (tokens (s′ .args .t .now)) (propvalues (s′ .args .semicolon)) _ (omega (arith, eqb-false (s′ .args .room) 0 (if1′ .if1 .left))),
-      omega (arith, loop′ .loop .inv .0, at-end′ .at-end .ensures .1 .0, at-end′ .at-end .ensures .1 .1 .0 (if2′ .if2 .left), propvalue′ .propvalue .ensures .1, eqb-false (s′ .args .room) 0 (if1′ .if1 .left)),
+      last-yes (s′ .args .room - 1) (c-no (c-act (at-end′ .at-end .ensures .0 unlabelled _ _ _)) (if2′ .if2 .left) (c-said-also (value′ .value .result .answer) (c-fn (s′ .args .room - 1) (value′ .value .ensures .0)) (ap answer-of (enum-told2′ .enum-told2 .given .1)) c-ret)) ∙ loop′ .loop .inv .1 .1 .1 .1 ∙ rule-body (s′ .args .room) (tokens (s′ .args .t .now)) (propvalues (s′ .args .semicolon)) _ (omega (arith, eqb-false (s′ .args .room) 0 (if1′ .if1 .left))),
+      omega (arith, loop′ .loop .inv .0, at-end′ .at-end .ensures .1 .0, at-end′ .at-end .ensures .1 .1 .0 (if2′ .if2 .left), value′ .value .ensures .1, eqb-false (s′ .args .room) 0 (if1′ .if1 .left)),
     )
 
 pub after-propvalue-requires : (t : ℕ) → lts.Need-after-propvalue-requires (propvalues-claims t) (propvalues-at t) reads.Post Inv-loop μ-loop
@@ -173,13 +173,13 @@ enum-told-3 t c =
 pub loop-less : (t : ℕ) → lts.Need-loop-less (propvalues-claims t) (propvalues-at t) reads.Post Inv-loop μ-loop
 loop-less t c =
     let after-propvalue′ = c .before .before .before .before .before .before .before .before .before in
-    let propvalue′ = after-propvalue′ .before .before .before .before .before .before .before .before .before .before .before in
-    let if2′ = propvalue′ .before .before .before .before in
+    let value′ = after-propvalue′ .before .before .before .before .before .before .before .before .before .before .before in
+    let if2′ = value′ .before .before .before .before in
     let at-end′ = if2′ .before in
     let loop′ = at-end′ .before in
     let if1′ = loop′ .before in
     let s′ = if1′ .before .before .before .before .before in
-    omega (arith, loop′ .loop .inv .0, at-end′ .at-end .ensures .1 .0, at-end′ .at-end .ensures .1 .1 .0 (if2′ .if2 .left), propvalue′ .propvalue .ensures .1, after-propvalue′ .after-propvalue .ensures .1 .0, eqb-false (s′ .args .room) 0 (if1′ .if1 .left))
+    omega (arith, loop′ .loop .inv .0, at-end′ .at-end .ensures .1 .0, at-end′ .at-end .ensures .1 .1 .0 (if2′ .if2 .left), value′ .value .ensures .1, after-propvalue′ .after-propvalue .ensures .1 .0, eqb-false (s′ .args .room) 0 (if1′ .if1 .left))
 
 pub loop-again : (t : ℕ) → lts.Need-loop-again (propvalues-claims t) (propvalues-at t) reads.Post Inv-loop μ-loop
 unfolding grammar propvalues-body propvalues-turn
@@ -187,20 +187,20 @@ loop-again t c =
     let enum-told3′ = c .before in
     let after-propvalue′ = enum-told3′ .before .before .before .before .before .before .before .before in
     let match0′ = after-propvalue′ .before .before .before .before in
-    let propvalue′ = match0′ .before .before .before .before .before .before .before in
-    let if2′ = propvalue′ .before .before .before .before in
+    let value′ = match0′ .before .before .before .before .before .before .before in
+    let if2′ = value′ .before .before .before .before in
     let at-end′ = if2′ .before in
     let loop′ = at-end′ .before in
     let if1′ = loop′ .before in
     let s′ = if1′ .before .before .before .before .before in (
-      omega (arith, loop′ .loop .inv .0, at-end′ .at-end .ensures .1 .0, at-end′ .at-end .ensures .1 .1 .0 (if2′ .if2 .left), propvalue′ .propvalue .ensures .1, after-propvalue′ .after-propvalue .ensures .1 .0, eqb-false (s′ .args .room) 0 (if1′ .if1 .left)),
+      omega (arith, loop′ .loop .inv .0, at-end′ .at-end .ensures .1 .0, at-end′ .at-end .ensures .1 .1 .0 (if2′ .if2 .left), value′ .value .ensures .1, after-propvalue′ .after-propvalue .ensures .1 .0, eqb-false (s′ .args .room) 0 (if1′ .if1 .left)),
       (
-        omega (arith, propvalue′ .propvalue .kept, after-propvalue′ .after-propvalue .kept, loop′ .loop .inv .1),
+        omega (arith, value′ .value .kept, after-propvalue′ .after-propvalue .kept, loop′ .loop .inv .1),
         (
-          omega (arith, propvalue′ .propvalue .kept, after-propvalue′ .after-propvalue .kept, loop′ .loop .inv .1),
+          omega (arith, value′ .value .kept, after-propvalue′ .after-propvalue .kept, loop′ .loop .inv .1),
           (
-            omega (arith, propvalue′ .propvalue .kept, after-propvalue′ .after-propvalue .kept, loop′ .loop .inv .1),
-            again-part (s′ .args .room - 1) (c-no (c-act (at-end′ .at-end .ensures .0 unlabelled _ _ _)) (if2′ .if2 .left) (c-said-other (propvalue′ .propvalue .result .answer) (c-fn (s′ .args .room - 1) (propvalue′ .propvalue .ensures .0)) (match0′ .match .keys3) (c-answered (ap answer-of (enum-told3′ .enum-told3 .given .1)) (c-walk (after-propvalue′ .after-propvalue .ensures .0 (walk-rule (s′ .args .room - 1) (tokens (s′ .args .t .now))) unlabelled))))) (ahead-falls (s′ .args .t .now) (loop′ .loop .q .s) (after-propvalue′ .after-propvalue .result .p .s) (omega (arith, loop′ .loop .inv .0, at-end′ .at-end .ensures .1 .0, at-end′ .at-end .ensures .1 .1 .0 (if2′ .if2 .left), propvalue′ .propvalue .ensures .1, after-propvalue′ .after-propvalue .ensures .1 .0, eqb-false (s′ .args .room) 0 (if1′ .if1 .left)))) ∙ loop′ .loop .inv .1 .1 .1 .1,
+            omega (arith, value′ .value .kept, after-propvalue′ .after-propvalue .kept, loop′ .loop .inv .1),
+            again-part (s′ .args .room - 1) (c-no (c-act (at-end′ .at-end .ensures .0 unlabelled _ _ _)) (if2′ .if2 .left) (c-said-other (value′ .value .result .answer) (c-fn (s′ .args .room - 1) (value′ .value .ensures .0)) (match0′ .match .keys3) (c-answered (ap answer-of (enum-told3′ .enum-told3 .given .1)) (c-walk (after-propvalue′ .after-propvalue .ensures .0 (walk-rule (s′ .args .room - 1) (tokens (s′ .args .t .now))) unlabelled))))) (ahead-falls (s′ .args .t .now) (loop′ .loop .q .s) (after-propvalue′ .after-propvalue .result .p .s) (omega (arith, loop′ .loop .inv .0, at-end′ .at-end .ensures .1 .0, at-end′ .at-end .ensures .1 .1 .0 (if2′ .if2 .left), value′ .value .ensures .1, after-propvalue′ .after-propvalue .ensures .1 .0, eqb-false (s′ .args .room) 0 (if1′ .if1 .left)))) ∙ loop′ .loop .inv .1 .1 .1 .1,
           ),
         ),
       ),
@@ -214,23 +214,23 @@ enum-told-4 t c =
 pub same-length-10 : (t : ℕ) → lts.Need-same-length-10 (propvalues-claims t) (propvalues-at t) reads.Post Inv-loop μ-loop
 same-length-10 t c =
     let after-propvalue′ = c .before .before .before .before .before .before .before .before .before in
-    let propvalue′ = after-propvalue′ .before .before .before .before .before .before .before .before .before .before .before in
-    let loop′ = propvalue′ .before .before .before .before .before .before in
-    omega (arith, propvalue′ .propvalue .kept, after-propvalue′ .after-propvalue .kept, loop′ .loop .inv .1)
+    let value′ = after-propvalue′ .before .before .before .before .before .before .before .before .before .before .before in
+    let loop′ = value′ .before .before .before .before .before .before in
+    omega (arith, value′ .value .kept, after-propvalue′ .after-propvalue .kept, loop′ .loop .inv .1)
 
 pub same-length-11 : (t : ℕ) → lts.Need-same-length-11 (propvalues-claims t) (propvalues-at t) reads.Post Inv-loop μ-loop
 same-length-11 t c =
     let after-propvalue′ = c .before .before .before .before .before .before .before .before .before in
-    let propvalue′ = after-propvalue′ .before .before .before .before .before .before .before .before .before .before .before in
-    let loop′ = propvalue′ .before .before .before .before .before .before in
-    omega (arith, propvalue′ .propvalue .kept, after-propvalue′ .after-propvalue .kept, loop′ .loop .inv .1)
+    let value′ = after-propvalue′ .before .before .before .before .before .before .before .before .before .before .before in
+    let loop′ = value′ .before .before .before .before .before .before in
+    omega (arith, value′ .value .kept, after-propvalue′ .after-propvalue .kept, loop′ .loop .inv .1)
 
 pub same-length-12 : (t : ℕ) → lts.Need-same-length-12 (propvalues-claims t) (propvalues-at t) reads.Post Inv-loop μ-loop
 same-length-12 t c =
     let after-propvalue′ = c .before .before .before .before .before .before .before .before .before in
-    let propvalue′ = after-propvalue′ .before .before .before .before .before .before .before .before .before .before .before in
-    let loop′ = propvalue′ .before .before .before .before .before .before in
-    omega (arith, propvalue′ .propvalue .kept, after-propvalue′ .after-propvalue .kept, loop′ .loop .inv .1)
+    let value′ = after-propvalue′ .before .before .before .before .before .before .before .before .before .before .before in
+    let loop′ = value′ .before .before .before .before .before .before in
+    omega (arith, value′ .value .kept, after-propvalue′ .after-propvalue .kept, loop′ .loop .inv .1)
 
 pub returns-5 : (t : ℕ) → lts.Need-returns-5 (propvalues-claims t) (propvalues-at t) reads.Post Inv-loop μ-loop
 unfolding grammar propvalues-body propvalues-turn
@@ -238,36 +238,36 @@ returns-5 t c =
     let enum-told4′ = c .before in
     let after-propvalue′ = enum-told4′ .before .before .before .before .before .before .before .before in
     let match0′ = after-propvalue′ .before .before .before .before in
-    let propvalue′ = match0′ .before .before .before .before .before .before .before in
-    let if2′ = propvalue′ .before .before .before .before in
+    let value′ = match0′ .before .before .before .before .before .before .before in
+    let if2′ = value′ .before .before .before .before in
     let at-end′ = if2′ .before in
     let loop′ = at-end′ .before in
     let if1′ = loop′ .before in
     let s′ = if1′ .before .before .before .before .before in (
-      last-yes (s′ .args .room - 1) (c-no (c-act (at-end′ .at-end .ensures .0 unlabelled _ _ _)) (if2′ .if2 .left) (c-said-other (propvalue′ .propvalue .result .answer) (c-fn (s′ .args .room - 1) (propvalue′ .propvalue .ensures .0)) (match0′ .match .keys3) (c-answered (ap answer-of (enum-told4′ .enum-told4 .given .1)) (c-walk (after-propvalue′ .after-propvalue .ensures .0 (walk-rule (s′ .args .room - 1) (tokens (s′ .args .t .now))) unlabelled))))) ∙ loop′ .loop .inv .1 .1 .1 .1 ∙ rule-body (s′ .args .room) (tokens (s′ .args .t .now)) (propvalues (s′ .args .semicolon)) _ (omega (arith, eqb-false (s′ .args .room) 0 (if1′ .if1 .left))),
-      omega (arith, loop′ .loop .inv .0, at-end′ .at-end .ensures .1 .0, at-end′ .at-end .ensures .1 .1 .0 (if2′ .if2 .left), propvalue′ .propvalue .ensures .1, after-propvalue′ .after-propvalue .ensures .1 .0, eqb-false (s′ .args .room) 0 (if1′ .if1 .left)),
+      last-yes (s′ .args .room - 1) (c-no (c-act (at-end′ .at-end .ensures .0 unlabelled _ _ _)) (if2′ .if2 .left) (c-said-other (value′ .value .result .answer) (c-fn (s′ .args .room - 1) (value′ .value .ensures .0)) (match0′ .match .keys3) (c-answered (ap answer-of (enum-told4′ .enum-told4 .given .1)) (c-walk (after-propvalue′ .after-propvalue .ensures .0 (walk-rule (s′ .args .room - 1) (tokens (s′ .args .t .now))) unlabelled))))) ∙ loop′ .loop .inv .1 .1 .1 .1 ∙ rule-body (s′ .args .room) (tokens (s′ .args .t .now)) (propvalues (s′ .args .semicolon)) _ (omega (arith, eqb-false (s′ .args .room) 0 (if1′ .if1 .left))),
+      omega (arith, loop′ .loop .inv .0, at-end′ .at-end .ensures .1 .0, at-end′ .at-end .ensures .1 .1 .0 (if2′ .if2 .left), value′ .value .ensures .1, after-propvalue′ .after-propvalue .ensures .1 .0, eqb-false (s′ .args .room) 0 (if1′ .if1 .left)),
     )
 
 pub same-length-13 : (t : ℕ) → lts.Need-same-length-13 (propvalues-claims t) (propvalues-at t) reads.Post Inv-loop μ-loop
 same-length-13 t c =
     let after-propvalue′ = c .before .before .before .before .before .before .before .before in
-    let propvalue′ = after-propvalue′ .before .before .before .before .before .before .before .before .before .before .before in
-    let loop′ = propvalue′ .before .before .before .before .before .before in
-    omega (arith, propvalue′ .propvalue .kept, after-propvalue′ .after-propvalue .kept, loop′ .loop .inv .1)
+    let value′ = after-propvalue′ .before .before .before .before .before .before .before .before .before .before .before in
+    let loop′ = value′ .before .before .before .before .before .before in
+    omega (arith, value′ .value .kept, after-propvalue′ .after-propvalue .kept, loop′ .loop .inv .1)
 
 pub same-length-14 : (t : ℕ) → lts.Need-same-length-14 (propvalues-claims t) (propvalues-at t) reads.Post Inv-loop μ-loop
 same-length-14 t c =
     let after-propvalue′ = c .before .before .before .before .before .before .before .before in
-    let propvalue′ = after-propvalue′ .before .before .before .before .before .before .before .before .before .before .before in
-    let loop′ = propvalue′ .before .before .before .before .before .before in
-    omega (arith, propvalue′ .propvalue .kept, after-propvalue′ .after-propvalue .kept, loop′ .loop .inv .1)
+    let value′ = after-propvalue′ .before .before .before .before .before .before .before .before .before .before .before in
+    let loop′ = value′ .before .before .before .before .before .before in
+    omega (arith, value′ .value .kept, after-propvalue′ .after-propvalue .kept, loop′ .loop .inv .1)
 
 pub same-length-15 : (t : ℕ) → lts.Need-same-length-15 (propvalues-claims t) (propvalues-at t) reads.Post Inv-loop μ-loop
 same-length-15 t c =
     let after-propvalue′ = c .before .before .before .before .before .before .before .before in
-    let propvalue′ = after-propvalue′ .before .before .before .before .before .before .before .before .before .before .before in
-    let loop′ = propvalue′ .before .before .before .before .before .before in
-    omega (arith, propvalue′ .propvalue .kept, after-propvalue′ .after-propvalue .kept, loop′ .loop .inv .1)
+    let value′ = after-propvalue′ .before .before .before .before .before .before .before .before .before .before .before in
+    let loop′ = value′ .before .before .before .before .before .before in
+    omega (arith, value′ .value .kept, after-propvalue′ .after-propvalue .kept, loop′ .loop .inv .1)
 
 pub returns-6 : (t : ℕ) → lts.Need-returns-6 (propvalues-claims t) (propvalues-at t) reads.Post Inv-loop μ-loop
 unfolding grammar propvalues-body propvalues-turn
@@ -275,12 +275,12 @@ returns-6 t c =
     let match2′ = c .before in
     let after-propvalue′ = match2′ .before .before .before .before .before .before .before in
     let match0′ = after-propvalue′ .before .before .before .before in
-    let propvalue′ = match0′ .before .before .before .before .before .before .before in
-    let if2′ = propvalue′ .before .before .before .before in
+    let value′ = match0′ .before .before .before .before .before .before .before in
+    let if2′ = value′ .before .before .before .before in
     let at-end′ = if2′ .before in
     let loop′ = at-end′ .before in
     let if1′ = loop′ .before in
     let s′ = if1′ .before .before .before .before .before in (
-      last-no (s′ .args .room - 1) (c-no (c-act (at-end′ .at-end .ensures .0 unlabelled _ _ _)) (if2′ .if2 .left) (c-said-other (propvalue′ .propvalue .result .answer) (c-fn (s′ .args .room - 1) (propvalue′ .propvalue .ensures .0)) (match0′ .match .keys3) (c-answered (other-no (after-propvalue′ .after-propvalue .result .answer) (after-propvalue′ .after-propvalue .ensures .1 .1) (match2′ .match2 .keys3)) (c-walk (after-propvalue′ .after-propvalue .ensures .0 (walk-rule (s′ .args .room - 1) (tokens (s′ .args .t .now))) unlabelled))))) ∙ loop′ .loop .inv .1 .1 .1 .1 ∙ rule-body (s′ .args .room) (tokens (s′ .args .t .now)) (propvalues (s′ .args .semicolon)) _ (omega (arith, eqb-false (s′ .args .room) 0 (if1′ .if1 .left))),
-      omega (arith, loop′ .loop .inv .0, at-end′ .at-end .ensures .1 .0, at-end′ .at-end .ensures .1 .1 .0 (if2′ .if2 .left), propvalue′ .propvalue .ensures .1, after-propvalue′ .after-propvalue .ensures .1 .0, eqb-false (s′ .args .room) 0 (if1′ .if1 .left)),
+      last-no (s′ .args .room - 1) (c-no (c-act (at-end′ .at-end .ensures .0 unlabelled _ _ _)) (if2′ .if2 .left) (c-said-other (value′ .value .result .answer) (c-fn (s′ .args .room - 1) (value′ .value .ensures .0)) (match0′ .match .keys3) (c-answered (other-no (after-propvalue′ .after-propvalue .result .answer) (after-propvalue′ .after-propvalue .ensures .1 .1) (match2′ .match2 .keys3)) (c-walk (after-propvalue′ .after-propvalue .ensures .0 (walk-rule (s′ .args .room - 1) (tokens (s′ .args .t .now))) unlabelled))))) ∙ loop′ .loop .inv .1 .1 .1 .1 ∙ rule-body (s′ .args .room) (tokens (s′ .args .t .now)) (propvalues (s′ .args .semicolon)) _ (omega (arith, eqb-false (s′ .args .room) 0 (if1′ .if1 .left))),
+      omega (arith, loop′ .loop .inv .0, at-end′ .at-end .ensures .1 .0, at-end′ .at-end .ensures .1 .1 .0 (if2′ .if2 .left), value′ .value .ensures .1, after-propvalue′ .after-propvalue .ensures .1 .0, eqb-false (s′ .args .room) 0 (if1′ .if1 .left)),
     )

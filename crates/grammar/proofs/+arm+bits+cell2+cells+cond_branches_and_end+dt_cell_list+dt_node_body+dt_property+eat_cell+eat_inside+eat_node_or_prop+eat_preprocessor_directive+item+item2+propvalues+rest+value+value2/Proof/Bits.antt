@@ -1,4 +1,4 @@
--- `bits_value` is the walk of its program, step by step.
+-- `bits` is the walk of its program, step by step.
 use Prim.Native.Nat.{ℕ}
 use native.Mathlib.Omega.{arith}
 use Rattle.definitions.specs.Token.{tokens}
@@ -7,35 +7,35 @@ use Rattle.machine.specs.Walk.{walk-rule, unlabelled}
 use Rattle.machine.proofs.Way.{c-walk, c-act, c-ret, c-seq, c-yes, c-no, c-mark, completed, way}
 use Rattle.parts.proofs.Steps.{closing}
 use Rattle.grammar.proofs.Ways.{c-same}
-use Rattle.grammar.proofs.bits_value.Reads as reads
-use Rattle.grammar.proofs.+bad_node+bad_prop+bits_value+branch+cell_rest+cells+cond_branches_and_end+dt_cell_list+dt_node_body+dt_property+eat_cell+eat_inside+eat_node_or_prop+eat_preprocessor_directive+item+item_rest+items+no_property+propvalue+propvalues+value_rest.Lts-bits_value as lts
-use Rattle.grammar.proofs.+bad_node+bad_prop+bits_value+branch+cell_rest+cells+cond_branches_and_end+dt_cell_list+dt_node_body+dt_property+eat_cell+eat_inside+eat_node_or_prop+eat_preprocessor_directive+item+item_rest+items+no_property+propvalue+propvalues+value_rest.Proof.Measures.{bits-value-at, bits-value-claims}
+use Rattle.grammar.proofs.bits.Reads as reads
+use Rattle.grammar.proofs.+arm+bits+cell2+cells+cond_branches_and_end+dt_cell_list+dt_node_body+dt_property+eat_cell+eat_inside+eat_node_or_prop+eat_preprocessor_directive+item+item2+propvalues+rest+value+value2.Lts-bits as lts
+use Rattle.grammar.proofs.+arm+bits+cell2+cells+cond_branches_and_end+dt_cell_list+dt_node_body+dt_property+eat_cell+eat_inside+eat_node_or_prop+eat_preprocessor_directive+item+item2+propvalues+rest+value+value2.Proof.Measures.{bits-at, bits-claims}
 
-pub new-requires : (t : ℕ) → lts.Need-new-requires (bits-value-claims t) (bits-value-at t) reads.Post
+pub new-requires : (t : ℕ) → lts.Need-new-requires (bits-claims t) (bits-at t) reads.Post
 new-requires t c κs = tt
 
-pub start-requires : (t : ℕ) → lts.Need-start-requires (bits-value-claims t) (bits-value-at t) reads.Post
+pub start-requires : (t : ℕ) → lts.Need-start-requires (bits-claims t) (bits-at t) reads.Post
 start-requires t c κs = tt
 
-pub new-requires-2 : (t : ℕ) → lts.Need-new-requires-2 (bits-value-claims t) (bits-value-at t) reads.Post
+pub new-requires-2 : (t : ℕ) → lts.Need-new-requires-2 (bits-claims t) (bits-at t) reads.Post
 new-requires-2 t c κs = tt
 
-pub start-requires-2 : (t : ℕ) → lts.Need-start-requires-2 (bits-value-claims t) (bits-value-at t) reads.Post
+pub start-requires-2 : (t : ℕ) → lts.Need-start-requires-2 (bits-claims t) (bits-at t) reads.Post
 start-requires-2 t c κs = tt
 
-pub bump-requires : (t : ℕ) → lts.Need-bump-requires (bits-value-claims t) (bits-value-at t) reads.Post
+pub bump-requires : (t : ℕ) → lts.Need-bump-requires (bits-claims t) (bits-at t) reads.Post
 bump-requires t c κs = tt
 
-pub expect-requires : (t : ℕ) → lts.Need-expect-requires (bits-value-claims t) (bits-value-at t) reads.Post
+pub expect-requires : (t : ℕ) → lts.Need-expect-requires (bits-claims t) (bits-at t) reads.Post
 expect-requires t c κs = tt
 
-pub complete-requires : (t : ℕ) → lts.Need-complete-requires (bits-value-claims t) (bits-value-at t) reads.Post
+pub complete-requires : (t : ℕ) → lts.Need-complete-requires (bits-claims t) (bits-at t) reads.Post
 complete-requires t c κs = tt
 
-pub at-requires : (t : ℕ) → lts.Need-at-requires (bits-value-claims t) (bits-value-at t) reads.Post
+pub at-requires : (t : ℕ) → lts.Need-at-requires (bits-claims t) (bits-at t) reads.Post
 at-requires t c κs = tt
 
-pub dt-cell-list-requires : (t : ℕ) → lts.Need-dt-cell-list-requires (bits-value-claims t) (bits-value-at t) reads.Post
+pub dt-cell-list-requires : (t : ℕ) → lts.Need-dt-cell-list-requires (bits-claims t) (bits-at t) reads.Post
 dt-cell-list-requires t c κs =
     let if1′ = c .before .before .before in
     let at′ = if1′ .before in
@@ -47,13 +47,13 @@ dt-cell-list-requires t c κs =
     let s′ = start′ .before .before .before .before .before .before .before in
     (omega (arith, start′ .start .ensures .1 (s′ .args .t .now), start2′ .start2 .ensures .1 (s′ .args .t .now), bump′ .bump .ensures .1, expect′ .expect .ensures .1 .0, complete′ .complete .ensures .1 (s′ .args .t .now), at′ .at .ensures .1 .0, at′ .at .ensures .1 .1 (if1′ .if1 .taken), s′ .pre .0), tt)
 
-pub error-requires : (t : ℕ) → lts.Need-error-requires (bits-value-claims t) (bits-value-at t) reads.Post
+pub error-requires : (t : ℕ) → lts.Need-error-requires (bits-claims t) (bits-at t) reads.Post
 error-requires t c κs = tt
 
-pub complete-requires-2 : (t : ℕ) → lts.Need-complete-requires-2 (bits-value-claims t) (bits-value-at t) reads.Post
+pub complete-requires-2 : (t : ℕ) → lts.Need-complete-requires-2 (bits-claims t) (bits-at t) reads.Post
 complete-requires-2 t c κs = tt
 
-pub same-length : (t : ℕ) → lts.Need-same-length (bits-value-claims t) (bits-value-at t) reads.Post
+pub same-length : (t : ℕ) → lts.Need-same-length (bits-claims t) (bits-at t) reads.Post
 same-length t c =
     let dt-cell-list′ = c .before .before .before .before .before .before in
     let complete′ = dt-cell-list′ .before .before .before .before .before .before .before .before in
@@ -63,7 +63,7 @@ same-length t c =
     let start′ = start2′ .before .before .before .before .before in
     omega (arith, start′ .start .kept, start2′ .start2 .kept, bump′ .bump .kept, expect′ .expect .kept, complete′ .complete .kept, dt-cell-list′ .dt-cell-list .kept)
 
-pub same-length-2 : (t : ℕ) → lts.Need-same-length-2 (bits-value-claims t) (bits-value-at t) reads.Post
+pub same-length-2 : (t : ℕ) → lts.Need-same-length-2 (bits-claims t) (bits-at t) reads.Post
 same-length-2 t c =
     let dt-cell-list′ = c .before .before .before .before .before .before in
     let complete′ = dt-cell-list′ .before .before .before .before .before .before .before .before in
@@ -73,7 +73,7 @@ same-length-2 t c =
     let start′ = start2′ .before .before .before .before .before in
     omega (arith, start′ .start .kept, start2′ .start2 .kept, bump′ .bump .kept, expect′ .expect .kept, complete′ .complete .kept, dt-cell-list′ .dt-cell-list .kept)
 
-pub same-length-3 : (t : ℕ) → lts.Need-same-length-3 (bits-value-claims t) (bits-value-at t) reads.Post
+pub same-length-3 : (t : ℕ) → lts.Need-same-length-3 (bits-claims t) (bits-at t) reads.Post
 same-length-3 t c =
     let dt-cell-list′ = c .before .before .before .before .before .before in
     let complete′ = dt-cell-list′ .before .before .before .before .before .before .before .before in
@@ -83,7 +83,7 @@ same-length-3 t c =
     let start′ = start2′ .before .before .before .before .before in
     omega (arith, start′ .start .kept, start2′ .start2 .kept, bump′ .bump .kept, expect′ .expect .kept, complete′ .complete .kept, dt-cell-list′ .dt-cell-list .kept)
 
-pub returns : (t : ℕ) → lts.Need-returns (bits-value-claims t) (bits-value-at t) reads.Post
+pub returns : (t : ℕ) → lts.Need-returns (bits-claims t) (bits-at t) reads.Post
 unfolding bits-value
 returns t c =
     let dt-cell-list′ = c .before .before .before .before .before .before in
@@ -101,7 +101,7 @@ returns t c =
       omega (arith, start′ .start .ensures .1 (s′ .args .t .now), start2′ .start2 .ensures .1 (s′ .args .t .now), bump′ .bump .ensures .1, expect′ .expect .ensures .1 .0, complete′ .complete .ensures .1 (s′ .args .t .now), at′ .at .ensures .1 .0, at′ .at .ensures .1 .1 (if1′ .if1 .taken), dt-cell-list′ .dt-cell-list .ensures .1),
     )
 
-pub same-length-4 : (t : ℕ) → lts.Need-same-length-4 (bits-value-claims t) (bits-value-at t) reads.Post
+pub same-length-4 : (t : ℕ) → lts.Need-same-length-4 (bits-claims t) (bits-at t) reads.Post
 same-length-4 t c =
     let complete2′ = c .before .before in
     let error′ = complete2′ .before .before .before .before .before .before .before .before in
@@ -112,7 +112,7 @@ same-length-4 t c =
     let start′ = start2′ .before .before .before .before .before in
     omega (arith, start′ .start .kept, start2′ .start2 .kept, bump′ .bump .kept, expect′ .expect .kept, complete′ .complete .kept, error′ .error .kept, complete2′ .complete2 .kept)
 
-pub same-length-5 : (t : ℕ) → lts.Need-same-length-5 (bits-value-claims t) (bits-value-at t) reads.Post
+pub same-length-5 : (t : ℕ) → lts.Need-same-length-5 (bits-claims t) (bits-at t) reads.Post
 same-length-5 t c =
     let complete2′ = c .before .before in
     let error′ = complete2′ .before .before .before .before .before .before .before .before in
@@ -123,7 +123,7 @@ same-length-5 t c =
     let start′ = start2′ .before .before .before .before .before in
     omega (arith, start′ .start .kept, start2′ .start2 .kept, bump′ .bump .kept, expect′ .expect .kept, complete′ .complete .kept, error′ .error .kept, complete2′ .complete2 .kept)
 
-pub same-length-6 : (t : ℕ) → lts.Need-same-length-6 (bits-value-claims t) (bits-value-at t) reads.Post
+pub same-length-6 : (t : ℕ) → lts.Need-same-length-6 (bits-claims t) (bits-at t) reads.Post
 same-length-6 t c =
     let complete2′ = c .before .before in
     let error′ = complete2′ .before .before .before .before .before .before .before .before in
@@ -134,7 +134,7 @@ same-length-6 t c =
     let start′ = start2′ .before .before .before .before .before in
     omega (arith, start′ .start .kept, start2′ .start2 .kept, bump′ .bump .kept, expect′ .expect .kept, complete′ .complete .kept, error′ .error .kept, complete2′ .complete2 .kept)
 
-pub returns-2 : (t : ℕ) → lts.Need-returns-2 (bits-value-claims t) (bits-value-at t) reads.Post
+pub returns-2 : (t : ℕ) → lts.Need-returns-2 (bits-claims t) (bits-at t) reads.Post
 unfolding bits-value
 returns-2 t c =
     let complete2′ = c .before .before in

@@ -12,8 +12,8 @@ use Rattle.machine.proofs.Way.{c-act, c-ret, c-seq, c-yes, c-no, c-mark, comple
 use Rattle.parts.proofs.Steps.{true-false, c-ret-no}
 use Rattle.grammar.proofs.Ways.{c-part-on, c-assoc}
 use Rattle.grammar.proofs.eat_preprocessor_directive.Reads as reads
-use Rattle.grammar.proofs.+bad_node+bad_prop+bits_value+branch+cell_rest+cells+cond_branches_and_end+dt_cell_list+dt_node_body+dt_property+eat_cell+eat_inside+eat_node_or_prop+eat_preprocessor_directive+item+item_rest+items+no_property+propvalue+propvalues+value_rest.Lts-eat_preprocessor_directive as lts
-use Rattle.grammar.proofs.+bad_node+bad_prop+bits_value+branch+cell_rest+cells+cond_branches_and_end+dt_cell_list+dt_node_body+dt_property+eat_cell+eat_inside+eat_node_or_prop+eat_preprocessor_directive+item+item_rest+items+no_property+propvalue+propvalues+value_rest.Proof.Measures.{eat-preprocessor-directive-at, eat-preprocessor-directive-claims}
+use Rattle.grammar.proofs.+arm+bits+cell2+cells+cond_branches_and_end+dt_cell_list+dt_node_body+dt_property+eat_cell+eat_inside+eat_node_or_prop+eat_preprocessor_directive+item+item2+propvalues+rest+value+value2.Lts-eat_preprocessor_directive as lts
+use Rattle.grammar.proofs.+arm+bits+cell2+cells+cond_branches_and_end+dt_cell_list+dt_node_body+dt_property+eat_cell+eat_inside+eat_node_or_prop+eat_preprocessor_directive+item+item2+propvalues+rest+value+value2.Proof.Measures.{eat-preprocessor-directive-at, eat-preprocessor-directive-claims}
 
 pub add-expected-requires : (t : ℕ) → lts.Need-add-expected-requires (eat-preprocessor-directive-claims t) (eat-preprocessor-directive-at t) reads.Post
 add-expected-requires t c κs = tt
