@@ -1,0 +1,34 @@
+// What is lent to a call, and what the call leaves of it.
+
+// What each number of a buffer is before a call. No row holds it.
+pub const LENT: u32 = 4042322160;
+
+pub fn fill(buffer: &mut [u32]) {
+    let mut i: usize = 0;
+    while i < buffer.len() {
+        buffer[i] = LENT;
+        i += 1;
+    }
+}
+
+fn all(buffer: &[u32], from: usize, n: u32) -> bool {
+    let mut i = from;
+    while i < buffer.len() {
+        if buffer[i] != n {
+            return false;
+        }
+        i += 1;
+    }
+    true
+}
+
+// What a buffer holds from a place on: 0 zeros or nothing, 1 only what was lent, 2 anything else.
+pub fn rest(buffer: &[u32], from: usize) -> u64 {
+    if all(buffer, from, 0) {
+        return 0;
+    }
+    if all(buffer, from, LENT) {
+        return 1;
+    }
+    2
+}
