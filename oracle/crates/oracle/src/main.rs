@@ -6,6 +6,7 @@ use std::io::{BufRead, Read, StdoutLock, Write};
 mod case;
 mod compare;
 mod generate;
+mod rowsfile;
 mod timing;
 
 /// The unchanged Rust.
@@ -135,6 +136,7 @@ fn run(a: &Args) {
         "totoks" => totoks(&mut out),
         "lex" => lex(&mut out),
         "kinds" => kinds(&mut out),
+        "rowsfile" => rowsfile::rowsfile(a.word(1), a.number_or(2, 1), &mut out),
         "gen" => generate::run(a.number(1), a.number(2), a.0.get(3).map(|_| a.number(3)), &mut out),
         "diff" => compare::diff(a, &mut out),
         "cmp" => compare::cmp(a, &mut out),

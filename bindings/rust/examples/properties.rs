@@ -1,0 +1,35 @@
+//! Lists the properties of a file of token rows with the node that each stands in, whatever is wrong with the file.
+//!
+//! `cargo run --example properties -- ../../examples/board.rows`
+
+use dt_parser::{Leaf, Node, NodeKind, TokenKind, rowsfile::RowsFile};
+use std::error::Error;
+
+fn main() -> Result<(), Box<dyn Error>> {
+    let path = std::env::args().nth(1).ok_or("which file?")?;
+    let bytes = std::fs::read(path)?;
+    let file = RowsFile::read(&bytes)?;
+    let parse = file.entry.parse(&file.input)?;
+
+    for property in parse.tree.root().descendant_nodes().filter(|node| node.kind() == NodeKind::DtProperty) {
+        let nodes = property.ancestors().filter(|node| node.kind() == NodeKind::DtNode);
+        let values = property.child(NodeKind::PropValueList).map(|values| format!(" = {}", values.text_lossy()));
+        println!(
+            "{}{} in {}",
+            name(property),
+            values.unwrap_or_default(),
+            nodes.map(name).collect::<Vec<_>>().join(" in ")
+        );
+    }
+    for report in &parse.reports {
+        println!("{}: {report}", report.range);
+    }
+    Ok(())
+}
+
+/// The name of a node or a property, or the reference that stands for it.
+fn name(node: Node<'_>) -> String {
+    let leaf = node.child_leaf(TokenKind::Name).or(node.child_leaf(TokenKind::Slash)).map(Leaf::text_lossy);
+    let reference = node.child(NodeKind::DtPhandle).map(Node::text_lossy);
+    leaf.or(reference).unwrap_or("(no name)".into()).into_owned()
+}

@@ -1,0 +1,153 @@
+//! The command's words.
+
+use dt_parser::Entrypoint;
+use std::ffi::OsString;
+
+pub const HELP: &str = "\
+dtparse shows what the proved devicetree parser makes of a text and its tokens.
+
+usage: dtparse [OPTION..] FILE
+
+FILE is a file of token rows (docs/TOKENS.md), `-` the standard input.
+
+What is shown, one or more of:
+  --reports      each report and lexical error with its source line
+  --nodes        the devicetree nodes, each with the line that it starts on
+  --tree         the whole tree, a line for each node and token
+Without any of them: --reports --nodes for a source file, --reports --tree for another entry.
+
+  --entry NAME   what the text is read as: SourceFile, ReferenceNoamp, PropValues or Cells;
+                 without it the file decides
+  --color WHEN   auto (on a terminal, unless NO_COLOR is set), always or never
+  --help         this text
+
+Exit status: 0 no report and no lexical error; 1 there are some; 2 the call was refused, or the
+file or the words are bad. A note tells of a part that was not understood and that the parser
+makes no report for; it does not change the status.
+";
+
+/// A part of the output.
+#[derive(Debug, Clone, Copy, PartialEq, Eq)]
+pub enum View {
+    Reports,
+    Nodes,
+    Tree,
+}
+
+#[derive(Debug, PartialEq, Eq)]
+pub struct Args {
+    pub file: String,
+    pub views: Vec<View>,
+    pub entry: Option<Entrypoint>,
+    /// Colours or none; not said, the output decides.
+    pub color: Option<bool>,
+}
+
+#[derive(Debug, PartialEq, Eq)]
+pub enum Asked {
+    Help,
+    Show(Args),
+}
+
+pub fn read(words: &[OsString]) -> Result<Asked, String> {
+    let mut args = Args { file: String::new(), views: Vec::new(), entry: None, color: None };
+    let mut file = None;
+    let mut rest = words.iter().map(|word| word.to_str().ok_or_else(|| format!("{word:?} is no UTF-8")));
+    let mut options = true;
+    while let Some(word) = rest.next() {
+        let word = word?;
+        let (option, mut value) = match word.split_once('=') {
+            Some((option, value)) if options && option.starts_with("--") => (option, Some(value)),
+            _ => (word, None),
+        };
+        let mut value = || match value.take() {
+            Some(value) => Ok(value),
+            None => rest.next().unwrap_or_else(|| Err(format!("{option} needs a word after it"))),
+        };
+        match option {
+            _ if !options || option == "-" || !option.starts_with('-') => set(&mut file, word)?,
+            "--" => options = false,
+            "--help" | "-h" => return Ok(Asked::Help),
+            "--entry" => args.entry = Some(entry(value()?)?),
+            "--color" => args.color = color(value()?)?,
+            _ if word != option => return Err(format!("{word} is no option")),
+            _ => args.views.push(view(option)?),
+        }
+    }
+    args.file = file.ok_or("which file?")?;
+    Ok(Asked::Show(args))
+}
+
+fn set(file: &mut Option<String>, word: &str) -> Result<(), String> {
+    match file.replace(word.to_string()) {
+        Some(first) => Err(format!("one file at a time, not {first} and {word}")),
+        None => Ok(()),
+    }
+}
+
+fn view(option: &str) -> Result<View, String> {
+    match option {
+        "--reports" => Ok(View::Reports),
+        "--nodes" => Ok(View::Nodes),
+        "--tree" => Ok(View::Tree),
+        _ => Err(format!("{option} is no option")),
+    }
+}
+
+fn entry(name: &str) -> Result<Entrypoint, String> {
+    Entrypoint::from_name(name)
+        .ok_or_else(|| format!("--entry is SourceFile, ReferenceNoamp, PropValues or Cells, not {name}"))
+}
+
+fn color(when: &str) -> Result<Option<bool>, String> {
+    match when {
+        "auto" => Ok(None),
+        "always" => Ok(Some(true)),
+        "never" => Ok(Some(false)),
+        _ => Err(format!("--color is auto, always or never, not {when}")),
+    }
+}
+
+#[cfg(test)]
+mod tests {
+    use super::*;
+
+    fn asked(words: &str) -> Result<Asked, String> {
+        let words: Vec<OsString> = words.split_whitespace().map(OsString::from).collect();
+        read(&words)
+    }
+
+    fn args(words: &str) -> Args {
+        match asked(words) {
+            Ok(Asked::Show(args)) => args,
+            other => panic!("{other:?}"),
+        }
+    }
+
+    #[test]
+    fn options_stand_anywhere() {
+        let all = args("--tree a.rows --entry Cells --color=always --reports");
+        assert_eq!(all.file, "a.rows");
+        assert_eq!(all.views, [View::Tree, View::Reports]);
+        assert_eq!((all.entry, all.color), (Some(Entrypoint::Cells), Some(true)));
+        assert_eq!(args("-").file, "-");
+        assert_eq!(args("-- --tree").file, "--tree");
+        assert_eq!(args("--color auto x").color, None);
+        assert_eq!(asked("a --help b c"), Ok(Asked::Help));
+    }
+
+    #[test]
+    fn bad_words_are_told() {
+        for (words, why) in [
+            ("", "which file?"),
+            ("a b", "one file at a time, not a and b"),
+            ("a --trees", "--trees is no option"),
+            ("a --tree=1", "--tree=1 is no option"),
+            ("a --entry", "--entry needs a word after it"),
+            ("a --entry Name", "--entry is SourceFile, ReferenceNoamp, PropValues or Cells, not Name"),
+            ("a --color blue", "--color is auto, always or never, not blue"),
+        ] {
+            assert_eq!(asked(words), Err(why.to_string()));
+        }
+    }
+}

@@ -1,0 +1,116 @@
+//! dtparse: shows what the parser makes of a file of token rows. `dtparse --help` says how.
+
+mod args;
+mod lines;
+mod nodes;
+mod problems;
+mod refused;
+mod shown;
+mod snippet;
+mod style;
+mod tree;
+
+use args::{Args, Asked, View};
+use dt_parser::rowsfile::RowsFile;
+use dt_parser::{Entrypoint, Parse};
+use lines::Lines;
+use std::io::{self, IsTerminal, Read, Write};
+use std::process::ExitCode;
+use style::Style;
+
+/// There is a report or a lexical error.
+const STATUS_REPORTS: u8 = 1;
+/// There is no answer: the call is refused, the file is bad, or the words are.
+const STATUS_NO_ANSWER: u8 = 2;
+
+fn main() -> ExitCode {
+    let words: Vec<_> = std::env::args_os().skip(1).collect();
+    match args::read(&words) {
+        Ok(Asked::Help) => print(args::HELP, ExitCode::SUCCESS),
+        Ok(Asked::Show(args)) => match show(&args) {
+            Ok((text, clean)) => print(&text, ExitCode::from(if clean { 0 } else { STATUS_REPORTS })),
+            Err(why) => complain(&why),
+        },
+        Err(why) => complain(&format!("{why}\nTry `dtparse --help`.")),
+    }
+}
+
+/// All that is to be printed, and whether the file is without report and lexical error.
+fn show(args: &Args) -> Result<(String, bool), String> {
+    let bytes = read(&args.file).map_err(|why| format!("{}: {why}", args.file))?;
+    let file = RowsFile::read(&bytes).map_err(|why| format!("{}: {why}", args.file))?;
+    let entry = args.entry.unwrap_or(file.entry);
+    let parse = entry.parse(&file.input).map_err(|why| refused::explain(&args.file, &file, why))?;
+    let name = file.name.clone().filter(|name| !name.is_empty()).unwrap_or_else(|| format!("(text of {})", args.file));
+    let page =
+        Page { name: shown::plain(&name), lines: Lines::new(file.input.text), parse: &parse, style: style(args) };
+    Ok((page.print(&args.views, entry), parse.is_clean()))
+}
+
+/// What the parts of the output are made from.
+struct Page<'p> {
+    /// The text's name, for places.
+    name: String,
+    lines: Lines<'p>,
+    parse: &'p Parse<'p>,
+    style: Style,
+}
+
+impl Page<'_> {
+    fn print(&self, views: &[View], entry: Entrypoint) -> String {
+        let usual = match entry {
+            Entrypoint::SourceFile => [View::Reports, View::Nodes],
+            _ => [View::Reports, View::Tree],
+        };
+        let views = if views.is_empty() { &usual } else { views };
+        let mut out = String::new();
+        let mut part = |text: String| {
+            let blank = if out.is_empty() || text.is_empty() { "" } else { "\n" };
+            out.push_str(blank);
+            out.push_str(&text);
+        };
+        if views.contains(&View::Reports) {
+            part(problems::print(self));
+        }
+        if views.contains(&View::Nodes) {
+            part(nodes::print(self));
+        }
+        if views.contains(&View::Tree) {
+            part(tree::print(self));
+        }
+        if views != [View::Tree] {
+            part(problems::summary(self));
+        }
+        out
+    }
+}
+
+fn style(args: &Args) -> Style {
+    let set = |name| std::env::var_os(name).unwrap_or_default();
+    let wanted = set("NO_COLOR").is_empty() && set("TERM") != "dumb";
+    Style::new(args.color.unwrap_or_else(|| wanted && io::stdout().is_terminal()))
+}
+
+/// The bytes of a file; `-` is the standard input.
+fn read(file: &str) -> io::Result<Vec<u8>> {
+    if file != "-" {
+        return std::fs::read(file);
+    }
+    let mut bytes = Vec::new();
+    io::stdin().lock().read_to_end(&mut bytes)?;
+    Ok(bytes)
+}
+
+/// A reader that goes away early, as `head` does, is no mistake.
+fn print(text: &str, status: ExitCode) -> ExitCode {
+    let mut out = io::stdout().lock();
+    match out.write_all(text.as_bytes()).and_then(|()| out.flush()) {
+        Err(why) if why.kind() != io::ErrorKind::BrokenPipe => complain(&format!("standard output: {why}")),
+        _ => status,
+    }
+}
+
+fn complain(why: &str) -> ExitCode {
+    eprintln!("dtparse: {why}");
+    ExitCode::from(STATUS_NO_ANSWER)
+}

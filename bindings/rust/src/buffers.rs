@@ -1,0 +1,130 @@
+//! The lent buffers, and how much room is tried.
+
+use crate::{Input, Refusal};
+
+/// Numbers in an event, a row of the tree, a lexical error and a report.
+pub(crate) const EVENT_ROW: usize = 3;
+pub(crate) const TREE_ROW: usize = 4;
+pub(crate) const ERROR_ROW: usize = 3;
+pub(crate) const REPORT_ROW: usize = 9;
+
+/// The five buffers that a call writes.
+#[derive(Debug, Default)]
+pub(crate) struct Buffers {
+    pub events: Vec<u32>,
+    pub trees: Vec<u32>,
+    pub errors: Vec<u32>,
+    pub reports: Vec<u32>,
+    pub pool: Vec<u32>,
+}
+
+impl Buffers {
+    /// Gives each buffer the length that the room asks for. What they hold does not matter: a call writes every element.
+    pub fn set_room(&mut self, room: Room) {
+        self.events.resize(EVENT_ROW * room.events, 0);
+        self.trees.resize(TREE_ROW * room.trees, 0);
+        self.errors.resize(ERROR_ROW * room.errors, 0);
+        self.reports.resize(REPORT_ROW * room.reports, 0);
+        self.pool.resize(room.pool, 0);
+    }
+}
+
+/// How many rows, or expectations in the pool, fit each buffer.
+#[derive(Debug, Clone, Copy, PartialEq, Eq)]
+pub(crate) struct Room {
+    pub events: usize,
+    pub trees: usize,
+    pub errors: usize,
+    pub reports: usize,
+    pub pool: usize,
+}
+
+impl Room {
+    /// What suffices for nearly every file: sources without mistakes have about 1.4 events and 1.3 tree rows to a token.
+    pub fn first(input: &Input<'_>) -> Self {
+        let n = input.tokens.len().min(Input::MAX_TOKENS);
+        let guess = Self { events: 2 * n + 16, trees: 2 * n + 8, errors: n, reports: n / 8 + 8, pool: n / 2 + 64 };
+        guess.at_most(Self::most(input))
+    }
+
+    /// What suffices for every run on so many tokens: the theorem of crates/numbers, 13 n + 1 events, 6 n + 1 tree rows,
+    /// 3 n + 1 reports and 768 n + 256 expectations. There are as many lexical errors as error tokens.
+    pub fn most(input: &Input<'_>) -> Self {
+        let n = input.tokens.len().min(Input::MAX_TOKENS);
+        Self {
+            events: 13 * n + 1,
+            trees: 6 * n + 1,
+            errors: input.tokens.iter().filter(|token| token.kind.is_err()).take(n).count(),
+            reports: 3 * n + 1,
+            pool: 768 * n + 256,
+        }
+    }
+
+    fn at_most(self, most: Self) -> Self {
+        Self {
+            events: self.events.min(most.events),
+            trees: self.trees.min(most.trees),
+            errors: self.errors.min(most.errors),
+            reports: self.reports.min(most.reports),
+            pool: self.pool.min(most.pool),
+        }
+    }
+
+    /// The next room to try after this refusal. None where more room would not help: the refusal is about something
+    /// else, or the room is the most already.
+    pub fn after(self, refusal: Refusal, most: Self) -> Option<Self> {
+        let mut next = self;
+        match refusal {
+            Refusal::NoEventRoom(_) => next.events = 2 * self.events + 1,
+            Refusal::NoReportRoom(_) => {
+                next.reports = 2 * self.reports + 1;
+                next.pool = 2 * self.pool + 1;
+            }
+            Refusal::NoTreeRoom => next.trees = 2 * self.trees + 1,
+            _ => return None,
+        }
+        let next = next.at_most(most);
+        (next != self).then_some(next)
+    }
+}
+
+#[cfg(test)]
+mod tests {
+    use super::*;
+    use crate::{Token, TokenKind};
+
+    fn blanks(n: usize) -> Input<'static> {
+        Input::new(b"", vec![Token::new(TokenKind::Whitespace, 1); n])
+    }
+
+    #[test]
+    fn room_grows_up_to_the_theorem_and_no_further() {
+        let most = Room::most(&blanks(100));
+        assert_eq!((most.events, most.trees, most.errors), (1301, 601, 0));
+        assert_eq!((most.reports, most.pool), (301, 77056));
+        for refusal in [Refusal::NoEventRoom(0), Refusal::NoReportRoom(0), Refusal::NoTreeRoom] {
+            let mut room = Room::first(&blanks(100));
+            let mut turns = 0;
+            while let Some(next) = room.after(refusal, most) {
+                room = next;
+                turns += 1;
+            }
+            assert!(turns > 0 && turns < 20, "{refusal}: {turns}");
+        }
+    }
+
+    #[test]
+    fn more_room_is_no_help_against_bad_input() {
+        let room = Room { events: 0, trees: 0, errors: 0, reports: 0, pool: 0 };
+        let most = Room::most(&blanks(1));
+        for number in 1..=5 {
+            let refusal = Refusal::from_number(number, 0).unwrap();
+            assert_eq!(room.after(refusal, most), None);
+        }
+    }
+
+    #[test]
+    fn no_room_is_taken_for_input_that_is_too_long() {
+        assert_eq!(Room::most(&blanks(Input::MAX_TOKENS + 9)), Room::most(&blanks(Input::MAX_TOKENS)));
+    }
+}

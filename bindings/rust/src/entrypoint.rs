@@ -1,0 +1,37 @@
+//! What a text is read as.
+
+use crate::numbered::numbered;
+use crate::{Error, Input, Parse, Parser};
+
+numbered! {
+    /// What a text is read as, 1 to 4 in a call. dt-tools' entries `Name` and `PreprocessorConditional` are left out.
+    Entrypoint {
+        /// A whole devicetree source.
+        SourceFile = 1,
+        /// A reference without its `&`.
+        ReferenceNoamp = 2,
+        /// A property's values.
+        PropValues = 3,
+        /// Cells, as between `<` and `>`.
+        Cells = 4,
+    }
+}
+
+impl Entrypoint {
+    /// Parses the input. Whoever parses often keeps a [`Parser`], whose buffers are used again.
+    ///
+    /// ```
+    /// use dt_parser::{Entrypoint, Input, Token, TokenKind};
+    /// let input = Input { text: b"a;", tokens: vec![Token::new(TokenKind::Ident, 1), Token::new(TokenKind::Semicolon, 1)] };
+    /// let parse = Entrypoint::SourceFile.parse(&input)?;
+    /// assert!(parse.is_clean());
+    /// # Ok::<(), dt_parser::Error>(())
+    /// ```
+    ///
+    /// # Errors
+    ///
+    /// If the call is refused: see [`Error`].
+    pub fn parse<'i>(self, input: &Input<'i>) -> Result<Parse<'i>, Error> {
+        Parser::new().parse(self, input)
+    }
+}

@@ -1,0 +1,151 @@
+//! Why there is no answer: the refusals of document 01, and what must not happen.
+
+use std::fmt;
+
+/// A refused call: document 01's causes 1 to 8.
+#[derive(Debug, Clone, Copy, PartialEq, Eq, Hash)]
+pub enum Refusal {
+    /// 1: the entry is none of 1 to 4.
+    UnknownEntry,
+    /// 2: over 1,048,576 bytes or over 65,536 tokens.
+    TooLong,
+    /// 3: this token's kind is no input, its length is 0 or its end is past the text; or, with the number of tokens, the
+    /// tokens end before the text does.
+    BadRow(usize),
+    /// 4: this token's bytes are not the one text of its kind.
+    BadText(usize),
+    /// 5: a 65th open call or a 257th pending expectation, after so many tokens.
+    TooDeep(usize),
+    /// 6: no room for the next event, after so many tokens.
+    NoEventRoom(usize),
+    /// 7: no room for a report or its expectations, after so many tokens.
+    NoReportRoom(usize),
+    /// 8: no room for the tree or the lexical errors.
+    NoTreeRoom,
+}
+
+impl Refusal {
+    /// The refusal that a call's number and place stand for.
+    #[must_use]
+    pub const fn from_number(number: u32, place: usize) -> Option<Self> {
+        Some(match number {
+            1 => Self::UnknownEntry,
+            2 => Self::TooLong,
+            3 => Self::BadRow(place),
+            4 => Self::BadText(place),
+            5 => Self::TooDeep(place),
+            6 => Self::NoEventRoom(place),
+            7 => Self::NoReportRoom(place),
+            8 => Self::NoTreeRoom,
+            _ => return None,
+        })
+    }
+
+    /// Its number, 1 to 8.
+    #[must_use]
+    pub const fn number(self) -> u32 {
+        match self {
+            Self::UnknownEntry => 1,
+            Self::TooLong => 2,
+            Self::BadRow(_) => 3,
+            Self::BadText(_) => 4,
+            Self::TooDeep(_) => 5,
+            Self::NoEventRoom(_) => 6,
+            Self::NoReportRoom(_) => 7,
+            Self::NoTreeRoom => 8,
+        }
+    }
+
+    /// Its place: a token's index, or how many tokens had been passed; 0 where it has none.
+    #[must_use]
+    pub const fn place(self) -> usize {
+        match self {
+            Self::UnknownEntry | Self::TooLong | Self::NoTreeRoom => 0,
+            Self::BadRow(place)
+            | Self::BadText(place)
+            | Self::TooDeep(place)
+            | Self::NoEventRoom(place)
+            | Self::NoReportRoom(place) => place,
+        }
+    }
+}
+
+impl fmt::Display for Refusal {
+    fn fmt(&self, f: &mut fmt::Formatter<'_>) -> fmt::Result {
+        match self {
+            Self::UnknownEntry => f.write_str("the entry is none of 1 to 4"),
+            Self::TooLong => f.write_str("the input is over 1,048,576 bytes or over 65,536 tokens"),
+            Self::BadRow(row) => write!(
+                f,
+                "token {row}, counted from 0, has a kind that is no input, no length or an end past the text, or is missing"
+            ),
+            Self::BadText(row) => write!(f, "token {row}, counted from 0, has other bytes than its kind always has"),
+            Self::TooDeep(mark) => {
+                write!(f, "over 64 calls are open or over 256 expectations pending after {mark} tokens")
+            }
+            Self::NoEventRoom(mark) => write!(f, "no room for an event after {mark} tokens"),
+            Self::NoReportRoom(mark) => write!(f, "no room for a report or its expectations after {mark} tokens"),
+            Self::NoTreeRoom => f.write_str("no room for the tree or the lexical errors"),
+        }
+    }
+}
+
+impl std::error::Error for Refusal {}
+
+/// Why a parse gave no answer.
+#[derive(Debug, Clone, Copy, PartialEq, Eq, Hash)]
+pub enum Error {
+    /// The call was refused for its input: one of the refusals 1 to 5. (6 to 8 are met with larger buffers.)
+    Refused(Refusal),
+    /// Refused for lack of room with buffers that every run on so many tokens fits, by a theorem (crates/numbers).
+    /// So the linked library is not the proved one.
+    LimitPassed {
+        /// What there was no room for.
+        refusal: Refusal,
+        /// The number of tokens.
+        tokens: usize,
+    },
+    /// The answer has a number that the call's contract shuts out. So the linked library is not the proved one.
+    BadAnswer {
+        /// What was expected.
+        expected: &'static str,
+        /// The row that has the number, counted from 0.
+        row: usize,
+    },
+}
+
+impl Error {
+    /// The refusal behind it, if there is one.
+    #[must_use]
+    pub const fn refusal(self) -> Option<Refusal> {
+        match self {
+            Self::Refused(refusal) | Self::LimitPassed { refusal, .. } => Some(refusal),
+            Self::BadAnswer { .. } => None,
+        }
+    }
+}
+
+impl fmt::Display for Error {
+    fn fmt(&self, f: &mut fmt::Formatter<'_>) -> fmt::Result {
+        match self {
+            Self::Refused(refusal) => write!(f, "refusal {}: {refusal}", refusal.number()),
+            Self::LimitPassed { refusal, tokens } => write!(
+                f,
+                "refusal {}: {refusal}, with room for all that {tokens} tokens can give: the linked library is not the proved one",
+                refusal.number()
+            ),
+            Self::BadAnswer { expected, row } => {
+                write!(f, "row {row} of the answer is not {expected}: the linked library is not the proved one")
+            }
+        }
+    }
+}
+
+// No `source`: the refusal's text is in the error's own already.
+impl std::error::Error for Error {}
+
+impl From<Refusal> for Error {
+    fn from(refusal: Refusal) -> Self {
+        Self::Refused(refusal)
+    }
+}

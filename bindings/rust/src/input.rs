@@ -1,0 +1,102 @@
+//! What is parsed: a text and the tokens over it.
+
+use crate::{LexError, TextRange, TokenKind};
+
+/// A token: what it is, and how many bytes of the text it takes.
+#[derive(Debug, Clone, Copy, PartialEq, Eq, Hash)]
+pub struct Token {
+    /// The token's kind, or what is wrong with it.
+    pub kind: Result<TokenKind, LexError>,
+    /// Its length in bytes.
+    pub length: u32,
+}
+
+impl Token {
+    /// A token without an error.
+    #[must_use]
+    pub const fn new(kind: TokenKind, length: u32) -> Self {
+        Self { kind: Ok(kind), length }
+    }
+
+    /// An error token.
+    #[must_use]
+    pub const fn error(error: LexError, length: u32) -> Self {
+        Self { kind: Err(error), length }
+    }
+
+    /// The number of its kind or error in a row.
+    #[must_use]
+    pub const fn number(self) -> u32 {
+        match self.kind {
+            Ok(kind) => kind.number(),
+            Err(error) => error.number(),
+        }
+    }
+
+    /// The kind that the parser sees: an error token is [`TokenKind::Unrecognized`].
+    #[must_use]
+    pub const fn seen_kind(self) -> TokenKind {
+        match self.kind {
+            Ok(kind) => kind,
+            Err(_) => TokenKind::Unrecognized,
+        }
+    }
+
+    /// Whether it is a blank or a comment. An error token never is.
+    #[must_use]
+    pub const fn is_trivia(self) -> bool {
+        self.seen_kind().is_trivia()
+    }
+}
+
+/// A text with its tokens, which cover it from the first byte to the last.
+///
+/// The tokens come from a lexer. This crate has none yet: they are given, for instance by a
+/// [file of token rows](crate::rowsfile).
+#[derive(Debug, Clone, PartialEq, Eq, Hash)]
+pub struct Input<'i> {
+    /// The bytes, whatever they are.
+    pub text: &'i [u8],
+    /// The tokens in order.
+    pub tokens: Vec<Token>,
+}
+
+impl<'i> Input<'i> {
+    /// The longest text that is accepted, in bytes.
+    pub const MAX_BYTES: usize = 1_048_576;
+    /// The most tokens that are accepted.
+    pub const MAX_TOKENS: usize = 65_536;
+
+    /// A text with its tokens.
+    #[must_use]
+    pub const fn new(text: &'i [u8], tokens: Vec<Token>) -> Self {
+        Self { text, tokens }
+    }
+
+    /// The tokens' byte ranges. A range may lie past the text where the tokens do not fit it.
+    ///
+    /// ```
+    /// use dt_parser::{Input, Token, TokenKind};
+    /// let input = Input::new(b"ab;", vec![Token::new(TokenKind::Ident, 2), Token::new(TokenKind::Semicolon, 1)]);
+    /// let ranges: Vec<_> = input.ranges().map(|range| range.byte_range()).collect();
+    /// assert_eq!(ranges, [0..2, 2..3]);
+    /// ```
+    pub fn ranges(&self) -> impl Iterator<Item = TextRange> {
+        self.tokens.iter().scan(0usize, |at, token| {
+            let start = *at;
+            *at = start.saturating_add(token.length as usize);
+            Some(TextRange { start, end: *at })
+        })
+    }
+
+    /// The rows that a call takes: kind and length, one after the other.
+    pub(crate) fn rows(&self) -> Vec<u32> {
+        self.tokens.iter().flat_map(|token| [token.number(), token.length]).collect()
+    }
+
+    /// What the parser sees from this token on: the first that is no trivia, none at the end.
+    pub(crate) fn seen_from(&self, token: usize) -> Option<TokenKind> {
+        let rest = self.tokens.get(token..).unwrap_or_default();
+        rest.iter().find(|token| !token.is_trivia()).map(|token| token.seen_kind())
+    }
+}

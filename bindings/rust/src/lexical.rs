@@ -1,0 +1,31 @@
+//! Lexical errors: the error tokens of the input.
+
+use crate::{Error, LexError, TextRange};
+use std::fmt;
+
+/// An error token and where it lies.
+#[derive(Debug, Clone, Copy, PartialEq, Eq, Hash)]
+pub struct LexicalError {
+    /// What is wrong.
+    pub error: LexError,
+    /// The token's bytes.
+    pub range: TextRange,
+}
+
+/// The error's text, as in dt-tools.
+impl fmt::Display for LexicalError {
+    fn fmt(&self, f: &mut fmt::Formatter<'_>) -> fmt::Result {
+        self.error.fmt(f)
+    }
+}
+
+impl std::error::Error for LexicalError {}
+
+/// Rows of number, start and end.
+pub(crate) fn read(rows: &[[u32; 3]]) -> Result<Vec<LexicalError>, Error> {
+    let one = |(row, &[number, start, end]): (usize, &[u32; 3])| {
+        let error = LexError::from_number(number).ok_or(Error::BadAnswer { expected: "a lexical error", row })?;
+        Ok(LexicalError { error, range: TextRange { start: start as usize, end: end as usize } })
+    };
+    rows.iter().enumerate().map(one).collect()
+}

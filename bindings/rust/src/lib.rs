@@ -1,0 +1,72 @@
+//! The proved devicetree parser of Butrezsan, for Rust.
+//!
+//! A text and its tokens go in; a lossless tree comes out, with reports that do not stop the parser. The parser is the
+//! static library of the crate `dt_parser` of this repository, which is proved; this crate gives it types, buffers that
+//! grow, a tree to walk and the texts of dt-tools' messages.
+//!
+//! # Example
+//!
+//! A file of token rows ([`rowsfile`]) with a property that lacks its value:
+//!
+//! ```
+//! use dt_parser::{NodeKind, rowsfile::RowsFile};
+//!
+//! let file = RowsFile::read(b"devicetree tokens 1\nrows 3\nIdent 1\nEquals 1\nSemicolon 1\ntext 3\na=;")?;
+//! let parse = file.entry.parse(&file.input)?;
+//!
+//! let first = &parse.reports[0];
+//! assert_eq!(first.range.byte_range(), 2..3);
+//! assert_eq!(first.text(), "Expected value, ‘/include/‘ or preprocessor directive, but found ‘;’");
+//!
+//! let property = parse.tree.root().child(NodeKind::DtProperty).expect("it is kept");
+//! assert_eq!(property.text(), b"a=;");
+//! for (item, depth) in parse.tree.root().walk() {
+//!     println!("{:depth$}{item}", "");
+//! }
+//! # Ok::<(), Box<dyn std::error::Error>>(())
+//! ```
+//!
+//! # What is proved and what is not
+//!
+//! The call that this crate makes is proved to answer every input as the definitions say (docs/READING.md). Not proved is
+//! what is written here in Rust: it passes slices, gives names to numbers and checks that the rows are one tree. The one
+//! `unsafe` block is in src/sys.rs.
+
+#![deny(unsafe_op_in_unsafe_fn)]
+#![deny(unsafe_code)]
+#![deny(missing_docs)]
+
+mod buffers;
+mod entrypoint;
+mod error;
+mod expected;
+mod input;
+mod lex_error;
+mod lexical;
+mod message;
+mod node_kind;
+mod numbered;
+mod parser;
+mod range;
+mod report;
+pub mod rowsfile;
+mod sys;
+mod token_kind;
+mod tree;
+mod unreported;
+mod walk;
+
+pub use entrypoint::Entrypoint;
+pub use error::{Error, Refusal};
+pub use expected::Expected;
+pub use input::{Input, Token};
+pub use lex_error::LexError;
+pub use lexical::LexicalError;
+pub use message::{Hint, Message};
+pub use node_kind::NodeKind;
+pub use parser::{Parse, Parser};
+pub use range::TextRange;
+pub use report::{Label, Report};
+pub use token_kind::TokenKind;
+pub use tree::Tree;
+pub use walk::{Item, Leaf, Node};

@@ -1,0 +1,166 @@
+//! A call with owned buffers.
+
+use crate::buffers::{Buffers, Room};
+use crate::sys::{self, Answer};
+use crate::{Entrypoint, Error, Input, LexicalError, Refusal, Report, Tree};
+use crate::{lexical, report};
+
+/// Parses, and keeps its buffers for the next time.
+///
+/// ```
+/// use dt_parser::{Entrypoint, Input, Parser, Token, TokenKind};
+/// let mut parser = Parser::new();
+/// let input = Input::new(b"}", vec![Token::new(TokenKind::RCurly, 1)]);
+/// let parse = parser.parse(Entrypoint::SourceFile, &input)?;
+/// assert_eq!(parse.reports[0].to_string(), "Unmatched `}`");
+/// # Ok::<(), dt_parser::Error>(())
+/// ```
+#[derive(Debug, Default)]
+pub struct Parser {
+    buffers: Buffers,
+}
+
+/// What a parse gives: the tree, and what is wrong.
+#[derive(Debug, Clone)]
+pub struct Parse<'i> {
+    /// The tree. It holds every token of the input.
+    pub tree: Tree<'i>,
+    /// The error tokens, in order.
+    pub lexical_errors: Vec<LexicalError>,
+    /// The parser's reports, in the order in which it made them.
+    pub reports: Vec<Report>,
+}
+
+impl Parse<'_> {
+    /// Whether there is neither a report nor a lexical error. A tree may hold a
+    /// [`ParseError`](crate::NodeKind::ParseError) all the same: see [`Parse::unreported`].
+    #[must_use]
+    pub fn is_clean(&self) -> bool {
+        self.reports.is_empty() && self.lexical_errors.is_empty()
+    }
+}
+
+impl Parser {
+    /// A parser without buffers; they are made when they are needed.
+    #[must_use]
+    pub fn new() -> Self {
+        Self::default()
+    }
+
+    /// Parses the input. Where a buffer is too small (refusals 6 to 8) the call is made again with a larger one, up to
+    /// what every run fits by the theorem of crates/numbers.
+    ///
+    /// # Errors
+    ///
+    /// If the call is refused for its input: see [`Error`].
+    pub fn parse<'i>(&mut self, entry: Entrypoint, input: &Input<'i>) -> Result<Parse<'i>, Error> {
+        self.parse_by(sys::call, entry, input)
+    }
+
+    /// The same by any call of that form.
+    fn parse_by<'i>(
+        &mut self,
+        mut call: impl FnMut(u32, &[u8], &[u32], &mut Buffers) -> Answer,
+        entry: Entrypoint,
+        input: &Input<'i>,
+    ) -> Result<Parse<'i>, Error> {
+        let rows = input.rows();
+        let most = Room::most(input);
+        let mut room = Room::first(input);
+        loop {
+            self.buffers.set_room(room);
+            let answer = call(entry.number(), input.text, &rows, &mut self.buffers);
+            if answer.number == 0 {
+                return self.read(&answer, input);
+            }
+            let refusal = Refusal::from_number(answer.number, answer.place)
+                .ok_or(Error::BadAnswer { expected: "a refusal from 1 to 8", row: 0 })?;
+            match room.after(refusal, most) {
+                Some(more) => room = more,
+                None if refusal.number() <= 5 => return Err(Error::Refused(refusal)),
+                None => {
+                    return Err(Error::LimitPassed { refusal, tokens: input.tokens.len() });
+                }
+            }
+        }
+    }
+
+    /// The rows of an accepted call as values.
+    fn read<'i>(&self, answer: &Answer, input: &Input<'i>) -> Result<Parse<'i>, Error> {
+        let Buffers { trees, errors, reports, pool, .. } = &self.buffers;
+        let pool = pool.get(..answer.expectations).ok_or(short("expectations"))?;
+        Ok(Parse {
+            tree: Tree::read(rows(trees, answer.trees, "tree rows")?, input)?,
+            lexical_errors: lexical::read(rows(errors, answer.errors, "lexical errors")?)?,
+            reports: report::read(rows(reports, answer.reports, "reports")?, pool, input)?,
+        })
+    }
+}
+
+/// The first rows of a buffer.
+fn rows<'b, const N: usize>(buffer: &'b [u32], count: usize, what: &'static str) -> Result<&'b [[u32; N]], Error> {
+    let (rows, _) = buffer.as_chunks::<N>();
+    rows.get(..count).ok_or(short(what))
+}
+
+fn short(expected: &'static str) -> Error {
+    Error::BadAnswer { expected, row: 0 }
+}
+
+#[cfg(test)]
+mod tests {
+    use super::*;
+    use crate::{Token, TokenKind};
+
+    fn blank() -> Input<'static> {
+        Input::new(b" ", vec![Token::new(TokenKind::Whitespace, 1)])
+    }
+
+    fn answer(number: u32, trees: usize) -> Answer {
+        Answer { number, place: 0, trees, errors: 0, reports: 0, expectations: 0 }
+    }
+
+    /// What comes of a library that always gives this answer, and how often it is called.
+    fn parse_by(number: u32, trees: usize) -> (Error, usize) {
+        let mut calls = 0;
+        let call = |_: u32, _: &[u8], _: &[u32], _: &mut Buffers| {
+            calls += 1;
+            answer(number, trees)
+        };
+        let error = Parser::new().parse_by(call, Entrypoint::SourceFile, &blank()).unwrap_err();
+        (error, calls)
+    }
+
+    #[test]
+    fn room_is_tried_up_to_the_limit_and_then_told() {
+        for number in 6..=8 {
+            let (error, calls) = parse_by(number, 0);
+            let refusal = Refusal::from_number(number, 0).unwrap();
+            assert_eq!(error, Error::LimitPassed { refusal, tokens: 1 });
+            assert!(calls < 20, "{calls}");
+            assert!(
+                error
+                    .to_string()
+                    .ends_with("with room for all that 1 tokens can give: the linked library is not the proved one")
+            );
+        }
+    }
+
+    #[test]
+    fn other_refusals_are_told_at_once() {
+        for number in 1..=5 {
+            let refusal = Refusal::from_number(number, 0).unwrap();
+            assert_eq!(parse_by(number, 0), (Error::Refused(refusal), 1));
+            assert_eq!((refusal.number(), refusal.place()), (number, 0));
+        }
+    }
+
+    #[test]
+    fn an_answer_that_cannot_be_is_told() {
+        for (number, trees) in [(9, 0), (0, 0), (0, 1), (0, 1 << 40)] {
+            let (error, calls) = parse_by(number, trees);
+            assert!(matches!(error, Error::BadAnswer { .. }), "{error}");
+            assert_eq!(calls, 1);
+        }
+    }
+}

@@ -1,0 +1,138 @@
+//! The parser's reports.
+
+use crate::{Error, Expected, Hint, Input, Message, TextRange, TokenKind};
+use std::fmt;
+
+/// Something that the parser did not understand. It goes on after it.
+#[derive(Debug, Clone, PartialEq, Eq, Hash)]
+pub struct Report {
+    /// What it says.
+    pub message: Message,
+    /// The bytes that it is about.
+    pub range: TextRange,
+    /// The index just past the last token that had been taken.
+    pub mark: usize,
+    /// What would have been taken, in order, with repeats. Empty but for [`Message::Expected`].
+    pub expected: Vec<Expected>,
+    /// What stood there instead; none at the end of the input.
+    pub found: Option<TokenKind>,
+    /// What it adds to the message.
+    pub hint: Option<Hint>,
+    /// The `{` of the node that is not closed, for [`Message::UnclosedNode`].
+    pub label: Option<TextRange>,
+}
+
+/// A text for a part of the input, beside a report's own message.
+#[derive(Debug, Clone, Copy, PartialEq, Eq, Hash)]
+pub struct Label {
+    /// The bytes that it is about.
+    pub range: TextRange,
+    /// What it says.
+    pub text: &'static str,
+}
+
+impl Report {
+    /// What would have been taken, each once, as the message lists it.
+    ///
+    /// ```
+    /// # use dt_parser::{Entrypoint, Expected, Input, Token, TokenKind};
+    /// # let input = Input::new(b"#else", vec![Token::new(TokenKind::ElseDirective, 5)]);
+    /// let parse = Entrypoint::SourceFile.parse(&input)?; // of `#else`
+    /// let endif = Expected::Kind(TokenKind::EndifDirective);
+    /// assert_eq!(parse.reports[1].expected, [endif, endif]);
+    /// assert_eq!(parse.reports[1].expected_once(), [endif]);
+    /// # Ok::<(), dt_parser::Error>(())
+    /// ```
+    #[must_use]
+    pub fn expected_once(&self) -> Vec<Expected> {
+        let mut once = Vec::new();
+        for expected in &self.expected {
+            if !once.contains(expected) {
+                once.push(*expected);
+            }
+        }
+        once
+    }
+
+    /// The message's text, as in dt-tools.
+    #[must_use]
+    pub fn text(&self) -> String {
+        self.to_string()
+    }
+
+    /// The labels, as in dt-tools: the unclosed `{`, and the hint at the report's own range.
+    ///
+    /// ```
+    /// # use dt_parser::{Entrypoint, Input, Token, TokenKind};
+    /// # let input = Input::new(b"/{", vec![Token::new(TokenKind::Slash, 1), Token::new(TokenKind::LCurly, 1)]);
+    /// let parse = Entrypoint::SourceFile.parse(&input)?; // of `/{`
+    /// let label = parse.reports[0].labels()[0];
+    /// assert_eq!((label.range.byte_range(), label.text), (1..2, "Unclosed delimiter"));
+    /// # Ok::<(), dt_parser::Error>(())
+    /// ```
+    #[must_use]
+    pub fn labels(&self) -> Vec<Label> {
+        let brace = self.label.map(|range| Label { range, text: "Unclosed delimiter" });
+        let hint = self.hint.map(|hint| Label { range: self.range, text: hint.text() });
+        brace.into_iter().chain(hint).collect()
+    }
+
+    fn write_expected(&self, f: &mut fmt::Formatter<'_>) -> fmt::Result {
+        f.write_str("Expected ")?;
+        let list = self.expected_once();
+        for (i, expected) in list.iter().enumerate() {
+            match i {
+                0 => {}
+                _ if i + 1 == list.len() => f.write_str(" or ")?,
+                _ => f.write_str(", ")?,
+            }
+            write!(f, "{expected}")?;
+        }
+        match self.found {
+            Some(kind) => write!(f, ", but found {kind}"),
+            None => f.write_str(", but reached end of input"),
+        }
+    }
+}
+
+/// The message's text, as in dt-tools.
+impl fmt::Display for Report {
+    fn fmt(&self, f: &mut fmt::Formatter<'_>) -> fmt::Result {
+        match self.message.fixed_text() {
+            Some(text) => f.write_str(text),
+            None => self.write_expected(f),
+        }
+    }
+}
+
+impl std::error::Error for Report {}
+
+/// Report rows with their expectations.
+pub(crate) fn read(rows: &[[u32; 9]], pool: &[u32], input: &Input<'_>) -> Result<Vec<Report>, Error> {
+    rows.iter().enumerate().map(|(i, row)| read_one(i, row, pool, input)).collect()
+}
+
+fn read_one(row: usize, numbers: &[u32; 9], pool: &[u32], input: &Input<'_>) -> Result<Report, Error> {
+    let bad = |expected| Error::BadAnswer { expected, row };
+    let [message, _, _, _, _, _, hint, _, _] = *numbers;
+    let [_, start, end, mark, first, count, _, label_start, label_end] = numbers.map(|n| n as usize);
+    let codes = pool.get(first..first.saturating_add(count)).ok_or(bad("a part of the pool"))?;
+    let expected = codes.iter().map(|code| Expected::from_number(*code));
+    let range = TextRange { start, end };
+    let label = TextRange { start: label_start, end: label_end };
+    if end < start || end > input.text.len() || label_end < label_start || label_end > input.text.len() {
+        return Err(bad("a range of the text"));
+    }
+    Ok(Report {
+        message: Message::from_number(message).ok_or(bad("a message"))?,
+        range,
+        mark,
+        expected: expected.collect::<Option<_>>().ok_or(bad("an expectation"))?,
+        found: input.seen_from(mark),
+        hint: match hint {
+            0 => None,
+            n => Some(Hint::from_number(n).ok_or(bad("a hint"))?),
+        },
+        label: (!label.is_empty()).then_some(label),
+    })
+}

@@ -1,0 +1,223 @@
+//! Files of token rows: a text with its tokens, written down. docs/TOKENS.md describes the form.
+//!
+//! ```text
+//! devicetree tokens 1
+//! entry SourceFile
+//! file a.dts
+//! rows 2
+//! Ident 1
+//! Semicolon 1
+//! text 2
+//! a;
+//! ```
+
+use crate::{Entrypoint, Input, LexError, Token, TokenKind};
+use std::fmt;
+
+/// The first line of every such file.
+pub const FIRST_LINE: &str = "devicetree tokens 1";
+
+/// A file of token rows that has been read.
+#[derive(Debug, Clone, PartialEq, Eq)]
+pub struct RowsFile<'i> {
+    /// What the text is to be read as; a source file where nothing is said.
+    pub entry: Entrypoint,
+    /// The name of the file that the text comes from.
+    pub name: Option<String>,
+    /// The text and its tokens.
+    pub input: Input<'i>,
+    /// The number of the line that has the first row, counted from 1.
+    pub first_row_line: usize,
+}
+
+/// Why a file is no file of token rows.
+#[derive(Debug, Clone, PartialEq, Eq)]
+pub struct BadFile {
+    /// The line, counted from 1.
+    pub line: usize,
+    /// What should stand there.
+    pub expected: String,
+    /// What stands there.
+    pub found: String,
+}
+
+impl fmt::Display for BadFile {
+    fn fmt(&self, f: &mut fmt::Formatter<'_>) -> fmt::Result {
+        write!(f, "line {}: expected {}, found {}", self.line, self.expected, self.found)
+    }
+}
+
+impl std::error::Error for BadFile {}
+
+impl<'i> RowsFile<'i> {
+    /// Reads a file. Whether the rows fit the text is not looked at: that is the parser's, refusals 2 to 4.
+    ///
+    /// ```
+    /// use dt_parser::rowsfile::RowsFile;
+    /// let bad = RowsFile::read(b"devicetree tokens 1\nrows two\n").unwrap_err();
+    /// assert_eq!(bad.to_string(), "line 2: expected a decimal number after `rows`, found `two`");
+    /// ```
+    ///
+    /// # Errors
+    ///
+    /// [`BadFile`] for the first line that is not as it should be.
+    pub fn read(bytes: &'i [u8]) -> Result<Self, BadFile> {
+        let mut lines = Lines { rest: bytes, line: 0 };
+        lines.first()?;
+        let (entry, name, count) = lines.header()?;
+        let first_row_line = lines.line + 1;
+        let mut tokens = Vec::with_capacity(count.min(Input::MAX_TOKENS));
+        for i in 0..count {
+            tokens.push(lines.row(i, count)?);
+        }
+        let text = lines.text()?;
+        Ok(Self { entry, name, input: Input { text, tokens }, first_row_line })
+    }
+
+    /// Writes the file; what [`RowsFile::read`] reads is the same again.
+    #[must_use]
+    pub fn write(&self) -> Vec<u8> {
+        let mut out = format!("{FIRST_LINE}\nentry {}\n", self.entry.name());
+        if let Some(name) = &self.name {
+            out += &format!("file {}\n", name.replace('\n', " "));
+        }
+        out += &format!("rows {}\n", self.input.tokens.len());
+        for token in &self.input.tokens {
+            out += &match token.kind {
+                Ok(kind) => format!("{} {}\n", kind.name(), token.length),
+                Err(error) => format!("LexError::{} {}\n", error.name(), token.length),
+            };
+        }
+        out += &format!("text {}\n", self.input.text.len());
+        [out.as_bytes(), self.input.text].concat()
+    }
+}
+
+/// The lines that are left, and the number of the last one that was taken.
+struct Lines<'i> {
+    rest: &'i [u8],
+    line: usize,
+}
+
+impl<'i> Lines<'i> {
+    /// The next line without its end. The last line of a file needs no end.
+    fn next(&mut self, expected: &str) -> Result<&'i [u8], BadFile> {
+        self.line += 1;
+        if self.rest.is_empty() {
+            return Err(self.bad(expected, "the end of the file"));
+        }
+        let end = self.rest.iter().position(|byte| *byte == b'\n');
+        let (line, rest) = self.rest.split_at(end.unwrap_or(self.rest.len()));
+        self.rest = rest.get(1..).unwrap_or_default();
+        Ok(line)
+    }
+
+    fn bad(&self, expected: impl Into<String>, found: impl Into<String>) -> BadFile {
+        BadFile { line: self.line, expected: expected.into(), found: found.into() }
+    }
+
+    fn first(&mut self) -> Result<(), BadFile> {
+        let expected = format!("`{FIRST_LINE}`");
+        let line = self.next(&expected)?;
+        if line == FIRST_LINE.as_bytes() { Ok(()) } else { Err(self.bad(expected, quoted(line))) }
+    }
+
+    /// `entry` and `file`, each at most once and in any order, up to `rows` with its number.
+    fn header(&mut self) -> Result<(Entrypoint, Option<String>, usize), BadFile> {
+        let (mut entry, mut name) = (None, None);
+        loop {
+            let line = self.next("`entry`, `file` or `rows`")?;
+            let (word, value) = split(line);
+            match word {
+                b"rows" => {
+                    return Ok((entry.unwrap_or(Entrypoint::SourceFile), name, self.number("rows", value)?));
+                }
+                b"entry" if entry.is_none() => entry = Some(self.entry(value)?),
+                b"file" if name.is_none() => name = Some(String::from_utf8_lossy(value).into_owned()),
+                b"entry" | b"file" => return Err(self.bad("this word once", quoted(line))),
+                _ => return Err(self.bad("`entry`, `file` or `rows`", quoted(line))),
+            }
+        }
+    }
+
+    fn entry(&self, value: &[u8]) -> Result<Entrypoint, BadFile> {
+        let expected = "SourceFile, ReferenceNoamp, PropValues or Cells";
+        let name = std::str::from_utf8(value).ok();
+        name.and_then(Entrypoint::from_name).ok_or_else(|| self.bad(expected, quoted(value)))
+    }
+
+    fn number(&self, after: &str, value: &[u8]) -> Result<usize, BadFile> {
+        decimal(value).ok_or_else(|| self.bad(format!("a decimal number after `{after}`"), quoted(value)))
+    }
+
+    /// A kind and a length.
+    fn row(&mut self, i: usize, count: usize) -> Result<Token, BadFile> {
+        let expected = format!("row {} of {count}, a kind and a length", i + 1);
+        let line = self.next(&expected)?;
+        let (kind, length) = split(line);
+        let number = kind_number(kind);
+        let length = decimal(length).and_then(|n| u32::try_from(n).ok());
+        match (number, length) {
+            (Some(kind), Some(length)) => Ok(Token { kind, length }),
+            (None, Some(_)) => Err(self.bad("a token's kind, by name or number", quoted(kind))),
+            _ => Err(self.bad(expected, quoted(line))),
+        }
+    }
+
+    /// The line `text` with the number of bytes, and then those bytes up to the file's end.
+    fn text(&mut self) -> Result<&'i [u8], BadFile> {
+        let expected = "`text` and the number of its bytes, after the last row";
+        let line = self.next(expected)?;
+        let (word, value) = split(line);
+        if word != b"text" {
+            return Err(self.bad(expected, quoted(line)));
+        }
+        let count = self.number("text", value)?;
+        if count == self.rest.len() {
+            return Ok(self.rest);
+        }
+        Err(self.bad(format!("{count} bytes after this line, up to the end of the file"), self.rest.len().to_string()))
+    }
+}
+
+/// The word up to the first blank, and what follows the blank.
+fn split(line: &[u8]) -> (&[u8], &[u8]) {
+    match line.iter().position(|byte| *byte == b' ') {
+        Some(at) => (&line[..at], &line[at + 1..]),
+        None => (line, b""),
+    }
+}
+
+/// Digits alone: no sign, no blank.
+fn decimal(digits: &[u8]) -> Option<usize> {
+    let text = std::str::from_utf8(digits).ok()?;
+    text.bytes().all(|byte| byte.is_ascii_digit()).then(|| text.parse().ok())?
+}
+
+/// A kind or a lexical error, by name or by number.
+fn kind_number(word: &[u8]) -> Option<Result<TokenKind, LexError>> {
+    let name = std::str::from_utf8(word).ok()?;
+    let kind = if let Some(error) = name.strip_prefix("LexError::") {
+        Err(LexError::from_name(error)?)
+    } else if let Some(number) = decimal(word) {
+        let number = u32::try_from(number).ok()?;
+        TokenKind::from_number(number).map(Ok).or_else(|| LexError::from_number(number).map(Err))?
+    } else {
+        Ok(TokenKind::from_name(name)?)
+    };
+    let is_input = kind.map_or(true, TokenKind::is_input);
+    is_input.then_some(kind)
+}
+
+/// What was found, short and on one line.
+fn quoted(bytes: &[u8]) -> String {
+    if bytes.is_empty() {
+        return "nothing".to_string();
+    }
+    let short = &bytes[..bytes.len().min(40)];
+    let dots = if short.len() < bytes.len() { ".." } else { "" };
+    format!("`{}`{dots}", short.escape_ascii())
+}
+
+#[cfg(test)]
+mod tests;

@@ -1,0 +1,72 @@
+//! Files that are read, written and refused.
+
+use super::*;
+
+fn complaint(bytes: &[u8]) -> String {
+    RowsFile::read(bytes).unwrap_err().to_string()
+}
+
+fn after_first(rest: &str) -> Vec<u8> {
+    format!("{FIRST_LINE}\n{rest}").into_bytes()
+}
+
+#[test]
+fn what_is_written_is_read_again() {
+    let tokens = TokenKind::ALL.iter().filter(|kind| kind.is_input()).map(|kind| Token::new(*kind, 3));
+    let errors = LexError::ALL.iter().map(|error| Token::error(*error, 4_000_000_000));
+    let input = Input::new(b"\0\xff\r\n\n devicetree", tokens.chain(errors).collect());
+    let file = RowsFile { entry: Entrypoint::Cells, name: Some("a b.dts".into()), input, first_row_line: 5 };
+    assert_eq!(RowsFile::read(&file.write()).as_ref(), Ok(&file));
+}
+
+#[test]
+fn kinds_are_names_or_numbers() {
+    let file = after_first("rows 4\n27 1\nLexError::Default 1\n74 1\nSemicolon 1\ntext 0\n");
+    let read = RowsFile::read(&file).unwrap();
+    let numbers: Vec<u32> = read.input.tokens.iter().map(|token| token.number()).collect();
+    assert_eq!(numbers, [27, 74, 74, 29]);
+    assert_eq!((read.entry, read.name, read.first_row_line), (Entrypoint::SourceFile, None, 3));
+}
+
+#[test]
+fn a_bad_header_is_told_with_its_line() {
+    assert_eq!(complaint(b""), "line 1: expected `devicetree tokens 1`, found the end of the file");
+    assert_eq!(complaint(b"/dts-v1/;\n"), "line 1: expected `devicetree tokens 1`, found `/dts-v1/;`");
+    assert_eq!(complaint(&after_first("")), "line 2: expected `entry`, `file` or `rows`, found the end of the file");
+    assert_eq!(
+        complaint(&after_first("entry Name\n")),
+        "line 2: expected SourceFile, ReferenceNoamp, PropValues or Cells, found `Name`"
+    );
+    assert_eq!(complaint(&after_first("file a\nfile b\n")), "line 3: expected this word once, found `file b`");
+    assert_eq!(complaint(&after_first("rows\n")), "line 2: expected a decimal number after `rows`, found nothing");
+    assert_eq!(complaint(&after_first("rows -1\n")), "line 2: expected a decimal number after `rows`, found `-1`");
+    assert_eq!(complaint(&after_first("rows 1\r\n")), "line 2: expected a decimal number after `rows`, found `1\\r`");
+}
+
+#[test]
+fn a_bad_row_is_told_with_its_line() {
+    assert_eq!(
+        complaint(&after_first("rows 2\nIdent 1\n")),
+        "line 4: expected row 2 of 2, a kind and a length, found the end of the file"
+    );
+    assert_eq!(
+        complaint(&after_first("rows 1\nIdent\n")),
+        "line 3: expected row 1 of 1, a kind and a length, found `Ident`"
+    );
+    for kind in ["Idents", "25", "Name", "61", "75", "LexError::None", "4294967323", "\u{e9}"] {
+        let said = complaint(&after_first(&format!("rows 1\n{kind} 1\n")));
+        assert!(said.starts_with("line 3: expected a token's kind, by name or number, found `"), "{said}");
+    }
+    assert!(complaint(&after_first("rows 1\nIdent 4294967296\n")).starts_with("line 3: expected row 1 of 1"));
+    assert!(complaint(&after_first("rows 99999999999999999999\n")).starts_with("line 2: expected a decimal"));
+    assert!(complaint(&after_first("rows 1234567890123\nIdent 1\n")).starts_with("line 4: expected row 2 of"));
+}
+
+#[test]
+fn the_text_has_the_length_that_is_told() {
+    let expected = "line 3: expected 3 bytes after this line, up to the end of the file, found ";
+    assert_eq!(complaint(&after_first("rows 0\ntext 3\na;")), format!("{expected}2"));
+    assert_eq!(complaint(&after_first("rows 0\ntext 3\na;b\n")), format!("{expected}4"));
+    assert!(complaint(&after_first("rows 0\nIdent 1\n")).starts_with("line 3: expected `text` and the number"));
+    assert!(complaint(&after_first("rows 0\n")).starts_with("line 3: expected `text` and the number"));
+}

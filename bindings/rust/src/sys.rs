@@ -1,0 +1,66 @@
+//! The exported call, and all that is unsafe in this crate.
+
+use crate::buffers::Buffers;
+
+/// What the call returns: its number (0, or a refusal's), a place, and the counts of rows that it wrote.
+#[repr(C)]
+pub(crate) struct Answer {
+    pub number: u32,
+    pub place: usize,
+    pub trees: usize,
+    pub errors: usize,
+    pub reports: usize,
+    pub expectations: usize,
+}
+
+#[allow(unsafe_code)]
+unsafe extern "C" {
+    /// A slice is a pointer and a length in elements.
+    fn dt_parse(
+        entry: u32,
+        bytes: *const u8,
+        bytes_len: usize,
+        tokens: *const u32,
+        tokens_len: usize,
+        events: *mut u32,
+        events_len: usize,
+        trees: *mut u32,
+        trees_len: usize,
+        errors: *mut u32,
+        errors_len: usize,
+        reports: *mut u32,
+        reports_len: usize,
+        pool: *mut u32,
+        pool_len: usize,
+    ) -> Answer;
+}
+
+/// One call over lent buffers. Any entry, bytes and numbers may be passed.
+#[allow(unsafe_code)]
+pub(crate) fn call(entry: u32, bytes: &[u8], tokens: &[u32], lent: &mut Buffers) -> Answer {
+    let Buffers { events, trees, errors, reports, pool } = lent;
+    // SAFETY: each pointer and length is that of a live slice of the element type that the call names. The two slices that
+    // it reads are borrowed for the time of the call and hold initialized elements. The five that it writes are five
+    // vectors, borrowed mutably, so that none overlaps another or what is read, and hold initialized elements too. The
+    // call's contract has no premise on any number in them, and it is proved to touch nothing outside of them and to end.
+    // Its language has no globals, in which a pointer could be kept, and does not unwind. `Answer` is laid out as there.
+    unsafe {
+        dt_parse(
+            entry,
+            bytes.as_ptr(),
+            bytes.len(),
+            tokens.as_ptr(),
+            tokens.len(),
+            events.as_mut_ptr(),
+            events.len(),
+            trees.as_mut_ptr(),
+            trees.len(),
+            errors.as_mut_ptr(),
+            errors.len(),
+            reports.as_mut_ptr(),
+            reports.len(),
+            pool.as_mut_ptr(),
+            pool.len(),
+        )
+    }
+}

@@ -1,0 +1,217 @@
+//! The tree: rows in preorder, with what is needed to walk it in any direction.
+
+use crate::{Error, Input, Item, Leaf, Node, NodeKind, TokenKind};
+use std::fmt;
+
+/// What a row stands for.
+#[derive(Debug, Clone, Copy, PartialEq, Eq, Hash)]
+pub(crate) enum RowKind {
+    Node(NodeKind),
+    Leaf(TokenKind),
+}
+
+/// A row with its place. Rows and tokens are counted from 0.
+#[derive(Debug, Clone, Copy)]
+pub(crate) struct Row {
+    pub kind: RowKind,
+    /// Its first byte, and how many bytes it has.
+    pub start: usize,
+    pub width: usize,
+    /// The parent's row; the root's is its own.
+    pub parent: usize,
+    /// The row just past all that lies under it.
+    pub next: usize,
+    /// Its first raw token, and how many it has.
+    pub token: usize,
+    pub tokens: usize,
+}
+
+/// A lossless tree: its leaves in order are the tokens of the input.
+///
+/// [`Tree::root`] is where a walk starts. `Display` prints the tree as dt-tools does, a line for each node and leaf.
+///
+/// ```
+/// # use dt_parser::{Entrypoint, Input, Token, TokenKind};
+/// # let tokens = [(TokenKind::Slash, 1), (TokenKind::LCurly, 1), (TokenKind::RCurly, 1), (TokenKind::Semicolon, 1)];
+/// # let input = Input::new(b"/{};", tokens.map(|(kind, length)| Token::new(kind, length)).to_vec());
+/// let parse = Entrypoint::SourceFile.parse(&input)?; // of `/{};`
+/// let lines = ["SourceFile@0..4", "  DtNode@0..4", "    Slash@0..1 \"/\"", "    LCurly@1..2 \"{\""];
+/// assert!(parse.tree.to_string().lines().take(4).eq(lines));
+///
+/// let brace = parse.tree.leaf_at(2).expect("the text has four bytes");
+/// assert_eq!(brace.kind(), TokenKind::RCurly);
+/// # Ok::<(), dt_parser::Error>(())
+/// ```
+#[derive(Clone)]
+pub struct Tree<'i> {
+    pub(crate) text: &'i [u8],
+    pub(crate) rows: Vec<Row>,
+}
+
+impl<'i> Tree<'i> {
+    /// The text that was parsed.
+    #[must_use]
+    pub const fn text(&self) -> &'i [u8] {
+        self.text
+    }
+
+    /// The root.
+    #[must_use]
+    pub fn root(&self) -> Node<'_> {
+        Node { tree: self, row: 0 }
+    }
+
+    /// The leaf that has the byte at this offset.
+    #[must_use]
+    pub fn leaf_at(&self, offset: usize) -> Option<Leaf<'_>> {
+        let mut node = self.root();
+        loop {
+            match node.children().find(|item| item.range().contains(offset))? {
+                Item::Node(inner) => node = inner,
+                Item::Leaf(leaf) => return Some(leaf),
+            }
+        }
+    }
+
+    pub(crate) fn item(&self, row: usize) -> Item<'_> {
+        match self.rows[row].kind {
+            RowKind::Node(_) => Item::Node(Node { tree: self, row }),
+            RowKind::Leaf(_) => Item::Leaf(Leaf { tree: self, row }),
+        }
+    }
+
+    /// Reads rows of class, kind, width and count. They are checked to be one tree over the input, so that no walk can
+    /// leave it.
+    pub(crate) fn read(rows: &[[u32; 4]], input: &Input<'i>) -> Result<Self, Error> {
+        let mut reader = Reader { input, rows: Vec::with_capacity(rows.len()), open: Vec::new(), at: 0, token: 0 };
+        for (i, numbers) in rows.iter().enumerate() {
+            if i > 0 && reader.open.is_empty() {
+                return Err(Error::BadAnswer { expected: "under the root", row: i });
+            }
+            reader.add(numbers)?;
+        }
+        let whole = !rows.is_empty() && reader.open.is_empty();
+        if whole && reader.at == input.text.len() && reader.token == input.tokens.len() {
+            Ok(Self { text: input.text, rows: reader.rows })
+        } else {
+            Err(Error::BadAnswer { expected: "the last of a tree of all tokens", row: rows.len() })
+        }
+    }
+}
+
+/// A tree that is being read.
+struct Reader<'r, 'i> {
+    input: &'r Input<'i>,
+    rows: Vec<Row>,
+    /// The nodes around the next row, and how many children each still gets.
+    open: Vec<(usize, usize)>,
+    /// The bytes and raw tokens so far.
+    at: usize,
+    token: usize,
+}
+
+impl Reader<'_, '_> {
+    fn add(&mut self, numbers: &[u32; 4]) -> Result<(), Error> {
+        let row = self.rows.len();
+        let bad = |expected| Error::BadAnswer { expected, row };
+        let [class, kind, width, count] = *numbers;
+        let parent = self.open.last_mut().map_or(row, |(parent, left)| {
+            *left -= 1;
+            *parent
+        });
+        let (kind, tokens) = match class {
+            0 => (RowKind::Node(NodeKind::from_number(kind).ok_or(bad("a node kind"))?), 0),
+            1 => (RowKind::Leaf(TokenKind::from_number(kind).ok_or(bad("a token kind"))?), count as usize),
+            _ => return Err(bad("a node or a leaf")),
+        };
+        let (start, token, width) = (self.at, self.token, width as usize);
+        self.rows.push(Row { kind, start, width, parent, next: row + 1, token, tokens });
+        match class {
+            0 => self.open.push((row, count as usize)),
+            _ => self.take(width, tokens).ok_or(bad("a leaf of tokens"))?,
+        }
+        self.close()
+    }
+
+    /// Passes a leaf's tokens, whose lengths must add up to its width.
+    fn take(&mut self, width: usize, tokens: usize) -> Option<()> {
+        let taken = self.input.tokens.get(self.token..self.token.checked_add(tokens)?)?;
+        let sum: usize = taken.iter().map(|token| token.length as usize).sum();
+        self.token += tokens;
+        self.at += width;
+        (sum == width && tokens > 0).then_some(())
+    }
+
+    /// Closes every node that has all its children.
+    fn close(&mut self) -> Result<(), Error> {
+        while let Some(&(row, 0)) = self.open.last() {
+            self.open.pop();
+            let next = self.rows.len();
+            let node = &mut self.rows[row];
+            node.next = next;
+            node.tokens = self.token - node.token;
+            if node.width != self.at - node.start {
+                return Err(Error::BadAnswer { expected: "a node as wide as what is under it", row });
+            }
+        }
+        Ok(())
+    }
+}
+
+impl fmt::Debug for Tree<'_> {
+    fn fmt(&self, f: &mut fmt::Formatter<'_>) -> fmt::Result {
+        fmt::Display::fmt(self, f)
+    }
+}
+
+impl fmt::Display for Tree<'_> {
+    fn fmt(&self, f: &mut fmt::Formatter<'_>) -> fmt::Result {
+        for (item, depth) in self.root().walk() {
+            for _ in 0..depth {
+                f.write_str("  ")?;
+            }
+            writeln!(f, "{item}")?;
+        }
+        Ok(())
+    }
+}
+
+#[cfg(test)]
+mod tests {
+    use super::*;
+    use crate::Token;
+
+    /// `a;` as SourceFile(DtProperty(Name, Semicolon)).
+    const ROWS: [[u32; 4]; 4] = [[0, 0, 2, 1], [0, 16, 2, 2], [1, 26, 1, 1], [1, 29, 1, 1]];
+
+    fn input() -> Input<'static> {
+        Input::new(b"a;", vec![Token::new(TokenKind::Ident, 1), Token::new(TokenKind::Semicolon, 1)])
+    }
+
+    #[test]
+    fn rows_of_a_tree_are_taken() {
+        let tree = Tree::read(&ROWS, &input()).unwrap();
+        assert_eq!(
+            tree.to_string(),
+            "SourceFile@0..2\n  DtProperty@0..2\n    Name@0..1 \"a\"\n    Semicolon@1..2 \";\"\n"
+        );
+    }
+
+    #[test]
+    fn rows_of_no_tree_are_refused() {
+        assert!(Tree::read(&[], &input()).is_err());
+        assert!(Tree::read(&ROWS[..3], &input()).is_err());
+        assert!(Tree::read(&[ROWS.as_slice(), &ROWS[3..]].concat(), &input()).is_err());
+        for row in 0..ROWS.len() {
+            for number in 0..4 {
+                for other in [3, 200, u32::MAX] {
+                    let mut rows = ROWS;
+                    rows[row][number] = other;
+                    // another kind that exists is a tree too
+                    let is_tree = number == 1 && other == 3;
+                    assert_eq!(Tree::read(&rows, &input()).is_ok(), is_tree, "{rows:?}");
+                }
+            }
+        }
+    }
+}

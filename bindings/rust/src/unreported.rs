@@ -1,0 +1,37 @@
+//! Parts that were not understood and that no report speaks of.
+
+use crate::{Node, NodeKind, Parse, TextRange};
+
+impl Parse<'_> {
+    /// The outermost [`ParseError`](NodeKind::ParseError) nodes without a report or a lexical error inside them or just
+    /// behind them. dt-tools' grammar makes such nodes: `a=<1> b;` lacks a semicolon, `a=<1>` becomes a `ParseError`, and
+    /// nothing is reported.
+    #[must_use]
+    pub fn unreported(&self) -> Vec<Node<'_>> {
+        let mut places: Vec<TextRange> = self.reports.iter().map(|report| report.range).collect();
+        places.extend(self.lexical_errors.iter().map(|error| error.range));
+        places.sort();
+        let spoken_of = |node: &Node<'_>| {
+            let range = node.range();
+            let first = places.partition_point(|place| place.start < range.start);
+            places.get(first).is_some_and(|place| place.start <= range.end)
+        };
+        let mut silent = self.outermost_errors();
+        silent.retain(|node| !spoken_of(node));
+        silent
+    }
+
+    /// The [`ParseError`](NodeKind::ParseError) nodes that lie in no other one.
+    #[must_use]
+    pub fn outermost_errors(&self) -> Vec<Node<'_>> {
+        let mut found = Vec::new();
+        let mut past = 0;
+        for node in self.tree.root().descendant_nodes() {
+            if node.kind() == NodeKind::ParseError && node.row >= past {
+                past = node.data().next;
+                found.push(node);
+            }
+        }
+        found
+    }
+}

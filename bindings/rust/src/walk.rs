@@ -1,0 +1,291 @@
+//! Nodes and leaves of a tree, and the ways through it.
+
+use crate::tree::{Row, RowKind};
+use crate::{NodeKind, TextRange, TokenKind, Tree};
+use std::borrow::Cow;
+use std::fmt;
+use std::ops::Range;
+
+/// A node of a tree.
+///
+/// ```
+/// # use dt_parser::{Entrypoint, Input, NodeKind, Token, TokenKind};
+/// # let kinds = [TokenKind::Ident, TokenKind::LCurly, TokenKind::Ident, TokenKind::Semicolon, TokenKind::RCurly, TokenKind::Semicolon];
+/// # let input = Input::new(b"a{b;};", kinds.map(|kind| Token::new(kind, 1)).to_vec());
+/// let parse = Entrypoint::SourceFile.parse(&input)?; // of `a{b;};`
+/// let node = parse.tree.root().child(NodeKind::DtNode).expect("there is one");
+/// let property = node.child(NodeKind::DtProperty).expect("there is one");
+/// assert_eq!((property.text(), property.tokens()), (b"b;".as_slice(), 2..4));
+/// assert_eq!(property.parent(), Some(node));
+/// assert_eq!(node.children().count(), 5);
+/// assert_eq!(node.child_leaf(TokenKind::Name).expect("its name").text_lossy(), "a");
+/// # Ok::<(), dt_parser::Error>(())
+/// ```
+#[derive(Clone, Copy)]
+pub struct Node<'t> {
+    pub(crate) tree: &'t Tree<'t>,
+    pub(crate) row: usize,
+}
+
+/// A leaf of a tree: a token, or a name joined from several.
+#[derive(Clone, Copy)]
+pub struct Leaf<'t> {
+    pub(crate) tree: &'t Tree<'t>,
+    pub(crate) row: usize,
+}
+
+/// A node or a leaf.
+#[derive(Clone, Copy, PartialEq, Eq, Hash)]
+pub enum Item<'t> {
+    /// A node.
+    Node(Node<'t>),
+    /// A leaf.
+    Leaf(Leaf<'t>),
+}
+
+/// What nodes, leaves and items all have.
+macro_rules! placed {
+    ($name:ident) => {
+        impl<'t> $name<'t> {
+            /// The bytes that it covers.
+            #[must_use]
+            pub fn range(self) -> TextRange {
+                let row = self.data();
+                TextRange { start: row.start, end: row.start + row.width }
+            }
+
+            /// Its text.
+            #[must_use]
+            pub fn text(self) -> &'t [u8] {
+                &self.tree().text[self.range().byte_range()]
+            }
+
+            /// Its text for people: bytes that are no UTF-8 are shown as U+FFFD.
+            #[must_use]
+            pub fn text_lossy(self) -> Cow<'t, str> {
+                String::from_utf8_lossy(self.text())
+            }
+
+            /// The indexes of its tokens in the input.
+            #[must_use]
+            pub fn tokens(self) -> Range<usize> {
+                let row = self.data();
+                row.token..row.token + row.tokens
+            }
+
+            /// The node that it is a child of; none for the root.
+            #[must_use]
+            pub fn parent(self) -> Option<Node<'t>> {
+                let (row, parent) = (self.row(), self.data().parent);
+                (row != parent).then_some(Node { tree: self.tree(), row: parent })
+            }
+
+            /// The nodes around it, the nearest first.
+            pub fn ancestors(self) -> impl Iterator<Item = Node<'t>> + use<'t> {
+                std::iter::successors(self.parent(), |node| node.parent())
+            }
+
+            pub(crate) fn data(self) -> &'t Row {
+                &self.tree().rows[self.row()]
+            }
+        }
+    };
+}
+
+placed!(Node);
+placed!(Leaf);
+placed!(Item);
+
+impl<'t> Node<'t> {
+    /// What it is.
+    #[must_use]
+    pub fn kind(self) -> NodeKind {
+        match self.data().kind {
+            RowKind::Node(kind) => kind,
+            RowKind::Leaf(_) => unreachable!("a node is made over a node's row alone"),
+        }
+    }
+
+    /// Its children, in order.
+    pub fn children(self) -> impl Iterator<Item = Item<'t>> + use<'t> {
+        let (tree, end) = (self.tree, self.data().next);
+        let within = move |row: usize| (row < end).then_some(row);
+        std::iter::successors(within(self.row + 1), move |row| within(tree.rows[*row].next)).map(|row| tree.item(row))
+    }
+
+    /// Its children that are nodes.
+    pub fn child_nodes(self) -> impl Iterator<Item = Node<'t>> + use<'t> {
+        self.children().filter_map(Item::as_node)
+    }
+
+    /// Its children that are leaves.
+    pub fn child_leaves(self) -> impl Iterator<Item = Leaf<'t>> + use<'t> {
+        self.children().filter_map(Item::as_leaf)
+    }
+
+    /// The first child node of this kind.
+    #[must_use]
+    pub fn child(self, kind: NodeKind) -> Option<Node<'t>> {
+        self.child_nodes().find(|node| node.kind() == kind)
+    }
+
+    /// The first child leaf of this kind.
+    #[must_use]
+    pub fn child_leaf(self, kind: TokenKind) -> Option<Leaf<'t>> {
+        self.child_leaves().find(|leaf| leaf.kind() == kind)
+    }
+
+    /// All that lies under it: each node before its children, in the order of the text.
+    pub fn descendants(self) -> impl Iterator<Item = Item<'t>> + use<'t> {
+        let tree = self.tree;
+        (self.row + 1..self.data().next).map(|row| tree.item(row))
+    }
+
+    /// The nodes under it.
+    pub fn descendant_nodes(self) -> impl Iterator<Item = Node<'t>> + use<'t> {
+        self.descendants().filter_map(Item::as_node)
+    }
+
+    /// The leaves under it, in the order of the text.
+    pub fn leaves(self) -> impl Iterator<Item = Leaf<'t>> + use<'t> {
+        self.descendants().filter_map(Item::as_leaf)
+    }
+
+    /// Itself and all that lies under it, each with its depth below this node. No recursion, however deep the tree is.
+    pub fn walk(self) -> impl Iterator<Item = (Item<'t>, usize)> + use<'t> {
+        let mut ends: Vec<usize> = Vec::new();
+        let tree = self.tree;
+        (self.row..self.data().next).map(move |row| {
+            while ends.last().is_some_and(|end| *end <= row) {
+                ends.pop();
+            }
+            let depth = ends.len();
+            ends.push(tree.rows[row].next);
+            (tree.item(row), depth)
+        })
+    }
+
+    const fn tree(self) -> &'t Tree<'t> {
+        self.tree
+    }
+
+    const fn row(self) -> usize {
+        self.row
+    }
+}
+
+impl<'t> Leaf<'t> {
+    /// What it is: the token's kind, [`TokenKind::Name`] for a name, [`TokenKind::Unrecognized`] for an error token.
+    #[must_use]
+    pub fn kind(self) -> TokenKind {
+        match self.data().kind {
+            RowKind::Leaf(kind) => kind,
+            RowKind::Node(_) => unreachable!("a leaf is made over a leaf's row alone"),
+        }
+    }
+
+    /// Whether it is a blank or a comment.
+    #[must_use]
+    pub fn is_trivia(self) -> bool {
+        self.kind().is_trivia()
+    }
+
+    const fn tree(self) -> &'t Tree<'t> {
+        self.tree
+    }
+
+    const fn row(self) -> usize {
+        self.row
+    }
+}
+
+impl<'t> Item<'t> {
+    /// The node, if it is one.
+    #[must_use]
+    pub const fn as_node(self) -> Option<Node<'t>> {
+        match self {
+            Self::Node(node) => Some(node),
+            Self::Leaf(_) => None,
+        }
+    }
+
+    /// The leaf, if it is one.
+    #[must_use]
+    pub const fn as_leaf(self) -> Option<Leaf<'t>> {
+        match self {
+            Self::Leaf(leaf) => Some(leaf),
+            Self::Node(_) => None,
+        }
+    }
+
+    const fn tree(self) -> &'t Tree<'t> {
+        match self {
+            Self::Node(node) => node.tree,
+            Self::Leaf(leaf) => leaf.tree,
+        }
+    }
+
+    const fn row(self) -> usize {
+        match self {
+            Self::Node(node) => node.row,
+            Self::Leaf(leaf) => leaf.row,
+        }
+    }
+}
+
+/// Equal are those that stand in the same place of the same tree.
+macro_rules! same_place {
+    ($name:ident) => {
+        impl PartialEq for $name<'_> {
+            fn eq(&self, other: &Self) -> bool {
+                std::ptr::eq(self.tree, other.tree) && self.row == other.row
+            }
+        }
+
+        impl Eq for $name<'_> {}
+
+        impl std::hash::Hash for $name<'_> {
+            fn hash<H: std::hash::Hasher>(&self, state: &mut H) {
+                self.row.hash(state);
+            }
+        }
+    };
+}
+
+same_place!(Node);
+same_place!(Leaf);
+
+/// Kind and range, as `DtNode@0..5`.
+impl fmt::Display for Node<'_> {
+    fn fmt(&self, f: &mut fmt::Formatter<'_>) -> fmt::Result {
+        write!(f, "{:?}@{}", self.kind(), self.range())
+    }
+}
+
+/// Kind, range and text, as `Semicolon@4..5 ";"`. Bytes that are no UTF-8 are shown as U+FFFD.
+impl fmt::Display for Leaf<'_> {
+    fn fmt(&self, f: &mut fmt::Formatter<'_>) -> fmt::Result {
+        write!(f, "{:?}@{} {:?}", self.kind(), self.range(), self.text_lossy())
+    }
+}
+
+impl fmt::Display for Item<'_> {
+    fn fmt(&self, f: &mut fmt::Formatter<'_>) -> fmt::Result {
+        match self {
+            Self::Node(node) => node.fmt(f),
+            Self::Leaf(leaf) => leaf.fmt(f),
+        }
+    }
+}
+
+macro_rules! debug_as_display {
+    ($($name:ident)*) => {
+        $(impl fmt::Debug for $name<'_> {
+            fn fmt(&self, f: &mut fmt::Formatter<'_>) -> fmt::Result {
+                fmt::Display::fmt(self, f)
+            }
+        })*
+    };
+}
+
+debug_as_display!(Node Leaf Item);
