@@ -1,2 +1,3 @@
+-- The theorems about the definitions, and the false beliefs refuted.
 pub mod Demands
 pub mod Beliefs
