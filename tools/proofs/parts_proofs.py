@@ -1,0 +1,204 @@
+# Writes the proofs of the crate `parts`. Run in the repository:
+#   rt dev parts --generated target/generated/parts; python3 tools/proofs/parts_proofs.py target/generated/parts; rt fmt
+# The first command writes what the check generates for each function; it may fail, and writes all the same. Where a function has no proof
+# file yet, give it one with a hole first, or the check searches for each need.
+import os
+import re
+import sys
+
+sys.path.insert(0, os.path.dirname(__file__))
+from code_proofs import Crate, parse, way_to
+from program_ways import AGAIN, NO, SAME_NO, SAME_YES, YES, Walk, both, by, call, close, flag, ignore, mark, negated, node_kinds, seq, starting, when
+
+# What a call ensures of what is left. le: no more. all: the same, for every list. yes: no more, and something of the answer yes.
+CALLS = {
+    **dict.fromkeys("bump error expect-recoverable consume macro-invocation directive-end eat-deleted memreserve-arguments delete-arguments at-cells-end at-values-end after-propvalue label-or-name eat-unit-address-and-at-colon labels-and-name unfinished".split(), "le"),
+    **dict.fromkeys("start complete ignore add-expected".split(), "all"),
+    **dict.fromkeys("silent-at silent-at-set at eat eat-starting expect silent-eat eat-dts-include eat-directive-with-arguments eat-dts-directive at-item".split(), "yes"),
+    "at-end": "end",
+    "at-cells-recovery": "end",
+    "new": "none",
+    "some": "none",
+    # two clauses, cited where they are used
+    "turn": "own",
+    "eat-node-or-prop-prefix": "le",
+}
+
+# Calls that lend no buffer to write.
+LOOKS = "new some silent-at silent-at-set at at-end add-expected at-cells-end at-cells-recovery at-values-end at-item".split()
+
+# The crate's own functions, and how many buffers their contracts are told.
+TELLS = {**dict.fromkeys("memreserve-arguments delete-arguments eat-deleted eat-directive-with-arguments eat-dts-include macro-invocation label-or-name eat-unit-address-and-at-colon labels-and-name consume turn".split(), 0), "at-values-end": 3}
+
+# Where a name comes from.
+MODULES = {
+    "Prim.Native.Nat": "ℕ _+_ _-_ _≤_ _<_",
+    "mathlib.Core.Path": "_≡_ refl sym ap _∙_",
+    "mathlib.Core.Bool": "true false",
+    "mathlib.Core.List": "List [] _∷_",
+    "native.Mathlib.Omega": "arith",
+    "native.Mathlib.Nat": "le-refl",
+    "lib.ListN": "length",
+    "Rattle.definitions.specs.Token": "tokens",
+    "Rattle.definitions.specs.Skeleton": "Span",
+    "Rattle.definitions.specs.Prog": "Rule no loop",
+    "Rattle.definitions.specs.Check": "set kind silent eat-starting_inside_else_",
+    "Rattle.definitions.specs.Grammar": "eat-dts-include eat-dts-directive cells-end after-propvalue prefix-turn eat-node-or-prop-prefix Reference",
+    "Rattle.machine.specs.Machine": "Machine",
+    "Rattle.machine.specs.Walk": "Walked said walk unlabelled",
+    "Rattle.machine.proofs.Turns": "few-rows",
+    "Rattle.machine.proofs.Way": "c-walk c-act c-ret c-seq c-yes c-no c-mark completed",
+    "Rattle.parser.specs.View": "view left answer-of",
+    "Rattle.parts.specs.View": "own-name goes found",
+    "Rattle.parts.specs.Parts": "at-values-end label-or-name",
+    "Rattle.parts.proofs.Steps": "true-false c-started c-unstarted c-ret-yes c-ret-no closes-to c-any c-flag closing ignored went-on ended-yes ahead-falls goes-one found-one went-told ended-told other-ends no-also yes-also again-also some-is at-one at-none taken-some starting-some some-left",
+}
+
+
+class Parts(Crate):
+    def write(self, fn, text):
+        """Puts the use lines below the heading."""
+        head, rest = text.split("\n", 1)
+        body = re.sub(r"^use .*$", "", rest, flags=re.M)
+        words = set(re.findall(r"(?<![\w.-])[^\s(){},.]+", body))
+        uses = ["use Rattle.definitions.specs.TokenKind as K"] if "K" in words else []
+        for module, names in MODULES.items():
+            found = [n for n in names.split() if n in words or (n.startswith("_") and n.strip("_") in words)]
+            if found:
+                uses.append(f"use {module}.{{{', '.join(found)}}}")
+        super().write(fn, "\n".join([head, *uses, rest]))
+
+    def way(self, fn, program, rest, unfolds="", given="ask b", closing=False, before=None, own={}, head=None):
+        """Along a tree: one equation by steps for each return, and the rest of the contract by `rest`."""
+        records, needs = parse(os.path.join(self.generated, fn, "Lts.antt"))
+        answers = {}
+        for need, place in needs.items():
+            if not need.startswith("returns"):
+                continue
+            steps, _ = way_to(records, place)
+            walk = Walk(steps, self.node_kinds, TELLS, {"directive-end"})
+            term, answer = walk.emit(program)
+            equation = f"closes-to {term} {walk.closes}" if closing else f"{term} .is"
+            if before and before[0] in [s[0] for s in steps]:
+                equation = f"{before[1]} ∙ {equation}"
+            text = f"(λ {given}. {equation}, {rest(need, answer, walk)})"
+            answers[need] = (unfolds, text) if unfolds else text
+        name = fn.split("/")[-1]
+        self.proof(fn, answers, head or f"`{name}` is the walk of its program, step by step.", own=own)
+
+
+LEFT = "omega (arith, PROGRESS)"
+
+# The tokens, and an interpreter that a law on a take is cited for: any will do.
+T = "(@@ .args .t .now)"
+ASK = "(λ (r : Rule) (m : Machine). said no m)"
+
+
+def le(need, answer, walk):
+    return LEFT
+
+
+def if_yes(more={}):
+    """No more is left, and something of the answer yes."""
+    def rest(need, answer, walk):
+        if answer == "no":
+            return f"({LEFT}, λ h. true-false (sym h))"
+        return f"({LEFT}, λ h. omega (arith, PROGRESS{more.get(need, '')}))"
+    return rest
+
+
+def dts_directive(c):
+    end = call("directive-end")
+    version = "(set (K.V1Directive ∷ K.PluginDirective ∷ []))"
+    delete = "(set (K.DeleteNodeDirective ∷ K.DeletePropertyDirective ∷ []))"
+    arguments = close("DtsDirectiveArguments")
+    # what was taken was there
+    there = f", some-left {T} (@@ .args .s) (starting-some {ASK} (tokens {T}) unlabelled K.DtIncludeDirective _ _ _ (@eat-starting .result .yes) (few-rows {T} (omega arith)) (@eat-starting .ensures .0 {ASK} unlabelled [] []) (@if1 .taken))"
+    c.way("dts_directive/eat_dts_include", starting("(kind K.DtIncludeDirective)", seq(call("expect"), close("DtsDirective")), NO), if_yes({"returns": there}), "eat-dts-include eat-starting_inside_else_")
+    c.way("dts_directive/directive_end", seq(call("expect-recoverable"), close("DtsDirective")), le, closing=True)
+    c.way("dts_directive/memreserve_arguments", mark(seq(seq(call("expect"), call("expect")), arguments)), le)
+    c.way("dts_directive/eat_deleted", when(call("eat", 0), SAME_YES, when(call("eat", 0), call("eat", 0), call("error"))), le)
+    c.way("dts_directive/delete_arguments", mark(seq(call("eat-deleted"), arguments)), le)
+    c.way("dts_directive/eat_directive_with_arguments", starting("(kind K.MemreserveDirective)", seq(call("memreserve-arguments"), end), starting(delete, seq(call("delete-arguments"), end), NO)),
+          if_yes(), "eat-starting_inside_else_")
+    c.way("dts_directive/eat_dts_directive", starting(version, end, when(call("eat-dts-include"), SAME_YES, call("eat-directive-with-arguments"))),
+          if_yes({"returns-3": ", @eat-directive-with-arguments .ensures .1 .1 h"}), "eat-dts-directive eat-starting_inside_else_")
+
+
+def ends(c):
+    said = "ask b ev rep pool"
+    c.way("ends/at_item", both(negated(call("at")), negated(call("at-end"))), if_yes(), given=said)
+    c.way("ends/at_cells_end", flag("cells-end", seq(call("add-expected"), call("at-end")), call("at")), le, "cells-end", said)
+
+    def recovery(need, answer, walk):
+        if walk.test[1] == "taken":
+            return f"({LEFT}, λ h. true-false (sym (@{walk.test[0]} .taken) ∙ h))"
+        return f"({LEFT}, λ h. {LEFT})"
+    c.way("ends/at_cells_recovery", when(call("silent-at-set"), SAME_YES, when(call("at-end"), SAME_YES, when(call("silent-at-set"), SAME_YES, call("silent-at")))), recovery, "silent", "ask b codes ev rep pool")
+    c.way("ends/at_values_end", flag("at-values-end", by("at-one K.Semicolon", call("at")), by("at-none", call("silent-at-set"))), le, given=said)
+    c.way("ends/after_propvalue", when(call("eat"), AGAIN, when(call("at-values-end"), YES, when(call("silent-at-set"), seq(call("error"), AGAIN), NO))),
+          lambda need, answer, walk: f"({LEFT}, {answer}-also)", "after-propvalue silent")
+    c.way("ends/unfinished", seq(call("error"), when(both(negated(call("silent-at-set")), negated(call("at-end"))), call("bump"), YES), close("ParseError")), le, "silent", closing=True)
+
+
+def plain_cell(c):
+    # what was taken was there
+    number = f", some-left {T} (@add-expected .result) (taken-some {ASK} (tokens {T}) unlabelled (K.Number ∷ K.Char ∷ []) (set (K.Number ∷ K.Char ∷ [])) _ _ (@silent-eat .result .yes) refl (@silent-eat .ensures .0 {ASK} unlabelled [] [] []) (@if1 .taken))"
+    ref = f", @silent-eat2 .ensures .1 .1 h, some-left {T} (@silent-at .result .s) (taken-some {ASK} (tokens {T}) unlabelled (K.Ampersand ∷ []) Reference _ _ (@silent-eat2 .result .yes) refl (@silent-eat2 .ensures .0 {ASK} unlabelled) h)"
+    c.way("plain_cell/eat", seq(call("add-expected"), when(call("silent-eat"), SAME_YES, when(call("silent-at"), seq(call("macro-invocation"), YES), call("silent-eat", 0)))),
+          if_yes({"returns": number, "returns-3": ref}), "silent Reference")
+
+
+def prefix(c):
+    c.proof("node_or_prop_prefix/some", {
+        "returns": "(refl, sym (ap own-name (@if1 .taken)))",
+        "returns-2": "(refl, sym (ap own-name (@if1 .left)))",
+    }, "`some` answers by its flag.")
+    c.way("node_or_prop_prefix/eat_unit_address_and_at_colon", when(call("eat", 0), call("silent-at"), SAME_NO), le, "silent")
+    some = "some-is (@some .result) (@ignore .result) _ _ _ _ _ (@some .ensures .0) (@some .ensures .1)"
+
+    def name_or_label(need, answer, walk):
+        same = ", ap (left (@@ .args .t .now)) (@some .ensures .0)" if answer == "own" else ""
+        return f"omega (arith, PROGRESS{same})"
+    c.way("node_or_prop_prefix/label_or_name", mark(seq(call("consume"), when(call("eat"), close("DtLabel", "again"), when(call("eat-unit-address-and-at-colon"), seq(call("error"), close("ParseError", "again")), ignore("own"))))),
+          name_or_label, "silent", before=("some", some))
+
+    def progress(need, answer, walk):
+        one = "" if answer else ", goes-one (@label-or-name .result .answer), found-one (@label-or-name .result .answer)"
+        return f"(omega (arith, PROGRESS{one}), omega (arith, PROGRESS{one}))"
+    c.way("node_or_prop_prefix/turn", when(call("at", 3), call("label-or-name"), when(call("eat", 0), YES, when(call("eat", 2), YES, NO))),
+          progress, "prefix-turn eat-starting_inside_else_")
+    again = "@turn .ensures .1 .0, ap goes (@enum-told .given .1)"
+    rest = "walk ask (tokens t) b (loop (prefix-turn (own-name allow)))"
+    c.proof("node_or_prop_prefix/labels_and_name", {
+        "loop-holds": "(λ ask b. refl, (le-refl _, (refl, (refl, refl))))",
+        "loop-less": f"omega (arith, {again})",
+        "loop-again": f"(λ ask b. went-told (@turn .result .answer) (c-walk (@turn .ensures .0 ask b)) (ap answer-of (@enum-told .given .1)) (ahead-falls (@@ .args .t .now) (@loop .q) (@turn .result .s) (omega (arith, {again}))) ∙ @loop .inv .0 ask b, (omega (arith, {again}, @loop .inv .1 .0), (omega (arith, KEPT), (omega (arith, KEPT), omega (arith, KEPT)))))",
+        "returns": "(λ ask b. ended-told (@turn .result .answer) (c-walk (@turn .ensures .0 ask b)) (other-ends (@turn .result .answer) (@match .keys2)) ∙ @loop .inv .0 ask b, omega (arith, @turn .ensures .1 .1, @loop .inv .1 .0))",
+    }, "`labels_and_name`: the loop of `prefix-turn`.",
+        inv=("codes₀ t ev₀ rep₀ pool₀ allow q₀ codes ev rep pool q",
+             f"((ask : Rule → Machine → Walked) (b : Span) → {rest} (view q codes ev rep pool) ≡ {rest} (view q₀ codes₀ ev₀ rep₀ pool₀)) × ((left t q ≤ left t q₀) × ((length ev ≡ length ev₀) × ((length rep ≡ length rep₀) × (length pool ≡ length pool₀))))"),
+        measure="left t q")
+    c.way("node_or_prop_prefix/eat_node_or_prop_prefix", when(call("eat"), call("labels-and-name"), call("labels-and-name")), le, "eat-node-or-prop-prefix")
+
+
+def covers(c):
+    for fn in "eat_plain_cell at_cells_end at_cells_recovery after_propvalue at_item eat_dts_include eat_dts_directive eat_node_or_prop_prefix unfinished".split():
+        callee = {"eat_plain_cell": "eat"}.get(fn, fn.replace("_", "-"))
+        # one that takes no codes ensures its equation for any
+        ensured = f"(λ ask b. @{callee} .ensures .0 ask b _, @{callee} .ensures .1)" if fn == "at_cells_recovery" else f"@{callee} .ensures"
+        c.proof(fn, {"returns": ensured}, f"`{fn}`, with the codes in the parser.")
+
+
+def main(generated):
+    c = Parts("parts", generated, os.path.join("crates", "parts"), CALLS, LOOKS)
+    c.node_kinds = node_kinds()
+    dts_directive(c)
+    ends(c)
+    plain_cell(c)
+    prefix(c)
+    covers(c)
+
+
+if __name__ == "__main__":
+    main(sys.argv[1])
