@@ -1,0 +1,110 @@
+/* Runs the cases of a list, in the form that crates/replay says, and prints what the gate's program prints. Each accepted call is made
+   again with buffers that just hold its answer, and with one number fewer of each. */
+#include "lent.h"
+#include <string.h>
+
+static const char LETTERS[] = "-txre";
+
+/* One case: its head (token numbers, bytes, entry, five lengths), token numbers and bytes. */
+struct one {
+    char name[64];
+    size_t head[8];
+    uint32_t *tokens;
+    uint8_t *bytes;
+};
+
+static int read_one(FILE *f, struct one *c)
+{
+    if (fscanf(f, "%63s", c->name) != 1)
+        return 0;
+    for (int i = 0; i < 8; i++)
+        if (fscanf(f, "%zu", &c->head[i]) != 1)
+            fail(c->name, "a number is missing");
+    c->tokens = malloc((c->head[0] + 1) * sizeof *c->tokens);
+    c->bytes = malloc(c->head[1] + 1);
+    for (size_t i = 0; i < c->head[0]; i++)
+        if (fscanf(f, "%u", &c->tokens[i]) != 1)
+            fail(c->name, "a token number is missing");
+    if (fgetc(f) != '\n' || fread(c->bytes, 1, c->head[1], f) != c->head[1] || fgetc(f) != '\n')
+        fail(c->name, "its bytes do not end where they should");
+    return 1;
+}
+
+static struct dt_answer call_one(const struct one *c, const size_t *lengths, struct buffer *b)
+{
+    for (int i = 0; i < BUFFERS; i++)
+        b[i] = lend(lengths[i]);
+    return call(c->head[2], c->bytes, c->head[1], c->tokens, c->head[0], b);
+}
+
+static void print(const struct one *c, struct dt_answer a, struct buffer *b)
+{
+    size_t used[BUFFERS];
+    counted(a, used);
+    printf("%s %u %zu %zu %zu %zu %zu", c->name, a.number, a.place, a.trees, a.errors, a.reports, a.expectations);
+    for (int i = 0; i < BUFFERS; i++)
+        printf(" %d", rest(b[i], used[i]));
+    printf("\n");
+    for (int i = TREES; i < BUFFERS; i++) {
+        if (used[i])
+            printf("%c", LETTERS[i]);
+        for (size_t k = 0; k < used[i]; k++)
+            printf(" %u", b[i].at[k]);
+        if (used[i])
+            printf("\n");
+    }
+}
+
+/* The same call with these lengths answers with this number, and with the same rows where it is 0. */
+static void again(const struct one *c, const size_t *lengths, uint32_t number, const size_t *used, const struct buffer *first)
+{
+    struct buffer b[BUFFERS];
+    struct dt_answer a = call_one(c, lengths, b);
+    if (a.number != number)
+        fail(c->name, "another answer in buffers that just fit or are one number short");
+    for (int i = 0; i < BUFFERS; i++) {
+        if (number == 0 && memcmp(b[i].at, first[i].at, used[i] * sizeof(uint32_t)))
+            fail(c->name, "other rows in buffers that just fit");
+        if (rest(b[i], number == 0 ? used[i] : 0) != 0)
+            fail(c->name, "a buffer is not zero behind its rows");
+        give_back(c->name, b[i]);
+    }
+}
+
+static void at_the_edge(const struct one *c, struct dt_answer a, const struct buffer *first)
+{
+    static const uint32_t SHORT[BUFFERS] = {6, 8, 8, 7, 7};
+    size_t used[BUFFERS], lengths[BUFFERS];
+    counted(a, used);
+    memcpy(lengths, used, sizeof used);
+    lengths[EVENTS] = c->head[3];
+    again(c, lengths, 0, used, first);
+    for (int i = TREES; i < BUFFERS; i++) {
+        if (used[i] == 0)
+            continue;
+        lengths[i]--;
+        again(c, lengths, SHORT[i], used, first);
+        lengths[i]++;
+    }
+}
+
+int main(int n, char **words)
+{
+    FILE *f = n == 2 ? fopen(words[1], "rb") : NULL;
+    if (!f)
+        fail("usage", "replay LIST");
+    struct one c;
+    while (read_one(f, &c)) {
+        struct buffer b[BUFFERS];
+        struct dt_answer a = call_one(&c, c.head + 3, b);
+        print(&c, a, b);
+        if (a.number == 0)
+            at_the_edge(&c, a, b);
+        for (int i = 0; i < BUFFERS; i++)
+            give_back(c.name, b[i]);
+        free(c.tokens);
+        free(c.bytes);
+    }
+    fclose(f);
+    return 0;
+}

@@ -1,0 +1,48 @@
+"""The oracle's answers to named cases: document 01's, and the unchanged Rust's beside them."""
+from compare.case import case_line
+from compare.oracle import ROOM, Parsed
+
+from replay.record import answer
+from replay.texts import Words
+
+
+class Answer:
+    """A case with what is expected of it."""
+
+    def __init__(self, name, case, early, lines):
+        self.name, self.case, self.early = name, case, early
+        self.parsed = None if early else Parsed(lines)
+        self.number = early[0] if early else self.parsed.number
+        # the most open calls and pending expectations that the run reached
+        reached = next((l.split()[1:] for l in lines if l.startswith("S ")), [])
+        self.reached = dict(zip(reached[::2], map(int, reached[1::2])))
+
+    def text(self):
+        return answer(self.name, self.case, self.early, self.parsed)
+
+
+def ask(oracle, named):
+    """Document 01's answers."""
+    early = [oracle.refused_early(case) for _, case in named]
+    given = "".join(case_line(case, case.lengths) + "\n" for (_, case), e in zip(named, early) if not e)
+    blocks = iter(oracle.run(["doc01", "any"], given).split("END\n")[:-1])
+    return [Answer(name, case, e, [] if e else next(blocks).splitlines()[1:]) for (name, case), e in zip(named, early)]
+
+
+def against_the_rust(root, oracle, answers):
+    """Holds every accepted answer against the unchanged Rust's. Gives how many were compared and the names of those on which the
+    Rust panics at its step limit."""
+    words = Words(root, oracle.kinds)
+    accepted = [a for a in answers if a.number == 0]
+    given = "".join(case_line(a.case, ROOM) + "\n" for a in accepted)
+    blocks = oracle.run(["rows", "any", "--no-tokens"], given).split("END\n")[:-1]
+    assert len(blocks) == len(accepted)
+    panics = []
+    for a, said in zip(accepted, blocks):
+        lines = said.splitlines()[1:]
+        if lines[0].startswith("PANIC"):
+            assert "the parser seems stuck" in lines[0], "%s: another panic: %s" % (a.name, lines[0])
+            panics.append(a.name)
+        elif lines != words.lines(a.parsed, a.case):
+            raise SystemExit("%s: the Rust says otherwise\n%s\n%s" % (a.name, said, "\n".join(words.lines(a.parsed, a.case))))
+    return len(accepted) - len(panics), panics
