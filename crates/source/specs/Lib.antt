@@ -1,0 +1,2 @@
+-- The places to which a view's cursor moves.
+pub mod Place

@@ -1,0 +1,76 @@
+// source.rs as the Rust has it: one value that holds the lent token rows and a cursor. The functions over it are few and
+// thin, since each is proved by hand: it takes the view apart and leaves the work to a function on rows and a place.
+// Whoever holds no view calls `look`, whose parameters are plain; its callers' proofs know nothing of the view.
+// The parser's own cursor is a field of its state, beside the mark and the byte places, which a view does not have.
+pub mod place;
+
+use crate::place::past_token;
+use crate::place::past_trivia;
+use lexer::TokenIndex;
+use parser::source::kind_at;
+ghost use mathlib.Core.Path.{_≡_};
+ghost use lib.ListN.{drop};
+ghost use Rattle.definitions.specs.Token.{tokens, drop-trivia};
+ghost use Rattle.parser.specs.View.{kind-of};
+ghost use Rattle.source.specs.Place.{after-trivia, after-token};
+
+pub struct Source<'a> {
+    pub rows: &'a [u32],
+    // The row that is read next.
+    pub cursor: TokenIndex,
+}
+
+impl<'a> Source<'a> {
+    pub fn new(rows: &'a [u32], cursor: TokenIndex) -> Source<'a>
+        ensures { λ r. ⌜ (r .rows ≡ rows .entry) × (r .cursor ≡ cursor) ⌝ }
+    {
+        Source { rows, cursor }
+    }
+
+    // A peek moves the cursor past trivia: the view after it.
+    pub fn peek(self) -> Source<'a>
+        ensures { λ r. ⌜ (r .rows ≡ self .entry .rows) × (r .cursor .0 ≡ after-trivia (tokens (now (self .entry .rows))) (self .entry .cursor .0)) ⌝ }
+    {
+        let rows = self.rows;
+        let cursor = past_trivia(rows, self.cursor);
+        Source { rows, cursor }
+    }
+
+    // The kind at the cursor, trivia or not, and 64 at the end. Nothing moves.
+    pub fn peek_kind_immediate(self) -> u8
+        ensures { λ r. ⌜ r ≡ kind-of (drop (self .entry .cursor .0) (tokens (now (self .entry .rows)))) ⌝ }
+    {
+        kind_at(self.rows, self.cursor.0)
+    }
+
+    // The view past the first token that is no trivia.
+    pub fn next_token(self) -> Source<'a>
+        ensures { λ r. ⌜ (r .rows ≡ self .entry .rows) × (r .cursor .0 ≡ after-token (tokens (now (self .entry .rows))) (self .entry .cursor .0)) ⌝ }
+    {
+        let rows = self.rows;
+        let cursor = past_token(rows, self.cursor);
+        Source { rows, cursor }
+    }
+}
+
+// What a view at a place sees.
+pub struct Sight {
+    // The kind at the place itself.
+    pub immediate: u8,
+    // The kind past trivia, as every test but an immediate one sees it.
+    pub kind: u8,
+    // The place past the token of that kind.
+    pub next: TokenIndex,
+}
+
+pub fn look(t: &[u32], at: TokenIndex) -> Sight
+    ensures { λ r. ⌜ (r .immediate ≡ kind-of (drop (at .0) (tokens (now (t .entry))))) × (r .kind ≡ kind-of (drop-trivia (drop (at .0) (tokens (now (t .entry)))))) × (r .next .0 ≡ after-token (tokens (now (t .entry))) (at .0)) ⌝ }
+{
+    let s = Source::new(t, at);
+    let next = s.next_token();
+    Sight {
+        immediate: s.peek_kind_immediate(),
+        kind: s.peek().peek_kind_immediate(),
+        next: next.cursor,
+    }
+}
