@@ -1,0 +1,126 @@
+/* Reads files of token rows (docs/TOKENS.md). */
+#include "rowsfile.h"
+#include "dt_parser.h"
+#include "names.h"
+#include <stdlib.h>
+#include <string.h>
+
+enum { LINE = 4096 };
+
+/* The next line without its line feed. */
+static int next_line(FILE *file, char *line)
+{
+    size_t n;
+    if (!fgets(line, LINE, file))
+        return 0;
+    n = strlen(line);
+    if (n == 0 || line[n - 1] != '\n')
+        return 0;
+    line[n - 1] = 0;
+    return 1;
+}
+
+/* What follows a word and a blank, or NULL. */
+static const char *after(const char *line, const char *word)
+{
+    size_t n = strlen(word);
+    return strncmp(line, word, n) == 0 && line[n] == ' ' ? line + n + 1 : NULL;
+}
+
+/* A number up to the end of the text. */
+static int number(const char *text, uint32_t most, uint32_t *out)
+{
+    char *end;
+    unsigned long n = strtoul(text, &end, 10);
+    if (*text < '0' || *text > '9' || *end || n > most)
+        return 0;
+    *out = (uint32_t)n;
+    return 1;
+}
+
+static int place_in(const char *const *names, size_t count, const char *name, uint32_t first, uint32_t *out)
+{
+    size_t i;
+    for (i = 0; i < count; i++)
+        if (strcmp(names[i], name) == 0) {
+            *out = first + (uint32_t)i;
+            return 1;
+        }
+    return 0;
+}
+
+static int entry_of(const char *name, uint32_t *entry)
+{
+    static const char *const names[] = {"SourceFile", "ReferenceNoamp", "PropValues", "Cells"};
+    return place_in(names, 4, name, DT_ENTRY_SOURCE_FILE, entry);
+}
+
+/* By name or number. */
+static int kind_of(const char *word, uint32_t *kind)
+{
+    static const char error[] = "LexError::";
+    if (number(word, UINT32_MAX, kind))
+        return 1;
+    if (strncmp(word, error, sizeof error - 1) == 0)
+        return place_in(lex_error_names, LEX_ERROR_NAMES, word + sizeof error - 1, DT_LEX_ERROR_UNEXPECTED_END_INCBIN,
+                        kind);
+    return place_in(token_names, TOKEN_NAMES, word, 0, kind);
+}
+
+static const char *read_rows(FILE *file, uint32_t rows, struct rowsfile *out)
+{
+    char line[LINE], *blank;
+    uint32_t i;
+    out->tokens_len = DT_ROW_TOKEN * (size_t)rows;
+    out->tokens = malloc(out->tokens_len * sizeof *out->tokens + 1);
+    if (!out->tokens)
+        return "no memory";
+    for (i = 0; i < rows; i++) {
+        uint32_t *row = out->tokens + DT_ROW_TOKEN * (size_t)i;
+        if (!next_line(file, line) || !(blank = strchr(line, ' ')))
+            return "expected a token's kind and length";
+        *blank = 0;
+        if (!kind_of(line, row + DT_COL_TOKEN_KIND) || !number(blank + 1, UINT32_MAX, row + DT_COL_TOKEN_LENGTH))
+            return "not a token's kind and length";
+    }
+    return NULL;
+}
+
+static const char *read_text(FILE *file, struct rowsfile *out)
+{
+    char line[LINE];
+    const char *rest;
+    uint32_t n;
+    if (!next_line(file, line) || !(rest = after(line, "text")) || !number(rest, INT32_MAX, &n))
+        return "expected the text's length";
+    out->bytes_len = n;
+    out->bytes = malloc(out->bytes_len + 1);
+    if (!out->bytes)
+        return "no memory";
+    return fread(out->bytes, 1, n, file) == n && fgetc(file) == EOF ? NULL : "the text's length is wrong";
+}
+
+const char *read_rowsfile(FILE *file, struct rowsfile *out)
+{
+    char line[LINE];
+    const char *rest, *wrong;
+    uint32_t rows;
+    memset(out, 0, sizeof *out);
+    out->entry = DT_ENTRY_SOURCE_FILE;
+    if (!next_line(file, line) || strcmp(line, "devicetree tokens 1") != 0)
+        return "not a file of token rows";
+    while (next_line(file, line)) {
+        if (after(line, "file"))
+            continue;
+        if ((rest = after(line, "entry"))) {
+            if (!entry_of(rest, &out->entry))
+                return "unknown entry";
+        } else if ((rest = after(line, "rows")) && number(rest, INT32_MAX, &rows)) {
+            wrong = read_rows(file, rows, out);
+            return wrong ? wrong : read_text(file, out);
+        } else {
+            break;
+        }
+    }
+    return "expected entry, file or rows";
+}

@@ -1,0 +1,61 @@
+//! For valgrind: each buffer is allocated for itself, exactly as long as it says, and was never written before the call.
+//! One exception: where the tree does not fit and its buffer ends inside a row, the sink reads that row's numbers, which it
+//! did not write, and then clears them. The answer does not depend on them; for these calls the tree buffer is written.
+use crate::call::Call;
+use crate::ffi::{self, Lent};
+use crate::judge::{Input, Judge};
+use crate::make::Maker;
+use crate::rng::Rng;
+use crate::run::chosen;
+
+/// True if each answer and each written buffer was right; valgrind says whether memory was used rightly.
+pub fn run(seed: u64, cases: u64) -> bool {
+    let (mut maker, mut judge) = (Maker::new(), Judge::default());
+    let mut call = Call::default();
+    let mut by_number = [0u64; 9];
+    for i in 0..cases {
+        let mut r = Rng::of_case(seed, i);
+        maker.call(&mut r, &mut call);
+        let Ok((input, _)) = judge.input(&call, false) else { return wrong(&call) };
+        call.lengths = chosen(&mut r, &judge, input, &call);
+        by_number[judge.expected(input, call.lengths).number as usize] += 1;
+        if !one(&judge, &call, input) {
+            return wrong(&call);
+        }
+    }
+    println!("{cases} calls over exact, unwritten buffers; by number {by_number:?}; none wrong");
+    true
+}
+
+fn wrong(call: &Call) -> bool {
+    println!("wrong: {}", call.line());
+    false
+}
+
+fn one(judge: &Judge, call: &Call, input: Input) -> bool {
+    let expected = judge.expected(input, call.lengths);
+    let (tokens, bytes) = (call.tokens.clone().into_boxed_slice(), call.bytes.clone().into_boxed_slice());
+    let mut store: [Vec<u32>; 5] = call.lengths.map(Vec::with_capacity);
+    if expected.number == 8 && call.lengths[1] % 4 != 0 {
+        store[1].resize(call.lengths[1], 0x5A5A5A5A)
+    }
+    let at = store.each_mut().map(|v| v.as_mut_ptr());
+    let lent = std::array::from_fn(|i| Lent { at: at[i], len: call.lengths[i] });
+    // Safety: five allocations of those lengths
+    let given = unsafe { ffi::parse(call.entry, &bytes, &tokens, lent) };
+    if given != expected {
+        return false;
+    }
+    if (1..=4).contains(&given.number) {
+        return true; // every buffer as it was: not written
+    }
+    for (v, n) in store.iter_mut().zip(call.lengths) {
+        // Safety: the call wrote every number of each buffer; valgrind sees here if it did not
+        unsafe { v.set_len(n) }
+    }
+    let rows = &judge.run.rows;
+    store.iter().enumerate().all(|(i, all)| {
+        let written = if i > 0 && given.number == 0 { &rows[i - 1][..] } else { &[] };
+        all.strip_prefix(written).is_some_and(|rest| rest.iter().all(|&x| x == 0))
+    })
+}

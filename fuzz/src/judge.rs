@@ -1,0 +1,121 @@
+//! One call against the Rust: the answer and every buffer whole.
+use crate::buffers::{Buffers, Held};
+use crate::call::{Call, Lengths};
+use crate::case::Rows;
+use crate::checks::Checks;
+use crate::ffi::{self, Answer};
+use crate::model::run::{Run, Unchanged};
+
+#[derive(Default)]
+pub struct Judge {
+    pub checks: Checks,
+    pub run: Run,
+    pub buffers: Buffers,
+    rows: Rows,
+    text: String,
+    tokens: Vec<u32>,
+    bytes: Vec<u8>,
+}
+
+/// What is known of a call before its buffers are chosen.
+#[derive(Clone, Copy)]
+pub enum Input {
+    /// One of causes 1 to 4, and its place.
+    Bad(u32, usize),
+    /// It was parsed; `Judge::run` has what came out.
+    Parsed,
+}
+
+/// What was wrong.
+#[derive(Clone, Debug, PartialEq)]
+pub enum Wrong {
+    Answer,
+    /// Which buffer.
+    Buffer(usize),
+    /// The bytes or the tokens were written to.
+    Input,
+    /// The unchanged Rust and the patched copy differ.
+    Oracle,
+    /// The patched copy panicked.
+    Panic(String),
+}
+
+pub struct Verdict {
+    pub expected: Answer,
+    pub given: Answer,
+    pub wrong: Option<Wrong>,
+}
+
+impl Judge {
+    /// Causes 1 to 4, else the Rust's run; `also`: the unchanged Rust too.
+    pub fn input(&mut self, call: &Call, also: bool) -> Result<(Input, Option<Unchanged>), Wrong> {
+        if let Some((number, place)) = self.checks.refusal(call) {
+            return Ok((Input::Bad(number, place), None));
+        }
+        self.rows.clear();
+        self.rows.extend(call.tokens.chunks_exact(2).map(|x| (x[0], x[1] as usize)));
+        // the Rust takes text; a byte over 127 may be cut by a row, and its value is never looked at
+        self.text.clear();
+        self.text.extend(call.bytes.iter().map(|&b| if b < 128 { b as char } else { '?' }));
+        match self.run.of(call.entry, &self.rows, &self.text, also) {
+            Ok(Some(Unchanged::Differs)) => Err(Wrong::Oracle),
+            Ok(unchanged) => Ok((Input::Parsed, unchanged)),
+            Err(text) => Err(Wrong::Panic(text)),
+        }
+    }
+
+    pub fn expected(&self, input: Input, lengths: Lengths) -> Answer {
+        let refusal = match input {
+            Input::Bad(number, place) => Some((number, place)),
+            Input::Parsed => self.run.refusal(lengths),
+        };
+        let [trees, errors, reports, pool] = &self.run.rows;
+        match refusal {
+            Some((number, place)) => Answer { number, place, ..Answer::default() },
+            None => Answer {
+                number: 0,
+                place: 0,
+                trees: trees.len() / 4,
+                errors: errors.len() / 3,
+                reports: reports.len() / 9,
+                expectations: pool.len(),
+            },
+        }
+    }
+
+    /// What the buffers must hold beside that answer.
+    pub fn held(&self, expected: Answer) -> Held<'_> {
+        match expected.number {
+            0 => Held::Rows(&self.run.rows),
+            1..=4 => Held::AsItWas,
+            _ => Held::Zero,
+        }
+    }
+
+    /// Calls the library over garbage that starts with that number, and compares.
+    pub fn call(&mut self, call: &Call, input: Input, garbage: u32) -> Verdict {
+        let expected = self.expected(input, call.lengths);
+        self.buffers.fill(call.lengths, garbage);
+        self.tokens.clone_from(&call.tokens);
+        self.bytes.clone_from(&call.bytes);
+        let lent = self.buffers.lent(garbage & 2 == 0);
+        // Safety: each lent buffer has its length, and they are five vectors
+        let given = unsafe { ffi::parse(call.entry, &self.bytes, &self.tokens, lent) };
+        let wrong = if given != expected {
+            Some(Wrong::Answer)
+        } else if self.tokens != call.tokens || self.bytes != call.bytes {
+            Some(Wrong::Input)
+        } else {
+            self.buffers.wrong(self.held(expected)).map(Wrong::Buffer)
+        };
+        Verdict { expected, given, wrong }
+    }
+
+    /// Everything for a call whose buffers are chosen.
+    pub fn whole(&mut self, call: &Call, also: bool) -> Verdict {
+        match self.input(call, also) {
+            Ok((input, _)) => self.call(call, input, 0x5A5A5A59),
+            Err(wrong) => Verdict { expected: Answer::default(), given: Answer::default(), wrong: Some(wrong) },
+        }
+    }
+}

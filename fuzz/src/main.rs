@@ -1,0 +1,91 @@
+//! The static library against the Rust, in one process. ../docs/FUZZING.md says what is compared and how it is run.
+mod buffers;
+mod call;
+mod checks;
+mod exact;
+mod ffi;
+mod judge;
+mod make;
+mod rng;
+mod run;
+mod seen;
+mod show;
+mod shrink;
+mod tally;
+
+#[allow(dead_code)]
+#[path = "../../oracle/crates/oracle/src/case.rs"]
+mod case;
+#[allow(dead_code, unused_imports)]
+#[path = "../../oracle/crates/oracle/src/generate/mod.rs"]
+mod generate;
+
+/// The unchanged Rust.
+#[allow(dead_code)]
+mod orig {
+    use dt_tools_parser as pc;
+    include!("../../oracle/crates/oracle/src/show.rs");
+    include!("rows.rs");
+}
+
+/// The patched copy.
+#[allow(dead_code)]
+mod model {
+    use parser_doc01 as pc;
+    include!("../../oracle/crates/oracle/src/show.rs");
+    include!("../../oracle/crates/oracle/src/doc01.rs");
+    include!("rows.rs");
+    pub mod run;
+}
+
+/// What the oracle's generator writes to; not used here.
+type Out<'a> = std::io::BufWriter<std::io::StdoutLock<'a>>;
+
+const USAGE: &str = "fuzz run [--seed N] [--cases N] [--first N] [--unchanged N]
+    compares; --unchanged N: in one of N cases with the unchanged Rust too (default 1, 0: never)
+fuzz repeat 'LINE'
+    one call, as a difference prints it
+fuzz exact [--seed N] [--cases N]
+    calls over memory that was never written, each buffer as long as it says: for valgrind";
+
+/// The number after a flag.
+fn flag(args: &[String], name: &str, other: u64) -> u64 {
+    let Some(i) = args.iter().position(|a| a == name) else { return other };
+    let number = args.get(i + 1).and_then(|n| n.parse().ok());
+    number.unwrap_or_else(|| panic!("{name} takes a number"))
+}
+
+fn command(args: &[String]) -> bool {
+    let number = |name, other| flag(args, name, other);
+    let seed = number("--seed", 1);
+    match args.first().map(String::as_str) {
+        Some("run") => run::run(&run::Plan {
+            seed,
+            cases: number("--cases", 100_000),
+            first: number("--first", 0),
+            unchanged: number("--unchanged", 1),
+        }),
+        Some("exact") => exact::run(seed, number("--cases", 2_000)),
+        Some("repeat") if args.len() == 2 => run::repeat(&args[1]),
+        _ => {
+            eprintln!("{USAGE}");
+            false
+        }
+    }
+}
+
+/// The Rust is recursive, so it runs on a large stack. Its panics are answers and stay quiet.
+fn main() {
+    let args: Vec<String> = std::env::args().skip(1).collect();
+    let worker = std::thread::Builder::new().stack_size(1 << 30).spawn(move || {
+        let said = std::panic::take_hook();
+        std::panic::set_hook(Box::new(move |p| {
+            if !p.location().is_some_and(|l| l.file().contains("/parser")) {
+                said(p)
+            }
+        }));
+        command(&args)
+    });
+    let good = worker.expect("a thread").join().unwrap_or(false);
+    std::process::exit(if good { 0 } else { 1 })
+}

@@ -1,0 +1,55 @@
+//! Lengths of the lent buffers, around what a run needs.
+use crate::call::Lengths;
+use crate::rng::Rng;
+
+/// The numbers of a row of each buffer.
+const ROWS: Lengths = [3, 4, 3, 9, 1];
+
+/// For a call that is refused before it is parsed.
+pub fn small(r: &mut Rng) -> Lengths {
+    std::array::from_fn(|_| if r.p(20) { 0 } else { r.n(40) })
+}
+
+/// A length below `need`, or `need` if that is 0: one number less, one row less, none, or any.
+fn short(r: &mut Rng, need: usize, row: usize) -> usize {
+    match r.n(6) {
+        0..2 => need.saturating_sub(1),
+        2..4 => need.saturating_sub(row),
+        4 => r.n(need),
+        _ if r.p(30) => 0,
+        _ => r.n(need),
+    }
+}
+
+fn slack(r: &mut Rng, row: usize) -> usize {
+    r.pick(&[0, 1, row - 1, row, row + 1, 2 * row, 20])
+}
+
+/// What crates/numbers proves to be enough for n tokens.
+fn enough(n: usize) -> Lengths {
+    [3 * (13 * n + 1), 4 * (6 * n + 1), 3 * n, 9 * (3 * n + 1), 768 * n + 256]
+}
+
+pub fn around(r: &mut Rng, needs: Lengths, tokens: usize) -> Lengths {
+    let mut l = needs;
+    match r.n(20) {
+        0..6 => {}
+        6..10 => (0..5).for_each(|i| l[i] += slack(r, ROWS[i])),
+        10..16 => {
+            // one of the five is short; one that is needed, if the first draw is not
+            let drawn = r.n(5);
+            let i = (0..5).map(|k| (drawn + k) % 5).find(|&k| needs[k] > 0).unwrap_or(drawn);
+            (0..5).filter(|&k| k != i).for_each(|k| l[k] += slack(r, ROWS[k]));
+            l[i] = short(r, needs[i], ROWS[i])
+        }
+        16..18 => {
+            for i in 0..5 {
+                l[i] = if r.p(30) { short(r, needs[i], ROWS[i]) } else { needs[i] + slack(r, ROWS[i]) }
+            }
+        }
+        18 if tokens <= 4 => l = enough(tokens),
+        18 => l = needs.map(|n| n + r.n(60)),
+        _ => l = small(r),
+    }
+    l
+}

@@ -1,0 +1,127 @@
+//! Random calls. `Maker::call` draws the input; the buffers' lengths are chosen when it is known what the input needs.
+use crate::call::Call;
+use crate::case::Case;
+use crate::checks::Checks;
+use crate::rng::Rng;
+use crate::{generate, model};
+use corpus::{Corpus, Tok};
+
+mod bad;
+mod corpus;
+mod damage;
+mod deep;
+mod expr;
+pub mod lengths;
+mod limits;
+
+/// The ways of making an input, with how many of a thousand cases are made so.
+const WAYS: &[(&str, usize)] = &[
+    ("pieces of files, damaged", 380),
+    ("soup of a few tokens", 160),
+    ("the oracle's generator", 110),
+    ("expressions", 110),
+    ("rows that no lexer gives", 80),
+    ("damaged text, lexed", 60),
+    ("deep nesting", 50),
+    ("runs of one pattern", 48),
+    ("whole files, damaged", 2),
+];
+
+pub fn ways() -> impl Iterator<Item = &'static str> {
+    WAYS.iter().map(|w| w.0)
+}
+
+pub struct Maker {
+    corpus: Corpus,
+    checks: Checks,
+    toks: Vec<Tok>,
+}
+
+impl Maker {
+    pub fn new() -> Self {
+        Maker { corpus: Corpus::load(), checks: Checks::default(), toks: vec![] }
+    }
+
+    /// Entry, tokens and bytes of a call, and the number of the way that made them.
+    pub fn call(&mut self, r: &mut Rng, call: &mut Call) -> usize {
+        call.entry = r.pick(&[1, 1, 1, 1, 2, 3, 3, 4, 4]);
+        self.toks.clear();
+        let mut at = r.n(1000);
+        let way = WAYS
+            .iter()
+            .position(|w| {
+                at < w.1 || {
+                    at -= w.1;
+                    false
+                }
+            })
+            .unwrap_or(0);
+        match way {
+            2 => self.generated(r, call),
+            5 => self.lexed(r, call),
+            _ => {
+                self.tokens(r, way, call.entry);
+                assemble(&self.toks, call)
+            }
+        }
+        if r.p(10) {
+            bad::damage(r, &self.checks, call)
+        }
+        if r.n(40_000) == 0 {
+            limits::huge(r, call)
+        }
+        way
+    }
+
+    fn tokens(&mut self, r: &mut Rng, way: usize, entry: u32) {
+        let (c, t) = (&self.corpus, &mut self.toks);
+        match way {
+            0 => c.piece(r, entry, t),
+            1 => c.soup(r, t),
+            3 => expr::tokens(r, c, entry, t),
+            4 => c.unlexable(r, t),
+            6 => deep::tokens(r, c, entry, t),
+            7 => deep::run(r, c, t),
+            _ => c.file(r, t),
+        }
+        let times = match way {
+            0 | 3 if r.p(75) => r.n(4),
+            8 => r.n(6),
+            _ if r.p(20) => 1,
+            _ => 0,
+        };
+        damage::tokens(r, c, t, times)
+    }
+
+    /// From the oracle's own generator.
+    fn generated(&mut self, r: &mut Rng, call: &mut Call) {
+        let (entry, case) = generate::one(&mut generate::Rng::new(r.next()), None);
+        call.entry = entry;
+        take(&case, call)
+    }
+
+    /// A few lines of a file with damaged bytes, read by the lexer of the Rust.
+    fn lexed(&mut self, r: &mut Rng, call: &mut Call) {
+        let mut text = self.corpus.lines(r, call.entry).as_bytes().to_vec();
+        for _ in 0..r.n(4) {
+            damage::bytes(r, &mut text)
+        }
+        take(&Case::Text(String::from_utf8_lossy(&text).into_owned()), call)
+    }
+}
+
+fn take(case: &Case, call: &mut Call) {
+    let (rows, text) = model::tokens(case);
+    call.tokens.clear();
+    call.tokens.extend(rows.iter().flat_map(|&(k, n)| [k, n as u32]));
+    call.bytes = text.into_bytes()
+}
+
+fn assemble(toks: &[Tok], call: &mut Call) {
+    call.tokens.clear();
+    call.bytes.clear();
+    for t in toks {
+        call.tokens.extend([t.kind, t.text.len() as u32]);
+        call.bytes.extend_from_slice(t.text)
+    }
+}

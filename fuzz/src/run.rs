@@ -1,0 +1,70 @@
+//! The loop over random calls, and one call again.
+use crate::call::Call;
+use crate::judge::{Input, Judge};
+use crate::make::{Maker, lengths};
+use crate::rng::Rng;
+use crate::tally::Tally;
+use crate::{show, shrink};
+
+pub struct Plan {
+    pub seed: u64,
+    pub cases: u64,
+    /// The number of the first case.
+    pub first: u64,
+    /// In one of so many cases the unchanged Rust runs too; 0: never.
+    pub unchanged: u64,
+}
+
+/// True if no call differed. The first difference is made small and printed.
+pub fn run(plan: &Plan) -> bool {
+    println!("seed {}, {} cases from number {}", plan.seed, plan.cases, plan.first);
+    let (mut maker, mut judge, mut tally) = (Maker::new(), Judge::default(), Tally::new());
+    let mut call = Call::default();
+    for i in plan.first..plan.first + plan.cases {
+        let mut r = Rng::of_case(plan.seed, i);
+        let way = maker.call(&mut r, &mut call);
+        let also = plan.unchanged > 0 && i % plan.unchanged == 0;
+        let good = judge.input(&call, also).is_ok_and(|(input, unchanged)| {
+            call.lengths = chosen(&mut r, &judge, input, &call);
+            let verdict = judge.call(&call, input, r.next() as u32);
+            tally.case(way, &call, verdict.expected, unchanged);
+            if verdict.expected.number == 0 {
+                tally.seen.add(&judge.run.rows)
+            }
+            verdict.wrong.is_none()
+        });
+        if !good {
+            return differs(plan, i, &mut judge, call);
+        }
+        tally.progress(plan.cases)
+    }
+    tally.write();
+    println!("no difference");
+    true
+}
+
+pub fn chosen(r: &mut Rng, judge: &Judge, input: Input, call: &Call) -> [usize; 5] {
+    match input {
+        Input::Bad(..) => lengths::small(r),
+        Input::Parsed => lengths::around(r, judge.run.needs, call.tokens.len() / 2),
+    }
+}
+
+fn differs(plan: &Plan, number: u64, judge: &mut Judge, call: Call) -> bool {
+    let rows = call.tokens.len() / 2;
+    println!("case {number} of seed {} differs ({rows} token rows)", plan.seed);
+    let small = shrink::shrink(judge, call);
+    show::both(judge, &small);
+    println!("\nto repeat it:\n    fuzz/run.sh repeat {}", show::quoted(&small.line()));
+    println!("the case as it was drawn:\n    fuzz/run.sh run --seed {} --first {number} --cases 1", plan.seed);
+    false
+}
+
+pub fn repeat(line: &str) -> bool {
+    let Some(call) = Call::read(line) else {
+        eprintln!("not a call: {line}");
+        return false;
+    };
+    let mut judge = Judge::default();
+    show::both(&mut judge, &call)
+}

@@ -1,0 +1,59 @@
+//! Both answers to a call, for a reader.
+use crate::buffers::Held;
+use crate::call::Call;
+use crate::ffi::Answer;
+use crate::judge::{Judge, Verdict, Wrong};
+
+const BUFFERS: [&str; 5] = ["events", "tree", "lexical errors", "reports", "pool"];
+const ROWS: [usize; 5] = [3, 4, 3, 9, 16];
+
+pub fn quoted(line: &str) -> String {
+    format!("'{}'", line.replace('\'', r"'\''"))
+}
+
+fn answer(a: &Answer) -> String {
+    let Answer { number, place, trees, errors, reports, expectations } = a;
+    format!(
+        "number {number}, place {place}, tree rows {trees}, lexical errors {errors}, reports {reports}, expectations {expectations}"
+    )
+}
+
+fn rows(name: &str, row: usize, numbers: &[u32]) {
+    println!("  {name}: {} numbers", numbers.len());
+    for (i, r) in numbers.chunks(row).enumerate() {
+        let line: Vec<_> = r.iter().map(u32::to_string).collect();
+        println!("    {i}: {}", line.join(" "))
+    }
+}
+
+fn expected_buffer(judge: &Judge, v: &Verdict, i: usize) {
+    match judge.held(v.expected) {
+        Held::AsItWas => println!("  {}: as it was", BUFFERS[i]),
+        Held::Rows(all) if i > 0 => rows(BUFFERS[i], ROWS[i], &all[i - 1]),
+        _ => println!("  {}: all zero", BUFFERS[i]),
+    }
+}
+
+/// True if the two are the same.
+pub fn both(judge: &mut Judge, call: &Call) -> bool {
+    println!("call: {}", call.line());
+    let v = judge.whole(call, true);
+    match &v.wrong {
+        None => println!("both: {}", answer(&v.given)),
+        Some(Wrong::Panic(text)) => println!("the patched Rust panics: {text}"),
+        Some(Wrong::Oracle) => println!("the patched and the unchanged Rust differ"),
+        Some(w) => {
+            println!("expected: {}\nlibrary:  {}", answer(&v.expected), answer(&v.given));
+            match w {
+                Wrong::Buffer(i) => println!("the buffer that differs, or a number around it: {}", BUFFERS[*i]),
+                Wrong::Input => println!("the library wrote to its input"),
+                _ => {}
+            }
+            println!("expected buffers:");
+            (0..5).for_each(|i| expected_buffer(judge, &v, i));
+            println!("the library's buffers, whole:");
+            (0..5).for_each(|i| rows(BUFFERS[i], ROWS[i], judge.buffers.get(i)))
+        }
+    }
+    v.wrong.is_none()
+}

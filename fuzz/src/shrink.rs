@@ -1,0 +1,105 @@
+//! Makes a call that differs small, as long as it differs.
+use crate::call::Call;
+use crate::judge::{Input, Judge};
+
+/// Tokens left out, then simpler tokens, shorter texts, and buffers with room or exactly fitting.
+pub fn shrink(judge: &mut Judge, mut call: Call) -> Call {
+    if judge.whole(&call, true).wrong.is_none() {
+        println!("the call alone does not differ: it is printed as it is");
+        return call;
+    }
+    room(judge, &mut call);
+    loop {
+        let before = call.clone();
+        shorter(judge, &mut call);
+        if call.tokens.len() < 400 {
+            simpler(judge, &mut call);
+        }
+        if call == before {
+            break;
+        }
+    }
+    room(judge, &mut call);
+    call
+}
+
+/// Takes the smaller call if it differs still.
+fn take(judge: &mut Judge, call: &mut Call, smaller: Call) -> bool {
+    let differs = smaller != *call && judge.whole(&smaller, true).wrong.is_some();
+    if differs {
+        *call = smaller
+    }
+    differs
+}
+
+/// The bytes of rows `from` to `to`, as far as the lengths go.
+fn bytes_of(call: &Call, from: usize, to: usize) -> std::ops::Range<usize> {
+    let sum = |n: usize| call.tokens.chunks(2).take(n).map(|r| *r.get(1).unwrap_or(&0) as usize).sum::<usize>();
+    let end = call.bytes.len();
+    sum(from).min(end)..sum(to).min(end)
+}
+
+/// Rows left out, many at a time and then one by one; at last single numbers and bytes.
+fn shorter(judge: &mut Judge, call: &mut Call) {
+    let mut width = (call.tokens.len() / 4).max(1);
+    loop {
+        let mut at = 0;
+        while at < call.tokens.len() / 2 {
+            let to = (at + width).min(call.tokens.len() / 2);
+            let mut smaller = call.clone();
+            smaller.bytes.drain(bytes_of(call, at, to));
+            smaller.tokens.drain(2 * at..2 * to);
+            if !take(judge, call, smaller) {
+                at = to
+            }
+        }
+        if width == 1 {
+            break;
+        }
+        width /= 2
+    }
+    let mut odd = call.clone();
+    if odd.tokens.len() % 2 == 1 && odd.tokens.pop().is_some() {
+        take(judge, call, odd);
+    }
+    let mut shorter = call.clone();
+    shorter.bytes.truncate(call.bytes.len() / 2);
+    take(judge, call, shorter);
+}
+
+/// Each token as a semicolon, an Ident or a Number of one byte; else its text shorter.
+fn simpler(judge: &mut Judge, call: &mut Call) {
+    for at in 0..call.tokens.len() / 2 {
+        let bytes = bytes_of(call, at, at + 1);
+        let plain = [(29, b';'), (27, b'a'), (35, b'1')];
+        let done = call.tokens[2 * at + 1] == 1 && plain.iter().any(|p| p.0 == call.tokens[2 * at]);
+        let same = call.tokens[2 * at];
+        for (kind, byte) in plain.into_iter().chain([(same, b'a')]) {
+            let mut smaller = call.clone();
+            smaller.bytes.splice(bytes.clone(), [byte]);
+            smaller.tokens[2 * at] = kind;
+            smaller.tokens[2 * at + 1] = 1;
+            if done || take(judge, call, smaller) {
+                break;
+            }
+        }
+    }
+}
+
+/// Buffers with room, or that fit exactly; else each buffer alone that can be so.
+fn room(judge: &mut Judge, call: &mut Call) {
+    let needs = match judge.input(call, false) {
+        Ok((Input::Parsed, _)) => judge.run.needs,
+        Ok((Input::Bad(..), _)) => [0; 5],
+        Err(_) => return,
+    };
+    let mut tried = [needs.map(|n| n + 9), needs].into_iter();
+    if tried.any(|lengths| take(judge, call, Call { lengths, ..call.clone() })) {
+        return;
+    }
+    for i in 0..5 {
+        let mut smaller = call.clone();
+        smaller.lengths[i] = needs[i];
+        take(judge, call, smaller);
+    }
+}

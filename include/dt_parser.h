@@ -1,0 +1,290 @@
+/*
+ * The devicetree parser: one call that turns token rows into tree rows, lexical errors and reports.
+ *
+ * "Document 01" is docs/01-scope.md. What the call answers and what each buffer holds afterwards is
+ * crates/definitions/specs/Call.antt. tools/check-header compares every number below with the definitions and the code.
+ *
+ * Link: libdt_parser.a (`rt staticlib dt_parser` writes target/staticlib/libdt_parser.a), x86-64 Linux. It needs the C
+ * library (memcpy, memmove, memset) and nothing else. The call allocates nothing, keeps nothing and has no state: calls
+ * in several threads at once are safe if each has its own lent buffers. The deepest inputs take 0.8 MiB of stack
+ * (bench/stack.c): a thread that calls should have 2 MiB.
+ *
+ * All rows are of uint32_t numbers. A length is a count of elements (bytes or numbers), never of rows.
+ */
+#ifndef DT_PARSER_H
+#define DT_PARSER_H
+
+#include <stddef.h>
+#include <stdint.h>
+
+#ifdef __cplusplus
+extern "C" {
+#endif
+
+/* What is parsed: the first argument of dt_parse. */
+enum dt_entry {
+    DT_ENTRY_SOURCE_FILE = 1,     /* a whole file */
+    DT_ENTRY_REFERENCE_NOAMP = 2, /* a reference behind its & */
+    DT_ENTRY_PROP_VALUES = 3,     /* the values of a property */
+    DT_ENTRY_CELLS = 4            /* the cells between < and > */
+};
+
+/* The answer's number: 0, or why the call was refused. Tried in this order; of 5 to 7 the one that the run meets first. */
+enum dt_refusal {
+    DT_ACCEPTED = 0,
+    DT_REFUSAL_UNKNOWN_ENTRY = 1,  /* entry not 1 to 4; place 0 */
+    DT_REFUSAL_TOO_LONG = 2,       /* over DT_MAX_BYTES or DT_MAX_TOKEN_NUMBERS; place 0 */
+    DT_REFUSAL_BAD_ROW = 3,        /* place: the first bad row, else the count of whole rows */
+    DT_REFUSAL_BAD_TEXT = 4,       /* a fixed text is not there; place: that row */
+    DT_REFUSAL_TOO_DEEP = 5,       /* a 65th open call or a 257th expectation; place: the mark */
+    DT_REFUSAL_NO_EVENT_ROOM = 6,  /* the next event does not fit; place: the mark */
+    DT_REFUSAL_NO_REPORT_ROOM = 7, /* a report or its expectations do not fit; place: the mark */
+    DT_REFUSAL_NO_TREE_ROOM = 8    /* the tree or the lexical errors do not fit; place 0 */
+};
+
+/* Limits. Above the first two a call is refused with 2, above the others with 5. */
+enum dt_limit {
+    DT_MAX_BYTES = 1048576,
+    DT_MAX_TOKEN_NUMBERS = 131072, /* 65,536 rows */
+    DT_MAX_OPEN_CALLS = 64,        /* nested items, values, cells and expressions */
+    DT_MAX_EXPECTATIONS = 256      /* pending at once */
+};
+
+/* How many numbers a row has. An expectation in the pool is one number. */
+enum dt_row_size {
+    DT_ROW_TOKEN = 2,
+    DT_ROW_EVENT = 3,
+    DT_ROW_TREE = 4,
+    DT_ROW_ERROR = 3,
+    DT_ROW_REPORT = 9
+};
+
+/* The numbers of a token row. */
+enum dt_token_column { DT_COL_TOKEN_KIND = 0, DT_COL_TOKEN_LENGTH = 1 };
+
+/* The numbers of a tree row. Rows are in preorder: a node's children follow it. */
+enum dt_tree_column {
+    DT_COL_TREE_CLASS = 0, /* DT_CLASS_NODE or DT_CLASS_LEAF */
+    DT_COL_TREE_KIND = 1,  /* of a node enum dt_node, of a leaf enum dt_token */
+    DT_COL_TREE_WIDTH = 2, /* in bytes */
+    DT_COL_TREE_COUNT = 3  /* children of a node, raw tokens of a leaf */
+};
+
+enum dt_class { DT_CLASS_NODE = 0, DT_CLASS_LEAF = 1 };
+
+/* The numbers of a lexical error. */
+enum dt_error_column { DT_COL_ERROR_NUMBER = 0, DT_COL_ERROR_START = 1, DT_COL_ERROR_END = 2 };
+
+/* The numbers of a report. Places are byte offsets, an end is excluded. */
+enum dt_report_column {
+    DT_COL_REPORT_MESSAGE = 0,     /* enum dt_message */
+    DT_COL_REPORT_START = 1,
+    DT_COL_REPORT_END = 2,
+    DT_COL_REPORT_MARK = 3,        /* the index just past the last token taken */
+    DT_COL_REPORT_POOL_FIRST = 4,  /* place of its first expectation in the pool */
+    DT_COL_REPORT_POOL_COUNT = 5,  /* how many it has; 0 unless the message is 1 */
+    DT_COL_REPORT_HINT = 6,        /* enum dt_hint */
+    DT_COL_REPORT_LABEL_START = 7, /* 0, 0: no label */
+    DT_COL_REPORT_LABEL_END = 8
+};
+
+/* Token kinds, of a token row, a leaf or an expectation. Behind a kind: its fixed text, which the bytes must be. */
+enum dt_token {
+    DT_TOKEN_WHITESPACE = 0,                 /* trivia */
+    DT_TOKEN_BLOCK_COMMENT = 1,              /* trivia */
+    DT_TOKEN_COMMA = 2,                      /* , */
+    DT_TOKEN_LINE_COMMENT = 3,               /* trivia */
+    DT_TOKEN_IF_DIRECTIVE = 4,
+    DT_TOKEN_IFDEF_DIRECTIVE = 5,
+    DT_TOKEN_IFNDEF_DIRECTIVE = 6,
+    DT_TOKEN_ELIF_DIRECTIVE = 7,
+    DT_TOKEN_ELIFDEF_DIRECTIVE = 8,
+    DT_TOKEN_ELIFNDEF_DIRECTIVE = 9,
+    DT_TOKEN_ELSE_DIRECTIVE = 10,
+    DT_TOKEN_ENDIF_DIRECTIVE = 11,
+    DT_TOKEN_PRAGMA_DIRECTIVE = 12,
+    DT_TOKEN_DEFINE_DIRECTIVE = 13,
+    DT_TOKEN_UNDEF_DIRECTIVE = 14,
+    DT_TOKEN_INCLUDE_DIRECTIVE = 15,
+    DT_TOKEN_ERROR_DIRECTIVE = 16,
+    DT_TOKEN_BITS_DIRECTIVE = 17,            /* /bits/ */
+    DT_TOKEN_OMIT_IF_NO_REF_DIRECTIVE = 18,  /* /omit-if-no-ref/ */
+    DT_TOKEN_DT_INCLUDE_DIRECTIVE = 19,      /* /include/ */
+    DT_TOKEN_MEMRESERVE_DIRECTIVE = 20,      /* /memreserve/ */
+    DT_TOKEN_DELETE_NODE_DIRECTIVE = 21,     /* /delete-node/ */
+    DT_TOKEN_DELETE_PROPERTY_DIRECTIVE = 22, /* /delete-property/ */
+    DT_TOKEN_V1_DIRECTIVE = 23,              /* /dts-v1/ */
+    DT_TOKEN_PLUGIN_DIRECTIVE = 24,          /* /plugin/ */
+    DT_TOKEN_UNRECOGNIZED = 25,              /* no input; the leaf of an error token */
+    DT_TOKEN_NAME = 26,                      /* no input; a leaf that joins Ident, Number, Comma and Minus */
+    DT_TOKEN_IDENT = 27,
+    DT_TOKEN_EQUALS = 28,                    /* = */
+    DT_TOKEN_SEMICOLON = 29,                 /* ; */
+    DT_TOKEN_AMPERSAND = 30,                 /* & */
+    DT_TOKEN_COLON = 31,                     /* : */
+    DT_TOKEN_AT_SIGN = 32,                   /* @ */
+    DT_TOKEN_STRING = 33,
+    DT_TOKEN_CHAR = 34,
+    DT_TOKEN_NUMBER = 35,
+    DT_TOKEN_DT_BYTESTRING = 36,
+    DT_TOKEN_LCURLY = 37,                    /* { */
+    DT_TOKEN_RCURLY = 38,                    /* } */
+    DT_TOKEN_LANGLE = 39,                    /* < */
+    DT_TOKEN_RANGLE = 40,                    /* > */
+    DT_TOKEN_LPAREN = 41,                    /* ( */
+    DT_TOKEN_RPAREN = 42,                    /* ) */
+    DT_TOKEN_PLUS = 43,                      /* + */
+    DT_TOKEN_MINUS = 44,                     /* - */
+    DT_TOKEN_ASTERISK = 45,                  /* * */
+    DT_TOKEN_SLASH = 46,                     /* / */
+    DT_TOKEN_MODULO = 47,                    /* % */
+    DT_TOKEN_BITWISE_OR = 48,                /* | */
+    DT_TOKEN_BITWISE_XOR = 49,               /* ^ */
+    DT_TOKEN_BITWISE_NOT = 50,               /* ~ */
+    DT_TOKEN_BITWISE_SHL = 51,               /* << */
+    DT_TOKEN_BITWISE_SHR = 52,               /* >> */
+    DT_TOKEN_LOGICAL_AND = 53,               /* && */
+    DT_TOKEN_LOGICAL_OR = 54,                /* || */
+    DT_TOKEN_LOGICAL_NOT = 55,               /* ! */
+    DT_TOKEN_RELATIONAL_LT_EQ = 56,          /* <= */
+    DT_TOKEN_RELATIONAL_GT_EQ = 57,          /* >= */
+    DT_TOKEN_RELATIONAL_EQ = 58,             /* == */
+    DT_TOKEN_RELATIONAL_NEQ = 59,            /* != */
+    DT_TOKEN_QUESTION_MARK = 60,             /* ? */
+    DT_TOKEN_FIRST_LEX_ERROR = 64,
+    DT_TOKEN_LAST_LEX_ERROR = 74
+};
+
+/* Error tokens: kinds of a token row, numbers of a lexical error. Their leaf is DT_TOKEN_UNRECOGNIZED. */
+enum dt_lex_error {
+    DT_LEX_ERROR_UNEXPECTED_END_INCBIN = 64,
+    DT_LEX_ERROR_INCBIN_MISSING_LPAREN = 65,
+    DT_LEX_ERROR_INCBIN_MISSING_RPAREN = 66,
+    DT_LEX_ERROR_INCBIN_MISSING_NUMBER = 67,
+    DT_LEX_ERROR_INCBIN_MISSING_COMMA = 68,
+    DT_LEX_ERROR_INCBIN_MISSING_STRING = 69,
+    DT_LEX_ERROR_UNEXPECTED_END_STRING = 70,
+    DT_LEX_ERROR_UNEXPECTED_END_BYTESTRING = 71,
+    DT_LEX_ERROR_UNEXPECTED_END_CHAR = 72,
+    DT_LEX_ERROR_UNEXPECTED_END_BLOCK_COMMENT = 73,
+    DT_LEX_ERROR_DEFAULT = 74 /* any other byte */
+};
+
+/* Node kinds. */
+enum dt_node {
+    DT_NODE_SOURCE_FILE = 0,                    /* root of entry 1 */
+    DT_NODE_ENTRY_NAME = 1,                     /* never appears */
+    DT_NODE_ENTRY_PROP_VALUES = 2,              /* root of entry 3 */
+    DT_NODE_ENTRY_CELLS = 3,                    /* root of entry 4 */
+    DT_NODE_ENTRY_PREPROCESSOR_CONDITIONAL = 4, /* never appears */
+    DT_NODE_PREPROCESSOR_DEFINED_OPERATION = 5, /* never appears */
+    DT_NODE_INFIX_EXPR = 6,
+    DT_NODE_PREFIX_EXPR = 7,
+    DT_NODE_PAREN_EXPR = 8,
+    DT_NODE_LITERAL_EXPR = 9,
+    DT_NODE_PARSE_ERROR = 10,
+    DT_NODE_DTS_DIRECTIVE = 11,
+    DT_NODE_DTS_DIRECTIVE_ARGUMENTS = 12,
+    DT_NODE_PREPROCESSOR_CONDITIONAL = 13,
+    DT_NODE_PREPROCESSOR_BRANCH = 14,
+    DT_NODE_DT_NODE = 15,
+    DT_NODE_DT_PROPERTY = 16,
+    DT_NODE_DT_CELL_LIST = 17,
+    DT_NODE_DT_EXPR = 18,
+    DT_NODE_DT_LABEL = 19,
+    DT_NODE_PROP_VALUE_LIST = 20,
+    DT_NODE_DT_PHANDLE = 21,                    /* also the root of entry 2 */
+    DT_NODE_UNIT_ADDRESS = 22,
+    DT_NODE_MACRO_INVOCATION = 23,
+    DT_NODE_MACRO_ARGUMENT = 24
+};
+
+enum dt_message {
+    DT_MESSAGE_EXPECTED = 1,            /* the expectations of the pool were expected */
+    DT_MESSAGE_UNMATCHED_RCURLY = 2,    /* a } without its { */
+    DT_MESSAGE_UNMATCHED_SEMICOLON = 3, /* a ; without a statement */
+    DT_MESSAGE_UNMATCHED_ENDIF = 4,     /* an #endif without its #if */
+    DT_MESSAGE_STRAY_CONTINUATION = 5,  /* an #elif or #else without its #if */
+    DT_MESSAGE_AT_SIGN_IN_LABEL = 6,    /* an @ in a label */
+    DT_MESSAGE_UNCLOSED_NODE = 7        /* end of input in an open node; the label is its { */
+};
+
+enum dt_hint {
+    DT_HINT_NONE = 0,
+    DT_HINT_UNNAMED_PROPERTY = 1,     /* recovered as an unnamed property */
+    DT_HINT_UNNAMED_NODE = 2,         /* recovered as an unnamed node */
+    DT_HINT_MISSING_PARENTHESES = 3,  /* expressions need parentheses */
+    DT_HINT_IN_CELLS = 4,             /* in cells */
+    DT_HINT_PROPERTY_NOT_ALLOWED = 5, /* no property is allowed here */
+    DT_HINT_MISSING_LEFT_SIDE = 6     /* recovered as an expression without its left side */
+};
+
+/* Expectations beside the token kinds. */
+enum dt_expected {
+    DT_EXPECTED_PREPROCESSOR_DIRECTIVE = 101,
+    DT_EXPECTED_PREPROCESSOR_DEFINED_OPERATOR = 102, /* never appears */
+    DT_EXPECTED_VALUE = 103,
+    DT_EXPECTED_CELL = 104,
+    DT_EXPECTED_LABEL_NAME = 105,
+    DT_EXPECTED_INFIX_OPERATOR = 106,
+    DT_EXPECTED_PREFIX_OPERATOR = 107,
+    DT_EXPECTED_END = 108
+};
+
+/*
+ * Lengths that suffice for n token rows (crates/numbers has the proof), so that 6, 7 and 8 cannot be met. Files without
+ * errors need far less; a caller may start small and grow what refusal 6 (events), 7 (reports, pool) or 8 (trees,
+ * errors) names, as examples/c/print_tree.c does.
+ */
+#define DT_EVENTS_FOR(n) (DT_ROW_EVENT * (13 * (size_t)(n) + 1))
+#define DT_TREES_FOR(n) (DT_ROW_TREE * (6 * (size_t)(n) + 1))
+#define DT_ERRORS_FOR(n) (DT_ROW_ERROR * (size_t)(n))
+#define DT_REPORTS_FOR(n) (DT_ROW_REPORT * (3 * (size_t)(n) + 1))
+#define DT_POOL_FOR(n) (768 * (size_t)(n) + 256)
+
+/* Counts are 0 unless number is DT_ACCEPTED. */
+struct dt_answer {
+    uint32_t number;     /* enum dt_refusal */
+    size_t place;        /* 0 if accepted */
+    size_t trees;        /* tree rows written */
+    size_t errors;       /* lexical errors written */
+    size_t reports;      /* reports written */
+    size_t expectations; /* numbers of the pool written */
+};
+
+/*
+ * bytes, tokens   the input and its token rows (kind, length): each length at least 1, their sum bytes_len. Only read.
+ * events          work space
+ * trees           tree rows
+ * errors          lexical errors
+ * reports         reports
+ * pool            the reports' expectations
+ *
+ * Whose memory: all seven stay the caller's. They are lent for the time of the call; nothing points into them
+ * afterwards, and the call frees nothing.
+ *
+ * Before the call the five lent buffers may hold anything; nobody has to clear them. Afterwards:
+ *   accepted          the rows that the answer counts at the front of trees, errors, reports and pool; the rest of each,
+ *                     and all of events, is zero
+ *   refused, 1 to 4   every buffer is as it was
+ *   refused, 5 to 8   every number of every buffer is zero
+ * A length that is no multiple of the row's: only whole rows are used, the numbers over count as rest.
+ *
+ * Overlap: the five lent buffers must not overlap each other, nor bytes or tokens. bytes and tokens may overlap, since
+ * neither is written. Pointers to numbers must be aligned as uint32_t is. Where a length is 0 the pointer is not used
+ * and may be NULL.
+ */
+struct dt_answer dt_parse(uint32_t entry,
+                          const uint8_t *bytes, size_t bytes_len,
+                          const uint32_t *tokens, size_t tokens_len,
+                          uint32_t *events, size_t events_len,
+                          uint32_t *trees, size_t trees_len,
+                          uint32_t *errors, size_t errors_len,
+                          uint32_t *reports, size_t reports_len,
+                          uint32_t *pool, size_t pool_len);
+
+#ifdef __cplusplus
+}
+#endif
+
+#endif
