@@ -19,7 +19,7 @@ pub(crate) struct Buffers {
 }
 
 impl Buffers {
-    /// Gives each buffer the length that the room asks for. What they hold does not matter: a call writes every element.
+    /// Gives each buffer the length that the room asks for. What they hold does not matter: no answer depends on it.
     pub fn set_room(&mut self, room: Room) {
         self.events.resize(EVENT_ROW * room.events, 0);
         self.trees.resize(TREE_ROW * room.trees, 0);
