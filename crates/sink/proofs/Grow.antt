@@ -111,9 +111,11 @@ put-seam row t r x e n h =
     rw (le-leb (at + TREE-ROW) (length (t ++ x)) fits)
     (sets-eq r (t ++ x) at (rw n fits) ∙ rw (n, rest, take-at t x at e, append-assoc t r (drop TREE-ROW x)))
 
-pub number-seam : (row j : ℕ) (t x : List ℕ) → length t ≡ row * TREE-ROW → number row j (t ++ x) ≡ getD x j 0
+pub number-seam : (row j : ℕ) (t x : List ℕ) → length t ≡ row * TREE-ROW → TREE-ROW ≤ length x → number row j (t ++ x) ≡ getD x j 0
 unfolding number
-number-seam row j t x e = rw (← e) (getD-append-add t x j 0)
+number-seam row j t x e h =
+    let fits : row * TREE-ROW + TREE-ROW ≤ length (t ++ x) = omega (arith, length-append t x) in
+    rw (le-leb (row * TREE-ROW + TREE-ROW) (length (t ++ x)) fits) (rw (← e) (getD-append-add t x j 0))
 
 -- ---------------------------------------------------------------- a leaf
 

@@ -226,10 +226,10 @@ finish-runs k f s r =
     let m : s .rows + 1 + size f ≡ s .rows + suc (size f + 0) = omega arith in
     rw (
       t,
-      number-seam (s .rows) 0 T (o ++ Z) (r .whole),
-      number-seam (s .rows) 1 T (o ++ Z) (r .whole),
-      number-seam (s .rows) 2 T (o ++ Z) (r .whole),
-      number-seam (s .rows) 3 T (o ++ Z) (r .whole),
+      number-seam (s .rows) 0 T (o ++ Z) (r .whole) (omega arith),
+      number-seam (s .rows) 1 T (o ++ Z) (r .whole) (omega arith),
+      number-seam (s .rows) 2 T (o ++ Z) (r .whole) (omega arith),
+      number-seam (s .rows) 3 T (o ++ Z) (r .whole) (omega arith),
       w,
       n,
       put-seam (s .rows) T c (o ++ Z) (r .whole) refl (omega arith),

@@ -24,8 +24,9 @@ low x = x % 4294967296
 unfoldable pub put : ℕ → List ℕ → List ℕ → List ℕ
 put row r t = cond (leb (row * TREE-ROW + TREE-ROW) (length t)) (sets t (row * TREE-ROW) r) t
 
+-- a number of a row; 0 where the row does not fit
 unfoldable pub number : ℕ → ℕ → List ℕ → ℕ
-number row j t = getD t (row * TREE-ROW + j) 0
+number row j t = cond (leb (row * TREE-ROW + TREE-ROW) (length t)) (getD t (row * TREE-ROW + j) 0) 0
 
 -- ---------------------------------------------------------------- token rows
 

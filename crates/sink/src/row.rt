@@ -49,14 +49,14 @@ pub fn write_row(trees: &mut [u32], row: u32, class: u32, kind: u32, width: u32,
     }
 }
 
-// A number of a row; 0 past the end.
+// A number of a row; 0 where the row does not fit. Of a row that fits in part nothing was written, so nothing is read.
 pub fn number(trees: &[u32], row: u32, field: usize) -> u32
     requires { ⌜ field < TREE-ROW ⌝ }
     ensures { λ r. ⌜ r ≡ numberOf row field (now (trees .entry)) ⌝ }
 {
-    let at = num::wide(row) * TREE_ROW + field;
-    let inside = at < trees.len();
-    if inside { trees[at] } else { 0 }
+    let at = num::wide(row) * TREE_ROW;
+    let room = at + TREE_ROW <= trees.len();
+    if room { trees[at + field] } else { 0 }
 }
 
 // The open rows of a chain of n links whose innermost start is event i. The outermost node's is `first`.
