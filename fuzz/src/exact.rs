@@ -1,6 +1,4 @@
 //! For valgrind: each buffer is allocated for itself, exactly as long as it says, and was never written before the call.
-//! One exception: where the tree does not fit and its buffer ends inside a row, the sink reads that row's numbers, which it
-//! did not write, and then clears them. The answer does not depend on them; for these calls the tree buffer is written.
 use crate::call::Call;
 use crate::ffi::{self, Lent};
 use crate::judge::{Input, Judge};
@@ -36,9 +34,6 @@ fn one(judge: &Judge, call: &Call, input: Input) -> bool {
     let expected = judge.expected(input, call.lengths);
     let (tokens, bytes) = (call.tokens.clone().into_boxed_slice(), call.bytes.clone().into_boxed_slice());
     let mut store: [Vec<u32>; 5] = call.lengths.map(Vec::with_capacity);
-    if expected.number == 8 && call.lengths[1] % 4 != 0 {
-        store[1].resize(call.lengths[1], 0x5A5A5A5A)
-    }
     let at = store.each_mut().map(|v| v.as_mut_ptr());
     let lent = std::array::from_fn(|i| Lent { at: at[i], len: call.lengths[i] });
     // Safety: five allocations of those lengths

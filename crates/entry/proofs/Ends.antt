@@ -25,7 +25,7 @@ use Rattle.numbers.proofs.Written.{report-rows-length}
 use Rattle.machine.specs.Machine.{Machine, Buffer}
 use Rattle.machine.specs.Encode.{encode}
 use Rattle.machine.specs.Outcome.{onto, Holds, Accepted, Refused, Ends}
-use Rattle.machine.proofs.Entry.{entry-ends}
+use Rattle.entry.proofs.Machine.{entry-ends}
 use Rattle.sink.specs.declared.Sunk.{Sunk}
 use Rattle.sink.specs.declared.Sunk.the-variants.{Written, NoRoom}
 use Rattle.sink.specs.Encode as S

@@ -1,4 +1,5 @@
 -- What the parser's machine and the sink leave, cleared, is the definitions' result.
+pub mod Machine
 pub mod Same
 pub mod Wiped
 pub mod Ends

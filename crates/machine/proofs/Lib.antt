@@ -16,7 +16,6 @@ pub mod Loops
 pub mod Chains
 pub mod Programs
 pub mod Whole
-pub mod Entry
 pub mod Turns
 pub mod Links
 pub mod Way
