@@ -1,18 +1,22 @@
 #!/usr/bin/env python3
-"""Writes the proof of crate expr's cycle of calls: the files below crates/expr/proofs/+expr_binding_power+..+ternary_rhs/.
+"""Writes the proof of crate expr's cycle of calls, the files below crates/expr/proofs/+expr_binding_power+..+ternary_rhs/, and that of
+`dt_expr`.
 
-    python3 tools/proofs/expr_proofs.py GENERATED OFFERED
+    rt dev expr --generated target/generated/expr; python3 tools/proofs/expr_proofs.py target/generated/expr; rt fmt
 
-GENERATED: the folder of `rt dev expr --generated GENERATED`. OFFERED: what `rt dev expr` prints while the cycle has no proof
-file (move its folder aside). Afterwards: `rt fmt`, and `rt dev expr`.
+The first command writes what the check generates for each function; it may fail, and writes all the same. Where the cycle has no proof
+file yet, give it one with a hole first, or the check searches for each need.
 
 What a need's answer says stands here, in WAYS, RULE and LOOP: for each return the way through the function's program, as steps
-of crates/expr/proofs/Way.antt, in the order of the code; «x» is the call or the test x on the way. The script puts in the paths
+of crates/machine/proofs/Way.antt, in the order of the code; «x» is the call or the test x on the way. The script puts in the paths
 to these, and the facts for `omega`: what each call on the way ensures of the tokens left, and that it keeps the buffers' lengths.
 Nothing is believed of it: the check reads what it wrote."""
 import os
 import re
 import sys
+
+sys.path.insert(0, os.path.dirname(__file__))
+from code_proofs import Crate, parse
 
 MEMBERS = ['expr_binding_power', 'infix_chain', 'infix_step', 'lhs', 'missing_lhs', 'no_lhs', 'paren_expr', 'prefix_expr', 'rhs', 'ternary_rhs']
 CYCLE = ''.join('+' + m for m in MEMBERS)
@@ -32,7 +36,7 @@ ASK = f'(walk-rule ({ROOM}) (tokens ({TOKENS})))'
 LEFT = {'start': f'.ensures .1 ({TOKENS})', 'complete': f'.ensures .1 ({TOKENS})', 'ignore': f'.ensures .1 ({TOKENS})',
         'precede': f'.ensures .1 ({TOKENS})', 'bump': '.ensures .1', 'error': '.ensures .1', 'macro-invocation': '.ensures .1',
         'literal-expr': '.ensures .1', 'at': '.ensures .1 .0', 'silent-at': '.ensures .1 .0', 'at-prefix-op': '.ensures .1 .0',
-        'expect': '.ensures .1 .0', 'infix-op-at': '.ensures .1 .1 .1 .0', 'expr-binding-power': '.ensures .1 .0', 'lhs': '.ensures .1 .0',
+        'expect': '.ensures .1 .0', 'infix-op-at': '.ensures .1 .1 .1 .1 .0', 'expr-binding-power': '.ensures .1 .0', 'lhs': '.ensures .1 .0',
         'infix-chain': '.ensures .1', 'infix-step': '.ensures .1 .0', 'rhs': '.ensures .1', 'ternary-rhs': '.ensures .1',
         'prefix-expr': '.ensures .1', 'paren-expr': '.ensures .1', 'no-lhs': '.ensures .1', 'missing-lhs': '.ensures .1'}
 LEFT_IF = ['at', 'silent-at', 'at-prefix-op', 'expect', 'expr-binding-power', 'lhs', 'infix-step']
@@ -66,9 +70,9 @@ CALL = f'(c-call ({ROOM}) («expr-binding-power» .ensures .0))'
 YES = '(«expr-binding-power» .result .yes)'
 MARK = 'c-mark («new» .ensures) («start» .ensures .0 _ _)'
 DONE = '(«complete» .ensures .0 _ _)'
-OPERATOR = '(«infix-op-at» .result .left) (%s) («infix-op-at» .ensures .0 _ _ _) («infix-op-at» .ensures .1 .0)'
-TURN = '(«s» .args .min-bp) ' + OPERATOR % '«infix-op-at» .result .right' + ' («infix-op-at» .ensures .1 .1 .0)'
-BINARY = '(at-binary («infix-op-at» .result .left) («infix-op-at» .ensures .0 _ _ _) («infix-op-at» .ensures .1 .0))'
+OPERATOR = '(«infix-op-at» .result .left) («infix-op-at» .result .right) («infix-op-at» .ensures .0 _ _ _) («infix-op-at» .ensures .1 .0)'
+TURN = f'(«s» .args .min-bp) {OPERATOR} («infix-op-at» .ensures .1 .1 .0)'
+BINARY = '(at-binary («infix-op-at» .result .binary) («infix-op-at» .ensures .0 _ _ _) («infix-op-at» .ensures .1 .1 .1 .0))'
 RPAREN = '(c-act («silent-at» .ensures .0 unlabelled _ _ _))'
 MIDDLE = f'(c-yes {CALL} («if1» .taken) ({walked("expect")}))'
 
@@ -152,38 +156,21 @@ LIBRARY = [
     ('Rattle.definitions.specs.Grammar', ['lhs as lhs-prog', 'rhs as rhs-prog', 'infix-turn', 'expr-binding-power-body', 'grammar']),
     ('Rattle.machine.specs.Walk', ['said', 'walk-rule', 'unlabelled']), ('Rattle.parser.specs.View', ['left', 'marker-of', 'view-of']),
     ('Rattle.expr.specs.Parts', ['links-from']),
-    (PROOFS + 'Way', ['c-walk', 'c-act', 'c-ret', 'c-seq', 'c-yes', 'c-no', 'c-told', 'c-again', 'c-told-past', 'c-mark', 'completed',
-                      'c-call', 'c-fn', 'way', 'rule-closed', 'rule-body']),
+    ('Rattle.machine.proofs.Way', ['c-walk', 'c-act', 'c-ret', 'c-seq', 'c-yes', 'c-no', 'c-told', 'c-again', 'c-told-past', 'c-mark', 'completed',
+                                   'c-call', 'c-fn', 'way', 'rule-closed', 'rule-body']),
+    ('Rattle.power.proofs.Below', ['true-false']),
     (PROOFS + 'Chain', ['ahead-falls', 'chained-on', 'chained-off', 'linked-again', 'linked-last', 'linked-stop', 'step-again', 'step-last', 'step-none']),
-    (PROOFS + 'Levels', ['true-false', 'turn-none', 'turn-weaker', 'turn-ternary', 'turn-binary', 'at-binary'])]
+    (PROOFS + 'Levels', ['turn-none', 'turn-weaker', 'turn-ternary', 'turn-binary', 'at-binary'])]
+
+
+# the functions outside that the members call, by the module that their readings stand in
+CALLED = [
+    ('Rattle.expr.proofs', 'at_prefix_op infix_op_at literal_expr'), ('Rattle.names.proofs', 'macro_invocation'),
+    ('Rattle.parser.proofs.Parser', 'at bump complete error expect ignore precede refuse silent_at start'),
+    ('Rattle.parser.proofs.marker.Marker', 'linked new')]
 
 
 # ---------------------------------------------------------------- the places of the code
-
-def places(file):
-    """The records of a function's places, each with its fields, and the place of each need."""
-    records, needs, record, need = {}, {}, None, None
-    for line in open(file, encoding='utf8'):
-        m = re.match(r'^ +pub record (\S+) ', line)
-        if m:
-            record, need = m.group(1), None
-            records[record] = []
-            continue
-        m = re.match(r'^ +pub (\S+) :\s*(.*)$', line)
-        if m and record:
-            records[record].append((m.group(1), m.group(2).strip()))
-            continue
-        m = re.match(r'^ +(Need-\S+) =\s*(?:\(c : (\S+)\))?', line)
-        if m:
-            need = m.group(1)
-            if m.group(2):
-                needs[need], need = m.group(2).rstrip(')'), None
-            continue
-        m = re.match(r'^ +\(c : (\S+)\)', line)
-        if m and need:
-            needs[need], need = m.group(1), None
-    return records, needs
-
 
 def way_to(records, place):
     """What was bound on the way to a place, first to last: its name, its fields, and how many `.before` lead to it."""
@@ -265,7 +252,7 @@ def answer(name, need, things):
     if name == 'lhs':
         left = f'({left},\n{never if need == "returns-5" else "λ e. " + left})'
     if name == 'infix-step':
-        some = '«infix-op-at» .ensures .1 .1 .1 .1 (eqb-false («infix-op-at» .result .left) 0 («if1» .left))'
+        some = '«infix-op-at» .ensures .1 .1 .1 .1 .1 (eqb-false («infix-op-at» .result .left) 0 («if1» .left))'
         left = f'({left},\n{never if need in ("returns", "returns-2") else "λ e. " + tokens_left(things, some)})'
     return unfold, f'(way ({ROOM}) {way},\n{left})'
 
@@ -290,16 +277,20 @@ def write(file, text):
         out.write(text.rstrip() + '\n')
 
 
-def offer(file):
-    """The lines that the check offers for the cycle."""
-    lines = open(file, encoding='utf8').read().split('\n')
-    start = next(i for i, l in enumerate(lines) if re.match(r'help: write \S+ternary_rhs/Proof\.antt with these lines', l)) + 1
-    end = next((i for i in range(start, len(lines)) if lines[i] and not lines[i].startswith('    ')), len(lines))
-    return '\n'.join(l[4:] for l in lines[start:end])
+def called(needs):
+    """The functions that one calls, in the order of its needs."""
+    found = [re.match(r'(.*?)-requires(-\d+)?$', need) for need in needs]
+    return list(dict.fromkeys(m.group(1) for m in found if m))
 
 
-def measures(offered, uses):
-    flat = re.sub(r'\s+', ' ', offered)
+def readings(needs):
+    """The use lines of what is known of the members and of the functions that they call."""
+    own = [f'use {PROOFS}{m}.{part} as {m.replace("_", "-")}{end}' for m in MEMBERS for part, end in (('Reads', ''), ('Kinds', '-kinds'))]
+    outside = {c for n in NAMES for c in called(needs[n])} - set(NAMES)
+    return own + [f'use {place}.{f}.Reads as {f.replace("_", "-")}-reads' for place, functions in CALLED for f in functions.split() if f.replace('_', '-') in outside]
+
+
+def measures(needs, uses):
     text = '''-- What falls in the cycle of calls, the open calls left and then the members' order, and what is known of each member's calls.
 use Prim.Native.Nat.{ℕ, _+_, _*_, _<_}
 use borrow.Fn.Kinds.{In}
@@ -317,34 +308,36 @@ abbrev pub {n}-below : ℕ → In 4 {n}-kinds.ps
 {n}-below t = and 4 {n}-kinds.ps (falls 4 {n}-kinds.ps _<_ μ-{n} t) {n}.Pre
 '''
     for n in NAMES:
-        claims = re.search(re.escape(n) + r'-lts\.Need-\S+ \( ?([^()]*?),? ?\)', flat).group(1)
+        claims = ', '.join(f'{c}-below t, {c}.Post' if c in NAMES else f'{c}-reads.Asked, {c}-reads.Learnt' for c in called(needs[n]))
         text += f'\nabbrev pub {n}-claims : ℕ → {n}-lts.Claims\n{n}-claims t = ({claims})\n'
     return text
 
 
-def main(generated, offered):
-    offered = offer(offered)
-    uses = [l for l in offered.split('\n') if l.startswith('use ')]
-    lts = [l for l in uses if '.Lts-' in l]
-    write('Proof/Measures.antt', measures(offered, [l for l in uses if re.search(r'\.(Reads|Kinds) as ', l)] + lts))
-    closing = ''
-    for member, name in zip(MEMBERS, NAMES):
-        records, needs = places(f'{generated}/Rattle.expr.proofs/proofs/{CYCLE}/Lts-{member}.antt')
-        asked = re.findall(r'^' + re.escape(name) + r'-(\S+) :\s+\(t : ℕ\) →\s+' + re.escape(name) + r'-lts\.Need-', offered, flags=re.M)
-        loop = ' Inv-loop μ-loop' if name == 'infix-chain' else ''
-        text = INVARIANT if loop else ''
-        for need in asked:
-            things, start = way_to(records, needs['Need-' + need])
-            unfold, body = answer(name, need, things)
-            body = with_paths(things, start, body)
-            lifetimes = ' κs' if re.search(r'-requires(-\d+)?$', need) else ''
-            text += f'pub {need} : (t : ℕ) → lts.Need-{need} ({name}-claims t) ({name}-at t) reads.Post{loop}\n'
-            text += f'unfolding {unfold}\n' if unfold else ''
-            text += f'{need} t c{lifetimes} =' + ('\n' + body if '\n' in body else ' ' + body.strip()) + '\n\n'
-        head = f'-- {SAYS[name]}\n' + cites(text) + f'use {PROOFS}{member}.Reads as reads\nuse {PROOFS}{CYCLE}.Lts-{member} as lts\n'
-        write(f'Proof/{title(name)}.antt', head + f'use {PROOFS}{CYCLE}.Proof.Measures.{{{name}-at, {name}-claims}}\n\n' + text)
-        closing += f'    (λ t. {name}-lts.spec ({name}-claims t) ({name}-at t) {name}.Post'
-        closing += loop.replace(' ', f' {title(name)}.') + ''.join(f'\n    ({title(name)}.{need} t)' for need in asked) + ')\n'
+def member_proof(member, records, needs):
+    """The file of a member, and what the whole says of it."""
+    name = member.replace('_', '-')
+    loop = ' Inv-loop μ-loop' if name == 'infix-chain' else ''
+    text = INVARIANT if loop else ''
+    for need, place in needs.items():
+        things, start = way_to(records, place)
+        unfold, body = answer(name, need, things)
+        body = with_paths(things, start, body)
+        lifetimes = ' κs' if re.search(r'-requires(-\d+)?$', need) else ''
+        text += f'pub {need} : (t : ℕ) → lts.Need-{need} ({name}-claims t) ({name}-at t) reads.Post{loop}\n'
+        text += f'unfolding {unfold}\n' if unfold else ''
+        text += f'{need} t c{lifetimes} =' + ('\n' + body if '\n' in body else ' ' + body.strip()) + '\n\n'
+    head = f'-- {SAYS[name]}\n' + cites(text) + f'use {PROOFS}{member}.Reads as reads\nuse {PROOFS}{CYCLE}.Lts-{member} as lts\n'
+    write(f'Proof/{title(name)}.antt', head + f'use {PROOFS}{CYCLE}.Proof.Measures.{{{name}-at, {name}-claims}}\n\n' + text)
+    closing = f'    (λ t. {name}-lts.spec ({name}-claims t) ({name}-at t) {name}.Post'
+    return closing + loop.replace(' ', f' {title(name)}.') + ''.join(f'\n    ({title(name)}.{need} t)' for need in needs) + ')\n'
+
+
+def cycle(generated):
+    found = {m: parse(f'{generated}/Rattle.expr.proofs/proofs/{CYCLE}/Lts-{m}.antt') for m in MEMBERS}
+    lts = [f'use {PROOFS}{CYCLE}.Lts-{m} as {n}-lts' for m, n in zip(MEMBERS, NAMES)]
+    needs = {n: found[m][1] for m, n in zip(MEMBERS, NAMES)}
+    write('Proof/Measures.antt', measures(needs, readings(needs) + lts))
+    closing = ''.join(member_proof(m, *found[m]) for m in MEMBERS)
     text = '-- The functions of the cycle meet their contracts: a file for each member, and what falls in Measures.\n'
     text += ''.join(f'use {PROOFS}{m}.Reads as {n}\n' for m, n in zip(MEMBERS, NAMES)) + '\n'.join(lts)
     text += f'\nuse {PROOFS}{CYCLE}.{{statement}}\nuse {PROOFS}{CYCLE}.Tie.{{close}}\n'
@@ -357,4 +350,25 @@ def main(generated, offered):
     write('Proof.antt', text)
 
 
-main(*sys.argv[1:3])
+# ---------------------------------------------------------------- `dt_expr`
+
+DT_EXPR = """use native.Mathlib.Omega.{arith}
+use Rattle.definitions.specs.Token.{tokens}
+use Rattle.definitions.specs.Grammar.{dt-expr}
+use Rattle.machine.specs.Walk.{walk-rule, unlabelled}
+use Rattle.machine.proofs.Way.{c-walk, c-act, c-ret, c-seq, c-mark, completed, c-call, way}"""
+
+
+def dt_expr(generated):
+    calls = {'bump': 'le', 'start': 'all', 'complete': 'all', 'expect': 'yes', 'expr': 'yes', 'new': 'none'}
+    room = '(@@ .args .room)'
+    asked = f'(walk-rule {room} (tokens (@@ .args .t .now))) unlabelled'
+    inside = f'c-seq (c-seq (c-act (@bump .ensures .0 unlabelled _ _)) (c-seq (c-call {room} (@expr .ensures .0)) (c-walk (@expect .ensures .0 {asked})))) c-ret'
+    Crate('expr', generated, 'crates/expr', calls, ['new']).proof('dt_expr', {
+        'returns': ('dt-expr', f'(way {room} (c-mark (@new .ensures) (@start .ensures .0 _ _) ({inside}) (completed 17 (@complete .ensures .0 _ _))), omega (arith, PROGRESS))'),
+    }, '`dt_expr`: a marker around an expression in brackets.', uses=DT_EXPR.split('\n'))
+
+
+if __name__ == '__main__':
+    cycle(sys.argv[1])
+    dt_expr(sys.argv[1])

@@ -36,7 +36,8 @@ CALLED = {
     "Rattle.parser.proofs.State": "range",
     "Rattle.parts.proofs": "after_propvalue at_cells_end at_cells_recovery at_item eat_dts_directive eat_dts_include eat_node_or_prop_prefix eat_plain_cell unfinished",
     "Rattle.names.proofs": "macro_invocation silent_eat_reference",
-    "Rattle.grammar.proofs": "told dt_expr forbidden_property node_end",
+    "Rattle.expr.proofs": "dt_expr",
+    "Rattle.grammar.proofs": "told forbidden_property node_end",
 }
 
 # Where a name comes from.

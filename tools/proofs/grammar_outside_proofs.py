@@ -14,7 +14,7 @@ from program_ways import name_places
 CALLS = {
     **dict.fromkeys("bump error emit expect-recoverable cond-branches-and-end unmatched-rcurly item sourcefile-part bump-all entry-sourcefile reference-noamp propvalues cells enter left-over".split(), "le"),
     **dict.fromkeys("start complete add-expected".split(), "all"),
-    **dict.fromkeys("silent-at silent-at-set expect expr catch-unmatched-pp-directive".split(), "yes"),
+    **dict.fromkeys("silent-at silent-at-set expect catch-unmatched-pp-directive".split(), "yes"),
     "at-end": "end",
     "new": "none",
 }
@@ -36,7 +36,7 @@ MODULES = {
     "Rattle.definitions.specs.Prog": "Rule loop",
     "Rattle.definitions.specs.Run": "truth",
     "Rattle.definitions.specs.Check": "silent",
-    "Rattle.definitions.specs.Grammar": "dt-expr forbidden-property catch-unmatched-pp-directive sourcefile-part sourcefile-turn entry-sourcefile entry left-over-turn left-over whole",
+    "Rattle.definitions.specs.Grammar": "forbidden-property catch-unmatched-pp-directive sourcefile-part sourcefile-turn entry-sourcefile entry left-over-turn left-over whole",
     "Rattle.machine.specs.Machine": "Machine",
     "Rattle.machine.specs.Walk": "Walked walk walk-rule walk-prog unlabelled",
     "Rattle.machine.proofs.Way": "Way c-walk c-act c-ret c-seq c-yes c-no c-mark completed c-call c-fn way",
@@ -106,11 +106,6 @@ def values_and_cells(c):
         "returns": "(refl, sym (ap truth (@if1 .taken)))",
         "returns-2": "(refl, sym (ap truth (@if1 .left)))",
     }, "`told` answers by its flag.")
-    room = "(@@ .args .room)"
-    inside = f"c-seq (c-seq (c-act (@bump .ensures .0 unlabelled _ _)) (c-seq (c-call {room} (@expr .ensures .0)) (c-walk (@expect .ensures .0 {asked(room)})))) c-ret"
-    c.proof("dt_expr", {
-        "returns": ("dt-expr", f"(way {room} (c-mark (@new .ensures) (@start .ensures .0 _ _) ({inside}) (completed 17 (@complete .ensures .0 _ _))), {LEFT})"),
-    }, "`dt_expr`: a marker around an expression in brackets.")
     c.proof("forbidden_property", {
         "returns": ("forbidden-property", "(λ ask b ev rep pool. c-flag forbidden-property (@if1 .taken) c-ret .is, omega arith)"),
         "returns-2": ("forbidden-property silent", f"(λ ask b ev rep pool. c-flag forbidden-property (@if1 .left) (c-act (@silent-at-set .ensures .0 b ev rep pool)) .is, {LEFT})"),

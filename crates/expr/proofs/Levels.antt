@@ -1,25 +1,25 @@
 -- The definitions' levels by kind. A turn over infix operators tries one level after the other; which one it takes is decided by the kind
 -- at the cursor alone.
-use Prim.Native.Nat.{ℕ, zero, suc, _+_, _-_, _≤_, _<_}
+use Prim.Native.Nat.{ℕ, zero, suc, _+_, _<_}
 use mathlib.Core.Path.{_≡_, refl, sym, ap, _∙_}
 use mathlib.Core.Bool.{Bool, true, false, cond, _&&_}
 use mathlib.Core.List.{List, [], _∷_}
 use native.Mathlib.Omega.{arith}
-use lib.Dec.{ltb, leb, eqb}
-use lib.ListN.{length, drop, getD}
-use borrow.Author.Tests.{leb-false, ltb-true, ltb-false, lt-ltb, le-ltb, eqb-true, eqb-false, eq-eqb, ne-eqb}
-use Rattle.definitions.specs.TokenKind as K
+use lib.Dec.{ltb, eqb}
+use lib.ListN.{drop}
+use borrow.Author.Tests.{ltb-true, ne-eqb}
 use Rattle.definitions.specs.Errors as E
-use Rattle.definitions.specs.Token.{Token, seen, is-error, trivia, past, one-of, first-in}
+use Rattle.definitions.specs.Token.{Token, seen, trivia, past, one-of, first-in}
 use Rattle.definitions.specs.Skeleton.{Span}
-use Rattle.definitions.specs.Prog.{Ans, no, yes, Rule, silent-at, less, Prog, ret, act, _⨟_, case}
+use Rattle.definitions.specs.Prog.{yes, Rule, less, Prog, act, _⨟_, case}
 use Rattle.definitions.specs.Check.{tell, if_then_else_, bump!, expected, set, silent}
 use Rattle.definitions.specs.Grammar.{INFIX-BUT-TERNARY, Level, ternary, binding-power, rhs, infix-levels, infix-turn}
 use Rattle.definitions.specs.Run.{truth}
 use Rattle.machine.specs.Machine.{Machine, rest, passed, skip, peek, expect-code}
 use Rattle.machine.specs.Walk.{Walked, said, perform, choose, walk}
 use Rattle.parser.specs.View.{kind-of}
-use Rattle.expr.specs.Power.{levels, left-power, right-power}
+use Rattle.power.specs.Power.{levels, left-power, right-power, is-binary}
+use Rattle.power.proofs.Below.{true-false, both-left, both-right}
 use Rattle.expr.specs.Parts.{ternary-rhs}
 use Rattle.machine.proofs.Way.{Way, c-walk, c-act, c-ret, c-yes, c-no}
 
@@ -54,17 +54,6 @@ peek-peek ts m = skipped ts (rest ts m) m refl
 unfoldable high : List Level → Bool
 high [] = true
 high (l ∷ ls) = ltb 2 (l .left) && high ls
-
-pub both-left : (a b : Bool) → (a && b) ≡ true → a ≡ true
-both-left true b e = refl
-both-left false b e = e
-
-pub true-false : {A : Type 0} → true ≡ false → A
-true-false e = let z : _≡_ {A = ℕ} 1 0 = ap (λ (b : Bool). cond b 1 0) e in absurd (omega (arith, z))
-
-pub both-right : (a b : Bool) → (a && b) ≡ true → b ≡ true
-both-right true b e = e
-both-right false b e = true-false (sym e)
 
 binding-power-high : high binding-power ≡ true
 unfolding high
@@ -226,65 +215,17 @@ module _ {ask : Rule → Machine → Walked} {ts : List Token} {b : Span} {m x :
 
 -- ---------------------------------------------------------------- `InfixOp::at` where an expression has no left side
 
-same : Bool → Bool → Bool
-same true b = b
-same false b = cond b false true
+-- past the last token there is no operator
+binary-first : (l : List Token) → first-in INFIX-BUT-TERNARY l ≡ is-binary (kind-of l)
+unfolding first-in kind-of is-binary one-of
+binary-first [] = refl
+binary-first (t ∷ l) = refl
 
-same-true : (a b : Bool) → same a b ≡ true → a ≡ b
-unfolding same
-same-true true b e = sym e
-same-true false true e = e
-same-true false false e = refl
-
-unfoldable pub all-below : (ℕ → Bool) → ℕ → Bool
-all-below f zero = true
-all-below f (suc n) = f n && all-below f n
-
--- a test that passes at each number below n passes at any of them
-pub at-below : (f : ℕ → Bool) (n k : ℕ) → all-below f n ≡ true → k < n → f k ≡ true
-unfolding all-below
-at-below f zero k h l = absurd (omega (arith, l))
-at-below f (suc n) k h l = go (eqb k n) refl (at-below f n k (both-right (f n) (all-below f n) h))
-  where
-    go : (b : Bool) → eqb k n ≡ b → (k < n → f k ≡ true) → f k ≡ true
-    go true e r = ap f (eqb-true k n e) ∙ both-left (f n) (all-below f n) h
-    go false e r = r (omega (arith, l, eqb-false k n e))
-
--- every infix operator but the ternary binds by more than 2
-binary-test : ℕ → Bool
-binary-test k = same (one-of INFIX-BUT-TERNARY k) (ltb 2 (left-power levels k))
-
-binary-tested : all-below binary-test 64 ≡ true
-unfolding all-below binary-test same one-of left-power
-binary-tested = refl
-
-seen-below : (t : Token) → seen t < 64
-unfolding seen is-error
-seen-below t = by (leb 64 (t .kind)) refl
-  where
-    by : (c : Bool) → leb 64 (t .kind) ≡ c → cond c K.Unrecognized (t .kind) < 64
-    by true e = omega arith
-    by false e = leb-false 64 (t .kind) e
-
-binary-end : false ≡ ltb 2 (left-power levels 64)
-unfolding left-power one-of
-binary-end = refl
-
-binary-kind : (k : ℕ) → k < 64 → one-of INFIX-BUT-TERNARY k ≡ ltb 2 (left-power levels k)
-unfolding binary-test
-binary-kind k h = same-true (one-of INFIX-BUT-TERNARY k) (ltb 2 (left-power levels k)) (at-below binary-test 64 k binary-tested h)
-
-binary-first : (l : List Token) → first-in INFIX-BUT-TERNARY l ≡ ltb 2 (left-power levels (kind-of l))
-unfolding first-in kind-of
-binary-first [] = binary-end
-binary-first (t ∷ l) = binary-kind (seen t) (seen-below t)
-
-pub at-binary : {ask : Rule → Machine → Walked} {ts : List Token} {b : Span} {m x : Machine} (l : ℕ)
-    → x ≡ peek ts (expect-code E.InfixOperator m) → l ≡ left-power levels (kind-of (rest ts x))
-    → Way ask ts b (expected E.InfixOperator ⨟ silent (set INFIX-BUT-TERNARY)) m (said (truth (ltb 2 l)) x)
+pub at-binary : {ask : Rule → Machine → Walked} {ts : List Token} {b : Span} {m x : Machine} (c : Bool)
+    → x ≡ peek ts (expect-code E.InfixOperator m) → c ≡ is-binary (kind-of (rest ts x))
+    → Way ask ts b (expected E.InfixOperator ⨟ silent (set INFIX-BUT-TERNARY)) m (said (truth c) x)
 unfolding walk perform silent
-at-binary {ts = ts} {x = x} l ex el =
+at-binary {ts = ts} {x = x} c ex ec =
     c-walk
-    (ap (λ (k : ℕ). said (truth (ltb 2 k)) x) el
-    ∙ ap (λ (t : Bool). said (truth t) x) (sym (binary-first (rest ts x)))
+    (ap (λ (t : Bool). said (truth t) x) (ec ∙ sym (binary-first (rest ts x)))
     ∙ ap (λ (y : Machine). said (truth (first-in INFIX-BUT-TERNARY (rest ts y))) y) ex)

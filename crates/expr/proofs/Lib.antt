@@ -1,4 +1,3 @@
 -- Laws that the proofs of the code cite.
 pub mod Chain
 pub mod Levels
-pub mod Powers

@@ -1,4 +1,4 @@
-// grammar/expr.rs: expressions by binding power.
+// grammar/expr.rs: expressions by binding power; and `dt_expr` of grammar.rs.
 use lexer::kind;
 use names::macro_invocation;
 use parser::Parser;
@@ -10,6 +10,8 @@ use parser::marker::Marker;
 use parser::matcher::Matcher;
 use parser::node;
 use parser::source::kind_at;
+use power::PREFIX_POWER;
+use power::binding_power;
 ghost use mathlib.Core.Path.{_≡_};
 ghost use mathlib.Core.Bool.{true};
 ghost use mathlib.Core.List.{List};
@@ -19,11 +21,11 @@ ghost use Rattle.definitions.specs.Errors as E;
 ghost use Rattle.definitions.specs.Token.{tokens};
 ghost use Rattle.definitions.specs.Skeleton.{Span};
 ghost use Rattle.definitions.specs.Prog.{Rule, no, yes, expr-binding-power};
-ghost use Rattle.definitions.specs.Grammar.{lhs as lhs-prog, rhs as rhs-prog, infix-turn};
+ghost use Rattle.definitions.specs.Grammar.{lhs as lhs-prog, rhs as rhs-prog, infix-turn, dt-expr};
 ghost use Rattle.machine.specs.Machine.{Machine, expect-code, peek};
 ghost use Rattle.machine.specs.Walk.{Walked, said, walk, walk-rule, walk-prog, unlabelled};
 ghost use Rattle.parser.specs.View.{left, view-of, tested-as, marker-of, kind-of};
-ghost use Rattle.expr.specs.Power.{levels, left-power, right-power};
+ghost use Rattle.power.specs.Power.{levels, left-power, right-power, is-binary};
 ghost use Rattle.expr.specs.Parts.{at-prefix-op, prefix-expr, paren-expr, literal-expr, missing-lhs, no-lhs, ternary-rhs, step-as, links-from};
 
 pub const PREFIX_OPERATORS_SET: [u8; 4] = [
@@ -61,88 +63,12 @@ pub const OPERATORS_SET: [u8; 24] = [
     kind::COLON,
 ];
 
-// `InfixOp::binding_power`: left and right, by the operator's kind, from FIRST_OPERATOR to LAST_OPERATOR; 0 where the
-// kind is no infix operator.
-pub const FIRST_OPERATOR: u8 = kind::AMPERSAND;
-
-pub const LAST_OPERATOR: u8 = kind::QUESTION_MARK;
-
-pub const LEFT_POWERS: [u8; 31] = [
-    11, // Ampersand
-    0, // Colon
-    0, // AtSign
-    0, // String
-    0, // Char
-    0, // Number
-    0, // DtBytestring
-    0, // LCurly
-    0, // RCurly
-    15, // LAngle
-    15, // RAngle
-    0, // LParen
-    0, // RParen
-    19, // Plus
-    19, // Minus
-    21, // Asterisk
-    21, // Slash
-    21, // Modulo
-    7, // BitwiseOr
-    9, // BitwiseXor
-    0, // BitwiseNot
-    17, // BitwiseShl
-    17, // BitwiseShr
-    5, // LogicalAnd
-    3, // LogicalOr
-    0, // LogicalNot
-    15, // RelationalLtEq
-    15, // RelationalGtEq
-    13, // RelationalEq
-    13, // RelationalNeq
-    2, // QuestionMark
-];
-
-pub const RIGHT_POWERS: [u8; 31] = [
-    12, // Ampersand
-    0, // Colon
-    0, // AtSign
-    0, // String
-    0, // Char
-    0, // Number
-    0, // DtBytestring
-    0, // LCurly
-    0, // RCurly
-    16, // LAngle
-    16, // RAngle
-    0, // LParen
-    0, // RParen
-    20, // Plus
-    20, // Minus
-    22, // Asterisk
-    22, // Slash
-    22, // Modulo
-    8, // BitwiseOr
-    10, // BitwiseXor
-    0, // BitwiseNot
-    18, // BitwiseShl
-    18, // BitwiseShr
-    6, // LogicalAnd
-    4, // LogicalOr
-    0, // LogicalNot
-    16, // RelationalLtEq
-    16, // RelationalGtEq
-    14, // RelationalEq
-    14, // RelationalNeq
-    1, // QuestionMark
-];
-
-// `PrefixOp::binding_power`.
-pub const PREFIX_POWER: u8 = 23;
-
 // The operator at the cursor, if its left power is not 0.
 pub struct InfixOp {
     pub p: Parser,
     pub left: u8,
     pub right: u8,
+    pub binary: bool,
 }
 
 // What one turn of `expr_binding_power` did: whether it took an operator and so makes an InfixExpr of all before it, and
@@ -153,30 +79,12 @@ pub struct Step {
     pub again: bool,
 }
 
-// Left and right; 0 and 0 where the kind is no infix operator.
-pub struct BindingPower(pub u8, pub u8);
-
-fn binding_power(k: u8) -> BindingPower
-    ensures { λ r. ⌜ r .0 ≡ left-power levels k ⌝ }
-    ensures { λ r. ⌜ r .1 ≡ right-power levels k ⌝ }
-{
-    let low = FIRST_OPERATOR <= k;
-    if low {
-        let high = k <= LAST_OPERATOR;
-        if high {
-            let i = (k - FIRST_OPERATOR) as usize;
-            return BindingPower(LEFT_POWERS[i], RIGHT_POWERS[i]);
-        }
-        return BindingPower(0, 0);
-    }
-    BindingPower(0, 0)
-}
-
 // `InfixOp::at`
 fn infix_op_at(p: Parser, t: &[u32]) -> InfixOp
     ensures { λ r. ⌜ ((ev rep pool : List ℕ) → view-of (r .p) ev rep pool ≡ peek (tokens (now (t .entry))) (expect-code E.InfixOperator (view-of p ev rep pool))) ⌝ }
     ensures { λ r. ⌜ r .left ≡ left-power levels (kind-of (drop (r .p .s .cursor .0) (tokens (now (t .entry))))) ⌝ }
     ensures { λ r. ⌜ r .right ≡ right-power levels (kind-of (drop (r .p .s .cursor .0) (tokens (now (t .entry))))) ⌝ }
+    ensures { λ r. ⌜ r .binary ≡ is-binary (kind-of (drop (r .p .s .cursor .0) (tokens (now (t .entry))))) ⌝ }
     ensures { λ r. ⌜ left (now (t .entry)) (r .p .s) ≤ left (now (t .entry)) (p .s) ⌝ }
     ensures { λ r. ⌜ ((r .left ≡ 0 → ⊥) → 0 < left (now (t .entry)) (r .p .s)) ⌝ }
 {
@@ -185,8 +93,9 @@ fn infix_op_at(p: Parser, t: &[u32]) -> InfixOp
     let power = binding_power(kind_at(t, here.s.cursor.0));
     InfixOp {
         p: here,
-        left: power.0,
-        right: power.1,
+        left: power.left,
+        right: power.right,
+        binary: power.binary,
     }
 }
 
@@ -213,6 +122,28 @@ pub fn expr(
     ensures { λ r. ⌜ (r .yes ≡ true → left (now (t .entry)) (r .p .s) ≤ left (now (t .entry)) (p .s) - 1) ⌝ }
 {
     expr_binding_power(p, t, ev, rep, pool, room, 0)
+}
+
+// An expression in brackets.
+pub fn dt_expr(
+    p: Parser,
+    t: &[u32],
+    ev: &mut [u32],
+    rep: &mut [u32],
+    pool: &mut [u32],
+    room: usize,
+) -> Parser
+    ensures { λ r. ⌜ said yes (view-of r (now (ev .exit)) (now (rep .exit)) (now (pool .exit))) ≡ walk-prog room (tokens (now (t .entry))) unlabelled dt-expr (view-of p (now (ev .entry)) (now (rep .entry)) (now (pool .entry))) ⌝ }
+    ensures { λ r. ⌜ left (now (t .entry)) (r .s) ≤ left (now (t .entry)) (p .s) - 1 ⌝ }
+{
+    let m = Marker::new(p.s);
+    let started = p.start(ev);
+    let opened = started.bump(t, ev);
+    let inner = expr(opened, t, ev, rep, pool, room);
+    let end = inner
+        .p
+        .expect(t, ev, rep, pool, Matcher::Kind(kind::RPAREN));
+    end.p.complete(ev, m, node::DT_EXPR)
 }
 
 pub fn expr_binding_power(
@@ -483,8 +414,7 @@ fn no_lhs(
     ensures { λ r. ⌜ left (now (t .entry)) (r .s) ≤ left (now (t .entry)) (p .s) ⌝ }
 {
     let op = infix_op_at(p, t);
-    let binary = 2 < op.left;
-    if binary {
+    if op.binary {
         return missing_lhs(op.p, t, ev, rep, pool, room);
     }
     let end = op.p.silent_at(t, kind::RPAREN);

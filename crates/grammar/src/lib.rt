@@ -12,6 +12,7 @@ use crate::preprocessor_directive::BEGIN_COND_SET;
 use crate::preprocessor_directive::Inside;
 use crate::preprocessor_directive::PREPROCESSOR_DIRECTIVES;
 use expr::OPERATORS_SET;
+use expr::dt_expr;
 use lexer::kind;
 use names::CONTINUE_COND_SET;
 use names::macro_invocation;
@@ -53,7 +54,7 @@ ghost use Rattle.definitions.specs.Token.{tokens};
 ghost use Rattle.definitions.specs.Skeleton.{Span};
 ghost use Rattle.definitions.specs.Prog.{Rule, yes, item, propvalues, eat-cell};
 ghost use Rattle.definitions.specs.Run.{truth};
-ghost use Rattle.definitions.specs.Grammar.{eat-inside, branch, cond-branches-and-end, eat-preprocessor-directive, dt-expr, cells, dt-cell-list, bits-value, propvalue, dt-property, dt-node-body, forbidden-property, no-property, eat-node-or-prop};
+ghost use Rattle.definitions.specs.Grammar.{eat-inside, branch, cond-branches-and-end, eat-preprocessor-directive, cells, dt-cell-list, bits-value, propvalue, dt-property, dt-node-body, forbidden-property, no-property, eat-node-or-prop};
 ghost use Rattle.machine.specs.Machine.{Machine};
 ghost use Rattle.machine.specs.Walk.{Walked, said, walk, closed, walk-rule, walk-prog, unlabelled};
 ghost use Rattle.parser.specs.View.{view-of, tested-as, left, marker-of, answer-of, span-of};
@@ -193,27 +194,6 @@ fn cell2(
         return Tested { p: q, yes: true };
     }
     operator
-}
-
-fn dt_expr(
-    p: Parser,
-    t: &[u32],
-    ev: &mut [u32],
-    rep: &mut [u32],
-    pool: &mut [u32],
-    room: usize,
-) -> Parser
-    ensures { λ r. ⌜ said yes (view-of r (now (ev .exit)) (now (rep .exit)) (now (pool .exit))) ≡ walk-prog room (tokens (now (t .entry))) unlabelled dt-expr (view-of p (now (ev .entry)) (now (rep .entry)) (now (pool .entry))) ⌝ }
-    ensures { λ r. ⌜ left (now (t .entry)) (r .s) ≤ left (now (t .entry)) (p .s) - 1 ⌝ }
-{
-    let m = Marker::new(p.s);
-    let started = p.start(ev);
-    let opened = started.bump(t, ev);
-    let inner = expr::expr(opened, t, ev, rep, pool, room);
-    let end = inner
-        .p
-        .expect(t, ev, rep, pool, Matcher::Kind(kind::RPAREN));
-    end.p.complete(ev, m, node::DT_EXPR)
 }
 
 // The caller's marker. yes: Ok; no: the cells were cut off.

@@ -5,7 +5,7 @@ use Rattle.definitions.specs.Token.{tokens}
 use Rattle.machine.specs.Machine.{peek}
 use Rattle.machine.specs.Walk.{Walked, perform, unlabelled}
 use Rattle.parser.specs.View.{left}
-use Rattle.expr.specs.Power.{levels, left-power, right-power}
+use Rattle.power.specs.Power.{levels, left-power, right-power, is-binary}
 use Rattle.expr.proofs.Levels.{left-end}
 use borrow.Author.Needs.{needs}
 use Rattle.expr.proofs.infix_op_at.Statement.{statement}
@@ -36,10 +36,13 @@ returns c =
       (
         binding-power′ .ensures .0 ∙ ap (left-power levels) (kind-at′ .ensures .0),
         (
-          binding-power′ .ensures .1 ∙ ap (right-power levels) (kind-at′ .ensures .0),
+          binding-power′ .ensures .1 .0 ∙ ap (right-power levels) (kind-at′ .ensures .0),
           (
-            omega (arith, add-expected′ .ensures .1 tk, peek′ .ensures .1),
-            λ some. let h = kind-at′ .ensures .1 (λ e. some (binding-power′ .ensures .0 ∙ ap (left-power levels) e ∙ left-end)) in omega (arith, h),
+            binding-power′ .ensures .1 .1 ∙ ap is-binary (kind-at′ .ensures .0),
+            (
+              omega (arith, add-expected′ .ensures .1 tk, peek′ .ensures .1),
+              λ some. let h = kind-at′ .ensures .1 (λ e. some (binding-power′ .ensures .0 ∙ ap (left-power levels) e ∙ left-end)) in omega (arith, h),
+            ),
           ),
         ),
       ),

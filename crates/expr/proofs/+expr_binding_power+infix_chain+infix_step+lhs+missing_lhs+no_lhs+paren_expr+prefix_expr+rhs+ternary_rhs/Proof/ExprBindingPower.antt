@@ -9,8 +9,8 @@ use Rattle.definitions.specs.Check.{tell, if_then_else_}
 use Rattle.definitions.specs.Grammar.{lhs as lhs-prog, infix-turn, expr-binding-power-body, grammar}
 use Rattle.machine.specs.Walk.{said}
 use Rattle.machine.proofs.Way.{c-ret, c-yes, c-no, c-fn, way, rule-closed, rule-body}
+use Rattle.power.proofs.Below.{true-false}
 use Rattle.expr.proofs.Chain.{chained-on, chained-off}
-use Rattle.expr.proofs.Levels.{true-false}
 use Rattle.expr.proofs.expr_binding_power.Reads as reads
 use Rattle.expr.proofs.+expr_binding_power+infix_chain+infix_step+lhs+missing_lhs+no_lhs+paren_expr+prefix_expr+rhs+ternary_rhs.Lts-expr_binding_power as lts
 use Rattle.expr.proofs.+expr_binding_power+infix_chain+infix_step+lhs+missing_lhs+no_lhs+paren_expr+prefix_expr+rhs+ternary_rhs.Proof.Measures.{expr-binding-power-at, expr-binding-power-claims}

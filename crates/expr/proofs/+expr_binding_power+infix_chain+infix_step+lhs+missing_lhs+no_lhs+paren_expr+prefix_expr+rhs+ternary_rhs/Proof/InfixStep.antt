@@ -5,7 +5,8 @@ use native.Mathlib.Omega.{arith}
 use borrow.Author.Tests.{eqb-false}
 use Rattle.machine.specs.Walk.{unlabelled}
 use Rattle.machine.proofs.Way.{c-act, c-seq, c-fn, way}
-use Rattle.expr.proofs.Levels.{true-false, turn-none, turn-weaker, turn-ternary, turn-binary}
+use Rattle.power.proofs.Below.{true-false}
+use Rattle.expr.proofs.Levels.{turn-none, turn-weaker, turn-ternary, turn-binary}
 use Rattle.expr.proofs.infix_step.Reads as reads
 use Rattle.expr.proofs.+expr_binding_power+infix_chain+infix_step+lhs+missing_lhs+no_lhs+paren_expr+prefix_expr+rhs+ternary_rhs.Lts-infix_step as lts
 use Rattle.expr.proofs.+expr_binding_power+infix_chain+infix_step+lhs+missing_lhs+no_lhs+paren_expr+prefix_expr+rhs+ternary_rhs.Proof.Measures.{infix-step-at, infix-step-claims}
@@ -20,7 +21,7 @@ returns t c =
     let s′ = infix-op-at′ .before .before .before .before .before in (
       way (s′ .args .room) (turn-none (s′ .args .min-bp) (infix-op-at′ .infix-op-at .result .left) (infix-op-at′ .infix-op-at .result .right) (infix-op-at′ .infix-op-at .ensures .0 _ _ _) (infix-op-at′ .infix-op-at .ensures .1 .0) (infix-op-at′ .infix-op-at .ensures .1 .1 .0) (if1′ .if1 .taken)),
       (
-        omega (arith, infix-op-at′ .infix-op-at .ensures .1 .1 .1 .0),
+        omega (arith, infix-op-at′ .infix-op-at .ensures .1 .1 .1 .1 .0),
         λ e. true-false (sym e),
       ),
     )
@@ -33,7 +34,7 @@ returns-2 t c =
     let s′ = infix-op-at′ .before .before .before .before .before in (
       way (s′ .args .room) (turn-weaker (s′ .args .min-bp) (infix-op-at′ .infix-op-at .result .left) (infix-op-at′ .infix-op-at .result .right) (infix-op-at′ .infix-op-at .ensures .0 _ _ _) (infix-op-at′ .infix-op-at .ensures .1 .0) (infix-op-at′ .infix-op-at .ensures .1 .1 .0) (if1′ .if1 .left) (if2′ .if2 .taken)),
       (
-        omega (arith, infix-op-at′ .infix-op-at .ensures .1 .1 .1 .0),
+        omega (arith, infix-op-at′ .infix-op-at .ensures .1 .1 .1 .1 .0),
         λ e. true-false (sym e),
       ),
     )
@@ -80,8 +81,8 @@ returns-3 t c =
     let s′ = infix-op-at′ .before .before .before .before .before in (
       way (s′ .args .room) (turn-ternary (s′ .args .min-bp) (infix-op-at′ .infix-op-at .result .left) (infix-op-at′ .infix-op-at .result .right) (infix-op-at′ .infix-op-at .ensures .0 _ _ _) (infix-op-at′ .infix-op-at .ensures .1 .0) (infix-op-at′ .infix-op-at .ensures .1 .1 .0) (if1′ .if1 .left) (if2′ .if2 .left) (if3′ .if3 .taken) (c-seq (c-act (bump′ .bump .ensures .0 unlabelled _ _)) (c-fn (s′ .args .room) (ternary-rhs′ .ternary-rhs .ensures .0)))),
       (
-        omega (arith, infix-op-at′ .infix-op-at .ensures .1 .1 .1 .0, bump′ .bump .ensures .1, ternary-rhs′ .ternary-rhs .ensures .1),
-        λ e. omega (arith, infix-op-at′ .infix-op-at .ensures .1 .1 .1 .0, bump′ .bump .ensures .1, ternary-rhs′ .ternary-rhs .ensures .1, infix-op-at′ .infix-op-at .ensures .1 .1 .1 .1 (eqb-false (infix-op-at′ .infix-op-at .result .left) 0 (if1′ .if1 .left))),
+        omega (arith, infix-op-at′ .infix-op-at .ensures .1 .1 .1 .1 .0, bump′ .bump .ensures .1, ternary-rhs′ .ternary-rhs .ensures .1),
+        λ e. omega (arith, infix-op-at′ .infix-op-at .ensures .1 .1 .1 .1 .0, bump′ .bump .ensures .1, ternary-rhs′ .ternary-rhs .ensures .1, infix-op-at′ .infix-op-at .ensures .1 .1 .1 .1 .1 (eqb-false (infix-op-at′ .infix-op-at .result .left) 0 (if1′ .if1 .left))),
       ),
     )
 
@@ -114,7 +115,7 @@ returns-4 t c =
     let s′ = infix-op-at′ .before .before .before .before .before in (
       way (s′ .args .room) (turn-binary (s′ .args .min-bp) (infix-op-at′ .infix-op-at .result .left) (infix-op-at′ .infix-op-at .result .right) (infix-op-at′ .infix-op-at .ensures .0 _ _ _) (infix-op-at′ .infix-op-at .ensures .1 .0) (infix-op-at′ .infix-op-at .ensures .1 .1 .0) (if1′ .if1 .left) (if2′ .if2 .left) (if3′ .if3 .left) (c-seq (c-act (bump′ .bump .ensures .0 unlabelled _ _)) (c-fn (s′ .args .room) (rhs′ .rhs .ensures .0)))),
       (
-        omega (arith, infix-op-at′ .infix-op-at .ensures .1 .1 .1 .0, bump′ .bump .ensures .1, rhs′ .rhs .ensures .1),
-        λ e. omega (arith, infix-op-at′ .infix-op-at .ensures .1 .1 .1 .0, bump′ .bump .ensures .1, rhs′ .rhs .ensures .1, infix-op-at′ .infix-op-at .ensures .1 .1 .1 .1 (eqb-false (infix-op-at′ .infix-op-at .result .left) 0 (if1′ .if1 .left))),
+        omega (arith, infix-op-at′ .infix-op-at .ensures .1 .1 .1 .1 .0, bump′ .bump .ensures .1, rhs′ .rhs .ensures .1),
+        λ e. omega (arith, infix-op-at′ .infix-op-at .ensures .1 .1 .1 .1 .0, bump′ .bump .ensures .1, rhs′ .rhs .ensures .1, infix-op-at′ .infix-op-at .ensures .1 .1 .1 .1 .1 (eqb-false (infix-op-at′ .infix-op-at .result .left) 0 (if1′ .if1 .left))),
       ),
     )

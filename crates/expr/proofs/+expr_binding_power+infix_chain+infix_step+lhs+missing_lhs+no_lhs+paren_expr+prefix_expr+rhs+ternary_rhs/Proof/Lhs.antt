@@ -6,7 +6,7 @@ use Rattle.definitions.specs.Token.{tokens}
 use Rattle.definitions.specs.Grammar.{lhs as lhs-prog}
 use Rattle.machine.specs.Walk.{walk-rule, unlabelled}
 use Rattle.machine.proofs.Way.{c-walk, c-ret, c-seq, c-yes, c-no, c-fn, way}
-use Rattle.expr.proofs.Levels.{true-false}
+use Rattle.power.proofs.Below.{true-false}
 use Rattle.expr.proofs.lhs.Reads as reads
 use Rattle.expr.proofs.+expr_binding_power+infix_chain+infix_step+lhs+missing_lhs+no_lhs+paren_expr+prefix_expr+rhs+ternary_rhs.Lts-lhs as lts
 use Rattle.expr.proofs.+expr_binding_power+infix_chain+infix_step+lhs+missing_lhs+no_lhs+paren_expr+prefix_expr+rhs+ternary_rhs.Proof.Measures.{lhs-at, lhs-claims}

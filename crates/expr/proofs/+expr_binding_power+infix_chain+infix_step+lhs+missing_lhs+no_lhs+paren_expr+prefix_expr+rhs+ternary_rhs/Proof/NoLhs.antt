@@ -15,7 +15,7 @@ infix-op-at-requires t c κs = tt
 
 pub missing-lhs-requires : (t : ℕ) → lts.Need-missing-lhs-requires (no-lhs-claims t) (no-lhs-at t) reads.Post
 missing-lhs-requires t c κs =
-    let s′ = c .before .before .before .before .before .before .before .before .before .before in
+    let s′ = c .before .before .before .before .before .before .before .before .before in
     (omega (arith, s′ .pre .0), tt)
 
 pub same-length : (t : ℕ) → lts.Need-same-length (no-lhs-claims t) (no-lhs-at t) reads.Post
@@ -38,10 +38,10 @@ unfolding silent
 returns t c =
     let missing-lhs′ = c .before .before .before .before .before .before in
     let if1′ = missing-lhs′ .before .before .before .before in
-    let infix-op-at′ = if1′ .before .before in
+    let infix-op-at′ = if1′ .before in
     let s′ = infix-op-at′ .before .before .before .before .before in (
-      way (s′ .args .room) (c-yes (at-binary (infix-op-at′ .infix-op-at .result .left) (infix-op-at′ .infix-op-at .ensures .0 _ _ _) (infix-op-at′ .infix-op-at .ensures .1 .0)) (if1′ .if1 .taken) (c-fn (s′ .args .room) (missing-lhs′ .missing-lhs .ensures .0))),
-      omega (arith, infix-op-at′ .infix-op-at .ensures .1 .1 .1 .0, missing-lhs′ .missing-lhs .ensures .1),
+      way (s′ .args .room) (c-yes (at-binary (infix-op-at′ .infix-op-at .result .binary) (infix-op-at′ .infix-op-at .ensures .0 _ _ _) (infix-op-at′ .infix-op-at .ensures .1 .1 .1 .0)) (if1′ .if1 .taken) (c-fn (s′ .args .room) (missing-lhs′ .missing-lhs .ensures .0))),
+      omega (arith, infix-op-at′ .infix-op-at .ensures .1 .1 .1 .1 .0, missing-lhs′ .missing-lhs .ensures .1),
     )
 
 pub silent-at-requires : (t : ℕ) → lts.Need-silent-at-requires (no-lhs-claims t) (no-lhs-at t) reads.Post
@@ -72,10 +72,10 @@ returns-2 t c =
     let if2′ = error′ .before .before .before .before in
     let silent-at′ = if2′ .before in
     let if1′ = silent-at′ .before in
-    let infix-op-at′ = if1′ .before .before in
+    let infix-op-at′ = if1′ .before in
     let s′ = infix-op-at′ .before .before .before .before .before in (
-      way (s′ .args .room) (c-no (at-binary (infix-op-at′ .infix-op-at .result .left) (infix-op-at′ .infix-op-at .ensures .0 _ _ _) (infix-op-at′ .infix-op-at .ensures .1 .0)) (if1′ .if1 .left) (c-yes (c-act (silent-at′ .silent-at .ensures .0 unlabelled _ _ _)) (if2′ .if2 .taken) (c-seq (c-walk (error′ .error .ensures .0 (walk-rule (s′ .args .room) (tokens (s′ .args .t .now))) unlabelled)) c-ret))),
-      omega (arith, infix-op-at′ .infix-op-at .ensures .1 .1 .1 .0, silent-at′ .silent-at .ensures .1 .0, silent-at′ .silent-at .ensures .1 .1 (if2′ .if2 .taken), error′ .error .ensures .1),
+      way (s′ .args .room) (c-no (at-binary (infix-op-at′ .infix-op-at .result .binary) (infix-op-at′ .infix-op-at .ensures .0 _ _ _) (infix-op-at′ .infix-op-at .ensures .1 .1 .1 .0)) (if1′ .if1 .left) (c-yes (c-act (silent-at′ .silent-at .ensures .0 unlabelled _ _ _)) (if2′ .if2 .taken) (c-seq (c-walk (error′ .error .ensures .0 (walk-rule (s′ .args .room) (tokens (s′ .args .t .now))) unlabelled)) c-ret))),
+      omega (arith, infix-op-at′ .infix-op-at .ensures .1 .1 .1 .1 .0, silent-at′ .silent-at .ensures .1 .0, silent-at′ .silent-at .ensures .1 .1 (if2′ .if2 .taken), error′ .error .ensures .1),
     )
 
 pub error-requires-2 : (t : ℕ) → lts.Need-error-requires-2 (no-lhs-claims t) (no-lhs-at t) reads.Post
@@ -103,8 +103,8 @@ returns-3 t c =
     let if2′ = error2′ .before .before .before .before in
     let silent-at′ = if2′ .before in
     let if1′ = silent-at′ .before in
-    let infix-op-at′ = if1′ .before .before in
+    let infix-op-at′ = if1′ .before in
     let s′ = infix-op-at′ .before .before .before .before .before in (
-      way (s′ .args .room) (c-no (at-binary (infix-op-at′ .infix-op-at .result .left) (infix-op-at′ .infix-op-at .ensures .0 _ _ _) (infix-op-at′ .infix-op-at .ensures .1 .0)) (if1′ .if1 .left) (c-no (c-act (silent-at′ .silent-at .ensures .0 unlabelled _ _ _)) (if2′ .if2 .left) (c-seq (c-walk (error2′ .error2 .ensures .0 (walk-rule (s′ .args .room) (tokens (s′ .args .t .now))) unlabelled)) c-ret))),
-      omega (arith, infix-op-at′ .infix-op-at .ensures .1 .1 .1 .0, silent-at′ .silent-at .ensures .1 .0, error2′ .error2 .ensures .1),
+      way (s′ .args .room) (c-no (at-binary (infix-op-at′ .infix-op-at .result .binary) (infix-op-at′ .infix-op-at .ensures .0 _ _ _) (infix-op-at′ .infix-op-at .ensures .1 .1 .1 .0)) (if1′ .if1 .left) (c-no (c-act (silent-at′ .silent-at .ensures .0 unlabelled _ _ _)) (if2′ .if2 .left) (c-seq (c-walk (error2′ .error2 .ensures .0 (walk-rule (s′ .args .room) (tokens (s′ .args .t .now))) unlabelled)) c-ret))),
+      omega (arith, infix-op-at′ .infix-op-at .ensures .1 .1 .1 .1 .0, silent-at′ .silent-at .ensures .1 .0, error2′ .error2 .ensures .1),
     )

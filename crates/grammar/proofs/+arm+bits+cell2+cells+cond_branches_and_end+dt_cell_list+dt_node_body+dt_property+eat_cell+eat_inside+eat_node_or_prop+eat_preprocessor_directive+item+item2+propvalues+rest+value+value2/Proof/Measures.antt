@@ -30,7 +30,7 @@ use Rattle.parser.proofs.Parser.at_end.Reads as at-end-reads
 use Rattle.parts.proofs.at_item.Reads as at-item-reads
 use Rattle.parser.proofs.Parser.bump.Reads as bump-reads
 use Rattle.parser.proofs.Parser.complete.Reads as complete-reads
-use Rattle.grammar.proofs.dt_expr.Reads as dt-expr-reads
+use Rattle.expr.proofs.dt_expr.Reads as dt-expr-reads
 use Rattle.parser.proofs.Parser.eat.Reads as eat-reads
 use Rattle.parts.proofs.eat_dts_directive.Reads as eat-dts-directive-reads
 use Rattle.parts.proofs.eat_dts_include.Reads as eat-dts-include-reads

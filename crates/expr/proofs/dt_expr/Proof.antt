@@ -4,8 +4,8 @@ use Rattle.definitions.specs.Token.{tokens}
 use Rattle.definitions.specs.Grammar.{dt-expr}
 use Rattle.machine.specs.Walk.{walk-rule, unlabelled}
 use Rattle.machine.proofs.Way.{c-walk, c-act, c-ret, c-seq, c-mark, completed, c-call, way}
-use Rattle.grammar.proofs.dt_expr.Statement.{statement}
-use Rattle.grammar.proofs.dt_expr.Tie as tie
+use Rattle.expr.proofs.dt_expr.Statement.{statement}
+use Rattle.expr.proofs.dt_expr.Tie as tie
 
 new-requires : tie.Need-new-requires
 new-requires c κs = tt

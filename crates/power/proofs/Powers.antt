@@ -3,12 +3,12 @@ use Prim.Native.Nat.{ℕ, _-_, _≤_, _<_}
 use mathlib.Core.Path.{_≡_, refl, sym, ap, _∙_}
 use mathlib.Core.Bool.{Bool, true, false, cond, _&&_}
 use mathlib.Core.List.{List, [], _∷_}
-use lib.Dec.{leb, eqb}
+use lib.Dec.{ltb, leb, eqb}
 use lib.ListN.{getD}
 use borrow.Author.Tests.{eqb-true}
 use Rattle.definitions.specs.Token.{one-of}
-use Rattle.expr.specs.Power.{levels, left-power, right-power}
-use Rattle.expr.proofs.Levels.{both-left, both-right, all-below, at-below}
+use Rattle.power.specs.Power.{levels, left-power, right-power, is-binary}
+use Rattle.power.proofs.Below.{both-left, both-right, same, same-true, all-below, at-below}
 
 abbrev pub lefts : List ℕ
 lefts =
@@ -43,3 +43,15 @@ rights-at k h low high e f =
     ap (λ (c : Bool). look rights c high k) (sym e)
     ∙ ap (λ (c : Bool). look rights (leb 30 k) c k) (sym f)
     ∙ eqb-true (look rights (leb 30 k) (leb k 60) k) (right-power levels k) (both-right (eqb (look lefts (leb 30 k) (leb k 60) k) (left-power levels k)) _ (at-below right 256 k table-right h))
+
+-- every infix operator but the ternary binds by more than 2, and nothing else does
+above-two : ℕ → Bool
+above-two k = same (ltb 2 (left-power levels k)) (is-binary k)
+
+table-above-two : all-below above-two 256 ≡ true
+unfolding all-below above-two same left-power is-binary one-of
+table-above-two = refl
+
+pub binary-at : (k : ℕ) → k < 256 → (low high : Bool) → leb 30 k ≡ low → leb k 60 ≡ high → ltb 2 (look lefts low high k) ≡ is-binary k
+unfolding above-two
+binary-at k h low high e f = ap (ltb 2) (lefts-at k h low high e f) ∙ same-true (ltb 2 (left-power levels k)) (is-binary k) (at-below above-two 256 k table-above-two h)

@@ -1,9 +1,9 @@
 -- The binding powers of a kind, read off the definitions' levels.
 use Prim.Native.Nat.{ℕ}
-use mathlib.Core.Bool.{cond}
+use mathlib.Core.Bool.{Bool, cond}
 use mathlib.Core.List.{List, [], _∷_}
 use Rattle.definitions.specs.Token.{one-of}
-use Rattle.definitions.specs.Grammar.{Level, ternary, binding-power}
+use Rattle.definitions.specs.Grammar.{INFIX-BUT-TERNARY, Level, ternary, binding-power}
 
 -- all infix operators
 abbrev pub levels : List Level
@@ -19,3 +19,8 @@ unfoldable pub right-power : List Level → ℕ → ℕ
 unfolding one-of
 right-power [] k = 0
 right-power (l ∷ ls) k = let r = right-power ls k in cond (one-of (l .kinds) k) (l .right) r
+
+-- an infix operator other than the ternary
+unfoldable pub is-binary : ℕ → Bool
+unfolding one-of
+is-binary k = one-of INFIX-BUT-TERNARY k
