@@ -37,7 +37,7 @@ CALLED = {
     "Rattle.parts.proofs": "after_propvalue at_cells_end at_cells_recovery at_item eat_dts_directive eat_dts_include eat_node_or_prop_prefix eat_plain_cell unfinished",
     "Rattle.names.proofs": "macro_invocation silent_eat_reference",
     "Rattle.expr.proofs": "dt_expr",
-    "Rattle.grammar.proofs": "told forbidden_property node_end",
+    "Rattle.outside.proofs": "told forbidden_property node_end",
 }
 
 # Where a name comes from.
@@ -57,7 +57,8 @@ MODULES = {
     "Rattle.parser.specs.View": "left view-of answer-of span-of",
     "Rattle.grammar.specs.Parts": "inside-of",
     "Rattle.machine.proofs.Way": "c-walk c-act c-ret c-seq c-yes c-no c-told c-mark completed c-call c-fn way rule-closed rule-body",
-    "Rattle.parts.proofs.Steps": "true-false c-brace c-said-no c-said-also c-ret-yes c-ret-no c-any closing ignored ahead-falls told-is told-yes",
+    "Rattle.names.proofs.Kit": "ahead-falls",
+    "Rattle.parts.proofs.Steps": "true-false c-brace c-said-no c-said-also c-ret-yes c-ret-no c-any closing ignored told-is told-yes",
     "Rattle.grammar.proofs.Laws": "cell-body-parts",
     "Rattle.parts.specs.View": "found",
     "Rattle.grammar.proofs.Ways": "c-same c-part c-call-on c-part-on closes part-on again-part last-yes last-no as-yes c-said-other other-no c-answered c-inside c-assoc told-left found-other",

@@ -1,6 +1,8 @@
-# Writes the proofs of the functions of crate `grammar` that are not in its cycle of calls. Run in the repository:
-#   rt dev grammar --generated target/generated/grammar; python3 tools/proofs/grammar_outside_proofs.py target/generated/grammar; rt fmt
-# The first command writes what the check generates for each function; it may fail, and writes all the same. Where a function has no proof
+# Writes the proofs of the functions that stand beside the grammar's cycle of calls: of crate `outside`, and of crate `grammar` those that are
+# not in the cycle. Run in the repository:
+#   rt dev outside --generated target/generated/outside; rt dev grammar --generated target/generated/grammar
+#   python3 tools/proofs/grammar_outside_proofs.py target/generated/outside target/generated/grammar; rt fmt
+# The first line writes what the check generates for each function; it may fail, and writes all the same. Where a function has no proof
 # file yet, give it one with a hole first, or the check searches for each need. The cycle: grammar_cycle_proofs.py.
 import os
 import re
@@ -41,7 +43,9 @@ MODULES = {
     "Rattle.machine.specs.Walk": "Walked walk walk-rule walk-prog unlabelled",
     "Rattle.machine.proofs.Way": "Way c-walk c-act c-ret c-seq c-yes c-no c-mark completed c-call c-fn way",
     "Rattle.parser.specs.View": "left view-of",
-    "Rattle.parts.proofs.Steps": "true-false c-ret-no c-any c-flag ahead-falls went-on ended-yes",
+    "Rattle.names.proofs.Kit": "ahead-falls",
+    "Rattle.names.proofs.Ways": "c-flag turns stops-yes",
+    "Rattle.parts.proofs.Steps": "true-false c-ret-no c-any",
     "Rattle.grammar.specs.declared.entry.Entrypoint": "Entrypoint",
     "Rattle.grammar.specs.Parts": "entry-of",
     "Rattle.grammar.proofs.Ways": "c-part-on part-on again-part last-yes c-assoc",
@@ -76,7 +80,7 @@ use borrow.Author.Needs.{needs}
 use Rattle.definitions.specs.Token.{tokens}
 use Rattle.parser.specs.View.{span-of}
 use Rattle.machine.proofs.Way.{c-walk, c-act, c-ret, c-seq, c-yes, c-no, completed}
-use Rattle.parts.proofs.Steps.{c-unclosed, closes-to}"""
+use Rattle.names.proofs.Ways.{c-unclosed, closes-to}"""
 
 
 class NodeEnd(Crate):
@@ -101,7 +105,7 @@ def asked(room):
     return f"(walk-rule {room} (tokens {ROWS})) unlabelled"
 
 
-def values_and_cells(c):
+def answers(c):
     c.proof("told", {
         "returns": "(refl, sym (ap truth (@if1 .taken)))",
         "returns-2": "(refl, sym (ap truth (@if1 .left)))",
@@ -137,11 +141,14 @@ def directive(c):
     }, "`catch_unmatched_pp_directive`: an `#endif`, or a branch, without its conditional.")
 
 
-def source_file(c):
+def unmatched_rcurly(c):
     marked = "c-mark (@new .ensures) (@start .ensures .0 _ _) (c-seq (c-act (@bump .ensures .0 b _ _)) c-ret) (completed 9 (@complete .ensures .0 _ _))"
-    c.proof("entry/unmatched_rcurly", {
+    c.proof("unmatched_rcurly", {
         "returns": f"(λ ask b. c-seq (c-walk (@error .ensures .0 ask b)) ({marked}) .is, {LEFT})",
     }, "`unmatched_rcurly`: a report, and the bracket in a node of its own.")
+
+
+def source_file(c):
     rcurly = "(c-act (@silent-at .ensures .0 unlabelled _ _ _))"
     caught = "(c-fn 64 (@catch-unmatched-pp-directive .ensures .0))"
     opened = "sourcefile-part silent"
@@ -167,18 +174,18 @@ def source_file(c):
 def left_over(c):
     rest = "walk ask (tokens t) b (loop left-over-turn)"
     end = "(c-act (@at-end .ensures .0 b _ rep pool))"
-    c.proof("entry/bump_all", {
+    c.proof("bump_all", {
         "loop-holds": "(λ ask b rep pool. refl, (le-refl _, refl))",
         "loop-less": LEFT,
-        "loop-again": ("left-over-turn", f"(λ ask b rep pool. went-on (c-yes {{t = true}} (c-no {end} (@if1 .left) c-ret) refl (c-seq (c-act (@bump .ensures .0 b rep pool)) c-ret)) (ahead-falls {ROWS} (@loop .q .s) (@bump .result .s) ({LEFT})) ∙ @loop .inv .0 ask b rep pool, ({LEFT}, {KEPT}))"),
-        "returns": ("left-over-turn", f"(λ ask b rep pool. ended-yes (c-no {{t = false}} (c-yes {end} (@if1 .taken) c-ret) refl c-ret) ∙ @loop .inv .0 ask b rep pool, {LEFT})"),
+        "loop-again": ("left-over-turn", f"(λ ask b rep pool. turns (c-yes {{t = true}} (c-no {end} (@if1 .left) c-ret) refl (c-seq (c-act (@bump .ensures .0 b rep pool)) c-ret)) (ahead-falls {ROWS} (@loop .q .s) (@bump .result .s) ({LEFT})) ∙ @loop .inv .0 ask b rep pool, ({LEFT}, {KEPT}))"),
+        "returns": ("left-over-turn", f"(λ ask b rep pool. stops-yes (c-no {{t = false}} (c-yes {end} (@if1 .taken) c-ret) refl c-ret) ∙ @loop .inv .0 ask b rep pool, {LEFT})"),
     }, "`bump_all`: the loop of `left-over-turn`.",
         inv=("t ev₀ q₀ ev q",
              f"((ask : Rule → Machine → Walked) (b : Span) (rep pool : List ℕ) → {rest} (view-of q ev rep pool) ≡ {rest} (view-of q₀ ev₀ rep pool)) × ((left t (q .s) ≤ left t (q₀ .s)) × (length ev ≡ length ev₀))"),
         measure="left t (q .s)")
     end = "(c-act (@at-end .ensures .0 b _ _ _))"
     wrapped = "c-mark (@new .ensures) (@start .ensures .0 _ _) (c-seq (c-seq (c-walk (@error .ensures .0 ask b)) (c-walk (@bump-all .ensures .0 ask b _ _))) c-ret) (completed 9 (@complete .ensures .0 _ _))"
-    c.proof("entry/left_over", {
+    c.proof("left_over", {
         "returns": ("left-over", f"(λ ask b. c-yes {end} (@if1 .taken) c-ret .is, {LEFT})"),
         "returns-2": ("left-over", f"(λ ask b. c-no {end} (@if1 .left) (c-seq (c-act (@add-expected .ensures .0 (tokens {ROWS}) b _ _ _)) ({wrapped})) .is, {LEFT})"),
     }, "`left_over`: what an entry leaves, in one node.")
@@ -197,16 +204,18 @@ def entries(c):
     }, "`parse`: a new parser, the entry, and what it leaves.")
 
 
-def main(generated):
-    crate = os.path.join("crates", "grammar")
-    c = Grammar("grammar", generated, crate, CALLS, LOOKS)
-    values_and_cells(c)
-    node_end(NodeEnd("grammar", generated, crate, CALLS, LOOKS))
+def main(outside, grammar):
+    crate = os.path.join("crates", "outside")
+    c = Grammar("outside", outside, crate, CALLS, LOOKS)
+    answers(c)
+    node_end(NodeEnd("outside", outside, crate, CALLS, LOOKS))
+    unmatched_rcurly(c)
+    left_over(c)
+    c = Grammar("grammar", grammar, os.path.join("crates", "grammar"), CALLS, LOOKS)
     directive(c)
     source_file(c)
-    left_over(c)
     entries(c)
 
 
 if __name__ == "__main__":
-    main(sys.argv[1])
+    main(sys.argv[1], sys.argv[2])

@@ -44,7 +44,7 @@ MODULES = {
     "Rattle.names.specs.Parts": "part",
     "Rattle.names.proofs.Ways": "whole ends opened does acts lands calls tells seq shown if-no if-yes completes ignores turns stops-yes stops-no",
     "Rattle.names.proofs.Opened": "silent-eat-is eat-is expect-is macro-argument-turn-is argument-list-is macro-invocation-is name-matches-is name-expected-is name-consume-is name-at-is address-matches-is address-expected-is address-consume-is reference-matches-is reference-expected-is reference-consume-is path-segment-is at-segment-is path-turn-is path-rest-is path-is reference-noamp-is",
-    "Rattle.names.proofs.Kit": "flags false-true fell some-left few-left",
+    "Rattle.names.proofs.Kit": "flags false-true ahead-falls some-left few-left",
     "Rattle.names.proofs.Arguments": "part-opens part-ends part-comma part-closes part-plain part-less part-inner argue-comma argue-end argue-on argue-whole comma-some inside-some inside-most",
 }
 
@@ -161,7 +161,7 @@ def main(generated):
     c.proof("macros/arguments", {
         "loop-holds": "(λ ask b codes rep pool. refl, (le-refl _, refl))",
         "loop-less": "omega (flags, PROGRESS)",
-        "loop-again": f"(λ ask b codes rep pool. turns (opened macro-argument-turn-is (if-yes {argument('if1', ('yes', 'taken'))} refl (seq (acts (@bump .ensures .0 b codes rep pool)) tells))) (fell {t} (@loop .q) (@bump .result) (omega (flags, PROGRESS))) ∙ @loop .inv .0 ask b codes rep pool, (omega (flags, PROGRESS), omega (arith, KEPT)))",
+        "loop-again": f"(λ ask b codes rep pool. turns (opened macro-argument-turn-is (if-yes {argument('if1', ('yes', 'taken'))} refl (seq (acts (@bump .ensures .0 b codes rep pool)) tells))) (ahead-falls {t} (@loop .q) (@bump .result) (omega (flags, PROGRESS))) ∙ @loop .inv .0 ask b codes rep pool, (omega (flags, PROGRESS), omega (arith, KEPT)))",
         "returns": f"(λ ask b codes rep pool. stops-yes (opened macro-argument-turn-is (if-no {argument('if1', ('no', 'left'))} refl tells)) ∙ @loop .inv .0 ask b codes rep pool, omega (flags, PROGRESS))",
     }, "`arguments`: the loop of `macro-argument-turn`.", tests={"bump-argument": "if1"},
         inv=("t ev₀ q₀ ev q",
@@ -225,7 +225,7 @@ def main(generated):
     c.proof("reference/path_segments", {
         "loop-holds": "(λ ask b. refl, (le-refl _, (refl, (refl, refl))))",
         "loop-less": "omega (flags, PROGRESS)",
-        "loop-again": f"(λ ask b. turns (opened path-turn-is (if-yes {does('at-segment', '_ _ _')} {answered('if1', 'taken')} {then(then(does('expect'), lands('path-segment')), 'tells')})) (fell {t} (@loop .q) (@path-segment .result) (omega (flags, PROGRESS))) ∙ @loop .inv .0 ask b, (omega (flags, PROGRESS), (omega (arith, KEPT), (omega (arith, KEPT), omega (arith, KEPT)))))",
+        "loop-again": f"(λ ask b. turns (opened path-turn-is (if-yes {does('at-segment', '_ _ _')} {answered('if1', 'taken')} {then(then(does('expect'), lands('path-segment')), 'tells')})) (ahead-falls {t} (@loop .q) (@path-segment .result) (omega (flags, PROGRESS))) ∙ @loop .inv .0 ask b, (omega (flags, PROGRESS), (omega (arith, KEPT), (omega (arith, KEPT), omega (arith, KEPT)))))",
         "returns": f"(λ ask b. stops-yes (opened path-turn-is (if-no {does('at-segment', '_ _ _')} {answered('if1', 'left')} tells)) ∙ @loop .inv .0 ask b, omega (flags, PROGRESS))",
     }, "`path_segments`: the loop of `path-turn`.",
         inv=("codes₀ t ev₀ rep₀ pool₀ q₀ codes ev rep pool q",

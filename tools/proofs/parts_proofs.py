@@ -49,9 +49,11 @@ MODULES = {
     "Rattle.machine.proofs.Turns": "few-rows",
     "Rattle.machine.proofs.Way": "c-walk c-act c-ret c-seq c-yes c-no c-mark completed",
     "Rattle.parser.specs.View": "view left answer-of",
+    "Rattle.names.proofs.Kit": "ahead-falls",
+    "Rattle.names.proofs.Ways": "closes-to c-flag",
     "Rattle.parts.specs.View": "own-name goes found",
     "Rattle.parts.specs.Parts": "at-values-end label-or-name",
-    "Rattle.parts.proofs.Steps": "true-false c-started c-unstarted c-ret-yes c-ret-no closes-to c-any c-flag closing ignored went-on ended-yes ahead-falls goes-one found-one went-told ended-told other-ends no-also yes-also again-also some-is at-one at-none taken-some starting-some some-left",
+    "Rattle.parts.proofs.Steps": "true-false c-started c-unstarted c-ret-yes c-ret-no c-any closing ignored goes-one found-one went-told ended-told other-ends no-also yes-also again-also some-is at-one at-none taken-some starting-some some-left",
 }
 
 

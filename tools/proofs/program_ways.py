@@ -1,6 +1,7 @@
-# The way through a program along the calls and tests that lead to a need, as a term of the steps of machine/proofs/Way.antt and
-# parts/proofs/Steps.antt. A program is a tree: its leaves are the calls in the code's order, a test takes the outcome that follows it, and a
-# marker takes the calls of Marker::new, start and complete. A term names a call or a test by @NAME, and the entry by @@ (see code_proofs.py).
+# The way through a program along the calls and tests that lead to a need, as a term of the steps of machine/proofs/Way.antt,
+# names/proofs/Ways.antt and parts/proofs/Steps.antt. A program is a tree: its leaves are the calls in the code's order, a test takes the
+# outcome that follows it, and a marker takes the calls of Marker::new, start and complete. A term names a call or a test by @NAME, and the
+# entry by @@ (see code_proofs.py).
 import os
 import re
 

@@ -1,4 +1,4 @@
--- The programs of specs/Parts.antt are parts of the definitions' terms.
+-- The programs of specs/Parts.antt, here and in crate `outside`, are parts of the definitions' terms.
 use Prim.Native.Nat.{ℕ}
 use mathlib.Core.Path.{_≡_, refl}
 use mathlib.Core.Bool.{Bool}
@@ -15,7 +15,8 @@ use Rattle.machine.specs.Machine.{Machine}
 use Rattle.machine.specs.Walk.{Walked, walk, walk-rule, walk-prog, unlabelled}
 use Rattle.parts.specs.Parts.{plain-cell, unfinished}
 use Rattle.parts.proofs.Laws.{cases-first}
-use Rattle.grammar.specs.Parts.{cell-rest, value-rest, item-rest, node-end, unmatched-rcurly}
+use Rattle.outside.specs.Parts.{node-end, unmatched-rcurly}
+use Rattle.grammar.specs.Parts.{cell-rest, value-rest, item-rest}
 
 -- `eat-cell-body`: the plain cells are the test
 pub cell-parts : (ask : Rule → Machine → Walked) (ts : List Token) (b : Span) (at-end : Bool) (m : Machine)

@@ -26,7 +26,8 @@ use Rattle.machine.specs.Machine.{Machine, Marker}
 use Rattle.machine.specs.Walk.{Walked, said, choose, closed, walk, walk-rule, walk-prog, unlabelled}
 use Rattle.machine.proofs.Turns.{ahead}
 use Rattle.machine.proofs.Way.{Way, Closes, c-case}
-use Rattle.parts.proofs.Steps.{c-on, went-on, ended-yes, ended-no}
+use Rattle.names.proofs.Ways.{turns, stops-yes, stops-no}
+use Rattle.parts.proofs.Steps.{c-on}
 use Rattle.grammar.proofs.Laws.{sequence-parts}
 
 module _ (n : ℕ) {ts : List Token} where
@@ -59,15 +60,15 @@ module _ (n : ℕ) {ts : List Token} where
 module _ (n : ℕ) {ts : List Token} {b : Span} {p : Prog} {m m′ : Machine} where
   pub again-part : Way (walk-rule n ts) ts b p m (said again m′) → ahead ts m′ < ahead ts m → walk-prog n ts b (loop p) m′ ≡ walk-prog n ts b (loop p) m
   unfolding walk-prog
-  again-part w l = went-on w l
+  again-part w l = turns w l
 
   pub last-yes : Way (walk-rule n ts) ts b p m (said yes m′) → said yes m′ ≡ walk-prog n ts b (loop p) m
   unfolding walk-prog
-  last-yes w = ended-yes w
+  last-yes w = stops-yes w
 
   pub last-no : Way (walk-rule n ts) ts b p m (said no m′) → said no m′ ≡ walk-prog n ts b (loop p) m
   unfolding walk-prog
-  last-no w = ended-no w
+  last-no w = stops-no w
 
 -- a test's own result returned
 pub as-yes : {t : Bool} {m : Machine} {w : Walked} → t ≡ true → said yes m ≡ w → said (truth t) m ≡ w

@@ -4,11 +4,10 @@ use Prim.Native.Nat.{ℕ}
 use mathlib.Core.Bool.{Bool}
 use mathlib.Core.List.{List, [], _∷_}
 use Rattle.definitions.specs.TokenKind as K
-use Rattle.definitions.specs.NodeKind as N
 use Rattle.definitions.specs.Errors as E
-use Rattle.definitions.specs.Prog.{no, yes, also, emit-unclosed, Prog, ret, act, _⨟_}
-use Rattle.definitions.specs.Check.{tell, if_then_else_, _and_, _or_, not!, node, end?, bump!, error, error-wrap, error-wrap!, set, kind, silent, at, silent-eat, expect, expect-recoverable}
-use Rattle.definitions.specs.Grammar.{Inside, Item, Values, Cell, OPERATORS-SET, ITEM-RECOVERY-SET, macro-invocation, Reference, eat-dts-include, eat-preprocessor-directive, eat-dts-directive, Entry}
+use Rattle.definitions.specs.Prog.{no, yes, also, Prog, _⨟_}
+use Rattle.definitions.specs.Check.{tell, if_then_else_, _and_, _or_, not!, error-wrap, error-wrap!, set, kind, silent, at, silent-eat}
+use Rattle.definitions.specs.Grammar.{Inside, Item, Values, Cell, OPERATORS-SET, macro-invocation, Reference, eat-dts-include, eat-preprocessor-directive, eat-dts-directive, Entry}
 use Rattle.definitions.specs.Grammar as G
 use Rattle.grammar.specs.declared.preprocessor_directive.Inside.the-variants as I
 use Rattle.grammar.specs.declared.preprocessor_directive.Inside as D
@@ -45,19 +44,9 @@ value-rest semicolon =
     else if silent-eat (kind K.DtBytestring) or eat-dts-include or eat-preprocessor-directive (Values semicolon) then tell yes
     else error-wrap! ⨟ tell also
 
--- the end of `dt-node-body`; the caller's marker, and the brace's label
-abbrev pub node-end : Prog
-node-end =
-    if end? then act emit-unclosed ⨟ ret N.DtNode yes
-    else expect (kind K.RCurly) ⨟ expect-recoverable (kind K.Semicolon) ITEM-RECOVERY-SET ⨟ ret N.DtNode yes
-
 -- the last cases of `item-body`
 abbrev pub item-rest : Prog
 item-rest =
     if silent (kind K.Semicolon) then error-wrap E.unmatched-semicolon E.no-hint
     else if eat-dts-directive or eat-preprocessor-directive Item then tell yes
     else error-wrap!
-
--- the first case of `sourcefile-part`
-abbrev pub unmatched-rcurly : Prog
-unmatched-rcurly = error E.unmatched-rcurly E.no-hint ⨟ node N.ParseError bump!

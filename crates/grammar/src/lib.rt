@@ -15,8 +15,12 @@ use expr::OPERATORS_SET;
 use expr::dt_expr;
 use lexer::kind;
 use names::CONTINUE_COND_SET;
+use names::ITEM_RECOVERY_SET;
 use names::macro_invocation;
 use names::silent_eat_reference;
+use outside::forbidden_property;
+use outside::node_end;
+use outside::told;
 use parser::Answer;
 use parser::Parser;
 use parser::Tested;
@@ -27,8 +31,6 @@ use parser::errors::IN_CELLS;
 use parser::errors::MISSING_PARENTHESES;
 use parser::errors::NO_HINT;
 use parser::errors::PROPERTY_NOT_ALLOWED;
-use parser::errors::TextRange;
-use parser::errors::UNCLOSED_NODE;
 use parser::errors::UNMATCHED_SEMICOLON;
 use parser::errors::UNNAMED_NODE;
 use parser::errors::UNNAMED_PROPERTY;
@@ -44,41 +46,17 @@ use parts::eat_dts_directive;
 use parts::eat_dts_include;
 use parts::eat_node_or_prop_prefix;
 use parts::eat_plain_cell;
-use parts::ends::ITEM_RECOVERY_SET;
 use parts::unfinished;
 ghost use mathlib.Core.Path.{_≡_};
 ghost use mathlib.Core.Bool.{true, false};
-ghost use mathlib.Core.List.{List};
-ghost use Prim.Native.Nat.{ℕ, _+_, _-_, _≤_, _<_};
+ghost use Prim.Native.Nat.{_+_, _-_, _≤_, _<_};
 ghost use Rattle.definitions.specs.Token.{tokens};
-ghost use Rattle.definitions.specs.Skeleton.{Span};
-ghost use Rattle.definitions.specs.Prog.{Rule, yes, item, propvalues, eat-cell};
-ghost use Rattle.definitions.specs.Run.{truth};
-ghost use Rattle.definitions.specs.Grammar.{eat-inside, branch, cond-branches-and-end, eat-preprocessor-directive, cells, dt-cell-list, bits-value, propvalue, dt-property, dt-node-body, forbidden-property, no-property, eat-node-or-prop};
-ghost use Rattle.machine.specs.Machine.{Machine};
-ghost use Rattle.machine.specs.Walk.{Walked, said, walk, closed, walk-rule, walk-prog, unlabelled};
-ghost use Rattle.parser.specs.View.{view-of, tested-as, left, marker-of, answer-of, span-of};
+ghost use Rattle.definitions.specs.Prog.{yes, item, propvalues, eat-cell};
+ghost use Rattle.definitions.specs.Grammar.{eat-inside, branch, cond-branches-and-end, eat-preprocessor-directive, cells, dt-cell-list, bits-value, propvalue, dt-property, dt-node-body, no-property, eat-node-or-prop};
+ghost use Rattle.machine.specs.Walk.{said, closed, walk-rule, walk-prog, unlabelled};
+ghost use Rattle.parser.specs.View.{view-of, tested-as, left, marker-of};
 ghost use Rattle.parts.specs.View.{told-as};
-ghost use Rattle.grammar.specs.Parts.{inside-of, cell-rest, value-rest, item-rest, node-end};
-
-// Yes or No.
-fn told(k: Tested) -> Told
-    ensures { λ r. ⌜ r .p ≡ k .p ⌝ }
-    ensures { λ r. ⌜ answer-of (r .answer) ≡ truth (k .yes) ⌝ }
-{
-    let q = k.p;
-    if k.yes {
-        Told {
-            p: q,
-            answer: Answer::Yes,
-        }
-    } else {
-        Told {
-            p: q,
-            answer: Answer::No,
-        }
-    }
-}
+ghost use Rattle.grammar.specs.Parts.{inside-of, cell-rest, value-rest, item-rest};
 
 // ---- cells
 
@@ -459,34 +437,6 @@ fn dt_node_body(
     }
 }
 
-// The end of a node's body. The caller's marker, and the place of its LCurly.
-fn node_end(
-    p: Parser,
-    t: &[u32],
-    ev: &mut [u32],
-    rep: &mut [u32],
-    pool: &mut [u32],
-    m: Marker,
-    lcurly_span: TextRange,
-) -> Parser
-    ensures { λ r. ⌜ ((ask : Rule → Machine → Walked) → said yes (view-of r (now (ev .exit)) (now (rep .exit)) (now (pool .exit))) ≡ closed (marker-of m) (walk ask (tokens (now (t .entry))) (span-of «lcurly_span») node-end (view-of p (now (ev .entry)) (now (rep .entry)) (now (pool .entry))))) ⌝ }
-    ensures { λ r. ⌜ left (now (t .entry)) (r .s) ≤ left (now (t .entry)) (p .s) ⌝ }
-{
-    let end = p.at_end(t);
-    if end.yes {
-        let q = end.p
-            .emit(t, ev, rep, pool, UNCLOSED_NODE, NO_HINT, lcurly_span);
-        q.complete(ev, m, node::DT_NODE)
-    } else {
-        let rcurly = end.p.expect(t, ev, rep, pool, Matcher::Kind(kind::RCURLY));
-        let semicolon = Matcher::Kind(kind::SEMICOLON);
-        let q = rcurly
-            .p
-            .expect_recoverable(t, ev, rep, pool, semicolon, &ITEM_RECOVERY_SET);
-        q.p.complete(ev, m, node::DT_NODE)
-    }
-}
-
 // ---- items
 
 fn item(
@@ -643,18 +593,6 @@ fn rest(
         return property.complete(ev, m, node::PARSE_ERROR);
     }
     unfinished(forbidden.p, t, ev, rep, pool, m)
-}
-
-// `!allow_prop && check(..).silent().at()`
-fn forbidden_property(p: Parser, t: &[u32], allow_prop: bool) -> Tested
-    ensures { λ r. ⌜ ((ask : Rule → Machine → Walked) (b : Span) (ev rep pool : List ℕ) → tested-as r ev rep pool ≡ walk ask (tokens (now (t .entry))) b (forbidden-property «allow_prop») (view-of p ev rep pool)) ⌝ }
-    ensures { λ r. ⌜ left (now (t .entry)) (r .p .s) ≤ left (now (t .entry)) (p .s) ⌝ }
-{
-    if allow_prop {
-        Tested { p: p, yes: false }
-    } else {
-        p.silent_at_set(t, &[kind::EQUALS, kind::SEMICOLON])
-    }
 }
 
 // ---- preprocessor_directive.rs

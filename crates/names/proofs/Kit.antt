@@ -16,10 +16,10 @@ pub ruleset flags = (arith, ltb-true, ltb-false, leb-true, leb-false, eqb-true)
 pub false-true : {A : Type 0} → false ≡ true → A
 false-true e = let z : _≡_ {A = ℕ} 0 1 = ap (λ (b : Bool). cond b 1 0) e in absurd (omega (arith, z))
 
--- what is left fell, as the machine counts it
-pub fell : (tk : List ℕ) (s s′ : State) → left tk s′ < left tk s → length (drop (s′ .cursor .0) (tokens tk)) < length (drop (s .cursor .0) (tokens tk))
+-- fewer tokens left as the code counts them are fewer as the machine does
+pub ahead-falls : (tk : List ℕ) (s s′ : State) → left tk s′ < left tk s → length (drop (s′ .cursor .0) (tokens tk)) < length (drop (s .cursor .0) (tokens tk))
 unfolding left
-fell tk s s′ h = omega (arith, length-drop (s .cursor .0) (tokens tk), length-drop (s′ .cursor .0) (tokens tk), rows-length tk, h)
+ahead-falls tk s s′ h = omega (arith, length-drop (s .cursor .0) (tokens tk), length-drop (s′ .cursor .0) (tokens tk), rows-length tk, h)
 
 -- a row at the cursor
 pub some-left : (tk : List ℕ) (s : State) → s .cursor .0 < length tk / 2 → 0 < left tk s

@@ -7,15 +7,13 @@ use mathlib.Core.List.{List}
 use native.Mathlib.Omega.{arith}
 use Rattle.definitions.specs.Token.{Token}
 use Rattle.definitions.specs.Skeleton.{Span}
-use Rattle.definitions.specs.Prog.{Ans, no, yes, also, again, Rule, Act, Prog, ret, act, _⨟_, case, mark, loop, call}
+use Rattle.definitions.specs.Errors as E
+use Rattle.definitions.specs.Prog.{Ans, no, yes, also, again, Rule, Act, emit-unclosed, Prog, ret, act, _⨟_, case, mark, loop, call}
 use Rattle.definitions.specs.Run.{truth, is-again}
-use Rattle.machine.specs.Machine.{Machine, Marker, START, PLACEHOLDER, push, complete}
+use Rattle.machine.specs.Machine.{Machine, Marker, START, PLACEHOLDER, push, complete, emit}
 use Rattle.machine.specs.Walk.{Walked, said, perform, choose, marker, close, closed, walk}
 use Rattle.machine.proofs.Turns.{ahead, turn-again, turn-last}
-
--- p, walked from m, comes to w
-pub record Way (ask : Rule → Machine → Walked) (ts : List Token) (b : Span) (p : Prog) (m : Machine) (w : Walked) : Type 0 where
-  pub is : w ≡ walk ask ts b p m
+use Rattle.machine.proofs.Way.{Way, Closes}
 
 module _ {ask : Rule → Machine → Walked} {ts : List Token} {b : Span} where
   -- ---------------------------------------------------------------- the whole
@@ -113,3 +111,18 @@ module _ {ask : Rule → Machine → Walked} {ts : List Token} {b : Span} where
   pub stops-no : {p : Prog} {m m′ : Machine} → Way ask ts b p m (said no m′) → said no m′ ≡ walk ask ts b (loop p) m
   unfolding is-again
   stops-no {p = p} {m = m} {m′ = m′} e = turn-last ask ts b p m m′ no refl (e .is)
+
+  -- ---------------------------------------------------------------- what only the crates above need
+
+  -- a function that closes its caller's marker
+  pub closes-to : {p : Prog} {k : Marker} {m : Machine} {v w : Walked} → Way ask ts b p m v → Closes k v w → w ≡ closed k (walk ask ts b p m)
+  closes-to {k = k} f g = g .is ∙ ap (closed k) (f .is)
+
+  -- a program that a flag chooses
+  pub c-flag : (p : Bool → Prog) {t v : Bool} {m : Machine} {w : Walked} → t ≡ v → Way ask ts b (p v) m w → Way ask ts b (p t) m w
+  c-flag p {m = m} {w = w} h f = record { is = f .is ∙ sym (ap (λ (t : Bool). walk ask ts b (p t) m) h) }
+
+  -- the report of a node that is not closed, at its brace
+  pub c-unclosed : {m x : Machine} → x ≡ emit ts E.unclosed-node E.no-hint b m → Way ask ts b (act emit-unclosed) m (said yes x)
+  unfolding walk perform
+  c-unclosed e = record { is = ap (said yes) e }

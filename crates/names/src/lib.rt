@@ -29,6 +29,34 @@ pub const CONTINUE_COND_SET: [u8; 4] = [
     kind::ELSE_DIRECTIVE,
 ];
 
+// Kinds that are left where they stand after a report in an item.
+pub const ITEM_RECOVERY_SET: [u8; 24] = [
+    kind::SLASH,
+    kind::IDENT,
+    kind::NUMBER,
+    kind::COMMA,
+    kind::MINUS,
+    kind::AMPERSAND,
+    kind::EQUALS,
+    kind::LCURLY,
+    kind::SEMICOLON,
+    kind::V1_DIRECTIVE,
+    kind::PLUGIN_DIRECTIVE,
+    kind::DT_INCLUDE_DIRECTIVE,
+    kind::MEMRESERVE_DIRECTIVE,
+    kind::DELETE_NODE_DIRECTIVE,
+    kind::DELETE_PROPERTY_DIRECTIVE,
+    kind::RCURLY,
+    kind::ENDIF_DIRECTIVE,
+    kind::IFNDEF_DIRECTIVE,
+    kind::IFDEF_DIRECTIVE,
+    kind::IF_DIRECTIVE,
+    kind::ELIFNDEF_DIRECTIVE,
+    kind::ELIFDEF_DIRECTIVE,
+    kind::ELIF_DIRECTIVE,
+    kind::ELSE_DIRECTIVE,
+];
+
 pub fn macro_invocation(
     p: Parser,
     t: &[u32],

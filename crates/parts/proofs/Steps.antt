@@ -1,5 +1,5 @@
 -- More steps of a way through a program: a part whose answer does not matter, `eat_starting`, a brace, an answer that a match has told,
--- loops turn by turn, and what a test that held says of the tokens left.
+-- a loop's turn with such an answer, and what a test that held says of the tokens left.
 use Prim.Native.Nat.{ℕ, zero, suc, _+_, _-_, _≤_, _<_}
 use mathlib.Core.Path.{_≡_, refl, sym, ap, _∙_}
 use mathlib.Core.Bool.{Bool, true, false, cond}
@@ -9,14 +9,13 @@ use lib.ListN.{length, drop, length-drop}
 use native.Mathlib.Omega.{arith}
 use denote.Enum.Declared.{tagOf}
 use types.Run.{OneOf}
-use Rattle.definitions.specs.Errors as E
 use Rattle.definitions.specs.Token.{Token, tokens, first-in}
 use Rattle.definitions.specs.Skeleton.{Span}
-use Rattle.definitions.specs.Prog.{Ans, no, yes, also, again, Rule, silent-at, emit-unclosed, Prog, ret, act, _⨟_, case, mark, loop, brace}
+use Rattle.definitions.specs.Prog.{Ans, no, yes, also, again, Rule, silent-at, Prog, ret, act, _⨟_, case, mark, loop, brace}
 use Rattle.definitions.specs.Check.{at}
 use Rattle.definitions.specs.Check as C
 use Rattle.definitions.specs.Run.{truth, is-again}
-use Rattle.machine.specs.Machine.{Machine, rest, peek, push, range-at, emit, PLACEHOLDER, START}
+use Rattle.machine.specs.Machine.{Machine, rest, peek, push, range-at, PLACEHOLDER, START}
 use Rattle.machine.specs.Machine as M
 use Rattle.machine.specs.Walk.{Walked, said, perform, choose, marker, close, closed, walk}
 use lib.Dec.{ltb}
@@ -45,10 +44,6 @@ module _ {ask : Rule → Machine → Walked} {ts : List Token} {b : Span} where
   pub c-brace : {p : Prog} {m : Machine} {c : Span} {w : Walked} → c ≡ range-at (rest ts m) m → Way ask ts c p m w → Way ask ts b (brace p) m w
   unfolding walk
   c-brace {p = p} {m = m} e f = record { is = f .is ∙ ap (λ (c : Span). walk ask ts c p m) e }
-
-  pub c-unclosed : {m x : Machine} → x ≡ emit ts E.unclosed-node E.no-hint b m → Way ask ts b (act emit-unclosed) m (said yes x)
-  unfolding walk perform
-  c-unclosed e = record { is = ap (said yes) e }
 
   -- by the answer that a match has told
   module _ {c n y a : Prog} {m x : Machine} {s : ℕ} {w : Walked} where
@@ -100,29 +95,8 @@ module _ {ask : Rule → Machine → Walked} {ts : List Token} {b : Span} (k : C
 
 -- ---------------------------------------------------------------- loops
 
--- fewer tokens left as the code counts them are fewer as the machine does
-pub ahead-falls : (tk : List ℕ) (s s′ : State) → left tk s′ < left tk s → length (drop (s′ .cursor .0) (tokens tk)) < length (drop (s .cursor .0) (tokens tk))
-unfolding left
-ahead-falls tk s s′ h =
-    omega (arith, rows-length tk, length-drop (s .cursor .0) (tokens tk), length-drop (s′ .cursor .0) (tokens tk), h)
-
+-- a turn whose answer a match has told
 module _ {ask : Rule → Machine → Walked} {ts : List Token} {b : Span} {p : Prog} {m m′ : Machine} where
-  pub went-on : Way ask ts b p m (said again m′) → ahead ts m′ < ahead ts m → walk ask ts b (loop p) m′ ≡ walk ask ts b (loop p) m
-  went-on w l = turn-again ask ts b p m m′ (w .is) l
-
-  pub ended-yes : Way ask ts b p m (said yes m′) → said yes m′ ≡ walk ask ts b (loop p) m
-  unfolding is-again
-  ended-yes w = turn-last ask ts b p m m′ yes refl (w .is)
-
-  pub ended-no : Way ask ts b p m (said no m′) → said no m′ ≡ walk ask ts b (loop p) m
-  unfolding is-again
-  ended-no w = turn-last ask ts b p m m′ no refl (w .is)
-
-  pub ended-also : Way ask ts b p m (said also m′) → said also m′ ≡ walk ask ts b (loop p) m
-  unfolding is-again
-  ended-also w = turn-last ask ts b p m m′ also refl (w .is)
-
-  -- a turn whose answer a match has told
   pub went-told : (r : Answer) → Way ask ts b p m (said (answer-of r) m′) → answer-of r ≡ again → ahead ts m′ < ahead ts m → walk ask ts b (loop p) m′ ≡ walk ask ts b (loop p) m
   went-told r w h l = turn-again ask ts b p m m′ (sym (ap (λ (a : Ans). said a m′) h) ∙ w .is) l
 
@@ -201,17 +175,9 @@ module _ {ask : Rule → Machine → Walked} {ts : List Token} {b : Span} {m : M
 -- ---------------------------------------------------------------- more
 
 module _ {ask : Rule → Machine → Walked} {ts : List Token} {b : Span} where
-  -- a function that closes its caller's marker
-  pub closes-to : {p : Prog} {k : M.Marker} {m : Machine} {v w : Walked} → Way ask ts b p m v → Closes k v w → w ≡ closed k (walk ask ts b p m)
-  closes-to {k = k} f g = g .is ∙ ap (closed k) (f .is)
-
   -- what a part comes to, whatever that is
   pub c-any : {p : Prog} {m : Machine} → Way ask ts b p m (walk ask ts b p m)
   c-any = record { is = refl }
-
-  -- a program that a flag chooses
-  pub c-flag : (p : Bool → Prog) {t v : Bool} {m : Machine} {w : Walked} → t ≡ v → Way ask ts b (p v) m w → Way ask ts b (p t) m w
-  c-flag p {m = m} {w = w} h f = record { is = f .is ∙ sym (ap (λ (t : Bool). walk ask ts b (p t) m) h) }
 
 -- a marker closed by the function that it is handed to
 pub closing : {k : M.Marker} {v w : Walked} → w ≡ closed k v → Closes k v w

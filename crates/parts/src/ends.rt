@@ -1,6 +1,7 @@
 // Where items, values and cells end: the conditions of grammar.rs's loops.
 use lexer::kind;
 use names::CONTINUE_COND_SET;
+use names::ITEM_RECOVERY_SET;
 use parser::Answer;
 use parser::Said;
 use parser::Seen;
@@ -25,33 +26,6 @@ ghost use Rattle.machine.specs.Walk.{Walked, said, walk, closed};
 ghost use Rattle.parser.specs.View.{view, left, seen-as, marker-of, answer-of};
 ghost use Rattle.parts.specs.View.{said-as};
 ghost use Rattle.parts.specs.Parts.{at-item, at-cells-recovery, at-values-end, unfinished};
-
-pub const ITEM_RECOVERY_SET: [u8; 24] = [
-    kind::SLASH,
-    kind::IDENT,
-    kind::NUMBER,
-    kind::COMMA,
-    kind::MINUS,
-    kind::AMPERSAND,
-    kind::EQUALS,
-    kind::LCURLY,
-    kind::SEMICOLON,
-    kind::V1_DIRECTIVE,
-    kind::PLUGIN_DIRECTIVE,
-    kind::DT_INCLUDE_DIRECTIVE,
-    kind::MEMRESERVE_DIRECTIVE,
-    kind::DELETE_NODE_DIRECTIVE,
-    kind::DELETE_PROPERTY_DIRECTIVE,
-    kind::RCURLY,
-    kind::ENDIF_DIRECTIVE,
-    kind::IFNDEF_DIRECTIVE,
-    kind::IFDEF_DIRECTIVE,
-    kind::IF_DIRECTIVE,
-    kind::ELIFNDEF_DIRECTIVE,
-    kind::ELIFDEF_DIRECTIVE,
-    kind::ELIF_DIRECTIVE,
-    kind::ELSE_DIRECTIVE,
-];
 
 pub const PROPERTY_VALUE_RECOVERY_SET: [u8; 4] = [
     kind::STRING,

@@ -11,7 +11,7 @@ use Rattle.definitions.specs.Grammar.{cells-turn, cells}
 use Rattle.machine.specs.Walk.{walk-rule, walk-prog, unlabelled}
 use Rattle.parser.specs.View.{left, view-of}
 use Rattle.machine.proofs.Way.{c-walk, c-ret, c-seq, c-yes, c-no, c-call}
-use Rattle.parts.proofs.Steps.{ahead-falls}
+use Rattle.names.proofs.Kit.{ahead-falls}
 use Rattle.grammar.proofs.Ways.{again-part, last-yes, last-no, as-yes}
 use Rattle.grammar.proofs.cells.Reads as reads
 use Rattle.grammar.proofs.+arm+bits+cell2+cells+cond_branches_and_end+dt_cell_list+dt_node_body+dt_property+eat_cell+eat_inside+eat_node_or_prop+eat_preprocessor_directive+item+item2+propvalues+rest+value+value2.Lts-cells as lts

@@ -39,11 +39,11 @@ use Rattle.parts.proofs.eat_plain_cell.Reads as eat-plain-cell-reads
 use Rattle.parser.proofs.Parser.error.Reads as error-reads
 use Rattle.parser.proofs.Parser.expect.Reads as expect-reads
 use Rattle.parser.proofs.Parser.expect_recoverable.Reads as expect-recoverable-reads
-use Rattle.grammar.proofs.forbidden_property.Reads as forbidden-property-reads
+use Rattle.outside.proofs.forbidden_property.Reads as forbidden-property-reads
 use Rattle.parser.proofs.Parser.ignore.Reads as ignore-reads
 use Rattle.names.proofs.macro_invocation.Reads as macro-invocation-reads
 use Rattle.parser.proofs.marker.Marker.new.Reads as new-reads
-use Rattle.grammar.proofs.node_end.Reads as node-end-reads
+use Rattle.outside.proofs.node_end.Reads as node-end-reads
 use Rattle.parser.proofs.State.range.Reads as range-reads
 use Rattle.parser.proofs.Parser.refuse.Reads as refuse-reads
 use Rattle.parser.proofs.Parser.silent_at.Reads as silent-at-reads
@@ -51,7 +51,7 @@ use Rattle.parser.proofs.Parser.silent_at_set.Reads as silent-at-set-reads
 use Rattle.parser.proofs.Parser.silent_eat.Reads as silent-eat-reads
 use Rattle.names.proofs.silent_eat_reference.Reads as silent-eat-reference-reads
 use Rattle.parser.proofs.Parser.start.Reads as start-reads
-use Rattle.grammar.proofs.told.Reads as told-reads
+use Rattle.outside.proofs.told.Reads as told-reads
 use Rattle.parts.proofs.unfinished.Reads as unfinished-reads
 use Rattle.grammar.proofs.arm.Kinds as arm-kinds
 use Rattle.grammar.proofs.bits.Kinds as bits-kinds

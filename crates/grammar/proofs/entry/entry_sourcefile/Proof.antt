@@ -10,7 +10,7 @@ use Rattle.definitions.specs.Grammar.{sourcefile-turn, entry-sourcefile}
 use Rattle.machine.specs.Walk.{walk-prog, unlabelled}
 use Rattle.machine.proofs.Way.{c-act, c-ret, c-yes, c-no}
 use Rattle.parser.specs.View.{left, view-of}
-use Rattle.parts.proofs.Steps.{ahead-falls}
+use Rattle.names.proofs.Kit.{ahead-falls}
 use Rattle.grammar.proofs.Ways.{c-part-on, again-part, last-yes}
 use Rattle.grammar.proofs.entry.entry_sourcefile.Statement.{statement}
 use Rattle.grammar.proofs.entry.entry_sourcefile.Tie as tie

@@ -16,7 +16,7 @@ use Rattle.machine.specs.Walk.{Walked, walk}
 use Rattle.parser.specs.View.{view, left}
 use Rattle.names.proofs.Ways.{opened, acts, tells, seq, if-no, if-yes, completes, turns, stops-yes}
 use Rattle.names.proofs.Opened.{macro-argument-turn-is}
-use Rattle.names.proofs.Kit.{flags, fell}
+use Rattle.names.proofs.Kit.{flags, ahead-falls}
 use Rattle.names.proofs.macros.arguments.Statement.{statement}
 use Rattle.names.proofs.macros.arguments.Tie as tie
 
@@ -65,7 +65,7 @@ loop-again c =
     let i = g .before .before in
     let j = i .before in
     let s = j .before .before .before in
-    (λ ask b codes rep pool. turns (opened macro-argument-turn-is (if-yes (completes (lit< tt) (i .new .ensures) (g .start .ensures .0 _ _ _) (if-yes (acts (f .bump-argument .ensures .0 b _ _ _)) (ap truth (d .if1 .taken)) tells) (e .complete .ensures .0 _ _ _)) refl (seq (acts (a .bump .ensures .0 b codes rep pool)) tells))) (fell (s .args .t .now) (j .loop .q) (a .bump .result) (omega (flags, j .loop .inv .1 .0, g .start .ensures .1 (s .args .t .now), f .bump-argument .ensures .1 .0, f .bump-argument .ensures .1 .1 (d .if1 .taken), e .complete .ensures .1 (s .args .t .now), a .bump .ensures .1))) ∙ j .loop .inv .0 ask b codes rep pool, (omega (flags, j .loop .inv .1 .0, g .start .ensures .1 (s .args .t .now), f .bump-argument .ensures .1 .0, f .bump-argument .ensures .1 .1 (d .if1 .taken), e .complete .ensures .1 (s .args .t .now), a .bump .ensures .1), omega (arith, j .loop .inv .1 .1, g .start .kept, f .bump-argument .kept, e .complete .kept, a .bump .kept)))
+    (λ ask b codes rep pool. turns (opened macro-argument-turn-is (if-yes (completes (lit< tt) (i .new .ensures) (g .start .ensures .0 _ _ _) (if-yes (acts (f .bump-argument .ensures .0 b _ _ _)) (ap truth (d .if1 .taken)) tells) (e .complete .ensures .0 _ _ _)) refl (seq (acts (a .bump .ensures .0 b codes rep pool)) tells))) (ahead-falls (s .args .t .now) (j .loop .q) (a .bump .result) (omega (flags, j .loop .inv .1 .0, g .start .ensures .1 (s .args .t .now), f .bump-argument .ensures .1 .0, f .bump-argument .ensures .1 .1 (d .if1 .taken), e .complete .ensures .1 (s .args .t .now), a .bump .ensures .1))) ∙ j .loop .inv .0 ask b codes rep pool, (omega (flags, j .loop .inv .1 .0, g .start .ensures .1 (s .args .t .now), f .bump-argument .ensures .1 .0, f .bump-argument .ensures .1 .1 (d .if1 .taken), e .complete .ensures .1 (s .args .t .now), a .bump .ensures .1), omega (arith, j .loop .inv .1 .1, g .start .kept, f .bump-argument .kept, e .complete .kept, a .bump .kept)))
 
 same-length : tie.Need-same-length Inv-loop μ-loop
 same-length c =

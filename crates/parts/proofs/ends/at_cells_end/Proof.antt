@@ -3,7 +3,7 @@ use native.Mathlib.Omega.{arith}
 use Rattle.definitions.specs.Token.{tokens}
 use Rattle.definitions.specs.Grammar.{cells-end}
 use Rattle.machine.proofs.Way.{c-walk, c-act, c-seq}
-use Rattle.parts.proofs.Steps.{c-flag}
+use Rattle.names.proofs.Ways.{c-flag}
 use Rattle.parts.proofs.ends.at_cells_end.Statement.{statement}
 use Rattle.parts.proofs.ends.at_cells_end.Tie as tie
 

@@ -2,8 +2,9 @@
 use Rattle.definitions.specs.TokenKind as K
 use native.Mathlib.Omega.{arith}
 use Rattle.machine.proofs.Way.{c-walk, c-act}
+use Rattle.names.proofs.Ways.{c-flag}
 use Rattle.parts.specs.Parts.{at-values-end}
-use Rattle.parts.proofs.Steps.{c-flag, at-one, at-none}
+use Rattle.parts.proofs.Steps.{at-one, at-none}
 use borrow.Author.Needs.{needs}
 use Rattle.parts.proofs.ends.at_values_end.Statement.{statement}
 use Rattle.parts.proofs.ends.at_values_end.Tie as tie

@@ -12,8 +12,9 @@ use Rattle.machine.specs.Machine.{Machine}
 use Rattle.machine.specs.Walk.{Walked, walk}
 use Rattle.machine.proofs.Way.{c-walk}
 use Rattle.parser.specs.View.{view, left, answer-of}
+use Rattle.names.proofs.Kit.{ahead-falls}
 use Rattle.parts.specs.View.{own-name, goes}
-use Rattle.parts.proofs.Steps.{ahead-falls, went-told, ended-told, other-ends}
+use Rattle.parts.proofs.Steps.{went-told, ended-told, other-ends}
 use Rattle.parts.proofs.node_or_prop_prefix.labels_and_name.Statement.{statement}
 use Rattle.parts.proofs.node_or_prop_prefix.labels_and_name.Tie as tie
 

@@ -4,9 +4,9 @@ use borrow.Author.Needs.{needs}
 use Rattle.definitions.specs.Token.{tokens}
 use Rattle.parser.specs.View.{span-of}
 use Rattle.machine.proofs.Way.{c-walk, c-act, c-ret, c-seq, c-yes, c-no, completed}
-use Rattle.parts.proofs.Steps.{c-unclosed, closes-to}
-use Rattle.grammar.proofs.node_end.Statement.{statement}
-use Rattle.grammar.proofs.node_end.Tie as tie
+use Rattle.names.proofs.Ways.{c-unclosed, closes-to}
+use Rattle.outside.proofs.node_end.Statement.{statement}
+use Rattle.outside.proofs.node_end.Tie as tie
 
 at-end-requires : tie.Need-at-end-requires
 at-end-requires c κs = tt

@@ -3,8 +3,8 @@ use native.Mathlib.Omega.{arith}
 use Rattle.definitions.specs.Token.{tokens}
 use Rattle.definitions.specs.Grammar.{left-over}
 use Rattle.machine.proofs.Way.{c-walk, c-act, c-ret, c-seq, c-yes, c-no, c-mark, completed}
-use Rattle.grammar.proofs.entry.left_over.Statement.{statement}
-use Rattle.grammar.proofs.entry.left_over.Tie as tie
+use Rattle.outside.proofs.left_over.Statement.{statement}
+use Rattle.outside.proofs.left_over.Tie as tie
 
 at-end-requires : tie.Need-at-end-requires
 at-end-requires c κs = tt

@@ -14,9 +14,10 @@ use Rattle.machine.specs.Machine.{Machine}
 use Rattle.machine.specs.Walk.{Walked, walk}
 use Rattle.machine.proofs.Way.{c-act, c-ret, c-seq, c-yes, c-no}
 use Rattle.parser.specs.View.{left, view-of}
-use Rattle.parts.proofs.Steps.{ahead-falls, went-on, ended-yes}
-use Rattle.grammar.proofs.entry.bump_all.Statement.{statement}
-use Rattle.grammar.proofs.entry.bump_all.Tie as tie
+use Rattle.names.proofs.Kit.{ahead-falls}
+use Rattle.names.proofs.Ways.{turns, stops-yes}
+use Rattle.outside.proofs.bump_all.Statement.{statement}
+use Rattle.outside.proofs.bump_all.Tie as tie
 
 abbrev Inv-loop : tie.InvT-loop
 Inv-loop t ev₀ q₀ ev q = ((ask : Rule → Machine → Walked) (b : Span) (rep pool : List ℕ) → walk ask (tokens t) b (loop left-over-turn) (view-of q ev rep pool) ≡ walk ask (tokens t) b (loop left-over-turn) (view-of q₀ ev₀ rep pool)) × ((left t (q .s) ≤ left t (q₀ .s)) × (length ev ≡ length ev₀))
@@ -41,7 +42,7 @@ returns c =
     let a = c .before in
     let d = a .before in
     let e = d .before in
-    (λ ask b rep pool. ended-yes (c-no {t = false} (c-yes (c-act (d .at-end .ensures .0 b _ rep pool)) (a .if1 .taken) c-ret) refl c-ret) ∙ e .loop .inv .0 ask b rep pool, omega (arith, e .loop .inv .1 .0, d .at-end .ensures .1 .0))
+    (λ ask b rep pool. stops-yes (c-no {t = false} (c-yes (c-act (d .at-end .ensures .0 b _ rep pool)) (a .if1 .taken) c-ret) refl c-ret) ∙ e .loop .inv .0 ask b rep pool, omega (arith, e .loop .inv .1 .0, d .at-end .ensures .1 .0))
 
 bump-requires : tie.Need-bump-requires Inv-loop μ-loop
 bump-requires c κs = tt
@@ -62,7 +63,7 @@ loop-again c =
     let e = d .before in
     let f = e .before in
     let s = f .before .before .before in
-    (λ ask b rep pool. went-on (c-yes {t = true} (c-no (c-act (e .at-end .ensures .0 b _ rep pool)) (d .if1 .left) c-ret) refl (c-seq (c-act (a .bump .ensures .0 b rep pool)) c-ret)) (ahead-falls (s .args .t .now) (f .loop .q .s) (a .bump .result .s) (omega (arith, f .loop .inv .1 .0, e .at-end .ensures .1 .0, e .at-end .ensures .1 .1 .0 (d .if1 .left), a .bump .ensures .1))) ∙ f .loop .inv .0 ask b rep pool, (omega (arith, f .loop .inv .1 .0, e .at-end .ensures .1 .0, e .at-end .ensures .1 .1 .0 (d .if1 .left), a .bump .ensures .1), omega (arith, f .loop .inv .1 .1, a .bump .kept)))
+    (λ ask b rep pool. turns (c-yes {t = true} (c-no (c-act (e .at-end .ensures .0 b _ rep pool)) (d .if1 .left) c-ret) refl (c-seq (c-act (a .bump .ensures .0 b rep pool)) c-ret)) (ahead-falls (s .args .t .now) (f .loop .q .s) (a .bump .result .s) (omega (arith, f .loop .inv .1 .0, e .at-end .ensures .1 .0, e .at-end .ensures .1 .1 .0 (d .if1 .left), a .bump .ensures .1))) ∙ f .loop .inv .0 ask b rep pool, (omega (arith, f .loop .inv .1 .0, e .at-end .ensures .1 .0, e .at-end .ensures .1 .1 .0 (d .if1 .left), a .bump .ensures .1), omega (arith, f .loop .inv .1 .1, a .bump .kept)))
 
 pub bump-all-spec : {M : Type 1} → statement M
 bump-all-spec = tie.close (tie.spec Inv-loop μ-loop loop-holds at-end-requires same-length returns bump-requires loop-less loop-again)

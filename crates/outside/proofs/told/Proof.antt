@@ -1,8 +1,8 @@
 -- `told` answers by its flag.
 use mathlib.Core.Path.{refl, sym, ap}
 use Rattle.definitions.specs.Run.{truth}
-use Rattle.grammar.proofs.told.Statement.{statement}
-use Rattle.grammar.proofs.told.Tie as tie
+use Rattle.outside.proofs.told.Statement.{statement}
+use Rattle.outside.proofs.told.Tie as tie
 
 returns : tie.Need-returns
 returns c =

@@ -3,10 +3,10 @@ use native.Mathlib.Omega.{arith}
 use Rattle.definitions.specs.Check.{silent}
 use Rattle.definitions.specs.Grammar.{forbidden-property}
 use Rattle.machine.proofs.Way.{c-act, c-ret}
-use Rattle.parts.proofs.Steps.{c-flag}
+use Rattle.names.proofs.Ways.{c-flag}
 use borrow.Author.Needs.{needs}
-use Rattle.grammar.proofs.forbidden_property.Statement.{statement}
-use Rattle.grammar.proofs.forbidden_property.Tie as tie
+use Rattle.outside.proofs.forbidden_property.Statement.{statement}
+use Rattle.outside.proofs.forbidden_property.Tie as tie
 
 slice-aggregate-silent-at-set : tie.Need-slice-aggregate-silent-at-set
 slice-aggregate-silent-at-set c = search needs

@@ -1,8 +1,8 @@
 -- `unmatched_rcurly`: a report, and the bracket in a node of its own.
 use native.Mathlib.Omega.{arith}
 use Rattle.machine.proofs.Way.{c-walk, c-act, c-ret, c-seq, c-mark, completed}
-use Rattle.grammar.proofs.entry.unmatched_rcurly.Statement.{statement}
-use Rattle.grammar.proofs.entry.unmatched_rcurly.Tie as tie
+use Rattle.outside.proofs.unmatched_rcurly.Statement.{statement}
+use Rattle.outside.proofs.unmatched_rcurly.Tie as tie
 
 error-requires : tie.Need-error-requires
 error-requires c κs = tt
