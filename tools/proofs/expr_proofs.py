@@ -115,7 +115,7 @@ LONG = '«s» .good .1 .0 .0'
 CHAIN = '(infix-turn («s» .args .min-bp)) (marker-of («loop» .m))'
 LINK = f'({ROOM}) ({TOKENS}) {CHAIN} 5 {DONE} («precede» .ensures .0 _ _)'
 STEP = member('infix-step')
-FALLS = f'(ahead-falls ({TOKENS}) («loop» .q) («infix-step» .result .p) («infix-step» .ensures .1 .1 («if1» .taken)))'
+FALLS = f'(ahead-falls ({TOKENS}) («loop» .q .s) («infix-step» .result .p .s) («infix-step» .ensures .1 .1 («if1» .taken)))'
 LOOP = {
     'loop-again': f'linked-again {LINK} («linked» .ensures) ({LONG}) (step-again {STEP} («if1» .taken) («if2» .taken)) {FALLS} ∙ «loop» .inv .1 .1 .1 .1',
     'returns': f'linked-last {LINK} («ignore» .ensures .0 _ _) (step-last {STEP} («if1» .taken) («if2» .left)) ∙ «loop» .inv .1 .1 .1 .1',
@@ -159,7 +159,8 @@ LIBRARY = [
     ('Rattle.machine.proofs.Way', ['c-walk', 'c-act', 'c-ret', 'c-seq', 'c-yes', 'c-no', 'c-told', 'c-again', 'c-told-past', 'c-mark', 'completed',
                                    'c-call', 'c-fn', 'way', 'rule-closed', 'rule-body']),
     ('Rattle.power.proofs.Below', ['true-false']),
-    (PROOFS + 'Chain', ['ahead-falls', 'chained-on', 'chained-off', 'linked-again', 'linked-last', 'linked-stop', 'step-again', 'step-last', 'step-none']),
+    ('Rattle.names.proofs.Kit', ['ahead-falls']),
+    (PROOFS + 'Chain', ['chained-on', 'chained-off', 'linked-again', 'linked-last', 'linked-stop', 'step-again', 'step-last', 'step-none']),
     (PROOFS + 'Levels', ['turn-none', 'turn-weaker', 'turn-ternary', 'turn-binary', 'at-binary'])]
 
 

@@ -1,28 +1,19 @@
 -- A chain as the code makes it: a marker, a first part, and link by link a completed node that the next marker precedes.
-use Prim.Native.Nat.{ℕ, suc, _-_, _/_, _<_}
+use Prim.Native.Nat.{ℕ, suc, _-_, _<_}
 use mathlib.Core.Path.{_≡_, refl, sym, ap, _∙_}
 use mathlib.Core.Bool.{Bool, true, false}
 use mathlib.Core.List.{List}
-use lib.ListN.{length, drop, length-drop}
-use native.Mathlib.Omega.{arith}
+use lib.ListN.{length}
 use Rattle.definitions.specs.Token.{Token, tokens}
 use Rattle.definitions.specs.Skeleton.{Span}
 use Rattle.definitions.specs.Prog.{no, yes, again, Rule, Prog, chain}
 use Rattle.definitions.specs.Run.{is-again}
 use Rattle.machine.specs.Machine.{Machine, Marker, push, complete, precede, PLACEHOLDER, START, LINKED}
-use Rattle.machine.specs.Walk.{Walked, said, marker, link, walk, walk-rule, walk-prog, unlabelled}
-use Rattle.machine.proofs.Turns.{ahead, few-rows, rows-length}
+use Rattle.machine.specs.Walk.{Walked, said, marker, link, walk, walk-rule, unlabelled}
+use Rattle.machine.proofs.Turns.{ahead, few-rows}
 use Rattle.machine.proofs.Links.{linked, link-again, link-last, link-stop, chain-on, chain-off}
-use Rattle.parser.specs.declared.Parser.{Parser}
-use Rattle.parser.specs.View.{left}
 use Rattle.expr.specs.Parts.{stepped, links-from}
 use Rattle.machine.proofs.Way.{Way, c-walk}
-
--- fewer tokens left as the code counts them are fewer as the machine does
-pub ahead-falls : (tk : List ℕ) (p p′ : Parser) → left tk (p′ .s) < left tk (p .s) → length (drop (p′ .s .cursor .0) (tokens tk)) < length (drop (p .s .cursor .0) (tokens tk))
-unfolding left
-ahead-falls tk p p′ h =
-    omega (arith, rows-length tk, length-drop (p .s .cursor .0) (tokens tk), length-drop (p′ .s .cursor .0) (tokens tk), h)
 
 module _ (n : ℕ) (ts : List Token) (p q : Prog) where
   -- the first part answers again: the links follow

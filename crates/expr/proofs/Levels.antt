@@ -17,7 +17,7 @@ use Rattle.definitions.specs.Grammar.{INFIX-BUT-TERNARY, Level, ternary, bindin
 use Rattle.definitions.specs.Run.{truth}
 use Rattle.machine.specs.Machine.{Machine, rest, passed, skip, peek, expect-code}
 use Rattle.machine.specs.Walk.{Walked, said, perform, choose, walk}
-use Rattle.parser.specs.View.{kind-of}
+use Rattle.rows.specs.Tokens.{kind-of}
 use Rattle.power.specs.Power.{levels, left-power, right-power, is-binary}
 use Rattle.power.proofs.Below.{true-false, both-left, both-right}
 use Rattle.expr.specs.Parts.{ternary-rhs}

@@ -5,31 +5,17 @@ use mathlib.Core.Bool.{Bool, true, false, cond, _&&_, _||_}
 use mathlib.Core.List.{List, [], _∷_, _++_}
 use native.Mathlib.Omega.{arith}
 use lib.Dec.{eqb}
-use lib.ListN.{length, getD, set, take, drop, drop-of-length-le}
-use lib.Seq.{drop-cons, take-suc, take-all, take-length, length-take-le, sets}
+use lib.ListN.{length, getD, set, take}
+use lib.Seq.{take-suc, take-all, take-length, length-take-le, sets}
 use Rattle.definitions.specs.TokenKind as K
 use Rattle.definitions.specs.Token.{one-of}
 use Rattle.definitions.specs.Run.{only-separators, pool-of}
 use Rattle.parser.specs.View.{kinds-of}
 use Rattle.parser.specs.declared.matcher.Matcher.{Matcher}
 use Rattle.parser.specs.declared.matcher.Matcher.the-variants as Of
-use Rattle.parser.proofs.Kit.{one-of-one}
+use Rattle.rows.proofs.Kit.{one-of-one}
 
 -- ---------------------------------------------------------------- membership
-
-one-of-at : (ks : List ℕ) (i k : ℕ) → i < length ks → one-of (drop i ks) k ≡ cond (eqb (getD ks i 0) k) true (one-of (drop (i + 1) ks) k)
-unfolding one-of
-one-of-at ks i k h = let e : suc i ≡ i + 1 = omega arith in ap (λ (l : List ℕ). one-of l k) (drop-cons ks i 0 h) ∙ ap (λ (j : ℕ). cond (eqb (getD ks i 0) k) true (one-of (drop j ks) k)) e
-
-pub one-of-found : (ks : List ℕ) (i k : ℕ) → i < length ks → eqb (getD ks i 0) k ≡ true → one-of (drop i ks) k ≡ true
-one-of-found ks i k h e = one-of-at ks i k h ∙ ap (λ (b : Bool). cond b true (one-of (drop (i + 1) ks) k)) e
-
-pub one-of-next : (ks : List ℕ) (i k : ℕ) → i < length ks → eqb (getD ks i 0) k ≡ false → one-of (drop i ks) k ≡ one-of (drop (i + 1) ks) k
-one-of-next ks i k h e = one-of-at ks i k h ∙ ap (λ (b : Bool). cond b true (one-of (drop (i + 1) ks) k)) e
-
-pub one-of-none : (ks : List ℕ) (i k : ℕ) → length ks ≤ i → one-of (drop i ks) k ≡ false
-unfolding one-of
-one-of-none ks i k h = ap (λ (l : List ℕ). one-of l k) (drop-of-length-le ks h)
 
 -- the kinds of a matcher
 pub kind-is : (s : Matcher) (a k : ℕ) → s ≡ Of.Kind a → eqb a k ≡ one-of (kinds-of s) k

@@ -18,7 +18,8 @@ use Rattle.machine.specs.Walk.{Walked, said, perform}
 use Rattle.parser.specs.View.{view, view-of, left, take-first}
 use Rattle.parser.specs.declared.State.{State}
 use Rattle.parser.specs.declared.Parser.{Parser}
-use Rattle.parser.proofs.Kit.{row, rows-cons, rows-end, end-row, pending-few, pending-full, pending-more, sets2}
+use Rattle.rows.proofs.Kit.{row, rows-cons, rows-end, end-row}
+use Rattle.parser.proofs.Kit.{pending-few, pending-full, pending-more, sets2}
 
 -- ---------------------------------------------------------------- tests
 

@@ -12,7 +12,7 @@ use Rattle.definitions.specs.Run.{only-separators, pool-of}
 use Rattle.machine.specs.Machine.{Machine, Buffer, low, with-reports, range-at, error-range, report-row, write-report, fits}
 use Rattle.machine.specs.Machine as M
 use Rattle.parser.specs.View.{stored}
-use Rattle.parser.proofs.Kit.{row, rows-cons, rows-end}
+use Rattle.rows.proofs.Kit.{row, rows-cons, rows-end}
 use Rattle.parser.proofs.Lists.{and-store}
 use Rattle.parser.proofs.Moves.{on-true, on-false}
 

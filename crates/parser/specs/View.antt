@@ -2,16 +2,16 @@
 use Prim.Native.Nat.{ℕ, _-_, _/_}
 use mathlib.Core.Bool.{Bool, true, false, cond}
 use mathlib.Core.List.{List, [], _∷_}
-use lib.ListN.{length, take, drop}
+use lib.ListN.{length, take}
 use Rattle.definitions.specs.TokenKind as K
 use Rattle.definitions.specs.Errors as E
-use Rattle.definitions.specs.Token.{Token, seen, trivia}
+use Rattle.definitions.specs.Token.{Token}
 use Rattle.definitions.specs.Skeleton.{Span}
 use Rattle.definitions.specs.Prog.{Ans, no, yes, also, again, Rule, Prog}
 use Rattle.definitions.specs.Run.{truth}
 use Rattle.definitions.specs.Check.{NAME-SET, LABEL-NAME-SET}
 use Rattle.definitions.specs.Check as C
-use Rattle.machine.specs.Machine.{Machine, Buffer}
+use Rattle.machine.specs.Machine.{Machine}
 use Rattle.machine.specs.Machine as M
 use Rattle.machine.specs.Walk.{Walked, said, walk, marker}
 use lib.Seq.{sets}
@@ -64,18 +64,6 @@ answer-of Said.No = no
 answer-of Said.Yes = yes
 answer-of Said.Also = also
 answer-of Said.Again = again
-
--- what a test sees of the first of some tokens; 64 at the end
-unfoldable pub kind-of : List Token → ℕ
-unfolding seen
-kind-of [] = 64
-kind-of (t ∷ ts) = seen t
-
--- whether the first of some tokens is trivia
-unfoldable pub trivia-first : List Token → Bool
-unfolding trivia
-trivia-first [] = false
-trivia-first (t ∷ ts) = trivia t
 
 -- the first of some tokens taken
 unfoldable pub take-first : List Token → Machine → Machine

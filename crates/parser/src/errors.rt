@@ -1,12 +1,12 @@
 // errors.rs: reports. Message, hint and bump go by value in the place of the builder.
 use crate::State;
 use crate::event::ERROR;
-use crate::event::fits;
-use crate::event::low32;
 use crate::marker::Marker;
 use crate::node;
 use lexer::ByteOffset;
 use lexer::kind;
+use rows::room::fits;
+use rows::room::low32;
 ghost use mathlib.Core.Path.{_≡_};
 ghost use mathlib.Core.Bool.{true, false};
 ghost use mathlib.Core.List.{List, [], _∷_};

@@ -2,18 +2,18 @@
 // raw tokens; the third, of a start that `precede` linked forward, how many events further on the new marker is. The
 // first is one of these.
 use crate::State;
-use crate::source::is_one_of_at;
 use lexer::TokenIndex;
+use rows::room::fits;
+use rows::room::low32;
+use rows::token::is_one_of_at;
 ghost use mathlib.Core.Path.{_≡_};
-ghost use mathlib.Core.Bool.{true, false, _&&_};
-ghost use mathlib.Core.List.{List, [], _∷_};
-ghost use Prim.Native.Nat.{ℕ, _+_, _-_, _*_, _/_, _%_, _≤_, _<_};
-ghost use lib.ListN.{length, take, drop};
-ghost use lib.Dec.{leb};
+ghost use mathlib.Core.List.{List};
+ghost use Prim.Native.Nat.{ℕ, _+_, _-_, _/_, _≤_, _<_};
+ghost use lib.ListN.{drop};
 ghost use Rattle.definitions.specs.Token.{tokens};
 ghost use Rattle.definitions.specs.Skeleton.{Span};
 ghost use Rattle.definitions.specs.Prog.{yes, bump as bump-act, bump-name as bump-name-act};
-ghost use Rattle.machine.specs.Machine.{low, fits as fits-numbers, refuse as refuse-machine, push-row as push-row-machine, push, name-run};
+ghost use Rattle.machine.specs.Machine.{low, refuse as refuse-machine, push-row as push-row-machine, push, name-run};
 ghost use Rattle.machine.specs.Walk.{said, perform};
 ghost use Rattle.parser.specs.View.{view, left};
 
@@ -36,22 +36,6 @@ pub const EVENT_SIZE: usize = 3;
 
 // The cursor after a refusal: past every row, so that every loop ends by itself.
 pub const PAST_THE_END: usize = 18446744073709551615;
-
-// Whether n more numbers fit after the first `at`.
-pub fn fits(len: usize, at: usize, n: usize) -> bool
-    ensures { λ r. ⌜ r ≡ fits-numbers len at n ⌝ }
-    ensures { λ r. ⌜ (r ≡ true → at + n ≤ len) ⌝ }
-{
-    let within = at <= len;
-    if within { n <= len - at } else { false }
-}
-
-// The low 32 bits.
-pub fn low32(x: usize) -> u32
-    ensures { λ r. ⌜ r ≡ low x ⌝ }
-{
-    (x % 4294967296) as u32
-}
 
 impl State {
     // The first refusal stays.

@@ -4,6 +4,7 @@ use crate::State;
 use crate::event;
 use crate::expected;
 use lexer::kind;
+use rows::token::one_of;
 ghost use mathlib.Core.Path.{_≡_};
 ghost use mathlib.Core.List.{List};
 ghost use Prim.Native.Nat.{ℕ, _≤_, _-_};
@@ -23,20 +24,6 @@ pub enum Matcher {
     Either(u8, u8),
     Name,
     LabelName,
-}
-
-pub fn one_of(set: &[u8], k: u8) -> bool
-    ensures { λ r. ⌜ r ≡ one-of (now (set .entry)) k ⌝ }
-{
-    let mut i: usize = 0;
-    while i < set.len() {
-        let same = set[i] == k;
-        if same {
-            return true;
-        }
-        i += 1;
-    }
-    false
 }
 
 impl Matcher {

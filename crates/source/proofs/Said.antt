@@ -17,7 +17,7 @@ use denote.Triple.Spec.{tripleOf}
 use denote.Triple.Clauses.{ensured, lasts}
 use Rattle.definitions.specs.Token.{tokens, drop-trivia}
 use Rattle.lexer.specs.declared.TokenIndex.{TokenIndex}
-use Rattle.parser.specs.View.{kind-of}
+use Rattle.rows.specs.Tokens.{kind-of}
 use Rattle.source.specs.Place.{after-trivia, after-token}
 use Rattle.source.specs.declared.Source.{Source}
 use Rattle.source.proofs.Moves.{sees}

@@ -7,11 +7,11 @@ pub mod place;
 use crate::place::past_token;
 use crate::place::past_trivia;
 use lexer::TokenIndex;
-use parser::source::kind_at;
+use rows::token::kind_at;
 ghost use mathlib.Core.Path.{_≡_};
 ghost use lib.ListN.{drop};
 ghost use Rattle.definitions.specs.Token.{tokens, drop-trivia};
-ghost use Rattle.parser.specs.View.{kind-of};
+ghost use Rattle.rows.specs.Tokens.{kind-of};
 ghost use Rattle.source.specs.Place.{after-trivia, after-token};
 
 pub struct Source<'a> {

@@ -43,7 +43,7 @@ use Rattle.definitions.specs.Token.{tokens, drop-trivia}
 use Rattle.lexer.specs.declared.TokenIndex.{TokenIndex}
 use Rattle.lexer.proofs.TokenIndex as I
 use Rattle.lexer.proofs.TokenIndex.Laws as I′
-use Rattle.parser.specs.View.{kind-of}
+use Rattle.rows.specs.Tokens.{kind-of}
 use Rattle.source.specs.Place.{after-token}
 use Rattle.source.specs.declared.Sight.{Sight}
 use Rattle.source.specs.declared.Source.{Source}

@@ -8,7 +8,8 @@ use Rattle.definitions.specs.Grammar.{infix-turn}
 use Rattle.parser.specs.View.{left, marker-of, view-of}
 use Rattle.expr.specs.Parts.{links-from}
 use Rattle.machine.proofs.Way.{c-fn}
-use Rattle.expr.proofs.Chain.{ahead-falls, linked-again, linked-last, linked-stop, step-again, step-last, step-none}
+use Rattle.names.proofs.Kit.{ahead-falls}
+use Rattle.expr.proofs.Chain.{linked-again, linked-last, linked-stop, step-again, step-last, step-none}
 use Rattle.expr.proofs.infix_chain.Reads as reads
 use Rattle.expr.proofs.+expr_binding_power+infix_chain+infix_step+lhs+missing_lhs+no_lhs+paren_expr+prefix_expr+rhs+ternary_rhs.Lts-infix_chain as lts
 use Rattle.expr.proofs.+expr_binding_power+infix_chain+infix_step+lhs+missing_lhs+no_lhs+paren_expr+prefix_expr+rhs+ternary_rhs.Proof.Measures.{infix-chain-at, infix-chain-claims}
@@ -67,7 +68,7 @@ loop-again t c =
           omega (arith, infix-step′ .infix-step .kept, complete′ .complete .kept, precede′ .precede .kept, loop′ .loop .inv .1),
           (
             omega (arith, infix-step′ .infix-step .kept, complete′ .complete .kept, precede′ .precede .kept, loop′ .loop .inv .1),
-            linked-again (s′ .args .room) (s′ .args .t .now) (infix-turn (s′ .args .min-bp)) (marker-of (loop′ .loop .m)) 5 (complete′ .complete .ensures .0 _ _) (precede′ .precede .ensures .0 _ _) (linked′ .linked .ensures) (s′ .good .1 .0 .0) (step-again (c-fn (s′ .args .room) (infix-step′ .infix-step .ensures .0)) (if1′ .if1 .taken) (c .if2 .taken)) (ahead-falls (s′ .args .t .now) (loop′ .loop .q) (infix-step′ .infix-step .result .p) (infix-step′ .infix-step .ensures .1 .1 (if1′ .if1 .taken))) ∙ loop′ .loop .inv .1 .1 .1 .1,
+            linked-again (s′ .args .room) (s′ .args .t .now) (infix-turn (s′ .args .min-bp)) (marker-of (loop′ .loop .m)) 5 (complete′ .complete .ensures .0 _ _) (precede′ .precede .ensures .0 _ _) (linked′ .linked .ensures) (s′ .good .1 .0 .0) (step-again (c-fn (s′ .args .room) (infix-step′ .infix-step .ensures .0)) (if1′ .if1 .taken) (c .if2 .taken)) (ahead-falls (s′ .args .t .now) (loop′ .loop .q .s) (infix-step′ .infix-step .result .p .s) (infix-step′ .infix-step .ensures .1 .1 (if1′ .if1 .taken))) ∙ loop′ .loop .inv .1 .1 .1 .1,
           ),
         ),
       ),

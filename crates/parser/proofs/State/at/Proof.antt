@@ -1,5 +1,5 @@
 -- `at`: the expectations, and then the test.
-use Rattle.parser.proofs.Kit.{flags}
+use Rattle.rows.proofs.Kit.{flags}
 use mathlib.Core.Path.{_≡_, refl, sym, _∙_, ap}
 use Rattle.definitions.specs.Token.{tokens}
 use Rattle.parser.specs.View.{view, matcher-of}

@@ -1,5 +1,5 @@
 -- `at_end`: whether a row is left after the trivia.
-use Rattle.parser.proofs.Kit.{flags, true-false}
+use Rattle.rows.proofs.Kit.{flags, true-false}
 use mathlib.Core.Path.{sym}
 use Rattle.definitions.specs.Token.{tokens}
 use Rattle.parser.specs.View.{view, left}

@@ -1,5 +1,5 @@
 -- `at_immediate`: the expectation, and the row at the cursor.
-use Rattle.parser.proofs.Kit.{flags}
+use Rattle.rows.proofs.Kit.{flags}
 use Rattle.definitions.specs.Token.{tokens}
 use Rattle.parser.specs.View.{view, left}
 use Rattle.parser.proofs.Programs.{immediate-is}

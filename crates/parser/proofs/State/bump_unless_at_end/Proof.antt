@@ -1,5 +1,5 @@
 -- `bump_unless_at_end`: a token, if there is one.
-use Rattle.parser.proofs.Kit.{flags}
+use Rattle.rows.proofs.Kit.{flags}
 use mathlib.Core.Path.{_≡_, refl, sym, _∙_, ap}
 use mathlib.Core.Bool.{true, false}
 use Rattle.definitions.specs.Token.{tokens}

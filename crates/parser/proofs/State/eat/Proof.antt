@@ -1,5 +1,5 @@
 -- `eat`: the test, and the token or name, or else the expectations.
-use Rattle.parser.proofs.Kit.{flags, true-false}
+use Rattle.rows.proofs.Kit.{flags, true-false}
 use mathlib.Core.Path.{_≡_, refl, sym, _∙_, ap}
 use mathlib.Core.Bool.{true, false}
 use Rattle.definitions.specs.Token.{tokens}

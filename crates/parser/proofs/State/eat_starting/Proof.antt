@@ -1,5 +1,5 @@
 -- `eat_starting`: the test, and on a match the marker and the token or name.
-use Rattle.parser.proofs.Kit.{flags, true-false}
+use Rattle.rows.proofs.Kit.{flags, true-false}
 use mathlib.Core.Path.{sym}
 use mathlib.Core.Bool.{true, false}
 use Rattle.definitions.specs.Token.{tokens}

@@ -1,5 +1,5 @@
 -- `emit`: the event, and then the row.
-use Rattle.parser.proofs.Kit.{flags}
+use Rattle.rows.proofs.Kit.{flags}
 use Rattle.definitions.specs.Token.{tokens}
 use borrow.Author.Tests.{eqb-true}
 use Rattle.parser.specs.View.{view, span-of}

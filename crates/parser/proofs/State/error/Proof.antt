@@ -1,5 +1,5 @@
 -- `error`: the report, and what it takes.
-use Rattle.parser.proofs.Kit.{flags}
+use Rattle.rows.proofs.Kit.{flags}
 use mathlib.Core.Path.{ap}
 use Rattle.definitions.specs.Token.{tokens}
 use Rattle.parser.specs.View.{view, span-of, takes}

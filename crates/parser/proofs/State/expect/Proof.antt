@@ -1,5 +1,5 @@
 -- `expect`: what `eat` takes, or a report.
-use Rattle.parser.proofs.Kit.{flags, true-false}
+use Rattle.rows.proofs.Kit.{flags, true-false}
 use mathlib.Core.Path.{sym}
 use mathlib.Core.Bool.{false}
 use Rattle.definitions.specs.Token.{tokens}

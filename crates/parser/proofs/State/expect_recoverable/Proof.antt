@@ -1,5 +1,5 @@
 -- `expect_recoverable`: what `eat` takes, or a report, which takes a token that is not in the recovery set.
-use Rattle.parser.proofs.Kit.{flags}
+use Rattle.rows.proofs.Kit.{flags}
 use mathlib.Core.Bool.{true, false}
 use Rattle.definitions.specs.Token.{tokens}
 use Rattle.parser.specs.View.{view, matcher-of}

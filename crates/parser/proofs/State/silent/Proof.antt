@@ -1,5 +1,5 @@
 -- `silent`: a peek, and the row there.
-use Rattle.parser.proofs.Kit.{flags}
+use Rattle.rows.proofs.Kit.{flags}
 use Rattle.definitions.specs.Token.{tokens}
 use Rattle.parser.specs.View.{view, left, kinds-of}
 use Rattle.parser.proofs.Moves.{silent-is}

@@ -1,5 +1,5 @@
 -- `silent_at_macro_invocation_with_args`: an Ident, and an LParen right after it.
-use Rattle.parser.proofs.Kit.{true-false}
+use Rattle.rows.proofs.Kit.{true-false}
 use mathlib.Core.Path.{sym}
 use mathlib.Core.Bool.{true, false}
 use Rattle.definitions.specs.Token.{tokens}

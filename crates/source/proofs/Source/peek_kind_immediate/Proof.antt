@@ -39,11 +39,11 @@ use denote.Triple.Walked.{says, Stays, stay-none, walkOf, goes-none, Walks, ends
 use denote.Exit.{yes}
 use denote.Triple.Clauses.{ensured, lasts}
 use Rattle.definitions.specs.Token.{tokens}
-use Rattle.parser.specs.View.{kind-of}
-use Rattle.parser.proofs.source.kind_at as kind-at
-use Rattle.parser.proofs.source.kind_at.Symbol as kind-at-def
-use Rattle.parser.proofs.source.kind_at.Symbol.{name as #parser·kind-at}
-use Rattle.parser.proofs.source.kind_at.Met as kind-at-thm
+use Rattle.rows.specs.Tokens.{kind-of}
+use Rattle.rows.proofs.token.kind_at as kind-at
+use Rattle.rows.proofs.token.kind_at.Symbol as kind-at-def
+use Rattle.rows.proofs.token.kind_at.Symbol.{name as #rows·kind-at}
+use Rattle.rows.proofs.token.kind_at.Met as kind-at-thm
 use Rattle.source.specs.declared.Source.{Source}
 use Rattle.source.proofs.Held.{Own, Fields, rows-val, opened}
 use Rattle.source.proofs.Source as T
@@ -109,7 +109,7 @@ module _ {M : Type 1} (𝓤 : URA M) (H : Heap 𝓤) (A : Atoms 𝓤) (W : Given
       suffices ! _ (ends-at 𝓤 H A immediate.ended stayed (immediate.clauses 𝓤 H A mem run) W (((κ, tt), (q, tt), tt, (d, tt), (mach ∷ [], tt)), tt) u r (tt, tt) (tt, tt)) $ says ! e $
       move ! (1 ∷ []) $ frame ! $ nothing ! $ move ! (2 ∷ 0 ∷ []) $ fjoin ! $ frame ! $ done !
 
-  module _ (C : Calls 𝓤 H) (Λ : Loops 𝓤 H) (fm : FmC 𝓤 H (W .laws) C) (known : Triple 𝓤 (C #parser·kind-at) (KindAt 𝓤 H A mem run)) where
+  module _ (C : Calls 𝓤 H) (Λ : Loops 𝓤 H) (fm : FmC 𝓤 H (W .laws) C) (known : Triple 𝓤 (C #rows·kind-at) (KindAt 𝓤 H A mem run)) where
     walk : Holds (hasTy (T′.mir (named 0)) mach) × WT mach → ent 𝓤 (onEntry 𝓤 H A immediate.signature (κ, tt) (q, tt) (d, tt) (mach ∷ [], tt)) (WpFn 𝓤 H C Λ code.function (mach ∷ []) Post)
     walk wt =
         qed W (raw (onEntry 𝓤 H A immediate.signature (κ, tt) (q, tt) (d, tt) (mach ∷ [], tt)) ∷ []) ∵ enter ! C Λ code.function (mach ∷ []) _ $
@@ -127,13 +127,13 @@ module _ {M : Type 1} (𝓤 : URA M) (H : Heap 𝓤) (A : Atoms 𝓤) (W : Given
         move ! (9 ∷ 10 ∷ []) $ free1 ! $ move ! (7 ∷ 8 ∷ []) $ free1 ! $ move ! (5 ∷ 6 ∷ []) $ free1 ! $ move ! (3 ∷ 4 ∷ []) $ free1 ! $ free0 ! $ by ! (exits r u e)))))))))
 
 module _ {M : Type 1} (𝓤 : URA M) (H : Heap 𝓤) (A : Atoms 𝓤) (W : Given 𝓤 H A) (mem : Memory → SProp 𝓤) (run : Routine → Fun 𝓤) where
-  immediate-walks : (C : Calls 𝓤 H) (Λ : Loops 𝓤 H) → FmC 𝓤 H (W .laws) C → Triple 𝓤 (C #parser·kind-at) (KindAt 𝓤 H A mem run)
+  immediate-walks : (C : Calls 𝓤 H) (Λ : Loops 𝓤 H) → FmC 𝓤 H (W .laws) C → Triple 𝓤 (C #rows·kind-at) (KindAt 𝓤 H A mem run)
       → Walks 𝓤 H A immediate.ended stayed (WpFn 𝓤 H C Λ code.function) (immediate.clauses 𝓤 H A mem run)
   immediate-walks C Λ fm known = walked 𝓤 H A immediate.ended stayed (immediate.clauses 𝓤 H A mem run) (WpFn 𝓤 H C Λ code.function) (λ κs. (LL.vals (T.the-type (namedLft 1 0 tt κs)) (T′.the-laws (namedLft 1 0 tt κs)), tt)) (λ κs. (LL.tells (T.the-type (namedLft 1 0 tt κs)) (T′.the-laws (namedLft 1 0 tt κs)), tt))
       (λ κs qs bounds a g are. via 𝓤 _ (fst∗ 𝓤 _ (emp 𝓤)) (walk 𝓤 H A W mem run (κs .0) (qs .0) (a .0) C Λ fm known (LL.lawful (T.the-type (namedLft 1 0 tt κs)) (T′.the-laws (namedLft 1 0 tt κs)) 𝓤 H A W .typed (a .0) _ (are .0) .0)))
 
 immediate-meets : {M : Type 1} (𝓤 : URA M) (H : Heap 𝓤) (A : Atoms 𝓤) (W : Given 𝓤 H A) (mem : Memory → SProp 𝓤) (run : Routine → Fun 𝓤) (𝓣 : Tables 𝓤 H)
-    → Triple 𝓤 (𝓣 .C #parser·kind-at) (KindAt 𝓤 H A mem run)
+    → Triple 𝓤 (𝓣 .C #rows·kind-at) (KindAt 𝓤 H A mem run)
     → Meets 𝓤 H A immediate.signature (WpFn 𝓤 H (𝓣 .C) (𝓣 .Λ) code.function) (immediate.spec 𝓤 H A mem run)
 immediate-meets 𝓤 H A W mem run 𝓣 known = walk-meets 𝓤 H A immediate.ended stayed W (goes-none 𝓤 H A W 1 B yes (λ κs x f. refl), tt) (immediate.clauses 𝓤 H A mem run) (WpFn 𝓤 H (𝓣 .C) (𝓣 .Λ) code.function) (WpFn-mono 𝓤 H (W .laws) 𝓣 code.function)
     (immediate-walks 𝓤 H A W mem run (𝓣 .C) (𝓣 .Λ) (fmOf 𝓤 H (W .laws) 𝓣) known)
@@ -144,4 +144,4 @@ peek-kind-immediate-spec 𝓤 H 𝓜 𝓖 𝓡 =
     entered 𝓤 H (tripleOf 𝓤 H (𝓖 .A) immediate.signature (immediate.spec 𝓤 H (𝓖 .A) (𝓜 .mem) (𝓡 .run)))
     (tables 𝓤 H 𝓜 𝓡 code.env .C) (tables 𝓤 H 𝓜 𝓡 code.env .Λ) #source·immediate code.function (code.unfolded 𝓤 H 𝓜 𝓡)
     (immediate-meets 𝓤 H (𝓖 .A) (givenOf 𝓤 H 𝓜 𝓖) (𝓜 .mem) (𝓡 .run) (tablesOf 𝓤 H 𝓜 (tables 𝓤 H 𝓜 𝓡 code.env))
-    (cited 𝓤 H (KindAt 𝓤 H (𝓖 .A) (𝓜 .mem) (𝓡 .run)) 𝓜 𝓡 code.env #parser·kind-at kind-at-def.routine code.calls-parser·source·kind-at (kind-at-thm.met 𝓤 H 𝓜 𝓖 𝓡)))
+    (cited 𝓤 H (KindAt 𝓤 H (𝓖 .A) (𝓜 .mem) (𝓡 .run)) 𝓜 𝓡 code.env #rows·kind-at kind-at-def.routine code.calls-rows·token·kind-at (kind-at-thm.met 𝓤 H 𝓜 𝓖 𝓡)))

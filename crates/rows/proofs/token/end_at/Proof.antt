@@ -1,7 +1,7 @@
 -- `end_at`: the sum wraps at 32 bits, as the machine's does.
-use Rattle.parser.proofs.Kit.{flags, end-in, end-past}
-use Rattle.parser.proofs.source.end_at.Statement.{statement}
-use Rattle.parser.proofs.source.end_at.Tie as tie
+use Rattle.rows.proofs.Kit.{flags, end-in, end-past}
+use Rattle.rows.proofs.token.end_at.Statement.{statement}
+use Rattle.rows.proofs.token.end_at.Tie as tie
 
 mul-wrapping-add-u32 : tie.Need-mul-wrapping-add-u32
 mul-wrapping-add-u32 c = omega flags

@@ -1,7 +1,7 @@
 -- `is_next_at`: the row after the one at hand.
-use Rattle.parser.proofs.Kit.{flags, is-next-rows, is-next-past}
-use Rattle.parser.proofs.source.is_next_at.Statement.{statement}
-use Rattle.parser.proofs.source.is_next_at.Tie as tie
+use Rattle.rows.proofs.Kit.{flags, is-next-rows, is-next-past}
+use Rattle.rows.proofs.token.is_next_at.Statement.{statement}
+use Rattle.rows.proofs.token.is_next_at.Tie as tie
 
 add-is-at : tie.Need-add-is-at
 add-is-at c = omega flags

@@ -1,10 +1,10 @@
 -- `fits`: the sum never wraps.
-use Rattle.parser.proofs.Kit.{flags, true-false}
+use Rattle.rows.proofs.Kit.{flags, true-false}
 use mathlib.Core.Path.{sym}
 use Prim.Native.Nat.{_-_}
 use borrow.Author.Tests.{leb-true}
-use Rattle.parser.proofs.event.fits.Statement.{statement}
-use Rattle.parser.proofs.event.fits.Tie as tie
+use Rattle.rows.proofs.room.fits.Statement.{statement}
+use Rattle.rows.proofs.room.fits.Tie as tie
 
 sub-result : tie.Need-sub-result
 sub-result c = omega flags

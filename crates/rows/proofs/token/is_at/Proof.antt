@@ -1,9 +1,9 @@
 -- `is_at`: the kind of the row, compared.
-use Rattle.parser.proofs.Kit.{flags, true-false, is-at-rows, first-past-rows}
+use Rattle.rows.proofs.Kit.{flags, true-false, is-at-rows, first-past-rows}
 use mathlib.Core.Path.{sym}
 use mathlib.Core.List.{[], _∷_}
-use Rattle.parser.proofs.source.is_at.Statement.{statement}
-use Rattle.parser.proofs.source.is_at.Tie as tie
+use Rattle.rows.proofs.token.is_at.Statement.{statement}
+use Rattle.rows.proofs.token.is_at.Tie as tie
 
 kind-at-requires : tie.Need-kind-at-requires
 kind-at-requires c κs = tt

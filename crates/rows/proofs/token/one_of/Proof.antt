@@ -1,12 +1,12 @@
 -- `one_of`: what is in the set is in what is left of it.
-use Rattle.parser.proofs.Kit.{flags}
+use Rattle.rows.proofs.Kit.{flags}
 use Prim.Native.Nat.{_-_, _≤_}
 use mathlib.Core.Path.{_≡_, refl, sym, _∙_, ap}
 use lib.ListN.{length, drop}
 use Rattle.definitions.specs.Token.{one-of}
-use Rattle.parser.proofs.Lists.{one-of-found, one-of-next, one-of-none}
-use Rattle.parser.proofs.matcher.one_of.Statement.{statement}
-use Rattle.parser.proofs.matcher.one_of.Tie as tie
+use Rattle.rows.proofs.Kit.{one-of-found, one-of-next, one-of-none}
+use Rattle.rows.proofs.token.one_of.Statement.{statement}
+use Rattle.rows.proofs.token.one_of.Tie as tie
 
 abbrev Inv-loop : tie.InvT-loop
 Inv-loop set k i₀ i = (one-of set k ≡ one-of (drop i set) k) × (i ≤ length set)

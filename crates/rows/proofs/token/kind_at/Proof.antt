@@ -1,8 +1,8 @@
 -- `kind_at`: what a test sees of a row.
-use Rattle.parser.proofs.Kit.{flags, kind-plain, kind-error, kind-past}
+use Rattle.rows.proofs.Kit.{flags, kind-plain, kind-error, kind-past}
 use mathlib.Core.Path.{refl, sym}
-use Rattle.parser.proofs.source.kind_at.Statement.{statement}
-use Rattle.parser.proofs.source.kind_at.Tie as tie
+use Rattle.rows.proofs.token.kind_at.Statement.{statement}
+use Rattle.rows.proofs.token.kind_at.Tie as tie
 
 mul-k : tie.Need-mul-k
 mul-k c = omega flags

@@ -1,6 +1,6 @@
 -- `is_trivia`: the three kinds, one after the other.
-use Rattle.parser.proofs.source.is_trivia.Statement.{statement}
-use Rattle.parser.proofs.source.is_trivia.Tie as tie
+use Rattle.rows.proofs.token.is_trivia.Statement.{statement}
+use Rattle.rows.proofs.token.is_trivia.Tie as tie
 
 returns : tie.Need-returns
 returns c = rw (c .if1 .taken)

@@ -1,8 +1,8 @@
 -- `is_one_of_at`: the kind of the row, looked up.
-use Rattle.parser.proofs.Kit.{flags, true-false, is-one-of-rows, first-past-rows}
+use Rattle.rows.proofs.Kit.{flags, true-false, is-one-of-rows, first-past-rows}
 use mathlib.Core.Path.{sym}
-use Rattle.parser.proofs.source.is_one_of_at.Statement.{statement}
-use Rattle.parser.proofs.source.is_one_of_at.Tie as tie
+use Rattle.rows.proofs.token.is_one_of_at.Statement.{statement}
+use Rattle.rows.proofs.token.is_one_of_at.Tie as tie
 
 kind-at-requires : tie.Need-kind-at-requires
 kind-at-requires c κs = tt

@@ -1,12 +1,12 @@
 -- `skip_trivia`: what is skipped from here is what is skipped from the start.
-use Rattle.parser.proofs.Kit.{flags, skip-more, skip-done}
+use Rattle.rows.proofs.Kit.{flags, skip-more, skip-done}
 use Prim.Native.Nat.{_-_, _/_, _≤_}
 use mathlib.Core.Path.{_≡_, refl, sym, _∙_}
 use lib.ListN.{length, drop}
 use Rattle.definitions.specs.Token.{tokens}
 use Rattle.machine.specs.Machine.{Machine, with-cursor, skip}
-use Rattle.parser.proofs.source.skip_trivia.Statement.{statement}
-use Rattle.parser.proofs.source.skip_trivia.Tie as tie
+use Rattle.rows.proofs.token.skip_trivia.Statement.{statement}
+use Rattle.rows.proofs.token.skip_trivia.Tie as tie
 
 abbrev Inv-loop : tie.InvT-loop
 Inv-loop t from start at₀ byte₀ at byte =

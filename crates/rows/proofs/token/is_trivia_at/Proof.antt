@@ -1,8 +1,8 @@
 -- `is_trivia_at`: the row's kind.
-use Rattle.parser.proofs.Kit.{flags, true-false, trivia-in, trivia-past}
+use Rattle.rows.proofs.Kit.{flags, true-false, trivia-in, trivia-past}
 use mathlib.Core.Path.{sym}
-use Rattle.parser.proofs.source.is_trivia_at.Statement.{statement}
-use Rattle.parser.proofs.source.is_trivia_at.Tie as tie
+use Rattle.rows.proofs.token.is_trivia_at.Statement.{statement}
+use Rattle.rows.proofs.token.is_trivia_at.Tie as tie
 
 mul-is-trivia : tie.Need-mul-is-trivia
 mul-is-trivia c = omega flags

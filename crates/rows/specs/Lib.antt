@@ -1,0 +1,2 @@
+-- What the contracts over token rows cite.
+pub mod Tokens
