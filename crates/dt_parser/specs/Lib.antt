@@ -1,4 +1,3 @@
--- What the contracts cite. The exported one cites Result and `definitions` alone.
-pub mod Result
+-- What the inner contracts cite. The exported one cites Result of the crate `answer`, and `definitions`.
 pub mod Entry
-pub mod Left
+pub mod Sound

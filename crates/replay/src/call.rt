@@ -2,7 +2,7 @@
 use crate::lend;
 use crate::scan::least;
 use crate::show;
-use dt_parser::answer::Answer;
+use answer::Answer;
 
 // More rows than any call gives.
 const MOST_ROWS: usize = 1000000;

@@ -13,8 +13,10 @@ use Rattle.definitions.specs.Skeleton.{Skeleton, done, token, name, node, ignor
 use Rattle.definitions.specs.Event.{forward, events}
 use Rattle.definitions.specs.Place.{tree-row}
 use Rattle.sink.specs.Encode.{start-tag, encode, Alone, Chained}
-use Rattle.sink.specs.Machine.{low, put, field, link, linksN, links, open-rows, on, start-on}
-use Rattle.sink.proofs.Kit.{no, links-end}
+use Rattle.tree_rows.specs.Rows.{low, put, field, link, linksN, links, open-rows}
+use Rattle.sink.specs.Machine.{on, start-on}
+use Rattle.tree_rows.proofs.Kit.{links-end}
+use Rattle.sink.proofs.Kit.{no}
 use Rattle.sink.proofs.Encode.{event-count, events-length, encode-count}
 use Rattle.sink.proofs.Grow.{Filled, state, low-small, put-seam}
 use Rattle.sink.proofs.Steps.{inside}

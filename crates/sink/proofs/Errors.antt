@@ -11,7 +11,8 @@ use Rattle.definitions.specs.Call.{ERROR-ROW}
 use Rattle.definitions.specs.Token.{Token, tokens, is-error, bytes}
 use Rattle.definitions.specs.Place.{lexical-errors}
 use Rattle.laws.specs.Lossless.{errors-in}
-use Rattle.sink.specs.Machine.{low, put-error, Log, log, logged, errorsN, errors-on}
+use Rattle.tree_rows.specs.Rows.{low}
+use Rattle.token_rows.specs.Tokens.{put-error, Log, log, logged, errorsN, errors-on}
 use Rattle.sink.proofs.Grow.{low-small}
 use Rattle.sink.proofs.Steps.{From, from-kind, from-len, from-past, tokens-length}
 

@@ -11,7 +11,8 @@ use Rattle.definitions.specs.Call.{TREE-ROW}
 use Rattle.definitions.specs.Token.{Token, bytes}
 use Rattle.definitions.specs.Place.{Tree, nil, leaf, _⊕_, width, count, rows, tree-row}
 use Rattle.laws.proofs.Tree.{rows-beside, width-beside, count-beside}
-use Rattle.sink.specs.Machine.{low, put, number, On, on, moved, leaf-on}
+use Rattle.tree_rows.specs.Rows.{low, put, number}
+use Rattle.sink.specs.Machine.{On, on, moved, leaf-on}
 use Rattle.sink.proofs.Trees.{raw, size, raw-beside, size-beside, rows-length, rows-add}
 
 -- written: the numbers written. free: the rest of the buffer. The other fields are the sink's.

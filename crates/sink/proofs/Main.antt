@@ -16,7 +16,8 @@ use Rattle.definitions.specs.Event.{events}
 use Rattle.definitions.specs.Place.{Tree, nil, leaf, branch, _⊕_, lead, front, after, place, width, rows}
 use Rattle.laws.proofs.Trivia.{Solid, dropped-solid, drop-twice}
 use Rattle.sink.specs.Encode.{start-tag, event-row, encode, Alone, Chained}
-use Rattle.sink.specs.Machine.{field, On, on, token-on, trivia-on, combined-on, start-on, finish-on, event-on, eventsN}
+use Rattle.tree_rows.specs.Rows.{field}
+use Rattle.sink.specs.Machine.{On, on, token-on, trivia-on, combined-on, start-on, finish-on, event-on, eventsN}
 use Rattle.sink.proofs.Kit.{flags}
 use Rattle.sink.proofs.Encode.{event-count, events-length, encode-count}
 use Rattle.sink.proofs.Trees.{raw, size, raw-beside, size-beside, rows-length, count-size, raw-lead, raw-place}

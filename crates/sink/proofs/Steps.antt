@@ -12,7 +12,9 @@ use Rattle.definitions.specs.TokenKind as K
 use Rattle.definitions.specs.Call.{TREE-ROW}
 use Rattle.definitions.specs.Token.{Token, tokens, is-error, seen, trivia, bytes}
 use Rattle.definitions.specs.Place.{Tree, nil, leaf, branch, _⊕_, lead, front, width, count, rows, tree-row}
-use Rattle.sink.specs.Machine.{low, on, sink-of, kind-seen, is-trivia, trivia-here, trivia-on, token-on, at-most, widthN, combined-on, finish-on}
+use Rattle.tree_rows.specs.Rows.{low}
+use Rattle.token_rows.specs.Tokens.{kind-seen, is-trivia, trivia-here, at-most, widthN}
+use Rattle.sink.specs.Machine.{on, sink-of, trivia-on, token-on, combined-on, finish-on}
 use Rattle.sink.proofs.Kit.{flags, trivia-more, trivia-done}
 use Rattle.sink.proofs.Trees.{raw, size}
 use Rattle.sink.proofs.Grow.{Filled, state, grow, grow-grow, grow-nil, Room, room-front, room-back, low-small, put-seam, number-seam, leaf-runs}

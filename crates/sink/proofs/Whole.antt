@@ -18,7 +18,8 @@ use Rattle.sink.specs.declared.Sunk.{Sunk}
 use Rattle.sink.specs.declared.Sunk.the-variants.{Written, NoRoom}
 use Rattle.sink.specs.Answer.{number}
 use Rattle.sink.specs.Encode.{encode, Chained}
-use Rattle.sink.specs.Machine.{On, on, sink-of, trivia-on, finish-on, eventsN, root-on, events-on, Log, log, errors-on, Left, left, answered, finish-all}
+use Rattle.token_rows.specs.Tokens.{Log, log, errors-on}
+use Rattle.sink.specs.Machine.{On, on, sink-of, trivia-on, finish-on, eventsN, root-on, events-on, Left, left, answered, finish-all}
 use Rattle.sink.specs.Promise.{Small, enough, Placed, Promise}
 use Rattle.sink.proofs.Encode.{event-count, events-length, encode-count}
 use Rattle.sink.proofs.Trees.{size, rows-length, raw-place, root-width, root-size}

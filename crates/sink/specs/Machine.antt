@@ -1,82 +1,19 @@
 -- What the code does, step by step, over the numbers of the lent buffers, whatever they are. Each definition is the model of the
--- function whose contract cites it.
-use Prim.Native.Nat.{ℕ, zero, suc, _+_, _-_, _*_, _/_, _%_}
-use mathlib.Core.Bool.{Bool, true, false, cond, _||_, _&&_}
-use mathlib.Core.List.{List, [], _∷_}
+-- function whose contract cites it. Those of the rows are in the crates `tree_rows` and `token_rows`.
+use Prim.Native.Nat.{ℕ, zero, suc, _+_, _-_, _*_, _/_}
+use mathlib.Core.Bool.{cond, _&&_}
+use mathlib.Core.List.{List, []}
 use lib.ListN.{length, getD}
-use lib.Seq.{sets}
 use lib.Dec.{ltb, leb, eqb}
 use Rattle.definitions.specs.Call.{TREE-ROW, EVENT-ROW, ERROR-ROW}
 use Rattle.definitions.specs.Place.{tree-row}
 use Rattle.definitions.specs.TokenKind as K
-use Rattle.sink.specs.Encode.{START-NODE, ADD-TOKEN, ADD-COMBINED-TOKEN, FINISH-NODE, LINKED-START-NODE}
+use Rattle.tree_rows.specs.Rows.{low, put, number, field, links, open-rows}
+use Rattle.token_rows.specs.Tokens.{kind-seen, trivia-here, at-most, widthN, Log, log, errors-on}
+use Rattle.sink.specs.Encode.{START-NODE, ADD-TOKEN, ADD-COMBINED-TOKEN, FINISH-NODE}
 use Rattle.sink.specs.declared.Sink.{Sink}
 use Rattle.sink.specs.declared.Sunk.{Sunk}
 use Rattle.sink.specs.declared.Sunk.the-variants.{Written, NoRoom}
-
--- a number of 32 bits
-unfoldable pub low : ℕ → ℕ
-low x = x % 4294967296
-
--- ---------------------------------------------------------------- rows
-
--- a row's numbers in their place; nothing where they do not fit
-unfoldable pub put : ℕ → List ℕ → List ℕ → List ℕ
-put row r t = cond (leb (row * TREE-ROW + TREE-ROW) (length t)) (sets t (row * TREE-ROW) r) t
-
--- a number of a row; 0 where the row does not fit
-unfoldable pub number : ℕ → ℕ → List ℕ → ℕ
-number row j t = cond (leb (row * TREE-ROW + TREE-ROW) (length t)) (getD t (row * TREE-ROW + j) 0) 0
-
--- ---------------------------------------------------------------- token rows
-
-unfoldable pub kind-seen : ℕ → ℕ
-kind-seen k = cond (leb 64 k) K.Unrecognized k
-
-unfoldable pub is-trivia : ℕ → Bool
-is-trivia k = eqb k K.Whitespace || eqb k K.LineComment || eqb k K.BlockComment
-
-unfoldable pub trivia-here : List ℕ → ℕ → Bool
-unfolding is-trivia
-trivia-here tk at = cond (ltb at (length tk / 2)) (is-trivia (getD tk (at * 2) 0)) false
-
-unfoldable pub at-most : ℕ → ℕ → ℕ
-at-most n m = cond (leb n m) n m
-
--- the bytes of n tokens from an index on, added to a sum
-unfoldable pub widthN : ℕ → List ℕ → ℕ → ℕ → ℕ
-unfolding low
-widthN zero tk at sum = sum
-widthN (suc n) tk at sum = widthN n tk (at + 1) (low (sum + getD tk (at * 2 + 1) 0))
-
--- ---------------------------------------------------------------- event rows
-
-unfoldable pub field : List ℕ → ℕ → ℕ → ℕ
-field ev j k = cond (ltb j (length ev / EVENT-ROW)) (getD ev (j * EVENT-ROW + k) 0) 0
-
-unfoldable pub link : List ℕ → ℕ → ℕ
-unfolding field
-link ev j =
-    let d = getD ev (j * EVENT-ROW + 2) 0 in
-    cond (ltb j (length ev / EVENT-ROW)) (cond (eqb (field ev (j + d) 0) LINKED-START-NODE) d 0) 0
-
--- at most n links
-unfoldable pub linksN : ℕ → List ℕ → ℕ → ℕ
-unfolding link
-linksN zero ev j = 0
-linksN (suc n) ev j = let r = linksN n ev (j + link ev j) + 1 in cond (ltb 0 (link ev j)) r 0
-
-unfoldable pub links : List ℕ → ℕ → ℕ
-unfolding linksN
-links ev j = linksN (length ev / EVENT-ROW) ev j
-
--- the open rows of a chain of n links, the innermost written first
-unfoldable pub open-rows : ℕ → List ℕ → ℕ → ℕ → ℕ → ℕ → ℕ → List ℕ → List ℕ
-unfolding put field link low
-open-rows zero ev j first byte parent children t = put first (tree-row parent (field ev j 1) byte children []) t
-open-rows (suc n) ev j first byte parent children t =
-    let up = low (first + n) in
-    open-rows n ev (j + link ev j) first byte parent children (put (low (up + 1)) (tree-row up (field ev j 1) byte 0 []) t)
 
 -- ---------------------------------------------------------------- the sink with the tree rows
 
@@ -153,30 +90,6 @@ root-on k t = on (record { cursor = 0; byte = 0; rows = 1; node = 0; children = 
 unfoldable pub events-on : ℕ → List ℕ → List ℕ → List ℕ → On
 unfolding finish-on trivia-on eventsN root-on
 events-on k tk ev t = finish-on (trivia-on tk (eventsN (length ev / EVENT-ROW) tk ev 0 (root-on k t)))
-
--- ---------------------------------------------------------------- lexical errors: how many, with the rows
-
-pub data Log : Type 0 where
-  log : ℕ → List ℕ → Log
-
-unfoldable pub put-error : ℕ → List ℕ → List ℕ → List ℕ
-put-error row r e = cond (leb (row * ERROR-ROW + ERROR-ROW) (length e)) (sets e (row * ERROR-ROW) r) e
-
-unfoldable pub logged : ℕ → ℕ → ℕ → Log → Log
-unfolding low put-error
-logged k from to (log n e) = cond (leb 64 k) (log (low (n + 1)) (put-error n (k ∷ from ∷ to ∷ []) e)) (log n e)
-
--- n tokens from an index on
-unfoldable pub errorsN : ℕ → List ℕ → ℕ → ℕ → Log → Log
-unfolding low logged
-errorsN zero tk at byte x = x
-errorsN (suc n) tk at byte x =
-    let end = low (byte + getD tk (at * 2 + 1) 0) in
-    errorsN n tk (at + 1) end (logged (getD tk (at * 2) 0) byte end x)
-
-unfoldable pub errors-on : List ℕ → List ℕ → Log
-unfolding errorsN
-errors-on tk e = errorsN (length tk / 2) tk 0 0 (log 0 e)
 
 -- ---------------------------------------------------------------- the whole
 

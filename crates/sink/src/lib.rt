@@ -1,11 +1,10 @@
 // sink.rs: the `Sink` turns events and tokens into tree rows and lexical errors. There is no heap and no stack beside the
 // rows: while a node is open, its row holds what the sink returns to when the node is finished.
-mod event;
-mod lexical;
-mod num;
-mod row;
-mod source;
-
+use token_rows::lexical;
+use token_rows::source;
+use tree_rows::event;
+use tree_rows::num;
+use tree_rows::row;
 ghost use mathlib.Core.Path.{_≡_};
 ghost use Prim.Native.Nat.{ℕ, _-_, _/_, _≤_};
 ghost use lib.ListN.{length};
