@@ -21,57 +21,80 @@ fn show(bytes: &[u8], tokens: &[u32]) {
 }
 
 // The most token numbers, 65,536 rows of a comment of one byte, and one number more. (An array of as many bytes as cause 2
-// allows is more than the prover takes: that limit is in the proof of the crate lexer, `bytes-at-the-limit`.)
-fn rows_at_the_limit() {
-    let bytes = [32u8; 65536];
-    let tokens = [1u32; 131072];
-    show(&bytes, &tokens);
+// allows is more than the prover takes: that limit is in the proof of the crate lexer, `bytes-at-the-limit`.) Each large array is made
+// by a function of its own.
+fn bytes_at_the_limit() -> [u8; 65536] {
+    [32u8; 65536]
 }
 
-fn rows_over_the_limit() {
-    let bytes = [32u8; 65536];
-    let tokens = [1u32; 131073];
-    show(&bytes, &tokens);
+fn rows_at_the_limit() -> [u32; 131072] {
+    [1u32; 131072]
+}
+
+fn rows_over_the_limit() -> [u32; 131073] {
+    [1u32; 131073]
+}
+
+fn limits() {
+    let bytes = bytes_at_the_limit();
+    let at = rows_at_the_limit();
+    show(&bytes, &at);
+    let over = rows_over_the_limit();
+    show(&bytes, &over);
+}
+
+// One row of one byte.
+fn byte_of_kind(kind: u32) {
+    show(b"a", &[kind, 1]);
 }
 
 fn kinds() {
     show(b"?", &[60, 1]);
-    show(b"a", &[61, 1]);
-    show(b"a", &[63, 1]);
-    show(b"a", &[64, 1]);
-    show(b"a", &[74, 1]);
-    show(b"a", &[75, 1]);
-    show(b"a", &[25, 1]);
-    show(b"a", &[26, 1]);
-    show(b"a", &[27, 1]);
+    byte_of_kind(61);
+    byte_of_kind(63);
+    byte_of_kind(64);
+    byte_of_kind(74);
+    byte_of_kind(75);
+    byte_of_kind(25);
+    byte_of_kind(26);
+    byte_of_kind(27);
+}
+
+// Two names of these lengths over two bytes.
+fn names(first: u32, second: u32) {
+    show(b"ab", &[27, first, 27, second]);
 }
 
 fn lengths() {
     // A length of 0, in the second row.
     show(b"a", &[27, 1, 27, 0]);
     // Two rows that end with the input, and one byte past it.
-    show(b"ab", &[27, 1, 27, 1]);
-    show(b"ab", &[27, 1, 27, 2]);
+    names(1, 1);
+    names(1, 2);
     // A sum past 32 bits.
-    show(b"ab", &[27, 4294967295, 27, 3]);
-    show(b"ab", &[27, 1, 27, 4294967295]);
+    names(4294967295, 3);
+    names(1, 4294967295);
     // A number without a partner; a total that is one byte short; nothing at all.
     show(b"a", &[27, 1, 27]);
     show(b"ab", &[27, 1]);
     show(b"", &[]);
 }
 
+// A directive of this length and a Semicolon.
+fn directive(bytes: &[u8], length: u32) {
+    show(bytes, &[24, length, 29, 1]);
+}
+
 fn texts() {
-    show(b"/plugin/;", &[24, 8, 29, 1]);
-    show(b"/plugin;", &[24, 7, 29, 1]);
-    show(b"/plugin/:", &[24, 8, 29, 1]);
+    directive(b"/plugin/;", 8);
+    directive(b"/plugin;", 7);
+    directive(b"/plugin/:", 8);
     // Cause 3 over all rows comes before cause 4.
     show(b"::", &[29, 1, 26, 1]);
 }
 
 fn main() {
-    rows_at_the_limit();
-    rows_over_the_limit();
+    limits();
     kinds();
     lengths();
     texts();

@@ -1,7 +1,8 @@
 // The parser's refusals at their exact boundary: what just fits, and one number fewer. (A 65th open call, the other way to
 // refusal 5, is the grammar's.)
+use cases::scan::least;
+use cases::show;
 use lexer::kind;
-use libc::STDOUT_FILENO;
 use parser::Parser;
 use parser::State;
 use parser::matcher::Matcher;
@@ -9,17 +10,24 @@ use parser::matcher::Matcher;
 // `a;`: an Ident and a Semicolon of one byte each.
 const TOKENS: [u32; 4] = [27, 1, 29, 1];
 
-fn number(n: usize) {
-    io::write_all(STDOUT_FILENO, b" ");
-    io::print_decimal(STDOUT_FILENO, n as u64);
+fn say(s: State) {
+    show::text(b": refusal");
+    show::number(s.refusal as u64);
+    show::text(b", place");
+    show::number(s.place.0 as u64);
+    show::line_end();
 }
 
-fn say(s: State) {
-    io::write_all(STDOUT_FILENO, b": refusal");
-    number(s.refusal as usize);
-    io::write_all(STDOUT_FILENO, b", place");
-    number(s.place.0);
-    io::write_all(STDOUT_FILENO, b"\n");
+fn say_events(n: usize) {
+    show::text(b"event numbers");
+    show::number(n as u64);
+}
+
+fn say_reports(reports: usize, pool: usize) {
+    show::text(b", report numbers");
+    show::number(reports as u64);
+    show::text(b", pool numbers");
+    show::number(pool as u64);
 }
 
 // So many expectations more.
@@ -38,8 +46,8 @@ fn expectations(n: usize) {
     let mut ev = [0u32; 3];
     let taken = Parser::new().bump(&TOKENS, &mut ev);
     let p = pushed(taken, n);
-    io::write_all(STDOUT_FILENO, b"expectations");
-    number(n);
+    show::text(b"expectations");
+    show::number(n as u64);
     say(p.s);
 }
 
@@ -47,8 +55,7 @@ fn expectations(n: usize) {
 fn events(ev: &mut [u32]) {
     let started = Parser::new().start(ev);
     let p = started.bump(&TOKENS, ev);
-    io::write_all(STDOUT_FILENO, b"event numbers");
-    number(ev.len());
+    say_events(ev.len());
     say(p.s);
 }
 
@@ -57,62 +64,40 @@ fn report(ev: &mut [u32], rep: &mut [u32], pool: &mut [u32]) {
     let taken = Parser::new().bump(&TOKENS, ev);
     let m = Matcher::Either(kind::EQUALS, kind::LCURLY);
     let e = taken.expect(&TOKENS, ev, rep, pool, m);
-    io::write_all(STDOUT_FILENO, b"event numbers");
-    number(ev.len());
-    io::write_all(STDOUT_FILENO, b", report numbers");
-    number(rep.len());
-    io::write_all(STDOUT_FILENO, b", pool numbers");
-    number(pool.len());
+    say_events(ev.len());
+    say_reports(rep.len(), pool.len());
     say(e.p.s);
 }
 
-// Both events, one number fewer, and the first event alone.
-fn event_cases() {
-    let mut both = [0u32; 6];
-    events(&mut both);
-    let mut fewer = [0u32; 5];
-    events(&mut fewer);
-    let mut one = [0u32; 3];
-    events(&mut one);
-    let mut none = [0u32; 2];
-    events(&mut none);
+// On so many numbers, at most 6.
+fn events_on(n: usize) {
+    let mut ev = [0u32; 6];
+    let e = least(n, 6);
+    events(&mut ev[..e]);
 }
 
-fn fits() {
+// On so many numbers, at most 6, 9 and 2.
+fn report_on(events: usize, reports: usize, codes: usize) {
     let mut ev = [0u32; 6];
     let mut rep = [0u32; 9];
     let mut pool = [0u32; 2];
-    report(&mut ev, &mut rep, &mut pool);
-}
-
-fn row_too_long() {
-    let mut ev = [0u32; 6];
-    let mut rep = [0u32; 8];
-    let mut pool = [0u32; 2];
-    report(&mut ev, &mut rep, &mut pool);
-}
-
-fn pool_too_short() {
-    let mut ev = [0u32; 6];
-    let mut rep = [0u32; 9];
-    let mut pool = [0u32; 1];
-    report(&mut ev, &mut rep, &mut pool);
-}
-
-// The first refusal stays.
-fn no_room_for_either() {
-    let mut ev = [0u32; 5];
-    let mut rep = [0u32; 8];
-    let mut pool = [0u32; 2];
-    report(&mut ev, &mut rep, &mut pool);
+    let e = least(events, 6);
+    let r = least(reports, 9);
+    let c = least(codes, 2);
+    report(&mut ev[..e], &mut rep[..r], &mut pool[..c]);
 }
 
 fn main() {
     expectations(256);
     expectations(257);
-    event_cases();
-    fits();
-    row_too_long();
-    pool_too_short();
-    no_room_for_either();
+    // Both events, one number fewer, the first event alone, and one number fewer.
+    events_on(6);
+    events_on(5);
+    events_on(3);
+    events_on(2);
+    // All fits; the row is too long; the pool is too short; and where there is no room for either, the first refusal stays.
+    report_on(6, 9, 2);
+    report_on(6, 8, 2);
+    report_on(6, 9, 1);
+    report_on(5, 8, 2);
 }

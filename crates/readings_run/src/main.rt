@@ -1,31 +1,30 @@
 // Document 01's readings on the code. Those of a few tokens are cases on standard input, in the form that crates/replay says;
-// tools/replay/readings makes them and what must be printed, from the document and the oracle. Those of 65,536 blanks are here.
-mod blanks;
+// tools/replay/readings makes them and what must be printed, from the document and the oracle. Those of 65,536 blanks are here: a
+// source file of 65,536 rows of one blank each is accepted, one of 65,537 is refused; an entry that there is not comes before that.
+use cases::blanks;
 
-use libc::STDIN_FILENO;
-
-fn run(text: &[u8]) {
-    let mut tokens = [0u32; 1024];
-    let mut events = [0u32; 4096];
-    let mut trees = [0u32; 4096];
-    let mut errors = [0u32; 64];
-    let mut reports = [0u32; 1024];
-    let mut pool = [0u32; 16384];
-    replay::cases(
-        text,
-        &mut tokens,
-        &mut events,
-        &mut trees,
-        &mut errors,
-        &mut reports,
-        &mut pool,
-    );
+// A case's numbers on so many blanks: the answer, the root's row, and how many rows of one blank follow it.
+fn called(name: &[u8], head: [u32; 8]) {
+    let bytes = blanks::bytes();
+    let tokens = blanks::rows();
+    let mut trees = blanks::tree();
+    let number = replay::lent(name, head, &bytes, &tokens, &mut trees, 4);
+    if number == 0 {
+        blanks::show_leaves(&trees);
+    }
 }
 
 fn main() {
-    let mut text = [0u8; 32768];
-    let n = io::read_full(STDIN_FILENO, &mut text);
-    run(&text[..n]);
-    blanks::at_the_limit();
-    blanks::over_the_limit();
+    replay::run();
+    // A tree of 65,537 rows just fits; one number fewer does not do.
+    called(b"65536-blanks", [131072, 65536, 1, 3, 262148, 3, 9, 1]);
+    called(
+        b"65536-blanks-small-tree",
+        [131072, 65536, 1, 3, 262147, 3, 9, 1],
+    );
+    called(b"65537-blanks", [131074, 65537, 1, 3, 262148, 3, 9, 1]);
+    called(
+        b"65537-blanks-entry-5",
+        [131074, 65537, 5, 3, 262148, 3, 9, 1],
+    );
 }

@@ -1,24 +1,21 @@
-// Cases of the exported call, run one after the other; what each answers and leaves is printed.
+// Cases of the exported call, run one after the other; what each answers and leaves is printed (crates/cases, left.rt).
 //
 // A case is a line and then its bytes as they are, with a line end behind each. The line has a name, eight numbers (how many token
 // numbers, how many bytes, the entry, and how many numbers of each buffer are lent: events, trees, errors, reports, pool), and the
 // token numbers.
-//
-// What is printed of a case: a line with its name, number, place and four counts, and what each buffer holds behind the counted
-// rows (`lend::rest`); then the rows, a line for each buffer that has some: t trees, x lexical errors, r reports, e expectations.
-pub mod call;
-mod lend;
-mod scan;
-pub mod show;
-
-use crate::scan::at_most;
-ghost use Prim.Native.Nat.{_+_, _<_, _≤_};
+use cases::left;
+use cases::left::Said;
+use cases::room;
+use cases::scan;
+use cases::scan::at_most;
+use libc::STDIN_FILENO;
+ghost use Prim.Native.Nat.{_≤_};
 ghost use lib.ListN.{length};
 
-// As much of each buffer as the case is lent.
-fn lent(
+// One call, of which at most so many numbers of the tree are printed. Answers the call's number.
+fn called(
     name: &[u8],
-    head: [u32; 8],
+    entry: u32,
     bytes: &[u8],
     tokens: &[u32],
     events: &mut [u32],
@@ -26,105 +23,90 @@ fn lent(
     errors: &mut [u32],
     reports: &mut [u32],
     pool: &mut [u32],
-) {
-    let e = at_most(head[3], events.len());
+    most: usize,
+) -> u32 {
+    let a = dt_parser::dt_parse(entry, bytes, tokens, events, trees, errors, reports, pool);
+    let said = Said {
+        number: a.number,
+        place: a.place,
+        trees: a.trees,
+        errors: a.errors,
+        reports: a.reports,
+        expectations: a.expectations,
+    };
+    left::show(name, said, most, events, trees, errors, reports, pool);
+    a.number
+}
+
+// A call on as much of the input and of each buffer as a case's numbers say.
+pub fn lent(
+    name: &[u8],
+    head: [u32; 8],
+    bytes: &[u8],
+    tokens: &[u32],
+    trees: &mut [u32],
+    most: usize,
+) -> u32 {
+    let mut events = room::events();
+    let mut errors = room::errors();
+    let mut reports = room::reports();
+    let mut pool = room::pool();
+    let n = at_most(head[0], tokens.len());
+    let b = at_most(head[1], bytes.len());
+    let e = at_most(head[3], room::EVENTS);
     let t = at_most(head[4], trees.len());
-    let x = at_most(head[5], errors.len());
-    let r = at_most(head[6], reports.len());
-    let p = at_most(head[7], pool.len());
-    call::whole(
+    let x = at_most(head[5], room::ERRORS);
+    let r = at_most(head[6], room::REPORTS);
+    let p = at_most(head[7], room::POOL);
+    called(
         name,
         head[2],
-        bytes,
-        tokens,
+        &bytes[..b],
+        &tokens[..n],
         &mut events[..e],
         &mut trees[..t],
         &mut errors[..x],
         &mut reports[..r],
         &mut pool[..p],
-    );
-}
-
-// What is behind a case's first numbers. Answers where its bytes end.
-fn body(
-    text: &[u8],
-    name: &[u8],
-    from: usize,
-    head: [u32; 8],
-    tokens: &mut [u32],
-    events: &mut [u32],
-    trees: &mut [u32],
-    errors: &mut [u32],
-    reports: &mut [u32],
-    pool: &mut [u32],
-) -> usize
-    requires { ⌜ from ≤ length (now text) ⌝ }
-    ensures { λ r. ⌜ from ≤ r ⌝ }
-    ensures { λ r. ⌜ r ≤ length (now (text .entry)) ⌝ }
-{
-    let line_end = scan::numbers(text, from, tokens);
-    let start = scan::line_after(text, line_end);
-    let stop = scan::further(text, start, head[1]);
-    lent(
-        name,
-        head,
-        &text[start..stop],
-        tokens,
-        events,
-        trees,
-        errors,
-        reports,
-        pool,
-    );
-    stop
+        most,
+    )
 }
 
 // One case. Answers where its bytes end.
-fn case(
-    text: &[u8],
-    from: usize,
-    tokens: &mut [u32],
-    events: &mut [u32],
-    trees: &mut [u32],
-    errors: &mut [u32],
-    reports: &mut [u32],
-    pool: &mut [u32],
-) -> usize
+fn case(text: &[u8], from: usize) -> usize
     requires { ⌜ from ≤ length (now text) ⌝ }
     ensures { λ r. ⌜ from ≤ r ⌝ }
     ensures { λ r. ⌜ r ≤ length (now (text .entry)) ⌝ }
 {
     let mut head = [0u32; 8];
+    let mut tokens = room::tokens();
+    let mut trees = room::trees();
     let name_end = scan::find(text, from, b' ');
-    let head_end = scan::numbers(text, name_end, &mut head);
-    let t = at_most(head[0], tokens.len());
-    body(
-        text,
+    let head_end = scan::numbers(text, name_end, 8, &mut head);
+    let line_end = scan::numbers(text, head_end, head[0], &mut tokens);
+    let start = scan::further(text, line_end, 1);
+    lent(
         &text[from..name_end],
-        head_end,
         head,
-        &mut tokens[..t],
-        events,
-        trees,
-        errors,
-        reports,
-        pool,
-    )
+        &text[start..],
+        &tokens,
+        &mut trees,
+        room::TREES,
+    );
+    scan::further(text, start, head[1])
 }
 
-// All cases, on buffers that are lent to each in turn.
-pub fn cases(
-    text: &[u8],
-    tokens: &mut [u32],
-    events: &mut [u32],
-    trees: &mut [u32],
-    errors: &mut [u32],
-    reports: &mut [u32],
-    pool: &mut [u32],
-) {
+fn cases(text: &[u8]) {
     let mut at: usize = 0;
     while at < text.len() {
-        let end = case(text, at, tokens, events, trees, errors, reports, pool);
+        let end = case(text, at);
         at = end + 1;
     }
+}
+
+// All cases of standard input.
+pub fn run() {
+    let mut text = room::text();
+    let n = io::read_full(STDIN_FILENO, &mut text);
+    cases(&text[..n]);
 }

@@ -1,94 +1,89 @@
-// `1+1+1+..` with 20,000 operators: one forward chain of as many nodes. Each large array has a function of its own.
+// `1+1+1+..` with 20,000 operators: one forward chain of as many nodes. Each large array is made by a function of its own.
 use crate::print;
-ghost use Prim.Native.Nat.{_<_, _≤_};
 
-const OPERATORS: usize = 20000;
+// Number, Plus, each of one byte.
+const OPERATION: [u32; 4] = [35, 1, 43, 1];
 
-// A row of three numbers, if it fits.
-fn event(events: &mut [u32], j: usize, tag: u32, a: u32, b: u32) {
-    if j < events.len() / 3 {
-        events[j * 3] = tag;
-        events[j * 3 + 1] = a;
-        events[j * 3 + 2] = b;
+// The first rows of the first InfixExpr, the chain's innermost node, and the end of its left LiteralExpr.
+const FIRST: [u32; 12] = [1, 6, 11, 1, 9, 0, 2, 0, 0, 4, 0, 0];
+
+// An InfixExpr around all before it: eight rows, with a LiteralExpr of one token inside. From its start to that of the LiteralExpr, and
+// from there to its end. The placeholders of the operand's own marker are zeros.
+const LINK: [u32; 12] = [6, 6, 8, 2, 0, 0, 0, 0, 0, 1, 9, 0];
+
+const LINK_END: [u32; 12] = [2, 0, 0, 4, 0, 0, 0, 0, 0, 4, 0, 0];
+
+// The rows of the chain end here: the marker that precedes the last node is ignored, so two rows of zeros follow.
+const CHAIN: usize = 480009;
+
+fn token(i: usize) -> u32 {
+    OPERATION[i % 4]
+}
+
+// A number of a link's rows.
+fn link(i: usize) -> u32 {
+    let k = i % 24;
+    if k < 12 {
+        return LINK[k];
     }
+    LINK_END[k - 12]
 }
 
-// A LiteralExpr of one token: three rows.
-fn literal(events: &mut [u32], j: usize)
-    requires { ⌜ j < 1000000 ⌝ }
-{
-    event(events, j, 1, 9, 0);
-    event(events, j + 1, 2, 0, 0);
-    event(events, j + 2, 4, 0, 0);
-}
-
-// The first InfixExpr: the chain's innermost node, eleven rows.
-fn first(events: &mut [u32]) {
-    event(events, 0, 1, 6, 11);
-    literal(events, 1);
-    event(events, 4, 2, 0, 0);
-    literal(events, 6);
-    event(events, 10, 4, 0, 0);
-}
-
-// An InfixExpr around all before it: eight rows. The placeholders of the operand's own marker are zeros.
-fn link(events: &mut [u32], j: usize)
-    requires { ⌜ j < 900000 ⌝ }
-{
-    event(events, j, 6, 6, 8);
-    event(events, j + 1, 2, 0, 0);
-    literal(events, j + 3);
-    event(events, j + 7, 4, 0, 0);
-}
-
-// The chain's rows; the marker that precedes the last node is ignored, so two rows of zeros follow.
-fn fill_events(events: &mut [u32]) {
-    first(events);
-    let mut i: usize = 1;
-    while i < OPERATORS {
-        link(events, i * 8 + 3);
-        i += 1;
+// The first node's rows are a link's but for its start.
+fn event(i: usize) -> u32 {
+    if i < 12 {
+        return FIRST[i];
     }
+    if i < CHAIN {
+        return link(i - 9);
+    }
+    0
 }
 
-// Number, Plus, Number, .., each of one byte.
 fn fill_tokens(tokens: &mut [u32]) {
     let mut i: usize = 0;
-    while i < tokens.len() / 4 {
-        tokens[i * 4] = 35;
-        tokens[i * 4 + 1] = 1;
-        tokens[i * 4 + 2] = 43;
-        tokens[i * 4 + 3] = 1;
+    while i < tokens.len() {
+        tokens[i] = token(i);
         i += 1;
     }
+}
+
+fn fill_events(events: &mut [u32]) {
+    let mut i: usize = 0;
+    while i < events.len() {
+        events[i] = event(i);
+        i += 1;
+    }
+}
+
+fn no_tokens() -> [u32; 80002] {
+    [0u32; 80002]
+}
+
+fn no_events() -> [u32; 480015] {
+    [0u32; 480015]
+}
+
+fn no_trees() -> [u32; 320013] {
+    [7u32; 320013]
 }
 
 // What the sink answers, the outermost rows, those around the innermost node, and the last.
-fn sunk(tokens: &[u32], events: &[u32], trees: &mut [u32], errors: &mut [u32]) {
-    let a = sink::finish(3, tokens, events, trees, errors);
-    print::answer(b"20,000 operators", a);
-    print::tree(trees, 0, 20);
-    print::tree(trees, 79996, 80032);
-    print::tree(trees, 319996, 320013);
-    print::errors(errors);
-}
-
-fn with_trees(tokens: &[u32], events: &[u32]) {
-    let mut trees = [7u32; 320013];
+fn sunk(tokens: &[u32], events: &[u32]) {
+    let mut trees = no_trees();
     let mut errors = [7u32; 1];
-    sunk(tokens, events, &mut trees, &mut errors);
-}
-
-fn with_events(tokens: &[u32]) {
-    let mut events = [0u32; 480015];
-    fill_events(&mut events);
-    with_trees(tokens, &events);
+    let a = sink::finish(3, tokens, events, &mut trees, &mut errors);
+    print::answer(b"20,000 operators", a);
+    print::tree(&trees, 0, 20);
+    print::tree(&trees, 79996, 80032);
+    print::tree(&trees, 319996, 320013);
+    print::errors(&errors);
 }
 
 pub fn run() {
-    let mut tokens = [0u32; 80002];
+    let mut tokens = no_tokens();
+    let mut events = no_events();
     fill_tokens(&mut tokens);
-    tokens[80000] = 35;
-    tokens[80001] = 1;
-    with_events(&tokens);
+    fill_events(&mut events);
+    sunk(&tokens, &events);
 }

@@ -2,14 +2,10 @@
 // never is. Peeking moves the cursor past trivia; immediate peeking reads at the cursor and moves nothing."
 // So each line of stdout is a place, the kind of its row, the kind of the first row from there on that is not 0, 3 or 1, and
 // the place after that row. Past the last row the kind is 64, and an error token is seen as Unrecognized, 25.
+use cases::show;
+use cases::show::number;
 use lexer::TokenIndex;
-use libc::STDOUT_FILENO;
 use source::look;
-
-fn number(n: u64) {
-    io::write_all(STDOUT_FILENO, b" ");
-    io::print_decimal(STDOUT_FILENO, n);
-}
 
 fn place(t: &[u32], i: usize) {
     let s = look(t, TokenIndex(i));
@@ -17,7 +13,7 @@ fn place(t: &[u32], i: usize) {
     number(s.immediate as u64);
     number(s.kind as u64);
     number(s.next.0 as u64);
-    io::write_all(STDOUT_FILENO, b"\n");
+    show::line_end();
 }
 
 fn places(t: &[u32], n: usize) {
@@ -30,12 +26,12 @@ fn places(t: &[u32], n: usize) {
 
 // Every place, the end with it.
 fn along(name: &[u8], t: &[u32]) {
-    io::write_all(STDOUT_FILENO, name);
-    io::write_all(STDOUT_FILENO, b"\n");
+    show::text(name);
+    show::line_end();
     places(t, t.len() / 2 + 1);
 }
 
-fn main() {
+fn texts() {
     // At place 1 the test for a colon sees the AtSign, 32, past the blank: no report. An immediate one sees the blank.
     along(
         b"a @1 {};",
@@ -46,9 +42,17 @@ fn main() {
         b"/* c */ // l\\n\\ ;",
         &[1, 7, 0, 1, 3, 4, 0, 1, 74, 1, 0, 1, 29, 1],
     );
+}
+
+fn edges() {
     // The first error token and the last; trivia alone; no row; and the cursor of a parser that has refused.
     along(b"error tokens", &[64, 1, 0, 1, 74, 1]);
     along(b"trivia", &[0, 1, 1, 4, 3, 2]);
     along(b"nothing", &[]);
     place(&[27, 1], 18446744073709551615);
+}
+
+fn main() {
+    texts();
+    edges();
 }

@@ -14,20 +14,8 @@ abbrev μ-loop : tie.MeasureT-loop
 loop-holds : tie.Need-loop-holds Inv-loop μ-loop
 loop-holds c = omega arith
 
-find-requires : tie.Need-find-requires Inv-loop μ-loop
-find-requires c κs = omega arith
-
-sub-case : tie.Need-sub-case Inv-loop μ-loop
-sub-case c = omega arith
-
-part-case-start : tie.Need-part-case-start Inv-loop μ-loop
-part-case-start c = omega arith
-
-part-case-end : tie.Need-part-case-end Inv-loop μ-loop
-part-case-end c = omega arith
-
 case-requires : tie.Need-case-requires Inv-loop μ-loop
-case-requires c κs = tt
+case-requires c κs = omega arith
 
 add-at : tie.Need-add-at Inv-loop μ-loop
 add-at c = omega arith
@@ -48,10 +36,6 @@ cases-spec =
     Inv-loop
     μ-loop
     loop-holds
-    find-requires
-    sub-case
-    part-case-start
-    part-case-end
     case-requires
     add-at
     loop-less

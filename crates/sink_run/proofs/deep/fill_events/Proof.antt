@@ -1,40 +1,37 @@
--- `fill_events`: as many rows as operators, in a buffer of the same length.
+-- `fill_events`: the index stays inside the buffer, whose length stays.
 use Prim.Native.Nat.{_-_, _≤_}
 use mathlib.Core.Path.{_≡_, refl}
-use lib.ListN.{length}
+use lib.ListN.{length, length-set}
 use native.Mathlib.Omega.{arith}
 use Rattle.sink_run.proofs.deep.fill_events.Statement.{statement}
 use Rattle.sink_run.proofs.deep.fill_events.Tie as tie
 
 abbrev Inv-loop : tie.InvT-loop
-Inv-loop events₀ i₀ events i = (i ≤ 20000) × (length events ≡ length events₀)
+Inv-loop events₀ i₀ events i = (i ≤ length events) × (length events ≡ length events₀)
 
 abbrev μ-loop : tie.MeasureT-loop
-μ-loop events₀ i₀ events i = 20000 - i
-
-first-requires : tie.Need-first-requires Inv-loop μ-loop
-first-requires c κs = tt
+μ-loop events₀ i₀ events i = length events - i
 
 loop-holds : tie.Need-loop-holds Inv-loop μ-loop
 loop-holds c = (omega arith, refl)
 
-mul-link : tie.Need-mul-link Inv-loop μ-loop
-mul-link c = omega arith
+event-requires : tie.Need-event-requires Inv-loop μ-loop
+event-requires c κs = tt
 
-add-link : tie.Need-add-link Inv-loop μ-loop
-add-link c = omega arith
+mul-events : tie.Need-mul-events Inv-loop μ-loop
+mul-events c = omega arith
 
-link-requires : tie.Need-link-requires Inv-loop μ-loop
-link-requires c κs = omega arith
+slice-write-events : tie.Need-slice-write-events Inv-loop μ-loop
+slice-write-events c = omega arith
 
 add-i : tie.Need-add-i Inv-loop μ-loop
 add-i c = omega arith
 
 loop-less : tie.Need-loop-less Inv-loop μ-loop
-loop-less c = omega arith
+loop-less c = simp length-set (omega arith)
 
 loop-again : tie.Need-loop-again Inv-loop μ-loop
-loop-again c = omega arith
+loop-again c = (simp length-set (omega arith), simp length-set (omega arith))
 
 same-length : tie.Need-same-length Inv-loop μ-loop
 same-length c = omega arith
@@ -48,11 +45,10 @@ fill-events-spec =
     (tie.spec
     Inv-loop
     μ-loop
-    first-requires
     loop-holds
-    mul-link
-    add-link
-    link-requires
+    event-requires
+    mul-events
+    slice-write-events
     add-i
     loop-less
     loop-again
