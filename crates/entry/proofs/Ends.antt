@@ -28,11 +28,9 @@ use Rattle.machine.specs.Outcome.{onto, Holds, Accepted, Refused, Ends}
 use Rattle.entry.proofs.Machine.{entry-ends}
 use Rattle.sink.specs.declared.Sunk.{Sunk}
 use Rattle.sink.specs.declared.Sunk.the-variants.{Written, NoRoom}
-use Rattle.sink.specs.Encode as S
 use Rattle.sink.specs.Promise.{Small, enough, Written-out, Placed, Promise}
 use Rattle.sink.proofs.Runs.{entry-chained}
 use Rattle.entry.specs.Ends.{wiped, swept, refused-at, sunk-answer, after-sink, Same-lengths, Parsed, Call-ends, Calls-end}
-use Rattle.entry.proofs.Same.{same-encode}
 use Rattle.entry.proofs.Wiped.{wiped-whole, wiped-written, held-length}
 
 -- a mark counted from the start leaves the cause as it is
@@ -118,11 +116,10 @@ module _ (e : Entry) (bs tk : List ℕ) (b : Buffers) (m : Machine) (ok : check-
   accepted-by (stops r) h q = let a : Refused ts r m = ends-by (stops r) h in absurd (omega (arith, a .some))
 
   -- the events that the sink is given encode the skeleton
-  given-events : Accepted ts o (b .events) (b .reports) (b .pool) m → take (m .events .count) (m .events .numbers) ≡ S.encode false o
+  given-events : Accepted ts o (b .events) (b .reports) (b .pool) m → take (m .events .count) (m .events .numbers) ≡ encode false o
   given-events a =
       ap (take (m .events .count)) (a .events-hold .numbers)
       ∙ take-at (encode false o) (drop (length (encode false o)) (b .events)) (m .events .count) (sym (a .events-hold .count))
-      ∙ same-encode false o
 
   small : Small o tk
   small =

@@ -1,6 +1,6 @@
 -- More steps of a way through a program: a part whose answer does not matter, `eat_starting`, a brace, an answer that a match has told,
 -- a loop's turn with such an answer, and what a test that held says of the tokens left.
-use Prim.Native.Nat.{ℕ, zero, suc, _+_, _-_, _≤_, _<_}
+use Prim.Native.Nat.{ℕ, _-_, _≤_, _<_}
 use mathlib.Core.Path.{_≡_, refl, sym, ap, _∙_}
 use mathlib.Core.Bool.{Bool, true, false, cond}
 use mathlib.Core.List.{List, [], _∷_}
@@ -29,7 +29,7 @@ use Rattle.parser.specs.declared.Answer.the-variants as Said
 use Rattle.parser.proofs.Answer.{the-type}
 use Rattle.parser.specs.View.{left, view, view-of, tested-as, answer-of, Starting, by-answer, starting}
 use Rattle.parts.specs.View.{said-as, told-as, goes, found}
-use Rattle.machine.proofs.Way.{Way, Closes, c-walk, c-case}
+use Rattle.machine.proofs.Way.{Way, Closes, c-case}
 
 pub true-false : {A : Type 0} → true ≡ false → A
 true-false e = let z : _≡_ {A = ℕ} 1 0 = ap (λ (b : Bool). cond b 1 0) e in absurd (omega (arith, z))
@@ -109,22 +109,6 @@ first-some : (ks : List ℕ) (l : List Token) → first-in ks l ≡ true → 0 <
 unfolding first-in
 first-some ks [] e = true-false (sym e)
 first-some ks (t ∷ l) e = omega arith
-
-module _ (ask : Rule → Machine → Walked) (ts : List Token) (b : Span) where
-  -- what was tested for is there
-  pub tested-some : (ks : List ℕ) (m : Machine) → perform ts b (silent-at ks) m .ans ≡ yes → 0 < ahead ts m
-  unfolding perform
-  tested-some ks m e = go (first-in ks (rest ts (peek ts m))) refl e
-    where
-      go : (t : Bool) → first-in ks (rest ts (peek ts m)) ≡ t → truth t ≡ yes → 0 < ahead ts m
-      go true i h = omega (arith, first-some ks (rest ts (peek ts m)) i, peek-ahead ts m)
-      go false i h = let z : _≡_ {A = ℕ} 0 1 = ap number h in absurd (omega (arith, z))
-        where
-          number : Ans → ℕ
-          number no = 0
-          number yes = 1
-          number also = 2
-          number again = 3
 
 -- ---------------------------------------------------------------- answers
 

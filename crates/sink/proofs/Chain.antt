@@ -12,7 +12,8 @@ use Rattle.definitions.specs.Call.{TREE-ROW, EVENT-ROW}
 use Rattle.definitions.specs.Skeleton.{Skeleton, done, token, name, node, ignored, report, over}
 use Rattle.definitions.specs.Event.{forward, events}
 use Rattle.definitions.specs.Place.{tree-row}
-use Rattle.sink.specs.Encode.{start-tag, encode, Alone, Chained}
+use Rattle.machine.specs.Encode.{start-tag, encode}
+use Rattle.sink.specs.Encode.{Alone, Chained}
 use Rattle.tree_rows.specs.Rows.{low, put, field, link, linksN, links, open-rows}
 use Rattle.sink.specs.Machine.{on, start-on}
 use Rattle.tree_rows.proofs.Kit.{links-end}

@@ -9,7 +9,8 @@ use Rattle.definitions.specs.Call.{EVENT-ROW}
 use Rattle.definitions.specs.Skeleton.{Skeleton, done, token, name, node, ignored, report, over, _⧺_}
 use Rattle.definitions.specs.Event.{Event, StartNode, AddToken, AddCombinedToken, FinishNode, Placeholder, Error, forward, events}
 use Rattle.definitions.specs.Report.{Push, event, reported, exceeded, pushes, reports}
-use Rattle.sink.specs.Encode.{start-tag, event-row, encode, event-of, decode, Chained}
+use Rattle.machine.specs.Encode.{start-tag, encode}
+use Rattle.sink.specs.Encode.{event-row, event-of, decode, Chained}
 
 start-of : (a : Skeleton) (k d : ℕ) → event-of (start-tag a) k d ≡ StartNode k d
 unfolding event-of

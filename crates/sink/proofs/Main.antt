@@ -15,7 +15,8 @@ use Rattle.definitions.specs.Skeleton.{Skeleton, done, token, name, node, ignor
 use Rattle.definitions.specs.Event.{events}
 use Rattle.definitions.specs.Place.{Tree, nil, leaf, branch, _⊕_, lead, front, after, place, width, rows}
 use Rattle.laws.proofs.Trivia.{Solid, dropped-solid, drop-twice}
-use Rattle.sink.specs.Encode.{start-tag, event-row, encode, Alone, Chained}
+use Rattle.machine.specs.Encode.{start-tag, encode}
+use Rattle.sink.specs.Encode.{event-row, Alone, Chained}
 use Rattle.tree_rows.specs.Rows.{field}
 use Rattle.sink.specs.Machine.{On, on, token-on, trivia-on, combined-on, start-on, finish-on, event-on, eventsN}
 use Rattle.sink.proofs.Kit.{flags}

@@ -17,7 +17,8 @@ use Rattle.laws.proofs.Trivia.{and-left, and-right}
 use Rattle.sink.specs.declared.Sunk.{Sunk}
 use Rattle.sink.specs.declared.Sunk.the-variants.{Written, NoRoom}
 use Rattle.sink.specs.Answer.{number}
-use Rattle.sink.specs.Encode.{encode, Chained}
+use Rattle.machine.specs.Encode.{encode}
+use Rattle.sink.specs.Encode.{Chained}
 use Rattle.token_rows.specs.Tokens.{Log, log, errors-on}
 use Rattle.sink.specs.Machine.{On, on, sink-of, trivia-on, finish-on, eventsN, root-on, events-on, Left, left, answered, finish-all}
 use Rattle.sink.specs.Promise.{Small, enough, Placed, Promise}

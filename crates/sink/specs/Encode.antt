@@ -1,12 +1,11 @@
--- The events of a skeleton as event rows: three numbers each, a tag and what goes with it. The parser writes them and the sink reads them.
-use Prim.Native.Nat.{ℕ, suc}
+-- Event rows as the sink reads them: three numbers each, a tag and what goes with it. `encode` (crates/machine) gives those of a skeleton.
+use Prim.Native.Nat.{ℕ}
 use mathlib.Core.Path.{_≡_}
-use mathlib.Core.Bool.{Bool, true, false, cond}
-use mathlib.Core.List.{List, [], _∷_, _++_}
+use mathlib.Core.Bool.{cond}
+use mathlib.Core.List.{List, [], _∷_}
 use lib.Dec.{eqb}
-use lib.ListN.{length}
 use Rattle.definitions.specs.Skeleton.{Skeleton, done, token, name, node, ignored, report, over}
-use Rattle.definitions.specs.Event.{Event, StartNode, AddToken, AddCombinedToken, FinishNode, Placeholder, Error, forward, events}
+use Rattle.definitions.specs.Event.{Event, StartNode, AddToken, AddCombinedToken, FinishNode, Placeholder, Error}
 
 abbrev pub PLACEHOLDER : ℕ
 PLACEHOLDER = 0
@@ -35,30 +34,6 @@ LINKED-START-NODE = 6
 -- an event row before others
 abbrev pub event-row : ℕ → ℕ → ℕ → List ℕ → List ℕ
 event-row tag a b l = tag ∷ a ∷ b ∷ l
-
--- the tag of a node's start, by what its marker was made to precede
-abbrev pub start-tag : Skeleton → ℕ
-start-tag done = START-NODE
-start-tag (token t m o) = LINKED-START-NODE
-start-tag (name ts m o) = LINKED-START-NODE
-start-tag (node k m m′ a i o) = LINKED-START-NODE
-start-tag (ignored m m′ a i o) = LINKED-START-NODE
-start-tag (report r o) = LINKED-START-NODE
-start-tag (over m o) = LINKED-START-NODE
-
--- the rows of `events linked o`; a file's are those of `encode false o`
-unfoldable pub encode : Bool → Skeleton → List ℕ
-unfolding events
-encode linked done = []
-encode linked (token t m o) = event-row ADD-TOKEN 0 0 (encode linked o)
-encode linked (name ts m o) = event-row ADD-COMBINED-TOKEN (length ts) 0 (encode linked o)
-encode linked (node k m m′ a i o) =
-    encode true a
-    ++ event-row (start-tag a) k (forward linked (suc (suc (length (events false i))))) (encode false i ++ event-row FINISH-NODE 0 0 (encode linked o))
-encode linked (ignored m m′ a i o) =
-    encode true a ++ event-row PLACEHOLDER 0 0 (encode false i ++ event-row PLACEHOLDER 0 0 (encode linked o))
-encode linked (report r o) = event-row ERROR 0 0 (encode linked o)
-encode linked (over m o) = encode linked o
 
 -- ---------------------------------------------------------------- and back
 

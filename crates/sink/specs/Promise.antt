@@ -15,7 +15,8 @@ use Rattle.definitions.specs.Place.{root, rows, lexical-errors}
 use Rattle.sink.specs.declared.Sunk.{Sunk}
 use Rattle.sink.specs.declared.Sunk.the-variants.{Written, NoRoom}
 use Rattle.sink.specs.Answer.{number}
-use Rattle.sink.specs.Encode.{encode, Chained}
+use Rattle.machine.specs.Encode.{encode}
+use Rattle.sink.specs.Encode.{Chained}
 
 -- no number is too large for 32 bits: the tokens', their bytes', and that of the tree's rows, which are no more than the tokens, the
 -- events and one

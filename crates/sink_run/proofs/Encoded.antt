@@ -6,7 +6,7 @@ use mathlib.Core.List.{List, [], _∷_}
 use Rattle.definitions.specs.Token.{tokens}
 use Rattle.definitions.specs.Grammar.{Entry, SourceFile, Cells}
 use Rattle.definitions.specs.Call.{run-entry}
-use Rattle.sink.specs.Encode.{encode}
+use Rattle.machine.specs.Encode.{encode}
 
 -- entry, token rows; the event rows
 pub record Reading : Type 0 where
