@@ -13,13 +13,13 @@ use Rattle.definitions.specs.Token.{Token, seen, trivia, one-of}
 
 -- a token's kind; or that it is an LParen directly after an Ident, which opens an argument list
 pub data Symbol : Type 0 where
-  kind : ℕ → Symbol
+  plain : ℕ → Symbol
   arguments : Symbol
 
 -- named: an Ident stands directly before the token
 unfoldable pub symbol : Bool → Token → Symbol
 unfolding seen
-symbol named t = cond (named && eqb (seen t) K.LParen) arguments (kind (seen t))
+symbol named t = cond (named && eqb (seen t) K.LParen) arguments (plain (seen t))
 
 -- the tokens, trivia passed over; named: an Ident stands directly before the first
 unfoldable pub symbols : Bool → List Token → List Symbol
@@ -35,7 +35,7 @@ pub data Turn : Type 0 where
   opens closes keeps : Turn
 
 abbrev pub turn : Symbol → Turn
-turn (kind k) = cond (eqb k K.LParen) opens (cond (eqb k K.RParen) closes keeps)
+turn (plain k) = cond (eqb k K.LParen) opens (cond (eqb k K.RParen) closes keeps)
 turn arguments = opens
 
 abbrev pub turned : Turn → (ℕ → Option ℕ) → ℕ → Option ℕ
@@ -104,14 +104,14 @@ pub data Expr : Type 0 where
   ternary : Expr → Expr → Expr → Expr
 
 -- the symbols of an expression, in order
-abbrev pub written : Expr → List Symbol
-written (literal k) = kind k ∷ []
-written name = kind K.Ident ∷ []
-written (invocation xs) = kind K.Ident ∷ arguments ∷ (xs ++ (kind K.RParen ∷ []))
-written (bracketed e) = kind K.LParen ∷ (written e ++ (kind K.RParen ∷ []))
-written (prefix k e) = kind k ∷ written e
-written (binary l k r) = written l ++ (kind k ∷ written r)
-written (ternary c a b) = written c ++ (kind K.QuestionMark ∷ (written a ++ (kind K.Colon ∷ written b)))
+abbrev pub spelling : Expr → List Symbol
+spelling (literal k) = plain k ∷ []
+spelling name = plain K.Ident ∷ []
+spelling (invocation xs) = plain K.Ident ∷ arguments ∷ (xs ++ (plain K.RParen ∷ []))
+spelling (bracketed e) = plain K.LParen ∷ (spelling e ++ (plain K.RParen ∷ []))
+spelling (prefix k e) = plain k ∷ spelling e
+spelling (binary l k r) = spelling l ++ (plain k ∷ spelling r)
+spelling (ternary c a b) = spelling c ++ (plain K.QuestionMark ∷ (spelling a ++ (plain K.Colon ∷ spelling b)))
 
 -- the number of the row that an expression's outermost operator has
 abbrev pub precedence : Expr → ℕ
@@ -138,4 +138,4 @@ Allowed (ternary c a b) = Allowed c × Allowed a × Allowed b × (precedence c <
 -- C's table gives the symbols the tree
 pub record Gives (xs : List Symbol) (e : Expr) : Type 0 where
   pub allowed : Allowed e
-  pub symbols-are : written e ≡ xs
+  pub symbols-are : spelling e ≡ xs

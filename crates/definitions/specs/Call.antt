@@ -4,7 +4,8 @@ use mathlib.Core.Bool.{Bool, true, false, cond, _&&_}
 use mathlib.Core.List.{List, [], _∷_, _++_}
 use lib.Dec.{leb, eqb}
 use lib.ListN.{length, replicate}
-use Rattle.definitions.specs.Token.{Token, tokens, bytes}
+use Rattle.definitions.specs.Layout.{EVENT-ROW, TREE-ROW, ERROR-ROW, REPORT-ROW, MOST-OPEN-CALLS}
+use Rattle.definitions.specs.Token.{Token, tokens-of, bytes}
 use Rattle.definitions.specs.Grammar.{Entry, SourceFile, ReferenceNoamp, PropValues, Cells, whole, root-kind}
 use Rattle.definitions.specs.Skeleton.{no-label, Skeleton}
 use Rattle.definitions.specs.Run.{Out, taken, exec, run}
@@ -33,19 +34,6 @@ pub record Result : Type 0 where
   pub answer : Answer
   pub buffers : Buffers
 
--- how many numbers a row has
-abbrev pub EVENT-ROW : ℕ
-EVENT-ROW = 3
-
-abbrev pub TREE-ROW : ℕ
-TREE-ROW = 4
-
-abbrev pub ERROR-ROW : ℕ
-ERROR-ROW = 3
-
-abbrev pub REPORT-ROW : ℕ
-REPORT-ROW = 9
-
 -- ---------------------------------------------------------------- refused
 
 abbrev pub refusal : Refusal → Answer
@@ -68,10 +56,10 @@ cleared r b =
 
 -- ---------------------------------------------------------------- parsed
 
--- at most 64 open calls; nothing taken, nothing pending
+-- from a state in which nothing is taken and nothing pending, with so many open calls allowed
 unfoldable pub run-entry : Entry → List Token → Skeleton
 unfolding exec run whole
-run-entry e ts = exec (run 64) no-label (whole e) (taken ts) .made
+run-entry e ts = exec (run MOST-OPEN-CALLS) no-label (whole e) (taken ts) .made
 
 -- the numbers that an accepted call writes
 pub record Sheets : Type 0 where
@@ -152,9 +140,9 @@ unfoldable pub entry-of : ℕ → Asked
 entry-of n = cond (eqb n 1) (for SourceFile) (cond (eqb n 2) (for ReferenceNoamp) (cond (eqb n 3) (for PropValues) (cond (eqb n 4) (for Cells) unknown)))
 
 unfoldable pub checked : Verdict → Entry → List ℕ → Buffers → Result
-unfolding parse tokens number-of place-of
+unfolding parse tokens-of number-of place-of
 checked (refused r) e tk b = untouched r b
-checked accepted e tk b = parse e (tokens tk) b
+checked accepted e tk b = parse e (tokens-of tk) b
 
 unfoldable pub asked : Asked → List ℕ → List ℕ → Buffers → Result
 unfolding checked check-input number-of place-of

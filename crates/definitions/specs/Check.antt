@@ -1,7 +1,7 @@
 -- parser/mod.rs and errors.rs as programs: the forms that the grammar is made of, `TokenMatcher`, `Check` and `ErrorBuilder`.
 use Prim.Native.Nat.{ℕ}
 use mathlib.Core.List.{List, [], _∷_}
-use Rattle.definitions.specs.Prog.{Ans, no, yes, again, silent-at, at-end, add-expected, bump, bump-name, emit, Prog, ret, act, _⨟_, case, mark, loop}
+use Rattle.definitions.specs.Prog.{Ans, no, yes, again, silent-at, at-end, add-expected, bump, bump-name, emit, Prog, ret, act, _⨟_, case, in-marker}
 use Rattle.definitions.specs.TokenKind as K
 use Rattle.definitions.specs.NodeKind as N
 use Rattle.definitions.specs.Errors as E
@@ -11,6 +11,8 @@ use Rattle.definitions.specs.Errors as E
 abbrev pub tell : Ans → Prog
 tell a = ret 0 a
 
+-- `else` and `⨟` bind alike and to the right: what follows `else`, sequences and further branches included, belongs to it up to the
+-- bracket that closes around the whole. A branch inside `then`, and one that something follows, stands in brackets.
 infixr 20 if_then_else_
 abbrev pub if_then_else_ : Prog → Prog → Prog → Prog
 if c then p else q = case c q p p
@@ -32,8 +34,8 @@ abbrev pub while_run_ : Prog → Prog → Prog
 while c run p = if c then p ⨟ tell again else tell yes
 
 -- `let m = p.start(); p; m.complete(k)`
-abbrev pub node : ℕ → Prog → Prog
-node k p = mark (p ⨟ ret k yes)
+abbrev pub in-node : ℕ → Prog → Prog
+in-node k p = in-marker (p ⨟ ret k yes)
 
 abbrev pub end? : Prog
 end? = act at-end
@@ -56,7 +58,7 @@ error-bump m h = error m h ⨟ if end? then tell yes else bump!
 
 -- `Bump::YesWrapErr`: the token taken lies in a ParseError
 abbrev pub error-wrap : ℕ → ℕ → Prog
-error-wrap m h = error m h ⨟ if end? then tell yes else node N.ParseError bump!
+error-wrap m h = error m h ⨟ if end? then tell yes else in-node N.ParseError bump!
 
 -- `p.error().msg_expected()` without a hint, in the three ways
 abbrev pub error! : Prog
@@ -82,8 +84,8 @@ push-all (k ∷ ks) = expected k ⨟ push-all ks
 abbrev pub set : List ℕ → Matcher
 set ks = record { matches = act (silent-at ks); push-expected = push-all ks; consume = bump! }
 
-abbrev pub kind : ℕ → Matcher
-kind k = record { matches = act (silent-at (k ∷ [])); push-expected = expected k; consume = bump! }
+abbrev pub of-kind : ℕ → Matcher
+of-kind k = record { matches = act (silent-at (k ∷ [])); push-expected = expected k; consume = bump! }
 
 abbrev pub NAME-SET : List ℕ
 NAME-SET = K.Ident ∷ K.Number ∷ K.Comma ∷ K.Minus ∷ []
@@ -113,7 +115,7 @@ silent-eat m = if m .matches then m .consume ⨟ tell yes else tell no
 unfoldable pub eat : Matcher → Prog
 eat m = if m .matches then m .consume ⨟ tell yes else m .push-expected ⨟ tell no
 
--- `assert!(p.eat(k))`: the caller has seen the token
+-- `assert!(p.eat(k))`: the caller has seen the token, so the Rust's assertion holds and this is a plain take
 abbrev pub assert-eat : ℕ → Prog
 assert-eat k = bump!
 
@@ -129,4 +131,4 @@ expect-recoverable m recovery = if eat m then tell yes else (if act (silent-at r
 infixr 20 eat-starting_inside_else_
 unfoldable pub eat-starting_inside_else_ : Matcher → Prog → Prog → Prog
 unfolding at
-eat-starting m inside p else q = if at m then mark (m .consume ⨟ p) else q
+eat-starting m inside p else q = if at m then in-marker (m .consume ⨟ p) else q

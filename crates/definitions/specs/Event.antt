@@ -18,7 +18,7 @@ abbrev pub forward : Bool → ℕ → ℕ
 forward true n = n
 forward false n = 0
 
--- linked: the marker after this skeleton's last node precedes it
+-- linked: a marker that comes after the skeleton was made to precede its node, so that the node's start leads on to that marker's
 unfoldable pub events : Bool → Skeleton → List Event
 events linked done = []
 events linked (token t m o) = AddToken ∷ events linked o

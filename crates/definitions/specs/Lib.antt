@@ -1,5 +1,7 @@
 -- The definitions that every contract and theorem cites, in reading order.
+pub mod Layout
 pub mod TokenKind
+pub mod LexError
 pub mod NodeKind
 pub mod StaticText
 pub mod Errors

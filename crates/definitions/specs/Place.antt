@@ -3,6 +3,7 @@ use Prim.Native.Nat.{ℕ, suc, _+_}
 use mathlib.Core.Bool.{Bool, true, false, cond}
 use mathlib.Core.List.{List, [], _∷_, _++_}
 use lib.ListN.{length, take, drop}
+use Rattle.definitions.specs.Layout.{NODE, LEAF}
 use Rattle.definitions.specs.TokenKind as K
 use Rattle.definitions.specs.Token.{Token, is-error, seen, trivia, drop-trivia, bytes, past}
 use Rattle.definitions.specs.Skeleton.{Skeleton, done, token, name, node, ignored, report, over}
@@ -11,13 +12,13 @@ use Rattle.definitions.specs.Skeleton.{Skeleton, done, token, name, node
 pub data Tree : Type 0 where
   nil : Tree
   leaf : ℕ → List Token → Tree → Tree
-  branch : ℕ → Tree → Tree → Tree
+  subtree : ℕ → Tree → Tree → Tree
 
 infixr 30 _⊕_
 unfoldable pub _⊕_ : Tree → Tree → Tree
 nil ⊕ g = g
 leaf k ts f ⊕ g = leaf k ts (f ⊕ g)
-branch k c f ⊕ g = branch k c (f ⊕ g)
+subtree k c f ⊕ g = subtree k c (f ⊕ g)
 
 -- `eat_trivia`: a leaf for each token of trivia that stands first
 unfoldable pub lead : List Token → Tree
@@ -52,7 +53,7 @@ place (name raw m o) ts =
 place (node k m m′ a i o) ts =
     let u = drop-trivia ts in
     let v = after a u in
-    lead ts ⊕ branch k (place a u ⊕ place i v) nil ⊕ place o (after i v)
+    lead ts ⊕ subtree k (place a u ⊕ place i v) nil ⊕ place o (after i v)
 place (ignored m m′ a i o) ts = let v = after a ts in place a ts ⊕ place i v ⊕ place o (after i v)
 place (report r o) ts = place o ts
 place (over m o) ts = place o ts
@@ -60,7 +61,7 @@ place (over m o) ts = place o ts
 -- the root: a kind, and under it all the tokens
 unfoldable pub root : ℕ → Skeleton → List Token → Tree
 unfolding _⊕_ lead after place
-root k o ts = branch k (place o ts ⊕ lead (after o ts)) nil
+root k o ts = subtree k (place o ts ⊕ lead (after o ts)) nil
 
 -- ---------------------------------------------------------------- rows
 
@@ -68,12 +69,12 @@ unfoldable pub width : Tree → ℕ
 unfolding bytes
 width nil = 0
 width (leaf k ts f) = bytes ts + width f
-width (branch k c f) = width c + width f
+width (subtree k c f) = width c + width f
 
 unfoldable pub count : Tree → ℕ
 count nil = 0
 count (leaf k ts f) = suc (count f)
-count (branch k c f) = suc (count f)
+count (subtree k c f) = suc (count f)
 
 -- a tree row: class (0 node, 1 leaf), kind, width, count (children of a node, raw tokens of a leaf)
 abbrev pub tree-row : ℕ → ℕ → ℕ → ℕ → List ℕ → List ℕ
@@ -83,8 +84,8 @@ tree-row c k w n l = c ∷ k ∷ w ∷ n ∷ l
 unfoldable pub rows : Tree → List ℕ
 unfolding bytes width count
 rows nil = []
-rows (leaf k ts f) = tree-row 1 k (bytes ts) (length ts) (rows f)
-rows (branch k c f) = tree-row 0 k (width c) (count c) (rows c ++ rows f)
+rows (leaf k ts f) = tree-row LEAF k (bytes ts) (length ts) (rows f)
+rows (subtree k c f) = tree-row NODE k (width c) (count c) (rows c ++ rows f)
 
 -- the lexical errors of tokens that start at a byte: number, start, end of each error token in order
 unfoldable pub lexical-errors : ℕ → List Token → List ℕ

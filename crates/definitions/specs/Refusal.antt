@@ -4,9 +4,11 @@ use mathlib.Core.Bool.{Bool, true, false, cond, not, _&&_, _||_}
 use mathlib.Core.List.{List, [], _∷_}
 use lib.Dec.{leb, eqb}
 use lib.ListN.{length, take, drop}
+use Rattle.definitions.specs.Layout.{UNKNOWN-ENTRY, TOO-LONG, BAD-ROW, BAD-TEXT, TOO-DEEP, NO-EVENT-ROOM, NO-REPORT-ROOM, NO-TREE-ROOM, MOST-BYTES, MOST-TOKEN-NUMBERS}
 use Rattle.definitions.specs.TokenKind as K
+use Rattle.definitions.specs.LexError as L
 use Rattle.definitions.specs.StaticText.{static-texts, fits-text}
-use Rattle.definitions.specs.Token.{Token, tokens}
+use Rattle.definitions.specs.Token.{Token, tokens-of}
 
 -- in the table's order; a place is given where it is not always 0
 pub data Refusal : Type 0 where
@@ -20,14 +22,14 @@ pub data Refusal : Type 0 where
   no-tree-room : Refusal
 
 unfoldable pub number-of : Refusal → ℕ
-number-of unknown-entry = 1
-number-of too-long = 2
-number-of (bad-row i) = 3
-number-of (bad-text i) = 4
-number-of (too-deep m) = 5
-number-of (no-event-room m) = 6
-number-of (no-report-room m) = 7
-number-of no-tree-room = 8
+number-of unknown-entry = UNKNOWN-ENTRY
+number-of too-long = TOO-LONG
+number-of (bad-row i) = BAD-ROW
+number-of (bad-text i) = BAD-TEXT
+number-of (too-deep m) = TOO-DEEP
+number-of (no-event-room m) = NO-EVENT-ROOM
+number-of (no-report-room m) = NO-REPORT-ROOM
+number-of no-tree-room = NO-TREE-ROOM
 
 unfoldable pub place-of : Refusal → ℕ
 place-of unknown-entry = 0
@@ -55,11 +57,11 @@ unless false r = refused r
 
 -- cause 2
 unfoldable pub check-sizes : List ℕ → List ℕ → Verdict
-check-sizes bs tk = unless (leb (length bs) 1048576 && leb (length tk) 131072) too-long
+check-sizes bs tk = unless (leb (length bs) MOST-BYTES && leb (length tk) MOST-TOKEN-NUMBERS) too-long
 
--- 0 to 60 but for Unrecognized and Name, or a lexical error, 64 to 74
+-- the kinds of a token row: those of `TokenKind` but for Unrecognized and Name, which the parser makes, and those of `LexError`
 unfoldable pub is-kind : ℕ → Bool
-is-kind k = (leb k 60 && not (eqb k K.Unrecognized) && not (eqb k K.Name)) || (leb 64 k && leb k 74)
+is-kind k = (leb k K.QuestionMark && not (eqb k K.Unrecognized) && not (eqb k K.Name)) || (leb L.UnexpectedEndIncbin k && leb k L.Default)
 
 -- cause 3, from row i on, with so many bytes not yet covered: the first bad row, else the count of whole rows
 unfoldable pub check-rows : ℕ → ℕ → List ℕ → Verdict
@@ -80,5 +82,5 @@ check-texts i bs (t ∷ ts) =
 
 -- causes 2 to 4, in that order
 unfoldable pub check-input : List ℕ → List ℕ → Verdict
-unfolding _or-else_ check-sizes check-rows check-texts tokens
-check-input bs tk = check-sizes bs tk or-else check-rows 0 (length bs) tk or-else check-texts 0 bs (tokens tk)
+unfolding _or-else_ check-sizes check-rows check-texts tokens-of
+check-input bs tk = check-sizes bs tk or-else check-rows 0 (length bs) tk or-else check-texts 0 bs (tokens-of tk)

@@ -67,8 +67,8 @@ abbrev pub label-numbers : ℕ → Label → List ℕ → List ℕ
 label-numbers b no-label l = 0 ∷ 0 ∷ l
 label-numbers b (label s) l = (b - s .from) ∷ (b - s .to) ∷ l
 
--- in a file of n tokens and b bytes, after `first` expectations: message, start, end, mark, first pool place, pool count, hint,
--- label start, label end
+-- The rows of some reports in a file of n tokens and b bytes, `first` expectations having been written before them: message, start, end,
+-- mark, first pool place, pool count, hint, label start, label end. Places are turned here into numbers from the start of the file.
 unfoldable pub report-rows : ℕ → ℕ → ℕ → List Report → List ℕ
 report-rows n b first [] = []
 report-rows n b first (r ∷ l) =

@@ -4,11 +4,12 @@ use mathlib.Core.Bool.{Bool, true, false, cond, _&&_, _||_}
 use mathlib.Core.List.{List, [], _∷_, _++_}
 use lib.Dec.{ltb, eqb}
 use lib.ListN.{length}
+use Rattle.definitions.specs.Layout.{MOST-PENDING}
 use Rattle.definitions.specs.TokenKind as K
 use Rattle.definitions.specs.Errors as E
 use Rattle.definitions.specs.Token.{Token, seen, trivia, drop-trivia, bytes, past, ended, one-of, first-in}
 use Rattle.definitions.specs.Skeleton.{Span, Label, no-label, label, Report, Skeleton, done, token, name, node, ignored, report, over, _⧺_}
-use Rattle.definitions.specs.Prog.{Ans, no, yes, also, again, Rule, Act, silent-at, at-end, immediate, immediate-next, add-expected, bump, bump-name, bump-argument, emit, emit-unclosed, less, Prog, ret, act, _⨟_, case, mark, loop, chain, brace, call}
+use Rattle.definitions.specs.Prog.{Ans, no, yes, also, again, Rule, Act, silent-at, at-end, immediate, immediate-next, add-expected, bump, bump-name, bump-argument, emit, emit-unclosed, less, Prog, ret, act, _⨟_, case, in-marker, loop, chain, brace, open-call}
 use Rattle.definitions.specs.Grammar.{grammar}
 
 -- rest: the raw tokens from the cursor on. since: those after the last one taken (`prev_next_cursor`). pending: `expected`.
@@ -51,7 +52,7 @@ makes a p s = record { ans = a; shape = 0; made = p; state = s }
 abbrev pub taken : List Token → State
 taken ts = record { rest = ts; since = ts; pending = [] }
 
--- `bump`, with the tokens from the current one on
+-- `bump`, with the tokens from the current one on. At the end the Rust panics; no program takes there.
 unfoldable pub do-bump : State → List Token → Out
 unfolding answer makes
 do-bump s [] = answer yes s
@@ -69,7 +70,7 @@ run-of ks (t ∷ ts) =
     let r = run-of ks ts in
     cond (one-of ks (seen t)) (record { raw = t ∷ r .raw; after = r .after }) (record { raw = []; after = t ∷ ts })
 
--- `bump_name_generic`: the caller has seen the first token
+-- `bump_name_generic`: the caller has seen the first token, which the Rust asserts; no program takes a name at the end
 unfoldable pub do-name : List ℕ → State → List Token → Out
 unfolding answer makes run-of
 do-name ks s [] = answer yes s
@@ -85,7 +86,8 @@ unfoldable pub at-depth : ℕ → Out → (ℕ → Out) → Out
 at-depth zero a f = a
 at-depth (suc n) a f = f n
 
--- the rest of a macro argument, in so many open brackets; ts: the raw tokens from the cursor on
+-- the rest of a macro argument, n brackets being open inside it; ts: the raw tokens from the cursor on. yes: it stops at a comma outside
+-- these brackets. no: it stops at the right bracket of the argument list, or at the end.
 unfoldable pub do-argument : ℕ → State → List Token → Out
 unfolding answer makes add trivia at-depth
 do-argument n s [] = answer no (record { rest = []; since = s .since; pending = s .pending })
@@ -128,15 +130,15 @@ do-emit m h l s =
     s
 
 -- nothing, or refusal 5
-unfoldable pub room : Bool → ℕ → Skeleton
-room true m = done
-room false m = over m done
+unfoldable pub over-unless : Bool → ℕ → Skeleton
+over-unless true m = done
+over-unless false m = over m done
 
 -- `add_expected`
 unfoldable pub do-expected : ℕ → State → Out
-unfolding makes room
+unfolding makes over-unless
 do-expected k s =
-    makes yes (room (ltb (length (s .pending)) 256) (mark-of s)) (record { rest = s .rest; since = s .since; pending = s .pending ++ (k ∷ []) })
+    makes yes (over-unless (ltb (length (s .pending)) MOST-PENDING) (mark-of s)) (record { rest = s .rest; since = s .since; pending = s .pending ++ (k ∷ []) })
 
 unfoldable pub perform : Label → Act → State → Out
 unfolding peeked answer first-in do-expected do-bump do-name do-argument do-emit
@@ -175,7 +177,7 @@ is-again yes = false
 is-again also = false
 is-again again = true
 
--- a loop goes on if it is told to and the cursor moved: o, after a turn from s
+-- A loop goes on if it is told to and the cursor moved: o, after a turn from s. In the grammar each turn that answers again has moved.
 unfoldable pub goes-on : State → Out → Bool
 unfolding is-again
 goes-on s o = is-again (o .ans) && ltb (length (o .state .rest)) (length (s .rest))
@@ -190,7 +192,8 @@ iter (suc n) f s =
     let more = add turn (iter n f (o .state)) in
     cond (goes-on s o) more turn
 
--- The chain's last marker, pushed at mark m, is ignored. a: the chain's node so far. i: what was made since that marker.
+-- A chain ends: its open marker, pushed at mark m, is ignored. a: the chain's node so far, which that marker precedes, or nothing.
+-- i: what was made since that marker. x: the answer.
 unfoldable pub unlinked : ℕ → Skeleton → Skeleton → Ans → State → Out
 unfolding makes closed
 unlinked m a i x s = makes x (closed 0 m (mark-of s) a i) s
@@ -232,11 +235,11 @@ exec ask b (ret k a) s = record { ans = a; shape = k; made = done; state = s }
 exec ask b (act a) s = perform b a s
 exec ask b (p ⨟ q) s = let o = exec ask b p s in add o (exec ask b q (o .state))
 exec ask b (case c n y a) s = let o = exec ask b c s in add o (choose (o .ans) (exec ask b n) (exec ask b y) (exec ask b a) (o .state))
-exec ask b (mark p) s = marked s (exec ask b p s)
+exec ask b (in-marker p) s = marked s (exec ask b p s)
 exec ask b (loop p) s = iter (suc (length (s .rest))) (exec ask b p) s
 exec ask b (chain p q) s = chained (exec ask b q) s (exec ask b p s)
 exec ask b (brace p) s = exec ask (here (s .rest)) p s
-exec ask b (call r) s = ask r s
+exec ask b (open-call r) s = ask r s
 
 -- a rule, with so many more open calls allowed
 unfoldable pub run : ℕ → Rule → State → Out

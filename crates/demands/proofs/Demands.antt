@@ -4,7 +4,7 @@ use Rattle.laws.proofs.Lossless as lossless
 use Rattle.laws.proofs.Limits as limits
 use Rattle.precedence.proofs.Theorem as precedence
 use Rattle.recovery.proofs.Local as recovery
-use Rattle.numbers.proofs.Numbers as numbers
+use Rattle.bounds.proofs.Numbers as numbers
 
 pub demands : Demands
 demands =

@@ -4,7 +4,7 @@ use Rattle.laws.specs.Lossless.{Nothing-lost}
 use Rattle.laws.specs.Limits.{Limits}
 use Rattle.precedence.specs.Precedence.{C-table, One-tree}
 use Rattle.recovery.specs.Recovery.{Stays-local}
-use Rattle.numbers.specs.Numbers.{Runs-bounded, Words-so-far, Numbers-fit}
+use Rattle.bounds.specs.Numbers.{Runs-bounded, Words-so-far, Numbers-fit}
 
 pub record Demands : Type 0 where
   -- The second promise: the leaves in order are the tokens, each width is the sum below it, the lexical errors are the error tokens in

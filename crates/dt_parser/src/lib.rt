@@ -2,13 +2,13 @@
 mod entrypoint;
 
 use crate::entrypoint::Entry;
-use answer::Answer;
+use call::Answer;
 use grammar::entry::Entrypoint;
 ghost use mathlib.Core.Path.{_≡_};
-ghost use Rattle.definitions.specs.Token.{tokens as tokens-of};
+ghost use Rattle.definitions.specs.Token.{tokens-of};
 ghost use Rattle.definitions.specs.Call as Call;
 ghost use Rattle.grammar.specs.Parts.{entry-of as entry-for};
-ghost use Rattle.answer.specs.Result.{lent, result-of};
+ghost use Rattle.call.specs.Result.{lent, result-of};
 ghost use Rattle.dt_parser.specs.Sound.{Sound};
 
 // The parser, and what is done behind it.
@@ -27,7 +27,7 @@ fn run(
     let p = grammar::entry::parse(tokens, events, reports, pool, e);
     let kind = entrypoint::root_kind(e);
     let mark = p.s.place;
-    answer::ends::finish(
+    call::ends::finish(
         p.s.refusal,
         mark.0,
         kind,
@@ -61,9 +61,9 @@ pub extern "C" fn dt_parse(
 {
     let asked = entrypoint::entry_of(entry);
     match asked {
-        Entry::Unknown => answer::refused(answer::UNKNOWN_ENTRY, 0),
+        Entry::Unknown => call::refused(call::UNKNOWN_ENTRY, 0),
         Entry::Known(e) => {
-            let checked = answer::checks::check(bytes, tokens);
+            let checked = call::checks::check(bytes, tokens);
             let sound = checked.number == 0;
             if sound {
                 run(e, tokens, events, trees, errors, reports, pool)

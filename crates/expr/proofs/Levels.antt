@@ -13,13 +13,13 @@ use Rattle.definitions.specs.Token.{Token, seen, trivia, past, one-of, first-in
 use Rattle.definitions.specs.Skeleton.{Span}
 use Rattle.definitions.specs.Prog.{yes, Rule, less, Prog, act, _⨟_, case}
 use Rattle.definitions.specs.Check.{tell, if_then_else_, bump!, expected, set, silent}
-use Rattle.definitions.specs.Grammar.{INFIX-BUT-TERNARY, Level, ternary, binding-power, rhs, infix-levels, infix-turn}
+use Rattle.definitions.specs.Grammar.{INFIX-BUT-TERNARY, Level, ternary-level, binding-power, rhs, infix-levels, infix-turn}
 use Rattle.definitions.specs.Run.{truth}
 use Rattle.machine.specs.Machine.{Machine, rest, passed, skip, peek, expect-code}
 use Rattle.machine.specs.Walk.{Walked, said, perform, choose, walk}
-use Rattle.rows.specs.Tokens.{kind-of}
-use Rattle.power.specs.Power.{levels, left-power, right-power, is-binary}
-use Rattle.power.proofs.Below.{true-false, both-left, both-right}
+use Rattle.token_rows.specs.Tokens.{kind-of}
+use Rattle.binding_power.specs.Power.{levels, left-power, right-power, is-binary}
+use Rattle.binding_power.proofs.Below.{true-false, both-left, both-right}
 use Rattle.expr.specs.Parts.{ternary-rhs}
 use Rattle.machine.proofs.Way.{Way, c-walk, c-act, c-ret, c-yes, c-no}
 
@@ -79,7 +79,7 @@ left-end = refl
 -- what follows the pushed expectation in a turn over infix operators
 abbrev pub infix-choice : ℕ → Prog
 infix-choice min =
-    if silent (set (ternary .kinds)) then (if act (less (ternary .left) min) then tell yes else bump! ⨟ ternary-rhs)
+    if silent (set (ternary-level .kinds)) then (if act (less (ternary-level .left) min) then tell yes else bump! ⨟ ternary-rhs)
     else infix-levels min binding-power
 
 module _ (ask : Rule → Machine → Walked) (ts : List Token) (b : Span) (min : ℕ) (m : Machine) where
@@ -140,19 +140,19 @@ module _ (ask : Rule → Machine → Walked) (ts : List Token) (b : Span) (min :
           ap (λ (c : Bool). cond (ltb l min) (said yes m) (cond c (walk ask ts b (bump! ⨟ ternary-rhs) m) (walk ask ts b (bump! ⨟ rhs r) m))) (ne-eqb l 2 (λ z. absurd (omega (arith, q, z))))
 
   -- at a token: the ternary, or its level
-  choice-token : peek ts m ≡ m → (t : Token) (l : List Token) → rest ts m ≡ t ∷ l → (c : Bool) → one-of (ternary .kinds) (seen t) ≡ c
-      → Way ask ts b (infix-choice min) m (arm (cond c (ternary .left) (left-power binding-power (seen t))) (cond c (ternary .right) (right-power binding-power (seen t))))
+  choice-token : peek ts m ≡ m → (t : Token) (l : List Token) → rest ts m ≡ t ∷ l → (c : Bool) → one-of (ternary-level .kinds) (seen t) ≡ c
+      → Way ask ts b (infix-choice min) m (arm (cond c (ternary-level .left) (left-power binding-power (seen t))) (cond c (ternary-level .right) (right-power binding-power (seen t))))
   unfolding first-in
-  choice-token still t l e true f = c-yes (looks still (ternary .kinds) true (ap (first-in (ternary .kinds)) e ∙ f)) refl (stronger (ternary .left) (bump! ⨟ ternary-rhs))
+  choice-token still t l e true f = c-yes (looks still (ternary-level .kinds) true (ap (first-in (ternary-level .kinds)) e ∙ f)) refl (stronger (ternary-level .left) (bump! ⨟ ternary-rhs))
   choice-token still t l e false f =
       let k = seen t in
-      c-no (looks still (ternary .kinds) false (ap (first-in (ternary .kinds)) e ∙ f)) refl
+      c-no (looks still (ternary-level .kinds) false (ap (first-in (ternary-level .kinds)) e ∙ f)) refl
       (c-walk (apart (left-power binding-power k) (right-power binding-power k) (high-power binding-power k binding-power-high) ∙ some-level still t l e binding-power binding-power-high .is))
 
   choice-at : peek ts m ≡ m → (l : List Token) → rest ts m ≡ l → Way ask ts b (infix-choice min) m (arm (left-power levels (kind-of l)) (right-power levels (kind-of l)))
   unfolding left-power right-power kind-of first-in one-of
-  choice-at still [] e = c-no (looks still (ternary .kinds) false (ap (first-in (ternary .kinds)) e)) refl (no-level still e binding-power)
-  choice-at still (t ∷ l) e = choice-token still t l e (one-of (ternary .kinds) (seen t)) refl
+  choice-at still [] e = c-no (looks still (ternary-level .kinds) false (ap (first-in (ternary-level .kinds)) e)) refl (no-level still e binding-power)
+  choice-at still (t ∷ l) e = choice-token still t l e (one-of (ternary-level .kinds) (seen t)) refl
 
   -- which arm a turn takes
   pub choice : peek ts m ≡ m → Way ask ts b (infix-choice min) m (arm (left-power levels (kind-of (rest ts m))) (right-power levels (kind-of (rest ts m))))
@@ -174,14 +174,14 @@ module _ {ask : Rule → Machine → Walked} {ts : List Token} {b : Span} {m x :
   turn : Way ask ts b (infix-turn min) m (arm ask ts b min x l r)
   unfolding infix-turn walk perform
   turn =
-      let none = if act (less (ternary .left) min) then tell yes else bump! ⨟ ternary-rhs in
+      let none = if act (less (ternary-level .left) min) then tell yes else bump! ⨟ ternary-rhs in
       record {
         is =
             ap (λ (k : ℕ). arm ask ts b min x k r) el
             ∙ ap (arm ask ts b min x (left-power levels (kind-of (rest ts x)))) er
             ∙ choice ask ts b min x (still ts (expect-code E.InfixOperator m) x ex) .is
             ∙ ap (walk ask ts b (infix-choice min)) ex
-            ∙ silent-peeked ask ts b (ternary .kinds) (infix-levels min binding-power) none none (expect-code E.InfixOperator m);
+            ∙ silent-peeked ask ts b (ternary-level .kinds) (infix-levels min binding-power) none none (expect-code E.InfixOperator m);
       }
 
   -- no operator; one that binds too weakly; the ternary; any other

@@ -9,24 +9,24 @@ use parser::expected;
 use parser::marker::Marker;
 use parser::matcher::Matcher;
 use parser::node;
-use power::PREFIX_POWER;
-use power::binding_power;
-use rows::token::kind_at;
+use binding_power::PREFIX_POWER;
+use binding_power::binding_power;
+use token_rows::token::kind_at;
 ghost use mathlib.Core.Path.{_≡_};
 ghost use mathlib.Core.Bool.{true};
 ghost use mathlib.Core.List.{List};
 ghost use Prim.Native.Nat.{ℕ, _-_, _≤_, _<_};
 ghost use lib.ListN.{drop};
 ghost use Rattle.definitions.specs.Errors as E;
-ghost use Rattle.definitions.specs.Token.{tokens};
+ghost use Rattle.definitions.specs.Token.{tokens-of};
 ghost use Rattle.definitions.specs.Skeleton.{Span};
 ghost use Rattle.definitions.specs.Prog.{Rule, no, yes, expr-binding-power};
 ghost use Rattle.definitions.specs.Grammar.{lhs as lhs-prog, rhs as rhs-prog, infix-turn, dt-expr};
 ghost use Rattle.machine.specs.Machine.{Machine, expect-code, peek};
 ghost use Rattle.machine.specs.Walk.{Walked, said, walk, walk-rule, walk-prog, unlabelled};
-ghost use Rattle.rows.specs.Tokens.{kind-of};
+ghost use Rattle.token_rows.specs.Tokens.{kind-of};
 ghost use Rattle.parser.specs.View.{left, view-of, tested-as, marker-of};
-ghost use Rattle.power.specs.Power.{levels, left-power, right-power, is-binary};
+ghost use Rattle.binding_power.specs.Power.{levels, left-power, right-power, is-binary};
 ghost use Rattle.expr.specs.Parts.{at-prefix-op, prefix-expr, paren-expr, literal-expr, missing-lhs, no-lhs, ternary-rhs, step-as, links-from};
 
 pub const PREFIX_OPERATORS_SET: [u8; 4] = [
@@ -82,10 +82,10 @@ pub struct Step {
 
 // `InfixOp::at`
 fn infix_op_at(p: Parser, t: &[u32]) -> InfixOp
-    ensures { λ r. ⌜ ((ev rep pool : List ℕ) → view-of (r .p) ev rep pool ≡ peek (tokens (now (t .entry))) (expect-code E.InfixOperator (view-of p ev rep pool))) ⌝ }
-    ensures { λ r. ⌜ r .left ≡ left-power levels (kind-of (drop (r .p .s .cursor .0) (tokens (now (t .entry))))) ⌝ }
-    ensures { λ r. ⌜ r .right ≡ right-power levels (kind-of (drop (r .p .s .cursor .0) (tokens (now (t .entry))))) ⌝ }
-    ensures { λ r. ⌜ r .binary ≡ is-binary (kind-of (drop (r .p .s .cursor .0) (tokens (now (t .entry))))) ⌝ }
+    ensures { λ r. ⌜ ((ev rep pool : List ℕ) → view-of (r .p) ev rep pool ≡ peek (tokens-of (now (t .entry))) (expect-code E.InfixOperator (view-of p ev rep pool))) ⌝ }
+    ensures { λ r. ⌜ r .left ≡ left-power levels (kind-of (drop (r .p .s .cursor .0) (tokens-of (now (t .entry))))) ⌝ }
+    ensures { λ r. ⌜ r .right ≡ right-power levels (kind-of (drop (r .p .s .cursor .0) (tokens-of (now (t .entry))))) ⌝ }
+    ensures { λ r. ⌜ r .binary ≡ is-binary (kind-of (drop (r .p .s .cursor .0) (tokens-of (now (t .entry))))) ⌝ }
     ensures { λ r. ⌜ left (now (t .entry)) (r .p .s) ≤ left (now (t .entry)) (p .s) ⌝ }
     ensures { λ r. ⌜ ((r .left ≡ 0 → ⊥) → 0 < left (now (t .entry)) (r .p .s)) ⌝ }
 {
@@ -102,7 +102,7 @@ fn infix_op_at(p: Parser, t: &[u32]) -> InfixOp
 
 // `PrefixOp::at`
 fn at_prefix_op(p: Parser, t: &[u32]) -> Tested
-    ensures { λ r. ⌜ ((ask : Rule → Machine → Walked) (b : Span) (ev rep pool : List ℕ) → tested-as r ev rep pool ≡ walk ask (tokens (now (t .entry))) b at-prefix-op (view-of p ev rep pool)) ⌝ }
+    ensures { λ r. ⌜ ((ask : Rule → Machine → Walked) (b : Span) (ev rep pool : List ℕ) → tested-as r ev rep pool ≡ walk ask (tokens-of (now (t .entry))) b at-prefix-op (view-of p ev rep pool)) ⌝ }
     ensures { λ r. ⌜ left (now (t .entry)) (r .p .s) ≤ left (now (t .entry)) (p .s) ⌝ }
     ensures { λ r. ⌜ (r .yes ≡ true → 0 < left (now (t .entry)) (r .p .s)) ⌝ }
 {
@@ -118,7 +118,7 @@ pub fn expr(
     pool: &mut [u32],
     room: usize,
 ) -> Tested
-    ensures { λ r. ⌜ tested-as r (now (ev .exit)) (now (rep .exit)) (now (pool .exit)) ≡ walk-rule room (tokens (now (t .entry))) (expr-binding-power 0) (view-of p (now (ev .entry)) (now (rep .entry)) (now (pool .entry))) ⌝ }
+    ensures { λ r. ⌜ tested-as r (now (ev .exit)) (now (rep .exit)) (now (pool .exit)) ≡ walk-rule room (tokens-of (now (t .entry))) (expr-binding-power 0) (view-of p (now (ev .entry)) (now (rep .entry)) (now (pool .entry))) ⌝ }
     ensures { λ r. ⌜ left (now (t .entry)) (r .p .s) ≤ left (now (t .entry)) (p .s) ⌝ }
     ensures { λ r. ⌜ (r .yes ≡ true → left (now (t .entry)) (r .p .s) ≤ left (now (t .entry)) (p .s) - 1) ⌝ }
 {
@@ -134,7 +134,7 @@ pub fn dt_expr(
     pool: &mut [u32],
     room: usize,
 ) -> Parser
-    ensures { λ r. ⌜ said yes (view-of r (now (ev .exit)) (now (rep .exit)) (now (pool .exit))) ≡ walk-prog room (tokens (now (t .entry))) unlabelled dt-expr (view-of p (now (ev .entry)) (now (rep .entry)) (now (pool .entry))) ⌝ }
+    ensures { λ r. ⌜ said yes (view-of r (now (ev .exit)) (now (rep .exit)) (now (pool .exit))) ≡ walk-prog room (tokens-of (now (t .entry))) unlabelled dt-expr (view-of p (now (ev .entry)) (now (rep .entry)) (now (pool .entry))) ⌝ }
     ensures { λ r. ⌜ left (now (t .entry)) (r .s) ≤ left (now (t .entry)) (p .s) - 1 ⌝ }
 {
     let m = Marker::new(p.s);
@@ -156,7 +156,7 @@ pub fn expr_binding_power(
     room: usize,
     min_bp: u8,
 ) -> Tested
-    ensures { λ r. ⌜ tested-as r (now (ev .exit)) (now (rep .exit)) (now (pool .exit)) ≡ walk-rule room (tokens (now (t .entry))) (expr-binding-power «min_bp») (view-of p (now (ev .entry)) (now (rep .entry)) (now (pool .entry))) ⌝ }
+    ensures { λ r. ⌜ tested-as r (now (ev .exit)) (now (rep .exit)) (now (pool .exit)) ≡ walk-rule room (tokens-of (now (t .entry))) (expr-binding-power «min_bp») (view-of p (now (ev .entry)) (now (rep .entry)) (now (pool .entry))) ⌝ }
     ensures { λ r. ⌜ left (now (t .entry)) (r .p .s) ≤ left (now (t .entry)) (p .s) ⌝ }
     ensures { λ r. ⌜ (r .yes ≡ true → left (now (t .entry)) (r .p .s) ≤ left (now (t .entry)) (p .s) - 1) ⌝ }
 {
@@ -187,7 +187,7 @@ fn infix_chain(
     min_bp: u8,
     first: Marker,
 ) -> Tested
-    ensures { λ r. ⌜ tested-as r (now (ev .exit)) (now (rep .exit)) (now (pool .exit)) ≡ links-from room (tokens (now (t .entry))) (infix-turn «min_bp») (marker-of first) (view-of p (now (ev .entry)) (now (rep .entry)) (now (pool .entry))) ⌝ }
+    ensures { λ r. ⌜ tested-as r (now (ev .exit)) (now (rep .exit)) (now (pool .exit)) ≡ links-from room (tokens-of (now (t .entry))) (infix-turn «min_bp») (marker-of first) (view-of p (now (ev .entry)) (now (rep .entry)) (now (pool .entry))) ⌝ }
     ensures { λ r. ⌜ left (now (t .entry)) (r .p .s) ≤ left (now (t .entry)) (p .s) ⌝ }
 {
     let mut m = first;
@@ -221,7 +221,7 @@ fn infix_step(
     room: usize,
     min_bp: u8,
 ) -> Step
-    ensures { λ r. ⌜ step-as r (now (ev .exit)) (now (rep .exit)) (now (pool .exit)) ≡ walk-prog room (tokens (now (t .entry))) unlabelled (infix-turn «min_bp») (view-of p (now (ev .entry)) (now (rep .entry)) (now (pool .entry))) ⌝ }
+    ensures { λ r. ⌜ step-as r (now (ev .exit)) (now (rep .exit)) (now (pool .exit)) ≡ walk-prog room (tokens-of (now (t .entry))) unlabelled (infix-turn «min_bp») (view-of p (now (ev .entry)) (now (rep .entry)) (now (pool .entry))) ⌝ }
     ensures { λ r. ⌜ left (now (t .entry)) (r .p .s) ≤ left (now (t .entry)) (p .s) ⌝ }
     ensures { λ r. ⌜ (r .operator ≡ true → left (now (t .entry)) (r .p .s) < left (now (t .entry)) (p .s)) ⌝ }
 {
@@ -262,7 +262,7 @@ fn rhs(
     room: usize,
     right_bp: u8,
 ) -> Step
-    ensures { λ r. ⌜ step-as r (now (ev .exit)) (now (rep .exit)) (now (pool .exit)) ≡ walk-prog room (tokens (now (t .entry))) unlabelled (rhs-prog «right_bp») (view-of p (now (ev .entry)) (now (rep .entry)) (now (pool .entry))) ⌝ }
+    ensures { λ r. ⌜ step-as r (now (ev .exit)) (now (rep .exit)) (now (pool .exit)) ≡ walk-prog room (tokens-of (now (t .entry))) unlabelled (rhs-prog «right_bp») (view-of p (now (ev .entry)) (now (rep .entry)) (now (pool .entry))) ⌝ }
     ensures { λ r. ⌜ left (now (t .entry)) (r .p .s) ≤ left (now (t .entry)) (p .s) ⌝ }
 {
     let right = expr_binding_power(p, t, ev, rep, pool, room, right_bp);
@@ -283,7 +283,7 @@ fn ternary_rhs(
     pool: &mut [u32],
     room: usize,
 ) -> Step
-    ensures { λ r. ⌜ step-as r (now (ev .exit)) (now (rep .exit)) (now (pool .exit)) ≡ walk-prog room (tokens (now (t .entry))) unlabelled ternary-rhs (view-of p (now (ev .entry)) (now (rep .entry)) (now (pool .entry))) ⌝ }
+    ensures { λ r. ⌜ step-as r (now (ev .exit)) (now (rep .exit)) (now (pool .exit)) ≡ walk-prog room (tokens-of (now (t .entry))) unlabelled ternary-rhs (view-of p (now (ev .entry)) (now (rep .entry)) (now (pool .entry))) ⌝ }
     ensures { λ r. ⌜ left (now (t .entry)) (r .p .s) ≤ left (now (t .entry)) (p .s) ⌝ }
 {
     let middle = expr_binding_power(p, t, ev, rep, pool, room, 0);
@@ -319,7 +319,7 @@ fn lhs(
     pool: &mut [u32],
     room: usize,
 ) -> Tested
-    ensures { λ r. ⌜ tested-as r (now (ev .exit)) (now (rep .exit)) (now (pool .exit)) ≡ walk-prog room (tokens (now (t .entry))) unlabelled lhs-prog (view-of p (now (ev .entry)) (now (rep .entry)) (now (pool .entry))) ⌝ }
+    ensures { λ r. ⌜ tested-as r (now (ev .exit)) (now (rep .exit)) (now (pool .exit)) ≡ walk-prog room (tokens-of (now (t .entry))) unlabelled lhs-prog (view-of p (now (ev .entry)) (now (rep .entry)) (now (pool .entry))) ⌝ }
     ensures { λ r. ⌜ left (now (t .entry)) (r .p .s) ≤ left (now (t .entry)) (p .s) ⌝ }
     ensures { λ r. ⌜ (r .yes ≡ true → left (now (t .entry)) (r .p .s) ≤ left (now (t .entry)) (p .s) - 1) ⌝ }
 {
@@ -353,7 +353,7 @@ fn prefix_expr(
     pool: &mut [u32],
     room: usize,
 ) -> Tested
-    ensures { λ r. ⌜ tested-as r (now (ev .exit)) (now (rep .exit)) (now (pool .exit)) ≡ walk-prog room (tokens (now (t .entry))) unlabelled prefix-expr (view-of p (now (ev .entry)) (now (rep .entry)) (now (pool .entry))) ⌝ }
+    ensures { λ r. ⌜ tested-as r (now (ev .exit)) (now (rep .exit)) (now (pool .exit)) ≡ walk-prog room (tokens-of (now (t .entry))) unlabelled prefix-expr (view-of p (now (ev .entry)) (now (rep .entry)) (now (pool .entry))) ⌝ }
     ensures { λ r. ⌜ left (now (t .entry)) (r .p .s) ≤ left (now (t .entry)) (p .s) - 1 ⌝ }
 {
     let m = Marker::new(p.s);
@@ -375,7 +375,7 @@ fn paren_expr(
     pool: &mut [u32],
     room: usize,
 ) -> Tested
-    ensures { λ r. ⌜ tested-as r (now (ev .exit)) (now (rep .exit)) (now (pool .exit)) ≡ walk-prog room (tokens (now (t .entry))) unlabelled paren-expr (view-of p (now (ev .entry)) (now (rep .entry)) (now (pool .entry))) ⌝ }
+    ensures { λ r. ⌜ tested-as r (now (ev .exit)) (now (rep .exit)) (now (pool .exit)) ≡ walk-prog room (tokens-of (now (t .entry))) unlabelled paren-expr (view-of p (now (ev .entry)) (now (rep .entry)) (now (pool .entry))) ⌝ }
     ensures { λ r. ⌜ left (now (t .entry)) (r .p .s) ≤ left (now (t .entry)) (p .s) - 1 ⌝ }
 {
     let m = Marker::new(p.s);
@@ -393,7 +393,7 @@ fn paren_expr(
 }
 
 fn literal_expr(p: Parser, t: &[u32], ev: &mut [u32]) -> Parser
-    ensures { λ r. ⌜ ((ask : Rule → Machine → Walked) (b : Span) (rep pool : List ℕ) → said yes (view-of r (now (ev .exit)) rep pool) ≡ walk ask (tokens (now (t .entry))) b literal-expr (view-of p (now (ev .entry)) rep pool)) ⌝ }
+    ensures { λ r. ⌜ ((ask : Rule → Machine → Walked) (b : Span) (rep pool : List ℕ) → said yes (view-of r (now (ev .exit)) rep pool) ≡ walk ask (tokens-of (now (t .entry))) b literal-expr (view-of p (now (ev .entry)) rep pool)) ⌝ }
     ensures { λ r. ⌜ left (now (t .entry)) (r .s) ≤ left (now (t .entry)) (p .s) - 1 ⌝ }
 {
     let m = Marker::new(p.s);
@@ -411,7 +411,7 @@ fn no_lhs(
     pool: &mut [u32],
     room: usize,
 ) -> Parser
-    ensures { λ r. ⌜ said no (view-of r (now (ev .exit)) (now (rep .exit)) (now (pool .exit))) ≡ walk-prog room (tokens (now (t .entry))) unlabelled no-lhs (view-of p (now (ev .entry)) (now (rep .entry)) (now (pool .entry))) ⌝ }
+    ensures { λ r. ⌜ said no (view-of r (now (ev .exit)) (now (rep .exit)) (now (pool .exit))) ≡ walk-prog room (tokens-of (now (t .entry))) unlabelled no-lhs (view-of p (now (ev .entry)) (now (rep .entry)) (now (pool .entry))) ⌝ }
     ensures { λ r. ⌜ left (now (t .entry)) (r .s) ≤ left (now (t .entry)) (p .s) ⌝ }
 {
     let op = infix_op_at(p, t);
@@ -450,7 +450,7 @@ fn missing_lhs(
     pool: &mut [u32],
     room: usize,
 ) -> Parser
-    ensures { λ r. ⌜ said no (view-of r (now (ev .exit)) (now (rep .exit)) (now (pool .exit))) ≡ walk-prog room (tokens (now (t .entry))) unlabelled missing-lhs (view-of p (now (ev .entry)) (now (rep .entry)) (now (pool .entry))) ⌝ }
+    ensures { λ r. ⌜ said no (view-of r (now (ev .exit)) (now (rep .exit)) (now (pool .exit))) ≡ walk-prog room (tokens-of (now (t .entry))) unlabelled missing-lhs (view-of p (now (ev .entry)) (now (rep .entry)) (now (pool .entry))) ⌝ }
     ensures { λ r. ⌜ left (now (t .entry)) (r .s) ≤ left (now (t .entry)) (p .s) ⌝ }
 {
     let reported = p.error(

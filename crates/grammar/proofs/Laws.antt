@@ -8,8 +8,8 @@ use Rattle.definitions.specs.NodeKind as N
 use Rattle.definitions.specs.Errors as E
 use Rattle.definitions.specs.Token.{Token}
 use Rattle.definitions.specs.Skeleton.{Span}
-use Rattle.definitions.specs.Prog.{no, yes, Rule, item, Prog, ret, _⨟_, mark, loop, brace, call}
-use Rattle.definitions.specs.Check.{tell, if_then_else_, _or_, node, expected, error, error-bump!, set, kind, silent, at, silent-eat, assert-eat}
+use Rattle.definitions.specs.Prog.{no, yes, Rule, item, Prog, ret, _⨟_, in-marker, loop, brace, open-call}
+use Rattle.definitions.specs.Check.{tell, if_then_else_, _or_, in-node, expected, error, error-bump!, set, of-kind, silent, at, silent-eat, assert-eat}
 use Rattle.definitions.specs.Grammar.{Item, Reference, macro-invocation, dt-expr, eat-cell-body, bits-value, dt-cell-list, propvalue, dt-property, node-body-turn, dt-node-body, forbidden-property, no-property, eat-node-or-prop, item-body, catch-unmatched-pp-directive, sourcefile-part}
 use Rattle.machine.specs.Machine.{Machine}
 use Rattle.machine.specs.Walk.{Walked, walk, walk-rule, walk-prog, unlabelled}
@@ -20,18 +20,18 @@ use Rattle.grammar.specs.Parts.{cell-rest, value-rest, item-rest}
 
 -- `eat-cell-body`: the plain cells are the test
 pub cell-parts : (ask : Rule → Machine → Walked) (ts : List Token) (b : Span) (at-end : Bool) (m : Machine)
-    → walk ask ts b (if plain-cell then tell yes else if silent (kind K.LParen) then dt-expr ⨟ tell yes else cell-rest at-end) m
+    → walk ask ts b (if plain-cell then tell yes else if silent (of-kind K.LParen) then dt-expr ⨟ tell yes else cell-rest at-end) m
     ≡ walk ask ts b (eat-cell-body at-end) m
 unfolding eat-cell-body
 cell-parts ask ts b at-end m =
-    cases-first ask ts b (expected E.Cell) (silent-eat (set (K.Number ∷ K.Char ∷ []))) (silent (kind K.Ident)) macro-invocation (silent-eat Reference)
-    (if silent (kind K.LParen) then dt-expr ⨟ tell yes else cell-rest at-end) m
+    cases-first ask ts b (expected E.Cell) (silent-eat (set (K.Number ∷ K.Char ∷ []))) (silent (of-kind K.Ident)) macro-invocation (silent-eat Reference)
+    (if silent (of-kind K.LParen) then dt-expr ⨟ tell yes else cell-rest at-end) m
 
 pub value-parts : (semicolon : Bool) → propvalue semicolon
     ≡ (expected E.Value
-    ⨟ if silent (kind K.BitsDirective) then bits-value
-    else if silent-eat (kind K.String) then tell yes
-    else if silent (kind K.LAngle) then mark dt-cell-list
+    ⨟ if silent (of-kind K.BitsDirective) then bits-value
+    else if silent-eat (of-kind K.String) then tell yes
+    else if silent (of-kind K.LAngle) then in-marker dt-cell-list
     else value-rest semicolon)
 unfolding propvalue
 value-parts semicolon = refl
@@ -45,24 +45,24 @@ body-parts = refl
 
 pub item-parts : item-body
     ≡ (if eat-node-or-prop then tell yes
-    else if silent (kind K.Equals) then node N.ParseError (error E.msg-expected E.unnamed-property ⨟ mark dt-property)
-    else if silent (kind K.LCurly) then node N.ParseError (error E.msg-expected E.unnamed-node ⨟ mark dt-node-body)
+    else if silent (of-kind K.Equals) then in-node N.ParseError (error E.msg-expected E.unnamed-property ⨟ in-marker dt-property)
+    else if silent (of-kind K.LCurly) then in-node N.ParseError (error E.msg-expected E.unnamed-node ⨟ in-marker dt-node-body)
     else item-rest)
 unfolding item-body
 item-parts = refl
 
 pub no-property-parts : (allow-prop : Bool) → no-property allow-prop
-    ≡ (if at (kind K.LCurly) then dt-node-body
-    else if silent (kind K.RCurly) then error-bump! ⨟ ret N.ParseError yes
-    else if forbidden-property allow-prop then error E.msg-expected E.property-not-allowed ⨟ mark dt-property ⨟ ret N.ParseError yes
+    ≡ (if at (of-kind K.LCurly) then dt-node-body
+    else if silent (of-kind K.RCurly) then error-bump! ⨟ ret N.ParseError yes
+    else if forbidden-property allow-prop then error E.msg-expected E.property-not-allowed ⨟ in-marker dt-property ⨟ ret N.ParseError yes
     else unfinished)
 unfolding no-property
 no-property-parts allow-prop = refl
 
 pub sourcefile-parts : sourcefile-part
-    ≡ (if silent (kind K.RCurly) then unmatched-rcurly
+    ≡ (if silent (of-kind K.RCurly) then unmatched-rcurly
     else if catch-unmatched-pp-directive Item then tell yes
-    else call item)
+    else open-call item)
 unfolding sourcefile-part
 sourcefile-parts = refl
 
@@ -72,7 +72,7 @@ unfolding walk
 sequence-parts ask ts b p q r m = refl
 
 pub cell-body-parts : (n : ℕ) (ts : List Token) (at-end : Bool) (m : Machine)
-    → walk-prog n ts unlabelled (if plain-cell then tell yes else if silent (kind K.LParen) then dt-expr ⨟ tell yes else cell-rest at-end) m
+    → walk-prog n ts unlabelled (if plain-cell then tell yes else if silent (of-kind K.LParen) then dt-expr ⨟ tell yes else cell-rest at-end) m
     ≡ walk-prog n ts unlabelled (eat-cell-body at-end) m
 unfolding walk-prog
 cell-body-parts n ts at-end m = cell-parts (walk-rule n ts) ts unlabelled at-end m

@@ -21,7 +21,7 @@ use Rattle.definitions.specs.Skeleton.{Span}
 use Rattle.definitions.specs.Grammar.{eat-inside}
 use Rattle.grammar.specs.declared.preprocessor_directive.Inside.{Inside}
 use Rattle.grammar.specs.Parts.{inside-of}
-use Rattle.definitions.specs.Prog.{Ans, no, yes, also, again, Rule, Prog, _⨟_, case, loop, call}
+use Rattle.definitions.specs.Prog.{Ans, no, yes, also, again, Rule, Prog, _⨟_, case, loop, open-call}
 use Rattle.machine.specs.Machine.{Machine, Marker}
 use Rattle.machine.specs.Walk.{Walked, said, choose, closed, walk, walk-rule, walk-prog, unlabelled}
 use Rattle.machine.proofs.Turns.{ahead}
@@ -40,7 +40,7 @@ module _ (n : ℕ) {ts : List Token} where
   unfolding walk-prog
   c-part e = record { is = e }
 
-  pub c-call-on : {b : Span} {r : Rule} {q : Prog} {m x : Machine} {w : Walked} → x ≡ walk-rule n ts r m .on → Way (walk-rule n ts) ts b q x w → Way (walk-rule n ts) ts b (call r ⨟ q) m w
+  pub c-call-on : {b : Span} {r : Rule} {q : Prog} {m x : Machine} {w : Walked} → x ≡ walk-rule n ts r m .on → Way (walk-rule n ts) ts b q x w → Way (walk-rule n ts) ts b (open-call r ⨟ q) m w
   unfolding walk
   c-call-on e f = c-on e f
 

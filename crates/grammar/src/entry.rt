@@ -13,7 +13,7 @@ use parser::Parser;
 ghost use mathlib.Core.Path.{_≡_};
 ghost use mathlib.Core.Bool.{true, false};
 ghost use Prim.Native.Nat.{_+_, _-_, _≤_, _<_};
-ghost use Rattle.definitions.specs.Token.{tokens};
+ghost use Rattle.definitions.specs.Token.{tokens-of};
 ghost use Rattle.definitions.specs.Prog.{yes};
 ghost use Rattle.definitions.specs.Grammar.{sourcefile-part, entry-sourcefile, entry, whole};
 ghost use Rattle.machine.specs.Walk.{said, walk-prog, unlabelled};
@@ -36,7 +36,7 @@ fn sourcefile_part(
     rep: &mut [u32],
     pool: &mut [u32],
 ) -> Parser
-    ensures { λ r. ⌜ view-of r (now (ev .exit)) (now (rep .exit)) (now (pool .exit)) ≡ walk-prog 64 (tokens (now (t .entry))) unlabelled sourcefile-part (view-of p (now (ev .entry)) (now (rep .entry)) (now (pool .entry))) .on ⌝ }
+    ensures { λ r. ⌜ view-of r (now (ev .exit)) (now (rep .exit)) (now (pool .exit)) ≡ walk-prog 64 (tokens-of (now (t .entry))) unlabelled sourcefile-part (view-of p (now (ev .entry)) (now (rep .entry)) (now (pool .entry))) .on ⌝ }
     ensures { λ r. ⌜ left (now (t .entry)) (r .s) ≤ left (now (t .entry)) (p .s) - 1 ⌝ }
 {
     let rcurly = p.silent_at(t, kind::RCURLY);
@@ -65,7 +65,7 @@ fn entry_sourcefile(
     rep: &mut [u32],
     pool: &mut [u32],
 ) -> Parser
-    ensures { λ r. ⌜ said yes (view-of r (now (ev .exit)) (now (rep .exit)) (now (pool .exit))) ≡ walk-prog 64 (tokens (now (t .entry))) unlabelled entry-sourcefile (view-of p (now (ev .entry)) (now (rep .entry)) (now (pool .entry))) ⌝ }
+    ensures { λ r. ⌜ said yes (view-of r (now (ev .exit)) (now (rep .exit)) (now (pool .exit))) ≡ walk-prog 64 (tokens-of (now (t .entry))) unlabelled entry-sourcefile (view-of p (now (ev .entry)) (now (rep .entry)) (now (pool .entry))) ⌝ }
     ensures { λ r. ⌜ left (now (t .entry)) (r .s) ≤ left (now (t .entry)) (p .s) ⌝ }
 {
     let mut q = p;
@@ -86,7 +86,7 @@ fn enter(
     pool: &mut [u32],
     entrypoint: Entrypoint,
 ) -> Parser
-    ensures { λ r. ⌜ view-of r (now (ev .exit)) (now (rep .exit)) (now (pool .exit)) ≡ walk-prog 64 (tokens (now (t .entry))) unlabelled (entry (entry-of entrypoint)) (view-of p (now (ev .entry)) (now (rep .entry)) (now (pool .entry))) .on ⌝ }
+    ensures { λ r. ⌜ view-of r (now (ev .exit)) (now (rep .exit)) (now (pool .exit)) ≡ walk-prog 64 (tokens-of (now (t .entry))) unlabelled (entry (entry-of entrypoint)) (view-of p (now (ev .entry)) (now (rep .entry)) (now (pool .entry))) .on ⌝ }
     ensures { λ r. ⌜ left (now (t .entry)) (r .s) ≤ left (now (t .entry)) (p .s) ⌝ }
 {
     match entrypoint {
@@ -110,7 +110,7 @@ pub fn parse(
     pool: &mut [u32],
     entrypoint: Entrypoint,
 ) -> Parser
-    ensures { λ r. ⌜ view-of r (now (ev .exit)) (now (rep .exit)) (now (pool .exit)) ≡ walk-prog 64 (tokens (now (t .entry))) unlabelled (whole (entry-of entrypoint)) (fresh (now (ev .entry)) (now (rep .entry)) (now (pool .entry))) .on ⌝ }
+    ensures { λ r. ⌜ view-of r (now (ev .exit)) (now (rep .exit)) (now (pool .exit)) ≡ walk-prog 64 (tokens-of (now (t .entry))) unlabelled (whole (entry-of entrypoint)) (fresh (now (ev .entry)) (now (rep .entry)) (now (pool .entry))) .on ⌝ }
 {
     let p = Parser::new();
     let parsed = enter(p, t, ev, rep, pool, entrypoint);

@@ -50,7 +50,7 @@ use parts::unfinished;
 ghost use mathlib.Core.Path.{_≡_};
 ghost use mathlib.Core.Bool.{true, false};
 ghost use Prim.Native.Nat.{_+_, _-_, _≤_, _<_};
-ghost use Rattle.definitions.specs.Token.{tokens};
+ghost use Rattle.definitions.specs.Token.{tokens-of};
 ghost use Rattle.definitions.specs.Prog.{yes, item, propvalues, eat-cell};
 ghost use Rattle.definitions.specs.Grammar.{eat-inside, branch, cond-branches-and-end, eat-preprocessor-directive, cells, dt-cell-list, bits-value, propvalue, dt-property, dt-node-body, no-property, eat-node-or-prop};
 ghost use Rattle.machine.specs.Walk.{said, closed, walk-rule, walk-prog, unlabelled};
@@ -69,7 +69,7 @@ fn cells(
     room: usize,
     at_end: bool,
 ) -> Tested
-    ensures { λ r. ⌜ tested-as r (now (ev .exit)) (now (rep .exit)) (now (pool .exit)) ≡ walk-prog room (tokens (now (t .entry))) unlabelled (cells «at_end») (view-of p (now (ev .entry)) (now (rep .entry)) (now (pool .entry))) ⌝ }
+    ensures { λ r. ⌜ tested-as r (now (ev .exit)) (now (rep .exit)) (now (pool .exit)) ≡ walk-prog room (tokens-of (now (t .entry))) unlabelled (cells «at_end») (view-of p (now (ev .entry)) (now (rep .entry)) (now (pool .entry))) ⌝ }
     ensures { λ r. ⌜ left (now (t .entry)) (r .p .s) ≤ left (now (t .entry)) (p .s) ⌝ }
 {
     let mut q = p;
@@ -102,7 +102,7 @@ fn eat_cell(
     room: usize,
     at_end: bool,
 ) -> Tested
-    ensures { λ r. ⌜ tested-as r (now (ev .exit)) (now (rep .exit)) (now (pool .exit)) ≡ walk-rule room (tokens (now (t .entry))) (eat-cell «at_end») (view-of p (now (ev .entry)) (now (rep .entry)) (now (pool .entry))) ⌝ }
+    ensures { λ r. ⌜ tested-as r (now (ev .exit)) (now (rep .exit)) (now (pool .exit)) ≡ walk-rule room (tokens-of (now (t .entry))) (eat-cell «at_end») (view-of p (now (ev .entry)) (now (rep .entry)) (now (pool .entry))) ⌝ }
     ensures { λ r. ⌜ left (now (t .entry)) (r .p .s) ≤ left (now (t .entry)) (p .s) ⌝ }
     ensures { λ r. ⌜ (r .yes ≡ true → left (now (t .entry)) (r .p .s) < left (now (t .entry)) (p .s)) ⌝ }
 {
@@ -133,7 +133,7 @@ fn cell2(
     room: usize,
     at_end: bool,
 ) -> Tested
-    ensures { λ r. ⌜ tested-as r (now (ev .exit)) (now (rep .exit)) (now (pool .exit)) ≡ walk-prog room (tokens (now (t .entry))) unlabelled (cell-rest «at_end») (view-of p (now (ev .entry)) (now (rep .entry)) (now (pool .entry))) ⌝ }
+    ensures { λ r. ⌜ tested-as r (now (ev .exit)) (now (rep .exit)) (now (pool .exit)) ≡ walk-prog room (tokens-of (now (t .entry))) unlabelled (cell-rest «at_end») (view-of p (now (ev .entry)) (now (rep .entry)) (now (pool .entry))) ⌝ }
     ensures { λ r. ⌜ left (now (t .entry)) (r .p .s) ≤ left (now (t .entry)) (p .s) ⌝ }
     ensures { λ r. ⌜ (r .yes ≡ true → left (now (t .entry)) (r .p .s) < left (now (t .entry)) (p .s)) ⌝ }
 {
@@ -184,7 +184,7 @@ fn dt_cell_list(
     room: usize,
     m: Marker,
 ) -> Tested
-    ensures { λ r. ⌜ tested-as r (now (ev .exit)) (now (rep .exit)) (now (pool .exit)) ≡ closed (marker-of m) (walk-prog room (tokens (now (t .entry))) unlabelled dt-cell-list (view-of p (now (ev .entry)) (now (rep .entry)) (now (pool .entry)))) ⌝ }
+    ensures { λ r. ⌜ tested-as r (now (ev .exit)) (now (rep .exit)) (now (pool .exit)) ≡ closed (marker-of m) (walk-prog room (tokens-of (now (t .entry))) unlabelled dt-cell-list (view-of p (now (ev .entry)) (now (rep .entry)) (now (pool .entry)))) ⌝ }
     ensures { λ r. ⌜ left (now (t .entry)) (r .p .s) ≤ left (now (t .entry)) (p .s) - 1 ⌝ }
 {
     let opened = p.bump(t, ev);
@@ -213,7 +213,7 @@ fn propvalues(
     room: usize,
     semicolon: bool,
 ) -> Tested
-    ensures { λ r. ⌜ tested-as r (now (ev .exit)) (now (rep .exit)) (now (pool .exit)) ≡ walk-rule room (tokens (now (t .entry))) (propvalues semicolon) (view-of p (now (ev .entry)) (now (rep .entry)) (now (pool .entry))) ⌝ }
+    ensures { λ r. ⌜ tested-as r (now (ev .exit)) (now (rep .exit)) (now (pool .exit)) ≡ walk-rule room (tokens-of (now (t .entry))) (propvalues semicolon) (view-of p (now (ev .entry)) (now (rep .entry)) (now (pool .entry))) ⌝ }
     ensures { λ r. ⌜ left (now (t .entry)) (r .p .s) ≤ left (now (t .entry)) (p .s) - 1 ⌝ }
 {
     let closed = room == 0;
@@ -269,7 +269,7 @@ fn value(
     room: usize,
     semicolon: bool,
 ) -> Told
-    ensures { λ r. ⌜ told-as r (now (ev .exit)) (now (rep .exit)) (now (pool .exit)) ≡ walk-prog room (tokens (now (t .entry))) unlabelled (propvalue semicolon) (view-of p (now (ev .entry)) (now (rep .entry)) (now (pool .entry))) ⌝ }
+    ensures { λ r. ⌜ told-as r (now (ev .exit)) (now (rep .exit)) (now (pool .exit)) ≡ walk-prog room (tokens-of (now (t .entry))) unlabelled (propvalue semicolon) (view-of p (now (ev .entry)) (now (rep .entry)) (now (pool .entry))) ⌝ }
     ensures { λ r. ⌜ left (now (t .entry)) (r .p .s) ≤ left (now (t .entry)) (p .s) - 1 ⌝ }
 {
     let pushed = p.add_expected(expected::VALUE);
@@ -301,7 +301,7 @@ fn bits(
     pool: &mut [u32],
     room: usize,
 ) -> Tested
-    ensures { λ r. ⌜ tested-as r (now (ev .exit)) (now (rep .exit)) (now (pool .exit)) ≡ walk-prog room (tokens (now (t .entry))) unlabelled bits-value (view-of p (now (ev .entry)) (now (rep .entry)) (now (pool .entry))) ⌝ }
+    ensures { λ r. ⌜ tested-as r (now (ev .exit)) (now (rep .exit)) (now (pool .exit)) ≡ walk-prog room (tokens-of (now (t .entry))) unlabelled bits-value (view-of p (now (ev .entry)) (now (rep .entry)) (now (pool .entry))) ⌝ }
     ensures { λ r. ⌜ left (now (t .entry)) (r .p .s) ≤ left (now (t .entry)) (p .s) - 1 ⌝ }
 {
     let m_cell_list = Marker::new(p.s);
@@ -333,7 +333,7 @@ fn value2(
     room: usize,
     semicolon: bool,
 ) -> Told
-    ensures { λ r. ⌜ told-as r (now (ev .exit)) (now (rep .exit)) (now (pool .exit)) ≡ walk-prog room (tokens (now (t .entry))) unlabelled (value-rest semicolon) (view-of p (now (ev .entry)) (now (rep .entry)) (now (pool .entry))) ⌝ }
+    ensures { λ r. ⌜ told-as r (now (ev .exit)) (now (rep .exit)) (now (pool .exit)) ≡ walk-prog room (tokens-of (now (t .entry))) unlabelled (value-rest semicolon) (view-of p (now (ev .entry)) (now (rep .entry)) (now (pool .entry))) ⌝ }
     ensures { λ r. ⌜ left (now (t .entry)) (r .p .s) ≤ left (now (t .entry)) (p .s) - 1 ⌝ }
 {
     let reference = silent_eat_reference(p, t, ev, rep, pool);
@@ -391,7 +391,7 @@ fn dt_property(
     room: usize,
     m: Marker,
 ) -> Parser
-    ensures { λ r. ⌜ said yes (view-of r (now (ev .exit)) (now (rep .exit)) (now (pool .exit))) ≡ closed (marker-of m) (walk-prog room (tokens (now (t .entry))) unlabelled dt-property (view-of p (now (ev .entry)) (now (rep .entry)) (now (pool .entry)))) ⌝ }
+    ensures { λ r. ⌜ said yes (view-of r (now (ev .exit)) (now (rep .exit)) (now (pool .exit))) ≡ closed (marker-of m) (walk-prog room (tokens-of (now (t .entry))) unlabelled dt-property (view-of p (now (ev .entry)) (now (rep .entry)) (now (pool .entry)))) ⌝ }
     ensures { λ r. ⌜ left (now (t .entry)) (r .s) ≤ left (now (t .entry)) (p .s) - 1 ⌝ }
 {
     let empty = p.eat(t, ev, Matcher::Kind(kind::SEMICOLON));
@@ -422,7 +422,7 @@ fn dt_node_body(
     room: usize,
     m: Marker,
 ) -> Parser
-    ensures { λ r. ⌜ said yes (view-of r (now (ev .exit)) (now (rep .exit)) (now (pool .exit))) ≡ closed (marker-of m) (walk-prog room (tokens (now (t .entry))) unlabelled dt-node-body (view-of p (now (ev .entry)) (now (rep .entry)) (now (pool .entry)))) ⌝ }
+    ensures { λ r. ⌜ said yes (view-of r (now (ev .exit)) (now (rep .exit)) (now (pool .exit))) ≡ closed (marker-of m) (walk-prog room (tokens-of (now (t .entry))) unlabelled dt-node-body (view-of p (now (ev .entry)) (now (rep .entry)) (now (pool .entry)))) ⌝ }
     ensures { λ r. ⌜ left (now (t .entry)) (r .s) ≤ left (now (t .entry)) (p .s) - 1 ⌝ }
 {
     let lcurly_span = p.s.range(t);
@@ -447,7 +447,7 @@ fn item(
     pool: &mut [u32],
     room: usize,
 ) -> Parser
-    ensures { λ r. ⌜ view-of r (now (ev .exit)) (now (rep .exit)) (now (pool .exit)) ≡ walk-rule room (tokens (now (t .entry))) item (view-of p (now (ev .entry)) (now (rep .entry)) (now (pool .entry))) .on ⌝ }
+    ensures { λ r. ⌜ view-of r (now (ev .exit)) (now (rep .exit)) (now (pool .exit)) ≡ walk-rule room (tokens-of (now (t .entry))) item (view-of p (now (ev .entry)) (now (rep .entry)) (now (pool .entry))) .on ⌝ }
     ensures { λ r. ⌜ left (now (t .entry)) (r .s) ≤ left (now (t .entry)) (p .s) - 1 ⌝ }
 {
     let closed = room == 0;
@@ -490,7 +490,7 @@ fn item2(
     pool: &mut [u32],
     room: usize,
 ) -> Parser
-    ensures { λ r. ⌜ said yes (view-of r (now (ev .exit)) (now (rep .exit)) (now (pool .exit))) ≡ walk-prog room (tokens (now (t .entry))) unlabelled item-rest (view-of p (now (ev .entry)) (now (rep .entry)) (now (pool .entry))) ⌝ }
+    ensures { λ r. ⌜ said yes (view-of r (now (ev .exit)) (now (rep .exit)) (now (pool .exit))) ≡ walk-prog room (tokens-of (now (t .entry))) unlabelled item-rest (view-of p (now (ev .entry)) (now (rep .entry)) (now (pool .entry))) ⌝ }
     ensures { λ r. ⌜ left (now (t .entry)) (r .s) ≤ left (now (t .entry)) (p .s) - 1 ⌝ }
 {
     let semicolon = p.silent_at(t, kind::SEMICOLON);
@@ -526,7 +526,7 @@ fn eat_node_or_prop(
     pool: &mut [u32],
     room: usize,
 ) -> Tested
-    ensures { λ r. ⌜ tested-as r (now (ev .exit)) (now (rep .exit)) (now (pool .exit)) ≡ walk-prog room (tokens (now (t .entry))) unlabelled eat-node-or-prop (view-of p (now (ev .entry)) (now (rep .entry)) (now (pool .entry))) ⌝ }
+    ensures { λ r. ⌜ tested-as r (now (ev .exit)) (now (rep .exit)) (now (pool .exit)) ≡ walk-prog room (tokens-of (now (t .entry))) unlabelled eat-node-or-prop (view-of p (now (ev .entry)) (now (rep .entry)) (now (pool .entry))) ⌝ }
     ensures { λ r. ⌜ left (now (t .entry)) (r .p .s) ≤ left (now (t .entry)) (p .s) ⌝ }
     ensures { λ r. ⌜ (r .yes ≡ true → left (now (t .entry)) (r .p .s) ≤ left (now (t .entry)) (p .s) - 1) ⌝ }
 {
@@ -568,7 +568,7 @@ fn rest(
     m: Marker,
     allow_prop: bool,
 ) -> Parser
-    ensures { λ r. ⌜ said yes (view-of r (now (ev .exit)) (now (rep .exit)) (now (pool .exit))) ≡ closed (marker-of m) (walk-prog room (tokens (now (t .entry))) unlabelled (no-property «allow_prop») (view-of p (now (ev .entry)) (now (rep .entry)) (now (pool .entry)))) ⌝ }
+    ensures { λ r. ⌜ said yes (view-of r (now (ev .exit)) (now (rep .exit)) (now (pool .exit))) ≡ closed (marker-of m) (walk-prog room (tokens-of (now (t .entry))) unlabelled (no-property «allow_prop») (view-of p (now (ev .entry)) (now (rep .entry)) (now (pool .entry)))) ⌝ }
     ensures { λ r. ⌜ left (now (t .entry)) (r .s) ≤ left (now (t .entry)) (p .s) ⌝ }
 {
     let lcurly = p.at(t, Matcher::Kind(kind::LCURLY));
@@ -607,7 +607,7 @@ fn eat_inside(
     room: usize,
     inside: Inside,
 ) -> Tested
-    ensures { λ r. ⌜ tested-as r (now (ev .exit)) (now (rep .exit)) (now (pool .exit)) ≡ walk-prog room (tokens (now (t .entry))) unlabelled (eat-inside (inside-of inside)) (view-of p (now (ev .entry)) (now (rep .entry)) (now (pool .entry))) ⌝ }
+    ensures { λ r. ⌜ tested-as r (now (ev .exit)) (now (rep .exit)) (now (pool .exit)) ≡ walk-prog room (tokens-of (now (t .entry))) unlabelled (eat-inside (inside-of inside)) (view-of p (now (ev .entry)) (now (rep .entry)) (now (pool .entry))) ⌝ }
     ensures { λ r. ⌜ left (now (t .entry)) (r .p .s) ≤ left (now (t .entry)) (p .s) ⌝ }
     ensures { λ r. ⌜ (r .yes ≡ true → left (now (t .entry)) (r .p .s) ≤ left (now (t .entry)) (p .s) - 1) ⌝ }
 {
@@ -635,7 +635,7 @@ fn arm(
     room: usize,
     inside: Inside,
 ) -> Tested
-    ensures { λ r. ⌜ tested-as r (now (ev .exit)) (now (rep .exit)) (now (pool .exit)) ≡ walk-prog room (tokens (now (t .entry))) unlabelled (branch (inside-of inside)) (view-of p (now (ev .entry)) (now (rep .entry)) (now (pool .entry))) ⌝ }
+    ensures { λ r. ⌜ tested-as r (now (ev .exit)) (now (rep .exit)) (now (pool .exit)) ≡ walk-prog room (tokens-of (now (t .entry))) unlabelled (branch (inside-of inside)) (view-of p (now (ev .entry)) (now (rep .entry)) (now (pool .entry))) ⌝ }
     ensures { λ r. ⌜ left (now (t .entry)) (r .p .s) ≤ left (now (t .entry)) (p .s) ⌝ }
     ensures { λ r. ⌜ (r .yes ≡ true → 0 < left (now (t .entry)) (p .s)) ⌝ }
 {
@@ -676,7 +676,7 @@ fn cond_branches_and_end(
     room: usize,
     inside: Inside,
 ) -> Parser
-    ensures { λ r. ⌜ view-of r (now (ev .exit)) (now (rep .exit)) (now (pool .exit)) ≡ walk-prog room (tokens (now (t .entry))) unlabelled (cond-branches-and-end (inside-of inside)) (view-of p (now (ev .entry)) (now (rep .entry)) (now (pool .entry))) .on ⌝ }
+    ensures { λ r. ⌜ view-of r (now (ev .exit)) (now (rep .exit)) (now (pool .exit)) ≡ walk-prog room (tokens-of (now (t .entry))) unlabelled (cond-branches-and-end (inside-of inside)) (view-of p (now (ev .entry)) (now (rep .entry)) (now (pool .entry))) .on ⌝ }
     ensures { λ r. ⌜ left (now (t .entry)) (r .s) ≤ left (now (t .entry)) (p .s) ⌝ }
 {
     let mut q = p;
@@ -701,7 +701,7 @@ fn eat_preprocessor_directive(
     room: usize,
     inside: Inside,
 ) -> Tested
-    ensures { λ r. ⌜ tested-as r (now (ev .exit)) (now (rep .exit)) (now (pool .exit)) ≡ walk-prog room (tokens (now (t .entry))) unlabelled (eat-preprocessor-directive (inside-of inside)) (view-of p (now (ev .entry)) (now (rep .entry)) (now (pool .entry))) ⌝ }
+    ensures { λ r. ⌜ tested-as r (now (ev .exit)) (now (rep .exit)) (now (pool .exit)) ≡ walk-prog room (tokens-of (now (t .entry))) unlabelled (eat-preprocessor-directive (inside-of inside)) (view-of p (now (ev .entry)) (now (rep .entry)) (now (pool .entry))) ⌝ }
     ensures { λ r. ⌜ left (now (t .entry)) (r .p .s) ≤ left (now (t .entry)) (p .s) ⌝ }
     ensures { λ r. ⌜ (r .yes ≡ true → left (now (t .entry)) (r .p .s) < left (now (t .entry)) (p .s)) ⌝ }
 {

@@ -14,7 +14,7 @@ ghost use mathlib.Core.Path.{_≡_};
 ghost use mathlib.Core.Bool.{true, false};
 ghost use mathlib.Core.List.{List};
 ghost use Prim.Native.Nat.{ℕ, _+_, _-_, _≤_, _<_};
-ghost use Rattle.definitions.specs.Token.{tokens};
+ghost use Rattle.definitions.specs.Token.{tokens-of};
 ghost use Rattle.definitions.specs.Skeleton.{Span};
 ghost use Rattle.definitions.specs.Grammar.{catch-unmatched-pp-directive};
 ghost use Rattle.machine.specs.Walk.{walk-prog, unlabelled};
@@ -61,7 +61,7 @@ pub fn catch_unmatched_pp_directive(
     room: usize,
     inside: Inside,
 ) -> Tested
-    ensures { λ r. ⌜ tested-as r (now (ev .exit)) (now (rep .exit)) (now (pool .exit)) ≡ walk-prog room (tokens (now (t .entry))) unlabelled (catch-unmatched-pp-directive (inside-of inside)) (view-of p (now (ev .entry)) (now (rep .entry)) (now (pool .entry))) ⌝ }
+    ensures { λ r. ⌜ tested-as r (now (ev .exit)) (now (rep .exit)) (now (pool .exit)) ≡ walk-prog room (tokens-of (now (t .entry))) unlabelled (catch-unmatched-pp-directive (inside-of inside)) (view-of p (now (ev .entry)) (now (rep .entry)) (now (pool .entry))) ⌝ }
     ensures { λ r. ⌜ left (now (t .entry)) (r .p .s) ≤ left (now (t .entry)) (p .s) ⌝ }
     ensures { λ r. ⌜ (r .yes ≡ true → left (now (t .entry)) (r .p .s) ≤ left (now (t .entry)) (p .s) - 1) ⌝ }
 {

@@ -7,7 +7,7 @@ use mathlib.Core.List.{List}
 use lib.Dec.{leb}
 use lib.ListN.{length}
 use borrow.Author.Tests.{leb-true}
-use Rattle.definitions.specs.Token.{tokens}
+use Rattle.definitions.specs.Token.{tokens-of}
 use Rattle.definitions.specs.Grammar.{Entry}
 use Rattle.definitions.specs.Skeleton.{Skeleton}
 use Rattle.definitions.specs.Report.{Room, Fit, fits, stops, pushes, scan}
@@ -22,12 +22,12 @@ pub record Accepted (n : ℕ) (bs tk : List ℕ) (b : Buffers) : Type 0 where
   pub input : check-input bs tk ≡ accepted
   -- nor do causes 5 to 7
   pub left : Room
-  pub fitted : scan (pushes (run-entry entry (tokens tk))) (room-of b) ≡ fits left
+  pub fitted : scan (pushes (run-entry entry (tokens-of tk))) (room-of b) ≡ fits left
   -- nor does cause 8
-  pub trees-fit : length (sheets entry (tokens tk) (run-entry entry (tokens tk)) .trees) ≤ length (b .trees)
-  pub errors-fit : length (sheets entry (tokens tk) (run-entry entry (tokens tk)) .errors) ≤ length (b .errors)
+  pub trees-fit : length (sheets entry (tokens-of tk) (run-entry entry (tokens-of tk)) .trees) ≤ length (b .trees)
+  pub errors-fit : length (sheets entry (tokens-of tk) (run-entry entry (tokens-of tk)) .errors) ≤ length (b .errors)
   -- what it returns
-  pub returns : call n bs tk b ≡ kept (sheets entry (tokens tk) (run-entry entry (tokens tk))) b
+  pub returns : call n bs tk b ≡ kept (sheets entry (tokens-of tk) (run-entry entry (tokens-of tk))) b
 
 -- a refusal's number is not 0
 pub refusal-number : (r : Refusal) → number-of r ≡ 0 → ⊥
@@ -43,12 +43,12 @@ refusal-number no-tree-room e = omega arith
 
 module _ (n : ℕ) (bs tk : List ℕ) (b : Buffers) (e : Entry) (for-e : entry-of n ≡ for e) (ok : check-input bs tk ≡ accepted) where
   abbrev o : Skeleton
-  o = run-entry e (tokens tk)
+  o = run-entry e (tokens-of tk)
 
   abbrev z : Sheets
-  z = sheets e (tokens tk) o
+  z = sheets e (tokens-of tk) o
 
-  called : call n bs tk b ≡ outcome (scan (pushes o) (room-of b)) e (tokens tk) o b
+  called : call n bs tk b ≡ outcome (scan (pushes o) (room-of b)) e (tokens-of tk) o b
   unfolding call asked checked parse
   called = rw (for-e, ok) refl
 
@@ -64,18 +64,18 @@ module _ (n : ℕ) (bs tk : List ℕ) (b : Buffers) (e : Entry) (for-e : entry-o
         fitted = f;
         trees-fit = leb-true _ _ (and-left _ _ g);
         errors-fit = leb-true _ _ (and-right (leb (length (z .trees)) (length (b .trees))) _ g);
-        returns = called ∙ ap (λ (q : Fit). outcome q e (tokens tk) o b) f ∙ ap (λ (q : Bool). cond q (kept z b) (cleared no-tree-room b)) g;
+        returns = called ∙ ap (λ (q : Fit). outcome q e (tokens-of tk) o b) f ∙ ap (λ (q : Bool). cond q (kept z b) (cleared no-tree-room b)) g;
       }
   by-room x f false g h =
       absurd
       (refusal-number no-tree-room
-      (sym (ap (λ (r : Result). r .answer .number) (called ∙ ap (λ (q : Fit). outcome q e (tokens tk) o b) f ∙ ap (λ (q : Bool). cond q (kept z b) (cleared no-tree-room b)) g)) ∙ h))
+      (sym (ap (λ (r : Result). r .answer .number) (called ∙ ap (λ (q : Fit). outcome q e (tokens-of tk) o b) f ∙ ap (λ (q : Bool). cond q (kept z b) (cleared no-tree-room b)) g)) ∙ h))
 
   by-fit : (f : Fit) → scan (pushes o) (room-of b) ≡ f → call n bs tk b .answer .number ≡ 0 → Accepted n bs tk b
   unfolding outcome
   by-fit (fits x) f h = by-room x f _ refl h
   by-fit (stops r) f h =
-      absurd (refusal-number (forward-mark (length (tokens tk)) r) (sym (ap (λ (q : Result). q .answer .number) (called ∙ ap (λ (q : Fit). outcome q e (tokens tk) o b) f)) ∙ h))
+      absurd (refusal-number (forward-mark (length (tokens-of tk)) r) (sym (ap (λ (q : Result). q .answer .number) (called ∙ ap (λ (q : Fit). outcome q e (tokens-of tk) o b) f)) ∙ h))
 
 -- AN ACCEPTED CALL is one that returns number 0
 pub accepted-call : (n : ℕ) (bs tk : List ℕ) (b : Buffers) → call n bs tk b .answer .number ≡ 0 → Accepted n bs tk b

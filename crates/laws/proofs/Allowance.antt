@@ -5,7 +5,7 @@ use mathlib.Core.Path.{_≡_, refl, ap, _∙_}
 use mathlib.Core.List.{List}
 use mathlib.Core.Bool.{Bool, true, false, cond}
 use lib.ListN.{length}
-use Rattle.definitions.specs.Prog.{Ans, no, yes, also, again, Rule, Prog, ret, act, _⨟_, case, mark, loop, chain, brace, call}
+use Rattle.definitions.specs.Prog.{Ans, no, yes, also, again, Rule, Prog, ret, act, _⨟_, case, in-marker, loop, chain, brace, open-call}
 use Rattle.definitions.specs.Token.{Token}
 use Rattle.definitions.specs.Grammar.{grammar, Entry, whole}
 use Rattle.definitions.specs.Skeleton.{Label, no-label, Skeleton, done, _⧺_}
@@ -88,7 +88,7 @@ exec-agrees ask more h b (case t n y a) s w =
     let c : Within-room (o .made) × Within-room (x .made) = join-within (o .made) (x .made) (unfold add in w) in
     ap (λ (v : Out). add v (choose (v .ans) (exec more b n) (exec more b y) (exec more b a) (v .state))) (exec-agrees ask more h b t s (c .0))
     ∙ ap (add o) (choose-agrees (o .ans) (exec ask b n) (exec ask b y) (exec ask b a) (exec more b n) (exec more b y) (exec more b a) (exec-agrees ask more h b n) (exec-agrees ask more h b y) (exec-agrees ask more h b a) (o .state) (c .1))
-exec-agrees ask more h b (mark p) s w =
+exec-agrees ask more h b (in-marker p) s w =
     let o : Out = exec ask b p s in
     ap (marked s) (exec-agrees ask more h b p s (closed-within (o .shape) (mark-of s) (mark-of (o .state)) done (o .made) (unfold marked makes in w) .1))
 exec-agrees ask more h b (loop p) s w = iter-agrees (suc (length (s .rest))) (exec ask b p) (exec more b p) (exec-agrees ask more h b p) s w
@@ -97,7 +97,7 @@ exec-agrees ask more h b (chain p q) s w =
     ap (chained (exec more b q) s) (exec-agrees ask more h b p s (chained-parts Within-room within-parts (exec ask b q) s o w))
     ∙ chained-agrees (exec ask b q) (exec more b q) (exec-agrees ask more h b q) s o w
 exec-agrees ask more h b (brace p) s w = exec-agrees ask more h (here (s .rest)) p s w
-exec-agrees ask more h b (call r) s w = h r s w
+exec-agrees ask more h b (open-call r) s w = h r s w
 
 -- MORE OPEN CALLS ALLOWED: a call that meets no refusal 5 does the same with any larger allowance
 pub run-agrees : (n m : ℕ) → n ≤ m → (r : Rule) → Agrees (run n r) (run m r)

@@ -1,7 +1,7 @@
 -- Analyses that compute on programs: what is known at each place that a program comes to, by the answers given on the way there.
 -- A domain says what facts there are and what each action does to them. `Look` below is the analysis; its soundness is in Sound.antt.
 use mathlib.Core.Bool.{Bool, true, cond, _&&_}
-use Rattle.definitions.specs.Prog.{Ans, no, yes, also, again, Rule, Act, Prog, ret, act, _⨟_, case, mark, loop, chain, brace, call}
+use Rattle.definitions.specs.Prog.{Ans, no, yes, also, again, Rule, Act, Prog, ret, act, _⨟_, case, in-marker, loop, chain, brace, open-call}
 
 -- whether nothing forbidden is done; and what is known after each answer
 pub record Look (F : Type 0) : Type 0 where
@@ -78,11 +78,11 @@ module _ (D : Domain) where
   look t (case c n y a) d =
       let l = look t c d in
       then-look l (either (D .from (l .if-no) (look t n)) (either (D .from (D .join (l .if-yes) (l .if-again)) (look t y)) (D .from (l .if-also) (look t a))))
-  look t (mark p) d = look t p d
+  look t (in-marker p) d = look t p d
   look t (loop p) d = D .from (settled d (look t p)) (look t p)
   look t (chain p q) d = let l = look t p d in then-look l (either (stopped l) (D .from (settled (l .if-again) (look t q)) (look t q)))
   look t (brace p) d = look t p d
-  look t (call r) d = t r d
+  look t (open-call r) d = t r d
 
   -- one look says no more than another
   abbrev pub looks-within : Look (D .Fact) → Look (D .Fact) → Bool

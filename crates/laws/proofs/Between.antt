@@ -10,7 +10,7 @@ use Rattle.definitions.specs.Token.{Token, trivia, drop-trivia, past}
 use Rattle.definitions.specs.Prog.{Rule, Prog}
 use Rattle.definitions.specs.Grammar.{Entry, whole}
 use Rattle.definitions.specs.Skeleton.{Label, no-label, Skeleton, done, token, name, node, ignored, report, over, _⧺_}
-use Rattle.definitions.specs.Run.{State, mark-of, taken, room, closed, exec, run}
+use Rattle.definitions.specs.Run.{State, mark-of, taken, over-unless, closed, exec, run}
 use Rattle.definitions.specs.Place.{after}
 use Rattle.definitions.specs.Call.{run-entry}
 use Rattle.laws.proofs.Trivia.{drop-twice, drop-none, passes-drop}
@@ -68,8 +68,8 @@ between-none : (a : List Token) → Between done a a
 unfolding Reads after
 between-none a = record { reads = λ ts e. tt; leaves = λ ts e. e }
 
-between-room : (b : Bool) (m : ℕ) (a : List Token) → Between (room b m) a a
-unfolding room Reads after
+between-room : (b : Bool) (m : ℕ) (a : List Token) → Between (over-unless b m) a a
+unfolding over-unless Reads after
 between-room true m a = between-none a
 between-room false m a = record { reads = λ ts e. tt; leaves = λ ts e. e }
 

@@ -5,7 +5,7 @@ use mathlib.Core.Path.{_≡_, refl, ap, sym, _∙_}
 use mathlib.Core.List.{List, [], _++_, append-assoc, append-nil}
 use lib.ListN.{length, length-append}
 use Rattle.definitions.specs.Token.{bytes}
-use Rattle.definitions.specs.Place.{Tree, nil, leaf, branch, width, count, rows, tree-row}
+use Rattle.definitions.specs.Place.{Tree, nil, leaf, subtree, width, count, rows, tree-row}
 use Rattle.laws.specs.Rows.{Rows, end, node, preorder, number, widths, Counts, Widths, first-rows, later-rows, read-row, read}
 use Rattle.laws.specs.Rows as R
 
@@ -63,50 +63,50 @@ preorder-once r q h g e = sym (read-back r h) ∙ ap read e ∙ read-back q g
 unfoldable pub shown : Tree → Rows
 shown nil = end
 shown (leaf k ts f) = R.leaf k (bytes ts) (length ts) (shown f)
-shown (branch k c f) = node k (width c) (count c) (shown c) (shown f)
+shown (subtree k c f) = node k (width c) (count c) (shown c) (shown f)
 
 pub shown-preorder : (t : Tree) → preorder (shown t) ≡ rows t
 unfolding shown preorder rows
 shown-preorder nil = refl
 shown-preorder (leaf k ts f) = ap (tree-row 1 k (bytes ts) (length ts)) (shown-preorder f)
-shown-preorder (branch k c f) =
+shown-preorder (subtree k c f) =
     ap (λ (l : List ℕ). tree-row 0 k (width c) (count c) (l ++ preorder (shown f))) (shown-preorder c) ∙ ap (λ (l : List ℕ). tree-row 0 k (width c) (count c) (rows c ++ l)) (shown-preorder f)
 
 count-number : (t : Tree) → count t ≡ number (shown t)
 unfolding shown count number
 count-number nil = refl
 count-number (leaf k ts f) = ap suc (count-number f)
-count-number (branch k c f) = ap suc (count-number f)
+count-number (subtree k c f) = ap suc (count-number f)
 
 width-widths : (t : Tree) → width t ≡ widths (shown t)
 unfolding shown width widths
 width-widths nil = refl
 width-widths (leaf k ts f) = ap (bytes ts +_) (width-widths f)
-width-widths (branch k c f) = ap (width c +_) (width-widths f)
+width-widths (subtree k c f) = ap (width c +_) (width-widths f)
 
 pub shown-counts : (t : Tree) → Counts (shown t)
 unfolding shown Counts
 shown-counts nil = tt
 shown-counts (leaf k ts f) = shown-counts f
-shown-counts (branch k c f) = (count-number c, shown-counts c, shown-counts f)
+shown-counts (subtree k c f) = (count-number c, shown-counts c, shown-counts f)
 
 pub shown-widths : (t : Tree) → Widths (shown t)
 unfolding shown Widths
 shown-widths nil = tt
 shown-widths (leaf k ts f) = shown-widths f
-shown-widths (branch k c f) = (width-widths c, shown-widths c, shown-widths f)
+shown-widths (subtree k c f) = (width-widths c, shown-widths c, shown-widths f)
 
 -- how many rows a tree has, nodes and leaves
 unfoldable pub row-count : Tree → ℕ
 row-count nil = 0
 row-count (leaf k ts f) = suc (row-count f)
-row-count (branch k c f) = suc (row-count c + row-count f)
+row-count (subtree k c f) = suc (row-count c + row-count f)
 
 pub rows-length : (t : Tree) → length (rows t) ≡ 4 * row-count t
 unfolding rows row-count
 rows-length nil = refl
 rows-length (leaf k ts f) = let h : length (rows f) ≡ 4 * row-count f = rows-length f in omega arith
-rows-length (branch k c f) =
+rows-length (subtree k c f) =
     let h : length (rows c) ≡ 4 * row-count c = rows-length c in
     let g : length (rows f) ≡ 4 * row-count f = rows-length f in
     simp length-append (omega arith)

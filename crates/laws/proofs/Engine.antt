@@ -4,7 +4,7 @@
 use Prim.Native.Nat.{ℕ, zero, suc}
 use mathlib.Core.Path.{_≡_, refl, sym, subst}
 use lib.ListN.{length}
-use Rattle.definitions.specs.Prog.{Ans, no, yes, also, again, Rule, Act, Prog, ret, act, _⨟_, case, mark, loop, chain, brace, call}
+use Rattle.definitions.specs.Prog.{Ans, no, yes, also, again, Rule, Act, Prog, ret, act, _⨟_, case, in-marker, loop, chain, brace, open-call}
 use Rattle.definitions.specs.Grammar.{grammar}
 use Rattle.definitions.specs.Skeleton.{Label, no-label, Skeleton, done, node, over, _⧺_}
 use Rattle.definitions.specs.Run.{State, Out, mark-of, answer, makes, add, perform, choose, closed, marked, is-again, goes-on, iter, unlinked, by-shape, links, chained, here, exec, run}
@@ -88,11 +88,11 @@ module _ (Q : State → Out → Type 0) (C : State → ℕ → Skeleton → Skel
   exec-all ask h b (case c n y a) s =
       S .composes .add s _ _ (exec-all ask h b c s)
       (choose-all Q C (S .composes) (exec ask b c s .ans) (exec ask b n) (exec ask b y) (exec ask b a) (exec-all ask h b n) (exec-all ask h b y) (exec-all ask h b a) (exec ask b c s .state))
-  exec-all ask h b (mark p) s = S .composes .mark s _ (exec-all ask h b p s)
+  exec-all ask h b (in-marker p) s = S .composes .mark s _ (exec-all ask h b p s)
   exec-all ask h b (loop p) s = iter-all Q C (S .composes) (suc (length (s .rest))) (exec ask b p) (exec-all ask h b p) s
   exec-all ask h b (chain p q) s = chained-all Q C (S .composes) (exec ask b q) (exec-all ask h b q) s (exec ask b p s) (exec-all ask h b p s)
   exec-all ask h b (brace p) s = exec-all ask h (here (s .rest)) p s
-  exec-all ask h b (call r) s = h r s
+  exec-all ask h b (open-call r) s = h r s
 
   -- every call, with any number of open calls allowed
   pub run-all : (n : ℕ) (r : Rule) (s : State) → Q s (run n r s)

@@ -7,7 +7,7 @@ use mathlib.Core.List.{List, [], _∷_}
 use lib.Dec.{leb, eqb}
 use lib.ListN.{length, take, drop}
 use borrow.Author.Tests.{leb-true, eqb-true}
-use Rattle.definitions.specs.Token.{Token, tokens, bytes}
+use Rattle.definitions.specs.Token.{Token, tokens-of, bytes}
 use Rattle.definitions.specs.StaticText.{static-texts, fits-text}
 use Rattle.definitions.specs.Refusal.{Refusal, too-long, bad-row, bad-text, Verdict, accepted, refused, _or-else_, unless, check-sizes, is-kind, check-rows, check-texts, check-input}
 use Rattle.laws.proofs.Trivia.{and-left, and-right}
@@ -45,23 +45,23 @@ pub record Checked (bs tk : List ℕ) : Type 0 where
   pub bytes-limit : length bs ≤ 1048576
   pub numbers-limit : length tk ≤ 131072
   -- rows come in pairs, and cover the input exactly
-  pub pairs : length tk ≡ 2 * length (tokens tk)
-  pub covered : bytes (tokens tk) ≡ length bs
-  pub good : All-good (tokens tk)
-  pub texts : Texts-fit bs (tokens tk)
+  pub pairs : length tk ≡ 2 * length (tokens-of tk)
+  pub covered : bytes (tokens-of tk) ≡ length bs
+  pub good : All-good (tokens-of tk)
+  pub texts : Texts-fit bs (tokens-of tk)
 
 -- cause 3, from any row on
 pub record Rows-good (left : ℕ) (tk : List ℕ) : Type 0 where
-  pub pairs : length tk ≡ 2 * length (tokens tk)
-  pub covered : bytes (tokens tk) ≡ left
-  pub good : All-good (tokens tk)
+  pub pairs : length tk ≡ 2 * length (tokens-of tk)
+  pub covered : bytes (tokens-of tk) ≡ left
+  pub good : All-good (tokens-of tk)
 
 cond-accepted : (c : Bool) (v : Verdict) (r : Refusal) → cond c v (refused r) ≡ accepted → (c ≡ true) × (v ≡ accepted)
 cond-accepted true v r e = (refl, e)
 cond-accepted false v r e = let x : _≡_ {A = ℕ} 0 1 = cc in absurd (omega arith)
 
 rows-good : (i left : ℕ) (tk : List ℕ) → check-rows i left tk ≡ accepted → Rows-good left tk
-unfolding check-rows tokens bytes
+unfolding check-rows tokens-of bytes
 rows-good i left [] e = let z : left ≡ 0 = eqb-true left 0 (unless-holds (eqb left 0) (bad-row i) e) in record { pairs = omega arith; covered = sym z; good = tt }
 rows-good i left (k ∷ []) e = let x : _≡_ {A = ℕ} 0 1 = cc in absurd (omega arith)
 rows-good i left (k ∷ n ∷ l) e =
@@ -93,7 +93,7 @@ pub checked-input : (bs tk : List ℕ) → check-input bs tk ≡ accepted → Ch
 unfolding check-input check-sizes
 checked-input bs tk e =
     let sizes : (leb (length bs) 1048576 && leb (length tk) 131072) ≡ true = unless-holds _ too-long (or-else-left (check-sizes bs tk) _ e) in
-    let rest : (check-rows 0 (length bs) tk or-else check-texts 0 bs (tokens tk)) ≡ accepted = or-else-right (check-sizes bs tk) _ e in
+    let rest : (check-rows 0 (length bs) tk or-else check-texts 0 bs (tokens-of tk)) ≡ accepted = or-else-right (check-sizes bs tk) _ e in
     let g : Rows-good (length bs) tk = rows-good 0 (length bs) tk (or-else-left (check-rows 0 (length bs) tk) _ rest) in
     record {
       bytes-limit = leb-true _ _ (and-left _ _ sizes);
@@ -101,5 +101,5 @@ checked-input bs tk e =
       pairs = g .pairs;
       covered = g .covered;
       good = g .good;
-      texts = texts-fit 0 bs (tokens tk) (or-else-right (check-rows 0 (length bs) tk) _ rest);
+      texts = texts-fit 0 bs (tokens-of tk) (or-else-right (check-rows 0 (length bs) tk) _ rest);
     }

@@ -11,7 +11,7 @@ use Rattle.definitions.specs.Prog.{Ans, no, yes, Rule, Act, silent-at, at-end, 
 use Rattle.definitions.specs.Token.{Token, seen, trivia, drop-trivia, one-of}
 use Rattle.definitions.specs.Grammar.{Entry, whole}
 use Rattle.definitions.specs.Skeleton.{Label, no-label, Report, Skeleton, done, token, name, node, report, over, _⧺_}
-use Rattle.definitions.specs.Run.{State, Out, mark-of, peeked, answer, makes, taken, do-bump, Run, run-of, do-name, add, at-depth, do-argument, error-range, pool-of, do-emit, room, do-expected, perform, closed, marked, unlinked, exec, run}
+use Rattle.definitions.specs.Run.{State, Out, mark-of, peeked, answer, makes, taken, do-bump, Run, run-of, do-name, add, at-depth, do-argument, error-range, pool-of, do-emit, over-unless, do-expected, perform, closed, marked, unlinked, exec, run}
 use Rattle.definitions.specs.Call.{run-entry}
 use Rattle.laws.proofs.Trivia.{cond-all, cond-with, Solid, dropped-solid, Passes, passes-none, passes-one, passes-then, passes-all}
 use Rattle.laws.proofs.Engine.{Composes, Steady, exec-all, run-all}
@@ -45,7 +45,7 @@ All-in ks (t ∷ ts) = (one-of ks (seen t) ≡ true) × All-in ks ts
 pub record Kept (R : State → Skeleton → State → Type 0) : Type 0 where
   -- nothing made, the cursor past some trivia or where it was
   pub pass : (s : State) (ts : List Token) → Stands s → Passes (s .rest) ts → R s done (moved s ts)
-  pub expect : (s : State) (k : ℕ) → Stands s → R s (room (ltb (length (s .pending)) 256) (mark-of s)) (expecting s k)
+  pub expect : (s : State) (k : ℕ) → Stands s → R s (over-unless (ltb (length (s .pending)) 256) (mark-of s)) (expecting s k)
   pub token : (s : State) (t : Token) (ts : List Token) → Stands s → s .rest ≡ t ∷ ts → trivia t ≡ false → R s (token t (length ts) done) (taken ts)
   pub name : (s : State) (ks : List ℕ) (t : Token) (raw ts : List Token) → Stands s → s .rest ≡ t ∷ (raw ++ ts) → trivia t ≡ false → All-in ks raw
       → R s (name (t ∷ raw) (length ts) done) (taken ts)

@@ -11,7 +11,7 @@ use borrow.Author.Tests.{eqb-true, lt-leb}
 use Rattle.definitions.specs.TokenKind as K
 use Rattle.definitions.specs.Token.{Token, is-error, seen, trivia, drop-trivia, past, bytes}
 use Rattle.definitions.specs.Skeleton.{Skeleton, done, token, name, node, ignored, report, over}
-use Rattle.definitions.specs.Place.{Tree, nil, leaf, branch, _⊕_, lead, front, after, place, root}
+use Rattle.definitions.specs.Place.{Tree, nil, leaf, subtree, _⊕_, lead, front, after, place, root}
 use Rattle.laws.specs.Lossless.{Leaf, Kind-of, one-token, a-name, Stands-for, Cover}
 use Rattle.laws.specs.Lossless as L
 use Rattle.laws.proofs.Trivia.{cond-with}
@@ -26,13 +26,13 @@ use Rattle.laws.proofs.Decode.{shown}
 unfoldable pub Right : Tree → Type 0
 Right nil = Unit {0}
 Right (leaf k raw f) = Kind-of k raw × Right f
-Right (branch k c f) = Right c × Right f
+Right (subtree k c f) = Right c × Right f
 
 pub right-beside : (f g : Tree) → Right f → Right g → Right (f ⊕ g)
 unfolding Right _⊕_
 right-beside nil g h i = i
 right-beside (leaf k raw f) g h i = (h .0, right-beside f g (h .1) i)
-right-beside (branch k c f) g h i = (h .0, right-beside f g (h .1) i)
+right-beside (subtree k c f) g h i = (h .0, right-beside f g (h .1) i)
 
 -- trivia are no errors
 small-kind : (k n : ℕ) → n < 64 → eqb k n ≡ true → leb 64 k ≡ false
@@ -103,4 +103,4 @@ leaves-cover (leaf k raw f) h = (
   subst (Stands-for (record { kind = k; width = bytes raw; count = length raw })) (sym (take-append-seam raw (leaves f))) (record { kind = h .0; width = refl; count = refl }),
   subst (Cover (L.leaves (shown f))) (sym (drop-append-seam raw (leaves f))) (leaves-cover f (h .1)),
 )
-leaves-cover (branch k c f) h = cover-append (L.leaves (shown c)) (L.leaves (shown f)) (leaves c) (leaves f) (leaves-cover c (h .0)) (leaves-cover f (h .1))
+leaves-cover (subtree k c f) h = cover-append (L.leaves (shown c)) (L.leaves (shown f)) (leaves c) (leaves f) (leaves-cover c (h .0)) (leaves-cover f (h .1))

@@ -9,11 +9,11 @@ use lib.Dec.{ltb, eqb}
 use lib.ListN.{length, length-append}
 use borrow.Author.Tests.{ltb-true}
 use Rattle.definitions.specs.TokenKind as K
-use Rattle.definitions.specs.Token.{Token, tokens, trivia, drop-trivia}
-use Rattle.definitions.specs.Prog.{Ans, no, yes, also, again, Rule, Act, silent-at, at-end, immediate, immediate-next, add-expected, bump, bump-name, bump-argument, emit, emit-unclosed, less, Prog, ret, act, _⨟_, case, mark, loop, chain, brace, call}
+use Rattle.definitions.specs.Token.{Token, tokens-of, trivia, drop-trivia}
+use Rattle.definitions.specs.Prog.{Ans, no, yes, also, again, Rule, Act, silent-at, at-end, immediate, immediate-next, add-expected, bump, bump-name, bump-argument, emit, emit-unclosed, less, Prog, ret, act, _⨟_, case, in-marker, loop, chain, brace, open-call}
 use Rattle.definitions.specs.Grammar.{grammar, Entry, whole}
 use Rattle.definitions.specs.Skeleton.{Label, no-label, Skeleton, done, _⧺_}
-use Rattle.definitions.specs.Run.{State, Out, mark-of, peeked, answer, makes, taken, do-bump, do-name, add, at-depth, do-argument, do-emit, room, do-expected, perform, choose, marked, is-again, goes-on, iter, unlinked, by-shape, links, chained, here, exec, run}
+use Rattle.definitions.specs.Run.{State, Out, mark-of, peeked, answer, makes, taken, do-bump, do-name, add, at-depth, do-argument, do-emit, over-unless, do-expected, perform, choose, marked, is-again, goes-on, iter, unlinked, by-shape, links, chained, here, exec, run}
 use Rattle.definitions.specs.Report.{pushes}
 use Rattle.definitions.specs.Call.{Buffers, run-entry}
 use Rattle.laws.specs.Limits.{Place, at, deeper, iter-places, links-places, choose-places, places, run-places, entry-places, Limited, Limits}
@@ -41,8 +41,8 @@ Few s = length (s .pending) ≤ 256
 abbrev Fewer : Out → Type 0
 Fewer o = Few (o .state)
 
-expected-few : (b : Bool) (m k : ℕ) (l : List ℕ) → ltb (length l) 256 ≡ b → Within-room (room b m) → length (l ++ (k ∷ [])) ≤ 256
-unfolding room pushes
+expected-few : (b : Bool) (m k : ℕ) (l : List ℕ) → ltb (length l) 256 ≡ b → Within-room (over-unless b m) → length (l ++ (k ∷ [])) ≤ 256
+unfolding over-unless pushes
 expected-few true m k l e w = let h : length l < 256 = ltb-true (length l) 256 e in simp length-append (omega arith)
 expected-few false m k l e w = absurd (w .clear)
 
@@ -185,12 +185,12 @@ exec-keeps n ask inside K b (case t x y a) s h w =
     (choose-keeps n (exec ask b t s .ans) (exec ask b x) (exec ask b y) (exec ask b a) (places ask inside b x) (places ask inside b y) (places ask inside b a) (exec-keeps n ask inside K b x)
     (exec-keeps n ask inside K b y) (exec-keeps n ask inside K b a) (exec ask b t s .state))
     w
-exec-keeps n ask inside K b (mark p) s h w = mark-keeps n s (exec ask b p s) (places ask inside b p s) (exec-keeps n ask inside K b p s h) w
+exec-keeps n ask inside K b (in-marker p) s h w = mark-keeps n s (exec ask b p s) (places ask inside b p s) (exec-keeps n ask inside K b p s h) w
 exec-keeps n ask inside K b (loop p) s h w = iter-keeps n (suc (length (s .rest))) (exec ask b p) (places ask inside b p) (exec-keeps n ask inside K b p) s h w
 exec-keeps n ask inside K b (chain p q) s h w =
     chained-keeps n (exec ask b q) (places ask inside b q) (exec-keeps n ask inside K b q) s (exec ask b p s) (places ask inside b p s) (exec-keeps n ask inside K b p s h) w
 exec-keeps n ask inside K b (brace p) s h w = exec-keeps n ask inside K (here (s .rest)) p s h w
-exec-keeps n ask inside K b (call r) s h w = K r s h w
+exec-keeps n ask inside K b (open-call r) s h w = K r s h w
 
 run-keeps : (n : ℕ) (r : Rule) → Keeps n (run n r) (run-places n r)
 unfolding run run-places makes pushes deeper
@@ -205,11 +205,11 @@ unfolding run-entry entry-places
 clear-limited e ts w = exec-keeps 64 (run 64) (run-places 64) (run-keeps 64) no-label (whole e) (taken ts) zero-le (record { clear = w }) .1
 
 -- an accepted call's run meets no refusal 5
-pub accepted-clear : (n : ℕ) (bs tk : List ℕ) (b : Buffers) (a : Accepted n bs tk b) → Clear (pushes (run-entry (a .entry) (tokens tk)))
-accepted-clear n bs tk b a = fits-clear (pushes (run-entry (a .entry) (tokens tk))) _ (a .left) (a .fitted)
+pub accepted-clear : (n : ℕ) (bs tk : List ℕ) (b : Buffers) (a : Accepted n bs tk b) → Clear (pushes (run-entry (a .entry) (tokens-of tk)))
+accepted-clear n bs tk b a = fits-clear (pushes (run-entry (a .entry) (tokens-of tk))) _ (a .left) (a .fitted)
 
 -- LIMITS
 pub limits : Limits
 limits n bs tk b h =
     let a : Accepted n bs tk b = accepted-call n bs tk b h in
-    (a .entry, a .asked-for, clear-limited (a .entry) (tokens tk) (accepted-clear n bs tk b a))
+    (a .entry, a .asked-for, clear-limited (a .entry) (tokens-of tk) (accepted-clear n bs tk b a))

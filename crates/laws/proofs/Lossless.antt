@@ -7,7 +7,7 @@ use mathlib.Core.List.{List, _++_}
 use lib.Dec.{lit<}
 use lib.ListN.{length, take, replicate}
 use lib.Seq.{take-at}
-use Rattle.definitions.specs.Token.{Token, tokens, bytes}
+use Rattle.definitions.specs.Token.{Token, tokens-of, bytes}
 use Rattle.definitions.specs.Grammar.{Entry, root-kind}
 use Rattle.definitions.specs.Place.{Tree, lead, after, place, _⊕_, root, width, count, rows}
 use Rattle.definitions.specs.Call.{Buffers, sheets, kept, run-entry}
@@ -84,4 +84,4 @@ pub nothing-lost : Nothing-lost
 nothing-lost n bs tk b h =
     let a : Accepted n bs tk b = accepted-call n bs tk b h in
     let c : Checked bs tk = checked-input bs tk (a .input) in
-    (a .entry, a .asked-for, subst (Lossless (a .entry) bs (tokens tk)) (sym (a .returns)) (writes-lossless (a .entry) bs (tokens tk) b (c .covered)))
+    (a .entry, a .asked-for, subst (Lossless (a .entry) bs (tokens-of tk)) (sym (a .returns)) (writes-lossless (a .entry) bs (tokens-of tk) b (c .covered)))

@@ -11,7 +11,7 @@ use Rattle.definitions.specs.Token.{Token}
 use Rattle.definitions.specs.Prog.{Rule, Prog}
 use Rattle.definitions.specs.Grammar.{Entry, whole}
 use Rattle.definitions.specs.Skeleton.{Label, no-label, Skeleton, _⧺_}
-use Rattle.definitions.specs.Run.{State, mark-of, taken, room, closed, exec, run}
+use Rattle.definitions.specs.Run.{State, mark-of, taken, over-unless, closed, exec, run}
 use Rattle.definitions.specs.Report.{Push, event, reported, exceeded, pushes}
 use Rattle.definitions.specs.Call.{run-entry}
 use Rattle.laws.proofs.Trivia.{passes-length}
@@ -61,8 +61,8 @@ pub record Down (s : State) (p : Skeleton) (u : State) : Type 0 where
 pub stands-within : (s : State) → Stands s → length (s .rest) ≤ mark-of s
 stands-within s h = passes-length (s .since) (s .rest) (h .passed)
 
-room-falls : (b : Bool) (n : ℕ) → Falls n (pushes (room b n)) n
-unfolding room pushes
+room-falls : (b : Bool) (n : ℕ) → Falls n (pushes (over-unless b n)) n
+unfolding over-unless pushes
 room-falls true n = le-refl n
 room-falls false n = (le-refl n, le-refl n)
 

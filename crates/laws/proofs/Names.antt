@@ -13,7 +13,7 @@ use Rattle.definitions.specs.Check.{NAME-SET}
 use Rattle.definitions.specs.Token.{Token, seen, trivia, drop-trivia, one-of, first-in, past, ended}
 use Rattle.definitions.specs.Grammar.{grammar, Entry, whole}
 use Rattle.definitions.specs.Skeleton.{Label, no-label, Skeleton, done, token, name, node, ignored, report, over, _⧺_}
-use Rattle.definitions.specs.Run.{State, Out, mark-of, peeked, truth, answer, makes, taken, do-bump, run-of, do-name, add, at-depth, do-argument, do-emit, room, do-expected, perform, closed, run}
+use Rattle.definitions.specs.Run.{State, Out, mark-of, peeked, truth, answer, makes, taken, do-bump, run-of, do-name, add, at-depth, do-argument, do-emit, over-unless, do-expected, perform, closed, run}
 use Rattle.definitions.specs.Call.{run-entry}
 use Rattle.laws.specs.Lossless.{Of-name}
 use Rattle.laws.proofs.Trivia.{cond-all, and-left, and-right, drop-twice}
@@ -214,8 +214,8 @@ argument-named n s (t ∷ ts) =
     (cond-all (λ (o : Out). Named (o .made)) (eqb (t .kind) K.RParen) (depth-named n _ _ tt go)
     (cond-all (λ (o : Out). Named (o .made)) (eqb (t .kind) K.Comma) (depth-named n _ _ tt (λ m. go (suc m))) (go n))))
 
-room-named : (b : Bool) (m : ℕ) → Named (room b m)
-unfolding room Named
+room-named : (b : Bool) (m : ℕ) → Named (over-unless b m)
+unfolding over-unless Named
 room-named true m = tt
 room-named false m = tt
 

@@ -6,7 +6,7 @@ use mathlib.Core.List.{List, [], _∷_, _++_, append-assoc}
 use lib.ListN.{length, take, drop, take-append-drop}
 use Rattle.definitions.specs.Token.{Token, trivia, drop-trivia, past}
 use Rattle.definitions.specs.Skeleton.{Skeleton, done, token, name, node, ignored, report, over}
-use Rattle.definitions.specs.Place.{Tree, nil, leaf, branch, _⊕_, lead, front, after, place, root}
+use Rattle.definitions.specs.Place.{Tree, nil, leaf, subtree, _⊕_, lead, front, after, place, root}
 use Rattle.laws.proofs.Tree.{leaves, leaves-beside}
 
 -- the trivia that stand first have a leaf each
@@ -29,7 +29,7 @@ then-whole : (f g : Tree) (ts us vs : List Token) → leaves f ++ us ≡ ts → 
 then-whole f g ts us vs p q = ap (_++ vs) (leaves-beside f g) ∙ append-assoc (leaves f) (leaves g) vs ∙ ap (leaves f ++_) q ∙ p
 
 -- a node covers what its children cover
-branch-whole : (k : ℕ) (c g : Tree) (ts us vs : List Token) → leaves c ++ us ≡ ts → leaves g ++ vs ≡ us → leaves (branch k c g) ++ vs ≡ ts
+branch-whole : (k : ℕ) (c g : Tree) (ts us vs : List Token) → leaves c ++ us ≡ ts → leaves g ++ vs ≡ us → leaves (subtree k c g) ++ vs ≡ ts
 unfolding leaves
 branch-whole k c g ts us vs p q = append-assoc (leaves c) (leaves g) vs ∙ ap (leaves c ++_) q ∙ p
 

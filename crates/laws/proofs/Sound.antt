@@ -5,7 +5,7 @@ use native.Mathlib.Omega.{arith}
 use mathlib.Core.Path.{_≡_, refl, subst}
 use mathlib.Core.Bool.{Bool, true, false, _&&_, false≢true, true≢false}
 use lib.ListN.{length}
-use Rattle.definitions.specs.Prog.{Ans, no, yes, also, again, Rule, Act, Prog, ret, act, _⨟_, case, mark, loop, chain, brace, call}
+use Rattle.definitions.specs.Prog.{Ans, no, yes, also, again, Rule, Act, Prog, ret, act, _⨟_, case, in-marker, loop, chain, brace, open-call}
 use Rattle.definitions.specs.Skeleton.{Label, Skeleton, done, _⧺_}
 use Rattle.definitions.specs.Run.{State, Out, mark-of, makes, add, perform, choose, closed, marked, is-again, goes-on, iter, unlinked, by-shape, links, chained, here, exec}
 use Rattle.laws.proofs.Trivia.{cond-with, and-left, and-right}
@@ -282,7 +282,7 @@ module _ (D : Domain) (M : Meaning D) (A : Acts D M) where
         (λ g. ways l (look D t n) (look D t y) (look D t a) (exec ask b n) (exec ask b y) (exec ask b a) (exec-gives b n) (exec-gives b y) (exec-gives b a) (goes-all b n) (goes-all b y) (goes-all b a)
         (exec ask b c s .ans) s₀ (exec ask b c s .state) (and-right (l .ok) _ m) g)
         w
-    exec-gives b (mark p) d s₀ s m h w = mark-gives (look D t p d) s₀ s (exec ask b p s) (exec-gives b p d s₀ s m h) w
+    exec-gives b (in-marker p) d s₀ s m h w = mark-gives (look D t p d) s₀ s (exec ask b p s) (exec-gives b p d s₀ s m h) w
     exec-gives b (loop p) d s₀ s m h w =
         iter-gives (settled D d (look D t p)) (look D t p) (settled-closed d (look D t p)) m (exec ask b p) (exec-gives b p) (goes-all b p) (suc (length (s .rest))) s₀ s (le-refl _)
         (settled-start d (look D t p) s₀ s h) w
@@ -292,4 +292,4 @@ module _ (D : Domain) (M : Meaning D) (A : Acts D M) where
         (chained-gives l (look D t q) (and-right (l .ok) _ (and-right (l .ok) _ m)) (exec ask b q) (exec-gives b q) (goes-all b q) s₀ s (exec ask b p s) (exec-gives b p d s₀ s (and-left (l .ok) _ m) h))
         w
     exec-gives b (brace p) d s₀ s m h w = exec-gives (here (s .rest)) p d s₀ s m h w
-    exec-gives b (call r) d s₀ s m h w = calls r d s₀ s m h w
+    exec-gives b (open-call r) d s₀ s m h w = calls r d s₀ s m h w

@@ -9,56 +9,56 @@ use Rattle.definitions.specs.TokenKind as K
 use Rattle.definitions.specs.Token.{Token, drop-trivia, past, bytes}
 use Rattle.definitions.specs.Skeleton.{Skeleton, done, token, name, node, ignored, report, over, _⧺_}
 use Rattle.laws.proofs.Skeleton.{bytes-append}
-use Rattle.definitions.specs.Place.{Tree, nil, leaf, branch, _⊕_, lead, front, after, place, width, count, rows, tree-row}
+use Rattle.definitions.specs.Place.{Tree, nil, leaf, subtree, _⊕_, lead, front, after, place, width, count, rows, tree-row}
 
 pub beside-nil : (f : Tree) → f ⊕ nil ≡ f
 unfolding _⊕_
 beside-nil nil = refl
 beside-nil (leaf k ts f) = ap (leaf k ts) (beside-nil f)
-beside-nil (branch k c f) = ap (branch k c) (beside-nil f)
+beside-nil (subtree k c f) = ap (subtree k c) (beside-nil f)
 
 pub beside-assoc : (f g h : Tree) → (f ⊕ g) ⊕ h ≡ f ⊕ (g ⊕ h)
 unfolding _⊕_
 beside-assoc nil g h = refl
 beside-assoc (leaf k ts f) g h = ap (leaf k ts) (beside-assoc f g h)
-beside-assoc (branch k c f) g h = ap (branch k c) (beside-assoc f g h)
+beside-assoc (subtree k c f) g h = ap (subtree k c) (beside-assoc f g h)
 
 pub width-beside : (f g : Tree) → width (f ⊕ g) ≡ width f + width g
 unfolding _⊕_ width
 width-beside nil g = sym (zero-add (width g))
 width-beside (leaf k ts f) g = let h : width (f ⊕ g) ≡ width f + width g = width-beside f g in omega arith
-width-beside (branch k c f) g = let h : width (f ⊕ g) ≡ width f + width g = width-beside f g in omega arith
+width-beside (subtree k c f) g = let h : width (f ⊕ g) ≡ width f + width g = width-beside f g in omega arith
 
 pub count-beside : (f g : Tree) → count (f ⊕ g) ≡ count f + count g
 unfolding _⊕_ count
 count-beside nil g = sym (zero-add (count g))
 count-beside (leaf k ts f) g = let h : count (f ⊕ g) ≡ count f + count g = count-beside f g in omega arith
-count-beside (branch k c f) g = let h : count (f ⊕ g) ≡ count f + count g = count-beside f g in omega arith
+count-beside (subtree k c f) g = let h : count (f ⊕ g) ≡ count f + count g = count-beside f g in omega arith
 
 pub rows-beside : (f g : Tree) → rows (f ⊕ g) ≡ rows f ++ rows g
 unfolding _⊕_ rows
 rows-beside nil g = refl
 rows-beside (leaf k ts f) g = ap (tree-row 1 k (bytes ts) (length ts)) (rows-beside f g)
-rows-beside (branch k c f) g = ap (λ (l : List ℕ). tree-row 0 k (width c) (count c) (rows c ++ l)) (rows-beside f g) ∙ ap (tree-row 0 k (width c) (count c)) (sym (append-assoc (rows c) (rows f) (rows g)))
+rows-beside (subtree k c f) g = ap (λ (l : List ℕ). tree-row 0 k (width c) (count c) (rows c ++ l)) (rows-beside f g) ∙ ap (tree-row 0 k (width c) (count c)) (sym (append-assoc (rows c) (rows f) (rows g)))
 
 -- the raw tokens of a tree's leaves, in order
 unfoldable pub leaves : Tree → List Token
 leaves nil = []
 leaves (leaf k ts f) = ts ++ leaves f
-leaves (branch k c f) = leaves c ++ leaves f
+leaves (subtree k c f) = leaves c ++ leaves f
 
 pub leaves-beside : (f g : Tree) → leaves (f ⊕ g) ≡ leaves f ++ leaves g
 unfolding _⊕_ leaves
 leaves-beside nil g = refl
 leaves-beside (leaf k ts f) g = ap (ts ++_) (leaves-beside f g) ∙ sym (append-assoc ts (leaves f) (leaves g))
-leaves-beside (branch k c f) g = ap (leaves c ++_) (leaves-beside f g) ∙ sym (append-assoc (leaves c) (leaves f) (leaves g))
+leaves-beside (subtree k c f) g = ap (leaves c ++_) (leaves-beside f g) ∙ sym (append-assoc (leaves c) (leaves f) (leaves g))
 
 -- a tree is as wide as its leaves' tokens are long
 pub width-leaves : (f : Tree) → width f ≡ bytes (leaves f)
 unfolding width leaves bytes
 width-leaves nil = refl
 width-leaves (leaf k ts f) = ap (bytes ts +_) (width-leaves f) ∙ sym (bytes-append ts (leaves f))
-width-leaves (branch k c f) = ap2 (width-leaves c) (width-leaves f) ∙ sym (bytes-append (leaves c) (leaves f))
+width-leaves (subtree k c f) = ap2 (width-leaves c) (width-leaves f) ∙ sym (bytes-append (leaves c) (leaves f))
   where
     ap2 : {a b x y : ℕ} → a ≡ x → b ≡ y → a + b ≡ x + y
     ap2 p q = rw (p, q)
@@ -75,7 +75,7 @@ place-join (name raw m p) q ts =
     ap (λ (x : Tree). lead ts ⊕ leaf K.Name (take (length raw) (drop-trivia ts)) x) (place-join p q (drop (length raw) (drop-trivia ts)))
     ∙ sym (beside-assoc (lead ts) _ _)
 place-join (node k m m′ a i p) q ts =
-    ap (λ (x : Tree). lead ts ⊕ branch k (place a (drop-trivia ts) ⊕ place i (after a (drop-trivia ts))) x) (place-join p q (after i (after a (drop-trivia ts))))
+    ap (λ (x : Tree). lead ts ⊕ subtree k (place a (drop-trivia ts) ⊕ place i (after a (drop-trivia ts))) x) (place-join p q (after i (after a (drop-trivia ts))))
     ∙ sym (beside-assoc (lead ts) _ _)
 place-join (ignored m m′ a i p) q ts =
     ap (λ (x : Tree). place a ts ⊕ place i (after a ts) ⊕ x) (place-join p q (after i (after a ts)))

@@ -5,8 +5,8 @@ use mathlib.Core.Path.{_≡_}
 use mathlib.Core.Bool.{cond}
 use mathlib.Core.List.{List, [], _∷_, _++_}
 use lib.ListN.{length}
-use Rattle.definitions.specs.Token.{Token, tokens}
-use Rattle.definitions.specs.Prog.{Ans, no, yes, also, again, Rule, Prog, ret, act, _⨟_, case, mark, loop, chain, brace, call}
+use Rattle.definitions.specs.Token.{Token, tokens-of}
+use Rattle.definitions.specs.Prog.{Ans, no, yes, also, again, Rule, Prog, ret, act, _⨟_, case, in-marker, loop, chain, brace, open-call}
 use Rattle.definitions.specs.Grammar.{grammar, Entry, whole}
 use Rattle.definitions.specs.Skeleton.{Label, no-label}
 use Rattle.definitions.specs.Run.{State, Out, taken, is-again, goes-on, by-shape, here, exec, run}
@@ -53,13 +53,13 @@ places ask inside b (p ⨟ q) s = places ask inside b p s ++ places ask inside b
 places ask inside b (case c n y a) s =
     let o = exec ask b c s in
     places ask inside b c s ++ choose-places (o .ans) (places ask inside b n) (places ask inside b y) (places ask inside b a) (o .state)
-places ask inside b (mark p) s = places ask inside b p s
+places ask inside b (in-marker p) s = places ask inside b p s
 places ask inside b (loop p) s = iter-places (suc (length (s .rest))) (exec ask b p) (places ask inside b p) s
 places ask inside b (chain p q) s =
     let o = exec ask b p s in
     places ask inside b p s ++ (let more = links-places (suc (length (o .state .rest))) (exec ask b q) (places ask inside b q) (o .state) in cond (is-again (o .ans)) more [])
 places ask inside b (brace p) s = places ask inside (here (s .rest)) p s
-places ask inside b (call r) s = inside r s
+places ask inside b (open-call r) s = inside r s
 
 -- a call is open from where it begins; the one that is too many comes no further
 unfoldable pub run-places : ℕ → Rule → State → List Place
@@ -81,4 +81,4 @@ Limited n (x ∷ l) = (x .open-calls ≤ n) × (length (x .state .pending) ≤ 2
 abbrev pub Limits : Type 0
 Limits =
     (n : ℕ) (bs tk : List ℕ) (b : Buffers) → Call.call n bs tk b .answer .number ≡ 0
-    → (e : Entry) × (entry-of n ≡ for e) × Limited 64 (entry-places e (tokens tk))
+    → (e : Entry) × (entry-of n ≡ for e) × Limited 64 (entry-places e (tokens-of tk))

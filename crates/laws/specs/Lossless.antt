@@ -6,11 +6,12 @@ use mathlib.Core.Path.{_≡_}
 use mathlib.Core.Bool.{true, cond}
 use mathlib.Core.List.{List, [], _∷_, _++_}
 use lib.ListN.{length, take, drop}
+use Rattle.definitions.specs.Layout.{TREE-ROW, ERROR-ROW}
 use Rattle.definitions.specs.TokenKind as K
-use Rattle.definitions.specs.Token.{Token, tokens, is-error, seen, one-of, bytes}
+use Rattle.definitions.specs.Token.{Token, tokens-of, is-error, seen, one-of, bytes}
 use Rattle.definitions.specs.Check.{NAME-SET}
 use Rattle.definitions.specs.Grammar.{Entry, root-kind}
-use Rattle.definitions.specs.Call.{TREE-ROW, ERROR-ROW, Buffers, Result, for, entry-of, call}
+use Rattle.definitions.specs.Call.{Buffers, Result, for, entry-of, call}
 use Rattle.laws.specs.Rows.{Rows, end, leaf, node, preorder, Counts, Widths, read}
 
 -- ---------------------------------------------------------------- leaves and tokens
@@ -92,4 +93,4 @@ pub record Lossless (e : Entry) (bs : List ℕ) (ts : List Token) (r : Result) :
 abbrev pub Nothing-lost : Type 0
 Nothing-lost =
     (n : ℕ) (bs tk : List ℕ) (b : Buffers) → call n bs tk b .answer .number ≡ 0
-    → (e : Entry) × (entry-of n ≡ for e) × Lossless e bs (tokens tk) (call n bs tk b)
+    → (e : Entry) × (entry-of n ≡ for e) × Lossless e bs (tokens-of tk) (call n bs tk b)

@@ -8,7 +8,7 @@ use lib.Dec.{leb, eqb}
 use lib.ListN.{length, getD, take, drop, drop-of-length-le, length-drop}
 use lib.Seq.{drop-cons, drop-drop}
 use borrow.Author.Tests.{ltb-true, ltb-false, leb-true, leb-false, eqb-true, eqb-false, eq-eqb, ne-eqb, le-leb}
-use Rattle.definitions.specs.Token.{Token, tokens}
+use Rattle.definitions.specs.Token.{Token, tokens-of}
 use Rattle.definitions.specs.StaticText.{static-texts, fits-text}
 use Rattle.definitions.specs.Refusal.{Refusal, bad-row, bad-text, Verdict, accepted, refused, unless, is-kind, too-long, check-sizes, check-rows, check-texts}
 use Rattle.lexer.specs.Checks.{is-row, is-text}
@@ -87,22 +87,22 @@ abbrev row : ℕ → ℕ → Token
 row k n = record { kind = k; len = n }
 
 -- the tokens from row i on
-tokens-cons : (tk : List ℕ) (i : ℕ) → i < length tk / 2 → tokens (drop (i * 2) tk) ≡ row (getD tk (i * 2) 0) (getD tk (i * 2 + 1) 0) ∷ tokens (drop ((i + 1) * 2) tk)
-unfolding tokens
-tokens-cons tk i h = ap tokens (row-cons tk i h)
+tokens-cons : (tk : List ℕ) (i : ℕ) → i < length tk / 2 → tokens-of (drop (i * 2) tk) ≡ row (getD tk (i * 2) 0) (getD tk (i * 2 + 1) 0) ∷ tokens-of (drop ((i + 1) * 2) tk)
+unfolding tokens-of
+tokens-cons tk i h = ap tokens-of (row-cons tk i h)
 
 -- at the end no token is left
-pub tokens-end : (tk : List ℕ) (bs : List ℕ) (i : ℕ) → length tk / 2 ≤ i → accepted ≡ check-texts i bs (tokens (drop (i * 2) tk))
-unfolding tokens check-texts
+pub tokens-end : (tk : List ℕ) (bs : List ℕ) (i : ℕ) → length tk / 2 ≤ i → accepted ≡ check-texts i bs (tokens-of (drop (i * 2) tk))
+unfolding tokens-of check-texts
 tokens-end tk bs i h = go (drop (i * 2) tk) (rw (length-drop (i * 2) tk) (omega (arith, h)))
   where
-    go : (l : List ℕ) → length l < 2 → accepted ≡ check-texts i bs (tokens l)
+    go : (l : List ℕ) → length l < 2 → accepted ≡ check-texts i bs (tokens-of l)
     go [] e = refl
     go (a ∷ []) e = refl
     go (a ∷ b ∷ l) e = absurd (omega (arith, e))
 
 pub text-good : (tk bs : List ℕ) (i at : ℕ) → i < length tk / 2 → is-text bs at (getD tk (i * 2) 0) (getD tk (i * 2 + 1) 0) ≡ true
-    → check-texts (i + 1) (drop (at + getD tk (i * 2 + 1) 0) bs) (tokens (drop ((i + 1) * 2) tk)) ≡ check-texts i (drop at bs) (tokens (drop (i * 2) tk))
+    → check-texts (i + 1) (drop (at + getD tk (i * 2 + 1) 0) bs) (tokens-of (drop ((i + 1) * 2) tk)) ≡ check-texts i (drop at bs) (tokens-of (drop (i * 2) tk))
 unfolding check-texts is-text
 text-good tk bs i at h e =
     let s : suc i ≡ i + 1 = omega arith in
@@ -113,7 +113,7 @@ text-good tk bs i at h e =
 
 pub text-bad : (tk bs : List ℕ) (i at : ℕ) → i < length tk / 2 → at ≤ length bs → getD tk (i * 2 + 1) 0 ≤ length bs - at
     → is-text bs at (getD tk (i * 2) 0) (getD tk (i * 2 + 1) 0) ≡ false
-    → refused (bad-text i) ≡ check-texts i (drop at bs) (tokens (drop (i * 2) tk))
+    → refused (bad-text i) ≡ check-texts i (drop at bs) (tokens-of (drop (i * 2) tk))
 unfolding check-texts is-text
 text-bad tk bs i at h a b e =
     let n : ℕ = getD tk (i * 2 + 1) 0 in
@@ -142,7 +142,7 @@ rows-even-at tk i left r e f h g = rw (e) (rw (f) (rw (← g) (rows-even tk left
 
 -- what the loop over texts knows of row i, whose token starts at byte `at`
 abbrev pub Texts : List ℕ → List ℕ → ℕ → ℕ → Type 0
-Texts tk bs i at = (check-rows i (length bs - at) (drop (i * 2) tk) ≡ accepted) × (check-texts i (drop at bs) (tokens (drop (i * 2) tk)) ≡ check-texts 0 bs (tokens tk))
+Texts tk bs i at = (check-rows i (length bs - at) (drop (i * 2) tk) ≡ accepted) × (check-texts i (drop at bs) (tokens-of (drop (i * 2) tk)) ≡ check-texts 0 bs (tokens-of tk))
 
 pub texts-again : (tk bs : List ℕ) (i at n : ℕ) → i < length tk / 2 → n ≡ getD tk (i * 2 + 1) 0 → at ≤ length bs → is-text bs at (getD tk (i * 2) 0) n ≡ true
     → Texts tk bs i at → Texts tk bs (i + 1) (at + n)
@@ -151,12 +151,12 @@ texts-again tk bs i at n h e a f t =
     let r = row-accepted tk i (length bs - at) h (t .0) in
     let s : length bs - at - m ≡ length bs - (at + n) = omega (arith, e) in (
       ap (λ (l : ℕ). check-rows (i + 1) l (drop ((i + 1) * 2) tk)) (sym s) ∙ r .1,
-      ap (λ (l : ℕ). check-texts (i + 1) (drop (at + l) bs) (tokens (drop ((i + 1) * 2) tk))) e
+      ap (λ (l : ℕ). check-texts (i + 1) (drop (at + l) bs) (tokens-of (drop ((i + 1) * 2) tk))) e
           ∙ text-good tk bs i at h (ap (λ (l : ℕ). is-text bs at (getD tk (i * 2) 0) l) (sym e) ∙ f) ∙ t .1,
     )
 
 pub texts-bad : (tk bs : List ℕ) (i at n : ℕ) → i < length tk / 2 → n ≡ getD tk (i * 2 + 1) 0 → at ≤ length bs → is-text bs at (getD tk (i * 2) 0) n ≡ false
-    → Texts tk bs i at → refused (bad-text i) ≡ check-texts 0 bs (tokens tk)
+    → Texts tk bs i at → refused (bad-text i) ≡ check-texts 0 bs (tokens-of tk)
 texts-bad tk bs i at n h e a f t =
     text-bad tk bs i at h a (row-accepted tk i (length bs - at) h (t .0) .0) (ap (λ (l : ℕ). is-text bs at (getD tk (i * 2) 0) l) (sym e) ∙ f) ∙ t .1
 

@@ -6,7 +6,7 @@ ghost use mathlib.Core.Bool.{true, false, not, _&&_};
 ghost use Prim.Native.Nat.{_+_, _-_, _≤_};
 ghost use lib.Dec.{leb};
 ghost use lib.ListN.{length};
-ghost use Rattle.definitions.specs.Token.{tokens as rows-of};
+ghost use Rattle.definitions.specs.Token.{tokens-of as rows-of};
 ghost use Rattle.definitions.specs.Refusal.{bad-row, bad-text, accepted, is-kind, check-rows, check-texts, check-input};
 ghost use Rattle.lexer.specs.Checks.{verdict-of, found, is-row, is-text};
 

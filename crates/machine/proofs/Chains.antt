@@ -4,6 +4,7 @@ use mathlib.Core.Path.{_≡_, refl, sym, ap, _∙_, subst}
 use mathlib.Core.Bool.{Bool, true, false, cond}
 use mathlib.Core.List.{List, [], _∷_, _++_, append-assoc}
 use lib.ListN.{length}
+use Rattle.definitions.specs.Layout.{PLACEHOLDER, START-NODE, LINKED-START-NODE}
 use Rattle.definitions.specs.Token.{Token}
 use Rattle.definitions.specs.Skeleton.{Skeleton, done, node, _⧺_}
 use Rattle.definitions.specs.Refusal.{Refusal}
@@ -11,7 +12,7 @@ use Rattle.definitions.specs.Prog.{Ans, yes, again}
 use Rattle.definitions.specs.Run.{State, Out, mark-of, makes, closed, is-again, goes-on, unlinked, by-shape, links, chained}
 use Rattle.definitions.specs.Report.{Push, event, pushes}
 use Rattle.laws.proofs.Skeleton.{pushes-join}
-use Rattle.machine.specs.Machine.{Machine, Marker, rest, push, complete, precede, PLACEHOLDER, START, LINKED}
+use Rattle.machine.specs.Machine.{Machine, Marker, rest, push, complete, precede}
 use Rattle.machine.specs.Walk.{Walked, said, marker, link}
 use Rattle.machine.specs.Walk as W
 use Rattle.machine.specs.Encode.{start-tag}
@@ -86,7 +87,7 @@ module _ (g : Ground) (f : State → Out) (h : Machine → Walked) (st : Sticks 
 
   -- the machine after a link that came to v, its marker completed
   abbrev next : ℕ → Bool → Marker → Ans → Machine → Walked
-  next n b k x v = cond b (W.links ts n h (marker LINKED v) (precede k v)) (said x (push PLACEHOLDER 0 (precede k v)))
+  next n b k x v = cond b (W.links ts n h (marker LINKED-START-NODE v) (precede k v)) (said x (push PLACEHOLDER 0 (precede k v)))
 
   -- behind the new marker
   onward-sim : (n : ℕ) → Links g f h n → (c : Sofar) (N : Skeleton) (k : Marker) (b : Bool) (x : Ans) (s : State) → k .place ≡ length (c .numbers ++ coded true N) → k .tag ≡ start-tag N
@@ -111,7 +112,7 @@ module _ (g : Ground) (f : State → Out) (h : Machine → Walked) (st : Sticks 
       let c₁ = grow c N in
       let c₂ = opened c N m′ done in
       let v = complete k kind (stand g (opened c a m i) s) in
-      let K = marker LINKED (stand g c₁ s) in
+      let K = marker LINKED-START-NODE (stand g c₁ s) in
       let b₂ : Begins (c₂ .pushed) (end .pushed) = begins-behind (c .pushed) (pushes N ++ (event m′ ∷ [])) (pushes (D .made)) (begins-onward f n (begins-links f n) b m′ N x s) in
       let b₁ : Begins (c₁ .pushed) (c₂ .pushed) = begins-behind (c .pushed) (pushes N) (pushes N ++ (event m′ ∷ [])) (begins-with (pushes N) (event m′ ∷ [])) in
       meets-then g c₁ end x (D .ans) 0 (D .shape) s (D .state) (said x v) (next n b k x v) (begins-then (c₁ .pushed) (c₂ .pushed) (end .pushed) b₁ b₂)
@@ -124,7 +125,7 @@ module _ (g : Ground) (f : State → Out) (h : Machine → Walked) (st : Sticks 
       subst (λ (w : Walked). Meets g end (D .ans) (D .shape) (D .state) (cond b (W.links ts n h K (w .on)) (said x (push PLACEHOLDER 0 (w .on))))) (sym e₂)
       (onward-sim n more c N K b x s (linked-length c kind m m′ a i) refl fit₂ j₂))
       (λ r q. s-next r n b k K x (precede k (stand g c₁ s)) q)))
-      (λ r q. s-next r n b k (marker LINKED v) x (precede k v) (s-precede ts r k v q))
+      (λ r q. s-next r n b k (marker LINKED-START-NODE v) x (precede k v) (s-precede ts r k v q))
 
   -- a turn that was not refused
   turn-sim : (n : ℕ) → Links g f h n → (c : Sofar) (m : ℕ) (a i : Skeleton) (k : Marker) (s : State) (o : Out) (b : Bool) → k .place ≡ length (c .numbers ++ coded true a) → k .tag ≡ start-tag a
@@ -174,17 +175,17 @@ begins-chain f false m i x s = begins-last m done i x s
 
 module _ (g : Ground) (f f₀ : State → Out) (h h₀ : Machine → Walked) (tr : Tracks g f h) (st : Sticks (g .tokens) h) (tr₀ : Tracks g f₀ h₀) (st₀ : Sticks (g .tokens) h₀) where
   -- after the first part
-  first-sim : (c : Sofar) (m : ℕ) (i : Skeleton) (k : Marker) (b : Bool) (x : Ans) (s : State) → k .place ≡ length (c .numbers ++ coded true done) → k .tag ≡ START
+  first-sim : (c : Sofar) (m : ℕ) (i : Skeleton) (k : Marker) (b : Bool) (x : Ans) (s : State) → k .place ≡ length (c .numbers ++ coded true done) → k .tag ≡ START-NODE
       → Fitting g (opened c done m i) → Inside g s
       → Sim g c (linked-on f b m i x s) (cond b (W.links (g .tokens) (suc (length (s .rest))) h k (stand g (opened c done m i) s)) (said x (push PLACEHOLDER 0 (stand g (opened c done m i) s))))
   first-sim c m i k true x s e t fit j = links-sim g f h st tr (suc (length (s .rest))) c m done i s k e t fit j
   first-sim c m i k false x s e t fit j = last-sim g f h st c m done i x s fit j
 
-  pub chain-sim : Tracks g (λ s. chained f s (f₀ s)) (λ m. W.chained (g .tokens) h (marker START m) (h₀ (push PLACEHOLDER 0 m)))
+  pub chain-sim : Tracks g (λ s. chained f s (f₀ s)) (λ m. W.chained (g .tokens) h (marker START-NODE m) (h₀ (push PLACEHOLDER 0 m)))
   unfolding chained W.chained coded pushes _⧺_
   chain-sim c s fit j =
       let M = stand g c s in
-      let k = marker START M in
+      let k = marker START-NODE M in
       let m = mark-of s in
       let o = f₀ s in
       let p = push PLACEHOLDER 0 M in

@@ -8,6 +8,7 @@ use mathlib.Core.List.{List, [], _∷_, _++_}
 use lib.Dec.{leb}
 use lib.ListN.{length, length-append}
 use borrow.Author.Tests.{leb-true, leb-false, le-leb, lt-leb}
+use Rattle.definitions.specs.Layout.{ERROR}
 use Rattle.definitions.specs.Token.{Token, bytes}
 use Rattle.definitions.specs.Skeleton.{Span, Label, no-label, label, Report, done, report}
 use Rattle.definitions.specs.Refusal.{no-event-room, no-report-room, number-of, place-of}
@@ -17,7 +18,7 @@ use Rattle.definitions.specs.Report.{reported, Fit, fits, stops, one-event, one
 use Rattle.definitions.specs.Call.{forward-mark}
 use Rattle.laws.proofs.Scan.{and-then, scan-append}
 use Rattle.laws.proofs.Skeleton.{reports-append, pool-append}
-use Rattle.machine.specs.Machine.{Machine, low, rest, refuse, push, range-at, report-row, write-report, ERROR}
+use Rattle.machine.specs.Machine.{Machine, low, rest, refuse, push, range-at, report-row, write-report}
 use Rattle.machine.specs.Machine as M
 use Rattle.machine.specs.Walk.{said}
 use Rattle.machine.specs.Outcome.{Refused}

@@ -27,7 +27,7 @@ abbrev pub written : List ℕ → List ℕ → Buffer
 written l b = record { count = length l; numbers = onto l b }
 
 abbrev pub machine-at : ℕ → ℕ → ℕ → ℕ → List ℕ → Buffer → Buffer → Buffer → Machine
-machine-at c a m b ks e r p = record { cursor = c; at = a; mark = m; mark-at = b; pending = ks; events = e; reports = r; pool = p; refusal = 0; place = 0 }
+machine-at c a m b ks e r p = record { cursor = c; byte = a; mark = m; mark-byte = b; pending = ks; events = e; reports = r; pool = p; refusal = 0; place = 0 }
 
 -- the report numbers of a list of reports
 abbrev pub rows-of : Ground → List Report → List ℕ

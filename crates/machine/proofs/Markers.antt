@@ -7,6 +7,7 @@ use mathlib.Core.List.{List, [], _∷_, _++_, append-assoc}
 use lib.Dec.{leb}
 use lib.ListN.{length, length-append}
 use borrow.Author.Tests.{leb-true, leb-false}
+use Rattle.definitions.specs.Layout.{FINISH-NODE, PLACEHOLDER, START-NODE}
 use Rattle.definitions.specs.Skeleton.{Report, Skeleton, done, node, ignored, _⧺_}
 use Rattle.definitions.specs.Refusal.{no-event-room}
 use Rattle.definitions.specs.Prog.{Ans, yes}
@@ -14,7 +15,7 @@ use Rattle.definitions.specs.Event.{events}
 use Rattle.definitions.specs.Run.{State, Out, mark-of, makes, closed, marked}
 use Rattle.definitions.specs.Report.{Push, event, pushes, reports, fits, scan, pool}
 use Rattle.laws.proofs.Skeleton.{pushes-join}
-use Rattle.machine.specs.Machine.{Machine, Marker, low, push, complete, precede, FINISH, PLACEHOLDER, START}
+use Rattle.machine.specs.Machine.{Machine, Marker, low, push, complete, precede}
 use Rattle.machine.specs.Walk.{Walked, said, marker, close}
 use Rattle.machine.specs.Walk as W
 use Rattle.machine.specs.Encode.{start-tag}
@@ -86,14 +87,14 @@ module _ (g : Ground) (c : Sofar) (a : Skeleton) (m : ℕ) (i : Skeleton) (s : S
       let p = c .numbers ++ coded true a in
       let q : (y z : ℕ) → p ++ (y ∷ z ∷ 0 ∷ coded false i) ≡ c .numbers ++ (coded true a ++ (y ∷ z ∷ 0 ∷ coded false i)) = λ y z. append-assoc (c .numbers) (coded true a) (y ∷ z ∷ 0 ∷ coded false i) in
       let n : length (opened c a m i .numbers) ≡ length (started c a m i kind .numbers) = simp length-append in
-      let is : complete k kind (stand g (opened c a m i) s) ≡ push FINISH 0 (stand g (started c a m i kind) s) =
+      let is : complete k kind (stand g (opened c a m i) s) ≡ push FINISH-NODE 0 (stand g (started c a m i kind) s) =
       ap (λ (u : List ℕ). complete k kind (image g u l s)) (sym (q 0 0))
       ∙ complete-is g l s p (coded false i) k kind e (subst (λ (u : List ℕ). length u ≤ length (g .events)) (sym (q 0 0)) (f .events))
-      ∙ ap (λ (y : ℕ). push FINISH 0 (image g (p ++ (y ∷ kind ∷ 0 ∷ coded false i)) l s)) t
-      ∙ ap (λ (u : List ℕ). push FINISH 0 (image g u l s)) (q (start-tag a) kind) in
+      ∙ ap (λ (y : ℕ). push FINISH-NODE 0 (image g (p ++ (y ∷ kind ∷ 0 ∷ coded false i)) l s)) t
+      ∙ ap (λ (u : List ℕ). push FINISH-NODE 0 (image g u l s)) (q (start-tag a) kind) in
       subst (λ (w : Machine). Meets g (grow c (node kind m (mark-of s) a i done)) x 0 s (said x w)) (sym is)
-      (subst (λ (y : Sofar). Meets g y x 0 s (said x (push FINISH 0 (stand g (started c a m i kind) s)))) (started-node c a m i kind (mark-of s))
-      (push-meets g (started c a m i kind) (fitting-alike g (opened c a m i .numbers) (started c a m i kind .numbers) (opened c a m i .pushed) n f) s FINISH 0 x 0 h))
+      (subst (λ (y : Sofar). Meets g y x 0 s (said x (push FINISH-NODE 0 (stand g (started c a m i kind) s)))) (started-node c a m i kind (mark-of s))
+      (push-meets g (started c a m i kind) (fitting-alike g (opened c a m i .numbers) (started c a m i kind .numbers) (opened c a m i .pushed) n f) s FINISH-NODE 0 x 0 h))
 
   -- completed or ignored
   pub close-sim : (k : Marker) (shape : ℕ) → k .place ≡ length (c .numbers ++ coded true a) → k .tag ≡ start-tag a
@@ -109,15 +110,15 @@ unfolding closed pushes
 begins-closed zero m m′ a i = record { more = event m′ ∷ []; joins = append-assoc (pushes a) (event m ∷ pushes i) (event m′ ∷ []) }
 begins-closed (suc k) m m′ a i = record { more = event m′ ∷ []; joins = append-assoc (pushes a) (event m ∷ pushes i) (event m′ ∷ []) }
 
-pub start-place : (g : Ground) (c : Sofar) (s : State) → marker START (stand g c s) .place ≡ length (c .numbers ++ coded true done)
+pub start-place : (g : Ground) (c : Sofar) (s : State) → marker START-NODE (stand g c s) .place ≡ length (c .numbers ++ coded true done)
 unfolding image coded
 start-place g c s = simp length-append (omega arith)
 
-pub mark-sim : (g : Ground) (f : State → Out) (h : Machine → Walked) → Tracks g f h → Sticks (g .tokens) h → Tracks g (λ s. marked s (f s)) (λ m. W.closed (marker START m) (h (push PLACEHOLDER 0 m)))
+pub mark-sim : (g : Ground) (f : State → Out) (h : Machine → Walked) → Tracks g f h → Sticks (g .tokens) h → Tracks g (λ s. marked s (f s)) (λ m. W.closed (marker START-NODE m) (h (push PLACEHOLDER 0 m)))
 unfolding marked makes coded pushes _⧺_
 mark-sim g f h t st c s fit i =
     let M = stand g c s in
-    let k = marker START M in
+    let k = marker START-NODE M in
     let m = mark-of s in
     let o = f s in
     let m′ = mark-of (o .state) in

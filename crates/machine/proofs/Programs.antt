@@ -6,7 +6,7 @@ use lib.Dec.{ltb}
 use Rattle.definitions.specs.Errors as E
 use Rattle.definitions.specs.Token.{past, ended, first-in, bytes}
 use Rattle.definitions.specs.Skeleton.{Span, Label, no-label}
-use Rattle.definitions.specs.Prog.{Rule, Act, silent-at, at-end, immediate, immediate-next, add-expected, bump, bump-name, bump-argument, emit, emit-unclosed, less, Prog, ret, act, _⨟_, case, mark, loop, chain, brace, call}
+use Rattle.definitions.specs.Prog.{Rule, Act, silent-at, at-end, immediate, immediate-next, add-expected, bump, bump-name, bump-argument, emit, emit-unclosed, less, Prog, ret, act, _⨟_, case, in-marker, loop, chain, brace, open-call}
 use Rattle.definitions.specs.Grammar.{grammar}
 use Rattle.definitions.specs.Run.{State, Out, answer, truth, here, perform, exec, run}
 use Rattle.definitions.specs.Report.{reports}
@@ -56,13 +56,13 @@ module _ (g : Ground) (ask : Rule → State → Out) (ask′ : Rule → Machine 
       case-sim g c (exec ask b x s) (walk ask′ (g .tokens) (lab g b) x (stand g c s)) (exec ask b n) (exec ask b y) (exec ask b a)
       (walk ask′ (g .tokens) (lab g b) n) (walk ask′ (g .tokens) (lab g b) y) (walk ask′ (g .tokens) (lab g b) a)
       (exec-sim b x c s f i) (exec-sim b n) (exec-sim b y) (exec-sim b a) (sticks (lab g b) n) (sticks (lab g b) y) (sticks (lab g b) a)
-  exec-sim b (mark p) c s f i = mark-sim g (exec ask b p) (walk ask′ (g .tokens) (lab g b) p) (exec-sim b p) (sticks (lab g b) p) c s f i
+  exec-sim b (in-marker p) c s f i = mark-sim g (exec ask b p) (walk ask′ (g .tokens) (lab g b) p) (exec-sim b p) (sticks (lab g b) p) c s f i
   exec-sim b (loop p) c s f i = loop-sim g (exec ask b p) (walk ask′ (g .tokens) (lab g b) p) (exec-sim b p) (sticks (lab g b) p) c s f i
   exec-sim b (chain p q) c s f i =
       chain-sim g (exec ask b q) (exec ask b p) (walk ask′ (g .tokens) (lab g b) q) (walk ask′ (g .tokens) (lab g b) p) (exec-sim b q) (sticks (lab g b) q) (exec-sim b p) (sticks (lab g b) p) c s f i
   exec-sim b (brace p) c s f i =
       subst (λ (x : Span). Sim g c (exec ask (here (s .rest)) p s) (walk ask′ (g .tokens) x p (stand g c s))) (sym (here-is g (c .numbers) (reports (c .pushed)) s i)) (exec-sim (here (s .rest)) p c s f i)
-  exec-sim b (call r) c s f i = calls r c s f i
+  exec-sim b (open-call r) c s f i = calls r c s f i
 
 -- a rule, with any number of open calls left
 pub run-sim : (g : Ground) (n : ℕ) (r : Rule) → Tracks g (run n r) (walk-rule n (g .tokens) r)

@@ -7,16 +7,17 @@ use mathlib.Core.List.{List, [], _∷_, _++_}
 use lib.Dec.{ltb, eqb}
 use lib.ListN.{length}
 use borrow.Author.Tests.{ne-eqb}
+use Rattle.definitions.specs.Layout.{PLACEHOLDER, START-NODE, LINKED-START-NODE, ADD-TOKEN, ADD-COMBINED-TOKEN, ERROR}
 use Rattle.definitions.specs.TokenKind as K
 use Rattle.definitions.specs.Errors as E
 use Rattle.definitions.specs.Token.{Token, seen, trivia, ended, one-of, first-in}
 use Rattle.definitions.specs.Skeleton.{Span}
 use Rattle.definitions.specs.Refusal.{Refusal}
-use Rattle.definitions.specs.Prog.{Ans, no, yes, also, again, Rule, Act, silent-at, at-end, immediate, immediate-next, add-expected, bump, bump-name, bump-argument, emit, emit-unclosed, less, Prog, ret, act, _⨟_, case, mark, loop, chain, brace, call}
+use Rattle.definitions.specs.Prog.{Ans, no, yes, also, again, Rule, Act, silent-at, at-end, immediate, immediate-next, add-expected, bump, bump-name, bump-argument, emit, emit-unclosed, less, Prog, ret, act, _⨟_, case, in-marker, loop, chain, brace, open-call}
 use Rattle.definitions.specs.Grammar.{grammar}
 use Rattle.definitions.specs.Run.{is-again, by-shape}
 use Rattle.laws.proofs.Trivia.{cond-all}
-use Rattle.machine.specs.Machine.{Machine, Marker, rest, with-pending, with-refusal, passed, skip, peek, took, range-at, refuse, expect-code, push-row, push, complete, precede, bump-first, name-run, name-first, write-report, PLACEHOLDER, START, LINKED, TOKEN, NAME, ERROR}
+use Rattle.machine.specs.Machine.{Machine, Marker, rest, with-pending, with-refusal, passed, skip, peek, took, range-at, refuse, expect-code, push-row, push, complete, precede, bump-first, name-run, name-first, write-report}
 use Rattle.machine.specs.Machine as M
 use Rattle.machine.specs.Walk.{Walked, said, at-depth, argument, unlabelled, perform, choose, marker, close, closed, goes-on, iter, link, links, chained, walk, walk-rule}
 use Rattle.machine.specs.Outcome.{Refused}
@@ -29,7 +30,7 @@ Sticks ts g = (r : Refusal) (m : Machine) → Refused ts r m → Refused ts r (g
 abbrev pub turn : List Token → ℕ → (Machine → Walked) → Marker → Machine → Walked → Walked
 turn ts n f k m w =
     by-shape (w .shape) (said (w .ans) (push PLACEHOLDER 0 (w .on)))
-    (cond (goes-on ts m w) (links ts n f (marker LINKED (complete k (w .shape) (w .on))) (link k (w .shape) (w .on))) (said (w .ans) (push PLACEHOLDER 0 (link k (w .shape) (w .on)))))
+    (cond (goes-on ts m w) (links ts n f (marker LINKED-START-NODE (complete k (w .shape) (w .on))) (link k (w .shape) (w .on))) (said (w .ans) (push PLACEHOLDER 0 (link k (w .shape) (w .on)))))
 
 module _ (ts : List Token) (r : Refusal) where
   on : (m : Machine) → Refused ts r m → eqb (m .refusal) 0 ≡ false
@@ -80,7 +81,7 @@ module _ (ts : List Token) (r : Refusal) where
   s-first : (l : List Token) (m : Machine) → Refused ts r m → Refused ts r (bump-first l m)
   unfolding bump-first
   s-first [] m h = h
-  s-first (t ∷ l) m h = s-push TOKEN 0 (took t m) (record { refusal = h .refusal; some = h .some; place = h .place })
+  s-first (t ∷ l) m h = s-push ADD-TOKEN 0 (took t m) (record { refusal = h .refusal; some = h .some; place = h .place })
 
   s-bump : (m : Machine) → Refused ts r m → Refused ts r (M.bump ts m)
   unfolding M.bump
@@ -94,7 +95,7 @@ module _ (ts : List Token) (r : Refusal) where
   s-name : (ks : List ℕ) (l : List Token) (m : Machine) → Refused ts r m → Refused ts r (name-first ks l m)
   unfolding name-first
   s-name ks [] m h = h
-  s-name ks (t ∷ l) m h = s-push NAME _ (name-run ks l (took t m)) (s-run ks l (took t m) (record { refusal = h .refusal; some = h .some; place = h .place }))
+  s-name ks (t ∷ l) m h = s-push ADD-COMBINED-TOKEN _ (name-run ks l (took t m)) (s-run ks l (took t m) (record { refusal = h .refusal; some = h .some; place = h .place }))
 
   s-bump-name : (ks : List ℕ) (m : Machine) → Refused ts r m → Refused ts r (M.bump-name ks ts m)
   unfolding M.bump-name
@@ -179,7 +180,7 @@ module _ (ts : List Token) (r : Refusal) where
   s-turn-with n f g k m w h =
       let x = link k (w .shape) (w .on) in
       let q : Refused ts r x = s-link k (w .shape) (w .on) h in
-      let next = marker LINKED (complete k (w .shape) (w .on)) in
+      let next = marker LINKED-START-NODE (complete k (w .shape) (w .on)) in
       let more = links ts n f next x in
       let last : Walked = said (w .ans) (push PLACEHOLDER 0 x) in
       shaped (w .shape) (said (w .ans) (push PLACEHOLDER 0 (w .on))) (cond (goes-on ts m w) more last) (s-push PLACEHOLDER 0 (w .on) h)
@@ -206,12 +207,12 @@ module _ (ts : List Token) (r : Refusal) where
   s-walk ask k b (p ⨟ q) m h = s-walk ask k b q (walk ask ts b p m .on) (s-walk ask k b p m h)
   s-walk ask k b (case c n y a) m h =
       s-choose (walk ask ts b c m .ans) (walk ask ts b n) (walk ask ts b y) (walk ask ts b a) (s-walk ask k b n) (s-walk ask k b y) (s-walk ask k b a) (walk ask ts b c m .on) (s-walk ask k b c m h)
-  s-walk ask k b (mark p) m h = s-closed (marker START m) (walk ask ts b p (push PLACEHOLDER 0 m)) (s-walk ask k b p (push PLACEHOLDER 0 m) (s-push PLACEHOLDER 0 m h))
+  s-walk ask k b (in-marker p) m h = s-closed (marker START-NODE m) (walk ask ts b p (push PLACEHOLDER 0 m)) (s-walk ask k b p (push PLACEHOLDER 0 m) (s-push PLACEHOLDER 0 m h))
   s-walk ask k b (loop p) m h = s-iter (suc (length (rest ts m))) (walk ask ts b p) (s-walk ask k b p) m h
   s-walk ask k b (chain p q) m h =
-      s-chained (walk ask ts b q) (s-walk ask k b q) (marker START m) (walk ask ts b p (push PLACEHOLDER 0 m)) (s-walk ask k b p (push PLACEHOLDER 0 m) (s-push PLACEHOLDER 0 m h))
+      s-chained (walk ask ts b q) (s-walk ask k b q) (marker START-NODE m) (walk ask ts b p (push PLACEHOLDER 0 m)) (s-walk ask k b p (push PLACEHOLDER 0 m) (s-push PLACEHOLDER 0 m h))
   s-walk ask k b (brace p) m h = s-walk ask k (range-at (rest ts m) m) p m h
-  s-walk ask k b (call c) m h = k c m h
+  s-walk ask k b (open-call c) m h = k c m h
 
   pub s-rule : (n : ℕ) (c : Rule) (m : Machine) → Refused ts r m → Refused ts r (walk-rule n ts c m .on)
   unfolding walk-rule

@@ -9,12 +9,13 @@ use lib.Dec.{leb, eqb}
 use lib.ListN.{length, length-append}
 use lib.Seq.{sets}
 use borrow.Author.Tests.{le-leb, lt-leb}
+use Rattle.definitions.specs.Layout.{FINISH-NODE, PLACEHOLDER}
 use Rattle.definitions.specs.Token.{bytes}
 use Rattle.definitions.specs.Skeleton.{Span, Report}
 use Rattle.definitions.specs.Run.{State, pool-of}
 use Rattle.definitions.specs.Report.{pool}
 use Rattle.laws.proofs.Skeleton.{pool-append}
-use Rattle.machine.specs.Machine.{Buffer, Machine, Marker, low, with-events, with-reports, refuse, fits, push-row, push, put-start, complete, put-link, precede, report-row, write-report, FINISH, PLACEHOLDER}
+use Rattle.machine.specs.Machine.{Buffer, Machine, Marker, low, with-events, with-reports, refuse, fits, push-row, push, put-start, complete, put-link, precede, report-row, write-report}
 use Rattle.machine.specs.Outcome.{onto}
 use Rattle.machine.proofs.Buffers.{length-onto, sets-behind, sets-onto}
 use Rattle.machine.proofs.Coded.{low-rows, low-rows-append}
@@ -71,9 +72,9 @@ module _ (g : Ground) (l : List Report) (s : State) where
       ∙ ap (λ (i : ℕ). with-events (record { count = i; numbers = onto (p ++ (k .tag ∷ kind ∷ 0 ∷ f)) (g .events) }) m) c
 
   pub complete-is : (p f : List ℕ) (k : Marker) (kind : ℕ) → k .place ≡ length p → length (p ++ (0 ∷ 0 ∷ 0 ∷ f)) ≤ length (g .events)
-      → complete k kind (image g (p ++ (0 ∷ 0 ∷ 0 ∷ f)) l s) ≡ push FINISH 0 (image g (p ++ (k .tag ∷ kind ∷ 0 ∷ f)) l s)
+      → complete k kind (image g (p ++ (0 ∷ 0 ∷ 0 ∷ f)) l s) ≡ push FINISH-NODE 0 (image g (p ++ (k .tag ∷ kind ∷ 0 ∷ f)) l s)
   unfolding complete push image
-  complete-is p f k kind e h = ap (λ (m : Machine). push-row FINISH 0 m) (start-is p f k kind e h)
+  complete-is p f k kind e h = ap (λ (m : Machine). push-row FINISH-NODE 0 m) (start-is p f k kind e h)
 
   -- ---------------------------------------------------------------- a marker preceded
 

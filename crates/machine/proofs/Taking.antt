@@ -6,15 +6,16 @@ use mathlib.Core.Bool.{Bool, true, false, cond}
 use mathlib.Core.List.{List, [], _∷_, _++_}
 use lib.Dec.{ltb}
 use lib.ListN.{length}
+use Rattle.definitions.specs.Layout.{ADD-TOKEN, ADD-COMBINED-TOKEN}
 use Rattle.definitions.specs.Token.{Token, drop-trivia}
 use Rattle.definitions.specs.Skeleton.{Report, done, token, name, over}
 use Rattle.definitions.specs.Refusal.{too-deep, number-of, place-of}
 use Rattle.definitions.specs.Prog.{Ans, no, yes}
-use Rattle.definitions.specs.Run.{State, mark-of, answer, makes, taken, peeked, do-bump, run-of, do-name, room, do-expected}
+use Rattle.definitions.specs.Run.{State, mark-of, answer, makes, taken, peeked, do-bump, run-of, do-name, over-unless, do-expected}
 use Rattle.definitions.specs.Report.{exceeded, Fit, stops, scan, pushes, reports}
 use Rattle.definitions.specs.Call.{forward-mark}
 use Rattle.laws.proofs.Scan.{and-then, scan-append}
-use Rattle.machine.specs.Machine.{Machine, low, rest, peek, took, refuse, expect-code, with-pending, push, bump-first, name-run, name-first, TOKEN, NAME}
+use Rattle.machine.specs.Machine.{Machine, low, rest, peek, took, refuse, expect-code, with-pending, push, bump-first, name-run, name-first}
 use Rattle.machine.specs.Machine as M
 use Rattle.machine.specs.Walk.{Walked, said}
 use Rattle.machine.specs.Outcome.{Refused}
@@ -67,10 +68,10 @@ abbrev expecting : State → ℕ → State
 expecting s k = record { rest = s .rest; since = s .since; pending = s .pending ++ (k ∷ []) }
 
 pub expected-sim : (g : Ground) (k : ℕ) → Tracks g (do-expected k) (λ m. said yes (expect-code k m))
-unfolding do-expected makes expect-code image room pushes coded
+unfolding do-expected makes expect-code image over-unless pushes coded
 expected-sim g k c s f i = by-room (ltb (length (s .pending)) 256)
   where
-    by-room : (b : Bool) → Meets g (grow c (room b (mark-of s))) yes 0 (expecting s k) (said yes (cond b (with-pending (s .pending ++ (k ∷ [])) (stand g c s)) (refuse 5 (stand g c s))))
+    by-room : (b : Bool) → Meets g (grow c (over-unless b (mark-of s))) yes 0 (expecting s k) (said yes (cond b (with-pending (s .pending ++ (k ∷ [])) (stand g c s)) (refuse 5 (stand g c s))))
     by-room true = quiet g c yes 0 (expecting s k) _ f (record { rest = i .rest; since = i .since; order = i .order }) refl
     by-room false = stop (too-deep (mark-of s)) (deep-stops g c (mark-of s) f) (refused-deep g (c .numbers) (reports (c .pushed)) s)
 
@@ -82,8 +83,8 @@ unfolding do-bump answer makes bump-first coded pushes
 first-sim g c s [] f i = quiet g c yes 0 (moved s []) _ f i refl
 first-sim g c s (t ∷ l) f i =
     let p : Part (g .tokens) l = part-tail (g .tokens) l t (i .rest) in
-    subst (λ (m : Machine). Meets g (grow c (token t (length l) done)) yes 0 (taken l) (said yes (push TOKEN 0 m))) (sym (took-is g (c .numbers) (reports (c .pushed)) s t l (i .rest)))
-    (push-meets g c f (taken l) TOKEN 0 yes 0 (inside-taken g l p))
+    subst (λ (m : Machine). Meets g (grow c (token t (length l) done)) yes 0 (taken l) (said yes (push ADD-TOKEN 0 m))) (sym (took-is g (c .numbers) (reports (c .pushed)) s t l (i .rest)))
+    (push-meets g c f (taken l) ADD-TOKEN 0 yes 0 (inside-taken g l p))
 
 name-sim : (g : Ground) (ks : List ℕ) (c : Sofar) (s : State) (l : List Token) → Fitting g c → Inside g (moved s l) → Sim g c (do-name ks (moved s l) l) (said yes (name-first ks l (stand g c (moved s l))))
 unfolding do-name answer makes name-first coded pushes
@@ -96,9 +97,9 @@ name-sim g ks c s (t ∷ l) f i =
     let o = name (t ∷ r .raw) (length (r .after)) done in
     let is : name-run ks l (took t (stand g c (moved s (t ∷ l)))) ≡ stand g c (taken (r .after)) =
     ap (name-run ks l) (took-is g e u s t l (i .rest)) ∙ name-run-is g e u ks l p in
-    subst (λ (m : Machine). Meets g (grow c o) yes 0 (taken (r .after)) (said yes (push NAME (low (m .cursor - stand g c (moved s (t ∷ l)) .cursor)) m))) (sym is)
-    (subst (λ (n : ℕ). Meets g (grow c o) yes 0 (taken (r .after)) (said yes (push NAME n (stand g c (taken (r .after)))))) (sym (name-count g e u s ks t l (i .rest)))
-    (push-meets g c f (taken (r .after)) NAME (length (t ∷ r .raw)) yes 0 (inside-taken g (r .after) (run-part g ks l p))))
+    subst (λ (m : Machine). Meets g (grow c o) yes 0 (taken (r .after)) (said yes (push ADD-COMBINED-TOKEN (low (m .cursor - stand g c (moved s (t ∷ l)) .cursor)) m))) (sym is)
+    (subst (λ (n : ℕ). Meets g (grow c o) yes 0 (taken (r .after)) (said yes (push ADD-COMBINED-TOKEN n (stand g c (taken (r .after)))))) (sym (name-count g e u s ks t l (i .rest)))
+    (push-meets g c f (taken (r .after)) ADD-COMBINED-TOKEN (length (t ∷ r .raw)) yes 0 (inside-taken g (r .after) (run-part g ks l p))))
 
 pub bump-sim : (g : Ground) → Tracks g (λ s. do-bump (peeked s) (peeked s .rest)) (λ m. said yes (M.bump (g .tokens) m))
 unfolding M.bump peeked

@@ -9,7 +9,7 @@ use lib.Dec.{ltb, eqb}
 use lib.ListN.{length, drop, length-drop}
 use borrow.Author.Tests.{ltb-true, lt-ltb}
 use Rattle.definitions.specs.TokenKind as K
-use Rattle.definitions.specs.Token.{Token, tokens, trivia, ended, first-in}
+use Rattle.definitions.specs.Token.{Token, tokens-of, trivia, ended, first-in}
 use Rattle.definitions.specs.Skeleton.{Span}
 use Rattle.definitions.specs.Prog.{Ans, no, yes, again, Rule, Prog, loop}
 use Rattle.definitions.specs.Run.{is-again}
@@ -21,21 +21,21 @@ use Rattle.machine.specs.Walk.{Walked, said, at-depth, argument, goes-on
 abbrev pub ahead : List Token → Machine → ℕ
 ahead ts m = length (rest ts m)
 
-pub rows-length : (tk : List ℕ) → length (tokens tk) ≡ length tk / 2
-unfolding tokens
+pub rows-length : (tk : List ℕ) → length (tokens-of tk) ≡ length tk / 2
+unfolding tokens-of
 rows-length [] = refl
 rows-length (k ∷ []) = refl
 rows-length (k ∷ n ∷ l) = ap suc (rows-length l) ∙ omega arith
 
 -- as the code counts them
-pub ahead-is : (tk : List ℕ) (m : Machine) → ahead (tokens tk) m ≡ length tk / 2 - m .cursor
-ahead-is tk m = length-drop (m .cursor) (tokens tk) ∙ ap (λ (n : ℕ). n - m .cursor) (rows-length tk)
+pub ahead-is : (tk : List ℕ) (m : Machine) → ahead (tokens-of tk) m ≡ length tk / 2 - m .cursor
+ahead-is tk m = length-drop (m .cursor) (tokens-of tk) ∙ ap (λ (n : ℕ). n - m .cursor) (rows-length tk)
 
 -- no more tokens than a cursor can pass
 abbrev pub Few : List Token → Type 0
 Few ts = length ts ≤ PAST-THE-END
 
-pub few-rows : (tk : List ℕ) → length tk < 18446744073709551616 → Few (tokens tk)
+pub few-rows : (tk : List ℕ) → length tk < 18446744073709551616 → Few (tokens-of tk)
 few-rows tk h = omega (arith, rows-length tk, h)
 
 -- ---------------------------------------------------------------- what moves the cursor, and no move goes back

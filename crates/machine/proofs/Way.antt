@@ -4,12 +4,13 @@ use mathlib.Core.Path.{_≡_, refl, sym, ap, _∙_}
 use mathlib.Core.Bool.{Bool, true, false, cond}
 use mathlib.Core.List.{List}
 use native.Mathlib.Omega.{arith}
+use Rattle.definitions.specs.Layout.{PLACEHOLDER, START-NODE}
 use Rattle.definitions.specs.Token.{Token}
 use Rattle.definitions.specs.Skeleton.{Span}
-use Rattle.definitions.specs.Prog.{Ans, no, yes, also, again, Rule, Act, Prog, ret, act, _⨟_, case, mark, call}
+use Rattle.definitions.specs.Prog.{Ans, no, yes, also, again, Rule, Act, Prog, ret, act, _⨟_, case, in-marker, open-call}
 use Rattle.definitions.specs.Grammar.{grammar}
 use Rattle.definitions.specs.Run.{truth}
-use Rattle.machine.specs.Machine.{Machine, Marker, push, complete, refuse, PLACEHOLDER, START}
+use Rattle.machine.specs.Machine.{Machine, Marker, push, complete, refuse}
 use Rattle.machine.specs.Walk.{Walked, said, perform, choose, marker, close, closed, walk, walk-rule, walk-prog, unlabelled}
 
 -- p, walked from m, comes to w
@@ -69,10 +70,10 @@ module _ {ask : Rule → Machine → Walked} {ts : List Token} {b : Span} where
   c-told-past false e f = c-no {t = false} e refl (c-seq f c-ret)
 
   -- a marker: x, after it was pushed, and v, where it is closed
-  pub c-mark : {p : Prog} {k : Marker} {m x : Machine} {v w : Walked} → k ≡ marker START m → x ≡ push PLACEHOLDER 0 m → Way ask ts b p x v → Closes k v w → Way ask ts b (mark p) m w
+  pub c-mark : {p : Prog} {k : Marker} {m x : Machine} {v w : Walked} → k ≡ marker START-NODE m → x ≡ push PLACEHOLDER 0 m → Way ask ts b p x v → Closes k v w → Way ask ts b (in-marker p) m w
   unfolding walk
   c-mark {p = p} {k = k} {m = m} {v = v} i e f g =
-      record { is = g .is ∙ ap (λ (k : Marker). closed k v) i ∙ ap (closed (marker START m)) (f .is ∙ ap (walk ask ts b p) e) }
+      record { is = g .is ∙ ap (λ (k : Marker). closed k v) i ∙ ap (closed (marker START-NODE m)) (f .is ∙ ap (walk ask ts b p) e) }
 
 -- completed as a node of kind suc s
 pub completed : (s : ℕ) {k : Marker} {a : Ans} {m x : Machine} → x ≡ complete k (suc s) m → Closes k (record { ans = a; shape = suc s; on = m }) (said a x)
@@ -80,7 +81,7 @@ unfolding closed close
 completed s {a = a} e = record { is = ap (said a) e }
 
 module _ (n : ℕ) {ts : List Token} where
-  pub c-call : {b : Span} {r : Rule} {m : Machine} {w : Walked} → w ≡ walk-rule n ts r m → Way (walk-rule n ts) ts b (call r) m w
+  pub c-call : {b : Span} {r : Rule} {m : Machine} {w : Walked} → w ≡ walk-rule n ts r m → Way (walk-rule n ts) ts b (open-call r) m w
   unfolding walk
   c-call e = record { is = e }
 

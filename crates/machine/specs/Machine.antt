@@ -6,8 +6,8 @@ use mathlib.Core.List.{List, [], _∷_, _++_}
 use lib.Dec.{ltb, leb, eqb}
 use lib.ListN.{length, drop}
 use lib.Seq.{sets}
-use Rattle.definitions.specs.TokenKind as K
-use Rattle.definitions.specs.Token.{Token, seen, trivia, past, ended, one-of, first-in}
+use Rattle.definitions.specs.Layout.{EVENT-ROW, REPORT-ROW, PLACEHOLDER, ADD-TOKEN, ADD-COMBINED-TOKEN, FINISH-NODE, ERROR, TOO-DEEP, NO-EVENT-ROOM, NO-REPORT-ROOM, MOST-PENDING}
+use Rattle.definitions.specs.Token.{Token, seen, trivia, one-of}
 use Rattle.definitions.specs.Skeleton.{Span}
 use Rattle.definitions.specs.Run.{only-separators, pool-of}
 
@@ -16,13 +16,13 @@ pub record Buffer : Type 0 where
   pub count : ℕ
   pub numbers : List ℕ
 
--- cursor and mark: token indexes. at: the first byte of the token at the cursor. mark-at: the end of the last token taken.
+-- cursor and mark: token indexes. byte: the first byte of the token at the cursor. mark-byte: the end of the last token taken.
 -- refusal: the first of 5 to 7, or 0, and place: the mark at that moment.
 pub record Machine : Type 0 where
   pub cursor : ℕ
-  pub at : ℕ
+  pub byte : ℕ
   pub mark : ℕ
-  pub mark-at : ℕ
+  pub mark-byte : ℕ
   pub pending : List ℕ
   pub events : Buffer
   pub reports : Buffer
@@ -41,22 +41,22 @@ rest ts m = drop (m .cursor) ts
 -- ---------------------------------------------------------------- one field changed
 
 abbrev pub with-cursor : ℕ → ℕ → Machine → Machine
-with-cursor c b m = record { cursor = c; at = b; mark = m .mark; mark-at = m .mark-at; pending = m .pending; events = m .events; reports = m .reports; pool = m .pool; refusal = m .refusal; place = m .place }
+with-cursor c b m = record { cursor = c; byte = b; mark = m .mark; mark-byte = m .mark-byte; pending = m .pending; events = m .events; reports = m .reports; pool = m .pool; refusal = m .refusal; place = m .place }
 
 abbrev pub with-taken : ℕ → ℕ → Machine → Machine
-with-taken c b m = record { cursor = c; at = b; mark = c; mark-at = b; pending = []; events = m .events; reports = m .reports; pool = m .pool; refusal = m .refusal; place = m .place }
+with-taken c b m = record { cursor = c; byte = b; mark = c; mark-byte = b; pending = []; events = m .events; reports = m .reports; pool = m .pool; refusal = m .refusal; place = m .place }
 
 abbrev pub with-pending : List ℕ → Machine → Machine
-with-pending l m = record { cursor = m .cursor; at = m .at; mark = m .mark; mark-at = m .mark-at; pending = l; events = m .events; reports = m .reports; pool = m .pool; refusal = m .refusal; place = m .place }
+with-pending l m = record { cursor = m .cursor; byte = m .byte; mark = m .mark; mark-byte = m .mark-byte; pending = l; events = m .events; reports = m .reports; pool = m .pool; refusal = m .refusal; place = m .place }
 
 abbrev pub with-events : Buffer → Machine → Machine
-with-events e m = record { cursor = m .cursor; at = m .at; mark = m .mark; mark-at = m .mark-at; pending = m .pending; events = e; reports = m .reports; pool = m .pool; refusal = m .refusal; place = m .place }
+with-events e m = record { cursor = m .cursor; byte = m .byte; mark = m .mark; mark-byte = m .mark-byte; pending = m .pending; events = e; reports = m .reports; pool = m .pool; refusal = m .refusal; place = m .place }
 
 abbrev pub with-reports : Buffer → Buffer → Machine → Machine
-with-reports r p m = record { cursor = m .cursor; at = m .at; mark = m .mark; mark-at = m .mark-at; pending = m .pending; events = m .events; reports = r; pool = p; refusal = m .refusal; place = m .place }
+with-reports r p m = record { cursor = m .cursor; byte = m .byte; mark = m .mark; mark-byte = m .mark-byte; pending = m .pending; events = m .events; reports = r; pool = p; refusal = m .refusal; place = m .place }
 
 abbrev pub with-refusal : ℕ → ℕ → Machine → Machine
-with-refusal n p m = record { cursor = m .cursor; at = m .at; mark = m .mark; mark-at = m .mark-at; pending = m .pending; events = m .events; reports = m .reports; pool = m .pool; refusal = n; place = p }
+with-refusal n p m = record { cursor = m .cursor; byte = m .byte; mark = m .mark; mark-byte = m .mark-byte; pending = m .pending; events = m .events; reports = m .reports; pool = m .pool; refusal = n; place = p }
 
 -- ---------------------------------------------------------------- source.rs
 
@@ -66,7 +66,7 @@ PAST-THE-END = 18446744073709551615
 
 -- the token at the cursor passed over
 abbrev pub passed : Token → Machine → Machine
-passed t m = with-cursor (m .cursor + 1) (low (m .at + t .len)) m
+passed t m = with-cursor (m .cursor + 1) (low (m .byte + t .len)) m
 
 unfoldable pub skip : List Token → Machine → Machine
 skip [] m = m
@@ -79,61 +79,38 @@ peek ts m = skip (rest ts m) m
 
 -- the token at the cursor taken
 abbrev pub took : Token → Machine → Machine
-took t m = with-taken (m .cursor + 1) (low (m .at + t .len)) m
+took t m = with-taken (m .cursor + 1) (low (m .byte + t .len)) m
 
 -- the range of the token at the cursor
 unfoldable pub range-at : List Token → Machine → Span
-range-at [] m = record { from = m .at; to = m .at }
-range-at (t ∷ ts) m = record { from = m .at; to = low (m .at + t .len) }
+range-at [] m = record { from = m .byte; to = m .byte }
+range-at (t ∷ ts) m = record { from = m .byte; to = low (m .byte + t .len) }
 
 -- ---------------------------------------------------------------- refusals, pending expectations, events
 
 -- the first refusal stays
 unfoldable pub refuse : ℕ → Machine → Machine
-refuse n m = with-cursor PAST-THE-END (m .at) (cond (eqb (m .refusal) 0) (with-refusal n (m .mark) m) m)
+refuse n m = with-cursor PAST-THE-END (m .byte) (cond (eqb (m .refusal) 0) (with-refusal n (m .mark) m) m)
 
 unfoldable pub expect-code : ℕ → Machine → Machine
 unfolding refuse
-expect-code k m = cond (ltb (length (m .pending)) 256) (with-pending (m .pending ++ (k ∷ [])) m) (refuse 5 m)
+expect-code k m = cond (ltb (length (m .pending)) MOST-PENDING) (with-pending (m .pending ++ (k ∷ [])) m) (refuse TOO-DEEP m)
 
--- whether n more numbers fit after the first `at`
+-- whether n more numbers fit a buffer after those that are written
 abbrev pub fits : ℕ → ℕ → ℕ → Bool
-fits len at n = leb at len && leb n (len - at)
+fits len count n = leb count len && leb n (len - count)
 
 unfoldable pub push-row : ℕ → ℕ → Machine → Machine
 unfolding refuse
 push-row tag value m =
-    cond (fits (length (m .events .numbers)) (m .events .count) 3)
-    (with-events (record { count = m .events .count + 3; numbers = sets (m .events .numbers) (m .events .count) (tag ∷ value ∷ 0 ∷ []) }) m)
-    (refuse 6 m)
+    cond (fits (length (m .events .numbers)) (m .events .count) EVENT-ROW)
+    (with-events (record { count = m .events .count + EVENT-ROW; numbers = sets (m .events .numbers) (m .events .count) (tag ∷ value ∷ 0 ∷ []) }) m)
+    (refuse NO-EVENT-ROOM m)
 
 -- nothing is pushed once something was refused
 unfoldable pub push : ℕ → ℕ → Machine → Machine
 unfolding push-row
 push tag value m = cond (eqb (m .refusal) 0) (push-row tag value m) m
-
--- the first numbers of event rows
-abbrev pub PLACEHOLDER : ℕ
-PLACEHOLDER = 0
-
-abbrev pub START : ℕ
-START = 1
-
-abbrev pub TOKEN : ℕ
-TOKEN = 2
-
-abbrev pub NAME : ℕ
-NAME = 3
-
-abbrev pub FINISH : ℕ
-FINISH = 4
-
-abbrev pub ERROR : ℕ
-ERROR = 5
-
--- a start that another one leads to
-abbrev pub LINKED : ℕ
-LINKED = 6
 
 -- a marker: its placeholder's place among the event numbers, and the first number of the start that it becomes
 pub record Marker : Type 0 where
@@ -141,16 +118,16 @@ pub record Marker : Type 0 where
   pub tag : ℕ
 
 abbrev pub put-start : Marker → ℕ → List ℕ → List ℕ
-put-start k kind l = cond (fits (length l) (k .place) 3) (sets l (k .place) (k .tag ∷ kind ∷ [])) l
+put-start k kind l = cond (fits (length l) (k .place) EVENT-ROW) (sets l (k .place) (k .tag ∷ kind ∷ [])) l
 
 unfoldable pub complete : Marker → ℕ → Machine → Machine
 unfolding push-row
 complete k kind m =
-    cond (eqb (m .refusal) 0) (push-row FINISH 0 (with-events (record { count = m .events .count; numbers = put-start k kind (m .events .numbers) }) m)) m
+    cond (eqb (m .refusal) 0) (push-row FINISH-NODE 0 (with-events (record { count = m .events .count; numbers = put-start k kind (m .events .numbers) }) m)) m
 
 -- the forward distance of the start at a place to the event at another
 abbrev pub put-link : ℕ → ℕ → List ℕ → List ℕ
-put-link at to l = cond (fits (length l) at 3 && leb at to) (sets l (at + 2) (low ((to - at) / 3) ∷ [])) l
+put-link from to l = cond (fits (length l) from EVENT-ROW && leb from to) (sets l (from + 2) (low ((to - from) / EVENT-ROW) ∷ [])) l
 
 -- links the completed node forward to a placeholder, which is pushed
 unfoldable pub precede : Marker → Machine → Machine
@@ -164,7 +141,7 @@ precede k m =
 unfoldable pub bump-first : List Token → Machine → Machine
 unfolding push
 bump-first [] m = m
-bump-first (t ∷ ts) m = push TOKEN 0 (took t m)
+bump-first (t ∷ ts) m = push ADD-TOKEN 0 (took t m)
 
 unfoldable pub bump : List Token → Machine → Machine
 unfolding peek bump-first
@@ -178,7 +155,7 @@ name-run ks (t ∷ ts) m = let r = name-run ks ts (took t m) in cond (one-of ks 
 unfoldable pub name-first : List ℕ → List Token → Machine → Machine
 unfolding push name-run
 name-first ks [] m = m
-name-first ks (t ∷ ts) m = let r = name-run ks ts (took t m) in push NAME (low (r .cursor - m .cursor)) r
+name-first ks (t ∷ ts) m = let r = name-run ks ts (took t m) in push ADD-COMBINED-TOKEN (low (r .cursor - m .cursor)) r
 
 unfoldable pub bump-name : List ℕ → List Token → Machine → Machine
 unfolding peek name-first
@@ -189,9 +166,9 @@ bump-name ks ts m = let p = peek ts m in name-first ks (rest ts p) p
 -- `current_token_error_range`, after a peek
 unfoldable pub error-range : List Token → Machine → Span
 unfolding range-at only-separators
-error-range [] m = record { from = m .at - 1; to = m .at }
+error-range [] m = record { from = m .byte - 1; to = m .byte }
 error-range (t ∷ ts) m =
-    cond (only-separators (m .pending)) (record { from = m .mark-at; to = low (m .mark-at + 1) }) (range-at (t ∷ ts) m)
+    cond (only-separators (m .pending)) (record { from = m .mark-byte; to = low (m .mark-byte + 1) }) (range-at (t ∷ ts) m)
 
 -- a report's row: message, range, mark, first pool place, pool count, hint, label
 abbrev pub report-row : ℕ → ℕ → Span → Span → ℕ → ℕ → ℕ → List ℕ
@@ -205,12 +182,12 @@ write-report message hint range lab m =
     let codes = pool-of message (m .pending) in
     let n = length codes in
     cond (eqb (m .refusal) 0)
-    (cond (fits (length (m .reports .numbers)) (m .reports .count) 9 && fits (length (m .pool .numbers)) (m .pool .count) n)
+    (cond (fits (length (m .reports .numbers)) (m .reports .count) REPORT-ROW && fits (length (m .pool .numbers)) (m .pool .count) n)
     (with-reports
-    (record { count = m .reports .count + 9; numbers = sets (m .reports .numbers) (m .reports .count) (report-row message hint range lab (m .mark) (m .pool .count) n) })
+    (record { count = m .reports .count + REPORT-ROW; numbers = sets (m .reports .numbers) (m .reports .count) (report-row message hint range lab (m .mark) (m .pool .count) n) })
     (record { count = m .pool .count + n; numbers = sets (m .pool .numbers) (m .pool .count) codes })
     m)
-    (refuse 7 m))
+    (refuse NO-REPORT-ROOM m))
     m
 
 -- `emit`: the event, then the row

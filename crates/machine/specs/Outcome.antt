@@ -5,13 +5,14 @@ use mathlib.Core.Path.{_≡_}
 use mathlib.Core.Bool.{false}
 use mathlib.Core.List.{List, [], _∷_, _++_}
 use lib.ListN.{length, drop}
-use Rattle.definitions.specs.Token.{Token, tokens, bytes}
+use Rattle.definitions.specs.Layout.{EVENT-ROW, REPORT-ROW, MOST-OPEN-CALLS}
+use Rattle.definitions.specs.Token.{Token, tokens-of, bytes}
 use Rattle.definitions.specs.Skeleton.{Skeleton}
 use Rattle.definitions.specs.Event.{events}
 use Rattle.definitions.specs.Refusal.{Refusal, number-of, place-of, accepted, check-input}
 use Rattle.definitions.specs.Report.{Room, Fit, fits, stops, scan, pushes, reports, report-rows, pool}
 use Rattle.definitions.specs.Grammar.{Entry, whole}
-use Rattle.definitions.specs.Call.{EVENT-ROW, REPORT-ROW, forward-mark, run-entry}
+use Rattle.definitions.specs.Call.{forward-mark, run-entry}
 use Rattle.machine.specs.Machine.{Buffer, Machine}
 use Rattle.machine.specs.Walk.{unlabelled, walk-prog}
 use Rattle.machine.specs.Encode.{encode}
@@ -39,7 +40,7 @@ unwritten l = record { count = 0; numbers = l }
 -- nothing taken, nothing pending, nothing written, nothing refused
 abbrev pub fresh : List ℕ → List ℕ → List ℕ → Machine
 fresh ev rp pl =
-    record { cursor = 0; at = 0; mark = 0; mark-at = 0; pending = []; events = unwritten ev; reports = unwritten rp; pool = unwritten pl; refusal = 0; place = 0 }
+    record { cursor = 0; byte = 0; mark = 0; mark-byte = 0; pending = []; events = unwritten ev; reports = unwritten rp; pool = unwritten pl; refusal = 0; place = 0 }
 
 -- the room of the three buffers, as `room-of` counts it
 abbrev pub room-in : List ℕ → List ℕ → List ℕ → Room
@@ -80,4 +81,4 @@ Ends ts o ev rp pl (stops r) m = Refused ts r m
 abbrev pub Machine-ends : Type 0
 Machine-ends =
     (e : Entry) (bs tk ev rp pl : List ℕ) → check-input bs tk ≡ accepted
-    → Ends (tokens tk) (run-entry e (tokens tk)) ev rp pl (scan (pushes (run-entry e (tokens tk))) (room-in ev rp pl)) (walk-prog 64 (tokens tk) unlabelled (whole e) (fresh ev rp pl) .on)
+    → Ends (tokens-of tk) (run-entry e (tokens-of tk)) ev rp pl (scan (pushes (run-entry e (tokens-of tk))) (room-in ev rp pl)) (walk-prog MOST-OPEN-CALLS (tokens-of tk) unlabelled (whole e) (fresh ev rp pl) .on)

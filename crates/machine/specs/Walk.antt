@@ -4,14 +4,15 @@ use mathlib.Core.Bool.{Bool, true, false, cond, _&&_}
 use mathlib.Core.List.{List, [], _∷_}
 use lib.Dec.{ltb, eqb}
 use lib.ListN.{length}
+use Rattle.definitions.specs.Layout.{PLACEHOLDER, START-NODE, LINKED-START-NODE, TOO-DEEP}
 use Rattle.definitions.specs.TokenKind as K
 use Rattle.definitions.specs.Errors as E
 use Rattle.definitions.specs.Token.{Token, past, ended, first-in}
 use Rattle.definitions.specs.Skeleton.{Span}
-use Rattle.definitions.specs.Prog.{Ans, no, yes, also, again, Rule, Act, silent-at, at-end, immediate, immediate-next, add-expected, bump, bump-name, bump-argument, emit, emit-unclosed, less, Prog, ret, act, _⨟_, case, mark, loop, chain, brace, call}
+use Rattle.definitions.specs.Prog.{Ans, no, yes, also, again, Rule, Act, silent-at, at-end, immediate, immediate-next, add-expected, bump, bump-name, bump-argument, emit, emit-unclosed, less, Prog, ret, act, _⨟_, case, in-marker, loop, chain, brace, open-call}
 use Rattle.definitions.specs.Grammar.{grammar}
 use Rattle.definitions.specs.Run.{truth, is-again, by-shape}
-use Rattle.machine.specs.Machine.{Machine, Marker, Buffer, rest, peek, range-at, refuse, expect-code, push, complete, precede, PLACEHOLDER, START, LINKED}
+use Rattle.machine.specs.Machine.{Machine, Marker, Buffer, rest, peek, range-at, refuse, expect-code, push, complete, precede}
 use Rattle.machine.specs.Machine as M
 
 -- what a walk answers, the shape of the marker around it, and the machine after it
@@ -108,7 +109,7 @@ links ts zero f k m = said again (push PLACEHOLDER 0 m)
 links ts (suc n) f k m =
     let w = f m in
     let x = link k (w .shape) (w .on) in
-    let more = links ts n f (marker LINKED (complete k (w .shape) (w .on))) x in
+    let more = links ts n f (marker LINKED-START-NODE (complete k (w .shape) (w .on))) x in
     let last = said (w .ans) (push PLACEHOLDER 0 x) in
     let on = cond (goes-on ts m w) more last in
     let off = said (w .ans) (push PLACEHOLDER 0 (w .on)) in
@@ -127,16 +128,16 @@ walk ask ts b (ret k a) m = record { ans = a; shape = k; on = m }
 walk ask ts b (act a) m = perform ts b a m
 walk ask ts b (p ⨟ q) m = walk ask ts b q (walk ask ts b p m .on)
 walk ask ts b (case c n y a) m = let w = walk ask ts b c m in choose (w .ans) (walk ask ts b n) (walk ask ts b y) (walk ask ts b a) (w .on)
-walk ask ts b (mark p) m = closed (marker START m) (walk ask ts b p (push PLACEHOLDER 0 m))
+walk ask ts b (in-marker p) m = closed (marker START-NODE m) (walk ask ts b p (push PLACEHOLDER 0 m))
 walk ask ts b (loop p) m = iter ts (suc (length (rest ts m))) (walk ask ts b p) m
-walk ask ts b (chain p q) m = chained ts (walk ask ts b q) (marker START m) (walk ask ts b p (push PLACEHOLDER 0 m))
+walk ask ts b (chain p q) m = chained ts (walk ask ts b q) (marker START-NODE m) (walk ask ts b p (push PLACEHOLDER 0 m))
 walk ask ts b (brace p) m = walk ask ts (range-at (rest ts m) m) p m
-walk ask ts b (call r) m = ask r m
+walk ask ts b (open-call r) m = ask r m
 
 -- a rule, with so many more open calls allowed
 unfoldable pub walk-rule : ℕ → List Token → Rule → Machine → Walked
 unfolding walk grammar refuse
-walk-rule zero ts r m = said no (refuse 5 m)
+walk-rule zero ts r m = said no (refuse TOO-DEEP m)
 walk-rule (suc n) ts r m = walk (walk-rule n ts) ts unlabelled (grammar r) m
 
 -- a program, with so many more open calls allowed

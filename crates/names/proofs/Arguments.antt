@@ -16,8 +16,8 @@ use Rattle.machine.specs.Machine.{Machine, rest, peek, bump}
 use Rattle.machine.specs.Walk.{Walked, said, perform}
 use Rattle.machine.proofs.Turns.{Few, argue, argue-part}
 use Rattle.machine.proofs.Turns as T
-use Rattle.rows.specs.Tokens.{kind-of}
-use Rattle.rows.proofs.Kit.{one-of-one}
+use Rattle.token_rows.specs.Tokens.{kind-of}
+use Rattle.token_rows.proofs.Kit.{one-of-one}
 use Rattle.names.specs.declared.macros.Part.{Part}
 use Rattle.names.specs.declared.macros.Part.the-variants.{Comma, End, Inside}
 use Rattle.names.specs.Parts.{within, one-less, part}

@@ -6,7 +6,7 @@ use mathlib.Core.List.{List}
 use native.Mathlib.Omega.{arith}
 use lib.ListN.{length, drop, length-drop}
 use borrow.Author.Tests.{ltb-true, ltb-false, leb-true, leb-false, eqb-true}
-use Rattle.definitions.specs.Token.{tokens}
+use Rattle.definitions.specs.Token.{tokens-of}
 use Rattle.machine.proofs.Turns.{rows-length}
 use Rattle.parser.specs.View.{left}
 use Rattle.parser.specs.declared.State.{State}
@@ -17,9 +17,9 @@ pub false-true : {A : Type 0} → false ≡ true → A
 false-true e = let z : _≡_ {A = ℕ} 0 1 = ap (λ (b : Bool). cond b 1 0) e in absurd (omega (arith, z))
 
 -- fewer tokens left as the code counts them are fewer as the machine does
-pub ahead-falls : (tk : List ℕ) (s s′ : State) → left tk s′ < left tk s → length (drop (s′ .cursor .0) (tokens tk)) < length (drop (s .cursor .0) (tokens tk))
+pub ahead-falls : (tk : List ℕ) (s s′ : State) → left tk s′ < left tk s → length (drop (s′ .cursor .0) (tokens-of tk)) < length (drop (s .cursor .0) (tokens-of tk))
 unfolding left
-ahead-falls tk s s′ h = omega (arith, length-drop (s .cursor .0) (tokens tk), length-drop (s′ .cursor .0) (tokens tk), rows-length tk, h)
+ahead-falls tk s s′ h = omega (arith, length-drop (s .cursor .0) (tokens-of tk), length-drop (s′ .cursor .0) (tokens-of tk), rows-length tk, h)
 
 -- a row at the cursor
 pub some-left : (tk : List ℕ) (s : State) → s .cursor .0 < length tk / 2 → 0 < left tk s

@@ -3,8 +3,8 @@ use mathlib.Core.Path.{_≡_, refl}
 use mathlib.Core.List.{[], _∷_}
 use Rattle.definitions.specs.TokenKind as K
 use Rattle.definitions.specs.NodeKind as N
-use Rattle.definitions.specs.Prog.{no, yes, again, silent-at, immediate, bump-argument, bump-name, Prog, ret, act, _⨟_, mark, loop}
-use Rattle.definitions.specs.Check.{tell, if_then_else_, _and_, not!, while_run_, node, end?, bump!, expected, error!, error-wrap!, Matcher, set, kind, NAME-SET, Name, LabelName, silent, at, silent-eat, eat, assert-eat, expect}
+use Rattle.definitions.specs.Prog.{no, yes, again, silent-at, immediate, bump-argument, bump-name, Prog, ret, act, _⨟_, in-marker, loop}
+use Rattle.definitions.specs.Check.{tell, if_then_else_, _and_, not!, while_run_, in-node, end?, bump!, expected, error!, error-wrap!, Matcher, set, of-kind, NAME-SET, Name, LabelName, silent, at, silent-eat, eat, assert-eat, expect}
 use Rattle.definitions.specs.Grammar.{CONTINUE-COND-SET, macro-argument-turn, macro-invocation, silent-at-macro-invocation-with-args, MacroSubstitutableName, UnitAddress, path-segment, path-turn, path-rest, reference-noamp, Reference}
 use Rattle.names.specs.Parts.{argument-list, at-segment, path}
 
@@ -24,15 +24,15 @@ expect-is m = refl
 
 -- ---------------------------------------------------------------- macro invocations
 
-pub macro-argument-turn-is : macro-argument-turn ≡ if mark (if act bump-argument then ret N.MacroArgument yes else ret N.MacroArgument no) then bump! ⨟ tell again else tell yes
+pub macro-argument-turn-is : macro-argument-turn ≡ if in-marker (if act bump-argument then ret N.MacroArgument yes else ret N.MacroArgument no) then bump! ⨟ tell again else tell yes
 unfolding macro-argument-turn
 macro-argument-turn-is = refl
 
-pub argument-list-is : argument-list ≡ bump! ⨟ (if not! (at (kind K.RParen)) then loop macro-argument-turn else tell yes) ⨟ expect (kind K.RParen)
+pub argument-list-is : argument-list ≡ bump! ⨟ (if not! (at (of-kind K.RParen)) then loop macro-argument-turn else tell yes) ⨟ expect (of-kind K.RParen)
 unfolding argument-list
 argument-list-is = refl
 
-pub macro-invocation-is : macro-invocation ≡ node N.MacroInvocation (assert-eat K.Ident ⨟ if expected K.LParen ⨟ act (immediate K.LParen) then argument-list else tell yes)
+pub macro-invocation-is : macro-invocation ≡ in-node N.MacroInvocation (assert-eat K.Ident ⨟ if expected K.LParen ⨟ act (immediate K.LParen) then argument-list else tell yes)
 unfolding macro-invocation argument-list
 macro-invocation-is = refl
 
@@ -62,7 +62,7 @@ pub address-expected-is : UnitAddress .push-expected ≡ expected K.AtSign
 unfolding UnitAddress
 address-expected-is = refl
 
-pub address-consume-is : UnitAddress .consume ≡ node N.UnitAddress (bump! ⨟ expect MacroSubstitutableName)
+pub address-consume-is : UnitAddress .consume ≡ in-node N.UnitAddress (bump! ⨟ expect MacroSubstitutableName)
 unfolding UnitAddress
 address-consume-is = refl
 
@@ -74,7 +74,7 @@ pub reference-expected-is : Reference .push-expected ≡ expected K.Ampersand
 unfolding Reference
 reference-expected-is = refl
 
-pub reference-consume-is : Reference .consume ≡ node N.DtPhandle (bump! ⨟ reference-noamp)
+pub reference-consume-is : Reference .consume ≡ in-node N.DtPhandle (bump! ⨟ reference-noamp)
 unfolding Reference
 reference-consume-is = refl
 
@@ -85,25 +85,25 @@ unfolding path-segment
 path-segment-is = refl
 
 pub at-segment-is : at-segment
-    ≡ not! (at (kind K.RCurly)) and not! end? and not! (act (silent-at CONTINUE-COND-SET)) and not! (act (silent-at (K.EndifDirective ∷ [])))
+    ≡ not! (at (of-kind K.RCurly)) and not! end? and not! (act (silent-at CONTINUE-COND-SET)) and not! (act (silent-at (K.EndifDirective ∷ [])))
 unfolding at-segment silent
 at-segment-is = refl
 
-pub path-turn-is : path-turn ≡ while at-segment run (expect (kind K.Slash) ⨟ path-segment)
+pub path-turn-is : path-turn ≡ while at-segment run (expect (of-kind K.Slash) ⨟ path-segment)
 unfolding path-turn at-segment
 path-turn-is = refl
 
-pub path-rest-is : path-rest ≡ loop path-turn ⨟ expect (kind K.RCurly)
+pub path-rest-is : path-rest ≡ loop path-turn ⨟ expect (of-kind K.RCurly)
 unfolding path-rest
 path-rest-is = refl
 
-pub path-is : path ≡ if eat (kind K.Slash) then
-    (if eat (kind K.RCurly) then tell yes else path-segment ⨟ path-rest)
+pub path-is : path ≡ if eat (of-kind K.Slash) then
+    (if eat (of-kind K.RCurly) then tell yes else path-segment ⨟ path-rest)
     else (if eat Name then tell yes else error-wrap!) ⨟ path-rest
 unfolding path
 path-is = refl
 
-pub reference-noamp-is : reference-noamp ≡ if eat (kind K.LCurly) then path
+pub reference-noamp-is : reference-noamp ≡ if eat (of-kind K.LCurly) then path
     else if silent-at-macro-invocation-with-args then macro-invocation
     else if eat LabelName then tell yes
     else error-wrap!

@@ -5,12 +5,13 @@ use mathlib.Core.Path.{_≡_, refl, sym, ap, _∙_}
 use mathlib.Core.Bool.{Bool}
 use mathlib.Core.List.{List}
 use native.Mathlib.Omega.{arith}
+use Rattle.definitions.specs.Layout.{START-NODE, PLACEHOLDER}
 use Rattle.definitions.specs.Token.{Token}
 use Rattle.definitions.specs.Skeleton.{Span}
 use Rattle.definitions.specs.Errors as E
-use Rattle.definitions.specs.Prog.{Ans, no, yes, also, again, Rule, Act, emit-unclosed, Prog, ret, act, _⨟_, case, mark, loop, call}
+use Rattle.definitions.specs.Prog.{Ans, no, yes, also, again, Rule, Act, emit-unclosed, Prog, ret, act, _⨟_, case, in-marker, loop, open-call}
 use Rattle.definitions.specs.Run.{truth, is-again}
-use Rattle.machine.specs.Machine.{Machine, Marker, START, PLACEHOLDER, push, complete, emit}
+use Rattle.machine.specs.Machine.{Machine, Marker, push, complete, emit}
 use Rattle.machine.specs.Walk.{Walked, said, perform, choose, marker, close, closed, walk}
 use Rattle.machine.proofs.Turns.{ahead, turn-again, turn-last}
 use Rattle.machine.proofs.Way.{Way, Closes}
@@ -46,7 +47,7 @@ module _ {ask : Rule → Machine → Walked} {ts : List Token} {b : Span} where
   pub lands : {p : Prog} {m x : Machine} → x ≡ walk ask ts b p m .on → Way ask ts b p m (record { ans = walk ask ts b p m .ans; shape = walk ask ts b p m .shape; on = x })
   lands {p = p} {m = m} e = record { is = ap (λ (x : Machine). record { ans = walk ask ts b p m .ans; shape = walk ask ts b p m .shape; on = x }) e }
 
-  pub calls : {r : Rule} {m : Machine} {w : Walked} → w ≡ ask r m → Way ask ts b (call r) m w
+  pub calls : {r : Rule} {m : Machine} {w : Walked} → w ≡ ask r m → Way ask ts b (open-call r) m w
   unfolding walk
   calls e = record { is = e }
 
@@ -77,24 +78,24 @@ module _ {ask : Rule → Machine → Walked} {ts : List Token} {b : Span} where
 
   -- ---------------------------------------------------------------- markers: k, the marker; s, after its start; r, after its end
 
-  pub completes : {p : Prog} {m s x r : Machine} {k : Marker} {kind : ℕ} {a : Ans} → 0 < kind → k ≡ marker START m → s ≡ push PLACEHOLDER 0 m
-      → Way ask ts b p s (record { ans = a; shape = kind; on = x }) → r ≡ complete k kind x → Way ask ts b (mark p) m (said a r)
+  pub completes : {p : Prog} {m s x r : Machine} {k : Marker} {kind : ℕ} {a : Ans} → 0 < kind → k ≡ marker START-NODE m → s ≡ push PLACEHOLDER 0 m
+      → Way ask ts b p s (record { ans = a; shape = kind; on = x }) → r ≡ complete k kind x → Way ask ts b (in-marker p) m (said a r)
   unfolding walk closed close
   completes {kind = zero} h e f g i = absurd (omega (arith, h))
   completes {p = p} {m = m} {x = x} {kind = suc n} {a = a} h e f g i =
       record {
         is =
-            ap (said a) (i ∙ ap (λ (z : Marker). complete z (suc n) x) e) ∙ ap (closed (marker START m)) (g .is)
-            ∙ ap (λ (y : Machine). closed (marker START m) (walk ask ts b p y)) f;
+            ap (said a) (i ∙ ap (λ (z : Marker). complete z (suc n) x) e) ∙ ap (closed (marker START-NODE m)) (g .is)
+            ∙ ap (λ (y : Machine). closed (marker START-NODE m) (walk ask ts b p y)) f;
       }
 
-  pub ignores : {p : Prog} {m s x r : Machine} {a : Ans} → s ≡ push PLACEHOLDER 0 m → Way ask ts b p s (said a x) → r ≡ push PLACEHOLDER 0 x → Way ask ts b (mark p) m (said a r)
+  pub ignores : {p : Prog} {m s x r : Machine} {a : Ans} → s ≡ push PLACEHOLDER 0 m → Way ask ts b p s (said a x) → r ≡ push PLACEHOLDER 0 x → Way ask ts b (in-marker p) m (said a r)
   unfolding walk closed close
   ignores {p = p} {m = m} {a = a} f g i =
       record {
         is =
-            ap (said a) i ∙ ap (closed (marker START m)) (g .is)
-            ∙ ap (λ (y : Machine). closed (marker START m) (walk ask ts b p y)) f;
+            ap (said a) i ∙ ap (closed (marker START-NODE m)) (g .is)
+            ∙ ap (λ (y : Machine). closed (marker START-NODE m) (walk ask ts b p y)) f;
       }
 
   -- ---------------------------------------------------------------- loops

@@ -6,7 +6,7 @@ use mathlib.Core.List.{List, [], _∷_}
 use lib.Dec.{eqb}
 use Rattle.definitions.specs.TokenKind as K
 use Rattle.definitions.specs.Prog.{yes, silent-at, Prog, _⨟_, loop}
-use Rattle.definitions.specs.Check.{tell, if_then_else_, _and_, not!, end?, bump!, error-wrap!, set, kind, Name, silent, at, eat, expect}
+use Rattle.definitions.specs.Check.{tell, if_then_else_, _and_, not!, end?, bump!, error-wrap!, set, of-kind, Name, silent, at, eat, expect}
 use Rattle.definitions.specs.Grammar.{CONTINUE-COND-SET, macro-argument-turn, path-segment, path-rest}
 use Rattle.names.specs.declared.macros.Part.{Part}
 use Rattle.names.specs.declared.macros.Part.the-variants.{Comma, End, Inside}
@@ -18,20 +18,20 @@ unfoldable pub argument-list : Prog
 unfolding at expect macro-argument-turn
 argument-list =
     bump!
-    ⨟ (if not! (at (kind K.RParen)) then loop macro-argument-turn else tell yes)
-    ⨟ expect (kind K.RParen)
+    ⨟ (if not! (at (of-kind K.RParen)) then loop macro-argument-turn else tell yes)
+    ⨟ expect (of-kind K.RParen)
 
 -- whether a path goes on: the test of `path-turn`
 unfoldable pub at-segment : Prog
 unfolding at silent
-at-segment = not! (at (kind K.RCurly)) and not! end? and not! (silent (set CONTINUE-COND-SET)) and not! (silent (kind K.EndifDirective))
+at-segment = not! (at (of-kind K.RCurly)) and not! end? and not! (silent (set CONTINUE-COND-SET)) and not! (silent (of-kind K.EndifDirective))
 
 -- `reference_noamp`: after the LCurly
 unfoldable pub path : Prog
 unfolding eat path-segment path-rest
 path =
-    if eat (kind K.Slash) then
-    (if eat (kind K.RCurly) then tell yes else path-segment ⨟ path-rest)
+    if eat (of-kind K.Slash) then
+    (if eat (of-kind K.RCurly) then tell yes else path-segment ⨟ path-rest)
     else (if eat Name then tell yes else error-wrap!) ⨟ path-rest
 
 -- ---------------------------------------------------------------- what a token is to a macro argument

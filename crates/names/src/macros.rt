@@ -5,14 +5,14 @@ use parser::State;
 use parser::marker::Marker;
 use parser::matcher::Matcher;
 use parser::node;
-use rows::token::END;
-use rows::token::kind_at;
+use token_rows::token::END;
+use token_rows::token::kind_at;
 ghost use mathlib.Core.Path.{_≡_};
 ghost use mathlib.Core.Bool.{true, false};
 ghost use mathlib.Core.List.{List};
 ghost use Prim.Native.Nat.{ℕ, _-_, _≤_, _<_};
 ghost use lib.Dec.{eqb};
-ghost use Rattle.definitions.specs.Token.{tokens};
+ghost use Rattle.definitions.specs.Token.{tokens-of};
 ghost use Rattle.definitions.specs.Skeleton.{Span};
 ghost use Rattle.definitions.specs.Prog.{Rule, yes, bump-argument, loop};
 ghost use Rattle.definitions.specs.Grammar.{macro-argument-turn, macro-invocation};
@@ -71,7 +71,7 @@ fn part_of(k: u8, level: usize) -> Part
 
 // One argument: every token up to a comma (yes), an RParen or the end (no) outside inner brackets.
 fn bump_argument(s: State, t: &[u32], ev: &mut [u32]) -> Seen
-    ensures { λ r. ⌜ ((b : Span) (codes rep pool : List ℕ) → seen-as r codes (now (ev .exit)) rep pool ≡ perform (tokens (now (t .entry))) b bump-argument (view s codes (now (ev .entry)) rep pool)) ⌝ }
+    ensures { λ r. ⌜ ((b : Span) (codes rep pool : List ℕ) → seen-as r codes (now (ev .exit)) rep pool ≡ perform (tokens-of (now (t .entry))) b bump-argument (view s codes (now (ev .entry)) rep pool)) ⌝ }
     ensures { λ r. ⌜ left (now (t .entry)) (r .s) ≤ left (now (t .entry)) s ⌝ }
     ensures { λ r. ⌜ (r .yes ≡ true → 0 < left (now (t .entry)) (r .s)) ⌝ }
 {
@@ -100,7 +100,7 @@ fn bump_argument(s: State, t: &[u32], ev: &mut [u32]) -> Seen
 
 // Arguments, each a MacroArgument, with commas between.
 fn arguments(s: State, t: &[u32], ev: &mut [u32]) -> State
-    ensures { λ r. ⌜ ((ask : Rule → Machine → Walked) (b : Span) (codes rep pool : List ℕ) → said yes (view r codes (now (ev .exit)) rep pool) ≡ walk ask (tokens (now (t .entry))) b (loop macro-argument-turn) (view s codes (now (ev .entry)) rep pool)) ⌝ }
+    ensures { λ r. ⌜ ((ask : Rule → Machine → Walked) (b : Span) (codes rep pool : List ℕ) → said yes (view r codes (now (ev .exit)) rep pool) ≡ walk ask (tokens-of (now (t .entry))) b (loop macro-argument-turn) (view s codes (now (ev .entry)) rep pool)) ⌝ }
     ensures { λ r. ⌜ left (now (t .entry)) r ≤ left (now (t .entry)) s ⌝ }
 {
     let mut q = s;
@@ -126,7 +126,7 @@ fn argument_list(
     rep: &mut [u32],
     pool: &mut [u32],
 ) -> State
-    ensures { λ r. ⌜ ((ask : Rule → Machine → Walked) (b : Span) → view r (now (codes .exit)) (now (ev .exit)) (now (rep .exit)) (now (pool .exit)) ≡ walk ask (tokens (now (t .entry))) b argument-list (view s (now (codes .entry)) (now (ev .entry)) (now (rep .entry)) (now (pool .entry))) .on) ⌝ }
+    ensures { λ r. ⌜ ((ask : Rule → Machine → Walked) (b : Span) → view r (now (codes .exit)) (now (ev .exit)) (now (rep .exit)) (now (pool .exit)) ≡ walk ask (tokens-of (now (t .entry))) b argument-list (view s (now (codes .entry)) (now (ev .entry)) (now (rep .entry)) (now (pool .entry))) .on) ⌝ }
     ensures { λ r. ⌜ left (now (t .entry)) r ≤ left (now (t .entry)) s - 1 ⌝ }
 {
     let opened = s.bump(t, ev);
@@ -151,7 +151,7 @@ pub fn macro_invocation(
     rep: &mut [u32],
     pool: &mut [u32],
 ) -> State
-    ensures { λ r. ⌜ ((ask : Rule → Machine → Walked) (b : Span) → said yes (view r (now (codes .exit)) (now (ev .exit)) (now (rep .exit)) (now (pool .exit))) ≡ walk ask (tokens (now (t .entry))) b macro-invocation (view s (now (codes .entry)) (now (ev .entry)) (now (rep .entry)) (now (pool .entry)))) ⌝ }
+    ensures { λ r. ⌜ ((ask : Rule → Machine → Walked) (b : Span) → said yes (view r (now (codes .exit)) (now (ev .exit)) (now (rep .exit)) (now (pool .exit))) ≡ walk ask (tokens-of (now (t .entry))) b macro-invocation (view s (now (codes .entry)) (now (ev .entry)) (now (rep .entry)) (now (pool .entry)))) ⌝ }
     ensures { λ r. ⌜ left (now (t .entry)) r ≤ left (now (t .entry)) s - 1 ⌝ }
 {
     let m = Marker::new(s);

@@ -16,7 +16,7 @@ ghost use mathlib.Core.Path.{_≡_};
 ghost use mathlib.Core.Bool.{true};
 ghost use mathlib.Core.List.{List};
 ghost use Prim.Native.Nat.{ℕ, _-_, _≤_, _<_};
-ghost use Rattle.definitions.specs.Token.{tokens};
+ghost use Rattle.definitions.specs.Token.{tokens-of};
 ghost use Rattle.definitions.specs.Skeleton.{Span};
 ghost use Rattle.definitions.specs.Prog.{Rule, yes, loop};
 ghost use Rattle.definitions.specs.Check.{silent-eat as silent-eat-prog, eat as eat-prog};
@@ -34,7 +34,7 @@ fn path_segment(
     rep: &mut [u32],
     pool: &mut [u32],
 ) -> State
-    ensures { λ r. ⌜ ((ask : Rule → Machine → Walked) (b : Span) → view r (now (codes .exit)) (now (ev .exit)) (now (rep .exit)) (now (pool .exit)) ≡ walk ask (tokens (now (t .entry))) b path-segment (view s (now (codes .entry)) (now (ev .entry)) (now (rep .entry)) (now (pool .entry))) .on) ⌝ }
+    ensures { λ r. ⌜ ((ask : Rule → Machine → Walked) (b : Span) → view r (now (codes .exit)) (now (ev .exit)) (now (rep .exit)) (now (pool .exit)) ≡ walk ask (tokens-of (now (t .entry))) b path-segment (view s (now (codes .entry)) (now (ev .entry)) (now (rep .entry)) (now (pool .entry))) .on) ⌝ }
     ensures { λ r. ⌜ left (now (t .entry)) r ≤ left (now (t .entry)) s - 1 ⌝ }
 {
     let name = s.eat(codes, t, ev, Matcher::Name);
@@ -48,7 +48,7 @@ fn path_segment(
 
 // Whether a path goes on here.
 fn at_segment(s: State, codes: &mut [u8; 256], t: &[u32]) -> Seen
-    ensures { λ r. ⌜ ((ask : Rule → Machine → Walked) (b : Span) (ev rep pool : List ℕ) → seen-as r (now (codes .exit)) ev rep pool ≡ walk ask (tokens (now (t .entry))) b at-segment (view s (now (codes .entry)) ev rep pool)) ⌝ }
+    ensures { λ r. ⌜ ((ask : Rule → Machine → Walked) (b : Span) (ev rep pool : List ℕ) → seen-as r (now (codes .exit)) ev rep pool ≡ walk ask (tokens-of (now (t .entry))) b at-segment (view s (now (codes .entry)) ev rep pool)) ⌝ }
     ensures { λ r. ⌜ left (now (t .entry)) (r .s) ≤ left (now (t .entry)) s ⌝ }
     ensures { λ r. ⌜ (r .yes ≡ true → 0 < left (now (t .entry)) s) ⌝ }
 {
@@ -85,7 +85,7 @@ fn path_segments(
     rep: &mut [u32],
     pool: &mut [u32],
 ) -> State
-    ensures { λ r. ⌜ ((ask : Rule → Machine → Walked) (b : Span) → said yes (view r (now (codes .exit)) (now (ev .exit)) (now (rep .exit)) (now (pool .exit))) ≡ walk ask (tokens (now (t .entry))) b (loop path-turn) (view s (now (codes .entry)) (now (ev .entry)) (now (rep .entry)) (now (pool .entry)))) ⌝ }
+    ensures { λ r. ⌜ ((ask : Rule → Machine → Walked) (b : Span) → said yes (view r (now (codes .exit)) (now (ev .exit)) (now (rep .exit)) (now (pool .exit))) ≡ walk ask (tokens-of (now (t .entry))) b (loop path-turn) (view s (now (codes .entry)) (now (ev .entry)) (now (rep .entry)) (now (pool .entry)))) ⌝ }
     ensures { λ r. ⌜ left (now (t .entry)) r ≤ left (now (t .entry)) s ⌝ }
 {
     let mut q = s;
@@ -109,7 +109,7 @@ fn path_rest(
     rep: &mut [u32],
     pool: &mut [u32],
 ) -> State
-    ensures { λ r. ⌜ ((ask : Rule → Machine → Walked) (b : Span) → view r (now (codes .exit)) (now (ev .exit)) (now (rep .exit)) (now (pool .exit)) ≡ walk ask (tokens (now (t .entry))) b path-rest (view s (now (codes .entry)) (now (ev .entry)) (now (rep .entry)) (now (pool .entry))) .on) ⌝ }
+    ensures { λ r. ⌜ ((ask : Rule → Machine → Walked) (b : Span) → view r (now (codes .exit)) (now (ev .exit)) (now (rep .exit)) (now (pool .exit)) ≡ walk ask (tokens-of (now (t .entry))) b path-rest (view s (now (codes .entry)) (now (ev .entry)) (now (rep .entry)) (now (pool .entry))) .on) ⌝ }
     ensures { λ r. ⌜ left (now (t .entry)) r ≤ left (now (t .entry)) s ⌝ }
 {
     let segments = path_segments(s, codes, t, ev, rep, pool);
@@ -126,7 +126,7 @@ fn path(
     rep: &mut [u32],
     pool: &mut [u32],
 ) -> State
-    ensures { λ r. ⌜ ((ask : Rule → Machine → Walked) (b : Span) → view r (now (codes .exit)) (now (ev .exit)) (now (rep .exit)) (now (pool .exit)) ≡ walk ask (tokens (now (t .entry))) b path (view s (now (codes .entry)) (now (ev .entry)) (now (rep .entry)) (now (pool .entry))) .on) ⌝ }
+    ensures { λ r. ⌜ ((ask : Rule → Machine → Walked) (b : Span) → view r (now (codes .exit)) (now (ev .exit)) (now (rep .exit)) (now (pool .exit)) ≡ walk ask (tokens-of (now (t .entry))) b path (view s (now (codes .entry)) (now (ev .entry)) (now (rep .entry)) (now (pool .entry))) .on) ⌝ }
     ensures { λ r. ⌜ left (now (t .entry)) r ≤ left (now (t .entry)) s ⌝ }
 {
     let absolute = s.eat(codes, t, ev, Matcher::Kind(kind::SLASH));
@@ -154,7 +154,7 @@ pub fn reference_noamp(
     rep: &mut [u32],
     pool: &mut [u32],
 ) -> State
-    ensures { λ r. ⌜ ((ask : Rule → Machine → Walked) (b : Span) → view r (now (codes .exit)) (now (ev .exit)) (now (rep .exit)) (now (pool .exit)) ≡ walk ask (tokens (now (t .entry))) b reference-noamp (view s (now (codes .entry)) (now (ev .entry)) (now (rep .entry)) (now (pool .entry))) .on) ⌝ }
+    ensures { λ r. ⌜ ((ask : Rule → Machine → Walked) (b : Span) → view r (now (codes .exit)) (now (ev .exit)) (now (rep .exit)) (now (pool .exit)) ≡ walk ask (tokens-of (now (t .entry))) b reference-noamp (view s (now (codes .entry)) (now (ev .entry)) (now (rep .entry)) (now (pool .entry))) .on) ⌝ }
     ensures { λ r. ⌜ left (now (t .entry)) r ≤ left (now (t .entry)) s ⌝ }
 {
     let braced = s.eat(codes, t, ev, Matcher::Kind(kind::LCURLY));
@@ -180,7 +180,7 @@ fn consume(
     rep: &mut [u32],
     pool: &mut [u32],
 ) -> State
-    ensures { λ r. ⌜ ((ask : Rule → Machine → Walked) (b : Span) → said yes (view r (now (codes .exit)) (now (ev .exit)) (now (rep .exit)) (now (pool .exit))) ≡ walk ask (tokens (now (t .entry))) b (Reference .consume) (view s (now (codes .entry)) (now (ev .entry)) (now (rep .entry)) (now (pool .entry)))) ⌝ }
+    ensures { λ r. ⌜ ((ask : Rule → Machine → Walked) (b : Span) → said yes (view r (now (codes .exit)) (now (ev .exit)) (now (rep .exit)) (now (pool .exit))) ≡ walk ask (tokens-of (now (t .entry))) b (Reference .consume) (view s (now (codes .entry)) (now (ev .entry)) (now (rep .entry)) (now (pool .entry)))) ⌝ }
     ensures { λ r. ⌜ left (now (t .entry)) r ≤ left (now (t .entry)) s - 1 ⌝ }
 {
     let m = Marker::new(s);
@@ -199,7 +199,7 @@ pub fn silent_eat(
     rep: &mut [u32],
     pool: &mut [u32],
 ) -> Seen
-    ensures { λ r. ⌜ ((ask : Rule → Machine → Walked) (b : Span) → seen-as r (now (codes .exit)) (now (ev .exit)) (now (rep .exit)) (now (pool .exit)) ≡ walk ask (tokens (now (t .entry))) b (silent-eat-prog Reference) (view s (now (codes .entry)) (now (ev .entry)) (now (rep .entry)) (now (pool .entry)))) ⌝ }
+    ensures { λ r. ⌜ ((ask : Rule → Machine → Walked) (b : Span) → seen-as r (now (codes .exit)) (now (ev .exit)) (now (rep .exit)) (now (pool .exit)) ≡ walk ask (tokens-of (now (t .entry))) b (silent-eat-prog Reference) (view s (now (codes .entry)) (now (ev .entry)) (now (rep .entry)) (now (pool .entry)))) ⌝ }
     ensures { λ r. ⌜ left (now (t .entry)) (r .s) ≤ left (now (t .entry)) s ⌝ }
     ensures { λ r. ⌜ (r .yes ≡ true → left (now (t .entry)) (r .s) ≤ left (now (t .entry)) s - 1) ⌝ }
 {
@@ -220,7 +220,7 @@ pub fn eat(
     rep: &mut [u32],
     pool: &mut [u32],
 ) -> Seen
-    ensures { λ r. ⌜ ((ask : Rule → Machine → Walked) (b : Span) → seen-as r (now (codes .exit)) (now (ev .exit)) (now (rep .exit)) (now (pool .exit)) ≡ walk ask (tokens (now (t .entry))) b (eat-prog Reference) (view s (now (codes .entry)) (now (ev .entry)) (now (rep .entry)) (now (pool .entry)))) ⌝ }
+    ensures { λ r. ⌜ ((ask : Rule → Machine → Walked) (b : Span) → seen-as r (now (codes .exit)) (now (ev .exit)) (now (rep .exit)) (now (pool .exit)) ≡ walk ask (tokens-of (now (t .entry))) b (eat-prog Reference) (view s (now (codes .entry)) (now (ev .entry)) (now (rep .entry)) (now (pool .entry)))) ⌝ }
     ensures { λ r. ⌜ left (now (t .entry)) (r .s) ≤ left (now (t .entry)) s ⌝ }
     ensures { λ r. ⌜ (r .yes ≡ true → left (now (t .entry)) (r .s) ≤ left (now (t .entry)) s - 1) ⌝ }
 {

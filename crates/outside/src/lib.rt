@@ -20,7 +20,7 @@ use parser::node;
 ghost use mathlib.Core.Path.{_≡_};
 ghost use mathlib.Core.List.{List};
 ghost use Prim.Native.Nat.{ℕ, _-_, _≤_};
-ghost use Rattle.definitions.specs.Token.{tokens};
+ghost use Rattle.definitions.specs.Token.{tokens-of};
 ghost use Rattle.definitions.specs.Skeleton.{Span};
 ghost use Rattle.definitions.specs.Prog.{Rule, yes, loop};
 ghost use Rattle.definitions.specs.Run.{truth};
@@ -51,7 +51,7 @@ pub fn told(k: Tested) -> Told
 
 // `!allow_prop && check(..).silent().at()`
 pub fn forbidden_property(p: Parser, t: &[u32], allow_prop: bool) -> Tested
-    ensures { λ r. ⌜ ((ask : Rule → Machine → Walked) (b : Span) (ev rep pool : List ℕ) → tested-as r ev rep pool ≡ walk ask (tokens (now (t .entry))) b (forbidden-property «allow_prop») (view-of p ev rep pool)) ⌝ }
+    ensures { λ r. ⌜ ((ask : Rule → Machine → Walked) (b : Span) (ev rep pool : List ℕ) → tested-as r ev rep pool ≡ walk ask (tokens-of (now (t .entry))) b (forbidden-property «allow_prop») (view-of p ev rep pool)) ⌝ }
     ensures { λ r. ⌜ left (now (t .entry)) (r .p .s) ≤ left (now (t .entry)) (p .s) ⌝ }
 {
     if allow_prop {
@@ -71,7 +71,7 @@ pub fn node_end(
     m: Marker,
     lcurly_span: TextRange,
 ) -> Parser
-    ensures { λ r. ⌜ ((ask : Rule → Machine → Walked) → said yes (view-of r (now (ev .exit)) (now (rep .exit)) (now (pool .exit))) ≡ closed (marker-of m) (walk ask (tokens (now (t .entry))) (span-of «lcurly_span») node-end (view-of p (now (ev .entry)) (now (rep .entry)) (now (pool .entry))))) ⌝ }
+    ensures { λ r. ⌜ ((ask : Rule → Machine → Walked) → said yes (view-of r (now (ev .exit)) (now (rep .exit)) (now (pool .exit))) ≡ closed (marker-of m) (walk ask (tokens-of (now (t .entry))) (span-of «lcurly_span») node-end (view-of p (now (ev .entry)) (now (rep .entry)) (now (pool .entry))))) ⌝ }
     ensures { λ r. ⌜ left (now (t .entry)) (r .s) ≤ left (now (t .entry)) (p .s) ⌝ }
 {
     let end = p.at_end(t);
@@ -96,7 +96,7 @@ pub fn unmatched_rcurly(
     rep: &mut [u32],
     pool: &mut [u32],
 ) -> Parser
-    ensures { λ r. ⌜ ((ask : Rule → Machine → Walked) (b : Span) → said yes (view-of r (now (ev .exit)) (now (rep .exit)) (now (pool .exit))) ≡ walk ask (tokens (now (t .entry))) b unmatched-rcurly (view-of p (now (ev .entry)) (now (rep .entry)) (now (pool .entry)))) ⌝ }
+    ensures { λ r. ⌜ ((ask : Rule → Machine → Walked) (b : Span) → said yes (view-of r (now (ev .exit)) (now (rep .exit)) (now (pool .exit))) ≡ walk ask (tokens-of (now (t .entry))) b unmatched-rcurly (view-of p (now (ev .entry)) (now (rep .entry)) (now (pool .entry)))) ⌝ }
     ensures { λ r. ⌜ left (now (t .entry)) (r .s) ≤ left (now (t .entry)) (p .s) - 1 ⌝ }
 {
     let reported = p.error(t, ev, rep, pool, UNMATCHED_RCURLY, NO_HINT, Bump::No);
@@ -107,7 +107,7 @@ pub fn unmatched_rcurly(
 }
 
 pub fn bump_all(p: Parser, t: &[u32], ev: &mut [u32]) -> Parser
-    ensures { λ r. ⌜ ((ask : Rule → Machine → Walked) (b : Span) (rep pool : List ℕ) → said yes (view-of r (now (ev .exit)) rep pool) ≡ walk ask (tokens (now (t .entry))) b (loop left-over-turn) (view-of p (now (ev .entry)) rep pool)) ⌝ }
+    ensures { λ r. ⌜ ((ask : Rule → Machine → Walked) (b : Span) (rep pool : List ℕ) → said yes (view-of r (now (ev .exit)) rep pool) ≡ walk ask (tokens-of (now (t .entry))) b (loop left-over-turn) (view-of p (now (ev .entry)) rep pool)) ⌝ }
     ensures { λ r. ⌜ left (now (t .entry)) (r .s) ≤ left (now (t .entry)) (p .s) ⌝ }
 {
     let mut q = p;
@@ -122,7 +122,7 @@ pub fn bump_all(p: Parser, t: &[u32], ev: &mut [u32]) -> Parser
 
 // What an entry leaves goes into one ParseError.
 pub fn left_over(p: Parser, t: &[u32], ev: &mut [u32], rep: &mut [u32], pool: &mut [u32]) -> Parser
-    ensures { λ r. ⌜ ((ask : Rule → Machine → Walked) (b : Span) → said yes (view-of r (now (ev .exit)) (now (rep .exit)) (now (pool .exit))) ≡ walk ask (tokens (now (t .entry))) b left-over (view-of p (now (ev .entry)) (now (rep .entry)) (now (pool .entry)))) ⌝ }
+    ensures { λ r. ⌜ ((ask : Rule → Machine → Walked) (b : Span) → said yes (view-of r (now (ev .exit)) (now (rep .exit)) (now (pool .exit))) ≡ walk ask (tokens-of (now (t .entry))) b left-over (view-of p (now (ev .entry)) (now (rep .entry)) (now (pool .entry)))) ⌝ }
     ensures { λ r. ⌜ left (now (t .entry)) (r .s) ≤ left (now (t .entry)) (p .s) ⌝ }
 {
     let end = p.at_end(t);

@@ -6,11 +6,12 @@ use mathlib.Core.Bool.{Bool, true, false}
 use mathlib.Core.List.{List, [], _∷_}
 use native.Mathlib.Omega.{arith}
 use lib.ListN.{drop}
+use Rattle.definitions.specs.Layout.{START-NODE}
 use Rattle.definitions.specs.TokenKind as K
 use Rattle.definitions.specs.Token.{Token, past, first-in}
 use Rattle.definitions.specs.Skeleton.{Span}
-use Rattle.definitions.specs.Prog.{Ans, no, yes, Rule, Act, silent-at, at-end, immediate, immediate-next, add-expected, bump, bump-name, emit, emit-unclosed, Prog, ret, act, _⨟_, case, mark}
-use Rattle.definitions.specs.Check.{tell, if_then_else_, node, end?, expected}
+use Rattle.definitions.specs.Prog.{Ans, no, yes, Rule, Act, silent-at, at-end, immediate, immediate-next, add-expected, bump, bump-name, emit, emit-unclosed, Prog, ret, act, _⨟_, case, in-marker}
+use Rattle.definitions.specs.Check.{tell, if_then_else_, in-node, end?, expected}
 use Rattle.definitions.specs.Check as C
 use Rattle.definitions.specs.Errors as E
 use Rattle.definitions.specs.NodeKind as N
@@ -54,14 +55,14 @@ module _ (ask : Rule → Machine → Walked) (ts : List Token) (b : Span) where
   walk-yes c n y a m p w e f = f ∙ ap (λ (x : Walked). choose (x .ans) (walk ask ts b n) (walk ask ts b y) (walk ask ts b a) (x .on)) (sym e)
 
   -- k: the marker. s: after it was started, x: after what is in it, r: after it was completed
-  pub walk-node : (kind : ℕ) (p : Prog) (k : Marker) (m s r : Machine) (v : Walked) → 0 < kind → k ≡ marker M.START m → s ≡ M.push 0 0 m → walk ask ts b p s ≡ v → r ≡ M.complete k kind (v .on)
-      → said yes r ≡ walk ask ts b (node kind p) m
+  pub walk-node : (kind : ℕ) (p : Prog) (k : Marker) (m s r : Machine) (v : Walked) → 0 < kind → k ≡ marker START-NODE m → s ≡ M.push 0 0 m → walk ask ts b p s ≡ v → r ≡ M.complete k kind (v .on)
+      → said yes r ≡ walk ask ts b (in-node kind p) m
   unfolding walk closed close
   walk-node zero p k m s r v h e f g i = absurd (omega (arith, h))
   walk-node (suc n) p k m s r v h e f g i =
       ap (λ (x : Machine). said yes x)
-      (i ∙ ap (λ (z : Marker). M.complete z (suc n) (v .on)) e ∙ ap (λ (w : Walked). M.complete (marker M.START m) (suc n) (w .on)) (sym g)
-      ∙ ap (λ (x : Machine). M.complete (marker M.START m) (suc n) (walk ask ts b p x .on)) f)
+      (i ∙ ap (λ (z : Marker). M.complete z (suc n) (v .on)) e ∙ ap (λ (w : Walked). M.complete (marker START-NODE m) (suc n) (w .on)) (sym g)
+      ∙ ap (λ (x : Machine). M.complete (marker START-NODE m) (suc n) (walk ask ts b p x .on)) f)
 
   -- ---------------------------------------------------------------- tests
 
@@ -193,9 +194,9 @@ module _ (ask : Rule → Machine → Walked) (ts : List Token) (b : Span) where
       walk-then (C.error message hint) (if end? then tell yes else C.bump!) m (said yes p) w (sym f) g ∙ ap (λ (x : Bump). walk ask ts b (error-prog x message hint) m) (sym e)
 
   pub error-wrapped : (k : Bump) (message hint : ℕ) (m p : Machine) (w : Walked) → k ≡ Taking.YesWrapErr → said yes p ≡ walk ask ts b (C.error message hint) m
-      → w ≡ walk ask ts b (if end? then tell yes else node N.ParseError C.bump!) p → w ≡ walk ask ts b (error-prog k message hint) m
+      → w ≡ walk ask ts b (if end? then tell yes else in-node N.ParseError C.bump!) p → w ≡ walk ask ts b (error-prog k message hint) m
   error-wrapped k message hint m p w e f g =
-      walk-then (C.error message hint) (if end? then tell yes else node N.ParseError C.bump!) m (said yes p) w (sym f) g ∙ ap (λ (x : Bump). walk ask ts b (error-prog x message hint) m) (sym e)
+      walk-then (C.error message hint) (if end? then tell yes else in-node N.ParseError C.bump!) m (said yes p) w (sym f) g ∙ ap (λ (x : Bump). walk ask ts b (error-prog x message hint) m) (sym e)
 
   -- what follows a report unless the end is there
   pub end-yes : (q : Prog) (m p : Machine) → perform ts b at-end m ≡ said yes p → said yes p ≡ walk ask ts b (if end? then tell yes else q) m
@@ -206,7 +207,7 @@ module _ (ask : Rule → Machine → Walked) (ts : List Token) (b : Span) where
 
   -- ---------------------------------------------------------------- `eat_starting`
 
-  pub starting-yes : (k : C.Matcher) (m p s q : Machine) (z : Marker) → walk ask ts b (C.at k) m ≡ said yes p → z ≡ marker M.START p → s ≡ M.push 0 0 p → said yes q ≡ walk ask ts b (k .consume) s
+  pub starting-yes : (k : C.Matcher) (m p s q : Machine) (z : Marker) → walk ask ts b (C.at k) m ≡ said yes p → z ≡ marker START-NODE p → s ≡ M.push 0 0 p → said yes q ≡ walk ask ts b (k .consume) s
       → starting ask ts b k m ≡ record { yes = true; marker = z; on = q }
   unfolding starting
   starting-yes k m p s q z e f g h =
@@ -214,12 +215,12 @@ module _ (ask : Rule → Machine → Walked) (ts : List Token) (b : Span) where
       ∙ ap (λ (x : Machine). record { yes = true; marker = z; on = walk ask ts b (k .consume) x .on }) (sym g) ∙ ap (λ (w : Walked). record { yes = true; marker = z; on = w .on }) (sym h)
     where
       from : Ans → Machine → Starting
-      from a x = by-answer a (record { yes = false; marker = marker M.START x; on = x }) (record { yes = true; marker = marker M.START x; on = walk ask ts b (k .consume) (M.push 0 0 x) .on })
+      from a x = by-answer a (record { yes = false; marker = marker START-NODE x; on = x }) (record { yes = true; marker = marker START-NODE x; on = walk ask ts b (k .consume) (M.push 0 0 x) .on })
 
-  pub starting-no : (k : C.Matcher) (m p : Machine) (z : Marker) → walk ask ts b (C.at k) m ≡ said no p → z ≡ marker M.START p → starting ask ts b k m ≡ record { yes = false; marker = z; on = p }
+  pub starting-no : (k : C.Matcher) (m p : Machine) (z : Marker) → walk ask ts b (C.at k) m ≡ said no p → z ≡ marker START-NODE p → starting ask ts b k m ≡ record { yes = false; marker = z; on = p }
   unfolding starting
   starting-no k m p z e f =
       ap (λ (w : Walked). from (w .ans) (w .on)) e ∙ ap (λ (y : Marker). record { yes = false; marker = y; on = p }) (sym f)
     where
       from : Ans → Machine → Starting
-      from a x = by-answer a (record { yes = false; marker = marker M.START x; on = x }) (record { yes = true; marker = marker M.START x; on = walk ask ts b (k .consume) (M.push 0 0 x) .on })
+      from a x = by-answer a (record { yes = false; marker = marker START-NODE x; on = x }) (record { yes = true; marker = marker START-NODE x; on = walk ask ts b (k .consume) (M.push 0 0 x) .on })

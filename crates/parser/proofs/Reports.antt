@@ -6,41 +6,41 @@ use mathlib.Core.List.{List, [], _∷_}
 use lib.Dec.{eqb}
 use lib.ListN.{length, set, take, drop}
 use lib.Seq.{sets, length-take-le}
-use Rattle.definitions.specs.Token.{Token, tokens}
+use Rattle.definitions.specs.Token.{Token, tokens-of}
 use Rattle.definitions.specs.Skeleton.{Span}
 use Rattle.definitions.specs.Run.{only-separators, pool-of}
 use Rattle.machine.specs.Machine.{Machine, Buffer, low, with-reports, range-at, error-range, report-row, write-report, fits}
 use Rattle.machine.specs.Machine as M
 use Rattle.parser.specs.View.{stored}
-use Rattle.rows.proofs.Kit.{row, rows-cons, rows-end}
+use Rattle.token_rows.proofs.Kit.{row, rows-cons, rows-end}
 use Rattle.parser.proofs.Lists.{and-store}
 use Rattle.parser.proofs.Moves.{on-true, on-false}
 
 -- ---------------------------------------------------------------- the range
 
 pub range-lone : (tk : List ℕ) (m : Machine) (y : Bool) (e : ℕ) → m .cursor < length tk / 2 → y ≡ only-separators (m .pending) → y ≡ true → e ≡ low (m .mark-at + 1)
-    → record { from = m .mark-at; to = e } ≡ error-range (drop (m .cursor) (tokens tk)) m
+    → record { from = m .mark-at; to = e } ≡ error-range (drop (m .cursor) (tokens-of tk)) m
 unfolding error-range
 range-lone tk m y e h f g i =
     let d = rows-cons tk (m .cursor) h in
     let t = row tk (m .cursor) in
     let z : Span = record { from = m .mark-at; to = low (m .mark-at + 1) } in
     ap (λ (x : ℕ). record { from = m .mark-at; to = x }) i
-    ∙ sym (on-true y (only-separators (m .pending)) z (range-at (t ∷ drop (m .cursor + 1) (tokens tk)) m) f g)
+    ∙ sym (on-true y (only-separators (m .pending)) z (range-at (t ∷ drop (m .cursor + 1) (tokens-of tk)) m) f g)
     ∙ sym (ap (λ (l : List Token). error-range l m) d)
 
-pub range-token : (tk : List ℕ) (m : Machine) (y : Bool) (r : Span) → m .cursor < length tk / 2 → y ≡ only-separators (m .pending) → y ≡ false → r ≡ range-at (drop (m .cursor) (tokens tk)) m
-    → r ≡ error-range (drop (m .cursor) (tokens tk)) m
+pub range-token : (tk : List ℕ) (m : Machine) (y : Bool) (r : Span) → m .cursor < length tk / 2 → y ≡ only-separators (m .pending) → y ≡ false → r ≡ range-at (drop (m .cursor) (tokens-of tk)) m
+    → r ≡ error-range (drop (m .cursor) (tokens-of tk)) m
 unfolding error-range
 range-token tk m y r h f g i =
     let d = rows-cons tk (m .cursor) h in
     let t = row tk (m .cursor) in
     let z : Span = record { from = m .mark-at; to = low (m .mark-at + 1) } in
     i ∙ ap (λ (l : List Token). range-at l m) d
-    ∙ sym (on-false y (only-separators (m .pending)) z (range-at (t ∷ drop (m .cursor + 1) (tokens tk)) m) f g)
+    ∙ sym (on-false y (only-separators (m .pending)) z (range-at (t ∷ drop (m .cursor + 1) (tokens-of tk)) m) f g)
     ∙ sym (ap (λ (l : List Token). error-range l m) d)
 
-pub range-end : (tk : List ℕ) (m : Machine) (s : ℕ) → length tk / 2 ≤ m .cursor → s ≡ m .at - 1 → record { from = s; to = m .at } ≡ error-range (drop (m .cursor) (tokens tk)) m
+pub range-end : (tk : List ℕ) (m : Machine) (s : ℕ) → length tk / 2 ≤ m .cursor → s ≡ m .at - 1 → record { from = s; to = m .at } ≡ error-range (drop (m .cursor) (tokens-of tk)) m
 unfolding error-range
 range-end tk m s h e = ap (λ (x : ℕ). record { from = x; to = m .at }) e ∙ sym (ap (λ (l : List Token). error-range l m) (rows-end tk (m .cursor) h))
 

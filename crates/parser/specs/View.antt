@@ -3,6 +3,7 @@ use Prim.Native.Nat.{ℕ, _-_, _/_}
 use mathlib.Core.Bool.{Bool, true, false, cond}
 use mathlib.Core.List.{List, [], _∷_}
 use lib.ListN.{length, take}
+use Rattle.definitions.specs.Layout.{REPORT-ROW, PLACEHOLDER, START-NODE}
 use Rattle.definitions.specs.TokenKind as K
 use Rattle.definitions.specs.Errors as E
 use Rattle.definitions.specs.Token.{Token}
@@ -78,7 +79,7 @@ span-of r = record { from = r .start .0; to = r .end .0 }
 
 -- the definitions' matcher
 abbrev pub matcher-of : Matcher → C.Matcher
-matcher-of (Of.Kind a) = C.kind a
+matcher-of (Of.Kind a) = C.of-kind a
 matcher-of (Of.Either a b) = C.set (a ∷ b ∷ [])
 matcher-of Of.Name = C.Name
 matcher-of Of.LabelName = C.LabelName
@@ -115,8 +116,8 @@ unfolding C.at walk M.push
 starting ask ts b k m =
     let w = walk ask ts b (C.at k) m in
     by-answer (w .ans)
-    (record { yes = false; marker = marker M.START (w .on); on = w .on })
-    (record { yes = true; marker = marker M.START (w .on); on = walk ask ts b (k .consume) (M.push M.PLACEHOLDER 0 (w .on)) .on })
+    (record { yes = false; marker = marker START-NODE (w .on); on = w .on })
+    (record { yes = true; marker = marker START-NODE (w .on); on = walk ask ts b (k .consume) (M.push PLACEHOLDER 0 (w .on)) .on })
 
 -- the program of a report with what it takes
 abbrev pub error-prog : Bump → ℕ → ℕ → Prog
@@ -132,4 +133,4 @@ takes YesWrapErr = 1
 
 -- numbers stored from a place on, if they fit
 abbrev pub stored : ℕ → List ℕ → List ℕ → List ℕ
-stored at row l = cond (M.fits (length l) at 9) (sets l at row) l
+stored at row l = cond (M.fits (length l) at REPORT-ROW) (sets l at row) l

@@ -8,14 +8,14 @@ use crate::errors::NO_HINT;
 use crate::marker::Marker;
 use crate::matcher::Matcher;
 use crate::source::is_matched_at;
-use rows::token::is_at;
+use token_rows::token::is_at;
 ghost use mathlib.Core.Path.{_≡_};
 ghost use mathlib.Core.Bool.{true, false};
 ghost use mathlib.Core.List.{List, [], _∷_};
 ghost use Prim.Native.Nat.{ℕ, _+_, _-_, _≤_, _<_};
 ghost use lib.Dec.{ltb};
 ghost use lib.ListN.{length, set};
-ghost use Rattle.definitions.specs.Token.{Token, tokens};
+ghost use Rattle.definitions.specs.Token.{Token, tokens-of};
 ghost use Rattle.definitions.specs.Skeleton.{Span};
 ghost use Rattle.definitions.specs.Prog.{Rule, yes, silent-at, immediate, add-expected, act, _⨟_};
 ghost use Rattle.definitions.specs.Check.{expected, silent-eat as silent-eat-prog, at as at-prog, eat as eat-prog, expect as expect-prog, expect-recoverable as expect-recoverable-prog};
@@ -61,7 +61,7 @@ impl State {
 
     // `check(matcher).silent().at()`
     pub fn silent(self, t: &[u32], m: Matcher) -> Seen
-        ensures { λ r. ⌜ ((b : Span) (codes ev rep pool : List ℕ) → seen-as r codes ev rep pool ≡ perform (tokens (now (t .entry))) b (silent-at (kinds-of m)) (view self codes ev rep pool)) ⌝ }
+        ensures { λ r. ⌜ ((b : Span) (codes ev rep pool : List ℕ) → seen-as r codes ev rep pool ≡ perform (tokens-of (now (t .entry))) b (silent-at (kinds-of m)) (view self codes ev rep pool)) ⌝ }
         ensures { λ r. ⌜ left (now (t .entry)) (r .s) ≤ left (now (t .entry)) self ⌝ }
         ensures { λ r. ⌜ (r .yes ≡ true → 0 < left (now (t .entry)) (r .s)) ⌝ }
     {
@@ -72,7 +72,7 @@ impl State {
 
     // `check(matcher).silent().eat()`
     pub fn silent_eat(self, t: &[u32], ev: &mut [u32], m: Matcher) -> Seen
-        ensures { λ r. ⌜ ((ask : Rule → Machine → Walked) (b : Span) (codes rep pool : List ℕ) → seen-as r codes (now (ev .exit)) rep pool ≡ walk ask (tokens (now (t .entry))) b (silent-eat-prog (matcher-of m)) (view self codes (now (ev .entry)) rep pool)) ⌝ }
+        ensures { λ r. ⌜ ((ask : Rule → Machine → Walked) (b : Span) (codes rep pool : List ℕ) → seen-as r codes (now (ev .exit)) rep pool ≡ walk ask (tokens-of (now (t .entry))) b (silent-eat-prog (matcher-of m)) (view self codes (now (ev .entry)) rep pool)) ⌝ }
         ensures { λ r. ⌜ left (now (t .entry)) (r .s) ≤ left (now (t .entry)) self ⌝ }
         ensures { λ r. ⌜ (r .yes ≡ true → left (now (t .entry)) (r .s) ≤ left (now (t .entry)) self - 1) ⌝ }
     {
@@ -86,7 +86,7 @@ impl State {
     }
 
     pub fn at(self, codes: &mut [u8; 256], t: &[u32], m: Matcher) -> Seen
-        ensures { λ r. ⌜ ((ask : Rule → Machine → Walked) (b : Span) (ev rep pool : List ℕ) → seen-as r (now (codes .exit)) ev rep pool ≡ walk ask (tokens (now (t .entry))) b (at-prog (matcher-of m)) (view self (now (codes .entry)) ev rep pool)) ⌝ }
+        ensures { λ r. ⌜ ((ask : Rule → Machine → Walked) (b : Span) (ev rep pool : List ℕ) → seen-as r (now (codes .exit)) ev rep pool ≡ walk ask (tokens-of (now (t .entry))) b (at-prog (matcher-of m)) (view self (now (codes .entry)) ev rep pool)) ⌝ }
         ensures { λ r. ⌜ left (now (t .entry)) (r .s) ≤ left (now (t .entry)) self ⌝ }
         ensures { λ r. ⌜ (r .yes ≡ true → 0 < left (now (t .entry)) (r .s)) ⌝ }
     {
@@ -96,7 +96,7 @@ impl State {
 
     // Pushes the kind, and looks at the row at the cursor, be it trivia.
     pub fn at_immediate(self, codes: &mut [u8; 256], t: &[u32], k: u8) -> Seen
-        ensures { λ r. ⌜ ((ask : Rule → Machine → Walked) (b : Span) (ev rep pool : List ℕ) → seen-as r (now (codes .exit)) ev rep pool ≡ walk ask (tokens (now (t .entry))) b (expected k ⨟ act (immediate k)) (view self (now (codes .entry)) ev rep pool)) ⌝ }
+        ensures { λ r. ⌜ ((ask : Rule → Machine → Walked) (b : Span) (ev rep pool : List ℕ) → seen-as r (now (codes .exit)) ev rep pool ≡ walk ask (tokens-of (now (t .entry))) b (expected k ⨟ act (immediate k)) (view self (now (codes .entry)) ev rep pool)) ⌝ }
         ensures { λ r. ⌜ left (now (t .entry)) (r .s) ≤ left (now (t .entry)) self ⌝ }
         ensures { λ r. ⌜ (r .yes ≡ true → 0 < left (now (t .entry)) (r .s)) ⌝ }
     {
@@ -106,7 +106,7 @@ impl State {
     }
 
     pub fn eat(self, codes: &mut [u8; 256], t: &[u32], ev: &mut [u32], m: Matcher) -> Seen
-        ensures { λ r. ⌜ ((ask : Rule → Machine → Walked) (b : Span) (rep pool : List ℕ) → seen-as r (now (codes .exit)) (now (ev .exit)) rep pool ≡ walk ask (tokens (now (t .entry))) b (eat-prog (matcher-of m)) (view self (now (codes .entry)) (now (ev .entry)) rep pool)) ⌝ }
+        ensures { λ r. ⌜ ((ask : Rule → Machine → Walked) (b : Span) (rep pool : List ℕ) → seen-as r (now (codes .exit)) (now (ev .exit)) rep pool ≡ walk ask (tokens-of (now (t .entry))) b (eat-prog (matcher-of m)) (view self (now (codes .entry)) (now (ev .entry)) rep pool)) ⌝ }
         ensures { λ r. ⌜ left (now (t .entry)) (r .s) ≤ left (now (t .entry)) self ⌝ }
         ensures { λ r. ⌜ (r .yes ≡ true → left (now (t .entry)) (r .s) ≤ left (now (t .entry)) self - 1) ⌝ }
     {
@@ -128,7 +128,7 @@ impl State {
         ev: &mut [u32],
         matcher: Matcher,
     ) -> Started
-        ensures { λ r. ⌜ ((ask : Rule → Machine → Walked) (b : Span) (rep pool : List ℕ) → starting ask (tokens (now (t .entry))) b (matcher-of matcher) (view self (now (codes .entry)) (now (ev .entry)) rep pool) ≡ record { yes = r .yes; marker = marker-of (r .m); on = view (r .s) (now (codes .exit)) (now (ev .exit)) rep pool }) ⌝ }
+        ensures { λ r. ⌜ ((ask : Rule → Machine → Walked) (b : Span) (rep pool : List ℕ) → starting ask (tokens-of (now (t .entry))) b (matcher-of matcher) (view self (now (codes .entry)) (now (ev .entry)) rep pool) ≡ record { yes = r .yes; marker = marker-of (r .m); on = view (r .s) (now (codes .exit)) (now (ev .exit)) rep pool }) ⌝ }
         ensures { λ r. ⌜ left (now (t .entry)) (r .s) ≤ left (now (t .entry)) self ⌝ }
         ensures { λ r. ⌜ (r .yes ≡ true → left (now (t .entry)) (r .s) ≤ left (now (t .entry)) self - 1) ⌝ }
     {
@@ -161,7 +161,7 @@ impl State {
         pool: &mut [u32],
         m: Matcher,
     ) -> Seen
-        ensures { λ r. ⌜ ((ask : Rule → Machine → Walked) (b : Span) → seen-as r (now (codes .exit)) (now (ev .exit)) (now (rep .exit)) (now (pool .exit)) ≡ walk ask (tokens (now (t .entry))) b (expect-prog (matcher-of m)) (view self (now (codes .entry)) (now (ev .entry)) (now (rep .entry)) (now (pool .entry)))) ⌝ }
+        ensures { λ r. ⌜ ((ask : Rule → Machine → Walked) (b : Span) → seen-as r (now (codes .exit)) (now (ev .exit)) (now (rep .exit)) (now (pool .exit)) ≡ walk ask (tokens-of (now (t .entry))) b (expect-prog (matcher-of m)) (view self (now (codes .entry)) (now (ev .entry)) (now (rep .entry)) (now (pool .entry)))) ⌝ }
         ensures { λ r. ⌜ left (now (t .entry)) (r .s) ≤ left (now (t .entry)) self ⌝ }
         ensures { λ r. ⌜ (r .yes ≡ true → left (now (t .entry)) (r .s) ≤ left (now (t .entry)) self - 1) ⌝ }
     {
@@ -186,7 +186,7 @@ impl State {
         m: Matcher,
         recovery: &[u8],
     ) -> Seen
-        ensures { λ r. ⌜ ((ask : Rule → Machine → Walked) (b : Span) → seen-as r (now (codes .exit)) (now (ev .exit)) (now (rep .exit)) (now (pool .exit)) ≡ walk ask (tokens (now (t .entry))) b (expect-recoverable-prog (matcher-of m) (now (recovery .entry))) (view self (now (codes .entry)) (now (ev .entry)) (now (rep .entry)) (now (pool .entry)))) ⌝ }
+        ensures { λ r. ⌜ ((ask : Rule → Machine → Walked) (b : Span) → seen-as r (now (codes .exit)) (now (ev .exit)) (now (rep .exit)) (now (pool .exit)) ≡ walk ask (tokens-of (now (t .entry))) b (expect-recoverable-prog (matcher-of m) (now (recovery .entry))) (view self (now (codes .entry)) (now (ev .entry)) (now (rep .entry)) (now (pool .entry)))) ⌝ }
         ensures { λ r. ⌜ left (now (t .entry)) (r .s) ≤ left (now (t .entry)) self ⌝ }
     {
         let k = self.eat(codes, t, ev, m);

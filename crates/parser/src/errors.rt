@@ -5,17 +5,17 @@ use crate::marker::Marker;
 use crate::node;
 use lexer::ByteOffset;
 use lexer::kind;
-use rows::room::fits;
-use rows::room::low32;
+use token_rows::room::fits;
+use token_rows::room::low32;
 ghost use mathlib.Core.Path.{_≡_};
 ghost use mathlib.Core.Bool.{true, false};
 ghost use mathlib.Core.List.{List, [], _∷_};
 ghost use Prim.Native.Nat.{ℕ, _+_, _-_, _≤_, _<_};
 ghost use lib.ListN.{length, take, drop};
-ghost use Rattle.definitions.specs.Token.{tokens};
+ghost use Rattle.definitions.specs.Token.{tokens-of};
 ghost use Rattle.definitions.specs.Skeleton.{Span};
 ghost use Rattle.definitions.specs.Prog.{Rule, yes, case};
-ghost use Rattle.definitions.specs.Check.{if_then_else_, end?, bump!, tell, node as node-prog};
+ghost use Rattle.definitions.specs.Check.{if_then_else_, end?, bump!, tell, in-node as node-prog};
 ghost use Rattle.definitions.specs.NodeKind as N;
 ghost use Rattle.definitions.specs.Run.{only-separators, pool-of};
 ghost use Rattle.machine.specs.Machine.{Machine, error-range, write-report, emit as emit-machine};
@@ -172,7 +172,7 @@ fn put_report(
 impl State {
     // The cursor stands at a token, or at the end.
     fn current_token_error_range(self, codes: &[u8; 256], t: &[u32]) -> TextRange
-        ensures { λ r. ⌜ ((ev rep pool : List ℕ) → span-of r ≡ error-range (drop (self .cursor .0) (tokens (now (t .entry)))) (view self (now (codes .entry)) ev rep pool)) ⌝ }
+        ensures { λ r. ⌜ ((ev rep pool : List ℕ) → span-of r ≡ error-range (drop (self .cursor .0) (tokens-of (now (t .entry)))) (view self (now (codes .entry)) ev rep pool)) ⌝ }
     {
         let at = self.cursor.0;
         let inside = at < t.len() / 2;
@@ -256,7 +256,7 @@ impl State {
         hint: u32,
         label: TextRange,
     ) -> State
-        ensures { λ r. ⌜ view r (now (codes .entry)) (now (ev .exit)) (now (rep .exit)) (now (pool .exit)) ≡ emit-machine (tokens (now (t .entry))) message hint (span-of label) (view self (now (codes .entry)) (now (ev .entry)) (now (rep .entry)) (now (pool .entry))) ⌝ }
+        ensures { λ r. ⌜ view r (now (codes .entry)) (now (ev .exit)) (now (rep .exit)) (now (pool .exit)) ≡ emit-machine (tokens-of (now (t .entry))) message hint (span-of label) (view self (now (codes .entry)) (now (ev .entry)) (now (rep .entry)) (now (pool .entry))) ⌝ }
         ensures { λ r. ⌜ left (now (t .entry)) r ≤ left (now (t .entry)) self ⌝ }
     {
         let here = self.peek(t);
@@ -271,7 +271,7 @@ impl State {
     }
 
     fn bump_unless_at_end(self, t: &[u32], ev: &mut [u32]) -> State
-        ensures { λ r. ⌜ ((ask : Rule → Machine → Walked) (b : Span) (codes rep pool : List ℕ) → said yes (view r codes (now (ev .exit)) rep pool) ≡ walk ask (tokens (now (t .entry))) b (if end? then tell yes else bump!) (view self codes (now (ev .entry)) rep pool)) ⌝ }
+        ensures { λ r. ⌜ ((ask : Rule → Machine → Walked) (b : Span) (codes rep pool : List ℕ) → said yes (view r codes (now (ev .exit)) rep pool) ≡ walk ask (tokens-of (now (t .entry))) b (if end? then tell yes else bump!) (view self codes (now (ev .entry)) rep pool)) ⌝ }
         ensures { λ r. ⌜ left (now (t .entry)) r ≤ left (now (t .entry)) self - 1 ⌝ }
     {
         let end = self.at_end(t);
@@ -279,7 +279,7 @@ impl State {
     }
 
     fn wrap_unless_at_end(self, t: &[u32], ev: &mut [u32]) -> State
-        ensures { λ r. ⌜ ((ask : Rule → Machine → Walked) (b : Span) (codes rep pool : List ℕ) → said yes (view r codes (now (ev .exit)) rep pool) ≡ walk ask (tokens (now (t .entry))) b (if end? then tell yes else node-prog N.ParseError bump!) (view self codes (now (ev .entry)) rep pool)) ⌝ }
+        ensures { λ r. ⌜ ((ask : Rule → Machine → Walked) (b : Span) (codes rep pool : List ℕ) → said yes (view r codes (now (ev .exit)) rep pool) ≡ walk ask (tokens-of (now (t .entry))) b (if end? then tell yes else node-prog N.ParseError bump!) (view self codes (now (ev .entry)) rep pool)) ⌝ }
         ensures { λ r. ⌜ left (now (t .entry)) r ≤ left (now (t .entry)) self - 1 ⌝ }
     {
         let end = self.at_end(t);
@@ -305,7 +305,7 @@ impl State {
         hint: u32,
         bump: Bump,
     ) -> State
-        ensures { λ r. ⌜ ((ask : Rule → Machine → Walked) (b : Span) → said yes (view r (now (codes .entry)) (now (ev .exit)) (now (rep .exit)) (now (pool .exit))) ≡ walk ask (tokens (now (t .entry))) b (error-prog bump message hint) (view self (now (codes .entry)) (now (ev .entry)) (now (rep .entry)) (now (pool .entry)))) ⌝ }
+        ensures { λ r. ⌜ ((ask : Rule → Machine → Walked) (b : Span) → said yes (view r (now (codes .entry)) (now (ev .exit)) (now (rep .exit)) (now (pool .exit))) ≡ walk ask (tokens-of (now (t .entry))) b (error-prog bump message hint) (view self (now (codes .entry)) (now (ev .entry)) (now (rep .entry)) (now (pool .entry)))) ⌝ }
         ensures { λ r. ⌜ left (now (t .entry)) r ≤ left (now (t .entry)) self - takes bump ⌝ }
     {
         let none = no_label();

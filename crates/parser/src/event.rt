@@ -3,14 +3,14 @@
 // first is one of these.
 use crate::State;
 use lexer::TokenIndex;
-use rows::room::fits;
-use rows::room::low32;
-use rows::token::is_one_of_at;
+use token_rows::room::fits;
+use token_rows::room::low32;
+use token_rows::token::is_one_of_at;
 ghost use mathlib.Core.Path.{_≡_};
 ghost use mathlib.Core.List.{List};
 ghost use Prim.Native.Nat.{ℕ, _+_, _-_, _/_, _≤_, _<_};
 ghost use lib.ListN.{drop};
-ghost use Rattle.definitions.specs.Token.{tokens};
+ghost use Rattle.definitions.specs.Token.{tokens-of};
 ghost use Rattle.definitions.specs.Skeleton.{Span};
 ghost use Rattle.definitions.specs.Prog.{yes, bump as bump-act, bump-name as bump-name-act};
 ghost use Rattle.machine.specs.Machine.{low, refuse as refuse-machine, push-row as push-row-machine, push, name-run};
@@ -93,7 +93,7 @@ impl State {
 
     // Takes the next token that is no trivia; nothing at the end.
     pub fn bump(self, t: &[u32], ev: &mut [u32]) -> State
-        ensures { λ r. ⌜ ((b : Span) (codes rep pool : List ℕ) → said yes (view r codes (now (ev .exit)) rep pool) ≡ perform (tokens (now (t .entry))) b bump-act (view self codes (now (ev .entry)) rep pool)) ⌝ }
+        ensures { λ r. ⌜ ((b : Span) (codes rep pool : List ℕ) → said yes (view r codes (now (ev .exit)) rep pool) ≡ perform (tokens-of (now (t .entry))) b bump-act (view self codes (now (ev .entry)) rep pool)) ⌝ }
         ensures { λ r. ⌜ left (now (t .entry)) r ≤ left (now (t .entry)) self - 1 ⌝ }
     {
         let here = self.peek(t);
@@ -109,7 +109,7 @@ impl State {
 
     // Takes the rows of the set that follow.
     fn take_while(self, t: &[u32], set: &[u8]) -> State
-        ensures { λ r. ⌜ ((codes ev rep pool : List ℕ) → view r codes ev rep pool ≡ name-run (now (set .entry)) (drop (self .cursor .0) (tokens (now (t .entry)))) (view self codes ev rep pool)) ⌝ }
+        ensures { λ r. ⌜ ((codes ev rep pool : List ℕ) → view r codes ev rep pool ≡ name-run (now (set .entry)) (drop (self .cursor .0) (tokens-of (now (t .entry)))) (view self codes ev rep pool)) ⌝ }
         ensures { λ r. ⌜ left (now (t .entry)) r ≤ left (now (t .entry)) self ⌝ }
     {
         let mut q = self;
@@ -121,7 +121,7 @@ impl State {
 
     // `bump_name_generic`: takes the next token that is no trivia, and those of the set right after it, as one name.
     pub fn bump_name(self, t: &[u32], ev: &mut [u32], set: &[u8]) -> State
-        ensures { λ r. ⌜ ((b : Span) (codes rep pool : List ℕ) → said yes (view r codes (now (ev .exit)) rep pool) ≡ perform (tokens (now (t .entry))) b (bump-name-act (now (set .entry))) (view self codes (now (ev .entry)) rep pool)) ⌝ }
+        ensures { λ r. ⌜ ((b : Span) (codes rep pool : List ℕ) → said yes (view r codes (now (ev .exit)) rep pool) ≡ perform (tokens-of (now (t .entry))) b (bump-name-act (now (set .entry))) (view self codes (now (ev .entry)) rep pool)) ⌝ }
         ensures { λ r. ⌜ left (now (t .entry)) r ≤ left (now (t .entry)) self - 1 ⌝ }
     {
         let here = self.peek(t);

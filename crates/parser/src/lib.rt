@@ -22,7 +22,7 @@ ghost use mathlib.Core.Bool.{true, false};
 ghost use mathlib.Core.List.{List, [], _∷_};
 ghost use Prim.Native.Nat.{ℕ, _-_, _≤_, _<_};
 ghost use lib.ListN.{length};
-ghost use Rattle.definitions.specs.Token.{Token, tokens};
+ghost use Rattle.definitions.specs.Token.{Token, tokens-of};
 ghost use Rattle.definitions.specs.Skeleton.{Span};
 ghost use Rattle.definitions.specs.Prog.{Rule, yes, silent-at as silent-at-act, at-end as at-end-act, add-expected as add-expected-act, bump as bump-act};
 ghost use Rattle.definitions.specs.Check.{silent-eat as silent-eat-prog, at as at-prog, eat as eat-prog, expect as expect-prog, expect-recoverable as expect-recoverable-prog};
@@ -170,7 +170,7 @@ impl Parser {
     }
 
     pub fn bump(self, t: &[u32], ev: &mut [u32]) -> Parser
-        ensures { λ r. ⌜ ((b : Span) (rep pool : List ℕ) → said yes (view-of r (now (ev .exit)) rep pool) ≡ perform (tokens (now (t .entry))) b bump-act (view-of self (now (ev .entry)) rep pool)) ⌝ }
+        ensures { λ r. ⌜ ((b : Span) (rep pool : List ℕ) → said yes (view-of r (now (ev .exit)) rep pool) ≡ perform (tokens-of (now (t .entry))) b bump-act (view-of self (now (ev .entry)) rep pool)) ⌝ }
         ensures { λ r. ⌜ left (now (t .entry)) (r .s) ≤ left (now (t .entry)) (self .s) - 1 ⌝ }
     {
         let s = self.s.bump(t, ev);
@@ -178,7 +178,7 @@ impl Parser {
     }
 
     pub fn peek(self, t: &[u32]) -> Parser
-        ensures { λ r. ⌜ ((ev rep pool : List ℕ) → view-of r ev rep pool ≡ peek-machine (tokens (now (t .entry))) (view-of self ev rep pool)) ⌝ }
+        ensures { λ r. ⌜ ((ev rep pool : List ℕ) → view-of r ev rep pool ≡ peek-machine (tokens-of (now (t .entry))) (view-of self ev rep pool)) ⌝ }
         ensures { λ r. ⌜ left (now (t .entry)) (r .s) ≤ left (now (t .entry)) (self .s) ⌝ }
     {
         let s = self.s.peek(t);
@@ -186,7 +186,7 @@ impl Parser {
     }
 
     pub fn at_end(self, t: &[u32]) -> Tested
-        ensures { λ r. ⌜ ((b : Span) (ev rep pool : List ℕ) → tested-as r ev rep pool ≡ perform (tokens (now (t .entry))) b at-end-act (view-of self ev rep pool)) ⌝ }
+        ensures { λ r. ⌜ ((b : Span) (ev rep pool : List ℕ) → tested-as r ev rep pool ≡ perform (tokens-of (now (t .entry))) b at-end-act (view-of self ev rep pool)) ⌝ }
         ensures { λ r. ⌜ left (now (t .entry)) (r .p .s) ≤ left (now (t .entry)) (self .s) ⌝ }
         ensures { λ r. ⌜ (r .yes ≡ false → 0 < left (now (t .entry)) (r .p .s)) ⌝ }
         ensures { λ r. ⌜ (r .yes ≡ true → left (now (t .entry)) (r .p .s) ≡ 0) ⌝ }
@@ -197,7 +197,7 @@ impl Parser {
     }
 
     pub fn silent_at(self, t: &[u32], k: u8) -> Tested
-        ensures { λ r. ⌜ ((b : Span) (ev rep pool : List ℕ) → tested-as r ev rep pool ≡ perform (tokens (now (t .entry))) b (silent-at-act (k ∷ [])) (view-of self ev rep pool)) ⌝ }
+        ensures { λ r. ⌜ ((b : Span) (ev rep pool : List ℕ) → tested-as r ev rep pool ≡ perform (tokens-of (now (t .entry))) b (silent-at-act (k ∷ [])) (view-of self ev rep pool)) ⌝ }
         ensures { λ r. ⌜ left (now (t .entry)) (r .p .s) ≤ left (now (t .entry)) (self .s) ⌝ }
         ensures { λ r. ⌜ (r .yes ≡ true → 0 < left (now (t .entry)) (r .p .s)) ⌝ }
     {
@@ -207,7 +207,7 @@ impl Parser {
     }
 
     pub fn silent_at_set(self, t: &[u32], set: &[u8]) -> Tested
-        ensures { λ r. ⌜ ((b : Span) (ev rep pool : List ℕ) → tested-as r ev rep pool ≡ perform (tokens (now (t .entry))) b (silent-at-act (now (set .entry))) (view-of self ev rep pool)) ⌝ }
+        ensures { λ r. ⌜ ((b : Span) (ev rep pool : List ℕ) → tested-as r ev rep pool ≡ perform (tokens-of (now (t .entry))) b (silent-at-act (now (set .entry))) (view-of self ev rep pool)) ⌝ }
         ensures { λ r. ⌜ left (now (t .entry)) (r .p .s) ≤ left (now (t .entry)) (self .s) ⌝ }
         ensures { λ r. ⌜ (r .yes ≡ true → 0 < left (now (t .entry)) (r .p .s)) ⌝ }
     {
@@ -217,7 +217,7 @@ impl Parser {
     }
 
     pub fn silent_eat(self, t: &[u32], ev: &mut [u32], m: Matcher) -> Tested
-        ensures { λ r. ⌜ ((ask : Rule → Machine → Walked) (b : Span) (rep pool : List ℕ) → tested-as r (now (ev .exit)) rep pool ≡ walk ask (tokens (now (t .entry))) b (silent-eat-prog (matcher-of m)) (view-of self (now (ev .entry)) rep pool)) ⌝ }
+        ensures { λ r. ⌜ ((ask : Rule → Machine → Walked) (b : Span) (rep pool : List ℕ) → tested-as r (now (ev .exit)) rep pool ≡ walk ask (tokens-of (now (t .entry))) b (silent-eat-prog (matcher-of m)) (view-of self (now (ev .entry)) rep pool)) ⌝ }
         ensures { λ r. ⌜ left (now (t .entry)) (r .p .s) ≤ left (now (t .entry)) (self .s) ⌝ }
         ensures { λ r. ⌜ (r .yes ≡ true → left (now (t .entry)) (r .p .s) ≤ left (now (t .entry)) (self .s) - 1) ⌝ }
     {
@@ -236,7 +236,7 @@ impl Parser {
     }
 
     pub fn at(self, t: &[u32], m: Matcher) -> Tested
-        ensures { λ r. ⌜ ((ask : Rule → Machine → Walked) (b : Span) (ev rep pool : List ℕ) → tested-as r ev rep pool ≡ walk ask (tokens (now (t .entry))) b (at-prog (matcher-of m)) (view-of self ev rep pool)) ⌝ }
+        ensures { λ r. ⌜ ((ask : Rule → Machine → Walked) (b : Span) (ev rep pool : List ℕ) → tested-as r ev rep pool ≡ walk ask (tokens-of (now (t .entry))) b (at-prog (matcher-of m)) (view-of self ev rep pool)) ⌝ }
         ensures { λ r. ⌜ left (now (t .entry)) (r .p .s) ≤ left (now (t .entry)) (self .s) ⌝ }
         ensures { λ r. ⌜ (r .yes ≡ true → 0 < left (now (t .entry)) (r .p .s)) ⌝ }
     {
@@ -248,7 +248,7 @@ impl Parser {
     }
 
     pub fn eat(self, t: &[u32], ev: &mut [u32], m: Matcher) -> Tested
-        ensures { λ r. ⌜ ((ask : Rule → Machine → Walked) (b : Span) (rep pool : List ℕ) → tested-as r (now (ev .exit)) rep pool ≡ walk ask (tokens (now (t .entry))) b (eat-prog (matcher-of m)) (view-of self (now (ev .entry)) rep pool)) ⌝ }
+        ensures { λ r. ⌜ ((ask : Rule → Machine → Walked) (b : Span) (rep pool : List ℕ) → tested-as r (now (ev .exit)) rep pool ≡ walk ask (tokens-of (now (t .entry))) b (eat-prog (matcher-of m)) (view-of self (now (ev .entry)) rep pool)) ⌝ }
         ensures { λ r. ⌜ left (now (t .entry)) (r .p .s) ≤ left (now (t .entry)) (self .s) ⌝ }
         ensures { λ r. ⌜ (r .yes ≡ true → left (now (t .entry)) (r .p .s) ≤ left (now (t .entry)) (self .s) - 1) ⌝ }
     {
@@ -267,7 +267,7 @@ impl Parser {
         pool: &mut [u32],
         m: Matcher,
     ) -> Tested
-        ensures { λ r. ⌜ ((ask : Rule → Machine → Walked) (b : Span) → tested-as r (now (ev .exit)) (now (rep .exit)) (now (pool .exit)) ≡ walk ask (tokens (now (t .entry))) b (expect-prog (matcher-of m)) (view-of self (now (ev .entry)) (now (rep .entry)) (now (pool .entry)))) ⌝ }
+        ensures { λ r. ⌜ ((ask : Rule → Machine → Walked) (b : Span) → tested-as r (now (ev .exit)) (now (rep .exit)) (now (pool .exit)) ≡ walk ask (tokens-of (now (t .entry))) b (expect-prog (matcher-of m)) (view-of self (now (ev .entry)) (now (rep .entry)) (now (pool .entry)))) ⌝ }
         ensures { λ r. ⌜ left (now (t .entry)) (r .p .s) ≤ left (now (t .entry)) (self .s) ⌝ }
         ensures { λ r. ⌜ (r .yes ≡ true → left (now (t .entry)) (r .p .s) ≤ left (now (t .entry)) (self .s) - 1) ⌝ }
     {
@@ -287,7 +287,7 @@ impl Parser {
         m: Matcher,
         recovery: &[u8],
     ) -> Tested
-        ensures { λ r. ⌜ ((ask : Rule → Machine → Walked) (b : Span) → tested-as r (now (ev .exit)) (now (rep .exit)) (now (pool .exit)) ≡ walk ask (tokens (now (t .entry))) b (expect-recoverable-prog (matcher-of m) (now (recovery .entry))) (view-of self (now (ev .entry)) (now (rep .entry)) (now (pool .entry)))) ⌝ }
+        ensures { λ r. ⌜ ((ask : Rule → Machine → Walked) (b : Span) → tested-as r (now (ev .exit)) (now (rep .exit)) (now (pool .exit)) ≡ walk ask (tokens-of (now (t .entry))) b (expect-recoverable-prog (matcher-of m) (now (recovery .entry))) (view-of self (now (ev .entry)) (now (rep .entry)) (now (pool .entry)))) ⌝ }
         ensures { λ r. ⌜ left (now (t .entry)) (r .p .s) ≤ left (now (t .entry)) (self .s) ⌝ }
     {
         let mut codes = self.codes;
@@ -309,7 +309,7 @@ impl Parser {
         hint: u32,
         bump: Bump,
     ) -> Parser
-        ensures { λ r. ⌜ ((ask : Rule → Machine → Walked) (b : Span) → said yes (view-of r (now (ev .exit)) (now (rep .exit)) (now (pool .exit))) ≡ walk ask (tokens (now (t .entry))) b (error-prog bump message hint) (view-of self (now (ev .entry)) (now (rep .entry)) (now (pool .entry)))) ⌝ }
+        ensures { λ r. ⌜ ((ask : Rule → Machine → Walked) (b : Span) → said yes (view-of r (now (ev .exit)) (now (rep .exit)) (now (pool .exit))) ≡ walk ask (tokens-of (now (t .entry))) b (error-prog bump message hint) (view-of self (now (ev .entry)) (now (rep .entry)) (now (pool .entry)))) ⌝ }
         ensures { λ r. ⌜ left (now (t .entry)) (r .s) ≤ left (now (t .entry)) (self .s) - takes bump ⌝ }
     {
         let codes = self.codes;
@@ -327,7 +327,7 @@ impl Parser {
         hint: u32,
         label: TextRange,
     ) -> Parser
-        ensures { λ r. ⌜ view-of r (now (ev .exit)) (now (rep .exit)) (now (pool .exit)) ≡ emit-machine (tokens (now (t .entry))) message hint (span-of label) (view-of self (now (ev .entry)) (now (rep .entry)) (now (pool .entry))) ⌝ }
+        ensures { λ r. ⌜ view-of r (now (ev .exit)) (now (rep .exit)) (now (pool .exit)) ≡ emit-machine (tokens-of (now (t .entry))) message hint (span-of label) (view-of self (now (ev .entry)) (now (rep .entry)) (now (pool .entry))) ⌝ }
         ensures { λ r. ⌜ left (now (t .entry)) (r .s) ≤ left (now (t .entry)) (self .s) ⌝ }
     {
         let codes = self.codes;

@@ -4,11 +4,11 @@ use crate::State;
 use crate::event;
 use crate::expected;
 use lexer::kind;
-use rows::token::one_of;
+use token_rows::token::one_of;
 ghost use mathlib.Core.Path.{_≡_};
 ghost use mathlib.Core.List.{List};
 ghost use Prim.Native.Nat.{ℕ, _≤_, _-_};
-ghost use Rattle.definitions.specs.Token.{Token, one-of, tokens};
+ghost use Rattle.definitions.specs.Token.{Token, one-of, tokens-of};
 ghost use Rattle.definitions.specs.Skeleton.{Span};
 ghost use Rattle.definitions.specs.Prog.{Rule, yes};
 ghost use Rattle.machine.specs.Machine.{Machine};
@@ -70,7 +70,7 @@ impl Matcher {
 
     // The matcher has matched.
     pub fn consume(self, s: State, t: &[u32], ev: &mut [u32]) -> State
-        ensures { λ r. ⌜ ((ask : Rule → Machine → Walked) (b : Span) (codes rep pool : List ℕ) → said yes (view r codes (now (ev .exit)) rep pool) ≡ walk ask (tokens (now (t .entry))) b (matcher-of self .consume) (view s codes (now (ev .entry)) rep pool)) ⌝ }
+        ensures { λ r. ⌜ ((ask : Rule → Machine → Walked) (b : Span) (codes rep pool : List ℕ) → said yes (view r codes (now (ev .exit)) rep pool) ≡ walk ask (tokens-of (now (t .entry))) b (matcher-of self .consume) (view s codes (now (ev .entry)) rep pool)) ⌝ }
         ensures { λ r. ⌜ left (now (t .entry)) r ≤ left (now (t .entry)) s - 1 ⌝ }
     {
         match self {

@@ -6,18 +6,18 @@ use crate::matcher::Matcher;
 use lexer::ByteOffset;
 use lexer::TokenIndex;
 use lexer::kind;
-use rows::token::end_at;
-use rows::token::is_at;
-use rows::token::is_next_at;
-use rows::token::is_one_of_at;
-use rows::token::kind_at;
-use rows::token::skip_trivia;
+use token_rows::token::end_at;
+use token_rows::token::is_at;
+use token_rows::token::is_next_at;
+use token_rows::token::is_one_of_at;
+use token_rows::token::kind_at;
+use token_rows::token::skip_trivia;
 ghost use mathlib.Core.Path.{_≡_};
 ghost use mathlib.Core.Bool.{true, false};
 ghost use mathlib.Core.List.{List, [], _∷_};
 ghost use Prim.Native.Nat.{ℕ, _-_, _/_, _≤_, _<_};
 ghost use lib.ListN.{length, drop};
-ghost use Rattle.definitions.specs.Token.{tokens, first-in};
+ghost use Rattle.definitions.specs.Token.{tokens-of, first-in};
 ghost use Rattle.definitions.specs.Skeleton.{Span};
 ghost use Rattle.definitions.specs.Prog.{Rule, silent-at, at-end};
 ghost use Rattle.definitions.specs.Grammar.{silent-at-macro-invocation-with-args};
@@ -27,7 +27,7 @@ ghost use Rattle.parser.specs.View.{view, left, seen-as, kinds-of, take-
 
 // Whether the matcher matches the row.
 pub fn is_matched_at(t: &[u32], at: usize, m: Matcher) -> bool
-    ensures { λ r. ⌜ r ≡ first-in (kinds-of m) (drop at (tokens (now (t .entry)))) ⌝ }
+    ensures { λ r. ⌜ r ≡ first-in (kinds-of m) (drop at (tokens-of (now (t .entry)))) ⌝ }
     ensures { λ r. ⌜ (r ≡ true → at < length (now (t .entry)) / 2) ⌝ }
 {
     let inside = at < t.len() / 2;
@@ -42,7 +42,7 @@ pub fn is_matched_at(t: &[u32], at: usize, m: Matcher) -> bool
 impl State {
     // `skip_trivia`: the cursor comes to stand at a token, or at the end.
     pub fn peek(self, t: &[u32]) -> State
-        ensures { λ r. ⌜ ((codes ev rep pool : List ℕ) → view r codes ev rep pool ≡ peek-machine (tokens (now (t .entry))) (view self codes ev rep pool)) ⌝ }
+        ensures { λ r. ⌜ ((codes ev rep pool : List ℕ) → view r codes ev rep pool ≡ peek-machine (tokens-of (now (t .entry))) (view self codes ev rep pool)) ⌝ }
         ensures { λ r. ⌜ left (now (t .entry)) r ≤ left (now (t .entry)) self ⌝ }
     {
         let seat = skip_trivia(t, self.cursor.0, self.at.0);
@@ -55,7 +55,7 @@ impl State {
     }
 
     pub fn at_end(self, t: &[u32]) -> Seen
-        ensures { λ r. ⌜ ((b : Span) (codes ev rep pool : List ℕ) → seen-as r codes ev rep pool ≡ perform (tokens (now (t .entry))) b at-end (view self codes ev rep pool)) ⌝ }
+        ensures { λ r. ⌜ ((b : Span) (codes ev rep pool : List ℕ) → seen-as r codes ev rep pool ≡ perform (tokens-of (now (t .entry))) b at-end (view self codes ev rep pool)) ⌝ }
         ensures { λ r. ⌜ left (now (t .entry)) (r .s) ≤ left (now (t .entry)) self ⌝ }
         ensures { λ r. ⌜ (r .yes ≡ false → 0 < left (now (t .entry)) (r .s)) ⌝ }
         ensures { λ r. ⌜ (r .yes ≡ true → left (now (t .entry)) (r .s) ≡ 0) ⌝ }
@@ -72,7 +72,7 @@ impl State {
 
     // `check(kind).silent().at()`
     pub fn silent_at(self, t: &[u32], k: u8) -> Seen
-        ensures { λ r. ⌜ ((b : Span) (codes ev rep pool : List ℕ) → seen-as r codes ev rep pool ≡ perform (tokens (now (t .entry))) b (silent-at (k ∷ [])) (view self codes ev rep pool)) ⌝ }
+        ensures { λ r. ⌜ ((b : Span) (codes ev rep pool : List ℕ) → seen-as r codes ev rep pool ≡ perform (tokens-of (now (t .entry))) b (silent-at (k ∷ [])) (view self codes ev rep pool)) ⌝ }
         ensures { λ r. ⌜ left (now (t .entry)) (r .s) ≤ left (now (t .entry)) self ⌝ }
         ensures { λ r. ⌜ (r .yes ≡ true → 0 < left (now (t .entry)) (r .s)) ⌝ }
     {
@@ -83,7 +83,7 @@ impl State {
 
     // `check(set).silent().at()`
     pub fn silent_at_set(self, t: &[u32], set: &[u8]) -> Seen
-        ensures { λ r. ⌜ ((b : Span) (codes ev rep pool : List ℕ) → seen-as r codes ev rep pool ≡ perform (tokens (now (t .entry))) b (silent-at (now (set .entry))) (view self codes ev rep pool)) ⌝ }
+        ensures { λ r. ⌜ ((b : Span) (codes ev rep pool : List ℕ) → seen-as r codes ev rep pool ≡ perform (tokens-of (now (t .entry))) b (silent-at (now (set .entry))) (view self codes ev rep pool)) ⌝ }
         ensures { λ r. ⌜ left (now (t .entry)) (r .s) ≤ left (now (t .entry)) self ⌝ }
         ensures { λ r. ⌜ (r .yes ≡ true → 0 < left (now (t .entry)) (r .s)) ⌝ }
     {
@@ -93,7 +93,7 @@ impl State {
     }
 
     pub fn silent_at_macro_invocation_with_args(self, t: &[u32]) -> Seen
-        ensures { λ r. ⌜ ((ask : Rule → Machine → Walked) (b : Span) (codes ev rep pool : List ℕ) → seen-as r codes ev rep pool ≡ walk ask (tokens (now (t .entry))) b silent-at-macro-invocation-with-args (view self codes ev rep pool)) ⌝ }
+        ensures { λ r. ⌜ ((ask : Rule → Machine → Walked) (b : Span) (codes ev rep pool : List ℕ) → seen-as r codes ev rep pool ≡ walk ask (tokens-of (now (t .entry))) b silent-at-macro-invocation-with-args (view self codes ev rep pool)) ⌝ }
         ensures { λ r. ⌜ left (now (t .entry)) (r .s) ≤ left (now (t .entry)) self ⌝ }
         ensures { λ r. ⌜ (r .yes ≡ true → 0 < left (now (t .entry)) (r .s)) ⌝ }
     {
@@ -110,7 +110,7 @@ impl State {
 
     // The range of the row at the cursor.
     pub fn range(self, t: &[u32]) -> TextRange
-        ensures { λ r. ⌜ ((codes ev rep pool : List ℕ) → span-of r ≡ range-at (drop (self .cursor .0) (tokens (now (t .entry)))) (view self codes ev rep pool)) ⌝ }
+        ensures { λ r. ⌜ ((codes ev rep pool : List ℕ) → span-of r ≡ range-at (drop (self .cursor .0) (tokens-of (now (t .entry)))) (view self codes ev rep pool)) ⌝ }
     {
         let start = self.at;
         let end = ByteOffset(end_at(t, self.cursor.0, start.0));
@@ -122,7 +122,7 @@ impl State {
 
     // `next_token`, and the expectations cleared: takes the row at the cursor, whatever it is.
     pub fn next_token(self, t: &[u32]) -> State
-        ensures { λ r. ⌜ ((codes ev rep pool : List ℕ) → view r codes ev rep pool ≡ take-first (drop (self .cursor .0) (tokens (now (t .entry)))) (view self codes ev rep pool)) ⌝ }
+        ensures { λ r. ⌜ ((codes ev rep pool : List ℕ) → view r codes ev rep pool ≡ take-first (drop (self .cursor .0) (tokens-of (now (t .entry)))) (view self codes ev rep pool)) ⌝ }
         ensures { λ r. ⌜ left (now (t .entry)) r ≤ left (now (t .entry)) self - 1 ⌝ }
     {
         let at = self.cursor.0;

@@ -7,8 +7,8 @@ use Rattle.definitions.specs.TokenKind as K
 use Rattle.definitions.specs.Errors as E
 use Rattle.definitions.specs.Token.{Token}
 use Rattle.definitions.specs.Skeleton.{Span}
-use Rattle.definitions.specs.Prog.{Ans, no, yes, also, again, Rule, item, eat-cell, Prog, ret, _⨟_, case, call, loop}
-use Rattle.definitions.specs.Check.{tell, if_then_else_, _and_, _or_, while_run_, expected, error, error!, error-bump!, error-wrap, set, kind, silent, at, silent-eat, eat, eat-starting_inside_else_}
+use Rattle.definitions.specs.Prog.{Ans, no, yes, also, again, Rule, item, eat-cell, Prog, ret, _⨟_, case, open-call, loop}
+use Rattle.definitions.specs.Check.{tell, if_then_else_, _and_, _or_, while_run_, expected, error, error!, error-bump!, error-wrap, set, of-kind, silent, at, silent-eat, eat, eat-starting_inside_else_}
 use Rattle.definitions.specs.Grammar.{Cell, OPERATORS-SET, PROPERTY-VALUE-RECOVERY-SET, MacroSubstitutableName, Reference, macro-invocation, dt-expr, eat-dts-include, eat-preprocessor-directive, eat-cell-body, cells-end, cells-turn, after-propvalue, node-body-turn, prefix-turn, eat-node-or-prop-prefix, eat-dts-directive}
 use Rattle.definitions.specs.Grammar as G
 use Rattle.machine.specs.Machine.{Machine}
@@ -22,12 +22,12 @@ pub directive-parts : eat-dts-directive
 unfolding eat-dts-directive
 directive-parts = refl
 
-pub body-parts : node-body-turn ≡ (while at-item run call item)
+pub body-parts : node-body-turn ≡ (while at-item run open-call item)
 unfolding node-body-turn
 body-parts = refl
 
 pub cells-parts : (at-end : Bool) → cells-turn at-end
-    ≡ (if call (eat-cell at-end) then tell again
+    ≡ (if open-call (eat-cell at-end) then tell again
     else if cells-end at-end then tell yes
     else if at-cells-recovery then error! ⨟ tell no
     else error-wrap E.msg-expected E.in-cells ⨟ tell again)
@@ -35,7 +35,7 @@ unfolding cells-turn
 cells-parts at-end = refl
 
 pub after-parts : (semicolon : Bool) → after-propvalue semicolon
-    ≡ (if eat (kind K.Comma) then tell again
+    ≡ (if eat (of-kind K.Comma) then tell again
     else if at-values-end semicolon then tell yes
     else if silent (set PROPERTY-VALUE-RECOVERY-SET) then error! ⨟ tell again
     else tell no)
@@ -45,12 +45,12 @@ after-parts semicolon = refl
 pub prefix-parts : (own-name : Ans) → prefix-turn own-name
     ≡ (if at MacroSubstitutableName then label-or-name own-name
     else if eat Reference then tell yes
-    else if eat (kind K.Slash) then tell yes
+    else if eat (of-kind K.Slash) then tell yes
     else tell no)
 unfolding prefix-turn eat-starting_inside_else_
 prefix-parts own-name = refl
 
-pub labels-parts : eat-node-or-prop-prefix ≡ (if eat (kind K.OmitIfNoRefDirective) then labels-and-name yes else labels-and-name also)
+pub labels-parts : eat-node-or-prop-prefix ≡ (if eat (of-kind K.OmitIfNoRefDirective) then labels-and-name yes else labels-and-name also)
 unfolding eat-node-or-prop-prefix
 labels-parts = refl
 

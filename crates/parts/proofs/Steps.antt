@@ -9,13 +9,14 @@ use lib.ListN.{length, drop, length-drop}
 use native.Mathlib.Omega.{arith}
 use denote.Enum.Declared.{tagOf}
 use types.Run.{OneOf}
-use Rattle.definitions.specs.Token.{Token, tokens, first-in}
+use Rattle.definitions.specs.Layout.{PLACEHOLDER, START-NODE}
+use Rattle.definitions.specs.Token.{Token, tokens-of, first-in}
 use Rattle.definitions.specs.Skeleton.{Span}
-use Rattle.definitions.specs.Prog.{Ans, no, yes, also, again, Rule, silent-at, Prog, ret, act, _⨟_, case, mark, loop, brace}
+use Rattle.definitions.specs.Prog.{Ans, no, yes, also, again, Rule, silent-at, Prog, ret, act, _⨟_, case, in-marker, loop, brace}
 use Rattle.definitions.specs.Check.{at}
 use Rattle.definitions.specs.Check as C
 use Rattle.definitions.specs.Run.{truth, is-again}
-use Rattle.machine.specs.Machine.{Machine, rest, peek, push, range-at, PLACEHOLDER, START}
+use Rattle.machine.specs.Machine.{Machine, rest, peek, push, range-at}
 use Rattle.machine.specs.Machine as M
 use Rattle.machine.specs.Walk.{Walked, said, perform, choose, marker, close, closed, walk}
 use lib.Dec.{ltb}
@@ -64,30 +65,30 @@ module _ {ask : Rule → Machine → Walked} {ts : List Token} {b : Span} where
 
 -- `eat_starting`, by the answer of its test
 abbrev started : (Rule → Machine → Walked) → List Token → Span → Ans → C.Matcher → Machine → Starting
-started ask ts b v k x = by-answer v (record { yes = false; marker = marker START x; on = x }) (record { yes = true; marker = marker START x; on = walk ask ts b (k .consume) (push PLACEHOLDER 0 x) .on })
+started ask ts b v k x = by-answer v (record { yes = false; marker = marker START-NODE x; on = x }) (record { yes = true; marker = marker START-NODE x; on = walk ask ts b (k .consume) (push PLACEHOLDER 0 x) .on })
 
 module _ {ask : Rule → Machine → Walked} {ts : List Token} {b : Span} (k : C.Matcher) where
   pub c-started : {p q : Prog} {m x : Machine} {z : M.Marker} {t : Bool} {v w : Walked} → starting ask ts b k m ≡ record { yes = t; marker = z; on = x } → t ≡ true → Way ask ts b p x v → Closes z v w
-      → Way ask ts b (case (at k) q (mark (k .consume ⨟ p)) (mark (k .consume ⨟ p))) m w
+      → Way ask ts b (case (at k) q (in-marker (k .consume ⨟ p)) (in-marker (k .consume ⨟ p))) m w
   unfolding starting walk choose
   c-started {p = p} {q = q} {m = m} {x = x} {z = z} {t = t} {v = v} {w = w} e h f g =
       record { is = go (walk ask ts b (at k) m .ans) (walk ask ts b (at k) m .on) (e ∙ ap (λ (t : Bool). record { yes = t; marker = z; on = x }) h) }
     where
       go : (a : Ans) (y : Machine) → started ask ts b a k y ≡ record { yes = true; marker = z; on = x }
-          → w ≡ choose a (walk ask ts b q) (walk ask ts b (mark (k .consume ⨟ p))) (walk ask ts b (mark (k .consume ⨟ p))) y
+          → w ≡ choose a (walk ask ts b q) (walk ask ts b (in-marker (k .consume ⨟ p))) (walk ask ts b (in-marker (k .consume ⨟ p))) y
       go no y i = true-false (sym (ap (λ (r : Starting). r .yes) i))
-      go yes y i = g .is ∙ sym (ap (λ (r : Starting). closed (r .marker) v) i) ∙ ap (closed (marker START y)) (f .is ∙ sym (ap (λ (r : Starting). walk ask ts b p (r .on)) i))
-      go also y i = g .is ∙ sym (ap (λ (r : Starting). closed (r .marker) v) i) ∙ ap (closed (marker START y)) (f .is ∙ sym (ap (λ (r : Starting). walk ask ts b p (r .on)) i))
-      go again y i = g .is ∙ sym (ap (λ (r : Starting). closed (r .marker) v) i) ∙ ap (closed (marker START y)) (f .is ∙ sym (ap (λ (r : Starting). walk ask ts b p (r .on)) i))
+      go yes y i = g .is ∙ sym (ap (λ (r : Starting). closed (r .marker) v) i) ∙ ap (closed (marker START-NODE y)) (f .is ∙ sym (ap (λ (r : Starting). walk ask ts b p (r .on)) i))
+      go also y i = g .is ∙ sym (ap (λ (r : Starting). closed (r .marker) v) i) ∙ ap (closed (marker START-NODE y)) (f .is ∙ sym (ap (λ (r : Starting). walk ask ts b p (r .on)) i))
+      go again y i = g .is ∙ sym (ap (λ (r : Starting). closed (r .marker) v) i) ∙ ap (closed (marker START-NODE y)) (f .is ∙ sym (ap (λ (r : Starting). walk ask ts b p (r .on)) i))
 
   pub c-unstarted : {p q : Prog} {m x : Machine} {z : M.Marker} {t : Bool} {w : Walked} → starting ask ts b k m ≡ record { yes = t; marker = z; on = x } → t ≡ false → Way ask ts b q x w
-      → Way ask ts b (case (at k) q (mark (k .consume ⨟ p)) (mark (k .consume ⨟ p))) m w
+      → Way ask ts b (case (at k) q (in-marker (k .consume ⨟ p)) (in-marker (k .consume ⨟ p))) m w
   unfolding starting walk choose
   c-unstarted {p = p} {q = q} {m = m} {x = x} {z = z} {t = t} {w = w} e h f =
       record { is = go (walk ask ts b (at k) m .ans) (walk ask ts b (at k) m .on) (e ∙ ap (λ (t : Bool). record { yes = t; marker = z; on = x }) h) }
     where
       go : (a : Ans) (y : Machine) → started ask ts b a k y ≡ record { yes = false; marker = z; on = x }
-          → w ≡ choose a (walk ask ts b q) (walk ask ts b (mark (k .consume ⨟ p))) (walk ask ts b (mark (k .consume ⨟ p))) y
+          → w ≡ choose a (walk ask ts b q) (walk ask ts b (in-marker (k .consume ⨟ p))) (walk ask ts b (in-marker (k .consume ⨟ p))) y
       go no y i = f .is ∙ sym (ap (λ (r : Starting). walk ask ts b q (r .on)) i)
       go yes y i = true-false (ap (λ (r : Starting). r .yes) i)
       go also y i = true-false (ap (λ (r : Starting). r .yes) i)
@@ -180,9 +181,9 @@ number yes = 1
 number also = 2
 number again = 3
 
-pub some-left : (tk : List ℕ) (s : State) → 0 < length (drop (s .cursor .0) (tokens tk)) → 0 < left tk s
+pub some-left : (tk : List ℕ) (s : State) → 0 < length (drop (s .cursor .0) (tokens-of tk)) → 0 < left tk s
 unfolding left
-some-left tk s h = omega (arith, rows-length tk, length-drop (s .cursor .0) (tokens tk), h)
+some-left tk s h = omega (arith, rows-length tk, length-drop (s .cursor .0) (tokens-of tk), h)
 
 module _ (ask : Rule → Machine → Walked) (ts : List Token) (b : Span) where
   -- `.silent().eat()`
@@ -204,19 +205,19 @@ module _ (ask : Rule → Machine → Walked) (ts : List Token) (b : Span) where
   expected-ahead k m h = either (λ x. ahead ts x ≤ ahead ts m) (ltb (length (m .pending)) 256) (omega arith) (omega (arith, refuse-ahead ts 5 m h))
 
   -- `eat_starting` of a kind
-  pub starting-some : (k : ℕ) (m x : Machine) (z : M.Marker) (t : Bool) → Few ts → starting ask ts b (C.kind k) m ≡ record { yes = t; marker = z; on = x } → t ≡ true → 0 < ahead ts m
+  pub starting-some : (k : ℕ) (m x : Machine) (z : M.Marker) (t : Bool) → Few ts → starting ask ts b (C.of-kind k) m ≡ record { yes = t; marker = z; on = x } → t ≡ true → 0 < ahead ts m
   unfolding starting at walk perform
   starting-some k m x z t w e h = go (first-in (k ∷ []) (rest ts (peek ts (M.expect-code k m)))) refl (e ∙ ap (λ (t : Bool). record { yes = t; marker = z; on = x }) h)
     where
-      go : (y : Bool) → first-in (k ∷ []) (rest ts (peek ts (M.expect-code k m))) ≡ y → started ask ts b (truth (first-in (k ∷ []) (rest ts (peek ts (M.expect-code k m))))) (C.kind k) (peek ts (M.expect-code k m)) ≡ record { yes = true; marker = z; on = x } → 0 < ahead ts m
+      go : (y : Bool) → first-in (k ∷ []) (rest ts (peek ts (M.expect-code k m))) ≡ y → started ask ts b (truth (first-in (k ∷ []) (rest ts (peek ts (M.expect-code k m))))) (C.of-kind k) (peek ts (M.expect-code k m)) ≡ record { yes = true; marker = z; on = x } → 0 < ahead ts m
       go true i f = omega (arith, first-some (k ∷ []) (rest ts (peek ts (M.expect-code k m))) i, peek-ahead ts (M.expect-code k m), expected-ahead k m w)
       go false i f =
-          true-false (sym (sym (ap (λ (y : Bool). started ask ts b (truth y) (C.kind k) (peek ts (M.expect-code k m)) .yes) i) ∙ ap (λ (r : Starting). r .yes) f))
+          true-false (sym (sym (ap (λ (y : Bool). started ask ts b (truth y) (C.of-kind k) (peek ts (M.expect-code k m)) .yes) i) ∙ ap (λ (r : Starting). r .yes) f))
 
 -- ---------------------------------------------------------------- values that end at one kind, or at none
 
 module _ {ask : Rule → Machine → Walked} {ts : List Token} {b : Span} {m : Machine} {w : Walked} where
-  pub at-one : (k : ℕ) → Way ask ts b (at (C.kind k)) m w → Way ask ts b (at (C.set (k ∷ []))) m w
+  pub at-one : (k : ℕ) → Way ask ts b (at (C.of-kind k)) m w → Way ask ts b (at (C.set (k ∷ []))) m w
   unfolding at walk
   at-one k e = record { is = e .is }
 

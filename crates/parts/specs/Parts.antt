@@ -6,18 +6,18 @@ use mathlib.Core.List.{List, [], _∷_}
 use Rattle.definitions.specs.TokenKind as K
 use Rattle.definitions.specs.NodeKind as N
 use Rattle.definitions.specs.Errors as E
-use Rattle.definitions.specs.Prog.{Ans, no, yes, again, Prog, ret, _⨟_, mark, loop}
-use Rattle.definitions.specs.Check.{tell, if_then_else_, _and_, _or_, not!, node, end?, bump!, expected, error!, error-bump, set, kind, silent, at, silent-eat, eat, expect, expect-recoverable, eat-starting_inside_else_}
+use Rattle.definitions.specs.Prog.{Ans, no, yes, again, Prog, ret, _⨟_, in-marker, loop}
+use Rattle.definitions.specs.Check.{tell, if_then_else_, _and_, _or_, not!, in-node, end?, bump!, expected, error!, error-bump, set, of-kind, silent, at, silent-eat, eat, expect, expect-recoverable, eat-starting_inside_else_}
 use Rattle.definitions.specs.Grammar.{CONTINUE-COND-SET, ITEM-RECOVERY-SET, ending-kinds, macro-invocation, MacroSubstitutableName, UnitAddress, Reference, prefix-turn}
 
 -- ---------------------------------------------------------------- dts_directive.rt
 
 -- a directive's semicolon; the caller's marker
 abbrev pub directive-end : Prog
-directive-end = expect-recoverable (kind K.Semicolon) ITEM-RECOVERY-SET ⨟ ret N.DtsDirective yes
+directive-end = expect-recoverable (of-kind K.Semicolon) ITEM-RECOVERY-SET ⨟ ret N.DtsDirective yes
 
 abbrev pub memreserve-arguments : Prog
-memreserve-arguments = node N.DtsDirectiveArguments (expect (kind K.Number) ⨟ expect (kind K.Number))
+memreserve-arguments = in-node N.DtsDirectiveArguments (expect (of-kind K.Number) ⨟ expect (of-kind K.Number))
 
 abbrev pub deleted : Prog
 deleted =
@@ -26,12 +26,12 @@ deleted =
     else error!
 
 abbrev pub delete-arguments : Prog
-delete-arguments = node N.DtsDirectiveArguments deleted
+delete-arguments = in-node N.DtsDirectiveArguments deleted
 
 -- the last cases of `eat-dts-directive`: those with arguments
 abbrev pub directive-with-arguments : Prog
 directive-with-arguments =
-    eat-starting kind K.MemreserveDirective inside memreserve-arguments ⨟ directive-end
+    eat-starting of-kind K.MemreserveDirective inside memreserve-arguments ⨟ directive-end
     else eat-starting set (K.DeleteNodeDirective ∷ K.DeletePropertyDirective ∷ []) inside delete-arguments ⨟ directive-end
     else tell no
 
@@ -39,12 +39,12 @@ directive-with-arguments =
 
 -- whether a node's body goes on: the test of `node-body-turn`
 abbrev pub at-item : Prog
-at-item = not! (at (kind K.RCurly)) and not! end?
+at-item = not! (at (of-kind K.RCurly)) and not! end?
 
 -- whether cells are cut off: the third test of `cells-turn`
 abbrev pub at-cells-recovery : Prog
 at-cells-recovery =
-    silent (set (K.Semicolon ∷ K.LCurly ∷ K.RCurly ∷ [])) or end? or silent (set CONTINUE-COND-SET) or silent (kind K.EndifDirective)
+    silent (set (K.Semicolon ∷ K.LCurly ∷ K.RCurly ∷ [])) or end? or silent (set CONTINUE-COND-SET) or silent (of-kind K.EndifDirective)
 
 -- whether values end: the second test of `after-propvalue`
 abbrev pub at-values-end : Bool → Prog
@@ -64,21 +64,21 @@ abbrev pub plain-cell : Prog
 plain-cell =
     expected E.Cell
     ⨟ if silent-eat (set (K.Number ∷ K.Char ∷ [])) then tell yes
-    else if silent (kind K.Ident) then macro-invocation ⨟ tell yes
+    else if silent (of-kind K.Ident) then macro-invocation ⨟ tell yes
     else silent-eat Reference
 
 -- ---------------------------------------------------------------- node_or_prop_prefix.rt
 
 -- the third test of `prefix-turn`
 abbrev pub unit-address-and-colon : Prog
-unit-address-and-colon = eat UnitAddress and silent (kind K.Colon)
+unit-address-and-colon = eat UnitAddress and silent (of-kind K.Colon)
 
 -- the first case of `prefix-turn`, from its marker on
 abbrev pub label-or-name : Ans → Prog
 label-or-name own-name =
-    mark
+    in-marker
     (MacroSubstitutableName .consume
-    ⨟ if eat (kind K.Colon) then ret N.DtLabel again
+    ⨟ if eat (of-kind K.Colon) then ret N.DtLabel again
     else if unit-address-and-colon then error-bump E.at-sign-in-label E.no-hint ⨟ ret N.ParseError again
     else ret 0 own-name)
 

@@ -16,7 +16,7 @@ ghost use mathlib.Core.Path.{_≡_};
 ghost use mathlib.Core.Bool.{true, false};
 ghost use mathlib.Core.List.{List};
 ghost use Prim.Native.Nat.{ℕ, _+_, _-_, _≤_, _<_};
-ghost use Rattle.definitions.specs.Token.{tokens};
+ghost use Rattle.definitions.specs.Token.{tokens-of};
 ghost use Rattle.definitions.specs.Skeleton.{Span};
 ghost use Rattle.definitions.specs.Prog.{Rule, yes};
 ghost use Rattle.definitions.specs.Grammar.{eat-dts-include, eat-dts-directive};
@@ -33,7 +33,7 @@ pub fn eat_dts_include(
     rep: &mut [u32],
     pool: &mut [u32],
 ) -> Seen
-    ensures { λ r. ⌜ ((ask : Rule → Machine → Walked) (b : Span) → seen-as r (now (codes .exit)) (now (ev .exit)) (now (rep .exit)) (now (pool .exit)) ≡ walk ask (tokens (now (t .entry))) b eat-dts-include (view s (now (codes .entry)) (now (ev .entry)) (now (rep .entry)) (now (pool .entry)))) ⌝ }
+    ensures { λ r. ⌜ ((ask : Rule → Machine → Walked) (b : Span) → seen-as r (now (codes .exit)) (now (ev .exit)) (now (rep .exit)) (now (pool .exit)) ≡ walk ask (tokens-of (now (t .entry))) b eat-dts-include (view s (now (codes .entry)) (now (ev .entry)) (now (rep .entry)) (now (pool .entry)))) ⌝ }
     ensures { λ r. ⌜ left (now (t .entry)) (r .s) ≤ left (now (t .entry)) s ⌝ }
     ensures { λ r. ⌜ (r .yes ≡ true → left (now (t .entry)) (r .s) < left (now (t .entry)) s) ⌝ }
 {
@@ -60,7 +60,7 @@ fn directive_end(
     pool: &mut [u32],
     m: Marker,
 ) -> Seen
-    ensures { λ r. ⌜ ((ask : Rule → Machine → Walked) (b : Span) → seen-as r (now (codes .exit)) (now (ev .exit)) (now (rep .exit)) (now (pool .exit)) ≡ closed (marker-of m) (walk ask (tokens (now (t .entry))) b directive-end (view s (now (codes .entry)) (now (ev .entry)) (now (rep .entry)) (now (pool .entry))))) ⌝ }
+    ensures { λ r. ⌜ ((ask : Rule → Machine → Walked) (b : Span) → seen-as r (now (codes .exit)) (now (ev .exit)) (now (rep .exit)) (now (pool .exit)) ≡ closed (marker-of m) (walk ask (tokens-of (now (t .entry))) b directive-end (view s (now (codes .entry)) (now (ev .entry)) (now (rep .entry)) (now (pool .entry))))) ⌝ }
     ensures { λ r. ⌜ left (now (t .entry)) (r .s) ≤ left (now (t .entry)) s ⌝ }
 {
     let end = s.expect_recoverable(
@@ -84,7 +84,7 @@ fn memreserve_arguments(
     rep: &mut [u32],
     pool: &mut [u32],
 ) -> State
-    ensures { λ r. ⌜ ((ask : Rule → Machine → Walked) (b : Span) → said yes (view r (now (codes .exit)) (now (ev .exit)) (now (rep .exit)) (now (pool .exit))) ≡ walk ask (tokens (now (t .entry))) b memreserve-arguments (view s (now (codes .entry)) (now (ev .entry)) (now (rep .entry)) (now (pool .entry)))) ⌝ }
+    ensures { λ r. ⌜ ((ask : Rule → Machine → Walked) (b : Span) → said yes (view r (now (codes .exit)) (now (ev .exit)) (now (rep .exit)) (now (pool .exit))) ≡ walk ask (tokens-of (now (t .entry))) b memreserve-arguments (view s (now (codes .entry)) (now (ev .entry)) (now (rep .entry)) (now (pool .entry)))) ⌝ }
     ensures { λ r. ⌜ left (now (t .entry)) r ≤ left (now (t .entry)) s ⌝ }
 {
     let m_params = Marker::new(s);
@@ -105,7 +105,7 @@ fn eat_deleted(
     rep: &mut [u32],
     pool: &mut [u32],
 ) -> Seen
-    ensures { λ r. ⌜ ((ask : Rule → Machine → Walked) (b : Span) → seen-as r (now (codes .exit)) (now (ev .exit)) (now (rep .exit)) (now (pool .exit)) ≡ walk ask (tokens (now (t .entry))) b deleted (view s (now (codes .entry)) (now (ev .entry)) (now (rep .entry)) (now (pool .entry)))) ⌝ }
+    ensures { λ r. ⌜ ((ask : Rule → Machine → Walked) (b : Span) → seen-as r (now (codes .exit)) (now (ev .exit)) (now (rep .exit)) (now (pool .exit)) ≡ walk ask (tokens-of (now (t .entry))) b deleted (view s (now (codes .entry)) (now (ev .entry)) (now (rep .entry)) (now (pool .entry)))) ⌝ }
     ensures { λ r. ⌜ left (now (t .entry)) (r .s) ≤ left (now (t .entry)) s ⌝ }
 {
     let reference = reference::eat(s, codes, t, ev, rep, pool);
@@ -129,7 +129,7 @@ fn delete_arguments(
     rep: &mut [u32],
     pool: &mut [u32],
 ) -> State
-    ensures { λ r. ⌜ ((ask : Rule → Machine → Walked) (b : Span) → said yes (view r (now (codes .exit)) (now (ev .exit)) (now (rep .exit)) (now (pool .exit))) ≡ walk ask (tokens (now (t .entry))) b delete-arguments (view s (now (codes .entry)) (now (ev .entry)) (now (rep .entry)) (now (pool .entry)))) ⌝ }
+    ensures { λ r. ⌜ ((ask : Rule → Machine → Walked) (b : Span) → said yes (view r (now (codes .exit)) (now (ev .exit)) (now (rep .exit)) (now (pool .exit))) ≡ walk ask (tokens-of (now (t .entry))) b delete-arguments (view s (now (codes .entry)) (now (ev .entry)) (now (rep .entry)) (now (pool .entry)))) ⌝ }
     ensures { λ r. ⌜ left (now (t .entry)) r ≤ left (now (t .entry)) s ⌝ }
 {
     let m_params = Marker::new(s);
@@ -149,7 +149,7 @@ fn eat_directive_with_arguments(
     rep: &mut [u32],
     pool: &mut [u32],
 ) -> Seen
-    ensures { λ r. ⌜ ((ask : Rule → Machine → Walked) (b : Span) → seen-as r (now (codes .exit)) (now (ev .exit)) (now (rep .exit)) (now (pool .exit)) ≡ walk ask (tokens (now (t .entry))) b directive-with-arguments (view s (now (codes .entry)) (now (ev .entry)) (now (rep .entry)) (now (pool .entry)))) ⌝ }
+    ensures { λ r. ⌜ ((ask : Rule → Machine → Walked) (b : Span) → seen-as r (now (codes .exit)) (now (ev .exit)) (now (rep .exit)) (now (pool .exit)) ≡ walk ask (tokens-of (now (t .entry))) b directive-with-arguments (view s (now (codes .entry)) (now (ev .entry)) (now (rep .entry)) (now (pool .entry)))) ⌝ }
     ensures { λ r. ⌜ left (now (t .entry)) (r .s) ≤ left (now (t .entry)) s ⌝ }
     ensures { λ r. ⌜ (r .yes ≡ true → left (now (t .entry)) (r .s) ≤ left (now (t .entry)) s - 1) ⌝ }
 {
@@ -180,7 +180,7 @@ pub fn eat_dts_directive(
     rep: &mut [u32],
     pool: &mut [u32],
 ) -> Seen
-    ensures { λ r. ⌜ ((ask : Rule → Machine → Walked) (b : Span) → seen-as r (now (codes .exit)) (now (ev .exit)) (now (rep .exit)) (now (pool .exit)) ≡ walk ask (tokens (now (t .entry))) b eat-dts-directive (view s (now (codes .entry)) (now (ev .entry)) (now (rep .entry)) (now (pool .entry)))) ⌝ }
+    ensures { λ r. ⌜ ((ask : Rule → Machine → Walked) (b : Span) → seen-as r (now (codes .exit)) (now (ev .exit)) (now (rep .exit)) (now (pool .exit)) ≡ walk ask (tokens-of (now (t .entry))) b eat-dts-directive (view s (now (codes .entry)) (now (ev .entry)) (now (rep .entry)) (now (pool .entry)))) ⌝ }
     ensures { λ r. ⌜ left (now (t .entry)) (r .s) ≤ left (now (t .entry)) s ⌝ }
     ensures { λ r. ⌜ (r .yes ≡ true → left (now (t .entry)) (r .s) ≤ left (now (t .entry)) s - 1) ⌝ }
 {

@@ -17,7 +17,7 @@ ghost use mathlib.Core.Path.{_≡_};
 ghost use mathlib.Core.Bool.{true, false};
 ghost use mathlib.Core.List.{List};
 ghost use Prim.Native.Nat.{ℕ, _+_, _-_, _≤_, _<_};
-ghost use Rattle.definitions.specs.Token.{tokens};
+ghost use Rattle.definitions.specs.Token.{tokens-of};
 ghost use Rattle.definitions.specs.Skeleton.{Span};
 ghost use Rattle.definitions.specs.Prog.{Rule, yes, also};
 ghost use Rattle.definitions.specs.Grammar.{cells-end, after-propvalue};
@@ -38,7 +38,7 @@ pub const CELLS_RECOVERY_SET: [u8; 3] = [kind::SEMICOLON, kind::LCURLY, kind::RC
 
 // Whether a node's body goes on here.
 pub fn at_item(s: State, codes: &mut [u8; 256], t: &[u32]) -> Seen
-    ensures { λ r. ⌜ ((ask : Rule → Machine → Walked) (b : Span) (ev rep pool : List ℕ) → seen-as r (now (codes .exit)) ev rep pool ≡ walk ask (tokens (now (t .entry))) b at-item (view s (now (codes .entry)) ev rep pool)) ⌝ }
+    ensures { λ r. ⌜ ((ask : Rule → Machine → Walked) (b : Span) (ev rep pool : List ℕ) → seen-as r (now (codes .exit)) ev rep pool ≡ walk ask (tokens-of (now (t .entry))) b at-item (view s (now (codes .entry)) ev rep pool)) ⌝ }
     ensures { λ r. ⌜ left (now (t .entry)) (r .s) ≤ left (now (t .entry)) s ⌝ }
     ensures { λ r. ⌜ (r .yes ≡ true → 0 < left (now (t .entry)) (r .s)) ⌝ }
 {
@@ -58,7 +58,7 @@ pub fn at_item(s: State, codes: &mut [u8; 256], t: &[u32]) -> Seen
 
 // Whether cells end here.
 pub fn at_cells_end(s: State, codes: &mut [u8; 256], t: &[u32], at_end: bool) -> Seen
-    ensures { λ r. ⌜ ((ask : Rule → Machine → Walked) (b : Span) (ev rep pool : List ℕ) → seen-as r (now (codes .exit)) ev rep pool ≡ walk ask (tokens (now (t .entry))) b (cells-end «at_end») (view s (now (codes .entry)) ev rep pool)) ⌝ }
+    ensures { λ r. ⌜ ((ask : Rule → Machine → Walked) (b : Span) (ev rep pool : List ℕ) → seen-as r (now (codes .exit)) ev rep pool ≡ walk ask (tokens-of (now (t .entry))) b (cells-end «at_end») (view s (now (codes .entry)) ev rep pool)) ⌝ }
     ensures { λ r. ⌜ left (now (t .entry)) (r .s) ≤ left (now (t .entry)) s ⌝ }
 {
     if at_end {
@@ -71,7 +71,7 @@ pub fn at_cells_end(s: State, codes: &mut [u8; 256], t: &[u32], at_end: bool) ->
 
 // Whether cells are cut off here.
 pub fn at_cells_recovery(s: State, t: &[u32]) -> Seen
-    ensures { λ r. ⌜ ((ask : Rule → Machine → Walked) (b : Span) (codes ev rep pool : List ℕ) → seen-as r codes ev rep pool ≡ walk ask (tokens (now (t .entry))) b at-cells-recovery (view s codes ev rep pool)) ⌝ }
+    ensures { λ r. ⌜ ((ask : Rule → Machine → Walked) (b : Span) (codes ev rep pool : List ℕ) → seen-as r codes ev rep pool ≡ walk ask (tokens-of (now (t .entry))) b at-cells-recovery (view s codes ev rep pool)) ⌝ }
     ensures { λ r. ⌜ left (now (t .entry)) (r .s) ≤ left (now (t .entry)) s ⌝ }
     ensures { λ r. ⌜ (r .yes ≡ false → 0 < left (now (t .entry)) s) ⌝ }
 {
@@ -92,7 +92,7 @@ pub fn at_cells_recovery(s: State, t: &[u32]) -> Seen
 
 // `at(ending_kinds)`
 fn at_values_end(s: State, codes: &mut [u8; 256], t: &[u32], semicolon: bool) -> Seen
-    ensures { λ r. ⌜ ((ask : Rule → Machine → Walked) (b : Span) (ev rep pool : List ℕ) → seen-as r (now (codes .exit)) ev rep pool ≡ walk ask (tokens (now (t .entry))) b (at-values-end semicolon) (view s (now (codes .entry)) ev rep pool)) ⌝ }
+    ensures { λ r. ⌜ ((ask : Rule → Machine → Walked) (b : Span) (ev rep pool : List ℕ) → seen-as r (now (codes .exit)) ev rep pool ≡ walk ask (tokens-of (now (t .entry))) b (at-values-end semicolon) (view s (now (codes .entry)) ev rep pool)) ⌝ }
     ensures { λ r. ⌜ left (now (t .entry)) (r .s) ≤ left (now (t .entry)) s ⌝ }
 {
     if semicolon {
@@ -112,7 +112,7 @@ pub fn after_propvalue(
     pool: &mut [u32],
     semicolon: bool,
 ) -> Said
-    ensures { λ r. ⌜ ((ask : Rule → Machine → Walked) (b : Span) → said-as r (now (codes .exit)) (now (ev .exit)) (now (rep .exit)) (now (pool .exit)) ≡ walk ask (tokens (now (t .entry))) b (after-propvalue semicolon) (view s (now (codes .entry)) (now (ev .entry)) (now (rep .entry)) (now (pool .entry)))) ⌝ }
+    ensures { λ r. ⌜ ((ask : Rule → Machine → Walked) (b : Span) → said-as r (now (codes .exit)) (now (ev .exit)) (now (rep .exit)) (now (pool .exit)) ≡ walk ask (tokens-of (now (t .entry))) b (after-propvalue semicolon) (view s (now (codes .entry)) (now (ev .entry)) (now (rep .entry)) (now (pool .entry)))) ⌝ }
     ensures { λ r. ⌜ left (now (t .entry)) (r .s) ≤ left (now (t .entry)) s ⌝ }
     ensures { λ r. ⌜ (answer-of (r .answer) ≡ also → ⊥) ⌝ }
 {
@@ -159,7 +159,7 @@ pub fn unfinished(
     pool: &mut [u32],
     m: Marker,
 ) -> State
-    ensures { λ r. ⌜ ((ask : Rule → Machine → Walked) (b : Span) → said yes (view r (now (codes .entry)) (now (ev .exit)) (now (rep .exit)) (now (pool .exit))) ≡ closed (marker-of m) (walk ask (tokens (now (t .entry))) b unfinished (view s (now (codes .entry)) (now (ev .entry)) (now (rep .entry)) (now (pool .entry))))) ⌝ }
+    ensures { λ r. ⌜ ((ask : Rule → Machine → Walked) (b : Span) → said yes (view r (now (codes .entry)) (now (ev .exit)) (now (rep .exit)) (now (pool .exit))) ≡ closed (marker-of m) (walk ask (tokens-of (now (t .entry))) b unfinished (view s (now (codes .entry)) (now (ev .entry)) (now (rep .entry)) (now (pool .entry))))) ⌝ }
     ensures { λ r. ⌜ left (now (t .entry)) r ≤ left (now (t .entry)) s ⌝ }
 {
     let reported = s.error(codes, t, ev, rep, pool, EXPECTED, NO_HINT, Bump::No);

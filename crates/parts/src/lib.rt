@@ -14,7 +14,7 @@ ghost use mathlib.Core.Path.{_≡_};
 ghost use mathlib.Core.Bool.{true, false};
 ghost use mathlib.Core.List.{List};
 ghost use Prim.Native.Nat.{ℕ, _+_, _-_, _≤_, _<_};
-ghost use Rattle.definitions.specs.Token.{tokens};
+ghost use Rattle.definitions.specs.Token.{tokens-of};
 ghost use Rattle.definitions.specs.Skeleton.{Span};
 ghost use Rattle.definitions.specs.Prog.{Rule, yes, also};
 ghost use Rattle.definitions.specs.Grammar.{cells-end, after-propvalue, eat-dts-include, eat-dts-directive, eat-node-or-prop-prefix};
@@ -32,7 +32,7 @@ pub fn eat_plain_cell(
     rep: &mut [u32],
     pool: &mut [u32],
 ) -> Tested
-    ensures { λ r. ⌜ ((ask : Rule → Machine → Walked) (b : Span) → tested-as r (now (ev .exit)) (now (rep .exit)) (now (pool .exit)) ≡ walk ask (tokens (now (t .entry))) b plain-cell (view-of p (now (ev .entry)) (now (rep .entry)) (now (pool .entry)))) ⌝ }
+    ensures { λ r. ⌜ ((ask : Rule → Machine → Walked) (b : Span) → tested-as r (now (ev .exit)) (now (rep .exit)) (now (pool .exit)) ≡ walk ask (tokens-of (now (t .entry))) b plain-cell (view-of p (now (ev .entry)) (now (rep .entry)) (now (pool .entry)))) ⌝ }
     ensures { λ r. ⌜ left (now (t .entry)) (r .p .s) ≤ left (now (t .entry)) (p .s) ⌝ }
     ensures { λ r. ⌜ (r .yes ≡ true → left (now (t .entry)) (r .p .s) < left (now (t .entry)) (p .s)) ⌝ }
 {
@@ -44,7 +44,7 @@ pub fn eat_plain_cell(
 }
 
 pub fn at_cells_end(p: Parser, t: &[u32], at_end: bool) -> Tested
-    ensures { λ r. ⌜ ((ask : Rule → Machine → Walked) (b : Span) (ev rep pool : List ℕ) → tested-as r ev rep pool ≡ walk ask (tokens (now (t .entry))) b (cells-end «at_end») (view-of p ev rep pool)) ⌝ }
+    ensures { λ r. ⌜ ((ask : Rule → Machine → Walked) (b : Span) (ev rep pool : List ℕ) → tested-as r ev rep pool ≡ walk ask (tokens-of (now (t .entry))) b (cells-end «at_end») (view-of p ev rep pool)) ⌝ }
     ensures { λ r. ⌜ left (now (t .entry)) (r .p .s) ≤ left (now (t .entry)) (p .s) ⌝ }
 {
     let mut codes = p.codes;
@@ -55,7 +55,7 @@ pub fn at_cells_end(p: Parser, t: &[u32], at_end: bool) -> Tested
 }
 
 pub fn at_cells_recovery(p: Parser, t: &[u32]) -> Tested
-    ensures { λ r. ⌜ ((ask : Rule → Machine → Walked) (b : Span) (ev rep pool : List ℕ) → tested-as r ev rep pool ≡ walk ask (tokens (now (t .entry))) b at-cells-recovery (view-of p ev rep pool)) ⌝ }
+    ensures { λ r. ⌜ ((ask : Rule → Machine → Walked) (b : Span) (ev rep pool : List ℕ) → tested-as r ev rep pool ≡ walk ask (tokens-of (now (t .entry))) b at-cells-recovery (view-of p ev rep pool)) ⌝ }
     ensures { λ r. ⌜ left (now (t .entry)) (r .p .s) ≤ left (now (t .entry)) (p .s) ⌝ }
     ensures { λ r. ⌜ (r .yes ≡ false → 0 < left (now (t .entry)) (p .s)) ⌝ }
 {
@@ -74,7 +74,7 @@ pub fn after_propvalue(
     pool: &mut [u32],
     semicolon: bool,
 ) -> Told
-    ensures { λ r. ⌜ ((ask : Rule → Machine → Walked) (b : Span) → told-as r (now (ev .exit)) (now (rep .exit)) (now (pool .exit)) ≡ walk ask (tokens (now (t .entry))) b (after-propvalue semicolon) (view-of p (now (ev .entry)) (now (rep .entry)) (now (pool .entry)))) ⌝ }
+    ensures { λ r. ⌜ ((ask : Rule → Machine → Walked) (b : Span) → told-as r (now (ev .exit)) (now (rep .exit)) (now (pool .exit)) ≡ walk ask (tokens-of (now (t .entry))) b (after-propvalue semicolon) (view-of p (now (ev .entry)) (now (rep .entry)) (now (pool .entry)))) ⌝ }
     ensures { λ r. ⌜ left (now (t .entry)) (r .p .s) ≤ left (now (t .entry)) (p .s) ⌝ }
     ensures { λ r. ⌜ (answer-of (r .answer) ≡ also → ⊥) ⌝ }
 {
@@ -90,7 +90,7 @@ pub fn after_propvalue(
 }
 
 pub fn at_item(p: Parser, t: &[u32]) -> Tested
-    ensures { λ r. ⌜ ((ask : Rule → Machine → Walked) (b : Span) (ev rep pool : List ℕ) → tested-as r ev rep pool ≡ walk ask (tokens (now (t .entry))) b at-item (view-of p ev rep pool)) ⌝ }
+    ensures { λ r. ⌜ ((ask : Rule → Machine → Walked) (b : Span) (ev rep pool : List ℕ) → tested-as r ev rep pool ≡ walk ask (tokens-of (now (t .entry))) b at-item (view-of p ev rep pool)) ⌝ }
     ensures { λ r. ⌜ left (now (t .entry)) (r .p .s) ≤ left (now (t .entry)) (p .s) ⌝ }
     ensures { λ r. ⌜ (r .yes ≡ true → 0 < left (now (t .entry)) (r .p .s)) ⌝ }
 {
@@ -108,7 +108,7 @@ pub fn eat_dts_include(
     rep: &mut [u32],
     pool: &mut [u32],
 ) -> Tested
-    ensures { λ r. ⌜ ((ask : Rule → Machine → Walked) (b : Span) → tested-as r (now (ev .exit)) (now (rep .exit)) (now (pool .exit)) ≡ walk ask (tokens (now (t .entry))) b eat-dts-include (view-of p (now (ev .entry)) (now (rep .entry)) (now (pool .entry)))) ⌝ }
+    ensures { λ r. ⌜ ((ask : Rule → Machine → Walked) (b : Span) → tested-as r (now (ev .exit)) (now (rep .exit)) (now (pool .exit)) ≡ walk ask (tokens-of (now (t .entry))) b eat-dts-include (view-of p (now (ev .entry)) (now (rep .entry)) (now (pool .entry)))) ⌝ }
     ensures { λ r. ⌜ left (now (t .entry)) (r .p .s) ≤ left (now (t .entry)) (p .s) ⌝ }
     ensures { λ r. ⌜ (r .yes ≡ true → left (now (t .entry)) (r .p .s) < left (now (t .entry)) (p .s)) ⌝ }
 {
@@ -126,7 +126,7 @@ pub fn eat_dts_directive(
     rep: &mut [u32],
     pool: &mut [u32],
 ) -> Tested
-    ensures { λ r. ⌜ ((ask : Rule → Machine → Walked) (b : Span) → tested-as r (now (ev .exit)) (now (rep .exit)) (now (pool .exit)) ≡ walk ask (tokens (now (t .entry))) b eat-dts-directive (view-of p (now (ev .entry)) (now (rep .entry)) (now (pool .entry)))) ⌝ }
+    ensures { λ r. ⌜ ((ask : Rule → Machine → Walked) (b : Span) → tested-as r (now (ev .exit)) (now (rep .exit)) (now (pool .exit)) ≡ walk ask (tokens-of (now (t .entry))) b eat-dts-directive (view-of p (now (ev .entry)) (now (rep .entry)) (now (pool .entry)))) ⌝ }
     ensures { λ r. ⌜ left (now (t .entry)) (r .p .s) ≤ left (now (t .entry)) (p .s) ⌝ }
     ensures { λ r. ⌜ (r .yes ≡ true → left (now (t .entry)) (r .p .s) ≤ left (now (t .entry)) (p .s) - 1) ⌝ }
 {
@@ -144,7 +144,7 @@ pub fn eat_node_or_prop_prefix(
     rep: &mut [u32],
     pool: &mut [u32],
 ) -> Told
-    ensures { λ r. ⌜ ((ask : Rule → Machine → Walked) (b : Span) → told-as r (now (ev .exit)) (now (rep .exit)) (now (pool .exit)) ≡ walk ask (tokens (now (t .entry))) b eat-node-or-prop-prefix (view-of p (now (ev .entry)) (now (rep .entry)) (now (pool .entry)))) ⌝ }
+    ensures { λ r. ⌜ ((ask : Rule → Machine → Walked) (b : Span) → told-as r (now (ev .exit)) (now (rep .exit)) (now (pool .exit)) ≡ walk ask (tokens-of (now (t .entry))) b eat-node-or-prop-prefix (view-of p (now (ev .entry)) (now (rep .entry)) (now (pool .entry)))) ⌝ }
     ensures { λ r. ⌜ left (now (t .entry)) (r .p .s) ≤ left (now (t .entry)) (p .s) - found (r .answer) ⌝ }
 {
     let mut codes = p.codes;
@@ -167,7 +167,7 @@ pub fn unfinished(
     pool: &mut [u32],
     m: Marker,
 ) -> Parser
-    ensures { λ r. ⌜ ((ask : Rule → Machine → Walked) (b : Span) → said yes (view-of r (now (ev .exit)) (now (rep .exit)) (now (pool .exit))) ≡ closed (marker-of m) (walk ask (tokens (now (t .entry))) b unfinished (view-of p (now (ev .entry)) (now (rep .entry)) (now (pool .entry))))) ⌝ }
+    ensures { λ r. ⌜ ((ask : Rule → Machine → Walked) (b : Span) → said yes (view-of r (now (ev .exit)) (now (rep .exit)) (now (pool .exit))) ≡ closed (marker-of m) (walk ask (tokens-of (now (t .entry))) b unfinished (view-of p (now (ev .entry)) (now (rep .entry)) (now (pool .entry))))) ⌝ }
     ensures { λ r. ⌜ left (now (t .entry)) (r .s) ≤ left (now (t .entry)) (p .s) ⌝ }
 {
     let codes = p.codes;

@@ -17,7 +17,7 @@ ghost use mathlib.Core.Path.{_≡_};
 ghost use mathlib.Core.Bool.{true, false};
 ghost use mathlib.Core.List.{List};
 ghost use Prim.Native.Nat.{ℕ, _+_, _-_, _≤_, _<_};
-ghost use Rattle.definitions.specs.Token.{tokens};
+ghost use Rattle.definitions.specs.Token.{tokens-of};
 ghost use Rattle.definitions.specs.Skeleton.{Span};
 ghost use Rattle.definitions.specs.Prog.{Rule, yes};
 ghost use Rattle.definitions.specs.Grammar.{prefix-turn, eat-node-or-prop-prefix};
@@ -53,7 +53,7 @@ fn eat_unit_address_and_at_colon(
     rep: &mut [u32],
     pool: &mut [u32],
 ) -> Seen
-    ensures { λ r. ⌜ ((ask : Rule → Machine → Walked) (b : Span) → seen-as r (now (codes .exit)) (now (ev .exit)) (now (rep .exit)) (now (pool .exit)) ≡ walk ask (tokens (now (t .entry))) b unit-address-and-colon (view s (now (codes .entry)) (now (ev .entry)) (now (rep .entry)) (now (pool .entry)))) ⌝ }
+    ensures { λ r. ⌜ ((ask : Rule → Machine → Walked) (b : Span) → seen-as r (now (codes .exit)) (now (ev .exit)) (now (rep .exit)) (now (pool .exit)) ≡ walk ask (tokens-of (now (t .entry))) b unit-address-and-colon (view s (now (codes .entry)) (now (ev .entry)) (now (rep .entry)) (now (pool .entry)))) ⌝ }
     ensures { λ r. ⌜ left (now (t .entry)) (r .s) ≤ left (now (t .entry)) s ⌝ }
 {
     let unit = unit_address::eat(s, codes, t, ev, rep, pool);
@@ -74,7 +74,7 @@ fn label_or_name(
     pool: &mut [u32],
     allow_prop: bool,
 ) -> Said
-    ensures { λ r. ⌜ ((ask : Rule → Machine → Walked) (b : Span) → said-as r (now (codes .exit)) (now (ev .exit)) (now (rep .exit)) (now (pool .exit)) ≡ walk ask (tokens (now (t .entry))) b (label-or-name (own-name «allow_prop»)) (view s (now (codes .entry)) (now (ev .entry)) (now (rep .entry)) (now (pool .entry)))) ⌝ }
+    ensures { λ r. ⌜ ((ask : Rule → Machine → Walked) (b : Span) → said-as r (now (codes .exit)) (now (ev .exit)) (now (rep .exit)) (now (pool .exit)) ≡ walk ask (tokens-of (now (t .entry))) b (label-or-name (own-name «allow_prop»)) (view s (now (codes .entry)) (now (ev .entry)) (now (rep .entry)) (now (pool .entry)))) ⌝ }
     ensures { λ r. ⌜ left (now (t .entry)) (r .s) ≤ left (now (t .entry)) s - 1 ⌝ }
 {
     let m_label = Marker::new(s);
@@ -119,7 +119,7 @@ fn turn(
     pool: &mut [u32],
     allow_prop: bool,
 ) -> Said
-    ensures { λ r. ⌜ ((ask : Rule → Machine → Walked) (b : Span) → said-as r (now (codes .exit)) (now (ev .exit)) (now (rep .exit)) (now (pool .exit)) ≡ walk ask (tokens (now (t .entry))) b (prefix-turn (own-name «allow_prop»)) (view s (now (codes .entry)) (now (ev .entry)) (now (rep .entry)) (now (pool .entry)))) ⌝ }
+    ensures { λ r. ⌜ ((ask : Rule → Machine → Walked) (b : Span) → said-as r (now (codes .exit)) (now (ev .exit)) (now (rep .exit)) (now (pool .exit)) ≡ walk ask (tokens-of (now (t .entry))) b (prefix-turn (own-name «allow_prop»)) (view s (now (codes .entry)) (now (ev .entry)) (now (rep .entry)) (now (pool .entry)))) ⌝ }
     ensures { λ r. ⌜ left (now (t .entry)) (r .s) + goes (r .answer) ≤ left (now (t .entry)) s ⌝ }
     ensures { λ r. ⌜ left (now (t .entry)) (r .s) ≤ left (now (t .entry)) s - found (r .answer) ⌝ }
 {
@@ -159,7 +159,7 @@ fn labels_and_name(
     pool: &mut [u32],
     allow_prop: bool,
 ) -> Said
-    ensures { λ r. ⌜ ((ask : Rule → Machine → Walked) (b : Span) → said-as r (now (codes .exit)) (now (ev .exit)) (now (rep .exit)) (now (pool .exit)) ≡ walk ask (tokens (now (t .entry))) b (labels-and-name (own-name «allow_prop»)) (view s (now (codes .entry)) (now (ev .entry)) (now (rep .entry)) (now (pool .entry)))) ⌝ }
+    ensures { λ r. ⌜ ((ask : Rule → Machine → Walked) (b : Span) → said-as r (now (codes .exit)) (now (ev .exit)) (now (rep .exit)) (now (pool .exit)) ≡ walk ask (tokens-of (now (t .entry))) b (labels-and-name (own-name «allow_prop»)) (view s (now (codes .entry)) (now (ev .entry)) (now (rep .entry)) (now (pool .entry)))) ⌝ }
     ensures { λ r. ⌜ left (now (t .entry)) (r .s) ≤ left (now (t .entry)) s - found (r .answer) ⌝ }
 {
     let mut q = s;
@@ -186,7 +186,7 @@ pub fn eat_node_or_prop_prefix(
     rep: &mut [u32],
     pool: &mut [u32],
 ) -> Said
-    ensures { λ r. ⌜ ((ask : Rule → Machine → Walked) (b : Span) → said-as r (now (codes .exit)) (now (ev .exit)) (now (rep .exit)) (now (pool .exit)) ≡ walk ask (tokens (now (t .entry))) b eat-node-or-prop-prefix (view s (now (codes .entry)) (now (ev .entry)) (now (rep .entry)) (now (pool .entry)))) ⌝ }
+    ensures { λ r. ⌜ ((ask : Rule → Machine → Walked) (b : Span) → said-as r (now (codes .exit)) (now (ev .exit)) (now (rep .exit)) (now (pool .exit)) ≡ walk ask (tokens-of (now (t .entry))) b eat-node-or-prop-prefix (view s (now (codes .entry)) (now (ev .entry)) (now (rep .entry)) (now (pool .entry)))) ⌝ }
     ensures { λ r. ⌜ left (now (t .entry)) (r .s) ≤ left (now (t .entry)) s - found (r .answer) ⌝ }
 {
     let omit = s.eat(codes, t, ev, Matcher::Kind(kind::OMIT_IF_NO_REF_DIRECTIVE));

@@ -14,7 +14,7 @@ use Rattle.definitions.specs.Prog.{Ans, no, yes}
 use Rattle.definitions.specs.Skeleton.{done, token, _⧺_}
 use Rattle.definitions.specs.Run.{State, Out, answer, makes, taken, add, at-depth, do-argument}
 use Rattle.definitions.specs.Report.{pushes}
-use Rattle.definitions.specs.C.{Symbol, kind, symbol, symbols, opens, closes, keeps, turn}
+use Rattle.definitions.specs.C.{Symbol, plain, symbol, symbols, opens, closes, keeps, turn}
 use Rattle.laws.proofs.Trivia.{drop-none, Passes, passes-none, passes-one, passes-then, passes-drop}
 use Rattle.laws.proofs.Kept.{Stands}
 use Rattle.precedence.specs.Nodes.{one, Split, argument, taking, ended, is-comma, split-turn, split}
@@ -39,7 +39,7 @@ pub record Argued (s : State) (sp : Split) (o : Out) : Type 0 where
 pub data Closing (s : State) (sp : Split) (vs : List Symbol) (o : Out) : Type 0 where
   at-comma : (c : Token) (cs : List Token) (xs : List Symbol) → Stopped s o → Argued s sp o → o .ans ≡ yes → drop-trivia (o .state .since) ≡ c ∷ cs
       → args (symbols false cs) 0 ≡ closed xs vs → sp .later ≡ one ⧺ argument (split xs 0) → Closing s sp vs o
-  at-close : Stopped s o → Argued s sp o → o .ans ≡ no → symbols false (o .state .since) ≡ kind K.RParen ∷ vs → sp .later ≡ done → Closing s sp vs o
+  at-close : Stopped s o → Argued s sp o → o .ans ≡ no → symbols false (o .state .since) ≡ plain K.RParen ∷ vs → sp .later ≡ done → Closing s sp vs o
 
 -- it is not
 pub data Opening (s : State) (o : Out) : Type 0 where
@@ -106,7 +106,7 @@ module _ (s : State) (t : Token) (ts : List Token) (p : Passes (s .since) (t ∷
   unfolding answer
   takes-close e =
       at-close (stopped-here no s (t ∷ ts) p) (argued-none no s (t ∷ ts) (split [] 0) refl) refl
-      (symbols-next (s .since) t ts first ∙ ap (λ (k : ℕ). kind k ∷ symbols (eqb (seen t) K.Ident) ts) e) refl
+      (symbols-next (s .since) t ts first ∙ ap (λ (k : ℕ). plain k ∷ symbols (eqb (seen t) K.Ident) ts) e) refl
 
   takes-comma : (x : Symbol) → is-comma x ≡ true → turn x ≡ keeps → (y : Args) → args (symbols false ts) 0 ≡ y → Takes s 0 (push x y) (stay yes s (t ∷ ts))
   unfolding answer
@@ -159,14 +159,14 @@ module _ (s : State) (t : Token) (ts : List Token) (b : Bool) (p : Passes (s .si
   case-plain (suc n) x e c = case-keeps (suc n) x e (λ f. refl)
 
   by-comma : (n : ℕ) (z : Bool) → eqb (seen t) K.Comma ≡ z → eqb (seen t) K.LParen ≡ false → eqb (seen t) K.RParen ≡ false
-      → Case n (kind (seen t)) (cond z (at-depth n (stay yes s (t ∷ ts)) (λ m. go (suc m))) (go n))
-  by-comma n true e l r = case-comma n (kind (seen t)) (rw (l, r)) e (ap (λ (k : ℕ). eqb k K.Ident) (eqb-true (seen t) K.Comma e))
-  by-comma n false e l r = case-plain n (kind (seen t)) (rw (l, r)) e
+      → Case n (plain (seen t)) (cond z (at-depth n (stay yes s (t ∷ ts)) (λ m. go (suc m))) (go n))
+  by-comma n true e l r = case-comma n (plain (seen t)) (rw (l, r)) e (ap (λ (k : ℕ). eqb k K.Ident) (eqb-true (seen t) K.Comma e))
+  by-comma n false e l r = case-plain n (plain (seen t)) (rw (l, r)) e
 
   by-close : (n : ℕ) (z : Bool) → eqb (seen t) K.RParen ≡ z → eqb (seen t) K.LParen ≡ false
-      → Case n (kind (seen t))
+      → Case n (plain (seen t))
       (cond z (at-depth n (stay no s (t ∷ ts)) go) (cond (eqb (seen t) K.Comma) (at-depth n (stay yes s (t ∷ ts)) (λ m. go (suc m))) (go n)))
-  by-close n true e l = case-closes n (kind (seen t)) (rw (l, e)) (eqb-true (seen t) K.RParen e)
+  by-close n true e l = case-closes n (plain (seen t)) (rw (l, e)) (eqb-true (seen t) K.RParen e)
   by-close n false e l = by-comma n (eqb (seen t) K.Comma) refl l e
 
   by-open : (n : ℕ) (z : Bool) → eqb (seen t) K.LParen ≡ z

@@ -10,8 +10,8 @@ use lib.ListN.{length}
 use Rattle.definitions.specs.TokenKind as K
 use Rattle.definitions.specs.NodeKind as N
 use Rattle.definitions.specs.Token.{Token, drop-trivia}
-use Rattle.definitions.specs.Prog.{Ans, no, yes, again, Rule, bump-argument, ret, act, _⨟_, case, mark, loop}
-use Rattle.definitions.specs.Check.{tell, bump!, kind}
+use Rattle.definitions.specs.Prog.{Ans, no, yes, again, Rule, bump-argument, ret, act, _⨟_, case, in-marker, loop}
+use Rattle.definitions.specs.Check.{tell, bump!, of-kind}
 use Rattle.definitions.specs.Grammar.{macro-argument-turn}
 use Rattle.definitions.specs.Skeleton.{Label, Skeleton, done, token, _⧺_}
 use Rattle.definitions.specs.Run.{State, Out, mark-of, makes, taken, add, perform, closed as closed-marker, marked, is-again, goes-on, iter, exec}
@@ -54,7 +54,7 @@ record Round (s : State) (cs : List Token) (o : Out) : Type 0 where
 data Rounds (s : State) : Args → Out → Type 0 where
   more-closed : {xs vs : List Symbol} {o : Out} (cs : List Token) (ys : List Symbol) → Round s cs o → Same (o .made) (nodes N.MacroArgument (split xs 0 .first) ⧺ one)
       → Quiet (pushes (o .made)) → args (symbols false cs) 0 ≡ closed ys vs → split xs 0 .later ≡ one ⧺ argument (split ys 0) → Rounds s (closed xs vs) o
-  last-closed : {xs vs : List Symbol} {o : Out} → o .ans ≡ yes → Done s (argument (split xs 0)) (C.kind K.RParen ∷ vs) (o .made) (o .state) → Rounds s (closed xs vs) o
+  last-closed : {xs vs : List Symbol} {o : Out} → o .ans ≡ yes → Done s (argument (split xs 0)) (C.plain K.RParen ∷ vs) (o .made) (o .state) → Rounds s (closed xs vs) o
   more-open : {o : Out} (cs : List Token) → Round s cs o → args (symbols false cs) 0 ≡ unclosed → Rounds s unclosed o
   last-open : {o : Out} → o .ans ≡ yes → Stands (o .state) → symbols false (o .state .since) ≡ [] → Tail (o .state .since) (s .since) → Rounds s unclosed o
 
@@ -66,7 +66,7 @@ pub record Ended (s : State) (u : State) : Type 0 where
 
 -- all the arguments, up to the bracket that closes their list, or to the end
 abbrev pub Looped : State → Args → Out → Type 0
-Looped s (closed xs vs) o = Done s (argument (split xs 0)) (C.kind K.RParen ∷ vs) (o .made) (o .state)
+Looped s (closed xs vs) o = Done s (argument (split xs 0)) (C.plain K.RParen ∷ vs) (o .made) (o .state)
 Looped s unclosed o = Ended s (o .state)
 
 module _ (ask : Rule → State → Out) (b : Label) where
@@ -125,7 +125,7 @@ module _ (ask : Rule → State → Out) (b : Label) where
   node-by s unclosed o h = node-then s o (Opening s) (opening-answers s o h) (λ a e. opening-node a s o e h)
 
   argument-node : (s : State) → Stands s
-      → Ends ask b (mark (case (act bump-argument) (ret N.MacroArgument no) (ret N.MacroArgument yes) (ret N.MacroArgument yes))) s
+      → Ends ask b (in-marker (case (act bump-argument) (ret N.MacroArgument no) (ret N.MacroArgument yes) (ret N.MacroArgument yes))) s
       (Noded s (args (symbols false (s .since)) 0))
   argument-node s h = inside ask b (branch ask b (taken-argument s h) (node-by s (args (symbols false (s .since)) 0)))
 
@@ -225,15 +225,15 @@ module _ (ask : Rule → State → Out) (b : Label) where
 
   done-more : (s : State) (cs : List Token) (xs ys vs : List Symbol) (o o′ : Out) → Round s cs o
       → Same (o .made) (nodes N.MacroArgument (split xs 0 .first) ⧺ one) → Quiet (pushes (o .made)) → split xs 0 .later ≡ one ⧺ argument (split ys 0)
-      → Done (taken cs) (argument (split ys 0)) (C.kind K.RParen ∷ vs) (o′ .made) (o′ .state)
-      → Done s (argument (split xs 0)) (C.kind K.RParen ∷ vs) (o .made ⧺ o′ .made) (o′ .state)
+      → Done (taken cs) (argument (split ys 0)) (C.plain K.RParen ∷ vs) (o′ .made) (o′ .state)
+      → Done s (argument (split xs 0)) (C.plain K.RParen ∷ vs) (o .made ⧺ o′ .made) (o′ .state)
   done-more s cs xs ys vs o o′ r p q l d =
       let first = nodes N.MacroArgument (split xs 0 .first) in
       let a : Done s (first ⧺ one) (symbols false cs) (o .made) (taken cs) =
       record { same = p; quiet = q; stands = stands-taken cs; left = refl; tail = r .tail } in
       let e : (first ⧺ one) ⧺ argument (split ys 0) ≡ first ⧺ split xs 0 .later = join-assoc first one (argument (split ys 0)) ∙ ap (first ⧺_) (sym l) in
-      subst (λ (z : Skeleton). Done s z (C.kind K.RParen ∷ vs) (o .made ⧺ o′ .made) (o′ .state)) e
-      (done-join s (taken cs) (o′ .state) (first ⧺ one) (argument (split ys 0)) (symbols false cs) (C.kind K.RParen ∷ vs) (o .made) (o′ .made) a d)
+      subst (λ (z : Skeleton). Done s z (C.plain K.RParen ∷ vs) (o .made ⧺ o′ .made) (o′ .state)) e
+      (done-join s (taken cs) (o′ .state) (first ⧺ one) (argument (split ys 0)) (symbols false cs) (C.plain K.RParen ∷ vs) (o .made) (o′ .made) a d)
 
   loop-step : (n : ℕ) (s : State) (y : Args) (o : Out) → Rounds s y o → length (s .rest) < suc n → Later n → Clear (pushes (looped n s o .made))
       → Looped s y (looped n s o)

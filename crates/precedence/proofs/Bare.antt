@@ -7,7 +7,7 @@ use mathlib.Core.Option.{Option, none, some}
 use lib.ListN.{length}
 use Rattle.definitions.specs.TokenKind as K
 use Rattle.definitions.specs.Token.{one-of}
-use Rattle.definitions.specs.C.{Symbol, kind, Turn, opens, closes, keeps, turn, turned, open-after, Balanced, Expr, written, Allowed, Gives}
+use Rattle.definitions.specs.C.{Symbol, plain, Turn, opens, closes, keeps, turn, turned, open-after, Balanced, Expr, spelling, Allowed, Gives}
 use Rattle.precedence.proofs.Pratt.{operator, is, Res, done, report, refused, spent, expect, closed, args, reader, cell}
 use Rattle.precedence.proofs.Base.{onto, onto-written, open-onto, Before, before-refl, Post, post-bind, post-expect}
 use Rattle.precedence.proofs.Sound.{Read, reader-sound, behind}
@@ -25,13 +25,13 @@ pub record Within (xs after p : List Symbol) : Type 0 where
 -- the bracket is taken; or a call is refused
 abbrev pub Verdict : List Symbol → List Symbol → Res → Type 0
 Verdict xs us (done e vs) = Gives xs e × (vs ≡ us)
-Verdict xs us (report p) = ((e : Expr) → Gives xs e → ⊥) × Within xs (kind K.RParen ∷ us) p
+Verdict xs us (report p) = ((e : Expr) → Gives xs e → ⊥) × Within xs (plain K.RParen ∷ us) p
 Verdict xs us refused = Unit {0}
 Verdict xs us spent = ⊥
 
 record Cell (us : List Symbol) (e : Expr) (vs : List Symbol) : Type 0 where
   allowed : Allowed e
-  symbols-are : us ≡ onto e (kind K.RParen ∷ vs)
+  symbols-are : us ≡ onto e (plain K.RParen ∷ vs)
 
 cell-sound : (d : ℕ) (us : List Symbol) → Post (Cell us) (Before us) (cell d us)
 cell-sound d us =
@@ -41,29 +41,29 @@ cell-sound d us =
     post-expect (Cell us) (Before us) K.RParen vs (λ ws. done e ws) (behind e (r .allowed) us vs vs (r .symbols-are) (before-refl vs))
     λ ws h. let y = r .symbols-are in record { allowed = r .allowed; symbols-are = cc }
 
-cell-complete : (d : ℕ) (xs : List Symbol) (e : Expr) → Gives xs e → (us : List Symbol) → Post (Is e us) Never (cell d (xs ++ (kind K.RParen ∷ us)))
+cell-complete : (d : ℕ) (xs : List Symbol) (e : Expr) → Gives xs e → (us : List Symbol) → Post (Is e us) Never (cell d (xs ++ (plain K.RParen ∷ us)))
 unfolding operator is one-of
 cell-complete d xs e g us =
-    let h : onto e (kind K.RParen ∷ us) ≡ xs ++ (kind K.RParen ∷ us) =
-    onto-written e (kind K.RParen ∷ us) ∙ ap (λ (l : List Symbol). l ++ (kind K.RParen ∷ us)) (g .symbols-are) in
+    let h : onto e (plain K.RParen ∷ us) ≡ xs ++ (plain K.RParen ∷ us) =
+    onto-written e (plain K.RParen ∷ us) ∙ ap (λ (l : List Symbol). l ++ (plain K.RParen ∷ us)) (g .symbols-are) in
     rw (← h)
-    (post-then (Is e us) e (kind K.RParen ∷ us) (reader d 0 (onto e (kind K.RParen ∷ us))) (λ e′ vs. expect K.RParen vs (λ ws. done e′ ws))
-    (reads-exactly e (g .allowed) d (kind K.RParen ∷ us) tt tt) (refl, refl))
+    (post-then (Is e us) e (plain K.RParen ∷ us) (reader d 0 (onto e (plain K.RParen ∷ us))) (λ e′ vs. expect K.RParen vs (λ ws. done e′ ws))
+    (reads-exactly e (g .allowed) d (plain K.RParen ∷ us) tt tt) (refl, refl))
 
 -- ---------------------------------------------------------------- brackets
 
 -- the bracket that balances is one
-pub split-unique : (xs ys us vs : List Symbol) → Balanced xs → Balanced ys → xs ++ (kind K.RParen ∷ us) ≡ ys ++ (kind K.RParen ∷ vs)
+pub split-unique : (xs ys us vs : List Symbol) → Balanced xs → Balanced ys → xs ++ (plain K.RParen ∷ us) ≡ ys ++ (plain K.RParen ∷ vs)
     → (xs ≡ ys) × (us ≡ vs)
 split-unique xs ys us vs p q h =
     let x = args-complete xs us 0 p in
     let y = args-complete ys vs 0 q in
-    let z : args (xs ++ (kind K.RParen ∷ us)) 0 ≡ args (ys ++ (kind K.RParen ∷ vs)) 0 = ap (λ (l : List Symbol). args l 0) h in
+    let z : args (xs ++ (plain K.RParen ∷ us)) 0 ≡ args (ys ++ (plain K.RParen ∷ vs)) 0 = ap (λ (l : List Symbol). args l 0) h in
     let w : closed xs us ≡ closed ys vs = sym x ∙ z ∙ y in
     (cc, cc)
 
-balanced : (e : Expr) → Allowed e → Balanced (written e)
-balanced e a = ap (λ (l : List Symbol). open-after l 0) (sym (append-nil (written e)) ∙ sym (onto-written e [])) ∙ open-onto e a [] 0
+balanced : (e : Expr) → Allowed e → Balanced (spelling e)
+balanced e a = ap (λ (l : List Symbol). open-after l 0) (sym (append-nil (spelling e)) ∙ sym (onto-written e [])) ∙ open-onto e a [] 0
 
 -- where brackets balance, what closes none that was not opened stays inside
 within-turn : (t : Turn) (f g : ℕ → Option ℕ) (n : ℕ) (X : Type 0) → ((m : ℕ) → f m ≡ some 0 → (g m ≡ none → ⊥) → X)
@@ -77,31 +77,31 @@ within-cons : (x : Symbol) (xs after p : List Symbol) → Within xs after p → 
 within-cons x xs after p w = record { passed = x ∷ w .passed; left = w .left; symbols-are = rw (w .symbols-are); here = w .here }
 
 within : (xs c us p : List Symbol) (n : ℕ) → open-after xs n ≡ some 0 → (open-after c n ≡ none → ⊥)
-    → xs ++ (kind K.RParen ∷ us) ≡ c ++ p → Within xs (kind K.RParen ∷ us) p
+    → xs ++ (plain K.RParen ∷ us) ≡ c ++ p → Within xs (plain K.RParen ∷ us) p
 within xs [] us p n h i e = record { passed = []; left = xs; symbols-are = refl; here = sym e }
-within [] (y ∷ c) us p zero h f e = let z : y ≡ kind K.RParen = cc in absurd (f (rw z refl))
+within [] (y ∷ c) us p zero h f e = let z : y ≡ plain K.RParen = cc in absurd (f (rw z refl))
 within [] (y ∷ c) us p (suc n) h f e = let z : suc n ≡ 0 = cc in absurd (omega arith)
 within (x ∷ xs) (y ∷ c) us p n h f e =
     let z : y ≡ x = cc in
-    let w : xs ++ (kind K.RParen ∷ us) ≡ c ++ p = cc in
-    within-cons x xs (kind K.RParen ∷ us) p
-    (within-turn (turn x) (open-after xs) (open-after c) n (Within xs (kind K.RParen ∷ us) p) (λ m a b. within xs c us p m a b w) h
+    let w : xs ++ (plain K.RParen ∷ us) ≡ c ++ p = cc in
+    within-cons x xs (plain K.RParen ∷ us) p
+    (within-turn (turn x) (open-after xs) (open-after c) n (Within xs (plain K.RParen ∷ us) p) (λ m a b. within xs c us p m a b w) h
     (λ a. f (rw z a)))
 
 -- ---------------------------------------------------------------- the verdict
 
-verdict-of : (xs us : List Symbol) → Balanced xs → (x : Res) → Post (Cell (xs ++ (kind K.RParen ∷ us))) (Before (xs ++ (kind K.RParen ∷ us))) x
-    → ((e : Expr) → Gives xs e → Post (Is e us) Never x) → (R : Type 0) → Fin (length (xs ++ (kind K.RParen ∷ us))) R x → Verdict xs us x
+verdict-of : (xs us : List Symbol) → Balanced xs → (x : Res) → Post (Cell (xs ++ (plain K.RParen ∷ us))) (Before (xs ++ (plain K.RParen ∷ us))) x
+    → ((e : Expr) → Gives xs e → Post (Is e us) Never x) → (R : Type 0) → Fin (length (xs ++ (plain K.RParen ∷ us))) R x → Verdict xs us x
 verdict-of xs us b (done e vs) s c R f =
-    let q = split-unique xs (written e) us vs b (balanced e (s .allowed)) (s .symbols-are ∙ onto-written e (kind K.RParen ∷ vs)) in
+    let q = split-unique xs (spelling e) us vs b (balanced e (s .allowed)) (s .symbols-are ∙ onto-written e (plain K.RParen ∷ vs)) in
     (record { allowed = s .allowed; symbols-are = sym (q .0) }, sym (q .1))
 verdict-of xs us b (report p) s c R f = (c, within xs (s .passed) us p 0 b (s .inside 0) (s .split))
 verdict-of xs us b refused s c R f = tt
 verdict-of xs us b spent s c R f = f
 
-pub verdict : (d : ℕ) (xs us : List Symbol) → Balanced xs → Verdict xs us (cell d (xs ++ (kind K.RParen ∷ us)))
+pub verdict : (d : ℕ) (xs us : List Symbol) → Balanced xs → Verdict xs us (cell d (xs ++ (plain K.RParen ∷ us)))
 verdict d xs us b =
-    let ts : List Symbol = xs ++ (kind K.RParen ∷ us) in
+    let ts : List Symbol = xs ++ (plain K.RParen ∷ us) in
     verdict-of xs us b (cell d ts) (cell-sound d ts) (λ e g. cell-complete d xs e g us) (d ≤ length ts) (cell-fin d ts)
 
 same-of : (e e′ : Expr) (us : List Symbol) (R : Type 0) (x : Res) → Post (Is e us) Never x → Post (Is e′ us) Never x → (a : ℕ) → Fin a R x → (R → ⊥) → e ≡ e′
@@ -113,6 +113,6 @@ same-of e e′ us R spent p q a h r = absurd h
 -- the tree that C's table gives is unique
 pub unique : (xs : List Symbol) (e e′ : Expr) → Gives xs e → Gives xs e′ → e ≡ e′
 unique xs e e′ g g′ =
-    let ts : List Symbol = xs ++ (kind K.RParen ∷ []) in
+    let ts : List Symbol = xs ++ (plain K.RParen ∷ []) in
     let d : ℕ = suc (length ts) in
     same-of e e′ [] (d ≤ length ts) (cell d ts) (cell-complete d xs e g []) (cell-complete d xs e′ g′ []) (length ts) (cell-fin d ts) (λ h. omega arith)

@@ -10,7 +10,7 @@ use mathlib.Core.List.{List, [], _∷_, _++_, append-assoc}
 use mathlib.Core.Option.{Option, none, some}
 use Rattle.definitions.specs.TokenKind as K
 use Rattle.definitions.specs.Token.{one-of}
-use Rattle.definitions.specs.C.{Symbol, kind, arguments, Turn, opens, closes, keeps, turn, turned, open-after, Balanced, prefix-operators, number-in, number-of, Expr, literal, name, invocation, bracketed, prefix, binary, ternary, written, Allowed}
+use Rattle.definitions.specs.C.{Symbol, plain, arguments, Turn, opens, closes, keeps, turn, turned, open-after, Balanced, prefix-operators, number-in, number-of, Expr, literal, name, invocation, bracketed, prefix, binary, ternary, spelling, Allowed}
 use Rattle.precedence.proofs.Pratt.{Operator, asks, binds, operator, is, Res, done, report, refused, spent, bind, expect-if, expect}
 use Rattle.precedence.proofs.Pratt as P
 use Rattle.precedence.proofs.Tables.{OperatorOf, operator-of, Member, here, there, member, is-kind}
@@ -19,24 +19,24 @@ use Rattle.precedence.proofs.Powers.{lb, rb, Has}
 -- ---------------------------------------------------------------- an expression in front of other symbols
 
 abbrev pub onto : Expr → List Symbol → List Symbol
-onto (literal k) us = kind k ∷ us
-onto name us = kind K.Ident ∷ us
-onto (invocation xs) us = kind K.Ident ∷ arguments ∷ (xs ++ (kind K.RParen ∷ us))
-onto (bracketed e) us = kind K.LParen ∷ onto e (kind K.RParen ∷ us)
-onto (prefix k e) us = kind k ∷ onto e us
-onto (binary l k r) us = onto l (kind k ∷ onto r us)
-onto (ternary c a b) us = onto c (kind K.QuestionMark ∷ onto a (kind K.Colon ∷ onto b us))
+onto (literal k) us = plain k ∷ us
+onto name us = plain K.Ident ∷ us
+onto (invocation xs) us = plain K.Ident ∷ arguments ∷ (xs ++ (plain K.RParen ∷ us))
+onto (bracketed e) us = plain K.LParen ∷ onto e (plain K.RParen ∷ us)
+onto (prefix k e) us = plain k ∷ onto e us
+onto (binary l k r) us = onto l (plain k ∷ onto r us)
+onto (ternary c a b) us = onto c (plain K.QuestionMark ∷ onto a (plain K.Colon ∷ onto b us))
 
-pub onto-written : (e : Expr) (us : List Symbol) → onto e us ≡ written e ++ us
+pub onto-written : (e : Expr) (us : List Symbol) → onto e us ≡ spelling e ++ us
 onto-written (literal k) us = refl
 onto-written name us = refl
 onto-written (invocation xs) us = rw append-assoc
-onto-written (bracketed e) us = rw (append-assoc, onto-written e (kind K.RParen ∷ us))
+onto-written (bracketed e) us = rw (append-assoc, onto-written e (plain K.RParen ∷ us))
 onto-written (prefix k e) us = rw (onto-written e us)
-onto-written (binary l k r) us = rw (append-assoc, onto-written l (kind k ∷ onto r us), onto-written r us)
+onto-written (binary l k r) us = rw (append-assoc, onto-written l (plain k ∷ onto r us), onto-written r us)
 onto-written (ternary c a b) us =
-    onto-written c (kind K.QuestionMark ∷ onto a (kind K.Colon ∷ onto b us))
-    ∙ rw (onto-written a (kind K.Colon ∷ onto b us), onto-written b us) (simp append-assoc)
+    onto-written c (plain K.QuestionMark ∷ onto a (plain K.Colon ∷ onto b us))
+    ∙ rw (onto-written a (plain K.Colon ∷ onto b us), onto-written b us) (simp append-assoc)
 
 pub onto-append : (e : Expr) (c p : List Symbol) → onto e (c ++ p) ≡ onto e c ++ p
 onto-append e c p = rw (onto-written e (c ++ p), onto-written e c, append-assoc)
@@ -78,7 +78,7 @@ Flat x = turn x ≡ keeps
 flat-open : (x : Symbol) (xs : List Symbol) (n : ℕ) → Flat x → open-after (x ∷ xs) n ≡ open-after xs n
 flat-open x xs n h = rw h
 
-flat-prefix : {k : ℕ} → Member k prefix-operators → Flat (kind k)
+flat-prefix : {k : ℕ} → Member k prefix-operators → Flat (plain k)
 flat-prefix here = refl
 flat-prefix (there here) = refl
 flat-prefix (there (there here)) = refl
@@ -94,27 +94,27 @@ flat-by k h true c p q = absurd (bracket-not k K.LParen refl h (eqb-true k K.LPa
 flat-by k h false true p q = absurd (bracket-not k K.RParen refl h (eqb-true k K.RParen q))
 flat-by k h false false p q = refl
 
-pub flat-binary : (k : ℕ) → 1 ≤ number-of k → Flat (kind k)
+pub flat-binary : (k : ℕ) → 1 ≤ number-of k → Flat (plain k)
 flat-binary k h = flat-by k h (eqb k K.LParen) (eqb k K.RParen) refl refl
 
-pub flat-prefix-of : (k : ℕ) → one-of prefix-operators k ≡ true → Flat (kind k)
+pub flat-prefix-of : (k : ℕ) → one-of prefix-operators k ≡ true → Flat (plain k)
 flat-prefix-of k h = flat-prefix (member prefix-operators k h)
 
-flat-literal : {k : ℕ} → Member k (K.Number ∷ K.Char ∷ []) → Flat (kind k)
+flat-literal : {k : ℕ} → Member k (K.Number ∷ K.Char ∷ []) → Flat (plain k)
 flat-literal here = refl
 flat-literal (there here) = refl
 
 pub open-onto : (e : Expr) → Allowed e → (us : List Symbol) (n : ℕ) → open-after (onto e us) n ≡ open-after us n
-open-onto (literal k) a us n = flat-open (kind k) us n (flat-literal (member (K.Number ∷ K.Char ∷ []) k a))
+open-onto (literal k) a us n = flat-open (plain k) us n (flat-literal (member (K.Number ∷ K.Char ∷ []) k a))
 open-onto name a us n = refl
-open-onto (invocation xs) a us n = open-append xs (kind K.RParen ∷ us) (suc n) (suc n) (open-lift xs a (suc n))
-open-onto (bracketed e) a us n = open-onto e a (kind K.RParen ∷ us) (suc n)
-open-onto (prefix k e) a us n = flat-open (kind k) (onto e us) n (flat-prefix-of k (a .0)) ∙ open-onto e (a .1) us n
+open-onto (invocation xs) a us n = open-append xs (plain K.RParen ∷ us) (suc n) (suc n) (open-lift xs a (suc n))
+open-onto (bracketed e) a us n = open-onto e a (plain K.RParen ∷ us) (suc n)
+open-onto (prefix k e) a us n = flat-open (plain k) (onto e us) n (flat-prefix-of k (a .0)) ∙ open-onto e (a .1) us n
 open-onto (binary l k r) a us n =
-    open-onto l (a .1) (kind k ∷ onto r us) n ∙ flat-open (kind k) (onto r us) n (flat-binary k (a .0)) ∙ open-onto r (a .2) us n
+    open-onto l (a .1) (plain k ∷ onto r us) n ∙ flat-open (plain k) (onto r us) n (flat-binary k (a .0)) ∙ open-onto r (a .2) us n
 open-onto (ternary c x b) a us n =
-    open-onto c (a .0) (kind K.QuestionMark ∷ onto x (kind K.Colon ∷ onto b us)) n
-    ∙ open-onto x (a .1) (kind K.Colon ∷ onto b us) n
+    open-onto c (a .0) (plain K.QuestionMark ∷ onto x (plain K.Colon ∷ onto b us)) n
+    ∙ open-onto x (a .1) (plain K.Colon ∷ onto b us) n
     ∙ open-onto b (a .2) us n
 
 -- p is what is left of us, and no bracket was closed on the way that had not been opened on the way
@@ -130,8 +130,8 @@ pub before-flat : (x : Symbol) (us p : List Symbol) → Flat x → Before us p �
 before-flat x us p f b =
     record { passed = x ∷ b .passed; split = rw (b .split); inside = λ n h. b .inside n (sym (flat-open x (b .passed) n f) ∙ h) }
 
-pub before-open : (us p : List Symbol) → Before us p → Before (kind K.LParen ∷ us) p
-before-open us p b = record { passed = kind K.LParen ∷ b .passed; split = rw (b .split); inside = λ n h. b .inside (suc n) h }
+pub before-open : (us p : List Symbol) → Before us p → Before (plain K.LParen ∷ us) p
+before-open us p b = record { passed = plain K.LParen ∷ b .passed; split = rw (b .split); inside = λ n h. b .inside (suc n) h }
 
 pub before-onto : (e : Expr) → Allowed e → (us p : List Symbol) → Before us p → Before (onto e us) p
 before-onto e a us p b =
@@ -165,7 +165,7 @@ bounded-from k P.none h = tt
 
 bounded : (x : Symbol) → Bounded (operator x)
 unfolding operator
-bounded (kind k) = bounded-from k (operator (kind k)) (operator-of k)
+bounded (plain k) = bounded-from k (operator (plain k)) (operator-of k)
 bounded arguments = tt
 
 below-all : (m : ℕ) → 22 ≤ m → (x : Operator) → Bounded x → Below m x
@@ -211,6 +211,6 @@ post-expect-if D Q true us x q h = h refl
 post-expect-if D Q false us x q h = q
 
 pub post-expect : (D : Expr → List Symbol → Type 0) (Q : List Symbol → Type 0) (k : ℕ) (us : List Symbol) (f : List Symbol → Res)
-    → Q us → ((vs : List Symbol) → us ≡ kind k ∷ vs → Post D Q (f vs)) → Post D Q (expect k us f)
+    → Q us → ((vs : List Symbol) → us ≡ plain k ∷ vs → Post D Q (f vs)) → Post D Q (expect k us f)
 post-expect D Q k [] f q h = q
 post-expect D Q k (x ∷ us) f q h = post-expect-if D Q (is k x) (x ∷ us) (f us) q (λ e. h us (ap (λ (y : Symbol). y ∷ us) (is-kind k x e)))

@@ -9,8 +9,8 @@ use lib.ListN.{length}
 use Rattle.definitions.specs.TokenKind as K
 use Rattle.definitions.specs.NodeKind as N
 use Rattle.definitions.specs.Token.{Token, seen, drop-trivia}
-use Rattle.definitions.specs.Prog.{expr-binding-power, _⨟_, call}
-use Rattle.definitions.specs.Check.{bump!, kind, expect}
+use Rattle.definitions.specs.Prog.{expr-binding-power, _⨟_, open-call}
+use Rattle.definitions.specs.Check.{bump!, of-kind, expect}
 use Rattle.definitions.specs.Grammar.{dt-expr}
 use Rattle.definitions.specs.Skeleton.{Label, Report, Skeleton, done, token, node, _⧺_}
 use Rattle.definitions.specs.Run.{State, Out, mark-of, makes, taken, add, closed, marked, run}
@@ -59,7 +59,7 @@ module _ (n : ℕ) (b : Label) where
       (noted-from s (o .state) vs (o′ .made) (d .tail) (subst (λ (l : List Symbol). Noted (o .state) l (o′ .made)) (d .left) m)))
 
   cell-by : (s : State) (x : Res) (o : Out) → Follows s parts x o
-      → Ends (run n) b (expect (kind K.RParen)) (o .state) (λ o′. CellRun s (bind x (λ e vs. P.expect K.RParen vs (λ ws. P.done e ws))) (add o o′))
+      → Ends (run n) b (expect (of-kind K.RParen)) (o .state) (λ o′. CellRun s (bind x (λ e vs. P.expect K.RParen vs (λ ws. P.done e ws))) (add o o′))
   unfolding add
   cell-by s (P.done e vs) o d = ends-map (run n) b (expects (run n) b K.RParen refl (o .state) (d .1 .stands)) (close-by s e vs o (d .1))
   cell-by s (P.report vs) o m = ends-any (run n) b (λ o′. noted-first s vs (o .made) (o′ .made) m)
@@ -67,7 +67,7 @@ module _ (n : ℕ) (b : Label) where
   cell-by s spent o d = ends-any (run n) b (λ o′. tt)
 
   cell-runs : (s : State) → Stands s
-      → Ends (run n) b (call (expr-binding-power 0) ⨟ expect (kind K.RParen)) s (CellRun s (P.cell n (symbols false (s .since))))
+      → Ends (run n) b (open-call (expr-binding-power 0) ⨟ expect (of-kind K.RParen)) s (CellRun s (P.cell n (symbols false (s .since))))
   cell-runs s h = seq (run n) b (calls n b 0 s h) (cell-by s (reader n 0 (symbols false (s .since))))
 
 -- ---------------------------------------------------------------- the judgement
@@ -144,9 +144,9 @@ module _ (n : ℕ) (b : Label) where
   judges s t ts ahead o r inner close after e k bal =
       let xs = symbols false inner in
       let ys = symbols false after in
-      let z : symbols false ts ≡ xs ++ (C.kind K.RParen ∷ ys) = ap (symbols false) e ∙ symbols-split false inner close after k in
-      judge-by s t ts ahead inner close after e k (n ≤ length (xs ++ (C.kind K.RParen ∷ ys))) (P.cell n (xs ++ (C.kind K.RParen ∷ ys))) o (rw z at r)
-      (verdict n xs ys bal) (length (xs ++ (C.kind K.RParen ∷ ys))) (cell-fin n (xs ++ (C.kind K.RParen ∷ ys)))
+      let z : symbols false ts ≡ xs ++ (C.plain K.RParen ∷ ys) = ap (symbols false) e ∙ symbols-split false inner close after k in
+      judge-by s t ts ahead inner close after e k (n ≤ length (xs ++ (C.plain K.RParen ∷ ys))) (P.cell n (xs ++ (C.plain K.RParen ∷ ys))) o (rw z at r)
+      (verdict n xs ys bal) (length (xs ++ (C.plain K.RParen ∷ ys))) (cell-fin n (xs ++ (C.plain K.RParen ∷ ys)))
 
   cell-of : (s : State) (t : Token) (ts : List Token) → drop-trivia (s .since) ≡ t ∷ ts → seen t ≡ K.LParen → (o : Out) → CellRun (taken ts) (P.cell n (symbols false ts)) o
       → CellOf (mark-of s) (mark-of (o .state)) (token t (length ts) done ⧺ o .made) (drop-trivia (s .since))
@@ -168,7 +168,7 @@ module _ (n : ℕ) (b : Label) where
       → Ends (run n) b dt-expr s (CellNode s)
   unfolding dt-expr marked makes add closed
   cells s h t ts ahead k =
-      let behind : Ends (run n) b (bump! ⨟ call (expr-binding-power 0) ⨟ expect (kind K.RParen)) s
+      let behind : Ends (run n) b (bump! ⨟ open-call (expr-binding-power 0) ⨟ expect (of-kind K.RParen)) s
       (λ o. CellOf (mark-of s) (mark-of (o .state)) (o .made) (drop-trivia (s .since))) =
       after-bump (run n) b t ts h ahead (ends-map (run n) b (cell-runs n b (taken ts) (stands-taken ts)) (cell-of s t ts ahead k)) in
       inside (run n) b

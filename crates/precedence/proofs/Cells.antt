@@ -11,7 +11,7 @@ use Rattle.definitions.specs.NodeKind as N
 use Rattle.definitions.specs.Token.{Token, trivia, drop-trivia, past}
 use Rattle.definitions.specs.Prog.{Ans, no, yes, Act, silent-at, at-end, immediate, immediate-next, add-expected, bump, bump-name, bump-argument, emit, emit-unclosed, less, act}
 use Rattle.definitions.specs.Skeleton.{Label, Skeleton, done, token, name, node, ignored, report, over, _⧺_}
-use Rattle.definitions.specs.Run.{State, Out, mark-of, peeked, answer, makes, taken, do-bump, do-name, add, at-depth, do-argument, do-emit, room, do-expected, perform, closed, exec, run}
+use Rattle.definitions.specs.Run.{State, Out, mark-of, peeked, answer, makes, taken, do-bump, do-name, add, at-depth, do-argument, do-emit, over-unless, do-expected, perform, closed, exec, run}
 use Rattle.definitions.specs.Place.{after}
 use Rattle.definitions.specs.Report.{pushes}
 use Rattle.laws.proofs.Trivia.{cond-all, drop-twice, passes-none}
@@ -110,8 +110,8 @@ simple-argument n s (t ∷ ts) =
     (cond-all Simple (eqb (t .kind) K.RParen) (simple-depth n _ _ (simple-answer no _) go)
     (cond-all Simple (eqb (t .kind) K.Comma) (simple-depth n _ _ (simple-answer yes _) (λ m. go (suc m))) (go n))))
 
-simple-room : (b : Bool) (m : ℕ) → Nodeless (room b m)
-unfolding room
+simple-room : (b : Bool) (m : ℕ) → Nodeless (over-unless b m)
+unfolding over-unless
 simple-room true m = tt
 simple-room false m = tt
 

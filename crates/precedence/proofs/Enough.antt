@@ -6,7 +6,7 @@ use mathlib.Core.List.{List, [], _∷_}
 use lib.Dec.{ltb}
 use lib.ListN.{length}
 use Rattle.definitions.specs.TokenKind as K
-use Rattle.definitions.specs.C.{Symbol, kind, arguments, Turn, opens, closes, keeps, turn, Expr, prefix, bracketed, binary, ternary}
+use Rattle.definitions.specs.C.{Symbol, plain, arguments, Turn, opens, closes, keeps, turn, Expr, prefix, bracketed, binary, ternary}
 use Rattle.precedence.proofs.Pratt.{Operand, prefixes, brackets, names, literals, nothing, operand, Operator, asks, binds, operator, is, Res, done, report, refused, spent, Reader, bind, expect-if, expect, Args, closed, unclosed, push, args-turn, args, invoked, named, lhs-by, lhs, bind-if, ask-if, step-by, step, loop, reader, cell}
 use Rattle.precedence.proofs.Pratt as P
 
@@ -66,7 +66,7 @@ invoked-fin a b R unclosed h l = tt
 
 named-fin : (us : List Symbol) (R : Type 0) → Fin (suc (length us)) R (named us)
 named-fin [] R = omega arith
-named-fin (kind k ∷ us) R = omega arith
+named-fin (plain k ∷ us) R = omega arith
 named-fin (arguments ∷ us) R = invoked-fin (length us) (suc (suc (length us))) R (args us 0) (short us 0) (omega arith)
 
 module _ (d : ℕ) (rec : Reader) (ends : (m : ℕ) (us : List Symbol) → Fin (length us) (d ≤ length us) (rec m us)) where

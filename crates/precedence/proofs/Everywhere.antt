@@ -7,8 +7,8 @@ use Rattle.definitions.specs.TokenKind as K
 use Rattle.definitions.specs.NodeKind as N
 use Rattle.definitions.specs.Errors as E
 use Rattle.definitions.specs.Token.{Token, seen, drop-trivia, first-in}
-use Rattle.definitions.specs.Prog.{no, yes, Rule, item, propvalues, eat-cell, expr-binding-power, silent-at, Prog, act, _⨟_, case, call}
-use Rattle.definitions.specs.Check.{tell, if_then_else_, _and_, _or_, not!, bump!, expected, error-wrap, kind, set, silent, at, silent-eat, expect}
+use Rattle.definitions.specs.Prog.{no, yes, Rule, item, propvalues, eat-cell, expr-binding-power, silent-at, Prog, act, _⨟_, case, open-call}
+use Rattle.definitions.specs.Check.{tell, if_then_else_, _and_, _or_, not!, bump!, expected, error-wrap, of-kind, set, silent, at, silent-eat, expect}
 use Rattle.definitions.specs.Grammar.{Cell, OPERATORS-SET, Reference, macro-invocation, dt-expr, eat-dts-include, eat-preprocessor-directive, eat-cell-body, grammar, Entry, SourceFile, ReferenceNoamp, PropValues, Cells, whole}
 use Rattle.definitions.specs.Skeleton.{Label, no-label, Skeleton, done, node, over, _⧺_}
 use Rattle.definitions.specs.Run.{State, Out, mark-of, peeked, truth, answer, makes, taken, add, perform, choose, closed, marked, exec, run}
@@ -53,7 +53,7 @@ module _ (n : ℕ) (below : (r : Rule) (s : State) → Made s (run n r s)) (b : 
   -- ---------------------------------------------------------------- the cell
 
   abbrev inside : Prog
-  inside = bump! ⨟ call (expr-binding-power 0) ⨟ expect (kind K.RParen)
+  inside = bump! ⨟ open-call (expr-binding-power 0) ⨟ expect (of-kind K.RParen)
 
   -- the node's inside is what its program makes
   inside-is : (m m′ : ℕ) (i j : Skeleton) → node N.DtExpr m m′ done (j ⧺ done) done ≡ node N.DtExpr m m′ done i done → j ≡ i
@@ -93,7 +93,7 @@ module _ (n : ℕ) (below : (r : Rule) (s : State) → Made s (run n r s)) (b : 
       ran-add no-cell Celled celled s (does dt-expr s) (does (tell yes) (does dt-expr s .state)) (cell-made s t ts e (test-one K.LParen (seen t) g))
       (ran-ret no-cell Celled celled 0 yes (does dt-expr s .state) refl)
 
-  fine-cell : (p : Prog) → Fine p → Fine (if silent (kind K.LParen) then dt-expr ⨟ tell yes else p)
+  fine-cell : (p : Prog) → Fine p → Fine (if silent (of-kind K.LParen) then dt-expr ⨟ tell yes else p)
   unfolding silent exec perform answer peeked only
   fine-cell p f s =
       let u = peeked s in
@@ -108,7 +108,7 @@ module _ (n : ℕ) (below : (r : Rule) (s : State) → Made s (run n r s)) (b : 
   abbrev no-bracket : Bool → Prog
   no-bracket at-end =
       if eat-dts-include or eat-preprocessor-directive (Cell at-end) then tell yes
-      else if silent (set OPERATORS-SET) and not! (at (kind K.RAngle)) then error-wrap E.msg-expected E.missing-parentheses ⨟ tell yes
+      else if silent (set OPERATORS-SET) and not! (at (of-kind K.RAngle)) then error-wrap E.msg-expected E.missing-parentheses ⨟ tell yes
       else tell no
 
   no-bracket-fine : (at-end : Bool) → Fine (no-bracket at-end)
@@ -121,7 +121,7 @@ module _ (n : ℕ) (below : (r : Rule) (s : State) → Made s (run n r s)) (b : 
   eat-cell-fine at-end =
       fine-seq (expected E.Cell) _ (plain (expected E.Cell) refl)
       (fine-case (silent-eat (set (K.Number ∷ K.Char ∷ []))) _ (tell yes) (tell yes) (plain (silent-eat (set (K.Number ∷ K.Char ∷ []))) refl)
-      (fine-case (silent (kind K.Ident)) _ (macro-invocation ⨟ tell yes) (macro-invocation ⨟ tell yes) (plain (silent (kind K.Ident)) refl)
+      (fine-case (silent (of-kind K.Ident)) _ (macro-invocation ⨟ tell yes) (macro-invocation ⨟ tell yes) (plain (silent (of-kind K.Ident)) refl)
       (fine-case (silent-eat Reference) _ (tell yes) (tell yes) (plain (silent-eat Reference) refl) (fine-cell (no-bracket at-end) (no-bracket-fine at-end)) (plain (tell yes) refl) (plain (tell yes) refl))
       (plain (macro-invocation ⨟ tell yes) refl) (plain (macro-invocation ⨟ tell yes) refl))
       (plain (tell yes) refl) (plain (tell yes) refl))

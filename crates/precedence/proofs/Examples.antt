@@ -4,10 +4,10 @@ use mathlib.Core.Path.{_≡_, refl}
 use mathlib.Core.List.{List, [], _∷_, _++_}
 use lib.ListN.{length, take, drop, replicate}
 use Rattle.definitions.specs.TokenKind as K
-use Rattle.definitions.specs.Token.{tokens}
+use Rattle.definitions.specs.Token.{tokens-of}
 use Rattle.definitions.specs.Skeleton.{_⧺_}
 use Rattle.definitions.specs.Place.{place, rows}
-use Rattle.definitions.specs.C.{kind, Expr, literal, invocation, prefix, binary, ternary}
+use Rattle.definitions.specs.C.{plain, Expr, literal, invocation, prefix, binary, ternary}
 use Rattle.definitions.specs.Call.{Buffers, Result, call}
 use Rattle.precedence.specs.Nodes.{cell}
 use Rattle.precedence.specs.Precedence.{tokens-before, mark-in}
@@ -43,7 +43,7 @@ examples =
     -- entry 3, `<(-1)>`
     ∷ example 3 (60 ∷ 40 ∷ 45 ∷ 49 ∷ 41 ∷ 62 ∷ []) (39 ∷ 1 ∷ 41 ∷ 1 ∷ 44 ∷ 1 ∷ 35 ∷ 1 ∷ 42 ∷ 1 ∷ 40 ∷ 1 ∷ []) 3 (holds (prefix K.Minus one)) 1 []
     -- entry 1, `a=<(f(1,))>;`: an argument list, the second argument empty
-    ∷ example 1 (97 ∷ 61 ∷ 60 ∷ 40 ∷ 102 ∷ 40 ∷ 49 ∷ 44 ∷ 41 ∷ 41 ∷ 62 ∷ 59 ∷ []) (27 ∷ 1 ∷ 28 ∷ 1 ∷ 39 ∷ 1 ∷ 41 ∷ 1 ∷ 27 ∷ 1 ∷ 41 ∷ 1 ∷ 35 ∷ 1 ∷ 2 ∷ 1 ∷ 42 ∷ 1 ∷ 42 ∷ 1 ∷ 40 ∷ 1 ∷ 29 ∷ 1 ∷ []) 7 (holds (invocation (kind K.Number ∷ kind K.Comma ∷ []))) 3 []
+    ∷ example 1 (97 ∷ 61 ∷ 60 ∷ 40 ∷ 102 ∷ 40 ∷ 49 ∷ 44 ∷ 41 ∷ 41 ∷ 62 ∷ 59 ∷ []) (27 ∷ 1 ∷ 28 ∷ 1 ∷ 39 ∷ 1 ∷ 41 ∷ 1 ∷ 27 ∷ 1 ∷ 41 ∷ 1 ∷ 35 ∷ 1 ∷ 2 ∷ 1 ∷ 42 ∷ 1 ∷ 42 ∷ 1 ∷ 40 ∷ 1 ∷ 29 ∷ 1 ∷ []) 7 (holds (invocation (plain K.Number ∷ plain K.Comma ∷ []))) 3 []
     -- entry 1, `a=<(f (1))>;`: a blank before the bracket, so no argument list and no tree; a report between 3 and 9
     ∷ example 1 (97 ∷ 61 ∷ 60 ∷ 40 ∷ 102 ∷ 32 ∷ 40 ∷ 49 ∷ 41 ∷ 41 ∷ 62 ∷ 59 ∷ []) (27 ∷ 1 ∷ 28 ∷ 1 ∷ 39 ∷ 1 ∷ 41 ∷ 1 ∷ 27 ∷ 1 ∷ 0 ∷ 1 ∷ 41 ∷ 1 ∷ 35 ∷ 1 ∷ 42 ∷ 1 ∷ 42 ∷ 1 ∷ 40 ∷ 1 ∷ 29 ∷ 1 ∷ []) 7 nothing 3 (5 ∷ 9 ∷ [])
     -- entry 4, `#if (1+1) #endif` without the blanks: a cell in a conditional
@@ -57,7 +57,7 @@ examples =
 -- the rows of a cell that holds a tree
 tree-rows : Tree → List ℕ → ℕ → List ℕ
 unfolding rows place _⧺_
-tree-rows (holds e) tk i = rows (place (cell e) (drop i (tokens tk)))
+tree-rows (holds e) tk i = rows (place (cell e) (drop i (tokens-of tk)))
 tree-rows nothing tk i = []
 
 mark-list : ℕ → List ℕ → List ℕ

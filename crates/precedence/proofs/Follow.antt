@@ -8,7 +8,7 @@ use lib.ListN.{length}
 use Rattle.definitions.specs.TokenKind as K
 use Rattle.definitions.specs.Token.{Token, seen, drop-trivia, one-of, first-in}
 use Rattle.definitions.specs.Prog.{no, yes, Rule, emit, Prog, ret, act, _⨟_}
-use Rattle.definitions.specs.Check.{kind, expect, eat}
+use Rattle.definitions.specs.Check.{of-kind, expect, eat}
 use Rattle.definitions.specs.Skeleton.{Label, Report, Skeleton, done, token, report, _⧺_}
 use Rattle.definitions.specs.Run.{State, Out, peeked, makes, taken, add, do-emit, perform, closed, exec}
 use Rattle.definitions.specs.Report.{pushes}
@@ -149,7 +149,7 @@ reads-found : (k : ℕ) (r : List Token) (t : Token) (ts : List Token) → eqb k
 unfolding is
 reads-found k r t ts i e h f =
     ap (λ (l : List Symbol). P.expect k l f) (symbols-past r t ts e (test-first k (seen t) h i))
-    ∙ ap (λ (b : Bool). expect-if b (C.kind (seen t) ∷ symbols false ts) (f (symbols false ts))) h
+    ∙ ap (λ (b : Bool). expect-if b (C.plain (seen t) ∷ symbols false ts) (f (symbols false ts))) h
 
 reads-missing : (k : ℕ) (r l : List Token) → drop-trivia r ≡ l → first-in (k ∷ []) l ≡ false → (f : List Symbol → Res)
     → P.expect k (symbols false r) f ≡ P.report (symbols false r)
@@ -165,29 +165,29 @@ module _ (ask : Rule → State → Out) (b : Label) (k : ℕ) (plain : eqb k K.I
         → ((f : List Symbol → Res) → P.expect k (symbols false (s .since)) f ≡ P.report (symbols false (s .since))) → Expected s o
 
   eat-found : (s : State) (t : Token) (ts : List Token) → Stands s → drop-trivia (s .since) ≡ t ∷ ts → first-in (k ∷ []) (t ∷ ts) ≡ true
-      → Ends ask b (eat (kind k)) s (λ o. o ≡ took t ts)
+      → Ends ask b (eat (of-kind k)) s (λ o. o ≡ took t ts)
   unfolding eat add makes _⧺_
   eat-found s t ts h e g =
       on-test ask b (silent-is ask b (t ∷ ts) true h e g) λ to st si. after-bump ask b t ts st (ap drop-trivia si ∙ e) (ends-ret ask b refl)
 
   expect-found : (s : State) (t : Token) (ts : List Token) → Stands s → drop-trivia (s .since) ≡ t ∷ ts → first-in (k ∷ []) (t ∷ ts) ≡ true
-      → Ends ask b (expect (kind k)) s (λ o. o ≡ took t ts)
+      → Ends ask b (expect (of-kind k)) s (λ o. o ≡ took t ts)
   unfolding expect add makes _⧺_
   expect-found s t ts h e g = branch ask b (eat-found s t ts h e g) λ o p. rw p (ends-ret ask b refl)
 
-  eat-missing : (s : State) (l : List Token) → Stands s → drop-trivia (s .since) ≡ l → first-in (k ∷ []) l ≡ false → Tests ask b (eat (kind k)) s no
+  eat-missing : (s : State) (l : List Token) → Stands s → drop-trivia (s .since) ≡ l → first-in (k ∷ []) l ≡ false → Tests ask b (eat (of-kind k)) s no
   unfolding eat
   eat-missing s l h e g =
       test-case ask b (silent-is ask b l false h e g) λ to st si. test-seq ask b (test-expected ask b st) λ to′ st′ si′. test-tell ask b st′
 
   expect-missing : (s : State) (l : List Token) → Stands s → drop-trivia (s .since) ≡ l → first-in (k ∷ []) l ≡ false
-      → Ends ask b (expect (kind k)) s (λ o. (o .ans ≡ no) × Noted s (symbols false (s .since)) (o .made))
+      → Ends ask b (expect (of-kind k)) s (λ o. (o .ans ≡ no) × Noted s (symbols false (s .since)) (o .made))
   unfolding expect
   expect-missing s l h e g =
       on-test ask b (eat-missing s l h e g) λ to st si. ends-map ask b (emit-no ask b) λ o p. (p .0, noted-at s to (o .made) si (p .1))
 
   expect-by : (s : State) (l : List Token) (x : Bool) → Stands s → drop-trivia (s .since) ≡ l → first-in (k ∷ []) l ≡ x
-      → Ends ask b (expect (kind k)) s (Expected s)
+      → Ends ask b (expect (of-kind k)) s (Expected s)
   unfolding first-in
   expect-by s l false h e g =
       ends-map ask b (expect-missing s l h e g) λ o p. missing (p .0) (p .1) (reads-missing k (s .since) l e g)
@@ -196,5 +196,5 @@ module _ (ask : Rule → State → Out) (b : Label) (k : ℕ) (plain : eqb k K.I
       ends-map ask b (expect-found s t ts h e g) λ o p. found t ts e p (reads-found k (s .since) t ts plain e g)
 
   -- `p.expect` does what the reader's does
-  pub expects : (s : State) → Stands s → Ends ask b (expect (kind k)) s (Expected s)
+  pub expects : (s : State) → Stands s → Ends ask b (expect (of-kind k)) s (Expected s)
   expects s h = expect-by s (drop-trivia (s .since)) (first-in (k ∷ []) (drop-trivia (s .since))) h refl refl

@@ -10,7 +10,7 @@ use Rattle.definitions.specs.TokenKind as K
 use Rattle.definitions.specs.NodeKind as N
 use Rattle.definitions.specs.Token.{Token, seen, drop-trivia, one-of, first-in}
 use Rattle.definitions.specs.Prog.{no, yes, Rule, immediate, add-expected, Prog, act, _⨟_, case, loop}
-use Rattle.definitions.specs.Check.{tell, not!, bump!, kind, at, expect}
+use Rattle.definitions.specs.Check.{tell, not!, bump!, of-kind, at, expect}
 use Rattle.definitions.specs.Grammar.{macro-argument-turn, macro-invocation}
 use Rattle.definitions.specs.Skeleton.{Label, Skeleton, done, token, _⧺_}
 use Rattle.definitions.specs.Run.{State, Out, mark-of, truth, answer, makes, taken, add, perform, closed as closed-marker, marked, exec}
@@ -34,12 +34,12 @@ module _ (ask : Rule → State → Out) (b : Label) where
   -- ---------------------------------------------------------------- what stands between the brackets
 
   abbrev Listed : State → Args → Out → Type 0
-  Listed s (closed xs vs) o = Done s (argument-list xs) (C.kind K.RParen ∷ vs) (o .made) (o .state)
+  Listed s (closed xs vs) o = Done s (argument-list xs) (C.plain K.RParen ∷ vs) (o .made) (o .state)
   Listed s unclosed o = Ended s (o .state)
 
   -- whether the bracket follows at once
   not-close : (s : State) (l : List Token) (x : Bool) → Stands s → drop-trivia (s .since) ≡ l → first-in (K.RParen ∷ []) l ≡ x
-      → Tests ask b (not! (at (kind K.RParen))) s (truth (not x))
+      → Tests ask b (not! (at (of-kind K.RParen))) s (truth (not x))
   unfolding at
   not-close s l x h e g =
       test-case ask b (loud-is ask b l x h e g) (by x)
@@ -52,8 +52,8 @@ module _ (ask : Rule → State → Out) (b : Label) where
   listed-none : (s : State) (t : Token) (ts : List Token) → drop-trivia (s .since) ≡ t ∷ ts → seen t ≡ K.RParen → (to : State) → Stands to → to .since ≡ s .since
       → Listed s (args (symbols false (s .since)) 0) (record { ans = yes; shape = 0; made = done; state = to })
   listed-none s t ts e k to st si =
-      let z : symbols false (s .since) ≡ C.kind K.RParen ∷ symbols false ts =
-      symbols-past (s .since) t ts e (ap (λ (j : ℕ). eqb j K.Ident) k) ∙ ap (λ (j : ℕ). C.kind j ∷ symbols false ts) k in
+      let z : symbols false (s .since) ≡ C.plain K.RParen ∷ symbols false ts =
+      symbols-past (s .since) t ts e (ap (λ (j : ℕ). eqb j K.Ident) k) ∙ ap (λ (j : ℕ). C.plain j ∷ symbols false ts) k in
       rw z
       (record {
         same = same-refl done;
@@ -73,18 +73,18 @@ module _ (ask : Rule → State → Out) (b : Label) where
       let w : _≡_ {A = ℕ} 0 1 = cc in
       absurd (omega arith)
   listed-some s (t ∷ ts) e g (closed [] vs) h o d =
-      let z : symbols false (s .since) ≡ C.kind K.RParen ∷ vs = (subst (ArgsOf (symbols false (s .since)) 0) h (args-of (symbols false (s .since)) 0)) .0 in
-      let w : C.kind (seen t) ≡ C.kind K.RParen = cc (symbols-next (s .since) t ts e) in
+      let z : symbols false (s .since) ≡ C.plain K.RParen ∷ vs = (subst (ArgsOf (symbols false (s .since)) 0) h (args-of (symbols false (s .since)) 0)) .0 in
+      let w : C.plain (seen t) ≡ C.plain K.RParen = cc (symbols-next (s .since) t ts e) in
       let k : seen t ≡ K.RParen = cc in
       absurd (true≢false (sym (ap (λ (j : ℕ). one-of (K.RParen ∷ []) j) k) ∙ g))
   listed-some s l e g unclosed h o d = d
 
   looped-from : (s to : State) → to .since ≡ s .since → (y : Args) (o : Out) → Looped to y o → Looped s y o
-  looped-from s to e (closed xs vs) o d = done-from s to (o .state) (argument (split xs 0)) (C.kind K.RParen ∷ vs) (o .made) e d
+  looped-from s to e (closed xs vs) o d = done-from s to (o .state) (argument (split xs 0)) (C.plain K.RParen ∷ vs) (o .made) e d
   looped-from s to e unclosed o d = record { stands = d .stands; left = d .left; tail = subst (Tail (o .state .since)) e (d .tail) }
 
   between-by : (s : State) (l : List Token) (x : Bool) → Stands s → drop-trivia (s .since) ≡ l → first-in (K.RParen ∷ []) l ≡ x
-      → Ends ask b (case (not! (at (kind K.RParen))) (tell yes) (loop macro-argument-turn) (loop macro-argument-turn)) s (Listed s (args (symbols false (s .since)) 0))
+      → Ends ask b (case (not! (at (of-kind K.RParen))) (tell yes) (loop macro-argument-turn) (loop macro-argument-turn)) s (Listed s (args (symbols false (s .since)) 0))
   unfolding first-in
   between-by s [] true h e g = absurd (false≢true g)
   between-by s (t ∷ ts) true h e g =
@@ -99,7 +99,7 @@ module _ (ask : Rule → State → Out) (b : Label) where
       (looped-from s to si (args (symbols false (s .since)) 0) o (subst (λ (r : List Token). Looped to (args (symbols false r) 0) o) si p))
 
   between : (s : State) → Stands s
-      → Ends ask b (case (not! (at (kind K.RParen))) (tell yes) (loop macro-argument-turn) (loop macro-argument-turn)) s (Listed s (args (symbols false (s .since)) 0))
+      → Ends ask b (case (not! (at (of-kind K.RParen))) (tell yes) (loop macro-argument-turn) (loop macro-argument-turn)) s (Listed s (args (symbols false (s .since)) 0))
   between s h = between-by s (drop-trivia (s .since)) (first-in (K.RParen ∷ []) (drop-trivia (s .since))) h refl refl
 
   -- ---------------------------------------------------------------- the bracket that closes
@@ -109,14 +109,14 @@ module _ (ask : Rule → State → Out) (b : Label) where
   Bracketed s unclosed o = Noted s [] (o .made)
 
   -- the reader finds the bracket where it stands
-  close-found : (us vs : List Symbol) → us ≡ C.kind K.RParen ∷ vs → (ws : List Symbol) → ((f : List Symbol → Res) → P.expect K.RParen us f ≡ f ws) → ws ≡ vs
+  close-found : (us vs : List Symbol) → us ≡ C.plain K.RParen ∷ vs → (ws : List Symbol) → ((f : List Symbol → Res) → P.expect K.RParen us f ≡ f ws) → ws ≡ vs
   unfolding P.is one-of
   close-found us vs e ws h =
       let z : P.expect K.RParen us (λ zs. P.report zs) ≡ P.report vs = ap (λ (l : List Symbol). P.expect K.RParen l (λ zs. P.report zs)) e in
       let w : P.report ws ≡ P.report vs = sym (h (λ zs. P.report zs)) ∙ z in
       cc
 
-  close-not-missing : (us vs : List Symbol) → us ≡ C.kind K.RParen ∷ vs → ((f : List Symbol → Res) → P.expect K.RParen us f ≡ P.report us) → ⊥
+  close-not-missing : (us vs : List Symbol) → us ≡ C.plain K.RParen ∷ vs → ((f : List Symbol → Res) → P.expect K.RParen us f ≡ P.report us) → ⊥
   unfolding P.is one-of
   close-not-missing us vs e h =
       let z : P.expect K.RParen us (λ zs. P.spent) ≡ P.spent = ap (λ (l : List Symbol). P.expect K.RParen l (λ zs. P.spent)) e in
@@ -136,7 +136,7 @@ module _ (ask : Rule → State → Out) (b : Label) where
   bracket-by s (closed xs vs) o d o′ (found t ts e p h) =
       let t-done : Done (o .state) one vs (o′ .made) (o′ .state) =
       rw (p, ← (close-found (symbols false (o .state .since)) vs (d .left) (symbols false ts) h)) (done-token (o .state) t ts e) in
-      done-join s (o .state) (o′ .state) (argument-list xs) one (C.kind K.RParen ∷ vs) vs (o .made) (o′ .made) d t-done
+      done-join s (o .state) (o′ .state) (argument-list xs) one (C.plain K.RParen ∷ vs) vs (o .made) (o′ .made) d t-done
   bracket-by s (closed xs vs) o d o′ (missing a n h) = absurd (close-not-missing (symbols false (o .state .since)) vs (d .left) h)
   bracket-by s unclosed o d o′ (found t ts e p h) = absurd (end-not-found (symbols false (o .state .since)) (symbols false ts) (d .left) h)
   bracket-by s unclosed o d o′ (missing a n h) =
@@ -148,7 +148,7 @@ module _ (ask : Rule → State → Out) (b : Label) where
   listed-stands s unclosed o d = d .stands
 
   bracketed : (s : State) → Stands s
-      → Ends ask b (case (not! (at (kind K.RParen))) (tell yes) (loop macro-argument-turn) (loop macro-argument-turn) ⨟ expect (kind K.RParen)) s
+      → Ends ask b (case (not! (at (of-kind K.RParen))) (tell yes) (loop macro-argument-turn) (loop macro-argument-turn) ⨟ expect (of-kind K.RParen)) s
       (Bracketed s (args (symbols false (s .since)) 0))
   bracketed s h =
       seq ask b (between s h)
@@ -228,8 +228,8 @@ module _ (ask : Rule → State → Out) (b : Label) where
   abbrev after-name : Prog
   after-name =
       case (act (add-expected K.LParen) ⨟ act (immediate K.LParen)) (tell yes)
-      (bump! ⨟ (case (not! (at (kind K.RParen))) (tell yes) (loop macro-argument-turn) (loop macro-argument-turn) ⨟ expect (kind K.RParen)))
-      (bump! ⨟ (case (not! (at (kind K.RParen))) (tell yes) (loop macro-argument-turn) (loop macro-argument-turn) ⨟ expect (kind K.RParen)))
+      (bump! ⨟ (case (not! (at (of-kind K.RParen))) (tell yes) (loop macro-argument-turn) (loop macro-argument-turn) ⨟ expect (of-kind K.RParen)))
+      (bump! ⨟ (case (not! (at (of-kind K.RParen))) (tell yes) (loop macro-argument-turn) (loop macro-argument-turn) ⨟ expect (of-kind K.RParen)))
 
   behind-by : (ts : List Token) (x : Bool) → first-in (K.LParen ∷ []) ts ≡ x → Ends ask b after-name (taken ts) (Behind (taken ts) (named (symbols true ts)))
   unfolding first-in

@@ -7,7 +7,7 @@ use mathlib.Core.List.{List, [], _∷_, _++_, append-assoc}
 use borrow.Author.Tests.{lt-ltb}
 use lib.ListN.{length}
 use Rattle.definitions.specs.NodeKind as N
-use Rattle.definitions.specs.Prog.{Ans, no, yes, again, Rule, expr-binding-power, call}
+use Rattle.definitions.specs.Prog.{Ans, no, yes, again, Rule, expr-binding-power, open-call}
 use Rattle.definitions.specs.Check.{tell, if_then_else_}
 use Rattle.definitions.specs.Grammar.{lhs, infix-turn, expr-binding-power-body, grammar}
 use Rattle.definitions.specs.Skeleton.{Label, no-label, Skeleton, done, node, _⧺_}
@@ -185,7 +185,7 @@ link-is n f m a i s e g vs o l =
 -- ---------------------------------------------------------------- the loop
 
 module _ (ask : Rule → State → Out) (b : Label) (rec : Reader)
-    (below : (m : ℕ) (s : State) → Stands s → Ends ask b (call (expr-binding-power m)) s (Follows s parts (rec m (symbols false (s .since)))))
+    (below : (m : ℕ) (s : State) → Stands s → Ends ask b (open-call (expr-binding-power m)) s (Follows s parts (rec m (symbols false (s .since)))))
     (min : ℕ) (z : State) where
   abbrev turn : State → Out
   turn s = exec ask b (infix-turn min) s
@@ -236,7 +236,7 @@ Begins s refused o = ⊥
 Begins s spent o = Unit {0}
 
 module _ (ask : Rule → State → Out) (b : Label) (rec : Reader)
-    (below : (m : ℕ) (s : State) → Stands s → Ends ask b (call (expr-binding-power m)) s (Follows s parts (rec m (symbols false (s .since)))))
+    (below : (m : ℕ) (s : State) → Stands s → Ends ask b (open-call (expr-binding-power m)) s (Follows s parts (rec m (symbols false (s .since)))))
     (min : ℕ) where
   begin-by : (s : State) (x : Res) (o : Out) → Follows s parts x o → Ends ask b (pick (o .ans) (tell no) (tell again) (tell again)) (o .state) (λ o′. Begins s x (add o o′))
   unfolding add
@@ -301,7 +301,7 @@ module _ (ask : Rule → State → Out) (b : Label) (rec : Reader)
 
 -- `expr_binding_power`, with so many more open calls allowed, does what the reader does
 pub calls : (n : ℕ) (b : Label) (m : ℕ) (s : State) → Stands s
-    → Ends (run n) b (call (expr-binding-power m)) s (Follows s parts (reader n m (symbols false (s .since))))
+    → Ends (run n) b (open-call (expr-binding-power m)) s (Follows s parts (reader n m (symbols false (s .since))))
 unfolding exec run grammar makes pushes
 calls zero b m s h = record { holds = λ c. absurd c }
 calls (suc n) b m s h = record { holds = body-follows (run n) no-label (reader n) (calls n no-label) m s h .holds }

@@ -4,7 +4,7 @@ use Prim.Native.Nat.{ℕ, zero, suc}
 use mathlib.Core.Path.{_≡_, refl, sym, subst}
 use mathlib.Core.Bool.{Bool, true, _&&_}
 use lib.ListN.{length}
-use Rattle.definitions.specs.Prog.{Ans, no, yes, also, again, Rule, Act, Prog, ret, act, _⨟_, case, mark, loop, chain, brace, call}
+use Rattle.definitions.specs.Prog.{Ans, no, yes, also, again, Rule, Act, Prog, ret, act, _⨟_, case, in-marker, loop, chain, brace, open-call}
 use Rattle.definitions.specs.Skeleton.{Label, Skeleton, done, _⧺_}
 use Rattle.definitions.specs.Run.{State, Out, mark-of, answer, makes, add, perform, choose, closed, marked, is-again, goes-on, iter, unlinked, by-shape, links, chained, here, exec}
 use Rattle.laws.proofs.Trivia.{cond-all, and-left, and-right}
@@ -16,11 +16,11 @@ only f (ret k a) = f k
 only f (act a) = true
 only f (p ⨟ q) = only f p && only f q
 only f (case c n y a) = only f c && (only f n && (only f y && only f a))
-only f (mark p) = only f p
+only f (in-marker p) = only f p
 only f (loop p) = only f p
 only f (chain p q) = only f p && only f q
 only f (brace p) = only f p
-only f (call r) = true
+only f (open-call r) = true
 
 module _ (f : ℕ → Bool) (R : State → Skeleton → State → Type 0) where
   -- what is shown of a run's result
@@ -152,8 +152,8 @@ module _ (f : ℕ → Bool) (R : State → Skeleton → State → Type 0) (H : H
         ran-add s o (choose (o .ans) (exec ask b n) (exec ask b y) (exec ask b a) (o .state)) (ran-exec b c s (and-left _ _ e))
         (ran-choose (o .ans) (exec ask b n) (exec ask b y) (exec ask b a) (o .state) (ran-exec b n (o .state) (and-left _ _ e₁))
         (ran-exec b y (o .state) (and-left _ _ e₂)) (ran-exec b a (o .state) (and-right (only f y) _ e₂)))
-    ran-exec b (mark p) s e = ran-marked s (exec ask b p s) (ran-exec b p s e)
+    ran-exec b (in-marker p) s e = ran-marked s (exec ask b p s) (ran-exec b p s e)
     ran-exec b (loop p) s e = ran-iter (suc (length (s .rest))) (exec ask b p) (λ u. ran-exec b p u e) s
     ran-exec b (chain p q) s e = ran-chained (exec ask b q) (λ u. ran-exec b q u (and-right (only f p) _ e)) s (exec ask b p s) (ran-exec b p s (and-left _ _ e))
     ran-exec b (brace p) s e = ran-exec (here (s .rest)) p s e
-    ran-exec b (call r) s e = asked r s
+    ran-exec b (open-call r) s e = asked r s

@@ -10,8 +10,8 @@ use Rattle.definitions.specs.TokenKind as K
 use Rattle.definitions.specs.NodeKind as N
 use Rattle.definitions.specs.Errors as E
 use Rattle.definitions.specs.Token.{Token, seen, drop-trivia, one-of, first-in}
-use Rattle.definitions.specs.Prog.{Ans, no, yes, Rule, expr-binding-power, Prog, ret, _⨟_, mark, call}
-use Rattle.definitions.specs.Check.{tell, if_then_else_, node, bump!, expected, error, error!, error-wrap!, kind, set, silent, at, expect}
+use Rattle.definitions.specs.Prog.{Ans, no, yes, Rule, expr-binding-power, Prog, ret, _⨟_, in-marker, open-call}
+use Rattle.definitions.specs.Check.{tell, if_then_else_, in-node, bump!, expected, error, error!, error-wrap!, of-kind, set, silent, at, expect}
 use Rattle.definitions.specs.Grammar.{macro-invocation, prefix-power, PREFIX-OPERATORS-SET, INFIX-BUT-TERNARY, lhs}
 use Rattle.definitions.specs.Skeleton.{Label, Skeleton, done, token, _⧺_}
 use Rattle.definitions.specs.Run.{State, Out, mark-of, truth, makes, taken, add, closed, marked}
@@ -45,7 +45,7 @@ module _ (s : State) (t : Token) (ts : List Token) (ahead : drop-trivia (s .sinc
       noted-second s vs (token t (length ts) done) made (noted-from s (taken ts) vs made (tail-next (s .since) t ts ahead) n)
 
 module _ (ask : Rule → State → Out) (b : Label) (rec : Reader)
-    (below : (m : ℕ) (s : State) → Stands s → Ends ask b (call (expr-binding-power m)) s (Follows s parts (rec m (symbols false (s .since))))) where
+    (below : (m : ℕ) (s : State) → Stands s → Ends ask b (open-call (expr-binding-power m)) s (Follows s parts (rec m (symbols false (s .since))))) where
   module _ (s : State) (h : Stands s) (t : Token) (ts : List Token) (ahead : drop-trivia (s .since) ≡ t ∷ ts) where
     -- ---------------------------------------------------------------- a prefix operator
 
@@ -66,8 +66,8 @@ module _ (ask : Rule → State → Out) (b : Label) (rec : Reader)
     prefix-by k spent o d = ends-any ask b (λ o′. tt)
 
     prefix-follows : (k : ℕ)
-        → Ends ask b (mark (bump! ⨟ if call (expr-binding-power prefix-power) then ret N.PrefixExpr yes else ret N.PrefixExpr no)) s
-        (Follows s parts (lhs-by (prefixes k) rec (C.kind k) (symbols false ts)))
+        → Ends ask b (in-marker (bump! ⨟ if open-call (expr-binding-power prefix-power) then ret N.PrefixExpr yes else ret N.PrefixExpr no)) s
+        (Follows s parts (lhs-by (prefixes k) rec (C.plain k) (symbols false ts)))
     prefix-follows k =
         inside ask b
         (after-bump ask b t ts h ahead (branch ask b (below prefix-power (taken ts) (stands-taken ts)) (prefix-by k (rec prefix-power (symbols false ts)))))
@@ -99,7 +99,7 @@ module _ (ask : Rule → State → Out) (b : Label) (rec : Reader)
         (noted-second (taken ts) vs (o .made) (o′ .made ⧺ done) (noted-first (taken ts) vs (o′ .made) done m))))
 
     abbrev close : Ans → Prog
-    close a = expect (kind K.RParen) ⨟ ret N.ParenExpr a
+    close a = expect (of-kind K.RParen) ⨟ ret N.ParenExpr a
 
     bracket-by : (x : Res) (o : Out) → Follows (taken ts) parts x o
         → Ends ask b (pick (o .ans) (close no) (close yes) (close yes)) (o .state)
@@ -115,14 +115,14 @@ module _ (ask : Rule → State → Out) (b : Label) (rec : Reader)
     bracket-by refused o d = absurd d
     bracket-by spent o d = ends-any ask b (λ o′. tt)
 
-    bracket-follows : Ends ask b (mark (bump! ⨟ if call (expr-binding-power 0) then close yes else close no)) s
-        (Follows s parts (lhs-by brackets rec (C.kind K.LParen) (symbols false ts)))
+    bracket-follows : Ends ask b (in-marker (bump! ⨟ if open-call (expr-binding-power 0) then close yes else close no)) s
+        (Follows s parts (lhs-by brackets rec (C.plain K.LParen) (symbols false ts)))
     bracket-follows =
         inside ask b (after-bump ask b t ts h ahead (branch ask b (below 0 (taken ts) (stands-taken ts)) (bracket-by (rec 0 (symbols false ts)))))
 
     -- ---------------------------------------------------------------- a literal
 
-    literal-follows : (k : ℕ) → Ends ask b (node N.LiteralExpr bump!) s (Follows s parts (lhs-by (literals k) rec (C.kind k) (symbols false ts)))
+    literal-follows : (k : ℕ) → Ends ask b (in-node N.LiteralExpr bump!) s (Follows s parts (lhs-by (literals k) rec (C.plain k) (symbols false ts)))
     unfolding marked makes add _⧺_ closed
     literal-follows k =
         inside ask b
@@ -135,8 +135,8 @@ module _ (ask : Rule → State → Out) (b : Label) (rec : Reader)
   abbrev no-operand : Prog
   no-operand =
       if expected E.InfixOperator ⨟ silent (set INFIX-BUT-TERNARY) then
-      error E.msg-expected E.missing-left-side ⨟ node N.ParseError (bump! ⨟ call (expr-binding-power 0)) ⨟ tell no
-      else if silent (kind K.RParen) then error! ⨟ tell no
+      error E.msg-expected E.missing-left-side ⨟ in-node N.ParseError (bump! ⨟ open-call (expr-binding-power 0)) ⨟ tell no
+      else if silent (of-kind K.RParen) then error! ⨟ tell no
       else error-wrap! ⨟ tell no
 
   -- each way begins with a report
@@ -150,9 +150,9 @@ module _ (ask : Rule → State → Out) (b : Label) (rec : Reader)
 
   missing-by : (s : State) (x : Bool) → Onward s (λ to.
       Ends ask b
-      (pick (truth x) (if silent (kind K.RParen) then error! ⨟ tell no else error-wrap! ⨟ tell no)
-      (error E.msg-expected E.missing-left-side ⨟ node N.ParseError (bump! ⨟ call (expr-binding-power 0)) ⨟ tell no)
-      (error E.msg-expected E.missing-left-side ⨟ node N.ParseError (bump! ⨟ call (expr-binding-power 0)) ⨟ tell no)) to
+      (pick (truth x) (if silent (of-kind K.RParen) then error! ⨟ tell no else error-wrap! ⨟ tell no)
+      (error E.msg-expected E.missing-left-side ⨟ in-node N.ParseError (bump! ⨟ open-call (expr-binding-power 0)) ⨟ tell no)
+      (error E.msg-expected E.missing-left-side ⨟ in-node N.ParseError (bump! ⨟ open-call (expr-binding-power 0)) ⨟ tell no)) to
       (λ o. Noted s (symbols false (s .since)) (o .made)))
   unfolding silent
   missing-by s true to st si = ends-map ask b (emit-first ask b) (λ o n. noted-at s to (o .made) si n)
@@ -170,14 +170,14 @@ module _ (ask : Rule → State → Out) (b : Label) (rec : Reader)
 
   -- `lhs` from its second test on, and so forth
   abbrev from-literal : Prog
-  from-literal = if at (set (K.Number ∷ K.Char ∷ [])) then node N.LiteralExpr bump! else no-operand
+  from-literal = if at (set (K.Number ∷ K.Char ∷ [])) then in-node N.LiteralExpr bump! else no-operand
 
   abbrev from-name : Prog
-  from-name = if at (kind K.Ident) then macro-invocation ⨟ tell yes else from-literal
+  from-name = if at (of-kind K.Ident) then macro-invocation ⨟ tell yes else from-literal
 
   abbrev from-bracket : Prog
   from-bracket =
-      if at (kind K.LParen) then mark (bump! ⨟ if call (expr-binding-power 0) then expect (kind K.RParen) ⨟ ret N.ParenExpr yes else expect (kind K.RParen) ⨟ ret N.ParenExpr no)
+      if at (of-kind K.LParen) then in-marker (bump! ⨟ if open-call (expr-binding-power 0) then expect (of-kind K.RParen) ⨟ ret N.ParenExpr yes else expect (of-kind K.RParen) ⨟ ret N.ParenExpr no)
       else from-name
 
   -- what the reader makes of the first of l, from its second test on, and so forth
@@ -198,13 +198,13 @@ module _ (ask : Rule → State → Out) (b : Label) (rec : Reader)
     us = symbols (eqb (seen t) K.Ident) ts
 
     abbrev Read : Prog → Operand → Type 0
-    Read p y = (s : State) → Stands s → drop-trivia (s .since) ≡ t ∷ ts → Ends ask b p s (Follows s parts (lhs-by y rec (C.kind (seen t)) us))
+    Read p y = (s : State) → Stands s → drop-trivia (s .since) ≡ t ∷ ts → Ends ask b p s (Follows s parts (lhs-by y rec (C.plain (seen t)) us))
 
     -- from the state that the test leaves on
     read-on : (s : State) (p : Prog) (y : Operand) → drop-trivia (s .since) ≡ t ∷ ts → Read p y
-        → Onward s (λ to. Ends ask b p to (Follows s parts (lhs-by y rec (C.kind (seen t)) us)))
+        → Onward s (λ to. Ends ask b p to (Follows s parts (lhs-by y rec (C.plain (seen t)) us)))
     read-on s p y e r to st si =
-        ends-map ask b (r to st (ap drop-trivia si ∙ e)) (λ o d. follows-from s to parts si (lhs-by y rec (C.kind (seen t)) us) o d)
+        ends-map ask b (r to st (ap drop-trivia si ∙ e)) (λ o d. follows-from s to parts si (lhs-by y rec (C.plain (seen t)) us) o d)
 
     -- the symbols behind a token of a set without Ident
     us-plain : (ks : List ℕ) → one-of ks K.Ident ≡ false → one-of ks (seen t) ≡ true → us ≡ symbols false ts
@@ -214,7 +214,7 @@ module _ (ask : Rule → State → Out) (b : Label) (rec : Reader)
     unfolding at first-in one-of
     read-literal true g s h e =
         on-test ask b (test-seq ask b (test-push-all ask b (K.Number ∷ K.Char ∷ []) h) (λ to st si. silent-is ask b (t ∷ ts) true st (ap drop-trivia si ∙ e) g))
-        (read-on s (node N.LiteralExpr bump!) (literals (seen t)) e
+        (read-on s (in-node N.LiteralExpr bump!) (literals (seen t)) e
         (λ to st si. rw (us-plain (K.Number ∷ K.Char ∷ []) refl g) (literal-follows to st t ts si (seen t))))
     read-literal false g s h e =
         on-test ask b (test-seq ask b (test-push-all ask b (K.Number ∷ K.Char ∷ []) h) (λ to st si. silent-is ask b (t ∷ ts) false st (ap drop-trivia si ∙ e) g))

@@ -3,7 +3,7 @@ use Prim.Native.Nat.{ℕ, suc, _+_, _*_, _-_, _≤_, _<_}
 use native.Mathlib.Omega.{arith}
 use mathlib.Core.Path.{_≡_, refl}
 use mathlib.Core.Logic.{_⊎_, inl, inr}
-use Rattle.definitions.specs.C.{kind, number-of, Expr, literal, name, invocation, bracketed, prefix, binary, ternary, precedence, Allowed}
+use Rattle.definitions.specs.C.{plain, number-of, Expr, literal, name, invocation, bracketed, prefix, binary, ternary, precedence, Allowed}
 use Rattle.precedence.proofs.Pratt.{Operator, asks, binds, none, operator}
 use Rattle.precedence.proofs.Tables.{Powers, OperatorOf, operator-of}
 
@@ -48,7 +48,7 @@ high-from k none h = omega arith
 
 has-binary : (k : ℕ) → 1 ≤ number-of k → Plain (number-of k) (27 - 2 * number-of k) (28 - 2 * number-of k)
 has-binary k h =
-    let z = high-from k (operator (kind k)) (operator-of k) in
+    let z = high-from k (operator (plain k)) (operator-of k) in
     record { left-is = omega arith; right-is = omega arith; low = h; high = z }
 
 pub powers : (e : Expr) → Allowed e → Has e

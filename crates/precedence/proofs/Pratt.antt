@@ -6,8 +6,8 @@ use lib.Dec.{ltb}
 use lib.ListN.{length}
 use Rattle.definitions.specs.TokenKind as K
 use Rattle.definitions.specs.Token.{one-of}
-use Rattle.definitions.specs.Grammar.{Level, ternary as ternary-level, binding-power, prefix-power, PREFIX-OPERATORS-SET}
-use Rattle.definitions.specs.C.{Symbol, kind, arguments, Turn, opens, closes, keeps, turn, Expr, literal, name, invocation, bracketed, prefix, binary, ternary}
+use Rattle.definitions.specs.Grammar.{Level, ternary-level, binding-power, prefix-power, PREFIX-OPERATORS-SET}
+use Rattle.definitions.specs.C.{Symbol, plain, arguments, Turn, opens, closes, keeps, turn, Expr, literal, name, invocation, bracketed, prefix, binary, ternary}
 
 -- ---------------------------------------------------------------- what a symbol is, where an operand and where an operator is due
 
@@ -21,7 +21,7 @@ pub data Operand : Type 0 where
 -- the tests of `lhs`, in its order
 unfoldable pub operand : Symbol → Operand
 unfolding one-of
-operand (kind k) =
+operand (plain k) =
     cond (one-of PREFIX-OPERATORS-SET k) (prefixes k)
     (cond (one-of (K.LParen ∷ []) k) brackets
     (cond (one-of (K.Ident ∷ []) k) names (cond (one-of (K.Number ∷ K.Char ∷ []) k) (literals k) nothing)))
@@ -41,12 +41,12 @@ level-of (l ∷ ls) k = let r = level-of ls k in cond (one-of (l .kinds) k) (bin
 -- the tests of `infix-turn`, in its order
 unfoldable pub operator : Symbol → Operator
 unfolding one-of level-of
-operator (kind k) = cond (one-of (ternary-level .kinds) k) asks (level-of binding-power k)
+operator (plain k) = cond (one-of (ternary-level .kinds) k) asks (level-of binding-power k)
 operator arguments = none
 
 unfoldable pub is : ℕ → Symbol → Bool
 unfolding one-of
-is k (kind j) = one-of (k ∷ []) j
+is k (plain j) = one-of (k ∷ []) j
 is k arguments = false
 
 -- ---------------------------------------------------------------- results
@@ -106,7 +106,7 @@ invoked unclosed = report []
 -- `macro_invocation`, after the name
 abbrev pub named : List Symbol → Res
 named [] = done name []
-named (kind k ∷ us) = done name (kind k ∷ us)
+named (plain k ∷ us) = done name (plain k ∷ us)
 named (arguments ∷ us) = invoked (args us 0)
 
 abbrev pub lhs-by : Operand → Reader → Symbol → List Symbol → Res

@@ -6,10 +6,10 @@ use mathlib.Core.List.{List, [], _∷_, _++_}
 use lib.Dec.{ltb}
 use lib.ListN.{length}
 use Rattle.definitions.specs.Token.{Token, drop-trivia, first-in}
-use Rattle.definitions.specs.Prog.{Ans, no, yes, also, again, Rule, silent-at, immediate, add-expected, bump, less, Prog, ret, act, _⨟_, case, mark}
+use Rattle.definitions.specs.Prog.{Ans, no, yes, also, again, Rule, silent-at, immediate, add-expected, bump, less, Prog, ret, act, _⨟_, case, in-marker}
 use Rattle.definitions.specs.Check.{push-all}
 use Rattle.definitions.specs.Skeleton.{Label, Skeleton, done, token, _⧺_}
-use Rattle.definitions.specs.Run.{State, Out, mark-of, peeked, truth, answer, makes, taken, do-bump, add, room, do-expected, perform, choose, marked, exec}
+use Rattle.definitions.specs.Run.{State, Out, mark-of, peeked, truth, answer, makes, taken, do-bump, add, over-unless, do-expected, perform, choose, marked, exec}
 use Rattle.definitions.specs.Report.{pushes}
 use Rattle.laws.proofs.Trivia.{passes-drop}
 use Rattle.laws.proofs.Kept.{Stands, stands-peeked}
@@ -84,7 +84,7 @@ module _ (ask : Rule → State → Out) (b : Label) where
             (λ z. g o (h .holds (clear-first (o .made) (o′ .made) z)) .holds (clear-second (o .made) (o′ .made) z));
       }
 
-  pub inside : {p : Prog} {s : State} {Q : Out → Type 0} → Ends p s (λ o. Q (marked s o)) → Ends (mark p) s Q
+  pub inside : {p : Prog} {s : State} {Q : Out → Type 0} → Ends p s (λ o. Q (marked s o)) → Ends (in-marker p) s Q
   unfolding exec marked makes
   inside {p} {s} h =
       let o : Out = exec ask b p s in
@@ -196,8 +196,8 @@ module _ (ask : Rule → State → Out) (b : Label) where
   unfolding exec perform answer
   test-immediate {s = s} h = record { tells = λ c. record { to = s; is = refl; stands = h; since-is = refl } }
 
-  room-clear : (x : Bool) (m : ℕ) → Clear (pushes (room x m)) → room x m ≡ done
-  unfolding room pushes
+  room-clear : (x : Bool) (m : ℕ) → Clear (pushes (over-unless x m)) → over-unless x m ≡ done
+  unfolding over-unless pushes
   room-clear true m c = refl
   room-clear false m c = absurd c
 

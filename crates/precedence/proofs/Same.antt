@@ -4,7 +4,7 @@ use mathlib.Core.Path.{_≡_, refl, sym, _∙_, ap}
 use mathlib.Core.List.{List}
 use Rattle.definitions.specs.Token.{Token, drop-trivia}
 use Rattle.definitions.specs.Skeleton.{Skeleton, done, token, node, ignored, _⧺_}
-use Rattle.definitions.specs.Place.{Tree, nil, _⊕_, branch, lead, after, place}
+use Rattle.definitions.specs.Place.{Tree, nil, _⊕_, subtree, lead, after, place}
 use Rattle.laws.proofs.Skeleton.{after-join}
 use Rattle.laws.proofs.Tree.{place-join, beside-nil}
 use Rattle.precedence.specs.Nodes.{one, nodes}
@@ -45,7 +45,7 @@ same-node k m m′ a i p s =
       placed = λ ts.
           let u = drop-trivia ts in
           let e : place a u ⊕ place i (after a u) ≡ place p u = sym (place-join a i u) ∙ s .placed u in
-          ap (λ (c : Tree). lead ts ⊕ branch k c nil) e;
+          ap (λ (c : Tree). lead ts ⊕ subtree k c nil) e;
       left = λ ts. sym (after-join a i (drop-trivia ts)) ∙ s .left (drop-trivia ts);
     }
 

@@ -12,7 +12,7 @@ use Rattle.definitions.specs.TokenKind as K
 use Rattle.definitions.specs.NodeKind as N
 use Rattle.definitions.specs.Token.{Token, seen, trivia, drop-trivia, past}
 use Rattle.definitions.specs.Skeleton.{Report, Skeleton, token, _⧺_}
-use Rattle.definitions.specs.Place.{Tree, nil, leaf, branch, _⊕_, lead, front, after, place}
+use Rattle.definitions.specs.Place.{Tree, nil, leaf, subtree, _⊕_, lead, front, after, place}
 use Rattle.definitions.specs.Report.{Push, event, reported, exceeded, pushes}
 use Rattle.definitions.specs.C.{symbols, Balanced, Expr, Gives}
 use Rattle.laws.proofs.Marks.{push-mark, Falls}
@@ -155,7 +155,7 @@ unfoldable pub Each : (List Token → Tree → Type 0) → List Token → Tree �
 unfolding leaves
 Each Q ts nil = Unit {0}
 Each Q ts (leaf k raw f) = Each Q (drop (length raw) ts) f
-Each Q ts (branch k c f) = (k ≡ N.DtExpr → Q ts c) × Each Q ts c × Each Q (drop (length (leaves c)) ts) f
+Each Q ts (subtree k c f) = (k ≡ N.DtExpr → Q ts c) × Each Q ts c × Each Q (drop (length (leaves c)) ts) f
 
 module _ (Q : List Token → Tree → Type 0) where
   each-beside : (f g : Tree) (ts : List Token) → Each Q ts f → Each Q (drop (length (leaves f)) ts) g → Each Q ts (f ⊕ g)
@@ -165,7 +165,7 @@ module _ (Q : List Token → Tree → Type 0) where
       let e : drop (length (raw ++ leaves f)) ts ≡ drop (length (leaves f)) (drop (length raw) ts) =
       ap (λ (n : ℕ). drop n ts) (length-append raw (leaves f)) ∙ sym (drop-drop (length (leaves f)) (length raw) ts) in
       each-beside f g (drop (length raw) ts) h (subst (λ (l : List Token). Each Q l g) e i)
-  each-beside (branch k c f) g ts h i =
+  each-beside (subtree k c f) g ts h i =
       let e : drop (length (leaves c ++ leaves f)) ts ≡ drop (length (leaves f)) (drop (length (leaves c)) ts) =
       ap (λ (n : ℕ). drop n ts) (length-append (leaves c) (leaves f)) ∙ sym (drop-drop (length (leaves f)) (length (leaves c)) ts) in
       (h .0, h .1, each-beside f g (drop (length (leaves c)) ts) (h .2) (subst (λ (l : List Token). Each Q l g) e i))
@@ -206,12 +206,12 @@ module _ (Q : List Token → Tree → Type 0) where
       → (k ≡ N.DtExpr → Q (drop-trivia ts) (place a (drop-trivia ts) ⊕ place i (after a (drop-trivia ts))))
       → Each Q (drop-trivia ts) (place a (drop-trivia ts)) → Each Q (after a (drop-trivia ts)) (place i (after a (drop-trivia ts)))
       → Each Q (after i (after a (drop-trivia ts))) g
-      → Each Q ts (lead ts ⊕ branch k (place a (drop-trivia ts) ⊕ place i (after a (drop-trivia ts))) nil ⊕ g)
+      → Each Q ts (lead ts ⊕ subtree k (place a (drop-trivia ts) ⊕ place i (after a (drop-trivia ts))) nil ⊕ g)
   unfolding Each _⊕_
   each-branch k a i g ts q x y z =
       let u = drop-trivia ts in
       let c = place a u ⊕ place i (after a u) in
       let w : drop (length (leaves c)) u ≡ after i (after a u) =
       ap (drop (length (leaves c))) (sym (both-whole a i u)) ∙ drop-append-seam (leaves c) (after i (after a u)) in
-      each-then (lead ts) (branch k c g) ts u (lead-whole ts) (each-lead ts ts)
+      each-then (lead ts) (subtree k c g) ts u (lead-whole ts) (each-lead ts ts)
       (q, place-then a (place i (after a u)) u x y, subst (λ (l : List Token). Each Q l g) (sym w) z)

@@ -10,7 +10,7 @@ use borrow.Author.Tests.{ltb-true, ltb-false, eqb-true}
 use lib.Dec.{ltb, eqb}
 use lib.ListN.{length}
 use Rattle.definitions.specs.TokenKind as K
-use Rattle.definitions.specs.C.{Symbol, kind, arguments, Turn, opens, closes, keeps, turn, turned, open-after, number-of, Expr, bracketed, prefix, binary, ternary, Allowed}
+use Rattle.definitions.specs.C.{Symbol, plain, arguments, Turn, opens, closes, keeps, turn, turned, open-after, number-of, Expr, bracketed, prefix, binary, ternary, Allowed}
 use Rattle.precedence.proofs.Pratt.{Operand, prefixes, brackets, names, literals, nothing, operand, Operator, asks, binds, operator, Res, done, spent, Reader, bind, expect, Args, closed, unclosed, push, args-turn, args, invoked, named, lhs-by, lhs, bind-if, ask-if, step-by, step, loop, reader}
 use Rattle.precedence.proofs.Pratt as P
 use Rattle.precedence.proofs.Tables.{Powers, OperatorOf, operator-of, OperandOf, operand-of}
@@ -41,7 +41,7 @@ behind e a us vs p h b = rw h (before-onto e a vs p b)
 -- ---------------------------------------------------------------- argument lists
 
 abbrev pub ArgsOf : List Symbol → ℕ → Args → Type 0
-ArgsOf us n (closed xs vs) = (us ≡ xs ++ (kind K.RParen ∷ vs)) × (open-after xs n ≡ some 0)
+ArgsOf us n (closed xs vs) = (us ≡ xs ++ (plain K.RParen ∷ vs)) × (open-after xs n ≡ some 0)
 ArgsOf us n unclosed = (m : ℕ) × (open-after us n ≡ some m)
 
 turn-by : (k : ℕ) (b c : Bool) → eqb k K.RParen ≡ c → cond b opens (cond c closes keeps) ≡ closes → k ≡ K.RParen
@@ -49,8 +49,8 @@ turn-by k true c e h = cc
 turn-by k false true e h = eqb-true k K.RParen e
 turn-by k false false e h = cc
 
-pub turn-closes : (x : Symbol) → turn x ≡ closes → x ≡ kind K.RParen
-turn-closes (kind k) h = ap kind (turn-by k (eqb k K.LParen) (eqb k K.RParen) refl h)
+pub turn-closes : (x : Symbol) → turn x ≡ closes → x ≡ plain K.RParen
+turn-closes (plain k) h = ap plain (turn-by k (eqb k K.LParen) (eqb k K.RParen) refl h)
 turn-closes arguments h = cc
 
 -- one symbol more, which takes the count from n to n′
@@ -79,25 +79,25 @@ more-open us h (suc n) = let o = more-open us h n in (suc (o .0), open-up us n (
 abbrev FirstOf : List Symbol → Res → Type 0
 FirstOf us x = Post (First us) (Before us) x
 
-invoked-sound : (us : List Symbol) (x : Args) → ArgsOf us 0 x → FirstOf (kind K.Ident ∷ arguments ∷ us) (invoked x)
+invoked-sound : (us : List Symbol) (x : Args) → ArgsOf us 0 x → FirstOf (plain K.Ident ∷ arguments ∷ us) (invoked x)
 invoked-sound us (closed xs vs) h = record { allowed = h .1; tight = omega arith; tight′ = omega arith; symbols-are = rw (h .0) }
 invoked-sound us unclosed h =
     record {
-      passed = kind K.Ident ∷ arguments ∷ us;
-      split = sym (append-nil (kind K.Ident ∷ arguments ∷ us));
+      passed = plain K.Ident ∷ arguments ∷ us;
+      split = sym (append-nil (plain K.Ident ∷ arguments ∷ us));
       inside = λ n z. let o = more-open us h (suc n) in not-none (o .0) (sym (o .1) ∙ z);
     }
 
-named-sound : (us : List Symbol) → FirstOf (kind K.Ident ∷ us) (named us)
+named-sound : (us : List Symbol) → FirstOf (plain K.Ident ∷ us) (named us)
 named-sound [] = record { allowed = tt; tight = omega arith; tight′ = omega arith; symbols-are = refl }
-named-sound (kind k ∷ us) = record { allowed = tt; tight = omega arith; tight′ = omega arith; symbols-are = refl }
+named-sound (plain k ∷ us) = record { allowed = tt; tight = omega arith; tight′ = omega arith; symbols-are = refl }
 named-sound (arguments ∷ us) = invoked-sound us (args us 0) (args-of us 0)
 
 module _ (rec : Reader) (sound : Sound rec) where
-  prefix-sound : (k : ℕ) (us : List Symbol) → OperandOf (kind k) (prefixes k) → FirstOf (kind k ∷ us) (lhs-by (prefixes k) rec (kind k) us)
+  prefix-sound : (k : ℕ) (us : List Symbol) → OperandOf (plain k) (prefixes k) → FirstOf (plain k ∷ us) (lhs-by (prefixes k) rec (plain k) us)
   prefix-sound k us h =
-      post-bind (Read 23 us) (Before us) (First (kind k ∷ us)) (Before (kind k ∷ us)) (rec 23 us)
-      (λ e vs. done (prefix k e) vs) (sound 23 (omega arith) us) (λ q b. before-flat (kind k) us q (flat-prefix-of k (h .1)) b)
+      post-bind (Read 23 us) (Before us) (First (plain k ∷ us)) (Before (plain k ∷ us)) (rec 23 us)
+      (λ e vs. done (prefix k e) vs) (sound 23 (omega arith) us) (λ q b. before-flat (plain k) us q (flat-prefix-of k (h .1)) b)
       λ e vs r.
       record {
         allowed = (h .1, r .allowed, under-prefix e (powers e (r .allowed)) (r .power));
@@ -106,12 +106,12 @@ module _ (rec : Reader) (sound : Sound rec) where
         symbols-are = rw (r .symbols-are);
       }
 
-  bracket-sound : (us : List Symbol) → FirstOf (kind K.LParen ∷ us) (lhs-by brackets rec (kind K.LParen) us)
+  bracket-sound : (us : List Symbol) → FirstOf (plain K.LParen ∷ us) (lhs-by brackets rec (plain K.LParen) us)
   bracket-sound us =
-      post-bind (Read 0 us) (Before us) (First (kind K.LParen ∷ us)) (Before (kind K.LParen ∷ us)) (rec 0 us)
+      post-bind (Read 0 us) (Before us) (First (plain K.LParen ∷ us)) (Before (plain K.LParen ∷ us)) (rec 0 us)
       (λ e vs. expect K.RParen vs (λ ws. done (bracketed e) ws)) (sound 0 (omega arith) us) (λ q b. before-open us q b)
       λ e vs r.
-      post-expect (First (kind K.LParen ∷ us)) (Before (kind K.LParen ∷ us)) K.RParen vs (λ ws. done (bracketed e) ws)
+      post-expect (First (plain K.LParen ∷ us)) (Before (plain K.LParen ∷ us)) K.RParen vs (λ ws. done (bracketed e) ws)
       (before-open us vs (behind e (r .allowed) us vs vs (r .symbols-are) (before-refl vs)))
       λ ws h.
       let y = r .symbols-are in
@@ -133,15 +133,15 @@ module _ (rec : Reader) (sound : Sound rec) where
   module _ (m : ℕ) (small : m ≤ 23) (more : Expr → List Symbol → Res)
       (goes : (e : Expr) (us : List Symbol) → Allowed e → m ≤ lb e → Stop (rb e) us → Post (Read m (onto e us)) (Before (onto e us)) (more e us)) where
     bind-sound : (e : Expr) (k l r : ℕ) (us : List Symbol) → Allowed e → m ≤ lb e → l < rb e → Powers (number-of k) l r
-        → (l < m → Stop m (kind k ∷ us)) → (b : Bool) → ltb l m ≡ b
-        → Post (Read m (onto e (kind k ∷ us))) (Before (onto e (kind k ∷ us))) (bind-if b more rec e k r (kind k ∷ us) us)
+        → (l < m → Stop m (plain k ∷ us)) → (b : Bool) → ltb l m ≡ b
+        → Post (Read m (onto e (plain k ∷ us))) (Before (onto e (plain k ∷ us))) (bind-if b more rec e k r (plain k ∷ us) us)
     bind-sound e k l r us a h s pw st true t = record { allowed = a; power = h; symbols-are = refl; stops = st (ltb-true l m t) }
     bind-sound e k l r us a h s pw st false t =
         let low : 1 ≤ number-of k = omega arith in
         let ml = ltb-false l m t in
-        post-bind (Read r us) (Before us) (Read m (onto e (kind k ∷ us))) (Before (onto e (kind k ∷ us))) (rec r us)
+        post-bind (Read r us) (Before us) (Read m (onto e (plain k ∷ us))) (Before (onto e (plain k ∷ us))) (rec r us)
         (λ f vs. more (binary e k f) vs) (sound r (omega arith) us)
-        (λ q b. before-onto e a (kind k ∷ us) q (before-flat (kind k) us q (flat-binary k low) b))
+        (λ q b. before-onto e a (plain k ∷ us) q (before-flat (plain k) us q (flat-binary k low) b))
         λ f vs d.
         let ok : Allowed (binary e k f) =
         (low, a, d .allowed, as-left e (powers e a) (number-of k) l r pw s, as-right f (powers f (d .allowed)) (number-of k) l r pw (d .power)) in
@@ -149,32 +149,32 @@ module _ (rec : Reader) (sound : Sound rec) where
         let rb-is : r ≡ rb (binary e k f) = omega arith in
         rw (d .symbols-are) (goes (binary e k f) vs ok (omega arith) (rw rb-is at (d .stops)))
 
-    ask-sound : (e : Expr) (us : List Symbol) → Allowed e → m ≤ lb e → 2 < rb e → (2 < m → Stop m (kind K.QuestionMark ∷ us)) → (b : Bool) → ltb 2 m ≡ b
-        → Post (Read m (onto e (kind K.QuestionMark ∷ us))) (Before (onto e (kind K.QuestionMark ∷ us))) (ask-if b more rec e (kind K.QuestionMark ∷ us) us)
+    ask-sound : (e : Expr) (us : List Symbol) → Allowed e → m ≤ lb e → 2 < rb e → (2 < m → Stop m (plain K.QuestionMark ∷ us)) → (b : Bool) → ltb 2 m ≡ b
+        → Post (Read m (onto e (plain K.QuestionMark ∷ us))) (Before (onto e (plain K.QuestionMark ∷ us))) (ask-if b more rec e (plain K.QuestionMark ∷ us) us)
     ask-sound e us a h s st true t = record { allowed = a; power = h; symbols-are = refl; stops = st (ltb-true 2 m t) }
     ask-sound e us a h s st false t =
-        let D : Expr → List Symbol → Type 0 = Read m (onto e (kind K.QuestionMark ∷ us)) in
-        let Q : List Symbol → Type 0 = Before (onto e (kind K.QuestionMark ∷ us)) in
+        let D : Expr → List Symbol → Type 0 = Read m (onto e (plain K.QuestionMark ∷ us)) in
+        let Q : List Symbol → Type 0 = Before (onto e (plain K.QuestionMark ∷ us)) in
         post-bind (Read 0 us) (Before us) D Q (rec 0 us)
         (λ x ws. expect K.Colon ws (λ xs. bind (rec 1 xs) (λ b ys. more (ternary e x b) ys))) (sound 0 (omega arith) us)
-        (λ q b. before-onto e a (kind K.QuestionMark ∷ us) q (before-flat (kind K.QuestionMark) us q refl b))
+        (λ q b. before-onto e a (plain K.QuestionMark ∷ us) q (before-flat (plain K.QuestionMark) us q refl b))
         λ x ws d.
         post-expect D Q K.Colon ws (λ xs. bind (rec 1 xs) (λ b ys. more (ternary e x b) ys))
-        (before-onto e a (kind K.QuestionMark ∷ us) ws
-        (before-flat (kind K.QuestionMark) us ws refl (behind x (d .allowed) us ws ws (d .symbols-are) (before-refl ws))))
+        (before-onto e a (plain K.QuestionMark ∷ us) ws
+        (before-flat (plain K.QuestionMark) us ws refl (behind x (d .allowed) us ws ws (d .symbols-are) (before-refl ws))))
         λ xs z.
         post-bind (Read 1 xs) (Before xs) D Q (rec 1 xs) (λ b ys. more (ternary e x b) ys) (sound 1 (omega arith) xs)
-        (λ q b. before-onto e a (kind K.QuestionMark ∷ us) q
-        (before-flat (kind K.QuestionMark) us q refl
-        (behind x (d .allowed) us ws q (d .symbols-are) (rw z (before-flat (kind K.Colon) xs q refl b)))))
+        (λ q b. before-onto e a (plain K.QuestionMark ∷ us) q
+        (before-flat (plain K.QuestionMark) us q refl
+        (behind x (d .allowed) us ws q (d .symbols-are) (rw z (before-flat (plain K.Colon) xs q refl b)))))
         λ b ys g.
         rw (d .symbols-are, z, g .symbols-are)
         (goes (ternary e x b) ys (a, d .allowed, g .allowed, as-condition e (powers e a) s) (ltb-false 2 m t) (g .stops))
 
-    step-from : (y : Operator) (k : ℕ) (e : Expr) (us : List Symbol) → operator (kind k) ≡ y → OperatorOf k y → Allowed e → m ≤ lb e
-        → Stop (rb e) (kind k ∷ us) → Post (Read m (onto e (kind k ∷ us))) (Before (onto e (kind k ∷ us))) (step-by y more rec m e (kind k) us)
+    step-from : (y : Operator) (k : ℕ) (e : Expr) (us : List Symbol) → operator (plain k) ≡ y → OperatorOf k y → Allowed e → m ≤ lb e
+        → Stop (rb e) (plain k ∷ us) → Post (Read m (onto e (plain k ∷ us))) (Before (onto e (plain k ∷ us))) (step-by y more rec m e (plain k) us)
     step-from asks k e us o h a p s =
-        let stops : 2 < m → Stop m (kind k ∷ us) = λ l. rw o l in
+        let stops : 2 < m → Stop m (plain k ∷ us) = λ l. rw o l in
         rw (h .0) (ask-sound e us a p (rw o at s) (rw (h .0) at stops) (ltb 2 m) refl)
     step-from (binds j l r) k e us o h a p s =
         rw (h .0) (bind-sound e k l r us a p (rw o at s) (h .1) (λ z. rw o z) (ltb l m) refl)
@@ -184,7 +184,7 @@ module _ (rec : Reader) (sound : Sound rec) where
         → Post (Read m (onto e us)) (Before (onto e us)) (step more rec m e us)
     unfolding operator
     step-sound e [] a p s = record { allowed = a; power = p; symbols-are = refl; stops = tt }
-    step-sound e (kind k ∷ us) a p s = step-from (operator (kind k)) k e us refl (operator-of k) a p s
+    step-sound e (plain k ∷ us) a p s = step-from (operator (plain k)) k e us refl (operator-of k) a p s
     step-sound e (arguments ∷ us) a p s = record { allowed = a; power = p; symbols-are = refl; stops = tt }
 
   loop-sound : (n m : ℕ) → m ≤ 23 → (e : Expr) (us : List Symbol) → Allowed e → m ≤ lb e → Stop (rb e) us

@@ -9,7 +9,7 @@ use lib.Dec.{eqb, leb}
 use lib.ListN.{length, length-append}
 use Rattle.definitions.specs.TokenKind as K
 use Rattle.definitions.specs.Token.{Token, is-error, seen, trivia, drop-trivia, one-of, first-in}
-use Rattle.definitions.specs.C.{Symbol, kind, arguments, symbol, symbols, opens, turn}
+use Rattle.definitions.specs.C.{Symbol, plain, arguments, symbol, symbols, opens, turn}
 use Rattle.laws.proofs.Trivia.{Solid, dropped-solid, drop-trivium, drop-none, drop-trivia-length, Passes, passes-all}
 
 -- ---------------------------------------------------------------- the first symbol
@@ -23,7 +23,7 @@ pub symbols-blank : (b : Bool) (t : Token) (ts : List Token) → trivia t ≡ tr
 unfolding symbols
 symbols-blank b t ts h = ap (λ (c : Bool). cond c (symbols false ts) (symbol b t ∷ symbols (eqb (seen t) K.Ident) ts)) h
 
-pub symbol-apart : (t : Token) → symbol false t ≡ kind (seen t)
+pub symbol-apart : (t : Token) → symbol false t ≡ plain (seen t)
 unfolding symbol
 symbol-apart t = refl
 
@@ -46,15 +46,15 @@ pub solid-first : (r : List Token) (t : Token) (ts : List Token) → drop-trivia
 solid-first r t ts h = subst Solid h (dropped-solid r)
 
 pub symbols-next : (r : List Token) (t : Token) (ts : List Token) → drop-trivia r ≡ t ∷ ts
-    → symbols false r ≡ kind (seen t) ∷ symbols (eqb (seen t) K.Ident) ts
+    → symbols false r ≡ plain (seen t) ∷ symbols (eqb (seen t) K.Ident) ts
 symbols-next r t ts h =
     symbols-drop r ∙ ap (symbols false) h ∙ symbols-solid false t ts (solid-first r t ts h)
     ∙ ap (λ (x : Symbol). x ∷ symbols (eqb (seen t) K.Ident) ts) (symbol-apart t)
 
 -- behind a token that is no Ident
 pub symbols-past : (r : List Token) (t : Token) (ts : List Token) → drop-trivia r ≡ t ∷ ts → eqb (seen t) K.Ident ≡ false
-    → symbols false r ≡ kind (seen t) ∷ symbols false ts
-symbols-past r t ts h e = symbols-next r t ts h ∙ ap (λ (b : Bool). kind (seen t) ∷ symbols b ts) e
+    → symbols false r ≡ plain (seen t) ∷ symbols false ts
+symbols-past r t ts h e = symbols-next r t ts h ∙ ap (λ (b : Bool). plain (seen t) ∷ symbols b ts) e
 
 -- ---------------------------------------------------------------- behind an Ident
 
@@ -162,7 +162,7 @@ symbols-fewer b c (x ∷ xs) us = go (trivia x) refl (λ d. symbols-fewer b d xs
 
 -- What is left of the tokens still has the bracket that balances, if its symbols do: `behind` are the tokens behind the bracket t.
 pub still-there : (r raw inner behind : List Token) (t : Token) (xs : List Symbol) → Tail raw r → r ≡ inner ++ (t ∷ behind)
-    → symbols false raw ≡ xs ++ (kind K.RParen ∷ symbols false behind) → length (t ∷ behind) ≤ length raw
+    → symbols false raw ≡ xs ++ (plain K.RParen ∷ symbols false behind) → length (t ∷ behind) ≤ length raw
 still-there r raw inner behind t xs p e h = go (leb (length raw) (length behind)) refl
   where
     go : (b : Bool) → leb (length raw) (length behind) ≡ b → length (t ∷ behind) ≤ length raw
@@ -204,27 +204,27 @@ unfolding symbol
 turn-opens true t e = rw e
 turn-opens false t e = rw e
 
-pub symbol-kind : (b : Bool) (t : Token) → eqb (seen t) K.LParen ≡ false → symbol b t ≡ kind (seen t)
+pub symbol-kind : (b : Bool) (t : Token) → eqb (seen t) K.LParen ≡ false → symbol b t ≡ plain (seen t)
 unfolding symbol
 symbol-kind true t e = rw e
 symbol-kind false t e = refl
 
 -- ---------------------------------------------------------------- up to a closing bracket
 
-close-apart : (b : Bool) (t : Token) (ts : List Token) → seen t ≡ K.RParen → trivia t ≡ false → symbols b (t ∷ ts) ≡ kind K.RParen ∷ symbols false ts
+close-apart : (b : Bool) (t : Token) (ts : List Token) → seen t ≡ K.RParen → trivia t ≡ false → symbols b (t ∷ ts) ≡ plain K.RParen ∷ symbols false ts
 close-apart b t ts e s =
-    symbols-solid b t ts s ∙ rw (symbol-kind b t (ap (λ (k : ℕ). eqb k K.LParen) e), ap (λ (k : ℕ). eqb k K.Ident) e) (ap (λ (k : ℕ). kind k ∷ symbols false ts) e)
+    symbols-solid b t ts s ∙ rw (symbol-kind b t (ap (λ (k : ℕ). eqb k K.LParen) e), ap (λ (k : ℕ). eqb k K.Ident) e) (ap (λ (k : ℕ). plain k ∷ symbols false ts) e)
 
 -- the symbols of what stands before it, the bracket's, and those of what stands behind it
 pub symbols-split : (b : Bool) (xs : List Token) (t : Token) (ts : List Token) → seen t ≡ K.RParen
-    → symbols b (xs ++ (t ∷ ts)) ≡ symbols b xs ++ (kind K.RParen ∷ symbols false ts)
+    → symbols b (xs ++ (t ∷ ts)) ≡ symbols b xs ++ (plain K.RParen ∷ symbols false ts)
 unfolding symbols
 symbols-split b [] t ts e = close-apart b t ts e (close-solid t e)
 symbols-split b (x ∷ xs) t ts e = go (trivia x) (λ c. symbols-split c xs t ts e)
   where
-    go : (d : Bool) → ((c : Bool) → symbols c (xs ++ (t ∷ ts)) ≡ symbols c xs ++ (kind K.RParen ∷ symbols false ts))
+    go : (d : Bool) → ((c : Bool) → symbols c (xs ++ (t ∷ ts)) ≡ symbols c xs ++ (plain K.RParen ∷ symbols false ts))
         → cond d (symbols false (xs ++ (t ∷ ts))) (symbol b x ∷ symbols (eqb (seen x) K.Ident) (xs ++ (t ∷ ts)))
-        ≡ cond d (symbols false xs) (symbol b x ∷ symbols (eqb (seen x) K.Ident) xs) ++ (kind K.RParen ∷ symbols false ts)
+        ≡ cond d (symbols false xs) (symbol b x ∷ symbols (eqb (seen x) K.Ident) xs) ++ (plain K.RParen ∷ symbols false ts)
     go true h = h false
     go false h = ap (symbol b x ∷_) (h (eqb (seen x) K.Ident))
 

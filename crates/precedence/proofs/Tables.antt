@@ -8,8 +8,8 @@ use lib.Dec.{leb, eqb, ltb}
 use borrow.Author.Tests.{ltb-true, ltb-false, leb-true, eqb-true, eqb-false, ne-eqb}
 use Rattle.definitions.specs.TokenKind as K
 use Rattle.definitions.specs.Token.{one-of}
-use Rattle.definitions.specs.Grammar.{Level, ternary as ternary-level, binding-power, PREFIX-OPERATORS-SET}
-use Rattle.definitions.specs.C.{Symbol, kind, arguments, Row, table, number-in, number-of, prefix-operators}
+use Rattle.definitions.specs.Grammar.{Level, ternary-level, binding-power, PREFIX-OPERATORS-SET}
+use Rattle.definitions.specs.C.{Symbol, plain, arguments, Row, table, number-in, number-of, prefix-operators}
 use Rattle.precedence.specs.Tables.{Levels, None-has, Tables-agree}
 use Rattle.precedence.proofs.Pratt.{Operand, prefixes, brackets, names, literals, nothing, operand, Operator, asks, binds, none, level-of, operator, is}
 
@@ -77,7 +77,7 @@ agree k p (binds j l r) = eqb j k && (eqb (l + 2 * p) 27 && (eqb r (suc l) && (l
 agree k p none = eqb p 0
 
 agree-at : ℕ → Bool
-agree-at k = agree k (number-of k) (operator (kind k))
+agree-at k = agree k (number-of k) (operator (plain k))
 
 agree-small : below 61 agree-at ≡ true
 unfolding below one-of level-of number-in agree operator agree-at
@@ -122,9 +122,9 @@ operator-from k (binds j l r) h =
     )
 operator-from k none h = eqb-true (number-of k) 0 h
 
-pub operator-of : (k : ℕ) → OperatorOf k (operator (kind k))
+pub operator-of : (k : ℕ) → OperatorOf k (operator (plain k))
 unfolding agree-at
-operator-of k = operator-from k (operator (kind k)) (agrees k)
+operator-of k = operator-from k (operator (plain k)) (agrees k)
 
 -- ---------------------------------------------------------------- sets
 
@@ -148,32 +148,32 @@ member-one here = refl
 -- ---------------------------------------------------------------- what an operand is
 
 abbrev pub OperandOf : Symbol → Operand → Type 0
-OperandOf x (prefixes k) = (x ≡ kind k) × (one-of prefix-operators k ≡ true)
-OperandOf x brackets = x ≡ kind K.LParen
-OperandOf x names = x ≡ kind K.Ident
-OperandOf x (literals k) = (x ≡ kind k) × (one-of (K.Number ∷ K.Char ∷ []) k ≡ true)
+OperandOf x (prefixes k) = (x ≡ plain k) × (one-of prefix-operators k ≡ true)
+OperandOf x brackets = x ≡ plain K.LParen
+OperandOf x names = x ≡ plain K.Ident
+OperandOf x (literals k) = (x ≡ plain k) × (one-of (K.Number ∷ K.Char ∷ []) k ≡ true)
 OperandOf x nothing = Unit {0}
 
-kind-is : (k j : ℕ) → one-of (j ∷ []) k ≡ true → kind k ≡ kind j
-kind-is k j h = ap kind (member-one (member (j ∷ []) k h))
+kind-is : (k j : ℕ) → one-of (j ∷ []) k ≡ true → plain k ≡ plain j
+kind-is k j h = ap plain (member-one (member (j ∷ []) k h))
 
-operand-literal : (k : ℕ) (b : Bool) → one-of (K.Number ∷ K.Char ∷ []) k ≡ b → OperandOf (kind k) (cond b (literals k) nothing)
+operand-literal : (k : ℕ) (b : Bool) → one-of (K.Number ∷ K.Char ∷ []) k ≡ b → OperandOf (plain k) (cond b (literals k) nothing)
 operand-literal k true e = (refl, e)
 operand-literal k false e = tt
 
 operand-name : (k : ℕ) (b : Bool) → one-of (K.Ident ∷ []) k ≡ b
-    → OperandOf (kind k) (cond b names (cond (one-of (K.Number ∷ K.Char ∷ []) k) (literals k) nothing))
+    → OperandOf (plain k) (cond b names (cond (one-of (K.Number ∷ K.Char ∷ []) k) (literals k) nothing))
 operand-name k true e = kind-is k K.Ident e
 operand-name k false e = operand-literal k (one-of (K.Number ∷ K.Char ∷ []) k) refl
 
 operand-bracket : (k : ℕ) (b : Bool) → one-of (K.LParen ∷ []) k ≡ b
-    → OperandOf (kind k)
+    → OperandOf (plain k)
     (cond b brackets (cond (one-of (K.Ident ∷ []) k) names (cond (one-of (K.Number ∷ K.Char ∷ []) k) (literals k) nothing)))
 operand-bracket k true e = kind-is k K.LParen e
 operand-bracket k false e = operand-name k (one-of (K.Ident ∷ []) k) refl
 
 operand-kind : (k : ℕ) (b : Bool) → one-of PREFIX-OPERATORS-SET k ≡ b
-    → OperandOf (kind k)
+    → OperandOf (plain k)
     (cond b (prefixes k)
     (cond (one-of (K.LParen ∷ []) k) brackets
     (cond (one-of (K.Ident ∷ []) k) names (cond (one-of (K.Number ∷ K.Char ∷ []) k) (literals k) nothing))))
@@ -182,24 +182,24 @@ operand-kind k false e = operand-bracket k (one-of (K.LParen ∷ []) k) refl
 
 pub operand-of : (x : Symbol) → OperandOf x (operand x)
 unfolding operand
-operand-of (kind k) = operand-kind k (one-of PREFIX-OPERATORS-SET k) refl
+operand-of (plain k) = operand-kind k (one-of PREFIX-OPERATORS-SET k) refl
 operand-of arguments = tt
 
-pub prefix-operand : (k : ℕ) → one-of prefix-operators k ≡ true → operand (kind k) ≡ prefixes k
+pub prefix-operand : (k : ℕ) → one-of prefix-operators k ≡ true → operand (plain k) ≡ prefixes k
 unfolding operand
 prefix-operand k h = rw h
 
-literal-member : {k : ℕ} → Member k (K.Number ∷ K.Char ∷ []) → operand (kind k) ≡ literals k
+literal-member : {k : ℕ} → Member k (K.Number ∷ K.Char ∷ []) → operand (plain k) ≡ literals k
 unfolding operand one-of
 literal-member here = refl
 literal-member (there here) = refl
 
-pub literal-operand : (k : ℕ) → one-of (K.Number ∷ K.Char ∷ []) k ≡ true → operand (kind k) ≡ literals k
+pub literal-operand : (k : ℕ) → one-of (K.Number ∷ K.Char ∷ []) k ≡ true → operand (plain k) ≡ literals k
 literal-operand k h = literal-member (member (K.Number ∷ K.Char ∷ []) k h)
 
-pub is-kind : (k : ℕ) (x : Symbol) → is k x ≡ true → x ≡ kind k
+pub is-kind : (k : ℕ) (x : Symbol) → is k x ≡ true → x ≡ plain k
 unfolding is
-is-kind k (kind j) h = kind-is j k h
+is-kind k (plain j) h = kind-is j k h
 is-kind k arguments h = absurd (false≢true h)
 
 -- ---------------------------------------------------------------- the statement of specs/Tables.antt

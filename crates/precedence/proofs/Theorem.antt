@@ -11,10 +11,10 @@ use lib.ListN.{length, take, drop, replicate, length-append}
 use lib.Seq.{drop-drop, drop-append-seam}
 use Rattle.definitions.specs.TokenKind as K
 use Rattle.definitions.specs.NodeKind as N
-use Rattle.definitions.specs.Token.{Token, tokens, is-error, seen, bytes}
+use Rattle.definitions.specs.Token.{Token, tokens-of, is-error, seen, bytes}
 use Rattle.definitions.specs.Grammar.{Entry, root-kind}
 use Rattle.definitions.specs.Skeleton.{Report, _⧺_}
-use Rattle.definitions.specs.Place.{Tree, nil, branch, _⊕_, lead, after, place, root, rows}
+use Rattle.definitions.specs.Place.{Tree, nil, subtree, _⊕_, lead, after, place, root, rows}
 use Rattle.definitions.specs.Report.{Push, pushes, reports}
 use Rattle.definitions.specs.C.{symbols, Expr}
 use Rattle.definitions.specs.Call.{Buffers, Result, sheets, kept, run-entry}
@@ -50,7 +50,7 @@ seen-of t j e f = rw e (rw f refl)
 
 -- the rows of a DtExpr that holds a tree
 cell-rows : (e : Expr) (t : Token) (ts : List Token) → seen t ≡ K.LParen
-    → place (cell e) (t ∷ ts) ≡ branch N.DtExpr (place (one ⧺ (parts e ⧺ one)) (t ∷ ts)) nil
+    → place (cell e) (t ∷ ts) ≡ subtree N.DtExpr (place (one ⧺ (parts e ⧺ one)) (t ∷ ts)) nil
 unfolding place after lead _⊕_
 cell-rows e t ts k =
     rw (bracket-solid t k)
@@ -160,7 +160,7 @@ module _ (e : Entry) (ts : List Token) (l : Buffers) (clear : Clear (pushes (run
           let w = cell-rows f (b .opening) (b .inner ++ (b .closing ∷ b .after)) (seen-of (b .opening) K.LParen (b .opens) refl) in
           record {
             more = found p d .more;
-            rows-are = found p d .rows-are ∙ ap (λ (x : Tree). rows x ++ found p d .more) (ap (λ (y : Tree). branch N.DtExpr y nil) (h ∙ c) ∙ sym w);
+            rows-are = found p d .rows-are ∙ ap (λ (x : Tree). rows x ++ found p d .more) (ap (λ (y : Tree). subtree N.DtExpr y nil) (h ∙ c) ∙ sym w);
           }
 
       by-verdict : Clean all (b .inner) (b .closing) (b .after) (found p d .fact .behind) (drop (tokens-before p (r .buffers .trees)) ts) (found p d .children)
@@ -190,13 +190,13 @@ module _ (e : Entry) (ts : List Token) (l : Buffers) (clear : Clear (pushes (run
 pub c-table : C-table
 c-table n bs tk l h =
     let a = accepted-call n bs tk l h in
-    let o = run-entry (a .entry) (tokens tk) in
+    let o = run-entry (a .entry) (tokens-of tk) in
     let c : Clear (pushes o) = fits-clear (pushes o) _ (a .left) (a .fitted) in
     subst
-    (λ (r : Result). (p : ℕ) → DtExpr-at p r → Starts-cell (tokens tk) p r
-    × ((b : Brackets (tokens tk)) → opening-index (tokens tk) b ≡ tokens-before p (r .buffers .trees) → Judged (tokens tk) b r p))
+    (λ (r : Result). (p : ℕ) → DtExpr-at p r → Starts-cell (tokens-of tk) p r
+    × ((b : Brackets (tokens-of tk)) → opening-index (tokens-of tk) b ≡ tokens-before p (r .buffers .trees) → Judged (tokens-of tk) b r p))
     (sym (a .returns))
-    (λ p d. (starts (a .entry) (tokens tk) l c p d, λ b i. judges (a .entry) (tokens tk) l c b p d i))
+    (λ p d. (starts (a .entry) (tokens-of tk) l c p d, λ b i. judges (a .entry) (tokens-of tk) l c b p d i))
 
 -- C'S TABLE GIVES ONE TREE
 pub one-tree : One-tree

@@ -11,7 +11,7 @@ use lib.ListN.{length, take, drop, length-append}
 use lib.Seq.{drop-drop, drop-append-add}
 use Rattle.definitions.specs.NodeKind as N
 use Rattle.definitions.specs.Token.{Token, bytes}
-use Rattle.definitions.specs.Place.{Tree, nil, leaf, branch, width, count, rows}
+use Rattle.definitions.specs.Place.{Tree, nil, leaf, subtree, width, count, rows}
 use Rattle.laws.proofs.Tree.{leaves}
 use Rattle.laws.proofs.Decode.{row-count, rows-length}
 use Rattle.precedence.specs.Precedence.{tree-row, tokens-before}
@@ -37,7 +37,7 @@ tokens-after (leaf k ts f) l q =
     let h = tokens-after f l q in
     let e : suc (row-count f) + q ≡ suc (row-count f + q) = omega arith in
     rw e (omega (arith, length-append ts (leaves f)))
-tokens-after (branch k c f) l q =
+tokens-after (subtree k c f) l q =
     let h = tokens-after f l q in
     let g = tokens-after c (rows f ++ l) (row-count f + q) in
     let e : suc (row-count c + row-count f) + q ≡ suc (row-count c + (row-count f + q)) = omega arith in
@@ -50,7 +50,7 @@ pub record Found (Q : List Token → Tree → Type 0) (ts : List Token) (p : ℕ
   pub children : Tree
   pub fact : Q (drop (tokens-before p l) ts) children
   pub more : List ℕ
-  pub rows-are : drop (4 * p) l ≡ rows (branch N.DtExpr children nil) ++ more
+  pub rows-are : drop (4 * p) l ≡ rows (subtree N.DtExpr children nil) ++ more
 
 -- row p of l is a DtExpr's
 abbrev pub Is-cell : ℕ → List ℕ → Type 0
@@ -114,7 +114,7 @@ module _ (Q : List Token → Tree → Type 0) where
   find (leaf k raw f) l ts (suc q) h g i =
       found-next 1 k (bytes raw) (length raw) q (rows f ++ l) ts (drop (length raw) ts) (drop-drop (tokens-before q (rows f ++ l)) (length raw) ts)
       (find f l (drop (length raw) ts) q h (omega arith) (cell-next 1 k (bytes raw) (length raw) q (rows f ++ l) i))
-  find (branch k c f) l ts zero h g i =
+  find (subtree k c f) l ts zero h g i =
       let z : k ≡ N.DtExpr = cc (i .2) in
       record {
         children = c;
@@ -122,7 +122,7 @@ module _ (Q : List Token → Tree → Type 0) where
         more = rows f ++ l;
         rows-are = rw (z, append-nil (rows c), append-assoc (rows c) (rows f) l);
       }
-  find (branch k c f) l ts (suc q) h g i =
+  find (subtree k c f) l ts (suc q) h g i =
       rw (append-assoc (rows c) (rows f) l)
       (found-next 0 k (width c) (count c) q (rows c ++ (rows f ++ l)) ts ts (ap (λ (m : ℕ). drop m ts) (sym (zero-add (tokens-before q (rows c ++ (rows f ++ l))))))
       (find-both c f l ts q (h .1) (h .2) (omega arith)

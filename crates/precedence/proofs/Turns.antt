@@ -10,9 +10,9 @@ use lib.ListN.{length}
 use Rattle.definitions.specs.TokenKind as K
 use Rattle.definitions.specs.NodeKind as N
 use Rattle.definitions.specs.Token.{Token, seen, drop-trivia, one-of, first-in}
-use Rattle.definitions.specs.Prog.{no, yes, again, Rule, expr-binding-power, less, Prog, ret, act, _⨟_, call}
-use Rattle.definitions.specs.Check.{tell, if_then_else_, _and_, bump!, kind, silent, expect}
-use Rattle.definitions.specs.Grammar.{Level, ternary as ternary-level, binding-power, rhs, infix-levels, infix-turn}
+use Rattle.definitions.specs.Prog.{no, yes, again, Rule, expr-binding-power, less, Prog, ret, act, _⨟_, open-call}
+use Rattle.definitions.specs.Check.{tell, if_then_else_, _and_, bump!, of-kind, silent, expect}
+use Rattle.definitions.specs.Grammar.{Level, ternary-level, binding-power, rhs, infix-levels, infix-turn}
 use Rattle.definitions.specs.Skeleton.{Label, Skeleton, done, _⧺_}
 use Rattle.definitions.specs.Run.{State, Out, truth, answer, makes, taken, add}
 use Rattle.definitions.specs.C.{Symbol, symbols, Expr, binary, ternary}
@@ -146,7 +146,7 @@ shrinks s u t ts h e g i =
     omega (arith, ap length (ahead s h ∙ e), drop-trivia-length (s .rest), passes-length (u .since) (u .rest) (g .passed), tail-length (u .since) ts i)
 
 module _ (ask : Rule → State → Out) (b : Label) (rec : Reader)
-    (below : (m : ℕ) (s : State) → Stands s → Ends ask b (call (expr-binding-power m)) s (Follows s parts (rec m (symbols false (s .since)))))
+    (below : (m : ℕ) (s : State) → Stands s → Ends ask b (open-call (expr-binding-power m)) s (Follows s parts (rec m (symbols false (s .since)))))
     (s : State) (h : Stands s) (e : Expr) (t : Token) (ts : List Token) (next : drop-trivia (s .since) ≡ t ∷ ts) where
   -- ---------------------------------------------------------------- a binary operator
 
@@ -198,14 +198,14 @@ module _ (ask : Rule → State → Out) (b : Label) (rec : Reader)
       (noted-from (taken ts) (o .state) ws (o′ .made) (d .tail) (subst (λ (l : List Symbol). Noted (o .state) l (o′ .made)) (d .left) n)))
 
   middle-by : (x : Res) (o : Out) → Follows (taken ts) parts x o
-      → Ends ask b (pick (o .ans) (tell no) (expect (kind K.Colon)) (expect (kind K.Colon))) (o .state) (λ o′. Follows (taken ts) with-colon (middle x) (add o o′))
+      → Ends ask b (pick (o .ans) (tell no) (expect (of-kind K.Colon)) (expect (of-kind K.Colon))) (o .state) (λ o′. Follows (taken ts) with-colon (middle x) (add o o′))
   unfolding add
   middle-by (P.done a ws) o d = rw (d .0) (ends-map ask b (expects ask b K.Colon refl (o .state) (d .1 .stands)) (colon-by a ws o (d .1)))
   middle-by (P.report ws) o n = ends-any ask b (λ o′. noted-first (taken ts) ws (o .made) (o′ .made) n)
   middle-by refused o d = absurd d
   middle-by spent o d = ends-any ask b (λ o′. tt)
 
-  middle-follows : Ends ask b (call (expr-binding-power 0) and expect (kind K.Colon)) (taken ts) (Follows (taken ts) with-colon (middle (rec 0 (symbols false ts))))
+  middle-follows : Ends ask b (open-call (expr-binding-power 0) and expect (of-kind K.Colon)) (taken ts) (Follows (taken ts) with-colon (middle (rec 0 (symbols false ts))))
   middle-follows = branch ask b (below 0 (taken ts) (stands-taken ts)) (middle-by (rec 0 (symbols false ts)))
 
   -- the last part, behind the colon
@@ -241,7 +241,7 @@ module _ (ask : Rule → State → Out) (b : Label) (rec : Reader)
   unfolding rhs add makes
   ask-by (P.done a xs) o d =
       rw (d .0)
-      (branch ask b (subst (λ (l : List Symbol). Ends ask b (call (expr-binding-power 1)) (o .state) (Follows (o .state) parts (rec 1 l))) (d .1 .left) (below 1 (o .state) (d .1 .stands)))
+      (branch ask b (subst (λ (l : List Symbol). Ends ask b (open-call (expr-binding-power 1)) (o .state) (Follows (o .state) parts (rec 1 l))) (d .1 .left) (below 1 (o .state) (d .1 .stands)))
       (last-by a xs o (d .1) (rec 1 xs)))
   ask-by (P.report vs) o n =
       ends-any ask b (λ o′. noted-behind s t ts next vs (o .made ⧺ o′ .made) (noted-first (taken ts) vs (o .made) (o′ .made) n))
@@ -249,7 +249,7 @@ module _ (ask : Rule → State → Out) (b : Label) (rec : Reader)
   ask-by spent o d = ends-any ask b (λ o′. tt)
 
   ask-turns : (to : State) → Stands to → to .since ≡ s .since
-      → Ends ask b (bump! ⨟ if call (expr-binding-power 0) and expect (kind K.Colon) then rhs (ternary-level .right) else ret N.InfixExpr yes) to
+      → Ends ask b (bump! ⨟ if open-call (expr-binding-power 0) and expect (of-kind K.Colon) then rhs (ternary-level .right) else ret N.InfixExpr yes) to
       (Turns s e (goes (ask-turn rec e (symbols false ts))))
   ask-turns to st si =
       after-bump ask b t ts st (ap drop-trivia si ∙ next) (branch ask b middle-follows (ask-by (middle (rec 0 (symbols false ts)))))
@@ -293,16 +293,16 @@ module _ (ask : Rule → State → Out) (b : Label) (rec : Reader)
   ternary-turn : (m : ℕ) (x : Bool) → Onward s (λ u.
       Ends ask b
       (pick (truth x) (infix-levels m binding-power)
-      (if act (less (ternary-level .left) m) then tell yes else bump! ⨟ if call (expr-binding-power 0) and expect (kind K.Colon) then rhs (ternary-level .right) else ret N.InfixExpr yes)
-      (if act (less (ternary-level .left) m) then tell yes else bump! ⨟ if call (expr-binding-power 0) and expect (kind K.Colon) then rhs (ternary-level .right) else ret N.InfixExpr yes)) u
+      (if act (less (ternary-level .left) m) then tell yes else bump! ⨟ if open-call (expr-binding-power 0) and expect (of-kind K.Colon) then rhs (ternary-level .right) else ret N.InfixExpr yes)
+      (if act (less (ternary-level .left) m) then tell yes else bump! ⨟ if open-call (expr-binding-power 0) and expect (of-kind K.Colon) then rhs (ternary-level .right) else ret N.InfixExpr yes)) u
       (Turns s e (turn-by (cond x asks (level-of binding-power (seen t))) rec m e (symbols false ts))))
   ternary-turn m true u g i =
-      checked (bump! ⨟ if call (expr-binding-power 0) and expect (kind K.Colon) then rhs (ternary-level .right) else ret N.InfixExpr yes) (ask-turn rec e (symbols false ts)) (ternary-level .left) m ask-turns u g i
+      checked (bump! ⨟ if open-call (expr-binding-power 0) and expect (of-kind K.Colon) then rhs (ternary-level .right) else ret N.InfixExpr yes) (ask-turn rec e (symbols false ts)) (ternary-level .left) m ask-turns u g i
   ternary-turn m false u g i = levels-turn m binding-power u g i
 
   -- an Ident is no operator, so that what stands directly behind it is of no account
   apart : (m : ℕ) (x : Bool) → eqb (seen t) K.Ident ≡ x
-      → turn-by (operator (C.kind (seen t))) rec m e (symbols x ts) ≡ turn-by (operator (C.kind (seen t))) rec m e (symbols false ts)
+      → turn-by (operator (C.plain (seen t))) rec m e (symbols x ts) ≡ turn-by (operator (C.plain (seen t))) rec m e (symbols false ts)
   unfolding operator one-of level-of
   apart m true i = let k : seen t ≡ K.Ident = eqb-true (seen t) K.Ident i in rw k refl
   apart m false i = refl
@@ -334,7 +334,7 @@ module _ (ask : Rule → State → Out) (b : Label) where
 
   -- `infix-turn` does what the reader's turn does
   pub turns : (rec : Reader)
-      → ((m : ℕ) (s : State) → Stands s → Ends ask b (call (expr-binding-power m)) s (Follows s parts (rec m (symbols false (s .since)))))
+      → ((m : ℕ) (s : State) → Stands s → Ends ask b (open-call (expr-binding-power m)) s (Follows s parts (rec m (symbols false (s .since)))))
       → (m : ℕ) (e : Expr) (s : State) → Stands s → Ends ask b (infix-turn m) s (Turns s e (turn-of rec m e (symbols false (s .since))))
   turns rec below m e s h = go (drop-trivia (s .since)) refl
     where

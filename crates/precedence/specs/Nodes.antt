@@ -7,7 +7,7 @@ use lib.Dec.{eqb}
 use Rattle.definitions.specs.TokenKind as K
 use Rattle.definitions.specs.NodeKind as N
 use Rattle.definitions.specs.Skeleton.{Skeleton, done, token, node, _⧺_}
-use Rattle.definitions.specs.C.{Symbol, kind, arguments, Turn, opens, closes, keeps, turn, Expr, literal, name, invocation, bracketed, prefix, binary, ternary}
+use Rattle.definitions.specs.C.{Symbol, plain, arguments, Turn, opens, closes, keeps, turn, Expr, literal, name, invocation, bracketed, prefix, binary, ternary}
 
 -- the next token that is no trivia; `place` takes it from the raw tokens, and looks at no mark
 abbrev pub one : Skeleton
@@ -36,7 +36,7 @@ abbrev pub ended : Split → Split
 ended s = record { first = done; later = one ⧺ argument s }
 
 abbrev pub is-comma : Symbol → Bool
-is-comma (kind k) = eqb k K.Comma
+is-comma (plain k) = eqb k K.Comma
 is-comma arguments = Bool.false
 
 -- in so many inner brackets

@@ -8,12 +8,13 @@ use mathlib.Core.Bool.{false, cond}
 use mathlib.Core.List.{List, [], _∷_, _++_}
 use lib.Dec.{eqb}
 use lib.ListN.{length, getD, take, drop}
+use Rattle.definitions.specs.Layout.{TREE-ROW, REPORT-ROW}
 use Rattle.definitions.specs.TokenKind as K
 use Rattle.definitions.specs.NodeKind as N
-use Rattle.definitions.specs.Token.{Token, tokens}
+use Rattle.definitions.specs.Token.{Token, tokens-of}
 use Rattle.definitions.specs.C.{Symbol, symbols, Balanced, Expr, Gives}
 use Rattle.definitions.specs.Place.{place, rows}
-use Rattle.definitions.specs.Call.{TREE-ROW, REPORT-ROW, Buffers, Result, call}
+use Rattle.definitions.specs.Call.{Buffers, Result, call}
 use Rattle.precedence.specs.Nodes.{cell}
 
 -- ---------------------------------------------------------------- rows
@@ -96,8 +97,8 @@ pub record Judged (ts : List Token) (b : Brackets ts) (r : Result) (p : ℕ) : T
 abbrev pub C-table : Type 0
 C-table =
     (n : ℕ) (bs tk : List ℕ) (l : Buffers) → call n bs tk l .answer .number ≡ 0 → (p : ℕ) → DtExpr-at p (call n bs tk l)
-    → Starts-cell (tokens tk) p (call n bs tk l)
-    × ((b : Brackets (tokens tk)) → opening-index (tokens tk) b ≡ tokens-before p (call n bs tk l .buffers .trees) → Judged (tokens tk) b (call n bs tk l) p)
+    → Starts-cell (tokens-of tk) p (call n bs tk l)
+    × ((b : Brackets (tokens-of tk)) → opening-index (tokens-of tk) b ≡ tokens-before p (call n bs tk l .buffers .trees) → Judged (tokens-of tk) b (call n bs tk l) p)
 
 -- the tree that C's table gives is unique
 abbrev pub One-tree : Type 0

@@ -5,7 +5,7 @@ use mathlib.Core.Path.{_≡_}
 use mathlib.Core.Bool.{false}
 use mathlib.Core.List.{List, [], _∷_}
 use Rattle.definitions.specs.Token.{one-of}
-use Rattle.definitions.specs.Grammar.{Level, ternary, binding-power, prefix-power}
+use Rattle.definitions.specs.Grammar.{Level, ternary-level, binding-power, prefix-power}
 use Rattle.definitions.specs.C.{number-of}
 
 -- each of these kinds is an operator of C's table, and the tighter its row, the higher its powers; the right power is the higher of the two,
@@ -30,5 +30,5 @@ pub record Tables-agree : Type 0 where
   pub rows : Levels binding-power
   pub all-of-them : (k : ℕ) → None-has binding-power k → number-of k ≡ 0
   pub prefix-row : prefix-power + 2 * 2 ≡ 27
-  pub ternary-lowest : ternary .left + 2 * 12 ≤ 27
-  pub ternary-right : ternary .left ≡ suc (ternary .right)
+  pub ternary-lowest : ternary-level .left + 2 * 12 ≤ 27
+  pub ternary-right : ternary-level .left ≡ suc (ternary-level .right)

@@ -12,7 +12,7 @@ use Rattle.definitions.specs.Errors as E
 use Rattle.definitions.specs.Token.{Token, seen, trivia, drop-trivia, past, ended, one-of, first-in}
 use Rattle.definitions.specs.Prog.{Ans, no, yes, also, again, Act, silent-at, at-end, immediate, immediate-next, add-expected, bump, bump-name, bump-argument, emit, emit-unclosed, less}
 use Rattle.definitions.specs.Skeleton.{Label, no-label, Skeleton, done, token}
-use Rattle.definitions.specs.Run.{State, Out, mark-of, peeked, truth, answer, makes, taken, do-bump, do-name, add, at-depth, do-argument, do-emit, room, do-expected, perform}
+use Rattle.definitions.specs.Run.{State, Out, mark-of, peeked, truth, answer, makes, taken, do-bump, do-name, add, at-depth, do-argument, do-emit, over-unless, do-expected, perform}
 use Rattle.definitions.specs.Place.{Tree, nil, leaf, _⊕_, lead, front, after, place}
 use Rattle.definitions.specs.Report.{pushes, reports}
 use Rattle.laws.proofs.Trivia.{and-left, and-right, cond-all, drop-twice, drop-trivia-length, passes-drop}
@@ -147,8 +147,8 @@ module _ (h : Bool) (s : State) (ts : List Token) (A : At s ts) (x : Head h s) w
         part = before-quiet ts _ tt;
       }
 
-room-placed : (b : Bool) (m : ℕ) (ts : List Token) → place (room b m) ts ≡ nil
-unfolding room place
+room-placed : (b : Bool) (m : ℕ) (ts : List Token) → place (over-unless b m) ts ≡ nil
+unfolding over-unless place
 room-placed true m ts = refl
 room-placed false m ts = refl
 

@@ -5,7 +5,7 @@ use mathlib.Core.Bool.{Bool, true, false, cond, _&&_, _||_, not}
 use lib.Dec.{eqb}
 use Rattle.definitions.specs.TokenKind as K
 use Rattle.definitions.specs.Token.{one-of}
-use Rattle.definitions.specs.Prog.{Ans, no, yes, also, again, Rule, item, propvalues, eat-cell, expr-binding-power, Act, silent-at, at-end, immediate, immediate-next, add-expected, bump, bump-name, bump-argument, emit, emit-unclosed, less, Prog, ret, act, _⨟_, case, mark, loop, chain, brace, call}
+use Rattle.definitions.specs.Prog.{Ans, no, yes, also, again, Rule, item, propvalues, eat-cell, expr-binding-power, Act, silent-at, at-end, immediate, immediate-next, add-expected, bump, bump-name, bump-argument, emit, emit-unclosed, less, Prog, ret, act, _⨟_, case, in-marker, loop, chain, brace, open-call}
 use Rattle.definitions.specs.Grammar.{grammar, sourcefile-turn, left-over}
 use Rattle.definitions.specs.Run.{is-again}
 use Rattle.recovery.specs.Recovery.{is-statement}
@@ -114,11 +114,11 @@ dull (ret k a) = plain-kind k
 dull (act a) = false
 dull (p ⨟ q) = dull q
 dull (case c n y a) = dull n && (dull y && dull a)
-dull (mark p) = false
+dull (in-marker p) = false
 dull (loop p) = false
 dull (chain p q) = false
 dull (brace p) = dull p
-dull (call r) = false
+dull (open-call r) = false
 
 -- whether P surely holds of a run of p; h: the current token may be a semicolon
 unfoldable pub surely : Prog → Post → Bool → Bool
@@ -135,7 +135,7 @@ surely (case c n y a) P h =
     let pa = surely a R (d .head) in
     pick x pn py pa)
     h
-surely (mark p) P h =
+surely (in-marker p) P h =
     let skipped = any-answer (λ x. P 0 x (know true low low)) in
     let entered = surely p (λ k x e. P 0 x (around k e)) h in
     cond (dull p) skipped entered
@@ -147,7 +147,7 @@ surely (loop p) P h =
     first || (second || third)
 surely (chain p q) P h = any-answer (λ x. P 0 x (know true high high))
 surely (brace p) P h = surely p P h
-surely (call r) P h = any-answer (λ x. P 0 x (claim r))
+surely (open-call r) P h = any-answer (λ x. P 0 x (claim r))
 
 abbrev pub up-to : Known → Post
 up-to c k x e = eqb k 0 && fits e c

@@ -7,7 +7,7 @@ use mathlib.Core.List.{List, [], _∷_, _++_, append-assoc, append-nil}
 use lib.ListN.{length, length-append}
 use Rattle.definitions.specs.TokenKind as K
 use Rattle.definitions.specs.Token.{Token, bytes}
-use Rattle.definitions.specs.Place.{Tree, nil, leaf, branch, _⊕_, width, count}
+use Rattle.definitions.specs.Place.{Tree, nil, leaf, subtree, _⊕_, width, count}
 use Rattle.laws.proofs.Skeleton.{bytes-append}
 use Rattle.laws.proofs.Tree.{leaves, count-beside}
 use Rattle.recovery.specs.Rows.{Row, class, kind, Parts, over-leaves, raw-tokens, raw-bytes}
@@ -40,15 +40,15 @@ pub whole-parts : {n : ℕ} {l : List Row} → Parts n l → (c : Tree) → coun
 unfolding rows-of count
 whole-parts S.none nil e x y h = (refl, h)
 whole-parts S.none (leaf k ts f) e x y h = absurd (omega arith)
-whole-parts S.none (branch k c f) e x y h = absurd (omega arith)
+whole-parts S.none (subtree k c f) e x y h = absurd (omega arith)
 whole-parts (S.leaf a p) nil e x y h = absurd (omega arith)
 whole-parts (S.leaf a p) (leaf k ts f) e x y h =
     let g = whole-parts p f (let z : count f ≡ _ = cc in z) x y (rest-same h) in
     ((λ i. first-same h i ∷ g .0 i), g .1)
-whole-parts (S.leaf a p) (branch k c f) e x y h = absurd (leaf-node _ k (width c) (count c) (sym (first-same h)) a)
+whole-parts (S.leaf a p) (subtree k c f) e x y h = absurd (leaf-node _ k (width c) (count c) (sym (first-same h)) a)
 whole-parts (S.node a p q) nil e x y h = absurd (omega arith)
 whole-parts (S.node a p q) (leaf k ts f) e x y h = absurd (node-leaf _ k (bytes ts) (length ts) (sym (first-same h)) a)
-whole-parts (S.node {r = r} {c = d} {l = l} a p q) (branch k c f) e x y h =
+whole-parts (S.node {r = r} {c = d} {l = l} a p q) (subtree k c f) e x y h =
     let h′ : rows-of c ++ (rows-of f ++ x) ≡ d ++ (l ++ y) = sym (append-assoc (rows-of c) (rows-of f) x) ∙ rest-same h ∙ append-assoc d l y in
     let m : count c ≡ S.count r = ap S.count (first-same h) in
     let g : (rows-of c ≡ d) × (rows-of f ++ x ≡ l ++ y) = whole-parts p c m (rows-of f ++ x) (l ++ y) h′ in
@@ -77,16 +77,16 @@ cut (S.leaf a p) nil m h = absurd (none-some h)
 cut (S.leaf a p) (leaf k ts f) m h =
     let C = cut p f m (rest-same h) in
     record { one = leaf k ts (C .one); two = C .two; is = ap (leaf k ts) (C .is); rows-one = (λ i. first-same h i ∷ C .rows-one i); rows-two = C .rows-two }
-cut (S.leaf a p) (branch k c f) m h = absurd (leaf-node _ k (width c) (count c) (sym (first-same h)) a)
+cut (S.leaf a p) (subtree k c f) m h = absurd (leaf-node _ k (width c) (count c) (sym (first-same h)) a)
 cut (S.node a p q) nil m h = absurd (none-some h)
 cut (S.node a p q) (leaf k ts f) m h = absurd (node-leaf _ k (bytes ts) (length ts) (sym (first-same h)) a)
-cut (S.node {r = r} {c = d} {l = l} a p q) (branch k c f) m h =
+cut (S.node {r = r} {c = d} {l = l} a p q) (subtree k c f) m h =
     let g : (rows-of c ≡ d) × (rows-of f ≡ l ++ m) = whole-parts p c (ap S.count (first-same h)) (rows-of f) (l ++ m) (rest-same h ∙ append-assoc d l m) in
     let C : Cut f l m = cut q f m (g .1) in
     record {
-      one = branch k c (C .one);
+      one = subtree k c (C .one);
       two = C .two;
-      is = ap (branch k c) (C .is);
+      is = ap (subtree k c) (C .is);
       rows-one = (λ i. first-same h i ∷ (g .0 i ++ C .rows-one i));
       rows-two = C .rows-two;
     }
@@ -100,7 +100,7 @@ pub record Placed (f : Tree) {l : List Row} (s : Semicolon l) : Type 0 where
   pub inside : Tree
   pub raw : List Token
   pub later : Tree
-  pub is : f ≡ before ⊕ branch kind (inside ⊕ leaf K.Semicolon raw nil) later
+  pub is : f ≡ before ⊕ subtree kind (inside ⊕ leaf K.Semicolon raw nil) later
   pub statement : is-statement kind ≡ true
   pub rows-before : rows-of before ≡ s .before
   pub rows-inside : rows-of inside ≡ s .inside
@@ -111,7 +111,7 @@ pub record Opened (f : Tree) (r : Row) (l : List Row) : Type 0 where
   pub kind : ℕ
   pub inner : Tree
   pub next : Tree
-  pub is : f ≡ branch kind inner next
+  pub is : f ≡ subtree kind inner next
   pub row : r ≡ 0 ∷ kind ∷ width inner ∷ count inner ∷ []
   pub rows : rows-of inner ++ rows-of next ≡ l
 
@@ -119,7 +119,7 @@ opened : (f : Tree) (r : Row) (l : List Row) → class r ≡ 0 → rows-of f ≡
 unfolding rows-of
 opened nil r l e h = absurd (none-some h)
 opened (leaf k ts f) r l e h = absurd (node-leaf r k (bytes ts) (length ts) (sym (first-same h)) e)
-opened (branch k c f) r l e h = record { kind = k; inner = c; next = f; is = refl; row = sym (first-same h); rows = rest-same h }
+opened (subtree k c f) r l e h = record { kind = k; inner = c; next = f; is = refl; row = sym (first-same h); rows = rest-same h }
 
 -- a single leaf
 pub record Single (f : Tree) (r : Row) : Type 0 where
@@ -130,16 +130,16 @@ no-rows : (f : Tree) → rows-of f ≡ [] → f ≡ nil
 unfolding rows-of
 no-rows nil h = refl
 no-rows (leaf k ts f) h = absurd (none-some (sym h))
-no-rows (branch k c f) h = absurd (none-some (sym h))
+no-rows (subtree k c f) h = absurd (none-some (sym h))
 
 single : (f : Tree) (r : Row) → class r ≡ 1 → rows-of f ≡ r ∷ [] → Single f r
 unfolding rows-of
 single nil r e h = absurd (none-some h)
 single (leaf k ts f) r e h = record { raw = ts; is = (λ i. leaf (ap kind (first-same h) i) ts (no-rows f (rest-same h) i)) }
-single (branch k c f) r e h = absurd (leaf-node r k (width c) (count c) (sym (first-same h)) e)
+single (subtree k c f) r e h = absurd (leaf-node r k (width c) (count c) (sym (first-same h)) e)
 
 -- THE SEMICOLON in a root's children
-pub placed : (k : ℕ) (f : Tree) {l : List Row} (s : Semicolon l) → l ≡ rows-of (branch k f nil) → Placed f s
+pub placed : (k : ℕ) (f : Tree) {l : List Row} (s : Semicolon l) → l ≡ rows-of (subtree k f nil) → Placed f s
 unfolding rows-of
 placed k f {l} s e =
     let h : rows-of f ≡ s .before ++ (s .part ∷ (s .inside ++ (s .leaf ∷ s .later))) = sym (append-nil (rows-of f)) ∙ rest-same (sym e ∙ s .is) in
@@ -159,7 +159,7 @@ placed k f {l} s e =
       is =
           C .is
           ∙ ap (C .one ⊕_)
-          (O .is ∙ ap (λ (x : Tree). branch (O .kind) x (O .next)) (D .is ∙ ap (D .one ⊕_) (L .is ∙ ap (λ (j : ℕ). leaf j (L .raw) nil) (s .leaf-kind))));
+          (O .is ∙ ap (λ (x : Tree). subtree (O .kind) x (O .next)) (D .is ∙ ap (D .one ⊕_) (L .is ∙ ap (λ (j : ℕ). leaf j (L .raw) nil) (s .leaf-kind))));
       statement = ap (λ (r : Row). is-statement (kind r)) (sym (O .row)) ∙ s .part-kind;
       rows-before = C .rows-one;
       rows-inside = D .rows-one;
@@ -178,7 +178,7 @@ pub tokens-counted : (f : Tree) → raw-tokens (rows-of f) ≡ length (leaves f)
 unfolding rows-of over-leaves leaves
 tokens-counted nil = refl
 tokens-counted (leaf k ts f) = let e : over-leaves S.count (rows-of f) ≡ length (leaves f) = tokens-counted f in simp length-append (omega arith)
-tokens-counted (branch k c f) =
+tokens-counted (subtree k c f) =
     let d : over-leaves S.count (rows-of c) ≡ length (leaves c) = tokens-counted c in
     let e : over-leaves S.count (rows-of f) ≡ length (leaves f) = tokens-counted f in
     simp (length-append, over-append) (omega arith)
@@ -187,7 +187,7 @@ pub bytes-counted : (f : Tree) → raw-bytes (rows-of f) ≡ bytes (leaves f)
 unfolding rows-of over-leaves leaves bytes
 bytes-counted nil = refl
 bytes-counted (leaf k ts f) = let e : over-leaves S.width (rows-of f) ≡ bytes (leaves f) = bytes-counted f in simp bytes-append (omega arith)
-bytes-counted (branch k c f) =
+bytes-counted (subtree k c f) =
     let d : over-leaves S.width (rows-of c) ≡ bytes (leaves c) = bytes-counted c in
     let e : over-leaves S.width (rows-of f) ≡ bytes (leaves f) = bytes-counted f in
     simp (bytes-append, over-append) (omega arith)
@@ -198,22 +198,22 @@ rows-beside : (f g : Tree) → rows-of (f ⊕ g) ≡ rows-of f ++ rows-of g
 unfolding rows-of _⊕_
 rows-beside nil g = refl
 rows-beside (leaf k ts f) g = ap ((1 ∷ k ∷ bytes ts ∷ length ts ∷ []) ∷_) (rows-beside f g)
-rows-beside (branch k c f) g = ap (λ (l : List Row). (0 ∷ k ∷ width c ∷ count c ∷ []) ∷ (rows-of c ++ l)) (rows-beside f g) ∙ ap ((0 ∷ k ∷ width c ∷ count c ∷ []) ∷_) (sym (append-assoc (rows-of c) (rows-of f) (rows-of g)))
+rows-beside (subtree k c f) g = ap (λ (l : List Row). (0 ∷ k ∷ width c ∷ count c ∷ []) ∷ (rows-of c ++ l)) (rows-beside f g) ∙ ap ((0 ∷ k ∷ width c ∷ count c ∷ []) ∷_) (sym (append-assoc (rows-of c) (rows-of f) (rows-of g)))
 
 -- the rows of a tree are those of its parts
 rows-parts : (f : Tree) → Parts (count f) (rows-of f)
 unfolding rows-of count
 rows-parts nil = S.none
 rows-parts (leaf k ts f) = S.leaf refl (rows-parts f)
-rows-parts (branch k c f) = S.node refl (rows-parts c) (rows-parts f)
+rows-parts (subtree k c f) = S.node refl (rows-parts c) (rows-parts f)
 
 -- EVERY SEMICOLON that ends a statement among a root's children is found in the rows
 pub semicolon-in : (k : ℕ) (before : Tree) (j : ℕ) (inside : Tree) (raw : List Token) (later : Tree) → is-statement j ≡ true
-    → Semicolon (rows-of (branch k (before ⊕ branch j (inside ⊕ leaf K.Semicolon raw nil) later) nil))
+    → Semicolon (rows-of (subtree k (before ⊕ subtree j (inside ⊕ leaf K.Semicolon raw nil) later) nil))
 unfolding rows-of count
 semicolon-in k before j inside raw later e =
     let i : Tree = inside ⊕ leaf K.Semicolon raw nil in
-    let f : Tree = before ⊕ branch j i later in
+    let f : Tree = before ⊕ subtree j i later in
     let part : Row = 0 ∷ j ∷ width i ∷ count i ∷ [] in
     let own : Row = 1 ∷ K.Semicolon ∷ bytes raw ∷ length raw ∷ [] in
     let n : count i ≡ suc (count inside) = let z : count i ≡ count inside + 1 = count-beside inside (leaf K.Semicolon raw nil) in omega arith in
@@ -227,7 +227,7 @@ semicolon-in k before j inside raw later e =
       is =
           ap ((0 ∷ k ∷ width f ∷ count f ∷ []) ∷_)
           (append-nil (rows-of f)
-          ∙ rows-beside before (branch j i later)
+          ∙ rows-beside before (subtree j i later)
           ∙ ap (λ (l : List Row). rows-of before ++ (part ∷ (l ++ rows-of later))) (rows-beside inside (leaf K.Semicolon raw nil))
           ∙ ap (λ (l : List Row). rows-of before ++ (part ∷ l)) (append-assoc (rows-of inside) (own ∷ []) (rows-of later)));
       parts-before = count before;

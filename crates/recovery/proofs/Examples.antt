@@ -5,7 +5,7 @@ use native.Mathlib.Omega.{arith}
 use mathlib.Core.List.{List, [], _∷_}
 use lib.Dec.{leb}
 use lib.ListN.{length, replicate}
-use Rattle.definitions.specs.Token.{tokens}
+use Rattle.definitions.specs.Token.{tokens-of}
 use Rattle.definitions.specs.Call.{Buffers, call}
 use Rattle.recovery.specs.Rows.{Row, mark, tree-rows, error-rows, report-rows, expectations, none, leaf, node, over-leaves}
 use Rattle.recovery.specs.Recovery.{File, result, is-statement, Semicolon, token-index, start-byte, Alike, those, later-error, later-report, pool-before, later-errors, later-reports, Each, none as no-more, more, no-label, label, ErrorMoved, ReportMoved, places, Shared}
@@ -82,7 +82,7 @@ unfolding those later-report token-index over-leaves report-rows call in-long
 reading-reports-long = refl
 
 reading-alike : Alike short long in-short in-long
-unfolding token-index start-byte over-leaves tokens in-short in-long
+unfolding token-index start-byte over-leaves tokens-of in-short in-long
 reading-alike = record { same-tokens = refl; same-bytes = refl }
 
 -- ---------------------------------------------------------------- a richer pair
@@ -164,7 +164,7 @@ unfolding token-index start-byte over-leaves in-one in-two
 places-found = (refl, refl, refl, refl)
 
 alike : Alike one two in-one in-two
-unfolding token-index start-byte over-leaves tokens in-one in-two
+unfolding token-index start-byte over-leaves tokens-of in-one in-two
 alike = record { same-tokens = refl; same-bytes = refl }
 
 abbrev errors-one : List Row

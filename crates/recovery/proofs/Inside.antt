@@ -9,10 +9,10 @@ use lib.Dec.{ltb, eqb}
 use lib.ListN.{length}
 use Rattle.definitions.specs.TokenKind as K
 use Rattle.definitions.specs.Token.{Token, trivia, bytes}
-use Rattle.definitions.specs.Prog.{yes, Rule, Act, silent-at, at-end, immediate, immediate-next, add-expected, bump, bump-name, bump-argument, emit, emit-unclosed, less, Prog, ret, act, _⨟_, case, mark, loop, chain, brace, call}
+use Rattle.definitions.specs.Prog.{yes, Rule, Act, silent-at, at-end, immediate, immediate-next, add-expected, bump, bump-name, bump-argument, emit, emit-unclosed, less, Prog, ret, act, _⨟_, case, in-marker, loop, chain, brace, open-call}
 use Rattle.definitions.specs.Grammar.{grammar, Entry, whole}
 use Rattle.definitions.specs.Skeleton.{Span, Label, no-label, label, Report, Skeleton, done, token, name, report, over, _⧺_}
-use Rattle.definitions.specs.Run.{State, Out, mark-of, peeked, answer, makes, taken, do-bump, do-name, add, at-depth, do-argument, only-separators, error-range, do-emit, room, do-expected, perform, closed, marked, unlinked, here, exec, run}
+use Rattle.definitions.specs.Run.{State, Out, mark-of, peeked, answer, makes, taken, do-bump, do-name, add, at-depth, do-argument, only-separators, error-range, do-emit, over-unless, do-expected, perform, closed, marked, unlinked, here, exec, run}
 use Rattle.definitions.specs.Report.{pushes, reports}
 use Rattle.definitions.specs.Call.{run-entry}
 use Rattle.laws.proofs.Trivia.{cond-all}
@@ -22,8 +22,8 @@ use Rattle.laws.proofs.Kept.{Stands, stands-taken, Kept, run-kept, exec-kept}
 use Rattle.laws.proofs.Marks.{entry-marks}
 use Rattle.recovery.proofs.Told.{All, all-append, told, told-all, told-closed, all-map, falls-below}
 
-room-told : (b : Bool) (m : ℕ) → told (room b m) ≡ []
-unfolding room pushes reports
+room-told : (b : Bool) (m : ℕ) → told (over-unless b m) ≡ []
+unfolding over-unless pushes reports
 room-told true m = refl
 room-told false m = refl
 
@@ -177,11 +177,11 @@ module _ (b : ℕ) where
   exec-labels n f l w (case c m y a) s =
       labels-compose .add s _ _ (exec-labels n f l w c s)
       (choose-all Q C labels-compose (exec (run n) l c s .ans) (exec (run n) l m) (exec (run n) l y) (exec (run n) l a) (exec-labels n f l w m) (exec-labels n f l w y) (exec-labels n f l w a) (exec (run n) l c s .state))
-  exec-labels n f l w (mark p) s = labels-compose .mark s _ (exec-labels n f l w p s)
+  exec-labels n f l w (in-marker p) s = labels-compose .mark s _ (exec-labels n f l w p s)
   exec-labels n f l w (loop p) s = iter-all Q C labels-compose (suc (length (s .rest))) (exec (run n) l p) (exec-labels n f l w p) s
   exec-labels n f l w (chain p q) s = chained-all Q C labels-compose (exec (run n) l q) (exec-labels n f l w q) s (exec (run n) l p s) (exec-labels n f l w p s)
   exec-labels n f l w (brace p) s = λ h. exec-labels n f (here (s .rest)) (here-in s (s .rest) (le-trans (stands-bytes s (h .stands)) (h .bytes-left))) p s h
-  exec-labels n f l w (call r) s = f r s
+  exec-labels n f l w (open-call r) s = f r s
 
   run-labels : (n : ℕ) (r : Rule) (s : State) → Q s (run n r s)
   unfolding run makes pushes reports

@@ -15,7 +15,7 @@ use Rattle.recovery.specs.Recovery.{File, result, Accepted, Semicolon, t
 use Rattle.recovery.proofs.Told.{All, all-map, told}
 use Rattle.recovery.proofs.Inside.{Inside, entry-inside}
 use Rattle.recovery.proofs.Turns.{children}
-use Rattle.recovery.proofs.Written.{rows-of, errors-of, reports-of, tokens-of, Wrote, wrote}
+use Rattle.recovery.proofs.Written.{rows-of, errors-of, reports-of, file-tokens, Wrote, wrote}
 use Rattle.recovery.proofs.Tail.{Tail, tail}
 use Rattle.recovery.proofs.LaterErrors.{errors-later, errors-moved}
 use Rattle.recovery.proofs.LaterReports.{reports-later, reports-before, reports-moved}
@@ -26,7 +26,7 @@ after-head (p ∷ ps) t us = after-head ps t us
 
 -- what one file has after its semicolon
 pub record Later (f : File) (s : Semicolon (tree-rows (result f))) (rest : List Token) : Type 0 where
-  pub tokens-after : drop (suc (token-index s)) (tokens-of f) ≡ rest
+  pub tokens-after : drop (suc (token-index s)) (file-tokens f) ≡ rest
   pub parts : s .later ≡ rows-of (children (run-entry SourceFile rest) rest)
   pub errors : later-errors f s ≡ errors-of (suc (start-byte s)) rest
   pub early : List ℕ
@@ -41,15 +41,15 @@ later f h s =
     let T : Tail f s = tail f h s in
     let us : List Token = T .rest in
     let late : List Report = told (run-entry SourceFile us) in
-    let n : length (tokens-of f) ≡ token-index s + suc (length us) = ap length (T .file) ∙ length-append (T .head) _ ∙ ap (_+ suc (length us)) (sym (T .at-index)) in
-    let b : bytes (tokens-of f) ≡ start-byte s + suc (bytes us) =
+    let n : length (file-tokens f) ≡ token-index s + suc (length us) = ap length (T .file) ∙ length-append (T .head) _ ∙ ap (_+ suc (length us)) (sym (T .at-index)) in
+    let b : bytes (file-tokens f) ≡ start-byte s + suc (bytes us) =
     ap bytes (T .file) ∙ bytes-append (T .head) _ ∙ ap (λ (x : ℕ). bytes (T .head) + (x + bytes us)) (T .one-byte-long) ∙ (let z : bytes (T .head) + (1 + bytes us) ≡ start-byte s + suc (bytes us) = omega (arith, T .at-byte) in z) in
     let inside : All (λ r. r .mark ≤ length us) late = all-map (Inside (length us) (bytes us)) _ (λ r I. I .marked) late (entry-inside SourceFile us) in
     let rows : report-rows (result f) ≡ reports-of (token-index s + suc (length us)) (start-byte s + suc (bytes us)) 0 (T .early ++ late) =
     W .reports ∙ (λ i. reports-of (n i) (b i) 0 (T .reports i)) in (
       us,
       record {
-        tokens-after = ap (λ (x : ℕ). drop (suc x) (tokens-of f)) (T .at-index) ∙ ap (drop (suc (length (T .head)))) (T .file) ∙ after-head (T .head) (T .semicolon) us;
+        tokens-after = ap (λ (x : ℕ). drop (suc x) (file-tokens f)) (T .at-index) ∙ ap (drop (suc (length (T .head)))) (T .file) ∙ after-head (T .head) (T .semicolon) us;
         parts = T .parts;
         errors =
             (λ i. those (later-error (T .at-byte i)) ((W .errors ∙ ap (errors-of 0) (T .file)) i))

@@ -6,7 +6,7 @@ use mathlib.Core.List.{List}
 use Rattle.definitions.specs.Token.{Token, drop-trivia}
 use Rattle.definitions.specs.Skeleton.{Skeleton, done, node, ignored}
 use Rattle.definitions.specs.Run.{State, closed}
-use Rattle.definitions.specs.Place.{nil, branch, _⊕_, lead, after, place}
+use Rattle.definitions.specs.Place.{nil, subtree, _⊕_, lead, after, place}
 use Rattle.definitions.specs.Report.{pushes, reports}
 use Rattle.laws.proofs.Tree.{beside-nil}
 use Rattle.recovery.specs.Recovery.{is-statement}
@@ -24,7 +24,7 @@ module _ (s u : State) (m m′ : ℕ) (g : Skeleton) where
   unfolding closed pushes reports after
   ignored-sealed ts S = record { rest = S .rest; is = S .is; less = S .less; above = subst (All (Above _)) (sym (told-closed 0 m m′ done g)) (S .above); exact = S .exact }
 
-  node-placed : (k : ℕ) (ts : List Token) → place (node k m m′ done g done) ts ≡ lead ts ⊕ branch k (place g (drop-trivia ts)) nil
+  node-placed : (k : ℕ) (ts : List Token) → place (node k m m′ done g done) ts ≡ lead ts ⊕ subtree k (place g (drop-trivia ts)) nil
   unfolding place after _⊕_
   node-placed k ts = refl
 
@@ -34,7 +34,7 @@ module _ (s u : State) (m m′ : ℕ) (g : Skeleton) where
 
   node-ends : (k : ℕ) (ts : List Token) → ends-in false (place (node k m m′ done g done) ts) ≡ false
   unfolding ends-in
-  node-ends k ts = ap (ends-in false) (node-placed k ts) ∙ lead-ends ts (branch k (place g (drop-trivia ts)) nil) (λ a b. refl) false
+  node-ends k ts = ap (ends-in false) (node-placed k ts) ∙ lead-ends ts (subtree k (place g (drop-trivia ts)) nil) (λ a b. refl) false
 
   node-quiet : (k : ℕ) (ts : List Token) → closes k (place g (drop-trivia ts)) ≡ false → Quiet (place (node k m m′ done g done) ts)
   unfolding Quiet

@@ -12,7 +12,7 @@ use Rattle.definitions.specs.Token.{Token, drop-trivia, first-in}
 use Rattle.definitions.specs.Prog.{Ans}
 use Rattle.definitions.specs.Skeleton.{Skeleton, done, _⧺_}
 use Rattle.definitions.specs.Run.{State, mark-of, taken}
-use Rattle.definitions.specs.Place.{Tree, nil, leaf, branch, _⊕_, after, place}
+use Rattle.definitions.specs.Place.{Tree, nil, leaf, subtree, _⊕_, after, place}
 use Rattle.laws.proofs.Trivia.{and-left, and-right}
 use Rattle.laws.proofs.Skeleton.{join-done, after-join}
 use Rattle.laws.proofs.Tree.{beside-assoc, place-join}
@@ -28,7 +28,7 @@ use Rattle.recovery.proofs.Going.{Goes}
 unfoldable pub ends-in : Bool → Tree → Bool
 ends-in b nil = b
 ends-in b (leaf k us f) = ends-in (eqb k K.Semicolon) f
-ends-in b (branch k c f) = ends-in false f
+ends-in b (subtree k c f) = ends-in false f
 
 -- a statement whose own last leaf is a semicolon
 abbrev pub closes : ℕ → Tree → Bool
@@ -39,27 +39,27 @@ unfoldable pub Quiet : Tree → Type 0
 unfolding ends-in is-statement
 Quiet nil = Unit {0}
 Quiet (leaf k us f) = Quiet f
-Quiet (branch k c f) = (closes k c ≡ false) × Quiet f
+Quiet (subtree k c f) = (closes k c ≡ false) × Quiet f
 
 -- only the last of some parts may be one
 pub record Last (f : Tree) : Type 0 where
   pub others : Tree
   pub kind : ℕ
   pub inner : Tree
-  pub is : f ≡ others ⊕ branch kind inner nil
+  pub is : f ≡ others ⊕ subtree kind inner nil
   pub quiet : Quiet others
 
 pub ends-beside : (b : Bool) (f g : Tree) → ends-in b (f ⊕ g) ≡ ends-in (ends-in b f) g
 unfolding ends-in _⊕_
 ends-beside b nil g = refl
 ends-beside b (leaf k us f) g = ends-beside (eqb k K.Semicolon) f g
-ends-beside b (branch k c f) g = ends-beside false f g
+ends-beside b (subtree k c f) g = ends-beside false f g
 
 pub quiet-beside : (f g : Tree) → Quiet f → Quiet g → Quiet (f ⊕ g)
 unfolding Quiet _⊕_
 quiet-beside nil g p q = q
 quiet-beside (leaf k us f) g p q = quiet-beside f g p q
-quiet-beside (branch k c f) g p q = (p .0, quiet-beside f g (p .1) q)
+quiet-beside (subtree k c f) g p q = (p .0, quiet-beside f g (p .1) q)
 
 -- ---------------------------------------------------------------- what is known of a run
 

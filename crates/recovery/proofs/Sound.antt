@@ -7,7 +7,7 @@ use lib.Dec.{eqb}
 use lib.ListN.{length}
 use borrow.Author.Tests.{eqb-true}
 use Rattle.definitions.specs.Token.{Token, drop-trivia}
-use Rattle.definitions.specs.Prog.{Ans, no, yes, also, again, Rule, item, propvalues, eat-cell, expr-binding-power, Prog, ret, act, _⨟_, case, mark, loop, chain, brace, call}
+use Rattle.definitions.specs.Prog.{Ans, no, yes, also, again, Rule, item, propvalues, eat-cell, expr-binding-power, Prog, ret, act, _⨟_, case, in-marker, loop, chain, brace, open-call}
 use Rattle.definitions.specs.Grammar.{grammar, sourcefile-turn, left-over}
 use Rattle.definitions.specs.Skeleton.{Label, no-label, Skeleton, done, _⧺_}
 use Rattle.definitions.specs.Run.{State, Out, mark-of, answer, makes, add, choose, closed, marked, is-again, goes-on, iter, unlinked, by-shape, links, chained, here, exec, run}
@@ -37,11 +37,11 @@ dull-shape ask b (p ⨟ q) s e = dull-shape ask b q _ e
 dull-shape ask b (case c n y a) s e =
     choose-is (λ (o : Out). plain-kind (o .shape) ≡ true) (exec ask b c s .ans) (exec ask b n) (exec ask b y) (exec ask b a) (exec ask b c s .state)
     (dull-shape ask b n _ (and-left (dull n) _ e)) (dull-shape ask b y _ (and-left (dull y) _ (and-right (dull n) _ e))) (dull-shape ask b a _ (and-right (dull y) _ (and-right (dull n) _ e)))
-dull-shape ask b (mark p) s e = absurd (false≢true e)
+dull-shape ask b (in-marker p) s e = absurd (false≢true e)
 dull-shape ask b (loop p) s e = absurd (false≢true e)
 dull-shape ask b (chain p q) s e = absurd (false≢true e)
 dull-shape ask b (brace p) s e = dull-shape ask (here (s .rest)) p s e
-dull-shape ask b (call r) s e = absurd (false≢true e)
+dull-shape ask b (open-call r) s e = absurd (false≢true e)
 
 by-shape-is : (Z : Out → Type 0) (k : ℕ) {x y : Out} → Z x → Z y → Z (by-shape k x y)
 unfolding by-shape
@@ -177,7 +177,7 @@ module _ (n : ℕ) (C : (r : Rule) (s : State) (ts : List Token) → At s ts →
       (λ w. exec-ends b y (R d) (d .head) w (o .state) _ A′ (E .holds .head))
       (λ w. exec-ends b a (R d) (d .head) w (o .state) _ A′ (E .holds .head))
       (E .post))
-  exec-ends b (mark p) P h e s ts A x =
+  exec-ends b (in-marker p) P h e s ts A x =
       let o : Out = exec (run n) b p s in
       cond-with (λ _. Ending P s ts (marked s o)) (dull p) {x = tt {0}} {y = tt {0}}
       (λ y. unfold marked makes in record {
@@ -209,7 +209,7 @@ module _ (n : ℕ) (C : (r : Rule) (s : State) (ts : List Token) → At s ts →
         holds = unknown s (o .state) ts (o .made);
       }
   exec-ends b (brace p) P h e s ts A x = exec-ends (here (s .rest)) p P h e s ts A x
-  exec-ends b (call r) P h e s ts A x =
+  exec-ends b (open-call r) P h e s ts A x =
       let o : Out = run n r s in
       record {
         known = claim r;

@@ -15,7 +15,7 @@ use Rattle.definitions.specs.Token.{Token, is-error, seen, bytes}
 use Rattle.definitions.specs.Grammar.{SourceFile}
 use Rattle.definitions.specs.Skeleton.{Report}
 use Rattle.definitions.specs.Run.{taken}
-use Rattle.definitions.specs.Place.{Tree, nil, leaf, branch, _⊕_, root}
+use Rattle.definitions.specs.Place.{Tree, nil, leaf, subtree, _⊕_, root}
 use Rattle.definitions.specs.Call.{run-entry}
 use Rattle.laws.specs.Lossless.{Kind-of, one-token, a-name}
 use Rattle.laws.proofs.Skeleton.{bytes-append}
@@ -31,7 +31,7 @@ use Rattle.recovery.specs.Recovery.{File, result, Accepted, is-statement
 use Rattle.recovery.proofs.Told.{All, told, told-join, Above}
 use Rattle.recovery.proofs.Meaning.{ends-in, closes, ends-beside}
 use Rattle.recovery.proofs.Turns.{children, Part, part-here, Found, find-in}
-use Rattle.recovery.proofs.Written.{rows-of, tokens-of, made-of, told-of, Wrote, wrote}
+use Rattle.recovery.proofs.Written.{rows-of, file-tokens, made-of, told-of, Wrote, wrote}
 use Rattle.recovery.proofs.Cut.{Placed, placed, tokens-counted, bytes-counted}
 
 -- ---------------------------------------------------------------- a semicolon is one byte long
@@ -51,7 +51,7 @@ one-byte (x ∷ y ∷ l) e = absurd (go (eqb 59 x) e)
     go true e = false≢true e
     go false e = false≢true e
 
-semicolon-length : (f : File) (ps : List Token) (t : Token) (us : List Token) → Checked (f .input) (f .rows) → tokens-of f ≡ ps ++ (t ∷ us) → t .kind ≡ K.Semicolon → t .len ≡ 1
+semicolon-length : (f : File) (ps : List Token) (t : Token) (us : List Token) → Checked (f .input) (f .rows) → file-tokens f ≡ ps ++ (t ∷ us) → t .kind ≡ K.Semicolon → t .len ≡ 1
 unfolding bytes
 semicolon-length f ps t us c e k =
     let bs : List ℕ = f .input in
@@ -84,9 +84,9 @@ right-behind : (f g : Tree) → Right (f ⊕ g) → Right g
 unfolding Right _⊕_
 right-behind nil g h = h
 right-behind (leaf k us f) g h = right-behind f g (h .1)
-right-behind (branch k c f) g h = right-behind f g (h .1)
+right-behind (subtree k c f) g h = right-behind f g (h .1)
 
-right-last : (f : Tree) (k : ℕ) (i : Tree) (raw : List Token) (v : Tree) → Right (f ⊕ branch k (i ⊕ leaf K.Semicolon raw nil) v) → One raw
+right-last : (f : Tree) (k : ℕ) (i : Tree) (raw : List Token) (v : Tree) → Right (f ⊕ subtree k (i ⊕ leaf K.Semicolon raw nil) v) → One raw
 unfolding Right
 right-last f k i raw v h = one-of-kind raw (right-behind i (leaf K.Semicolon raw nil) (right-behind f _ h .0) .0)
 
@@ -100,7 +100,7 @@ children-leaves : (ts : List Token) → leaves (children (run-entry SourceFile t
 unfolding root leaves children
 children-leaves ts = sym (append-nil _) ∙ root-whole N.SourceFile (run-entry SourceFile ts) ts (entry-leaves SourceFile ts)
 
-leaves-around : (f : Tree) (k : ℕ) (i : Tree) (t : Token) (v : Tree) → leaves (f ⊕ branch k (i ⊕ leaf K.Semicolon (t ∷ []) nil) v) ≡ (leaves f ++ leaves i) ++ (t ∷ leaves v)
+leaves-around : (f : Tree) (k : ℕ) (i : Tree) (t : Token) (v : Tree) → leaves (f ⊕ subtree k (i ⊕ leaf K.Semicolon (t ∷ []) nil) v) ≡ (leaves f ++ leaves i) ++ (t ∷ leaves v)
 unfolding leaves
 leaves-around f k i t v =
     leaves-beside f _
@@ -118,7 +118,7 @@ pub record Tail (f : File) (s : Semicolon (tree-rows (result f))) : Type 0 where
   pub head : List Token
   pub semicolon : Token
   pub rest : List Token
-  pub file : tokens-of f ≡ head ++ (semicolon ∷ rest)
+  pub file : file-tokens f ≡ head ++ (semicolon ∷ rest)
   pub one-byte-long : semicolon .len ≡ 1
   pub no-error : is-error (semicolon .kind) ≡ false
   pub at-index : token-index s ≡ length head
@@ -136,7 +136,7 @@ pub tail : (f : File) → Accepted f → (s : Semicolon (tree-rows (result f))) 
 unfolding token-index start-byte is-error
 tail f h s =
     let W : Wrote f = wrote f h in
-    let ts : List Token = tokens-of f in
+    let ts : List Token = file-tokens f in
     let X : Tree = children (made-of f) ts in
     let P : Placed X s = placed N.SourceFile X s (W .trees) in
     let O : One (P .raw) = right-last (P .before) (P .kind) (P .inside) (P .raw) (P .later) (subst Right (P .is) (children-right ts)) in
@@ -148,7 +148,7 @@ tail f h s =
     let e : ts ≡ (leaves (P .before) ++ leaves (P .inside)) ++ (O .token ∷ F .rest) =
     sym (children-leaves ts)
     ∙ ap leaves (P .is)
-    ∙ ap (λ (r : List Token). leaves (P .before ⊕ branch (P .kind) (P .inside ⊕ leaf K.Semicolon r nil) (P .later))) (O .is)
+    ∙ ap (λ (r : List Token). leaves (P .before ⊕ subtree (P .kind) (P .inside ⊕ leaf K.Semicolon r nil) (P .later))) (O .is)
     ∙ leaves-around (P .before) (P .kind) (P .inside) (O .token) (P .later)
     ∙ ap (λ (l : List Token). (leaves (P .before) ++ leaves (P .inside)) ++ (O .token ∷ l)) u in
     record {

@@ -14,7 +14,7 @@ use Rattle.definitions.specs.Prog.{again}
 use Rattle.definitions.specs.Grammar.{SourceFile, whole, entry, entry-sourcefile, sourcefile-turn, left-over}
 use Rattle.definitions.specs.Skeleton.{no-label, Skeleton, done, _⧺_}
 use Rattle.definitions.specs.Run.{State, Out, mark-of, peeked, answer, makes, taken, add, perform, choose, is-again, goes-on, iter, exec, run}
-use Rattle.definitions.specs.Place.{Tree, nil, leaf, branch, _⊕_, lead, after, place}
+use Rattle.definitions.specs.Place.{Tree, nil, leaf, subtree, _⊕_, lead, after, place}
 use Rattle.definitions.specs.Call.{run-entry}
 use Rattle.laws.proofs.Trivia.{cond-with}
 use Rattle.laws.proofs.Skeleton.{join-assoc, after-join}
@@ -46,13 +46,13 @@ children-join p q ts =
 unfoldable pub Part : Tree → ℕ → Tree → Tree → Type 0
 Part nil k i v = ⊥
 Part (leaf j us f) k i v = Part f k i v
-Part (branch j c f) k i v = ((j ≡ k) × (c ≡ i) × (f ≡ v)) ⊎ Part f k i v
+Part (subtree j c f) k i v = ((j ≡ k) × (c ≡ i) × (f ≡ v)) ⊎ Part f k i v
 
-pub part-here : (f : Tree) (k : ℕ) (i v : Tree) → Part (f ⊕ branch k i v) k i v
+pub part-here : (f : Tree) (k : ℕ) (i v : Tree) → Part (f ⊕ subtree k i v) k i v
 unfolding Part _⊕_
 part-here nil k i v = inl (refl, refl, refl)
 part-here (leaf j us f) k i v = part-here f k i v
-part-here (branch j c f) k i v = inr (part-here f k i v)
+part-here (subtree j c f) k i v = inr (part-here f k i v)
 
 -- ---------------------------------------------------------------- the loop
 
@@ -133,21 +133,21 @@ module _ (k : ℕ) (i v : Tree) (C : closes k i ≡ true) where
   unfolding Quiet Part _⊕_
   quiet-part nil g q h = h
   quiet-part (leaf j us f) g q h = quiet-part f g q h
-  quiet-part (branch j c f) g q (inl e) = absurd (true≢false (sym C ∙ ap (λ (n : ℕ). closes n i) (sym (e .0)) ∙ ap (closes j) (sym (e .1)) ∙ q .0))
-  quiet-part (branch j c f) g q (inr h) = quiet-part f g (q .1) h
+  quiet-part (subtree j c f) g q (inl e) = absurd (true≢false (sym C ∙ ap (λ (n : ℕ). closes n i) (sym (e .0)) ∙ ap (closes j) (sym (e .1)) ∙ q .0))
+  quiet-part (subtree j c f) g q (inr h) = quiet-part f g (q .1) h
 
   quiet-none : (f : Tree) → Quiet f → Part f k i v → ⊥
   unfolding Quiet Part
   quiet-none nil q h = h
   quiet-none (leaf j us f) q h = quiet-none f q h
-  quiet-none (branch j c f) q (inl e) = true≢false (sym C ∙ ap (λ (n : ℕ). closes n i) (sym (e .0)) ∙ ap (closes j) (sym (e .1)) ∙ q .0)
-  quiet-none (branch j c f) q (inr h) = quiet-none f (q .1) h
+  quiet-none (subtree j c f) q (inl e) = true≢false (sym C ∙ ap (λ (n : ℕ). closes n i) (sym (e .0)) ∙ ap (closes j) (sym (e .1)) ∙ q .0)
+  quiet-none (subtree j c f) q (inr h) = quiet-none f (q .1) h
 
   -- the statement is the last part of f, or stands behind it
   last-part : (f g : Tree) → Last f → Part (f ⊕ g) k i v → (g ≡ v) ⊎ Part g k i v
-  last-part f g l h = go (quiet-part (l .others) (branch (l .kind) (l .inner) nil ⊕ g) (l .quiet) (subst (λ (x : Tree). Part x k i v) (ap (_⊕ g) (l .is) ∙ beside-assoc (l .others) _ g) h))
+  last-part f g l h = go (quiet-part (l .others) (subtree (l .kind) (l .inner) nil ⊕ g) (l .quiet) (subst (λ (x : Tree). Part x k i v) (ap (_⊕ g) (l .is) ∙ beside-assoc (l .others) _ g) h))
     where
-      go : Part (branch (l .kind) (l .inner) nil ⊕ g) k i v → (g ≡ v) ⊎ Part g k i v
+      go : Part (subtree (l .kind) (l .inner) nil ⊕ g) k i v → (g ≡ v) ⊎ Part g k i v
       go h = unfold Part _⊕_ in ⊎-elim (λ e. inl (e .2)) (λ x. inr x) h
 
   abbrev Turned : State → List Token → Type 0

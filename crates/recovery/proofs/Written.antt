@@ -8,10 +8,10 @@ use mathlib.Core.List.{List, [], _∷_, _++_, append-assoc}
 use lib.ListN.{length, take, drop, replicate, length-append}
 use lib.Seq.{take-at, drop-at, take-append-seam}
 use Rattle.definitions.specs.NodeKind as N
-use Rattle.definitions.specs.Token.{Token, tokens, is-error, bytes}
+use Rattle.definitions.specs.Token.{Token, tokens-of, is-error, bytes}
 use Rattle.definitions.specs.Grammar.{Entry, SourceFile, root-kind}
 use Rattle.definitions.specs.Skeleton.{Label, no-label, label, Report, Skeleton}
-use Rattle.definitions.specs.Place.{Tree, nil, leaf, branch, root, width, count, rows, lexical-errors}
+use Rattle.definitions.specs.Place.{Tree, nil, leaf, subtree, root, width, count, rows, lexical-errors}
 use Rattle.definitions.specs.Report.{pushes, reports, label-numbers, report-rows, pool}
 use Rattle.definitions.specs.Refusal.{accepted, check-input}
 use Rattle.definitions.specs.Call.{Sheets, sheets, kept, written, run-entry, for, entry-of}
@@ -73,19 +73,19 @@ unfoldable pub rows-of : Tree → List Row
 unfolding bytes width count
 rows-of nil = []
 rows-of (leaf k ts f) = (1 ∷ k ∷ bytes ts ∷ length ts ∷ []) ∷ rows-of f
-rows-of (branch k c f) = (0 ∷ k ∷ width c ∷ count c ∷ []) ∷ (rows-of c ++ rows-of f)
+rows-of (subtree k c f) = (0 ∷ k ∷ width c ∷ count c ∷ []) ∷ (rows-of c ++ rows-of f)
 
 rows-wide : (f : Tree) → Wide 4 (rows-of f)
 unfolding rows-of
 rows-wide nil = tt
 rows-wide (leaf k ts f) = (refl, rows-wide f)
-rows-wide (branch k c f) = (refl, wide-append 4 (rows-of c) (rows-of f) (rows-wide c) (rows-wide f))
+rows-wide (subtree k c f) = (refl, wide-append 4 (rows-of c) (rows-of f) (rows-wide c) (rows-wide f))
 
 rows-flat : (f : Tree) → rows f ≡ flat (rows-of f)
 unfolding rows-of rows flat
 rows-flat nil = refl
 rows-flat (leaf k ts f) = ap (λ (l : List ℕ). 1 ∷ k ∷ bytes ts ∷ length ts ∷ l) (rows-flat f)
-rows-flat (branch k c f) =
+rows-flat (subtree k c f) =
     ap (λ (l : List ℕ). 0 ∷ k ∷ width c ∷ count c ∷ l) ((λ i. rows-flat c i ++ rows-flat f i) ∙ sym (flat-append (rows-of c) (rows-of f)))
 
 unfoldable pub errors-of : ℕ → List Token → List Row
@@ -142,20 +142,20 @@ reports-flat n b first (r ∷ l) =
 
 -- ---------------------------------------------------------------- an accepted source file
 
-abbrev pub tokens-of : File → List Token
-tokens-of f = tokens (f .rows)
+abbrev pub file-tokens : File → List Token
+file-tokens f = tokens-of (f .rows)
 
 abbrev pub made-of : File → Skeleton
-made-of f = run-entry SourceFile (tokens-of f)
+made-of f = run-entry SourceFile (file-tokens f)
 
 abbrev pub told-of : File → List Report
 told-of f = reports (pushes (made-of f))
 
 pub record Wrote (f : File) : Type 0 where
   pub input : check-input (f .input) (f .rows) ≡ accepted
-  pub trees : tree-rows (result f) ≡ rows-of (branch N.SourceFile (children (made-of f) (tokens-of f)) nil)
-  pub errors : error-rows (result f) ≡ errors-of 0 (tokens-of f)
-  pub reports : S.report-rows (result f) ≡ reports-of (length (tokens-of f)) (bytes (tokens-of f)) 0 (told-of f)
+  pub trees : tree-rows (result f) ≡ rows-of (subtree N.SourceFile (children (made-of f) (file-tokens f)) nil)
+  pub errors : error-rows (result f) ≡ errors-of 0 (file-tokens f)
+  pub reports : S.report-rows (result f) ≡ reports-of (length (file-tokens f)) (bytes (file-tokens f)) 0 (told-of f)
   pub pool : expectations (result f) ≡ pool (told-of f)
 
 entry-one : (e : Entry) → entry-of 1 ≡ for e → e ≡ SourceFile
@@ -167,11 +167,11 @@ pub wrote : (f : File) → Accepted f → Wrote f
 unfolding tree-rows error-rows S.report-rows expectations sheets root children root-kind
 wrote f h =
     let A : L.Accepted 1 (f .input) (f .rows) (f .lent) = accepted-call 1 (f .input) (f .rows) (f .lent) h in
-    let ts : List Token = tokens-of f in
+    let ts : List Token = file-tokens f in
     let o : Skeleton = made-of f in
     let z : Sheets = sheets SourceFile ts o in
     let is : result f ≡ kept z (f .lent) = A .returns ∙ ap (λ (e : Entry). kept (sheets e ts (run-entry e ts)) (f .lent)) (entry-one (A .entry) (A .asked-for)) in
-    let t : Tree = branch N.SourceFile (children o ts) nil in
+    let t : Tree = subtree N.SourceFile (children o ts) nil in
     record {
       input = A .input;
       trees = ap tree-rows is ∙ written-rows 4 (rows-of t) (z .trees) (f .lent .trees) (omega arith) (rows-wide t) (rows-flat t);

@@ -8,7 +8,7 @@ use lib.Dec.{ltb}
 use lib.ListN.{take, drop}
 use Rattle.definitions.specs.TokenKind as K
 use Rattle.definitions.specs.NodeKind as N
-use Rattle.definitions.specs.Token.{tokens, one-of}
+use Rattle.definitions.specs.Token.{tokens-of, one-of}
 use Rattle.definitions.specs.Call.{Buffers, Result, call}
 use Rattle.recovery.specs.Rows.{Row, tree-rows, error-rows, report-rows, expectations, class, kind, count, number, start, end, message, mark, first-place, pool-count, hint, label-start, label-end, Parts, raw-tokens, raw-bytes}
 
@@ -66,7 +66,7 @@ start-byte s = raw-bytes (s .before) + raw-bytes (s .inside)
 
 -- document 01: tokens and bytes after two semicolons are alike (a semicolon is one byte long)
 pub record Alike (f g : File) (a : Semicolon (tree-rows (result f))) (b : Semicolon (tree-rows (result g))) : Type 0 where
-  pub same-tokens : drop (suc (token-index a)) (tokens (f .rows)) ≡ drop (suc (token-index b)) (tokens (g .rows))
+  pub same-tokens : drop (suc (token-index a)) (tokens-of (f .rows)) ≡ drop (suc (token-index b)) (tokens-of (g .rows))
   pub same-bytes : drop (suc (start-byte a)) (f .input) ≡ drop (suc (start-byte b)) (g .input)
 
 -- ---------------------------------------------------------------- what is later

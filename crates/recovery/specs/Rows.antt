@@ -5,7 +5,8 @@ use mathlib.Core.Bool.{cond}
 use mathlib.Core.List.{List, [], _∷_, _++_}
 use lib.Dec.{eqb}
 use lib.ListN.{take, drop, getD}
-use Rattle.definitions.specs.Call.{Result, TREE-ROW, ERROR-ROW, REPORT-ROW}
+use Rattle.definitions.specs.Layout.{TREE-ROW, ERROR-ROW, REPORT-ROW}
+use Rattle.definitions.specs.Call.{Result}
 
 -- a row, as a list of its numbers
 abbrev pub Row : Type 0

@@ -8,15 +8,15 @@ use lib.ListN.{length, getD, take, drop, length-append, length-drop, take-append
 use lib.Seq.{drop-drop, getD-drop, drop-at, length-take-le}
 use lib.Dec.{ltb, eqb}
 use borrow.Author.Tests.{ltb-true, eqb-true, lt-ltb, eq-eqb, ne-eqb}
-use Rattle.definitions.specs.Call.{TREE-ROW, EVENT-ROW}
+use Rattle.definitions.specs.Layout.{TREE-ROW, EVENT-ROW}
 use Rattle.definitions.specs.Skeleton.{Skeleton, done, token, name, node, ignored, report, over}
 use Rattle.definitions.specs.Event.{forward, events}
 use Rattle.definitions.specs.Place.{tree-row}
 use Rattle.machine.specs.Encode.{start-tag, encode}
 use Rattle.sink.specs.Encode.{Alone, Chained}
-use Rattle.tree_rows.specs.Rows.{low, put, field, link, linksN, links, open-rows}
+use Rattle.sink_rows.specs.Rows.{low, put, field, link, linksN, links, open-rows}
 use Rattle.sink.specs.Machine.{on, start-on}
-use Rattle.tree_rows.proofs.Kit.{links-end}
+use Rattle.sink_rows.proofs.Kit.{links-end}
 use Rattle.sink.proofs.Kit.{no}
 use Rattle.sink.proofs.Encode.{event-count, events-length, encode-count}
 use Rattle.sink.proofs.Grow.{Filled, state, low-small, put-seam}

@@ -7,12 +7,12 @@ use mathlib.Core.Bool.{Bool, true, false, cond}
 use lib.ListN.{length, drop, length-append, length-drop}
 use lib.Seq.{sets-eq, take-at, drop-at, drop-drop}
 use borrow.Author.Tests.{le-leb}
-use Rattle.definitions.specs.Call.{ERROR-ROW}
-use Rattle.definitions.specs.Token.{Token, tokens, is-error, bytes}
+use Rattle.definitions.specs.Layout.{ERROR-ROW}
+use Rattle.definitions.specs.Token.{Token, tokens-of, is-error, bytes}
 use Rattle.definitions.specs.Place.{lexical-errors}
 use Rattle.laws.specs.Lossless.{errors-in}
-use Rattle.tree_rows.specs.Rows.{low}
-use Rattle.token_rows.specs.Tokens.{put-error, Log, log, logged, errorsN, errors-on}
+use Rattle.sink_rows.specs.Rows.{low}
+use Rattle.sink_tokens.specs.Tokens.{put-error, Log, log, logged, errorsN, errors-on}
 use Rattle.sink.proofs.Grow.{low-small}
 use Rattle.sink.proofs.Steps.{From, from-kind, from-len, from-past, tokens-length}
 
@@ -97,15 +97,15 @@ module _ (tk : List ℕ) where
 
   -- ---------------------------------------------------------------- over all tokens
 
-  pub errors-count : (e : List ℕ) → length tk < 4294967296 → found (errors-on tk e) ≡ errors-in (tokens tk)
+  pub errors-count : (e : List ℕ) → length tk < 4294967296 → found (errors-on tk e) ≡ errors-in (tokens-of tk)
   unfolding errors-on
   errors-count e h =
-      let z : 0 + errors-in (tokens tk) ≡ errors-in (tokens tk) = omega arith in
-      ap (λ m. found (errorsN m tk 0 0 (log 0 e))) (sym (tokens-length tk)) ∙ count-runs (tokens tk) 0 0 (log 0 e) refl (omega (arith, tokens-length tk)) ∙ z
+      let z : 0 + errors-in (tokens-of tk) ≡ errors-in (tokens-of tk) = omega arith in
+      ap (λ m. found (errorsN m tk 0 0 (log 0 e))) (sym (tokens-length tk)) ∙ count-runs (tokens-of tk) 0 0 (log 0 e) refl (omega (arith, tokens-length tk)) ∙ z
 
-  pub errors-written : (e : List ℕ) → length tk < 4294967296 → bytes (tokens tk) < 4294967296 → length (lexical-errors 0 (tokens tk)) ≤ length e
-      → errors-on tk e ≡ log (errors-in (tokens tk)) (lexical-errors 0 (tokens tk) ++ drop (length (lexical-errors 0 (tokens tk))) e)
+  pub errors-written : (e : List ℕ) → length tk < 4294967296 → bytes (tokens-of tk) < 4294967296 → length (lexical-errors 0 (tokens-of tk)) ≤ length e
+      → errors-on tk e ≡ log (errors-in (tokens-of tk)) (lexical-errors 0 (tokens-of tk) ++ drop (length (lexical-errors 0 (tokens-of tk))) e)
   unfolding errors-on
   errors-written e h hb r =
-      let z : 0 + errors-in (tokens tk) ≡ errors-in (tokens tk) = omega arith in
-      ap (λ m. errorsN m tk 0 0 (log 0 e)) (sym (tokens-length tk)) ∙ log-runs (tokens tk) 0 0 0 [] e refl refl (omega (arith, tokens-length tk)) (omega arith) r ∙ rw z
+      let z : 0 + errors-in (tokens-of tk) ≡ errors-in (tokens-of tk) = omega arith in
+      ap (λ m. errorsN m tk 0 0 (log 0 e)) (sym (tokens-length tk)) ∙ log-runs (tokens-of tk) 0 0 0 [] e refl refl (omega (arith, tokens-length tk)) (omega arith) r ∙ rw z

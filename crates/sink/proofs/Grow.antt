@@ -7,11 +7,11 @@ use mathlib.Core.Path.{_≡_, refl, sym, _∙_, ap}
 use lib.ListN.{length, getD, drop, length-append, length-drop}
 use lib.Seq.{sets-eq, take-at, drop-at, drop-drop, getD-append-add}
 use borrow.Author.Tests.{le-leb}
-use Rattle.definitions.specs.Call.{TREE-ROW}
+use Rattle.definitions.specs.Layout.{TREE-ROW}
 use Rattle.definitions.specs.Token.{Token, bytes}
 use Rattle.definitions.specs.Place.{Tree, nil, leaf, _⊕_, width, count, rows, tree-row}
 use Rattle.laws.proofs.Tree.{rows-beside, width-beside, count-beside}
-use Rattle.tree_rows.specs.Rows.{low, put, number}
+use Rattle.sink_rows.specs.Rows.{low, put, number}
 use Rattle.sink.specs.Machine.{On, on, moved, leaf-on}
 use Rattle.sink.proofs.Trees.{raw, size, raw-beside, size-beside, rows-length, rows-add}
 

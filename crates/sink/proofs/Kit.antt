@@ -7,7 +7,7 @@ use mathlib.Core.Bool.{Bool, true, false}
 use lib.ListN.{length}
 use lib.Dec.{ltb}
 use borrow.Author.Tests.{ltb-true, ltb-false, leb-true, leb-false, eqb-true}
-use Rattle.token_rows.specs.Tokens.{trivia-here}
+use Rattle.sink_tokens.specs.Tokens.{trivia-here}
 use Rattle.sink.specs.Machine.{On, on, sink-of, moved, leaf-on, token-on, triviaN, trivia-on, event-on, eventsN}
 
 pub ruleset flags = (arith, ltb-true, ltb-false, leb-true, leb-false, eqb-true)

@@ -9,15 +9,15 @@ use lib.Seq.{drop-drop, drop-length, length-take-le, take-all}
 use lib.Dec.{leb}
 use borrow.Author.Tests.{leb-true}
 use Rattle.definitions.specs.TokenKind as K
-use Rattle.definitions.specs.Call.{TREE-ROW, EVENT-ROW}
+use Rattle.definitions.specs.Layout.{TREE-ROW, EVENT-ROW}
 use Rattle.definitions.specs.Token.{Token, trivia, drop-trivia, past}
 use Rattle.definitions.specs.Skeleton.{Skeleton, done, token, name, node, ignored, report, over}
 use Rattle.definitions.specs.Event.{events}
-use Rattle.definitions.specs.Place.{Tree, nil, leaf, branch, _⊕_, lead, front, after, place, width, rows}
+use Rattle.definitions.specs.Place.{Tree, nil, leaf, subtree, _⊕_, lead, front, after, place, width, rows}
 use Rattle.laws.proofs.Trivia.{Solid, dropped-solid, drop-twice}
 use Rattle.machine.specs.Encode.{start-tag, encode}
 use Rattle.sink.specs.Encode.{event-row, Alone, Chained}
-use Rattle.tree_rows.specs.Rows.{field}
+use Rattle.sink_rows.specs.Rows.{field}
 use Rattle.sink.specs.Machine.{On, on, token-on, trivia-on, combined-on, start-on, finish-on, event-on, eventsN}
 use Rattle.sink.proofs.Kit.{flags}
 use Rattle.sink.proofs.Encode.{event-count, events-length, encode-count}
@@ -53,7 +53,7 @@ raw-name n ts = go (leb n (length ts)) refl
         drop-over (suc m) [] g = refl
         drop-over (suc m) (x ∷ l) g = drop-over m l (omega arith)
 
-raw-branch : (k : ℕ) (c : Tree) (ts us : List Token) → drop (raw c) ts ≡ us → drop (raw (branch k c nil)) ts ≡ us
+raw-branch : (k : ℕ) (c : Tree) (ts us : List Token) → drop (raw c) ts ≡ us → drop (raw (subtree k c nil)) ts ≡ us
 unfolding raw
 raw-branch k c ts us e = let z : raw c + 0 ≡ raw c = omega arith in rw z e
 
@@ -67,7 +67,7 @@ depth-size (node k m m′ a i o) ts =
     let us = drop-trivia ts in
     let vs = after a us in
     let B = place a us ⊕ place i vs in
-    omega (arith, depth-size a us, size-beside (place a us) (place i vs), size-beside (lead ts) (branch k B nil ⊕ place o (after i vs)), size-beside (branch k B nil) (place o (after i vs)))
+    omega (arith, depth-size a us, size-beside (place a us) (place i vs), size-beside (lead ts) (subtree k B nil ⊕ place o (after i vs)), size-beside (subtree k B nil) (place o (after i vs)))
 depth-size (ignored m m′ a i o) ts = omega arith
 depth-size (report r o) ts = omega arith
 depth-size (over m o) ts = omega arith
@@ -79,12 +79,12 @@ lead-solid [] h = refl
 lead-solid (t ∷ ts) h = rw h
 
 pub place-alone : (k m m′ : ℕ) (a i o : Skeleton) (ts : List Token) → o ≡ done → Solid ts → drop-trivia ts ≡ ts
-    → place (node k m m′ a i o) ts ≡ branch k (place a ts ⊕ place i (after a ts)) nil
+    → place (node k m m′ a i o) ts ≡ subtree k (place a ts ⊕ place i (after a ts)) nil
 unfolding place _⊕_
 place-alone k m m′ a i o ts h s d = rw (h, d, lead-solid ts s)
 
 -- an open node's inside has room where the node has
-pub room-inside : (k : ℕ) (f : Tree) (s : Filled) → Room (branch k f nil) s → Room f (inside k s)
+pub room-inside : (k : ℕ) (f : Tree) (s : Filled) → Room (subtree k f nil) s → Room f (inside k s)
 unfolding inside rows width size
 room-inside k f s r =
     record {
@@ -210,8 +210,8 @@ module _ (tk ev : List ℕ) (small : length tk < 4294967296) where
   -- a node once it is open: what stands before it, what is inside it, and its end
   node-inside : (a i : Skeleton) → Befores a → Sinks i → (k d : ℕ) (x : List ℕ) (j : ℕ) (ts : List Token) (s : Filled) → Alone a → Chained a → Chained i
       → drop (j * EVENT-ROW) ev ≡ encode true a ++ (start-tag a ∷ k ∷ d ∷ (encode false i ++ (4 ∷ 0 ∷ 0 ∷ x))) → Solid ts → drop-trivia ts ≡ ts → From tk (s .cursor) ts
-      → Room (branch k (place a ts ⊕ place i (after a ts)) nil) s
-      → Runs (event-count a + (event-count i + 1)) (j + 1) (state (opened a (inside k s))) (state (grow (branch k (place a ts ⊕ place i (after a ts)) nil) s))
+      → Room (subtree k (place a ts ⊕ place i (after a ts)) nil) s
+      → Runs (event-count a + (event-count i + 1)) (j + 1) (state (opened a (inside k s))) (state (grow (subtree k (place a ts ⊕ place i (after a ts)) nil) s))
   unfolding Sinks Befores
   node-inside a i ba si k d x j ts s al ca ci e so dt fr r =
       let vs = after a ts in
@@ -233,7 +233,7 @@ module _ (tk ev : List ℕ) (small : length tk < 4294967296) where
       si false (4 ∷ 0 ∷ 0 ∷ x) (j + 1 + n) vs q1 ci g1 (λ z. omega arith) (from-grown tk A q ts vs fq (raw-place a ts)) (room-back A I q rq) in
       let both : Runs (n + p) (j + 1) (state (opened a q)) (state (grow (A ⊕ I) q)) =
       runs-as (n + p) (n + p) (j + 1) (j + 1) _ _ _ refl refl (ap state (grow-grow A I q)) (runs-then n p (j + 1) _ _ _ before within) in
-      let end : Runs 1 (j + 1 + (n + p)) (state (grow (A ⊕ I) q)) (state (grow (branch k (A ⊕ I) nil) s)) =
+      let end : Runs 1 (j + 1 + (n + p)) (state (grow (A ⊕ I) q)) (state (grow (subtree k (A ⊕ I) nil) s)) =
       runs-one (j + 1 + (n + p)) _ _ (ev-finish (j + 1 + (n + p)) 4 0 0 x g3 (state (grow (A ⊕ I) q)) refl ∙ finish-runs k (A ⊕ I) s r) in
       runs-as (n + p + 1) (n + (p + 1)) (j + 1) (j + 1) _ _ _ (omega arith) refl refl (runs-then (n + p) 1 (j + 1) _ _ _ both end)
 
@@ -251,7 +251,7 @@ module _ (tk ev : List ℕ) (small : length tk < 4294967296) where
       let w = far true i in
       let p1 = node q m m′ a i o in
       let R : List ℕ = 6 ∷ k ∷ d ∷ x in
-      let B = branch q (place a ts ⊕ place i (after a ts)) nil in
+      let B = subtree q (place a ts ⊕ place i (after a ts)) nil in
       let b : place p1 ts ≡ B = place-alone q m m′ a i o ts al so dt in
       let e′ : drop (j * EVENT-ROW) ev ≡ encode true a ++ (start-tag a ∷ q ∷ w ∷ (encode false i ++ (4 ∷ 0 ∷ 0 ∷ R))) =
       e ∙ ap (λ y. y ++ R) (encode-alone true q m m′ a i o al) ∙ append-assoc (encode true a) (start-tag a ∷ q ∷ w ∷ (encode false i ++ (4 ∷ 0 ∷ 0 ∷ []))) R
@@ -269,7 +269,7 @@ module _ (tk ev : List ℕ) (small : length tk < 4294967296) where
   -- its first event: trivia, and its chain opened
   start-event : (a i : Skeleton) (k : ℕ) (l : Bool) (x : List ℕ) (j : ℕ) (ts : List Token) (s : Filled) → Alone a → Chained a
       → drop (j * EVENT-ROW) ev ≡ encode true a ++ (start-tag a ∷ k ∷ far l i ∷ (encode false i ++ (4 ∷ 0 ∷ 0 ∷ x))) → (getD x 0 0 ≡ 6 → ⊥) → From tk (s .cursor) ts → Room (lead ts) s
-      → Room (branch k (place a (drop-trivia ts) ⊕ place i (after a (drop-trivia ts))) nil) (grow (lead ts) s)
+      → Room (subtree k (place a (drop-trivia ts) ⊕ place i (after a (drop-trivia ts))) nil) (grow (lead ts) s)
       → event-on tk ev j (state s) ≡ state (opened a (inside k (grow (lead ts) s)))
   unfolding size
   start-event a i k l x j ts s al ca e ne fr r0 r1 =
@@ -289,7 +289,7 @@ module _ (tk ev : List ℕ) (small : length tk < 4294967296) where
       let dp : depth a ≤ size (A ⊕ I) = omega (arith, depth-size a us, size-beside A I) in
       ev-start j (state s) t ∙ ap (λ q. start-on ev j q) (trivia-runs tk ts s fr r0)
       ∙ start-runs ev a k w l (encode false i ++ (4 ∷ 0 ∷ 0 ∷ x)) j (grow (lead ts) s) al ca e (λ _. ev-other ev (j + event-count a + suc (suc w)) x e2 ne)
-      (r1 .whole) (omega (arith, r1 .free, rows-length (branch k (A ⊕ I) nil))) (omega (arith, r1 .rows))
+      (r1 .whole) (omega (arith, r1 .free, rows-length (subtree k (A ⊕ I) nil))) (omega (arith, r1 .rows))
 
   sinks-node : (k m m′ : ℕ) (a i o : Skeleton) → Befores a → Sinks i → Sinks o → Sinks (node k m m′ a i o)
   unfolding Befores Sinks Chained event-count encode place
@@ -297,7 +297,7 @@ module _ (tk ev : List ℕ) (small : length tk < 4294967296) where
       let us = drop-trivia ts in
       let vs = after a us in
       let ws = after i vs in
-      let B = branch k (place a us ⊕ place i vs) nil in
+      let B = subtree k (place a us ⊕ place i vs) nil in
       let P = place o ws in
       let n = event-count a in
       let p = event-count i in

@@ -9,7 +9,7 @@ use Rattle.definitions.specs.TokenKind as K
 use Rattle.definitions.specs.Token.{Token, trivia}
 use Rattle.definitions.specs.Prog.{no, yes, Act, silent-at, at-end, immediate, immediate-next, add-expected, bump, bump-name, bump-argument, emit, emit-unclosed, less}
 use Rattle.definitions.specs.Skeleton.{Label, no-label, Skeleton, done, token, node, _⧺_}
-use Rattle.definitions.specs.Run.{State, Out, mark-of, peeked, answer, makes, taken, do-bump, do-name, add, at-depth, do-argument, do-emit, room, do-expected, perform, closed, marked, unlinked, run}
+use Rattle.definitions.specs.Run.{State, Out, mark-of, peeked, answer, makes, taken, do-bump, do-name, add, at-depth, do-argument, do-emit, over-unless, do-expected, perform, closed, marked, unlinked, run}
 use Rattle.definitions.specs.Grammar.{Entry, whole}
 use Rattle.definitions.specs.Call.{run-entry}
 use Rattle.laws.proofs.Trivia.{cond-all}
@@ -46,8 +46,8 @@ argument-chained n s (t ∷ ts) =
     (cond-all made (eqb (t .kind) K.RParen) (depth-chained n _ go tt gone)
     (cond-all made (eqb (t .kind) K.Comma) (depth-chained n _ (λ m. go (suc m)) tt (λ m. gone (suc m))) (gone n))))
 
-room-chained : (b : Bool) (m : ℕ) → Chained (room b m)
-unfolding room Chained
+room-chained : (b : Bool) (m : ℕ) → Chained (over-unless b m)
+unfolding over-unless Chained
 room-chained true m = tt
 room-chained false m = tt
 

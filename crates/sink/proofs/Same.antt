@@ -5,8 +5,8 @@ use mathlib.Core.Path.{_≡_, refl, ap, subst}
 use mathlib.Core.Bool.{Bool, true, false, cond}
 use lib.ListN.{length}
 use lib.Dec.{ltb, eqb}
-use Rattle.tree_rows.specs.Rows.{low, field, links}
-use Rattle.token_rows.specs.Tokens.{at-most, trivia-here}
+use Rattle.sink_rows.specs.Rows.{low, field, links}
+use Rattle.sink_tokens.specs.Tokens.{at-most, trivia-here}
 use Rattle.sink.specs.Machine.{On, on, sink-of, moved, leaf-on, token-on, triviaN, trivia-on, combined-on, start-on, finish-on, event-on, eventsN, root-on, events-on}
 
 -- the cursor and the number of rows are alike

@@ -9,11 +9,11 @@ use lib.Seq.{drop-drop, getD-drop, drop-nil, take-length, take-all, length-take-
 use lib.Dec.{leb, eqb}
 use borrow.Author.Tests.{leb-true, lt-ltb, le-ltb, lt-leb}
 use Rattle.definitions.specs.TokenKind as K
-use Rattle.definitions.specs.Call.{TREE-ROW}
-use Rattle.definitions.specs.Token.{Token, tokens, is-error, seen, trivia, bytes}
-use Rattle.definitions.specs.Place.{Tree, nil, leaf, branch, _⊕_, lead, front, width, count, rows, tree-row}
-use Rattle.tree_rows.specs.Rows.{low}
-use Rattle.token_rows.specs.Tokens.{kind-seen, is-trivia, trivia-here, at-most, widthN}
+use Rattle.definitions.specs.Layout.{TREE-ROW}
+use Rattle.definitions.specs.Token.{Token, tokens-of, is-error, seen, trivia, bytes}
+use Rattle.definitions.specs.Place.{Tree, nil, leaf, subtree, _⊕_, lead, front, width, count, rows, tree-row}
+use Rattle.sink_rows.specs.Rows.{low}
+use Rattle.sink_tokens.specs.Tokens.{kind-seen, is-trivia, trivia-here, at-most, widthN}
 use Rattle.sink.specs.Machine.{on, sink-of, trivia-on, token-on, combined-on, finish-on}
 use Rattle.sink.proofs.Kit.{flags, trivia-more, trivia-done}
 use Rattle.sink.proofs.Trees.{raw, size}
@@ -21,21 +21,21 @@ use Rattle.sink.proofs.Grow.{Filled, state, grow, grow-grow, grow-nil, 
 
 -- ---------------------------------------------------------------- token rows
 
-pub tokens-length : (tk : List ℕ) → length (tokens tk) ≡ length tk / 2
-unfolding tokens
+pub tokens-length : (tk : List ℕ) → length (tokens-of tk) ≡ length tk / 2
+unfolding tokens-of
 tokens-length [] = refl
 tokens-length (k ∷ []) = refl
 tokens-length (k ∷ n ∷ l) = omega (arith, tokens-length l)
 
-pub tokens-drop : (m : ℕ) (tk : List ℕ) → tokens (drop (m * 2) tk) ≡ drop m (tokens tk)
-unfolding tokens
+pub tokens-drop : (m : ℕ) (tk : List ℕ) → tokens-of (drop (m * 2) tk) ≡ drop m (tokens-of tk)
+unfolding tokens-of
 tokens-drop zero tk = refl
-tokens-drop (suc m) [] = ap tokens (drop-nil (suc m * 2)) ∙ sym (drop-nil (suc m))
-tokens-drop (suc m) (k ∷ []) = let e : suc m * 2 ≡ suc (suc (m * 2)) = omega arith in rw e (ap tokens (drop-nil (suc (m * 2))) ∙ sym (drop-nil (suc m)))
+tokens-drop (suc m) [] = ap tokens-of (drop-nil (suc m * 2)) ∙ sym (drop-nil (suc m))
+tokens-drop (suc m) (k ∷ []) = let e : suc m * 2 ≡ suc (suc (m * 2)) = omega arith in rw e (ap tokens-of (drop-nil (suc (m * 2))) ∙ sym (drop-nil (suc m)))
 tokens-drop (suc m) (k ∷ n ∷ l) = let e : suc m * 2 ≡ suc (suc (m * 2)) = omega arith in rw e (tokens-drop m l)
 
-first-kind : (l : List ℕ) (t : Token) (ts : List Token) → tokens l ≡ t ∷ ts → getD l 0 0 ≡ t .kind
-unfolding tokens
+first-kind : (l : List ℕ) (t : Token) (ts : List Token) → tokens-of l ≡ t ∷ ts → getD l 0 0 ≡ t .kind
+unfolding tokens-of
 first-kind [] t ts e = absurd (let z : _≡_ {A = ℕ} 0 1 = cc in omega arith)
 first-kind (k ∷ []) t ts e = absurd (let z : _≡_ {A = ℕ} 0 1 = cc in omega arith)
 first-kind (k ∷ n ∷ l) t ts e = ap (λ x. kind-of x) e
@@ -44,8 +44,8 @@ first-kind (k ∷ n ∷ l) t ts e = ap (λ x. kind-of x) e
     kind-of [] = 0
     kind-of (x ∷ xs) = x .kind
 
-first-len : (l : List ℕ) (t : Token) (ts : List Token) → tokens l ≡ t ∷ ts → getD l 1 0 ≡ t .len
-unfolding tokens
+first-len : (l : List ℕ) (t : Token) (ts : List Token) → tokens-of l ≡ t ∷ ts → getD l 1 0 ≡ t .len
+unfolding tokens-of
 first-len [] t ts e = absurd (let z : _≡_ {A = ℕ} 0 1 = cc in omega arith)
 first-len (k ∷ []) t ts e = absurd (let z : _≡_ {A = ℕ} 0 1 = cc in omega arith)
 first-len (k ∷ n ∷ l) t ts e = ap (λ x. len-of x) e
@@ -57,10 +57,10 @@ first-len (k ∷ n ∷ l) t ts e = ap (λ x. len-of x) e
 module _ (tk : List ℕ) where
   -- these are the tokens from an index on
   abbrev pub From : ℕ → List Token → Type 0
-  From at ts = drop at (tokens tk) ≡ ts
+  From at ts = drop at (tokens-of tk) ≡ ts
 
   pub from-left : (at : ℕ) (ts : List Token) → From at ts → length tk / 2 - at ≡ length ts
-  from-left at ts e = omega (arith, length-drop at (tokens tk), ap length e, tokens-length tk)
+  from-left at ts e = omega (arith, length-drop at (tokens-of tk), ap length e, tokens-length tk)
 
   pub from-inside : (at : ℕ) (t : Token) (ts : List Token) → From at (t ∷ ts) → at < length tk / 2
   from-inside at t ts e = omega (arith, from-left at (t ∷ ts) e)
@@ -75,7 +75,7 @@ module _ (tk : List ℕ) where
   from-len at t ts e = sym (getD-drop (at * 2) tk 1 0) ∙ first-len (drop (at * 2) tk) t ts (tokens-drop at tk ∙ e)
 
   pub from-past : (at n : ℕ) (ts us : List Token) → From at ts → drop n ts ≡ us → From (at + n) us
-  from-past at n ts us e h = sym (drop-drop n at (tokens tk)) ∙ ap (λ l. drop n l) e ∙ h
+  from-past at n ts us e h = sym (drop-drop n at (tokens-of tk)) ∙ ap (λ l. drop n l) e ∙ h
 
   pub from-grown : (f : Tree) (s : Filled) (ts us : List Token) → From (s .cursor) ts → drop (raw f) ts ≡ us → From (grow f s .cursor) us
   unfolding grow
@@ -206,7 +206,7 @@ inside k s =
     }
 
 -- AN OPEN ROW AND THE ROWS INSIDE IT BECOME A CLOSED ROW AND THE ROWS INSIDE IT
-pub finish-runs : (k : ℕ) (f : Tree) (s : Filled) → Room (branch k f nil) s → finish-on (state (grow f (inside k s))) ≡ state (grow (branch k f nil) s)
+pub finish-runs : (k : ℕ) (f : Tree) (s : Filled) → Room (subtree k f nil) s → finish-on (state (grow f (inside k s))) ≡ state (grow (subtree k f nil) s)
 unfolding state grow inside finish-on rows width count raw size
 finish-runs k f s r =
     let T = s .written in

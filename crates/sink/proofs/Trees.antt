@@ -7,10 +7,10 @@ use mathlib.Core.Bool.{Bool, true, false, cond}
 use lib.ListN.{length, take, drop, length-append}
 use lib.Seq.{drop-at}
 use Rattle.definitions.specs.TokenKind as K
-use Rattle.definitions.specs.Call.{TREE-ROW}
+use Rattle.definitions.specs.Layout.{TREE-ROW}
 use Rattle.definitions.specs.Token.{Token, trivia, drop-trivia, past, bytes}
 use Rattle.definitions.specs.Skeleton.{Skeleton, done, token, name, node, ignored, report, over}
-use Rattle.definitions.specs.Place.{Tree, nil, leaf, branch, _⊕_, lead, front, after, place, root, width, count, rows}
+use Rattle.definitions.specs.Place.{Tree, nil, leaf, subtree, _⊕_, lead, front, after, place, root, width, count, rows}
 use Rattle.laws.proofs.Skeleton.{bytes-append}
 use Rattle.laws.proofs.Tree.{rows-beside, width-beside, leaves, width-leaves}
 use Rattle.laws.proofs.Placed.{lead-whole, place-whole}
@@ -20,31 +20,31 @@ use Rattle.sink.proofs.Encode.{event-count}
 unfoldable pub raw : Tree → ℕ
 raw nil = 0
 raw (leaf k ts f) = length ts + raw f
-raw (branch k c f) = raw c + raw f
+raw (subtree k c f) = raw c + raw f
 
 -- its rows
 unfoldable pub size : Tree → ℕ
 size nil = 0
 size (leaf k ts f) = suc (size f)
-size (branch k c f) = suc (size c + size f)
+size (subtree k c f) = suc (size c + size f)
 
 pub raw-beside : (f g : Tree) → raw (f ⊕ g) ≡ raw f + raw g
 unfolding raw _⊕_
 raw-beside nil g = omega arith
 raw-beside (leaf k ts f) g = omega (arith, raw-beside f g)
-raw-beside (branch k c f) g = omega (arith, raw-beside f g)
+raw-beside (subtree k c f) g = omega (arith, raw-beside f g)
 
 pub size-beside : (f g : Tree) → size (f ⊕ g) ≡ size f + size g
 unfolding size _⊕_
 size-beside nil g = omega arith
 size-beside (leaf k ts f) g = omega (arith, size-beside f g)
-size-beside (branch k c f) g = omega (arith, size-beside f g)
+size-beside (subtree k c f) g = omega (arith, size-beside f g)
 
 pub rows-length : (f : Tree) → length (rows f) ≡ size f * TREE-ROW
 unfolding rows size
 rows-length nil = refl
 rows-length (leaf k ts f) = omega (arith, rows-length f)
-rows-length (branch k c f) = omega (arith, rows-length c, rows-length f, length-append (rows c) (rows f))
+rows-length (subtree k c f) = omega (arith, rows-length c, rows-length f, length-append (rows c) (rows f))
 
 pub rows-add : (f g : Tree) → length (rows (f ⊕ g)) ≡ length (rows f) + length (rows g)
 rows-add f g = ap length (rows-beside f g) ∙ length-append (rows f) (rows g)
@@ -53,7 +53,7 @@ pub count-size : (f : Tree) → count f ≤ size f
 unfolding count size
 count-size nil = omega arith
 count-size (leaf k ts f) = omega (arith, count-size f)
-count-size (branch k c f) = omega (arith, count-size f)
+count-size (subtree k c f) = omega (arith, count-size f)
 
 -- ---------------------------------------------------------------- the tokens under what is placed
 
@@ -61,7 +61,7 @@ raw-leaves : (f : Tree) → length (leaves f) ≡ raw f
 unfolding leaves raw
 raw-leaves nil = refl
 raw-leaves (leaf k ts f) = length-append ts (leaves f) ∙ ap (λ n. length ts + n) (raw-leaves f)
-raw-leaves (branch k c f) = omega (arith, length-append (leaves c) (leaves f), raw-leaves c, raw-leaves f)
+raw-leaves (subtree k c f) = omega (arith, length-append (leaves c) (leaves f), raw-leaves c, raw-leaves f)
 
 raw-covers : (f : Tree) (us ts : List Token) → leaves f ++ us ≡ ts → drop (raw f) ts ≡ us
 raw-covers f us ts e = ap (λ l. drop (raw f) l) (sym e) ∙ drop-at (leaves f) us (raw f) (raw-leaves f)
@@ -116,7 +116,7 @@ place-size (name r m o) ts =
     let us = drop-trivia ts in let n = length r in let F = leaf K.Name (take n us) nil in let P = place o (drop n us) in
     omega (arith, lead-size ts, place-size o (drop n us), size-beside (lead ts) (F ⊕ P), size-beside F P, raw-beside (lead ts) (F ⊕ P), raw-beside F P)
 place-size (node k m m′ a i o) ts =
-    let us = drop-trivia ts in let vs = after a us in let A = place a us in let I = place i vs in let F = branch k (A ⊕ I) nil in let P = place o (after i vs) in
+    let us = drop-trivia ts in let vs = after a us in let A = place a us in let I = place i vs in let F = subtree k (A ⊕ I) nil in let P = place o (after i vs) in
     omega (
       arith,
       lead-size ts,

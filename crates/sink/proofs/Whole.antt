@@ -7,11 +7,11 @@ use mathlib.Core.Bool.{Bool, true, false, cond, _&&_}
 use lib.ListN.{length, drop, replicate, length-replicate}
 use lib.Dec.{leb}
 use borrow.Author.Tests.{leb-true}
-use Rattle.definitions.specs.Call.{TREE-ROW, EVENT-ROW, ERROR-ROW}
-use Rattle.definitions.specs.Token.{Token, tokens, bytes}
+use Rattle.definitions.specs.Layout.{TREE-ROW, EVENT-ROW, ERROR-ROW}
+use Rattle.definitions.specs.Token.{Token, tokens-of, bytes}
 use Rattle.definitions.specs.Skeleton.{Skeleton}
 use Rattle.definitions.specs.Refusal.{no-tree-room, number-of}
-use Rattle.definitions.specs.Place.{nil, branch, _⊕_, lead, after, place, root, count, rows, tree-row, lexical-errors}
+use Rattle.definitions.specs.Place.{nil, subtree, _⊕_, lead, after, place, root, count, rows, tree-row, lexical-errors}
 use Rattle.laws.specs.Lossless.{errors-in}
 use Rattle.laws.proofs.Trivia.{and-left, and-right}
 use Rattle.sink.specs.declared.Sunk.{Sunk}
@@ -19,7 +19,7 @@ use Rattle.sink.specs.declared.Sunk.the-variants.{Written, NoRoom}
 use Rattle.sink.specs.Answer.{number}
 use Rattle.machine.specs.Encode.{encode}
 use Rattle.sink.specs.Encode.{Chained}
-use Rattle.token_rows.specs.Tokens.{Log, log, errors-on}
+use Rattle.sink_tokens.specs.Tokens.{Log, log, errors-on}
 use Rattle.sink.specs.Machine.{On, on, sink-of, trivia-on, finish-on, eventsN, root-on, events-on, Left, left, answered, finish-all}
 use Rattle.sink.specs.Promise.{Small, enough, Placed, Promise}
 use Rattle.sink.proofs.Encode.{event-count, events-length, encode-count}
@@ -65,32 +65,32 @@ root-rows : (k : ℕ) (o : Skeleton) (ts : List Token) → 1 ≤ size (root k o 
 unfolding root size
 root-rows k o ts = omega arith
 
-from-begin : (k : ℕ) (t tk : List ℕ) → From tk (inside k (begin t) .cursor) (tokens tk)
+from-begin : (k : ℕ) (t tk : List ℕ) → From tk (inside k (begin t) .cursor) (tokens-of tk)
 unfolding inside
 from-begin k t tk = refl
 
 module _ (k : ℕ) (o : Skeleton) (tk : List ℕ) (c : Chained o) (small : Small o tk) where
-  room : (t : List ℕ) → length (rows (root k o (tokens tk))) ≤ length t → Room (root k o (tokens tk)) (begin t)
+  room : (t : List ℕ) → length (rows (root k o (tokens-of tk))) ≤ length t → Room (root k o (tokens-of tk)) (begin t)
   room t h =
       record {
         free = h;
         whole = refl;
-        byte = omega (arith, small .bytes, root-width k o (tokens tk));
-        rows = omega (arith, small .rows, root-size k o (tokens tk), events-length false o);
-        children = omega (arith, root-count k o (tokens tk));
+        byte = omega (arith, small .bytes, root-width k o (tokens-of tk));
+        rows = omega (arith, small .rows, root-size k o (tokens-of tk), events-length false o);
+        children = omega (arith, root-count k o (tokens-of tk));
       }
 
   -- where the tree's rows fit
-  tree-written : (t : List ℕ) → length (rows (root k o (tokens tk))) ≤ length t → events-on k tk (encode false o) t ≡ state (grow (root k o (tokens tk)) (begin t))
+  tree-written : (t : List ℕ) → length (rows (root k o (tokens-of tk))) ≤ length t → events-on k tk (encode false o) t ≡ state (grow (root k o (tokens-of tk)) (begin t))
   unfolding events-on root Sinks Runs
   tree-written t h =
       let ev = encode false o in
-      let ts = tokens tk in
+      let ts = tokens-of tk in
       let us = after o ts in
       let P = place o ts in
       let q = inside k (begin t) in
       let n = event-count o in
-      let rw0 : Room (branch k (P ⊕ lead us) nil) (begin t) = room t h in
+      let rw0 : Room (subtree k (P ⊕ lead us) nil) (begin t) = room t h in
       let r : Room (P ⊕ lead us) q = room-inside k (P ⊕ lead us) (begin t) rw0 in
       let h4 : TREE-ROW ≤ length t = omega (arith, rows-length (root k o ts), root-rows k o ts) in
       let fr : From tk (q .cursor) ts = from-begin k t tk in
@@ -105,56 +105,56 @@ module _ (k : ℕ) (o : Skeleton) (tk : List ℕ) (c : Chained o) (small : Small
       ∙ finish-runs k (P ⊕ lead us) (begin t) rw0
 
   -- how many rows there are, whether they fit or not
-  tree-count : (t : List ℕ) → sink-of (events-on k tk (encode false o) t) .rows ≡ size (root k o (tokens tk))
+  tree-count : (t : List ℕ) → sink-of (events-on k tk (encode false o) t) .rows ≡ size (root k o (tokens-of tk))
   unfolding state grow
   tree-count t =
-      let R = rows (root k o (tokens tk)) in
-      let z : 0 + size (root k o (tokens tk)) ≡ size (root k o (tokens tk)) = omega arith in
+      let R = rows (root k o (tokens-of tk)) in
+      let z : 0 + size (root k o (tokens-of tk)) ≡ size (root k o (tokens-of tk)) = omega arith in
       let zeros : List ℕ = replicate (length R) 0 in
       let n : length R ≤ length zeros = omega (arith, length-replicate {A = ℕ} (length R) 0) in
       rows-alike tk k (encode false o) t zeros ∙ ap (λ x. sink-of x .rows) (tree-written zeros n) ∙ z
 
-  count-is : size (root k o (tokens tk)) ≡ length (rows (root k o (tokens tk))) / TREE-ROW
-  count-is = omega (arith, rows-length (root k o (tokens tk)))
+  count-is : size (root k o (tokens-of tk)) ≡ length (rows (root k o (tokens-of tk))) / TREE-ROW
+  count-is = omega (arith, rows-length (root k o (tokens-of tk)))
 
-  found-is : errors-in (tokens tk) ≡ length (lexical-errors 0 (tokens tk)) / ERROR-ROW
-  found-is = omega (arith, errors-length 0 (tokens tk))
+  found-is : errors-in (tokens-of tk) ≡ length (lexical-errors 0 (tokens-of tk)) / ERROR-ROW
+  found-is = omega (arith, errors-length 0 (tokens-of tk))
 
   -- the answer: whether both fit
   answer-is : (t e : List ℕ) → answer-of (finish-all k tk (encode false o) t e)
-      ≡ cond (enough (rows (root k o (tokens tk))) (lexical-errors 0 (tokens tk)) t e) (Written (size (root k o (tokens tk))) (errors-in (tokens tk))) NoRoom
+      ≡ cond (enough (rows (root k o (tokens-of tk))) (lexical-errors 0 (tokens-of tk)) t e) (Written (size (root k o (tokens-of tk))) (errors-in (tokens-of tk))) NoRoom
   unfolding finish-all answered
   answer-is t e =
-      answered-is (length t) (length e) (events-on k tk (encode false o) t) (errors-on tk e) (size (root k o (tokens tk))) (errors-in (tokens tk)) (tree-count t) (errors-count tk e (small .numbers))
-      ∙ rw (sym (rows-length (root k o (tokens tk))), sym (errors-length 0 (tokens tk)))
+      answered-is (length t) (length e) (events-on k tk (encode false o) t) (errors-on tk e) (size (root k o (tokens-of tk))) (errors-in (tokens-of tk)) (tree-count t) (errors-count tk e (small .numbers))
+      ∙ rw (sym (rows-length (root k o (tokens-of tk))), sym (errors-length 0 (tokens-of tk)))
 
   -- where both fit
-  whole-written : (t e : List ℕ) → length (rows (root k o (tokens tk))) ≤ length t → length (lexical-errors 0 (tokens tk)) ≤ length e
+  whole-written : (t e : List ℕ) → length (rows (root k o (tokens-of tk))) ≤ length t → length (lexical-errors 0 (tokens-of tk)) ≤ length e
       → finish-all k tk (encode false o) t e
-      ≡ answered (length t) (length e) (state (grow (root k o (tokens tk)) (begin t))) (log (errors-in (tokens tk)) (lexical-errors 0 (tokens tk) ++ drop (length (lexical-errors 0 (tokens tk))) e))
+      ≡ answered (length t) (length e) (state (grow (root k o (tokens-of tk)) (begin t))) (log (errors-in (tokens-of tk)) (lexical-errors 0 (tokens-of tk) ++ drop (length (lexical-errors 0 (tokens-of tk))) e))
   unfolding finish-all
   whole-written t e p q =
       ap (λ x. answered (length t) (length e) x (errors-on tk e)) (tree-written t p)
-      ∙ ap (λ y. answered (length t) (length e) (state (grow (root k o (tokens tk)) (begin t))) y) (errors-written tk e (small .numbers) (small .bytes) q)
+      ∙ ap (λ y. answered (length t) (length e) (state (grow (root k o (tokens-of tk)) (begin t))) y) (errors-written tk e (small .numbers) (small .bytes) q)
 
   placed : (t e : List ℕ) (a : Sunk) (u f : List ℕ) → left a u f ≡ finish-all k tk (encode false o) t e → Placed k o tk t e a u f
   unfolding answered state grow
   placed t e a u f g =
-      let R = rows (root k o (tokens tk)) in
-      let L = lexical-errors 0 (tokens tk) in
-      let says : a ≡ cond (enough R L t e) (Written (size (root k o (tokens tk))) (errors-in (tokens tk))) NoRoom = ap answer-of g ∙ answer-is t e in
+      let R = rows (root k o (tokens-of tk)) in
+      let L = lexical-errors 0 (tokens-of tk) in
+      let says : a ≡ cond (enough R L t e) (Written (size (root k o (tokens-of tk))) (errors-in (tokens-of tk))) NoRoom = ap answer-of g ∙ answer-is t e in
       record {
         fits =
             λ h.
             let p : length R ≤ length t = leb-true (length R) (length t) (and-left (leb (length R) (length t)) (leb (length L) (length e)) h) in
             let q : length L ≤ length e = leb-true (length L) (length e) (and-right (leb (length R) (length t)) (leb (length L) (length e)) h) in
             record {
-              counts = says ∙ ap (λ b. cond b (Written (size (root k o (tokens tk))) (errors-in (tokens tk))) NoRoom) h ∙ rw (count-is, found-is);
+              counts = says ∙ ap (λ b. cond b (Written (size (root k o (tokens-of tk))) (errors-in (tokens-of tk))) NoRoom) h ∙ rw (count-is, found-is);
               rows = ap trees-of (g ∙ whole-written t e p q);
               lexical = ap errors-of (g ∙ whole-written t e p q);
             };
-        lacks = λ h. says ∙ ap (λ b. cond b (Written (size (root k o (tokens tk))) (errors-in (tokens tk))) NoRoom) h;
-        refusal = ap number says ∙ number-of-cond (enough R L t e) (size (root k o (tokens tk))) (errors-in (tokens tk));
+        lacks = λ h. says ∙ ap (λ b. cond b (Written (size (root k o (tokens-of tk))) (errors-in (tokens-of tk))) NoRoom) h;
+        refusal = ap number says ∙ number-of-cond (enough R L t e) (size (root k o (tokens-of tk))) (errors-in (tokens-of tk));
       }
 
 -- THE MACHINE KEEPS THE PROMISE

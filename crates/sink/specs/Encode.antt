@@ -4,32 +4,9 @@ use mathlib.Core.Path.{_≡_}
 use mathlib.Core.Bool.{cond}
 use mathlib.Core.List.{List, [], _∷_}
 use lib.Dec.{eqb}
+use Rattle.definitions.specs.Layout.{START-NODE, ADD-TOKEN, ADD-COMBINED-TOKEN, FINISH-NODE, ERROR, LINKED-START-NODE}
 use Rattle.definitions.specs.Skeleton.{Skeleton, done, token, name, node, ignored, report, over}
 use Rattle.definitions.specs.Event.{Event, StartNode, AddToken, AddCombinedToken, FinishNode, Placeholder, Error}
-
-abbrev pub PLACEHOLDER : ℕ
-PLACEHOLDER = 0
-
--- a kind, and the distance to the event of the marker that was made to precede it, or 0
-abbrev pub START-NODE : ℕ
-START-NODE = 1
-
-abbrev pub ADD-TOKEN : ℕ
-ADD-TOKEN = 2
-
--- the number of raw tokens
-abbrev pub ADD-COMBINED-TOKEN : ℕ
-ADD-COMBINED-TOKEN = 3
-
-abbrev pub FINISH-NODE : ℕ
-FINISH-NODE = 4
-
-abbrev pub ERROR : ℕ
-ERROR = 5
-
--- as START-NODE, of a marker that was made by `precede`: a link leads to it, and the start that the link comes from opens it
-abbrev pub LINKED-START-NODE : ℕ
-LINKED-START-NODE = 6
 
 -- an event row before others
 abbrev pub event-row : ℕ → ℕ → ℕ → List ℕ → List ℕ

@@ -5,12 +5,11 @@ use mathlib.Core.Bool.{cond, _&&_}
 use mathlib.Core.List.{List, []}
 use lib.ListN.{length, getD}
 use lib.Dec.{ltb, leb, eqb}
-use Rattle.definitions.specs.Call.{TREE-ROW, EVENT-ROW, ERROR-ROW}
+use Rattle.definitions.specs.Layout.{TREE-ROW, EVENT-ROW, ERROR-ROW, START-NODE, ADD-TOKEN, ADD-COMBINED-TOKEN, FINISH-NODE}
 use Rattle.definitions.specs.Place.{tree-row}
 use Rattle.definitions.specs.TokenKind as K
-use Rattle.tree_rows.specs.Rows.{low, put, number, field, links, open-rows}
-use Rattle.token_rows.specs.Tokens.{kind-seen, trivia-here, at-most, widthN, Log, log, errors-on}
-use Rattle.sink.specs.Encode.{START-NODE, ADD-TOKEN, ADD-COMBINED-TOKEN, FINISH-NODE}
+use Rattle.sink_rows.specs.Rows.{low, put, number, field, links, open-rows}
+use Rattle.sink_tokens.specs.Tokens.{kind-seen, trivia-here, at-most, widthN, Log, log, errors-on}
 use Rattle.sink.specs.declared.Sink.{Sink}
 use Rattle.sink.specs.declared.Sunk.{Sunk}
 use Rattle.sink.specs.declared.Sunk.the-variants.{Written, NoRoom}

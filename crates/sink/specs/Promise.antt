@@ -6,8 +6,8 @@ use mathlib.Core.Bool.{Bool, true, false, cond, _&&_}
 use mathlib.Core.List.{List, _++_}
 use lib.Dec.{leb}
 use lib.ListN.{length, drop}
-use Rattle.definitions.specs.Call.{TREE-ROW, ERROR-ROW}
-use Rattle.definitions.specs.Token.{Token, tokens, bytes}
+use Rattle.definitions.specs.Layout.{TREE-ROW, ERROR-ROW}
+use Rattle.definitions.specs.Token.{Token, tokens-of, bytes}
 use Rattle.definitions.specs.Skeleton.{Skeleton}
 use Rattle.definitions.specs.Event.{events}
 use Rattle.definitions.specs.Refusal.{no-tree-room, number-of}
@@ -22,8 +22,8 @@ use Rattle.sink.specs.Encode.{Chained}
 -- events and one
 pub record Small (o : Skeleton) (tk : List ℕ) : Type 0 where
   pub numbers : length tk < 4294967296
-  pub bytes : bytes (tokens tk) < 4294967296
-  pub rows : suc (length (tokens tk) + length (events false o)) < 4294967296
+  pub bytes : bytes (tokens-of tk) < 4294967296
+  pub rows : suc (length (tokens-of tk) + length (events false o)) < 4294967296
 
 -- whether both buffers are long enough: cause 8
 abbrev pub enough : List ℕ → List ℕ → List ℕ → List ℕ → Bool
@@ -37,11 +37,11 @@ pub record Written-out (r l trees errors : List ℕ) (answer : Sunk) (trees′ e
 
 -- k: the root's kind. o, tk: the skeleton, and the token rows that it was read from.
 pub record Placed (k : ℕ) (o : Skeleton) (tk trees errors : List ℕ) (answer : Sunk) (trees′ errors′ : List ℕ) : Type 0 where
-  pub fits : enough (rows (root k o (tokens tk))) (lexical-errors 0 (tokens tk)) trees errors ≡ true
-      → Written-out (rows (root k o (tokens tk))) (lexical-errors 0 (tokens tk)) trees errors answer trees′ errors′
-  pub lacks : enough (rows (root k o (tokens tk))) (lexical-errors 0 (tokens tk)) trees errors ≡ false → answer ≡ NoRoom
+  pub fits : enough (rows (root k o (tokens-of tk))) (lexical-errors 0 (tokens-of tk)) trees errors ≡ true
+      → Written-out (rows (root k o (tokens-of tk))) (lexical-errors 0 (tokens-of tk)) trees errors answer trees′ errors′
+  pub lacks : enough (rows (root k o (tokens-of tk))) (lexical-errors 0 (tokens-of tk)) trees errors ≡ false → answer ≡ NoRoom
   -- in document 01's numbers: 0, or refusal 8
-  pub refusal : number answer ≡ cond (enough (rows (root k o (tokens tk))) (lexical-errors 0 (tokens tk)) trees errors) 0 (number-of no-tree-room)
+  pub refusal : number answer ≡ cond (enough (rows (root k o (tokens-of tk))) (lexical-errors 0 (tokens-of tk)) trees errors) 0 (number-of no-tree-room)
 
 -- for every skeleton that the events encode
 abbrev pub Promise : ℕ → List ℕ → List ℕ → List ℕ → List ℕ → Sunk → List ℕ → List ℕ → Type 0

@@ -1,10 +1,10 @@
 // sink.rs: the `Sink` turns events and tokens into tree rows and lexical errors. There is no heap and no stack beside the
 // rows: while a node is open, its row holds what the sink returns to when the node is finished.
-use token_rows::lexical;
-use token_rows::source;
-use tree_rows::event;
-use tree_rows::num;
-use tree_rows::row;
+use sink_tokens::lexical;
+use sink_tokens::source;
+use sink_rows::event;
+use sink_rows::num;
+use sink_rows::row;
 ghost use mathlib.Core.Path.{_≡_};
 ghost use Prim.Native.Nat.{ℕ, _-_, _/_, _≤_};
 ghost use lib.ListN.{length};

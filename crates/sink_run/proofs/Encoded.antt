@@ -3,7 +3,7 @@ use Prim.Native.Nat.{ℕ}
 use mathlib.Core.Path.{_≡_, refl}
 use mathlib.Core.Bool.{false}
 use mathlib.Core.List.{List, [], _∷_}
-use Rattle.definitions.specs.Token.{tokens}
+use Rattle.definitions.specs.Token.{tokens-of}
 use Rattle.definitions.specs.Grammar.{Entry, SourceFile, Cells}
 use Rattle.definitions.specs.Call.{run-entry}
 use Rattle.machine.specs.Encode.{encode}
@@ -56,9 +56,9 @@ readings =
     ∷ []
 
 pub encoded : List Reading → List (List ℕ)
-unfolding encode run-entry tokens
+unfolding encode run-entry tokens-of
 encoded [] = []
-encoded (r ∷ rs) = encode false (run-entry (r .entry) (tokens (r .tokens))) ∷ encoded rs
+encoded (r ∷ rs) = encode false (run-entry (r .entry) (tokens-of (r .tokens))) ∷ encoded rs
 
 pub given : List Reading → List (List ℕ)
 given [] = []

@@ -9,7 +9,7 @@ use lib.Seq.{drop-nil}
 use Rattle.definitions.specs.Token.{Token, trivia, drop-trivia, past}
 use Rattle.laws.proofs.Trivia.{cond-all, drop-trivia-length}
 use Rattle.machine.specs.Machine.{Machine, passed, skip, peek}
-use Rattle.rows.specs.Tokens.{kind-of}
+use Rattle.token_rows.specs.Tokens.{kind-of}
 use Rattle.parser.specs.View.{take-first}
 use Rattle.source.specs.Place.{onto, after-trivia, after-token}
 

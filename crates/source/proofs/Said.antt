@@ -15,9 +15,9 @@ use denote.Ref.{RefT, now}
 use denote.Triple.Statement.{Contract}
 use denote.Triple.Spec.{tripleOf}
 use denote.Triple.Clauses.{ensured, lasts}
-use Rattle.definitions.specs.Token.{tokens, drop-trivia}
+use Rattle.definitions.specs.Token.{tokens-of, drop-trivia}
 use Rattle.lexer.specs.declared.TokenIndex.{TokenIndex}
-use Rattle.rows.specs.Tokens.{kind-of}
+use Rattle.token_rows.specs.Tokens.{kind-of}
 use Rattle.source.specs.Place.{after-trivia, after-token}
 use Rattle.source.specs.declared.Source.{Source}
 use Rattle.source.proofs.Moves.{sees}
@@ -30,26 +30,26 @@ abbrev pub Made : RefT (List ℕ) → TokenIndex → Source → Type 0
 Made s i r = (r .rows ≡ s) × (r .cursor ≡ i)
 
 abbrev pub Peeked : Source → Source → Type 0
-Peeked r p = (p .rows ≡ r .rows) × (p .cursor .0 ≡ after-trivia (tokens (now (r .rows))) (r .cursor .0))
+Peeked r p = (p .rows ≡ r .rows) × (p .cursor .0 ≡ after-trivia (tokens-of (now (r .rows))) (r .cursor .0))
 
 abbrev pub Seen : Source → ℕ → Type 0
-Seen p k = k ≡ kind-of (drop (p .cursor .0) (tokens (now (p .rows))))
+Seen p k = k ≡ kind-of (drop (p .cursor .0) (tokens-of (now (p .rows))))
 
 abbrev pub Taken : Source → Source → Type 0
-Taken r n = (n .rows ≡ r .rows) × (n .cursor .0 ≡ after-token (tokens (now (r .rows))) (r .cursor .0))
+Taken r n = (n .rows ≡ r .rows) × (n .cursor .0 ≡ after-token (tokens-of (now (r .rows))) (r .cursor .0))
 
 -- the same of a view that was made of rows and a place
-pub seen-here : (s : RefT (List ℕ)) (i : TokenIndex) (r : Source) (k : ℕ) → Made s i r → Seen r k → k ≡ kind-of (drop (i .0) (tokens (now s)))
-seen-here s i r k e f = f ∙ ap (λ (x : RefT (List ℕ)). kind-of (drop (r .cursor .0) (tokens (now x)))) (e .0) ∙ ap (λ (x : TokenIndex). kind-of (drop (x .0) (tokens (now s)))) (e .1)
+pub seen-here : (s : RefT (List ℕ)) (i : TokenIndex) (r : Source) (k : ℕ) → Made s i r → Seen r k → k ≡ kind-of (drop (i .0) (tokens-of (now s)))
+seen-here s i r k e f = f ∙ ap (λ (x : RefT (List ℕ)). kind-of (drop (r .cursor .0) (tokens-of (now x)))) (e .0) ∙ ap (λ (x : TokenIndex). kind-of (drop (x .0) (tokens-of (now s)))) (e .1)
 
-pub seen-past : (s : RefT (List ℕ)) (i : TokenIndex) (r p : Source) (k : ℕ) → Made s i r → Peeked r p → Seen p k → k ≡ kind-of (drop-trivia (drop (i .0) (tokens (now s))))
+pub seen-past : (s : RefT (List ℕ)) (i : TokenIndex) (r p : Source) (k : ℕ) → Made s i r → Peeked r p → Seen p k → k ≡ kind-of (drop-trivia (drop (i .0) (tokens-of (now s))))
 seen-past s i r p k e f g =
-    sees (tokens (now s)) (i .0) (p .cursor .0) k
-    (f .1 ∙ ap (λ (x : RefT (List ℕ)). after-trivia (tokens (now x)) (r .cursor .0)) (e .0) ∙ ap (λ (x : TokenIndex). after-trivia (tokens (now s)) (x .0)) (e .1))
-    (g ∙ ap (λ (x : RefT (List ℕ)). kind-of (drop (p .cursor .0) (tokens (now x)))) (f .0 ∙ e .0))
+    sees (tokens-of (now s)) (i .0) (p .cursor .0) k
+    (f .1 ∙ ap (λ (x : RefT (List ℕ)). after-trivia (tokens-of (now x)) (r .cursor .0)) (e .0) ∙ ap (λ (x : TokenIndex). after-trivia (tokens-of (now s)) (x .0)) (e .1))
+    (g ∙ ap (λ (x : RefT (List ℕ)). kind-of (drop (p .cursor .0) (tokens-of (now x)))) (f .0 ∙ e .0))
 
-pub taken-from : (s : RefT (List ℕ)) (i : TokenIndex) (r n : Source) → Made s i r → Taken r n → n .cursor .0 ≡ after-token (tokens (now s)) (i .0)
-taken-from s i r n e f = f .1 ∙ ap (λ (x : RefT (List ℕ)). after-token (tokens (now x)) (r .cursor .0)) (e .0) ∙ ap (λ (x : TokenIndex). after-token (tokens (now s)) (x .0)) (e .1)
+pub taken-from : (s : RefT (List ℕ)) (i : TokenIndex) (r n : Source) → Made s i r → Taken r n → n .cursor .0 ≡ after-token (tokens-of (now s)) (i .0)
+taken-from s i r n e f = f .1 ∙ ap (λ (x : RefT (List ℕ)). after-token (tokens-of (now x)) (r .cursor .0)) (e .0) ∙ ap (λ (x : TokenIndex). after-token (tokens-of (now s)) (x .0)) (e .1)
 
 module _ {M : Type 1} (𝓤 : URA M) (H : Heap 𝓤) (A : Atoms 𝓤) (mem : Memory → SProp 𝓤) (run : Routine → Fun 𝓤) where
   abbrev pub New : Contract 𝓤

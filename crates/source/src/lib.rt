@@ -7,11 +7,11 @@ pub mod place;
 use crate::place::past_token;
 use crate::place::past_trivia;
 use lexer::TokenIndex;
-use rows::token::kind_at;
+use token_rows::token::kind_at;
 ghost use mathlib.Core.Path.{_≡_};
 ghost use lib.ListN.{drop};
-ghost use Rattle.definitions.specs.Token.{tokens, drop-trivia};
-ghost use Rattle.rows.specs.Tokens.{kind-of};
+ghost use Rattle.definitions.specs.Token.{tokens-of, drop-trivia};
+ghost use Rattle.token_rows.specs.Tokens.{kind-of};
 ghost use Rattle.source.specs.Place.{after-trivia, after-token};
 
 pub struct Source<'a> {
@@ -29,7 +29,7 @@ impl<'a> Source<'a> {
 
     // A peek moves the cursor past trivia: the view after it.
     pub fn peek(self) -> Source<'a>
-        ensures { λ r. ⌜ (r .rows ≡ self .entry .rows) × (r .cursor .0 ≡ after-trivia (tokens (now (self .entry .rows))) (self .entry .cursor .0)) ⌝ }
+        ensures { λ r. ⌜ (r .rows ≡ self .entry .rows) × (r .cursor .0 ≡ after-trivia (tokens-of (now (self .entry .rows))) (self .entry .cursor .0)) ⌝ }
     {
         let rows = self.rows;
         let cursor = past_trivia(rows, self.cursor);
@@ -38,14 +38,14 @@ impl<'a> Source<'a> {
 
     // The kind at the cursor, trivia or not, and 64 at the end. Nothing moves.
     pub fn peek_kind_immediate(self) -> u8
-        ensures { λ r. ⌜ r ≡ kind-of (drop (self .entry .cursor .0) (tokens (now (self .entry .rows)))) ⌝ }
+        ensures { λ r. ⌜ r ≡ kind-of (drop (self .entry .cursor .0) (tokens-of (now (self .entry .rows)))) ⌝ }
     {
         kind_at(self.rows, self.cursor.0)
     }
 
     // The view past the first token that is no trivia.
     pub fn next_token(self) -> Source<'a>
-        ensures { λ r. ⌜ (r .rows ≡ self .entry .rows) × (r .cursor .0 ≡ after-token (tokens (now (self .entry .rows))) (self .entry .cursor .0)) ⌝ }
+        ensures { λ r. ⌜ (r .rows ≡ self .entry .rows) × (r .cursor .0 ≡ after-token (tokens-of (now (self .entry .rows))) (self .entry .cursor .0)) ⌝ }
     {
         let rows = self.rows;
         let cursor = past_token(rows, self.cursor);
@@ -64,7 +64,7 @@ pub struct Sight {
 }
 
 pub fn look(t: &[u32], at: TokenIndex) -> Sight
-    ensures { λ r. ⌜ (r .immediate ≡ kind-of (drop (at .0) (tokens (now (t .entry))))) × (r .kind ≡ kind-of (drop-trivia (drop (at .0) (tokens (now (t .entry)))))) × (r .next .0 ≡ after-token (tokens (now (t .entry))) (at .0)) ⌝ }
+    ensures { λ r. ⌜ (r .immediate ≡ kind-of (drop (at .0) (tokens-of (now (t .entry))))) × (r .kind ≡ kind-of (drop-trivia (drop (at .0) (tokens-of (now (t .entry)))))) × (r .next .0 ≡ after-token (tokens-of (now (t .entry))) (at .0)) ⌝ }
 {
     let s = Source::new(t, at);
     let next = s.next_token();

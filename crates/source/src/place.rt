@@ -5,7 +5,7 @@ ghost use mathlib.Core.Path.{_≡_};
 ghost use mathlib.Core.List.{List};
 ghost use Prim.Native.Nat.{ℕ};
 ghost use lib.ListN.{drop};
-ghost use Rattle.definitions.specs.Token.{tokens, drop-trivia, past};
+ghost use Rattle.definitions.specs.Token.{tokens-of, drop-trivia, past};
 ghost use Rattle.machine.specs.Machine.{with-cursor};
 ghost use Rattle.machine.specs.Outcome.{fresh};
 ghost use Rattle.parser.specs.View.{view};
@@ -22,8 +22,8 @@ fn standing(at: TokenIndex) -> State
 
 // The first place from here on that is no trivia.
 pub fn past_trivia(t: &[u32], at: TokenIndex) -> TokenIndex
-    ensures { λ r. ⌜ r .0 ≡ after-trivia (tokens (now (t .entry))) (at .0) ⌝ }
-    ensures { λ r. ⌜ drop (r .0) (tokens (now (t .entry))) ≡ drop-trivia (drop (at .0) (tokens (now (t .entry)))) ⌝ }
+    ensures { λ r. ⌜ r .0 ≡ after-trivia (tokens-of (now (t .entry))) (at .0) ⌝ }
+    ensures { λ r. ⌜ drop (r .0) (tokens-of (now (t .entry))) ≡ drop-trivia (drop (at .0) (tokens-of (now (t .entry)))) ⌝ }
 {
     let s = standing(at).peek(t);
     s.cursor
@@ -31,8 +31,8 @@ pub fn past_trivia(t: &[u32], at: TokenIndex) -> TokenIndex
 
 // The place after that token; at the end it stays.
 pub fn past_token(t: &[u32], at: TokenIndex) -> TokenIndex
-    ensures { λ r. ⌜ r .0 ≡ after-token (tokens (now (t .entry))) (at .0) ⌝ }
-    ensures { λ r. ⌜ drop (r .0) (tokens (now (t .entry))) ≡ past (drop-trivia (drop (at .0) (tokens (now (t .entry))))) ⌝ }
+    ensures { λ r. ⌜ r .0 ≡ after-token (tokens-of (now (t .entry))) (at .0) ⌝ }
+    ensures { λ r. ⌜ drop (r .0) (tokens-of (now (t .entry))) ≡ past (drop-trivia (drop (at .0) (tokens-of (now (t .entry))))) ⌝ }
 {
     let s = standing(at).peek(t).next_token(t);
     s.cursor

@@ -1,2 +1,2 @@
--- What the contracts cite.
+-- What the contracts over token rows cite.
 pub mod Tokens

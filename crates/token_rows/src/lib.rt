@@ -1,3 +1,3 @@
-// Token rows as the sink reads them, and the rows of the lexical errors among them.
-pub mod lexical;
-pub mod source;
+// What the parser reads of token rows, and the room in a buffer: plain functions under crates/parser.
+pub mod room;
+pub mod token;

@@ -3,8 +3,8 @@ use mathlib.Core.Path.{sym, ap, _∙_}
 use borrow.Author.Needs.{needs}
 use Rattle.definitions.specs.Refusal.{number-of, place-of}
 use Rattle.grammar.specs.Parts.{entry-of as entry-for}
-use Rattle.answer.specs.Result.{answer-of, lent, result-of}
-use Rattle.answer.proofs.Called.{other-entry, refused-call, sound-call}
+use Rattle.call.specs.Result.{answer-of, lent, result-of}
+use Rattle.call.proofs.Called.{other-entry, refused-call, sound-call}
 use Rattle.dt_parser.specs.Entry.{asked-of}
 use Rattle.dt_parser.proofs.dt_parse.Statement.{statement}
 use Rattle.dt_parser.proofs.dt_parse.Tie as tie

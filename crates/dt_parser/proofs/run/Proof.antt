@@ -2,8 +2,8 @@
 use mathlib.Core.Path.{_∙_}
 use Rattle.parser.specs.View.{view-of}
 use Rattle.grammar.specs.Parts.{entry-of as entry-for}
-use Rattle.answer.specs.Result.{lent, result-of}
-use Rattle.answer.proofs.Called.{events-inside, finished}
+use Rattle.call.specs.Result.{lent, result-of}
+use Rattle.call.proofs.Called.{events-inside, finished}
 use Rattle.dt_parser.proofs.run.Statement.{statement}
 use Rattle.dt_parser.proofs.run.Tie as tie
 

@@ -1,6 +1,6 @@
 -- `at_prefix_op` is the walk of the expectation pushed and of the test.
 use native.Mathlib.Omega.{arith}
-use Rattle.definitions.specs.Token.{tokens}
+use Rattle.definitions.specs.Token.{tokens-of}
 use Rattle.definitions.specs.Check.{silent}
 use Rattle.machine.proofs.Way.{c-act, c-seq}
 use borrow.Author.Needs.{needs}
@@ -22,7 +22,7 @@ returns c =
     let add-expected′ = c .before .before .add-expected in
     let silent-at-set′ = c .silent-at-set in
     let s′ = c .before .before .before .before in (
-      λ ask b ev rep pool. c-seq (c-act (add-expected′ .ensures .0 (tokens (s′ .args .t .now)) b ev rep pool)) (c-act (silent-at-set′ .ensures .0 b ev rep pool)) .is,
+      λ ask b ev rep pool. c-seq (c-act (add-expected′ .ensures .0 (tokens-of (s′ .args .t .now)) b ev rep pool)) (c-act (silent-at-set′ .ensures .0 b ev rep pool)) .is,
       (omega (arith, add-expected′ .ensures .1 (s′ .args .t .now), silent-at-set′ .ensures .1 .0), silent-at-set′ .ensures .1 .1),
     )
 

@@ -1,11 +1,11 @@
 -- `infix_op_at` peeks behind the pushed expectation, and reads the powers of the kind that it sees off the table.
 use mathlib.Core.Path.{_∙_, ap}
 use native.Mathlib.Omega.{arith}
-use Rattle.definitions.specs.Token.{tokens}
+use Rattle.definitions.specs.Token.{tokens-of}
 use Rattle.machine.specs.Machine.{peek}
 use Rattle.machine.specs.Walk.{Walked, perform, unlabelled}
 use Rattle.parser.specs.View.{left}
-use Rattle.power.specs.Power.{levels, left-power, right-power, is-binary}
+use Rattle.binding_power.specs.Power.{levels, left-power, right-power, is-binary}
 use Rattle.expr.proofs.Levels.{left-end}
 use borrow.Author.Needs.{needs}
 use Rattle.expr.proofs.infix_op_at.Statement.{statement}
@@ -32,7 +32,7 @@ returns c =
     let binding-power′ = c .binding-power in
     let s′ = c .before .before .before .before .before in
     let tk = s′ .args .t .now in (
-      λ ev rep pool. peek′ .ensures .0 ev rep pool ∙ ap (λ (w : Walked). peek (tokens tk) (w .on)) (add-expected′ .ensures .0 (tokens tk) unlabelled ev rep pool),
+      λ ev rep pool. peek′ .ensures .0 ev rep pool ∙ ap (λ (w : Walked). peek (tokens-of tk) (w .on)) (add-expected′ .ensures .0 (tokens-of tk) unlabelled ev rep pool),
       (
         binding-power′ .ensures .0 ∙ ap (left-power levels) (kind-at′ .ensures .0),
         (

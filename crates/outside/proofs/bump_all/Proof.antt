@@ -6,7 +6,7 @@ use mathlib.Core.List.{List}
 use native.Mathlib.Omega.{arith}
 use native.Mathlib.Nat.{le-refl}
 use lib.ListN.{length}
-use Rattle.definitions.specs.Token.{tokens}
+use Rattle.definitions.specs.Token.{tokens-of}
 use Rattle.definitions.specs.Skeleton.{Span}
 use Rattle.definitions.specs.Prog.{Rule, loop}
 use Rattle.definitions.specs.Grammar.{left-over-turn}
@@ -20,7 +20,7 @@ use Rattle.outside.proofs.bump_all.Statement.{statement}
 use Rattle.outside.proofs.bump_all.Tie as tie
 
 abbrev Inv-loop : tie.InvT-loop
-Inv-loop t ev₀ q₀ ev q = ((ask : Rule → Machine → Walked) (b : Span) (rep pool : List ℕ) → walk ask (tokens t) b (loop left-over-turn) (view-of q ev rep pool) ≡ walk ask (tokens t) b (loop left-over-turn) (view-of q₀ ev₀ rep pool)) × ((left t (q .s) ≤ left t (q₀ .s)) × (length ev ≡ length ev₀))
+Inv-loop t ev₀ q₀ ev q = ((ask : Rule → Machine → Walked) (b : Span) (rep pool : List ℕ) → walk ask (tokens-of t) b (loop left-over-turn) (view-of q ev rep pool) ≡ walk ask (tokens-of t) b (loop left-over-turn) (view-of q₀ ev₀ rep pool)) × ((left t (q .s) ≤ left t (q₀ .s)) × (length ev ≡ length ev₀))
 
 abbrev μ-loop : tie.MeasureT-loop
 μ-loop t ev₀ q₀ ev q = left t (q .s)

@@ -39,11 +39,11 @@ use denote.Triple.Table.{entered, cited}
 use denote.Triple.Walked.{says, Stays, stay-none, stay-none-slice, walkOf, goes-none, goes-none-slice, Walks, ends-at, walked, walk-meets}
 use denote.Exit.{yes}
 use denote.Triple.Clauses.{ensured}
-use Rattle.definitions.specs.Token.{tokens, drop-trivia}
+use Rattle.definitions.specs.Token.{tokens-of, drop-trivia}
 use Rattle.lexer.specs.declared.TokenIndex.{TokenIndex}
 use Rattle.lexer.proofs.TokenIndex as I
 use Rattle.lexer.proofs.TokenIndex.Laws as I′
-use Rattle.rows.specs.Tokens.{kind-of}
+use Rattle.token_rows.specs.Tokens.{kind-of}
 use Rattle.source.specs.Place.{after-token}
 use Rattle.source.specs.declared.Sight.{Sight}
 use Rattle.source.specs.declared.Source.{Source}
@@ -96,7 +96,7 @@ module _ {M : Type 1} (𝓤 : URA M) (H : Heap 𝓤) (A : Atoms 𝓤) (W : Given
 
   -- what is said of the result
   abbrev Says : ℕ → ℕ → TokenIndex → Type 0
-  Says k j m = (k ≡ kind-of (dropped (i .0) (tokens (now s)))) × (j ≡ kind-of (drop-trivia (dropped (i .0) (tokens (now s))))) × (m .0 ≡ after-token (tokens (now s)) (i .0))
+  Says k j m = (k ≡ kind-of (dropped (i .0) (tokens-of (now s)))) × (j ≡ kind-of (drop-trivia (dropped (i .0) (tokens-of (now s))))) × (m .0 ≡ after-token (tokens-of (now s)) (i .0))
 
   abbrev Post : Val → SProp 𝓤
   Post = walkOf 𝓤 H A looks.ended stayed (looks.clauses 𝓤 H A mem run) .post (((κ, tt), (q, tt), tt, (s, (i, tt)), passed), tt)

@@ -3,13 +3,13 @@ use Prim.Native.Nat.{ℕ, _-_}
 use mathlib.Core.Path.{sym, ap, _∙_}
 use native.Mathlib.Omega.{arith}
 use borrow.Author.Tests.{eqb-true, eqb-false}
-use Rattle.definitions.specs.Token.{tokens}
+use Rattle.definitions.specs.Token.{tokens-of}
 use Rattle.definitions.specs.Prog.{no, again, expr-binding-power}
 use Rattle.definitions.specs.Check.{tell, if_then_else_}
 use Rattle.definitions.specs.Grammar.{lhs as lhs-prog, infix-turn, expr-binding-power-body, grammar}
 use Rattle.machine.specs.Walk.{said}
 use Rattle.machine.proofs.Way.{c-ret, c-yes, c-no, c-fn, way, rule-closed, rule-body}
-use Rattle.power.proofs.Below.{true-false}
+use Rattle.binding_power.proofs.Below.{true-false}
 use Rattle.expr.proofs.Chain.{chained-on, chained-off}
 use Rattle.expr.proofs.expr_binding_power.Reads as reads
 use Rattle.expr.proofs.+expr_binding_power+infix_chain+infix_step+lhs+missing_lhs+no_lhs+paren_expr+prefix_expr+rhs+ternary_rhs.Lts-expr_binding_power as lts
@@ -22,7 +22,7 @@ pub returns : (t : ℕ) → lts.Need-returns (expr-binding-power-claims t) (expr
 returns t c =
     let if1′ = c .before in
     let s′ = if1′ .before .before .before .before .before in (
-      ap (said no) (c .refuse .ensures .0 _ _ _) ∙ rule-closed (s′ .args .room) (tokens (s′ .args .t .now)) (expr-binding-power (s′ .args .min-bp)) _ (eqb-true (s′ .args .room) 0 (if1′ .if1 .taken)),
+      ap (said no) (c .refuse .ensures .0 _ _ _) ∙ rule-closed (s′ .args .room) (tokens-of (s′ .args .t .now)) (expr-binding-power (s′ .args .min-bp)) _ (eqb-true (s′ .args .room) 0 (if1′ .if1 .taken)),
       (
         omega (arith, c .refuse .ensures .1 (s′ .args .t .now) (s′ .good .1 .0 .0)),
         λ e. omega (arith, c .refuse .ensures .1 (s′ .args .t .now) (s′ .good .1 .0 .0)),
@@ -93,7 +93,7 @@ returns-2 t c =
     let new′ = start′ .before .before in
     let if1′ = new′ .before in
     let s′ = if1′ .before .before .before .before .before in (
-      way (s′ .args .room - 1) (chained-on (s′ .args .room - 1) (tokens (s′ .args .t .now)) (if lhs-prog then tell again else tell no) (infix-turn (s′ .args .min-bp)) (new′ .new .ensures) (start′ .start .ensures .0 _ _) (c-yes (c-fn (s′ .args .room - 1) (lhs′ .lhs .ensures .0)) (if2′ .if2 .taken) c-ret) (infix-chain′ .infix-chain .ensures .0)) ∙ rule-body (s′ .args .room) (tokens (s′ .args .t .now)) (expr-binding-power (s′ .args .min-bp)) _ (omega (arith, eqb-false (s′ .args .room) 0 (if1′ .if1 .left))),
+      way (s′ .args .room - 1) (chained-on (s′ .args .room - 1) (tokens-of (s′ .args .t .now)) (if lhs-prog then tell again else tell no) (infix-turn (s′ .args .min-bp)) (new′ .new .ensures) (start′ .start .ensures .0 _ _) (c-yes (c-fn (s′ .args .room - 1) (lhs′ .lhs .ensures .0)) (if2′ .if2 .taken) c-ret) (infix-chain′ .infix-chain .ensures .0)) ∙ rule-body (s′ .args .room) (tokens-of (s′ .args .t .now)) (expr-binding-power (s′ .args .min-bp)) _ (omega (arith, eqb-false (s′ .args .room) 0 (if1′ .if1 .left))),
       (
         omega (arith, start′ .start .ensures .1 (s′ .args .t .now), lhs′ .lhs .ensures .1 .0, lhs′ .lhs .ensures .1 .1 (if2′ .if2 .taken), infix-chain′ .infix-chain .ensures .1),
         λ e. omega (arith, start′ .start .ensures .1 (s′ .args .t .now), lhs′ .lhs .ensures .1 .0, lhs′ .lhs .ensures .1 .1 (if2′ .if2 .taken), infix-chain′ .infix-chain .ensures .1),
@@ -130,7 +130,7 @@ returns-3 t c =
     let start′ = lhs′ .before .before .before .before .before .before in
     let if1′ = start′ .before .before .before in
     let s′ = if1′ .before .before .before .before .before in (
-      way (s′ .args .room - 1) (chained-off (s′ .args .room - 1) (tokens (s′ .args .t .now)) (if lhs-prog then tell again else tell no) (infix-turn (s′ .args .min-bp)) (start′ .start .ensures .0 _ _) (c-no (c-fn (s′ .args .room - 1) (lhs′ .lhs .ensures .0)) (if2′ .if2 .left) c-ret) (ignore′ .ignore .ensures .0 _ _)) ∙ rule-body (s′ .args .room) (tokens (s′ .args .t .now)) (expr-binding-power (s′ .args .min-bp)) _ (omega (arith, eqb-false (s′ .args .room) 0 (if1′ .if1 .left))),
+      way (s′ .args .room - 1) (chained-off (s′ .args .room - 1) (tokens-of (s′ .args .t .now)) (if lhs-prog then tell again else tell no) (infix-turn (s′ .args .min-bp)) (start′ .start .ensures .0 _ _) (c-no (c-fn (s′ .args .room - 1) (lhs′ .lhs .ensures .0)) (if2′ .if2 .left) c-ret) (ignore′ .ignore .ensures .0 _ _)) ∙ rule-body (s′ .args .room) (tokens-of (s′ .args .t .now)) (expr-binding-power (s′ .args .min-bp)) _ (omega (arith, eqb-false (s′ .args .room) 0 (if1′ .if1 .left))),
       (
         omega (arith, start′ .start .ensures .1 (s′ .args .t .now), lhs′ .lhs .ensures .1 .0, ignore′ .ignore .ensures .1 (s′ .args .t .now)),
         λ e. true-false (sym e),

@@ -3,7 +3,7 @@ use Prim.Native.Nat.{ℕ, _≤_}
 use mathlib.Core.Path.{_≡_, refl, _∙_}
 use lib.ListN.{length}
 use native.Mathlib.Omega.{arith}
-use Rattle.definitions.specs.Token.{tokens}
+use Rattle.definitions.specs.Token.{tokens-of}
 use Rattle.definitions.specs.Grammar.{infix-turn}
 use Rattle.parser.specs.View.{left, marker-of, view-of}
 use Rattle.expr.specs.Parts.{links-from}
@@ -20,7 +20,7 @@ Inv-loop t ev₀ rep₀ pool₀ room min-bp m₀ q₀ ev rep pool m q =
     (left t (q .s) ≤ left t (q₀ .s))
     × ((length ev ≡ length ev₀)
     × ((length rep ≡ length rep₀)
-    × ((length pool ≡ length pool₀) × (links-from room (tokens t) (infix-turn min-bp) (marker-of m) (view-of q ev rep pool) ≡ links-from room (tokens t) (infix-turn min-bp) (marker-of m₀) (view-of q₀ ev₀ rep₀ pool₀)))))
+    × ((length pool ≡ length pool₀) × (links-from room (tokens-of t) (infix-turn min-bp) (marker-of m) (view-of q ev rep pool) ≡ links-from room (tokens-of t) (infix-turn min-bp) (marker-of m₀) (view-of q₀ ev₀ rep₀ pool₀)))))
 
 abbrev pub μ-loop : lts.MeasureT-loop
 μ-loop t ev₀ rep₀ pool₀ room min-bp m₀ q₀ ev rep pool m q = left t (q .s)
@@ -149,6 +149,6 @@ returns-2 t c =
     let infix-step′ = if1′ .before .before .before .before .before .before .before in
     let loop′ = infix-step′ .before .before .before .before in
     let s′ = loop′ .before .before .before .before .before in (
-      linked-stop (s′ .args .room) (tokens (s′ .args .t .now)) (infix-turn (s′ .args .min-bp)) (marker-of (loop′ .loop .m)) (ignore2′ .ignore2 .ensures .0 _ _) (step-none (infix-step′ .infix-step .result .again) (c-fn (s′ .args .room) (infix-step′ .infix-step .ensures .0)) (if1′ .if1 .left)) ∙ loop′ .loop .inv .1 .1 .1 .1,
+      linked-stop (s′ .args .room) (tokens-of (s′ .args .t .now)) (infix-turn (s′ .args .min-bp)) (marker-of (loop′ .loop .m)) (ignore2′ .ignore2 .ensures .0 _ _) (step-none (infix-step′ .infix-step .result .again) (c-fn (s′ .args .room) (infix-step′ .infix-step .ensures .0)) (if1′ .if1 .left)) ∙ loop′ .loop .inv .1 .1 .1 .1,
       omega (arith, loop′ .loop .inv .0, infix-step′ .infix-step .ensures .1 .0, ignore2′ .ignore2 .ensures .1 (s′ .args .t .now)),
     )

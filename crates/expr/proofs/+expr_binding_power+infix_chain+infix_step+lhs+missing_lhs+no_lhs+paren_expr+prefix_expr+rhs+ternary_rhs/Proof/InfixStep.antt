@@ -5,7 +5,7 @@ use native.Mathlib.Omega.{arith}
 use borrow.Author.Tests.{eqb-false}
 use Rattle.machine.specs.Walk.{unlabelled}
 use Rattle.machine.proofs.Way.{c-act, c-seq, c-fn, way}
-use Rattle.power.proofs.Below.{true-false}
+use Rattle.binding_power.proofs.Below.{true-false}
 use Rattle.expr.proofs.Levels.{turn-none, turn-weaker, turn-ternary, turn-binary}
 use Rattle.expr.proofs.infix_step.Reads as reads
 use Rattle.expr.proofs.+expr_binding_power+infix_chain+infix_step+lhs+missing_lhs+no_lhs+paren_expr+prefix_expr+rhs+ternary_rhs.Lts-infix_step as lts

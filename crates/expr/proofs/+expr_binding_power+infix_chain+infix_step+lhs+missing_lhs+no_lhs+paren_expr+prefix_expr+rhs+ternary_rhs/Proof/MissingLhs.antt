@@ -1,7 +1,7 @@
 -- `missing_lhs`: a report, and a ParseError around the operator and what follows.
 use Prim.Native.Nat.{ℕ}
 use native.Mathlib.Omega.{arith}
-use Rattle.definitions.specs.Token.{tokens}
+use Rattle.definitions.specs.Token.{tokens-of}
 use Rattle.machine.specs.Walk.{walk-rule, unlabelled}
 use Rattle.machine.proofs.Way.{c-walk, c-act, c-ret, c-seq, c-mark, completed, c-call, way}
 use Rattle.expr.proofs.missing_lhs.Reads as reads
@@ -64,6 +64,6 @@ returns t c =
     let new′ = start′ .before .before in
     let error′ = new′ .before .before .before .before .before .before .before in
     let s′ = error′ .before .before .before .before .before .before .before .before in (
-      way (s′ .args .room) (c-seq (c-walk (error′ .error .ensures .0 (walk-rule (s′ .args .room) (tokens (s′ .args .t .now))) unlabelled)) (c-seq (c-mark (new′ .new .ensures) (start′ .start .ensures .0 _ _) (c-seq (c-seq (c-act (bump′ .bump .ensures .0 unlabelled _ _)) (c-call (s′ .args .room) (expr-binding-power′ .expr-binding-power .ensures .0))) c-ret) (completed 9 (complete′ .complete .ensures .0 _ _))) c-ret)),
+      way (s′ .args .room) (c-seq (c-walk (error′ .error .ensures .0 (walk-rule (s′ .args .room) (tokens-of (s′ .args .t .now))) unlabelled)) (c-seq (c-mark (new′ .new .ensures) (start′ .start .ensures .0 _ _) (c-seq (c-seq (c-act (bump′ .bump .ensures .0 unlabelled _ _)) (c-call (s′ .args .room) (expr-binding-power′ .expr-binding-power .ensures .0))) c-ret) (completed 9 (complete′ .complete .ensures .0 _ _))) c-ret)),
       omega (arith, error′ .error .ensures .1, start′ .start .ensures .1 (s′ .args .t .now), bump′ .bump .ensures .1, expr-binding-power′ .expr-binding-power .ensures .1 .0, complete′ .complete .ensures .1 (s′ .args .t .now)),
     )

@@ -1,7 +1,7 @@
 -- `no_lhs` is what `lhs` does where no test held.
 use Prim.Native.Nat.{ℕ}
 use native.Mathlib.Omega.{arith}
-use Rattle.definitions.specs.Token.{tokens}
+use Rattle.definitions.specs.Token.{tokens-of}
 use Rattle.definitions.specs.Check.{silent}
 use Rattle.machine.specs.Walk.{walk-rule, unlabelled}
 use Rattle.machine.proofs.Way.{c-walk, c-act, c-ret, c-seq, c-yes, c-no, c-fn, way}
@@ -74,7 +74,7 @@ returns-2 t c =
     let if1′ = silent-at′ .before in
     let infix-op-at′ = if1′ .before in
     let s′ = infix-op-at′ .before .before .before .before .before in (
-      way (s′ .args .room) (c-no (at-binary (infix-op-at′ .infix-op-at .result .binary) (infix-op-at′ .infix-op-at .ensures .0 _ _ _) (infix-op-at′ .infix-op-at .ensures .1 .1 .1 .0)) (if1′ .if1 .left) (c-yes (c-act (silent-at′ .silent-at .ensures .0 unlabelled _ _ _)) (if2′ .if2 .taken) (c-seq (c-walk (error′ .error .ensures .0 (walk-rule (s′ .args .room) (tokens (s′ .args .t .now))) unlabelled)) c-ret))),
+      way (s′ .args .room) (c-no (at-binary (infix-op-at′ .infix-op-at .result .binary) (infix-op-at′ .infix-op-at .ensures .0 _ _ _) (infix-op-at′ .infix-op-at .ensures .1 .1 .1 .0)) (if1′ .if1 .left) (c-yes (c-act (silent-at′ .silent-at .ensures .0 unlabelled _ _ _)) (if2′ .if2 .taken) (c-seq (c-walk (error′ .error .ensures .0 (walk-rule (s′ .args .room) (tokens-of (s′ .args .t .now))) unlabelled)) c-ret))),
       omega (arith, infix-op-at′ .infix-op-at .ensures .1 .1 .1 .1 .0, silent-at′ .silent-at .ensures .1 .0, silent-at′ .silent-at .ensures .1 .1 (if2′ .if2 .taken), error′ .error .ensures .1),
     )
 
@@ -105,6 +105,6 @@ returns-3 t c =
     let if1′ = silent-at′ .before in
     let infix-op-at′ = if1′ .before in
     let s′ = infix-op-at′ .before .before .before .before .before in (
-      way (s′ .args .room) (c-no (at-binary (infix-op-at′ .infix-op-at .result .binary) (infix-op-at′ .infix-op-at .ensures .0 _ _ _) (infix-op-at′ .infix-op-at .ensures .1 .1 .1 .0)) (if1′ .if1 .left) (c-no (c-act (silent-at′ .silent-at .ensures .0 unlabelled _ _ _)) (if2′ .if2 .left) (c-seq (c-walk (error2′ .error2 .ensures .0 (walk-rule (s′ .args .room) (tokens (s′ .args .t .now))) unlabelled)) c-ret))),
+      way (s′ .args .room) (c-no (at-binary (infix-op-at′ .infix-op-at .result .binary) (infix-op-at′ .infix-op-at .ensures .0 _ _ _) (infix-op-at′ .infix-op-at .ensures .1 .1 .1 .0)) (if1′ .if1 .left) (c-no (c-act (silent-at′ .silent-at .ensures .0 unlabelled _ _ _)) (if2′ .if2 .left) (c-seq (c-walk (error2′ .error2 .ensures .0 (walk-rule (s′ .args .room) (tokens-of (s′ .args .t .now))) unlabelled)) c-ret))),
       omega (arith, infix-op-at′ .infix-op-at .ensures .1 .1 .1 .1 .0, silent-at′ .silent-at .ensures .1 .0, error2′ .error2 .ensures .1),
     )

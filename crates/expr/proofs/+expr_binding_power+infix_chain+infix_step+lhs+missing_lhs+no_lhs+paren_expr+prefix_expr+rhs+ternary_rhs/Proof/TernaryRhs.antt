@@ -3,7 +3,7 @@ use Prim.Native.Nat.{ℕ}
 use mathlib.Core.Path.{refl}
 use mathlib.Core.Bool.{false}
 use native.Mathlib.Omega.{arith}
-use Rattle.definitions.specs.Token.{tokens}
+use Rattle.definitions.specs.Token.{tokens-of}
 use Rattle.machine.specs.Walk.{walk-rule, unlabelled}
 use Rattle.machine.proofs.Way.{c-walk, c-ret, c-yes, c-no, c-call, c-fn, way}
 use Rattle.expr.proofs.ternary_rhs.Reads as reads
@@ -52,7 +52,7 @@ returns t c =
     let if1′ = expect′ .before .before .before .before in
     let expr-binding-power′ = if1′ .before .before .before .before .before .before .before in
     let s′ = expr-binding-power′ .before .before .before .before .before .before .before .before in (
-      way (s′ .args .room) (c-yes (c-yes (c-call (s′ .args .room) (expr-binding-power′ .expr-binding-power .ensures .0)) (if1′ .if1 .taken) (c-walk (expect′ .expect .ensures .0 (walk-rule (s′ .args .room) (tokens (s′ .args .t .now))) unlabelled))) (if2′ .if2 .taken) (c-fn (s′ .args .room) (rhs′ .rhs .ensures .0))),
+      way (s′ .args .room) (c-yes (c-yes (c-call (s′ .args .room) (expr-binding-power′ .expr-binding-power .ensures .0)) (if1′ .if1 .taken) (c-walk (expect′ .expect .ensures .0 (walk-rule (s′ .args .room) (tokens-of (s′ .args .t .now))) unlabelled))) (if2′ .if2 .taken) (c-fn (s′ .args .room) (rhs′ .rhs .ensures .0))),
       omega (arith, expr-binding-power′ .expr-binding-power .ensures .1 .0, expr-binding-power′ .expr-binding-power .ensures .1 .1 (if1′ .if1 .taken), expect′ .expect .ensures .1 .0, expect′ .expect .ensures .1 .1 (if2′ .if2 .taken), rhs′ .rhs .ensures .1),
     )
 
@@ -81,7 +81,7 @@ returns-2 t c =
     let if1′ = expect′ .before .before .before .before in
     let expr-binding-power′ = if1′ .before .before .before .before .before .before .before in
     let s′ = expr-binding-power′ .before .before .before .before .before .before .before .before in (
-      way (s′ .args .room) (c-no (c-yes (c-call (s′ .args .room) (expr-binding-power′ .expr-binding-power .ensures .0)) (if1′ .if1 .taken) (c-walk (expect′ .expect .ensures .0 (walk-rule (s′ .args .room) (tokens (s′ .args .t .now))) unlabelled))) (if2′ .if2 .left) c-ret),
+      way (s′ .args .room) (c-no (c-yes (c-call (s′ .args .room) (expr-binding-power′ .expr-binding-power .ensures .0)) (if1′ .if1 .taken) (c-walk (expect′ .expect .ensures .0 (walk-rule (s′ .args .room) (tokens-of (s′ .args .t .now))) unlabelled))) (if2′ .if2 .left) c-ret),
       omega (arith, expr-binding-power′ .expr-binding-power .ensures .1 .0, expr-binding-power′ .expr-binding-power .ensures .1 .1 (if1′ .if1 .taken), expect′ .expect .ensures .1 .0),
     )
 

@@ -6,7 +6,7 @@ use mathlib.Core.Bool.{true, false}
 use lib.ListN.{length}
 use native.Mathlib.Omega.{arith}
 use borrow.Author.Needs.{needs}
-use Rattle.definitions.specs.Token.{tokens}
+use Rattle.definitions.specs.Token.{tokens-of}
 use Rattle.definitions.specs.Prog.{loop}
 use Rattle.definitions.specs.Check.{silent}
 use Rattle.definitions.specs.Grammar.{branch-turn, branch}
@@ -27,7 +27,7 @@ Inv-loop t ev₀ rep₀ pool₀ room inside m q₀ set ev rep pool q =
     (left t (q .s) ≤ left t (q₀ .s))
     × ((length ev ≡ length ev₀)
     × ((length rep ≡ length rep₀)
-    × ((length pool ≡ length pool₀) × (walk-prog room (tokens t) unlabelled (loop (branch-turn (inside-of inside))) (view-of q ev rep pool) ≡ walk-prog room (tokens t) unlabelled (loop (branch-turn (inside-of inside))) (view-of q₀ ev₀ rep₀ pool₀)))))
+    × ((length pool ≡ length pool₀) × (walk-prog room (tokens-of t) unlabelled (loop (branch-turn (inside-of inside))) (view-of q ev rep pool) ≡ walk-prog room (tokens-of t) unlabelled (loop (branch-turn (inside-of inside))) (view-of q₀ ev₀ rep₀ pool₀)))))
 
 abbrev pub μ-loop : lts.MeasureT-loop
 μ-loop t ev₀ rep₀ pool₀ room inside m q₀ set ev rep pool q = left t (q .s)
@@ -78,7 +78,7 @@ returns t c =
     let start′ = loop′ .before .before .before in
     let new′ = start′ .before .before in
     let s′ = new′ .before .before .before .before .before in (
-      way (s′ .args .room) (c-mark (new′ .new .ensures) (start′ .start .ensures .0 _ _) (c-no {t = false} (c-part (s′ .args .room) (last-no (s′ .args .room) (c-yes {t = true} (c-yes (c-walk (at′ .at .ensures .0 (walk-rule (s′ .args .room) (tokens (s′ .args .t .now))) unlabelled _ _ _)) (if1′ .if1 .taken) c-ret) refl c-ret) ∙ loop′ .loop .inv .1 .1 .1 .1)) refl c-ret) (completed 13 (complete′ .complete .ensures .0 _ _))),
+      way (s′ .args .room) (c-mark (new′ .new .ensures) (start′ .start .ensures .0 _ _) (c-no {t = false} (c-part (s′ .args .room) (last-no (s′ .args .room) (c-yes {t = true} (c-yes (c-walk (at′ .at .ensures .0 (walk-rule (s′ .args .room) (tokens-of (s′ .args .t .now))) unlabelled _ _ _)) (if1′ .if1 .taken) c-ret) refl c-ret) ∙ loop′ .loop .inv .1 .1 .1 .1)) refl c-ret) (completed 13 (complete′ .complete .ensures .0 _ _))),
       (omega (arith, start′ .start .ensures .1 (s′ .args .t .now), loop′ .loop .inv .0, at′ .at .ensures .1 .0, at′ .at .ensures .1 .1 (if1′ .if1 .taken), complete′ .complete .ensures .1 (s′ .args .t .now)), λ e. true-false (sym e)),
     )
 
@@ -121,7 +121,7 @@ returns-2 t c =
     let start′ = loop′ .before .before .before in
     let new′ = start′ .before .before in
     let s′ = new′ .before .before .before .before .before in (
-      way (s′ .args .room) (c-mark (new′ .new .ensures) (start′ .start .ensures .0 _ _) (c-no {t = false} (c-part (s′ .args .room) (last-no (s′ .args .room) (c-yes (c-no (c-walk (at′ .at .ensures .0 (walk-rule (s′ .args .room) (tokens (s′ .args .t .now))) unlabelled _ _ _)) (if1′ .if1 .left) (c-act (at-end′ .at-end .ensures .0 unlabelled _ _ _))) (if2′ .if2 .taken) c-ret) ∙ loop′ .loop .inv .1 .1 .1 .1)) refl c-ret) (completed 13 (complete2′ .complete2 .ensures .0 _ _))),
+      way (s′ .args .room) (c-mark (new′ .new .ensures) (start′ .start .ensures .0 _ _) (c-no {t = false} (c-part (s′ .args .room) (last-no (s′ .args .room) (c-yes (c-no (c-walk (at′ .at .ensures .0 (walk-rule (s′ .args .room) (tokens-of (s′ .args .t .now))) unlabelled _ _ _)) (if1′ .if1 .left) (c-act (at-end′ .at-end .ensures .0 unlabelled _ _ _))) (if2′ .if2 .taken) c-ret) ∙ loop′ .loop .inv .1 .1 .1 .1)) refl c-ret) (completed 13 (complete2′ .complete2 .ensures .0 _ _))),
       (omega (arith, start′ .start .ensures .1 (s′ .args .t .now), loop′ .loop .inv .0, at′ .at .ensures .1 .0, at-end′ .at-end .ensures .1 .0, at-end′ .at-end .ensures .1 .1 .1 (if2′ .if2 .taken), complete2′ .complete2 .ensures .1 (s′ .args .t .now)), λ e. true-false (sym e)),
     )
 
@@ -169,7 +169,7 @@ returns-3 t c =
     let start′ = loop′ .before .before .before in
     let new′ = start′ .before .before in
     let s′ = new′ .before .before .before .before .before in (
-      way (s′ .args .room) (c-mark (new′ .new .ensures) (start′ .start .ensures .0 _ _) (c-yes {t = true} (c-part (s′ .args .room) (last-yes (s′ .args .room) (c-no (c-no (c-walk (at′ .at .ensures .0 (walk-rule (s′ .args .room) (tokens (s′ .args .t .now))) unlabelled _ _ _)) (if1′ .if1 .left) (c-act (at-end′ .at-end .ensures .0 unlabelled _ _ _))) (if2′ .if2 .left) (c-yes (c-act (silent-at-set′ .silent-at-set .ensures .0 unlabelled _ _ _)) (if3′ .if3 .taken) c-ret)) ∙ loop′ .loop .inv .1 .1 .1 .1)) refl c-ret) (completed 13 (complete3′ .complete3 .ensures .0 _ _))),
+      way (s′ .args .room) (c-mark (new′ .new .ensures) (start′ .start .ensures .0 _ _) (c-yes {t = true} (c-part (s′ .args .room) (last-yes (s′ .args .room) (c-no (c-no (c-walk (at′ .at .ensures .0 (walk-rule (s′ .args .room) (tokens-of (s′ .args .t .now))) unlabelled _ _ _)) (if1′ .if1 .left) (c-act (at-end′ .at-end .ensures .0 unlabelled _ _ _))) (if2′ .if2 .left) (c-yes (c-act (silent-at-set′ .silent-at-set .ensures .0 unlabelled _ _ _)) (if3′ .if3 .taken) c-ret)) ∙ loop′ .loop .inv .1 .1 .1 .1)) refl c-ret) (completed 13 (complete3′ .complete3 .ensures .0 _ _))),
       (omega (arith, start′ .start .ensures .1 (s′ .args .t .now), loop′ .loop .inv .0, at′ .at .ensures .1 .0, at-end′ .at-end .ensures .1 .0, at-end′ .at-end .ensures .1 .1 .0 (if2′ .if2 .left), silent-at-set′ .silent-at-set .ensures .1 .0, silent-at-set′ .silent-at-set .ensures .1 .1 (if3′ .if3 .taken), complete3′ .complete3 .ensures .1 (s′ .args .t .now)), λ e. omega (arith, start′ .start .ensures .1 (s′ .args .t .now), loop′ .loop .inv .0, at′ .at .ensures .1 .0, at-end′ .at-end .ensures .1 .0, at-end′ .at-end .ensures .1 .1 .0 (if2′ .if2 .left), silent-at-set′ .silent-at-set .ensures .1 .0, silent-at-set′ .silent-at-set .ensures .1 .1 (if3′ .if3 .taken), complete3′ .complete3 .ensures .1 (s′ .args .t .now))),
     )
 
@@ -218,7 +218,7 @@ loop-again t c =
           omega (arith, start′ .start .kept, eat-inside′ .eat-inside .kept, loop′ .loop .inv .1),
           (
             omega (arith, start′ .start .kept, eat-inside′ .eat-inside .kept, loop′ .loop .inv .1),
-            again-part (s′ .args .room) (c-no (c-no (c-walk (at′ .at .ensures .0 (walk-rule (s′ .args .room) (tokens (s′ .args .t .now))) unlabelled _ _ _)) (if1′ .if1 .left) (c-act (at-end′ .at-end .ensures .0 unlabelled _ _ _))) (if2′ .if2 .left) (c-no (c-act (silent-at-set′ .silent-at-set .ensures .0 unlabelled _ _ _)) (if3′ .if3 .left) (c-yes (c-fn (s′ .args .room) (eat-inside′ .eat-inside .ensures .0)) (if4′ .if4 .taken) c-ret))) (ahead-falls (s′ .args .t .now) (loop′ .loop .q .s) (eat-inside′ .eat-inside .result .p .s) (omega (arith, start′ .start .ensures .1 (s′ .args .t .now), loop′ .loop .inv .0, at′ .at .ensures .1 .0, at-end′ .at-end .ensures .1 .0, at-end′ .at-end .ensures .1 .1 .0 (if2′ .if2 .left), silent-at-set′ .silent-at-set .ensures .1 .0, eat-inside′ .eat-inside .ensures .1 .0, eat-inside′ .eat-inside .ensures .1 .1 (if4′ .if4 .taken)))) ∙ loop′ .loop .inv .1 .1 .1 .1,
+            again-part (s′ .args .room) (c-no (c-no (c-walk (at′ .at .ensures .0 (walk-rule (s′ .args .room) (tokens-of (s′ .args .t .now))) unlabelled _ _ _)) (if1′ .if1 .left) (c-act (at-end′ .at-end .ensures .0 unlabelled _ _ _))) (if2′ .if2 .left) (c-no (c-act (silent-at-set′ .silent-at-set .ensures .0 unlabelled _ _ _)) (if3′ .if3 .left) (c-yes (c-fn (s′ .args .room) (eat-inside′ .eat-inside .ensures .0)) (if4′ .if4 .taken) c-ret))) (ahead-falls (s′ .args .t .now) (loop′ .loop .q .s) (eat-inside′ .eat-inside .result .p .s) (omega (arith, start′ .start .ensures .1 (s′ .args .t .now), loop′ .loop .inv .0, at′ .at .ensures .1 .0, at-end′ .at-end .ensures .1 .0, at-end′ .at-end .ensures .1 .1 .0 (if2′ .if2 .left), silent-at-set′ .silent-at-set .ensures .1 .0, eat-inside′ .eat-inside .ensures .1 .0, eat-inside′ .eat-inside .ensures .1 .1 (if4′ .if4 .taken)))) ∙ loop′ .loop .inv .1 .1 .1 .1,
           ),
         ),
       ),
@@ -267,6 +267,6 @@ returns-4 t c =
     let start′ = loop′ .before .before .before in
     let new′ = start′ .before .before in
     let s′ = new′ .before .before .before .before .before in (
-      way (s′ .args .room) (c-mark (new′ .new .ensures) (start′ .start .ensures .0 _ _) (c-no {t = false} (c-part (s′ .args .room) (last-no (s′ .args .room) (c-no (c-no (c-walk (at′ .at .ensures .0 (walk-rule (s′ .args .room) (tokens (s′ .args .t .now))) unlabelled _ _ _)) (if1′ .if1 .left) (c-act (at-end′ .at-end .ensures .0 unlabelled _ _ _))) (if2′ .if2 .left) (c-no (c-act (silent-at-set′ .silent-at-set .ensures .0 unlabelled _ _ _)) (if3′ .if3 .left) (c-no (c-fn (s′ .args .room) (eat-inside′ .eat-inside .ensures .0)) (if4′ .if4 .left) c-ret))) ∙ loop′ .loop .inv .1 .1 .1 .1)) refl c-ret) (completed 13 (complete4′ .complete4 .ensures .0 _ _))),
+      way (s′ .args .room) (c-mark (new′ .new .ensures) (start′ .start .ensures .0 _ _) (c-no {t = false} (c-part (s′ .args .room) (last-no (s′ .args .room) (c-no (c-no (c-walk (at′ .at .ensures .0 (walk-rule (s′ .args .room) (tokens-of (s′ .args .t .now))) unlabelled _ _ _)) (if1′ .if1 .left) (c-act (at-end′ .at-end .ensures .0 unlabelled _ _ _))) (if2′ .if2 .left) (c-no (c-act (silent-at-set′ .silent-at-set .ensures .0 unlabelled _ _ _)) (if3′ .if3 .left) (c-no (c-fn (s′ .args .room) (eat-inside′ .eat-inside .ensures .0)) (if4′ .if4 .left) c-ret))) ∙ loop′ .loop .inv .1 .1 .1 .1)) refl c-ret) (completed 13 (complete4′ .complete4 .ensures .0 _ _))),
       (omega (arith, start′ .start .ensures .1 (s′ .args .t .now), loop′ .loop .inv .0, at′ .at .ensures .1 .0, at-end′ .at-end .ensures .1 .0, at-end′ .at-end .ensures .1 .1 .0 (if2′ .if2 .left), silent-at-set′ .silent-at-set .ensures .1 .0, eat-inside′ .eat-inside .ensures .1 .0, complete4′ .complete4 .ensures .1 (s′ .args .t .now)), λ e. true-false (sym e)),
     )

@@ -1,7 +1,7 @@
 -- `bits` is the walk of its program, step by step.
 use Prim.Native.Nat.{ℕ}
 use native.Mathlib.Omega.{arith}
-use Rattle.definitions.specs.Token.{tokens}
+use Rattle.definitions.specs.Token.{tokens-of}
 use Rattle.definitions.specs.Grammar.{bits-value}
 use Rattle.machine.specs.Walk.{walk-rule, unlabelled}
 use Rattle.machine.proofs.Way.{c-walk, c-act, c-ret, c-seq, c-yes, c-no, c-mark, completed, way}
@@ -97,7 +97,7 @@ returns t c =
     let start′ = new2′ .before .before .before in
     let new′ = start′ .before .before in
     let s′ = new′ .before .before .before .before .before in (
-      way (s′ .args .room) (c-mark (new′ .new .ensures) (start′ .start .ensures .0 _ _) (c-seq (c-mark (new2′ .new2 .ensures) (start2′ .start2 .ensures .0 _ _) (c-seq (c-seq (c-act (bump′ .bump .ensures .0 unlabelled _ _)) (c-walk (expect′ .expect .ensures .0 (walk-rule (s′ .args .room) (tokens (s′ .args .t .now))) unlabelled))) c-ret) (completed 10 (complete′ .complete .ensures .0 _ _))) (c-yes (c-walk (at′ .at .ensures .0 (walk-rule (s′ .args .room) (tokens (s′ .args .t .now))) unlabelled _ _ _)) (if1′ .if1 .taken) (c-same (s′ .args .room)))) (closing (dt-cell-list′ .dt-cell-list .ensures .0))),
+      way (s′ .args .room) (c-mark (new′ .new .ensures) (start′ .start .ensures .0 _ _) (c-seq (c-mark (new2′ .new2 .ensures) (start2′ .start2 .ensures .0 _ _) (c-seq (c-seq (c-act (bump′ .bump .ensures .0 unlabelled _ _)) (c-walk (expect′ .expect .ensures .0 (walk-rule (s′ .args .room) (tokens-of (s′ .args .t .now))) unlabelled))) c-ret) (completed 10 (complete′ .complete .ensures .0 _ _))) (c-yes (c-walk (at′ .at .ensures .0 (walk-rule (s′ .args .room) (tokens-of (s′ .args .t .now))) unlabelled _ _ _)) (if1′ .if1 .taken) (c-same (s′ .args .room)))) (closing (dt-cell-list′ .dt-cell-list .ensures .0))),
       omega (arith, start′ .start .ensures .1 (s′ .args .t .now), start2′ .start2 .ensures .1 (s′ .args .t .now), bump′ .bump .ensures .1, expect′ .expect .ensures .1 .0, complete′ .complete .ensures .1 (s′ .args .t .now), at′ .at .ensures .1 .0, at′ .at .ensures .1 .1 (if1′ .if1 .taken), dt-cell-list′ .dt-cell-list .ensures .1),
     )
 
@@ -149,6 +149,6 @@ returns-2 t c =
     let start′ = new2′ .before .before .before in
     let new′ = start′ .before .before in
     let s′ = new′ .before .before .before .before .before in (
-      way (s′ .args .room) (c-mark (new′ .new .ensures) (start′ .start .ensures .0 _ _) (c-seq (c-mark (new2′ .new2 .ensures) (start2′ .start2 .ensures .0 _ _) (c-seq (c-seq (c-act (bump′ .bump .ensures .0 unlabelled _ _)) (c-walk (expect′ .expect .ensures .0 (walk-rule (s′ .args .room) (tokens (s′ .args .t .now))) unlabelled))) c-ret) (completed 10 (complete′ .complete .ensures .0 _ _))) (c-no (c-walk (at′ .at .ensures .0 (walk-rule (s′ .args .room) (tokens (s′ .args .t .now))) unlabelled _ _ _)) (if1′ .if1 .left) (c-seq (c-walk (error′ .error .ensures .0 (walk-rule (s′ .args .room) (tokens (s′ .args .t .now))) unlabelled)) c-ret))) (completed 9 (complete2′ .complete2 .ensures .0 _ _))),
+      way (s′ .args .room) (c-mark (new′ .new .ensures) (start′ .start .ensures .0 _ _) (c-seq (c-mark (new2′ .new2 .ensures) (start2′ .start2 .ensures .0 _ _) (c-seq (c-seq (c-act (bump′ .bump .ensures .0 unlabelled _ _)) (c-walk (expect′ .expect .ensures .0 (walk-rule (s′ .args .room) (tokens-of (s′ .args .t .now))) unlabelled))) c-ret) (completed 10 (complete′ .complete .ensures .0 _ _))) (c-no (c-walk (at′ .at .ensures .0 (walk-rule (s′ .args .room) (tokens-of (s′ .args .t .now))) unlabelled _ _ _)) (if1′ .if1 .left) (c-seq (c-walk (error′ .error .ensures .0 (walk-rule (s′ .args .room) (tokens-of (s′ .args .t .now))) unlabelled)) c-ret))) (completed 9 (complete2′ .complete2 .ensures .0 _ _))),
       omega (arith, start′ .start .ensures .1 (s′ .args .t .now), start2′ .start2 .ensures .1 (s′ .args .t .now), bump′ .bump .ensures .1, expect′ .expect .ensures .1 .0, complete′ .complete .ensures .1 (s′ .args .t .now), at′ .at .ensures .1 .0, error′ .error .ensures .1, complete2′ .complete2 .ensures .1 (s′ .args .t .now)),
     )

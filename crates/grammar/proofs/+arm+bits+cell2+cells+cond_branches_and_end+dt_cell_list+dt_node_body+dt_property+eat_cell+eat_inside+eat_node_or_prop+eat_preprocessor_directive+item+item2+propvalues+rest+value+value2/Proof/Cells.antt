@@ -4,7 +4,7 @@ use Prim.Native.Nat.{_≤_}
 use mathlib.Core.Path.{_≡_, refl, _∙_}
 use lib.ListN.{length}
 use native.Mathlib.Omega.{arith}
-use Rattle.definitions.specs.Token.{tokens}
+use Rattle.definitions.specs.Token.{tokens-of}
 use Rattle.definitions.specs.Prog.{loop}
 use Rattle.definitions.specs.Check.{silent}
 use Rattle.definitions.specs.Grammar.{cells-turn, cells}
@@ -23,7 +23,7 @@ Inv-loop t ev₀ rep₀ pool₀ room at-end q₀ ev rep pool q =
     (left t (q .s) ≤ left t (q₀ .s))
     × ((length ev ≡ length ev₀)
     × ((length rep ≡ length rep₀)
-    × ((length pool ≡ length pool₀) × (walk-prog room (tokens t) unlabelled (cells at-end) (view-of q ev rep pool) ≡ walk-prog room (tokens t) unlabelled (cells at-end) (view-of q₀ ev₀ rep₀ pool₀)))))
+    × ((length pool ≡ length pool₀) × (walk-prog room (tokens-of t) unlabelled (cells at-end) (view-of q ev rep pool) ≡ walk-prog room (tokens-of t) unlabelled (cells at-end) (view-of q₀ ev₀ rep₀ pool₀)))))
 
 abbrev pub μ-loop : lts.MeasureT-loop
 μ-loop t ev₀ rep₀ pool₀ room at-end q₀ ev rep pool q = left t (q .s)
@@ -94,7 +94,7 @@ returns t c =
     let eat-cell′ = if1′ .before .before .before .before .before .before .before in
     let loop′ = eat-cell′ .before .before .before .before in
     let s′ = loop′ .before .before .before .before .before in (
-      as-yes (if2′ .if2 .taken) (last-yes (s′ .args .room) (c-no (c-call (s′ .args .room) (eat-cell′ .eat-cell .ensures .0)) (if1′ .if1 .left) (c-yes (c-walk (at-cells-end′ .at-cells-end .ensures .0 (walk-rule (s′ .args .room) (tokens (s′ .args .t .now))) unlabelled _ _ _)) (if2′ .if2 .taken) c-ret))) ∙ loop′ .loop .inv .1 .1 .1 .1,
+      as-yes (if2′ .if2 .taken) (last-yes (s′ .args .room) (c-no (c-call (s′ .args .room) (eat-cell′ .eat-cell .ensures .0)) (if1′ .if1 .left) (c-yes (c-walk (at-cells-end′ .at-cells-end .ensures .0 (walk-rule (s′ .args .room) (tokens-of (s′ .args .t .now))) unlabelled _ _ _)) (if2′ .if2 .taken) c-ret))) ∙ loop′ .loop .inv .1 .1 .1 .1,
       omega (arith, loop′ .loop .inv .0, eat-cell′ .eat-cell .ensures .1 .0, at-cells-end′ .at-cells-end .ensures .1),
     )
 
@@ -137,7 +137,7 @@ returns-2 t c =
     let eat-cell′ = if1′ .before .before .before .before .before .before .before in
     let loop′ = eat-cell′ .before .before .before .before in
     let s′ = loop′ .before .before .before .before .before in (
-      last-no (s′ .args .room) (c-no (c-call (s′ .args .room) (eat-cell′ .eat-cell .ensures .0)) (if1′ .if1 .left) (c-no (c-walk (at-cells-end′ .at-cells-end .ensures .0 (walk-rule (s′ .args .room) (tokens (s′ .args .t .now))) unlabelled _ _ _)) (if2′ .if2 .left) (c-yes (c-walk (at-cells-recovery′ .at-cells-recovery .ensures .0 (walk-rule (s′ .args .room) (tokens (s′ .args .t .now))) unlabelled _ _ _)) (if3′ .if3 .taken) (c-seq (c-walk (error′ .error .ensures .0 (walk-rule (s′ .args .room) (tokens (s′ .args .t .now))) unlabelled)) c-ret)))) ∙ loop′ .loop .inv .1 .1 .1 .1,
+      last-no (s′ .args .room) (c-no (c-call (s′ .args .room) (eat-cell′ .eat-cell .ensures .0)) (if1′ .if1 .left) (c-no (c-walk (at-cells-end′ .at-cells-end .ensures .0 (walk-rule (s′ .args .room) (tokens-of (s′ .args .t .now))) unlabelled _ _ _)) (if2′ .if2 .left) (c-yes (c-walk (at-cells-recovery′ .at-cells-recovery .ensures .0 (walk-rule (s′ .args .room) (tokens-of (s′ .args .t .now))) unlabelled _ _ _)) (if3′ .if3 .taken) (c-seq (c-walk (error′ .error .ensures .0 (walk-rule (s′ .args .room) (tokens-of (s′ .args .t .now))) unlabelled)) c-ret)))) ∙ loop′ .loop .inv .1 .1 .1 .1,
       omega (arith, loop′ .loop .inv .0, eat-cell′ .eat-cell .ensures .1 .0, at-cells-end′ .at-cells-end .ensures .1, at-cells-recovery′ .at-cells-recovery .ensures .1 .0, error′ .error .ensures .1),
     )
 
@@ -173,7 +173,7 @@ loop-again-2 t c =
           omega (arith, eat-cell′ .eat-cell .kept, error2′ .error2 .kept, loop′ .loop .inv .1),
           (
             omega (arith, eat-cell′ .eat-cell .kept, error2′ .error2 .kept, loop′ .loop .inv .1),
-            again-part (s′ .args .room) (c-no (c-call (s′ .args .room) (eat-cell′ .eat-cell .ensures .0)) (if1′ .if1 .left) (c-no (c-walk (at-cells-end′ .at-cells-end .ensures .0 (walk-rule (s′ .args .room) (tokens (s′ .args .t .now))) unlabelled _ _ _)) (if2′ .if2 .left) (c-no (c-walk (at-cells-recovery′ .at-cells-recovery .ensures .0 (walk-rule (s′ .args .room) (tokens (s′ .args .t .now))) unlabelled _ _ _)) (if3′ .if3 .left) (c-seq (c-walk (error2′ .error2 .ensures .0 (walk-rule (s′ .args .room) (tokens (s′ .args .t .now))) unlabelled)) c-ret)))) (ahead-falls (s′ .args .t .now) (loop′ .loop .q .s) (error2′ .error2 .result .s) (omega (arith, loop′ .loop .inv .0, eat-cell′ .eat-cell .ensures .1 .0, at-cells-end′ .at-cells-end .ensures .1, at-cells-recovery′ .at-cells-recovery .ensures .1 .0, at-cells-recovery′ .at-cells-recovery .ensures .1 .1 (if3′ .if3 .left), error2′ .error2 .ensures .1))) ∙ loop′ .loop .inv .1 .1 .1 .1,
+            again-part (s′ .args .room) (c-no (c-call (s′ .args .room) (eat-cell′ .eat-cell .ensures .0)) (if1′ .if1 .left) (c-no (c-walk (at-cells-end′ .at-cells-end .ensures .0 (walk-rule (s′ .args .room) (tokens-of (s′ .args .t .now))) unlabelled _ _ _)) (if2′ .if2 .left) (c-no (c-walk (at-cells-recovery′ .at-cells-recovery .ensures .0 (walk-rule (s′ .args .room) (tokens-of (s′ .args .t .now))) unlabelled _ _ _)) (if3′ .if3 .left) (c-seq (c-walk (error2′ .error2 .ensures .0 (walk-rule (s′ .args .room) (tokens-of (s′ .args .t .now))) unlabelled)) c-ret)))) (ahead-falls (s′ .args .t .now) (loop′ .loop .q .s) (error2′ .error2 .result .s) (omega (arith, loop′ .loop .inv .0, eat-cell′ .eat-cell .ensures .1 .0, at-cells-end′ .at-cells-end .ensures .1, at-cells-recovery′ .at-cells-recovery .ensures .1 .0, at-cells-recovery′ .at-cells-recovery .ensures .1 .1 (if3′ .if3 .left), error2′ .error2 .ensures .1))) ∙ loop′ .loop .inv .1 .1 .1 .1,
           ),
         ),
       ),

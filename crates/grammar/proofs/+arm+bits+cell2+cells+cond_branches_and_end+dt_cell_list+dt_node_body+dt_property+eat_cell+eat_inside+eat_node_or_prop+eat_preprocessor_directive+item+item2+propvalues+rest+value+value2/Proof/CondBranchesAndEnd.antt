@@ -4,7 +4,7 @@ use Prim.Native.Nat.{_≤_}
 use mathlib.Core.Path.{_≡_, refl, _∙_}
 use lib.ListN.{length}
 use native.Mathlib.Omega.{arith}
-use Rattle.definitions.specs.Token.{tokens}
+use Rattle.definitions.specs.Token.{tokens-of}
 use Rattle.definitions.specs.Prog.{loop}
 use Rattle.definitions.specs.Grammar.{cond-branches-turn, cond-branches-and-end}
 use Rattle.machine.specs.Walk.{walk-rule, walk-prog, unlabelled}
@@ -23,7 +23,7 @@ Inv-loop t ev₀ rep₀ pool₀ room inside q₀ ev rep pool q =
     (left t (q .s) ≤ left t (q₀ .s))
     × ((length ev ≡ length ev₀)
     × ((length rep ≡ length rep₀)
-    × ((length pool ≡ length pool₀) × (walk-prog room (tokens t) unlabelled (loop (cond-branches-turn (inside-of inside))) (view-of q ev rep pool) ≡ walk-prog room (tokens t) unlabelled (loop (cond-branches-turn (inside-of inside))) (view-of q₀ ev₀ rep₀ pool₀)))))
+    × ((length pool ≡ length pool₀) × (walk-prog room (tokens-of t) unlabelled (loop (cond-branches-turn (inside-of inside))) (view-of q ev rep pool) ≡ walk-prog room (tokens-of t) unlabelled (loop (cond-branches-turn (inside-of inside))) (view-of q₀ ev₀ rep₀ pool₀)))))
 
 abbrev pub μ-loop : lts.MeasureT-loop
 μ-loop t ev₀ rep₀ pool₀ room inside q₀ ev rep pool q = left t (q .s)
@@ -101,6 +101,6 @@ returns t c =
     let arm′ = if1′ .before .before .before .before .before .before .before in
     let loop′ = arm′ .before .before .before .before in
     let s′ = loop′ .before .before .before .before .before in (
-      part-on (s′ .args .room) (c-seq (c-part (s′ .args .room) (last-yes (s′ .args .room) (c-no (c-fn (s′ .args .room) (arm′ .arm .ensures .0)) (if1′ .if1 .left) c-ret) ∙ loop′ .loop .inv .1 .1 .1 .1)) (c-walk (expect′ .expect .ensures .0 (walk-rule (s′ .args .room) (tokens (s′ .args .t .now))) unlabelled))),
+      part-on (s′ .args .room) (c-seq (c-part (s′ .args .room) (last-yes (s′ .args .room) (c-no (c-fn (s′ .args .room) (arm′ .arm .ensures .0)) (if1′ .if1 .left) c-ret) ∙ loop′ .loop .inv .1 .1 .1 .1)) (c-walk (expect′ .expect .ensures .0 (walk-rule (s′ .args .room) (tokens-of (s′ .args .t .now))) unlabelled))),
       omega (arith, loop′ .loop .inv .0, arm′ .arm .ensures .1 .0, expect′ .expect .ensures .1 .0),
     )

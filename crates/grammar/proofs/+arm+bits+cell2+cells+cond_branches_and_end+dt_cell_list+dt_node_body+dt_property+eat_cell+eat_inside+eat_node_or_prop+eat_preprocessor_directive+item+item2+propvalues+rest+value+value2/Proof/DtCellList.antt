@@ -1,7 +1,7 @@
 -- `dt_cell_list` is the walk of its program, step by step.
 use Prim.Native.Nat.{ℕ}
 use native.Mathlib.Omega.{arith}
-use Rattle.definitions.specs.Token.{tokens}
+use Rattle.definitions.specs.Token.{tokens-of}
 use Rattle.definitions.specs.Grammar.{dt-cell-list}
 use Rattle.machine.specs.Walk.{walk-rule, unlabelled}
 use Rattle.machine.proofs.Way.{c-walk, c-act, c-ret, c-seq, c-yes, c-no, completed, c-fn}
@@ -61,7 +61,7 @@ returns t c =
     let cells′ = if1′ .before .before .before .before .before .before .before in
     let bump′ = cells′ .before .before .before .before .before .before in
     let s′ = bump′ .before .before .before .before .before .before in (
-      closes (s′ .args .room) (c-seq (c-act (bump′ .bump .ensures .0 unlabelled _ _)) (c-yes (c-fn (s′ .args .room) (cells′ .cells .ensures .0)) (if1′ .if1 .taken) (c-seq (c-walk (expect′ .expect .ensures .0 (walk-rule (s′ .args .room) (tokens (s′ .args .t .now))) unlabelled)) c-ret))) (completed 16 (complete′ .complete .ensures .0 _ _)),
+      closes (s′ .args .room) (c-seq (c-act (bump′ .bump .ensures .0 unlabelled _ _)) (c-yes (c-fn (s′ .args .room) (cells′ .cells .ensures .0)) (if1′ .if1 .taken) (c-seq (c-walk (expect′ .expect .ensures .0 (walk-rule (s′ .args .room) (tokens-of (s′ .args .t .now))) unlabelled)) c-ret))) (completed 16 (complete′ .complete .ensures .0 _ _)),
       omega (arith, bump′ .bump .ensures .1, cells′ .cells .ensures .1, expect′ .expect .ensures .1 .0, complete′ .complete .ensures .1 (s′ .args .t .now)),
     )
 

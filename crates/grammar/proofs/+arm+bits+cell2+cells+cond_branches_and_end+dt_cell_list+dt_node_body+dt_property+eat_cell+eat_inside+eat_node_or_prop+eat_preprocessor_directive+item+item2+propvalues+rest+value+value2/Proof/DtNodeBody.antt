@@ -4,7 +4,7 @@ use Prim.Native.Nat.{_≤_}
 use mathlib.Core.Path.{_≡_, refl, _∙_}
 use lib.ListN.{length}
 use native.Mathlib.Omega.{arith}
-use Rattle.definitions.specs.Token.{tokens}
+use Rattle.definitions.specs.Token.{tokens-of}
 use Rattle.definitions.specs.Prog.{loop}
 use Rattle.definitions.specs.Grammar.{node-body-turn, dt-node-body}
 use Rattle.machine.specs.Walk.{walk-rule, walk-prog}
@@ -23,7 +23,7 @@ Inv-loop t ev₀ rep₀ pool₀ room m lcurly q₀ ev rep pool q =
     (left t (q .s) ≤ left t (q₀ .s))
     × ((length ev ≡ length ev₀)
     × ((length rep ≡ length rep₀)
-    × ((length pool ≡ length pool₀) × (walk-prog room (tokens t) (span-of lcurly) (loop node-body-turn) (view-of q ev rep pool) ≡ walk-prog room (tokens t) (span-of lcurly) (loop node-body-turn) (view-of q₀ ev₀ rep₀ pool₀)))))
+    × ((length pool ≡ length pool₀) × (walk-prog room (tokens-of t) (span-of lcurly) (loop node-body-turn) (view-of q ev rep pool) ≡ walk-prog room (tokens-of t) (span-of lcurly) (loop node-body-turn) (view-of q₀ ev₀ rep₀ pool₀)))))
 
 abbrev pub μ-loop : lts.MeasureT-loop
 μ-loop t ev₀ rep₀ pool₀ room m lcurly q₀ ev rep pool q = left t (q .s)
@@ -75,7 +75,7 @@ loop-again t c =
           omega (arith, bump′ .bump .kept, item′ .item .kept, loop′ .loop .inv .1),
           (
             omega (arith, bump′ .bump .kept, item′ .item .kept, loop′ .loop .inv .1),
-            again-part (s′ .args .room) (c-yes (c-walk (at-item′ .at-item .ensures .0 (walk-rule (s′ .args .room) (tokens (s′ .args .t .now))) (span-of (range′ .range .result)) _ _ _)) (if1′ .if1 .taken) (c-call-on (s′ .args .room) (item′ .item .ensures .0) c-ret)) (ahead-falls (s′ .args .t .now) (loop′ .loop .q .s) (item′ .item .result .s) (omega (arith, bump′ .bump .ensures .1, loop′ .loop .inv .0, at-item′ .at-item .ensures .1 .0, at-item′ .at-item .ensures .1 .1 (if1′ .if1 .taken), item′ .item .ensures .1))) ∙ loop′ .loop .inv .1 .1 .1 .1,
+            again-part (s′ .args .room) (c-yes (c-walk (at-item′ .at-item .ensures .0 (walk-rule (s′ .args .room) (tokens-of (s′ .args .t .now))) (span-of (range′ .range .result)) _ _ _)) (if1′ .if1 .taken) (c-call-on (s′ .args .room) (item′ .item .ensures .0) c-ret)) (ahead-falls (s′ .args .t .now) (loop′ .loop .q .s) (item′ .item .result .s) (omega (arith, bump′ .bump .ensures .1, loop′ .loop .inv .0, at-item′ .at-item .ensures .1 .0, at-item′ .at-item .ensures .1 .1 (if1′ .if1 .taken), item′ .item .ensures .1))) ∙ loop′ .loop .inv .1 .1 .1 .1,
           ),
         ),
       ),
@@ -115,6 +115,6 @@ returns t c =
     let bump′ = loop′ .before .before .before in
     let range′ = bump′ .before .before in
     let s′ = range′ .before .before .before .before .before in (
-      closes (s′ .args .room) (c-brace (range′ .range .ensures _ _ _ _) (c-seq (c-act (bump′ .bump .ensures .0 (span-of (range′ .range .result)) _ _)) (c-seq (c-part (s′ .args .room) (last-yes (s′ .args .room) (c-no (c-walk (at-item′ .at-item .ensures .0 (walk-rule (s′ .args .room) (tokens (s′ .args .t .now))) (span-of (range′ .range .result)) _ _ _)) (if1′ .if1 .left) c-ret) ∙ loop′ .loop .inv .1 .1 .1 .1)) c-any))) (closing (node-end′ .node-end .ensures .0 (walk-rule (s′ .args .room) (tokens (s′ .args .t .now))))),
+      closes (s′ .args .room) (c-brace (range′ .range .ensures _ _ _ _) (c-seq (c-act (bump′ .bump .ensures .0 (span-of (range′ .range .result)) _ _)) (c-seq (c-part (s′ .args .room) (last-yes (s′ .args .room) (c-no (c-walk (at-item′ .at-item .ensures .0 (walk-rule (s′ .args .room) (tokens-of (s′ .args .t .now))) (span-of (range′ .range .result)) _ _ _)) (if1′ .if1 .left) c-ret) ∙ loop′ .loop .inv .1 .1 .1 .1)) c-any))) (closing (node-end′ .node-end .ensures .0 (walk-rule (s′ .args .room) (tokens-of (s′ .args .t .now))))),
       omega (arith, bump′ .bump .ensures .1, loop′ .loop .inv .0, at-item′ .at-item .ensures .1 .0, node-end′ .node-end .ensures .1),
     )

@@ -4,7 +4,7 @@ use Prim.Native.Nat.{_-_}
 use mathlib.Core.Path.{sym, ap, _∙_}
 use native.Mathlib.Omega.{arith}
 use borrow.Author.Tests.{eqb-true, eqb-false}
-use Rattle.definitions.specs.Token.{tokens}
+use Rattle.definitions.specs.Token.{tokens-of}
 use Rattle.definitions.specs.Prog.{no, eat-cell}
 use Rattle.definitions.specs.Grammar.{grammar}
 use Rattle.machine.specs.Walk.{said, walk-rule, unlabelled}
@@ -23,7 +23,7 @@ returns t c =
     let refuse′ = c in
     let if1′ = refuse′ .before in
     let s′ = if1′ .before .before .before .before .before in (
-      ap (said no) (refuse′ .refuse .ensures .0 _ _ _) ∙ rule-closed (s′ .args .room) (tokens (s′ .args .t .now)) (eat-cell (s′ .args .at-end)) _ (eqb-true (s′ .args .room) 0 (if1′ .if1 .taken)),
+      ap (said no) (refuse′ .refuse .ensures .0 _ _ _) ∙ rule-closed (s′ .args .room) (tokens-of (s′ .args .t .now)) (eat-cell (s′ .args .at-end)) _ (eqb-true (s′ .args .room) 0 (if1′ .if1 .taken)),
       (omega (arith, refuse′ .refuse .ensures .1 (s′ .args .t .now) (s′ .good .1 .0 .0)), λ e. true-false (sym e)),
     )
 
@@ -52,7 +52,7 @@ returns-2 t c =
     let eat-plain-cell′ = if2′ .before .before .before .before .before .before .before in
     let if1′ = eat-plain-cell′ .before .before .before .before in
     let s′ = if1′ .before .before .before .before .before in (
-      way (s′ .args .room - 1) (c-yes (c-walk (eat-plain-cell′ .eat-plain-cell .ensures .0 (walk-rule (s′ .args .room - 1) (tokens (s′ .args .t .now))) unlabelled)) (if2′ .if2 .taken) (c-ret-yes (if2′ .if2 .taken))) ∙ cell-body-parts (s′ .args .room - 1) (tokens (s′ .args .t .now)) (s′ .args .at-end) _ ∙ rule-body (s′ .args .room) (tokens (s′ .args .t .now)) (eat-cell (s′ .args .at-end)) _ (omega (arith, eqb-false (s′ .args .room) 0 (if1′ .if1 .left))),
+      way (s′ .args .room - 1) (c-yes (c-walk (eat-plain-cell′ .eat-plain-cell .ensures .0 (walk-rule (s′ .args .room - 1) (tokens-of (s′ .args .t .now))) unlabelled)) (if2′ .if2 .taken) (c-ret-yes (if2′ .if2 .taken))) ∙ cell-body-parts (s′ .args .room - 1) (tokens-of (s′ .args .t .now)) (s′ .args .at-end) _ ∙ rule-body (s′ .args .room) (tokens-of (s′ .args .t .now)) (eat-cell (s′ .args .at-end)) _ (omega (arith, eqb-false (s′ .args .room) 0 (if1′ .if1 .left))),
       (omega (arith, eat-plain-cell′ .eat-plain-cell .ensures .1 .0, eat-plain-cell′ .eat-plain-cell .ensures .1 .1 (if2′ .if2 .taken), eqb-false (s′ .args .room) 0 (if1′ .if1 .left)), λ e. omega (arith, eat-plain-cell′ .eat-plain-cell .ensures .1 .0, eat-plain-cell′ .eat-plain-cell .ensures .1 .1 (if2′ .if2 .taken), eqb-false (s′ .args .room) 0 (if1′ .if1 .left))),
     )
 
@@ -96,7 +96,7 @@ returns-3 t c =
     let eat-plain-cell′ = if2′ .before .before .before .before .before .before .before in
     let if1′ = eat-plain-cell′ .before .before .before .before in
     let s′ = if1′ .before .before .before .before .before in (
-      way (s′ .args .room - 1) (c-no (c-walk (eat-plain-cell′ .eat-plain-cell .ensures .0 (walk-rule (s′ .args .room - 1) (tokens (s′ .args .t .now))) unlabelled)) (if2′ .if2 .left) (c-yes (c-act (silent-at′ .silent-at .ensures .0 unlabelled _ _ _)) (if3′ .if3 .taken) (c-seq (c-fn (s′ .args .room - 1) (dt-expr′ .dt-expr .ensures .0)) c-ret))) ∙ cell-body-parts (s′ .args .room - 1) (tokens (s′ .args .t .now)) (s′ .args .at-end) _ ∙ rule-body (s′ .args .room) (tokens (s′ .args .t .now)) (eat-cell (s′ .args .at-end)) _ (omega (arith, eqb-false (s′ .args .room) 0 (if1′ .if1 .left))),
+      way (s′ .args .room - 1) (c-no (c-walk (eat-plain-cell′ .eat-plain-cell .ensures .0 (walk-rule (s′ .args .room - 1) (tokens-of (s′ .args .t .now))) unlabelled)) (if2′ .if2 .left) (c-yes (c-act (silent-at′ .silent-at .ensures .0 unlabelled _ _ _)) (if3′ .if3 .taken) (c-seq (c-fn (s′ .args .room - 1) (dt-expr′ .dt-expr .ensures .0)) c-ret))) ∙ cell-body-parts (s′ .args .room - 1) (tokens-of (s′ .args .t .now)) (s′ .args .at-end) _ ∙ rule-body (s′ .args .room) (tokens-of (s′ .args .t .now)) (eat-cell (s′ .args .at-end)) _ (omega (arith, eqb-false (s′ .args .room) 0 (if1′ .if1 .left))),
       (omega (arith, eat-plain-cell′ .eat-plain-cell .ensures .1 .0, silent-at′ .silent-at .ensures .1 .0, silent-at′ .silent-at .ensures .1 .1 (if3′ .if3 .taken), dt-expr′ .dt-expr .ensures .1, eqb-false (s′ .args .room) 0 (if1′ .if1 .left)), λ e. omega (arith, eat-plain-cell′ .eat-plain-cell .ensures .1 .0, silent-at′ .silent-at .ensures .1 .0, silent-at′ .silent-at .ensures .1 .1 (if3′ .if3 .taken), dt-expr′ .dt-expr .ensures .1, eqb-false (s′ .args .room) 0 (if1′ .if1 .left))),
     )
 
@@ -142,6 +142,6 @@ returns-4 t c =
     let eat-plain-cell′ = if2′ .before .before .before .before .before .before .before in
     let if1′ = eat-plain-cell′ .before .before .before .before in
     let s′ = if1′ .before .before .before .before .before in (
-      way (s′ .args .room - 1) (c-no (c-walk (eat-plain-cell′ .eat-plain-cell .ensures .0 (walk-rule (s′ .args .room - 1) (tokens (s′ .args .t .now))) unlabelled)) (if2′ .if2 .left) (c-no (c-act (silent-at′ .silent-at .ensures .0 unlabelled _ _ _)) (if3′ .if3 .left) (c-fn (s′ .args .room - 1) (cell2′ .cell2 .ensures .0)))) ∙ cell-body-parts (s′ .args .room - 1) (tokens (s′ .args .t .now)) (s′ .args .at-end) _ ∙ rule-body (s′ .args .room) (tokens (s′ .args .t .now)) (eat-cell (s′ .args .at-end)) _ (omega (arith, eqb-false (s′ .args .room) 0 (if1′ .if1 .left))),
+      way (s′ .args .room - 1) (c-no (c-walk (eat-plain-cell′ .eat-plain-cell .ensures .0 (walk-rule (s′ .args .room - 1) (tokens-of (s′ .args .t .now))) unlabelled)) (if2′ .if2 .left) (c-no (c-act (silent-at′ .silent-at .ensures .0 unlabelled _ _ _)) (if3′ .if3 .left) (c-fn (s′ .args .room - 1) (cell2′ .cell2 .ensures .0)))) ∙ cell-body-parts (s′ .args .room - 1) (tokens-of (s′ .args .t .now)) (s′ .args .at-end) _ ∙ rule-body (s′ .args .room) (tokens-of (s′ .args .t .now)) (eat-cell (s′ .args .at-end)) _ (omega (arith, eqb-false (s′ .args .room) 0 (if1′ .if1 .left))),
       (omega (arith, eat-plain-cell′ .eat-plain-cell .ensures .1 .0, silent-at′ .silent-at .ensures .1 .0, cell2′ .cell2 .ensures .1 .0, eqb-false (s′ .args .room) 0 (if1′ .if1 .left)), λ e. omega (arith, eat-plain-cell′ .eat-plain-cell .ensures .1 .0, silent-at′ .silent-at .ensures .1 .0, cell2′ .cell2 .ensures .1 .0, eqb-false (s′ .args .room) 0 (if1′ .if1 .left), cell2′ .cell2 .ensures .1 .1 e)),
     )

@@ -2,7 +2,7 @@
 use Prim.Native.Nat.{ℕ}
 use mathlib.Core.Path.{sym, ap}
 use native.Mathlib.Omega.{arith}
-use Rattle.definitions.specs.Token.{tokens}
+use Rattle.definitions.specs.Token.{tokens-of}
 use Rattle.definitions.specs.Grammar.{eat-node-or-prop}
 use Rattle.machine.specs.Walk.{walk-rule, unlabelled}
 use Rattle.parser.specs.View.{answer-of}
@@ -80,7 +80,7 @@ returns t c =
     let start′ = eat-node-or-prop-prefix′ .before .before .before .before .before .before in
     let new′ = start′ .before .before in
     let s′ = new′ .before .before .before .before .before in (
-      way (s′ .args .room) (c-mark (new′ .new .ensures) (start′ .start .ensures .0 _ _) (c-said-also (eat-node-or-prop-prefix′ .eat-node-or-prop-prefix .result .answer) (c-walk (eat-node-or-prop-prefix′ .eat-node-or-prop-prefix .ensures .0 (walk-rule (s′ .args .room) (tokens (s′ .args .t .now))) unlabelled)) (ap answer-of (enum-told2′ .enum-told2 .given .1)) (c-yes (c-walk (at′ .at .ensures .0 (walk-rule (s′ .args .room) (tokens (s′ .args .t .now))) unlabelled _ _ _)) (if1′ .if1 .taken) (c-same (s′ .args .room)))) (closing (dt-property′ .dt-property .ensures .0))),
+      way (s′ .args .room) (c-mark (new′ .new .ensures) (start′ .start .ensures .0 _ _) (c-said-also (eat-node-or-prop-prefix′ .eat-node-or-prop-prefix .result .answer) (c-walk (eat-node-or-prop-prefix′ .eat-node-or-prop-prefix .ensures .0 (walk-rule (s′ .args .room) (tokens-of (s′ .args .t .now))) unlabelled)) (ap answer-of (enum-told2′ .enum-told2 .given .1)) (c-yes (c-walk (at′ .at .ensures .0 (walk-rule (s′ .args .room) (tokens-of (s′ .args .t .now))) unlabelled _ _ _)) (if1′ .if1 .taken) (c-same (s′ .args .room)))) (closing (dt-property′ .dt-property .ensures .0))),
       (omega (arith, start′ .start .ensures .1 (s′ .args .t .now), eat-node-or-prop-prefix′ .eat-node-or-prop-prefix .ensures .1, at′ .at .ensures .1 .0, at′ .at .ensures .1 .1 (if1′ .if1 .taken), dt-property′ .dt-property .ensures .1, ap found (enum-told2′ .enum-told2 .given .1)), λ e. omega (arith, start′ .start .ensures .1 (s′ .args .t .now), eat-node-or-prop-prefix′ .eat-node-or-prop-prefix .ensures .1, at′ .at .ensures .1 .0, at′ .at .ensures .1 .1 (if1′ .if1 .taken), dt-property′ .dt-property .ensures .1, ap found (enum-told2′ .enum-told2 .given .1))),
     )
 
@@ -129,7 +129,7 @@ returns-2 t c =
     let start′ = eat-node-or-prop-prefix′ .before .before .before .before .before .before in
     let new′ = start′ .before .before in
     let s′ = new′ .before .before .before .before .before in (
-      way (s′ .args .room) (c-mark (new′ .new .ensures) (start′ .start .ensures .0 _ _) (c-said-no (eat-node-or-prop-prefix′ .eat-node-or-prop-prefix .result .answer) (c-walk (eat-node-or-prop-prefix′ .eat-node-or-prop-prefix .ensures .0 (walk-rule (s′ .args .room) (tokens (s′ .args .t .now))) unlabelled)) (ap answer-of (enum-told′ .enum-told .given .1)) c-ret) (ignored (ignore′ .ignore .ensures .0 _ _))),
+      way (s′ .args .room) (c-mark (new′ .new .ensures) (start′ .start .ensures .0 _ _) (c-said-no (eat-node-or-prop-prefix′ .eat-node-or-prop-prefix .result .answer) (c-walk (eat-node-or-prop-prefix′ .eat-node-or-prop-prefix .ensures .0 (walk-rule (s′ .args .room) (tokens-of (s′ .args .t .now))) unlabelled)) (ap answer-of (enum-told′ .enum-told .given .1)) c-ret) (ignored (ignore′ .ignore .ensures .0 _ _))),
       (omega (arith, start′ .start .ensures .1 (s′ .args .t .now), eat-node-or-prop-prefix′ .eat-node-or-prop-prefix .ensures .1, ignore′ .ignore .ensures .1 (s′ .args .t .now), ap found (enum-told′ .enum-told .given .1)), λ e. true-false (sym e)),
     )
 
@@ -165,7 +165,7 @@ returns-3 t c =
     let start′ = eat-node-or-prop-prefix′ .before .before .before .before .before .before in
     let new′ = start′ .before .before in
     let s′ = new′ .before .before .before .before .before in (
-      way (s′ .args .room) (c-mark (new′ .new .ensures) (start′ .start .ensures .0 _ _) (c-said-also (eat-node-or-prop-prefix′ .eat-node-or-prop-prefix .result .answer) (c-walk (eat-node-or-prop-prefix′ .eat-node-or-prop-prefix .ensures .0 (walk-rule (s′ .args .room) (tokens (s′ .args .t .now))) unlabelled)) (ap answer-of (enum-told2′ .enum-told2 .given .1)) (c-no (c-walk (at′ .at .ensures .0 (walk-rule (s′ .args .room) (tokens (s′ .args .t .now))) unlabelled _ _ _)) (if1′ .if1 .left) (c-same (s′ .args .room)))) (closing (rest′ .rest .ensures .0))),
+      way (s′ .args .room) (c-mark (new′ .new .ensures) (start′ .start .ensures .0 _ _) (c-said-also (eat-node-or-prop-prefix′ .eat-node-or-prop-prefix .result .answer) (c-walk (eat-node-or-prop-prefix′ .eat-node-or-prop-prefix .ensures .0 (walk-rule (s′ .args .room) (tokens-of (s′ .args .t .now))) unlabelled)) (ap answer-of (enum-told2′ .enum-told2 .given .1)) (c-no (c-walk (at′ .at .ensures .0 (walk-rule (s′ .args .room) (tokens-of (s′ .args .t .now))) unlabelled _ _ _)) (if1′ .if1 .left) (c-same (s′ .args .room)))) (closing (rest′ .rest .ensures .0))),
       (omega (arith, start′ .start .ensures .1 (s′ .args .t .now), eat-node-or-prop-prefix′ .eat-node-or-prop-prefix .ensures .1, at′ .at .ensures .1 .0, rest′ .rest .ensures .1, ap found (enum-told2′ .enum-told2 .given .1)), λ e. omega (arith, start′ .start .ensures .1 (s′ .args .t .now), eat-node-or-prop-prefix′ .eat-node-or-prop-prefix .ensures .1, at′ .at .ensures .1 .0, rest′ .rest .ensures .1, ap found (enum-told2′ .enum-told2 .given .1))),
     )
 
@@ -199,6 +199,6 @@ returns-4 t c =
     let start′ = eat-node-or-prop-prefix′ .before .before .before .before .before .before in
     let new′ = start′ .before .before in
     let s′ = new′ .before .before .before .before .before in (
-      way (s′ .args .room) (c-mark (new′ .new .ensures) (start′ .start .ensures .0 _ _) (c-said-other (eat-node-or-prop-prefix′ .eat-node-or-prop-prefix .result .answer) (c-walk (eat-node-or-prop-prefix′ .eat-node-or-prop-prefix .ensures .0 (walk-rule (s′ .args .room) (tokens (s′ .args .t .now))) unlabelled)) (match0′ .match .keys3) (c-same (s′ .args .room))) (closing (rest2′ .rest2 .ensures .0))),
+      way (s′ .args .room) (c-mark (new′ .new .ensures) (start′ .start .ensures .0 _ _) (c-said-other (eat-node-or-prop-prefix′ .eat-node-or-prop-prefix .result .answer) (c-walk (eat-node-or-prop-prefix′ .eat-node-or-prop-prefix .ensures .0 (walk-rule (s′ .args .room) (tokens-of (s′ .args .t .now))) unlabelled)) (match0′ .match .keys3) (c-same (s′ .args .room))) (closing (rest2′ .rest2 .ensures .0))),
       (omega (arith, start′ .start .ensures .1 (s′ .args .t .now), eat-node-or-prop-prefix′ .eat-node-or-prop-prefix .ensures .1, rest2′ .rest2 .ensures .1, found-other (eat-node-or-prop-prefix′ .eat-node-or-prop-prefix .result .answer) (match0′ .match .keys3)), λ e. omega (arith, start′ .start .ensures .1 (s′ .args .t .now), eat-node-or-prop-prefix′ .eat-node-or-prop-prefix .ensures .1, rest2′ .rest2 .ensures .1, found-other (eat-node-or-prop-prefix′ .eat-node-or-prop-prefix .result .answer) (match0′ .match .keys3))),
     )

@@ -4,7 +4,7 @@ use Prim.Native.Nat.{_-_}
 use mathlib.Core.Path.{ap, _∙_}
 use native.Mathlib.Omega.{arith}
 use borrow.Author.Tests.{eqb-true, eqb-false}
-use Rattle.definitions.specs.Token.{tokens}
+use Rattle.definitions.specs.Token.{tokens-of}
 use Rattle.definitions.specs.Prog.{no, item}
 use Rattle.definitions.specs.Check.{silent}
 use Rattle.definitions.specs.Grammar.{item-body, grammar}
@@ -24,7 +24,7 @@ returns t c =
     let refuse′ = c in
     let if1′ = refuse′ .before in
     let s′ = if1′ .before .before .before .before .before in (
-      ap (λ (w : Walked). w .on) (ap (said no) (refuse′ .refuse .ensures .0 _ _ _) ∙ rule-closed (s′ .args .room) (tokens (s′ .args .t .now)) item _ (eqb-true (s′ .args .room) 0 (if1′ .if1 .taken))),
+      ap (λ (w : Walked). w .on) (ap (said no) (refuse′ .refuse .ensures .0 _ _ _) ∙ rule-closed (s′ .args .room) (tokens-of (s′ .args .t .now)) item _ (eqb-true (s′ .args .room) 0 (if1′ .if1 .taken))),
       omega (arith, refuse′ .refuse .ensures .1 (s′ .args .t .now) (s′ .good .1 .0 .0)),
     )
 
@@ -62,7 +62,7 @@ returns-2 t c =
     let eat-node-or-prop′ = if2′ .before .before .before .before .before .before .before in
     let if1′ = eat-node-or-prop′ .before .before .before .before in
     let s′ = if1′ .before .before .before .before .before in (
-      ap (λ (w : Walked). w .on) (way (s′ .args .room - 1) (c-yes (c-fn (s′ .args .room - 1) (eat-node-or-prop′ .eat-node-or-prop .ensures .0)) (if2′ .if2 .taken) c-ret) ∙ rule-body (s′ .args .room) (tokens (s′ .args .t .now)) item _ (omega (arith, eqb-false (s′ .args .room) 0 (if1′ .if1 .left)))),
+      ap (λ (w : Walked). w .on) (way (s′ .args .room - 1) (c-yes (c-fn (s′ .args .room - 1) (eat-node-or-prop′ .eat-node-or-prop .ensures .0)) (if2′ .if2 .taken) c-ret) ∙ rule-body (s′ .args .room) (tokens-of (s′ .args .t .now)) item _ (omega (arith, eqb-false (s′ .args .room) 0 (if1′ .if1 .left)))),
       omega (arith, eat-node-or-prop′ .eat-node-or-prop .ensures .1 .0, eat-node-or-prop′ .eat-node-or-prop .ensures .1 .1 (if2′ .if2 .taken), eqb-false (s′ .args .room) 0 (if1′ .if1 .left)),
     )
 
@@ -151,7 +151,7 @@ returns-3 t c =
     let eat-node-or-prop′ = if2′ .before .before .before .before .before .before .before in
     let if1′ = eat-node-or-prop′ .before .before .before .before in
     let s′ = if1′ .before .before .before .before .before in (
-      ap (λ (w : Walked). w .on) (way (s′ .args .room - 1) (c-no (c-fn (s′ .args .room - 1) (eat-node-or-prop′ .eat-node-or-prop .ensures .0)) (if2′ .if2 .left) (c-yes (c-act (silent-at′ .silent-at .ensures .0 unlabelled _ _ _)) (if3′ .if3 .taken) (c-mark (new′ .new .ensures) (start′ .start .ensures .0 _ _) (c-seq (c-seq (c-walk (error′ .error .ensures .0 (walk-rule (s′ .args .room - 1) (tokens (s′ .args .t .now))) unlabelled)) (c-mark (new2′ .new2 .ensures) (start2′ .start2 .ensures .0 _ _) (c-same (s′ .args .room - 1)) (closing (dt-property′ .dt-property .ensures .0)))) c-ret) (completed 9 (complete′ .complete .ensures .0 _ _))))) ∙ rule-body (s′ .args .room) (tokens (s′ .args .t .now)) item _ (omega (arith, eqb-false (s′ .args .room) 0 (if1′ .if1 .left)))),
+      ap (λ (w : Walked). w .on) (way (s′ .args .room - 1) (c-no (c-fn (s′ .args .room - 1) (eat-node-or-prop′ .eat-node-or-prop .ensures .0)) (if2′ .if2 .left) (c-yes (c-act (silent-at′ .silent-at .ensures .0 unlabelled _ _ _)) (if3′ .if3 .taken) (c-mark (new′ .new .ensures) (start′ .start .ensures .0 _ _) (c-seq (c-seq (c-walk (error′ .error .ensures .0 (walk-rule (s′ .args .room - 1) (tokens-of (s′ .args .t .now))) unlabelled)) (c-mark (new2′ .new2 .ensures) (start2′ .start2 .ensures .0 _ _) (c-same (s′ .args .room - 1)) (closing (dt-property′ .dt-property .ensures .0)))) c-ret) (completed 9 (complete′ .complete .ensures .0 _ _))))) ∙ rule-body (s′ .args .room) (tokens-of (s′ .args .t .now)) item _ (omega (arith, eqb-false (s′ .args .room) 0 (if1′ .if1 .left)))),
       omega (arith, eat-node-or-prop′ .eat-node-or-prop .ensures .1 .0, silent-at′ .silent-at .ensures .1 .0, silent-at′ .silent-at .ensures .1 .1 (if3′ .if3 .taken), start′ .start .ensures .1 (s′ .args .t .now), error′ .error .ensures .1, start2′ .start2 .ensures .1 (s′ .args .t .now), dt-property′ .dt-property .ensures .1, complete′ .complete .ensures .1 (s′ .args .t .now), eqb-false (s′ .args .room) 0 (if1′ .if1 .left)),
     )
 
@@ -243,7 +243,7 @@ returns-4 t c =
     let eat-node-or-prop′ = if2′ .before .before .before .before .before .before .before in
     let if1′ = eat-node-or-prop′ .before .before .before .before in
     let s′ = if1′ .before .before .before .before .before in (
-      ap (λ (w : Walked). w .on) (way (s′ .args .room - 1) (c-no (c-fn (s′ .args .room - 1) (eat-node-or-prop′ .eat-node-or-prop .ensures .0)) (if2′ .if2 .left) (c-no (c-act (silent-at′ .silent-at .ensures .0 unlabelled _ _ _)) (if3′ .if3 .left) (c-yes (c-act (silent-at2′ .silent-at2 .ensures .0 unlabelled _ _ _)) (if4′ .if4 .taken) (c-mark (new3′ .new3 .ensures) (start3′ .start3 .ensures .0 _ _) (c-seq (c-seq (c-walk (error2′ .error2 .ensures .0 (walk-rule (s′ .args .room - 1) (tokens (s′ .args .t .now))) unlabelled)) (c-mark (new4′ .new4 .ensures) (start4′ .start4 .ensures .0 _ _) (c-same (s′ .args .room - 1)) (closing (dt-node-body′ .dt-node-body .ensures .0)))) c-ret) (completed 9 (complete2′ .complete2 .ensures .0 _ _)))))) ∙ rule-body (s′ .args .room) (tokens (s′ .args .t .now)) item _ (omega (arith, eqb-false (s′ .args .room) 0 (if1′ .if1 .left)))),
+      ap (λ (w : Walked). w .on) (way (s′ .args .room - 1) (c-no (c-fn (s′ .args .room - 1) (eat-node-or-prop′ .eat-node-or-prop .ensures .0)) (if2′ .if2 .left) (c-no (c-act (silent-at′ .silent-at .ensures .0 unlabelled _ _ _)) (if3′ .if3 .left) (c-yes (c-act (silent-at2′ .silent-at2 .ensures .0 unlabelled _ _ _)) (if4′ .if4 .taken) (c-mark (new3′ .new3 .ensures) (start3′ .start3 .ensures .0 _ _) (c-seq (c-seq (c-walk (error2′ .error2 .ensures .0 (walk-rule (s′ .args .room - 1) (tokens-of (s′ .args .t .now))) unlabelled)) (c-mark (new4′ .new4 .ensures) (start4′ .start4 .ensures .0 _ _) (c-same (s′ .args .room - 1)) (closing (dt-node-body′ .dt-node-body .ensures .0)))) c-ret) (completed 9 (complete2′ .complete2 .ensures .0 _ _)))))) ∙ rule-body (s′ .args .room) (tokens-of (s′ .args .t .now)) item _ (omega (arith, eqb-false (s′ .args .room) 0 (if1′ .if1 .left)))),
       omega (arith, eat-node-or-prop′ .eat-node-or-prop .ensures .1 .0, silent-at′ .silent-at .ensures .1 .0, silent-at2′ .silent-at2 .ensures .1 .0, silent-at2′ .silent-at2 .ensures .1 .1 (if4′ .if4 .taken), start3′ .start3 .ensures .1 (s′ .args .t .now), error2′ .error2 .ensures .1, start4′ .start4 .ensures .1 (s′ .args .t .now), dt-node-body′ .dt-node-body .ensures .1, complete2′ .complete2 .ensures .1 (s′ .args .t .now), eqb-false (s′ .args .room) 0 (if1′ .if1 .left)),
     )
 
@@ -292,6 +292,6 @@ returns-5 t c =
     let eat-node-or-prop′ = if2′ .before .before .before .before .before .before .before in
     let if1′ = eat-node-or-prop′ .before .before .before .before in
     let s′ = if1′ .before .before .before .before .before in (
-      ap (λ (w : Walked). w .on) (way (s′ .args .room - 1) (c-no (c-fn (s′ .args .room - 1) (eat-node-or-prop′ .eat-node-or-prop .ensures .0)) (if2′ .if2 .left) (c-no (c-act (silent-at′ .silent-at .ensures .0 unlabelled _ _ _)) (if3′ .if3 .left) (c-no (c-act (silent-at2′ .silent-at2 .ensures .0 unlabelled _ _ _)) (if4′ .if4 .left) (c-fn (s′ .args .room - 1) (item2′ .item2 .ensures .0))))) ∙ rule-body (s′ .args .room) (tokens (s′ .args .t .now)) item _ (omega (arith, eqb-false (s′ .args .room) 0 (if1′ .if1 .left)))),
+      ap (λ (w : Walked). w .on) (way (s′ .args .room - 1) (c-no (c-fn (s′ .args .room - 1) (eat-node-or-prop′ .eat-node-or-prop .ensures .0)) (if2′ .if2 .left) (c-no (c-act (silent-at′ .silent-at .ensures .0 unlabelled _ _ _)) (if3′ .if3 .left) (c-no (c-act (silent-at2′ .silent-at2 .ensures .0 unlabelled _ _ _)) (if4′ .if4 .left) (c-fn (s′ .args .room - 1) (item2′ .item2 .ensures .0))))) ∙ rule-body (s′ .args .room) (tokens-of (s′ .args .t .now)) item _ (omega (arith, eqb-false (s′ .args .room) 0 (if1′ .if1 .left)))),
       omega (arith, eat-node-or-prop′ .eat-node-or-prop .ensures .1 .0, silent-at′ .silent-at .ensures .1 .0, silent-at2′ .silent-at2 .ensures .1 .0, item2′ .item2 .ensures .1, eqb-false (s′ .args .room) 0 (if1′ .if1 .left)),
     )

@@ -5,7 +5,7 @@ use mathlib.Core.Path.{_≡_, refl, ap, _∙_}
 use lib.ListN.{length}
 use native.Mathlib.Omega.{arith}
 use borrow.Author.Tests.{eqb-true, eqb-false}
-use Rattle.definitions.specs.Token.{tokens}
+use Rattle.definitions.specs.Token.{tokens-of}
 use Rattle.definitions.specs.Prog.{no, propvalues, loop}
 use Rattle.definitions.specs.Grammar.{propvalues-turn, propvalues-body, grammar}
 use Rattle.machine.specs.Walk.{said, walk-rule, walk-prog, unlabelled}
@@ -24,7 +24,7 @@ Inv-loop t ev₀ rep₀ pool₀ room semicolon other q₀ ev rep pool q =
     (left t (q .s) ≤ left t (q₀ .s))
     × ((length ev ≡ length ev₀)
     × ((length rep ≡ length rep₀)
-    × ((length pool ≡ length pool₀) × (walk-prog (room - 1) (tokens t) unlabelled (propvalues-body semicolon) (view-of q ev rep pool) ≡ walk-prog (room - 1) (tokens t) unlabelled (propvalues-body semicolon) (view-of q₀ ev₀ rep₀ pool₀)))))
+    × ((length pool ≡ length pool₀) × (walk-prog (room - 1) (tokens-of t) unlabelled (propvalues-body semicolon) (view-of q ev rep pool) ≡ walk-prog (room - 1) (tokens-of t) unlabelled (propvalues-body semicolon) (view-of q₀ ev₀ rep₀ pool₀)))))
 
 abbrev pub μ-loop : lts.MeasureT-loop
 μ-loop t ev₀ rep₀ pool₀ room semicolon other q₀ ev rep pool q = left t (q .s)
@@ -37,7 +37,7 @@ returns t c =
     let refuse′ = c in
     let if1′ = refuse′ .before in
     let s′ = if1′ .before .before .before .before .before in (
-      ap (said no) (refuse′ .refuse .ensures .0 _ _ _) ∙ rule-closed (s′ .args .room) (tokens (s′ .args .t .now)) (propvalues (s′ .args .semicolon)) _ (eqb-true (s′ .args .room) 0 (if1′ .if1 .taken)),
+      ap (said no) (refuse′ .refuse .ensures .0 _ _ _) ∙ rule-closed (s′ .args .room) (tokens-of (s′ .args .t .now)) (propvalues (s′ .args .semicolon)) _ (eqb-true (s′ .args .room) 0 (if1′ .if1 .taken)),
       omega (arith, refuse′ .refuse .ensures .1 (s′ .args .t .now) (s′ .good .1 .0 .0)),
     )
 
@@ -70,7 +70,7 @@ returns-2 t c =
     let loop′ = at-end′ .before in
     let if1′ = loop′ .before in
     let s′ = if1′ .before .before .before .before .before in (
-      as-yes (if2′ .if2 .taken) (last-yes (s′ .args .room - 1) (c-yes (c-act (at-end′ .at-end .ensures .0 unlabelled _ _ _)) (if2′ .if2 .taken) c-ret)) ∙ loop′ .loop .inv .1 .1 .1 .1 ∙ rule-body (s′ .args .room) (tokens (s′ .args .t .now)) (propvalues (s′ .args .semicolon)) _ (omega (arith, eqb-false (s′ .args .room) 0 (if1′ .if1 .left))),
+      as-yes (if2′ .if2 .taken) (last-yes (s′ .args .room - 1) (c-yes (c-act (at-end′ .at-end .ensures .0 unlabelled _ _ _)) (if2′ .if2 .taken) c-ret)) ∙ loop′ .loop .inv .1 .1 .1 .1 ∙ rule-body (s′ .args .room) (tokens-of (s′ .args .t .now)) (propvalues (s′ .args .semicolon)) _ (omega (arith, eqb-false (s′ .args .room) 0 (if1′ .if1 .left))),
       omega (arith, loop′ .loop .inv .0, at-end′ .at-end .ensures .1 .0, at-end′ .at-end .ensures .1 .1 .1 (if2′ .if2 .taken), eqb-false (s′ .args .room) 0 (if1′ .if1 .left)),
     )
 
@@ -122,7 +122,7 @@ returns-3 t c =
     let loop′ = at-end′ .before in
     let if1′ = loop′ .before in
     let s′ = if1′ .before .before .before .before .before in (
-      last-no (s′ .args .room - 1) (c-no (c-act (at-end′ .at-end .ensures .0 unlabelled _ _ _)) (if2′ .if2 .left) (c-said-no (value′ .value .result .answer) (c-fn (s′ .args .room - 1) (value′ .value .ensures .0)) (ap answer-of (enum-told′ .enum-told .given .1)) c-ret)) ∙ loop′ .loop .inv .1 .1 .1 .1 ∙ rule-body (s′ .args .room) (tokens (s′ .args .t .now)) (propvalues (s′ .args .semicolon)) _ (omega (arith, eqb-false (s′ .args .room) 0 (if1′ .if1 .left))),
+      last-no (s′ .args .room - 1) (c-no (c-act (at-end′ .at-end .ensures .0 unlabelled _ _ _)) (if2′ .if2 .left) (c-said-no (value′ .value .result .answer) (c-fn (s′ .args .room - 1) (value′ .value .ensures .0)) (ap answer-of (enum-told′ .enum-told .given .1)) c-ret)) ∙ loop′ .loop .inv .1 .1 .1 .1 ∙ rule-body (s′ .args .room) (tokens-of (s′ .args .t .now)) (propvalues (s′ .args .semicolon)) _ (omega (arith, eqb-false (s′ .args .room) 0 (if1′ .if1 .left))),
       omega (arith, loop′ .loop .inv .0, at-end′ .at-end .ensures .1 .0, at-end′ .at-end .ensures .1 .1 .0 (if2′ .if2 .left), value′ .value .ensures .1, eqb-false (s′ .args .room) 0 (if1′ .if1 .left)),
     )
 
@@ -159,7 +159,7 @@ returns-4 t c =
     let loop′ = at-end′ .before in
     let if1′ = loop′ .before in
     let s′ = if1′ .before .before .before .before .before in (
-      last-yes (s′ .args .room - 1) (c-no (c-act (at-end′ .at-end .ensures .0 unlabelled _ _ _)) (if2′ .if2 .left) (c-said-also (value′ .value .result .answer) (c-fn (s′ .args .room - 1) (value′ .value .ensures .0)) (ap answer-of (enum-told2′ .enum-told2 .given .1)) c-ret)) ∙ loop′ .loop .inv .1 .1 .1 .1 ∙ rule-body (s′ .args .room) (tokens (s′ .args .t .now)) (propvalues (s′ .args .semicolon)) _ (omega (arith, eqb-false (s′ .args .room) 0 (if1′ .if1 .left))),
+      last-yes (s′ .args .room - 1) (c-no (c-act (at-end′ .at-end .ensures .0 unlabelled _ _ _)) (if2′ .if2 .left) (c-said-also (value′ .value .result .answer) (c-fn (s′ .args .room - 1) (value′ .value .ensures .0)) (ap answer-of (enum-told2′ .enum-told2 .given .1)) c-ret)) ∙ loop′ .loop .inv .1 .1 .1 .1 ∙ rule-body (s′ .args .room) (tokens-of (s′ .args .t .now)) (propvalues (s′ .args .semicolon)) _ (omega (arith, eqb-false (s′ .args .room) 0 (if1′ .if1 .left))),
       omega (arith, loop′ .loop .inv .0, at-end′ .at-end .ensures .1 .0, at-end′ .at-end .ensures .1 .1 .0 (if2′ .if2 .left), value′ .value .ensures .1, eqb-false (s′ .args .room) 0 (if1′ .if1 .left)),
     )
 
@@ -201,7 +201,7 @@ loop-again t c =
           omega (arith, value′ .value .kept, after-propvalue′ .after-propvalue .kept, loop′ .loop .inv .1),
           (
             omega (arith, value′ .value .kept, after-propvalue′ .after-propvalue .kept, loop′ .loop .inv .1),
-            again-part (s′ .args .room - 1) (c-no (c-act (at-end′ .at-end .ensures .0 unlabelled _ _ _)) (if2′ .if2 .left) (c-said-other (value′ .value .result .answer) (c-fn (s′ .args .room - 1) (value′ .value .ensures .0)) (match0′ .match .keys3) (c-answered (ap answer-of (enum-told3′ .enum-told3 .given .1)) (c-walk (after-propvalue′ .after-propvalue .ensures .0 (walk-rule (s′ .args .room - 1) (tokens (s′ .args .t .now))) unlabelled))))) (ahead-falls (s′ .args .t .now) (loop′ .loop .q .s) (after-propvalue′ .after-propvalue .result .p .s) (omega (arith, loop′ .loop .inv .0, at-end′ .at-end .ensures .1 .0, at-end′ .at-end .ensures .1 .1 .0 (if2′ .if2 .left), value′ .value .ensures .1, after-propvalue′ .after-propvalue .ensures .1 .0, eqb-false (s′ .args .room) 0 (if1′ .if1 .left)))) ∙ loop′ .loop .inv .1 .1 .1 .1,
+            again-part (s′ .args .room - 1) (c-no (c-act (at-end′ .at-end .ensures .0 unlabelled _ _ _)) (if2′ .if2 .left) (c-said-other (value′ .value .result .answer) (c-fn (s′ .args .room - 1) (value′ .value .ensures .0)) (match0′ .match .keys3) (c-answered (ap answer-of (enum-told3′ .enum-told3 .given .1)) (c-walk (after-propvalue′ .after-propvalue .ensures .0 (walk-rule (s′ .args .room - 1) (tokens-of (s′ .args .t .now))) unlabelled))))) (ahead-falls (s′ .args .t .now) (loop′ .loop .q .s) (after-propvalue′ .after-propvalue .result .p .s) (omega (arith, loop′ .loop .inv .0, at-end′ .at-end .ensures .1 .0, at-end′ .at-end .ensures .1 .1 .0 (if2′ .if2 .left), value′ .value .ensures .1, after-propvalue′ .after-propvalue .ensures .1 .0, eqb-false (s′ .args .room) 0 (if1′ .if1 .left)))) ∙ loop′ .loop .inv .1 .1 .1 .1,
           ),
         ),
       ),
@@ -245,7 +245,7 @@ returns-5 t c =
     let loop′ = at-end′ .before in
     let if1′ = loop′ .before in
     let s′ = if1′ .before .before .before .before .before in (
-      last-yes (s′ .args .room - 1) (c-no (c-act (at-end′ .at-end .ensures .0 unlabelled _ _ _)) (if2′ .if2 .left) (c-said-other (value′ .value .result .answer) (c-fn (s′ .args .room - 1) (value′ .value .ensures .0)) (match0′ .match .keys3) (c-answered (ap answer-of (enum-told4′ .enum-told4 .given .1)) (c-walk (after-propvalue′ .after-propvalue .ensures .0 (walk-rule (s′ .args .room - 1) (tokens (s′ .args .t .now))) unlabelled))))) ∙ loop′ .loop .inv .1 .1 .1 .1 ∙ rule-body (s′ .args .room) (tokens (s′ .args .t .now)) (propvalues (s′ .args .semicolon)) _ (omega (arith, eqb-false (s′ .args .room) 0 (if1′ .if1 .left))),
+      last-yes (s′ .args .room - 1) (c-no (c-act (at-end′ .at-end .ensures .0 unlabelled _ _ _)) (if2′ .if2 .left) (c-said-other (value′ .value .result .answer) (c-fn (s′ .args .room - 1) (value′ .value .ensures .0)) (match0′ .match .keys3) (c-answered (ap answer-of (enum-told4′ .enum-told4 .given .1)) (c-walk (after-propvalue′ .after-propvalue .ensures .0 (walk-rule (s′ .args .room - 1) (tokens-of (s′ .args .t .now))) unlabelled))))) ∙ loop′ .loop .inv .1 .1 .1 .1 ∙ rule-body (s′ .args .room) (tokens-of (s′ .args .t .now)) (propvalues (s′ .args .semicolon)) _ (omega (arith, eqb-false (s′ .args .room) 0 (if1′ .if1 .left))),
       omega (arith, loop′ .loop .inv .0, at-end′ .at-end .ensures .1 .0, at-end′ .at-end .ensures .1 .1 .0 (if2′ .if2 .left), value′ .value .ensures .1, after-propvalue′ .after-propvalue .ensures .1 .0, eqb-false (s′ .args .room) 0 (if1′ .if1 .left)),
     )
 
@@ -282,6 +282,6 @@ returns-6 t c =
     let loop′ = at-end′ .before in
     let if1′ = loop′ .before in
     let s′ = if1′ .before .before .before .before .before in (
-      last-no (s′ .args .room - 1) (c-no (c-act (at-end′ .at-end .ensures .0 unlabelled _ _ _)) (if2′ .if2 .left) (c-said-other (value′ .value .result .answer) (c-fn (s′ .args .room - 1) (value′ .value .ensures .0)) (match0′ .match .keys3) (c-answered (other-no (after-propvalue′ .after-propvalue .result .answer) (after-propvalue′ .after-propvalue .ensures .1 .1) (match2′ .match2 .keys3)) (c-walk (after-propvalue′ .after-propvalue .ensures .0 (walk-rule (s′ .args .room - 1) (tokens (s′ .args .t .now))) unlabelled))))) ∙ loop′ .loop .inv .1 .1 .1 .1 ∙ rule-body (s′ .args .room) (tokens (s′ .args .t .now)) (propvalues (s′ .args .semicolon)) _ (omega (arith, eqb-false (s′ .args .room) 0 (if1′ .if1 .left))),
+      last-no (s′ .args .room - 1) (c-no (c-act (at-end′ .at-end .ensures .0 unlabelled _ _ _)) (if2′ .if2 .left) (c-said-other (value′ .value .result .answer) (c-fn (s′ .args .room - 1) (value′ .value .ensures .0)) (match0′ .match .keys3) (c-answered (other-no (after-propvalue′ .after-propvalue .result .answer) (after-propvalue′ .after-propvalue .ensures .1 .1) (match2′ .match2 .keys3)) (c-walk (after-propvalue′ .after-propvalue .ensures .0 (walk-rule (s′ .args .room - 1) (tokens-of (s′ .args .t .now))) unlabelled))))) ∙ loop′ .loop .inv .1 .1 .1 .1 ∙ rule-body (s′ .args .room) (tokens-of (s′ .args .t .now)) (propvalues (s′ .args .semicolon)) _ (omega (arith, eqb-false (s′ .args .room) 0 (if1′ .if1 .left))),
       omega (arith, loop′ .loop .inv .0, at-end′ .at-end .ensures .1 .0, at-end′ .at-end .ensures .1 .1 .0 (if2′ .if2 .left), value′ .value .ensures .1, after-propvalue′ .after-propvalue .ensures .1 .0, eqb-false (s′ .args .room) 0 (if1′ .if1 .left)),
     )

@@ -2,7 +2,7 @@
 use Prim.Native.Nat.{ℕ}
 use mathlib.Core.Path.{_∙_}
 use native.Mathlib.Omega.{arith}
-use Rattle.definitions.specs.Token.{tokens}
+use Rattle.definitions.specs.Token.{tokens-of}
 use Rattle.definitions.specs.Check.{silent}
 use Rattle.definitions.specs.Grammar.{propvalue}
 use Rattle.machine.specs.Walk.{walk-rule, unlabelled}
@@ -54,7 +54,7 @@ returns t c =
     let silent-at′ = if1′ .before in
     let add-expected′ = silent-at′ .before in
     let s′ = add-expected′ .before .before .before .before .before in (
-      told-is (told′ .told .result) (bits′ .bits .result) _ _ _ (told′ .told .ensures .0) (told′ .told .ensures .1) ∙ way (s′ .args .room) (c-seq (c-act (add-expected′ .add-expected .ensures .0 (tokens (s′ .args .t .now)) unlabelled _ _ _)) (c-yes (c-act (silent-at′ .silent-at .ensures .0 unlabelled _ _ _)) (if1′ .if1 .taken) (c-fn (s′ .args .room) (bits′ .bits .ensures .0)))),
+      told-is (told′ .told .result) (bits′ .bits .result) _ _ _ (told′ .told .ensures .0) (told′ .told .ensures .1) ∙ way (s′ .args .room) (c-seq (c-act (add-expected′ .add-expected .ensures .0 (tokens-of (s′ .args .t .now)) unlabelled _ _ _)) (c-yes (c-act (silent-at′ .silent-at .ensures .0 unlabelled _ _ _)) (if1′ .if1 .taken) (c-fn (s′ .args .room) (bits′ .bits .ensures .0)))),
       omega (arith, add-expected′ .add-expected .ensures .1 (s′ .args .t .now), silent-at′ .silent-at .ensures .1 .0, silent-at′ .silent-at .ensures .1 .1 (if1′ .if1 .taken), bits′ .bits .ensures .1, told-left (s′ .args .t .now) (told′ .told .result) (bits′ .bits .result) (told′ .told .ensures .0)),
     )
 
@@ -79,7 +79,7 @@ returns-2 t c =
     let silent-at′ = if1′ .before in
     let add-expected′ = silent-at′ .before in
     let s′ = add-expected′ .before .before .before .before .before in (
-      told-yes (told2′ .told2 .result) (silent-eat′ .silent-eat .result) _ _ _ (told2′ .told2 .ensures .0) (told2′ .told2 .ensures .1) (if2′ .if2 .taken) ∙ way (s′ .args .room) (c-seq (c-act (add-expected′ .add-expected .ensures .0 (tokens (s′ .args .t .now)) unlabelled _ _ _)) (c-no (c-act (silent-at′ .silent-at .ensures .0 unlabelled _ _ _)) (if1′ .if1 .left) (c-yes (c-walk (silent-eat′ .silent-eat .ensures .0 (walk-rule (s′ .args .room) (tokens (s′ .args .t .now))) unlabelled _ _)) (if2′ .if2 .taken) c-ret))),
+      told-yes (told2′ .told2 .result) (silent-eat′ .silent-eat .result) _ _ _ (told2′ .told2 .ensures .0) (told2′ .told2 .ensures .1) (if2′ .if2 .taken) ∙ way (s′ .args .room) (c-seq (c-act (add-expected′ .add-expected .ensures .0 (tokens-of (s′ .args .t .now)) unlabelled _ _ _)) (c-no (c-act (silent-at′ .silent-at .ensures .0 unlabelled _ _ _)) (if1′ .if1 .left) (c-yes (c-walk (silent-eat′ .silent-eat .ensures .0 (walk-rule (s′ .args .room) (tokens-of (s′ .args .t .now))) unlabelled _ _)) (if2′ .if2 .taken) c-ret))),
       omega (arith, add-expected′ .add-expected .ensures .1 (s′ .args .t .now), silent-at′ .silent-at .ensures .1 .0, silent-eat′ .silent-eat .ensures .1 .0, silent-eat′ .silent-eat .ensures .1 .1 (if2′ .if2 .taken), told-left (s′ .args .t .now) (told2′ .told2 .result) (silent-eat′ .silent-eat .result) (told2′ .told2 .ensures .0)),
     )
 
@@ -142,7 +142,7 @@ returns-3 t c =
     let silent-at′ = if1′ .before in
     let add-expected′ = silent-at′ .before in
     let s′ = add-expected′ .before .before .before .before .before in (
-      told-is (told3′ .told3 .result) (dt-cell-list′ .dt-cell-list .result) _ _ _ (told3′ .told3 .ensures .0) (told3′ .told3 .ensures .1) ∙ way (s′ .args .room) (c-seq (c-act (add-expected′ .add-expected .ensures .0 (tokens (s′ .args .t .now)) unlabelled _ _ _)) (c-no (c-act (silent-at′ .silent-at .ensures .0 unlabelled _ _ _)) (if1′ .if1 .left) (c-no (c-walk (silent-eat′ .silent-eat .ensures .0 (walk-rule (s′ .args .room) (tokens (s′ .args .t .now))) unlabelled _ _)) (if2′ .if2 .left) (c-yes (c-act (silent-at2′ .silent-at2 .ensures .0 unlabelled _ _ _)) (if3′ .if3 .taken) (c-mark (new′ .new .ensures) (start′ .start .ensures .0 _ _) (c-same (s′ .args .room)) (closing (dt-cell-list′ .dt-cell-list .ensures .0))))))),
+      told-is (told3′ .told3 .result) (dt-cell-list′ .dt-cell-list .result) _ _ _ (told3′ .told3 .ensures .0) (told3′ .told3 .ensures .1) ∙ way (s′ .args .room) (c-seq (c-act (add-expected′ .add-expected .ensures .0 (tokens-of (s′ .args .t .now)) unlabelled _ _ _)) (c-no (c-act (silent-at′ .silent-at .ensures .0 unlabelled _ _ _)) (if1′ .if1 .left) (c-no (c-walk (silent-eat′ .silent-eat .ensures .0 (walk-rule (s′ .args .room) (tokens-of (s′ .args .t .now))) unlabelled _ _)) (if2′ .if2 .left) (c-yes (c-act (silent-at2′ .silent-at2 .ensures .0 unlabelled _ _ _)) (if3′ .if3 .taken) (c-mark (new′ .new .ensures) (start′ .start .ensures .0 _ _) (c-same (s′ .args .room)) (closing (dt-cell-list′ .dt-cell-list .ensures .0))))))),
       omega (arith, add-expected′ .add-expected .ensures .1 (s′ .args .t .now), silent-at′ .silent-at .ensures .1 .0, silent-eat′ .silent-eat .ensures .1 .0, silent-at2′ .silent-at2 .ensures .1 .0, silent-at2′ .silent-at2 .ensures .1 .1 (if3′ .if3 .taken), start′ .start .ensures .1 (s′ .args .t .now), dt-cell-list′ .dt-cell-list .ensures .1, told-left (s′ .args .t .now) (told3′ .told3 .result) (dt-cell-list′ .dt-cell-list .result) (told3′ .told3 .ensures .0)),
     )
 
@@ -185,6 +185,6 @@ returns-4 t c =
     let silent-at′ = if1′ .before in
     let add-expected′ = silent-at′ .before in
     let s′ = add-expected′ .before .before .before .before .before in (
-      way (s′ .args .room) (c-seq (c-act (add-expected′ .add-expected .ensures .0 (tokens (s′ .args .t .now)) unlabelled _ _ _)) (c-no (c-act (silent-at′ .silent-at .ensures .0 unlabelled _ _ _)) (if1′ .if1 .left) (c-no (c-walk (silent-eat′ .silent-eat .ensures .0 (walk-rule (s′ .args .room) (tokens (s′ .args .t .now))) unlabelled _ _)) (if2′ .if2 .left) (c-no (c-act (silent-at2′ .silent-at2 .ensures .0 unlabelled _ _ _)) (if3′ .if3 .left) (c-fn (s′ .args .room) (value2′ .value2 .ensures .0)))))),
+      way (s′ .args .room) (c-seq (c-act (add-expected′ .add-expected .ensures .0 (tokens-of (s′ .args .t .now)) unlabelled _ _ _)) (c-no (c-act (silent-at′ .silent-at .ensures .0 unlabelled _ _ _)) (if1′ .if1 .left) (c-no (c-walk (silent-eat′ .silent-eat .ensures .0 (walk-rule (s′ .args .room) (tokens-of (s′ .args .t .now))) unlabelled _ _)) (if2′ .if2 .left) (c-no (c-act (silent-at2′ .silent-at2 .ensures .0 unlabelled _ _ _)) (if3′ .if3 .left) (c-fn (s′ .args .room) (value2′ .value2 .ensures .0)))))),
       omega (arith, add-expected′ .add-expected .ensures .1 (s′ .args .t .now), silent-at′ .silent-at .ensures .1 .0, silent-eat′ .silent-eat .ensures .1 .0, silent-at2′ .silent-at2 .ensures .1 .0, value2′ .value2 .ensures .1),
     )

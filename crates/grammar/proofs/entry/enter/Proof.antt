@@ -2,7 +2,7 @@
 use mathlib.Core.Path.{_≡_, sym, ap, _∙_}
 use mathlib.Core.List.{List}
 use native.Mathlib.Omega.{arith}
-use Rattle.definitions.specs.Token.{Token, tokens}
+use Rattle.definitions.specs.Token.{Token, tokens-of}
 use Rattle.definitions.specs.Skeleton.{Span}
 use Rattle.definitions.specs.Prog.{Rule}
 use Rattle.definitions.specs.Grammar.{entry}
@@ -95,7 +95,7 @@ returns-2 c =
     let a = c .before .before .before .before .before .before in
     let d = a .before .before .before .before in
     let s = d .before .before .before .before .before .before in
-    (a .reference-noamp .ensures .0 (walk-rule 64 (tokens (s .args .t .now))) unlabelled ∙ part-on 64 (entered (d .enum-told2 .given .1) c-any), omega (arith, a .reference-noamp .ensures .1))
+    (a .reference-noamp .ensures .0 (walk-rule 64 (tokens-of (s .args .t .now))) unlabelled ∙ part-on 64 (entered (d .enum-told2 .given .1) c-any), omega (arith, a .reference-noamp .ensures .1))
 
 same-length-7 : tie.Need-same-length-7
 same-length-7 c =

@@ -5,7 +5,7 @@ use mathlib.Core.Bool.{true, false}
 use native.Mathlib.Omega.{arith}
 use native.Mathlib.Nat.{le-refl}
 use lib.ListN.{length}
-use Rattle.definitions.specs.Token.{tokens}
+use Rattle.definitions.specs.Token.{tokens-of}
 use Rattle.definitions.specs.Grammar.{sourcefile-turn, entry-sourcefile}
 use Rattle.machine.specs.Walk.{walk-prog, unlabelled}
 use Rattle.machine.proofs.Way.{c-act, c-ret, c-yes, c-no}
@@ -16,7 +16,7 @@ use Rattle.grammar.proofs.entry.entry_sourcefile.Statement.{statement}
 use Rattle.grammar.proofs.entry.entry_sourcefile.Tie as tie
 
 abbrev Inv-loop : tie.InvT-loop
-Inv-loop t ev₀ rep₀ pool₀ q₀ ev rep pool q = (walk-prog 64 (tokens t) unlabelled entry-sourcefile (view-of q ev rep pool) ≡ walk-prog 64 (tokens t) unlabelled entry-sourcefile (view-of q₀ ev₀ rep₀ pool₀)) × ((left t (q .s) ≤ left t (q₀ .s)) × ((length ev ≡ length ev₀) × ((length rep ≡ length rep₀) × (length pool ≡ length pool₀))))
+Inv-loop t ev₀ rep₀ pool₀ q₀ ev rep pool q = (walk-prog 64 (tokens-of t) unlabelled entry-sourcefile (view-of q ev rep pool) ≡ walk-prog 64 (tokens-of t) unlabelled entry-sourcefile (view-of q₀ ev₀ rep₀ pool₀)) × ((left t (q .s) ≤ left t (q₀ .s)) × ((length ev ≡ length ev₀) × ((length rep ≡ length rep₀) × (length pool ≡ length pool₀))))
 
 abbrev μ-loop : tie.MeasureT-loop
 μ-loop t ev₀ rep₀ pool₀ q₀ ev rep pool q = left t (q .s)

@@ -1,7 +1,7 @@
 -- `catch_unmatched_pp_directive`: an `#endif`, or a branch, without its conditional.
 use mathlib.Core.Path.{sym, _∙_}
 use native.Mathlib.Omega.{arith}
-use Rattle.definitions.specs.Token.{tokens}
+use Rattle.definitions.specs.Token.{tokens-of}
 use Rattle.definitions.specs.Check.{silent}
 use Rattle.definitions.specs.Grammar.{catch-unmatched-pp-directive}
 use Rattle.machine.specs.Walk.{walk-rule, unlabelled}
@@ -40,7 +40,7 @@ returns c =
     let d = a .before .before .before .before in
     let e = d .before in
     let s = e .before .before .before .before .before in
-    (way (s .args .room) (c-yes (c-act (e .silent-at .ensures .0 unlabelled _ _ _)) (d .if1 .taken) (c-seq (c-walk (a .error .ensures .0 (walk-rule (s .args .room) (tokens (s .args .t .now))) unlabelled)) c-ret)), (omega (arith, e .silent-at .ensures .1 .0, e .silent-at .ensures .1 .1 (d .if1 .taken), a .error .ensures .1), λ h. omega (arith, e .silent-at .ensures .1 .0, e .silent-at .ensures .1 .1 (d .if1 .taken), a .error .ensures .1)))
+    (way (s .args .room) (c-yes (c-act (e .silent-at .ensures .0 unlabelled _ _ _)) (d .if1 .taken) (c-seq (c-walk (a .error .ensures .0 (walk-rule (s .args .room) (tokens-of (s .args .t .now))) unlabelled)) c-ret)), (omega (arith, e .silent-at .ensures .1 .0, e .silent-at .ensures .1 .1 (d .if1 .taken), a .error .ensures .1), λ h. omega (arith, e .silent-at .ensures .1 .0, e .silent-at .ensures .1 .1 (d .if1 .taken), a .error .ensures .1)))
 
 slice-aggregate-silent-at-set : tie.Need-slice-aggregate-silent-at-set
 slice-aggregate-silent-at-set c = search needs
@@ -107,7 +107,7 @@ returns-2 c =
     let m = l .before .before in
     let n = m .before in
     let s = n .before .before .before .before .before in
-    (way (s .args .room) (c-no (c-act (n .silent-at .ensures .0 unlabelled _ _ _)) (m .if1 .left) (c-yes (c-act (l .silent-at-set .ensures .0 unlabelled _ _ _)) (j .if2 .taken) (c-seq (c-walk (i .error2 .ensures .0 (walk-rule (s .args .room) (tokens (s .args .t .now))) unlabelled)) (c-seq (c-mark (g .new .ensures) (f .start .ensures .0 _ _) (c-assoc (c-seq (c-act (e .bump .ensures .0 unlabelled _ _)) (c-part-on (s .args .room) (d .cond-branches-and-end .ensures .0) c-ret))) (completed 9 (a .complete .ensures .0 _ _))) c-ret)))), (omega (arith, n .silent-at .ensures .1 .0, l .silent-at-set .ensures .1 .0, l .silent-at-set .ensures .1 .1 (j .if2 .taken), i .error2 .ensures .1, f .start .ensures .1 (s .args .t .now), e .bump .ensures .1, d .cond-branches-and-end .ensures .1, a .complete .ensures .1 (s .args .t .now)), λ h. omega (arith, n .silent-at .ensures .1 .0, l .silent-at-set .ensures .1 .0, l .silent-at-set .ensures .1 .1 (j .if2 .taken), i .error2 .ensures .1, f .start .ensures .1 (s .args .t .now), e .bump .ensures .1, d .cond-branches-and-end .ensures .1, a .complete .ensures .1 (s .args .t .now))))
+    (way (s .args .room) (c-no (c-act (n .silent-at .ensures .0 unlabelled _ _ _)) (m .if1 .left) (c-yes (c-act (l .silent-at-set .ensures .0 unlabelled _ _ _)) (j .if2 .taken) (c-seq (c-walk (i .error2 .ensures .0 (walk-rule (s .args .room) (tokens-of (s .args .t .now))) unlabelled)) (c-seq (c-mark (g .new .ensures) (f .start .ensures .0 _ _) (c-assoc (c-seq (c-act (e .bump .ensures .0 unlabelled _ _)) (c-part-on (s .args .room) (d .cond-branches-and-end .ensures .0) c-ret))) (completed 9 (a .complete .ensures .0 _ _))) c-ret)))), (omega (arith, n .silent-at .ensures .1 .0, l .silent-at-set .ensures .1 .0, l .silent-at-set .ensures .1 .1 (j .if2 .taken), i .error2 .ensures .1, f .start .ensures .1 (s .args .t .now), e .bump .ensures .1, d .cond-branches-and-end .ensures .1, a .complete .ensures .1 (s .args .t .now)), λ h. omega (arith, n .silent-at .ensures .1 .0, l .silent-at-set .ensures .1 .0, l .silent-at-set .ensures .1 .1 (j .if2 .taken), i .error2 .ensures .1, f .start .ensures .1 (s .args .t .now), e .bump .ensures .1, d .cond-branches-and-end .ensures .1, a .complete .ensures .1 (s .args .t .now))))
 
 returns-3 : tie.Need-returns-3
 unfolding catch-unmatched-pp-directive silent

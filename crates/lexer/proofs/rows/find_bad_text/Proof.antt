@@ -1,6 +1,6 @@
 -- `find_bad_text`: after cause 3 the texts from here on are judged as all texts are.
 use Rattle.lexer.proofs.Kit.{flags, texts-start, texts-again, texts-bad, tokens-end}
-use Rattle.definitions.specs.Token.{tokens as rows-of}
+use Rattle.definitions.specs.Token.{tokens-of as rows-of}
 use Rattle.definitions.specs.Refusal.{accepted, check-rows, check-texts}
 use Prim.Native.Nat.{ℕ, _*_, _/_, _-_, _≤_}
 use mathlib.Core.Path.{_≡_, refl, sym, _∙_}

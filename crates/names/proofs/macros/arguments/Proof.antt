@@ -6,7 +6,7 @@ use native.Mathlib.Omega.{arith}
 use native.Mathlib.Nat.{le-refl}
 use lib.Dec.{lit<}
 use lib.ListN.{length}
-use Rattle.definitions.specs.Token.{tokens}
+use Rattle.definitions.specs.Token.{tokens-of}
 use Rattle.definitions.specs.Skeleton.{Span}
 use Rattle.definitions.specs.Prog.{Rule, loop}
 use Rattle.definitions.specs.Run.{truth}
@@ -21,7 +21,7 @@ use Rattle.names.proofs.macros.arguments.Statement.{statement}
 use Rattle.names.proofs.macros.arguments.Tie as tie
 
 abbrev Inv-loop : tie.InvT-loop
-Inv-loop t ev₀ q₀ ev q = ((ask : Rule → Machine → Walked) (b : Span) (codes rep pool : List ℕ) → walk ask (tokens t) b (loop macro-argument-turn) (view q codes ev rep pool) ≡ walk ask (tokens t) b (loop macro-argument-turn) (view q₀ codes ev₀ rep pool)) × ((left t q ≤ left t q₀) × (length ev ≡ length ev₀))
+Inv-loop t ev₀ q₀ ev q = ((ask : Rule → Machine → Walked) (b : Span) (codes rep pool : List ℕ) → walk ask (tokens-of t) b (loop macro-argument-turn) (view q codes ev rep pool) ≡ walk ask (tokens-of t) b (loop macro-argument-turn) (view q₀ codes ev₀ rep pool)) × ((left t q ≤ left t q₀) × (length ev ≡ length ev₀))
 
 abbrev μ-loop : tie.MeasureT-loop
 μ-loop t ev₀ q₀ ev q = left t q

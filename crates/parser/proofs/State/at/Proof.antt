@@ -1,7 +1,7 @@
 -- `at`: the expectations, and then the test.
-use Rattle.rows.proofs.Kit.{flags}
+use Rattle.token_rows.proofs.Kit.{flags}
 use mathlib.Core.Path.{_≡_, refl, sym, _∙_, ap}
-use Rattle.definitions.specs.Token.{tokens}
+use Rattle.definitions.specs.Token.{tokens-of}
 use Rattle.parser.specs.View.{view, matcher-of}
 use Rattle.parser.proofs.Programs.{matches-is, at-is}
 use Rattle.parser.proofs.State.at.Statement.{statement}
@@ -18,7 +18,7 @@ returns c =
     let args = c .before .before .before .before .args in
     let self = args .self in
     let tk = args .t .now in
-    let ts = tokens tk in
+    let ts = tokens-of tk in
     let codes₀ = args .codes .now in
     let push-expected = c .before .push-expected in
     let silent = c .silent in (

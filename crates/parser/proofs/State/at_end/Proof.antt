@@ -1,7 +1,7 @@
 -- `at_end`: whether a row is left after the trivia.
-use Rattle.rows.proofs.Kit.{flags, true-false}
+use Rattle.token_rows.proofs.Kit.{flags, true-false}
 use mathlib.Core.Path.{sym}
-use Rattle.definitions.specs.Token.{tokens}
+use Rattle.definitions.specs.Token.{tokens-of}
 use Rattle.parser.specs.View.{view, left}
 use Rattle.parser.proofs.Moves.{at-end-is, ended-in, ended-past}
 use Rattle.parser.proofs.State.at_end.Statement.{statement}
@@ -16,7 +16,7 @@ returns c =
     let args = c .before .before .before .args in
     let self = args .self in
     let tk = args .t .now in
-    let ts = tokens tk in
+    let ts = tokens-of tk in
     let peek = c .before .peek in (
       λ b codes ev rep pool.
           at-end-is ts b (view self codes ev rep pool) (view (peek .result) codes ev rep pool) _ (peek .ensures .0 codes ev rep pool)
@@ -30,7 +30,7 @@ returns-2 c =
     let args = c .before .before .before .args in
     let self = args .self in
     let tk = args .t .now in
-    let ts = tokens tk in
+    let ts = tokens-of tk in
     let peek = c .before .peek in (
       λ b codes ev rep pool.
           at-end-is ts b (view self codes ev rep pool) (view (peek .result) codes ev rep pool) _ (peek .ensures .0 codes ev rep pool)

@@ -1,6 +1,6 @@
 -- `at_immediate`: the expectation, and the row at the cursor.
-use Rattle.rows.proofs.Kit.{flags}
-use Rattle.definitions.specs.Token.{tokens}
+use Rattle.token_rows.proofs.Kit.{flags}
+use Rattle.definitions.specs.Token.{tokens-of}
 use Rattle.parser.specs.View.{view, left}
 use Rattle.parser.proofs.Programs.{immediate-is}
 use Rattle.parser.proofs.State.at_immediate.Statement.{statement}
@@ -18,7 +18,7 @@ returns c =
     let args = c .before .before .before .before .args in
     let self = args .self in
     let tk = args .t .now in
-    let ts = tokens tk in
+    let ts = tokens-of tk in
     let codes₀ = args .codes .now in
     let add-expected = c .before .add-expected in
     let is-at = c .is-at in (

@@ -1,10 +1,10 @@
 -- `bump_unless_at_end`: a token, if there is one.
-use Rattle.rows.proofs.Kit.{flags}
+use Rattle.token_rows.proofs.Kit.{flags}
 use mathlib.Core.Path.{_≡_, refl, sym, _∙_, ap}
 use mathlib.Core.Bool.{true, false}
-use Rattle.definitions.specs.Token.{tokens}
+use Rattle.definitions.specs.Token.{tokens-of}
 use Rattle.definitions.specs.Prog.{bump}
-use Rattle.definitions.specs.Check.{bump! }
+use Rattle.definitions.specs.Check.{bump!}
 use Rattle.parser.specs.View.{view}
 use Rattle.parser.proofs.Programs.{answered, walk-act, end-yes, end-no}
 use borrow.Author.Needs.{needs}
@@ -22,7 +22,7 @@ returns c =
     let args = c .before .before .before .before .before .args in
     let self = args .self in
     let tk = args .t .now in
-    let ts = tokens tk in
+    let ts = tokens-of tk in
     let ev₀ = args .ev .now in
     let at-end = c .before .before .at-end in
     let if1 = c .before .if1 in (
@@ -40,7 +40,7 @@ returns-2 c =
     let args = c .before .before .before .before .before .before .before .before .args in
     let self = args .self in
     let tk = args .t .now in
-    let ts = tokens tk in
+    let ts = tokens-of tk in
     let ev₀ = args .ev .now in
     let at-end = c .before .before .before .before .before .at-end in
     let if1 = c .before .before .before .before .if1 in

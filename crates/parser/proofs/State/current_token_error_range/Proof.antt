@@ -1,5 +1,5 @@
 -- `current_token_error_range`: the byte after the last token, the current token, or the last byte.
-use Rattle.rows.proofs.Kit.{flags}
+use Rattle.token_rows.proofs.Kit.{flags}
 use mathlib.Core.Path.{_≡_}
 use native.Mathlib.Omega.{arith}
 use lib.ListN.{length}

@@ -1,8 +1,8 @@
 -- `eat`: the test, and the token or name, or else the expectations.
-use Rattle.rows.proofs.Kit.{flags, true-false}
+use Rattle.token_rows.proofs.Kit.{flags, true-false}
 use mathlib.Core.Path.{_≡_, refl, sym, _∙_, ap}
 use mathlib.Core.Bool.{true, false}
-use Rattle.definitions.specs.Token.{tokens}
+use Rattle.definitions.specs.Token.{tokens-of}
 use Rattle.parser.specs.View.{view, matcher-of}
 use Rattle.parser.proofs.Programs.{answered, matches-is, eat-yes, eat-no}
 use borrow.Author.Needs.{needs}
@@ -26,7 +26,7 @@ returns c =
     let args = c .before .before .before .before .before .before .before .before .args in
     let self = args .self in
     let tk = args .t .now in
-    let ts = tokens tk in
+    let ts = tokens-of tk in
     let ev₀ = args .ev .now in
     let codes₀ = args .codes .now in
     let silent = c .before .before .before .before .before .silent in
@@ -45,7 +45,7 @@ returns-2 c =
     let args = c .before .before .before .before .before .before .args in
     let self = args .self in
     let tk = args .t .now in
-    let ts = tokens tk in
+    let ts = tokens-of tk in
     let ev₀ = args .ev .now in
     let codes₀ = args .codes .now in
     let silent = c .before .before .before .silent in

@@ -1,8 +1,8 @@
 -- `eat_starting`: the test, and on a match the marker and the token or name.
-use Rattle.rows.proofs.Kit.{flags, true-false}
+use Rattle.token_rows.proofs.Kit.{flags, true-false}
 use mathlib.Core.Path.{sym}
 use mathlib.Core.Bool.{true, false}
-use Rattle.definitions.specs.Token.{tokens}
+use Rattle.definitions.specs.Token.{tokens-of}
 use Rattle.parser.specs.View.{view, matcher-of, marker-of}
 use Rattle.parser.proofs.Programs.{answered, starting-yes, starting-no}
 use borrow.Author.Needs.{needs}
@@ -29,7 +29,7 @@ returns c =
     let args = c .before .before .before .before .before .before .before .before .before .before .before .before .before .before .args in
     let self = args .self in
     let tk = args .t .now in
-    let ts = tokens tk in
+    let ts = tokens-of tk in
     let ev₀ = args .ev .now in
     let codes₀ = args .codes .now in
     let at = c .before .before .before .before .before .before .before .before .before .before .at in
@@ -52,7 +52,7 @@ returns-2 c =
     let args = c .before .before .before .before .before .before .before .args in
     let self = args .self in
     let tk = args .t .now in
-    let ts = tokens tk in
+    let ts = tokens-of tk in
     let ev₀ = args .ev .now in
     let codes₀ = args .codes .now in
     let at = c .before .before .before .at in

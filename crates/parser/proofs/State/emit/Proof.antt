@@ -1,6 +1,6 @@
 -- `emit`: the event, and then the row.
-use Rattle.rows.proofs.Kit.{flags}
-use Rattle.definitions.specs.Token.{tokens}
+use Rattle.token_rows.proofs.Kit.{flags}
+use Rattle.definitions.specs.Token.{tokens-of}
 use borrow.Author.Tests.{eqb-true}
 use Rattle.parser.specs.View.{view, span-of}
 use Rattle.parser.proofs.Reports.{emit-is, report-off}
@@ -34,7 +34,7 @@ returns c =
     let args = c .before .before .before .before .before .before .before .before .before .before .before .before .before .before .before .before .before .before .before .args in
     let self = args .self in
     let tk = args .t .now in
-    let ts = tokens tk in
+    let ts = tokens-of tk in
     let ev₀ = args .ev .now in
     let rep₀ = args .rep .now in
     let pool₀ = args .pool .now in
@@ -59,7 +59,7 @@ returns-2 c =
     let args = c .before .before .before .before .before .before .before .before .before .before .before .before .args in
     let self = args .self in
     let tk = args .t .now in
-    let ts = tokens tk in
+    let ts = tokens-of tk in
     let ev₀ = args .ev .now in
     let rep₀ = args .rep .now in
     let pool₀ = args .pool .now in

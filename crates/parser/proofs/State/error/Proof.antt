@@ -1,7 +1,7 @@
 -- `error`: the report, and what it takes.
-use Rattle.rows.proofs.Kit.{flags}
+use Rattle.token_rows.proofs.Kit.{flags}
 use mathlib.Core.Path.{ap}
-use Rattle.definitions.specs.Token.{tokens}
+use Rattle.definitions.specs.Token.{tokens-of}
 use Rattle.parser.specs.View.{view, span-of, takes}
 use Rattle.parser.proofs.Programs.{error-alone, error-no, error-yes, error-wrapped}
 use borrow.Author.Needs.{needs}
@@ -43,7 +43,7 @@ returns c =
     let args = c .before .before .before .before .before .before .before .before .before .before .before .before .before .before .before .before .before .args in
     let self = args .self in
     let tk = args .t .now in
-    let ts = tokens tk in
+    let ts = tokens-of tk in
     let ev₀ = args .ev .now in
     let rep₀ = args .rep .now in
     let pool₀ = args .pool .now in
@@ -72,7 +72,7 @@ returns-2 c =
     let args = c .before .before .before .before .before .before .before .before .before .before .before .before .before .before .before .before .before .before .before .before .before .args in
     let self = args .self in
     let tk = args .t .now in
-    let ts = tokens tk in
+    let ts = tokens-of tk in
     let ev₀ = args .ev .now in
     let rep₀ = args .rep .now in
     let pool₀ = args .pool .now in
@@ -102,7 +102,7 @@ returns-3 c =
     let args = c .before .before .before .before .before .before .before .before .before .before .before .before .before .before .before .before .before .before .before .before .before .args in
     let self = args .self in
     let tk = args .t .now in
-    let ts = tokens tk in
+    let ts = tokens-of tk in
     let ev₀ = args .ev .now in
     let rep₀ = args .rep .now in
     let pool₀ = args .pool .now in

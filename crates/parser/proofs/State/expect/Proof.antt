@@ -1,8 +1,8 @@
 -- `expect`: what `eat` takes, or a report.
-use Rattle.rows.proofs.Kit.{flags, true-false}
+use Rattle.token_rows.proofs.Kit.{flags, true-false}
 use mathlib.Core.Path.{sym}
 use mathlib.Core.Bool.{false}
-use Rattle.definitions.specs.Token.{tokens}
+use Rattle.definitions.specs.Token.{tokens-of}
 use Rattle.parser.specs.View.{view, matcher-of}
 use Rattle.parser.proofs.Programs.{answered, expect-yes, expect-no}
 use borrow.Author.Needs.{needs}
@@ -23,7 +23,7 @@ returns c =
     let args = c .before .before .before .before .before .before .before .before .before .before .args in
     let self = args .self in
     let tk = args .t .now in
-    let ts = tokens tk in
+    let ts = tokens-of tk in
     let ev₀ = args .ev .now in
     let rep₀ = args .rep .now in
     let pool₀ = args .pool .now in
@@ -50,7 +50,7 @@ returns-2 c =
     let args = c .before .before .before .before .before .before .before .before .before .before .before .before .before .before .before .before .before .before .before .before .before .args in
     let self = args .self in
     let tk = args .t .now in
-    let ts = tokens tk in
+    let ts = tokens-of tk in
     let ev₀ = args .ev .now in
     let rep₀ = args .rep .now in
     let pool₀ = args .pool .now in

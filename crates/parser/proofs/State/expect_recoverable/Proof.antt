@@ -1,7 +1,7 @@
 -- `expect_recoverable`: what `eat` takes, or a report, which takes a token that is not in the recovery set.
-use Rattle.rows.proofs.Kit.{flags}
+use Rattle.token_rows.proofs.Kit.{flags}
 use mathlib.Core.Bool.{true, false}
-use Rattle.definitions.specs.Token.{tokens}
+use Rattle.definitions.specs.Token.{tokens-of}
 use Rattle.parser.specs.View.{view, matcher-of}
 use Rattle.parser.proofs.Programs.{answered, recoverable-yes, recoverable-in, recoverable-out}
 use borrow.Author.Needs.{needs}
@@ -19,7 +19,7 @@ returns c =
     let args = c .before .before .before .before .before .before .before .before .before .before .before .args in
     let self = args .self in
     let tk = args .t .now in
-    let ts = tokens tk in
+    let ts = tokens-of tk in
     let ev₀ = args .ev .now in
     let rep₀ = args .rep .now in
     let pool₀ = args .pool .now in
@@ -53,7 +53,7 @@ returns-2 c =
     let args = c .before .before .before .before .before .before .before .before .before .before .before .before .before .before .before .before .before .before .before .before .before .before .before .before .args in
     let self = args .self in
     let tk = args .t .now in
-    let ts = tokens tk in
+    let ts = tokens-of tk in
     let ev₀ = args .ev .now in
     let rep₀ = args .rep .now in
     let pool₀ = args .pool .now in
@@ -89,7 +89,7 @@ returns-3 c =
     let args = c .before .before .before .before .before .before .before .before .before .before .before .before .before .before .before .before .before .before .before .before .before .before .before .before .args in
     let self = args .self in
     let tk = args .t .now in
-    let ts = tokens tk in
+    let ts = tokens-of tk in
     let ev₀ = args .ev .now in
     let rep₀ = args .rep .now in
     let pool₀ = args .pool .now in

@@ -1,7 +1,7 @@
 -- `peek`: the trivia at the cursor passed.
-use Rattle.rows.proofs.Kit.{flags}
+use Rattle.token_rows.proofs.Kit.{flags}
 use mathlib.Core.Path.{_≡_, refl, sym, _∙_, ap}
-use Rattle.definitions.specs.Token.{tokens}
+use Rattle.definitions.specs.Token.{tokens-of}
 use Rattle.parser.specs.View.{view, left}
 use Rattle.parser.proofs.Moves.{peek-is}
 use Rattle.parser.proofs.State.peek.Statement.{statement}
@@ -16,7 +16,7 @@ returns c =
     let args = c .before .before .args in
     let self = args .self in
     let tk = args .t .now in
-    let ts = tokens tk in
+    let ts = tokens-of tk in
     let skip-trivia = c .skip-trivia in (
       λ codes ev rep pool. skip-trivia .ensures .0 (view self codes ev rep pool) ∙ sym (peek-is ts (view self codes ev rep pool)),
       omega flags,

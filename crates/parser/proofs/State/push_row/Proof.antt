@@ -1,5 +1,5 @@
 -- `push_row`: three stores, or refusal 6.
-use Rattle.rows.proofs.Kit.{flags}
+use Rattle.token_rows.proofs.Kit.{flags}
 use Rattle.parser.proofs.Kit.{sets3}
 use Rattle.machine.specs.Machine as M
 use Rattle.parser.specs.View.{left}

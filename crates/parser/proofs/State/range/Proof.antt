@@ -2,7 +2,7 @@
 use Rattle.parser.proofs.Kit.{range-rows}
 use mathlib.Core.Path.{refl}
 use lib.ListN.{drop}
-use Rattle.definitions.specs.Token.{tokens}
+use Rattle.definitions.specs.Token.{tokens-of}
 use Rattle.parser.specs.View.{view}
 use Rattle.parser.proofs.State.range.Statement.{statement}
 use Rattle.parser.proofs.State.range.Tie as tie
@@ -15,7 +15,7 @@ returns c =
     let args = c .before .before .before .args in
     let self = args .self in
     let tk = args .t .now in
-    let ts = tokens tk in
+    let ts = tokens-of tk in
     let end-at = c .end-at in
     λ codes ev rep pool.
     range-rows (drop (args .self .cursor .0) ts) (view self codes ev rep pool) (args .self .at .0) _ refl

@@ -1,5 +1,5 @@
 -- `raw_tokens_since`: a difference that stops at 0.
-use Rattle.rows.proofs.Kit.{flags}
+use Rattle.token_rows.proofs.Kit.{flags}
 use Rattle.parser.proofs.Kit.{below}
 use mathlib.Core.Path.{sym}
 use Rattle.parser.proofs.State.raw_tokens_since.Statement.{statement}

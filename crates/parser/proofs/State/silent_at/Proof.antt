@@ -1,6 +1,6 @@
 -- `silent_at`: a peek, and the row there.
-use Rattle.rows.proofs.Kit.{flags}
-use Rattle.definitions.specs.Token.{tokens}
+use Rattle.token_rows.proofs.Kit.{flags}
+use Rattle.definitions.specs.Token.{tokens-of}
 use Rattle.parser.specs.View.{view, left}
 use Rattle.parser.proofs.Moves.{silent-is}
 use mathlib.Core.List.{[], _∷_}
@@ -19,7 +19,7 @@ returns c =
     let args = c .before .before .before .args in
     let self = args .self in
     let tk = args .t .now in
-    let ts = tokens tk in
+    let ts = tokens-of tk in
     let peek = c .before .peek in
     let is-at = c .is-at in (
       λ b codes ev rep pool.

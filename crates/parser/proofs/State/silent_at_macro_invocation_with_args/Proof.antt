@@ -1,8 +1,8 @@
 -- `silent_at_macro_invocation_with_args`: an Ident, and an LParen right after it.
-use Rattle.rows.proofs.Kit.{true-false}
+use Rattle.token_rows.proofs.Kit.{true-false}
 use mathlib.Core.Path.{sym}
 use mathlib.Core.Bool.{true, false}
-use Rattle.definitions.specs.Token.{tokens}
+use Rattle.definitions.specs.Token.{tokens-of}
 use Rattle.parser.specs.View.{view}
 use Rattle.parser.proofs.Programs.{answered, macro-args-yes, macro-args-no}
 use Rattle.parser.proofs.State.silent_at_macro_invocation_with_args.Statement.{statement}
@@ -19,7 +19,7 @@ returns c =
     let args = c .before .before .before .before .before .args in
     let self = args .self in
     let tk = args .t .now in
-    let ts = tokens tk in
+    let ts = tokens-of tk in
     let silent-at = c .before .before .before .silent-at in
     let if1 = c .before .before .if1 in
     let is-next-at = c .is-next-at in (
@@ -34,7 +34,7 @@ returns-2 c =
     let args = c .before .before .before .before .args in
     let self = args .self in
     let tk = args .t .now in
-    let ts = tokens tk in
+    let ts = tokens-of tk in
     let silent-at = c .before .before .silent-at in
     let if1 = c .before .if1 in (
       λ ask b codes ev rep pool.

@@ -1,6 +1,6 @@
 -- `silent_at_set`: a peek, and the row there.
-use Rattle.rows.proofs.Kit.{flags}
-use Rattle.definitions.specs.Token.{tokens}
+use Rattle.token_rows.proofs.Kit.{flags}
+use Rattle.definitions.specs.Token.{tokens-of}
 use Rattle.parser.specs.View.{view, left}
 use Rattle.parser.proofs.Moves.{silent-is}
 use Rattle.parser.proofs.State.silent_at_set.Statement.{statement}
@@ -18,7 +18,7 @@ returns c =
     let args = c .before .before .before .before .args in
     let self = args .self in
     let tk = args .t .now in
-    let ts = tokens tk in
+    let ts = tokens-of tk in
     let set₀ = args .set .now in
     let peek = c .before .peek in
     let is-one-of-at = c .is-one-of-at in (

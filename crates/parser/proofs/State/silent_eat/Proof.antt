@@ -1,8 +1,8 @@
 -- `silent_eat`: the test, and the token or name.
-use Rattle.rows.proofs.Kit.{flags, true-false}
+use Rattle.token_rows.proofs.Kit.{flags, true-false}
 use mathlib.Core.Path.{_≡_, refl, sym, _∙_, ap}
 use mathlib.Core.Bool.{Bool, true, false}
-use Rattle.definitions.specs.Token.{tokens}
+use Rattle.definitions.specs.Token.{tokens-of}
 use Rattle.definitions.specs.Run.{truth}
 use Rattle.machine.specs.Walk.{said}
 use Rattle.parser.specs.View.{view, matcher-of}
@@ -25,7 +25,7 @@ returns c =
     let args = c .before .before .before .before .before .before .before .before .args in
     let self = args .self in
     let tk = args .t .now in
-    let ts = tokens tk in
+    let ts = tokens-of tk in
     let ev₀ = args .ev .now in
     let silent = c .before .before .before .before .before .silent in
     let if1 = c .before .before .before .before .if1 in
@@ -42,7 +42,7 @@ returns-2 c =
     let args = c .before .before .before .before .args in
     let self = args .self in
     let tk = args .t .now in
-    let ts = tokens tk in
+    let ts = tokens-of tk in
     let ev₀ = args .ev .now in
     let silent = c .before .silent in
     let if1 = c .if1 in (

@@ -1,11 +1,11 @@
 -- `take_while`: the name's rest from here is the name's rest from the start.
-use Rattle.rows.proofs.Kit.{flags}
+use Rattle.token_rows.proofs.Kit.{flags}
 use Prim.Native.Nat.{ℕ, _≤_}
 use mathlib.Core.Path.{_≡_, refl, sym, _∙_, ap}
 use native.Mathlib.Nat.{le-refl}
 use mathlib.Core.List.{List}
 use lib.ListN.{drop}
-use Rattle.definitions.specs.Token.{tokens}
+use Rattle.definitions.specs.Token.{tokens-of}
 use Rattle.machine.specs.Machine.{name-run}
 use Rattle.parser.specs.View.{view, left}
 use Rattle.parser.proofs.Moves.{name-more, name-done}
@@ -14,7 +14,7 @@ use Rattle.parser.proofs.State.take_while.Tie as tie
 
 abbrev Inv-loop : tie.InvT-loop
 Inv-loop t set q₀ q =
-    ((codes ev rep pool : List ℕ) → name-run set (drop (q .cursor .0) (tokens t)) (view q codes ev rep pool) ≡ name-run set (drop (q₀ .cursor .0) (tokens t)) (view q₀ codes ev rep pool))
+    ((codes ev rep pool : List ℕ) → name-run set (drop (q .cursor .0) (tokens-of t)) (view q codes ev rep pool) ≡ name-run set (drop (q₀ .cursor .0) (tokens-of t)) (view q₀ codes ev rep pool))
     × (left t q ≤ left t q₀)
 
 abbrev μ-loop : tie.MeasureT-loop
@@ -58,7 +58,7 @@ returns : tie.Need-returns Inv-loop μ-loop
 returns c =
     let args = c .before .before .before .before .before .args in
     let tk = args .t .now in
-    let ts = tokens tk in
+    let ts = tokens-of tk in
     let set₀ = args .set .now in
     let loop = c .before .before .loop in
     let is-one-of-at = c .before .is-one-of-at in

@@ -1,11 +1,11 @@
 -- `wrap_unless_at_end`: a token in a ParseError, if there is one.
-use Rattle.rows.proofs.Kit.{flags}
+use Rattle.token_rows.proofs.Kit.{flags}
 use mathlib.Core.Path.{_≡_, refl, sym, _∙_, ap}
 use mathlib.Core.Bool.{true, false}
 use native.Mathlib.Omega.{arith}
-use Rattle.definitions.specs.Token.{tokens}
+use Rattle.definitions.specs.Token.{tokens-of}
 use Rattle.definitions.specs.Prog.{bump}
-use Rattle.definitions.specs.Check.{node, bump! }
+use Rattle.definitions.specs.Check.{in-node, bump!}
 use Rattle.definitions.specs.NodeKind as N
 use Rattle.parser.specs.View.{view, marker-of}
 use Rattle.parser.proofs.Programs.{answered, walk-act, walk-node, end-yes, end-no}
@@ -33,12 +33,12 @@ returns c =
     let args = c .before .before .before .before .before .args in
     let self = args .self in
     let tk = args .t .now in
-    let ts = tokens tk in
+    let ts = tokens-of tk in
     let ev₀ = args .ev .now in
     let at-end = c .before .before .at-end in
     let if1 = c .before .if1 in (
       λ ask b codes rep pool.
-          end-yes ask ts b (node N.ParseError bump!) (view self codes ev₀ rep pool) (view (at-end .result .s) codes ev₀ rep pool)
+          end-yes ask ts b (in-node N.ParseError bump!) (view self codes ev₀ rep pool) (view (at-end .result .s) codes ev₀ rep pool)
           (answered _ true _ _ (at-end .ensures .0 b codes ev₀ rep pool) (if1 .taken)),
       omega (flags, at-end .ensures .1 .1 .1 (if1 .taken)),
     )
@@ -51,7 +51,7 @@ returns-2 c =
     let args = c .before .before .before .before .before .before .before .before .before .before .before .before .before .before .before .before .before .args in
     let self = args .self in
     let tk = args .t .now in
-    let ts = tokens tk in
+    let ts = tokens-of tk in
     let ev₀ = args .ev .now in
     let at-end = c .before .before .before .before .before .before .before .before .before .before .before .before .before .before .at-end in
     let if1 = c .before .before .before .before .before .before .before .before .before .before .before .before .before .if1 in
@@ -60,7 +60,7 @@ returns-2 c =
     let bump′ = c .before .before .before .before .before .before .bump in
     let complete = c .before .before .complete in (
       λ ask b codes rep pool.
-          end-no ask ts b (node N.ParseError bump!) (view self codes ev₀ rep pool) (view (at-end .result .s) codes ev₀ rep pool) _
+          end-no ask ts b (in-node N.ParseError bump!) (view self codes ev₀ rep pool) (view (at-end .result .s) codes ev₀ rep pool) _
           (answered _ false _ _ (at-end .ensures .0 b codes ev₀ rep pool) (if1 .left))
           (walk-node ask ts b N.ParseError bump! (marker-of (new .result)) (view (at-end .result .s) codes ev₀ rep pool)
           (view (start′ .result) codes _ rep pool) _ _ (omega arith) (new .ensures) (start′ .ensures .0 codes rep pool)

@@ -1,5 +1,5 @@
 -- `put_code`: a store, if the place is inside.
-use Rattle.rows.proofs.Kit.{flags}
+use Rattle.token_rows.proofs.Kit.{flags}
 use mathlib.Core.Path.{refl, sym}
 use lib.ListN.{length-set}
 use lib.Seq.{set-out}

@@ -1,5 +1,5 @@
 -- `less_one`: a difference that stops at 0.
-use Rattle.rows.proofs.Kit.{flags}
+use Rattle.token_rows.proofs.Kit.{flags}
 use mathlib.Core.Path.{refl}
 use Rattle.parser.proofs.errors.less_one.Statement.{statement}
 use Rattle.parser.proofs.errors.less_one.Tie as tie

@@ -1,5 +1,5 @@
 -- `put_report`: nine stores, if the row is inside.
-use Rattle.rows.proofs.Kit.{flags}
+use Rattle.token_rows.proofs.Kit.{flags}
 use mathlib.Core.List.{[], _∷_}
 use lib.ListN.{length-set}
 use Rattle.parser.proofs.Reports.{sets9, stored-row, not-stored}

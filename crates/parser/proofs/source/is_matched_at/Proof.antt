@@ -1,5 +1,5 @@
 -- `is_matched_at`: the kind of the row, looked up.
-use Rattle.rows.proofs.Kit.{flags, true-false, is-one-of-rows, first-past-rows}
+use Rattle.token_rows.proofs.Kit.{flags, true-false, is-one-of-rows, first-past-rows}
 use mathlib.Core.Path.{sym}
 use Rattle.parser.specs.View.{kinds-of}
 use Rattle.parser.proofs.source.is_matched_at.Statement.{statement}

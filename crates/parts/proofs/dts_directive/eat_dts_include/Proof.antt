@@ -3,9 +3,9 @@ use Rattle.definitions.specs.TokenKind as K
 use mathlib.Core.Path.{sym}
 use mathlib.Core.List.{[]}
 use native.Mathlib.Omega.{arith}
-use Rattle.definitions.specs.Token.{tokens}
+use Rattle.definitions.specs.Token.{tokens-of}
 use Rattle.definitions.specs.Prog.{Rule, no}
-use Rattle.definitions.specs.Check.{kind, eat-starting_inside_else_}
+use Rattle.definitions.specs.Check.{of-kind, eat-starting_inside_else_}
 use Rattle.definitions.specs.Grammar.{eat-dts-include}
 use Rattle.machine.specs.Machine.{Machine}
 use Rattle.machine.specs.Walk.{said, unlabelled}
@@ -53,7 +53,7 @@ returns c =
     let e = d .before .before .before .before .before in
     let f = e .before .before .before in
     let s = f .before .before .before .before .before .before .before in
-    (λ ask b. (c-started (kind K.DtIncludeDirective) (f .eat-starting .ensures .0 ask b _ _) (e .if1 .taken) (c-seq (c-walk (d .expect .ensures .0 ask b)) c-ret) (completed 10 (a .complete .ensures .0 _ _ _))) .is, (omega (arith, f .eat-starting .ensures .1 .0, f .eat-starting .ensures .1 .1 (e .if1 .taken), d .expect .ensures .1 .0, a .complete .ensures .1 (s .args .t .now)), λ h. omega (arith, f .eat-starting .ensures .1 .0, f .eat-starting .ensures .1 .1 (e .if1 .taken), d .expect .ensures .1 .0, a .complete .ensures .1 (s .args .t .now), some-left (s .args .t .now) (s .args .s) (starting-some (λ (r : Rule) (m : Machine). said no m) (tokens (s .args .t .now)) unlabelled K.DtIncludeDirective _ _ _ (f .eat-starting .result .yes) (few-rows (s .args .t .now) (omega arith)) (f .eat-starting .ensures .0 (λ (r : Rule) (m : Machine). said no m) unlabelled [] []) (e .if1 .taken)))))
+    (λ ask b. (c-started (of-kind K.DtIncludeDirective) (f .eat-starting .ensures .0 ask b _ _) (e .if1 .taken) (c-seq (c-walk (d .expect .ensures .0 ask b)) c-ret) (completed 10 (a .complete .ensures .0 _ _ _))) .is, (omega (arith, f .eat-starting .ensures .1 .0, f .eat-starting .ensures .1 .1 (e .if1 .taken), d .expect .ensures .1 .0, a .complete .ensures .1 (s .args .t .now)), λ h. omega (arith, f .eat-starting .ensures .1 .0, f .eat-starting .ensures .1 .1 (e .if1 .taken), d .expect .ensures .1 .0, a .complete .ensures .1 (s .args .t .now), some-left (s .args .t .now) (s .args .s) (starting-some (λ (r : Rule) (m : Machine). said no m) (tokens-of (s .args .t .now)) unlabelled K.DtIncludeDirective _ _ _ (f .eat-starting .result .yes) (few-rows (s .args .t .now) (omega arith)) (f .eat-starting .ensures .0 (λ (r : Rule) (m : Machine). said no m) unlabelled [] []) (e .if1 .taken)))))
 
 same-length-4 : tie.Need-same-length-4
 same-length-4 c =
@@ -65,7 +65,7 @@ unfolding eat-dts-include eat-starting_inside_else_
 returns-2 c =
     let a = c .before in
     let d = a .before .before .before in
-    (λ ask b. (c-unstarted (kind K.DtIncludeDirective) (d .eat-starting .ensures .0 ask b _ _) (a .if1 .left) c-ret) .is, (omega (arith, d .eat-starting .ensures .1 .0), λ h. true-false (sym h)))
+    (λ ask b. (c-unstarted (of-kind K.DtIncludeDirective) (d .eat-starting .ensures .0 ask b _ _) (a .if1 .left) c-ret) .is, (omega (arith, d .eat-starting .ensures .1 .0), λ h. true-false (sym h)))
 
 pub eat-dts-include-spec : {M : Type 1} → statement M
 eat-dts-include-spec = tie.close (tie.spec eat-starting-requires expect-requires complete-requires same-length same-length-2 same-length-3 returns same-length-4 returns-2)

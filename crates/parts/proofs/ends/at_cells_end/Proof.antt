@@ -1,6 +1,6 @@
 -- `at_cells_end` is the walk of its program, step by step.
 use native.Mathlib.Omega.{arith}
-use Rattle.definitions.specs.Token.{tokens}
+use Rattle.definitions.specs.Token.{tokens-of}
 use Rattle.definitions.specs.Grammar.{cells-end}
 use Rattle.machine.proofs.Way.{c-walk, c-act, c-seq}
 use Rattle.names.proofs.Ways.{c-flag}
@@ -23,7 +23,7 @@ returns c =
     let d = a .before in
     let e = d .before .before in
     let s = e .before .before in
-    (λ ask b ev rep pool. (c-flag cells-end (e .if1 .taken) (c-seq (c-act (d .add-expected .ensures .0 (tokens (s .args .t .now)) b _ _ _)) (c-act (a .at-end .ensures .0 b _ _ _ _)))) .is, omega (arith, d .add-expected .ensures .1 (s .args .t .now), a .at-end .ensures .1 .0))
+    (λ ask b ev rep pool. (c-flag cells-end (e .if1 .taken) (c-seq (c-act (d .add-expected .ensures .0 (tokens-of (s .args .t .now)) b _ _ _)) (c-act (a .at-end .ensures .0 b _ _ _ _)))) .is, omega (arith, d .add-expected .ensures .1 (s .args .t .now), a .at-end .ensures .1 .0))
 
 returns-2 : tie.Need-returns-2
 unfolding cells-end

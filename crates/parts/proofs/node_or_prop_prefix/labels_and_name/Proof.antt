@@ -4,7 +4,7 @@ use mathlib.Core.Path.{_≡_, refl, ap, _∙_}
 use native.Mathlib.Omega.{arith}
 use native.Mathlib.Nat.{le-refl}
 use lib.ListN.{length}
-use Rattle.definitions.specs.Token.{tokens}
+use Rattle.definitions.specs.Token.{tokens-of}
 use Rattle.definitions.specs.Skeleton.{Span}
 use Rattle.definitions.specs.Prog.{Rule, loop}
 use Rattle.definitions.specs.Grammar.{prefix-turn}
@@ -19,7 +19,7 @@ use Rattle.parts.proofs.node_or_prop_prefix.labels_and_name.Statement.{
 use Rattle.parts.proofs.node_or_prop_prefix.labels_and_name.Tie as tie
 
 abbrev Inv-loop : tie.InvT-loop
-Inv-loop codes₀ t ev₀ rep₀ pool₀ allow q₀ codes ev rep pool q = ((ask : Rule → Machine → Walked) (b : Span) → walk ask (tokens t) b (loop (prefix-turn (own-name allow))) (view q codes ev rep pool) ≡ walk ask (tokens t) b (loop (prefix-turn (own-name allow))) (view q₀ codes₀ ev₀ rep₀ pool₀)) × ((left t q ≤ left t q₀) × ((length ev ≡ length ev₀) × ((length rep ≡ length rep₀) × (length pool ≡ length pool₀))))
+Inv-loop codes₀ t ev₀ rep₀ pool₀ allow q₀ codes ev rep pool q = ((ask : Rule → Machine → Walked) (b : Span) → walk ask (tokens-of t) b (loop (prefix-turn (own-name allow))) (view q codes ev rep pool) ≡ walk ask (tokens-of t) b (loop (prefix-turn (own-name allow))) (view q₀ codes₀ ev₀ rep₀ pool₀)) × ((left t q ≤ left t q₀) × ((length ev ≡ length ev₀) × ((length rep ≡ length rep₀) × (length pool ≡ length pool₀))))
 
 abbrev μ-loop : tie.MeasureT-loop
 μ-loop codes₀ t ev₀ rep₀ pool₀ allow q₀ codes ev rep pool q = left t q

@@ -35,7 +35,7 @@ use denote.Triple.Table.{entered, cited}
 use denote.Triple.Walked.{says, Stays, stay-none, walkOf, goes-none, Walks, ends-at, walked, walk-meets}
 use denote.Exit.{yes}
 use denote.Triple.Clauses.{ensured, lasts}
-use Rattle.definitions.specs.Token.{tokens, drop-trivia}
+use Rattle.definitions.specs.Token.{tokens-of, drop-trivia}
 use Rattle.lexer.specs.declared.TokenIndex.{TokenIndex}
 use Rattle.lexer.proofs.TokenIndex as I
 use Rattle.lexer.proofs.TokenIndex.Laws as I′
@@ -71,10 +71,10 @@ module _ {M : Type 1} (𝓤 : URA M) (H : Heap 𝓤) (A : Atoms 𝓤) (W : Given
 
   -- what is known of the place that the callee returns
   abbrev Found : TokenIndex → Type 0
-  Found i = i .0 ≡ after-trivia (tokens (now (d .rows))) (d .cursor .0)
+  Found i = i .0 ≡ after-trivia (tokens-of (now (d .rows))) (d .cursor .0)
 
   abbrev Left : TokenIndex → Type 0
-  Left i = dropped (i .0) (tokens (now (d .rows))) ≡ drop-trivia (dropped (d .cursor .0) (tokens (now (d .rows))))
+  Left i = dropped (i .0) (tokens-of (now (d .rows))) ≡ drop-trivia (dropped (d .cursor .0) (tokens-of (now (d .rows))))
 
   abbrev Post : Val → SProp 𝓤
   Post = walkOf 𝓤 H A peek.ended stayed (peek.clauses 𝓤 H A mem run) .post (((κ, tt), (q, tt), tt, (d, tt), (mach ∷ [], tt)), tt)

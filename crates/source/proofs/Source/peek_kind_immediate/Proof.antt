@@ -38,12 +38,12 @@ use denote.Triple.Table.{entered, cited}
 use denote.Triple.Walked.{says, Stays, stay-none, walkOf, goes-none, Walks, ends-at, walked, walk-meets}
 use denote.Exit.{yes}
 use denote.Triple.Clauses.{ensured, lasts}
-use Rattle.definitions.specs.Token.{tokens}
-use Rattle.rows.specs.Tokens.{kind-of}
-use Rattle.rows.proofs.token.kind_at as kind-at
-use Rattle.rows.proofs.token.kind_at.Symbol as kind-at-def
-use Rattle.rows.proofs.token.kind_at.Symbol.{name as #rows·kind-at}
-use Rattle.rows.proofs.token.kind_at.Met as kind-at-thm
+use Rattle.definitions.specs.Token.{tokens-of}
+use Rattle.token_rows.specs.Tokens.{kind-of}
+use Rattle.token_rows.proofs.token.kind_at as kind-at
+use Rattle.token_rows.proofs.token.kind_at.Symbol as kind-at-def
+use Rattle.token_rows.proofs.token.kind_at.Symbol.{name as #rows·kind-at}
+use Rattle.token_rows.proofs.token.kind_at.Met as kind-at-thm
 use Rattle.source.specs.declared.Source.{Source}
 use Rattle.source.proofs.Held.{Own, Fields, rows-val, opened}
 use Rattle.source.proofs.Source as T
@@ -73,7 +73,7 @@ module _ {M : Type 1} (𝓤 : URA M) (H : Heap 𝓤) (A : Atoms 𝓤) (W : Given
   at = d .cursor .0
 
   abbrev found : ℕ
-  found = kind-of (dropped at (tokens (now (d .rows))))
+  found = kind-of (dropped at (tokens-of (now (d .rows))))
 
   abbrev Post : Val → SProp 𝓤
   Post = walkOf 𝓤 H A immediate.ended stayed (immediate.clauses 𝓤 H A mem run) .post (((κ, tt), (q, tt), tt, (d, tt), (mach ∷ [], tt)), tt)

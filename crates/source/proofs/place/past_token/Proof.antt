@@ -1,7 +1,7 @@
 -- `past_token`: where a token taken after the parser's peek leaves its cursor.
 use mathlib.Core.Path.{ap}
 use mathlib.Core.List.{[]}
-use Rattle.definitions.specs.Token.{tokens}
+use Rattle.definitions.specs.Token.{tokens-of}
 use Rattle.machine.specs.Machine.{Machine}
 use Rattle.parser.specs.View.{view}
 use Rattle.source.proofs.Moves.{token-goes}
@@ -20,7 +20,7 @@ next-token-requires c κs = tt
 returns : tie.Need-returns
 returns c =
     let args = c .before .before .before .before .before .args in
-    let ts = tokens (args .t .now) in
+    let ts = tokens-of (args .t .now) in
     let standing = c .before .before .before .standing in
     let peek = c .before .before .peek in
     let next-token = c .before .next-token in

@@ -1,7 +1,7 @@
 -- `past_trivia`: where the parser's peek brings its cursor.
 use mathlib.Core.Path.{ap}
 use mathlib.Core.List.{[]}
-use Rattle.definitions.specs.Token.{tokens}
+use Rattle.definitions.specs.Token.{tokens-of}
 use Rattle.machine.specs.Machine.{Machine}
 use Rattle.parser.specs.View.{view}
 use Rattle.source.proofs.Moves.{peek-goes}
@@ -17,7 +17,7 @@ peek-requires c κs = tt
 returns : tie.Need-returns
 returns c =
     let args = c .before .before .before .before .args in
-    let ts = tokens (args .t .now) in
+    let ts = tokens-of (args .t .now) in
     let standing = c .before .before .standing in
     let peek = c .before .peek in
     peek-goes ts (view (standing .result) [] [] [] []) (view (peek .result) [] [] [] []) (args .at .0) (ap (λ (m : Machine). m .cursor) (standing .ensures [] [] [] []))

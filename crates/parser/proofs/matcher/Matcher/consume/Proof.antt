@@ -1,5 +1,5 @@
 -- `consume`: a token or a name.
-use Rattle.definitions.specs.Token.{tokens}
+use Rattle.definitions.specs.Token.{tokens-of}
 use Rattle.parser.specs.View.{view}
 use Rattle.parser.proofs.Programs.{take-kind, take-either, take-name, take-label}
 use borrow.Author.Needs.{needs}
@@ -44,7 +44,7 @@ returns c =
     let args = c .before .before .before .before .before .before .before .before .args in
     let self = args .self in
     let tk = args .t .now in
-    let ts = tokens tk in
+    let ts = tokens-of tk in
     let ev₀ = args .ev .now in
     let enum-told = c .before .before .before .before .enum-told in
     let bump = c .before .before .bump in (
@@ -62,7 +62,7 @@ returns-2 c =
     let args = c .before .before .before .before .before .before .before .before .args in
     let self = args .self in
     let tk = args .t .now in
-    let ts = tokens tk in
+    let ts = tokens-of tk in
     let ev₀ = args .ev .now in
     let enum-told2 = c .before .before .before .before .enum-told2 in
     let bump2 = c .before .before .bump2 in (
@@ -80,7 +80,7 @@ returns-3 c =
     let args = c .before .before .before .before .before .before .before .before .before .args in
     let self = args .self in
     let tk = args .t .now in
-    let ts = tokens tk in
+    let ts = tokens-of tk in
     let ev₀ = args .ev .now in
     let enum-told3 = c .before .before .before .before .before .enum-told3 in
     let bump-name = c .before .before .bump-name in (
@@ -97,7 +97,7 @@ returns-4 c =
     let args = c .before .before .before .before .before .before .before .before .before .args in
     let self = args .self in
     let tk = args .t .now in
-    let ts = tokens tk in
+    let ts = tokens-of tk in
     let ev₀ = args .ev .now in
     let enum-told4 = c .before .before .before .before .before .enum-told4 in
     let bump-name2 = c .before .before .bump-name2 in (

@@ -1,0 +1,178 @@
+-- The statements of specs/Numbers.antt.
+use Prim.Native.Nat.{ℕ, _+_, _-_, _*_, _≤_, _<_}
+use native.Mathlib.Nat.{le-refl, div-le-self}
+use native.Mathlib.Omega.{arith}
+use mathlib.Core.Path.{_≡_, refl, ap, sym, _∙_, subst}
+use mathlib.Core.Bool.{Bool, true, false, not, _&&_, _||_, false≢true}
+use mathlib.Core.List.{List, [], _∷_, _++_, append-nil}
+use lib.Dec.{leb, eqb}
+use lib.ListN.{length, length-append}
+use borrow.Author.Tests.{leb-true}
+use Rattle.definitions.specs.Layout.{TREE-ROW, ERROR-ROW, REPORT-ROW}
+use Rattle.definitions.specs.TokenKind as K
+use Rattle.definitions.specs.Token.{Token, tokens-of, bytes}
+use Rattle.definitions.specs.Grammar.{Entry}
+use Rattle.definitions.specs.Skeleton.{Skeleton}
+use Rattle.definitions.specs.Event.{events}
+use Rattle.definitions.specs.Place.{rows, lexical-errors}
+use Rattle.definitions.specs.Report.{Push, pushes, reports, report-rows, pool, Fit, fits, stops, scan}
+use Rattle.definitions.specs.Refusal.{Refusal, unknown-entry, no-tree-room, place-of, Verdict, accepted, refused, is-kind, check-input}
+use Rattle.definitions.specs.Call.{Buffers, zeros, written, refusal, cleared, Sheets, sheets, kept, finish, forward-mark, outcome, room-of, run-entry, parse, Asked, for, unknown, entry-of, checked, asked, call}
+use Rattle.laws.proofs.Trivia.{cond-all}
+use Rattle.laws.proofs.Skeleton.{event-count, event-count-append, events-length, reports-append}
+use Rattle.laws.proofs.Clear.{Clear}
+use Rattle.laws.proofs.Scan.{fits-clear}
+use Rattle.laws.proofs.Between.{entry-reads}
+use Rattle.laws.proofs.Decode.{rows-length}
+use Rattle.laws.proofs.Input.{All-good, Checked, checked-input}
+use Rattle.bounds.specs.Numbers.{most-events, most-reports, most-expectations, most-rows, Bounded, Runs-bounded, WORD, Below, Within-limits, So-far, Words-so-far, Words, Answer-fits, Fits, Numbers-fit}
+use Rattle.bounds.proofs.Tables as T
+use Rattle.bounds.proofs.Counts.{counted, events-cost, reports-cost}
+use Rattle.bounds.proofs.Pools.{Small, few-expected, entry-small}
+use Rattle.bounds.proofs.Codes.{CODES, below-append}
+use Rattle.bounds.proofs.CodedRuns.{entry-coded}
+use Rattle.bounds.proofs.Events.{events-fit}
+use Rattle.bounds.proofs.TreeRows.{Kinded, tree, few-rows, few-children, rows-below}
+use Rattle.bounds.proofs.Written.{below-wider, below-zeros, All-coded, coded-left, reports-coded, pool-below, report-rows-length, report-rows-below, errors-most, errors-below}
+use Rattle.bounds.proofs.Places.{number-small, Placed, input-placed, Stopped, scan-stopped}
+
+-- ---------------------------------------------------------------- a run
+
+module _ (e : Entry) (ts : List Token) where
+  abbrev o : Skeleton
+  o = run-entry e ts
+
+  pub few-events : length (events false o) ≤ most-events (length ts)
+  few-events = omega (arith, events-length false o, events-cost o, counted T.events e ts)
+
+  few-pushed : (l m : List Push) → pushes o ≡ l ++ m → event-count l ≤ most-events (length ts)
+  few-pushed l m h = omega (arith, ap event-count h ∙ event-count-append l m, events-cost o, counted T.events e ts)
+
+  few-reported : (l m : List Push) → pushes o ≡ l ++ m → length (reports l) ≤ most-reports (length ts)
+  few-reported l m h =
+      let j : length (reports (pushes o)) ≡ length (reports l) + length (reports m) = ap (λ (x : List Push). length (reports x)) h ∙ simp (reports-append, length-append) in
+      omega (arith, reports-cost o, counted T.reports e ts)
+
+  few-pool : (l m : List Push) → pushes o ≡ l ++ m → Clear l → length (pool (reports l)) ≤ most-expectations (length ts)
+  few-pool l m h c = omega (arith, few-expected l m (subst Small h (entry-small e ts)) c, few-reported l m h)
+
+  -- A RUN IS BOUNDED
+  pub bounded : Bounded e ts
+  bounded =
+      record {
+        all-events = few-events;
+        distances = events-fit (most-events (length ts)) (length ts) false o ts (entry-coded e ts) (entry-reads e ts .reads ts refl) (le-refl _) few-events;
+        events-so-far = few-pushed;
+        reports-so-far = few-reported;
+        pool-so-far = few-pool;
+        tree-rows = omega (arith, rows-length (tree e ts), few-rows e ts);
+        counts = few-children e ts;
+      }
+
+pub runs-bounded : Runs-bounded
+runs-bounded e ts = bounded e ts
+
+-- ---------------------------------------------------------------- a call
+
+kind-cases : {P : Type 0} (a b c d f : Bool) → (a && b && c || d && f) ≡ true → (a ≡ true → P) → (f ≡ true → P) → P
+kind-cases true b c d f e p q = p refl
+kind-cases false b c true f e p q = q e
+kind-cases false b c false f e p q = absurd (false≢true e)
+
+kind-small : (k : ℕ) → is-kind k ≡ true → k < CODES
+unfolding is-kind
+kind-small k e =
+    kind-cases (leb k 60) (not (eqb k K.Unrecognized)) (not (eqb k K.Name)) (leb 64 k) (leb k 74) e
+    (λ h. omega (arith, leb-true k 60 h)) (λ h. omega (arith, leb-true k 74 h))
+
+good-kinded : (ts : List Token) → All-good ts → Kinded ts
+good-kinded [] g = tt
+good-kinded (t ∷ ts) g = (kind-small (t .kind) (g .0 .kind), good-kinded ts (g .1))
+
+below-written : (l b : List ℕ) → Below WORD l → Below WORD (written l b)
+below-written l b h = below-append WORD l _ h (below-zeros WORD (length b - length l) (omega arith))
+
+-- what a run has written, within cause 2's limits
+pub so-far : Words-so-far
+so-far e ts w l m h c =
+    let n : length ts ≤ 65536 = w .tokens in
+    let i : bytes ts ≤ 1048576 = w .input in
+    let a : event-count l ≤ most-events (length ts) = few-pushed e ts l m h in
+    let b : length (reports l) ≤ most-reports (length ts) = few-reported e ts l m h in
+    let p : length (pool (reports l)) ≤ most-expectations (length ts) = few-pool e ts l m h c in
+    let r : All-coded (reports l) = coded-left (reports l) (reports m) (subst All-coded (ap reports h ∙ reports-append l m) (reports-coded (run-entry e ts) (entry-coded e ts))) in
+    record {
+      event-numbers = omega arith;
+      report-numbers = omega arith;
+      pool-numbers = omega arith;
+      report-words = report-rows-below WORD (length ts) (bytes ts) (omega arith) (omega arith) (omega arith) 0 (reports l) r (omega arith);
+      pool-words = below-wider CODES WORD (pool (reports l)) (omega arith) (pool-below (reports l) r);
+    }
+
+-- what an accepted call writes
+module _ (e : Entry) (ts : List Token) (limits : Within-limits ts) (k : Kinded ts) (c : Clear (pushes (run-entry e ts))) where
+  pub sheets-fit : (b : Buffers) → Fits (kept (sheets e ts (run-entry e ts)) b)
+  unfolding sheets
+  sheets-fit b =
+      let l = reports (pushes (run-entry e ts)) in
+      let x = lexical-errors 0 ts in
+      let n : length ts ≤ 65536 = limits .tokens in
+      let i : bytes ts ≤ 1048576 = limits .input in
+      let t : length (rows (tree e ts)) ≤ TREE-ROW * most-rows (length ts) = bounded e ts .tree-rows in
+      let s : So-far ts (pushes (run-entry e ts)) = so-far e ts limits (pushes (run-entry e ts)) [] (sym (append-nil (pushes (run-entry e ts)))) c in
+      record {
+        answer =
+            record {
+              number = omega arith;
+              place = omega arith;
+              trees = omega (arith, div-le-self (length (rows (tree e ts))) TREE-ROW);
+              errors = omega (arith, errors-most 0 ts, div-le-self (length x) ERROR-ROW);
+              reports = omega (arith, s .report-numbers, report-rows-length (length ts) (bytes ts) 0 l, div-le-self (length (report-rows (length ts) (bytes ts) 0 l)) REPORT-ROW);
+              expectations = s .pool-numbers;
+            };
+        buffers =
+            record {
+              events = below-zeros WORD (length (b .events)) (omega arith);
+              trees = below-written (rows (tree e ts)) (b .trees) (rows-below WORD (omega arith) e ts k (omega arith) (omega arith) (omega arith));
+              errors = below-written x (b .errors) (errors-below WORD 0 ts (omega arith) k (omega arith));
+              reports = below-written (report-rows (length ts) (bytes ts) 0 l) (b .reports) (s .report-words);
+              pool = below-written (pool l) (b .pool) (s .pool-words);
+            };
+      }
+
+refusal-fits : (r : Refusal) → place-of r < WORD → Answer-fits (refusal r)
+refusal-fits r h = record { number = omega (arith, number-small r); place = h; trees = omega arith; errors = omega arith; reports = omega arith; expectations = omega arith }
+
+cleared-fits : (r : Refusal) (b : Buffers) → place-of r < WORD → Fits (cleared r b)
+cleared-fits r b h =
+    let z : (l : List ℕ) → Below WORD (zeros l) = λ l. below-zeros WORD (length l) (omega arith) in
+    record { answer = refusal-fits r h; buffers = record { events = z (b .events); trees = z (b .trees); errors = z (b .errors); reports = z (b .reports); pool = z (b .pool) } }
+
+module _ (bs tk : List ℕ) (b : Buffers) (w : Words b) where
+  parse-fits : (e : Entry) → check-input bs tk ≡ accepted → (f : Fit) → scan (pushes (run-entry e (tokens-of tk))) (room-of b) ≡ f → Fits (outcome f e (tokens-of tk) (run-entry e (tokens-of tk)) b)
+  unfolding outcome finish place-of
+  parse-fits e a (stops r) q =
+      let i : Checked bs tk = checked-input bs tk a in
+      let s : place-of (forward-mark (length (tokens-of tk)) r) ≤ length (tokens-of tk) = subst (Stopped (length (tokens-of tk))) q (scan-stopped (length (tokens-of tk)) (pushes (run-entry e (tokens-of tk))) (room-of b)) in
+      cleared-fits (forward-mark (length (tokens-of tk)) r) b (omega (arith, i .pairs, i .numbers-limit))
+  parse-fits e a (fits z) q =
+      let i : Checked bs tk = checked-input bs tk a in
+      let s : Sheets = sheets e (tokens-of tk) (run-entry e (tokens-of tk)) in
+      cond-all Fits (leb (length (s .trees)) (length (b .trees)) && leb (length (s .errors)) (length (b .errors)))
+      (sheets-fit e (tokens-of tk) (record { tokens = omega (arith, i .pairs, i .numbers-limit); input = omega (arith, i .covered, i .bytes-limit) }) (good-kinded (tokens-of tk) (i .good)) (fits-clear (pushes (run-entry e (tokens-of tk))) (room-of b) z q) b)
+      (cleared-fits no-tree-room b (omega arith))
+
+  checked-fits : (e : Entry) (v : Verdict) → check-input bs tk ≡ v → Fits (checked v e tk b)
+  unfolding checked parse
+  checked-fits e accepted a = parse-fits e a _ refl
+  checked-fits e (refused r) a = let p : place-of r ≤ 131072 = subst (Placed 131072) a (input-placed bs tk) in record { answer = refusal-fits r (omega arith); buffers = w }
+
+  asked-fits : (x : Asked) → Fits (asked x bs tk b)
+  unfolding asked place-of
+  asked-fits unknown = record { answer = refusal-fits unknown-entry (omega arith); buffers = w }
+  asked-fits (for e) = checked-fits e (check-input bs tk) refl
+
+-- NUMBERS FIT
+pub numbers-fit : Numbers-fit
+unfolding call
+numbers-fit n bs tk b w = asked-fits bs tk b w (entry-of n)

@@ -1,0 +1,124 @@
+-- NUMBERS FIT. A run makes at most a small multiple of its tokens, of anything: events, reports, expectations, tree rows, and with
+-- them child counts, first pool places and distances between events. Within cause 2's limits (65,536 tokens, 1,048,576 bytes)
+-- every number that a call writes is therefore below 2^32, however long the lent buffers are.
+use Prim.Native.Nat.{ℕ, _+_, _*_, _≤_, _<_}
+use mathlib.Core.Path.{_≡_}
+use mathlib.Core.Bool.{false}
+use mathlib.Core.List.{List, [], _∷_, _++_}
+use lib.ListN.{length}
+use Rattle.definitions.specs.Layout.{EVENT-ROW, TREE-ROW, REPORT-ROW}
+use Rattle.definitions.specs.Token.{Token, bytes}
+use Rattle.definitions.specs.Grammar.{Entry, root-kind}
+use Rattle.definitions.specs.Event.{Event, StartNode, AddToken, AddCombinedToken, FinishNode, Placeholder, Error, events}
+use Rattle.definitions.specs.Place.{Tree, nil, leaf, subtree, root, count, rows}
+use Rattle.definitions.specs.Report.{Push, pushes, reports, report-rows, pool}
+use Rattle.definitions.specs.Call.{Buffers, Answer, Result, run-entry, call}
+use Rattle.laws.proofs.Skeleton.{event-count}
+use Rattle.laws.proofs.Clear.{Clear}
+
+-- ---------------------------------------------------------------- for n tokens
+
+abbrev pub most-events : ℕ → ℕ
+most-events n = 13 * n + 1
+
+abbrev pub most-reports : ℕ → ℕ
+most-reports n = 3 * n + 1
+
+-- 256 in each report
+abbrev pub most-expectations : ℕ → ℕ
+most-expectations n = 768 * n + 256
+
+-- leaves and nodes, the root's row too
+abbrev pub most-rows : ℕ → ℕ
+most-rows n = 6 * n + 1
+
+-- an event's own numbers: a kind below 256, a distance of at most d events, a name of at most n raw tokens
+abbrev pub Event-fits : ℕ → ℕ → Event → Type 0
+Event-fits d n (StartNode k f) = (k < 256) × (f ≤ d)
+Event-fits d n AddToken = Unit {0}
+Event-fits d n (AddCombinedToken c) = c ≤ n
+Event-fits d n FinishNode = Unit {0}
+Event-fits d n Placeholder = Unit {0}
+Event-fits d n Error = Unit {0}
+
+abbrev pub All-fit : ℕ → ℕ → List Event → Type 0
+All-fit d n [] = Unit {0}
+All-fit d n (x ∷ l) = Event-fits d n x × All-fit d n l
+
+-- each node has at most m children, and each leaf at most m raw tokens
+abbrev pub Counts-within : ℕ → Tree → Type 0
+Counts-within m nil = Unit {0}
+Counts-within m (leaf k ts f) = (length ts ≤ m) × Counts-within m f
+Counts-within m (subtree k c f) = (count c ≤ m) × Counts-within m c × Counts-within m f
+
+-- ---------------------------------------------------------------- a run
+
+-- for the entry e and the tokens ts, whether the run is refused or not
+pub record Bounded (e : Entry) (ts : List Token) : Type 0 where
+  -- all its events, and the numbers in them
+  pub all-events : length (events false (run-entry e ts)) ≤ most-events (length ts)
+  pub distances : All-fit (most-events (length ts)) (length ts) (events false (run-entry e ts))
+  -- its pushes, and any first part l of them: so also what a run has made when it is refused
+  pub events-so-far : (l m : List Push) → pushes (run-entry e ts) ≡ l ++ m → event-count l ≤ most-events (length ts)
+  pub reports-so-far : (l m : List Push) → pushes (run-entry e ts) ≡ l ++ m → length (reports l) ≤ most-reports (length ts)
+  -- as long as there is no refusal 5 among them
+  pub pool-so-far : (l m : List Push) → pushes (run-entry e ts) ≡ l ++ m → Clear l → length (pool (reports l)) ≤ most-expectations (length ts)
+  -- the numbers of its tree rows, and the counts in them
+  pub tree-rows : length (rows (root (root-kind e) (run-entry e ts) ts)) ≤ TREE-ROW * most-rows (length ts)
+  pub counts : Counts-within (most-rows (length ts)) (root (root-kind e) (run-entry e ts) ts)
+
+-- every run
+abbrev pub Runs-bounded : Type 0
+Runs-bounded = (e : Entry) (ts : List Token) → Bounded e ts
+
+-- ---------------------------------------------------------------- within cause 2's limits
+
+-- 2^32
+abbrev pub WORD : ℕ
+WORD = 4294967296
+
+-- every number of a list is below a limit
+abbrev pub Below : ℕ → List ℕ → Type 0
+Below n [] = Unit {0}
+Below n (x ∷ l) = (x < n) × Below n l
+
+pub record Within-limits (ts : List Token) : Type 0 where
+  pub tokens : length ts ≤ 65536
+  pub input : bytes ts ≤ 1048576
+
+-- when a run has made the pushes l, without a refusal 5: how many numbers were written, and that they are words themselves
+pub record So-far (ts : List Token) (l : List Push) : Type 0 where
+  pub event-numbers : EVENT-ROW * event-count l < WORD
+  pub report-numbers : REPORT-ROW * length (reports l) < WORD
+  pub pool-numbers : length (pool (reports l)) < WORD
+  pub report-words : Below WORD (report-rows (length ts) (bytes ts) 0 (reports l))
+  pub pool-words : Below WORD (pool (reports l))
+
+-- for every entry, and any first part l of what its run pushes
+abbrev pub Words-so-far : Type 0
+Words-so-far = (e : Entry) (ts : List Token) → Within-limits ts → (l m : List Push) → pushes (run-entry e ts) ≡ l ++ m → Clear l → So-far ts l
+
+-- every number in a call's buffers
+pub record Words (b : Buffers) : Type 0 where
+  pub events : Below WORD (b .events)
+  pub trees : Below WORD (b .trees)
+  pub errors : Below WORD (b .errors)
+  pub reports : Below WORD (b .reports)
+  pub pool : Below WORD (b .pool)
+
+-- every number of a call's answer
+pub record Answer-fits (a : Answer) : Type 0 where
+  pub number : a .number < WORD
+  pub place : a .place < WORD
+  pub trees : a .trees < WORD
+  pub errors : a .errors < WORD
+  pub reports : a .reports < WORD
+  pub expectations : a .expectations < WORD
+
+pub record Fits (r : Result) : Type 0 where
+  pub answer : Answer-fits (r .answer)
+  pub buffers : Words (r .buffers)
+
+-- for any entry, input and buffers that hold words: of any length, and whatever the call answers
+abbrev pub Numbers-fit : Type 0
+Numbers-fit = (n : ℕ) (bs tk : List ℕ) (b : Buffers) → Words b → Fits (call n bs tk b)

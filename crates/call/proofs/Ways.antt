@@ -1,0 +1,91 @@
+-- The ways out of the functions here, in plain variables.
+use Prim.Native.Nat.{ℕ, _*_, _/_, _<_}
+use native.Mathlib.Omega.{arith}
+use mathlib.Core.Path.{_≡_, refl, ap, sym, _∙_, subst}
+use mathlib.Core.List.{List}
+use mathlib.Core.Bool.{true, false}
+use lib.Dec.{eqb}
+use lib.ListN.{length, take}
+use borrow.Author.Tests.{eqb-true, eqb-false}
+use Rattle.definitions.specs.Layout.{TREE-ROW, ERROR-ROW, REPORT-ROW}
+use Rattle.definitions.specs.Refusal.{Refusal, Verdict, accepted, refused, check-input}
+use Rattle.definitions.specs.Call.{Buffers, Result, refusal, checked}
+use Rattle.sink.specs.declared.Sunk.{Sunk}
+use Rattle.sink.specs.declared.Sunk.the-variants.{Written, NoRoom}
+use Rattle.sink.specs.Promise.{Promise}
+use Rattle.refinement.specs.Ends.{wiped, swept}
+use Rattle.call.specs.declared.Answer.{Answer}
+use Rattle.call.specs.Result.{answer-of, lent, result-of}
+use Rattle.call.specs.Checked.{Input}
+use Rattle.call.specs.Ended.{refused-with, accepted-with, Answered, Ended}
+
+-- ---------------------------------------------------------------- check
+
+-- causes 2 to 4
+pub refused-input : (bs tk : List ℕ) (r : Refusal) (n p : ℕ) (a : Answer) → a ≡ refused-with n p → answer-of (refused-with n p) ≡ refusal r → eqb n 0 ≡ false → refused r ≡ check-input bs tk → Input a bs tk
+unfolding checked
+refused-input bs tk r n p a h z q v =
+    record {
+      sound = λ s. absurd (eqb-false n 0 q (eqb-true n 0 (sym (ap (λ (x : Answer). eqb (x .number) 0) h) ∙ s)));
+      refused =
+          λ _ e b.
+          ap (λ (x : Answer). result-of x b) h
+          ∙ ap (λ (x : _). record { answer = x; buffers = b }) z
+          ∙ ap (λ (w : Verdict). checked w e tk b) v;
+    }
+
+pub sound-input : (bs tk : List ℕ) (a : Answer) → a ≡ accepted-with 0 0 0 0 → accepted ≡ check-input bs tk → Input a bs tk
+sound-input bs tk a h v =
+    record { sound = λ _. sym v; refused = λ s e b. absurd (eqb-false (a .number) 0 s (ap (λ (x : Answer). x .number) h)) }
+
+-- ---------------------------------------------------------------- answered
+
+module _ (number place k n r p : ℕ) (tk ev tr er tr′ er′ : List ℕ) where
+  -- causes 5 to 7
+  pub stopped : eqb number 0 ≡ false → (a : Answer) → a ≡ refused-with number place → Answered number place k n r p tk ev tr er a tr′ er′
+  stopped q a h =
+      subst (λ (y : Answer). Answered number place k n r p tk ev tr er y tr′ er′) (sym h)
+      (record {
+        stopped = λ _. refl;
+        sunk = λ s. absurd (eqb-false number 0 q (eqb-true number 0 s));
+        trees-fit = omega arith;
+        errors-fit = omega arith;
+        reports-fit = omega arith;
+      })
+
+  -- cause 8
+  pub unplaced : eqb number 0 ≡ true → (s : Sunk) → Promise k tk (take n ev) tr er s tr′ er′ → s ≡ NoRoom → (a : Answer) → a ≡ refused-with 8 0
+      → Answered number place k n r p tk ev tr er a tr′ er′
+  unplaced q s h none a e =
+      subst (λ (y : Answer). Answered number place k n r p tk ev tr er y tr′ er′) (sym e)
+      (record {
+        stopped = λ z. absurd (eqb-false number 0 z (eqb-true number 0 q));
+        sunk = λ _. record { said = NoRoom; promise = subst (λ (x : Sunk). Promise k tk (take n ev) tr er x tr′ er′) none h; answer = refl };
+        trees-fit = omega arith;
+        errors-fit = omega arith;
+        reports-fit = omega arith;
+      })
+
+  -- accepted
+  pub placed : eqb number 0 ≡ true → (s : Sunk) → Promise k tk (take n ev) tr er s tr′ er′ → (t f : ℕ) → s ≡ Written t f → t < 4294967296 → f < 4294967296 → r < 18446744073709551616
+      → (a : Answer) → a ≡ accepted-with t f (r / REPORT-ROW) p → Answered number place k n r p tk ev tr er a tr′ er′
+  placed q s h t f w ht hf hr a e =
+      let m : r / REPORT-ROW * REPORT-ROW < 18446744073709551616 = omega arith in
+      subst (λ (y : Answer). Answered number place k n r p tk ev tr er y tr′ er′) (sym e)
+      (record {
+        stopped = λ z. absurd (eqb-false number 0 z (eqb-true number 0 q));
+        sunk = λ _. record { said = Written t f; promise = subst (λ (x : Sunk). Promise k tk (take n ev) tr er x tr′ er′) w h; answer = refl };
+        trees-fit = omega arith;
+        errors-fit = omega arith;
+        reports-fit = m;
+      })
+
+-- ---------------------------------------------------------------- finish
+
+-- each buffer cleared behind what is written
+pub all-cleared : (number place k n r p : ℕ) (tk ev tr er rp pl : List ℕ) (a : Answer) (tr′ er′ : List ℕ) → length tr′ ≡ length tr → length er′ ≡ length er → Answered number place k n r p tk ev tr er a tr′ er′
+    → (ev″ tr″ er″ rp″ pl″ : List ℕ) → ev″ ≡ wiped 0 ev → tr″ ≡ wiped (a .trees * TREE-ROW) tr′ → er″ ≡ wiped (a .errors * ERROR-ROW) er′ → rp″ ≡ wiped (a .reports * REPORT-ROW) rp → pl″ ≡ wiped (a .expectations) pl
+    → Ended number place k n r p tk (lent ev tr er rp pl) (result-of a (lent ev″ tr″ er″ rp″ pl″))
+all-cleared number place k n r p tk ev tr er rp pl a tr′ er′ lt le h ev″ tr″ er″ rp″ pl″ v t e w q =
+    let z : result-of a (lent ev″ tr″ er″ rp″ pl″) ≡ swept (answer-of a) (lent ev tr′ er′ rp pl) = rw (v, t, e, w, q) in
+    record { answer = a; trees = tr′; errors = er′; trees-length = lt; errors-length = le; answered = h; once-cleared = sym z }

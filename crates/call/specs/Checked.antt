@@ -1,0 +1,17 @@
+-- What the checks of the input answer. No part of the exported promise.
+use Prim.Native.Nat.{ℕ}
+use mathlib.Core.Path.{_≡_}
+use mathlib.Core.Bool.{true, false}
+use mathlib.Core.List.{List}
+use lib.Dec.{eqb}
+use Rattle.definitions.specs.Refusal.{accepted, check-input}
+use Rattle.definitions.specs.Grammar.{Entry}
+use Rattle.definitions.specs.Call.{Buffers}
+use Rattle.definitions.specs.Call as Call
+use Rattle.call.specs.declared.Answer.{Answer}
+use Rattle.call.specs.Result.{result-of}
+
+-- number 0 of an input that passes causes 2 to 4. Else the answer is the call's, and every buffer is left as it was.
+pub record Input (a : Answer) (bs tk : List ℕ) : Type 0 where
+  pub sound : eqb (a .number) 0 ≡ true → check-input bs tk ≡ accepted
+  pub refused : eqb (a .number) 0 ≡ false → (e : Entry) (b : Buffers) → result-of a b ≡ Call.checked (check-input bs tk) e tk b

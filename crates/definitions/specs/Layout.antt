@@ -1,0 +1,102 @@
+-- The numbers of the layout, each once: how many numbers a row has, the tags of event rows, the refusals, and the limits of a call.
+use Prim.Native.Nat.{ℕ}
+
+-- ---------------------------------------------------------------- how many numbers a row has
+
+-- kind, length in bytes
+abbrev pub TOKEN-ROW : ℕ
+TOKEN-ROW = 2
+
+-- tag, and two more numbers
+abbrev pub EVENT-ROW : ℕ
+EVENT-ROW = 3
+
+-- class, kind, width, count
+abbrev pub TREE-ROW : ℕ
+TREE-ROW = 4
+
+-- number, start, end
+abbrev pub ERROR-ROW : ℕ
+ERROR-ROW = 3
+
+-- message, start, end, mark, first pool place, pool count, hint, label start, label end
+abbrev pub REPORT-ROW : ℕ
+REPORT-ROW = 9
+
+-- ---------------------------------------------------------------- the first number of a tree row
+
+-- its count is that of its children
+abbrev pub NODE : ℕ
+NODE = 0
+
+-- its count is that of its raw tokens
+abbrev pub LEAF : ℕ
+LEAF = 1
+
+-- ---------------------------------------------------------------- event.rs: the first number of an event row
+
+abbrev pub PLACEHOLDER : ℕ
+PLACEHOLDER = 0
+
+-- a kind, and the distance to the event of the marker that was made to precede it, or 0
+abbrev pub START-NODE : ℕ
+START-NODE = 1
+
+abbrev pub ADD-TOKEN : ℕ
+ADD-TOKEN = 2
+
+-- how many raw tokens
+abbrev pub ADD-COMBINED-TOKEN : ℕ
+ADD-COMBINED-TOKEN = 3
+
+abbrev pub FINISH-NODE : ℕ
+FINISH-NODE = 4
+
+abbrev pub ERROR : ℕ
+ERROR = 5
+
+-- as START-NODE, of a marker that was made by `precede`: the start that a link leads to
+abbrev pub LINKED-START-NODE : ℕ
+LINKED-START-NODE = 6
+
+-- ---------------------------------------------------------------- document 01's causes
+
+abbrev pub UNKNOWN-ENTRY : ℕ
+UNKNOWN-ENTRY = 1
+
+abbrev pub TOO-LONG : ℕ
+TOO-LONG = 2
+
+abbrev pub BAD-ROW : ℕ
+BAD-ROW = 3
+
+abbrev pub BAD-TEXT : ℕ
+BAD-TEXT = 4
+
+abbrev pub TOO-DEEP : ℕ
+TOO-DEEP = 5
+
+abbrev pub NO-EVENT-ROOM : ℕ
+NO-EVENT-ROOM = 6
+
+abbrev pub NO-REPORT-ROOM : ℕ
+NO-REPORT-ROOM = 7
+
+abbrev pub NO-TREE-ROOM : ℕ
+NO-TREE-ROOM = 8
+
+-- ---------------------------------------------------------------- the limits of a call
+
+-- cause 2: the most bytes of input, and the most token numbers
+abbrev pub MOST-BYTES : ℕ
+MOST-BYTES = 1048576
+
+abbrev pub MOST-TOKEN-NUMBERS : ℕ
+MOST-TOKEN-NUMBERS = 131072
+
+-- cause 5: the most open calls, and the most pending expectations
+abbrev pub MOST-OPEN-CALLS : ℕ
+MOST-OPEN-CALLS = 64
+
+abbrev pub MOST-PENDING : ℕ
+MOST-PENDING = 256

@@ -1,0 +1,36 @@
+-- A whole entry after the checks of its input: what is asked of tokens and skeleton is met, so the machine's end is the definitions' for
+-- every input that passes causes 2 to 4, with buffers of any lengths and contents.
+use Prim.Native.Nat.{ℕ, _≤_}
+use native.Mathlib.Omega.{arith}
+use mathlib.Core.Path.{_≡_, sym}
+use mathlib.Core.List.{List, [], _∷_, append-nil}
+use lib.ListN.{length}
+use Rattle.definitions.specs.Token.{Token, tokens-of}
+use Rattle.definitions.specs.Grammar.{Entry}
+use Rattle.definitions.specs.Report.{Room, fits, scan, pushes}
+use Rattle.definitions.specs.Call.{run-entry}
+use Rattle.laws.proofs.Input.{All-good, Checked, checked-input}
+use Rattle.laws.proofs.Scan.{fits-clear}
+use Rattle.bounds.specs.Numbers.{Bounded}
+use Rattle.bounds.proofs.Numbers.{bounded}
+use Rattle.machine.specs.Outcome.{Filled, Limits, Small, room-in, Machine-ends}
+use Rattle.machine.proofs.Whole.{machine-ends}
+
+all-filled : (ts : List Token) → All-good ts → Filled ts
+all-filled [] h = tt
+all-filled (t ∷ ts) h = (h .0 .len, all-filled ts (h .1))
+
+pub limits-hold : (bs tk : List ℕ) → Checked bs tk → Limits (tokens-of tk)
+limits-hold bs tk h = record { few = omega (arith, h .pairs, h .numbers-limit); short = omega (arith, h .covered, h .bytes-limit); filled = all-filled (tokens-of tk) (h .good) }
+
+pub entry-small : (e : Entry) (ts : List Token) (y z : Room) → length ts ≤ 65536 → scan (pushes (run-entry e ts)) y ≡ fits z → Small (run-entry e ts)
+entry-small e ts y z few h =
+    let b : Bounded e ts = bounded e ts in
+    let p = pushes (run-entry e ts) in
+    record { events-fit = omega (arith, b .all-events); pool-fits = omega (arith, b .pool-so-far p [] (sym (append-nil p)) (fits-clear p y z h)) }
+
+-- THE MACHINE'S END
+pub entry-ends : Machine-ends
+entry-ends e bs tk ev rp pl h =
+    let l : Limits (tokens-of tk) = limits-hold bs tk (checked-input bs tk h) in
+    machine-ends e (tokens-of tk) ev rp pl l (λ z q. entry-small e (tokens-of tk) (room-in ev rp pl) z (l .few) q)

@@ -1,0 +1,55 @@
+-- A buffer cleared from a number on.
+use Prim.Native.Nat.{ℕ, suc, _+_, _-_, _≤_, _<_}
+use native.Mathlib.Numerals.{add-one}
+use native.Mathlib.Omega.{arith}
+use mathlib.Core.Path.{_≡_, refl, sym, ap, _∙_}
+use mathlib.Core.List.{List, [], _∷_, _++_, append-assoc, append-nil}
+use lib.ListN.{length, take, drop, set, replicate, length-append, length-drop, length-set}
+use lib.Seq.{take-at, take-all, take-suc-set}
+use Rattle.definitions.specs.Call.{zeros, written}
+use Rattle.machine.specs.Machine.{Buffer}
+use Rattle.machine.specs.Outcome.{onto, Holds}
+use Rattle.refinement.specs.Ends.{wiped}
+
+-- from the start on: all zero
+pub wiped-whole : (b c : List ℕ) → length c ≡ length b → wiped 0 c ≡ zeros b
+unfolding wiped
+wiped-whole b c h =
+    let e : length c - 0 ≡ length b = omega arith in
+    ap (λ (n : ℕ). replicate n 0) e
+
+-- behind the numbers l that were written to its front
+pub wiped-written : (l b c : List ℕ) (n : ℕ) → c ≡ onto l b → length l ≤ length b → n ≡ length l → wiped n c ≡ written l b
+unfolding wiped
+wiped-written l b c n h room e =
+    let t : take n c ≡ l = ap (take n) h ∙ take-at l (drop (length l) b) n (sym e) in
+    let k : length c ≡ length l + length (drop (length l) b) = ap length h ∙ length-append l (drop (length l) b) in
+    let d : length c - n ≡ length b - length l = omega (arith, k, length-drop (length l) b) in
+    rw (t, d)
+
+-- numbers written to the front leave the length as it is
+pub onto-length : (l b c : List ℕ) → c ≡ onto l b → length l ≤ length b → length c ≡ length b
+onto-length l b c h room =
+    let k : length c ≡ length l + length (drop (length l) b) = ap length h ∙ length-append l (drop (length l) b) in
+    omega (arith, k, length-drop (length l) b)
+
+pub held-length : (l b : List ℕ) (x : Buffer) → Holds l b x → length (x .numbers) ≡ length b
+held-length l b x h = onto-length l b (x .numbers) (h .numbers) (h .room)
+
+-- ---------------------------------------------------------------- one number after the other
+
+-- a zero stored at the place from which on all is zero
+pub wiped-step : (l : List ℕ) (i : ℕ) → i < length l → wiped (i + 1) (set l i 0) ≡ wiped i l
+unfolding wiped
+wiped-step l i h =
+    let n : length (set l i 0) - (i + 1) ≡ length l - suc i = omega (arith, length-set l i 0) in
+    let m : length l - i ≡ suc (length l - suc i) = omega arith in
+    let t : take (i + 1) (set l i 0) ≡ take i l ++ (0 ∷ []) = ap (λ (k : ℕ). take k (set l i 0)) (add-one i) ∙ take-suc-set l i 0 h in
+    rw (n, m, t) (append-assoc (take i l) (0 ∷ []) (replicate (length l - suc i) 0))
+
+-- behind its last number
+pub wiped-past : (l : List ℕ) (i : ℕ) → length l ≤ i → wiped i l ≡ l
+unfolding wiped
+wiped-past l i h =
+    let n : length l - i ≡ 0 = omega arith in
+    rw (n, take-all i l h) (append-nil l)

@@ -1,2 +1,0 @@
--- What the proofs of the functions share; the parser's proofs cite it too.
-pub mod Kit

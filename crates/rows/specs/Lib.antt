@@ -1,2 +1,0 @@
--- What the contracts over token rows cite.
-pub mod Tokens

@@ -1,0 +1,87 @@
+// Tree rows. This file alone knows how many numbers a row has and in which order they stand.
+// A finished row: class, kind, width, count. The row of an open node holds what its end needs: its parent's row, its kind, its
+// first byte, and how many children its parent had before it.
+use crate::event;
+use crate::num;
+ghost use mathlib.Core.Path.{_≡_};
+ghost use mathlib.Core.List.{[]};
+ghost use Prim.Native.Nat.{ℕ, _+_, _*_, _<_};
+ghost use lib.Dec.{leb};
+ghost use lib.ListN.{length};
+ghost use Rattle.definitions.specs.Layout.{TREE-ROW};
+ghost use Rattle.definitions.specs.Place.{tree-row};
+ghost use Rattle.sink_rows.specs.Rows.{put, number as numberOf, open-rows};
+
+pub const TREE_ROW: usize = 4;
+
+// The two classes.
+pub const NODE: u32 = 0;
+
+pub const LEAF: u32 = 1;
+
+// The numbers of an open row.
+pub const PARENT: usize = 0;
+
+pub const KIND: usize = 1;
+
+pub const FIRST_BYTE: usize = 2;
+
+pub const CHILDREN_BEFORE: usize = 3;
+
+// Whether so many rows fit.
+pub fn rows_fit(len: usize, rows: u32) -> bool
+    ensures { λ r. ⌜ r ≡ leb (rows * TREE-ROW) len ⌝ }
+{
+    num::wide(rows) * TREE_ROW <= len
+}
+
+// Nothing is written where the row does not fit.
+pub fn write_row(trees: &mut [u32], row: u32, class: u32, kind: u32, width: u32, count: u32)
+    ensures { λ _. ⌜ now (trees .exit) ≡ put row (tree-row class kind width count []) (now (trees .entry)) ⌝ }
+{
+    let at = num::wide(row) * TREE_ROW;
+    let room = at + TREE_ROW <= trees.len();
+    if room {
+        trees[at] = class;
+        trees[at + 1] = kind;
+        trees[at + 2] = width;
+        trees[at + 3] = count;
+    }
+}
+
+// A number of a row; 0 where the row does not fit. Of a row that fits in part nothing was written, so nothing is read.
+pub fn number(trees: &[u32], row: u32, field: usize) -> u32
+    requires { ⌜ field < TREE-ROW ⌝ }
+    ensures { λ r. ⌜ r ≡ numberOf row field (now (trees .entry)) ⌝ }
+{
+    let at = num::wide(row) * TREE_ROW;
+    let room = at + TREE_ROW <= trees.len();
+    if room { trees[at + field] } else { 0 }
+}
+
+// The open rows of a chain of n links whose innermost start is event i. The outermost node's is `first`.
+pub fn open_rows(
+    trees: &mut [u32],
+    events: &[u32],
+    i: usize,
+    n: u32,
+    first: u32,
+    byte: u32,
+    parent: u32,
+    children: u32,
+)
+    ensures { λ _. ⌜ now (trees .exit) ≡ open-rows n (now (events .entry)) i first byte parent children (now (trees .entry)) ⌝ }
+{
+    let mut left = n;
+    let mut j = i;
+    while 0 < left {
+        left -= 1;
+        let up = num::add(first, left);
+        let inner = num::add(up, 1);
+        let kind = event::field(events, j, event::ARGUMENT);
+        write_row(trees, inner, up, kind, byte, 0);
+        j += event::link(events, j);
+    }
+    let kind = event::field(events, j, event::ARGUMENT);
+    write_row(trees, first, parent, kind, byte, children);
+}
