@@ -1,13 +1,13 @@
 // The binding powers of the operators, by kind: a table for the infix operators, and what the table says of a kind.
-use lexer::kind;
+use layout::token_kind;
 ghost use mathlib.Core.Path.{_≡_};
 ghost use Rattle.binding_power.specs.Power.{levels, left-power, right-power, is-binary};
 
 // `InfixOp::binding_power`: left and right, by the operator's kind, from FIRST_OPERATOR to LAST_OPERATOR; 0 where the
 // kind is no infix operator.
-pub const FIRST_OPERATOR: u8 = kind::AMPERSAND;
+pub const FIRST_OPERATOR: u8 = token_kind::AMPERSAND;
 
-pub const LAST_OPERATOR: u8 = kind::QUESTION_MARK;
+pub const LAST_OPERATOR: u8 = token_kind::QUESTION_MARK;
 
 pub const LEFT_POWERS: [u8; 31] = [
     11, // Ampersand

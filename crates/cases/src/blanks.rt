@@ -1,10 +1,10 @@
 // Blanks of one byte each, one more than a call takes, their token rows, and room for the tree of as many as it takes.
 use crate::lend::LENT;
 use crate::show;
-use lexer::kind::WHITESPACE;
-use lexer::rows::MAX_TOKEN_NUMBERS;
+use layout::token_kind::WHITESPACE;
+use layout::limit::MOST_TOKEN_NUMBERS;
 
-const NUMBERS: usize = MAX_TOKEN_NUMBERS + 2;
+const NUMBERS: usize = MOST_TOKEN_NUMBERS + 2;
 
 const BLANKS: usize = NUMBERS / 2;
 

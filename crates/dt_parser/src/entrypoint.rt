@@ -1,6 +1,6 @@
 // The entries by document 01's numbers.
 use grammar::entry::Entrypoint;
-use parser::node;
+use layout::node_kind;
 ghost use mathlib.Core.Path.{_≡_};
 ghost use Rattle.definitions.specs.Grammar as Grammar;
 ghost use Rattle.definitions.specs.Call as Call;
@@ -29,9 +29,9 @@ pub fn root_kind(e: Entrypoint) -> u32
     ensures { λ r. ⌜ r ≡ Grammar.root-kind (entry-for e) ⌝ }
 {
     match e {
-        Entrypoint::SourceFile => node::SOURCE_FILE,
-        Entrypoint::ReferenceNoamp => node::DT_PHANDLE,
-        Entrypoint::PropValues => node::ENTRY_PROP_VALUES,
-        Entrypoint::Cells => node::ENTRY_CELLS,
+        Entrypoint::SourceFile => node_kind::SOURCE_FILE,
+        Entrypoint::ReferenceNoamp => node_kind::DT_PHANDLE,
+        Entrypoint::PropValues => node_kind::ENTRY_PROP_VALUES,
+        Entrypoint::Cells => node_kind::ENTRY_CELLS,
     }
 }

@@ -1,14 +1,14 @@
 // grammar/expr.rs: expressions by binding power; and `dt_expr` of grammar.rs.
-use lexer::kind;
+use layout::token_kind;
 use names::macro_invocation;
 use parser::Parser;
 use parser::Tested;
 use parser::errors;
 use parser::errors::Bump;
-use parser::expected;
+use layout::expected;
 use parser::marker::Marker;
 use parser::matcher::Matcher;
-use parser::node;
+use layout::node_kind;
 use binding_power::PREFIX_POWER;
 use binding_power::binding_power;
 use token_rows::token::kind_at;
@@ -30,38 +30,38 @@ ghost use Rattle.binding_power.specs.Power.{levels, left-power, right-power, is
 ghost use Rattle.expr.specs.Parts.{at-prefix-op, prefix-expr, paren-expr, literal-expr, missing-lhs, no-lhs, ternary-rhs, step-as, links-from};
 
 pub const PREFIX_OPERATORS_SET: [u8; 4] = [
-    kind::PLUS,
-    kind::MINUS,
-    kind::BITWISE_NOT,
-    kind::LOGICAL_NOT,
+    token_kind::PLUS,
+    token_kind::MINUS,
+    token_kind::BITWISE_NOT,
+    token_kind::LOGICAL_NOT,
 ];
 
 // The infix operators, the prefix operators and the colon.
 pub const OPERATORS_SET: [u8; 24] = [
-    kind::PLUS,
-    kind::MINUS,
-    kind::ASTERISK,
-    kind::SLASH,
-    kind::MODULO,
-    kind::AMPERSAND,
-    kind::BITWISE_OR,
-    kind::BITWISE_XOR,
-    kind::BITWISE_SHL,
-    kind::BITWISE_SHR,
-    kind::LOGICAL_AND,
-    kind::LOGICAL_OR,
-    kind::LANGLE,
-    kind::RANGLE,
-    kind::RELATIONAL_LT_EQ,
-    kind::RELATIONAL_GT_EQ,
-    kind::RELATIONAL_EQ,
-    kind::RELATIONAL_NEQ,
-    kind::QUESTION_MARK,
-    kind::PLUS,
-    kind::MINUS,
-    kind::BITWISE_NOT,
-    kind::LOGICAL_NOT,
-    kind::COLON,
+    token_kind::PLUS,
+    token_kind::MINUS,
+    token_kind::ASTERISK,
+    token_kind::SLASH,
+    token_kind::MODULO,
+    token_kind::AMPERSAND,
+    token_kind::BITWISE_OR,
+    token_kind::BITWISE_XOR,
+    token_kind::BITWISE_SHL,
+    token_kind::BITWISE_SHR,
+    token_kind::LOGICAL_AND,
+    token_kind::LOGICAL_OR,
+    token_kind::LANGLE,
+    token_kind::RANGLE,
+    token_kind::RELATIONAL_LT_EQ,
+    token_kind::RELATIONAL_GT_EQ,
+    token_kind::RELATIONAL_EQ,
+    token_kind::RELATIONAL_NEQ,
+    token_kind::QUESTION_MARK,
+    token_kind::PLUS,
+    token_kind::MINUS,
+    token_kind::BITWISE_NOT,
+    token_kind::LOGICAL_NOT,
+    token_kind::COLON,
 ];
 
 // The operator at the cursor, if its left power is not 0.
@@ -143,8 +143,8 @@ pub fn dt_expr(
     let inner = expr(opened, t, ev, rep, pool, room);
     let end = inner
         .p
-        .expect(t, ev, rep, pool, Matcher::Kind(kind::RPAREN));
-    end.p.complete(ev, m, node::DT_EXPR)
+        .expect(t, ev, rep, pool, Matcher::Kind(token_kind::RPAREN));
+    end.p.complete(ev, m, node_kind::DT_EXPR)
 }
 
 pub fn expr_binding_power(
@@ -195,7 +195,7 @@ fn infix_chain(
     loop {
         let step = infix_step(q, t, ev, rep, pool, room, min_bp);
         if step.operator {
-            let done = step.p.complete(ev, m, node::INFIX_EXPR);
+            let done = step.p.complete(ev, m, node_kind::INFIX_EXPR);
             let next = Marker::linked(done.s);
             let linked = done.precede(ev, m);
             if step.again {
@@ -290,7 +290,7 @@ fn ternary_rhs(
     if middle.yes {
         let colon = middle
             .p
-            .expect(t, ev, rep, pool, Matcher::Kind(kind::COLON));
+            .expect(t, ev, rep, pool, Matcher::Kind(token_kind::COLON));
         if colon.yes {
             rhs(colon.p, t, ev, rep, pool, room, 1)
         } else {
@@ -327,16 +327,16 @@ fn lhs(
     if op.yes {
         return prefix_expr(op.p, t, ev, rep, pool, room);
     }
-    let paren = op.p.at(t, Matcher::Kind(kind::LPAREN));
+    let paren = op.p.at(t, Matcher::Kind(token_kind::LPAREN));
     if paren.yes {
         return paren_expr(paren.p, t, ev, rep, pool, room);
     }
-    let ident = paren.p.at(t, Matcher::Kind(kind::IDENT));
+    let ident = paren.p.at(t, Matcher::Kind(token_kind::IDENT));
     if ident.yes {
         let q = macro_invocation(ident.p, t, ev, rep, pool);
         return Tested { p: q, yes: true };
     }
-    let literal = ident.p.at(t, Matcher::Either(kind::NUMBER, kind::CHAR));
+    let literal = ident.p.at(t, Matcher::Either(token_kind::NUMBER, token_kind::CHAR));
     if literal.yes {
         let q = literal_expr(literal.p, t, ev);
         return Tested { p: q, yes: true };
@@ -360,7 +360,7 @@ fn prefix_expr(
     let started = p.start(ev);
     let op = started.bump(t, ev);
     let right = expr_binding_power(op, t, ev, rep, pool, room, PREFIX_POWER);
-    let q = right.p.complete(ev, m, node::PREFIX_EXPR);
+    let q = right.p.complete(ev, m, node_kind::PREFIX_EXPR);
     Tested {
         p: q,
         yes: right.yes,
@@ -384,8 +384,8 @@ fn paren_expr(
     let inner = expr_binding_power(opened, t, ev, rep, pool, room, 0);
     let end = inner
         .p
-        .expect(t, ev, rep, pool, Matcher::Kind(kind::RPAREN));
-    let q = end.p.complete(ev, m, node::PAREN_EXPR);
+        .expect(t, ev, rep, pool, Matcher::Kind(token_kind::RPAREN));
+    let q = end.p.complete(ev, m, node_kind::PAREN_EXPR);
     Tested {
         p: q,
         yes: inner.yes,
@@ -399,7 +399,7 @@ fn literal_expr(p: Parser, t: &[u32], ev: &mut [u32]) -> Parser
     let m = Marker::new(p.s);
     let started = p.start(ev);
     let taken = started.bump(t, ev);
-    taken.complete(ev, m, node::LITERAL_EXPR)
+    taken.complete(ev, m, node_kind::LITERAL_EXPR)
 }
 
 // Nothing that an expression starts with.
@@ -418,7 +418,7 @@ fn no_lhs(
     if op.binary {
         return missing_lhs(op.p, t, ev, rep, pool, room);
     }
-    let end = op.p.silent_at(t, kind::RPAREN);
+    let end = op.p.silent_at(t, token_kind::RPAREN);
     if end.yes {
         return end.p.error(
             t,
@@ -466,5 +466,5 @@ fn missing_lhs(
     let started = reported.start(ev);
     let op = started.bump(t, ev);
     let right = expr_binding_power(op, t, ev, rep, pool, room, 0);
-    right.p.complete(ev, m, node::PARSE_ERROR)
+    right.p.complete(ev, m, node_kind::PARSE_ERROR)
 }

@@ -4,11 +4,11 @@ use crate::item;
 use crate::preprocessor_directive::Inside;
 use crate::preprocessor_directive::catch_unmatched_pp_directive;
 use crate::propvalues;
-use lexer::kind;
+use layout::token_kind;
 use names::reference_noamp;
 use outside::left_over;
 use outside::unmatched_rcurly;
-use parser::MAX_OPEN_CALLS;
+use layout::limit::MOST_OPEN_CALLS;
 use parser::Parser;
 ghost use mathlib.Core.Path.{_≡_};
 ghost use mathlib.Core.Bool.{true, false};
@@ -39,7 +39,7 @@ fn sourcefile_part(
     ensures { λ r. ⌜ view-of r (now (ev .exit)) (now (rep .exit)) (now (pool .exit)) ≡ walk-prog 64 (tokens-of (now (t .entry))) unlabelled sourcefile-part (view-of p (now (ev .entry)) (now (rep .entry)) (now (pool .entry))) .on ⌝ }
     ensures { λ r. ⌜ left (now (t .entry)) (r .s) ≤ left (now (t .entry)) (p .s) - 1 ⌝ }
 {
-    let rcurly = p.silent_at(t, kind::RCURLY);
+    let rcurly = p.silent_at(t, token_kind::RCURLY);
     if rcurly.yes {
         return unmatched_rcurly(rcurly.p, t, ev, rep, pool);
     }
@@ -49,13 +49,13 @@ fn sourcefile_part(
         ev,
         rep,
         pool,
-        MAX_OPEN_CALLS,
+        MOST_OPEN_CALLS,
         Inside::Item,
     );
     if caught.yes {
         return caught.p;
     }
-    item(caught.p, t, ev, rep, pool, MAX_OPEN_CALLS)
+    item(caught.p, t, ev, rep, pool, MOST_OPEN_CALLS)
 }
 
 fn entry_sourcefile(
@@ -93,11 +93,11 @@ fn enter(
         Entrypoint::SourceFile => entry_sourcefile(p, t, ev, rep, pool),
         Entrypoint::ReferenceNoamp => reference_noamp(p, t, ev, rep, pool),
         Entrypoint::PropValues => {
-            let values = propvalues(p, t, ev, rep, pool, MAX_OPEN_CALLS, false);
+            let values = propvalues(p, t, ev, rep, pool, MOST_OPEN_CALLS, false);
             values.p
         }
         Entrypoint::Cells => {
-            let inner = cells(p, t, ev, rep, pool, MAX_OPEN_CALLS, true);
+            let inner = cells(p, t, ev, rep, pool, MOST_OPEN_CALLS, true);
             inner.p
         }
     }

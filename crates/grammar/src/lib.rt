@@ -13,7 +13,7 @@ use crate::preprocessor_directive::Inside;
 use crate::preprocessor_directive::PREPROCESSOR_DIRECTIVES;
 use expr::OPERATORS_SET;
 use expr::dt_expr;
-use lexer::kind;
+use layout::token_kind;
 use names::CONTINUE_COND_SET;
 use names::ITEM_RECOVERY_SET;
 use names::macro_invocation;
@@ -26,18 +26,18 @@ use parser::Parser;
 use parser::Tested;
 use parser::Told;
 use parser::errors::Bump;
-use parser::errors::EXPECTED;
-use parser::errors::IN_CELLS;
-use parser::errors::MISSING_PARENTHESES;
-use parser::errors::NO_HINT;
-use parser::errors::PROPERTY_NOT_ALLOWED;
-use parser::errors::UNMATCHED_SEMICOLON;
-use parser::errors::UNNAMED_NODE;
-use parser::errors::UNNAMED_PROPERTY;
-use parser::expected;
+use layout::message::EXPECTED;
+use layout::hint::IN_CELLS;
+use layout::hint::MISSING_PARENTHESES;
+use layout::hint::NO_HINT;
+use layout::hint::PROPERTY_NOT_ALLOWED;
+use layout::message::UNMATCHED_SEMICOLON;
+use layout::hint::UNNAMED_NODE;
+use layout::hint::UNNAMED_PROPERTY;
+use layout::expected;
 use parser::marker::Marker;
 use parser::matcher::Matcher;
-use parser::node;
+use layout::node_kind;
 use parts::after_propvalue;
 use parts::at_cells_end;
 use parts::at_cells_recovery;
@@ -115,7 +115,7 @@ fn eat_cell(
     if plain.yes {
         return plain;
     }
-    let paren = plain.p.silent_at(t, kind::LPAREN);
+    let paren = plain.p.silent_at(t, token_kind::LPAREN);
     if paren.yes {
         let q = dt_expr(paren.p, t, ev, rep, pool, room - 1);
         return Tested { p: q, yes: true };
@@ -155,7 +155,7 @@ fn cell2(
     }
     let operator = directive.p.silent_at_set(t, &OPERATORS_SET);
     if operator.yes {
-        let end = operator.p.at(t, Matcher::Kind(kind::RANGLE));
+        let end = operator.p.at(t, Matcher::Kind(token_kind::RANGLE));
         if end.yes {
             let q = end.p;
             return Tested { p: q, yes: false };
@@ -192,11 +192,11 @@ fn dt_cell_list(
     if inner.yes {
         let end = inner
             .p
-            .expect(t, ev, rep, pool, Matcher::Kind(kind::RANGLE));
-        let q = end.p.complete(ev, m, node::DT_CELL_LIST);
+            .expect(t, ev, rep, pool, Matcher::Kind(token_kind::RANGLE));
+        let q = end.p.complete(ev, m, node_kind::DT_CELL_LIST);
         Tested { p: q, yes: true }
     } else {
-        let q = inner.p.complete(ev, m, node::PARSE_ERROR);
+        let q = inner.p.complete(ev, m, node_kind::PARSE_ERROR);
         Tested { p: q, yes: false }
     }
 }
@@ -273,16 +273,16 @@ fn value(
     ensures { λ r. ⌜ left (now (t .entry)) (r .p .s) ≤ left (now (t .entry)) (p .s) - 1 ⌝ }
 {
     let pushed = p.add_expected(expected::VALUE);
-    let directive = pushed.silent_at(t, kind::BITS_DIRECTIVE);
+    let directive = pushed.silent_at(t, token_kind::BITS_DIRECTIVE);
     if directive.yes {
         let list = bits(directive.p, t, ev, rep, pool, room);
         return told(list);
     }
-    let string = directive.p.silent_eat(t, ev, Matcher::Kind(kind::STRING));
+    let string = directive.p.silent_eat(t, ev, Matcher::Kind(token_kind::STRING));
     if string.yes {
         return told(string);
     }
-    let angle = string.p.silent_at(t, kind::LANGLE);
+    let angle = string.p.silent_at(t, token_kind::LANGLE);
     if angle.yes {
         let m = Marker::new(angle.p.s);
         let started = angle.p.start(ev);
@@ -309,16 +309,16 @@ fn bits(
     let m = Marker::new(listed.s);
     let started = listed.start(ev);
     let taken = started.bump(t, ev);
-    let number = taken.expect(t, ev, rep, pool, Matcher::Kind(kind::NUMBER));
-    let directive = number.p.complete(ev, m, node::DTS_DIRECTIVE);
-    let angle = directive.at(t, Matcher::Kind(kind::LANGLE));
+    let number = taken.expect(t, ev, rep, pool, Matcher::Kind(token_kind::NUMBER));
+    let directive = number.p.complete(ev, m, node_kind::DTS_DIRECTIVE);
+    let angle = directive.at(t, Matcher::Kind(token_kind::LANGLE));
     if angle.yes {
         dt_cell_list(angle.p, t, ev, rep, pool, room, m_cell_list)
     } else {
         let reported = angle
             .p
             .error(t, ev, rep, pool, EXPECTED, NO_HINT, Bump::Yes);
-        let q = reported.complete(ev, m_cell_list, node::PARSE_ERROR);
+        let q = reported.complete(ev, m_cell_list, node_kind::PARSE_ERROR);
         Tested { p: q, yes: true }
     }
 }
@@ -340,7 +340,7 @@ fn value2(
     if reference.yes {
         return told(reference);
     }
-    let ident = reference.p.silent_at(t, kind::IDENT);
+    let ident = reference.p.silent_at(t, token_kind::IDENT);
     if ident.yes {
         let q = macro_invocation(ident.p, t, ev, rep, pool);
         return Told {
@@ -350,7 +350,7 @@ fn value2(
     }
     let bytes = ident
         .p
-        .silent_eat(t, ev, Matcher::Kind(kind::DT_BYTESTRING));
+        .silent_eat(t, ev, Matcher::Kind(token_kind::DT_BYTESTRING));
     if bytes.yes {
         return told(bytes);
     }
@@ -394,21 +394,21 @@ fn dt_property(
     ensures { λ r. ⌜ said yes (view-of r (now (ev .exit)) (now (rep .exit)) (now (pool .exit))) ≡ closed (marker-of m) (walk-prog room (tokens-of (now (t .entry))) unlabelled dt-property (view-of p (now (ev .entry)) (now (rep .entry)) (now (pool .entry)))) ⌝ }
     ensures { λ r. ⌜ left (now (t .entry)) (r .s) ≤ left (now (t .entry)) (p .s) - 1 ⌝ }
 {
-    let empty = p.eat(t, ev, Matcher::Kind(kind::SEMICOLON));
+    let empty = p.eat(t, ev, Matcher::Kind(token_kind::SEMICOLON));
     if empty.yes {
-        return empty.p.complete(ev, m, node::DT_PROPERTY);
+        return empty.p.complete(ev, m, node_kind::DT_PROPERTY);
     }
     let equals = empty.p.bump(t, ev);
     let list_m = Marker::new(equals.s);
     let started = equals.start(ev);
     let values = propvalues(started, t, ev, rep, pool, room, true);
-    let list = values.p.complete(ev, list_m, node::PROP_VALUE_LIST);
+    let list = values.p.complete(ev, list_m, node_kind::PROP_VALUE_LIST);
     if values.yes {
-        let semicolon = Matcher::Kind(kind::SEMICOLON);
+        let semicolon = Matcher::Kind(token_kind::SEMICOLON);
         let end = list.expect_recoverable(t, ev, rep, pool, semicolon, &ITEM_RECOVERY_SET);
-        end.p.complete(ev, m, node::DT_PROPERTY)
+        end.p.complete(ev, m, node_kind::DT_PROPERTY)
     } else {
-        list.complete(ev, m, node::PARSE_ERROR)
+        list.complete(ev, m, node_kind::PARSE_ERROR)
     }
 }
 
@@ -458,7 +458,7 @@ fn item(
     if named.yes {
         return named.p;
     }
-    let equals = named.p.silent_at(t, kind::EQUALS);
+    let equals = named.p.silent_at(t, token_kind::EQUALS);
     if equals.yes {
         let m = Marker::new(equals.p.s);
         let started = equals.p.start(ev);
@@ -466,9 +466,9 @@ fn item(
         let m_prop = Marker::new(reported.s);
         let inner = reported.start(ev);
         let property = dt_property(inner, t, ev, rep, pool, room - 1, m_prop);
-        return property.complete(ev, m, node::PARSE_ERROR);
+        return property.complete(ev, m, node_kind::PARSE_ERROR);
     }
-    let lcurly = equals.p.silent_at(t, kind::LCURLY);
+    let lcurly = equals.p.silent_at(t, token_kind::LCURLY);
     if lcurly.yes {
         let m = Marker::new(lcurly.p.s);
         let started = lcurly.p.start(ev);
@@ -476,7 +476,7 @@ fn item(
         let m_node = Marker::new(reported.s);
         let inner = reported.start(ev);
         let body = dt_node_body(inner, t, ev, rep, pool, room - 1, m_node);
-        return body.complete(ev, m, node::PARSE_ERROR);
+        return body.complete(ev, m, node_kind::PARSE_ERROR);
     }
     item2(lcurly.p, t, ev, rep, pool, room - 1)
 }
@@ -493,7 +493,7 @@ fn item2(
     ensures { λ r. ⌜ said yes (view-of r (now (ev .exit)) (now (rep .exit)) (now (pool .exit))) ≡ walk-prog room (tokens-of (now (t .entry))) unlabelled item-rest (view-of p (now (ev .entry)) (now (rep .entry)) (now (pool .entry))) ⌝ }
     ensures { λ r. ⌜ left (now (t .entry)) (r .s) ≤ left (now (t .entry)) (p .s) - 1 ⌝ }
 {
-    let semicolon = p.silent_at(t, kind::SEMICOLON);
+    let semicolon = p.silent_at(t, token_kind::SEMICOLON);
     if semicolon.yes {
         return semicolon.p.error(
             t,
@@ -542,7 +542,7 @@ fn eat_node_or_prop(
         Answer::Also => {
             let property = prefix
                 .p
-                .at(t, Matcher::Either(kind::EQUALS, kind::SEMICOLON));
+                .at(t, Matcher::Either(token_kind::EQUALS, token_kind::SEMICOLON));
             if property.yes {
                 let q = dt_property(property.p, t, ev, rep, pool, room, m);
                 return Tested { p: q, yes: true };
@@ -571,16 +571,16 @@ fn rest(
     ensures { λ r. ⌜ said yes (view-of r (now (ev .exit)) (now (rep .exit)) (now (pool .exit))) ≡ closed (marker-of m) (walk-prog room (tokens-of (now (t .entry))) unlabelled (no-property «allow_prop») (view-of p (now (ev .entry)) (now (rep .entry)) (now (pool .entry)))) ⌝ }
     ensures { λ r. ⌜ left (now (t .entry)) (r .s) ≤ left (now (t .entry)) (p .s) ⌝ }
 {
-    let lcurly = p.at(t, Matcher::Kind(kind::LCURLY));
+    let lcurly = p.at(t, Matcher::Kind(token_kind::LCURLY));
     if lcurly.yes {
         return dt_node_body(lcurly.p, t, ev, rep, pool, room, m);
     }
-    let rcurly = lcurly.p.silent_at(t, kind::RCURLY);
+    let rcurly = lcurly.p.silent_at(t, token_kind::RCURLY);
     if rcurly.yes {
         let q = rcurly
             .p
             .error(t, ev, rep, pool, EXPECTED, NO_HINT, Bump::Yes);
-        return q.complete(ev, m, node::PARSE_ERROR);
+        return q.complete(ev, m, node_kind::PARSE_ERROR);
     }
     let forbidden = forbidden_property(rcurly.p, t, allow_prop);
     if forbidden.yes {
@@ -590,7 +590,7 @@ fn rest(
         let m_prop = Marker::new(reported.s);
         let inner = reported.start(ev);
         let property = dt_property(inner, t, ev, rep, pool, room, m_prop);
-        return property.complete(ev, m, node::PARSE_ERROR);
+        return property.complete(ev, m, node_kind::PARSE_ERROR);
     }
     unfinished(forbidden.p, t, ev, rep, pool, m)
 }
@@ -642,26 +642,26 @@ fn arm(
     let m_branch = Marker::new(p.s);
     let mut q = p.start(ev);
     loop {
-        let endif = q.at(t, Matcher::Kind(kind::ENDIF_DIRECTIVE));
+        let endif = q.at(t, Matcher::Kind(token_kind::ENDIF_DIRECTIVE));
         if endif.yes {
-            let r = endif.p.complete(ev, m_branch, node::PREPROCESSOR_BRANCH);
+            let r = endif.p.complete(ev, m_branch, node_kind::PREPROCESSOR_BRANCH);
             return Tested { p: r, yes: false };
         }
         let end = endif.p.at_end(t);
         if end.yes {
-            let r = end.p.complete(ev, m_branch, node::PREPROCESSOR_BRANCH);
+            let r = end.p.complete(ev, m_branch, node_kind::PREPROCESSOR_BRANCH);
             return Tested { p: r, yes: false };
         }
         let next = end.p.silent_at_set(t, &CONTINUE_COND_SET);
         if next.yes {
-            let r = next.p.complete(ev, m_branch, node::PREPROCESSOR_BRANCH);
+            let r = next.p.complete(ev, m_branch, node_kind::PREPROCESSOR_BRANCH);
             return Tested { p: r, yes: true };
         }
         let more = eat_inside(next.p, t, ev, rep, pool, room, inside);
         if more.yes {
             q = more.p;
         } else {
-            let r = more.p.complete(ev, m_branch, node::PREPROCESSOR_BRANCH);
+            let r = more.p.complete(ev, m_branch, node_kind::PREPROCESSOR_BRANCH);
             return Tested { p: r, yes: false };
         }
     }
@@ -686,7 +686,7 @@ fn cond_branches_and_end(
             q = more.p.bump(t, ev);
         } else {
             let end = more.p
-                .expect(t, ev, rep, pool, Matcher::Kind(kind::ENDIF_DIRECTIVE));
+                .expect(t, ev, rep, pool, Matcher::Kind(token_kind::ENDIF_DIRECTIVE));
             return end.p;
         }
     }
@@ -714,7 +714,7 @@ fn eat_preprocessor_directive(
             let started = begin.p.start(ev);
             let first = started.bump(t, ev);
             let branches = cond_branches_and_end(first, t, ev, rep, pool, room, inside);
-            let q = branches.complete(ev, m_cond, node::PREPROCESSOR_CONDITIONAL);
+            let q = branches.complete(ev, m_cond, node_kind::PREPROCESSOR_CONDITIONAL);
             return Tested { p: q, yes: true };
         }
         let q = begin.p.bump(t, ev);

@@ -1,15 +1,15 @@
 // grammar/preprocessor_directive.rs: its sets, and what is not in the cycle of calls. The rest of it stands in lib.rt.
 use crate::cond_branches_and_end;
-use lexer::kind;
+use layout::token_kind;
 use names::CONTINUE_COND_SET;
 use parser::Parser;
 use parser::Tested;
 use parser::errors::Bump;
-use parser::errors::NO_HINT;
-use parser::errors::STRAY_CONTINUATION;
-use parser::errors::UNMATCHED_ENDIF;
+use layout::hint::NO_HINT;
+use layout::message::STRAY_CONTINUATION;
+use layout::message::UNMATCHED_ENDIF;
 use parser::marker::Marker;
-use parser::node;
+use layout::node_kind;
 ghost use mathlib.Core.Path.{_≡_};
 ghost use mathlib.Core.Bool.{true, false};
 ghost use mathlib.Core.List.{List};
@@ -30,26 +30,26 @@ pub enum Inside {
 }
 
 pub const BEGIN_COND_SET: [u8; 3] = [
-    kind::IFNDEF_DIRECTIVE,
-    kind::IFDEF_DIRECTIVE,
-    kind::IF_DIRECTIVE,
+    token_kind::IFNDEF_DIRECTIVE,
+    token_kind::IFDEF_DIRECTIVE,
+    token_kind::IF_DIRECTIVE,
 ];
 
 // `TokenKind::is_preprocessor_directive`
 pub const PREPROCESSOR_DIRECTIVES: [u8; 13] = [
-    kind::IF_DIRECTIVE,
-    kind::IFDEF_DIRECTIVE,
-    kind::IFNDEF_DIRECTIVE,
-    kind::ELIF_DIRECTIVE,
-    kind::ELIFDEF_DIRECTIVE,
-    kind::ELIFNDEF_DIRECTIVE,
-    kind::ELSE_DIRECTIVE,
-    kind::ENDIF_DIRECTIVE,
-    kind::PRAGMA_DIRECTIVE,
-    kind::DEFINE_DIRECTIVE,
-    kind::UNDEF_DIRECTIVE,
-    kind::INCLUDE_DIRECTIVE,
-    kind::ERROR_DIRECTIVE,
+    token_kind::IF_DIRECTIVE,
+    token_kind::IFDEF_DIRECTIVE,
+    token_kind::IFNDEF_DIRECTIVE,
+    token_kind::ELIF_DIRECTIVE,
+    token_kind::ELIFDEF_DIRECTIVE,
+    token_kind::ELIFNDEF_DIRECTIVE,
+    token_kind::ELSE_DIRECTIVE,
+    token_kind::ENDIF_DIRECTIVE,
+    token_kind::PRAGMA_DIRECTIVE,
+    token_kind::DEFINE_DIRECTIVE,
+    token_kind::UNDEF_DIRECTIVE,
+    token_kind::INCLUDE_DIRECTIVE,
+    token_kind::ERROR_DIRECTIVE,
 ];
 
 pub fn catch_unmatched_pp_directive(
@@ -65,7 +65,7 @@ pub fn catch_unmatched_pp_directive(
     ensures { λ r. ⌜ left (now (t .entry)) (r .p .s) ≤ left (now (t .entry)) (p .s) ⌝ }
     ensures { λ r. ⌜ (r .yes ≡ true → left (now (t .entry)) (r .p .s) ≤ left (now (t .entry)) (p .s) - 1) ⌝ }
 {
-    let endif = p.silent_at(t, kind::ENDIF_DIRECTIVE);
+    let endif = p.silent_at(t, token_kind::ENDIF_DIRECTIVE);
     if endif.yes {
         let q = endif.p.error(t, ev, rep, pool, UNMATCHED_ENDIF, NO_HINT, Bump::YesWrapErr);
         return Tested { p: q, yes: true };
@@ -78,7 +78,7 @@ pub fn catch_unmatched_pp_directive(
         let started = reported.start(ev);
         let first = started.bump(t, ev);
         let branches = cond_branches_and_end(first, t, ev, rep, pool, room, inside);
-        let q = branches.complete(ev, m_err, node::PARSE_ERROR);
+        let q = branches.complete(ev, m_err, node_kind::PARSE_ERROR);
         return Tested { p: q, yes: true };
     }
     next

@@ -6,7 +6,7 @@ pub mod macros;
 pub mod reference;
 pub mod unit_address;
 
-use lexer::kind;
+use layout::token_kind;
 use parser::Parser;
 use parser::Tested;
 ghost use mathlib.Core.Path.{_≡_};
@@ -23,38 +23,38 @@ ghost use Rattle.parser.specs.View.{view-of, tested-as, left};
 
 // preprocessor_directive.rs: what continues a conditional. A path ends there too.
 pub const CONTINUE_COND_SET: [u8; 4] = [
-    kind::ELIFNDEF_DIRECTIVE,
-    kind::ELIFDEF_DIRECTIVE,
-    kind::ELIF_DIRECTIVE,
-    kind::ELSE_DIRECTIVE,
+    token_kind::ELIFNDEF_DIRECTIVE,
+    token_kind::ELIFDEF_DIRECTIVE,
+    token_kind::ELIF_DIRECTIVE,
+    token_kind::ELSE_DIRECTIVE,
 ];
 
 // Kinds that are left where they stand after a report in an item.
 pub const ITEM_RECOVERY_SET: [u8; 24] = [
-    kind::SLASH,
-    kind::IDENT,
-    kind::NUMBER,
-    kind::COMMA,
-    kind::MINUS,
-    kind::AMPERSAND,
-    kind::EQUALS,
-    kind::LCURLY,
-    kind::SEMICOLON,
-    kind::V1_DIRECTIVE,
-    kind::PLUGIN_DIRECTIVE,
-    kind::DT_INCLUDE_DIRECTIVE,
-    kind::MEMRESERVE_DIRECTIVE,
-    kind::DELETE_NODE_DIRECTIVE,
-    kind::DELETE_PROPERTY_DIRECTIVE,
-    kind::RCURLY,
-    kind::ENDIF_DIRECTIVE,
-    kind::IFNDEF_DIRECTIVE,
-    kind::IFDEF_DIRECTIVE,
-    kind::IF_DIRECTIVE,
-    kind::ELIFNDEF_DIRECTIVE,
-    kind::ELIFDEF_DIRECTIVE,
-    kind::ELIF_DIRECTIVE,
-    kind::ELSE_DIRECTIVE,
+    token_kind::SLASH,
+    token_kind::IDENT,
+    token_kind::NUMBER,
+    token_kind::COMMA,
+    token_kind::MINUS,
+    token_kind::AMPERSAND,
+    token_kind::EQUALS,
+    token_kind::LCURLY,
+    token_kind::SEMICOLON,
+    token_kind::V1_DIRECTIVE,
+    token_kind::PLUGIN_DIRECTIVE,
+    token_kind::DT_INCLUDE_DIRECTIVE,
+    token_kind::MEMRESERVE_DIRECTIVE,
+    token_kind::DELETE_NODE_DIRECTIVE,
+    token_kind::DELETE_PROPERTY_DIRECTIVE,
+    token_kind::RCURLY,
+    token_kind::ENDIF_DIRECTIVE,
+    token_kind::IFNDEF_DIRECTIVE,
+    token_kind::IFDEF_DIRECTIVE,
+    token_kind::IF_DIRECTIVE,
+    token_kind::ELIFNDEF_DIRECTIVE,
+    token_kind::ELIFDEF_DIRECTIVE,
+    token_kind::ELIF_DIRECTIVE,
+    token_kind::ELSE_DIRECTIVE,
 ];
 
 pub fn macro_invocation(

@@ -1,10 +1,10 @@
 // `macro_invocation` of grammar.rs: an Ident, and a bracketed argument list directly after it.
-use lexer::kind;
+use layout::token_kind;
 use parser::Seen;
 use parser::State;
 use parser::marker::Marker;
 use parser::matcher::Matcher;
-use parser::node;
+use layout::node_kind;
 use token_rows::token::END;
 use token_rows::token::kind_at;
 ghost use mathlib.Core.Path.{_≡_};
@@ -35,11 +35,11 @@ pub enum Part {
 fn outer_part(k: u8) -> Part
     ensures { λ r. ⌜ (eqb k 64 ≡ false → eqb k 41 ≡ false → r ≡ part k 0) ⌝ }
 {
-    let comma = k == kind::COMMA;
+    let comma = k == token_kind::COMMA;
     if comma {
         return Part::Comma;
     }
-    let closes = k == kind::RPAREN;
+    let closes = k == token_kind::RPAREN;
     if closes {
         return Part::End;
     }
@@ -54,7 +54,7 @@ fn part_of(k: u8, level: usize) -> Part
     if end {
         return Part::End;
     }
-    let opens = k == kind::LPAREN;
+    let opens = k == token_kind::LPAREN;
     if opens {
         return Part::Inside(level + 1);
     }
@@ -62,7 +62,7 @@ fn part_of(k: u8, level: usize) -> Part
     if outside {
         return outer_part(k);
     }
-    let closes = k == kind::RPAREN;
+    let closes = k == token_kind::RPAREN;
     if closes {
         return Part::Inside(level - 1);
     }
@@ -108,7 +108,7 @@ fn arguments(s: State, t: &[u32], ev: &mut [u32]) -> State
         let m = Marker::new(q);
         let started = q.start(ev);
         let inside = bump_argument(started, t, ev);
-        let done = inside.s.complete(ev, m, node::MACRO_ARGUMENT);
+        let done = inside.s.complete(ev, m, node_kind::MACRO_ARGUMENT);
         if inside.yes {
             q = done.bump(t, ev);
         } else {
@@ -130,14 +130,14 @@ fn argument_list(
     ensures { λ r. ⌜ left (now (t .entry)) r ≤ left (now (t .entry)) s - 1 ⌝ }
 {
     let opened = s.bump(t, ev);
-    let none = opened.at(codes, t, Matcher::Kind(kind::RPAREN));
+    let none = opened.at(codes, t, Matcher::Kind(token_kind::RPAREN));
     if none.yes {
         let end = none.s
-            .expect(codes, t, ev, rep, pool, Matcher::Kind(kind::RPAREN));
+            .expect(codes, t, ev, rep, pool, Matcher::Kind(token_kind::RPAREN));
         end.s
     } else {
         let inner = arguments(none.s, t, ev);
-        let end = inner.expect(codes, t, ev, rep, pool, Matcher::Kind(kind::RPAREN));
+        let end = inner.expect(codes, t, ev, rep, pool, Matcher::Kind(token_kind::RPAREN));
         end.s
     }
 }
@@ -157,11 +157,11 @@ pub fn macro_invocation(
     let m = Marker::new(s);
     let started = s.start(ev);
     let ident = started.bump(t, ev);
-    let paren = ident.at_immediate(codes, t, kind::LPAREN);
+    let paren = ident.at_immediate(codes, t, token_kind::LPAREN);
     if paren.yes {
         let list = argument_list(paren.s, codes, t, ev, rep, pool);
-        list.complete(ev, m, node::MACRO_INVOCATION)
+        list.complete(ev, m, node_kind::MACRO_INVOCATION)
     } else {
-        paren.s.complete(ev, m, node::MACRO_INVOCATION)
+        paren.s.complete(ev, m, node_kind::MACRO_INVOCATION)
     }
 }

@@ -3,15 +3,15 @@
 use crate::CONTINUE_COND_SET;
 use crate::macros::macro_invocation;
 use crate::unit_address;
-use lexer::kind;
+use layout::token_kind;
 use parser::Seen;
 use parser::State;
 use parser::errors::Bump;
-use parser::errors::EXPECTED;
-use parser::errors::NO_HINT;
+use layout::message::EXPECTED;
+use layout::hint::NO_HINT;
 use parser::marker::Marker;
 use parser::matcher::Matcher;
-use parser::node;
+use layout::node_kind;
 ghost use mathlib.Core.Path.{_≡_};
 ghost use mathlib.Core.Bool.{true};
 ghost use mathlib.Core.List.{List};
@@ -52,7 +52,7 @@ fn at_segment(s: State, codes: &mut [u8; 256], t: &[u32]) -> Seen
     ensures { λ r. ⌜ left (now (t .entry)) (r .s) ≤ left (now (t .entry)) s ⌝ }
     ensures { λ r. ⌜ (r .yes ≡ true → 0 < left (now (t .entry)) s) ⌝ }
 {
-    let closed = s.at(codes, t, Matcher::Kind(kind::RCURLY));
+    let closed = s.at(codes, t, Matcher::Kind(token_kind::RCURLY));
     if closed.yes {
         let q = closed.s;
         return Seen { s: q, yes: false };
@@ -67,7 +67,7 @@ fn at_segment(s: State, codes: &mut [u8; 256], t: &[u32]) -> Seen
         let q = branch.s;
         return Seen { s: q, yes: false };
     }
-    let endif = branch.s.silent_at(t, kind::ENDIF_DIRECTIVE);
+    let endif = branch.s.silent_at(t, token_kind::ENDIF_DIRECTIVE);
     let q = endif.s;
     if endif.yes {
         Seen { s: q, yes: false }
@@ -93,7 +93,7 @@ fn path_segments(
         let more = at_segment(q, codes, t);
         if more.yes {
             let slash = more.s
-                .expect(codes, t, ev, rep, pool, Matcher::Kind(kind::SLASH));
+                .expect(codes, t, ev, rep, pool, Matcher::Kind(token_kind::SLASH));
             q = path_segment(slash.s, codes, t, ev, rep, pool);
         } else {
             return more.s;
@@ -113,7 +113,7 @@ fn path_rest(
     ensures { λ r. ⌜ left (now (t .entry)) r ≤ left (now (t .entry)) s ⌝ }
 {
     let segments = path_segments(s, codes, t, ev, rep, pool);
-    let end = segments.expect(codes, t, ev, rep, pool, Matcher::Kind(kind::RCURLY));
+    let end = segments.expect(codes, t, ev, rep, pool, Matcher::Kind(token_kind::RCURLY));
     end.s
 }
 
@@ -129,9 +129,9 @@ fn path(
     ensures { λ r. ⌜ ((ask : Rule → Machine → Walked) (b : Span) → view r (now (codes .exit)) (now (ev .exit)) (now (rep .exit)) (now (pool .exit)) ≡ walk ask (tokens-of (now (t .entry))) b path (view s (now (codes .entry)) (now (ev .entry)) (now (rep .entry)) (now (pool .entry))) .on) ⌝ }
     ensures { λ r. ⌜ left (now (t .entry)) r ≤ left (now (t .entry)) s ⌝ }
 {
-    let absolute = s.eat(codes, t, ev, Matcher::Kind(kind::SLASH));
+    let absolute = s.eat(codes, t, ev, Matcher::Kind(token_kind::SLASH));
     if absolute.yes {
-        let root = absolute.s.eat(codes, t, ev, Matcher::Kind(kind::RCURLY));
+        let root = absolute.s.eat(codes, t, ev, Matcher::Kind(token_kind::RCURLY));
         if root.yes {
             return root.s;
         }
@@ -157,7 +157,7 @@ pub fn reference_noamp(
     ensures { λ r. ⌜ ((ask : Rule → Machine → Walked) (b : Span) → view r (now (codes .exit)) (now (ev .exit)) (now (rep .exit)) (now (pool .exit)) ≡ walk ask (tokens-of (now (t .entry))) b reference-noamp (view s (now (codes .entry)) (now (ev .entry)) (now (rep .entry)) (now (pool .entry))) .on) ⌝ }
     ensures { λ r. ⌜ left (now (t .entry)) r ≤ left (now (t .entry)) s ⌝ }
 {
-    let braced = s.eat(codes, t, ev, Matcher::Kind(kind::LCURLY));
+    let braced = s.eat(codes, t, ev, Matcher::Kind(token_kind::LCURLY));
     if braced.yes {
         return path(braced.s, codes, t, ev, rep, pool);
     }
@@ -187,7 +187,7 @@ fn consume(
     let started = s.start(ev);
     let ampersand = started.bump(t, ev);
     let reference = reference_noamp(ampersand, codes, t, ev, rep, pool);
-    reference.complete(ev, m, node::DT_PHANDLE)
+    reference.complete(ev, m, node_kind::DT_PHANDLE)
 }
 
 // `check(Reference).silent().eat()`
@@ -203,7 +203,7 @@ pub fn silent_eat(
     ensures { λ r. ⌜ left (now (t .entry)) (r .s) ≤ left (now (t .entry)) s ⌝ }
     ensures { λ r. ⌜ (r .yes ≡ true → left (now (t .entry)) (r .s) ≤ left (now (t .entry)) s - 1) ⌝ }
 {
-    let ampersand = s.silent_at(t, kind::AMPERSAND);
+    let ampersand = s.silent_at(t, token_kind::AMPERSAND);
     if ampersand.yes {
         let q = consume(ampersand.s, codes, t, ev, rep, pool);
         Seen { s: q, yes: true }
@@ -224,12 +224,12 @@ pub fn eat(
     ensures { λ r. ⌜ left (now (t .entry)) (r .s) ≤ left (now (t .entry)) s ⌝ }
     ensures { λ r. ⌜ (r .yes ≡ true → left (now (t .entry)) (r .s) ≤ left (now (t .entry)) s - 1) ⌝ }
 {
-    let ampersand = s.silent_at(t, kind::AMPERSAND);
+    let ampersand = s.silent_at(t, token_kind::AMPERSAND);
     if ampersand.yes {
         let q = consume(ampersand.s, codes, t, ev, rep, pool);
         Seen { s: q, yes: true }
     } else {
-        let q = ampersand.s.add_expected(codes, kind::AMPERSAND);
+        let q = ampersand.s.add_expected(codes, token_kind::AMPERSAND);
         Seen { s: q, yes: false }
     }
 }

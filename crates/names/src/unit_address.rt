@@ -1,10 +1,10 @@
 // The matcher UnitAddress: an AtSign and a name.
 use crate::macro_substitutable_name;
-use lexer::kind;
+use layout::token_kind;
 use parser::Seen;
 use parser::State;
 use parser::marker::Marker;
-use parser::node;
+use layout::node_kind;
 ghost use mathlib.Core.Path.{_≡_};
 ghost use mathlib.Core.Bool.{true};
 ghost use Prim.Native.Nat.{_-_, _≤_};
@@ -32,7 +32,7 @@ fn consume(
     let started = s.start(ev);
     let at_sign = started.bump(t, ev);
     let name = macro_substitutable_name::expect(at_sign, codes, t, ev, rep, pool);
-    name.complete(ev, m, node::UNIT_ADDRESS)
+    name.complete(ev, m, node_kind::UNIT_ADDRESS)
 }
 
 pub fn eat(
@@ -47,12 +47,12 @@ pub fn eat(
     ensures { λ r. ⌜ left (now (t .entry)) (r .s) ≤ left (now (t .entry)) s ⌝ }
     ensures { λ r. ⌜ (r .yes ≡ true → left (now (t .entry)) (r .s) ≤ left (now (t .entry)) s - 1) ⌝ }
 {
-    let at_sign = s.silent_at(t, kind::AT_SIGN);
+    let at_sign = s.silent_at(t, token_kind::AT_SIGN);
     if at_sign.yes {
         let q = consume(at_sign.s, codes, t, ev, rep, pool);
         Seen { s: q, yes: true }
     } else {
-        let q = at_sign.s.add_expected(codes, kind::AT_SIGN);
+        let q = at_sign.s.add_expected(codes, token_kind::AT_SIGN);
         Seen { s: q, yes: false }
     }
 }

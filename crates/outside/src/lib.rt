@@ -1,22 +1,22 @@
 // The functions of grammar.rs that stand beside its cycle of calls and call nothing of it: the end of a node's body, a test
 // before a property, an unmatched bracket, and what an entry leaves. They hold the whole parser by value, as the cycle
 // does.
-use lexer::kind;
+use layout::token_kind;
 use names::ITEM_RECOVERY_SET;
 use parser::Answer;
 use parser::Parser;
 use parser::Tested;
 use parser::Told;
 use parser::errors::Bump;
-use parser::errors::EXPECTED;
-use parser::errors::NO_HINT;
+use layout::message::EXPECTED;
+use layout::hint::NO_HINT;
 use parser::errors::TextRange;
-use parser::errors::UNCLOSED_NODE;
-use parser::errors::UNMATCHED_RCURLY;
-use parser::expected;
+use layout::message::UNCLOSED_NODE;
+use layout::message::UNMATCHED_RCURLY;
+use layout::expected;
 use parser::marker::Marker;
 use parser::matcher::Matcher;
-use parser::node;
+use layout::node_kind;
 ghost use mathlib.Core.Path.{_≡_};
 ghost use mathlib.Core.List.{List};
 ghost use Prim.Native.Nat.{ℕ, _-_, _≤_};
@@ -57,7 +57,7 @@ pub fn forbidden_property(p: Parser, t: &[u32], allow_prop: bool) -> Tested
     if allow_prop {
         Tested { p: p, yes: false }
     } else {
-        p.silent_at_set(t, &[kind::EQUALS, kind::SEMICOLON])
+        p.silent_at_set(t, &[token_kind::EQUALS, token_kind::SEMICOLON])
     }
 }
 
@@ -78,14 +78,14 @@ pub fn node_end(
     if end.yes {
         let q = end.p
             .emit(t, ev, rep, pool, UNCLOSED_NODE, NO_HINT, lcurly_span);
-        q.complete(ev, m, node::DT_NODE)
+        q.complete(ev, m, node_kind::DT_NODE)
     } else {
-        let rcurly = end.p.expect(t, ev, rep, pool, Matcher::Kind(kind::RCURLY));
-        let semicolon = Matcher::Kind(kind::SEMICOLON);
+        let rcurly = end.p.expect(t, ev, rep, pool, Matcher::Kind(token_kind::RCURLY));
+        let semicolon = Matcher::Kind(token_kind::SEMICOLON);
         let q = rcurly
             .p
             .expect_recoverable(t, ev, rep, pool, semicolon, &ITEM_RECOVERY_SET);
-        q.p.complete(ev, m, node::DT_NODE)
+        q.p.complete(ev, m, node_kind::DT_NODE)
     }
 }
 
@@ -103,7 +103,7 @@ pub fn unmatched_rcurly(
     let e = Marker::new(reported.s);
     let started = reported.start(ev);
     let taken = started.bump(t, ev);
-    taken.complete(ev, e, node::PARSE_ERROR)
+    taken.complete(ev, e, node_kind::PARSE_ERROR)
 }
 
 pub fn bump_all(p: Parser, t: &[u32], ev: &mut [u32]) -> Parser
@@ -134,5 +134,5 @@ pub fn left_over(p: Parser, t: &[u32], ev: &mut [u32], rep: &mut [u32], pool: &m
     let started = pushed.start(ev);
     let reported = started.error(t, ev, rep, pool, EXPECTED, NO_HINT, Bump::No);
     let taken = bump_all(reported, t, ev);
-    taken.complete(ev, m, node::PARSE_ERROR)
+    taken.complete(ev, m, node_kind::PARSE_ERROR)
 }

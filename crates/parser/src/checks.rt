@@ -3,8 +3,8 @@
 use crate::Seen;
 use crate::State;
 use crate::errors::Bump;
-use crate::errors::EXPECTED;
-use crate::errors::NO_HINT;
+use layout::message::EXPECTED;
+use layout::hint::NO_HINT;
 use crate::marker::Marker;
 use crate::matcher::Matcher;
 use crate::source::is_matched_at;

@@ -2,9 +2,12 @@
 use crate::State;
 use crate::event::ERROR;
 use crate::marker::Marker;
-use crate::node;
-use lexer::ByteOffset;
-use lexer::kind;
+use layout::node_kind;
+use layout::ByteOffset;
+use layout::message::EXPECTED;
+use layout::message::UNCLOSED_NODE;
+use layout::row::REPORT_ROW;
+use layout::token_kind;
 use token_rows::room::fits;
 use token_rows::room::low32;
 ghost use mathlib.Core.Path.{_≡_};
@@ -35,39 +38,6 @@ pub enum Bump {
     YesWrapErr,
 }
 
-// Messages.
-pub const EXPECTED: u32 = 1;
-
-pub const UNMATCHED_RCURLY: u32 = 2;
-
-pub const UNMATCHED_SEMICOLON: u32 = 3;
-
-pub const UNMATCHED_ENDIF: u32 = 4;
-
-pub const STRAY_CONTINUATION: u32 = 5;
-
-pub const AT_SIGN_IN_LABEL: u32 = 6;
-
-pub const UNCLOSED_NODE: u32 = 7;
-
-// Hints.
-pub const NO_HINT: u32 = 0;
-
-pub const UNNAMED_PROPERTY: u32 = 1;
-
-pub const UNNAMED_NODE: u32 = 2;
-
-pub const MISSING_PARENTHESES: u32 = 3;
-
-pub const IN_CELLS: u32 = 4;
-
-pub const PROPERTY_NOT_ALLOWED: u32 = 5;
-
-pub const MISSING_LEFT_SIDE: u32 = 6;
-
-// The numbers of a report row.
-pub const REPORT_SIZE: usize = 9;
-
 pub fn no_label() -> TextRange
     ensures { λ r. ⌜ span-of r ≡ unlabelled ⌝ }
 {
@@ -97,17 +67,17 @@ fn ends_statement(codes: &[u8], n: usize) -> bool
 {
     let one = n == 1;
     if one {
-        let semicolon = codes[0] == kind::SEMICOLON;
+        let semicolon = codes[0] == token_kind::SEMICOLON;
         if semicolon {
             return true;
         }
-        return codes[0] == kind::COMMA;
+        return codes[0] == token_kind::COMMA;
     }
     let two = n == 2;
     if two {
-        let comma = codes[0] == kind::COMMA;
+        let comma = codes[0] == token_kind::COMMA;
         if comma {
-            return codes[1] == kind::SEMICOLON;
+            return codes[1] == token_kind::SEMICOLON;
         }
         return false;
     }
@@ -155,7 +125,7 @@ fn put_report(
 )
     ensures { λ _. ⌜ now (rep .exit) ≡ stored at (message ∷ range .start .0 ∷ range .end .0 ∷ mark ∷ first ∷ count ∷ hint ∷ label .start .0 ∷ label .end .0 ∷ []) (now (rep .entry)) ⌝ }
 {
-    let room = fits(rep.len(), at, REPORT_SIZE);
+    let room = fits(rep.len(), at, REPORT_ROW);
     if room {
         rep[at] = message;
         rep[at + 1] = range.start.0;
@@ -215,7 +185,7 @@ impl State {
         let at = self.reports;
         let first = self.pool;
         let n = pool_count(message, codes, self.pending);
-        let room = fits(rep.len(), at, REPORT_SIZE);
+        let room = fits(rep.len(), at, REPORT_ROW);
         if room {
             let pool_room = fits(pool.len(), first, n);
             if pool_room {
@@ -233,7 +203,7 @@ impl State {
                 );
                 put_codes(codes, pool, first, n);
                 let mut q = self;
-                q.reports = at + REPORT_SIZE;
+                q.reports = at + REPORT_ROW;
                 q.pool = first + n;
                 q
             } else {
@@ -289,7 +259,7 @@ impl State {
             let m = Marker::new(end.s);
             let started = end.s.start(ev);
             let taken = started.bump(t, ev);
-            taken.complete(ev, m, node::PARSE_ERROR)
+            taken.complete(ev, m, node_kind::PARSE_ERROR)
         }
     }
 

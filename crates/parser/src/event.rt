@@ -2,7 +2,7 @@
 // raw tokens; the third, of a start that `precede` linked forward, how many events further on the new marker is. The
 // first is one of these.
 use crate::State;
-use lexer::TokenIndex;
+use layout::TokenIndex;
 use token_rows::room::fits;
 use token_rows::room::low32;
 use token_rows::token::is_one_of_at;

@@ -5,18 +5,16 @@
 pub mod checks;
 pub mod errors;
 pub mod event;
-pub mod expected;
 pub mod marker;
 pub mod matcher;
-pub mod node;
 pub mod source;
 
 use crate::errors::Bump;
 use crate::errors::TextRange;
 use crate::marker::Marker;
 use crate::matcher::Matcher;
-use lexer::ByteOffset;
-use lexer::TokenIndex;
+use layout::ByteOffset;
+use layout::TokenIndex;
 ghost use mathlib.Core.Path.{_≡_};
 ghost use mathlib.Core.Bool.{true, false};
 ghost use mathlib.Core.List.{List, [], _∷_};
@@ -30,9 +28,6 @@ ghost use Rattle.machine.specs.Machine.{Machine, refuse as refuse-machine, peek
 ghost use Rattle.machine.specs.Walk.{Walked, said, perform, walk};
 ghost use Rattle.machine.specs.Outcome.{fresh};
 ghost use Rattle.parser.specs.View.{view, view-of, tested-as, left, marker-of, matcher-of, span-of, error-prog, takes};
-
-// The most calls of `item`, `propvalues`, `eat_cell` and `expr_binding_power` that may be open.
-pub const MAX_OPEN_CALLS: usize = 64;
 
 // The parser's numbers. Events, reports and pool are counted in numbers written.
 pub struct State {

@@ -2,8 +2,8 @@
 // The grammar's own matchers (a name that may be a macro, a unit address, a reference) stand with the grammar.
 use crate::State;
 use crate::event;
-use crate::expected;
-use lexer::kind;
+use layout::expected;
+use layout::token_kind;
 use token_rows::token::one_of;
 ghost use mathlib.Core.Path.{_≡_};
 ghost use mathlib.Core.List.{List};
@@ -15,9 +15,9 @@ ghost use Rattle.machine.specs.Machine.{Machine};
 ghost use Rattle.machine.specs.Walk.{Walked, said, walk};
 ghost use Rattle.parser.specs.View.{view, left, first-code, matcher-of, kinds-of};
 
-pub const NAME_SET: [u8; 4] = [kind::IDENT, kind::NUMBER, kind::COMMA, kind::MINUS];
+pub const NAME_SET: [u8; 4] = [token_kind::IDENT, token_kind::NUMBER, token_kind::COMMA, token_kind::MINUS];
 
-pub const LABEL_NAME_SET: [u8; 2] = [kind::IDENT, kind::NUMBER];
+pub const LABEL_NAME_SET: [u8; 2] = [token_kind::IDENT, token_kind::NUMBER];
 
 pub enum Matcher {
     Kind(u8),
@@ -49,7 +49,7 @@ impl Matcher {
         match self {
             Matcher::Kind(a) => a,
             Matcher::Either(a, _) => a,
-            Matcher::Name => kind::NAME,
+            Matcher::Name => token_kind::NAME,
             Matcher::LabelName => expected::LABEL_NAME,
         }
     }

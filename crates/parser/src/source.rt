@@ -3,9 +3,9 @@ use crate::Seen;
 use crate::State;
 use crate::errors::TextRange;
 use crate::matcher::Matcher;
-use lexer::ByteOffset;
-use lexer::TokenIndex;
-use lexer::kind;
+use layout::ByteOffset;
+use layout::TokenIndex;
+use layout::token_kind;
 use token_rows::token::end_at;
 use token_rows::token::is_at;
 use token_rows::token::is_next_at;
@@ -97,10 +97,10 @@ impl State {
         ensures { λ r. ⌜ left (now (t .entry)) (r .s) ≤ left (now (t .entry)) self ⌝ }
         ensures { λ r. ⌜ (r .yes ≡ true → 0 < left (now (t .entry)) (r .s)) ⌝ }
     {
-        let ident = self.silent_at(t, kind::IDENT);
+        let ident = self.silent_at(t, token_kind::IDENT);
         if ident.yes {
             let q = ident.s;
-            let next = is_next_at(t, q.cursor.0, kind::LPAREN);
+            let next = is_next_at(t, q.cursor.0, token_kind::LPAREN);
             Seen { s: q, yes: next }
         } else {
             let q = ident.s;

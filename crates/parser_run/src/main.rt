@@ -2,7 +2,7 @@
 // refusal 5, is the grammar's.)
 use cases::scan::least;
 use cases::show;
-use lexer::kind;
+use layout::token_kind;
 use parser::Parser;
 use parser::State;
 use parser::matcher::Matcher;
@@ -35,7 +35,7 @@ fn pushed(p: Parser, n: usize) -> Parser {
     let mut q = p;
     let mut i: usize = 0;
     while i < n {
-        q = q.add_expected(kind::SEMICOLON);
+        q = q.add_expected(token_kind::SEMICOLON);
         i += 1;
     }
     q
@@ -62,7 +62,7 @@ fn events(ev: &mut [u32]) {
 // A token, and a report with two expectations: two events, a row of nine numbers, two codes.
 fn report(ev: &mut [u32], rep: &mut [u32], pool: &mut [u32]) {
     let taken = Parser::new().bump(&TOKENS, ev);
-    let m = Matcher::Either(kind::EQUALS, kind::LCURLY);
+    let m = Matcher::Either(token_kind::EQUALS, token_kind::LCURLY);
     let e = taken.expect(&TOKENS, ev, rep, pool, m);
     say_events(ev.len());
     say_reports(rep.len(), pool.len());

@@ -1,5 +1,5 @@
 // grammar.rs, the directives of the devicetree source that a DtsDirective wraps.
-use lexer::kind;
+use layout::token_kind;
 use names::ITEM_RECOVERY_SET;
 use names::macro_substitutable_name;
 use names::reference;
@@ -7,11 +7,11 @@ use names::unit_address;
 use parser::Seen;
 use parser::State;
 use parser::errors::Bump;
-use parser::errors::EXPECTED;
-use parser::errors::NO_HINT;
+use layout::message::EXPECTED;
+use layout::hint::NO_HINT;
 use parser::marker::Marker;
 use parser::matcher::Matcher;
-use parser::node;
+use layout::node_kind;
 ghost use mathlib.Core.Path.{_≡_};
 ghost use mathlib.Core.Bool.{true, false};
 ghost use mathlib.Core.List.{List};
@@ -37,12 +37,12 @@ pub fn eat_dts_include(
     ensures { λ r. ⌜ left (now (t .entry)) (r .s) ≤ left (now (t .entry)) s ⌝ }
     ensures { λ r. ⌜ (r .yes ≡ true → left (now (t .entry)) (r .s) < left (now (t .entry)) s) ⌝ }
 {
-    let include = s.eat_starting(codes, t, ev, Matcher::Kind(kind::DT_INCLUDE_DIRECTIVE));
+    let include = s.eat_starting(codes, t, ev, Matcher::Kind(token_kind::DT_INCLUDE_DIRECTIVE));
     if include.yes {
         let file = include
             .s
-            .expect(codes, t, ev, rep, pool, Matcher::Kind(kind::STRING));
-        let q = file.s.complete(ev, include.m, node::DTS_DIRECTIVE);
+            .expect(codes, t, ev, rep, pool, Matcher::Kind(token_kind::STRING));
+        let q = file.s.complete(ev, include.m, node_kind::DTS_DIRECTIVE);
         Seen { s: q, yes: true }
     } else {
         let q = include.s;
@@ -69,10 +69,10 @@ fn directive_end(
         ev,
         rep,
         pool,
-        Matcher::Kind(kind::SEMICOLON),
+        Matcher::Kind(token_kind::SEMICOLON),
         &ITEM_RECOVERY_SET,
     );
-    let q = end.s.complete(ev, m, node::DTS_DIRECTIVE);
+    let q = end.s.complete(ev, m, node_kind::DTS_DIRECTIVE);
     Seen { s: q, yes: true }
 }
 
@@ -89,11 +89,11 @@ fn memreserve_arguments(
 {
     let m_params = Marker::new(s);
     let started = s.start(ev);
-    let address = started.expect(codes, t, ev, rep, pool, Matcher::Kind(kind::NUMBER));
+    let address = started.expect(codes, t, ev, rep, pool, Matcher::Kind(token_kind::NUMBER));
     let size = address
         .s
-        .expect(codes, t, ev, rep, pool, Matcher::Kind(kind::NUMBER));
-    size.s.complete(ev, m_params, node::DTS_DIRECTIVE_ARGUMENTS)
+        .expect(codes, t, ev, rep, pool, Matcher::Kind(token_kind::NUMBER));
+    size.s.complete(ev, m_params, node_kind::DTS_DIRECTIVE_ARGUMENTS)
 }
 
 // What is deleted: a reference, or a name and perhaps a unit address.
@@ -137,7 +137,7 @@ fn delete_arguments(
     let deleted = eat_deleted(started, codes, t, ev, rep, pool);
     deleted
         .s
-        .complete(ev, m_params, node::DTS_DIRECTIVE_ARGUMENTS)
+        .complete(ev, m_params, node_kind::DTS_DIRECTIVE_ARGUMENTS)
 }
 
 // The directives with arguments.
@@ -153,7 +153,7 @@ fn eat_directive_with_arguments(
     ensures { λ r. ⌜ left (now (t .entry)) (r .s) ≤ left (now (t .entry)) s ⌝ }
     ensures { λ r. ⌜ (r .yes ≡ true → left (now (t .entry)) (r .s) ≤ left (now (t .entry)) s - 1) ⌝ }
 {
-    let memreserve = s.eat_starting(codes, t, ev, Matcher::Kind(kind::MEMRESERVE_DIRECTIVE));
+    let memreserve = s.eat_starting(codes, t, ev, Matcher::Kind(token_kind::MEMRESERVE_DIRECTIVE));
     if memreserve.yes {
         let q = memreserve_arguments(memreserve.s, codes, t, ev, rep, pool);
         return directive_end(q, codes, t, ev, rep, pool, memreserve.m);
@@ -162,7 +162,7 @@ fn eat_directive_with_arguments(
         codes,
         t,
         ev,
-        Matcher::Either(kind::DELETE_NODE_DIRECTIVE, kind::DELETE_PROPERTY_DIRECTIVE),
+        Matcher::Either(token_kind::DELETE_NODE_DIRECTIVE, token_kind::DELETE_PROPERTY_DIRECTIVE),
     );
     if delete.yes {
         let q = delete_arguments(delete.s, codes, t, ev, rep, pool);
@@ -188,7 +188,7 @@ pub fn eat_dts_directive(
         codes,
         t,
         ev,
-        Matcher::Either(kind::V1_DIRECTIVE, kind::PLUGIN_DIRECTIVE),
+        Matcher::Either(token_kind::V1_DIRECTIVE, token_kind::PLUGIN_DIRECTIVE),
     );
     if version.yes {
         return directive_end(version.s, codes, t, ev, rep, pool, version.m);

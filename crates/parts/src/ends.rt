@@ -1,5 +1,5 @@
 // Where items, values and cells end: the conditions of grammar.rs's loops.
-use lexer::kind;
+use layout::token_kind;
 use names::CONTINUE_COND_SET;
 use names::ITEM_RECOVERY_SET;
 use parser::Answer;
@@ -7,12 +7,12 @@ use parser::Said;
 use parser::Seen;
 use parser::State;
 use parser::errors::Bump;
-use parser::errors::EXPECTED;
-use parser::errors::NO_HINT;
-use parser::expected;
+use layout::message::EXPECTED;
+use layout::hint::NO_HINT;
+use layout::expected;
 use parser::marker::Marker;
 use parser::matcher::Matcher;
-use parser::node;
+use layout::node_kind;
 ghost use mathlib.Core.Path.{_≡_};
 ghost use mathlib.Core.Bool.{true, false};
 ghost use mathlib.Core.List.{List};
@@ -28,13 +28,13 @@ ghost use Rattle.parts.specs.View.{said-as};
 ghost use Rattle.parts.specs.Parts.{at-item, at-cells-recovery, at-values-end, unfinished};
 
 pub const PROPERTY_VALUE_RECOVERY_SET: [u8; 4] = [
-    kind::STRING,
-    kind::LANGLE,
-    kind::DT_BYTESTRING,
-    kind::AMPERSAND,
+    token_kind::STRING,
+    token_kind::LANGLE,
+    token_kind::DT_BYTESTRING,
+    token_kind::AMPERSAND,
 ];
 
-pub const CELLS_RECOVERY_SET: [u8; 3] = [kind::SEMICOLON, kind::LCURLY, kind::RCURLY];
+pub const CELLS_RECOVERY_SET: [u8; 3] = [token_kind::SEMICOLON, token_kind::LCURLY, token_kind::RCURLY];
 
 // Whether a node's body goes on here.
 pub fn at_item(s: State, codes: &mut [u8; 256], t: &[u32]) -> Seen
@@ -42,7 +42,7 @@ pub fn at_item(s: State, codes: &mut [u8; 256], t: &[u32]) -> Seen
     ensures { λ r. ⌜ left (now (t .entry)) (r .s) ≤ left (now (t .entry)) s ⌝ }
     ensures { λ r. ⌜ (r .yes ≡ true → 0 < left (now (t .entry)) (r .s)) ⌝ }
 {
-    let closed = s.at(codes, t, Matcher::Kind(kind::RCURLY));
+    let closed = s.at(codes, t, Matcher::Kind(token_kind::RCURLY));
     if closed.yes {
         let q = closed.s;
         return Seen { s: q, yes: false };
@@ -65,7 +65,7 @@ pub fn at_cells_end(s: State, codes: &mut [u8; 256], t: &[u32], at_end: bool) ->
         let q = s.add_expected(codes, expected::END);
         q.at_end(t)
     } else {
-        s.at(codes, t, Matcher::Kind(kind::RANGLE))
+        s.at(codes, t, Matcher::Kind(token_kind::RANGLE))
     }
 }
 
@@ -87,7 +87,7 @@ pub fn at_cells_recovery(s: State, t: &[u32]) -> Seen
     if branch.yes {
         return branch;
     }
-    branch.s.silent_at(t, kind::ENDIF_DIRECTIVE)
+    branch.s.silent_at(t, token_kind::ENDIF_DIRECTIVE)
 }
 
 // `at(ending_kinds)`
@@ -96,7 +96,7 @@ fn at_values_end(s: State, codes: &mut [u8; 256], t: &[u32], semicolon: bool) ->
     ensures { λ r. ⌜ left (now (t .entry)) (r .s) ≤ left (now (t .entry)) s ⌝ }
 {
     if semicolon {
-        s.at(codes, t, Matcher::Kind(kind::SEMICOLON))
+        s.at(codes, t, Matcher::Kind(token_kind::SEMICOLON))
     } else {
         s.silent_at_set(t, &[])
     }
@@ -116,7 +116,7 @@ pub fn after_propvalue(
     ensures { λ r. ⌜ left (now (t .entry)) (r .s) ≤ left (now (t .entry)) s ⌝ }
     ensures { λ r. ⌜ (answer-of (r .answer) ≡ also → ⊥) ⌝ }
 {
-    let comma = s.eat(codes, t, ev, Matcher::Kind(kind::COMMA));
+    let comma = s.eat(codes, t, ev, Matcher::Kind(token_kind::COMMA));
     if comma.yes {
         let q = comma.s;
         return Said {
@@ -165,12 +165,12 @@ pub fn unfinished(
     let reported = s.error(codes, t, ev, rep, pool, EXPECTED, NO_HINT, Bump::No);
     let recovery = reported.silent_at_set(t, &ITEM_RECOVERY_SET);
     if recovery.yes {
-        return recovery.s.complete(ev, m, node::PARSE_ERROR);
+        return recovery.s.complete(ev, m, node_kind::PARSE_ERROR);
     }
     let end = recovery.s.at_end(t);
     if end.yes {
-        return end.s.complete(ev, m, node::PARSE_ERROR);
+        return end.s.complete(ev, m, node_kind::PARSE_ERROR);
     }
     let q = end.s.bump(t, ev);
-    q.complete(ev, m, node::PARSE_ERROR)
+    q.complete(ev, m, node_kind::PARSE_ERROR)
 }

@@ -1,5 +1,5 @@
 // `eat_node_or_prop_prefix` of grammar.rs: labels, and the name of a node or property with its unit address.
-use lexer::kind;
+use layout::token_kind;
 use names::macro_substitutable_name;
 use names::reference;
 use names::unit_address;
@@ -7,12 +7,12 @@ use parser::Answer;
 use parser::Said;
 use parser::Seen;
 use parser::State;
-use parser::errors::AT_SIGN_IN_LABEL;
+use layout::message::AT_SIGN_IN_LABEL;
 use parser::errors::Bump;
-use parser::errors::NO_HINT;
+use layout::hint::NO_HINT;
 use parser::marker::Marker;
 use parser::matcher::Matcher;
-use parser::node;
+use layout::node_kind;
 ghost use mathlib.Core.Path.{_≡_};
 ghost use mathlib.Core.Bool.{true, false};
 ghost use mathlib.Core.List.{List};
@@ -58,7 +58,7 @@ fn eat_unit_address_and_at_colon(
 {
     let unit = unit_address::eat(s, codes, t, ev, rep, pool);
     if unit.yes {
-        unit.s.silent_at(t, kind::COLON)
+        unit.s.silent_at(t, token_kind::COLON)
     } else {
         unit
     }
@@ -80,9 +80,9 @@ fn label_or_name(
     let m_label = Marker::new(s);
     let started = s.start(ev);
     let name = macro_substitutable_name::consume(started, codes, t, ev, rep, pool);
-    let colon = name.eat(codes, t, ev, Matcher::Kind(kind::COLON));
+    let colon = name.eat(codes, t, ev, Matcher::Kind(token_kind::COLON));
     if colon.yes {
-        let q = colon.s.complete(ev, m_label, node::DT_LABEL);
+        let q = colon.s.complete(ev, m_label, node_kind::DT_LABEL);
         return Said {
             s: q,
             answer: Answer::Again,
@@ -100,7 +100,7 @@ fn label_or_name(
             NO_HINT,
             Bump::Yes,
         );
-        let q = reported.complete(ev, m_label, node::PARSE_ERROR);
+        let q = reported.complete(ev, m_label, node_kind::PARSE_ERROR);
         return Said {
             s: q,
             answer: Answer::Again,
@@ -135,7 +135,7 @@ fn turn(
             answer: Answer::Yes,
         };
     }
-    let root = extended.s.eat(codes, t, ev, Matcher::Kind(kind::SLASH));
+    let root = extended.s.eat(codes, t, ev, Matcher::Kind(token_kind::SLASH));
     let q = root.s;
     if root.yes {
         Said {
@@ -189,7 +189,7 @@ pub fn eat_node_or_prop_prefix(
     ensures { λ r. ⌜ ((ask : Rule → Machine → Walked) (b : Span) → said-as r (now (codes .exit)) (now (ev .exit)) (now (rep .exit)) (now (pool .exit)) ≡ walk ask (tokens-of (now (t .entry))) b eat-node-or-prop-prefix (view s (now (codes .entry)) (now (ev .entry)) (now (rep .entry)) (now (pool .entry)))) ⌝ }
     ensures { λ r. ⌜ left (now (t .entry)) (r .s) ≤ left (now (t .entry)) s - found (r .answer) ⌝ }
 {
-    let omit = s.eat(codes, t, ev, Matcher::Kind(kind::OMIT_IF_NO_REF_DIRECTIVE));
+    let omit = s.eat(codes, t, ev, Matcher::Kind(token_kind::OMIT_IF_NO_REF_DIRECTIVE));
     if omit.yes {
         labels_and_name(omit.s, codes, t, ev, rep, pool, false)
     } else {

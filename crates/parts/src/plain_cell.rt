@@ -1,10 +1,10 @@
 // The first part of `eat_cell` of grammar.rs: the cells that no call is opened for: a literal, a macro or a reference.
-use lexer::kind;
+use layout::token_kind;
 use names::macros::macro_invocation;
 use names::reference;
 use parser::Seen;
 use parser::State;
-use parser::expected;
+use layout::expected;
 use parser::matcher::Matcher;
 ghost use mathlib.Core.Path.{_≡_};
 ghost use mathlib.Core.Bool.{true, false};
@@ -31,11 +31,11 @@ pub fn eat(
     ensures { λ r. ⌜ (r .yes ≡ true → left (now (t .entry)) (r .s) < left (now (t .entry)) s) ⌝ }
 {
     let pushed = s.add_expected(codes, expected::CELL);
-    let literal = pushed.silent_eat(t, ev, Matcher::Either(kind::NUMBER, kind::CHAR));
+    let literal = pushed.silent_eat(t, ev, Matcher::Either(token_kind::NUMBER, token_kind::CHAR));
     if literal.yes {
         return literal;
     }
-    let ident = literal.s.silent_at(t, kind::IDENT);
+    let ident = literal.s.silent_at(t, token_kind::IDENT);
     if ident.yes {
         let q = macro_invocation(ident.s, codes, t, ev, rep, pool);
         return Seen { s: q, yes: true };

@@ -21,9 +21,9 @@ use denote.Slice.{sliceVal, ShrSlice}
 use denote.Steps.{owned}
 use denote.Struct.Laws as LL
 use denote.Struct.Rest.{all-own, own-open, own-put}
-use Rattle.lexer.specs.declared.TokenIndex.{TokenIndex}
-use Rattle.lexer.proofs.TokenIndex as I
-use Rattle.lexer.proofs.TokenIndex.Laws as I′
+use Rattle.layout.specs.declared.TokenIndex.{TokenIndex}
+use Rattle.layout.proofs.TokenIndex as I
+use Rattle.layout.proofs.TokenIndex.Laws as I′
 use Rattle.source.specs.declared.Source.{Source}
 use Rattle.source.proofs.Source as T
 use Rattle.source.proofs.Source.Laws as T′

@@ -16,7 +16,7 @@ use denote.Triple.Statement.{Contract}
 use denote.Triple.Spec.{tripleOf}
 use denote.Triple.Clauses.{ensured, lasts}
 use Rattle.definitions.specs.Token.{tokens-of, drop-trivia}
-use Rattle.lexer.specs.declared.TokenIndex.{TokenIndex}
+use Rattle.layout.specs.declared.TokenIndex.{TokenIndex}
 use Rattle.token_rows.specs.Tokens.{kind-of}
 use Rattle.source.specs.Place.{after-trivia, after-token}
 use Rattle.source.specs.declared.Source.{Source}

@@ -6,7 +6,7 @@ pub mod place;
 
 use crate::place::past_token;
 use crate::place::past_trivia;
-use lexer::TokenIndex;
+use layout::TokenIndex;
 use token_rows::token::kind_at;
 ghost use mathlib.Core.Path.{_≡_};
 ghost use lib.ListN.{drop};

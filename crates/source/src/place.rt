@@ -1,5 +1,5 @@
 // Places in token rows, found by the parser's own moves of its cursor.
-use lexer::TokenIndex;
+use layout::TokenIndex;
 use parser::State;
 ghost use mathlib.Core.Path.{_≡_};
 ghost use mathlib.Core.List.{List};

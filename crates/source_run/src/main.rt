@@ -4,7 +4,7 @@
 // the place after that row. Past the last row the kind is 64, and an error token is seen as Unrecognized, 25.
 use cases::show;
 use cases::show::number;
-use lexer::TokenIndex;
+use layout::TokenIndex;
 use source::look;
 
 fn place(t: &[u32], i: usize) {

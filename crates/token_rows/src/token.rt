@@ -1,5 +1,5 @@
 // source.rs, the token rows: the kind of a row as a test sees it, the rows that are trivia, where a row ends.
-use lexer::kind;
+use layout::token_kind;
 ghost use mathlib.Core.Path.{_≡_};
 ghost use mathlib.Core.Bool.{true, false, _||_};
 ghost use mathlib.Core.List.{[], _∷_};
@@ -37,7 +37,7 @@ pub fn kind_at(t: &[u32], at: usize) -> u8
     if inside {
         let k = t[at * 2];
         let plain = k < 64;
-        if plain { k as u8 } else { kind::UNRECOGNIZED }
+        if plain { k as u8 } else { token_kind::UNRECOGNIZED }
     } else {
         END
     }

@@ -40,9 +40,9 @@ use denote.Triple.Walked.{says, Stays, stay-none, stay-none-slice, walkOf, goes-
 use denote.Exit.{yes}
 use denote.Triple.Clauses.{ensured}
 use Rattle.definitions.specs.Token.{tokens-of, drop-trivia}
-use Rattle.lexer.specs.declared.TokenIndex.{TokenIndex}
-use Rattle.lexer.proofs.TokenIndex as I
-use Rattle.lexer.proofs.TokenIndex.Laws as I′
+use Rattle.layout.specs.declared.TokenIndex.{TokenIndex}
+use Rattle.layout.proofs.TokenIndex as I
+use Rattle.layout.proofs.TokenIndex.Laws as I′
 use Rattle.token_rows.specs.Tokens.{kind-of}
 use Rattle.source.specs.Place.{after-token}
 use Rattle.source.specs.declared.Sight.{Sight}

@@ -2,7 +2,7 @@
 use mathlib.Core.Path.{refl, sym, ap, _∙_}
 use borrow.Author.Needs.{needs}
 use Rattle.definitions.specs.Refusal.{too-long, bad-row, bad-text, number-of, place-of}
-use Rattle.lexer.specs.Checks.{verdict-of}
+use Rattle.input.specs.Checks.{verdict-of}
 use Rattle.call.proofs.Ways.{refused-input, sound-input}
 use Rattle.call.proofs.checks.check.Statement.{statement}
 use Rattle.call.proofs.checks.check.Tie as tie

@@ -33,9 +33,9 @@ use denote.Triple.Spec.{Meets, tripleOf}
 use denote.Triple.Table.{entered}
 use denote.Triple.Walked.{says, Stays, stay-none, stay-none-slice, walkOf, goes-none, goes-none-slice, Walks, ends-at, walked, walk-meets}
 use denote.Exit.{yes}
-use Rattle.lexer.specs.declared.TokenIndex.{TokenIndex}
-use Rattle.lexer.proofs.TokenIndex as I
-use Rattle.lexer.proofs.TokenIndex.Laws as I′
+use Rattle.layout.specs.declared.TokenIndex.{TokenIndex}
+use Rattle.layout.proofs.TokenIndex as I
+use Rattle.layout.proofs.TokenIndex.Laws as I′
 use Rattle.source.specs.declared.Source.{Source}
 use Rattle.source.proofs.Source as T
 use Rattle.source.proofs.Source.Laws as T′

@@ -36,9 +36,9 @@ use denote.Triple.Walked.{says, Stays, stay-none, walkOf, goes-none, Walks, ends
 use denote.Exit.{yes}
 use denote.Triple.Clauses.{ensured, lasts}
 use Rattle.definitions.specs.Token.{tokens-of, drop-trivia}
-use Rattle.lexer.specs.declared.TokenIndex.{TokenIndex}
-use Rattle.lexer.proofs.TokenIndex as I
-use Rattle.lexer.proofs.TokenIndex.Laws as I′
+use Rattle.layout.specs.declared.TokenIndex.{TokenIndex}
+use Rattle.layout.proofs.TokenIndex as I
+use Rattle.layout.proofs.TokenIndex.Laws as I′
 use Rattle.source.specs.Place.{after-trivia}
 use Rattle.source.specs.declared.Source.{Source}
 use Rattle.source.proofs.Held.{Own, Fields, rows-val, moved, opened, moved-on}

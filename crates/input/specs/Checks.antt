@@ -1,0 +1,32 @@
+-- The answers of the row checks, in the terms of `definitions`.
+use Prim.Native.Nat.{ℕ, _-_}
+use mathlib.Core.Bool.{Bool, _&&_}
+use mathlib.Core.List.{List}
+use lib.Dec.{leb}
+use lib.ListN.{length, take, drop}
+use Rattle.definitions.specs.StaticText.{static-texts, fits-text}
+use Rattle.definitions.specs.Refusal.{Refusal, too-long, bad-row, bad-text, Verdict, accepted, refused, is-kind}
+use Rattle.input.specs.declared.check.Checked.{Checked}
+use Rattle.input.specs.declared.check.Checked.the-variants.{Sound, TooLong, BadRow, BadText}
+use Rattle.input.specs.declared.check.Found.{Found}
+use Rattle.input.specs.declared.check.Found.the-variants.{At, Nothing}
+
+-- what an answer means: `number-of` and `place-of` of `definitions` give its numbers
+abbrev pub verdict-of : Checked → Verdict
+verdict-of Sound = accepted
+verdict-of TooLong = refused too-long
+verdict-of (BadRow i) = refused (bad-row (i .0))
+verdict-of (BadText i) = refused (bad-text (i .0))
+
+-- a row that one cause found, or none
+abbrev pub found : (ℕ → Refusal) → Found → Verdict
+found f (At i) = refused (f i)
+found f Nothing = accepted
+
+-- cause 3 of one row, with so many bytes not yet covered
+unfoldable pub is-row : ℕ → ℕ → ℕ → Bool
+is-row k n left = is-kind k && leb 1 n && leb n left
+
+-- cause 4 of one row, whose token starts at a byte
+unfoldable pub is-text : List ℕ → ℕ → ℕ → ℕ → Bool
+is-text bs from k n = leb from (length bs) && leb n (length bs - from) && fits-text static-texts k (take n (drop from bs))

@@ -1,0 +1,174 @@
+// The checks of a call's input: causes 2, 3 and 4 of document 01, in that order, 3 over all rows before 4.
+use crate::static_text;
+use layout::TokenIndex;
+use layout::limit::MOST_BYTES;
+use layout::limit::MOST_TOKEN_NUMBERS;
+ghost use mathlib.Core.Path.{_≡_};
+ghost use mathlib.Core.Bool.{true, false, not, _&&_};
+ghost use Prim.Native.Nat.{_+_, _-_, _≤_};
+ghost use lib.Dec.{leb};
+ghost use lib.ListN.{length};
+ghost use Rattle.definitions.specs.Token.{tokens-of as rows-of};
+ghost use Rattle.definitions.specs.Refusal.{bad-row, bad-text, accepted, is-kind, check-rows, check-texts, check-input};
+ghost use Rattle.input.specs.Checks.{verdict-of, found, is-row, is-text};
+
+// What the checks find. A row's place is its index; where the rows end too early, the count of whole rows.
+pub enum Checked {
+    Sound,
+    // Cause 2.
+    TooLong,
+    // Cause 3: a bad kind, a length of 0, an end past the input, odd numbers or a short total.
+    BadRow(TokenIndex),
+    // Cause 4: other bytes than the kind's fixed spelling.
+    BadText(TokenIndex),
+}
+
+// A row index, or none.
+pub enum Found {
+    At(usize),
+    Nothing,
+}
+
+fn wide(x: u32) -> usize
+    ensures { λ r. ⌜ r ≡ x ⌝ }
+{
+    x as usize
+}
+
+// Kinds 25 and 26 are made by the parser alone; 61 to 63 and those above 74 do not exist.
+fn is_input_kind(kind: u32) -> bool
+    ensures { λ r. ⌜ r ≡ is-kind kind ⌝ }
+{
+    let token = kind <= 60;
+    if token {
+        let unrecognized = kind == 25;
+        if unrecognized {
+            false
+        } else {
+            let name = kind == 26;
+            if name { false } else { true }
+        }
+    } else {
+        let error = 64 <= kind;
+        if error { kind <= 74 } else { false }
+    }
+}
+
+// Cause 3 of one row, where `left` bytes of the input are not yet covered.
+fn is_good_row(kind: u32, n: usize, left: usize) -> bool
+    ensures { λ r. ⌜ r ≡ is-row kind n left ⌝ }
+    ensures { λ r. ⌜ (r ≡ true → n ≤ left) ⌝ }
+{
+    let known = is_input_kind(kind);
+    if known {
+        let some = 1 <= n;
+        if some { n <= left } else { false }
+    } else {
+        false
+    }
+}
+
+// Cause 3.
+fn find_bad_row(tokens: &[u32], bytes: usize) -> Found
+    ensures { λ r. ⌜ found bad-row r ≡ check-rows 0 bytes (now (tokens .entry)) ⌝ }
+{
+    let rows = tokens.len() / 2;
+    let mut left = bytes;
+    let mut at: usize = 0;
+    while at < rows {
+        let n = wide(tokens[at * 2 + 1]);
+        let good = is_good_row(tokens[at * 2], n, left);
+        if good {
+            left -= n;
+            at += 1;
+        } else {
+            return Found::At(at);
+        }
+    }
+    let odd = tokens.len() % 2 == 1;
+    if odd {
+        return Found::At(rows);
+    }
+    let covered = left == 0;
+    if covered {
+        return Found::Nothing;
+    }
+    Found::At(rows)
+}
+
+// Cause 4 of one row, whose token starts at byte `from`.
+fn is_good_text(bytes: &[u8], from: usize, kind: u32, n: usize) -> bool
+    ensures { λ r. ⌜ r ≡ is-text (now (bytes .entry)) from kind n ⌝ }
+    ensures { λ r. ⌜ (r ≡ true → from + n ≤ length (now (bytes .entry))) ⌝ }
+{
+    let started = from <= bytes.len();
+    if started {
+        let inside = n <= bytes.len() - from;
+        if inside {
+            let end = from + n;
+            static_text::is_spelled(kind, &bytes[from..end])
+        } else {
+            false
+        }
+    } else {
+        false
+    }
+}
+
+// Cause 4.
+fn find_bad_text(bytes: &[u8], tokens: &[u32]) -> Found
+    ensures { λ r. ⌜ (check-rows 0 (length (now (bytes .entry))) (now (tokens .entry)) ≡ accepted → found bad-text r ≡ check-texts 0 (now (bytes .entry)) (rows-of (now (tokens .entry)))) ⌝ }
+{
+    let rows = tokens.len() / 2;
+    let mut from: usize = 0;
+    let mut at: usize = 0;
+    while at < rows {
+        let n = wide(tokens[at * 2 + 1]);
+        let good = is_good_text(bytes, from, tokens[at * 2], n);
+        if good {
+            from += n;
+            at += 1;
+        } else {
+            return Found::At(at);
+        }
+    }
+    Found::Nothing
+}
+
+// Cause 2.
+fn is_too_long(bytes: usize, numbers: usize) -> bool
+    ensures { λ r. ⌜ not r ≡ (leb bytes 1048576 && leb numbers 131072) ⌝ }
+{
+    let short = bytes <= MOST_BYTES;
+    if short {
+        let few = numbers <= MOST_TOKEN_NUMBERS;
+        if few { false } else { true }
+    } else {
+        true
+    }
+}
+
+pub fn check(bytes: &[u8], tokens: &[u32]) -> Checked
+    ensures { λ r. ⌜ verdict-of r ≡ check-input (now (bytes .entry)) (now (tokens .entry)) ⌝ }
+{
+    let long = is_too_long(bytes.len(), tokens.len());
+    if long {
+        return Checked::TooLong;
+    }
+    let row = find_bad_row(tokens, bytes.len());
+    match row {
+        Found::At(at) => Checked::BadRow(TokenIndex(at)),
+        Found::Nothing => check_texts(bytes, tokens),
+    }
+}
+
+// Cause 4, after cause 3.
+fn check_texts(bytes: &[u8], tokens: &[u32]) -> Checked
+    ensures { λ r. ⌜ (check-rows 0 (length (now (bytes .entry))) (now (tokens .entry)) ≡ accepted → verdict-of r ≡ check-texts 0 (now (bytes .entry)) (rows-of (now (tokens .entry)))) ⌝ }
+{
+    let text = find_bad_text(bytes, tokens);
+    match text {
+        Found::At(at) => Checked::BadText(TokenIndex(at)),
+        Found::Nothing => Checked::Sound,
+    }
+}

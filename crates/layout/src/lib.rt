@@ -1,0 +1,17 @@
+// The numbers of the layout, each once: token and node kinds, event tags, row sizes, messages, hints, expectations,
+// refusals and limits. In the definitions they stand in specs/Layout, TokenKind, LexError, NodeKind and Errors.
+pub mod event_tag;
+pub mod expected;
+pub mod hint;
+pub mod limit;
+pub mod message;
+pub mod node_kind;
+pub mod refusal;
+pub mod row;
+pub mod token_kind;
+
+// A place in the input, in bytes. It never stands for a token index.
+pub struct ByteOffset(pub u32);
+
+// A place in the token rows. It never stands for a byte offset.
+pub struct TokenIndex(pub usize);

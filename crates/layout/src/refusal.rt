@@ -1,0 +1,16 @@
+// Document 01's causes.
+pub const UNKNOWN_ENTRY: u32 = 1;
+
+pub const TOO_LONG: u32 = 2;
+
+pub const BAD_ROW: u32 = 3;
+
+pub const BAD_TEXT: u32 = 4;
+
+pub const TOO_DEEP: u32 = 5;
+
+pub const NO_EVENT_ROOM: u32 = 6;
+
+pub const NO_REPORT_ROOM: u32 = 7;
+
+pub const NO_TREE_ROOM: u32 = 8;
