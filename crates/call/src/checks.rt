@@ -5,15 +5,15 @@ use crate::BAD_TEXT;
 use crate::TOO_LONG;
 use crate::accepted;
 use crate::refused;
-use input::check;
-use input::check::Checked;
+use input::causes;
+use input::causes::Checked;
 ghost use Rattle.call.specs.Checked.{Input};
 
 // Number 0 for an input that may be parsed.
 pub fn check(bytes: &[u8], tokens: &[u32]) -> Answer
     ensures { λ r. ⌜ Input r (now (bytes .entry)) (now (tokens .entry)) ⌝ }
 {
-    let checked = check::check(bytes, tokens);
+    let checked = causes::check(bytes, tokens);
     match checked {
         Checked::TooLong => refused(TOO_LONG, 0),
         Checked::BadRow(i) => refused(BAD_ROW, i.0),

@@ -6,10 +6,10 @@ use lib.Dec.{leb}
 use lib.ListN.{length, take, drop}
 use Rattle.definitions.specs.StaticText.{static-texts, fits-text}
 use Rattle.definitions.specs.Refusal.{Refusal, too-long, bad-row, bad-text, Verdict, accepted, refused, is-kind}
-use Rattle.input.specs.declared.check.Checked.{Checked}
-use Rattle.input.specs.declared.check.Checked.the-variants.{Sound, TooLong, BadRow, BadText}
-use Rattle.input.specs.declared.check.Found.{Found}
-use Rattle.input.specs.declared.check.Found.the-variants.{At, Nothing}
+use Rattle.input.specs.declared.causes.Checked.{Checked}
+use Rattle.input.specs.declared.causes.Checked.the-variants.{Sound, TooLong, BadRow, BadText}
+use Rattle.input.specs.declared.causes.Found.{Found}
+use Rattle.input.specs.declared.causes.Found.the-variants.{At, Nothing}
 
 -- what an answer means: `number-of` and `place-of` of `definitions` give its numbers
 abbrev pub verdict-of : Checked → Verdict

@@ -1,7 +1,7 @@
 // Causes 2, 3 and 4 of document 01 at their exact boundaries: each line is a cause and a place, 0 0 where the input is sound.
 // What is tried stands beside each call; the expected lines are in stdout.
-use input::check;
-use input::check::Checked;
+use input::causes;
+use input::causes::Checked;
 
 fn line(number: u64, place: usize) {
     let _a = io::print_decimal(1, number);
@@ -11,7 +11,7 @@ fn line(number: u64, place: usize) {
 }
 
 fn show(bytes: &[u8], tokens: &[u32]) {
-    let checked = check::check(bytes, tokens);
+    let checked = causes::check(bytes, tokens);
     match checked {
         Checked::Sound => line(0, 0),
         Checked::TooLong => line(2, 0),

@@ -13,10 +13,10 @@ use Rattle.machine.specs.Machine.{Machine, low, range-at, refuse}
 use Rattle.parser.specs.View.{left}
 use Rattle.parser.specs.declared.State.{State}
 
-pub range-rows : (l : List Token) (m : Machine) (a e : ℕ) → m .at ≡ a → e ≡ range-at l m .to → record { from = a; to = e } ≡ range-at l m
+pub range-rows : (l : List Token) (m : Machine) (a e : ℕ) → m .byte ≡ a → e ≡ range-at l m .to → record { from = a; to = e } ≡ range-at l m
 unfolding range-at
-range-rows [] m a e f g = ap (λ (x : ℕ). record { from = x; to = e }) (sym f) ∙ ap (λ (x : ℕ). record { from = m .at; to = x }) g
-range-rows (t ∷ l) m a e f g = ap (λ (x : ℕ). record { from = x; to = e }) (sym f) ∙ ap (λ (x : ℕ). record { from = m .at; to = x }) g
+range-rows [] m a e f g = ap (λ (x : ℕ). record { from = x; to = e }) (sym f) ∙ ap (λ (x : ℕ). record { from = m .byte; to = x }) g
+range-rows (t ∷ l) m a e f g = ap (λ (x : ℕ). record { from = x; to = e }) (sym f) ∙ ap (λ (x : ℕ). record { from = m .byte; to = x }) g
 
 -- ---------------------------------------------------------------- stores, as the code makes them
 

@@ -64,11 +64,11 @@ ended-past tk i h = sym (ap ended (rows-end tk i h))
 
 -- the row at the cursor taken; a: its first byte, e: its end
 pub took-row : (tk : List ℕ) (e : ℕ) (m : Machine) → m .cursor < length tk / 2
-    → ((x : Machine) → x .at ≡ m .at → e ≡ range-at (drop (m .cursor) (tokens-of tk)) x .to)
+    → ((x : Machine) → x .byte ≡ m .byte → e ≡ range-at (drop (m .cursor) (tokens-of tk)) x .to)
     → with-taken (m .cursor + 1) e m ≡ take-first (drop (m .cursor) (tokens-of tk)) m
 unfolding take-first
 took-row tk e m h g =
-    ap (λ (x : ℕ). with-taken (m .cursor + 1) x m) (end-row tk (m .cursor) (m .at) e h g m refl) ∙ sym (ap (λ (l : List Token). take-first l m) (rows-cons tk (m .cursor) h))
+    ap (λ (x : ℕ). with-taken (m .cursor + 1) x m) (end-row tk (m .cursor) (m .byte) e h g m refl) ∙ sym (ap (λ (l : List Token). take-first l m) (rows-cons tk (m .cursor) h))
 
 pub took-nothing : (tk : List ℕ) (m : Machine) → length tk / 2 ≤ m .cursor → m ≡ take-first (drop (m .cursor) (tokens-of tk)) m
 unfolding take-first

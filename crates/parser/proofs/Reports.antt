@@ -40,9 +40,9 @@ range-token tk m y r h f g i =
     ∙ sym (on-false y (only-separators (m .pending)) z (range-at (t ∷ drop (m .cursor + 1) (tokens-of tk)) m) f g)
     ∙ sym (ap (λ (l : List Token). error-range l m) d)
 
-pub range-end : (tk : List ℕ) (m : Machine) (s : ℕ) → length tk / 2 ≤ m .cursor → s ≡ m .at - 1 → record { from = s; to = m .at } ≡ error-range (drop (m .cursor) (tokens-of tk)) m
+pub range-end : (tk : List ℕ) (m : Machine) (s : ℕ) → length tk / 2 ≤ m .cursor → s ≡ m .byte - 1 → record { from = s; to = m .byte } ≡ error-range (drop (m .cursor) (tokens-of tk)) m
 unfolding error-range
-range-end tk m s h e = ap (λ (x : ℕ). record { from = x; to = m .at }) e ∙ sym (ap (λ (l : List Token). error-range l m) (rows-end tk (m .cursor) h))
+range-end tk m s h e = ap (λ (x : ℕ). record { from = x; to = m .byte }) e ∙ sym (ap (λ (l : List Token). error-range l m) (rows-end tk (m .cursor) h))
 
 -- ---------------------------------------------------------------- the row
 

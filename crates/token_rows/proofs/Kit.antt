@@ -126,16 +126,16 @@ unfolding trivia-first
 trivia-past tk i h = sym (ap trivia-first (rows-end tk i h))
 
 -- the end of the row that starts at byte a
-pub end-in : (tk : List ℕ) (i a r : ℕ) → i < length tk / 2 → r ≡ low (a + getD tk (i * 2 + 1) 0) → (m : Machine) → m .at ≡ a → r ≡ range-at (drop i (tokens-of tk)) m .to
+pub end-in : (tk : List ℕ) (i a r : ℕ) → i < length tk / 2 → r ≡ low (a + getD tk (i * 2 + 1) 0) → (m : Machine) → m .byte ≡ a → r ≡ range-at (drop i (tokens-of tk)) m .to
 unfolding range-at
 end-in tk i a r h e m f = e ∙ ap (λ (x : ℕ). low (x + getD tk (i * 2 + 1) 0)) (sym f) ∙ sym (ap (λ (l : List Token). range-at l m .to) (rows-cons tk i h))
 
-pub end-past : (tk : List ℕ) (i a : ℕ) → length tk / 2 ≤ i → (m : Machine) → m .at ≡ a → a ≡ range-at (drop i (tokens-of tk)) m .to
+pub end-past : (tk : List ℕ) (i a : ℕ) → length tk / 2 ≤ i → (m : Machine) → m .byte ≡ a → a ≡ range-at (drop i (tokens-of tk)) m .to
 unfolding range-at
 end-past tk i a h m f = sym f ∙ sym (ap (λ (l : List Token). range-at l m .to) (rows-end tk i h))
 
 pub skip-more : (tk : List ℕ) (i a e : ℕ) → i < length tk / 2 → trivia-first (drop i (tokens-of tk)) ≡ true
-    → ((m : Machine) → m .at ≡ a → e ≡ range-at (drop i (tokens-of tk)) m .to)
+    → ((m : Machine) → m .byte ≡ a → e ≡ range-at (drop i (tokens-of tk)) m .to)
     → (m : Machine) → skip (drop (i + 1) (tokens-of tk)) (with-cursor (i + 1) e m) ≡ skip (drop i (tokens-of tk)) (with-cursor i a m)
 unfolding skip trivia-first range-at
 skip-more tk i a e h f g m =
@@ -151,7 +151,7 @@ skip-done [] m f = refl
 skip-done (t ∷ ts) m f = sym (ap (λ (b : Bool). cond b (skip ts (passed t m)) m) f)
 
 -- the byte after the row that starts at byte a
-pub end-row : (tk : List ℕ) (i a e : ℕ) → i < length tk / 2 → ((m : Machine) → m .at ≡ a → e ≡ range-at (drop i (tokens-of tk)) m .to) → (m : Machine) → m .at ≡ a → e ≡ low (a + getD tk (i * 2 + 1) 0)
+pub end-row : (tk : List ℕ) (i a e : ℕ) → i < length tk / 2 → ((m : Machine) → m .byte ≡ a → e ≡ range-at (drop i (tokens-of tk)) m .to) → (m : Machine) → m .byte ≡ a → e ≡ low (a + getD tk (i * 2 + 1) 0)
 unfolding range-at
 end-row tk i a e h g m f = g m f ∙ ap (λ (l : List Token). range-at l m .to) (rows-cons tk i h) ∙ ap (λ (x : ℕ). low (x + getD tk (i * 2 + 1) 0)) f
 

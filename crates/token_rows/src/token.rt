@@ -81,7 +81,7 @@ pub fn is_next_at(t: &[u32], at: usize, k: u8) -> bool
 
 // Where the row that starts at this byte ends.
 pub fn end_at(t: &[u32], at: usize, start: u32) -> u32
-    ensures { λ r. ⌜ ((m : Machine) → m .at ≡ start → r ≡ range-at (drop at (tokens-of (now (t .entry)))) m .to) ⌝ }
+    ensures { λ r. ⌜ ((m : Machine) → m .byte ≡ start → r ≡ range-at (drop at (tokens-of (now (t .entry)))) m .to) ⌝ }
 {
     let inside = at < t.len() / 2;
     if inside {

@@ -5,12 +5,12 @@ use Rattle.definitions.specs.Refusal.{accepted, check-rows, check-texts}
 use Prim.Native.Nat.{ℕ, _*_, _/_, _-_, _≤_}
 use mathlib.Core.Path.{_≡_, refl, sym, _∙_}
 use lib.ListN.{length, drop}
-use Rattle.input.proofs.check.find_bad_text.Statement.{statement}
-use Rattle.input.proofs.check.find_bad_text.Tie as tie
-use Rattle.input.proofs.check.find_bad_text.Reads as reads
-use Rattle.input.proofs.check.find_bad_text.Lts as lts
-use Rattle.input.proofs.check.is_good_text.Reads as is-good-text-reads
-use Rattle.input.proofs.check.wide.Reads as wide-reads
+use Rattle.input.proofs.causes.find_bad_text.Statement.{statement}
+use Rattle.input.proofs.causes.find_bad_text.Tie as tie
+use Rattle.input.proofs.causes.find_bad_text.Reads as reads
+use Rattle.input.proofs.causes.find_bad_text.Lts as lts
+use Rattle.input.proofs.causes.is_good_text.Reads as is-good-text-reads
+use Rattle.input.proofs.causes.wide.Reads as wide-reads
 
 abbrev Inv-loop : tie.InvT-loop
 Inv-loop bytes tokens rows from₀ at₀ from at =

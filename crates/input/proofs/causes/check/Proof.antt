@@ -3,13 +3,13 @@ use mathlib.Core.Path.{sym, _∙_, ap}
 use Rattle.definitions.specs.Refusal.{bad-row, check-input, check-sizes, _or-else_}
 use Rattle.input.specs.Checks.{found}
 use borrow.Author.Needs.{needs}
-use Rattle.input.proofs.check.check.Statement.{statement}
-use Rattle.input.proofs.check.check.Tie as tie
-use Rattle.input.proofs.check.check.Reads as reads
-use Rattle.input.proofs.check.check.Lts as lts
-use Rattle.input.proofs.check.check_texts.Reads as check-texts-reads
-use Rattle.input.proofs.check.find_bad_row.Reads as find-bad-row-reads
-use Rattle.input.proofs.check.is_too_long.Reads as is-too-long-reads
+use Rattle.input.proofs.causes.check.Statement.{statement}
+use Rattle.input.proofs.causes.check.Tie as tie
+use Rattle.input.proofs.causes.check.Reads as reads
+use Rattle.input.proofs.causes.check.Lts as lts
+use Rattle.input.proofs.causes.check_texts.Reads as check-texts-reads
+use Rattle.input.proofs.causes.find_bad_row.Reads as find-bad-row-reads
+use Rattle.input.proofs.causes.is_too_long.Reads as is-too-long-reads
 
 -- src/rows.rt:157:9
 is-too-long-requires : tie.Need-is-too-long-requires

@@ -5,12 +5,12 @@ use Prim.Native.Nat.{ℕ, _*_, _/_, _-_, _≤_}
 use mathlib.Core.Path.{_≡_, refl, sym, _∙_}
 use borrow.Author.Tests.{eqb-true, eqb-false}
 use lib.ListN.{length, drop}
-use Rattle.input.proofs.check.find_bad_row.Statement.{statement}
-use Rattle.input.proofs.check.find_bad_row.Tie as tie
-use Rattle.input.proofs.check.find_bad_row.Reads as reads
-use Rattle.input.proofs.check.find_bad_row.Lts as lts
-use Rattle.input.proofs.check.is_good_row.Reads as is-good-row-reads
-use Rattle.input.proofs.check.wide.Reads as wide-reads
+use Rattle.input.proofs.causes.find_bad_row.Statement.{statement}
+use Rattle.input.proofs.causes.find_bad_row.Tie as tie
+use Rattle.input.proofs.causes.find_bad_row.Reads as reads
+use Rattle.input.proofs.causes.find_bad_row.Lts as lts
+use Rattle.input.proofs.causes.is_good_row.Reads as is-good-row-reads
+use Rattle.input.proofs.causes.wide.Reads as wide-reads
 
 abbrev Inv-loop : tie.InvT-loop
 Inv-loop tokens bytes rows left₀ at₀ left at =

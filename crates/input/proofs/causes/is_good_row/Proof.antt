@@ -4,11 +4,11 @@ use borrow.Author.Tests.{leb-true}
 use mathlib.Core.Path.{sym}
 use Rattle.input.specs.Checks.{is-row}
 use borrow.Author.Needs.{needs}
-use Rattle.input.proofs.check.is_good_row.Statement.{statement}
-use Rattle.input.proofs.check.is_good_row.Tie as tie
-use Rattle.input.proofs.check.is_good_row.Reads as reads
-use Rattle.input.proofs.check.is_good_row.Lts as lts
-use Rattle.input.proofs.check.is_input_kind.Reads as is-input-kind-reads
+use Rattle.input.proofs.causes.is_good_row.Statement.{statement}
+use Rattle.input.proofs.causes.is_good_row.Tie as tie
+use Rattle.input.proofs.causes.is_good_row.Reads as reads
+use Rattle.input.proofs.causes.is_good_row.Lts as lts
+use Rattle.input.proofs.causes.is_input_kind.Reads as is-input-kind-reads
 
 -- src/rows.rt:65:9
 is-input-kind-requires : tie.Need-is-input-kind-requires

@@ -3,10 +3,10 @@ use Rattle.input.proofs.Kit.{flags, true-false, part-text}
 use mathlib.Core.Path.{sym, _∙_}
 use Rattle.input.specs.Checks.{is-text}
 use borrow.Author.Needs.{needs}
-use Rattle.input.proofs.check.is_good_text.Statement.{statement}
-use Rattle.input.proofs.check.is_good_text.Tie as tie
-use Rattle.input.proofs.check.is_good_text.Reads as reads
-use Rattle.input.proofs.check.is_good_text.Lts as lts
+use Rattle.input.proofs.causes.is_good_text.Statement.{statement}
+use Rattle.input.proofs.causes.is_good_text.Tie as tie
+use Rattle.input.proofs.causes.is_good_text.Reads as reads
+use Rattle.input.proofs.causes.is_good_text.Lts as lts
 use Rattle.input.proofs.static_text.is_spelled.Reads as is-spelled-reads
 
 -- src/rows.rt:109:27

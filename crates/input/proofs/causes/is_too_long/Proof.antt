@@ -1,8 +1,8 @@
 -- `is_too_long`: cause 2.
-use Rattle.input.proofs.check.is_too_long.Statement.{statement}
-use Rattle.input.proofs.check.is_too_long.Tie as tie
-use Rattle.input.proofs.check.is_too_long.Reads as reads
-use Rattle.input.proofs.check.is_too_long.Lts as lts
+use Rattle.input.proofs.causes.is_too_long.Statement.{statement}
+use Rattle.input.proofs.causes.is_too_long.Tie as tie
+use Rattle.input.proofs.causes.is_too_long.Reads as reads
+use Rattle.input.proofs.causes.is_too_long.Lts as lts
 
 -- src/rows.rt:142:1
 returns : tie.Need-returns

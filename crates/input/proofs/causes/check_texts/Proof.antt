@@ -1,10 +1,10 @@
 -- `check_texts`: cause 4, after cause 3.
 use borrow.Author.Needs.{needs}
-use Rattle.input.proofs.check.check_texts.Statement.{statement}
-use Rattle.input.proofs.check.check_texts.Tie as tie
-use Rattle.input.proofs.check.check_texts.Reads as reads
-use Rattle.input.proofs.check.check_texts.Lts as lts
-use Rattle.input.proofs.check.find_bad_text.Reads as find-bad-text-reads
+use Rattle.input.proofs.causes.check_texts.Statement.{statement}
+use Rattle.input.proofs.causes.check_texts.Tie as tie
+use Rattle.input.proofs.causes.check_texts.Reads as reads
+use Rattle.input.proofs.causes.check_texts.Lts as lts
+use Rattle.input.proofs.causes.find_bad_text.Reads as find-bad-text-reads
 
 -- src/rows.rt:172:9
 find-bad-text-requires : tie.Need-find-bad-text-requires

@@ -2,10 +2,10 @@
 use Rattle.input.proofs.Kit.{flags}
 use borrow.Author.Tests.{lt-leb, le-leb, eq-eqb}
 use Rattle.definitions.specs.Refusal.{is-kind}
-use Rattle.input.proofs.check.is_input_kind.Statement.{statement}
-use Rattle.input.proofs.check.is_input_kind.Tie as tie
-use Rattle.input.proofs.check.is_input_kind.Reads as reads
-use Rattle.input.proofs.check.is_input_kind.Lts as lts
+use Rattle.input.proofs.causes.is_input_kind.Statement.{statement}
+use Rattle.input.proofs.causes.is_input_kind.Tie as tie
+use Rattle.input.proofs.causes.is_input_kind.Reads as reads
+use Rattle.input.proofs.causes.is_input_kind.Lts as lts
 
 -- src/rows.rt:42:1
 returns : tie.Need-returns
