@@ -11,8 +11,8 @@ fn main() -> Result<(), Box<dyn Error>> {
     let file = RowsFile::read(&bytes)?;
     let parse = file.entry.parse(&file.input)?;
 
-    for property in parse.tree.root().descendant_nodes().filter(|node| node.kind() == NodeKind::DtProperty) {
-        let nodes = property.ancestors().filter(|node| node.kind() == NodeKind::DtNode);
+    for property in parse.tree.root().nodes_below().filter(|node| node.kind() == NodeKind::DtProperty) {
+        let nodes = property.nodes_above().filter(|node| node.kind() == NodeKind::DtNode);
         let values = property.child(NodeKind::PropValueList).map(|values| format!(" = {}", values.text_lossy()));
         println!(
             "{}{} in {}",

@@ -1,12 +1,7 @@
 //! The lent buffers, and how much room is tried.
 
+use crate::rows::{EVENT_ROW, ErrorRow, ReportRow, TreeRow};
 use crate::{Input, Refusal};
-
-/// Numbers in an event, a row of the tree, a lexical error and a report.
-pub(crate) const EVENT_ROW: usize = 3;
-pub(crate) const TREE_ROW: usize = 4;
-pub(crate) const ERROR_ROW: usize = 3;
-pub(crate) const REPORT_ROW: usize = 9;
 
 /// The five buffers that a call writes.
 #[derive(Debug, Default)]
@@ -22,9 +17,9 @@ impl Buffers {
     /// Gives each buffer the length that the room asks for. What they hold does not matter: no answer depends on it.
     pub fn set_room(&mut self, room: Room) {
         self.events.resize(EVENT_ROW * room.events, 0);
-        self.trees.resize(TREE_ROW * room.trees, 0);
-        self.errors.resize(ERROR_ROW * room.errors, 0);
-        self.reports.resize(REPORT_ROW * room.reports, 0);
+        self.trees.resize(TreeRow::SIZE * room.trees, 0);
+        self.errors.resize(ErrorRow::SIZE * room.errors, 0);
+        self.reports.resize(ReportRow::SIZE * room.reports, 0);
         self.pool.resize(room.pool, 0);
     }
 }
