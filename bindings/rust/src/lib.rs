@@ -36,6 +36,10 @@
 #![deny(unsafe_code)]
 #![deny(missing_docs)]
 
+// For the tests that are also used from outside (tests/common).
+#[cfg(test)]
+extern crate self as dt_parser;
+
 mod buffers;
 mod entrypoint;
 mod error;
