@@ -287,7 +287,7 @@ static inline const char *dt_message_name(uint32_t message)
 }
 
 /* The message; of DT_MESSAGE_EXPECTED its first word. The expectations follow it, each once:
- * `Expected A, B or C, but found D`, or `.., but reached end of input` (examples/c/print_tree.c). */
+ * `Expected A, B or C, but found D`, or `.., but reached end of input` (examples/c/print.c). */
 static inline const char *dt_message_text(uint32_t message)
 {
     switch (message) {

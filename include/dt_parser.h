@@ -313,7 +313,7 @@ enum dt_expected {
 /*
  * Lengths that suffice for n token rows (crates/numbers has the proof), so that 6, 7 and 8 cannot be met. Files without
  * errors need far less; a caller may start small and grow what refusal 6 (events), 7 (reports, pool) or 8 (trees,
- * errors) names, as examples/c/print_tree.c does.
+ * errors) names, as examples/c/parse.c does.
  */
 #define DT_EVENTS_FOR(n) (DT_ROW_EVENT * (13 * (size_t)(n) + 1))
 #define DT_TREES_FOR(n) (DT_ROW_TREE * (6 * (size_t)(n) + 1))

@@ -46,7 +46,7 @@ extern "C" {
 """
 
 MESSAGE_COMMENT = """The message; of DT_MESSAGE_EXPECTED its first word. The expectations follow it, each once:
- * `Expected A, B or C, but found D`, or `.., but reached end of input` (examples/c/print_tree.c)."""
+ * `Expected A, B or C, but found D`, or `.., but reached end of input` (examples/c/print.c)."""
 
 END = """
 #ifdef __cplusplus
