@@ -26,6 +26,27 @@
 //! # Ok::<(), Box<dyn std::error::Error>>(())
 //! ```
 //!
+//! # Places, and trees to keep
+//!
+//! A range is in bytes. [`LineIndex`] turns an offset into a line and a column, counted in bytes, in characters or, as
+//! editors want it, in units of UTF-16; and back. A [`Parse`] borrows the text that it was made from;
+//! [`Parse::into_owned`] gives one that can be kept without it, sent to another thread, and asked for the
+//! [node at a range](Tree::covering_node) or the [leaf at an offset](Tree::leaf_at) later.
+//!
+//! ```
+//! use dt_parser::{Columns, LineIndex, OwnedParse, rowsfile::RowsFile};
+//!
+//! let rows = b"devicetree tokens 1\nrows 4\nIdent 1\nSemicolon 1\nWhitespace 1\nRCurly 1\ntext 4\na;\n}";
+//! let file = RowsFile::read(rows)?;
+//! let kept: OwnedParse = file.entry.parse(&file.input)?.into_owned();
+//! let index = LineIndex::new(kept.tree.text());
+//!
+//! let range = kept.reports[0].range; // of the `}` that closes nothing
+//! let place = index.position(range.start, Columns::Characters).expect("it lies in the text");
+//! assert_eq!(format!("{place}: {}", kept.reports[0]), "2:1: Unmatched `}`");
+//! # Ok::<(), Box<dyn std::error::Error>>(())
+//! ```
+//!
 //! # What is proved and what is not
 //!
 //! The call that this crate makes is proved to answer every input as the definitions say (docs/READING.md). Not proved is
