@@ -43,7 +43,7 @@ enum dt_entry {
     DT_ENTRY_CELLS = 4            /* the cells between < and > */
 };
 
-/* The answer's number: 0, or why the call was refused. Tried in this order; of 5 to 7 the one that the run meets first. */
+/* The answer's number: 0, or why the call was refused. Tried in this order; of 5 to 7 the one that a run meets first. */
 enum dt_refusal {
     DT_ACCEPTED = 0,
     DT_REFUSAL_UNKNOWN_ENTRY = 1,  /* entry not 1 to 4; place 0 */
@@ -347,7 +347,7 @@ struct dt_answer {
  *                     and all of events, is zero
  *   refused, 1 to 4   every buffer is as it was
  *   refused, 5 to 8   every number of every buffer is zero
- * A length that is no multiple of the row's: only whole rows are used, the numbers over count as rest.
+ * A length that is not a multiple of the row's: only whole rows are used, the numbers over count as rest.
  *
  * Overlap: the five lent buffers must not overlap each other, nor bytes or tokens. bytes and tokens may overlap, since
  * neither is written. Pointers to numbers must be aligned as uint32_t is. Where a length is 0 the pointer is not used

@@ -53,10 +53,11 @@ static int named(const char *(*name_of)(uint32_t), uint32_t first, uint32_t last
 static int kind_of(const char *word, uint32_t *kind)
 {
     static const char error[] = "LexError::";
+    const size_t n = sizeof error - 1;
     if (number(word, UINT32_MAX, kind))
         return 1;
-    if (strncmp(word, error, sizeof error - 1) == 0)
-        return named(dt_lex_error_name, DT_TOKEN_FIRST_LEX_ERROR, DT_TOKEN_LAST_LEX_ERROR, word + sizeof error - 1, kind);
+    if (strncmp(word, error, n) == 0)
+        return named(dt_lex_error_name, DT_TOKEN_FIRST_LEX_ERROR, DT_TOKEN_LAST_LEX_ERROR, word + n, kind);
     return named(dt_token_name, DT_TOKEN_WHITESPACE, DT_TOKEN_QUESTION_MARK, word, kind);
 }
 

@@ -121,7 +121,8 @@ static void check_all_names(void)
     expect(strcmp(dt_expected_name(DT_EXPECTED_END), "End") == 0, "dt_expected_name");
     expect(strcmp(dt_expected_text(DT_TOKEN_COMMA), dt_token_text(DT_TOKEN_COMMA)) == 0, "dt_expected_text");
     expect(strcmp(dt_expected_text(100), "?") == 0 && strcmp(dt_expected_text(109), "?") == 0, "dt_expected_text");
-    expect(strcmp(dt_label_text(DT_MESSAGE_UNCLOSED_NODE), "") != 0 && strcmp(dt_label_text(1), "") == 0, "dt_label_text");
+    expect(strcmp(dt_label_text(DT_MESSAGE_UNCLOSED_NODE), "") != 0, "dt_label_text");
+    expect(strcmp(dt_label_text(DT_MESSAGE_EXPECTED), "") == 0, "dt_label_text");
 }
 
 int main(void)

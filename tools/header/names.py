@@ -32,8 +32,8 @@ TOP = """/*
  * Written by tools/make-names from docs/src, docs/01-scope.md and crates/definitions: change those, not this file.
  * tools/check-header compares.
  *
- * Names are those of docs/src where it has one (`Semicolon`), else those of the definitions (`unclosed-node`). Texts are
- * UTF-8. No function returns NULL: for a number that has no name or text it is "?".
+ * Names are those of docs/src where it has one (`Semicolon`), else those of the definitions (`unclosed-node`). Texts
+ * are UTF-8. No function returns NULL: for a number that has no name or text it is "?".
  */
 #ifndef DT_NAMES_H
 #define DT_NAMES_H
@@ -121,7 +121,8 @@ def causes(repo):
 
 def function(name, parameter, comment, cases, otherwise='"?"'):
     """A C function that gives a text for each constant."""
-    lines = [f"\n/* {comment} */", f"static inline const char *{name}(uint32_t {parameter})", "{", f"    switch ({parameter}) {{"]
+    head = f"static inline const char *{name}(uint32_t {parameter})"
+    lines = [f"\n/* {comment} */", head, "{", f"    switch ({parameter}) {{"]
     lines += [f'    case {constant}: return "{escaped(text)}";' for constant, text in cases]
     return "\n".join([*lines, f"    default: return {otherwise};", "    }", "}", ""])
 
