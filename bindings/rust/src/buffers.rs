@@ -108,6 +108,26 @@ mod tests {
         }
     }
 
+    /// `#define DT_EVENTS_FOR(n) (DT_ROW_EVENT * (13 * (size_t)(n) + 1))`: 13 and 1.
+    fn bound(name: &str) -> Vec<usize> {
+        let text = std::fs::read_to_string(concat!(env!("CARGO_MANIFEST_DIR"), "/../../include/dt_parser.h")).unwrap();
+        let line = text.lines().find(|line| line.contains(&format!("DT_{name}_FOR(n)"))).unwrap();
+        line.split(|c: char| !c.is_alphanumeric() && c != '_').filter_map(|word| word.parse().ok()).collect()
+    }
+
+    #[test]
+    fn the_bounds_are_those_of_the_c_header() {
+        for n in [0, 1, 1000] {
+            let most = Room::most(&blanks(n));
+            let rooms =
+                [("EVENTS", most.events), ("TREES", most.trees), ("REPORTS", most.reports), ("POOL", most.pool)];
+            for (name, room) in rooms {
+                let bound = bound(name);
+                assert_eq!(room, bound[0] * n + bound[1], "{name}");
+            }
+        }
+    }
+
     #[test]
     fn more_room_is_no_help_against_bad_input() {
         let room = Room { events: 0, trees: 0, errors: 0, reports: 0, pool: 0 };
