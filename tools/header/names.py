@@ -23,6 +23,7 @@ HINTS = {
     "property-not-allowed": (GRAMMAR, "eat_node_or_prop", 0),
     "missing-left-side": (EXPR, "lhs", 0),
 }
+# The two codes of Errors.antt that the Rust has no text for.
 EXPECTED = "msg-expected"
 NO_HINT = "no-hint"
 
@@ -102,6 +103,13 @@ def all_said(repo, method, places):
     return {name: said(repo, method, place) for name, place in places.items()}
 
 
+def chosen(codes, names):
+    missing = [name for name in names if name not in codes]
+    if missing:
+        raise SourceFault(f"{SPECS}Errors.antt: no {', '.join(missing)}")
+    return {name: codes[name] for name in names}
+
+
 def first_word(repo):
     """What a message of expectations begins with."""
     found = re.search(r'let mut message = "(\w+) "', repo.text(ERRORS))
@@ -176,8 +184,8 @@ class Names:
         codes = self.repo.spec(SPECS + "Errors.antt")
         texts = all_said(self.repo, "msg_custom", MESSAGES)
         texts["expected"] = first_word(self.repo)
-        messages = {"expected": codes[EXPECTED], **{name: codes[name] for name in MESSAGES}}
-        hints = {"none": codes[NO_HINT], **{name: codes[name] for name in HINTS}}
+        messages = {"expected": chosen(codes, [EXPECTED])[EXPECTED], **chosen(codes, MESSAGES)}
+        hints = {"none": chosen(codes, [NO_HINT])[NO_HINT], **chosen(codes, HINTS)}
         label = said(self.repo, "add_span_label", (GRAMMAR, "dt_node_body", 0))
         yield function("dt_message_name", "message", "A report's message, of enum dt_message.",
                        self.cases("DT_MESSAGE_", messages))

@@ -27,6 +27,20 @@ fn parses() -> Vec<(OwnedParse, Vec<Vec<u32>>)> {
 }
 
 #[test]
+fn every_source_of_the_project_is_among_the_cases() {
+    let texts: Vec<Vec<u8>> = answers::all().into_iter().map(|case| case.text).collect();
+    for folder in ["examples", "oracle/snippets", "fuzz/seeds"] {
+        for file in std::fs::read_dir(format!("{}/../../{folder}", env!("CARGO_MANIFEST_DIR"))).unwrap() {
+            let path = file.unwrap().path();
+            if path.extension().is_some_and(|extension| extension == "dts") {
+                let text = std::fs::read(&path).unwrap();
+                assert!(texts.contains(&text), "{} is not there: run tests/oracle/make.sh", path.display());
+            }
+        }
+    }
+}
+
+#[test]
 fn every_item_has_the_places_that_the_rows_give() {
     let parses = parses();
     assert!(parses.len() > 100);
