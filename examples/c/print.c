@@ -66,7 +66,7 @@ int print_tree(const struct input *in, const struct parsed *p)
     return 1;
 }
 
-/* The bytes before a node's brace, without the blanks at their end. */
+/* Where the bytes before a node's brace end, without the blanks before it. The node starts at byte `at`. */
 static size_t head_end(const struct input *in, const struct parsed *p, size_t node, size_t at)
 {
     size_t child = node + 1, start = at;

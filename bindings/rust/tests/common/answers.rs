@@ -14,11 +14,15 @@ pub struct Case {
 
 /// All cases of the file, or of the one that `DT_ORACLE_ANSWERS` names.
 pub fn all() -> Vec<Case> {
-    let file = std::env::var("DT_ORACLE_ANSWERS")
-        .unwrap_or_else(|_| concat!(env!("CARGO_MANIFEST_DIR"), "/tests/oracle/answers.txt").to_string());
-    let cases = read(&std::fs::read_to_string(file).unwrap());
+    let file = std::env::var("DT_ORACLE_ANSWERS");
+    let cases = file.map_or_else(|_| stored(), |file| read(&std::fs::read_to_string(file).unwrap()));
     assert!(!cases.is_empty());
     cases
+}
+
+/// All cases of the file.
+pub fn stored() -> Vec<Case> {
+    read(include_str!("../oracle/answers.txt"))
 }
 
 /// Each case is `CASE ..`, its own line after two blanks, the answer's lines and `END`.
