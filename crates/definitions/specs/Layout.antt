@@ -85,6 +85,14 @@ NO-REPORT-ROOM = 7
 abbrev pub NO-TREE-ROOM : ℕ
 NO-TREE-ROOM = 8
 
+-- ---------------------------------------------------------------- how many numbers 32 bits hold, and 64
+
+abbrev pub TWO-TO-32 : ℕ
+TWO-TO-32 = 4294967296
+
+abbrev pub TWO-TO-64 : ℕ
+TWO-TO-64 = 18446744073709551616
+
 -- ---------------------------------------------------------------- the limits of a call
 
 -- cause 2: the most bytes of input, and the most token numbers

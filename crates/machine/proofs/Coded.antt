@@ -10,6 +10,7 @@ use lib.ListN.{length, length-append}
 use Rattle.definitions.specs.Skeleton.{Label, no-label, label, Report, Skeleton, done, token, name, node, ignored, report, over, _⧺_}
 use Rattle.definitions.specs.Event.{forward, events}
 use Rattle.definitions.specs.Report.{label-numbers, report-rows, pool}
+use Rattle.laws.proofs.Skeleton.{label-append}
 use Rattle.machine.specs.Machine.{low}
 use Rattle.machine.specs.Encode.{start-tag, encode}
 
@@ -88,10 +89,6 @@ low-rows n b first [] = []
 low-rows n b first (r ∷ l) =
     r .message ∷ (b - r .range .from) ∷ (b - r .range .to) ∷ (n - r .mark) ∷ low first ∷ low (length (r .pool)) ∷ r .hint
     ∷ label-numbers b (r .labelled) (low-rows n b (first + length (r .pool)) l)
-
-label-append : (b : ℕ) (x : Label) (l m : List ℕ) → label-numbers b x (l ++ m) ≡ label-numbers b x l ++ m
-label-append b no-label l m = refl
-label-append b (label s) l m = refl
 
 pub low-rows-append : (n b first : ℕ) (l m : List Report) → low-rows n b first (l ++ m) ≡ low-rows n b first l ++ low-rows n b (first + length (pool l)) m
 unfolding low-rows pool
