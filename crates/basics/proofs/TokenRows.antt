@@ -5,7 +5,7 @@ use mathlib.Core.Path.{_≡_, refl, sym, ap, _∙_}
 use mathlib.Core.List.{List, [], _∷_}
 use lib.ListN.{length, getD, drop, length-drop}
 use lib.Seq.{drop-cons, drop-nil}
-use Rattle.definitions.specs.Layout.{TOKEN-ROW}
+use Rattle.definitions.specs.Layout.{TOKEN-ROW, TOKEN-LENGTH}
 use Rattle.definitions.specs.Token.{Token, tokens-of}
 
 -- as many tokens as whole rows
@@ -17,16 +17,16 @@ tokens-length (k ∷ n ∷ l) = ap suc (tokens-length l) ∙ omega arith
 
 -- row i, and the rows after it
 pub row-cons : (tokens : List ℕ) (i : ℕ) → i < length tokens / TOKEN-ROW
-    → drop (i * TOKEN-ROW) tokens ≡ getD tokens (i * TOKEN-ROW) 0 ∷ getD tokens (i * TOKEN-ROW + 1) 0 ∷ drop ((i + 1) * TOKEN-ROW) tokens
+    → drop (i * TOKEN-ROW) tokens ≡ getD tokens (i * TOKEN-ROW) 0 ∷ getD tokens (i * TOKEN-ROW + TOKEN-LENGTH) 0 ∷ drop ((i + 1) * TOKEN-ROW) tokens
 row-cons tk i h =
     let a : i * TOKEN-ROW < length tk = omega (arith, h) in
     let b : suc (i * TOKEN-ROW) < length tk = omega (arith, h) in
-    let e : suc (i * TOKEN-ROW) ≡ i * TOKEN-ROW + 1 = omega arith in
+    let e : suc (i * TOKEN-ROW) ≡ i * TOKEN-ROW + TOKEN-LENGTH = omega arith in
     let f : suc (suc (i * TOKEN-ROW)) ≡ (i + 1) * TOKEN-ROW = omega arith in
     drop-cons tk (i * TOKEN-ROW) 0 a
     ∙ ap (λ (r : List ℕ). getD tk (i * TOKEN-ROW) 0 ∷ r) (drop-cons tk (suc (i * TOKEN-ROW)) 0 b)
     ∙ ap (λ (j : ℕ). getD tk (i * TOKEN-ROW) 0 ∷ getD tk j 0 ∷ drop (suc (suc (i * TOKEN-ROW))) tk) e
-    ∙ ap (λ (j : ℕ). getD tk (i * TOKEN-ROW) 0 ∷ getD tk (i * TOKEN-ROW + 1) 0 ∷ drop j tk) f
+    ∙ ap (λ (j : ℕ). getD tk (i * TOKEN-ROW) 0 ∷ getD tk (i * TOKEN-ROW + TOKEN-LENGTH) 0 ∷ drop j tk) f
 
 -- the tokens from row i on are those of the numbers from there on
 pub tokens-drop : (i : ℕ) (tokens : List ℕ) → tokens-of (drop (i * TOKEN-ROW) tokens) ≡ drop i (tokens-of tokens)
@@ -42,7 +42,7 @@ tokens-drop (suc i) (k ∷ n ∷ l) =
 
 -- row i as a token
 abbrev pub token-at : List ℕ → ℕ → Token
-token-at tokens i = record { kind = getD tokens (i * TOKEN-ROW) 0; len = getD tokens (i * TOKEN-ROW + 1) 0 }
+token-at tokens i = record { kind = getD tokens (i * TOKEN-ROW) 0; len = getD tokens (i * TOKEN-ROW + TOKEN-LENGTH) 0 }
 
 pub tokens-cons : (tokens : List ℕ) (i : ℕ) → i < length tokens / TOKEN-ROW → drop i (tokens-of tokens) ≡ token-at tokens i ∷ drop (i + 1) (tokens-of tokens)
 unfolding tokens-of
