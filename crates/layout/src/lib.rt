@@ -1,5 +1,6 @@
 // The numbers of the layout, each once: token and node kinds, event tags, row sizes, messages, hints, expectations,
-// refusals and limits. In the definitions they stand in specs/Layout, TokenKind, LexError, NodeKind and Errors.
+// refusals and limits. In the definitions they stand in specs/Layout, TokenKind, LexError, NodeKind and Errors. Beside
+// them: what is trivia, and sums of 32 bits.
 pub mod event_tag;
 pub mod expected;
 pub mod hint;
@@ -8,7 +9,9 @@ pub mod message;
 pub mod node_kind;
 pub mod refusal;
 pub mod row;
+pub mod row_kind;
 pub mod token_kind;
+pub mod word;
 
 // A place in the input, in bytes. It never stands for a token index.
 pub struct ByteOffset(pub u32);

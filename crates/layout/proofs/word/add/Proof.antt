@@ -1,13 +1,11 @@
 -- `add`: a sum that wraps.
-use Rattle.sink_rows.specs.Rows.{low}
-use Rattle.sink_rows.proofs.num.add.Statement.{statement}
-use Rattle.sink_rows.proofs.num.add.Tie as tie
+use Rattle.layout.proofs.word.add.Statement.{statement}
+use Rattle.layout.proofs.word.add.Tie as tie
 
 wrapping-add-u32-requires : tie.Need-wrapping-add-u32-requires
 wrapping-add-u32-requires c κs = tt
 
 returns : tie.Need-returns
-unfolding low
 returns c = rw (← (c .wrapping-add-u32 .ensures))
 
 pub add-spec : {M : Type 1} → statement M

@@ -1,11 +1,15 @@
 // Numbers of 32 bits. Sums wrap, so that no numbers in the lent buffers are unsafe; none wraps on what the parser writes.
 ghost use mathlib.Core.Path.{_≡_};
-ghost use Prim.Native.Nat.{ℕ, _+_, _-_, _<_};
-ghost use Rattle.sink_rows.specs.Rows.{low};
+ghost use Prim.Native.Nat.{_+_, _-_, _<_};
+ghost use Rattle.definitions.specs.Layout.{TWO-TO-32};
+ghost use Rattle.basics.specs.Word.{low};
+
+// How many there are.
+const TWO_TO_32: usize = 4294967296;
 
 pub fn wide(x: u32) -> usize
     ensures { λ r. ⌜ r ≡ x ⌝ }
-    ensures { λ r. ⌜ r < 4294967296 ⌝ }
+    ensures { λ r. ⌜ r < TWO-TO-32 ⌝ }
 {
     x as usize
 }
@@ -13,7 +17,7 @@ pub fn wide(x: u32) -> usize
 pub fn low32(x: usize) -> u32
     ensures { λ r. ⌜ r ≡ low x ⌝ }
 {
-    (x % 4294967296) as u32
+    (x % TWO_TO_32) as u32
 }
 
 pub fn add(a: u32, b: u32) -> u32

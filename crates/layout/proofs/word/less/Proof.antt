@@ -1,7 +1,7 @@
 -- `less`: a difference that stops at 0.
-use Rattle.sink_rows.proofs.Kit.{flags}
-use Rattle.sink_rows.proofs.num.less.Statement.{statement}
-use Rattle.sink_rows.proofs.num.less.Tie as tie
+use Rattle.basics.proofs.Flags.{flags}
+use Rattle.layout.proofs.word.less.Statement.{statement}
+use Rattle.layout.proofs.word.less.Tie as tie
 
 sub-result : tie.Need-sub-result
 sub-result c = omega flags

@@ -1,6 +1,6 @@
 -- `is_trivia`: the three kinds, one after the other.
-use Rattle.token_rows.proofs.token.is_trivia.Statement.{statement}
-use Rattle.token_rows.proofs.token.is_trivia.Tie as tie
+use Rattle.layout.proofs.row_kind.is_trivia.Statement.{statement}
+use Rattle.layout.proofs.row_kind.is_trivia.Tie as tie
 
 returns : tie.Need-returns
 returns c = rw (c .if1 .taken)
