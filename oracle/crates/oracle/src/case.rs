@@ -20,13 +20,6 @@ pub struct Line {
     pub case: Case,
 }
 
-/// Which of the Rust's lines are written beside errors and reports.
-pub struct Opts {
-    pub toks: bool,
-    pub tree: bool,
-    pub pretty: bool,
-}
-
 pub fn esc(b: &[u8]) -> String {
     let mut o = String::new();
     for &c in b {
