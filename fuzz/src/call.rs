@@ -1,8 +1,6 @@
 //! One call: its input as a line of text and back.
-use crate::case::{esc, unesc};
-
-/// Lengths of the lent buffers in numbers: events, tree, lexical errors, reports, pool.
-pub type Lengths = [usize; 5];
+use dt_parser_ffi::Lengths;
+use oracle::case::{esc, unesc};
 
 #[derive(Clone, Default, PartialEq)]
 pub struct Call {

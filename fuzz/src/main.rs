@@ -1,9 +1,7 @@
 //! The static library against the Rust, in one process. ../docs/FUZZING.md says what is compared and how it is run.
 mod buffers;
 mod call;
-mod checks;
 mod exact;
-mod ffi;
 mod judge;
 mod make;
 mod rng;
@@ -12,34 +10,7 @@ mod seen;
 mod show;
 mod shrink;
 mod tally;
-
-#[allow(dead_code)]
-#[path = "../../oracle/crates/oracle/src/case.rs"]
-mod case;
-#[allow(dead_code, unused_imports)]
-#[path = "../../oracle/crates/oracle/src/generate/mod.rs"]
-mod generate;
-
-/// The unchanged Rust.
-#[allow(dead_code)]
-mod orig {
-    use dt_tools_parser as pc;
-    include!("../../oracle/crates/oracle/src/show.rs");
-    include!("rows.rs");
-}
-
-/// The patched copy.
-#[allow(dead_code)]
-mod model {
-    use parser_doc01 as pc;
-    include!("../../oracle/crates/oracle/src/show.rs");
-    include!("../../oracle/crates/oracle/src/doc01.rs");
-    include!("rows.rs");
-    pub mod run;
-}
-
-/// What the oracle's generator writes to; not used here.
-type Out<'a> = std::io::BufWriter<std::io::StdoutLock<'a>>;
+mod unchanged;
 
 const USAGE: &str = "fuzz run [--seed N] [--cases N] [--first N] [--unchanged N]
     compares; --unchanged N: in one of N cases with the unchanged Rust too (default 1, 0: never)
