@@ -3,16 +3,14 @@ use crate::buffers::{Buffers, Held};
 use crate::call::Call;
 use crate::unchanged::Unchanged;
 use dt_parser_ffi::{self as ffi, Answer, Lengths};
-use oracle::case::Rows;
 use oracle::checks::refusal;
 use oracle::doc01::Run;
+use oracle::token::ascii;
 
 #[derive(Default)]
 pub struct Judge {
     pub run: Run,
     pub buffers: Buffers,
-    rows: Rows,
-    text: String,
     tokens: Vec<u32>,
     bytes: Vec<u8>,
 }
@@ -52,12 +50,8 @@ impl Judge {
         if let Some((number, place)) = refusal(call.entry, &call.bytes, &call.tokens) {
             return Ok((Input::Bad(number, place), None));
         }
-        self.rows.clear();
-        self.rows.extend(call.tokens.chunks_exact(2).map(|x| (x[0], x[1] as usize)));
-        // the Rust takes text; a byte over 127 may be cut by a row, and its value is never looked at
-        self.text.clear();
-        self.text.extend(call.bytes.iter().map(|&b| if b < 128 { b as char } else { '?' }));
-        let (entry, rows, text) = (call.entry, &self.rows, &self.text);
+        // the Rust takes text, and a row may cut a character
+        let (entry, rows, text) = (call.entry, &call.rows(), &ascii(&call.bytes));
         let parsed = self.run.of(entry, rows, text, false).map_err(Wrong::Panic)?;
         let unchanged = also.then(|| Unchanged::of(&self.run, &parsed, entry, rows, text));
         if unchanged == Some(Unchanged::Differs) { Err(Wrong::Oracle) } else { Ok((Input::Parsed, unchanged)) }

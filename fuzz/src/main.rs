@@ -12,6 +12,8 @@ mod shrink;
 mod tally;
 mod unchanged;
 
+use oracle::parsers::on_large_stack;
+
 const USAGE: &str = "fuzz run [--seed N] [--cases N] [--first N] [--unchanged N]
     compares; --unchanged N: in one of N cases with the unchanged Rust too (default 1, 0: never)
 fuzz repeat 'LINE'
@@ -45,18 +47,8 @@ fn command(args: &[String]) -> bool {
     }
 }
 
-/// The Rust is recursive, so it runs on a large stack. Its panics are answers and stay quiet.
 fn main() {
     let args: Vec<String> = std::env::args().skip(1).collect();
-    let worker = std::thread::Builder::new().stack_size(1 << 30).spawn(move || {
-        let said = std::panic::take_hook();
-        std::panic::set_hook(Box::new(move |p| {
-            if !p.location().is_some_and(|l| l.file().contains("/parser")) {
-                said(p)
-            }
-        }));
-        command(&args)
-    });
-    let good = worker.expect("a thread").join().unwrap_or(false);
+    let good = on_large_stack(move || command(&args));
     std::process::exit(if good { 0 } else { 1 })
 }

@@ -1,5 +1,5 @@
 //! Random calls. `Maker::call` draws the input; the buffers' lengths are chosen when it is known what the input needs.
-use crate::call::Call;
+use crate::call::{Call, flat};
 use crate::rng::Rng;
 use corpus::{Corpus, Tok};
 use oracle::case::Case;
@@ -110,8 +110,7 @@ impl Maker {
 
 fn take(case: &Case, call: &mut Call) {
     let (rows, text) = token::rows(case);
-    call.tokens.clear();
-    call.tokens.extend(rows.iter().flat_map(|&(k, n)| [k, n as u32]));
+    call.tokens = flat(&rows);
     call.bytes = text.into_bytes()
 }
 

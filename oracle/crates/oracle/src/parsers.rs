@@ -1,7 +1,21 @@
 //! The two parsers over ready tokens: the unchanged Rust and its patched copy.
 use crate::case::Rows;
 use crate::token;
-use std::panic::UnwindSafe;
+use std::panic::{UnwindSafe, set_hook, take_hook};
+
+/// Runs a program's work in a thread with a large stack: the Rust parses and frees its tree by recursion. Its own panics are
+/// answers and stay quiet; any other is said and ends the program with status 2.
+pub fn on_large_stack<T: Send + 'static>(work: impl FnOnce() -> T + Send + 'static) -> T {
+    let said = take_hook();
+    set_hook(Box::new(move |p| {
+        let of_the_rust = |file: &str| file.contains("crates/parser") || file.contains("shims/");
+        if !p.location().is_some_and(|l| of_the_rust(l.file())) {
+            said(p)
+        }
+    }));
+    let worker = std::thread::Builder::new().stack_size(1 << 30).spawn(work);
+    worker.expect("a thread").join().unwrap_or_else(|_| std::process::exit(2))
+}
 
 /// Runs a parser over these tokens; a panic is its text.
 fn over<T>(toks: &Rows, parse: impl FnOnce() -> T + UnwindSafe) -> Result<T, String> {

@@ -2,6 +2,7 @@
 //! two. ../../../../../README.md has the commands, the form of a case and the lines that come out.
 use oracle::case::{Case, Line, case_line, esc, parse_caps, parse_line};
 use oracle::lines::{self, Opts};
+use oracle::parsers::on_large_stack;
 use oracle::{generate, token};
 use std::io::{BufRead, Read, StdoutLock, Write};
 
@@ -133,20 +134,7 @@ fn run(a: &Args) {
     }
 }
 
-/// The parser is recursive, so it runs on a large stack. Its own panics are answers and stay quiet.
 fn main() {
     let args = Args(std::env::args().skip(1).collect());
-    let stack = std::thread::Builder::new().stack_size(1 << 30);
-    let worker = stack.spawn(move || {
-        let said = std::panic::take_hook();
-        std::panic::set_hook(Box::new(move |p| {
-            if p.location().is_some_and(|l| l.file().contains("crates/oracle/")) {
-                said(p)
-            }
-        }));
-        run(&args)
-    });
-    if worker.unwrap().join().is_err() {
-        std::process::exit(2)
-    }
+    on_large_stack(move || run(&args))
 }
