@@ -7,6 +7,7 @@ use bench::input::Input;
 use bench::port::Port;
 use bench::rust;
 use dt_parser_ffi::bound;
+use oracle::parsers::on_large_stack;
 use std::hint::black_box;
 
 /// Columns: input, tokens, bytes, tree rows, lexical errors, reports, expectations, bytes of the lent buffers, bytes by
@@ -118,10 +119,6 @@ fn run() {
     }
 }
 
-/// The Rust frees its tree by recursion, so it gets a large stack.
 fn main() {
-    let worker = std::thread::Builder::new().stack_size(1 << 30).spawn(run);
-    if worker.expect("a thread").join().is_err() {
-        std::process::exit(1)
-    }
+    on_large_stack(run)
 }
