@@ -25,7 +25,7 @@ impl Call {
     /// numbers `.. nums N,.. BYTES`.
     pub fn line(&self) -> String {
         let caps: Vec<_> = self.lengths.iter().map(usize::to_string).collect();
-        let (word, rows) = if self.tokens.len() % 2 == 0 {
+        let (word, rows) = if self.tokens.len().is_multiple_of(2) {
             ("toks", rows_words(&self.rows()))
         } else {
             ("nums", self.tokens.iter().map(u32::to_string).collect::<Vec<_>>().join(","))

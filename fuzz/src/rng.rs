@@ -8,7 +8,7 @@ impl Rng {
         Rng(SplitMix64(mix(mix(seed.wrapping_add(STEP)) ^ case)))
     }
     pub fn next(&mut self) -> u64 {
-        self.0.next()
+        self.0.next_u64()
     }
     /// A number below `k`.
     pub fn n(&mut self, k: usize) -> usize {

@@ -19,7 +19,7 @@ impl Rng {
     }
     /// A number below `k`.
     fn n(&mut self, k: usize) -> usize {
-        (self.0.next() % k.max(1) as u64) as usize
+        (self.0.next_u64() % k.max(1) as u64) as usize
     }
     /// True in `pct` of a hundred draws.
     fn p(&mut self, pct: usize) -> bool {
