@@ -1,19 +1,16 @@
--- What the proofs of the functions share: how the steps of the machine follow one another.
+-- The turns of the loops over trivia and over events.
 use native.Mathlib.Omega.{arith}
 use Prim.Native.Nat.{ℕ, zero, suc, _+_, _-_, _/_, _≤_, _<_}
 use mathlib.Core.List.{List}
 use mathlib.Core.Path.{_≡_, refl, sym, _∙_, ap}
-use mathlib.Core.Bool.{Bool, true, false}
+use mathlib.Core.Bool.{Bool, true, false, false≢true}
 use lib.ListN.{length}
 use lib.Dec.{ltb}
-use borrow.Author.Tests.{ltb-true, ltb-false, leb-true, leb-false, eqb-true}
+use borrow.Author.Tests.{ltb-true}
+use Rattle.basics.proofs.Flags.{flags}
+use Rattle.definitions.specs.Layout.{TOKEN-ROW}
 use Rattle.sink_tokens.specs.Tokens.{trivia-here}
 use Rattle.sink.specs.Machine.{On, on, sink-of, moved, leaf-on, token-on, triviaN, trivia-on, event-on, eventsN}
-
-pub ruleset flags = (arith, ltb-true, ltb-false, leb-true, leb-false, eqb-true)
-
-pub no : false ≡ true → _≡_ {A = ℕ} 0 1
-no e = cc
 
 -- ---------------------------------------------------------------- trivia
 
@@ -24,31 +21,31 @@ leaf-cursor k w n (on s t) = refl
 moved-cursor : (n : ℕ) (x : On) → sink-of (moved n x) .cursor ≡ n
 moved-cursor n (on s t) = refl
 
-token-cursor : (tk : List ℕ) (x : On) → ltb (sink-of x .cursor) (length tk / 2) ≡ true → sink-of (token-on tk x) .cursor ≡ sink-of x .cursor + 1
+token-cursor : (tk : List ℕ) (x : On) → ltb (sink-of x .cursor) (length tk / TOKEN-ROW) ≡ true → sink-of (token-on tk x) .cursor ≡ sink-of x .cursor + 1
 unfolding token-on
 token-cursor tk x h = rw h (leaf-cursor _ _ _ (moved (sink-of x .cursor + 1) x) ∙ moved-cursor (sink-of x .cursor + 1) x)
 
-trivia-inside : (tk : List ℕ) (i : ℕ) → trivia-here tk i ≡ true → ltb i (length tk / 2) ≡ true
+trivia-inside : (tk : List ℕ) (i : ℕ) → trivia-here tk i ≡ true → ltb i (length tk / TOKEN-ROW) ≡ true
 unfolding trivia-here
-trivia-inside tk i h = go (ltb i (length tk / 2)) refl
+trivia-inside tk i h = go (ltb i (length tk / TOKEN-ROW)) refl
   where
-    go : (b : Bool) → ltb i (length tk / 2) ≡ b → ltb i (length tk / 2) ≡ true
+    go : (b : Bool) → ltb i (length tk / TOKEN-ROW) ≡ b → ltb i (length tk / TOKEN-ROW) ≡ true
     go true e = e
-    go false e = absurd (let z : _≡_ {A = ℕ} 0 1 = no (rw e at h) in omega arith)
+    go false e = absurd (false≢true (rw e at h))
 
-pub trivia-lt : (tk : List ℕ) (i : ℕ) → trivia-here tk i ≡ true → i < length tk / 2
+pub trivia-lt : (tk : List ℕ) (i : ℕ) → trivia-here tk i ≡ true → i < length tk / TOKEN-ROW
 trivia-lt tk i h = ltb-true _ _ (trivia-inside tk i h)
 
 pub trivia-more : (tk : List ℕ) (x : On) → trivia-here tk (sink-of x .cursor) ≡ true → trivia-on tk (token-on tk x) ≡ trivia-on tk x
 unfolding trivia-on triviaN
 trivia-more tk x h =
-    let i : ltb (sink-of x .cursor) (length tk / 2) ≡ true = trivia-inside tk (sink-of x .cursor) h in
-    let l : length tk / 2 - sink-of x .cursor ≡ suc (length tk / 2 - (sink-of x .cursor + 1)) = omega flags in
+    let i : ltb (sink-of x .cursor) (length tk / TOKEN-ROW) ≡ true = trivia-inside tk (sink-of x .cursor) h in
+    let l : length tk / TOKEN-ROW - sink-of x .cursor ≡ suc (length tk / TOKEN-ROW - (sink-of x .cursor + 1)) = omega flags in
     rw (token-cursor tk x i, l, h)
 
 pub trivia-done : (tk : List ℕ) (x : On) → trivia-here tk (sink-of x .cursor) ≡ false → trivia-on tk x ≡ x
 unfolding trivia-on triviaN
-trivia-done tk x h = go (length tk / 2 - sink-of x .cursor)
+trivia-done tk x h = go (length tk / TOKEN-ROW - sink-of x .cursor)
   where
     go : (n : ℕ) → triviaN n tk x ≡ x
     go zero = refl
