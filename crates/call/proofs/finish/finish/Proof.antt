@@ -2,8 +2,8 @@
 use native.Mathlib.Omega.{arith}
 use mathlib.Core.Path.{_∙_}
 use Rattle.call.proofs.Ways.{all-cleared}
-use Rattle.call.proofs.ends.finish.Statement.{statement}
-use Rattle.call.proofs.ends.finish.Tie as tie
+use Rattle.call.proofs.finish.finish.Statement.{statement}
+use Rattle.call.proofs.finish.finish.Tie as tie
 
 answered-requires : tie.Need-answered-requires
 answered-requires c κs = c .before .before .before .before .before .before .before .before .before .pre
@@ -51,7 +51,7 @@ returns : tie.Need-returns
 returns c =
     let a = c .before .before .before .before .before .before .before .before .before .before .before .before .before .before .before .before .before .before .before .before .before .before .before .before .before .before .before .before .before .before .before .before .before .before .before .before .before .args in
     let r = c .before .before .before .before .before .before .before .before .before .before .before .before .before .before .before .before .before .before .before .before .before .before .before .before .before .before .before .answered in
-    all-cleared (a .number) (a .place) (a .kind) (a .n) (a .reported) (a .expected) (a .tokens .now) (a .events .now) (a .trees .now) (a .errors .now) (a .reports .now) (a .pool .now)
+    all-cleared (a .number) (a .place) (a .kind) (a .written) (a .reported) (a .expected) (a .tokens .now) (a .events .now) (a .trees .now) (a .errors .now) (a .reports .now) (a .pool .now)
     (r .result) (r .last .1 .1 .1 .1 .1 .1 .0) (r .last .1 .1 .1 .1 .1 .1 .1 .0) (r .kept .1 .1 .1 .1 .1 .1 .0) (r .kept .1 .1 .1 .1 .1 .1 .1 .0) (r .ensures)
     (c .before .before .before .before .before .before .before .before .before .before .before .before .before .before .before .before .before .before .before .before .before .clear .last .0) (c .before .before .before .before .before .before .before .before .before .before .before .before .before .before .before .before .clear2 .last .0) (c .before .before .before .before .before .before .before .before .before .before .before .clear3 .last .0) (c .before .before .before .before .before .before .clear4 .last .0) (c .before .before .clear5 .last .0)
     (c .before .before .before .before .before .before .before .before .before .before .before .before .before .before .before .before .before .before .before .before .before .clear .ensures) (c .before .before .before .before .before .before .before .before .before .before .before .before .before .before .before .before .clear2 .ensures) (c .before .before .before .before .before .before .before .before .before .before .before .clear3 .ensures) (c .before .before .before .before .before .before .clear4 .ensures) (c .before .before .clear5 .ensures)

@@ -1,12 +1,10 @@
 // Causes 2 to 4, before the parse.
 use crate::Answer;
-use crate::BAD_ROW;
-use crate::BAD_TEXT;
-use crate::TOO_LONG;
 use crate::accepted;
 use crate::refused;
 use input::causes;
 use input::causes::Checked;
+use layout::refusal;
 ghost use Rattle.call.specs.Checked.{Input};
 
 // Number 0 for an input that may be parsed.
@@ -15,9 +13,9 @@ pub fn check(bytes: &[u8], tokens: &[u32]) -> Answer
 {
     let checked = causes::check(bytes, tokens);
     match checked {
-        Checked::TooLong => refused(TOO_LONG, 0),
-        Checked::BadRow(i) => refused(BAD_ROW, i.0),
-        Checked::BadText(i) => refused(BAD_TEXT, i.0),
+        Checked::TooLong => refused(refusal::TOO_LONG, 0),
+        Checked::BadRow(i) => refused(refusal::BAD_ROW, i.0),
+        Checked::BadText(i) => refused(refusal::BAD_TEXT, i.0),
         Checked::Sound => accepted(0, 0, 0, 0),
     }
 }
