@@ -1,24 +1,18 @@
 // What a case's call answers and leaves, as text: a line with its name, number, place and four counts, and what each buffer holds
-// behind the counted rows (`lend::rest`); then the rows, a line for each buffer that has some: t trees, x lexical errors, r reports,
+// after the counted rows (`lend::tail`); then the rows, a line for each buffer that has some: t trees, x lexical errors, r reports,
 // e expectations.
-use crate::lend::rest;
-use crate::scan::least;
-use crate::show;
-
-// The numbers of an answer.
-pub struct Said {
-    pub number: u32,
-    pub place: usize,
-    pub trees: usize,
-    pub errors: usize,
-    pub reports: usize,
-    pub expectations: usize,
-}
+use call::Answer;
+use cases::lend::tail;
+use cases::scan::least;
+use cases::show;
+use layout::row::ERROR_ROW;
+use layout::row::REPORT_ROW;
+use layout::row::TREE_ROW;
 
 // More rows than any call gives.
 const MOST_ROWS: usize = 1000000;
 
-fn show_said(name: &[u8], a: Said) {
+fn show_answer(name: &[u8], a: Answer) {
     show::text(name);
     show::number(a.number as u64);
     show::number(a.place as u64);
@@ -28,12 +22,12 @@ fn show_said(name: &[u8], a: Said) {
     show::number(a.expectations as u64);
 }
 
-fn show_rest(buffer: &[u32], from: usize) {
-    show::number(rest(buffer, from));
+fn show_tail(buffer: &[u32], from: usize) {
+    show::number(tail(buffer, from));
 }
 
-// What is behind so many numbers of each buffer.
-fn show_rests(
+// What is after so many numbers of each buffer.
+fn show_tails(
     events: &[u32],
     trees: &[u32],
     tree: usize,
@@ -44,11 +38,11 @@ fn show_rests(
     pool: &[u32],
     codes: usize,
 ) {
-    show_rest(events, 0);
-    show_rest(trees, tree);
-    show_rest(errors, error);
-    show_rest(reports, report);
-    show_rest(pool, codes);
+    show_tail(events, 0);
+    show_tail(trees, tree);
+    show_tail(errors, error);
+    show_tail(reports, report);
+    show_tail(pool, codes);
     show::line_end();
 }
 
@@ -72,7 +66,7 @@ fn show_rows(
 // All of it, but of the tree no more numbers than `most`.
 pub fn show(
     name: &[u8],
-    a: Said,
+    a: Answer,
     most: usize,
     events: &[u32],
     trees: &[u32],
@@ -80,11 +74,11 @@ pub fn show(
     reports: &[u32],
     pool: &[u32],
 ) {
-    let t = a.trees % MOST_ROWS * 4;
-    let x = a.errors % MOST_ROWS * 3;
-    let r = a.reports % MOST_ROWS * 9;
+    let t = a.trees % MOST_ROWS * TREE_ROW;
+    let x = a.errors % MOST_ROWS * ERROR_ROW;
+    let r = a.reports % MOST_ROWS * REPORT_ROW;
     let e = a.expectations;
-    show_said(name, a);
-    show_rests(events, trees, t, errors, x, reports, r, pool, e);
+    show_answer(name, a);
+    show_tails(events, trees, t, errors, x, reports, r, pool, e);
     show_rows(trees, least(t, most), errors, x, reports, r, pool, e);
 }
