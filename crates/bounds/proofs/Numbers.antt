@@ -19,8 +19,8 @@ use Rattle.definitions.specs.Report.{Push, pushes, reports, report-rows, pool, 
 use Rattle.definitions.specs.Refusal.{Refusal, unknown-entry, no-tree-room, place-of, Verdict, accepted, refused, is-kind, check-input}
 use Rattle.definitions.specs.Call.{Buffers, zeros, written, refusal, cleared, Sheets, sheets, kept, finish, forward-mark, outcome, room-of, run-entry, parse, Asked, for, unknown, entry-of, checked, asked, call}
 use Rattle.basics.proofs.Tests.{cond-all}
-use Rattle.laws.proofs.Skeleton.{event-count, event-count-append, events-length, reports-append}
-use Rattle.laws.proofs.Clear.{Clear}
+use Rattle.laws.proofs.Skeleton.{event-count-append, events-length, reports-append}
+use Rattle.laws.specs.Pushes.{event-count, Clear}
 use Rattle.laws.proofs.Scan.{fits-clear}
 use Rattle.laws.proofs.Between.{entry-reads}
 use Rattle.laws.proofs.Decode.{rows-length}

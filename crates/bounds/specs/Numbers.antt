@@ -13,8 +13,7 @@ use Rattle.definitions.specs.Event.{Event, StartNode, AddToken, AddCombinedToke
 use Rattle.definitions.specs.Place.{Tree, nil, leaf, subtree, root, count, rows}
 use Rattle.definitions.specs.Report.{Push, pushes, reports, report-rows, pool}
 use Rattle.definitions.specs.Call.{Buffers, Answer, Result, run-entry, call}
-use Rattle.laws.proofs.Skeleton.{event-count}
-use Rattle.laws.proofs.Clear.{Clear}
+use Rattle.laws.specs.Pushes.{event-count, Clear}
 
 -- ---------------------------------------------------------------- for n tokens
 

@@ -1,8 +1,9 @@
 // grammar/expr.rs: expressions by binding power; and `dt_expr` of grammar.rs.
+use layout::refusal::TOO_DEEP;
 use layout::token_kind;
 use names::macro_invocation;
 use parser::Parser;
-use parser::Tested;
+use parser::ParserTested;
 use parser::errors;
 use parser::errors::Bump;
 use layout::expected;
@@ -25,7 +26,7 @@ ghost use Rattle.definitions.specs.Grammar.{lhs as lhs-prog, rhs as rhs-prog, i
 ghost use Rattle.machine.specs.Machine.{Machine, expect-code, peek};
 ghost use Rattle.machine.specs.Walk.{Walked, said, walk, walk-rule, walk-prog, unlabelled};
 ghost use Rattle.token_rows.specs.Tokens.{kind-of};
-ghost use Rattle.parser.specs.View.{left, view-of, tested-as, marker-of};
+ghost use Rattle.parser.specs.View.{left, view-of, parser-tested, marker-of};
 ghost use Rattle.binding_power.specs.Power.{levels, left-power, right-power, is-binary};
 ghost use Rattle.expr.specs.Parts.{at-prefix-op, prefix-expr, paren-expr, literal-expr, missing-lhs, no-lhs, ternary-rhs, step-as, links-from};
 
@@ -81,17 +82,17 @@ pub struct Step {
 }
 
 // `InfixOp::at`
-fn infix_op_at(p: Parser, t: &[u32]) -> InfixOp
-    ensures { λ r. ⌜ ((ev rep pool : List ℕ) → view-of (r .p) ev rep pool ≡ peek (tokens-of (now (t .entry))) (expect-code E.InfixOperator (view-of p ev rep pool))) ⌝ }
-    ensures { λ r. ⌜ r .left ≡ left-power levels (kind-of (drop (r .p .s .cursor .0) (tokens-of (now (t .entry))))) ⌝ }
-    ensures { λ r. ⌜ r .right ≡ right-power levels (kind-of (drop (r .p .s .cursor .0) (tokens-of (now (t .entry))))) ⌝ }
-    ensures { λ r. ⌜ r .binary ≡ is-binary (kind-of (drop (r .p .s .cursor .0) (tokens-of (now (t .entry))))) ⌝ }
-    ensures { λ r. ⌜ left (now (t .entry)) (r .p .s) ≤ left (now (t .entry)) (p .s) ⌝ }
-    ensures { λ r. ⌜ ((r .left ≡ 0 → ⊥) → 0 < left (now (t .entry)) (r .p .s)) ⌝ }
+fn infix_op_at(p: Parser, tokens: &[u32]) -> InfixOp
+    ensures { λ r. ⌜ ((events reports pool : List ℕ) → view-of (r .p) events reports pool ≡ peek (tokens-of (now (tokens .entry))) (expect-code E.InfixOperator (view-of p events reports pool))) ⌝ }
+    ensures { λ r. ⌜ r .left ≡ left-power levels (kind-of (drop (r .p .s .cursor .0) (tokens-of (now (tokens .entry))))) ⌝ }
+    ensures { λ r. ⌜ r .right ≡ right-power levels (kind-of (drop (r .p .s .cursor .0) (tokens-of (now (tokens .entry))))) ⌝ }
+    ensures { λ r. ⌜ r .binary ≡ is-binary (kind-of (drop (r .p .s .cursor .0) (tokens-of (now (tokens .entry))))) ⌝ }
+    ensures { λ r. ⌜ left (now (tokens .entry)) (r .p .s) ≤ left (now (tokens .entry)) (p .s) ⌝ }
+    ensures { λ r. ⌜ ((r .left ≡ 0 → ⊥) → 0 < left (now (tokens .entry)) (r .p .s)) ⌝ }
 {
     let pushed = p.add_expected(expected::INFIX_OPERATOR);
-    let here = pushed.peek(t);
-    let power = binding_power(kind_at(t, here.s.cursor.0));
+    let here = pushed.peek(tokens);
+    let power = binding_power(kind_at(tokens, here.s.cursor.0));
     InfixOp {
         p: here,
         left: power.left,
@@ -101,131 +102,131 @@ fn infix_op_at(p: Parser, t: &[u32]) -> InfixOp
 }
 
 // `PrefixOp::at`
-fn at_prefix_op(p: Parser, t: &[u32]) -> Tested
-    ensures { λ r. ⌜ ((ask : Rule → Machine → Walked) (b : Span) (ev rep pool : List ℕ) → tested-as r ev rep pool ≡ walk ask (tokens-of (now (t .entry))) b at-prefix-op (view-of p ev rep pool)) ⌝ }
-    ensures { λ r. ⌜ left (now (t .entry)) (r .p .s) ≤ left (now (t .entry)) (p .s) ⌝ }
-    ensures { λ r. ⌜ (r .yes ≡ true → 0 < left (now (t .entry)) (r .p .s)) ⌝ }
+fn at_prefix_op(p: Parser, tokens: &[u32]) -> ParserTested
+    ensures { λ r. ⌜ ((ask : Rule → Machine → Walked) (b : Span) (events reports pool : List ℕ) → parser-tested r events reports pool ≡ walk ask (tokens-of (now (tokens .entry))) b at-prefix-op (view-of p events reports pool)) ⌝ }
+    ensures { λ r. ⌜ left (now (tokens .entry)) (r .p .s) ≤ left (now (tokens .entry)) (p .s) ⌝ }
+    ensures { λ r. ⌜ (r .yes ≡ true → 0 < left (now (tokens .entry)) (r .p .s)) ⌝ }
 {
     let q = p.add_expected(expected::PREFIX_OPERATOR);
-    q.silent_at_set(t, &PREFIX_OPERATORS_SET)
+    q.silent_at_set(tokens, &PREFIX_OPERATORS_SET)
 }
 
 pub fn expr(
     p: Parser,
-    t: &[u32],
-    ev: &mut [u32],
-    rep: &mut [u32],
+    tokens: &[u32],
+    events: &mut [u32],
+    reports: &mut [u32],
     pool: &mut [u32],
     room: usize,
-) -> Tested
-    ensures { λ r. ⌜ tested-as r (now (ev .exit)) (now (rep .exit)) (now (pool .exit)) ≡ walk-rule room (tokens-of (now (t .entry))) (expr-binding-power 0) (view-of p (now (ev .entry)) (now (rep .entry)) (now (pool .entry))) ⌝ }
-    ensures { λ r. ⌜ left (now (t .entry)) (r .p .s) ≤ left (now (t .entry)) (p .s) ⌝ }
-    ensures { λ r. ⌜ (r .yes ≡ true → left (now (t .entry)) (r .p .s) ≤ left (now (t .entry)) (p .s) - 1) ⌝ }
+) -> ParserTested
+    ensures { λ r. ⌜ parser-tested r (now (events .exit)) (now (reports .exit)) (now (pool .exit)) ≡ walk-rule allowed (tokens-of (now (tokens .entry))) (expr-binding-power 0) (view-of p (now (events .entry)) (now (reports .entry)) (now (pool .entry))) ⌝ }
+    ensures { λ r. ⌜ left (now (tokens .entry)) (r .p .s) ≤ left (now (tokens .entry)) (p .s) ⌝ }
+    ensures { λ r. ⌜ (r .yes ≡ true → left (now (tokens .entry)) (r .p .s) ≤ left (now (tokens .entry)) (p .s) - 1) ⌝ }
 {
-    expr_binding_power(p, t, ev, rep, pool, room, 0)
+    expr_binding_power(p, tokens, events, reports, pool, allowed, 0)
 }
 
 // An expression in brackets.
 pub fn dt_expr(
     p: Parser,
-    t: &[u32],
-    ev: &mut [u32],
-    rep: &mut [u32],
+    tokens: &[u32],
+    events: &mut [u32],
+    reports: &mut [u32],
     pool: &mut [u32],
     room: usize,
 ) -> Parser
-    ensures { λ r. ⌜ said yes (view-of r (now (ev .exit)) (now (rep .exit)) (now (pool .exit))) ≡ walk-prog room (tokens-of (now (t .entry))) unlabelled dt-expr (view-of p (now (ev .entry)) (now (rep .entry)) (now (pool .entry))) ⌝ }
-    ensures { λ r. ⌜ left (now (t .entry)) (r .s) ≤ left (now (t .entry)) (p .s) - 1 ⌝ }
+    ensures { λ r. ⌜ said yes (view-of r (now (events .exit)) (now (reports .exit)) (now (pool .exit))) ≡ walk-prog allowed (tokens-of (now (tokens .entry))) unlabelled dt-expr (view-of p (now (events .entry)) (now (reports .entry)) (now (pool .entry))) ⌝ }
+    ensures { λ r. ⌜ left (now (tokens .entry)) (r .s) ≤ left (now (tokens .entry)) (p .s) - 1 ⌝ }
 {
     let m = Marker::new(p.s);
-    let started = p.start(ev);
-    let opened = started.bump(t, ev);
-    let inner = expr(opened, t, ev, rep, pool, room);
+    let started = p.start(events);
+    let opened = started.bump(tokens, events);
+    let inner = expr(opened, tokens, events, reports, pool, allowed);
     let end = inner
         .p
-        .expect(t, ev, rep, pool, Matcher::Kind(token_kind::RPAREN));
-    end.p.complete(ev, m, node_kind::DT_EXPR)
+        .expect(tokens, events, reports, pool, Matcher::Kind(token_kind::RPAREN));
+    end.p.complete(events, m, node_kind::DT_EXPR)
 }
 
 pub fn expr_binding_power(
     p: Parser,
-    t: &[u32],
-    ev: &mut [u32],
-    rep: &mut [u32],
+    tokens: &[u32],
+    events: &mut [u32],
+    reports: &mut [u32],
     pool: &mut [u32],
     room: usize,
     min_bp: u8,
-) -> Tested
-    ensures { λ r. ⌜ tested-as r (now (ev .exit)) (now (rep .exit)) (now (pool .exit)) ≡ walk-rule room (tokens-of (now (t .entry))) (expr-binding-power «min_bp») (view-of p (now (ev .entry)) (now (rep .entry)) (now (pool .entry))) ⌝ }
-    ensures { λ r. ⌜ left (now (t .entry)) (r .p .s) ≤ left (now (t .entry)) (p .s) ⌝ }
-    ensures { λ r. ⌜ (r .yes ≡ true → left (now (t .entry)) (r .p .s) ≤ left (now (t .entry)) (p .s) - 1) ⌝ }
+) -> ParserTested
+    ensures { λ r. ⌜ parser-tested r (now (events .exit)) (now (reports .exit)) (now (pool .exit)) ≡ walk-rule allowed (tokens-of (now (tokens .entry))) (expr-binding-power «min_bp») (view-of p (now (events .entry)) (now (reports .entry)) (now (pool .entry))) ⌝ }
+    ensures { λ r. ⌜ left (now (tokens .entry)) (r .p .s) ≤ left (now (tokens .entry)) (p .s) ⌝ }
+    ensures { λ r. ⌜ (r .yes ≡ true → left (now (tokens .entry)) (r .p .s) ≤ left (now (tokens .entry)) (p .s) - 1) ⌝ }
 {
-    let closed = room == 0;
+    let closed = allowed == 0;
     if closed {
-        let q = p.refuse(5);
-        return Tested { p: q, yes: false };
+        let q = p.refuse(TOO_DEEP);
+        return ParserTested { p: q, yes: false };
     }
     let m = Marker::new(p.s);
-    let started = p.start(ev);
-    let left = lhs(started, t, ev, rep, pool, room - 1);
+    let started = p.start(events);
+    let left = lhs(started, tokens, events, reports, pool, allowed - 1);
     if left.yes {
-        infix_chain(left.p, t, ev, rep, pool, room - 1, min_bp, m)
+        infix_chain(left.p, tokens, events, reports, pool, allowed - 1, min_bp, m)
     } else {
-        let q = left.p.ignore(ev);
-        Tested { p: q, yes: false }
+        let q = left.p.ignore(events);
+        ParserTested { p: q, yes: false }
     }
 }
 
 // Each turn's InfixExpr takes in all that stands since the first marker.
 fn infix_chain(
     p: Parser,
-    t: &[u32],
-    ev: &mut [u32],
-    rep: &mut [u32],
+    tokens: &[u32],
+    events: &mut [u32],
+    reports: &mut [u32],
     pool: &mut [u32],
     room: usize,
     min_bp: u8,
     first: Marker,
-) -> Tested
-    ensures { λ r. ⌜ tested-as r (now (ev .exit)) (now (rep .exit)) (now (pool .exit)) ≡ links-from room (tokens-of (now (t .entry))) (infix-turn «min_bp») (marker-of first) (view-of p (now (ev .entry)) (now (rep .entry)) (now (pool .entry))) ⌝ }
-    ensures { λ r. ⌜ left (now (t .entry)) (r .p .s) ≤ left (now (t .entry)) (p .s) ⌝ }
+) -> ParserTested
+    ensures { λ r. ⌜ parser-tested r (now (events .exit)) (now (reports .exit)) (now (pool .exit)) ≡ links-from allowed (tokens-of (now (tokens .entry))) (infix-turn «min_bp») (marker-of first) (view-of p (now (events .entry)) (now (reports .entry)) (now (pool .entry))) ⌝ }
+    ensures { λ r. ⌜ left (now (tokens .entry)) (r .p .s) ≤ left (now (tokens .entry)) (p .s) ⌝ }
 {
     let mut m = first;
     let mut q = p;
     loop {
-        let step = infix_step(q, t, ev, rep, pool, room, min_bp);
+        let step = infix_step(q, tokens, events, reports, pool, allowed, min_bp);
         if step.operator {
-            let done = step.p.complete(ev, m, node_kind::INFIX_EXPR);
+            let done = step.p.complete(events, m, node_kind::INFIX_EXPR);
             let next = Marker::linked(done.s);
-            let linked = done.precede(ev, m);
+            let linked = done.precede(events, m);
             if step.again {
                 q = linked;
                 m = next;
             } else {
-                let end = linked.ignore(ev);
-                return Tested { p: end, yes: true };
+                let end = linked.ignore(events);
+                return ParserTested { p: end, yes: true };
             }
         } else {
-            let end = step.p.ignore(ev);
-            return Tested { p: end, yes: true };
+            let end = step.p.ignore(events);
+            return ParserTested { p: end, yes: true };
         }
     }
 }
 
 fn infix_step(
     p: Parser,
-    t: &[u32],
-    ev: &mut [u32],
-    rep: &mut [u32],
+    tokens: &[u32],
+    events: &mut [u32],
+    reports: &mut [u32],
     pool: &mut [u32],
     room: usize,
     min_bp: u8,
 ) -> Step
-    ensures { λ r. ⌜ step-as r (now (ev .exit)) (now (rep .exit)) (now (pool .exit)) ≡ walk-prog room (tokens-of (now (t .entry))) unlabelled (infix-turn «min_bp») (view-of p (now (ev .entry)) (now (rep .entry)) (now (pool .entry))) ⌝ }
-    ensures { λ r. ⌜ left (now (t .entry)) (r .p .s) ≤ left (now (t .entry)) (p .s) ⌝ }
-    ensures { λ r. ⌜ (r .operator ≡ true → left (now (t .entry)) (r .p .s) < left (now (t .entry)) (p .s)) ⌝ }
+    ensures { λ r. ⌜ step-as r (now (events .exit)) (now (reports .exit)) (now (pool .exit)) ≡ walk-prog allowed (tokens-of (now (tokens .entry))) unlabelled (infix-turn «min_bp») (view-of p (now (events .entry)) (now (reports .entry)) (now (pool .entry))) ⌝ }
+    ensures { λ r. ⌜ left (now (tokens .entry)) (r .p .s) ≤ left (now (tokens .entry)) (p .s) ⌝ }
+    ensures { λ r. ⌜ (r .operator ≡ true → left (now (tokens .entry)) (r .p .s) < left (now (tokens .entry)) (p .s)) ⌝ }
 {
-    let op = infix_op_at(p, t);
+    let op = infix_op_at(p, tokens);
     let none = op.left == 0;
     if none {
         let q = op.p;
@@ -244,28 +245,28 @@ fn infix_step(
             again: false,
         };
     }
-    let taken = op.p.bump(t, ev);
+    let taken = op.p.bump(tokens, events);
     let ternary = op.left == 2;
     if ternary {
-        ternary_rhs(taken, t, ev, rep, pool, room)
+        ternary_rhs(taken, tokens, events, reports, pool, allowed)
     } else {
-        rhs(taken, t, ev, rep, pool, room, op.right)
+        rhs(taken, tokens, events, reports, pool, allowed, op.right)
     }
 }
 
 fn rhs(
     p: Parser,
-    t: &[u32],
-    ev: &mut [u32],
-    rep: &mut [u32],
+    tokens: &[u32],
+    events: &mut [u32],
+    reports: &mut [u32],
     pool: &mut [u32],
     room: usize,
     right_bp: u8,
 ) -> Step
-    ensures { λ r. ⌜ step-as r (now (ev .exit)) (now (rep .exit)) (now (pool .exit)) ≡ walk-prog room (tokens-of (now (t .entry))) unlabelled (rhs-prog «right_bp») (view-of p (now (ev .entry)) (now (rep .entry)) (now (pool .entry))) ⌝ }
-    ensures { λ r. ⌜ left (now (t .entry)) (r .p .s) ≤ left (now (t .entry)) (p .s) ⌝ }
+    ensures { λ r. ⌜ step-as r (now (events .exit)) (now (reports .exit)) (now (pool .exit)) ≡ walk-prog allowed (tokens-of (now (tokens .entry))) unlabelled (rhs-prog «right_bp») (view-of p (now (events .entry)) (now (reports .entry)) (now (pool .entry))) ⌝ }
+    ensures { λ r. ⌜ left (now (tokens .entry)) (r .p .s) ≤ left (now (tokens .entry)) (p .s) ⌝ }
 {
-    let right = expr_binding_power(p, t, ev, rep, pool, room, right_bp);
+    let right = expr_binding_power(p, tokens, events, reports, pool, allowed, right_bp);
     let q = right.p;
     Step {
         p: q,
@@ -277,22 +278,22 @@ fn rhs(
 // After the question mark: the middle, the colon and the right side.
 fn ternary_rhs(
     p: Parser,
-    t: &[u32],
-    ev: &mut [u32],
-    rep: &mut [u32],
+    tokens: &[u32],
+    events: &mut [u32],
+    reports: &mut [u32],
     pool: &mut [u32],
     room: usize,
 ) -> Step
-    ensures { λ r. ⌜ step-as r (now (ev .exit)) (now (rep .exit)) (now (pool .exit)) ≡ walk-prog room (tokens-of (now (t .entry))) unlabelled ternary-rhs (view-of p (now (ev .entry)) (now (rep .entry)) (now (pool .entry))) ⌝ }
-    ensures { λ r. ⌜ left (now (t .entry)) (r .p .s) ≤ left (now (t .entry)) (p .s) ⌝ }
+    ensures { λ r. ⌜ step-as r (now (events .exit)) (now (reports .exit)) (now (pool .exit)) ≡ walk-prog allowed (tokens-of (now (tokens .entry))) unlabelled ternary-rhs (view-of p (now (events .entry)) (now (reports .entry)) (now (pool .entry))) ⌝ }
+    ensures { λ r. ⌜ left (now (tokens .entry)) (r .p .s) ≤ left (now (tokens .entry)) (p .s) ⌝ }
 {
-    let middle = expr_binding_power(p, t, ev, rep, pool, room, 0);
+    let middle = expr_binding_power(p, tokens, events, reports, pool, allowed, 0);
     if middle.yes {
         let colon = middle
             .p
-            .expect(t, ev, rep, pool, Matcher::Kind(token_kind::COLON));
+            .expect(tokens, events, reports, pool, Matcher::Kind(token_kind::COLON));
         if colon.yes {
-            rhs(colon.p, t, ev, rep, pool, room, 1)
+            rhs(colon.p, tokens, events, reports, pool, allowed, 1)
         } else {
             let q = colon.p;
             Step {
@@ -313,55 +314,55 @@ fn ternary_rhs(
 
 fn lhs(
     p: Parser,
-    t: &[u32],
-    ev: &mut [u32],
-    rep: &mut [u32],
+    tokens: &[u32],
+    events: &mut [u32],
+    reports: &mut [u32],
     pool: &mut [u32],
     room: usize,
-) -> Tested
-    ensures { λ r. ⌜ tested-as r (now (ev .exit)) (now (rep .exit)) (now (pool .exit)) ≡ walk-prog room (tokens-of (now (t .entry))) unlabelled lhs-prog (view-of p (now (ev .entry)) (now (rep .entry)) (now (pool .entry))) ⌝ }
-    ensures { λ r. ⌜ left (now (t .entry)) (r .p .s) ≤ left (now (t .entry)) (p .s) ⌝ }
-    ensures { λ r. ⌜ (r .yes ≡ true → left (now (t .entry)) (r .p .s) ≤ left (now (t .entry)) (p .s) - 1) ⌝ }
+) -> ParserTested
+    ensures { λ r. ⌜ parser-tested r (now (events .exit)) (now (reports .exit)) (now (pool .exit)) ≡ walk-prog allowed (tokens-of (now (tokens .entry))) unlabelled lhs-prog (view-of p (now (events .entry)) (now (reports .entry)) (now (pool .entry))) ⌝ }
+    ensures { λ r. ⌜ left (now (tokens .entry)) (r .p .s) ≤ left (now (tokens .entry)) (p .s) ⌝ }
+    ensures { λ r. ⌜ (r .yes ≡ true → left (now (tokens .entry)) (r .p .s) ≤ left (now (tokens .entry)) (p .s) - 1) ⌝ }
 {
-    let op = at_prefix_op(p, t);
+    let op = at_prefix_op(p, tokens);
     if op.yes {
-        return prefix_expr(op.p, t, ev, rep, pool, room);
+        return prefix_expr(op.p, tokens, events, reports, pool, allowed);
     }
-    let paren = op.p.at(t, Matcher::Kind(token_kind::LPAREN));
+    let paren = op.p.at(tokens, Matcher::Kind(token_kind::LPAREN));
     if paren.yes {
-        return paren_expr(paren.p, t, ev, rep, pool, room);
+        return paren_expr(paren.p, tokens, events, reports, pool, allowed);
     }
-    let ident = paren.p.at(t, Matcher::Kind(token_kind::IDENT));
+    let ident = paren.p.at(tokens, Matcher::Kind(token_kind::IDENT));
     if ident.yes {
-        let q = macro_invocation(ident.p, t, ev, rep, pool);
-        return Tested { p: q, yes: true };
+        let q = macro_invocation(ident.p, tokens, events, reports, pool);
+        return ParserTested { p: q, yes: true };
     }
-    let literal = ident.p.at(t, Matcher::Either(token_kind::NUMBER, token_kind::CHAR));
+    let literal = ident.p.at(tokens, Matcher::Either(token_kind::NUMBER, token_kind::CHAR));
     if literal.yes {
-        let q = literal_expr(literal.p, t, ev);
-        return Tested { p: q, yes: true };
+        let q = literal_expr(literal.p, tokens, events);
+        return ParserTested { p: q, yes: true };
     }
-    let q = no_lhs(literal.p, t, ev, rep, pool, room);
-    Tested { p: q, yes: false }
+    let q = no_lhs(literal.p, tokens, events, reports, pool, allowed);
+    ParserTested { p: q, yes: false }
 }
 
 fn prefix_expr(
     p: Parser,
-    t: &[u32],
-    ev: &mut [u32],
-    rep: &mut [u32],
+    tokens: &[u32],
+    events: &mut [u32],
+    reports: &mut [u32],
     pool: &mut [u32],
     room: usize,
-) -> Tested
-    ensures { λ r. ⌜ tested-as r (now (ev .exit)) (now (rep .exit)) (now (pool .exit)) ≡ walk-prog room (tokens-of (now (t .entry))) unlabelled prefix-expr (view-of p (now (ev .entry)) (now (rep .entry)) (now (pool .entry))) ⌝ }
-    ensures { λ r. ⌜ left (now (t .entry)) (r .p .s) ≤ left (now (t .entry)) (p .s) - 1 ⌝ }
+) -> ParserTested
+    ensures { λ r. ⌜ parser-tested r (now (events .exit)) (now (reports .exit)) (now (pool .exit)) ≡ walk-prog allowed (tokens-of (now (tokens .entry))) unlabelled prefix-expr (view-of p (now (events .entry)) (now (reports .entry)) (now (pool .entry))) ⌝ }
+    ensures { λ r. ⌜ left (now (tokens .entry)) (r .p .s) ≤ left (now (tokens .entry)) (p .s) - 1 ⌝ }
 {
     let m = Marker::new(p.s);
-    let started = p.start(ev);
-    let op = started.bump(t, ev);
-    let right = expr_binding_power(op, t, ev, rep, pool, room, PREFIX_POWER);
-    let q = right.p.complete(ev, m, node_kind::PREFIX_EXPR);
-    Tested {
+    let started = p.start(events);
+    let op = started.bump(tokens, events);
+    let right = expr_binding_power(op, tokens, events, reports, pool, allowed, PREFIX_POWER);
+    let q = right.p.complete(events, m, node_kind::PREFIX_EXPR);
+    ParserTested {
         p: q,
         yes: right.yes,
     }
@@ -369,61 +370,61 @@ fn prefix_expr(
 
 fn paren_expr(
     p: Parser,
-    t: &[u32],
-    ev: &mut [u32],
-    rep: &mut [u32],
+    tokens: &[u32],
+    events: &mut [u32],
+    reports: &mut [u32],
     pool: &mut [u32],
     room: usize,
-) -> Tested
-    ensures { λ r. ⌜ tested-as r (now (ev .exit)) (now (rep .exit)) (now (pool .exit)) ≡ walk-prog room (tokens-of (now (t .entry))) unlabelled paren-expr (view-of p (now (ev .entry)) (now (rep .entry)) (now (pool .entry))) ⌝ }
-    ensures { λ r. ⌜ left (now (t .entry)) (r .p .s) ≤ left (now (t .entry)) (p .s) - 1 ⌝ }
+) -> ParserTested
+    ensures { λ r. ⌜ parser-tested r (now (events .exit)) (now (reports .exit)) (now (pool .exit)) ≡ walk-prog allowed (tokens-of (now (tokens .entry))) unlabelled paren-expr (view-of p (now (events .entry)) (now (reports .entry)) (now (pool .entry))) ⌝ }
+    ensures { λ r. ⌜ left (now (tokens .entry)) (r .p .s) ≤ left (now (tokens .entry)) (p .s) - 1 ⌝ }
 {
     let m = Marker::new(p.s);
-    let started = p.start(ev);
-    let opened = started.bump(t, ev);
-    let inner = expr_binding_power(opened, t, ev, rep, pool, room, 0);
+    let started = p.start(events);
+    let opened = started.bump(tokens, events);
+    let inner = expr_binding_power(opened, tokens, events, reports, pool, allowed, 0);
     let end = inner
         .p
-        .expect(t, ev, rep, pool, Matcher::Kind(token_kind::RPAREN));
-    let q = end.p.complete(ev, m, node_kind::PAREN_EXPR);
-    Tested {
+        .expect(tokens, events, reports, pool, Matcher::Kind(token_kind::RPAREN));
+    let q = end.p.complete(events, m, node_kind::PAREN_EXPR);
+    ParserTested {
         p: q,
         yes: inner.yes,
     }
 }
 
-fn literal_expr(p: Parser, t: &[u32], ev: &mut [u32]) -> Parser
-    ensures { λ r. ⌜ ((ask : Rule → Machine → Walked) (b : Span) (rep pool : List ℕ) → said yes (view-of r (now (ev .exit)) rep pool) ≡ walk ask (tokens-of (now (t .entry))) b literal-expr (view-of p (now (ev .entry)) rep pool)) ⌝ }
-    ensures { λ r. ⌜ left (now (t .entry)) (r .s) ≤ left (now (t .entry)) (p .s) - 1 ⌝ }
+fn literal_expr(p: Parser, tokens: &[u32], events: &mut [u32]) -> Parser
+    ensures { λ r. ⌜ ((ask : Rule → Machine → Walked) (b : Span) (reports pool : List ℕ) → said yes (view-of r (now (events .exit)) reports pool) ≡ walk ask (tokens-of (now (tokens .entry))) b literal-expr (view-of p (now (events .entry)) reports pool)) ⌝ }
+    ensures { λ r. ⌜ left (now (tokens .entry)) (r .s) ≤ left (now (tokens .entry)) (p .s) - 1 ⌝ }
 {
     let m = Marker::new(p.s);
-    let started = p.start(ev);
-    let taken = started.bump(t, ev);
-    taken.complete(ev, m, node_kind::LITERAL_EXPR)
+    let started = p.start(events);
+    let taken = started.bump(tokens, events);
+    taken.complete(events, m, node_kind::LITERAL_EXPR)
 }
 
 // Nothing that an expression starts with.
 fn no_lhs(
     p: Parser,
-    t: &[u32],
-    ev: &mut [u32],
-    rep: &mut [u32],
+    tokens: &[u32],
+    events: &mut [u32],
+    reports: &mut [u32],
     pool: &mut [u32],
     room: usize,
 ) -> Parser
-    ensures { λ r. ⌜ said no (view-of r (now (ev .exit)) (now (rep .exit)) (now (pool .exit))) ≡ walk-prog room (tokens-of (now (t .entry))) unlabelled no-lhs (view-of p (now (ev .entry)) (now (rep .entry)) (now (pool .entry))) ⌝ }
-    ensures { λ r. ⌜ left (now (t .entry)) (r .s) ≤ left (now (t .entry)) (p .s) ⌝ }
+    ensures { λ r. ⌜ said no (view-of r (now (events .exit)) (now (reports .exit)) (now (pool .exit))) ≡ walk-prog allowed (tokens-of (now (tokens .entry))) unlabelled no-lhs (view-of p (now (events .entry)) (now (reports .entry)) (now (pool .entry))) ⌝ }
+    ensures { λ r. ⌜ left (now (tokens .entry)) (r .s) ≤ left (now (tokens .entry)) (p .s) ⌝ }
 {
-    let op = infix_op_at(p, t);
+    let op = infix_op_at(p, tokens);
     if op.binary {
-        return missing_lhs(op.p, t, ev, rep, pool, room);
+        return missing_lhs(op.p, tokens, events, reports, pool, allowed);
     }
-    let end = op.p.silent_at(t, token_kind::RPAREN);
+    let end = op.p.silent_at(tokens, token_kind::RPAREN);
     if end.yes {
         return end.p.error(
-            t,
-            ev,
-            rep,
+            tokens,
+            events,
+            reports,
             pool,
             errors::EXPECTED,
             errors::NO_HINT,
@@ -431,9 +432,9 @@ fn no_lhs(
         );
     }
     end.p.error(
-        t,
-        ev,
-        rep,
+        tokens,
+        events,
+        reports,
         pool,
         errors::EXPECTED,
         errors::NO_HINT,
@@ -444,27 +445,27 @@ fn no_lhs(
 // Recovery: an operator whose left side is missing.
 fn missing_lhs(
     p: Parser,
-    t: &[u32],
-    ev: &mut [u32],
-    rep: &mut [u32],
+    tokens: &[u32],
+    events: &mut [u32],
+    reports: &mut [u32],
     pool: &mut [u32],
     room: usize,
 ) -> Parser
-    ensures { λ r. ⌜ said no (view-of r (now (ev .exit)) (now (rep .exit)) (now (pool .exit))) ≡ walk-prog room (tokens-of (now (t .entry))) unlabelled missing-lhs (view-of p (now (ev .entry)) (now (rep .entry)) (now (pool .entry))) ⌝ }
-    ensures { λ r. ⌜ left (now (t .entry)) (r .s) ≤ left (now (t .entry)) (p .s) ⌝ }
+    ensures { λ r. ⌜ said no (view-of r (now (events .exit)) (now (reports .exit)) (now (pool .exit))) ≡ walk-prog allowed (tokens-of (now (tokens .entry))) unlabelled missing-lhs (view-of p (now (events .entry)) (now (reports .entry)) (now (pool .entry))) ⌝ }
+    ensures { λ r. ⌜ left (now (tokens .entry)) (r .s) ≤ left (now (tokens .entry)) (p .s) ⌝ }
 {
     let reported = p.error(
-        t,
-        ev,
-        rep,
+        tokens,
+        events,
+        reports,
         pool,
         errors::EXPECTED,
         errors::MISSING_LEFT_SIDE,
         Bump::No,
     );
     let m = Marker::new(reported.s);
-    let started = reported.start(ev);
-    let op = started.bump(t, ev);
-    let right = expr_binding_power(op, t, ev, rep, pool, room, 0);
-    right.p.complete(ev, m, node_kind::PARSE_ERROR)
+    let started = reported.start(events);
+    let op = started.bump(tokens, events);
+    let right = expr_binding_power(op, tokens, events, reports, pool, allowed, 0);
+    right.p.complete(events, m, node_kind::PARSE_ERROR)
 }

@@ -8,13 +8,13 @@ use mathlib.Core.Logic.{inl, inr}
 use types.Run.{OneOf}
 use denote.Enum.Declared.{tagOf}
 use Rattle.parser.proofs.Answer.{the-type}
-use Rattle.parser.specs.declared.Answer.{Answer}
-use Rattle.parser.specs.declared.Answer.the-variants as Said
-use Rattle.parser.specs.View.{answer-of, left}
+use Rattle.parser.specs.declared.Ans.{Ans}
+use Rattle.parser.specs.declared.Ans.the-variants as A
+use Rattle.parser.specs.View.{ans-of, left}
 use Rattle.parts.specs.View.{found}
 use Rattle.parser.specs.declared.Parser.{Parser}
-use Rattle.parser.specs.declared.Tested.{Tested}
-use Rattle.parser.specs.declared.Told.{Told}
+use Rattle.parser.specs.declared.ParserTested.{ParserTested}
+use Rattle.parser.specs.declared.ParserAnswered.{ParserAnswered}
 use Rattle.definitions.specs.Run.{truth}
 use Rattle.definitions.specs.Token.{Token}
 use Rattle.definitions.specs.Skeleton.{Span}
@@ -76,55 +76,55 @@ as-yes {m = m} h e = ap (λ (t : Bool). said (truth t) m) h ∙ e
 
 -- ---------------------------------------------------------------- the answers that a match leaves over, by their tags
 
-no-tag : tagOf the-type Said.No ≡ 0
+no-tag : tagOf the-type A.No ≡ 0
 no-tag = refl
 
-yes-tag : tagOf the-type Said.Yes ≡ 1
+yes-tag : tagOf the-type A.Yes ≡ 1
 yes-tag = refl
 
-also-tag : tagOf the-type Said.Also ≡ 2
+also-tag : tagOf the-type A.Also ≡ 2
 also-tag = refl
 
-again-tag : tagOf the-type Said.Again ≡ 3
+again-tag : tagOf the-type A.Again ≡ 3
 again-tag = refl
 
 -- Yes and Again
 pub c-said-other : {ask : Rule → Machine → Walked} {ts : List Token} {b : Span} {c n y a : Prog} {m x : Machine} {s : ℕ} {w : Walked} (r : Answer)
-    → Way ask ts b c m (record { ans = answer-of r; shape = s; on = x }) → OneOf (1 ∷ 3 ∷ []) (tagOf the-type r) → Way ask ts b y x w → Way ask ts b (case c n y a) m w
+    → Way ask ts b c m (record { ans = ans-of r; shape = s; on = x }) → OneOf (1 ∷ 3 ∷ []) (tagOf the-type r) → Way ask ts b y x w → Way ask ts b (case c n y a) m w
 unfolding choose
-c-said-other Said.No e h f = absurd (neither h)
+c-said-other A.No e h f = absurd (neither h)
   where
-    neither : OneOf (1 ∷ 3 ∷ []) (tagOf the-type Said.No) → ⊥
+    neither : OneOf (1 ∷ 3 ∷ []) (tagOf the-type A.No) → ⊥
     neither h = elim h [ inl i ↦ omega (arith, i, no-tag) | inr i ↦ omega (arith, i, no-tag) ]
-c-said-other Said.Yes e h f = c-case e (f .is)
-c-said-other Said.Also e h f = absurd (neither h)
+c-said-other A.Yes e h f = c-case e (f .is)
+c-said-other A.Also e h f = absurd (neither h)
   where
-    neither : OneOf (1 ∷ 3 ∷ []) (tagOf the-type Said.Also) → ⊥
+    neither : OneOf (1 ∷ 3 ∷ []) (tagOf the-type A.Also) → ⊥
     neither h = elim h [ inl i ↦ omega (arith, i, also-tag) | inr i ↦ omega (arith, i, also-tag) ]
-c-said-other Said.Again e h f = c-case e (f .is)
+c-said-other A.Again e h f = c-case e (f .is)
 
 -- No and Also, and it is not Also
-pub other-no : (r : Answer) → (answer-of r ≡ also → ⊥) → OneOf (0 ∷ 2 ∷ []) (tagOf the-type r) → answer-of r ≡ no
-other-no Said.No k h = refl
-other-no Said.Yes k h = absurd (neither h)
+pub other-no : (r : Answer) → (ans-of r ≡ also → ⊥) → OneOf (0 ∷ 2 ∷ []) (tagOf the-type r) → ans-of r ≡ no
+other-no A.No k h = refl
+other-no A.Yes k h = absurd (neither h)
   where
-    neither : OneOf (0 ∷ 2 ∷ []) (tagOf the-type Said.Yes) → ⊥
+    neither : OneOf (0 ∷ 2 ∷ []) (tagOf the-type A.Yes) → ⊥
     neither h = elim h [ inl i ↦ omega (arith, i, yes-tag) | inr i ↦ omega (arith, i, yes-tag) ]
-other-no Said.Also k h = absurd (k refl)
-other-no Said.Again k h = absurd (neither h)
+other-no A.Also k h = absurd (k refl)
+other-no A.Again k h = absurd (neither h)
   where
-    neither : OneOf (0 ∷ 2 ∷ []) (tagOf the-type Said.Again) → ⊥
+    neither : OneOf (0 ∷ 2 ∷ []) (tagOf the-type A.Again) → ⊥
     neither h = elim h [ inl i ↦ omega (arith, i, again-tag) | inr i ↦ omega (arith, i, again-tag) ]
 
 -- what a prefix that was found has taken
 pub found-other : (r : Answer) → OneOf (1 ∷ 3 ∷ []) (tagOf the-type r) → found r ≡ 1
-found-other Said.No h = absurd (neither h)
+found-other A.No h = absurd (neither h)
   where
-    neither : OneOf (1 ∷ 3 ∷ []) (tagOf the-type Said.No) → ⊥
+    neither : OneOf (1 ∷ 3 ∷ []) (tagOf the-type A.No) → ⊥
     neither h = elim h [ inl i ↦ omega (arith, i, no-tag) | inr i ↦ omega (arith, i, no-tag) ]
-found-other Said.Yes h = refl
-found-other Said.Also h = refl
-found-other Said.Again h = refl
+found-other A.Yes h = refl
+found-other A.Also h = refl
+found-other A.Again h = refl
 
 -- an answer that is known
 pub c-answered : {ask : Rule → Machine → Walked} {ts : List Token} {b : Span} {p : Prog} {m x : Machine} {v a : Ans} → v ≡ a → Way ask ts b p m (said v x) → Way ask ts b p m (said a x)
@@ -138,5 +138,5 @@ pub c-assoc : {ask : Rule → Machine → Walked} {ts : List Token} {b : Span} {
 c-assoc {ask = ask} {ts = ts} {b = b} {p = p} {q = q} {r = r} {m = m} e = record { is = e .is ∙ sequence-parts ask ts b p q r m }
 
 -- `told` leaves the parser as it is
-pub told-left : (tk : List ℕ) (r : Told) (k : Tested) → r .p ≡ k .p → left tk (r .p .s) ≡ left tk (k .p .s)
+pub told-left : (tk : List ℕ) (r : ParserAnswered) (k : ParserTested) → r .p ≡ k .p → left tk (r .p .s) ≡ left tk (k .p .s)
 told-left tk r k e = ap (λ (p : Parser). left tk (p .s)) e

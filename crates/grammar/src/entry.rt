@@ -31,23 +31,23 @@ pub enum Entrypoint {
 // One turn of `entry_sourcefile`.
 fn sourcefile_part(
     p: Parser,
-    t: &[u32],
-    ev: &mut [u32],
-    rep: &mut [u32],
+    tokens: &[u32],
+    events: &mut [u32],
+    reports: &mut [u32],
     pool: &mut [u32],
 ) -> Parser
-    ensures { λ r. ⌜ view-of r (now (ev .exit)) (now (rep .exit)) (now (pool .exit)) ≡ walk-prog 64 (tokens-of (now (t .entry))) unlabelled sourcefile-part (view-of p (now (ev .entry)) (now (rep .entry)) (now (pool .entry))) .on ⌝ }
-    ensures { λ r. ⌜ left (now (t .entry)) (r .s) ≤ left (now (t .entry)) (p .s) - 1 ⌝ }
+    ensures { λ r. ⌜ view-of r (now (events .exit)) (now (reports .exit)) (now (pool .exit)) ≡ walk-prog 64 (tokens-of (now (tokens .entry))) unlabelled sourcefile-part (view-of p (now (events .entry)) (now (reports .entry)) (now (pool .entry))) .on ⌝ }
+    ensures { λ r. ⌜ left (now (tokens .entry)) (r .s) ≤ left (now (tokens .entry)) (p .s) - 1 ⌝ }
 {
-    let rcurly = p.silent_at(t, token_kind::RCURLY);
+    let rcurly = p.silent_at(tokens, token_kind::RCURLY);
     if rcurly.yes {
-        return unmatched_rcurly(rcurly.p, t, ev, rep, pool);
+        return unmatched_rcurly(rcurly.p, tokens, events, reports, pool);
     }
     let caught = catch_unmatched_pp_directive(
         rcurly.p,
-        t,
-        ev,
-        rep,
+        tokens,
+        events,
+        reports,
         pool,
         MOST_OPEN_CALLS,
         Inside::Item,
@@ -55,64 +55,64 @@ fn sourcefile_part(
     if caught.yes {
         return caught.p;
     }
-    item(caught.p, t, ev, rep, pool, MOST_OPEN_CALLS)
+    item(caught.p, tokens, events, reports, pool, MOST_OPEN_CALLS)
 }
 
 fn entry_sourcefile(
     p: Parser,
-    t: &[u32],
-    ev: &mut [u32],
-    rep: &mut [u32],
+    tokens: &[u32],
+    events: &mut [u32],
+    reports: &mut [u32],
     pool: &mut [u32],
 ) -> Parser
-    ensures { λ r. ⌜ said yes (view-of r (now (ev .exit)) (now (rep .exit)) (now (pool .exit))) ≡ walk-prog 64 (tokens-of (now (t .entry))) unlabelled entry-sourcefile (view-of p (now (ev .entry)) (now (rep .entry)) (now (pool .entry))) ⌝ }
-    ensures { λ r. ⌜ left (now (t .entry)) (r .s) ≤ left (now (t .entry)) (p .s) ⌝ }
+    ensures { λ r. ⌜ said yes (view-of r (now (events .exit)) (now (reports .exit)) (now (pool .exit))) ≡ walk-prog 64 (tokens-of (now (tokens .entry))) unlabelled entry-sourcefile (view-of p (now (events .entry)) (now (reports .entry)) (now (pool .entry))) ⌝ }
+    ensures { λ r. ⌜ left (now (tokens .entry)) (r .s) ≤ left (now (tokens .entry)) (p .s) ⌝ }
 {
     let mut q = p;
     loop {
-        let end = q.at_end(t);
+        let end = q.at_end(tokens);
         if end.yes {
             return end.p;
         }
-        q = sourcefile_part(end.p, t, ev, rep, pool);
+        q = sourcefile_part(end.p, tokens, events, reports, pool);
     }
 }
 
 fn enter(
     p: Parser,
-    t: &[u32],
-    ev: &mut [u32],
-    rep: &mut [u32],
+    tokens: &[u32],
+    events: &mut [u32],
+    reports: &mut [u32],
     pool: &mut [u32],
     entrypoint: Entrypoint,
 ) -> Parser
-    ensures { λ r. ⌜ view-of r (now (ev .exit)) (now (rep .exit)) (now (pool .exit)) ≡ walk-prog 64 (tokens-of (now (t .entry))) unlabelled (entry (entry-of entrypoint)) (view-of p (now (ev .entry)) (now (rep .entry)) (now (pool .entry))) .on ⌝ }
-    ensures { λ r. ⌜ left (now (t .entry)) (r .s) ≤ left (now (t .entry)) (p .s) ⌝ }
+    ensures { λ r. ⌜ view-of r (now (events .exit)) (now (reports .exit)) (now (pool .exit)) ≡ walk-prog 64 (tokens-of (now (tokens .entry))) unlabelled (entry (entry-of entrypoint)) (view-of p (now (events .entry)) (now (reports .entry)) (now (pool .entry))) .on ⌝ }
+    ensures { λ r. ⌜ left (now (tokens .entry)) (r .s) ≤ left (now (tokens .entry)) (p .s) ⌝ }
 {
     match entrypoint {
-        Entrypoint::SourceFile => entry_sourcefile(p, t, ev, rep, pool),
-        Entrypoint::ReferenceNoamp => reference_noamp(p, t, ev, rep, pool),
+        Entrypoint::SourceFile => entry_sourcefile(p, tokens, events, reports, pool),
+        Entrypoint::ReferenceNoamp => reference_noamp(p, tokens, events, reports, pool),
         Entrypoint::PropValues => {
-            let values = propvalues(p, t, ev, rep, pool, MOST_OPEN_CALLS, false);
+            let values = propvalues(p, tokens, events, reports, pool, MOST_OPEN_CALLS, false);
             values.p
         }
         Entrypoint::Cells => {
-            let inner = cells(p, t, ev, rep, pool, MOST_OPEN_CALLS, true);
+            let inner = cells(p, tokens, events, reports, pool, MOST_OPEN_CALLS, true);
             inner.p
         }
     }
 }
 
 pub fn parse(
-    t: &[u32],
-    ev: &mut [u32],
-    rep: &mut [u32],
+    tokens: &[u32],
+    events: &mut [u32],
+    reports: &mut [u32],
     pool: &mut [u32],
     entrypoint: Entrypoint,
 ) -> Parser
-    ensures { λ r. ⌜ view-of r (now (ev .exit)) (now (rep .exit)) (now (pool .exit)) ≡ walk-prog 64 (tokens-of (now (t .entry))) unlabelled (whole (entry-of entrypoint)) (fresh (now (ev .entry)) (now (rep .entry)) (now (pool .entry))) .on ⌝ }
+    ensures { λ r. ⌜ view-of r (now (events .exit)) (now (reports .exit)) (now (pool .exit)) ≡ walk-prog 64 (tokens-of (now (tokens .entry))) unlabelled (whole (entry-of entrypoint)) (fresh (now (events .entry)) (now (reports .entry)) (now (pool .entry))) .on ⌝ }
 {
     let p = Parser::new();
-    let parsed = enter(p, t, ev, rep, pool, entrypoint);
-    left_over(parsed, t, ev, rep, pool)
+    let parsed = enter(p, tokens, events, reports, pool, entrypoint);
+    left_over(parsed, tokens, events, reports, pool)
 }

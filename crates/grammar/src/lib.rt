@@ -1,6 +1,6 @@
 // grammar.rs: items, node bodies, properties, values and cells, and with them the conditionals of
 // preprocessor_directive.rs. They are one cycle of calls and so stand in one file: tokens left, and then a rank of the
-// function, fall at each call. The parser goes in and comes back by value; `room` is how many more calls of `item`,
+// function, fall at each call. The parser goes in and comes back by value; `allowed` is how many more calls of `item`,
 // `propvalues` and `eat_cell` may be opened. What no call can be opened under stands in the crates below.
 // The ten functions of the Rust have its names. The names of their parts are short, since the folder of the cycle's proof
 // is named after all its members and a file's name ends at 249 bytes: `bits`, `value` and `value2` are parts of
@@ -13,6 +13,7 @@ use crate::preprocessor_directive::Inside;
 use crate::preprocessor_directive::PREPROCESSOR_DIRECTIVES;
 use expr::OPERATORS_SET;
 use expr::dt_expr;
+use layout::refusal::TOO_DEEP;
 use layout::token_kind;
 use names::CONTINUE_COND_SET;
 use names::ITEM_RECOVERY_SET;
@@ -21,10 +22,10 @@ use names::silent_eat_reference;
 use outside::forbidden_property;
 use outside::node_end;
 use outside::told;
-use parser::Answer;
+use parser::Ans;
 use parser::Parser;
-use parser::Tested;
-use parser::Told;
+use parser::ParserTested;
+use parser::ParserAnswered;
 use parser::errors::Bump;
 use layout::message::EXPECTED;
 use layout::hint::IN_CELLS;
@@ -54,122 +55,122 @@ ghost use Rattle.definitions.specs.Token.{tokens-of};
 ghost use Rattle.definitions.specs.Prog.{yes, item, propvalues, eat-cell};
 ghost use Rattle.definitions.specs.Grammar.{eat-inside, branch, cond-branches-and-end, eat-preprocessor-directive, cells, dt-cell-list, bits-value, propvalue, dt-property, dt-node-body, no-property, eat-node-or-prop};
 ghost use Rattle.machine.specs.Walk.{said, closed, walk-rule, walk-prog, unlabelled};
-ghost use Rattle.parser.specs.View.{view-of, tested-as, left, marker-of};
-ghost use Rattle.parts.specs.View.{told-as};
+ghost use Rattle.parser.specs.View.{view-of, parser-tested, left, marker-of};
+ghost use Rattle.parts.specs.View.{parser-answered};
 ghost use Rattle.grammar.specs.Parts.{inside-of, cell-rest, value-rest, item-rest};
 
 // ---- cells
 
 fn cells(
     p: Parser,
-    t: &[u32],
-    ev: &mut [u32],
-    rep: &mut [u32],
+    tokens: &[u32],
+    events: &mut [u32],
+    reports: &mut [u32],
     pool: &mut [u32],
     room: usize,
-    at_end: bool,
-) -> Tested
-    ensures { λ r. ⌜ tested-as r (now (ev .exit)) (now (rep .exit)) (now (pool .exit)) ≡ walk-prog room (tokens-of (now (t .entry))) unlabelled (cells «at_end») (view-of p (now (ev .entry)) (now (rep .entry)) (now (pool .entry))) ⌝ }
-    ensures { λ r. ⌜ left (now (t .entry)) (r .p .s) ≤ left (now (t .entry)) (p .s) ⌝ }
+    until_end: bool,
+) -> ParserTested
+    ensures { λ r. ⌜ parser-tested r (now (events .exit)) (now (reports .exit)) (now (pool .exit)) ≡ walk-prog allowed (tokens-of (now (tokens .entry))) unlabelled (cells «until_end») (view-of p (now (events .entry)) (now (reports .entry)) (now (pool .entry))) ⌝ }
+    ensures { λ r. ⌜ left (now (tokens .entry)) (r .p .s) ≤ left (now (tokens .entry)) (p .s) ⌝ }
 {
     let mut q = p;
     loop {
-        let cell = eat_cell(q, t, ev, rep, pool, room, at_end);
+        let cell = eat_cell(q, tokens, events, reports, pool, allowed, until_end);
         if cell.yes {
             q = cell.p;
         } else {
-            let end = at_cells_end(cell.p, t, at_end);
+            let end = at_cells_end(cell.p, tokens, until_end);
             if end.yes {
                 return end;
             }
-            let cut = at_cells_recovery(end.p, t);
+            let cut = at_cells_recovery(end.p, tokens);
             if cut.yes {
-                let r = cut.p.error(t, ev, rep, pool, EXPECTED, NO_HINT, Bump::No);
-                return Tested { p: r, yes: false };
+                let r = cut.p.error(tokens, events, reports, pool, EXPECTED, NO_HINT, Bump::No);
+                return ParserTested { p: r, yes: false };
             }
             q = cut.p
-                .error(t, ev, rep, pool, EXPECTED, IN_CELLS, Bump::YesWrapErr);
+                .error(tokens, events, reports, pool, EXPECTED, IN_CELLS, Bump::YesWrapErr);
         }
     }
 }
 
 fn eat_cell(
     p: Parser,
-    t: &[u32],
-    ev: &mut [u32],
-    rep: &mut [u32],
+    tokens: &[u32],
+    events: &mut [u32],
+    reports: &mut [u32],
     pool: &mut [u32],
     room: usize,
-    at_end: bool,
-) -> Tested
-    ensures { λ r. ⌜ tested-as r (now (ev .exit)) (now (rep .exit)) (now (pool .exit)) ≡ walk-rule room (tokens-of (now (t .entry))) (eat-cell «at_end») (view-of p (now (ev .entry)) (now (rep .entry)) (now (pool .entry))) ⌝ }
-    ensures { λ r. ⌜ left (now (t .entry)) (r .p .s) ≤ left (now (t .entry)) (p .s) ⌝ }
-    ensures { λ r. ⌜ (r .yes ≡ true → left (now (t .entry)) (r .p .s) < left (now (t .entry)) (p .s)) ⌝ }
+    until_end: bool,
+) -> ParserTested
+    ensures { λ r. ⌜ parser-tested r (now (events .exit)) (now (reports .exit)) (now (pool .exit)) ≡ walk-rule allowed (tokens-of (now (tokens .entry))) (eat-cell «until_end») (view-of p (now (events .entry)) (now (reports .entry)) (now (pool .entry))) ⌝ }
+    ensures { λ r. ⌜ left (now (tokens .entry)) (r .p .s) ≤ left (now (tokens .entry)) (p .s) ⌝ }
+    ensures { λ r. ⌜ (r .yes ≡ true → left (now (tokens .entry)) (r .p .s) < left (now (tokens .entry)) (p .s)) ⌝ }
 {
-    let closed = room == 0;
+    let closed = allowed == 0;
     if closed {
-        let q = p.refuse(5);
-        return Tested { p: q, yes: false };
+        let q = p.refuse(TOO_DEEP);
+        return ParserTested { p: q, yes: false };
     }
-    let plain = eat_plain_cell(p, t, ev, rep, pool);
+    let plain = eat_plain_cell(p, tokens, events, reports, pool);
     if plain.yes {
         return plain;
     }
-    let paren = plain.p.silent_at(t, token_kind::LPAREN);
+    let paren = plain.p.silent_at(tokens, token_kind::LPAREN);
     if paren.yes {
-        let q = dt_expr(paren.p, t, ev, rep, pool, room - 1);
-        return Tested { p: q, yes: true };
+        let q = dt_expr(paren.p, tokens, events, reports, pool, allowed - 1);
+        return ParserTested { p: q, yes: true };
     }
-    cell2(paren.p, t, ev, rep, pool, room - 1, at_end)
+    cell2(paren.p, tokens, events, reports, pool, allowed - 1, until_end)
 }
 
 // The last cases of `eat_cell`.
 fn cell2(
     p: Parser,
-    t: &[u32],
-    ev: &mut [u32],
-    rep: &mut [u32],
+    tokens: &[u32],
+    events: &mut [u32],
+    reports: &mut [u32],
     pool: &mut [u32],
     room: usize,
-    at_end: bool,
-) -> Tested
-    ensures { λ r. ⌜ tested-as r (now (ev .exit)) (now (rep .exit)) (now (pool .exit)) ≡ walk-prog room (tokens-of (now (t .entry))) unlabelled (cell-rest «at_end») (view-of p (now (ev .entry)) (now (rep .entry)) (now (pool .entry))) ⌝ }
-    ensures { λ r. ⌜ left (now (t .entry)) (r .p .s) ≤ left (now (t .entry)) (p .s) ⌝ }
-    ensures { λ r. ⌜ (r .yes ≡ true → left (now (t .entry)) (r .p .s) < left (now (t .entry)) (p .s)) ⌝ }
+    until_end: bool,
+) -> ParserTested
+    ensures { λ r. ⌜ parser-tested r (now (events .exit)) (now (reports .exit)) (now (pool .exit)) ≡ walk-prog allowed (tokens-of (now (tokens .entry))) unlabelled (cell-rest «until_end») (view-of p (now (events .entry)) (now (reports .entry)) (now (pool .entry))) ⌝ }
+    ensures { λ r. ⌜ left (now (tokens .entry)) (r .p .s) ≤ left (now (tokens .entry)) (p .s) ⌝ }
+    ensures { λ r. ⌜ (r .yes ≡ true → left (now (tokens .entry)) (r .p .s) < left (now (tokens .entry)) (p .s)) ⌝ }
 {
-    let include = eat_dts_include(p, t, ev, rep, pool);
+    let include = eat_dts_include(p, tokens, events, reports, pool);
     if include.yes {
         return include;
     }
     let directive = eat_preprocessor_directive(
         include.p,
-        t,
-        ev,
-        rep,
+        tokens,
+        events,
+        reports,
         pool,
-        room,
-        Inside::Cell(at_end),
+        allowed,
+        Inside::Cell(until_end),
     );
     if directive.yes {
         return directive;
     }
-    let operator = directive.p.silent_at_set(t, &OPERATORS_SET);
+    let operator = directive.p.silent_at_set(tokens, &OPERATORS_SET);
     if operator.yes {
-        let end = operator.p.at(t, Matcher::Kind(token_kind::RANGLE));
+        let end = operator.p.at(tokens, Matcher::Kind(token_kind::RANGLE));
         if end.yes {
             let q = end.p;
-            return Tested { p: q, yes: false };
+            return ParserTested { p: q, yes: false };
         }
         let q = end.p.error(
-            t,
-            ev,
-            rep,
+            tokens,
+            events,
+            reports,
             pool,
             EXPECTED,
             MISSING_PARENTHESES,
             Bump::YesWrapErr,
         );
-        return Tested { p: q, yes: true };
+        return ParserTested { p: q, yes: true };
     }
     operator
 }
@@ -177,27 +178,27 @@ fn cell2(
 // The caller's marker. yes: Ok; no: the cells were cut off.
 fn dt_cell_list(
     p: Parser,
-    t: &[u32],
-    ev: &mut [u32],
-    rep: &mut [u32],
+    tokens: &[u32],
+    events: &mut [u32],
+    reports: &mut [u32],
     pool: &mut [u32],
     room: usize,
     m: Marker,
-) -> Tested
-    ensures { λ r. ⌜ tested-as r (now (ev .exit)) (now (rep .exit)) (now (pool .exit)) ≡ closed (marker-of m) (walk-prog room (tokens-of (now (t .entry))) unlabelled dt-cell-list (view-of p (now (ev .entry)) (now (rep .entry)) (now (pool .entry)))) ⌝ }
-    ensures { λ r. ⌜ left (now (t .entry)) (r .p .s) ≤ left (now (t .entry)) (p .s) - 1 ⌝ }
+) -> ParserTested
+    ensures { λ r. ⌜ parser-tested r (now (events .exit)) (now (reports .exit)) (now (pool .exit)) ≡ closed (marker-of m) (walk-prog allowed (tokens-of (now (tokens .entry))) unlabelled dt-cell-list (view-of p (now (events .entry)) (now (reports .entry)) (now (pool .entry)))) ⌝ }
+    ensures { λ r. ⌜ left (now (tokens .entry)) (r .p .s) ≤ left (now (tokens .entry)) (p .s) - 1 ⌝ }
 {
-    let opened = p.bump(t, ev);
-    let inner = cells(opened, t, ev, rep, pool, room, false);
+    let opened = p.bump(tokens, events);
+    let inner = cells(opened, tokens, events, reports, pool, allowed, false);
     if inner.yes {
         let end = inner
             .p
-            .expect(t, ev, rep, pool, Matcher::Kind(token_kind::RANGLE));
-        let q = end.p.complete(ev, m, node_kind::DT_CELL_LIST);
-        Tested { p: q, yes: true }
+            .expect(tokens, events, reports, pool, Matcher::Kind(token_kind::RANGLE));
+        let q = end.p.complete(events, m, node_kind::DT_CELL_LIST);
+        ParserTested { p: q, yes: true }
     } else {
-        let q = inner.p.complete(ev, m, node_kind::PARSE_ERROR);
-        Tested { p: q, yes: false }
+        let q = inner.p.complete(events, m, node_kind::PARSE_ERROR);
+        ParserTested { p: q, yes: false }
     }
 }
 
@@ -206,52 +207,52 @@ fn dt_cell_list(
 // yes: Ok.
 fn propvalues(
     p: Parser,
-    t: &[u32],
-    ev: &mut [u32],
-    rep: &mut [u32],
+    tokens: &[u32],
+    events: &mut [u32],
+    reports: &mut [u32],
     pool: &mut [u32],
     room: usize,
     semicolon: bool,
-) -> Tested
-    ensures { λ r. ⌜ tested-as r (now (ev .exit)) (now (rep .exit)) (now (pool .exit)) ≡ walk-rule room (tokens-of (now (t .entry))) (propvalues semicolon) (view-of p (now (ev .entry)) (now (rep .entry)) (now (pool .entry))) ⌝ }
-    ensures { λ r. ⌜ left (now (t .entry)) (r .p .s) ≤ left (now (t .entry)) (p .s) - 1 ⌝ }
+) -> ParserTested
+    ensures { λ r. ⌜ parser-tested r (now (events .exit)) (now (reports .exit)) (now (pool .exit)) ≡ walk-rule allowed (tokens-of (now (tokens .entry))) (propvalues semicolon) (view-of p (now (events .entry)) (now (reports .entry)) (now (pool .entry))) ⌝ }
+    ensures { λ r. ⌜ left (now (tokens .entry)) (r .p .s) ≤ left (now (tokens .entry)) (p .s) - 1 ⌝ }
 {
-    let closed = room == 0;
+    let closed = allowed == 0;
     if closed {
-        let q = p.refuse(5);
-        return Tested { p: q, yes: false };
+        let q = p.refuse(TOO_DEEP);
+        return ParserTested { p: q, yes: false };
     }
     let mut q = p;
     loop {
-        let end = q.at_end(t);
+        let end = q.at_end(tokens);
         if end.yes {
             return end;
         }
-        let value = value(end.p, t, ev, rep, pool, room - 1, semicolon);
-        let answer = value.answer;
+        let value = value(end.p, tokens, events, reports, pool, allowed - 1, semicolon);
+        let answer = value.ans;
         match answer {
-            Answer::No => {
+            Ans::No => {
                 let r = value.p;
-                return Tested { p: r, yes: false };
+                return ParserTested { p: r, yes: false };
             }
-            Answer::Also => {
+            Ans::Also => {
                 let r = value.p;
-                return Tested { p: r, yes: true };
+                return ParserTested { p: r, yes: true };
             }
             _ => {
-                let after = after_propvalue(value.p, t, ev, rep, pool, semicolon);
-                let next = after.answer;
+                let after = after_propvalue(value.p, tokens, events, reports, pool, semicolon);
+                let next = after.ans;
                 match next {
-                    Answer::Again => {
+                    Ans::Again => {
                         q = after.p;
                     }
-                    Answer::Yes => {
+                    Ans::Yes => {
                         let r = after.p;
-                        return Tested { p: r, yes: true };
+                        return ParserTested { p: r, yes: true };
                     }
                     _ => {
                         let r = after.p;
-                        return Tested { p: r, yes: false };
+                        return ParserTested { p: r, yes: false };
                     }
                 }
             }
@@ -262,109 +263,109 @@ fn propvalues(
 // One value. Yes: it was there; No: its cells were cut off; Also: it was not there.
 fn value(
     p: Parser,
-    t: &[u32],
-    ev: &mut [u32],
-    rep: &mut [u32],
+    tokens: &[u32],
+    events: &mut [u32],
+    reports: &mut [u32],
     pool: &mut [u32],
     room: usize,
     semicolon: bool,
-) -> Told
-    ensures { λ r. ⌜ told-as r (now (ev .exit)) (now (rep .exit)) (now (pool .exit)) ≡ walk-prog room (tokens-of (now (t .entry))) unlabelled (propvalue semicolon) (view-of p (now (ev .entry)) (now (rep .entry)) (now (pool .entry))) ⌝ }
-    ensures { λ r. ⌜ left (now (t .entry)) (r .p .s) ≤ left (now (t .entry)) (p .s) - 1 ⌝ }
+) -> ParserAnswered
+    ensures { λ r. ⌜ parser-answered r (now (events .exit)) (now (reports .exit)) (now (pool .exit)) ≡ walk-prog allowed (tokens-of (now (tokens .entry))) unlabelled (propvalue semicolon) (view-of p (now (events .entry)) (now (reports .entry)) (now (pool .entry))) ⌝ }
+    ensures { λ r. ⌜ left (now (tokens .entry)) (r .p .s) ≤ left (now (tokens .entry)) (p .s) - 1 ⌝ }
 {
     let pushed = p.add_expected(expected::VALUE);
-    let directive = pushed.silent_at(t, token_kind::BITS_DIRECTIVE);
+    let directive = pushed.silent_at(tokens, token_kind::BITS_DIRECTIVE);
     if directive.yes {
-        let list = bits(directive.p, t, ev, rep, pool, room);
+        let list = bits(directive.p, tokens, events, reports, pool, allowed);
         return told(list);
     }
-    let string = directive.p.silent_eat(t, ev, Matcher::Kind(token_kind::STRING));
+    let string = directive.p.silent_eat(tokens, events, Matcher::Kind(token_kind::STRING));
     if string.yes {
         return told(string);
     }
-    let angle = string.p.silent_at(t, token_kind::LANGLE);
+    let angle = string.p.silent_at(tokens, token_kind::LANGLE);
     if angle.yes {
         let m = Marker::new(angle.p.s);
-        let started = angle.p.start(ev);
-        let list = dt_cell_list(started, t, ev, rep, pool, room, m);
+        let started = angle.p.start(events);
+        let list = dt_cell_list(started, tokens, events, reports, pool, allowed, m);
         return told(list);
     }
-    value2(angle.p, t, ev, rep, pool, room, semicolon)
+    value2(angle.p, tokens, events, reports, pool, allowed, semicolon)
 }
 
 // `/bits/`, its number and its cells.
 fn bits(
     p: Parser,
-    t: &[u32],
-    ev: &mut [u32],
-    rep: &mut [u32],
+    tokens: &[u32],
+    events: &mut [u32],
+    reports: &mut [u32],
     pool: &mut [u32],
     room: usize,
-) -> Tested
-    ensures { λ r. ⌜ tested-as r (now (ev .exit)) (now (rep .exit)) (now (pool .exit)) ≡ walk-prog room (tokens-of (now (t .entry))) unlabelled bits-value (view-of p (now (ev .entry)) (now (rep .entry)) (now (pool .entry))) ⌝ }
-    ensures { λ r. ⌜ left (now (t .entry)) (r .p .s) ≤ left (now (t .entry)) (p .s) - 1 ⌝ }
+) -> ParserTested
+    ensures { λ r. ⌜ parser-tested r (now (events .exit)) (now (reports .exit)) (now (pool .exit)) ≡ walk-prog allowed (tokens-of (now (tokens .entry))) unlabelled bits-value (view-of p (now (events .entry)) (now (reports .entry)) (now (pool .entry))) ⌝ }
+    ensures { λ r. ⌜ left (now (tokens .entry)) (r .p .s) ≤ left (now (tokens .entry)) (p .s) - 1 ⌝ }
 {
     let m_cell_list = Marker::new(p.s);
-    let listed = p.start(ev);
+    let listed = p.start(events);
     let m = Marker::new(listed.s);
-    let started = listed.start(ev);
-    let taken = started.bump(t, ev);
-    let number = taken.expect(t, ev, rep, pool, Matcher::Kind(token_kind::NUMBER));
-    let directive = number.p.complete(ev, m, node_kind::DTS_DIRECTIVE);
-    let angle = directive.at(t, Matcher::Kind(token_kind::LANGLE));
+    let started = listed.start(events);
+    let taken = started.bump(tokens, events);
+    let number = taken.expect(tokens, events, reports, pool, Matcher::Kind(token_kind::NUMBER));
+    let directive = number.p.complete(events, m, node_kind::DTS_DIRECTIVE);
+    let angle = directive.at(tokens, Matcher::Kind(token_kind::LANGLE));
     if angle.yes {
-        dt_cell_list(angle.p, t, ev, rep, pool, room, m_cell_list)
+        dt_cell_list(angle.p, tokens, events, reports, pool, allowed, m_cell_list)
     } else {
         let reported = angle
             .p
-            .error(t, ev, rep, pool, EXPECTED, NO_HINT, Bump::Yes);
-        let q = reported.complete(ev, m_cell_list, node_kind::PARSE_ERROR);
-        Tested { p: q, yes: true }
+            .error(tokens, events, reports, pool, EXPECTED, NO_HINT, Bump::Yes);
+        let q = reported.complete(events, m_cell_list, node_kind::PARSE_ERROR);
+        ParserTested { p: q, yes: true }
     }
 }
 
 // The last cases of a value.
 fn value2(
     p: Parser,
-    t: &[u32],
-    ev: &mut [u32],
-    rep: &mut [u32],
+    tokens: &[u32],
+    events: &mut [u32],
+    reports: &mut [u32],
     pool: &mut [u32],
     room: usize,
     semicolon: bool,
-) -> Told
-    ensures { λ r. ⌜ told-as r (now (ev .exit)) (now (rep .exit)) (now (pool .exit)) ≡ walk-prog room (tokens-of (now (t .entry))) unlabelled (value-rest semicolon) (view-of p (now (ev .entry)) (now (rep .entry)) (now (pool .entry))) ⌝ }
-    ensures { λ r. ⌜ left (now (t .entry)) (r .p .s) ≤ left (now (t .entry)) (p .s) - 1 ⌝ }
+) -> ParserAnswered
+    ensures { λ r. ⌜ parser-answered r (now (events .exit)) (now (reports .exit)) (now (pool .exit)) ≡ walk-prog allowed (tokens-of (now (tokens .entry))) unlabelled (value-rest semicolon) (view-of p (now (events .entry)) (now (reports .entry)) (now (pool .entry))) ⌝ }
+    ensures { λ r. ⌜ left (now (tokens .entry)) (r .p .s) ≤ left (now (tokens .entry)) (p .s) - 1 ⌝ }
 {
-    let reference = silent_eat_reference(p, t, ev, rep, pool);
+    let reference = silent_eat_reference(p, tokens, events, reports, pool);
     if reference.yes {
         return told(reference);
     }
-    let ident = reference.p.silent_at(t, token_kind::IDENT);
+    let ident = reference.p.silent_at(tokens, token_kind::IDENT);
     if ident.yes {
-        let q = macro_invocation(ident.p, t, ev, rep, pool);
-        return Told {
+        let q = macro_invocation(ident.p, tokens, events, reports, pool);
+        return ParserAnswered {
             p: q,
-            answer: Answer::Yes,
+            ans: Ans::Yes,
         };
     }
     let bytes = ident
         .p
-        .silent_eat(t, ev, Matcher::Kind(token_kind::DT_BYTESTRING));
+        .silent_eat(tokens, events, Matcher::Kind(token_kind::DT_BYTESTRING));
     if bytes.yes {
         return told(bytes);
     }
-    let include = eat_dts_include(bytes.p, t, ev, rep, pool);
+    let include = eat_dts_include(bytes.p, tokens, events, reports, pool);
     if include.yes {
         return told(include);
     }
     let directive = eat_preprocessor_directive(
         include.p,
-        t,
-        ev,
-        rep,
+        tokens,
+        events,
+        reports,
         pool,
-        room,
+        allowed,
         Inside::Values(semicolon),
     );
     if directive.yes {
@@ -372,10 +373,10 @@ fn value2(
     }
     let q = directive
         .p
-        .error(t, ev, rep, pool, EXPECTED, NO_HINT, Bump::YesWrapErr);
-    Told {
+        .error(tokens, events, reports, pool, EXPECTED, NO_HINT, Bump::YesWrapErr);
+    ParserAnswered {
         p: q,
-        answer: Answer::Also,
+        ans: Ans::Also,
     }
 }
 
@@ -384,55 +385,55 @@ fn value2(
 // The caller's marker. The cursor stands at a Semicolon or an Equals.
 fn dt_property(
     p: Parser,
-    t: &[u32],
-    ev: &mut [u32],
-    rep: &mut [u32],
+    tokens: &[u32],
+    events: &mut [u32],
+    reports: &mut [u32],
     pool: &mut [u32],
     room: usize,
     m: Marker,
 ) -> Parser
-    ensures { λ r. ⌜ said yes (view-of r (now (ev .exit)) (now (rep .exit)) (now (pool .exit))) ≡ closed (marker-of m) (walk-prog room (tokens-of (now (t .entry))) unlabelled dt-property (view-of p (now (ev .entry)) (now (rep .entry)) (now (pool .entry)))) ⌝ }
-    ensures { λ r. ⌜ left (now (t .entry)) (r .s) ≤ left (now (t .entry)) (p .s) - 1 ⌝ }
+    ensures { λ r. ⌜ said yes (view-of r (now (events .exit)) (now (reports .exit)) (now (pool .exit))) ≡ closed (marker-of m) (walk-prog allowed (tokens-of (now (tokens .entry))) unlabelled dt-property (view-of p (now (events .entry)) (now (reports .entry)) (now (pool .entry)))) ⌝ }
+    ensures { λ r. ⌜ left (now (tokens .entry)) (r .s) ≤ left (now (tokens .entry)) (p .s) - 1 ⌝ }
 {
-    let empty = p.eat(t, ev, Matcher::Kind(token_kind::SEMICOLON));
+    let empty = p.eat(tokens, events, Matcher::Kind(token_kind::SEMICOLON));
     if empty.yes {
-        return empty.p.complete(ev, m, node_kind::DT_PROPERTY);
+        return empty.p.complete(events, m, node_kind::DT_PROPERTY);
     }
-    let equals = empty.p.bump(t, ev);
+    let equals = empty.p.bump(tokens, events);
     let list_m = Marker::new(equals.s);
-    let started = equals.start(ev);
-    let values = propvalues(started, t, ev, rep, pool, room, true);
-    let list = values.p.complete(ev, list_m, node_kind::PROP_VALUE_LIST);
+    let started = equals.start(events);
+    let values = propvalues(started, tokens, events, reports, pool, allowed, true);
+    let list = values.p.complete(events, list_m, node_kind::PROP_VALUE_LIST);
     if values.yes {
         let semicolon = Matcher::Kind(token_kind::SEMICOLON);
-        let end = list.expect_recoverable(t, ev, rep, pool, semicolon, &ITEM_RECOVERY_SET);
-        end.p.complete(ev, m, node_kind::DT_PROPERTY)
+        let end = list.expect_recoverable(tokens, events, reports, pool, semicolon, &ITEM_RECOVERY_SET);
+        end.p.complete(events, m, node_kind::DT_PROPERTY)
     } else {
-        list.complete(ev, m, node_kind::PARSE_ERROR)
+        list.complete(events, m, node_kind::PARSE_ERROR)
     }
 }
 
 // The caller's marker. The cursor stands at the LCurly.
 fn dt_node_body(
     p: Parser,
-    t: &[u32],
-    ev: &mut [u32],
-    rep: &mut [u32],
+    tokens: &[u32],
+    events: &mut [u32],
+    reports: &mut [u32],
     pool: &mut [u32],
     room: usize,
     m: Marker,
 ) -> Parser
-    ensures { λ r. ⌜ said yes (view-of r (now (ev .exit)) (now (rep .exit)) (now (pool .exit))) ≡ closed (marker-of m) (walk-prog room (tokens-of (now (t .entry))) unlabelled dt-node-body (view-of p (now (ev .entry)) (now (rep .entry)) (now (pool .entry)))) ⌝ }
-    ensures { λ r. ⌜ left (now (t .entry)) (r .s) ≤ left (now (t .entry)) (p .s) - 1 ⌝ }
+    ensures { λ r. ⌜ said yes (view-of r (now (events .exit)) (now (reports .exit)) (now (pool .exit))) ≡ closed (marker-of m) (walk-prog allowed (tokens-of (now (tokens .entry))) unlabelled dt-node-body (view-of p (now (events .entry)) (now (reports .entry)) (now (pool .entry)))) ⌝ }
+    ensures { λ r. ⌜ left (now (tokens .entry)) (r .s) ≤ left (now (tokens .entry)) (p .s) - 1 ⌝ }
 {
-    let lcurly_span = p.s.range(t);
-    let mut q = p.bump(t, ev);
+    let lcurly_span = p.s.range(tokens);
+    let mut q = p.bump(tokens, events);
     loop {
-        let more = at_item(q, t);
+        let more = at_item(q, tokens);
         if more.yes {
-            q = item(more.p, t, ev, rep, pool, room);
+            q = item(more.p, tokens, events, reports, pool, allowed);
         } else {
-            return node_end(more.p, t, ev, rep, pool, m, lcurly_span);
+            return node_end(more.p, tokens, events, reports, pool, m, lcurly_span);
         }
     }
 }
@@ -441,118 +442,118 @@ fn dt_node_body(
 
 fn item(
     p: Parser,
-    t: &[u32],
-    ev: &mut [u32],
-    rep: &mut [u32],
+    tokens: &[u32],
+    events: &mut [u32],
+    reports: &mut [u32],
     pool: &mut [u32],
     room: usize,
 ) -> Parser
-    ensures { λ r. ⌜ view-of r (now (ev .exit)) (now (rep .exit)) (now (pool .exit)) ≡ walk-rule room (tokens-of (now (t .entry))) item (view-of p (now (ev .entry)) (now (rep .entry)) (now (pool .entry))) .on ⌝ }
-    ensures { λ r. ⌜ left (now (t .entry)) (r .s) ≤ left (now (t .entry)) (p .s) - 1 ⌝ }
+    ensures { λ r. ⌜ view-of r (now (events .exit)) (now (reports .exit)) (now (pool .exit)) ≡ walk-rule allowed (tokens-of (now (tokens .entry))) item (view-of p (now (events .entry)) (now (reports .entry)) (now (pool .entry))) .on ⌝ }
+    ensures { λ r. ⌜ left (now (tokens .entry)) (r .s) ≤ left (now (tokens .entry)) (p .s) - 1 ⌝ }
 {
-    let closed = room == 0;
+    let closed = allowed == 0;
     if closed {
-        return p.refuse(5);
+        return p.refuse(TOO_DEEP);
     }
-    let named = eat_node_or_prop(p, t, ev, rep, pool, room - 1);
+    let named = eat_node_or_prop(p, tokens, events, reports, pool, allowed - 1);
     if named.yes {
         return named.p;
     }
-    let equals = named.p.silent_at(t, token_kind::EQUALS);
+    let equals = named.p.silent_at(tokens, token_kind::EQUALS);
     if equals.yes {
         let m = Marker::new(equals.p.s);
-        let started = equals.p.start(ev);
-        let reported = started.error(t, ev, rep, pool, EXPECTED, UNNAMED_PROPERTY, Bump::No);
+        let started = equals.p.start(events);
+        let reported = started.error(tokens, events, reports, pool, EXPECTED, UNNAMED_PROPERTY, Bump::No);
         let m_prop = Marker::new(reported.s);
-        let inner = reported.start(ev);
-        let property = dt_property(inner, t, ev, rep, pool, room - 1, m_prop);
-        return property.complete(ev, m, node_kind::PARSE_ERROR);
+        let inner = reported.start(events);
+        let property = dt_property(inner, tokens, events, reports, pool, allowed - 1, m_prop);
+        return property.complete(events, m, node_kind::PARSE_ERROR);
     }
-    let lcurly = equals.p.silent_at(t, token_kind::LCURLY);
+    let lcurly = equals.p.silent_at(tokens, token_kind::LCURLY);
     if lcurly.yes {
         let m = Marker::new(lcurly.p.s);
-        let started = lcurly.p.start(ev);
-        let reported = started.error(t, ev, rep, pool, EXPECTED, UNNAMED_NODE, Bump::No);
+        let started = lcurly.p.start(events);
+        let reported = started.error(tokens, events, reports, pool, EXPECTED, UNNAMED_NODE, Bump::No);
         let m_node = Marker::new(reported.s);
-        let inner = reported.start(ev);
-        let body = dt_node_body(inner, t, ev, rep, pool, room - 1, m_node);
-        return body.complete(ev, m, node_kind::PARSE_ERROR);
+        let inner = reported.start(events);
+        let body = dt_node_body(inner, tokens, events, reports, pool, allowed - 1, m_node);
+        return body.complete(events, m, node_kind::PARSE_ERROR);
     }
-    item2(lcurly.p, t, ev, rep, pool, room - 1)
+    item2(lcurly.p, tokens, events, reports, pool, allowed - 1)
 }
 
 // The last cases of `item`.
 fn item2(
     p: Parser,
-    t: &[u32],
-    ev: &mut [u32],
-    rep: &mut [u32],
+    tokens: &[u32],
+    events: &mut [u32],
+    reports: &mut [u32],
     pool: &mut [u32],
     room: usize,
 ) -> Parser
-    ensures { λ r. ⌜ said yes (view-of r (now (ev .exit)) (now (rep .exit)) (now (pool .exit))) ≡ walk-prog room (tokens-of (now (t .entry))) unlabelled item-rest (view-of p (now (ev .entry)) (now (rep .entry)) (now (pool .entry))) ⌝ }
-    ensures { λ r. ⌜ left (now (t .entry)) (r .s) ≤ left (now (t .entry)) (p .s) - 1 ⌝ }
+    ensures { λ r. ⌜ said yes (view-of r (now (events .exit)) (now (reports .exit)) (now (pool .exit))) ≡ walk-prog allowed (tokens-of (now (tokens .entry))) unlabelled item-rest (view-of p (now (events .entry)) (now (reports .entry)) (now (pool .entry))) ⌝ }
+    ensures { λ r. ⌜ left (now (tokens .entry)) (r .s) ≤ left (now (tokens .entry)) (p .s) - 1 ⌝ }
 {
-    let semicolon = p.silent_at(t, token_kind::SEMICOLON);
+    let semicolon = p.silent_at(tokens, token_kind::SEMICOLON);
     if semicolon.yes {
         return semicolon.p.error(
-            t,
-            ev,
-            rep,
+            tokens,
+            events,
+            reports,
             pool,
             UNMATCHED_SEMICOLON,
             NO_HINT,
             Bump::YesWrapErr,
         );
     }
-    let dts = eat_dts_directive(semicolon.p, t, ev, rep, pool);
+    let dts = eat_dts_directive(semicolon.p, tokens, events, reports, pool);
     if dts.yes {
         return dts.p;
     }
-    let directive = eat_preprocessor_directive(dts.p, t, ev, rep, pool, room, Inside::Item);
+    let directive = eat_preprocessor_directive(dts.p, tokens, events, reports, pool, allowed, Inside::Item);
     if directive.yes {
         return directive.p;
     }
     directive
         .p
-        .error(t, ev, rep, pool, EXPECTED, NO_HINT, Bump::YesWrapErr)
+        .error(tokens, events, reports, pool, EXPECTED, NO_HINT, Bump::YesWrapErr)
 }
 
 fn eat_node_or_prop(
     p: Parser,
-    t: &[u32],
-    ev: &mut [u32],
-    rep: &mut [u32],
+    tokens: &[u32],
+    events: &mut [u32],
+    reports: &mut [u32],
     pool: &mut [u32],
     room: usize,
-) -> Tested
-    ensures { λ r. ⌜ tested-as r (now (ev .exit)) (now (rep .exit)) (now (pool .exit)) ≡ walk-prog room (tokens-of (now (t .entry))) unlabelled eat-node-or-prop (view-of p (now (ev .entry)) (now (rep .entry)) (now (pool .entry))) ⌝ }
-    ensures { λ r. ⌜ left (now (t .entry)) (r .p .s) ≤ left (now (t .entry)) (p .s) ⌝ }
-    ensures { λ r. ⌜ (r .yes ≡ true → left (now (t .entry)) (r .p .s) ≤ left (now (t .entry)) (p .s) - 1) ⌝ }
+) -> ParserTested
+    ensures { λ r. ⌜ parser-tested r (now (events .exit)) (now (reports .exit)) (now (pool .exit)) ≡ walk-prog allowed (tokens-of (now (tokens .entry))) unlabelled eat-node-or-prop (view-of p (now (events .entry)) (now (reports .entry)) (now (pool .entry))) ⌝ }
+    ensures { λ r. ⌜ left (now (tokens .entry)) (r .p .s) ≤ left (now (tokens .entry)) (p .s) ⌝ }
+    ensures { λ r. ⌜ (r .yes ≡ true → left (now (tokens .entry)) (r .p .s) ≤ left (now (tokens .entry)) (p .s) - 1) ⌝ }
 {
     let m = Marker::new(p.s);
-    let started = p.start(ev);
-    let prefix = eat_node_or_prop_prefix(started, t, ev, rep, pool);
-    let answer = prefix.answer;
+    let started = p.start(events);
+    let prefix = eat_node_or_prop_prefix(started, tokens, events, reports, pool);
+    let answer = prefix.ans;
     match answer {
-        Answer::No => {
-            let q = prefix.p.ignore(ev);
-            Tested { p: q, yes: false }
+        Ans::No => {
+            let q = prefix.p.ignore(events);
+            ParserTested { p: q, yes: false }
         }
-        Answer::Also => {
+        Ans::Also => {
             let property = prefix
                 .p
-                .at(t, Matcher::Either(token_kind::EQUALS, token_kind::SEMICOLON));
+                .at(tokens, Matcher::Either(token_kind::EQUALS, token_kind::SEMICOLON));
             if property.yes {
-                let q = dt_property(property.p, t, ev, rep, pool, room, m);
-                return Tested { p: q, yes: true };
+                let q = dt_property(property.p, tokens, events, reports, pool, allowed, m);
+                return ParserTested { p: q, yes: true };
             }
-            let q = rest(property.p, t, ev, rep, pool, room, m, true);
-            Tested { p: q, yes: true }
+            let q = rest(property.p, tokens, events, reports, pool, allowed, m, true);
+            ParserTested { p: q, yes: true }
         }
         _ => {
-            let q = rest(prefix.p, t, ev, rep, pool, room, m, false);
-            Tested { p: q, yes: true }
+            let q = rest(prefix.p, tokens, events, reports, pool, allowed, m, false);
+            ParserTested { p: q, yes: true }
         }
     }
 }
@@ -560,39 +561,39 @@ fn eat_node_or_prop(
 // What follows the prefix, a property apart. The caller's marker.
 fn rest(
     p: Parser,
-    t: &[u32],
-    ev: &mut [u32],
-    rep: &mut [u32],
+    tokens: &[u32],
+    events: &mut [u32],
+    reports: &mut [u32],
     pool: &mut [u32],
     room: usize,
     m: Marker,
     allow_prop: bool,
 ) -> Parser
-    ensures { λ r. ⌜ said yes (view-of r (now (ev .exit)) (now (rep .exit)) (now (pool .exit))) ≡ closed (marker-of m) (walk-prog room (tokens-of (now (t .entry))) unlabelled (no-property «allow_prop») (view-of p (now (ev .entry)) (now (rep .entry)) (now (pool .entry)))) ⌝ }
-    ensures { λ r. ⌜ left (now (t .entry)) (r .s) ≤ left (now (t .entry)) (p .s) ⌝ }
+    ensures { λ r. ⌜ said yes (view-of r (now (events .exit)) (now (reports .exit)) (now (pool .exit))) ≡ closed (marker-of m) (walk-prog allowed (tokens-of (now (tokens .entry))) unlabelled (no-property «allow_prop») (view-of p (now (events .entry)) (now (reports .entry)) (now (pool .entry)))) ⌝ }
+    ensures { λ r. ⌜ left (now (tokens .entry)) (r .s) ≤ left (now (tokens .entry)) (p .s) ⌝ }
 {
-    let lcurly = p.at(t, Matcher::Kind(token_kind::LCURLY));
+    let lcurly = p.at(tokens, Matcher::Kind(token_kind::LCURLY));
     if lcurly.yes {
-        return dt_node_body(lcurly.p, t, ev, rep, pool, room, m);
+        return dt_node_body(lcurly.p, tokens, events, reports, pool, allowed, m);
     }
-    let rcurly = lcurly.p.silent_at(t, token_kind::RCURLY);
+    let rcurly = lcurly.p.silent_at(tokens, token_kind::RCURLY);
     if rcurly.yes {
         let q = rcurly
             .p
-            .error(t, ev, rep, pool, EXPECTED, NO_HINT, Bump::Yes);
-        return q.complete(ev, m, node_kind::PARSE_ERROR);
+            .error(tokens, events, reports, pool, EXPECTED, NO_HINT, Bump::Yes);
+        return q.complete(events, m, node_kind::PARSE_ERROR);
     }
-    let forbidden = forbidden_property(rcurly.p, t, allow_prop);
+    let forbidden = forbidden_property(rcurly.p, tokens, allow_prop);
     if forbidden.yes {
         let reported = forbidden
             .p
-            .error(t, ev, rep, pool, EXPECTED, PROPERTY_NOT_ALLOWED, Bump::No);
+            .error(tokens, events, reports, pool, EXPECTED, PROPERTY_NOT_ALLOWED, Bump::No);
         let m_prop = Marker::new(reported.s);
-        let inner = reported.start(ev);
-        let property = dt_property(inner, t, ev, rep, pool, room, m_prop);
-        return property.complete(ev, m, node_kind::PARSE_ERROR);
+        let inner = reported.start(events);
+        let property = dt_property(inner, tokens, events, reports, pool, allowed, m_prop);
+        return property.complete(events, m, node_kind::PARSE_ERROR);
     }
-    unfinished(forbidden.p, t, ev, rep, pool, m)
+    unfinished(forbidden.p, tokens, events, reports, pool, m)
 }
 
 // ---- preprocessor_directive.rs
@@ -600,93 +601,93 @@ fn rest(
 // What a branch holds, once. no: nothing was there.
 fn eat_inside(
     p: Parser,
-    t: &[u32],
-    ev: &mut [u32],
-    rep: &mut [u32],
+    tokens: &[u32],
+    events: &mut [u32],
+    reports: &mut [u32],
     pool: &mut [u32],
     room: usize,
     inside: Inside,
-) -> Tested
-    ensures { λ r. ⌜ tested-as r (now (ev .exit)) (now (rep .exit)) (now (pool .exit)) ≡ walk-prog room (tokens-of (now (t .entry))) unlabelled (eat-inside (inside-of inside)) (view-of p (now (ev .entry)) (now (rep .entry)) (now (pool .entry))) ⌝ }
-    ensures { λ r. ⌜ left (now (t .entry)) (r .p .s) ≤ left (now (t .entry)) (p .s) ⌝ }
-    ensures { λ r. ⌜ (r .yes ≡ true → left (now (t .entry)) (r .p .s) ≤ left (now (t .entry)) (p .s) - 1) ⌝ }
+) -> ParserTested
+    ensures { λ r. ⌜ parser-tested r (now (events .exit)) (now (reports .exit)) (now (pool .exit)) ≡ walk-prog allowed (tokens-of (now (tokens .entry))) unlabelled (eat-inside (inside-of inside)) (view-of p (now (events .entry)) (now (reports .entry)) (now (pool .entry))) ⌝ }
+    ensures { λ r. ⌜ left (now (tokens .entry)) (r .p .s) ≤ left (now (tokens .entry)) (p .s) ⌝ }
+    ensures { λ r. ⌜ (r .yes ≡ true → left (now (tokens .entry)) (r .p .s) ≤ left (now (tokens .entry)) (p .s) - 1) ⌝ }
 {
     match inside {
         Inside::Item => {
-            let q = item(p, t, ev, rep, pool, room);
-            Tested { p: q, yes: true }
+            let q = item(p, tokens, events, reports, pool, allowed);
+            ParserTested { p: q, yes: true }
         }
         Inside::Values(semicolon) => {
-            let values = propvalues(p, t, ev, rep, pool, room, semicolon);
+            let values = propvalues(p, tokens, events, reports, pool, allowed, semicolon);
             let q = values.p;
-            Tested { p: q, yes: true }
+            ParserTested { p: q, yes: true }
         }
-        Inside::Cell(at_end) => eat_cell(p, t, ev, rep, pool, room, at_end),
+        Inside::Cell(until_end) => eat_cell(p, tokens, events, reports, pool, allowed, until_end),
     }
 }
 
 // One branch, up to its end (no) or to a continuation (yes).
 fn arm(
     p: Parser,
-    t: &[u32],
-    ev: &mut [u32],
-    rep: &mut [u32],
+    tokens: &[u32],
+    events: &mut [u32],
+    reports: &mut [u32],
     pool: &mut [u32],
     room: usize,
     inside: Inside,
-) -> Tested
-    ensures { λ r. ⌜ tested-as r (now (ev .exit)) (now (rep .exit)) (now (pool .exit)) ≡ walk-prog room (tokens-of (now (t .entry))) unlabelled (branch (inside-of inside)) (view-of p (now (ev .entry)) (now (rep .entry)) (now (pool .entry))) ⌝ }
-    ensures { λ r. ⌜ left (now (t .entry)) (r .p .s) ≤ left (now (t .entry)) (p .s) ⌝ }
-    ensures { λ r. ⌜ (r .yes ≡ true → 0 < left (now (t .entry)) (p .s)) ⌝ }
+) -> ParserTested
+    ensures { λ r. ⌜ parser-tested r (now (events .exit)) (now (reports .exit)) (now (pool .exit)) ≡ walk-prog allowed (tokens-of (now (tokens .entry))) unlabelled (branch (inside-of inside)) (view-of p (now (events .entry)) (now (reports .entry)) (now (pool .entry))) ⌝ }
+    ensures { λ r. ⌜ left (now (tokens .entry)) (r .p .s) ≤ left (now (tokens .entry)) (p .s) ⌝ }
+    ensures { λ r. ⌜ (r .yes ≡ true → 0 < left (now (tokens .entry)) (p .s)) ⌝ }
 {
     let m_branch = Marker::new(p.s);
-    let mut q = p.start(ev);
+    let mut q = p.start(events);
     loop {
-        let endif = q.at(t, Matcher::Kind(token_kind::ENDIF_DIRECTIVE));
+        let endif = q.at(tokens, Matcher::Kind(token_kind::ENDIF_DIRECTIVE));
         if endif.yes {
-            let r = endif.p.complete(ev, m_branch, node_kind::PREPROCESSOR_BRANCH);
-            return Tested { p: r, yes: false };
+            let r = endif.p.complete(events, m_branch, node_kind::PREPROCESSOR_BRANCH);
+            return ParserTested { p: r, yes: false };
         }
-        let end = endif.p.at_end(t);
+        let end = endif.p.at_end(tokens);
         if end.yes {
-            let r = end.p.complete(ev, m_branch, node_kind::PREPROCESSOR_BRANCH);
-            return Tested { p: r, yes: false };
+            let r = end.p.complete(events, m_branch, node_kind::PREPROCESSOR_BRANCH);
+            return ParserTested { p: r, yes: false };
         }
-        let next = end.p.silent_at_set(t, &CONTINUE_COND_SET);
+        let next = end.p.silent_at_set(tokens, &CONTINUE_COND_SET);
         if next.yes {
-            let r = next.p.complete(ev, m_branch, node_kind::PREPROCESSOR_BRANCH);
-            return Tested { p: r, yes: true };
+            let r = next.p.complete(events, m_branch, node_kind::PREPROCESSOR_BRANCH);
+            return ParserTested { p: r, yes: true };
         }
-        let more = eat_inside(next.p, t, ev, rep, pool, room, inside);
+        let more = eat_inside(next.p, tokens, events, reports, pool, allowed, inside);
         if more.yes {
             q = more.p;
         } else {
-            let r = more.p.complete(ev, m_branch, node_kind::PREPROCESSOR_BRANCH);
-            return Tested { p: r, yes: false };
+            let r = more.p.complete(events, m_branch, node_kind::PREPROCESSOR_BRANCH);
+            return ParserTested { p: r, yes: false };
         }
     }
 }
 
 fn cond_branches_and_end(
     p: Parser,
-    t: &[u32],
-    ev: &mut [u32],
-    rep: &mut [u32],
+    tokens: &[u32],
+    events: &mut [u32],
+    reports: &mut [u32],
     pool: &mut [u32],
     room: usize,
     inside: Inside,
 ) -> Parser
-    ensures { λ r. ⌜ view-of r (now (ev .exit)) (now (rep .exit)) (now (pool .exit)) ≡ walk-prog room (tokens-of (now (t .entry))) unlabelled (cond-branches-and-end (inside-of inside)) (view-of p (now (ev .entry)) (now (rep .entry)) (now (pool .entry))) .on ⌝ }
-    ensures { λ r. ⌜ left (now (t .entry)) (r .s) ≤ left (now (t .entry)) (p .s) ⌝ }
+    ensures { λ r. ⌜ view-of r (now (events .exit)) (now (reports .exit)) (now (pool .exit)) ≡ walk-prog allowed (tokens-of (now (tokens .entry))) unlabelled (cond-branches-and-end (inside-of inside)) (view-of p (now (events .entry)) (now (reports .entry)) (now (pool .entry))) .on ⌝ }
+    ensures { λ r. ⌜ left (now (tokens .entry)) (r .s) ≤ left (now (tokens .entry)) (p .s) ⌝ }
 {
     let mut q = p;
     loop {
-        let more = arm(q, t, ev, rep, pool, room, inside);
+        let more = arm(q, tokens, events, reports, pool, allowed, inside);
         if more.yes {
-            q = more.p.bump(t, ev);
+            q = more.p.bump(tokens, events);
         } else {
             let end = more.p
-                .expect(t, ev, rep, pool, Matcher::Kind(token_kind::ENDIF_DIRECTIVE));
+                .expect(tokens, events, reports, pool, Matcher::Kind(token_kind::ENDIF_DIRECTIVE));
             return end.p;
         }
     }
@@ -694,31 +695,31 @@ fn cond_branches_and_end(
 
 fn eat_preprocessor_directive(
     p: Parser,
-    t: &[u32],
-    ev: &mut [u32],
-    rep: &mut [u32],
+    tokens: &[u32],
+    events: &mut [u32],
+    reports: &mut [u32],
     pool: &mut [u32],
     room: usize,
     inside: Inside,
-) -> Tested
-    ensures { λ r. ⌜ tested-as r (now (ev .exit)) (now (rep .exit)) (now (pool .exit)) ≡ walk-prog room (tokens-of (now (t .entry))) unlabelled (eat-preprocessor-directive (inside-of inside)) (view-of p (now (ev .entry)) (now (rep .entry)) (now (pool .entry))) ⌝ }
-    ensures { λ r. ⌜ left (now (t .entry)) (r .p .s) ≤ left (now (t .entry)) (p .s) ⌝ }
-    ensures { λ r. ⌜ (r .yes ≡ true → left (now (t .entry)) (r .p .s) < left (now (t .entry)) (p .s)) ⌝ }
+) -> ParserTested
+    ensures { λ r. ⌜ parser-tested r (now (events .exit)) (now (reports .exit)) (now (pool .exit)) ≡ walk-prog allowed (tokens-of (now (tokens .entry))) unlabelled (eat-preprocessor-directive (inside-of inside)) (view-of p (now (events .entry)) (now (reports .entry)) (now (pool .entry))) ⌝ }
+    ensures { λ r. ⌜ left (now (tokens .entry)) (r .p .s) ≤ left (now (tokens .entry)) (p .s) ⌝ }
+    ensures { λ r. ⌜ (r .yes ≡ true → left (now (tokens .entry)) (r .p .s) < left (now (tokens .entry)) (p .s)) ⌝ }
 {
     let pushed = p.add_expected(expected::PREPROCESSOR_DIRECTIVE);
-    let directive = pushed.silent_at_set(t, &PREPROCESSOR_DIRECTIVES);
+    let directive = pushed.silent_at_set(tokens, &PREPROCESSOR_DIRECTIVES);
     if directive.yes {
-        let begin = directive.p.silent_at_set(t, &BEGIN_COND_SET);
+        let begin = directive.p.silent_at_set(tokens, &BEGIN_COND_SET);
         if begin.yes {
             let m_cond = Marker::new(begin.p.s);
-            let started = begin.p.start(ev);
-            let first = started.bump(t, ev);
-            let branches = cond_branches_and_end(first, t, ev, rep, pool, room, inside);
-            let q = branches.complete(ev, m_cond, node_kind::PREPROCESSOR_CONDITIONAL);
-            return Tested { p: q, yes: true };
+            let started = begin.p.start(events);
+            let first = started.bump(tokens, events);
+            let branches = cond_branches_and_end(first, tokens, events, reports, pool, allowed, inside);
+            let q = branches.complete(events, m_cond, node_kind::PREPROCESSOR_CONDITIONAL);
+            return ParserTested { p: q, yes: true };
         }
-        let q = begin.p.bump(t, ev);
-        return Tested { p: q, yes: true };
+        let q = begin.p.bump(tokens, events);
+        return ParserTested { p: q, yes: true };
     }
     directive
 }

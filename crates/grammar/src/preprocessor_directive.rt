@@ -3,7 +3,7 @@ use crate::cond_branches_and_end;
 use layout::token_kind;
 use names::CONTINUE_COND_SET;
 use parser::Parser;
-use parser::Tested;
+use parser::ParserTested;
 use parser::errors::Bump;
 use layout::hint::NO_HINT;
 use layout::message::STRAY_CONTINUATION;
@@ -18,7 +18,7 @@ ghost use Rattle.definitions.specs.Token.{tokens-of};
 ghost use Rattle.definitions.specs.Skeleton.{Span};
 ghost use Rattle.definitions.specs.Grammar.{catch-unmatched-pp-directive};
 ghost use Rattle.machine.specs.Walk.{walk-prog, unlabelled};
-ghost use Rattle.parser.specs.View.{view-of, tested-as, left};
+ghost use Rattle.parser.specs.View.{view-of, parser-tested, left};
 ghost use Rattle.grammar.specs.Parts.{inside-of};
 
 // What a conditional's branch holds, in the place of the closures `eat_inside`: items, values (whether a semicolon ends
@@ -54,32 +54,32 @@ pub const PREPROCESSOR_DIRECTIVES: [u8; 13] = [
 
 pub fn catch_unmatched_pp_directive(
     p: Parser,
-    t: &[u32],
-    ev: &mut [u32],
-    rep: &mut [u32],
+    tokens: &[u32],
+    events: &mut [u32],
+    reports: &mut [u32],
     pool: &mut [u32],
     room: usize,
     inside: Inside,
-) -> Tested
-    ensures { λ r. ⌜ tested-as r (now (ev .exit)) (now (rep .exit)) (now (pool .exit)) ≡ walk-prog room (tokens-of (now (t .entry))) unlabelled (catch-unmatched-pp-directive (inside-of inside)) (view-of p (now (ev .entry)) (now (rep .entry)) (now (pool .entry))) ⌝ }
-    ensures { λ r. ⌜ left (now (t .entry)) (r .p .s) ≤ left (now (t .entry)) (p .s) ⌝ }
-    ensures { λ r. ⌜ (r .yes ≡ true → left (now (t .entry)) (r .p .s) ≤ left (now (t .entry)) (p .s) - 1) ⌝ }
+) -> ParserTested
+    ensures { λ r. ⌜ parser-tested r (now (events .exit)) (now (reports .exit)) (now (pool .exit)) ≡ walk-prog allowed (tokens-of (now (tokens .entry))) unlabelled (catch-unmatched-pp-directive (inside-of inside)) (view-of p (now (events .entry)) (now (reports .entry)) (now (pool .entry))) ⌝ }
+    ensures { λ r. ⌜ left (now (tokens .entry)) (r .p .s) ≤ left (now (tokens .entry)) (p .s) ⌝ }
+    ensures { λ r. ⌜ (r .yes ≡ true → left (now (tokens .entry)) (r .p .s) ≤ left (now (tokens .entry)) (p .s) - 1) ⌝ }
 {
-    let endif = p.silent_at(t, token_kind::ENDIF_DIRECTIVE);
+    let endif = p.silent_at(tokens, token_kind::ENDIF_DIRECTIVE);
     if endif.yes {
-        let q = endif.p.error(t, ev, rep, pool, UNMATCHED_ENDIF, NO_HINT, Bump::YesWrapErr);
-        return Tested { p: q, yes: true };
+        let q = endif.p.error(tokens, events, reports, pool, UNMATCHED_ENDIF, NO_HINT, Bump::YesWrapErr);
+        return ParserTested { p: q, yes: true };
     }
-    let next = endif.p.silent_at_set(t, &CONTINUE_COND_SET);
+    let next = endif.p.silent_at_set(tokens, &CONTINUE_COND_SET);
     if next.yes {
         let reported = next.p
-            .error(t, ev, rep, pool, STRAY_CONTINUATION, NO_HINT, Bump::No);
+            .error(tokens, events, reports, pool, STRAY_CONTINUATION, NO_HINT, Bump::No);
         let m_err = Marker::new(reported.s);
-        let started = reported.start(ev);
-        let first = started.bump(t, ev);
-        let branches = cond_branches_and_end(first, t, ev, rep, pool, room, inside);
-        let q = branches.complete(ev, m_err, node_kind::PARSE_ERROR);
-        return Tested { p: q, yes: true };
+        let started = reported.start(events);
+        let first = started.bump(tokens, events);
+        let branches = cond_branches_and_end(first, tokens, events, reports, pool, allowed, inside);
+        let q = branches.complete(events, m_err, node_kind::PARSE_ERROR);
+        return ParserTested { p: q, yes: true };
     }
     next
 }

@@ -8,7 +8,7 @@ pub mod unit_address;
 
 use layout::token_kind;
 use parser::Parser;
-use parser::Tested;
+use parser::ParserTested;
 ghost use mathlib.Core.Path.{_≡_};
 ghost use mathlib.Core.Bool.{true};
 ghost use Prim.Native.Nat.{_-_, _≤_};
@@ -19,7 +19,7 @@ ghost use Rattle.definitions.specs.Check.{silent-eat as silent-eat-prog};
 ghost use Rattle.definitions.specs.Grammar.{macro-invocation as macro-invocation-prog, reference-noamp as reference-noamp-prog, Reference};
 ghost use Rattle.machine.specs.Machine.{Machine};
 ghost use Rattle.machine.specs.Walk.{Walked, said, walk};
-ghost use Rattle.parser.specs.View.{view-of, tested-as, left};
+ghost use Rattle.parser.specs.View.{view-of, parser-tested, left};
 
 // preprocessor_directive.rs: what continues a conditional. A path ends there too.
 pub const CONTINUE_COND_SET: [u8; 4] = [
@@ -59,48 +59,48 @@ pub const ITEM_RECOVERY_SET: [u8; 24] = [
 
 pub fn macro_invocation(
     p: Parser,
-    t: &[u32],
-    ev: &mut [u32],
-    rep: &mut [u32],
+    tokens: &[u32],
+    events: &mut [u32],
+    reports: &mut [u32],
     pool: &mut [u32],
 ) -> Parser
-    ensures { λ r. ⌜ ((ask : Rule → Machine → Walked) (b : Span) → said yes (view-of r (now (ev .exit)) (now (rep .exit)) (now (pool .exit))) ≡ walk ask (tokens-of (now (t .entry))) b macro-invocation-prog (view-of p (now (ev .entry)) (now (rep .entry)) (now (pool .entry)))) ⌝ }
-    ensures { λ r. ⌜ left (now (t .entry)) (r .s) ≤ left (now (t .entry)) (p .s) - 1 ⌝ }
+    ensures { λ r. ⌜ ((ask : Rule → Machine → Walked) (b : Span) → said yes (view-of r (now (events .exit)) (now (reports .exit)) (now (pool .exit))) ≡ walk ask (tokens-of (now (tokens .entry))) b macro-invocation-prog (view-of p (now (events .entry)) (now (reports .entry)) (now (pool .entry)))) ⌝ }
+    ensures { λ r. ⌜ left (now (tokens .entry)) (r .s) ≤ left (now (tokens .entry)) (p .s) - 1 ⌝ }
 {
     let mut codes = p.codes;
-    let s = macros::macro_invocation(p.s, &mut codes, t, ev, rep, pool);
+    let s = macros::macro_invocation(p.s, &mut codes, tokens, events, reports, pool);
     Parser { codes: codes, s: s }
 }
 
 pub fn silent_eat_reference(
     p: Parser,
-    t: &[u32],
-    ev: &mut [u32],
-    rep: &mut [u32],
+    tokens: &[u32],
+    events: &mut [u32],
+    reports: &mut [u32],
     pool: &mut [u32],
-) -> Tested
-    ensures { λ r. ⌜ ((ask : Rule → Machine → Walked) (b : Span) → tested-as r (now (ev .exit)) (now (rep .exit)) (now (pool .exit)) ≡ walk ask (tokens-of (now (t .entry))) b (silent-eat-prog Reference) (view-of p (now (ev .entry)) (now (rep .entry)) (now (pool .entry)))) ⌝ }
-    ensures { λ r. ⌜ left (now (t .entry)) (r .p .s) ≤ left (now (t .entry)) (p .s) ⌝ }
-    ensures { λ r. ⌜ (r .yes ≡ true → left (now (t .entry)) (r .p .s) ≤ left (now (t .entry)) (p .s) - 1) ⌝ }
+) -> ParserTested
+    ensures { λ r. ⌜ ((ask : Rule → Machine → Walked) (b : Span) → parser-tested r (now (events .exit)) (now (reports .exit)) (now (pool .exit)) ≡ walk ask (tokens-of (now (tokens .entry))) b (silent-eat-prog Reference) (view-of p (now (events .entry)) (now (reports .entry)) (now (pool .entry)))) ⌝ }
+    ensures { λ r. ⌜ left (now (tokens .entry)) (r .p .s) ≤ left (now (tokens .entry)) (p .s) ⌝ }
+    ensures { λ r. ⌜ (r .yes ≡ true → left (now (tokens .entry)) (r .p .s) ≤ left (now (tokens .entry)) (p .s) - 1) ⌝ }
 {
     let mut codes = p.codes;
-    let e = reference::silent_eat(p.s, &mut codes, t, ev, rep, pool);
+    let e = reference::silent_eat(p.s, &mut codes, tokens, events, reports, pool);
     let s = e.s;
     let q = Parser { codes: codes, s: s };
-    Tested { p: q, yes: e.yes }
+    ParserTested { p: q, yes: e.yes }
 }
 
 pub fn reference_noamp(
     p: Parser,
-    t: &[u32],
-    ev: &mut [u32],
-    rep: &mut [u32],
+    tokens: &[u32],
+    events: &mut [u32],
+    reports: &mut [u32],
     pool: &mut [u32],
 ) -> Parser
-    ensures { λ r. ⌜ ((ask : Rule → Machine → Walked) (b : Span) → view-of r (now (ev .exit)) (now (rep .exit)) (now (pool .exit)) ≡ walk ask (tokens-of (now (t .entry))) b reference-noamp-prog (view-of p (now (ev .entry)) (now (rep .entry)) (now (pool .entry))) .on) ⌝ }
-    ensures { λ r. ⌜ left (now (t .entry)) (r .s) ≤ left (now (t .entry)) (p .s) ⌝ }
+    ensures { λ r. ⌜ ((ask : Rule → Machine → Walked) (b : Span) → view-of r (now (events .exit)) (now (reports .exit)) (now (pool .exit)) ≡ walk ask (tokens-of (now (tokens .entry))) b reference-noamp-prog (view-of p (now (events .entry)) (now (reports .entry)) (now (pool .entry))) .on) ⌝ }
+    ensures { λ r. ⌜ left (now (tokens .entry)) (r .s) ≤ left (now (tokens .entry)) (p .s) ⌝ }
 {
     let mut codes = p.codes;
-    let s = reference::reference_noamp(p.s, &mut codes, t, ev, rep, pool);
+    let s = reference::reference_noamp(p.s, &mut codes, tokens, events, reports, pool);
     Parser { codes: codes, s: s }
 }

@@ -1,6 +1,6 @@
 // The matcher MacroSubstitutableName: a macro invocation with arguments, or a plain name.
 use crate::macros::macro_invocation;
-use parser::Seen;
+use parser::StateTested;
 use parser::State;
 use parser::errors::Bump;
 use layout::message::EXPECTED;
@@ -18,73 +18,73 @@ ghost use Rattle.definitions.specs.Check.{at as at-prog, eat as eat-prog, expec
 ghost use Rattle.definitions.specs.Grammar.{MacroSubstitutableName};
 ghost use Rattle.machine.specs.Machine.{Machine};
 ghost use Rattle.machine.specs.Walk.{Walked, said, walk};
-ghost use Rattle.parser.specs.View.{view, left, seen-as};
+ghost use Rattle.parser.specs.View.{view, left, state-tested};
 
-pub fn at(s: State, codes: &mut [u8; 256], t: &[u32]) -> Seen
-    ensures { λ r. ⌜ ((ask : Rule → Machine → Walked) (b : Span) (ev rep pool : List ℕ) → seen-as r (now (codes .exit)) ev rep pool ≡ walk ask (tokens-of (now (t .entry))) b (at-prog MacroSubstitutableName) (view s (now (codes .entry)) ev rep pool)) ⌝ }
-    ensures { λ r. ⌜ left (now (t .entry)) (r .s) ≤ left (now (t .entry)) s ⌝ }
-    ensures { λ r. ⌜ (r .yes ≡ true → 0 < left (now (t .entry)) (r .s)) ⌝ }
+pub fn at(s: State, codes: &mut [u8; 256], tokens: &[u32]) -> StateTested
+    ensures { λ r. ⌜ ((ask : Rule → Machine → Walked) (b : Span) (events reports pool : List ℕ) → state-tested r (now (codes .exit)) events reports pool ≡ walk ask (tokens-of (now (tokens .entry))) b (at-prog MacroSubstitutableName) (view s (now (codes .entry)) events reports pool)) ⌝ }
+    ensures { λ r. ⌜ left (now (tokens .entry)) (r .s) ≤ left (now (tokens .entry)) s ⌝ }
+    ensures { λ r. ⌜ (r .yes ≡ true → 0 < left (now (tokens .entry)) (r .s)) ⌝ }
 {
-    s.at(codes, t, Matcher::Name)
+    s.at(codes, tokens, Matcher::Name)
 }
 
 pub fn consume(
     s: State,
     codes: &mut [u8; 256],
-    t: &[u32],
-    ev: &mut [u32],
-    rep: &mut [u32],
+    tokens: &[u32],
+    events: &mut [u32],
+    reports: &mut [u32],
     pool: &mut [u32],
 ) -> State
-    ensures { λ r. ⌜ ((ask : Rule → Machine → Walked) (b : Span) → said yes (view r (now (codes .exit)) (now (ev .exit)) (now (rep .exit)) (now (pool .exit))) ≡ walk ask (tokens-of (now (t .entry))) b (MacroSubstitutableName .consume) (view s (now (codes .entry)) (now (ev .entry)) (now (rep .entry)) (now (pool .entry)))) ⌝ }
-    ensures { λ r. ⌜ left (now (t .entry)) r ≤ left (now (t .entry)) s - 1 ⌝ }
+    ensures { λ r. ⌜ ((ask : Rule → Machine → Walked) (b : Span) → said yes (view r (now (codes .exit)) (now (events .exit)) (now (reports .exit)) (now (pool .exit))) ≡ walk ask (tokens-of (now (tokens .entry))) b (MacroSubstitutableName .consume) (view s (now (codes .entry)) (now (events .entry)) (now (reports .entry)) (now (pool .entry)))) ⌝ }
+    ensures { λ r. ⌜ left (now (tokens .entry)) r ≤ left (now (tokens .entry)) s - 1 ⌝ }
 {
-    let args = s.silent_at_macro_invocation_with_args(t);
+    let args = s.silent_at_macro_invocation_with_args(tokens);
     if args.yes {
-        macro_invocation(args.s, codes, t, ev, rep, pool)
+        macro_invocation(args.s, codes, tokens, events, reports, pool)
     } else {
-        args.s.bump_name(t, ev, &NAME_SET)
+        args.s.bump_name(tokens, events, &NAME_SET)
     }
 }
 
 pub fn eat(
     s: State,
     codes: &mut [u8; 256],
-    t: &[u32],
-    ev: &mut [u32],
-    rep: &mut [u32],
+    tokens: &[u32],
+    events: &mut [u32],
+    reports: &mut [u32],
     pool: &mut [u32],
-) -> Seen
-    ensures { λ r. ⌜ ((ask : Rule → Machine → Walked) (b : Span) → seen-as r (now (codes .exit)) (now (ev .exit)) (now (rep .exit)) (now (pool .exit)) ≡ walk ask (tokens-of (now (t .entry))) b (eat-prog MacroSubstitutableName) (view s (now (codes .entry)) (now (ev .entry)) (now (rep .entry)) (now (pool .entry)))) ⌝ }
-    ensures { λ r. ⌜ left (now (t .entry)) (r .s) ≤ left (now (t .entry)) s ⌝ }
-    ensures { λ r. ⌜ (r .yes ≡ true → left (now (t .entry)) (r .s) ≤ left (now (t .entry)) s - 1) ⌝ }
+) -> StateTested
+    ensures { λ r. ⌜ ((ask : Rule → Machine → Walked) (b : Span) → state-tested r (now (codes .exit)) (now (events .exit)) (now (reports .exit)) (now (pool .exit)) ≡ walk ask (tokens-of (now (tokens .entry))) b (eat-prog MacroSubstitutableName) (view s (now (codes .entry)) (now (events .entry)) (now (reports .entry)) (now (pool .entry)))) ⌝ }
+    ensures { λ r. ⌜ left (now (tokens .entry)) (r .s) ≤ left (now (tokens .entry)) s ⌝ }
+    ensures { λ r. ⌜ (r .yes ≡ true → left (now (tokens .entry)) (r .s) ≤ left (now (tokens .entry)) s - 1) ⌝ }
 {
-    let name = s.silent(t, Matcher::Name);
+    let name = s.silent(tokens, Matcher::Name);
     if name.yes {
-        let q = consume(name.s, codes, t, ev, rep, pool);
-        Seen { s: q, yes: true }
+        let q = consume(name.s, codes, tokens, events, reports, pool);
+        StateTested { s: q, yes: true }
     } else {
         let q = Matcher::Name.push_expected(name.s, codes);
-        Seen { s: q, yes: false }
+        StateTested { s: q, yes: false }
     }
 }
 
 pub fn expect(
     s: State,
     codes: &mut [u8; 256],
-    t: &[u32],
-    ev: &mut [u32],
-    rep: &mut [u32],
+    tokens: &[u32],
+    events: &mut [u32],
+    reports: &mut [u32],
     pool: &mut [u32],
 ) -> State
-    ensures { λ r. ⌜ ((ask : Rule → Machine → Walked) (b : Span) → view r (now (codes .exit)) (now (ev .exit)) (now (rep .exit)) (now (pool .exit)) ≡ walk ask (tokens-of (now (t .entry))) b (expect-prog MacroSubstitutableName) (view s (now (codes .entry)) (now (ev .entry)) (now (rep .entry)) (now (pool .entry))) .on) ⌝ }
-    ensures { λ r. ⌜ left (now (t .entry)) r ≤ left (now (t .entry)) s ⌝ }
+    ensures { λ r. ⌜ ((ask : Rule → Machine → Walked) (b : Span) → view r (now (codes .exit)) (now (events .exit)) (now (reports .exit)) (now (pool .exit)) ≡ walk ask (tokens-of (now (tokens .entry))) b (expect-prog MacroSubstitutableName) (view s (now (codes .entry)) (now (events .entry)) (now (reports .entry)) (now (pool .entry))) .on) ⌝ }
+    ensures { λ r. ⌜ left (now (tokens .entry)) r ≤ left (now (tokens .entry)) s ⌝ }
 {
-    let name = eat(s, codes, t, ev, rep, pool);
+    let name = eat(s, codes, tokens, events, reports, pool);
     if name.yes {
         name.s
     } else {
         name.s
-            .error(codes, t, ev, rep, pool, EXPECTED, NO_HINT, Bump::No)
+            .error(codes, tokens, events, reports, pool, EXPECTED, NO_HINT, Bump::No)
     }
 }

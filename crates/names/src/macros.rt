@@ -1,6 +1,6 @@
 // `macro_invocation` of grammar.rs: an Ident, and a bracketed argument list directly after it.
 use layout::token_kind;
-use parser::Seen;
+use parser::StateTested;
 use parser::State;
 use parser::marker::Marker;
 use parser::matcher::Matcher;
@@ -18,7 +18,7 @@ ghost use Rattle.definitions.specs.Prog.{Rule, yes, bump-argument, loop};
 ghost use Rattle.definitions.specs.Grammar.{macro-argument-turn, macro-invocation};
 ghost use Rattle.machine.specs.Machine.{Machine};
 ghost use Rattle.machine.specs.Walk.{Walked, said, perform, walk};
-ghost use Rattle.parser.specs.View.{view, left, seen-as};
+ghost use Rattle.parser.specs.View.{view, left, state-tested};
 ghost use Rattle.names.specs.Parts.{argument-list, part};
 
 // What a token is to the argument that it is read in.
@@ -70,28 +70,28 @@ fn part_of(k: u8, level: usize) -> Part
 }
 
 // One argument: every token up to a comma (yes), an RParen or the end (no) outside inner brackets.
-fn bump_argument(s: State, t: &[u32], ev: &mut [u32]) -> Seen
-    ensures { λ r. ⌜ ((b : Span) (codes rep pool : List ℕ) → seen-as r codes (now (ev .exit)) rep pool ≡ perform (tokens-of (now (t .entry))) b bump-argument (view s codes (now (ev .entry)) rep pool)) ⌝ }
-    ensures { λ r. ⌜ left (now (t .entry)) (r .s) ≤ left (now (t .entry)) s ⌝ }
-    ensures { λ r. ⌜ (r .yes ≡ true → 0 < left (now (t .entry)) (r .s)) ⌝ }
+fn bump_argument(s: State, tokens: &[u32], events: &mut [u32]) -> StateTested
+    ensures { λ r. ⌜ ((b : Span) (codes reports pool : List ℕ) → state-tested r codes (now (events .exit)) reports pool ≡ perform (tokens-of (now (tokens .entry))) b bump-argument (view s codes (now (events .entry)) reports pool)) ⌝ }
+    ensures { λ r. ⌜ left (now (tokens .entry)) (r .s) ≤ left (now (tokens .entry)) s ⌝ }
+    ensures { λ r. ⌜ (r .yes ≡ true → 0 < left (now (tokens .entry)) (r .s)) ⌝ }
 {
     let mut q = s;
     let mut level: usize = 0;
     loop {
-        let here = q.peek(t);
-        let here_is = part_of(kind_at(t, here.cursor.0), level);
+        let here = q.peek(tokens);
+        let here_is = part_of(kind_at(tokens, here.cursor.0), level);
         match here_is {
             Part::Comma => {
-                return Seen { s: here, yes: true };
+                return StateTested { s: here, yes: true };
             }
             Part::End => {
-                return Seen {
+                return StateTested {
                     s: here,
                     yes: false,
                 };
             }
             Part::Inside(next) => {
-                q = here.bump(t, ev);
+                q = here.bump(tokens, events);
                 level = next;
             }
         }
@@ -99,18 +99,18 @@ fn bump_argument(s: State, t: &[u32], ev: &mut [u32]) -> Seen
 }
 
 // Arguments, each a MacroArgument, with commas between.
-fn arguments(s: State, t: &[u32], ev: &mut [u32]) -> State
-    ensures { λ r. ⌜ ((ask : Rule → Machine → Walked) (b : Span) (codes rep pool : List ℕ) → said yes (view r codes (now (ev .exit)) rep pool) ≡ walk ask (tokens-of (now (t .entry))) b (loop macro-argument-turn) (view s codes (now (ev .entry)) rep pool)) ⌝ }
-    ensures { λ r. ⌜ left (now (t .entry)) r ≤ left (now (t .entry)) s ⌝ }
+fn arguments(s: State, tokens: &[u32], events: &mut [u32]) -> State
+    ensures { λ r. ⌜ ((ask : Rule → Machine → Walked) (b : Span) (codes reports pool : List ℕ) → said yes (view r codes (now (events .exit)) reports pool) ≡ walk ask (tokens-of (now (tokens .entry))) b (loop macro-argument-turn) (view s codes (now (events .entry)) reports pool)) ⌝ }
+    ensures { λ r. ⌜ left (now (tokens .entry)) r ≤ left (now (tokens .entry)) s ⌝ }
 {
     let mut q = s;
     loop {
         let m = Marker::new(q);
-        let started = q.start(ev);
-        let inside = bump_argument(started, t, ev);
-        let done = inside.s.complete(ev, m, node_kind::MACRO_ARGUMENT);
+        let started = q.start(events);
+        let inside = bump_argument(started, tokens, events);
+        let done = inside.s.complete(events, m, node_kind::MACRO_ARGUMENT);
         if inside.yes {
-            q = done.bump(t, ev);
+            q = done.bump(tokens, events);
         } else {
             return done;
         }
@@ -121,23 +121,23 @@ fn arguments(s: State, t: &[u32], ev: &mut [u32]) -> State
 fn argument_list(
     s: State,
     codes: &mut [u8; 256],
-    t: &[u32],
-    ev: &mut [u32],
-    rep: &mut [u32],
+    tokens: &[u32],
+    events: &mut [u32],
+    reports: &mut [u32],
     pool: &mut [u32],
 ) -> State
-    ensures { λ r. ⌜ ((ask : Rule → Machine → Walked) (b : Span) → view r (now (codes .exit)) (now (ev .exit)) (now (rep .exit)) (now (pool .exit)) ≡ walk ask (tokens-of (now (t .entry))) b argument-list (view s (now (codes .entry)) (now (ev .entry)) (now (rep .entry)) (now (pool .entry))) .on) ⌝ }
-    ensures { λ r. ⌜ left (now (t .entry)) r ≤ left (now (t .entry)) s - 1 ⌝ }
+    ensures { λ r. ⌜ ((ask : Rule → Machine → Walked) (b : Span) → view r (now (codes .exit)) (now (events .exit)) (now (reports .exit)) (now (pool .exit)) ≡ walk ask (tokens-of (now (tokens .entry))) b argument-list (view s (now (codes .entry)) (now (events .entry)) (now (reports .entry)) (now (pool .entry))) .on) ⌝ }
+    ensures { λ r. ⌜ left (now (tokens .entry)) r ≤ left (now (tokens .entry)) s - 1 ⌝ }
 {
-    let opened = s.bump(t, ev);
-    let none = opened.at(codes, t, Matcher::Kind(token_kind::RPAREN));
+    let opened = s.bump(tokens, events);
+    let none = opened.at(codes, tokens, Matcher::Kind(token_kind::RPAREN));
     if none.yes {
         let end = none.s
-            .expect(codes, t, ev, rep, pool, Matcher::Kind(token_kind::RPAREN));
+            .expect(codes, tokens, events, reports, pool, Matcher::Kind(token_kind::RPAREN));
         end.s
     } else {
-        let inner = arguments(none.s, t, ev);
-        let end = inner.expect(codes, t, ev, rep, pool, Matcher::Kind(token_kind::RPAREN));
+        let inner = arguments(none.s, tokens, events);
+        let end = inner.expect(codes, tokens, events, reports, pool, Matcher::Kind(token_kind::RPAREN));
         end.s
     }
 }
@@ -146,22 +146,22 @@ fn argument_list(
 pub fn macro_invocation(
     s: State,
     codes: &mut [u8; 256],
-    t: &[u32],
-    ev: &mut [u32],
-    rep: &mut [u32],
+    tokens: &[u32],
+    events: &mut [u32],
+    reports: &mut [u32],
     pool: &mut [u32],
 ) -> State
-    ensures { λ r. ⌜ ((ask : Rule → Machine → Walked) (b : Span) → said yes (view r (now (codes .exit)) (now (ev .exit)) (now (rep .exit)) (now (pool .exit))) ≡ walk ask (tokens-of (now (t .entry))) b macro-invocation (view s (now (codes .entry)) (now (ev .entry)) (now (rep .entry)) (now (pool .entry)))) ⌝ }
-    ensures { λ r. ⌜ left (now (t .entry)) r ≤ left (now (t .entry)) s - 1 ⌝ }
+    ensures { λ r. ⌜ ((ask : Rule → Machine → Walked) (b : Span) → said yes (view r (now (codes .exit)) (now (events .exit)) (now (reports .exit)) (now (pool .exit))) ≡ walk ask (tokens-of (now (tokens .entry))) b macro-invocation (view s (now (codes .entry)) (now (events .entry)) (now (reports .entry)) (now (pool .entry)))) ⌝ }
+    ensures { λ r. ⌜ left (now (tokens .entry)) r ≤ left (now (tokens .entry)) s - 1 ⌝ }
 {
     let m = Marker::new(s);
-    let started = s.start(ev);
-    let ident = started.bump(t, ev);
-    let paren = ident.at_immediate(codes, t, token_kind::LPAREN);
+    let started = s.start(events);
+    let ident = started.bump(tokens, events);
+    let paren = ident.at_immediate(codes, tokens, token_kind::LPAREN);
     if paren.yes {
-        let list = argument_list(paren.s, codes, t, ev, rep, pool);
-        list.complete(ev, m, node_kind::MACRO_INVOCATION)
+        let list = argument_list(paren.s, codes, tokens, events, reports, pool);
+        list.complete(events, m, node_kind::MACRO_INVOCATION)
     } else {
-        paren.s.complete(ev, m, node_kind::MACRO_INVOCATION)
+        paren.s.complete(events, m, node_kind::MACRO_INVOCATION)
     }
 }

@@ -4,7 +4,7 @@ use crate::CONTINUE_COND_SET;
 use crate::macros::macro_invocation;
 use crate::unit_address;
 use layout::token_kind;
-use parser::Seen;
+use parser::StateTested;
 use parser::State;
 use parser::errors::Bump;
 use layout::message::EXPECTED;
@@ -23,56 +23,56 @@ ghost use Rattle.definitions.specs.Check.{silent-eat as silent-eat-prog, eat as
 ghost use Rattle.definitions.specs.Grammar.{path-segment, path-turn, path-rest, reference-noamp, Reference};
 ghost use Rattle.machine.specs.Machine.{Machine};
 ghost use Rattle.machine.specs.Walk.{Walked, said, walk};
-ghost use Rattle.parser.specs.View.{view, left, seen-as};
+ghost use Rattle.parser.specs.View.{view, left, state-tested};
 ghost use Rattle.names.specs.Parts.{at-segment, path};
 
 fn path_segment(
     s: State,
     codes: &mut [u8; 256],
-    t: &[u32],
-    ev: &mut [u32],
-    rep: &mut [u32],
+    tokens: &[u32],
+    events: &mut [u32],
+    reports: &mut [u32],
     pool: &mut [u32],
 ) -> State
-    ensures { λ r. ⌜ ((ask : Rule → Machine → Walked) (b : Span) → view r (now (codes .exit)) (now (ev .exit)) (now (rep .exit)) (now (pool .exit)) ≡ walk ask (tokens-of (now (t .entry))) b path-segment (view s (now (codes .entry)) (now (ev .entry)) (now (rep .entry)) (now (pool .entry))) .on) ⌝ }
-    ensures { λ r. ⌜ left (now (t .entry)) r ≤ left (now (t .entry)) s - 1 ⌝ }
+    ensures { λ r. ⌜ ((ask : Rule → Machine → Walked) (b : Span) → view r (now (codes .exit)) (now (events .exit)) (now (reports .exit)) (now (pool .exit)) ≡ walk ask (tokens-of (now (tokens .entry))) b path-segment (view s (now (codes .entry)) (now (events .entry)) (now (reports .entry)) (now (pool .entry))) .on) ⌝ }
+    ensures { λ r. ⌜ left (now (tokens .entry)) r ≤ left (now (tokens .entry)) s - 1 ⌝ }
 {
-    let name = s.eat(codes, t, ev, Matcher::Name);
+    let name = s.eat(codes, tokens, events, Matcher::Name);
     if name.yes {
-        let unit = unit_address::eat(name.s, codes, t, ev, rep, pool);
+        let unit = unit_address::eat(name.s, codes, tokens, events, reports, pool);
         unit.s
     } else {
-        name.s.error(codes, t, ev, rep, pool, EXPECTED, NO_HINT, Bump::YesWrapErr)
+        name.s.error(codes, tokens, events, reports, pool, EXPECTED, NO_HINT, Bump::YesWrapErr)
     }
 }
 
 // Whether a path goes on here.
-fn at_segment(s: State, codes: &mut [u8; 256], t: &[u32]) -> Seen
-    ensures { λ r. ⌜ ((ask : Rule → Machine → Walked) (b : Span) (ev rep pool : List ℕ) → seen-as r (now (codes .exit)) ev rep pool ≡ walk ask (tokens-of (now (t .entry))) b at-segment (view s (now (codes .entry)) ev rep pool)) ⌝ }
-    ensures { λ r. ⌜ left (now (t .entry)) (r .s) ≤ left (now (t .entry)) s ⌝ }
-    ensures { λ r. ⌜ (r .yes ≡ true → 0 < left (now (t .entry)) s) ⌝ }
+fn at_segment(s: State, codes: &mut [u8; 256], tokens: &[u32]) -> StateTested
+    ensures { λ r. ⌜ ((ask : Rule → Machine → Walked) (b : Span) (events reports pool : List ℕ) → state-tested r (now (codes .exit)) events reports pool ≡ walk ask (tokens-of (now (tokens .entry))) b at-segment (view s (now (codes .entry)) events reports pool)) ⌝ }
+    ensures { λ r. ⌜ left (now (tokens .entry)) (r .s) ≤ left (now (tokens .entry)) s ⌝ }
+    ensures { λ r. ⌜ (r .yes ≡ true → 0 < left (now (tokens .entry)) s) ⌝ }
 {
-    let closed = s.at(codes, t, Matcher::Kind(token_kind::RCURLY));
+    let closed = s.at(codes, tokens, Matcher::Kind(token_kind::RCURLY));
     if closed.yes {
         let q = closed.s;
-        return Seen { s: q, yes: false };
+        return StateTested { s: q, yes: false };
     }
-    let end = closed.s.at_end(t);
+    let end = closed.s.at_end(tokens);
     if end.yes {
         let q = end.s;
-        return Seen { s: q, yes: false };
+        return StateTested { s: q, yes: false };
     }
-    let branch = end.s.silent_at_set(t, &CONTINUE_COND_SET);
+    let branch = end.s.silent_at_set(tokens, &CONTINUE_COND_SET);
     if branch.yes {
         let q = branch.s;
-        return Seen { s: q, yes: false };
+        return StateTested { s: q, yes: false };
     }
-    let endif = branch.s.silent_at(t, token_kind::ENDIF_DIRECTIVE);
+    let endif = branch.s.silent_at(tokens, token_kind::ENDIF_DIRECTIVE);
     let q = endif.s;
     if endif.yes {
-        Seen { s: q, yes: false }
+        StateTested { s: q, yes: false }
     } else {
-        Seen { s: q, yes: true }
+        StateTested { s: q, yes: true }
     }
 }
 
@@ -80,21 +80,21 @@ fn at_segment(s: State, codes: &mut [u8; 256], t: &[u32]) -> Seen
 fn path_segments(
     s: State,
     codes: &mut [u8; 256],
-    t: &[u32],
-    ev: &mut [u32],
-    rep: &mut [u32],
+    tokens: &[u32],
+    events: &mut [u32],
+    reports: &mut [u32],
     pool: &mut [u32],
 ) -> State
-    ensures { λ r. ⌜ ((ask : Rule → Machine → Walked) (b : Span) → said yes (view r (now (codes .exit)) (now (ev .exit)) (now (rep .exit)) (now (pool .exit))) ≡ walk ask (tokens-of (now (t .entry))) b (loop path-turn) (view s (now (codes .entry)) (now (ev .entry)) (now (rep .entry)) (now (pool .entry)))) ⌝ }
-    ensures { λ r. ⌜ left (now (t .entry)) r ≤ left (now (t .entry)) s ⌝ }
+    ensures { λ r. ⌜ ((ask : Rule → Machine → Walked) (b : Span) → said yes (view r (now (codes .exit)) (now (events .exit)) (now (reports .exit)) (now (pool .exit))) ≡ walk ask (tokens-of (now (tokens .entry))) b (loop path-turn) (view s (now (codes .entry)) (now (events .entry)) (now (reports .entry)) (now (pool .entry)))) ⌝ }
+    ensures { λ r. ⌜ left (now (tokens .entry)) r ≤ left (now (tokens .entry)) s ⌝ }
 {
     let mut q = s;
     loop {
-        let more = at_segment(q, codes, t);
+        let more = at_segment(q, codes, tokens);
         if more.yes {
             let slash = more.s
-                .expect(codes, t, ev, rep, pool, Matcher::Kind(token_kind::SLASH));
-            q = path_segment(slash.s, codes, t, ev, rep, pool);
+                .expect(codes, tokens, events, reports, pool, Matcher::Kind(token_kind::SLASH));
+            q = path_segment(slash.s, codes, tokens, events, reports, pool);
         } else {
             return more.s;
         }
@@ -104,16 +104,16 @@ fn path_segments(
 fn path_rest(
     s: State,
     codes: &mut [u8; 256],
-    t: &[u32],
-    ev: &mut [u32],
-    rep: &mut [u32],
+    tokens: &[u32],
+    events: &mut [u32],
+    reports: &mut [u32],
     pool: &mut [u32],
 ) -> State
-    ensures { λ r. ⌜ ((ask : Rule → Machine → Walked) (b : Span) → view r (now (codes .exit)) (now (ev .exit)) (now (rep .exit)) (now (pool .exit)) ≡ walk ask (tokens-of (now (t .entry))) b path-rest (view s (now (codes .entry)) (now (ev .entry)) (now (rep .entry)) (now (pool .entry))) .on) ⌝ }
-    ensures { λ r. ⌜ left (now (t .entry)) r ≤ left (now (t .entry)) s ⌝ }
+    ensures { λ r. ⌜ ((ask : Rule → Machine → Walked) (b : Span) → view r (now (codes .exit)) (now (events .exit)) (now (reports .exit)) (now (pool .exit)) ≡ walk ask (tokens-of (now (tokens .entry))) b path-rest (view s (now (codes .entry)) (now (events .entry)) (now (reports .entry)) (now (pool .entry))) .on) ⌝ }
+    ensures { λ r. ⌜ left (now (tokens .entry)) r ≤ left (now (tokens .entry)) s ⌝ }
 {
-    let segments = path_segments(s, codes, t, ev, rep, pool);
-    let end = segments.expect(codes, t, ev, rep, pool, Matcher::Kind(token_kind::RCURLY));
+    let segments = path_segments(s, codes, tokens, events, reports, pool);
+    let end = segments.expect(codes, tokens, events, reports, pool, Matcher::Kind(token_kind::RCURLY));
     end.s
 }
 
@@ -121,92 +121,92 @@ fn path_rest(
 fn path(
     s: State,
     codes: &mut [u8; 256],
-    t: &[u32],
-    ev: &mut [u32],
-    rep: &mut [u32],
+    tokens: &[u32],
+    events: &mut [u32],
+    reports: &mut [u32],
     pool: &mut [u32],
 ) -> State
-    ensures { λ r. ⌜ ((ask : Rule → Machine → Walked) (b : Span) → view r (now (codes .exit)) (now (ev .exit)) (now (rep .exit)) (now (pool .exit)) ≡ walk ask (tokens-of (now (t .entry))) b path (view s (now (codes .entry)) (now (ev .entry)) (now (rep .entry)) (now (pool .entry))) .on) ⌝ }
-    ensures { λ r. ⌜ left (now (t .entry)) r ≤ left (now (t .entry)) s ⌝ }
+    ensures { λ r. ⌜ ((ask : Rule → Machine → Walked) (b : Span) → view r (now (codes .exit)) (now (events .exit)) (now (reports .exit)) (now (pool .exit)) ≡ walk ask (tokens-of (now (tokens .entry))) b path (view s (now (codes .entry)) (now (events .entry)) (now (reports .entry)) (now (pool .entry))) .on) ⌝ }
+    ensures { λ r. ⌜ left (now (tokens .entry)) r ≤ left (now (tokens .entry)) s ⌝ }
 {
-    let absolute = s.eat(codes, t, ev, Matcher::Kind(token_kind::SLASH));
+    let absolute = s.eat(codes, tokens, events, Matcher::Kind(token_kind::SLASH));
     if absolute.yes {
-        let root = absolute.s.eat(codes, t, ev, Matcher::Kind(token_kind::RCURLY));
+        let root = absolute.s.eat(codes, tokens, events, Matcher::Kind(token_kind::RCURLY));
         if root.yes {
             return root.s;
         }
-        let segment = path_segment(root.s, codes, t, ev, rep, pool);
-        return path_rest(segment, codes, t, ev, rep, pool);
+        let segment = path_segment(root.s, codes, tokens, events, reports, pool);
+        return path_rest(segment, codes, tokens, events, reports, pool);
     }
-    let label = absolute.s.eat(codes, t, ev, Matcher::Name);
+    let label = absolute.s.eat(codes, tokens, events, Matcher::Name);
     if label.yes {
-        return path_rest(label.s, codes, t, ev, rep, pool);
+        return path_rest(label.s, codes, tokens, events, reports, pool);
     }
-    let q = label.s.error(codes, t, ev, rep, pool, EXPECTED, NO_HINT, Bump::YesWrapErr);
-    path_rest(q, codes, t, ev, rep, pool)
+    let q = label.s.error(codes, tokens, events, reports, pool, EXPECTED, NO_HINT, Bump::YesWrapErr);
+    path_rest(q, codes, tokens, events, reports, pool)
 }
 
 pub fn reference_noamp(
     s: State,
     codes: &mut [u8; 256],
-    t: &[u32],
-    ev: &mut [u32],
-    rep: &mut [u32],
+    tokens: &[u32],
+    events: &mut [u32],
+    reports: &mut [u32],
     pool: &mut [u32],
 ) -> State
-    ensures { λ r. ⌜ ((ask : Rule → Machine → Walked) (b : Span) → view r (now (codes .exit)) (now (ev .exit)) (now (rep .exit)) (now (pool .exit)) ≡ walk ask (tokens-of (now (t .entry))) b reference-noamp (view s (now (codes .entry)) (now (ev .entry)) (now (rep .entry)) (now (pool .entry))) .on) ⌝ }
-    ensures { λ r. ⌜ left (now (t .entry)) r ≤ left (now (t .entry)) s ⌝ }
+    ensures { λ r. ⌜ ((ask : Rule → Machine → Walked) (b : Span) → view r (now (codes .exit)) (now (events .exit)) (now (reports .exit)) (now (pool .exit)) ≡ walk ask (tokens-of (now (tokens .entry))) b reference-noamp (view s (now (codes .entry)) (now (events .entry)) (now (reports .entry)) (now (pool .entry))) .on) ⌝ }
+    ensures { λ r. ⌜ left (now (tokens .entry)) r ≤ left (now (tokens .entry)) s ⌝ }
 {
-    let braced = s.eat(codes, t, ev, Matcher::Kind(token_kind::LCURLY));
+    let braced = s.eat(codes, tokens, events, Matcher::Kind(token_kind::LCURLY));
     if braced.yes {
-        return path(braced.s, codes, t, ev, rep, pool);
+        return path(braced.s, codes, tokens, events, reports, pool);
     }
-    let args = braced.s.silent_at_macro_invocation_with_args(t);
+    let args = braced.s.silent_at_macro_invocation_with_args(tokens);
     if args.yes {
-        return macro_invocation(args.s, codes, t, ev, rep, pool);
+        return macro_invocation(args.s, codes, tokens, events, reports, pool);
     }
-    let label = args.s.eat(codes, t, ev, Matcher::LabelName);
+    let label = args.s.eat(codes, tokens, events, Matcher::LabelName);
     if label.yes {
         return label.s;
     }
-    label.s.error(codes, t, ev, rep, pool, EXPECTED, NO_HINT, Bump::YesWrapErr)
+    label.s.error(codes, tokens, events, reports, pool, EXPECTED, NO_HINT, Bump::YesWrapErr)
 }
 
 fn consume(
     s: State,
     codes: &mut [u8; 256],
-    t: &[u32],
-    ev: &mut [u32],
-    rep: &mut [u32],
+    tokens: &[u32],
+    events: &mut [u32],
+    reports: &mut [u32],
     pool: &mut [u32],
 ) -> State
-    ensures { λ r. ⌜ ((ask : Rule → Machine → Walked) (b : Span) → said yes (view r (now (codes .exit)) (now (ev .exit)) (now (rep .exit)) (now (pool .exit))) ≡ walk ask (tokens-of (now (t .entry))) b (Reference .consume) (view s (now (codes .entry)) (now (ev .entry)) (now (rep .entry)) (now (pool .entry)))) ⌝ }
-    ensures { λ r. ⌜ left (now (t .entry)) r ≤ left (now (t .entry)) s - 1 ⌝ }
+    ensures { λ r. ⌜ ((ask : Rule → Machine → Walked) (b : Span) → said yes (view r (now (codes .exit)) (now (events .exit)) (now (reports .exit)) (now (pool .exit))) ≡ walk ask (tokens-of (now (tokens .entry))) b (Reference .consume) (view s (now (codes .entry)) (now (events .entry)) (now (reports .entry)) (now (pool .entry)))) ⌝ }
+    ensures { λ r. ⌜ left (now (tokens .entry)) r ≤ left (now (tokens .entry)) s - 1 ⌝ }
 {
     let m = Marker::new(s);
-    let started = s.start(ev);
-    let ampersand = started.bump(t, ev);
-    let reference = reference_noamp(ampersand, codes, t, ev, rep, pool);
-    reference.complete(ev, m, node_kind::DT_PHANDLE)
+    let started = s.start(events);
+    let ampersand = started.bump(tokens, events);
+    let reference = reference_noamp(ampersand, codes, tokens, events, reports, pool);
+    reference.complete(events, m, node_kind::DT_PHANDLE)
 }
 
 // `check(Reference).silent().eat()`
 pub fn silent_eat(
     s: State,
     codes: &mut [u8; 256],
-    t: &[u32],
-    ev: &mut [u32],
-    rep: &mut [u32],
+    tokens: &[u32],
+    events: &mut [u32],
+    reports: &mut [u32],
     pool: &mut [u32],
-) -> Seen
-    ensures { λ r. ⌜ ((ask : Rule → Machine → Walked) (b : Span) → seen-as r (now (codes .exit)) (now (ev .exit)) (now (rep .exit)) (now (pool .exit)) ≡ walk ask (tokens-of (now (t .entry))) b (silent-eat-prog Reference) (view s (now (codes .entry)) (now (ev .entry)) (now (rep .entry)) (now (pool .entry)))) ⌝ }
-    ensures { λ r. ⌜ left (now (t .entry)) (r .s) ≤ left (now (t .entry)) s ⌝ }
-    ensures { λ r. ⌜ (r .yes ≡ true → left (now (t .entry)) (r .s) ≤ left (now (t .entry)) s - 1) ⌝ }
+) -> StateTested
+    ensures { λ r. ⌜ ((ask : Rule → Machine → Walked) (b : Span) → state-tested r (now (codes .exit)) (now (events .exit)) (now (reports .exit)) (now (pool .exit)) ≡ walk ask (tokens-of (now (tokens .entry))) b (silent-eat-prog Reference) (view s (now (codes .entry)) (now (events .entry)) (now (reports .entry)) (now (pool .entry)))) ⌝ }
+    ensures { λ r. ⌜ left (now (tokens .entry)) (r .s) ≤ left (now (tokens .entry)) s ⌝ }
+    ensures { λ r. ⌜ (r .yes ≡ true → left (now (tokens .entry)) (r .s) ≤ left (now (tokens .entry)) s - 1) ⌝ }
 {
-    let ampersand = s.silent_at(t, token_kind::AMPERSAND);
+    let ampersand = s.silent_at(tokens, token_kind::AMPERSAND);
     if ampersand.yes {
-        let q = consume(ampersand.s, codes, t, ev, rep, pool);
-        Seen { s: q, yes: true }
+        let q = consume(ampersand.s, codes, tokens, events, reports, pool);
+        StateTested { s: q, yes: true }
     } else {
         ampersand
     }
@@ -215,21 +215,21 @@ pub fn silent_eat(
 pub fn eat(
     s: State,
     codes: &mut [u8; 256],
-    t: &[u32],
-    ev: &mut [u32],
-    rep: &mut [u32],
+    tokens: &[u32],
+    events: &mut [u32],
+    reports: &mut [u32],
     pool: &mut [u32],
-) -> Seen
-    ensures { λ r. ⌜ ((ask : Rule → Machine → Walked) (b : Span) → seen-as r (now (codes .exit)) (now (ev .exit)) (now (rep .exit)) (now (pool .exit)) ≡ walk ask (tokens-of (now (t .entry))) b (eat-prog Reference) (view s (now (codes .entry)) (now (ev .entry)) (now (rep .entry)) (now (pool .entry)))) ⌝ }
-    ensures { λ r. ⌜ left (now (t .entry)) (r .s) ≤ left (now (t .entry)) s ⌝ }
-    ensures { λ r. ⌜ (r .yes ≡ true → left (now (t .entry)) (r .s) ≤ left (now (t .entry)) s - 1) ⌝ }
+) -> StateTested
+    ensures { λ r. ⌜ ((ask : Rule → Machine → Walked) (b : Span) → state-tested r (now (codes .exit)) (now (events .exit)) (now (reports .exit)) (now (pool .exit)) ≡ walk ask (tokens-of (now (tokens .entry))) b (eat-prog Reference) (view s (now (codes .entry)) (now (events .entry)) (now (reports .entry)) (now (pool .entry)))) ⌝ }
+    ensures { λ r. ⌜ left (now (tokens .entry)) (r .s) ≤ left (now (tokens .entry)) s ⌝ }
+    ensures { λ r. ⌜ (r .yes ≡ true → left (now (tokens .entry)) (r .s) ≤ left (now (tokens .entry)) s - 1) ⌝ }
 {
-    let ampersand = s.silent_at(t, token_kind::AMPERSAND);
+    let ampersand = s.silent_at(tokens, token_kind::AMPERSAND);
     if ampersand.yes {
-        let q = consume(ampersand.s, codes, t, ev, rep, pool);
-        Seen { s: q, yes: true }
+        let q = consume(ampersand.s, codes, tokens, events, reports, pool);
+        StateTested { s: q, yes: true }
     } else {
         let q = ampersand.s.add_expected(codes, token_kind::AMPERSAND);
-        Seen { s: q, yes: false }
+        StateTested { s: q, yes: false }
     }
 }

@@ -18,14 +18,14 @@ use Rattle.parser.proofs.Moves.{on-true, on-false}
 
 -- ---------------------------------------------------------------- the range
 
-pub range-lone : (tk : List ℕ) (m : Machine) (y : Bool) (e : ℕ) → m .cursor < length tk / 2 → y ≡ only-separators (m .pending) → y ≡ true → e ≡ low (m .mark-at + 1)
-    → record { from = m .mark-at; to = e } ≡ error-range (drop (m .cursor) (tokens-of tk)) m
+pub range-lone : (tk : List ℕ) (m : Machine) (y : Bool) (e : ℕ) → m .cursor < length tk / 2 → y ≡ only-separators (m .pending) → y ≡ true → e ≡ low (m .mark-byte + 1)
+    → record { from = m .mark-byte; to = e } ≡ error-range (drop (m .cursor) (tokens-of tk)) m
 unfolding error-range
 range-lone tk m y e h f g i =
     let d = rows-cons tk (m .cursor) h in
     let t = row tk (m .cursor) in
-    let z : Span = record { from = m .mark-at; to = low (m .mark-at + 1) } in
-    ap (λ (x : ℕ). record { from = m .mark-at; to = x }) i
+    let z : Span = record { from = m .mark-byte; to = low (m .mark-byte + 1) } in
+    ap (λ (x : ℕ). record { from = m .mark-byte; to = x }) i
     ∙ sym (on-true y (only-separators (m .pending)) z (range-at (t ∷ drop (m .cursor + 1) (tokens-of tk)) m) f g)
     ∙ sym (ap (λ (l : List Token). error-range l m) d)
 
@@ -35,7 +35,7 @@ unfolding error-range
 range-token tk m y r h f g i =
     let d = rows-cons tk (m .cursor) h in
     let t = row tk (m .cursor) in
-    let z : Span = record { from = m .mark-at; to = low (m .mark-at + 1) } in
+    let z : Span = record { from = m .mark-byte; to = low (m .mark-byte + 1) } in
     i ∙ ap (λ (l : List Token). range-at l m) d
     ∙ sym (on-false y (only-separators (m .pending)) z (range-at (t ∷ drop (m .cursor + 1) (tokens-of tk)) m) f g)
     ∙ sym (ap (λ (l : List Token). error-range l m) d)

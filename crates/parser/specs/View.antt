@@ -18,10 +18,10 @@ use Rattle.machine.specs.Walk.{Walked, said, walk, marker}
 use lib.Seq.{sets}
 use Rattle.parser.specs.declared.State.{State}
 use Rattle.parser.specs.declared.Parser.{Parser}
-use Rattle.parser.specs.declared.Seen.{Seen}
-use Rattle.parser.specs.declared.Tested.{Tested}
-use Rattle.parser.specs.declared.Answer.{Answer}
-use Rattle.parser.specs.declared.Answer.the-variants as Said
+use Rattle.parser.specs.declared.StateTested.{StateTested}
+use Rattle.parser.specs.declared.ParserTested.{ParserTested}
+use Rattle.parser.specs.declared.Ans.{Ans as Answered}
+use Rattle.parser.specs.declared.Ans.the-variants as A
 use Rattle.parser.specs.declared.errors.Bump.{Bump}
 use Rattle.parser.specs.declared.errors.Bump.the-variants.{No, Yes, YesWrapErr}
 use Rattle.parser.specs.declared.marker.Marker.{Marker}
@@ -34,9 +34,9 @@ abbrev pub view : State → List ℕ → List ℕ → List ℕ → List ℕ → 
 view s codes ev rep pool =
     record {
       cursor = s .cursor .0;
-      at = s .at .0;
+      byte = s .byte .0;
       mark = s .mark .0;
-      mark-at = s .«mark_at» .0;
+      mark-byte = s .«mark_byte» .0;
       pending = take (s .pending) codes;
       events = record { count = s .events; numbers = ev };
       reports = record { count = s .reports; numbers = rep };
@@ -50,21 +50,21 @@ unfoldable pub left : List ℕ → State → ℕ
 left tk s = length tk / 2 - s .cursor .0
 
 -- a test's answer, and the machine after it
-abbrev pub seen-as : Seen → List ℕ → List ℕ → List ℕ → List ℕ → Walked
-seen-as r codes ev rep pool = said (truth (r .yes)) (view (r .s) codes ev rep pool)
+abbrev pub state-tested : StateTested → List ℕ → List ℕ → List ℕ → List ℕ → Walked
+state-tested r codes ev rep pool = said (truth (r .yes)) (view (r .s) codes ev rep pool)
 
 -- the same of the whole parser
 abbrev pub view-of : Parser → List ℕ → List ℕ → List ℕ → Machine
 view-of p ev rep pool = view (p .s) (p .codes) ev rep pool
 
-abbrev pub tested-as : Tested → List ℕ → List ℕ → List ℕ → Walked
-tested-as r ev rep pool = said (truth (r .yes)) (view-of (r .p) ev rep pool)
+abbrev pub parser-tested : ParserTested → List ℕ → List ℕ → List ℕ → Walked
+parser-tested r ev rep pool = said (truth (r .yes)) (view-of (r .p) ev rep pool)
 
-abbrev pub answer-of : Answer → Ans
-answer-of Said.No = no
-answer-of Said.Yes = yes
-answer-of Said.Also = also
-answer-of Said.Again = again
+abbrev pub ans-of : Answered → Ans
+ans-of A.No = no
+ans-of A.Yes = yes
+ans-of A.Also = also
+ans-of A.Again = again
 
 -- the first of some tokens taken
 unfoldable pub take-first : List Token → Machine → Machine

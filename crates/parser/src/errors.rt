@@ -1,11 +1,12 @@
 // errors.rs: reports. Message, hint and bump go by value in the place of the builder.
 use crate::State;
-use crate::event::ERROR;
+use layout::event_tag::ERROR;
 use crate::marker::Marker;
 use layout::node_kind;
 use layout::ByteOffset;
 use layout::message::EXPECTED;
 use layout::message::UNCLOSED_NODE;
+use layout::refusal::NO_REPORT_ROOM;
 use layout::row::REPORT_ROW;
 use layout::token_kind;
 use token_rows::room::fits;
@@ -113,8 +114,8 @@ fn put_codes(codes: &[u8], pool: &mut [u32], first: usize, n: usize)
 
 // A report row.
 fn put_report(
-    rep: &mut [u32],
-    at: usize,
+    reports: &mut [u32],
+    index: usize,
     message: u32,
     hint: u32,
     range: TextRange,
@@ -123,43 +124,43 @@ fn put_report(
     first: u32,
     count: u32,
 )
-    ensures { λ _. ⌜ now (rep .exit) ≡ stored at (message ∷ range .start .0 ∷ range .end .0 ∷ mark ∷ first ∷ count ∷ hint ∷ label .start .0 ∷ label .end .0 ∷ []) (now (rep .entry)) ⌝ }
+    ensures { λ _. ⌜ now (reports .exit) ≡ stored index (message ∷ range .start .0 ∷ range .end .0 ∷ mark ∷ first ∷ count ∷ hint ∷ label .start .0 ∷ label .end .0 ∷ []) (now (reports .entry)) ⌝ }
 {
-    let room = fits(rep.len(), at, REPORT_ROW);
-    if room {
-        rep[at] = message;
-        rep[at + 1] = range.start.0;
-        rep[at + 2] = range.end.0;
-        rep[at + 3] = mark;
-        rep[at + 4] = first;
-        rep[at + 5] = count;
-        rep[at + 6] = hint;
-        rep[at + 7] = label.start.0;
-        rep[at + 8] = label.end.0;
+    let enough = fits(reports.len(), index, REPORT_ROW);
+    if enough {
+        reports[index] = message;
+        reports[index + 1] = range.start.0;
+        reports[index + 2] = range.end.0;
+        reports[index + 3] = mark;
+        reports[index + 4] = first;
+        reports[index + 5] = count;
+        reports[index + 6] = hint;
+        reports[index + 7] = label.start.0;
+        reports[index + 8] = label.end.0;
     }
 }
 
 impl State {
     // The cursor stands at a token, or at the end.
-    fn current_token_error_range(self, codes: &[u8; 256], t: &[u32]) -> TextRange
-        ensures { λ r. ⌜ ((ev rep pool : List ℕ) → span-of r ≡ error-range (drop (self .cursor .0) (tokens-of (now (t .entry)))) (view self (now (codes .entry)) ev rep pool)) ⌝ }
+    fn current_token_error_range(self, codes: &[u8; 256], tokens: &[u32]) -> TextRange
+        ensures { λ r. ⌜ ((events reports pool : List ℕ) → span-of r ≡ error-range (drop (self .cursor .0) (tokens-of (now (tokens .entry)))) (view self (now (codes .entry)) events reports pool)) ⌝ }
     {
         let at = self.cursor.0;
-        let inside = at < t.len() / 2;
+        let inside = at < tokens.len() / 2;
         if inside {
             let lone = ends_statement(codes, self.pending);
             if lone {
-                let start = self.mark_at;
+                let start = self.mark_byte;
                 let end = ByteOffset(std::num::wrapping_add_u32(start.0, 1));
                 TextRange {
                     start: start,
                     end: end,
                 }
             } else {
-                self.range(t)
+                self.range(tokens)
             }
         } else {
-            let end = self.at;
+            let end = self.byte;
             let start = ByteOffset(less_one(end.0));
             TextRange {
                 start: start,
@@ -172,26 +173,26 @@ impl State {
     fn push_report(
         self,
         codes: &[u8; 256],
-        rep: &mut [u32],
+        reports: &mut [u32],
         pool: &mut [u32],
         message: u32,
         hint: u32,
         range: TextRange,
         label: TextRange,
     ) -> State
-        ensures { λ r. ⌜ ((ev : List ℕ) → self .refusal ≡ 0 → view r (now (codes .entry)) ev (now (rep .exit)) (now (pool .exit)) ≡ write-report message hint (span-of range) (span-of label) (view self (now (codes .entry)) ev (now (rep .entry)) (now (pool .entry)))) ⌝ }
+        ensures { λ r. ⌜ ((events : List ℕ) → self .refusal ≡ 0 → view r (now (codes .entry)) events (now (reports .exit)) (now (pool .exit)) ≡ write-report message hint (span-of range) (span-of label) (view self (now (codes .entry)) events (now (reports .entry)) (now (pool .entry)))) ⌝ }
         ensures { λ r. ⌜ ((tk : List ℕ) → left tk r ≤ left tk self) ⌝ }
     {
         let at = self.reports;
         let first = self.pool;
         let n = pool_count(message, codes, self.pending);
-        let room = fits(rep.len(), at, REPORT_ROW);
-        if room {
+        let enough = fits(reports.len(), at, REPORT_ROW);
+        if enough {
             let pool_room = fits(pool.len(), first, n);
             if pool_room {
                 let mark = low32(self.mark.0);
                 put_report(
-                    rep,
+                    reports,
                     at,
                     message,
                     hint,
@@ -207,10 +208,10 @@ impl State {
                 q.pool = first + n;
                 q
             } else {
-                self.refuse(7)
+                self.refuse(NO_REPORT_ROOM)
             }
         } else {
-            self.refuse(7)
+            self.refuse(NO_REPORT_ROOM)
         }
     }
 
@@ -218,48 +219,48 @@ impl State {
     pub fn emit(
         self,
         codes: &[u8; 256],
-        t: &[u32],
-        ev: &mut [u32],
-        rep: &mut [u32],
+        tokens: &[u32],
+        events: &mut [u32],
+        reports: &mut [u32],
         pool: &mut [u32],
         message: u32,
         hint: u32,
         label: TextRange,
     ) -> State
-        ensures { λ r. ⌜ view r (now (codes .entry)) (now (ev .exit)) (now (rep .exit)) (now (pool .exit)) ≡ emit-machine (tokens-of (now (t .entry))) message hint (span-of label) (view self (now (codes .entry)) (now (ev .entry)) (now (rep .entry)) (now (pool .entry))) ⌝ }
-        ensures { λ r. ⌜ left (now (t .entry)) r ≤ left (now (t .entry)) self ⌝ }
+        ensures { λ r. ⌜ view r (now (codes .entry)) (now (events .exit)) (now (reports .exit)) (now (pool .exit)) ≡ emit-machine (tokens-of (now (tokens .entry))) message hint (span-of label) (view self (now (codes .entry)) (now (events .entry)) (now (reports .entry)) (now (pool .entry))) ⌝ }
+        ensures { λ r. ⌜ left (now (tokens .entry)) r ≤ left (now (tokens .entry)) self ⌝ }
     {
-        let here = self.peek(t);
-        let range = here.current_token_error_range(codes, t);
-        let pushed = here.push_event(ev, ERROR, 0);
+        let here = self.peek(tokens);
+        let range = here.current_token_error_range(codes, tokens);
+        let pushed = here.push_event(events, ERROR, 0);
         let on = pushed.refusal == 0;
         if on {
-            pushed.push_report(codes, rep, pool, message, hint, range, label)
+            pushed.push_report(codes, reports, pool, message, hint, range, label)
         } else {
             pushed
         }
     }
 
-    fn bump_unless_at_end(self, t: &[u32], ev: &mut [u32]) -> State
-        ensures { λ r. ⌜ ((ask : Rule → Machine → Walked) (b : Span) (codes rep pool : List ℕ) → said yes (view r codes (now (ev .exit)) rep pool) ≡ walk ask (tokens-of (now (t .entry))) b (if end? then tell yes else bump!) (view self codes (now (ev .entry)) rep pool)) ⌝ }
-        ensures { λ r. ⌜ left (now (t .entry)) r ≤ left (now (t .entry)) self - 1 ⌝ }
+    fn bump_unless_at_end(self, tokens: &[u32], events: &mut [u32]) -> State
+        ensures { λ r. ⌜ ((ask : Rule → Machine → Walked) (b : Span) (codes reports pool : List ℕ) → said yes (view r codes (now (events .exit)) reports pool) ≡ walk ask (tokens-of (now (tokens .entry))) b (if end? then tell yes else bump!) (view self codes (now (events .entry)) reports pool)) ⌝ }
+        ensures { λ r. ⌜ left (now (tokens .entry)) r ≤ left (now (tokens .entry)) self - 1 ⌝ }
     {
-        let end = self.at_end(t);
-        if end.yes { end.s } else { end.s.bump(t, ev) }
+        let end = self.at_end(tokens);
+        if end.yes { end.s } else { end.s.bump(tokens, events) }
     }
 
-    fn wrap_unless_at_end(self, t: &[u32], ev: &mut [u32]) -> State
-        ensures { λ r. ⌜ ((ask : Rule → Machine → Walked) (b : Span) (codes rep pool : List ℕ) → said yes (view r codes (now (ev .exit)) rep pool) ≡ walk ask (tokens-of (now (t .entry))) b (if end? then tell yes else node-prog N.ParseError bump!) (view self codes (now (ev .entry)) rep pool)) ⌝ }
-        ensures { λ r. ⌜ left (now (t .entry)) r ≤ left (now (t .entry)) self - 1 ⌝ }
+    fn wrap_unless_at_end(self, tokens: &[u32], events: &mut [u32]) -> State
+        ensures { λ r. ⌜ ((ask : Rule → Machine → Walked) (b : Span) (codes reports pool : List ℕ) → said yes (view r codes (now (events .exit)) reports pool) ≡ walk ask (tokens-of (now (tokens .entry))) b (if end? then tell yes else node-prog N.ParseError bump!) (view self codes (now (events .entry)) reports pool)) ⌝ }
+        ensures { λ r. ⌜ left (now (tokens .entry)) r ≤ left (now (tokens .entry)) self - 1 ⌝ }
     {
-        let end = self.at_end(t);
+        let end = self.at_end(tokens);
         if end.yes {
             end.s
         } else {
             let m = Marker::new(end.s);
-            let started = end.s.start(ev);
-            let taken = started.bump(t, ev);
-            taken.complete(ev, m, node_kind::PARSE_ERROR)
+            let started = end.s.start(events);
+            let taken = started.bump(tokens, events);
+            taken.complete(events, m, node_kind::PARSE_ERROR)
         }
     }
 
@@ -267,23 +268,23 @@ impl State {
     pub fn error(
         self,
         codes: &[u8; 256],
-        t: &[u32],
-        ev: &mut [u32],
-        rep: &mut [u32],
+        tokens: &[u32],
+        events: &mut [u32],
+        reports: &mut [u32],
         pool: &mut [u32],
         message: u32,
         hint: u32,
         bump: Bump,
     ) -> State
-        ensures { λ r. ⌜ ((ask : Rule → Machine → Walked) (b : Span) → said yes (view r (now (codes .entry)) (now (ev .exit)) (now (rep .exit)) (now (pool .exit))) ≡ walk ask (tokens-of (now (t .entry))) b (error-prog bump message hint) (view self (now (codes .entry)) (now (ev .entry)) (now (rep .entry)) (now (pool .entry)))) ⌝ }
-        ensures { λ r. ⌜ left (now (t .entry)) r ≤ left (now (t .entry)) self - takes bump ⌝ }
+        ensures { λ r. ⌜ ((ask : Rule → Machine → Walked) (b : Span) → said yes (view r (now (codes .entry)) (now (events .exit)) (now (reports .exit)) (now (pool .exit))) ≡ walk ask (tokens-of (now (tokens .entry))) b (error-prog bump message hint) (view self (now (codes .entry)) (now (events .entry)) (now (reports .entry)) (now (pool .entry)))) ⌝ }
+        ensures { λ r. ⌜ left (now (tokens .entry)) r ≤ left (now (tokens .entry)) self - takes bump ⌝ }
     {
         let none = no_label();
-        let reported = self.emit(codes, t, ev, rep, pool, message, hint, none);
+        let reported = self.emit(codes, tokens, events, reports, pool, message, hint, none);
         match bump {
             Bump::No => reported,
-            Bump::Yes => reported.bump_unless_at_end(t, ev),
-            Bump::YesWrapErr => reported.wrap_unless_at_end(t, ev),
+            Bump::Yes => reported.bump_unless_at_end(tokens, events),
+            Bump::YesWrapErr => reported.wrap_unless_at_end(tokens, events),
         }
     }
 }

@@ -1,8 +1,12 @@
-// event.rs, and what parser/mod.rs pushes. An event is three numbers. The second is a node's kind or a name's count of
-// raw tokens; the third, of a start that `precede` linked forward, how many events further on the new marker is. The
-// first is one of these.
+// event.rs, and what parser/mod.rs pushes. The first number of an event row is its tag (layout::event_tag). The second is
+// a node's kind or a name's count of raw tokens; the third, of a start that `precede` linked forward, how many events
+// further on the new marker is.
 use crate::State;
 use layout::TokenIndex;
+use layout::event_tag::ADD_COMBINED_TOKEN;
+use layout::event_tag::ADD_TOKEN;
+use layout::refusal::NO_EVENT_ROOM;
+use layout::row::EVENT_ROW;
 use token_rows::room::fits;
 use token_rows::room::low32;
 use token_rows::token::is_one_of_at;
@@ -17,30 +21,13 @@ ghost use Rattle.machine.specs.Machine.{low, refuse as refuse-machine, push-row
 ghost use Rattle.machine.specs.Walk.{said, perform};
 ghost use Rattle.parser.specs.View.{view, left};
 
-pub const PLACEHOLDER: u32 = 0;
-
-pub const START: u32 = 1;
-
-pub const TOKEN: u32 = 2;
-
-pub const NAME: u32 = 3;
-
-pub const FINISH: u32 = 4;
-
-pub const ERROR: u32 = 5;
-// A start that an earlier one is linked to.
-pub const LINKED: u32 = 6;
-
-// The numbers of an event.
-pub const EVENT_SIZE: usize = 3;
-
 // The cursor after a refusal: past every row, so that every loop ends by itself.
 pub const PAST_THE_END: usize = 18446744073709551615;
 
 impl State {
     // The first refusal stays.
     pub fn refuse(self, number: u32) -> State
-        ensures { λ r. ⌜ ((codes ev rep pool : List ℕ) → view r codes ev rep pool ≡ refuse-machine number (view self codes ev rep pool)) ⌝ }
+        ensures { λ r. ⌜ ((codes events reports pool : List ℕ) → view r codes events reports pool ≡ refuse-machine number (view self codes events reports pool)) ⌝ }
         ensures { λ r. ⌜ ((tk : List ℕ) → left tk r ≤ left tk self) ⌝ }
     {
         let past = TokenIndex(PAST_THE_END);
@@ -60,78 +47,78 @@ impl State {
     }
 
     // An event, if it fits.
-    pub fn push_row(self, ev: &mut [u32], tag: u32, value: u32) -> State
-        ensures { λ r. ⌜ ((codes rep pool : List ℕ) → view r codes (now (ev .exit)) rep pool ≡ push-row-machine tag value (view self codes (now (ev .entry)) rep pool)) ⌝ }
+    pub fn push_row(self, events: &mut [u32], tag: u32, value: u32) -> State
+        ensures { λ r. ⌜ ((codes reports pool : List ℕ) → view r codes (now (events .exit)) reports pool ≡ push-row-machine tag value (view self codes (now (events .entry)) reports pool)) ⌝ }
         ensures { λ r. ⌜ ((tk : List ℕ) → left tk r ≤ left tk self) ⌝ }
     {
-        let at = self.events;
-        let room = fits(ev.len(), at, EVENT_SIZE);
-        if room {
-            ev[at] = tag;
-            ev[at + 1] = value;
-            ev[at + 2] = 0;
+        let index = self.events;
+        let enough = fits(events.len(), index, EVENT_ROW);
+        if enough {
+            events[index] = tag;
+            events[index + 1] = value;
+            events[index + 2] = 0;
             let mut q = self;
-            q.events = at + EVENT_SIZE;
+            q.events = index + EVENT_ROW;
             q
         } else {
-            self.refuse(6)
+            self.refuse(NO_EVENT_ROOM)
         }
     }
 
     // Nothing is pushed once something was refused.
-    pub fn push_event(self, ev: &mut [u32], tag: u32, value: u32) -> State
-        ensures { λ r. ⌜ ((codes rep pool : List ℕ) → view r codes (now (ev .exit)) rep pool ≡ push tag value (view self codes (now (ev .entry)) rep pool)) ⌝ }
+    pub fn push_event(self, events: &mut [u32], tag: u32, value: u32) -> State
+        ensures { λ r. ⌜ ((codes reports pool : List ℕ) → view r codes (now (events .exit)) reports pool ≡ push tag value (view self codes (now (events .entry)) reports pool)) ⌝ }
         ensures { λ r. ⌜ ((tk : List ℕ) → left tk r ≤ left tk self) ⌝ }
     {
         let on = self.refusal == 0;
         if on {
-            self.push_row(ev, tag, value)
+            self.push_row(events, tag, value)
         } else {
             self
         }
     }
 
     // Takes the next token that is no trivia; nothing at the end.
-    pub fn bump(self, t: &[u32], ev: &mut [u32]) -> State
-        ensures { λ r. ⌜ ((b : Span) (codes rep pool : List ℕ) → said yes (view r codes (now (ev .exit)) rep pool) ≡ perform (tokens-of (now (t .entry))) b bump-act (view self codes (now (ev .entry)) rep pool)) ⌝ }
-        ensures { λ r. ⌜ left (now (t .entry)) r ≤ left (now (t .entry)) self - 1 ⌝ }
+    pub fn bump(self, tokens: &[u32], events: &mut [u32]) -> State
+        ensures { λ r. ⌜ ((b : Span) (codes reports pool : List ℕ) → said yes (view r codes (now (events .exit)) reports pool) ≡ perform (tokens-of (now (tokens .entry))) b bump-act (view self codes (now (events .entry)) reports pool)) ⌝ }
+        ensures { λ r. ⌜ left (now (tokens .entry)) r ≤ left (now (tokens .entry)) self - 1 ⌝ }
     {
-        let here = self.peek(t);
+        let here = self.peek(tokens);
         let at = here.cursor.0;
-        let inside = at < t.len() / 2;
+        let inside = at < tokens.len() / 2;
         if inside {
-            let taken = here.next_token(t);
-            taken.push_event(ev, TOKEN, 0)
+            let taken = here.next_token(tokens);
+            taken.push_event(events, ADD_TOKEN, 0)
         } else {
             here
         }
     }
 
     // Takes the rows of the set that follow.
-    fn take_while(self, t: &[u32], set: &[u8]) -> State
-        ensures { λ r. ⌜ ((codes ev rep pool : List ℕ) → view r codes ev rep pool ≡ name-run (now (set .entry)) (drop (self .cursor .0) (tokens-of (now (t .entry)))) (view self codes ev rep pool)) ⌝ }
-        ensures { λ r. ⌜ left (now (t .entry)) r ≤ left (now (t .entry)) self ⌝ }
+    fn take_while(self, tokens: &[u32], set: &[u8]) -> State
+        ensures { λ r. ⌜ ((codes events reports pool : List ℕ) → view r codes events reports pool ≡ name-run (now (set .entry)) (drop (self .cursor .0) (tokens-of (now (tokens .entry)))) (view self codes events reports pool)) ⌝ }
+        ensures { λ r. ⌜ left (now (tokens .entry)) r ≤ left (now (tokens .entry)) self ⌝ }
     {
         let mut q = self;
-        while is_one_of_at(t, q.cursor.0, set) {
-            q = q.next_token(t);
+        while is_one_of_at(tokens, q.cursor.0, set) {
+            q = q.next_token(tokens);
         }
         q
     }
 
     // `bump_name_generic`: takes the next token that is no trivia, and those of the set right after it, as one name.
-    pub fn bump_name(self, t: &[u32], ev: &mut [u32], set: &[u8]) -> State
-        ensures { λ r. ⌜ ((b : Span) (codes rep pool : List ℕ) → said yes (view r codes (now (ev .exit)) rep pool) ≡ perform (tokens-of (now (t .entry))) b (bump-name-act (now (set .entry))) (view self codes (now (ev .entry)) rep pool)) ⌝ }
-        ensures { λ r. ⌜ left (now (t .entry)) r ≤ left (now (t .entry)) self - 1 ⌝ }
+    pub fn bump_name(self, tokens: &[u32], events: &mut [u32], set: &[u8]) -> State
+        ensures { λ r. ⌜ ((b : Span) (codes reports pool : List ℕ) → said yes (view r codes (now (events .exit)) reports pool) ≡ perform (tokens-of (now (tokens .entry))) b (bump-name-act (now (set .entry))) (view self codes (now (events .entry)) reports pool)) ⌝ }
+        ensures { λ r. ⌜ left (now (tokens .entry)) r ≤ left (now (tokens .entry)) self - 1 ⌝ }
     {
-        let here = self.peek(t);
+        let here = self.peek(tokens);
         let at = here.cursor.0;
-        let inside = at < t.len() / 2;
+        let inside = at < tokens.len() / 2;
         if inside {
-            let first = here.next_token(t);
-            let last = first.take_while(t, set);
+            let first = here.next_token(tokens);
+            let last = first.take_while(tokens, set);
             let n = last.raw_tokens_since(at);
-            last.push_event(ev, NAME, n)
+            last.push_event(events, ADD_COMBINED_TOKEN, n)
         } else {
             here
         }

@@ -1,5 +1,5 @@
 // The parser that the grammar is written over: parser/mod.rs. Its state goes in and comes back by value; what it reads
-// and writes is lent: token rows `t`, event rows `ev`, report rows `rep`, expectations `pool`.
+// and writes is lent: token rows `tokens`, event rows `events`, report rows `reports`, expectations `pool`.
 // `State` has the numbers alone. Functions that no open call can be under take `State` by value and the pending codes
 // lent; the grammar's cycle of calls takes `Parser`, which holds both.
 pub mod checks;
@@ -27,7 +27,7 @@ ghost use Rattle.definitions.specs.Check.{silent-eat as silent-eat-prog, at as 
 ghost use Rattle.machine.specs.Machine.{Machine, refuse as refuse-machine, peek as peek-machine, push, complete as complete-machine, precede as precede-machine, emit as emit-machine};
 ghost use Rattle.machine.specs.Walk.{Walked, said, perform, walk};
 ghost use Rattle.machine.specs.Outcome.{fresh};
-ghost use Rattle.parser.specs.View.{view, view-of, tested-as, left, marker-of, matcher-of, span-of, error-prog, takes};
+ghost use Rattle.parser.specs.View.{view, view-of, parser-tested, left, marker-of, matcher-of, span-of, error-prog, takes};
 
 // The parser's numbers. Events, reports and pool are counted in numbers written.
 pub struct State {
@@ -45,8 +45,8 @@ pub struct State {
     // The first of refusals 5 to 7, or 0.
     pub refusal: u32,
     // The first byte of the token at the cursor, and the end of the last token taken.
-    pub at: ByteOffset,
-    pub mark_at: ByteOffset,
+    pub byte: ByteOffset,
+    pub mark_byte: ByteOffset,
 }
 
 pub struct Parser {
@@ -56,38 +56,38 @@ pub struct Parser {
 }
 
 // An answer, and the parser after it.
-pub struct Tested {
+pub struct ParserTested {
     pub p: Parser,
     pub yes: bool,
 }
 
 // An answer, and the numbers after it.
-pub struct Seen {
+pub struct StateTested {
     pub s: State,
     pub yes: bool,
 }
 
 // What a part of the grammar answers where yes and no are not enough.
-pub enum Answer {
+pub enum Ans {
     No,
     Yes,
     Also,
     Again,
 }
 
-pub struct Told {
+pub struct ParserAnswered {
     pub p: Parser,
-    pub answer: Answer,
+    pub ans: Ans,
 }
 
-pub struct Said {
+pub struct StateAnswered {
     pub s: State,
-    pub answer: Answer,
+    pub ans: Ans,
 }
 
 impl State {
     pub fn new() -> State
-        ensures { λ r. ⌜ ((codes ev rep pool : List ℕ) → view r codes ev rep pool ≡ fresh ev rep pool) ⌝ }
+        ensures { λ r. ⌜ ((codes events reports pool : List ℕ) → view r codes events reports pool ≡ fresh events reports pool) ⌝ }
     {
         State {
             cursor: TokenIndex(0),
@@ -98,15 +98,15 @@ impl State {
             reports: 0,
             pool: 0,
             refusal: 0,
-            at: ByteOffset(0),
-            mark_at: ByteOffset(0),
+            byte: ByteOffset(0),
+            mark_byte: ByteOffset(0),
         }
     }
 }
 
 impl Parser {
     pub fn new() -> Parser
-        ensures { λ r. ⌜ ((ev rep pool : List ℕ) → view-of r ev rep pool ≡ fresh ev rep pool) ⌝ }
+        ensures { λ r. ⌜ ((events reports pool : List ℕ) → view-of r events reports pool ≡ fresh events reports pool) ⌝ }
     {
         let s = State::new();
         Parser {
@@ -125,104 +125,104 @@ impl Parser {
     }
 
     pub fn refuse(self, number: u32) -> Parser
-        ensures { λ r. ⌜ ((ev rep pool : List ℕ) → view-of r ev rep pool ≡ refuse-machine number (view-of self ev rep pool)) ⌝ }
+        ensures { λ r. ⌜ ((events reports pool : List ℕ) → view-of r events reports pool ≡ refuse-machine number (view-of self events reports pool)) ⌝ }
         ensures { λ r. ⌜ ((tk : List ℕ) → length tk < 18446744073709551616 → left tk (r .s) ≡ 0) ⌝ }
     {
         let s = self.s.refuse(number);
         self.with(s)
     }
 
-    pub fn start(self, ev: &mut [u32]) -> Parser
-        ensures { λ r. ⌜ ((rep pool : List ℕ) → view-of r (now (ev .exit)) rep pool ≡ push 0 0 (view-of self (now (ev .entry)) rep pool)) ⌝ }
+    pub fn start(self, events: &mut [u32]) -> Parser
+        ensures { λ r. ⌜ ((reports pool : List ℕ) → view-of r (now (events .exit)) reports pool ≡ push 0 0 (view-of self (now (events .entry)) reports pool)) ⌝ }
         ensures { λ r. ⌜ ((tk : List ℕ) → left tk (r .s) ≤ left tk (self .s)) ⌝ }
     {
-        let s = self.s.start(ev);
+        let s = self.s.start(events);
         self.with(s)
     }
 
-    pub fn complete(self, ev: &mut [u32], m: Marker, kind: u32) -> Parser
-        ensures { λ r. ⌜ ((rep pool : List ℕ) → view-of r (now (ev .exit)) rep pool ≡ complete-machine (marker-of m) kind (view-of self (now (ev .entry)) rep pool)) ⌝ }
+    pub fn complete(self, events: &mut [u32], m: Marker, kind: u32) -> Parser
+        ensures { λ r. ⌜ ((reports pool : List ℕ) → view-of r (now (events .exit)) reports pool ≡ complete-machine (marker-of m) kind (view-of self (now (events .entry)) reports pool)) ⌝ }
         ensures { λ r. ⌜ ((tk : List ℕ) → left tk (r .s) ≤ left tk (self .s)) ⌝ }
     {
-        let s = self.s.complete(ev, m, kind);
+        let s = self.s.complete(events, m, kind);
         self.with(s)
     }
 
-    pub fn ignore(self, ev: &mut [u32]) -> Parser
-        ensures { λ r. ⌜ ((rep pool : List ℕ) → view-of r (now (ev .exit)) rep pool ≡ push 0 0 (view-of self (now (ev .entry)) rep pool)) ⌝ }
+    pub fn ignore(self, events: &mut [u32]) -> Parser
+        ensures { λ r. ⌜ ((reports pool : List ℕ) → view-of r (now (events .exit)) reports pool ≡ push 0 0 (view-of self (now (events .entry)) reports pool)) ⌝ }
         ensures { λ r. ⌜ ((tk : List ℕ) → left tk (r .s) ≤ left tk (self .s)) ⌝ }
     {
-        let s = self.s.ignore(ev);
+        let s = self.s.ignore(events);
         self.with(s)
     }
 
-    pub fn precede(self, ev: &mut [u32], m: Marker) -> Parser
-        ensures { λ r. ⌜ ((rep pool : List ℕ) → view-of r (now (ev .exit)) rep pool ≡ precede-machine (marker-of m) (view-of self (now (ev .entry)) rep pool)) ⌝ }
+    pub fn precede(self, events: &mut [u32], m: Marker) -> Parser
+        ensures { λ r. ⌜ ((reports pool : List ℕ) → view-of r (now (events .exit)) reports pool ≡ precede-machine (marker-of m) (view-of self (now (events .entry)) reports pool)) ⌝ }
         ensures { λ r. ⌜ ((tk : List ℕ) → left tk (r .s) ≤ left tk (self .s)) ⌝ }
     {
-        let s = self.s.precede(ev, m);
+        let s = self.s.precede(events, m);
         self.with(s)
     }
 
-    pub fn bump(self, t: &[u32], ev: &mut [u32]) -> Parser
-        ensures { λ r. ⌜ ((b : Span) (rep pool : List ℕ) → said yes (view-of r (now (ev .exit)) rep pool) ≡ perform (tokens-of (now (t .entry))) b bump-act (view-of self (now (ev .entry)) rep pool)) ⌝ }
-        ensures { λ r. ⌜ left (now (t .entry)) (r .s) ≤ left (now (t .entry)) (self .s) - 1 ⌝ }
+    pub fn bump(self, tokens: &[u32], events: &mut [u32]) -> Parser
+        ensures { λ r. ⌜ ((b : Span) (reports pool : List ℕ) → said yes (view-of r (now (events .exit)) reports pool) ≡ perform (tokens-of (now (tokens .entry))) b bump-act (view-of self (now (events .entry)) reports pool)) ⌝ }
+        ensures { λ r. ⌜ left (now (tokens .entry)) (r .s) ≤ left (now (tokens .entry)) (self .s) - 1 ⌝ }
     {
-        let s = self.s.bump(t, ev);
+        let s = self.s.bump(tokens, events);
         self.with(s)
     }
 
-    pub fn peek(self, t: &[u32]) -> Parser
-        ensures { λ r. ⌜ ((ev rep pool : List ℕ) → view-of r ev rep pool ≡ peek-machine (tokens-of (now (t .entry))) (view-of self ev rep pool)) ⌝ }
-        ensures { λ r. ⌜ left (now (t .entry)) (r .s) ≤ left (now (t .entry)) (self .s) ⌝ }
+    pub fn peek(self, tokens: &[u32]) -> Parser
+        ensures { λ r. ⌜ ((events reports pool : List ℕ) → view-of r events reports pool ≡ peek-machine (tokens-of (now (tokens .entry))) (view-of self events reports pool)) ⌝ }
+        ensures { λ r. ⌜ left (now (tokens .entry)) (r .s) ≤ left (now (tokens .entry)) (self .s) ⌝ }
     {
-        let s = self.s.peek(t);
+        let s = self.s.peek(tokens);
         self.with(s)
     }
 
-    pub fn at_end(self, t: &[u32]) -> Tested
-        ensures { λ r. ⌜ ((b : Span) (ev rep pool : List ℕ) → tested-as r ev rep pool ≡ perform (tokens-of (now (t .entry))) b at-end-act (view-of self ev rep pool)) ⌝ }
-        ensures { λ r. ⌜ left (now (t .entry)) (r .p .s) ≤ left (now (t .entry)) (self .s) ⌝ }
-        ensures { λ r. ⌜ (r .yes ≡ false → 0 < left (now (t .entry)) (r .p .s)) ⌝ }
-        ensures { λ r. ⌜ (r .yes ≡ true → left (now (t .entry)) (r .p .s) ≡ 0) ⌝ }
+    pub fn at_end(self, tokens: &[u32]) -> ParserTested
+        ensures { λ r. ⌜ ((b : Span) (events reports pool : List ℕ) → parser-tested r events reports pool ≡ perform (tokens-of (now (tokens .entry))) b at-end-act (view-of self events reports pool)) ⌝ }
+        ensures { λ r. ⌜ left (now (tokens .entry)) (r .p .s) ≤ left (now (tokens .entry)) (self .s) ⌝ }
+        ensures { λ r. ⌜ (r .yes ≡ false → 0 < left (now (tokens .entry)) (r .p .s)) ⌝ }
+        ensures { λ r. ⌜ (r .yes ≡ true → left (now (tokens .entry)) (r .p .s) ≡ 0) ⌝ }
     {
-        let e = self.s.at_end(t);
+        let e = self.s.at_end(tokens);
         let p = self.with(e.s);
-        Tested { p: p, yes: e.yes }
+        ParserTested { p: p, yes: e.yes }
     }
 
-    pub fn silent_at(self, t: &[u32], k: u8) -> Tested
-        ensures { λ r. ⌜ ((b : Span) (ev rep pool : List ℕ) → tested-as r ev rep pool ≡ perform (tokens-of (now (t .entry))) b (silent-at-act (k ∷ [])) (view-of self ev rep pool)) ⌝ }
-        ensures { λ r. ⌜ left (now (t .entry)) (r .p .s) ≤ left (now (t .entry)) (self .s) ⌝ }
-        ensures { λ r. ⌜ (r .yes ≡ true → 0 < left (now (t .entry)) (r .p .s)) ⌝ }
+    pub fn silent_at(self, tokens: &[u32], k: u8) -> ParserTested
+        ensures { λ r. ⌜ ((b : Span) (events reports pool : List ℕ) → parser-tested r events reports pool ≡ perform (tokens-of (now (tokens .entry))) b (silent-at-act (k ∷ [])) (view-of self events reports pool)) ⌝ }
+        ensures { λ r. ⌜ left (now (tokens .entry)) (r .p .s) ≤ left (now (tokens .entry)) (self .s) ⌝ }
+        ensures { λ r. ⌜ (r .yes ≡ true → 0 < left (now (tokens .entry)) (r .p .s)) ⌝ }
     {
-        let e = self.s.silent_at(t, k);
+        let e = self.s.silent_at(tokens, k);
         let p = self.with(e.s);
-        Tested { p: p, yes: e.yes }
+        ParserTested { p: p, yes: e.yes }
     }
 
-    pub fn silent_at_set(self, t: &[u32], set: &[u8]) -> Tested
-        ensures { λ r. ⌜ ((b : Span) (ev rep pool : List ℕ) → tested-as r ev rep pool ≡ perform (tokens-of (now (t .entry))) b (silent-at-act (now (set .entry))) (view-of self ev rep pool)) ⌝ }
-        ensures { λ r. ⌜ left (now (t .entry)) (r .p .s) ≤ left (now (t .entry)) (self .s) ⌝ }
-        ensures { λ r. ⌜ (r .yes ≡ true → 0 < left (now (t .entry)) (r .p .s)) ⌝ }
+    pub fn silent_at_set(self, tokens: &[u32], set: &[u8]) -> ParserTested
+        ensures { λ r. ⌜ ((b : Span) (events reports pool : List ℕ) → parser-tested r events reports pool ≡ perform (tokens-of (now (tokens .entry))) b (silent-at-act (now (set .entry))) (view-of self events reports pool)) ⌝ }
+        ensures { λ r. ⌜ left (now (tokens .entry)) (r .p .s) ≤ left (now (tokens .entry)) (self .s) ⌝ }
+        ensures { λ r. ⌜ (r .yes ≡ true → 0 < left (now (tokens .entry)) (r .p .s)) ⌝ }
     {
-        let e = self.s.silent_at_set(t, set);
+        let e = self.s.silent_at_set(tokens, set);
         let p = self.with(e.s);
-        Tested { p: p, yes: e.yes }
+        ParserTested { p: p, yes: e.yes }
     }
 
-    pub fn silent_eat(self, t: &[u32], ev: &mut [u32], m: Matcher) -> Tested
-        ensures { λ r. ⌜ ((ask : Rule → Machine → Walked) (b : Span) (rep pool : List ℕ) → tested-as r (now (ev .exit)) rep pool ≡ walk ask (tokens-of (now (t .entry))) b (silent-eat-prog (matcher-of m)) (view-of self (now (ev .entry)) rep pool)) ⌝ }
-        ensures { λ r. ⌜ left (now (t .entry)) (r .p .s) ≤ left (now (t .entry)) (self .s) ⌝ }
-        ensures { λ r. ⌜ (r .yes ≡ true → left (now (t .entry)) (r .p .s) ≤ left (now (t .entry)) (self .s) - 1) ⌝ }
+    pub fn silent_eat(self, tokens: &[u32], events: &mut [u32], m: Matcher) -> ParserTested
+        ensures { λ r. ⌜ ((ask : Rule → Machine → Walked) (b : Span) (reports pool : List ℕ) → parser-tested r (now (events .exit)) reports pool ≡ walk ask (tokens-of (now (tokens .entry))) b (silent-eat-prog (matcher-of m)) (view-of self (now (events .entry)) reports pool)) ⌝ }
+        ensures { λ r. ⌜ left (now (tokens .entry)) (r .p .s) ≤ left (now (tokens .entry)) (self .s) ⌝ }
+        ensures { λ r. ⌜ (r .yes ≡ true → left (now (tokens .entry)) (r .p .s) ≤ left (now (tokens .entry)) (self .s) - 1) ⌝ }
     {
-        let e = self.s.silent_eat(t, ev, m);
+        let e = self.s.silent_eat(tokens, events, m);
         let p = self.with(e.s);
-        Tested { p: p, yes: e.yes }
+        ParserTested { p: p, yes: e.yes }
     }
 
     pub fn add_expected(self, code: u8) -> Parser
-        ensures { λ r. ⌜ ((ts : List Token) (b : Span) (ev rep pool : List ℕ) → said yes (view-of r ev rep pool) ≡ perform ts b (add-expected-act code) (view-of self ev rep pool)) ⌝ }
+        ensures { λ r. ⌜ ((ts : List Token) (b : Span) (events reports pool : List ℕ) → said yes (view-of r events reports pool) ≡ perform ts b (add-expected-act code) (view-of self events reports pool)) ⌝ }
         ensures { λ r. ⌜ ((tk : List ℕ) → left tk (r .s) ≤ left tk (self .s)) ⌝ }
     {
         let mut codes = self.codes;
@@ -230,103 +230,103 @@ impl Parser {
         Parser { codes: codes, s: s }
     }
 
-    pub fn at(self, t: &[u32], m: Matcher) -> Tested
-        ensures { λ r. ⌜ ((ask : Rule → Machine → Walked) (b : Span) (ev rep pool : List ℕ) → tested-as r ev rep pool ≡ walk ask (tokens-of (now (t .entry))) b (at-prog (matcher-of m)) (view-of self ev rep pool)) ⌝ }
-        ensures { λ r. ⌜ left (now (t .entry)) (r .p .s) ≤ left (now (t .entry)) (self .s) ⌝ }
-        ensures { λ r. ⌜ (r .yes ≡ true → 0 < left (now (t .entry)) (r .p .s)) ⌝ }
+    pub fn at(self, tokens: &[u32], m: Matcher) -> ParserTested
+        ensures { λ r. ⌜ ((ask : Rule → Machine → Walked) (b : Span) (events reports pool : List ℕ) → parser-tested r events reports pool ≡ walk ask (tokens-of (now (tokens .entry))) b (at-prog (matcher-of m)) (view-of self events reports pool)) ⌝ }
+        ensures { λ r. ⌜ left (now (tokens .entry)) (r .p .s) ≤ left (now (tokens .entry)) (self .s) ⌝ }
+        ensures { λ r. ⌜ (r .yes ≡ true → 0 < left (now (tokens .entry)) (r .p .s)) ⌝ }
     {
         let mut codes = self.codes;
-        let e = self.s.at(&mut codes, t, m);
+        let e = self.s.at(&mut codes, tokens, m);
         let s = e.s;
         let p = Parser { codes: codes, s: s };
-        Tested { p: p, yes: e.yes }
+        ParserTested { p: p, yes: e.yes }
     }
 
-    pub fn eat(self, t: &[u32], ev: &mut [u32], m: Matcher) -> Tested
-        ensures { λ r. ⌜ ((ask : Rule → Machine → Walked) (b : Span) (rep pool : List ℕ) → tested-as r (now (ev .exit)) rep pool ≡ walk ask (tokens-of (now (t .entry))) b (eat-prog (matcher-of m)) (view-of self (now (ev .entry)) rep pool)) ⌝ }
-        ensures { λ r. ⌜ left (now (t .entry)) (r .p .s) ≤ left (now (t .entry)) (self .s) ⌝ }
-        ensures { λ r. ⌜ (r .yes ≡ true → left (now (t .entry)) (r .p .s) ≤ left (now (t .entry)) (self .s) - 1) ⌝ }
+    pub fn eat(self, tokens: &[u32], events: &mut [u32], m: Matcher) -> ParserTested
+        ensures { λ r. ⌜ ((ask : Rule → Machine → Walked) (b : Span) (reports pool : List ℕ) → parser-tested r (now (events .exit)) reports pool ≡ walk ask (tokens-of (now (tokens .entry))) b (eat-prog (matcher-of m)) (view-of self (now (events .entry)) reports pool)) ⌝ }
+        ensures { λ r. ⌜ left (now (tokens .entry)) (r .p .s) ≤ left (now (tokens .entry)) (self .s) ⌝ }
+        ensures { λ r. ⌜ (r .yes ≡ true → left (now (tokens .entry)) (r .p .s) ≤ left (now (tokens .entry)) (self .s) - 1) ⌝ }
     {
         let mut codes = self.codes;
-        let e = self.s.eat(&mut codes, t, ev, m);
+        let e = self.s.eat(&mut codes, tokens, events, m);
         let s = e.s;
         let p = Parser { codes: codes, s: s };
-        Tested { p: p, yes: e.yes }
+        ParserTested { p: p, yes: e.yes }
     }
 
     pub fn expect(
         self,
-        t: &[u32],
-        ev: &mut [u32],
-        rep: &mut [u32],
+        tokens: &[u32],
+        events: &mut [u32],
+        reports: &mut [u32],
         pool: &mut [u32],
         m: Matcher,
-    ) -> Tested
-        ensures { λ r. ⌜ ((ask : Rule → Machine → Walked) (b : Span) → tested-as r (now (ev .exit)) (now (rep .exit)) (now (pool .exit)) ≡ walk ask (tokens-of (now (t .entry))) b (expect-prog (matcher-of m)) (view-of self (now (ev .entry)) (now (rep .entry)) (now (pool .entry)))) ⌝ }
-        ensures { λ r. ⌜ left (now (t .entry)) (r .p .s) ≤ left (now (t .entry)) (self .s) ⌝ }
-        ensures { λ r. ⌜ (r .yes ≡ true → left (now (t .entry)) (r .p .s) ≤ left (now (t .entry)) (self .s) - 1) ⌝ }
+    ) -> ParserTested
+        ensures { λ r. ⌜ ((ask : Rule → Machine → Walked) (b : Span) → parser-tested r (now (events .exit)) (now (reports .exit)) (now (pool .exit)) ≡ walk ask (tokens-of (now (tokens .entry))) b (expect-prog (matcher-of m)) (view-of self (now (events .entry)) (now (reports .entry)) (now (pool .entry)))) ⌝ }
+        ensures { λ r. ⌜ left (now (tokens .entry)) (r .p .s) ≤ left (now (tokens .entry)) (self .s) ⌝ }
+        ensures { λ r. ⌜ (r .yes ≡ true → left (now (tokens .entry)) (r .p .s) ≤ left (now (tokens .entry)) (self .s) - 1) ⌝ }
     {
         let mut codes = self.codes;
-        let e = self.s.expect(&mut codes, t, ev, rep, pool, m);
+        let e = self.s.expect(&mut codes, tokens, events, reports, pool, m);
         let s = e.s;
         let p = Parser { codes: codes, s: s };
-        Tested { p: p, yes: e.yes }
+        ParserTested { p: p, yes: e.yes }
     }
 
     pub fn expect_recoverable(
         self,
-        t: &[u32],
-        ev: &mut [u32],
-        rep: &mut [u32],
+        tokens: &[u32],
+        events: &mut [u32],
+        reports: &mut [u32],
         pool: &mut [u32],
         m: Matcher,
         recovery: &[u8],
-    ) -> Tested
-        ensures { λ r. ⌜ ((ask : Rule → Machine → Walked) (b : Span) → tested-as r (now (ev .exit)) (now (rep .exit)) (now (pool .exit)) ≡ walk ask (tokens-of (now (t .entry))) b (expect-recoverable-prog (matcher-of m) (now (recovery .entry))) (view-of self (now (ev .entry)) (now (rep .entry)) (now (pool .entry)))) ⌝ }
-        ensures { λ r. ⌜ left (now (t .entry)) (r .p .s) ≤ left (now (t .entry)) (self .s) ⌝ }
+    ) -> ParserTested
+        ensures { λ r. ⌜ ((ask : Rule → Machine → Walked) (b : Span) → parser-tested r (now (events .exit)) (now (reports .exit)) (now (pool .exit)) ≡ walk ask (tokens-of (now (tokens .entry))) b (expect-recoverable-prog (matcher-of m) (now (recovery .entry))) (view-of self (now (events .entry)) (now (reports .entry)) (now (pool .entry)))) ⌝ }
+        ensures { λ r. ⌜ left (now (tokens .entry)) (r .p .s) ≤ left (now (tokens .entry)) (self .s) ⌝ }
     {
         let mut codes = self.codes;
         let e = self.s
-            .expect_recoverable(&mut codes, t, ev, rep, pool, m, recovery);
+            .expect_recoverable(&mut codes, tokens, events, reports, pool, m, recovery);
         let s = e.s;
         let p = Parser { codes: codes, s: s };
-        Tested { p: p, yes: e.yes }
+        ParserTested { p: p, yes: e.yes }
     }
 
     // A report changes no pending expectation.
     pub fn error(
         self,
-        t: &[u32],
-        ev: &mut [u32],
-        rep: &mut [u32],
+        tokens: &[u32],
+        events: &mut [u32],
+        reports: &mut [u32],
         pool: &mut [u32],
         message: u32,
         hint: u32,
         bump: Bump,
     ) -> Parser
-        ensures { λ r. ⌜ ((ask : Rule → Machine → Walked) (b : Span) → said yes (view-of r (now (ev .exit)) (now (rep .exit)) (now (pool .exit))) ≡ walk ask (tokens-of (now (t .entry))) b (error-prog bump message hint) (view-of self (now (ev .entry)) (now (rep .entry)) (now (pool .entry)))) ⌝ }
-        ensures { λ r. ⌜ left (now (t .entry)) (r .s) ≤ left (now (t .entry)) (self .s) - takes bump ⌝ }
+        ensures { λ r. ⌜ ((ask : Rule → Machine → Walked) (b : Span) → said yes (view-of r (now (events .exit)) (now (reports .exit)) (now (pool .exit))) ≡ walk ask (tokens-of (now (tokens .entry))) b (error-prog bump message hint) (view-of self (now (events .entry)) (now (reports .entry)) (now (pool .entry)))) ⌝ }
+        ensures { λ r. ⌜ left (now (tokens .entry)) (r .s) ≤ left (now (tokens .entry)) (self .s) - takes bump ⌝ }
     {
         let codes = self.codes;
-        let s = self.s.error(&codes, t, ev, rep, pool, message, hint, bump);
+        let s = self.s.error(&codes, tokens, events, reports, pool, message, hint, bump);
         self.with(s)
     }
 
     pub fn emit(
         self,
-        t: &[u32],
-        ev: &mut [u32],
-        rep: &mut [u32],
+        tokens: &[u32],
+        events: &mut [u32],
+        reports: &mut [u32],
         pool: &mut [u32],
         message: u32,
         hint: u32,
         label: TextRange,
     ) -> Parser
-        ensures { λ r. ⌜ view-of r (now (ev .exit)) (now (rep .exit)) (now (pool .exit)) ≡ emit-machine (tokens-of (now (t .entry))) message hint (span-of label) (view-of self (now (ev .entry)) (now (rep .entry)) (now (pool .entry))) ⌝ }
-        ensures { λ r. ⌜ left (now (t .entry)) (r .s) ≤ left (now (t .entry)) (self .s) ⌝ }
+        ensures { λ r. ⌜ view-of r (now (events .exit)) (now (reports .exit)) (now (pool .exit)) ≡ emit-machine (tokens-of (now (tokens .entry))) message hint (span-of label) (view-of self (now (events .entry)) (now (reports .entry)) (now (pool .entry))) ⌝ }
+        ensures { λ r. ⌜ left (now (tokens .entry)) (r .s) ≤ left (now (tokens .entry)) (self .s) ⌝ }
     {
         let codes = self.codes;
-        let s = self.s.emit(&codes, t, ev, rep, pool, message, hint, label);
+        let s = self.s.emit(&codes, tokens, events, reports, pool, message, hint, label);
         self.with(s)
     }
 }

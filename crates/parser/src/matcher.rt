@@ -55,7 +55,7 @@ impl Matcher {
     }
 
     pub fn push_expected(self, s: State, codes: &mut [u8; 256]) -> State
-        ensures { λ r. ⌜ ((ask : Rule → Machine → Walked) (ts : List Token) (b : Span) (ev rep pool : List ℕ) → said yes (view r (now (codes .exit)) ev rep pool) ≡ walk ask ts b (matcher-of self .push-expected) (view s (now (codes .entry)) ev rep pool)) ⌝ }
+        ensures { λ r. ⌜ ((ask : Rule → Machine → Walked) (ts : List Token) (b : Span) (events reports pool : List ℕ) → said yes (view r (now (codes .exit)) events reports pool) ≡ walk ask ts b (matcher-of self .push-expected) (view s (now (codes .entry)) events reports pool)) ⌝ }
         ensures { λ r. ⌜ ((tk : List ℕ) → left tk r ≤ left tk s) ⌝ }
     {
         let code = self.first_code();
@@ -69,15 +69,15 @@ impl Matcher {
     }
 
     // The matcher has matched.
-    pub fn consume(self, s: State, t: &[u32], ev: &mut [u32]) -> State
-        ensures { λ r. ⌜ ((ask : Rule → Machine → Walked) (b : Span) (codes rep pool : List ℕ) → said yes (view r codes (now (ev .exit)) rep pool) ≡ walk ask (tokens-of (now (t .entry))) b (matcher-of self .consume) (view s codes (now (ev .entry)) rep pool)) ⌝ }
-        ensures { λ r. ⌜ left (now (t .entry)) r ≤ left (now (t .entry)) s - 1 ⌝ }
+    pub fn consume(self, s: State, tokens: &[u32], events: &mut [u32]) -> State
+        ensures { λ r. ⌜ ((ask : Rule → Machine → Walked) (b : Span) (codes reports pool : List ℕ) → said yes (view r codes (now (events .exit)) reports pool) ≡ walk ask (tokens-of (now (tokens .entry))) b (matcher-of self .consume) (view s codes (now (events .entry)) reports pool)) ⌝ }
+        ensures { λ r. ⌜ left (now (tokens .entry)) r ≤ left (now (tokens .entry)) s - 1 ⌝ }
     {
         match self {
-            Matcher::Kind(_) => s.bump(t, ev),
-            Matcher::Either(_, _) => s.bump(t, ev),
-            Matcher::Name => s.bump_name(t, ev, &NAME_SET),
-            Matcher::LabelName => s.bump_name(t, ev, &LABEL_NAME_SET),
+            Matcher::Kind(_) => s.bump(tokens, events),
+            Matcher::Either(_, _) => s.bump(tokens, events),
+            Matcher::Name => s.bump_name(tokens, events, &NAME_SET),
+            Matcher::LabelName => s.bump_name(tokens, events, &LABEL_NAME_SET),
         }
     }
 }

@@ -1,5 +1,5 @@
 // source.rs: the token rows and the cursor. A peek moves the cursor past trivia; an immediate one moves nothing.
-use crate::Seen;
+use crate::StateTested;
 use crate::State;
 use crate::errors::TextRange;
 use crate::matcher::Matcher;
@@ -23,16 +23,16 @@ ghost use Rattle.definitions.specs.Prog.{Rule, silent-at, at-end};
 ghost use Rattle.definitions.specs.Grammar.{silent-at-macro-invocation-with-args};
 ghost use Rattle.machine.specs.Machine.{Machine, peek as peek-machine, range-at};
 ghost use Rattle.machine.specs.Walk.{Walked, perform, walk};
-ghost use Rattle.parser.specs.View.{view, left, seen-as, kinds-of, take-first, span-of};
+ghost use Rattle.parser.specs.View.{view, left, state-tested, kinds-of, take-first, span-of};
 
 // Whether the matcher matches the row.
-pub fn is_matched_at(t: &[u32], at: usize, m: Matcher) -> bool
-    ensures { λ r. ⌜ r ≡ first-in (kinds-of m) (drop at (tokens-of (now (t .entry)))) ⌝ }
-    ensures { λ r. ⌜ (r ≡ true → at < length (now (t .entry)) / 2) ⌝ }
+pub fn is_matched_at(tokens: &[u32], at: usize, m: Matcher) -> bool
+    ensures { λ r. ⌜ r ≡ first-in (kinds-of m) (drop at (tokens-of (now (tokens .entry)))) ⌝ }
+    ensures { λ r. ⌜ (r ≡ true → at < length (now (tokens .entry)) / 2) ⌝ }
 {
-    let inside = at < t.len() / 2;
+    let inside = at < tokens.len() / 2;
     if inside {
-        let here = kind_at(t, at);
+        let here = kind_at(tokens, at);
         m.matches(here)
     } else {
         false
@@ -41,79 +41,79 @@ pub fn is_matched_at(t: &[u32], at: usize, m: Matcher) -> bool
 
 impl State {
     // `skip_trivia`: the cursor comes to stand at a token, or at the end.
-    pub fn peek(self, t: &[u32]) -> State
-        ensures { λ r. ⌜ ((codes ev rep pool : List ℕ) → view r codes ev rep pool ≡ peek-machine (tokens-of (now (t .entry))) (view self codes ev rep pool)) ⌝ }
-        ensures { λ r. ⌜ left (now (t .entry)) r ≤ left (now (t .entry)) self ⌝ }
+    pub fn peek(self, tokens: &[u32]) -> State
+        ensures { λ r. ⌜ ((codes events reports pool : List ℕ) → view r codes events reports pool ≡ peek-machine (tokens-of (now (tokens .entry))) (view self codes events reports pool)) ⌝ }
+        ensures { λ r. ⌜ left (now (tokens .entry)) r ≤ left (now (tokens .entry)) self ⌝ }
     {
-        let seat = skip_trivia(t, self.cursor.0, self.at.0);
+        let seat = skip_trivia(tokens, self.cursor.0, self.byte.0);
         let cursor = TokenIndex(seat.at);
         let start = ByteOffset(seat.byte);
         let mut q = self;
         q.cursor = cursor;
-        q.at = start;
+        q.byte = start;
         q
     }
 
-    pub fn at_end(self, t: &[u32]) -> Seen
-        ensures { λ r. ⌜ ((b : Span) (codes ev rep pool : List ℕ) → seen-as r codes ev rep pool ≡ perform (tokens-of (now (t .entry))) b at-end (view self codes ev rep pool)) ⌝ }
-        ensures { λ r. ⌜ left (now (t .entry)) (r .s) ≤ left (now (t .entry)) self ⌝ }
-        ensures { λ r. ⌜ (r .yes ≡ false → 0 < left (now (t .entry)) (r .s)) ⌝ }
-        ensures { λ r. ⌜ (r .yes ≡ true → left (now (t .entry)) (r .s) ≡ 0) ⌝ }
+    pub fn at_end(self, tokens: &[u32]) -> StateTested
+        ensures { λ r. ⌜ ((b : Span) (codes events reports pool : List ℕ) → state-tested r codes events reports pool ≡ perform (tokens-of (now (tokens .entry))) b at-end (view self codes events reports pool)) ⌝ }
+        ensures { λ r. ⌜ left (now (tokens .entry)) (r .s) ≤ left (now (tokens .entry)) self ⌝ }
+        ensures { λ r. ⌜ (r .yes ≡ false → 0 < left (now (tokens .entry)) (r .s)) ⌝ }
+        ensures { λ r. ⌜ (r .yes ≡ true → left (now (tokens .entry)) (r .s) ≡ 0) ⌝ }
     {
-        let q = self.peek(t);
+        let q = self.peek(tokens);
         let at = q.cursor.0;
-        let inside = at < t.len() / 2;
+        let inside = at < tokens.len() / 2;
         if inside {
-            Seen { s: q, yes: false }
+            StateTested { s: q, yes: false }
         } else {
-            Seen { s: q, yes: true }
+            StateTested { s: q, yes: true }
         }
     }
 
     // `check(kind).silent().at()`
-    pub fn silent_at(self, t: &[u32], k: u8) -> Seen
-        ensures { λ r. ⌜ ((b : Span) (codes ev rep pool : List ℕ) → seen-as r codes ev rep pool ≡ perform (tokens-of (now (t .entry))) b (silent-at (k ∷ [])) (view self codes ev rep pool)) ⌝ }
-        ensures { λ r. ⌜ left (now (t .entry)) (r .s) ≤ left (now (t .entry)) self ⌝ }
-        ensures { λ r. ⌜ (r .yes ≡ true → 0 < left (now (t .entry)) (r .s)) ⌝ }
+    pub fn silent_at(self, tokens: &[u32], k: u8) -> StateTested
+        ensures { λ r. ⌜ ((b : Span) (codes events reports pool : List ℕ) → state-tested r codes events reports pool ≡ perform (tokens-of (now (tokens .entry))) b (silent-at (k ∷ [])) (view self codes events reports pool)) ⌝ }
+        ensures { λ r. ⌜ left (now (tokens .entry)) (r .s) ≤ left (now (tokens .entry)) self ⌝ }
+        ensures { λ r. ⌜ (r .yes ≡ true → 0 < left (now (tokens .entry)) (r .s)) ⌝ }
     {
-        let q = self.peek(t);
-        let yes = is_at(t, q.cursor.0, k);
-        Seen { s: q, yes: yes }
+        let q = self.peek(tokens);
+        let yes = is_at(tokens, q.cursor.0, k);
+        StateTested { s: q, yes: yes }
     }
 
     // `check(set).silent().at()`
-    pub fn silent_at_set(self, t: &[u32], set: &[u8]) -> Seen
-        ensures { λ r. ⌜ ((b : Span) (codes ev rep pool : List ℕ) → seen-as r codes ev rep pool ≡ perform (tokens-of (now (t .entry))) b (silent-at (now (set .entry))) (view self codes ev rep pool)) ⌝ }
-        ensures { λ r. ⌜ left (now (t .entry)) (r .s) ≤ left (now (t .entry)) self ⌝ }
-        ensures { λ r. ⌜ (r .yes ≡ true → 0 < left (now (t .entry)) (r .s)) ⌝ }
+    pub fn silent_at_set(self, tokens: &[u32], set: &[u8]) -> StateTested
+        ensures { λ r. ⌜ ((b : Span) (codes events reports pool : List ℕ) → state-tested r codes events reports pool ≡ perform (tokens-of (now (tokens .entry))) b (silent-at (now (set .entry))) (view self codes events reports pool)) ⌝ }
+        ensures { λ r. ⌜ left (now (tokens .entry)) (r .s) ≤ left (now (tokens .entry)) self ⌝ }
+        ensures { λ r. ⌜ (r .yes ≡ true → 0 < left (now (tokens .entry)) (r .s)) ⌝ }
     {
-        let q = self.peek(t);
-        let yes = is_one_of_at(t, q.cursor.0, set);
-        Seen { s: q, yes: yes }
+        let q = self.peek(tokens);
+        let yes = is_one_of_at(tokens, q.cursor.0, set);
+        StateTested { s: q, yes: yes }
     }
 
-    pub fn silent_at_macro_invocation_with_args(self, t: &[u32]) -> Seen
-        ensures { λ r. ⌜ ((ask : Rule → Machine → Walked) (b : Span) (codes ev rep pool : List ℕ) → seen-as r codes ev rep pool ≡ walk ask (tokens-of (now (t .entry))) b silent-at-macro-invocation-with-args (view self codes ev rep pool)) ⌝ }
-        ensures { λ r. ⌜ left (now (t .entry)) (r .s) ≤ left (now (t .entry)) self ⌝ }
-        ensures { λ r. ⌜ (r .yes ≡ true → 0 < left (now (t .entry)) (r .s)) ⌝ }
+    pub fn silent_at_macro_invocation_with_args(self, tokens: &[u32]) -> StateTested
+        ensures { λ r. ⌜ ((ask : Rule → Machine → Walked) (b : Span) (codes events reports pool : List ℕ) → state-tested r codes events reports pool ≡ walk ask (tokens-of (now (tokens .entry))) b silent-at-macro-invocation-with-args (view self codes events reports pool)) ⌝ }
+        ensures { λ r. ⌜ left (now (tokens .entry)) (r .s) ≤ left (now (tokens .entry)) self ⌝ }
+        ensures { λ r. ⌜ (r .yes ≡ true → 0 < left (now (tokens .entry)) (r .s)) ⌝ }
     {
-        let ident = self.silent_at(t, token_kind::IDENT);
+        let ident = self.silent_at(tokens, token_kind::IDENT);
         if ident.yes {
             let q = ident.s;
-            let next = is_next_at(t, q.cursor.0, token_kind::LPAREN);
-            Seen { s: q, yes: next }
+            let next = is_next_at(tokens, q.cursor.0, token_kind::LPAREN);
+            StateTested { s: q, yes: next }
         } else {
             let q = ident.s;
-            Seen { s: q, yes: false }
+            StateTested { s: q, yes: false }
         }
     }
 
     // The range of the row at the cursor.
-    pub fn range(self, t: &[u32]) -> TextRange
-        ensures { λ r. ⌜ ((codes ev rep pool : List ℕ) → span-of r ≡ range-at (drop (self .cursor .0) (tokens-of (now (t .entry)))) (view self codes ev rep pool)) ⌝ }
+    pub fn range(self, tokens: &[u32]) -> TextRange
+        ensures { λ r. ⌜ ((codes events reports pool : List ℕ) → span-of r ≡ range-at (drop (self .cursor .0) (tokens-of (now (tokens .entry)))) (view self codes events reports pool)) ⌝ }
     {
-        let start = self.at;
-        let end = ByteOffset(end_at(t, self.cursor.0, start.0));
+        let start = self.byte;
+        let end = ByteOffset(end_at(tokens, self.cursor.0, start.0));
         TextRange {
             start: start,
             end: end,
@@ -121,20 +121,20 @@ impl State {
     }
 
     // `next_token`, and the expectations cleared: takes the row at the cursor, whatever it is.
-    pub fn next_token(self, t: &[u32]) -> State
-        ensures { λ r. ⌜ ((codes ev rep pool : List ℕ) → view r codes ev rep pool ≡ take-first (drop (self .cursor .0) (tokens-of (now (t .entry)))) (view self codes ev rep pool)) ⌝ }
-        ensures { λ r. ⌜ left (now (t .entry)) r ≤ left (now (t .entry)) self - 1 ⌝ }
+    pub fn next_token(self, tokens: &[u32]) -> State
+        ensures { λ r. ⌜ ((codes events reports pool : List ℕ) → view r codes events reports pool ≡ take-first (drop (self .cursor .0) (tokens-of (now (tokens .entry)))) (view self codes events reports pool)) ⌝ }
+        ensures { λ r. ⌜ left (now (tokens .entry)) r ≤ left (now (tokens .entry)) self - 1 ⌝ }
     {
         let at = self.cursor.0;
-        let inside = at < t.len() / 2;
+        let inside = at < tokens.len() / 2;
         if inside {
             let next = TokenIndex(at + 1);
-            let end = ByteOffset(end_at(t, at, self.at.0));
+            let end = ByteOffset(end_at(tokens, at, self.byte.0));
             let mut q = self;
             q.cursor = next;
-            q.at = end;
+            q.byte = end;
             q.mark = next;
-            q.mark_at = end;
+            q.mark_byte = end;
             q.pending = 0;
             q
         } else {

@@ -21,15 +21,15 @@ use Rattle.machine.specs.Machine as M
 use Rattle.machine.specs.Walk.{Walked, said, perform, choose, marker, close, closed, walk}
 use lib.Dec.{ltb}
 use Rattle.machine.proofs.Turns.{ahead, Few, either, rows-length, peek-ahead, refuse-ahead, turn-again, turn-last}
-use Rattle.parser.specs.declared.Said.{Said as SaidR}
+use Rattle.parser.specs.declared.StateAnswered.{Said as SaidR}
 use Rattle.parser.specs.declared.State.{State}
-use Rattle.parser.specs.declared.Tested.{Tested}
-use Rattle.parser.specs.declared.Told.{Told}
-use Rattle.parser.specs.declared.Answer.{Answer}
-use Rattle.parser.specs.declared.Answer.the-variants as Said
+use Rattle.parser.specs.declared.ParserTested.{ParserTested}
+use Rattle.parser.specs.declared.ParserAnswered.{ParserAnswered}
+use Rattle.parser.specs.declared.Ans.{Ans}
+use Rattle.parser.specs.declared.Ans.the-variants as A
 use Rattle.parser.proofs.Answer.{the-type}
-use Rattle.parser.specs.View.{left, view, view-of, tested-as, answer-of, Starting, by-answer, starting}
-use Rattle.parts.specs.View.{said-as, told-as, goes, found}
+use Rattle.parser.specs.View.{left, view, view-of, parser-tested, ans-of, Starting, by-answer, starting}
+use Rattle.parts.specs.View.{state-answered, parser-answered, goes, found}
 use Rattle.machine.proofs.Way.{Way, Closes, c-case}
 
 pub true-false : {A : Type 0} → true ≡ false → A
@@ -48,18 +48,18 @@ module _ {ask : Rule → Machine → Walked} {ts : List Token} {b : Span} where
 
   -- by the answer that a match has told
   module _ {c n y a : Prog} {m x : Machine} {s : ℕ} {w : Walked} where
-    pub c-answer : (v : Ans) (r : Answer) → Way ask ts b c m (record { ans = answer-of r; shape = s; on = x }) → answer-of r ≡ v → w ≡ choose v (walk ask ts b n) (walk ask ts b y) (walk ask ts b a) x → Way ask ts b (case c n y a) m w
+    pub c-answer : (v : Ans) (r : Answer) → Way ask ts b c m (record { ans = ans-of r; shape = s; on = x }) → ans-of r ≡ v → w ≡ choose v (walk ask ts b n) (walk ask ts b y) (walk ask ts b a) x → Way ask ts b (case c n y a) m w
     c-answer v r e h f = c-case e (f ∙ sym (ap (λ (v : Ans). choose v (walk ask ts b n) (walk ask ts b y) (walk ask ts b a) x) h))
 
-    pub c-said-no : (r : Answer) → Way ask ts b c m (record { ans = answer-of r; shape = s; on = x }) → answer-of r ≡ no → Way ask ts b n x w → Way ask ts b (case c n y a) m w
+    pub c-said-no : (r : Answer) → Way ask ts b c m (record { ans = ans-of r; shape = s; on = x }) → ans-of r ≡ no → Way ask ts b n x w → Way ask ts b (case c n y a) m w
     unfolding choose
     c-said-no r e h f = c-answer no r e h (f .is)
 
-    pub c-said-yes : (r : Answer) → Way ask ts b c m (record { ans = answer-of r; shape = s; on = x }) → answer-of r ≡ yes → Way ask ts b y x w → Way ask ts b (case c n y a) m w
+    pub c-said-yes : (r : Answer) → Way ask ts b c m (record { ans = ans-of r; shape = s; on = x }) → ans-of r ≡ yes → Way ask ts b y x w → Way ask ts b (case c n y a) m w
     unfolding choose
     c-said-yes r e h f = c-answer yes r e h (f .is)
 
-    pub c-said-also : (r : Answer) → Way ask ts b c m (record { ans = answer-of r; shape = s; on = x }) → answer-of r ≡ also → Way ask ts b a x w → Way ask ts b (case c n y a) m w
+    pub c-said-also : (r : Answer) → Way ask ts b c m (record { ans = ans-of r; shape = s; on = x }) → ans-of r ≡ also → Way ask ts b a x w → Way ask ts b (case c n y a) m w
     unfolding choose
     c-said-also r e h f = c-answer also r e h (f .is)
 
@@ -98,11 +98,11 @@ module _ {ask : Rule → Machine → Walked} {ts : List Token} {b : Span} (k : C
 
 -- a turn whose answer a match has told
 module _ {ask : Rule → Machine → Walked} {ts : List Token} {b : Span} {p : Prog} {m m′ : Machine} where
-  pub went-told : (r : Answer) → Way ask ts b p m (said (answer-of r) m′) → answer-of r ≡ again → ahead ts m′ < ahead ts m → walk ask ts b (loop p) m′ ≡ walk ask ts b (loop p) m
+  pub went-told : (r : Answer) → Way ask ts b p m (said (ans-of r) m′) → ans-of r ≡ again → ahead ts m′ < ahead ts m → walk ask ts b (loop p) m′ ≡ walk ask ts b (loop p) m
   went-told r w h l = turn-again ask ts b p m m′ (sym (ap (λ (a : Ans). said a m′) h) ∙ w .is) l
 
-  pub ended-told : (r : Answer) → Way ask ts b p m (said (answer-of r) m′) → is-again (answer-of r) ≡ false → said (answer-of r) m′ ≡ walk ask ts b (loop p) m
-  ended-told r w h = turn-last ask ts b p m m′ (answer-of r) h (w .is)
+  pub ended-told : (r : Answer) → Way ask ts b p m (said (ans-of r) m′) → is-again (ans-of r) ≡ false → said (ans-of r) m′ ≡ walk ask ts b (loop p) m
+  ended-told r w h = turn-last ask ts b p m m′ (ans-of r) h (w .is)
 
 -- ---------------------------------------------------------------- the tokens left where a test held
 
@@ -114,37 +114,37 @@ first-some ks (t ∷ l) e = omega arith
 -- ---------------------------------------------------------------- answers
 
 -- `told`
-pub told-is : (r : Told) (k : Tested) (ev rep pool : List ℕ) → r .p ≡ k .p → answer-of (r .answer) ≡ truth (k .yes) → told-as r ev rep pool ≡ tested-as k ev rep pool
-told-is r k ev rep pool e f = ap (λ p. said (answer-of (r .answer)) (view-of p ev rep pool)) e ∙ ap (λ (a : Ans). said a (view-of (k .p) ev rep pool)) f
+pub told-is : (r : ParserAnswered) (k : ParserTested) (ev rep pool : List ℕ) → r .p ≡ k .p → ans-of (r .ans) ≡ truth (k .yes) → parser-answered r ev rep pool ≡ parser-tested k ev rep pool
+told-is r k ev rep pool e f = ap (λ p. said (ans-of (r .ans)) (view-of p ev rep pool)) e ∙ ap (λ (a : Ans). said a (view-of (k .p) ev rep pool)) f
 
-pub told-yes : (r : Told) (k : Tested) (ev rep pool : List ℕ) → r .p ≡ k .p → answer-of (r .answer) ≡ truth (k .yes) → k .yes ≡ true → told-as r ev rep pool ≡ said yes (view-of (k .p) ev rep pool)
+pub told-yes : (r : ParserAnswered) (k : ParserTested) (ev rep pool : List ℕ) → r .p ≡ k .p → ans-of (r .ans) ≡ truth (k .yes) → k .yes ≡ true → parser-answered r ev rep pool ≡ said yes (view-of (k .p) ev rep pool)
 told-yes r k ev rep pool e f h = told-is r k ev rep pool e f ∙ ap (λ (t : Bool). said (truth t) (view-of (k .p) ev rep pool)) h
 
 -- what the last arm of a match is told where the others are for `Again`
-pub other-ends : (a : Answer) → OneOf (0 ∷ 1 ∷ 2 ∷ []) (tagOf the-type a) → is-again (answer-of a) ≡ false
+pub other-ends : (a : Answer) → OneOf (0 ∷ 1 ∷ 2 ∷ []) (tagOf the-type a) → is-again (ans-of a) ≡ false
 unfolding is-again
-other-ends Said.No h = refl
-other-ends Said.Yes h = refl
-other-ends Said.Also h = refl
-other-ends Said.Again h = absurd (none h)
+other-ends A.No h = refl
+other-ends A.Yes h = refl
+other-ends A.Also h = refl
+other-ends A.Again h = absurd (none h)
   where
-    none : OneOf (0 ∷ 1 ∷ 2 ∷ []) (tagOf the-type Said.Again) → ⊥
+    none : OneOf (0 ∷ 1 ∷ 2 ∷ []) (tagOf the-type A.Again) → ⊥
     none (inl i) = omega (arith, i)
     none (inr (inl i)) = omega (arith, i)
     none (inr (inr i)) = omega (arith, i)
 
 -- at most one token is sure
 pub goes-one : (a : Answer) → goes a ≤ 1
-goes-one Said.No = omega arith
-goes-one Said.Yes = omega arith
-goes-one Said.Also = omega arith
-goes-one Said.Again = omega arith
+goes-one A.No = omega arith
+goes-one A.Yes = omega arith
+goes-one A.Also = omega arith
+goes-one A.Again = omega arith
 
 pub found-one : (a : Answer) → found a ≤ 1
-found-one Said.No = omega arith
-found-one Said.Yes = omega arith
-found-one Said.Also = omega arith
-found-one Said.Again = omega arith
+found-one A.No = omega arith
+found-one A.Yes = omega arith
+found-one A.Also = omega arith
+found-one A.Again = omega arith
 
 -- ---------------------------------------------------------------- a test's own result returned
 
@@ -226,8 +226,8 @@ module _ {ask : Rule → Machine → Walked} {ts : List Token} {b : Span} {m : M
   at-none e = record { is = e .is }
 
 -- `some`
-pub some-is : (r : SaidR) (s : State) (a : Ans) (codes ev rep pool : List ℕ) → r .s ≡ s → answer-of (r .answer) ≡ a → said-as r codes ev rep pool ≡ said a (view s codes ev rep pool)
-some-is r s a codes ev rep pool e f = ap (λ (s : State). said (answer-of (r .answer)) (view s codes ev rep pool)) e ∙ ap (λ (a : Ans). said a (view s codes ev rep pool)) f
+pub some-is : (r : SaidR) (s : State) (a : Ans) (codes ev rep pool : List ℕ) → r .s ≡ s → ans-of (r .ans) ≡ a → state-answered r codes ev rep pool ≡ said a (view s codes ev rep pool)
+some-is r s a codes ev rep pool e f = ap (λ (s : State). said (ans-of (r .ans)) (view s codes ev rep pool)) e ∙ ap (λ (a : Ans). said a (view s codes ev rep pool)) f
 
 -- answers that differ
 pub no-also : no ≡ also → ⊥

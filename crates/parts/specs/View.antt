@@ -4,19 +4,19 @@ use mathlib.Core.Bool.{Bool, true, false}
 use mathlib.Core.List.{List}
 use Rattle.definitions.specs.Prog.{Ans, yes, also}
 use Rattle.machine.specs.Walk.{Walked, said}
-use Rattle.parser.specs.View.{view, view-of, answer-of}
-use Rattle.parser.specs.declared.Said.{Said}
-use Rattle.parser.specs.declared.Told.{Told}
-use Rattle.parser.specs.declared.Answer.{Answer}
-use Rattle.parser.specs.declared.Answer.the-variants.{No, Yes, Also, Again}
+use Rattle.parser.specs.View.{view, view-of, ans-of}
+use Rattle.parser.specs.declared.StateAnswered.{StateAnswered}
+use Rattle.parser.specs.declared.ParserAnswered.{ParserAnswered}
+use Rattle.parser.specs.declared.Ans.{Ans}
+use Rattle.parser.specs.declared.Ans.the-variants.{No, Yes, Also, Again}
 
 -- an answer, and the machine after it
-abbrev pub said-as : Said → List ℕ → List ℕ → List ℕ → List ℕ → Walked
-said-as r codes ev rep pool = said (answer-of (r .answer)) (view (r .s) codes ev rep pool)
+abbrev pub state-answered : StateAnswered → List ℕ → List ℕ → List ℕ → List ℕ → Walked
+state-answered r codes ev rep pool = said (ans-of (r .ans)) (view (r .s) codes ev rep pool)
 
 -- the same of the whole parser
-abbrev pub told-as : Told → List ℕ → List ℕ → List ℕ → Walked
-told-as r ev rep pool = said (answer-of (r .answer)) (view-of (r .p) ev rep pool)
+abbrev pub parser-answered : ParserAnswered → List ℕ → List ℕ → List ℕ → Walked
+parser-answered r ev rep pool = said (ans-of (r .ans)) (view-of (r .p) ev rep pool)
 
 -- the answer at a node's or property's own name, by `allow_prop`
 abbrev pub own-name : Bool → Ans

@@ -2,9 +2,9 @@
 use layout::token_kind;
 use names::CONTINUE_COND_SET;
 use names::ITEM_RECOVERY_SET;
-use parser::Answer;
-use parser::Said;
-use parser::Seen;
+use parser::Ans;
+use parser::StateAnswered;
+use parser::StateTested;
 use parser::State;
 use parser::errors::Bump;
 use layout::message::EXPECTED;
@@ -23,8 +23,8 @@ ghost use Rattle.definitions.specs.Prog.{Rule, yes, also};
 ghost use Rattle.definitions.specs.Grammar.{cells-end, after-propvalue};
 ghost use Rattle.machine.specs.Machine.{Machine};
 ghost use Rattle.machine.specs.Walk.{Walked, said, walk, closed};
-ghost use Rattle.parser.specs.View.{view, left, seen-as, marker-of, answer-of};
-ghost use Rattle.parts.specs.View.{said-as};
+ghost use Rattle.parser.specs.View.{view, left, state-tested, marker-of, ans-of};
+ghost use Rattle.parts.specs.View.{state-answered};
 ghost use Rattle.parts.specs.Parts.{at-item, at-cells-recovery, at-values-end, unfinished};
 
 pub const PROPERTY_VALUE_RECOVERY_SET: [u8; 4] = [
@@ -37,68 +37,68 @@ pub const PROPERTY_VALUE_RECOVERY_SET: [u8; 4] = [
 pub const CELLS_RECOVERY_SET: [u8; 3] = [token_kind::SEMICOLON, token_kind::LCURLY, token_kind::RCURLY];
 
 // Whether a node's body goes on here.
-pub fn at_item(s: State, codes: &mut [u8; 256], t: &[u32]) -> Seen
-    ensures { λ r. ⌜ ((ask : Rule → Machine → Walked) (b : Span) (ev rep pool : List ℕ) → seen-as r (now (codes .exit)) ev rep pool ≡ walk ask (tokens-of (now (t .entry))) b at-item (view s (now (codes .entry)) ev rep pool)) ⌝ }
-    ensures { λ r. ⌜ left (now (t .entry)) (r .s) ≤ left (now (t .entry)) s ⌝ }
-    ensures { λ r. ⌜ (r .yes ≡ true → 0 < left (now (t .entry)) (r .s)) ⌝ }
+pub fn at_item(s: State, codes: &mut [u8; 256], tokens: &[u32]) -> StateTested
+    ensures { λ r. ⌜ ((ask : Rule → Machine → Walked) (b : Span) (events reports pool : List ℕ) → state-tested r (now (codes .exit)) events reports pool ≡ walk ask (tokens-of (now (tokens .entry))) b at-item (view s (now (codes .entry)) events reports pool)) ⌝ }
+    ensures { λ r. ⌜ left (now (tokens .entry)) (r .s) ≤ left (now (tokens .entry)) s ⌝ }
+    ensures { λ r. ⌜ (r .yes ≡ true → 0 < left (now (tokens .entry)) (r .s)) ⌝ }
 {
-    let closed = s.at(codes, t, Matcher::Kind(token_kind::RCURLY));
+    let closed = s.at(codes, tokens, Matcher::Kind(token_kind::RCURLY));
     if closed.yes {
         let q = closed.s;
-        return Seen { s: q, yes: false };
+        return StateTested { s: q, yes: false };
     }
-    let end = closed.s.at_end(t);
+    let end = closed.s.at_end(tokens);
     let q = end.s;
     if end.yes {
-        Seen { s: q, yes: false }
+        StateTested { s: q, yes: false }
     } else {
-        Seen { s: q, yes: true }
+        StateTested { s: q, yes: true }
     }
 }
 
 // Whether cells end here.
-pub fn at_cells_end(s: State, codes: &mut [u8; 256], t: &[u32], at_end: bool) -> Seen
-    ensures { λ r. ⌜ ((ask : Rule → Machine → Walked) (b : Span) (ev rep pool : List ℕ) → seen-as r (now (codes .exit)) ev rep pool ≡ walk ask (tokens-of (now (t .entry))) b (cells-end «at_end») (view s (now (codes .entry)) ev rep pool)) ⌝ }
-    ensures { λ r. ⌜ left (now (t .entry)) (r .s) ≤ left (now (t .entry)) s ⌝ }
+pub fn at_cells_end(s: State, codes: &mut [u8; 256], tokens: &[u32], until_end: bool) -> StateTested
+    ensures { λ r. ⌜ ((ask : Rule → Machine → Walked) (b : Span) (events reports pool : List ℕ) → state-tested r (now (codes .exit)) events reports pool ≡ walk ask (tokens-of (now (tokens .entry))) b (cells-end «until_end») (view s (now (codes .entry)) events reports pool)) ⌝ }
+    ensures { λ r. ⌜ left (now (tokens .entry)) (r .s) ≤ left (now (tokens .entry)) s ⌝ }
 {
     if at_end {
         let q = s.add_expected(codes, expected::END);
-        q.at_end(t)
+        q.at_end(tokens)
     } else {
-        s.at(codes, t, Matcher::Kind(token_kind::RANGLE))
+        s.at(codes, tokens, Matcher::Kind(token_kind::RANGLE))
     }
 }
 
 // Whether cells are cut off here.
-pub fn at_cells_recovery(s: State, t: &[u32]) -> Seen
-    ensures { λ r. ⌜ ((ask : Rule → Machine → Walked) (b : Span) (codes ev rep pool : List ℕ) → seen-as r codes ev rep pool ≡ walk ask (tokens-of (now (t .entry))) b at-cells-recovery (view s codes ev rep pool)) ⌝ }
-    ensures { λ r. ⌜ left (now (t .entry)) (r .s) ≤ left (now (t .entry)) s ⌝ }
-    ensures { λ r. ⌜ (r .yes ≡ false → 0 < left (now (t .entry)) s) ⌝ }
+pub fn at_cells_recovery(s: State, tokens: &[u32]) -> StateTested
+    ensures { λ r. ⌜ ((ask : Rule → Machine → Walked) (b : Span) (codes events reports pool : List ℕ) → state-tested r codes events reports pool ≡ walk ask (tokens-of (now (tokens .entry))) b at-cells-recovery (view s codes events reports pool)) ⌝ }
+    ensures { λ r. ⌜ left (now (tokens .entry)) (r .s) ≤ left (now (tokens .entry)) s ⌝ }
+    ensures { λ r. ⌜ (r .yes ≡ false → 0 < left (now (tokens .entry)) s) ⌝ }
 {
-    let closed = s.silent_at_set(t, &CELLS_RECOVERY_SET);
+    let closed = s.silent_at_set(tokens, &CELLS_RECOVERY_SET);
     if closed.yes {
         return closed;
     }
-    let end = closed.s.at_end(t);
+    let end = closed.s.at_end(tokens);
     if end.yes {
         return end;
     }
-    let branch = end.s.silent_at_set(t, &CONTINUE_COND_SET);
+    let branch = end.s.silent_at_set(tokens, &CONTINUE_COND_SET);
     if branch.yes {
         return branch;
     }
-    branch.s.silent_at(t, token_kind::ENDIF_DIRECTIVE)
+    branch.s.silent_at(tokens, token_kind::ENDIF_DIRECTIVE)
 }
 
 // `at(ending_kinds)`
-fn at_values_end(s: State, codes: &mut [u8; 256], t: &[u32], semicolon: bool) -> Seen
-    ensures { λ r. ⌜ ((ask : Rule → Machine → Walked) (b : Span) (ev rep pool : List ℕ) → seen-as r (now (codes .exit)) ev rep pool ≡ walk ask (tokens-of (now (t .entry))) b (at-values-end semicolon) (view s (now (codes .entry)) ev rep pool)) ⌝ }
-    ensures { λ r. ⌜ left (now (t .entry)) (r .s) ≤ left (now (t .entry)) s ⌝ }
+fn at_values_end(s: State, codes: &mut [u8; 256], tokens: &[u32], semicolon: bool) -> StateTested
+    ensures { λ r. ⌜ ((ask : Rule → Machine → Walked) (b : Span) (events reports pool : List ℕ) → state-tested r (now (codes .exit)) events reports pool ≡ walk ask (tokens-of (now (tokens .entry))) b (at-values-end semicolon) (view s (now (codes .entry)) events reports pool)) ⌝ }
+    ensures { λ r. ⌜ left (now (tokens .entry)) (r .s) ≤ left (now (tokens .entry)) s ⌝ }
 {
     if semicolon {
-        s.at(codes, t, Matcher::Kind(token_kind::SEMICOLON))
+        s.at(codes, tokens, Matcher::Kind(token_kind::SEMICOLON))
     } else {
-        s.silent_at_set(t, &[])
+        s.silent_at_set(tokens, &[])
     }
 }
 
@@ -106,45 +106,45 @@ fn at_values_end(s: State, codes: &mut [u8; 256], t: &[u32], semicolon: bool) ->
 pub fn after_propvalue(
     s: State,
     codes: &mut [u8; 256],
-    t: &[u32],
-    ev: &mut [u32],
-    rep: &mut [u32],
+    tokens: &[u32],
+    events: &mut [u32],
+    reports: &mut [u32],
     pool: &mut [u32],
     semicolon: bool,
-) -> Said
-    ensures { λ r. ⌜ ((ask : Rule → Machine → Walked) (b : Span) → said-as r (now (codes .exit)) (now (ev .exit)) (now (rep .exit)) (now (pool .exit)) ≡ walk ask (tokens-of (now (t .entry))) b (after-propvalue semicolon) (view s (now (codes .entry)) (now (ev .entry)) (now (rep .entry)) (now (pool .entry)))) ⌝ }
-    ensures { λ r. ⌜ left (now (t .entry)) (r .s) ≤ left (now (t .entry)) s ⌝ }
-    ensures { λ r. ⌜ (answer-of (r .answer) ≡ also → ⊥) ⌝ }
+) -> StateAnswered
+    ensures { λ r. ⌜ ((ask : Rule → Machine → Walked) (b : Span) → state-answered r (now (codes .exit)) (now (events .exit)) (now (reports .exit)) (now (pool .exit)) ≡ walk ask (tokens-of (now (tokens .entry))) b (after-propvalue semicolon) (view s (now (codes .entry)) (now (events .entry)) (now (reports .entry)) (now (pool .entry)))) ⌝ }
+    ensures { λ r. ⌜ left (now (tokens .entry)) (r .s) ≤ left (now (tokens .entry)) s ⌝ }
+    ensures { λ r. ⌜ (ans-of (r .ans) ≡ also → ⊥) ⌝ }
 {
-    let comma = s.eat(codes, t, ev, Matcher::Kind(token_kind::COMMA));
+    let comma = s.eat(codes, tokens, events, Matcher::Kind(token_kind::COMMA));
     if comma.yes {
         let q = comma.s;
-        return Said {
+        return StateAnswered {
             s: q,
-            answer: Answer::Again,
+            ans: Ans::Again,
         };
     }
-    let end = at_values_end(comma.s, codes, t, semicolon);
+    let end = at_values_end(comma.s, codes, tokens, semicolon);
     if end.yes {
         let q = end.s;
-        return Said {
+        return StateAnswered {
             s: q,
-            answer: Answer::Yes,
+            ans: Ans::Yes,
         };
     }
-    let next = end.s.silent_at_set(t, &PROPERTY_VALUE_RECOVERY_SET);
+    let next = end.s.silent_at_set(tokens, &PROPERTY_VALUE_RECOVERY_SET);
     if next.yes {
         let q = next.s
-            .error(codes, t, ev, rep, pool, EXPECTED, NO_HINT, Bump::No);
-        return Said {
+            .error(codes, tokens, events, reports, pool, EXPECTED, NO_HINT, Bump::No);
+        return StateAnswered {
             s: q,
-            answer: Answer::Again,
+            ans: Ans::Again,
         };
     }
     let q = next.s;
-    Said {
+    StateAnswered {
         s: q,
-        answer: Answer::No,
+        ans: Ans::No,
     }
 }
 
@@ -153,24 +153,24 @@ pub fn after_propvalue(
 pub fn unfinished(
     s: State,
     codes: &[u8; 256],
-    t: &[u32],
-    ev: &mut [u32],
-    rep: &mut [u32],
+    tokens: &[u32],
+    events: &mut [u32],
+    reports: &mut [u32],
     pool: &mut [u32],
     m: Marker,
 ) -> State
-    ensures { λ r. ⌜ ((ask : Rule → Machine → Walked) (b : Span) → said yes (view r (now (codes .entry)) (now (ev .exit)) (now (rep .exit)) (now (pool .exit))) ≡ closed (marker-of m) (walk ask (tokens-of (now (t .entry))) b unfinished (view s (now (codes .entry)) (now (ev .entry)) (now (rep .entry)) (now (pool .entry))))) ⌝ }
-    ensures { λ r. ⌜ left (now (t .entry)) r ≤ left (now (t .entry)) s ⌝ }
+    ensures { λ r. ⌜ ((ask : Rule → Machine → Walked) (b : Span) → said yes (view r (now (codes .entry)) (now (events .exit)) (now (reports .exit)) (now (pool .exit))) ≡ closed (marker-of m) (walk ask (tokens-of (now (tokens .entry))) b unfinished (view s (now (codes .entry)) (now (events .entry)) (now (reports .entry)) (now (pool .entry))))) ⌝ }
+    ensures { λ r. ⌜ left (now (tokens .entry)) r ≤ left (now (tokens .entry)) s ⌝ }
 {
-    let reported = s.error(codes, t, ev, rep, pool, EXPECTED, NO_HINT, Bump::No);
-    let recovery = reported.silent_at_set(t, &ITEM_RECOVERY_SET);
+    let reported = s.error(codes, tokens, events, reports, pool, EXPECTED, NO_HINT, Bump::No);
+    let recovery = reported.silent_at_set(tokens, &ITEM_RECOVERY_SET);
     if recovery.yes {
-        return recovery.s.complete(ev, m, node_kind::PARSE_ERROR);
+        return recovery.s.complete(events, m, node_kind::PARSE_ERROR);
     }
-    let end = recovery.s.at_end(t);
+    let end = recovery.s.at_end(tokens);
     if end.yes {
-        return end.s.complete(ev, m, node_kind::PARSE_ERROR);
+        return end.s.complete(events, m, node_kind::PARSE_ERROR);
     }
-    let q = end.s.bump(t, ev);
-    q.complete(ev, m, node_kind::PARSE_ERROR)
+    let q = end.s.bump(tokens, events);
+    q.complete(events, m, node_kind::PARSE_ERROR)
 }

@@ -3,9 +3,9 @@ use layout::token_kind;
 use names::macro_substitutable_name;
 use names::reference;
 use names::unit_address;
-use parser::Answer;
-use parser::Said;
-use parser::Seen;
+use parser::Ans;
+use parser::StateAnswered;
+use parser::StateTested;
 use parser::State;
 use layout::message::AT_SIGN_IN_LABEL;
 use parser::errors::Bump;
@@ -23,24 +23,24 @@ ghost use Rattle.definitions.specs.Prog.{Rule, yes};
 ghost use Rattle.definitions.specs.Grammar.{prefix-turn, eat-node-or-prop-prefix};
 ghost use Rattle.machine.specs.Machine.{Machine};
 ghost use Rattle.machine.specs.Walk.{Walked, said, walk, closed};
-ghost use Rattle.parser.specs.View.{view, left, seen-as, answer-of};
-ghost use Rattle.parts.specs.View.{said-as, own-name, goes, found};
+ghost use Rattle.parser.specs.View.{view, left, state-tested, ans-of};
+ghost use Rattle.parts.specs.View.{state-answered, own-name, goes, found};
 ghost use Rattle.parts.specs.Parts.{unit-address-and-colon, label-or-name, labels-and-name};
 
 // `Some(allow_prop)`
-fn some(s: State, allow_prop: bool) -> Said
+fn some(s: State, allow_prop: bool) -> StateAnswered
     ensures { λ r. ⌜ r .s ≡ s ⌝ }
-    ensures { λ r. ⌜ answer-of (r .answer) ≡ own-name «allow_prop» ⌝ }
+    ensures { λ r. ⌜ ans-of (r .ans) ≡ own-name «allow_prop» ⌝ }
 {
     if allow_prop {
-        Said {
+        StateAnswered {
             s: s,
-            answer: Answer::Also,
+            ans: Ans::Also,
         }
     } else {
-        Said {
+        StateAnswered {
             s: s,
-            answer: Answer::Yes,
+            ans: Ans::Yes,
         }
     }
 }
@@ -48,17 +48,17 @@ fn some(s: State, allow_prop: bool) -> Said
 fn eat_unit_address_and_at_colon(
     s: State,
     codes: &mut [u8; 256],
-    t: &[u32],
-    ev: &mut [u32],
-    rep: &mut [u32],
+    tokens: &[u32],
+    events: &mut [u32],
+    reports: &mut [u32],
     pool: &mut [u32],
-) -> Seen
-    ensures { λ r. ⌜ ((ask : Rule → Machine → Walked) (b : Span) → seen-as r (now (codes .exit)) (now (ev .exit)) (now (rep .exit)) (now (pool .exit)) ≡ walk ask (tokens-of (now (t .entry))) b unit-address-and-colon (view s (now (codes .entry)) (now (ev .entry)) (now (rep .entry)) (now (pool .entry)))) ⌝ }
-    ensures { λ r. ⌜ left (now (t .entry)) (r .s) ≤ left (now (t .entry)) s ⌝ }
+) -> StateTested
+    ensures { λ r. ⌜ ((ask : Rule → Machine → Walked) (b : Span) → state-tested r (now (codes .exit)) (now (events .exit)) (now (reports .exit)) (now (pool .exit)) ≡ walk ask (tokens-of (now (tokens .entry))) b unit-address-and-colon (view s (now (codes .entry)) (now (events .entry)) (now (reports .entry)) (now (pool .entry)))) ⌝ }
+    ensures { λ r. ⌜ left (now (tokens .entry)) (r .s) ≤ left (now (tokens .entry)) s ⌝ }
 {
-    let unit = unit_address::eat(s, codes, t, ev, rep, pool);
+    let unit = unit_address::eat(s, codes, tokens, events, reports, pool);
     if unit.yes {
-        unit.s.silent_at(t, token_kind::COLON)
+        unit.s.silent_at(tokens, token_kind::COLON)
     } else {
         unit
     }
@@ -68,84 +68,84 @@ fn eat_unit_address_and_at_colon(
 fn label_or_name(
     s: State,
     codes: &mut [u8; 256],
-    t: &[u32],
-    ev: &mut [u32],
-    rep: &mut [u32],
+    tokens: &[u32],
+    events: &mut [u32],
+    reports: &mut [u32],
     pool: &mut [u32],
     allow_prop: bool,
-) -> Said
-    ensures { λ r. ⌜ ((ask : Rule → Machine → Walked) (b : Span) → said-as r (now (codes .exit)) (now (ev .exit)) (now (rep .exit)) (now (pool .exit)) ≡ walk ask (tokens-of (now (t .entry))) b (label-or-name (own-name «allow_prop»)) (view s (now (codes .entry)) (now (ev .entry)) (now (rep .entry)) (now (pool .entry)))) ⌝ }
-    ensures { λ r. ⌜ left (now (t .entry)) (r .s) ≤ left (now (t .entry)) s - 1 ⌝ }
+) -> StateAnswered
+    ensures { λ r. ⌜ ((ask : Rule → Machine → Walked) (b : Span) → state-answered r (now (codes .exit)) (now (events .exit)) (now (reports .exit)) (now (pool .exit)) ≡ walk ask (tokens-of (now (tokens .entry))) b (label-or-name (own-name «allow_prop»)) (view s (now (codes .entry)) (now (events .entry)) (now (reports .entry)) (now (pool .entry)))) ⌝ }
+    ensures { λ r. ⌜ left (now (tokens .entry)) (r .s) ≤ left (now (tokens .entry)) s - 1 ⌝ }
 {
     let m_label = Marker::new(s);
-    let started = s.start(ev);
-    let name = macro_substitutable_name::consume(started, codes, t, ev, rep, pool);
-    let colon = name.eat(codes, t, ev, Matcher::Kind(token_kind::COLON));
+    let started = s.start(events);
+    let name = macro_substitutable_name::consume(started, codes, tokens, events, reports, pool);
+    let colon = name.eat(codes, tokens, events, Matcher::Kind(token_kind::COLON));
     if colon.yes {
-        let q = colon.s.complete(ev, m_label, node_kind::DT_LABEL);
-        return Said {
+        let q = colon.s.complete(events, m_label, node_kind::DT_LABEL);
+        return StateAnswered {
             s: q,
-            answer: Answer::Again,
+            ans: Ans::Again,
         };
     }
-    let bad = eat_unit_address_and_at_colon(colon.s, codes, t, ev, rep, pool);
+    let bad = eat_unit_address_and_at_colon(colon.s, codes, tokens, events, reports, pool);
     if bad.yes {
         let reported = bad.s.error(
             codes,
-            t,
-            ev,
-            rep,
+            tokens,
+            events,
+            reports,
             pool,
             AT_SIGN_IN_LABEL,
             NO_HINT,
             Bump::Yes,
         );
-        let q = reported.complete(ev, m_label, node_kind::PARSE_ERROR);
-        return Said {
+        let q = reported.complete(events, m_label, node_kind::PARSE_ERROR);
+        return StateAnswered {
             s: q,
-            answer: Answer::Again,
+            ans: Ans::Again,
         };
     }
-    let q = bad.s.ignore(ev);
+    let q = bad.s.ignore(events);
     some(q, allow_prop)
 }
 
 fn turn(
     s: State,
     codes: &mut [u8; 256],
-    t: &[u32],
-    ev: &mut [u32],
-    rep: &mut [u32],
+    tokens: &[u32],
+    events: &mut [u32],
+    reports: &mut [u32],
     pool: &mut [u32],
     allow_prop: bool,
-) -> Said
-    ensures { λ r. ⌜ ((ask : Rule → Machine → Walked) (b : Span) → said-as r (now (codes .exit)) (now (ev .exit)) (now (rep .exit)) (now (pool .exit)) ≡ walk ask (tokens-of (now (t .entry))) b (prefix-turn (own-name «allow_prop»)) (view s (now (codes .entry)) (now (ev .entry)) (now (rep .entry)) (now (pool .entry)))) ⌝ }
-    ensures { λ r. ⌜ left (now (t .entry)) (r .s) + goes (r .answer) ≤ left (now (t .entry)) s ⌝ }
-    ensures { λ r. ⌜ left (now (t .entry)) (r .s) ≤ left (now (t .entry)) s - found (r .answer) ⌝ }
+) -> StateAnswered
+    ensures { λ r. ⌜ ((ask : Rule → Machine → Walked) (b : Span) → state-answered r (now (codes .exit)) (now (events .exit)) (now (reports .exit)) (now (pool .exit)) ≡ walk ask (tokens-of (now (tokens .entry))) b (prefix-turn (own-name «allow_prop»)) (view s (now (codes .entry)) (now (events .entry)) (now (reports .entry)) (now (pool .entry)))) ⌝ }
+    ensures { λ r. ⌜ left (now (tokens .entry)) (r .s) + goes (r .ans) ≤ left (now (tokens .entry)) s ⌝ }
+    ensures { λ r. ⌜ left (now (tokens .entry)) (r .s) ≤ left (now (tokens .entry)) s - found (r .ans) ⌝ }
 {
-    let name = macro_substitutable_name::at(s, codes, t);
+    let name = macro_substitutable_name::at(s, codes, tokens);
     if name.yes {
-        return label_or_name(name.s, codes, t, ev, rep, pool, allow_prop);
+        return label_or_name(name.s, codes, tokens, events, reports, pool, allow_prop);
     }
-    let extended = reference::eat(name.s, codes, t, ev, rep, pool);
+    let extended = reference::eat(name.s, codes, tokens, events, reports, pool);
     if extended.yes {
         let q = extended.s;
-        return Said {
+        return StateAnswered {
             s: q,
-            answer: Answer::Yes,
+            ans: Ans::Yes,
         };
     }
-    let root = extended.s.eat(codes, t, ev, Matcher::Kind(token_kind::SLASH));
+    let root = extended.s.eat(codes, tokens, events, Matcher::Kind(token_kind::SLASH));
     let q = root.s;
     if root.yes {
-        Said {
+        StateAnswered {
             s: q,
-            answer: Answer::Yes,
+            ans: Ans::Yes,
         }
     } else {
-        Said {
+        StateAnswered {
             s: q,
-            answer: Answer::No,
+            ans: Ans::No,
         }
     }
 }
@@ -153,21 +153,21 @@ fn turn(
 fn labels_and_name(
     s: State,
     codes: &mut [u8; 256],
-    t: &[u32],
-    ev: &mut [u32],
-    rep: &mut [u32],
+    tokens: &[u32],
+    events: &mut [u32],
+    reports: &mut [u32],
     pool: &mut [u32],
     allow_prop: bool,
-) -> Said
-    ensures { λ r. ⌜ ((ask : Rule → Machine → Walked) (b : Span) → said-as r (now (codes .exit)) (now (ev .exit)) (now (rep .exit)) (now (pool .exit)) ≡ walk ask (tokens-of (now (t .entry))) b (labels-and-name (own-name «allow_prop»)) (view s (now (codes .entry)) (now (ev .entry)) (now (rep .entry)) (now (pool .entry)))) ⌝ }
-    ensures { λ r. ⌜ left (now (t .entry)) (r .s) ≤ left (now (t .entry)) s - found (r .answer) ⌝ }
+) -> StateAnswered
+    ensures { λ r. ⌜ ((ask : Rule → Machine → Walked) (b : Span) → state-answered r (now (codes .exit)) (now (events .exit)) (now (reports .exit)) (now (pool .exit)) ≡ walk ask (tokens-of (now (tokens .entry))) b (labels-and-name (own-name «allow_prop»)) (view s (now (codes .entry)) (now (events .entry)) (now (reports .entry)) (now (pool .entry)))) ⌝ }
+    ensures { λ r. ⌜ left (now (tokens .entry)) (r .s) ≤ left (now (tokens .entry)) s - found (r .ans) ⌝ }
 {
     let mut q = s;
     loop {
-        let said = turn(q, codes, t, ev, rep, pool, allow_prop);
-        let answer = said.answer;
+        let said = turn(q, codes, tokens, events, reports, pool, allow_prop);
+        let answer = said.ans;
         match answer {
-            Answer::Again => {
+            Ans::Again => {
                 q = said.s;
             }
             _ => {
@@ -181,18 +181,18 @@ fn labels_and_name(
 pub fn eat_node_or_prop_prefix(
     s: State,
     codes: &mut [u8; 256],
-    t: &[u32],
-    ev: &mut [u32],
-    rep: &mut [u32],
+    tokens: &[u32],
+    events: &mut [u32],
+    reports: &mut [u32],
     pool: &mut [u32],
-) -> Said
-    ensures { λ r. ⌜ ((ask : Rule → Machine → Walked) (b : Span) → said-as r (now (codes .exit)) (now (ev .exit)) (now (rep .exit)) (now (pool .exit)) ≡ walk ask (tokens-of (now (t .entry))) b eat-node-or-prop-prefix (view s (now (codes .entry)) (now (ev .entry)) (now (rep .entry)) (now (pool .entry)))) ⌝ }
-    ensures { λ r. ⌜ left (now (t .entry)) (r .s) ≤ left (now (t .entry)) s - found (r .answer) ⌝ }
+) -> StateAnswered
+    ensures { λ r. ⌜ ((ask : Rule → Machine → Walked) (b : Span) → state-answered r (now (codes .exit)) (now (events .exit)) (now (reports .exit)) (now (pool .exit)) ≡ walk ask (tokens-of (now (tokens .entry))) b eat-node-or-prop-prefix (view s (now (codes .entry)) (now (events .entry)) (now (reports .entry)) (now (pool .entry)))) ⌝ }
+    ensures { λ r. ⌜ left (now (tokens .entry)) (r .s) ≤ left (now (tokens .entry)) s - found (r .ans) ⌝ }
 {
-    let omit = s.eat(codes, t, ev, Matcher::Kind(token_kind::OMIT_IF_NO_REF_DIRECTIVE));
+    let omit = s.eat(codes, tokens, events, Matcher::Kind(token_kind::OMIT_IF_NO_REF_DIRECTIVE));
     if omit.yes {
-        labels_and_name(omit.s, codes, t, ev, rep, pool, false)
+        labels_and_name(omit.s, codes, tokens, events, reports, pool, false)
     } else {
-        labels_and_name(omit.s, codes, t, ev, rep, pool, true)
+        labels_and_name(omit.s, codes, tokens, events, reports, pool, true)
     }
 }

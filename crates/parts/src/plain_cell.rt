@@ -2,7 +2,7 @@
 use layout::token_kind;
 use names::macros::macro_invocation;
 use names::reference;
-use parser::Seen;
+use parser::StateTested;
 use parser::State;
 use layout::expected;
 use parser::matcher::Matcher;
@@ -15,30 +15,30 @@ ghost use Rattle.definitions.specs.Skeleton.{Span};
 ghost use Rattle.definitions.specs.Prog.{Rule, yes};
 ghost use Rattle.machine.specs.Machine.{Machine};
 ghost use Rattle.machine.specs.Walk.{Walked, said, walk, closed};
-ghost use Rattle.parser.specs.View.{view, left, seen-as};
+ghost use Rattle.parser.specs.View.{view, left, state-tested};
 ghost use Rattle.parts.specs.Parts.{plain-cell};
 
 pub fn eat(
     s: State,
     codes: &mut [u8; 256],
-    t: &[u32],
-    ev: &mut [u32],
-    rep: &mut [u32],
+    tokens: &[u32],
+    events: &mut [u32],
+    reports: &mut [u32],
     pool: &mut [u32],
-) -> Seen
-    ensures { λ r. ⌜ ((ask : Rule → Machine → Walked) (b : Span) → seen-as r (now (codes .exit)) (now (ev .exit)) (now (rep .exit)) (now (pool .exit)) ≡ walk ask (tokens-of (now (t .entry))) b plain-cell (view s (now (codes .entry)) (now (ev .entry)) (now (rep .entry)) (now (pool .entry)))) ⌝ }
-    ensures { λ r. ⌜ left (now (t .entry)) (r .s) ≤ left (now (t .entry)) s ⌝ }
-    ensures { λ r. ⌜ (r .yes ≡ true → left (now (t .entry)) (r .s) < left (now (t .entry)) s) ⌝ }
+) -> StateTested
+    ensures { λ r. ⌜ ((ask : Rule → Machine → Walked) (b : Span) → state-tested r (now (codes .exit)) (now (events .exit)) (now (reports .exit)) (now (pool .exit)) ≡ walk ask (tokens-of (now (tokens .entry))) b plain-cell (view s (now (codes .entry)) (now (events .entry)) (now (reports .entry)) (now (pool .entry)))) ⌝ }
+    ensures { λ r. ⌜ left (now (tokens .entry)) (r .s) ≤ left (now (tokens .entry)) s ⌝ }
+    ensures { λ r. ⌜ (r .yes ≡ true → left (now (tokens .entry)) (r .s) < left (now (tokens .entry)) s) ⌝ }
 {
     let pushed = s.add_expected(codes, expected::CELL);
-    let literal = pushed.silent_eat(t, ev, Matcher::Either(token_kind::NUMBER, token_kind::CHAR));
+    let literal = pushed.silent_eat(tokens, events, Matcher::Either(token_kind::NUMBER, token_kind::CHAR));
     if literal.yes {
         return literal;
     }
-    let ident = literal.s.silent_at(t, token_kind::IDENT);
+    let ident = literal.s.silent_at(tokens, token_kind::IDENT);
     if ident.yes {
-        let q = macro_invocation(ident.s, codes, t, ev, rep, pool);
-        return Seen { s: q, yes: true };
+        let q = macro_invocation(ident.s, codes, tokens, events, reports, pool);
+        return StateTested { s: q, yes: true };
     }
-    reference::silent_eat(ident.s, codes, t, ev, rep, pool)
+    reference::silent_eat(ident.s, codes, tokens, events, reports, pool)
 }

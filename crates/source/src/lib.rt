@@ -63,10 +63,10 @@ pub struct Sight {
     pub next: TokenIndex,
 }
 
-pub fn look(t: &[u32], at: TokenIndex) -> Sight
-    ensures { λ r. ⌜ (r .immediate ≡ kind-of (drop (at .0) (tokens-of (now (t .entry))))) × (r .kind ≡ kind-of (drop-trivia (drop (at .0) (tokens-of (now (t .entry)))))) × (r .next .0 ≡ after-token (tokens-of (now (t .entry))) (at .0)) ⌝ }
+pub fn look(tokens: &[u32], at: TokenIndex) -> Sight
+    ensures { λ r. ⌜ (r .immediate ≡ kind-of (drop (at .0) (tokens-of (now (tokens .entry))))) × (r .kind ≡ kind-of (drop-trivia (drop (at .0) (tokens-of (now (tokens .entry)))))) × (r .next .0 ≡ after-token (tokens-of (now (tokens .entry))) (at .0)) ⌝ }
 {
-    let s = Source::new(t, at);
+    let s = Source::new(tokens, at);
     let next = s.next_token();
     Sight {
         immediate: s.peek_kind_immediate(),

@@ -13,7 +13,7 @@ ghost use Rattle.source.specs.Place.{after-trivia, after-token};
 
 // A parser that has taken nothing and stands here.
 fn standing(at: TokenIndex) -> State
-    ensures { λ r. ⌜ ((codes ev rep pool : List ℕ) → view r codes ev rep pool ≡ with-cursor (at .0) 0 (fresh ev rep pool)) ⌝ }
+    ensures { λ r. ⌜ ((codes events reports pool : List ℕ) → view r codes events reports pool ≡ with-cursor (at .0) 0 (fresh events reports pool)) ⌝ }
 {
     let mut s = State::new();
     s.cursor = at;
@@ -21,19 +21,19 @@ fn standing(at: TokenIndex) -> State
 }
 
 // The first place from here on that is no trivia.
-pub fn past_trivia(t: &[u32], at: TokenIndex) -> TokenIndex
-    ensures { λ r. ⌜ r .0 ≡ after-trivia (tokens-of (now (t .entry))) (at .0) ⌝ }
-    ensures { λ r. ⌜ drop (r .0) (tokens-of (now (t .entry))) ≡ drop-trivia (drop (at .0) (tokens-of (now (t .entry)))) ⌝ }
+pub fn past_trivia(tokens: &[u32], at: TokenIndex) -> TokenIndex
+    ensures { λ r. ⌜ r .0 ≡ after-trivia (tokens-of (now (tokens .entry))) (at .0) ⌝ }
+    ensures { λ r. ⌜ drop (r .0) (tokens-of (now (tokens .entry))) ≡ drop-trivia (drop (at .0) (tokens-of (now (tokens .entry)))) ⌝ }
 {
-    let s = standing(at).peek(t);
+    let s = standing(at).peek(tokens);
     s.cursor
 }
 
 // The place after that token; at the end it stays.
-pub fn past_token(t: &[u32], at: TokenIndex) -> TokenIndex
-    ensures { λ r. ⌜ r .0 ≡ after-token (tokens-of (now (t .entry))) (at .0) ⌝ }
-    ensures { λ r. ⌜ drop (r .0) (tokens-of (now (t .entry))) ≡ past (drop-trivia (drop (at .0) (tokens-of (now (t .entry))))) ⌝ }
+pub fn past_token(tokens: &[u32], at: TokenIndex) -> TokenIndex
+    ensures { λ r. ⌜ r .0 ≡ after-token (tokens-of (now (tokens .entry))) (at .0) ⌝ }
+    ensures { λ r. ⌜ drop (r .0) (tokens-of (now (tokens .entry))) ≡ past (drop-trivia (drop (at .0) (tokens-of (now (tokens .entry))))) ⌝ }
 {
-    let s = standing(at).peek(t).next_token(t);
+    let s = standing(at).peek(tokens).next_token(tokens);
     s.cursor
 }

@@ -22,8 +22,8 @@ returns c =
     let add-expected′ = c .before .before .add-expected in
     let silent-at-set′ = c .silent-at-set in
     let s′ = c .before .before .before .before in (
-      λ ask b ev rep pool. c-seq (c-act (add-expected′ .ensures .0 (tokens-of (s′ .args .t .now)) b ev rep pool)) (c-act (silent-at-set′ .ensures .0 b ev rep pool)) .is,
-      (omega (arith, add-expected′ .ensures .1 (s′ .args .t .now), silent-at-set′ .ensures .1 .0), silent-at-set′ .ensures .1 .1),
+      λ ask b ev rep pool. c-seq (c-act (add-expected′ .ensures .0 (tokens-of (s′ .args .tokens .now)) b ev rep pool)) (c-act (silent-at-set′ .ensures .0 b ev rep pool)) .is,
+      (omega (arith, add-expected′ .ensures .1 (s′ .args .tokens .now), silent-at-set′ .ensures .1 .0), silent-at-set′ .ensures .1 .1),
     )
 
 pub at-prefix-op-spec : {M : Type 1} → statement M

@@ -28,7 +28,7 @@ returns c =
     let complete′ = c .before .before .complete in
     let s′ = c .before .before .before .before .before .before .before .before .before .before .before .before .before .before .before in (
       λ ask b rep pool. c-mark (new′ .ensures) (start′ .ensures .0 rep pool) (c-seq (c-act (bump′ .ensures .0 b rep pool)) c-ret) (completed 8 (complete′ .ensures .0 rep pool)) .is,
-      omega (arith, start′ .ensures .1 (s′ .args .t .now), bump′ .ensures .1, complete′ .ensures .1 (s′ .args .t .now)),
+      omega (arith, start′ .ensures .1 (s′ .args .tokens .now), bump′ .ensures .1, complete′ .ensures .1 (s′ .args .tokens .now)),
     )
 
 pub literal-expr-spec : {M : Type 1} → statement M

@@ -63,7 +63,7 @@ loop-again c =
     let e = d .before in
     let f = e .before in
     let s = f .before .before .before in
-    (λ ask b rep pool. turns (c-yes {t = true} (c-no (c-act (e .at-end .ensures .0 b _ rep pool)) (d .if1 .left) c-ret) refl (c-seq (c-act (a .bump .ensures .0 b rep pool)) c-ret)) (ahead-falls (s .args .t .now) (f .loop .q .s) (a .bump .result .s) (omega (arith, f .loop .inv .1 .0, e .at-end .ensures .1 .0, e .at-end .ensures .1 .1 .0 (d .if1 .left), a .bump .ensures .1))) ∙ f .loop .inv .0 ask b rep pool, (omega (arith, f .loop .inv .1 .0, e .at-end .ensures .1 .0, e .at-end .ensures .1 .1 .0 (d .if1 .left), a .bump .ensures .1), omega (arith, f .loop .inv .1 .1, a .bump .kept)))
+    (λ ask b rep pool. turns (c-yes {t = true} (c-no (c-act (e .at-end .ensures .0 b _ rep pool)) (d .if1 .left) c-ret) refl (c-seq (c-act (a .bump .ensures .0 b rep pool)) c-ret)) (ahead-falls (s .args .tokens .now) (f .loop .q .s) (a .bump .result .s) (omega (arith, f .loop .inv .1 .0, e .at-end .ensures .1 .0, e .at-end .ensures .1 .1 .0 (d .if1 .left), a .bump .ensures .1))) ∙ f .loop .inv .0 ask b rep pool, (omega (arith, f .loop .inv .1 .0, e .at-end .ensures .1 .0, e .at-end .ensures .1 .1 .0 (d .if1 .left), a .bump .ensures .1), omega (arith, f .loop .inv .1 .1, a .bump .kept)))
 
 pub bump-all-spec : {M : Type 1} → statement M
 bump-all-spec = tie.close (tie.spec Inv-loop μ-loop loop-holds at-end-requires same-length returns bump-requires loop-less loop-again)

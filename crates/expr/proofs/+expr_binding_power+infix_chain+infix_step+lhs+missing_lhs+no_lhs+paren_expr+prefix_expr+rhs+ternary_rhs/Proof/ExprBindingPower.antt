@@ -22,10 +22,10 @@ pub returns : (t : ℕ) → lts.Need-returns (expr-binding-power-claims t) (expr
 returns t c =
     let if1′ = c .before in
     let s′ = if1′ .before .before .before .before .before in (
-      ap (said no) (c .refuse .ensures .0 _ _ _) ∙ rule-closed (s′ .args .room) (tokens-of (s′ .args .t .now)) (expr-binding-power (s′ .args .min-bp)) _ (eqb-true (s′ .args .room) 0 (if1′ .if1 .taken)),
+      ap (said no) (c .refuse .ensures .0 _ _ _) ∙ rule-closed (s′ .args .allowed) (tokens-of (s′ .args .tokens .now)) (expr-binding-power (s′ .args .min-bp)) _ (eqb-true (s′ .args .allowed) 0 (if1′ .if1 .taken)),
       (
-        omega (arith, c .refuse .ensures .1 (s′ .args .t .now) (s′ .good .1 .0 .0)),
-        λ e. omega (arith, c .refuse .ensures .1 (s′ .args .t .now) (s′ .good .1 .0 .0)),
+        omega (arith, c .refuse .ensures .1 (s′ .args .tokens .now) (s′ .good .1 .0 .0)),
+        λ e. omega (arith, c .refuse .ensures .1 (s′ .args .tokens .now) (s′ .good .1 .0 .0)),
       ),
     )
 
@@ -39,25 +39,25 @@ pub sub-lhs : (t : ℕ) → lts.Need-sub-lhs (expr-binding-power-claims t) (expr
 sub-lhs t c =
     let if1′ = c .before .before .before .before .before .before .before .before in
     let s′ = if1′ .before .before .before .before .before in
-    omega (arith, eqb-false (s′ .args .room) 0 (if1′ .if1 .left))
+    omega (arith, eqb-false (s′ .args .allowed) 0 (if1′ .if1 .left))
 
 pub lhs-requires : (t : ℕ) → lts.Need-lhs-requires (expr-binding-power-claims t) (expr-binding-power-at t) reads.Post
 lhs-requires t c κs =
     let if1′ = c .before .before .before .before .before .before .before .before in
     let s′ = if1′ .before .before .before .before .before in
-    (omega (arith, s′ .pre .0, eqb-false (s′ .args .room) 0 (if1′ .if1 .left)), tt)
+    (omega (arith, s′ .pre .0, eqb-false (s′ .args .allowed) 0 (if1′ .if1 .left)), tt)
 
 pub sub-infix-chain : (t : ℕ) → lts.Need-sub-infix-chain (expr-binding-power-claims t) (expr-binding-power-at t) reads.Post
 sub-infix-chain t c =
     let if1′ = c .before .before .before .before .before .before .before .before .before .before .before .before .before .before .before .before .before .before .before in
     let s′ = if1′ .before .before .before .before .before in
-    omega (arith, eqb-false (s′ .args .room) 0 (if1′ .if1 .left))
+    omega (arith, eqb-false (s′ .args .allowed) 0 (if1′ .if1 .left))
 
 pub infix-chain-requires : (t : ℕ) → lts.Need-infix-chain-requires (expr-binding-power-claims t) (expr-binding-power-at t) reads.Post
 infix-chain-requires t c κs =
     let if1′ = c .before .before .before .before .before .before .before .before .before .before .before .before .before .before .before .before .before .before .before in
     let s′ = if1′ .before .before .before .before .before in
-    (omega (arith, s′ .pre .0, eqb-false (s′ .args .room) 0 (if1′ .if1 .left)), tt)
+    (omega (arith, s′ .pre .0, eqb-false (s′ .args .allowed) 0 (if1′ .if1 .left)), tt)
 
 pub ignore-requires : (t : ℕ) → lts.Need-ignore-requires (expr-binding-power-claims t) (expr-binding-power-at t) reads.Post
 ignore-requires t c κs = tt
@@ -93,10 +93,10 @@ returns-2 t c =
     let new′ = start′ .before .before in
     let if1′ = new′ .before in
     let s′ = if1′ .before .before .before .before .before in (
-      way (s′ .args .room - 1) (chained-on (s′ .args .room - 1) (tokens-of (s′ .args .t .now)) (if lhs-prog then tell again else tell no) (infix-turn (s′ .args .min-bp)) (new′ .new .ensures) (start′ .start .ensures .0 _ _) (c-yes (c-fn (s′ .args .room - 1) (lhs′ .lhs .ensures .0)) (if2′ .if2 .taken) c-ret) (infix-chain′ .infix-chain .ensures .0)) ∙ rule-body (s′ .args .room) (tokens-of (s′ .args .t .now)) (expr-binding-power (s′ .args .min-bp)) _ (omega (arith, eqb-false (s′ .args .room) 0 (if1′ .if1 .left))),
+      way (s′ .args .allowed - 1) (chained-on (s′ .args .allowed - 1) (tokens-of (s′ .args .tokens .now)) (if lhs-prog then tell again else tell no) (infix-turn (s′ .args .min-bp)) (new′ .new .ensures) (start′ .start .ensures .0 _ _) (c-yes (c-fn (s′ .args .allowed - 1) (lhs′ .lhs .ensures .0)) (if2′ .if2 .taken) c-ret) (infix-chain′ .infix-chain .ensures .0)) ∙ rule-body (s′ .args .allowed) (tokens-of (s′ .args .tokens .now)) (expr-binding-power (s′ .args .min-bp)) _ (omega (arith, eqb-false (s′ .args .allowed) 0 (if1′ .if1 .left))),
       (
-        omega (arith, start′ .start .ensures .1 (s′ .args .t .now), lhs′ .lhs .ensures .1 .0, lhs′ .lhs .ensures .1 .1 (if2′ .if2 .taken), infix-chain′ .infix-chain .ensures .1),
-        λ e. omega (arith, start′ .start .ensures .1 (s′ .args .t .now), lhs′ .lhs .ensures .1 .0, lhs′ .lhs .ensures .1 .1 (if2′ .if2 .taken), infix-chain′ .infix-chain .ensures .1),
+        omega (arith, start′ .start .ensures .1 (s′ .args .tokens .now), lhs′ .lhs .ensures .1 .0, lhs′ .lhs .ensures .1 .1 (if2′ .if2 .taken), infix-chain′ .infix-chain .ensures .1),
+        λ e. omega (arith, start′ .start .ensures .1 (s′ .args .tokens .now), lhs′ .lhs .ensures .1 .0, lhs′ .lhs .ensures .1 .1 (if2′ .if2 .taken), infix-chain′ .infix-chain .ensures .1),
       ),
     )
 
@@ -130,9 +130,9 @@ returns-3 t c =
     let start′ = lhs′ .before .before .before .before .before .before in
     let if1′ = start′ .before .before .before in
     let s′ = if1′ .before .before .before .before .before in (
-      way (s′ .args .room - 1) (chained-off (s′ .args .room - 1) (tokens-of (s′ .args .t .now)) (if lhs-prog then tell again else tell no) (infix-turn (s′ .args .min-bp)) (start′ .start .ensures .0 _ _) (c-no (c-fn (s′ .args .room - 1) (lhs′ .lhs .ensures .0)) (if2′ .if2 .left) c-ret) (ignore′ .ignore .ensures .0 _ _)) ∙ rule-body (s′ .args .room) (tokens-of (s′ .args .t .now)) (expr-binding-power (s′ .args .min-bp)) _ (omega (arith, eqb-false (s′ .args .room) 0 (if1′ .if1 .left))),
+      way (s′ .args .allowed - 1) (chained-off (s′ .args .allowed - 1) (tokens-of (s′ .args .tokens .now)) (if lhs-prog then tell again else tell no) (infix-turn (s′ .args .min-bp)) (start′ .start .ensures .0 _ _) (c-no (c-fn (s′ .args .allowed - 1) (lhs′ .lhs .ensures .0)) (if2′ .if2 .left) c-ret) (ignore′ .ignore .ensures .0 _ _)) ∙ rule-body (s′ .args .allowed) (tokens-of (s′ .args .tokens .now)) (expr-binding-power (s′ .args .min-bp)) _ (omega (arith, eqb-false (s′ .args .allowed) 0 (if1′ .if1 .left))),
       (
-        omega (arith, start′ .start .ensures .1 (s′ .args .t .now), lhs′ .lhs .ensures .1 .0, ignore′ .ignore .ensures .1 (s′ .args .t .now)),
+        omega (arith, start′ .start .ensures .1 (s′ .args .tokens .now), lhs′ .lhs .ensures .1 .0, ignore′ .ignore .ensures .1 (s′ .args .tokens .now)),
         λ e. true-false (sym e),
       ),
     )

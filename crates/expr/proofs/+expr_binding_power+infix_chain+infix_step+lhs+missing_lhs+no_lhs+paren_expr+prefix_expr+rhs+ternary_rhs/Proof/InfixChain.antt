@@ -50,7 +50,7 @@ loop-less t c =
     let infix-step′ = if1′ .before .before .before .before .before .before .before in
     let loop′ = infix-step′ .before .before .before .before in
     let s′ = loop′ .before .before .before .before .before in
-    omega (arith, loop′ .loop .inv .0, infix-step′ .infix-step .ensures .1 .0, infix-step′ .infix-step .ensures .1 .1 (if1′ .if1 .taken), complete′ .complete .ensures .1 (s′ .args .t .now), precede′ .precede .ensures .1 (s′ .args .t .now))
+    omega (arith, loop′ .loop .inv .0, infix-step′ .infix-step .ensures .1 .0, infix-step′ .infix-step .ensures .1 .1 (if1′ .if1 .taken), complete′ .complete .ensures .1 (s′ .args .tokens .now), precede′ .precede .ensures .1 (s′ .args .tokens .now))
 
 pub loop-again : (t : ℕ) → lts.Need-loop-again (infix-chain-claims t) (infix-chain-at t) reads.Post Inv-loop μ-loop
 loop-again t c =
@@ -61,14 +61,14 @@ loop-again t c =
     let infix-step′ = if1′ .before .before .before .before .before .before .before in
     let loop′ = infix-step′ .before .before .before .before in
     let s′ = loop′ .before .before .before .before .before in (
-      omega (arith, loop′ .loop .inv .0, infix-step′ .infix-step .ensures .1 .0, infix-step′ .infix-step .ensures .1 .1 (if1′ .if1 .taken), complete′ .complete .ensures .1 (s′ .args .t .now), precede′ .precede .ensures .1 (s′ .args .t .now)),
+      omega (arith, loop′ .loop .inv .0, infix-step′ .infix-step .ensures .1 .0, infix-step′ .infix-step .ensures .1 .1 (if1′ .if1 .taken), complete′ .complete .ensures .1 (s′ .args .tokens .now), precede′ .precede .ensures .1 (s′ .args .tokens .now)),
       (
         omega (arith, infix-step′ .infix-step .kept, complete′ .complete .kept, precede′ .precede .kept, loop′ .loop .inv .1),
         (
           omega (arith, infix-step′ .infix-step .kept, complete′ .complete .kept, precede′ .precede .kept, loop′ .loop .inv .1),
           (
             omega (arith, infix-step′ .infix-step .kept, complete′ .complete .kept, precede′ .precede .kept, loop′ .loop .inv .1),
-            linked-again (s′ .args .room) (s′ .args .t .now) (infix-turn (s′ .args .min-bp)) (marker-of (loop′ .loop .m)) 5 (complete′ .complete .ensures .0 _ _) (precede′ .precede .ensures .0 _ _) (linked′ .linked .ensures) (s′ .good .1 .0 .0) (step-again (c-fn (s′ .args .room) (infix-step′ .infix-step .ensures .0)) (if1′ .if1 .taken) (c .if2 .taken)) (ahead-falls (s′ .args .t .now) (loop′ .loop .q .s) (infix-step′ .infix-step .result .p .s) (infix-step′ .infix-step .ensures .1 .1 (if1′ .if1 .taken))) ∙ loop′ .loop .inv .1 .1 .1 .1,
+            linked-again (s′ .args .allowed) (s′ .args .tokens .now) (infix-turn (s′ .args .min-bp)) (marker-of (loop′ .loop .m)) 5 (complete′ .complete .ensures .0 _ _) (precede′ .precede .ensures .0 _ _) (linked′ .linked .ensures) (s′ .good .1 .0 .0) (step-again (c-fn (s′ .args .allowed) (infix-step′ .infix-step .ensures .0)) (if1′ .if1 .taken) (c .if2 .taken)) (ahead-falls (s′ .args .tokens .now) (loop′ .loop .q .s) (infix-step′ .infix-step .result .p .s) (infix-step′ .infix-step .ensures .1 .1 (if1′ .if1 .taken))) ∙ loop′ .loop .inv .1 .1 .1 .1,
           ),
         ),
       ),
@@ -114,8 +114,8 @@ returns t c =
     let infix-step′ = if1′ .before .before .before .before .before .before .before in
     let loop′ = infix-step′ .before .before .before .before in
     let s′ = loop′ .before .before .before .before .before in (
-      linked-last (s′ .args .room) (s′ .args .t .now) (infix-turn (s′ .args .min-bp)) (marker-of (loop′ .loop .m)) 5 (complete′ .complete .ensures .0 _ _) (precede′ .precede .ensures .0 _ _) (ignore′ .ignore .ensures .0 _ _) (step-last (c-fn (s′ .args .room) (infix-step′ .infix-step .ensures .0)) (if1′ .if1 .taken) (if2′ .if2 .left)) ∙ loop′ .loop .inv .1 .1 .1 .1,
-      omega (arith, loop′ .loop .inv .0, infix-step′ .infix-step .ensures .1 .0, infix-step′ .infix-step .ensures .1 .1 (if1′ .if1 .taken), complete′ .complete .ensures .1 (s′ .args .t .now), precede′ .precede .ensures .1 (s′ .args .t .now), ignore′ .ignore .ensures .1 (s′ .args .t .now)),
+      linked-last (s′ .args .allowed) (s′ .args .tokens .now) (infix-turn (s′ .args .min-bp)) (marker-of (loop′ .loop .m)) 5 (complete′ .complete .ensures .0 _ _) (precede′ .precede .ensures .0 _ _) (ignore′ .ignore .ensures .0 _ _) (step-last (c-fn (s′ .args .allowed) (infix-step′ .infix-step .ensures .0)) (if1′ .if1 .taken) (if2′ .if2 .left)) ∙ loop′ .loop .inv .1 .1 .1 .1,
+      omega (arith, loop′ .loop .inv .0, infix-step′ .infix-step .ensures .1 .0, infix-step′ .infix-step .ensures .1 .1 (if1′ .if1 .taken), complete′ .complete .ensures .1 (s′ .args .tokens .now), precede′ .precede .ensures .1 (s′ .args .tokens .now), ignore′ .ignore .ensures .1 (s′ .args .tokens .now)),
     )
 
 pub ignore-requires-2 : (t : ℕ) → lts.Need-ignore-requires-2 (infix-chain-claims t) (infix-chain-at t) reads.Post Inv-loop μ-loop
@@ -149,6 +149,6 @@ returns-2 t c =
     let infix-step′ = if1′ .before .before .before .before .before .before .before in
     let loop′ = infix-step′ .before .before .before .before in
     let s′ = loop′ .before .before .before .before .before in (
-      linked-stop (s′ .args .room) (tokens-of (s′ .args .t .now)) (infix-turn (s′ .args .min-bp)) (marker-of (loop′ .loop .m)) (ignore2′ .ignore2 .ensures .0 _ _) (step-none (infix-step′ .infix-step .result .again) (c-fn (s′ .args .room) (infix-step′ .infix-step .ensures .0)) (if1′ .if1 .left)) ∙ loop′ .loop .inv .1 .1 .1 .1,
-      omega (arith, loop′ .loop .inv .0, infix-step′ .infix-step .ensures .1 .0, ignore2′ .ignore2 .ensures .1 (s′ .args .t .now)),
+      linked-stop (s′ .args .allowed) (tokens-of (s′ .args .tokens .now)) (infix-turn (s′ .args .min-bp)) (marker-of (loop′ .loop .m)) (ignore2′ .ignore2 .ensures .0 _ _) (step-none (infix-step′ .infix-step .result .again) (c-fn (s′ .args .allowed) (infix-step′ .infix-step .ensures .0)) (if1′ .if1 .left)) ∙ loop′ .loop .inv .1 .1 .1 .1,
+      omega (arith, loop′ .loop .inv .0, infix-step′ .infix-step .ensures .1 .0, ignore2′ .ignore2 .ensures .1 (s′ .args .tokens .now)),
     )

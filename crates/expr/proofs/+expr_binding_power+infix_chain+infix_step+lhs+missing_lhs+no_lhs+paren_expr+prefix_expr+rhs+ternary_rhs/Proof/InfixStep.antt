@@ -19,7 +19,7 @@ returns t c =
     let if1′ = c .before in
     let infix-op-at′ = if1′ .before .before in
     let s′ = infix-op-at′ .before .before .before .before .before in (
-      way (s′ .args .room) (turn-none (s′ .args .min-bp) (infix-op-at′ .infix-op-at .result .left) (infix-op-at′ .infix-op-at .result .right) (infix-op-at′ .infix-op-at .ensures .0 _ _ _) (infix-op-at′ .infix-op-at .ensures .1 .0) (infix-op-at′ .infix-op-at .ensures .1 .1 .0) (if1′ .if1 .taken)),
+      way (s′ .args .allowed) (turn-none (s′ .args .min-bp) (infix-op-at′ .infix-op-at .result .left) (infix-op-at′ .infix-op-at .result .right) (infix-op-at′ .infix-op-at .ensures .0 _ _ _) (infix-op-at′ .infix-op-at .ensures .1 .0) (infix-op-at′ .infix-op-at .ensures .1 .1 .0) (if1′ .if1 .taken)),
       (
         omega (arith, infix-op-at′ .infix-op-at .ensures .1 .1 .1 .1 .0),
         λ e. true-false (sym e),
@@ -32,7 +32,7 @@ returns-2 t c =
     let if1′ = if2′ .before .before in
     let infix-op-at′ = if1′ .before .before in
     let s′ = infix-op-at′ .before .before .before .before .before in (
-      way (s′ .args .room) (turn-weaker (s′ .args .min-bp) (infix-op-at′ .infix-op-at .result .left) (infix-op-at′ .infix-op-at .result .right) (infix-op-at′ .infix-op-at .ensures .0 _ _ _) (infix-op-at′ .infix-op-at .ensures .1 .0) (infix-op-at′ .infix-op-at .ensures .1 .1 .0) (if1′ .if1 .left) (if2′ .if2 .taken)),
+      way (s′ .args .allowed) (turn-weaker (s′ .args .min-bp) (infix-op-at′ .infix-op-at .result .left) (infix-op-at′ .infix-op-at .result .right) (infix-op-at′ .infix-op-at .ensures .0 _ _ _) (infix-op-at′ .infix-op-at .ensures .1 .0) (infix-op-at′ .infix-op-at .ensures .1 .1 .0) (if1′ .if1 .left) (if2′ .if2 .taken)),
       (
         omega (arith, infix-op-at′ .infix-op-at .ensures .1 .1 .1 .1 .0),
         λ e. true-false (sym e),
@@ -79,7 +79,7 @@ returns-3 t c =
     let if1′ = if2′ .before .before in
     let infix-op-at′ = if1′ .before .before in
     let s′ = infix-op-at′ .before .before .before .before .before in (
-      way (s′ .args .room) (turn-ternary (s′ .args .min-bp) (infix-op-at′ .infix-op-at .result .left) (infix-op-at′ .infix-op-at .result .right) (infix-op-at′ .infix-op-at .ensures .0 _ _ _) (infix-op-at′ .infix-op-at .ensures .1 .0) (infix-op-at′ .infix-op-at .ensures .1 .1 .0) (if1′ .if1 .left) (if2′ .if2 .left) (if3′ .if3 .taken) (c-seq (c-act (bump′ .bump .ensures .0 unlabelled _ _)) (c-fn (s′ .args .room) (ternary-rhs′ .ternary-rhs .ensures .0)))),
+      way (s′ .args .allowed) (turn-ternary (s′ .args .min-bp) (infix-op-at′ .infix-op-at .result .left) (infix-op-at′ .infix-op-at .result .right) (infix-op-at′ .infix-op-at .ensures .0 _ _ _) (infix-op-at′ .infix-op-at .ensures .1 .0) (infix-op-at′ .infix-op-at .ensures .1 .1 .0) (if1′ .if1 .left) (if2′ .if2 .left) (if3′ .if3 .taken) (c-seq (c-act (bump′ .bump .ensures .0 unlabelled _ _)) (c-fn (s′ .args .allowed) (ternary-rhs′ .ternary-rhs .ensures .0)))),
       (
         omega (arith, infix-op-at′ .infix-op-at .ensures .1 .1 .1 .1 .0, bump′ .bump .ensures .1, ternary-rhs′ .ternary-rhs .ensures .1),
         λ e. omega (arith, infix-op-at′ .infix-op-at .ensures .1 .1 .1 .1 .0, bump′ .bump .ensures .1, ternary-rhs′ .ternary-rhs .ensures .1, infix-op-at′ .infix-op-at .ensures .1 .1 .1 .1 .1 (eqb-false (infix-op-at′ .infix-op-at .result .left) 0 (if1′ .if1 .left))),
@@ -113,7 +113,7 @@ returns-4 t c =
     let if1′ = if2′ .before .before in
     let infix-op-at′ = if1′ .before .before in
     let s′ = infix-op-at′ .before .before .before .before .before in (
-      way (s′ .args .room) (turn-binary (s′ .args .min-bp) (infix-op-at′ .infix-op-at .result .left) (infix-op-at′ .infix-op-at .result .right) (infix-op-at′ .infix-op-at .ensures .0 _ _ _) (infix-op-at′ .infix-op-at .ensures .1 .0) (infix-op-at′ .infix-op-at .ensures .1 .1 .0) (if1′ .if1 .left) (if2′ .if2 .left) (if3′ .if3 .left) (c-seq (c-act (bump′ .bump .ensures .0 unlabelled _ _)) (c-fn (s′ .args .room) (rhs′ .rhs .ensures .0)))),
+      way (s′ .args .allowed) (turn-binary (s′ .args .min-bp) (infix-op-at′ .infix-op-at .result .left) (infix-op-at′ .infix-op-at .result .right) (infix-op-at′ .infix-op-at .ensures .0 _ _ _) (infix-op-at′ .infix-op-at .ensures .1 .0) (infix-op-at′ .infix-op-at .ensures .1 .1 .0) (if1′ .if1 .left) (if2′ .if2 .left) (if3′ .if3 .left) (c-seq (c-act (bump′ .bump .ensures .0 unlabelled _ _)) (c-fn (s′ .args .allowed) (rhs′ .rhs .ensures .0)))),
       (
         omega (arith, infix-op-at′ .infix-op-at .ensures .1 .1 .1 .1 .0, bump′ .bump .ensures .1, rhs′ .rhs .ensures .1),
         λ e. omega (arith, infix-op-at′ .infix-op-at .ensures .1 .1 .1 .1 .0, bump′ .bump .ensures .1, rhs′ .rhs .ensures .1, infix-op-at′ .infix-op-at .ensures .1 .1 .1 .1 .1 (eqb-false (infix-op-at′ .infix-op-at .result .left) 0 (if1′ .if1 .left))),

@@ -41,7 +41,7 @@ returns t c =
     let if1′ = prefix-expr′ .before .before .before .before in
     let at-prefix-op′ = if1′ .before in
     let s′ = at-prefix-op′ .before .before .before .before .before in (
-      way (s′ .args .room) (c-yes (c-walk (at-prefix-op′ .at-prefix-op .ensures .0 (walk-rule (s′ .args .room) (tokens-of (s′ .args .t .now))) unlabelled _ _ _)) (if1′ .if1 .taken) (c-fn (s′ .args .room) (prefix-expr′ .prefix-expr .ensures .0))),
+      way (s′ .args .allowed) (c-yes (c-walk (at-prefix-op′ .at-prefix-op .ensures .0 (walk-rule (s′ .args .allowed) (tokens-of (s′ .args .tokens .now))) unlabelled _ _ _)) (if1′ .if1 .taken) (c-fn (s′ .args .allowed) (prefix-expr′ .prefix-expr .ensures .0))),
       (
         omega (arith, at-prefix-op′ .at-prefix-op .ensures .1 .0, at-prefix-op′ .at-prefix-op .ensures .1 .1 (if1′ .if1 .taken), prefix-expr′ .prefix-expr .ensures .1),
         λ e. omega (arith, at-prefix-op′ .at-prefix-op .ensures .1 .0, at-prefix-op′ .at-prefix-op .ensures .1 .1 (if1′ .if1 .taken), prefix-expr′ .prefix-expr .ensures .1),
@@ -80,7 +80,7 @@ returns-2 t c =
     let if1′ = at′ .before in
     let at-prefix-op′ = if1′ .before in
     let s′ = at-prefix-op′ .before .before .before .before .before in (
-      way (s′ .args .room) (c-no (c-walk (at-prefix-op′ .at-prefix-op .ensures .0 (walk-rule (s′ .args .room) (tokens-of (s′ .args .t .now))) unlabelled _ _ _)) (if1′ .if1 .left) (c-yes (c-walk (at′ .at .ensures .0 (walk-rule (s′ .args .room) (tokens-of (s′ .args .t .now))) unlabelled _ _ _)) (if2′ .if2 .taken) (c-fn (s′ .args .room) (paren-expr′ .paren-expr .ensures .0)))),
+      way (s′ .args .allowed) (c-no (c-walk (at-prefix-op′ .at-prefix-op .ensures .0 (walk-rule (s′ .args .allowed) (tokens-of (s′ .args .tokens .now))) unlabelled _ _ _)) (if1′ .if1 .left) (c-yes (c-walk (at′ .at .ensures .0 (walk-rule (s′ .args .allowed) (tokens-of (s′ .args .tokens .now))) unlabelled _ _ _)) (if2′ .if2 .taken) (c-fn (s′ .args .allowed) (paren-expr′ .paren-expr .ensures .0)))),
       (
         omega (arith, at-prefix-op′ .at-prefix-op .ensures .1 .0, at′ .at .ensures .1 .0, at′ .at .ensures .1 .1 (if2′ .if2 .taken), paren-expr′ .paren-expr .ensures .1),
         λ e. omega (arith, at-prefix-op′ .at-prefix-op .ensures .1 .0, at′ .at .ensures .1 .0, at′ .at .ensures .1 .1 (if2′ .if2 .taken), paren-expr′ .paren-expr .ensures .1),
@@ -119,7 +119,7 @@ returns-3 t c =
     let if1′ = at′ .before in
     let at-prefix-op′ = if1′ .before in
     let s′ = at-prefix-op′ .before .before .before .before .before in (
-      way (s′ .args .room) (c-no (c-walk (at-prefix-op′ .at-prefix-op .ensures .0 (walk-rule (s′ .args .room) (tokens-of (s′ .args .t .now))) unlabelled _ _ _)) (if1′ .if1 .left) (c-no (c-walk (at′ .at .ensures .0 (walk-rule (s′ .args .room) (tokens-of (s′ .args .t .now))) unlabelled _ _ _)) (if2′ .if2 .left) (c-yes (c-walk (at2′ .at2 .ensures .0 (walk-rule (s′ .args .room) (tokens-of (s′ .args .t .now))) unlabelled _ _ _)) (if3′ .if3 .taken) (c-seq (c-walk (macro-invocation′ .macro-invocation .ensures .0 (walk-rule (s′ .args .room) (tokens-of (s′ .args .t .now))) unlabelled)) c-ret)))),
+      way (s′ .args .allowed) (c-no (c-walk (at-prefix-op′ .at-prefix-op .ensures .0 (walk-rule (s′ .args .allowed) (tokens-of (s′ .args .tokens .now))) unlabelled _ _ _)) (if1′ .if1 .left) (c-no (c-walk (at′ .at .ensures .0 (walk-rule (s′ .args .allowed) (tokens-of (s′ .args .tokens .now))) unlabelled _ _ _)) (if2′ .if2 .left) (c-yes (c-walk (at2′ .at2 .ensures .0 (walk-rule (s′ .args .allowed) (tokens-of (s′ .args .tokens .now))) unlabelled _ _ _)) (if3′ .if3 .taken) (c-seq (c-walk (macro-invocation′ .macro-invocation .ensures .0 (walk-rule (s′ .args .allowed) (tokens-of (s′ .args .tokens .now))) unlabelled)) c-ret)))),
       (
         omega (arith, at-prefix-op′ .at-prefix-op .ensures .1 .0, at′ .at .ensures .1 .0, at2′ .at2 .ensures .1 .0, at2′ .at2 .ensures .1 .1 (if3′ .if3 .taken), macro-invocation′ .macro-invocation .ensures .1),
         λ e. omega (arith, at-prefix-op′ .at-prefix-op .ensures .1 .0, at′ .at .ensures .1 .0, at2′ .at2 .ensures .1 .0, at2′ .at2 .ensures .1 .1 (if3′ .if3 .taken), macro-invocation′ .macro-invocation .ensures .1),
@@ -150,7 +150,7 @@ returns-4 t c =
     let if1′ = at′ .before in
     let at-prefix-op′ = if1′ .before in
     let s′ = at-prefix-op′ .before .before .before .before .before in (
-      way (s′ .args .room) (c-no (c-walk (at-prefix-op′ .at-prefix-op .ensures .0 (walk-rule (s′ .args .room) (tokens-of (s′ .args .t .now))) unlabelled _ _ _)) (if1′ .if1 .left) (c-no (c-walk (at′ .at .ensures .0 (walk-rule (s′ .args .room) (tokens-of (s′ .args .t .now))) unlabelled _ _ _)) (if2′ .if2 .left) (c-no (c-walk (at2′ .at2 .ensures .0 (walk-rule (s′ .args .room) (tokens-of (s′ .args .t .now))) unlabelled _ _ _)) (if3′ .if3 .left) (c-yes (c-walk (at3′ .at3 .ensures .0 (walk-rule (s′ .args .room) (tokens-of (s′ .args .t .now))) unlabelled _ _ _)) (if4′ .if4 .taken) (c-walk (literal-expr′ .literal-expr .ensures .0 (walk-rule (s′ .args .room) (tokens-of (s′ .args .t .now))) unlabelled _ _)))))),
+      way (s′ .args .allowed) (c-no (c-walk (at-prefix-op′ .at-prefix-op .ensures .0 (walk-rule (s′ .args .allowed) (tokens-of (s′ .args .tokens .now))) unlabelled _ _ _)) (if1′ .if1 .left) (c-no (c-walk (at′ .at .ensures .0 (walk-rule (s′ .args .allowed) (tokens-of (s′ .args .tokens .now))) unlabelled _ _ _)) (if2′ .if2 .left) (c-no (c-walk (at2′ .at2 .ensures .0 (walk-rule (s′ .args .allowed) (tokens-of (s′ .args .tokens .now))) unlabelled _ _ _)) (if3′ .if3 .left) (c-yes (c-walk (at3′ .at3 .ensures .0 (walk-rule (s′ .args .allowed) (tokens-of (s′ .args .tokens .now))) unlabelled _ _ _)) (if4′ .if4 .taken) (c-walk (literal-expr′ .literal-expr .ensures .0 (walk-rule (s′ .args .allowed) (tokens-of (s′ .args .tokens .now))) unlabelled _ _)))))),
       (
         omega (arith, at-prefix-op′ .at-prefix-op .ensures .1 .0, at′ .at .ensures .1 .0, at2′ .at2 .ensures .1 .0, at3′ .at3 .ensures .1 .0, at3′ .at3 .ensures .1 .1 (if4′ .if4 .taken), literal-expr′ .literal-expr .ensures .1),
         λ e. omega (arith, at-prefix-op′ .at-prefix-op .ensures .1 .0, at′ .at .ensures .1 .0, at2′ .at2 .ensures .1 .0, at3′ .at3 .ensures .1 .0, at3′ .at3 .ensures .1 .1 (if4′ .if4 .taken), literal-expr′ .literal-expr .ensures .1),
@@ -190,7 +190,7 @@ returns-5 t c =
     let if1′ = at′ .before in
     let at-prefix-op′ = if1′ .before in
     let s′ = at-prefix-op′ .before .before .before .before .before in (
-      way (s′ .args .room) (c-no (c-walk (at-prefix-op′ .at-prefix-op .ensures .0 (walk-rule (s′ .args .room) (tokens-of (s′ .args .t .now))) unlabelled _ _ _)) (if1′ .if1 .left) (c-no (c-walk (at′ .at .ensures .0 (walk-rule (s′ .args .room) (tokens-of (s′ .args .t .now))) unlabelled _ _ _)) (if2′ .if2 .left) (c-no (c-walk (at2′ .at2 .ensures .0 (walk-rule (s′ .args .room) (tokens-of (s′ .args .t .now))) unlabelled _ _ _)) (if3′ .if3 .left) (c-no (c-walk (at3′ .at3 .ensures .0 (walk-rule (s′ .args .room) (tokens-of (s′ .args .t .now))) unlabelled _ _ _)) (if4′ .if4 .left) (c-fn (s′ .args .room) (no-lhs′ .no-lhs .ensures .0)))))),
+      way (s′ .args .allowed) (c-no (c-walk (at-prefix-op′ .at-prefix-op .ensures .0 (walk-rule (s′ .args .allowed) (tokens-of (s′ .args .tokens .now))) unlabelled _ _ _)) (if1′ .if1 .left) (c-no (c-walk (at′ .at .ensures .0 (walk-rule (s′ .args .allowed) (tokens-of (s′ .args .tokens .now))) unlabelled _ _ _)) (if2′ .if2 .left) (c-no (c-walk (at2′ .at2 .ensures .0 (walk-rule (s′ .args .allowed) (tokens-of (s′ .args .tokens .now))) unlabelled _ _ _)) (if3′ .if3 .left) (c-no (c-walk (at3′ .at3 .ensures .0 (walk-rule (s′ .args .allowed) (tokens-of (s′ .args .tokens .now))) unlabelled _ _ _)) (if4′ .if4 .left) (c-fn (s′ .args .allowed) (no-lhs′ .no-lhs .ensures .0)))))),
       (
         omega (arith, at-prefix-op′ .at-prefix-op .ensures .1 .0, at′ .at .ensures .1 .0, at2′ .at2 .ensures .1 .0, at3′ .at3 .ensures .1 .0, no-lhs′ .no-lhs .ensures .1),
         λ e. true-false (sym e),

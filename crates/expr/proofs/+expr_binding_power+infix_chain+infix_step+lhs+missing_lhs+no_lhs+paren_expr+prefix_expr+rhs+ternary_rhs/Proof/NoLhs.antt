@@ -40,7 +40,7 @@ returns t c =
     let if1′ = missing-lhs′ .before .before .before .before in
     let infix-op-at′ = if1′ .before in
     let s′ = infix-op-at′ .before .before .before .before .before in (
-      way (s′ .args .room) (c-yes (at-binary (infix-op-at′ .infix-op-at .result .binary) (infix-op-at′ .infix-op-at .ensures .0 _ _ _) (infix-op-at′ .infix-op-at .ensures .1 .1 .1 .0)) (if1′ .if1 .taken) (c-fn (s′ .args .room) (missing-lhs′ .missing-lhs .ensures .0))),
+      way (s′ .args .allowed) (c-yes (at-binary (infix-op-at′ .infix-op-at .result .binary) (infix-op-at′ .infix-op-at .ensures .0 _ _ _) (infix-op-at′ .infix-op-at .ensures .1 .1 .1 .0)) (if1′ .if1 .taken) (c-fn (s′ .args .allowed) (missing-lhs′ .missing-lhs .ensures .0))),
       omega (arith, infix-op-at′ .infix-op-at .ensures .1 .1 .1 .1 .0, missing-lhs′ .missing-lhs .ensures .1),
     )
 
@@ -74,7 +74,7 @@ returns-2 t c =
     let if1′ = silent-at′ .before in
     let infix-op-at′ = if1′ .before in
     let s′ = infix-op-at′ .before .before .before .before .before in (
-      way (s′ .args .room) (c-no (at-binary (infix-op-at′ .infix-op-at .result .binary) (infix-op-at′ .infix-op-at .ensures .0 _ _ _) (infix-op-at′ .infix-op-at .ensures .1 .1 .1 .0)) (if1′ .if1 .left) (c-yes (c-act (silent-at′ .silent-at .ensures .0 unlabelled _ _ _)) (if2′ .if2 .taken) (c-seq (c-walk (error′ .error .ensures .0 (walk-rule (s′ .args .room) (tokens-of (s′ .args .t .now))) unlabelled)) c-ret))),
+      way (s′ .args .allowed) (c-no (at-binary (infix-op-at′ .infix-op-at .result .binary) (infix-op-at′ .infix-op-at .ensures .0 _ _ _) (infix-op-at′ .infix-op-at .ensures .1 .1 .1 .0)) (if1′ .if1 .left) (c-yes (c-act (silent-at′ .silent-at .ensures .0 unlabelled _ _ _)) (if2′ .if2 .taken) (c-seq (c-walk (error′ .error .ensures .0 (walk-rule (s′ .args .allowed) (tokens-of (s′ .args .tokens .now))) unlabelled)) c-ret))),
       omega (arith, infix-op-at′ .infix-op-at .ensures .1 .1 .1 .1 .0, silent-at′ .silent-at .ensures .1 .0, silent-at′ .silent-at .ensures .1 .1 (if2′ .if2 .taken), error′ .error .ensures .1),
     )
 
@@ -105,6 +105,6 @@ returns-3 t c =
     let if1′ = silent-at′ .before in
     let infix-op-at′ = if1′ .before in
     let s′ = infix-op-at′ .before .before .before .before .before in (
-      way (s′ .args .room) (c-no (at-binary (infix-op-at′ .infix-op-at .result .binary) (infix-op-at′ .infix-op-at .ensures .0 _ _ _) (infix-op-at′ .infix-op-at .ensures .1 .1 .1 .0)) (if1′ .if1 .left) (c-no (c-act (silent-at′ .silent-at .ensures .0 unlabelled _ _ _)) (if2′ .if2 .left) (c-seq (c-walk (error2′ .error2 .ensures .0 (walk-rule (s′ .args .room) (tokens-of (s′ .args .t .now))) unlabelled)) c-ret))),
+      way (s′ .args .allowed) (c-no (at-binary (infix-op-at′ .infix-op-at .result .binary) (infix-op-at′ .infix-op-at .ensures .0 _ _ _) (infix-op-at′ .infix-op-at .ensures .1 .1 .1 .0)) (if1′ .if1 .left) (c-no (c-act (silent-at′ .silent-at .ensures .0 unlabelled _ _ _)) (if2′ .if2 .left) (c-seq (c-walk (error2′ .error2 .ensures .0 (walk-rule (s′ .args .allowed) (tokens-of (s′ .args .tokens .now))) unlabelled)) c-ret))),
       omega (arith, infix-op-at′ .infix-op-at .ensures .1 .1 .1 .1 .0, silent-at′ .silent-at .ensures .1 .0, error2′ .error2 .ensures .1),
     )

@@ -32,6 +32,6 @@ unfolding rhs-prog
 returns t c =
     let expr-binding-power′ = c .before .before .before .before .before .before .before in
     let s′ = expr-binding-power′ .before .before .before .before .before .before .before .before in (
-      way (s′ .args .room) (c-again (expr-binding-power′ .expr-binding-power .result .yes) (c-call (s′ .args .room) (expr-binding-power′ .expr-binding-power .ensures .0))),
+      way (s′ .args .allowed) (c-again (expr-binding-power′ .expr-binding-power .result .yes) (c-call (s′ .args .allowed) (expr-binding-power′ .expr-binding-power .ensures .0))),
       omega (arith, expr-binding-power′ .expr-binding-power .ensures .1 .0),
     )

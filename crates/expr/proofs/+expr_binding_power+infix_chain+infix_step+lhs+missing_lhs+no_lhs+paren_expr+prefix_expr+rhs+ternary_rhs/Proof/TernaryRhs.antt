@@ -52,7 +52,7 @@ returns t c =
     let if1′ = expect′ .before .before .before .before in
     let expr-binding-power′ = if1′ .before .before .before .before .before .before .before in
     let s′ = expr-binding-power′ .before .before .before .before .before .before .before .before in (
-      way (s′ .args .room) (c-yes (c-yes (c-call (s′ .args .room) (expr-binding-power′ .expr-binding-power .ensures .0)) (if1′ .if1 .taken) (c-walk (expect′ .expect .ensures .0 (walk-rule (s′ .args .room) (tokens-of (s′ .args .t .now))) unlabelled))) (if2′ .if2 .taken) (c-fn (s′ .args .room) (rhs′ .rhs .ensures .0))),
+      way (s′ .args .allowed) (c-yes (c-yes (c-call (s′ .args .allowed) (expr-binding-power′ .expr-binding-power .ensures .0)) (if1′ .if1 .taken) (c-walk (expect′ .expect .ensures .0 (walk-rule (s′ .args .allowed) (tokens-of (s′ .args .tokens .now))) unlabelled))) (if2′ .if2 .taken) (c-fn (s′ .args .allowed) (rhs′ .rhs .ensures .0))),
       omega (arith, expr-binding-power′ .expr-binding-power .ensures .1 .0, expr-binding-power′ .expr-binding-power .ensures .1 .1 (if1′ .if1 .taken), expect′ .expect .ensures .1 .0, expect′ .expect .ensures .1 .1 (if2′ .if2 .taken), rhs′ .rhs .ensures .1),
     )
 
@@ -81,7 +81,7 @@ returns-2 t c =
     let if1′ = expect′ .before .before .before .before in
     let expr-binding-power′ = if1′ .before .before .before .before .before .before .before in
     let s′ = expr-binding-power′ .before .before .before .before .before .before .before .before in (
-      way (s′ .args .room) (c-no (c-yes (c-call (s′ .args .room) (expr-binding-power′ .expr-binding-power .ensures .0)) (if1′ .if1 .taken) (c-walk (expect′ .expect .ensures .0 (walk-rule (s′ .args .room) (tokens-of (s′ .args .t .now))) unlabelled))) (if2′ .if2 .left) c-ret),
+      way (s′ .args .allowed) (c-no (c-yes (c-call (s′ .args .allowed) (expr-binding-power′ .expr-binding-power .ensures .0)) (if1′ .if1 .taken) (c-walk (expect′ .expect .ensures .0 (walk-rule (s′ .args .allowed) (tokens-of (s′ .args .tokens .now))) unlabelled))) (if2′ .if2 .left) c-ret),
       omega (arith, expr-binding-power′ .expr-binding-power .ensures .1 .0, expr-binding-power′ .expr-binding-power .ensures .1 .1 (if1′ .if1 .taken), expect′ .expect .ensures .1 .0),
     )
 
@@ -105,6 +105,6 @@ returns-3 t c =
     let if1′ = c .before in
     let expr-binding-power′ = if1′ .before .before .before .before .before .before .before in
     let s′ = expr-binding-power′ .before .before .before .before .before .before .before .before in (
-      way (s′ .args .room) (c-no {t = false} (c-no (c-call (s′ .args .room) (expr-binding-power′ .expr-binding-power .ensures .0)) (if1′ .if1 .left) c-ret) refl c-ret),
+      way (s′ .args .allowed) (c-no {t = false} (c-no (c-call (s′ .args .allowed) (expr-binding-power′ .expr-binding-power .ensures .0)) (if1′ .if1 .left) c-ret) refl c-ret),
       omega (arith, expr-binding-power′ .expr-binding-power .ensures .1 .0),
     )

@@ -78,8 +78,8 @@ returns t c =
     let start′ = loop′ .before .before .before in
     let new′ = start′ .before .before in
     let s′ = new′ .before .before .before .before .before in (
-      way (s′ .args .room) (c-mark (new′ .new .ensures) (start′ .start .ensures .0 _ _) (c-no {t = false} (c-part (s′ .args .room) (last-no (s′ .args .room) (c-yes {t = true} (c-yes (c-walk (at′ .at .ensures .0 (walk-rule (s′ .args .room) (tokens-of (s′ .args .t .now))) unlabelled _ _ _)) (if1′ .if1 .taken) c-ret) refl c-ret) ∙ loop′ .loop .inv .1 .1 .1 .1)) refl c-ret) (completed 13 (complete′ .complete .ensures .0 _ _))),
-      (omega (arith, start′ .start .ensures .1 (s′ .args .t .now), loop′ .loop .inv .0, at′ .at .ensures .1 .0, at′ .at .ensures .1 .1 (if1′ .if1 .taken), complete′ .complete .ensures .1 (s′ .args .t .now)), λ e. true-false (sym e)),
+      way (s′ .args .allowed) (c-mark (new′ .new .ensures) (start′ .start .ensures .0 _ _) (c-no {t = false} (c-part (s′ .args .allowed) (last-no (s′ .args .allowed) (c-yes {t = true} (c-yes (c-walk (at′ .at .ensures .0 (walk-rule (s′ .args .allowed) (tokens-of (s′ .args .tokens .now))) unlabelled _ _ _)) (if1′ .if1 .taken) c-ret) refl c-ret) ∙ loop′ .loop .inv .1 .1 .1 .1)) refl c-ret) (completed 13 (complete′ .complete .ensures .0 _ _))),
+      (omega (arith, start′ .start .ensures .1 (s′ .args .tokens .now), loop′ .loop .inv .0, at′ .at .ensures .1 .0, at′ .at .ensures .1 .1 (if1′ .if1 .taken), complete′ .complete .ensures .1 (s′ .args .tokens .now)), λ e. true-false (sym e)),
     )
 
 pub at-end-requires : (t : ℕ) → lts.Need-at-end-requires (arm-claims t) (arm-at t) reads.Post Inv-loop μ-loop
@@ -121,8 +121,8 @@ returns-2 t c =
     let start′ = loop′ .before .before .before in
     let new′ = start′ .before .before in
     let s′ = new′ .before .before .before .before .before in (
-      way (s′ .args .room) (c-mark (new′ .new .ensures) (start′ .start .ensures .0 _ _) (c-no {t = false} (c-part (s′ .args .room) (last-no (s′ .args .room) (c-yes (c-no (c-walk (at′ .at .ensures .0 (walk-rule (s′ .args .room) (tokens-of (s′ .args .t .now))) unlabelled _ _ _)) (if1′ .if1 .left) (c-act (at-end′ .at-end .ensures .0 unlabelled _ _ _))) (if2′ .if2 .taken) c-ret) ∙ loop′ .loop .inv .1 .1 .1 .1)) refl c-ret) (completed 13 (complete2′ .complete2 .ensures .0 _ _))),
-      (omega (arith, start′ .start .ensures .1 (s′ .args .t .now), loop′ .loop .inv .0, at′ .at .ensures .1 .0, at-end′ .at-end .ensures .1 .0, at-end′ .at-end .ensures .1 .1 .1 (if2′ .if2 .taken), complete2′ .complete2 .ensures .1 (s′ .args .t .now)), λ e. true-false (sym e)),
+      way (s′ .args .allowed) (c-mark (new′ .new .ensures) (start′ .start .ensures .0 _ _) (c-no {t = false} (c-part (s′ .args .allowed) (last-no (s′ .args .allowed) (c-yes (c-no (c-walk (at′ .at .ensures .0 (walk-rule (s′ .args .allowed) (tokens-of (s′ .args .tokens .now))) unlabelled _ _ _)) (if1′ .if1 .left) (c-act (at-end′ .at-end .ensures .0 unlabelled _ _ _))) (if2′ .if2 .taken) c-ret) ∙ loop′ .loop .inv .1 .1 .1 .1)) refl c-ret) (completed 13 (complete2′ .complete2 .ensures .0 _ _))),
+      (omega (arith, start′ .start .ensures .1 (s′ .args .tokens .now), loop′ .loop .inv .0, at′ .at .ensures .1 .0, at-end′ .at-end .ensures .1 .0, at-end′ .at-end .ensures .1 .1 .1 (if2′ .if2 .taken), complete2′ .complete2 .ensures .1 (s′ .args .tokens .now)), λ e. true-false (sym e)),
     )
 
 pub slice-aggregate-silent-at-set : (t : ℕ) → lts.Need-slice-aggregate-silent-at-set (arm-claims t) (arm-at t) reads.Post Inv-loop μ-loop
@@ -169,8 +169,8 @@ returns-3 t c =
     let start′ = loop′ .before .before .before in
     let new′ = start′ .before .before in
     let s′ = new′ .before .before .before .before .before in (
-      way (s′ .args .room) (c-mark (new′ .new .ensures) (start′ .start .ensures .0 _ _) (c-yes {t = true} (c-part (s′ .args .room) (last-yes (s′ .args .room) (c-no (c-no (c-walk (at′ .at .ensures .0 (walk-rule (s′ .args .room) (tokens-of (s′ .args .t .now))) unlabelled _ _ _)) (if1′ .if1 .left) (c-act (at-end′ .at-end .ensures .0 unlabelled _ _ _))) (if2′ .if2 .left) (c-yes (c-act (silent-at-set′ .silent-at-set .ensures .0 unlabelled _ _ _)) (if3′ .if3 .taken) c-ret)) ∙ loop′ .loop .inv .1 .1 .1 .1)) refl c-ret) (completed 13 (complete3′ .complete3 .ensures .0 _ _))),
-      (omega (arith, start′ .start .ensures .1 (s′ .args .t .now), loop′ .loop .inv .0, at′ .at .ensures .1 .0, at-end′ .at-end .ensures .1 .0, at-end′ .at-end .ensures .1 .1 .0 (if2′ .if2 .left), silent-at-set′ .silent-at-set .ensures .1 .0, silent-at-set′ .silent-at-set .ensures .1 .1 (if3′ .if3 .taken), complete3′ .complete3 .ensures .1 (s′ .args .t .now)), λ e. omega (arith, start′ .start .ensures .1 (s′ .args .t .now), loop′ .loop .inv .0, at′ .at .ensures .1 .0, at-end′ .at-end .ensures .1 .0, at-end′ .at-end .ensures .1 .1 .0 (if2′ .if2 .left), silent-at-set′ .silent-at-set .ensures .1 .0, silent-at-set′ .silent-at-set .ensures .1 .1 (if3′ .if3 .taken), complete3′ .complete3 .ensures .1 (s′ .args .t .now))),
+      way (s′ .args .allowed) (c-mark (new′ .new .ensures) (start′ .start .ensures .0 _ _) (c-yes {t = true} (c-part (s′ .args .allowed) (last-yes (s′ .args .allowed) (c-no (c-no (c-walk (at′ .at .ensures .0 (walk-rule (s′ .args .allowed) (tokens-of (s′ .args .tokens .now))) unlabelled _ _ _)) (if1′ .if1 .left) (c-act (at-end′ .at-end .ensures .0 unlabelled _ _ _))) (if2′ .if2 .left) (c-yes (c-act (silent-at-set′ .silent-at-set .ensures .0 unlabelled _ _ _)) (if3′ .if3 .taken) c-ret)) ∙ loop′ .loop .inv .1 .1 .1 .1)) refl c-ret) (completed 13 (complete3′ .complete3 .ensures .0 _ _))),
+      (omega (arith, start′ .start .ensures .1 (s′ .args .tokens .now), loop′ .loop .inv .0, at′ .at .ensures .1 .0, at-end′ .at-end .ensures .1 .0, at-end′ .at-end .ensures .1 .1 .0 (if2′ .if2 .left), silent-at-set′ .silent-at-set .ensures .1 .0, silent-at-set′ .silent-at-set .ensures .1 .1 (if3′ .if3 .taken), complete3′ .complete3 .ensures .1 (s′ .args .tokens .now)), λ e. omega (arith, start′ .start .ensures .1 (s′ .args .tokens .now), loop′ .loop .inv .0, at′ .at .ensures .1 .0, at-end′ .at-end .ensures .1 .0, at-end′ .at-end .ensures .1 .1 .0 (if2′ .if2 .left), silent-at-set′ .silent-at-set .ensures .1 .0, silent-at-set′ .silent-at-set .ensures .1 .1 (if3′ .if3 .taken), complete3′ .complete3 .ensures .1 (s′ .args .tokens .now))),
     )
 
 pub eat-inside-requires : (t : ℕ) → lts.Need-eat-inside-requires (arm-claims t) (arm-at t) reads.Post Inv-loop μ-loop
@@ -182,7 +182,7 @@ eat-inside-requires t c κs =
     let loop′ = at′ .before in
     let start′ = loop′ .before .before .before in
     let s′ = start′ .before .before .before .before .before .before .before in
-    (omega (arith, start′ .start .ensures .1 (s′ .args .t .now), loop′ .loop .inv .0, at′ .at .ensures .1 .0, at-end′ .at-end .ensures .1 .0, at-end′ .at-end .ensures .1 .1 .0 (if2′ .if2 .left), silent-at-set′ .silent-at-set .ensures .1 .0, s′ .pre .0), tt)
+    (omega (arith, start′ .start .ensures .1 (s′ .args .tokens .now), loop′ .loop .inv .0, at′ .at .ensures .1 .0, at-end′ .at-end .ensures .1 .0, at-end′ .at-end .ensures .1 .1 .0 (if2′ .if2 .left), silent-at-set′ .silent-at-set .ensures .1 .0, s′ .pre .0), tt)
 
 pub loop-less : (t : ℕ) → lts.Need-loop-less (arm-claims t) (arm-at t) reads.Post Inv-loop μ-loop
 loop-less t c =
@@ -195,7 +195,7 @@ loop-less t c =
     let loop′ = at′ .before in
     let start′ = loop′ .before .before .before in
     let s′ = start′ .before .before .before .before .before .before .before in
-    omega (arith, start′ .start .ensures .1 (s′ .args .t .now), loop′ .loop .inv .0, at′ .at .ensures .1 .0, at-end′ .at-end .ensures .1 .0, at-end′ .at-end .ensures .1 .1 .0 (if2′ .if2 .left), silent-at-set′ .silent-at-set .ensures .1 .0, eat-inside′ .eat-inside .ensures .1 .0, eat-inside′ .eat-inside .ensures .1 .1 (if4′ .if4 .taken))
+    omega (arith, start′ .start .ensures .1 (s′ .args .tokens .now), loop′ .loop .inv .0, at′ .at .ensures .1 .0, at-end′ .at-end .ensures .1 .0, at-end′ .at-end .ensures .1 .1 .0 (if2′ .if2 .left), silent-at-set′ .silent-at-set .ensures .1 .0, eat-inside′ .eat-inside .ensures .1 .0, eat-inside′ .eat-inside .ensures .1 .1 (if4′ .if4 .taken))
 
 pub loop-again : (t : ℕ) → lts.Need-loop-again (arm-claims t) (arm-at t) reads.Post Inv-loop μ-loop
 unfolding branch branch-turn silent
@@ -211,14 +211,14 @@ loop-again t c =
     let loop′ = at′ .before in
     let start′ = loop′ .before .before .before in
     let s′ = start′ .before .before .before .before .before .before .before in (
-      omega (arith, start′ .start .ensures .1 (s′ .args .t .now), loop′ .loop .inv .0, at′ .at .ensures .1 .0, at-end′ .at-end .ensures .1 .0, at-end′ .at-end .ensures .1 .1 .0 (if2′ .if2 .left), silent-at-set′ .silent-at-set .ensures .1 .0, eat-inside′ .eat-inside .ensures .1 .0, eat-inside′ .eat-inside .ensures .1 .1 (if4′ .if4 .taken)),
+      omega (arith, start′ .start .ensures .1 (s′ .args .tokens .now), loop′ .loop .inv .0, at′ .at .ensures .1 .0, at-end′ .at-end .ensures .1 .0, at-end′ .at-end .ensures .1 .1 .0 (if2′ .if2 .left), silent-at-set′ .silent-at-set .ensures .1 .0, eat-inside′ .eat-inside .ensures .1 .0, eat-inside′ .eat-inside .ensures .1 .1 (if4′ .if4 .taken)),
       (
         omega (arith, start′ .start .kept, eat-inside′ .eat-inside .kept, loop′ .loop .inv .1),
         (
           omega (arith, start′ .start .kept, eat-inside′ .eat-inside .kept, loop′ .loop .inv .1),
           (
             omega (arith, start′ .start .kept, eat-inside′ .eat-inside .kept, loop′ .loop .inv .1),
-            again-part (s′ .args .room) (c-no (c-no (c-walk (at′ .at .ensures .0 (walk-rule (s′ .args .room) (tokens-of (s′ .args .t .now))) unlabelled _ _ _)) (if1′ .if1 .left) (c-act (at-end′ .at-end .ensures .0 unlabelled _ _ _))) (if2′ .if2 .left) (c-no (c-act (silent-at-set′ .silent-at-set .ensures .0 unlabelled _ _ _)) (if3′ .if3 .left) (c-yes (c-fn (s′ .args .room) (eat-inside′ .eat-inside .ensures .0)) (if4′ .if4 .taken) c-ret))) (ahead-falls (s′ .args .t .now) (loop′ .loop .q .s) (eat-inside′ .eat-inside .result .p .s) (omega (arith, start′ .start .ensures .1 (s′ .args .t .now), loop′ .loop .inv .0, at′ .at .ensures .1 .0, at-end′ .at-end .ensures .1 .0, at-end′ .at-end .ensures .1 .1 .0 (if2′ .if2 .left), silent-at-set′ .silent-at-set .ensures .1 .0, eat-inside′ .eat-inside .ensures .1 .0, eat-inside′ .eat-inside .ensures .1 .1 (if4′ .if4 .taken)))) ∙ loop′ .loop .inv .1 .1 .1 .1,
+            again-part (s′ .args .allowed) (c-no (c-no (c-walk (at′ .at .ensures .0 (walk-rule (s′ .args .allowed) (tokens-of (s′ .args .tokens .now))) unlabelled _ _ _)) (if1′ .if1 .left) (c-act (at-end′ .at-end .ensures .0 unlabelled _ _ _))) (if2′ .if2 .left) (c-no (c-act (silent-at-set′ .silent-at-set .ensures .0 unlabelled _ _ _)) (if3′ .if3 .left) (c-yes (c-fn (s′ .args .allowed) (eat-inside′ .eat-inside .ensures .0)) (if4′ .if4 .taken) c-ret))) (ahead-falls (s′ .args .tokens .now) (loop′ .loop .q .s) (eat-inside′ .eat-inside .result .p .s) (omega (arith, start′ .start .ensures .1 (s′ .args .tokens .now), loop′ .loop .inv .0, at′ .at .ensures .1 .0, at-end′ .at-end .ensures .1 .0, at-end′ .at-end .ensures .1 .1 .0 (if2′ .if2 .left), silent-at-set′ .silent-at-set .ensures .1 .0, eat-inside′ .eat-inside .ensures .1 .0, eat-inside′ .eat-inside .ensures .1 .1 (if4′ .if4 .taken)))) ∙ loop′ .loop .inv .1 .1 .1 .1,
           ),
         ),
       ),
@@ -267,6 +267,6 @@ returns-4 t c =
     let start′ = loop′ .before .before .before in
     let new′ = start′ .before .before in
     let s′ = new′ .before .before .before .before .before in (
-      way (s′ .args .room) (c-mark (new′ .new .ensures) (start′ .start .ensures .0 _ _) (c-no {t = false} (c-part (s′ .args .room) (last-no (s′ .args .room) (c-no (c-no (c-walk (at′ .at .ensures .0 (walk-rule (s′ .args .room) (tokens-of (s′ .args .t .now))) unlabelled _ _ _)) (if1′ .if1 .left) (c-act (at-end′ .at-end .ensures .0 unlabelled _ _ _))) (if2′ .if2 .left) (c-no (c-act (silent-at-set′ .silent-at-set .ensures .0 unlabelled _ _ _)) (if3′ .if3 .left) (c-no (c-fn (s′ .args .room) (eat-inside′ .eat-inside .ensures .0)) (if4′ .if4 .left) c-ret))) ∙ loop′ .loop .inv .1 .1 .1 .1)) refl c-ret) (completed 13 (complete4′ .complete4 .ensures .0 _ _))),
-      (omega (arith, start′ .start .ensures .1 (s′ .args .t .now), loop′ .loop .inv .0, at′ .at .ensures .1 .0, at-end′ .at-end .ensures .1 .0, at-end′ .at-end .ensures .1 .1 .0 (if2′ .if2 .left), silent-at-set′ .silent-at-set .ensures .1 .0, eat-inside′ .eat-inside .ensures .1 .0, complete4′ .complete4 .ensures .1 (s′ .args .t .now)), λ e. true-false (sym e)),
+      way (s′ .args .allowed) (c-mark (new′ .new .ensures) (start′ .start .ensures .0 _ _) (c-no {t = false} (c-part (s′ .args .allowed) (last-no (s′ .args .allowed) (c-no (c-no (c-walk (at′ .at .ensures .0 (walk-rule (s′ .args .allowed) (tokens-of (s′ .args .tokens .now))) unlabelled _ _ _)) (if1′ .if1 .left) (c-act (at-end′ .at-end .ensures .0 unlabelled _ _ _))) (if2′ .if2 .left) (c-no (c-act (silent-at-set′ .silent-at-set .ensures .0 unlabelled _ _ _)) (if3′ .if3 .left) (c-no (c-fn (s′ .args .allowed) (eat-inside′ .eat-inside .ensures .0)) (if4′ .if4 .left) c-ret))) ∙ loop′ .loop .inv .1 .1 .1 .1)) refl c-ret) (completed 13 (complete4′ .complete4 .ensures .0 _ _))),
+      (omega (arith, start′ .start .ensures .1 (s′ .args .tokens .now), loop′ .loop .inv .0, at′ .at .ensures .1 .0, at-end′ .at-end .ensures .1 .0, at-end′ .at-end .ensures .1 .1 .0 (if2′ .if2 .left), silent-at-set′ .silent-at-set .ensures .1 .0, eat-inside′ .eat-inside .ensures .1 .0, complete4′ .complete4 .ensures .1 (s′ .args .tokens .now)), λ e. true-false (sym e)),
     )

@@ -45,7 +45,7 @@ dt-cell-list-requires t c κs =
     let start2′ = bump′ .before .before .before .before in
     let start′ = start2′ .before .before .before .before .before in
     let s′ = start′ .before .before .before .before .before .before .before in
-    (omega (arith, start′ .start .ensures .1 (s′ .args .t .now), start2′ .start2 .ensures .1 (s′ .args .t .now), bump′ .bump .ensures .1, expect′ .expect .ensures .1 .0, complete′ .complete .ensures .1 (s′ .args .t .now), at′ .at .ensures .1 .0, at′ .at .ensures .1 .1 (if1′ .if1 .taken), s′ .pre .0), tt)
+    (omega (arith, start′ .start .ensures .1 (s′ .args .tokens .now), start2′ .start2 .ensures .1 (s′ .args .tokens .now), bump′ .bump .ensures .1, expect′ .expect .ensures .1 .0, complete′ .complete .ensures .1 (s′ .args .tokens .now), at′ .at .ensures .1 .0, at′ .at .ensures .1 .1 (if1′ .if1 .taken), s′ .pre .0), tt)
 
 pub error-requires : (t : ℕ) → lts.Need-error-requires (bits-claims t) (bits-at t) reads.Post
 error-requires t c κs = tt
@@ -97,8 +97,8 @@ returns t c =
     let start′ = new2′ .before .before .before in
     let new′ = start′ .before .before in
     let s′ = new′ .before .before .before .before .before in (
-      way (s′ .args .room) (c-mark (new′ .new .ensures) (start′ .start .ensures .0 _ _) (c-seq (c-mark (new2′ .new2 .ensures) (start2′ .start2 .ensures .0 _ _) (c-seq (c-seq (c-act (bump′ .bump .ensures .0 unlabelled _ _)) (c-walk (expect′ .expect .ensures .0 (walk-rule (s′ .args .room) (tokens-of (s′ .args .t .now))) unlabelled))) c-ret) (completed 10 (complete′ .complete .ensures .0 _ _))) (c-yes (c-walk (at′ .at .ensures .0 (walk-rule (s′ .args .room) (tokens-of (s′ .args .t .now))) unlabelled _ _ _)) (if1′ .if1 .taken) (c-same (s′ .args .room)))) (closing (dt-cell-list′ .dt-cell-list .ensures .0))),
-      omega (arith, start′ .start .ensures .1 (s′ .args .t .now), start2′ .start2 .ensures .1 (s′ .args .t .now), bump′ .bump .ensures .1, expect′ .expect .ensures .1 .0, complete′ .complete .ensures .1 (s′ .args .t .now), at′ .at .ensures .1 .0, at′ .at .ensures .1 .1 (if1′ .if1 .taken), dt-cell-list′ .dt-cell-list .ensures .1),
+      way (s′ .args .allowed) (c-mark (new′ .new .ensures) (start′ .start .ensures .0 _ _) (c-seq (c-mark (new2′ .new2 .ensures) (start2′ .start2 .ensures .0 _ _) (c-seq (c-seq (c-act (bump′ .bump .ensures .0 unlabelled _ _)) (c-walk (expect′ .expect .ensures .0 (walk-rule (s′ .args .allowed) (tokens-of (s′ .args .tokens .now))) unlabelled))) c-ret) (completed 10 (complete′ .complete .ensures .0 _ _))) (c-yes (c-walk (at′ .at .ensures .0 (walk-rule (s′ .args .allowed) (tokens-of (s′ .args .tokens .now))) unlabelled _ _ _)) (if1′ .if1 .taken) (c-same (s′ .args .allowed)))) (closing (dt-cell-list′ .dt-cell-list .ensures .0))),
+      omega (arith, start′ .start .ensures .1 (s′ .args .tokens .now), start2′ .start2 .ensures .1 (s′ .args .tokens .now), bump′ .bump .ensures .1, expect′ .expect .ensures .1 .0, complete′ .complete .ensures .1 (s′ .args .tokens .now), at′ .at .ensures .1 .0, at′ .at .ensures .1 .1 (if1′ .if1 .taken), dt-cell-list′ .dt-cell-list .ensures .1),
     )
 
 pub same-length-4 : (t : ℕ) → lts.Need-same-length-4 (bits-claims t) (bits-at t) reads.Post
@@ -149,6 +149,6 @@ returns-2 t c =
     let start′ = new2′ .before .before .before in
     let new′ = start′ .before .before in
     let s′ = new′ .before .before .before .before .before in (
-      way (s′ .args .room) (c-mark (new′ .new .ensures) (start′ .start .ensures .0 _ _) (c-seq (c-mark (new2′ .new2 .ensures) (start2′ .start2 .ensures .0 _ _) (c-seq (c-seq (c-act (bump′ .bump .ensures .0 unlabelled _ _)) (c-walk (expect′ .expect .ensures .0 (walk-rule (s′ .args .room) (tokens-of (s′ .args .t .now))) unlabelled))) c-ret) (completed 10 (complete′ .complete .ensures .0 _ _))) (c-no (c-walk (at′ .at .ensures .0 (walk-rule (s′ .args .room) (tokens-of (s′ .args .t .now))) unlabelled _ _ _)) (if1′ .if1 .left) (c-seq (c-walk (error′ .error .ensures .0 (walk-rule (s′ .args .room) (tokens-of (s′ .args .t .now))) unlabelled)) c-ret))) (completed 9 (complete2′ .complete2 .ensures .0 _ _))),
-      omega (arith, start′ .start .ensures .1 (s′ .args .t .now), start2′ .start2 .ensures .1 (s′ .args .t .now), bump′ .bump .ensures .1, expect′ .expect .ensures .1 .0, complete′ .complete .ensures .1 (s′ .args .t .now), at′ .at .ensures .1 .0, error′ .error .ensures .1, complete2′ .complete2 .ensures .1 (s′ .args .t .now)),
+      way (s′ .args .allowed) (c-mark (new′ .new .ensures) (start′ .start .ensures .0 _ _) (c-seq (c-mark (new2′ .new2 .ensures) (start2′ .start2 .ensures .0 _ _) (c-seq (c-seq (c-act (bump′ .bump .ensures .0 unlabelled _ _)) (c-walk (expect′ .expect .ensures .0 (walk-rule (s′ .args .allowed) (tokens-of (s′ .args .tokens .now))) unlabelled))) c-ret) (completed 10 (complete′ .complete .ensures .0 _ _))) (c-no (c-walk (at′ .at .ensures .0 (walk-rule (s′ .args .allowed) (tokens-of (s′ .args .tokens .now))) unlabelled _ _ _)) (if1′ .if1 .left) (c-seq (c-walk (error′ .error .ensures .0 (walk-rule (s′ .args .allowed) (tokens-of (s′ .args .tokens .now))) unlabelled)) c-ret))) (completed 9 (complete2′ .complete2 .ensures .0 _ _))),
+      omega (arith, start′ .start .ensures .1 (s′ .args .tokens .now), start2′ .start2 .ensures .1 (s′ .args .tokens .now), bump′ .bump .ensures .1, expect′ .expect .ensures .1 .0, complete′ .complete .ensures .1 (s′ .args .tokens .now), at′ .at .ensures .1 .0, error′ .error .ensures .1, complete2′ .complete2 .ensures .1 (s′ .args .tokens .now)),
     )

@@ -37,7 +37,7 @@ returns t c =
     let if1′ = c in
     let eat-dts-include′ = if1′ .before .before .before .before .before .before .before in
     let s′ = eat-dts-include′ .before .before .before .before .before .before .before .before in (
-      way (s′ .args .room) (c-yes {t = true} (c-yes (c-walk (eat-dts-include′ .eat-dts-include .ensures .0 (walk-rule (s′ .args .room) (tokens-of (s′ .args .t .now))) unlabelled)) (if1′ .if1 .taken) c-ret) refl (c-ret-yes (if1′ .if1 .taken))),
+      way (s′ .args .allowed) (c-yes {t = true} (c-yes (c-walk (eat-dts-include′ .eat-dts-include .ensures .0 (walk-rule (s′ .args .allowed) (tokens-of (s′ .args .tokens .now))) unlabelled)) (if1′ .if1 .taken) c-ret) refl (c-ret-yes (if1′ .if1 .taken))),
       (omega (arith, eat-dts-include′ .eat-dts-include .ensures .1 .0, eat-dts-include′ .eat-dts-include .ensures .1 .1 (if1′ .if1 .taken)), λ e. omega (arith, eat-dts-include′ .eat-dts-include .ensures .1 .0, eat-dts-include′ .eat-dts-include .ensures .1 .1 (if1′ .if1 .taken))),
     )
 
@@ -73,7 +73,7 @@ returns-2 t c =
     let if1′ = eat-preprocessor-directive′ .before .before .before .before in
     let eat-dts-include′ = if1′ .before .before .before .before .before .before .before in
     let s′ = eat-dts-include′ .before .before .before .before .before .before .before .before in (
-      way (s′ .args .room) (c-yes (c-no (c-walk (eat-dts-include′ .eat-dts-include .ensures .0 (walk-rule (s′ .args .room) (tokens-of (s′ .args .t .now))) unlabelled)) (if1′ .if1 .left) (c-fn (s′ .args .room) (eat-preprocessor-directive′ .eat-preprocessor-directive .ensures .0))) (if2′ .if2 .taken) (c-ret-yes (if2′ .if2 .taken))),
+      way (s′ .args .allowed) (c-yes (c-no (c-walk (eat-dts-include′ .eat-dts-include .ensures .0 (walk-rule (s′ .args .allowed) (tokens-of (s′ .args .tokens .now))) unlabelled)) (if1′ .if1 .left) (c-fn (s′ .args .allowed) (eat-preprocessor-directive′ .eat-preprocessor-directive .ensures .0))) (if2′ .if2 .taken) (c-ret-yes (if2′ .if2 .taken))),
       (omega (arith, eat-dts-include′ .eat-dts-include .ensures .1 .0, eat-preprocessor-directive′ .eat-preprocessor-directive .ensures .1 .0, eat-preprocessor-directive′ .eat-preprocessor-directive .ensures .1 .1 (if2′ .if2 .taken)), λ e. omega (arith, eat-dts-include′ .eat-dts-include .ensures .1 .0, eat-preprocessor-directive′ .eat-preprocessor-directive .ensures .1 .0, eat-preprocessor-directive′ .eat-preprocessor-directive .ensures .1 .1 (if2′ .if2 .taken))),
     )
 
@@ -116,7 +116,7 @@ returns-3 t c =
     let if1′ = eat-preprocessor-directive′ .before .before .before .before in
     let eat-dts-include′ = if1′ .before .before .before .before .before .before .before in
     let s′ = eat-dts-include′ .before .before .before .before .before .before .before .before in (
-      way (s′ .args .room) (c-no (c-no (c-walk (eat-dts-include′ .eat-dts-include .ensures .0 (walk-rule (s′ .args .room) (tokens-of (s′ .args .t .now))) unlabelled)) (if1′ .if1 .left) (c-fn (s′ .args .room) (eat-preprocessor-directive′ .eat-preprocessor-directive .ensures .0))) (if2′ .if2 .left) (c-no {t = false} (c-yes (c-act (silent-at-set′ .silent-at-set .ensures .0 unlabelled _ _ _)) (if3′ .if3 .taken) (c-yes (c-walk (at′ .at .ensures .0 (walk-rule (s′ .args .room) (tokens-of (s′ .args .t .now))) unlabelled _ _ _)) (if4′ .if4 .taken) c-ret)) refl c-ret)),
+      way (s′ .args .allowed) (c-no (c-no (c-walk (eat-dts-include′ .eat-dts-include .ensures .0 (walk-rule (s′ .args .allowed) (tokens-of (s′ .args .tokens .now))) unlabelled)) (if1′ .if1 .left) (c-fn (s′ .args .allowed) (eat-preprocessor-directive′ .eat-preprocessor-directive .ensures .0))) (if2′ .if2 .left) (c-no {t = false} (c-yes (c-act (silent-at-set′ .silent-at-set .ensures .0 unlabelled _ _ _)) (if3′ .if3 .taken) (c-yes (c-walk (at′ .at .ensures .0 (walk-rule (s′ .args .allowed) (tokens-of (s′ .args .tokens .now))) unlabelled _ _ _)) (if4′ .if4 .taken) c-ret)) refl c-ret)),
       (omega (arith, eat-dts-include′ .eat-dts-include .ensures .1 .0, eat-preprocessor-directive′ .eat-preprocessor-directive .ensures .1 .0, silent-at-set′ .silent-at-set .ensures .1 .0, silent-at-set′ .silent-at-set .ensures .1 .1 (if3′ .if3 .taken), at′ .at .ensures .1 .0, at′ .at .ensures .1 .1 (if4′ .if4 .taken)), λ e. true-false (sym e)),
     )
 
@@ -157,7 +157,7 @@ returns-4 t c =
     let if1′ = eat-preprocessor-directive′ .before .before .before .before in
     let eat-dts-include′ = if1′ .before .before .before .before .before .before .before in
     let s′ = eat-dts-include′ .before .before .before .before .before .before .before .before in (
-      way (s′ .args .room) (c-no (c-no (c-walk (eat-dts-include′ .eat-dts-include .ensures .0 (walk-rule (s′ .args .room) (tokens-of (s′ .args .t .now))) unlabelled)) (if1′ .if1 .left) (c-fn (s′ .args .room) (eat-preprocessor-directive′ .eat-preprocessor-directive .ensures .0))) (if2′ .if2 .left) (c-yes {t = true} (c-yes (c-act (silent-at-set′ .silent-at-set .ensures .0 unlabelled _ _ _)) (if3′ .if3 .taken) (c-no (c-walk (at′ .at .ensures .0 (walk-rule (s′ .args .room) (tokens-of (s′ .args .t .now))) unlabelled _ _ _)) (if4′ .if4 .left) c-ret)) refl (c-seq (c-walk (error′ .error .ensures .0 (walk-rule (s′ .args .room) (tokens-of (s′ .args .t .now))) unlabelled)) c-ret))),
+      way (s′ .args .allowed) (c-no (c-no (c-walk (eat-dts-include′ .eat-dts-include .ensures .0 (walk-rule (s′ .args .allowed) (tokens-of (s′ .args .tokens .now))) unlabelled)) (if1′ .if1 .left) (c-fn (s′ .args .allowed) (eat-preprocessor-directive′ .eat-preprocessor-directive .ensures .0))) (if2′ .if2 .left) (c-yes {t = true} (c-yes (c-act (silent-at-set′ .silent-at-set .ensures .0 unlabelled _ _ _)) (if3′ .if3 .taken) (c-no (c-walk (at′ .at .ensures .0 (walk-rule (s′ .args .allowed) (tokens-of (s′ .args .tokens .now))) unlabelled _ _ _)) (if4′ .if4 .left) c-ret)) refl (c-seq (c-walk (error′ .error .ensures .0 (walk-rule (s′ .args .allowed) (tokens-of (s′ .args .tokens .now))) unlabelled)) c-ret))),
       (omega (arith, eat-dts-include′ .eat-dts-include .ensures .1 .0, eat-preprocessor-directive′ .eat-preprocessor-directive .ensures .1 .0, silent-at-set′ .silent-at-set .ensures .1 .0, silent-at-set′ .silent-at-set .ensures .1 .1 (if3′ .if3 .taken), at′ .at .ensures .1 .0, error′ .error .ensures .1), λ e. omega (arith, eat-dts-include′ .eat-dts-include .ensures .1 .0, eat-preprocessor-directive′ .eat-preprocessor-directive .ensures .1 .0, silent-at-set′ .silent-at-set .ensures .1 .0, silent-at-set′ .silent-at-set .ensures .1 .1 (if3′ .if3 .taken), at′ .at .ensures .1 .0, error′ .error .ensures .1)),
     )
 
@@ -189,6 +189,6 @@ returns-5 t c =
     let if1′ = eat-preprocessor-directive′ .before .before .before .before in
     let eat-dts-include′ = if1′ .before .before .before .before .before .before .before in
     let s′ = eat-dts-include′ .before .before .before .before .before .before .before .before in (
-      way (s′ .args .room) (c-no (c-no (c-walk (eat-dts-include′ .eat-dts-include .ensures .0 (walk-rule (s′ .args .room) (tokens-of (s′ .args .t .now))) unlabelled)) (if1′ .if1 .left) (c-fn (s′ .args .room) (eat-preprocessor-directive′ .eat-preprocessor-directive .ensures .0))) (if2′ .if2 .left) (c-no {t = false} (c-no (c-act (silent-at-set′ .silent-at-set .ensures .0 unlabelled _ _ _)) (if3′ .if3 .left) c-ret) refl (c-ret-no (if3′ .if3 .left)))),
+      way (s′ .args .allowed) (c-no (c-no (c-walk (eat-dts-include′ .eat-dts-include .ensures .0 (walk-rule (s′ .args .allowed) (tokens-of (s′ .args .tokens .now))) unlabelled)) (if1′ .if1 .left) (c-fn (s′ .args .allowed) (eat-preprocessor-directive′ .eat-preprocessor-directive .ensures .0))) (if2′ .if2 .left) (c-no {t = false} (c-no (c-act (silent-at-set′ .silent-at-set .ensures .0 unlabelled _ _ _)) (if3′ .if3 .left) c-ret) refl (c-ret-no (if3′ .if3 .left)))),
       (omega (arith, eat-dts-include′ .eat-dts-include .ensures .1 .0, eat-preprocessor-directive′ .eat-preprocessor-directive .ensures .1 .0, silent-at-set′ .silent-at-set .ensures .1 .0), λ e. true-false (sym e ∙ if3′ .if3 .left)),
     )

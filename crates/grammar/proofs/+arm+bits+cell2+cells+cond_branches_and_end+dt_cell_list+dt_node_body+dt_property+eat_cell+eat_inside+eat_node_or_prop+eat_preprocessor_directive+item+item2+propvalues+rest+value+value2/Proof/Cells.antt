@@ -58,7 +58,7 @@ loop-again t c =
           omega (arith, eat-cell′ .eat-cell .kept, loop′ .loop .inv .1),
           (
             omega (arith, eat-cell′ .eat-cell .kept, loop′ .loop .inv .1),
-            again-part (s′ .args .room) (c-yes (c-call (s′ .args .room) (eat-cell′ .eat-cell .ensures .0)) (if1′ .if1 .taken) c-ret) (ahead-falls (s′ .args .t .now) (loop′ .loop .q .s) (eat-cell′ .eat-cell .result .p .s) (omega (arith, loop′ .loop .inv .0, eat-cell′ .eat-cell .ensures .1 .0, eat-cell′ .eat-cell .ensures .1 .1 (if1′ .if1 .taken)))) ∙ loop′ .loop .inv .1 .1 .1 .1,
+            again-part (s′ .args .allowed) (c-yes (c-call (s′ .args .allowed) (eat-cell′ .eat-cell .ensures .0)) (if1′ .if1 .taken) c-ret) (ahead-falls (s′ .args .tokens .now) (loop′ .loop .q .s) (eat-cell′ .eat-cell .result .p .s) (omega (arith, loop′ .loop .inv .0, eat-cell′ .eat-cell .ensures .1 .0, eat-cell′ .eat-cell .ensures .1 .1 (if1′ .if1 .taken)))) ∙ loop′ .loop .inv .1 .1 .1 .1,
           ),
         ),
       ),
@@ -94,7 +94,7 @@ returns t c =
     let eat-cell′ = if1′ .before .before .before .before .before .before .before in
     let loop′ = eat-cell′ .before .before .before .before in
     let s′ = loop′ .before .before .before .before .before in (
-      as-yes (if2′ .if2 .taken) (last-yes (s′ .args .room) (c-no (c-call (s′ .args .room) (eat-cell′ .eat-cell .ensures .0)) (if1′ .if1 .left) (c-yes (c-walk (at-cells-end′ .at-cells-end .ensures .0 (walk-rule (s′ .args .room) (tokens-of (s′ .args .t .now))) unlabelled _ _ _)) (if2′ .if2 .taken) c-ret))) ∙ loop′ .loop .inv .1 .1 .1 .1,
+      as-yes (if2′ .if2 .taken) (last-yes (s′ .args .allowed) (c-no (c-call (s′ .args .allowed) (eat-cell′ .eat-cell .ensures .0)) (if1′ .if1 .left) (c-yes (c-walk (at-cells-end′ .at-cells-end .ensures .0 (walk-rule (s′ .args .allowed) (tokens-of (s′ .args .tokens .now))) unlabelled _ _ _)) (if2′ .if2 .taken) c-ret))) ∙ loop′ .loop .inv .1 .1 .1 .1,
       omega (arith, loop′ .loop .inv .0, eat-cell′ .eat-cell .ensures .1 .0, at-cells-end′ .at-cells-end .ensures .1),
     )
 
@@ -137,7 +137,7 @@ returns-2 t c =
     let eat-cell′ = if1′ .before .before .before .before .before .before .before in
     let loop′ = eat-cell′ .before .before .before .before in
     let s′ = loop′ .before .before .before .before .before in (
-      last-no (s′ .args .room) (c-no (c-call (s′ .args .room) (eat-cell′ .eat-cell .ensures .0)) (if1′ .if1 .left) (c-no (c-walk (at-cells-end′ .at-cells-end .ensures .0 (walk-rule (s′ .args .room) (tokens-of (s′ .args .t .now))) unlabelled _ _ _)) (if2′ .if2 .left) (c-yes (c-walk (at-cells-recovery′ .at-cells-recovery .ensures .0 (walk-rule (s′ .args .room) (tokens-of (s′ .args .t .now))) unlabelled _ _ _)) (if3′ .if3 .taken) (c-seq (c-walk (error′ .error .ensures .0 (walk-rule (s′ .args .room) (tokens-of (s′ .args .t .now))) unlabelled)) c-ret)))) ∙ loop′ .loop .inv .1 .1 .1 .1,
+      last-no (s′ .args .allowed) (c-no (c-call (s′ .args .allowed) (eat-cell′ .eat-cell .ensures .0)) (if1′ .if1 .left) (c-no (c-walk (at-cells-end′ .at-cells-end .ensures .0 (walk-rule (s′ .args .allowed) (tokens-of (s′ .args .tokens .now))) unlabelled _ _ _)) (if2′ .if2 .left) (c-yes (c-walk (at-cells-recovery′ .at-cells-recovery .ensures .0 (walk-rule (s′ .args .allowed) (tokens-of (s′ .args .tokens .now))) unlabelled _ _ _)) (if3′ .if3 .taken) (c-seq (c-walk (error′ .error .ensures .0 (walk-rule (s′ .args .allowed) (tokens-of (s′ .args .tokens .now))) unlabelled)) c-ret)))) ∙ loop′ .loop .inv .1 .1 .1 .1,
       omega (arith, loop′ .loop .inv .0, eat-cell′ .eat-cell .ensures .1 .0, at-cells-end′ .at-cells-end .ensures .1, at-cells-recovery′ .at-cells-recovery .ensures .1 .0, error′ .error .ensures .1),
     )
 
@@ -173,7 +173,7 @@ loop-again-2 t c =
           omega (arith, eat-cell′ .eat-cell .kept, error2′ .error2 .kept, loop′ .loop .inv .1),
           (
             omega (arith, eat-cell′ .eat-cell .kept, error2′ .error2 .kept, loop′ .loop .inv .1),
-            again-part (s′ .args .room) (c-no (c-call (s′ .args .room) (eat-cell′ .eat-cell .ensures .0)) (if1′ .if1 .left) (c-no (c-walk (at-cells-end′ .at-cells-end .ensures .0 (walk-rule (s′ .args .room) (tokens-of (s′ .args .t .now))) unlabelled _ _ _)) (if2′ .if2 .left) (c-no (c-walk (at-cells-recovery′ .at-cells-recovery .ensures .0 (walk-rule (s′ .args .room) (tokens-of (s′ .args .t .now))) unlabelled _ _ _)) (if3′ .if3 .left) (c-seq (c-walk (error2′ .error2 .ensures .0 (walk-rule (s′ .args .room) (tokens-of (s′ .args .t .now))) unlabelled)) c-ret)))) (ahead-falls (s′ .args .t .now) (loop′ .loop .q .s) (error2′ .error2 .result .s) (omega (arith, loop′ .loop .inv .0, eat-cell′ .eat-cell .ensures .1 .0, at-cells-end′ .at-cells-end .ensures .1, at-cells-recovery′ .at-cells-recovery .ensures .1 .0, at-cells-recovery′ .at-cells-recovery .ensures .1 .1 (if3′ .if3 .left), error2′ .error2 .ensures .1))) ∙ loop′ .loop .inv .1 .1 .1 .1,
+            again-part (s′ .args .allowed) (c-no (c-call (s′ .args .allowed) (eat-cell′ .eat-cell .ensures .0)) (if1′ .if1 .left) (c-no (c-walk (at-cells-end′ .at-cells-end .ensures .0 (walk-rule (s′ .args .allowed) (tokens-of (s′ .args .tokens .now))) unlabelled _ _ _)) (if2′ .if2 .left) (c-no (c-walk (at-cells-recovery′ .at-cells-recovery .ensures .0 (walk-rule (s′ .args .allowed) (tokens-of (s′ .args .tokens .now))) unlabelled _ _ _)) (if3′ .if3 .left) (c-seq (c-walk (error2′ .error2 .ensures .0 (walk-rule (s′ .args .allowed) (tokens-of (s′ .args .tokens .now))) unlabelled)) c-ret)))) (ahead-falls (s′ .args .tokens .now) (loop′ .loop .q .s) (error2′ .error2 .result .s) (omega (arith, loop′ .loop .inv .0, eat-cell′ .eat-cell .ensures .1 .0, at-cells-end′ .at-cells-end .ensures .1, at-cells-recovery′ .at-cells-recovery .ensures .1 .0, at-cells-recovery′ .at-cells-recovery .ensures .1 .1 (if3′ .if3 .left), error2′ .error2 .ensures .1))) ∙ loop′ .loop .inv .1 .1 .1 .1,
           ),
         ),
       ),

@@ -63,7 +63,7 @@ loop-again t c =
           omega (arith, arm′ .arm .kept, bump′ .bump .kept, loop′ .loop .inv .1),
           (
             omega (arith, arm′ .arm .kept, bump′ .bump .kept, loop′ .loop .inv .1),
-            again-part (s′ .args .room) (c-yes (c-fn (s′ .args .room) (arm′ .arm .ensures .0)) (if1′ .if1 .taken) (c-seq (c-act (bump′ .bump .ensures .0 unlabelled _ _)) c-ret)) (ahead-falls (s′ .args .t .now) (loop′ .loop .q .s) (bump′ .bump .result .s) (omega (arith, loop′ .loop .inv .0, arm′ .arm .ensures .1 .0, arm′ .arm .ensures .1 .1 (if1′ .if1 .taken), bump′ .bump .ensures .1))) ∙ loop′ .loop .inv .1 .1 .1 .1,
+            again-part (s′ .args .allowed) (c-yes (c-fn (s′ .args .allowed) (arm′ .arm .ensures .0)) (if1′ .if1 .taken) (c-seq (c-act (bump′ .bump .ensures .0 unlabelled _ _)) c-ret)) (ahead-falls (s′ .args .tokens .now) (loop′ .loop .q .s) (bump′ .bump .result .s) (omega (arith, loop′ .loop .inv .0, arm′ .arm .ensures .1 .0, arm′ .arm .ensures .1 .1 (if1′ .if1 .taken), bump′ .bump .ensures .1))) ∙ loop′ .loop .inv .1 .1 .1 .1,
           ),
         ),
       ),
@@ -101,6 +101,6 @@ returns t c =
     let arm′ = if1′ .before .before .before .before .before .before .before in
     let loop′ = arm′ .before .before .before .before in
     let s′ = loop′ .before .before .before .before .before in (
-      part-on (s′ .args .room) (c-seq (c-part (s′ .args .room) (last-yes (s′ .args .room) (c-no (c-fn (s′ .args .room) (arm′ .arm .ensures .0)) (if1′ .if1 .left) c-ret) ∙ loop′ .loop .inv .1 .1 .1 .1)) (c-walk (expect′ .expect .ensures .0 (walk-rule (s′ .args .room) (tokens-of (s′ .args .t .now))) unlabelled))),
+      part-on (s′ .args .allowed) (c-seq (c-part (s′ .args .allowed) (last-yes (s′ .args .allowed) (c-no (c-fn (s′ .args .allowed) (arm′ .arm .ensures .0)) (if1′ .if1 .left) c-ret) ∙ loop′ .loop .inv .1 .1 .1 .1)) (c-walk (expect′ .expect .ensures .0 (walk-rule (s′ .args .allowed) (tokens-of (s′ .args .tokens .now))) unlabelled))),
       omega (arith, loop′ .loop .inv .0, arm′ .arm .ensures .1 .0, expect′ .expect .ensures .1 .0),
     )

@@ -23,8 +23,8 @@ returns t c =
     let refuse′ = c in
     let if1′ = refuse′ .before in
     let s′ = if1′ .before .before .before .before .before in (
-      ap (said no) (refuse′ .refuse .ensures .0 _ _ _) ∙ rule-closed (s′ .args .room) (tokens-of (s′ .args .t .now)) (eat-cell (s′ .args .at-end)) _ (eqb-true (s′ .args .room) 0 (if1′ .if1 .taken)),
-      (omega (arith, refuse′ .refuse .ensures .1 (s′ .args .t .now) (s′ .good .1 .0 .0)), λ e. true-false (sym e)),
+      ap (said no) (refuse′ .refuse .ensures .0 _ _ _) ∙ rule-closed (s′ .args .allowed) (tokens-of (s′ .args .tokens .now)) (eat-cell (s′ .args .until-end)) _ (eqb-true (s′ .args .allowed) 0 (if1′ .if1 .taken)),
+      (omega (arith, refuse′ .refuse .ensures .1 (s′ .args .tokens .now) (s′ .good .1 .0 .0)), λ e. true-false (sym e)),
     )
 
 pub eat-plain-cell-requires : (t : ℕ) → lts.Need-eat-plain-cell-requires (eat-cell-claims t) (eat-cell-at t) reads.Post
@@ -52,8 +52,8 @@ returns-2 t c =
     let eat-plain-cell′ = if2′ .before .before .before .before .before .before .before in
     let if1′ = eat-plain-cell′ .before .before .before .before in
     let s′ = if1′ .before .before .before .before .before in (
-      way (s′ .args .room - 1) (c-yes (c-walk (eat-plain-cell′ .eat-plain-cell .ensures .0 (walk-rule (s′ .args .room - 1) (tokens-of (s′ .args .t .now))) unlabelled)) (if2′ .if2 .taken) (c-ret-yes (if2′ .if2 .taken))) ∙ cell-body-parts (s′ .args .room - 1) (tokens-of (s′ .args .t .now)) (s′ .args .at-end) _ ∙ rule-body (s′ .args .room) (tokens-of (s′ .args .t .now)) (eat-cell (s′ .args .at-end)) _ (omega (arith, eqb-false (s′ .args .room) 0 (if1′ .if1 .left))),
-      (omega (arith, eat-plain-cell′ .eat-plain-cell .ensures .1 .0, eat-plain-cell′ .eat-plain-cell .ensures .1 .1 (if2′ .if2 .taken), eqb-false (s′ .args .room) 0 (if1′ .if1 .left)), λ e. omega (arith, eat-plain-cell′ .eat-plain-cell .ensures .1 .0, eat-plain-cell′ .eat-plain-cell .ensures .1 .1 (if2′ .if2 .taken), eqb-false (s′ .args .room) 0 (if1′ .if1 .left))),
+      way (s′ .args .allowed - 1) (c-yes (c-walk (eat-plain-cell′ .eat-plain-cell .ensures .0 (walk-rule (s′ .args .allowed - 1) (tokens-of (s′ .args .tokens .now))) unlabelled)) (if2′ .if2 .taken) (c-ret-yes (if2′ .if2 .taken))) ∙ cell-body-parts (s′ .args .allowed - 1) (tokens-of (s′ .args .tokens .now)) (s′ .args .until-end) _ ∙ rule-body (s′ .args .allowed) (tokens-of (s′ .args .tokens .now)) (eat-cell (s′ .args .until-end)) _ (omega (arith, eqb-false (s′ .args .allowed) 0 (if1′ .if1 .left))),
+      (omega (arith, eat-plain-cell′ .eat-plain-cell .ensures .1 .0, eat-plain-cell′ .eat-plain-cell .ensures .1 .1 (if2′ .if2 .taken), eqb-false (s′ .args .allowed) 0 (if1′ .if1 .left)), λ e. omega (arith, eat-plain-cell′ .eat-plain-cell .ensures .1 .0, eat-plain-cell′ .eat-plain-cell .ensures .1 .1 (if2′ .if2 .taken), eqb-false (s′ .args .allowed) 0 (if1′ .if1 .left))),
     )
 
 pub silent-at-requires : (t : ℕ) → lts.Need-silent-at-requires (eat-cell-claims t) (eat-cell-at t) reads.Post
@@ -63,7 +63,7 @@ pub sub-dt-expr : (t : ℕ) → lts.Need-sub-dt-expr (eat-cell-claims t) (eat-ce
 sub-dt-expr t c =
     let if1′ = c .before .before .before .before .before .before .before .before .before .before .before .before .before .before .before .before in
     let s′ = if1′ .before .before .before .before .before in
-    omega (arith, eqb-false (s′ .args .room) 0 (if1′ .if1 .left))
+    omega (arith, eqb-false (s′ .args .allowed) 0 (if1′ .if1 .left))
 
 pub dt-expr-requires : (t : ℕ) → lts.Need-dt-expr-requires (eat-cell-claims t) (eat-cell-at t) reads.Post
 dt-expr-requires t c κs = tt
@@ -96,15 +96,15 @@ returns-3 t c =
     let eat-plain-cell′ = if2′ .before .before .before .before .before .before .before in
     let if1′ = eat-plain-cell′ .before .before .before .before in
     let s′ = if1′ .before .before .before .before .before in (
-      way (s′ .args .room - 1) (c-no (c-walk (eat-plain-cell′ .eat-plain-cell .ensures .0 (walk-rule (s′ .args .room - 1) (tokens-of (s′ .args .t .now))) unlabelled)) (if2′ .if2 .left) (c-yes (c-act (silent-at′ .silent-at .ensures .0 unlabelled _ _ _)) (if3′ .if3 .taken) (c-seq (c-fn (s′ .args .room - 1) (dt-expr′ .dt-expr .ensures .0)) c-ret))) ∙ cell-body-parts (s′ .args .room - 1) (tokens-of (s′ .args .t .now)) (s′ .args .at-end) _ ∙ rule-body (s′ .args .room) (tokens-of (s′ .args .t .now)) (eat-cell (s′ .args .at-end)) _ (omega (arith, eqb-false (s′ .args .room) 0 (if1′ .if1 .left))),
-      (omega (arith, eat-plain-cell′ .eat-plain-cell .ensures .1 .0, silent-at′ .silent-at .ensures .1 .0, silent-at′ .silent-at .ensures .1 .1 (if3′ .if3 .taken), dt-expr′ .dt-expr .ensures .1, eqb-false (s′ .args .room) 0 (if1′ .if1 .left)), λ e. omega (arith, eat-plain-cell′ .eat-plain-cell .ensures .1 .0, silent-at′ .silent-at .ensures .1 .0, silent-at′ .silent-at .ensures .1 .1 (if3′ .if3 .taken), dt-expr′ .dt-expr .ensures .1, eqb-false (s′ .args .room) 0 (if1′ .if1 .left))),
+      way (s′ .args .allowed - 1) (c-no (c-walk (eat-plain-cell′ .eat-plain-cell .ensures .0 (walk-rule (s′ .args .allowed - 1) (tokens-of (s′ .args .tokens .now))) unlabelled)) (if2′ .if2 .left) (c-yes (c-act (silent-at′ .silent-at .ensures .0 unlabelled _ _ _)) (if3′ .if3 .taken) (c-seq (c-fn (s′ .args .allowed - 1) (dt-expr′ .dt-expr .ensures .0)) c-ret))) ∙ cell-body-parts (s′ .args .allowed - 1) (tokens-of (s′ .args .tokens .now)) (s′ .args .until-end) _ ∙ rule-body (s′ .args .allowed) (tokens-of (s′ .args .tokens .now)) (eat-cell (s′ .args .until-end)) _ (omega (arith, eqb-false (s′ .args .allowed) 0 (if1′ .if1 .left))),
+      (omega (arith, eat-plain-cell′ .eat-plain-cell .ensures .1 .0, silent-at′ .silent-at .ensures .1 .0, silent-at′ .silent-at .ensures .1 .1 (if3′ .if3 .taken), dt-expr′ .dt-expr .ensures .1, eqb-false (s′ .args .allowed) 0 (if1′ .if1 .left)), λ e. omega (arith, eat-plain-cell′ .eat-plain-cell .ensures .1 .0, silent-at′ .silent-at .ensures .1 .0, silent-at′ .silent-at .ensures .1 .1 (if3′ .if3 .taken), dt-expr′ .dt-expr .ensures .1, eqb-false (s′ .args .allowed) 0 (if1′ .if1 .left))),
     )
 
 pub sub-cell2 : (t : ℕ) → lts.Need-sub-cell2 (eat-cell-claims t) (eat-cell-at t) reads.Post
 sub-cell2 t c =
     let if1′ = c .before .before .before .before .before .before .before .before .before .before .before .before .before .before .before .before in
     let s′ = if1′ .before .before .before .before .before in
-    omega (arith, eqb-false (s′ .args .room) 0 (if1′ .if1 .left))
+    omega (arith, eqb-false (s′ .args .allowed) 0 (if1′ .if1 .left))
 
 pub cell2-requires : (t : ℕ) → lts.Need-cell2-requires (eat-cell-claims t) (eat-cell-at t) reads.Post
 cell2-requires t c κs =
@@ -112,7 +112,7 @@ cell2-requires t c κs =
     let eat-plain-cell′ = silent-at′ .before .before .before .before .before .before .before .before in
     let if1′ = eat-plain-cell′ .before .before .before .before in
     let s′ = if1′ .before .before .before .before .before in
-    (omega (arith, eat-plain-cell′ .eat-plain-cell .ensures .1 .0, silent-at′ .silent-at .ensures .1 .0, s′ .pre .0, eqb-false (s′ .args .room) 0 (if1′ .if1 .left)), tt)
+    (omega (arith, eat-plain-cell′ .eat-plain-cell .ensures .1 .0, silent-at′ .silent-at .ensures .1 .0, s′ .pre .0, eqb-false (s′ .args .allowed) 0 (if1′ .if1 .left)), tt)
 
 pub same-length-7 : (t : ℕ) → lts.Need-same-length-7 (eat-cell-claims t) (eat-cell-at t) reads.Post
 same-length-7 t c =
@@ -142,6 +142,6 @@ returns-4 t c =
     let eat-plain-cell′ = if2′ .before .before .before .before .before .before .before in
     let if1′ = eat-plain-cell′ .before .before .before .before in
     let s′ = if1′ .before .before .before .before .before in (
-      way (s′ .args .room - 1) (c-no (c-walk (eat-plain-cell′ .eat-plain-cell .ensures .0 (walk-rule (s′ .args .room - 1) (tokens-of (s′ .args .t .now))) unlabelled)) (if2′ .if2 .left) (c-no (c-act (silent-at′ .silent-at .ensures .0 unlabelled _ _ _)) (if3′ .if3 .left) (c-fn (s′ .args .room - 1) (cell2′ .cell2 .ensures .0)))) ∙ cell-body-parts (s′ .args .room - 1) (tokens-of (s′ .args .t .now)) (s′ .args .at-end) _ ∙ rule-body (s′ .args .room) (tokens-of (s′ .args .t .now)) (eat-cell (s′ .args .at-end)) _ (omega (arith, eqb-false (s′ .args .room) 0 (if1′ .if1 .left))),
-      (omega (arith, eat-plain-cell′ .eat-plain-cell .ensures .1 .0, silent-at′ .silent-at .ensures .1 .0, cell2′ .cell2 .ensures .1 .0, eqb-false (s′ .args .room) 0 (if1′ .if1 .left)), λ e. omega (arith, eat-plain-cell′ .eat-plain-cell .ensures .1 .0, silent-at′ .silent-at .ensures .1 .0, cell2′ .cell2 .ensures .1 .0, eqb-false (s′ .args .room) 0 (if1′ .if1 .left), cell2′ .cell2 .ensures .1 .1 e)),
+      way (s′ .args .allowed - 1) (c-no (c-walk (eat-plain-cell′ .eat-plain-cell .ensures .0 (walk-rule (s′ .args .allowed - 1) (tokens-of (s′ .args .tokens .now))) unlabelled)) (if2′ .if2 .left) (c-no (c-act (silent-at′ .silent-at .ensures .0 unlabelled _ _ _)) (if3′ .if3 .left) (c-fn (s′ .args .allowed - 1) (cell2′ .cell2 .ensures .0)))) ∙ cell-body-parts (s′ .args .allowed - 1) (tokens-of (s′ .args .tokens .now)) (s′ .args .until-end) _ ∙ rule-body (s′ .args .allowed) (tokens-of (s′ .args .tokens .now)) (eat-cell (s′ .args .until-end)) _ (omega (arith, eqb-false (s′ .args .allowed) 0 (if1′ .if1 .left))),
+      (omega (arith, eat-plain-cell′ .eat-plain-cell .ensures .1 .0, silent-at′ .silent-at .ensures .1 .0, cell2′ .cell2 .ensures .1 .0, eqb-false (s′ .args .allowed) 0 (if1′ .if1 .left)), λ e. omega (arith, eat-plain-cell′ .eat-plain-cell .ensures .1 .0, silent-at′ .silent-at .ensures .1 .0, cell2′ .cell2 .ensures .1 .0, eqb-false (s′ .args .allowed) 0 (if1′ .if1 .left), cell2′ .cell2 .ensures .1 .1 e)),
     )

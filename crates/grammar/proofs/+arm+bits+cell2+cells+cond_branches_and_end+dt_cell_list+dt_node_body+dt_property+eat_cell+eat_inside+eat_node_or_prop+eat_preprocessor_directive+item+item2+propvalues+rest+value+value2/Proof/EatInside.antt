@@ -59,7 +59,7 @@ returns t c =
     let item′ = c .before .before .before .before .before .before in
     let enum-told′ = item′ .before .before .before .before in
     let s′ = enum-told′ .before .before .before .before .before .before in (
-      way (s′ .args .room) (c-inside (enum-told′ .enum-told .given .1) (c-call-on (s′ .args .room) (item′ .item .ensures .0) c-ret)),
+      way (s′ .args .allowed) (c-inside (enum-told′ .enum-told .given .1) (c-call-on (s′ .args .allowed) (item′ .item .ensures .0) c-ret)),
       (omega (arith, item′ .item .ensures .1), λ e. omega (arith, item′ .item .ensures .1)),
     )
 
@@ -84,7 +84,7 @@ returns-2 t c =
     let propvalues′ = c .before .before .before .before .before .before .before in
     let inside′ = propvalues′ .before .before .before .before .before in
     let s′ = inside′ .before .before .before .before .before .before in (
-      way (s′ .args .room) (c-inside (inside′ .inside .given .1) (c-seq (c-call (s′ .args .room) (propvalues′ .propvalues .ensures .0)) c-ret)),
+      way (s′ .args .allowed) (c-inside (inside′ .inside .given .1) (c-seq (c-call (s′ .args .allowed) (propvalues′ .propvalues .ensures .0)) c-ret)),
       (omega (arith, propvalues′ .propvalues .ensures .1), λ e. omega (arith, propvalues′ .propvalues .ensures .1)),
     )
 
@@ -109,6 +109,6 @@ returns-3 t c =
     let eat-cell′ = c .before .before .before .before .before .before in
     let inside2′ = eat-cell′ .before .before .before .before .before in
     let s′ = inside2′ .before .before .before .before .before .before in (
-      way (s′ .args .room) (c-inside (inside2′ .inside2 .given .1) (c-call (s′ .args .room) (eat-cell′ .eat-cell .ensures .0))),
+      way (s′ .args .allowed) (c-inside (inside2′ .inside2 .given .1) (c-call (s′ .args .allowed) (eat-cell′ .eat-cell .ensures .0))),
       (omega (arith, eat-cell′ .eat-cell .ensures .1 .0), λ e. omega (arith, eat-cell′ .eat-cell .ensures .1 .0, eat-cell′ .eat-cell .ensures .1 .1 e)),
     )

@@ -5,7 +5,7 @@ use native.Mathlib.Omega.{arith}
 use Rattle.definitions.specs.Token.{tokens-of}
 use Rattle.definitions.specs.Grammar.{eat-node-or-prop}
 use Rattle.machine.specs.Walk.{walk-rule, unlabelled}
-use Rattle.parser.specs.View.{answer-of}
+use Rattle.parser.specs.View.{ans-of}
 use Rattle.machine.proofs.Way.{c-walk, c-ret, c-yes, c-no, c-mark, way}
 use Rattle.parts.proofs.Steps.{true-false, c-said-no, c-said-also, closing, ignored}
 use Rattle.parts.specs.View.{found}
@@ -46,7 +46,7 @@ dt-property-requires t c κs =
     let eat-node-or-prop-prefix′ = at′ .before .before .before .before .before .before .before .before .before in
     let start′ = eat-node-or-prop-prefix′ .before .before .before .before .before .before in
     let s′ = start′ .before .before .before .before .before .before .before in
-    (omega (arith, start′ .start .ensures .1 (s′ .args .t .now), eat-node-or-prop-prefix′ .eat-node-or-prop-prefix .ensures .1, at′ .at .ensures .1 .0, at′ .at .ensures .1 .1 (if1′ .if1 .taken), s′ .pre .0), tt)
+    (omega (arith, start′ .start .ensures .1 (s′ .args .tokens .now), eat-node-or-prop-prefix′ .eat-node-or-prop-prefix .ensures .1, at′ .at .ensures .1 .0, at′ .at .ensures .1 .1 (if1′ .if1 .taken), s′ .pre .0), tt)
 
 pub same-length : (t : ℕ) → lts.Need-same-length (eat-node-or-prop-claims t) (eat-node-or-prop-at t) reads.Post
 same-length t c =
@@ -80,8 +80,8 @@ returns t c =
     let start′ = eat-node-or-prop-prefix′ .before .before .before .before .before .before in
     let new′ = start′ .before .before in
     let s′ = new′ .before .before .before .before .before in (
-      way (s′ .args .room) (c-mark (new′ .new .ensures) (start′ .start .ensures .0 _ _) (c-said-also (eat-node-or-prop-prefix′ .eat-node-or-prop-prefix .result .answer) (c-walk (eat-node-or-prop-prefix′ .eat-node-or-prop-prefix .ensures .0 (walk-rule (s′ .args .room) (tokens-of (s′ .args .t .now))) unlabelled)) (ap answer-of (enum-told2′ .enum-told2 .given .1)) (c-yes (c-walk (at′ .at .ensures .0 (walk-rule (s′ .args .room) (tokens-of (s′ .args .t .now))) unlabelled _ _ _)) (if1′ .if1 .taken) (c-same (s′ .args .room)))) (closing (dt-property′ .dt-property .ensures .0))),
-      (omega (arith, start′ .start .ensures .1 (s′ .args .t .now), eat-node-or-prop-prefix′ .eat-node-or-prop-prefix .ensures .1, at′ .at .ensures .1 .0, at′ .at .ensures .1 .1 (if1′ .if1 .taken), dt-property′ .dt-property .ensures .1, ap found (enum-told2′ .enum-told2 .given .1)), λ e. omega (arith, start′ .start .ensures .1 (s′ .args .t .now), eat-node-or-prop-prefix′ .eat-node-or-prop-prefix .ensures .1, at′ .at .ensures .1 .0, at′ .at .ensures .1 .1 (if1′ .if1 .taken), dt-property′ .dt-property .ensures .1, ap found (enum-told2′ .enum-told2 .given .1))),
+      way (s′ .args .allowed) (c-mark (new′ .new .ensures) (start′ .start .ensures .0 _ _) (c-said-also (eat-node-or-prop-prefix′ .eat-node-or-prop-prefix .result .ans) (c-walk (eat-node-or-prop-prefix′ .eat-node-or-prop-prefix .ensures .0 (walk-rule (s′ .args .allowed) (tokens-of (s′ .args .tokens .now))) unlabelled)) (ap ans-of (enum-told2′ .enum-told2 .given .1)) (c-yes (c-walk (at′ .at .ensures .0 (walk-rule (s′ .args .allowed) (tokens-of (s′ .args .tokens .now))) unlabelled _ _ _)) (if1′ .if1 .taken) (c-same (s′ .args .allowed)))) (closing (dt-property′ .dt-property .ensures .0))),
+      (omega (arith, start′ .start .ensures .1 (s′ .args .tokens .now), eat-node-or-prop-prefix′ .eat-node-or-prop-prefix .ensures .1, at′ .at .ensures .1 .0, at′ .at .ensures .1 .1 (if1′ .if1 .taken), dt-property′ .dt-property .ensures .1, ap found (enum-told2′ .enum-told2 .given .1)), λ e. omega (arith, start′ .start .ensures .1 (s′ .args .tokens .now), eat-node-or-prop-prefix′ .eat-node-or-prop-prefix .ensures .1, at′ .at .ensures .1 .0, at′ .at .ensures .1 .1 (if1′ .if1 .taken), dt-property′ .dt-property .ensures .1, ap found (enum-told2′ .enum-told2 .given .1))),
     )
 
 pub rest-requires : (t : ℕ) → lts.Need-rest-requires (eat-node-or-prop-claims t) (eat-node-or-prop-at t) reads.Post
@@ -90,14 +90,14 @@ rest-requires t c κs =
     let eat-node-or-prop-prefix′ = at′ .before .before .before .before .before .before .before .before .before in
     let start′ = eat-node-or-prop-prefix′ .before .before .before .before .before .before in
     let s′ = start′ .before .before .before .before .before .before .before in
-    (omega (arith, start′ .start .ensures .1 (s′ .args .t .now), eat-node-or-prop-prefix′ .eat-node-or-prop-prefix .ensures .1, at′ .at .ensures .1 .0, s′ .pre .0), tt)
+    (omega (arith, start′ .start .ensures .1 (s′ .args .tokens .now), eat-node-or-prop-prefix′ .eat-node-or-prop-prefix .ensures .1, at′ .at .ensures .1 .0, s′ .pre .0), tt)
 
 pub rest-requires-2 : (t : ℕ) → lts.Need-rest-requires-2 (eat-node-or-prop-claims t) (eat-node-or-prop-at t) reads.Post
 rest-requires-2 t c κs =
     let eat-node-or-prop-prefix′ = c .before .before .before .before .before .before .before .before .before .before in
     let start′ = eat-node-or-prop-prefix′ .before .before .before .before .before .before in
     let s′ = start′ .before .before .before .before .before .before .before in
-    (omega (arith, start′ .start .ensures .1 (s′ .args .t .now), eat-node-or-prop-prefix′ .eat-node-or-prop-prefix .ensures .1, s′ .pre .0), tt)
+    (omega (arith, start′ .start .ensures .1 (s′ .args .tokens .now), eat-node-or-prop-prefix′ .eat-node-or-prop-prefix .ensures .1, s′ .pre .0), tt)
 
 pub same-length-4 : (t : ℕ) → lts.Need-same-length-4 (eat-node-or-prop-claims t) (eat-node-or-prop-at t) reads.Post
 same-length-4 t c =
@@ -129,8 +129,8 @@ returns-2 t c =
     let start′ = eat-node-or-prop-prefix′ .before .before .before .before .before .before in
     let new′ = start′ .before .before in
     let s′ = new′ .before .before .before .before .before in (
-      way (s′ .args .room) (c-mark (new′ .new .ensures) (start′ .start .ensures .0 _ _) (c-said-no (eat-node-or-prop-prefix′ .eat-node-or-prop-prefix .result .answer) (c-walk (eat-node-or-prop-prefix′ .eat-node-or-prop-prefix .ensures .0 (walk-rule (s′ .args .room) (tokens-of (s′ .args .t .now))) unlabelled)) (ap answer-of (enum-told′ .enum-told .given .1)) c-ret) (ignored (ignore′ .ignore .ensures .0 _ _))),
-      (omega (arith, start′ .start .ensures .1 (s′ .args .t .now), eat-node-or-prop-prefix′ .eat-node-or-prop-prefix .ensures .1, ignore′ .ignore .ensures .1 (s′ .args .t .now), ap found (enum-told′ .enum-told .given .1)), λ e. true-false (sym e)),
+      way (s′ .args .allowed) (c-mark (new′ .new .ensures) (start′ .start .ensures .0 _ _) (c-said-no (eat-node-or-prop-prefix′ .eat-node-or-prop-prefix .result .ans) (c-walk (eat-node-or-prop-prefix′ .eat-node-or-prop-prefix .ensures .0 (walk-rule (s′ .args .allowed) (tokens-of (s′ .args .tokens .now))) unlabelled)) (ap ans-of (enum-told′ .enum-told .given .1)) c-ret) (ignored (ignore′ .ignore .ensures .0 _ _))),
+      (omega (arith, start′ .start .ensures .1 (s′ .args .tokens .now), eat-node-or-prop-prefix′ .eat-node-or-prop-prefix .ensures .1, ignore′ .ignore .ensures .1 (s′ .args .tokens .now), ap found (enum-told′ .enum-told .given .1)), λ e. true-false (sym e)),
     )
 
 pub same-length-7 : (t : ℕ) → lts.Need-same-length-7 (eat-node-or-prop-claims t) (eat-node-or-prop-at t) reads.Post
@@ -165,8 +165,8 @@ returns-3 t c =
     let start′ = eat-node-or-prop-prefix′ .before .before .before .before .before .before in
     let new′ = start′ .before .before in
     let s′ = new′ .before .before .before .before .before in (
-      way (s′ .args .room) (c-mark (new′ .new .ensures) (start′ .start .ensures .0 _ _) (c-said-also (eat-node-or-prop-prefix′ .eat-node-or-prop-prefix .result .answer) (c-walk (eat-node-or-prop-prefix′ .eat-node-or-prop-prefix .ensures .0 (walk-rule (s′ .args .room) (tokens-of (s′ .args .t .now))) unlabelled)) (ap answer-of (enum-told2′ .enum-told2 .given .1)) (c-no (c-walk (at′ .at .ensures .0 (walk-rule (s′ .args .room) (tokens-of (s′ .args .t .now))) unlabelled _ _ _)) (if1′ .if1 .left) (c-same (s′ .args .room)))) (closing (rest′ .rest .ensures .0))),
-      (omega (arith, start′ .start .ensures .1 (s′ .args .t .now), eat-node-or-prop-prefix′ .eat-node-or-prop-prefix .ensures .1, at′ .at .ensures .1 .0, rest′ .rest .ensures .1, ap found (enum-told2′ .enum-told2 .given .1)), λ e. omega (arith, start′ .start .ensures .1 (s′ .args .t .now), eat-node-or-prop-prefix′ .eat-node-or-prop-prefix .ensures .1, at′ .at .ensures .1 .0, rest′ .rest .ensures .1, ap found (enum-told2′ .enum-told2 .given .1))),
+      way (s′ .args .allowed) (c-mark (new′ .new .ensures) (start′ .start .ensures .0 _ _) (c-said-also (eat-node-or-prop-prefix′ .eat-node-or-prop-prefix .result .ans) (c-walk (eat-node-or-prop-prefix′ .eat-node-or-prop-prefix .ensures .0 (walk-rule (s′ .args .allowed) (tokens-of (s′ .args .tokens .now))) unlabelled)) (ap ans-of (enum-told2′ .enum-told2 .given .1)) (c-no (c-walk (at′ .at .ensures .0 (walk-rule (s′ .args .allowed) (tokens-of (s′ .args .tokens .now))) unlabelled _ _ _)) (if1′ .if1 .left) (c-same (s′ .args .allowed)))) (closing (rest′ .rest .ensures .0))),
+      (omega (arith, start′ .start .ensures .1 (s′ .args .tokens .now), eat-node-or-prop-prefix′ .eat-node-or-prop-prefix .ensures .1, at′ .at .ensures .1 .0, rest′ .rest .ensures .1, ap found (enum-told2′ .enum-told2 .given .1)), λ e. omega (arith, start′ .start .ensures .1 (s′ .args .tokens .now), eat-node-or-prop-prefix′ .eat-node-or-prop-prefix .ensures .1, at′ .at .ensures .1 .0, rest′ .rest .ensures .1, ap found (enum-told2′ .enum-told2 .given .1))),
     )
 
 pub same-length-10 : (t : ℕ) → lts.Need-same-length-10 (eat-node-or-prop-claims t) (eat-node-or-prop-at t) reads.Post
@@ -199,6 +199,6 @@ returns-4 t c =
     let start′ = eat-node-or-prop-prefix′ .before .before .before .before .before .before in
     let new′ = start′ .before .before in
     let s′ = new′ .before .before .before .before .before in (
-      way (s′ .args .room) (c-mark (new′ .new .ensures) (start′ .start .ensures .0 _ _) (c-said-other (eat-node-or-prop-prefix′ .eat-node-or-prop-prefix .result .answer) (c-walk (eat-node-or-prop-prefix′ .eat-node-or-prop-prefix .ensures .0 (walk-rule (s′ .args .room) (tokens-of (s′ .args .t .now))) unlabelled)) (match0′ .match .keys3) (c-same (s′ .args .room))) (closing (rest2′ .rest2 .ensures .0))),
-      (omega (arith, start′ .start .ensures .1 (s′ .args .t .now), eat-node-or-prop-prefix′ .eat-node-or-prop-prefix .ensures .1, rest2′ .rest2 .ensures .1, found-other (eat-node-or-prop-prefix′ .eat-node-or-prop-prefix .result .answer) (match0′ .match .keys3)), λ e. omega (arith, start′ .start .ensures .1 (s′ .args .t .now), eat-node-or-prop-prefix′ .eat-node-or-prop-prefix .ensures .1, rest2′ .rest2 .ensures .1, found-other (eat-node-or-prop-prefix′ .eat-node-or-prop-prefix .result .answer) (match0′ .match .keys3))),
+      way (s′ .args .allowed) (c-mark (new′ .new .ensures) (start′ .start .ensures .0 _ _) (c-said-other (eat-node-or-prop-prefix′ .eat-node-or-prop-prefix .result .ans) (c-walk (eat-node-or-prop-prefix′ .eat-node-or-prop-prefix .ensures .0 (walk-rule (s′ .args .allowed) (tokens-of (s′ .args .tokens .now))) unlabelled)) (match0′ .match .keys3) (c-same (s′ .args .allowed))) (closing (rest2′ .rest2 .ensures .0))),
+      (omega (arith, start′ .start .ensures .1 (s′ .args .tokens .now), eat-node-or-prop-prefix′ .eat-node-or-prop-prefix .ensures .1, rest2′ .rest2 .ensures .1, found-other (eat-node-or-prop-prefix′ .eat-node-or-prop-prefix .result .ans) (match0′ .match .keys3)), λ e. omega (arith, start′ .start .ensures .1 (s′ .args .tokens .now), eat-node-or-prop-prefix′ .eat-node-or-prop-prefix .ensures .1, rest2′ .rest2 .ensures .1, found-other (eat-node-or-prop-prefix′ .eat-node-or-prop-prefix .result .ans) (match0′ .match .keys3))),
     )

@@ -49,7 +49,7 @@ cond-branches-and-end-requires t c κs =
     let silent-at-set′ = if1′ .before in
     let add-expected′ = silent-at-set′ .before .before in
     let s′ = add-expected′ .before .before .before .before .before in
-    (omega (arith, add-expected′ .add-expected .ensures .1 (s′ .args .t .now), silent-at-set′ .silent-at-set .ensures .1 .0, silent-at-set′ .silent-at-set .ensures .1 .1 (if1′ .if1 .taken), silent-at-set2′ .silent-at-set2 .ensures .1 .0, silent-at-set2′ .silent-at-set2 .ensures .1 .1 (if2′ .if2 .taken), start′ .start .ensures .1 (s′ .args .t .now), bump′ .bump .ensures .1, s′ .pre .0), tt)
+    (omega (arith, add-expected′ .add-expected .ensures .1 (s′ .args .tokens .now), silent-at-set′ .silent-at-set .ensures .1 .0, silent-at-set′ .silent-at-set .ensures .1 .1 (if1′ .if1 .taken), silent-at-set2′ .silent-at-set2 .ensures .1 .0, silent-at-set2′ .silent-at-set2 .ensures .1 .1 (if2′ .if2 .taken), start′ .start .ensures .1 (s′ .args .tokens .now), bump′ .bump .ensures .1, s′ .pre .0), tt)
 
 pub complete-requires : (t : ℕ) → lts.Need-complete-requires (eat-preprocessor-directive-claims t) (eat-preprocessor-directive-at t) reads.Post
 complete-requires t c κs = tt
@@ -92,8 +92,8 @@ returns t c =
     let silent-at-set′ = if1′ .before in
     let add-expected′ = silent-at-set′ .before .before in
     let s′ = add-expected′ .before .before .before .before .before in (
-      way (s′ .args .room) (c-seq (c-act (add-expected′ .add-expected .ensures .0 (tokens-of (s′ .args .t .now)) unlabelled _ _ _)) (c-no {t = false} (c-yes (c-act (silent-at-set′ .silent-at-set .ensures .0 unlabelled _ _ _)) (if1′ .if1 .taken) c-ret) refl (c-yes (c-act (silent-at-set2′ .silent-at-set2 .ensures .0 unlabelled _ _ _)) (if2′ .if2 .taken) (c-seq (c-mark (new′ .new .ensures) (start′ .start .ensures .0 _ _) (c-assoc (c-seq (c-act (bump′ .bump .ensures .0 unlabelled _ _)) (c-part-on (s′ .args .room) (cond-branches-and-end′ .cond-branches-and-end .ensures .0) c-ret))) (completed 12 (complete′ .complete .ensures .0 _ _))) c-ret)))),
-      (omega (arith, add-expected′ .add-expected .ensures .1 (s′ .args .t .now), silent-at-set′ .silent-at-set .ensures .1 .0, silent-at-set′ .silent-at-set .ensures .1 .1 (if1′ .if1 .taken), silent-at-set2′ .silent-at-set2 .ensures .1 .0, silent-at-set2′ .silent-at-set2 .ensures .1 .1 (if2′ .if2 .taken), start′ .start .ensures .1 (s′ .args .t .now), bump′ .bump .ensures .1, cond-branches-and-end′ .cond-branches-and-end .ensures .1, complete′ .complete .ensures .1 (s′ .args .t .now)), λ e. omega (arith, add-expected′ .add-expected .ensures .1 (s′ .args .t .now), silent-at-set′ .silent-at-set .ensures .1 .0, silent-at-set′ .silent-at-set .ensures .1 .1 (if1′ .if1 .taken), silent-at-set2′ .silent-at-set2 .ensures .1 .0, silent-at-set2′ .silent-at-set2 .ensures .1 .1 (if2′ .if2 .taken), start′ .start .ensures .1 (s′ .args .t .now), bump′ .bump .ensures .1, cond-branches-and-end′ .cond-branches-and-end .ensures .1, complete′ .complete .ensures .1 (s′ .args .t .now))),
+      way (s′ .args .allowed) (c-seq (c-act (add-expected′ .add-expected .ensures .0 (tokens-of (s′ .args .tokens .now)) unlabelled _ _ _)) (c-no {t = false} (c-yes (c-act (silent-at-set′ .silent-at-set .ensures .0 unlabelled _ _ _)) (if1′ .if1 .taken) c-ret) refl (c-yes (c-act (silent-at-set2′ .silent-at-set2 .ensures .0 unlabelled _ _ _)) (if2′ .if2 .taken) (c-seq (c-mark (new′ .new .ensures) (start′ .start .ensures .0 _ _) (c-assoc (c-seq (c-act (bump′ .bump .ensures .0 unlabelled _ _)) (c-part-on (s′ .args .allowed) (cond-branches-and-end′ .cond-branches-and-end .ensures .0) c-ret))) (completed 12 (complete′ .complete .ensures .0 _ _))) c-ret)))),
+      (omega (arith, add-expected′ .add-expected .ensures .1 (s′ .args .tokens .now), silent-at-set′ .silent-at-set .ensures .1 .0, silent-at-set′ .silent-at-set .ensures .1 .1 (if1′ .if1 .taken), silent-at-set2′ .silent-at-set2 .ensures .1 .0, silent-at-set2′ .silent-at-set2 .ensures .1 .1 (if2′ .if2 .taken), start′ .start .ensures .1 (s′ .args .tokens .now), bump′ .bump .ensures .1, cond-branches-and-end′ .cond-branches-and-end .ensures .1, complete′ .complete .ensures .1 (s′ .args .tokens .now)), λ e. omega (arith, add-expected′ .add-expected .ensures .1 (s′ .args .tokens .now), silent-at-set′ .silent-at-set .ensures .1 .0, silent-at-set′ .silent-at-set .ensures .1 .1 (if1′ .if1 .taken), silent-at-set2′ .silent-at-set2 .ensures .1 .0, silent-at-set2′ .silent-at-set2 .ensures .1 .1 (if2′ .if2 .taken), start′ .start .ensures .1 (s′ .args .tokens .now), bump′ .bump .ensures .1, cond-branches-and-end′ .cond-branches-and-end .ensures .1, complete′ .complete .ensures .1 (s′ .args .tokens .now))),
     )
 
 pub bump-requires-2 : (t : ℕ) → lts.Need-bump-requires-2 (eat-preprocessor-directive-claims t) (eat-preprocessor-directive-at t) reads.Post
@@ -114,8 +114,8 @@ returns-2 t c =
     let silent-at-set′ = if1′ .before in
     let add-expected′ = silent-at-set′ .before .before in
     let s′ = add-expected′ .before .before .before .before .before in (
-      way (s′ .args .room) (c-seq (c-act (add-expected′ .add-expected .ensures .0 (tokens-of (s′ .args .t .now)) unlabelled _ _ _)) (c-no {t = false} (c-yes (c-act (silent-at-set′ .silent-at-set .ensures .0 unlabelled _ _ _)) (if1′ .if1 .taken) c-ret) refl (c-no (c-act (silent-at-set2′ .silent-at-set2 .ensures .0 unlabelled _ _ _)) (if2′ .if2 .left) (c-seq (c-act (bump2′ .bump2 .ensures .0 unlabelled _ _)) c-ret)))),
-      (omega (arith, add-expected′ .add-expected .ensures .1 (s′ .args .t .now), silent-at-set′ .silent-at-set .ensures .1 .0, silent-at-set′ .silent-at-set .ensures .1 .1 (if1′ .if1 .taken), silent-at-set2′ .silent-at-set2 .ensures .1 .0, bump2′ .bump2 .ensures .1), λ e. omega (arith, add-expected′ .add-expected .ensures .1 (s′ .args .t .now), silent-at-set′ .silent-at-set .ensures .1 .0, silent-at-set′ .silent-at-set .ensures .1 .1 (if1′ .if1 .taken), silent-at-set2′ .silent-at-set2 .ensures .1 .0, bump2′ .bump2 .ensures .1)),
+      way (s′ .args .allowed) (c-seq (c-act (add-expected′ .add-expected .ensures .0 (tokens-of (s′ .args .tokens .now)) unlabelled _ _ _)) (c-no {t = false} (c-yes (c-act (silent-at-set′ .silent-at-set .ensures .0 unlabelled _ _ _)) (if1′ .if1 .taken) c-ret) refl (c-no (c-act (silent-at-set2′ .silent-at-set2 .ensures .0 unlabelled _ _ _)) (if2′ .if2 .left) (c-seq (c-act (bump2′ .bump2 .ensures .0 unlabelled _ _)) c-ret)))),
+      (omega (arith, add-expected′ .add-expected .ensures .1 (s′ .args .tokens .now), silent-at-set′ .silent-at-set .ensures .1 .0, silent-at-set′ .silent-at-set .ensures .1 .1 (if1′ .if1 .taken), silent-at-set2′ .silent-at-set2 .ensures .1 .0, bump2′ .bump2 .ensures .1), λ e. omega (arith, add-expected′ .add-expected .ensures .1 (s′ .args .tokens .now), silent-at-set′ .silent-at-set .ensures .1 .0, silent-at-set′ .silent-at-set .ensures .1 .1 (if1′ .if1 .taken), silent-at-set2′ .silent-at-set2 .ensures .1 .0, bump2′ .bump2 .ensures .1)),
     )
 
 pub returns-3 : (t : ℕ) → lts.Need-returns-3 (eat-preprocessor-directive-claims t) (eat-preprocessor-directive-at t) reads.Post
@@ -125,6 +125,6 @@ returns-3 t c =
     let silent-at-set′ = if1′ .before in
     let add-expected′ = silent-at-set′ .before .before in
     let s′ = add-expected′ .before .before .before .before .before in (
-      way (s′ .args .room) (c-seq (c-act (add-expected′ .add-expected .ensures .0 (tokens-of (s′ .args .t .now)) unlabelled _ _ _)) (c-yes {t = true} (c-no (c-act (silent-at-set′ .silent-at-set .ensures .0 unlabelled _ _ _)) (if1′ .if1 .left) c-ret) refl (c-ret-no (if1′ .if1 .left)))),
-      (omega (arith, add-expected′ .add-expected .ensures .1 (s′ .args .t .now), silent-at-set′ .silent-at-set .ensures .1 .0), λ e. true-false (sym e ∙ if1′ .if1 .left)),
+      way (s′ .args .allowed) (c-seq (c-act (add-expected′ .add-expected .ensures .0 (tokens-of (s′ .args .tokens .now)) unlabelled _ _ _)) (c-yes {t = true} (c-no (c-act (silent-at-set′ .silent-at-set .ensures .0 unlabelled _ _ _)) (if1′ .if1 .left) c-ret) refl (c-ret-no (if1′ .if1 .left)))),
+      (omega (arith, add-expected′ .add-expected .ensures .1 (s′ .args .tokens .now), silent-at-set′ .silent-at-set .ensures .1 .0), λ e. true-false (sym e ∙ if1′ .if1 .left)),
     )

@@ -24,21 +24,21 @@ returns t c =
     let refuse′ = c in
     let if1′ = refuse′ .before in
     let s′ = if1′ .before .before .before .before .before in (
-      ap (λ (w : Walked). w .on) (ap (said no) (refuse′ .refuse .ensures .0 _ _ _) ∙ rule-closed (s′ .args .room) (tokens-of (s′ .args .t .now)) item _ (eqb-true (s′ .args .room) 0 (if1′ .if1 .taken))),
-      omega (arith, refuse′ .refuse .ensures .1 (s′ .args .t .now) (s′ .good .1 .0 .0)),
+      ap (λ (w : Walked). w .on) (ap (said no) (refuse′ .refuse .ensures .0 _ _ _) ∙ rule-closed (s′ .args .allowed) (tokens-of (s′ .args .tokens .now)) item _ (eqb-true (s′ .args .allowed) 0 (if1′ .if1 .taken))),
+      omega (arith, refuse′ .refuse .ensures .1 (s′ .args .tokens .now) (s′ .good .1 .0 .0)),
     )
 
 pub sub-eat-node-or-prop : (t : ℕ) → lts.Need-sub-eat-node-or-prop (item-claims t) (item-at t) reads.Post
 sub-eat-node-or-prop t c =
     let if1′ = c .before .before .before in
     let s′ = if1′ .before .before .before .before .before in
-    omega (arith, eqb-false (s′ .args .room) 0 (if1′ .if1 .left))
+    omega (arith, eqb-false (s′ .args .allowed) 0 (if1′ .if1 .left))
 
 pub eat-node-or-prop-requires : (t : ℕ) → lts.Need-eat-node-or-prop-requires (item-claims t) (item-at t) reads.Post
 eat-node-or-prop-requires t c κs =
     let if1′ = c .before .before .before in
     let s′ = if1′ .before .before .before .before .before in
-    (omega (arith, s′ .pre .0, eqb-false (s′ .args .room) 0 (if1′ .if1 .left)), tt)
+    (omega (arith, s′ .pre .0, eqb-false (s′ .args .allowed) 0 (if1′ .if1 .left)), tt)
 
 pub same-length : (t : ℕ) → lts.Need-same-length (item-claims t) (item-at t) reads.Post
 same-length t c =
@@ -62,8 +62,8 @@ returns-2 t c =
     let eat-node-or-prop′ = if2′ .before .before .before .before .before .before .before in
     let if1′ = eat-node-or-prop′ .before .before .before .before in
     let s′ = if1′ .before .before .before .before .before in (
-      ap (λ (w : Walked). w .on) (way (s′ .args .room - 1) (c-yes (c-fn (s′ .args .room - 1) (eat-node-or-prop′ .eat-node-or-prop .ensures .0)) (if2′ .if2 .taken) c-ret) ∙ rule-body (s′ .args .room) (tokens-of (s′ .args .t .now)) item _ (omega (arith, eqb-false (s′ .args .room) 0 (if1′ .if1 .left)))),
-      omega (arith, eat-node-or-prop′ .eat-node-or-prop .ensures .1 .0, eat-node-or-prop′ .eat-node-or-prop .ensures .1 .1 (if2′ .if2 .taken), eqb-false (s′ .args .room) 0 (if1′ .if1 .left)),
+      ap (λ (w : Walked). w .on) (way (s′ .args .allowed - 1) (c-yes (c-fn (s′ .args .allowed - 1) (eat-node-or-prop′ .eat-node-or-prop .ensures .0)) (if2′ .if2 .taken) c-ret) ∙ rule-body (s′ .args .allowed) (tokens-of (s′ .args .tokens .now)) item _ (omega (arith, eqb-false (s′ .args .allowed) 0 (if1′ .if1 .left)))),
+      omega (arith, eat-node-or-prop′ .eat-node-or-prop .ensures .1 .0, eat-node-or-prop′ .eat-node-or-prop .ensures .1 .1 (if2′ .if2 .taken), eqb-false (s′ .args .allowed) 0 (if1′ .if1 .left)),
     )
 
 pub silent-at-requires : (t : ℕ) → lts.Need-silent-at-requires (item-claims t) (item-at t) reads.Post
@@ -88,7 +88,7 @@ pub sub-dt-property : (t : ℕ) → lts.Need-sub-dt-property (item-claims t) (it
 sub-dt-property t c =
     let if1′ = c .before .before .before .before .before .before .before .before .before .before .before .before .before .before .before .before .before .before .before .before .before .before .before .before .before .before .before .before .before .before .before .before .before .before .before .before in
     let s′ = if1′ .before .before .before .before .before in
-    omega (arith, eqb-false (s′ .args .room) 0 (if1′ .if1 .left))
+    omega (arith, eqb-false (s′ .args .allowed) 0 (if1′ .if1 .left))
 
 pub dt-property-requires : (t : ℕ) → lts.Need-dt-property-requires (item-claims t) (item-at t) reads.Post
 dt-property-requires t c κs =
@@ -100,7 +100,7 @@ dt-property-requires t c κs =
     let eat-node-or-prop′ = silent-at′ .before .before .before .before .before .before .before .before in
     let if1′ = eat-node-or-prop′ .before .before .before .before in
     let s′ = if1′ .before .before .before .before .before in
-    (omega (arith, eat-node-or-prop′ .eat-node-or-prop .ensures .1 .0, silent-at′ .silent-at .ensures .1 .0, silent-at′ .silent-at .ensures .1 .1 (if3′ .if3 .taken), start′ .start .ensures .1 (s′ .args .t .now), error′ .error .ensures .1, start2′ .start2 .ensures .1 (s′ .args .t .now), s′ .pre .0, eqb-false (s′ .args .room) 0 (if1′ .if1 .left)), tt)
+    (omega (arith, eat-node-or-prop′ .eat-node-or-prop .ensures .1 .0, silent-at′ .silent-at .ensures .1 .0, silent-at′ .silent-at .ensures .1 .1 (if3′ .if3 .taken), start′ .start .ensures .1 (s′ .args .tokens .now), error′ .error .ensures .1, start2′ .start2 .ensures .1 (s′ .args .tokens .now), s′ .pre .0, eqb-false (s′ .args .allowed) 0 (if1′ .if1 .left)), tt)
 
 pub complete-requires : (t : ℕ) → lts.Need-complete-requires (item-claims t) (item-at t) reads.Post
 complete-requires t c κs = tt
@@ -151,8 +151,8 @@ returns-3 t c =
     let eat-node-or-prop′ = if2′ .before .before .before .before .before .before .before in
     let if1′ = eat-node-or-prop′ .before .before .before .before in
     let s′ = if1′ .before .before .before .before .before in (
-      ap (λ (w : Walked). w .on) (way (s′ .args .room - 1) (c-no (c-fn (s′ .args .room - 1) (eat-node-or-prop′ .eat-node-or-prop .ensures .0)) (if2′ .if2 .left) (c-yes (c-act (silent-at′ .silent-at .ensures .0 unlabelled _ _ _)) (if3′ .if3 .taken) (c-mark (new′ .new .ensures) (start′ .start .ensures .0 _ _) (c-seq (c-seq (c-walk (error′ .error .ensures .0 (walk-rule (s′ .args .room - 1) (tokens-of (s′ .args .t .now))) unlabelled)) (c-mark (new2′ .new2 .ensures) (start2′ .start2 .ensures .0 _ _) (c-same (s′ .args .room - 1)) (closing (dt-property′ .dt-property .ensures .0)))) c-ret) (completed 9 (complete′ .complete .ensures .0 _ _))))) ∙ rule-body (s′ .args .room) (tokens-of (s′ .args .t .now)) item _ (omega (arith, eqb-false (s′ .args .room) 0 (if1′ .if1 .left)))),
-      omega (arith, eat-node-or-prop′ .eat-node-or-prop .ensures .1 .0, silent-at′ .silent-at .ensures .1 .0, silent-at′ .silent-at .ensures .1 .1 (if3′ .if3 .taken), start′ .start .ensures .1 (s′ .args .t .now), error′ .error .ensures .1, start2′ .start2 .ensures .1 (s′ .args .t .now), dt-property′ .dt-property .ensures .1, complete′ .complete .ensures .1 (s′ .args .t .now), eqb-false (s′ .args .room) 0 (if1′ .if1 .left)),
+      ap (λ (w : Walked). w .on) (way (s′ .args .allowed - 1) (c-no (c-fn (s′ .args .allowed - 1) (eat-node-or-prop′ .eat-node-or-prop .ensures .0)) (if2′ .if2 .left) (c-yes (c-act (silent-at′ .silent-at .ensures .0 unlabelled _ _ _)) (if3′ .if3 .taken) (c-mark (new′ .new .ensures) (start′ .start .ensures .0 _ _) (c-seq (c-seq (c-walk (error′ .error .ensures .0 (walk-rule (s′ .args .allowed - 1) (tokens-of (s′ .args .tokens .now))) unlabelled)) (c-mark (new2′ .new2 .ensures) (start2′ .start2 .ensures .0 _ _) (c-same (s′ .args .allowed - 1)) (closing (dt-property′ .dt-property .ensures .0)))) c-ret) (completed 9 (complete′ .complete .ensures .0 _ _))))) ∙ rule-body (s′ .args .allowed) (tokens-of (s′ .args .tokens .now)) item _ (omega (arith, eqb-false (s′ .args .allowed) 0 (if1′ .if1 .left)))),
+      omega (arith, eat-node-or-prop′ .eat-node-or-prop .ensures .1 .0, silent-at′ .silent-at .ensures .1 .0, silent-at′ .silent-at .ensures .1 .1 (if3′ .if3 .taken), start′ .start .ensures .1 (s′ .args .tokens .now), error′ .error .ensures .1, start2′ .start2 .ensures .1 (s′ .args .tokens .now), dt-property′ .dt-property .ensures .1, complete′ .complete .ensures .1 (s′ .args .tokens .now), eqb-false (s′ .args .allowed) 0 (if1′ .if1 .left)),
     )
 
 pub silent-at-requires-2 : (t : ℕ) → lts.Need-silent-at-requires-2 (item-claims t) (item-at t) reads.Post
@@ -177,7 +177,7 @@ pub sub-dt-node-body : (t : ℕ) → lts.Need-sub-dt-node-body (item-claims t) (
 sub-dt-node-body t c =
     let if1′ = c .before .before .before .before .before .before .before .before .before .before .before .before .before .before .before .before .before .before .before .before .before .before .before .before .before .before .before .before .before .before .before .before .before .before .before .before .before .before in
     let s′ = if1′ .before .before .before .before .before in
-    omega (arith, eqb-false (s′ .args .room) 0 (if1′ .if1 .left))
+    omega (arith, eqb-false (s′ .args .allowed) 0 (if1′ .if1 .left))
 
 pub dt-node-body-requires : (t : ℕ) → lts.Need-dt-node-body-requires (item-claims t) (item-at t) reads.Post
 dt-node-body-requires t c κs =
@@ -190,7 +190,7 @@ dt-node-body-requires t c κs =
     let eat-node-or-prop′ = silent-at′ .before .before .before .before .before .before .before .before in
     let if1′ = eat-node-or-prop′ .before .before .before .before in
     let s′ = if1′ .before .before .before .before .before in
-    (omega (arith, eat-node-or-prop′ .eat-node-or-prop .ensures .1 .0, silent-at′ .silent-at .ensures .1 .0, silent-at2′ .silent-at2 .ensures .1 .0, silent-at2′ .silent-at2 .ensures .1 .1 (if4′ .if4 .taken), start3′ .start3 .ensures .1 (s′ .args .t .now), error2′ .error2 .ensures .1, start4′ .start4 .ensures .1 (s′ .args .t .now), s′ .pre .0, eqb-false (s′ .args .room) 0 (if1′ .if1 .left)), tt)
+    (omega (arith, eat-node-or-prop′ .eat-node-or-prop .ensures .1 .0, silent-at′ .silent-at .ensures .1 .0, silent-at2′ .silent-at2 .ensures .1 .0, silent-at2′ .silent-at2 .ensures .1 .1 (if4′ .if4 .taken), start3′ .start3 .ensures .1 (s′ .args .tokens .now), error2′ .error2 .ensures .1, start4′ .start4 .ensures .1 (s′ .args .tokens .now), s′ .pre .0, eqb-false (s′ .args .allowed) 0 (if1′ .if1 .left)), tt)
 
 pub complete-requires-2 : (t : ℕ) → lts.Need-complete-requires-2 (item-claims t) (item-at t) reads.Post
 complete-requires-2 t c κs = tt
@@ -243,15 +243,15 @@ returns-4 t c =
     let eat-node-or-prop′ = if2′ .before .before .before .before .before .before .before in
     let if1′ = eat-node-or-prop′ .before .before .before .before in
     let s′ = if1′ .before .before .before .before .before in (
-      ap (λ (w : Walked). w .on) (way (s′ .args .room - 1) (c-no (c-fn (s′ .args .room - 1) (eat-node-or-prop′ .eat-node-or-prop .ensures .0)) (if2′ .if2 .left) (c-no (c-act (silent-at′ .silent-at .ensures .0 unlabelled _ _ _)) (if3′ .if3 .left) (c-yes (c-act (silent-at2′ .silent-at2 .ensures .0 unlabelled _ _ _)) (if4′ .if4 .taken) (c-mark (new3′ .new3 .ensures) (start3′ .start3 .ensures .0 _ _) (c-seq (c-seq (c-walk (error2′ .error2 .ensures .0 (walk-rule (s′ .args .room - 1) (tokens-of (s′ .args .t .now))) unlabelled)) (c-mark (new4′ .new4 .ensures) (start4′ .start4 .ensures .0 _ _) (c-same (s′ .args .room - 1)) (closing (dt-node-body′ .dt-node-body .ensures .0)))) c-ret) (completed 9 (complete2′ .complete2 .ensures .0 _ _)))))) ∙ rule-body (s′ .args .room) (tokens-of (s′ .args .t .now)) item _ (omega (arith, eqb-false (s′ .args .room) 0 (if1′ .if1 .left)))),
-      omega (arith, eat-node-or-prop′ .eat-node-or-prop .ensures .1 .0, silent-at′ .silent-at .ensures .1 .0, silent-at2′ .silent-at2 .ensures .1 .0, silent-at2′ .silent-at2 .ensures .1 .1 (if4′ .if4 .taken), start3′ .start3 .ensures .1 (s′ .args .t .now), error2′ .error2 .ensures .1, start4′ .start4 .ensures .1 (s′ .args .t .now), dt-node-body′ .dt-node-body .ensures .1, complete2′ .complete2 .ensures .1 (s′ .args .t .now), eqb-false (s′ .args .room) 0 (if1′ .if1 .left)),
+      ap (λ (w : Walked). w .on) (way (s′ .args .allowed - 1) (c-no (c-fn (s′ .args .allowed - 1) (eat-node-or-prop′ .eat-node-or-prop .ensures .0)) (if2′ .if2 .left) (c-no (c-act (silent-at′ .silent-at .ensures .0 unlabelled _ _ _)) (if3′ .if3 .left) (c-yes (c-act (silent-at2′ .silent-at2 .ensures .0 unlabelled _ _ _)) (if4′ .if4 .taken) (c-mark (new3′ .new3 .ensures) (start3′ .start3 .ensures .0 _ _) (c-seq (c-seq (c-walk (error2′ .error2 .ensures .0 (walk-rule (s′ .args .allowed - 1) (tokens-of (s′ .args .tokens .now))) unlabelled)) (c-mark (new4′ .new4 .ensures) (start4′ .start4 .ensures .0 _ _) (c-same (s′ .args .allowed - 1)) (closing (dt-node-body′ .dt-node-body .ensures .0)))) c-ret) (completed 9 (complete2′ .complete2 .ensures .0 _ _)))))) ∙ rule-body (s′ .args .allowed) (tokens-of (s′ .args .tokens .now)) item _ (omega (arith, eqb-false (s′ .args .allowed) 0 (if1′ .if1 .left)))),
+      omega (arith, eat-node-or-prop′ .eat-node-or-prop .ensures .1 .0, silent-at′ .silent-at .ensures .1 .0, silent-at2′ .silent-at2 .ensures .1 .0, silent-at2′ .silent-at2 .ensures .1 .1 (if4′ .if4 .taken), start3′ .start3 .ensures .1 (s′ .args .tokens .now), error2′ .error2 .ensures .1, start4′ .start4 .ensures .1 (s′ .args .tokens .now), dt-node-body′ .dt-node-body .ensures .1, complete2′ .complete2 .ensures .1 (s′ .args .tokens .now), eqb-false (s′ .args .allowed) 0 (if1′ .if1 .left)),
     )
 
 pub sub-item2 : (t : ℕ) → lts.Need-sub-item2 (item-claims t) (item-at t) reads.Post
 sub-item2 t c =
     let if1′ = c .before .before .before .before .before .before .before .before .before .before .before .before .before .before .before .before .before .before in
     let s′ = if1′ .before .before .before .before .before in
-    omega (arith, eqb-false (s′ .args .room) 0 (if1′ .if1 .left))
+    omega (arith, eqb-false (s′ .args .allowed) 0 (if1′ .if1 .left))
 
 pub item2-requires : (t : ℕ) → lts.Need-item2-requires (item-claims t) (item-at t) reads.Post
 item2-requires t c κs =
@@ -260,7 +260,7 @@ item2-requires t c κs =
     let eat-node-or-prop′ = silent-at′ .before .before .before .before .before .before .before .before in
     let if1′ = eat-node-or-prop′ .before .before .before .before in
     let s′ = if1′ .before .before .before .before .before in
-    (omega (arith, eat-node-or-prop′ .eat-node-or-prop .ensures .1 .0, silent-at′ .silent-at .ensures .1 .0, silent-at2′ .silent-at2 .ensures .1 .0, s′ .pre .0, eqb-false (s′ .args .room) 0 (if1′ .if1 .left)), tt)
+    (omega (arith, eat-node-or-prop′ .eat-node-or-prop .ensures .1 .0, silent-at′ .silent-at .ensures .1 .0, silent-at2′ .silent-at2 .ensures .1 .0, s′ .pre .0, eqb-false (s′ .args .allowed) 0 (if1′ .if1 .left)), tt)
 
 pub same-length-10 : (t : ℕ) → lts.Need-same-length-10 (item-claims t) (item-at t) reads.Post
 same-length-10 t c =
@@ -292,6 +292,6 @@ returns-5 t c =
     let eat-node-or-prop′ = if2′ .before .before .before .before .before .before .before in
     let if1′ = eat-node-or-prop′ .before .before .before .before in
     let s′ = if1′ .before .before .before .before .before in (
-      ap (λ (w : Walked). w .on) (way (s′ .args .room - 1) (c-no (c-fn (s′ .args .room - 1) (eat-node-or-prop′ .eat-node-or-prop .ensures .0)) (if2′ .if2 .left) (c-no (c-act (silent-at′ .silent-at .ensures .0 unlabelled _ _ _)) (if3′ .if3 .left) (c-no (c-act (silent-at2′ .silent-at2 .ensures .0 unlabelled _ _ _)) (if4′ .if4 .left) (c-fn (s′ .args .room - 1) (item2′ .item2 .ensures .0))))) ∙ rule-body (s′ .args .room) (tokens-of (s′ .args .t .now)) item _ (omega (arith, eqb-false (s′ .args .room) 0 (if1′ .if1 .left)))),
-      omega (arith, eat-node-or-prop′ .eat-node-or-prop .ensures .1 .0, silent-at′ .silent-at .ensures .1 .0, silent-at2′ .silent-at2 .ensures .1 .0, item2′ .item2 .ensures .1, eqb-false (s′ .args .room) 0 (if1′ .if1 .left)),
+      ap (λ (w : Walked). w .on) (way (s′ .args .allowed - 1) (c-no (c-fn (s′ .args .allowed - 1) (eat-node-or-prop′ .eat-node-or-prop .ensures .0)) (if2′ .if2 .left) (c-no (c-act (silent-at′ .silent-at .ensures .0 unlabelled _ _ _)) (if3′ .if3 .left) (c-no (c-act (silent-at2′ .silent-at2 .ensures .0 unlabelled _ _ _)) (if4′ .if4 .left) (c-fn (s′ .args .allowed - 1) (item2′ .item2 .ensures .0))))) ∙ rule-body (s′ .args .allowed) (tokens-of (s′ .args .tokens .now)) item _ (omega (arith, eqb-false (s′ .args .allowed) 0 (if1′ .if1 .left)))),
+      omega (arith, eat-node-or-prop′ .eat-node-or-prop .ensures .1 .0, silent-at′ .silent-at .ensures .1 .0, silent-at2′ .silent-at2 .ensures .1 .0, item2′ .item2 .ensures .1, eqb-false (s′ .args .allowed) 0 (if1′ .if1 .left)),
     )

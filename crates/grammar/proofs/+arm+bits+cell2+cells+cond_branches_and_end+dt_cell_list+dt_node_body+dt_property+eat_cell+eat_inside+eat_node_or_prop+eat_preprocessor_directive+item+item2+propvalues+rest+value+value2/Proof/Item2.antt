@@ -39,7 +39,7 @@ returns t c =
     let if1′ = error′ .before .before .before .before in
     let silent-at′ = if1′ .before in
     let s′ = silent-at′ .before .before .before .before .before in (
-      way (s′ .args .room) (c-yes (c-act (silent-at′ .silent-at .ensures .0 unlabelled _ _ _)) (if1′ .if1 .taken) (c-walk (error′ .error .ensures .0 (walk-rule (s′ .args .room) (tokens-of (s′ .args .t .now))) unlabelled))),
+      way (s′ .args .allowed) (c-yes (c-act (silent-at′ .silent-at .ensures .0 unlabelled _ _ _)) (if1′ .if1 .taken) (c-walk (error′ .error .ensures .0 (walk-rule (s′ .args .allowed) (tokens-of (s′ .args .tokens .now))) unlabelled))),
       omega (arith, silent-at′ .silent-at .ensures .1 .0, silent-at′ .silent-at .ensures .1 .1 (if1′ .if1 .taken), error′ .error .ensures .1),
     )
 
@@ -69,7 +69,7 @@ returns-2 t c =
     let if1′ = eat-dts-directive′ .before .before .before .before in
     let silent-at′ = if1′ .before in
     let s′ = silent-at′ .before .before .before .before .before in (
-      way (s′ .args .room) (c-no (c-act (silent-at′ .silent-at .ensures .0 unlabelled _ _ _)) (if1′ .if1 .left) (c-yes {t = true} (c-yes (c-walk (eat-dts-directive′ .eat-dts-directive .ensures .0 (walk-rule (s′ .args .room) (tokens-of (s′ .args .t .now))) unlabelled)) (if2′ .if2 .taken) c-ret) refl c-ret)),
+      way (s′ .args .allowed) (c-no (c-act (silent-at′ .silent-at .ensures .0 unlabelled _ _ _)) (if1′ .if1 .left) (c-yes {t = true} (c-yes (c-walk (eat-dts-directive′ .eat-dts-directive .ensures .0 (walk-rule (s′ .args .allowed) (tokens-of (s′ .args .tokens .now))) unlabelled)) (if2′ .if2 .taken) c-ret) refl c-ret)),
       omega (arith, silent-at′ .silent-at .ensures .1 .0, eat-dts-directive′ .eat-dts-directive .ensures .1 .0, eat-dts-directive′ .eat-dts-directive .ensures .1 .1 (if2′ .if2 .taken)),
     )
 
@@ -108,7 +108,7 @@ returns-3 t c =
     let if1′ = eat-dts-directive′ .before .before .before .before in
     let silent-at′ = if1′ .before in
     let s′ = silent-at′ .before .before .before .before .before in (
-      way (s′ .args .room) (c-no (c-act (silent-at′ .silent-at .ensures .0 unlabelled _ _ _)) (if1′ .if1 .left) (c-yes (c-no (c-walk (eat-dts-directive′ .eat-dts-directive .ensures .0 (walk-rule (s′ .args .room) (tokens-of (s′ .args .t .now))) unlabelled)) (if2′ .if2 .left) (c-fn (s′ .args .room) (eat-preprocessor-directive′ .eat-preprocessor-directive .ensures .0))) (if3′ .if3 .taken) c-ret)),
+      way (s′ .args .allowed) (c-no (c-act (silent-at′ .silent-at .ensures .0 unlabelled _ _ _)) (if1′ .if1 .left) (c-yes (c-no (c-walk (eat-dts-directive′ .eat-dts-directive .ensures .0 (walk-rule (s′ .args .allowed) (tokens-of (s′ .args .tokens .now))) unlabelled)) (if2′ .if2 .left) (c-fn (s′ .args .allowed) (eat-preprocessor-directive′ .eat-preprocessor-directive .ensures .0))) (if3′ .if3 .taken) c-ret)),
       omega (arith, silent-at′ .silent-at .ensures .1 .0, eat-dts-directive′ .eat-dts-directive .ensures .1 .0, eat-preprocessor-directive′ .eat-preprocessor-directive .ensures .1 .0, eat-preprocessor-directive′ .eat-preprocessor-directive .ensures .1 .1 (if3′ .if3 .taken)),
     )
 
@@ -147,6 +147,6 @@ returns-4 t c =
     let if1′ = eat-dts-directive′ .before .before .before .before in
     let silent-at′ = if1′ .before in
     let s′ = silent-at′ .before .before .before .before .before in (
-      way (s′ .args .room) (c-no (c-act (silent-at′ .silent-at .ensures .0 unlabelled _ _ _)) (if1′ .if1 .left) (c-no (c-no (c-walk (eat-dts-directive′ .eat-dts-directive .ensures .0 (walk-rule (s′ .args .room) (tokens-of (s′ .args .t .now))) unlabelled)) (if2′ .if2 .left) (c-fn (s′ .args .room) (eat-preprocessor-directive′ .eat-preprocessor-directive .ensures .0))) (if3′ .if3 .left) (c-walk (error2′ .error2 .ensures .0 (walk-rule (s′ .args .room) (tokens-of (s′ .args .t .now))) unlabelled)))),
+      way (s′ .args .allowed) (c-no (c-act (silent-at′ .silent-at .ensures .0 unlabelled _ _ _)) (if1′ .if1 .left) (c-no (c-no (c-walk (eat-dts-directive′ .eat-dts-directive .ensures .0 (walk-rule (s′ .args .allowed) (tokens-of (s′ .args .tokens .now))) unlabelled)) (if2′ .if2 .left) (c-fn (s′ .args .allowed) (eat-preprocessor-directive′ .eat-preprocessor-directive .ensures .0))) (if3′ .if3 .left) (c-walk (error2′ .error2 .ensures .0 (walk-rule (s′ .args .allowed) (tokens-of (s′ .args .tokens .now))) unlabelled)))),
       omega (arith, silent-at′ .silent-at .ensures .1 .0, eat-dts-directive′ .eat-dts-directive .ensures .1 .0, eat-preprocessor-directive′ .eat-preprocessor-directive .ensures .1 .0, error2′ .error2 .ensures .1),
     )

@@ -9,7 +9,7 @@ use Rattle.definitions.specs.Token.{tokens-of}
 use Rattle.definitions.specs.Prog.{no, propvalues, loop}
 use Rattle.definitions.specs.Grammar.{propvalues-turn, propvalues-body, grammar}
 use Rattle.machine.specs.Walk.{said, walk-rule, walk-prog, unlabelled}
-use Rattle.parser.specs.View.{left, view-of, answer-of}
+use Rattle.parser.specs.View.{left, view-of, ans-of}
 use Rattle.machine.proofs.Way.{c-walk, c-act, c-ret, c-yes, c-no, c-fn, rule-closed, rule-body}
 use Rattle.names.proofs.Kit.{ahead-falls}
 use Rattle.parts.proofs.Steps.{c-said-no, c-said-also}
@@ -37,8 +37,8 @@ returns t c =
     let refuse′ = c in
     let if1′ = refuse′ .before in
     let s′ = if1′ .before .before .before .before .before in (
-      ap (said no) (refuse′ .refuse .ensures .0 _ _ _) ∙ rule-closed (s′ .args .room) (tokens-of (s′ .args .t .now)) (propvalues (s′ .args .semicolon)) _ (eqb-true (s′ .args .room) 0 (if1′ .if1 .taken)),
-      omega (arith, refuse′ .refuse .ensures .1 (s′ .args .t .now) (s′ .good .1 .0 .0)),
+      ap (said no) (refuse′ .refuse .ensures .0 _ _ _) ∙ rule-closed (s′ .args .allowed) (tokens-of (s′ .args .tokens .now)) (propvalues (s′ .args .semicolon)) _ (eqb-true (s′ .args .allowed) 0 (if1′ .if1 .taken)),
+      omega (arith, refuse′ .refuse .ensures .1 (s′ .args .tokens .now) (s′ .good .1 .0 .0)),
     )
 
 pub loop-holds : (t : ℕ) → lts.Need-loop-holds (propvalues-claims t) (propvalues-at t) reads.Post Inv-loop μ-loop
@@ -70,15 +70,15 @@ returns-2 t c =
     let loop′ = at-end′ .before in
     let if1′ = loop′ .before in
     let s′ = if1′ .before .before .before .before .before in (
-      as-yes (if2′ .if2 .taken) (last-yes (s′ .args .room - 1) (c-yes (c-act (at-end′ .at-end .ensures .0 unlabelled _ _ _)) (if2′ .if2 .taken) c-ret)) ∙ loop′ .loop .inv .1 .1 .1 .1 ∙ rule-body (s′ .args .room) (tokens-of (s′ .args .t .now)) (propvalues (s′ .args .semicolon)) _ (omega (arith, eqb-false (s′ .args .room) 0 (if1′ .if1 .left))),
-      omega (arith, loop′ .loop .inv .0, at-end′ .at-end .ensures .1 .0, at-end′ .at-end .ensures .1 .1 .1 (if2′ .if2 .taken), eqb-false (s′ .args .room) 0 (if1′ .if1 .left)),
+      as-yes (if2′ .if2 .taken) (last-yes (s′ .args .allowed - 1) (c-yes (c-act (at-end′ .at-end .ensures .0 unlabelled _ _ _)) (if2′ .if2 .taken) c-ret)) ∙ loop′ .loop .inv .1 .1 .1 .1 ∙ rule-body (s′ .args .allowed) (tokens-of (s′ .args .tokens .now)) (propvalues (s′ .args .semicolon)) _ (omega (arith, eqb-false (s′ .args .allowed) 0 (if1′ .if1 .left))),
+      omega (arith, loop′ .loop .inv .0, at-end′ .at-end .ensures .1 .0, at-end′ .at-end .ensures .1 .1 .1 (if2′ .if2 .taken), eqb-false (s′ .args .allowed) 0 (if1′ .if1 .left)),
     )
 
 pub sub-value : (t : ℕ) → lts.Need-sub-value (propvalues-claims t) (propvalues-at t) reads.Post Inv-loop μ-loop
 sub-value t c =
     let if1′ = c .before .before .before .before .before .before in
     let s′ = if1′ .before .before .before .before .before in
-    omega (arith, eqb-false (s′ .args .room) 0 (if1′ .if1 .left))
+    omega (arith, eqb-false (s′ .args .allowed) 0 (if1′ .if1 .left))
 
 pub value-requires : (t : ℕ) → lts.Need-value-requires (propvalues-claims t) (propvalues-at t) reads.Post Inv-loop μ-loop
 value-requires t c κs =
@@ -87,7 +87,7 @@ value-requires t c κs =
     let loop′ = at-end′ .before in
     let if1′ = loop′ .before in
     let s′ = if1′ .before .before .before .before .before in
-    (omega (arith, loop′ .loop .inv .0, at-end′ .at-end .ensures .1 .0, at-end′ .at-end .ensures .1 .1 .0 (if2′ .if2 .left), s′ .pre .0, eqb-false (s′ .args .room) 0 (if1′ .if1 .left)), tt)
+    (omega (arith, loop′ .loop .inv .0, at-end′ .at-end .ensures .1 .0, at-end′ .at-end .ensures .1 .1 .0 (if2′ .if2 .left), s′ .pre .0, eqb-false (s′ .args .allowed) 0 (if1′ .if1 .left)), tt)
 
 pub enum-told : (t : ℕ) → lts.Need-enum-told (propvalues-claims t) (propvalues-at t) reads.Post Inv-loop μ-loop
 enum-told t c =
@@ -122,8 +122,8 @@ returns-3 t c =
     let loop′ = at-end′ .before in
     let if1′ = loop′ .before in
     let s′ = if1′ .before .before .before .before .before in (
-      last-no (s′ .args .room - 1) (c-no (c-act (at-end′ .at-end .ensures .0 unlabelled _ _ _)) (if2′ .if2 .left) (c-said-no (value′ .value .result .answer) (c-fn (s′ .args .room - 1) (value′ .value .ensures .0)) (ap answer-of (enum-told′ .enum-told .given .1)) c-ret)) ∙ loop′ .loop .inv .1 .1 .1 .1 ∙ rule-body (s′ .args .room) (tokens-of (s′ .args .t .now)) (propvalues (s′ .args .semicolon)) _ (omega (arith, eqb-false (s′ .args .room) 0 (if1′ .if1 .left))),
-      omega (arith, loop′ .loop .inv .0, at-end′ .at-end .ensures .1 .0, at-end′ .at-end .ensures .1 .1 .0 (if2′ .if2 .left), value′ .value .ensures .1, eqb-false (s′ .args .room) 0 (if1′ .if1 .left)),
+      last-no (s′ .args .allowed - 1) (c-no (c-act (at-end′ .at-end .ensures .0 unlabelled _ _ _)) (if2′ .if2 .left) (c-said-no (value′ .value .result .ans) (c-fn (s′ .args .allowed - 1) (value′ .value .ensures .0)) (ap ans-of (enum-told′ .enum-told .given .1)) c-ret)) ∙ loop′ .loop .inv .1 .1 .1 .1 ∙ rule-body (s′ .args .allowed) (tokens-of (s′ .args .tokens .now)) (propvalues (s′ .args .semicolon)) _ (omega (arith, eqb-false (s′ .args .allowed) 0 (if1′ .if1 .left))),
+      omega (arith, loop′ .loop .inv .0, at-end′ .at-end .ensures .1 .0, at-end′ .at-end .ensures .1 .1 .0 (if2′ .if2 .left), value′ .value .ensures .1, eqb-false (s′ .args .allowed) 0 (if1′ .if1 .left)),
     )
 
 pub enum-told-2 : (t : ℕ) → lts.Need-enum-told-2 (propvalues-claims t) (propvalues-at t) reads.Post Inv-loop μ-loop
@@ -159,8 +159,8 @@ returns-4 t c =
     let loop′ = at-end′ .before in
     let if1′ = loop′ .before in
     let s′ = if1′ .before .before .before .before .before in (
-      last-yes (s′ .args .room - 1) (c-no (c-act (at-end′ .at-end .ensures .0 unlabelled _ _ _)) (if2′ .if2 .left) (c-said-also (value′ .value .result .answer) (c-fn (s′ .args .room - 1) (value′ .value .ensures .0)) (ap answer-of (enum-told2′ .enum-told2 .given .1)) c-ret)) ∙ loop′ .loop .inv .1 .1 .1 .1 ∙ rule-body (s′ .args .room) (tokens-of (s′ .args .t .now)) (propvalues (s′ .args .semicolon)) _ (omega (arith, eqb-false (s′ .args .room) 0 (if1′ .if1 .left))),
-      omega (arith, loop′ .loop .inv .0, at-end′ .at-end .ensures .1 .0, at-end′ .at-end .ensures .1 .1 .0 (if2′ .if2 .left), value′ .value .ensures .1, eqb-false (s′ .args .room) 0 (if1′ .if1 .left)),
+      last-yes (s′ .args .allowed - 1) (c-no (c-act (at-end′ .at-end .ensures .0 unlabelled _ _ _)) (if2′ .if2 .left) (c-said-also (value′ .value .result .ans) (c-fn (s′ .args .allowed - 1) (value′ .value .ensures .0)) (ap ans-of (enum-told2′ .enum-told2 .given .1)) c-ret)) ∙ loop′ .loop .inv .1 .1 .1 .1 ∙ rule-body (s′ .args .allowed) (tokens-of (s′ .args .tokens .now)) (propvalues (s′ .args .semicolon)) _ (omega (arith, eqb-false (s′ .args .allowed) 0 (if1′ .if1 .left))),
+      omega (arith, loop′ .loop .inv .0, at-end′ .at-end .ensures .1 .0, at-end′ .at-end .ensures .1 .1 .0 (if2′ .if2 .left), value′ .value .ensures .1, eqb-false (s′ .args .allowed) 0 (if1′ .if1 .left)),
     )
 
 pub after-propvalue-requires : (t : ℕ) → lts.Need-after-propvalue-requires (propvalues-claims t) (propvalues-at t) reads.Post Inv-loop μ-loop
@@ -180,7 +180,7 @@ loop-less t c =
     let loop′ = at-end′ .before in
     let if1′ = loop′ .before in
     let s′ = if1′ .before .before .before .before .before in
-    omega (arith, loop′ .loop .inv .0, at-end′ .at-end .ensures .1 .0, at-end′ .at-end .ensures .1 .1 .0 (if2′ .if2 .left), value′ .value .ensures .1, after-propvalue′ .after-propvalue .ensures .1 .0, eqb-false (s′ .args .room) 0 (if1′ .if1 .left))
+    omega (arith, loop′ .loop .inv .0, at-end′ .at-end .ensures .1 .0, at-end′ .at-end .ensures .1 .1 .0 (if2′ .if2 .left), value′ .value .ensures .1, after-propvalue′ .after-propvalue .ensures .1 .0, eqb-false (s′ .args .allowed) 0 (if1′ .if1 .left))
 
 pub loop-again : (t : ℕ) → lts.Need-loop-again (propvalues-claims t) (propvalues-at t) reads.Post Inv-loop μ-loop
 unfolding grammar propvalues-body propvalues-turn
@@ -194,14 +194,14 @@ loop-again t c =
     let loop′ = at-end′ .before in
     let if1′ = loop′ .before in
     let s′ = if1′ .before .before .before .before .before in (
-      omega (arith, loop′ .loop .inv .0, at-end′ .at-end .ensures .1 .0, at-end′ .at-end .ensures .1 .1 .0 (if2′ .if2 .left), value′ .value .ensures .1, after-propvalue′ .after-propvalue .ensures .1 .0, eqb-false (s′ .args .room) 0 (if1′ .if1 .left)),
+      omega (arith, loop′ .loop .inv .0, at-end′ .at-end .ensures .1 .0, at-end′ .at-end .ensures .1 .1 .0 (if2′ .if2 .left), value′ .value .ensures .1, after-propvalue′ .after-propvalue .ensures .1 .0, eqb-false (s′ .args .allowed) 0 (if1′ .if1 .left)),
       (
         omega (arith, value′ .value .kept, after-propvalue′ .after-propvalue .kept, loop′ .loop .inv .1),
         (
           omega (arith, value′ .value .kept, after-propvalue′ .after-propvalue .kept, loop′ .loop .inv .1),
           (
             omega (arith, value′ .value .kept, after-propvalue′ .after-propvalue .kept, loop′ .loop .inv .1),
-            again-part (s′ .args .room - 1) (c-no (c-act (at-end′ .at-end .ensures .0 unlabelled _ _ _)) (if2′ .if2 .left) (c-said-other (value′ .value .result .answer) (c-fn (s′ .args .room - 1) (value′ .value .ensures .0)) (match0′ .match .keys3) (c-answered (ap answer-of (enum-told3′ .enum-told3 .given .1)) (c-walk (after-propvalue′ .after-propvalue .ensures .0 (walk-rule (s′ .args .room - 1) (tokens-of (s′ .args .t .now))) unlabelled))))) (ahead-falls (s′ .args .t .now) (loop′ .loop .q .s) (after-propvalue′ .after-propvalue .result .p .s) (omega (arith, loop′ .loop .inv .0, at-end′ .at-end .ensures .1 .0, at-end′ .at-end .ensures .1 .1 .0 (if2′ .if2 .left), value′ .value .ensures .1, after-propvalue′ .after-propvalue .ensures .1 .0, eqb-false (s′ .args .room) 0 (if1′ .if1 .left)))) ∙ loop′ .loop .inv .1 .1 .1 .1,
+            again-part (s′ .args .allowed - 1) (c-no (c-act (at-end′ .at-end .ensures .0 unlabelled _ _ _)) (if2′ .if2 .left) (c-said-other (value′ .value .result .ans) (c-fn (s′ .args .allowed - 1) (value′ .value .ensures .0)) (match0′ .match .keys3) (c-answered (ap ans-of (enum-told3′ .enum-told3 .given .1)) (c-walk (after-propvalue′ .after-propvalue .ensures .0 (walk-rule (s′ .args .allowed - 1) (tokens-of (s′ .args .tokens .now))) unlabelled))))) (ahead-falls (s′ .args .tokens .now) (loop′ .loop .q .s) (after-propvalue′ .after-propvalue .result .p .s) (omega (arith, loop′ .loop .inv .0, at-end′ .at-end .ensures .1 .0, at-end′ .at-end .ensures .1 .1 .0 (if2′ .if2 .left), value′ .value .ensures .1, after-propvalue′ .after-propvalue .ensures .1 .0, eqb-false (s′ .args .allowed) 0 (if1′ .if1 .left)))) ∙ loop′ .loop .inv .1 .1 .1 .1,
           ),
         ),
       ),
@@ -245,8 +245,8 @@ returns-5 t c =
     let loop′ = at-end′ .before in
     let if1′ = loop′ .before in
     let s′ = if1′ .before .before .before .before .before in (
-      last-yes (s′ .args .room - 1) (c-no (c-act (at-end′ .at-end .ensures .0 unlabelled _ _ _)) (if2′ .if2 .left) (c-said-other (value′ .value .result .answer) (c-fn (s′ .args .room - 1) (value′ .value .ensures .0)) (match0′ .match .keys3) (c-answered (ap answer-of (enum-told4′ .enum-told4 .given .1)) (c-walk (after-propvalue′ .after-propvalue .ensures .0 (walk-rule (s′ .args .room - 1) (tokens-of (s′ .args .t .now))) unlabelled))))) ∙ loop′ .loop .inv .1 .1 .1 .1 ∙ rule-body (s′ .args .room) (tokens-of (s′ .args .t .now)) (propvalues (s′ .args .semicolon)) _ (omega (arith, eqb-false (s′ .args .room) 0 (if1′ .if1 .left))),
-      omega (arith, loop′ .loop .inv .0, at-end′ .at-end .ensures .1 .0, at-end′ .at-end .ensures .1 .1 .0 (if2′ .if2 .left), value′ .value .ensures .1, after-propvalue′ .after-propvalue .ensures .1 .0, eqb-false (s′ .args .room) 0 (if1′ .if1 .left)),
+      last-yes (s′ .args .allowed - 1) (c-no (c-act (at-end′ .at-end .ensures .0 unlabelled _ _ _)) (if2′ .if2 .left) (c-said-other (value′ .value .result .ans) (c-fn (s′ .args .allowed - 1) (value′ .value .ensures .0)) (match0′ .match .keys3) (c-answered (ap ans-of (enum-told4′ .enum-told4 .given .1)) (c-walk (after-propvalue′ .after-propvalue .ensures .0 (walk-rule (s′ .args .allowed - 1) (tokens-of (s′ .args .tokens .now))) unlabelled))))) ∙ loop′ .loop .inv .1 .1 .1 .1 ∙ rule-body (s′ .args .allowed) (tokens-of (s′ .args .tokens .now)) (propvalues (s′ .args .semicolon)) _ (omega (arith, eqb-false (s′ .args .allowed) 0 (if1′ .if1 .left))),
+      omega (arith, loop′ .loop .inv .0, at-end′ .at-end .ensures .1 .0, at-end′ .at-end .ensures .1 .1 .0 (if2′ .if2 .left), value′ .value .ensures .1, after-propvalue′ .after-propvalue .ensures .1 .0, eqb-false (s′ .args .allowed) 0 (if1′ .if1 .left)),
     )
 
 pub same-length-13 : (t : ℕ) → lts.Need-same-length-13 (propvalues-claims t) (propvalues-at t) reads.Post Inv-loop μ-loop
@@ -282,6 +282,6 @@ returns-6 t c =
     let loop′ = at-end′ .before in
     let if1′ = loop′ .before in
     let s′ = if1′ .before .before .before .before .before in (
-      last-no (s′ .args .room - 1) (c-no (c-act (at-end′ .at-end .ensures .0 unlabelled _ _ _)) (if2′ .if2 .left) (c-said-other (value′ .value .result .answer) (c-fn (s′ .args .room - 1) (value′ .value .ensures .0)) (match0′ .match .keys3) (c-answered (other-no (after-propvalue′ .after-propvalue .result .answer) (after-propvalue′ .after-propvalue .ensures .1 .1) (match2′ .match2 .keys3)) (c-walk (after-propvalue′ .after-propvalue .ensures .0 (walk-rule (s′ .args .room - 1) (tokens-of (s′ .args .t .now))) unlabelled))))) ∙ loop′ .loop .inv .1 .1 .1 .1 ∙ rule-body (s′ .args .room) (tokens-of (s′ .args .t .now)) (propvalues (s′ .args .semicolon)) _ (omega (arith, eqb-false (s′ .args .room) 0 (if1′ .if1 .left))),
-      omega (arith, loop′ .loop .inv .0, at-end′ .at-end .ensures .1 .0, at-end′ .at-end .ensures .1 .1 .0 (if2′ .if2 .left), value′ .value .ensures .1, after-propvalue′ .after-propvalue .ensures .1 .0, eqb-false (s′ .args .room) 0 (if1′ .if1 .left)),
+      last-no (s′ .args .allowed - 1) (c-no (c-act (at-end′ .at-end .ensures .0 unlabelled _ _ _)) (if2′ .if2 .left) (c-said-other (value′ .value .result .ans) (c-fn (s′ .args .allowed - 1) (value′ .value .ensures .0)) (match0′ .match .keys3) (c-answered (other-no (after-propvalue′ .after-propvalue .result .ans) (after-propvalue′ .after-propvalue .ensures .1 .1) (match2′ .match2 .keys3)) (c-walk (after-propvalue′ .after-propvalue .ensures .0 (walk-rule (s′ .args .allowed - 1) (tokens-of (s′ .args .tokens .now))) unlabelled))))) ∙ loop′ .loop .inv .1 .1 .1 .1 ∙ rule-body (s′ .args .allowed) (tokens-of (s′ .args .tokens .now)) (propvalues (s′ .args .semicolon)) _ (omega (arith, eqb-false (s′ .args .allowed) 0 (if1′ .if1 .left))),
+      omega (arith, loop′ .loop .inv .0, at-end′ .at-end .ensures .1 .0, at-end′ .at-end .ensures .1 .1 .0 (if2′ .if2 .left), value′ .value .ensures .1, after-propvalue′ .after-propvalue .ensures .1 .0, eqb-false (s′ .args .allowed) 0 (if1′ .if1 .left)),
     )

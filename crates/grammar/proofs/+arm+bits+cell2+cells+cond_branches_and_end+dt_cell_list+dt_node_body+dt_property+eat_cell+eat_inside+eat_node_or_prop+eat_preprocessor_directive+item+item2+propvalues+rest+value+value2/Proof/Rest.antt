@@ -44,7 +44,7 @@ returns t c =
     let if1′ = dt-node-body′ .before .before .before .before in
     let at′ = if1′ .before in
     let s′ = at′ .before .before .before .before .before in (
-      closes (s′ .args .room) (c-yes (c-walk (at′ .at .ensures .0 (walk-rule (s′ .args .room) (tokens-of (s′ .args .t .now))) unlabelled _ _ _)) (if1′ .if1 .taken) (c-same (s′ .args .room))) (closing (dt-node-body′ .dt-node-body .ensures .0)),
+      closes (s′ .args .allowed) (c-yes (c-walk (at′ .at .ensures .0 (walk-rule (s′ .args .allowed) (tokens-of (s′ .args .tokens .now))) unlabelled _ _ _)) (if1′ .if1 .taken) (c-same (s′ .args .allowed))) (closing (dt-node-body′ .dt-node-body .ensures .0)),
       omega (arith, at′ .at .ensures .1 .0, at′ .at .ensures .1 .1 (if1′ .if1 .taken), dt-node-body′ .dt-node-body .ensures .1),
     )
 
@@ -85,8 +85,8 @@ returns-2 t c =
     let if1′ = silent-at′ .before in
     let at′ = if1′ .before in
     let s′ = at′ .before .before .before .before .before in (
-      closes (s′ .args .room) (c-no (c-walk (at′ .at .ensures .0 (walk-rule (s′ .args .room) (tokens-of (s′ .args .t .now))) unlabelled _ _ _)) (if1′ .if1 .left) (c-yes (c-act (silent-at′ .silent-at .ensures .0 unlabelled _ _ _)) (if2′ .if2 .taken) (c-seq (c-walk (error′ .error .ensures .0 (walk-rule (s′ .args .room) (tokens-of (s′ .args .t .now))) unlabelled)) c-ret))) (completed 9 (complete′ .complete .ensures .0 _ _)),
-      omega (arith, at′ .at .ensures .1 .0, silent-at′ .silent-at .ensures .1 .0, silent-at′ .silent-at .ensures .1 .1 (if2′ .if2 .taken), error′ .error .ensures .1, complete′ .complete .ensures .1 (s′ .args .t .now)),
+      closes (s′ .args .allowed) (c-no (c-walk (at′ .at .ensures .0 (walk-rule (s′ .args .allowed) (tokens-of (s′ .args .tokens .now))) unlabelled _ _ _)) (if1′ .if1 .left) (c-yes (c-act (silent-at′ .silent-at .ensures .0 unlabelled _ _ _)) (if2′ .if2 .taken) (c-seq (c-walk (error′ .error .ensures .0 (walk-rule (s′ .args .allowed) (tokens-of (s′ .args .tokens .now))) unlabelled)) c-ret))) (completed 9 (complete′ .complete .ensures .0 _ _)),
+      omega (arith, at′ .at .ensures .1 .0, silent-at′ .silent-at .ensures .1 .0, silent-at′ .silent-at .ensures .1 .1 (if2′ .if2 .taken), error′ .error .ensures .1, complete′ .complete .ensures .1 (s′ .args .tokens .now)),
     )
 
 pub forbidden-property-requires : (t : ℕ) → lts.Need-forbidden-property-requires (rest-claims t) (rest-at t) reads.Post
@@ -109,7 +109,7 @@ dt-property-requires t c κs =
     let silent-at′ = forbidden-property′ .before .before in
     let at′ = silent-at′ .before .before in
     let s′ = at′ .before .before .before .before .before in
-    (omega (arith, at′ .at .ensures .1 .0, silent-at′ .silent-at .ensures .1 .0, forbidden-property′ .forbidden-property .ensures .1, error2′ .error2 .ensures .1, start′ .start .ensures .1 (s′ .args .t .now), s′ .pre .0), tt)
+    (omega (arith, at′ .at .ensures .1 .0, silent-at′ .silent-at .ensures .1 .0, forbidden-property′ .forbidden-property .ensures .1, error2′ .error2 .ensures .1, start′ .start .ensures .1 (s′ .args .tokens .now), s′ .pre .0), tt)
 
 pub complete-requires-2 : (t : ℕ) → lts.Need-complete-requires-2 (rest-claims t) (rest-at t) reads.Post
 complete-requires-2 t c κs = tt
@@ -153,8 +153,8 @@ returns-3 t c =
     let if1′ = silent-at′ .before in
     let at′ = if1′ .before in
     let s′ = at′ .before .before .before .before .before in (
-      closes (s′ .args .room) (c-no (c-walk (at′ .at .ensures .0 (walk-rule (s′ .args .room) (tokens-of (s′ .args .t .now))) unlabelled _ _ _)) (if1′ .if1 .left) (c-no (c-act (silent-at′ .silent-at .ensures .0 unlabelled _ _ _)) (if2′ .if2 .left) (c-yes (c-walk (forbidden-property′ .forbidden-property .ensures .0 (walk-rule (s′ .args .room) (tokens-of (s′ .args .t .now))) unlabelled _ _ _)) (if3′ .if3 .taken) (c-seq (c-walk (error2′ .error2 .ensures .0 (walk-rule (s′ .args .room) (tokens-of (s′ .args .t .now))) unlabelled)) (c-seq (c-mark (new′ .new .ensures) (start′ .start .ensures .0 _ _) (c-same (s′ .args .room)) (closing (dt-property′ .dt-property .ensures .0))) c-ret))))) (completed 9 (complete2′ .complete2 .ensures .0 _ _)),
-      omega (arith, at′ .at .ensures .1 .0, silent-at′ .silent-at .ensures .1 .0, forbidden-property′ .forbidden-property .ensures .1, error2′ .error2 .ensures .1, start′ .start .ensures .1 (s′ .args .t .now), dt-property′ .dt-property .ensures .1, complete2′ .complete2 .ensures .1 (s′ .args .t .now)),
+      closes (s′ .args .allowed) (c-no (c-walk (at′ .at .ensures .0 (walk-rule (s′ .args .allowed) (tokens-of (s′ .args .tokens .now))) unlabelled _ _ _)) (if1′ .if1 .left) (c-no (c-act (silent-at′ .silent-at .ensures .0 unlabelled _ _ _)) (if2′ .if2 .left) (c-yes (c-walk (forbidden-property′ .forbidden-property .ensures .0 (walk-rule (s′ .args .allowed) (tokens-of (s′ .args .tokens .now))) unlabelled _ _ _)) (if3′ .if3 .taken) (c-seq (c-walk (error2′ .error2 .ensures .0 (walk-rule (s′ .args .allowed) (tokens-of (s′ .args .tokens .now))) unlabelled)) (c-seq (c-mark (new′ .new .ensures) (start′ .start .ensures .0 _ _) (c-same (s′ .args .allowed)) (closing (dt-property′ .dt-property .ensures .0))) c-ret))))) (completed 9 (complete2′ .complete2 .ensures .0 _ _)),
+      omega (arith, at′ .at .ensures .1 .0, silent-at′ .silent-at .ensures .1 .0, forbidden-property′ .forbidden-property .ensures .1, error2′ .error2 .ensures .1, start′ .start .ensures .1 (s′ .args .tokens .now), dt-property′ .dt-property .ensures .1, complete2′ .complete2 .ensures .1 (s′ .args .tokens .now)),
     )
 
 pub unfinished-requires : (t : ℕ) → lts.Need-unfinished-requires (rest-claims t) (rest-at t) reads.Post
@@ -186,6 +186,6 @@ returns-4 t c =
     let if1′ = silent-at′ .before in
     let at′ = if1′ .before in
     let s′ = at′ .before .before .before .before .before in (
-      closes (s′ .args .room) (c-no (c-walk (at′ .at .ensures .0 (walk-rule (s′ .args .room) (tokens-of (s′ .args .t .now))) unlabelled _ _ _)) (if1′ .if1 .left) (c-no (c-act (silent-at′ .silent-at .ensures .0 unlabelled _ _ _)) (if2′ .if2 .left) (c-no (c-walk (forbidden-property′ .forbidden-property .ensures .0 (walk-rule (s′ .args .room) (tokens-of (s′ .args .t .now))) unlabelled _ _ _)) (if3′ .if3 .left) c-any))) (closing (unfinished′ .unfinished .ensures .0 (walk-rule (s′ .args .room) (tokens-of (s′ .args .t .now))) unlabelled)),
+      closes (s′ .args .allowed) (c-no (c-walk (at′ .at .ensures .0 (walk-rule (s′ .args .allowed) (tokens-of (s′ .args .tokens .now))) unlabelled _ _ _)) (if1′ .if1 .left) (c-no (c-act (silent-at′ .silent-at .ensures .0 unlabelled _ _ _)) (if2′ .if2 .left) (c-no (c-walk (forbidden-property′ .forbidden-property .ensures .0 (walk-rule (s′ .args .allowed) (tokens-of (s′ .args .tokens .now))) unlabelled _ _ _)) (if3′ .if3 .left) c-any))) (closing (unfinished′ .unfinished .ensures .0 (walk-rule (s′ .args .allowed) (tokens-of (s′ .args .tokens .now))) unlabelled)),
       omega (arith, at′ .at .ensures .1 .0, silent-at′ .silent-at .ensures .1 .0, forbidden-property′ .forbidden-property .ensures .1, unfinished′ .unfinished .ensures .1),
     )

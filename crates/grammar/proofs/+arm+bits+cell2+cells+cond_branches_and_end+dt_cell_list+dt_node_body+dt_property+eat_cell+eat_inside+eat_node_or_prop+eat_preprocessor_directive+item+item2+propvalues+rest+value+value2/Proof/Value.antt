@@ -25,7 +25,7 @@ bits-requires t c κs =
     let silent-at′ = if1′ .before in
     let add-expected′ = silent-at′ .before in
     let s′ = add-expected′ .before .before .before .before .before in
-    (omega (arith, add-expected′ .add-expected .ensures .1 (s′ .args .t .now), silent-at′ .silent-at .ensures .1 .0, silent-at′ .silent-at .ensures .1 .1 (if1′ .if1 .taken), s′ .pre .0), tt)
+    (omega (arith, add-expected′ .add-expected .ensures .1 (s′ .args .tokens .now), silent-at′ .silent-at .ensures .1 .0, silent-at′ .silent-at .ensures .1 .1 (if1′ .if1 .taken), s′ .pre .0), tt)
 
 pub told-requires : (t : ℕ) → lts.Need-told-requires (value-claims t) (value-at t) reads.Post
 told-requires t c κs = tt
@@ -54,8 +54,8 @@ returns t c =
     let silent-at′ = if1′ .before in
     let add-expected′ = silent-at′ .before in
     let s′ = add-expected′ .before .before .before .before .before in (
-      told-is (told′ .told .result) (bits′ .bits .result) _ _ _ (told′ .told .ensures .0) (told′ .told .ensures .1) ∙ way (s′ .args .room) (c-seq (c-act (add-expected′ .add-expected .ensures .0 (tokens-of (s′ .args .t .now)) unlabelled _ _ _)) (c-yes (c-act (silent-at′ .silent-at .ensures .0 unlabelled _ _ _)) (if1′ .if1 .taken) (c-fn (s′ .args .room) (bits′ .bits .ensures .0)))),
-      omega (arith, add-expected′ .add-expected .ensures .1 (s′ .args .t .now), silent-at′ .silent-at .ensures .1 .0, silent-at′ .silent-at .ensures .1 .1 (if1′ .if1 .taken), bits′ .bits .ensures .1, told-left (s′ .args .t .now) (told′ .told .result) (bits′ .bits .result) (told′ .told .ensures .0)),
+      told-is (told′ .told .result) (bits′ .bits .result) _ _ _ (told′ .told .ensures .0) (told′ .told .ensures .1) ∙ way (s′ .args .allowed) (c-seq (c-act (add-expected′ .add-expected .ensures .0 (tokens-of (s′ .args .tokens .now)) unlabelled _ _ _)) (c-yes (c-act (silent-at′ .silent-at .ensures .0 unlabelled _ _ _)) (if1′ .if1 .taken) (c-fn (s′ .args .allowed) (bits′ .bits .ensures .0)))),
+      omega (arith, add-expected′ .add-expected .ensures .1 (s′ .args .tokens .now), silent-at′ .silent-at .ensures .1 .0, silent-at′ .silent-at .ensures .1 .1 (if1′ .if1 .taken), bits′ .bits .ensures .1, told-left (s′ .args .tokens .now) (told′ .told .result) (bits′ .bits .result) (told′ .told .ensures .0)),
     )
 
 pub silent-eat-requires : (t : ℕ) → lts.Need-silent-eat-requires (value-claims t) (value-at t) reads.Post
@@ -79,8 +79,8 @@ returns-2 t c =
     let silent-at′ = if1′ .before in
     let add-expected′ = silent-at′ .before in
     let s′ = add-expected′ .before .before .before .before .before in (
-      told-yes (told2′ .told2 .result) (silent-eat′ .silent-eat .result) _ _ _ (told2′ .told2 .ensures .0) (told2′ .told2 .ensures .1) (if2′ .if2 .taken) ∙ way (s′ .args .room) (c-seq (c-act (add-expected′ .add-expected .ensures .0 (tokens-of (s′ .args .t .now)) unlabelled _ _ _)) (c-no (c-act (silent-at′ .silent-at .ensures .0 unlabelled _ _ _)) (if1′ .if1 .left) (c-yes (c-walk (silent-eat′ .silent-eat .ensures .0 (walk-rule (s′ .args .room) (tokens-of (s′ .args .t .now))) unlabelled _ _)) (if2′ .if2 .taken) c-ret))),
-      omega (arith, add-expected′ .add-expected .ensures .1 (s′ .args .t .now), silent-at′ .silent-at .ensures .1 .0, silent-eat′ .silent-eat .ensures .1 .0, silent-eat′ .silent-eat .ensures .1 .1 (if2′ .if2 .taken), told-left (s′ .args .t .now) (told2′ .told2 .result) (silent-eat′ .silent-eat .result) (told2′ .told2 .ensures .0)),
+      told-yes (told2′ .told2 .result) (silent-eat′ .silent-eat .result) _ _ _ (told2′ .told2 .ensures .0) (told2′ .told2 .ensures .1) (if2′ .if2 .taken) ∙ way (s′ .args .allowed) (c-seq (c-act (add-expected′ .add-expected .ensures .0 (tokens-of (s′ .args .tokens .now)) unlabelled _ _ _)) (c-no (c-act (silent-at′ .silent-at .ensures .0 unlabelled _ _ _)) (if1′ .if1 .left) (c-yes (c-walk (silent-eat′ .silent-eat .ensures .0 (walk-rule (s′ .args .allowed) (tokens-of (s′ .args .tokens .now))) unlabelled _ _)) (if2′ .if2 .taken) c-ret))),
+      omega (arith, add-expected′ .add-expected .ensures .1 (s′ .args .tokens .now), silent-at′ .silent-at .ensures .1 .0, silent-eat′ .silent-eat .ensures .1 .0, silent-eat′ .silent-eat .ensures .1 .1 (if2′ .if2 .taken), told-left (s′ .args .tokens .now) (told2′ .told2 .result) (silent-eat′ .silent-eat .result) (told2′ .told2 .ensures .0)),
     )
 
 pub silent-at-requires-2 : (t : ℕ) → lts.Need-silent-at-requires-2 (value-claims t) (value-at t) reads.Post
@@ -101,7 +101,7 @@ dt-cell-list-requires t c κs =
     let silent-at′ = silent-eat′ .before .before .before in
     let add-expected′ = silent-at′ .before in
     let s′ = add-expected′ .before .before .before .before .before in
-    (omega (arith, add-expected′ .add-expected .ensures .1 (s′ .args .t .now), silent-at′ .silent-at .ensures .1 .0, silent-eat′ .silent-eat .ensures .1 .0, silent-at2′ .silent-at2 .ensures .1 .0, silent-at2′ .silent-at2 .ensures .1 .1 (if3′ .if3 .taken), start′ .start .ensures .1 (s′ .args .t .now), s′ .pre .0), tt)
+    (omega (arith, add-expected′ .add-expected .ensures .1 (s′ .args .tokens .now), silent-at′ .silent-at .ensures .1 .0, silent-eat′ .silent-eat .ensures .1 .0, silent-at2′ .silent-at2 .ensures .1 .0, silent-at2′ .silent-at2 .ensures .1 .1 (if3′ .if3 .taken), start′ .start .ensures .1 (s′ .args .tokens .now), s′ .pre .0), tt)
 
 pub told-requires-3 : (t : ℕ) → lts.Need-told-requires-3 (value-claims t) (value-at t) reads.Post
 told-requires-3 t c κs = tt
@@ -142,8 +142,8 @@ returns-3 t c =
     let silent-at′ = if1′ .before in
     let add-expected′ = silent-at′ .before in
     let s′ = add-expected′ .before .before .before .before .before in (
-      told-is (told3′ .told3 .result) (dt-cell-list′ .dt-cell-list .result) _ _ _ (told3′ .told3 .ensures .0) (told3′ .told3 .ensures .1) ∙ way (s′ .args .room) (c-seq (c-act (add-expected′ .add-expected .ensures .0 (tokens-of (s′ .args .t .now)) unlabelled _ _ _)) (c-no (c-act (silent-at′ .silent-at .ensures .0 unlabelled _ _ _)) (if1′ .if1 .left) (c-no (c-walk (silent-eat′ .silent-eat .ensures .0 (walk-rule (s′ .args .room) (tokens-of (s′ .args .t .now))) unlabelled _ _)) (if2′ .if2 .left) (c-yes (c-act (silent-at2′ .silent-at2 .ensures .0 unlabelled _ _ _)) (if3′ .if3 .taken) (c-mark (new′ .new .ensures) (start′ .start .ensures .0 _ _) (c-same (s′ .args .room)) (closing (dt-cell-list′ .dt-cell-list .ensures .0))))))),
-      omega (arith, add-expected′ .add-expected .ensures .1 (s′ .args .t .now), silent-at′ .silent-at .ensures .1 .0, silent-eat′ .silent-eat .ensures .1 .0, silent-at2′ .silent-at2 .ensures .1 .0, silent-at2′ .silent-at2 .ensures .1 .1 (if3′ .if3 .taken), start′ .start .ensures .1 (s′ .args .t .now), dt-cell-list′ .dt-cell-list .ensures .1, told-left (s′ .args .t .now) (told3′ .told3 .result) (dt-cell-list′ .dt-cell-list .result) (told3′ .told3 .ensures .0)),
+      told-is (told3′ .told3 .result) (dt-cell-list′ .dt-cell-list .result) _ _ _ (told3′ .told3 .ensures .0) (told3′ .told3 .ensures .1) ∙ way (s′ .args .allowed) (c-seq (c-act (add-expected′ .add-expected .ensures .0 (tokens-of (s′ .args .tokens .now)) unlabelled _ _ _)) (c-no (c-act (silent-at′ .silent-at .ensures .0 unlabelled _ _ _)) (if1′ .if1 .left) (c-no (c-walk (silent-eat′ .silent-eat .ensures .0 (walk-rule (s′ .args .allowed) (tokens-of (s′ .args .tokens .now))) unlabelled _ _)) (if2′ .if2 .left) (c-yes (c-act (silent-at2′ .silent-at2 .ensures .0 unlabelled _ _ _)) (if3′ .if3 .taken) (c-mark (new′ .new .ensures) (start′ .start .ensures .0 _ _) (c-same (s′ .args .allowed)) (closing (dt-cell-list′ .dt-cell-list .ensures .0))))))),
+      omega (arith, add-expected′ .add-expected .ensures .1 (s′ .args .tokens .now), silent-at′ .silent-at .ensures .1 .0, silent-eat′ .silent-eat .ensures .1 .0, silent-at2′ .silent-at2 .ensures .1 .0, silent-at2′ .silent-at2 .ensures .1 .1 (if3′ .if3 .taken), start′ .start .ensures .1 (s′ .args .tokens .now), dt-cell-list′ .dt-cell-list .ensures .1, told-left (s′ .args .tokens .now) (told3′ .told3 .result) (dt-cell-list′ .dt-cell-list .result) (told3′ .told3 .ensures .0)),
     )
 
 pub value2-requires : (t : ℕ) → lts.Need-value2-requires (value-claims t) (value-at t) reads.Post
@@ -153,7 +153,7 @@ value2-requires t c κs =
     let silent-at′ = silent-eat′ .before .before .before in
     let add-expected′ = silent-at′ .before in
     let s′ = add-expected′ .before .before .before .before .before in
-    (omega (arith, add-expected′ .add-expected .ensures .1 (s′ .args .t .now), silent-at′ .silent-at .ensures .1 .0, silent-eat′ .silent-eat .ensures .1 .0, silent-at2′ .silent-at2 .ensures .1 .0, s′ .pre .0), tt)
+    (omega (arith, add-expected′ .add-expected .ensures .1 (s′ .args .tokens .now), silent-at′ .silent-at .ensures .1 .0, silent-eat′ .silent-eat .ensures .1 .0, silent-at2′ .silent-at2 .ensures .1 .0, s′ .pre .0), tt)
 
 pub same-length-8 : (t : ℕ) → lts.Need-same-length-8 (value-claims t) (value-at t) reads.Post
 same-length-8 t c =
@@ -185,6 +185,6 @@ returns-4 t c =
     let silent-at′ = if1′ .before in
     let add-expected′ = silent-at′ .before in
     let s′ = add-expected′ .before .before .before .before .before in (
-      way (s′ .args .room) (c-seq (c-act (add-expected′ .add-expected .ensures .0 (tokens-of (s′ .args .t .now)) unlabelled _ _ _)) (c-no (c-act (silent-at′ .silent-at .ensures .0 unlabelled _ _ _)) (if1′ .if1 .left) (c-no (c-walk (silent-eat′ .silent-eat .ensures .0 (walk-rule (s′ .args .room) (tokens-of (s′ .args .t .now))) unlabelled _ _)) (if2′ .if2 .left) (c-no (c-act (silent-at2′ .silent-at2 .ensures .0 unlabelled _ _ _)) (if3′ .if3 .left) (c-fn (s′ .args .room) (value2′ .value2 .ensures .0)))))),
-      omega (arith, add-expected′ .add-expected .ensures .1 (s′ .args .t .now), silent-at′ .silent-at .ensures .1 .0, silent-eat′ .silent-eat .ensures .1 .0, silent-at2′ .silent-at2 .ensures .1 .0, value2′ .value2 .ensures .1),
+      way (s′ .args .allowed) (c-seq (c-act (add-expected′ .add-expected .ensures .0 (tokens-of (s′ .args .tokens .now)) unlabelled _ _ _)) (c-no (c-act (silent-at′ .silent-at .ensures .0 unlabelled _ _ _)) (if1′ .if1 .left) (c-no (c-walk (silent-eat′ .silent-eat .ensures .0 (walk-rule (s′ .args .allowed) (tokens-of (s′ .args .tokens .now))) unlabelled _ _)) (if2′ .if2 .left) (c-no (c-act (silent-at2′ .silent-at2 .ensures .0 unlabelled _ _ _)) (if3′ .if3 .left) (c-fn (s′ .args .allowed) (value2′ .value2 .ensures .0)))))),
+      omega (arith, add-expected′ .add-expected .ensures .1 (s′ .args .tokens .now), silent-at′ .silent-at .ensures .1 .0, silent-eat′ .silent-eat .ensures .1 .0, silent-at2′ .silent-at2 .ensures .1 .0, value2′ .value2 .ensures .1),
     )

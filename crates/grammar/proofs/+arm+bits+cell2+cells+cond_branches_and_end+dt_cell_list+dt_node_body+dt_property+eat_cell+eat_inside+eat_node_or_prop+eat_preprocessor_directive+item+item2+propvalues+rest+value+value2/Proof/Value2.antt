@@ -41,8 +41,8 @@ returns t c =
     let if1′ = told′ .before in
     let silent-eat-reference′ = if1′ .before .before .before .before .before .before .before in
     let s′ = silent-eat-reference′ .before .before .before .before .before .before .before .before in (
-      told-yes (told′ .told .result) (silent-eat-reference′ .silent-eat-reference .result) _ _ _ (told′ .told .ensures .0) (told′ .told .ensures .1) (if1′ .if1 .taken) ∙ way (s′ .args .room) (c-yes (c-walk (silent-eat-reference′ .silent-eat-reference .ensures .0 (walk-rule (s′ .args .room) (tokens-of (s′ .args .t .now))) unlabelled)) (if1′ .if1 .taken) c-ret),
-      omega (arith, silent-eat-reference′ .silent-eat-reference .ensures .1 .0, silent-eat-reference′ .silent-eat-reference .ensures .1 .1 (if1′ .if1 .taken), told-left (s′ .args .t .now) (told′ .told .result) (silent-eat-reference′ .silent-eat-reference .result) (told′ .told .ensures .0)),
+      told-yes (told′ .told .result) (silent-eat-reference′ .silent-eat-reference .result) _ _ _ (told′ .told .ensures .0) (told′ .told .ensures .1) (if1′ .if1 .taken) ∙ way (s′ .args .allowed) (c-yes (c-walk (silent-eat-reference′ .silent-eat-reference .ensures .0 (walk-rule (s′ .args .allowed) (tokens-of (s′ .args .tokens .now))) unlabelled)) (if1′ .if1 .taken) c-ret),
+      omega (arith, silent-eat-reference′ .silent-eat-reference .ensures .1 .0, silent-eat-reference′ .silent-eat-reference .ensures .1 .1 (if1′ .if1 .taken), told-left (s′ .args .tokens .now) (told′ .told .result) (silent-eat-reference′ .silent-eat-reference .result) (told′ .told .ensures .0)),
     )
 
 pub silent-at-requires : (t : ℕ) → lts.Need-silent-at-requires (value2-claims t) (value2-at t) reads.Post
@@ -78,7 +78,7 @@ returns-2 t c =
     let if1′ = silent-at′ .before in
     let silent-eat-reference′ = if1′ .before .before .before .before .before .before .before in
     let s′ = silent-eat-reference′ .before .before .before .before .before .before .before .before in (
-      way (s′ .args .room) (c-no (c-walk (silent-eat-reference′ .silent-eat-reference .ensures .0 (walk-rule (s′ .args .room) (tokens-of (s′ .args .t .now))) unlabelled)) (if1′ .if1 .left) (c-yes (c-act (silent-at′ .silent-at .ensures .0 unlabelled _ _ _)) (if2′ .if2 .taken) (c-seq (c-walk (macro-invocation′ .macro-invocation .ensures .0 (walk-rule (s′ .args .room) (tokens-of (s′ .args .t .now))) unlabelled)) c-ret))),
+      way (s′ .args .allowed) (c-no (c-walk (silent-eat-reference′ .silent-eat-reference .ensures .0 (walk-rule (s′ .args .allowed) (tokens-of (s′ .args .tokens .now))) unlabelled)) (if1′ .if1 .left) (c-yes (c-act (silent-at′ .silent-at .ensures .0 unlabelled _ _ _)) (if2′ .if2 .taken) (c-seq (c-walk (macro-invocation′ .macro-invocation .ensures .0 (walk-rule (s′ .args .allowed) (tokens-of (s′ .args .tokens .now))) unlabelled)) c-ret))),
       omega (arith, silent-eat-reference′ .silent-eat-reference .ensures .1 .0, silent-at′ .silent-at .ensures .1 .0, silent-at′ .silent-at .ensures .1 .1 (if2′ .if2 .taken), macro-invocation′ .macro-invocation .ensures .1),
     )
 
@@ -117,8 +117,8 @@ returns-3 t c =
     let if1′ = silent-at′ .before in
     let silent-eat-reference′ = if1′ .before .before .before .before .before .before .before in
     let s′ = silent-eat-reference′ .before .before .before .before .before .before .before .before in (
-      told-yes (told2′ .told2 .result) (silent-eat′ .silent-eat .result) _ _ _ (told2′ .told2 .ensures .0) (told2′ .told2 .ensures .1) (if3′ .if3 .taken) ∙ way (s′ .args .room) (c-no (c-walk (silent-eat-reference′ .silent-eat-reference .ensures .0 (walk-rule (s′ .args .room) (tokens-of (s′ .args .t .now))) unlabelled)) (if1′ .if1 .left) (c-no (c-act (silent-at′ .silent-at .ensures .0 unlabelled _ _ _)) (if2′ .if2 .left) (c-yes {t = true} (c-yes (c-walk (silent-eat′ .silent-eat .ensures .0 (walk-rule (s′ .args .room) (tokens-of (s′ .args .t .now))) unlabelled _ _)) (if3′ .if3 .taken) c-ret) refl c-ret))),
-      omega (arith, silent-eat-reference′ .silent-eat-reference .ensures .1 .0, silent-at′ .silent-at .ensures .1 .0, silent-eat′ .silent-eat .ensures .1 .0, silent-eat′ .silent-eat .ensures .1 .1 (if3′ .if3 .taken), told-left (s′ .args .t .now) (told2′ .told2 .result) (silent-eat′ .silent-eat .result) (told2′ .told2 .ensures .0)),
+      told-yes (told2′ .told2 .result) (silent-eat′ .silent-eat .result) _ _ _ (told2′ .told2 .ensures .0) (told2′ .told2 .ensures .1) (if3′ .if3 .taken) ∙ way (s′ .args .allowed) (c-no (c-walk (silent-eat-reference′ .silent-eat-reference .ensures .0 (walk-rule (s′ .args .allowed) (tokens-of (s′ .args .tokens .now))) unlabelled)) (if1′ .if1 .left) (c-no (c-act (silent-at′ .silent-at .ensures .0 unlabelled _ _ _)) (if2′ .if2 .left) (c-yes {t = true} (c-yes (c-walk (silent-eat′ .silent-eat .ensures .0 (walk-rule (s′ .args .allowed) (tokens-of (s′ .args .tokens .now))) unlabelled _ _)) (if3′ .if3 .taken) c-ret) refl c-ret))),
+      omega (arith, silent-eat-reference′ .silent-eat-reference .ensures .1 .0, silent-at′ .silent-at .ensures .1 .0, silent-eat′ .silent-eat .ensures .1 .0, silent-eat′ .silent-eat .ensures .1 .1 (if3′ .if3 .taken), told-left (s′ .args .tokens .now) (told2′ .told2 .result) (silent-eat′ .silent-eat .result) (told2′ .told2 .ensures .0)),
     )
 
 pub eat-dts-include-requires : (t : ℕ) → lts.Need-eat-dts-include-requires (value2-claims t) (value2-at t) reads.Post
@@ -161,8 +161,8 @@ returns-4 t c =
     let if1′ = silent-at′ .before in
     let silent-eat-reference′ = if1′ .before .before .before .before .before .before .before in
     let s′ = silent-eat-reference′ .before .before .before .before .before .before .before .before in (
-      told-yes (told3′ .told3 .result) (eat-dts-include′ .eat-dts-include .result) _ _ _ (told3′ .told3 .ensures .0) (told3′ .told3 .ensures .1) (if4′ .if4 .taken) ∙ way (s′ .args .room) (c-no (c-walk (silent-eat-reference′ .silent-eat-reference .ensures .0 (walk-rule (s′ .args .room) (tokens-of (s′ .args .t .now))) unlabelled)) (if1′ .if1 .left) (c-no (c-act (silent-at′ .silent-at .ensures .0 unlabelled _ _ _)) (if2′ .if2 .left) (c-yes {t = true} (c-no (c-walk (silent-eat′ .silent-eat .ensures .0 (walk-rule (s′ .args .room) (tokens-of (s′ .args .t .now))) unlabelled _ _)) (if3′ .if3 .left) (c-yes (c-walk (eat-dts-include′ .eat-dts-include .ensures .0 (walk-rule (s′ .args .room) (tokens-of (s′ .args .t .now))) unlabelled)) (if4′ .if4 .taken) c-ret)) refl c-ret))),
-      omega (arith, silent-eat-reference′ .silent-eat-reference .ensures .1 .0, silent-at′ .silent-at .ensures .1 .0, silent-eat′ .silent-eat .ensures .1 .0, eat-dts-include′ .eat-dts-include .ensures .1 .0, eat-dts-include′ .eat-dts-include .ensures .1 .1 (if4′ .if4 .taken), told-left (s′ .args .t .now) (told3′ .told3 .result) (eat-dts-include′ .eat-dts-include .result) (told3′ .told3 .ensures .0)),
+      told-yes (told3′ .told3 .result) (eat-dts-include′ .eat-dts-include .result) _ _ _ (told3′ .told3 .ensures .0) (told3′ .told3 .ensures .1) (if4′ .if4 .taken) ∙ way (s′ .args .allowed) (c-no (c-walk (silent-eat-reference′ .silent-eat-reference .ensures .0 (walk-rule (s′ .args .allowed) (tokens-of (s′ .args .tokens .now))) unlabelled)) (if1′ .if1 .left) (c-no (c-act (silent-at′ .silent-at .ensures .0 unlabelled _ _ _)) (if2′ .if2 .left) (c-yes {t = true} (c-no (c-walk (silent-eat′ .silent-eat .ensures .0 (walk-rule (s′ .args .allowed) (tokens-of (s′ .args .tokens .now))) unlabelled _ _)) (if3′ .if3 .left) (c-yes (c-walk (eat-dts-include′ .eat-dts-include .ensures .0 (walk-rule (s′ .args .allowed) (tokens-of (s′ .args .tokens .now))) unlabelled)) (if4′ .if4 .taken) c-ret)) refl c-ret))),
+      omega (arith, silent-eat-reference′ .silent-eat-reference .ensures .1 .0, silent-at′ .silent-at .ensures .1 .0, silent-eat′ .silent-eat .ensures .1 .0, eat-dts-include′ .eat-dts-include .ensures .1 .0, eat-dts-include′ .eat-dts-include .ensures .1 .1 (if4′ .if4 .taken), told-left (s′ .args .tokens .now) (told3′ .told3 .result) (eat-dts-include′ .eat-dts-include .result) (told3′ .told3 .ensures .0)),
     )
 
 pub eat-preprocessor-directive-requires : (t : ℕ) → lts.Need-eat-preprocessor-directive-requires (value2-claims t) (value2-at t) reads.Post
@@ -216,8 +216,8 @@ returns-5 t c =
     let if1′ = silent-at′ .before in
     let silent-eat-reference′ = if1′ .before .before .before .before .before .before .before in
     let s′ = silent-eat-reference′ .before .before .before .before .before .before .before .before in (
-      told-yes (told4′ .told4 .result) (eat-preprocessor-directive′ .eat-preprocessor-directive .result) _ _ _ (told4′ .told4 .ensures .0) (told4′ .told4 .ensures .1) (if5′ .if5 .taken) ∙ way (s′ .args .room) (c-no (c-walk (silent-eat-reference′ .silent-eat-reference .ensures .0 (walk-rule (s′ .args .room) (tokens-of (s′ .args .t .now))) unlabelled)) (if1′ .if1 .left) (c-no (c-act (silent-at′ .silent-at .ensures .0 unlabelled _ _ _)) (if2′ .if2 .left) (c-yes (c-no (c-walk (silent-eat′ .silent-eat .ensures .0 (walk-rule (s′ .args .room) (tokens-of (s′ .args .t .now))) unlabelled _ _)) (if3′ .if3 .left) (c-no (c-walk (eat-dts-include′ .eat-dts-include .ensures .0 (walk-rule (s′ .args .room) (tokens-of (s′ .args .t .now))) unlabelled)) (if4′ .if4 .left) (c-fn (s′ .args .room) (eat-preprocessor-directive′ .eat-preprocessor-directive .ensures .0)))) (if5′ .if5 .taken) c-ret))),
-      omega (arith, silent-eat-reference′ .silent-eat-reference .ensures .1 .0, silent-at′ .silent-at .ensures .1 .0, silent-eat′ .silent-eat .ensures .1 .0, eat-dts-include′ .eat-dts-include .ensures .1 .0, eat-preprocessor-directive′ .eat-preprocessor-directive .ensures .1 .0, eat-preprocessor-directive′ .eat-preprocessor-directive .ensures .1 .1 (if5′ .if5 .taken), told-left (s′ .args .t .now) (told4′ .told4 .result) (eat-preprocessor-directive′ .eat-preprocessor-directive .result) (told4′ .told4 .ensures .0)),
+      told-yes (told4′ .told4 .result) (eat-preprocessor-directive′ .eat-preprocessor-directive .result) _ _ _ (told4′ .told4 .ensures .0) (told4′ .told4 .ensures .1) (if5′ .if5 .taken) ∙ way (s′ .args .allowed) (c-no (c-walk (silent-eat-reference′ .silent-eat-reference .ensures .0 (walk-rule (s′ .args .allowed) (tokens-of (s′ .args .tokens .now))) unlabelled)) (if1′ .if1 .left) (c-no (c-act (silent-at′ .silent-at .ensures .0 unlabelled _ _ _)) (if2′ .if2 .left) (c-yes (c-no (c-walk (silent-eat′ .silent-eat .ensures .0 (walk-rule (s′ .args .allowed) (tokens-of (s′ .args .tokens .now))) unlabelled _ _)) (if3′ .if3 .left) (c-no (c-walk (eat-dts-include′ .eat-dts-include .ensures .0 (walk-rule (s′ .args .allowed) (tokens-of (s′ .args .tokens .now))) unlabelled)) (if4′ .if4 .left) (c-fn (s′ .args .allowed) (eat-preprocessor-directive′ .eat-preprocessor-directive .ensures .0)))) (if5′ .if5 .taken) c-ret))),
+      omega (arith, silent-eat-reference′ .silent-eat-reference .ensures .1 .0, silent-at′ .silent-at .ensures .1 .0, silent-eat′ .silent-eat .ensures .1 .0, eat-dts-include′ .eat-dts-include .ensures .1 .0, eat-preprocessor-directive′ .eat-preprocessor-directive .ensures .1 .0, eat-preprocessor-directive′ .eat-preprocessor-directive .ensures .1 .1 (if5′ .if5 .taken), told-left (s′ .args .tokens .now) (told4′ .told4 .result) (eat-preprocessor-directive′ .eat-preprocessor-directive .result) (told4′ .told4 .ensures .0)),
     )
 
 pub error-requires : (t : ℕ) → lts.Need-error-requires (value2-claims t) (value2-at t) reads.Post
@@ -265,6 +265,6 @@ returns-6 t c =
     let if1′ = silent-at′ .before in
     let silent-eat-reference′ = if1′ .before .before .before .before .before .before .before in
     let s′ = silent-eat-reference′ .before .before .before .before .before .before .before .before in (
-      way (s′ .args .room) (c-no (c-walk (silent-eat-reference′ .silent-eat-reference .ensures .0 (walk-rule (s′ .args .room) (tokens-of (s′ .args .t .now))) unlabelled)) (if1′ .if1 .left) (c-no (c-act (silent-at′ .silent-at .ensures .0 unlabelled _ _ _)) (if2′ .if2 .left) (c-no (c-no (c-walk (silent-eat′ .silent-eat .ensures .0 (walk-rule (s′ .args .room) (tokens-of (s′ .args .t .now))) unlabelled _ _)) (if3′ .if3 .left) (c-no (c-walk (eat-dts-include′ .eat-dts-include .ensures .0 (walk-rule (s′ .args .room) (tokens-of (s′ .args .t .now))) unlabelled)) (if4′ .if4 .left) (c-fn (s′ .args .room) (eat-preprocessor-directive′ .eat-preprocessor-directive .ensures .0)))) (if5′ .if5 .left) (c-seq (c-walk (error′ .error .ensures .0 (walk-rule (s′ .args .room) (tokens-of (s′ .args .t .now))) unlabelled)) c-ret)))),
+      way (s′ .args .allowed) (c-no (c-walk (silent-eat-reference′ .silent-eat-reference .ensures .0 (walk-rule (s′ .args .allowed) (tokens-of (s′ .args .tokens .now))) unlabelled)) (if1′ .if1 .left) (c-no (c-act (silent-at′ .silent-at .ensures .0 unlabelled _ _ _)) (if2′ .if2 .left) (c-no (c-no (c-walk (silent-eat′ .silent-eat .ensures .0 (walk-rule (s′ .args .allowed) (tokens-of (s′ .args .tokens .now))) unlabelled _ _)) (if3′ .if3 .left) (c-no (c-walk (eat-dts-include′ .eat-dts-include .ensures .0 (walk-rule (s′ .args .allowed) (tokens-of (s′ .args .tokens .now))) unlabelled)) (if4′ .if4 .left) (c-fn (s′ .args .allowed) (eat-preprocessor-directive′ .eat-preprocessor-directive .ensures .0)))) (if5′ .if5 .left) (c-seq (c-walk (error′ .error .ensures .0 (walk-rule (s′ .args .allowed) (tokens-of (s′ .args .tokens .now))) unlabelled)) c-ret)))),
       omega (arith, silent-eat-reference′ .silent-eat-reference .ensures .1 .0, silent-at′ .silent-at .ensures .1 .0, silent-eat′ .silent-eat .ensures .1 .0, eat-dts-include′ .eat-dts-include .ensures .1 .0, eat-preprocessor-directive′ .eat-preprocessor-directive .ensures .1 .0, error′ .error .ensures .1),
     )

@@ -95,7 +95,7 @@ returns-2 c =
     let a = c .before .before .before .before .before .before in
     let d = a .before .before .before .before in
     let s = d .before .before .before .before .before .before in
-    (a .reference-noamp .ensures .0 (walk-rule 64 (tokens-of (s .args .t .now))) unlabelled ∙ part-on 64 (entered (d .enum-told2 .given .1) c-any), omega (arith, a .reference-noamp .ensures .1))
+    (a .reference-noamp .ensures .0 (walk-rule 64 (tokens-of (s .args .tokens .now))) unlabelled ∙ part-on 64 (entered (d .enum-told2 .given .1) c-any), omega (arith, a .reference-noamp .ensures .1))
 
 same-length-7 : tie.Need-same-length-7
 same-length-7 c =

@@ -69,7 +69,7 @@ loop-again c =
     let e = d .before in
     let f = e .before in
     let s = f .before .before .before .before .before in
-    (again-part 64 (c-yes {t = true} (c-no (c-act (e .at-end .ensures .0 unlabelled _ _ _)) (d .if1 .left) c-ret) refl (c-part-on 64 (a .sourcefile-part .ensures .0) c-ret)) (ahead-falls (s .args .t .now) (f .loop .q .s) (a .sourcefile-part .result .s) (omega (arith, f .loop .inv .1 .0, e .at-end .ensures .1 .0, e .at-end .ensures .1 .1 .0 (d .if1 .left), a .sourcefile-part .ensures .1))) ∙ f .loop .inv .0, (omega (arith, f .loop .inv .1 .0, e .at-end .ensures .1 .0, e .at-end .ensures .1 .1 .0 (d .if1 .left), a .sourcefile-part .ensures .1), (omega (arith, f .loop .inv .1 .1, a .sourcefile-part .kept), (omega (arith, f .loop .inv .1 .1, a .sourcefile-part .kept), omega (arith, f .loop .inv .1 .1, a .sourcefile-part .kept)))))
+    (again-part 64 (c-yes {t = true} (c-no (c-act (e .at-end .ensures .0 unlabelled _ _ _)) (d .if1 .left) c-ret) refl (c-part-on 64 (a .sourcefile-part .ensures .0) c-ret)) (ahead-falls (s .args .tokens .now) (f .loop .q .s) (a .sourcefile-part .result .s) (omega (arith, f .loop .inv .1 .0, e .at-end .ensures .1 .0, e .at-end .ensures .1 .1 .0 (d .if1 .left), a .sourcefile-part .ensures .1))) ∙ f .loop .inv .0, (omega (arith, f .loop .inv .1 .0, e .at-end .ensures .1 .0, e .at-end .ensures .1 .1 .0 (d .if1 .left), a .sourcefile-part .ensures .1), (omega (arith, f .loop .inv .1 .1, a .sourcefile-part .kept), (omega (arith, f .loop .inv .1 .1, a .sourcefile-part .kept), omega (arith, f .loop .inv .1 .1, a .sourcefile-part .kept)))))
 
 pub entry-sourcefile-spec : {M : Type 1} → statement M
 entry-sourcefile-spec = tie.close (tie.spec Inv-loop μ-loop loop-holds at-end-requires same-length same-length-2 same-length-3 returns sourcefile-part-requires loop-less loop-again)

@@ -45,7 +45,7 @@ returns c =
     let d = a .before .before .before .before .before .before .before .before .before .before in
     let e = d .before .before .before .before in
     let s = e .before .before .before .before .before in
-    part-on 64 (c-part-on 64 (d .enter .ensures .0) (c-walk (a .left-over .ensures .0 (walk-rule 64 (tokens-of (s .args .t .now))) unlabelled))) ∙ ap (λ (m : Machine). walk-prog 64 (tokens-of (s .args .t .now)) unlabelled (whole (entry-of (s .args .entrypoint))) m .on) (e .new .ensures _ _ _)
+    part-on 64 (c-part-on 64 (d .enter .ensures .0) (c-walk (a .left-over .ensures .0 (walk-rule 64 (tokens-of (s .args .tokens .now))) unlabelled))) ∙ ap (λ (m : Machine). walk-prog 64 (tokens-of (s .args .tokens .now)) unlabelled (whole (entry-of (s .args .entrypoint))) m .on) (e .new .ensures _ _ _)
 
 pub parse-spec : {M : Type 1} → statement M
 parse-spec = tie.close (tie.spec new-requires enter-requires left-over-requires same-length same-length-2 same-length-3 returns)

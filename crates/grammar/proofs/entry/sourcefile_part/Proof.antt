@@ -38,7 +38,7 @@ returns c =
     let d = a .before .before .before .before in
     let e = d .before in
     let s = e .before .before .before .before .before in
-    (part-on 64 (c-yes (c-act (e .silent-at .ensures .0 unlabelled _ _ _)) (d .if1 .taken) (c-walk (a .unmatched-rcurly .ensures .0 (walk-rule 64 (tokens-of (s .args .t .now))) unlabelled))), omega (arith, e .silent-at .ensures .1 .0, e .silent-at .ensures .1 .1 (d .if1 .taken), a .unmatched-rcurly .ensures .1))
+    (part-on 64 (c-yes (c-act (e .silent-at .ensures .0 unlabelled _ _ _)) (d .if1 .taken) (c-walk (a .unmatched-rcurly .ensures .0 (walk-rule 64 (tokens-of (s .args .tokens .now))) unlabelled))), omega (arith, e .silent-at .ensures .1 .0, e .silent-at .ensures .1 .1 (d .if1 .taken), a .unmatched-rcurly .ensures .1))
 
 catch-unmatched-pp-directive-requires : tie.Need-catch-unmatched-pp-directive-requires
 catch-unmatched-pp-directive-requires c κs = tt

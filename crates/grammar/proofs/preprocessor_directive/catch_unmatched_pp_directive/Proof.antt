@@ -40,7 +40,7 @@ returns c =
     let d = a .before .before .before .before in
     let e = d .before in
     let s = e .before .before .before .before .before in
-    (way (s .args .room) (c-yes (c-act (e .silent-at .ensures .0 unlabelled _ _ _)) (d .if1 .taken) (c-seq (c-walk (a .error .ensures .0 (walk-rule (s .args .room) (tokens-of (s .args .t .now))) unlabelled)) c-ret)), (omega (arith, e .silent-at .ensures .1 .0, e .silent-at .ensures .1 .1 (d .if1 .taken), a .error .ensures .1), λ h. omega (arith, e .silent-at .ensures .1 .0, e .silent-at .ensures .1 .1 (d .if1 .taken), a .error .ensures .1)))
+    (way (s .args .allowed) (c-yes (c-act (e .silent-at .ensures .0 unlabelled _ _ _)) (d .if1 .taken) (c-seq (c-walk (a .error .ensures .0 (walk-rule (s .args .allowed) (tokens-of (s .args .tokens .now))) unlabelled)) c-ret)), (omega (arith, e .silent-at .ensures .1 .0, e .silent-at .ensures .1 .1 (d .if1 .taken), a .error .ensures .1), λ h. omega (arith, e .silent-at .ensures .1 .0, e .silent-at .ensures .1 .1 (d .if1 .taken), a .error .ensures .1)))
 
 slice-aggregate-silent-at-set : tie.Need-slice-aggregate-silent-at-set
 slice-aggregate-silent-at-set c = search needs
@@ -107,7 +107,7 @@ returns-2 c =
     let m = l .before .before in
     let n = m .before in
     let s = n .before .before .before .before .before in
-    (way (s .args .room) (c-no (c-act (n .silent-at .ensures .0 unlabelled _ _ _)) (m .if1 .left) (c-yes (c-act (l .silent-at-set .ensures .0 unlabelled _ _ _)) (j .if2 .taken) (c-seq (c-walk (i .error2 .ensures .0 (walk-rule (s .args .room) (tokens-of (s .args .t .now))) unlabelled)) (c-seq (c-mark (g .new .ensures) (f .start .ensures .0 _ _) (c-assoc (c-seq (c-act (e .bump .ensures .0 unlabelled _ _)) (c-part-on (s .args .room) (d .cond-branches-and-end .ensures .0) c-ret))) (completed 9 (a .complete .ensures .0 _ _))) c-ret)))), (omega (arith, n .silent-at .ensures .1 .0, l .silent-at-set .ensures .1 .0, l .silent-at-set .ensures .1 .1 (j .if2 .taken), i .error2 .ensures .1, f .start .ensures .1 (s .args .t .now), e .bump .ensures .1, d .cond-branches-and-end .ensures .1, a .complete .ensures .1 (s .args .t .now)), λ h. omega (arith, n .silent-at .ensures .1 .0, l .silent-at-set .ensures .1 .0, l .silent-at-set .ensures .1 .1 (j .if2 .taken), i .error2 .ensures .1, f .start .ensures .1 (s .args .t .now), e .bump .ensures .1, d .cond-branches-and-end .ensures .1, a .complete .ensures .1 (s .args .t .now))))
+    (way (s .args .allowed) (c-no (c-act (n .silent-at .ensures .0 unlabelled _ _ _)) (m .if1 .left) (c-yes (c-act (l .silent-at-set .ensures .0 unlabelled _ _ _)) (j .if2 .taken) (c-seq (c-walk (i .error2 .ensures .0 (walk-rule (s .args .allowed) (tokens-of (s .args .tokens .now))) unlabelled)) (c-seq (c-mark (g .new .ensures) (f .start .ensures .0 _ _) (c-assoc (c-seq (c-act (e .bump .ensures .0 unlabelled _ _)) (c-part-on (s .args .allowed) (d .cond-branches-and-end .ensures .0) c-ret))) (completed 9 (a .complete .ensures .0 _ _))) c-ret)))), (omega (arith, n .silent-at .ensures .1 .0, l .silent-at-set .ensures .1 .0, l .silent-at-set .ensures .1 .1 (j .if2 .taken), i .error2 .ensures .1, f .start .ensures .1 (s .args .tokens .now), e .bump .ensures .1, d .cond-branches-and-end .ensures .1, a .complete .ensures .1 (s .args .tokens .now)), λ h. omega (arith, n .silent-at .ensures .1 .0, l .silent-at-set .ensures .1 .0, l .silent-at-set .ensures .1 .1 (j .if2 .taken), i .error2 .ensures .1, f .start .ensures .1 (s .args .tokens .now), e .bump .ensures .1, d .cond-branches-and-end .ensures .1, a .complete .ensures .1 (s .args .tokens .now))))
 
 returns-3 : tie.Need-returns-3
 unfolding catch-unmatched-pp-directive silent
@@ -117,7 +117,7 @@ returns-3 c =
     let e = d .before .before in
     let f = e .before in
     let s = f .before .before .before .before .before in
-    (way (s .args .room) (c-no (c-act (f .silent-at .ensures .0 unlabelled _ _ _)) (e .if1 .left) (c-no (c-act (d .silent-at-set .ensures .0 unlabelled _ _ _)) (a .if2 .left) (c-ret-no (a .if2 .left)))), (omega (arith, f .silent-at .ensures .1 .0, d .silent-at-set .ensures .1 .0), λ h. true-false (sym h ∙ a .if2 .left)))
+    (way (s .args .allowed) (c-no (c-act (f .silent-at .ensures .0 unlabelled _ _ _)) (e .if1 .left) (c-no (c-act (d .silent-at-set .ensures .0 unlabelled _ _ _)) (a .if2 .left) (c-ret-no (a .if2 .left)))), (omega (arith, f .silent-at .ensures .1 .0, d .silent-at-set .ensures .1 .0), λ h. true-false (sym h ∙ a .if2 .left)))
 
 pub catch-unmatched-pp-directive-spec : {M : Type 1} → statement M
 catch-unmatched-pp-directive-spec = tie.close (tie.spec silent-at-requires error-requires same-length same-length-2 same-length-3 returns slice-aggregate-silent-at-set silent-at-set-requires error-requires-2 new-requires start-requires bump-requires cond-branches-and-end-requires complete-requires same-length-4 same-length-5 same-length-6 returns-2 returns-3)

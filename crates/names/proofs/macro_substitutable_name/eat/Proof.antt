@@ -47,7 +47,7 @@ returns-2 c =
     let d = a .before .before in
     let e = d .before in
     let s = e .before .before .before .before .before in
-    (λ ask b. whole (opened (eat-is MacroSubstitutableName) (if-no (opened name-matches-is (acts (e .silent .ensures .0 b _ _ _ _))) (ap truth (d .if1 .left)) (seq (opened name-expected-is (does (a .push-expected .ensures .0 ask (tokens-of (s .args .t .now)) b _ _ _))) tells))), (omega (flags, e .silent .ensures .1 .0, a .push-expected .ensures .1 (s .args .t .now)), λ h. false-true h))
+    (λ ask b. whole (opened (eat-is MacroSubstitutableName) (if-no (opened name-matches-is (acts (e .silent .ensures .0 b _ _ _ _))) (ap truth (d .if1 .left)) (seq (opened name-expected-is (does (a .push-expected .ensures .0 ask (tokens-of (s .args .tokens .now)) b _ _ _))) tells))), (omega (flags, e .silent .ensures .1 .0, a .push-expected .ensures .1 (s .args .tokens .now)), λ h. false-true h))
 
 pub eat-spec : {M : Type 1} → statement M
 eat-spec = tie.close (tie.spec silent-requires consume-requires push-expected-requires same-length same-length-2 same-length-3 returns returns-2)

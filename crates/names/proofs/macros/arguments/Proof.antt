@@ -53,7 +53,7 @@ loop-less c =
     let g = f .before .before .before .before in
     let i = g .before .before .before in
     let s = i .before .before .before in
-    omega (flags, i .loop .inv .1 .0, g .start .ensures .1 (s .args .t .now), f .bump-argument .ensures .1 .0, f .bump-argument .ensures .1 .1 (d .if1 .taken), e .complete .ensures .1 (s .args .t .now), a .bump .ensures .1)
+    omega (flags, i .loop .inv .1 .0, g .start .ensures .1 (s .args .tokens .now), f .bump-argument .ensures .1 .0, f .bump-argument .ensures .1 .1 (d .if1 .taken), e .complete .ensures .1 (s .args .tokens .now), a .bump .ensures .1)
 
 loop-again : tie.Need-loop-again Inv-loop μ-loop
 loop-again c =
@@ -65,7 +65,7 @@ loop-again c =
     let i = g .before .before in
     let j = i .before in
     let s = j .before .before .before in
-    (λ ask b codes rep pool. turns (opened macro-argument-turn-is (if-yes (completes (lit< tt) (i .new .ensures) (g .start .ensures .0 _ _ _) (if-yes (acts (f .bump-argument .ensures .0 b _ _ _)) (ap truth (d .if1 .taken)) tells) (e .complete .ensures .0 _ _ _)) refl (seq (acts (a .bump .ensures .0 b codes rep pool)) tells))) (ahead-falls (s .args .t .now) (j .loop .q) (a .bump .result) (omega (flags, j .loop .inv .1 .0, g .start .ensures .1 (s .args .t .now), f .bump-argument .ensures .1 .0, f .bump-argument .ensures .1 .1 (d .if1 .taken), e .complete .ensures .1 (s .args .t .now), a .bump .ensures .1))) ∙ j .loop .inv .0 ask b codes rep pool, (omega (flags, j .loop .inv .1 .0, g .start .ensures .1 (s .args .t .now), f .bump-argument .ensures .1 .0, f .bump-argument .ensures .1 .1 (d .if1 .taken), e .complete .ensures .1 (s .args .t .now), a .bump .ensures .1), omega (arith, j .loop .inv .1 .1, g .start .kept, f .bump-argument .kept, e .complete .kept, a .bump .kept)))
+    (λ ask b codes rep pool. turns (opened macro-argument-turn-is (if-yes (completes (lit< tt) (i .new .ensures) (g .start .ensures .0 _ _ _) (if-yes (acts (f .bump-argument .ensures .0 b _ _ _)) (ap truth (d .if1 .taken)) tells) (e .complete .ensures .0 _ _ _)) refl (seq (acts (a .bump .ensures .0 b codes rep pool)) tells))) (ahead-falls (s .args .tokens .now) (j .loop .q) (a .bump .result) (omega (flags, j .loop .inv .1 .0, g .start .ensures .1 (s .args .tokens .now), f .bump-argument .ensures .1 .0, f .bump-argument .ensures .1 .1 (d .if1 .taken), e .complete .ensures .1 (s .args .tokens .now), a .bump .ensures .1))) ∙ j .loop .inv .0 ask b codes rep pool, (omega (flags, j .loop .inv .1 .0, g .start .ensures .1 (s .args .tokens .now), f .bump-argument .ensures .1 .0, f .bump-argument .ensures .1 .1 (d .if1 .taken), e .complete .ensures .1 (s .args .tokens .now), a .bump .ensures .1), omega (arith, j .loop .inv .1 .1, g .start .kept, f .bump-argument .kept, e .complete .kept, a .bump .kept)))
 
 same-length : tie.Need-same-length Inv-loop μ-loop
 same-length c =
@@ -84,7 +84,7 @@ returns c =
     let g = f .before .before in
     let i = g .before in
     let s = i .before .before .before in
-    (λ ask b codes rep pool. stops-yes (opened macro-argument-turn-is (if-no (completes (lit< tt) (g .new .ensures) (f .start .ensures .0 _ _ _) (if-no (acts (e .bump-argument .ensures .0 b _ _ _)) (ap truth (a .if1 .left)) tells) (d .complete .ensures .0 _ _ _)) refl tells)) ∙ i .loop .inv .0 ask b codes rep pool, omega (flags, i .loop .inv .1 .0, f .start .ensures .1 (s .args .t .now), e .bump-argument .ensures .1 .0, d .complete .ensures .1 (s .args .t .now)))
+    (λ ask b codes rep pool. stops-yes (opened macro-argument-turn-is (if-no (completes (lit< tt) (g .new .ensures) (f .start .ensures .0 _ _ _) (if-no (acts (e .bump-argument .ensures .0 b _ _ _)) (ap truth (a .if1 .left)) tells) (d .complete .ensures .0 _ _ _)) refl tells)) ∙ i .loop .inv .0 ask b codes rep pool, omega (flags, i .loop .inv .1 .0, f .start .ensures .1 (s .args .tokens .now), e .bump-argument .ensures .1 .0, d .complete .ensures .1 (s .args .tokens .now)))
 
 pub arguments-spec : {M : Type 1} → statement M
 arguments-spec = tie.close (tie.spec Inv-loop μ-loop loop-holds new-requires start-requires bump-argument-requires complete-requires bump-requires loop-less loop-again same-length returns)

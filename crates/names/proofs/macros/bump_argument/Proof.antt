@@ -34,7 +34,7 @@ part-of-requires : tie.Need-part-of-requires Inv-loop μ-loop
 part-of-requires c κs =
     let a = c .before .before in
     let s = a .before .before .before in
-    omega (flags, a .loop .inv .1 .0, few-left (s .args .t .now) (s .args .s) (omega arith))
+    omega (flags, a .loop .inv .1 .0, few-left (s .args .tokens .now) (s .args .s) (omega arith))
 
 enum-told : tie.Need-enum-told Inv-loop μ-loop
 enum-told c =
@@ -54,7 +54,7 @@ returns c =
     let f = e .before in
     let g = f .before in
     let s = g .before .before .before in
-    (λ b codes rep pool. argue-comma (tokens-of (s .args .t .now)) (g .loop .level) (view (g .loop .q) codes (g .loop .ev) rep pool) (view (f .peek .result) codes (g .loop .ev) rep pool) (few-rows (s .args .t .now) (omega arith)) (f .peek .ensures .0 codes (g .loop .ev) rep pool) (d .part-of .result) (d .part-of .ensures ∙ ap (λ k. part k (g .loop .level)) (e .kind-at .ensures .0)) (a .enum-told .given .1) ∙ g .loop .inv .0 codes rep pool ∙ argue-whole (tokens-of (s .args .t .now)) b (view (s .args .s) codes (s .args .ev .now) rep pool), (omega (flags, f .peek .ensures .1, g .loop .inv .1 .0), λ h. some-left (s .args .t .now) (f .peek .result) (e .kind-at .ensures .1 (comma-some (e .kind-at .result) (g .loop .level) (d .part-of .result) (d .part-of .ensures) (a .enum-told .given .1)))))
+    (λ b codes rep pool. argue-comma (tokens-of (s .args .tokens .now)) (g .loop .level) (view (g .loop .q) codes (g .loop .ev) rep pool) (view (f .peek .result) codes (g .loop .ev) rep pool) (few-rows (s .args .tokens .now) (omega arith)) (f .peek .ensures .0 codes (g .loop .ev) rep pool) (d .part-of .result) (d .part-of .ensures ∙ ap (λ k. part k (g .loop .level)) (e .kind-at .ensures .0)) (a .enum-told .given .1) ∙ g .loop .inv .0 codes rep pool ∙ argue-whole (tokens-of (s .args .tokens .now)) b (view (s .args .s) codes (s .args .events .now) rep pool), (omega (flags, f .peek .ensures .1, g .loop .inv .1 .0), λ h. some-left (s .args .tokens .now) (f .peek .result) (e .kind-at .ensures .1 (comma-some (e .kind-at .result) (g .loop .level) (d .part-of .result) (d .part-of .ensures) (a .enum-told .given .1)))))
 
 enum-told-2 : tie.Need-enum-told-2 Inv-loop μ-loop
 enum-told-2 c =
@@ -74,7 +74,7 @@ returns-2 c =
     let f = e .before in
     let g = f .before in
     let s = g .before .before .before in
-    (λ b codes rep pool. argue-end (tokens-of (s .args .t .now)) (g .loop .level) (view (g .loop .q) codes (g .loop .ev) rep pool) (view (f .peek .result) codes (g .loop .ev) rep pool) (few-rows (s .args .t .now) (omega arith)) (f .peek .ensures .0 codes (g .loop .ev) rep pool) (d .part-of .result) (d .part-of .ensures ∙ ap (λ k. part k (g .loop .level)) (e .kind-at .ensures .0)) (a .enum-told2 .given .1) ∙ g .loop .inv .0 codes rep pool ∙ argue-whole (tokens-of (s .args .t .now)) b (view (s .args .s) codes (s .args .ev .now) rep pool), (omega (flags, f .peek .ensures .1, g .loop .inv .1 .0), λ h. false-true h))
+    (λ b codes rep pool. argue-end (tokens-of (s .args .tokens .now)) (g .loop .level) (view (g .loop .q) codes (g .loop .ev) rep pool) (view (f .peek .result) codes (g .loop .ev) rep pool) (few-rows (s .args .tokens .now) (omega arith)) (f .peek .ensures .0 codes (g .loop .ev) rep pool) (d .part-of .result) (d .part-of .ensures ∙ ap (λ k. part k (g .loop .level)) (e .kind-at .ensures .0)) (a .enum-told2 .given .1) ∙ g .loop .inv .0 codes rep pool ∙ argue-whole (tokens-of (s .args .tokens .now)) b (view (s .args .s) codes (s .args .events .now) rep pool), (omega (flags, f .peek .ensures .1, g .loop .inv .1 .0), λ h. false-true h))
 
 enum-known-here-is : tie.Need-enum-known-here-is Inv-loop μ-loop
 enum-known-here-is c =
@@ -93,7 +93,7 @@ loop-less c =
     let g = f .before in
     let i = g .before in
     let s = i .before .before .before in
-    omega (flags, some-left (s .args .t .now) (g .peek .result) (f .kind-at .ensures .1 (inside-some (f .kind-at .result) (i .loop .level) (d .here-is .given .0 .0) (e .part-of .result) (e .part-of .ensures) (d .here-is .given .1))), g .peek .ensures .1, a .bump .ensures .1)
+    omega (flags, some-left (s .args .tokens .now) (g .peek .result) (f .kind-at .ensures .1 (inside-some (f .kind-at .result) (i .loop .level) (d .here-is .given .0 .0) (e .part-of .result) (e .part-of .ensures) (d .here-is .given .1))), g .peek .ensures .1, a .bump .ensures .1)
 
 loop-again : tie.Need-loop-again Inv-loop μ-loop
 loop-again c =
@@ -104,7 +104,7 @@ loop-again c =
     let g = f .before in
     let i = g .before in
     let s = i .before .before .before in
-    (λ codes rep pool. argue-on (tokens-of (s .args .t .now)) (i .loop .level) (view (i .loop .q) codes (i .loop .ev) rep pool) (view (g .peek .result) codes (i .loop .ev) rep pool) (few-rows (s .args .t .now) (omega arith)) (g .peek .ensures .0 codes (i .loop .ev) rep pool) (e .part-of .result) (e .part-of .ensures ∙ ap (λ k. part k (i .loop .level)) (f .kind-at .ensures .0)) unlabelled (d .here-is .given .0 .0) (view (a .bump .result) codes _ rep pool) (d .here-is .given .1) (a .bump .ensures .0 unlabelled codes rep pool) ∙ i .loop .inv .0 codes rep pool, (omega (flags, some-left (s .args .t .now) (g .peek .result) (f .kind-at .ensures .1 (inside-some (f .kind-at .result) (i .loop .level) (d .here-is .given .0 .0) (e .part-of .result) (e .part-of .ensures) (d .here-is .given .1))), inside-most (f .kind-at .result) (i .loop .level) (d .here-is .given .0 .0) (e .part-of .result) (e .part-of .ensures) (d .here-is .given .1), g .peek .ensures .1, a .bump .ensures .1, i .loop .inv .1 .0), omega (arith, a .bump .kept, i .loop .inv .1 .1)))
+    (λ codes rep pool. argue-on (tokens-of (s .args .tokens .now)) (i .loop .level) (view (i .loop .q) codes (i .loop .ev) rep pool) (view (g .peek .result) codes (i .loop .ev) rep pool) (few-rows (s .args .tokens .now) (omega arith)) (g .peek .ensures .0 codes (i .loop .ev) rep pool) (e .part-of .result) (e .part-of .ensures ∙ ap (λ k. part k (i .loop .level)) (f .kind-at .ensures .0)) unlabelled (d .here-is .given .0 .0) (view (a .bump .result) codes _ rep pool) (d .here-is .given .1) (a .bump .ensures .0 unlabelled codes rep pool) ∙ i .loop .inv .0 codes rep pool, (omega (flags, some-left (s .args .tokens .now) (g .peek .result) (f .kind-at .ensures .1 (inside-some (f .kind-at .result) (i .loop .level) (d .here-is .given .0 .0) (e .part-of .result) (e .part-of .ensures) (d .here-is .given .1))), inside-most (f .kind-at .result) (i .loop .level) (d .here-is .given .0 .0) (e .part-of .result) (e .part-of .ensures) (d .here-is .given .1), g .peek .ensures .1, a .bump .ensures .1, i .loop .inv .1 .0), omega (arith, a .bump .kept, i .loop .inv .1 .1)))
 
 pub bump-argument-spec : {M : Type 1} → statement M
 bump-argument-spec = tie.close (tie.spec Inv-loop μ-loop loop-holds peek-requires kind-at-requires part-of-requires enum-told same-length returns enum-told-2 same-length-2 returns-2 enum-known-here-is bump-requires loop-less loop-again)

@@ -64,7 +64,7 @@ returns c =
     let i = g .before .before .before .before in
     let j = i .before .before in
     let s = j .before .before .before .before .before in
-    (λ ask b. whole (opened macro-invocation-is (completes (lit< tt) (j .new .ensures) (i .start .ensures .0 _ _ _) (seq (seq (acts (g .bump .ensures .0 b _ _ _)) (if-yes (does (f .at-immediate .ensures .0 ask b _ _ _)) (ap truth (e .if1 .taken)) (lands (d .argument-list .ensures .0 ask b)))) tells) (a .complete .ensures .0 _ _ _))), omega (flags, i .start .ensures .1 (s .args .t .now), g .bump .ensures .1, f .at-immediate .ensures .1 .0, f .at-immediate .ensures .1 .1 (e .if1 .taken), d .argument-list .ensures .1, a .complete .ensures .1 (s .args .t .now)))
+    (λ ask b. whole (opened macro-invocation-is (completes (lit< tt) (j .new .ensures) (i .start .ensures .0 _ _ _) (seq (seq (acts (g .bump .ensures .0 b _ _ _)) (if-yes (does (f .at-immediate .ensures .0 ask b _ _ _)) (ap truth (e .if1 .taken)) (lands (d .argument-list .ensures .0 ask b)))) tells) (a .complete .ensures .0 _ _ _))), omega (flags, i .start .ensures .1 (s .args .tokens .now), g .bump .ensures .1, f .at-immediate .ensures .1 .0, f .at-immediate .ensures .1 .1 (e .if1 .taken), d .argument-list .ensures .1, a .complete .ensures .1 (s .args .tokens .now)))
 
 same-length-4 : tie.Need-same-length-4
 same-length-4 c =
@@ -82,7 +82,7 @@ returns-2 c =
     let g = f .before .before .before .before in
     let i = g .before .before in
     let s = i .before .before .before .before .before in
-    (λ ask b. whole (opened macro-invocation-is (completes (lit< tt) (i .new .ensures) (g .start .ensures .0 _ _ _) (seq (seq (acts (f .bump .ensures .0 b _ _ _)) (if-no (does (e .at-immediate .ensures .0 ask b _ _ _)) (ap truth (d .if1 .left)) tells)) tells) (a .complete2 .ensures .0 _ _ _))), omega (flags, g .start .ensures .1 (s .args .t .now), f .bump .ensures .1, e .at-immediate .ensures .1 .0, a .complete2 .ensures .1 (s .args .t .now)))
+    (λ ask b. whole (opened macro-invocation-is (completes (lit< tt) (i .new .ensures) (g .start .ensures .0 _ _ _) (seq (seq (acts (f .bump .ensures .0 b _ _ _)) (if-no (does (e .at-immediate .ensures .0 ask b _ _ _)) (ap truth (d .if1 .left)) tells)) tells) (a .complete2 .ensures .0 _ _ _))), omega (flags, g .start .ensures .1 (s .args .tokens .now), f .bump .ensures .1, e .at-immediate .ensures .1 .0, a .complete2 .ensures .1 (s .args .tokens .now)))
 
 pub macro-invocation-spec : {M : Type 1} → statement M
 macro-invocation-spec = tie.close (tie.spec new-requires start-requires bump-requires at-immediate-requires argument-list-requires complete-requires complete-requires-2 same-length same-length-2 same-length-3 returns same-length-4 returns-2)

@@ -47,7 +47,7 @@ returns-2 c =
     let d = a .before .before in
     let e = d .before in
     let s = e .before .before .before .before .before in
-    (λ ask b. whole (opened (eat-is Reference) (if-no (opened reference-matches-is (acts (e .silent-at .ensures .0 b _ _ _ _))) (ap truth (d .if1 .left)) (seq (opened reference-expected-is (acts (a .add-expected .ensures .0 (tokens-of (s .args .t .now)) b _ _ _))) tells))), (omega (flags, e .silent-at .ensures .1 .0, a .add-expected .ensures .1 (s .args .t .now)), λ h. false-true h))
+    (λ ask b. whole (opened (eat-is Reference) (if-no (opened reference-matches-is (acts (e .silent-at .ensures .0 b _ _ _ _))) (ap truth (d .if1 .left)) (seq (opened reference-expected-is (acts (a .add-expected .ensures .0 (tokens-of (s .args .tokens .now)) b _ _ _))) tells))), (omega (flags, e .silent-at .ensures .1 .0, a .add-expected .ensures .1 (s .args .tokens .now)), λ h. false-true h))
 
 pub eat-spec : {M : Type 1} → statement M
 eat-spec = tie.close (tie.spec silent-at-requires consume-requires add-expected-requires same-length same-length-2 same-length-3 returns returns-2)

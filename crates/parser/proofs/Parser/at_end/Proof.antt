@@ -13,7 +13,7 @@ with-requires c κs = tt
 returns : tie.Need-returns
 returns c =
     let args = c .before .before .before .args in
-    let tk = args .t .now in
+    let tk = args .tokens .now in
     let at-end = c .before .at-end in
     let kept = c .with in (
       λ b ev rep pool. with-said _ _ _ ev rep pool _ _ (kept .ensures) (at-end .ensures .0 b (args .self .codes) ev rep pool),

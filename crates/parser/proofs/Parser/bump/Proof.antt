@@ -17,7 +17,7 @@ same-length c = search needs
 returns : tie.Need-returns
 returns c =
     let args = c .before .before .before .before .before .before .before .args in
-    let tk = args .t .now in
+    let tk = args .tokens .now in
     let bump = c .before .before .before .bump in
     let kept = c .with in (
       λ b rep pool. with-said _ _ _ _ rep pool _ _ (kept .ensures) (bump .ensures .0 b (args .self .codes) rep pool),

@@ -23,7 +23,7 @@ same-length-3 c = search needs
 returns : tie.Need-returns
 returns c =
     let args = c .before .before .before .before .before .before .before .before .before .before .before .before .before .before .before .before .before .args in
-    let tk = args .t .now in
+    let tk = args .tokens .now in
     let emit = c .before .before .before .before .before .before .before .emit in
     let kept = c .with in (
       with-view _ _ _ _ _ _ _ (kept .ensures) (emit .ensures .0),

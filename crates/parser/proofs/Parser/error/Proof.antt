@@ -23,7 +23,7 @@ same-length-3 c = search needs
 returns : tie.Need-returns
 returns c =
     let args = c .before .before .before .before .before .before .before .before .before .before .before .before .before .before .before .before .before .args in
-    let tk = args .t .now in
+    let tk = args .tokens .now in
     let error = c .before .before .before .before .before .before .before .error in
     let kept = c .with in (
       λ ask b. with-said _ _ _ _ _ _ _ _ (kept .ensures) (error .ensures .0 ask b),

@@ -13,7 +13,7 @@ with-requires c κs = tt
 returns : tie.Need-returns
 returns c =
     let args = c .before .before .before .args in
-    let tk = args .t .now in
+    let tk = args .tokens .now in
     let peek = c .before .peek in
     let kept = c .with in (
       λ ev rep pool. with-view _ _ _ ev rep pool _ (kept .ensures) (peek .ensures .0 (args .self .codes) ev rep pool),

@@ -13,7 +13,7 @@ with-requires c κs = tt
 returns : tie.Need-returns
 returns c =
     let args = c .before .before .before .before .args in
-    let tk = args .t .now in
+    let tk = args .tokens .now in
     let silent-at-set = c .before .silent-at-set in
     let kept = c .with in (
       λ b ev rep pool.

@@ -17,7 +17,7 @@ same-length c = search needs
 returns : tie.Need-returns
 returns c =
     let args = c .before .before .before .before .before .before .before .args in
-    let tk = args .t .now in
+    let tk = args .tokens .now in
     let silent-eat = c .before .before .before .silent-eat in
     let kept = c .with in (
       λ ask b rep pool. with-said _ _ _ _ rep pool _ _ (kept .ensures) (silent-eat .ensures .0 ask b (args .self .codes) rep pool),

@@ -15,7 +15,7 @@ unfolding left
 returns c =
     let args = c .before .before .before .args in
     let self = args .self in
-    let tk = args .t .now in
+    let tk = args .tokens .now in
     let ts = tokens-of tk in
     let peek = c .before .peek in (
       λ b codes ev rep pool.
@@ -29,7 +29,7 @@ unfolding left
 returns-2 c =
     let args = c .before .before .before .args in
     let self = args .self in
-    let tk = args .t .now in
+    let tk = args .tokens .now in
     let ts = tokens-of tk in
     let peek = c .before .peek in (
       λ b codes ev rep pool.

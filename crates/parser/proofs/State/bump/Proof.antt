@@ -23,7 +23,7 @@ returns : tie.Need-returns
 returns c =
     let args = c .before .before .before .before .before .before .before .before .before .args in
     let self = args .self in
-    let tk = args .t .now in
+    let tk = args .tokens .now in
     let ev₀ = args .ev .now in
     let peek = c .before .before .before .before .before .before .peek in
     let if1 = c .before .before .before .before .before .if1 in
@@ -41,7 +41,7 @@ unfolding left
 returns-2 c =
     let args = c .before .before .before .before .args in
     let self = args .self in
-    let tk = args .t .now in
+    let tk = args .tokens .now in
     let ev₀ = args .ev .now in
     let peek = c .before .peek in
     let if1 = c .if1 in (

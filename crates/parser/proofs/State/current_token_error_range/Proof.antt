@@ -28,7 +28,7 @@ returns : tie.Need-returns
 returns c =
     let args = c .before .before .before .before .before .before .before .args in
     let self = args .self in
-    let tk = args .t .now in
+    let tk = args .tokens .now in
     let codes₀ = args .codes .now in
     let ends-statement = c .before .before .before .ends-statement in
     let if2 = c .before .before .if2 in
@@ -41,7 +41,7 @@ returns-2 : tie.Need-returns-2
 returns-2 c =
     let args = c .before .before .before .before .before .before .args in
     let self = args .self in
-    let tk = args .t .now in
+    let tk = args .tokens .now in
     let codes₀ = args .codes .now in
     let ends-statement = c .before .before .ends-statement in
     let if2 = c .before .if2 in
@@ -54,7 +54,7 @@ returns-3 : tie.Need-returns-3
 returns-3 c =
     let args = c .before .before .before .before .args in
     let self = args .self in
-    let tk = args .t .now in
+    let tk = args .tokens .now in
     let codes₀ = args .codes .now in
     let less-one = c .less-one in
     λ ev rep pool. range-end tk (view self codes₀ ev rep pool) _ (omega flags) (less-one .ensures)

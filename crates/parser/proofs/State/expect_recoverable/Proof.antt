@@ -18,7 +18,7 @@ returns : tie.Need-returns
 returns c =
     let args = c .before .before .before .before .before .before .before .before .before .before .before .args in
     let self = args .self in
-    let tk = args .t .now in
+    let tk = args .tokens .now in
     let ts = tokens-of tk in
     let ev₀ = args .ev .now in
     let rep₀ = args .rep .now in
@@ -52,7 +52,7 @@ returns-2 : tie.Need-returns-2
 returns-2 c =
     let args = c .before .before .before .before .before .before .before .before .before .before .before .before .before .before .before .before .before .before .before .before .before .before .before .before .args in
     let self = args .self in
-    let tk = args .t .now in
+    let tk = args .tokens .now in
     let ts = tokens-of tk in
     let ev₀ = args .ev .now in
     let rep₀ = args .rep .now in
@@ -88,7 +88,7 @@ returns-3 : tie.Need-returns-3
 returns-3 c =
     let args = c .before .before .before .before .before .before .before .before .before .before .before .before .before .before .before .before .before .before .before .before .before .before .before .before .args in
     let self = args .self in
-    let tk = args .t .now in
+    let tk = args .tokens .now in
     let ts = tokens-of tk in
     let ev₀ = args .ev .now in
     let rep₀ = args .rep .now in

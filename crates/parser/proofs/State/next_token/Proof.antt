@@ -16,7 +16,7 @@ unfolding left
 returns c =
     let args = c .before .before .before .args in
     let self = args .self in
-    let tk = args .t .now in
+    let tk = args .tokens .now in
     let end-at = c .end-at in
     (λ codes ev rep pool. took-row tk _ (view self codes ev rep pool) (omega flags) (end-at .ensures), omega flags)
 
@@ -25,7 +25,7 @@ unfolding left
 returns-2 c =
     let args = c .before .before .args in
     let self = args .self in
-    let tk = args .t .now in
+    let tk = args .tokens .now in
     (λ codes ev rep pool. took-nothing tk (view self codes ev rep pool) (omega flags), omega flags)
 
 pub next-token-spec : {M : Type 1} → statement M

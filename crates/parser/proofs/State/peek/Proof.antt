@@ -15,7 +15,7 @@ unfolding left
 returns c =
     let args = c .before .before .args in
     let self = args .self in
-    let tk = args .t .now in
+    let tk = args .tokens .now in
     let ts = tokens-of tk in
     let skip-trivia = c .skip-trivia in (
       λ codes ev rep pool. skip-trivia .ensures .0 (view self codes ev rep pool) ∙ sym (peek-is ts (view self codes ev rep pool)),

@@ -14,11 +14,11 @@ returns : tie.Need-returns
 returns c =
     let args = c .before .before .before .args in
     let self = args .self in
-    let tk = args .t .now in
+    let tk = args .tokens .now in
     let ts = tokens-of tk in
     let end-at = c .end-at in
     λ codes ev rep pool.
-    range-rows (drop (args .self .cursor .0) ts) (view self codes ev rep pool) (args .self .at .0) _ refl
+    range-rows (drop (args .self .cursor .0) ts) (view self codes ev rep pool) (args .self .byte .0) _ refl
     (end-at .ensures (view self codes ev rep pool) refl)
 
 pub range-spec : {M : Type 1} → statement M

@@ -18,7 +18,7 @@ unfolding left
 returns c =
     let args = c .before .before .before .args in
     let self = args .self in
-    let tk = args .t .now in
+    let tk = args .tokens .now in
     let ts = tokens-of tk in
     let peek = c .before .peek in
     let is-at = c .is-at in (

@@ -40,7 +40,7 @@ loop-less c =
 loop-again : tie.Need-loop-again Inv-loop μ-loop
 loop-again c =
     let args = c .before .before .before .before .before .before .args in
-    let tk = args .t .now in
+    let tk = args .tokens .now in
     let set₀ = args .set .now in
     let loop = c .before .before .before .loop in
     let is-one-of-at = c .before .before .is-one-of-at in
@@ -57,7 +57,7 @@ loop-again c =
 returns : tie.Need-returns Inv-loop μ-loop
 returns c =
     let args = c .before .before .before .before .before .args in
-    let tk = args .t .now in
+    let tk = args .tokens .now in
     let ts = tokens-of tk in
     let set₀ = args .set .now in
     let loop = c .before .before .loop in

@@ -32,7 +32,7 @@ returns : tie.Need-returns
 returns c =
     let args = c .before .before .before .before .before .args in
     let self = args .self in
-    let tk = args .t .now in
+    let tk = args .tokens .now in
     let ts = tokens-of tk in
     let ev₀ = args .ev .now in
     let at-end = c .before .before .at-end in
@@ -50,7 +50,7 @@ returns-2 : tie.Need-returns-2
 returns-2 c =
     let args = c .before .before .before .before .before .before .before .before .before .before .before .before .before .before .before .before .before .args in
     let self = args .self in
-    let tk = args .t .now in
+    let tk = args .tokens .now in
     let ts = tokens-of tk in
     let ev₀ = args .ev .now in
     let at-end = c .before .before .before .before .before .before .before .before .before .before .before .before .before .before .at-end in

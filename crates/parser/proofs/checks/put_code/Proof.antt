@@ -19,7 +19,7 @@ returns-2 : tie.Need-returns-2
 returns-2 c =
     let args = c .before .args in
     let codes₀ = args .codes .now in
-    (refl, sym (set-out codes₀ (args .at) (args .code) (omega flags)))
+    (refl, sym (set-out codes₀ (args .index) (args .code) (omega flags)))
 
 pub put-code-spec : {M : Type 1} → statement M
 put-code-spec = tie.close (tie.spec slice-write-codes same-length returns returns-2)

@@ -98,8 +98,8 @@ returns c =
     let if1 = c .if1 in
     stored-row rep₀
     ((args .message) ∷ (args .range .start .0) ∷ (args .range .end .0) ∷ (args .mark) ∷ (args .first) ∷ (args .count) ∷
-    (args .hint) ∷ (args .label .start .0) ∷ (args .label .end .0) ∷ []) _ (args .at) _ (fits2 .ensures .0) (if1 .taken)
-    (sets9 rep₀ (args .at) (args .message) (args .range .start .0) (args .range .end .0) (args .mark) (args .first)
+    (args .hint) ∷ (args .label .start .0) ∷ (args .label .end .0) ∷ []) _ (args .index) _ (fits2 .ensures .0) (if1 .taken)
+    (sets9 rep₀ (args .index) (args .message) (args .range .start .0) (args .range .end .0) (args .mark) (args .first)
     (args .count) (args .hint) (args .label .start .0) (args .label .end .0))
 
 returns-2 : tie.Need-returns-2
@@ -110,7 +110,7 @@ returns-2 c =
     let if1 = c .if1 in
     not-stored rep₀
     ((args .message) ∷ (args .range .start .0) ∷ (args .range .end .0) ∷ (args .mark) ∷ (args .first) ∷ (args .count) ∷
-    (args .hint) ∷ (args .label .start .0) ∷ (args .label .end .0) ∷ []) (args .at) _ (fits2 .ensures .0) (if1 .left)
+    (args .hint) ∷ (args .label .start .0) ∷ (args .label .end .0) ∷ []) (args .index) _ (fits2 .ensures .0) (if1 .left)
 
 pub put-report-spec : {M : Type 1} → statement M
 put-report-spec =

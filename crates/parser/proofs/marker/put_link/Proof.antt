@@ -34,7 +34,7 @@ returns c =
     let if1 = c .before .before .if1 in
     let if2 = c .before .if2 in
     let low32 = c .low32 in
-    linked ev₀ (args .at) (args .to) _ _ (fits2 .ensures .0) (if1 .taken) (if2 .taken) (low32 .ensures)
+    linked ev₀ (args .index) (args .to) _ _ (fits2 .ensures .0) (if1 .taken) (if2 .taken) (low32 .ensures)
 
 returns-2 : tie.Need-returns-2
 returns-2 c =
@@ -43,7 +43,7 @@ returns-2 c =
     let fits2 = c .before .before .fits2 in
     let if1 = c .before .if1 in
     let if2 = c .if2 in
-    not-ahead ev₀ (args .at) (args .to) _ (fits2 .ensures .0) (if1 .taken) (if2 .left)
+    not-ahead ev₀ (args .index) (args .to) _ (fits2 .ensures .0) (if1 .taken) (if2 .left)
 
 returns-3 : tie.Need-returns-3
 returns-3 c =
@@ -51,7 +51,7 @@ returns-3 c =
     let ev₀ = args .ev .now in
     let fits2 = c .before .fits2 in
     let if1 = c .if1 in
-    not-linked ev₀ (args .at) (args .to) _ (fits2 .ensures .0) (if1 .left)
+    not-linked ev₀ (args .index) (args .to) _ (fits2 .ensures .0) (if1 .left)
 
 pub put-link-spec : {M : Type 1} → statement M
 put-link-spec =

@@ -32,7 +32,7 @@ returns c =
     let ev₀ = args .ev .now in
     let fits2 = c .before .fits2 in
     let if1 = c .if1 in
-    started ev₀ (args .at) (args .tag) (args .kind) _ (fits2 .ensures .0) (if1 .taken)
+    started ev₀ (args .index) (args .tag) (args .kind) _ (fits2 .ensures .0) (if1 .taken)
 
 returns-2 : tie.Need-returns-2
 returns-2 c =
@@ -40,7 +40,7 @@ returns-2 c =
     let ev₀ = args .ev .now in
     let fits2 = c .before .fits2 in
     let if1 = c .if1 in
-    not-started ev₀ (args .at) (args .tag) (args .kind) _ (fits2 .ensures .0) (if1 .left)
+    not-started ev₀ (args .index) (args .tag) (args .kind) _ (fits2 .ensures .0) (if1 .left)
 
 pub put-start-spec : {M : Type 1} → statement M
 put-start-spec =

@@ -14,7 +14,7 @@ matches-requires c κs = tt
 returns : tie.Need-returns
 returns c =
     let args = c .before .before .before .before .args in
-    let tk = args .t .now in
+    let tk = args .tokens .now in
     let kind-at = c .before .kind-at in
     let matches = c .matches in (
       is-one-of-rows tk (kinds-of (args .m)) (args .at) _ _ (omega flags) (kind-at .ensures .0) (matches .ensures),
@@ -24,7 +24,7 @@ returns c =
 returns-2 : tie.Need-returns-2
 returns-2 c =
     let args = c .before .before .args in
-    let tk = args .t .now in
+    let tk = args .tokens .now in
     (first-past-rows (kinds-of (args .m)) tk (args .at) (omega flags), λ e. absurd (true-false (sym e)))
 
 pub is-matched-at-spec : {M : Type 1} → statement M

@@ -23,7 +23,7 @@ returns c =
     let d = a .before in
     let e = d .before .before in
     let s = e .before .before in
-    (λ ask b ev rep pool. (c-flag cells-end (e .if1 .taken) (c-seq (c-act (d .add-expected .ensures .0 (tokens-of (s .args .t .now)) b _ _ _)) (c-act (a .at-end .ensures .0 b _ _ _ _)))) .is, omega (arith, d .add-expected .ensures .1 (s .args .t .now), a .at-end .ensures .1 .0))
+    (λ ask b ev rep pool. (c-flag cells-end (e .if1 .taken) (c-seq (c-act (d .add-expected .ensures .0 (tokens-of (s .args .tokens .now)) b _ _ _)) (c-act (a .at-end .ensures .0 b _ _ _ _)))) .is, omega (arith, d .add-expected .ensures .1 (s .args .tokens .now), a .at-end .ensures .1 .0))
 
 returns-2 : tie.Need-returns-2
 unfolding cells-end

@@ -57,7 +57,7 @@ returns c =
     let g = f .before .before .before .before .before .before .before in
     let i = g .before .before in
     let s = i .before .before .before .before .before in
-    (λ ask b. (c-mark (i .new .ensures) (g .start .ensures .0 _ _ _) (c-seq (c-walk (f .consume .ensures .0 ask b)) (c-yes (c-walk (e .eat .ensures .0 ask b _ _)) (d .if1 .taken) c-ret)) (completed 18 (a .complete .ensures .0 _ _ _))) .is, omega (arith, g .start .ensures .1 (s .args .t .now), f .consume .ensures .1, e .eat .ensures .1 .0, e .eat .ensures .1 .1 (d .if1 .taken), a .complete .ensures .1 (s .args .t .now)))
+    (λ ask b. (c-mark (i .new .ensures) (g .start .ensures .0 _ _ _) (c-seq (c-walk (f .consume .ensures .0 ask b)) (c-yes (c-walk (e .eat .ensures .0 ask b _ _)) (d .if1 .taken) c-ret)) (completed 18 (a .complete .ensures .0 _ _ _))) .is, omega (arith, g .start .ensures .1 (s .args .tokens .now), f .consume .ensures .1, e .eat .ensures .1 .0, e .eat .ensures .1 .1 (d .if1 .taken), a .complete .ensures .1 (s .args .tokens .now)))
 
 eat-unit-address-and-at-colon-requires : tie.Need-eat-unit-address-and-at-colon-requires
 eat-unit-address-and-at-colon-requires c κs = tt
@@ -111,7 +111,7 @@ returns-2 c =
     let l = j .before .before .before .before .before .before .before in
     let m = l .before .before in
     let s = m .before .before .before .before .before in
-    (λ ask b. (c-mark (m .new .ensures) (l .start .ensures .0 _ _ _) (c-seq (c-walk (j .consume .ensures .0 ask b)) (c-no (c-walk (i .eat .ensures .0 ask b _ _)) (g .if1 .left) (c-yes (c-walk (f .eat-unit-address-and-at-colon .ensures .0 ask b)) (e .if2 .taken) (c-seq (c-walk (d .error .ensures .0 ask b)) c-ret)))) (completed 9 (a .complete2 .ensures .0 _ _ _))) .is, omega (arith, l .start .ensures .1 (s .args .t .now), j .consume .ensures .1, i .eat .ensures .1 .0, f .eat-unit-address-and-at-colon .ensures .1, d .error .ensures .1, a .complete2 .ensures .1 (s .args .t .now)))
+    (λ ask b. (c-mark (m .new .ensures) (l .start .ensures .0 _ _ _) (c-seq (c-walk (j .consume .ensures .0 ask b)) (c-no (c-walk (i .eat .ensures .0 ask b _ _)) (g .if1 .left) (c-yes (c-walk (f .eat-unit-address-and-at-colon .ensures .0 ask b)) (e .if2 .taken) (c-seq (c-walk (d .error .ensures .0 ask b)) c-ret)))) (completed 9 (a .complete2 .ensures .0 _ _ _))) .is, omega (arith, l .start .ensures .1 (s .args .tokens .now), j .consume .ensures .1, i .eat .ensures .1 .0, f .eat-unit-address-and-at-colon .ensures .1, d .error .ensures .1, a .complete2 .ensures .1 (s .args .tokens .now)))
 
 ignore-requires : tie.Need-ignore-requires
 ignore-requires c κs = tt
@@ -159,7 +159,7 @@ returns-3 c =
     let l = j .before .before .before .before .before .before .before in
     let m = l .before .before in
     let s = m .before .before .before .before .before in
-    (λ ask b. some-is (a .some .result) (d .ignore .result) _ _ _ _ _ (a .some .ensures .0) (a .some .ensures .1) ∙ (c-mark (m .new .ensures) (l .start .ensures .0 _ _ _) (c-seq (c-walk (j .consume .ensures .0 ask b)) (c-no (c-walk (i .eat .ensures .0 ask b _ _)) (g .if1 .left) (c-no (c-walk (f .eat-unit-address-and-at-colon .ensures .0 ask b)) (e .if2 .left) c-ret))) (ignored (d .ignore .ensures .0 _ _ _))) .is, omega (arith, l .start .ensures .1 (s .args .t .now), j .consume .ensures .1, i .eat .ensures .1 .0, f .eat-unit-address-and-at-colon .ensures .1, d .ignore .ensures .1 (s .args .t .now), ap (left (s .args .t .now)) (a .some .ensures .0)))
+    (λ ask b. some-is (a .some .result) (d .ignore .result) _ _ _ _ _ (a .some .ensures .0) (a .some .ensures .1) ∙ (c-mark (m .new .ensures) (l .start .ensures .0 _ _ _) (c-seq (c-walk (j .consume .ensures .0 ask b)) (c-no (c-walk (i .eat .ensures .0 ask b _ _)) (g .if1 .left) (c-no (c-walk (f .eat-unit-address-and-at-colon .ensures .0 ask b)) (e .if2 .left) c-ret))) (ignored (d .ignore .ensures .0 _ _ _))) .is, omega (arith, l .start .ensures .1 (s .args .tokens .now), j .consume .ensures .1, i .eat .ensures .1 .0, f .eat-unit-address-and-at-colon .ensures .1, d .ignore .ensures .1 (s .args .tokens .now), ap (left (s .args .tokens .now)) (a .some .ensures .0)))
 
 pub label-or-name-spec : {M : Type 1} → statement M
 label-or-name-spec = tie.close (tie.spec new-requires start-requires consume-requires eat-requires complete-requires same-length same-length-2 same-length-3 returns eat-unit-address-and-at-colon-requires error-requires complete-requires-2 same-length-4 same-length-5 same-length-6 returns-2 ignore-requires some-requires same-length-7 same-length-8 same-length-9 returns-3)

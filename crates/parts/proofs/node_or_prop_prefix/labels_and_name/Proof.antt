@@ -11,7 +11,7 @@ use Rattle.definitions.specs.Grammar.{prefix-turn}
 use Rattle.machine.specs.Machine.{Machine}
 use Rattle.machine.specs.Walk.{Walked, walk}
 use Rattle.machine.proofs.Way.{c-walk}
-use Rattle.parser.specs.View.{view, left, answer-of}
+use Rattle.parser.specs.View.{view, left, ans-of}
 use Rattle.names.proofs.Kit.{ahead-falls}
 use Rattle.parts.specs.View.{own-name, goes}
 use Rattle.parts.proofs.Steps.{went-told, ended-told, other-ends}
@@ -47,7 +47,7 @@ loop-again c =
     let d = a .before .before .before .before .before .before .before .before in
     let e = d .before .before .before .before .before in
     let s = e .before .before .before .before .before in
-    (λ ask b. went-told (d .turn .result .answer) (c-walk (d .turn .ensures .0 ask b)) (ap answer-of (a .enum-told .given .1)) (ahead-falls (s .args .t .now) (e .loop .q) (d .turn .result .s) (omega (arith, d .turn .ensures .1 .0, ap goes (a .enum-told .given .1)))) ∙ e .loop .inv .0 ask b, (omega (arith, d .turn .ensures .1 .0, ap goes (a .enum-told .given .1), e .loop .inv .1 .0), (omega (arith, e .loop .inv .1 .1, d .turn .kept), (omega (arith, e .loop .inv .1 .1, d .turn .kept), omega (arith, e .loop .inv .1 .1, d .turn .kept)))))
+    (λ ask b. went-told (d .turn .result .ans) (c-walk (d .turn .ensures .0 ask b)) (ap ans-of (a .enum-told .given .1)) (ahead-falls (s .args .tokens .now) (e .loop .q) (d .turn .result .s) (omega (arith, d .turn .ensures .1 .0, ap goes (a .enum-told .given .1)))) ∙ e .loop .inv .0 ask b, (omega (arith, d .turn .ensures .1 .0, ap goes (a .enum-told .given .1), e .loop .inv .1 .0), (omega (arith, e .loop .inv .1 .1, d .turn .kept), (omega (arith, e .loop .inv .1 .1, d .turn .kept), omega (arith, e .loop .inv .1 .1, d .turn .kept)))))
 
 same-length : tie.Need-same-length Inv-loop μ-loop
 same-length c =
@@ -72,7 +72,7 @@ returns c =
     let a = c in
     let d = a .before .before .before .before .before .before .before in
     let e = d .before .before .before .before .before in
-    (λ ask b. ended-told (d .turn .result .answer) (c-walk (d .turn .ensures .0 ask b)) (other-ends (d .turn .result .answer) (a .match .keys2)) ∙ e .loop .inv .0 ask b, omega (arith, d .turn .ensures .1 .1, e .loop .inv .1 .0))
+    (λ ask b. ended-told (d .turn .result .ans) (c-walk (d .turn .ensures .0 ask b)) (other-ends (d .turn .result .ans) (a .match .keys2)) ∙ e .loop .inv .0 ask b, omega (arith, d .turn .ensures .1 .1, e .loop .inv .1 .0))
 
 pub labels-and-name-spec : {M : Type 1} → statement M
 labels-and-name-spec = tie.close (tie.spec Inv-loop μ-loop loop-holds turn-requires enum-told loop-less loop-again same-length same-length-2 same-length-3 returns)

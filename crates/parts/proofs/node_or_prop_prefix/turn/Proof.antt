@@ -34,7 +34,7 @@ returns c =
     let a = c .before .before .before .before .before .before in
     let d = a .before .before .before .before .before in
     let e = d .before in
-    (λ ask b. (c-yes (c-walk (e .at .ensures .0 ask b _ _ _)) (d .if1 .taken) (c-walk (a .label-or-name .ensures .0 ask b))) .is, (omega (arith, e .at .ensures .1 .0, e .at .ensures .1 .1 (d .if1 .taken), a .label-or-name .ensures .1, goes-one (a .label-or-name .result .answer), found-one (a .label-or-name .result .answer)), omega (arith, e .at .ensures .1 .0, e .at .ensures .1 .1 (d .if1 .taken), a .label-or-name .ensures .1, goes-one (a .label-or-name .result .answer), found-one (a .label-or-name .result .answer))))
+    (λ ask b. (c-yes (c-walk (e .at .ensures .0 ask b _ _ _)) (d .if1 .taken) (c-walk (a .label-or-name .ensures .0 ask b))) .is, (omega (arith, e .at .ensures .1 .0, e .at .ensures .1 .1 (d .if1 .taken), a .label-or-name .ensures .1, goes-one (a .label-or-name .result .ans), found-one (a .label-or-name .result .ans)), omega (arith, e .at .ensures .1 .0, e .at .ensures .1 .1 (d .if1 .taken), a .label-or-name .ensures .1, goes-one (a .label-or-name .result .ans), found-one (a .label-or-name .result .ans))))
 
 eat-requires : tie.Need-eat-requires
 eat-requires c κs = tt

@@ -32,7 +32,7 @@ returns c =
     let d = a .before .before .before in
     let e = d .before .before in
     let s = e .before .before .before .before .before .before in
-    (λ ask b. (c-seq (c-act (e .add-expected .ensures .0 (tokens-of (s .args .t .now)) b _ _ _)) (c-yes (c-walk (d .silent-eat .ensures .0 ask b _ _ _)) (a .if1 .taken) (c-ret-yes (a .if1 .taken)))) .is, (omega (arith, e .add-expected .ensures .1 (s .args .t .now), d .silent-eat .ensures .1 .0, d .silent-eat .ensures .1 .1 (a .if1 .taken)), λ h. omega (arith, e .add-expected .ensures .1 (s .args .t .now), d .silent-eat .ensures .1 .0, d .silent-eat .ensures .1 .1 (a .if1 .taken), some-left (s .args .t .now) (e .add-expected .result) (taken-some (λ (r : Rule) (m : Machine). said no m) (tokens-of (s .args .t .now)) unlabelled (K.Number ∷ K.Char ∷ []) (set (K.Number ∷ K.Char ∷ [])) _ _ (d .silent-eat .result .yes) refl (d .silent-eat .ensures .0 (λ (r : Rule) (m : Machine). said no m) unlabelled [] [] []) (a .if1 .taken)))))
+    (λ ask b. (c-seq (c-act (e .add-expected .ensures .0 (tokens-of (s .args .tokens .now)) b _ _ _)) (c-yes (c-walk (d .silent-eat .ensures .0 ask b _ _ _)) (a .if1 .taken) (c-ret-yes (a .if1 .taken)))) .is, (omega (arith, e .add-expected .ensures .1 (s .args .tokens .now), d .silent-eat .ensures .1 .0, d .silent-eat .ensures .1 .1 (a .if1 .taken)), λ h. omega (arith, e .add-expected .ensures .1 (s .args .tokens .now), d .silent-eat .ensures .1 .0, d .silent-eat .ensures .1 .1 (a .if1 .taken), some-left (s .args .tokens .now) (e .add-expected .result) (taken-some (λ (r : Rule) (m : Machine). said no m) (tokens-of (s .args .tokens .now)) unlabelled (K.Number ∷ K.Char ∷ []) (set (K.Number ∷ K.Char ∷ [])) _ _ (d .silent-eat .result .yes) refl (d .silent-eat .ensures .0 (λ (r : Rule) (m : Machine). said no m) unlabelled [] [] []) (a .if1 .taken)))))
 
 silent-at-requires : tie.Need-silent-at-requires
 silent-at-requires c κs = tt
@@ -68,7 +68,7 @@ returns-2 c =
     let g = f .before .before .before in
     let i = g .before .before in
     let s = i .before .before .before .before .before .before in
-    (λ ask b. (c-seq (c-act (i .add-expected .ensures .0 (tokens-of (s .args .t .now)) b _ _ _)) (c-no (c-walk (g .silent-eat .ensures .0 ask b _ _ _)) (f .if1 .left) (c-yes (c-act (e .silent-at .ensures .0 b _ _ _ _)) (d .if2 .taken) (c-seq (c-walk (a .macro-invocation .ensures .0 ask b)) c-ret)))) .is, (omega (arith, i .add-expected .ensures .1 (s .args .t .now), g .silent-eat .ensures .1 .0, e .silent-at .ensures .1 .0, e .silent-at .ensures .1 .1 (d .if2 .taken), a .macro-invocation .ensures .1), λ h. omega (arith, i .add-expected .ensures .1 (s .args .t .now), g .silent-eat .ensures .1 .0, e .silent-at .ensures .1 .0, e .silent-at .ensures .1 .1 (d .if2 .taken), a .macro-invocation .ensures .1)))
+    (λ ask b. (c-seq (c-act (i .add-expected .ensures .0 (tokens-of (s .args .tokens .now)) b _ _ _)) (c-no (c-walk (g .silent-eat .ensures .0 ask b _ _ _)) (f .if1 .left) (c-yes (c-act (e .silent-at .ensures .0 b _ _ _ _)) (d .if2 .taken) (c-seq (c-walk (a .macro-invocation .ensures .0 ask b)) c-ret)))) .is, (omega (arith, i .add-expected .ensures .1 (s .args .tokens .now), g .silent-eat .ensures .1 .0, e .silent-at .ensures .1 .0, e .silent-at .ensures .1 .1 (d .if2 .taken), a .macro-invocation .ensures .1), λ h. omega (arith, i .add-expected .ensures .1 (s .args .tokens .now), g .silent-eat .ensures .1 .0, e .silent-at .ensures .1 .0, e .silent-at .ensures .1 .1 (d .if2 .taken), a .macro-invocation .ensures .1)))
 
 silent-eat-requires-2 : tie.Need-silent-eat-requires-2
 silent-eat-requires-2 c κs = tt
@@ -101,7 +101,7 @@ returns-3 c =
     let g = f .before .before .before in
     let i = g .before .before in
     let s = i .before .before .before .before .before .before in
-    (λ ask b. (c-seq (c-act (i .add-expected .ensures .0 (tokens-of (s .args .t .now)) b _ _ _)) (c-no (c-walk (g .silent-eat .ensures .0 ask b _ _ _)) (f .if1 .left) (c-no (c-act (e .silent-at .ensures .0 b _ _ _ _)) (d .if2 .left) (c-walk (a .silent-eat2 .ensures .0 ask b))))) .is, (omega (arith, i .add-expected .ensures .1 (s .args .t .now), g .silent-eat .ensures .1 .0, e .silent-at .ensures .1 .0, a .silent-eat2 .ensures .1 .0), λ h. omega (arith, i .add-expected .ensures .1 (s .args .t .now), g .silent-eat .ensures .1 .0, e .silent-at .ensures .1 .0, a .silent-eat2 .ensures .1 .0, a .silent-eat2 .ensures .1 .1 h, some-left (s .args .t .now) (e .silent-at .result .s) (taken-some (λ (r : Rule) (m : Machine). said no m) (tokens-of (s .args .t .now)) unlabelled (K.Ampersand ∷ []) Reference _ _ (a .silent-eat2 .result .yes) refl (a .silent-eat2 .ensures .0 (λ (r : Rule) (m : Machine). said no m) unlabelled) h))))
+    (λ ask b. (c-seq (c-act (i .add-expected .ensures .0 (tokens-of (s .args .tokens .now)) b _ _ _)) (c-no (c-walk (g .silent-eat .ensures .0 ask b _ _ _)) (f .if1 .left) (c-no (c-act (e .silent-at .ensures .0 b _ _ _ _)) (d .if2 .left) (c-walk (a .silent-eat2 .ensures .0 ask b))))) .is, (omega (arith, i .add-expected .ensures .1 (s .args .tokens .now), g .silent-eat .ensures .1 .0, e .silent-at .ensures .1 .0, a .silent-eat2 .ensures .1 .0), λ h. omega (arith, i .add-expected .ensures .1 (s .args .tokens .now), g .silent-eat .ensures .1 .0, e .silent-at .ensures .1 .0, a .silent-eat2 .ensures .1 .0, a .silent-eat2 .ensures .1 .1 h, some-left (s .args .tokens .now) (e .silent-at .result .s) (taken-some (λ (r : Rule) (m : Machine). said no m) (tokens-of (s .args .tokens .now)) unlabelled (K.Ampersand ∷ []) Reference _ _ (a .silent-eat2 .result .yes) refl (a .silent-eat2 .ensures .0 (λ (r : Rule) (m : Machine). said no m) unlabelled) h))))
 
 pub eat-spec : {M : Type 1} → statement M
 eat-spec = tie.close (tie.spec add-expected-requires silent-eat-requires same-length returns silent-at-requires macro-invocation-requires same-length-2 same-length-3 same-length-4 returns-2 silent-eat-requires-2 same-length-5 same-length-6 same-length-7 returns-3)

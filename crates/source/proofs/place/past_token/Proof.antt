@@ -20,7 +20,7 @@ next-token-requires c κs = tt
 returns : tie.Need-returns
 returns c =
     let args = c .before .before .before .before .before .args in
-    let ts = tokens-of (args .t .now) in
+    let ts = tokens-of (args .tokens .now) in
     let standing = c .before .before .before .standing in
     let peek = c .before .before .peek in
     let next-token = c .before .next-token in

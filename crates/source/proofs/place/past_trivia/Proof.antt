@@ -17,7 +17,7 @@ peek-requires c κs = tt
 returns : tie.Need-returns
 returns c =
     let args = c .before .before .before .before .args in
-    let ts = tokens-of (args .t .now) in
+    let ts = tokens-of (args .tokens .now) in
     let standing = c .before .before .standing in
     let peek = c .before .peek in
     peek-goes ts (view (standing .result) [] [] [] []) (view (peek .result) [] [] [] []) (args .at .0) (ap (λ (m : Machine). m .cursor) (standing .ensures [] [] [] []))

@@ -43,7 +43,7 @@ returns : tie.Need-returns
 returns c =
     let args = c .before .before .before .before .before .before .before .before .args in
     let self = args .self in
-    let tk = args .t .now in
+    let tk = args .tokens .now in
     let ts = tokens-of tk in
     let ev₀ = args .ev .now in
     let enum-told = c .before .before .before .before .enum-told in
@@ -61,7 +61,7 @@ returns-2 : tie.Need-returns-2
 returns-2 c =
     let args = c .before .before .before .before .before .before .before .before .args in
     let self = args .self in
-    let tk = args .t .now in
+    let tk = args .tokens .now in
     let ts = tokens-of tk in
     let ev₀ = args .ev .now in
     let enum-told2 = c .before .before .before .before .enum-told2 in
@@ -79,7 +79,7 @@ returns-3 : tie.Need-returns-3
 returns-3 c =
     let args = c .before .before .before .before .before .before .before .before .before .args in
     let self = args .self in
-    let tk = args .t .now in
+    let tk = args .tokens .now in
     let ts = tokens-of tk in
     let ev₀ = args .ev .now in
     let enum-told3 = c .before .before .before .before .before .enum-told3 in
@@ -96,7 +96,7 @@ returns-4 : tie.Need-returns-4
 returns-4 c =
     let args = c .before .before .before .before .before .before .before .before .before .args in
     let self = args .self in
-    let tk = args .t .now in
+    let tk = args .tokens .now in
     let ts = tokens-of tk in
     let ev₀ = args .ev .now in
     let enum-told4 = c .before .before .before .before .before .enum-told4 in

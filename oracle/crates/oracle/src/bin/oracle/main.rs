@@ -1,26 +1,13 @@
 //! The oracle: answers of the Rust parser (`rows`) and of its patched copy (`doc01`) to cases, and comparisons of the
-//! two. ../../README.md has the commands, the form of a case and the lines that come out.
-use case::{Case, Line, Opts, case_line, esc, parse_caps, parse_line};
+//! two. ../../../../../README.md has the commands, the form of a case and the lines that come out.
+use oracle::case::{Case, Line, case_line, esc, parse_caps, parse_line};
+use oracle::lines::{self, Opts};
+use oracle::parsers::on_large_stack;
+use oracle::{generate, token};
 use std::io::{BufRead, Read, StdoutLock, Write};
 
-mod case;
 mod compare;
-mod generate;
 mod rowsfile;
-mod timing;
-
-/// The unchanged Rust.
-mod orig {
-    use dt_tools_parser as pc;
-    include!("show.rs");
-}
-
-/// The patched copy.
-mod model {
-    use parser_doc01 as pc;
-    include!("show.rs");
-    include!("doc01.rs");
-}
 
 /// The program's words.
 pub struct Args(Vec<String>);
@@ -43,11 +30,7 @@ impl Args {
         self.0.iter().position(|x| x == flag).map(|i| self.word(i + 1))
     }
     fn opts(&self) -> Opts {
-        Opts {
-            toks: !self.has("--no-tokens") && !self.has("-q"),
-            tree: !self.has("-q"),
-            pretty: self.has("-p"),
-        }
+        Opts { toks: !self.has("--no-tokens") && !self.has("-q"), tree: !self.has("-q"), pretty: self.has("-p") }
     }
 }
 
@@ -55,11 +38,7 @@ pub type Out<'a> = std::io::BufWriter<StdoutLock<'a>>;
 
 /// The cases on standard input with their line numbers. The entry is fixed, or `any`: it stands in each line.
 fn cases(entry: &str) -> impl Iterator<Item = (usize, Line)> {
-    let entry = if entry == "any" {
-        None
-    } else {
-        Some(entry.parse().unwrap())
-    };
+    let entry = if entry == "any" { None } else { Some(entry.parse().unwrap()) };
     let lines = std::io::stdin().lock().lines().enumerate();
     lines.filter_map(move |(i, l)| parse_line(&l.unwrap(), entry).map(|l| (i + 1, l)))
 }
@@ -67,12 +46,12 @@ fn cases(entry: &str) -> impl Iterator<Item = (usize, Line)> {
 fn rows(a: &Args, out: &mut Out) {
     let opts = a.opts();
     for (n, l) in cases(a.word(1)) {
-        let (t, s) = orig::tokens(&l.case);
+        let (t, s) = token::rows(&l.case);
         let mut o = format!("CASE {n} entry {} tokens {} bytes {}\n", l.entry, t.len(), s.len());
         if opts.pretty {
             o.push_str(&format!("  {}\n", case_line(l.entry, &l.case)))
         }
-        orig::show(l.entry, &t, &s, &opts, &mut o);
+        lines::of_rust(l.entry, &t, &s, &opts, &mut o);
         writeln!(out, "{o}END").unwrap();
     }
 }
@@ -81,13 +60,13 @@ fn doc01(a: &Args, out: &mut Out) {
     let all = a.value("--caps").map_or([usize::MAX; 5], parse_caps);
     let unit_immediate = a.has("--unit-immediate");
     for (n, l) in cases(a.word(1)) {
-        let (t, s) = model::tokens(&l.case);
+        let (t, s) = token::rows(&l.case);
         let bytes = match &l.case {
             Case::Text(t) => t.as_bytes(),
             Case::Toks(_, b) => b,
         };
         let mut o = format!("CASE {n} entry {} tokens {} bytes {}\n", l.entry, t.len(), bytes.len());
-        model::doc01(l.entry, &t, bytes, &s, unit_immediate, l.caps.unwrap_or(all), &mut o);
+        lines::of_doc01(l.entry, &t, bytes, &s, unit_immediate, l.caps.unwrap_or(all), &mut o);
         writeln!(out, "{o}END").unwrap();
     }
 }
@@ -95,9 +74,9 @@ fn doc01(a: &Args, out: &mut Out) {
 fn raw(a: &Args, out: &mut Out) {
     let entry = a.number(1);
     for f in a.0[2..].iter().filter(|f| !f.starts_with('-')) {
-        let (t, s) = orig::tokens(&Case::Text(std::fs::read_to_string(f).unwrap()));
+        let (t, s) = token::rows(&Case::Text(std::fs::read_to_string(f).unwrap()));
         let mut o = format!("CASE {f} entry {entry} tokens {} bytes {}\n", t.len(), s.len());
-        orig::show(entry, &t, &s, &a.opts(), &mut o);
+        lines::of_rust(entry, &t, &s, &a.opts(), &mut o);
         writeln!(out, "{o}END").unwrap();
     }
 }
@@ -105,7 +84,7 @@ fn raw(a: &Args, out: &mut Out) {
 /// Text cases become toks cases, for a parser that has no lexer.
 fn totoks(out: &mut Out) {
     for (_, l) in cases("any") {
-        let (t, s) = orig::tokens(&l.case);
+        let (t, s) = token::rows(&l.case);
         writeln!(out, "{}", case_line(l.entry, &Case::Toks(t, s.into_bytes()))).unwrap();
     }
 }
@@ -113,17 +92,26 @@ fn totoks(out: &mut Out) {
 fn lex(out: &mut Out) {
     let mut s = String::new();
     std::io::stdin().read_to_string(&mut s).unwrap();
-    for t in dt_tools_parser::lexer::lex(&s) {
-        let (number, text) = (orig::code(&t.kind), esc(t.text.as_bytes()));
+    for t in token::lexed(&s) {
+        let (number, text) = (token::code(&t.kind), esc(t.text.as_bytes()));
         writeln!(out, "{number} {} {:?} {text}", t.text.len(), t.kind).unwrap()
     }
 }
 
 /// The numbers of the token kinds as the Rust has them, each with its fixed text if it has one.
 fn kinds(out: &mut Out) {
-    use logos::Logos;
-    for k in dt_tools_parser::lexer::TokenKind::variants() {
+    for k in token::kinds() {
         writeln!(out, "{} {k:?} {}", *k as u32, k.static_text().unwrap_or("")).unwrap()
+    }
+}
+
+/// Random cases, for one entry or for any.
+fn random(a: &Args, out: &mut Out) {
+    let (mut rng, count): (_, u64) = (generate::Rng::new(a.number(1)), a.number(2));
+    let only = a.0.get(3).map(|_| a.number(3));
+    for _ in 0..count {
+        let (entry, case) = generate::one(&mut rng, only);
+        writeln!(out, "{}", case_line(entry, &case)).unwrap()
     }
 }
 
@@ -137,31 +125,16 @@ fn run(a: &Args) {
         "lex" => lex(&mut out),
         "kinds" => kinds(&mut out),
         "rowsfile" => rowsfile::rowsfile(a.word(1), a.number_or(2, 1), &mut out),
-        "gen" => generate::run(a.number(1), a.number(2), a.0.get(3).map(|_| a.number(3)), &mut out),
+        "gen" => random(a, &mut out),
         "diff" => compare::diff(a, &mut out),
         "cmp" => compare::cmp(a, &mut out),
         "exhaust" => compare::exhaust(a, &mut out),
         "big" => write!(out, "{}", generate::big(a.number(1))).unwrap(),
-        "time" => timing::time(a, &mut out),
-        "cg" => timing::callgrind(a),
         x => panic!("no command {x}: see README.md"),
     }
 }
 
-/// The parser is recursive, so it runs on a large stack. Its own panics are answers and stay quiet.
 fn main() {
     let args = Args(std::env::args().skip(1).collect());
-    let stack = std::thread::Builder::new().stack_size(1 << 30);
-    let worker = stack.spawn(move || {
-        let said = std::panic::take_hook();
-        std::panic::set_hook(Box::new(move |p| {
-            if p.location().is_some_and(|l| l.file().contains("crates/oracle/")) {
-                said(p)
-            }
-        }));
-        run(&args)
-    });
-    if worker.unwrap().join().is_err() {
-        std::process::exit(2)
-    }
+    on_large_stack(move || run(&args))
 }

@@ -1,14 +1,12 @@
 //! The unchanged Rust against the patched copy: the same trees, lexical errors, messages, ranges and labels.
-use crate::case::{Case, Opts, Rows, case_line, esc};
-use crate::{Args, Out, cases, generate, model, orig};
+use crate::{Args, Out, cases};
+use oracle::case::{Case, Rows, case_line, esc};
+use oracle::lines::{self, Opts};
+use oracle::{generate, token};
 use parser_doc01::record;
 use std::io::Write;
 
-const ALL_ROWS: Opts = Opts {
-    toks: false,
-    tree: true,
-    pretty: false,
-};
+const ALL_ROWS: Opts = Opts { toks: false, tree: true, pretty: false };
 
 /// What one case gave.
 enum Outcome {
@@ -21,8 +19,8 @@ enum Outcome {
 
 fn both(entry: u32, toks: &Rows, text: &str, unit_immediate: bool) -> Outcome {
     let (mut x, mut y) = (String::new(), String::new());
-    orig::show(entry, toks, text, &ALL_ROWS, &mut x);
-    model::plain(entry, toks, text, &ALL_ROWS, unit_immediate, &mut y);
+    lines::of_rust(entry, toks, text, &ALL_ROWS, &mut x);
+    lines::of_patched(entry, toks, text, &ALL_ROWS, unit_immediate, &mut y);
     if x.starts_with("PANIC") {
         Outcome::Panics(x.trim().to_string())
     } else if x == y {
@@ -54,7 +52,7 @@ struct Tally {
 
 impl Tally {
     fn case(&mut self, entry: u32, case: &Case, unit_immediate: bool) {
-        let (toks, text) = orig::tokens(case);
+        let (toks, text) = token::rows(case);
         let outcome = both(entry, &toks, &text, unit_immediate);
         let (most, refused) = (record::most(), record::met_limit());
         self.cases += 1;
@@ -66,22 +64,15 @@ impl Tally {
             Outcome::Same => {}
             Outcome::Differs(a, b) => {
                 self.differ += 1;
-                self.found
-                    .push((toks.len(), format!("DIFFERS {}\n  Rust {a} / patched copy {b}", line())))
+                self.found.push((toks.len(), format!("DIFFERS {}\n  Rust {a} / patched copy {b}", line())))
             }
             Outcome::Panics(p) => {
                 self.panic += 1;
                 self.panic_only += !refused as u64;
                 let limits = format!("open {} pending {} steps {}", most.open, most.pending, most.steps);
-                let verdict = if refused {
-                    "refused 5 by document 01"
-                } else {
-                    "accepted by document 01"
-                };
-                self.found.push((
-                    toks.len(),
-                    format!("PANICS, {verdict}, {limits}: {} -- {}", line(), esc(p.as_bytes())),
-                ))
+                let verdict = if refused { "refused 5 by document 01" } else { "accepted by document 01" };
+                self.found
+                    .push((toks.len(), format!("PANICS, {verdict}, {limits}: {} -- {}", line(), esc(p.as_bytes()))))
             }
         }
     }
@@ -136,9 +127,7 @@ pub fn exhaust(a: &Args, out: &mut Out) {
     let mut tally = Tally::default();
     for len in 0..=longest {
         for code in 0..alphabet.len().pow(len) {
-            let list: Vec<_> = (0..len)
-                .map(|i| alphabet[code / alphabet.len().pow(i) % alphabet.len()])
-                .collect();
+            let list: Vec<_> = (0..len).map(|i| alphabet[code / alphabet.len().pow(i) % alphabet.len()]).collect();
             let text: String = list.iter().map(|x| x.1).collect();
             let case = Case::Toks(list.iter().map(|x| (x.0, x.1.len())).collect(), text.into_bytes());
             for entry in 1..=4 {
