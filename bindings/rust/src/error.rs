@@ -116,7 +116,7 @@ impl std::error::Error for Refusal {}
 pub enum Error {
     /// The call was refused for its input: one of the refusals 1 to 5. (6 to 8 are met with larger buffers.)
     Refused(Refusal),
-    /// Refused for lack of room with buffers that every run on so many tokens fits, by a theorem (crates/numbers).
+    /// Refused for lack of room with buffers that every run on so many tokens fits, by a theorem (crates/bounds).
     /// So the linked library is not the proved one.
     LimitPassed {
         /// What there was no room for.
