@@ -124,14 +124,14 @@ LOOP = {
 FROM = 'links-from room (tokens t) (infix-turn min-bp)'
 INVARIANT = f'''-- the chain from here is the chain from the start
 abbrev pub Inv-loop : lts.InvT-loop
-Inv-loop t ev₀ rep₀ pool₀ room min-bp m₀ q₀ ev rep pool m q =
+Inv-loop t events₀ reports₀ pool₀ room min-bp m₀ q₀ events reports pool m q =
     (left t (q .s) ≤ left t (q₀ .s))
-    × ((length ev ≡ length ev₀)
-    × ((length rep ≡ length rep₀)
-    × ((length pool ≡ length pool₀) × ({FROM} (marker-of m) (view-of q ev rep pool) ≡ {FROM} (marker-of m₀) (view-of q₀ ev₀ rep₀ pool₀)))))
+    × ((length events ≡ length events₀)
+    × ((length reports ≡ length reports₀)
+    × ((length pool ≡ length pool₀) × ({FROM} (marker-of m) (view-of q events reports pool) ≡ {FROM} (marker-of m₀) (view-of q₀ events₀ reports₀ pool₀)))))
 
 abbrev pub μ-loop : lts.MeasureT-loop
-μ-loop t ev₀ rep₀ pool₀ room min-bp m₀ q₀ ev rep pool m q = left t (q .s)
+μ-loop t events₀ reports₀ pool₀ room min-bp m₀ q₀ events reports pool m q = left t (q .s)
 
 '''
 

@@ -162,7 +162,7 @@ class Cycle:
 
     def invariant(self, name):
         told, program = LOOPS[name]
-        arguments = f"t ev₀ rep₀ pool₀ {told} ev rep pool q"
+        arguments = f"t events₀ reports₀ pool₀ {told} events reports pool q"
         room = "(room - 1)" if name in RULES else "room"
         label = "(span-of lcurly)" if name == "dt-node-body" else "unlabelled"
         walk = f"walk-prog {room} (tokens t) {label} ({program})"
@@ -171,9 +171,9 @@ class Cycle:
             "abbrev pub Inv-loop : lts.InvT-loop",
             f"Inv-loop {arguments} =",
             "    (left t (q .s) ≤ left t (q₀ .s))",
-            "    × ((length ev ≡ length ev₀)",
-            "    × ((length rep ≡ length rep₀)",
-            f"    × ((length pool ≡ length pool₀) × ({walk} (view-of q ev rep pool) ≡ {walk} (view-of q₀ ev₀ rep₀ pool₀)))))",
+            "    × ((length events ≡ length events₀)",
+            "    × ((length reports ≡ length reports₀)",
+            f"    × ((length pool ≡ length pool₀) × ({walk} (view-of q events reports pool) ≡ {walk} (view-of q₀ events₀ reports₀ pool₀)))))",
             "",
             "abbrev pub μ-loop : lts.MeasureT-loop",
             f"μ-loop {arguments} = left t (q .s)",

@@ -111,8 +111,8 @@ def answers(c):
         "returns-2": "(refl, sym (ap truth (@if1 .left)))",
     }, "`told` answers by its flag.")
     c.proof("forbidden_property", {
-        "returns": ("forbidden-property", "(λ ask b ev rep pool. c-flag forbidden-property (@if1 .taken) c-ret .is, omega arith)"),
-        "returns-2": ("forbidden-property silent", f"(λ ask b ev rep pool. c-flag forbidden-property (@if1 .left) (c-act (@silent-at-set .ensures .0 b ev rep pool)) .is, {LEFT})"),
+        "returns": ("forbidden-property", "(λ ask b events reports pool. c-flag forbidden-property (@if1 .taken) c-ret .is, omega arith)"),
+        "returns-2": ("forbidden-property silent", f"(λ ask b events reports pool. c-flag forbidden-property (@if1 .left) (c-act (@silent-at-set .ensures .0 b events reports pool)) .is, {LEFT})"),
     }, "`forbidden_property`: no test where properties are allowed.")
 
 
@@ -166,22 +166,22 @@ def source_file(c):
         "loop-again": (opened, f"(again-part 64 (c-yes {{t = true}} (c-no {end} (@if1 .left) c-ret) refl (c-part-on 64 (@sourcefile-part .ensures .0) c-ret)) (ahead-falls {ROWS} (@loop .q .s) (@sourcefile-part .result .s) ({LEFT})) ∙ @loop .inv .0, ({LEFT}, ({KEPT}, ({KEPT}, {KEPT}))))"),
         "returns": (opened, f"(last-yes 64 (c-no {{t = false}} (c-yes {end} (@if1 .taken) c-ret) refl c-ret) ∙ @loop .inv .0, {LEFT})"),
     }, "`entry_sourcefile`: the loop of `sourcefile-turn`.",
-        inv=("t ev₀ rep₀ pool₀ q₀ ev rep pool q",
-             f"({whole} (view-of q ev rep pool) ≡ {whole} (view-of q₀ ev₀ rep₀ pool₀)) × ((left t (q .s) ≤ left t (q₀ .s)) × ((length ev ≡ length ev₀) × ((length rep ≡ length rep₀) × (length pool ≡ length pool₀))))"),
+        inv=("t events₀ reports₀ pool₀ q₀ events reports pool q",
+             f"({whole} (view-of q events reports pool) ≡ {whole} (view-of q₀ events₀ reports₀ pool₀)) × ((left t (q .s) ≤ left t (q₀ .s)) × ((length events ≡ length events₀) × ((length reports ≡ length reports₀) × (length pool ≡ length pool₀))))"),
         measure="left t (q .s)")
 
 
 def left_over(c):
     rest = "walk ask (tokens t) b (loop left-over-turn)"
-    end = "(c-act (@at-end .ensures .0 b _ rep pool))"
+    end = "(c-act (@at-end .ensures .0 b _ reports pool))"
     c.proof("bump_all", {
-        "loop-holds": "(λ ask b rep pool. refl, (le-refl _, refl))",
+        "loop-holds": "(λ ask b reports pool. refl, (le-refl _, refl))",
         "loop-less": LEFT,
-        "loop-again": ("left-over-turn", f"(λ ask b rep pool. turns (c-yes {{t = true}} (c-no {end} (@if1 .left) c-ret) refl (c-seq (c-act (@bump .ensures .0 b rep pool)) c-ret)) (ahead-falls {ROWS} (@loop .q .s) (@bump .result .s) ({LEFT})) ∙ @loop .inv .0 ask b rep pool, ({LEFT}, {KEPT}))"),
-        "returns": ("left-over-turn", f"(λ ask b rep pool. stops-yes (c-no {{t = false}} (c-yes {end} (@if1 .taken) c-ret) refl c-ret) ∙ @loop .inv .0 ask b rep pool, {LEFT})"),
+        "loop-again": ("left-over-turn", f"(λ ask b reports pool. turns (c-yes {{t = true}} (c-no {end} (@if1 .left) c-ret) refl (c-seq (c-act (@bump .ensures .0 b reports pool)) c-ret)) (ahead-falls {ROWS} (@loop .q .s) (@bump .result .s) ({LEFT})) ∙ @loop .inv .0 ask b reports pool, ({LEFT}, {KEPT}))"),
+        "returns": ("left-over-turn", f"(λ ask b reports pool. stops-yes (c-no {{t = false}} (c-yes {end} (@if1 .taken) c-ret) refl c-ret) ∙ @loop .inv .0 ask b reports pool, {LEFT})"),
     }, "`bump_all`: the loop of `left-over-turn`.",
-        inv=("t ev₀ q₀ ev q",
-             f"((ask : Rule → Machine → Walked) (b : Span) (rep pool : List ℕ) → {rest} (view-of q ev rep pool) ≡ {rest} (view-of q₀ ev₀ rep pool)) × ((left t (q .s) ≤ left t (q₀ .s)) × (length ev ≡ length ev₀))"),
+        inv=("t events₀ q₀ events q",
+             f"((ask : Rule → Machine → Walked) (b : Span) (reports pool : List ℕ) → {rest} (view-of q events reports pool) ≡ {rest} (view-of q₀ events₀ reports pool)) × ((left t (q .s) ≤ left t (q₀ .s)) × (length events ≡ length events₀))"),
         measure="left t (q .s)")
     end = "(c-act (@at-end .ensures .0 b _ _ _))"
     wrapped = "c-mark (@new .ensures) (@start .ensures .0 _ _) (c-seq (c-seq (c-walk (@error .ensures .0 ask b)) (c-walk (@bump-all .ensures .0 ask b _ _))) c-ret) (completed 9 (@complete .ensures .0 _ _))"

@@ -141,31 +141,31 @@ def main(generated):
     }, "`part_of`: the end, an LParen, and outside or inside inner brackets the rest.")
 
     few = f"(few-rows {t} (omega arith))"
-    here = f"{ts} (@loop .level) (view (@loop .q) codes (@loop .ev) rep pool) (view (@peek .result) codes (@loop .ev) rep pool) {few} (@peek .ensures .0 codes (@loop .ev) rep pool) (@part-of .result) (@part-of .ensures ∙ ap (λ k. part k (@loop .level)) (@kind-at .ensures .0))"
-    start = f"@loop .inv .0 codes rep pool ∙ argue-whole {ts} b (view (@@ .args .s) codes (@@ .args .ev .now) rep pool)"
+    here = f"{ts} (@loop .level) (view (@loop .q) codes (@loop .events) reports pool) (view (@peek .result) codes (@loop .events) reports pool) {few} (@peek .ensures .0 codes (@loop .events) reports pool) (@part-of .result) (@part-of .ensures ∙ ap (λ k. part k (@loop .level)) (@kind-at .ensures .0))"
+    start = f"@loop .inv .0 codes reports pool ∙ argue-whole {ts} b (view (@@ .args .s) codes (@@ .args .events .now) reports pool)"
     kind = "(@kind-at .result) (@loop .level)"
     inside = f"some-left {t} (@peek .result) (@kind-at .ensures .1 (inside-some {kind} (@here-is .given .0 .0) (@part-of .result) (@part-of .ensures) (@here-is .given .1)))"
     c.proof("macros/bump_argument", {
-        "loop-holds": "(λ codes rep pool. refl, (le-refl _, refl))",
+        "loop-holds": "(λ codes reports pool. refl, (le-refl _, refl))",
         "part-of-requires": f"omega (flags, @loop .inv .1 .0, few-left {t} (@@ .args .s) (omega arith))",
-        "returns": f"(λ b codes rep pool. argue-comma {here} (@enum-told .given .1) ∙ {start}, (omega (flags, @peek .ensures .1, @loop .inv .1 .0), λ h. some-left {t} (@peek .result) (@kind-at .ensures .1 (comma-some {kind} (@part-of .result) (@part-of .ensures) (@enum-told .given .1)))))",
-        "returns-2": f"(λ b codes rep pool. argue-end {here} (@enum-told2 .given .1) ∙ {start}, (omega (flags, @peek .ensures .1, @loop .inv .1 .0), λ h. false-true h))",
+        "returns": f"(λ b codes reports pool. argue-comma {here} (@enum-told .given .1) ∙ {start}, (omega (flags, @peek .ensures .1, @loop .inv .1 .0), λ h. some-left {t} (@peek .result) (@kind-at .ensures .1 (comma-some {kind} (@part-of .result) (@part-of .ensures) (@enum-told .given .1)))))",
+        "returns-2": f"(λ b codes reports pool. argue-end {here} (@enum-told2 .given .1) ∙ {start}, (omega (flags, @peek .ensures .1, @loop .inv .1 .0), λ h. false-true h))",
         "loop-less": f"omega (flags, {inside}, @peek .ensures .1, @bump .ensures .1)",
-        "loop-again": f"(λ codes rep pool. argue-on {here} unlabelled (@here-is .given .0 .0) (view (@bump .result) codes _ rep pool) (@here-is .given .1) (@bump .ensures .0 unlabelled codes rep pool) ∙ @loop .inv .0 codes rep pool, (omega (flags, {inside}, inside-most {kind} (@here-is .given .0 .0) (@part-of .result) (@part-of .ensures) (@here-is .given .1), @peek .ensures .1, @bump .ensures .1, @loop .inv .1 .0), omega (arith, @bump .kept, @loop .inv .1 .1)))",
+        "loop-again": f"(λ codes reports pool. argue-on {here} unlabelled (@here-is .given .0 .0) (view (@bump .result) codes _ reports pool) (@here-is .given .1) (@bump .ensures .0 unlabelled codes reports pool) ∙ @loop .inv .0 codes reports pool, (omega (flags, {inside}, inside-most {kind} (@here-is .given .0 .0) (@part-of .result) (@part-of .ensures) (@here-is .given .1), @peek .ensures .1, @bump .ensures .1, @loop .inv .1 .0), omega (arith, @bump .kept, @loop .inv .1 .1)))",
     }, "`bump_argument`: the rest of the argument from here is the argument from its start.",
-        inv=("t ev₀ q₀ level₀ ev q level",
-             "((codes rep pool : List ℕ) → argue (tokens t) level (view q codes ev rep pool) ≡ argue (tokens t) level₀ (view q₀ codes ev₀ rep pool)) × ((level + left t q ≤ level₀ + left t q₀) × (length ev ≡ length ev₀))"),
+        inv=("t events₀ q₀ level₀ events q level",
+             "((codes reports pool : List ℕ) → argue (tokens t) level (view q codes events reports pool) ≡ argue (tokens t) level₀ (view q₀ codes events₀ reports pool)) × ((level + left t q ≤ level₀ + left t q₀) × (length events ≡ length events₀))"),
         measure="left t q")
 
     argument = lambda test, way: f"(completes (lit< tt) (@new .ensures) (@start .ensures .0 _ _ _) (if-{way[0]} (acts (@bump-argument .ensures .0 b _ _ _)) {answered(test, way[1])} tells) (@complete .ensures .0 _ _ _))"
     c.proof("macros/arguments", {
-        "loop-holds": "(λ ask b codes rep pool. refl, (le-refl _, refl))",
+        "loop-holds": "(λ ask b codes reports pool. refl, (le-refl _, refl))",
         "loop-less": "omega (flags, PROGRESS)",
-        "loop-again": f"(λ ask b codes rep pool. turns (opened macro-argument-turn-is (if-yes {argument('if1', ('yes', 'taken'))} refl (seq (acts (@bump .ensures .0 b codes rep pool)) tells))) (ahead-falls {t} (@loop .q) (@bump .result) (omega (flags, PROGRESS))) ∙ @loop .inv .0 ask b codes rep pool, (omega (flags, PROGRESS), omega (arith, KEPT)))",
-        "returns": f"(λ ask b codes rep pool. stops-yes (opened macro-argument-turn-is (if-no {argument('if1', ('no', 'left'))} refl tells)) ∙ @loop .inv .0 ask b codes rep pool, omega (flags, PROGRESS))",
+        "loop-again": f"(λ ask b codes reports pool. turns (opened macro-argument-turn-is (if-yes {argument('if1', ('yes', 'taken'))} refl (seq (acts (@bump .ensures .0 b codes reports pool)) tells))) (ahead-falls {t} (@loop .q) (@bump .result) (omega (flags, PROGRESS))) ∙ @loop .inv .0 ask b codes reports pool, (omega (flags, PROGRESS), omega (arith, KEPT)))",
+        "returns": f"(λ ask b codes reports pool. stops-yes (opened macro-argument-turn-is (if-no {argument('if1', ('no', 'left'))} refl tells)) ∙ @loop .inv .0 ask b codes reports pool, omega (flags, PROGRESS))",
     }, "`arguments`: the loop of `macro-argument-turn`.", tests={"bump-argument": "if1"},
-        inv=("t ev₀ q₀ ev q",
-             "((ask : Rule → Machine → Walked) (b : Span) (codes rep pool : List ℕ) → walk ask (tokens t) b (loop macro-argument-turn) (view q codes ev rep pool) ≡ walk ask (tokens t) b (loop macro-argument-turn) (view q₀ codes ev₀ rep pool)) × ((left t q ≤ left t q₀) × (length ev ≡ length ev₀))"),
+        inv=("t events₀ q₀ events q",
+             "((ask : Rule → Machine → Walked) (b : Span) (codes reports pool : List ℕ) → walk ask (tokens t) b (loop macro-argument-turn) (view q codes events reports pool) ≡ walk ask (tokens t) b (loop macro-argument-turn) (view q₀ codes events₀ reports pool)) × ((left t q ≤ left t q₀) × (length events ≡ length events₀))"),
         measure="left t q")
     c.proof("macros/argument_list", {
         "returns": on(opened("argument-list-is", then(act("bump"), no_not("if1", does("at", "_ _ _"), "tells"), does("expect")))),
@@ -178,7 +178,7 @@ def main(generated):
 
     # ---- macro_substitutable_name.rt
     c.proof("macro_substitutable_name/at", {
-        "returns": "(λ ask b ev rep pool. whole (opened name-at-is (does (@at .ensures .0 ask b ev rep pool))), @at .ensures .1)",
+        "returns": "(λ ask b events reports pool. whole (opened name-at-is (does (@at .ensures .0 ask b events reports pool))), @at .ensures .1)",
     }, "`at`: the test of a plain name.")
     c.proof("macro_substitutable_name/consume", {
         "returns": said(opened("name-consume-is", yes("if1", does("silent-at-macro-invocation-with-args", "_ _ _ _"), does("macro-invocation")))),
@@ -216,11 +216,11 @@ def main(generated):
     at, end, branch, endif = does("at", "_ _ _"), act("at-end", "_ _ _ _"), act("silent-at-set", "_ _ _ _"), act("silent-at", "_ _ _ _")
     steps = lambda *ws: opened("at-segment-is", conj(ws))
     c.proof("reference/at_segment", {
-        "returns": said_no(steps(("if1", at, "taken")), "ask b ev rep pool"),
-        "returns-2": said_no(steps(("if1", at, "left"), ("if2", end, "taken")), "ask b ev rep pool"),
-        "returns-3": said_no(steps(("if1", at, "left"), ("if2", end, "left"), ("if3", branch, "taken")), "ask b ev rep pool"),
-        "returns-4": said_no(steps(("if1", at, "left"), ("if2", end, "left"), ("if3", branch, "left"), ("if4", endif, "taken")), "ask b ev rep pool"),
-        "returns-5": said_yes(steps(("if1", at, "left"), ("if2", end, "left"), ("if3", branch, "left"), ("if4", endif, "left")), "ask b ev rep pool"),
+        "returns": said_no(steps(("if1", at, "taken")), "ask b events reports pool"),
+        "returns-2": said_no(steps(("if1", at, "left"), ("if2", end, "taken")), "ask b events reports pool"),
+        "returns-3": said_no(steps(("if1", at, "left"), ("if2", end, "left"), ("if3", branch, "taken")), "ask b events reports pool"),
+        "returns-4": said_no(steps(("if1", at, "left"), ("if2", end, "left"), ("if3", branch, "left"), ("if4", endif, "taken")), "ask b events reports pool"),
+        "returns-5": said_yes(steps(("if1", at, "left"), ("if2", end, "left"), ("if3", branch, "left"), ("if4", endif, "left")), "ask b events reports pool"),
     }, "`at_segment`: four tests, of which each may end the path.")
     c.proof("reference/path_segments", {
         "loop-holds": "(λ ask b. refl, (le-refl _, (refl, (refl, refl))))",
@@ -228,8 +228,8 @@ def main(generated):
         "loop-again": f"(λ ask b. turns (opened path-turn-is (if-yes {does('at-segment', '_ _ _')} {answered('if1', 'taken')} {then(then(does('expect'), lands('path-segment')), 'tells')})) (ahead-falls {t} (@loop .q) (@path-segment .result) (omega (flags, PROGRESS))) ∙ @loop .inv .0 ask b, (omega (flags, PROGRESS), (omega (arith, KEPT), (omega (arith, KEPT), omega (arith, KEPT)))))",
         "returns": f"(λ ask b. stops-yes (opened path-turn-is (if-no {does('at-segment', '_ _ _')} {answered('if1', 'left')} tells)) ∙ @loop .inv .0 ask b, omega (flags, PROGRESS))",
     }, "`path_segments`: the loop of `path-turn`.",
-        inv=("codes₀ t ev₀ rep₀ pool₀ q₀ codes ev rep pool q",
-             "((ask : Rule → Machine → Walked) (b : Span) → walk ask (tokens t) b (loop path-turn) (view q codes ev rep pool) ≡ walk ask (tokens t) b (loop path-turn) (view q₀ codes₀ ev₀ rep₀ pool₀)) × ((left t q ≤ left t q₀) × ((length ev ≡ length ev₀) × ((length rep ≡ length rep₀) × (length pool ≡ length pool₀))))"),
+        inv=("codes₀ t events₀ reports₀ pool₀ q₀ codes events reports pool q",
+             "((ask : Rule → Machine → Walked) (b : Span) → walk ask (tokens t) b (loop path-turn) (view q codes events reports pool) ≡ walk ask (tokens t) b (loop path-turn) (view q₀ codes₀ events₀ reports₀ pool₀)) × ((left t q ≤ left t q₀) × ((length events ≡ length events₀) × ((length reports ≡ length reports₀) × (length pool ≡ length pool₀))))"),
         measure="left t q")
     c.proof("reference/path_rest", {
         "returns": on(opened("path-rest-is", then(does("path-segments"), does("expect")))),

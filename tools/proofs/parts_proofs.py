@@ -128,7 +128,7 @@ def dts_directive(c):
 
 
 def ends(c):
-    said = "ask b ev rep pool"
+    said = "ask b events reports pool"
     c.way("ends/at_item", both(negated(call("at")), negated(call("at-end"))), if_yes(), given=said)
     c.way("ends/at_cells_end", flag("cells-end", seq(call("add-expected"), call("at-end")), call("at")), le, "cells-end", said)
 
@@ -136,7 +136,7 @@ def ends(c):
         if walk.test[1] == "taken":
             return f"({LEFT}, λ h. true-false (sym (@{walk.test[0]} .taken) ∙ h))"
         return f"({LEFT}, λ h. {LEFT})"
-    c.way("ends/at_cells_recovery", when(call("silent-at-set"), SAME_YES, when(call("at-end"), SAME_YES, when(call("silent-at-set"), SAME_YES, call("silent-at")))), recovery, "silent", "ask b codes ev rep pool")
+    c.way("ends/at_cells_recovery", when(call("silent-at-set"), SAME_YES, when(call("at-end"), SAME_YES, when(call("silent-at-set"), SAME_YES, call("silent-at")))), recovery, "silent", "ask b codes events reports pool")
     c.way("ends/at_values_end", flag("at-values-end", by("at-one K.Semicolon", call("at")), by("at-none", call("silent-at-set"))), le, given=said)
     c.way("ends/after_propvalue", when(call("eat"), AGAIN, when(call("at-values-end"), YES, when(call("silent-at-set"), seq(call("error"), AGAIN), NO))),
           lambda need, answer, walk: f"({LEFT}, {answer}-also)", "after-propvalue silent")
@@ -178,8 +178,8 @@ def prefix(c):
         "loop-again": f"(λ ask b. went-told (@turn .result .answer) (c-walk (@turn .ensures .0 ask b)) (ap answer-of (@enum-told .given .1)) (ahead-falls (@@ .args .t .now) (@loop .q) (@turn .result .s) (omega (arith, {again}))) ∙ @loop .inv .0 ask b, (omega (arith, {again}, @loop .inv .1 .0), (omega (arith, KEPT), (omega (arith, KEPT), omega (arith, KEPT)))))",
         "returns": "(λ ask b. ended-told (@turn .result .answer) (c-walk (@turn .ensures .0 ask b)) (other-ends (@turn .result .answer) (@match .keys2)) ∙ @loop .inv .0 ask b, omega (arith, @turn .ensures .1 .1, @loop .inv .1 .0))",
     }, "`labels_and_name`: the loop of `prefix-turn`.",
-        inv=("codes₀ t ev₀ rep₀ pool₀ allow q₀ codes ev rep pool q",
-             f"((ask : Rule → Machine → Walked) (b : Span) → {rest} (view q codes ev rep pool) ≡ {rest} (view q₀ codes₀ ev₀ rep₀ pool₀)) × ((left t q ≤ left t q₀) × ((length ev ≡ length ev₀) × ((length rep ≡ length rep₀) × (length pool ≡ length pool₀))))"),
+        inv=("codes₀ t events₀ reports₀ pool₀ allow q₀ codes events reports pool q",
+             f"((ask : Rule → Machine → Walked) (b : Span) → {rest} (view q codes events reports pool) ≡ {rest} (view q₀ codes₀ events₀ reports₀ pool₀)) × ((left t q ≤ left t q₀) × ((length events ≡ length events₀) × ((length reports ≡ length reports₀) × (length pool ≡ length pool₀))))"),
         measure="left t q")
     c.way("node_or_prop_prefix/eat_node_or_prop_prefix", when(call("eat"), call("labels-and-name"), call("labels-and-name")), le, "eat-node-or-prop-prefix")
 

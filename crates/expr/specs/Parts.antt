@@ -50,7 +50,7 @@ abbrev pub stepped : Bool → Bool → Machine → Walked
 stepped operator again? m = record { ans = cond operator (cond again? again yes) yes; shape = cond operator N.InfixExpr 0; on = m }
 
 abbrev pub step-as : Step → List ℕ → List ℕ → List ℕ → Walked
-step-as r ev rep pool = stepped (r .operator) (r .again) (view-of (r .p) ev rep pool)
+step-as r events reports pool = stepped (r .operator) (r .again) (view-of (r .p) events reports pool)
 
 -- the links of a chain from here on, with so many open calls allowed
 abbrev pub links-from : ℕ → List Token → Prog → Marker → Machine → Walked

@@ -32,12 +32,12 @@ on-false b c x y e f = ap (λ (z : Bool). cond z x y) (sym e ∙ f)
 -- ---------------------------------------------------------------- the whole parser
 
 -- with other numbers: what is known of the numbers is known of the parser
-pub with-view : (p : Parser) (codes : List ℕ) (s : State) (ev rep pool : List ℕ) (m : Machine) → p ≡ record { codes = codes; s = s } → view s codes ev rep pool ≡ m → view-of p ev rep pool ≡ m
-with-view p codes s ev rep pool m e f = ap (λ (x : Parser). view-of x ev rep pool) e ∙ f
+pub with-view : (p : Parser) (codes : List ℕ) (s : State) (events reports pool : List ℕ) (m : Machine) → p ≡ record { codes = codes; s = s } → view s codes events reports pool ≡ m → view-of p events reports pool ≡ m
+with-view p codes s events reports pool m e f = ap (λ (x : Parser). view-of x events reports pool) e ∙ f
 
-pub with-said : (p : Parser) (codes : List ℕ) (s : State) (ev rep pool : List ℕ) (a : Ans) (w : Walked) → p ≡ record { codes = codes; s = s } → said a (view s codes ev rep pool) ≡ w
-    → said a (view-of p ev rep pool) ≡ w
-with-said p codes s ev rep pool a w e f = ap (λ (x : Parser). said a (view-of x ev rep pool)) e ∙ f
+pub with-said : (p : Parser) (codes : List ℕ) (s : State) (events reports pool : List ℕ) (a : Ans) (w : Walked) → p ≡ record { codes = codes; s = s } → said a (view s codes events reports pool) ≡ w
+    → said a (view-of p events reports pool) ≡ w
+with-said p codes s events reports pool a w e f = ap (λ (x : Parser). said a (view-of x events reports pool)) e ∙ f
 
 pub with-left : (p : Parser) (codes : List ℕ) (s : State) (tk : List ℕ) → p ≡ record { codes = codes; s = s } → left tk (p .s) ≡ left tk s
 with-left p codes s tk e = ap (λ (x : Parser). left tk (x .s)) e

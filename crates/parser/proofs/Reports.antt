@@ -109,15 +109,15 @@ module _ (message hint : ℕ) (range lab : Span) (m : Machine) (codes : List ℕ
   tested : (b c : Bool) → y ≡ b → z ≡ c → written message hint range lab m (take n codes) ≡ cond (b && c) both (M.refuse 7 m)
   tested b c e f = ap (λ (v : Bool). written-if v message hint range lab m (take n codes)) (sym rows ∙ e) ∙ ap (λ (v : Bool). cond (b && v) both (M.refuse 7 m)) (sym pools-of ∙ f)
 
-  pub report-fits : (rep pool : List ℕ) (mark first count : ℕ) → y ≡ true → z ≡ true → mark ≡ low (m .mark) → first ≡ low (m .pool .count) → count ≡ low n
-      → rep ≡ stored (m .reports .count) (message ∷ range .from ∷ range .to ∷ mark ∷ first ∷ count ∷ hint ∷ lab .from ∷ lab .to ∷ []) (m .reports .numbers)
+  pub report-fits : (reports pool : List ℕ) (mark first count : ℕ) → y ≡ true → z ≡ true → mark ≡ low (m .mark) → first ≡ low (m .pool .count) → count ≡ low n
+      → reports ≡ stored (m .reports .count) (message ∷ range .from ∷ range .to ∷ mark ∷ first ∷ count ∷ hint ∷ lab .from ∷ lab .to ∷ []) (m .reports .numbers)
       → pool ≡ sets (m .pool .numbers) (m .pool .count) (take n codes)
-      → with-reports (record { count = m .reports .count + 9; numbers = rep }) (record { count = m .pool .count + n; numbers = pool }) m ≡ write-report message hint range lab m
-  report-fits rep pool mark first count e f p q r s t =
+      → with-reports (record { count = m .reports .count + 9; numbers = reports }) (record { count = m .pool .count + n; numbers = pool }) m ≡ write-report message hint range lab m
+  report-fits reports pool mark first count e f p q r s t =
       let at = m .reports .count in
       let l = m .reports .numbers in
       let w : ℕ → ℕ → ℕ → List ℕ = λ a b d. message ∷ range .from ∷ range .to ∷ a ∷ b ∷ d ∷ hint ∷ lab .from ∷ lab .to ∷ [] in
-      let u : rep ≡ sets l at (report-row message hint range lab (m .mark) (m .pool .count) n) =
+      let u : reports ≡ sets l at (report-row message hint range lab (m .mark) (m .pool .count) n) =
       s ∙ on-true y (fits (length l) at 9) (sets l at (w mark first count)) l rows e
       ∙ ap (λ (a : ℕ). sets l at (w a first count)) p ∙ ap (λ (b : ℕ). sets l at (w (low (m .mark)) b count)) q ∙ ap (λ (d : ℕ). sets l at (w (low (m .mark)) (low (m .pool .count)) d)) r in
       ap (λ (x : List ℕ). with-reports (record { count = at + 9; numbers = x }) (record { count = m .pool .count + n; numbers = pool }) m) u

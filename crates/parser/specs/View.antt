@@ -31,15 +31,15 @@ use Rattle.parser.specs.declared.matcher.Matcher.the-variants as Of
 
 -- the numbers, the pending codes and the lent buffers
 abbrev pub view : State → List ℕ → List ℕ → List ℕ → List ℕ → Machine
-view s codes ev rep pool =
+view s codes events reports pool =
     record {
       cursor = s .cursor .0;
       byte = s .byte .0;
       mark = s .mark .0;
       mark-byte = s .«mark_byte» .0;
       pending = take (s .pending) codes;
-      events = record { count = s .events; numbers = ev };
-      reports = record { count = s .reports; numbers = rep };
+      events = record { count = s .events; numbers = events };
+      reports = record { count = s .reports; numbers = reports };
       pool = record { count = s .pool; numbers = pool };
       refusal = s .refusal;
       place = s .place .0;
@@ -51,14 +51,14 @@ left tk s = length tk / 2 - s .cursor .0
 
 -- a test's answer, and the machine after it
 abbrev pub state-tested : StateTested → List ℕ → List ℕ → List ℕ → List ℕ → Walked
-state-tested r codes ev rep pool = said (truth (r .yes)) (view (r .s) codes ev rep pool)
+state-tested r codes events reports pool = said (truth (r .yes)) (view (r .s) codes events reports pool)
 
 -- the same of the whole parser
 abbrev pub view-of : Parser → List ℕ → List ℕ → List ℕ → Machine
-view-of p ev rep pool = view (p .s) (p .codes) ev rep pool
+view-of p events reports pool = view (p .s) (p .codes) events reports pool
 
 abbrev pub parser-tested : ParserTested → List ℕ → List ℕ → List ℕ → Walked
-parser-tested r ev rep pool = said (truth (r .yes)) (view-of (r .p) ev rep pool)
+parser-tested r events reports pool = said (truth (r .yes)) (view-of (r .p) events reports pool)
 
 abbrev pub ans-of : Answered → Ans
 ans-of A.No = no

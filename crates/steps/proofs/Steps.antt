@@ -114,11 +114,11 @@ first-some ks (t ∷ l) e = omega arith
 -- ---------------------------------------------------------------- answers
 
 -- `told`
-pub told-is : (r : ParserAnswered) (k : ParserTested) (ev rep pool : List ℕ) → r .p ≡ k .p → ans-of (r .ans) ≡ truth (k .yes) → parser-answered r ev rep pool ≡ parser-tested k ev rep pool
-told-is r k ev rep pool e f = ap (λ p. said (ans-of (r .ans)) (view-of p ev rep pool)) e ∙ ap (λ (a : Ans). said a (view-of (k .p) ev rep pool)) f
+pub told-is : (r : ParserAnswered) (k : ParserTested) (events reports pool : List ℕ) → r .p ≡ k .p → ans-of (r .ans) ≡ truth (k .yes) → parser-answered r events reports pool ≡ parser-tested k events reports pool
+told-is r k events reports pool e f = ap (λ p. said (ans-of (r .ans)) (view-of p events reports pool)) e ∙ ap (λ (a : Ans). said a (view-of (k .p) events reports pool)) f
 
-pub told-yes : (r : ParserAnswered) (k : ParserTested) (ev rep pool : List ℕ) → r .p ≡ k .p → ans-of (r .ans) ≡ truth (k .yes) → k .yes ≡ true → parser-answered r ev rep pool ≡ said yes (view-of (k .p) ev rep pool)
-told-yes r k ev rep pool e f h = told-is r k ev rep pool e f ∙ ap (λ (t : Bool). said (truth t) (view-of (k .p) ev rep pool)) h
+pub told-yes : (r : ParserAnswered) (k : ParserTested) (events reports pool : List ℕ) → r .p ≡ k .p → ans-of (r .ans) ≡ truth (k .yes) → k .yes ≡ true → parser-answered r events reports pool ≡ said yes (view-of (k .p) events reports pool)
+told-yes r k events reports pool e f h = told-is r k events reports pool e f ∙ ap (λ (t : Bool). said (truth t) (view-of (k .p) events reports pool)) h
 
 -- what the last arm of a match is told where the others are for `Again`
 pub other-ends : (a : Answer) → OneOf (0 ∷ 1 ∷ 2 ∷ []) (tagOf the-type a) → is-again (ans-of a) ≡ false
@@ -226,8 +226,8 @@ module _ {ask : Rule → Machine → Walked} {ts : List Token} {b : Span} {m : M
   at-none e = record { is = e .is }
 
 -- `some`
-pub some-is : (r : SaidR) (s : State) (a : Ans) (codes ev rep pool : List ℕ) → r .s ≡ s → ans-of (r .ans) ≡ a → state-answered r codes ev rep pool ≡ said a (view s codes ev rep pool)
-some-is r s a codes ev rep pool e f = ap (λ (s : State). said (ans-of (r .ans)) (view s codes ev rep pool)) e ∙ ap (λ (a : Ans). said a (view s codes ev rep pool)) f
+pub some-is : (r : SaidR) (s : State) (a : Ans) (codes events reports pool : List ℕ) → r .s ≡ s → ans-of (r .ans) ≡ a → state-answered r codes events reports pool ≡ said a (view s codes events reports pool)
+some-is r s a codes events reports pool e f = ap (λ (s : State). said (ans-of (r .ans)) (view s codes events reports pool)) e ∙ ap (λ (a : Ans). said a (view s codes events reports pool)) f
 
 -- answers that differ
 pub no-also : no ≡ also → ⊥

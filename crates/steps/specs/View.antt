@@ -12,11 +12,11 @@ use Rattle.parser.specs.declared.Ans.the-variants.{No, Yes, Also, Again}
 
 -- an answer, and the machine after it
 abbrev pub state-answered : StateAnswered → List ℕ → List ℕ → List ℕ → List ℕ → Walked
-state-answered r codes ev rep pool = said (ans-of (r .ans)) (view (r .s) codes ev rep pool)
+state-answered r codes events reports pool = said (ans-of (r .ans)) (view (r .s) codes events reports pool)
 
 -- the same of the whole parser
 abbrev pub parser-answered : ParserAnswered → List ℕ → List ℕ → List ℕ → Walked
-parser-answered r ev rep pool = said (ans-of (r .ans)) (view-of (r .p) ev rep pool)
+parser-answered r events reports pool = said (ans-of (r .ans)) (view-of (r .p) events reports pool)
 
 -- the answer at a node's or property's own name, by `allow_prop`
 abbrev pub own-name : Bool → Ans

@@ -32,7 +32,7 @@ returns c =
     let binding-power′ = c .binding-power in
     let s′ = c .before .before .before .before .before in
     let tk = s′ .args .tokens .now in (
-      λ ev rep pool. peek′ .ensures .0 ev rep pool ∙ ap (λ (w : Walked). peek (tokens-of tk) (w .on)) (add-expected′ .ensures .0 (tokens-of tk) unlabelled ev rep pool),
+      λ events reports pool. peek′ .ensures .0 events reports pool ∙ ap (λ (w : Walked). peek (tokens-of tk) (w .on)) (add-expected′ .ensures .0 (tokens-of tk) unlabelled events reports pool),
       (
         binding-power′ .ensures .0 ∙ ap (left-power levels) (kind-at′ .ensures .0),
         (

@@ -23,14 +23,14 @@ returns c =
     let d = a .before in
     let e = d .before .before in
     let s = e .before .before in
-    (λ ask b ev rep pool. (c-flag cells-end (e .if1 .taken) (c-seq (c-act (d .add-expected .ensures .0 (tokens-of (s .args .tokens .now)) b _ _ _)) (c-act (a .at-end .ensures .0 b _ _ _ _)))) .is, omega (arith, d .add-expected .ensures .1 (s .args .tokens .now), a .at-end .ensures .1 .0))
+    (λ ask b events reports pool. (c-flag cells-end (e .if1 .taken) (c-seq (c-act (d .add-expected .ensures .0 (tokens-of (s .args .tokens .now)) b _ _ _)) (c-act (a .at-end .ensures .0 b _ _ _ _)))) .is, omega (arith, d .add-expected .ensures .1 (s .args .tokens .now), a .at-end .ensures .1 .0))
 
 returns-2 : tie.Need-returns-2
 unfolding cells-end
 returns-2 c =
     let a = c in
     let d = a .before .before in
-    (λ ask b ev rep pool. (c-flag cells-end (d .if1 .left) (c-walk (a .at .ensures .0 ask b _ _ _))) .is, omega (arith, a .at .ensures .1 .0))
+    (λ ask b events reports pool. (c-flag cells-end (d .if1 .left) (c-walk (a .at .ensures .0 ask b _ _ _))) .is, omega (arith, a .at .ensures .1 .0))
 
 pub at-cells-end-spec : {M : Type 1} → statement M
 at-cells-end-spec = tie.close (tie.spec add-expected-requires at-end-requires at-requires returns returns-2)

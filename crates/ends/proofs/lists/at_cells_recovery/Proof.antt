@@ -19,7 +19,7 @@ unfolding silent
 returns c =
     let a = c in
     let d = a .before in
-    (λ ask b codes ev rep pool. (c-yes (c-act (d .silent-at-set .ensures .0 b _ _ _ _)) (a .if1 .taken) (c-ret-yes (a .if1 .taken))) .is, (omega (arith, d .silent-at-set .ensures .1 .0, d .silent-at-set .ensures .1 .1 (a .if1 .taken)), λ h. true-false (sym (a .if1 .taken) ∙ h)))
+    (λ ask b codes events reports pool. (c-yes (c-act (d .silent-at-set .ensures .0 b _ _ _ _)) (a .if1 .taken) (c-ret-yes (a .if1 .taken))) .is, (omega (arith, d .silent-at-set .ensures .1 .0, d .silent-at-set .ensures .1 .1 (a .if1 .taken)), λ h. true-false (sym (a .if1 .taken) ∙ h)))
 
 at-end-requires : tie.Need-at-end-requires
 at-end-requires c κs = tt
@@ -31,7 +31,7 @@ returns-2 c =
     let d = a .before in
     let e = d .before in
     let f = e .before in
-    (λ ask b codes ev rep pool. (c-no (c-act (f .silent-at-set .ensures .0 b _ _ _ _)) (e .if1 .left) (c-yes (c-act (d .at-end .ensures .0 b _ _ _ _)) (a .if2 .taken) (c-ret-yes (a .if2 .taken)))) .is, (omega (arith, f .silent-at-set .ensures .1 .0, d .at-end .ensures .1 .0), λ h. true-false (sym (a .if2 .taken) ∙ h)))
+    (λ ask b codes events reports pool. (c-no (c-act (f .silent-at-set .ensures .0 b _ _ _ _)) (e .if1 .left) (c-yes (c-act (d .at-end .ensures .0 b _ _ _ _)) (a .if2 .taken) (c-ret-yes (a .if2 .taken)))) .is, (omega (arith, f .silent-at-set .ensures .1 .0, d .at-end .ensures .1 .0), λ h. true-false (sym (a .if2 .taken) ∙ h)))
 
 slice-aggregate-silent-at-set-2 : tie.Need-slice-aggregate-silent-at-set-2
 slice-aggregate-silent-at-set-2 c = search needs
@@ -48,7 +48,7 @@ returns-3 c =
     let f = e .before in
     let g = f .before in
     let i = g .before in
-    (λ ask b codes ev rep pool. (c-no (c-act (i .silent-at-set .ensures .0 b _ _ _ _)) (g .if1 .left) (c-no (c-act (f .at-end .ensures .0 b _ _ _ _)) (e .if2 .left) (c-yes (c-act (d .silent-at-set2 .ensures .0 b _ _ _ _)) (a .if3 .taken) (c-ret-yes (a .if3 .taken))))) .is, (omega (arith, i .silent-at-set .ensures .1 .0, f .at-end .ensures .1 .0, f .at-end .ensures .1 .1 .0 (e .if2 .left), d .silent-at-set2 .ensures .1 .0, d .silent-at-set2 .ensures .1 .1 (a .if3 .taken)), λ h. true-false (sym (a .if3 .taken) ∙ h)))
+    (λ ask b codes events reports pool. (c-no (c-act (i .silent-at-set .ensures .0 b _ _ _ _)) (g .if1 .left) (c-no (c-act (f .at-end .ensures .0 b _ _ _ _)) (e .if2 .left) (c-yes (c-act (d .silent-at-set2 .ensures .0 b _ _ _ _)) (a .if3 .taken) (c-ret-yes (a .if3 .taken))))) .is, (omega (arith, i .silent-at-set .ensures .1 .0, f .at-end .ensures .1 .0, f .at-end .ensures .1 .1 .0 (e .if2 .left), d .silent-at-set2 .ensures .1 .0, d .silent-at-set2 .ensures .1 .1 (a .if3 .taken)), λ h. true-false (sym (a .if3 .taken) ∙ h)))
 
 silent-at-requires : tie.Need-silent-at-requires
 silent-at-requires c κs = tt
@@ -63,7 +63,7 @@ returns-4 c =
     let g = f .before in
     let i = g .before in
     let j = i .before in
-    (λ ask b codes ev rep pool. (c-no (c-act (j .silent-at-set .ensures .0 b _ _ _ _)) (i .if1 .left) (c-no (c-act (g .at-end .ensures .0 b _ _ _ _)) (f .if2 .left) (c-no (c-act (e .silent-at-set2 .ensures .0 b _ _ _ _)) (d .if3 .left) (c-act (a .silent-at .ensures .0 b _ _ _ _))))) .is, (omega (arith, j .silent-at-set .ensures .1 .0, g .at-end .ensures .1 .0, g .at-end .ensures .1 .1 .0 (f .if2 .left), e .silent-at-set2 .ensures .1 .0, a .silent-at .ensures .1 .0), λ h. omega (arith, j .silent-at-set .ensures .1 .0, g .at-end .ensures .1 .0, g .at-end .ensures .1 .1 .0 (f .if2 .left), e .silent-at-set2 .ensures .1 .0, a .silent-at .ensures .1 .0)))
+    (λ ask b codes events reports pool. (c-no (c-act (j .silent-at-set .ensures .0 b _ _ _ _)) (i .if1 .left) (c-no (c-act (g .at-end .ensures .0 b _ _ _ _)) (f .if2 .left) (c-no (c-act (e .silent-at-set2 .ensures .0 b _ _ _ _)) (d .if3 .left) (c-act (a .silent-at .ensures .0 b _ _ _ _))))) .is, (omega (arith, j .silent-at-set .ensures .1 .0, g .at-end .ensures .1 .0, g .at-end .ensures .1 .1 .0 (f .if2 .left), e .silent-at-set2 .ensures .1 .0, a .silent-at .ensures .1 .0), λ h. omega (arith, j .silent-at-set .ensures .1 .0, g .at-end .ensures .1 .0, g .at-end .ensures .1 .1 .0 (f .if2 .left), e .silent-at-set2 .ensures .1 .0, a .silent-at .ensures .1 .0)))
 
 pub at-cells-recovery-spec : {M : Type 1} → statement M
 at-cells-recovery-spec = tie.close (tie.spec slice-aggregate-silent-at-set silent-at-set-requires returns at-end-requires returns-2 slice-aggregate-silent-at-set-2 silent-at-set-requires-2 returns-3 silent-at-requires returns-4)

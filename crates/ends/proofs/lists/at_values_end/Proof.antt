@@ -22,13 +22,13 @@ returns : tie.Need-returns
 returns c =
     let a = c in
     let d = a .before .before in
-    (λ ask b ev rep pool. (c-flag at-values-end (d .if1 .taken) (at-one K.Semicolon (c-walk (a .at .ensures .0 ask b _ _ _)))) .is, omega (arith, a .at .ensures .1 .0))
+    (λ ask b events reports pool. (c-flag at-values-end (d .if1 .taken) (at-one K.Semicolon (c-walk (a .at .ensures .0 ask b _ _ _)))) .is, omega (arith, a .at .ensures .1 .0))
 
 returns-2 : tie.Need-returns-2
 returns-2 c =
     let a = c in
     let d = a .before .before in
-    (λ ask b ev rep pool. (c-flag at-values-end (d .if1 .left) (at-none (c-act (a .silent-at-set .ensures .0 b _ _ _ _)))) .is, omega (arith, a .silent-at-set .ensures .1 .0))
+    (λ ask b events reports pool. (c-flag at-values-end (d .if1 .left) (at-none (c-act (a .silent-at-set .ensures .0 b _ _ _ _)))) .is, omega (arith, a .silent-at-set .ensures .1 .0))
 
 pub at-values-end-spec : {M : Type 1} → statement M
 at-values-end-spec = tie.close (tie.spec at-requires slice-aggregate-silent-at-set silent-at-set-requires returns returns-2)

@@ -20,13 +20,13 @@ use Rattle.ends.proofs.nodes.bump_all.Statement.{statement}
 use Rattle.ends.proofs.nodes.bump_all.Tie as tie
 
 abbrev Inv-loop : tie.InvT-loop
-Inv-loop t ev₀ q₀ ev q = ((ask : Rule → Machine → Walked) (b : Span) (rep pool : List ℕ) → walk ask (tokens-of t) b (loop left-over-turn) (view-of q ev rep pool) ≡ walk ask (tokens-of t) b (loop left-over-turn) (view-of q₀ ev₀ rep pool)) × ((left t (q .s) ≤ left t (q₀ .s)) × (length ev ≡ length ev₀))
+Inv-loop t events₀ q₀ events q = ((ask : Rule → Machine → Walked) (b : Span) (reports pool : List ℕ) → walk ask (tokens-of t) b (loop left-over-turn) (view-of q events reports pool) ≡ walk ask (tokens-of t) b (loop left-over-turn) (view-of q₀ events₀ reports pool)) × ((left t (q .s) ≤ left t (q₀ .s)) × (length events ≡ length events₀))
 
 abbrev μ-loop : tie.MeasureT-loop
-μ-loop t ev₀ q₀ ev q = left t (q .s)
+μ-loop t events₀ q₀ events q = left t (q .s)
 
 loop-holds : tie.Need-loop-holds Inv-loop μ-loop
-loop-holds c = (λ ask b rep pool. refl, (le-refl _, refl))
+loop-holds c = (λ ask b reports pool. refl, (le-refl _, refl))
 
 at-end-requires : tie.Need-at-end-requires Inv-loop μ-loop
 at-end-requires c κs = tt
@@ -42,7 +42,7 @@ returns c =
     let a = c .before in
     let d = a .before in
     let e = d .before in
-    (λ ask b rep pool. stops-yes (c-no {t = false} (c-yes (c-act (d .at-end .ensures .0 b _ rep pool)) (a .if1 .taken) c-ret) refl c-ret) ∙ e .loop .inv .0 ask b rep pool, omega (arith, e .loop .inv .1 .0, d .at-end .ensures .1 .0))
+    (λ ask b reports pool. stops-yes (c-no {t = false} (c-yes (c-act (d .at-end .ensures .0 b _ reports pool)) (a .if1 .taken) c-ret) refl c-ret) ∙ e .loop .inv .0 ask b reports pool, omega (arith, e .loop .inv .1 .0, d .at-end .ensures .1 .0))
 
 bump-requires : tie.Need-bump-requires Inv-loop μ-loop
 bump-requires c κs = tt
@@ -63,7 +63,7 @@ loop-again c =
     let e = d .before in
     let f = e .before in
     let s = f .before .before .before in
-    (λ ask b rep pool. turns (c-yes {t = true} (c-no (c-act (e .at-end .ensures .0 b _ rep pool)) (d .if1 .left) c-ret) refl (c-seq (c-act (a .bump .ensures .0 b rep pool)) c-ret)) (ahead-falls (s .args .tokens .now) (f .loop .q .s) (a .bump .result .s) (omega (arith, f .loop .inv .1 .0, e .at-end .ensures .1 .0, e .at-end .ensures .1 .1 .0 (d .if1 .left), a .bump .ensures .1))) ∙ f .loop .inv .0 ask b rep pool, (omega (arith, f .loop .inv .1 .0, e .at-end .ensures .1 .0, e .at-end .ensures .1 .1 .0 (d .if1 .left), a .bump .ensures .1), omega (arith, f .loop .inv .1 .1, a .bump .kept)))
+    (λ ask b reports pool. turns (c-yes {t = true} (c-no (c-act (e .at-end .ensures .0 b _ reports pool)) (d .if1 .left) c-ret) refl (c-seq (c-act (a .bump .ensures .0 b reports pool)) c-ret)) (ahead-falls (s .args .tokens .now) (f .loop .q .s) (a .bump .result .s) (omega (arith, f .loop .inv .1 .0, e .at-end .ensures .1 .0, e .at-end .ensures .1 .1 .0 (d .if1 .left), a .bump .ensures .1))) ∙ f .loop .inv .0 ask b reports pool, (omega (arith, f .loop .inv .1 .0, e .at-end .ensures .1 .0, e .at-end .ensures .1 .1 .0 (d .if1 .left), a .bump .ensures .1), omega (arith, f .loop .inv .1 .1, a .bump .kept)))
 
 pub bump-all-spec : {M : Type 1} → statement M
 bump-all-spec = tie.close (tie.spec Inv-loop μ-loop loop-holds at-end-requires same-length returns bump-requires loop-less loop-again)

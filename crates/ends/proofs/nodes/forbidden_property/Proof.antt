@@ -18,14 +18,14 @@ returns : tie.Need-returns
 unfolding forbidden-property
 returns c =
     let a = c in
-    (λ ask b ev rep pool. c-flag forbidden-property (a .if1 .taken) c-ret .is, omega arith)
+    (λ ask b events reports pool. c-flag forbidden-property (a .if1 .taken) c-ret .is, omega arith)
 
 returns-2 : tie.Need-returns-2
 unfolding forbidden-property silent
 returns-2 c =
     let a = c in
     let d = a .before .before in
-    (λ ask b ev rep pool. c-flag forbidden-property (d .if1 .left) (c-act (a .silent-at-set .ensures .0 b ev rep pool)) .is, omega (arith, a .silent-at-set .ensures .1 .0))
+    (λ ask b events reports pool. c-flag forbidden-property (d .if1 .left) (c-act (a .silent-at-set .ensures .0 b events reports pool)) .is, omega (arith, a .silent-at-set .ensures .1 .0))
 
 pub forbidden-property-spec : {M : Type 1} → statement M
 forbidden-property-spec = tie.close (tie.spec slice-aggregate-silent-at-set silent-at-set-requires returns returns-2)

@@ -10,7 +10,7 @@ at-requires c κs = tt
 returns : tie.Need-returns
 returns c =
     let a = c in
-    (λ ask b ev rep pool. whole (opened name-at-is (does (a .at .ensures .0 ask b ev rep pool))), a .at .ensures .1)
+    (λ ask b events reports pool. whole (opened name-at-is (does (a .at .ensures .0 ask b events reports pool))), a .at .ensures .1)
 
 pub at-spec : {M : Type 1} → statement M
 at-spec = tie.close (tie.spec at-requires returns)

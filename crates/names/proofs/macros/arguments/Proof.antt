@@ -21,13 +21,13 @@ use Rattle.names.proofs.macros.arguments.Statement.{statement}
 use Rattle.names.proofs.macros.arguments.Tie as tie
 
 abbrev Inv-loop : tie.InvT-loop
-Inv-loop t ev₀ q₀ ev q = ((ask : Rule → Machine → Walked) (b : Span) (codes rep pool : List ℕ) → walk ask (tokens-of t) b (loop macro-argument-turn) (view q codes ev rep pool) ≡ walk ask (tokens-of t) b (loop macro-argument-turn) (view q₀ codes ev₀ rep pool)) × ((left t q ≤ left t q₀) × (length ev ≡ length ev₀))
+Inv-loop t events₀ q₀ events q = ((ask : Rule → Machine → Walked) (b : Span) (codes reports pool : List ℕ) → walk ask (tokens-of t) b (loop macro-argument-turn) (view q codes events reports pool) ≡ walk ask (tokens-of t) b (loop macro-argument-turn) (view q₀ codes events₀ reports pool)) × ((left t q ≤ left t q₀) × (length events ≡ length events₀))
 
 abbrev μ-loop : tie.MeasureT-loop
-μ-loop t ev₀ q₀ ev q = left t q
+μ-loop t events₀ q₀ events q = left t q
 
 loop-holds : tie.Need-loop-holds Inv-loop μ-loop
-loop-holds c = (λ ask b codes rep pool. refl, (le-refl _, refl))
+loop-holds c = (λ ask b codes reports pool. refl, (le-refl _, refl))
 
 new-requires : tie.Need-new-requires Inv-loop μ-loop
 new-requires c κs = tt
@@ -65,7 +65,7 @@ loop-again c =
     let i = g .before .before in
     let j = i .before in
     let s = j .before .before .before in
-    (λ ask b codes rep pool. turns (opened macro-argument-turn-is (if-yes (completes (lit< tt) (i .new .ensures) (g .start .ensures .0 _ _ _) (if-yes (acts (f .bump-argument .ensures .0 b _ _ _)) (ap truth (d .if1 .taken)) tells) (e .complete .ensures .0 _ _ _)) refl (seq (acts (a .bump .ensures .0 b codes rep pool)) tells))) (ahead-falls (s .args .tokens .now) (j .loop .q) (a .bump .result) (omega (flags, j .loop .inv .1 .0, g .start .ensures .1 (s .args .tokens .now), f .bump-argument .ensures .1 .0, f .bump-argument .ensures .1 .1 (d .if1 .taken), e .complete .ensures .1 (s .args .tokens .now), a .bump .ensures .1))) ∙ j .loop .inv .0 ask b codes rep pool, (omega (flags, j .loop .inv .1 .0, g .start .ensures .1 (s .args .tokens .now), f .bump-argument .ensures .1 .0, f .bump-argument .ensures .1 .1 (d .if1 .taken), e .complete .ensures .1 (s .args .tokens .now), a .bump .ensures .1), omega (arith, j .loop .inv .1 .1, g .start .kept, f .bump-argument .kept, e .complete .kept, a .bump .kept)))
+    (λ ask b codes reports pool. turns (opened macro-argument-turn-is (if-yes (completes (lit< tt) (i .new .ensures) (g .start .ensures .0 _ _ _) (if-yes (acts (f .bump-argument .ensures .0 b _ _ _)) (ap truth (d .if1 .taken)) tells) (e .complete .ensures .0 _ _ _)) refl (seq (acts (a .bump .ensures .0 b codes reports pool)) tells))) (ahead-falls (s .args .tokens .now) (j .loop .q) (a .bump .result) (omega (flags, j .loop .inv .1 .0, g .start .ensures .1 (s .args .tokens .now), f .bump-argument .ensures .1 .0, f .bump-argument .ensures .1 .1 (d .if1 .taken), e .complete .ensures .1 (s .args .tokens .now), a .bump .ensures .1))) ∙ j .loop .inv .0 ask b codes reports pool, (omega (flags, j .loop .inv .1 .0, g .start .ensures .1 (s .args .tokens .now), f .bump-argument .ensures .1 .0, f .bump-argument .ensures .1 .1 (d .if1 .taken), e .complete .ensures .1 (s .args .tokens .now), a .bump .ensures .1), omega (arith, j .loop .inv .1 .1, g .start .kept, f .bump-argument .kept, e .complete .kept, a .bump .kept)))
 
 same-length : tie.Need-same-length Inv-loop μ-loop
 same-length c =
@@ -84,7 +84,7 @@ returns c =
     let g = f .before .before in
     let i = g .before in
     let s = i .before .before .before in
-    (λ ask b codes rep pool. stops-yes (opened macro-argument-turn-is (if-no (completes (lit< tt) (g .new .ensures) (f .start .ensures .0 _ _ _) (if-no (acts (e .bump-argument .ensures .0 b _ _ _)) (ap truth (a .if1 .left)) tells) (d .complete .ensures .0 _ _ _)) refl tells)) ∙ i .loop .inv .0 ask b codes rep pool, omega (flags, i .loop .inv .1 .0, f .start .ensures .1 (s .args .tokens .now), e .bump-argument .ensures .1 .0, d .complete .ensures .1 (s .args .tokens .now)))
+    (λ ask b codes reports pool. stops-yes (opened macro-argument-turn-is (if-no (completes (lit< tt) (g .new .ensures) (f .start .ensures .0 _ _ _) (if-no (acts (e .bump-argument .ensures .0 b _ _ _)) (ap truth (a .if1 .left)) tells) (d .complete .ensures .0 _ _ _)) refl tells)) ∙ i .loop .inv .0 ask b codes reports pool, omega (flags, i .loop .inv .1 .0, f .start .ensures .1 (s .args .tokens .now), e .bump-argument .ensures .1 .0, d .complete .ensures .1 (s .args .tokens .now)))
 
 pub arguments-spec : {M : Type 1} → statement M
 arguments-spec = tie.close (tie.spec Inv-loop μ-loop loop-holds new-requires start-requires bump-argument-requires complete-requires bump-requires loop-less loop-again same-length returns)

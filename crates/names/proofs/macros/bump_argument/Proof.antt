@@ -16,13 +16,13 @@ use Rattle.names.proofs.macros.bump_argument.Statement.{statement}
 use Rattle.names.proofs.macros.bump_argument.Tie as tie
 
 abbrev Inv-loop : tie.InvT-loop
-Inv-loop t ev₀ q₀ level₀ ev q level = ((codes rep pool : List ℕ) → argue (tokens-of t) level (view q codes ev rep pool) ≡ argue (tokens-of t) level₀ (view q₀ codes ev₀ rep pool)) × ((level + left t q ≤ level₀ + left t q₀) × (length ev ≡ length ev₀))
+Inv-loop t events₀ q₀ level₀ events q level = ((codes reports pool : List ℕ) → argue (tokens-of t) level (view q codes events reports pool) ≡ argue (tokens-of t) level₀ (view q₀ codes events₀ reports pool)) × ((level + left t q ≤ level₀ + left t q₀) × (length events ≡ length events₀))
 
 abbrev μ-loop : tie.MeasureT-loop
-μ-loop t ev₀ q₀ level₀ ev q level = left t q
+μ-loop t events₀ q₀ level₀ events q level = left t q
 
 loop-holds : tie.Need-loop-holds Inv-loop μ-loop
-loop-holds c = (λ codes rep pool. refl, (le-refl _, refl))
+loop-holds c = (λ codes reports pool. refl, (le-refl _, refl))
 
 peek-requires : tie.Need-peek-requires Inv-loop μ-loop
 peek-requires c κs = tt
@@ -54,7 +54,7 @@ returns c =
     let f = e .before in
     let g = f .before in
     let s = g .before .before .before in
-    (λ b codes rep pool. argue-comma (tokens-of (s .args .tokens .now)) (g .loop .level) (view (g .loop .q) codes (g .loop .ev) rep pool) (view (f .peek .result) codes (g .loop .ev) rep pool) (few-rows (s .args .tokens .now) (omega arith)) (f .peek .ensures .0 codes (g .loop .ev) rep pool) (d .part-of .result) (d .part-of .ensures ∙ ap (λ k. part k (g .loop .level)) (e .kind-at .ensures .0)) (a .enum-told .given .1) ∙ g .loop .inv .0 codes rep pool ∙ argue-whole (tokens-of (s .args .tokens .now)) b (view (s .args .s) codes (s .args .events .now) rep pool), (omega (flags, f .peek .ensures .1, g .loop .inv .1 .0), λ h. some-left (s .args .tokens .now) (f .peek .result) (e .kind-at .ensures .1 (comma-some (e .kind-at .result) (g .loop .level) (d .part-of .result) (d .part-of .ensures) (a .enum-told .given .1)))))
+    (λ b codes reports pool. argue-comma (tokens-of (s .args .tokens .now)) (g .loop .level) (view (g .loop .q) codes (g .loop .events) reports pool) (view (f .peek .result) codes (g .loop .events) reports pool) (few-rows (s .args .tokens .now) (omega arith)) (f .peek .ensures .0 codes (g .loop .events) reports pool) (d .part-of .result) (d .part-of .ensures ∙ ap (λ k. part k (g .loop .level)) (e .kind-at .ensures .0)) (a .enum-told .given .1) ∙ g .loop .inv .0 codes reports pool ∙ argue-whole (tokens-of (s .args .tokens .now)) b (view (s .args .s) codes (s .args .events .now) reports pool), (omega (flags, f .peek .ensures .1, g .loop .inv .1 .0), λ h. some-left (s .args .tokens .now) (f .peek .result) (e .kind-at .ensures .1 (comma-some (e .kind-at .result) (g .loop .level) (d .part-of .result) (d .part-of .ensures) (a .enum-told .given .1)))))
 
 enum-told-2 : tie.Need-enum-told-2 Inv-loop μ-loop
 enum-told-2 c =
@@ -74,7 +74,7 @@ returns-2 c =
     let f = e .before in
     let g = f .before in
     let s = g .before .before .before in
-    (λ b codes rep pool. argue-end (tokens-of (s .args .tokens .now)) (g .loop .level) (view (g .loop .q) codes (g .loop .ev) rep pool) (view (f .peek .result) codes (g .loop .ev) rep pool) (few-rows (s .args .tokens .now) (omega arith)) (f .peek .ensures .0 codes (g .loop .ev) rep pool) (d .part-of .result) (d .part-of .ensures ∙ ap (λ k. part k (g .loop .level)) (e .kind-at .ensures .0)) (a .enum-told2 .given .1) ∙ g .loop .inv .0 codes rep pool ∙ argue-whole (tokens-of (s .args .tokens .now)) b (view (s .args .s) codes (s .args .events .now) rep pool), (omega (flags, f .peek .ensures .1, g .loop .inv .1 .0), λ h. false-true h))
+    (λ b codes reports pool. argue-end (tokens-of (s .args .tokens .now)) (g .loop .level) (view (g .loop .q) codes (g .loop .events) reports pool) (view (f .peek .result) codes (g .loop .events) reports pool) (few-rows (s .args .tokens .now) (omega arith)) (f .peek .ensures .0 codes (g .loop .events) reports pool) (d .part-of .result) (d .part-of .ensures ∙ ap (λ k. part k (g .loop .level)) (e .kind-at .ensures .0)) (a .enum-told2 .given .1) ∙ g .loop .inv .0 codes reports pool ∙ argue-whole (tokens-of (s .args .tokens .now)) b (view (s .args .s) codes (s .args .events .now) reports pool), (omega (flags, f .peek .ensures .1, g .loop .inv .1 .0), λ h. false-true h))
 
 enum-known-here-is : tie.Need-enum-known-here-is Inv-loop μ-loop
 enum-known-here-is c =
@@ -104,7 +104,7 @@ loop-again c =
     let g = f .before in
     let i = g .before in
     let s = i .before .before .before in
-    (λ codes rep pool. argue-on (tokens-of (s .args .tokens .now)) (i .loop .level) (view (i .loop .q) codes (i .loop .ev) rep pool) (view (g .peek .result) codes (i .loop .ev) rep pool) (few-rows (s .args .tokens .now) (omega arith)) (g .peek .ensures .0 codes (i .loop .ev) rep pool) (e .part-of .result) (e .part-of .ensures ∙ ap (λ k. part k (i .loop .level)) (f .kind-at .ensures .0)) unlabelled (d .here-is .given .0 .0) (view (a .bump .result) codes _ rep pool) (d .here-is .given .1) (a .bump .ensures .0 unlabelled codes rep pool) ∙ i .loop .inv .0 codes rep pool, (omega (flags, some-left (s .args .tokens .now) (g .peek .result) (f .kind-at .ensures .1 (inside-some (f .kind-at .result) (i .loop .level) (d .here-is .given .0 .0) (e .part-of .result) (e .part-of .ensures) (d .here-is .given .1))), inside-most (f .kind-at .result) (i .loop .level) (d .here-is .given .0 .0) (e .part-of .result) (e .part-of .ensures) (d .here-is .given .1), g .peek .ensures .1, a .bump .ensures .1, i .loop .inv .1 .0), omega (arith, a .bump .kept, i .loop .inv .1 .1)))
+    (λ codes reports pool. argue-on (tokens-of (s .args .tokens .now)) (i .loop .level) (view (i .loop .q) codes (i .loop .events) reports pool) (view (g .peek .result) codes (i .loop .events) reports pool) (few-rows (s .args .tokens .now) (omega arith)) (g .peek .ensures .0 codes (i .loop .events) reports pool) (e .part-of .result) (e .part-of .ensures ∙ ap (λ k. part k (i .loop .level)) (f .kind-at .ensures .0)) unlabelled (d .here-is .given .0 .0) (view (a .bump .result) codes _ reports pool) (d .here-is .given .1) (a .bump .ensures .0 unlabelled codes reports pool) ∙ i .loop .inv .0 codes reports pool, (omega (flags, some-left (s .args .tokens .now) (g .peek .result) (f .kind-at .ensures .1 (inside-some (f .kind-at .result) (i .loop .level) (d .here-is .given .0 .0) (e .part-of .result) (e .part-of .ensures) (d .here-is .given .1))), inside-most (f .kind-at .result) (i .loop .level) (d .here-is .given .0 .0) (e .part-of .result) (e .part-of .ensures) (d .here-is .given .1), g .peek .ensures .1, a .bump .ensures .1, i .loop .inv .1 .0), omega (arith, a .bump .kept, i .loop .inv .1 .1)))
 
 pub bump-argument-spec : {M : Type 1} → statement M
 bump-argument-spec = tie.close (tie.spec Inv-loop μ-loop loop-holds peek-requires kind-at-requires part-of-requires enum-told same-length returns enum-told-2 same-length-2 returns-2 enum-known-here-is bump-requires loop-less loop-again)

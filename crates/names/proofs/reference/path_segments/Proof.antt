@@ -19,10 +19,10 @@ use Rattle.names.proofs.reference.path_segments.Statement.{statement}
 use Rattle.names.proofs.reference.path_segments.Tie as tie
 
 abbrev Inv-loop : tie.InvT-loop
-Inv-loop codes₀ t ev₀ rep₀ pool₀ q₀ codes ev rep pool q = ((ask : Rule → Machine → Walked) (b : Span) → walk ask (tokens-of t) b (loop path-turn) (view q codes ev rep pool) ≡ walk ask (tokens-of t) b (loop path-turn) (view q₀ codes₀ ev₀ rep₀ pool₀)) × ((left t q ≤ left t q₀) × ((length ev ≡ length ev₀) × ((length rep ≡ length rep₀) × (length pool ≡ length pool₀))))
+Inv-loop codes₀ t events₀ reports₀ pool₀ q₀ codes events reports pool q = ((ask : Rule → Machine → Walked) (b : Span) → walk ask (tokens-of t) b (loop path-turn) (view q codes events reports pool) ≡ walk ask (tokens-of t) b (loop path-turn) (view q₀ codes₀ events₀ reports₀ pool₀)) × ((left t q ≤ left t q₀) × ((length events ≡ length events₀) × ((length reports ≡ length reports₀) × (length pool ≡ length pool₀))))
 
 abbrev μ-loop : tie.MeasureT-loop
-μ-loop codes₀ t ev₀ rep₀ pool₀ q₀ codes ev rep pool q = left t q
+μ-loop codes₀ t events₀ reports₀ pool₀ q₀ codes events reports pool q = left t q
 
 loop-holds : tie.Need-loop-holds Inv-loop μ-loop
 loop-holds c = (λ ask b. refl, (le-refl _, (refl, (refl, refl))))

@@ -20,7 +20,7 @@ returns c =
     let tk = args .tokens .now in
     let bump = c .before .before .before .bump in
     let kept = c .with in (
-      λ b rep pool. with-said _ _ _ _ rep pool _ _ (kept .ensures) (bump .ensures .0 b (args .self .codes) rep pool),
+      λ b reports pool. with-said _ _ _ _ reports pool _ _ (kept .ensures) (bump .ensures .0 b (args .self .codes) reports pool),
       omega (flags, with-left _ _ _ tk (kept .ensures), bump .ensures .1),
     )
 

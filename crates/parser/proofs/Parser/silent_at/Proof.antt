@@ -16,7 +16,7 @@ returns c =
     let tk = args .tokens .now in
     let silent-at = c .before .silent-at in
     let kept = c .with in (
-      λ b ev rep pool. with-said _ _ _ ev rep pool _ _ (kept .ensures) (silent-at .ensures .0 b (args .self .codes) ev rep pool),
+      λ b events reports pool. with-said _ _ _ events reports pool _ _ (kept .ensures) (silent-at .ensures .0 b (args .self .codes) events reports pool),
       (
         omega (flags, with-left _ _ _ tk (kept .ensures), silent-at .ensures .1 .0),
         λ e. omega (flags, with-left _ _ _ tk (kept .ensures), silent-at .ensures .1 .1 e),

@@ -18,8 +18,8 @@ returns c =
     let tk = args .tokens .now in
     let ts = tokens-of tk in
     let peek = c .before .peek in (
-      λ b codes ev rep pool.
-          at-end-is ts b (view self codes ev rep pool) (view (peek .result) codes ev rep pool) _ (peek .ensures .0 codes ev rep pool)
+      λ b codes events reports pool.
+          at-end-is ts b (view self codes events reports pool) (view (peek .result) codes events reports pool) _ (peek .ensures .0 codes events reports pool)
           (ended-in tk (peek .result .cursor .0) (omega flags)),
       (peek .ensures .1, (λ e. omega flags, λ e. absurd (true-false (sym e)))),
     )
@@ -32,8 +32,8 @@ returns-2 c =
     let tk = args .tokens .now in
     let ts = tokens-of tk in
     let peek = c .before .peek in (
-      λ b codes ev rep pool.
-          at-end-is ts b (view self codes ev rep pool) (view (peek .result) codes ev rep pool) _ (peek .ensures .0 codes ev rep pool)
+      λ b codes events reports pool.
+          at-end-is ts b (view self codes events reports pool) (view (peek .result) codes events reports pool) _ (peek .ensures .0 codes events reports pool)
           (ended-past tk (peek .result .cursor .0) (omega flags)),
       (peek .ensures .1, (λ e. absurd (true-false e), λ e. omega flags)),
     )

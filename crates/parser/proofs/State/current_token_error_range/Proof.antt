@@ -33,8 +33,8 @@ returns c =
     let ends-statement = c .before .before .before .ends-statement in
     let if2 = c .before .before .if2 in
     let wrapping-add-u32 = c .wrapping-add-u32 in
-    λ ev rep pool.
-    range-lone tk (view self codes₀ ev rep pool) _ _ (omega flags) (ends-statement .ensures) (if2 .taken)
+    λ events reports pool.
+    range-lone tk (view self codes₀ events reports pool) _ _ (omega flags) (ends-statement .ensures) (if2 .taken)
     (wrapping-add-u32 .ensures)
 
 returns-2 : tie.Need-returns-2
@@ -46,9 +46,9 @@ returns-2 c =
     let ends-statement = c .before .before .ends-statement in
     let if2 = c .before .if2 in
     let range = c .range in
-    λ ev rep pool.
-    range-token tk (view self codes₀ ev rep pool) _ _ (omega flags) (ends-statement .ensures) (if2 .left)
-    (range .ensures codes₀ ev rep pool)
+    λ events reports pool.
+    range-token tk (view self codes₀ events reports pool) _ _ (omega flags) (ends-statement .ensures) (if2 .left)
+    (range .ensures codes₀ events reports pool)
 
 returns-3 : tie.Need-returns-3
 returns-3 c =
@@ -57,7 +57,7 @@ returns-3 c =
     let tk = args .tokens .now in
     let codes₀ = args .codes .now in
     let less-one = c .less-one in
-    λ ev rep pool. range-end tk (view self codes₀ ev rep pool) _ (omega flags) (less-one .ensures)
+    λ events reports pool. range-end tk (view self codes₀ events reports pool) _ (omega flags) (less-one .ensures)
 
 pub current-token-error-range-spec : {M : Type 1} → statement M
 current-token-error-range-spec =

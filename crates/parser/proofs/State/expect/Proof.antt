@@ -24,14 +24,14 @@ returns c =
     let self = args .self in
     let tk = args .tokens .now in
     let ts = tokens-of tk in
-    let ev₀ = args .ev .now in
-    let rep₀ = args .rep .now in
+    let events₀ = args .events .now in
+    let reports₀ = args .reports .now in
     let pool₀ = args .pool .now in
     let codes₀ = args .codes .now in
     let eat = c .before .before .before .eat in
     let if1 = c .if1 in (
       λ ask b.
-          expect-yes ask ts b (matcher-of (args .m)) (view self codes₀ ev₀ rep₀ pool₀) _ _ (eat .ensures .0 ask b rep₀ pool₀)
+          expect-yes ask ts b (matcher-of (args .m)) (view self codes₀ events₀ reports₀ pool₀) _ _ (eat .ensures .0 ask b reports₀ pool₀)
           (if1 .taken),
       eat .ensures .1,
     )
@@ -51,16 +51,16 @@ returns-2 c =
     let self = args .self in
     let tk = args .tokens .now in
     let ts = tokens-of tk in
-    let ev₀ = args .ev .now in
-    let rep₀ = args .rep .now in
+    let events₀ = args .events .now in
+    let reports₀ = args .reports .now in
     let pool₀ = args .pool .now in
     let codes₀ = args .codes .now in
     let eat = c .before .before .before .before .before .before .before .before .before .before .before .before .before .before .eat in
     let if1 = c .before .before .before .before .before .before .before .before .before .before .before .if1 in
     let error = c .before .before .before .before .before .before .error in (
       λ ask b.
-          expect-no ask ts b (matcher-of (args .m)) (view self codes₀ ev₀ rep₀ pool₀) (view (eat .result .s) _ _ rep₀ pool₀) _
-          (answered _ false _ _ (eat .ensures .0 ask b rep₀ pool₀) (if1 .left)) (error .ensures .0 ask b),
+          expect-no ask ts b (matcher-of (args .m)) (view self codes₀ events₀ reports₀ pool₀) (view (eat .result .s) _ _ reports₀ pool₀) _
+          (answered _ false _ _ (eat .ensures .0 ask b reports₀ pool₀) (if1 .left)) (error .ensures .0 ask b),
       (omega (flags, eat .ensures .1 .0, error .ensures .1), λ e. absurd (true-false (sym e))),
     )
 

@@ -23,9 +23,9 @@ returns c =
     let silent-at = c .before .before .before .silent-at in
     let if1 = c .before .before .if1 in
     let is-next-at = c .is-next-at in (
-      λ ask b codes ev rep pool.
-          macro-args-yes ask ts b (view self codes ev rep pool) (view (silent-at .result .s) codes ev rep pool) _
-          (answered _ true _ _ (silent-at .ensures .0 b codes ev rep pool) (if1 .taken)) (is-next-at .ensures),
+      λ ask b codes events reports pool.
+          macro-args-yes ask ts b (view self codes events reports pool) (view (silent-at .result .s) codes events reports pool) _
+          (answered _ true _ _ (silent-at .ensures .0 b codes events reports pool) (if1 .taken)) (is-next-at .ensures),
       (silent-at .ensures .1 .0, λ e. silent-at .ensures .1 .1 (if1 .taken)),
     )
 
@@ -37,9 +37,9 @@ returns-2 c =
     let ts = tokens-of tk in
     let silent-at = c .before .before .silent-at in
     let if1 = c .before .if1 in (
-      λ ask b codes ev rep pool.
-          macro-args-no ask ts b (view self codes ev rep pool) (view (silent-at .result .s) codes ev rep pool)
-          (answered _ false _ _ (silent-at .ensures .0 b codes ev rep pool) (if1 .left)),
+      λ ask b codes events reports pool.
+          macro-args-no ask ts b (view self codes events reports pool) (view (silent-at .result .s) codes events reports pool)
+          (answered _ false _ _ (silent-at .ensures .0 b codes events reports pool) (if1 .left)),
       (silent-at .ensures .1 .0, λ e. absurd (true-false (sym e))),
     )
 
