@@ -1,6 +1,6 @@
 // grammar.rs, the directives of the devicetree source that a DtsDirective wraps.
 use layout::token_kind;
-use names::ITEM_RECOVERY_SET;
+use layout::set::ITEM_RECOVERY_SET;
 use names::macro_substitutable_name;
 use names::reference;
 use names::unit_address;

@@ -1,7 +1,9 @@
 // Where items, values and cells end: the conditions of grammar.rs's loops.
+use layout::set::CELLS_RECOVERY_SET;
+use layout::set::CONTINUE_COND_SET;
+use layout::set::ITEM_RECOVERY_SET;
+use layout::set::PROPERTY_VALUE_RECOVERY_SET;
 use layout::token_kind;
-use names::CONTINUE_COND_SET;
-use names::ITEM_RECOVERY_SET;
 use parser::Ans;
 use parser::StateAnswered;
 use parser::StateTested;
@@ -26,15 +28,6 @@ ghost use Rattle.machine.specs.Walk.{Walked, said, walk, closed};
 ghost use Rattle.parser.specs.View.{view, left, state-tested, marker-of, ans-of};
 ghost use Rattle.steps.specs.View.{state-answered};
 ghost use Rattle.ends.specs.Subprograms.{at-item, at-cells-recovery, at-values-end, unfinished};
-
-pub const PROPERTY_VALUE_RECOVERY_SET: [u8; 4] = [
-    token_kind::STRING,
-    token_kind::LANGLE,
-    token_kind::DT_BYTESTRING,
-    token_kind::AMPERSAND,
-];
-
-pub const CELLS_RECOVERY_SET: [u8; 3] = [token_kind::SEMICOLON, token_kind::LCURLY, token_kind::RCURLY];
 
 // Whether a node's body goes on here.
 pub fn at_item(s: State, codes: &mut [u8; 256], tokens: &[u32]) -> StateTested

@@ -2,7 +2,7 @@
 // before a property, an unmatched bracket, and what an entry leaves. They hold the whole parser by value, as the cycle
 // does.
 use layout::token_kind;
-use names::ITEM_RECOVERY_SET;
+use layout::set::ITEM_RECOVERY_SET;
 use parser::Ans;
 use parser::Parser;
 use parser::ParserTested;

@@ -8,15 +8,15 @@
 pub mod entry;
 mod preprocessor_directive;
 
-use crate::preprocessor_directive::BEGIN_COND_SET;
+use layout::set::BEGIN_COND_SET;
 use crate::preprocessor_directive::Inside;
-use crate::preprocessor_directive::PREPROCESSOR_DIRECTIVES;
-use expr::OPERATORS_SET;
+use layout::set::PREPROCESSOR_DIRECTIVES;
+use layout::set::OPERATORS_SET;
 use expr::dt_expr;
 use layout::refusal::TOO_DEEP;
 use layout::token_kind;
-use names::CONTINUE_COND_SET;
-use names::ITEM_RECOVERY_SET;
+use layout::set::CONTINUE_COND_SET;
+use layout::set::ITEM_RECOVERY_SET;
 use names::macro_invocation;
 use names::silent_eat_reference;
 use ends::nodes::forbidden_property;
