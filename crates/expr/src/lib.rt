@@ -1,5 +1,6 @@
 // grammar/expr.rs: expressions by binding power; and `dt_expr` of grammar.rs.
 use layout::refusal::TOO_DEEP;
+use layout::set::PREFIX_OPERATORS_SET;
 use layout::token_kind;
 use names::macro_invocation;
 use parser::Parser;
@@ -29,41 +30,6 @@ ghost use Rattle.token_rows.specs.Tokens.{kind-of};
 ghost use Rattle.parser.specs.View.{left, view-of, parser-tested, marker-of};
 ghost use Rattle.binding_power.specs.Power.{levels, left-power, right-power, is-binary};
 ghost use Rattle.expr.specs.Parts.{at-prefix-op, prefix-expr, paren-expr, literal-expr, missing-lhs, no-lhs, ternary-rhs, step-as, links-from};
-
-pub const PREFIX_OPERATORS_SET: [u8; 4] = [
-    token_kind::PLUS,
-    token_kind::MINUS,
-    token_kind::BITWISE_NOT,
-    token_kind::LOGICAL_NOT,
-];
-
-// The infix operators, the prefix operators and the colon.
-pub const OPERATORS_SET: [u8; 24] = [
-    token_kind::PLUS,
-    token_kind::MINUS,
-    token_kind::ASTERISK,
-    token_kind::SLASH,
-    token_kind::MODULO,
-    token_kind::AMPERSAND,
-    token_kind::BITWISE_OR,
-    token_kind::BITWISE_XOR,
-    token_kind::BITWISE_SHL,
-    token_kind::BITWISE_SHR,
-    token_kind::LOGICAL_AND,
-    token_kind::LOGICAL_OR,
-    token_kind::LANGLE,
-    token_kind::RANGLE,
-    token_kind::RELATIONAL_LT_EQ,
-    token_kind::RELATIONAL_GT_EQ,
-    token_kind::RELATIONAL_EQ,
-    token_kind::RELATIONAL_NEQ,
-    token_kind::QUESTION_MARK,
-    token_kind::PLUS,
-    token_kind::MINUS,
-    token_kind::BITWISE_NOT,
-    token_kind::LOGICAL_NOT,
-    token_kind::COLON,
-];
 
 // The operator at the cursor, if its left power is not 0.
 pub struct InfixOp {

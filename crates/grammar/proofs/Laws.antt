@@ -13,9 +13,10 @@ use Rattle.definitions.specs.Check.{tell, if_then_else_, _or_, in-node, expecte
 use Rattle.definitions.specs.Grammar.{Item, Reference, macro-invocation, dt-expr, eat-cell-body, bits-value, dt-cell-list, propvalue, dt-property, node-body-turn, dt-node-body, forbidden-property, no-property, eat-node-or-prop, item-body, catch-unmatched-pp-directive, sourcefile-part}
 use Rattle.machine.specs.Machine.{Machine}
 use Rattle.machine.specs.Walk.{Walked, walk, walk-rule, walk-prog, unlabelled}
-use Rattle.parts.specs.Parts.{plain-cell, unfinished}
-use Rattle.parts.proofs.Laws.{cases-first}
-use Rattle.outside.specs.Parts.{node-end, unmatched-rcurly}
+use Rattle.plain_cells.specs.Subprograms.{plain-cell}
+use Rattle.ends.specs.Subprograms.{unfinished}
+use Rattle.plain_cells.proofs.Laws.{cases-first}
+use Rattle.ends.specs.Subprograms.{node-end, unmatched-rcurly}
 use Rattle.grammar.specs.Parts.{cell-rest, value-rest, item-rest}
 
 -- `eat-cell-body`: the plain cells are the test

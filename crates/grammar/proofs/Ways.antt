@@ -11,7 +11,7 @@ use Rattle.parser.proofs.Answer.{the-type}
 use Rattle.parser.specs.declared.Ans.{Ans}
 use Rattle.parser.specs.declared.Ans.the-variants as A
 use Rattle.parser.specs.View.{ans-of, left}
-use Rattle.parts.specs.View.{found}
+use Rattle.steps.specs.View.{found}
 use Rattle.parser.specs.declared.Parser.{Parser}
 use Rattle.parser.specs.declared.ParserTested.{ParserTested}
 use Rattle.parser.specs.declared.ParserAnswered.{ParserAnswered}
@@ -27,7 +27,7 @@ use Rattle.machine.specs.Walk.{Walked, said, choose, closed, walk, walk-rule, w
 use Rattle.machine.proofs.Turns.{ahead}
 use Rattle.machine.proofs.Way.{Way, Closes, c-case}
 use Rattle.names.proofs.Ways.{turns, stops-yes, stops-no}
-use Rattle.parts.proofs.Steps.{c-on}
+use Rattle.steps.proofs.Steps.{c-on}
 use Rattle.grammar.proofs.Laws.{sequence-parts}
 
 module _ (n : ℕ) {ts : List Token} where

@@ -1,7 +1,7 @@
 // grammar/preprocessor_directive.rs: its sets, and what is not in the cycle of calls. The rest of it stands in lib.rt.
 use crate::cond_branches_and_end;
 use layout::token_kind;
-use names::CONTINUE_COND_SET;
+use layout::set::CONTINUE_COND_SET;
 use parser::Parser;
 use parser::ParserTested;
 use parser::errors::Bump;
@@ -28,29 +28,6 @@ pub enum Inside {
     Values(bool),
     Cell(bool),
 }
-
-pub const BEGIN_COND_SET: [u8; 3] = [
-    token_kind::IFNDEF_DIRECTIVE,
-    token_kind::IFDEF_DIRECTIVE,
-    token_kind::IF_DIRECTIVE,
-];
-
-// `TokenKind::is_preprocessor_directive`
-pub const PREPROCESSOR_DIRECTIVES: [u8; 13] = [
-    token_kind::IF_DIRECTIVE,
-    token_kind::IFDEF_DIRECTIVE,
-    token_kind::IFNDEF_DIRECTIVE,
-    token_kind::ELIF_DIRECTIVE,
-    token_kind::ELIFDEF_DIRECTIVE,
-    token_kind::ELIFNDEF_DIRECTIVE,
-    token_kind::ELSE_DIRECTIVE,
-    token_kind::ENDIF_DIRECTIVE,
-    token_kind::PRAGMA_DIRECTIVE,
-    token_kind::DEFINE_DIRECTIVE,
-    token_kind::UNDEF_DIRECTIVE,
-    token_kind::INCLUDE_DIRECTIVE,
-    token_kind::ERROR_DIRECTIVE,
-];
 
 pub fn catch_unmatched_pp_directive(
     p: Parser,

@@ -1,5 +1,6 @@
-// The numbers of the layout, each once: token and node kinds, event tags, row sizes, messages, hints, expectations,
-// refusals and limits. In the definitions they stand in specs/Layout, TokenKind, LexError, NodeKind and Errors.
+// The numbers of the layout, each once: token kinds and sets of them, node kinds, event tags, row sizes, messages, hints,
+// expectations, refusals and limits. In the definitions they stand in specs/Layout, TokenKind, LexError, NodeKind and
+// Errors, the sets in Check and Grammar.
 pub mod event_tag;
 pub mod expected;
 pub mod hint;
@@ -8,6 +9,7 @@ pub mod message;
 pub mod node_kind;
 pub mod refusal;
 pub mod row;
+pub mod set;
 pub mod token_kind;
 
 // A place in the input, in bytes. It never stands for a token index.

@@ -6,7 +6,6 @@ pub mod macros;
 pub mod reference;
 pub mod unit_address;
 
-use layout::token_kind;
 use parser::Parser;
 use parser::ParserTested;
 ghost use mathlib.Core.Path.{_≡_};
@@ -20,42 +19,6 @@ ghost use Rattle.definitions.specs.Grammar.{macro-invocation as macro-invocatio
 ghost use Rattle.machine.specs.Machine.{Machine};
 ghost use Rattle.machine.specs.Walk.{Walked, said, walk};
 ghost use Rattle.parser.specs.View.{view-of, parser-tested, left};
-
-// preprocessor_directive.rs: what continues a conditional. A path ends there too.
-pub const CONTINUE_COND_SET: [u8; 4] = [
-    token_kind::ELIFNDEF_DIRECTIVE,
-    token_kind::ELIFDEF_DIRECTIVE,
-    token_kind::ELIF_DIRECTIVE,
-    token_kind::ELSE_DIRECTIVE,
-];
-
-// Kinds that are left where they stand after a report in an item.
-pub const ITEM_RECOVERY_SET: [u8; 24] = [
-    token_kind::SLASH,
-    token_kind::IDENT,
-    token_kind::NUMBER,
-    token_kind::COMMA,
-    token_kind::MINUS,
-    token_kind::AMPERSAND,
-    token_kind::EQUALS,
-    token_kind::LCURLY,
-    token_kind::SEMICOLON,
-    token_kind::V1_DIRECTIVE,
-    token_kind::PLUGIN_DIRECTIVE,
-    token_kind::DT_INCLUDE_DIRECTIVE,
-    token_kind::MEMRESERVE_DIRECTIVE,
-    token_kind::DELETE_NODE_DIRECTIVE,
-    token_kind::DELETE_PROPERTY_DIRECTIVE,
-    token_kind::RCURLY,
-    token_kind::ENDIF_DIRECTIVE,
-    token_kind::IFNDEF_DIRECTIVE,
-    token_kind::IFDEF_DIRECTIVE,
-    token_kind::IF_DIRECTIVE,
-    token_kind::ELIFNDEF_DIRECTIVE,
-    token_kind::ELIFDEF_DIRECTIVE,
-    token_kind::ELIF_DIRECTIVE,
-    token_kind::ELSE_DIRECTIVE,
-];
 
 pub fn macro_invocation(
     p: Parser,

@@ -6,7 +6,7 @@ use parser::errors::Bump;
 use layout::message::EXPECTED;
 use layout::hint::NO_HINT;
 use parser::matcher::Matcher;
-use parser::matcher::NAME_SET;
+use layout::set::NAME_SET;
 ghost use mathlib.Core.Path.{_≡_};
 ghost use mathlib.Core.Bool.{true};
 ghost use mathlib.Core.List.{List};

@@ -1,8 +1,8 @@
 // The matcher Reference: an Ampersand and what `reference_noamp` of grammar.rs parses: a path in curly brackets, a macro
 // invocation with arguments, or a label.
-use crate::CONTINUE_COND_SET;
 use crate::macros::macro_invocation;
 use crate::unit_address;
+use layout::set::CONTINUE_COND_SET;
 use layout::token_kind;
 use parser::StateTested;
 use parser::State;

@@ -3,6 +3,8 @@
 use crate::State;
 use crate::event;
 use layout::expected;
+use layout::set::LABEL_NAME_SET;
+use layout::set::NAME_SET;
 use layout::token_kind;
 use token_rows::token::one_of;
 ghost use mathlib.Core.Path.{_≡_};
@@ -14,10 +16,6 @@ ghost use Rattle.definitions.specs.Prog.{Rule, yes};
 ghost use Rattle.machine.specs.Machine.{Machine};
 ghost use Rattle.machine.specs.Walk.{Walked, said, walk};
 ghost use Rattle.parser.specs.View.{view, left, first-code, matcher-of, kinds-of};
-
-pub const NAME_SET: [u8; 4] = [token_kind::IDENT, token_kind::NUMBER, token_kind::COMMA, token_kind::MINUS];
-
-pub const LABEL_NAME_SET: [u8; 2] = [token_kind::IDENT, token_kind::NUMBER];
 
 pub enum Matcher {
     Kind(u8),

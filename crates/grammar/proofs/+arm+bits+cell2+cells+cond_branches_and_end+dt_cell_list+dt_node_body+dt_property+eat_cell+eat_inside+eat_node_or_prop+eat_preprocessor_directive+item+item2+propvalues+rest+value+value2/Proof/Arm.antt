@@ -15,7 +15,7 @@ use Rattle.parser.specs.View.{left, view-of}
 use Rattle.grammar.specs.Parts.{inside-of}
 use Rattle.machine.proofs.Way.{c-walk, c-act, c-ret, c-yes, c-no, c-mark, completed, c-fn, way}
 use Rattle.names.proofs.Kit.{ahead-falls}
-use Rattle.parts.proofs.Steps.{true-false}
+use Rattle.steps.proofs.Steps.{true-false}
 use Rattle.grammar.proofs.Ways.{c-part, again-part, last-yes, last-no}
 use Rattle.grammar.proofs.arm.Reads as reads
 use Rattle.grammar.proofs.+arm+bits+cell2+cells+cond_branches_and_end+dt_cell_list+dt_node_body+dt_property+eat_cell+eat_inside+eat_node_or_prop+eat_preprocessor_directive+item+item2+propvalues+rest+value+value2.Lts-arm as lts

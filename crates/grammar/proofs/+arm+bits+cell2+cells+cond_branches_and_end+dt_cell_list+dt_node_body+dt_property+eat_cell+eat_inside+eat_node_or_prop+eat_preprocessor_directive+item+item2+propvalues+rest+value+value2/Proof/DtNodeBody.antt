@@ -11,7 +11,7 @@ use Rattle.machine.specs.Walk.{walk-rule, walk-prog}
 use Rattle.parser.specs.View.{left, view-of, span-of}
 use Rattle.machine.proofs.Way.{c-walk, c-act, c-ret, c-seq, c-yes, c-no}
 use Rattle.names.proofs.Kit.{ahead-falls}
-use Rattle.parts.proofs.Steps.{c-brace, c-any, closing}
+use Rattle.steps.proofs.Steps.{c-brace, c-any, closing}
 use Rattle.grammar.proofs.Ways.{c-part, c-call-on, closes, again-part, last-yes}
 use Rattle.grammar.proofs.dt_node_body.Reads as reads
 use Rattle.grammar.proofs.+arm+bits+cell2+cells+cond_branches_and_end+dt_cell_list+dt_node_body+dt_property+eat_cell+eat_inside+eat_node_or_prop+eat_preprocessor_directive+item+item2+propvalues+rest+value+value2.Lts-dt_node_body as lts

@@ -12,7 +12,7 @@ use Rattle.machine.specs.Walk.{said, walk-rule, walk-prog, unlabelled}
 use Rattle.parser.specs.View.{left, view-of, ans-of}
 use Rattle.machine.proofs.Way.{c-walk, c-act, c-ret, c-yes, c-no, c-fn, rule-closed, rule-body}
 use Rattle.names.proofs.Kit.{ahead-falls}
-use Rattle.parts.proofs.Steps.{c-said-no, c-said-also}
+use Rattle.steps.proofs.Steps.{c-said-no, c-said-also}
 use Rattle.grammar.proofs.Ways.{again-part, last-yes, last-no, as-yes, c-said-other, other-no, c-answered}
 use Rattle.grammar.proofs.propvalues.Reads as reads
 use Rattle.grammar.proofs.+arm+bits+cell2+cells+cond_branches_and_end+dt_cell_list+dt_node_body+dt_property+eat_cell+eat_inside+eat_node_or_prop+eat_preprocessor_directive+item+item2+propvalues+rest+value+value2.Lts-propvalues as lts

@@ -1,0 +1,54 @@
+// The devicetree's own directives, of grammar.rs: `/dts-v1/`, `/plugin/`, `/include/`, `/memreserve/`, `/delete-node/`,
+// `/delete-property/`. The functions here are for the cycle of calls, which holds the whole parser by value; the module
+// has the work.
+pub mod dts_directive;
+
+use parser::Parser;
+use parser::ParserTested;
+ghost use mathlib.Core.Path.{_≡_};
+ghost use mathlib.Core.Bool.{true, false};
+ghost use mathlib.Core.List.{List};
+ghost use Prim.Native.Nat.{ℕ, _+_, _-_, _≤_, _<_};
+ghost use Rattle.definitions.specs.Token.{tokens-of};
+ghost use Rattle.definitions.specs.Skeleton.{Span};
+ghost use Rattle.definitions.specs.Prog.{Rule, yes, also};
+ghost use Rattle.definitions.specs.Grammar.{eat-dts-include, eat-dts-directive};
+ghost use Rattle.machine.specs.Machine.{Machine};
+ghost use Rattle.machine.specs.Walk.{Walked, said, walk, closed};
+ghost use Rattle.parser.specs.View.{view-of, parser-tested, left, marker-of, ans-of};
+
+pub fn eat_dts_include(
+    p: Parser,
+    tokens: &[u32],
+    events: &mut [u32],
+    reports: &mut [u32],
+    pool: &mut [u32],
+) -> ParserTested
+    ensures { λ r. ⌜ ((ask : Rule → Machine → Walked) (b : Span) → parser-tested r (now (events .exit)) (now (reports .exit)) (now (pool .exit)) ≡ walk ask (tokens-of (now (tokens .entry))) b eat-dts-include (view-of p (now (events .entry)) (now (reports .entry)) (now (pool .entry)))) ⌝ }
+    ensures { λ r. ⌜ left (now (tokens .entry)) (r .p .s) ≤ left (now (tokens .entry)) (p .s) ⌝ }
+    ensures { λ r. ⌜ (r .yes ≡ true → left (now (tokens .entry)) (r .p .s) < left (now (tokens .entry)) (p .s)) ⌝ }
+{
+    let mut codes = p.codes;
+    let e = dts_directive::eat_dts_include(p.s, &mut codes, tokens, events, reports, pool);
+    let s = e.s;
+    let q = Parser { codes: codes, s: s };
+    ParserTested { p: q, yes: e.yes }
+}
+
+pub fn eat_dts_directive(
+    p: Parser,
+    tokens: &[u32],
+    events: &mut [u32],
+    reports: &mut [u32],
+    pool: &mut [u32],
+) -> ParserTested
+    ensures { λ r. ⌜ ((ask : Rule → Machine → Walked) (b : Span) → parser-tested r (now (events .exit)) (now (reports .exit)) (now (pool .exit)) ≡ walk ask (tokens-of (now (tokens .entry))) b eat-dts-directive (view-of p (now (events .entry)) (now (reports .entry)) (now (pool .entry)))) ⌝ }
+    ensures { λ r. ⌜ left (now (tokens .entry)) (r .p .s) ≤ left (now (tokens .entry)) (p .s) ⌝ }
+    ensures { λ r. ⌜ (r .yes ≡ true → left (now (tokens .entry)) (r .p .s) ≤ left (now (tokens .entry)) (p .s) - 1) ⌝ }
+{
+    let mut codes = p.codes;
+    let e = dts_directive::eat_dts_directive(p.s, &mut codes, tokens, events, reports, pool);
+    let s = e.s;
+    let q = Parser { codes: codes, s: s };
+    ParserTested { p: q, yes: e.yes }
+}

@@ -1,0 +1,18 @@
+-- `told` answers by its flag.
+use mathlib.Core.Path.{refl, sym, ap}
+use Rattle.definitions.specs.Run.{truth}
+use Rattle.ends.proofs.nodes.told.Statement.{statement}
+use Rattle.ends.proofs.nodes.told.Tie as tie
+
+returns : tie.Need-returns
+returns c =
+    let a = c in
+    (refl, sym (ap truth (a .if1 .taken)))
+
+returns-2 : tie.Need-returns-2
+returns-2 c =
+    let a = c in
+    (refl, sym (ap truth (a .if1 .left)))
+
+pub told-spec : {M : Type 1} → statement M
+told-spec = tie.close (tie.spec returns returns-2)

@@ -1,0 +1,35 @@
+// The cells that no call is opened for, of grammar.rs: numbers, characters, macro invocations and references. The function
+// here is for the cycle of calls, which holds the whole parser by value; the module has the work.
+pub mod plain_cell;
+
+use parser::Parser;
+use parser::ParserTested;
+ghost use mathlib.Core.Path.{_≡_};
+ghost use mathlib.Core.Bool.{true, false};
+ghost use mathlib.Core.List.{List};
+ghost use Prim.Native.Nat.{ℕ, _+_, _-_, _≤_, _<_};
+ghost use Rattle.definitions.specs.Token.{tokens-of};
+ghost use Rattle.definitions.specs.Skeleton.{Span};
+ghost use Rattle.definitions.specs.Prog.{Rule, yes, also};
+ghost use Rattle.machine.specs.Machine.{Machine};
+ghost use Rattle.machine.specs.Walk.{Walked, said, walk, closed};
+ghost use Rattle.parser.specs.View.{view-of, parser-tested, left, marker-of, ans-of};
+ghost use Rattle.plain_cells.specs.Subprograms.{plain-cell};
+
+pub fn eat_plain_cell(
+    p: Parser,
+    tokens: &[u32],
+    events: &mut [u32],
+    reports: &mut [u32],
+    pool: &mut [u32],
+) -> ParserTested
+    ensures { λ r. ⌜ ((ask : Rule → Machine → Walked) (b : Span) → parser-tested r (now (events .exit)) (now (reports .exit)) (now (pool .exit)) ≡ walk ask (tokens-of (now (tokens .entry))) b plain-cell (view-of p (now (events .entry)) (now (reports .entry)) (now (pool .entry)))) ⌝ }
+    ensures { λ r. ⌜ left (now (tokens .entry)) (r .p .s) ≤ left (now (tokens .entry)) (p .s) ⌝ }
+    ensures { λ r. ⌜ (r .yes ≡ true → left (now (tokens .entry)) (r .p .s) < left (now (tokens .entry)) (p .s)) ⌝ }
+{
+    let mut codes = p.codes;
+    let e = plain_cell::eat(p.s, &mut codes, tokens, events, reports, pool);
+    let s = e.s;
+    let q = Parser { codes: codes, s: s };
+    ParserTested { p: q, yes: e.yes }
+}

@@ -1,0 +1,2 @@
+-- What the proofs of the grammar's functions share.
+pub mod Steps
