@@ -9,12 +9,13 @@ use Rattle.definitions.specs.Skeleton.{Skeleton, done, _⧺_}
 use Rattle.definitions.specs.Prog.{Ans, again}
 use Rattle.definitions.specs.Run.{State, Out, mark-of, makes, closed, is-again, goes-on, unlinked, by-shape, links, chained}
 use Rattle.laws.proofs.Fuel.{goes-on-shorter}
-use Rattle.laws.proofs.Trivia.{cond-with}
+use Rattle.laws.proofs.Sound.{is-again-eq}
+use Rattle.basics.proofs.Tests.{cond-with}
 use Rattle.bounds.proofs.Row.{Key, Row, get, if-took, _⊔_, raise, stopped}
 use Rattle.bounds.proofs.Cost.{Price, Bill, side, raise-bill, pays, chain-row}
 use Rattle.bounds.proofs.RowLaws.{stopped-is}
 use Rattle.bounds.proofs.Paid.{Known, cost, cost-join, closed-cost, Fits, recost, widen, or-left, or-right, raise-fits, Goes, Sound}
-use Rattle.bounds.proofs.Turns.{on, turning, is-again-eq, goes, paying, turn-stops, turn-later}
+use Rattle.bounds.proofs.Turns.{on, turning, goes, paying, turn-stops, turn-later}
 
 module _ (w : Price) where
   pub raised : (q : Bill) (Q : State → Out) → Sound w q Q → (d : Bool) (s : State) → Known d s → (n : ℕ) → n ≤ w .marker + cost w (Q s .made) → Fits w (get (side (raise-bill (w .marker) q) d) (Q s .ans)) s (Q s .state) n
@@ -88,7 +89,7 @@ module _ (w : Price) where
   unfolding chained chain-row cost
   chain-fits f q Q S P s o F =
       cond-with (λ (y : Out). Fits w (get (raise (w .marker) (stopped f ⊔ turning w (get f again) (raise-bill (w .marker) q))) (y .ans)) s (y .state) (cost w (y .made))) (is-again (o .ans))
-      (λ e. on-fits (links (suc (length (o .state .rest))) Q (mark-of s) done (o .made) (o .state)) (links-fits q Q S P (suc (length (o .state .rest))) (get f again) s (o .state) (mark-of s) done (o .made) (omega arith) (recost w (omega arith) (subst (λ (a : Ans). Fits w (get f a) s (o .state) (cost w (o .made))) (is-again-eq w (o .ans) e) F))))
+      (λ e. on-fits (links (suc (length (o .state .rest))) Q (mark-of s) done (o .made) (o .state)) (links-fits q Q S P (suc (length (o .state .rest))) (get f again) s (o .state) (mark-of s) done (o .made) (omega arith) (recost w (omega arith) (subst (λ (a : Ans). Fits w (get f a) s (o .state) (cost w (o .made))) (is-again-eq (o .ans) e) F))))
       (λ e. raise-fits w (w .marker) _ (o .ans) (omega (arith, closed-cost w 0 (mark-of s) (mark-of (o .state)) done (o .made))) (or-left w _ _ (o .ans) (stopped-fits f (o .ans) e F)))
     where
       on-fits : (y : Out) → Wrapped (get (turning w (get f again) (raise-bill (w .marker) q)) (y .ans)) s (y .state) (cost w (y .made)) → Fits w (get (raise (w .marker) (stopped f ⊔ turning w (get f again) (raise-bill (w .marker) q))) (y .ans)) s (y .state) (cost w (y .made))

@@ -15,7 +15,7 @@ use Rattle.definitions.specs.Grammar.{grammar, Entry, whole}
 use Rattle.definitions.specs.Skeleton.{Label, no-label, Skeleton, done, token, _⧺_}
 use Rattle.definitions.specs.Run.{State, Out, mark-of, peeked, answer, makes, taken, do-bump, do-name, add, at-depth, do-argument, pool-of, do-emit, over-unless, do-expected, perform, choose, closed, marked, is-again, goes-on, iter, unlinked, by-shape, links, chained, here, exec, run}
 use Rattle.definitions.specs.Call.{run-entry}
-use Rattle.laws.proofs.Trivia.{cond-all, and-left, and-right}
+use Rattle.basics.proofs.Tests.{cond-all, and-left, and-right}
 use Rattle.bounds.specs.Numbers.{Below}
 use Rattle.bounds.proofs.Codes.{CODES, small-act, small, grammar-small, whole-small, Coded, coded-join, coded-closed, below-append}
 

@@ -12,8 +12,10 @@ use Rattle.definitions.specs.Token.{Token, trivia, drop-trivia, ended, past, fi
 use Rattle.definitions.specs.Skeleton.{Label, done, token, _⧺_}
 use Rattle.definitions.specs.Prog.{Ans, no, yes, Rule, Act, silent-at, at-end, immediate, immediate-next, add-expected, bump, bump-name, bump-argument, emit, emit-unclosed, less, act}
 use Rattle.definitions.specs.Run.{State, Out, peeked, truth, answer, makes, taken, do-bump, run-of, do-name, add, at-depth, do-argument, do-emit, over-unless, do-expected, perform}
-use Rattle.laws.proofs.Trivia.{cond-all, drop-twice, drop-trivia-length}
+use Rattle.basics.proofs.Tests.{cond-all}
+use Rattle.laws.proofs.Trivia.{drop-twice, drop-trivia-length}
 use Rattle.laws.proofs.Kept.{run-of-split}
+use Rattle.laws.proofs.FactsHold.{first-there}
 use Rattle.bounds.proofs.Row.{Key, still, there, took, Row, get, at, _⊔_, tab}
 use Rattle.bounds.proofs.Cost.{Price, Bill, here, fee, act-row, bill}
 use Rattle.bounds.proofs.RowLaws.{glue-less}
@@ -21,11 +23,6 @@ use Rattle.bounds.proofs.Paid.{Known, Holds, cost, Paid, Fits, widen, w
 
 run-of-length : (ks : List ℕ) (ts : List Token) → length (run-of ks ts .after) ≤ length ts
 run-of-length ks ts = omega (arith, simp length-append at (ap length (run-of-split ks ts)))
-
-first-there : (ks : List ℕ) (l : List Token) → first-in ks l ≡ true → ended l ≡ false
-unfolding first-in
-first-there ks [] e = absurd (false≢true e)
-first-there ks (t ∷ ts) e = refl
 
 module _ (w : Price) (one : 1 ≤ w .base) (worth : w .leaf ≤ w .credit) where
   -- ---------------------------------------------------------------- peeking

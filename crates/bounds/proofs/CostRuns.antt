@@ -14,7 +14,7 @@ use Rattle.definitions.specs.Prog.{Ans, no, yes, also, again, Rule}
 use Rattle.definitions.specs.Grammar.{grammar, Entry, whole}
 use Rattle.definitions.specs.Call.{run-entry}
 use Rattle.definitions.specs.Run.{makes, taken, exec, run}
-use Rattle.laws.proofs.Trivia.{and-left, and-right}
+use Rattle.basics.proofs.Tests.{and-left, and-right}
 use Rattle.bounds.proofs.Row.{Key, still, there, took, Row, get}
 use Rattle.bounds.proofs.Cost.{Price, Bill, here, side, bill, keys, every, within, meets, refuses, keeps, ends}
 use Rattle.bounds.proofs.Paid.{counted, cost, Fits, widen, weaken, here-paid, Sound}

@@ -18,7 +18,7 @@ use Rattle.definitions.specs.Place.{rows, lexical-errors}
 use Rattle.definitions.specs.Report.{Push, pushes, reports, report-rows, pool, Fit, fits, stops, scan}
 use Rattle.definitions.specs.Refusal.{Refusal, unknown-entry, no-tree-room, place-of, Verdict, accepted, refused, is-kind, check-input}
 use Rattle.definitions.specs.Call.{Buffers, zeros, written, refusal, cleared, Sheets, sheets, kept, finish, forward-mark, outcome, room-of, run-entry, parse, Asked, for, unknown, entry-of, checked, asked, call}
-use Rattle.laws.proofs.Trivia.{cond-all}
+use Rattle.basics.proofs.Tests.{cond-all}
 use Rattle.laws.proofs.Skeleton.{event-count, event-count-append, events-length, reports-append}
 use Rattle.laws.proofs.Clear.{Clear}
 use Rattle.laws.proofs.Scan.{fits-clear}

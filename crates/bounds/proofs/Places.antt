@@ -13,7 +13,7 @@ use Rattle.definitions.specs.StaticText.{static-texts, fits-text}
 use Rattle.definitions.specs.Refusal.{Refusal, unknown-entry, too-long, bad-row, bad-text, too-deep, no-event-room, no-report-room, no-tree-room, number-of, place-of, Verdict, accepted, refused, _or-else_, unless, check-sizes, is-kind, check-rows, check-texts, check-input}
 use Rattle.definitions.specs.Report.{Push, event, reported, exceeded, Room, Fit, fits, stops, one-event, one-report, scan}
 use Rattle.definitions.specs.Call.{forward-mark}
-use Rattle.laws.proofs.Trivia.{cond-all, and-right}
+use Rattle.basics.proofs.Tests.{cond-all, and-right}
 use Rattle.laws.proofs.Input.{unless-holds}
 
 pub number-small : (r : Refusal) → number-of r ≤ 8

@@ -14,7 +14,7 @@ use Rattle.definitions.specs.Grammar.{Entry}
 use Rattle.definitions.specs.Run.{State, mark-of, pool-of, over-unless, closed}
 use Rattle.definitions.specs.Report.{Push, event, reported, exceeded, pushes, reports, pool}
 use Rattle.definitions.specs.Call.{run-entry}
-use Rattle.laws.proofs.Trivia.{cond-all}
+use Rattle.basics.proofs.Tests.{cond-all}
 use Rattle.laws.proofs.Skeleton.{pushes-join, pushes-closed}
 use Rattle.laws.proofs.Clear.{Clear, clear-append}
 use Rattle.laws.proofs.Kept.{Kept, whole-kept}

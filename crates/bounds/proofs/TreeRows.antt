@@ -12,7 +12,7 @@ use Rattle.definitions.specs.Grammar.{Entry, SourceFile, ReferenceNoamp, PropVa
 use Rattle.definitions.specs.Place.{Tree, nil, leaf, subtree, _⊕_, lead, front, after, place, root, width, count, rows}
 use Rattle.definitions.specs.Call.{run-entry}
 use Rattle.laws.specs.Lossless.{Kind-of, one-token, a-name}
-use Rattle.laws.proofs.Trivia.{cond-all}
+use Rattle.basics.proofs.Tests.{cond-all}
 use Rattle.laws.proofs.Tree.{leaves, width-leaves}
 use Rattle.laws.proofs.Between.{entry-reads}
 use Rattle.laws.proofs.Names.{entry-names}

@@ -3,14 +3,15 @@ use Prim.Native.Nat.{ℕ, zero, suc, _+_, _-_, _*_, max, _≤_, _<_}
 use native.Mathlib.Nat.{le-trans, le-refl, le-of-eq, le-max-left, le-max-right, max-le, mul-le-mul-left}
 use native.Mathlib.Omega.{arith}
 use mathlib.Core.Path.{_≡_, refl, sym, _∙_, subst}
-use mathlib.Core.Bool.{true, false, false≢true}
+use mathlib.Core.Bool.{true, false}
 use lib.ListN.{length}
 use borrow.Author.Tests.{leb-true}
 use Rattle.definitions.specs.Skeleton.{_⧺_}
-use Rattle.definitions.specs.Prog.{Ans, no, yes, also, again}
+use Rattle.definitions.specs.Prog.{Ans, again}
 use Rattle.definitions.specs.Run.{State, Out, makes, add, is-again, goes-on, iter}
 use Rattle.laws.proofs.Fuel.{goes-on-shorter}
-use Rattle.laws.proofs.Trivia.{cond-with, and-left}
+use Rattle.laws.proofs.Sound.{is-again-eq}
+use Rattle.basics.proofs.Tests.{cond-with, and-left}
 use Rattle.bounds.proofs.Row.{Key, still, there, took, Row, get, glue, lower, if-took, moved, then, last, going, turns}
 use Rattle.bounds.proofs.Cost.{Price, Bill, side, pays}
 use Rattle.bounds.proofs.RowLaws.{least-right, or-most, glue-less, glue-mono, lower-pays, then-is}
@@ -90,13 +91,6 @@ module _ (w : Price) where
   turn-later x q a h f = widen w (λ κ. turns-again x q a κ h) f
 
   -- ---------------------------------------------------------------- loops and chains
-
-  pub is-again-eq : (a : Ans) → is-again a ≡ true → a ≡ again
-  unfolding is-again
-  is-again-eq no e = absurd (false≢true e)
-  is-again-eq yes e = absurd (false≢true e)
-  is-again-eq also e = absurd (false≢true e)
-  is-again-eq again e = refl
 
   -- a turn that goes on
   pub goes : (x : Key → ℕ) (q : Bill) (s₀ s : State) (o : Out) {n n′ : ℕ} → goes-on s o ≡ true → Fits w x s₀ s n → Goes w q (o .ans) s (o .state) n′ → Fits w (λ κ. if-took κ (on x q)) s₀ (o .state) (n + n′)

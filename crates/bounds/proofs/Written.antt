@@ -8,7 +8,7 @@ use Rattle.definitions.specs.Token.{Token, is-error, bytes}
 use Rattle.definitions.specs.Skeleton.{Label, no-label, label, Report, Skeleton, done, token, name, node, ignored, report, over}
 use Rattle.definitions.specs.Place.{lexical-errors}
 use Rattle.definitions.specs.Report.{pushes, reports, label-numbers, report-rows, pool}
-use Rattle.laws.proofs.Trivia.{cond-all}
+use Rattle.basics.proofs.Tests.{cond-all}
 use Rattle.laws.proofs.Skeleton.{reports-append}
 use Rattle.bounds.specs.Numbers.{Below}
 use Rattle.bounds.proofs.Codes.{CODES, Report-coded, Coded, below-append}

@@ -7,7 +7,7 @@ use Prim.Native.Nat.{ℕ}
 abbrev pub TOKEN-ROW : ℕ
 TOKEN-ROW = 2
 
--- tag, and two more numbers
+-- tag, argument, distance
 abbrev pub EVENT-ROW : ℕ
 EVENT-ROW = 3
 
@@ -22,6 +22,28 @@ ERROR-ROW = 3
 -- message, start, end, mark, first pool place, pool count, hint, label start, label end
 abbrev pub REPORT-ROW : ℕ
 REPORT-ROW = 9
+
+-- ---------------------------------------------------------------- where a number stands in its row; the first stands where the row starts
+
+abbrev pub TOKEN-LENGTH : ℕ
+TOKEN-LENGTH = 1
+
+-- a start's kind, or how many raw tokens a combined token has
+abbrev pub EVENT-ARGUMENT : ℕ
+EVENT-ARGUMENT = 1
+
+-- how far on the event is of the marker that was made to precede a start's, or 0
+abbrev pub EVENT-DISTANCE : ℕ
+EVENT-DISTANCE = 2
+
+abbrev pub TREE-KIND : ℕ
+TREE-KIND = 1
+
+abbrev pub TREE-WIDTH : ℕ
+TREE-WIDTH = 2
+
+abbrev pub TREE-COUNT : ℕ
+TREE-COUNT = 3
 
 -- ---------------------------------------------------------------- the first number of a tree row
 
@@ -84,6 +106,14 @@ NO-REPORT-ROOM = 7
 
 abbrev pub NO-TREE-ROOM : ℕ
 NO-TREE-ROOM = 8
+
+-- ---------------------------------------------------------------- how many numbers 32 bits hold, and 64
+
+abbrev pub TWO-TO-32 : ℕ
+TWO-TO-32 = 4294967296
+
+abbrev pub TWO-TO-64 : ℕ
+TWO-TO-64 = 18446744073709551616
 
 -- ---------------------------------------------------------------- the limits of a call
 

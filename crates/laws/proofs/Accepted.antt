@@ -13,7 +13,7 @@ use Rattle.definitions.specs.Skeleton.{Skeleton}
 use Rattle.definitions.specs.Report.{Room, Fit, fits, stops, pushes, scan}
 use Rattle.definitions.specs.Refusal.{Refusal, unknown-entry, too-long, bad-row, bad-text, too-deep, no-event-room, no-report-room, no-tree-room, number-of, Verdict, accepted, refused, check-input}
 use Rattle.definitions.specs.Call.{Buffers, Result, cleared, Sheets, sheets, kept, finish, forward-mark, outcome, room-of, run-entry, parse, Asked, for, unknown, entry-of, checked, asked, call}
-use Rattle.laws.proofs.Trivia.{and-left, and-right}
+use Rattle.basics.proofs.Tests.{and-left, and-right}
 
 pub record Accepted (n : ℕ) (bs tk : List ℕ) (b : Buffers) : Type 0 where
   pub entry : Entry

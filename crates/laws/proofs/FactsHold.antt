@@ -11,7 +11,8 @@ use Rattle.definitions.specs.Prog.{Act, silent-at, at-end, immediate, immediate
 use Rattle.definitions.specs.Token.{Token, drop-trivia, first-in, past, ended}
 use Rattle.definitions.specs.Skeleton.{Label}
 use Rattle.definitions.specs.Run.{State, mark-of, peeked, truth, answer, makes, taken, do-bump, run-of, do-name, do-emit, do-expected, perform}
-use Rattle.laws.proofs.Trivia.{and-left, and-right, drop-twice, drop-trivia-length}
+use Rattle.basics.proofs.Tests.{and-left, and-right}
+use Rattle.laws.proofs.Trivia.{drop-twice, drop-trivia-length}
 use Rattle.laws.proofs.Kept.{Stands, stands-taken, stands-peeked, run-of-split, act-ran}
 use Rattle.laws.proofs.Onward.{Onward, onward-kept}
 use Rattle.laws.proofs.Clear.{Within-room, within-parts}
@@ -154,7 +155,7 @@ now-gone d s₀ s x h = record { stands = h .stands; below = h .below; case = go
     go (there-case i t) = absurd (true≢false (sym x ∙ t))
     go (gone-case i t) = gone-case i t
 
-first-there : (ks : List ℕ) (l : List Token) → first-in ks l ≡ true → ended l ≡ false
+pub first-there : (ks : List ℕ) (l : List Token) → first-in ks l ≡ true → ended l ≡ false
 unfolding first-in
 first-there ks [] e = absurd (false≢true e)
 first-there ks (t ∷ ts) e = refl

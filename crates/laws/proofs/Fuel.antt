@@ -8,7 +8,7 @@ use lib.ListN.{length}
 use borrow.Author.Tests.{ltb-true}
 use Rattle.definitions.specs.Skeleton.{Skeleton, done}
 use Rattle.definitions.specs.Run.{State, Out, makes, add, is-again, goes-on, iter, by-shape, links}
-use Rattle.laws.proofs.Trivia.{and-right}
+use Rattle.basics.proofs.Tests.{and-right}
 use Rattle.laws.proofs.Skeleton.{join-assoc}
 
 -- ---------------------------------------------------------------- loops and chains

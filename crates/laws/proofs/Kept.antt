@@ -13,7 +13,8 @@ use Rattle.definitions.specs.Grammar.{Entry, whole}
 use Rattle.definitions.specs.Skeleton.{Label, no-label, Report, Skeleton, done, token, name, node, report, over, _⧺_}
 use Rattle.definitions.specs.Run.{State, Out, mark-of, peeked, answer, makes, taken, do-bump, Run, run-of, do-name, add, at-depth, do-argument, error-range, pool-of, do-emit, over-unless, do-expected, perform, closed, marked, unlinked, exec, run}
 use Rattle.definitions.specs.Call.{run-entry}
-use Rattle.laws.proofs.Trivia.{cond-all, cond-with, Solid, dropped-solid, Passes, passes-none, passes-one, passes-then, passes-all}
+use Rattle.basics.proofs.Tests.{cond-all, cond-with}
+use Rattle.laws.proofs.Trivia.{Solid, dropped-solid, Passes, passes-none, passes-one, passes-then, passes-all}
 use Rattle.laws.proofs.Engine.{Composes, Steady, exec-all, run-all}
 
 -- ---------------------------------------------------------------- where a run stands

@@ -14,7 +14,7 @@ use Rattle.definitions.specs.Skeleton.{Skeleton, done, token, name, node, ignor
 use Rattle.definitions.specs.Place.{Tree, nil, leaf, subtree, _⊕_, lead, front, after, place, root}
 use Rattle.laws.specs.Lossless.{Leaf, Kind-of, one-token, a-name, Stands-for, Cover}
 use Rattle.laws.specs.Lossless as L
-use Rattle.laws.proofs.Trivia.{cond-with}
+use Rattle.basics.proofs.Tests.{cond-with}
 use Rattle.laws.proofs.Tree.{leaves}
 use Rattle.laws.proofs.Between.{Reads}
 use Rattle.laws.proofs.Names.{Is-name, Named}

@@ -17,7 +17,7 @@ use Rattle.definitions.specs.Run.{State, Out, mark-of, peeked, answer, makes, t
 use Rattle.definitions.specs.Report.{pushes}
 use Rattle.definitions.specs.Call.{Buffers, run-entry}
 use Rattle.laws.specs.Limits.{Place, at, deeper, iter-places, links-places, choose-places, places, run-places, entry-places, Limited, Limits}
-use Rattle.laws.proofs.Trivia.{cond-all}
+use Rattle.basics.proofs.Tests.{cond-all}
 use Rattle.laws.proofs.Fuel.{turn-of}
 use Rattle.laws.proofs.Parts.{linked, closed-parts, links-parts}
 use Rattle.laws.proofs.Clear.{Clear, Within-room, join-within, closed-within, within-parts}

@@ -16,7 +16,8 @@ use Rattle.definitions.specs.Skeleton.{Label, no-label, Skeleton, done, token, 
 use Rattle.definitions.specs.Run.{State, Out, mark-of, peeked, truth, answer, makes, taken, do-bump, run-of, do-name, add, at-depth, do-argument, do-emit, over-unless, do-expected, perform, closed, run}
 use Rattle.definitions.specs.Call.{run-entry}
 use Rattle.laws.specs.Lossless.{Of-name}
-use Rattle.laws.proofs.Trivia.{cond-all, and-left, and-right, drop-twice}
+use Rattle.basics.proofs.Tests.{cond-all, and-left, and-right}
+use Rattle.laws.proofs.Trivia.{drop-twice}
 use Rattle.laws.proofs.Kept.{All-in, run-of-in}
 use Rattle.laws.proofs.Onward.{run-goes}
 use Rattle.laws.proofs.Analysis.{Look, get}

@@ -19,7 +19,7 @@ lead-whole (t ∷ ts) = go (trivia t) (lead-whole ts)
     go true h = ap (t ∷_) h
     go false h = refl
 
-front-whole : (ts : List Token) → leaves (front ts) ++ past ts ≡ ts
+pub front-whole : (ts : List Token) → leaves (front ts) ++ past ts ≡ ts
 unfolding front leaves
 front-whole [] = refl
 front-whole (t ∷ ts) = refl

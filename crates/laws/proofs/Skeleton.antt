@@ -122,7 +122,7 @@ unfolding pool
 pool-append [] m = refl
 pool-append (r ∷ l) m = ap (r .pool ++_) (pool-append l m) ∙ sym (append-assoc (r .pool) (pool l) (pool m))
 
-label-append : (b : ℕ) (x : Label) (l m : List ℕ) → label-numbers b x (l ++ m) ≡ label-numbers b x l ++ m
+pub label-append : (b : ℕ) (x : Label) (l m : List ℕ) → label-numbers b x (l ++ m) ≡ label-numbers b x l ++ m
 label-append b no-label l m = refl
 label-append b (label s) l m = refl
 

@@ -8,7 +8,7 @@ use lib.ListN.{length}
 use Rattle.definitions.specs.Prog.{Ans, no, yes, also, again, Rule, Act, Prog, ret, act, _⨟_, case, in-marker, loop, chain, brace, open-call}
 use Rattle.definitions.specs.Skeleton.{Label, Skeleton, done, _⧺_}
 use Rattle.definitions.specs.Run.{State, Out, mark-of, makes, add, perform, choose, closed, marked, is-again, goes-on, iter, unlinked, by-shape, links, chained, here, exec}
-use Rattle.laws.proofs.Trivia.{cond-with, and-left, and-right}
+use Rattle.basics.proofs.Tests.{cond-with, and-left, and-right}
 use Rattle.laws.proofs.Onward.{Goes, exec-goes}
 use Rattle.laws.proofs.Fuel.{goes-on-shorter, turn-of}
 use Rattle.laws.proofs.Parts.{Parts, linked, closed-parts, links-parts}
@@ -125,7 +125,7 @@ module _ (D : Domain) (M : Meaning D) where
 
 -- ---------------------------------------------------------------- loops and chains
 
-is-again-eq : (a : Ans) → is-again a ≡ true → a ≡ again
+pub is-again-eq : (a : Ans) → is-again a ≡ true → a ≡ again
 unfolding is-again
 is-again-eq no e = absurd (false≢true e)
 is-again-eq yes e = absurd (false≢true e)

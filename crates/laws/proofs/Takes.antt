@@ -10,7 +10,7 @@ use Rattle.definitions.specs.Grammar.{grammar, sourcefile-part}
 use Rattle.definitions.specs.Skeleton.{Label, no-label}
 use Rattle.definitions.specs.Run.{State, Out, mark-of, makes, exec, run}
 use Rattle.definitions.specs.Report.{pushes}
-use Rattle.laws.proofs.Trivia.{and-left}
+use Rattle.basics.proofs.Tests.{and-left}
 use Rattle.laws.proofs.Kept.{Stands}
 use Rattle.laws.proofs.Onward.{Onward, Goes, run-goes}
 use Rattle.laws.proofs.Clear.{Within-room}

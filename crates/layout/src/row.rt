@@ -3,7 +3,7 @@
 // Kind, length in bytes.
 pub const TOKEN_ROW: usize = 2;
 
-// Tag, and two more numbers.
+// Tag, argument, distance.
 pub const EVENT_ROW: usize = 3;
 
 // Class, kind, width, count.
@@ -14,6 +14,25 @@ pub const ERROR_ROW: usize = 3;
 
 // Message, start, end, mark, first pool place, pool count, hint, label start, label end.
 pub const REPORT_ROW: usize = 9;
+
+// Where a number stands in its row. The first stands where the row starts.
+pub const TOKEN_LENGTH: usize = 1;
+
+// A start's kind, or how many raw tokens a combined token has.
+pub const EVENT_ARGUMENT: usize = 1;
+
+// How far on the event is of the marker that was made to precede a start's, or 0.
+pub const EVENT_DISTANCE: usize = 2;
+
+pub const TREE_KIND: usize = 1;
+
+pub const TREE_WIDTH: usize = 2;
+
+pub const TREE_COUNT: usize = 3;
+
+pub const ERROR_START: usize = 1;
+
+pub const ERROR_END: usize = 2;
 
 // The first number of a tree row.
 pub const NODE: u32 = 0;

@@ -1,4 +1,4 @@
-// `TokenKind`, in its order.
+// lexer.rs: `TokenKind`, in its order.
 pub const WHITESPACE: u8 = 0;
 
 pub const BLOCK_COMMENT: u8 = 1;

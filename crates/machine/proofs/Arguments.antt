@@ -14,7 +14,8 @@ use Rattle.definitions.specs.Prog.{Ans, no, yes}
 use Rattle.definitions.specs.Run.{State, Out, answer, makes, taken, peeked, do-bump, add, do-argument}
 use Rattle.definitions.specs.Run as R
 use Rattle.definitions.specs.Report.{reports}
-use Rattle.laws.proofs.Trivia.{cond-all, Solid, drop-none, dropped-solid}
+use Rattle.basics.proofs.Tests.{cond-all}
+use Rattle.laws.proofs.Trivia.{Solid, drop-none, dropped-solid}
 use Rattle.machine.specs.Machine.{Machine, rest}
 use Rattle.machine.specs.Machine as M
 use Rattle.machine.specs.Walk.{Walked, said, at-depth, argument}

@@ -7,10 +7,12 @@ use mathlib.Core.Path.{_≡_, refl, sym, ap, _∙_}
 use mathlib.Core.Bool.{Bool, true, false}
 use mathlib.Core.List.{List, [], _∷_, _++_, append-assoc}
 use lib.ListN.{length, length-append}
+use Rattle.definitions.specs.Layout.{TWO-TO-32}
 use Rattle.definitions.specs.Skeleton.{Label, no-label, label, Report, Skeleton, done, token, name, node, ignored, report, over, _⧺_}
 use Rattle.definitions.specs.Event.{forward, events}
 use Rattle.definitions.specs.Report.{label-numbers, report-rows, pool}
-use Rattle.machine.specs.Machine.{low}
+use Rattle.laws.proofs.Skeleton.{label-append}
+use Rattle.basics.specs.Word.{low}
 use Rattle.machine.specs.Encode.{start-tag, encode}
 
 -- ---------------------------------------------------------------- events
@@ -59,20 +61,20 @@ coded-length b (report r o) = omega (arith, coded-length b o)
 coded-length b (over m o) = coded-length b o
 
 -- nothing is cut
-pub coded-small : (b : Bool) (o : Skeleton) → length (events b o) < 4294967296 → coded b o ≡ encode b o
+pub coded-small : (b : Bool) (o : Skeleton) → length (events b o) < TWO-TO-32 → coded b o ≡ encode b o
 unfolding coded encode events
 coded-small b done h = refl
 coded-small b (token t m o) h = ap (λ (l : List ℕ). 2 ∷ 0 ∷ 0 ∷ l) (coded-small b o (omega arith))
 coded-small b (name ts m o) h = ap (λ (l : List ℕ). 3 ∷ length ts ∷ 0 ∷ l) (coded-small b o (omega arith))
 coded-small b (node k m m′ a i o) h =
-    let g : length (events true a) + suc (length (events false i) + suc (length (events b o))) < 4294967296 = simp length-append at h in
+    let g : length (events true a) + suc (length (events false i) + suc (length (events b o))) < TWO-TO-32 = simp length-append at h in
     let d : low (suc (suc (length (events false i)))) ≡ suc (suc (length (events false i))) = mod-eq-of-lt (omega arith) in
     let x : coded true a ≡ encode true a = coded-small true a (omega arith) in
     let y : coded false i ≡ encode false i = coded-small false i (omega arith) in
     let z : coded b o ≡ encode b o = coded-small b o (omega arith) in
     rw (x, y, z, d)
 coded-small b (ignored m m′ a i o) h =
-    let g : length (events true a) + suc (length (events false i) + suc (length (events b o))) < 4294967296 = simp length-append at h in
+    let g : length (events true a) + suc (length (events false i) + suc (length (events b o))) < TWO-TO-32 = simp length-append at h in
     let x : coded true a ≡ encode true a = coded-small true a (omega arith) in
     let y : coded false i ≡ encode false i = coded-small false i (omega arith) in
     let z : coded b o ≡ encode b o = coded-small b o (omega arith) in
@@ -89,10 +91,6 @@ low-rows n b first (r ∷ l) =
     r .message ∷ (b - r .range .from) ∷ (b - r .range .to) ∷ (n - r .mark) ∷ low first ∷ low (length (r .pool)) ∷ r .hint
     ∷ label-numbers b (r .labelled) (low-rows n b (first + length (r .pool)) l)
 
-label-append : (b : ℕ) (x : Label) (l m : List ℕ) → label-numbers b x (l ++ m) ≡ label-numbers b x l ++ m
-label-append b no-label l m = refl
-label-append b (label s) l m = refl
-
 pub low-rows-append : (n b first : ℕ) (l m : List Report) → low-rows n b first (l ++ m) ≡ low-rows n b first l ++ low-rows n b (first + length (pool l)) m
 unfolding low-rows pool
 low-rows-append n b first [] m = ap (λ (x : ℕ). low-rows n b x m) (sym (add-zero first))
@@ -102,11 +100,11 @@ low-rows-append n b first (r ∷ l) m =
     (ap (label-numbers b (r .labelled)) (low-rows-append n b (first + length (r .pool)) l m ∙ ap (λ (x : ℕ). low-rows n b (first + length (r .pool)) l ++ low-rows n b x m) e)
     ∙ label-append b (r .labelled) (low-rows n b (first + length (r .pool)) l) (low-rows n b (first + length (r .pool ++ pool l)) m))
 
-pub low-rows-small : (n b first : ℕ) (l : List Report) → first + length (pool l) < 4294967296 → low-rows n b first l ≡ report-rows n b first l
+pub low-rows-small : (n b first : ℕ) (l : List Report) → first + length (pool l) < TWO-TO-32 → low-rows n b first l ≡ report-rows n b first l
 unfolding low-rows report-rows pool
 low-rows-small n b first [] h = refl
 low-rows-small n b first (r ∷ l) h =
-    let g : first + (length (r .pool) + length (pool l)) < 4294967296 = simp length-append at h in
+    let g : first + (length (r .pool) + length (pool l)) < TWO-TO-32 = simp length-append at h in
     let x : low first ≡ first = mod-eq-of-lt (omega arith) in
     let y : low (length (r .pool)) ≡ length (r .pool) = mod-eq-of-lt (omega arith) in
     let z : low-rows n b (first + length (r .pool)) l ≡ report-rows n b (first + length (r .pool)) l = low-rows-small n b (first + length (r .pool)) l (omega arith) in

@@ -8,7 +8,7 @@ use mathlib.Core.List.{List, [], _∷_, _++_}
 use lib.Dec.{leb}
 use lib.ListN.{length, length-append}
 use borrow.Author.Tests.{leb-true, leb-false, le-leb, lt-leb}
-use Rattle.definitions.specs.Layout.{ERROR}
+use Rattle.definitions.specs.Layout.{ERROR, TWO-TO-32}
 use Rattle.definitions.specs.Token.{Token, bytes}
 use Rattle.definitions.specs.Skeleton.{Span, Label, no-label, label, Report, done, report}
 use Rattle.definitions.specs.Refusal.{no-event-room, no-report-room, number-of, place-of}
@@ -18,7 +18,8 @@ use Rattle.definitions.specs.Report.{reported, Fit, fits, stops, one-event, one
 use Rattle.definitions.specs.Call.{forward-mark}
 use Rattle.laws.proofs.Scan.{and-then, scan-append}
 use Rattle.laws.proofs.Skeleton.{reports-append, pool-append}
-use Rattle.machine.specs.Machine.{Machine, low, rest, refuse, push, range-at, report-row, write-report}
+use Rattle.basics.specs.Word.{low}
+use Rattle.machine.specs.Machine.{Machine, rest, refuse, push, range-at, report-row, write-report}
 use Rattle.machine.specs.Machine as M
 use Rattle.machine.specs.Walk.{said}
 use Rattle.machine.specs.Outcome.{Refused}
@@ -41,7 +42,7 @@ span-of b no-label = record { from = 0; to = 0 }
 span-of b (label x) = forward-span b x
 
 -- the byte behind the last token taken
-behind-mark : (b k : ℕ) → 1 ≤ k → k ≤ b → b < 4294967296 → low (b - k + 1) ≡ b - (k - 1)
+behind-mark : (b k : ℕ) → 1 ≤ k → k ≤ b → b < TWO-TO-32 → low (b - k + 1) ≡ b - (k - 1)
 behind-mark b k h i l = let e : b - k + 1 ≡ b - (k - 1) = omega arith in ap low e ∙ mod-eq-of-lt (omega arith)
 
 range-with : (g : Ground) (e : List ℕ) (l : List Report) (s : State) (ts : List Token) → Inside g (moved s ts)

@@ -5,11 +5,13 @@ use native.Mathlib.Omega.{arith}
 use mathlib.Core.Path.{_≡_, ap, _∙_}
 use mathlib.Core.List.{List, _∷_}
 use lib.ListN.{length}
+use Rattle.definitions.specs.Layout.{TWO-TO-32}
 use Rattle.definitions.specs.Token.{Token, bytes}
 use Rattle.definitions.specs.Skeleton.{Report}
 use Rattle.definitions.specs.Run.{State, taken, peeked}
 use Rattle.definitions.specs.Report.{pool}
-use Rattle.machine.specs.Machine.{Buffer, Machine, low, rest, passed, took}
+use Rattle.basics.specs.Word.{low}
+use Rattle.machine.specs.Machine.{Buffer, Machine, rest, passed, took}
 use Rattle.machine.specs.Outcome.{Limits, onto}
 use Rattle.machine.proofs.Coded.{low-rows}
 use Rattle.machine.proofs.Part.{Part, part-length, part-bytes, part-drop, part-trivia, bytes-trivia}
@@ -67,7 +69,7 @@ inside-peeked g s h =
 next-index : (n k : ℕ) → suc k ≤ n → n - suc k + 1 ≡ n - k
 next-index n k h = omega arith
 
-next-byte : (b k j : ℕ) → j + k ≤ b → b < 4294967296 → low (b - (j + k) + j) ≡ b - k
+next-byte : (b k j : ℕ) → j + k ≤ b → b < TWO-TO-32 → low (b - (j + k) + j) ≡ b - k
 next-byte b k j h l = let e : b - (j + k) + j ≡ b - k = omega arith in ap low e ∙ mod-eq-of-lt (omega arith)
 
 module _ (g : Ground) (e : List ℕ) (l : List Report) (s : State) (t : Token) (ts : List Token) (p : Part (g .tokens) (t ∷ ts)) where

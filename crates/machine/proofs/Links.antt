@@ -13,19 +13,20 @@ use Rattle.definitions.specs.Prog.{Ans, again, Rule, Prog, chain}
 use Rattle.definitions.specs.Run.{is-again, by-shape}
 use Rattle.machine.specs.Machine.{Machine, Marker, with-events, put-start, push, complete, precede}
 use Rattle.machine.specs.Walk.{Walked, said, marker, goes-on, link, links, chained, walk}
-use Rattle.machine.proofs.Turns.{ahead, Few, either, row-ahead, push-ahead}
+use Rattle.basics.proofs.Tests.{cond-all}
+use Rattle.machine.proofs.Turns.{ahead, Few, row-ahead, push-ahead}
 
 -- ---------------------------------------------------------------- a link moves no cursor back
 
 pub complete-ahead : (ts : List Token) (k : Marker) (kind : ℕ) (m : Machine) → Few ts → ahead ts (complete k kind m) ≤ ahead ts m
 unfolding complete
-complete-ahead ts k kind m h = either (λ x. ahead ts x ≤ ahead ts m) (eqb (m .refusal) 0)
+complete-ahead ts k kind m h = cond-all (λ (x : Machine). ahead ts x ≤ ahead ts m) (eqb (m .refusal) 0)
     (row-ahead ts FINISH-NODE 0 (with-events (record { count = m .events .count; numbers = put-start k kind (m .events .numbers) }) m) h) (omega arith)
 
 pub precede-ahead : (ts : List Token) (k : Marker) (m : Machine) → Few ts → ahead ts (precede k m) ≤ ahead ts m
 unfolding precede
 precede-ahead ts k m h =
-    either (λ x. ahead ts x ≤ ahead ts m) (eqb (push PLACEHOLDER 0 m .refusal) 0) (push-ahead ts PLACEHOLDER 0 m h) (push-ahead ts PLACEHOLDER 0 m h)
+    cond-all (λ (x : Machine). ahead ts x ≤ ahead ts m) (eqb (push PLACEHOLDER 0 m .refusal) 0) (push-ahead ts PLACEHOLDER 0 m h) (push-ahead ts PLACEHOLDER 0 m h)
 
 pub link-ahead : (ts : List Token) (k : Marker) (kind : ℕ) (m : Machine) → Few ts → ahead ts (link k kind m) ≤ ahead ts m
 unfolding link

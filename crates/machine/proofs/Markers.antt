@@ -15,7 +15,8 @@ use Rattle.definitions.specs.Event.{events}
 use Rattle.definitions.specs.Run.{State, Out, mark-of, makes, closed, marked}
 use Rattle.definitions.specs.Report.{Push, event, pushes, reports, fits, scan, pool}
 use Rattle.laws.proofs.Skeleton.{pushes-join}
-use Rattle.machine.specs.Machine.{Machine, Marker, low, push, complete, precede}
+use Rattle.basics.specs.Word.{low}
+use Rattle.machine.specs.Machine.{Machine, Marker, push, complete, precede}
 use Rattle.machine.specs.Walk.{Walked, said, marker, close}
 use Rattle.machine.specs.Walk as W
 use Rattle.machine.specs.Encode.{start-tag}

@@ -9,8 +9,9 @@ use lib.ListN.{length}
 use Rattle.definitions.specs.Token.{Token, seen, trivia, drop-trivia, one-of}
 use Rattle.definitions.specs.Skeleton.{Report}
 use Rattle.definitions.specs.Run.{State, taken, peeked, Run, run-of}
-use Rattle.laws.proofs.Trivia.{cond-all}
-use Rattle.machine.specs.Machine.{Machine, low, rest, skip, peek, name-run}
+use Rattle.basics.proofs.Tests.{cond-all}
+use Rattle.basics.specs.Word.{low}
+use Rattle.machine.specs.Machine.{Machine, rest, skip, peek, name-run}
 use Rattle.machine.proofs.Part.{Part, part-tail, part-length}
 use Rattle.machine.proofs.Image.{Ground, image, Inside, moved, rest-is, pass-is, took-is}
 

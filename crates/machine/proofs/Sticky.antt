@@ -16,7 +16,7 @@ use Rattle.definitions.specs.Refusal.{Refusal}
 use Rattle.definitions.specs.Prog.{Ans, no, yes, also, again, Rule, Act, silent-at, at-end, immediate, immediate-next, add-expected, bump, bump-name, bump-argument, emit, emit-unclosed, less, Prog, ret, act, _⨟_, case, in-marker, loop, chain, brace, open-call}
 use Rattle.definitions.specs.Grammar.{grammar}
 use Rattle.definitions.specs.Run.{is-again, by-shape}
-use Rattle.laws.proofs.Trivia.{cond-all}
+use Rattle.basics.proofs.Tests.{cond-all}
 use Rattle.machine.specs.Machine.{Machine, Marker, rest, with-pending, with-refusal, passed, skip, peek, took, range-at, refuse, expect-code, push-row, push, complete, precede, bump-first, name-run, name-first, write-report}
 use Rattle.machine.specs.Machine as M
 use Rattle.machine.specs.Walk.{Walked, said, at-depth, argument, unlabelled, perform, choose, marker, close, closed, goes-on, iter, link, links, chained, walk, walk-rule}

@@ -15,7 +15,8 @@ use Rattle.definitions.specs.Skeleton.{Span, Report}
 use Rattle.definitions.specs.Run.{State, pool-of}
 use Rattle.definitions.specs.Report.{pool}
 use Rattle.laws.proofs.Skeleton.{pool-append}
-use Rattle.machine.specs.Machine.{Buffer, Machine, Marker, low, with-events, with-reports, refuse, fits, push-row, push, put-start, complete, put-link, precede, report-row, write-report}
+use Rattle.basics.specs.Word.{low}
+use Rattle.machine.specs.Machine.{Buffer, Machine, Marker, with-events, with-reports, refuse, fits, push-row, push, put-start, complete, put-link, precede, report-row, write-report}
 use Rattle.machine.specs.Outcome.{onto}
 use Rattle.machine.proofs.Buffers.{length-onto, sets-behind, sets-onto}
 use Rattle.machine.proofs.Coded.{low-rows, low-rows-append}

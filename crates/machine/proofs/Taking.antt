@@ -15,7 +15,8 @@ use Rattle.definitions.specs.Run.{State, mark-of, answer, makes, taken, peeked,
 use Rattle.definitions.specs.Report.{exceeded, Fit, stops, scan, pushes, reports}
 use Rattle.definitions.specs.Call.{forward-mark}
 use Rattle.laws.proofs.Scan.{and-then, scan-append}
-use Rattle.machine.specs.Machine.{Machine, low, rest, peek, took, refuse, expect-code, with-pending, push, bump-first, name-run, name-first}
+use Rattle.basics.specs.Word.{low}
+use Rattle.machine.specs.Machine.{Machine, rest, peek, took, refuse, expect-code, with-pending, push, bump-first, name-run, name-first}
 use Rattle.machine.specs.Machine as M
 use Rattle.machine.specs.Walk.{Walked, said}
 use Rattle.machine.specs.Outcome.{Refused}

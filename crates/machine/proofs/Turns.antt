@@ -8,6 +8,9 @@ use native.Mathlib.Omega.{arith}
 use lib.Dec.{ltb, eqb}
 use lib.ListN.{length, drop, length-drop}
 use borrow.Author.Tests.{ltb-true, lt-ltb}
+use Rattle.basics.proofs.Tests.{cond-all}
+use Rattle.basics.proofs.TokenRows.{tokens-length}
+use Rattle.definitions.specs.Layout.{TOKEN-ROW, TWO-TO-64}
 use Rattle.definitions.specs.TokenKind as K
 use Rattle.definitions.specs.Token.{Token, tokens-of, trivia, ended, first-in}
 use Rattle.definitions.specs.Skeleton.{Span}
@@ -21,28 +24,18 @@ use Rattle.machine.specs.Walk.{Walked, said, at-depth, argument, goes-on
 abbrev pub ahead : List Token → Machine → ℕ
 ahead ts m = length (rest ts m)
 
-pub rows-length : (tk : List ℕ) → length (tokens-of tk) ≡ length tk / 2
-unfolding tokens-of
-rows-length [] = refl
-rows-length (k ∷ []) = refl
-rows-length (k ∷ n ∷ l) = ap suc (rows-length l) ∙ omega arith
-
 -- as the code counts them
-pub ahead-is : (tk : List ℕ) (m : Machine) → ahead (tokens-of tk) m ≡ length tk / 2 - m .cursor
-ahead-is tk m = length-drop (m .cursor) (tokens-of tk) ∙ ap (λ (n : ℕ). n - m .cursor) (rows-length tk)
+pub ahead-is : (tk : List ℕ) (m : Machine) → ahead (tokens-of tk) m ≡ length tk / TOKEN-ROW - m .cursor
+ahead-is tk m = length-drop (m .cursor) (tokens-of tk) ∙ ap (λ (n : ℕ). n - m .cursor) (tokens-length tk)
 
 -- no more tokens than a cursor can pass
 abbrev pub Few : List Token → Type 0
 Few ts = length ts ≤ PAST-THE-END
 
-pub few-rows : (tk : List ℕ) → length tk < 18446744073709551616 → Few (tokens-of tk)
-few-rows tk h = omega (arith, rows-length tk, h)
+pub few-rows : (tk : List ℕ) → length tk < TWO-TO-64 → Few (tokens-of tk)
+few-rows tk h = omega (arith, tokens-length tk, h)
 
 -- ---------------------------------------------------------------- what moves the cursor, and no move goes back
-
-pub either : (P : Machine → Type 0) (b : Bool) {x y : Machine} → P x → P y → P (cond b x y)
-either P true h k = h
-either P false h k = k
 
 pub onward : (ts : List Token) (m m′ : Machine) → m .cursor ≤ m′ .cursor → ahead ts m′ ≤ ahead ts m
 onward ts m m′ h = omega (arith, length-drop (m .cursor) ts, length-drop (m′ .cursor) ts)
@@ -50,7 +43,7 @@ onward ts m m′ h = omega (arith, length-drop (m .cursor) ts, length-drop (m′
 skip-on : (l : List Token) (m : Machine) → m .cursor ≤ skip l m .cursor
 unfolding skip
 skip-on [] m = omega arith
-skip-on (t ∷ l) m = either (λ x. m .cursor ≤ x .cursor) (trivia t) (omega (arith, skip-on l (passed t m))) (omega arith)
+skip-on (t ∷ l) m = cond-all (λ (x : Machine). m .cursor ≤ x .cursor) (trivia t) (omega (arith, skip-on l (passed t m))) (omega arith)
 
 pub peek-ahead : (ts : List Token) (m : Machine) → ahead ts (peek ts m) ≤ ahead ts m
 unfolding peek
@@ -63,11 +56,11 @@ refuse-ahead ts n m h = omega (arith, length-drop PAST-THE-END ts, h)
 pub row-ahead : (ts : List Token) (tag value : ℕ) (m : Machine) → Few ts → ahead ts (push-row tag value m) ≤ ahead ts m
 unfolding push-row
 row-ahead ts tag value m h =
-    either (λ x. ahead ts x ≤ ahead ts m) (fits (length (m .events .numbers)) (m .events .count) 3) (omega arith) (omega (arith, refuse-ahead ts 6 m h))
+    cond-all (λ (x : Machine). ahead ts x ≤ ahead ts m) (fits (length (m .events .numbers)) (m .events .count) 3) (omega arith) (omega (arith, refuse-ahead ts 6 m h))
 
 pub push-ahead : (ts : List Token) (tag value : ℕ) (m : Machine) → Few ts → ahead ts (push tag value m) ≤ ahead ts m
 unfolding push
-push-ahead ts tag value m h = either (λ x. ahead ts x ≤ ahead ts m) (eqb (m .refusal) 0) (row-ahead ts tag value m h) (omega arith)
+push-ahead ts tag value m h = cond-all (λ (x : Machine). ahead ts x ≤ ahead ts m) (eqb (m .refusal) 0) (row-ahead ts tag value m h) (omega arith)
 
 -- what is taken is passed
 first-ahead : (ts : List Token) (m : Machine) → Few ts → (l : List Token) → rest ts m ≡ l → ahead ts (bump-first l m) ≤ ahead ts m - 1

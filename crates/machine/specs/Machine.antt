@@ -1,11 +1,12 @@
 -- The literal machine: the code's state in numbers, the lent buffers whole, and what each primitive of the crate `parser` does to them.
 -- It is a device of the proofs: code is held to it function by function, and one theorem holds it to `definitions`.
-use Prim.Native.Nat.{ℕ, zero, suc, _+_, _-_, _/_, _%_}
+use Prim.Native.Nat.{ℕ, zero, suc, _+_, _-_, _/_}
 use mathlib.Core.Bool.{Bool, true, false, cond, _&&_}
 use mathlib.Core.List.{List, [], _∷_, _++_}
 use lib.Dec.{ltb, leb, eqb}
 use lib.ListN.{length, drop}
 use lib.Seq.{sets}
+use Rattle.basics.specs.Word.{low}
 use Rattle.definitions.specs.Layout.{EVENT-ROW, REPORT-ROW, PLACEHOLDER, ADD-TOKEN, ADD-COMBINED-TOKEN, FINISH-NODE, ERROR, TOO-DEEP, NO-EVENT-ROOM, NO-REPORT-ROOM, MOST-PENDING}
 use Rattle.definitions.specs.Token.{Token, seen, trivia, one-of}
 use Rattle.definitions.specs.Skeleton.{Span}
@@ -29,10 +30,6 @@ pub record Machine : Type 0 where
   pub pool : Buffer
   pub refusal : ℕ
   pub place : ℕ
-
--- sums of byte places wrap at 32 bits, and so do the numbers of a row; within cause 2's limits nothing wraps
-abbrev pub low : ℕ → ℕ
-low x = x % 4294967296
 
 -- the raw tokens from the cursor on
 abbrev pub rest : List Token → Machine → List Token

@@ -5,7 +5,7 @@ use mathlib.Core.Path.{_≡_}
 use mathlib.Core.Bool.{false}
 use mathlib.Core.List.{List, [], _∷_, _++_}
 use lib.ListN.{length, drop}
-use Rattle.definitions.specs.Layout.{EVENT-ROW, REPORT-ROW, MOST-OPEN-CALLS}
+use Rattle.definitions.specs.Layout.{EVENT-ROW, REPORT-ROW, TWO-TO-32, MOST-OPEN-CALLS}
 use Rattle.definitions.specs.Token.{Token, tokens-of, bytes}
 use Rattle.definitions.specs.Skeleton.{Skeleton}
 use Rattle.definitions.specs.Event.{events}
@@ -25,13 +25,13 @@ Filled (t ∷ ts) = (1 ≤ t .len) × Filled ts
 -- what is asked of the tokens: causes 2 and 3 leave more
 pub record Limits (ts : List Token) : Type 0 where
   pub few : length ts ≤ 65536
-  pub short : bytes ts < 4294967296
+  pub short : bytes ts < TWO-TO-32
   pub filled : Filled ts
 
 -- what is asked of a skeleton: its numbers fit 32 bits
 pub record Small (o : Skeleton) : Type 0 where
-  pub events-fit : length (events false o) < 4294967296
-  pub pool-fits : length (pool (reports (pushes o))) < 4294967296
+  pub events-fit : length (events false o) < TWO-TO-32
+  pub pool-fits : length (pool (reports (pushes o))) < TWO-TO-32
 
 -- nothing written yet
 abbrev pub unwritten : List ℕ → Buffer

@@ -14,7 +14,8 @@ use Rattle.definitions.specs.Skeleton.{Label, Skeleton, done, token, name, node
 use Rattle.definitions.specs.Run.{State, Out, mark-of, peeked, answer, makes, taken, do-bump, do-name, add, at-depth, do-argument, do-emit, over-unless, do-expected, perform, closed, exec, run}
 use Rattle.definitions.specs.Place.{after}
 use Rattle.definitions.specs.Report.{pushes}
-use Rattle.laws.proofs.Trivia.{cond-all, drop-twice, passes-none}
+use Rattle.basics.proofs.Tests.{cond-all}
+use Rattle.laws.proofs.Trivia.{drop-twice, passes-none}
 use Rattle.laws.proofs.Kept.{Stands, run-kept, exec-kept}
 use Rattle.laws.proofs.Between.{Taking, reads-kept}
 use Rattle.laws.proofs.Clear.{Clear}

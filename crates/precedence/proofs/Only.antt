@@ -7,7 +7,7 @@ use lib.ListN.{length}
 use Rattle.definitions.specs.Prog.{Ans, no, yes, also, again, Rule, Act, Prog, ret, act, _⨟_, case, in-marker, loop, chain, brace, open-call}
 use Rattle.definitions.specs.Skeleton.{Label, Skeleton, done, _⧺_}
 use Rattle.definitions.specs.Run.{State, Out, mark-of, answer, makes, add, perform, choose, closed, marked, is-again, goes-on, iter, unlinked, by-shape, links, chained, here, exec}
-use Rattle.laws.proofs.Trivia.{cond-all, and-left, and-right}
+use Rattle.basics.proofs.Tests.{cond-all, and-left, and-right}
 use Rattle.laws.proofs.Kept.{Stands}
 
 -- every marker of the program is ignored or completed as a kind of which f holds

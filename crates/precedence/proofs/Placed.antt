@@ -15,17 +15,12 @@ use Rattle.definitions.specs.Report.{Push, event, reported, exceeded, pushes}
 use Rattle.definitions.specs.Call.{run-entry}
 use Rattle.laws.proofs.Marks.{Falls, entry-marks}
 use Rattle.laws.proofs.Tree.{leaves}
-use Rattle.laws.proofs.Placed.{lead-whole}
+use Rattle.laws.proofs.Placed.{lead-whole, front-whole}
 use Rattle.laws.proofs.Clear.{Clear}
 use Rattle.precedence.proofs.Cell.{CellOf}
 use Rattle.precedence.proofs.Cells.{Cells}
 use Rattle.precedence.proofs.Everywhere.{entry-cells}
 use Rattle.precedence.proofs.Settle.{Settled, settle-cell, Each, each-then, each-lead, each-front, each-branch, place-then}
-
-front-whole : (ts : List Token) → leaves (front ts) ++ past ts ≡ ts
-unfolding front leaves
-front-whole [] = refl
-front-whole (t ∷ ts) = refl
 
 drop-take : (n : ℕ) (l : List Token) → drop (length (take n l)) l ≡ drop n l
 drop-take zero l = refl

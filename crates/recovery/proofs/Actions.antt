@@ -15,7 +15,8 @@ use Rattle.definitions.specs.Skeleton.{Label, no-label, Skeleton, done, token}
 use Rattle.definitions.specs.Run.{State, Out, mark-of, peeked, truth, answer, makes, taken, do-bump, do-name, add, at-depth, do-argument, do-emit, over-unless, do-expected, perform}
 use Rattle.definitions.specs.Place.{Tree, nil, leaf, _⊕_, lead, front, after, place}
 use Rattle.definitions.specs.Report.{pushes, reports}
-use Rattle.laws.proofs.Trivia.{and-left, and-right, cond-all, drop-twice, drop-trivia-length, passes-drop}
+use Rattle.basics.proofs.Tests.{and-left, and-right, cond-all}
+use Rattle.laws.proofs.Trivia.{drop-twice, drop-trivia-length, passes-drop}
 use Rattle.recovery.proofs.Analysis.{low, high, Known, idle, know, ends, Post, any-answer, act-surely}
 use Rattle.recovery.proofs.Meaning.{ends-in, Quiet, quiet-beside, Sealed, OfRank, Head, Holds, Ends}
 use Rattle.recovery.proofs.Going.{At}

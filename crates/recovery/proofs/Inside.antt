@@ -15,7 +15,7 @@ use Rattle.definitions.specs.Skeleton.{Span, Label, no-label, label, Report, Sk
 use Rattle.definitions.specs.Run.{State, Out, mark-of, peeked, answer, makes, taken, do-bump, do-name, add, at-depth, do-argument, only-separators, error-range, do-emit, over-unless, do-expected, perform, closed, marked, unlinked, here, exec, run}
 use Rattle.definitions.specs.Report.{pushes, reports}
 use Rattle.definitions.specs.Call.{run-entry}
-use Rattle.laws.proofs.Trivia.{cond-all}
+use Rattle.basics.proofs.Tests.{cond-all}
 use Rattle.laws.proofs.Skeleton.{bytes-append}
 use Rattle.laws.proofs.Engine.{Composes, choose-all, iter-all, chained-all}
 use Rattle.laws.proofs.Kept.{Stands, stands-taken, Kept, run-kept, exec-kept}

@@ -13,7 +13,7 @@ use Rattle.definitions.specs.Prog.{Ans}
 use Rattle.definitions.specs.Skeleton.{Skeleton, done, _⧺_}
 use Rattle.definitions.specs.Run.{State, mark-of, taken}
 use Rattle.definitions.specs.Place.{Tree, nil, leaf, subtree, _⊕_, after, place}
-use Rattle.laws.proofs.Trivia.{and-left, and-right}
+use Rattle.basics.proofs.Tests.{and-left, and-right}
 use Rattle.laws.proofs.Skeleton.{join-done, after-join}
 use Rattle.laws.proofs.Tree.{beside-assoc, place-join}
 use Rattle.laws.proofs.Marks.{stands-within}

@@ -12,7 +12,9 @@ use Rattle.definitions.specs.Grammar.{grammar, sourcefile-turn, left-over}
 use Rattle.definitions.specs.Skeleton.{Label, no-label, Skeleton, done, _⧺_}
 use Rattle.definitions.specs.Run.{State, Out, mark-of, answer, makes, add, choose, closed, marked, is-again, goes-on, iter, unlinked, by-shape, links, chained, here, exec, run}
 use Rattle.definitions.specs.Place.{after, place}
-use Rattle.laws.proofs.Trivia.{and-left, and-right, cond-all, cond-with, drop-twice}
+use Rattle.basics.proofs.Tests.{and-left, and-right, cond-all, cond-with}
+use Rattle.laws.proofs.Trivia.{drop-twice}
+use Rattle.laws.proofs.Sound.{is-again-eq}
 use Rattle.laws.proofs.Skeleton.{join-done, join-assoc}
 use Rattle.recovery.proofs.Analysis.{Rank, low, mid, high, Known, idle, know, _▷_, around, fits, Post, claim, pick, plain-kind, dull, surely, up-to, item-surely, turn-surely, left-over-surely}
 use Rattle.recovery.proofs.Going.{Goes, goes-nowhere, goes-then, exec-goes, At, at-after}
@@ -64,13 +66,6 @@ chained-shape f s o = cond-all (λ (x : Out). x .shape ≡ 0) (is-again (o .ans)
 -- what is wanted of a turn, where J is known of what stands before it
 abbrev Turn : Post → Known → Post
 Turn P J k x e = cond (is-again x) (fits (J ▷ e) J) (P 0 x (J ▷ e))
-
-is-again-eq : (a : Ans) → is-again a ≡ true → a ≡ again
-unfolding is-again
-is-again-eq no e = absurd (false≢true e)
-is-again-eq yes e = absurd (false≢true e)
-is-again-eq also e = absurd (false≢true e)
-is-again-eq again e = refl
 
 cond-true : (b x y : Bool) → cond b x y ≡ true → b ≡ true → x ≡ true
 cond-true true x y e h = e

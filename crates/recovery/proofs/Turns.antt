@@ -16,7 +16,7 @@ use Rattle.definitions.specs.Skeleton.{no-label, Skeleton, done, _⧺_}
 use Rattle.definitions.specs.Run.{State, Out, mark-of, peeked, answer, makes, taken, add, perform, choose, is-again, goes-on, iter, exec, run}
 use Rattle.definitions.specs.Place.{Tree, nil, leaf, subtree, _⊕_, lead, after, place}
 use Rattle.definitions.specs.Call.{run-entry}
-use Rattle.laws.proofs.Trivia.{cond-with}
+use Rattle.basics.proofs.Tests.{cond-with}
 use Rattle.laws.proofs.Skeleton.{join-assoc, after-join}
 use Rattle.laws.proofs.Tree.{beside-assoc, place-join}
 use Rattle.laws.proofs.Kept.{stands-taken}

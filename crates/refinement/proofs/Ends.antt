@@ -18,7 +18,7 @@ use Rattle.definitions.specs.Refusal.{Refusal, unknown-entry, too-long, bad-row
 use Rattle.definitions.specs.Grammar.{Entry, root-kind}
 use Rattle.definitions.specs.Call.{Buffers, Answer, Result, refusal, cleared, Sheets, sheets, kept, finish, forward-mark, outcome, room-of, run-entry, parse}
 use Rattle.laws.proofs.Input.{Checked, checked-input}
-use Rattle.laws.proofs.Trivia.{and-left, and-right}
+use Rattle.basics.proofs.Tests.{and-left, and-right}
 use Rattle.laws.proofs.Decode.{rows-length}
 use Rattle.laws.proofs.LexicalErrors.{errors-length}
 use Rattle.bounds.proofs.Numbers.{bounded}

@@ -12,7 +12,7 @@ use Rattle.definitions.specs.Skeleton.{Label, no-label, Skeleton, done, token, 
 use Rattle.definitions.specs.Run.{State, Out, mark-of, peeked, answer, makes, taken, do-bump, do-name, add, at-depth, do-argument, do-emit, over-unless, do-expected, perform, closed, marked, unlinked, run}
 use Rattle.definitions.specs.Grammar.{Entry, whole}
 use Rattle.definitions.specs.Call.{run-entry}
-use Rattle.laws.proofs.Trivia.{cond-all}
+use Rattle.basics.proofs.Tests.{cond-all}
 use Rattle.laws.proofs.Engine.{Composes, Steady, exec-all, run-all}
 use Rattle.sink.specs.Encode.{Alone, Chained}
 use Rattle.sink.proofs.Encode.{chained-join}

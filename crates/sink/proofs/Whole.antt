@@ -13,7 +13,7 @@ use Rattle.definitions.specs.Skeleton.{Skeleton}
 use Rattle.definitions.specs.Refusal.{no-tree-room, number-of}
 use Rattle.definitions.specs.Place.{nil, subtree, _⊕_, lead, after, place, root, count, rows, tree-row, lexical-errors}
 use Rattle.laws.specs.Lossless.{errors-in}
-use Rattle.laws.proofs.Trivia.{and-left, and-right}
+use Rattle.basics.proofs.Tests.{and-left, and-right}
 use Rattle.sink.specs.declared.Sunk.{Sunk}
 use Rattle.sink.specs.declared.Sunk.the-variants.{Written, NoRoom}
 use Rattle.sink.specs.Answer.{number}

@@ -7,7 +7,8 @@ use mathlib.Core.List.{List, [], _∷_}
 use lib.ListN.{length, drop}
 use lib.Seq.{drop-nil}
 use Rattle.definitions.specs.Token.{Token, trivia, drop-trivia, past}
-use Rattle.laws.proofs.Trivia.{cond-all, drop-trivia-length}
+use Rattle.basics.proofs.Tests.{cond-all}
+use Rattle.laws.proofs.Trivia.{drop-trivia-length}
 use Rattle.machine.specs.Machine.{Machine, passed, skip, peek}
 use Rattle.token_rows.specs.Tokens.{kind-of}
 use Rattle.parser.specs.View.{take-first}

@@ -1,2 +1,2 @@
 -- What the proofs of the functions share; the parser's proofs cite it too.
-pub mod Kit
+pub mod Seen

@@ -2,12 +2,17 @@
 use Prim.Native.Nat.{ℕ}
 use mathlib.Core.Bool.{Bool, false}
 use mathlib.Core.List.{List, [], _∷_}
+use Rattle.definitions.specs.LexError as L
 use Rattle.definitions.specs.Token.{Token, seen, trivia}
 
--- what a test sees of the first of some tokens; 64 at the end
+-- what a test sees past the last token: an error token is seen as Unrecognized, so that no token is seen as this
+abbrev pub END : ℕ
+END = L.UnexpectedEndIncbin
+
+-- what a test sees of the first of some tokens
 unfoldable pub kind-of : List Token → ℕ
 unfolding seen
-kind-of [] = 64
+kind-of [] = END
 kind-of (t ∷ ts) = seen t
 
 -- whether the first of some tokens is trivia

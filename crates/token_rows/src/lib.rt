@@ -1,3 +1,3 @@
-// What the parser reads of token rows, and the room in a buffer: plain functions under crates/parser.
-pub mod room;
+// What the parser reads of token rows, and whether numbers fit a lent buffer: plain functions under crates/parser.
+pub mod fit;
 pub mod token;

@@ -1,25 +1,30 @@
 // source.rs, the token rows: the kind of a row as a test sees it, the rows that are trivia, where a row ends.
+use layout::row::TOKEN_LENGTH;
+use layout::row::TOKEN_ROW;
+use layout::row_kind::is_trivia;
 use layout::token_kind;
+use layout::token_kind::FIRST_LEX_ERROR;
+use layout::word;
 ghost use mathlib.Core.Path.{_≡_};
-ghost use mathlib.Core.Bool.{true, false, _||_};
+ghost use mathlib.Core.Bool.{true};
 ghost use mathlib.Core.List.{[], _∷_};
 ghost use Prim.Native.Nat.{_/_, _≤_, _<_};
 ghost use lib.ListN.{length, drop};
-ghost use lib.Dec.{eqb};
+ghost use Rattle.definitions.specs.Layout.{TOKEN-ROW};
 ghost use Rattle.definitions.specs.Token.{tokens-of, one-of, first-in, past};
 ghost use Rattle.machine.specs.Machine.{Machine, with-cursor, skip, range-at};
-ghost use Rattle.token_rows.specs.Tokens.{kind-of, trivia-first};
+ghost use Rattle.token_rows.specs.Tokens.{END as seen-at-end, kind-of, trivia-first};
 
-// What is seen past the last token. Every token is seen as a kind below it.
-pub const END: u8 = 64;
+// What is seen past the last token. An error token is seen as Unrecognized, so that no token is seen as this.
+pub const END: u8 = FIRST_LEX_ERROR as u8;
 
 // Whether a kind is in the set.
-pub fn one_of(set: &[u8], k: u8) -> bool
-    ensures { λ r. ⌜ r ≡ one-of (now (set .entry)) k ⌝ }
+pub fn one_of(set: &[u8], kind: u8) -> bool
+    ensures { λ r. ⌜ r ≡ one-of (now (set .entry)) kind ⌝ }
 {
     let mut i: usize = 0;
     while i < set.len() {
-        let same = set[i] == k;
+        let same = set[i] == kind;
         if same {
             return true;
         }
@@ -29,87 +34,75 @@ pub fn one_of(set: &[u8], k: u8) -> bool
 }
 
 // The kind of a row as a test sees it: an error token is Unrecognized.
-pub fn kind_at(t: &[u32], at: usize) -> u8
-    ensures { λ r. ⌜ r ≡ kind-of (drop at (tokens-of (now (t .entry)))) ⌝ }
-    ensures { λ r. ⌜ ((r ≡ 64 → ⊥) → at < length (now (t .entry)) / 2) ⌝ }
+pub fn kind_at(tokens: &[u32], at: usize) -> u8
+    ensures { λ r. ⌜ r ≡ kind-of (drop at (tokens-of (now (tokens .entry)))) ⌝ }
+    ensures { λ r. ⌜ ((r ≡ seen-at-end → ⊥) → at < length (now (tokens .entry)) / TOKEN-ROW) ⌝ }
 {
-    let inside = at < t.len() / 2;
+    let inside = at < tokens.len() / TOKEN_ROW;
     if inside {
-        let k = t[at * 2];
-        let plain = k < 64;
-        if plain { k as u8 } else { token_kind::UNRECOGNIZED }
+        let kind = tokens[at * TOKEN_ROW];
+        let plain = kind < FIRST_LEX_ERROR;
+        if plain { kind as u8 } else { token_kind::UNRECOGNIZED }
     } else {
         END
     }
 }
 
-// Whether the row is of kind k.
-pub fn is_at(t: &[u32], at: usize, k: u8) -> bool
-    ensures { λ r. ⌜ r ≡ first-in (k ∷ []) (drop at (tokens-of (now (t .entry)))) ⌝ }
-    ensures { λ r. ⌜ (r ≡ true → at < length (now (t .entry)) / 2) ⌝ }
+// Whether the row is of this kind.
+pub fn is_at(tokens: &[u32], at: usize, kind: u8) -> bool
+    ensures { λ r. ⌜ r ≡ first-in (kind ∷ []) (drop at (tokens-of (now (tokens .entry)))) ⌝ }
+    ensures { λ r. ⌜ (r ≡ true → at < length (now (tokens .entry)) / TOKEN-ROW) ⌝ }
 {
-    let inside = at < t.len() / 2;
+    let inside = at < tokens.len() / TOKEN_ROW;
     if inside {
-        let here = kind_at(t, at);
-        k == here
+        let here = kind_at(tokens, at);
+        kind == here
     } else {
         false
     }
 }
 
 // Whether the row is of a kind in the set.
-pub fn is_one_of_at(t: &[u32], at: usize, set: &[u8]) -> bool
-    ensures { λ r. ⌜ r ≡ first-in (now (set .entry)) (drop at (tokens-of (now (t .entry)))) ⌝ }
-    ensures { λ r. ⌜ (r ≡ true → at < length (now (t .entry)) / 2) ⌝ }
+pub fn is_one_of_at(tokens: &[u32], at: usize, set: &[u8]) -> bool
+    ensures { λ r. ⌜ r ≡ first-in (now (set .entry)) (drop at (tokens-of (now (tokens .entry)))) ⌝ }
+    ensures { λ r. ⌜ (r ≡ true → at < length (now (tokens .entry)) / TOKEN-ROW) ⌝ }
 {
-    let inside = at < t.len() / 2;
+    let inside = at < tokens.len() / TOKEN_ROW;
     if inside {
-        let here = kind_at(t, at);
+        let here = kind_at(tokens, at);
         one_of(set, here)
     } else {
         false
     }
 }
 
-// Whether the row after this one is of kind k.
-pub fn is_next_at(t: &[u32], at: usize, k: u8) -> bool
-    ensures { λ r. ⌜ r ≡ first-in (k ∷ []) (past (drop at (tokens-of (now (t .entry))))) ⌝ }
+// Whether the row after this one is of this kind.
+pub fn is_next_at(tokens: &[u32], at: usize, kind: u8) -> bool
+    ensures { λ r. ⌜ r ≡ first-in (kind ∷ []) (past (drop at (tokens-of (now (tokens .entry))))) ⌝ }
 {
-    let inside = at < t.len() / 2;
-    if inside { is_at(t, at + 1, k) } else { false }
+    let inside = at < tokens.len() / TOKEN_ROW;
+    if inside { is_at(tokens, at + 1, kind) } else { false }
 }
 
 // Where the row that starts at this byte ends.
-pub fn end_at(t: &[u32], at: usize, start: u32) -> u32
-    ensures { λ r. ⌜ ((m : Machine) → m .byte ≡ start → r ≡ range-at (drop at (tokens-of (now (t .entry)))) m .to) ⌝ }
+pub fn end_at(tokens: &[u32], at: usize, start: u32) -> u32
+    ensures { λ r. ⌜ ((m : Machine) → m .byte ≡ start → r ≡ range-at (drop at (tokens-of (now (tokens .entry)))) m .to) ⌝ }
 {
-    let inside = at < t.len() / 2;
+    let inside = at < tokens.len() / TOKEN_ROW;
     if inside {
-        std::num::wrapping_add_u32(start, t[at * 2 + 1])
+        word::add(start, tokens[at * TOKEN_ROW + TOKEN_LENGTH])
     } else {
         start
     }
 }
 
 // `is_trivia` of the row's kind.
-fn is_trivia_at(t: &[u32], at: usize) -> bool
-    ensures { λ r. ⌜ r ≡ trivia-first (drop at (tokens-of (now (t .entry)))) ⌝ }
-    ensures { λ r. ⌜ (r ≡ true → at < length (now (t .entry)) / 2) ⌝ }
+fn is_trivia_at(tokens: &[u32], at: usize) -> bool
+    ensures { λ r. ⌜ r ≡ trivia-first (drop at (tokens-of (now (tokens .entry)))) ⌝ }
+    ensures { λ r. ⌜ (r ≡ true → at < length (now (tokens .entry)) / TOKEN-ROW) ⌝ }
 {
-    let inside = at < t.len() / 2;
-    if inside { is_trivia(t[at * 2]) } else { false }
-}
-
-fn is_trivia(k: u32) -> bool
-    ensures { λ r. ⌜ r ≡ (eqb k 0 || eqb k 3 || eqb k 1) ⌝ }
-{
-    let blank = k == 0;
-    if blank {
-        true
-    } else {
-        let line = k == 3;
-        if line { true } else { k == 1 }
-    }
+    let inside = at < tokens.len() / TOKEN_ROW;
+    if inside { is_trivia(tokens[at * TOKEN_ROW]) } else { false }
 }
 
 // A row and its first byte.
@@ -118,15 +111,16 @@ pub struct Seat {
     pub byte: u32,
 }
 
-// The first row from here on that is no trivia.
-pub fn skip_trivia(t: &[u32], from: usize, start: u32) -> Seat
-    ensures { λ r. ⌜ ((m : Machine) → with-cursor (r .at) (r .byte) m ≡ skip (drop from (tokens-of (now (t .entry)))) (with-cursor from start m)) ⌝ }
+// The first row from here on that is not trivia.
+pub fn skip_trivia(tokens: &[u32], from: usize, start: u32) -> Seat
+    ensures { λ r. ⌜ ((m : Machine) → with-cursor (r .at) (r .byte) m
+        ≡ skip (drop from (tokens-of (now (tokens .entry)))) (with-cursor from start m)) ⌝ }
     ensures { λ r. ⌜ from ≤ r .at ⌝ }
 {
     let mut at = from;
     let mut byte = start;
-    while is_trivia_at(t, at) {
-        byte = end_at(t, at, byte);
+    while is_trivia_at(tokens, at) {
+        byte = end_at(tokens, at, byte);
         at += 1;
     }
     Seat { at: at, byte: byte }

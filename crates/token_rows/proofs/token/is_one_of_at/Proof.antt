@@ -1,6 +1,7 @@
 -- `is_one_of_at`: the kind of the row, looked up.
-use Rattle.token_rows.proofs.Kit.{flags, true-false, is-one-of-rows, first-past-rows}
-use mathlib.Core.Path.{sym}
+use Rattle.basics.proofs.Flags.{flags}
+use mathlib.Core.Bool.{false≢true}
+use Rattle.token_rows.proofs.Seen.{is-one-of-rows, first-past-rows}
 use Rattle.token_rows.proofs.token.is_one_of_at.Statement.{statement}
 use Rattle.token_rows.proofs.token.is_one_of_at.Tie as tie
 
@@ -13,7 +14,7 @@ one-of-requires c κs = tt
 returns : tie.Need-returns
 returns c =
     let args = c .before .before .before .before .before .args in
-    let tk = args .t .now in
+    let tk = args .tokens .now in
     let set₀ = args .set .now in
     let kind-at = c .before .kind-at in
     let one-of = c .one-of in
@@ -22,9 +23,9 @@ returns c =
 returns-2 : tie.Need-returns-2
 returns-2 c =
     let args = c .before .before .before .args in
-    let tk = args .t .now in
+    let tk = args .tokens .now in
     let set₀ = args .set .now in
-    (first-past-rows set₀ tk (args .at) (omega flags), λ e. absurd (true-false (sym e)))
+    (first-past-rows set₀ tk (args .at) (omega flags), λ e. absurd (false≢true e))
 
 pub is-one-of-at-spec : {M : Type 1} → statement M
 is-one-of-at-spec = tie.close (tie.spec kind-at-requires one-of-requires returns returns-2)

@@ -1,6 +1,7 @@
 -- `is_trivia_at`: the row's kind.
-use Rattle.token_rows.proofs.Kit.{flags, true-false, trivia-in, trivia-past}
-use mathlib.Core.Path.{sym}
+use Rattle.basics.proofs.Flags.{flags}
+use mathlib.Core.Bool.{false≢true}
+use Rattle.token_rows.proofs.Seen.{trivia-in, trivia-past}
 use Rattle.token_rows.proofs.token.is_trivia_at.Statement.{statement}
 use Rattle.token_rows.proofs.token.is_trivia_at.Tie as tie
 
@@ -19,15 +20,15 @@ is-trivia-requires c κs = tt
 returns : tie.Need-returns
 returns c =
     let args = c .before .before .before .before .args in
-    let tk = args .t .now in
+    let tk = args .tokens .now in
     let is-trivia = c .is-trivia in
     (trivia-in tk (args .at) _ (omega flags) (is-trivia .ensures), λ e. omega flags)
 
 returns-2 : tie.Need-returns-2
 returns-2 c =
     let args = c .before .before .args in
-    let tk = args .t .now in
-    (trivia-past tk (args .at) (omega flags), λ e. absurd (true-false (sym e)))
+    let tk = args .tokens .now in
+    (trivia-past tk (args .at) (omega flags), λ e. absurd (false≢true e))
 
 pub is-trivia-at-spec : {M : Type 1} → statement M
 is-trivia-at-spec =

@@ -1,20 +1,22 @@
 -- `skip_trivia`: what is skipped from here is what is skipped from the start.
-use Rattle.token_rows.proofs.Kit.{flags, skip-more, skip-done}
+use Rattle.basics.proofs.Flags.{flags}
+use Rattle.token_rows.proofs.Seen.{skip-more, skip-done}
 use Prim.Native.Nat.{_-_, _/_, _≤_}
 use mathlib.Core.Path.{_≡_, refl, sym, _∙_}
 use lib.ListN.{length, drop}
+use Rattle.definitions.specs.Layout.{TOKEN-ROW}
 use Rattle.definitions.specs.Token.{tokens-of}
 use Rattle.machine.specs.Machine.{Machine, with-cursor, skip}
 use Rattle.token_rows.proofs.token.skip_trivia.Statement.{statement}
 use Rattle.token_rows.proofs.token.skip_trivia.Tie as tie
 
 abbrev Inv-loop : tie.InvT-loop
-Inv-loop t from start at₀ byte₀ at byte =
-    ((m : Machine) → skip (drop at (tokens-of t)) (with-cursor at byte m) ≡ skip (drop from (tokens-of t)) (with-cursor from start m))
+Inv-loop tokens from start at₀ byte₀ at byte =
+    ((m : Machine) → skip (drop at (tokens-of tokens)) (with-cursor at byte m) ≡ skip (drop from (tokens-of tokens)) (with-cursor from start m))
     × (from ≤ at)
 
 abbrev μ-loop : tie.MeasureT-loop
-μ-loop t from start at₀ byte₀ at byte = length t / 2 - at
+μ-loop tokens from start at₀ byte₀ at byte = length tokens / TOKEN-ROW - at
 
 loop-holds : tie.Need-loop-holds Inv-loop μ-loop
 loop-holds c = (λ m. refl, omega flags)
@@ -34,7 +36,7 @@ loop-less c = omega (flags, c .before .before .is-trivia-at .ensures .1 (c .befo
 loop-again : tie.Need-loop-again Inv-loop μ-loop
 loop-again c =
     let args = c .before .before .before .before .before .args in
-    let tk = args .t .now in
+    let tk = args .tokens .now in
     let loop = c .before .before .before .loop in
     let is-trivia-at = c .before .before .is-trivia-at in
     let if1 = c .before .if1 in

@@ -1,0 +1,2 @@
+-- What the contracts of several crates cite beside `definitions`.
+pub mod Word

@@ -1,0 +1,1 @@
+// What the proofs of all crates share: see proofs/. There is no code here.
