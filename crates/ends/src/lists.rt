@@ -54,7 +54,7 @@ pub fn at_cells_end(s: State, codes: &mut [u8; 256], tokens: &[u32], until_end: 
     ensures { λ r. ⌜ ((ask : Rule → Machine → Walked) (b : Span) (events reports pool : List ℕ) → state-tested r (now (codes .exit)) events reports pool ≡ walk ask (tokens-of (now (tokens .entry))) b (cells-end «until_end») (view s (now (codes .entry)) events reports pool)) ⌝ }
     ensures { λ r. ⌜ left (now (tokens .entry)) (r .s) ≤ left (now (tokens .entry)) s ⌝ }
 {
-    if at_end {
+    if until_end {
         let q = s.add_expected(codes, expected::END);
         q.at_end(tokens)
     } else {

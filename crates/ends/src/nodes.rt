@@ -31,7 +31,7 @@ ghost use Rattle.parser.specs.View.{view-of, parser-tested, left, marker-of, an
 ghost use Rattle.ends.specs.Subprograms.{node-end, unmatched-rcurly};
 
 // Yes or No.
-pub fn told(k: ParserTested) -> ParserAnswered
+pub fn answered(k: ParserTested) -> ParserAnswered
     ensures { λ r. ⌜ r .p ≡ k .p ⌝ }
     ensures { λ r. ⌜ ans-of (r .ans) ≡ truth (k .yes) ⌝ }
 {

@@ -19,7 +19,7 @@ ghost use Rattle.definitions.specs.Grammar.{sourcefile-part, entry-sourcefile, 
 ghost use Rattle.machine.specs.Walk.{said, walk-prog, unlabelled};
 ghost use Rattle.machine.specs.Outcome.{fresh};
 ghost use Rattle.parser.specs.View.{view-of, left};
-ghost use Rattle.grammar.specs.Parts.{entry-of};
+ghost use Rattle.grammar.specs.Subprograms.{entry-of};
 
 pub enum Entrypoint {
     SourceFile,

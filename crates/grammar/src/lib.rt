@@ -2,9 +2,10 @@
 // preprocessor_directive.rs. They are one cycle of calls and so stand in one file: tokens left, and then a rank of the
 // function, fall at each call. The parser goes in and comes back by value; `allowed` is how many more calls of `item`,
 // `propvalues` and `eat_cell` may be opened. What no call can be opened under stands in the crates below.
-// The ten functions of the Rust have its names. The names of their parts are short, since the folder of the cycle's proof
-// is named after all its members and a file's name ends at 249 bytes: `bits`, `value` and `value2` are parts of
-// `propvalues`, `cell2` of `eat_cell`, `item2` of `item`, `rest` of `eat_node_or_prop`, `arm` of `cond_branches_and_end`.
+// The ten functions of the Rust have its names, but `eat_pp_directive`. The names of their cases are short, since the
+// folder of the cycle's proof is named after all its members and a file's name ends at 249 bytes: `bits`, `value` and
+// `value_rest` are cases of `propvalues`, `cell_rest` of `eat_cell`, `item_rest` of `item`, `node` of `eat_node_or_prop`,
+// `branch` of `cond_branches_and_end`.
 pub mod entry;
 mod preprocessor_directive;
 
@@ -21,7 +22,7 @@ use names::macro_invocation;
 use names::silent_eat_reference;
 use ends::nodes::forbidden_property;
 use ends::nodes::node_end;
-use ends::nodes::told;
+use ends::nodes::answered;
 use parser::Ans;
 use parser::Parser;
 use parser::ParserTested;
@@ -57,7 +58,7 @@ ghost use Rattle.definitions.specs.Grammar.{eat-inside, branch, cond-branches-a
 ghost use Rattle.machine.specs.Walk.{said, closed, walk-rule, walk-prog, unlabelled};
 ghost use Rattle.parser.specs.View.{view-of, parser-tested, left, marker-of};
 ghost use Rattle.steps.specs.View.{parser-answered};
-ghost use Rattle.grammar.specs.Parts.{inside-of, cell-rest, value-rest, item-rest};
+ghost use Rattle.grammar.specs.Subprograms.{inside-of, cell-rest, value-rest, item-rest};
 
 // ---- cells
 
@@ -67,7 +68,7 @@ fn cells(
     events: &mut [u32],
     reports: &mut [u32],
     pool: &mut [u32],
-    room: usize,
+    allowed: usize,
     until_end: bool,
 ) -> ParserTested
     ensures { λ r. ⌜ parser-tested r (now (events .exit)) (now (reports .exit)) (now (pool .exit)) ≡ walk-prog allowed (tokens-of (now (tokens .entry))) unlabelled (cells «until_end») (view-of p (now (events .entry)) (now (reports .entry)) (now (pool .entry))) ⌝ }
@@ -100,7 +101,7 @@ fn eat_cell(
     events: &mut [u32],
     reports: &mut [u32],
     pool: &mut [u32],
-    room: usize,
+    allowed: usize,
     until_end: bool,
 ) -> ParserTested
     ensures { λ r. ⌜ parser-tested r (now (events .exit)) (now (reports .exit)) (now (pool .exit)) ≡ walk-rule allowed (tokens-of (now (tokens .entry))) (eat-cell «until_end») (view-of p (now (events .entry)) (now (reports .entry)) (now (pool .entry))) ⌝ }
@@ -121,17 +122,17 @@ fn eat_cell(
         let q = dt_expr(paren.p, tokens, events, reports, pool, allowed - 1);
         return ParserTested { p: q, yes: true };
     }
-    cell2(paren.p, tokens, events, reports, pool, allowed - 1, until_end)
+    cell_rest(paren.p, tokens, events, reports, pool, allowed - 1, until_end)
 }
 
 // The last cases of `eat_cell`.
-fn cell2(
+fn cell_rest(
     p: Parser,
     tokens: &[u32],
     events: &mut [u32],
     reports: &mut [u32],
     pool: &mut [u32],
-    room: usize,
+    allowed: usize,
     until_end: bool,
 ) -> ParserTested
     ensures { λ r. ⌜ parser-tested r (now (events .exit)) (now (reports .exit)) (now (pool .exit)) ≡ walk-prog allowed (tokens-of (now (tokens .entry))) unlabelled (cell-rest «until_end») (view-of p (now (events .entry)) (now (reports .entry)) (now (pool .entry))) ⌝ }
@@ -142,7 +143,7 @@ fn cell2(
     if include.yes {
         return include;
     }
-    let directive = eat_preprocessor_directive(
+    let directive = eat_pp_directive(
         include.p,
         tokens,
         events,
@@ -182,7 +183,7 @@ fn dt_cell_list(
     events: &mut [u32],
     reports: &mut [u32],
     pool: &mut [u32],
-    room: usize,
+    allowed: usize,
     m: Marker,
 ) -> ParserTested
     ensures { λ r. ⌜ parser-tested r (now (events .exit)) (now (reports .exit)) (now (pool .exit)) ≡ closed (marker-of m) (walk-prog allowed (tokens-of (now (tokens .entry))) unlabelled dt-cell-list (view-of p (now (events .entry)) (now (reports .entry)) (now (pool .entry)))) ⌝ }
@@ -211,7 +212,7 @@ fn propvalues(
     events: &mut [u32],
     reports: &mut [u32],
     pool: &mut [u32],
-    room: usize,
+    allowed: usize,
     semicolon: bool,
 ) -> ParserTested
     ensures { λ r. ⌜ parser-tested r (now (events .exit)) (now (reports .exit)) (now (pool .exit)) ≡ walk-rule allowed (tokens-of (now (tokens .entry))) (propvalues semicolon) (view-of p (now (events .entry)) (now (reports .entry)) (now (pool .entry))) ⌝ }
@@ -267,7 +268,7 @@ fn value(
     events: &mut [u32],
     reports: &mut [u32],
     pool: &mut [u32],
-    room: usize,
+    allowed: usize,
     semicolon: bool,
 ) -> ParserAnswered
     ensures { λ r. ⌜ parser-answered r (now (events .exit)) (now (reports .exit)) (now (pool .exit)) ≡ walk-prog allowed (tokens-of (now (tokens .entry))) unlabelled (propvalue semicolon) (view-of p (now (events .entry)) (now (reports .entry)) (now (pool .entry))) ⌝ }
@@ -277,20 +278,20 @@ fn value(
     let directive = pushed.silent_at(tokens, token_kind::BITS_DIRECTIVE);
     if directive.yes {
         let list = bits(directive.p, tokens, events, reports, pool, allowed);
-        return told(list);
+        return answered(list);
     }
     let string = directive.p.silent_eat(tokens, events, Matcher::Kind(token_kind::STRING));
     if string.yes {
-        return told(string);
+        return answered(string);
     }
     let angle = string.p.silent_at(tokens, token_kind::LANGLE);
     if angle.yes {
         let m = Marker::new(angle.p.s);
         let started = angle.p.start(events);
         let list = dt_cell_list(started, tokens, events, reports, pool, allowed, m);
-        return told(list);
+        return answered(list);
     }
-    value2(angle.p, tokens, events, reports, pool, allowed, semicolon)
+    value_rest(angle.p, tokens, events, reports, pool, allowed, semicolon)
 }
 
 // `/bits/`, its number and its cells.
@@ -300,7 +301,7 @@ fn bits(
     events: &mut [u32],
     reports: &mut [u32],
     pool: &mut [u32],
-    room: usize,
+    allowed: usize,
 ) -> ParserTested
     ensures { λ r. ⌜ parser-tested r (now (events .exit)) (now (reports .exit)) (now (pool .exit)) ≡ walk-prog allowed (tokens-of (now (tokens .entry))) unlabelled bits-value (view-of p (now (events .entry)) (now (reports .entry)) (now (pool .entry))) ⌝ }
     ensures { λ r. ⌜ left (now (tokens .entry)) (r .p .s) ≤ left (now (tokens .entry)) (p .s) - 1 ⌝ }
@@ -325,13 +326,13 @@ fn bits(
 }
 
 // The last cases of a value.
-fn value2(
+fn value_rest(
     p: Parser,
     tokens: &[u32],
     events: &mut [u32],
     reports: &mut [u32],
     pool: &mut [u32],
-    room: usize,
+    allowed: usize,
     semicolon: bool,
 ) -> ParserAnswered
     ensures { λ r. ⌜ parser-answered r (now (events .exit)) (now (reports .exit)) (now (pool .exit)) ≡ walk-prog allowed (tokens-of (now (tokens .entry))) unlabelled (value-rest semicolon) (view-of p (now (events .entry)) (now (reports .entry)) (now (pool .entry))) ⌝ }
@@ -339,7 +340,7 @@ fn value2(
 {
     let reference = silent_eat_reference(p, tokens, events, reports, pool);
     if reference.yes {
-        return told(reference);
+        return answered(reference);
     }
     let ident = reference.p.silent_at(tokens, token_kind::IDENT);
     if ident.yes {
@@ -353,13 +354,13 @@ fn value2(
         .p
         .silent_eat(tokens, events, Matcher::Kind(token_kind::DT_BYTESTRING));
     if bytes.yes {
-        return told(bytes);
+        return answered(bytes);
     }
     let include = eat_dts_include(bytes.p, tokens, events, reports, pool);
     if include.yes {
-        return told(include);
+        return answered(include);
     }
-    let directive = eat_preprocessor_directive(
+    let directive = eat_pp_directive(
         include.p,
         tokens,
         events,
@@ -369,7 +370,7 @@ fn value2(
         Inside::Values(semicolon),
     );
     if directive.yes {
-        return told(directive);
+        return answered(directive);
     }
     let q = directive
         .p
@@ -389,7 +390,7 @@ fn dt_property(
     events: &mut [u32],
     reports: &mut [u32],
     pool: &mut [u32],
-    room: usize,
+    allowed: usize,
     m: Marker,
 ) -> Parser
     ensures { λ r. ⌜ said yes (view-of r (now (events .exit)) (now (reports .exit)) (now (pool .exit))) ≡ closed (marker-of m) (walk-prog allowed (tokens-of (now (tokens .entry))) unlabelled dt-property (view-of p (now (events .entry)) (now (reports .entry)) (now (pool .entry)))) ⌝ }
@@ -420,7 +421,7 @@ fn dt_node_body(
     events: &mut [u32],
     reports: &mut [u32],
     pool: &mut [u32],
-    room: usize,
+    allowed: usize,
     m: Marker,
 ) -> Parser
     ensures { λ r. ⌜ said yes (view-of r (now (events .exit)) (now (reports .exit)) (now (pool .exit))) ≡ closed (marker-of m) (walk-prog allowed (tokens-of (now (tokens .entry))) unlabelled dt-node-body (view-of p (now (events .entry)) (now (reports .entry)) (now (pool .entry)))) ⌝ }
@@ -446,7 +447,7 @@ fn item(
     events: &mut [u32],
     reports: &mut [u32],
     pool: &mut [u32],
-    room: usize,
+    allowed: usize,
 ) -> Parser
     ensures { λ r. ⌜ view-of r (now (events .exit)) (now (reports .exit)) (now (pool .exit)) ≡ walk-rule allowed (tokens-of (now (tokens .entry))) item (view-of p (now (events .entry)) (now (reports .entry)) (now (pool .entry))) .on ⌝ }
     ensures { λ r. ⌜ left (now (tokens .entry)) (r .s) ≤ left (now (tokens .entry)) (p .s) - 1 ⌝ }
@@ -479,17 +480,17 @@ fn item(
         let body = dt_node_body(inner, tokens, events, reports, pool, allowed - 1, m_node);
         return body.complete(events, m, node_kind::PARSE_ERROR);
     }
-    item2(lcurly.p, tokens, events, reports, pool, allowed - 1)
+    item_rest(lcurly.p, tokens, events, reports, pool, allowed - 1)
 }
 
 // The last cases of `item`.
-fn item2(
+fn item_rest(
     p: Parser,
     tokens: &[u32],
     events: &mut [u32],
     reports: &mut [u32],
     pool: &mut [u32],
-    room: usize,
+    allowed: usize,
 ) -> Parser
     ensures { λ r. ⌜ said yes (view-of r (now (events .exit)) (now (reports .exit)) (now (pool .exit))) ≡ walk-prog allowed (tokens-of (now (tokens .entry))) unlabelled item-rest (view-of p (now (events .entry)) (now (reports .entry)) (now (pool .entry))) ⌝ }
     ensures { λ r. ⌜ left (now (tokens .entry)) (r .s) ≤ left (now (tokens .entry)) (p .s) - 1 ⌝ }
@@ -510,7 +511,7 @@ fn item2(
     if dts.yes {
         return dts.p;
     }
-    let directive = eat_preprocessor_directive(dts.p, tokens, events, reports, pool, allowed, Inside::Item);
+    let directive = eat_pp_directive(dts.p, tokens, events, reports, pool, allowed, Inside::Item);
     if directive.yes {
         return directive.p;
     }
@@ -525,7 +526,7 @@ fn eat_node_or_prop(
     events: &mut [u32],
     reports: &mut [u32],
     pool: &mut [u32],
-    room: usize,
+    allowed: usize,
 ) -> ParserTested
     ensures { λ r. ⌜ parser-tested r (now (events .exit)) (now (reports .exit)) (now (pool .exit)) ≡ walk-prog allowed (tokens-of (now (tokens .entry))) unlabelled eat-node-or-prop (view-of p (now (events .entry)) (now (reports .entry)) (now (pool .entry))) ⌝ }
     ensures { λ r. ⌜ left (now (tokens .entry)) (r .p .s) ≤ left (now (tokens .entry)) (p .s) ⌝ }
@@ -548,24 +549,24 @@ fn eat_node_or_prop(
                 let q = dt_property(property.p, tokens, events, reports, pool, allowed, m);
                 return ParserTested { p: q, yes: true };
             }
-            let q = rest(property.p, tokens, events, reports, pool, allowed, m, true);
+            let q = node(property.p, tokens, events, reports, pool, allowed, m, true);
             ParserTested { p: q, yes: true }
         }
         _ => {
-            let q = rest(prefix.p, tokens, events, reports, pool, allowed, m, false);
+            let q = node(prefix.p, tokens, events, reports, pool, allowed, m, false);
             ParserTested { p: q, yes: true }
         }
     }
 }
 
-// What follows the prefix, a property apart. The caller's marker.
-fn rest(
+// What follows the prefix, a property apart: the definitions' `no-property`. The caller's marker.
+fn node(
     p: Parser,
     tokens: &[u32],
     events: &mut [u32],
     reports: &mut [u32],
     pool: &mut [u32],
-    room: usize,
+    allowed: usize,
     m: Marker,
     allow_prop: bool,
 ) -> Parser
@@ -605,7 +606,7 @@ fn eat_inside(
     events: &mut [u32],
     reports: &mut [u32],
     pool: &mut [u32],
-    room: usize,
+    allowed: usize,
     inside: Inside,
 ) -> ParserTested
     ensures { λ r. ⌜ parser-tested r (now (events .exit)) (now (reports .exit)) (now (pool .exit)) ≡ walk-prog allowed (tokens-of (now (tokens .entry))) unlabelled (eat-inside (inside-of inside)) (view-of p (now (events .entry)) (now (reports .entry)) (now (pool .entry))) ⌝ }
@@ -627,13 +628,13 @@ fn eat_inside(
 }
 
 // One branch, up to its end (no) or to a continuation (yes).
-fn arm(
+fn branch(
     p: Parser,
     tokens: &[u32],
     events: &mut [u32],
     reports: &mut [u32],
     pool: &mut [u32],
-    room: usize,
+    allowed: usize,
     inside: Inside,
 ) -> ParserTested
     ensures { λ r. ⌜ parser-tested r (now (events .exit)) (now (reports .exit)) (now (pool .exit)) ≡ walk-prog allowed (tokens-of (now (tokens .entry))) unlabelled (branch (inside-of inside)) (view-of p (now (events .entry)) (now (reports .entry)) (now (pool .entry))) ⌝ }
@@ -674,7 +675,7 @@ fn cond_branches_and_end(
     events: &mut [u32],
     reports: &mut [u32],
     pool: &mut [u32],
-    room: usize,
+    allowed: usize,
     inside: Inside,
 ) -> Parser
     ensures { λ r. ⌜ view-of r (now (events .exit)) (now (reports .exit)) (now (pool .exit)) ≡ walk-prog allowed (tokens-of (now (tokens .entry))) unlabelled (cond-branches-and-end (inside-of inside)) (view-of p (now (events .entry)) (now (reports .entry)) (now (pool .entry))) .on ⌝ }
@@ -682,7 +683,7 @@ fn cond_branches_and_end(
 {
     let mut q = p;
     loop {
-        let more = arm(q, tokens, events, reports, pool, allowed, inside);
+        let more = branch(q, tokens, events, reports, pool, allowed, inside);
         if more.yes {
             q = more.p.bump(tokens, events);
         } else {
@@ -693,13 +694,14 @@ fn cond_branches_and_end(
     }
 }
 
-fn eat_preprocessor_directive(
+// `eat_preprocessor_directive`
+fn eat_pp_directive(
     p: Parser,
     tokens: &[u32],
     events: &mut [u32],
     reports: &mut [u32],
     pool: &mut [u32],
-    room: usize,
+    allowed: usize,
     inside: Inside,
 ) -> ParserTested
     ensures { λ r. ⌜ parser-tested r (now (events .exit)) (now (reports .exit)) (now (pool .exit)) ≡ walk-prog allowed (tokens-of (now (tokens .entry))) unlabelled (eat-preprocessor-directive (inside-of inside)) (view-of p (now (events .entry)) (now (reports .entry)) (now (pool .entry))) ⌝ }

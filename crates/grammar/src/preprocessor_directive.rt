@@ -1,4 +1,4 @@
-// grammar/preprocessor_directive.rs: its sets, and what is not in the cycle of calls. The rest of it stands in lib.rt.
+// grammar/preprocessor_directive.rs: what is not in the cycle of calls. Its other functions stand in lib.rt.
 use crate::cond_branches_and_end;
 use layout::token_kind;
 use layout::set::CONTINUE_COND_SET;
@@ -19,7 +19,7 @@ ghost use Rattle.definitions.specs.Skeleton.{Span};
 ghost use Rattle.definitions.specs.Grammar.{catch-unmatched-pp-directive};
 ghost use Rattle.machine.specs.Walk.{walk-prog, unlabelled};
 ghost use Rattle.parser.specs.View.{view-of, parser-tested, left};
-ghost use Rattle.grammar.specs.Parts.{inside-of};
+ghost use Rattle.grammar.specs.Subprograms.{inside-of};
 
 // What a conditional's branch holds, in the place of the closures `eat_inside`: items, values (whether a semicolon ends
 // them), or cells (whether the end of input does).
@@ -35,7 +35,7 @@ pub fn catch_unmatched_pp_directive(
     events: &mut [u32],
     reports: &mut [u32],
     pool: &mut [u32],
-    room: usize,
+    allowed: usize,
     inside: Inside,
 ) -> ParserTested
     ensures { λ r. ⌜ parser-tested r (now (events .exit)) (now (reports .exit)) (now (pool .exit)) ≡ walk-prog allowed (tokens-of (now (tokens .entry))) unlabelled (catch-unmatched-pp-directive (inside-of inside)) (view-of p (now (events .entry)) (now (reports .entry)) (now (pool .entry))) ⌝ }

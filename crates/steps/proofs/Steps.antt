@@ -1,16 +1,17 @@
--- More steps of a way through a program: a part whose answer does not matter, `eat_starting`, a brace, an answer that a match has told,
+-- Steps of a way for functions that answer more than yes and no: a part whose answer does not matter, `eat_starting`, a brace, an answer that a match has told,
 -- a loop's turn with such an answer, and what a test that held says of the tokens left.
 use Prim.Native.Nat.{ℕ, _-_, _≤_, _<_}
 use mathlib.Core.Path.{_≡_, refl, sym, ap, _∙_}
-use mathlib.Core.Bool.{Bool, true, false, cond}
+use mathlib.Core.Bool.{Bool, true, false, true≢false, false≢true}
 use mathlib.Core.List.{List, [], _∷_}
 use mathlib.Core.Logic.{inl, inr}
-use lib.ListN.{length, drop, length-drop}
+use lib.ListN.{length}
 use native.Mathlib.Omega.{arith}
 use denote.Enum.Declared.{tagOf}
 use types.Run.{OneOf}
+use Rattle.basics.proofs.Tests.{cond-all}
 use Rattle.definitions.specs.Layout.{PLACEHOLDER, START-NODE}
-use Rattle.definitions.specs.Token.{Token, tokens-of, first-in}
+use Rattle.definitions.specs.Token.{Token, first-in}
 use Rattle.definitions.specs.Skeleton.{Span}
 use Rattle.definitions.specs.Prog.{Ans, no, yes, also, again, Rule, silent-at, Prog, ret, act, _⨟_, case, in-marker, loop, brace}
 use Rattle.definitions.specs.Check.{at}
@@ -20,20 +21,17 @@ use Rattle.machine.specs.Machine.{Machine, rest, peek, push, range-at}
 use Rattle.machine.specs.Machine as M
 use Rattle.machine.specs.Walk.{Walked, said, perform, choose, marker, close, closed, walk}
 use lib.Dec.{ltb}
-use Rattle.machine.proofs.Turns.{ahead, Few, either, rows-length, peek-ahead, refuse-ahead, turn-again, turn-last}
-use Rattle.parser.specs.declared.StateAnswered.{Said as SaidR}
+use Rattle.machine.proofs.Turns.{ahead, Few, peek-ahead, refuse-ahead, turn-again, turn-last}
+use Rattle.parser.specs.declared.StateAnswered.{StateAnswered}
 use Rattle.parser.specs.declared.State.{State}
 use Rattle.parser.specs.declared.ParserTested.{ParserTested}
 use Rattle.parser.specs.declared.ParserAnswered.{ParserAnswered}
-use Rattle.parser.specs.declared.Ans.{Ans}
+use Rattle.parser.specs.declared.Ans.{Ans as Answered}
 use Rattle.parser.specs.declared.Ans.the-variants as A
-use Rattle.parser.proofs.Answer.{the-type}
-use Rattle.parser.specs.View.{left, view, view-of, parser-tested, ans-of, Starting, by-answer, starting}
+use Rattle.parser.proofs.Ans.{the-type}
+use Rattle.parser.specs.View.{view, view-of, parser-tested, ans-of, Starting, by-answer, starting}
 use Rattle.steps.specs.View.{state-answered, parser-answered, goes, found}
 use Rattle.machine.proofs.Way.{Way, Closes, c-case}
-
-pub true-false : {A : Type 0} → true ≡ false → A
-true-false e = let z : _≡_ {A = ℕ} 1 0 = ap (λ (b : Bool). cond b 1 0) e in absurd (omega (arith, z))
 
 module _ {ask : Rule → Machine → Walked} {ts : List Token} {b : Span} where
   -- a part of which only the machine after it is known
@@ -48,18 +46,18 @@ module _ {ask : Rule → Machine → Walked} {ts : List Token} {b : Span} where
 
   -- by the answer that a match has told
   module _ {c n y a : Prog} {m x : Machine} {s : ℕ} {w : Walked} where
-    pub c-answer : (v : Ans) (r : Answer) → Way ask ts b c m (record { ans = ans-of r; shape = s; on = x }) → ans-of r ≡ v → w ≡ choose v (walk ask ts b n) (walk ask ts b y) (walk ask ts b a) x → Way ask ts b (case c n y a) m w
+    pub c-answer : (v : Ans) (r : Answered) → Way ask ts b c m (record { ans = ans-of r; shape = s; on = x }) → ans-of r ≡ v → w ≡ choose v (walk ask ts b n) (walk ask ts b y) (walk ask ts b a) x → Way ask ts b (case c n y a) m w
     c-answer v r e h f = c-case e (f ∙ sym (ap (λ (v : Ans). choose v (walk ask ts b n) (walk ask ts b y) (walk ask ts b a) x) h))
 
-    pub c-said-no : (r : Answer) → Way ask ts b c m (record { ans = ans-of r; shape = s; on = x }) → ans-of r ≡ no → Way ask ts b n x w → Way ask ts b (case c n y a) m w
+    pub c-said-no : (r : Answered) → Way ask ts b c m (record { ans = ans-of r; shape = s; on = x }) → ans-of r ≡ no → Way ask ts b n x w → Way ask ts b (case c n y a) m w
     unfolding choose
     c-said-no r e h f = c-answer no r e h (f .is)
 
-    pub c-said-yes : (r : Answer) → Way ask ts b c m (record { ans = ans-of r; shape = s; on = x }) → ans-of r ≡ yes → Way ask ts b y x w → Way ask ts b (case c n y a) m w
+    pub c-said-yes : (r : Answered) → Way ask ts b c m (record { ans = ans-of r; shape = s; on = x }) → ans-of r ≡ yes → Way ask ts b y x w → Way ask ts b (case c n y a) m w
     unfolding choose
     c-said-yes r e h f = c-answer yes r e h (f .is)
 
-    pub c-said-also : (r : Answer) → Way ask ts b c m (record { ans = ans-of r; shape = s; on = x }) → ans-of r ≡ also → Way ask ts b a x w → Way ask ts b (case c n y a) m w
+    pub c-said-also : (r : Answered) → Way ask ts b c m (record { ans = ans-of r; shape = s; on = x }) → ans-of r ≡ also → Way ask ts b a x w → Way ask ts b (case c n y a) m w
     unfolding choose
     c-said-also r e h f = c-answer also r e h (f .is)
 
@@ -76,7 +74,7 @@ module _ {ask : Rule → Machine → Walked} {ts : List Token} {b : Span} (k : C
     where
       go : (a : Ans) (y : Machine) → started ask ts b a k y ≡ record { yes = true; marker = z; on = x }
           → w ≡ choose a (walk ask ts b q) (walk ask ts b (in-marker (k .consume ⨟ p))) (walk ask ts b (in-marker (k .consume ⨟ p))) y
-      go no y i = true-false (sym (ap (λ (r : Starting). r .yes) i))
+      go no y i = absurd (false≢true (ap (λ (r : Starting). r .yes) i))
       go yes y i = g .is ∙ sym (ap (λ (r : Starting). closed (r .marker) v) i) ∙ ap (closed (marker START-NODE y)) (f .is ∙ sym (ap (λ (r : Starting). walk ask ts b p (r .on)) i))
       go also y i = g .is ∙ sym (ap (λ (r : Starting). closed (r .marker) v) i) ∙ ap (closed (marker START-NODE y)) (f .is ∙ sym (ap (λ (r : Starting). walk ask ts b p (r .on)) i))
       go again y i = g .is ∙ sym (ap (λ (r : Starting). closed (r .marker) v) i) ∙ ap (closed (marker START-NODE y)) (f .is ∙ sym (ap (λ (r : Starting). walk ask ts b p (r .on)) i))
@@ -90,38 +88,38 @@ module _ {ask : Rule → Machine → Walked} {ts : List Token} {b : Span} (k : C
       go : (a : Ans) (y : Machine) → started ask ts b a k y ≡ record { yes = false; marker = z; on = x }
           → w ≡ choose a (walk ask ts b q) (walk ask ts b (in-marker (k .consume ⨟ p))) (walk ask ts b (in-marker (k .consume ⨟ p))) y
       go no y i = f .is ∙ sym (ap (λ (r : Starting). walk ask ts b q (r .on)) i)
-      go yes y i = true-false (ap (λ (r : Starting). r .yes) i)
-      go also y i = true-false (ap (λ (r : Starting). r .yes) i)
-      go again y i = true-false (ap (λ (r : Starting). r .yes) i)
+      go yes y i = absurd (true≢false (ap (λ (r : Starting). r .yes) i))
+      go also y i = absurd (true≢false (ap (λ (r : Starting). r .yes) i))
+      go again y i = absurd (true≢false (ap (λ (r : Starting). r .yes) i))
 
 -- ---------------------------------------------------------------- loops
 
 -- a turn whose answer a match has told
 module _ {ask : Rule → Machine → Walked} {ts : List Token} {b : Span} {p : Prog} {m m′ : Machine} where
-  pub went-told : (r : Answer) → Way ask ts b p m (said (ans-of r) m′) → ans-of r ≡ again → ahead ts m′ < ahead ts m → walk ask ts b (loop p) m′ ≡ walk ask ts b (loop p) m
+  pub went-told : (r : Answered) → Way ask ts b p m (said (ans-of r) m′) → ans-of r ≡ again → ahead ts m′ < ahead ts m → walk ask ts b (loop p) m′ ≡ walk ask ts b (loop p) m
   went-told r w h l = turn-again ask ts b p m m′ (sym (ap (λ (a : Ans). said a m′) h) ∙ w .is) l
 
-  pub ended-told : (r : Answer) → Way ask ts b p m (said (ans-of r) m′) → is-again (ans-of r) ≡ false → said (ans-of r) m′ ≡ walk ask ts b (loop p) m
+  pub ended-told : (r : Answered) → Way ask ts b p m (said (ans-of r) m′) → is-again (ans-of r) ≡ false → said (ans-of r) m′ ≡ walk ask ts b (loop p) m
   ended-told r w h = turn-last ask ts b p m m′ (ans-of r) h (w .is)
 
 -- ---------------------------------------------------------------- the tokens left where a test held
 
 first-some : (ks : List ℕ) (l : List Token) → first-in ks l ≡ true → 0 < length l
 unfolding first-in
-first-some ks [] e = true-false (sym e)
+first-some ks [] e = absurd (false≢true e)
 first-some ks (t ∷ l) e = omega arith
 
 -- ---------------------------------------------------------------- answers
 
--- `told`
-pub told-is : (r : ParserAnswered) (k : ParserTested) (events reports pool : List ℕ) → r .p ≡ k .p → ans-of (r .ans) ≡ truth (k .yes) → parser-answered r events reports pool ≡ parser-tested k events reports pool
-told-is r k events reports pool e f = ap (λ p. said (ans-of (r .ans)) (view-of p events reports pool)) e ∙ ap (λ (a : Ans). said a (view-of (k .p) events reports pool)) f
+-- `answered`
+pub answered-is : (r : ParserAnswered) (k : ParserTested) (events reports pool : List ℕ) → r .p ≡ k .p → ans-of (r .ans) ≡ truth (k .yes) → parser-answered r events reports pool ≡ parser-tested k events reports pool
+answered-is r k events reports pool e f = ap (λ p. said (ans-of (r .ans)) (view-of p events reports pool)) e ∙ ap (λ (a : Ans). said a (view-of (k .p) events reports pool)) f
 
-pub told-yes : (r : ParserAnswered) (k : ParserTested) (events reports pool : List ℕ) → r .p ≡ k .p → ans-of (r .ans) ≡ truth (k .yes) → k .yes ≡ true → parser-answered r events reports pool ≡ said yes (view-of (k .p) events reports pool)
-told-yes r k events reports pool e f h = told-is r k events reports pool e f ∙ ap (λ (t : Bool). said (truth t) (view-of (k .p) events reports pool)) h
+pub answered-yes : (r : ParserAnswered) (k : ParserTested) (events reports pool : List ℕ) → r .p ≡ k .p → ans-of (r .ans) ≡ truth (k .yes) → k .yes ≡ true → parser-answered r events reports pool ≡ said yes (view-of (k .p) events reports pool)
+answered-yes r k events reports pool e f h = answered-is r k events reports pool e f ∙ ap (λ (t : Bool). said (truth t) (view-of (k .p) events reports pool)) h
 
 -- what the last arm of a match is told where the others are for `Again`
-pub other-ends : (a : Answer) → OneOf (0 ∷ 1 ∷ 2 ∷ []) (tagOf the-type a) → is-again (ans-of a) ≡ false
+pub other-ends : (a : Answered) → OneOf (0 ∷ 1 ∷ 2 ∷ []) (tagOf the-type a) → is-again (ans-of a) ≡ false
 unfolding is-again
 other-ends A.No h = refl
 other-ends A.Yes h = refl
@@ -134,13 +132,13 @@ other-ends A.Again h = absurd (none h)
     none (inr (inr i)) = omega (arith, i)
 
 -- at most one token is sure
-pub goes-one : (a : Answer) → goes a ≤ 1
+pub goes-one : (a : Answered) → goes a ≤ 1
 goes-one A.No = omega arith
 goes-one A.Yes = omega arith
 goes-one A.Also = omega arith
 goes-one A.Again = omega arith
 
-pub found-one : (a : Answer) → found a ≤ 1
+pub found-one : (a : Answered) → found a ≤ 1
 found-one A.No = omega arith
 found-one A.Yes = omega arith
 found-one A.Also = omega arith
@@ -181,10 +179,6 @@ number yes = 1
 number also = 2
 number again = 3
 
-pub some-left : (tk : List ℕ) (s : State) → 0 < length (drop (s .cursor .0) (tokens-of tk)) → 0 < left tk s
-unfolding left
-some-left tk s h = omega (arith, rows-length tk, length-drop (s .cursor .0) (tokens-of tk), h)
-
 module _ (ask : Rule → Machine → Walked) (ts : List Token) (b : Span) where
   -- `.silent().eat()`
   pub taken-some : (ks : List ℕ) (k : C.Matcher) (m x : Machine) (y : Bool) → k .matches ≡ act (silent-at ks) → said (truth y) x ≡ walk ask ts b (C.silent-eat k) m → y ≡ true → 0 < ahead ts m
@@ -202,7 +196,7 @@ module _ (ask : Rule → Machine → Walked) (ts : List Token) (b : Span) where
 
   expected-ahead : (k : ℕ) (m : Machine) → Few ts → ahead ts (M.expect-code k m) ≤ ahead ts m
   unfolding M.expect-code
-  expected-ahead k m h = either (λ x. ahead ts x ≤ ahead ts m) (ltb (length (m .pending)) 256) (omega arith) (omega (arith, refuse-ahead ts 5 m h))
+  expected-ahead k m h = cond-all (λ x. ahead ts x ≤ ahead ts m) (ltb (length (m .pending)) 256) (omega arith) (omega (arith, refuse-ahead ts 5 m h))
 
   -- `eat_starting` of a kind
   pub starting-some : (k : ℕ) (m x : Machine) (z : M.Marker) (t : Bool) → Few ts → starting ask ts b (C.of-kind k) m ≡ record { yes = t; marker = z; on = x } → t ≡ true → 0 < ahead ts m
@@ -212,7 +206,7 @@ module _ (ask : Rule → Machine → Walked) (ts : List Token) (b : Span) where
       go : (y : Bool) → first-in (k ∷ []) (rest ts (peek ts (M.expect-code k m))) ≡ y → started ask ts b (truth (first-in (k ∷ []) (rest ts (peek ts (M.expect-code k m))))) (C.of-kind k) (peek ts (M.expect-code k m)) ≡ record { yes = true; marker = z; on = x } → 0 < ahead ts m
       go true i f = omega (arith, first-some (k ∷ []) (rest ts (peek ts (M.expect-code k m))) i, peek-ahead ts (M.expect-code k m), expected-ahead k m w)
       go false i f =
-          true-false (sym (sym (ap (λ (y : Bool). started ask ts b (truth y) (C.of-kind k) (peek ts (M.expect-code k m)) .yes) i) ∙ ap (λ (r : Starting). r .yes) f))
+          absurd (false≢true (sym (ap (λ (y : Bool). started ask ts b (truth y) (C.of-kind k) (peek ts (M.expect-code k m)) .yes) i) ∙ ap (λ (r : Starting). r .yes) f))
 
 -- ---------------------------------------------------------------- values that end at one kind, or at none
 
@@ -226,7 +220,7 @@ module _ {ask : Rule → Machine → Walked} {ts : List Token} {b : Span} {m : M
   at-none e = record { is = e .is }
 
 -- `some`
-pub some-is : (r : SaidR) (s : State) (a : Ans) (codes events reports pool : List ℕ) → r .s ≡ s → ans-of (r .ans) ≡ a → state-answered r codes events reports pool ≡ said a (view s codes events reports pool)
+pub some-is : (r : StateAnswered) (s : State) (a : Ans) (codes events reports pool : List ℕ) → r .s ≡ s → ans-of (r .ans) ≡ a → state-answered r codes events reports pool ≡ said a (view s codes events reports pool)
 some-is r s a codes events reports pool e f = ap (λ (s : State). said (ans-of (r .ans)) (view s codes events reports pool)) e ∙ ap (λ (a : Ans). said a (view s codes events reports pool)) f
 
 -- answers that differ

@@ -1,4 +1,4 @@
--- The answers that are more than yes and no, as the literal machine sees them.
+-- Answers that are more than yes and no, as the machine sees them. What the contracts of the grammar cite.
 use Prim.Native.Nat.{ℕ}
 use mathlib.Core.Bool.{Bool, true, false}
 use mathlib.Core.List.{List}
@@ -7,7 +7,7 @@ use Rattle.machine.specs.Walk.{Walked, said}
 use Rattle.parser.specs.View.{view, view-of, ans-of}
 use Rattle.parser.specs.declared.StateAnswered.{StateAnswered}
 use Rattle.parser.specs.declared.ParserAnswered.{ParserAnswered}
-use Rattle.parser.specs.declared.Ans.{Ans}
+use Rattle.parser.specs.declared.Ans.{Ans as Answered}
 use Rattle.parser.specs.declared.Ans.the-variants.{No, Yes, Also, Again}
 
 -- an answer, and the machine after it
@@ -23,15 +23,15 @@ abbrev pub own-name : Bool → Ans
 own-name true = also
 own-name false = yes
 
--- how many tokens were surely taken where a part answers so: one for `Again`
-abbrev pub goes : Answer → ℕ
+-- how many tokens were surely taken where a function answers so: one for `Again`
+abbrev pub goes : Answered → ℕ
 goes No = 0
 goes Yes = 0
 goes Also = 0
 goes Again = 1
 
 -- the same: one for any answer but `No`
-abbrev pub found : Answer → ℕ
+abbrev pub found : Answered → ℕ
 found No = 0
 found Yes = 1
 found Also = 1

@@ -1,5 +1,5 @@
--- The parts of the definitions' programs that have a function of their own here, and the code's enums as the definitions have them.
--- proofs/Laws.antt shows each to be a part of the definitions' term.
+-- What of the definitions' programs has a function of its own here, and the code's enums as the definitions have them. proofs/Laws.antt
+-- shows each program to stand in the definitions' term.
 use Prim.Native.Nat.{ℕ}
 use mathlib.Core.Bool.{Bool}
 use mathlib.Core.List.{List, [], _∷_}
@@ -19,7 +19,7 @@ use Rattle.grammar.specs.declared.entry.Entrypoint as D′
 abbrev pub inside-of : D.Inside → Inside
 inside-of I.Item = Item
 inside-of (I.Values semicolon) = Values semicolon
-inside-of (I.Cell at-end) = Cell at-end
+inside-of (I.Cell until-end) = Cell until-end
 
 abbrev pub entry-of : D′.Entrypoint → Entry
 entry-of E′.SourceFile = G.SourceFile
@@ -31,8 +31,8 @@ entry-of E′.Cells = G.Cells
 
 -- the last cases of `eat-cell-body`
 abbrev pub cell-rest : Bool → Prog
-cell-rest at-end =
-    if eat-dts-include or eat-preprocessor-directive (Cell at-end) then tell yes
+cell-rest until-end =
+    if eat-dts-include or eat-preprocessor-directive (Cell until-end) then tell yes
     else if silent (set OPERATORS-SET) and not! (at (of-kind K.RAngle)) then error-wrap E.msg-expected E.missing-parentheses ⨟ tell yes
     else tell no
 

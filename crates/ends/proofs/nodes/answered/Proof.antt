@@ -1,8 +1,8 @@
--- `told` answers by its flag.
+-- `answered` answers by its flag.
 use mathlib.Core.Path.{refl, sym, ap}
 use Rattle.definitions.specs.Run.{truth}
-use Rattle.ends.proofs.nodes.told.Statement.{statement}
-use Rattle.ends.proofs.nodes.told.Tie as tie
+use Rattle.ends.proofs.nodes.answered.Statement.{statement}
+use Rattle.ends.proofs.nodes.answered.Tie as tie
 
 returns : tie.Need-returns
 returns c =
@@ -14,5 +14,5 @@ returns-2 c =
     let a = c in
     (refl, sym (ap truth (a .if1 .left)))
 
-pub told-spec : {M : Type 1} → statement M
-told-spec = tie.close (tie.spec returns returns-2)
+pub answered-spec : {M : Type 1} → statement M
+answered-spec = tie.close (tie.spec returns returns-2)
