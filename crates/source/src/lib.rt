@@ -29,23 +29,25 @@ impl<'a> Source<'a> {
 
     // A peek moves the cursor past trivia: the view after it.
     pub fn peek(self) -> Source<'a>
-        ensures { λ r. ⌜ (r .rows ≡ self .entry .rows) × (r .cursor .0 ≡ after-trivia (tokens-of (now (self .entry .rows))) (self .entry .cursor .0)) ⌝ }
+        ensures { λ r. ⌜ (r .rows ≡ self .entry .rows)
+            × (r .cursor .0 ≡ after-trivia (tokens-of (now (self .entry .rows))) (self .entry .cursor .0)) ⌝ }
     {
         let rows = self.rows;
         let cursor = past_trivia(rows, self.cursor);
         Source { rows, cursor }
     }
 
-    // The kind at the cursor, trivia or not, and 64 at the end. Nothing moves.
+    // The kind at the cursor, trivia or not; past the last token, token_rows' END. Nothing moves.
     pub fn peek_kind_immediate(self) -> u8
         ensures { λ r. ⌜ r ≡ kind-of (drop (self .entry .cursor .0) (tokens-of (now (self .entry .rows)))) ⌝ }
     {
         kind_at(self.rows, self.cursor.0)
     }
 
-    // The view past the first token that is no trivia.
+    // The view past the first token that is not trivia.
     pub fn next_token(self) -> Source<'a>
-        ensures { λ r. ⌜ (r .rows ≡ self .entry .rows) × (r .cursor .0 ≡ after-token (tokens-of (now (self .entry .rows))) (self .entry .cursor .0)) ⌝ }
+        ensures { λ r. ⌜ (r .rows ≡ self .entry .rows)
+            × (r .cursor .0 ≡ after-token (tokens-of (now (self .entry .rows))) (self .entry .cursor .0)) ⌝ }
     {
         let rows = self.rows;
         let cursor = past_token(rows, self.cursor);
@@ -64,7 +66,9 @@ pub struct Sight {
 }
 
 pub fn look(tokens: &[u32], at: TokenIndex) -> Sight
-    ensures { λ r. ⌜ (r .immediate ≡ kind-of (drop (at .0) (tokens-of (now (tokens .entry))))) × (r .kind ≡ kind-of (drop-trivia (drop (at .0) (tokens-of (now (tokens .entry)))))) × (r .next .0 ≡ after-token (tokens-of (now (tokens .entry))) (at .0)) ⌝ }
+    ensures { λ r. ⌜ (r .immediate ≡ kind-of (drop (at .0) (tokens-of (now (tokens .entry)))))
+        × (r .kind ≡ kind-of (drop-trivia (drop (at .0) (tokens-of (now (tokens .entry))))))
+        × (r .next .0 ≡ after-token (tokens-of (now (tokens .entry))) (at .0)) ⌝ }
 {
     let s = Source::new(tokens, at);
     let next = s.next_token();

@@ -1,4 +1,4 @@
--- `infix_op_at` peeks behind the pushed expectation, and reads the powers of the kind that it sees off the table.
+-- `infix_op_at` pushes the expectation and peeks, and reads the powers of the kind that it sees off the table.
 use mathlib.Core.Path.{_∙_, ap}
 use native.Mathlib.Omega.{arith}
 use Rattle.definitions.specs.Token.{tokens-of}
