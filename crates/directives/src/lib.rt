@@ -6,16 +6,15 @@ pub mod dts_directive;
 use parser::Parser;
 use parser::ParserTested;
 ghost use mathlib.Core.Path.{_≡_};
-ghost use mathlib.Core.Bool.{true, false};
-ghost use mathlib.Core.List.{List};
-ghost use Prim.Native.Nat.{ℕ, _+_, _-_, _≤_, _<_};
+ghost use mathlib.Core.Bool.{true};
+ghost use Prim.Native.Nat.{_-_, _≤_, _<_};
 ghost use Rattle.definitions.specs.Token.{tokens-of};
 ghost use Rattle.definitions.specs.Skeleton.{Span};
-ghost use Rattle.definitions.specs.Prog.{Rule, yes, also};
+ghost use Rattle.definitions.specs.Prog.{Rule, yes};
 ghost use Rattle.definitions.specs.Grammar.{eat-dts-include, eat-dts-directive};
 ghost use Rattle.machine.specs.Machine.{Machine};
-ghost use Rattle.machine.specs.Walk.{Walked, said, walk, closed};
-ghost use Rattle.parser.specs.View.{view-of, parser-tested, left, marker-of, ans-of};
+ghost use Rattle.machine.specs.Walk.{Walked, walk};
+ghost use Rattle.parser.specs.View.{view-of, parser-tested, left};
 
 pub fn eat_dts_include(
     p: Parser,

@@ -4,13 +4,13 @@ pub mod lists;
 pub mod nodes;
 
 use parser::Parser;
-use parser::ParserTested;
 use parser::ParserAnswered;
+use parser::ParserTested;
 use parser::marker::Marker;
 ghost use mathlib.Core.Path.{_≡_};
 ghost use mathlib.Core.Bool.{true, false};
 ghost use mathlib.Core.List.{List};
-ghost use Prim.Native.Nat.{ℕ, _+_, _-_, _≤_, _<_};
+ghost use Prim.Native.Nat.{ℕ, _≤_, _<_};
 ghost use Rattle.definitions.specs.Token.{tokens-of};
 ghost use Rattle.definitions.specs.Skeleton.{Span};
 ghost use Rattle.definitions.specs.Prog.{Rule, yes, also};
@@ -61,10 +61,7 @@ pub fn after_propvalue(
     let s = e.s;
     let q = Parser { codes: codes, s: s };
     let answer = e.ans;
-    ParserAnswered {
-        p: q,
-        ans: answer,
-    }
+    ParserAnswered { p: q, ans: answer }
 }
 
 pub fn at_item(p: Parser, tokens: &[u32]) -> ParserTested

@@ -1,24 +1,24 @@
 // Where items, values and cells end: the conditions of grammar.rs's loops.
+use layout::expected;
+use layout::hint::NO_HINT;
+use layout::message::EXPECTED;
+use layout::node_kind;
 use layout::set::CELLS_RECOVERY_SET;
 use layout::set::CONTINUE_COND_SET;
 use layout::set::ITEM_RECOVERY_SET;
 use layout::set::PROPERTY_VALUE_RECOVERY_SET;
 use layout::token_kind;
 use parser::Ans;
+use parser::State;
 use parser::StateAnswered;
 use parser::StateTested;
-use parser::State;
 use parser::errors::Bump;
-use layout::message::EXPECTED;
-use layout::hint::NO_HINT;
-use layout::expected;
 use parser::marker::Marker;
 use parser::matcher::Matcher;
-use layout::node_kind;
 ghost use mathlib.Core.Path.{_≡_};
 ghost use mathlib.Core.Bool.{true, false};
 ghost use mathlib.Core.List.{List};
-ghost use Prim.Native.Nat.{ℕ, _+_, _-_, _≤_, _<_};
+ghost use Prim.Native.Nat.{ℕ, _≤_, _<_};
 ghost use Rattle.definitions.specs.Token.{tokens-of};
 ghost use Rattle.definitions.specs.Skeleton.{Span};
 ghost use Rattle.definitions.specs.Prog.{Rule, yes, also};
@@ -127,18 +127,23 @@ pub fn after_propvalue(
     }
     let next = end.s.silent_at_set(tokens, &PROPERTY_VALUE_RECOVERY_SET);
     if next.yes {
-        let q = next.s
-            .error(codes, tokens, events, reports, pool, EXPECTED, NO_HINT, Bump::No);
+        let q = next.s.error(
+            codes,
+            tokens,
+            events,
+            reports,
+            pool,
+            EXPECTED,
+            NO_HINT,
+            Bump::No,
+        );
         return StateAnswered {
             s: q,
             ans: Ans::Again,
         };
     }
     let q = next.s;
-    StateAnswered {
-        s: q,
-        ans: Ans::No,
-    }
+    StateAnswered { s: q, ans: Ans::No }
 }
 
 // After a prefix that neither a node nor a property follows: a token that no item starts with is taken. The caller's
@@ -155,7 +160,16 @@ pub fn unfinished(
     ensures { λ r. ⌜ ((ask : Rule → Machine → Walked) (b : Span) → said yes (view r (now (codes .entry)) (now (events .exit)) (now (reports .exit)) (now (pool .exit))) ≡ closed (marker-of m) (walk ask (tokens-of (now (tokens .entry))) b unfinished (view s (now (codes .entry)) (now (events .entry)) (now (reports .entry)) (now (pool .entry))))) ⌝ }
     ensures { λ r. ⌜ left (now (tokens .entry)) r ≤ left (now (tokens .entry)) s ⌝ }
 {
-    let reported = s.error(codes, tokens, events, reports, pool, EXPECTED, NO_HINT, Bump::No);
+    let reported = s.error(
+        codes,
+        tokens,
+        events,
+        reports,
+        pool,
+        EXPECTED,
+        NO_HINT,
+        Bump::No,
+    );
     let recovery = reported.silent_at_set(tokens, &ITEM_RECOVERY_SET);
     if recovery.yes {
         return recovery.s.complete(events, m, node_kind::PARSE_ERROR);

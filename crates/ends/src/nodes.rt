@@ -1,22 +1,22 @@
 // The functions of grammar.rs that stand beside its cycle of calls and call nothing of it: the end of a node's body, a test
 // before a property, an unmatched bracket, and what an entry leaves. They hold the whole parser by value, as the cycle
 // does.
-use layout::token_kind;
-use layout::set::ITEM_RECOVERY_SET;
-use parser::Ans;
-use parser::Parser;
-use parser::ParserTested;
-use parser::ParserAnswered;
-use parser::errors::Bump;
-use layout::message::EXPECTED;
+use layout::expected;
 use layout::hint::NO_HINT;
-use parser::errors::TextRange;
+use layout::message::EXPECTED;
 use layout::message::UNCLOSED_NODE;
 use layout::message::UNMATCHED_RCURLY;
-use layout::expected;
+use layout::node_kind;
+use layout::set::ITEM_RECOVERY_SET;
+use layout::token_kind;
+use parser::Ans;
+use parser::Parser;
+use parser::ParserAnswered;
+use parser::ParserTested;
+use parser::errors::Bump;
+use parser::errors::TextRange;
 use parser::marker::Marker;
 use parser::matcher::Matcher;
-use layout::node_kind;
 ghost use mathlib.Core.Path.{_≡_};
 ghost use mathlib.Core.List.{List};
 ghost use Prim.Native.Nat.{ℕ, _-_, _≤_};
@@ -42,10 +42,7 @@ pub fn answered(k: ParserTested) -> ParserAnswered
             ans: Ans::Yes,
         }
     } else {
-        ParserAnswered {
-            p: q,
-            ans: Ans::No,
-        }
+        ParserAnswered { p: q, ans: Ans::No }
     }
 }
 
@@ -76,15 +73,33 @@ pub fn node_end(
 {
     let end = p.at_end(tokens);
     if end.yes {
-        let q = end.p
-            .emit(tokens, events, reports, pool, UNCLOSED_NODE, NO_HINT, lcurly_span);
+        let q = end.p.emit(
+            tokens,
+            events,
+            reports,
+            pool,
+            UNCLOSED_NODE,
+            NO_HINT,
+            lcurly_span,
+        );
         q.complete(events, m, node_kind::DT_NODE)
     } else {
-        let rcurly = end.p.expect(tokens, events, reports, pool, Matcher::Kind(token_kind::RCURLY));
+        let rcurly = end.p.expect(
+            tokens,
+            events,
+            reports,
+            pool,
+            Matcher::Kind(token_kind::RCURLY),
+        );
         let semicolon = Matcher::Kind(token_kind::SEMICOLON);
-        let q = rcurly
-            .p
-            .expect_recoverable(tokens, events, reports, pool, semicolon, &ITEM_RECOVERY_SET);
+        let q = rcurly.p.expect_recoverable(
+            tokens,
+            events,
+            reports,
+            pool,
+            semicolon,
+            &ITEM_RECOVERY_SET,
+        );
         q.p.complete(events, m, node_kind::DT_NODE)
     }
 }
@@ -99,7 +114,15 @@ pub fn unmatched_rcurly(
     ensures { λ r. ⌜ ((ask : Rule → Machine → Walked) (b : Span) → said yes (view-of r (now (events .exit)) (now (reports .exit)) (now (pool .exit))) ≡ walk ask (tokens-of (now (tokens .entry))) b unmatched-rcurly (view-of p (now (events .entry)) (now (reports .entry)) (now (pool .entry)))) ⌝ }
     ensures { λ r. ⌜ left (now (tokens .entry)) (r .s) ≤ left (now (tokens .entry)) (p .s) - 1 ⌝ }
 {
-    let reported = p.error(tokens, events, reports, pool, UNMATCHED_RCURLY, NO_HINT, Bump::No);
+    let reported = p.error(
+        tokens,
+        events,
+        reports,
+        pool,
+        UNMATCHED_RCURLY,
+        NO_HINT,
+        Bump::No,
+    );
     let e = Marker::new(reported.s);
     let started = reported.start(events);
     let taken = started.bump(tokens, events);
@@ -121,7 +144,13 @@ pub fn bump_all(p: Parser, tokens: &[u32], events: &mut [u32]) -> Parser
 }
 
 // What an entry leaves goes into one ParseError.
-pub fn left_over(p: Parser, tokens: &[u32], events: &mut [u32], reports: &mut [u32], pool: &mut [u32]) -> Parser
+pub fn left_over(
+    p: Parser,
+    tokens: &[u32],
+    events: &mut [u32],
+    reports: &mut [u32],
+    pool: &mut [u32],
+) -> Parser
     ensures { λ r. ⌜ ((ask : Rule → Machine → Walked) (b : Span) → said yes (view-of r (now (events .exit)) (now (reports .exit)) (now (pool .exit))) ≡ walk ask (tokens-of (now (tokens .entry))) b left-over (view-of p (now (events .entry)) (now (reports .entry)) (now (pool .entry)))) ⌝ }
     ensures { λ r. ⌜ left (now (tokens .entry)) (r .s) ≤ left (now (tokens .entry)) (p .s) ⌝ }
 {

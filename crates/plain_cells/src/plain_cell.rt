@@ -7,14 +7,13 @@ use parser::State;
 use layout::expected;
 use parser::matcher::Matcher;
 ghost use mathlib.Core.Path.{_≡_};
-ghost use mathlib.Core.Bool.{true, false};
-ghost use mathlib.Core.List.{List};
-ghost use Prim.Native.Nat.{ℕ, _+_, _-_, _≤_, _<_};
+ghost use mathlib.Core.Bool.{true};
+ghost use Prim.Native.Nat.{_≤_, _<_};
 ghost use Rattle.definitions.specs.Token.{tokens-of};
 ghost use Rattle.definitions.specs.Skeleton.{Span};
 ghost use Rattle.definitions.specs.Prog.{Rule, yes};
 ghost use Rattle.machine.specs.Machine.{Machine};
-ghost use Rattle.machine.specs.Walk.{Walked, said, walk, closed};
+ghost use Rattle.machine.specs.Walk.{Walked, walk};
 ghost use Rattle.parser.specs.View.{view, left, state-tested};
 ghost use Rattle.plain_cells.specs.Subprograms.{plain-cell};
 

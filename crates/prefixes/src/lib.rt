@@ -5,16 +5,14 @@ pub mod node_or_prop_prefix;
 use parser::Parser;
 use parser::ParserAnswered;
 ghost use mathlib.Core.Path.{_≡_};
-ghost use mathlib.Core.Bool.{true, false};
-ghost use mathlib.Core.List.{List};
-ghost use Prim.Native.Nat.{ℕ, _+_, _-_, _≤_, _<_};
+ghost use Prim.Native.Nat.{_-_, _≤_};
 ghost use Rattle.definitions.specs.Token.{tokens-of};
 ghost use Rattle.definitions.specs.Skeleton.{Span};
-ghost use Rattle.definitions.specs.Prog.{Rule, yes, also};
+ghost use Rattle.definitions.specs.Prog.{Rule};
 ghost use Rattle.definitions.specs.Grammar.{eat-node-or-prop-prefix};
 ghost use Rattle.machine.specs.Machine.{Machine};
-ghost use Rattle.machine.specs.Walk.{Walked, said, walk, closed};
-ghost use Rattle.parser.specs.View.{view-of, parser-tested, left, marker-of, ans-of};
+ghost use Rattle.machine.specs.Walk.{Walked, walk};
+ghost use Rattle.parser.specs.View.{view-of, left};
 ghost use Rattle.steps.specs.View.{parser-answered, found};
 
 pub fn eat_node_or_prop_prefix(
