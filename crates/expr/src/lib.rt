@@ -1,4 +1,8 @@
 // grammar/expr.rs: expressions by binding power; and `dt_expr` of grammar.rs.
+use binding_power::PREFIX_POWER;
+use binding_power::binding_power;
+use layout::expected;
+use layout::node_kind;
 use layout::refusal::TOO_DEEP;
 use layout::set::PREFIX_OPERATORS_SET;
 use layout::token_kind;
@@ -7,12 +11,8 @@ use parser::Parser;
 use parser::ParserTested;
 use parser::errors;
 use parser::errors::Bump;
-use layout::expected;
 use parser::marker::Marker;
 use parser::matcher::Matcher;
-use layout::node_kind;
-use binding_power::PREFIX_POWER;
-use binding_power::binding_power;
 use token_rows::token::kind_at;
 ghost use mathlib.Core.Path.{_≡_};
 ghost use mathlib.Core.Bool.{true};
@@ -108,9 +108,13 @@ pub fn dt_expr(
     let started = p.start(events);
     let opened = started.bump(tokens, events);
     let inner = expr(opened, tokens, events, reports, pool, allowed);
-    let end = inner
-        .p
-        .expect(tokens, events, reports, pool, Matcher::Kind(token_kind::RPAREN));
+    let end = inner.p.expect(
+        tokens,
+        events,
+        reports,
+        pool,
+        Matcher::Kind(token_kind::RPAREN),
+    );
     end.p.complete(events, m, node_kind::DT_EXPR)
 }
 
@@ -136,7 +140,16 @@ pub fn expr_binding_power(
     let started = p.start(events);
     let left = lhs(started, tokens, events, reports, pool, allowed - 1);
     if left.yes {
-        infix_chain(left.p, tokens, events, reports, pool, allowed - 1, min_bp, m)
+        infix_chain(
+            left.p,
+            tokens,
+            events,
+            reports,
+            pool,
+            allowed - 1,
+            min_bp,
+            m,
+        )
     } else {
         let q = left.p.ignore(events);
         ParserTested { p: q, yes: false }
@@ -255,9 +268,13 @@ fn ternary_rhs(
 {
     let middle = expr_binding_power(p, tokens, events, reports, pool, allowed, 0);
     if middle.yes {
-        let colon = middle
-            .p
-            .expect(tokens, events, reports, pool, Matcher::Kind(token_kind::COLON));
+        let colon = middle.p.expect(
+            tokens,
+            events,
+            reports,
+            pool,
+            Matcher::Kind(token_kind::COLON),
+        );
         if colon.yes {
             rhs(colon.p, tokens, events, reports, pool, allowed, 1)
         } else {
@@ -303,7 +320,10 @@ fn lhs(
         let q = macro_invocation(ident.p, tokens, events, reports, pool);
         return ParserTested { p: q, yes: true };
     }
-    let literal = ident.p.at(tokens, Matcher::Either(token_kind::NUMBER, token_kind::CHAR));
+    let literal = ident.p.at(
+        tokens,
+        Matcher::Either(token_kind::NUMBER, token_kind::CHAR),
+    );
     if literal.yes {
         let q = literal_expr(literal.p, tokens, events);
         return ParserTested { p: q, yes: true };
@@ -349,9 +369,13 @@ fn paren_expr(
     let started = p.start(events);
     let opened = started.bump(tokens, events);
     let inner = expr_binding_power(opened, tokens, events, reports, pool, allowed, 0);
-    let end = inner
-        .p
-        .expect(tokens, events, reports, pool, Matcher::Kind(token_kind::RPAREN));
+    let end = inner.p.expect(
+        tokens,
+        events,
+        reports,
+        pool,
+        Matcher::Kind(token_kind::RPAREN),
+    );
     let q = end.p.complete(events, m, node_kind::PAREN_EXPR);
     ParserTested {
         p: q,

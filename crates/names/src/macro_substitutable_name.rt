@@ -1,12 +1,12 @@
 // The matcher MacroSubstitutableName: a macro invocation with arguments, or a plain name.
 use crate::macros::macro_invocation;
-use parser::StateTested;
-use parser::State;
-use parser::errors::Bump;
-use layout::message::EXPECTED;
 use layout::hint::NO_HINT;
-use parser::matcher::Matcher;
+use layout::message::EXPECTED;
 use layout::set::NAME_SET;
+use parser::State;
+use parser::StateTested;
+use parser::errors::Bump;
+use parser::matcher::Matcher;
 ghost use mathlib.Core.Path.{_≡_};
 ghost use mathlib.Core.Bool.{true};
 ghost use mathlib.Core.List.{List};
@@ -84,7 +84,15 @@ pub fn expect(
     if name.yes {
         name.s
     } else {
-        name.s
-            .error(codes, tokens, events, reports, pool, EXPECTED, NO_HINT, Bump::No)
+        name.s.error(
+            codes,
+            tokens,
+            events,
+            reports,
+            pool,
+            EXPECTED,
+            NO_HINT,
+            Bump::No,
+        )
     }
 }

@@ -1,10 +1,10 @@
 // `macro_invocation` of grammar.rs: an Ident, and a bracketed argument list directly after it.
+use layout::node_kind;
 use layout::token_kind;
-use parser::StateTested;
 use parser::State;
+use parser::StateTested;
 use parser::marker::Marker;
 use parser::matcher::Matcher;
-use layout::node_kind;
 use token_rows::token::END;
 use token_rows::token::kind_at;
 ghost use mathlib.Core.Path.{_≡_};
@@ -132,12 +132,25 @@ fn argument_list(
     let opened = s.bump(tokens, events);
     let none = opened.at(codes, tokens, Matcher::Kind(token_kind::RPAREN));
     if none.yes {
-        let end = none.s
-            .expect(codes, tokens, events, reports, pool, Matcher::Kind(token_kind::RPAREN));
+        let end = none.s.expect(
+            codes,
+            tokens,
+            events,
+            reports,
+            pool,
+            Matcher::Kind(token_kind::RPAREN),
+        );
         end.s
     } else {
         let inner = arguments(none.s, tokens, events);
-        let end = inner.expect(codes, tokens, events, reports, pool, Matcher::Kind(token_kind::RPAREN));
+        let end = inner.expect(
+            codes,
+            tokens,
+            events,
+            reports,
+            pool,
+            Matcher::Kind(token_kind::RPAREN),
+        );
         end.s
     }
 }

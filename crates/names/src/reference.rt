@@ -2,16 +2,16 @@
 // invocation with arguments, or a label.
 use crate::macros::macro_invocation;
 use crate::unit_address;
+use layout::hint::NO_HINT;
+use layout::message::EXPECTED;
+use layout::node_kind;
 use layout::set::CONTINUE_COND_SET;
 use layout::token_kind;
-use parser::StateTested;
 use parser::State;
+use parser::StateTested;
 use parser::errors::Bump;
-use layout::message::EXPECTED;
-use layout::hint::NO_HINT;
 use parser::marker::Marker;
 use parser::matcher::Matcher;
-use layout::node_kind;
 ghost use mathlib.Core.Path.{_≡_};
 ghost use mathlib.Core.Bool.{true};
 ghost use mathlib.Core.List.{List};
@@ -42,7 +42,16 @@ fn path_segment(
         let unit = unit_address::eat(name.s, codes, tokens, events, reports, pool);
         unit.s
     } else {
-        name.s.error(codes, tokens, events, reports, pool, EXPECTED, NO_HINT, Bump::YesWrapErr)
+        name.s.error(
+            codes,
+            tokens,
+            events,
+            reports,
+            pool,
+            EXPECTED,
+            NO_HINT,
+            Bump::YesWrapErr,
+        )
     }
 }
 
@@ -92,8 +101,14 @@ fn path_segments(
     loop {
         let more = at_segment(q, codes, tokens);
         if more.yes {
-            let slash = more.s
-                .expect(codes, tokens, events, reports, pool, Matcher::Kind(token_kind::SLASH));
+            let slash = more.s.expect(
+                codes,
+                tokens,
+                events,
+                reports,
+                pool,
+                Matcher::Kind(token_kind::SLASH),
+            );
             q = path_segment(slash.s, codes, tokens, events, reports, pool);
         } else {
             return more.s;
@@ -113,7 +128,14 @@ fn path_rest(
     ensures { λ r. ⌜ left (now (tokens .entry)) r ≤ left (now (tokens .entry)) s ⌝ }
 {
     let segments = path_segments(s, codes, tokens, events, reports, pool);
-    let end = segments.expect(codes, tokens, events, reports, pool, Matcher::Kind(token_kind::RCURLY));
+    let end = segments.expect(
+        codes,
+        tokens,
+        events,
+        reports,
+        pool,
+        Matcher::Kind(token_kind::RCURLY),
+    );
     end.s
 }
 
@@ -131,7 +153,9 @@ fn path(
 {
     let absolute = s.eat(codes, tokens, events, Matcher::Kind(token_kind::SLASH));
     if absolute.yes {
-        let root = absolute.s.eat(codes, tokens, events, Matcher::Kind(token_kind::RCURLY));
+        let root = absolute
+            .s
+            .eat(codes, tokens, events, Matcher::Kind(token_kind::RCURLY));
         if root.yes {
             return root.s;
         }
@@ -142,7 +166,16 @@ fn path(
     if label.yes {
         return path_rest(label.s, codes, tokens, events, reports, pool);
     }
-    let q = label.s.error(codes, tokens, events, reports, pool, EXPECTED, NO_HINT, Bump::YesWrapErr);
+    let q = label.s.error(
+        codes,
+        tokens,
+        events,
+        reports,
+        pool,
+        EXPECTED,
+        NO_HINT,
+        Bump::YesWrapErr,
+    );
     path_rest(q, codes, tokens, events, reports, pool)
 }
 
@@ -169,7 +202,16 @@ pub fn reference_noamp(
     if label.yes {
         return label.s;
     }
-    label.s.error(codes, tokens, events, reports, pool, EXPECTED, NO_HINT, Bump::YesWrapErr)
+    label.s.error(
+        codes,
+        tokens,
+        events,
+        reports,
+        pool,
+        EXPECTED,
+        NO_HINT,
+        Bump::YesWrapErr,
+    )
 }
 
 fn consume(

@@ -1,10 +1,10 @@
 // The matcher UnitAddress: an AtSign and a name.
 use crate::macro_substitutable_name;
-use layout::token_kind;
-use parser::StateTested;
-use parser::State;
-use parser::marker::Marker;
 use layout::node_kind;
+use layout::token_kind;
+use parser::State;
+use parser::StateTested;
+use parser::marker::Marker;
 ghost use mathlib.Core.Path.{_≡_};
 ghost use mathlib.Core.Bool.{true};
 ghost use Prim.Native.Nat.{_-_, _≤_};

@@ -1,5 +1,5 @@
 -- `at_end`: of the numbers; the codes stay.
-use Rattle.token_rows.proofs.Kit.{flags}
+use Rattle.basics.proofs.Flags.{flags}
 use Rattle.parser.proofs.Moves.{with-said, with-left}
 use Rattle.parser.proofs.Parser.at_end.Statement.{statement}
 use Rattle.parser.proofs.Parser.at_end.Tie as tie

@@ -1,5 +1,5 @@
 -- `bump`: of the numbers; the codes stay.
-use Rattle.token_rows.proofs.Kit.{flags}
+use Rattle.basics.proofs.Flags.{flags}
 use Rattle.parser.proofs.Moves.{with-said, with-left}
 use borrow.Author.Needs.{needs}
 use Rattle.parser.proofs.Parser.bump.Statement.{statement}

@@ -1,5 +1,5 @@
 -- `peek`: of the numbers; the codes stay.
-use Rattle.token_rows.proofs.Kit.{flags}
+use Rattle.basics.proofs.Flags.{flags}
 use Rattle.parser.proofs.Moves.{with-view, with-left}
 use Rattle.parser.proofs.Parser.peek.Statement.{statement}
 use Rattle.parser.proofs.Parser.peek.Tie as tie

@@ -1,5 +1,5 @@
 -- `refuse`: past every row nothing is left.
-use Rattle.parser.proofs.Kit.{left-none, refused-past}
+use Rattle.parser.proofs.Stores.{left-none, refused-past}
 use mathlib.Core.Path.{_∙_}
 use mathlib.Core.List.{[]}
 use Rattle.parser.specs.View.{view}

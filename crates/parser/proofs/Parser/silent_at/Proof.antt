@@ -1,5 +1,5 @@
 -- `silent_at`: of the numbers; the codes stay.
-use Rattle.token_rows.proofs.Kit.{flags}
+use Rattle.basics.proofs.Flags.{flags}
 use Rattle.parser.proofs.Moves.{with-said, with-left}
 use Rattle.parser.proofs.Parser.silent_at.Statement.{statement}
 use Rattle.parser.proofs.Parser.silent_at.Tie as tie

@@ -1,5 +1,5 @@
 -- `at`: the expectations, and then the test.
-use Rattle.token_rows.proofs.Kit.{flags}
+use Rattle.basics.proofs.Flags.{flags}
 use mathlib.Core.Path.{_≡_, refl, sym, _∙_, ap}
 use Rattle.definitions.specs.Token.{tokens-of}
 use Rattle.parser.specs.View.{view, matcher-of}

@@ -1,5 +1,5 @@
 -- `at_immediate`: the expectation, and the row at the cursor.
-use Rattle.token_rows.proofs.Kit.{flags}
+use Rattle.basics.proofs.Flags.{flags}
 use Rattle.definitions.specs.Token.{tokens-of}
 use Rattle.parser.specs.View.{view, left}
 use Rattle.parser.proofs.Programs.{immediate-is}

@@ -1,5 +1,5 @@
 -- `bump`: a peek, a row, its event.
-use Rattle.token_rows.proofs.Kit.{flags}
+use Rattle.basics.proofs.Flags.{flags}
 use borrow.Author.Tests.{ltb-true, ltb-false}
 use Rattle.parser.specs.View.{view, left}
 use Rattle.parser.proofs.Moves.{bump-in, bump-past}

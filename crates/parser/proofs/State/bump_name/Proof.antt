@@ -1,5 +1,5 @@
 -- `bump_name`: a peek, a row, those of the set after it, one event.
-use Rattle.token_rows.proofs.Kit.{flags}
+use Rattle.basics.proofs.Flags.{flags}
 use borrow.Author.Tests.{ltb-true, ltb-false}
 use Rattle.parser.specs.View.{view, left}
 use Rattle.parser.proofs.Moves.{name-in, name-past}

@@ -1,10 +1,10 @@
 -- `bump_unless_at_end`: a token, if there is one.
-use Rattle.token_rows.proofs.Kit.{flags}
+use Rattle.basics.proofs.Flags.{flags}
 use mathlib.Core.Path.{_≡_, refl, sym, _∙_, ap}
 use mathlib.Core.Bool.{true, false}
 use Rattle.definitions.specs.Token.{tokens-of}
 use Rattle.definitions.specs.Prog.{bump}
-use Rattle.definitions.specs.Check.{bump!}
+use Rattle.definitions.specs.Check.{bump! }
 use Rattle.parser.specs.View.{view}
 use Rattle.parser.proofs.Programs.{answered, walk-act, end-yes, end-no}
 use borrow.Author.Needs.{needs}

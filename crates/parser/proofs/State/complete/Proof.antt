@@ -1,5 +1,5 @@
 -- `complete`: the placeholder becomes a start, and a finish is pushed.
-use Rattle.token_rows.proofs.Kit.{flags}
+use Rattle.basics.proofs.Flags.{flags}
 use Rattle.parser.specs.View.{view, left, marker-of}
 use Rattle.parser.proofs.Moves.{complete-on, complete-off}
 use borrow.Author.Needs.{needs}

@@ -1,7 +1,7 @@
 -- `eat`: the test, and the token or name, or else the expectations.
-use Rattle.token_rows.proofs.Kit.{flags, true-false}
+use Rattle.basics.proofs.Flags.{flags}
 use mathlib.Core.Path.{_≡_, refl, sym, _∙_, ap}
-use mathlib.Core.Bool.{true, false}
+use mathlib.Core.Bool.{true, false, false≢true}
 use Rattle.definitions.specs.Token.{tokens-of}
 use Rattle.parser.specs.View.{view, matcher-of}
 use Rattle.parser.proofs.Programs.{answered, matches-is, eat-yes, eat-no}
@@ -56,7 +56,7 @@ returns-2 c =
           (sym (matches-is ask ts b (args .m) (view self codes₀ events₀ reports pool))
           ∙ answered _ false _ _ (silent .ensures .0 b codes₀ events₀ reports pool) (if1 .left))
           (push-expected .ensures .0 ask ts b events₀ reports pool),
-      (omega (flags, silent .ensures .1 .0, push-expected .ensures .1 tk), λ e. absurd (true-false (sym e))),
+      (omega (flags, silent .ensures .1 .0, push-expected .ensures .1 tk), λ e. absurd (false≢true e)),
     )
 
 pub eat-spec : {M : Type 1} → statement M

@@ -1,7 +1,7 @@
 -- `eat_starting`: the test, and on a match the marker and the token or name.
-use Rattle.token_rows.proofs.Kit.{flags, true-false}
+use Rattle.basics.proofs.Flags.{flags}
 use mathlib.Core.Path.{sym}
-use mathlib.Core.Bool.{true, false}
+use mathlib.Core.Bool.{true, false, false≢true}
 use Rattle.definitions.specs.Token.{tokens-of}
 use Rattle.parser.specs.View.{view, matcher-of, marker-of}
 use Rattle.parser.proofs.Programs.{answered, starting-yes, starting-no}
@@ -61,7 +61,7 @@ returns-2 c =
       λ ask b reports pool.
           starting-no ask ts b (matcher-of (args .matcher)) (view self codes₀ events₀ reports pool) (view (at .result .s) _ events₀ reports pool)
           (marker-of (new .result)) (answered _ false _ _ (at .ensures .0 ask b events₀ reports pool) (if1 .left)) (new .ensures),
-      (at .ensures .1 .0, λ e. absurd (true-false (sym e))),
+      (at .ensures .1 .0, λ e. absurd (false≢true e)),
     )
 
 pub eat-starting-spec : {M : Type 1} → statement M

@@ -1,5 +1,5 @@
 -- `emit`: the event, and then the row.
-use Rattle.token_rows.proofs.Kit.{flags}
+use Rattle.basics.proofs.Flags.{flags}
 use Rattle.definitions.specs.Token.{tokens-of}
 use borrow.Author.Tests.{eqb-true}
 use Rattle.parser.specs.View.{view, span-of}

@@ -1,7 +1,7 @@
 -- `expect`: what `eat` takes, or a report.
-use Rattle.token_rows.proofs.Kit.{flags, true-false}
+use Rattle.basics.proofs.Flags.{flags}
 use mathlib.Core.Path.{sym}
-use mathlib.Core.Bool.{false}
+use mathlib.Core.Bool.{false, false≢true}
 use Rattle.definitions.specs.Token.{tokens-of}
 use Rattle.parser.specs.View.{view, matcher-of}
 use Rattle.parser.proofs.Programs.{answered, expect-yes, expect-no}
@@ -61,7 +61,7 @@ returns-2 c =
       λ ask b.
           expect-no ask ts b (matcher-of (args .m)) (view self codes₀ events₀ reports₀ pool₀) (view (eat .result .s) _ _ reports₀ pool₀) _
           (answered _ false _ _ (eat .ensures .0 ask b reports₀ pool₀) (if1 .left)) (error .ensures .0 ask b),
-      (omega (flags, eat .ensures .1 .0, error .ensures .1), λ e. absurd (true-false (sym e))),
+      (omega (flags, eat .ensures .1 .0, error .ensures .1), λ e. absurd (false≢true e)),
     )
 
 pub expect-spec : {M : Type 1} → statement M

@@ -1,5 +1,5 @@
 -- `expect_recoverable`: what `eat` takes, or a report, which takes a token that is not in the recovery set.
-use Rattle.token_rows.proofs.Kit.{flags}
+use Rattle.basics.proofs.Flags.{flags}
 use mathlib.Core.Bool.{true, false}
 use Rattle.definitions.specs.Token.{tokens-of}
 use Rattle.parser.specs.View.{view, matcher-of}

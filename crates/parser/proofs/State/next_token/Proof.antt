@@ -1,5 +1,5 @@
 -- `next_token`: one row, or none at the end.
-use Rattle.token_rows.proofs.Kit.{flags}
+use Rattle.basics.proofs.Flags.{flags}
 use Rattle.parser.specs.View.{view, left}
 use Rattle.parser.proofs.Moves.{took-row, took-nothing}
 use Rattle.parser.proofs.State.next_token.Statement.{statement}

@@ -1,5 +1,5 @@
 -- `push_event`: a row, unless something was refused.
-use Rattle.token_rows.proofs.Kit.{flags}
+use Rattle.basics.proofs.Flags.{flags}
 use mathlib.Core.Path.{_≡_, refl, sym, _∙_, ap}
 use Rattle.parser.specs.View.{left}
 use Rattle.parser.proofs.Moves.{push-on, push-off}

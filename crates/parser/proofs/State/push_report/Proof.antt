@@ -1,5 +1,5 @@
 -- `push_report`: the row and its codes, or refusal 7.
-use Rattle.token_rows.proofs.Kit.{flags}
+use Rattle.basics.proofs.Flags.{flags}
 use Rattle.parser.specs.View.{view, left, span-of}
 use Rattle.parser.proofs.Reports.{report-fits, report-no-pool, report-no-row}
 use borrow.Author.Needs.{needs}

@@ -1,6 +1,6 @@
 -- `push_row`: three stores, or refusal 6.
-use Rattle.token_rows.proofs.Kit.{flags}
-use Rattle.parser.proofs.Kit.{sets3}
+use Rattle.basics.proofs.Flags.{flags}
+use Rattle.parser.proofs.Stores.{sets3}
 use Rattle.machine.specs.Machine as M
 use Rattle.parser.specs.View.{left}
 use lib.ListN.{length-set}

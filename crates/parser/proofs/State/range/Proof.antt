@@ -1,5 +1,5 @@
 -- `range`: the row at the cursor.
-use Rattle.parser.proofs.Kit.{range-rows}
+use Rattle.parser.proofs.Stores.{range-rows}
 use mathlib.Core.Path.{refl}
 use lib.ListN.{drop}
 use Rattle.definitions.specs.Token.{tokens-of}

@@ -1,5 +1,5 @@
 -- `refuse`: the first refusal stays, and the cursor goes past every row.
-use Rattle.token_rows.proofs.Kit.{flags}
+use Rattle.basics.proofs.Flags.{flags}
 use Rattle.machine.specs.Machine as M
 use Rattle.parser.specs.View.{left}
 use Rattle.parser.proofs.State.refuse.Statement.{statement}

@@ -1,7 +1,6 @@
 -- `silent_at_macro_invocation_with_args`: an Ident, and an LParen right after it.
-use Rattle.token_rows.proofs.Kit.{true-false}
 use mathlib.Core.Path.{sym}
-use mathlib.Core.Bool.{true, false}
+use mathlib.Core.Bool.{true, false, false≢true}
 use Rattle.definitions.specs.Token.{tokens-of}
 use Rattle.parser.specs.View.{view}
 use Rattle.parser.proofs.Programs.{answered, macro-args-yes, macro-args-no}
@@ -40,7 +39,7 @@ returns-2 c =
       λ ask b codes events reports pool.
           macro-args-no ask ts b (view self codes events reports pool) (view (silent-at .result .s) codes events reports pool)
           (answered _ false _ _ (silent-at .ensures .0 b codes events reports pool) (if1 .left)),
-      (silent-at .ensures .1 .0, λ e. absurd (true-false (sym e))),
+      (silent-at .ensures .1 .0, λ e. absurd (false≢true e)),
     )
 
 pub silent-at-macro-invocation-with-args-spec : {M : Type 1} → statement M

@@ -1,7 +1,7 @@
 -- `silent_eat`: the test, and the token or name.
-use Rattle.token_rows.proofs.Kit.{flags, true-false}
+use Rattle.basics.proofs.Flags.{flags}
 use mathlib.Core.Path.{_≡_, refl, sym, _∙_, ap}
-use mathlib.Core.Bool.{Bool, true, false}
+use mathlib.Core.Bool.{Bool, true, false, true≢false}
 use Rattle.definitions.specs.Token.{tokens-of}
 use Rattle.definitions.specs.Run.{truth}
 use Rattle.machine.specs.Walk.{said}
@@ -51,7 +51,7 @@ returns-2 c =
           ∙ silent-eat-no ask ts b (matcher-of (args .m)) (view self codes events₀ reports pool) (view (silent .result .s) codes events₀ reports pool)
           (sym (matches-is ask ts b (args .m) (view self codes events₀ reports pool))
           ∙ answered _ false _ _ (silent .ensures .0 b codes events₀ reports pool) (if1 .left)),
-      (silent .ensures .1 .0, λ e. absurd (true-false (sym e ∙ if1 .left))),
+      (silent .ensures .1 .0, λ e. absurd (true≢false (sym e ∙ if1 .left))),
     )
 
 pub silent-eat-spec : {M : Type 1} → statement M

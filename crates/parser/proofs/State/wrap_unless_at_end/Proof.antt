@@ -1,11 +1,11 @@
 -- `wrap_unless_at_end`: a token in a ParseError, if there is one.
-use Rattle.token_rows.proofs.Kit.{flags}
+use Rattle.basics.proofs.Flags.{flags}
 use mathlib.Core.Path.{_≡_, refl, sym, _∙_, ap}
 use mathlib.Core.Bool.{true, false}
 use native.Mathlib.Omega.{arith}
 use Rattle.definitions.specs.Token.{tokens-of}
 use Rattle.definitions.specs.Prog.{bump}
-use Rattle.definitions.specs.Check.{in-node, bump!}
+use Rattle.definitions.specs.Check.{in-node, bump! }
 use Rattle.definitions.specs.NodeKind as N
 use Rattle.parser.specs.View.{view, marker-of}
 use Rattle.parser.proofs.Programs.{answered, walk-act, walk-node, end-yes, end-no}

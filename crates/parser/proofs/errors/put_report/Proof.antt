@@ -1,5 +1,5 @@
 -- `put_report`: nine stores, if the row is inside.
-use Rattle.token_rows.proofs.Kit.{flags}
+use Rattle.basics.proofs.Flags.{flags}
 use mathlib.Core.List.{[], _∷_}
 use lib.ListN.{length-set}
 use Rattle.parser.proofs.Reports.{sets9, stored-row, not-stored}

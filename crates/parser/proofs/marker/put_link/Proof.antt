@@ -1,5 +1,5 @@
 -- `put_link`: one store, if the row is inside and the link leads on.
-use Rattle.token_rows.proofs.Kit.{flags}
+use Rattle.basics.proofs.Flags.{flags}
 use Rattle.parser.proofs.Moves.{linked, not-ahead, not-linked}
 use lib.ListN.{length-set}
 use Rattle.parser.proofs.marker.put_link.Statement.{statement}

@@ -1,5 +1,5 @@
 -- `put_start`: two stores, if the row is inside.
-use Rattle.token_rows.proofs.Kit.{flags}
+use Rattle.basics.proofs.Flags.{flags}
 use Rattle.parser.proofs.Moves.{started, not-started}
 use lib.ListN.{length-set}
 use Rattle.parser.proofs.marker.put_start.Statement.{statement}

@@ -1,7 +1,7 @@
 -- `push_expected`: each matcher's codes, the first for all matchers alike.
 use Prim.Native.Nat.{ℕ}
 use mathlib.Core.Path.{_≡_, sym, _∙_, ap}
-use Rattle.token_rows.proofs.Kit.{flags}
+use Rattle.basics.proofs.Flags.{flags}
 use Rattle.definitions.specs.Prog.{add-expected}
 use Rattle.machine.specs.Walk.{Walked, perform}
 use Rattle.parser.specs.View.{view, first-code}

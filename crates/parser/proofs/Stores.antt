@@ -1,4 +1,4 @@
--- Laws that the proofs of the primitives share: a range, stores, pending codes, what is left.
+-- Stores as the code makes them, pending codes, a range, and what is left past every row.
 use Prim.Native.Nat.{ℕ, suc, _+_, _-_, _≤_, _<_}
 use mathlib.Core.Path.{_≡_, sym, _∙_, ap}
 use mathlib.Core.Bool.{true, false}
@@ -9,7 +9,8 @@ use lib.ListN.{length, set, take}
 use lib.Seq.{take-suc-set, sets, length-take-le, take-all}
 use borrow.Author.Tests.{lt-ltb, le-ltb}
 use Rattle.definitions.specs.Token.{Token}
-use Rattle.machine.specs.Machine.{Machine, low, range-at, refuse}
+use Rattle.basics.specs.Word.{low}
+use Rattle.machine.specs.Machine.{Machine, range-at, refuse}
 use Rattle.parser.specs.View.{left}
 use Rattle.parser.specs.declared.State.{State}
 

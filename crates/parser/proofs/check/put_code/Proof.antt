@@ -1,10 +1,10 @@
 -- `put_code`: a store, if the place is inside.
-use Rattle.token_rows.proofs.Kit.{flags}
+use Rattle.basics.proofs.Flags.{flags}
 use mathlib.Core.Path.{refl, sym}
 use lib.ListN.{length-set}
 use lib.Seq.{set-out}
-use Rattle.parser.proofs.checks.put_code.Statement.{statement}
-use Rattle.parser.proofs.checks.put_code.Tie as tie
+use Rattle.parser.proofs.check.put_code.Statement.{statement}
+use Rattle.parser.proofs.check.put_code.Tie as tie
 
 slice-write-codes : tie.Need-slice-write-codes
 slice-write-codes c = omega flags
