@@ -13,15 +13,15 @@ use parser::marker::Marker;
 use parser::matcher::Matcher;
 use layout::node_kind;
 ghost use mathlib.Core.Path.{_≡_};
-ghost use mathlib.Core.Bool.{true, false};
+ghost use mathlib.Core.Bool.{true};
 ghost use Prim.Native.Nat.{_-_, _≤_, _<_};
 ghost use Rattle.definitions.specs.Token.{tokens-of};
 ghost use Rattle.definitions.specs.Skeleton.{Span};
 ghost use Rattle.definitions.specs.Prog.{Rule, yes};
 ghost use Rattle.definitions.specs.Grammar.{eat-dts-include, eat-dts-directive};
 ghost use Rattle.machine.specs.Machine.{Machine};
-ghost use Rattle.machine.specs.Walk.{Walked, said, walk, closed};
-ghost use Rattle.parser.specs.View.{view, left, state-tested, marker-of};
+ghost use Rattle.machine.specs.Walk.{Walked, walk, closed};
+ghost use Rattle.parser.specs.View.{view, left, state-tested, marker-of, says, walks};
 ghost use Rattle.directives.specs.Subprograms.{directive-end, memreserve-arguments, deleted, delete-arguments, directive-with-arguments};
 
 pub fn eat_dts_include(
@@ -32,7 +32,7 @@ pub fn eat_dts_include(
     reports: &mut [u32],
     pool: &mut [u32],
 ) -> StateTested
-    ensures { λ r. ⌜ ((ask : Rule → Machine → Walked) (b : Span) → state-tested r (now (codes .exit)) (now (events .exit)) (now (reports .exit)) (now (pool .exit)) ≡ walk ask (tokens-of (now (tokens .entry))) b eat-dts-include (view s (now (codes .entry)) (now (events .entry)) (now (reports .entry)) (now (pool .entry)))) ⌝ }
+    ensures { λ r. ⌜ walks eat-dts-include s (state-tested r) codes tokens events reports pool ⌝ }
     ensures { λ r. ⌜ left (now (tokens .entry)) (r .s) ≤ left (now (tokens .entry)) s ⌝ }
     ensures { λ r. ⌜ (r .yes ≡ true → left (now (tokens .entry)) (r .s) < left (now (tokens .entry)) s) ⌝ }
 {
@@ -59,7 +59,8 @@ fn directive_end(
     pool: &mut [u32],
     m: Marker,
 ) -> StateTested
-    ensures { λ r. ⌜ ((ask : Rule → Machine → Walked) (b : Span) → state-tested r (now (codes .exit)) (now (events .exit)) (now (reports .exit)) (now (pool .exit)) ≡ closed (marker-of m) (walk ask (tokens-of (now (tokens .entry))) b directive-end (view s (now (codes .entry)) (now (events .entry)) (now (reports .entry)) (now (pool .entry))))) ⌝ }
+    ensures { λ r. ⌜ ((ask : Rule → Machine → Walked) (b : Span) → state-tested r (now (codes .exit)) (now (events .exit)) (now (reports .exit)) (now (pool .exit))
+        ≡ closed (marker-of m) (walk ask (tokens-of (now (tokens .entry))) b directive-end (view s (now (codes .entry)) (now (events .entry)) (now (reports .entry)) (now (pool .entry))))) ⌝ }
     ensures { λ r. ⌜ left (now (tokens .entry)) (r .s) ≤ left (now (tokens .entry)) s ⌝ }
 {
     let end = s.expect_recoverable(
@@ -83,7 +84,7 @@ fn memreserve_arguments(
     reports: &mut [u32],
     pool: &mut [u32],
 ) -> State
-    ensures { λ r. ⌜ ((ask : Rule → Machine → Walked) (b : Span) → said yes (view r (now (codes .exit)) (now (events .exit)) (now (reports .exit)) (now (pool .exit))) ≡ walk ask (tokens-of (now (tokens .entry))) b memreserve-arguments (view s (now (codes .entry)) (now (events .entry)) (now (reports .entry)) (now (pool .entry)))) ⌝ }
+    ensures { λ r. ⌜ walks memreserve-arguments s (says yes r) codes tokens events reports pool ⌝ }
     ensures { λ r. ⌜ left (now (tokens .entry)) r ≤ left (now (tokens .entry)) s ⌝ }
 {
     let m_params = Marker::new(s);
@@ -104,7 +105,7 @@ fn eat_deleted(
     reports: &mut [u32],
     pool: &mut [u32],
 ) -> StateTested
-    ensures { λ r. ⌜ ((ask : Rule → Machine → Walked) (b : Span) → state-tested r (now (codes .exit)) (now (events .exit)) (now (reports .exit)) (now (pool .exit)) ≡ walk ask (tokens-of (now (tokens .entry))) b deleted (view s (now (codes .entry)) (now (events .entry)) (now (reports .entry)) (now (pool .entry)))) ⌝ }
+    ensures { λ r. ⌜ walks deleted s (state-tested r) codes tokens events reports pool ⌝ }
     ensures { λ r. ⌜ left (now (tokens .entry)) (r .s) ≤ left (now (tokens .entry)) s ⌝ }
 {
     let reference = reference::eat(s, codes, tokens, events, reports, pool);
@@ -128,7 +129,7 @@ fn delete_arguments(
     reports: &mut [u32],
     pool: &mut [u32],
 ) -> State
-    ensures { λ r. ⌜ ((ask : Rule → Machine → Walked) (b : Span) → said yes (view r (now (codes .exit)) (now (events .exit)) (now (reports .exit)) (now (pool .exit))) ≡ walk ask (tokens-of (now (tokens .entry))) b delete-arguments (view s (now (codes .entry)) (now (events .entry)) (now (reports .entry)) (now (pool .entry)))) ⌝ }
+    ensures { λ r. ⌜ walks delete-arguments s (says yes r) codes tokens events reports pool ⌝ }
     ensures { λ r. ⌜ left (now (tokens .entry)) r ≤ left (now (tokens .entry)) s ⌝ }
 {
     let m_params = Marker::new(s);
@@ -148,7 +149,7 @@ fn eat_directive_with_arguments(
     reports: &mut [u32],
     pool: &mut [u32],
 ) -> StateTested
-    ensures { λ r. ⌜ ((ask : Rule → Machine → Walked) (b : Span) → state-tested r (now (codes .exit)) (now (events .exit)) (now (reports .exit)) (now (pool .exit)) ≡ walk ask (tokens-of (now (tokens .entry))) b directive-with-arguments (view s (now (codes .entry)) (now (events .entry)) (now (reports .entry)) (now (pool .entry)))) ⌝ }
+    ensures { λ r. ⌜ walks directive-with-arguments s (state-tested r) codes tokens events reports pool ⌝ }
     ensures { λ r. ⌜ left (now (tokens .entry)) (r .s) ≤ left (now (tokens .entry)) s ⌝ }
     ensures { λ r. ⌜ (r .yes ≡ true → left (now (tokens .entry)) (r .s) ≤ left (now (tokens .entry)) s - 1) ⌝ }
 {
@@ -179,7 +180,7 @@ pub fn eat_dts_directive(
     reports: &mut [u32],
     pool: &mut [u32],
 ) -> StateTested
-    ensures { λ r. ⌜ ((ask : Rule → Machine → Walked) (b : Span) → state-tested r (now (codes .exit)) (now (events .exit)) (now (reports .exit)) (now (pool .exit)) ≡ walk ask (tokens-of (now (tokens .entry))) b eat-dts-directive (view s (now (codes .entry)) (now (events .entry)) (now (reports .entry)) (now (pool .entry)))) ⌝ }
+    ensures { λ r. ⌜ walks eat-dts-directive s (state-tested r) codes tokens events reports pool ⌝ }
     ensures { λ r. ⌜ left (now (tokens .entry)) (r .s) ≤ left (now (tokens .entry)) s ⌝ }
     ensures { λ r. ⌜ (r .yes ≡ true → left (now (tokens .entry)) (r .s) ≤ left (now (tokens .entry)) s - 1) ⌝ }
 {

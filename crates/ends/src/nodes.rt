@@ -18,16 +18,14 @@ use parser::errors::TextRange;
 use parser::marker::Marker;
 use parser::matcher::Matcher;
 ghost use mathlib.Core.Path.{_≡_};
-ghost use mathlib.Core.List.{List};
-ghost use Prim.Native.Nat.{ℕ, _-_, _≤_};
+ghost use Prim.Native.Nat.{_-_, _≤_};
 ghost use Rattle.definitions.specs.Token.{tokens-of};
-ghost use Rattle.definitions.specs.Skeleton.{Span};
 ghost use Rattle.definitions.specs.Prog.{Rule, yes, loop};
 ghost use Rattle.definitions.specs.Run.{truth};
 ghost use Rattle.definitions.specs.Grammar.{forbidden-property, left-over-turn, left-over};
 ghost use Rattle.machine.specs.Machine.{Machine};
 ghost use Rattle.machine.specs.Walk.{Walked, said, walk, closed};
-ghost use Rattle.parser.specs.View.{view-of, parser-tested, left, marker-of, ans-of, span-of};
+ghost use Rattle.parser.specs.View.{view-of, parser-tested, left, marker-of, ans-of, span-of, looks-of, moves-of, says-of, walks-of};
 ghost use Rattle.ends.specs.Subprograms.{node-end, unmatched-rcurly};
 
 // Yes or No.
@@ -48,7 +46,7 @@ pub fn answered(k: ParserTested) -> ParserAnswered
 
 // `!allow_prop && check(..).silent().at()`
 pub fn forbidden_property(p: Parser, tokens: &[u32], allow_prop: bool) -> ParserTested
-    ensures { λ r. ⌜ ((ask : Rule → Machine → Walked) (b : Span) (events reports pool : List ℕ) → parser-tested r events reports pool ≡ walk ask (tokens-of (now (tokens .entry))) b (forbidden-property «allow_prop») (view-of p events reports pool)) ⌝ }
+    ensures { λ r. ⌜ looks-of (forbidden-property «allow_prop») p (parser-tested r) tokens ⌝ }
     ensures { λ r. ⌜ left (now (tokens .entry)) (r .p .s) ≤ left (now (tokens .entry)) (p .s) ⌝ }
 {
     if allow_prop {
@@ -68,7 +66,8 @@ pub fn node_end(
     m: Marker,
     lcurly_span: TextRange,
 ) -> Parser
-    ensures { λ r. ⌜ ((ask : Rule → Machine → Walked) → said yes (view-of r (now (events .exit)) (now (reports .exit)) (now (pool .exit))) ≡ closed (marker-of m) (walk ask (tokens-of (now (tokens .entry))) (span-of «lcurly_span») node-end (view-of p (now (events .entry)) (now (reports .entry)) (now (pool .entry))))) ⌝ }
+    ensures { λ r. ⌜ ((ask : Rule → Machine → Walked) → said yes (view-of r (now (events .exit)) (now (reports .exit)) (now (pool .exit)))
+        ≡ closed (marker-of m) (walk ask (tokens-of (now (tokens .entry))) (span-of «lcurly_span») node-end (view-of p (now (events .entry)) (now (reports .entry)) (now (pool .entry))))) ⌝ }
     ensures { λ r. ⌜ left (now (tokens .entry)) (r .s) ≤ left (now (tokens .entry)) (p .s) ⌝ }
 {
     let end = p.at_end(tokens);
@@ -111,7 +110,7 @@ pub fn unmatched_rcurly(
     reports: &mut [u32],
     pool: &mut [u32],
 ) -> Parser
-    ensures { λ r. ⌜ ((ask : Rule → Machine → Walked) (b : Span) → said yes (view-of r (now (events .exit)) (now (reports .exit)) (now (pool .exit))) ≡ walk ask (tokens-of (now (tokens .entry))) b unmatched-rcurly (view-of p (now (events .entry)) (now (reports .entry)) (now (pool .entry)))) ⌝ }
+    ensures { λ r. ⌜ walks-of unmatched-rcurly p (says-of yes r) tokens events reports pool ⌝ }
     ensures { λ r. ⌜ left (now (tokens .entry)) (r .s) ≤ left (now (tokens .entry)) (p .s) - 1 ⌝ }
 {
     let reported = p.error(
@@ -130,7 +129,7 @@ pub fn unmatched_rcurly(
 }
 
 pub fn bump_all(p: Parser, tokens: &[u32], events: &mut [u32]) -> Parser
-    ensures { λ r. ⌜ ((ask : Rule → Machine → Walked) (b : Span) (reports pool : List ℕ) → said yes (view-of r (now (events .exit)) reports pool) ≡ walk ask (tokens-of (now (tokens .entry))) b (loop left-over-turn) (view-of p (now (events .entry)) reports pool)) ⌝ }
+    ensures { λ r. ⌜ moves-of (loop left-over-turn) p (says-of yes r) tokens events ⌝ }
     ensures { λ r. ⌜ left (now (tokens .entry)) (r .s) ≤ left (now (tokens .entry)) (p .s) ⌝ }
 {
     let mut q = p;
@@ -151,7 +150,7 @@ pub fn left_over(
     reports: &mut [u32],
     pool: &mut [u32],
 ) -> Parser
-    ensures { λ r. ⌜ ((ask : Rule → Machine → Walked) (b : Span) → said yes (view-of r (now (events .exit)) (now (reports .exit)) (now (pool .exit))) ≡ walk ask (tokens-of (now (tokens .entry))) b left-over (view-of p (now (events .entry)) (now (reports .entry)) (now (pool .entry)))) ⌝ }
+    ensures { λ r. ⌜ walks-of left-over p (says-of yes r) tokens events reports pool ⌝ }
     ensures { λ r. ⌜ left (now (tokens .entry)) (r .s) ≤ left (now (tokens .entry)) (p .s) ⌝ }
 {
     let end = p.at_end(tokens);

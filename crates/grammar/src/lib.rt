@@ -18,7 +18,7 @@ use layout::refusal::TOO_DEEP;
 use layout::token_kind;
 use layout::set::CONTINUE_COND_SET;
 use layout::set::ITEM_RECOVERY_SET;
-use names::macro_invocation;
+use macros::macro_invocation;
 use names::silent_eat_reference;
 use ends::nodes::forbidden_property;
 use ends::nodes::node_end;
@@ -50,13 +50,11 @@ use prefixes::eat_node_or_prop_prefix;
 use plain_cells::eat_plain_cell;
 use ends::unfinished;
 ghost use mathlib.Core.Path.{_≡_};
-ghost use mathlib.Core.Bool.{true, false};
-ghost use Prim.Native.Nat.{_+_, _-_, _≤_, _<_};
-ghost use Rattle.definitions.specs.Token.{tokens-of};
+ghost use mathlib.Core.Bool.{true};
+ghost use Prim.Native.Nat.{_-_, _≤_, _<_};
 ghost use Rattle.definitions.specs.Prog.{yes, item, propvalues, eat-cell};
 ghost use Rattle.definitions.specs.Grammar.{eat-inside, branch, cond-branches-and-end, eat-preprocessor-directive, cells, dt-cell-list, bits-value, propvalue, dt-property, dt-node-body, no-property, eat-node-or-prop};
-ghost use Rattle.machine.specs.Walk.{said, closed, walk-rule, walk-prog, unlabelled};
-ghost use Rattle.parser.specs.View.{view-of, parser-tested, left, marker-of};
+ghost use Rattle.parser.specs.View.{parser-tested, left, calls-of, calls-on-of, closes-of, runs-of, runs-on-of, says-of};
 ghost use Rattle.steps.specs.View.{parser-answered};
 ghost use Rattle.grammar.specs.Subprograms.{inside-of, cell-rest, value-rest, item-rest};
 
@@ -71,7 +69,7 @@ fn cells(
     allowed: usize,
     until_end: bool,
 ) -> ParserTested
-    ensures { λ r. ⌜ parser-tested r (now (events .exit)) (now (reports .exit)) (now (pool .exit)) ≡ walk-prog allowed (tokens-of (now (tokens .entry))) unlabelled (cells «until_end») (view-of p (now (events .entry)) (now (reports .entry)) (now (pool .entry))) ⌝ }
+    ensures { λ r. ⌜ runs-of allowed (cells «until_end») p (parser-tested r) tokens events reports pool ⌝ }
     ensures { λ r. ⌜ left (now (tokens .entry)) (r .p .s) ≤ left (now (tokens .entry)) (p .s) ⌝ }
 {
     let mut q = p;
@@ -104,7 +102,7 @@ fn eat_cell(
     allowed: usize,
     until_end: bool,
 ) -> ParserTested
-    ensures { λ r. ⌜ parser-tested r (now (events .exit)) (now (reports .exit)) (now (pool .exit)) ≡ walk-rule allowed (tokens-of (now (tokens .entry))) (eat-cell «until_end») (view-of p (now (events .entry)) (now (reports .entry)) (now (pool .entry))) ⌝ }
+    ensures { λ r. ⌜ calls-of allowed (eat-cell «until_end») p (parser-tested r) tokens events reports pool ⌝ }
     ensures { λ r. ⌜ left (now (tokens .entry)) (r .p .s) ≤ left (now (tokens .entry)) (p .s) ⌝ }
     ensures { λ r. ⌜ (r .yes ≡ true → left (now (tokens .entry)) (r .p .s) < left (now (tokens .entry)) (p .s)) ⌝ }
 {
@@ -135,7 +133,7 @@ fn cell_rest(
     allowed: usize,
     until_end: bool,
 ) -> ParserTested
-    ensures { λ r. ⌜ parser-tested r (now (events .exit)) (now (reports .exit)) (now (pool .exit)) ≡ walk-prog allowed (tokens-of (now (tokens .entry))) unlabelled (cell-rest «until_end») (view-of p (now (events .entry)) (now (reports .entry)) (now (pool .entry))) ⌝ }
+    ensures { λ r. ⌜ runs-of allowed (cell-rest «until_end») p (parser-tested r) tokens events reports pool ⌝ }
     ensures { λ r. ⌜ left (now (tokens .entry)) (r .p .s) ≤ left (now (tokens .entry)) (p .s) ⌝ }
     ensures { λ r. ⌜ (r .yes ≡ true → left (now (tokens .entry)) (r .p .s) < left (now (tokens .entry)) (p .s)) ⌝ }
 {
@@ -186,7 +184,7 @@ fn dt_cell_list(
     allowed: usize,
     m: Marker,
 ) -> ParserTested
-    ensures { λ r. ⌜ parser-tested r (now (events .exit)) (now (reports .exit)) (now (pool .exit)) ≡ closed (marker-of m) (walk-prog allowed (tokens-of (now (tokens .entry))) unlabelled dt-cell-list (view-of p (now (events .entry)) (now (reports .entry)) (now (pool .entry)))) ⌝ }
+    ensures { λ r. ⌜ closes-of allowed m dt-cell-list p (parser-tested r) tokens events reports pool ⌝ }
     ensures { λ r. ⌜ left (now (tokens .entry)) (r .p .s) ≤ left (now (tokens .entry)) (p .s) - 1 ⌝ }
 {
     let opened = p.bump(tokens, events);
@@ -215,7 +213,7 @@ fn propvalues(
     allowed: usize,
     semicolon: bool,
 ) -> ParserTested
-    ensures { λ r. ⌜ parser-tested r (now (events .exit)) (now (reports .exit)) (now (pool .exit)) ≡ walk-rule allowed (tokens-of (now (tokens .entry))) (propvalues semicolon) (view-of p (now (events .entry)) (now (reports .entry)) (now (pool .entry))) ⌝ }
+    ensures { λ r. ⌜ calls-of allowed (propvalues semicolon) p (parser-tested r) tokens events reports pool ⌝ }
     ensures { λ r. ⌜ left (now (tokens .entry)) (r .p .s) ≤ left (now (tokens .entry)) (p .s) - 1 ⌝ }
 {
     let closed = allowed == 0;
@@ -271,7 +269,7 @@ fn value(
     allowed: usize,
     semicolon: bool,
 ) -> ParserAnswered
-    ensures { λ r. ⌜ parser-answered r (now (events .exit)) (now (reports .exit)) (now (pool .exit)) ≡ walk-prog allowed (tokens-of (now (tokens .entry))) unlabelled (propvalue semicolon) (view-of p (now (events .entry)) (now (reports .entry)) (now (pool .entry))) ⌝ }
+    ensures { λ r. ⌜ runs-of allowed (propvalue semicolon) p (parser-answered r) tokens events reports pool ⌝ }
     ensures { λ r. ⌜ left (now (tokens .entry)) (r .p .s) ≤ left (now (tokens .entry)) (p .s) - 1 ⌝ }
 {
     let pushed = p.add_expected(expected::VALUE);
@@ -303,7 +301,7 @@ fn bits(
     pool: &mut [u32],
     allowed: usize,
 ) -> ParserTested
-    ensures { λ r. ⌜ parser-tested r (now (events .exit)) (now (reports .exit)) (now (pool .exit)) ≡ walk-prog allowed (tokens-of (now (tokens .entry))) unlabelled bits-value (view-of p (now (events .entry)) (now (reports .entry)) (now (pool .entry))) ⌝ }
+    ensures { λ r. ⌜ runs-of allowed bits-value p (parser-tested r) tokens events reports pool ⌝ }
     ensures { λ r. ⌜ left (now (tokens .entry)) (r .p .s) ≤ left (now (tokens .entry)) (p .s) - 1 ⌝ }
 {
     let m_cell_list = Marker::new(p.s);
@@ -335,7 +333,7 @@ fn value_rest(
     allowed: usize,
     semicolon: bool,
 ) -> ParserAnswered
-    ensures { λ r. ⌜ parser-answered r (now (events .exit)) (now (reports .exit)) (now (pool .exit)) ≡ walk-prog allowed (tokens-of (now (tokens .entry))) unlabelled (value-rest semicolon) (view-of p (now (events .entry)) (now (reports .entry)) (now (pool .entry))) ⌝ }
+    ensures { λ r. ⌜ runs-of allowed (value-rest semicolon) p (parser-answered r) tokens events reports pool ⌝ }
     ensures { λ r. ⌜ left (now (tokens .entry)) (r .p .s) ≤ left (now (tokens .entry)) (p .s) - 1 ⌝ }
 {
     let reference = silent_eat_reference(p, tokens, events, reports, pool);
@@ -393,7 +391,7 @@ fn dt_property(
     allowed: usize,
     m: Marker,
 ) -> Parser
-    ensures { λ r. ⌜ said yes (view-of r (now (events .exit)) (now (reports .exit)) (now (pool .exit))) ≡ closed (marker-of m) (walk-prog allowed (tokens-of (now (tokens .entry))) unlabelled dt-property (view-of p (now (events .entry)) (now (reports .entry)) (now (pool .entry)))) ⌝ }
+    ensures { λ r. ⌜ closes-of allowed m dt-property p (says-of yes r) tokens events reports pool ⌝ }
     ensures { λ r. ⌜ left (now (tokens .entry)) (r .s) ≤ left (now (tokens .entry)) (p .s) - 1 ⌝ }
 {
     let empty = p.eat(tokens, events, Matcher::Kind(token_kind::SEMICOLON));
@@ -424,7 +422,7 @@ fn dt_node_body(
     allowed: usize,
     m: Marker,
 ) -> Parser
-    ensures { λ r. ⌜ said yes (view-of r (now (events .exit)) (now (reports .exit)) (now (pool .exit))) ≡ closed (marker-of m) (walk-prog allowed (tokens-of (now (tokens .entry))) unlabelled dt-node-body (view-of p (now (events .entry)) (now (reports .entry)) (now (pool .entry)))) ⌝ }
+    ensures { λ r. ⌜ closes-of allowed m dt-node-body p (says-of yes r) tokens events reports pool ⌝ }
     ensures { λ r. ⌜ left (now (tokens .entry)) (r .s) ≤ left (now (tokens .entry)) (p .s) - 1 ⌝ }
 {
     let lcurly_span = p.s.range(tokens);
@@ -449,7 +447,7 @@ fn item(
     pool: &mut [u32],
     allowed: usize,
 ) -> Parser
-    ensures { λ r. ⌜ view-of r (now (events .exit)) (now (reports .exit)) (now (pool .exit)) ≡ walk-rule allowed (tokens-of (now (tokens .entry))) item (view-of p (now (events .entry)) (now (reports .entry)) (now (pool .entry))) .on ⌝ }
+    ensures { λ r. ⌜ calls-on-of allowed item p r tokens events reports pool ⌝ }
     ensures { λ r. ⌜ left (now (tokens .entry)) (r .s) ≤ left (now (tokens .entry)) (p .s) - 1 ⌝ }
 {
     let closed = allowed == 0;
@@ -492,7 +490,7 @@ fn item_rest(
     pool: &mut [u32],
     allowed: usize,
 ) -> Parser
-    ensures { λ r. ⌜ said yes (view-of r (now (events .exit)) (now (reports .exit)) (now (pool .exit))) ≡ walk-prog allowed (tokens-of (now (tokens .entry))) unlabelled item-rest (view-of p (now (events .entry)) (now (reports .entry)) (now (pool .entry))) ⌝ }
+    ensures { λ r. ⌜ runs-of allowed item-rest p (says-of yes r) tokens events reports pool ⌝ }
     ensures { λ r. ⌜ left (now (tokens .entry)) (r .s) ≤ left (now (tokens .entry)) (p .s) - 1 ⌝ }
 {
     let semicolon = p.silent_at(tokens, token_kind::SEMICOLON);
@@ -528,7 +526,7 @@ fn eat_node_or_prop(
     pool: &mut [u32],
     allowed: usize,
 ) -> ParserTested
-    ensures { λ r. ⌜ parser-tested r (now (events .exit)) (now (reports .exit)) (now (pool .exit)) ≡ walk-prog allowed (tokens-of (now (tokens .entry))) unlabelled eat-node-or-prop (view-of p (now (events .entry)) (now (reports .entry)) (now (pool .entry))) ⌝ }
+    ensures { λ r. ⌜ runs-of allowed eat-node-or-prop p (parser-tested r) tokens events reports pool ⌝ }
     ensures { λ r. ⌜ left (now (tokens .entry)) (r .p .s) ≤ left (now (tokens .entry)) (p .s) ⌝ }
     ensures { λ r. ⌜ (r .yes ≡ true → left (now (tokens .entry)) (r .p .s) ≤ left (now (tokens .entry)) (p .s) - 1) ⌝ }
 {
@@ -570,7 +568,7 @@ fn node(
     m: Marker,
     allow_prop: bool,
 ) -> Parser
-    ensures { λ r. ⌜ said yes (view-of r (now (events .exit)) (now (reports .exit)) (now (pool .exit))) ≡ closed (marker-of m) (walk-prog allowed (tokens-of (now (tokens .entry))) unlabelled (no-property «allow_prop») (view-of p (now (events .entry)) (now (reports .entry)) (now (pool .entry)))) ⌝ }
+    ensures { λ r. ⌜ closes-of allowed m (no-property «allow_prop») p (says-of yes r) tokens events reports pool ⌝ }
     ensures { λ r. ⌜ left (now (tokens .entry)) (r .s) ≤ left (now (tokens .entry)) (p .s) ⌝ }
 {
     let lcurly = p.at(tokens, Matcher::Kind(token_kind::LCURLY));
@@ -609,7 +607,7 @@ fn eat_inside(
     allowed: usize,
     inside: Inside,
 ) -> ParserTested
-    ensures { λ r. ⌜ parser-tested r (now (events .exit)) (now (reports .exit)) (now (pool .exit)) ≡ walk-prog allowed (tokens-of (now (tokens .entry))) unlabelled (eat-inside (inside-of inside)) (view-of p (now (events .entry)) (now (reports .entry)) (now (pool .entry))) ⌝ }
+    ensures { λ r. ⌜ runs-of allowed (eat-inside (inside-of inside)) p (parser-tested r) tokens events reports pool ⌝ }
     ensures { λ r. ⌜ left (now (tokens .entry)) (r .p .s) ≤ left (now (tokens .entry)) (p .s) ⌝ }
     ensures { λ r. ⌜ (r .yes ≡ true → left (now (tokens .entry)) (r .p .s) ≤ left (now (tokens .entry)) (p .s) - 1) ⌝ }
 {
@@ -637,7 +635,7 @@ fn branch(
     allowed: usize,
     inside: Inside,
 ) -> ParserTested
-    ensures { λ r. ⌜ parser-tested r (now (events .exit)) (now (reports .exit)) (now (pool .exit)) ≡ walk-prog allowed (tokens-of (now (tokens .entry))) unlabelled (branch (inside-of inside)) (view-of p (now (events .entry)) (now (reports .entry)) (now (pool .entry))) ⌝ }
+    ensures { λ r. ⌜ runs-of allowed (branch (inside-of inside)) p (parser-tested r) tokens events reports pool ⌝ }
     ensures { λ r. ⌜ left (now (tokens .entry)) (r .p .s) ≤ left (now (tokens .entry)) (p .s) ⌝ }
     ensures { λ r. ⌜ (r .yes ≡ true → 0 < left (now (tokens .entry)) (p .s)) ⌝ }
 {
@@ -678,7 +676,7 @@ fn cond_branches_and_end(
     allowed: usize,
     inside: Inside,
 ) -> Parser
-    ensures { λ r. ⌜ view-of r (now (events .exit)) (now (reports .exit)) (now (pool .exit)) ≡ walk-prog allowed (tokens-of (now (tokens .entry))) unlabelled (cond-branches-and-end (inside-of inside)) (view-of p (now (events .entry)) (now (reports .entry)) (now (pool .entry))) .on ⌝ }
+    ensures { λ r. ⌜ runs-on-of allowed (cond-branches-and-end (inside-of inside)) p r tokens events reports pool ⌝ }
     ensures { λ r. ⌜ left (now (tokens .entry)) (r .s) ≤ left (now (tokens .entry)) (p .s) ⌝ }
 {
     let mut q = p;
@@ -704,7 +702,8 @@ fn eat_pp_directive(
     allowed: usize,
     inside: Inside,
 ) -> ParserTested
-    ensures { λ r. ⌜ parser-tested r (now (events .exit)) (now (reports .exit)) (now (pool .exit)) ≡ walk-prog allowed (tokens-of (now (tokens .entry))) unlabelled (eat-preprocessor-directive (inside-of inside)) (view-of p (now (events .entry)) (now (reports .entry)) (now (pool .entry))) ⌝ }
+    ensures { λ r. ⌜ runs-of allowed (eat-preprocessor-directive (inside-of inside)) p (parser-tested r)
+        tokens events reports pool ⌝ }
     ensures { λ r. ⌜ left (now (tokens .entry)) (r .p .s) ≤ left (now (tokens .entry)) (p .s) ⌝ }
     ensures { λ r. ⌜ (r .yes ≡ true → left (now (tokens .entry)) (r .p .s) < left (now (tokens .entry)) (p .s)) ⌝ }
 {

@@ -11,14 +11,10 @@ use layout::message::UNMATCHED_ENDIF;
 use parser::marker::Marker;
 use layout::node_kind;
 ghost use mathlib.Core.Path.{_≡_};
-ghost use mathlib.Core.Bool.{true, false};
-ghost use mathlib.Core.List.{List};
-ghost use Prim.Native.Nat.{ℕ, _+_, _-_, _≤_, _<_};
-ghost use Rattle.definitions.specs.Token.{tokens-of};
-ghost use Rattle.definitions.specs.Skeleton.{Span};
+ghost use mathlib.Core.Bool.{true};
+ghost use Prim.Native.Nat.{_-_, _≤_};
 ghost use Rattle.definitions.specs.Grammar.{catch-unmatched-pp-directive};
-ghost use Rattle.machine.specs.Walk.{walk-prog, unlabelled};
-ghost use Rattle.parser.specs.View.{view-of, parser-tested, left};
+ghost use Rattle.parser.specs.View.{parser-tested, left, runs-of};
 ghost use Rattle.grammar.specs.Subprograms.{inside-of};
 
 // What a conditional's branch holds, in the place of the closures `eat_inside`: items, values (whether a semicolon ends
@@ -38,7 +34,8 @@ pub fn catch_unmatched_pp_directive(
     allowed: usize,
     inside: Inside,
 ) -> ParserTested
-    ensures { λ r. ⌜ parser-tested r (now (events .exit)) (now (reports .exit)) (now (pool .exit)) ≡ walk-prog allowed (tokens-of (now (tokens .entry))) unlabelled (catch-unmatched-pp-directive (inside-of inside)) (view-of p (now (events .entry)) (now (reports .entry)) (now (pool .entry))) ⌝ }
+    ensures { λ r. ⌜ runs-of allowed (catch-unmatched-pp-directive (inside-of inside)) p (parser-tested r)
+        tokens events reports pool ⌝ }
     ensures { λ r. ⌜ left (now (tokens .entry)) (r .p .s) ≤ left (now (tokens .entry)) (p .s) ⌝ }
     ensures { λ r. ⌜ (r .yes ≡ true → left (now (tokens .entry)) (r .p .s) ≤ left (now (tokens .entry)) (p .s) - 1) ⌝ }
 {
