@@ -12,17 +12,20 @@ ghost use mathlib.Core.Bool.{true, false};
 ghost use mathlib.Core.List.{List};
 ghost use Prim.Native.Nat.{ℕ, _-_, _≤_, _<_};
 ghost use lib.Dec.{eqb};
+ghost use Rattle.definitions.specs.Layout.{TWO-TO-64};
+ghost use Rattle.definitions.specs.TokenKind as K;
 ghost use Rattle.definitions.specs.Token.{tokens-of};
 ghost use Rattle.definitions.specs.Skeleton.{Span};
-ghost use Rattle.definitions.specs.Prog.{Rule, yes, bump-argument, loop};
+ghost use Rattle.definitions.specs.Prog.{yes, bump-argument, loop};
 ghost use Rattle.definitions.specs.Grammar.{macro-argument-turn, macro-invocation};
-ghost use Rattle.machine.specs.Machine.{Machine};
-ghost use Rattle.machine.specs.Walk.{Walked, said, perform, walk};
-ghost use Rattle.parser.specs.View.{view, left, state-tested};
-ghost use Rattle.names.specs.Parts.{argument-list, part};
+ghost use Rattle.machine.specs.Walk.{perform};
+ghost use Rattle.token_rows.specs.Tokens.{END as seen-at-end};
+ghost use Rattle.parser.specs.View.{view, left, state-tested, moves, says, walks, walks-on};
+ghost use Rattle.macros.specs.Subprograms.{argument-list};
+ghost use Rattle.macros.specs.Role.{role};
 
 // What a token is to the argument that it is read in.
-pub enum Part {
+pub enum Role {
     // The comma after it.
     Comma,
     // The end of the arguments.
@@ -32,46 +35,47 @@ pub enum Part {
 }
 
 // Outside inner brackets.
-fn outer_part(k: u8) -> Part
-    ensures { λ r. ⌜ (eqb k 64 ≡ false → eqb k 41 ≡ false → r ≡ part k 0) ⌝ }
+fn outer_role(k: u8) -> Role
+    ensures { λ r. ⌜ (eqb k seen-at-end ≡ false → eqb k K.LParen ≡ false → r ≡ role k 0) ⌝ }
 {
     let comma = k == token_kind::COMMA;
     if comma {
-        return Part::Comma;
+        return Role::Comma;
     }
     let closes = k == token_kind::RPAREN;
     if closes {
-        return Part::End;
+        return Role::End;
     }
-    Part::Inside(0)
+    Role::Inside(0)
 }
 
-fn part_of(k: u8, level: usize) -> Part
-    requires { ⌜ level < 18446744073709551615 ⌝ }
-    ensures { λ r. ⌜ r ≡ part k level ⌝ }
+fn role_of(k: u8, level: usize) -> Role
+    requires { ⌜ level < TWO-TO-64 - 1 ⌝ }
+    ensures { λ r. ⌜ r ≡ role k level ⌝ }
 {
     let end = k == END;
     if end {
-        return Part::End;
+        return Role::End;
     }
     let opens = k == token_kind::LPAREN;
     if opens {
-        return Part::Inside(level + 1);
+        return Role::Inside(level + 1);
     }
     let outside = level == 0;
     if outside {
-        return outer_part(k);
+        return outer_role(k);
     }
     let closes = k == token_kind::RPAREN;
     if closes {
-        return Part::Inside(level - 1);
+        return Role::Inside(level - 1);
     }
-    Part::Inside(level)
+    Role::Inside(level)
 }
 
 // One argument: every token up to a comma (yes), an RParen or the end (no) outside inner brackets.
 fn bump_argument(s: State, tokens: &[u32], events: &mut [u32]) -> StateTested
-    ensures { λ r. ⌜ ((b : Span) (codes reports pool : List ℕ) → state-tested r codes (now (events .exit)) reports pool ≡ perform (tokens-of (now (tokens .entry))) b bump-argument (view s codes (now (events .entry)) reports pool)) ⌝ }
+    ensures { λ r. ⌜ ((b : Span) (codes reports pool : List ℕ) → state-tested r codes (now (events .exit)) reports pool
+        ≡ perform (tokens-of (now (tokens .entry))) b bump-argument (view s codes (now (events .entry)) reports pool)) ⌝ }
     ensures { λ r. ⌜ left (now (tokens .entry)) (r .s) ≤ left (now (tokens .entry)) s ⌝ }
     ensures { λ r. ⌜ (r .yes ≡ true → 0 < left (now (tokens .entry)) (r .s)) ⌝ }
 {
@@ -79,18 +83,18 @@ fn bump_argument(s: State, tokens: &[u32], events: &mut [u32]) -> StateTested
     let mut level: usize = 0;
     loop {
         let here = q.peek(tokens);
-        let here_is = part_of(kind_at(tokens, here.cursor.0), level);
+        let here_is = role_of(kind_at(tokens, here.cursor.0), level);
         match here_is {
-            Part::Comma => {
+            Role::Comma => {
                 return StateTested { s: here, yes: true };
             }
-            Part::End => {
+            Role::End => {
                 return StateTested {
                     s: here,
                     yes: false,
                 };
             }
-            Part::Inside(next) => {
+            Role::Inside(next) => {
                 q = here.bump(tokens, events);
                 level = next;
             }
@@ -100,7 +104,7 @@ fn bump_argument(s: State, tokens: &[u32], events: &mut [u32]) -> StateTested
 
 // Arguments, each a MacroArgument, with commas between.
 fn arguments(s: State, tokens: &[u32], events: &mut [u32]) -> State
-    ensures { λ r. ⌜ ((ask : Rule → Machine → Walked) (b : Span) (codes reports pool : List ℕ) → said yes (view r codes (now (events .exit)) reports pool) ≡ walk ask (tokens-of (now (tokens .entry))) b (loop macro-argument-turn) (view s codes (now (events .entry)) reports pool)) ⌝ }
+    ensures { λ r. ⌜ moves (loop macro-argument-turn) s (says yes r) tokens events ⌝ }
     ensures { λ r. ⌜ left (now (tokens .entry)) r ≤ left (now (tokens .entry)) s ⌝ }
 {
     let mut q = s;
@@ -126,7 +130,7 @@ fn argument_list(
     reports: &mut [u32],
     pool: &mut [u32],
 ) -> State
-    ensures { λ r. ⌜ ((ask : Rule → Machine → Walked) (b : Span) → view r (now (codes .exit)) (now (events .exit)) (now (reports .exit)) (now (pool .exit)) ≡ walk ask (tokens-of (now (tokens .entry))) b argument-list (view s (now (codes .entry)) (now (events .entry)) (now (reports .entry)) (now (pool .entry))) .on) ⌝ }
+    ensures { λ r. ⌜ walks-on argument-list s r codes tokens events reports pool ⌝ }
     ensures { λ r. ⌜ left (now (tokens .entry)) r ≤ left (now (tokens .entry)) s - 1 ⌝ }
 {
     let opened = s.bump(tokens, events);
@@ -164,7 +168,7 @@ pub fn macro_invocation(
     reports: &mut [u32],
     pool: &mut [u32],
 ) -> State
-    ensures { λ r. ⌜ ((ask : Rule → Machine → Walked) (b : Span) → said yes (view r (now (codes .exit)) (now (events .exit)) (now (reports .exit)) (now (pool .exit))) ≡ walk ask (tokens-of (now (tokens .entry))) b macro-invocation (view s (now (codes .entry)) (now (events .entry)) (now (reports .entry)) (now (pool .entry)))) ⌝ }
+    ensures { λ r. ⌜ walks macro-invocation s (says yes r) codes tokens events reports pool ⌝ }
     ensures { λ r. ⌜ left (now (tokens .entry)) r ≤ left (now (tokens .entry)) s - 1 ⌝ }
 {
     let m = Marker::new(s);
