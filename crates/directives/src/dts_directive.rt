@@ -1,17 +1,17 @@
 // grammar.rs, the directives of the devicetree source that a DtsDirective wraps.
-use layout::token_kind;
+use layout::hint::NO_HINT;
+use layout::message::EXPECTED;
+use layout::node_kind;
 use layout::set::ITEM_RECOVERY_SET;
+use layout::token_kind;
 use names::macro_substitutable_name;
 use names::reference;
 use names::unit_address;
-use parser::StateTested;
 use parser::State;
+use parser::StateTested;
 use parser::errors::Bump;
-use layout::message::EXPECTED;
-use layout::hint::NO_HINT;
 use parser::marker::Marker;
 use parser::matcher::Matcher;
-use layout::node_kind;
 ghost use mathlib.Core.Path.{_≡_};
 ghost use mathlib.Core.Bool.{true};
 ghost use Prim.Native.Nat.{_-_, _≤_, _<_};
@@ -36,11 +36,21 @@ pub fn eat_dts_include(
     ensures { λ r. ⌜ left (now (tokens .entry)) (r .s) ≤ left (now (tokens .entry)) s ⌝ }
     ensures { λ r. ⌜ (r .yes ≡ true → left (now (tokens .entry)) (r .s) < left (now (tokens .entry)) s) ⌝ }
 {
-    let include = s.eat_starting(codes, tokens, events, Matcher::Kind(token_kind::DT_INCLUDE_DIRECTIVE));
+    let include = s.eat_starting(
+        codes,
+        tokens,
+        events,
+        Matcher::Kind(token_kind::DT_INCLUDE_DIRECTIVE),
+    );
     if include.yes {
-        let file = include
-            .s
-            .expect(codes, tokens, events, reports, pool, Matcher::Kind(token_kind::STRING));
+        let file = include.s.expect(
+            codes,
+            tokens,
+            events,
+            reports,
+            pool,
+            Matcher::Kind(token_kind::STRING),
+        );
         let q = file.s.complete(events, include.m, node_kind::DTS_DIRECTIVE);
         StateTested { s: q, yes: true }
     } else {
@@ -89,11 +99,24 @@ fn memreserve_arguments(
 {
     let m_params = Marker::new(s);
     let started = s.start(events);
-    let address = started.expect(codes, tokens, events, reports, pool, Matcher::Kind(token_kind::NUMBER));
-    let size = address
-        .s
-        .expect(codes, tokens, events, reports, pool, Matcher::Kind(token_kind::NUMBER));
-    size.s.complete(events, m_params, node_kind::DTS_DIRECTIVE_ARGUMENTS)
+    let address = started.expect(
+        codes,
+        tokens,
+        events,
+        reports,
+        pool,
+        Matcher::Kind(token_kind::NUMBER),
+    );
+    let size = address.s.expect(
+        codes,
+        tokens,
+        events,
+        reports,
+        pool,
+        Matcher::Kind(token_kind::NUMBER),
+    );
+    size.s
+        .complete(events, m_params, node_kind::DTS_DIRECTIVE_ARGUMENTS)
 }
 
 // What is deleted: a reference, or a name and perhaps a unit address.
@@ -116,8 +139,16 @@ fn eat_deleted(
     if name.yes {
         return unit_address::eat(name.s, codes, tokens, events, reports, pool);
     }
-    let q = name.s
-        .error(codes, tokens, events, reports, pool, EXPECTED, NO_HINT, Bump::No);
+    let q = name.s.error(
+        codes,
+        tokens,
+        events,
+        reports,
+        pool,
+        EXPECTED,
+        NO_HINT,
+        Bump::No,
+    );
     StateTested { s: q, yes: true }
 }
 
@@ -153,7 +184,12 @@ fn eat_directive_with_arguments(
     ensures { λ r. ⌜ left (now (tokens .entry)) (r .s) ≤ left (now (tokens .entry)) s ⌝ }
     ensures { λ r. ⌜ (r .yes ≡ true → left (now (tokens .entry)) (r .s) ≤ left (now (tokens .entry)) s - 1) ⌝ }
 {
-    let memreserve = s.eat_starting(codes, tokens, events, Matcher::Kind(token_kind::MEMRESERVE_DIRECTIVE));
+    let memreserve = s.eat_starting(
+        codes,
+        tokens,
+        events,
+        Matcher::Kind(token_kind::MEMRESERVE_DIRECTIVE),
+    );
     if memreserve.yes {
         let q = memreserve_arguments(memreserve.s, codes, tokens, events, reports, pool);
         return directive_end(q, codes, tokens, events, reports, pool, memreserve.m);
@@ -162,7 +198,10 @@ fn eat_directive_with_arguments(
         codes,
         tokens,
         events,
-        Matcher::Either(token_kind::DELETE_NODE_DIRECTIVE, token_kind::DELETE_PROPERTY_DIRECTIVE),
+        Matcher::Either(
+            token_kind::DELETE_NODE_DIRECTIVE,
+            token_kind::DELETE_PROPERTY_DIRECTIVE,
+        ),
     );
     if delete.yes {
         let q = delete_arguments(delete.s, codes, tokens, events, reports, pool);

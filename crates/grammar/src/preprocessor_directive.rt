@@ -1,15 +1,15 @@
 // grammar/preprocessor_directive.rs: what is not in the cycle of calls. Its other functions stand in lib.rt.
 use crate::cond_branches_and_end;
-use layout::token_kind;
-use layout::set::CONTINUE_COND_SET;
-use parser::Parser;
-use parser::ParserTested;
-use parser::errors::Bump;
 use layout::hint::NO_HINT;
 use layout::message::STRAY_CONTINUATION;
 use layout::message::UNMATCHED_ENDIF;
-use parser::marker::Marker;
 use layout::node_kind;
+use layout::set::CONTINUE_COND_SET;
+use layout::token_kind;
+use parser::Parser;
+use parser::ParserTested;
+use parser::errors::Bump;
+use parser::marker::Marker;
 ghost use mathlib.Core.Path.{_≡_};
 ghost use mathlib.Core.Bool.{true};
 ghost use Prim.Native.Nat.{_-_, _≤_};
@@ -41,13 +41,28 @@ pub fn catch_unmatched_pp_directive(
 {
     let endif = p.silent_at(tokens, token_kind::ENDIF_DIRECTIVE);
     if endif.yes {
-        let q = endif.p.error(tokens, events, reports, pool, UNMATCHED_ENDIF, NO_HINT, Bump::YesWrapErr);
+        let q = endif.p.error(
+            tokens,
+            events,
+            reports,
+            pool,
+            UNMATCHED_ENDIF,
+            NO_HINT,
+            Bump::YesWrapErr,
+        );
         return ParserTested { p: q, yes: true };
     }
     let next = endif.p.silent_at_set(tokens, &CONTINUE_COND_SET);
     if next.yes {
-        let reported = next.p
-            .error(tokens, events, reports, pool, STRAY_CONTINUATION, NO_HINT, Bump::No);
+        let reported = next.p.error(
+            tokens,
+            events,
+            reports,
+            pool,
+            STRAY_CONTINUATION,
+            NO_HINT,
+            Bump::No,
+        );
         let m_err = Marker::new(reported.s);
         let started = reported.start(events);
         let first = started.bump(tokens, events);

@@ -1,10 +1,10 @@
 // The first part of `eat_cell` of grammar.rs: the cells that no call is opened for: a literal, a macro or a reference.
+use layout::expected;
 use layout::token_kind;
 use macros::invocation::macro_invocation;
 use names::reference;
-use parser::StateTested;
 use parser::State;
-use layout::expected;
+use parser::StateTested;
 use parser::matcher::Matcher;
 ghost use mathlib.Core.Path.{_≡_};
 ghost use mathlib.Core.Bool.{true};
@@ -26,7 +26,11 @@ pub fn eat(
     ensures { λ r. ⌜ (r .yes ≡ true → left (now (tokens .entry)) (r .s) < left (now (tokens .entry)) s) ⌝ }
 {
     let pushed = s.add_expected(codes, expected::CELL);
-    let literal = pushed.silent_eat(tokens, events, Matcher::Either(token_kind::NUMBER, token_kind::CHAR));
+    let literal = pushed.silent_eat(
+        tokens,
+        events,
+        Matcher::Either(token_kind::NUMBER, token_kind::CHAR),
+    );
     if literal.yes {
         return literal;
     }

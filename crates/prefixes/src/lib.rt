@@ -20,12 +20,16 @@ pub fn eat_node_or_prop_prefix(
     ensures { λ r. ⌜ left (now (tokens .entry)) (r .p .s) ≤ left (now (tokens .entry)) (p .s) - found (r .ans) ⌝ }
 {
     let mut codes = p.codes;
-    let e = node_or_prop_prefix::eat_node_or_prop_prefix(p.s, &mut codes, tokens, events, reports, pool);
+    let e = node_or_prop_prefix::eat_node_or_prop_prefix(
+        p.s,
+        &mut codes,
+        tokens,
+        events,
+        reports,
+        pool,
+    );
     let s = e.s;
     let q = Parser { codes: codes, s: s };
     let answer = e.ans;
-    ParserAnswered {
-        p: q,
-        ans: answer,
-    }
+    ParserAnswered { p: q, ans: answer }
 }

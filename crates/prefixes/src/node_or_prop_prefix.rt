@@ -1,18 +1,18 @@
 // `eat_node_or_prop_prefix` of grammar.rs: labels, and the name of a node or property with its unit address.
+use layout::hint::NO_HINT;
+use layout::message::AT_SIGN_IN_LABEL;
+use layout::node_kind;
 use layout::token_kind;
 use names::macro_substitutable_name;
 use names::reference;
 use names::unit_address;
 use parser::Ans;
+use parser::State;
 use parser::StateAnswered;
 use parser::StateTested;
-use parser::State;
-use layout::message::AT_SIGN_IN_LABEL;
 use parser::errors::Bump;
-use layout::hint::NO_HINT;
 use parser::marker::Marker;
 use parser::matcher::Matcher;
-use layout::node_kind;
 ghost use mathlib.Core.Path.{_≡_};
 ghost use Prim.Native.Nat.{_+_, _-_, _≤_};
 ghost use Rattle.definitions.specs.Grammar.{prefix-turn, eat-node-or-prop-prefix};
@@ -130,7 +130,9 @@ fn turn(
             ans: Ans::Yes,
         };
     }
-    let root = extended.s.eat(codes, tokens, events, Matcher::Kind(token_kind::SLASH));
+    let root = extended
+        .s
+        .eat(codes, tokens, events, Matcher::Kind(token_kind::SLASH));
     let q = root.s;
     if root.yes {
         StateAnswered {
@@ -138,10 +140,7 @@ fn turn(
             ans: Ans::Yes,
         }
     } else {
-        StateAnswered {
-            s: q,
-            ans: Ans::No,
-        }
+        StateAnswered { s: q, ans: Ans::No }
     }
 }
 
@@ -185,7 +184,12 @@ pub fn eat_node_or_prop_prefix(
     ensures { λ r. ⌜ walks eat-node-or-prop-prefix s (state-answered r) codes tokens events reports pool ⌝ }
     ensures { λ r. ⌜ left (now (tokens .entry)) (r .s) ≤ left (now (tokens .entry)) s - found (r .ans) ⌝ }
 {
-    let omit = s.eat(codes, tokens, events, Matcher::Kind(token_kind::OMIT_IF_NO_REF_DIRECTIVE));
+    let omit = s.eat(
+        codes,
+        tokens,
+        events,
+        Matcher::Kind(token_kind::OMIT_IF_NO_REF_DIRECTIVE),
+    );
     if omit.yes {
         labels_and_name(omit.s, codes, tokens, events, reports, pool, false)
     } else {
