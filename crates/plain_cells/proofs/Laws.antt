@@ -8,7 +8,7 @@ use Rattle.definitions.specs.Check.{tell, if_then_else_}
 use Rattle.machine.specs.Machine.{Machine}
 use Rattle.machine.specs.Walk.{Walked, choose, walk}
 
--- the first cases of a program apart from the rest: whether one of them held is the test
+-- the first cases of a program apart from the others: whether one of them held is the test
 pub cases-first : (ask : Rule → Machine → Walked) (ts : List Token) (b : Span) (e a c w r t : Prog) (m : Machine)
     → walk ask ts b (if (e ⨟ if a then tell yes else if c then w ⨟ tell yes else r) then tell yes else t) m
     ≡ walk ask ts b (e ⨟ if a then tell yes else if c then w ⨟ tell yes else if r then tell yes else t) m

@@ -1,4 +1,4 @@
-// The first part of `eat_cell` of grammar.rs: the cells that no call is opened for: a literal, a macro or a reference.
+// The first cases of `eat_cell` of grammar.rs: the cells that no call is opened for: a literal, a macro or a reference.
 use layout::expected;
 use layout::token_kind;
 use macros::invocation::macro_invocation;

@@ -1,7 +1,6 @@
 -- `node_end`: the end of a node's body.
 use native.Mathlib.Omega.{arith}
 use borrow.Author.Needs.{needs}
-use Rattle.definitions.specs.Token.{tokens-of}
 use Rattle.parser.specs.View.{span-of}
 use Rattle.machine.proofs.Way.{c-walk, c-act, c-ret, c-seq, c-yes, c-no, completed}
 use Rattle.steps.proofs.Ways.{closes-to, c-unclosed}
