@@ -96,7 +96,6 @@ class Below(Crate):
 # The use lines of `node_end`.
 NODE_END = """use native.Mathlib.Omega.{arith}
 use borrow.Author.Needs.{needs}
-use Rattle.definitions.specs.Token.{tokens-of}
 use Rattle.parser.specs.View.{span-of}
 use Rattle.machine.proofs.Way.{c-walk, c-act, c-ret, c-seq, c-yes, c-no, completed}
 use Rattle.steps.proofs.Ways.{closes-to, c-unclosed}"""

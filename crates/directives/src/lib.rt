@@ -6,16 +6,11 @@ pub mod dts_directive;
 use parser::Parser;
 use parser::ParserTested;
 ghost use mathlib.Core.Path.{_≡_};
-ghost use mathlib.Core.Bool.{true, false};
-ghost use mathlib.Core.List.{List};
-ghost use Prim.Native.Nat.{ℕ, _+_, _-_, _≤_, _<_};
-ghost use Rattle.definitions.specs.Token.{tokens-of};
-ghost use Rattle.definitions.specs.Skeleton.{Span};
-ghost use Rattle.definitions.specs.Prog.{Rule, yes, also};
+ghost use mathlib.Core.Bool.{true};
+ghost use Prim.Native.Nat.{_-_, _≤_, _<_};
+ghost use Rattle.definitions.specs.Prog.{yes};
 ghost use Rattle.definitions.specs.Grammar.{eat-dts-include, eat-dts-directive};
-ghost use Rattle.machine.specs.Machine.{Machine};
-ghost use Rattle.machine.specs.Walk.{Walked, said, walk, closed};
-ghost use Rattle.parser.specs.View.{view-of, parser-tested, left, marker-of, ans-of};
+ghost use Rattle.parser.specs.View.{parser-tested, left, walks-of};
 
 pub fn eat_dts_include(
     p: Parser,
@@ -24,7 +19,7 @@ pub fn eat_dts_include(
     reports: &mut [u32],
     pool: &mut [u32],
 ) -> ParserTested
-    ensures { λ r. ⌜ ((ask : Rule → Machine → Walked) (b : Span) → parser-tested r (now (events .exit)) (now (reports .exit)) (now (pool .exit)) ≡ walk ask (tokens-of (now (tokens .entry))) b eat-dts-include (view-of p (now (events .entry)) (now (reports .entry)) (now (pool .entry)))) ⌝ }
+    ensures { λ r. ⌜ walks-of eat-dts-include p (parser-tested r) tokens events reports pool ⌝ }
     ensures { λ r. ⌜ left (now (tokens .entry)) (r .p .s) ≤ left (now (tokens .entry)) (p .s) ⌝ }
     ensures { λ r. ⌜ (r .yes ≡ true → left (now (tokens .entry)) (r .p .s) < left (now (tokens .entry)) (p .s)) ⌝ }
 {
@@ -42,7 +37,7 @@ pub fn eat_dts_directive(
     reports: &mut [u32],
     pool: &mut [u32],
 ) -> ParserTested
-    ensures { λ r. ⌜ ((ask : Rule → Machine → Walked) (b : Span) → parser-tested r (now (events .exit)) (now (reports .exit)) (now (pool .exit)) ≡ walk ask (tokens-of (now (tokens .entry))) b eat-dts-directive (view-of p (now (events .entry)) (now (reports .entry)) (now (pool .entry)))) ⌝ }
+    ensures { λ r. ⌜ walks-of eat-dts-directive p (parser-tested r) tokens events reports pool ⌝ }
     ensures { λ r. ⌜ left (now (tokens .entry)) (r .p .s) ≤ left (now (tokens .entry)) (p .s) ⌝ }
     ensures { λ r. ⌜ (r .yes ≡ true → left (now (tokens .entry)) (r .p .s) ≤ left (now (tokens .entry)) (p .s) - 1) ⌝ }
 {

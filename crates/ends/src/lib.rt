@@ -4,25 +4,24 @@ pub mod lists;
 pub mod nodes;
 
 use parser::Parser;
-use parser::ParserTested;
 use parser::ParserAnswered;
+use parser::ParserTested;
 use parser::marker::Marker;
 ghost use mathlib.Core.Path.{_≡_};
 ghost use mathlib.Core.Bool.{true, false};
-ghost use mathlib.Core.List.{List};
-ghost use Prim.Native.Nat.{ℕ, _+_, _-_, _≤_, _<_};
+ghost use Prim.Native.Nat.{_≤_, _<_};
 ghost use Rattle.definitions.specs.Token.{tokens-of};
 ghost use Rattle.definitions.specs.Skeleton.{Span};
 ghost use Rattle.definitions.specs.Prog.{Rule, yes, also};
 ghost use Rattle.definitions.specs.Grammar.{cells-end, after-propvalue};
 ghost use Rattle.machine.specs.Machine.{Machine};
 ghost use Rattle.machine.specs.Walk.{Walked, said, walk, closed};
-ghost use Rattle.parser.specs.View.{view-of, parser-tested, left, marker-of, ans-of};
+ghost use Rattle.parser.specs.View.{view-of, parser-tested, left, marker-of, ans-of, looks-of, walks-of};
 ghost use Rattle.steps.specs.View.{parser-answered};
 ghost use Rattle.ends.specs.Subprograms.{at-item, at-cells-recovery, unfinished};
 
 pub fn at_cells_end(p: Parser, tokens: &[u32], until_end: bool) -> ParserTested
-    ensures { λ r. ⌜ ((ask : Rule → Machine → Walked) (b : Span) (events reports pool : List ℕ) → parser-tested r events reports pool ≡ walk ask (tokens-of (now (tokens .entry))) b (cells-end «until_end») (view-of p events reports pool)) ⌝ }
+    ensures { λ r. ⌜ looks-of (cells-end «until_end») p (parser-tested r) tokens ⌝ }
     ensures { λ r. ⌜ left (now (tokens .entry)) (r .p .s) ≤ left (now (tokens .entry)) (p .s) ⌝ }
 {
     let mut codes = p.codes;
@@ -33,7 +32,7 @@ pub fn at_cells_end(p: Parser, tokens: &[u32], until_end: bool) -> ParserTested
 }
 
 pub fn at_cells_recovery(p: Parser, tokens: &[u32]) -> ParserTested
-    ensures { λ r. ⌜ ((ask : Rule → Machine → Walked) (b : Span) (events reports pool : List ℕ) → parser-tested r events reports pool ≡ walk ask (tokens-of (now (tokens .entry))) b at-cells-recovery (view-of p events reports pool)) ⌝ }
+    ensures { λ r. ⌜ looks-of at-cells-recovery p (parser-tested r) tokens ⌝ }
     ensures { λ r. ⌜ left (now (tokens .entry)) (r .p .s) ≤ left (now (tokens .entry)) (p .s) ⌝ }
     ensures { λ r. ⌜ (r .yes ≡ false → 0 < left (now (tokens .entry)) (p .s)) ⌝ }
 {
@@ -52,7 +51,7 @@ pub fn after_propvalue(
     pool: &mut [u32],
     semicolon: bool,
 ) -> ParserAnswered
-    ensures { λ r. ⌜ ((ask : Rule → Machine → Walked) (b : Span) → parser-answered r (now (events .exit)) (now (reports .exit)) (now (pool .exit)) ≡ walk ask (tokens-of (now (tokens .entry))) b (after-propvalue semicolon) (view-of p (now (events .entry)) (now (reports .entry)) (now (pool .entry)))) ⌝ }
+    ensures { λ r. ⌜ walks-of (after-propvalue semicolon) p (parser-answered r) tokens events reports pool ⌝ }
     ensures { λ r. ⌜ left (now (tokens .entry)) (r .p .s) ≤ left (now (tokens .entry)) (p .s) ⌝ }
     ensures { λ r. ⌜ (ans-of (r .ans) ≡ also → ⊥) ⌝ }
 {
@@ -61,14 +60,11 @@ pub fn after_propvalue(
     let s = e.s;
     let q = Parser { codes: codes, s: s };
     let answer = e.ans;
-    ParserAnswered {
-        p: q,
-        ans: answer,
-    }
+    ParserAnswered { p: q, ans: answer }
 }
 
 pub fn at_item(p: Parser, tokens: &[u32]) -> ParserTested
-    ensures { λ r. ⌜ ((ask : Rule → Machine → Walked) (b : Span) (events reports pool : List ℕ) → parser-tested r events reports pool ≡ walk ask (tokens-of (now (tokens .entry))) b at-item (view-of p events reports pool)) ⌝ }
+    ensures { λ r. ⌜ looks-of at-item p (parser-tested r) tokens ⌝ }
     ensures { λ r. ⌜ left (now (tokens .entry)) (r .p .s) ≤ left (now (tokens .entry)) (p .s) ⌝ }
     ensures { λ r. ⌜ (r .yes ≡ true → 0 < left (now (tokens .entry)) (r .p .s)) ⌝ }
 {
@@ -87,7 +83,8 @@ pub fn unfinished(
     pool: &mut [u32],
     m: Marker,
 ) -> Parser
-    ensures { λ r. ⌜ ((ask : Rule → Machine → Walked) (b : Span) → said yes (view-of r (now (events .exit)) (now (reports .exit)) (now (pool .exit))) ≡ closed (marker-of m) (walk ask (tokens-of (now (tokens .entry))) b unfinished (view-of p (now (events .entry)) (now (reports .entry)) (now (pool .entry))))) ⌝ }
+    ensures { λ r. ⌜ ((ask : Rule → Machine → Walked) (b : Span) → said yes (view-of r (now (events .exit)) (now (reports .exit)) (now (pool .exit)))
+        ≡ closed (marker-of m) (walk ask (tokens-of (now (tokens .entry))) b unfinished (view-of p (now (events .entry)) (now (reports .entry)) (now (pool .entry))))) ⌝ }
     ensures { λ r. ⌜ left (now (tokens .entry)) (r .s) ≤ left (now (tokens .entry)) (p .s) ⌝ }
 {
     let codes = p.codes;

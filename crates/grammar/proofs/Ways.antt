@@ -31,7 +31,7 @@ use Rattle.steps.proofs.Steps.{c-on}
 use Rattle.grammar.proofs.Laws.{sequence-is}
 
 module _ (n : ℕ) {ts : List Token} where
-  -- what a part comes to, whatever that is
+  -- what a subprogram comes to, whatever that is
   pub c-same : {p : Prog} {m : Machine} → Way (walk-rule n ts) ts unlabelled p m (walk-prog n ts unlabelled p m)
   unfolding walk-prog
   c-same = record { is = refl }

@@ -1,20 +1,14 @@
 -- The programs of specs/Subprograms.antt stand in the definitions' terms.
-use Prim.Native.Nat.{ℕ}
 use mathlib.Core.Path.{_≡_, refl}
-use mathlib.Core.Bool.{Bool}
-use mathlib.Core.List.{List, [], _∷_}
-use Rattle.definitions.specs.TokenKind as K
-use Rattle.definitions.specs.Errors as E
+use mathlib.Core.List.{List}
 use Rattle.definitions.specs.Token.{Token}
 use Rattle.definitions.specs.Skeleton.{Span}
-use Rattle.definitions.specs.Prog.{Ans, no, yes, also, again, Rule, item, eat-cell, Prog, ret, _⨟_, case, open-call, loop}
-use Rattle.definitions.specs.Check.{tell, if_then_else_, _and_, _or_, while_run_, expected, error, error!, error-bump!, error-wrap, set, of-kind, silent, at, silent-eat, eat, eat-starting_inside_else_}
-use Rattle.definitions.specs.Grammar.{Cell, OPERATORS-SET, PROPERTY-VALUE-RECOVERY-SET, MacroSubstitutableName, Reference, macro-invocation, dt-expr, eat-dts-include, eat-preprocessor-directive, eat-cell-body, cells-end, cells-turn, after-propvalue, node-body-turn, prefix-turn, eat-node-or-prop-prefix, eat-dts-directive}
-use Rattle.definitions.specs.Grammar as G
+use Rattle.definitions.specs.Prog.{Ans, no, yes, also, again, Rule, Prog, _⨟_}
+use Rattle.definitions.specs.Check.{tell, if_then_else_}
 use Rattle.machine.specs.Machine.{Machine}
 use Rattle.machine.specs.Walk.{Walked, choose, walk}
 
--- the first cases of a program apart from the rest: whether one of them held is the test
+-- the first cases of a program apart from the others: whether one of them held is the test
 pub cases-first : (ask : Rule → Machine → Walked) (ts : List Token) (b : Span) (e a c w r t : Prog) (m : Machine)
     → walk ask ts b (if (e ⨟ if a then tell yes else if c then w ⨟ tell yes else r) then tell yes else t) m
     ≡ walk ask ts b (e ⨟ if a then tell yes else if c then w ⨟ tell yes else if r then tell yes else t) m

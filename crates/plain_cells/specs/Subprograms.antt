@@ -1,13 +1,10 @@
 -- What of the definitions' programs has a function of its own here. proofs/Laws.antt shows each to stand in the definitions' term.
-use Prim.Native.Nat.{ℕ}
-use mathlib.Core.Bool.{Bool}
-use mathlib.Core.List.{List, [], _∷_}
+use mathlib.Core.List.{[], _∷_}
 use Rattle.definitions.specs.TokenKind as K
-use Rattle.definitions.specs.NodeKind as N
 use Rattle.definitions.specs.Errors as E
-use Rattle.definitions.specs.Prog.{Ans, no, yes, again, Prog, ret, _⨟_, in-marker, loop}
-use Rattle.definitions.specs.Check.{tell, if_then_else_, _and_, _or_, not!, in-node, end?, bump!, expected, error!, error-bump, set, of-kind, silent, at, silent-eat, eat, expect, expect-recoverable, eat-starting_inside_else_}
-use Rattle.definitions.specs.Grammar.{CONTINUE-COND-SET, ITEM-RECOVERY-SET, ending-kinds, macro-invocation, MacroSubstitutableName, UnitAddress, Reference, prefix-turn}
+use Rattle.definitions.specs.Prog.{yes, Prog, _⨟_}
+use Rattle.definitions.specs.Check.{tell, if_then_else_, expected, set, of-kind, silent, silent-eat}
+use Rattle.definitions.specs.Grammar.{macro-invocation, Reference}
 
 -- the first cases of `eat-cell-body`: those that open no call
 abbrev pub plain-cell : Prog

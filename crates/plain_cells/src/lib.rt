@@ -5,15 +5,10 @@ pub mod plain_cell;
 use parser::Parser;
 use parser::ParserTested;
 ghost use mathlib.Core.Path.{_≡_};
-ghost use mathlib.Core.Bool.{true, false};
-ghost use mathlib.Core.List.{List};
-ghost use Prim.Native.Nat.{ℕ, _+_, _-_, _≤_, _<_};
-ghost use Rattle.definitions.specs.Token.{tokens-of};
-ghost use Rattle.definitions.specs.Skeleton.{Span};
-ghost use Rattle.definitions.specs.Prog.{Rule, yes, also};
-ghost use Rattle.machine.specs.Machine.{Machine};
-ghost use Rattle.machine.specs.Walk.{Walked, said, walk, closed};
-ghost use Rattle.parser.specs.View.{view-of, parser-tested, left, marker-of, ans-of};
+ghost use mathlib.Core.Bool.{true};
+ghost use Prim.Native.Nat.{_≤_, _<_};
+ghost use Rattle.definitions.specs.Prog.{yes};
+ghost use Rattle.parser.specs.View.{parser-tested, left, walks-of};
 ghost use Rattle.plain_cells.specs.Subprograms.{plain-cell};
 
 pub fn eat_plain_cell(
@@ -23,7 +18,7 @@ pub fn eat_plain_cell(
     reports: &mut [u32],
     pool: &mut [u32],
 ) -> ParserTested
-    ensures { λ r. ⌜ ((ask : Rule → Machine → Walked) (b : Span) → parser-tested r (now (events .exit)) (now (reports .exit)) (now (pool .exit)) ≡ walk ask (tokens-of (now (tokens .entry))) b plain-cell (view-of p (now (events .entry)) (now (reports .entry)) (now (pool .entry)))) ⌝ }
+    ensures { λ r. ⌜ walks-of plain-cell p (parser-tested r) tokens events reports pool ⌝ }
     ensures { λ r. ⌜ left (now (tokens .entry)) (r .p .s) ≤ left (now (tokens .entry)) (p .s) ⌝ }
     ensures { λ r. ⌜ (r .yes ≡ true → left (now (tokens .entry)) (r .p .s) < left (now (tokens .entry)) (p .s)) ⌝ }
 {

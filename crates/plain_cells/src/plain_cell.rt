@@ -1,21 +1,16 @@
-// The first part of `eat_cell` of grammar.rs: the cells that no call is opened for: a literal, a macro or a reference.
-use layout::token_kind;
-use names::macros::macro_invocation;
-use names::reference;
-use parser::StateTested;
-use parser::State;
+// The first cases of `eat_cell` of grammar.rs: the cells that no call is opened for: a literal, a macro or a reference.
 use layout::expected;
+use layout::token_kind;
+use macros::invocation::macro_invocation;
+use names::reference;
+use parser::State;
+use parser::StateTested;
 use parser::matcher::Matcher;
 ghost use mathlib.Core.Path.{_≡_};
-ghost use mathlib.Core.Bool.{true, false};
-ghost use mathlib.Core.List.{List};
-ghost use Prim.Native.Nat.{ℕ, _+_, _-_, _≤_, _<_};
-ghost use Rattle.definitions.specs.Token.{tokens-of};
-ghost use Rattle.definitions.specs.Skeleton.{Span};
-ghost use Rattle.definitions.specs.Prog.{Rule, yes};
-ghost use Rattle.machine.specs.Machine.{Machine};
-ghost use Rattle.machine.specs.Walk.{Walked, said, walk, closed};
-ghost use Rattle.parser.specs.View.{view, left, state-tested};
+ghost use mathlib.Core.Bool.{true};
+ghost use Prim.Native.Nat.{_≤_, _<_};
+ghost use Rattle.definitions.specs.Prog.{yes};
+ghost use Rattle.parser.specs.View.{left, state-tested, walks};
 ghost use Rattle.plain_cells.specs.Subprograms.{plain-cell};
 
 pub fn eat(
@@ -26,12 +21,16 @@ pub fn eat(
     reports: &mut [u32],
     pool: &mut [u32],
 ) -> StateTested
-    ensures { λ r. ⌜ ((ask : Rule → Machine → Walked) (b : Span) → state-tested r (now (codes .exit)) (now (events .exit)) (now (reports .exit)) (now (pool .exit)) ≡ walk ask (tokens-of (now (tokens .entry))) b plain-cell (view s (now (codes .entry)) (now (events .entry)) (now (reports .entry)) (now (pool .entry)))) ⌝ }
+    ensures { λ r. ⌜ walks plain-cell s (state-tested r) codes tokens events reports pool ⌝ }
     ensures { λ r. ⌜ left (now (tokens .entry)) (r .s) ≤ left (now (tokens .entry)) s ⌝ }
     ensures { λ r. ⌜ (r .yes ≡ true → left (now (tokens .entry)) (r .s) < left (now (tokens .entry)) s) ⌝ }
 {
     let pushed = s.add_expected(codes, expected::CELL);
-    let literal = pushed.silent_eat(tokens, events, Matcher::Either(token_kind::NUMBER, token_kind::CHAR));
+    let literal = pushed.silent_eat(
+        tokens,
+        events,
+        Matcher::Either(token_kind::NUMBER, token_kind::CHAR),
+    );
     if literal.yes {
         return literal;
     }

@@ -4,17 +4,9 @@ pub mod node_or_prop_prefix;
 
 use parser::Parser;
 use parser::ParserAnswered;
-ghost use mathlib.Core.Path.{_≡_};
-ghost use mathlib.Core.Bool.{true, false};
-ghost use mathlib.Core.List.{List};
-ghost use Prim.Native.Nat.{ℕ, _+_, _-_, _≤_, _<_};
-ghost use Rattle.definitions.specs.Token.{tokens-of};
-ghost use Rattle.definitions.specs.Skeleton.{Span};
-ghost use Rattle.definitions.specs.Prog.{Rule, yes, also};
+ghost use Prim.Native.Nat.{_-_, _≤_};
 ghost use Rattle.definitions.specs.Grammar.{eat-node-or-prop-prefix};
-ghost use Rattle.machine.specs.Machine.{Machine};
-ghost use Rattle.machine.specs.Walk.{Walked, said, walk, closed};
-ghost use Rattle.parser.specs.View.{view-of, parser-tested, left, marker-of, ans-of};
+ghost use Rattle.parser.specs.View.{left, walks-of};
 ghost use Rattle.steps.specs.View.{parser-answered, found};
 
 pub fn eat_node_or_prop_prefix(
@@ -24,16 +16,20 @@ pub fn eat_node_or_prop_prefix(
     reports: &mut [u32],
     pool: &mut [u32],
 ) -> ParserAnswered
-    ensures { λ r. ⌜ ((ask : Rule → Machine → Walked) (b : Span) → parser-answered r (now (events .exit)) (now (reports .exit)) (now (pool .exit)) ≡ walk ask (tokens-of (now (tokens .entry))) b eat-node-or-prop-prefix (view-of p (now (events .entry)) (now (reports .entry)) (now (pool .entry)))) ⌝ }
+    ensures { λ r. ⌜ walks-of eat-node-or-prop-prefix p (parser-answered r) tokens events reports pool ⌝ }
     ensures { λ r. ⌜ left (now (tokens .entry)) (r .p .s) ≤ left (now (tokens .entry)) (p .s) - found (r .ans) ⌝ }
 {
     let mut codes = p.codes;
-    let e = node_or_prop_prefix::eat_node_or_prop_prefix(p.s, &mut codes, tokens, events, reports, pool);
+    let e = node_or_prop_prefix::eat_node_or_prop_prefix(
+        p.s,
+        &mut codes,
+        tokens,
+        events,
+        reports,
+        pool,
+    );
     let s = e.s;
     let q = Parser { codes: codes, s: s };
     let answer = e.ans;
-    ParserAnswered {
-        p: q,
-        ans: answer,
-    }
+    ParserAnswered { p: q, ans: answer }
 }

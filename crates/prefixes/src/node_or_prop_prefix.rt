@@ -1,29 +1,22 @@
 // `eat_node_or_prop_prefix` of grammar.rs: labels, and the name of a node or property with its unit address.
+use layout::hint::NO_HINT;
+use layout::message::AT_SIGN_IN_LABEL;
+use layout::node_kind;
 use layout::token_kind;
 use names::macro_substitutable_name;
 use names::reference;
 use names::unit_address;
 use parser::Ans;
+use parser::State;
 use parser::StateAnswered;
 use parser::StateTested;
-use parser::State;
-use layout::message::AT_SIGN_IN_LABEL;
 use parser::errors::Bump;
-use layout::hint::NO_HINT;
 use parser::marker::Marker;
 use parser::matcher::Matcher;
-use layout::node_kind;
 ghost use mathlib.Core.Path.{_≡_};
-ghost use mathlib.Core.Bool.{true, false};
-ghost use mathlib.Core.List.{List};
-ghost use Prim.Native.Nat.{ℕ, _+_, _-_, _≤_, _<_};
-ghost use Rattle.definitions.specs.Token.{tokens-of};
-ghost use Rattle.definitions.specs.Skeleton.{Span};
-ghost use Rattle.definitions.specs.Prog.{Rule, yes};
+ghost use Prim.Native.Nat.{_+_, _-_, _≤_};
 ghost use Rattle.definitions.specs.Grammar.{prefix-turn, eat-node-or-prop-prefix};
-ghost use Rattle.machine.specs.Machine.{Machine};
-ghost use Rattle.machine.specs.Walk.{Walked, said, walk, closed};
-ghost use Rattle.parser.specs.View.{view, left, state-tested, ans-of};
+ghost use Rattle.parser.specs.View.{left, state-tested, ans-of, walks};
 ghost use Rattle.steps.specs.View.{state-answered, own-name, goes, found};
 ghost use Rattle.prefixes.specs.Subprograms.{unit-address-and-colon, label-or-name, labels-and-name};
 
@@ -53,7 +46,7 @@ fn eat_unit_address_and_at_colon(
     reports: &mut [u32],
     pool: &mut [u32],
 ) -> StateTested
-    ensures { λ r. ⌜ ((ask : Rule → Machine → Walked) (b : Span) → state-tested r (now (codes .exit)) (now (events .exit)) (now (reports .exit)) (now (pool .exit)) ≡ walk ask (tokens-of (now (tokens .entry))) b unit-address-and-colon (view s (now (codes .entry)) (now (events .entry)) (now (reports .entry)) (now (pool .entry)))) ⌝ }
+    ensures { λ r. ⌜ walks unit-address-and-colon s (state-tested r) codes tokens events reports pool ⌝ }
     ensures { λ r. ⌜ left (now (tokens .entry)) (r .s) ≤ left (now (tokens .entry)) s ⌝ }
 {
     let unit = unit_address::eat(s, codes, tokens, events, reports, pool);
@@ -74,7 +67,8 @@ fn label_or_name(
     pool: &mut [u32],
     allow_prop: bool,
 ) -> StateAnswered
-    ensures { λ r. ⌜ ((ask : Rule → Machine → Walked) (b : Span) → state-answered r (now (codes .exit)) (now (events .exit)) (now (reports .exit)) (now (pool .exit)) ≡ walk ask (tokens-of (now (tokens .entry))) b (label-or-name (own-name «allow_prop»)) (view s (now (codes .entry)) (now (events .entry)) (now (reports .entry)) (now (pool .entry)))) ⌝ }
+    ensures { λ r. ⌜ walks (label-or-name (own-name «allow_prop»)) s (state-answered r)
+        codes tokens events reports pool ⌝ }
     ensures { λ r. ⌜ left (now (tokens .entry)) (r .s) ≤ left (now (tokens .entry)) s - 1 ⌝ }
 {
     let m_label = Marker::new(s);
@@ -119,7 +113,8 @@ fn turn(
     pool: &mut [u32],
     allow_prop: bool,
 ) -> StateAnswered
-    ensures { λ r. ⌜ ((ask : Rule → Machine → Walked) (b : Span) → state-answered r (now (codes .exit)) (now (events .exit)) (now (reports .exit)) (now (pool .exit)) ≡ walk ask (tokens-of (now (tokens .entry))) b (prefix-turn (own-name «allow_prop»)) (view s (now (codes .entry)) (now (events .entry)) (now (reports .entry)) (now (pool .entry)))) ⌝ }
+    ensures { λ r. ⌜ walks (prefix-turn (own-name «allow_prop»)) s (state-answered r)
+        codes tokens events reports pool ⌝ }
     ensures { λ r. ⌜ left (now (tokens .entry)) (r .s) + goes (r .ans) ≤ left (now (tokens .entry)) s ⌝ }
     ensures { λ r. ⌜ left (now (tokens .entry)) (r .s) ≤ left (now (tokens .entry)) s - found (r .ans) ⌝ }
 {
@@ -135,7 +130,9 @@ fn turn(
             ans: Ans::Yes,
         };
     }
-    let root = extended.s.eat(codes, tokens, events, Matcher::Kind(token_kind::SLASH));
+    let root = extended
+        .s
+        .eat(codes, tokens, events, Matcher::Kind(token_kind::SLASH));
     let q = root.s;
     if root.yes {
         StateAnswered {
@@ -143,10 +140,7 @@ fn turn(
             ans: Ans::Yes,
         }
     } else {
-        StateAnswered {
-            s: q,
-            ans: Ans::No,
-        }
+        StateAnswered { s: q, ans: Ans::No }
     }
 }
 
@@ -159,7 +153,8 @@ fn labels_and_name(
     pool: &mut [u32],
     allow_prop: bool,
 ) -> StateAnswered
-    ensures { λ r. ⌜ ((ask : Rule → Machine → Walked) (b : Span) → state-answered r (now (codes .exit)) (now (events .exit)) (now (reports .exit)) (now (pool .exit)) ≡ walk ask (tokens-of (now (tokens .entry))) b (labels-and-name (own-name «allow_prop»)) (view s (now (codes .entry)) (now (events .entry)) (now (reports .entry)) (now (pool .entry)))) ⌝ }
+    ensures { λ r. ⌜ walks (labels-and-name (own-name «allow_prop»)) s (state-answered r)
+        codes tokens events reports pool ⌝ }
     ensures { λ r. ⌜ left (now (tokens .entry)) (r .s) ≤ left (now (tokens .entry)) s - found (r .ans) ⌝ }
 {
     let mut q = s;
@@ -186,10 +181,15 @@ pub fn eat_node_or_prop_prefix(
     reports: &mut [u32],
     pool: &mut [u32],
 ) -> StateAnswered
-    ensures { λ r. ⌜ ((ask : Rule → Machine → Walked) (b : Span) → state-answered r (now (codes .exit)) (now (events .exit)) (now (reports .exit)) (now (pool .exit)) ≡ walk ask (tokens-of (now (tokens .entry))) b eat-node-or-prop-prefix (view s (now (codes .entry)) (now (events .entry)) (now (reports .entry)) (now (pool .entry)))) ⌝ }
+    ensures { λ r. ⌜ walks eat-node-or-prop-prefix s (state-answered r) codes tokens events reports pool ⌝ }
     ensures { λ r. ⌜ left (now (tokens .entry)) (r .s) ≤ left (now (tokens .entry)) s - found (r .ans) ⌝ }
 {
-    let omit = s.eat(codes, tokens, events, Matcher::Kind(token_kind::OMIT_IF_NO_REF_DIRECTIVE));
+    let omit = s.eat(
+        codes,
+        tokens,
+        events,
+        Matcher::Kind(token_kind::OMIT_IF_NO_REF_DIRECTIVE),
+    );
     if omit.yes {
         labels_and_name(omit.s, codes, tokens, events, reports, pool, false)
     } else {

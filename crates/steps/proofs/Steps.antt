@@ -1,6 +1,6 @@
--- Steps of a way for functions that answer more than yes and no: a part whose answer does not matter, `eat_starting`, a brace, an answer that a match has told,
--- a loop's turn with such an answer, and what a test that held says of the tokens left.
-use Prim.Native.Nat.{ℕ, _-_, _≤_, _<_}
+-- Steps of a way for functions that answer more than yes and no: a subprogram whose answer does not matter, `eat_starting`, a brace, an
+-- answer that a match has told, a loop's turn with such an answer, and what a test that held says of the tokens left.
+use Prim.Native.Nat.{ℕ, _≤_, _<_}
 use mathlib.Core.Path.{_≡_, refl, sym, ap, _∙_}
 use mathlib.Core.Bool.{Bool, true, false, true≢false, false≢true}
 use mathlib.Core.List.{List, [], _∷_}
@@ -30,11 +30,11 @@ use Rattle.parser.specs.declared.Ans.{Ans as Answered}
 use Rattle.parser.specs.declared.Ans.the-variants as A
 use Rattle.parser.proofs.Ans.{the-type}
 use Rattle.parser.specs.View.{view, view-of, parser-tested, ans-of, Starting, by-answer, starting}
 use Rattle.steps.specs.View.{state-answered, parser-answered, goes, found}
 use Rattle.machine.proofs.Way.{Way, Closes, c-case}
 
 module _ {ask : Rule → Machine → Walked} {ts : List Token} {b : Span} where
-  -- a part of which only the machine after it is known
+  -- a subprogram of which only the machine after it is known
   pub c-on : {p q : Prog} {m x : Machine} {w : Walked} → x ≡ walk ask ts b p m .on → Way ask ts b q x w → Way ask ts b (p ⨟ q) m w
   unfolding walk
   c-on {q = q} e f = record { is = f .is ∙ ap (walk ask ts b q) e }
@@ -158,7 +158,7 @@ module _ {ask : Rule → Machine → Walked} {ts : List Token} {b : Span} {m : M
 -- ---------------------------------------------------------------- more
 
 module _ {ask : Rule → Machine → Walked} {ts : List Token} {b : Span} where
-  -- what a part comes to, whatever that is
+  -- what a subprogram comes to, whatever that is
   pub c-any : {p : Prog} {m : Machine} → Way ask ts b p m (walk ask ts b p m)
   c-any = record { is = refl }
 

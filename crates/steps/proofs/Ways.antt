@@ -1,5 +1,5 @@
--- More steps of a way through a program (machine/proofs/Way.antt): what each call ensures of its part gives what the whole comes to, and
--- the walks of the parts stay shut.
+-- More steps of a way through a program (machine/proofs/Way.antt): what each call ensures of its subprogram gives what the whole comes
+-- to, and the walks of the subprograms stay shut.
 use Prim.Native.Nat.{ℕ, zero, suc, _<_}
 use mathlib.Core.Path.{_≡_, refl, sym, ap, _∙_}
 use mathlib.Core.Bool.{Bool}
@@ -34,13 +34,13 @@ module _ {ask : Rule → Machine → Walked} {ts : List Token} {b : Span} where
   pub opened : {p q : Prog} {m : Machine} {w : Walked} → p ≡ q → Way ask ts b q m w → Way ask ts b p m w
   opened {m = m} e f = record { is = f .is ∙ ap (λ (x : Prog). walk ask ts b x m) (sym e) }
 
-  -- ---------------------------------------------------------------- a part, by what its call ensures
+  -- ---------------------------------------------------------------- a subprogram, by what its call ensures
 
   -- a call that does not say what is answered
   pub lands : {p : Prog} {m x : Machine} → x ≡ walk ask ts b p m .on → Way ask ts b p m (record { ans = walk ask ts b p m .ans; shape = walk ask ts b p m .shape; on = x })
   lands {p = p} {m = m} e = record { is = ap (λ (x : Machine). record { ans = walk ask ts b p m .ans; shape = walk ask ts b p m .shape; on = x }) e }
 
-  -- ---------------------------------------------------------------- parts together
+  -- ---------------------------------------------------------------- subprograms together
 
   pub if-no : {c n y a : Prog} {m : Machine} {v w : Walked} → Way ask ts b c m v → v .ans ≡ no → Way ask ts b n (v .on) w → Way ask ts b (case c n y a) m w
   unfolding walk choose

@@ -1,7 +1,7 @@
 -- `directive_end` is the walk of its program, step by step.
 use native.Mathlib.Omega.{arith}
 use Rattle.machine.proofs.Way.{c-walk, c-ret, c-seq, completed}
-use Rattle.names.proofs.Ways.{closes-to}
+use Rattle.steps.proofs.Ways.{closes-to}
 use borrow.Author.Needs.{needs}
 use Rattle.directives.proofs.dts_directive.directive_end.Statement.{statement}
 use Rattle.directives.proofs.dts_directive.directive_end.Tie as tie

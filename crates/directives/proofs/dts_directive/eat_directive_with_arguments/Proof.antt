@@ -1,11 +1,11 @@
 -- `eat_directive_with_arguments` is the walk of its program, step by step.
+use mathlib.Core.Bool.{false≢true}
 use Rattle.definitions.specs.TokenKind as K
-use mathlib.Core.Path.{sym}
 use mathlib.Core.List.{[], _∷_}
 use native.Mathlib.Omega.{arith}
 use Rattle.definitions.specs.Check.{set, of-kind, eat-starting_inside_else_}
 use Rattle.machine.proofs.Way.{c-walk, c-ret, c-seq}
-use Rattle.steps.proofs.Steps.{true-false, c-started, c-unstarted, c-any, closing}
+use Rattle.steps.proofs.Steps.{c-started, c-unstarted, c-any, closing}
 use Rattle.directives.proofs.dts_directive.eat_directive_with_arguments.Statement.{statement}
 use Rattle.directives.proofs.dts_directive.eat_directive_with_arguments.Tie as tie
 
@@ -105,7 +105,7 @@ returns-3 c =
     let d = a .before .before .before in
     let e = d .before .before .before in
     let f = e .before .before .before in
-    (λ ask b. (c-unstarted (of-kind K.MemreserveDirective) (f .eat-starting .ensures .0 ask b _ _) (e .if1 .left) (c-unstarted (set (K.DeleteNodeDirective ∷ K.DeletePropertyDirective ∷ [])) (d .eat-starting2 .ensures .0 ask b _ _) (a .if2 .left) c-ret)) .is, (omega (arith, f .eat-starting .ensures .1 .0, d .eat-starting2 .ensures .1 .0), λ h. true-false (sym h)))
+    (λ ask b. (c-unstarted (of-kind K.MemreserveDirective) (f .eat-starting .ensures .0 ask b _ _) (e .if1 .left) (c-unstarted (set (K.DeleteNodeDirective ∷ K.DeletePropertyDirective ∷ [])) (d .eat-starting2 .ensures .0 ask b _ _) (a .if2 .left) c-ret)) .is, (omega (arith, f .eat-starting .ensures .1 .0, d .eat-starting2 .ensures .1 .0), λ h. absurd (false≢true h)))
 
 pub eat-directive-with-arguments-spec : {M : Type 1} → statement M
 eat-directive-with-arguments-spec = tie.close (tie.spec eat-starting-requires memreserve-arguments-requires directive-end-requires same-length same-length-2 same-length-3 returns eat-starting-requires-2 delete-arguments-requires directive-end-requires-2 same-length-4 same-length-5 same-length-6 returns-2 same-length-7 returns-3)

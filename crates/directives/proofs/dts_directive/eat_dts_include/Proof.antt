@@ -1,6 +1,6 @@
 -- `eat_dts_include` is the walk of its program, step by step.
+use mathlib.Core.Bool.{false≢true}
 use Rattle.definitions.specs.TokenKind as K
-use mathlib.Core.Path.{sym}
 use mathlib.Core.List.{[]}
 use native.Mathlib.Omega.{arith}
 use Rattle.definitions.specs.Token.{tokens-of}
@@ -11,7 +11,8 @@ use Rattle.machine.specs.Machine.{Machine}
 use Rattle.machine.specs.Walk.{said, unlabelled}
 use Rattle.machine.proofs.Turns.{few-rows}
 use Rattle.machine.proofs.Way.{c-walk, c-ret, c-seq, completed}
-use Rattle.steps.proofs.Steps.{true-false, c-started, c-unstarted, starting-some, some-left}
+use Rattle.steps.proofs.Left.{some-left}
+use Rattle.steps.proofs.Steps.{c-started, c-unstarted, starting-some}
 use Rattle.directives.proofs.dts_directive.eat_dts_include.Statement.{statement}
 use Rattle.directives.proofs.dts_directive.eat_dts_include.Tie as tie
 
@@ -65,7 +66,7 @@ unfolding eat-dts-include eat-starting_inside_else_
 returns-2 c =
     let a = c .before in
     let d = a .before .before .before in
-    (λ ask b. (c-unstarted (of-kind K.DtIncludeDirective) (d .eat-starting .ensures .0 ask b _ _) (a .if1 .left) c-ret) .is, (omega (arith, d .eat-starting .ensures .1 .0), λ h. true-false (sym h)))
+    (λ ask b. (c-unstarted (of-kind K.DtIncludeDirective) (d .eat-starting .ensures .0 ask b _ _) (a .if1 .left) c-ret) .is, (omega (arith, d .eat-starting .ensures .1 .0), λ h. absurd (false≢true h)))
 
 pub eat-dts-include-spec : {M : Type 1} → statement M
 eat-dts-include-spec = tie.close (tie.spec eat-starting-requires expect-requires complete-requires same-length same-length-2 same-length-3 returns same-length-4 returns-2)

@@ -3,7 +3,7 @@ use native.Mathlib.Omega.{arith}
 use Rattle.definitions.specs.Token.{tokens-of}
 use Rattle.definitions.specs.Grammar.{cells-end}
 use Rattle.machine.proofs.Way.{c-walk, c-act, c-seq}
-use Rattle.names.proofs.Ways.{c-flag}
+use Rattle.steps.proofs.Ways.{c-flag}
 use Rattle.ends.proofs.lists.at_cells_end.Statement.{statement}
 use Rattle.ends.proofs.lists.at_cells_end.Tie as tie
 

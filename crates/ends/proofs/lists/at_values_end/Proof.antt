@@ -2,9 +2,9 @@
 use Rattle.definitions.specs.TokenKind as K
 use native.Mathlib.Omega.{arith}
 use Rattle.machine.proofs.Way.{c-walk, c-act}
-use Rattle.names.proofs.Ways.{c-flag}
-use Rattle.ends.specs.Subprograms.{at-values-end}
+use Rattle.steps.proofs.Ways.{c-flag}
 use Rattle.steps.proofs.Steps.{at-one, at-none}
+use Rattle.ends.specs.Subprograms.{at-values-end}
 use borrow.Author.Needs.{needs}
 use Rattle.ends.proofs.lists.at_values_end.Statement.{statement}
 use Rattle.ends.proofs.lists.at_values_end.Tie as tie

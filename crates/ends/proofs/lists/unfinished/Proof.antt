@@ -4,7 +4,7 @@ use mathlib.Core.Bool.{true, false}
 use native.Mathlib.Omega.{arith}
 use Rattle.definitions.specs.Check.{silent}
 use Rattle.machine.proofs.Way.{c-walk, c-act, c-ret, c-seq, c-yes, c-no, completed}
-use Rattle.names.proofs.Ways.{closes-to}
+use Rattle.steps.proofs.Ways.{closes-to}
 use borrow.Author.Needs.{needs}
 use Rattle.ends.proofs.lists.unfinished.Statement.{statement}
 use Rattle.ends.proofs.lists.unfinished.Tie as tie

@@ -3,7 +3,7 @@ use native.Mathlib.Omega.{arith}
 use Rattle.definitions.specs.Check.{silent}
 use Rattle.definitions.specs.Grammar.{forbidden-property}
 use Rattle.machine.proofs.Way.{c-act, c-ret}
-use Rattle.names.proofs.Ways.{c-flag}
+use Rattle.steps.proofs.Ways.{c-flag}
 use borrow.Author.Needs.{needs}
 use Rattle.ends.proofs.nodes.forbidden_property.Statement.{statement}
 use Rattle.ends.proofs.nodes.forbidden_property.Tie as tie

@@ -1,10 +1,9 @@
 -- `node_end`: the end of a node's body.
 use native.Mathlib.Omega.{arith}
 use borrow.Author.Needs.{needs}
-use Rattle.definitions.specs.Token.{tokens-of}
 use Rattle.parser.specs.View.{span-of}
 use Rattle.machine.proofs.Way.{c-walk, c-act, c-ret, c-seq, c-yes, c-no, completed}
-use Rattle.names.proofs.Ways.{c-unclosed, closes-to}
+use Rattle.steps.proofs.Ways.{closes-to, c-unclosed}
 use Rattle.ends.proofs.nodes.node_end.Statement.{statement}
 use Rattle.ends.proofs.nodes.node_end.Tie as tie
 

@@ -10,7 +10,8 @@ use Rattle.definitions.specs.Grammar.{Reference}
 use Rattle.machine.specs.Machine.{Machine}
 use Rattle.machine.specs.Walk.{said, unlabelled}
 use Rattle.machine.proofs.Way.{c-walk, c-act, c-ret, c-seq, c-yes, c-no}
-use Rattle.steps.proofs.Steps.{c-ret-yes, taken-some, some-left}
+use Rattle.steps.proofs.Left.{some-left}
+use Rattle.steps.proofs.Steps.{c-ret-yes, taken-some}
 use Rattle.plain_cells.proofs.plain_cell.eat.Statement.{statement}
 use Rattle.plain_cells.proofs.plain_cell.eat.Tie as tie
 

@@ -12,7 +12,7 @@ use Rattle.machine.specs.Machine.{Machine}
 use Rattle.machine.specs.Walk.{Walked, walk}
 use Rattle.machine.proofs.Way.{c-walk}
 use Rattle.parser.specs.View.{view, left, ans-of}
-use Rattle.names.proofs.Kit.{ahead-falls}
+use Rattle.steps.proofs.Left.{ahead-falls}
 use Rattle.steps.specs.View.{own-name, goes}
 use Rattle.steps.proofs.Steps.{went-told, ended-told, other-ends}
 use Rattle.prefixes.proofs.node_or_prop_prefix.labels_and_name.Statement.{statement}
