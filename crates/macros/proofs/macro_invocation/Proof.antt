@@ -1,7 +1,7 @@
 -- `macro_invocation`, with the codes in the parser.
 use native.Mathlib.Omega.{arith}
-use Rattle.names.proofs.macro_invocation.Statement.{statement}
-use Rattle.names.proofs.macro_invocation.Tie as tie
+use Rattle.macros.proofs.macro_invocation.Statement.{statement}
+use Rattle.macros.proofs.macro_invocation.Tie as tie
 
 macro-invocation-requires : tie.Need-macro-invocation-requires
 macro-invocation-requires c κs = tt
