@@ -1,13 +1,13 @@
 -- A program that completes no marker around it leaves the marker's shape alone.
-use Prim.Native.Nat.{ℕ, zero, suc}
+use Prim.Native.Nat.{zero, suc}
 use mathlib.Core.Path.{_≡_, refl}
 use mathlib.Core.Bool.{true, false≢true}
 use lib.ListN.{length}
 use Rattle.definitions.specs.Prog.{Ans, no, yes, also, again, Rule, Prog, ret, act, _⨟_, case, in-marker, loop, chain, brace, open-call}
-use Rattle.definitions.specs.Skeleton.{Label, Skeleton, done}
-use Rattle.definitions.specs.Run.{State, Out, mark-of, answer, makes, add, choose, marked, is-again, goes-on, iter, unlinked, by-shape, links, chained, here, exec}
-use Rattle.basics.proofs.Tests.{cond-all, and-left, and-right}
-use Rattle.laws.proofs.Shape.{iter-shape, links-shape, chained-shape}
+use Rattle.definitions.specs.Skeleton.{Label}
+use Rattle.definitions.specs.Run.{State, Out, makes, add, choose, marked, here, exec}
+use Rattle.basics.proofs.Tests.{and-left, and-right}
+use Rattle.laws.proofs.Shape.{iter-shape, chained-shape}
 use Rattle.brackets.proofs.Look.{shapeless}
 use Rattle.brackets.proofs.Actions.{act-shape}
 

@@ -14,7 +14,6 @@ use Rattle.definitions.specs.Place.{leaf, _⊕_, lead, front, after, place, roo
 use Rattle.definitions.specs.Report.{Push, event, reported, exceeded, pushes}
 use Rattle.definitions.specs.Call.{run-entry}
 use Rattle.laws.proofs.Marks.{Falls, entry-marks}
-use Rattle.laws.proofs.Tree.{leaves}
 use Rattle.laws.proofs.Placed.{lead-whole, front-whole}
 use Rattle.laws.specs.Pushes.{Clear}
 use Rattle.precedence.proofs.Cell.{CellOf}

@@ -10,9 +10,9 @@ use Rattle.definitions.specs.Token.{Token, drop-trivia}
 use Rattle.definitions.specs.Prog.{Ans, no, yes, also, again, Rule, item, propvalues, eat-cell, expr-binding-power, Prog, ret, act, _⨟_, case, in-marker, loop, chain, brace, open-call}
 use Rattle.definitions.specs.Grammar.{grammar, sourcefile-turn, left-over}
 use Rattle.definitions.specs.Skeleton.{Label, no-label, Skeleton, done, _⧺_}
-use Rattle.definitions.specs.Run.{State, Out, mark-of, answer, makes, add, choose, closed, marked, is-again, goes-on, iter, unlinked, by-shape, links, chained, here, exec, run}
+use Rattle.definitions.specs.Run.{State, Out, mark-of, answer, makes, add, choose, closed, marked, is-again, goes-on, iter, chained, here, exec, run}
 use Rattle.definitions.specs.Place.{after, place}
-use Rattle.basics.proofs.Tests.{and-left, and-right, cond-all, cond-with}
+use Rattle.basics.proofs.Tests.{and-left, and-right, cond-with}
 use Rattle.laws.proofs.Shape.{chained-shape}
 use Rattle.laws.proofs.Trivia.{drop-twice}
 use Rattle.laws.proofs.Sound.{is-again-eq}
@@ -45,11 +45,6 @@ dull-shape ask b (loop p) s e = absurd (false≢true e)
 dull-shape ask b (chain p q) s e = absurd (false≢true e)
 dull-shape ask b (brace p) s e = dull-shape ask (here (s .rest)) p s e
 dull-shape ask b (open-call r) s e = absurd (false≢true e)
-
-by-shape-is : (Z : Out → Type 0) (k : ℕ) {x y : Out} → Z x → Z y → Z (by-shape k x y)
-unfolding by-shape
-by-shape-is Z zero p q = p
-by-shape-is Z (suc k) p q = q
 
 -- ---------------------------------------------------------------- loops
 

@@ -5,7 +5,7 @@ use Rattle.definitions.specs.TokenKind as K
 use Rattle.definitions.specs.Errors as E
 use Rattle.definitions.specs.Prog.{item}
 use Rattle.definitions.specs.Grammar.{SourceFile}
-use Rattle.definitions.specs.Report.{exceeded, pushes}
+use Rattle.definitions.specs.Report.{pushes}
 use Rattle.definitions.specs.Call.{run-entry}
 use Rattle.definitions.specs.Run.{taken, run}
 use Rattle.run_steps.specs.Steps.{run-steps, entry-steps}
