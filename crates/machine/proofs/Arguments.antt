@@ -59,7 +59,7 @@ stays s t l a = answer a (moved s (t ∷ l))
 abbrev goes-in : Token → List Token → ℕ → Out
 goes-in t l m = add (makes yes (token t (length l) done) (taken l)) (do-argument m (taken l) l)
 
--- a token that is no trivia
+-- a token that is not trivia
 abbrev at-token : ℕ → State → Token → List Token → Out
 at-token n s t l =
     cond (eqb (t .kind) K.LParen) (goes-in t l (suc n))

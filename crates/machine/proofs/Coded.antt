@@ -29,7 +29,7 @@ coded linked (ignored m m′ a i o) = coded true a ++ (PLACEHOLDER ∷ 0 ∷ 0 �
 coded linked (report r o) = ERROR ∷ 0 ∷ 0 ∷ coded linked o
 coded linked (over m o) = coded linked o
 
--- a list behind the last of three parts, with rows between them
+-- a list after the last of three parts, with rows between them
 behind : (a : List ℕ) (x y z : ℕ) (i : List ℕ) (u v w : ℕ) (o l : List ℕ)
     → a ++ (x ∷ y ∷ z ∷ (i ++ (u ∷ v ∷ w ∷ (o ++ l)))) ≡ (a ++ (x ∷ y ∷ z ∷ (i ++ (u ∷ v ∷ w ∷ o)))) ++ l
 behind a x y z i u v w o l = sym (append-assoc a _ l ∙ ap (λ (t : List ℕ). a ++ (x ∷ y ∷ z ∷ t)) (append-assoc i (u ∷ v ∷ w ∷ o) l))

@@ -41,7 +41,7 @@ abbrev pub span-of : ℕ → Label → Span
 span-of b no-label = record { from = 0; to = 0 }
 span-of b (label x) = forward-span b x
 
--- the byte behind the last token taken
+-- the byte after the last token taken
 behind-mark : (b k : ℕ) → 1 ≤ k → k ≤ b → b < TWO-TO-32 → low (b - k + 1) ≡ b - (k - 1)
 behind-mark b k h i l = let e : b - k + 1 ≡ b - (k - 1) = omega arith in ap low e ∙ mod-eq-of-lt (omega arith)
 

@@ -161,7 +161,7 @@ module _ (g : Ground) (c : Sofar) (kind m m′ : ℕ) (a i : Skeleton) (s : Stat
   abbrev next : Sofar
   next = opened c N (mark-of s) done
 
-  -- what is pushed is pushed behind
+  -- what is pushed is pushed after
   pushed-is : grow c N .pushed ++ (event (mark-of s) ∷ []) ≡ next .pushed
   unfolding pushes
   pushed-is = append-assoc (c .pushed) (pushes N) (event (mark-of s) ∷ [])

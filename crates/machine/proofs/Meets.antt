@@ -1,4 +1,4 @@
--- What is to be shown of every walk: the machine comes to stand where the definitions say, or it was refused as `scan` says of what is
+-- What is to be shown of every walk: the machine stops where the definitions say, or it was refused as `scan` says of what is
 -- pushed. `Sofar` is what was written and pushed so far; the open markers' placeholders are in it as they stand.
 use Prim.Native.Nat.{ℕ, suc, _+_, _-_, _/_, _≤_, _<_}
 use native.Mathlib.Omega.{arith}
@@ -51,7 +51,7 @@ pub data Meets (g : Ground) (c : Sofar) (a : Ans) (k : ℕ) (s : State) (w : Wal
   goes : Fitting g c → Inside g s → w ≡ record { ans = a; shape = k; on = stand g c s } → Meets g c a k s w
   stop : (r : Refusal) → scan (c .pushed) (room-at-first g) ≡ stops r → Refused (g .tokens) r (w .on) → Meets g c a k s w
 
--- a skeleton written behind
+-- a skeleton written after
 abbrev pub grow : Sofar → Skeleton → Sofar
 grow c o = record { numbers = c .numbers ++ coded false o; pushed = c .pushed ++ pushes o }
 
@@ -62,7 +62,7 @@ Sim g c o w = Meets g (grow c (o .made)) (o .ans) (o .shape) (o .state) w
 abbrev pub Tracks : Ground → (State → Out) → (Machine → Walked) → Type 0
 Tracks g f h = (c : Sofar) (s : State) → Fitting g c → Inside g s → Sim g c (f s) (h (stand g c s))
 
--- ---------------------------------------------------------------- pushed behind
+-- ---------------------------------------------------------------- pushed after
 
 pub record Begins (p q : List Push) : Type 0 where
   pub more : List Push
@@ -81,7 +81,7 @@ begins-behind l p q a = record { more = a .more; joins = append-assoc l p (a .mo
 pub still-stops : (p q : List Push) (z : Room) (r : Refusal) → Begins p q → scan p z ≡ stops r → scan q z ≡ stops r
 still-stops p q z r b e = ap (λ (l : List Push). scan l z) (sym (b .joins)) ∙ scan-append p (b .more) z ∙ ap (λ (x : Fit). and-then x (scan (b .more))) e
 
--- ---------------------------------------------------------------- written behind
+-- ---------------------------------------------------------------- written after
 
 pub same-sofar : (e e′ : List ℕ) (p p′ : List Push) → e ≡ e′ → p ≡ p′ → _≡_ {A = Sofar} (record { numbers = e; pushed = p }) (record { numbers = e′; pushed = p′ })
 same-sofar e e′ p p′ x y = ap (λ (u : List ℕ). record { numbers = u; pushed = p }) x ∙ ap (λ (v : List Push). record { numbers = e′; pushed = v }) y

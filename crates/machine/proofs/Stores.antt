@@ -30,7 +30,7 @@ fits-true len at n h = rw (le-leb at len (omega arith), le-leb n (len - at) (ome
 fits-false : (len at n : ℕ) → at ≤ len → len < at + n → fits len at n ≡ false
 fits-false len at n k h = rw (le-leb at len k, lt-leb n (len - at) (omega arith))
 
--- a row right behind what is written
+-- a row right after what is written
 row-behind : (l vs b : List ℕ) (n : ℕ) → length vs ≡ n → length l + n ≤ length b → _≡_ {A = Buffer} (record { count = length l + n; numbers = sets (onto l b) (length l) vs }) (written (l ++ vs) b)
 row-behind l vs b n e h =
     let c : length l + n ≡ length (l ++ vs) = simp length-append (omega arith) in
@@ -55,7 +55,7 @@ module _ (g : Ground) (l : List Report) (s : State) where
 
   -- ---------------------------------------------------------------- a marker completed
 
-  -- the placeholder behind p becomes a start
+  -- the placeholder after p becomes a start
   start-is : (p f : List ℕ) (k : Marker) (kind : ℕ) → k .place ≡ length p → length (p ++ (PLACEHOLDER ∷ 0 ∷ 0 ∷ f)) ≤ length (g .events)
       → with-events (record { count = length (p ++ (PLACEHOLDER ∷ 0 ∷ 0 ∷ f)); numbers = put-start k kind (onto (p ++ (PLACEHOLDER ∷ 0 ∷ 0 ∷ f)) (g .events)) }) (image g (p ++ (PLACEHOLDER ∷ 0 ∷ 0 ∷ f)) l s)
       ≡ image g (p ++ (k .tag ∷ kind ∷ 0 ∷ f)) l s
@@ -83,7 +83,7 @@ module _ (g : Ground) (l : List Report) (s : State) where
   gap : (p f : List ℕ) (x y z : ℕ) → (length (p ++ (x ∷ y ∷ z ∷ f)) - length p) / EVENT-ROW ≡ suc (length f / EVENT-ROW)
   gap p f x y z = omega (arith, length-append p (x ∷ y ∷ z ∷ f))
 
-  -- the start behind p is linked to what comes next
+  -- the start after p is linked to what comes next
   link-is : (p f : List ℕ) (x y z : ℕ) → length ((p ++ (x ∷ y ∷ z ∷ f)) ++ (PLACEHOLDER ∷ 0 ∷ 0 ∷ [])) ≤ length (g .events)
       → put-link (length p) (length (p ++ (x ∷ y ∷ z ∷ f))) (onto ((p ++ (x ∷ y ∷ z ∷ f)) ++ (PLACEHOLDER ∷ 0 ∷ 0 ∷ [])) (g .events))
       ≡ onto ((p ++ (x ∷ y ∷ low (suc (length f / EVENT-ROW)) ∷ f)) ++ (PLACEHOLDER ∷ 0 ∷ 0 ∷ [])) (g .events)

@@ -121,7 +121,7 @@ some-ahead : (l : List Token) → ended l ≡ false → 0 < length l
 some-ahead [] e = let z : _≡_ {A = ℕ} 1 0 = ap (λ (x : Bool). cond x 1 0) e in absurd (omega (arith, z))
 some-ahead (t ∷ l) e = omega arith
 
--- past a token that is no end
+-- past a token that is not an end
 pub bump-falls : (ts : List Token) (m : Machine) → Few ts → ended (rest ts (peek ts m)) ≡ false → ahead ts (bump ts (peek ts m)) < ahead ts m
 bump-falls ts m h e = omega (arith, bump-ahead ts (peek ts m) h, peek-ahead ts m, some-ahead (rest ts (peek ts m)) e)
 

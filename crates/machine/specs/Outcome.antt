@@ -76,7 +76,7 @@ Ends ts o ev rp pl (stops r) m = Refused ts r m
 
 -- THE MACHINE'S END: for every entry, every input that passes causes 2 to 4, and lent buffers of any lengths and contents, the machine
 -- that starts fresh comes to what `scan` says of the skeleton that `definitions` gives. If all of it fits the buffers, nothing is
--- refused, the events encode the skeleton, reports and pool are the definitions', and behind them each buffer is as it was. If not, the
+-- refused, the events encode the skeleton, reports and pool are the definitions', and after them each buffer is as it was. If not, the
 -- refusal's number and place are those of the first push that does not fit.
 abbrev pub Machine-ends : Type 0
 Machine-ends =

@@ -29,7 +29,7 @@ pub record Filled : Type 0 where
 unfoldable pub state : Filled → On
 state s = on (record { cursor = s .cursor; byte = s .byte; rows = s .rows; node = s .node; children = s .children }) (s .written ++ s .free)
 
--- with a forest's rows behind what is written
+-- with a forest's rows after what is written
 unfoldable pub grow : Tree → Filled → Filled
 grow f s =
     record {

@@ -191,7 +191,7 @@ module _ (tk ev : List ℕ) (small : length tk < TWO-TO-32) where
 
   -- ---------------------------------------------------------------- the statements of the induction
 
-  -- the events of o, from any filled state where they fit, leave its placed tree's rows behind what was written
+  -- the events of o, from any filled state where they fit, leave its placed tree's rows after what was written
   unfoldable pub Sinks : Skeleton → Type 0
   Sinks o =
       (l : Bool) (e : List ℕ) (i : ℕ) (ts : List Token) (s : Filled) → Chained o → drop (i * EVENT-ROW) ev ≡ encode l o ++ e → (getD e 0 0 ≡ LINKED-START-NODE → ⊥) → From tk (s .cursor) ts
