@@ -47,7 +47,11 @@ fn number(i: usize) -> u32 {
     if column == 0 {
         return row::LEAF;
     }
-    if column == row::TREE_KIND { WHITESPACE } else { 1 }
+    if column == row::TREE_KIND {
+        WHITESPACE
+    } else {
+        1
+    }
 }
 
 // How many rows after the root's are a leaf of one blank, up to the first that is not.

@@ -89,7 +89,11 @@ fn find_bad_row(tokens: &[u32], bytes: usize) -> Found
     let whole = tokens.len() % TOKEN_ROW == 0;
     if whole {
         let covered = left == 0;
-        if covered { Found::Nothing } else { Found::At(count) }
+        if covered {
+            Found::Nothing
+        } else {
+            Found::At(count)
+        }
     } else {
         Found::At(count)
     }

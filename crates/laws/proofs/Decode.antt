@@ -4,6 +4,7 @@ use native.Mathlib.Omega.{arith}
 use mathlib.Core.Path.{_≡_, refl, ap, sym, _∙_}
 use mathlib.Core.List.{List, [], _++_, append-assoc, append-nil}
 use lib.ListN.{length, length-append}
+use Rattle.definitions.specs.Layout.{TREE-ROW}
 use Rattle.definitions.specs.Token.{bytes}
 use Rattle.definitions.specs.Place.{Tree, nil, leaf, subtree, width, count, rows, tree-row}
 use Rattle.laws.specs.TreeRows.{Rows, end, node, preorder, number, widths, Counts, Widths, first-rows, later-rows, read-row, read}
@@ -102,11 +103,11 @@ row-count nil = 0
 row-count (leaf k ts f) = suc (row-count f)
 row-count (subtree k c f) = suc (row-count c + row-count f)
 
-pub rows-length : (t : Tree) → length (rows t) ≡ 4 * row-count t
+pub rows-length : (t : Tree) → length (rows t) ≡ TREE-ROW * row-count t
 unfolding rows row-count
 rows-length nil = refl
-rows-length (leaf k ts f) = let h : length (rows f) ≡ 4 * row-count f = rows-length f in omega arith
+rows-length (leaf k ts f) = let h : length (rows f) ≡ TREE-ROW * row-count f = rows-length f in omega arith
 rows-length (subtree k c f) =
-    let h : length (rows c) ≡ 4 * row-count c = rows-length c in
-    let g : length (rows f) ≡ 4 * row-count f = rows-length f in
+    let h : length (rows c) ≡ TREE-ROW * row-count c = rows-length c in
+    let g : length (rows f) ≡ TREE-ROW * row-count f = rows-length f in
     simp length-append (omega arith)

@@ -1,4 +1,4 @@
--- Lists of numbers that are written from the front: what a store behind the written ones, or among them, makes of them.
+-- Lists of numbers that are written from the front: what a store after the written ones, or among them, makes of them.
 use Prim.Native.Nat.{ℕ, _+_, _-_, _≤_}
 use native.Mathlib.Omega.{arith}
 use mathlib.Core.Path.{_≡_, sym, ap, _∙_}
@@ -10,7 +10,7 @@ use Rattle.machine.specs.Outcome.{onto}
 pub length-onto : (l b : List ℕ) → length l ≤ length b → length (onto l b) ≡ length b
 length-onto l b h = simp (length-append, length-drop) (omega arith)
 
--- stored right behind what is written
+-- stored right after what is written
 pub sets-behind : (l vs b : List ℕ) → length l + length vs ≤ length b → sets (onto l b) (length l) vs ≡ onto (l ++ vs) b
 sets-behind l vs b h =
     let n : length l + length vs ≤ length (onto l b) = rw (length-onto l b (omega arith)) h in

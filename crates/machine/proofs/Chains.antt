@@ -89,7 +89,7 @@ module _ (g : Ground) (f : State → Out) (h : Machine → Walked) (st : Sticks 
   abbrev next : ℕ → Bool → Marker → Ans → Machine → Walked
   next n b k x v = cond b (W.links ts n h (marker LINKED-START-NODE v) (precede k v)) (said x (push PLACEHOLDER 0 (precede k v)))
 
-  -- behind the new marker
+  -- after the new marker
   onward-sim : (n : ℕ) → Links g f h n → (c : Sofar) (N : Skeleton) (k : Marker) (b : Bool) (x : Ans) (s : State) → k .place ≡ length (c .numbers ++ coded true N) → k .tag ≡ start-tag N
       → Fitting g (opened c N (mark-of s) done) → Inside g s
       → Sim g c (onward f n b (mark-of s) N x s) (cond b (W.links ts n h k (stand g (opened c N (mark-of s) done) s)) (said x (push PLACEHOLDER 0 (stand g (opened c N (mark-of s) done) s))))

@@ -95,7 +95,7 @@ fn main() {
     events_on(5);
     events_on(3);
     events_on(2);
-    // All fits; the row is too long; the pool is too short; and where there is no room for either, the first refusal stays.
+    // All fits; the row is too long; the pool is too short; and where neither fits, the first refusal stays.
     report_on(6, 9, 2);
     report_on(6, 8, 2);
     report_on(6, 9, 1);

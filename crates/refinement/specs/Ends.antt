@@ -1,5 +1,5 @@
 -- The last step before the exported contract: the machine's end and the sink's promise, joined. What they leave in the lent buffers,
--- cleared behind what is written, is the result of `parse` in `definitions`. A device of the proofs, and no part of any exported promise.
+-- cleared after what is written, is the result of `parse` in `definitions`. A device of the proofs, and not a part of any exported promise.
 use Prim.Native.Nat.{ℕ, _-_, _*_, _/_, _≤_}
 use mathlib.Core.Path.{_≡_}
 use mathlib.Core.List.{List, _++_}
@@ -20,7 +20,7 @@ use Rattle.sink.specs.Promise.{Promise}
 unfoldable pub wiped : ℕ → List ℕ → List ℕ
 wiped n l = take n l ++ replicate (length l - n) 0
 
--- events are cleared whole, every other buffer behind the rows that the answer counts
+-- events are cleared whole, every other buffer after the rows that the answer counts
 abbrev pub swept : Answer → Buffers → Result
 swept a b =
     record {

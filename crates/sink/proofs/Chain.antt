@@ -34,7 +34,7 @@ inner (ignored m m′ a i o) k = k
 inner (report r o) k = k
 inner (over m o) k = k
 
--- the kinds of those around it, outwards, with more behind them
+-- the kinds of those around it, outwards, with more after them
 abbrev pub outer : Skeleton → ℕ → List ℕ → List ℕ
 outer done k ks = ks
 outer (token t m o) k ks = ks
@@ -143,7 +143,7 @@ module _ (ev : List ℕ) where
   unfolding field
   ev-field i j x e h = rw (lt-ltb i (length ev / EVENT-ROW) (ev-inside i x e h)) (sym (getD-drop (i * EVENT-ROW) ev j 0) ∙ ap (λ l. getD l j 0) e)
 
-  -- an event that is no linked start
+  -- an event that is not a linked start
   pub ev-other : (i : ℕ) (x : List ℕ) → drop (i * EVENT-ROW) ev ≡ x → (getD x 0 0 ≡ LINKED-START-NODE → ⊥) → field ev i TAG ≡ LINKED-START-NODE → ⊥
   unfolding field
   ev-other i x e h = go (ltb i (length ev / EVENT-ROW))

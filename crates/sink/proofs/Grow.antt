@@ -14,7 +14,8 @@ use Rattle.definitions.specs.Place.{Tree, nil, leaf, _⊕_, width, count, rows,
 use Rattle.laws.proofs.Tree.{rows-beside, width-beside, count-beside}
 use Rattle.sink_rows.specs.Rows.{put, number}
 use Rattle.sink.specs.Machine.{On, on, moved, leaf-on}
-use Rattle.sink.proofs.Trees.{raw, size, raw-beside, size-beside, rows-length, rows-add}
+use Rattle.laws.proofs.Decode.{row-count, rows-length}
+use Rattle.sink.proofs.Trees.{raw, raw-beside, row-count-beside, rows-add}
 
 -- written: the numbers written. free: the rest of the buffer. The other fields are the sink's.
 pub record Filled : Type 0 where
@@ -29,7 +30,7 @@ pub record Filled : Type 0 where
 unfoldable pub state : Filled → On
 state s = on (record { cursor = s .cursor; byte = s .byte; rows = s .rows; node = s .node; children = s .children }) (s .written ++ s .free)
 
--- with a forest's rows behind what is written
+-- with a forest's rows after what is written
 unfoldable pub grow : Tree → Filled → Filled
 grow f s =
     record {
@@ -37,7 +38,7 @@ grow f s =
       free = drop (length (rows f)) (s .free);
       cursor = s .cursor + raw f;
       byte = s .byte + width f;
-      rows = s .rows + size f;
+      rows = s .rows + row-count f;
       node = s .node;
       children = s .children + count f;
     }
@@ -47,7 +48,7 @@ unfolding grow
 grow-grow f g s =
     let p : s .cursor + raw f + raw g ≡ s .cursor + raw (f ⊕ g) = omega (arith, raw-beside f g) in
     let q : s .byte + width f + width g ≡ s .byte + width (f ⊕ g) = omega (arith, width-beside f g) in
-    let n : s .rows + size f + size g ≡ s .rows + size (f ⊕ g) = omega (arith, size-beside f g) in
+    let n : s .rows + row-count f + row-count g ≡ s .rows + row-count (f ⊕ g) = omega (arith, row-count-beside f g) in
     let r : s .children + count f + count g ≡ s .children + count (f ⊕ g) = omega (arith, count-beside f g) in
     rw (
       p,
@@ -61,7 +62,7 @@ grow-grow f g s =
     )
 
 pub grow-nil : (s : Filled) → grow nil s ≡ s
-unfolding grow rows width count raw size
+unfolding grow rows width count raw row-count
 grow-nil s =
     let p : s .cursor + 0 ≡ s .cursor = omega arith in
     let q : s .byte + 0 ≡ s .byte = omega arith in
@@ -74,7 +75,7 @@ pub record Fits (f : Tree) (s : Filled) : Type 0 where
   pub free : length (rows f) ≤ length (s .free)
   pub whole : length (s .written) ≡ s .rows * TREE-ROW
   pub byte : s .byte + width f < TWO-TO-32
-  pub rows : s .rows + size f < TWO-TO-32
+  pub rows : s .rows + row-count f < TWO-TO-32
   pub children : s .children + count f < TWO-TO-32
 
 pub fits-front : (f g : Tree) (s : Filled) → Fits (f ⊕ g) s → Fits f s
@@ -83,7 +84,7 @@ fits-front f g s r =
       free = omega (arith, r .free, rows-add f g);
       whole = r .whole;
       byte = omega (arith, r .byte, width-beside f g);
-      rows = omega (arith, r .rows, size-beside f g);
+      rows = omega (arith, r .rows, row-count-beside f g);
       children = omega (arith, r .children, count-beside f g);
     }
 
@@ -94,7 +95,7 @@ fits-back f g s r =
       free = omega (arith, r .free, rows-add f g, length-drop (length (rows f)) (s .free));
       whole = omega (arith, r .whole, rows-length f, length-append (s .written) (rows f));
       byte = omega (arith, r .byte, width-beside f g);
-      rows = omega (arith, r .rows, size-beside f g);
+      rows = omega (arith, r .rows, row-count-beside f g);
       children = omega (arith, r .children, count-beside f g);
     }
 
@@ -122,7 +123,7 @@ number-seam row j t x e h =
 
 module _ (k : ℕ) (ts : List Token) (n w : ℕ) (hn : length ts ≡ n) (hw : bytes ts ≡ w) (s : Filled) (r : Fits (leaf k ts nil) s) where
   pub leaf-runs : leaf-on k w n (moved (s .cursor + n) (state s)) ≡ state (grow (leaf k ts nil) s)
-  unfolding rows width count raw size grow state leaf-on
+  unfolding rows width count raw row-count grow state leaf-on
   leaf-runs =
       let b : low (s .byte + w) ≡ s .byte + (bytes ts + 0) = low-small (s .byte + w) (omega (arith, r .byte)) ∙ (let z : s .byte + w ≡ s .byte + (bytes ts + 0) = omega arith in z) in
       let m : low (s .rows + 1) ≡ s .rows + 1 = low-small (s .rows + 1) (omega (arith, r .rows)) in

@@ -21,7 +21,8 @@ use Rattle.sink.specs.Encode.{event-row, Alone, Chained}
 use Rattle.sink_rows.specs.Rows.{TAG, field}
 use Rattle.sink.specs.Machine.{On, on, token-on, trivia-on, combined-on, start-on, finish-on, event-on, eventsN}
 use Rattle.sink.proofs.Encode.{event-count, events-length, encode-count}
-use Rattle.sink.proofs.Trees.{raw, size, raw-beside, size-beside, rows-length, count-size, raw-lead, raw-place}
+use Rattle.laws.proofs.Decode.{row-count, rows-length}
+use Rattle.sink.proofs.Trees.{raw, raw-beside, row-count-beside, count-rows, raw-lead, raw-place}
 use Rattle.sink.proofs.Grow.{Filled, state, grow, grow-grow, grow-nil, Fits, fits-front, fits-back}
 use Rattle.sink.proofs.Steps.{From, from-grown, token-runs, trivia-runs, name-runs, inside, finish-runs}
 use Rattle.sink.proofs.Chain.{opened, depth, far, encode-alone, ev-past, ev-field, ev-other, start-runs}
@@ -58,8 +59,8 @@ unfolding raw
 raw-branch k c ts us e = let z : raw c + 0 ≡ raw c = omega arith in rw z e
 
 -- a chain has at least as many rows as nodes
-depth-size : (a : Skeleton) (ts : List Token) → depth a ≤ size (place a ts)
-unfolding place size
+depth-size : (a : Skeleton) (ts : List Token) → depth a ≤ row-count (place a ts)
+unfolding place row-count
 depth-size done ts = omega arith
 depth-size (token t m o) ts = omega arith
 depth-size (name r m o) ts = omega arith
@@ -67,7 +68,7 @@ depth-size (node k m m′ a i o) ts =
     let us = drop-trivia ts in
     let vs = after a us in
     let B = place a us ⊕ place i vs in
-    omega (arith, depth-size a us, size-beside (place a us) (place i vs), size-beside (lead ts) (subtree k B nil ⊕ place o (after i vs)), size-beside (subtree k B nil) (place o (after i vs)))
+    omega (arith, depth-size a us, row-count-beside (place a us) (place i vs), row-count-beside (lead ts) (subtree k B nil ⊕ place o (after i vs)), row-count-beside (subtree k B nil) (place o (after i vs)))
 depth-size (ignored m m′ a i o) ts = omega arith
 depth-size (report r o) ts = omega arith
 depth-size (over m o) ts = omega arith
@@ -85,14 +86,14 @@ place-alone k m m′ a i o ts h s d = rw (h, d, lead-solid ts s)
 
 -- what is inside an open node fits where the node does
 pub fits-inside : (k : ℕ) (f : Tree) (s : Filled) → Fits (subtree k f nil) s → Fits f (inside k s)
-unfolding inside rows width size
+unfolding inside rows width row-count
 fits-inside k f s r =
     record {
       free = omega (arith, r .free, length-append (rows f) [], length-drop TREE-ROW (s .free));
       whole = omega (arith, r .whole, length-append (s .written) (s .node ∷ k ∷ s .byte ∷ s .children ∷ []));
       byte = omega (arith, r .byte);
       rows = omega (arith, r .rows);
-      children = omega (arith, r .rows, count-size f);
+      children = omega (arith, r .rows, count-rows f);
     }
 
 module _ (tk ev : List ℕ) (small : length tk < TWO-TO-32) where
@@ -191,7 +192,7 @@ module _ (tk ev : List ℕ) (small : length tk < TWO-TO-32) where
 
   -- ---------------------------------------------------------------- the statements of the induction
 
-  -- the events of o, from any filled state where they fit, leave its placed tree's rows behind what was written
+  -- the events of o, from any filled state where they fit, leave its placed tree's rows after what was written
   unfoldable pub Sinks : Skeleton → Type 0
   Sinks o =
       (l : Bool) (e : List ℕ) (i : ℕ) (ts : List Token) (s : Filled) → Chained o → drop (i * EVENT-ROW) ev ≡ encode l o ++ e → (getD e 0 0 ≡ LINKED-START-NODE → ⊥) → From tk (s .cursor) ts
@@ -271,7 +272,7 @@ module _ (tk ev : List ℕ) (small : length tk < TWO-TO-32) where
       → drop (j * EVENT-ROW) ev ≡ encode true a ++ (start-tag a ∷ k ∷ far l i ∷ (encode false i ++ (FINISH-NODE ∷ 0 ∷ 0 ∷ x))) → (getD x 0 0 ≡ LINKED-START-NODE → ⊥) → From tk (s .cursor) ts → Fits (lead ts) s
       → Fits (subtree k (place a (drop-trivia ts) ⊕ place i (after a (drop-trivia ts))) nil) (grow (lead ts) s)
       → event-on tk ev j (state s) ≡ state (opened a (inside k (grow (lead ts) s)))
-  unfolding size
+  unfolding row-count
   start-event a i k l x j ts s al ca e ne fr r0 r1 =
       let us = drop-trivia ts in
       let vs = after a us in
@@ -286,7 +287,7 @@ module _ (tk ev : List ℕ) (small : length tk < TWO-TO-32) where
       let e1 : drop ((j + event-count a) * EVENT-ROW) ev ≡ z ++ x = ev-past ev j (event-count a) (encode true a) y e (encode-count true a) ∙ ye in
       let lz : length z ≡ suc (suc w) * EVENT-ROW = omega (arith, length-append (encode false i) (FINISH-NODE ∷ 0 ∷ 0 ∷ []), encode-count false i, events-length false i) in
       let e2 : drop ((j + event-count a + suc (suc w)) * EVENT-ROW) ev ≡ x = ev-past ev (j + event-count a) (suc (suc w)) z x e1 lz in
-      let dp : depth a ≤ size (A ⊕ I) = omega (arith, depth-size a us, size-beside A I) in
+      let dp : depth a ≤ row-count (A ⊕ I) = omega (arith, depth-size a us, row-count-beside A I) in
       ev-start j (state s) t ∙ ap (λ q. start-on ev j q) (trivia-runs tk ts s fr r0)
       ∙ start-runs ev a k w l (encode false i ++ (FINISH-NODE ∷ 0 ∷ 0 ∷ x)) j (grow (lead ts) s) al ca e (λ _. ev-other ev (j + event-count a + suc (suc w)) x e2 ne)
       (r1 .whole) (omega (arith, r1 .free, rows-length (subtree k (A ⊕ I) nil))) (omega (arith, r1 .rows))

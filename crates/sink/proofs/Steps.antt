@@ -20,7 +20,8 @@ use Rattle.sink_rows.specs.Rows.{PARENT, KIND, FIRST-BYTE, CHILDREN-BEFORE}
 use Rattle.sink_tokens.specs.Tokens.{kind-seen, trivia-here, at-most, widthN}
 use Rattle.sink.specs.Machine.{on, sink-of, trivia-on, token-on, combined-on, finish-on}
 use Rattle.sink.proofs.Loops.{trivia-more, trivia-done}
-use Rattle.sink.proofs.Trees.{raw, size}
+use Rattle.laws.proofs.Decode.{row-count}
+use Rattle.sink.proofs.Trees.{raw}
 use Rattle.sink.proofs.Grow.{Filled, state, grow, grow-grow, grow-nil, Fits, fits-front, fits-back, low-small, put-seam, number-seam, leaf-runs}
 
 -- ---------------------------------------------------------------- token rows
@@ -198,7 +199,7 @@ inside k s =
 
 -- AN OPEN ROW AND THE ROWS INSIDE IT BECOME A CLOSED ROW AND THE ROWS INSIDE IT
 pub finish-runs : (k : ℕ) (f : Tree) (s : Filled) → Fits (subtree k f nil) s → finish-on (state (grow f (inside k s))) ≡ state (grow (subtree k f nil) s)
-unfolding state grow inside finish-on rows width count raw size
+unfolding state grow inside finish-on rows width count raw row-count
 finish-runs k f s r =
     let T = s .written in
     let o : List ℕ = tree-row (s .node) k (s .byte) (s .children) [] in
@@ -216,7 +217,7 @@ finish-runs k f s r =
     ap (λ q. T ++ (c ++ (rows f ++ q))) d ∙ (rw (append-nil (rows f)) (sym (append-assoc T (c ++ rows f) _))) in
     let a : s .cursor + raw f ≡ s .cursor + (raw f + 0) = omega arith in
     let b : s .byte + width f ≡ s .byte + (width f + 0) = omega arith in
-    let m : s .rows + 1 + size f ≡ s .rows + suc (size f + 0) = omega arith in
+    let m : s .rows + 1 + row-count f ≡ s .rows + suc (row-count f + 0) = omega arith in
     rw (
       t,
       number-seam (s .rows) PARENT T (o ++ Z) (r .whole) (omega arith),

@@ -13,6 +13,7 @@ use Rattle.definitions.specs.Skeleton.{Skeleton, done, token, name, node, ignor
 use Rattle.definitions.specs.Place.{Tree, nil, leaf, subtree, _⊕_, lead, front, after, place, root, width, count, rows}
 use Rattle.laws.proofs.Skeleton.{bytes-append}
 use Rattle.laws.proofs.Tree.{rows-beside, width-beside, leaves, width-leaves}
+use Rattle.laws.proofs.Decode.{row-count, rows-length}
 use Rattle.laws.proofs.Placed.{lead-whole, place-whole}
 use Rattle.sink.proofs.Encode.{event-count}
 
@@ -22,38 +23,26 @@ raw nil = 0
 raw (leaf k ts f) = length ts + raw f
 raw (subtree k c f) = raw c + raw f
 
--- its rows
-unfoldable pub size : Tree → ℕ
-size nil = 0
-size (leaf k ts f) = suc (size f)
-size (subtree k c f) = suc (size c + size f)
-
 pub raw-beside : (f g : Tree) → raw (f ⊕ g) ≡ raw f + raw g
 unfolding raw _⊕_
 raw-beside nil g = omega arith
 raw-beside (leaf k ts f) g = omega (arith, raw-beside f g)
 raw-beside (subtree k c f) g = omega (arith, raw-beside f g)
 
-pub size-beside : (f g : Tree) → size (f ⊕ g) ≡ size f + size g
-unfolding size _⊕_
-size-beside nil g = omega arith
-size-beside (leaf k ts f) g = omega (arith, size-beside f g)
-size-beside (subtree k c f) g = omega (arith, size-beside f g)
-
-pub rows-length : (f : Tree) → length (rows f) ≡ size f * TREE-ROW
-unfolding rows size
-rows-length nil = refl
-rows-length (leaf k ts f) = omega (arith, rows-length f)
-rows-length (subtree k c f) = omega (arith, rows-length c, rows-length f, length-append (rows c) (rows f))
+pub row-count-beside : (f g : Tree) → row-count (f ⊕ g) ≡ row-count f + row-count g
+unfolding row-count _⊕_
+row-count-beside nil g = omega arith
+row-count-beside (leaf k ts f) g = omega (arith, row-count-beside f g)
+row-count-beside (subtree k c f) g = omega (arith, row-count-beside f g)
 
 pub rows-add : (f g : Tree) → length (rows (f ⊕ g)) ≡ length (rows f) + length (rows g)
 rows-add f g = ap length (rows-beside f g) ∙ length-append (rows f) (rows g)
 
-pub count-size : (f : Tree) → count f ≤ size f
-unfolding count size
-count-size nil = omega arith
-count-size (leaf k ts f) = omega (arith, count-size f)
-count-size (subtree k c f) = omega (arith, count-size f)
+pub count-rows : (f : Tree) → count f ≤ row-count f
+unfolding count row-count
+count-rows nil = omega arith
+count-rows (leaf k ts f) = omega (arith, count-rows f)
+count-rows (subtree k c f) = omega (arith, count-rows f)
 
 -- ---------------------------------------------------------------- the tokens under what is placed
 
@@ -91,30 +80,30 @@ root-width k o ts =
       width-beside (place o ts) (lead (after o ts)),
     )
 
-lead-size : (ts : List Token) → size (lead ts) ≡ raw (lead ts)
-unfolding lead size raw
+lead-size : (ts : List Token) → row-count (lead ts) ≡ raw (lead ts)
+unfolding lead row-count raw
 lead-size [] = refl
 lead-size (t ∷ ts) = go (lead-size ts) (trivia t)
   where
-    go : size (lead ts) ≡ raw (lead ts) → (b : Bool) → size (cond b (leaf (t .kind) (t ∷ []) (lead ts)) nil) ≡ raw (cond b (leaf (t .kind) (t ∷ []) (lead ts)) nil)
+    go : row-count (lead ts) ≡ raw (lead ts) → (b : Bool) → row-count (cond b (leaf (t .kind) (t ∷ []) (lead ts)) nil) ≡ raw (cond b (leaf (t .kind) (t ∷ []) (lead ts)) nil)
     go h true = omega arith
     go h false = refl
 
-front-size : (ts : List Token) → size (front ts) ≡ raw (front ts)
-unfolding front size raw
+front-size : (ts : List Token) → row-count (front ts) ≡ raw (front ts)
+unfolding front row-count raw
 front-size [] = refl
 front-size (t ∷ ts) = refl
 
 -- a row for each token or name, and for each node
-place-size : (o : Skeleton) (ts : List Token) → size (place o ts) ≤ raw (place o ts) + event-count o
-unfolding place size raw event-count
+place-size : (o : Skeleton) (ts : List Token) → row-count (place o ts) ≤ raw (place o ts) + event-count o
+unfolding place row-count raw event-count
 place-size done ts = omega arith
 place-size (token t m o) ts =
     let us = drop-trivia ts in let F = front us in let P = place o (past us) in
-    omega (arith, lead-size ts, front-size us, place-size o (past us), size-beside (lead ts) (F ⊕ P), size-beside F P, raw-beside (lead ts) (F ⊕ P), raw-beside F P)
+    omega (arith, lead-size ts, front-size us, place-size o (past us), row-count-beside (lead ts) (F ⊕ P), row-count-beside F P, raw-beside (lead ts) (F ⊕ P), raw-beside F P)
 place-size (name r m o) ts =
     let us = drop-trivia ts in let n = length r in let F = leaf K.Name (take n us) nil in let P = place o (drop n us) in
-    omega (arith, lead-size ts, place-size o (drop n us), size-beside (lead ts) (F ⊕ P), size-beside F P, raw-beside (lead ts) (F ⊕ P), raw-beside F P)
+    omega (arith, lead-size ts, place-size o (drop n us), row-count-beside (lead ts) (F ⊕ P), row-count-beside F P, raw-beside (lead ts) (F ⊕ P), raw-beside F P)
 place-size (node k m m′ a i o) ts =
     let us = drop-trivia ts in let vs = after a us in let A = place a us in let I = place i vs in let F = subtree k (A ⊕ I) nil in let P = place o (after i vs) in
     omega (
@@ -123,28 +112,28 @@ place-size (node k m m′ a i o) ts =
       place-size a us,
       place-size i vs,
       place-size o (after i vs),
-      size-beside A I,
+      row-count-beside A I,
       raw-beside A I,
-      size-beside (lead ts) (F ⊕ P),
-      size-beside F P,
+      row-count-beside (lead ts) (F ⊕ P),
+      row-count-beside F P,
       raw-beside (lead ts) (F ⊕ P),
       raw-beside F P,
     )
 place-size (ignored m m′ a i o) ts =
     let vs = after a ts in let A = place a ts in let I = place i vs in let P = place o (after i vs) in
-    omega (arith, place-size a ts, place-size i vs, place-size o (after i vs), size-beside A (I ⊕ P), size-beside I P, raw-beside A (I ⊕ P), raw-beside I P)
+    omega (arith, place-size a ts, place-size i vs, place-size o (after i vs), row-count-beside A (I ⊕ P), row-count-beside I P, raw-beside A (I ⊕ P), raw-beside I P)
 place-size (report r o) ts = omega (arith, place-size o ts)
 place-size (over m o) ts = place-size o ts
 
 -- THE TREE'S ROWS ARE NO MORE THAN THE TOKENS, THE EVENTS AND ONE
-pub root-size : (k : ℕ) (o : Skeleton) (ts : List Token) → size (root k o ts) ≤ suc (length ts + event-count o)
-unfolding root size
-root-size k o ts =
+pub root-rows-most : (k : ℕ) (o : Skeleton) (ts : List Token) → row-count (root k o ts) ≤ suc (length ts + event-count o)
+unfolding root row-count
+root-rows-most k o ts =
     omega (
       arith,
       place-size o ts,
       lead-size (after o ts),
       length-covers (place o ts) (after o ts) ts (place-whole o ts),
       length-covers (lead (after o ts)) (drop-trivia (after o ts)) (after o ts) (lead-whole (after o ts)),
-      size-beside (place o ts) (lead (after o ts)),
+      row-count-beside (place o ts) (lead (after o ts)),
     )

@@ -22,7 +22,8 @@ use Rattle.sink_tokens.specs.Tokens.{Log, log, errors-on}
 use Rattle.sink.specs.Machine.{On, on, sink-of, trivia-on, finish-on, eventsN, root-on, events-on, Left, left, answered, finish-all}
 use Rattle.sink.specs.Promise.{number, Small, enough, Placed, Promise}
 use Rattle.sink.proofs.Encode.{event-count, events-length, encode-count}
-use Rattle.sink.proofs.Trees.{size, rows-length, raw-place, root-width, root-size}
+use Rattle.laws.proofs.Decode.{row-count, rows-length}
+use Rattle.sink.proofs.Trees.{raw-place, root-width, root-rows-most}
 use Rattle.sink.proofs.Grow.{Filled, state, grow, grow-grow, Fits, fits-front, fits-back, put-seam}
 use Rattle.sink.proofs.Steps.{From, from-grown, trivia-runs, inside, finish-runs}
 use Rattle.sink.proofs.Main.{Runs, Sinks, sinks, fits-inside}
@@ -60,8 +61,8 @@ root-count : (k : ℕ) (o : Skeleton) (ts : List Token) → count (root k o ts) 
 unfolding root count
 root-count k o ts = refl
 
-root-rows : (k : ℕ) (o : Skeleton) (ts : List Token) → 1 ≤ size (root k o ts)
-unfolding root size
+root-rows : (k : ℕ) (o : Skeleton) (ts : List Token) → 1 ≤ row-count (root k o ts)
+unfolding root row-count
 root-rows k o ts = omega arith
 
 from-begin : (k : ℕ) (t tk : List ℕ) → From tk (inside k (begin t) .cursor) (tokens-of tk)
@@ -75,7 +76,7 @@ module _ (k : ℕ) (o : Skeleton) (tk : List ℕ) (c : Chained o) (small : Small
         free = h;
         whole = refl;
         byte = omega (arith, small .bytes, root-width k o (tokens-of tk));
-        rows = omega (arith, small .rows, root-size k o (tokens-of tk), events-length false o);
+        rows = omega (arith, small .rows, root-rows-most k o (tokens-of tk), events-length false o);
         children = omega (arith, root-count k o (tokens-of tk));
       }
 
@@ -104,16 +105,16 @@ module _ (k : ℕ) (o : Skeleton) (tk : List ℕ) (c : Chained o) (small : Small
       ∙ finish-runs k (P ⊕ lead us) (begin t) rw0
 
   -- how many rows there are, whether they fit or not
-  tree-count : (t : List ℕ) → sink-of (events-on k tk (encode false o) t) .rows ≡ size (root k o (tokens-of tk))
+  tree-count : (t : List ℕ) → sink-of (events-on k tk (encode false o) t) .rows ≡ row-count (root k o (tokens-of tk))
   unfolding state grow
   tree-count t =
       let R = rows (root k o (tokens-of tk)) in
-      let z : 0 + size (root k o (tokens-of tk)) ≡ size (root k o (tokens-of tk)) = omega arith in
+      let z : 0 + row-count (root k o (tokens-of tk)) ≡ row-count (root k o (tokens-of tk)) = omega arith in
       let zeros : List ℕ = replicate (length R) 0 in
       let n : length R ≤ length zeros = omega (arith, length-replicate {A = ℕ} (length R) 0) in
       rows-alike tk k (encode false o) t zeros ∙ ap (λ x. sink-of x .rows) (tree-written zeros n) ∙ z
 
-  count-is : size (root k o (tokens-of tk)) ≡ length (rows (root k o (tokens-of tk))) / TREE-ROW
+  count-is : row-count (root k o (tokens-of tk)) ≡ length (rows (root k o (tokens-of tk))) / TREE-ROW
   count-is = omega (arith, rows-length (root k o (tokens-of tk)))
 
   found-is : errors-in (tokens-of tk) ≡ length (lexical-errors 0 (tokens-of tk)) / ERROR-ROW
@@ -121,11 +122,12 @@ module _ (k : ℕ) (o : Skeleton) (tk : List ℕ) (c : Chained o) (small : Small
 
   -- the answer: whether both fit
   answer-is : (t e : List ℕ) → answer-of (finish-all k tk (encode false o) t e)
-      ≡ cond (enough (rows (root k o (tokens-of tk))) (lexical-errors 0 (tokens-of tk)) t e) (Written (size (root k o (tokens-of tk))) (errors-in (tokens-of tk))) NoRoom
+      ≡ cond (enough (rows (root k o (tokens-of tk))) (lexical-errors 0 (tokens-of tk)) t e) (Written (row-count (root k o (tokens-of tk))) (errors-in (tokens-of tk))) NoRoom
   unfolding finish-all answered
   answer-is t e =
-      answered-is (length t) (length e) (events-on k tk (encode false o) t) (errors-on tk e) (size (root k o (tokens-of tk))) (errors-in (tokens-of tk)) (tree-count t) (errors-count tk e (small .numbers))
-      ∙ rw (sym (rows-length (root k o (tokens-of tk))), sym (errors-length 0 (tokens-of tk)))
+      answered-is (length t) (length e) (events-on k tk (encode false o) t) (errors-on tk e) (row-count (root k o (tokens-of tk))) (errors-in (tokens-of tk)) (tree-count t) (errors-count tk e (small .numbers))
+      ∙ (let z : row-count (root k o (tokens-of tk)) * TREE-ROW ≡ length (rows (root k o (tokens-of tk))) = omega (arith, rows-length (root k o (tokens-of tk))) in
+      rw (z, sym (errors-length 0 (tokens-of tk))))
 
   -- where both fit
   whole-written : (t e : List ℕ) → length (rows (root k o (tokens-of tk))) ≤ length t → length (lexical-errors 0 (tokens-of tk)) ≤ length e
@@ -141,19 +143,19 @@ module _ (k : ℕ) (o : Skeleton) (tk : List ℕ) (c : Chained o) (small : Small
   placed t e a u f g =
       let R = rows (root k o (tokens-of tk)) in
       let L = lexical-errors 0 (tokens-of tk) in
-      let says : a ≡ cond (enough R L t e) (Written (size (root k o (tokens-of tk))) (errors-in (tokens-of tk))) NoRoom = ap answer-of g ∙ answer-is t e in
+      let says : a ≡ cond (enough R L t e) (Written (row-count (root k o (tokens-of tk))) (errors-in (tokens-of tk))) NoRoom = ap answer-of g ∙ answer-is t e in
       record {
         fits =
             λ h.
             let p : length R ≤ length t = leb-true (length R) (length t) (and-left (leb (length R) (length t)) (leb (length L) (length e)) h) in
             let q : length L ≤ length e = leb-true (length L) (length e) (and-right (leb (length R) (length t)) (leb (length L) (length e)) h) in
             record {
-              counts = says ∙ ap (λ b. cond b (Written (size (root k o (tokens-of tk))) (errors-in (tokens-of tk))) NoRoom) h ∙ rw (count-is, found-is);
+              counts = says ∙ ap (λ b. cond b (Written (row-count (root k o (tokens-of tk))) (errors-in (tokens-of tk))) NoRoom) h ∙ rw (count-is, found-is);
               rows = ap trees-of (g ∙ whole-written t e p q);
               lexical = ap errors-of (g ∙ whole-written t e p q);
             };
-        lacks = λ h. says ∙ ap (λ b. cond b (Written (size (root k o (tokens-of tk))) (errors-in (tokens-of tk))) NoRoom) h;
-        refusal = ap number says ∙ number-of-cond (enough R L t e) (size (root k o (tokens-of tk))) (errors-in (tokens-of tk));
+        lacks = λ h. says ∙ ap (λ b. cond b (Written (row-count (root k o (tokens-of tk))) (errors-in (tokens-of tk))) NoRoom) h;
+        refusal = ap number says ∙ number-of-cond (enough R L t e) (row-count (root k o (tokens-of tk))) (errors-in (tokens-of tk));
       }
 
 -- THE MACHINE KEEPS THE PROMISE

@@ -35,7 +35,11 @@ pub fn count_from(tokens: &[u32], at: usize) -> usize
     ensures { λ r. ⌜ r ≡ length (now (tokens .entry)) / TOKEN-ROW - at ⌝ }
 {
     let inside = at <= tokens.len() / TOKEN_ROW;
-    if inside { tokens.len() / TOKEN_ROW - at } else { 0 }
+    if inside {
+        tokens.len() / TOKEN_ROW - at
+    } else {
+        0
+    }
 }
 
 pub fn at_most(n: usize, m: usize) -> usize

@@ -42,7 +42,11 @@ pub fn kind_at(tokens: &[u32], at: usize) -> u8
     if inside {
         let kind = tokens[at * TOKEN_ROW];
         let plain = kind < FIRST_LEX_ERROR;
-        if plain { kind as u8 } else { token_kind::UNRECOGNIZED }
+        if plain {
+            kind as u8
+        } else {
+            token_kind::UNRECOGNIZED
+        }
     } else {
         END
     }
@@ -81,7 +85,11 @@ pub fn is_next_at(tokens: &[u32], at: usize, kind: u8) -> bool
     ensures { λ r. ⌜ r ≡ first-in (kind ∷ []) (past (drop at (tokens-of (now (tokens .entry))))) ⌝ }
 {
     let inside = at < tokens.len() / TOKEN_ROW;
-    if inside { is_at(tokens, at + 1, kind) } else { false }
+    if inside {
+        is_at(tokens, at + 1, kind)
+    } else {
+        false
+    }
 }
 
 // Where the row that starts at this byte ends.
@@ -102,7 +110,11 @@ fn is_trivia_at(tokens: &[u32], at: usize) -> bool
     ensures { λ r. ⌜ (r ≡ true → at < length (now (tokens .entry)) / TOKEN-ROW) ⌝ }
 {
     let inside = at < tokens.len() / TOKEN_ROW;
-    if inside { is_trivia(tokens[at * TOKEN_ROW]) } else { false }
+    if inside {
+        is_trivia(tokens[at * TOKEN_ROW])
+    } else {
+        false
+    }
 }
 
 // A row and its first byte.
