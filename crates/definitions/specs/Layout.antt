@@ -36,6 +36,15 @@ EVENT-ARGUMENT = 1
 abbrev pub EVENT-DISTANCE : ℕ
 EVENT-DISTANCE = 2
 
+abbrev pub TREE-KIND : ℕ
+TREE-KIND = 1
+
+abbrev pub TREE-WIDTH : ℕ
+TREE-WIDTH = 2
+
+abbrev pub TREE-COUNT : ℕ
+TREE-COUNT = 3
+
 -- ---------------------------------------------------------------- the first number of a tree row
 
 -- its count is that of its children

@@ -1,3 +1,3 @@
 -- What the proofs of the functions share.
-pub mod Kit
+pub mod RowChecks
 pub mod Texts

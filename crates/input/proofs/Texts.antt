@@ -1,12 +1,14 @@
 -- The table of spellings, TEXTS and TEXT_STARTS of static_text.rt: its rule, proved once over the whole table.
 use Prim.Native.Nat.{ℕ, zero, suc, _+_, _-_, _≤_, _<_}
 use mathlib.Core.Path.{_≡_, refl, sym, _∙_, ap, subst⁻¹}
-use mathlib.Core.Bool.{Bool, true, false, cond, _&&_}
+use mathlib.Core.Bool.{Bool, true, false, cond, _&&_, true≢false, false≢true}
 use mathlib.Core.List.{List, [], _∷_}
 use native.Mathlib.Omega.{arith}
 use lib.Dec.{leb, eqb}
 use lib.ListN.{length, getD, take, drop, length-drop}
 use borrow.Author.Tests.{leb-true, eqb-true, eqb-false, ne-eqb, eq-eqb}
+use Rattle.basics.proofs.Tests.{and-left, and-right}
+use Rattle.definitions.specs.TokenKind as K
 use Rattle.definitions.specs.StaticText.{Text, static-texts, same, fits-text}
 
 abbrev pub texts : List ℕ
@@ -36,49 +38,38 @@ is-empty (x ∷ xs) = false
 
 -- ---------------------------------------------------------------- the definitions' table by look-up
 
-true-false : true ≡ false → ⊥
-true-false e = let z : _≡_ {A = ℕ} 1 0 = ap (λ (b : Bool). cond b 1 0) e in absurd (omega (arith, z))
-
-both-left : (a b : Bool) → (a && b) ≡ true → a ≡ true
-both-left true b e = refl
-both-left false b e = e
-
-both-right : (a b : Bool) → (a && b) ≡ true → b ≡ true
-both-right true b e = e
-both-right false b e = absurd (true-false (sym e))
-
--- every text has a byte, and every kind is at most 60
+-- every text has a byte, and every kind is one of `TokenKind`
 unfoldable sound : List Text → Bool
 sound [] = true
-sound (e ∷ es) = (cond (is-empty (e .text)) false true && leb (e .kind) 60) && sound es
+sound (e ∷ es) = (cond (is-empty (e .text)) false true && leb (e .kind) K.QuestionMark) && sound es
 
 static-texts-sound : sound static-texts ≡ true
 unfolding sound
 static-texts-sound = refl
 
 full : (t bs : List ℕ) → cond (is-empty t) false true ≡ true → same t bs ≡ free-or-same t bs
-full [] bs h = absurd (true-false (sym h))
+full [] bs h = absurd (false≢true h)
 full (x ∷ xs) bs h = refl
 
 by-lookup : (es : List Text) (k : ℕ) (bs : List ℕ) → sound es ≡ true → fits-text es k bs ≡ free-or-same (lookup es k) bs
 unfolding sound lookup fits-text
 by-lookup [] k bs h = refl
 by-lookup (e ∷ es) k bs h =
-    go (eqb (e .kind) k) (by-lookup es k bs (both-right (cond (is-empty (e .text)) false true && leb (e .kind) 60) (sound es) h))
+    go (eqb (e .kind) k) (by-lookup es k bs (and-right (cond (is-empty (e .text)) false true && leb (e .kind) K.QuestionMark) (sound es) h))
   where
     go : (b : Bool) → fits-text es k bs ≡ free-or-same (lookup es k) bs → cond b (same (e .text) bs) (fits-text es k bs) ≡ free-or-same (cond b (e .text) (lookup es k)) bs
-    go true r = full (e .text) bs (both-left (cond (is-empty (e .text)) false true) (leb (e .kind) 60) (both-left _ (sound es) h))
+    go true r = full (e .text) bs (and-left (cond (is-empty (e .text)) false true) (leb (e .kind) K.QuestionMark) (and-left _ (sound es) h))
     go false r = r
 
--- a kind above 60 has none
-none-above : (es : List Text) (k : ℕ) (bs : List ℕ) → sound es ≡ true → 60 < k → fits-text es k bs ≡ true
+-- a kind above the last of `TokenKind` has none
+none-above : (es : List Text) (k : ℕ) (bs : List ℕ) → sound es ≡ true → K.QuestionMark < k → fits-text es k bs ≡ true
 unfolding sound fits-text
 none-above [] k bs h l = refl
 none-above (e ∷ es) k bs h l =
-    let a = leb-true (e .kind) 60 (both-right (cond (is-empty (e .text)) false true) (leb (e .kind) 60) (both-left _ (sound es) h)) in
-    rw (ne-eqb (e .kind) k (λ q. absurd (omega (arith, a, q, l)))) (none-above es k bs (both-right (cond (is-empty (e .text)) false true && leb (e .kind) 60) (sound es) h) l)
+    let a = leb-true (e .kind) K.QuestionMark (and-right (cond (is-empty (e .text)) false true) (leb (e .kind) K.QuestionMark) (and-left _ (sound es) h)) in
+    rw (ne-eqb (e .kind) k (λ q. absurd (omega (arith, a, q, l)))) (none-above es k bs (and-right (cond (is-empty (e .text)) false true && leb (e .kind) K.QuestionMark) (sound es) h) l)
 
-pub above : (k : ℕ) (bs : List ℕ) → 60 < k → fits-text static-texts k bs ≡ true
+pub above : (k : ℕ) (bs : List ℕ) → K.QuestionMark < k → fits-text static-texts k bs ≡ true
 above k bs h = none-above static-texts k bs static-texts-sound h
 
 -- ---------------------------------------------------------------- the rule of TEXTS and TEXT_STARTS
@@ -91,27 +82,27 @@ unfoldable all-below : ℕ → Bool
 all-below zero = true
 all-below (suc n) = right n && all-below n
 
-table-right : all-below 61 ≡ true
+table-right : all-below (suc K.QuestionMark) ≡ true
 unfolding all-below right lookup same
 table-right = refl
 
 right-at : (n k : ℕ) → all-below n ≡ true → k < n → right k ≡ true
 unfolding all-below
 right-at zero k h l = absurd (omega (arith, l))
-right-at (suc n) k h l = go (eqb k n) refl (right-at n k (both-right (right n) (all-below n) h))
+right-at (suc n) k h l = go (eqb k n) refl (right-at n k (and-right (right n) (all-below n) h))
   where
     go : (b : Bool) → eqb k n ≡ b → (k < n → right k ≡ true) → right k ≡ true
-    go true e r = rw (eqb-true k n e) (both-left (right n) (all-below n) h)
+    go true e r = rw (eqb-true k n e) (and-left (right n) (all-below n) h)
     go false e r = r (omega (arith, l, eqb-false k n e))
 
 pub same-true : (a b : List ℕ) → same a b ≡ true → a ≡ b
 unfolding same
 same-true [] [] h = refl
-same-true [] (y ∷ ys) h = absurd (true-false (sym h))
-same-true (x ∷ xs) [] h = absurd (true-false (sym h))
+same-true [] (y ∷ ys) h = absurd (false≢true h)
+same-true (x ∷ xs) [] h = absurd (false≢true h)
 same-true (x ∷ xs) (y ∷ ys) h =
-    let a = eqb-true x y (both-left (eqb x y) (same xs ys) h) in
-    let b = same-true xs ys (both-right (eqb x y) (same xs ys) h) in
+    let a = eqb-true x y (and-left (eqb x y) (same xs ys) h) in
+    let b = same-true xs ys (and-right (eqb x y) (same xs ys) h) in
     ap (λ (z : ℕ). z ∷ xs) a ∙ ap (λ (l : List ℕ). y ∷ l) b
 
 pub same-refl : (a : List ℕ) → same a a ≡ true
@@ -125,24 +116,24 @@ pub record Rule (k : ℕ) : Type 0 where
   pub inside : getD starts (k + 1) 0 ≤ 127
   pub says : (bs : List ℕ) → fits-text static-texts k bs ≡ free-or-same (slice k) bs
 
-pub rule : (k : ℕ) → k ≤ 60 → Rule k
+pub rule : (k : ℕ) → k ≤ K.QuestionMark → Rule k
 unfolding right
 rule k h =
-    let r = right-at 61 k table-right (omega (arith, h)) in
+    let r = right-at (suc K.QuestionMark) k table-right (omega (arith, h)) in
     let a : Bool = leb (getD starts k 0) (getD starts (k + 1) 0) in
     let b : Bool = leb (getD starts (k + 1) 0) 127 in
-    let ab = both-left (a && b) (same (lookup static-texts k) (slice k)) r in
-    let e = same-true (lookup static-texts k) (slice k) (both-right (a && b) (same (lookup static-texts k) (slice k)) r) in
+    let ab = and-left (a && b) (same (lookup static-texts k) (slice k)) r in
+    let e = same-true (lookup static-texts k) (slice k) (and-right (a && b) (same (lookup static-texts k) (slice k)) r) in
     record {
-      ordered = leb-true _ _ (both-left a b ab);
-      inside = leb-true _ _ (both-right a b ab);
+      ordered = leb-true _ _ (and-left a b ab);
+      inside = leb-true _ _ (and-right a b ab);
       says = λ bs. by-lookup static-texts k bs static-texts-sound ∙ ap (λ (l : List ℕ). free-or-same l bs) e;
     }
 
 -- ---------------------------------------------------------------- as the function holds it
 
 -- s, e: where the kind's bytes start and end in TEXTS
-pub spelled-free : (k s e : ℕ) (bs : List ℕ) → k ≤ 60 → s ≡ getD starts k 0 → e ≡ getD starts (k + 1) 0 → eqb s e ≡ true → true ≡ fits-text static-texts k bs
+pub spelled-free : (k s e : ℕ) (bs : List ℕ) → k ≤ K.QuestionMark → s ≡ getD starts k 0 → e ≡ getD starts (k + 1) 0 → eqb s e ≡ true → true ≡ fits-text static-texts k bs
 spelled-free k s e bs h f g q =
     let z : getD starts (k + 1) 0 - getD starts k 0 ≡ 0 = omega (arith, f, g, eqb-true s e q) in
     sym (rule k h .says bs ∙ ap (λ (n : ℕ). free-or-same (take n (drop (getD starts k 0) texts)) bs) z)
@@ -159,10 +150,10 @@ tested r a b f g = go r refl (same a b) refl
     go : (x : Bool) → r ≡ x → (y : Bool) → same a b ≡ y → r ≡ same a b
     go true p true q = p ∙ sym q
     go false p false q = p ∙ sym q
-    go true p false q = absurd (true-false (sym (same-refl b) ∙ ap (λ (l : List ℕ). same l b) (sym (f p)) ∙ q))
-    go false p true q = absurd (true-false (sym (g (same-true a b q)) ∙ p))
+    go true p false q = absurd (true≢false (sym (same-refl b) ∙ ap (λ (l : List ℕ). same l b) (sym (f p)) ∙ q))
+    go false p true q = absurd (true≢false (sym (g (same-true a b q)) ∙ p))
 
-pub spelled-same : (k s e : ℕ) (bs : List ℕ) (r : Bool) → k ≤ 60 → s ≡ getD starts k 0 → e ≡ getD starts (k + 1) 0 → eqb s e ≡ false
+pub spelled-same : (k s e : ℕ) (bs : List ℕ) (r : Bool) → k ≤ K.QuestionMark → s ≡ getD starts k 0 → e ≡ getD starts (k + 1) 0 → eqb s e ≡ false
     → (r ≡ true → take (e - s) (drop s texts) ≡ bs) × (take (e - s) (drop s texts) ≡ bs → r ≡ true) → r ≡ fits-text static-texts k bs
 spelled-same k s e bs r h f g q t =
     let u = rule k h in

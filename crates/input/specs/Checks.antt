@@ -29,4 +29,4 @@ is-row k n left = is-kind k && leb 1 n && leb n left
 
 -- cause 4 of one row, whose token starts at a byte
 unfoldable pub is-text : List ℕ → ℕ → ℕ → ℕ → Bool
-is-text bs from k n = leb from (length bs) && leb n (length bs - from) && fits-text static-texts k (take n (drop from bs))
+is-text bytes byte kind n = leb byte (length bytes) && leb n (length bytes - byte) && fits-text static-texts kind (take n (drop byte bytes))

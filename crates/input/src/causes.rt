@@ -3,12 +3,19 @@ use crate::static_text;
 use layout::TokenIndex;
 use layout::limit::MOST_BYTES;
 use layout::limit::MOST_TOKEN_NUMBERS;
+use layout::row::TOKEN_LENGTH;
+use layout::row::TOKEN_ROW;
+use layout::row_kind;
+use layout::token_kind::FIRST_LEX_ERROR;
+use layout::token_kind::LAST_LEX_ERROR;
+use layout::word::wide;
 ghost use mathlib.Core.Path.{_≡_};
 ghost use mathlib.Core.Bool.{true, false, not, _&&_};
 ghost use Prim.Native.Nat.{_+_, _-_, _≤_};
 ghost use lib.Dec.{leb};
 ghost use lib.ListN.{length};
-ghost use Rattle.definitions.specs.Token.{tokens-of as rows-of};
+ghost use Rattle.definitions.specs.Layout.{MOST-BYTES, MOST-TOKEN-NUMBERS};
+ghost use Rattle.definitions.specs.Token.{tokens-of};
 ghost use Rattle.definitions.specs.Refusal.{bad-row, bad-text, accepted, is-kind, check-rows, check-texts, check-input};
 ghost use Rattle.input.specs.Checks.{verdict-of, found, is-row, is-text};
 
@@ -29,28 +36,22 @@ pub enum Found {
     Nothing,
 }
 
-fn wide(x: u32) -> usize
-    ensures { λ r. ⌜ r ≡ x ⌝ }
-{
-    x as usize
-}
-
-// Kinds 25 and 26 are made by the parser alone; 61 to 63 and those above 74 do not exist.
+// Unrecognized and Name are made by the parser alone; 61 to 63 and what is above the last of `LexError` are not kinds.
 fn is_input_kind(kind: u32) -> bool
     ensures { λ r. ⌜ r ≡ is-kind kind ⌝ }
 {
-    let token = kind <= 60;
+    let token = kind <= row_kind::QUESTION_MARK;
     if token {
-        let unrecognized = kind == 25;
+        let unrecognized = kind == row_kind::UNRECOGNIZED;
         if unrecognized {
             false
         } else {
-            let name = kind == 26;
+            let name = kind == row_kind::NAME;
             if name { false } else { true }
         }
     } else {
-        let error = 64 <= kind;
-        if error { kind <= 74 } else { false }
+        let error = FIRST_LEX_ERROR <= kind;
+        if error { kind <= LAST_LEX_ERROR } else { false }
     }
 }
 
@@ -72,12 +73,12 @@ fn is_good_row(kind: u32, n: usize, left: usize) -> bool
 fn find_bad_row(tokens: &[u32], bytes: usize) -> Found
     ensures { λ r. ⌜ found bad-row r ≡ check-rows 0 bytes (now (tokens .entry)) ⌝ }
 {
-    let rows = tokens.len() / 2;
+    let count = tokens.len() / TOKEN_ROW;
     let mut left = bytes;
     let mut at: usize = 0;
-    while at < rows {
-        let n = wide(tokens[at * 2 + 1]);
-        let good = is_good_row(tokens[at * 2], n, left);
+    while at < count {
+        let n = wide(tokens[at * TOKEN_ROW + TOKEN_LENGTH]);
+        let good = is_good_row(tokens[at * TOKEN_ROW], n, left);
         if good {
             left -= n;
             at += 1;
@@ -85,28 +86,26 @@ fn find_bad_row(tokens: &[u32], bytes: usize) -> Found
             return Found::At(at);
         }
     }
-    let odd = tokens.len() % 2 == 1;
-    if odd {
-        return Found::At(rows);
+    let whole = tokens.len() % TOKEN_ROW == 0;
+    if whole {
+        let covered = left == 0;
+        if covered { Found::Nothing } else { Found::At(count) }
+    } else {
+        Found::At(count)
     }
-    let covered = left == 0;
-    if covered {
-        return Found::Nothing;
-    }
-    Found::At(rows)
 }
 
-// Cause 4 of one row, whose token starts at byte `from`.
-fn is_good_text(bytes: &[u8], from: usize, kind: u32, n: usize) -> bool
-    ensures { λ r. ⌜ r ≡ is-text (now (bytes .entry)) from kind n ⌝ }
-    ensures { λ r. ⌜ (r ≡ true → from + n ≤ length (now (bytes .entry))) ⌝ }
+// Cause 4 of one row, whose token starts at this byte.
+fn is_good_text(bytes: &[u8], byte: usize, kind: u32, n: usize) -> bool
+    ensures { λ r. ⌜ r ≡ is-text (now (bytes .entry)) byte kind n ⌝ }
+    ensures { λ r. ⌜ (r ≡ true → byte + n ≤ length (now (bytes .entry))) ⌝ }
 {
-    let started = from <= bytes.len();
+    let started = byte <= bytes.len();
     if started {
-        let inside = n <= bytes.len() - from;
+        let inside = n <= bytes.len() - byte;
         if inside {
-            let end = from + n;
-            static_text::is_spelled(kind, &bytes[from..end])
+            let end = byte + n;
+            static_text::is_spelled(kind, &bytes[byte..end])
         } else {
             false
         }
@@ -117,16 +116,17 @@ fn is_good_text(bytes: &[u8], from: usize, kind: u32, n: usize) -> bool
 
 // Cause 4.
 fn find_bad_text(bytes: &[u8], tokens: &[u32]) -> Found
-    ensures { λ r. ⌜ (check-rows 0 (length (now (bytes .entry))) (now (tokens .entry)) ≡ accepted → found bad-text r ≡ check-texts 0 (now (bytes .entry)) (rows-of (now (tokens .entry)))) ⌝ }
+    ensures { λ r. ⌜ (check-rows 0 (length (now (bytes .entry))) (now (tokens .entry)) ≡ accepted
+        → found bad-text r ≡ check-texts 0 (now (bytes .entry)) (tokens-of (now (tokens .entry)))) ⌝ }
 {
-    let rows = tokens.len() / 2;
-    let mut from: usize = 0;
+    let count = tokens.len() / TOKEN_ROW;
+    let mut byte: usize = 0;
     let mut at: usize = 0;
-    while at < rows {
-        let n = wide(tokens[at * 2 + 1]);
-        let good = is_good_text(bytes, from, tokens[at * 2], n);
+    while at < count {
+        let n = wide(tokens[at * TOKEN_ROW + TOKEN_LENGTH]);
+        let good = is_good_text(bytes, byte, tokens[at * TOKEN_ROW], n);
         if good {
-            from += n;
+            byte += n;
             at += 1;
         } else {
             return Found::At(at);
@@ -137,7 +137,7 @@ fn find_bad_text(bytes: &[u8], tokens: &[u32]) -> Found
 
 // Cause 2.
 fn is_too_long(bytes: usize, numbers: usize) -> bool
-    ensures { λ r. ⌜ not r ≡ (leb bytes 1048576 && leb numbers 131072) ⌝ }
+    ensures { λ r. ⌜ not r ≡ (leb bytes MOST-BYTES && leb numbers MOST-TOKEN-NUMBERS) ⌝ }
 {
     let short = bytes <= MOST_BYTES;
     if short {
@@ -164,7 +164,8 @@ pub fn check(bytes: &[u8], tokens: &[u32]) -> Checked
 
 // Cause 4, after cause 3.
 fn check_texts(bytes: &[u8], tokens: &[u32]) -> Checked
-    ensures { λ r. ⌜ (check-rows 0 (length (now (bytes .entry))) (now (tokens .entry)) ≡ accepted → verdict-of r ≡ check-texts 0 (now (bytes .entry)) (rows-of (now (tokens .entry)))) ⌝ }
+    ensures { λ r. ⌜ (check-rows 0 (length (now (bytes .entry))) (now (tokens .entry)) ≡ accepted
+        → verdict-of r ≡ check-texts 0 (now (bytes .entry)) (tokens-of (now (tokens .entry)))) ⌝ }
 {
     let text = find_bad_text(bytes, tokens);
     match text {

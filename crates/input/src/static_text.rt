@@ -1,5 +1,5 @@
 // The fixed spellings of token kinds: `static_text` of lexer.rs.
-
+use layout::row_kind;
 ghost use mathlib.Core.Path.{_≡_};
 ghost use Prim.Native.Nat.{_<_};
 ghost use Rattle.definitions.specs.StaticText.{static-texts, fits-text};
@@ -85,7 +85,7 @@ fn wide(x: u8) -> usize
 pub fn is_spelled(kind: u32, text: &[u8]) -> bool
     ensures { λ r. ⌜ r ≡ fits-text static-texts kind (now (text .entry)) ⌝ }
 {
-    let known = kind <= 60;
+    let known = kind <= row_kind::QUESTION_MARK;
     if known {
         let k = kind as usize;
         let starts = TEXT_STARTS;

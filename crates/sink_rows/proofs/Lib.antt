@@ -1,2 +1,2 @@
 -- What the proofs of the functions share.
-pub mod Kit
+pub mod Chains

@@ -1,33 +1,30 @@
 -- What the code does over the numbers of token rows, whatever they are. Each definition is the model of the function whose contract
 -- cites it.
 use Prim.Native.Nat.{ℕ, zero, suc, _+_, _*_, _/_}
-use mathlib.Core.Bool.{Bool, false, cond, _||_}
+use mathlib.Core.Bool.{Bool, false, cond}
 use mathlib.Core.List.{List, [], _∷_}
 use lib.ListN.{length, getD}
 use lib.Seq.{sets}
 use lib.Dec.{ltb, leb, eqb}
-use Rattle.definitions.specs.Layout.{ERROR-ROW}
+use Rattle.basics.specs.Word.{low}
+use Rattle.definitions.specs.Layout.{TOKEN-ROW, TOKEN-LENGTH, ERROR-ROW}
 use Rattle.definitions.specs.TokenKind as K
-use Rattle.sink_rows.specs.Rows.{low}
+use Rattle.definitions.specs.Token.{is-error, is-trivia}
 
 unfoldable pub kind-seen : ℕ → ℕ
-kind-seen k = cond (leb 64 k) K.Unrecognized k
-
-unfoldable pub is-trivia : ℕ → Bool
-is-trivia k = eqb k K.Whitespace || eqb k K.LineComment || eqb k K.BlockComment
+unfolding is-error
+kind-seen k = cond (is-error k) K.Unrecognized k
 
 unfoldable pub trivia-here : List ℕ → ℕ → Bool
-unfolding is-trivia
-trivia-here tk at = cond (ltb at (length tk / 2)) (is-trivia (getD tk (at * 2) 0)) false
+trivia-here tokens at = cond (ltb at (length tokens / TOKEN-ROW)) (is-trivia (getD tokens (at * TOKEN-ROW) 0)) false
 
 unfoldable pub at-most : ℕ → ℕ → ℕ
 at-most n m = cond (leb n m) n m
 
 -- the bytes of n tokens from an index on, added to a sum
 unfoldable pub widthN : ℕ → List ℕ → ℕ → ℕ → ℕ
-unfolding low
-widthN zero tk at sum = sum
-widthN (suc n) tk at sum = widthN n tk (at + 1) (low (sum + getD tk (at * 2 + 1) 0))
+widthN zero tokens at sum = sum
+widthN (suc n) tokens at sum = widthN n tokens (at + 1) (low (sum + getD tokens (at * TOKEN-ROW + TOKEN-LENGTH) 0))
 
 -- ---------------------------------------------------------------- lexical errors: how many, with the rows
 
@@ -38,17 +35,17 @@ unfoldable pub put-error : ℕ → List ℕ → List ℕ → List ℕ
 put-error row r e = cond (leb (row * ERROR-ROW + ERROR-ROW) (length e)) (sets e (row * ERROR-ROW) r) e
 
 unfoldable pub logged : ℕ → ℕ → ℕ → Log → Log
-unfolding low put-error
-logged k from to (log n e) = cond (leb 64 k) (log (low (n + 1)) (put-error n (k ∷ from ∷ to ∷ []) e)) (log n e)
+unfolding put-error is-error
+logged k from to (log n e) = cond (is-error k) (log (low (n + 1)) (put-error n (k ∷ from ∷ to ∷ []) e)) (log n e)
 
 -- n tokens from an index on
 unfoldable pub errorsN : ℕ → List ℕ → ℕ → ℕ → Log → Log
-unfolding low logged
-errorsN zero tk at byte x = x
-errorsN (suc n) tk at byte x =
-    let end = low (byte + getD tk (at * 2 + 1) 0) in
-    errorsN n tk (at + 1) end (logged (getD tk (at * 2) 0) byte end x)
+unfolding logged
+errorsN zero tokens at byte x = x
+errorsN (suc n) tokens at byte x =
+    let end = low (byte + getD tokens (at * TOKEN-ROW + TOKEN-LENGTH) 0) in
+    errorsN n tokens (at + 1) end (logged (getD tokens (at * TOKEN-ROW) 0) byte end x)
 
 unfoldable pub errors-on : List ℕ → List ℕ → Log
 unfolding errorsN
-errors-on tk e = errorsN (length tk / 2) tk 0 0 (log 0 e)
+errors-on tokens e = errorsN (length tokens / TOKEN-ROW) tokens 0 0 (log 0 e)

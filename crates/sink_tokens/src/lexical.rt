@@ -1,7 +1,12 @@
 // Lexical errors: a row for each error token, in order. The Rust collects them while it makes leaves; all tokens become
 // leaves, so a pass of its own over the tokens finds the same.
-use crate::source;
-use sink_rows::num;
+use layout::row::ERROR_END;
+use layout::row::ERROR_ROW;
+use layout::row::ERROR_START;
+use layout::row::TOKEN_LENGTH;
+use layout::row::TOKEN_ROW;
+use layout::token_kind::FIRST_LEX_ERROR;
+use layout::word;
 ghost use mathlib.Core.Path.{_≡_};
 ghost use mathlib.Core.List.{_∷_, []};
 ghost use Prim.Native.Nat.{ℕ, _*_, _+_};
@@ -9,36 +14,35 @@ ghost use lib.Dec.{leb};
 ghost use Rattle.definitions.specs.Layout.{ERROR-ROW};
 ghost use Rattle.sink_tokens.specs.Tokens.{put-error, Log, log, logged, errors-on};
 
-pub const ERROR_ROW: usize = 3;
-
 // Whether so many rows fit.
 pub fn errors_fit(len: usize, rows: u32) -> bool
     ensures { λ r. ⌜ r ≡ leb (rows * ERROR-ROW) len ⌝ }
 {
-    num::wide(rows) * ERROR_ROW <= len
+    word::wide(rows) * ERROR_ROW <= len
 }
 
 // Nothing is written where the row does not fit.
 fn write_error(errors: &mut [u32], row: u32, number: u32, start: u32, end: u32)
     ensures { λ _. ⌜ now (errors .exit) ≡ put-error row (number ∷ start ∷ end ∷ []) (now (errors .entry)) ⌝ }
 {
-    let at = num::wide(row) * ERROR_ROW;
-    let room = at + ERROR_ROW <= errors.len();
-    if room {
-        errors[at] = number;
-        errors[at + 1] = start;
-        errors[at + 2] = end;
+    let index = word::wide(row) * ERROR_ROW;
+    let enough = index + ERROR_ROW <= errors.len();
+    if enough {
+        errors[index] = number;
+        errors[index + ERROR_START] = start;
+        errors[index + ERROR_END] = end;
     }
 }
 
 // The number of rows after a token, with one for it if it is an error token.
-fn token(errors: &mut [u32], found: u32, kind: u32, start: u32, end: u32) -> u32
-    ensures { λ r. ⌜ log r (now (errors .exit)) ≡ logged kind start end (log found (now (errors .entry))) ⌝ }
+fn log_token(errors: &mut [u32], found: u32, kind: u32, start: u32, end: u32) -> u32
+    ensures { λ r. ⌜ log r (now (errors .exit))
+        ≡ logged kind start end (log found (now (errors .entry))) ⌝ }
 {
-    let error = source::LEX_ERROR <= kind;
+    let error = FIRST_LEX_ERROR <= kind;
     if error {
         write_error(errors, found, kind, start, end);
-        num::add(found, 1)
+        word::add(found, 1)
     } else {
         found
     }
@@ -46,14 +50,15 @@ fn token(errors: &mut [u32], found: u32, kind: u32, start: u32, end: u32) -> u32
 
 // How many lexical errors there are, those that did not fit among them.
 pub fn lexical_errors(tokens: &[u32], errors: &mut [u32]) -> u32
-    ensures { λ r. ⌜ log r (now (errors .exit)) ≡ errors-on (now (tokens .entry)) (now (errors .entry)) ⌝ }
+    ensures { λ r. ⌜ log r (now (errors .exit))
+        ≡ errors-on (now (tokens .entry)) (now (errors .entry)) ⌝ }
 {
     let mut at: usize = 0;
     let mut byte: u32 = 0;
     let mut found: u32 = 0;
-    while at < tokens.len() / 2 {
-        let end = num::add(byte, tokens[at * 2 + 1]);
-        found = token(errors, found, tokens[at * 2], byte, end);
+    while at < tokens.len() / TOKEN_ROW {
+        let end = word::add(byte, tokens[at * TOKEN_ROW + TOKEN_LENGTH]);
+        found = log_token(errors, found, tokens[at * TOKEN_ROW], byte, end);
         byte = end;
         at += 1;
     }

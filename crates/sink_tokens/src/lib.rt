@@ -1,3 +1,3 @@
 // Token rows as the sink reads them, and the rows of the lexical errors among them.
 pub mod lexical;
-pub mod source;
+pub mod token_row;

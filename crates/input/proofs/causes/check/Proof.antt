@@ -11,37 +11,29 @@ use Rattle.input.proofs.causes.check_texts.Reads as check-texts-reads
 use Rattle.input.proofs.causes.find_bad_row.Reads as find-bad-row-reads
 use Rattle.input.proofs.causes.is_too_long.Reads as is-too-long-reads
 
--- src/rows.rt:157:9
 is-too-long-requires : tie.Need-is-too-long-requires
 is-too-long-requires c κs = search needs
 
--- src/rows.rt:159:9
 returns : tie.Need-returns
 unfolding check-input check-sizes _or-else_
 returns c = rw (← (c .before .is-too-long .ensures), c .if1 .taken)
 
--- src/rows.rt:161:9
 find-bad-row-requires : tie.Need-find-bad-row-requires
 find-bad-row-requires c κs = search needs
 
--- src/rows.rt:163:19
 enum-known-row : tie.Need-enum-known-row
 enum-known-row c = search needs
 
--- src/rows.rt:164:27
 enum-told : tie.Need-enum-told
 enum-told c = search needs
 
--- src/rows.rt:164:27
 check-texts-requires : tie.Need-check-texts-requires
 check-texts-requires c κs = search needs
 
--- src/rows.rt:154:1
 returns-2 : tie.Need-returns-2
 unfolding check-input check-sizes _or-else_
 returns-2 c = rw (← (c .before .before .before .before .before .is-too-long .ensures), c .before .before .before .before .if1 .left) (rw (← (c .before .before .before .find-bad-row .ensures), c .before .row .given .1))
 
--- src/rows.rt:154:1
 returns-3 : tie.Need-returns-3
 unfolding check-input check-sizes _or-else_
 returns-3 c = rw (← (c .before .before .before .before .before .is-too-long .ensures), c .before .before .before .before .if1 .left) (rw (← (c .before .before .before .find-bad-row .ensures), c .before .enum-told .given .1) (c .check-texts .ensures (sym (c .before .before .before .find-bad-row .ensures) ∙ ap (found bad-row) (c .before .enum-told .given .1))))

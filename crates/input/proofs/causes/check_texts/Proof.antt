@@ -6,23 +6,18 @@ use Rattle.input.proofs.causes.check_texts.Reads as reads
 use Rattle.input.proofs.causes.check_texts.Lts as lts
 use Rattle.input.proofs.causes.find_bad_text.Reads as find-bad-text-reads
 
--- src/rows.rt:172:9
 find-bad-text-requires : tie.Need-find-bad-text-requires
 find-bad-text-requires c κs = search needs
 
--- src/rows.rt:174:19
 enum-known-text : tie.Need-enum-known-text
 enum-known-text c = search needs
 
--- src/rows.rt:175:27
 enum-told : tie.Need-enum-told
 enum-told c = search needs
 
--- src/rows.rt:169:1
 returns : tie.Need-returns
 returns c = λ h. rw (← (c .before .before .before .find-bad-text .ensures h), c .before .text .given .1)
 
--- src/rows.rt:169:1
 returns-2 : tie.Need-returns-2
 returns-2 c = λ h. rw (← (c .before .before .find-bad-text .ensures h), c .enum-told .given .1)
 

@@ -1,5 +1,7 @@
--- `find_bad_row`: the rows from here on are judged as all rows are.
-use Rattle.input.proofs.Kit.{flags, row-good-n, row-bad-n, rows-odd-at, rows-even-at}
+-- `find_bad_row`: the count from here on are judged as all count are.
+use Rattle.basics.proofs.Flags.{flags}
+use Rattle.input.proofs.RowChecks.{row-good-n, row-bad-n, rows-odd-at, rows-even-at}
+use Rattle.definitions.specs.Layout.{TOKEN-ROW}
 use Rattle.definitions.specs.Refusal.{check-rows}
 use Prim.Native.Nat.{ℕ, _*_, _/_, _-_, _≤_}
 use mathlib.Core.Path.{_≡_, refl, sym, _∙_}
@@ -10,86 +12,67 @@ use Rattle.input.proofs.causes.find_bad_row.Tie as tie
 use Rattle.input.proofs.causes.find_bad_row.Reads as reads
 use Rattle.input.proofs.causes.find_bad_row.Lts as lts
 use Rattle.input.proofs.causes.is_good_row.Reads as is-good-row-reads
-use Rattle.input.proofs.causes.wide.Reads as wide-reads
 
 abbrev Inv-loop : tie.InvT-loop
-Inv-loop tokens bytes rows left₀ at₀ left at =
-    (check-rows at left (drop (at * 2) tokens) ≡ check-rows 0 bytes tokens) × (at ≤ rows) × (rows ≡ length tokens / 2)
+Inv-loop tokens bytes count left₀ at₀ left at =
+    (check-rows at left (drop (at * TOKEN-ROW) tokens) ≡ check-rows 0 bytes tokens) × (at ≤ count) × (count ≡ length tokens / TOKEN-ROW)
 
 abbrev μ-loop : tie.MeasureT-loop
-μ-loop tokens bytes rows left₀ at₀ left at = rows - at
+μ-loop tokens bytes count left₀ at₀ left at = count - at
 
--- src/rows.rt:81:5
 loop-holds : tie.Need-loop-holds Inv-loop μ-loop
 loop-holds c = (refl, omega flags, refl)
 
--- src/rows.rt:82:29
 mul-wide : tie.Need-mul-wide Inv-loop μ-loop
 mul-wide c = omega flags
 
--- src/rows.rt:82:29
 add-wide : tie.Need-add-wide Inv-loop μ-loop
 add-wide c = omega flags
 
--- src/rows.rt:82:22
 mul-wide-2 : tie.Need-mul-wide-2 Inv-loop μ-loop
 mul-wide-2 c = omega flags
 
--- src/rows.rt:82:22
 shared-slice-read-wide : tie.Need-shared-slice-read-wide Inv-loop μ-loop
 shared-slice-read-wide c = omega flags
 
--- src/rows.rt:82:13
 wide-requires : tie.Need-wide-requires Inv-loop μ-loop
 wide-requires c κs = tt
 
--- src/rows.rt:83:39
 mul-is-good-row : tie.Need-mul-is-good-row Inv-loop μ-loop
 mul-is-good-row c = omega flags
 
--- src/rows.rt:83:32
 mul-is-good-row-2 : tie.Need-mul-is-good-row-2 Inv-loop μ-loop
 mul-is-good-row-2 c = omega flags
 
--- src/rows.rt:83:32
 shared-slice-read-is-good-row : tie.Need-shared-slice-read-is-good-row Inv-loop μ-loop
 shared-slice-read-is-good-row c = omega flags
 
--- src/rows.rt:83:13
 is-good-row-requires : tie.Need-is-good-row-requires Inv-loop μ-loop
 is-good-row-requires c κs = tt
 
--- src/rows.rt:85:13
 sub-left : tie.Need-sub-left Inv-loop μ-loop
 sub-left c = c .before .is-good-row .ensures .1 (c .if1 .taken)
 
--- src/rows.rt:86:13
 add-at : tie.Need-add-at Inv-loop μ-loop
 add-at c = omega flags
 
--- src/rows.rt:81:5
 loop-less : tie.Need-loop-less Inv-loop μ-loop
 loop-less c = omega flags
 
--- src/rows.rt:81:5
 loop-again : tie.Need-loop-again Inv-loop μ-loop
-loop-again c = (row-good-n _ _ _ _ (omega flags) (c .before .before .before .wide .ensures) (sym (c .before .is-good-row .ensures .0) ∙ c .if1 .taken) ∙ c .before .before .before .before .before .before .loop .inv .0, omega flags, c .before .before .before .before .before .before .loop .inv .2)
+loop-again c = (row-good-n _ _ _ _ (omega flags) (c .before .before .before .wide .ensures .0) (sym (c .before .is-good-row .ensures .0) ∙ c .if1 .taken) ∙ c .before .before .before .before .before .before .loop .inv .0, omega flags, c .before .before .before .before .before .before .loop .inv .2)
 
--- src/rows.rt:88:13
 returns : tie.Need-returns Inv-loop μ-loop
-returns c = row-bad-n _ _ _ _ (omega flags) (c .before .before .before .wide .ensures) (sym (c .before .is-good-row .ensures .0) ∙ c .if1 .left) ∙ c .before .before .before .before .before .before .loop .inv .0
+returns c = row-bad-n _ _ _ _ (omega flags) (c .before .before .before .wide .ensures .0) (sym (c .before .is-good-row .ensures .0) ∙ c .if1 .left) ∙ c .before .before .before .before .before .before .loop .inv .0
 
--- src/rows.rt:93:9
 returns-2 : tie.Need-returns-2 Inv-loop μ-loop
-returns-2 c = rows-odd-at _ _ _ _ (omega flags) (c .before .before .loop .inv .2) (eqb-true _ _ (c .if2 .taken)) ∙ c .before .before .loop .inv .0
+returns-2 c = rows-even-at _ _ _ _ (omega flags) (c .before .before .before .loop .inv .2) (eqb-true _ _ (c .before .if2 .taken)) (c .if3 .taken) ∙ c .before .before .before .loop .inv .0
 
--- src/rows.rt:97:9
 returns-3 : tie.Need-returns-3 Inv-loop μ-loop
-returns-3 c = rows-even-at _ _ _ _ (omega flags) (c .before .before .before .loop .inv .2) (eqb-false _ _ (c .before .if2 .left)) (c .if3 .taken) ∙ c .before .before .before .loop .inv .0
+returns-3 c = rows-even-at _ _ _ _ (omega flags) (c .before .before .before .loop .inv .2) (eqb-true _ _ (c .before .if2 .taken)) (c .if3 .left) ∙ c .before .before .before .loop .inv .0
 
--- src/rows.rt:75:1
 returns-4 : tie.Need-returns-4 Inv-loop μ-loop
-returns-4 c = rows-even-at _ _ _ _ (omega flags) (c .before .before .before .loop .inv .2) (eqb-false _ _ (c .before .if2 .left)) (c .if3 .left) ∙ c .before .before .before .loop .inv .0
+returns-4 c = rows-odd-at _ _ _ _ (omega flags) (c .before .before .loop .inv .2) (eqb-false _ _ (c .if2 .left)) ∙ c .before .before .loop .inv .0
 
 pub find-bad-row-spec : {M : Type 1} → statement M
 find-bad-row-spec =

@@ -1,33 +1,29 @@
 -- `is_input_kind` is the definitions' `is-kind`: one line for each way through.
-use Rattle.input.proofs.Kit.{flags}
+use Rattle.basics.proofs.Flags.{flags}
 use borrow.Author.Tests.{lt-leb, le-leb, eq-eqb}
+use Rattle.definitions.specs.LexError as L
 use Rattle.definitions.specs.Refusal.{is-kind}
 use Rattle.input.proofs.causes.is_input_kind.Statement.{statement}
 use Rattle.input.proofs.causes.is_input_kind.Tie as tie
 use Rattle.input.proofs.causes.is_input_kind.Reads as reads
 use Rattle.input.proofs.causes.is_input_kind.Lts as lts
 
--- src/rows.rt:42:1
 returns : tie.Need-returns
 unfolding is-kind
-returns c = rw (c .before .if1 .taken, c .if2 .taken, lt-leb 64 (c .before .before .args .kind) (omega flags))
+returns c = rw (c .before .if1 .taken, c .if2 .taken, lt-leb L.UnexpectedEndIncbin (c .before .before .args .kind) (omega flags))
 
--- src/rows.rt:42:1
 returns-2 : tie.Need-returns-2
 unfolding is-kind
-returns-2 c = rw (c .before .before .if1 .taken, c .before .if2 .left, c .if3 .taken, lt-leb 64 (c .before .before .before .args .kind) (omega flags))
+returns-2 c = rw (c .before .before .if1 .taken, c .before .if2 .left, c .if3 .taken, lt-leb L.UnexpectedEndIncbin (c .before .before .before .args .kind) (omega flags))
 
--- src/rows.rt:42:1
 returns-3 : tie.Need-returns-3
 unfolding is-kind
 returns-3 c = rw (c .before .before .if1 .taken, c .before .if2 .left, c .if3 .left)
 
--- src/rows.rt:42:1
 returns-4 : tie.Need-returns-4
 unfolding is-kind
 returns-4 c = rw (c .before .if1 .left, c .if4 .taken)
 
--- src/rows.rt:42:1
 returns-5 : tie.Need-returns-5
 unfolding is-kind
 returns-5 c = rw (c .before .if1 .left, c .if4 .left)

@@ -4,15 +4,12 @@ use Rattle.input.proofs.causes.is_too_long.Tie as tie
 use Rattle.input.proofs.causes.is_too_long.Reads as reads
 use Rattle.input.proofs.causes.is_too_long.Lts as lts
 
--- src/rows.rt:142:1
 returns : tie.Need-returns
 returns c = rw (c .before .if1 .taken, c .if2 .taken)
 
--- src/rows.rt:142:1
 returns-2 : tie.Need-returns-2
 returns-2 c = rw (c .before .if1 .taken, c .if2 .left)
 
--- src/rows.rt:142:1
 returns-3 : tie.Need-returns-3
 returns-3 c = rw (c .if1 .left)
 

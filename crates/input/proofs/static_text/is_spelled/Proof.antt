@@ -1,5 +1,5 @@
 -- `is_spelled`: the table's rule at one kind.
-use Rattle.input.proofs.Kit.{flags}
+use Rattle.basics.proofs.Flags.{flags}
 use Rattle.input.proofs.Texts.{Rule, rule, above, spelled-free, spelled-same}
 use native.Mathlib.Omega.{arith}
 use mathlib.Core.Path.{sym}
@@ -11,51 +11,39 @@ use Rattle.input.proofs.static_text.is_spelled.Lts as lts
 use Rattle.check.proofs.same.Reads as same-reads
 use Rattle.input.proofs.static_text.wide.Reads as wide-reads
 
--- src/static_text.rt:91:26
 array-read-wide : tie.Need-array-read-wide
 array-read-wide c = omega flags
 
--- src/static_text.rt:91:13
 wide-requires : tie.Need-wide-requires
 wide-requires c κs = search needs
 
--- src/static_text.rt:92:36
 add-wide : tie.Need-add-wide
 add-wide c = search needs
 
--- src/static_text.rt:92:24
 array-read-wide-2 : tie.Need-array-read-wide-2
 array-read-wide-2 c = omega flags
 
--- src/static_text.rt:92:13
 wide-requires-2 : tie.Need-wide-requires-2
 wide-requires-2 c κs = search needs
 
--- src/static_text.rt:98:25
 sub-same : tie.Need-sub-same
 sub-same c = omega (arith, rule (c .before .before .before .before .before .args .kind) (omega flags) .ordered, c .before .before .wide .ensures, c .before .wide2 .ensures)
 
--- src/static_text.rt:98:25
 part-same-start : tie.Need-part-same-start
 part-same-start c = omega (arith, rule (c .before .before .before .before .before .before .args .kind) (omega flags) .ordered, c .before .before .before .wide .ensures, c .before .before .wide2 .ensures)
 
--- src/static_text.rt:98:25
 part-same-end : tie.Need-part-same-end
 part-same-end c = omega (arith, rule (c .before .before .before .before .before .before .args .kind) (omega flags) .inside, c .before .before .before .wide .ensures, c .before .before .wide2 .ensures)
 
--- src/static_text.rt:98:13
 same-requires : tie.Need-same-requires
 same-requires c κs = search needs
 
--- src/static_text.rt:85:1
 returns : tie.Need-returns
 returns c = spelled-free _ _ _ _ (omega flags) (c .before .before .wide .ensures) (c .before .wide2 .ensures) (c .if2 .taken)
 
--- src/static_text.rt:85:1
 returns-2 : tie.Need-returns-2
 returns-2 c = spelled-same _ _ _ _ _ (omega flags) (c .before .before .before .before .before .wide .ensures) (c .before .before .before .before .wide2 .ensures) (c .before .before .before .if2 .left) (c .same .ensures)
 
--- src/static_text.rt:85:1
 returns-3 : tie.Need-returns-3
 returns-3 c = sym (above _ _ (omega flags))
 

@@ -1,9 +1,10 @@
 -- `write_error`: its three stores are those of `put-error`.
 use native.Mathlib.Omega.{arith}
-use Rattle.sink_tokens.proofs.Kit.{stores3}
-use Rattle.sink_tokens.proofs.Kit.{flags}
+use Rattle.sink_tokens.proofs.Runs.{stores3}
+use Rattle.basics.proofs.Flags.{flags}
 use Prim.Native.Nat.{_*_}
 use lib.ListN.{length-set}
+use Rattle.definitions.specs.Layout.{ERROR-ROW}
 use Rattle.sink_tokens.specs.Tokens.{put-error}
 use Rattle.sink_tokens.proofs.lexical.write_error.Statement.{statement}
 use Rattle.sink_tokens.proofs.lexical.write_error.Tie as tie
@@ -11,11 +12,11 @@ use Rattle.sink_tokens.proofs.lexical.write_error.Tie as tie
 wide-requires : tie.Need-wide-requires
 wide-requires c κs = tt
 
-mul-at : tie.Need-mul-at
-mul-at c = omega arith
+mul-index : tie.Need-mul-index
+mul-index c = omega arith
 
-add-room : tie.Need-add-room
-add-room c = omega arith
+add-enough : tie.Need-add-enough
+add-enough c = omega arith
 
 mul-errors : tie.Need-mul-errors
 mul-errors c = omega arith
@@ -46,7 +47,7 @@ same-length c = simp length-set
 
 returns : tie.Need-returns
 unfolding put-error
-returns c = rw (← (c .before .wide .ensures .0), c .if1 .taken) (stores3 (c .before .before .before .args .errors .now) (c .before .wide .result * 3) (c .before .before .before .args .number) (c .before .before .before .args .start) (c .before .before .before .args .end))
+returns c = rw (← (c .before .wide .ensures .0), c .if1 .taken) (stores3 (c .before .before .before .args .errors .now) (c .before .wide .result * ERROR-ROW) (c .before .before .before .args .number) (c .before .before .before .args .start) (c .before .before .before .args .end))
 
 returns-2 : tie.Need-returns-2
 unfolding put-error
@@ -57,8 +58,8 @@ write-error-spec =
     tie.close
     (tie.spec
     wide-requires
-    mul-at
-    add-room
+    mul-index
+    add-enough
     mul-errors
     slice-write-errors
     add-errors

@@ -1,0 +1,85 @@
+// Tree rows. A finished row: class, kind, width, count. The row of an open node holds what its end needs: its parent's row,
+// its kind, its first byte, and how many children its parent had before it.
+use crate::event_row;
+use layout::row::EVENT_ARGUMENT;
+use layout::row::TREE_COUNT;
+use layout::row::TREE_KIND;
+use layout::row::TREE_ROW;
+use layout::row::TREE_WIDTH;
+use layout::word;
+ghost use mathlib.Core.Path.{_≡_};
+ghost use mathlib.Core.List.{[]};
+ghost use Prim.Native.Nat.{ℕ, _+_, _*_, _<_};
+ghost use lib.Dec.{leb};
+ghost use lib.ListN.{length};
+ghost use Rattle.definitions.specs.Layout.{TREE-ROW};
+ghost use Rattle.definitions.specs.Place.{tree-row};
+ghost use Rattle.sink_rows.specs.Rows.{put, number as numberOf, open-rows};
+
+// The numbers of an open row. Those of the finished row take their places.
+pub const PARENT: usize = 0;
+
+pub const KIND: usize = TREE_KIND;
+
+pub const FIRST_BYTE: usize = TREE_WIDTH;
+
+pub const CHILDREN_BEFORE: usize = TREE_COUNT;
+
+// Whether so many rows fit.
+pub fn rows_fit(len: usize, rows: u32) -> bool
+    ensures { λ r. ⌜ r ≡ leb (rows * TREE-ROW) len ⌝ }
+{
+    word::wide(rows) * TREE_ROW <= len
+}
+
+// Nothing is written where the row does not fit.
+pub fn write_row(trees: &mut [u32], row: u32, class: u32, kind: u32, width: u32, count: u32)
+    ensures { λ _. ⌜ now (trees .exit) ≡ put row (tree-row class kind width count []) (now (trees .entry)) ⌝ }
+{
+    let index = word::wide(row) * TREE_ROW;
+    let enough = index + TREE_ROW <= trees.len();
+    if enough {
+        trees[index] = class;
+        trees[index + TREE_KIND] = kind;
+        trees[index + TREE_WIDTH] = width;
+        trees[index + TREE_COUNT] = count;
+    }
+}
+
+// A number of a row; 0 where the row does not fit. Of a row that fits in part nothing was written, so nothing is read.
+pub fn number(trees: &[u32], row: u32, field: usize) -> u32
+    requires { ⌜ field < TREE-ROW ⌝ }
+    ensures { λ r. ⌜ r ≡ numberOf row field (now (trees .entry)) ⌝ }
+{
+    let index = word::wide(row) * TREE_ROW;
+    let enough = index + TREE_ROW <= trees.len();
+    if enough { trees[index + field] } else { 0 }
+}
+
+// The open rows of a chain of n links whose innermost start is event i. The outermost node's is `first`.
+pub fn open_rows(
+    trees: &mut [u32],
+    events: &[u32],
+    i: usize,
+    n: u32,
+    first: u32,
+    byte: u32,
+    parent: u32,
+    children: u32,
+)
+    ensures { λ _. ⌜ now (trees .exit)
+        ≡ open-rows n (now (events .entry)) i first byte parent children (now (trees .entry)) ⌝ }
+{
+    let mut left = n;
+    let mut j = i;
+    while 0 < left {
+        left -= 1;
+        let up = word::add(first, left);
+        let inner = word::add(up, 1);
+        let kind = event_row::field(events, j, EVENT_ARGUMENT);
+        write_row(trees, inner, up, kind, byte, 0);
+        j += event_row::link(events, j);
+    }
+    let kind = event_row::field(events, j, EVENT_ARGUMENT);
+    write_row(trees, first, parent, kind, byte, children);
+}
