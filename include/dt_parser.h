@@ -311,7 +311,7 @@ enum dt_expected {
 };
 
 /*
- * Lengths that suffice for n token rows (crates/numbers has the proof), so that 6, 7 and 8 cannot be met. Files without
+ * Lengths that suffice for n token rows (crates/bounds has the proof), so that 6, 7 and 8 cannot be met. Files without
  * errors need far less; a caller may start small and grow what refusal 6 (events), 7 (reports, pool) or 8 (trees,
  * errors) names, as examples/c/parse.c does.
  */

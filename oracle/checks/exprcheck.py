@@ -94,7 +94,7 @@ class C:
         if self.peek() == ")":
             return children + self.take()
         while True:
-            # an argument's node starts at its first token that is no blank
+            # an argument's node starts at its first token that is not a blank
             children += self.blanks()
             children.append((ARGUMENT, self.argument()))
             if self.peek() == ")":

@@ -6,7 +6,7 @@ import subprocess
 from compare.case import Result, case_line
 
 MOST_BYTES, MOST_NUMBERS = 1048576, 131072
-# room enough for all; the same but for the tree, so that the answer is short
+# room enough for all; the same except for the tree, so that the answer is short
 ROOM, NO_TREE = "-----", "-0---"
 
 

@@ -54,7 +54,7 @@ class Chooser:
                 yield sized(case, [max(n - less, 0) if k == b else n for k, n in enumerate(case.lengths)])
 
     def boards(self):
-        """Whole source files, and each cut off behind its middle."""
+        """Whole source files, and each cut off after its middle."""
         folder = os.path.join(self.folder, "boards")
         texts = []
         for name in sorted(os.listdir(folder)):

@@ -24,7 +24,7 @@ def case_of(head, numbers, data):
 
 
 def of_line(line):
-    """A toks line of the oracle as a case that is lent nothing; bytes behind the rows' stay."""
+    """A toks line of the oracle as a case that is lent nothing; bytes after the rows' stay."""
     entry, _, rows, *text = line.split(" ", 3)
     data = (text[0] if text else "").encode().decode("unicode_escape").encode("latin-1")
     numbers = [int(n) for row in rows.split(",") if row for n in (row + ":1").split(":")[:2]]

@@ -42,7 +42,7 @@ impl Room {
         guess.at_most(Self::most(input))
     }
 
-    /// What suffices for every run on so many tokens: the theorem of crates/numbers, 13 n + 1 events, 6 n + 1 tree rows,
+    /// What suffices for every run on so many tokens: the theorem of crates/bounds, 13 n + 1 events, 6 n + 1 tree rows,
     /// 3 n + 1 reports and 768 n + 256 expectations. There are as many lexical errors as error tokens.
     pub fn most(input: &Input<'_>) -> Self {
         let n = input.tokens.len().min(Input::MAX_TOKENS);

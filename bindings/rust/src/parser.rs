@@ -60,7 +60,7 @@ impl Parser {
     }
 
     /// Parses the input. Where a buffer is too small (refusals 6 to 8) the call is made again with a larger one, up to
-    /// what every run fits by the theorem of crates/numbers.
+    /// what every run fits by the theorem of crates/bounds.
     ///
     /// # Errors
     ///
