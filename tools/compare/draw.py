@@ -3,8 +3,8 @@ import random
 
 from compare.case import ROW, Case, Row, rows_of
 from compare.oracle import NO_TREE
-from compare.tables import BAD_ENTRIES, BAD_KINDS, CONDITIONAL_HEADS, CONDITIONALS, ENTRIES, HEADS, LEVELS, PIECES, PREFIX
-from compare.tables import STATEMENTS, STOPS, TAILS, TRIVIA, UNITS
+from compare.tables import BAD_ENTRIES, BAD_KINDS, CONDITIONAL_HEADS, CONDITIONALS, ENTRIES, FULL_HEADS, FULL_TAILS, HEADS, LEVELS
+from compare.tables import NESTS, OVER_TAIL, PIECES, PREFIX, STATEMENTS, STOPS, TAILS, TRIVIA, UNITS
 
 MOST_DEEP_ROWS = 160
 
@@ -132,8 +132,10 @@ class Drawer:
         if r.random() < 0.4:
             (entry, head), unit = r.choice(CONDITIONAL_HEADS), r.choice(CONDITIONALS)
         blank = [0] if r.random() < 0.2 else []
-        kinds = lambda k: self.named(head) + (self.named(unit) + blank) * k + self.named(tail)
-        return [Case(entry, self.tokens(kinds(k))) for k in range(1, 67)]
+        return [self.nested(entry, head, self.named(unit) + blank, k, tail) for k in range(1, 67)]
+
+    def nested(self, entry, head, unit, k, tail):
+        return Case(entry, self.tokens(self.named(head) + unit * k + self.named(tail)))
 
     def deep(self, count):
         """Around the first k at which a family is refused by a limit: the last that is not, that one, and one beyond.
@@ -146,6 +148,20 @@ class Drawer:
             if at is not None and len(lists[at].rows) <= MOST_DEEP_ROWS:
                 out += lists[max(at - 1, 0) : at + 2]
         return out[:count]
+
+    def full(self):
+        """At a limit and one past it: 64 and 65 open calls through one function, or 256 and 257 pending expectations."""
+        r = self.random
+        if r.random() < 0.5:
+            entry, head, unit = r.choice(NESTS)
+            lists = [self.nested(entry, head, self.named(unit), k, "") for k in range(60, 67)]
+        else:
+            (entry, head), unit = r.choice(FULL_HEADS), self.named(r.choice(CONDITIONALS))
+            lists = [self.nested(entry, head, unit, 50, tail) for tail in (r.choice(FULL_TAILS), OVER_TAIL)]
+        said = self.oracle.ask(lists, NO_TREE)
+        at = next(i for i, p in enumerate(said) if p.number == 5)
+        assert at and (said[at - 1].most_open == 64 or said[at - 1].most_pending == 256)
+        return lists[at - 1 : at + 1]
 
     # ------------------------------------------------------------ bad input: causes 1 to 4
 
@@ -216,7 +232,7 @@ class Drawer:
     # ------------------------------------------------------------ all
 
     def cases(self, count):
-        """That many: short lists mostly, some long, some near the limits, one in eight with bad input."""
+        """That many: short lists mostly, some long, some near the limits or at them, one in eight with bad input."""
         r = self.random
         part = lambda percent: count * percent // 100
         lists = self.generated(part(22), 0, 22) + self.generated(part(2), 30, 110) + self.deep(part(2))
@@ -229,7 +245,8 @@ class Drawer:
         lists += [Case(r.choice(ENTRIES), self.soup(r.randint(0, 10))) for _ in range(rest)]
         cases = self.lend(lists) + [self.lend_spoilt(c) for c in bad]
         r.shuffle(cases)
-        return largest + cases
+        full = self.lend([case for _ in range(part(1) // 2) for case in self.full()])
+        return largest + cases[: len(cases) - len(full)] + full
 
     def lend_spoilt(self, case):
         """Two wrongs can make a right; such a case is lent what it needs."""

@@ -17,11 +17,13 @@ class Parsed:
         self.rows, self.lexical, self.reports, self.pool = [], [], [], []
         # events, reports and expectations pushed before a limit stopped the run
         self.pushed = 0, 0, 0
+        # the most open calls and pending expectations that the run came to
+        self.most_open = self.most_pending = 0
         self.number = None
         for line in lines:
             word, *rest = line.split()
             if word == "S":
-                self.pushed = [int(n) for n in rest[1::2]][3:]
+                self.most_open, self.most_pending, _, *self.pushed = [int(n) for n in rest[1::2]]
             elif word in ("OK", "REFUSED"):
                 self.number, self.place = int(rest[0]), int(rest[1])
             elif word == "R":

@@ -3,6 +3,7 @@ import pathlib
 import re
 
 SPECS = "crates/definitions/specs/"
+LAYOUT = "crates/layout/src/"
 RUST = "docs/src/crates/parser/src/"
 
 
@@ -45,5 +46,7 @@ class Repository:
         return {n: int(v) for v, n in found}
 
     def refusals(self):
-        found = re.findall(r"^number-of \(?([\w-]+).*= (\d+)$", self.text(SPECS + "Refusal.antt"), re.M)
-        return {n: int(v) for n, v in found}
+        """The numbers of the refusals, by their names in the definitions."""
+        found = re.findall(r"^number-of \(?([\w-]+).*= ([A-Z-]+)$", self.text(SPECS + "Refusal.antt"), re.M)
+        numbers = self.spec(SPECS + "Layout.antt")
+        return {n: numbers[v] for n, v in found}

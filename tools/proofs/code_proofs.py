@@ -63,7 +63,7 @@ class Crate:
             if kind == "le":
                 facts.append(f"@{thing} .ensures .1")
             elif kind == "all":
-                facts.append(f"@{thing} .ensures .1 (@@ .args .t .now)")
+                facts.append(f"@{thing} .ensures .1 (@@ .args .tokens .now)")
             elif kind in ("yes", "end"):
                 facts.append(f"@{thing} .ensures .1 .0")
                 if thing in test and test[thing][1] == "taken" and kind == "yes":

@@ -2,7 +2,7 @@
 """Writes the proof of crate expr's cycle of calls, the files below crates/expr/proofs/+expr_binding_power+..+ternary_rhs/, and that of
 `dt_expr`.
 
-    rt dev expr --generated target/generated/expr; python3 tools/proofs/expr_proofs.py target/generated/expr; rt fmt
+    rt dev expr --generated target/generated/expr; python3 tools/proofs/expr_proofs.py target/generated/expr
 
 The first command writes what the check generates for each function; it may fail, and writes all the same. Where the cycle has no proof
 file yet, give it one with a hole first, or the check searches for each need.
@@ -28,9 +28,9 @@ NAMES = [m.replace('_', '-') for m in MEMBERS]
 RANK = {'expr-binding-power': 0, 'rhs': 1, 'prefix-expr': 1, 'paren-expr': 1, 'missing-lhs': 1, 'ternary-rhs': 2, 'no-lhs': 2,
         'infix-step': 3, 'lhs': 3, 'infix-chain': 4}
 
-TOKENS = '«s» .args .t .now'
-ROOM = '«s» .args .room'
-ASK = f'(walk-rule ({ROOM}) (tokens ({TOKENS})))'
+TOKENS = '«s» .args .tokens .now'
+ALLOWED = '«s» .args .allowed'
+ASK = f'(walk-rule ({ALLOWED}) (tokens-of ({TOKENS})))'
 
 # where a call's contract says what is left: always, and where its test held
 LEFT = {'start': f'.ensures .1 ({TOKENS})', 'complete': f'.ensures .1 ({TOKENS})', 'ignore': f'.ensures .1 ({TOKENS})',
@@ -62,11 +62,11 @@ def held(x, n, then):
 
 
 def member(x):
-    return f'(c-fn ({ROOM}) («{x}» .ensures .0))'
+    return f'(c-fn ({ALLOWED}) («{x}» .ensures .0))'
 
 
 BUMP = '(c-act («bump» .ensures .0 unlabelled _ _))'
-CALL = f'(c-call ({ROOM}) («expr-binding-power» .ensures .0))'
+CALL = f'(c-call ({ALLOWED}) («expr-binding-power» .ensures .0))'
 YES = '(«expr-binding-power» .result .yes)'
 MARK = 'c-mark («new» .ensures) («start» .ensures .0 _ _)'
 DONE = '(«complete» .ensures .0 _ _)'
@@ -100,38 +100,38 @@ WAYS = {
 }
 
 # `expr_binding_power`
-SOME = f'eqb-false ({ROOM}) 0 («if1» .left)'
-OF_RULE = f'({ROOM}) (tokens ({TOKENS})) (expr-binding-power («s» .args .min-bp)) _'
-PARTS = f'({ROOM} - 1) (tokens ({TOKENS})) (if lhs-prog then tell again else tell no) (infix-turn («s» .args .min-bp))'
+SOME = f'eqb-false ({ALLOWED}) 0 («if1» .left)'
+OF_RULE = f'({ALLOWED}) (tokens-of ({TOKENS})) (expr-binding-power («s» .args .min-bp)) _'
+PARTS = f'({ALLOWED} - 1) (tokens-of ({TOKENS})) (if lhs-prog then tell again else tell no) (infix-turn («s» .args .min-bp))'
 BODY = f'∙ rule-body {OF_RULE} (omega (arith, {SOME}))'
 RULE = {
-    'returns': ('', f'ap (said no) («refuse» .ensures .0 _ _ _) ∙ rule-closed {OF_RULE} (eqb-true ({ROOM}) 0 («if1» .taken))'),
-    'returns-2': ('grammar expr-binding-power-body', f'way ({ROOM} - 1) (chained-on {PARTS} («new» .ensures) («start» .ensures .0 _ _) (c-yes (c-fn ({ROOM} - 1) («lhs» .ensures .0)) («if2» .taken) c-ret) («infix-chain» .ensures .0)) {BODY}'),
-    'returns-3': ('grammar expr-binding-power-body', f'way ({ROOM} - 1) (chained-off {PARTS} («start» .ensures .0 _ _) (c-no (c-fn ({ROOM} - 1) («lhs» .ensures .0)) («if2» .left) c-ret) («ignore» .ensures .0 _ _)) {BODY}'),
+    'returns': ('', f'ap (said no) («refuse» .ensures .0 _ _ _) ∙ rule-closed {OF_RULE} (eqb-true ({ALLOWED}) 0 («if1» .taken))'),
+    'returns-2': ('grammar expr-binding-power-body', f'way ({ALLOWED} - 1) (chained-on {PARTS} («new» .ensures) («start» .ensures .0 _ _) (c-yes (c-fn ({ALLOWED} - 1) («lhs» .ensures .0)) («if2» .taken) c-ret) («infix-chain» .ensures .0)) {BODY}'),
+    'returns-3': ('grammar expr-binding-power-body', f'way ({ALLOWED} - 1) (chained-off {PARTS} («start» .ensures .0 _ _) (c-no (c-fn ({ALLOWED} - 1) («lhs» .ensures .0)) («if2» .left) c-ret) («ignore» .ensures .0 _ _)) {BODY}'),
 }
 
 # `infix_chain`
 LONG = '«s» .good .1 .0 .0'
 CHAIN = '(infix-turn («s» .args .min-bp)) (marker-of («loop» .m))'
-LINK = f'({ROOM}) ({TOKENS}) {CHAIN} 5 {DONE} («precede» .ensures .0 _ _)'
+LINK = f'({ALLOWED}) ({TOKENS}) {CHAIN} 5 {DONE} («precede» .ensures .0 _ _)'
 STEP = member('infix-step')
 FALLS = f'(ahead-falls ({TOKENS}) («loop» .q .s) («infix-step» .result .p .s) («infix-step» .ensures .1 .1 («if1» .taken)))'
 LOOP = {
     'loop-again': f'linked-again {LINK} («linked» .ensures) ({LONG}) (step-again {STEP} («if1» .taken) («if2» .taken)) {FALLS} ∙ «loop» .inv .1 .1 .1 .1',
     'returns': f'linked-last {LINK} («ignore» .ensures .0 _ _) (step-last {STEP} («if1» .taken) («if2» .left)) ∙ «loop» .inv .1 .1 .1 .1',
-    'returns-2': f'linked-stop ({ROOM}) (tokens ({TOKENS})) {CHAIN} («ignore2» .ensures .0 _ _) (step-none («infix-step» .result .again) {STEP} («if1» .left)) ∙ «loop» .inv .1 .1 .1 .1',
+    'returns-2': f'linked-stop ({ALLOWED}) (tokens-of ({TOKENS})) {CHAIN} («ignore2» .ensures .0 _ _) (step-none («infix-step» .result .again) {STEP} («if1» .left)) ∙ «loop» .inv .1 .1 .1 .1',
 }
-FROM = 'links-from room (tokens t) (infix-turn min-bp)'
+FROM = 'links-from allowed (tokens-of tokens) (infix-turn min-bp)'
 INVARIANT = f'''-- the chain from here is the chain from the start
 abbrev pub Inv-loop : lts.InvT-loop
-Inv-loop t ev₀ rep₀ pool₀ room min-bp m₀ q₀ ev rep pool m q =
-    (left t (q .s) ≤ left t (q₀ .s))
-    × ((length ev ≡ length ev₀)
-    × ((length rep ≡ length rep₀)
-    × ((length pool ≡ length pool₀) × ({FROM} (marker-of m) (view-of q ev rep pool) ≡ {FROM} (marker-of m₀) (view-of q₀ ev₀ rep₀ pool₀)))))
+Inv-loop tokens events₀ reports₀ pool₀ allowed min-bp m₀ q₀ events reports pool m q =
+    (left tokens (q .s) ≤ left tokens (q₀ .s))
+    × ((length events ≡ length events₀)
+    × ((length reports ≡ length reports₀)
+    × ((length pool ≡ length pool₀) × ({FROM} (marker-of m) (view-of q events reports pool) ≡ {FROM} (marker-of m₀) (view-of q₀ events₀ reports₀ pool₀)))))
 
 abbrev pub μ-loop : lts.MeasureT-loop
-μ-loop t ev₀ rep₀ pool₀ room min-bp m₀ q₀ ev rep pool m q = left t (q .s)
+μ-loop tokens events₀ reports₀ pool₀ allowed min-bp m₀ q₀ events reports pool m q = left tokens (q .s)
 
 '''
 
@@ -149,24 +149,23 @@ SAYS = {
 
 # what an answer may cite, by module
 LIBRARY = [
-    ('Prim.Native.Nat', ['ℕ', '_-_', '_≤_']), ('mathlib.Core.Path', ['_≡_', 'refl', 'sym', 'ap', '_∙_']), ('mathlib.Core.Bool', ['false']),
+    ('Prim.Native.Nat', ['ℕ', '_-_', '_≤_']), ('mathlib.Core.Path', ['_≡_', 'refl', 'sym', 'ap', '_∙_']), ('mathlib.Core.Bool', ['false', 'false≢true']),
     ('lib.ListN', ['length']), ('native.Mathlib.Omega', ['arith']), ('borrow.Author.Tests', ['eqb-true', 'eqb-false']),
-    ('Rattle.definitions.specs.Token', ['tokens']), ('Rattle.definitions.specs.Prog', ['no', 'again', 'expr-binding-power']),
+    ('Rattle.definitions.specs.Token', ['tokens-of']), ('Rattle.definitions.specs.Prog', ['no', 'again', 'expr-binding-power']),
     ('Rattle.definitions.specs.Check', ['tell', 'if_then_else_', 'silent']),
     ('Rattle.definitions.specs.Grammar', ['lhs as lhs-prog', 'rhs as rhs-prog', 'infix-turn', 'expr-binding-power-body', 'grammar']),
     ('Rattle.machine.specs.Walk', ['said', 'walk-rule', 'unlabelled']), ('Rattle.parser.specs.View', ['left', 'marker-of', 'view-of']),
-    ('Rattle.expr.specs.Parts', ['links-from']),
+    ('Rattle.expr.specs.Chain', ['links-from']),
     ('Rattle.machine.proofs.Way', ['c-walk', 'c-act', 'c-ret', 'c-seq', 'c-yes', 'c-no', 'c-told', 'c-again', 'c-told-past', 'c-mark', 'completed',
                                    'c-call', 'c-fn', 'way', 'rule-closed', 'rule-body']),
-    ('Rattle.power.proofs.Below', ['true-false']),
-    ('Rattle.names.proofs.Kit', ['ahead-falls']),
+    ('Rattle.steps.proofs.Left', ['ahead-falls']),
     (PROOFS + 'Chain', ['chained-on', 'chained-off', 'linked-again', 'linked-last', 'linked-stop', 'step-again', 'step-last', 'step-none']),
     (PROOFS + 'Levels', ['turn-none', 'turn-weaker', 'turn-ternary', 'turn-binary', 'at-binary'])]
 
 
 # the functions outside that the members call, by the module that their readings stand in
 CALLED = [
-    ('Rattle.expr.proofs', 'at_prefix_op infix_op_at literal_expr'), ('Rattle.names.proofs', 'macro_invocation'),
+    ('Rattle.expr.proofs', 'at_prefix_op infix_op_at literal_expr'), ('Rattle.macros.proofs', 'macro_invocation'),
     ('Rattle.parser.proofs.Parser', 'at bump complete error expect ignore precede refuse silent_at start'),
     ('Rattle.parser.proofs.marker.Marker', 'linked new')]
 
@@ -234,7 +233,7 @@ def answer(name, need, things):
         return '', f'omega (arith, {SOME})'
     if need.startswith('same-length'):
         return '', lengths_kept(things)
-    left, never = tokens_left(things), 'λ e. true-false (sym e)'
+    left, never = tokens_left(things), 'λ e. absurd (false≢true e)'
     if name == 'expr-binding-power':
         unfold, way = RULE[need]
         if need == 'returns':
@@ -255,7 +254,7 @@ def answer(name, need, things):
     if name == 'infix-step':
         some = '«infix-op-at» .ensures .1 .1 .1 .1 .1 (eqb-false («infix-op-at» .result .left) 0 («if1» .left))'
         left = f'({left},\n{never if need in ("returns", "returns-2") else "λ e. " + tokens_left(things, some)})'
-    return unfold, f'(way ({ROOM}) {way},\n{left})'
+    return unfold, f'(way ({ALLOWED}) {way},\n{left})'
 
 
 def cites(text):
@@ -354,7 +353,7 @@ def cycle(generated):
 # ---------------------------------------------------------------- `dt_expr`
 
 DT_EXPR = """use native.Mathlib.Omega.{arith}
-use Rattle.definitions.specs.Token.{tokens}
+use Rattle.definitions.specs.Token.{tokens-of}
 use Rattle.definitions.specs.Grammar.{dt-expr}
 use Rattle.machine.specs.Walk.{walk-rule, unlabelled}
 use Rattle.machine.proofs.Way.{c-walk, c-act, c-ret, c-seq, c-mark, completed, c-call, way}"""
@@ -362,11 +361,11 @@ use Rattle.machine.proofs.Way.{c-walk, c-act, c-ret, c-seq, c-mark, completed, 
 
 def dt_expr(generated):
     calls = {'bump': 'le', 'start': 'all', 'complete': 'all', 'expect': 'yes', 'expr': 'yes', 'new': 'none'}
-    room = '(@@ .args .room)'
-    asked = f'(walk-rule {room} (tokens (@@ .args .t .now))) unlabelled'
-    inside = f'c-seq (c-seq (c-act (@bump .ensures .0 unlabelled _ _)) (c-seq (c-call {room} (@expr .ensures .0)) (c-walk (@expect .ensures .0 {asked})))) c-ret'
+    allowed = '(@@ .args .allowed)'
+    asked = f'(walk-rule {allowed} (tokens-of (@@ .args .tokens .now))) unlabelled'
+    inside = f'c-seq (c-seq (c-act (@bump .ensures .0 unlabelled _ _)) (c-seq (c-call {allowed} (@expr .ensures .0)) (c-walk (@expect .ensures .0 {asked})))) c-ret'
     Crate('expr', generated, 'crates/expr', calls, ['new']).proof('dt_expr', {
-        'returns': ('dt-expr', f'(way {room} (c-mark (@new .ensures) (@start .ensures .0 _ _) ({inside}) (completed 17 (@complete .ensures .0 _ _))), omega (arith, PROGRESS))'),
+        'returns': ('dt-expr', f'(way {allowed} (c-mark (@new .ensures) (@start .ensures .0 _ _) ({inside}) (completed 17 (@complete .ensures .0 _ _))), omega (arith, PROGRESS))'),
     }, '`dt_expr`: a marker around an expression in brackets.', uses=DT_EXPR.split('\n'))
 
 

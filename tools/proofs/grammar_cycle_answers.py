@@ -4,19 +4,19 @@ import re
 
 from grammar_cycle_programs import PROGRAMS, CycleWalk, plain
 
-ROWS = "@@ .args .t .now"
-TOKENS = f"(tokens ({ROWS}))"
-ROOM = "@@ .args .room"
+ROWS = "@@ .args .tokens .now"
+TOKENS = f"(tokens-of ({ROWS}))"
+ALLOWED = "@@ .args .allowed"
 
 # The functions that open a call, as rules. Their first test is whether one may still be opened.
-RULES = {"item": "item", "propvalues": "(propvalues (@@ .args .semicolon))", "eat-cell": "(eat-cell (@@ .args .at-end))"}
-OPEN = f"eqb-false ({ROOM}) 0 (@if1 .left)"
+RULES = {"item": "item", "propvalues": "(propvalues (@@ .args .semicolon))", "eat-cell": "(eat-cell (@@ .args .until-end))"}
+OPEN = f"eqb-false ({ALLOWED}) 0 (@if1 .left)"
 
 # Functions that close the marker they are handed.
-CLOSING = ("dt-cell-list", "dt-property", "rest")
+CLOSING = ("dt-cell-list", "dt-property", "node")
 
 # Functions that ensure something more of the answer yes.
-ENSURE_YES = ("eat-cell", "cell2", "eat-node-or-prop", "eat-inside", "arm", "eat-preprocessor-directive")
+ENSURE_YES = ("eat-cell", "cell-rest", "eat-node-or-prop", "eat-inside", "branch", "eat-pp-directive")
 
 # What the loop has kept of the walk: the last part of its invariant.
 LOOP = "@loop .inv .1 .1 .1 .1"
@@ -36,7 +36,7 @@ LEFT = {
 CALLS = {
     **dict.fromkeys("bump expect-recoverable error at-cells-end forbidden-property macro-invocation dt-expr".split(), "le"),
     **dict.fromkeys("eat-node-or-prop-prefix unfinished node-end cond-branches-and-end cells dt-cell-list".split(), "le"),
-    **dict.fromkeys("propvalues value bits value2 dt-property dt-node-body item item2 rest".split(), "le"),
+    **dict.fromkeys("propvalues value bits value-rest dt-property dt-node-body item item-rest node".split(), "le"),
     **dict.fromkeys("start complete ignore add-expected".split(), "all"),
     **dict.fromkeys("silent-at silent-at-set at silent-eat eat expect at-item silent-eat-reference".split(), "yes"),
     **dict.fromkeys([*"eat-plain-cell eat-dts-include eat-dts-directive".split(), *ENSURE_YES], "yes"),
@@ -63,8 +63,8 @@ class Answers:
     def __init__(self, function, way, node_kinds):
         self.function, self.way, self.node_kinds = function, way, node_kinds
         self.rule = RULES.get(function)
-        self.room = f"({ROOM} - 1)" if self.rule else f"({ROOM})"
-        self.ask = f"(walk-rule {self.room} {TOKENS})"
+        self.allowed = f"({ALLOWED} - 1)" if self.rule else f"({ALLOWED})"
+        self.ask = f"(walk-rule {self.allowed} {TOKENS})"
         opened = self.rule and any(thing == "if1" and "left" in fields for thing, _, fields in way)
         self.open = [OPEN] if opened else []
 
@@ -134,7 +134,7 @@ class Answers:
             way = way[things.index("loop") + 1:]
         elif self.rule:
             way = [step for step in way if step[0] != "if1"]
-        walk = CycleWalk(way, self.node_kinds, self.room, self.ask, BRACE if self.function == "dt-node-body" else "unlabelled")
+        walk = CycleWalk(way, self.node_kinds, self.allowed, self.ask, BRACE if self.function == "dt-node-body" else "unlabelled")
         return walk, *walk.emit(PROGRAMS[self.function][1])
 
     def turn(self):
@@ -144,26 +144,26 @@ class Answers:
         result = f"@{last} .result" if plain(last) in PARSERS else f"@{last} .result .p"
         less, kept = self.progress(*self.open), self.kept()
         falls = f"(ahead-falls ({ROWS}) (@loop .q .s) ({result} .s) ({less}))"
-        equation = f"again-part {self.room} {term} {falls} ∙ {LOOP}"
+        equation = f"again-part {self.allowed} {term} {falls} ∙ {LOOP}"
         return PROGRAMS[self.function][0], f"({less},\n({kept},\n({kept},\n({kept},\n{equation}))))"
 
     def refused(self):
         """No call may be opened: the rule is closed."""
-        equation = f"ap (said no) (@refuse .ensures .0 _ _ _) ∙ rule-closed ({ROOM}) {TOKENS} {self.rule} _ (eqb-true ({ROOM}) 0 (@if1 .taken))"
+        equation = f"ap (said no) (@refuse .ensures .0 _ _ _) ∙ rule-closed ({ALLOWED}) {TOKENS} {self.rule} _ (eqb-true ({ALLOWED}) 0 (@if1 .taken))"
         if self.function == "item":
             equation = on(equation)
         less = f"omega (arith, @refuse .ensures .1 ({ROWS}) (@@ .good .1 .0 .0))"
         if self.function in ENSURE_YES:
-            less = f"({less}, λ e. true-false (sym e))"
+            less = f"({less}, λ e. absurd (false≢true e))"
         return "", f"({equation},\n{less})"
 
     def returned(self):
         walk, term, answer = self.walked()
-        more = [*self.open, *self.found(), *self.told_left(walk)]
+        more = [*self.open, *self.found(), *self.answered_left(walk)]
         unfolds = PROGRAMS[self.function][0]
         if self.function == "dt-node-body":
             unfolds = "dt-node-body " + unfolds
-        equation = self.told(walk, answer) + self.equation(walk, term, answer)
+        equation = self.answered(walk, answer) + self.equation(walk, term, answer)
         return unfolds, f"({equation},\n{self.less(walk, answer, more)})"
 
     def less(self, walk, answer, more):
@@ -172,8 +172,8 @@ class Answers:
         if self.function not in ENSURE_YES:
             return always
         if answer == "no":
-            own = f" ∙ @{walk.returned_no} .left" if walk.returned_no else ""
-            return f"({always}, λ e. true-false (sym e{own}))"
+            no = f"(sym (@{walk.returned_no} .left) ∙ e)" if walk.returned_no else "e"
+            return f"({always}, λ e. absurd (false≢true {no}))"
         if answer is None and CALLS[plain(walk.last)] == "yes":
             return f"({always}, λ e. {self.progress(*more, f'@{walk.last} .ensures .1 .1 e')})"
         return f"({always}, λ e. {always})"
@@ -183,34 +183,34 @@ class Answers:
         if self.function != "eat-node-or-prop":
             return []
         given = [thing for thing, _, fields in self.way if thing.startswith("enum-") and "given" in fields]
-        return [f"ap found (@{given[0]} .given .1)" if given else f"found-other (@eat-node-or-prop-prefix .result .answer) ({self.tags()})"]
+        return [f"ap found (@{given[0]} .given .1)" if given else f"found-other (@eat-node-or-prop-prefix .result .ans) ({self.tags()})"]
 
-    def told_left(self, walk):
-        return [f"told-left ({ROWS}) (@{thing} .result) (@{walk.last} .result) (@{thing} .ensures .0)" for thing, _ in self.named("told")]
+    def answered_left(self, walk):
+        return [f"answered-left ({ROWS}) (@{thing} .result) (@{walk.last} .result) (@{thing} .ensures .0)" for thing, _ in self.named("answered")]
 
-    def told(self, walk, answer):
-        """Where a call's result is returned through `told`: that it is the same."""
-        for thing, _ in self.named("told"):
+    def answered(self, walk, answer):
+        """Where a call's result is returned through `answered`: that it is the same."""
+        for thing, _ in self.named("answered"):
             same = f"(@{thing} .result) (@{walk.last} .result) _ _ _ (@{thing} .ensures .0) (@{thing} .ensures .1)"
-            return f"told-yes {same} (@{walk.test[0]} .taken) ∙ " if answer == "yes" else f"told-is {same} ∙ "
+            return f"answered-yes {same} (@{walk.test[0]} .taken) ∙ " if answer == "yes" else f"answered-is {same} ∙ "
         return ""
 
     def equation(self, walk, term, answer):
         """That what is returned is the walk of the program."""
         if self.function in CLOSING:
-            return f"closes {self.room} {term} {walk.closes}"
+            return f"closes {self.allowed} {term} {walk.closes}"
         own = getattr(self, "of_" + self.function.replace("-", "_"), None)
-        return own(walk, term, answer) if own else f"way {self.room} {term}"
+        return own(walk, term, answer) if own else f"way {self.allowed} {term}"
 
     def last_turn(self, walk, term, answer):
         """The loop, by its last turn."""
-        ended = f"last-{answer} {self.room} {term}"
+        ended = f"last-{answer} {self.allowed} {term}"
         if walk.returned_yes:
             ended = f"as-yes (@{walk.returned_yes} .taken) ({ended})"
         return f"{ended} ∙ {LOOP}"
 
     def rule_body(self):
-        return f"rule-body ({ROOM}) {TOKENS} {self.rule} _ (omega (arith, {OPEN}))"
+        return f"rule-body ({ALLOWED}) {TOKENS} {self.rule} _ (omega (arith, {OPEN}))"
 
     def of_cells(self, walk, term, answer):
         return self.last_turn(walk, term, answer)
@@ -219,24 +219,24 @@ class Answers:
         return f"{self.last_turn(walk, term, answer)} ∙ {self.rule_body()}"
 
     def of_eat_cell(self, walk, term, answer):
-        return f"way {self.room} {term} ∙ cell-body-parts {self.room} {TOKENS} (@@ .args .at-end) _ ∙ {self.rule_body()}"
+        return f"way {self.allowed} {term} ∙ cell-body-is {self.allowed} {TOKENS} (@@ .args .until-end) _ ∙ {self.rule_body()}"
 
     def of_item(self, walk, term, answer):
-        return on(f"way {self.room} {term} ∙ {self.rule_body()}")
+        return on(f"way {self.allowed} {term} ∙ {self.rule_body()}")
 
     def of_dt_node_body(self, walk, term, answer):
         """The brace, the loop, and the end, which closes the marker."""
-        loop = f"(c-part {self.room} ({self.last_turn(walk, term, answer)}))"
+        loop = f"(c-part {self.allowed} ({self.last_turn(walk, term, answer)}))"
         body = f"(c-seq (c-act (@bump .ensures .0 {BRACE} _ _)) (c-seq {loop} c-any))"
-        return f"closes {self.room} (c-brace (@range .ensures _ _ _ _) {body}) (closing (@node-end .ensures .0 {self.ask}))"
+        return f"closes {self.allowed} (c-brace (@range .ensures _ _ _ _) {body}) (closing (@node-end .ensures .0 {self.ask}))"
 
-    def of_arm(self, walk, term, answer):
+    def of_branch(self, walk, term, answer):
         """A marker around the loop."""
         step = "c-yes {t = true}" if answer == "yes" else "c-no {t = false}"
-        loop = f"(c-part {self.room} ({self.last_turn(walk, term, answer)}))"
-        return f"way {self.room} (c-mark (@new .ensures) (@start .ensures .0 _ _) ({step} {loop} refl c-ret) {walk.completed('PreprocessorBranch')})"
+        loop = f"(c-part {self.allowed} ({self.last_turn(walk, term, answer)}))"
+        return f"way {self.allowed} (c-mark (@new .ensures) (@start .ensures .0 _ _) ({step} {loop} refl c-ret) {walk.completed('PreprocessorBranch')})"
 
     def of_cond_branches_and_end(self, walk, term, answer):
         """The loop, and the directive that ends the conditional."""
-        loop = f"(c-part {self.room} ({self.last_turn(walk, term, answer)}))"
-        return f"part-on {self.room} (c-seq {loop} {walk.leaf('expect', None)})"
+        loop = f"(c-part {self.allowed} ({self.last_turn(walk, term, answer)}))"
+        return f"part-on {self.allowed} (c-seq {loop} {walk.leaf('expect', None)})"

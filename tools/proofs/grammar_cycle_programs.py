@@ -1,11 +1,8 @@
 # The programs of the functions in the cycle of calls of crate `grammar`, as trees (see program_ways.py), and the way through one as a term of
-# the steps of machine/proofs/Way.antt, parts/proofs/Steps.antt and grammar/proofs/Ways.antt. Read by grammar_cycle_answers.py.
+# the steps of machine/proofs/Way.antt, steps/proofs/Steps.antt and grammar/proofs/Ways.antt. Read by grammar_cycle_answers.py.
 import re
 
 from program_ways import AGAIN, NO, SAME_NO, SAME_YES, YES, Walk, both, call, close, either, ignore, mark, negated, ret, seq, when
-
-# Functions whose own names end in a number.
-NUMBERED = ("cell2", "item2", "value2")
 
 # Functions outside that are told the interpreter and the label, and how many buffers more.
 TELLS = {
@@ -17,8 +14,8 @@ TELLS = {
 # The step that cites a contract over a rule, over a program, and over a program that closes the marker handed to it.
 STEPS = {
     **dict.fromkeys("eat-cell propvalues".split(), "c-call"),
-    **dict.fromkeys("dt-expr cells cell2 value bits value2 item2 eat-node-or-prop eat-inside arm eat-preprocessor-directive".split(), "c-fn"),
-    **dict.fromkeys("dt-cell-list dt-property dt-node-body rest".split(), "c-same"),
+    **dict.fromkeys("dt-expr cells cell-rest value bits value-rest item-rest eat-node-or-prop eat-inside branch eat-pp-directive".split(), "c-fn"),
+    **dict.fromkeys("dt-cell-list dt-property dt-node-body node".split(), "c-same"),
 }
 
 # Contracts that tell no answer are cited together with what follows the call.
@@ -52,7 +49,7 @@ def answered(name):
 
 BUMP, ERROR, AT, AT_END, SILENT_AT, SILENT_AT_SET = map(call, "bump error at at-end silent-at silent-at-set".split())
 ADD_EXPECTED, EXPECT, EXPECT_RECOVERABLE, SILENT_EAT = map(call, "add-expected expect expect-recoverable silent-eat".split())
-DIRECTIVE, INCLUDE = call("eat-preprocessor-directive"), call("eat-dts-include")
+DIRECTIVE, INCLUDE = call("eat-pp-directive"), call("eat-dts-include")
 PARSE_ERROR = close("ParseError")
 
 # Of each function what is unfolded, and the program. Of a loop: one turn.
@@ -64,8 +61,8 @@ PROGRAMS = {
         when(call("at-cells-recovery"), seq(ERROR, NO), seq(ERROR, AGAIN))))),
     "eat-cell": ("grammar",
         when(call("eat-plain-cell"), SAME_YES,
-        when(SILENT_AT, seq(call("dt-expr"), YES), call("cell2")))),
-    "cell2": ("silent",
+        when(SILENT_AT, seq(call("dt-expr"), YES), call("cell-rest")))),
+    "cell-rest": ("silent",
         when(either(INCLUDE, DIRECTIVE), SAME_YES,
         when(both(SILENT_AT_SET, negated(AT)), seq(ERROR, YES), LAST_NO))),
     "dt-cell-list": ("dt-cell-list",
@@ -78,11 +75,11 @@ PROGRAMS = {
         seq(ADD_EXPECTED,
         when(SILENT_AT, call("bits"),
         when(SILENT_EAT, YES,
-        when(SILENT_AT, mark(call("dt-cell-list")), call("value2")))))),
+        when(SILENT_AT, mark(call("dt-cell-list")), call("value-rest")))))),
     "bits": ("bits-value",
         mark(seq(mark(seq(seq(BUMP, EXPECT), close("DtsDirective"))),
         when(AT, call("dt-cell-list"), seq(ERROR, PARSE_ERROR))))),
-    "value2": ("silent",
+    "value-rest": ("silent",
         when(call("silent-eat-reference"), YES,
         when(SILENT_AT, seq(call("macro-invocation"), YES),
         when(either(SILENT_EAT, either(INCLUDE, DIRECTIVE)), YES, seq(ERROR, ret("also")))))),
@@ -97,30 +94,30 @@ PROGRAMS = {
     "item": ("grammar item-body silent",
         when(call("eat-node-or-prop"), YES,
         when(SILENT_AT, mark(seq(seq(ERROR, mark(call("dt-property"))), PARSE_ERROR)),
-        when(SILENT_AT, mark(seq(seq(ERROR, mark(call("dt-node-body"))), PARSE_ERROR)), call("item2"))))),
-    "item2": ("silent",
+        when(SILENT_AT, mark(seq(seq(ERROR, mark(call("dt-node-body"))), PARSE_ERROR)), call("item-rest"))))),
+    "item-rest": ("silent",
         when(SILENT_AT, ERROR,
         when(either(call("eat-dts-directive"), DIRECTIVE), YES, ERROR))),
     "eat-node-or-prop": ("eat-node-or-prop",
         mark(match(call("eat-node-or-prop-prefix"), {
             "No": ignore("no"),
-            "Also": when(AT, call("dt-property"), call("rest")),
-            "_": call("rest"),
+            "Also": when(AT, call("dt-property"), call("node")),
+            "_": call("node"),
         }))),
-    "rest": ("no-property silent",
+    "node": ("no-property silent",
         when(AT, call("dt-node-body"),
         when(SILENT_AT, seq(ERROR, PARSE_ERROR),
         when(call("forbidden-property"), seq(ERROR, mark(call("dt-property")), PARSE_ERROR), call("unfinished"))))),
     # conditionals
     "eat-inside": ("eat-inside",
         inside({"Item": seq(call("item"), YES), "Values": seq(call("propvalues"), YES), "Cell": call("eat-cell")})),
-    "arm": ("branch branch-turn silent",
+    "branch": ("branch branch-turn silent",
         when(either(AT, AT_END), NO,
         when(SILENT_AT_SET, YES,
         when(call("eat-inside"), AGAIN, NO)))),
     "cond-branches-and-end": ("cond-branches-and-end cond-branches-turn",
-        when(call("arm"), seq(BUMP, AGAIN), YES)),
-    "eat-preprocessor-directive": ("eat-preprocessor-directive silent",
+        when(call("branch"), seq(BUMP, AGAIN), YES)),
+    "eat-pp-directive": ("eat-preprocessor-directive silent",
         seq(ADD_EXPECTED,
         when(negated(SILENT_AT_SET), SAME_NO,
         when(SILENT_AT_SET,
@@ -131,21 +128,20 @@ PROGRAMS = {
 
 def plain(thing):
     """A call's name without the number that tells it from others of the same function."""
-    own = next((name for name in NUMBERED if thing.startswith(name)), "")
-    return own + re.sub(r"\d+$", "", thing[len(own):])
+    return re.sub(r"\d+$", "", thing)
 
 
 class CycleWalk(Walk):
-    """One way of a function in the cycle. room: how many calls may still be opened."""
+    """One way of a function in the cycle. allowed: how many calls may still be opened."""
 
     # the parser keeps the codes: they are no buffer that a contract is told
     marker = " _ _"
     acts = {"at-end": 3, "silent-at": 3, "silent-at-set": 3, "bump": 2}
     walks = {"at": 3, "silent-eat": 2, "eat": 2, "expect": 0, "expect-recoverable": 0, "error": 0}
 
-    def __init__(self, way, node_kinds, room, ask, span):
+    def __init__(self, way, node_kinds, allowed, ask, span):
         super().__init__(way, node_kinds, TELLS, {"unfinished"})
-        self.room, self.ask, self.span = room, ask, span
+        self.allowed, self.ask, self.span = allowed, ask, span
         # the test whose own result is returned: where it held, and where it failed
         self.returned_yes = self.returned_no = None
 
@@ -163,8 +159,8 @@ class CycleWalk(Walk):
         ensured = f"(@{self.last} .ensures .0)"
         if STEPS[name] == "c-same":
             self.closes = f"(closing {ensured})"
-            return f"(c-same {self.room})"
-        return f"({STEPS[name]} {self.room} {ensured})"
+            return f"(c-same {self.allowed})"
+        return f"({STEPS[name]} {self.allowed} {ensured})"
 
     def of_seq(self, first, rest):
         """Where such a call ends the first part, c-assoc moves it to the front of the rest."""
@@ -174,7 +170,7 @@ class CycleWalk(Walk):
         if first[0] == "call" and first[1] in STEPS_ON:
             thing, _ = self.next(first[1])
             term, answer = self.emit(rest)
-            return f"({STEPS_ON[first[1]]} {self.room} (@{thing} .ensures .0) {term})", answer
+            return f"({STEPS_ON[first[1]]} {self.allowed} (@{thing} .ensures .0) {term})", answer
         return super().of_seq(first, rest)
 
     def of_same(self, answer):
@@ -204,19 +200,19 @@ class CycleWalk(Walk):
     def of_match(self, test, arms):
         """An arm that names its variant has the equation, the arm for the rest has its tags."""
         term, _ = self.emit(test)
-        result = f"(@{self.last} .result .answer)"
+        result = f"(@{self.last} .result .ans)"
         arm, tags, given = self.arm(list(arms))
         rest, answer = self.emit(arms[arm])
         if arm == "_":
             return f"(c-said-other {result} {term} {tags} {rest})", answer
-        return f"(c-said-{arm.lower()} {result} {term} (ap answer-of (@{given} .given .1)) {rest})", answer
+        return f"(c-said-{arm.lower()} {result} {term} (ap ans-of (@{given} .given .1)) {rest})", answer
 
     def of_answered(self, name):
         term = self.leaf(name, None)
         arm, tags, given = self.arm(["again", "yes", "no"])
-        known = f"(ap answer-of (@{given} .given .1))"
+        known = f"(ap ans-of (@{given} .given .1))"
         if arm == "no":
-            known = f"(other-no (@{self.last} .result .answer) (@{self.last} .ensures .1 .1) {tags})"
+            known = f"(other-no (@{self.last} .result .ans) (@{self.last} .ensures .1 .1) {tags})"
         return f"(c-answered {known} {term})", arm
 
     def of_inside(self, arms):

@@ -3,7 +3,7 @@
 #   rt dev grammar --generated target/generated/grammar; python3 tools/proofs/grammar_cycle_proofs.py target/generated/grammar; rt fmt
 # The first command writes what the check generates for each function; it may fail, and writes all the same. Where the cycle has no proof
 # file yet, give it one with a hole first, or the check searches for each need. The folder of the proof has the cycle's name, which is the
-# names of all its functions: it is read off the generated folder. Functions outside the cycle: grammar_outside_proofs.py.
+# names of all its functions: it is read off the generated folder. Functions outside the cycle: grammar_entry_proofs.py.
 import os
 import re
 import sys
@@ -15,18 +15,18 @@ from program_ways import name_places, node_kinds
 
 # Each call within the cycle is made with fewer tokens left, or with as many and to a lower rank. All ranks are below 16.
 RANK = {
-    "eat-preprocessor-directive": 0, "cell2": 1, "value2": 1, "item2": 1, "dt-node-body": 1, "eat-cell": 2, "cells": 3, "dt-cell-list": 4,
-    "bits": 5, "value": 6, "propvalues": 7, "dt-property": 8, "rest": 9, "eat-node-or-prop": 10, "item": 11, "eat-inside": 12, "arm": 13,
+    "eat-pp-directive": 0, "cell-rest": 1, "value-rest": 1, "item-rest": 1, "dt-node-body": 1, "eat-cell": 2, "cells": 3, "dt-cell-list": 4,
+    "bits": 5, "value": 6, "propvalues": 7, "dt-property": 8, "node": 9, "eat-node-or-prop": 10, "item": 11, "eat-inside": 12, "branch": 13,
     "cond-branches-and-end": 14,
 }
 
 # Of a function with a loop: what its invariant is told between the entry's buffers and those of the turn, and the loop's program.
 LOOPS = {
-    "cells": ("room at-end q₀", "cells at-end"),
-    "propvalues": ("room semicolon other q₀", "propvalues-body semicolon"),
-    "dt-node-body": ("room m lcurly q₀", "loop node-body-turn"),
-    "arm": ("room inside m q₀ set", "loop (branch-turn (inside-of inside))"),
-    "cond-branches-and-end": ("room inside q₀", "loop (cond-branches-turn (inside-of inside))"),
+    "cells": ("allowed until-end q₀", "cells until-end"),
+    "propvalues": ("allowed semicolon other q₀", "propvalues-body semicolon"),
+    "dt-node-body": ("allowed m lcurly q₀", "loop node-body-turn"),
+    "branch": ("allowed inside m q₀ set", "loop (branch-turn (inside-of inside))"),
+    "cond-branches-and-end": ("allowed inside q₀", "loop (cond-branches-turn (inside-of inside))"),
 }
 
 # The functions outside that are called in the cycle, by the module that their readings stand in.
@@ -34,34 +34,38 @@ CALLED = {
     "Rattle.parser.proofs.Parser": "add_expected at at_end bump complete eat error expect expect_recoverable ignore refuse silent_at silent_at_set silent_eat start",
     "Rattle.parser.proofs.marker.Marker": "new",
     "Rattle.parser.proofs.State": "range",
-    "Rattle.parts.proofs": "after_propvalue at_cells_end at_cells_recovery at_item eat_dts_directive eat_dts_include eat_node_or_prop_prefix eat_plain_cell unfinished",
-    "Rattle.names.proofs": "macro_invocation silent_eat_reference",
+    "Rattle.macros.proofs": "macro_invocation",
+    "Rattle.names.proofs": "silent_eat_reference",
     "Rattle.expr.proofs": "dt_expr",
-    "Rattle.outside.proofs": "told forbidden_property node_end",
+    "Rattle.ends.proofs": "after_propvalue at_cells_end at_cells_recovery at_item unfinished",
+    "Rattle.ends.proofs.nodes": "answered forbidden_property node_end",
+    "Rattle.directives.proofs": "eat_dts_directive eat_dts_include",
+    "Rattle.prefixes.proofs": "eat_node_or_prop_prefix",
+    "Rattle.plain_cells.proofs": "eat_plain_cell",
 }
 
 # Where a name comes from.
 MODULES = {
     "Prim.Native.Nat": "_-_ _≤_",
     "mathlib.Core.Path": "_≡_ refl sym ap _∙_",
-    "mathlib.Core.Bool": "true false",
+    "mathlib.Core.Bool": "true false false≢true",
     "lib.ListN": "length",
     "native.Mathlib.Omega": "arith",
     "borrow.Author.Needs": "needs",
     "borrow.Author.Tests": "eqb-true eqb-false",
-    "Rattle.definitions.specs.Token": "tokens",
+    "Rattle.definitions.specs.Token": "tokens-of",
     "Rattle.definitions.specs.Prog": "no item propvalues eat-cell loop",
     "Rattle.definitions.specs.Check": "silent",
     "Rattle.definitions.specs.Grammar": "eat-inside branch-turn branch cond-branches-turn cond-branches-and-end eat-preprocessor-directive cells-turn cells dt-cell-list bits-value propvalue propvalues-turn propvalues-body dt-property node-body-turn dt-node-body no-property eat-node-or-prop item-body grammar",
     "Rattle.machine.specs.Walk": "Walked said walk-rule walk-prog unlabelled",
-    "Rattle.parser.specs.View": "left view-of answer-of span-of",
-    "Rattle.grammar.specs.Parts": "inside-of",
+    "Rattle.parser.specs.View": "left view-of ans-of span-of",
+    "Rattle.grammar.specs.Subprograms": "inside-of",
     "Rattle.machine.proofs.Way": "c-walk c-act c-ret c-seq c-yes c-no c-told c-mark completed c-call c-fn way rule-closed rule-body",
-    "Rattle.names.proofs.Kit": "ahead-falls",
-    "Rattle.parts.proofs.Steps": "true-false c-brace c-said-no c-said-also c-ret-yes c-ret-no c-any closing ignored told-is told-yes",
-    "Rattle.grammar.proofs.Laws": "cell-body-parts",
-    "Rattle.parts.specs.View": "found",
-    "Rattle.grammar.proofs.Ways": "c-same c-part c-call-on c-part-on closes part-on again-part last-yes last-no as-yes c-said-other other-no c-answered c-inside c-assoc told-left found-other",
+    "Rattle.steps.specs.View": "found",
+    "Rattle.steps.proofs.Left": "ahead-falls",
+    "Rattle.steps.proofs.Steps": "c-brace c-said-no c-said-also c-ret-yes c-ret-no c-any closing ignored answered-is answered-yes",
+    "Rattle.grammar.proofs.Laws": "cell-body-is",
+    "Rattle.grammar.proofs.Ways": "c-same c-part c-call-on c-part-on closes part-on again-part last-yes last-no as-yes c-said-other other-no c-answered c-inside c-assoc answered-left found-other",
 }
 
 PROOFS = "Rattle.grammar.proofs"
@@ -162,21 +166,21 @@ class Cycle:
 
     def invariant(self, name):
         told, program = LOOPS[name]
-        arguments = f"t ev₀ rep₀ pool₀ {told} ev rep pool q"
-        room = "(room - 1)" if name in RULES else "room"
+        arguments = f"tokens events₀ reports₀ pool₀ {told} events reports pool q"
+        allowed = "(allowed - 1)" if name in RULES else "allowed"
         label = "(span-of lcurly)" if name == "dt-node-body" else "unlabelled"
-        walk = f"walk-prog {room} (tokens t) {label} ({program})"
+        walk = f"walk-prog {allowed} (tokens-of tokens) {label} ({program})"
         return [
             "-- the loop from here is the loop from the start",
             "abbrev pub Inv-loop : lts.InvT-loop",
             f"Inv-loop {arguments} =",
-            "    (left t (q .s) ≤ left t (q₀ .s))",
-            "    × ((length ev ≡ length ev₀)",
-            "    × ((length rep ≡ length rep₀)",
-            f"    × ((length pool ≡ length pool₀) × ({walk} (view-of q ev rep pool) ≡ {walk} (view-of q₀ ev₀ rep₀ pool₀)))))",
+            "    (left tokens (q .s) ≤ left tokens (q₀ .s))",
+            "    × ((length events ≡ length events₀)",
+            "    × ((length reports ≡ length reports₀)",
+            f"    × ((length pool ≡ length pool₀) × ({walk} (view-of q events reports pool) ≡ {walk} (view-of q₀ events₀ reports₀ pool₀)))))",
             "",
             "abbrev pub μ-loop : lts.MeasureT-loop",
-            f"μ-loop {arguments} = left t (q .s)",
+            f"μ-loop {arguments} = left tokens (q .s)",
             "",
         ]
 

@@ -1,6 +1,7 @@
 # Writes the proofs of the crate `names`. Run in the repository:
-#   rt dev names --generated target/generated/names; python3 tools/proofs/names_proofs.py target/generated/names; rt fmt
+#   rt dev names --generated target/generated/names; python3 tools/proofs/names_proofs.py target/generated/names
 # The first command writes what the check generates for each function; it may fail, and writes all the same.
+# macros_proofs.py does the same for the crate `macros`.
 import os
 import re
 import sys
@@ -18,20 +19,21 @@ CALLS = {
 }
 
 # Calls that lend no buffer to write.
-LOOKS = "new peek silent silent-at silent-at-set silent-at-macro-invocation-with-args at at-immediate at-end at-segment add-expected push-expected kind-at part-of".split()
+LOOKS = "new peek silent silent-at silent-at-set silent-at-macro-invocation-with-args at at-immediate at-end at-segment add-expected push-expected kind-at role-of".split()
 
-# Where a name comes from.
+# Where a name comes from, for all crates.
 MODULES = {
     "Prim.Native.Nat": "ℕ _+_ _-_ _/_ _≤_ _<_",
     "mathlib.Core.Path": "_≡_ refl sym ap _∙_",
-    "mathlib.Core.Bool": "true false",
+    "mathlib.Core.Bool": "true false false≢true",
     "mathlib.Core.List": "List",
     "native.Mathlib.Omega": "arith",
     "native.Mathlib.Nat": "le-refl",
     "lib.Dec": "lit<",
     "lib.ListN": "length drop",
     "borrow.Author.Tests": "eqb-true eqb-false",
-    "Rattle.definitions.specs.Token": "tokens",
+    "Rattle.basics.proofs.Flags": "flags",
+    "Rattle.definitions.specs.Token": "tokens-of",
     "Rattle.definitions.specs.Skeleton": "Span",
     "Rattle.definitions.specs.Prog": "Rule again yes loop",
     "Rattle.definitions.specs.Run": "truth",
@@ -40,23 +42,30 @@ MODULES = {
     "Rattle.machine.specs.Machine": "Machine",
     "Rattle.machine.specs.Walk": "Walked walk unlabelled",
     "Rattle.machine.proofs.Turns": "argue few-rows",
+    "Rattle.machine.proofs.Way": "c-walk c-act c-ret c-seq",
     "Rattle.parser.specs.View": "view left",
-    "Rattle.names.specs.Parts": "part",
-    "Rattle.names.proofs.Ways": "whole ends opened does acts lands calls tells seq shown if-no if-yes completes ignores turns stops-yes stops-no",
-    "Rattle.names.proofs.Opened": "silent-eat-is eat-is expect-is macro-argument-turn-is argument-list-is macro-invocation-is name-matches-is name-expected-is name-consume-is name-at-is address-matches-is address-expected-is address-consume-is reference-matches-is reference-expected-is reference-consume-is path-segment-is at-segment-is path-turn-is path-rest-is path-is reference-noamp-is",
-    "Rattle.names.proofs.Kit": "flags false-true ahead-falls some-left few-left",
-    "Rattle.names.proofs.Arguments": "part-opens part-ends part-comma part-closes part-plain part-less part-inner argue-comma argue-end argue-on argue-whole comma-some inside-some inside-most",
+    "Rattle.steps.proofs.Ways": "whole ends opened lands shown if-no if-yes completes turns stops-yes stops-no",
+    "Rattle.steps.proofs.Left": "ahead-falls",
+}
+
+# Where a name comes from, in `names` alone.
+NAMES_MODULES = {
+    "Rattle.names.proofs.Opened": "silent-eat-is eat-is expect-is name-matches-is name-expected-is name-consume-is name-at-is address-matches-is address-expected-is address-consume-is reference-matches-is reference-expected-is reference-consume-is path-segment-is at-segment-is path-turn-is path-rest-is path-is reference-noamp-is",
 }
 
 
-class Names(Crate):
+class Ways(Crate):
+    def __init__(self, name, generated, modules):
+        super().__init__(name, generated, os.path.join("crates", name), CALLS, LOOKS)
+        self.modules = {**MODULES, **modules}
+
     def write(self, fn, text):
         """Puts the use lines below the heading."""
         head, rest = text.split("\n", 1)
         body = re.sub(r"^use .*$", "", rest, flags=re.M)
         words = set(re.findall(r"(?<![\w.-])[^\s(){},.]+", body))
         uses = []
-        for module, names in MODULES.items():
+        for module, names in self.modules.items():
             found = [n for n in names.split() if n in words or (n.startswith("_") and n.strip("_") in words)]
             if found:
                 uses.append(f"use {module}.{{{', '.join(found)}}}")
@@ -69,11 +78,11 @@ def answered(test, way):
 
 
 def act(call, more="_ _ _"):
-    return f"(acts (@{call} .ensures .0 b {more}))"
+    return f"(c-act (@{call} .ensures .0 b {more}))"
 
 
 def does(call, more=""):
-    return f"(does (@{call} .ensures .0 ask b {more}))"
+    return f"(c-walk (@{call} .ensures .0 ask b {more}))"
 
 
 def lands(call, more=""):
@@ -103,11 +112,11 @@ def said_yes(way, given="ask b"):
 
 
 def said_no(way, given="ask b"):
-    return f"(λ {given}. whole {way}, (omega (flags, PROGRESS), λ h. false-true h))"
+    return f"(λ {given}. whole {way}, (omega (flags, PROGRESS), λ h. absurd (false≢true h)))"
 
 
 def then(*ways):
-    return ways[0] if len(ways) == 1 else f"(seq {ways[0]} {then(*ways[1:])})"
+    return ways[0] if len(ways) == 1 else f"(c-seq {ways[0]} {then(*ways[1:])})"
 
 
 def opened(name, way):
@@ -116,81 +125,29 @@ def opened(name, way):
 
 def node(inside, end="complete"):
     """A marker around, started by `start` and completed."""
-    return f"(completes (lit< tt) (@new .ensures) (@start .ensures .0 _ _ _) {then(inside, 'tells')} (@{end} .ensures .0 _ _ _))"
+    return f"(completes (lit< tt) (@new .ensures) (@start .ensures .0 _ _ _) {then(inside, 'c-ret')} (@{end} .ensures .0 _ _ _))"
 
 
 def main(generated):
-    c = Names("names", generated, os.path.join("crates", "names"), CALLS, LOOKS)
-    k, level, t = "(@@ .args .k)", "(@@ .args .level)", "(@@ .args .t .now)"
-    ts = f"(tokens {t})"
-
-    # ---- macros.rt
-    c.proof("macros/outer_part", {
-        "returns": f"λ h i. part-comma {k} (@if1 .taken)",
-        "returns-2": f"λ h i. part-closes {k} (@if2 .taken)",
-        "returns-3": f"λ h i. part-plain {k} h i (@if2 .left) (@if1 .left)",
-    }, "`outer_part`: a comma, an RParen, or any other token.")
-    c.proof("macros/part_of", {
-        "returns": f"part-ends {k} {level} (@if1 .taken)",
-        "add-t8": "omega flags",
-        "returns-2": f"part-opens {k} {level} (@if2 .taken)",
-        "returns-3": f"@outer-part .ensures (@if1 .left) (@if2 .left) ∙ ap (part {k}) (sym (eqb-true {level} 0 (@if3 .taken)))",
-        "sub-t9": f"omega (flags, eqb-false {level} 0 (@if3 .left))",
-        "returns-4": f"part-less {k} {level} (@if3 .left) (@if4 .taken)",
-        "returns-5": f"part-inner {k} {level} (@if3 .left) (@if1 .left) (@if2 .left) (@if4 .left)",
-    }, "`part_of`: the end, an LParen, and outside or inside inner brackets the rest.")
-
-    few = f"(few-rows {t} (omega arith))"
-    here = f"{ts} (@loop .level) (view (@loop .q) codes (@loop .ev) rep pool) (view (@peek .result) codes (@loop .ev) rep pool) {few} (@peek .ensures .0 codes (@loop .ev) rep pool) (@part-of .result) (@part-of .ensures ∙ ap (λ k. part k (@loop .level)) (@kind-at .ensures .0))"
-    start = f"@loop .inv .0 codes rep pool ∙ argue-whole {ts} b (view (@@ .args .s) codes (@@ .args .ev .now) rep pool)"
-    kind = "(@kind-at .result) (@loop .level)"
-    inside = f"some-left {t} (@peek .result) (@kind-at .ensures .1 (inside-some {kind} (@here-is .given .0 .0) (@part-of .result) (@part-of .ensures) (@here-is .given .1)))"
-    c.proof("macros/bump_argument", {
-        "loop-holds": "(λ codes rep pool. refl, (le-refl _, refl))",
-        "part-of-requires": f"omega (flags, @loop .inv .1 .0, few-left {t} (@@ .args .s) (omega arith))",
-        "returns": f"(λ b codes rep pool. argue-comma {here} (@enum-told .given .1) ∙ {start}, (omega (flags, @peek .ensures .1, @loop .inv .1 .0), λ h. some-left {t} (@peek .result) (@kind-at .ensures .1 (comma-some {kind} (@part-of .result) (@part-of .ensures) (@enum-told .given .1)))))",
-        "returns-2": f"(λ b codes rep pool. argue-end {here} (@enum-told2 .given .1) ∙ {start}, (omega (flags, @peek .ensures .1, @loop .inv .1 .0), λ h. false-true h))",
-        "loop-less": f"omega (flags, {inside}, @peek .ensures .1, @bump .ensures .1)",
-        "loop-again": f"(λ codes rep pool. argue-on {here} unlabelled (@here-is .given .0 .0) (view (@bump .result) codes _ rep pool) (@here-is .given .1) (@bump .ensures .0 unlabelled codes rep pool) ∙ @loop .inv .0 codes rep pool, (omega (flags, {inside}, inside-most {kind} (@here-is .given .0 .0) (@part-of .result) (@part-of .ensures) (@here-is .given .1), @peek .ensures .1, @bump .ensures .1, @loop .inv .1 .0), omega (arith, @bump .kept, @loop .inv .1 .1)))",
-    }, "`bump_argument`: the rest of the argument from here is the argument from its start.",
-        inv=("t ev₀ q₀ level₀ ev q level",
-             "((codes rep pool : List ℕ) → argue (tokens t) level (view q codes ev rep pool) ≡ argue (tokens t) level₀ (view q₀ codes ev₀ rep pool)) × ((level + left t q ≤ level₀ + left t q₀) × (length ev ≡ length ev₀))"),
-        measure="left t q")
-
-    argument = lambda test, way: f"(completes (lit< tt) (@new .ensures) (@start .ensures .0 _ _ _) (if-{way[0]} (acts (@bump-argument .ensures .0 b _ _ _)) {answered(test, way[1])} tells) (@complete .ensures .0 _ _ _))"
-    c.proof("macros/arguments", {
-        "loop-holds": "(λ ask b codes rep pool. refl, (le-refl _, refl))",
-        "loop-less": "omega (flags, PROGRESS)",
-        "loop-again": f"(λ ask b codes rep pool. turns (opened macro-argument-turn-is (if-yes {argument('if1', ('yes', 'taken'))} refl (seq (acts (@bump .ensures .0 b codes rep pool)) tells))) (ahead-falls {t} (@loop .q) (@bump .result) (omega (flags, PROGRESS))) ∙ @loop .inv .0 ask b codes rep pool, (omega (flags, PROGRESS), omega (arith, KEPT)))",
-        "returns": f"(λ ask b codes rep pool. stops-yes (opened macro-argument-turn-is (if-no {argument('if1', ('no', 'left'))} refl tells)) ∙ @loop .inv .0 ask b codes rep pool, omega (flags, PROGRESS))",
-    }, "`arguments`: the loop of `macro-argument-turn`.", tests={"bump-argument": "if1"},
-        inv=("t ev₀ q₀ ev q",
-             "((ask : Rule → Machine → Walked) (b : Span) (codes rep pool : List ℕ) → walk ask (tokens t) b (loop macro-argument-turn) (view q codes ev rep pool) ≡ walk ask (tokens t) b (loop macro-argument-turn) (view q₀ codes ev₀ rep pool)) × ((left t q ≤ left t q₀) × (length ev ≡ length ev₀))"),
-        measure="left t q")
-    c.proof("macros/argument_list", {
-        "returns": on(opened("argument-list-is", then(act("bump"), no_not("if1", does("at", "_ _ _"), "tells"), does("expect")))),
-        "returns-2": on(opened("argument-list-is", then(act("bump"), yes_not("if1", does("at", "_ _ _"), does("arguments", "_ _ _")), does("expect2")))),
-    }, "`argument_list`: the LParen, the arguments if there are any, the RParen.")
-    c.proof("macros/macro_invocation", {
-        "returns": said(opened("macro-invocation-is", node(then(act("bump"), yes("if1", does("at-immediate", "_ _ _"), lands("argument-list")))))),
-        "returns-2": said(opened("macro-invocation-is", node(then(act("bump"), no("if1", does("at-immediate", "_ _ _"), "tells")), "complete2"))),
-    }, "`macro_invocation`: the Ident, and a list if an LParen is right after it.")
+    c = Ways("names", generated, NAMES_MODULES)
+    t = "(@@ .args .tokens .now)"
+    ts = f"(tokens-of {t})"
 
     # ---- macro_substitutable_name.rt
     c.proof("macro_substitutable_name/at", {
-        "returns": "(λ ask b ev rep pool. whole (opened name-at-is (does (@at .ensures .0 ask b ev rep pool))), @at .ensures .1)",
+        "returns": "(λ ask b events reports pool. whole (opened name-at-is (c-walk (@at .ensures .0 ask b events reports pool))), @at .ensures .1)",
     }, "`at`: the test of a plain name.")
     c.proof("macro_substitutable_name/consume", {
         "returns": said(opened("name-consume-is", yes("if1", does("silent-at-macro-invocation-with-args", "_ _ _ _"), does("macro-invocation")))),
         "returns-2": said(opened("name-consume-is", no("if1", does("silent-at-macro-invocation-with-args", "_ _ _ _"), act("bump-name")))),
     }, "`consume`: a macro invocation with arguments, or a name.")
     c.proof("macro_substitutable_name/eat", {
-        "returns": said_yes(opened("(eat-is MacroSubstitutableName)", yes("if1", opened("name-matches-is", act("silent", "_ _ _ _")), then(does("consume"), "tells")))),
-        "returns-2": said_no(opened("(eat-is MacroSubstitutableName)", no("if1", opened("name-matches-is", act("silent", "_ _ _ _")), then(opened("name-expected-is", f"(does (@push-expected .ensures .0 ask {ts} b _ _ _))"), "tells")))),
+        "returns": said_yes(opened("(eat-is MacroSubstitutableName)", yes("if1", opened("name-matches-is", act("silent", "_ _ _ _")), then(does("consume"), "c-ret")))),
+        "returns-2": said_no(opened("(eat-is MacroSubstitutableName)", no("if1", opened("name-matches-is", act("silent", "_ _ _ _")), then(opened("name-expected-is", f"(c-walk (@push-expected .ensures .0 ask {ts} b _ _ _))"), "c-ret")))),
     }, "`eat`: the test, and the name, or else its expectation.")
     c.proof("macro_substitutable_name/expect", {
-        "returns": on(opened("(expect-is MacroSubstitutableName)", yes("if1", does("eat"), "tells"))),
-        "returns-2": on(opened("(expect-is MacroSubstitutableName)", no("if1", does("eat"), then(does("error"), "tells")))),
+        "returns": on(opened("(expect-is MacroSubstitutableName)", yes("if1", does("eat"), "c-ret"))),
+        "returns-2": on(opened("(expect-is MacroSubstitutableName)", no("if1", does("eat"), then(does("error"), "c-ret")))),
     }, "`expect`: what `eat` takes, or a report.")
 
     # ---- unit_address.rt
@@ -200,12 +157,12 @@ def main(generated):
     for matcher, module, file in (("UnitAddress", "address", "unit_address"), ("Reference", "reference", "reference")):
         test = opened(f"{module}-matches-is", act("silent-at", "_ _ _ _"))
         c.proof(f"{file}/eat", {
-            "returns": said_yes(opened(f"(eat-is {matcher})", yes("if1", test, then(does("consume"), "tells")))),
-            "returns-2": said_no(opened(f"(eat-is {matcher})", no("if1", test, then(opened(f"{module}-expected-is", f"(acts (@add-expected .ensures .0 {ts} b _ _ _))"), "tells")))),
+            "returns": said_yes(opened(f"(eat-is {matcher})", yes("if1", test, then(does("consume"), "c-ret")))),
+            "returns-2": said_no(opened(f"(eat-is {matcher})", no("if1", test, then(opened(f"{module}-expected-is", f"(c-act (@add-expected .ensures .0 {ts} b _ _ _))"), "c-ret")))),
         }, "`eat`: the test, and what it begins, or else its expectation.")
     c.proof("reference/silent_eat", {
-        "returns": said_yes(opened("(silent-eat-is Reference)", yes("if1", test, then(does("consume"), "tells")))),
-        "returns-2": f"(λ ask b. whole (shown (@if1 .left) (opened (silent-eat-is Reference) (if-no {test} {answered('if1', 'left')} tells))), (omega (flags, PROGRESS), λ h. false-true (sym (@if1 .left) ∙ h)))",
+        "returns": said_yes(opened("(silent-eat-is Reference)", yes("if1", test, then(does("consume"), "c-ret")))),
+        "returns-2": f"(λ ask b. whole (shown (@if1 .left) (opened (silent-eat-is Reference) (if-no {test} {answered('if1', 'left')} c-ret))), (omega (flags, PROGRESS), λ h. absurd (false≢true (sym (@if1 .left) ∙ h))))",
     }, "`silent_eat`: the test, and the reference.")
 
     # ---- reference.rt
@@ -216,35 +173,35 @@ def main(generated):
     at, end, branch, endif = does("at", "_ _ _"), act("at-end", "_ _ _ _"), act("silent-at-set", "_ _ _ _"), act("silent-at", "_ _ _ _")
     steps = lambda *ws: opened("at-segment-is", conj(ws))
     c.proof("reference/at_segment", {
-        "returns": said_no(steps(("if1", at, "taken")), "ask b ev rep pool"),
-        "returns-2": said_no(steps(("if1", at, "left"), ("if2", end, "taken")), "ask b ev rep pool"),
-        "returns-3": said_no(steps(("if1", at, "left"), ("if2", end, "left"), ("if3", branch, "taken")), "ask b ev rep pool"),
-        "returns-4": said_no(steps(("if1", at, "left"), ("if2", end, "left"), ("if3", branch, "left"), ("if4", endif, "taken")), "ask b ev rep pool"),
-        "returns-5": said_yes(steps(("if1", at, "left"), ("if2", end, "left"), ("if3", branch, "left"), ("if4", endif, "left")), "ask b ev rep pool"),
+        "returns": said_no(steps(("if1", at, "taken")), "ask b events reports pool"),
+        "returns-2": said_no(steps(("if1", at, "left"), ("if2", end, "taken")), "ask b events reports pool"),
+        "returns-3": said_no(steps(("if1", at, "left"), ("if2", end, "left"), ("if3", branch, "taken")), "ask b events reports pool"),
+        "returns-4": said_no(steps(("if1", at, "left"), ("if2", end, "left"), ("if3", branch, "left"), ("if4", endif, "taken")), "ask b events reports pool"),
+        "returns-5": said_yes(steps(("if1", at, "left"), ("if2", end, "left"), ("if3", branch, "left"), ("if4", endif, "left")), "ask b events reports pool"),
     }, "`at_segment`: four tests, of which each may end the path.")
     c.proof("reference/path_segments", {
         "loop-holds": "(λ ask b. refl, (le-refl _, (refl, (refl, refl))))",
         "loop-less": "omega (flags, PROGRESS)",
-        "loop-again": f"(λ ask b. turns (opened path-turn-is (if-yes {does('at-segment', '_ _ _')} {answered('if1', 'taken')} {then(then(does('expect'), lands('path-segment')), 'tells')})) (ahead-falls {t} (@loop .q) (@path-segment .result) (omega (flags, PROGRESS))) ∙ @loop .inv .0 ask b, (omega (flags, PROGRESS), (omega (arith, KEPT), (omega (arith, KEPT), omega (arith, KEPT)))))",
-        "returns": f"(λ ask b. stops-yes (opened path-turn-is (if-no {does('at-segment', '_ _ _')} {answered('if1', 'left')} tells)) ∙ @loop .inv .0 ask b, omega (flags, PROGRESS))",
+        "loop-again": f"(λ ask b. turns (opened path-turn-is (if-yes {does('at-segment', '_ _ _')} {answered('if1', 'taken')} {then(then(does('expect'), lands('path-segment')), 'c-ret')})) (ahead-falls {t} (@loop .q) (@path-segment .result) (omega (flags, PROGRESS))) ∙ @loop .inv .0 ask b, (omega (flags, PROGRESS), (omega (arith, KEPT), (omega (arith, KEPT), omega (arith, KEPT)))))",
+        "returns": f"(λ ask b. stops-yes (opened path-turn-is (if-no {does('at-segment', '_ _ _')} {answered('if1', 'left')} c-ret)) ∙ @loop .inv .0 ask b, omega (flags, PROGRESS))",
     }, "`path_segments`: the loop of `path-turn`.",
-        inv=("codes₀ t ev₀ rep₀ pool₀ q₀ codes ev rep pool q",
-             "((ask : Rule → Machine → Walked) (b : Span) → walk ask (tokens t) b (loop path-turn) (view q codes ev rep pool) ≡ walk ask (tokens t) b (loop path-turn) (view q₀ codes₀ ev₀ rep₀ pool₀)) × ((left t q ≤ left t q₀) × ((length ev ≡ length ev₀) × ((length rep ≡ length rep₀) × (length pool ≡ length pool₀))))"),
-        measure="left t q")
+        inv=("codes₀ tokens events₀ reports₀ pool₀ q₀ codes events reports pool q",
+             "((ask : Rule → Machine → Walked) (b : Span) → walk ask (tokens-of tokens) b (loop path-turn) (view q codes events reports pool) ≡ walk ask (tokens-of tokens) b (loop path-turn) (view q₀ codes₀ events₀ reports₀ pool₀)) × ((left tokens q ≤ left tokens q₀) × ((length events ≡ length events₀) × ((length reports ≡ length reports₀) × (length pool ≡ length pool₀))))"),
+        measure="left tokens q")
     c.proof("reference/path_rest", {
         "returns": on(opened("path-rest-is", then(does("path-segments"), does("expect")))),
     }, "`path_rest`: the segments, and the RCurly.")
     c.proof("reference/path", {
-        "returns": on(opened("path-is", yes("if1", does("eat", "_ _"), yes("if2", does("eat2", "_ _"), "tells")))),
+        "returns": on(opened("path-is", yes("if1", does("eat", "_ _"), yes("if2", does("eat2", "_ _"), "c-ret")))),
         "returns-2": on(opened("path-is", yes("if1", does("eat", "_ _"), no("if2", does("eat2", "_ _"), then(lands("path-segment"), lands("path-rest")))))),
-        "returns-3": on(opened("path-is", no("if1", does("eat", "_ _"), then(yes("if3", does("eat3", "_ _"), "tells"), lands("path-rest2"))))),
+        "returns-3": on(opened("path-is", no("if1", does("eat", "_ _"), then(yes("if3", does("eat3", "_ _"), "c-ret"), lands("path-rest2"))))),
         "returns-4": on(opened("path-is", no("if1", does("eat", "_ _"), then(no("if3", does("eat3", "_ _"), does("error")), lands("path-rest3"))))),
     }, "`path`: absolute, or from a label.")
     args = does("silent-at-macro-invocation-with-args", "_ _ _ _")
     c.proof("reference/reference_noamp", {
         "returns": on(opened("reference-noamp-is", yes("if1", does("eat", "_ _"), lands("path")))),
         "returns-2": on(opened("reference-noamp-is", no("if1", does("eat", "_ _"), yes("if2", args, does("macro-invocation"))))),
-        "returns-3": on(opened("reference-noamp-is", no("if1", does("eat", "_ _"), no("if2", args, yes("if3", does("eat2", "_ _"), "tells"))))),
+        "returns-3": on(opened("reference-noamp-is", no("if1", does("eat", "_ _"), no("if2", args, yes("if3", does("eat2", "_ _"), "c-ret"))))),
         "returns-4": on(opened("reference-noamp-is", no("if1", does("eat", "_ _"), no("if2", args, no("if3", does("eat2", "_ _"), does("error")))))),
     }, "`reference_noamp`: a path, a macro invocation with arguments, or a label.")
     c.proof("reference/consume", {
@@ -252,27 +209,26 @@ def main(generated):
     }, "`consume`: an Ampersand and a reference, in a DtPhandle.")
 
     # ---- lib.rt: the whole parser by value
-    c.proof("macro_invocation", {"returns": "@macro-invocation .ensures"}, "`macro_invocation`, with the codes in the parser.")
     c.proof("silent_eat_reference", {"returns": "@silent-eat .ensures"}, "`silent_eat_reference`, with the codes in the parser.")
     c.proof("reference_noamp", {"returns": "@reference-noamp .ensures"}, "`reference_noamp`, with the codes in the parser.")
 
 
 def yes_not(test, asked, then_):
     """`if not! asked then ..`, where asked answered no."""
-    return f"(if-yes (if-no {asked} {answered(test, 'left')} tells) refl {then_})"
+    return f"(if-yes (if-no {asked} {answered(test, 'left')} c-ret) refl {then_})"
 
 
 def no_not(test, asked, else_):
-    return f"(if-no (if-yes {asked} {answered(test, 'taken')} tells) refl {else_})"
+    return f"(if-no (if-yes {asked} {answered(test, 'taken')} c-ret) refl {else_})"
 
 
 def conj(steps):
     """`not! a and not! b and ..`: each test answered no, but for the last where it was taken."""
     (test, asked, way), rest = steps[0], steps[1:]
-    this = f"(if-{'yes' if way == 'taken' else 'no'} {asked} {answered(test, way)} tells)"
+    this = f"(if-{'yes' if way == 'taken' else 'no'} {asked} {answered(test, way)} c-ret)"
     if way == "taken":
         # the last operand of all stands alone
-        return this if test == "if4" else f"(if-no {this} refl tells)"
+        return this if test == "if4" else f"(if-no {this} refl c-ret)"
     return this if test == "if4" else f"(if-yes {this} refl {conj(rest)})"
 
 

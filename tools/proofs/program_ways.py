@@ -1,5 +1,5 @@
 # The way through a program along the calls and tests that lead to a need, as a term of the steps of machine/proofs/Way.antt,
-# names/proofs/Ways.antt and parts/proofs/Steps.antt. A program is a tree: its leaves are the calls in the code's order, a test takes the
+# steps/proofs/Ways.antt and steps/proofs/Steps.antt. A program is a tree: its leaves are the calls in the code's order, a test takes the
 # outcome that follows it, and a marker takes the calls of Marker::new, start and complete. A term names a call or a test by @NAME, and the
 # entry by @@ (see code_proofs.py).
 import os
@@ -126,7 +126,7 @@ class Walk:
         if name in self.acts:
             return f"(c-act ({ensured} {self.span}{' _' * self.acts[name]}))"
         if name == "add-expected":
-            return f"(c-act ({ensured} (tokens (@@ .args .t .now)) {self.span} _ _ _))"
+            return f"(c-act ({ensured} (tokens-of (@@ .args .tokens .now)) {self.span} _ _ _))"
         if name in self.closing:
             self.closes = f"(closing ({told(0)}))"
             return "c-any"

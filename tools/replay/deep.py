@@ -40,6 +40,11 @@ FAMILIES = [
     (1, "a=<", "(", "1" + ")" * 60 + ">;", (60, 61, 62)),
     (2, "", "{/", "", (40,)),
     (2, "", "M(", "", (80,)),
+    # exactly 256 pending, and 257
+    (4, "", IF, "a;", (50,)),
+    (4, "", IF, "(1;", (50,)),
+    # 64 and 65 open calls of eat_cell alone; those of the other three functions are above
+    (4, "", IF, "", (64, 65)),
 ]
 
 

@@ -10,21 +10,42 @@ def rows(kinds, text):
     return "toks %s %s" % (",".join(map(str, kinds)), text)
 
 
-def accepted(reports=None, pool=None, nodes=(), branches=None, pending=None):
+def accepted(reports=None, pool=None, nodes=(), branches=None, pending=None, calls=None):
     """Claims of an accepted call: each report's message and range; all expectations; kind and width of nodes that are there; how
-    many nodes are branches of a conditional; how many expectations were pending at most. None: nothing is claimed."""
-    return dict(number=0, place=0, reports=reports, pool=pool, nodes=nodes, branches=branches, pending=pending)
+    many nodes are branches of a conditional; how many expectations were pending, and how many calls open, at most. None: nothing is
+    claimed."""
+    return dict(number=0, place=0, reports=reports, pool=pool, nodes=nodes, branches=branches, pending=pending, calls=calls)
 
 
 def refused(number, place):
     return dict(number=number, place=place)
 
 
+# "a 65th open call .. or a 257th pending expectation", each from both sides; the place is the mark: so many tokens are taken.
+# The first four are the document's own.
 LIMITS = [
-    ("63-brackets", 4, "text " + "(" * 63 + "1" + ")" * 63, ROOM, accepted(reports=[])),
+    # a cell, and an expression for each bracket: 64 calls
+    ("63-brackets", 4, "text " + "(" * 63 + "1" + ")" * 63, ROOM, accepted(reports=[], calls=64)),
     ("64-brackets", 4, "text " + "(" * 64 + "1" + ")" * 64, ROOM, refused(5, 64)),
     ("50-conditionals", 4, rows([IF] * 50 + [29], "x" * 50 + ";"), ROOM, accepted(pending=255)),
     ("51-conditionals", 4, rows([IF] * 51 + [29], "x" * 51 + ";"), ROOM, refused(5, 51)),
+    # conditionals leave five at a time; a name after them makes one more, and an expression that ends too soon a 257th
+    ("256-pending", 4, rows([IF] * 50 + [27, 29], "x" * 50 + "a;"), ROOM, accepted(pending=256)),
+    ("257-pending", 4, rows([IF] * 50 + [41, 35, 29], "x" * 50 + "(1;"), ROOM, refused(5, 52)),
+    # item alone: a node inside a node, and a conditional inside a conditional
+    ("64-nodes", 1, "text " + "/{" * 64 + "};" * 64, ROOM, accepted(reports=[], calls=64)),
+    ("65-nodes", 1, "text " + "/{" * 65 + "};" * 65, ROOM, refused(5, 128)),
+    ("64-conditional-items", 1, rows([IF] * 64, "x" * 64), ROOM, accepted(calls=64)),
+    ("65-conditional-items", 1, rows([IF] * 65, "x" * 65), ROOM, refused(5, 64)),
+    # propvalues alone
+    ("64-conditional-values", 3, rows([IF] * 64, "x" * 64), ROOM, accepted(calls=64)),
+    ("65-conditional-values", 3, rows([IF] * 65, "x" * 65), ROOM, refused(5, 64)),
+    # eat_cell alone
+    ("64-conditional-cells", 4, rows([IF] * 64, "x" * 64), ROOM, accepted(calls=64)),
+    ("65-conditional-cells", 4, rows([IF] * 65, "x" * 65), ROOM, refused(5, 64)),
+    # a cell, and expr_binding_power for its bracket and for each prefix
+    ("62-prefixes", 4, "text (" + "-" * 62 + "1)", ROOM, accepted(reports=[], calls=64)),
+    ("63-prefixes", 4, "text (" + "-" * 63 + "1)", ROOM, refused(5, 64)),
 ]
 
 SHARED_TAIL = [

@@ -5,17 +5,7 @@ use mathlib.Core.Bool.{Bool, true, false, cond, _&&_}
 use native.Mathlib.Omega.{arith}
 use lib.Dec.{eqb}
 use borrow.Author.Tests.{eqb-true, eqb-false}
-
-pub true-false : {A : Type 0} → true ≡ false → A
-true-false e = let z : _≡_ {A = ℕ} 1 0 = ap (λ (b : Bool). cond b 1 0) e in absurd (omega (arith, z))
-
-pub both-left : (a b : Bool) → (a && b) ≡ true → a ≡ true
-both-left true b e = refl
-both-left false b e = e
-
-pub both-right : (a b : Bool) → (a && b) ≡ true → b ≡ true
-both-right true b e = e
-both-right false b e = true-false (sym e)
+use Rattle.basics.proofs.Tests.{and-left, and-right}
 
 unfoldable pub same : Bool → Bool → Bool
 same true b = b
@@ -35,8 +25,8 @@ all-below f (suc n) = f n && all-below f n
 pub at-below : (f : ℕ → Bool) (n k : ℕ) → all-below f n ≡ true → k < n → f k ≡ true
 unfolding all-below
 at-below f zero k h l = absurd (omega (arith, l))
-at-below f (suc n) k h l = go (eqb k n) refl (at-below f n k (both-right (f n) (all-below f n) h))
+at-below f (suc n) k h l = go (eqb k n) refl (at-below f n k (and-right (f n) (all-below f n) h))
   where
     go : (b : Bool) → eqb k n ≡ b → (k < n → f k ≡ true) → f k ≡ true
-    go true e r = ap f (eqb-true k n e) ∙ both-left (f n) (all-below f n) h
+    go true e r = ap f (eqb-true k n e) ∙ and-left (f n) (all-below f n) h
     go false e r = r (omega (arith, l, eqb-false k n e))

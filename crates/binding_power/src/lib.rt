@@ -4,7 +4,7 @@ ghost use mathlib.Core.Path.{_≡_};
 ghost use Rattle.binding_power.specs.Power.{levels, left-power, right-power, is-binary};
 
 // `InfixOp::binding_power`: left and right, by the operator's kind, from FIRST_OPERATOR to LAST_OPERATOR; 0 where the
-// kind is no infix operator.
+// kind is not an infix operator.
 pub const FIRST_OPERATOR: u8 = token_kind::AMPERSAND;
 
 pub const LAST_OPERATOR: u8 = token_kind::QUESTION_MARK;
@@ -80,7 +80,7 @@ pub const RIGHT_POWERS: [u8; 31] = [
 // `PrefixOp::binding_power`.
 pub const PREFIX_POWER: u8 = 23;
 
-// Left and right, 0 and 0 where the kind is no infix operator; and whether it is one other than the ternary.
+// Left and right, 0 and 0 where the kind is not an infix operator; and whether it is one other than the ternary.
 pub struct BindingPower {
     pub left: u8,
     pub right: u8,

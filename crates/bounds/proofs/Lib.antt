@@ -28,3 +28,5 @@ pub mod TreeRows
 pub mod Written
 pub mod Places
 pub mod Numbers
+pub mod Witnesses
+pub mod Refutations

@@ -4,7 +4,7 @@ use mathlib.Core.Path.{_≡_, refl, sym, ap, _∙_}
 use mathlib.Core.Bool.{Bool, true, false}
 use mathlib.Core.List.{List}
 use lib.ListN.{length}
-use Rattle.definitions.specs.Layout.{PLACEHOLDER, START-NODE, LINKED-START-NODE}
+use Rattle.definitions.specs.Layout.{TWO-TO-64, PLACEHOLDER, START-NODE, LINKED-START-NODE}
 use Rattle.definitions.specs.Token.{Token, tokens-of}
 use Rattle.definitions.specs.Skeleton.{Span}
 use Rattle.definitions.specs.Prog.{no, yes, again, Rule, Prog, chain}
@@ -13,7 +13,7 @@ use Rattle.machine.specs.Machine.{Machine, Marker, push, complete, precede}
 use Rattle.machine.specs.Walk.{Walked, said, marker, link, walk, walk-rule, unlabelled}
 use Rattle.machine.proofs.Turns.{ahead, few-rows}
 use Rattle.machine.proofs.Links.{linked, link-again, link-last, link-stop, chain-on, chain-off}
-use Rattle.expr.specs.Parts.{stepped, links-from}
+use Rattle.expr.specs.Chain.{stepped, links-from}
 use Rattle.machine.proofs.Way.{Way, c-walk}
 
 module _ (n : ℕ) (ts : List Token) (p q : Prog) where
@@ -37,7 +37,7 @@ linked-is k kind m d x ed ex = ex ∙ ap (precede k) ed
 -- one link of the chain: a turn from m to m′, the node completed (d), the next marker pushed and linked to (x)
 module _ (n : ℕ) (tk : List ℕ) (q : Prog) (k : Marker) (kind : ℕ) {m m′ d x : Machine} (ed : d ≡ complete k (suc kind) m′) (ex : x ≡ precede k d) where
   -- and on
-  pub linked-again : {k′ : Marker} → k′ ≡ marker LINKED-START-NODE d → length tk < 18446744073709551616 → Way (walk-rule n (tokens-of tk)) (tokens-of tk) unlabelled q m (record { ans = again; shape = suc kind; on = m′ })
+  pub linked-again : {k′ : Marker} → k′ ≡ marker LINKED-START-NODE d → length tk < TWO-TO-64 → Way (walk-rule n (tokens-of tk)) (tokens-of tk) unlabelled q m (record { ans = again; shape = suc kind; on = m′ })
       → ahead (tokens-of tk) m′ < ahead (tokens-of tk) m → links-from n (tokens-of tk) q k′ x ≡ links-from n (tokens-of tk) q k m
   unfolding linked
   linked-again i h w l =

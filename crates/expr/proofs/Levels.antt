@@ -2,7 +2,7 @@
 -- at the cursor alone.
 use Prim.Native.Nat.{ℕ, zero, suc, _+_, _<_}
 use mathlib.Core.Path.{_≡_, refl, sym, ap, _∙_}
-use mathlib.Core.Bool.{Bool, true, false, cond, _&&_}
+use mathlib.Core.Bool.{Bool, true, false, true≢false, cond, _&&_}
 use mathlib.Core.List.{List, [], _∷_}
 use native.Mathlib.Omega.{arith}
 use lib.Dec.{ltb, eqb}
@@ -19,8 +19,8 @@ use Rattle.machine.specs.Machine.{Machine, rest, passed, skip, peek, expect-cod
 use Rattle.machine.specs.Walk.{Walked, said, perform, choose, walk}
 use Rattle.token_rows.specs.Tokens.{kind-of}
 use Rattle.binding_power.specs.Power.{levels, left-power, right-power, is-binary}
-use Rattle.binding_power.proofs.Below.{true-false, both-left, both-right}
-use Rattle.expr.specs.Parts.{ternary-rhs}
+use Rattle.basics.proofs.Tests.{and-left, and-right}
+use Rattle.expr.specs.Subprograms.{ternary-rhs}
 use Rattle.machine.proofs.Way.{Way, c-walk, c-act, c-ret, c-yes, c-no}
 
 -- ---------------------------------------------------------------- a second peek moves nothing
@@ -62,11 +62,11 @@ binding-power-high = refl
 -- a kind of no level has power 0, and any other more than 2
 high-power : (ls : List Level) (k : ℕ) → high ls ≡ true → eqb (left-power ls k) 0 ≡ false → 2 < left-power ls k
 unfolding high left-power
-high-power [] k h d = true-false d
-high-power (l ∷ ls) k h d = by (one-of (l .kinds) k) d (high-power ls k (both-right (ltb 2 (l .left)) (high ls) h))
+high-power [] k h d = absurd (true≢false d)
+high-power (l ∷ ls) k h d = by (one-of (l .kinds) k) d (high-power ls k (and-right (ltb 2 (l .left)) (high ls) h))
   where
     by : (b : Bool) → eqb (cond b (l .left) (left-power ls k)) 0 ≡ false → (eqb (left-power ls k) 0 ≡ false → 2 < left-power ls k) → 2 < cond b (l .left) (left-power ls k)
-    by true d r = ltb-true _ _ (both-left (ltb 2 (l .left)) (high ls) h)
+    by true d r = ltb-true _ _ (and-left (ltb 2 (l .left)) (high ls) h)
     by false d r = r d
 
 -- past the last token there is no operator
@@ -115,10 +115,10 @@ module _ (ask : Rule → Machine → Walked) (ts : List Token) (b : Span) (min :
       → Way ask ts b (infix-levels min ls) m (level-arm (left-power ls (seen t)) (right-power ls (seen t)))
   unfolding infix-levels first-in left-power right-power high
   some-level still t l e [] h = c-ret
-  some-level still t l e (x ∷ ls) h = by (one-of (x .kinds) (seen t)) refl (some-level still t l e ls (both-right (ltb 2 (x .left)) (high ls) h))
+  some-level still t l e (x ∷ ls) h = by (one-of (x .kinds) (seen t)) refl (some-level still t l e ls (and-right (ltb 2 (x .left)) (high ls) h))
     where
       positive : eqb (x .left) 0 ≡ false
-      positive = let q = ltb-true 2 (x .left) (both-left (ltb 2 (x .left)) (high ls) h) in ne-eqb (x .left) 0 (λ z. absurd (omega (arith, q, z)))
+      positive = let q = ltb-true 2 (x .left) (and-left (ltb 2 (x .left)) (high ls) h) in ne-eqb (x .left) 0 (λ z. absurd (omega (arith, q, z)))
 
       by : (c : Bool) → one-of (x .kinds) (seen t) ≡ c → Way ask ts b (infix-levels min ls) m (level-arm (left-power ls (seen t)) (right-power ls (seen t)))
           → Way ask ts b (infix-levels min (x ∷ ls)) m (level-arm (cond c (x .left) (left-power ls (seen t))) (cond c (x .right) (right-power ls (seen t))))

@@ -1,2 +1,3 @@
 -- What the contracts of this crate cite.
-pub mod Parts
+pub mod Subprograms
+pub mod Chain

@@ -1,17 +1,20 @@
 // grammar/expr.rs: expressions by binding power; and `dt_expr` of grammar.rs.
-use layout::refusal::TOO_DEEP;
-use layout::token_kind;
-use names::macro_invocation;
-use parser::Parser;
-use parser::ParserTested;
-use parser::errors;
-use parser::errors::Bump;
-use layout::expected;
-use parser::marker::Marker;
-use parser::matcher::Matcher;
-use layout::node_kind;
 use binding_power::PREFIX_POWER;
 use binding_power::binding_power;
+use layout::expected;
+use layout::hint::MISSING_LEFT_SIDE;
+use layout::hint::NO_HINT;
+use layout::message::EXPECTED;
+use layout::node_kind;
+use layout::refusal::TOO_DEEP;
+use layout::set::PREFIX_OPERATORS_SET;
+use layout::token_kind;
+use macros::macro_invocation;
+use parser::Parser;
+use parser::ParserTested;
+use parser::errors::Bump;
+use parser::marker::Marker;
+use parser::matcher::Matcher;
 use token_rows::token::kind_at;
 ghost use mathlib.Core.Path.{_≡_};
 ghost use mathlib.Core.Bool.{true};
@@ -20,50 +23,14 @@ ghost use Prim.Native.Nat.{ℕ, _-_, _≤_, _<_};
 ghost use lib.ListN.{drop};
 ghost use Rattle.definitions.specs.Errors as E;
 ghost use Rattle.definitions.specs.Token.{tokens-of};
-ghost use Rattle.definitions.specs.Skeleton.{Span};
-ghost use Rattle.definitions.specs.Prog.{Rule, no, yes, expr-binding-power};
+ghost use Rattle.definitions.specs.Prog.{no, yes, expr-binding-power};
 ghost use Rattle.definitions.specs.Grammar.{lhs as lhs-prog, rhs as rhs-prog, infix-turn, dt-expr};
-ghost use Rattle.machine.specs.Machine.{Machine, expect-code, peek};
-ghost use Rattle.machine.specs.Walk.{Walked, said, walk, walk-rule, walk-prog, unlabelled};
+ghost use Rattle.machine.specs.Machine.{expect-code, peek};
 ghost use Rattle.token_rows.specs.Tokens.{kind-of};
-ghost use Rattle.parser.specs.View.{left, view-of, parser-tested, marker-of};
+ghost use Rattle.parser.specs.View.{left, view-of, parser-tested, marker-of, calls-of, looks-of, moves-of, runs-of, says-of};
 ghost use Rattle.binding_power.specs.Power.{levels, left-power, right-power, is-binary};
-ghost use Rattle.expr.specs.Parts.{at-prefix-op, prefix-expr, paren-expr, literal-expr, missing-lhs, no-lhs, ternary-rhs, step-as, links-from};
-
-pub const PREFIX_OPERATORS_SET: [u8; 4] = [
-    token_kind::PLUS,
-    token_kind::MINUS,
-    token_kind::BITWISE_NOT,
-    token_kind::LOGICAL_NOT,
-];
-
-// The infix operators, the prefix operators and the colon.
-pub const OPERATORS_SET: [u8; 24] = [
-    token_kind::PLUS,
-    token_kind::MINUS,
-    token_kind::ASTERISK,
-    token_kind::SLASH,
-    token_kind::MODULO,
-    token_kind::AMPERSAND,
-    token_kind::BITWISE_OR,
-    token_kind::BITWISE_XOR,
-    token_kind::BITWISE_SHL,
-    token_kind::BITWISE_SHR,
-    token_kind::LOGICAL_AND,
-    token_kind::LOGICAL_OR,
-    token_kind::LANGLE,
-    token_kind::RANGLE,
-    token_kind::RELATIONAL_LT_EQ,
-    token_kind::RELATIONAL_GT_EQ,
-    token_kind::RELATIONAL_EQ,
-    token_kind::RELATIONAL_NEQ,
-    token_kind::QUESTION_MARK,
-    token_kind::PLUS,
-    token_kind::MINUS,
-    token_kind::BITWISE_NOT,
-    token_kind::LOGICAL_NOT,
-    token_kind::COLON,
-];
+ghost use Rattle.expr.specs.Subprograms.{at-prefix-op, prefix-expr, paren-expr, literal-expr, missing-lhs, no-lhs, ternary-rhs};
+ghost use Rattle.expr.specs.Chain.{step-as, links-from};
 
 // The operator at the cursor, if its left power is not 0.
 pub struct InfixOp {
@@ -83,9 +50,12 @@ pub struct Step {
 
 // `InfixOp::at`
 fn infix_op_at(p: Parser, tokens: &[u32]) -> InfixOp
-    ensures { λ r. ⌜ ((events reports pool : List ℕ) → view-of (r .p) events reports pool ≡ peek (tokens-of (now (tokens .entry))) (expect-code E.InfixOperator (view-of p events reports pool))) ⌝ }
-    ensures { λ r. ⌜ r .left ≡ left-power levels (kind-of (drop (r .p .s .cursor .0) (tokens-of (now (tokens .entry))))) ⌝ }
-    ensures { λ r. ⌜ r .right ≡ right-power levels (kind-of (drop (r .p .s .cursor .0) (tokens-of (now (tokens .entry))))) ⌝ }
+    ensures { λ r. ⌜ ((events reports pool : List ℕ) → view-of (r .p) events reports pool
+        ≡ peek (tokens-of (now (tokens .entry))) (expect-code E.InfixOperator (view-of p events reports pool))) ⌝ }
+    ensures { λ r. ⌜ r .left
+        ≡ left-power levels (kind-of (drop (r .p .s .cursor .0) (tokens-of (now (tokens .entry))))) ⌝ }
+    ensures { λ r. ⌜ r .right
+        ≡ right-power levels (kind-of (drop (r .p .s .cursor .0) (tokens-of (now (tokens .entry))))) ⌝ }
     ensures { λ r. ⌜ r .binary ≡ is-binary (kind-of (drop (r .p .s .cursor .0) (tokens-of (now (tokens .entry))))) ⌝ }
     ensures { λ r. ⌜ left (now (tokens .entry)) (r .p .s) ≤ left (now (tokens .entry)) (p .s) ⌝ }
     ensures { λ r. ⌜ ((r .left ≡ 0 → ⊥) → 0 < left (now (tokens .entry)) (r .p .s)) ⌝ }
@@ -103,7 +73,7 @@ fn infix_op_at(p: Parser, tokens: &[u32]) -> InfixOp
 
 // `PrefixOp::at`
 fn at_prefix_op(p: Parser, tokens: &[u32]) -> ParserTested
-    ensures { λ r. ⌜ ((ask : Rule → Machine → Walked) (b : Span) (events reports pool : List ℕ) → parser-tested r events reports pool ≡ walk ask (tokens-of (now (tokens .entry))) b at-prefix-op (view-of p events reports pool)) ⌝ }
+    ensures { λ r. ⌜ looks-of at-prefix-op p (parser-tested r) tokens ⌝ }
     ensures { λ r. ⌜ left (now (tokens .entry)) (r .p .s) ≤ left (now (tokens .entry)) (p .s) ⌝ }
     ensures { λ r. ⌜ (r .yes ≡ true → 0 < left (now (tokens .entry)) (r .p .s)) ⌝ }
 {
@@ -117,9 +87,9 @@ pub fn expr(
     events: &mut [u32],
     reports: &mut [u32],
     pool: &mut [u32],
-    room: usize,
+    allowed: usize,
 ) -> ParserTested
-    ensures { λ r. ⌜ parser-tested r (now (events .exit)) (now (reports .exit)) (now (pool .exit)) ≡ walk-rule allowed (tokens-of (now (tokens .entry))) (expr-binding-power 0) (view-of p (now (events .entry)) (now (reports .entry)) (now (pool .entry))) ⌝ }
+    ensures { λ r. ⌜ calls-of allowed (expr-binding-power 0) p (parser-tested r) tokens events reports pool ⌝ }
     ensures { λ r. ⌜ left (now (tokens .entry)) (r .p .s) ≤ left (now (tokens .entry)) (p .s) ⌝ }
     ensures { λ r. ⌜ (r .yes ≡ true → left (now (tokens .entry)) (r .p .s) ≤ left (now (tokens .entry)) (p .s) - 1) ⌝ }
 {
@@ -133,18 +103,22 @@ pub fn dt_expr(
     events: &mut [u32],
     reports: &mut [u32],
     pool: &mut [u32],
-    room: usize,
+    allowed: usize,
 ) -> Parser
-    ensures { λ r. ⌜ said yes (view-of r (now (events .exit)) (now (reports .exit)) (now (pool .exit))) ≡ walk-prog allowed (tokens-of (now (tokens .entry))) unlabelled dt-expr (view-of p (now (events .entry)) (now (reports .entry)) (now (pool .entry))) ⌝ }
+    ensures { λ r. ⌜ runs-of allowed dt-expr p (says-of yes r) tokens events reports pool ⌝ }
     ensures { λ r. ⌜ left (now (tokens .entry)) (r .s) ≤ left (now (tokens .entry)) (p .s) - 1 ⌝ }
 {
     let m = Marker::new(p.s);
     let started = p.start(events);
     let opened = started.bump(tokens, events);
     let inner = expr(opened, tokens, events, reports, pool, allowed);
-    let end = inner
-        .p
-        .expect(tokens, events, reports, pool, Matcher::Kind(token_kind::RPAREN));
+    let end = inner.p.expect(
+        tokens,
+        events,
+        reports,
+        pool,
+        Matcher::Kind(token_kind::RPAREN),
+    );
     end.p.complete(events, m, node_kind::DT_EXPR)
 }
 
@@ -154,10 +128,10 @@ pub fn expr_binding_power(
     events: &mut [u32],
     reports: &mut [u32],
     pool: &mut [u32],
-    room: usize,
+    allowed: usize,
     min_bp: u8,
 ) -> ParserTested
-    ensures { λ r. ⌜ parser-tested r (now (events .exit)) (now (reports .exit)) (now (pool .exit)) ≡ walk-rule allowed (tokens-of (now (tokens .entry))) (expr-binding-power «min_bp») (view-of p (now (events .entry)) (now (reports .entry)) (now (pool .entry))) ⌝ }
+    ensures { λ r. ⌜ calls-of allowed (expr-binding-power «min_bp») p (parser-tested r) tokens events reports pool ⌝ }
     ensures { λ r. ⌜ left (now (tokens .entry)) (r .p .s) ≤ left (now (tokens .entry)) (p .s) ⌝ }
     ensures { λ r. ⌜ (r .yes ≡ true → left (now (tokens .entry)) (r .p .s) ≤ left (now (tokens .entry)) (p .s) - 1) ⌝ }
 {
@@ -170,7 +144,16 @@ pub fn expr_binding_power(
     let started = p.start(events);
     let left = lhs(started, tokens, events, reports, pool, allowed - 1);
     if left.yes {
-        infix_chain(left.p, tokens, events, reports, pool, allowed - 1, min_bp, m)
+        infix_chain(
+            left.p,
+            tokens,
+            events,
+            reports,
+            pool,
+            allowed - 1,
+            min_bp,
+            m,
+        )
     } else {
         let q = left.p.ignore(events);
         ParserTested { p: q, yes: false }
@@ -184,11 +167,12 @@ fn infix_chain(
     events: &mut [u32],
     reports: &mut [u32],
     pool: &mut [u32],
-    room: usize,
+    allowed: usize,
     min_bp: u8,
     first: Marker,
 ) -> ParserTested
-    ensures { λ r. ⌜ parser-tested r (now (events .exit)) (now (reports .exit)) (now (pool .exit)) ≡ links-from allowed (tokens-of (now (tokens .entry))) (infix-turn «min_bp») (marker-of first) (view-of p (now (events .entry)) (now (reports .entry)) (now (pool .entry))) ⌝ }
+    ensures { λ r. ⌜ parser-tested r (now (events .exit)) (now (reports .exit)) (now (pool .exit))
+        ≡ links-from allowed (tokens-of (now (tokens .entry))) (infix-turn «min_bp») (marker-of first) (view-of p (now (events .entry)) (now (reports .entry)) (now (pool .entry))) ⌝ }
     ensures { λ r. ⌜ left (now (tokens .entry)) (r .p .s) ≤ left (now (tokens .entry)) (p .s) ⌝ }
 {
     let mut m = first;
@@ -219,10 +203,10 @@ fn infix_step(
     events: &mut [u32],
     reports: &mut [u32],
     pool: &mut [u32],
-    room: usize,
+    allowed: usize,
     min_bp: u8,
 ) -> Step
-    ensures { λ r. ⌜ step-as r (now (events .exit)) (now (reports .exit)) (now (pool .exit)) ≡ walk-prog allowed (tokens-of (now (tokens .entry))) unlabelled (infix-turn «min_bp») (view-of p (now (events .entry)) (now (reports .entry)) (now (pool .entry))) ⌝ }
+    ensures { λ r. ⌜ runs-of allowed (infix-turn «min_bp») p (step-as r) tokens events reports pool ⌝ }
     ensures { λ r. ⌜ left (now (tokens .entry)) (r .p .s) ≤ left (now (tokens .entry)) (p .s) ⌝ }
     ensures { λ r. ⌜ (r .operator ≡ true → left (now (tokens .entry)) (r .p .s) < left (now (tokens .entry)) (p .s)) ⌝ }
 {
@@ -260,10 +244,10 @@ fn rhs(
     events: &mut [u32],
     reports: &mut [u32],
     pool: &mut [u32],
-    room: usize,
+    allowed: usize,
     right_bp: u8,
 ) -> Step
-    ensures { λ r. ⌜ step-as r (now (events .exit)) (now (reports .exit)) (now (pool .exit)) ≡ walk-prog allowed (tokens-of (now (tokens .entry))) unlabelled (rhs-prog «right_bp») (view-of p (now (events .entry)) (now (reports .entry)) (now (pool .entry))) ⌝ }
+    ensures { λ r. ⌜ runs-of allowed (rhs-prog «right_bp») p (step-as r) tokens events reports pool ⌝ }
     ensures { λ r. ⌜ left (now (tokens .entry)) (r .p .s) ≤ left (now (tokens .entry)) (p .s) ⌝ }
 {
     let right = expr_binding_power(p, tokens, events, reports, pool, allowed, right_bp);
@@ -282,16 +266,20 @@ fn ternary_rhs(
     events: &mut [u32],
     reports: &mut [u32],
     pool: &mut [u32],
-    room: usize,
+    allowed: usize,
 ) -> Step
-    ensures { λ r. ⌜ step-as r (now (events .exit)) (now (reports .exit)) (now (pool .exit)) ≡ walk-prog allowed (tokens-of (now (tokens .entry))) unlabelled ternary-rhs (view-of p (now (events .entry)) (now (reports .entry)) (now (pool .entry))) ⌝ }
+    ensures { λ r. ⌜ runs-of allowed ternary-rhs p (step-as r) tokens events reports pool ⌝ }
     ensures { λ r. ⌜ left (now (tokens .entry)) (r .p .s) ≤ left (now (tokens .entry)) (p .s) ⌝ }
 {
     let middle = expr_binding_power(p, tokens, events, reports, pool, allowed, 0);
     if middle.yes {
-        let colon = middle
-            .p
-            .expect(tokens, events, reports, pool, Matcher::Kind(token_kind::COLON));
+        let colon = middle.p.expect(
+            tokens,
+            events,
+            reports,
+            pool,
+            Matcher::Kind(token_kind::COLON),
+        );
         if colon.yes {
             rhs(colon.p, tokens, events, reports, pool, allowed, 1)
         } else {
@@ -318,9 +306,9 @@ fn lhs(
     events: &mut [u32],
     reports: &mut [u32],
     pool: &mut [u32],
-    room: usize,
+    allowed: usize,
 ) -> ParserTested
-    ensures { λ r. ⌜ parser-tested r (now (events .exit)) (now (reports .exit)) (now (pool .exit)) ≡ walk-prog allowed (tokens-of (now (tokens .entry))) unlabelled lhs-prog (view-of p (now (events .entry)) (now (reports .entry)) (now (pool .entry))) ⌝ }
+    ensures { λ r. ⌜ runs-of allowed lhs-prog p (parser-tested r) tokens events reports pool ⌝ }
     ensures { λ r. ⌜ left (now (tokens .entry)) (r .p .s) ≤ left (now (tokens .entry)) (p .s) ⌝ }
     ensures { λ r. ⌜ (r .yes ≡ true → left (now (tokens .entry)) (r .p .s) ≤ left (now (tokens .entry)) (p .s) - 1) ⌝ }
 {
@@ -337,7 +325,10 @@ fn lhs(
         let q = macro_invocation(ident.p, tokens, events, reports, pool);
         return ParserTested { p: q, yes: true };
     }
-    let literal = ident.p.at(tokens, Matcher::Either(token_kind::NUMBER, token_kind::CHAR));
+    let literal = ident.p.at(
+        tokens,
+        Matcher::Either(token_kind::NUMBER, token_kind::CHAR),
+    );
     if literal.yes {
         let q = literal_expr(literal.p, tokens, events);
         return ParserTested { p: q, yes: true };
@@ -352,9 +343,9 @@ fn prefix_expr(
     events: &mut [u32],
     reports: &mut [u32],
     pool: &mut [u32],
-    room: usize,
+    allowed: usize,
 ) -> ParserTested
-    ensures { λ r. ⌜ parser-tested r (now (events .exit)) (now (reports .exit)) (now (pool .exit)) ≡ walk-prog allowed (tokens-of (now (tokens .entry))) unlabelled prefix-expr (view-of p (now (events .entry)) (now (reports .entry)) (now (pool .entry))) ⌝ }
+    ensures { λ r. ⌜ runs-of allowed prefix-expr p (parser-tested r) tokens events reports pool ⌝ }
     ensures { λ r. ⌜ left (now (tokens .entry)) (r .p .s) ≤ left (now (tokens .entry)) (p .s) - 1 ⌝ }
 {
     let m = Marker::new(p.s);
@@ -374,18 +365,22 @@ fn paren_expr(
     events: &mut [u32],
     reports: &mut [u32],
     pool: &mut [u32],
-    room: usize,
+    allowed: usize,
 ) -> ParserTested
-    ensures { λ r. ⌜ parser-tested r (now (events .exit)) (now (reports .exit)) (now (pool .exit)) ≡ walk-prog allowed (tokens-of (now (tokens .entry))) unlabelled paren-expr (view-of p (now (events .entry)) (now (reports .entry)) (now (pool .entry))) ⌝ }
+    ensures { λ r. ⌜ runs-of allowed paren-expr p (parser-tested r) tokens events reports pool ⌝ }
     ensures { λ r. ⌜ left (now (tokens .entry)) (r .p .s) ≤ left (now (tokens .entry)) (p .s) - 1 ⌝ }
 {
     let m = Marker::new(p.s);
     let started = p.start(events);
     let opened = started.bump(tokens, events);
     let inner = expr_binding_power(opened, tokens, events, reports, pool, allowed, 0);
-    let end = inner
-        .p
-        .expect(tokens, events, reports, pool, Matcher::Kind(token_kind::RPAREN));
+    let end = inner.p.expect(
+        tokens,
+        events,
+        reports,
+        pool,
+        Matcher::Kind(token_kind::RPAREN),
+    );
     let q = end.p.complete(events, m, node_kind::PAREN_EXPR);
     ParserTested {
         p: q,
@@ -394,7 +389,7 @@ fn paren_expr(
 }
 
 fn literal_expr(p: Parser, tokens: &[u32], events: &mut [u32]) -> Parser
-    ensures { λ r. ⌜ ((ask : Rule → Machine → Walked) (b : Span) (reports pool : List ℕ) → said yes (view-of r (now (events .exit)) reports pool) ≡ walk ask (tokens-of (now (tokens .entry))) b literal-expr (view-of p (now (events .entry)) reports pool)) ⌝ }
+    ensures { λ r. ⌜ moves-of literal-expr p (says-of yes r) tokens events ⌝ }
     ensures { λ r. ⌜ left (now (tokens .entry)) (r .s) ≤ left (now (tokens .entry)) (p .s) - 1 ⌝ }
 {
     let m = Marker::new(p.s);
@@ -410,9 +405,9 @@ fn no_lhs(
     events: &mut [u32],
     reports: &mut [u32],
     pool: &mut [u32],
-    room: usize,
+    allowed: usize,
 ) -> Parser
-    ensures { λ r. ⌜ said no (view-of r (now (events .exit)) (now (reports .exit)) (now (pool .exit))) ≡ walk-prog allowed (tokens-of (now (tokens .entry))) unlabelled no-lhs (view-of p (now (events .entry)) (now (reports .entry)) (now (pool .entry))) ⌝ }
+    ensures { λ r. ⌜ runs-of allowed no-lhs p (says-of no r) tokens events reports pool ⌝ }
     ensures { λ r. ⌜ left (now (tokens .entry)) (r .s) ≤ left (now (tokens .entry)) (p .s) ⌝ }
 {
     let op = infix_op_at(p, tokens);
@@ -421,23 +416,16 @@ fn no_lhs(
     }
     let end = op.p.silent_at(tokens, token_kind::RPAREN);
     if end.yes {
-        return end.p.error(
-            tokens,
-            events,
-            reports,
-            pool,
-            errors::EXPECTED,
-            errors::NO_HINT,
-            Bump::No,
-        );
+        return end.p
+            .error(tokens, events, reports, pool, EXPECTED, NO_HINT, Bump::No);
     }
     end.p.error(
         tokens,
         events,
         reports,
         pool,
-        errors::EXPECTED,
-        errors::NO_HINT,
+        EXPECTED,
+        NO_HINT,
         Bump::YesWrapErr,
     )
 }
@@ -449,9 +437,9 @@ fn missing_lhs(
     events: &mut [u32],
     reports: &mut [u32],
     pool: &mut [u32],
-    room: usize,
+    allowed: usize,
 ) -> Parser
-    ensures { λ r. ⌜ said no (view-of r (now (events .exit)) (now (reports .exit)) (now (pool .exit))) ≡ walk-prog allowed (tokens-of (now (tokens .entry))) unlabelled missing-lhs (view-of p (now (events .entry)) (now (reports .entry)) (now (pool .entry))) ⌝ }
+    ensures { λ r. ⌜ runs-of allowed missing-lhs p (says-of no r) tokens events reports pool ⌝ }
     ensures { λ r. ⌜ left (now (tokens .entry)) (r .s) ≤ left (now (tokens .entry)) (p .s) ⌝ }
 {
     let reported = p.error(
@@ -459,8 +447,8 @@ fn missing_lhs(
         events,
         reports,
         pool,
-        errors::EXPECTED,
-        errors::MISSING_LEFT_SIDE,
+        EXPECTED,
+        MISSING_LEFT_SIDE,
         Bump::No,
     );
     let m = Marker::new(reported.s);

@@ -7,11 +7,11 @@ use native.Mathlib.Omega.{arith}
 use mathlib.Core.Logic.{inl, inr}
 use types.Run.{OneOf}
 use denote.Enum.Declared.{tagOf}
-use Rattle.parser.proofs.Answer.{the-type}
-use Rattle.parser.specs.declared.Ans.{Ans}
+use Rattle.parser.proofs.Ans.{the-type}
+use Rattle.parser.specs.declared.Ans.{Ans as Answered}
 use Rattle.parser.specs.declared.Ans.the-variants as A
 use Rattle.parser.specs.View.{ans-of, left}
-use Rattle.parts.specs.View.{found}
+use Rattle.steps.specs.View.{found}
 use Rattle.parser.specs.declared.Parser.{Parser}
 use Rattle.parser.specs.declared.ParserTested.{ParserTested}
 use Rattle.parser.specs.declared.ParserAnswered.{ParserAnswered}
@@ -20,18 +20,18 @@ use Rattle.definitions.specs.Token.{Token}
 use Rattle.definitions.specs.Skeleton.{Span}
 use Rattle.definitions.specs.Grammar.{eat-inside}
 use Rattle.grammar.specs.declared.preprocessor_directive.Inside.{Inside}
-use Rattle.grammar.specs.Parts.{inside-of}
+use Rattle.grammar.specs.Subprograms.{inside-of}
 use Rattle.definitions.specs.Prog.{Ans, no, yes, also, again, Rule, Prog, _⨟_, case, loop, open-call}
 use Rattle.machine.specs.Machine.{Machine, Marker}
 use Rattle.machine.specs.Walk.{Walked, said, choose, closed, walk, walk-rule, walk-prog, unlabelled}
 use Rattle.machine.proofs.Turns.{ahead}
 use Rattle.machine.proofs.Way.{Way, Closes, c-case}
-use Rattle.names.proofs.Ways.{turns, stops-yes, stops-no}
-use Rattle.parts.proofs.Steps.{c-on}
-use Rattle.grammar.proofs.Laws.{sequence-parts}
+use Rattle.steps.proofs.Ways.{turns, stops-yes, stops-no}
+use Rattle.steps.proofs.Steps.{c-on}
+use Rattle.grammar.proofs.Laws.{sequence-is}
 
 module _ (n : ℕ) {ts : List Token} where
-  -- what a part comes to, whatever that is
+  -- what a subprogram comes to, whatever that is
   pub c-same : {p : Prog} {m : Machine} → Way (walk-rule n ts) ts unlabelled p m (walk-prog n ts unlabelled p m)
   unfolding walk-prog
   c-same = record { is = refl }
@@ -89,7 +89,7 @@ again-tag : tagOf the-type A.Again ≡ 3
 again-tag = refl
 
 -- Yes and Again
-pub c-said-other : {ask : Rule → Machine → Walked} {ts : List Token} {b : Span} {c n y a : Prog} {m x : Machine} {s : ℕ} {w : Walked} (r : Answer)
+pub c-said-other : {ask : Rule → Machine → Walked} {ts : List Token} {b : Span} {c n y a : Prog} {m x : Machine} {s : ℕ} {w : Walked} (r : Answered)
     → Way ask ts b c m (record { ans = ans-of r; shape = s; on = x }) → OneOf (1 ∷ 3 ∷ []) (tagOf the-type r) → Way ask ts b y x w → Way ask ts b (case c n y a) m w
 unfolding choose
 c-said-other A.No e h f = absurd (neither h)
@@ -104,7 +104,7 @@ c-said-other A.Also e h f = absurd (neither h)
 c-said-other A.Again e h f = c-case e (f .is)
 
 -- No and Also, and it is not Also
-pub other-no : (r : Answer) → (ans-of r ≡ also → ⊥) → OneOf (0 ∷ 2 ∷ []) (tagOf the-type r) → ans-of r ≡ no
+pub other-no : (r : Answered) → (ans-of r ≡ also → ⊥) → OneOf (0 ∷ 2 ∷ []) (tagOf the-type r) → ans-of r ≡ no
 other-no A.No k h = refl
 other-no A.Yes k h = absurd (neither h)
   where
@@ -117,7 +117,7 @@ other-no A.Again k h = absurd (neither h)
     neither h = elim h [ inl i ↦ omega (arith, i, again-tag) | inr i ↦ omega (arith, i, again-tag) ]
 
 -- what a prefix that was found has taken
-pub found-other : (r : Answer) → OneOf (1 ∷ 3 ∷ []) (tagOf the-type r) → found r ≡ 1
+pub found-other : (r : Answered) → OneOf (1 ∷ 3 ∷ []) (tagOf the-type r) → found r ≡ 1
 found-other A.No h = absurd (neither h)
   where
     neither : OneOf (1 ∷ 3 ∷ []) (tagOf the-type A.No) → ⊥
@@ -135,8 +135,8 @@ pub c-inside : {ask : Rule → Machine → Walked} {ts : List Token} {b : Span} 
 c-inside {ask = ask} {ts = ts} {b = b} {m = m} h e = record { is = e .is ∙ sym (ap (λ (i : Inside). walk ask ts b (eat-inside (inside-of i)) m) h) }
 
 pub c-assoc : {ask : Rule → Machine → Walked} {ts : List Token} {b : Span} {p q r : Prog} {m : Machine} {w : Walked} → Way ask ts b (p ⨟ q ⨟ r) m w → Way ask ts b ((p ⨟ q) ⨟ r) m w
-c-assoc {ask = ask} {ts = ts} {b = b} {p = p} {q = q} {r = r} {m = m} e = record { is = e .is ∙ sequence-parts ask ts b p q r m }
+c-assoc {ask = ask} {ts = ts} {b = b} {p = p} {q = q} {r = r} {m = m} e = record { is = e .is ∙ sequence-is ask ts b p q r m }
 
--- `told` leaves the parser as it is
-pub told-left : (tk : List ℕ) (r : ParserAnswered) (k : ParserTested) → r .p ≡ k .p → left tk (r .p .s) ≡ left tk (k .p .s)
-told-left tk r k e = ap (λ (p : Parser). left tk (p .s)) e
+-- `answered` leaves the parser as it is
+pub answered-left : (tk : List ℕ) (r : ParserAnswered) (k : ParserTested) → r .p ≡ k .p → left tk (r .p .s) ≡ left tk (k .p .s)
+answered-left tk r k e = ap (λ (p : Parser). left tk (p .s)) e

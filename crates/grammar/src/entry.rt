@@ -4,22 +4,21 @@ use crate::item;
 use crate::preprocessor_directive::Inside;
 use crate::preprocessor_directive::catch_unmatched_pp_directive;
 use crate::propvalues;
+use ends::nodes::left_over;
+use ends::nodes::unmatched_rcurly;
+use layout::limit::MOST_OPEN_CALLS;
 use layout::token_kind;
 use names::reference_noamp;
-use outside::left_over;
-use outside::unmatched_rcurly;
-use layout::limit::MOST_OPEN_CALLS;
 use parser::Parser;
 ghost use mathlib.Core.Path.{_≡_};
-ghost use mathlib.Core.Bool.{true, false};
-ghost use Prim.Native.Nat.{_+_, _-_, _≤_, _<_};
+ghost use Prim.Native.Nat.{_-_, _≤_};
 ghost use Rattle.definitions.specs.Token.{tokens-of};
 ghost use Rattle.definitions.specs.Prog.{yes};
 ghost use Rattle.definitions.specs.Grammar.{sourcefile-part, entry-sourcefile, entry, whole};
-ghost use Rattle.machine.specs.Walk.{said, walk-prog, unlabelled};
+ghost use Rattle.machine.specs.Walk.{walk-prog, unlabelled};
 ghost use Rattle.machine.specs.Outcome.{fresh};
-ghost use Rattle.parser.specs.View.{view-of, left};
-ghost use Rattle.grammar.specs.Parts.{entry-of};
+ghost use Rattle.parser.specs.View.{view-of, left, runs-of, runs-on-of, says-of};
+ghost use Rattle.grammar.specs.Subprograms.{entry-of};
 
 pub enum Entrypoint {
     SourceFile,
@@ -36,7 +35,7 @@ fn sourcefile_part(
     reports: &mut [u32],
     pool: &mut [u32],
 ) -> Parser
-    ensures { λ r. ⌜ view-of r (now (events .exit)) (now (reports .exit)) (now (pool .exit)) ≡ walk-prog 64 (tokens-of (now (tokens .entry))) unlabelled sourcefile-part (view-of p (now (events .entry)) (now (reports .entry)) (now (pool .entry))) .on ⌝ }
+    ensures { λ r. ⌜ runs-on-of 64 sourcefile-part p r tokens events reports pool ⌝ }
     ensures { λ r. ⌜ left (now (tokens .entry)) (r .s) ≤ left (now (tokens .entry)) (p .s) - 1 ⌝ }
 {
     let rcurly = p.silent_at(tokens, token_kind::RCURLY);
@@ -65,7 +64,7 @@ fn entry_sourcefile(
     reports: &mut [u32],
     pool: &mut [u32],
 ) -> Parser
-    ensures { λ r. ⌜ said yes (view-of r (now (events .exit)) (now (reports .exit)) (now (pool .exit))) ≡ walk-prog 64 (tokens-of (now (tokens .entry))) unlabelled entry-sourcefile (view-of p (now (events .entry)) (now (reports .entry)) (now (pool .entry))) ⌝ }
+    ensures { λ r. ⌜ runs-of 64 entry-sourcefile p (says-of yes r) tokens events reports pool ⌝ }
     ensures { λ r. ⌜ left (now (tokens .entry)) (r .s) ≤ left (now (tokens .entry)) (p .s) ⌝ }
 {
     let mut q = p;
@@ -86,7 +85,7 @@ fn enter(
     pool: &mut [u32],
     entrypoint: Entrypoint,
 ) -> Parser
-    ensures { λ r. ⌜ view-of r (now (events .exit)) (now (reports .exit)) (now (pool .exit)) ≡ walk-prog 64 (tokens-of (now (tokens .entry))) unlabelled (entry (entry-of entrypoint)) (view-of p (now (events .entry)) (now (reports .entry)) (now (pool .entry))) .on ⌝ }
+    ensures { λ r. ⌜ runs-on-of 64 (entry (entry-of entrypoint)) p r tokens events reports pool ⌝ }
     ensures { λ r. ⌜ left (now (tokens .entry)) (r .s) ≤ left (now (tokens .entry)) (p .s) ⌝ }
 {
     match entrypoint {
@@ -110,7 +109,8 @@ pub fn parse(
     pool: &mut [u32],
     entrypoint: Entrypoint,
 ) -> Parser
-    ensures { λ r. ⌜ view-of r (now (events .exit)) (now (reports .exit)) (now (pool .exit)) ≡ walk-prog 64 (tokens-of (now (tokens .entry))) unlabelled (whole (entry-of entrypoint)) (fresh (now (events .entry)) (now (reports .entry)) (now (pool .entry))) .on ⌝ }
+    ensures { λ r. ⌜ view-of r (now (events .exit)) (now (reports .exit)) (now (pool .exit))
+        ≡ walk-prog 64 (tokens-of (now (tokens .entry))) unlabelled (whole (entry-of entrypoint)) (fresh (now (events .entry)) (now (reports .entry)) (now (pool .entry))) .on ⌝ }
 {
     let p = Parser::new();
     let parsed = enter(p, tokens, events, reports, pool, entrypoint);

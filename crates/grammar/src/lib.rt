@@ -2,62 +2,61 @@
 // preprocessor_directive.rs. They are one cycle of calls and so stand in one file: tokens left, and then a rank of the
 // function, fall at each call. The parser goes in and comes back by value; `allowed` is how many more calls of `item`,
 // `propvalues` and `eat_cell` may be opened. What no call can be opened under stands in the crates below.
-// The ten functions of the Rust have its names. The names of their parts are short, since the folder of the cycle's proof
-// is named after all its members and a file's name ends at 249 bytes: `bits`, `value` and `value2` are parts of
-// `propvalues`, `cell2` of `eat_cell`, `item2` of `item`, `rest` of `eat_node_or_prop`, `arm` of `cond_branches_and_end`.
+// The ten functions of the Rust have its names, but `eat_pp_directive`. The names of their cases are short, since the
+// folder of the cycle's proof is named after all its members and a file's name ends at 249 bytes: `bits`, `value` and
+// `value_rest` are cases of `propvalues`, `cell_rest` of `eat_cell`, `item_rest` of `item`, `node` of `eat_node_or_prop`,
+// `branch` of `cond_branches_and_end`.
 pub mod entry;
 mod preprocessor_directive;
 
-use crate::preprocessor_directive::BEGIN_COND_SET;
 use crate::preprocessor_directive::Inside;
-use crate::preprocessor_directive::PREPROCESSOR_DIRECTIVES;
-use expr::OPERATORS_SET;
+use directives::eat_dts_directive;
+use directives::eat_dts_include;
+use ends::after_propvalue;
+use ends::at_cells_end;
+use ends::at_cells_recovery;
+use ends::at_item;
+use ends::nodes::answered;
+use ends::nodes::forbidden_property;
+use ends::nodes::node_end;
+use ends::unfinished;
 use expr::dt_expr;
-use layout::refusal::TOO_DEEP;
-use layout::token_kind;
-use names::CONTINUE_COND_SET;
-use names::ITEM_RECOVERY_SET;
-use names::macro_invocation;
-use names::silent_eat_reference;
-use outside::forbidden_property;
-use outside::node_end;
-use outside::told;
-use parser::Ans;
-use parser::Parser;
-use parser::ParserTested;
-use parser::ParserAnswered;
-use parser::errors::Bump;
-use layout::message::EXPECTED;
+use layout::expected;
 use layout::hint::IN_CELLS;
 use layout::hint::MISSING_PARENTHESES;
 use layout::hint::NO_HINT;
 use layout::hint::PROPERTY_NOT_ALLOWED;
-use layout::message::UNMATCHED_SEMICOLON;
 use layout::hint::UNNAMED_NODE;
 use layout::hint::UNNAMED_PROPERTY;
-use layout::expected;
+use layout::message::EXPECTED;
+use layout::message::UNMATCHED_SEMICOLON;
+use layout::node_kind;
+use layout::refusal::TOO_DEEP;
+use layout::set::BEGIN_COND_SET;
+use layout::set::CONTINUE_COND_SET;
+use layout::set::ITEM_RECOVERY_SET;
+use layout::set::OPERATORS_SET;
+use layout::set::PREPROCESSOR_DIRECTIVES;
+use layout::token_kind;
+use macros::macro_invocation;
+use names::silent_eat_reference;
+use parser::Ans;
+use parser::Parser;
+use parser::ParserAnswered;
+use parser::ParserTested;
+use parser::errors::Bump;
 use parser::marker::Marker;
 use parser::matcher::Matcher;
-use layout::node_kind;
-use parts::after_propvalue;
-use parts::at_cells_end;
-use parts::at_cells_recovery;
-use parts::at_item;
-use parts::eat_dts_directive;
-use parts::eat_dts_include;
-use parts::eat_node_or_prop_prefix;
-use parts::eat_plain_cell;
-use parts::unfinished;
+use plain_cells::eat_plain_cell;
+use prefixes::eat_node_or_prop_prefix;
 ghost use mathlib.Core.Path.{_≡_};
-ghost use mathlib.Core.Bool.{true, false};
-ghost use Prim.Native.Nat.{_+_, _-_, _≤_, _<_};
-ghost use Rattle.definitions.specs.Token.{tokens-of};
+ghost use mathlib.Core.Bool.{true};
+ghost use Prim.Native.Nat.{_-_, _≤_, _<_};
 ghost use Rattle.definitions.specs.Prog.{yes, item, propvalues, eat-cell};
 ghost use Rattle.definitions.specs.Grammar.{eat-inside, branch, cond-branches-and-end, eat-preprocessor-directive, cells, dt-cell-list, bits-value, propvalue, dt-property, dt-node-body, no-property, eat-node-or-prop};
-ghost use Rattle.machine.specs.Walk.{said, closed, walk-rule, walk-prog, unlabelled};
-ghost use Rattle.parser.specs.View.{view-of, parser-tested, left, marker-of};
-ghost use Rattle.parts.specs.View.{parser-answered};
-ghost use Rattle.grammar.specs.Parts.{inside-of, cell-rest, value-rest, item-rest};
+ghost use Rattle.parser.specs.View.{parser-tested, left, calls-of, calls-on-of, closes-of, runs-of, runs-on-of, says-of};
+ghost use Rattle.steps.specs.View.{parser-answered};
+ghost use Rattle.grammar.specs.Subprograms.{inside-of, cell-rest, value-rest, item-rest};
 
 // ---- cells
 
@@ -67,10 +66,10 @@ fn cells(
     events: &mut [u32],
     reports: &mut [u32],
     pool: &mut [u32],
-    room: usize,
+    allowed: usize,
     until_end: bool,
 ) -> ParserTested
-    ensures { λ r. ⌜ parser-tested r (now (events .exit)) (now (reports .exit)) (now (pool .exit)) ≡ walk-prog allowed (tokens-of (now (tokens .entry))) unlabelled (cells «until_end») (view-of p (now (events .entry)) (now (reports .entry)) (now (pool .entry))) ⌝ }
+    ensures { λ r. ⌜ runs-of allowed (cells «until_end») p (parser-tested r) tokens events reports pool ⌝ }
     ensures { λ r. ⌜ left (now (tokens .entry)) (r .p .s) ≤ left (now (tokens .entry)) (p .s) ⌝ }
 {
     let mut q = p;
@@ -85,11 +84,19 @@ fn cells(
             }
             let cut = at_cells_recovery(end.p, tokens);
             if cut.yes {
-                let r = cut.p.error(tokens, events, reports, pool, EXPECTED, NO_HINT, Bump::No);
+                let r = cut.p
+                    .error(tokens, events, reports, pool, EXPECTED, NO_HINT, Bump::No);
                 return ParserTested { p: r, yes: false };
             }
-            q = cut.p
-                .error(tokens, events, reports, pool, EXPECTED, IN_CELLS, Bump::YesWrapErr);
+            q = cut.p.error(
+                tokens,
+                events,
+                reports,
+                pool,
+                EXPECTED,
+                IN_CELLS,
+                Bump::YesWrapErr,
+            );
         }
     }
 }
@@ -100,10 +107,10 @@ fn eat_cell(
     events: &mut [u32],
     reports: &mut [u32],
     pool: &mut [u32],
-    room: usize,
+    allowed: usize,
     until_end: bool,
 ) -> ParserTested
-    ensures { λ r. ⌜ parser-tested r (now (events .exit)) (now (reports .exit)) (now (pool .exit)) ≡ walk-rule allowed (tokens-of (now (tokens .entry))) (eat-cell «until_end») (view-of p (now (events .entry)) (now (reports .entry)) (now (pool .entry))) ⌝ }
+    ensures { λ r. ⌜ calls-of allowed (eat-cell «until_end») p (parser-tested r) tokens events reports pool ⌝ }
     ensures { λ r. ⌜ left (now (tokens .entry)) (r .p .s) ≤ left (now (tokens .entry)) (p .s) ⌝ }
     ensures { λ r. ⌜ (r .yes ≡ true → left (now (tokens .entry)) (r .p .s) < left (now (tokens .entry)) (p .s)) ⌝ }
 {
@@ -121,20 +128,28 @@ fn eat_cell(
         let q = dt_expr(paren.p, tokens, events, reports, pool, allowed - 1);
         return ParserTested { p: q, yes: true };
     }
-    cell2(paren.p, tokens, events, reports, pool, allowed - 1, until_end)
+    cell_rest(
+        paren.p,
+        tokens,
+        events,
+        reports,
+        pool,
+        allowed - 1,
+        until_end,
+    )
 }
 
 // The last cases of `eat_cell`.
-fn cell2(
+fn cell_rest(
     p: Parser,
     tokens: &[u32],
     events: &mut [u32],
     reports: &mut [u32],
     pool: &mut [u32],
-    room: usize,
+    allowed: usize,
     until_end: bool,
 ) -> ParserTested
-    ensures { λ r. ⌜ parser-tested r (now (events .exit)) (now (reports .exit)) (now (pool .exit)) ≡ walk-prog allowed (tokens-of (now (tokens .entry))) unlabelled (cell-rest «until_end») (view-of p (now (events .entry)) (now (reports .entry)) (now (pool .entry))) ⌝ }
+    ensures { λ r. ⌜ runs-of allowed (cell-rest «until_end») p (parser-tested r) tokens events reports pool ⌝ }
     ensures { λ r. ⌜ left (now (tokens .entry)) (r .p .s) ≤ left (now (tokens .entry)) (p .s) ⌝ }
     ensures { λ r. ⌜ (r .yes ≡ true → left (now (tokens .entry)) (r .p .s) < left (now (tokens .entry)) (p .s)) ⌝ }
 {
@@ -142,7 +157,7 @@ fn cell2(
     if include.yes {
         return include;
     }
-    let directive = eat_preprocessor_directive(
+    let directive = eat_pp_directive(
         include.p,
         tokens,
         events,
@@ -182,18 +197,22 @@ fn dt_cell_list(
     events: &mut [u32],
     reports: &mut [u32],
     pool: &mut [u32],
-    room: usize,
+    allowed: usize,
     m: Marker,
 ) -> ParserTested
-    ensures { λ r. ⌜ parser-tested r (now (events .exit)) (now (reports .exit)) (now (pool .exit)) ≡ closed (marker-of m) (walk-prog allowed (tokens-of (now (tokens .entry))) unlabelled dt-cell-list (view-of p (now (events .entry)) (now (reports .entry)) (now (pool .entry)))) ⌝ }
+    ensures { λ r. ⌜ closes-of allowed m dt-cell-list p (parser-tested r) tokens events reports pool ⌝ }
     ensures { λ r. ⌜ left (now (tokens .entry)) (r .p .s) ≤ left (now (tokens .entry)) (p .s) - 1 ⌝ }
 {
     let opened = p.bump(tokens, events);
     let inner = cells(opened, tokens, events, reports, pool, allowed, false);
     if inner.yes {
-        let end = inner
-            .p
-            .expect(tokens, events, reports, pool, Matcher::Kind(token_kind::RANGLE));
+        let end = inner.p.expect(
+            tokens,
+            events,
+            reports,
+            pool,
+            Matcher::Kind(token_kind::RANGLE),
+        );
         let q = end.p.complete(events, m, node_kind::DT_CELL_LIST);
         ParserTested { p: q, yes: true }
     } else {
@@ -211,10 +230,10 @@ fn propvalues(
     events: &mut [u32],
     reports: &mut [u32],
     pool: &mut [u32],
-    room: usize,
+    allowed: usize,
     semicolon: bool,
 ) -> ParserTested
-    ensures { λ r. ⌜ parser-tested r (now (events .exit)) (now (reports .exit)) (now (pool .exit)) ≡ walk-rule allowed (tokens-of (now (tokens .entry))) (propvalues semicolon) (view-of p (now (events .entry)) (now (reports .entry)) (now (pool .entry))) ⌝ }
+    ensures { λ r. ⌜ calls-of allowed (propvalues semicolon) p (parser-tested r) tokens events reports pool ⌝ }
     ensures { λ r. ⌜ left (now (tokens .entry)) (r .p .s) ≤ left (now (tokens .entry)) (p .s) - 1 ⌝ }
 {
     let closed = allowed == 0;
@@ -267,30 +286,32 @@ fn value(
     events: &mut [u32],
     reports: &mut [u32],
     pool: &mut [u32],
-    room: usize,
+    allowed: usize,
     semicolon: bool,
 ) -> ParserAnswered
-    ensures { λ r. ⌜ parser-answered r (now (events .exit)) (now (reports .exit)) (now (pool .exit)) ≡ walk-prog allowed (tokens-of (now (tokens .entry))) unlabelled (propvalue semicolon) (view-of p (now (events .entry)) (now (reports .entry)) (now (pool .entry))) ⌝ }
+    ensures { λ r. ⌜ runs-of allowed (propvalue semicolon) p (parser-answered r) tokens events reports pool ⌝ }
     ensures { λ r. ⌜ left (now (tokens .entry)) (r .p .s) ≤ left (now (tokens .entry)) (p .s) - 1 ⌝ }
 {
     let pushed = p.add_expected(expected::VALUE);
     let directive = pushed.silent_at(tokens, token_kind::BITS_DIRECTIVE);
     if directive.yes {
         let list = bits(directive.p, tokens, events, reports, pool, allowed);
-        return told(list);
+        return answered(list);
     }
-    let string = directive.p.silent_eat(tokens, events, Matcher::Kind(token_kind::STRING));
+    let string = directive
+        .p
+        .silent_eat(tokens, events, Matcher::Kind(token_kind::STRING));
     if string.yes {
-        return told(string);
+        return answered(string);
     }
     let angle = string.p.silent_at(tokens, token_kind::LANGLE);
     if angle.yes {
         let m = Marker::new(angle.p.s);
         let started = angle.p.start(events);
         let list = dt_cell_list(started, tokens, events, reports, pool, allowed, m);
-        return told(list);
+        return answered(list);
     }
-    value2(angle.p, tokens, events, reports, pool, allowed, semicolon)
+    value_rest(angle.p, tokens, events, reports, pool, allowed, semicolon)
 }
 
 // `/bits/`, its number and its cells.
@@ -300,9 +321,9 @@ fn bits(
     events: &mut [u32],
     reports: &mut [u32],
     pool: &mut [u32],
-    room: usize,
+    allowed: usize,
 ) -> ParserTested
-    ensures { λ r. ⌜ parser-tested r (now (events .exit)) (now (reports .exit)) (now (pool .exit)) ≡ walk-prog allowed (tokens-of (now (tokens .entry))) unlabelled bits-value (view-of p (now (events .entry)) (now (reports .entry)) (now (pool .entry))) ⌝ }
+    ensures { λ r. ⌜ runs-of allowed bits-value p (parser-tested r) tokens events reports pool ⌝ }
     ensures { λ r. ⌜ left (now (tokens .entry)) (r .p .s) ≤ left (now (tokens .entry)) (p .s) - 1 ⌝ }
 {
     let m_cell_list = Marker::new(p.s);
@@ -310,36 +331,40 @@ fn bits(
     let m = Marker::new(listed.s);
     let started = listed.start(events);
     let taken = started.bump(tokens, events);
-    let number = taken.expect(tokens, events, reports, pool, Matcher::Kind(token_kind::NUMBER));
+    let number = taken.expect(
+        tokens,
+        events,
+        reports,
+        pool,
+        Matcher::Kind(token_kind::NUMBER),
+    );
     let directive = number.p.complete(events, m, node_kind::DTS_DIRECTIVE);
     let angle = directive.at(tokens, Matcher::Kind(token_kind::LANGLE));
     if angle.yes {
         dt_cell_list(angle.p, tokens, events, reports, pool, allowed, m_cell_list)
     } else {
-        let reported = angle
-            .p
-            .error(tokens, events, reports, pool, EXPECTED, NO_HINT, Bump::Yes);
+        let reported = angle.p.error(tokens, events, reports, pool, EXPECTED, NO_HINT, Bump::Yes);
         let q = reported.complete(events, m_cell_list, node_kind::PARSE_ERROR);
         ParserTested { p: q, yes: true }
     }
 }
 
 // The last cases of a value.
-fn value2(
+fn value_rest(
     p: Parser,
     tokens: &[u32],
     events: &mut [u32],
     reports: &mut [u32],
     pool: &mut [u32],
-    room: usize,
+    allowed: usize,
     semicolon: bool,
 ) -> ParserAnswered
-    ensures { λ r. ⌜ parser-answered r (now (events .exit)) (now (reports .exit)) (now (pool .exit)) ≡ walk-prog allowed (tokens-of (now (tokens .entry))) unlabelled (value-rest semicolon) (view-of p (now (events .entry)) (now (reports .entry)) (now (pool .entry))) ⌝ }
+    ensures { λ r. ⌜ runs-of allowed (value-rest semicolon) p (parser-answered r) tokens events reports pool ⌝ }
     ensures { λ r. ⌜ left (now (tokens .entry)) (r .p .s) ≤ left (now (tokens .entry)) (p .s) - 1 ⌝ }
 {
     let reference = silent_eat_reference(p, tokens, events, reports, pool);
     if reference.yes {
-        return told(reference);
+        return answered(reference);
     }
     let ident = reference.p.silent_at(tokens, token_kind::IDENT);
     if ident.yes {
@@ -353,13 +378,13 @@ fn value2(
         .p
         .silent_eat(tokens, events, Matcher::Kind(token_kind::DT_BYTESTRING));
     if bytes.yes {
-        return told(bytes);
+        return answered(bytes);
     }
     let include = eat_dts_include(bytes.p, tokens, events, reports, pool);
     if include.yes {
-        return told(include);
+        return answered(include);
     }
-    let directive = eat_preprocessor_directive(
+    let directive = eat_pp_directive(
         include.p,
         tokens,
         events,
@@ -369,11 +394,17 @@ fn value2(
         Inside::Values(semicolon),
     );
     if directive.yes {
-        return told(directive);
+        return answered(directive);
     }
-    let q = directive
-        .p
-        .error(tokens, events, reports, pool, EXPECTED, NO_HINT, Bump::YesWrapErr);
+    let q = directive.p.error(
+        tokens,
+        events,
+        reports,
+        pool,
+        EXPECTED,
+        NO_HINT,
+        Bump::YesWrapErr,
+    );
     ParserAnswered {
         p: q,
         ans: Ans::Also,
@@ -389,10 +420,10 @@ fn dt_property(
     events: &mut [u32],
     reports: &mut [u32],
     pool: &mut [u32],
-    room: usize,
+    allowed: usize,
     m: Marker,
 ) -> Parser
-    ensures { λ r. ⌜ said yes (view-of r (now (events .exit)) (now (reports .exit)) (now (pool .exit))) ≡ closed (marker-of m) (walk-prog allowed (tokens-of (now (tokens .entry))) unlabelled dt-property (view-of p (now (events .entry)) (now (reports .entry)) (now (pool .entry)))) ⌝ }
+    ensures { λ r. ⌜ closes-of allowed m dt-property p (says-of yes r) tokens events reports pool ⌝ }
     ensures { λ r. ⌜ left (now (tokens .entry)) (r .s) ≤ left (now (tokens .entry)) (p .s) - 1 ⌝ }
 {
     let empty = p.eat(tokens, events, Matcher::Kind(token_kind::SEMICOLON));
@@ -403,10 +434,19 @@ fn dt_property(
     let list_m = Marker::new(equals.s);
     let started = equals.start(events);
     let values = propvalues(started, tokens, events, reports, pool, allowed, true);
-    let list = values.p.complete(events, list_m, node_kind::PROP_VALUE_LIST);
+    let list = values
+        .p
+        .complete(events, list_m, node_kind::PROP_VALUE_LIST);
     if values.yes {
         let semicolon = Matcher::Kind(token_kind::SEMICOLON);
-        let end = list.expect_recoverable(tokens, events, reports, pool, semicolon, &ITEM_RECOVERY_SET);
+        let end = list.expect_recoverable(
+            tokens,
+            events,
+            reports,
+            pool,
+            semicolon,
+            &ITEM_RECOVERY_SET,
+        );
         end.p.complete(events, m, node_kind::DT_PROPERTY)
     } else {
         list.complete(events, m, node_kind::PARSE_ERROR)
@@ -420,10 +460,10 @@ fn dt_node_body(
     events: &mut [u32],
     reports: &mut [u32],
     pool: &mut [u32],
-    room: usize,
+    allowed: usize,
     m: Marker,
 ) -> Parser
-    ensures { λ r. ⌜ said yes (view-of r (now (events .exit)) (now (reports .exit)) (now (pool .exit))) ≡ closed (marker-of m) (walk-prog allowed (tokens-of (now (tokens .entry))) unlabelled dt-node-body (view-of p (now (events .entry)) (now (reports .entry)) (now (pool .entry)))) ⌝ }
+    ensures { λ r. ⌜ closes-of allowed m dt-node-body p (says-of yes r) tokens events reports pool ⌝ }
     ensures { λ r. ⌜ left (now (tokens .entry)) (r .s) ≤ left (now (tokens .entry)) (p .s) - 1 ⌝ }
 {
     let lcurly_span = p.s.range(tokens);
@@ -446,9 +486,9 @@ fn item(
     events: &mut [u32],
     reports: &mut [u32],
     pool: &mut [u32],
-    room: usize,
+    allowed: usize,
 ) -> Parser
-    ensures { λ r. ⌜ view-of r (now (events .exit)) (now (reports .exit)) (now (pool .exit)) ≡ walk-rule allowed (tokens-of (now (tokens .entry))) item (view-of p (now (events .entry)) (now (reports .entry)) (now (pool .entry))) .on ⌝ }
+    ensures { λ r. ⌜ calls-on-of allowed item p r tokens events reports pool ⌝ }
     ensures { λ r. ⌜ left (now (tokens .entry)) (r .s) ≤ left (now (tokens .entry)) (p .s) - 1 ⌝ }
 {
     let closed = allowed == 0;
@@ -463,7 +503,15 @@ fn item(
     if equals.yes {
         let m = Marker::new(equals.p.s);
         let started = equals.p.start(events);
-        let reported = started.error(tokens, events, reports, pool, EXPECTED, UNNAMED_PROPERTY, Bump::No);
+        let reported = started.error(
+            tokens,
+            events,
+            reports,
+            pool,
+            EXPECTED,
+            UNNAMED_PROPERTY,
+            Bump::No,
+        );
         let m_prop = Marker::new(reported.s);
         let inner = reported.start(events);
         let property = dt_property(inner, tokens, events, reports, pool, allowed - 1, m_prop);
@@ -473,25 +521,33 @@ fn item(
     if lcurly.yes {
         let m = Marker::new(lcurly.p.s);
         let started = lcurly.p.start(events);
-        let reported = started.error(tokens, events, reports, pool, EXPECTED, UNNAMED_NODE, Bump::No);
+        let reported = started.error(
+            tokens,
+            events,
+            reports,
+            pool,
+            EXPECTED,
+            UNNAMED_NODE,
+            Bump::No,
+        );
         let m_node = Marker::new(reported.s);
         let inner = reported.start(events);
         let body = dt_node_body(inner, tokens, events, reports, pool, allowed - 1, m_node);
         return body.complete(events, m, node_kind::PARSE_ERROR);
     }
-    item2(lcurly.p, tokens, events, reports, pool, allowed - 1)
+    item_rest(lcurly.p, tokens, events, reports, pool, allowed - 1)
 }
 
 // The last cases of `item`.
-fn item2(
+fn item_rest(
     p: Parser,
     tokens: &[u32],
     events: &mut [u32],
     reports: &mut [u32],
     pool: &mut [u32],
-    room: usize,
+    allowed: usize,
 ) -> Parser
-    ensures { λ r. ⌜ said yes (view-of r (now (events .exit)) (now (reports .exit)) (now (pool .exit))) ≡ walk-prog allowed (tokens-of (now (tokens .entry))) unlabelled item-rest (view-of p (now (events .entry)) (now (reports .entry)) (now (pool .entry))) ⌝ }
+    ensures { λ r. ⌜ runs-of allowed item-rest p (says-of yes r) tokens events reports pool ⌝ }
     ensures { λ r. ⌜ left (now (tokens .entry)) (r .s) ≤ left (now (tokens .entry)) (p .s) - 1 ⌝ }
 {
     let semicolon = p.silent_at(tokens, token_kind::SEMICOLON);
@@ -510,13 +566,19 @@ fn item2(
     if dts.yes {
         return dts.p;
     }
-    let directive = eat_preprocessor_directive(dts.p, tokens, events, reports, pool, allowed, Inside::Item);
+    let directive = eat_pp_directive(dts.p, tokens, events, reports, pool, allowed, Inside::Item);
     if directive.yes {
         return directive.p;
     }
-    directive
-        .p
-        .error(tokens, events, reports, pool, EXPECTED, NO_HINT, Bump::YesWrapErr)
+    directive.p.error(
+        tokens,
+        events,
+        reports,
+        pool,
+        EXPECTED,
+        NO_HINT,
+        Bump::YesWrapErr,
+    )
 }
 
 fn eat_node_or_prop(
@@ -525,9 +587,9 @@ fn eat_node_or_prop(
     events: &mut [u32],
     reports: &mut [u32],
     pool: &mut [u32],
-    room: usize,
+    allowed: usize,
 ) -> ParserTested
-    ensures { λ r. ⌜ parser-tested r (now (events .exit)) (now (reports .exit)) (now (pool .exit)) ≡ walk-prog allowed (tokens-of (now (tokens .entry))) unlabelled eat-node-or-prop (view-of p (now (events .entry)) (now (reports .entry)) (now (pool .entry))) ⌝ }
+    ensures { λ r. ⌜ runs-of allowed eat-node-or-prop p (parser-tested r) tokens events reports pool ⌝ }
     ensures { λ r. ⌜ left (now (tokens .entry)) (r .p .s) ≤ left (now (tokens .entry)) (p .s) ⌝ }
     ensures { λ r. ⌜ (r .yes ≡ true → left (now (tokens .entry)) (r .p .s) ≤ left (now (tokens .entry)) (p .s) - 1) ⌝ }
 {
@@ -541,35 +603,36 @@ fn eat_node_or_prop(
             ParserTested { p: q, yes: false }
         }
         Ans::Also => {
-            let property = prefix
-                .p
-                .at(tokens, Matcher::Either(token_kind::EQUALS, token_kind::SEMICOLON));
+            let property = prefix.p.at(
+                tokens,
+                Matcher::Either(token_kind::EQUALS, token_kind::SEMICOLON),
+            );
             if property.yes {
                 let q = dt_property(property.p, tokens, events, reports, pool, allowed, m);
                 return ParserTested { p: q, yes: true };
             }
-            let q = rest(property.p, tokens, events, reports, pool, allowed, m, true);
+            let q = node(property.p, tokens, events, reports, pool, allowed, m, true);
             ParserTested { p: q, yes: true }
         }
         _ => {
-            let q = rest(prefix.p, tokens, events, reports, pool, allowed, m, false);
+            let q = node(prefix.p, tokens, events, reports, pool, allowed, m, false);
             ParserTested { p: q, yes: true }
         }
     }
 }
 
-// What follows the prefix, a property apart. The caller's marker.
-fn rest(
+// What follows the prefix, a property apart: the definitions' `no-property`. The caller's marker.
+fn node(
     p: Parser,
     tokens: &[u32],
     events: &mut [u32],
     reports: &mut [u32],
     pool: &mut [u32],
-    room: usize,
+    allowed: usize,
     m: Marker,
     allow_prop: bool,
 ) -> Parser
-    ensures { λ r. ⌜ said yes (view-of r (now (events .exit)) (now (reports .exit)) (now (pool .exit))) ≡ closed (marker-of m) (walk-prog allowed (tokens-of (now (tokens .entry))) unlabelled (no-property «allow_prop») (view-of p (now (events .entry)) (now (reports .entry)) (now (pool .entry)))) ⌝ }
+    ensures { λ r. ⌜ closes-of allowed m (no-property «allow_prop») p (says-of yes r) tokens events reports pool ⌝ }
     ensures { λ r. ⌜ left (now (tokens .entry)) (r .s) ≤ left (now (tokens .entry)) (p .s) ⌝ }
 {
     let lcurly = p.at(tokens, Matcher::Kind(token_kind::LCURLY));
@@ -578,16 +641,20 @@ fn rest(
     }
     let rcurly = lcurly.p.silent_at(tokens, token_kind::RCURLY);
     if rcurly.yes {
-        let q = rcurly
-            .p
-            .error(tokens, events, reports, pool, EXPECTED, NO_HINT, Bump::Yes);
+        let q = rcurly.p.error(tokens, events, reports, pool, EXPECTED, NO_HINT, Bump::Yes);
         return q.complete(events, m, node_kind::PARSE_ERROR);
     }
     let forbidden = forbidden_property(rcurly.p, tokens, allow_prop);
     if forbidden.yes {
-        let reported = forbidden
-            .p
-            .error(tokens, events, reports, pool, EXPECTED, PROPERTY_NOT_ALLOWED, Bump::No);
+        let reported = forbidden.p.error(
+            tokens,
+            events,
+            reports,
+            pool,
+            EXPECTED,
+            PROPERTY_NOT_ALLOWED,
+            Bump::No,
+        );
         let m_prop = Marker::new(reported.s);
         let inner = reported.start(events);
         let property = dt_property(inner, tokens, events, reports, pool, allowed, m_prop);
@@ -605,10 +672,10 @@ fn eat_inside(
     events: &mut [u32],
     reports: &mut [u32],
     pool: &mut [u32],
-    room: usize,
+    allowed: usize,
     inside: Inside,
 ) -> ParserTested
-    ensures { λ r. ⌜ parser-tested r (now (events .exit)) (now (reports .exit)) (now (pool .exit)) ≡ walk-prog allowed (tokens-of (now (tokens .entry))) unlabelled (eat-inside (inside-of inside)) (view-of p (now (events .entry)) (now (reports .entry)) (now (pool .entry))) ⌝ }
+    ensures { λ r. ⌜ runs-of allowed (eat-inside (inside-of inside)) p (parser-tested r) tokens events reports pool ⌝ }
     ensures { λ r. ⌜ left (now (tokens .entry)) (r .p .s) ≤ left (now (tokens .entry)) (p .s) ⌝ }
     ensures { λ r. ⌜ (r .yes ≡ true → left (now (tokens .entry)) (r .p .s) ≤ left (now (tokens .entry)) (p .s) - 1) ⌝ }
 {
@@ -627,16 +694,16 @@ fn eat_inside(
 }
 
 // One branch, up to its end (no) or to a continuation (yes).
-fn arm(
+fn branch(
     p: Parser,
     tokens: &[u32],
     events: &mut [u32],
     reports: &mut [u32],
     pool: &mut [u32],
-    room: usize,
+    allowed: usize,
     inside: Inside,
 ) -> ParserTested
-    ensures { λ r. ⌜ parser-tested r (now (events .exit)) (now (reports .exit)) (now (pool .exit)) ≡ walk-prog allowed (tokens-of (now (tokens .entry))) unlabelled (branch (inside-of inside)) (view-of p (now (events .entry)) (now (reports .entry)) (now (pool .entry))) ⌝ }
+    ensures { λ r. ⌜ runs-of allowed (branch (inside-of inside)) p (parser-tested r) tokens events reports pool ⌝ }
     ensures { λ r. ⌜ left (now (tokens .entry)) (r .p .s) ≤ left (now (tokens .entry)) (p .s) ⌝ }
     ensures { λ r. ⌜ (r .yes ≡ true → 0 < left (now (tokens .entry)) (p .s)) ⌝ }
 {
@@ -645,24 +712,29 @@ fn arm(
     loop {
         let endif = q.at(tokens, Matcher::Kind(token_kind::ENDIF_DIRECTIVE));
         if endif.yes {
-            let r = endif.p.complete(events, m_branch, node_kind::PREPROCESSOR_BRANCH);
+            let r = endif
+                .p
+                .complete(events, m_branch, node_kind::PREPROCESSOR_BRANCH);
             return ParserTested { p: r, yes: false };
         }
         let end = endif.p.at_end(tokens);
         if end.yes {
-            let r = end.p.complete(events, m_branch, node_kind::PREPROCESSOR_BRANCH);
+            let r = end.p
+                .complete(events, m_branch, node_kind::PREPROCESSOR_BRANCH);
             return ParserTested { p: r, yes: false };
         }
         let next = end.p.silent_at_set(tokens, &CONTINUE_COND_SET);
         if next.yes {
-            let r = next.p.complete(events, m_branch, node_kind::PREPROCESSOR_BRANCH);
+            let r = next.p
+                .complete(events, m_branch, node_kind::PREPROCESSOR_BRANCH);
             return ParserTested { p: r, yes: true };
         }
         let more = eat_inside(next.p, tokens, events, reports, pool, allowed, inside);
         if more.yes {
             q = more.p;
         } else {
-            let r = more.p.complete(events, m_branch, node_kind::PREPROCESSOR_BRANCH);
+            let r = more.p
+                .complete(events, m_branch, node_kind::PREPROCESSOR_BRANCH);
             return ParserTested { p: r, yes: false };
         }
     }
@@ -674,35 +746,42 @@ fn cond_branches_and_end(
     events: &mut [u32],
     reports: &mut [u32],
     pool: &mut [u32],
-    room: usize,
+    allowed: usize,
     inside: Inside,
 ) -> Parser
-    ensures { λ r. ⌜ view-of r (now (events .exit)) (now (reports .exit)) (now (pool .exit)) ≡ walk-prog allowed (tokens-of (now (tokens .entry))) unlabelled (cond-branches-and-end (inside-of inside)) (view-of p (now (events .entry)) (now (reports .entry)) (now (pool .entry))) .on ⌝ }
+    ensures { λ r. ⌜ runs-on-of allowed (cond-branches-and-end (inside-of inside)) p r tokens events reports pool ⌝ }
     ensures { λ r. ⌜ left (now (tokens .entry)) (r .s) ≤ left (now (tokens .entry)) (p .s) ⌝ }
 {
     let mut q = p;
     loop {
-        let more = arm(q, tokens, events, reports, pool, allowed, inside);
+        let more = branch(q, tokens, events, reports, pool, allowed, inside);
         if more.yes {
             q = more.p.bump(tokens, events);
         } else {
-            let end = more.p
-                .expect(tokens, events, reports, pool, Matcher::Kind(token_kind::ENDIF_DIRECTIVE));
+            let end = more.p.expect(
+                tokens,
+                events,
+                reports,
+                pool,
+                Matcher::Kind(token_kind::ENDIF_DIRECTIVE),
+            );
             return end.p;
         }
     }
 }
 
-fn eat_preprocessor_directive(
+// `eat_preprocessor_directive`
+fn eat_pp_directive(
     p: Parser,
     tokens: &[u32],
     events: &mut [u32],
     reports: &mut [u32],
     pool: &mut [u32],
-    room: usize,
+    allowed: usize,
     inside: Inside,
 ) -> ParserTested
-    ensures { λ r. ⌜ parser-tested r (now (events .exit)) (now (reports .exit)) (now (pool .exit)) ≡ walk-prog allowed (tokens-of (now (tokens .entry))) unlabelled (eat-preprocessor-directive (inside-of inside)) (view-of p (now (events .entry)) (now (reports .entry)) (now (pool .entry))) ⌝ }
+    ensures { λ r. ⌜ runs-of allowed (eat-preprocessor-directive (inside-of inside)) p (parser-tested r)
+        tokens events reports pool ⌝ }
     ensures { λ r. ⌜ left (now (tokens .entry)) (r .p .s) ≤ left (now (tokens .entry)) (p .s) ⌝ }
     ensures { λ r. ⌜ (r .yes ≡ true → left (now (tokens .entry)) (r .p .s) < left (now (tokens .entry)) (p .s)) ⌝ }
 {
@@ -714,7 +793,15 @@ fn eat_preprocessor_directive(
             let m_cond = Marker::new(begin.p.s);
             let started = begin.p.start(events);
             let first = started.bump(tokens, events);
-            let branches = cond_branches_and_end(first, tokens, events, reports, pool, allowed, inside);
+            let branches = cond_branches_and_end(
+                first,
+                tokens,
+                events,
+                reports,
+                pool,
+                allowed,
+                inside,
+            );
             let q = branches.complete(events, m_cond, node_kind::PREPROCESSOR_CONDITIONAL);
             return ParserTested { p: q, yes: true };
         }

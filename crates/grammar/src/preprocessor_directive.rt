@@ -1,25 +1,21 @@
-// grammar/preprocessor_directive.rs: its sets, and what is not in the cycle of calls. The rest of it stands in lib.rt.
+// grammar/preprocessor_directive.rs: what is not in the cycle of calls. Its other functions stand in lib.rt.
 use crate::cond_branches_and_end;
-use layout::token_kind;
-use names::CONTINUE_COND_SET;
-use parser::Parser;
-use parser::ParserTested;
-use parser::errors::Bump;
 use layout::hint::NO_HINT;
 use layout::message::STRAY_CONTINUATION;
 use layout::message::UNMATCHED_ENDIF;
-use parser::marker::Marker;
 use layout::node_kind;
+use layout::set::CONTINUE_COND_SET;
+use layout::token_kind;
+use parser::Parser;
+use parser::ParserTested;
+use parser::errors::Bump;
+use parser::marker::Marker;
 ghost use mathlib.Core.Path.{_≡_};
-ghost use mathlib.Core.Bool.{true, false};
-ghost use mathlib.Core.List.{List};
-ghost use Prim.Native.Nat.{ℕ, _+_, _-_, _≤_, _<_};
-ghost use Rattle.definitions.specs.Token.{tokens-of};
-ghost use Rattle.definitions.specs.Skeleton.{Span};
+ghost use mathlib.Core.Bool.{true};
+ghost use Prim.Native.Nat.{_-_, _≤_};
 ghost use Rattle.definitions.specs.Grammar.{catch-unmatched-pp-directive};
-ghost use Rattle.machine.specs.Walk.{walk-prog, unlabelled};
-ghost use Rattle.parser.specs.View.{view-of, parser-tested, left};
-ghost use Rattle.grammar.specs.Parts.{inside-of};
+ghost use Rattle.parser.specs.View.{parser-tested, left, runs-of};
+ghost use Rattle.grammar.specs.Subprograms.{inside-of};
 
 // What a conditional's branch holds, in the place of the closures `eat_inside`: items, values (whether a semicolon ends
 // them), or cells (whether the end of input does).
@@ -29,51 +25,44 @@ pub enum Inside {
     Cell(bool),
 }
 
-pub const BEGIN_COND_SET: [u8; 3] = [
-    token_kind::IFNDEF_DIRECTIVE,
-    token_kind::IFDEF_DIRECTIVE,
-    token_kind::IF_DIRECTIVE,
-];
-
-// `TokenKind::is_preprocessor_directive`
-pub const PREPROCESSOR_DIRECTIVES: [u8; 13] = [
-    token_kind::IF_DIRECTIVE,
-    token_kind::IFDEF_DIRECTIVE,
-    token_kind::IFNDEF_DIRECTIVE,
-    token_kind::ELIF_DIRECTIVE,
-    token_kind::ELIFDEF_DIRECTIVE,
-    token_kind::ELIFNDEF_DIRECTIVE,
-    token_kind::ELSE_DIRECTIVE,
-    token_kind::ENDIF_DIRECTIVE,
-    token_kind::PRAGMA_DIRECTIVE,
-    token_kind::DEFINE_DIRECTIVE,
-    token_kind::UNDEF_DIRECTIVE,
-    token_kind::INCLUDE_DIRECTIVE,
-    token_kind::ERROR_DIRECTIVE,
-];
-
 pub fn catch_unmatched_pp_directive(
     p: Parser,
     tokens: &[u32],
     events: &mut [u32],
     reports: &mut [u32],
     pool: &mut [u32],
-    room: usize,
+    allowed: usize,
     inside: Inside,
 ) -> ParserTested
-    ensures { λ r. ⌜ parser-tested r (now (events .exit)) (now (reports .exit)) (now (pool .exit)) ≡ walk-prog allowed (tokens-of (now (tokens .entry))) unlabelled (catch-unmatched-pp-directive (inside-of inside)) (view-of p (now (events .entry)) (now (reports .entry)) (now (pool .entry))) ⌝ }
+    ensures { λ r. ⌜ runs-of allowed (catch-unmatched-pp-directive (inside-of inside)) p (parser-tested r)
+        tokens events reports pool ⌝ }
     ensures { λ r. ⌜ left (now (tokens .entry)) (r .p .s) ≤ left (now (tokens .entry)) (p .s) ⌝ }
     ensures { λ r. ⌜ (r .yes ≡ true → left (now (tokens .entry)) (r .p .s) ≤ left (now (tokens .entry)) (p .s) - 1) ⌝ }
 {
     let endif = p.silent_at(tokens, token_kind::ENDIF_DIRECTIVE);
     if endif.yes {
-        let q = endif.p.error(tokens, events, reports, pool, UNMATCHED_ENDIF, NO_HINT, Bump::YesWrapErr);
+        let q = endif.p.error(
+            tokens,
+            events,
+            reports,
+            pool,
+            UNMATCHED_ENDIF,
+            NO_HINT,
+            Bump::YesWrapErr,
+        );
         return ParserTested { p: q, yes: true };
     }
     let next = endif.p.silent_at_set(tokens, &CONTINUE_COND_SET);
     if next.yes {
-        let reported = next.p
-            .error(tokens, events, reports, pool, STRAY_CONTINUATION, NO_HINT, Bump::No);
+        let reported = next.p.error(
+            tokens,
+            events,
+            reports,
+            pool,
+            STRAY_CONTINUATION,
+            NO_HINT,
+            Bump::No,
+        );
         let m_err = Marker::new(reported.s);
         let started = reported.start(events);
         let first = started.bump(tokens, events);

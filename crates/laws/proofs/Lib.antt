@@ -28,3 +28,5 @@ pub mod Limits
 pub mod Progress
 pub mod FactsHold
 pub mod Takes
+pub mod Witnesses
+pub mod Refutations

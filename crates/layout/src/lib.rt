@@ -1,6 +1,6 @@
-// The numbers of the layout, each once: token and node kinds, event tags, row sizes, messages, hints, expectations,
-// refusals and limits. In the definitions they stand in specs/Layout, TokenKind, LexError, NodeKind and Errors. Beside
-// them: what is trivia, and sums of 32 bits.
+// The numbers of the layout, each once: token kinds and sets of them, node kinds, event tags, row sizes, messages, hints,
+// expectations, refusals and limits. In the definitions they stand in specs/Layout, TokenKind, LexError, NodeKind and
+// Errors, the sets in Check and Grammar. Beside them: what is trivia, and sums of 32 bits.
 pub mod event_tag;
 pub mod expected;
 pub mod hint;
@@ -10,6 +10,7 @@ pub mod node_kind;
 pub mod refusal;
 pub mod row;
 pub mod row_kind;
+pub mod set;
 pub mod token_kind;
 pub mod word;
 

@@ -1,5 +1,2 @@
--- What the proofs of the grammar's functions share, here and in the crates above.
-pub mod Ways
+-- What the proofs of the functions share.
 pub mod Opened
-pub mod Kit
-pub mod Arguments

@@ -3,10 +3,10 @@ use mathlib.Core.Path.{_≡_, refl}
 use mathlib.Core.List.{[], _∷_}
 use Rattle.definitions.specs.TokenKind as K
 use Rattle.definitions.specs.NodeKind as N
-use Rattle.definitions.specs.Prog.{no, yes, again, silent-at, immediate, bump-argument, bump-name, Prog, ret, act, _⨟_, in-marker, loop}
-use Rattle.definitions.specs.Check.{tell, if_then_else_, _and_, not!, while_run_, in-node, end?, bump!, expected, error!, error-wrap!, Matcher, set, of-kind, NAME-SET, Name, LabelName, silent, at, silent-eat, eat, assert-eat, expect}
-use Rattle.definitions.specs.Grammar.{CONTINUE-COND-SET, macro-argument-turn, macro-invocation, silent-at-macro-invocation-with-args, MacroSubstitutableName, UnitAddress, path-segment, path-turn, path-rest, reference-noamp, Reference}
-use Rattle.names.specs.Parts.{argument-list, at-segment, path}
+use Rattle.definitions.specs.Prog.{no, yes, silent-at, bump-name, Prog, act, _⨟_, loop}
+use Rattle.definitions.specs.Check.{tell, if_then_else_, _and_, not!, while_run_, in-node, end?, bump!, expected, error!, error-wrap!, Matcher, set, of-kind, NAME-SET, Name, LabelName, silent, at, silent-eat, eat, expect}
+use Rattle.definitions.specs.Grammar.{CONTINUE-COND-SET, macro-invocation, silent-at-macro-invocation-with-args, MacroSubstitutableName, UnitAddress, path-segment, path-turn, path-rest, reference-noamp, Reference}
+use Rattle.names.specs.Subprograms.{at-segment, path}
 
 -- ---------------------------------------------------------------- Check.antt
 
@@ -21,20 +21,6 @@ eat-is m = refl
 pub expect-is : (m : Matcher) → expect m ≡ if eat m then tell yes else error! ⨟ tell no
 unfolding expect
 expect-is m = refl
-
--- ---------------------------------------------------------------- macro invocations
-
-pub macro-argument-turn-is : macro-argument-turn ≡ if in-marker (if act bump-argument then ret N.MacroArgument yes else ret N.MacroArgument no) then bump! ⨟ tell again else tell yes
-unfolding macro-argument-turn
-macro-argument-turn-is = refl
-
-pub argument-list-is : argument-list ≡ bump! ⨟ (if not! (at (of-kind K.RParen)) then loop macro-argument-turn else tell yes) ⨟ expect (of-kind K.RParen)
-unfolding argument-list
-argument-list-is = refl
-
-pub macro-invocation-is : macro-invocation ≡ in-node N.MacroInvocation (assert-eat K.Ident ⨟ if expected K.LParen ⨟ act (immediate K.LParen) then argument-list else tell yes)
-unfolding macro-invocation argument-list
-macro-invocation-is = refl
 
 -- ---------------------------------------------------------------- the grammar's matchers
 

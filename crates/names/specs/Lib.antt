@@ -1,2 +1,2 @@
--- The parts of the grammar's programs that functions here have for themselves.
-pub mod Parts
+-- What the contracts of this crate cite.
+pub mod Subprograms

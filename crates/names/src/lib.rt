@@ -1,76 +1,19 @@
-// The first part of grammar.rs: macro invocations, and the grammar's own matchers: names that may be macros, unit
-// addresses and references. No open call can be under any of these. The functions here are for the cycle of calls, which
-// holds the whole parser by value; the modules have the work.
+// The grammar's own matchers of grammar.rs: names that may be macros, unit addresses and references. No open call can be
+// under any of these. The functions here are for the cycle of calls, which holds the whole parser by value; the modules
+// have the work.
 pub mod macro_substitutable_name;
-pub mod macros;
 pub mod reference;
 pub mod unit_address;
 
-use layout::token_kind;
 use parser::Parser;
 use parser::ParserTested;
 ghost use mathlib.Core.Path.{_≡_};
 ghost use mathlib.Core.Bool.{true};
 ghost use Prim.Native.Nat.{_-_, _≤_};
-ghost use Rattle.definitions.specs.Token.{tokens-of};
-ghost use Rattle.definitions.specs.Skeleton.{Span};
-ghost use Rattle.definitions.specs.Prog.{Rule, yes};
+ghost use Rattle.definitions.specs.Prog.{yes};
 ghost use Rattle.definitions.specs.Check.{silent-eat as silent-eat-prog};
-ghost use Rattle.definitions.specs.Grammar.{macro-invocation as macro-invocation-prog, reference-noamp as reference-noamp-prog, Reference};
-ghost use Rattle.machine.specs.Machine.{Machine};
-ghost use Rattle.machine.specs.Walk.{Walked, said, walk};
-ghost use Rattle.parser.specs.View.{view-of, parser-tested, left};
-
-// preprocessor_directive.rs: what continues a conditional. A path ends there too.
-pub const CONTINUE_COND_SET: [u8; 4] = [
-    token_kind::ELIFNDEF_DIRECTIVE,
-    token_kind::ELIFDEF_DIRECTIVE,
-    token_kind::ELIF_DIRECTIVE,
-    token_kind::ELSE_DIRECTIVE,
-];
-
-// Kinds that are left where they stand after a report in an item.
-pub const ITEM_RECOVERY_SET: [u8; 24] = [
-    token_kind::SLASH,
-    token_kind::IDENT,
-    token_kind::NUMBER,
-    token_kind::COMMA,
-    token_kind::MINUS,
-    token_kind::AMPERSAND,
-    token_kind::EQUALS,
-    token_kind::LCURLY,
-    token_kind::SEMICOLON,
-    token_kind::V1_DIRECTIVE,
-    token_kind::PLUGIN_DIRECTIVE,
-    token_kind::DT_INCLUDE_DIRECTIVE,
-    token_kind::MEMRESERVE_DIRECTIVE,
-    token_kind::DELETE_NODE_DIRECTIVE,
-    token_kind::DELETE_PROPERTY_DIRECTIVE,
-    token_kind::RCURLY,
-    token_kind::ENDIF_DIRECTIVE,
-    token_kind::IFNDEF_DIRECTIVE,
-    token_kind::IFDEF_DIRECTIVE,
-    token_kind::IF_DIRECTIVE,
-    token_kind::ELIFNDEF_DIRECTIVE,
-    token_kind::ELIFDEF_DIRECTIVE,
-    token_kind::ELIF_DIRECTIVE,
-    token_kind::ELSE_DIRECTIVE,
-];
-
-pub fn macro_invocation(
-    p: Parser,
-    tokens: &[u32],
-    events: &mut [u32],
-    reports: &mut [u32],
-    pool: &mut [u32],
-) -> Parser
-    ensures { λ r. ⌜ ((ask : Rule → Machine → Walked) (b : Span) → said yes (view-of r (now (events .exit)) (now (reports .exit)) (now (pool .exit))) ≡ walk ask (tokens-of (now (tokens .entry))) b macro-invocation-prog (view-of p (now (events .entry)) (now (reports .entry)) (now (pool .entry)))) ⌝ }
-    ensures { λ r. ⌜ left (now (tokens .entry)) (r .s) ≤ left (now (tokens .entry)) (p .s) - 1 ⌝ }
-{
-    let mut codes = p.codes;
-    let s = macros::macro_invocation(p.s, &mut codes, tokens, events, reports, pool);
-    Parser { codes: codes, s: s }
-}
+ghost use Rattle.definitions.specs.Grammar.{reference-noamp as reference-noamp-prog, Reference};
+ghost use Rattle.parser.specs.View.{parser-tested, left, walks-of, walks-on-of};
 
 pub fn silent_eat_reference(
     p: Parser,
@@ -79,7 +22,7 @@ pub fn silent_eat_reference(
     reports: &mut [u32],
     pool: &mut [u32],
 ) -> ParserTested
-    ensures { λ r. ⌜ ((ask : Rule → Machine → Walked) (b : Span) → parser-tested r (now (events .exit)) (now (reports .exit)) (now (pool .exit)) ≡ walk ask (tokens-of (now (tokens .entry))) b (silent-eat-prog Reference) (view-of p (now (events .entry)) (now (reports .entry)) (now (pool .entry)))) ⌝ }
+    ensures { λ r. ⌜ walks-of (silent-eat-prog Reference) p (parser-tested r) tokens events reports pool ⌝ }
     ensures { λ r. ⌜ left (now (tokens .entry)) (r .p .s) ≤ left (now (tokens .entry)) (p .s) ⌝ }
     ensures { λ r. ⌜ (r .yes ≡ true → left (now (tokens .entry)) (r .p .s) ≤ left (now (tokens .entry)) (p .s) - 1) ⌝ }
 {
@@ -97,7 +40,7 @@ pub fn reference_noamp(
     reports: &mut [u32],
     pool: &mut [u32],
 ) -> Parser
-    ensures { λ r. ⌜ ((ask : Rule → Machine → Walked) (b : Span) → view-of r (now (events .exit)) (now (reports .exit)) (now (pool .exit)) ≡ walk ask (tokens-of (now (tokens .entry))) b reference-noamp-prog (view-of p (now (events .entry)) (now (reports .entry)) (now (pool .entry))) .on) ⌝ }
+    ensures { λ r. ⌜ walks-on-of reference-noamp-prog p r tokens events reports pool ⌝ }
     ensures { λ r. ⌜ left (now (tokens .entry)) (r .s) ≤ left (now (tokens .entry)) (p .s) ⌝ }
 {
     let mut codes = p.codes;

@@ -1,30 +1,25 @@
 // The matcher Reference: an Ampersand and what `reference_noamp` of grammar.rs parses: a path in curly brackets, a macro
 // invocation with arguments, or a label.
-use crate::CONTINUE_COND_SET;
-use crate::macros::macro_invocation;
 use crate::unit_address;
-use layout::token_kind;
-use parser::StateTested;
-use parser::State;
-use parser::errors::Bump;
-use layout::message::EXPECTED;
 use layout::hint::NO_HINT;
+use layout::message::EXPECTED;
+use layout::node_kind;
+use layout::set::CONTINUE_COND_SET;
+use layout::token_kind;
+use macros::invocation::macro_invocation;
+use parser::State;
+use parser::StateTested;
+use parser::errors::Bump;
 use parser::marker::Marker;
 use parser::matcher::Matcher;
-use layout::node_kind;
 ghost use mathlib.Core.Path.{_≡_};
 ghost use mathlib.Core.Bool.{true};
-ghost use mathlib.Core.List.{List};
-ghost use Prim.Native.Nat.{ℕ, _-_, _≤_, _<_};
-ghost use Rattle.definitions.specs.Token.{tokens-of};
-ghost use Rattle.definitions.specs.Skeleton.{Span};
-ghost use Rattle.definitions.specs.Prog.{Rule, yes, loop};
+ghost use Prim.Native.Nat.{_-_, _≤_, _<_};
+ghost use Rattle.definitions.specs.Prog.{yes, loop};
 ghost use Rattle.definitions.specs.Check.{silent-eat as silent-eat-prog, eat as eat-prog};
 ghost use Rattle.definitions.specs.Grammar.{path-segment, path-turn, path-rest, reference-noamp, Reference};
-ghost use Rattle.machine.specs.Machine.{Machine};
-ghost use Rattle.machine.specs.Walk.{Walked, said, walk};
-ghost use Rattle.parser.specs.View.{view, left, state-tested};
-ghost use Rattle.names.specs.Parts.{at-segment, path};
+ghost use Rattle.parser.specs.View.{left, state-tested, looks, says, walks, walks-on};
+ghost use Rattle.names.specs.Subprograms.{at-segment, path};
 
 fn path_segment(
     s: State,
@@ -34,7 +29,7 @@ fn path_segment(
     reports: &mut [u32],
     pool: &mut [u32],
 ) -> State
-    ensures { λ r. ⌜ ((ask : Rule → Machine → Walked) (b : Span) → view r (now (codes .exit)) (now (events .exit)) (now (reports .exit)) (now (pool .exit)) ≡ walk ask (tokens-of (now (tokens .entry))) b path-segment (view s (now (codes .entry)) (now (events .entry)) (now (reports .entry)) (now (pool .entry))) .on) ⌝ }
+    ensures { λ r. ⌜ walks-on path-segment s r codes tokens events reports pool ⌝ }
     ensures { λ r. ⌜ left (now (tokens .entry)) r ≤ left (now (tokens .entry)) s - 1 ⌝ }
 {
     let name = s.eat(codes, tokens, events, Matcher::Name);
@@ -42,13 +37,22 @@ fn path_segment(
         let unit = unit_address::eat(name.s, codes, tokens, events, reports, pool);
         unit.s
     } else {
-        name.s.error(codes, tokens, events, reports, pool, EXPECTED, NO_HINT, Bump::YesWrapErr)
+        name.s.error(
+            codes,
+            tokens,
+            events,
+            reports,
+            pool,
+            EXPECTED,
+            NO_HINT,
+            Bump::YesWrapErr,
+        )
     }
 }
 
 // Whether a path goes on here.
 fn at_segment(s: State, codes: &mut [u8; 256], tokens: &[u32]) -> StateTested
-    ensures { λ r. ⌜ ((ask : Rule → Machine → Walked) (b : Span) (events reports pool : List ℕ) → state-tested r (now (codes .exit)) events reports pool ≡ walk ask (tokens-of (now (tokens .entry))) b at-segment (view s (now (codes .entry)) events reports pool)) ⌝ }
+    ensures { λ r. ⌜ looks at-segment s (state-tested r) codes tokens ⌝ }
     ensures { λ r. ⌜ left (now (tokens .entry)) (r .s) ≤ left (now (tokens .entry)) s ⌝ }
     ensures { λ r. ⌜ (r .yes ≡ true → 0 < left (now (tokens .entry)) s) ⌝ }
 {
@@ -85,15 +89,21 @@ fn path_segments(
     reports: &mut [u32],
     pool: &mut [u32],
 ) -> State
-    ensures { λ r. ⌜ ((ask : Rule → Machine → Walked) (b : Span) → said yes (view r (now (codes .exit)) (now (events .exit)) (now (reports .exit)) (now (pool .exit))) ≡ walk ask (tokens-of (now (tokens .entry))) b (loop path-turn) (view s (now (codes .entry)) (now (events .entry)) (now (reports .entry)) (now (pool .entry)))) ⌝ }
+    ensures { λ r. ⌜ walks (loop path-turn) s (says yes r) codes tokens events reports pool ⌝ }
     ensures { λ r. ⌜ left (now (tokens .entry)) r ≤ left (now (tokens .entry)) s ⌝ }
 {
     let mut q = s;
     loop {
         let more = at_segment(q, codes, tokens);
         if more.yes {
-            let slash = more.s
-                .expect(codes, tokens, events, reports, pool, Matcher::Kind(token_kind::SLASH));
+            let slash = more.s.expect(
+                codes,
+                tokens,
+                events,
+                reports,
+                pool,
+                Matcher::Kind(token_kind::SLASH),
+            );
             q = path_segment(slash.s, codes, tokens, events, reports, pool);
         } else {
             return more.s;
@@ -109,11 +119,18 @@ fn path_rest(
     reports: &mut [u32],
     pool: &mut [u32],
 ) -> State
-    ensures { λ r. ⌜ ((ask : Rule → Machine → Walked) (b : Span) → view r (now (codes .exit)) (now (events .exit)) (now (reports .exit)) (now (pool .exit)) ≡ walk ask (tokens-of (now (tokens .entry))) b path-rest (view s (now (codes .entry)) (now (events .entry)) (now (reports .entry)) (now (pool .entry))) .on) ⌝ }
+    ensures { λ r. ⌜ walks-on path-rest s r codes tokens events reports pool ⌝ }
     ensures { λ r. ⌜ left (now (tokens .entry)) r ≤ left (now (tokens .entry)) s ⌝ }
 {
     let segments = path_segments(s, codes, tokens, events, reports, pool);
-    let end = segments.expect(codes, tokens, events, reports, pool, Matcher::Kind(token_kind::RCURLY));
+    let end = segments.expect(
+        codes,
+        tokens,
+        events,
+        reports,
+        pool,
+        Matcher::Kind(token_kind::RCURLY),
+    );
     end.s
 }
 
@@ -126,12 +143,14 @@ fn path(
     reports: &mut [u32],
     pool: &mut [u32],
 ) -> State
-    ensures { λ r. ⌜ ((ask : Rule → Machine → Walked) (b : Span) → view r (now (codes .exit)) (now (events .exit)) (now (reports .exit)) (now (pool .exit)) ≡ walk ask (tokens-of (now (tokens .entry))) b path (view s (now (codes .entry)) (now (events .entry)) (now (reports .entry)) (now (pool .entry))) .on) ⌝ }
+    ensures { λ r. ⌜ walks-on path s r codes tokens events reports pool ⌝ }
     ensures { λ r. ⌜ left (now (tokens .entry)) r ≤ left (now (tokens .entry)) s ⌝ }
 {
     let absolute = s.eat(codes, tokens, events, Matcher::Kind(token_kind::SLASH));
     if absolute.yes {
-        let root = absolute.s.eat(codes, tokens, events, Matcher::Kind(token_kind::RCURLY));
+        let root = absolute
+            .s
+            .eat(codes, tokens, events, Matcher::Kind(token_kind::RCURLY));
         if root.yes {
             return root.s;
         }
@@ -142,7 +161,16 @@ fn path(
     if label.yes {
         return path_rest(label.s, codes, tokens, events, reports, pool);
     }
-    let q = label.s.error(codes, tokens, events, reports, pool, EXPECTED, NO_HINT, Bump::YesWrapErr);
+    let q = label.s.error(
+        codes,
+        tokens,
+        events,
+        reports,
+        pool,
+        EXPECTED,
+        NO_HINT,
+        Bump::YesWrapErr,
+    );
     path_rest(q, codes, tokens, events, reports, pool)
 }
 
@@ -154,7 +182,7 @@ pub fn reference_noamp(
     reports: &mut [u32],
     pool: &mut [u32],
 ) -> State
-    ensures { λ r. ⌜ ((ask : Rule → Machine → Walked) (b : Span) → view r (now (codes .exit)) (now (events .exit)) (now (reports .exit)) (now (pool .exit)) ≡ walk ask (tokens-of (now (tokens .entry))) b reference-noamp (view s (now (codes .entry)) (now (events .entry)) (now (reports .entry)) (now (pool .entry))) .on) ⌝ }
+    ensures { λ r. ⌜ walks-on reference-noamp s r codes tokens events reports pool ⌝ }
     ensures { λ r. ⌜ left (now (tokens .entry)) r ≤ left (now (tokens .entry)) s ⌝ }
 {
     let braced = s.eat(codes, tokens, events, Matcher::Kind(token_kind::LCURLY));
@@ -169,7 +197,16 @@ pub fn reference_noamp(
     if label.yes {
         return label.s;
     }
-    label.s.error(codes, tokens, events, reports, pool, EXPECTED, NO_HINT, Bump::YesWrapErr)
+    label.s.error(
+        codes,
+        tokens,
+        events,
+        reports,
+        pool,
+        EXPECTED,
+        NO_HINT,
+        Bump::YesWrapErr,
+    )
 }
 
 fn consume(
@@ -180,7 +217,7 @@ fn consume(
     reports: &mut [u32],
     pool: &mut [u32],
 ) -> State
-    ensures { λ r. ⌜ ((ask : Rule → Machine → Walked) (b : Span) → said yes (view r (now (codes .exit)) (now (events .exit)) (now (reports .exit)) (now (pool .exit))) ≡ walk ask (tokens-of (now (tokens .entry))) b (Reference .consume) (view s (now (codes .entry)) (now (events .entry)) (now (reports .entry)) (now (pool .entry)))) ⌝ }
+    ensures { λ r. ⌜ walks (Reference .consume) s (says yes r) codes tokens events reports pool ⌝ }
     ensures { λ r. ⌜ left (now (tokens .entry)) r ≤ left (now (tokens .entry)) s - 1 ⌝ }
 {
     let m = Marker::new(s);
@@ -199,7 +236,7 @@ pub fn silent_eat(
     reports: &mut [u32],
     pool: &mut [u32],
 ) -> StateTested
-    ensures { λ r. ⌜ ((ask : Rule → Machine → Walked) (b : Span) → state-tested r (now (codes .exit)) (now (events .exit)) (now (reports .exit)) (now (pool .exit)) ≡ walk ask (tokens-of (now (tokens .entry))) b (silent-eat-prog Reference) (view s (now (codes .entry)) (now (events .entry)) (now (reports .entry)) (now (pool .entry)))) ⌝ }
+    ensures { λ r. ⌜ walks (silent-eat-prog Reference) s (state-tested r) codes tokens events reports pool ⌝ }
     ensures { λ r. ⌜ left (now (tokens .entry)) (r .s) ≤ left (now (tokens .entry)) s ⌝ }
     ensures { λ r. ⌜ (r .yes ≡ true → left (now (tokens .entry)) (r .s) ≤ left (now (tokens .entry)) s - 1) ⌝ }
 {
@@ -220,7 +257,7 @@ pub fn eat(
     reports: &mut [u32],
     pool: &mut [u32],
 ) -> StateTested
-    ensures { λ r. ⌜ ((ask : Rule → Machine → Walked) (b : Span) → state-tested r (now (codes .exit)) (now (events .exit)) (now (reports .exit)) (now (pool .exit)) ≡ walk ask (tokens-of (now (tokens .entry))) b (eat-prog Reference) (view s (now (codes .entry)) (now (events .entry)) (now (reports .entry)) (now (pool .entry)))) ⌝ }
+    ensures { λ r. ⌜ walks (eat-prog Reference) s (state-tested r) codes tokens events reports pool ⌝ }
     ensures { λ r. ⌜ left (now (tokens .entry)) (r .s) ≤ left (now (tokens .entry)) s ⌝ }
     ensures { λ r. ⌜ (r .yes ≡ true → left (now (tokens .entry)) (r .s) ≤ left (now (tokens .entry)) s - 1) ⌝ }
 {

@@ -1,21 +1,17 @@
 // The matcher UnitAddress: an AtSign and a name.
 use crate::macro_substitutable_name;
-use layout::token_kind;
-use parser::StateTested;
-use parser::State;
-use parser::marker::Marker;
 use layout::node_kind;
+use layout::token_kind;
+use parser::State;
+use parser::StateTested;
+use parser::marker::Marker;
 ghost use mathlib.Core.Path.{_≡_};
 ghost use mathlib.Core.Bool.{true};
 ghost use Prim.Native.Nat.{_-_, _≤_};
-ghost use Rattle.definitions.specs.Token.{tokens-of};
-ghost use Rattle.definitions.specs.Skeleton.{Span};
-ghost use Rattle.definitions.specs.Prog.{Rule, yes};
+ghost use Rattle.definitions.specs.Prog.{yes};
 ghost use Rattle.definitions.specs.Check.{eat as eat-prog};
 ghost use Rattle.definitions.specs.Grammar.{UnitAddress};
-ghost use Rattle.machine.specs.Machine.{Machine};
-ghost use Rattle.machine.specs.Walk.{Walked, said, walk};
-ghost use Rattle.parser.specs.View.{view, left, state-tested};
+ghost use Rattle.parser.specs.View.{left, state-tested, says, walks};
 
 fn consume(
     s: State,
@@ -25,7 +21,7 @@ fn consume(
     reports: &mut [u32],
     pool: &mut [u32],
 ) -> State
-    ensures { λ r. ⌜ ((ask : Rule → Machine → Walked) (b : Span) → said yes (view r (now (codes .exit)) (now (events .exit)) (now (reports .exit)) (now (pool .exit))) ≡ walk ask (tokens-of (now (tokens .entry))) b (UnitAddress .consume) (view s (now (codes .entry)) (now (events .entry)) (now (reports .entry)) (now (pool .entry)))) ⌝ }
+    ensures { λ r. ⌜ walks (UnitAddress .consume) s (says yes r) codes tokens events reports pool ⌝ }
     ensures { λ r. ⌜ left (now (tokens .entry)) r ≤ left (now (tokens .entry)) s - 1 ⌝ }
 {
     let m = Marker::new(s);
@@ -43,7 +39,7 @@ pub fn eat(
     reports: &mut [u32],
     pool: &mut [u32],
 ) -> StateTested
-    ensures { λ r. ⌜ ((ask : Rule → Machine → Walked) (b : Span) → state-tested r (now (codes .exit)) (now (events .exit)) (now (reports .exit)) (now (pool .exit)) ≡ walk ask (tokens-of (now (tokens .entry))) b (eat-prog UnitAddress) (view s (now (codes .entry)) (now (events .entry)) (now (reports .entry)) (now (pool .entry)))) ⌝ }
+    ensures { λ r. ⌜ walks (eat-prog UnitAddress) s (state-tested r) codes tokens events reports pool ⌝ }
     ensures { λ r. ⌜ left (now (tokens .entry)) (r .s) ≤ left (now (tokens .entry)) s ⌝ }
     ensures { λ r. ⌜ (r .yes ≡ true → left (now (tokens .entry)) (r .s) ≤ left (now (tokens .entry)) s - 1) ⌝ }
 {

@@ -13,7 +13,7 @@ use Rattle.definitions.specs.Run.{only-separators, pool-of}
 use Rattle.parser.specs.View.{kinds-of}
 use Rattle.parser.specs.declared.matcher.Matcher.{Matcher}
 use Rattle.parser.specs.declared.matcher.Matcher.the-variants as Of
-use Rattle.token_rows.proofs.Kit.{one-of-one}
+use Rattle.token_rows.proofs.Seen.{one-of-one}
 
 -- ---------------------------------------------------------------- membership
 

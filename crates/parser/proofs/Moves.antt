@@ -8,18 +8,21 @@ use native.Mathlib.Omega.{arith}
 use lib.Dec.{ltb, leb, eqb}
 use lib.ListN.{length, getD, set, take, drop}
 use lib.Seq.{sets, set-out}
+use Rattle.definitions.specs.Layout.{TOKEN-ROW}
 use Rattle.definitions.specs.Token.{Token, tokens-of, past, ended, one-of, first-in, seen}
 use Rattle.definitions.specs.Skeleton.{Span}
 use Rattle.definitions.specs.Prog.{Ans, yes, silent-at, at-end, add-expected, bump, bump-name}
 use Rattle.definitions.specs.Run.{truth}
-use Rattle.machine.specs.Machine.{Machine, Marker, low, with-cursor, with-taken, with-pending, with-events, took, range-at, fits, put-start, put-link}
+use Rattle.basics.specs.Word.{low}
+use Rattle.machine.specs.Machine.{Machine, Marker, with-cursor, with-taken, with-pending, with-events, took, range-at, fits, put-start, put-link}
 use Rattle.machine.specs.Machine as M
 use Rattle.machine.specs.Walk.{Walked, said, perform}
 use Rattle.parser.specs.View.{view, view-of, left, take-first}
 use Rattle.parser.specs.declared.State.{State}
 use Rattle.parser.specs.declared.Parser.{Parser}
-use Rattle.token_rows.proofs.Kit.{row, rows-cons, rows-end, end-row}
-use Rattle.parser.proofs.Kit.{pending-few, pending-full, pending-more, sets2}
+use Rattle.basics.proofs.TokenRows.{token-at, tokens-cons, tokens-end}
+use Rattle.token_rows.proofs.Seen.{end-row}
+use Rattle.parser.proofs.Stores.{pending-few, pending-full, pending-more, sets2}
 
 -- ---------------------------------------------------------------- tests
 
@@ -32,12 +35,12 @@ on-false b c x y e f = ap (λ (z : Bool). cond z x y) (sym e ∙ f)
 -- ---------------------------------------------------------------- the whole parser
 
 -- with other numbers: what is known of the numbers is known of the parser
-pub with-view : (p : Parser) (codes : List ℕ) (s : State) (ev rep pool : List ℕ) (m : Machine) → p ≡ record { codes = codes; s = s } → view s codes ev rep pool ≡ m → view-of p ev rep pool ≡ m
-with-view p codes s ev rep pool m e f = ap (λ (x : Parser). view-of x ev rep pool) e ∙ f
+pub with-view : (p : Parser) (codes : List ℕ) (s : State) (events reports pool : List ℕ) (m : Machine) → p ≡ record { codes = codes; s = s } → view s codes events reports pool ≡ m → view-of p events reports pool ≡ m
+with-view p codes s events reports pool m e f = ap (λ (x : Parser). view-of x events reports pool) e ∙ f
 
-pub with-said : (p : Parser) (codes : List ℕ) (s : State) (ev rep pool : List ℕ) (a : Ans) (w : Walked) → p ≡ record { codes = codes; s = s } → said a (view s codes ev rep pool) ≡ w
-    → said a (view-of p ev rep pool) ≡ w
-with-said p codes s ev rep pool a w e f = ap (λ (x : Parser). said a (view-of x ev rep pool)) e ∙ f
+pub with-said : (p : Parser) (codes : List ℕ) (s : State) (events reports pool : List ℕ) (a : Ans) (w : Walked) → p ≡ record { codes = codes; s = s } → said a (view s codes events reports pool) ≡ w
+    → said a (view-of p events reports pool) ≡ w
+with-said p codes s events reports pool a w e f = ap (λ (x : Parser). said a (view-of x events reports pool)) e ∙ f
 
 pub with-left : (p : Parser) (codes : List ℕ) (s : State) (tk : List ℕ) → p ≡ record { codes = codes; s = s } → left tk (p .s) ≡ left tk s
 with-left p codes s tk e = ap (λ (x : Parser). left tk (x .s)) e
@@ -56,23 +59,23 @@ pub at-end-is : (ts : List Token) (b : Span) (m p : Machine) (y : Bool) → p �
 unfolding perform
 at-end-is ts b m p y e f = ap (λ (z : Bool). said (truth z) p) f ∙ ap (λ (x : Machine). said (truth (ended (drop (x .cursor) ts))) x) e
 
-pub ended-in : (tk : List ℕ) (i : ℕ) → i < length tk / 2 → false ≡ ended (drop i (tokens-of tk))
-ended-in tk i h = sym (ap ended (rows-cons tk i h))
+pub ended-in : (tk : List ℕ) (i : ℕ) → i < length tk / TOKEN-ROW → false ≡ ended (drop i (tokens-of tk))
+ended-in tk i h = sym (ap ended (tokens-cons tk i h))
 
-pub ended-past : (tk : List ℕ) (i : ℕ) → length tk / 2 ≤ i → true ≡ ended (drop i (tokens-of tk))
-ended-past tk i h = sym (ap ended (rows-end tk i h))
+pub ended-past : (tk : List ℕ) (i : ℕ) → length tk / TOKEN-ROW ≤ i → true ≡ ended (drop i (tokens-of tk))
+ended-past tk i h = sym (ap ended (tokens-end tk i h))
 
 -- the row at the cursor taken; a: its first byte, e: its end
-pub took-row : (tk : List ℕ) (e : ℕ) (m : Machine) → m .cursor < length tk / 2
+pub took-row : (tk : List ℕ) (e : ℕ) (m : Machine) → m .cursor < length tk / TOKEN-ROW
     → ((x : Machine) → x .byte ≡ m .byte → e ≡ range-at (drop (m .cursor) (tokens-of tk)) x .to)
     → with-taken (m .cursor + 1) e m ≡ take-first (drop (m .cursor) (tokens-of tk)) m
 unfolding take-first
 took-row tk e m h g =
-    ap (λ (x : ℕ). with-taken (m .cursor + 1) x m) (end-row tk (m .cursor) (m .byte) e h g m refl) ∙ sym (ap (λ (l : List Token). take-first l m) (rows-cons tk (m .cursor) h))
+    ap (λ (x : ℕ). with-taken (m .cursor + 1) x m) (end-row tk (m .cursor) (m .byte) e h g m refl) ∙ sym (ap (λ (l : List Token). take-first l m) (tokens-cons tk (m .cursor) h))
 
-pub took-nothing : (tk : List ℕ) (m : Machine) → length tk / 2 ≤ m .cursor → m ≡ take-first (drop (m .cursor) (tokens-of tk)) m
+pub took-nothing : (tk : List ℕ) (m : Machine) → length tk / TOKEN-ROW ≤ m .cursor → m ≡ take-first (drop (m .cursor) (tokens-of tk)) m
 unfolding take-first
-took-nothing tk m h = sym (ap (λ (l : List Token). take-first l m) (rows-end tk (m .cursor) h))
+took-nothing tk m h = sym (ap (λ (l : List Token). take-first l m) (tokens-end tk (m .cursor) h))
 
 -- ---------------------------------------------------------------- refusals and expectations
 
@@ -152,45 +155,45 @@ precede-off k m p e f =
 
 -- ---------------------------------------------------------------- tokens and names taken
 
-pub bump-in : (tk : List ℕ) (b : Span) (m p q r : Machine) → p ≡ M.peek (tokens-of tk) m → p .cursor < length tk / 2 → q ≡ take-first (drop (p .cursor) (tokens-of tk)) p → r ≡ M.push 2 0 q
+pub bump-in : (tk : List ℕ) (b : Span) (m p q r : Machine) → p ≡ M.peek (tokens-of tk) m → p .cursor < length tk / TOKEN-ROW → q ≡ take-first (drop (p .cursor) (tokens-of tk)) p → r ≡ M.push 2 0 q
     → said yes r ≡ perform (tokens-of tk) b bump m
 unfolding perform M.bump M.bump-first take-first
 bump-in tk b m p q r e h f g =
-    let d = rows-cons tk (p .cursor) h in
+    let d = tokens-cons tk (p .cursor) h in
     ap (λ (x : Machine). said yes x) (g ∙ ap (λ (x : Machine). M.push 2 0 x) (f ∙ ap (λ (l : List Token). take-first l p) d) ∙ sym (ap (λ (l : List Token). M.bump-first l p) d))
     ∙ ap (λ (x : Machine). said yes (M.bump-first (drop (x .cursor) (tokens-of tk)) x)) e
 
-pub bump-past : (tk : List ℕ) (b : Span) (m p : Machine) → p ≡ M.peek (tokens-of tk) m → length tk / 2 ≤ p .cursor → said yes p ≡ perform (tokens-of tk) b bump m
+pub bump-past : (tk : List ℕ) (b : Span) (m p : Machine) → p ≡ M.peek (tokens-of tk) m → length tk / TOKEN-ROW ≤ p .cursor → said yes p ≡ perform (tokens-of tk) b bump m
 unfolding perform M.bump M.bump-first
 bump-past tk b m p e h =
-    ap (λ (x : Machine). said yes x) (sym (ap (λ (l : List Token). M.bump-first l p) (rows-end tk (p .cursor) h)))
+    ap (λ (x : Machine). said yes x) (sym (ap (λ (l : List Token). M.bump-first l p) (tokens-end tk (p .cursor) h)))
     ∙ ap (λ (x : Machine). said yes (M.bump-first (drop (x .cursor) (tokens-of tk)) x)) e
 
-pub name-in : (tk ks : List ℕ) (b : Span) (m p q r x : Machine) (n : ℕ) → p ≡ M.peek (tokens-of tk) m → p .cursor < length tk / 2 → q ≡ take-first (drop (p .cursor) (tokens-of tk)) p
+pub name-in : (tk ks : List ℕ) (b : Span) (m p q r x : Machine) (n : ℕ) → p ≡ M.peek (tokens-of tk) m → p .cursor < length tk / TOKEN-ROW → q ≡ take-first (drop (p .cursor) (tokens-of tk)) p
     → r ≡ M.name-run ks (drop (q .cursor) (tokens-of tk)) q → n ≡ low (r .cursor - p .cursor) → x ≡ M.push 3 n r → said yes x ≡ perform (tokens-of tk) b (bump-name ks) m
 unfolding perform M.bump-name M.name-first take-first
 name-in tk ks b m p q r x n e h f g i j =
-    let d = rows-cons tk (p .cursor) h in
-    let t = row tk (p .cursor) in
+    let d = tokens-cons tk (p .cursor) h in
+    let t = token-at tk (p .cursor) in
     let z : r ≡ M.name-run ks (drop (p .cursor + 1) (tokens-of tk)) (took t p) =
     g ∙ ap (λ (y : Machine). M.name-run ks (drop (y .cursor) (tokens-of tk)) y) (f ∙ ap (λ (l : List Token). take-first l p) d) in
     ap (λ (y : Machine). said yes y)
     (j ∙ ap (λ (v : ℕ). M.push 3 v r) i ∙ ap (λ (y : Machine). M.push 3 (low (y .cursor - p .cursor)) y) z ∙ sym (ap (λ (l : List Token). M.name-first ks l p) d))
     ∙ ap (λ (y : Machine). said yes (M.name-first ks (drop (y .cursor) (tokens-of tk)) y)) e
 
-pub name-past : (tk ks : List ℕ) (b : Span) (m p : Machine) → p ≡ M.peek (tokens-of tk) m → length tk / 2 ≤ p .cursor → said yes p ≡ perform (tokens-of tk) b (bump-name ks) m
+pub name-past : (tk ks : List ℕ) (b : Span) (m p : Machine) → p ≡ M.peek (tokens-of tk) m → length tk / TOKEN-ROW ≤ p .cursor → said yes p ≡ perform (tokens-of tk) b (bump-name ks) m
 unfolding perform M.bump-name M.name-first
 name-past tk ks b m p e h =
-    ap (λ (x : Machine). said yes x) (sym (ap (λ (l : List Token). M.name-first ks l p) (rows-end tk (p .cursor) h)))
+    ap (λ (x : Machine). said yes x) (sym (ap (λ (l : List Token). M.name-first ks l p) (tokens-end tk (p .cursor) h)))
     ∙ ap (λ (y : Machine). said yes (M.name-first ks (drop (y .cursor) (tokens-of tk)) y)) e
 
 -- one more row of a name, or none
-pub name-more : (tk ks : List ℕ) (m q : Machine) → m .cursor < length tk / 2 → first-in ks (drop (m .cursor) (tokens-of tk)) ≡ true → q ≡ take-first (drop (m .cursor) (tokens-of tk)) m
+pub name-more : (tk ks : List ℕ) (m q : Machine) → m .cursor < length tk / TOKEN-ROW → first-in ks (drop (m .cursor) (tokens-of tk)) ≡ true → q ≡ take-first (drop (m .cursor) (tokens-of tk)) m
     → M.name-run ks (drop (q .cursor) (tokens-of tk)) q ≡ M.name-run ks (drop (m .cursor) (tokens-of tk)) m
 unfolding M.name-run take-first first-in
 name-more tk ks m q h f g =
-    let d = rows-cons tk (m .cursor) h in
-    let t = row tk (m .cursor) in
+    let d = tokens-cons tk (m .cursor) h in
+    let t = token-at tk (m .cursor) in
     let o : one-of ks (seen t) ≡ true = sym (ap (first-in ks) d) ∙ f in
     ap (λ (y : Machine). M.name-run ks (drop (y .cursor) (tokens-of tk)) y) (g ∙ ap (λ (l : List Token). take-first l m) d)
     ∙ sym (ap (λ (z : Bool). cond z (M.name-run ks (drop (m .cursor + 1) (tokens-of tk)) (took t m)) m) o)

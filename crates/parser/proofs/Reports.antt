@@ -6,43 +6,45 @@ use mathlib.Core.List.{List, [], _∷_}
 use lib.Dec.{eqb}
 use lib.ListN.{length, set, take, drop}
 use lib.Seq.{sets, length-take-le}
+use Rattle.definitions.specs.Layout.{TOKEN-ROW}
 use Rattle.definitions.specs.Token.{Token, tokens-of}
 use Rattle.definitions.specs.Skeleton.{Span}
 use Rattle.definitions.specs.Run.{only-separators, pool-of}
-use Rattle.machine.specs.Machine.{Machine, Buffer, low, with-reports, range-at, error-range, report-row, write-report, fits}
+use Rattle.basics.specs.Word.{low}
+use Rattle.machine.specs.Machine.{Machine, Buffer, with-reports, range-at, error-range, report-row, write-report, fits}
 use Rattle.machine.specs.Machine as M
 use Rattle.parser.specs.View.{stored}
-use Rattle.token_rows.proofs.Kit.{row, rows-cons, rows-end}
+use Rattle.basics.proofs.TokenRows.{token-at, tokens-cons, tokens-end}
 use Rattle.parser.proofs.Lists.{and-store}
 use Rattle.parser.proofs.Moves.{on-true, on-false}
 
 -- ---------------------------------------------------------------- the range
 
-pub range-lone : (tk : List ℕ) (m : Machine) (y : Bool) (e : ℕ) → m .cursor < length tk / 2 → y ≡ only-separators (m .pending) → y ≡ true → e ≡ low (m .mark-byte + 1)
+pub range-lone : (tk : List ℕ) (m : Machine) (y : Bool) (e : ℕ) → m .cursor < length tk / TOKEN-ROW → y ≡ only-separators (m .pending) → y ≡ true → e ≡ low (m .mark-byte + 1)
     → record { from = m .mark-byte; to = e } ≡ error-range (drop (m .cursor) (tokens-of tk)) m
 unfolding error-range
 range-lone tk m y e h f g i =
-    let d = rows-cons tk (m .cursor) h in
-    let t = row tk (m .cursor) in
+    let d = tokens-cons tk (m .cursor) h in
+    let t = token-at tk (m .cursor) in
     let z : Span = record { from = m .mark-byte; to = low (m .mark-byte + 1) } in
     ap (λ (x : ℕ). record { from = m .mark-byte; to = x }) i
     ∙ sym (on-true y (only-separators (m .pending)) z (range-at (t ∷ drop (m .cursor + 1) (tokens-of tk)) m) f g)
     ∙ sym (ap (λ (l : List Token). error-range l m) d)
 
-pub range-token : (tk : List ℕ) (m : Machine) (y : Bool) (r : Span) → m .cursor < length tk / 2 → y ≡ only-separators (m .pending) → y ≡ false → r ≡ range-at (drop (m .cursor) (tokens-of tk)) m
+pub range-token : (tk : List ℕ) (m : Machine) (y : Bool) (r : Span) → m .cursor < length tk / TOKEN-ROW → y ≡ only-separators (m .pending) → y ≡ false → r ≡ range-at (drop (m .cursor) (tokens-of tk)) m
     → r ≡ error-range (drop (m .cursor) (tokens-of tk)) m
 unfolding error-range
 range-token tk m y r h f g i =
-    let d = rows-cons tk (m .cursor) h in
-    let t = row tk (m .cursor) in
+    let d = tokens-cons tk (m .cursor) h in
+    let t = token-at tk (m .cursor) in
     let z : Span = record { from = m .mark-byte; to = low (m .mark-byte + 1) } in
     i ∙ ap (λ (l : List Token). range-at l m) d
     ∙ sym (on-false y (only-separators (m .pending)) z (range-at (t ∷ drop (m .cursor + 1) (tokens-of tk)) m) f g)
     ∙ sym (ap (λ (l : List Token). error-range l m) d)
 
-pub range-end : (tk : List ℕ) (m : Machine) (s : ℕ) → length tk / 2 ≤ m .cursor → s ≡ m .byte - 1 → record { from = s; to = m .byte } ≡ error-range (drop (m .cursor) (tokens-of tk)) m
+pub range-end : (tk : List ℕ) (m : Machine) (s : ℕ) → length tk / TOKEN-ROW ≤ m .cursor → s ≡ m .byte - 1 → record { from = s; to = m .byte } ≡ error-range (drop (m .cursor) (tokens-of tk)) m
 unfolding error-range
-range-end tk m s h e = ap (λ (x : ℕ). record { from = x; to = m .byte }) e ∙ sym (ap (λ (l : List Token). error-range l m) (rows-end tk (m .cursor) h))
+range-end tk m s h e = ap (λ (x : ℕ). record { from = x; to = m .byte }) e ∙ sym (ap (λ (l : List Token). error-range l m) (tokens-end tk (m .cursor) h))
 
 -- ---------------------------------------------------------------- the row
 
@@ -109,15 +111,15 @@ module _ (message hint : ℕ) (range lab : Span) (m : Machine) (codes : List ℕ
   tested : (b c : Bool) → y ≡ b → z ≡ c → written message hint range lab m (take n codes) ≡ cond (b && c) both (M.refuse 7 m)
   tested b c e f = ap (λ (v : Bool). written-if v message hint range lab m (take n codes)) (sym rows ∙ e) ∙ ap (λ (v : Bool). cond (b && v) both (M.refuse 7 m)) (sym pools-of ∙ f)
 
-  pub report-fits : (rep pool : List ℕ) (mark first count : ℕ) → y ≡ true → z ≡ true → mark ≡ low (m .mark) → first ≡ low (m .pool .count) → count ≡ low n
-      → rep ≡ stored (m .reports .count) (message ∷ range .from ∷ range .to ∷ mark ∷ first ∷ count ∷ hint ∷ lab .from ∷ lab .to ∷ []) (m .reports .numbers)
+  pub report-fits : (reports pool : List ℕ) (mark first count : ℕ) → y ≡ true → z ≡ true → mark ≡ low (m .mark) → first ≡ low (m .pool .count) → count ≡ low n
+      → reports ≡ stored (m .reports .count) (message ∷ range .from ∷ range .to ∷ mark ∷ first ∷ count ∷ hint ∷ lab .from ∷ lab .to ∷ []) (m .reports .numbers)
       → pool ≡ sets (m .pool .numbers) (m .pool .count) (take n codes)
-      → with-reports (record { count = m .reports .count + 9; numbers = rep }) (record { count = m .pool .count + n; numbers = pool }) m ≡ write-report message hint range lab m
-  report-fits rep pool mark first count e f p q r s t =
+      → with-reports (record { count = m .reports .count + 9; numbers = reports }) (record { count = m .pool .count + n; numbers = pool }) m ≡ write-report message hint range lab m
+  report-fits reports pool mark first count e f p q r s t =
       let at = m .reports .count in
       let l = m .reports .numbers in
       let w : ℕ → ℕ → ℕ → List ℕ = λ a b d. message ∷ range .from ∷ range .to ∷ a ∷ b ∷ d ∷ hint ∷ lab .from ∷ lab .to ∷ [] in
-      let u : rep ≡ sets l at (report-row message hint range lab (m .mark) (m .pool .count) n) =
+      let u : reports ≡ sets l at (report-row message hint range lab (m .mark) (m .pool .count) n) =
       s ∙ on-true y (fits (length l) at 9) (sets l at (w mark first count)) l rows e
       ∙ ap (λ (a : ℕ). sets l at (w a first count)) p ∙ ap (λ (b : ℕ). sets l at (w (low (m .mark)) b count)) q ∙ ap (λ (d : ℕ). sets l at (w (low (m .mark)) (low (m .pool .count)) d)) r in
       ap (λ (x : List ℕ). with-reports (record { count = at + 9; numbers = x }) (record { count = m .pool .count + n; numbers = pool }) m) u

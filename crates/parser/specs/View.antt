@@ -2,11 +2,12 @@
 use Prim.Native.Nat.{ℕ, _-_, _/_}
 use mathlib.Core.Bool.{Bool, true, false, cond}
 use mathlib.Core.List.{List, [], _∷_}
+use mathlib.Core.Path.{_≡_}
 use lib.ListN.{length, take}
-use Rattle.definitions.specs.Layout.{REPORT-ROW, PLACEHOLDER, START-NODE}
+use Rattle.definitions.specs.Layout.{TOKEN-ROW, REPORT-ROW, PLACEHOLDER, START-NODE}
 use Rattle.definitions.specs.TokenKind as K
 use Rattle.definitions.specs.Errors as E
-use Rattle.definitions.specs.Token.{Token}
+use Rattle.definitions.specs.Token.{Token, tokens-of}
 use Rattle.definitions.specs.Skeleton.{Span}
 use Rattle.definitions.specs.Prog.{Ans, no, yes, also, again, Rule, Prog}
 use Rattle.definitions.specs.Run.{truth}
@@ -14,8 +15,10 @@ use Rattle.definitions.specs.Check.{NAME-SET, LABEL-NAME-SET}
 use Rattle.definitions.specs.Check as C
 use Rattle.machine.specs.Machine.{Machine}
 use Rattle.machine.specs.Machine as M
-use Rattle.machine.specs.Walk.{Walked, said, walk, marker}
+use Rattle.machine.specs.Walk.{Walked, said, walk, marker, closed, unlabelled, walk-prog, walk-rule}
 use lib.Seq.{sets}
+use denote.Ref.{RefT, now}
+use denote.Triple.Both.{Both}
 use Rattle.parser.specs.declared.State.{State}
 use Rattle.parser.specs.declared.Parser.{Parser}
 use Rattle.parser.specs.declared.StateTested.{StateTested}
@@ -31,15 +34,15 @@ use Rattle.parser.specs.declared.matcher.Matcher.the-variants as Of
 
 -- the numbers, the pending codes and the lent buffers
 abbrev pub view : State → List ℕ → List ℕ → List ℕ → List ℕ → Machine
-view s codes ev rep pool =
+view s codes events reports pool =
     record {
       cursor = s .cursor .0;
       byte = s .byte .0;
       mark = s .mark .0;
       mark-byte = s .«mark_byte» .0;
       pending = take (s .pending) codes;
-      events = record { count = s .events; numbers = ev };
-      reports = record { count = s .reports; numbers = rep };
+      events = record { count = s .events; numbers = events };
+      reports = record { count = s .reports; numbers = reports };
       pool = record { count = s .pool; numbers = pool };
       refusal = s .refusal;
       place = s .place .0;
@@ -47,18 +50,18 @@ view s codes ev rep pool =
 
 -- rows not yet passed: the number that falls
 unfoldable pub left : List ℕ → State → ℕ
-left tk s = length tk / 2 - s .cursor .0
+left tokens s = length tokens / TOKEN-ROW - s .cursor .0
 
 -- a test's answer, and the machine after it
 abbrev pub state-tested : StateTested → List ℕ → List ℕ → List ℕ → List ℕ → Walked
-state-tested r codes ev rep pool = said (truth (r .yes)) (view (r .s) codes ev rep pool)
+state-tested r codes events reports pool = said (truth (r .yes)) (view (r .s) codes events reports pool)
 
 -- the same of the whole parser
 abbrev pub view-of : Parser → List ℕ → List ℕ → List ℕ → Machine
-view-of p ev rep pool = view (p .s) (p .codes) ev rep pool
+view-of p events reports pool = view (p .s) (p .codes) events reports pool
 
 abbrev pub parser-tested : ParserTested → List ℕ → List ℕ → List ℕ → Walked
-parser-tested r ev rep pool = said (truth (r .yes)) (view-of (r .p) ev rep pool)
+parser-tested r events reports pool = said (truth (r .yes)) (view-of (r .p) events reports pool)
 
 abbrev pub ans-of : Answered → Ans
 ans-of A.No = no
@@ -134,3 +137,92 @@ takes YesWrapErr = 1
 -- numbers stored from a place on, if they fit
 abbrev pub stored : ℕ → List ℕ → List ℕ → List ℕ
 stored at row l = cond (M.fits (length l) at REPORT-ROW) (sets l at row) l
+
+-- ---------------------------------------------------------------- what a contract says: the walk of a term from the state before a call to the state after it
+
+-- a lent buffer, as an `ensures` names it: before the call and after it
+abbrev pub Lent : Type 0
+Lent = Both (RefT (List ℕ)) (RefT (List ℕ))
+
+-- an answer and the numbers after it
+abbrev pub says : Ans → State → List ℕ → List ℕ → List ℕ → List ℕ → Walked
+says a s codes events reports pool = said a (view s codes events reports pool)
+
+-- p walked from s comes to r, whatever an open call does and wherever the brace is
+abbrev pub walks : Prog → State → (List ℕ → List ℕ → List ℕ → List ℕ → Walked) → Lent → Lent → Lent → Lent → Lent → Type 0
+walks p s r codes tokens events reports pool =
+    (ask : Rule → Machine → Walked) (b : Span)
+    → r (now (codes .exit)) (now (events .exit)) (now (reports .exit)) (now (pool .exit))
+    ≡ walk ask (tokens-of (now (tokens .entry))) b p (view s (now (codes .entry)) (now (events .entry)) (now (reports .entry)) (now (pool .entry)))
+
+-- the same, where the code does not know the answer
+abbrev pub walks-on : Prog → State → State → Lent → Lent → Lent → Lent → Lent → Type 0
+walks-on p s r codes tokens events reports pool =
+    (ask : Rule → Machine → Walked) (b : Span)
+    → view r (now (codes .exit)) (now (events .exit)) (now (reports .exit)) (now (pool .exit))
+    ≡ walk ask (tokens-of (now (tokens .entry))) b p (view s (now (codes .entry)) (now (events .entry)) (now (reports .entry)) (now (pool .entry))) .on
+
+-- a test: it may push expectations, and writes nothing else
+abbrev pub looks : Prog → State → (List ℕ → List ℕ → List ℕ → List ℕ → Walked) → Lent → Lent → Type 0
+looks p s r codes tokens =
+    (ask : Rule → Machine → Walked) (b : Span) (events reports pool : List ℕ)
+    → r (now (codes .exit)) events reports pool ≡ walk ask (tokens-of (now (tokens .entry))) b p (view s (now (codes .entry)) events reports pool)
+
+-- tokens taken: it writes events, and nothing else
+abbrev pub moves : Prog → State → (List ℕ → List ℕ → List ℕ → List ℕ → Walked) → Lent → Lent → Type 0
+moves p s r tokens events =
+    (ask : Rule → Machine → Walked) (b : Span) (codes reports pool : List ℕ)
+    → r codes (now (events .exit)) reports pool ≡ walk ask (tokens-of (now (tokens .entry))) b p (view s codes (now (events .entry)) reports pool)
+
+-- ---------------------------------------------------------------- the same of the whole parser
+
+abbrev pub says-of : Ans → Parser → List ℕ → List ℕ → List ℕ → Walked
+says-of a p events reports pool = said a (view-of p events reports pool)
+
+abbrev pub walks-of : Prog → Parser → (List ℕ → List ℕ → List ℕ → Walked) → Lent → Lent → Lent → Lent → Type 0
+walks-of q p r tokens events reports pool =
+    (ask : Rule → Machine → Walked) (b : Span)
+    → r (now (events .exit)) (now (reports .exit)) (now (pool .exit))
+    ≡ walk ask (tokens-of (now (tokens .entry))) b q (view-of p (now (events .entry)) (now (reports .entry)) (now (pool .entry)))
+
+abbrev pub walks-on-of : Prog → Parser → Parser → Lent → Lent → Lent → Lent → Type 0
+walks-on-of q p r tokens events reports pool =
+    (ask : Rule → Machine → Walked) (b : Span)
+    → view-of r (now (events .exit)) (now (reports .exit)) (now (pool .exit))
+    ≡ walk ask (tokens-of (now (tokens .entry))) b q (view-of p (now (events .entry)) (now (reports .entry)) (now (pool .entry))) .on
+
+abbrev pub looks-of : Prog → Parser → (List ℕ → List ℕ → List ℕ → Walked) → Lent → Type 0
+looks-of q p r tokens =
+    (ask : Rule → Machine → Walked) (b : Span) (events reports pool : List ℕ)
+    → r events reports pool ≡ walk ask (tokens-of (now (tokens .entry))) b q (view-of p events reports pool)
+
+abbrev pub moves-of : Prog → Parser → (List ℕ → List ℕ → List ℕ → Walked) → Lent → Lent → Type 0
+moves-of q p r tokens events =
+    (ask : Rule → Machine → Walked) (b : Span) (reports pool : List ℕ)
+    → r (now (events .exit)) reports pool ≡ walk ask (tokens-of (now (tokens .entry))) b q (view-of p (now (events .entry)) reports pool)
+
+-- with n open calls allowed: a program, a rule, and a program whose marker m its caller made
+abbrev pub runs-of : ℕ → Prog → Parser → (List ℕ → List ℕ → List ℕ → Walked) → Lent → Lent → Lent → Lent → Type 0
+runs-of n q p r tokens events reports pool =
+    r (now (events .exit)) (now (reports .exit)) (now (pool .exit))
+    ≡ walk-prog n (tokens-of (now (tokens .entry))) unlabelled q (view-of p (now (events .entry)) (now (reports .entry)) (now (pool .entry)))
+
+abbrev pub runs-on-of : ℕ → Prog → Parser → Parser → Lent → Lent → Lent → Lent → Type 0
+runs-on-of n q p r tokens events reports pool =
+    view-of r (now (events .exit)) (now (reports .exit)) (now (pool .exit))
+    ≡ walk-prog n (tokens-of (now (tokens .entry))) unlabelled q (view-of p (now (events .entry)) (now (reports .entry)) (now (pool .entry))) .on
+
+abbrev pub calls-of : ℕ → Rule → Parser → (List ℕ → List ℕ → List ℕ → Walked) → Lent → Lent → Lent → Lent → Type 0
+calls-of n q p r tokens events reports pool =
+    r (now (events .exit)) (now (reports .exit)) (now (pool .exit))
+    ≡ walk-rule n (tokens-of (now (tokens .entry))) q (view-of p (now (events .entry)) (now (reports .entry)) (now (pool .entry)))
+
+abbrev pub calls-on-of : ℕ → Rule → Parser → Parser → Lent → Lent → Lent → Lent → Type 0
+calls-on-of n q p r tokens events reports pool =
+    view-of r (now (events .exit)) (now (reports .exit)) (now (pool .exit))
+    ≡ walk-rule n (tokens-of (now (tokens .entry))) q (view-of p (now (events .entry)) (now (reports .entry)) (now (pool .entry))) .on
+
+abbrev pub closes-of : ℕ → Marker → Prog → Parser → (List ℕ → List ℕ → List ℕ → Walked) → Lent → Lent → Lent → Lent → Type 0
+closes-of n m q p r tokens events reports pool =
+    r (now (events .exit)) (now (reports .exit)) (now (pool .exit))
+    ≡ closed (marker-of m) (walk-prog n (tokens-of (now (tokens .entry))) unlabelled q (view-of p (now (events .entry)) (now (reports .entry)) (now (pool .entry))))

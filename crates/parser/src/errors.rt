@@ -1,30 +1,31 @@
 // errors.rs: reports. Message, hint and bump go by value in the place of the builder.
 use crate::State;
-use layout::event_tag::ERROR;
 use crate::marker::Marker;
-use layout::node_kind;
 use layout::ByteOffset;
+use layout::event_tag::ERROR;
 use layout::message::EXPECTED;
 use layout::message::UNCLOSED_NODE;
+use layout::node_kind;
 use layout::refusal::NO_REPORT_ROOM;
 use layout::row::REPORT_ROW;
+use layout::row::TOKEN_ROW;
 use layout::token_kind;
-use token_rows::room::fits;
-use token_rows::room::low32;
+use layout::word;
+use layout::word::low32;
+use token_rows::fit::fits;
 ghost use mathlib.Core.Path.{_≡_};
-ghost use mathlib.Core.Bool.{true, false};
 ghost use mathlib.Core.List.{List, [], _∷_};
 ghost use Prim.Native.Nat.{ℕ, _+_, _-_, _≤_, _<_};
 ghost use lib.ListN.{length, take, drop};
 ghost use Rattle.definitions.specs.Token.{tokens-of};
 ghost use Rattle.definitions.specs.Skeleton.{Span};
-ghost use Rattle.definitions.specs.Prog.{Rule, yes, case};
+ghost use Rattle.definitions.specs.Prog.{Rule, yes};
 ghost use Rattle.definitions.specs.Check.{if_then_else_, end?, bump!, tell, in-node as node-prog};
 ghost use Rattle.definitions.specs.NodeKind as N;
 ghost use Rattle.definitions.specs.Run.{only-separators, pool-of};
 ghost use Rattle.machine.specs.Machine.{Machine, error-range, write-report, emit as emit-machine};
 ghost use Rattle.machine.specs.Walk.{Walked, said, walk, unlabelled};
-ghost use Rattle.parser.specs.View.{view, left, span-of, error-prog, takes, stored};
+ghost use Rattle.parser.specs.View.{view, left, span-of, error-prog, takes, stored, moves, says};
 ghost use lib.Seq.{sets};
 
 pub struct TextRange {
@@ -52,13 +53,6 @@ fn wide(x: u8) -> u32
     ensures { λ r. ⌜ r ≡ x ⌝ }
 {
     x as u32
-}
-
-fn less_one(x: u32) -> u32
-    ensures { λ r. ⌜ r ≡ x - 1 ⌝ }
-{
-    let some = 0 < x;
-    if some { x - 1 } else { 0 }
 }
 
 // Whether the first n codes are exactly [Semicolon], [Comma] or [Comma, Semicolon].
@@ -124,7 +118,8 @@ fn put_report(
     first: u32,
     count: u32,
 )
-    ensures { λ _. ⌜ now (reports .exit) ≡ stored index (message ∷ range .start .0 ∷ range .end .0 ∷ mark ∷ first ∷ count ∷ hint ∷ label .start .0 ∷ label .end .0 ∷ []) (now (reports .entry)) ⌝ }
+    ensures { λ _. ⌜ now (reports .exit)
+        ≡ stored index (message ∷ range .start .0 ∷ range .end .0 ∷ mark ∷ first ∷ count ∷ hint ∷ label .start .0 ∷ label .end .0 ∷ []) (now (reports .entry)) ⌝ }
 {
     let enough = fits(reports.len(), index, REPORT_ROW);
     if enough {
@@ -143,15 +138,16 @@ fn put_report(
 impl State {
     // The cursor stands at a token, or at the end.
     fn current_token_error_range(self, codes: &[u8; 256], tokens: &[u32]) -> TextRange
-        ensures { λ r. ⌜ ((events reports pool : List ℕ) → span-of r ≡ error-range (drop (self .cursor .0) (tokens-of (now (tokens .entry)))) (view self (now (codes .entry)) events reports pool)) ⌝ }
+        ensures { λ r. ⌜ ((events reports pool : List ℕ) → span-of r
+            ≡ error-range (drop (self .cursor .0) (tokens-of (now (tokens .entry)))) (view self (now (codes .entry)) events reports pool)) ⌝ }
     {
         let at = self.cursor.0;
-        let inside = at < tokens.len() / 2;
+        let inside = at < tokens.len() / TOKEN_ROW;
         if inside {
             let lone = ends_statement(codes, self.pending);
             if lone {
                 let start = self.mark_byte;
-                let end = ByteOffset(std::num::wrapping_add_u32(start.0, 1));
+                let end = ByteOffset(word::add(start.0, 1));
                 TextRange {
                     start: start,
                     end: end,
@@ -161,7 +157,7 @@ impl State {
             }
         } else {
             let end = self.byte;
-            let start = ByteOffset(less_one(end.0));
+            let start = ByteOffset(word::less(end.0, 1));
             TextRange {
                 start: start,
                 end: end,
@@ -180,8 +176,9 @@ impl State {
         range: TextRange,
         label: TextRange,
     ) -> State
-        ensures { λ r. ⌜ ((events : List ℕ) → self .refusal ≡ 0 → view r (now (codes .entry)) events (now (reports .exit)) (now (pool .exit)) ≡ write-report message hint (span-of range) (span-of label) (view self (now (codes .entry)) events (now (reports .entry)) (now (pool .entry)))) ⌝ }
-        ensures { λ r. ⌜ ((tk : List ℕ) → left tk r ≤ left tk self) ⌝ }
+        ensures { λ r. ⌜ ((events : List ℕ) → self .refusal ≡ 0 → view r (now (codes .entry)) events (now (reports .exit)) (now (pool .exit))
+            ≡ write-report message hint (span-of range) (span-of label) (view self (now (codes .entry)) events (now (reports .entry)) (now (pool .entry)))) ⌝ }
+        ensures { λ r. ⌜ ((tokens : List ℕ) → left tokens r ≤ left tokens self) ⌝ }
     {
         let at = self.reports;
         let first = self.pool;
@@ -227,7 +224,8 @@ impl State {
         hint: u32,
         label: TextRange,
     ) -> State
-        ensures { λ r. ⌜ view r (now (codes .entry)) (now (events .exit)) (now (reports .exit)) (now (pool .exit)) ≡ emit-machine (tokens-of (now (tokens .entry))) message hint (span-of label) (view self (now (codes .entry)) (now (events .entry)) (now (reports .entry)) (now (pool .entry))) ⌝ }
+        ensures { λ r. ⌜ view r (now (codes .entry)) (now (events .exit)) (now (reports .exit)) (now (pool .exit))
+            ≡ emit-machine (tokens-of (now (tokens .entry))) message hint (span-of label) (view self (now (codes .entry)) (now (events .entry)) (now (reports .entry)) (now (pool .entry))) ⌝ }
         ensures { λ r. ⌜ left (now (tokens .entry)) r ≤ left (now (tokens .entry)) self ⌝ }
     {
         let here = self.peek(tokens);
@@ -242,15 +240,20 @@ impl State {
     }
 
     fn bump_unless_at_end(self, tokens: &[u32], events: &mut [u32]) -> State
-        ensures { λ r. ⌜ ((ask : Rule → Machine → Walked) (b : Span) (codes reports pool : List ℕ) → said yes (view r codes (now (events .exit)) reports pool) ≡ walk ask (tokens-of (now (tokens .entry))) b (if end? then tell yes else bump!) (view self codes (now (events .entry)) reports pool)) ⌝ }
+        ensures { λ r. ⌜ moves (if end? then tell yes else bump!) self (says yes r) tokens events ⌝ }
         ensures { λ r. ⌜ left (now (tokens .entry)) r ≤ left (now (tokens .entry)) self - 1 ⌝ }
     {
         let end = self.at_end(tokens);
-        if end.yes { end.s } else { end.s.bump(tokens, events) }
+        if end.yes {
+            end.s
+        } else {
+            end.s.bump(tokens, events)
+        }
     }
 
     fn wrap_unless_at_end(self, tokens: &[u32], events: &mut [u32]) -> State
-        ensures { λ r. ⌜ ((ask : Rule → Machine → Walked) (b : Span) (codes reports pool : List ℕ) → said yes (view r codes (now (events .exit)) reports pool) ≡ walk ask (tokens-of (now (tokens .entry))) b (if end? then tell yes else node-prog N.ParseError bump!) (view self codes (now (events .entry)) reports pool)) ⌝ }
+        ensures { λ r. ⌜ moves (if end? then tell yes else node-prog N.ParseError bump!) self (says yes r)
+            tokens events ⌝ }
         ensures { λ r. ⌜ left (now (tokens .entry)) r ≤ left (now (tokens .entry)) self - 1 ⌝ }
     {
         let end = self.at_end(tokens);
@@ -276,7 +279,8 @@ impl State {
         hint: u32,
         bump: Bump,
     ) -> State
-        ensures { λ r. ⌜ ((ask : Rule → Machine → Walked) (b : Span) → said yes (view r (now (codes .entry)) (now (events .exit)) (now (reports .exit)) (now (pool .exit))) ≡ walk ask (tokens-of (now (tokens .entry))) b (error-prog bump message hint) (view self (now (codes .entry)) (now (events .entry)) (now (reports .entry)) (now (pool .entry)))) ⌝ }
+        ensures { λ r. ⌜ ((ask : Rule → Machine → Walked) (b : Span) → said yes (view r (now (codes .entry)) (now (events .exit)) (now (reports .exit)) (now (pool .exit)))
+            ≡ walk ask (tokens-of (now (tokens .entry))) b (error-prog bump message hint) (view self (now (codes .entry)) (now (events .entry)) (now (reports .entry)) (now (pool .entry)))) ⌝ }
         ensures { λ r. ⌜ left (now (tokens .entry)) r ≤ left (now (tokens .entry)) self - takes bump ⌝ }
     {
         let none = no_label();

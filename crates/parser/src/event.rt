@@ -6,18 +6,22 @@ use layout::TokenIndex;
 use layout::event_tag::ADD_COMBINED_TOKEN;
 use layout::event_tag::ADD_TOKEN;
 use layout::refusal::NO_EVENT_ROOM;
+use layout::row::EVENT_ARGUMENT;
+use layout::row::EVENT_DISTANCE;
 use layout::row::EVENT_ROW;
-use token_rows::room::fits;
-use token_rows::room::low32;
+use layout::row::TOKEN_ROW;
+use layout::word::low32;
+use token_rows::fit::fits;
 use token_rows::token::is_one_of_at;
 ghost use mathlib.Core.Path.{_≡_};
 ghost use mathlib.Core.List.{List};
-ghost use Prim.Native.Nat.{ℕ, _+_, _-_, _/_, _≤_, _<_};
+ghost use Prim.Native.Nat.{ℕ, _-_, _≤_};
 ghost use lib.ListN.{drop};
+ghost use Rattle.basics.specs.Word.{low};
 ghost use Rattle.definitions.specs.Token.{tokens-of};
 ghost use Rattle.definitions.specs.Skeleton.{Span};
 ghost use Rattle.definitions.specs.Prog.{yes, bump as bump-act, bump-name as bump-name-act};
-ghost use Rattle.machine.specs.Machine.{low, refuse as refuse-machine, push-row as push-row-machine, push, name-run};
+ghost use Rattle.machine.specs.Machine.{refuse as refuse-machine, push-row as push-row-machine, push, name-run};
 ghost use Rattle.machine.specs.Walk.{said, perform};
 ghost use Rattle.parser.specs.View.{view, left};
 
@@ -27,8 +31,9 @@ pub const PAST_THE_END: usize = 18446744073709551615;
 impl State {
     // The first refusal stays.
     pub fn refuse(self, number: u32) -> State
-        ensures { λ r. ⌜ ((codes events reports pool : List ℕ) → view r codes events reports pool ≡ refuse-machine number (view self codes events reports pool)) ⌝ }
-        ensures { λ r. ⌜ ((tk : List ℕ) → left tk r ≤ left tk self) ⌝ }
+        ensures { λ r. ⌜ ((codes events reports pool : List ℕ) → view r codes events reports pool
+            ≡ refuse-machine number (view self codes events reports pool)) ⌝ }
+        ensures { λ r. ⌜ ((tokens : List ℕ) → left tokens r ≤ left tokens self) ⌝ }
     {
         let past = TokenIndex(PAST_THE_END);
         let first = self.refusal == 0;
@@ -48,15 +53,16 @@ impl State {
 
     // An event, if it fits.
     pub fn push_row(self, events: &mut [u32], tag: u32, value: u32) -> State
-        ensures { λ r. ⌜ ((codes reports pool : List ℕ) → view r codes (now (events .exit)) reports pool ≡ push-row-machine tag value (view self codes (now (events .entry)) reports pool)) ⌝ }
-        ensures { λ r. ⌜ ((tk : List ℕ) → left tk r ≤ left tk self) ⌝ }
+        ensures { λ r. ⌜ ((codes reports pool : List ℕ) → view r codes (now (events .exit)) reports pool
+            ≡ push-row-machine tag value (view self codes (now (events .entry)) reports pool)) ⌝ }
+        ensures { λ r. ⌜ ((tokens : List ℕ) → left tokens r ≤ left tokens self) ⌝ }
     {
         let index = self.events;
         let enough = fits(events.len(), index, EVENT_ROW);
         if enough {
             events[index] = tag;
-            events[index + 1] = value;
-            events[index + 2] = 0;
+            events[index + EVENT_ARGUMENT] = value;
+            events[index + EVENT_DISTANCE] = 0;
             let mut q = self;
             q.events = index + EVENT_ROW;
             q
@@ -67,8 +73,9 @@ impl State {
 
     // Nothing is pushed once something was refused.
     pub fn push_event(self, events: &mut [u32], tag: u32, value: u32) -> State
-        ensures { λ r. ⌜ ((codes reports pool : List ℕ) → view r codes (now (events .exit)) reports pool ≡ push tag value (view self codes (now (events .entry)) reports pool)) ⌝ }
-        ensures { λ r. ⌜ ((tk : List ℕ) → left tk r ≤ left tk self) ⌝ }
+        ensures { λ r. ⌜ ((codes reports pool : List ℕ) → view r codes (now (events .exit)) reports pool
+            ≡ push tag value (view self codes (now (events .entry)) reports pool)) ⌝ }
+        ensures { λ r. ⌜ ((tokens : List ℕ) → left tokens r ≤ left tokens self) ⌝ }
     {
         let on = self.refusal == 0;
         if on {
@@ -78,14 +85,15 @@ impl State {
         }
     }
 
-    // Takes the next token that is no trivia; nothing at the end.
+    // Takes the next token that is not trivia; nothing at the end.
     pub fn bump(self, tokens: &[u32], events: &mut [u32]) -> State
-        ensures { λ r. ⌜ ((b : Span) (codes reports pool : List ℕ) → said yes (view r codes (now (events .exit)) reports pool) ≡ perform (tokens-of (now (tokens .entry))) b bump-act (view self codes (now (events .entry)) reports pool)) ⌝ }
+        ensures { λ r. ⌜ ((b : Span) (codes reports pool : List ℕ) → said yes (view r codes (now (events .exit)) reports pool)
+            ≡ perform (tokens-of (now (tokens .entry))) b bump-act (view self codes (now (events .entry)) reports pool)) ⌝ }
         ensures { λ r. ⌜ left (now (tokens .entry)) r ≤ left (now (tokens .entry)) self - 1 ⌝ }
     {
         let here = self.peek(tokens);
         let at = here.cursor.0;
-        let inside = at < tokens.len() / 2;
+        let inside = at < tokens.len() / TOKEN_ROW;
         if inside {
             let taken = here.next_token(tokens);
             taken.push_event(events, ADD_TOKEN, 0)
@@ -96,7 +104,8 @@ impl State {
 
     // Takes the rows of the set that follow.
     fn take_while(self, tokens: &[u32], set: &[u8]) -> State
-        ensures { λ r. ⌜ ((codes events reports pool : List ℕ) → view r codes events reports pool ≡ name-run (now (set .entry)) (drop (self .cursor .0) (tokens-of (now (tokens .entry)))) (view self codes events reports pool)) ⌝ }
+        ensures { λ r. ⌜ ((codes events reports pool : List ℕ) → view r codes events reports pool
+            ≡ name-run (now (set .entry)) (drop (self .cursor .0) (tokens-of (now (tokens .entry)))) (view self codes events reports pool)) ⌝ }
         ensures { λ r. ⌜ left (now (tokens .entry)) r ≤ left (now (tokens .entry)) self ⌝ }
     {
         let mut q = self;
@@ -106,14 +115,15 @@ impl State {
         q
     }
 
-    // `bump_name_generic`: takes the next token that is no trivia, and those of the set right after it, as one name.
+    // `bump_name_generic`: takes the next token that is not trivia, and those of the set right after it, as one name.
     pub fn bump_name(self, tokens: &[u32], events: &mut [u32], set: &[u8]) -> State
-        ensures { λ r. ⌜ ((b : Span) (codes reports pool : List ℕ) → said yes (view r codes (now (events .exit)) reports pool) ≡ perform (tokens-of (now (tokens .entry))) b (bump-name-act (now (set .entry))) (view self codes (now (events .entry)) reports pool)) ⌝ }
+        ensures { λ r. ⌜ ((b : Span) (codes reports pool : List ℕ) → said yes (view r codes (now (events .exit)) reports pool)
+            ≡ perform (tokens-of (now (tokens .entry))) b (bump-name-act (now (set .entry))) (view self codes (now (events .entry)) reports pool)) ⌝ }
         ensures { λ r. ⌜ left (now (tokens .entry)) r ≤ left (now (tokens .entry)) self - 1 ⌝ }
     {
         let here = self.peek(tokens);
         let at = here.cursor.0;
-        let inside = at < tokens.len() / 2;
+        let inside = at < tokens.len() / TOKEN_ROW;
         if inside {
             let first = here.next_token(tokens);
             let last = first.take_while(tokens, set);

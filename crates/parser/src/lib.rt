@@ -2,7 +2,7 @@
 // and writes is lent: token rows `tokens`, event rows `events`, report rows `reports`, expectations `pool`.
 // `State` has the numbers alone. Functions that no open call can be under take `State` by value and the pending codes
 // lent; the grammar's cycle of calls takes `Parser`, which holds both.
-pub mod checks;
+pub mod check;
 pub mod errors;
 pub mod event;
 pub mod marker;
@@ -20,14 +20,15 @@ ghost use mathlib.Core.Bool.{true, false};
 ghost use mathlib.Core.List.{List, [], _∷_};
 ghost use Prim.Native.Nat.{ℕ, _-_, _≤_, _<_};
 ghost use lib.ListN.{length};
+ghost use Rattle.definitions.specs.Layout.{PLACEHOLDER as PLACEHOLDER-TAG, TWO-TO-64};
 ghost use Rattle.definitions.specs.Token.{Token, tokens-of};
 ghost use Rattle.definitions.specs.Skeleton.{Span};
-ghost use Rattle.definitions.specs.Prog.{Rule, yes, silent-at as silent-at-act, at-end as at-end-act, add-expected as add-expected-act, bump as bump-act};
+ghost use Rattle.definitions.specs.Prog.{yes, silent-at as silent-at-act, at-end as at-end-act, add-expected as add-expected-act, bump as bump-act};
 ghost use Rattle.definitions.specs.Check.{silent-eat as silent-eat-prog, at as at-prog, eat as eat-prog, expect as expect-prog, expect-recoverable as expect-recoverable-prog};
-ghost use Rattle.machine.specs.Machine.{Machine, refuse as refuse-machine, peek as peek-machine, push, complete as complete-machine, precede as precede-machine, emit as emit-machine};
-ghost use Rattle.machine.specs.Walk.{Walked, said, perform, walk};
+ghost use Rattle.machine.specs.Machine.{refuse as refuse-machine, peek as peek-machine, push, complete as complete-machine, precede as precede-machine, emit as emit-machine};
+ghost use Rattle.machine.specs.Walk.{said, perform};
 ghost use Rattle.machine.specs.Outcome.{fresh};
-ghost use Rattle.parser.specs.View.{view, view-of, parser-tested, left, marker-of, matcher-of, span-of, error-prog, takes};
+ghost use Rattle.parser.specs.View.{view, view-of, parser-tested, left, marker-of, matcher-of, span-of, error-prog, takes, looks-of, moves-of, says-of, walks-of};
 
 // The parser's numbers. Events, reports and pool are counted in numbers written.
 pub struct State {
@@ -87,7 +88,8 @@ pub struct StateAnswered {
 
 impl State {
     pub fn new() -> State
-        ensures { λ r. ⌜ ((codes events reports pool : List ℕ) → view r codes events reports pool ≡ fresh events reports pool) ⌝ }
+        ensures { λ r. ⌜ ((codes events reports pool : List ℕ) → view r codes events reports pool
+            ≡ fresh events reports pool) ⌝ }
     {
         State {
             cursor: TokenIndex(0),
@@ -106,7 +108,8 @@ impl State {
 
 impl Parser {
     pub fn new() -> Parser
-        ensures { λ r. ⌜ ((events reports pool : List ℕ) → view-of r events reports pool ≡ fresh events reports pool) ⌝ }
+        ensures { λ r. ⌜ ((events reports pool : List ℕ) → view-of r events reports pool
+            ≡ fresh events reports pool) ⌝ }
     {
         let s = State::new();
         Parser {
@@ -125,47 +128,53 @@ impl Parser {
     }
 
     pub fn refuse(self, number: u32) -> Parser
-        ensures { λ r. ⌜ ((events reports pool : List ℕ) → view-of r events reports pool ≡ refuse-machine number (view-of self events reports pool)) ⌝ }
-        ensures { λ r. ⌜ ((tk : List ℕ) → length tk < 18446744073709551616 → left tk (r .s) ≡ 0) ⌝ }
+        ensures { λ r. ⌜ ((events reports pool : List ℕ) → view-of r events reports pool
+            ≡ refuse-machine number (view-of self events reports pool)) ⌝ }
+        ensures { λ r. ⌜ ((tokens : List ℕ) → length tokens < TWO-TO-64 → left tokens (r .s) ≡ 0) ⌝ }
     {
         let s = self.s.refuse(number);
         self.with(s)
     }
 
     pub fn start(self, events: &mut [u32]) -> Parser
-        ensures { λ r. ⌜ ((reports pool : List ℕ) → view-of r (now (events .exit)) reports pool ≡ push 0 0 (view-of self (now (events .entry)) reports pool)) ⌝ }
-        ensures { λ r. ⌜ ((tk : List ℕ) → left tk (r .s) ≤ left tk (self .s)) ⌝ }
+        ensures { λ r. ⌜ ((reports pool : List ℕ) → view-of r (now (events .exit)) reports pool
+            ≡ push PLACEHOLDER-TAG 0 (view-of self (now (events .entry)) reports pool)) ⌝ }
+        ensures { λ r. ⌜ ((tokens : List ℕ) → left tokens (r .s) ≤ left tokens (self .s)) ⌝ }
     {
         let s = self.s.start(events);
         self.with(s)
     }
 
     pub fn complete(self, events: &mut [u32], m: Marker, kind: u32) -> Parser
-        ensures { λ r. ⌜ ((reports pool : List ℕ) → view-of r (now (events .exit)) reports pool ≡ complete-machine (marker-of m) kind (view-of self (now (events .entry)) reports pool)) ⌝ }
-        ensures { λ r. ⌜ ((tk : List ℕ) → left tk (r .s) ≤ left tk (self .s)) ⌝ }
+        ensures { λ r. ⌜ ((reports pool : List ℕ) → view-of r (now (events .exit)) reports pool
+            ≡ complete-machine (marker-of m) kind (view-of self (now (events .entry)) reports pool)) ⌝ }
+        ensures { λ r. ⌜ ((tokens : List ℕ) → left tokens (r .s) ≤ left tokens (self .s)) ⌝ }
     {
         let s = self.s.complete(events, m, kind);
         self.with(s)
     }
 
     pub fn ignore(self, events: &mut [u32]) -> Parser
-        ensures { λ r. ⌜ ((reports pool : List ℕ) → view-of r (now (events .exit)) reports pool ≡ push 0 0 (view-of self (now (events .entry)) reports pool)) ⌝ }
-        ensures { λ r. ⌜ ((tk : List ℕ) → left tk (r .s) ≤ left tk (self .s)) ⌝ }
+        ensures { λ r. ⌜ ((reports pool : List ℕ) → view-of r (now (events .exit)) reports pool
+            ≡ push PLACEHOLDER-TAG 0 (view-of self (now (events .entry)) reports pool)) ⌝ }
+        ensures { λ r. ⌜ ((tokens : List ℕ) → left tokens (r .s) ≤ left tokens (self .s)) ⌝ }
     {
         let s = self.s.ignore(events);
         self.with(s)
     }
 
     pub fn precede(self, events: &mut [u32], m: Marker) -> Parser
-        ensures { λ r. ⌜ ((reports pool : List ℕ) → view-of r (now (events .exit)) reports pool ≡ precede-machine (marker-of m) (view-of self (now (events .entry)) reports pool)) ⌝ }
-        ensures { λ r. ⌜ ((tk : List ℕ) → left tk (r .s) ≤ left tk (self .s)) ⌝ }
+        ensures { λ r. ⌜ ((reports pool : List ℕ) → view-of r (now (events .exit)) reports pool
+            ≡ precede-machine (marker-of m) (view-of self (now (events .entry)) reports pool)) ⌝ }
+        ensures { λ r. ⌜ ((tokens : List ℕ) → left tokens (r .s) ≤ left tokens (self .s)) ⌝ }
     {
         let s = self.s.precede(events, m);
         self.with(s)
     }
 
     pub fn bump(self, tokens: &[u32], events: &mut [u32]) -> Parser
-        ensures { λ r. ⌜ ((b : Span) (reports pool : List ℕ) → said yes (view-of r (now (events .exit)) reports pool) ≡ perform (tokens-of (now (tokens .entry))) b bump-act (view-of self (now (events .entry)) reports pool)) ⌝ }
+        ensures { λ r. ⌜ ((b : Span) (reports pool : List ℕ) → said yes (view-of r (now (events .exit)) reports pool)
+            ≡ perform (tokens-of (now (tokens .entry))) b bump-act (view-of self (now (events .entry)) reports pool)) ⌝ }
         ensures { λ r. ⌜ left (now (tokens .entry)) (r .s) ≤ left (now (tokens .entry)) (self .s) - 1 ⌝ }
     {
         let s = self.s.bump(tokens, events);
@@ -173,7 +182,8 @@ impl Parser {
     }
 
     pub fn peek(self, tokens: &[u32]) -> Parser
-        ensures { λ r. ⌜ ((events reports pool : List ℕ) → view-of r events reports pool ≡ peek-machine (tokens-of (now (tokens .entry))) (view-of self events reports pool)) ⌝ }
+        ensures { λ r. ⌜ ((events reports pool : List ℕ) → view-of r events reports pool
+            ≡ peek-machine (tokens-of (now (tokens .entry))) (view-of self events reports pool)) ⌝ }
         ensures { λ r. ⌜ left (now (tokens .entry)) (r .s) ≤ left (now (tokens .entry)) (self .s) ⌝ }
     {
         let s = self.s.peek(tokens);
@@ -181,7 +191,8 @@ impl Parser {
     }
 
     pub fn at_end(self, tokens: &[u32]) -> ParserTested
-        ensures { λ r. ⌜ ((b : Span) (events reports pool : List ℕ) → parser-tested r events reports pool ≡ perform (tokens-of (now (tokens .entry))) b at-end-act (view-of self events reports pool)) ⌝ }
+        ensures { λ r. ⌜ ((b : Span) (events reports pool : List ℕ) → parser-tested r events reports pool
+            ≡ perform (tokens-of (now (tokens .entry))) b at-end-act (view-of self events reports pool)) ⌝ }
         ensures { λ r. ⌜ left (now (tokens .entry)) (r .p .s) ≤ left (now (tokens .entry)) (self .s) ⌝ }
         ensures { λ r. ⌜ (r .yes ≡ false → 0 < left (now (tokens .entry)) (r .p .s)) ⌝ }
         ensures { λ r. ⌜ (r .yes ≡ true → left (now (tokens .entry)) (r .p .s) ≡ 0) ⌝ }
@@ -192,7 +203,8 @@ impl Parser {
     }
 
     pub fn silent_at(self, tokens: &[u32], k: u8) -> ParserTested
-        ensures { λ r. ⌜ ((b : Span) (events reports pool : List ℕ) → parser-tested r events reports pool ≡ perform (tokens-of (now (tokens .entry))) b (silent-at-act (k ∷ [])) (view-of self events reports pool)) ⌝ }
+        ensures { λ r. ⌜ ((b : Span) (events reports pool : List ℕ) → parser-tested r events reports pool
+            ≡ perform (tokens-of (now (tokens .entry))) b (silent-at-act (k ∷ [])) (view-of self events reports pool)) ⌝ }
         ensures { λ r. ⌜ left (now (tokens .entry)) (r .p .s) ≤ left (now (tokens .entry)) (self .s) ⌝ }
         ensures { λ r. ⌜ (r .yes ≡ true → 0 < left (now (tokens .entry)) (r .p .s)) ⌝ }
     {
@@ -202,7 +214,8 @@ impl Parser {
     }
 
     pub fn silent_at_set(self, tokens: &[u32], set: &[u8]) -> ParserTested
-        ensures { λ r. ⌜ ((b : Span) (events reports pool : List ℕ) → parser-tested r events reports pool ≡ perform (tokens-of (now (tokens .entry))) b (silent-at-act (now (set .entry))) (view-of self events reports pool)) ⌝ }
+        ensures { λ r. ⌜ ((b : Span) (events reports pool : List ℕ) → parser-tested r events reports pool
+            ≡ perform (tokens-of (now (tokens .entry))) b (silent-at-act (now (set .entry))) (view-of self events reports pool)) ⌝ }
         ensures { λ r. ⌜ left (now (tokens .entry)) (r .p .s) ≤ left (now (tokens .entry)) (self .s) ⌝ }
         ensures { λ r. ⌜ (r .yes ≡ true → 0 < left (now (tokens .entry)) (r .p .s)) ⌝ }
     {
@@ -212,9 +225,10 @@ impl Parser {
     }
 
     pub fn silent_eat(self, tokens: &[u32], events: &mut [u32], m: Matcher) -> ParserTested
-        ensures { λ r. ⌜ ((ask : Rule → Machine → Walked) (b : Span) (reports pool : List ℕ) → parser-tested r (now (events .exit)) reports pool ≡ walk ask (tokens-of (now (tokens .entry))) b (silent-eat-prog (matcher-of m)) (view-of self (now (events .entry)) reports pool)) ⌝ }
+        ensures { λ r. ⌜ moves-of (silent-eat-prog (matcher-of m)) self (parser-tested r) tokens events ⌝ }
         ensures { λ r. ⌜ left (now (tokens .entry)) (r .p .s) ≤ left (now (tokens .entry)) (self .s) ⌝ }
-        ensures { λ r. ⌜ (r .yes ≡ true → left (now (tokens .entry)) (r .p .s) ≤ left (now (tokens .entry)) (self .s) - 1) ⌝ }
+        ensures { λ r. ⌜ (r .yes ≡ true
+            → left (now (tokens .entry)) (r .p .s) ≤ left (now (tokens .entry)) (self .s) - 1) ⌝ }
     {
         let e = self.s.silent_eat(tokens, events, m);
         let p = self.with(e.s);
@@ -222,8 +236,9 @@ impl Parser {
     }
 
     pub fn add_expected(self, code: u8) -> Parser
-        ensures { λ r. ⌜ ((ts : List Token) (b : Span) (events reports pool : List ℕ) → said yes (view-of r events reports pool) ≡ perform ts b (add-expected-act code) (view-of self events reports pool)) ⌝ }
-        ensures { λ r. ⌜ ((tk : List ℕ) → left tk (r .s) ≤ left tk (self .s)) ⌝ }
+        ensures { λ r. ⌜ ((ts : List Token) (b : Span) (events reports pool : List ℕ) → said yes (view-of r events reports pool)
+            ≡ perform ts b (add-expected-act code) (view-of self events reports pool)) ⌝ }
+        ensures { λ r. ⌜ ((tokens : List ℕ) → left tokens (r .s) ≤ left tokens (self .s)) ⌝ }
     {
         let mut codes = self.codes;
         let s = self.s.add_expected(&mut codes, code);
@@ -231,7 +246,7 @@ impl Parser {
     }
 
     pub fn at(self, tokens: &[u32], m: Matcher) -> ParserTested
-        ensures { λ r. ⌜ ((ask : Rule → Machine → Walked) (b : Span) (events reports pool : List ℕ) → parser-tested r events reports pool ≡ walk ask (tokens-of (now (tokens .entry))) b (at-prog (matcher-of m)) (view-of self events reports pool)) ⌝ }
+        ensures { λ r. ⌜ looks-of (at-prog (matcher-of m)) self (parser-tested r) tokens ⌝ }
         ensures { λ r. ⌜ left (now (tokens .entry)) (r .p .s) ≤ left (now (tokens .entry)) (self .s) ⌝ }
         ensures { λ r. ⌜ (r .yes ≡ true → 0 < left (now (tokens .entry)) (r .p .s)) ⌝ }
     {
@@ -243,9 +258,10 @@ impl Parser {
     }
 
     pub fn eat(self, tokens: &[u32], events: &mut [u32], m: Matcher) -> ParserTested
-        ensures { λ r. ⌜ ((ask : Rule → Machine → Walked) (b : Span) (reports pool : List ℕ) → parser-tested r (now (events .exit)) reports pool ≡ walk ask (tokens-of (now (tokens .entry))) b (eat-prog (matcher-of m)) (view-of self (now (events .entry)) reports pool)) ⌝ }
+        ensures { λ r. ⌜ moves-of (eat-prog (matcher-of m)) self (parser-tested r) tokens events ⌝ }
         ensures { λ r. ⌜ left (now (tokens .entry)) (r .p .s) ≤ left (now (tokens .entry)) (self .s) ⌝ }
-        ensures { λ r. ⌜ (r .yes ≡ true → left (now (tokens .entry)) (r .p .s) ≤ left (now (tokens .entry)) (self .s) - 1) ⌝ }
+        ensures { λ r. ⌜ (r .yes ≡ true
+            → left (now (tokens .entry)) (r .p .s) ≤ left (now (tokens .entry)) (self .s) - 1) ⌝ }
     {
         let mut codes = self.codes;
         let e = self.s.eat(&mut codes, tokens, events, m);
@@ -262,9 +278,10 @@ impl Parser {
         pool: &mut [u32],
         m: Matcher,
     ) -> ParserTested
-        ensures { λ r. ⌜ ((ask : Rule → Machine → Walked) (b : Span) → parser-tested r (now (events .exit)) (now (reports .exit)) (now (pool .exit)) ≡ walk ask (tokens-of (now (tokens .entry))) b (expect-prog (matcher-of m)) (view-of self (now (events .entry)) (now (reports .entry)) (now (pool .entry)))) ⌝ }
+        ensures { λ r. ⌜ walks-of (expect-prog (matcher-of m)) self (parser-tested r) tokens events reports pool ⌝ }
         ensures { λ r. ⌜ left (now (tokens .entry)) (r .p .s) ≤ left (now (tokens .entry)) (self .s) ⌝ }
-        ensures { λ r. ⌜ (r .yes ≡ true → left (now (tokens .entry)) (r .p .s) ≤ left (now (tokens .entry)) (self .s) - 1) ⌝ }
+        ensures { λ r. ⌜ (r .yes ≡ true
+            → left (now (tokens .entry)) (r .p .s) ≤ left (now (tokens .entry)) (self .s) - 1) ⌝ }
     {
         let mut codes = self.codes;
         let e = self.s.expect(&mut codes, tokens, events, reports, pool, m);
@@ -282,7 +299,8 @@ impl Parser {
         m: Matcher,
         recovery: &[u8],
     ) -> ParserTested
-        ensures { λ r. ⌜ ((ask : Rule → Machine → Walked) (b : Span) → parser-tested r (now (events .exit)) (now (reports .exit)) (now (pool .exit)) ≡ walk ask (tokens-of (now (tokens .entry))) b (expect-recoverable-prog (matcher-of m) (now (recovery .entry))) (view-of self (now (events .entry)) (now (reports .entry)) (now (pool .entry)))) ⌝ }
+        ensures { λ r. ⌜ walks-of (expect-recoverable-prog (matcher-of m) (now (recovery .entry))) self (parser-tested r)
+            tokens events reports pool ⌝ }
         ensures { λ r. ⌜ left (now (tokens .entry)) (r .p .s) ≤ left (now (tokens .entry)) (self .s) ⌝ }
     {
         let mut codes = self.codes;
@@ -304,11 +322,12 @@ impl Parser {
         hint: u32,
         bump: Bump,
     ) -> Parser
-        ensures { λ r. ⌜ ((ask : Rule → Machine → Walked) (b : Span) → said yes (view-of r (now (events .exit)) (now (reports .exit)) (now (pool .exit))) ≡ walk ask (tokens-of (now (tokens .entry))) b (error-prog bump message hint) (view-of self (now (events .entry)) (now (reports .entry)) (now (pool .entry)))) ⌝ }
+        ensures { λ r. ⌜ walks-of (error-prog bump message hint) self (says-of yes r) tokens events reports pool ⌝ }
         ensures { λ r. ⌜ left (now (tokens .entry)) (r .s) ≤ left (now (tokens .entry)) (self .s) - takes bump ⌝ }
     {
         let codes = self.codes;
-        let s = self.s.error(&codes, tokens, events, reports, pool, message, hint, bump);
+        let s = self.s
+            .error(&codes, tokens, events, reports, pool, message, hint, bump);
         self.with(s)
     }
 
@@ -322,7 +341,8 @@ impl Parser {
         hint: u32,
         label: TextRange,
     ) -> Parser
-        ensures { λ r. ⌜ view-of r (now (events .exit)) (now (reports .exit)) (now (pool .exit)) ≡ emit-machine (tokens-of (now (tokens .entry))) message hint (span-of label) (view-of self (now (events .entry)) (now (reports .entry)) (now (pool .entry))) ⌝ }
+        ensures { λ r. ⌜ view-of r (now (events .exit)) (now (reports .exit)) (now (pool .exit))
+            ≡ emit-machine (tokens-of (now (tokens .entry))) message hint (span-of label) (view-of self (now (events .entry)) (now (reports .entry)) (now (pool .entry))) ⌝ }
         ensures { λ r. ⌜ left (now (tokens .entry)) (r .s) ≤ left (now (tokens .entry)) (self .s) ⌝ }
     {
         let codes = self.codes;

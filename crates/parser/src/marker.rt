@@ -1,20 +1,19 @@
 // marker.rs: a marker is the place of the placeholder that was pushed for it, and the first number of the start that it
 // becomes when it is completed.
 use crate::State;
-use layout::row::EVENT_ROW;
 use layout::event_tag::FINISH_NODE;
 use layout::event_tag::LINKED_START_NODE;
 use layout::event_tag::PLACEHOLDER;
 use layout::event_tag::START_NODE;
-use token_rows::room::fits;
-use token_rows::room::low32;
+use layout::row::EVENT_ARGUMENT;
+use layout::row::EVENT_DISTANCE;
+use layout::row::EVENT_ROW;
+use layout::word::low32;
+use token_rows::fit::fits;
 ghost use mathlib.Core.Path.{_≡_};
-ghost use mathlib.Core.Bool.{true, false, _&&_};
-ghost use mathlib.Core.List.{List, [], _∷_};
-ghost use Prim.Native.Nat.{ℕ, _+_, _-_, _*_, _/_, _%_, _≤_, _<_};
-ghost use lib.ListN.{length, take, drop};
-ghost use lib.Dec.{leb};
-ghost use Rattle.definitions.specs.Layout.{START-NODE as START-TAG, LINKED-START-NODE as LINKED-TAG};
+ghost use mathlib.Core.List.{List};
+ghost use Prim.Native.Nat.{ℕ, _≤_};
+ghost use Rattle.definitions.specs.Layout.{PLACEHOLDER as PLACEHOLDER-TAG, START-NODE as START-TAG, LINKED-START-NODE as LINKED-TAG};
 ghost use Rattle.machine.specs.Machine.{put-start, put-link, push, complete as complete-machine, precede as precede-machine};
 ghost use Rattle.parser.specs.View.{view, left, marker-of};
 
@@ -27,7 +26,7 @@ fn put_start(events: &mut [u32], index: usize, tag: u32, kind: u32)
     let enough = fits(events.len(), index, EVENT_ROW);
     if enough {
         events[index] = tag;
-        events[index + 1] = kind;
+        events[index + EVENT_ARGUMENT] = kind;
     }
 }
 
@@ -39,7 +38,7 @@ fn put_link(events: &mut [u32], index: usize, to: usize)
     if enough {
         let ahead = index <= to;
         if ahead {
-            events[index + 2] = low32((to - index) / EVENT_ROW);
+            events[index + EVENT_DISTANCE] = low32((to - index) / EVENT_ROW);
         }
     }
 }
@@ -62,16 +61,18 @@ impl Marker {
 
 impl State {
     pub fn start(self, events: &mut [u32]) -> State
-        ensures { λ r. ⌜ ((codes reports pool : List ℕ) → view r codes (now (events .exit)) reports pool ≡ push 0 0 (view self codes (now (events .entry)) reports pool)) ⌝ }
-        ensures { λ r. ⌜ ((tk : List ℕ) → left tk r ≤ left tk self) ⌝ }
+        ensures { λ r. ⌜ ((codes reports pool : List ℕ) → view r codes (now (events .exit)) reports pool
+            ≡ push PLACEHOLDER-TAG 0 (view self codes (now (events .entry)) reports pool)) ⌝ }
+        ensures { λ r. ⌜ ((tokens : List ℕ) → left tokens r ≤ left tokens self) ⌝ }
     {
         self.push_event(events, PLACEHOLDER, 0)
     }
 
     // `m.complete(p, kind)`
     pub fn complete(self, events: &mut [u32], m: Marker, kind: u32) -> State
-        ensures { λ r. ⌜ ((codes reports pool : List ℕ) → view r codes (now (events .exit)) reports pool ≡ complete-machine (marker-of m) kind (view self codes (now (events .entry)) reports pool)) ⌝ }
-        ensures { λ r. ⌜ ((tk : List ℕ) → left tk r ≤ left tk self) ⌝ }
+        ensures { λ r. ⌜ ((codes reports pool : List ℕ) → view r codes (now (events .exit)) reports pool
+            ≡ complete-machine (marker-of m) kind (view self codes (now (events .entry)) reports pool)) ⌝ }
+        ensures { λ r. ⌜ ((tokens : List ℕ) → left tokens r ≤ left tokens self) ⌝ }
     {
         let on = self.refusal == 0;
         if on {
@@ -84,16 +85,18 @@ impl State {
 
     // `m.ignore(p)`: the placeholder stays, and a second one is pushed.
     pub fn ignore(self, events: &mut [u32]) -> State
-        ensures { λ r. ⌜ ((codes reports pool : List ℕ) → view r codes (now (events .exit)) reports pool ≡ push 0 0 (view self codes (now (events .entry)) reports pool)) ⌝ }
-        ensures { λ r. ⌜ ((tk : List ℕ) → left tk r ≤ left tk self) ⌝ }
+        ensures { λ r. ⌜ ((codes reports pool : List ℕ) → view r codes (now (events .exit)) reports pool
+            ≡ push PLACEHOLDER-TAG 0 (view self codes (now (events .entry)) reports pool)) ⌝ }
+        ensures { λ r. ⌜ ((tokens : List ℕ) → left tokens r ≤ left tokens self) ⌝ }
     {
         self.push_event(events, PLACEHOLDER, 0)
     }
 
     // `completed.precede(p)`: a new marker, to which the completed node is linked forward.
     pub fn precede(self, events: &mut [u32], m: Marker) -> State
-        ensures { λ r. ⌜ ((codes reports pool : List ℕ) → view r codes (now (events .exit)) reports pool ≡ precede-machine (marker-of m) (view self codes (now (events .entry)) reports pool)) ⌝ }
-        ensures { λ r. ⌜ ((tk : List ℕ) → left tk r ≤ left tk self) ⌝ }
+        ensures { λ r. ⌜ ((codes reports pool : List ℕ) → view r codes (now (events .exit)) reports pool
+            ≡ precede-machine (marker-of m) (view self codes (now (events .entry)) reports pool)) ⌝ }
+        ensures { λ r. ⌜ ((tokens : List ℕ) → left tokens r ≤ left tokens self) ⌝ }
     {
         let to = self.events;
         let started = self.push_event(events, PLACEHOLDER, 0);

@@ -3,21 +3,19 @@
 use crate::State;
 use crate::event;
 use layout::expected;
+use layout::set::LABEL_NAME_SET;
+use layout::set::NAME_SET;
 use layout::token_kind;
 use token_rows::token::one_of;
 ghost use mathlib.Core.Path.{_≡_};
 ghost use mathlib.Core.List.{List};
 ghost use Prim.Native.Nat.{ℕ, _≤_, _-_};
-ghost use Rattle.definitions.specs.Token.{Token, one-of, tokens-of};
+ghost use Rattle.definitions.specs.Token.{Token, one-of};
 ghost use Rattle.definitions.specs.Skeleton.{Span};
 ghost use Rattle.definitions.specs.Prog.{Rule, yes};
 ghost use Rattle.machine.specs.Machine.{Machine};
 ghost use Rattle.machine.specs.Walk.{Walked, said, walk};
-ghost use Rattle.parser.specs.View.{view, left, first-code, matcher-of, kinds-of};
-
-pub const NAME_SET: [u8; 4] = [token_kind::IDENT, token_kind::NUMBER, token_kind::COMMA, token_kind::MINUS];
-
-pub const LABEL_NAME_SET: [u8; 2] = [token_kind::IDENT, token_kind::NUMBER];
+ghost use Rattle.parser.specs.View.{view, left, first-code, matcher-of, kinds-of, moves, says};
 
 pub enum Matcher {
     Kind(u8),
@@ -55,8 +53,9 @@ impl Matcher {
     }
 
     pub fn push_expected(self, s: State, codes: &mut [u8; 256]) -> State
-        ensures { λ r. ⌜ ((ask : Rule → Machine → Walked) (ts : List Token) (b : Span) (events reports pool : List ℕ) → said yes (view r (now (codes .exit)) events reports pool) ≡ walk ask ts b (matcher-of self .push-expected) (view s (now (codes .entry)) events reports pool)) ⌝ }
-        ensures { λ r. ⌜ ((tk : List ℕ) → left tk r ≤ left tk s) ⌝ }
+        ensures { λ r. ⌜ ((ask : Rule → Machine → Walked) (ts : List Token) (b : Span) (events reports pool : List ℕ) → said yes (view r (now (codes .exit)) events reports pool)
+            ≡ walk ask ts b (matcher-of self .push-expected) (view s (now (codes .entry)) events reports pool)) ⌝ }
+        ensures { λ r. ⌜ ((tokens : List ℕ) → left tokens r ≤ left tokens s) ⌝ }
     {
         let code = self.first_code();
         let q = s.add_expected(codes, code);
@@ -70,7 +69,7 @@ impl Matcher {
 
     // The matcher has matched.
     pub fn consume(self, s: State, tokens: &[u32], events: &mut [u32]) -> State
-        ensures { λ r. ⌜ ((ask : Rule → Machine → Walked) (b : Span) (codes reports pool : List ℕ) → said yes (view r codes (now (events .exit)) reports pool) ≡ walk ask (tokens-of (now (tokens .entry))) b (matcher-of self .consume) (view s codes (now (events .entry)) reports pool)) ⌝ }
+        ensures { λ r. ⌜ moves (matcher-of self .consume) s (says yes r) tokens events ⌝ }
         ensures { λ r. ⌜ left (now (tokens .entry)) r ≤ left (now (tokens .entry)) s - 1 ⌝ }
     {
         match self {

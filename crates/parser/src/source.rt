@@ -1,10 +1,11 @@
 // source.rs: the token rows and the cursor. A peek moves the cursor past trivia; an immediate one moves nothing.
-use crate::StateTested;
 use crate::State;
+use crate::StateTested;
 use crate::errors::TextRange;
 use crate::matcher::Matcher;
 use layout::ByteOffset;
 use layout::TokenIndex;
+use layout::row::TOKEN_ROW;
 use layout::token_kind;
 use token_rows::token::end_at;
 use token_rows::token::is_at;
@@ -17,6 +18,7 @@ ghost use mathlib.Core.Bool.{true, false};
 ghost use mathlib.Core.List.{List, [], _∷_};
 ghost use Prim.Native.Nat.{ℕ, _-_, _/_, _≤_, _<_};
 ghost use lib.ListN.{length, drop};
+ghost use Rattle.definitions.specs.Layout.{TOKEN-ROW};
 ghost use Rattle.definitions.specs.Token.{tokens-of, first-in};
 ghost use Rattle.definitions.specs.Skeleton.{Span};
 ghost use Rattle.definitions.specs.Prog.{Rule, silent-at, at-end};
@@ -28,9 +30,9 @@ ghost use Rattle.parser.specs.View.{view, left, state-tested, kinds-of, 
 // Whether the matcher matches the row.
 pub fn is_matched_at(tokens: &[u32], at: usize, m: Matcher) -> bool
     ensures { λ r. ⌜ r ≡ first-in (kinds-of m) (drop at (tokens-of (now (tokens .entry)))) ⌝ }
-    ensures { λ r. ⌜ (r ≡ true → at < length (now (tokens .entry)) / 2) ⌝ }
+    ensures { λ r. ⌜ (r ≡ true → at < length (now (tokens .entry)) / TOKEN-ROW) ⌝ }
 {
-    let inside = at < tokens.len() / 2;
+    let inside = at < tokens.len() / TOKEN_ROW;
     if inside {
         let here = kind_at(tokens, at);
         m.matches(here)
@@ -40,9 +42,10 @@ pub fn is_matched_at(tokens: &[u32], at: usize, m: Matcher) -> bool
 }
 
 impl State {
-    // `skip_trivia`: the cursor comes to stand at a token, or at the end.
+    // `skip_trivia`: the cursor stops at a token, or at the end.
     pub fn peek(self, tokens: &[u32]) -> State
-        ensures { λ r. ⌜ ((codes events reports pool : List ℕ) → view r codes events reports pool ≡ peek-machine (tokens-of (now (tokens .entry))) (view self codes events reports pool)) ⌝ }
+        ensures { λ r. ⌜ ((codes events reports pool : List ℕ) → view r codes events reports pool
+            ≡ peek-machine (tokens-of (now (tokens .entry))) (view self codes events reports pool)) ⌝ }
         ensures { λ r. ⌜ left (now (tokens .entry)) r ≤ left (now (tokens .entry)) self ⌝ }
     {
         let seat = skip_trivia(tokens, self.cursor.0, self.byte.0);
@@ -55,14 +58,15 @@ impl State {
     }
 
     pub fn at_end(self, tokens: &[u32]) -> StateTested
-        ensures { λ r. ⌜ ((b : Span) (codes events reports pool : List ℕ) → state-tested r codes events reports pool ≡ perform (tokens-of (now (tokens .entry))) b at-end (view self codes events reports pool)) ⌝ }
+        ensures { λ r. ⌜ ((b : Span) (codes events reports pool : List ℕ) → state-tested r codes events reports pool
+            ≡ perform (tokens-of (now (tokens .entry))) b at-end (view self codes events reports pool)) ⌝ }
         ensures { λ r. ⌜ left (now (tokens .entry)) (r .s) ≤ left (now (tokens .entry)) self ⌝ }
         ensures { λ r. ⌜ (r .yes ≡ false → 0 < left (now (tokens .entry)) (r .s)) ⌝ }
         ensures { λ r. ⌜ (r .yes ≡ true → left (now (tokens .entry)) (r .s) ≡ 0) ⌝ }
     {
         let q = self.peek(tokens);
         let at = q.cursor.0;
-        let inside = at < tokens.len() / 2;
+        let inside = at < tokens.len() / TOKEN_ROW;
         if inside {
             StateTested { s: q, yes: false }
         } else {
@@ -72,7 +76,8 @@ impl State {
 
     // `check(kind).silent().at()`
     pub fn silent_at(self, tokens: &[u32], k: u8) -> StateTested
-        ensures { λ r. ⌜ ((b : Span) (codes events reports pool : List ℕ) → state-tested r codes events reports pool ≡ perform (tokens-of (now (tokens .entry))) b (silent-at (k ∷ [])) (view self codes events reports pool)) ⌝ }
+        ensures { λ r. ⌜ ((b : Span) (codes events reports pool : List ℕ) → state-tested r codes events reports pool
+            ≡ perform (tokens-of (now (tokens .entry))) b (silent-at (k ∷ [])) (view self codes events reports pool)) ⌝ }
         ensures { λ r. ⌜ left (now (tokens .entry)) (r .s) ≤ left (now (tokens .entry)) self ⌝ }
         ensures { λ r. ⌜ (r .yes ≡ true → 0 < left (now (tokens .entry)) (r .s)) ⌝ }
     {
@@ -83,7 +88,8 @@ impl State {
 
     // `check(set).silent().at()`
     pub fn silent_at_set(self, tokens: &[u32], set: &[u8]) -> StateTested
-        ensures { λ r. ⌜ ((b : Span) (codes events reports pool : List ℕ) → state-tested r codes events reports pool ≡ perform (tokens-of (now (tokens .entry))) b (silent-at (now (set .entry))) (view self codes events reports pool)) ⌝ }
+        ensures { λ r. ⌜ ((b : Span) (codes events reports pool : List ℕ) → state-tested r codes events reports pool
+            ≡ perform (tokens-of (now (tokens .entry))) b (silent-at (now (set .entry))) (view self codes events reports pool)) ⌝ }
         ensures { λ r. ⌜ left (now (tokens .entry)) (r .s) ≤ left (now (tokens .entry)) self ⌝ }
         ensures { λ r. ⌜ (r .yes ≡ true → 0 < left (now (tokens .entry)) (r .s)) ⌝ }
     {
@@ -93,7 +99,8 @@ impl State {
     }
 
     pub fn silent_at_macro_invocation_with_args(self, tokens: &[u32]) -> StateTested
-        ensures { λ r. ⌜ ((ask : Rule → Machine → Walked) (b : Span) (codes events reports pool : List ℕ) → state-tested r codes events reports pool ≡ walk ask (tokens-of (now (tokens .entry))) b silent-at-macro-invocation-with-args (view self codes events reports pool)) ⌝ }
+        ensures { λ r. ⌜ ((ask : Rule → Machine → Walked) (b : Span) (codes events reports pool : List ℕ) → state-tested r codes events reports pool
+            ≡ walk ask (tokens-of (now (tokens .entry))) b silent-at-macro-invocation-with-args (view self codes events reports pool)) ⌝ }
         ensures { λ r. ⌜ left (now (tokens .entry)) (r .s) ≤ left (now (tokens .entry)) self ⌝ }
         ensures { λ r. ⌜ (r .yes ≡ true → 0 < left (now (tokens .entry)) (r .s)) ⌝ }
     {
@@ -110,7 +117,8 @@ impl State {
 
     // The range of the row at the cursor.
     pub fn range(self, tokens: &[u32]) -> TextRange
-        ensures { λ r. ⌜ ((codes events reports pool : List ℕ) → span-of r ≡ range-at (drop (self .cursor .0) (tokens-of (now (tokens .entry)))) (view self codes events reports pool)) ⌝ }
+        ensures { λ r. ⌜ ((codes events reports pool : List ℕ) → span-of r
+            ≡ range-at (drop (self .cursor .0) (tokens-of (now (tokens .entry)))) (view self codes events reports pool)) ⌝ }
     {
         let start = self.byte;
         let end = ByteOffset(end_at(tokens, self.cursor.0, start.0));
@@ -122,11 +130,12 @@ impl State {
 
     // `next_token`, and the expectations cleared: takes the row at the cursor, whatever it is.
     pub fn next_token(self, tokens: &[u32]) -> State
-        ensures { λ r. ⌜ ((codes events reports pool : List ℕ) → view r codes events reports pool ≡ take-first (drop (self .cursor .0) (tokens-of (now (tokens .entry)))) (view self codes events reports pool)) ⌝ }
+        ensures { λ r. ⌜ ((codes events reports pool : List ℕ) → view r codes events reports pool
+            ≡ take-first (drop (self .cursor .0) (tokens-of (now (tokens .entry)))) (view self codes events reports pool)) ⌝ }
         ensures { λ r. ⌜ left (now (tokens .entry)) r ≤ left (now (tokens .entry)) self - 1 ⌝ }
     {
         let at = self.cursor.0;
-        let inside = at < tokens.len() / 2;
+        let inside = at < tokens.len() / TOKEN_ROW;
         if inside {
             let next = TokenIndex(at + 1);
             let end = ByteOffset(end_at(tokens, at, self.byte.0));

@@ -28,3 +28,5 @@ pub mod ReportRows
 pub mod TreeRows
 pub mod Theorem
 pub mod Examples
+pub mod Witnesses
+pub mod Refutations

@@ -189,11 +189,11 @@ pool-one = 35 ∷ 18 ∷ 26 ∷ 30 ∷ 46 ∷ 23 ∷ 24 ∷ 19 ∷ 20 ∷ 21 ∷
 abbrev pool-two : List ℕ
 pool-two = 18 ∷ 26 ∷ 30 ∷ 46 ∷ 23 ∷ 24 ∷ 19 ∷ 20 ∷ 21 ∷ 22 ∷ 101 ∷ 2 ∷ 29 ∷ 18 ∷ 26 ∷ 30 ∷ 46 ∷ 23 ∷ 24 ∷ 19 ∷ 20 ∷ 21 ∷ 22 ∷ 101 ∷ 103 ∷ 19 ∷ 101 ∷ 29 ∷ []
 
-later-in-one : (later-errors one in-one ≡ errors-one) × (later-reports one in-one ≡ reports-one) × (expectations (result one) ≡ pool-one) × (places one in-one .pool ≡ 1)
+later-in-one : (later-errors one in-one ≡ errors-one) × (later-reports one in-one ≡ reports-one) × (expectations (result one) ≡ pool-one) × (places one in-one ≡ record { bytes = 14; marks = 3; pool = 1 })
 unfolding those later-error later-report pool-before token-index start-byte over-leaves error-rows report-rows expectations call in-one
 later-in-one = (refl, refl, refl, refl)
 
-later-in-two : (later-errors two in-two ≡ errors-two) × (later-reports two in-two ≡ reports-two) × (expectations (result two) ≡ pool-two) × (places two in-two .pool ≡ 13)
+later-in-two : (later-errors two in-two ≡ errors-two) × (later-reports two in-two ≡ reports-two) × (expectations (result two) ≡ pool-two) × (places two in-two ≡ record { bytes = 9; marks = 5; pool = 13 })
 unfolding those later-error later-report pool-before token-index start-byte over-leaves error-rows report-rows expectations call in-two
 later-in-two = (refl, refl, refl, refl)
 

@@ -27,22 +27,22 @@ use Rattle.source.proofs.Source.peek_kind_immediate as immediate
 use Rattle.source.proofs.Source.next_token as next
 
 abbrev pub Made : RefT (List ℕ) → TokenIndex → Source → Type 0
-Made s i r = (r .rows ≡ s) × (r .cursor ≡ i)
+Made s i r = (r .tokens ≡ s) × (r .cursor ≡ i)
 
 abbrev pub Peeked : Source → Source → Type 0
-Peeked r p = (p .rows ≡ r .rows) × (p .cursor .0 ≡ after-trivia (tokens-of (now (r .rows))) (r .cursor .0))
+Peeked r p = (p .tokens ≡ r .tokens) × (p .cursor .0 ≡ after-trivia (tokens-of (now (r .tokens))) (r .cursor .0))
 
-abbrev pub StateTested : Source → ℕ → Type 0
-StateTested p k = k ≡ kind-of (drop (p .cursor .0) (tokens-of (now (p .rows))))
+abbrev pub KindSeen : Source → ℕ → Type 0
+KindSeen p k = k ≡ kind-of (drop (p .cursor .0) (tokens-of (now (p .tokens))))
 
 abbrev pub Taken : Source → Source → Type 0
-Taken r n = (n .rows ≡ r .rows) × (n .cursor .0 ≡ after-token (tokens-of (now (r .rows))) (r .cursor .0))
+Taken r n = (n .tokens ≡ r .tokens) × (n .cursor .0 ≡ after-token (tokens-of (now (r .tokens))) (r .cursor .0))
 
 -- the same of a view that was made of rows and a place
-pub seen-here : (s : RefT (List ℕ)) (i : TokenIndex) (r : Source) (k : ℕ) → Made s i r → StateTested r k → k ≡ kind-of (drop (i .0) (tokens-of (now s)))
+pub seen-here : (s : RefT (List ℕ)) (i : TokenIndex) (r : Source) (k : ℕ) → Made s i r → KindSeen r k → k ≡ kind-of (drop (i .0) (tokens-of (now s)))
 seen-here s i r k e f = f ∙ ap (λ (x : RefT (List ℕ)). kind-of (drop (r .cursor .0) (tokens-of (now x)))) (e .0) ∙ ap (λ (x : TokenIndex). kind-of (drop (x .0) (tokens-of (now s)))) (e .1)
 
-pub seen-past : (s : RefT (List ℕ)) (i : TokenIndex) (r p : Source) (k : ℕ) → Made s i r → Peeked r p → StateTested p k → k ≡ kind-of (drop-trivia (drop (i .0) (tokens-of (now s))))
+pub seen-past : (s : RefT (List ℕ)) (i : TokenIndex) (r p : Source) (k : ℕ) → Made s i r → Peeked r p → KindSeen p k → k ≡ kind-of (drop-trivia (drop (i .0) (tokens-of (now s))))
 seen-past s i r p k e f g =
     sees (tokens-of (now s)) (i .0) (p .cursor .0) k
     (f .1 ∙ ap (λ (x : RefT (List ℕ)). after-trivia (tokens-of (now x)) (r .cursor .0)) (e .0) ∙ ap (λ (x : TokenIndex). after-trivia (tokens-of (now s)) (x .0)) (e .1))
@@ -70,8 +70,8 @@ module _ {M : Type 1} (𝓤 : URA M) (H : Heap 𝓤) (A : Atoms 𝓤) (mem : Mem
   pub peek-said : (κ : Lft) (r p : Source) → ent 𝓤 (ensured 𝓤 H A peek.ended (peek.clauses 𝓤 H A mem run) (κ, tt) (r, tt) tt p) (fact 𝓤 (Peeked r p))
   peek-said κ r p = exE 𝓤 _ (λ ws. snd∗ 𝓤 (sem 𝓤 H A (lasts peek.ended (κ, tt) (r, tt) ws)) (fact 𝓤 (Peeked r p)))
 
-  pub immediate-said : (κ : Lft) (p : Source) (k : ℕ) → ent 𝓤 (ensured 𝓤 H A immediate.ended (immediate.clauses 𝓤 H A mem run) (κ, tt) (p, tt) tt k) (fact 𝓤 (StateTested p k))
-  immediate-said κ p k = exE 𝓤 _ (λ ws. snd∗ 𝓤 (sem 𝓤 H A (lasts immediate.ended (κ, tt) (p, tt) ws)) (fact 𝓤 (StateTested p k)))
+  pub immediate-said : (κ : Lft) (p : Source) (k : ℕ) → ent 𝓤 (ensured 𝓤 H A immediate.ended (immediate.clauses 𝓤 H A mem run) (κ, tt) (p, tt) tt k) (fact 𝓤 (KindSeen p k))
+  immediate-said κ p k = exE 𝓤 _ (λ ws. snd∗ 𝓤 (sem 𝓤 H A (lasts immediate.ended (κ, tt) (p, tt) ws)) (fact 𝓤 (KindSeen p k)))
 
   pub next-said : (κ : Lft) (r n : Source) → ent 𝓤 (ensured 𝓤 H A next.ended (next.clauses 𝓤 H A mem run) (κ, tt) (r, tt) tt n) (fact 𝓤 (Taken r n))
   next-said κ r n = exE 𝓤 _ (λ ws. snd∗ 𝓤 (sem 𝓤 H A (lasts next.ended (κ, tt) (r, tt) ws)) (fact 𝓤 (Taken r n)))

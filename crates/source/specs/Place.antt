@@ -12,6 +12,6 @@ onto ts at rest = at + (length (drop at ts) - length rest)
 abbrev pub after-trivia : List Token → ℕ → ℕ
 after-trivia ts at = onto ts at (drop-trivia (drop at ts))
 
--- past the first token that is no trivia, if there is one
+-- past the first token that is not trivia, if there is one
 abbrev pub after-token : List Token → ℕ → ℕ
 after-token ts at = onto ts at (past (drop-trivia (drop at ts)))

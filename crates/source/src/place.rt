@@ -13,17 +13,19 @@ ghost use Rattle.source.specs.Place.{after-trivia, after-token};
 
 // A parser that has taken nothing and stands here.
 fn standing(at: TokenIndex) -> State
-    ensures { λ r. ⌜ ((codes events reports pool : List ℕ) → view r codes events reports pool ≡ with-cursor (at .0) 0 (fresh events reports pool)) ⌝ }
+    ensures { λ r. ⌜ ((codes events reports pool : List ℕ) → view r codes events reports pool
+        ≡ with-cursor (at .0) 0 (fresh events reports pool)) ⌝ }
 {
     let mut s = State::new();
     s.cursor = at;
     s
 }
 
-// The first place from here on that is no trivia.
+// The first place from here on that is not trivia.
 pub fn past_trivia(tokens: &[u32], at: TokenIndex) -> TokenIndex
     ensures { λ r. ⌜ r .0 ≡ after-trivia (tokens-of (now (tokens .entry))) (at .0) ⌝ }
-    ensures { λ r. ⌜ drop (r .0) (tokens-of (now (tokens .entry))) ≡ drop-trivia (drop (at .0) (tokens-of (now (tokens .entry)))) ⌝ }
+    ensures { λ r. ⌜ drop (r .0) (tokens-of (now (tokens .entry)))
+        ≡ drop-trivia (drop (at .0) (tokens-of (now (tokens .entry)))) ⌝ }
 {
     let s = standing(at).peek(tokens);
     s.cursor
@@ -32,7 +34,8 @@ pub fn past_trivia(tokens: &[u32], at: TokenIndex) -> TokenIndex
 // The place after that token; at the end it stays.
 pub fn past_token(tokens: &[u32], at: TokenIndex) -> TokenIndex
     ensures { λ r. ⌜ r .0 ≡ after-token (tokens-of (now (tokens .entry))) (at .0) ⌝ }
-    ensures { λ r. ⌜ drop (r .0) (tokens-of (now (tokens .entry))) ≡ past (drop-trivia (drop (at .0) (tokens-of (now (tokens .entry))))) ⌝ }
+    ensures { λ r. ⌜ drop (r .0) (tokens-of (now (tokens .entry)))
+        ≡ past (drop-trivia (drop (at .0) (tokens-of (now (tokens .entry))))) ⌝ }
 {
     let s = standing(at).peek(tokens).next_token(tokens);
     s.cursor

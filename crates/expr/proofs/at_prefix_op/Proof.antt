@@ -22,7 +22,7 @@ returns c =
     let add-expected′ = c .before .before .add-expected in
     let silent-at-set′ = c .silent-at-set in
     let s′ = c .before .before .before .before in (
-      λ ask b ev rep pool. c-seq (c-act (add-expected′ .ensures .0 (tokens-of (s′ .args .tokens .now)) b ev rep pool)) (c-act (silent-at-set′ .ensures .0 b ev rep pool)) .is,
+      λ ask b events reports pool. c-seq (c-act (add-expected′ .ensures .0 (tokens-of (s′ .args .tokens .now)) b events reports pool)) (c-act (silent-at-set′ .ensures .0 b events reports pool)) .is,
       (omega (arith, add-expected′ .ensures .1 (s′ .args .tokens .now), silent-at-set′ .ensures .1 .0), silent-at-set′ .ensures .1 .1),
     )
 

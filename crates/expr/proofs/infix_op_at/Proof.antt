@@ -1,4 +1,4 @@
--- `infix_op_at` peeks behind the pushed expectation, and reads the powers of the kind that it sees off the table.
+-- `infix_op_at` pushes the expectation and peeks, and reads the powers of the kind that it sees off the table.
 use mathlib.Core.Path.{_∙_, ap}
 use native.Mathlib.Omega.{arith}
 use Rattle.definitions.specs.Token.{tokens-of}
@@ -32,7 +32,7 @@ returns c =
     let binding-power′ = c .binding-power in
     let s′ = c .before .before .before .before .before in
     let tk = s′ .args .tokens .now in (
-      λ ev rep pool. peek′ .ensures .0 ev rep pool ∙ ap (λ (w : Walked). peek (tokens-of tk) (w .on)) (add-expected′ .ensures .0 (tokens-of tk) unlabelled ev rep pool),
+      λ events reports pool. peek′ .ensures .0 events reports pool ∙ ap (λ (w : Walked). peek (tokens-of tk) (w .on)) (add-expected′ .ensures .0 (tokens-of tk) unlabelled events reports pool),
       (
         binding-power′ .ensures .0 ∙ ap (left-power levels) (kind-at′ .ensures .0),
         (

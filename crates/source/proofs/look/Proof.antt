@@ -47,7 +47,7 @@ use Rattle.token_rows.specs.Tokens.{kind-of}
 use Rattle.source.specs.Place.{after-token}
 use Rattle.source.specs.declared.Sight.{Sight}
 use Rattle.source.specs.declared.Source.{Source}
-use Rattle.source.proofs.Said.{Made, Peeked, StateTested, Taken, seen-here, seen-past, taken-from, New, Peek, Immediate, Next, new-said, peek-said, immediate-said, next-said}
+use Rattle.source.proofs.Said.{Made, Peeked, KindSeen, Taken, seen-here, seen-past, taken-from, New, Peek, Immediate, Next, new-said, peek-said, immediate-said, next-said}
 use Rattle.source.proofs.Sight as K
 use Rattle.source.proofs.Sight.Laws as K′
 use Rattle.source.proofs.Source as T
@@ -171,7 +171,7 @@ module _ {M : Type 1} (𝓤 : URA M) (H : Heap 𝓤) (A : Atoms 𝓤) (W : Given
         move ! (1 ∷ 0 ∷ []) $ use2 W (raw (Immediate 𝓤 H A mem run .pre (to r u))) (goes r u) $
         calls-at ! fm (Immediate 𝓤 H A mem run) known-immediate (to r u) (and-then ! (load ! (from ! (stop !)) (look ! 11 refl)) (no-more !)) (λ w₁.
         use1 W (later (some (λ (k : ℕ). ((‵ (flft κ q) ⊛ ‵ ftrue) ⊛ ‵ (u8 .own k (w₁ ∷ []))) ⊛ raw (ensured 𝓤 H A immediate.ended (immediate.clauses 𝓤 H A mem run) (κ, tt) (r, tt) tt k)))) (id⊢ 𝓤 _) $ await ! tt $ pick ! (λ k.
-        split ! $ move ! (1 ∷ []) $ use1 W (raw (fact 𝓤 (StateTested r k))) (immediate-said 𝓤 H A mem run κ r k) $ heard ! (StateTested r k) (λ ek. split ! $ move ! (1 ∷ []) $
+        split ! $ move ! (1 ∷ []) $ use1 W (raw (fact 𝓤 (KindSeen r k))) (immediate-said 𝓤 H A mem run κ r k) $ heard ! (KindSeen r k) (λ ek. split ! $ move ! (1 ∷ []) $
         peeks ! u8 (Is u8) (shows 𝓤 H A u8) k (w₁ ∷ []) (λ isk. land ! (from ! (stop !)) (init ! 14 refl (uint-lawful 𝓤 H A W w8 .typed k _ isk .0)) $
         rewrite ! 14 (λ (x : Val). ‵ (fat fullShare (tyInt w8) l₆ 0 x)) (ap only (isk .0)) refl $ drop ! $
         -- `peek` of a copy, into _9, and `peek_kind_immediate` of that, into _8
@@ -184,7 +184,7 @@ module _ {M : Type 1} (𝓤 : URA M) (H : Heap 𝓤) (A : Atoms 𝓤) (W : Given
         use2 W (raw (Immediate 𝓤 H A mem run .pre (to p w₂))) (goes p w₂) $
         calls-at ! fm (Immediate 𝓤 H A mem run) known-immediate (to p w₂) (and-then ! (load ! (from ! (stop !)) (look ! 6 refl)) (no-more !)) (λ w₃.
         use1 W (later (some (λ (j : ℕ). ((‵ (flft κ q) ⊛ ‵ ftrue) ⊛ ‵ (u8 .own j (w₃ ∷ []))) ⊛ raw (ensured 𝓤 H A immediate.ended (immediate.clauses 𝓤 H A mem run) (κ, tt) (p, tt) tt j)))) (id⊢ 𝓤 _) $ await ! tt $ pick ! (λ j.
-        split ! $ move ! (1 ∷ []) $ use1 W (raw (fact 𝓤 (StateTested p j))) (immediate-said 𝓤 H A mem run κ p j) $ heard ! (StateTested p j) (λ ej. split ! $ move ! (1 ∷ []) $
+        split ! $ move ! (1 ∷ []) $ use1 W (raw (fact 𝓤 (KindSeen p j))) (immediate-said 𝓤 H A mem run κ p j) $ heard ! (KindSeen p j) (λ ej. split ! $ move ! (1 ∷ []) $
         peeks ! u8 (Is u8) (shows 𝓤 H A u8) j (w₃ ∷ []) (λ isj. land ! (from ! (stop !)) (init ! 9 refl (uint-lawful 𝓤 H A W w8 .typed j _ isj .0)) $
         rewrite ! 9 (λ (x : Val). ‵ (fat fullShare (tyInt w8) l₈ 0 x)) (ap only (isj .0)) refl $ drop ! $
         -- the place out of _4, and the result

@@ -15,7 +15,7 @@ use Rattle.parser.specs.View.{left, view-of}
 use Rattle.grammar.specs.Parts.{inside-of}
 use Rattle.machine.proofs.Way.{c-walk, c-act, c-ret, c-yes, c-no, c-mark, completed, c-fn, way}
 use Rattle.names.proofs.Kit.{ahead-falls}
-use Rattle.parts.proofs.Steps.{true-false}
+use Rattle.steps.proofs.Steps.{true-false}
 use Rattle.grammar.proofs.Ways.{c-part, again-part, last-yes, last-no}
 use Rattle.grammar.proofs.arm.Reads as reads
 use Rattle.grammar.proofs.+arm+bits+cell2+cells+cond_branches_and_end+dt_cell_list+dt_node_body+dt_property+eat_cell+eat_inside+eat_node_or_prop+eat_preprocessor_directive+item+item2+propvalues+rest+value+value2.Lts-arm as lts
@@ -23,14 +23,14 @@ use Rattle.grammar.proofs.+arm+bits+cell2+cells+cond_branches_and_end+d
 
 -- the loop from here is the loop from the start
 abbrev pub Inv-loop : lts.InvT-loop
-Inv-loop t ev₀ rep₀ pool₀ room inside m q₀ set ev rep pool q =
+Inv-loop t events₀ reports₀ pool₀ room inside m q₀ set events reports pool q =
     (left t (q .s) ≤ left t (q₀ .s))
-    × ((length ev ≡ length ev₀)
-    × ((length rep ≡ length rep₀)
-    × ((length pool ≡ length pool₀) × (walk-prog room (tokens-of t) unlabelled (loop (branch-turn (inside-of inside))) (view-of q ev rep pool) ≡ walk-prog room (tokens-of t) unlabelled (loop (branch-turn (inside-of inside))) (view-of q₀ ev₀ rep₀ pool₀)))))
+    × ((length events ≡ length events₀)
+    × ((length reports ≡ length reports₀)
+    × ((length pool ≡ length pool₀) × (walk-prog room (tokens-of t) unlabelled (loop (branch-turn (inside-of inside))) (view-of q events reports pool) ≡ walk-prog room (tokens-of t) unlabelled (loop (branch-turn (inside-of inside))) (view-of q₀ events₀ reports₀ pool₀)))))
 
 abbrev pub μ-loop : lts.MeasureT-loop
-μ-loop t ev₀ rep₀ pool₀ room inside m q₀ set ev rep pool q = left t (q .s)
+μ-loop t events₀ reports₀ pool₀ room inside m q₀ set events reports pool q = left t (q .s)
 
 pub new-requires : (t : ℕ) → lts.Need-new-requires (arm-claims t) (arm-at t) reads.Post Inv-loop μ-loop
 new-requires t c κs = tt

@@ -5,7 +5,7 @@ use Rattle.definitions.specs.Token.{tokens-of}
 use Rattle.definitions.specs.Grammar.{bits-value}
 use Rattle.machine.specs.Walk.{walk-rule, unlabelled}
 use Rattle.machine.proofs.Way.{c-walk, c-act, c-ret, c-seq, c-yes, c-no, c-mark, completed, way}
-use Rattle.parts.proofs.Steps.{closing}
+use Rattle.steps.proofs.Steps.{closing}
 use Rattle.grammar.proofs.Ways.{c-same}
 use Rattle.grammar.proofs.bits.Reads as reads
 use Rattle.grammar.proofs.+arm+bits+cell2+cells+cond_branches_and_end+dt_cell_list+dt_node_body+dt_property+eat_cell+eat_inside+eat_node_or_prop+eat_preprocessor_directive+item+item2+propvalues+rest+value+value2.Lts-bits as lts

@@ -19,14 +19,14 @@ use Rattle.grammar.proofs.+arm+bits+cell2+cells+cond_branches_and_end+d
 
 -- the loop from here is the loop from the start
 abbrev pub Inv-loop : lts.InvT-loop
-Inv-loop t ev₀ rep₀ pool₀ room at-end q₀ ev rep pool q =
+Inv-loop t events₀ reports₀ pool₀ room at-end q₀ events reports pool q =
     (left t (q .s) ≤ left t (q₀ .s))
-    × ((length ev ≡ length ev₀)
-    × ((length rep ≡ length rep₀)
-    × ((length pool ≡ length pool₀) × (walk-prog room (tokens-of t) unlabelled (cells at-end) (view-of q ev rep pool) ≡ walk-prog room (tokens-of t) unlabelled (cells at-end) (view-of q₀ ev₀ rep₀ pool₀)))))
+    × ((length events ≡ length events₀)
+    × ((length reports ≡ length reports₀)
+    × ((length pool ≡ length pool₀) × (walk-prog room (tokens-of t) unlabelled (cells at-end) (view-of q events reports pool) ≡ walk-prog room (tokens-of t) unlabelled (cells at-end) (view-of q₀ events₀ reports₀ pool₀)))))
 
 abbrev pub μ-loop : lts.MeasureT-loop
-μ-loop t ev₀ rep₀ pool₀ room at-end q₀ ev rep pool q = left t (q .s)
+μ-loop t events₀ reports₀ pool₀ room at-end q₀ events reports pool q = left t (q .s)
 
 pub loop-holds : (t : ℕ) → lts.Need-loop-holds (cells-claims t) (cells-at t) reads.Post Inv-loop μ-loop
 loop-holds t c = (omega arith, (refl, (refl, (refl, refl))))

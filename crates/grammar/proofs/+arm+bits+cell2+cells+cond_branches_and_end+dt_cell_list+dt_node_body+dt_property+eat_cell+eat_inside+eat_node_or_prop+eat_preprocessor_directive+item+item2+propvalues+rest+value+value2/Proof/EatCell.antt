@@ -9,7 +9,7 @@ use Rattle.definitions.specs.Prog.{no, eat-cell}
 use Rattle.definitions.specs.Grammar.{grammar}
 use Rattle.machine.specs.Walk.{said, walk-rule, unlabelled}
 use Rattle.machine.proofs.Way.{c-walk, c-act, c-ret, c-seq, c-yes, c-no, c-fn, way, rule-closed, rule-body}
-use Rattle.parts.proofs.Steps.{true-false, c-ret-yes}
+use Rattle.steps.proofs.Steps.{true-false, c-ret-yes}
 use Rattle.grammar.proofs.Laws.{cell-body-parts}
 use Rattle.grammar.proofs.eat_cell.Reads as reads
 use Rattle.grammar.proofs.+arm+bits+cell2+cells+cond_branches_and_end+dt_cell_list+dt_node_body+dt_property+eat_cell+eat_inside+eat_node_or_prop+eat_preprocessor_directive+item+item2+propvalues+rest+value+value2.Lts-eat_cell as lts

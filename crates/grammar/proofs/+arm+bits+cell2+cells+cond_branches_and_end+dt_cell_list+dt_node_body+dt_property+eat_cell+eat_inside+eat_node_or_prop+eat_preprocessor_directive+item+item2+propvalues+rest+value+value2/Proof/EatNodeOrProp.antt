@@ -7,8 +7,8 @@ use Rattle.definitions.specs.Grammar.{eat-node-or-prop}
 use Rattle.machine.specs.Walk.{walk-rule, unlabelled}
 use Rattle.parser.specs.View.{ans-of}
 use Rattle.machine.proofs.Way.{c-walk, c-ret, c-yes, c-no, c-mark, way}
-use Rattle.parts.proofs.Steps.{true-false, c-said-no, c-said-also, closing, ignored}
-use Rattle.parts.specs.View.{found}
+use Rattle.steps.proofs.Steps.{true-false, c-said-no, c-said-also, closing, ignored}
+use Rattle.steps.specs.View.{found}
 use Rattle.grammar.proofs.Ways.{c-same, c-said-other, found-other}
 use Rattle.grammar.proofs.eat_node_or_prop.Reads as reads
 use Rattle.grammar.proofs.+arm+bits+cell2+cells+cond_branches_and_end+dt_cell_list+dt_node_body+dt_property+eat_cell+eat_inside+eat_node_or_prop+eat_preprocessor_directive+item+item2+propvalues+rest+value+value2.Lts-eat_node_or_prop as lts

@@ -9,7 +9,7 @@ use Rattle.definitions.specs.Check.{silent}
 use Rattle.definitions.specs.Grammar.{eat-preprocessor-directive}
 use Rattle.machine.specs.Walk.{unlabelled}
 use Rattle.machine.proofs.Way.{c-act, c-ret, c-seq, c-yes, c-no, c-mark, completed, way}
-use Rattle.parts.proofs.Steps.{true-false, c-ret-no}
+use Rattle.steps.proofs.Steps.{true-false, c-ret-no}
 use Rattle.grammar.proofs.Ways.{c-part-on, c-assoc}
 use Rattle.grammar.proofs.eat_preprocessor_directive.Reads as reads
 use Rattle.grammar.proofs.+arm+bits+cell2+cells+cond_branches_and_end+dt_cell_list+dt_node_body+dt_property+eat_cell+eat_inside+eat_node_or_prop+eat_preprocessor_directive+item+item2+propvalues+rest+value+value2.Lts-eat_preprocessor_directive as lts

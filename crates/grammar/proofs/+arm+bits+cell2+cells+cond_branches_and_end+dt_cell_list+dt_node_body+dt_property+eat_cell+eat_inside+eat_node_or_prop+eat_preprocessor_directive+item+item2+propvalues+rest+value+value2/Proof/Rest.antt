@@ -6,7 +6,7 @@ use Rattle.definitions.specs.Check.{silent}
 use Rattle.definitions.specs.Grammar.{no-property}
 use Rattle.machine.specs.Walk.{walk-rule, unlabelled}
 use Rattle.machine.proofs.Way.{c-walk, c-act, c-ret, c-seq, c-yes, c-no, c-mark, completed}
-use Rattle.parts.proofs.Steps.{c-any, closing}
+use Rattle.steps.proofs.Steps.{c-any, closing}
 use Rattle.grammar.proofs.Ways.{c-same, closes}
 use Rattle.grammar.proofs.rest.Reads as reads
 use Rattle.grammar.proofs.+arm+bits+cell2+cells+cond_branches_and_end+dt_cell_list+dt_node_body+dt_property+eat_cell+eat_inside+eat_node_or_prop+eat_preprocessor_directive+item+item2+propvalues+rest+value+value2.Lts-rest as lts

@@ -7,7 +7,7 @@ use Rattle.definitions.specs.Token.{tokens-of}
 use Rattle.definitions.specs.Check.{silent}
 use Rattle.machine.specs.Walk.{walk-rule, unlabelled}
 use Rattle.machine.proofs.Way.{c-walk, c-act, c-ret, c-seq, c-yes, c-no, c-fn, way}
-use Rattle.parts.proofs.Steps.{told-yes}
+use Rattle.steps.proofs.Steps.{told-yes}
 use Rattle.grammar.proofs.Ways.{told-left}
 use Rattle.grammar.proofs.value2.Reads as reads
 use Rattle.grammar.proofs.+arm+bits+cell2+cells+cond_branches_and_end+dt_cell_list+dt_node_body+dt_property+eat_cell+eat_inside+eat_node_or_prop+eat_preprocessor_directive+item+item2+propvalues+rest+value+value2.Lts-value2 as lts

@@ -9,7 +9,7 @@ use Rattle.definitions.specs.Grammar.{entry}
 use Rattle.machine.specs.Machine.{Machine}
 use Rattle.machine.specs.Walk.{Walked, walk, walk-rule, unlabelled}
 use Rattle.machine.proofs.Way.{Way, c-call, c-fn}
-use Rattle.parts.proofs.Steps.{c-any}
+use Rattle.steps.proofs.Steps.{c-any}
 use Rattle.grammar.specs.declared.entry.Entrypoint.{Entrypoint}
 use Rattle.grammar.specs.Parts.{entry-of}
 use Rattle.grammar.proofs.Ways.{part-on}

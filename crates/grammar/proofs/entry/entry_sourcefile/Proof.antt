@@ -16,10 +16,10 @@ use Rattle.grammar.proofs.entry.entry_sourcefile.Statement.{statement}
 use Rattle.grammar.proofs.entry.entry_sourcefile.Tie as tie
 
 abbrev Inv-loop : tie.InvT-loop
-Inv-loop t ev₀ rep₀ pool₀ q₀ ev rep pool q = (walk-prog 64 (tokens-of t) unlabelled entry-sourcefile (view-of q ev rep pool) ≡ walk-prog 64 (tokens-of t) unlabelled entry-sourcefile (view-of q₀ ev₀ rep₀ pool₀)) × ((left t (q .s) ≤ left t (q₀ .s)) × ((length ev ≡ length ev₀) × ((length rep ≡ length rep₀) × (length pool ≡ length pool₀))))
+Inv-loop t events₀ reports₀ pool₀ q₀ events reports pool q = (walk-prog 64 (tokens-of t) unlabelled entry-sourcefile (view-of q events reports pool) ≡ walk-prog 64 (tokens-of t) unlabelled entry-sourcefile (view-of q₀ events₀ reports₀ pool₀)) × ((left t (q .s) ≤ left t (q₀ .s)) × ((length events ≡ length events₀) × ((length reports ≡ length reports₀) × (length pool ≡ length pool₀))))
 
 abbrev μ-loop : tie.MeasureT-loop
-μ-loop t ev₀ rep₀ pool₀ q₀ ev rep pool q = left t (q .s)
+μ-loop t events₀ reports₀ pool₀ q₀ events reports pool q = left t (q .s)
 
 loop-holds : tie.Need-loop-holds Inv-loop μ-loop
 loop-holds c = (refl, (le-refl _, (refl, (refl, refl))))

@@ -6,7 +6,7 @@ use Rattle.definitions.specs.Check.{silent}
 use Rattle.definitions.specs.Grammar.{catch-unmatched-pp-directive}
 use Rattle.machine.specs.Walk.{walk-rule, unlabelled}
 use Rattle.machine.proofs.Way.{c-walk, c-act, c-ret, c-seq, c-yes, c-no, c-mark, completed, way}
-use Rattle.parts.proofs.Steps.{true-false, c-ret-no}
+use Rattle.steps.proofs.Steps.{true-false, c-ret-no}
 use Rattle.grammar.proofs.Ways.{c-part-on, c-assoc}
 use borrow.Author.Needs.{needs}
 use Rattle.grammar.proofs.preprocessor_directive.catch_unmatched_pp_directive.Statement.{statement}

@@ -1,5 +1,5 @@
 -- `at_end`: of the numbers; the codes stay.
-use Rattle.token_rows.proofs.Kit.{flags}
+use Rattle.basics.proofs.Flags.{flags}
 use Rattle.parser.proofs.Moves.{with-said, with-left}
 use Rattle.parser.proofs.Parser.at_end.Statement.{statement}
 use Rattle.parser.proofs.Parser.at_end.Tie as tie
@@ -16,7 +16,7 @@ returns c =
     let tk = args .tokens .now in
     let at-end = c .before .at-end in
     let kept = c .with in (
-      λ b ev rep pool. with-said _ _ _ ev rep pool _ _ (kept .ensures) (at-end .ensures .0 b (args .self .codes) ev rep pool),
+      λ b events reports pool. with-said _ _ _ events reports pool _ _ (kept .ensures) (at-end .ensures .0 b (args .self .codes) events reports pool),
       (
         omega (flags, with-left _ _ _ tk (kept .ensures), at-end .ensures .1 .0),
         (

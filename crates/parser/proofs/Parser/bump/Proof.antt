@@ -1,5 +1,5 @@
 -- `bump`: of the numbers; the codes stay.
-use Rattle.token_rows.proofs.Kit.{flags}
+use Rattle.basics.proofs.Flags.{flags}
 use Rattle.parser.proofs.Moves.{with-said, with-left}
 use borrow.Author.Needs.{needs}
 use Rattle.parser.proofs.Parser.bump.Statement.{statement}
@@ -20,7 +20,7 @@ returns c =
     let tk = args .tokens .now in
     let bump = c .before .before .before .bump in
     let kept = c .with in (
-      λ b rep pool. with-said _ _ _ _ rep pool _ _ (kept .ensures) (bump .ensures .0 b (args .self .codes) rep pool),
+      λ b reports pool. with-said _ _ _ _ reports pool _ _ (kept .ensures) (bump .ensures .0 b (args .self .codes) reports pool),
       omega (flags, with-left _ _ _ tk (kept .ensures), bump .ensures .1),
     )
 

@@ -6,7 +6,7 @@ new-requires : tie.Need-new-requires
 new-requires c κs = tt
 
 returns : tie.Need-returns
-returns c = λ ev rep pool. c .new .ensures _ ev rep pool
+returns c = λ events reports pool. c .new .ensures _ events reports pool
 
 pub new-spec : {M : Type 1} → statement M
 new-spec = tie.close (tie.spec new-requires returns)

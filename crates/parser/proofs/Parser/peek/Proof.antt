@@ -1,5 +1,5 @@
 -- `peek`: of the numbers; the codes stay.
-use Rattle.token_rows.proofs.Kit.{flags}
+use Rattle.basics.proofs.Flags.{flags}
 use Rattle.parser.proofs.Moves.{with-view, with-left}
 use Rattle.parser.proofs.Parser.peek.Statement.{statement}
 use Rattle.parser.proofs.Parser.peek.Tie as tie
@@ -16,7 +16,7 @@ returns c =
     let tk = args .tokens .now in
     let peek = c .before .peek in
     let kept = c .with in (
-      λ ev rep pool. with-view _ _ _ ev rep pool _ (kept .ensures) (peek .ensures .0 (args .self .codes) ev rep pool),
+      λ events reports pool. with-view _ _ _ events reports pool _ (kept .ensures) (peek .ensures .0 (args .self .codes) events reports pool),
       omega (flags, with-left _ _ _ tk (kept .ensures), peek .ensures .1),
     )
 

@@ -1,5 +1,5 @@
 -- `precede`: of the numbers; the codes stay.
-use Rattle.token_rows.proofs.Kit.{flags}
+use Rattle.basics.proofs.Flags.{flags}
 use Rattle.parser.proofs.Moves.{with-view, with-left}
 use borrow.Author.Needs.{needs}
 use Rattle.parser.proofs.Parser.precede.Statement.{statement}
@@ -19,7 +19,7 @@ returns c =
     let args = c .before .before .before .before .before .before .args in
     let precede = c .before .before .before .precede in
     let kept = c .with in (
-      λ rep pool. with-view _ _ _ _ rep pool _ (kept .ensures) (precede .ensures .0 (args .self .codes) rep pool),
+      λ reports pool. with-view _ _ _ _ reports pool _ (kept .ensures) (precede .ensures .0 (args .self .codes) reports pool),
       λ tk. omega (flags, with-left _ _ _ tk (kept .ensures), precede .ensures .1 tk),
     )
 

@@ -1,5 +1,5 @@
 -- `refuse`: past every row nothing is left.
-use Rattle.parser.proofs.Kit.{left-none, refused-past}
+use Rattle.parser.proofs.Stores.{left-none, refused-past}
 use mathlib.Core.Path.{_∙_}
 use mathlib.Core.List.{[]}
 use Rattle.parser.specs.View.{view}
@@ -18,7 +18,7 @@ returns c =
     let args = c .before .before .args in
     let refuse = c .before .refuse in
     let kept = c .with in (
-      λ ev rep pool. with-view _ _ _ ev rep pool _ (kept .ensures) (refuse .ensures .0 (args .self .codes) ev rep pool),
+      λ events reports pool. with-view _ _ _ events reports pool _ (kept .ensures) (refuse .ensures .0 (args .self .codes) events reports pool),
       λ tk h.
           with-left _ _ _ tk (kept .ensures)
           ∙ left-none tk (refuse .result)

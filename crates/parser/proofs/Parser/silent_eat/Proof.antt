@@ -1,5 +1,5 @@
 -- `silent_eat`: of the numbers; the codes stay.
-use Rattle.token_rows.proofs.Kit.{flags}
+use Rattle.basics.proofs.Flags.{flags}
 use Rattle.parser.proofs.Moves.{with-said, with-left}
 use borrow.Author.Needs.{needs}
 use Rattle.parser.proofs.Parser.silent_eat.Statement.{statement}
@@ -20,7 +20,7 @@ returns c =
     let tk = args .tokens .now in
     let silent-eat = c .before .before .before .silent-eat in
     let kept = c .with in (
-      λ ask b rep pool. with-said _ _ _ _ rep pool _ _ (kept .ensures) (silent-eat .ensures .0 ask b (args .self .codes) rep pool),
+      λ ask b reports pool. with-said _ _ _ _ reports pool _ _ (kept .ensures) (silent-eat .ensures .0 ask b (args .self .codes) reports pool),
       (
         omega (flags, with-left _ _ _ tk (kept .ensures), silent-eat .ensures .1 .0),
         λ e. omega (flags, with-left _ _ _ tk (kept .ensures), silent-eat .ensures .1 .1 e),

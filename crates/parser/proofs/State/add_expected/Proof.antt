@@ -1,5 +1,5 @@
 -- `add_expected`: one code more, or refusal 5.
-use Rattle.token_rows.proofs.Kit.{flags}
+use Rattle.basics.proofs.Flags.{flags}
 use Prim.Native.Nat.{_≤_, _<_}
 use mathlib.Core.Path.{_≡_, refl, sym, _∙_, ap}
 use native.Mathlib.Omega.{arith}
@@ -37,8 +37,8 @@ returns c =
     let if1 = c .if1 in
     let long : length codes₀ ≡ 256 = search needs in
     let has : (args .self .pending) < length codes₀ = ltb-true (args .self .pending) (length codes₀) (sym (put-code .ensures .0) ∙ if1 .taken) in (
-      λ ts b ev rep pool.
-          expected-room ts b codes₀ _ (args .self .pending) (args .code) (view self codes₀ ev rep pool) long (put-code .ensures .1)
+      λ ts b events reports pool.
+          expected-room ts b codes₀ _ (args .self .pending) (args .code) (view self codes₀ events reports pool) long (put-code .ensures .1)
           refl has,
       λ tk. omega flags,
     )
@@ -53,9 +53,9 @@ returns-2 c =
     let refuse = c .refuse in
     let long : length codes₀ ≡ 256 = search needs in
     let full : length codes₀ ≤ (args .self .pending) = ltb-false (args .self .pending) (length codes₀) (sym (put-code .ensures .0) ∙ if1 .left) in (
-      λ ts b ev rep pool.
-          expected-full ts b codes₀ _ (args .self .pending) (args .code) (view self codes₀ ev rep pool) long (put-code .ensures .1)
-          refl _ full (refuse .ensures .0 _ ev rep pool),
+      λ ts b events reports pool.
+          expected-full ts b codes₀ _ (args .self .pending) (args .code) (view self codes₀ events reports pool) long (put-code .ensures .1)
+          refl _ full (refuse .ensures .0 _ events reports pool),
       refuse .ensures .1,
     )
 

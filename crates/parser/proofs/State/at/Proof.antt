@@ -1,5 +1,5 @@
 -- `at`: the expectations, and then the test.
-use Rattle.token_rows.proofs.Kit.{flags}
+use Rattle.basics.proofs.Flags.{flags}
 use mathlib.Core.Path.{_≡_, refl, sym, _∙_, ap}
 use Rattle.definitions.specs.Token.{tokens-of}
 use Rattle.parser.specs.View.{view, matcher-of}
@@ -22,10 +22,10 @@ returns c =
     let codes₀ = args .codes .now in
     let push-expected = c .before .push-expected in
     let silent = c .silent in (
-      λ ask b ev rep pool.
-          at-is ask ts b (matcher-of (args .m)) (view self codes₀ ev rep pool) (view (push-expected .result) _ ev rep pool) _
-          (push-expected .ensures .0 ask ts b ev rep pool)
-          (silent .ensures .0 b _ ev rep pool ∙ matches-is ask ts b (args .m) (view (push-expected .result) _ ev rep pool)),
+      λ ask b events reports pool.
+          at-is ask ts b (matcher-of (args .m)) (view self codes₀ events reports pool) (view (push-expected .result) _ events reports pool) _
+          (push-expected .ensures .0 ask ts b events reports pool)
+          (silent .ensures .0 b _ events reports pool ∙ matches-is ask ts b (args .m) (view (push-expected .result) _ events reports pool)),
       (omega (flags, push-expected .ensures .1 tk, silent .ensures .1 .0), silent .ensures .1 .1),
     )
 

@@ -1,5 +1,6 @@
 -- `at_end`: whether a row is left after the trivia.
-use Rattle.token_rows.proofs.Kit.{flags, true-false}
+use mathlib.Core.Bool.{true≢false, false≢true}
+use Rattle.basics.proofs.Flags.{flags}
 use mathlib.Core.Path.{sym}
 use Rattle.definitions.specs.Token.{tokens-of}
 use Rattle.parser.specs.View.{view, left}
@@ -18,10 +19,10 @@ returns c =
     let tk = args .tokens .now in
     let ts = tokens-of tk in
     let peek = c .before .peek in (
-      λ b codes ev rep pool.
-          at-end-is ts b (view self codes ev rep pool) (view (peek .result) codes ev rep pool) _ (peek .ensures .0 codes ev rep pool)
+      λ b codes events reports pool.
+          at-end-is ts b (view self codes events reports pool) (view (peek .result) codes events reports pool) _ (peek .ensures .0 codes events reports pool)
           (ended-in tk (peek .result .cursor .0) (omega flags)),
-      (peek .ensures .1, (λ e. omega flags, λ e. absurd (true-false (sym e)))),
+      (peek .ensures .1, (λ e. omega flags, λ e. absurd (false≢true e))),
     )
 
 returns-2 : tie.Need-returns-2
@@ -32,10 +33,10 @@ returns-2 c =
     let tk = args .tokens .now in
     let ts = tokens-of tk in
     let peek = c .before .peek in (
-      λ b codes ev rep pool.
-          at-end-is ts b (view self codes ev rep pool) (view (peek .result) codes ev rep pool) _ (peek .ensures .0 codes ev rep pool)
+      λ b codes events reports pool.
+          at-end-is ts b (view self codes events reports pool) (view (peek .result) codes events reports pool) _ (peek .ensures .0 codes events reports pool)
           (ended-past tk (peek .result .cursor .0) (omega flags)),
-      (peek .ensures .1, (λ e. absurd (true-false e), λ e. omega flags)),
+      (peek .ensures .1, (λ e. absurd (true≢false e), λ e. omega flags)),
     )
 
 pub at-end-spec : {M : Type 1} → statement M

@@ -1,5 +1,5 @@
 -- `at_immediate`: the expectation, and the row at the cursor.
-use Rattle.token_rows.proofs.Kit.{flags}
+use Rattle.basics.proofs.Flags.{flags}
 use Rattle.definitions.specs.Token.{tokens-of}
 use Rattle.parser.specs.View.{view, left}
 use Rattle.parser.proofs.Programs.{immediate-is}
@@ -22,9 +22,9 @@ returns c =
     let codes₀ = args .codes .now in
     let add-expected = c .before .add-expected in
     let is-at = c .is-at in (
-      λ ask b ev rep pool.
-          immediate-is ask ts b (args .k) (view self codes₀ ev rep pool) (view (add-expected .result) _ ev rep pool) _
-          (add-expected .ensures .0 ts b ev rep pool) (is-at .ensures .0),
+      λ ask b events reports pool.
+          immediate-is ask ts b (args .k) (view self codes₀ events reports pool) (view (add-expected .result) _ events reports pool) _
+          (add-expected .ensures .0 ts b events reports pool) (is-at .ensures .0),
       (add-expected .ensures .1 tk, λ e. omega (flags, is-at .ensures .1 e)),
     )
 

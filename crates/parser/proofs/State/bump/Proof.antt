@@ -1,5 +1,5 @@
 -- `bump`: a peek, a row, its event.
-use Rattle.token_rows.proofs.Kit.{flags}
+use Rattle.basics.proofs.Flags.{flags}
 use borrow.Author.Tests.{ltb-true, ltb-false}
 use Rattle.parser.specs.View.{view, left}
 use Rattle.parser.proofs.Moves.{bump-in, bump-past}
@@ -24,15 +24,15 @@ returns c =
     let args = c .before .before .before .before .before .before .before .before .before .args in
     let self = args .self in
     let tk = args .tokens .now in
-    let ev₀ = args .ev .now in
+    let events₀ = args .events .now in
     let peek = c .before .before .before .before .before .before .peek in
     let if1 = c .before .before .before .before .before .if1 in
     let next-token = c .before .before .before .before .next-token in
     let push-event = c .before .before .push-event in (
-      λ b codes rep pool.
-          bump-in tk b (view self codes ev₀ rep pool) (view (peek .result) codes ev₀ rep pool)
-          (view (next-token .result) codes ev₀ rep pool) _ (peek .ensures .0 codes ev₀ rep pool) (ltb-true _ _ (if1 .taken))
-          (next-token .ensures .0 codes ev₀ rep pool) (push-event .ensures .0 codes rep pool),
+      λ b codes reports pool.
+          bump-in tk b (view self codes events₀ reports pool) (view (peek .result) codes events₀ reports pool)
+          (view (next-token .result) codes events₀ reports pool) _ (peek .ensures .0 codes events₀ reports pool) (ltb-true _ _ (if1 .taken))
+          (next-token .ensures .0 codes events₀ reports pool) (push-event .ensures .0 codes reports pool),
       omega (flags, peek .ensures .1, next-token .ensures .1, push-event .ensures .1 tk),
     )
 
@@ -42,11 +42,11 @@ returns-2 c =
     let args = c .before .before .before .before .args in
     let self = args .self in
     let tk = args .tokens .now in
-    let ev₀ = args .ev .now in
+    let events₀ = args .events .now in
     let peek = c .before .peek in
     let if1 = c .if1 in (
-      λ b codes rep pool.
-          bump-past tk b (view self codes ev₀ rep pool) (view (peek .result) codes ev₀ rep pool) (peek .ensures .0 codes ev₀ rep pool)
+      λ b codes reports pool.
+          bump-past tk b (view self codes events₀ reports pool) (view (peek .result) codes events₀ reports pool) (peek .ensures .0 codes events₀ reports pool)
           (ltb-false _ _ (if1 .left)),
       omega (flags, if1 .left),
     )

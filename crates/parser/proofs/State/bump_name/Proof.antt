@@ -1,5 +1,5 @@
 -- `bump_name`: a peek, a row, those of the set after it, one event.
-use Rattle.token_rows.proofs.Kit.{flags}
+use Rattle.basics.proofs.Flags.{flags}
 use borrow.Author.Tests.{ltb-true, ltb-false}
 use Rattle.parser.specs.View.{view, left}
 use Rattle.parser.proofs.Moves.{name-in, name-past}
@@ -30,7 +30,7 @@ returns c =
     let args = c .before .before .before .before .before .before .before .before .before .before .before .before .args in
     let self = args .self in
     let tk = args .tokens .now in
-    let ev₀ = args .ev .now in
+    let events₀ = args .events .now in
     let set₀ = args .set .now in
     let peek = c .before .before .before .before .before .before .before .before .peek in
     let if1 = c .before .before .before .before .before .before .before .if1 in
@@ -38,11 +38,11 @@ returns c =
     let take-while = c .before .before .before .before .before .take-while in
     let raw-tokens-since = c .before .before .before .before .raw-tokens-since in
     let push-event = c .before .before .push-event in (
-      λ b codes rep pool.
-          name-in tk set₀ b (view self codes ev₀ rep pool) (view (peek .result) codes ev₀ rep pool)
-          (view (next-token .result) codes ev₀ rep pool) (view (take-while .result) codes ev₀ rep pool) _ _
-          (peek .ensures .0 codes ev₀ rep pool) (ltb-true _ _ (if1 .taken)) (next-token .ensures .0 codes ev₀ rep pool)
-          (take-while .ensures .0 codes ev₀ rep pool) (raw-tokens-since .ensures) (push-event .ensures .0 codes rep pool),
+      λ b codes reports pool.
+          name-in tk set₀ b (view self codes events₀ reports pool) (view (peek .result) codes events₀ reports pool)
+          (view (next-token .result) codes events₀ reports pool) (view (take-while .result) codes events₀ reports pool) _ _
+          (peek .ensures .0 codes events₀ reports pool) (ltb-true _ _ (if1 .taken)) (next-token .ensures .0 codes events₀ reports pool)
+          (take-while .ensures .0 codes events₀ reports pool) (raw-tokens-since .ensures) (push-event .ensures .0 codes reports pool),
       omega (flags, peek .ensures .1, next-token .ensures .1, take-while .ensures .1, push-event .ensures .1 tk),
     )
 
@@ -52,13 +52,13 @@ returns-2 c =
     let args = c .before .before .before .before .before .args in
     let self = args .self in
     let tk = args .tokens .now in
-    let ev₀ = args .ev .now in
+    let events₀ = args .events .now in
     let set₀ = args .set .now in
     let peek = c .before .peek in
     let if1 = c .if1 in (
-      λ b codes rep pool.
-          name-past tk set₀ b (view self codes ev₀ rep pool) (view (peek .result) codes ev₀ rep pool)
-          (peek .ensures .0 codes ev₀ rep pool) (ltb-false _ _ (if1 .left)),
+      λ b codes reports pool.
+          name-past tk set₀ b (view self codes events₀ reports pool) (view (peek .result) codes events₀ reports pool)
+          (peek .ensures .0 codes events₀ reports pool) (ltb-false _ _ (if1 .left)),
       omega (flags, if1 .left),
     )
 

@@ -1,10 +1,10 @@
 -- `bump_unless_at_end`: a token, if there is one.
-use Rattle.token_rows.proofs.Kit.{flags}
+use Rattle.basics.proofs.Flags.{flags}
 use mathlib.Core.Path.{_≡_, refl, sym, _∙_, ap}
 use mathlib.Core.Bool.{true, false}
 use Rattle.definitions.specs.Token.{tokens-of}
 use Rattle.definitions.specs.Prog.{bump}
-use Rattle.definitions.specs.Check.{bump!}
+use Rattle.definitions.specs.Check.{bump! }
 use Rattle.parser.specs.View.{view}
 use Rattle.parser.proofs.Programs.{answered, walk-act, end-yes, end-no}
 use borrow.Author.Needs.{needs}
@@ -23,12 +23,12 @@ returns c =
     let self = args .self in
     let tk = args .tokens .now in
     let ts = tokens-of tk in
-    let ev₀ = args .ev .now in
+    let events₀ = args .events .now in
     let at-end = c .before .before .at-end in
     let if1 = c .before .if1 in (
-      λ ask b codes rep pool.
-          end-yes ask ts b bump! (view self codes ev₀ rep pool) (view (at-end .result .s) codes ev₀ rep pool)
-          (answered _ true _ _ (at-end .ensures .0 b codes ev₀ rep pool) (if1 .taken)),
+      λ ask b codes reports pool.
+          end-yes ask ts b bump! (view self codes events₀ reports pool) (view (at-end .result .s) codes events₀ reports pool)
+          (answered _ true _ _ (at-end .ensures .0 b codes events₀ reports pool) (if1 .taken)),
       omega (flags, at-end .ensures .1 .1 .1 (if1 .taken)),
     )
 
@@ -41,14 +41,14 @@ returns-2 c =
     let self = args .self in
     let tk = args .tokens .now in
     let ts = tokens-of tk in
-    let ev₀ = args .ev .now in
+    let events₀ = args .events .now in
     let at-end = c .before .before .before .before .before .at-end in
     let if1 = c .before .before .before .before .if1 in
     let bump′ = c .before .before .bump in (
-      λ ask b codes rep pool.
-          end-no ask ts b bump! (view self codes ev₀ rep pool) (view (at-end .result .s) codes ev₀ rep pool) _
-          (answered _ false _ _ (at-end .ensures .0 b codes ev₀ rep pool) (if1 .left))
-          (bump′ .ensures .0 b codes rep pool ∙ walk-act ask ts b bump (view (at-end .result .s) codes ev₀ rep pool)),
+      λ ask b codes reports pool.
+          end-no ask ts b bump! (view self codes events₀ reports pool) (view (at-end .result .s) codes events₀ reports pool) _
+          (answered _ false _ _ (at-end .ensures .0 b codes events₀ reports pool) (if1 .left))
+          (bump′ .ensures .0 b codes reports pool ∙ walk-act ask ts b bump (view (at-end .result .s) codes events₀ reports pool)),
       omega (flags, at-end .ensures .1 .0, bump′ .ensures .1),
     )
 

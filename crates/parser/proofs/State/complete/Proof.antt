@@ -1,5 +1,5 @@
 -- `complete`: the placeholder becomes a start, and a finish is pushed.
-use Rattle.token_rows.proofs.Kit.{flags}
+use Rattle.basics.proofs.Flags.{flags}
 use Rattle.parser.specs.View.{view, left, marker-of}
 use Rattle.parser.proofs.Moves.{complete-on, complete-off}
 use borrow.Author.Needs.{needs}
@@ -19,13 +19,13 @@ returns : tie.Need-returns
 returns c =
     let args = c .before .before .before .before .before .before .before .before .before .before .before .args in
     let self = args .self in
-    let ev₀ = args .ev .now in
+    let events₀ = args .events .now in
     let if1 = c .before .before .before .before .before .before .before .before .if1 in
     let put-start = c .before .before .before .before .before .before .put-start in
     let push-row = c .before .before .push-row in (
-      λ codes rep pool.
-          complete-on (marker-of (args .m)) (args .kind) (view self codes ev₀ rep pool) _ _ (if1 .taken) (put-start .ensures)
-          (push-row .ensures .0 codes rep pool),
+      λ codes reports pool.
+          complete-on (marker-of (args .m)) (args .kind) (view self codes events₀ reports pool) _ _ (if1 .taken) (put-start .ensures)
+          (push-row .ensures .0 codes reports pool),
       push-row .ensures .1,
     )
 
@@ -34,9 +34,9 @@ unfolding left
 returns-2 c =
     let args = c .before .before .before .args in
     let self = args .self in
-    let ev₀ = args .ev .now in
+    let events₀ = args .events .now in
     let if1 = c .if1 in (
-      λ codes rep pool. complete-off (marker-of (args .m)) (args .kind) (view self codes ev₀ rep pool) (if1 .left),
+      λ codes reports pool. complete-off (marker-of (args .m)) (args .kind) (view self codes events₀ reports pool) (if1 .left),
       λ tk. omega flags,
     )
 

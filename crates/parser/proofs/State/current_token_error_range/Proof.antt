@@ -1,5 +1,5 @@
 -- `current_token_error_range`: the byte after the last token, the current token, or the last byte.
-use Rattle.token_rows.proofs.Kit.{flags}
+use Rattle.basics.proofs.Flags.{flags}
 use mathlib.Core.Path.{_≡_}
 use native.Mathlib.Omega.{arith}
 use lib.ListN.{length}
@@ -15,14 +15,14 @@ ends-statement-requires c κs =
     let codes₀ = args .codes .now in
     let long : length codes₀ ≡ 256 = search needs in omega (arith, long)
 
-wrapping-add-u32-requires : tie.Need-wrapping-add-u32-requires
-wrapping-add-u32-requires c κs = tt
+add-requires : tie.Need-add-requires
+add-requires c κs = tt
 
 range-requires : tie.Need-range-requires
 range-requires c κs = tt
 
-less-one-requires : tie.Need-less-one-requires
-less-one-requires c κs = tt
+less-requires : tie.Need-less-requires
+less-requires c κs = tt
 
 returns : tie.Need-returns
 returns c =
@@ -32,10 +32,10 @@ returns c =
     let codes₀ = args .codes .now in
     let ends-statement = c .before .before .before .ends-statement in
     let if2 = c .before .before .if2 in
-    let wrapping-add-u32 = c .wrapping-add-u32 in
-    λ ev rep pool.
-    range-lone tk (view self codes₀ ev rep pool) _ _ (omega flags) (ends-statement .ensures) (if2 .taken)
-    (wrapping-add-u32 .ensures)
+    let add = c .add in
+    λ events reports pool.
+    range-lone tk (view self codes₀ events reports pool) _ _ (omega flags) (ends-statement .ensures) (if2 .taken)
+    (add .ensures)
 
 returns-2 : tie.Need-returns-2
 returns-2 c =
@@ -46,9 +46,9 @@ returns-2 c =
     let ends-statement = c .before .before .ends-statement in
     let if2 = c .before .if2 in
     let range = c .range in
-    λ ev rep pool.
-    range-token tk (view self codes₀ ev rep pool) _ _ (omega flags) (ends-statement .ensures) (if2 .left)
-    (range .ensures codes₀ ev rep pool)
+    λ events reports pool.
+    range-token tk (view self codes₀ events reports pool) _ _ (omega flags) (ends-statement .ensures) (if2 .left)
+    (range .ensures codes₀ events reports pool)
 
 returns-3 : tie.Need-returns-3
 returns-3 c =
@@ -56,10 +56,10 @@ returns-3 c =
     let self = args .self in
     let tk = args .tokens .now in
     let codes₀ = args .codes .now in
-    let less-one = c .less-one in
-    λ ev rep pool. range-end tk (view self codes₀ ev rep pool) _ (omega flags) (less-one .ensures)
+    let less = c .less in
+    λ events reports pool. range-end tk (view self codes₀ events reports pool) _ (omega flags) (less .ensures)
 
 pub current-token-error-range-spec : {M : Type 1} → statement M
 current-token-error-range-spec =
     tie.close
-    (tie.spec ends-statement-requires wrapping-add-u32-requires range-requires less-one-requires returns returns-2 returns-3)
+    (tie.spec ends-statement-requires add-requires range-requires less-requires returns returns-2 returns-3)

@@ -1,7 +1,7 @@
 -- `eat`: the test, and the token or name, or else the expectations.
-use Rattle.token_rows.proofs.Kit.{flags, true-false}
+use Rattle.basics.proofs.Flags.{flags}
 use mathlib.Core.Path.{_≡_, refl, sym, _∙_, ap}
-use mathlib.Core.Bool.{true, false}
+use mathlib.Core.Bool.{true, false, false≢true}
 use Rattle.definitions.specs.Token.{tokens-of}
 use Rattle.parser.specs.View.{view, matcher-of}
 use Rattle.parser.proofs.Programs.{answered, matches-is, eat-yes, eat-no}
@@ -27,16 +27,16 @@ returns c =
     let self = args .self in
     let tk = args .tokens .now in
     let ts = tokens-of tk in
-    let ev₀ = args .ev .now in
+    let events₀ = args .events .now in
     let codes₀ = args .codes .now in
     let silent = c .before .before .before .before .before .silent in
     let if1 = c .before .before .before .before .if1 in
     let consume = c .before .before .consume in (
-      λ ask b rep pool.
-          eat-yes ask ts b (matcher-of (args .m)) (view self codes₀ ev₀ rep pool) (view (silent .result .s) codes₀ ev₀ rep pool) _
-          (sym (matches-is ask ts b (args .m) (view self codes₀ ev₀ rep pool))
-          ∙ answered _ true _ _ (silent .ensures .0 b codes₀ ev₀ rep pool) (if1 .taken))
-          (consume .ensures .0 ask b codes₀ rep pool),
+      λ ask b reports pool.
+          eat-yes ask ts b (matcher-of (args .m)) (view self codes₀ events₀ reports pool) (view (silent .result .s) codes₀ events₀ reports pool) _
+          (sym (matches-is ask ts b (args .m) (view self codes₀ events₀ reports pool))
+          ∙ answered _ true _ _ (silent .ensures .0 b codes₀ events₀ reports pool) (if1 .taken))
+          (consume .ensures .0 ask b codes₀ reports pool),
       (omega (flags, silent .ensures .1 .0, consume .ensures .1), λ e. omega (flags, silent .ensures .1 .0, consume .ensures .1)),
     )
 
@@ -46,17 +46,17 @@ returns-2 c =
     let self = args .self in
     let tk = args .tokens .now in
     let ts = tokens-of tk in
-    let ev₀ = args .ev .now in
+    let events₀ = args .events .now in
     let codes₀ = args .codes .now in
     let silent = c .before .before .before .silent in
     let if1 = c .before .before .if1 in
     let push-expected = c .push-expected in (
-      λ ask b rep pool.
-          eat-no ask ts b (matcher-of (args .m)) (view self codes₀ ev₀ rep pool) (view (silent .result .s) codes₀ ev₀ rep pool) _
-          (sym (matches-is ask ts b (args .m) (view self codes₀ ev₀ rep pool))
-          ∙ answered _ false _ _ (silent .ensures .0 b codes₀ ev₀ rep pool) (if1 .left))
-          (push-expected .ensures .0 ask ts b ev₀ rep pool),
-      (omega (flags, silent .ensures .1 .0, push-expected .ensures .1 tk), λ e. absurd (true-false (sym e))),
+      λ ask b reports pool.
+          eat-no ask ts b (matcher-of (args .m)) (view self codes₀ events₀ reports pool) (view (silent .result .s) codes₀ events₀ reports pool) _
+          (sym (matches-is ask ts b (args .m) (view self codes₀ events₀ reports pool))
+          ∙ answered _ false _ _ (silent .ensures .0 b codes₀ events₀ reports pool) (if1 .left))
+          (push-expected .ensures .0 ask ts b events₀ reports pool),
+      (omega (flags, silent .ensures .1 .0, push-expected .ensures .1 tk), λ e. absurd (false≢true e)),
     )
 
 pub eat-spec : {M : Type 1} → statement M

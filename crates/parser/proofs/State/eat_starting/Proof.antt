@@ -1,7 +1,7 @@
 -- `eat_starting`: the test, and on a match the marker and the token or name.
-use Rattle.token_rows.proofs.Kit.{flags, true-false}
+use Rattle.basics.proofs.Flags.{flags}
 use mathlib.Core.Path.{sym}
-use mathlib.Core.Bool.{true, false}
+use mathlib.Core.Bool.{true, false, false≢true}
 use Rattle.definitions.specs.Token.{tokens-of}
 use Rattle.parser.specs.View.{view, matcher-of, marker-of}
 use Rattle.parser.proofs.Programs.{answered, starting-yes, starting-no}
@@ -30,17 +30,17 @@ returns c =
     let self = args .self in
     let tk = args .tokens .now in
     let ts = tokens-of tk in
-    let ev₀ = args .ev .now in
+    let events₀ = args .events .now in
     let codes₀ = args .codes .now in
     let at = c .before .before .before .before .before .before .before .before .before .before .at in
     let new = c .before .before .before .before .before .before .before .before .before .new in
     let if1 = c .before .before .before .before .before .before .before .before .if1 in
     let start′ = c .before .before .before .before .before .before .start in
     let consume = c .before .before .consume in (
-      λ ask b rep pool.
-          starting-yes ask ts b (matcher-of (args .matcher)) (view self codes₀ ev₀ rep pool) (view (at .result .s) _ ev₀ rep pool) _ _
-          (marker-of (new .result)) (answered _ true _ _ (at .ensures .0 ask b ev₀ rep pool) (if1 .taken)) (new .ensures)
-          (start′ .ensures .0 _ rep pool) (consume .ensures .0 ask b _ rep pool),
+      λ ask b reports pool.
+          starting-yes ask ts b (matcher-of (args .matcher)) (view self codes₀ events₀ reports pool) (view (at .result .s) _ events₀ reports pool) _ _
+          (marker-of (new .result)) (answered _ true _ _ (at .ensures .0 ask b events₀ reports pool) (if1 .taken)) (new .ensures)
+          (start′ .ensures .0 _ reports pool) (consume .ensures .0 ask b _ reports pool),
       (
         omega (flags, at .ensures .1 .0, start′ .ensures .1 tk, consume .ensures .1),
         λ e. omega (flags, at .ensures .1 .0, start′ .ensures .1 tk, consume .ensures .1),
@@ -53,15 +53,15 @@ returns-2 c =
     let self = args .self in
     let tk = args .tokens .now in
     let ts = tokens-of tk in
-    let ev₀ = args .ev .now in
+    let events₀ = args .events .now in
     let codes₀ = args .codes .now in
     let at = c .before .before .before .at in
     let new = c .before .before .new in
     let if1 = c .before .if1 in (
-      λ ask b rep pool.
-          starting-no ask ts b (matcher-of (args .matcher)) (view self codes₀ ev₀ rep pool) (view (at .result .s) _ ev₀ rep pool)
-          (marker-of (new .result)) (answered _ false _ _ (at .ensures .0 ask b ev₀ rep pool) (if1 .left)) (new .ensures),
-      (at .ensures .1 .0, λ e. absurd (true-false (sym e))),
+      λ ask b reports pool.
+          starting-no ask ts b (matcher-of (args .matcher)) (view self codes₀ events₀ reports pool) (view (at .result .s) _ events₀ reports pool)
+          (marker-of (new .result)) (answered _ false _ _ (at .ensures .0 ask b events₀ reports pool) (if1 .left)) (new .ensures),
+      (at .ensures .1 .0, λ e. absurd (false≢true e)),
     )
 
 pub eat-starting-spec : {M : Type 1} → statement M

@@ -1,5 +1,5 @@
 -- `emit`: the event, and then the row.
-use Rattle.token_rows.proofs.Kit.{flags}
+use Rattle.basics.proofs.Flags.{flags}
 use Rattle.definitions.specs.Token.{tokens-of}
 use borrow.Author.Tests.{eqb-true}
 use Rattle.parser.specs.View.{view, span-of}
@@ -35,8 +35,8 @@ returns c =
     let self = args .self in
     let tk = args .tokens .now in
     let ts = tokens-of tk in
-    let ev₀ = args .ev .now in
-    let rep₀ = args .rep .now in
+    let events₀ = args .events .now in
+    let reports₀ = args .reports .now in
     let pool₀ = args .pool .now in
     let codes₀ = args .codes .now in
     let peek = c .before .before .before .before .before .before .before .before .before .before .before .before .before .before .peek in
@@ -45,9 +45,9 @@ returns c =
     let if1 = c .before .before .before .before .before .before .before .if1 in
     let push-report = c .before .before .before .before .push-report in (
       emit-is ts (args .message) (args .hint) (span-of (current-token-error-range .result)) (span-of (args .label))
-          (view self codes₀ ev₀ rep₀ pool₀) (view (peek .result) codes₀ ev₀ rep₀ pool₀) _ _
-          (peek .ensures .0 codes₀ ev₀ rep₀ pool₀) (current-token-error-range .ensures ev₀ rep₀ pool₀)
-          (push-event .ensures .0 codes₀ rep₀ pool₀) (push-report .ensures .0 _ (eqb-true _ _ (if1 .taken))),
+          (view self codes₀ events₀ reports₀ pool₀) (view (peek .result) codes₀ events₀ reports₀ pool₀) _ _
+          (peek .ensures .0 codes₀ events₀ reports₀ pool₀) (current-token-error-range .ensures events₀ reports₀ pool₀)
+          (push-event .ensures .0 codes₀ reports₀ pool₀) (push-report .ensures .0 _ (eqb-true _ _ (if1 .taken))),
       omega (flags, peek .ensures .1, push-event .ensures .1 tk, push-report .ensures .1 tk),
     )
 
@@ -60,8 +60,8 @@ returns-2 c =
     let self = args .self in
     let tk = args .tokens .now in
     let ts = tokens-of tk in
-    let ev₀ = args .ev .now in
-    let rep₀ = args .rep .now in
+    let events₀ = args .events .now in
+    let reports₀ = args .reports .now in
     let pool₀ = args .pool .now in
     let codes₀ = args .codes .now in
     let peek = c .before .before .before .before .before .before .before .peek in
@@ -69,9 +69,9 @@ returns-2 c =
     let push-event = c .before .before .before .before .push-event in
     let if1 = c .if1 in (
       emit-is ts (args .message) (args .hint) (span-of (current-token-error-range .result)) (span-of (args .label))
-          (view self codes₀ ev₀ rep₀ pool₀) (view (peek .result) codes₀ ev₀ rep₀ pool₀) _ _
-          (peek .ensures .0 codes₀ ev₀ rep₀ pool₀) (current-token-error-range .ensures ev₀ rep₀ pool₀)
-          (push-event .ensures .0 codes₀ rep₀ pool₀)
+          (view self codes₀ events₀ reports₀ pool₀) (view (peek .result) codes₀ events₀ reports₀ pool₀) _ _
+          (peek .ensures .0 codes₀ events₀ reports₀ pool₀) (current-token-error-range .ensures events₀ reports₀ pool₀)
+          (push-event .ensures .0 codes₀ reports₀ pool₀)
           (report-off (args .message) (args .hint) _ (span-of (args .label)) _ (if1 .left)),
       omega (flags, peek .ensures .1, push-event .ensures .1 tk),
     )

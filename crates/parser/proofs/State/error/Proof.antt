@@ -1,5 +1,5 @@
 -- `error`: the report, and what it takes.
-use Rattle.token_rows.proofs.Kit.{flags}
+use Rattle.basics.proofs.Flags.{flags}
 use mathlib.Core.Path.{ap}
 use Rattle.definitions.specs.Token.{tokens-of}
 use Rattle.parser.specs.View.{view, span-of, takes}
@@ -44,16 +44,16 @@ returns c =
     let self = args .self in
     let tk = args .tokens .now in
     let ts = tokens-of tk in
-    let ev₀ = args .ev .now in
-    let rep₀ = args .rep .now in
+    let events₀ = args .events .now in
+    let reports₀ = args .reports .now in
     let pool₀ = args .pool .now in
     let codes₀ = args .codes .now in
     let no-label = c .before .before .before .before .before .before .before .before .before .before .before .before .no-label in
     let emit = c .before .before .before .before .before .before .before .before .emit in
     let enum-told = c .enum-told in (
       λ ask b.
-          error-no ask ts b (args .bump) (args .message) (args .hint) (view self codes₀ ev₀ rep₀ pool₀) _ (enum-told .given .1)
-          (error-alone ask ts b (args .message) (args .hint) (span-of (no-label .result)) (view self codes₀ ev₀ rep₀ pool₀) _
+          error-no ask ts b (args .bump) (args .message) (args .hint) (view self codes₀ events₀ reports₀ pool₀) _ (enum-told .given .1)
+          (error-alone ask ts b (args .message) (args .hint) (span-of (no-label .result)) (view self codes₀ events₀ reports₀ pool₀) _
           (no-label .ensures) (emit .ensures .0)),
       omega (flags, emit .ensures .1, ap takes (enum-told .given .1)),
     )
@@ -73,8 +73,8 @@ returns-2 c =
     let self = args .self in
     let tk = args .tokens .now in
     let ts = tokens-of tk in
-    let ev₀ = args .ev .now in
-    let rep₀ = args .rep .now in
+    let events₀ = args .events .now in
+    let reports₀ = args .reports .now in
     let pool₀ = args .pool .now in
     let codes₀ = args .codes .now in
     let no-label = c .before .before .before .before .before .before .before .before .before .before .before .before .before .before .before .before .no-label in
@@ -82,8 +82,8 @@ returns-2 c =
     let enum-told2 = c .before .before .before .before .enum-told2 in
     let bump-unless-at-end = c .before .before .bump-unless-at-end in (
       λ ask b.
-          error-yes ask ts b (args .bump) (args .message) (args .hint) (view self codes₀ ev₀ rep₀ pool₀) _ _ (enum-told2 .given .1)
-          (error-alone ask ts b (args .message) (args .hint) (span-of (no-label .result)) (view self codes₀ ev₀ rep₀ pool₀) _
+          error-yes ask ts b (args .bump) (args .message) (args .hint) (view self codes₀ events₀ reports₀ pool₀) _ _ (enum-told2 .given .1)
+          (error-alone ask ts b (args .message) (args .hint) (span-of (no-label .result)) (view self codes₀ events₀ reports₀ pool₀) _
           (no-label .ensures) (emit .ensures .0)) (bump-unless-at-end .ensures .0 ask b codes₀ _ _),
       omega (flags, emit .ensures .1, bump-unless-at-end .ensures .1, ap takes (enum-told2 .given .1)),
     )
@@ -103,8 +103,8 @@ returns-3 c =
     let self = args .self in
     let tk = args .tokens .now in
     let ts = tokens-of tk in
-    let ev₀ = args .ev .now in
-    let rep₀ = args .rep .now in
+    let events₀ = args .events .now in
+    let reports₀ = args .reports .now in
     let pool₀ = args .pool .now in
     let codes₀ = args .codes .now in
     let no-label = c .before .before .before .before .before .before .before .before .before .before .before .before .before .before .before .before .no-label in
@@ -112,8 +112,8 @@ returns-3 c =
     let enum-told3 = c .before .before .before .before .enum-told3 in
     let wrap-unless-at-end = c .before .before .wrap-unless-at-end in (
       λ ask b.
-          error-wrapped ask ts b (args .bump) (args .message) (args .hint) (view self codes₀ ev₀ rep₀ pool₀) _ _ (enum-told3 .given .1)
-          (error-alone ask ts b (args .message) (args .hint) (span-of (no-label .result)) (view self codes₀ ev₀ rep₀ pool₀) _
+          error-wrapped ask ts b (args .bump) (args .message) (args .hint) (view self codes₀ events₀ reports₀ pool₀) _ _ (enum-told3 .given .1)
+          (error-alone ask ts b (args .message) (args .hint) (span-of (no-label .result)) (view self codes₀ events₀ reports₀ pool₀) _
           (no-label .ensures) (emit .ensures .0)) (wrap-unless-at-end .ensures .0 ask b codes₀ _ _),
       omega (flags, emit .ensures .1, wrap-unless-at-end .ensures .1, ap takes (enum-told3 .given .1)),
     )

@@ -1,7 +1,7 @@
 -- `expect`: what `eat` takes, or a report.
-use Rattle.token_rows.proofs.Kit.{flags, true-false}
+use Rattle.basics.proofs.Flags.{flags}
 use mathlib.Core.Path.{sym}
-use mathlib.Core.Bool.{false}
+use mathlib.Core.Bool.{false, false≢true}
 use Rattle.definitions.specs.Token.{tokens-of}
 use Rattle.parser.specs.View.{view, matcher-of}
 use Rattle.parser.proofs.Programs.{answered, expect-yes, expect-no}
@@ -24,14 +24,14 @@ returns c =
     let self = args .self in
     let tk = args .tokens .now in
     let ts = tokens-of tk in
-    let ev₀ = args .ev .now in
-    let rep₀ = args .rep .now in
+    let events₀ = args .events .now in
+    let reports₀ = args .reports .now in
     let pool₀ = args .pool .now in
     let codes₀ = args .codes .now in
     let eat = c .before .before .before .eat in
     let if1 = c .if1 in (
       λ ask b.
-          expect-yes ask ts b (matcher-of (args .m)) (view self codes₀ ev₀ rep₀ pool₀) _ _ (eat .ensures .0 ask b rep₀ pool₀)
+          expect-yes ask ts b (matcher-of (args .m)) (view self codes₀ events₀ reports₀ pool₀) _ _ (eat .ensures .0 ask b reports₀ pool₀)
           (if1 .taken),
       eat .ensures .1,
     )
@@ -51,17 +51,17 @@ returns-2 c =
     let self = args .self in
     let tk = args .tokens .now in
     let ts = tokens-of tk in
-    let ev₀ = args .ev .now in
-    let rep₀ = args .rep .now in
+    let events₀ = args .events .now in
+    let reports₀ = args .reports .now in
     let pool₀ = args .pool .now in
     let codes₀ = args .codes .now in
     let eat = c .before .before .before .before .before .before .before .before .before .before .before .before .before .before .eat in
     let if1 = c .before .before .before .before .before .before .before .before .before .before .before .if1 in
     let error = c .before .before .before .before .before .before .error in (
       λ ask b.
-          expect-no ask ts b (matcher-of (args .m)) (view self codes₀ ev₀ rep₀ pool₀) (view (eat .result .s) _ _ rep₀ pool₀) _
-          (answered _ false _ _ (eat .ensures .0 ask b rep₀ pool₀) (if1 .left)) (error .ensures .0 ask b),
-      (omega (flags, eat .ensures .1 .0, error .ensures .1), λ e. absurd (true-false (sym e))),
+          expect-no ask ts b (matcher-of (args .m)) (view self codes₀ events₀ reports₀ pool₀) (view (eat .result .s) _ _ reports₀ pool₀) _
+          (answered _ false _ _ (eat .ensures .0 ask b reports₀ pool₀) (if1 .left)) (error .ensures .0 ask b),
+      (omega (flags, eat .ensures .1 .0, error .ensures .1), λ e. absurd (false≢true e)),
     )
 
 pub expect-spec : {M : Type 1} → statement M

@@ -1,5 +1,5 @@
 -- `expect_recoverable`: what `eat` takes, or a report, which takes a token that is not in the recovery set.
-use Rattle.token_rows.proofs.Kit.{flags}
+use Rattle.basics.proofs.Flags.{flags}
 use mathlib.Core.Bool.{true, false}
 use Rattle.definitions.specs.Token.{tokens-of}
 use Rattle.parser.specs.View.{view, matcher-of}
@@ -20,16 +20,16 @@ returns c =
     let self = args .self in
     let tk = args .tokens .now in
     let ts = tokens-of tk in
-    let ev₀ = args .ev .now in
-    let rep₀ = args .rep .now in
+    let events₀ = args .events .now in
+    let reports₀ = args .reports .now in
     let pool₀ = args .pool .now in
     let codes₀ = args .codes .now in
     let recovery₀ = args .recovery .now in
     let eat = c .before .before .before .eat in
     let if1 = c .if1 in (
       λ ask b.
-          recoverable-yes ask ts b (matcher-of (args .m)) recovery₀ (view self codes₀ ev₀ rep₀ pool₀) _ _
-          (eat .ensures .0 ask b rep₀ pool₀) (if1 .taken),
+          recoverable-yes ask ts b (matcher-of (args .m)) recovery₀ (view self codes₀ events₀ reports₀ pool₀) _ _
+          (eat .ensures .0 ask b reports₀ pool₀) (if1 .taken),
       eat .ensures .1 .0,
     )
 
@@ -54,8 +54,8 @@ returns-2 c =
     let self = args .self in
     let tk = args .tokens .now in
     let ts = tokens-of tk in
-    let ev₀ = args .ev .now in
-    let rep₀ = args .rep .now in
+    let events₀ = args .events .now in
+    let reports₀ = args .reports .now in
     let pool₀ = args .pool .now in
     let codes₀ = args .codes .now in
     let recovery₀ = args .recovery .now in
@@ -65,10 +65,10 @@ returns-2 c =
     let if2 = c .before .before .before .before .before .before .before .before .before .before .before .if2 in
     let error = c .before .before .before .before .before .before .error in (
       λ ask b.
-          recoverable-in ask ts b (matcher-of (args .m)) recovery₀ (view self codes₀ ev₀ rep₀ pool₀)
-          (view (eat .result .s) _ _ rep₀ pool₀) (view (silent-at-set .result .s) _ _ rep₀ pool₀) _
-          (answered _ false _ _ (eat .ensures .0 ask b rep₀ pool₀) (if1 .left))
-          (answered _ true _ _ (silent-at-set .ensures .0 b _ _ rep₀ pool₀) (if2 .taken)) (error .ensures .0 ask b),
+          recoverable-in ask ts b (matcher-of (args .m)) recovery₀ (view self codes₀ events₀ reports₀ pool₀)
+          (view (eat .result .s) _ _ reports₀ pool₀) (view (silent-at-set .result .s) _ _ reports₀ pool₀) _
+          (answered _ false _ _ (eat .ensures .0 ask b reports₀ pool₀) (if1 .left))
+          (answered _ true _ _ (silent-at-set .ensures .0 b _ _ reports₀ pool₀) (if2 .taken)) (error .ensures .0 ask b),
       omega (flags, eat .ensures .1 .0, silent-at-set .ensures .1 .0, error .ensures .1),
     )
 
@@ -90,8 +90,8 @@ returns-3 c =
     let self = args .self in
     let tk = args .tokens .now in
     let ts = tokens-of tk in
-    let ev₀ = args .ev .now in
-    let rep₀ = args .rep .now in
+    let events₀ = args .events .now in
+    let reports₀ = args .reports .now in
     let pool₀ = args .pool .now in
     let codes₀ = args .codes .now in
     let recovery₀ = args .recovery .now in
@@ -101,10 +101,10 @@ returns-3 c =
     let if2 = c .before .before .before .before .before .before .before .before .before .before .before .if2 in
     let error2 = c .before .before .before .before .before .before .error2 in (
       λ ask b.
-          recoverable-out ask ts b (matcher-of (args .m)) recovery₀ (view self codes₀ ev₀ rep₀ pool₀)
-          (view (eat .result .s) _ _ rep₀ pool₀) (view (silent-at-set .result .s) _ _ rep₀ pool₀) _
-          (answered _ false _ _ (eat .ensures .0 ask b rep₀ pool₀) (if1 .left))
-          (answered _ false _ _ (silent-at-set .ensures .0 b _ _ rep₀ pool₀) (if2 .left)) (error2 .ensures .0 ask b),
+          recoverable-out ask ts b (matcher-of (args .m)) recovery₀ (view self codes₀ events₀ reports₀ pool₀)
+          (view (eat .result .s) _ _ reports₀ pool₀) (view (silent-at-set .result .s) _ _ reports₀ pool₀) _
+          (answered _ false _ _ (eat .ensures .0 ask b reports₀ pool₀) (if1 .left))
+          (answered _ false _ _ (silent-at-set .ensures .0 b _ _ reports₀ pool₀) (if2 .left)) (error2 .ensures .0 ask b),
       omega (flags, eat .ensures .1 .0, silent-at-set .ensures .1 .0, error2 .ensures .1),
     )
 

@@ -1,5 +1,5 @@
 -- `next_token`: one row, or none at the end.
-use Rattle.token_rows.proofs.Kit.{flags}
+use Rattle.basics.proofs.Flags.{flags}
 use Rattle.parser.specs.View.{view, left}
 use Rattle.parser.proofs.Moves.{took-row, took-nothing}
 use Rattle.parser.proofs.State.next_token.Statement.{statement}
@@ -18,7 +18,7 @@ returns c =
     let self = args .self in
     let tk = args .tokens .now in
     let end-at = c .end-at in
-    (λ codes ev rep pool. took-row tk _ (view self codes ev rep pool) (omega flags) (end-at .ensures), omega flags)
+    (λ codes events reports pool. took-row tk _ (view self codes events reports pool) (omega flags) (end-at .ensures), omega flags)
 
 returns-2 : tie.Need-returns-2
 unfolding left
@@ -26,7 +26,7 @@ returns-2 c =
     let args = c .before .before .args in
     let self = args .self in
     let tk = args .tokens .now in
-    (λ codes ev rep pool. took-nothing tk (view self codes ev rep pool) (omega flags), omega flags)
+    (λ codes events reports pool. took-nothing tk (view self codes events reports pool) (omega flags), omega flags)
 
 pub next-token-spec : {M : Type 1} → statement M
 next-token-spec = tie.close (tie.spec add-t12 end-at-requires returns returns-2)

@@ -1,5 +1,5 @@
 -- `peek`: the trivia at the cursor passed.
-use Rattle.token_rows.proofs.Kit.{flags}
+use Rattle.basics.proofs.Flags.{flags}
 use mathlib.Core.Path.{_≡_, refl, sym, _∙_, ap}
 use Rattle.definitions.specs.Token.{tokens-of}
 use Rattle.parser.specs.View.{view, left}
@@ -18,7 +18,7 @@ returns c =
     let tk = args .tokens .now in
     let ts = tokens-of tk in
     let skip-trivia = c .skip-trivia in (
-      λ codes ev rep pool. skip-trivia .ensures .0 (view self codes ev rep pool) ∙ sym (peek-is ts (view self codes ev rep pool)),
+      λ codes events reports pool. skip-trivia .ensures .0 (view self codes events reports pool) ∙ sym (peek-is ts (view self codes events reports pool)),
       omega flags,
     )
 

@@ -18,13 +18,13 @@ returns : tie.Need-returns
 returns c =
     let args = c .before .before .before .before .before .before .before .before .before .before .before .args in
     let self = args .self in
-    let ev₀ = args .ev .now in
+    let events₀ = args .events .now in
     let push-event = c .before .before .before .before .before .before .before .before .push-event in
     let if1 = c .before .before .before .before .if1 in
     let put-link = c .before .before .put-link in (
-      λ codes rep pool.
-          precede-on (marker-of (args .m)) (view self codes ev₀ rep pool) (view (push-event .result) codes _ rep pool) _
-          (push-event .ensures .0 codes rep pool) (if1 .taken) (put-link .ensures),
+      λ codes reports pool.
+          precede-on (marker-of (args .m)) (view self codes events₀ reports pool) (view (push-event .result) codes _ reports pool) _
+          (push-event .ensures .0 codes reports pool) (if1 .taken) (put-link .ensures),
       push-event .ensures .1,
     )
 
@@ -35,11 +35,11 @@ returns-2 : tie.Need-returns-2
 returns-2 c =
     let args = c .before .before .before .before .before .before .before .args in
     let self = args .self in
-    let ev₀ = args .ev .now in
+    let events₀ = args .events .now in
     let push-event = c .before .before .before .before .push-event in
     let if1 = c .if1 in (
-      λ codes rep pool.
-          precede-off (marker-of (args .m)) (view self codes ev₀ rep pool) _ (push-event .ensures .0 codes rep pool) (if1 .left),
+      λ codes reports pool.
+          precede-off (marker-of (args .m)) (view self codes events₀ reports pool) _ (push-event .ensures .0 codes reports pool) (if1 .left),
       push-event .ensures .1,
     )
 

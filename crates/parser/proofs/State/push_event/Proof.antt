@@ -1,5 +1,5 @@
 -- `push_event`: a row, unless something was refused.
-use Rattle.token_rows.proofs.Kit.{flags}
+use Rattle.basics.proofs.Flags.{flags}
 use mathlib.Core.Path.{_≡_, refl, sym, _∙_, ap}
 use Rattle.parser.specs.View.{left}
 use Rattle.parser.proofs.Moves.{push-on, push-off}
@@ -17,11 +17,11 @@ returns : tie.Need-returns
 returns c =
     let if1 = c .before .before .before .before .if1 in
     let push-row = c .before .before .push-row in
-    (λ codes rep pool. push-row .ensures .0 codes rep pool ∙ push-on _ _ _ (if1 .taken), push-row .ensures .1)
+    (λ codes reports pool. push-row .ensures .0 codes reports pool ∙ push-on _ _ _ (if1 .taken), push-row .ensures .1)
 
 returns-2 : tie.Need-returns-2
 unfolding left
-returns-2 c = (λ codes rep pool. push-off _ _ _ (c .if1 .left), λ tk. omega flags)
+returns-2 c = (λ codes reports pool. push-off _ _ _ (c .if1 .left), λ tk. omega flags)
 
 pub push-event-spec : {M : Type 1} → statement M
 push-event-spec = tie.close (tie.spec push-row-requires same-length returns returns-2)

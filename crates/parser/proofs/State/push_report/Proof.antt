@@ -1,5 +1,5 @@
 -- `push_report`: the row and its codes, or refusal 7.
-use Rattle.token_rows.proofs.Kit.{flags}
+use Rattle.basics.proofs.Flags.{flags}
 use Rattle.parser.specs.View.{view, left, span-of}
 use Rattle.parser.proofs.Reports.{report-fits, report-no-pool, report-no-row}
 use borrow.Author.Needs.{needs}
@@ -65,7 +65,7 @@ unfolding left
 returns c =
     let args = c .before .before .before .before .before .before .before .before .before .before .before .before .before .before .before .before .before .before .before .before .args in
     let self = args .self in
-    let rep₀ = args .rep .now in
+    let reports₀ = args .reports .now in
     let pool₀ = args .pool .now in
     let codes₀ = args .codes .now in
     let pool-count = c .before .before .before .before .before .before .before .before .before .before .before .before .before .before .before .before .pool-count in
@@ -78,8 +78,8 @@ returns c =
     let low323 = c .before .before .before .before .before .before .before .before .low323 in
     let put-report = c .before .before .before .before .before .before .before .put-report in
     let put-codes = c .before .before .put-codes in (
-      λ ev quiet.
-          report-fits (args .message) (args .hint) (span-of (args .range)) (span-of (args .label)) (view self codes₀ ev rep₀ pool₀)
+      λ events quiet.
+          report-fits (args .message) (args .hint) (span-of (args .range)) (span-of (args .label)) (view self codes₀ events reports₀ pool₀)
           codes₀ _ _ _ quiet (pool-count .ensures .0) (pool-count .ensures .1) (fits2 .ensures .0) (fits3 .ensures .0) _ _ _ _ _
           (if1 .taken) (if2 .taken) (low32 .ensures) (low322 .ensures) (low323 .ensures) (put-report .ensures) (put-codes .ensures),
       λ tk. omega flags,
@@ -89,7 +89,7 @@ returns-2 : tie.Need-returns-2
 returns-2 c =
     let args = c .before .before .before .before .before .before .before .before .before .args in
     let self = args .self in
-    let rep₀ = args .rep .now in
+    let reports₀ = args .reports .now in
     let pool₀ = args .pool .now in
     let codes₀ = args .codes .now in
     let pool-count = c .before .before .before .before .before .pool-count in
@@ -98,10 +98,10 @@ returns-2 c =
     let fits3 = c .before .before .fits3 in
     let if2 = c .before .if2 in
     let refuse = c .refuse in (
-      λ ev quiet.
-          report-no-pool (args .message) (args .hint) (span-of (args .range)) (span-of (args .label)) (view self codes₀ ev rep₀ pool₀)
+      λ events quiet.
+          report-no-pool (args .message) (args .hint) (span-of (args .range)) (span-of (args .label)) (view self codes₀ events reports₀ pool₀)
           codes₀ _ _ _ quiet (pool-count .ensures .0) (pool-count .ensures .1) (fits2 .ensures .0) (fits3 .ensures .0) _
-          (if1 .taken) (if2 .left) (refuse .ensures .0 codes₀ ev rep₀ pool₀),
+          (if1 .taken) (if2 .left) (refuse .ensures .0 codes₀ events reports₀ pool₀),
       refuse .ensures .1,
     )
 
@@ -109,15 +109,15 @@ returns-3 : tie.Need-returns-3
 returns-3 c =
     let args = c .before .before .before .before .before .before .before .args in
     let self = args .self in
-    let rep₀ = args .rep .now in
+    let reports₀ = args .reports .now in
     let pool₀ = args .pool .now in
     let codes₀ = args .codes .now in
     let fits2 = c .before .before .fits2 in
     let if1 = c .before .if1 in
     let refuse2 = c .refuse2 in (
-      λ ev quiet.
-          report-no-row (args .message) (args .hint) (span-of (args .range)) (span-of (args .label)) (view self codes₀ ev rep₀ pool₀) _
-          _ quiet (fits2 .ensures .0) (if1 .left) (refuse2 .ensures .0 codes₀ ev rep₀ pool₀),
+      λ events quiet.
+          report-no-row (args .message) (args .hint) (span-of (args .range)) (span-of (args .label)) (view self codes₀ events reports₀ pool₀) _
+          _ quiet (fits2 .ensures .0) (if1 .left) (refuse2 .ensures .0 codes₀ events reports₀ pool₀),
       refuse2 .ensures .1,
     )
 

@@ -1,5 +1,5 @@
 -- `range`: the row at the cursor.
-use Rattle.parser.proofs.Kit.{range-rows}
+use Rattle.parser.proofs.Stores.{range-rows}
 use mathlib.Core.Path.{refl}
 use lib.ListN.{drop}
 use Rattle.definitions.specs.Token.{tokens-of}
@@ -17,9 +17,9 @@ returns c =
     let tk = args .tokens .now in
     let ts = tokens-of tk in
     let end-at = c .end-at in
-    λ codes ev rep pool.
-    range-rows (drop (args .self .cursor .0) ts) (view self codes ev rep pool) (args .self .byte .0) _ refl
-    (end-at .ensures (view self codes ev rep pool) refl)
+    λ codes events reports pool.
+    range-rows (drop (args .self .cursor .0) ts) (view self codes events reports pool) (args .self .byte .0) _ refl
+    (end-at .ensures (view self codes events reports pool) refl)
 
 pub range-spec : {M : Type 1} → statement M
 range-spec = tie.close (tie.spec end-at-requires returns)

@@ -1,6 +1,6 @@
 -- `raw_tokens_since`: a difference that stops at 0.
-use Rattle.token_rows.proofs.Kit.{flags}
-use Rattle.parser.proofs.Kit.{below}
+use Rattle.basics.proofs.Flags.{flags}
+use Rattle.parser.proofs.Stores.{below}
 use mathlib.Core.Path.{sym}
 use Rattle.parser.proofs.State.raw_tokens_since.Statement.{statement}
 use Rattle.parser.proofs.State.raw_tokens_since.Tie as tie

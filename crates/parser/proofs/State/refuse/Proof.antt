@@ -1,5 +1,5 @@
 -- `refuse`: the first refusal stays, and the cursor goes past every row.
-use Rattle.token_rows.proofs.Kit.{flags}
+use Rattle.basics.proofs.Flags.{flags}
 use Rattle.machine.specs.Machine as M
 use Rattle.parser.specs.View.{left}
 use Rattle.parser.proofs.State.refuse.Statement.{statement}
@@ -7,11 +7,11 @@ use Rattle.parser.proofs.State.refuse.Tie as tie
 
 returns : tie.Need-returns
 unfolding M.refuse left
-returns c = (λ codes ev rep pool. rw (c .before .if1 .taken), λ tk. omega flags)
+returns c = (λ codes events reports pool. rw (c .before .if1 .taken), λ tk. omega flags)
 
 returns-2 : tie.Need-returns-2
 unfolding M.refuse left
-returns-2 c = (λ codes ev rep pool. rw (c .if1 .left), λ tk. omega flags)
+returns-2 c = (λ codes events reports pool. rw (c .if1 .left), λ tk. omega flags)
 
 pub refuse-spec : {M : Type 1} → statement M
 refuse-spec = tie.close (tie.spec returns returns-2)

@@ -1,5 +1,5 @@
 -- `silent_at`: a peek, and the row there.
-use Rattle.token_rows.proofs.Kit.{flags}
+use Rattle.basics.proofs.Flags.{flags}
 use Rattle.definitions.specs.Token.{tokens-of}
 use Rattle.parser.specs.View.{view, left}
 use Rattle.parser.proofs.Moves.{silent-is}
@@ -22,9 +22,9 @@ returns c =
     let ts = tokens-of tk in
     let peek = c .before .peek in
     let is-at = c .is-at in (
-      λ b codes ev rep pool.
-          silent-is ts b ((args .k) ∷ []) (view self codes ev rep pool) (view (peek .result) codes ev rep pool) _
-          (peek .ensures .0 codes ev rep pool) (is-at .ensures .0),
+      λ b codes events reports pool.
+          silent-is ts b ((args .k) ∷ []) (view self codes events reports pool) (view (peek .result) codes events reports pool) _
+          (peek .ensures .0 codes events reports pool) (is-at .ensures .0),
       (peek .ensures .1, λ e. omega (flags, is-at .ensures .1 e)),
     )
 

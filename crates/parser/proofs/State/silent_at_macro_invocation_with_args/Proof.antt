@@ -1,7 +1,6 @@
 -- `silent_at_macro_invocation_with_args`: an Ident, and an LParen right after it.
-use Rattle.token_rows.proofs.Kit.{true-false}
 use mathlib.Core.Path.{sym}
-use mathlib.Core.Bool.{true, false}
+use mathlib.Core.Bool.{true, false, false≢true}
 use Rattle.definitions.specs.Token.{tokens-of}
 use Rattle.parser.specs.View.{view}
 use Rattle.parser.proofs.Programs.{answered, macro-args-yes, macro-args-no}
@@ -23,9 +22,9 @@ returns c =
     let silent-at = c .before .before .before .silent-at in
     let if1 = c .before .before .if1 in
     let is-next-at = c .is-next-at in (
-      λ ask b codes ev rep pool.
-          macro-args-yes ask ts b (view self codes ev rep pool) (view (silent-at .result .s) codes ev rep pool) _
-          (answered _ true _ _ (silent-at .ensures .0 b codes ev rep pool) (if1 .taken)) (is-next-at .ensures),
+      λ ask b codes events reports pool.
+          macro-args-yes ask ts b (view self codes events reports pool) (view (silent-at .result .s) codes events reports pool) _
+          (answered _ true _ _ (silent-at .ensures .0 b codes events reports pool) (if1 .taken)) (is-next-at .ensures),
       (silent-at .ensures .1 .0, λ e. silent-at .ensures .1 .1 (if1 .taken)),
     )
 
@@ -37,10 +36,10 @@ returns-2 c =
     let ts = tokens-of tk in
     let silent-at = c .before .before .silent-at in
     let if1 = c .before .if1 in (
-      λ ask b codes ev rep pool.
-          macro-args-no ask ts b (view self codes ev rep pool) (view (silent-at .result .s) codes ev rep pool)
-          (answered _ false _ _ (silent-at .ensures .0 b codes ev rep pool) (if1 .left)),
-      (silent-at .ensures .1 .0, λ e. absurd (true-false (sym e))),
+      λ ask b codes events reports pool.
+          macro-args-no ask ts b (view self codes events reports pool) (view (silent-at .result .s) codes events reports pool)
+          (answered _ false _ _ (silent-at .ensures .0 b codes events reports pool) (if1 .left)),
+      (silent-at .ensures .1 .0, λ e. absurd (false≢true e)),
     )
 
 pub silent-at-macro-invocation-with-args-spec : {M : Type 1} → statement M

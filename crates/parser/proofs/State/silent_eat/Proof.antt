@@ -1,7 +1,7 @@
 -- `silent_eat`: the test, and the token or name.
-use Rattle.token_rows.proofs.Kit.{flags, true-false}
+use Rattle.basics.proofs.Flags.{flags}
 use mathlib.Core.Path.{_≡_, refl, sym, _∙_, ap}
-use mathlib.Core.Bool.{Bool, true, false}
+use mathlib.Core.Bool.{Bool, true, false, true≢false}
 use Rattle.definitions.specs.Token.{tokens-of}
 use Rattle.definitions.specs.Run.{truth}
 use Rattle.machine.specs.Walk.{said}
@@ -26,14 +26,14 @@ returns c =
     let self = args .self in
     let tk = args .tokens .now in
     let ts = tokens-of tk in
-    let ev₀ = args .ev .now in
+    let events₀ = args .events .now in
     let silent = c .before .before .before .before .before .silent in
     let if1 = c .before .before .before .before .if1 in
     let consume = c .before .before .consume in (
-      λ ask b codes rep pool.
-          silent-eat-yes ask ts b (matcher-of (args .m)) (view self codes ev₀ rep pool) (view (silent .result .s) codes ev₀ rep pool) _
-          (sym (matches-is ask ts b (args .m) (view self codes ev₀ rep pool))
-          ∙ answered _ true _ _ (silent .ensures .0 b codes ev₀ rep pool) (if1 .taken)) (consume .ensures .0 ask b codes rep pool),
+      λ ask b codes reports pool.
+          silent-eat-yes ask ts b (matcher-of (args .m)) (view self codes events₀ reports pool) (view (silent .result .s) codes events₀ reports pool) _
+          (sym (matches-is ask ts b (args .m) (view self codes events₀ reports pool))
+          ∙ answered _ true _ _ (silent .ensures .0 b codes events₀ reports pool) (if1 .taken)) (consume .ensures .0 ask b codes reports pool),
       (omega (flags, silent .ensures .1 .0, consume .ensures .1), λ e. omega (flags, silent .ensures .1 .0, consume .ensures .1)),
     )
 
@@ -43,15 +43,15 @@ returns-2 c =
     let self = args .self in
     let tk = args .tokens .now in
     let ts = tokens-of tk in
-    let ev₀ = args .ev .now in
+    let events₀ = args .events .now in
     let silent = c .before .silent in
     let if1 = c .if1 in (
-      λ ask b codes rep pool.
-          ap (λ (y : Bool). said (truth y) (view (silent .result .s) codes ev₀ rep pool)) (if1 .left)
-          ∙ silent-eat-no ask ts b (matcher-of (args .m)) (view self codes ev₀ rep pool) (view (silent .result .s) codes ev₀ rep pool)
-          (sym (matches-is ask ts b (args .m) (view self codes ev₀ rep pool))
-          ∙ answered _ false _ _ (silent .ensures .0 b codes ev₀ rep pool) (if1 .left)),
-      (silent .ensures .1 .0, λ e. absurd (true-false (sym e ∙ if1 .left))),
+      λ ask b codes reports pool.
+          ap (λ (y : Bool). said (truth y) (view (silent .result .s) codes events₀ reports pool)) (if1 .left)
+          ∙ silent-eat-no ask ts b (matcher-of (args .m)) (view self codes events₀ reports pool) (view (silent .result .s) codes events₀ reports pool)
+          (sym (matches-is ask ts b (args .m) (view self codes events₀ reports pool))
+          ∙ answered _ false _ _ (silent .ensures .0 b codes events₀ reports pool) (if1 .left)),
+      (silent .ensures .1 .0, λ e. absurd (true≢false (sym e ∙ if1 .left))),
     )
 
 pub silent-eat-spec : {M : Type 1} → statement M

@@ -1,5 +1,5 @@
 -- `take_while`: the name's rest from here is the name's rest from the start.
-use Rattle.token_rows.proofs.Kit.{flags}
+use Rattle.basics.proofs.Flags.{flags}
 use Prim.Native.Nat.{ℕ, _≤_}
 use mathlib.Core.Path.{_≡_, refl, sym, _∙_, ap}
 use native.Mathlib.Nat.{le-refl}
@@ -14,14 +14,14 @@ use Rattle.parser.proofs.State.take_while.Tie as tie
 
 abbrev Inv-loop : tie.InvT-loop
 Inv-loop t set q₀ q =
-    ((codes ev rep pool : List ℕ) → name-run set (drop (q .cursor .0) (tokens-of t)) (view q codes ev rep pool) ≡ name-run set (drop (q₀ .cursor .0) (tokens-of t)) (view q₀ codes ev rep pool))
+    ((codes events reports pool : List ℕ) → name-run set (drop (q .cursor .0) (tokens-of t)) (view q codes events reports pool) ≡ name-run set (drop (q₀ .cursor .0) (tokens-of t)) (view q₀ codes events reports pool))
     × (left t q ≤ left t q₀)
 
 abbrev μ-loop : tie.MeasureT-loop
 μ-loop t set q₀ q = left t q
 
 loop-holds : tie.Need-loop-holds Inv-loop μ-loop
-loop-holds c = (λ codes ev rep pool. refl, le-refl _)
+loop-holds c = (λ codes events reports pool. refl, le-refl _)
 
 is-one-of-at-requires : tie.Need-is-one-of-at-requires Inv-loop μ-loop
 is-one-of-at-requires c κs = tt
@@ -46,11 +46,11 @@ loop-again c =
     let is-one-of-at = c .before .before .is-one-of-at in
     let if1 = c .before .if1 in
     let next-token = c .next-token in (
-      λ codes ev rep pool.
-          name-more tk set₀ (view (loop .q) codes ev rep pool) (view (next-token .result) codes ev rep pool)
+      λ codes events reports pool.
+          name-more tk set₀ (view (loop .q) codes events reports pool) (view (next-token .result) codes events reports pool)
           (is-one-of-at .ensures .1 (if1 .taken)) (sym (is-one-of-at .ensures .0) ∙ if1 .taken)
-          (next-token .ensures .0 codes ev rep pool)
-          ∙ loop .inv .0 codes ev rep pool,
+          (next-token .ensures .0 codes events reports pool)
+          ∙ loop .inv .0 codes events reports pool,
       omega (flags, next-token .ensures .1, loop .inv .1),
     )
 
@@ -63,9 +63,9 @@ returns c =
     let loop = c .before .before .loop in
     let is-one-of-at = c .before .is-one-of-at in
     let if1 = c .if1 in (
-      λ codes ev rep pool.
-          name-done set₀ (drop (loop .q .cursor .0) ts) (view (loop .q) codes ev rep pool) (sym (is-one-of-at .ensures .0) ∙ if1 .left)
-          ∙ loop .inv .0 codes ev rep pool,
+      λ codes events reports pool.
+          name-done set₀ (drop (loop .q .cursor .0) ts) (view (loop .q) codes events reports pool) (sym (is-one-of-at .ensures .0) ∙ if1 .left)
+          ∙ loop .inv .0 codes events reports pool,
       loop .inv .1,
     )
 

@@ -1,11 +1,11 @@
 -- `wrap_unless_at_end`: a token in a ParseError, if there is one.
-use Rattle.token_rows.proofs.Kit.{flags}
+use Rattle.basics.proofs.Flags.{flags}
 use mathlib.Core.Path.{_≡_, refl, sym, _∙_, ap}
 use mathlib.Core.Bool.{true, false}
 use native.Mathlib.Omega.{arith}
 use Rattle.definitions.specs.Token.{tokens-of}
 use Rattle.definitions.specs.Prog.{bump}
-use Rattle.definitions.specs.Check.{in-node, bump!}
+use Rattle.definitions.specs.Check.{in-node, bump! }
 use Rattle.definitions.specs.NodeKind as N
 use Rattle.parser.specs.View.{view, marker-of}
 use Rattle.parser.proofs.Programs.{answered, walk-act, walk-node, end-yes, end-no}
@@ -34,12 +34,12 @@ returns c =
     let self = args .self in
     let tk = args .tokens .now in
     let ts = tokens-of tk in
-    let ev₀ = args .ev .now in
+    let events₀ = args .events .now in
     let at-end = c .before .before .at-end in
     let if1 = c .before .if1 in (
-      λ ask b codes rep pool.
-          end-yes ask ts b (in-node N.ParseError bump!) (view self codes ev₀ rep pool) (view (at-end .result .s) codes ev₀ rep pool)
-          (answered _ true _ _ (at-end .ensures .0 b codes ev₀ rep pool) (if1 .taken)),
+      λ ask b codes reports pool.
+          end-yes ask ts b (in-node N.ParseError bump!) (view self codes events₀ reports pool) (view (at-end .result .s) codes events₀ reports pool)
+          (answered _ true _ _ (at-end .ensures .0 b codes events₀ reports pool) (if1 .taken)),
       omega (flags, at-end .ensures .1 .1 .1 (if1 .taken)),
     )
 
@@ -52,20 +52,20 @@ returns-2 c =
     let self = args .self in
     let tk = args .tokens .now in
     let ts = tokens-of tk in
-    let ev₀ = args .ev .now in
+    let events₀ = args .events .now in
     let at-end = c .before .before .before .before .before .before .before .before .before .before .before .before .before .before .at-end in
     let if1 = c .before .before .before .before .before .before .before .before .before .before .before .before .before .if1 in
     let new = c .before .before .before .before .before .before .before .before .before .before .before .before .new in
     let start′ = c .before .before .before .before .before .before .before .before .before .before .start in
     let bump′ = c .before .before .before .before .before .before .bump in
     let complete = c .before .before .complete in (
-      λ ask b codes rep pool.
-          end-no ask ts b (in-node N.ParseError bump!) (view self codes ev₀ rep pool) (view (at-end .result .s) codes ev₀ rep pool) _
-          (answered _ false _ _ (at-end .ensures .0 b codes ev₀ rep pool) (if1 .left))
-          (walk-node ask ts b N.ParseError bump! (marker-of (new .result)) (view (at-end .result .s) codes ev₀ rep pool)
-          (view (start′ .result) codes _ rep pool) _ _ (omega arith) (new .ensures) (start′ .ensures .0 codes rep pool)
-          (sym (bump′ .ensures .0 b codes rep pool ∙ walk-act ask ts b bump (view (start′ .result) codes _ rep pool)))
-          (complete .ensures .0 codes rep pool)),
+      λ ask b codes reports pool.
+          end-no ask ts b (in-node N.ParseError bump!) (view self codes events₀ reports pool) (view (at-end .result .s) codes events₀ reports pool) _
+          (answered _ false _ _ (at-end .ensures .0 b codes events₀ reports pool) (if1 .left))
+          (walk-node ask ts b N.ParseError bump! (marker-of (new .result)) (view (at-end .result .s) codes events₀ reports pool)
+          (view (start′ .result) codes _ reports pool) _ _ (omega arith) (new .ensures) (start′ .ensures .0 codes reports pool)
+          (sym (bump′ .ensures .0 b codes reports pool ∙ walk-act ask ts b bump (view (start′ .result) codes _ reports pool)))
+          (complete .ensures .0 codes reports pool)),
       omega (flags, at-end .ensures .1 .0, start′ .ensures .1 tk, bump′ .ensures .1, complete .ensures .1 tk),
     )
 

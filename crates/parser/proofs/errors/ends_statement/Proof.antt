@@ -1,5 +1,5 @@
 -- `ends_statement`: one code, two codes, or neither.
-use Rattle.token_rows.proofs.Kit.{flags}
+use Rattle.basics.proofs.Flags.{flags}
 use mathlib.Core.Path.{_≡_, refl, sym, _∙_, ap}
 use borrow.Author.Tests.{eqb-true, eqb-false}
 use Rattle.parser.proofs.Lists.{only-one, only-two, only-other}

@@ -1,5 +1,5 @@
 -- `pool_count`: all that are pending for message 1, else none.
-use Rattle.token_rows.proofs.Kit.{flags}
+use Rattle.basics.proofs.Flags.{flags}
 use native.Mathlib.Nat.{le-refl}
 use lib.ListN.{take}
 use Rattle.parser.proofs.Lists.{pool-all, pool-most, pool-none}

@@ -1,5 +1,7 @@
 -- `is_matched_at`: the kind of the row, looked up.
-use Rattle.token_rows.proofs.Kit.{flags, true-false, is-one-of-rows, first-past-rows}
+use mathlib.Core.Bool.{false≢true}
+use Rattle.basics.proofs.Flags.{flags}
+use Rattle.token_rows.proofs.Seen.{is-one-of-rows, first-past-rows}
 use mathlib.Core.Path.{sym}
 use Rattle.parser.specs.View.{kinds-of}
 use Rattle.parser.proofs.source.is_matched_at.Statement.{statement}
@@ -25,7 +27,7 @@ returns-2 : tie.Need-returns-2
 returns-2 c =
     let args = c .before .before .args in
     let tk = args .tokens .now in
-    (first-past-rows (kinds-of (args .m)) tk (args .at) (omega flags), λ e. absurd (true-false (sym e)))
+    (first-past-rows (kinds-of (args .m)) tk (args .at) (omega flags), λ e. absurd (false≢true e))
 
 pub is-matched-at-spec : {M : Type 1} → statement M
 is-matched-at-spec = tie.close (tie.spec kind-at-requires matches-requires returns returns-2)

@@ -45,12 +45,12 @@ returns c =
     let self = args .self in
     let tk = args .tokens .now in
     let ts = tokens-of tk in
-    let ev₀ = args .ev .now in
+    let events₀ = args .events .now in
     let enum-told = c .before .before .before .before .enum-told in
     let bump = c .before .before .bump in (
-      λ ask b codes rep pool.
-          take-kind ask ts b self (enum-told .given .0 .0) (view (args .s) codes ev₀ rep pool) _ (enum-told .given .1)
-          (bump .ensures .0 b codes rep pool),
+      λ ask b codes reports pool.
+          take-kind ask ts b self (enum-told .given .0 .0) (view (args .s) codes events₀ reports pool) _ (enum-told .given .1)
+          (bump .ensures .0 b codes reports pool),
       bump .ensures .1,
     )
 
@@ -63,12 +63,12 @@ returns-2 c =
     let self = args .self in
     let tk = args .tokens .now in
     let ts = tokens-of tk in
-    let ev₀ = args .ev .now in
+    let events₀ = args .events .now in
     let enum-told2 = c .before .before .before .before .enum-told2 in
     let bump2 = c .before .before .bump2 in (
-      λ ask b codes rep pool.
-          take-either ask ts b self (enum-told2 .given .0 .0) (enum-told2 .given .0 .1 .0) (view (args .s) codes ev₀ rep pool) _
-          (enum-told2 .given .1) (bump2 .ensures .0 b codes rep pool),
+      λ ask b codes reports pool.
+          take-either ask ts b self (enum-told2 .given .0 .0) (enum-told2 .given .0 .1 .0) (view (args .s) codes events₀ reports pool) _
+          (enum-told2 .given .1) (bump2 .ensures .0 b codes reports pool),
       bump2 .ensures .1,
     )
 
@@ -81,11 +81,11 @@ returns-3 c =
     let self = args .self in
     let tk = args .tokens .now in
     let ts = tokens-of tk in
-    let ev₀ = args .ev .now in
+    let events₀ = args .events .now in
     let enum-told3 = c .before .before .before .before .before .enum-told3 in
     let bump-name = c .before .before .bump-name in (
-      λ ask b codes rep pool.
-          take-name ask ts b self (view (args .s) codes ev₀ rep pool) _ (enum-told3 .given .1) (bump-name .ensures .0 b codes rep pool),
+      λ ask b codes reports pool.
+          take-name ask ts b self (view (args .s) codes events₀ reports pool) _ (enum-told3 .given .1) (bump-name .ensures .0 b codes reports pool),
       bump-name .ensures .1,
     )
 
@@ -98,12 +98,12 @@ returns-4 c =
     let self = args .self in
     let tk = args .tokens .now in
     let ts = tokens-of tk in
-    let ev₀ = args .ev .now in
+    let events₀ = args .events .now in
     let enum-told4 = c .before .before .before .before .before .enum-told4 in
     let bump-name2 = c .before .before .bump-name2 in (
-      λ ask b codes rep pool.
-          take-label ask ts b self (view (args .s) codes ev₀ rep pool) _ (enum-told4 .given .1)
-          (bump-name2 .ensures .0 b codes rep pool),
+      λ ask b codes reports pool.
+          take-label ask ts b self (view (args .s) codes events₀ reports pool) _ (enum-told4 .given .1)
+          (bump-name2 .ensures .0 b codes reports pool),
       bump-name2 .ensures .1,
     )
 

@@ -1,7 +1,7 @@
 -- `push_expected`: each matcher's codes, the first for all matchers alike.
 use Prim.Native.Nat.{ℕ}
 use mathlib.Core.Path.{_≡_, sym, _∙_, ap}
-use Rattle.token_rows.proofs.Kit.{flags}
+use Rattle.basics.proofs.Flags.{flags}
 use Rattle.definitions.specs.Prog.{add-expected}
 use Rattle.machine.specs.Walk.{Walked, perform}
 use Rattle.parser.specs.View.{view, first-code}
@@ -36,10 +36,10 @@ returns c =
     let first = c .before .before .before .before .first-code in
     let pushed = c .before .before .add-expected in
     let told = c .enum-told in (
-      λ ask ts b ev rep pool.
-          let m = view (args .s) (args .codes .now) ev rep pool in
+      λ ask ts b events reports pool.
+          let m = view (args .s) (args .codes .now) events reports pool in
           push-kind ask ts b (args .self) (told .given .0 .0) m _ (told .given .1)
-          (pushed .ensures .0 ts b ev rep pool ∙ ap (λ (k : ℕ). perform ts b (add-expected k) m) (first .ensures ∙ ap first-code (told .given .1))),
+          (pushed .ensures .0 ts b events reports pool ∙ ap (λ (k : ℕ). perform ts b (add-expected k) m) (first .ensures ∙ ap first-code (told .given .1))),
       pushed .ensures .1,
     )
 
@@ -50,11 +50,11 @@ returns-2 c =
     let pushed = c .before .before .before .before .before .add-expected in
     let told = c .before .before .before .self in
     let pushed2 = c .add-expected2 in (
-      λ ask ts b ev rep pool.
-          let m = view (args .s) (args .codes .now) ev rep pool in
+      λ ask ts b events reports pool.
+          let m = view (args .s) (args .codes .now) events reports pool in
           push-either ask ts b (args .self) (told .given .0 .0) (told .given .0 .1 .0) m _ _ (told .given .1)
-          (pushed .ensures .0 ts b ev rep pool ∙ ap (λ (k : ℕ). perform ts b (add-expected k) m) (first .ensures ∙ ap first-code (told .given .1)))
-          (pushed2 .ensures .0 ts b ev rep pool),
+          (pushed .ensures .0 ts b events reports pool ∙ ap (λ (k : ℕ). perform ts b (add-expected k) m) (first .ensures ∙ ap first-code (told .given .1)))
+          (pushed2 .ensures .0 ts b events reports pool),
       λ tk. omega (flags, pushed .ensures .1 tk, pushed2 .ensures .1 tk),
     )
 
@@ -64,10 +64,10 @@ returns-3 c =
     let first = c .before .before .before .before .first-code in
     let pushed = c .before .before .add-expected in
     let told = c .enum-told2 in (
-      λ ask ts b ev rep pool.
-          let m = view (args .s) (args .codes .now) ev rep pool in
+      λ ask ts b events reports pool.
+          let m = view (args .s) (args .codes .now) events reports pool in
           push-name ask ts b (args .self) m _ (told .given .1)
-          (pushed .ensures .0 ts b ev rep pool ∙ ap (λ (k : ℕ). perform ts b (add-expected k) m) (first .ensures ∙ ap first-code (told .given .1))),
+          (pushed .ensures .0 ts b events reports pool ∙ ap (λ (k : ℕ). perform ts b (add-expected k) m) (first .ensures ∙ ap first-code (told .given .1))),
       pushed .ensures .1,
     )
 
@@ -77,10 +77,10 @@ returns-4 c =
     let first = c .before .before .before .before .first-code in
     let pushed = c .before .before .add-expected in
     let told = c .enum-told3 in (
-      λ ask ts b ev rep pool.
-          let m = view (args .s) (args .codes .now) ev rep pool in
+      λ ask ts b events reports pool.
+          let m = view (args .s) (args .codes .now) events reports pool in
           push-label ask ts b (args .self) m _ (told .given .1)
-          (pushed .ensures .0 ts b ev rep pool ∙ ap (λ (k : ℕ). perform ts b (add-expected k) m) (first .ensures ∙ ap first-code (told .given .1))),
+          (pushed .ensures .0 ts b events reports pool ∙ ap (λ (k : ℕ). perform ts b (add-expected k) m) (first .ensures ∙ ap first-code (told .given .1))),
       pushed .ensures .1,
     )
 

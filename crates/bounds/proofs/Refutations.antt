@@ -1,0 +1,64 @@
+-- Numbers that are too large are refused by the crate's statements: 2^32 in any place of an answer, of a buffer or of a report's pool, and
+-- counts past their bounds. A statement that says less, or has other bounds, under the same name is refused by this file.
+use Prim.Native.Nat.{ℕ}
+use native.Mathlib.Omega.{arith}
+use mathlib.Core.Path.{_≡_, refl}
+use mathlib.Core.List.{List, [], _∷_}
+use lib.ListN.{length}
+use Rattle.definitions.specs.Token.{Token, bytes}
+use Rattle.definitions.specs.Skeleton.{no-label}
+use Rattle.definitions.specs.Event.{StartNode, AddCombinedToken}
+use Rattle.definitions.specs.Place.{leaf, subtree, nil, count}
+use Rattle.definitions.specs.Report.{reported, reports, pool}
+use Rattle.definitions.specs.Call.{Answer, Result}
+use Rattle.bounds.specs.Numbers.{most-events, most-reports, most-expectations, most-rows, Within-limits, So-far, Answer-fits, Fits, All-fit, Counts-within}
+
+-- 2^32, by its own number: a larger `WORD` would pass otherwise
+abbrev large : ℕ
+large = 4294967296
+
+-- an answer with one number
+abbrev answered : ℕ → ℕ → ℕ → ℕ → ℕ → ℕ → Answer
+answered n p t e r x = record { number = n; place = p; trees = t; errors = e; reports = r; expectations = x }
+
+not-the-answer : (Answer-fits (answered large 0 0 0 0 0) → ⊥) × (Answer-fits (answered 0 large 0 0 0 0) → ⊥) × (Answer-fits (answered 0 0 large 0 0 0) → ⊥) × (Answer-fits (answered 0 0 0 large 0 0) → ⊥) × (Answer-fits (answered 0 0 0 0 large 0) → ⊥) × (Answer-fits (answered 0 0 0 0 0 large) → ⊥)
+not-the-answer =
+    (λ a. omega (arith, a .number), λ a. omega (arith, a .place), λ a. omega (arith, a .trees), λ a. omega (arith, a .errors), λ a. omega (arith, a .reports), λ a. omega (arith, a .expectations))
+
+-- the buffers of a call, with something in one of them
+abbrev held : List ℕ → List ℕ → List ℕ → List ℕ → List ℕ → Result
+held e t x r p =
+    record { answer = answered 0 0 0 0 0 0; buffers = record { events = e; trees = t; errors = x; reports = r; pool = p } }
+
+abbrev too-large : List ℕ
+too-large = 0 ∷ large ∷ []
+
+not-the-buffers : (Fits (held too-large [] [] [] []) → ⊥) × (Fits (held [] too-large [] [] []) → ⊥) × (Fits (held [] [] too-large [] []) → ⊥) × (Fits (held [] [] [] too-large []) → ⊥) × (Fits (held [] [] [] [] too-large) → ⊥)
+not-the-buffers =
+    (λ f. omega (arith, f .buffers .events .1 .0), λ f. omega (arith, f .buffers .trees .1 .0), λ f. omega (arith, f .buffers .errors .1 .0), λ f. omega (arith, f .buffers .reports .1 .0), λ f. omega (arith, f .buffers .pool .1 .0))
+
+-- a report of an expectation that is no word
+not-the-pool : So-far [] (reported (record { message = 1; range = record { from = 1; to = 0 }; mark = 1; hint = 0; labelled = no-label; pool = large ∷ [] }) ∷ []) → ⊥
+unfolding pool reports
+not-the-pool s = omega (arith, s .pool-words .0)
+
+-- a node kind of more than a byte, a distance past all events, a name of more tokens than there are, and more children than rows
+not-the-events : (All-fit 14 1 (StartNode 256 0 ∷ []) → ⊥) × (All-fit 14 1 (StartNode 0 15 ∷ []) → ⊥) × (All-fit 14 1 (AddCombinedToken 2 ∷ []) → ⊥)
+not-the-events = (λ a. omega (arith, a .0 .0), λ a. omega (arith, a .0 .1), λ a. omega (arith, a .0))
+
+not-the-children : Counts-within 1 (subtree 0 (leaf 27 [] (leaf 29 [] nil)) nil) → ⊥
+unfolding count
+not-the-children c = omega (arith, c .0)
+
+-- ---------------------------------------------------------------- the bounds themselves
+
+-- for one token, and for none
+bounds : (most-events 1 ≡ 14) × (most-reports 1 ≡ 4) × (most-expectations 1 ≡ 1024) × (most-rows 1 ≡ 7)
+bounds = (refl, refl, refl, refl)
+
+bounds-of-nothing : (most-events 0 ≡ 1) × (most-reports 0 ≡ 1) × (most-expectations 0 ≡ 256) × (most-rows 0 ≡ 1)
+bounds-of-nothing = (refl, refl, refl, refl)
+
+-- files at both limits of cause 2 are spoken of
+at-the-limits : (ts : List Token) → length ts ≡ 65536 → bytes ts ≡ 1048576 → Within-limits ts
+at-the-limits ts t b = record { tokens = omega arith; input = omega arith }

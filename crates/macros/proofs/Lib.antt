@@ -1,0 +1,3 @@
+-- What the proofs of the functions share.
+pub mod Opened
+pub mod Arguments

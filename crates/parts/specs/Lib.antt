@@ -1,3 +1,0 @@
--- What the contracts of this crate cite.
-pub mod Parts
-pub mod View

@@ -1,0 +1,200 @@
+-- Wrong answers are refused by `Stays-local`: for each thing that two files share a pair of rows that do not share it. A promise that lets
+-- one of them pass under the same name is refused by this file.
+use mathlib.Core.Path.{_≡_, refl, ap}
+use Prim.Native.Nat.{ℕ, zero, suc}
+use native.Mathlib.Omega.{arith}
+use mathlib.Core.Bool.{Bool}
+use mathlib.Core.List.{List, [], _∷_}
+use mathlib.Core.Logic.{_⊎_, inl, inr}
+use lib.ListN.{length, getD}
+use Rattle.definitions.specs.Token.{one-of}
+use Rattle.definitions.specs.Call.{call}
+use Rattle.recovery.specs.Rows.{Row, tree-rows, error-rows, report-rows, leaf, none as none-inside, over-leaves, label-start, label-end}
+use Rattle.recovery.specs.Recovery.{File, result, is-statement, Semicolon, token-index, start-byte, those, later-error, later-report, Shared, Moved, Each, none, more, ErrorMoved, LabelMoved, no-label, label, ReportMoved}
+use Rattle.recovery.proofs.Witnesses.{lent, first}
+
+-- ---------------------------------------------------------------- which statements
+
+count-to : (ℕ → Bool) → ℕ → List Bool → List Bool
+count-to f zero l = l
+count-to f (suc n) l = count-to f n (f n ∷ l)
+
+-- of the node kinds 0 to 24 these three: DtsDirective, DtNode, DtProperty
+three-kinds : count-to is-statement 25 [] ≡ count-to (one-of (11 ∷ 15 ∷ 16 ∷ [])) 25 []
+unfolding is-statement one-of count-to
+three-kinds = refl
+
+-- ---------------------------------------------------------------- lists
+
+-- as many on both sides: a report lost, and one too many
+as-many : {R : Row → Row → Type 0} {l m : List Row} → Each R l m → length l ≡ length m
+as-many none = refl
+as-many (more r e) = ap suc (as-many e)
+
+lost : {R : Row → Row → Type 0} {x : Row} {l : List Row} → Each R (x ∷ l) [] → ⊥
+lost e = let n = as-many e in omega arith
+
+invented : {R : Row → Row → Type 0} {y : Row} {m : List Row} → Each R [] (y ∷ m) → ⊥
+invented e = let n = as-many e in omega arith
+
+-- and each to each
+first-of : {R : Row → Row → Type 0} {x y : Row} {l m : List Row} → Each R (x ∷ l) (y ∷ m) → R x y
+first-of (more r e) = r
+
+-- ---------------------------------------------------------------- lexical errors
+
+-- 74 at 16..17, where the semicolon of one file stands at byte 14 and that of the other at 9
+abbrev Error-is : Row → Type 0
+Error-is = ErrorMoved 14 9 (74 ∷ 16 ∷ 17 ∷ [])
+
+right-error : Error-is (74 ∷ 11 ∷ 12 ∷ [])
+right-error = record { same-number = refl; start-moves = refl; end-moves = refl }
+
+another-number : Error-is (73 ∷ 11 ∷ 12 ∷ []) → ⊥
+another-number e = omega (arith, e .same-number)
+
+start-stays : Error-is (74 ∷ 16 ∷ 12 ∷ []) → ⊥
+start-stays e = omega (arith, e .start-moves)
+
+end-stays : Error-is (74 ∷ 11 ∷ 17 ∷ []) → ⊥
+end-stays e = omega (arith, e .end-moves)
+
+-- ---------------------------------------------------------------- labels
+
+-- all that can be said of two labels: both absent, or the first is there and both its ends are moved
+abbrev Two-labels : ℕ → ℕ → Row → Row → Type 0
+Two-labels a b x y =
+    ((label-start x ≡ 0) × (label-end x ≡ 0) × (label-start y ≡ 0) × (label-end y ≡ 0))
+    ⊎ ((label-start x ≡ 0 → label-end x ≡ 0 → ⊥) × Moved a b (label-start x) (label-start y) × Moved a b (label-end x) (label-end y))
+
+two-labels : {a b : ℕ} {x y : Row} → LabelMoved a b x y → Two-labels a b x y
+two-labels (no-label p q r s) = inl (p, q, r, s)
+two-labels (label h p q) = inr (h, p, q)
+
+-- a report with a label from s to e
+abbrev labelled : ℕ → ℕ → Row
+labelled s e = 7 ∷ 0 ∷ 0 ∷ 0 ∷ 0 ∷ 0 ∷ 0 ∷ s ∷ e ∷ []
+
+-- 18..19 is 13..14 in the other file: not itself, not what the difference gives the wrong way round, not an end alone, not absent
+label-stays : LabelMoved 14 9 (labelled 18 19) (labelled 18 19) → ⊥
+label-stays l = go (two-labels l) where
+  go : Two-labels 14 9 (labelled 18 19) (labelled 18 19) → ⊥
+  go (inl z) = omega arith
+  go (inr m) = omega arith
+
+label-backwards : LabelMoved 14 9 (labelled 18 19) (labelled 23 24) → ⊥
+label-backwards l = go (two-labels l) where
+  go : Two-labels 14 9 (labelled 18 19) (labelled 23 24) → ⊥
+  go (inl z) = omega arith
+  go (inr m) = omega arith
+
+label-end-stays : LabelMoved 14 9 (labelled 18 19) (labelled 13 19) → ⊥
+label-end-stays l = go (two-labels l) where
+  go : Two-labels 14 9 (labelled 18 19) (labelled 13 19) → ⊥
+  go (inl z) = omega arith
+  go (inr m) = omega arith
+
+label-lost : LabelMoved 14 9 (labelled 18 19) (labelled 0 0) → ⊥
+label-lost l = go (two-labels l) where
+  go : Two-labels 14 9 (labelled 18 19) (labelled 0 0) → ⊥
+  go (inl z) = omega arith
+  go (inr m) = omega arith
+
+-- an absent label does not move
+label-invented : LabelMoved 9 14 (labelled 0 0) (labelled 5 5) → ⊥
+label-invented l = go (two-labels l) where
+  go : Two-labels 9 14 (labelled 0 0) (labelled 5 5) → ⊥
+  go (inl z) = omega arith
+  go (inr m) = m .0 refl refl
+
+-- ---------------------------------------------------------------- reports
+
+-- a report of one expectation, as it must be in another file; each other row differs from the right one in one number
+abbrev Report-is : Row → Type 0
+Report-is =
+    ReportMoved (record { bytes = 14; marks = 3; pool = 1 }) (record { bytes = 9; marks = 5; pool = 2 }) (35 ∷ 29 ∷ []) (2 ∷ 29 ∷ 29 ∷ 30 ∷ [])
+    (1 ∷ 21 ∷ 22 ∷ 11 ∷ 1 ∷ 1 ∷ 0 ∷ 0 ∷ 0 ∷ [])
+
+right-report : Report-is (1 ∷ 16 ∷ 17 ∷ 13 ∷ 2 ∷ 1 ∷ 0 ∷ 0 ∷ 0 ∷ [])
+right-report =
+    record { same-message = refl; start-moves = refl; end-moves = refl; mark-moves = refl; first-place-moves = refl; same-pool-count = refl; same-hint = refl; label-moves = no-label refl refl refl refl; same-expected = refl }
+
+another-message : Report-is (2 ∷ 16 ∷ 17 ∷ 13 ∷ 2 ∷ 1 ∷ 0 ∷ 0 ∷ 0 ∷ []) → ⊥
+another-message r = omega (arith, r .same-message)
+
+report-start-stays : Report-is (1 ∷ 21 ∷ 17 ∷ 13 ∷ 2 ∷ 1 ∷ 0 ∷ 0 ∷ 0 ∷ []) → ⊥
+report-start-stays r = omega (arith, r .start-moves)
+
+report-end-stays : Report-is (1 ∷ 16 ∷ 22 ∷ 13 ∷ 2 ∷ 1 ∷ 0 ∷ 0 ∷ 0 ∷ []) → ⊥
+report-end-stays r = omega (arith, r .end-moves)
+
+mark-stays : Report-is (1 ∷ 16 ∷ 17 ∷ 11 ∷ 2 ∷ 1 ∷ 0 ∷ 0 ∷ 0 ∷ []) → ⊥
+mark-stays r = omega (arith, r .mark-moves)
+
+-- (the pool has the same expectation there)
+first-place-stays : Report-is (1 ∷ 16 ∷ 17 ∷ 13 ∷ 1 ∷ 1 ∷ 0 ∷ 0 ∷ 0 ∷ []) → ⊥
+first-place-stays r = omega (arith, r .first-place-moves)
+
+another-pool-count : Report-is (1 ∷ 16 ∷ 17 ∷ 13 ∷ 2 ∷ 2 ∷ 0 ∷ 0 ∷ 0 ∷ []) → ⊥
+another-pool-count r = omega (arith, r .same-pool-count)
+
+another-hint : Report-is (1 ∷ 16 ∷ 17 ∷ 13 ∷ 2 ∷ 1 ∷ 1 ∷ 0 ∷ 0 ∷ []) → ⊥
+another-hint r = omega (arith, r .same-hint)
+
+another-label : Report-is (1 ∷ 16 ∷ 17 ∷ 13 ∷ 2 ∷ 1 ∷ 0 ∷ 16 ∷ 17 ∷ []) → ⊥
+another-label r = go (two-labels (r .label-moves)) where
+  go : Two-labels 14 9 (labelled 0 0) (labelled 16 17) → ⊥
+  go (inl z) = omega arith
+  go (inr m) = m .0 refl refl
+
+-- the right row, where the pool has another expectation at its place
+another-expectation : ReportMoved (record { bytes = 14; marks = 3; pool = 1 }) (record { bytes = 9; marks = 5; pool = 2 }) (35 ∷ 29 ∷ []) (2 ∷ 29 ∷ 30 ∷ []) (1 ∷ 21 ∷ 22 ∷ 11 ∷ 1 ∷ 1 ∷ 0 ∷ 0 ∷ 0 ∷ []) (1 ∷ 16 ∷ 17 ∷ 13 ∷ 2 ∷ 1 ∷ 0 ∷ 0 ∷ 0 ∷ []) → ⊥
+another-expectation r = let n : _≡_ {A = ℕ} 29 30 = ap (λ (l : List ℕ). getD l 0 0) (r .same-expected) in omega arith
+
+-- ---------------------------------------------------------------- whole files
+
+-- `a;` with some token of one byte after it; each pair of files here differs in that token alone
+abbrev with-last : ℕ → ℕ → File
+with-last b k = record { input = 97 ∷ 59 ∷ b ∷ []; rows = 27 ∷ 1 ∷ 29 ∷ 1 ∷ k ∷ 1 ∷ []; lent = lent 60 }
+
+abbrev its-semicolon : (f : File) (later : List Row) → tree-rows (result f) ≡ (0 ∷ 0 ∷ 3 ∷ 2 ∷ []) ∷ (0 ∷ 16 ∷ 2 ∷ 2 ∷ []) ∷ (1 ∷ 26 ∷ 1 ∷ 1 ∷ []) ∷ (1 ∷ 29 ∷ 1 ∷ 1 ∷ []) ∷ later → Semicolon (tree-rows (result f))
+unfolding is-statement
+its-semicolon f later e = first (0 ∷ 0 ∷ 3 ∷ 2 ∷ []) (0 ∷ 16 ∷ 2 ∷ 2 ∷ []) ((1 ∷ 26 ∷ 1 ∷ 1 ∷ []) ∷ []) later 1 e refl refl (leaf refl none-inside) refl
+
+abbrev in-error : List Row → List Row
+in-error l = (0 ∷ 10 ∷ 1 ∷ 1 ∷ []) ∷ l
+
+brace : Semicolon (tree-rows (result (with-last 125 38)))
+unfolding tree-rows call
+brace = its-semicolon (with-last 125 38) (in-error ((1 ∷ 38 ∷ 1 ∷ 1 ∷ []) ∷ [])) refl
+
+bracket : Semicolon (tree-rows (result (with-last 41 42)))
+unfolding tree-rows call
+bracket = its-semicolon (with-last 41 42) (in-error ((1 ∷ 42 ∷ 1 ∷ 1 ∷ []) ∷ [])) refl
+
+blank : Semicolon (tree-rows (result (with-last 32 0)))
+unfolding tree-rows call
+blank = its-semicolon (with-last 32 0) ((1 ∷ 0 ∷ 1 ∷ 1 ∷ []) ∷ []) refl
+
+error-74 : Semicolon (tree-rows (result (with-last 96 74)))
+unfolding tree-rows call
+error-74 = its-semicolon (with-last 96 74) (in-error ((1 ∷ 25 ∷ 1 ∷ 1 ∷ []) ∷ [])) refl
+
+error-73 : Semicolon (tree-rows (result (with-last 96 73)))
+unfolding tree-rows call
+error-73 = its-semicolon (with-last 96 73) (in-error ((1 ∷ 25 ∷ 1 ∷ 1 ∷ []) ∷ [])) refl
+
+-- `}` and `)` are other parts
+other-parts : Shared (with-last 125 38) (with-last 41 42) brace bracket → ⊥
+unfolding its-semicolon brace bracket
+other-parts s = let n : _≡_ {A = ℕ} 38 42 = ap (λ (l : List Row). getD (getD l 1 []) 1 0) (s .parts) in omega arith
+
+-- two errors of the lexer are two lexical errors, though the parts are the same
+other-errors : Shared (with-last 96 74) (with-last 96 73) error-74 error-73 → ⊥
+unfolding its-semicolon error-74 error-73 those later-error start-byte over-leaves error-rows call
+other-errors s = omega (arith, first-of (s .errors) .same-number)
+
+-- the brace is reported, and a blank is not
+other-reports : Shared (with-last 125 38) (with-last 32 0) brace blank → ⊥
+unfolding its-semicolon brace blank those later-report token-index over-leaves report-rows call
+other-reports s = lost (s .reports)
