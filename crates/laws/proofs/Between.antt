@@ -92,7 +92,7 @@ between-name raw us a d =
     }
 
 -- where a token that is no trivia stands at the cursor, a peek from behind the last token taken comes to it
-stands-first : (s : State) (t : Token) (us : List Token) → Stands s → s .rest ≡ t ∷ us → trivia t ≡ false → drop-trivia (s .since) ≡ t ∷ us
+pub stands-first : (s : State) (t : Token) (us : List Token) → Stands s → s .rest ≡ t ∷ us → trivia t ≡ false → drop-trivia (s .since) ≡ t ∷ us
 stands-first s t us h e d = passes-drop (s .since) (s .rest) (h .passed) ∙ ap drop-trivia e ∙ drop-none t us d
 
 pub record Taking (s : State) (p : Skeleton) (u : State) : Type 0 where

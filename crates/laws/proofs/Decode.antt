@@ -12,7 +12,7 @@ use Rattle.laws.specs.Rows as R
 -- ---------------------------------------------------------------- reading
 
 infixr 30 _⊞_
-_⊞_ : Rows → Rows → Rows
+unfoldable pub _⊞_ : Rows → Rows → Rows
 end ⊞ g = g
 R.leaf k w n f ⊞ g = R.leaf k w n (f ⊞ g)
 node k w n c f ⊞ g = node k w n c (f ⊞ g)
@@ -36,7 +36,7 @@ later-of (R.leaf k w n f) g = later-of f g
 later-of (node k w n c f) g = later-of f g
 
 -- rows with true counts are read as what they are, whatever follows
-read-preorder : (r : Rows) (l : List ℕ) → Counts r → read (preorder r ++ l) ≡ r ⊞ read l
+pub read-preorder : (r : Rows) (l : List ℕ) → Counts r → read (preorder r ++ l) ≡ r ⊞ read l
 unfolding read preorder Counts read-row _⊞_
 read-preorder end l h = refl
 read-preorder (R.leaf k w n f) l h = ap (R.leaf k w n) (read-preorder f l h)

@@ -48,7 +48,7 @@ pub or-left : (a b : Bool) → a ≡ true → (a || b) ≡ true
 or-left true b e = refl
 or-left false b e = absurd (false≢true e)
 
-or-right : (a b : Bool) → b ≡ true → (a || b) ≡ true
+pub or-right : (a b : Bool) → b ≡ true → (a || b) ≡ true
 or-right true b e = refl
 or-right false b e = e
 
@@ -68,7 +68,7 @@ in-left d e s₀ s h = record { stands = h .stands; below = h .below; case = cas
 pub in-right : (d e : Fact) (s₀ s : State) → Holds e s₀ s → Holds (d ∪ e) s₀ s
 in-right d e s₀ s h = record { stands = h .stands; below = h .below; case = case-right d e s₀ s (h .case) }
 
-implied : (a b : Bool) → implies a b ≡ true → a ≡ true → b ≡ true
+pub implied : (a b : Bool) → implies a b ≡ true → a ≡ true → b ≡ true
 implied true b e h = e
 implied false b e h = absurd (false≢true h)
 

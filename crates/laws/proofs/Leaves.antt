@@ -38,7 +38,7 @@ right-beside (subtree k c f) g h i = (h .0, right-beside f g (h .1) i)
 small-kind : (k n : ℕ) → n < 64 → eqb k n ≡ true → leb 64 k ≡ false
 small-kind k n h e = let q : k ≡ n = eqb-true k n e in lt-leb 64 k (omega arith)
 
-or-cases : {P : Type 0} (a b : Bool) → (a || b) ≡ true → (a ≡ true → P) → (b ≡ true → P) → P
+pub or-cases : {P : Type 0} (a b : Bool) → (a || b) ≡ true → (a ≡ true → P) → (b ≡ true → P) → P
 or-cases true b e f g = f refl
 or-cases false b e f g = g e
 

@@ -47,7 +47,7 @@ module _ (e : Entry) (bs : List ℕ) (ts : List Token) (b : Buffers) (full : byt
   abbrev t : Tree
   t = root (root-kind e) (run-entry e ts) ts
 
-  in-front : take (4 * (length (rows t) / 4)) (rows t ++ replicate (length (b .trees) - length (rows t)) 0) ≡ preorder (shown t)
+  pub in-front : take (4 * (length (rows t) / 4)) (rows t ++ replicate (length (b .trees) - length (rows t)) 0) ≡ preorder (shown t)
   in-front = rows-in-front 3 (row-count t) (rows t) _ (rows-length t) ∙ sym (shown-preorder t)
 
   -- the root's width is the length of the input

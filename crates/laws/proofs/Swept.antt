@@ -23,11 +23,11 @@ abbrev pub Ended : Out → Type 0
 Ended o = drop-trivia (o .state .rest) ≡ []
 
 module _ (ask : Rule → State → Out) (b : Label) where
-  turn-ends : (s : State) → drop-trivia (s .rest) ≡ [] → exec ask b left-over-turn s ≡ record { ans = yes; shape = 0; made = done; state = moved s [] }
+  pub turn-ends : (s : State) → drop-trivia (s .rest) ≡ [] → exec ask b left-over-turn s ≡ record { ans = yes; shape = 0; made = done; state = moved s [] }
   unfolding left-over-turn exec perform choose answer peeked add _⧺_
   turn-ends s e = rw e refl
 
-  turn-takes : (s : State) (t : Token) (ts : List Token) → drop-trivia (s .rest) ≡ t ∷ ts
+  pub turn-takes : (s : State) (t : Token) (ts : List Token) → drop-trivia (s .rest) ≡ t ∷ ts
       → exec ask b left-over-turn s ≡ record { ans = again; shape = 0; made = token t (length ts) done; state = taken ts }
   unfolding left-over-turn exec perform choose answer makes peeked add do-bump _⧺_
   turn-takes s t ts e =

@@ -62,13 +62,13 @@ enter f G S goes d s₀ s m h w = (tt, go (h .case))
     go (gone-case i t) =
         in-fresh (d .took) (fresh (d .there) (d .gone) f) (G s .ans) s₀ (G s .state) (fresh-gone f G S s₀ s (h .stands) (h .below) (d .there) (d .gone) m i t w .1)
 
-taking-acts : Acts taking-tokens taking-means
+pub taking-acts : Acts taking-tokens taking-means
 taking-acts = record { act = λ b a d s₀ s m h w. (tt, act-holds b a d s₀ s h); enter = enter }
 
 -- ---------------------------------------------------------------- the table
 
 -- what is known before a call, and what the table says of it
-table-gives : (r : Rule) (n : ℕ) → ((s₀ s : State) → Holds standing s₀ s → Gives taking-tokens taking-means (there-table r) s₀ (run n r s)) → Sound taking-tokens taking-means (table r) (run n r)
+pub table-gives : (r : Rule) (n : ℕ) → ((s₀ s : State) → Holds standing s₀ s → Gives taking-tokens taking-means (there-table r) s₀ (run n r s)) → Sound taking-tokens taking-means (table r) (run n r)
 unfolding table
 table-gives r n T d s₀ s m h w = (tt, go (d .there) (d .gone) refl refl (h .case))
   where

@@ -104,6 +104,22 @@ verdict d xs us b =
     let ts : List Symbol = xs ++ (plain K.RParen ∷ us) in
     verdict-of xs us b (cell d ts) (cell-sound d ts) (λ e g. cell-complete d xs e g us) (d ≤ length ts) (cell-fin d ts)
 
+-- what is read without a report ends with the RParen that balances
+abbrev pub Reads : List Symbol → Res → Type 0
+Reads us (done e vs) = (xs : List Symbol) × Balanced xs × (us ≡ xs ++ (plain K.RParen ∷ vs))
+Reads us (report p) = Unit {0}
+Reads us refused = Unit {0}
+Reads us spent = ⊥
+
+reads-of : (us : List Symbol) (x : Res) → Post (Cell us) (Before us) x → (a : ℕ) (R : Type 0) → Fin a R x → Reads us x
+reads-of us (done e vs) s a R f = (spelling e, balanced e (s .allowed), s .symbols-are ∙ onto-written e (plain K.RParen ∷ vs))
+reads-of us (report p) s a R f = tt
+reads-of us refused s a R f = tt
+reads-of us spent s a R f = f
+
+pub cell-reads : (d : ℕ) (us : List Symbol) → Reads us (cell d us)
+cell-reads d us = reads-of us (cell d us) (cell-sound d us) (length us) (d ≤ length us) (cell-fin d us)
+
 same-of : (e e′ : Expr) (us : List Symbol) (R : Type 0) (x : Res) → Post (Is e us) Never x → Post (Is e′ us) Never x → (a : ℕ) → Fin a R x → (R → ⊥) → e ≡ e′
 same-of e e′ us R (done f vs) p q a h r = sym (p .0) ∙ q .0
 same-of e e′ us R (report vs) p q a h r = absurd p

@@ -24,7 +24,8 @@ use Rattle.precedence.specs.Nodes.{one, parts}
 use Rattle.precedence.proofs.Pratt.{Res, refused, spent, bind, reader}
 use Rattle.precedence.proofs.Pratt as P
 use Rattle.precedence.proofs.Enough.{Fin, cell-fin}
-use Rattle.precedence.proofs.Bare.{Verdict, verdict}
+use Rattle.precedence.proofs.Bare.{Verdict, verdict, Reads, cell-reads}
+use Rattle.precedence.proofs.Partner.{Paired, partner-of}
 use Rattle.precedence.proofs.Pushed.{Quiet, Reported, reported-second}
 use Rattle.precedence.proofs.Same.{Same}
 use Rattle.precedence.proofs.Symbols.{symbols-split, tail-length, still-there, gone-by}
@@ -120,6 +121,19 @@ judge-by s t ts ahead inner close after e k R (P.report vs) o m v a g =
 judge-by s t ts ahead inner close after e k R refused o d v a g = absurd d
 judge-by s t ts ahead inner close after e k R spent o d v a g = absurd g
 
+-- an RParen balances the LParen, or a report was made
+pair-by : (t : Token) (ts : List Token) (x : Res) (o : Out) → CellRun (taken ts) x o → Reads (symbols false ts) x
+    → Paired (pushes (token t (length ts) done ⧺ o .made)) ts
+pair-by t ts (P.done f vs) o d r = inl (partner-of ts (r .0) vs (r .1) (r .2))
+pair-by t ts (P.report vs) o m r =
+    inr (record {
+      rep = m .rep;
+      among = reported-second (token t (length ts) done) (o .made) (m .among);
+      low = omega (arith, m .mark-is, tail-length (m .raw) ts (m .tail));
+    })
+pair-by t ts refused o d r = absurd d
+pair-by t ts spent o d r = absurd r
+
 -- ---------------------------------------------------------------- the node
 
 -- A DtExpr whose marker was pushed at mark m before the tokens u and completed at mark m′: it begins with its LParen, and it is judged.
@@ -132,6 +146,7 @@ pub record CellOf (m m′ : ℕ) (i : Skeleton) (u : List Token) : Type 0 where
   pub rest : Skeleton
   pub begins : i ≡ token bracket (length behind) rest
   pub judged : Judged behind m′ i
+  pub paired : Paired (pushes i) behind
 
 pub record CellNode (s : State) (o : Out) : Type 0 where
   pub i : Skeleton
@@ -161,6 +176,7 @@ module _ (n : ℕ) (b : Label) where
         rest = o .made;
         begins = refl;
         judged = judges s t ts ahead o r;
+        paired = pair-by t ts (P.cell n (symbols false ts)) o r (cell-reads n (symbols false ts));
       }
 
   -- `dt_expr`, the caller having seen its LParen

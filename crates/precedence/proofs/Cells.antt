@@ -1,5 +1,5 @@
 -- Every DtExpr of a skeleton, where it is placed, is a judged cell. It is so of what any program makes that completes no marker as a DtExpr.
-use Prim.Native.Nat.{ℕ, zero, suc}
+use Prim.Native.Nat.{ℕ, zero, suc, _≤_}
 use mathlib.Core.Path.{_≡_, refl, sym, _∙_, ap}
 use mathlib.Core.Bool.{Bool, true, false, not, true≢false}
 use mathlib.Core.List.{List, [], _∷_}
@@ -30,7 +30,7 @@ Cells done ts = Unit {0}
 Cells (token t m o) ts = Cells o (past (drop-trivia ts))
 Cells (name raw m o) ts = Cells o (drop (length raw) (drop-trivia ts))
 Cells (node k m m′ a i o) ts =
-    (k ≡ N.DtExpr → (a ≡ done) × CellOf m m′ i (drop-trivia ts))
+    (k ≡ N.DtExpr → (a ≡ done) × CellOf m m′ i (drop-trivia ts) × (length (after i (drop-trivia ts)) ≤ m′))
     × Cells a (drop-trivia ts)
     × Cells i (after a (drop-trivia ts))
     × Cells o (after i (after a (drop-trivia ts)))

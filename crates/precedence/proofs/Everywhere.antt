@@ -1,8 +1,9 @@
 -- Every DtExpr that a run makes is a judged cell: the grammar completes a marker as a DtExpr in `dt_expr` alone, where an LParen was seen.
-use Prim.Native.Nat.{ℕ, zero, suc}
+use Prim.Native.Nat.{ℕ, zero, suc, _≤_}
 use mathlib.Core.Path.{_≡_, refl, sym, _∙_, subst}
 use mathlib.Core.Bool.{Bool, true, false, false≢true}
 use mathlib.Core.List.{List, [], _∷_}
+use lib.ListN.{length}
 use Rattle.definitions.specs.TokenKind as K
 use Rattle.definitions.specs.NodeKind as N
 use Rattle.definitions.specs.Errors as E
@@ -12,15 +13,17 @@ use Rattle.definitions.specs.Check.{tell, if_then_else_, _and_, _or_, not!, bum
 use Rattle.definitions.specs.Grammar.{Cell, OPERATORS-SET, Reference, macro-invocation, dt-expr, eat-dts-include, eat-preprocessor-directive, eat-cell-body, grammar, Entry, SourceFile, ReferenceNoamp, PropValues, Cells, whole}
 use Rattle.definitions.specs.Skeleton.{Label, no-label, Skeleton, done, node, over, _⧺_}
 use Rattle.definitions.specs.Run.{State, Out, mark-of, peeked, truth, answer, makes, taken, add, perform, choose, closed, marked, exec, run}
+use Rattle.definitions.specs.Place.{after}
 use Rattle.definitions.specs.Report.{pushes}
 use Rattle.definitions.specs.Call.{run-entry}
-use Rattle.laws.proofs.Trivia.{drop-twice, passes-drop}
+use Rattle.laws.proofs.Trivia.{drop-twice, drop-trivia-length, passes-drop}
 use Rattle.laws.proofs.Skeleton.{join-done}
 use Rattle.laws.proofs.Kept.{Stands, stands-taken, run-kept, exec-kept}
 use Rattle.laws.proofs.Between.{Taking, reads-kept}
 use Rattle.laws.specs.Pushes.{Clear}
 use Rattle.precedence.proofs.Pushed.{clear-inside, clear-first}
 use Rattle.precedence.proofs.Symbols.{test-one}
+use Rattle.precedence.proofs.Short.{exec-short}
 use Rattle.precedence.proofs.Cell.{CellOf, CellNode, cells}
 use Rattle.precedence.proofs.Only.{only, Ran, ran-add, ran-ret, ran-choose, ran-exec}
 use Rattle.precedence.proofs.Cells.{no-cell, Celled, celled}
@@ -69,8 +72,17 @@ module _ (n : ℕ) (below : (r : Rule) (s : State) → Made s (run n r s)) (b : 
       let g : Clear (pushes (does inside s .made)) =
       clear-first (does inside s .made) done (clear-inside N.DtExpr (mark-of s) (mark-of (does dt-expr s .state)) done (does inside s .made ⧺ done) c) in
       let w : Cs.Cells (d .i) (drop-trivia l) = subst (λ (p : Skeleton). Cs.Cells p (drop-trivia l)) i (plain inside refl s .makes-it h .cells g (drop-trivia l) (drop-twice l ∙ z)) in
-      subst (λ (p : Skeleton). Cs.Cells p l) (sym (d .made-is))
-      (λ y. (refl, subst (CellOf (mark-of s) (mark-of (does dt-expr s .state)) (d .i)) (sym z) (d .cell)), tt, w, tt)
+      subst (λ (p : Skeleton). Cs.Cells p l) (sym (d .made-is)) (
+        λ y. (
+          refl,
+          subst (CellOf (mark-of s) (mark-of (does dt-expr s .state)) (d .i)) (sym z) (d .cell),
+          subst (λ (p : Skeleton). length (after p (drop-trivia l)) ≤ mark-of (does dt-expr s .state)) i
+              (exec-short n b inside s h (drop-trivia l) (drop-twice l ∙ z) (subst (λ (x : List Token). length x ≤ length (s .since)) (sym z) (drop-trivia-length (s .since)))),
+        ),
+        tt,
+        w,
+        tt,
+      )
 
   cell-made : (s : State) (t : Token) (ts : List Token) → drop-trivia (s .rest) ≡ t ∷ ts → seen t ≡ K.LParen → Made s (does dt-expr s)
   unfolding dt-expr exec marked makes

@@ -1,5 +1,5 @@
 -- Every DtExpr of a whole run's tree is settled: its skeleton's cells are judged, and marks never fall.
-use Prim.Native.Nat.{ℕ, zero, suc}
+use Prim.Native.Nat.{ℕ, zero, suc, _≤_}
 use native.Mathlib.Omega.{arith}
 use mathlib.Core.Path.{_≡_, refl, sym, _∙_, subst}
 use mathlib.Core.List.{List, [], _∷_, _++_, append-assoc, append-nil}
@@ -68,14 +68,14 @@ module _ (all : List Push) (from to : ℕ) (falls : Falls from all to) where
 
   -- a DtExpr's children
   settle-node : (k m m′ : ℕ) (a i o : Skeleton) (u : List Token) → Part (pushes a ++ (event m ∷ (pushes i ++ (event m′ ∷ pushes o))))
-      → (k ≡ N.DtExpr → (a ≡ done) × CellOf m m′ i u) → k ≡ N.DtExpr → Settled all u (place a u ⊕ place i (after a u))
+      → (k ≡ N.DtExpr → (a ≡ done) × CellOf m m′ i u × (length (after i u) ≤ m′)) → k ≡ N.DtExpr → Settled all u (place a u ⊕ place i (after a u))
   unfolding Part around pushes place after _⊕_
   settle-node k m m′ a i o u p c e =
       let d = c e in
       let q : all ≡ p .0 ++ (pushes a ++ (event m ∷ (pushes i ++ (event m′ ∷ (pushes o ++ p .1))))) = p .2 ∙ around-a (p .0) (pushes a) (pushes i) (pushes o) (p .1) (event m) (event m′) in
       let z : all ≡ p .0 ++ (event m ∷ (pushes i ++ (event m′ ∷ (pushes o ++ p .1)))) =
       subst (λ (s : Skeleton). all ≡ p .0 ++ (pushes s ++ (event m ∷ (pushes i ++ (event m′ ∷ (pushes o ++ p .1)))))) (d .0) q in
-      subst (λ (s : Skeleton). Settled all u (place s u ⊕ place i (after s u))) (sym (d .0)) (settle-cell all from to falls m m′ i (p .0) (pushes o ++ p .1) z u (d .1))
+      subst (λ (s : Skeleton). Settled all u (place s u ⊕ place i (after s u))) (sym (d .0)) (settle-cell all from to falls m m′ i (p .0) (pushes o ++ p .1) z u (d .1) (d .2))
 
   settle : (p : Skeleton) (ts : List Token) → Part (pushes p) → Cells p ts → Each (Settled all) ts (place p ts)
   unfolding Cells place pushes after Each _⊕_

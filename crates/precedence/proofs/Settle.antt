@@ -1,5 +1,5 @@
 -- A judged cell in a whole run: no report made before or after it has a mark between its brackets, since marks never fall.
-use Prim.Native.Nat.{ℕ, suc, _≤_, _<_}
+use Prim.Native.Nat.{ℕ, suc, _+_, _≤_, _<_}
 use native.Mathlib.Nat.{le-trans}
 use native.Mathlib.Omega.{arith}
 use mathlib.Core.Path.{_≡_, sym, _∙_, ap, subst}
@@ -21,6 +21,7 @@ use Rattle.laws.proofs.Placed.{place-whole, lead-whole}
 use Rattle.precedence.specs.Nodes.{one, parts}
 use Rattle.precedence.proofs.Pushed.{Quiet, Reported, here, there, reported-left, reported-right}
 use Rattle.precedence.proofs.Symbols.{bracket-solid}
+use Rattle.precedence.proofs.Partner.{Partner, Heard-inside, Paired}
 use Rattle.precedence.proofs.Cell.{Good, Bad, CellOf}
 
 -- ---------------------------------------------------------------- marks before and after
@@ -86,6 +87,7 @@ pub record Settled (whole : List Push) (u : List Token) (c : Tree) : Type 0 wher
   pub begins : c ≡ leaf K.LParen (bracket ∷ []) rest
   pub judged : (inner : List Token) (close : Token) (after : List Token) → behind ≡ inner ++ (close ∷ after) → seen close ≡ K.RParen
       → Balanced (symbols false inner) → Clean whole inner close after behind u c ⊎ Faulty whole inner close after behind
+  pub paired : Partner behind ⊎ ((end : ℕ) × (length u ≤ end + length (leaves c)) × Heard-inside whole behind end)
 
 first-child : (t : Token) (ts : List Token) (m : ℕ) (p : Skeleton) → seen t ≡ K.LParen → place (token t m p) (t ∷ ts) ≡ leaf K.LParen (t ∷ []) (place p ts)
 unfolding place lead front drop-trivia _⊕_
@@ -132,9 +134,29 @@ module _ (whole : List Push) (from to : ℕ) (falls : Falls from whole to) where
         low = b .low;
       })
 
+  -- a report of the cell is one of the whole
+  pair-in : (m m′ : ℕ) (i : Skeleton) (pre post : List Push) → whole ≡ pre ++ (event m ∷ (pushes i ++ (event m′ ∷ post))) → (behind : List Token)
+      → Paired (pushes i) behind → Partner behind ⊎ Heard-inside whole behind m′
+  pair-in m m′ i pre post e behind (inl p) = inl p
+  pair-in m m′ i pre post e behind (inr h) =
+      let f : Falls from (pre ++ (event m ∷ (pushes i ++ (event m′ ∷ post)))) to = subst (λ (l : List Push). Falls from l to) e falls in
+      inr (record {
+        rep = h .rep;
+        among = subst (Reported (h .rep)) (sym e) (reported-right pre (there (reported-left (event m′ ∷ post) (h .among))));
+        low = h .low;
+        high = falls-before m to (pushes i) (event m′) post (falls-from from to pre (event m) (pushes i ++ (event m′ ∷ post)) f) (h .among);
+      })
+
+  -- the tokens that are left after the cell, by its tree
+  left-by : (m′ : ℕ) (i : Skeleton) (u behind : List Token) → length (after i u) ≤ m′ → Partner behind ⊎ Heard-inside whole behind m′
+      → Partner behind ⊎ ((end : ℕ) × (length u ≤ end + length (leaves (place i u))) × Heard-inside whole behind end)
+  left-by m′ i u behind l (inl p) = inl p
+  left-by m′ i u behind l (inr w) =
+      inr (m′, omega (arith, l, ap length (place-whole i u), length-append (leaves (place i u)) (after i u)), w)
+
   pub settle-cell : (m m′ : ℕ) (i : Skeleton) (pre post : List Push) → whole ≡ pre ++ (event m ∷ (pushes i ++ (event m′ ∷ post))) → (u : List Token) → CellOf m m′ i u
-      → Settled whole u (place i u)
-  settle-cell m m′ i pre post e u d =
+      → length (after i u) ≤ m′ → Settled whole u (place i u)
+  settle-cell m m′ i pre post e u d l =
       record {
         bracket = d .bracket;
         behind = d .behind;
@@ -146,6 +168,7 @@ module _ (whole : List Push) (from to : ℕ) (falls : Falls from whole to) where
             ∙ ap (place (token (d .bracket) (length (d .behind)) (d .rest))) (d .starts)
             ∙ first-child (d .bracket) (d .behind) (length (d .behind)) (d .rest) (d .is-bracket);
         judged = λ inner close after b k l. settle-by m m′ i pre post e u d inner close after (d .judged inner close after b k l);
+        paired = left-by m′ i u (d .behind) l (pair-in m m′ i pre post e (d .behind) (d .paired));
       }
 
 -- ---------------------------------------------------------------- every DtExpr of a placed tree

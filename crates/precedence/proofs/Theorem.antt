@@ -7,7 +7,7 @@ use mathlib.Core.Logic.{_⊎_, inl, inr}
 use mathlib.Core.Bool.{Bool, true, false, cond}
 use mathlib.Core.List.{List, [], _∷_, _++_, append-nil}
 use lib.Dec.{leb}
-use lib.ListN.{length, take, drop, replicate, length-append}
+use lib.ListN.{length, take, drop, replicate, length-append, length-drop}
 use lib.Seq.{drop-drop, drop-append-seam}
 use Rattle.definitions.specs.TokenKind as K
 use Rattle.definitions.specs.NodeKind as N
@@ -17,8 +17,9 @@ use Rattle.definitions.specs.Skeleton.{Report, _⧺_}
 use Rattle.definitions.specs.Place.{Tree, nil, subtree, _⊕_, lead, after, place, root, rows}
 use Rattle.definitions.specs.Report.{Push, pushes, reports}
 use Rattle.definitions.specs.C.{symbols, Expr}
-use Rattle.definitions.specs.Call.{Buffers, Result, sheets, kept, run-entry}
+use Rattle.definitions.specs.Call.{Buffers, Result, sheets, kept, run-entry, call}
 use Rattle.laws.proofs.Scan.{fits-clear}
+use Rattle.laws.proofs.Tree.{leaves}
 use Rattle.laws.proofs.Decode.{row-count, rows-length}
 use Rattle.laws.proofs.Accepted.{accepted-call}
 use Rattle.precedence.specs.Nodes.{one, parts, cell}
@@ -27,6 +28,7 @@ use Rattle.precedence.proofs.Bare.{unique}
 use Rattle.laws.specs.Pushes.{Clear}
 use Rattle.precedence.proofs.Pushed.{Reported}
 use Rattle.precedence.proofs.Symbols.{bracket-solid}
+use Rattle.precedence.proofs.Partner.{Partner, Heard-inside}
 use Rattle.precedence.proofs.Settle.{Clean, Faulty, Settled}
 use Rattle.precedence.proofs.Placed.{entry-settled}
 use Rattle.precedence.proofs.ReportRows.{nth-less, nth-there, reported-nth, nth-reported, nth-mark, reports-length}
@@ -38,13 +40,32 @@ seen-by : (k j : ℕ) (b : Bool) → leb 64 k ≡ b → cond b K.Unrecognized k 
 seen-by k j true e h d = absurd (d (sym h))
 seen-by k j false e h d = h
 
-kind-of : (t : Token) (j : ℕ) → seen t ≡ j → (j ≡ K.Unrecognized → ⊥) → t .kind ≡ j
+pub kind-of : (t : Token) (j : ℕ) → seen t ≡ j → (j ≡ K.Unrecognized → ⊥) → t .kind ≡ j
 unfolding seen is-error
 kind-of t j h d = seen-by (t .kind) j (leb 64 (t .kind)) refl h d
 
 seen-of : (t : Token) (j : ℕ) → t .kind ≡ j → leb 64 j ≡ false → seen t ≡ j
 unfolding seen is-error
 seen-of t j e f = rw e (rw f refl)
+
+-- ---------------------------------------------------------------- a bracket and its partner
+
+-- report row q has its mark above the LParen's token index k, and at most the index just past the last of the tokens in c
+pub record Tells (r : Result) (k : ℕ) (c : Tree) (q : ℕ) : Type 0 where
+  pub written : q < r .answer .reports
+  pub above : k < mark-in q (r .buffers .reports)
+  pub at-most : mark-in q (r .buffers .reports) ≤ k + length (leaves c)
+
+-- the LParen of the DtExpr in row p: an RParen balances it, or some report tells that none does
+pub record Answered (ts : List Token) (p : ℕ) (r : Result) : Type 0 where
+  pub bracket : Token
+  pub behind : List Token
+  pub starts : drop (tokens-before p (r .buffers .trees)) ts ≡ bracket ∷ behind
+  pub is-bracket : seen bracket ≡ K.LParen
+  pub children : Tree
+  pub more : List ℕ
+  pub rows-are : drop (4 * p) (r .buffers .trees) ≡ rows (subtree N.DtExpr children nil) ++ more
+  pub paired : Partner behind ⊎ ((q : ℕ) × Tells r (tokens-before p (r .buffers .trees)) children q)
 
 -- ---------------------------------------------------------------- a cell's rows
 
@@ -112,6 +133,33 @@ module _ (e : Entry) (ts : List Token) (l : Buffers) (clear : Clear (pushes (run
         after = s .behind;
         token-is = s .starts;
         kind-is = kind-of (s .bracket) K.LParen (s .is-bracket) (λ z. omega arith);
+      }
+
+  -- ---------------------------------------------------------------- it has a partner, or a report says that it has none
+
+  tells : (k : ℕ) (u behind : List Token) (c : Tree) → length ts ≡ k + suc (length behind) → length u ≡ suc (length behind)
+      → Partner behind ⊎ ((end : ℕ) × (length u ≤ end + length (leaves c)) × Heard-inside all behind end) → Partner behind ⊎ ((q : ℕ) × Tells r k c q)
+  tells k u behind c e f (inl p) = inl p
+  tells k u behind c e f (inr h) =
+      let w = h .2 in
+      let g = report-row (w .rep) (w .among) in
+      inr (g .0, record { written = g .1; above = omega (arith, e, g .2, w .low); at-most = omega (arith, e, f, g .2, h .1, w .high) })
+
+  answers : (p : ℕ) → DtExpr-at p r → Answered ts p r
+  answers p d =
+      let f = found p d in
+      let s = f .fact in
+      let k = tokens-before p (r .buffers .trees) in
+      let total : length ts ≡ k + suc (length (s .behind)) = omega (arith, ap length (s .starts), length-drop k ts) in
+      record {
+        bracket = s .bracket;
+        behind = s .behind;
+        starts = s .starts;
+        is-bracket = s .is-bracket;
+        children = f .children;
+        more = f .more;
+        rows-are = f .rows-are;
+        paired = tells k (drop k ts) (s .behind) (f .children) total (ap length (s .starts)) (s .paired);
       }
 
   -- ---------------------------------------------------------------- it is judged
@@ -197,6 +245,14 @@ c-table n bs tk l h =
     × ((b : Brackets (tokens-of tk)) → opening-index (tokens-of tk) b ≡ tokens-before p (r .buffers .trees) → Judged (tokens-of tk) b r p))
     (sym (a .returns))
     (λ p d. (starts (a .entry) (tokens-of tk) l c p d, λ b i. judges (a .entry) (tokens-of tk) l c b p d i))
+
+-- EVERY CELL'S LPAREN has a partner, or a report above it
+pub answered : (n : ℕ) (bs tk : List ℕ) (l : Buffers) → call n bs tk l .answer .number ≡ 0 → (p : ℕ) → DtExpr-at p (call n bs tk l) → Answered (tokens-of tk) p (call n bs tk l)
+answered n bs tk l h =
+    let a = accepted-call n bs tk l h in
+    let o = run-entry (a .entry) (tokens-of tk) in
+    let c : Clear (pushes o) = fits-clear (pushes o) _ (a .left) (a .fitted) in
+    subst (λ (r : Result). (p : ℕ) → DtExpr-at p r → Answered (tokens-of tk) p r) (sym (a .returns)) (λ p d. answers (a .entry) (tokens-of tk) l c p d)
 
 -- C'S TABLE GIVES ONE TREE
 pub one-tree : One-tree

@@ -1,0 +1,2 @@
+-- The range of a report, and repeats among what is pending.
+pub mod Pending

@@ -1,0 +1,103 @@
+-- WHAT A RUN DOES, STEP BY STEP: each program that it begins and where, each answer that it branches on, each turn of a loop and each
+-- link of a chain. So that a statement can speak of every place at which the definitions have a clause that no run is to use.
+use Prim.Native.Nat.{ℕ, zero, suc}
+use mathlib.Core.Bool.{Bool, true, false, cond}
+use mathlib.Core.List.{List, [], _∷_, _++_}
+use lib.Dec.{ltb}
+use lib.ListN.{length}
+use Rattle.definitions.specs.Layout.{MOST-OPEN-CALLS, MOST-PENDING}
+use Rattle.definitions.specs.Token.{Token}
+use Rattle.definitions.specs.Prog.{Ans, no, yes, also, again, Rule, Act, silent-at, at-end, immediate, immediate-next, add-expected, bump, bump-name, bump-argument, emit, emit-unclosed, less, Prog, ret, act, _⨟_, case, in-marker, loop, chain, brace, open-call}
+use Rattle.definitions.specs.Grammar.{grammar, Entry, whole}
+use Rattle.definitions.specs.Skeleton.{Label, no-label}
+use Rattle.definitions.specs.Run.{State, Out, taken, is-again, goes-on, by-shape, here, exec, run}
+
+-- begun: a program begins at a state. asked: the condition of a `case` gave this answer.
+-- turned: a turn of a loop, begun at the state, gave this. linked: the same of a link of a chain.
+-- spent: a loop or a chain is to go on, and no turn is left of those that it may make (one more than tokens are left when it begins).
+-- exceeded: a 65th open call or a 257th pending expectation. The run is refused here, with number 5.
+pub data Step : Type 0 where
+  begun : Prog → State → Step
+  asked : Ans → Step
+  turned : State → Out → Step
+  linked : State → Out → Step
+  spent : Step
+  exceeded : Step
+
+-- ---------------------------------------------------------------- the steps of a run
+
+-- After `Run.exec`, `Run.iter`, `Run.links` and `Run.run`. f: what a turn does. g: its steps.
+unfoldable pub iter-steps : ℕ → (State → Out) → (State → List Step) → State → List Step
+unfolding goes-on
+iter-steps zero f g s = spent ∷ []
+iter-steps (suc n) f g s = g s ++ (turned s (f s) ∷ (let more = iter-steps n f g (f s .state) in cond (goes-on s (f s)) more []))
+
+unfoldable pub links-steps : ℕ → (State → Out) → (State → List Step) → State → List Step
+unfolding goes-on by-shape
+links-steps zero f g s = spent ∷ []
+links-steps (suc n) f g s = g s ++ (linked s (f s) ∷ (let more = links-steps n f g (f s .state) in by-shape (f s .shape) [] (cond (goes-on s (f s)) more [])))
+
+unfoldable pub choose-steps : Ans → (State → List Step) → (State → List Step) → (State → List Step) → State → List Step
+choose-steps no n y a = n
+choose-steps yes n y a = y
+choose-steps also n y a = a
+choose-steps again n y a = y
+
+-- whether there is room
+unfoldable pub exceeds : Bool → List Step
+exceeds true = []
+exceeds false = exceeded ∷ []
+
+-- an action that pushes an expectation may be refused
+unfoldable pub act-steps : Act → State → List Step
+unfolding exceeds
+act-steps (silent-at ks) s = []
+act-steps at-end s = []
+act-steps (immediate k) s = []
+act-steps (immediate-next k) s = []
+act-steps (add-expected k) s = exceeds (ltb (length (s .pending)) MOST-PENDING)
+act-steps bump s = []
+act-steps (bump-name ks) s = []
+act-steps bump-argument s = []
+act-steps (emit m h) s = []
+act-steps emit-unclosed s = []
+act-steps (less m n) s = []
+
+-- ask: what a call does. inside: its steps.
+unfoldable pub steps : (Rule → State → Out) → (Rule → State → List Step) → Label → Prog → State → List Step
+unfolding exec is-again choose-steps iter-steps links-steps act-steps
+steps ask inside b (ret k a) s = begun (ret k a) s ∷ []
+steps ask inside b (act a) s = begun (act a) s ∷ act-steps a s
+steps ask inside b (p ⨟ q) s = begun (p ⨟ q) s ∷ (steps ask inside b p s ++ steps ask inside b q (exec ask b p s .state))
+steps ask inside b (case c n y a) s =
+    let o = exec ask b c s in
+    begun (case c n y a) s
+    ∷ (steps ask inside b c s ++ (asked (o .ans) ∷ choose-steps (o .ans) (steps ask inside b n) (steps ask inside b y) (steps ask inside b a) (o .state)))
+steps ask inside b (in-marker p) s = begun (in-marker p) s ∷ steps ask inside b p s
+steps ask inside b (loop p) s = begun (loop p) s ∷ iter-steps (suc (length (s .rest))) (exec ask b p) (steps ask inside b p) s
+steps ask inside b (chain p q) s =
+    let o = exec ask b p s in
+    begun (chain p q) s
+    ∷ (steps ask inside b p s ++ (let more = links-steps (suc (length (o .state .rest))) (exec ask b q) (steps ask inside b q) (o .state) in cond (is-again (o .ans)) more []))
+steps ask inside b (brace p) s = begun (brace p) s ∷ steps ask inside (here (s .rest)) p s
+steps ask inside b (open-call r) s = begun (open-call r) s ∷ inside r s
+
+unfoldable pub run-steps : ℕ → Rule → State → List Step
+unfolding run steps
+run-steps zero r s = exceeded ∷ []
+run-steps (suc n) r s = steps (run n) (run-steps n) no-label (grammar r) s
+
+-- the steps of a file's run (`Call.run-entry`)
+unfoldable pub entry-steps : Entry → List Token → List Step
+unfolding steps run run-steps whole
+entry-steps e ts = steps (run MOST-OPEN-CALLS) (run-steps MOST-OPEN-CALLS) no-label (whole e) (taken ts)
+
+-- every step that a run makes: up to refusal 5, if it meets it
+abbrev pub Each : (Step → Type 0) → List Step → Type 0
+Each P [] = Unit {0}
+Each P (begun p s ∷ l) = P (begun p s) × Each P l
+Each P (asked a ∷ l) = P (asked a) × Each P l
+Each P (turned s o ∷ l) = P (turned s o) × Each P l
+Each P (linked s o ∷ l) = P (linked s o) × Each P l
+Each P (spent ∷ l) = P spent × Each P l
+Each P (exceeded ∷ l) = Unit {0}

@@ -1,0 +1,2 @@
+-- Clauses of the definitions that no run uses.
+pub mod Turns
