@@ -1,4 +1,4 @@
-/* A library with a fault in it, to see that the fuzzer finds it. DT_FAULT says which. The real call is dt_parse_good. */
+/* A library with a fault, to see that the fuzzer finds it. DT_FAULT says which. The real call is dt_parse_good. */
 #include "../../include/dt_parser.h"
 #include <stdlib.h>
 

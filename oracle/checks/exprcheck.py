@@ -1,6 +1,6 @@
 #!/usr/bin/env python3
-"""Demand 2's claim on expressions by running: C's table by levels (no binding powers), against the Rust's tree rows for entry
-4, and: a report with a mark above the LParen's index and at most the RParen's exists exactly if C gives no tree.
+"""Demand 2's claim on expressions by running: C's table by levels (no binding powers), against the Rust's tree rows for
+entry 4, and: a report with a mark above the LParen's index and at most the RParen's exists exactly if C gives no tree.
     exprcheck.py SEED COUNT"""
 import random
 import sys

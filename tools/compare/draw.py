@@ -113,7 +113,8 @@ class Drawer:
         return out
 
     def generated(self, count, least, most):
-        """Lists of the oracle's own generator (grammar-like text, damaged text, random tokens), of a length within the limits."""
+        """Lists of the oracle's own generator (grammar-like text, damaged text, random tokens), of a length within the
+        limits."""
         out, seed = [], self.seed
         while len(out) < count:
             lines = self.oracle.run(["totoks"], self.oracle.run(["gen", str(seed), "4000"])).splitlines()
@@ -150,7 +151,8 @@ class Drawer:
         return out[:count]
 
     def full(self):
-        """At a limit and one past it: 64 and 65 open calls through one function, or 256 and 257 pending expectations."""
+        """At a limit and one past it: 64 and 65 open calls through one function, or 256 and 257 pending
+        expectations."""
         r = self.random
         if r.random() < 0.5:
             entry, head, unit = r.choice(NESTS)

@@ -1,5 +1,5 @@
-"""The expected result of a case. Causes 1 to 4 and the buffers' final contents are document 01's table, written here in a
-few lines; everything else is the answer of oracle/ (`oracle doc01 any`: the patched copy of the Rust)."""
+"""The expected result of a case. Causes 1 to 4 and the buffers' final contents are document 01's table, written here in
+a few lines; everything else is the answer of oracle/ (`oracle doc01 any`: the patched copy of the Rust)."""
 import os
 import subprocess
 

@@ -45,8 +45,8 @@ def read(text):
 
 
 def answer(name, case, early, parsed):
-    """What a program prints of the case. After the counted rows a buffer holds zeros (0), or what was lent (1) where the
-    call was refused before a parse; an empty one counts as zeros."""
+    """What a program prints of the case. After the counted rows a buffer holds zeros (0), or what was lent (1) where
+    the call was refused before a parse; an empty one counts as zeros."""
     if early:
         kept = [1 if n else 0 for n in case.lengths]
         return line(name, [*early, 0, 0, 0, 0] + kept)
