@@ -11,7 +11,7 @@ use Rattle.definitions.specs.TokenKind as K
 use Rattle.definitions.specs.NodeKind as N
 use Rattle.definitions.specs.Token.{Token, tokens-of}
 use Rattle.definitions.specs.Call.{Buffers, Result, call}
-use Rattle.laws.specs.Rows.{read}
+use Rattle.laws.specs.TreeRows.{read}
 use Rattle.precedence.specs.Precedence.{tokens-before, DtExpr-at, Brackets}
 use Rattle.brackets.specs.Brackets.{Kinds, end, leaf, node, kinds, tree-fits}
 use Rattle.brackets.specs.Partner.{No-partner, tokens-first, Told}

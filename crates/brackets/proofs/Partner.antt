@@ -12,7 +12,7 @@ use Rattle.definitions.specs.Token.{Token, seen, tokens-of}
 use Rattle.definitions.specs.NodeKind as N
 use Rattle.definitions.specs.Place.{Tree, nil, leaf, subtree, rows}
 use Rattle.definitions.specs.Call.{Result, call}
-use Rattle.laws.specs.Rows.{read}
+use Rattle.laws.specs.TreeRows.{read}
 use Rattle.laws.proofs.Tree.{leaves}
 use Rattle.laws.proofs.Decode.{_⊞_, read-preorder, shown, shown-preorder, shown-counts}
 use Rattle.precedence.specs.Precedence.{tokens-before, mark-in, Brackets, opening-index}

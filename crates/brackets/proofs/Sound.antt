@@ -23,7 +23,8 @@ use Rattle.brackets.proofs.Ahead.{Allows}
 use Rattle.brackets.proofs.Look.{Fact, never, fact, _∪_, within, any-of, then-look, of-two, going, from, returned, shapeless, goes-on-surely, head, turns, headed, look}
 use Rattle.brackets.proofs.Meaning.{Holds, in-left, in-right, weaken, in-any, in-then, in-first, in-second, Gives, Sound, enter, gives-add, open-gives, returned-gives}
 use Rattle.brackets.proofs.Actions.{act-gives}
-use Rattle.brackets.proofs.Shapes.{iter-shape, chained-shape, exec-shape}
+use Rattle.laws.proofs.Shape.{iter-shape, chained-shape}
+use Rattle.brackets.proofs.Shapes.{exec-shape}
 use Rattle.brackets.proofs.Table.{table}
 use Rattle.brackets.proofs.Scopes.{to-gives, gives-first, gives-second, then-gives, not-again, Inner, scoped-gives, begun}
 use Rattle.brackets.proofs.Loops.{moves, iter-gives, links-gives}

@@ -15,7 +15,7 @@ use Rattle.definitions.specs.Run.{State, Out, taken, add, exec, run}
 use Rattle.definitions.specs.Place.{after, root}
 use Rattle.definitions.specs.Report.{pushes}
 use Rattle.definitions.specs.Call.{Result, sheets, run-entry}
-use Rattle.laws.specs.Rows.{read}
+use Rattle.laws.specs.TreeRows.{read}
 use Rattle.basics.proofs.Tests.{and-left, and-right}
 use Rattle.laws.proofs.Scan.{fits-clear}
 use Rattle.laws.proofs.Clear.{Within-room, join-within}

@@ -12,8 +12,8 @@ use Rattle.definitions.specs.TokenKind as K
 use Rattle.definitions.specs.NodeKind as N
 use Rattle.definitions.specs.Token.{one-of}
 use Rattle.definitions.specs.Call.{Buffers, call}
-use Rattle.laws.specs.Rows.{Rows, read}
-use Rattle.laws.specs.Rows as R
+use Rattle.laws.specs.TreeRows.{Rows, read}
+use Rattle.laws.specs.TreeRows as R
 
 -- ---------------------------------------------------------------- kinds
 

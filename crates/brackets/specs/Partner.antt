@@ -8,7 +8,7 @@ use lib.ListN.{drop}
 use Rattle.definitions.specs.Layout.{TREE-ROW}
 use Rattle.definitions.specs.Token.{Token, tokens-of}
 use Rattle.definitions.specs.Call.{Buffers, Result, call}
-use Rattle.laws.specs.Rows.{Rows, end, leaf, node, read}
+use Rattle.laws.specs.TreeRows.{Rows, end, leaf, node, read}
 use Rattle.precedence.specs.Precedence.{tokens-before, mark-in, DtExpr-at, Brackets, opening-index}
 
 -- no RParen balances the LParen of the DtExpr in tree row p

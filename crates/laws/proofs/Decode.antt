@@ -6,8 +6,8 @@ use mathlib.Core.List.{List, [], _++_, append-assoc, append-nil}
 use lib.ListN.{length, length-append}
 use Rattle.definitions.specs.Token.{bytes}
 use Rattle.definitions.specs.Place.{Tree, nil, leaf, subtree, width, count, rows, tree-row}
-use Rattle.laws.specs.Rows.{Rows, end, node, preorder, number, widths, Counts, Widths, first-rows, later-rows, read-row, read}
-use Rattle.laws.specs.Rows as R
+use Rattle.laws.specs.TreeRows.{Rows, end, node, preorder, number, widths, Counts, Widths, first-rows, later-rows, read-row, read}
+use Rattle.laws.specs.TreeRows as R
 
 -- ---------------------------------------------------------------- reading
 

@@ -19,6 +19,7 @@ pub mod Marks
 pub mod Onward
 pub mod Fuel
 pub mod Parts
+pub mod Shape
 pub mod Clear
 pub mod Allowance
 pub mod Scan

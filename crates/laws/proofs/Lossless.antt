@@ -11,7 +11,7 @@ use Rattle.definitions.specs.Token.{Token, tokens-of, bytes}
 use Rattle.definitions.specs.Grammar.{Entry, root-kind}
 use Rattle.definitions.specs.Place.{Tree, lead, after, place, _⊕_, root, width, count, rows}
 use Rattle.definitions.specs.Call.{Buffers, sheets, kept, run-entry}
-use Rattle.laws.specs.Rows.{end, node, preorder, read}
+use Rattle.laws.specs.TreeRows.{end, node, preorder, read}
 use Rattle.laws.specs.Lossless.{Cover, Lossless, Nothing-lost}
 use Rattle.laws.specs.Lossless as L
 use Rattle.laws.proofs.Tree.{leaves, width-leaves}

@@ -12,7 +12,7 @@ use Rattle.definitions.specs.NodeKind as N
 use Rattle.definitions.specs.Token.{Token, is-error, seen, one-of, bytes}
 use Rattle.definitions.specs.Grammar.{SourceFile, root-kind}
 use Rattle.definitions.specs.Call.{Result}
-use Rattle.laws.specs.Rows.{Rows, end, leaf, node, Counts, Widths, preorder, read}
+use Rattle.laws.specs.TreeRows.{Rows, end, leaf, node, Counts, Widths, preorder, read}
 use Rattle.laws.specs.Lossless.{Leaf, leaves, Of-name, Kind-of, one-token, a-name, Stands-for, Cover, errors-in, Lossless}
 use Rattle.laws.specs.Limits.{Place, Limited}
 

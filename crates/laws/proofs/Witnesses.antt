@@ -9,7 +9,7 @@ use lib.ListN.{length, take, replicate}
 use Rattle.definitions.specs.Token.{tokens-of}
 use Rattle.definitions.specs.Grammar.{Entry, Cells, whole}
 use Rattle.definitions.specs.Call.{Buffers, for, entry-of, call}
-use Rattle.laws.specs.Rows.{Rows, end, leaf, node, preorder, Counts, read}
+use Rattle.laws.specs.TreeRows.{Rows, end, leaf, node, preorder, Counts, read}
 use Rattle.laws.specs.Lossless.{Leaf, leaves, errors-in, Lossless}
 use Rattle.laws.specs.Limits.{Place, Limited, entry-places}
 use Rattle.laws.proofs.Lossless.{nothing-lost}

@@ -12,7 +12,7 @@ use Rattle.definitions.specs.Token.{Token, tokens-of, is-error, seen, one-of, b
 use Rattle.definitions.specs.Check.{NAME-SET}
 use Rattle.definitions.specs.Grammar.{Entry, root-kind}
 use Rattle.definitions.specs.Call.{Buffers, Result, for, entry-of, call}
-use Rattle.laws.specs.Rows.{Rows, end, leaf, node, preorder, Counts, Widths, read}
+use Rattle.laws.specs.TreeRows.{Rows, end, leaf, node, preorder, Counts, Widths, read}
 
 -- ---------------------------------------------------------------- leaves and tokens
 

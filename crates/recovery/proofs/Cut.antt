@@ -10,8 +10,8 @@ use Rattle.definitions.specs.Token.{Token, bytes}
 use Rattle.definitions.specs.Place.{Tree, nil, leaf, subtree, _⊕_, width, count}
 use Rattle.laws.proofs.Skeleton.{bytes-append}
 use Rattle.laws.proofs.Tree.{leaves, count-beside}
-use Rattle.recovery.specs.Rows.{Row, class, kind, Parts, over-leaves, raw-tokens, raw-bytes}
-use Rattle.recovery.specs.Rows as S
+use Rattle.recovery.specs.ResultRows.{Row, class, kind, Parts, over-leaves, raw-tokens, raw-bytes}
+use Rattle.recovery.specs.ResultRows as S
 use Rattle.recovery.specs.Recovery.{is-statement, Semicolon}
 use Rattle.recovery.proofs.Written.{rows-of}
 

@@ -10,7 +10,7 @@ use Rattle.definitions.specs.Skeleton.{Report}
 use Rattle.definitions.specs.Report.{pool}
 use Rattle.definitions.specs.Call.{run-entry}
 use Rattle.laws.proofs.Skeleton.{bytes-append, pool-append}
-use Rattle.recovery.specs.Rows.{tree-rows, report-rows, expectations, mark}
+use Rattle.recovery.specs.ResultRows.{tree-rows, report-rows, expectations, mark}
 use Rattle.recovery.specs.Recovery.{File, result, Accepted, Semicolon, token-index, start-byte, those, later-error, later-report, pool-before, Moved, Each, ErrorMoved, ReportMoved, later-errors, later-reports, places, Stays-local}
 use Rattle.recovery.proofs.Told.{All, all-map, told}
 use Rattle.recovery.proofs.Inside.{Inside, entry-inside}

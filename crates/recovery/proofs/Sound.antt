@@ -13,6 +13,7 @@ use Rattle.definitions.specs.Skeleton.{Label, no-label, Skeleton, done, _⧺_}
 use Rattle.definitions.specs.Run.{State, Out, mark-of, answer, makes, add, choose, closed, marked, is-again, goes-on, iter, unlinked, by-shape, links, chained, here, exec, run}
 use Rattle.definitions.specs.Place.{after, place}
 use Rattle.basics.proofs.Tests.{and-left, and-right, cond-all, cond-with}
+use Rattle.laws.proofs.Shape.{chained-shape}
 use Rattle.laws.proofs.Trivia.{drop-twice}
 use Rattle.laws.proofs.Sound.{is-again-eq}
 use Rattle.laws.proofs.Skeleton.{join-done, join-assoc}
@@ -49,17 +50,6 @@ by-shape-is : (Z : Out → Type 0) (k : ℕ) {x y : Out} → Z x → Z y → Z (
 unfolding by-shape
 by-shape-is Z zero p q = p
 by-shape-is Z (suc k) p q = q
-
-links-shape : (n : ℕ) (f : State → Out) (m : ℕ) (a i : Skeleton) (s : State) → links n f m a i s .shape ≡ 0
-unfolding links unlinked makes
-links-shape zero f m a i s = refl
-links-shape (suc n) f m a i s =
-    let Z : Out → Type 0 = λ (o : Out). o .shape ≡ 0 in
-    by-shape-is Z (f s .shape) refl (cond-all Z (goes-on s (f s)) (links-shape n f _ _ done (f s .state)) refl)
-
-chained-shape : (f : State → Out) (s : State) (o : Out) → chained f s o .shape ≡ 0
-unfolding chained unlinked makes
-chained-shape f s o = cond-all (λ (x : Out). x .shape ≡ 0) (is-again (o .ans)) (links-shape (suc (length (o .state .rest))) f (mark-of s) done (o .made) (o .state)) refl
 
 -- ---------------------------------------------------------------- loops
 

@@ -26,7 +26,7 @@ use Rattle.laws.proofs.Swept.{entry-leaves}
 use Rattle.laws.proofs.Names.{entry-names}
 use Rattle.laws.proofs.Leaves.{Right, right-root}
 use Rattle.laws.proofs.Input.{Texts-fit, Checked, checked-input}
-use Rattle.recovery.specs.Rows.{Row, raw-tokens, raw-bytes, tree-rows}
+use Rattle.recovery.specs.ResultRows.{Row, raw-tokens, raw-bytes, tree-rows}
 use Rattle.recovery.specs.Recovery.{File, result, Accepted, is-statement, Semicolon, token-index, start-byte}
 use Rattle.recovery.proofs.Told.{All, told, told-join, Above}
 use Rattle.recovery.proofs.Meaning.{ends-in, closes, ends-beside}

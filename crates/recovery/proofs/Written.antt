@@ -17,8 +17,8 @@ use Rattle.definitions.specs.Refusal.{accepted, check-input}
 use Rattle.definitions.specs.Call.{Sheets, sheets, kept, written, run-entry, for, entry-of}
 use Rattle.laws.proofs.Accepted.{accepted-call}
 use Rattle.laws.proofs.Accepted as L
-use Rattle.recovery.specs.Rows.{Row, first-rows, tree-rows, error-rows, expectations}
-use Rattle.recovery.specs.Rows as S
+use Rattle.recovery.specs.ResultRows.{Row, first-rows, tree-rows, error-rows, expectations}
+use Rattle.recovery.specs.ResultRows as S
 use Rattle.recovery.specs.Recovery.{File, result, Accepted}
 use Rattle.recovery.proofs.Turns.{children}
 

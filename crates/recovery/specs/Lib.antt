@@ -1,3 +1,3 @@
 -- The third promise as a statement: what a call wrote, row by row, and what two source files share past a semicolon.
-pub mod Rows
+pub mod ResultRows
 pub mod Recovery
