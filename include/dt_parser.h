@@ -43,7 +43,7 @@ enum dt_entry {
     DT_ENTRY_CELLS = 4            /* the cells between < and > */
 };
 
-/* The answer's number: 0, or why the call was refused. Tried in this order; of 5 to 7 the one that a run meets first. */
+/* The answer's number: 0, or why the call was refused. Tried in this order; of 5 to 7 the first that a run meets. */
 enum dt_refusal {
     DT_ACCEPTED = 0,
     DT_REFUSAL_UNKNOWN_ENTRY = 1,  /* entry not 1 to 4; place 0 */
@@ -343,8 +343,8 @@ struct dt_answer {
  * afterwards, and the call frees nothing.
  *
  * Before the call the five lent buffers may hold anything; nobody has to clear them. Afterwards:
- *   accepted          the rows that the answer counts at the front of trees, errors, reports and pool; the rest of each,
- *                     and all of events, is zero
+ *   accepted          the rows that the answer counts at the front of trees, errors, reports and pool; the rest of
+ *                     each, and all of events, is zero
  *   refused, 1 to 4   every buffer is as it was
  *   refused, 5 to 8   every number of every buffer is zero
  * A length that is not a multiple of the row's: only whole rows are used, the numbers over count as rest.

@@ -1,5 +1,5 @@
-//! The unchanged Rust over ready tokens. Its parse starts with lexing; the ready tokens are copied there in place of it,
-//! and that copy is measured apart and taken off.
+//! The unchanged Rust over ready tokens. Its parse starts with lexing; the ready tokens are copied there in place of
+//! it, and that copy is measured apart and taken off.
 use crate::input::Input;
 use dt_tools_parser::lexer::{Token, lex};
 use dt_tools_parser::parser::Parse;

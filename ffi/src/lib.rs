@@ -7,7 +7,7 @@ pub type Lengths = [usize; 5];
 /// Numbers in a row of each buffer.
 pub const ROW: Lengths = [3, 4, 3, 9, 1];
 
-/// What crates/numbers proves to be enough for n tokens, whatever they are.
+/// What crates/bounds proves to be enough for n tokens, whatever they are.
 pub fn bound(n: usize) -> Lengths {
     let rows = [13 * n + 1, 6 * n + 1, n, 3 * n + 1, 768 * n + 256];
     std::array::from_fn(|i| ROW[i] * rows[i])

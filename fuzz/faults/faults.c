@@ -1,4 +1,4 @@
-/* A library with a fault in it, to see that the fuzzer finds it. DT_FAULT says which. The real call is dt_parse_good. */
+/* A library with a fault, to see that the fuzzer finds it. DT_FAULT says which. The real call is dt_parse_good. */
 #include "../../include/dt_parser.h"
 #include <stdlib.h>
 
@@ -19,7 +19,7 @@ static int fault(void)
 static uint32_t *last(uint32_t *reports, const struct dt_answer *a) { return reports + 9 * (a->reports - 1); }
 
 /* Faults of an accepted call's rows. */
-static void spoil_rows(struct dt_answer *a, uint32_t *trees, uint32_t *errors, uint32_t *reports, uint32_t *pool)
+static void damage_rows(struct dt_answer *a, uint32_t *trees, uint32_t *errors, uint32_t *reports, uint32_t *pool)
 {
     switch (fault()) {
     case 1: if (a->trees > 10) trees[4 * a->trees - 1]++; break;                       /* the last row's count */
@@ -34,7 +34,7 @@ static void spoil_rows(struct dt_answer *a, uint32_t *trees, uint32_t *errors, u
 }
 
 /* Faults of a refusal. */
-static void spoil_refusal(struct dt_answer *a, uint32_t *trees, size_t trees_len, uint32_t *pool, size_t pool_len)
+static void damage_refusal(struct dt_answer *a, uint32_t *trees, size_t trees_len, uint32_t *pool, size_t pool_len)
 {
     switch (fault()) {
     case 9: if (a->number == 3 && a->place > 1) a->place--; break;
@@ -59,9 +59,9 @@ struct dt_answer dt_parse(uint32_t entry, const uint8_t *bytes, size_t bytes_len
     a = dt_parse_good(entry, bytes, bytes_len, tokens, tokens_len, events, events_len, trees, trees_len, errors,
                       errors_len, reports, reports_len, pool, pool_len);
     if (a.number == 0)
-        spoil_rows(&a, trees, errors, reports, pool);
+        damage_rows(&a, trees, errors, reports, pool);
     else
-        spoil_refusal(&a, trees, trees_len, pool, pool_len);
+        damage_refusal(&a, trees, trees_len, pool, pool_len);
     if (fault() == 17 && a.number == 0 && events_len)
         events[events_len - 1] = 1; /* events not cleared */
     if (fault() == 18 && a.number == 0 && a.reports > 2)

@@ -1,4 +1,5 @@
-//! For valgrind: each buffer is allocated for itself, exactly as long as it says, and was never written before the call.
+//! For valgrind: each buffer is allocated for itself, exactly as long as it says, and was never written before the
+//! call.
 use crate::call::Call;
 use crate::judge::{Input, Judge};
 use crate::make::Maker;

@@ -1,6 +1,6 @@
 #!/usr/bin/env python3
-"""Deep and repetitive cases, about 460,000 lines on standard output, to find where the Rust's step limit panics and document
-01 accepts, and where the patched copy differs:    checks/deep.py | target/release/oracle cmp"""
+"""Deep and repetitive cases, about 460,000 lines on standard output, to find where the Rust's step limit panics and
+document 01 accepts, and where the patched copy differs:    checks/deep.py | target/release/oracle cmp"""
 import itertools
 
 UNITS = [

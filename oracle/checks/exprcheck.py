@@ -1,6 +1,6 @@
 #!/usr/bin/env python3
-"""Demand 2's claim on expressions by running: C's table by levels (no binding powers), against the Rust's tree rows for entry
-4, and: a report with a mark above the LParen's index and at most the RParen's exists exactly if C gives no tree.
+"""Demand 2's claim on expressions by running: C's table by levels (no binding powers), against the Rust's tree rows for
+entry 4, and: a report with a mark above the LParen's index and at most the RParen's exists exactly if C gives no tree.
     exprcheck.py SEED COUNT"""
 import random
 import sys
@@ -94,7 +94,7 @@ class C:
         if self.peek() == ")":
             return children + self.take()
         while True:
-            # an argument's node starts at its first token that is no blank
+            # an argument's node starts at its first token that is not a blank
             children += self.blanks()
             children.append((ARGUMENT, self.argument()))
             if self.peek() == ")":

@@ -1,6 +1,6 @@
 #!/usr/bin/env python3
-"""Demand 3 by running: two source files with the same tail after a top-level ending semicolon. Later parts, lexical errors
-and reports are those of document 01 (`oracle doc01`), and must move alike.    tailcheck.py SEED COUNT"""
+"""Demand 3 by running: two source files with the same tail after a top-level ending semicolon. Later parts, lexical
+errors and reports are those of document 01 (`oracle doc01`), and must move alike.    tailcheck.py SEED COUNT"""
 import random
 import sys
 

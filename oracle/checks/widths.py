@@ -1,6 +1,6 @@
 #!/usr/bin/env python3
-"""The Rust's trees on random cases: lossless, widths and counts right, lexical errors in order. Says how often a ParseError
-stands in a tree without any report.    widths.py SEED COUNT"""
+"""The Rust's trees on random cases: lossless, widths and counts right, lexical errors in order. Says how often a
+ParseError stands in a tree without any report.    widths.py SEED COUNT"""
 import sys
 
 sys.dont_write_bytecode = True

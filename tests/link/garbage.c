@@ -1,5 +1,5 @@
-/* Calls with random numbers in place of entry, bytes, token rows and buffer lengths, and calls at the limits of size. Causes 1 to 3
-   are worked out here anew; of every call it is checked what the buffers hold afterwards. */
+/* Calls with random numbers in place of entry, bytes, token rows and buffer lengths, and calls at the limits of size.
+   Causes 1 to 3 are worked out here again; of every call it is checked what the buffers hold afterwards. */
 #include "lent.h"
 
 #define MOST_BYTES 1048576
@@ -93,7 +93,8 @@ static uint32_t random_kind(uint8_t *byte)
     return KINDS[i];
 }
 
-/* Rows that could be right, but for a random number in one call of three, in the rows, the entry or the count of bytes. */
+/* Rows that could be right, except for a random number in one call of three, in the rows, the entry or the count of
+   bytes. */
 static void random_call(size_t *met)
 {
     uint8_t bytes[64];

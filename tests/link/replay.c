@@ -1,5 +1,5 @@
-/* Runs the cases of a list, in the form that crates/replay says, and prints what the gate's program prints. Each accepted call is made
-   again with buffers that just hold its answer, and with one number fewer of each. */
+/* Runs the cases of a list, in the form that crates/replay says, and prints what the gate's program prints. Each
+   accepted call is made again with buffers that just hold its answer, and with one number fewer of each. */
 #include "lent.h"
 #include <string.h>
 

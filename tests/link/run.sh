@@ -1,8 +1,8 @@
 #!/bin/sh
-# Links the static library from C and from Rust, and runs every case of the gate's two lists through both: whole answers, in
-# buffers full of garbage; from C also with guards beside each buffer, each accepted call again in buffers that just fit and
-# with one number fewer, random numbers in place of the input, and the limits of size. Not part of the gate. Needs gcc, cargo,
-# and `rt` where DT_PARSER_LIB does not name a library.
+# Links the static library from C and from Rust, and runs every case of the gate's two lists through both: whole
+# answers, in buffers full of garbage; from C also with guards beside each buffer, each accepted call again in buffers
+# that just fit and with one number fewer, random numbers in place of the input, and the limits of size. Not part of the
+# gate. Needs gcc, cargo, and `rt` where DT_PARSER_LIB does not name a library.
 #   tests/link/run.sh                          over `rt staticlib dt_parser`
 #   DT_PARSER_LIB=FILE tests/link/run.sh       over another archive
 #   tests/link/run.sh --memcheck               the lists under valgrind
@@ -21,8 +21,8 @@ for program in replay garbage; do
 done
 (cd "$here" && cargo build --release --offline --quiet)
 
-# What the gate's program prints of a list. The lines of readings_run on 65,536 blanks belong to no list: garbage.c makes
-# those calls.
+# What the gate's program prints of a list. The lines of readings_run on 65,536 blanks belong to no list: garbage.c
+# makes those calls.
 for list in replay_run readings_run; do
     sed '/^65536-blanks /,$d' "$root/crates/$list/stdout" >"$work/expected"
     for program in "$work/replay" "$here/target/release/replay"; do

@@ -7,7 +7,8 @@ ROW = (3, 4, 3, 9, 1)
 
 
 class Row(NamedTuple):
-    """A token row, and the bytes that the case puts under it (of another length than the row says, where the row is bad)."""
+    """A token row, and the bytes that the case puts under it (of another length than the row says, where the row is
+    bad)."""
 
     kind: int
     length: int

@@ -1,6 +1,6 @@
-"""Has the checker compute the definitions. Each case becomes one line of a spec file, `call .. ≡ result`, whose proof is
-`refl`: the checker accepts it exactly if computing `call` gives the result. The files stand in a temporary repository with
-a copy of crates/definitions (its specs; proofs about them are not needed)."""
+"""Has the checker compute the definitions. Each case becomes one line of a spec file, `call .. ≡ result`, whose proof
+is `refl`: the checker accepts it exactly if computing `call` gives the result. The files stand in a temporary
+repository with a copy of crates/definitions (its specs; proofs about them are not needed)."""
 import os
 import re
 import shutil

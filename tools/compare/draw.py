@@ -62,7 +62,7 @@ class Drawer:
         kinds = [x for k in kinds for x in ([0, k] if r.random() < blanks else [k])]
         return Case(entry, self.tokens(kinds))
 
-    def soup(self, length):
+    def random_tokens(self, length):
         """Kinds from a small alphabet, or from all, lexical errors among them."""
         every = self.kinds + list(range(64, 75))
         if self.random.random() < 0.7:
@@ -113,7 +113,8 @@ class Drawer:
         return out
 
     def generated(self, count, least, most):
-        """Lists of the oracle's own generator (grammar-like text, damaged text, soup), of a length within the limits."""
+        """Lists of the oracle's own generator (grammar-like text, damaged text, random tokens), of a length within the
+        limits."""
         out, seed = [], self.seed
         while len(out) < count:
             lines = self.oracle.run(["totoks"], self.oracle.run(["gen", str(seed), "4000"])).splitlines()
@@ -150,7 +151,8 @@ class Drawer:
         return out[:count]
 
     def full(self):
-        """At a limit and one past it: 64 and 65 open calls through one function, or 256 and 257 pending expectations."""
+        """At a limit and one past it: 64 and 65 open calls through one function, or 256 and 257 pending
+        expectations."""
         r = self.random
         if r.random() < 0.5:
             entry, head, unit = r.choice(NESTS)
@@ -165,13 +167,13 @@ class Drawer:
 
     # ------------------------------------------------------------ bad input: causes 1 to 4
 
-    def spoil(self, case):
+    def damage(self, case):
         """One thing wrong, now and then two."""
         for _ in range(self.random.choice((1, 1, 1, 2))):
-            case = self.spoil_once(case)
+            case = self.damage_once(case)
         return case
 
-    def spoil_once(self, case):
+    def damage_once(self, case):
         r, rows = self.random, list(case.rows)
         i = r.randrange(len(rows)) if rows else 0
         what = r.randrange(8 if rows else 3)
@@ -239,17 +241,17 @@ class Drawer:
         lists += self.expressions(part(16)) + [self.statements() for _ in range(part(24))]
         lists += [Case(r.choice(ENTRIES), self.pieces(r.randint(1, 14))) for _ in range(part(12))]
         bad = [Case(r.choice(ENTRIES), self.pieces(r.randint(0, 6))) for _ in range(part(12))]
-        bad = [self.spoil(c)._replace(lengths=tuple(r.randint(0, 9) for _ in range(5))) for c in bad]
+        bad = [self.damage(c)._replace(lengths=tuple(r.randint(0, 9) for _ in range(5))) for c in bad]
         largest = self.largest()
         rest = count - len(lists) - len(bad) - len(largest)
-        lists += [Case(r.choice(ENTRIES), self.soup(r.randint(0, 10))) for _ in range(rest)]
-        cases = self.lend(lists) + [self.lend_spoilt(c) for c in bad]
+        lists += [Case(r.choice(ENTRIES), self.random_tokens(r.randint(0, 10))) for _ in range(rest)]
+        cases = self.lend(lists) + [self.lend_damaged(c) for c in bad]
         r.shuffle(cases)
         full = self.lend([case for _ in range(part(1) // 2) for case in self.full()])
         return largest + cases[: len(cases) - len(full)] + full
 
-    def lend_spoilt(self, case):
-        """Two wrongs can make a right; such a case is lent what it needs."""
+    def lend_damaged(self, case):
+        """Two faults can cancel each other; such a case is lent what it needs."""
         return case if self.oracle.refused_early(case) else self.lend([case])[0]
 
     def largest(self):

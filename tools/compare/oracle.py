@@ -1,12 +1,12 @@
-"""The expected result of a case. Causes 1 to 4 and the buffers' final contents are document 01's table, written here in a
-few lines; everything else is the answer of oracle/ (`oracle doc01 any`: the patched copy of the Rust)."""
+"""The expected result of a case. Causes 1 to 4 and the buffers' final contents are document 01's table, written here in
+a few lines; everything else is the answer of oracle/ (`oracle doc01 any`: the patched copy of the Rust)."""
 import os
 import subprocess
 
 from compare.case import Result, case_line
 
 MOST_BYTES, MOST_NUMBERS = 1048576, 131072
-# room enough for all; the same but for the tree, so that the answer is short
+# room enough for all; the same except for the tree, so that the answer is short
 ROOM, NO_TREE = "-----", "-0---"
 
 

@@ -1,4 +1,5 @@
-"""Makes a case on which the two answers differ small: fewer rows, shorter texts, and buffers with room if that will do."""
+"""Makes a case on which the two answers differ small: fewer rows, shorter texts, and buffers with room if that will
+do."""
 
 
 def without_rows(case):

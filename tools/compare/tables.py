@@ -100,12 +100,14 @@ TAILS = [
     "String", "RParen", "Comma", "AtSign", "Colon", "LAngle Number RAngle", "BitsDirective", "QuestionMark", "V1Directive",
 ]  # fmt: skip
 
-# Exactly at the limits. Entry, head and unit of what nests through one function: item, propvalues, eat_cell, expr_binding_power.
+# Exactly at the limits. Entry, head and unit of what nests through one function: item, propvalues, eat_cell,
+# expr_binding_power.
 NESTS = [
     (1, "", "Ident LCurly"), (1, "", "IfDirective"), (3, "", "IfDirective"), (4, "", "IfDirective"), (4, "", "LParen"),
     (4, "LParen", "Minus"),
 ]  # fmt: skip
-# Cells after 50 conditionals: with these tails 256 expectations are pending and the list is accepted; a bracket makes them 257.
+# Cells after 50 conditionals: with these tails 256 expectations are pending and the list is accepted; a bracket makes
+# them 257.
 FULL_HEADS = [(4, ""), (4, "Number"), (3, "LAngle")]
 FULL_TAILS = [first + last for first in ("Ident ", "DtIncludeDirective ") for last in ("Semicolon", "LCurly", "RCurly")]
 OVER_TAIL = "LParen Number Semicolon"

@@ -1,5 +1,5 @@
-"""By what ends where the Rust panics: how many conditionals in cells, in values and around items, nodes and brackets end there,
-and whether it is at the end of input or at a token. Two roots are known; anything else is printed."""
+"""By what ends where the Rust panics: how many conditionals in cells, in values and around items, nodes and brackets
+end there, and whether it is at the end of input or at a token. Two roots are known; anything else is printed."""
 import re
 from collections import Counter
 

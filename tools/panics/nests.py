@@ -1,4 +1,5 @@
-"""Random nestings near the limits: conditionals around items, nodes, conditionals in values, in cells, brackets, and an end."""
+"""Random nestings near the limits: conditionals around items, nodes, conditionals in values, in cells, brackets, and an
+end."""
 import random
 
 from panics.runs import over

@@ -1,5 +1,5 @@
-"""The lines of docs/DIFFERENCES.md, section 1, for FRONT (`#if` and a line feed)×k BACK: entry, front, back, the first k at which the
-Rust panics, and the last k that document 01 accepts."""
+"""The lines of docs/DIFFERENCES.md, section 1, for FRONT (`#if` and a line feed)×k BACK: entry, front, back, the first
+k at which the Rust panics, and the last k that document 01 accepts."""
 
 IF = "#if\\n"
 

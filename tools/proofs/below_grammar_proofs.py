@@ -1,7 +1,8 @@
-# Writes the proofs of a crate below `grammar`: ends, directives, prefixes or plain_cells. Run in the repository, NAME being the crate:
+# Writes the proofs of a crate below `grammar`: ends, directives, prefixes or plain_cells. Run in the repository, NAME
+# being the crate:
 #   rt dev NAME --generated target/generated/NAME; python3 tools/proofs/below_grammar_proofs.py NAME target/generated/NAME; rt fmt
-# The first command writes what the check generates for each function; it may fail, and writes all the same. Where a function has no proof
-# file yet, give it one with a hole first, or the check searches for each need.
+# The first command writes what the check generates for each function; it may fail, and writes all the same. Where a
+# function has no proof file yet, give it one with a hole first, or the check searches for each need.
 import os
 import re
 import sys
@@ -10,7 +11,8 @@ sys.path.insert(0, os.path.dirname(__file__))
 from code_proofs import Crate, parse, way_to
 from program_ways import AGAIN, NO, SAME_NO, SAME_YES, YES, Walk, both, by, call, close, flag, ignore, mark, name_places, negated, node_kinds, seq, starting, when
 
-# What a call ensures of what is left. le: no more. all: the same, for every list. yes: no more, and something of the answer yes.
+# What a call ensures of what is left. le: no more. all: the same, for every list. yes: no more, and something of the
+# answer yes.
 CALLS = {
     **dict.fromkeys("bump bump-all error emit expect-recoverable consume macro-invocation directive-end eat-deleted memreserve-arguments delete-arguments at-cells-end at-values-end after-propvalue label-or-name eat-unit-address-and-at-colon labels-and-name unfinished".split(), "le"),
     **dict.fromkeys("start complete ignore add-expected".split(), "all"),
@@ -102,7 +104,8 @@ use Rattle.steps.proofs.Ways.{closes-to, c-unclosed}"""
 
 
 class NodeEnd(Crate):
-    """`node_end` is written as the functions of the cycle are: its places have the names of the calls, and its use lines are given."""
+    """`node_end` is written as the functions of the cycle are: its places have the names of the calls, and its use
+    lines are given."""
 
     def resolve(self, text, way, start):
         return name_places(text, way, start)

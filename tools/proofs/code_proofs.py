@@ -1,5 +1,6 @@
-# Writes a function's proof file from what the check generates for it and from short answers. How to run it: see names_proofs.py.
-# An answer is antt with @NAME for the record of that name on the way to the need (a call, a test, a loop), and @@ for the entry.
+# Writes a function's proof file from what the check generates for it and from short answers. How to run it: see
+# names_proofs.py. An answer is antt with @NAME for the record of that name on the way to the need (a call, a test, a
+# loop), and @@ for the entry.
 import os
 import re
 

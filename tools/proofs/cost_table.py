@@ -4,11 +4,12 @@
     python3 tools/proofs/cost_table.py events      (or: reports, nodes)
     python3 tools/proofs/cost_table.py 1 2 1 13 100     (any other price: leaf, marker, report, credit, base)
 
-The grammar stands here once more, without its kinds, in the order of crates/definitions/specs/Grammar.antt; the analysis is that
-of Row.antt and Cost.antt beside the tables. Nothing is believed of this program: the proof computes every bill anew and refuses a
-table that does not hold. After a change of the grammar: make the change here, run this for each of the three, and write the rows
-that it prints into Tables.antt. Where it says `pays: False`, some loop's turn costs more than a token brings: raise the credit, here
-and in `price` of Tables.antt, and with it the bounds in specs/Numbers.antt."""
+The grammar is written here a second time, without its kinds, in the order of crates/definitions/specs/Grammar.antt; the
+analysis is that of Row.antt and Cost.antt beside the tables. Nothing is believed of this program: the proof computes
+every bill again and refuses a table that does not hold. After a change of the grammar: make the change here, run this
+for each of the three, and write the rows that it prints into Tables.antt. Where it says `pays: False`, some loop's turn
+costs more than a token brings: raise the credit, here and in `price` of Tables.antt, and with it the bounds in
+specs/Numbers.antt."""
 import sys
 
 # what a token or a name costs, a marker, a report; what a token that the cursor passes brings; what stands for cost 0

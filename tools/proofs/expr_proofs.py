@@ -1,6 +1,6 @@
 #!/usr/bin/env python3
-"""Writes the proof of crate expr's cycle of calls, the files below crates/expr/proofs/+expr_binding_power+..+ternary_rhs/, and that of
-`dt_expr`.
+"""Writes the proof of crate expr's cycle of calls, the files below
+crates/expr/proofs/+expr_binding_power+..+ternary_rhs/, and that of `dt_expr`.
 
     rt dev expr --generated target/generated/expr; python3 tools/proofs/expr_proofs.py target/generated/expr
 

@@ -134,7 +134,7 @@ def plain(thing):
 class CycleWalk(Walk):
     """One way of a function in the cycle. allowed: how many calls may still be opened."""
 
-    # the parser keeps the codes: they are no buffer that a contract is told
+    # the parser keeps the codes: they are not a buffer of the contract
     marker = " _ _"
     acts = {"at-end": 3, "silent-at": 3, "silent-at-set": 3, "bump": 2}
     walks = {"at": 3, "silent-eat": 2, "eat": 2, "expect": 0, "expect-recoverable": 0, "error": 0}

@@ -9,7 +9,8 @@ import sys
 sys.path.insert(0, os.path.dirname(__file__))
 from code_proofs import Crate
 
-# What a call ensures of what is left. le: no more. all: the same, for every list. yes: no more, and something of the answer yes.
+# What a call ensures of what is left. le: no more. all: the same, for every list. yes: no more, and something of the
+# answer yes.
 CALLS = {
     **dict.fromkeys("bump bump-name error peek consume macro-invocation arguments argument-list path-segment path-segments path-rest path reference-noamp".split(), "le"),
     **dict.fromkeys("start complete ignore add-expected push-expected".split(), "all"),
@@ -223,7 +224,7 @@ def no_not(test, asked, else_):
 
 
 def conj(steps):
-    """`not! a and not! b and ..`: each test answered no, but for the last where it was taken."""
+    """`not! a and not! b and ..`: each test answered no, except the last where it was taken."""
     (test, asked, way), rest = steps[0], steps[1:]
     this = f"(if-{'yes' if way == 'taken' else 'no'} {asked} {answered(test, way)} c-ret)"
     if way == "taken":

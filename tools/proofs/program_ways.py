@@ -1,7 +1,7 @@
-# The way through a program along the calls and tests that lead to a need, as a term of the steps of machine/proofs/Way.antt,
-# steps/proofs/Ways.antt and steps/proofs/Steps.antt. A program is a tree: its leaves are the calls in the code's order, a test takes the
-# outcome that follows it, and a marker takes the calls of Marker::new, start and complete. A term names a call or a test by @NAME, and the
-# entry by @@ (see code_proofs.py).
+# The way through a program along the calls and tests that lead to a need, as a term of the steps of
+# machine/proofs/Way.antt, steps/proofs/Ways.antt and steps/proofs/Steps.antt. A program is a tree: its leaves are the
+# calls in the code's order, a test takes the outcome that follows it, and a marker takes the calls of Marker::new,
+# start and complete. A term names a call or a test by @NAME, and the entry by @@ (see code_proofs.py).
 import os
 import re
 
@@ -81,7 +81,8 @@ WALKS = {"at": 3, "silent-eat": 3, "eat": 2, "expect": 0, "expect-recoverable": 
 class Walk:
     """One way. tells: the crate's own functions, as WALKS; closing: those that close the marker they are handed."""
 
-    # The interpreter and the label that a contract is told, and the buffers that those of start, complete and ignore are told.
+    # The interpreter and the label that a contract is told, and the buffers that those of start, complete and ignore
+    # are told.
     ask, span, marker = "ask", "b", " _ _ _"
     acts, walks = ACTS, WALKS
 
@@ -200,7 +201,8 @@ class Walk:
 
 
 def name_places(text, way, start):
-    """An answer with paths for names: a `let` for each place that is cited, named after its call or test and told from the one before it."""
+    """An answer with paths for names: a `let` for each place that is cited, named after its call or test and told from
+    the one before it."""
     lets, last, told = [], "c", "c"
     for thing, path, _ in reversed(way):
         cited = re.compile("@" + re.escape(thing) + r"(?![\w-])")

@@ -30,8 +30,8 @@ def ask(oracle, named):
 
 
 def against_the_rust(root, oracle, answers):
-    """Holds every accepted answer against the unchanged Rust's. Gives how many were compared and the names of those on which the
-    Rust panics at its step limit."""
+    """Compares every accepted answer with the unchanged Rust's. Gives how many were compared and the names of those on
+    which the Rust panics at its step limit."""
     words = Words(root, oracle.kinds)
     accepted = [a for a in answers if a.number == 0]
     given = "".join(case_line(a.case, ROOM) + "\n" for a in accepted)

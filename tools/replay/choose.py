@@ -54,7 +54,7 @@ class Chooser:
                 yield sized(case, [max(n - less, 0) if k == b else n for k, n in enumerate(case.lengths)])
 
     def boards(self):
-        """Whole source files, and each cut off behind its middle."""
+        """Whole source files, and each cut off after its middle."""
         folder = os.path.join(self.folder, "boards")
         texts = []
         for name in sorted(os.listdir(folder)):
@@ -64,8 +64,8 @@ class Chooser:
         return self.lines(["1 text " + escaped(t) for t in texts])
 
     def drawn(self, count):
-        """Random calls as for the definitions, lent what suffices, just suffices or is too short; without the two largest, and
-        with numbers that a u32 holds."""
+        """Random calls as for the definitions, lent what suffices, just suffices or is too short; without the two
+        largest, and with numbers that a u32 holds."""
         cases = self.drawer.cases(count + 2)[2:]
         return [fits(c) for c in cases if len(c.rows) <= LONGEST or self.oracle.refused_early(c)]
 

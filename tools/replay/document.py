@@ -1,6 +1,6 @@
-"""Document 01's readings as cases, each with what the document says of its answer: its claims, which the oracle's answer must meet, so
-that neither stands alone. A reading is a name, the entry, its input as in the oracle's case lines, the lent lengths (ROOM: what is
-needed and some more), and its claims."""
+"""Document 01's readings as cases, each with what the document says of its answer: its claims, which the oracle's
+answer must meet, so that neither stands alone. A reading is a name, the entry, its input as in the oracle's case lines,
+the lent lengths (ROOM: what is needed and some more), and its claims."""
 
 IF = 4
 ROOM = None
@@ -11,9 +11,9 @@ def rows(kinds, text):
 
 
 def accepted(reports=None, pool=None, nodes=(), branches=None, pending=None, calls=None):
-    """Claims of an accepted call: each report's message and range; all expectations; kind and width of nodes that are there; how
-    many nodes are branches of a conditional; how many expectations were pending, and how many calls open, at most. None: nothing is
-    claimed."""
+    """Claims of an accepted call: each report's message and range; all expectations; kind and width of nodes that are
+    there; how many nodes are branches of a conditional; how many expectations were pending, and how many calls open, at
+    most. None: nothing is claimed."""
     return dict(number=0, place=0, reports=reports, pool=pool, nodes=nodes, branches=branches, pending=pending, calls=calls)
 
 
@@ -21,8 +21,8 @@ def refused(number, place):
     return dict(number=number, place=place)
 
 
-# "a 65th open call .. or a 257th pending expectation", each from both sides; the place is the mark: so many tokens are taken.
-# The first four are the document's own.
+# "a 65th open call .. or a 257th pending expectation", each from both sides; the place is the mark: so many tokens are
+# taken. The first four are the document's own.
 LIMITS = [
     # a cell, and an expression for each bracket: 64 calls
     ("63-brackets", 4, "text " + "(" * 63 + "1" + ")" * 63, ROOM, accepted(reports=[], calls=64)),
@@ -53,7 +53,8 @@ SHARED_TAIL = [
     ("b,c;}", 1, "text b,c;}", ROOM, accepted(reports=[(2, 4, 5)], nodes=[(10, 1)])),
 ]
 
-# A ParseError without a report; pending expectations that outlive a statement; `#else` after a comma; the semicolon of `a=;`.
+# A ParseError without a report; pending expectations that outlive a statement; `#else` after a comma; the semicolon of
+# `a=;`.
 BELIEFS = [
     ("error-without-report", 1, 'text a="s" }', ROOM, accepted(reports=[(2, 5, 6)], nodes=[(10, 5), (10, 1)])),
     ("pending-goes-on", 1, "text /dts-v1/ }", ROOM, accepted(reports=[(1, 8, 9), (2, 8, 9)])),
@@ -65,7 +66,8 @@ BELIEFS = [
 SENTENCES = [
     # "So `a @1 {};` is a node without a report"
     ("a-@1-{};", 1, "text a @1 {};", ROOM, accepted(reports=[], nodes=[(15, 8)])),
-    # ranges: the end of input, no tokens at all, one byte for [Semicolon], [Comma] and [Comma, Semicolon], else the current token
+    # ranges: the end of input, no tokens at all, one byte for [Semicolon], [Comma] and [Comma, Semicolon], else the
+    # current token
     ("range-at-the-end", 1, "text /dts-v1/  ", ROOM, accepted(reports=[(1, 9, 10)], pool=[29])),
     ("range-of-nothing", 2, "text ", ROOM, accepted(reports=[(1, 0, 0)])),
     ("range-semicolon", 1, "text /dts-v1/ /plugin/;", ROOM, accepted(reports=[(1, 8, 9)], pool=[29])),

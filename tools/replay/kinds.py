@@ -1,5 +1,5 @@
-"""Every kind of token in many places of the grammar, so that each set of kinds that the grammar asks for is met by each of its kinds
-and by each that is not in it."""
+"""Every kind of token in many places of the grammar, so that each set of kinds that the grammar asks for is met by each
+of its kinds and by each that is not in it."""
 from compare.case import rows_of
 from replay.record import of_line
 

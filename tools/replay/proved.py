@@ -1,4 +1,5 @@
-"""The twelve readings that are proved, read out of crates/definitions/proofs/Readings.antt: inputs, lent lengths, whole answers."""
+"""The twelve readings that are proved, read out of crates/definitions/proofs/Readings.antt: inputs, lent lengths, whole
+answers."""
 import os
 import re
 

@@ -24,7 +24,7 @@ def case_of(head, numbers, data):
 
 
 def of_line(line):
-    """A toks line of the oracle as a case that is lent nothing; bytes behind the rows' stay."""
+    """A toks line of the oracle as a case that is lent nothing; bytes after the rows' stay."""
     entry, _, rows, *text = line.split(" ", 3)
     data = (text[0] if text else "").encode().decode("unicode_escape").encode("latin-1")
     numbers = [int(n) for row in rows.split(",") if row for n in (row + ":1").split(":")[:2]]
@@ -45,8 +45,8 @@ def read(text):
 
 
 def answer(name, case, early, parsed):
-    """What a program prints of the case. Behind the counted rows a buffer holds zeros (0), or what was lent (1) where the
-    call was refused before a parse; an empty one counts as zeros."""
+    """What a program prints of the case. After the counted rows a buffer holds zeros (0), or what was lent (1) where
+    the call was refused before a parse; an empty one counts as zeros."""
     if early:
         kept = [1 if n else 0 for n in case.lengths]
         return line(name, [*early, 0, 0, 0, 0] + kept)

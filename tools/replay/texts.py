@@ -1,5 +1,5 @@
-"""Each answer of document 01 held against the unchanged Rust's: tree, lexical errors, and every report turned into the Rust's own
-message text and labels. The words are read out of docs/src, so that a word changed there shows here."""
+"""Each answer of document 01 compared with the unchanged Rust's: tree, lexical errors, and every report turned into the
+Rust's own message text and labels. The words are read out of docs/src, so that a word changed there shows here."""
 import os
 import re
 

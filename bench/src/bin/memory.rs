@@ -39,7 +39,7 @@ fn run() {
     for name in std::env::args().skip(1) {
         let input: Input = name.parse().expect("an input");
         rust::ready(&input);
-        drop(rust::copy(&input)); // builds the lexer's tables, which are no part of a parse
+        drop(rust::copy(&input)); // builds the lexer's tables, which are not part of a parse
         let before = NOW.load(Relaxed);
         MOST.store(before, Relaxed);
         let answer = rust::parse(&input);

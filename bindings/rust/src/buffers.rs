@@ -35,7 +35,8 @@ pub(crate) struct Room {
 }
 
 impl Room {
-    /// What suffices for nearly every file: sources without mistakes have about 1.4 events and 1.3 tree rows to a token.
+    /// What suffices for nearly every file: sources without mistakes have about 1.4 events and 1.3 tree rows to a
+    /// token.
     pub fn first(input: &Input<'_>) -> Self {
         let n = input.tokens.len().min(Input::MAX_TOKENS);
         let guess = Self { events: 2 * n + 16, trees: 2 * n + 8, errors: n, reports: n / 8 + 8, pool: n / 2 + 64 };

@@ -10,8 +10,8 @@ pub enum Refusal {
     UnknownEntry,
     /// 2: over 1,048,576 bytes or over 65,536 tokens.
     TooLong,
-    /// 3: this token's kind is no input, its length is 0 or its end is past the text; or, with the number of tokens, the
-    /// tokens end before the text does.
+    /// 3: this token's kind may not be input, its length is 0 or its end is past the text; or, with the number of
+    /// tokens, the tokens end before the text does.
     BadRow(usize),
     /// 4: this token's bytes are not the one text of its kind.
     BadText(usize),
@@ -95,7 +95,7 @@ impl fmt::Display for Refusal {
             Self::TooLong => f.write_str("the input is over 1,048,576 bytes or over 65,536 tokens"),
             Self::BadRow(row) => write!(
                 f,
-                "token {row}, counted from 0, has a kind that is no input, no length or an end past the text, or is missing"
+                "token {row}, counted from 0, has a kind that may not be input, no length or an end past the text, or is missing"
             ),
             Self::BadText(row) => write!(f, "token {row}, counted from 0, has other bytes than its kind always has"),
             Self::TooDeep(mark) => {
@@ -134,7 +134,7 @@ pub enum Error {
 }
 
 impl Error {
-    /// The refusal behind it, if there is one.
+    /// The refusal that caused it, if there is one.
     #[must_use]
     pub const fn refusal(self) -> Option<Refusal> {
         match self {

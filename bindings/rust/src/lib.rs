@@ -49,9 +49,9 @@
 //!
 //! # What is proved and what is not
 //!
-//! The call that this crate makes is proved to answer every input as the definitions say (docs/READING.md). Not proved is
-//! what is written here in Rust: it passes slices, gives names to numbers and checks that the rows are one tree. The one
-//! `unsafe` block is in src/sys.rs.
+//! The call that this crate makes is proved to answer every input as the definitions say (docs/READING.md). Not proved
+//! is what is written here in Rust: it passes slices, gives names to numbers and checks that the rows are one tree. The
+//! one `unsafe` block is in src/sys.rs.
 
 #![deny(unsafe_op_in_unsafe_fn)]
 #![deny(unsafe_code)]

@@ -42,8 +42,8 @@ impl fmt::Display for Position {
     }
 }
 
-/// Where the lines of a text start, to go from byte offsets to lines and columns and back. It borrows nothing: it can be
-/// kept with an [owned tree](crate::Tree::into_owned).
+/// Where the lines of a text start, to go from byte offsets to lines and columns and back. It borrows nothing: it can
+/// be kept with an [owned tree](crate::Tree::into_owned).
 ///
 /// ```
 /// use dt_parser::{Columns, LineIndex, Position};

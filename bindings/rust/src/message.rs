@@ -40,7 +40,7 @@ impl Message {
 }
 
 numbered! {
-    /// What a report adds to its message, 1 to 6 in rows; 0 is no hint.
+    /// What a report adds to its message, 1 to 6 in rows; 0 means none.
     Hint {
         /// What follows is read as a property without a name.
         UnnamedProperty = 1,

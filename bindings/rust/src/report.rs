@@ -14,7 +14,7 @@ pub struct Report {
     pub range: TextRange,
     /// The index just past the last token that had been taken.
     pub mark: usize,
-    /// What would have been taken, in order, with repeats. Empty but for [`Message::Expected`].
+    /// What would have been taken, in order, with repeats. Empty except for [`Message::Expected`].
     pub expected: Vec<Expected>,
     /// What stood there instead; none at the end of the input.
     pub found: Option<TokenKind>,

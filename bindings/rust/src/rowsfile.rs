@@ -30,7 +30,7 @@ pub struct RowsFile<'i> {
     pub first_row_line: usize,
 }
 
-/// Why a file is no file of token rows.
+/// Why a file is not a file of token rows.
 #[derive(Debug, Clone, PartialEq, Eq)]
 pub struct BadFile {
     /// The line, counted from 1.

@@ -39,11 +39,12 @@ unsafe extern "C" {
 #[allow(unsafe_code)]
 pub(crate) fn call(entry: u32, bytes: &[u8], tokens: &[u32], lent: &mut Buffers) -> Answer {
     let Buffers { events, trees, errors, reports, pool } = lent;
-    // SAFETY: each pointer and length is that of a live slice of the element type that the call names. The two slices that
-    // it reads are borrowed for the time of the call and hold initialized elements. The five that it writes are five
-    // vectors, borrowed mutably, so that none overlaps another or what is read, and hold initialized elements too. The
-    // call's contract has no premise on any number in them, and it is proved to touch nothing outside of them and to end.
-    // Its language has no globals, in which a pointer could be kept, and does not unwind. `Answer` is laid out as there.
+    // SAFETY: each pointer and length is that of a live slice of the element type that the call names. The two slices
+    // that it reads are borrowed for the time of the call and hold initialized elements. The five that it writes are
+    // five vectors, borrowed mutably, so that none overlaps another or what is read, and hold initialized elements too.
+    // The call's contract has no premise on any number in them, and it is proved to touch nothing outside of them and
+    // to end. Its language has no globals, in which a pointer could be kept, and does not unwind. `Answer` is laid out
+    // as there.
     unsafe {
         dt_parse(
             entry,

@@ -4,8 +4,8 @@ use crate::{Node, NodeKind, Parse, TextRange};
 
 impl Parse<'_> {
     /// The outermost [`ParseError`](NodeKind::ParseError) nodes without a report or a lexical error inside them or just
-    /// after them. dt-tools' grammar makes such nodes: `a=<1> b;` lacks a semicolon, `a=<1>` becomes a `ParseError`, and
-    /// nothing is reported.
+    /// after them. dt-tools' grammar makes such nodes: `a=<1> b;` lacks a semicolon, `a=<1>` becomes a `ParseError`,
+    /// and nothing is reported.
     #[must_use]
     pub fn unreported(&self) -> Vec<Node<'_>> {
         let mut places: Vec<TextRange> = self.reports.iter().map(|report| report.range).collect();

@@ -133,7 +133,7 @@ a.dts: 2 errors; 2 nodes and 0 properties read; 2 of 10 bytes not understood
 }
 
 #[test]
-fn a_hint_stands_behind_its_mark() {
+fn a_hint_stands_after_its_mark() {
     use TokenKind::{Equals, Number, Semicolon};
     let (status, out, _) = run_on(&source(&[(Equals, b"="), (Number, b"1"), (Semicolon, b";")]), &["--reports"]);
     assert_eq!(status, Some(1));
@@ -223,7 +223,7 @@ fn no_answer((status, out, err): (Option<i32>, String, String)) -> String {
 #[test]
 fn bad_words_have_status_2() {
     assert_eq!(no_answer(run(&[])), "dtparse: which file?\nTry `dtparse --help`.\n");
-    assert_eq!(no_answer(run(&["--all", "x"])), "dtparse: --all is no option\nTry `dtparse --help`.\n");
+    assert_eq!(no_answer(run(&["--all", "x"])), "dtparse: --all is not an option\nTry `dtparse --help`.\n");
     assert!(no_answer(run(&["no/such.rows"])).starts_with("dtparse: no/such.rows: No such file"));
     assert_eq!(run(&["--help"]).0, Some(0));
     assert!(run(&["--help"]).1.starts_with("dtparse shows"));

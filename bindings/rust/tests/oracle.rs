@@ -1,5 +1,5 @@
-//! This crate against the Rust: tests/oracle/answers.txt has what the oracle printed (tests/oracle/make.sh), and every line
-//! must come out the same: tree rows, printed tree, lexical errors, message texts and labels with their ranges.
+//! This crate against the Rust: tests/oracle/answers.txt has what the oracle printed (tests/oracle/make.sh), and every
+//! line must come out the same: tree rows, printed tree, lexical errors, message texts and labels with their ranges.
 //!
 //! `DT_ORACLE_ANSWERS=FILE cargo test --test oracle` compares with another such file.
 

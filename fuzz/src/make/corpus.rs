@@ -103,7 +103,7 @@ impl Corpus {
     }
 
     /// Tokens of a small random alphabet.
-    pub fn soup(&self, r: &mut Rng, out: &mut Vec<Tok>) {
+    pub fn random_tokens(&self, r: &mut Rng, out: &mut Vec<Tok>) {
         let size = 2 + r.n(6);
         let alphabet: [Tok; 8] = std::array::from_fn(|_| self.sample(r));
         for _ in 0..r.n(22) {

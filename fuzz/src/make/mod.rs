@@ -16,7 +16,7 @@ mod limits;
 /// The ways of making an input, with how many of a thousand cases are made so.
 const WAYS: &[(&str, usize)] = &[
     ("pieces of files, damaged", 380),
-    ("soup of a few tokens", 160),
+    ("random lists of a few tokens", 160),
     ("the oracle's generator", 110),
     ("expressions", 110),
     ("rows that no lexer gives", 80),
@@ -75,7 +75,7 @@ impl Maker {
         let (c, t) = (&self.corpus, &mut self.toks);
         match way {
             0 => c.piece(r, entry, t),
-            1 => c.soup(r, t),
+            1 => c.random_tokens(r, t),
             3 => expr::tokens(r, c, entry, t),
             4 => c.unlexable(r, t),
             6 => deep::tokens(r, c, entry, t),

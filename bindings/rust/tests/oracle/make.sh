@@ -1,6 +1,6 @@
 #!/bin/sh
-# Makes answers.txt, which tests/oracle.rs holds this crate to: what the Rust answers to the oracle's lists of cases, its
-# snippets, the examples, the seeds of fuzz/ and some random cases. Needs the oracle built (oracle/build.sh).
+# Makes answers.txt, which tests/oracle.rs holds this crate to: what the Rust answers to the oracle's lists of cases,
+# its snippets, the examples, the seeds of fuzz/ and some random cases. Needs the oracle built (oracle/build.sh).
 set -eu
 here=$(cd "$(dirname "$0")" && pwd)
 cd "$here/../../../.."

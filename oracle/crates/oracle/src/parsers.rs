@@ -3,8 +3,8 @@ use crate::case::Rows;
 use crate::token;
 use std::panic::{UnwindSafe, set_hook, take_hook};
 
-/// Runs a program's work in a thread with a large stack: the Rust parses and frees its tree by recursion. Its own panics are
-/// answers and stay quiet; any other is said and ends the program with status 2.
+/// Runs a program's work in a thread with a large stack: the Rust parses and frees its tree by recursion. Its own
+/// panics are answers and stay quiet; any other is said and ends the program with status 2.
 pub fn on_large_stack<T: Send + 'static>(work: impl FnOnce() -> T + Send + 'static) -> T {
     let said = take_hook();
     set_hook(Box::new(move |p| {

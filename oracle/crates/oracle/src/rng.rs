@@ -1,4 +1,5 @@
-//! The splitmix64 generator. What is drawn from a seed never changes, so that a case can be drawn again from its number.
+//! The splitmix64 generator. What is drawn from a seed never changes, so that a case can be drawn again from its
+//! number.
 
 pub struct SplitMix64(pub u64);
 

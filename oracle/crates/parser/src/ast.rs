@@ -1,5 +1,5 @@
 //! Hand-written stand-in for ast.rs, with only what parser/mod.rs names (`Parse::source_file`).
-//! The real one needs crates that are not at hand, and no parse goes through it.
+//! The real one needs crates that are not available here, and no parse goes through it.
 use crate::cst::{NodeKind, RedNode};
 use std::sync::Arc;
 

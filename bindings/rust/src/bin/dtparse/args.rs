@@ -70,7 +70,7 @@ pub fn read(words: &[OsString]) -> Result<Asked, String> {
             "--help" | "-h" => return Ok(Asked::Help),
             "--entry" => args.entry = Some(entry(value()?)?),
             "--color" => args.color = color(value()?)?,
-            _ if word != option => return Err(format!("{word} is no option")),
+            _ if word != option => return Err(format!("{word} is not an option")),
             _ => args.views.push(view(option)?),
         }
     }
@@ -90,7 +90,7 @@ fn view(option: &str) -> Result<View, String> {
         "--reports" => Ok(View::Reports),
         "--nodes" => Ok(View::Nodes),
         "--tree" => Ok(View::Tree),
-        _ => Err(format!("{option} is no option")),
+        _ => Err(format!("{option} is not an option")),
     }
 }
 
@@ -141,8 +141,8 @@ mod tests {
         for (words, why) in [
             ("", "which file?"),
             ("a b", "one file at a time, not a and b"),
-            ("a --trees", "--trees is no option"),
-            ("a --tree=1", "--tree=1 is no option"),
+            ("a --trees", "--trees is not an option"),
+            ("a --tree=1", "--tree=1 is not an option"),
             ("a --entry", "--entry needs a word after it"),
             ("a --entry Name", "--entry is SourceFile, ReferenceNoamp, PropValues or Cells, not Name"),
             ("a --color blue", "--color is auto, always or never, not blue"),

@@ -101,7 +101,7 @@ fn read(file: &str) -> io::Result<Vec<u8>> {
     Ok(bytes)
 }
 
-/// A reader that goes away early, as `head` does, is no mistake.
+/// A reader that goes away early, as `head` does, is not a mistake.
 fn print(text: &str, status: ExitCode) -> ExitCode {
     let mut out = io::stdout().lock();
     match out.write_all(text.as_bytes()).and_then(|()| out.flush()) {

@@ -5,7 +5,7 @@ use crate::snippet::{Mark, snippet};
 use crate::style::Ink;
 use dt_parser::{LexicalError, Node, NodeKind, Report, TextRange};
 
-const UNREPORTED: &str = "Not understood. The parser makes no report for this part; often a `;` is missing behind it";
+const UNREPORTED: &str = "Not understood. The parser makes no report for this part; often a `;` is missing after it";
 
 /// Something to tell: its heading, and the places with what is said there. The first place is its own.
 struct Problem {
@@ -23,7 +23,7 @@ impl Problem {
         Self::new(Ink::Error, error.to_string(), error.range)
     }
 
-    /// A hint stands behind the report's own mark, the unclosed brace is marked apart.
+    /// A hint stands after the report's own mark, the unclosed brace is marked apart.
     fn of_report(report: &Report) -> Self {
         let mut problem = Self::new(Ink::Error, report.text(), report.range);
         for label in report.labels() {

@@ -55,7 +55,7 @@ fn damaged(r: &mut Rng, entry: u32, most: usize) -> Toks {
 }
 
 /// Tokens from a small random alphabet, as text or as rows.
-fn soup(r: &mut Rng) -> Case {
+fn random_tokens(r: &mut Rng) -> Case {
     let alphabet: Toks = (0..2 + r.n(6)).map(|_| sample(r)).collect();
     let t: Toks = (0..r.n(24)).map(|_| alphabet[r.n(alphabet.len())].clone()).collect();
     if r.p(50) { toks(&t) } else { Case::Text(text(&t)) }
@@ -110,7 +110,7 @@ pub fn one(r: &mut Rng, only: Option<u32>) -> (u32, Case) {
         0..4 => Case::Text(text(&grammar::tokens(r, entry))),
         4..10 => Case::Text(text(&damaged(r, entry, 4))),
         10..12 => toks(&damaged(r, entry, 6)),
-        12..16 => soup(r),
+        12..16 => random_tokens(r),
         16 => unlexable(r),
         _ => realistic(r, entry),
     };
