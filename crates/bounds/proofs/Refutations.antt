@@ -37,7 +37,7 @@ not-the-buffers : (Fits (held too-large [] [] [] []) → ⊥) × (Fits (held [] 
 not-the-buffers =
     (λ f. omega (arith, f .buffers .events .1 .0), λ f. omega (arith, f .buffers .trees .1 .0), λ f. omega (arith, f .buffers .errors .1 .0), λ f. omega (arith, f .buffers .reports .1 .0), λ f. omega (arith, f .buffers .pool .1 .0))
 
--- a report of an expectation that is no word
+-- a report of an expectation that is not a word
 not-the-pool : So-far [] (reported (record { message = 1; range = record { from = 1; to = 0 }; mark = 1; hint = 0; labelled = no-label; pool = large ∷ [] }) ∷ []) → ⊥
 unfolding pool reports
 not-the-pool s = omega (arith, s .pool-words .0)

@@ -5,7 +5,7 @@ use lib.Dec.{eqb}
 use Rattle.definitions.specs.Run.{is-again}
 use Rattle.definitions.specs.Prog.{Ans, no, yes, also, again}
 
--- What is known after a run. still: nothing. there: a token that is no trivia stands ahead. took: the cursor moved.
+-- What is known after a run. still: nothing. there: a token that is not trivia stands ahead. took: the cursor moved.
 -- The first token that the cursor passed brings no credit under still and there; a loop that goes on gives it back (`moved`).
 pub data Key : Type 0 where
   still there took : Key

@@ -17,7 +17,7 @@ use Rattle.laws.proofs.Trivia.{drop-twice, drop-none, passes-drop}
 use Rattle.laws.proofs.Skeleton.{after-join}
 use Rattle.laws.proofs.Kept.{Stands, Kept, run-kept, exec-kept, whole-kept}
 
--- each token of p is the first of ts that is no trivia where p comes to it, each name the first ones; each with the mark after it
+-- each token of p is the first of ts that is not trivia where p comes to it, each name the first ones; each with the mark after it
 unfoldable pub Reads : Skeleton → List Token → Type 0
 unfolding after
 Reads done ts = Unit {0}
@@ -91,7 +91,7 @@ between-name raw us a d =
       leaves = λ ts e. ap drop-trivia (f ts e);
     }
 
--- where a token that is no trivia stands at the cursor, a peek from behind the last token taken comes to it
+-- where a token that is not trivia stands at the cursor, a peek from after the last token taken comes to it
 pub stands-first : (s : State) (t : Token) (us : List Token) → Stands s → s .rest ≡ t ∷ us → trivia t ≡ false → drop-trivia (s .since) ≡ t ∷ us
 stands-first s t us h e d = passes-drop (s .since) (s .rest) (h .passed) ∙ ap drop-trivia e ∙ drop-none t us d
 

@@ -29,7 +29,7 @@ There s = ended (drop-trivia (s .rest)) ≡ false
 abbrev pub Gone : State → Type 0
 Gone s = ended (drop-trivia (s .rest)) ≡ true
 
--- a token was taken on the way from s₀ to s: fewer are left behind it than stood at the cursor
+-- a token was taken on the way from s₀ to s: fewer are left after it than stood at the cursor
 abbrev pub Taken : State → State → Type 0
 Taken s₀ s = mark-of s < length (s₀ .rest)
 

@@ -19,7 +19,7 @@ use Rattle.laws.proofs.Engine.{Composes, Steady, exec-all, run-all}
 
 -- ---------------------------------------------------------------- where a run stands
 
--- the cursor stands behind the last token taken, with only trivia between
+-- the cursor stands after the last token taken, with only trivia between
 pub record Stands (s : State) : Type 0 where
   pub passed : Passes (s .since) (s .rest)
 

@@ -34,7 +34,7 @@ right-beside nil g h i = i
 right-beside (leaf k raw f) g h i = (h .0, right-beside f g (h .1) i)
 right-beside (subtree k c f) g h i = (h .0, right-beside f g (h .1) i)
 
--- trivia are no errors
+-- trivia are not errors
 small-kind : (k n : ℕ) → n < 64 → eqb k n ≡ true → leb 64 k ≡ false
 small-kind k n h e = let q : k ≡ n = eqb-true k n e in lt-leb 64 k (omega arith)
 

@@ -22,7 +22,7 @@ errors-length at (t ∷ ts) = go (is-error (t .kind)) (errors-length (at + t .le
     go true h = omega arith
     go false h = h
 
--- the errors of tokens behind others
+-- the errors of tokens after others
 pub errors-append : (at : ℕ) (ts us : List Token) → lexical-errors at (ts ++ us) ≡ lexical-errors at ts ++ lexical-errors (at + bytes ts) us
 unfolding lexical-errors bytes
 errors-append at [] us = ap (λ (n : ℕ). lexical-errors n us) (sym (add-zero at))
@@ -40,7 +40,7 @@ first-error : (at : ℕ) (t : Token) (ts : List Token) → is-error (t .kind) �
 unfolding lexical-errors
 first-error at t ts e = ap (λ (b : Bool). cond b (t .kind ∷ at ∷ (at + t .len) ∷ lexical-errors (at + t .len) ts) (lexical-errors (at + t .len) ts)) e
 
--- EACH ERROR TOKEN HAS ITS ROW, whatever stands behind the rows
+-- EACH ERROR TOKEN HAS ITS ROW, whatever stands after the rows
 pub errors-of : (ts : List Token) (l : List ℕ) → Errors-of ts (lexical-errors 0 ts ++ l)
 errors-of ts l before after t e f =
     let a : List ℕ = lexical-errors 0 before in

@@ -45,7 +45,7 @@ unfolding pushes closed
 pushes-closed zero m m′ a i = refl
 pushes-closed (suc k) m m′ a i = refl
 
--- a list behind the last part of a list in three parts
+-- a list after the last part of a list in three parts
 behind : {A : Type 0} (a : List A) (x y : A) (i o l : List A) → a ++ (x ∷ (i ++ (y ∷ (o ++ l)))) ≡ (a ++ (x ∷ (i ++ (y ∷ o)))) ++ l
 behind a x y i o l = sym (append-assoc a _ l ∙ ap (λ (z : _). a ++ (x ∷ z)) (append-assoc i (y ∷ o) l))
 
@@ -120,7 +120,7 @@ pub label-append : (b : ℕ) (x : Label) (l m : List ℕ) → label-numbers b x 
 label-append b no-label l m = refl
 label-append b (label s) l m = refl
 
--- the rows of the later reports stand behind those of the earlier, their first pool places behind the earlier expectations
+-- the rows of the later reports stand after those of the earlier, their first pool places after the earlier expectations
 pub report-rows-append : (n b first : ℕ) (l m : List Report) → report-rows n b first (l ++ m) ≡ report-rows n b first l ++ report-rows n b (first + length (pool l)) m
 unfolding report-rows pool
 report-rows-append n b first [] m = ap (λ (x : ℕ). report-rows n b x m) (sym (add-zero first))

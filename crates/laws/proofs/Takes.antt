@@ -118,7 +118,7 @@ surely-taken a s₀ s h = go (take a h)
     go (there-case i t) = absurd (false≢true i)
     go (gone-case i t) = absurd (false≢true i)
 
--- ONE ITEM TAKES AT LEAST ONE TOKEN at a non-end cursor, unless the run meets refusal 5: fewer tokens are left behind the last one taken
+-- ONE ITEM TAKES AT LEAST ONE TOKEN at a non-end cursor, unless the run meets refusal 5: fewer tokens are left after the last one taken
 -- than stood at the cursor
 pub item-takes : (n : ℕ) (s : State) → Stands s → There s → Within-room (run n item s .made) → mark-of (run n item s .state) < length (s .rest)
 item-takes n s h t w = surely-taken (run n item s .ans) s (run n item s .state) (run-takes n item s s (starts s h t) w)

@@ -15,7 +15,7 @@ abbrev pub Blank : List Token → Type 0
 Blank [] = Unit {0}
 Blank (t ∷ ts) = (trivia t ≡ true) × Blank ts
 
--- the first of them, if there is one, is no trivia
+-- the first of them, if there is one, is not trivia
 abbrev pub Solid : List Token → Type 0
 Solid [] = Unit {0}
 Solid (t ∷ ts) = trivia t ≡ false
@@ -33,7 +33,7 @@ unfolding drop-trivia
 drop-solid [] h = refl
 drop-solid (t ∷ ts) h = drop-none t ts h
 
--- after a peek a token that is no trivia stands first, or none does
+-- after a peek a token that is not trivia stands first, or none does
 pub dropped-solid : (ts : List Token) → Solid (drop-trivia ts)
 unfolding drop-trivia
 dropped-solid [] = tt

@@ -63,7 +63,7 @@ unfoldable pub read-row : Bool → ℕ → ℕ → ℕ → Rows → Rows
 unfolding first-rows later-rows
 read-row is-node k w n f = cond is-node (node k w n (first-rows n f) (later-rows n f)) (leaf k w n f)
 
--- numbers read as rows in preorder; fewer than four at the end are no row
+-- numbers read as rows in preorder; fewer than four at the end are not a row
 unfoldable pub read : List ℕ → Rows
 unfolding read-row
 read [] = end

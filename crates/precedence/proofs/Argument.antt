@@ -35,7 +35,7 @@ pub record Argued (s : State) (sp : Split) (o : Out) : Type 0 where
   pub same : Same (o .made) (sp .first)
   pub quiet : Quiet (pushes (o .made))
 
--- the list is closed, and vs stands behind the bracket that closes it
+-- the list is closed, and vs stands after the bracket that closes it
 pub data Closing (s : State) (sp : Split) (vs : List Symbol) (o : Out) : Type 0 where
   at-comma : (c : Token) (cs : List Token) (xs : List Symbol) → Stopped s o → Argued s sp o → o .ans ≡ yes → drop-trivia (o .state .since) ≡ c ∷ cs
       → args (symbols false cs) 0 ≡ closed xs vs → sp .later ≡ one ⧺ argument (split xs 0) → Closing s sp vs o
@@ -118,7 +118,7 @@ module _ (s : State) (t : Token) (ts : List Token) (p : Passes (s .since) (t ∷
 
 -- ---------------------------------------------------------------- all cases
 
--- what it does with a token that is no trivia
+-- what it does with a token that is not trivia
 abbrev kinds : Bool → Bool → Bool → ℕ → Out → (ℕ → Out) → (Ans → Out) → Out
 kinds opening closing comma n deeper go stays =
     cond opening deeper (cond closing (at-depth n (stays no) go) (cond comma (at-depth n (stays yes) (λ m. go (suc m))) (go n)))

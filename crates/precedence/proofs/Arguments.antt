@@ -131,7 +131,7 @@ module _ (ask : Rule → State → Out) (b : Label) where
 
   -- ---------------------------------------------------------------- a turn: an argument, and the comma after it
 
-  -- a comma that stands ahead is behind the cursor
+  -- a comma that stands ahead is after the cursor
   comma-moved : (s : State) → Stands s → (r : List Token) (c : Token) (cs : List Token) → Tail r (s .since) → drop-trivia r ≡ c ∷ cs → length cs < length (s .rest)
   comma-moved s h r c cs t e =
       let l = ahead-length r (s .since) t in

@@ -71,7 +71,7 @@ open-append : (xs ys : List Symbol) (n m : ℕ) → open-after xs n ≡ some m �
 open-append [] ys n m h = cc
 open-append (x ∷ xs) ys n m h = append-turn (turn x) (open-after xs) (open-after (xs ++ ys)) (open-after ys) n m (open-append xs ys) h
 
--- a symbol that is no bracket
+-- a symbol that is not a bracket
 abbrev pub Flat : Symbol → Type 0
 Flat x = turn x ≡ keeps
 

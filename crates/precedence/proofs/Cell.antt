@@ -36,7 +36,7 @@ use Rattle.precedence.proofs.Loop.{calls}
 
 -- ---------------------------------------------------------------- the run
 
--- behind the opening bracket: p was made of an expression and the closing bracket, or a report was made where vs was left
+-- after the opening bracket: p was made of an expression and the closing bracket, or a report was made where vs was left
 abbrev CellRun : State → Res → Out → Type 0
 CellRun s (P.done e vs) o = Done s (parts e ⧺ one) vs (o .made) (o .state)
 CellRun s (P.report vs) o = Noted s vs (o .made)
@@ -90,7 +90,7 @@ pub record Bad (inner : List Token) (close : Token) (after : List Token) (behind
   pub low : rep .mark ≤ length behind
   pub high : length (close ∷ after) ≤ rep .mark
 
--- of the tokens behind the opening bracket
+-- of the tokens after the opening bracket
 abbrev pub Judged : List Token → ℕ → Skeleton → Type 0
 Judged behind m i =
     (inner : List Token) (close : Token) (after : List Token) → behind ≡ inner ++ (close ∷ after) → seen close ≡ K.RParen → Balanced (symbols false inner)

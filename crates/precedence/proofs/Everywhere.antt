@@ -116,7 +116,7 @@ module _ (n : ℕ) (below : (r : Rule) (s : State) → Made s (run n r s)) (b : 
 
   -- ---------------------------------------------------------------- `eat_cell`
 
-  -- behind the test for an LParen
+  -- after the test for an LParen
   abbrev no-bracket : Bool → Prog
   no-bracket at-end =
       if eat-dts-include or eat-preprocessor-directive (Cell at-end) then tell yes

@@ -158,7 +158,7 @@ module _ (ask : Rule → State → Out) (b : Label) where
 
   -- ---------------------------------------------------------------- the name
 
-  -- a bracket directly behind the name, nothing having been peeked yet
+  -- a bracket directly after the name, nothing having been peeked yet
   glued : (ts : List Token) (x : Bool) → first-in (K.LParen ∷ []) ts ≡ x
       → Tests ask b (act (add-expected K.LParen) ⨟ act (immediate K.LParen)) (taken ts) (truth x)
   unfolding exec add answer perform _⧺_
@@ -176,7 +176,7 @@ module _ (ask : Rule → State → Out) (b : Label) where
             };
       }
 
-  -- behind the name: e is made of it and of p
+  -- after the name: e is made of it and of p
   abbrev Behind : State → Res → Out → Type 0
   Behind s (P.done e vs) o = (p : Skeleton) × (parts e ≡ nodes N.MacroInvocation (one ⧺ p)) × Done s p vs (o .made) (o .state)
   Behind s (P.report vs) o = Noted s vs (o .made)
@@ -206,7 +206,7 @@ module _ (ask : Rule → State → Out) (b : Label) where
         },
       )
 
-  -- the brackets, behind the opening one
+  -- the brackets, after the opening one
   behind-args : (t : Token) (ts : List Token) (s : State) → drop-trivia (s .since) ≡ t ∷ ts → (y : Args) (o : Out) → Bracketed (taken ts) y o
       → Behind s (invoked y) (add (took t ts) o)
   unfolding add makes _⧺_
@@ -224,7 +224,7 @@ module _ (ask : Rule → State → Out) (b : Label) where
   behind-from s to e P.refused o d = d
   behind-from s to e P.spent o d = tt
 
-  -- what stands behind a name
+  -- what stands after a name
   abbrev after-name : Prog
   after-name =
       case (act (add-expected K.LParen) ⨟ act (immediate K.LParen)) (tell yes)
@@ -246,7 +246,7 @@ module _ (ask : Rule → State → Out) (b : Label) where
       behind-from (taken (t ∷ ts)) to si (named (symbols true (t ∷ ts))) (add (took t ts) o)
       (rw (symbols-arguments t ts g) (behind-args t ts to e (args (symbols false ts) 0) o d)))
 
-  -- the name and what stands behind it: e's node has the children p
+  -- the name and what stands after it: e's node has the children p
   abbrev Named : State → Res → Out → Type 0
   Named s (P.done e vs) o = (p : Skeleton) × (parts e ≡ nodes N.MacroInvocation p) × Done s p vs (o .made) (o .state)
   Named s (P.report vs) o = Noted s vs (o .made)

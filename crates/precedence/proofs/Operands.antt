@@ -34,7 +34,7 @@ not-ident ks k m z = go (eqb k K.Ident) refl
     go true e = absurd (true≢false (sym m ∙ ap (one-of ks) (eqb-true k K.Ident e) ∙ z))
     go false e = refl
 
--- what is made behind the token t, together with it
+-- what is made after the token t, together with it
 module _ (s : State) (t : Token) (ts : List Token) (ahead : drop-trivia (s .since) ≡ t ∷ ts) where
   pub done-behind : (p : Skeleton) (vs : List Symbol) (made : Skeleton) (u : State) → Done (taken ts) p vs made u
       → Done s (one ⧺ p) vs (token t (length ts) done ⧺ made) u
@@ -131,7 +131,7 @@ module _ (ask : Rule → State → Out) (b : Label) (rec : Reader)
 
   -- ---------------------------------------------------------------- no operand
 
-  -- `lhs` behind its tests for an operand
+  -- `lhs` after its tests for an operand
   abbrev no-operand : Prog
   no-operand =
       if expected E.InfixOperator ⨟ silent (set INFIX-BUT-TERNARY) then
@@ -206,7 +206,7 @@ module _ (ask : Rule → State → Out) (b : Label) (rec : Reader)
     read-on s p y e r to st si =
         ends-map ask b (r to st (ap drop-trivia si ∙ e)) (λ o d. follows-from s to parts si (lhs-by y rec (C.plain (seen t)) us) o d)
 
-    -- the symbols behind a token of a set without Ident
+    -- the symbols after a token of a set without Ident
     us-plain : (ks : List ℕ) → one-of ks K.Ident ≡ false → one-of ks (seen t) ≡ true → us ≡ symbols false ts
     us-plain ks z m = ap (λ (x : Bool). symbols x ts) (not-ident ks (seen t) m z)
 

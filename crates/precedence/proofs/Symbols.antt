@@ -1,4 +1,4 @@
--- The symbols of raw tokens, seen from the cursor: trivia in front make no difference, and an Ident does only to a bracket directly behind it.
+-- The symbols of raw tokens, seen from the cursor: trivia in front make no difference, and an Ident does only to a bracket directly after it.
 use Prim.Native.Nat.{ℕ, _≤_, _<_}
 use native.Mathlib.Omega.{arith}
 use mathlib.Core.Path.{_≡_, refl, sym, _∙_, ap, subst}
@@ -51,12 +51,12 @@ symbols-next r t ts h =
     symbols-drop r ∙ ap (symbols false) h ∙ symbols-solid false t ts (solid-first r t ts h)
     ∙ ap (λ (x : Symbol). x ∷ symbols (eqb (seen t) K.Ident) ts) (symbol-apart t)
 
--- behind a token that is no Ident
+-- after a token that is not an Ident
 pub symbols-past : (r : List Token) (t : Token) (ts : List Token) → drop-trivia r ≡ t ∷ ts → eqb (seen t) K.Ident ≡ false
     → symbols false r ≡ plain (seen t) ∷ symbols false ts
 symbols-past r t ts h e = symbols-next r t ts h ∙ ap (λ (b : Bool). plain (seen t) ∷ symbols b ts) e
 
--- ---------------------------------------------------------------- behind an Ident
+-- ---------------------------------------------------------------- after an Ident
 
 -- what is seen of a kind
 abbrev seen-kind : ℕ → ℕ
@@ -65,13 +65,13 @@ seen-kind k = cond (leb 64 k) K.Unrecognized k
 kind-not : (k j n : ℕ) → seen-kind j ≡ j → (j ≡ n → ⊥) → seen-kind k ≡ n → eqb k j ≡ false
 kind-not k j n e d h = ne-eqb k j (λ z. d (sym e ∙ sym (ap seen-kind z) ∙ h))
 
--- what is seen as a kind that is no trivia's is no trivia
+-- what is seen as a kind that is not trivia's is not trivia
 solid-seen : (t : Token) (k : ℕ) → seen t ≡ k → (K.Whitespace ≡ k → ⊥) → (K.LineComment ≡ k → ⊥) → (K.BlockComment ≡ k → ⊥) → trivia t ≡ false
 unfolding seen is-error trivia
 solid-seen t k h a b c =
     rw (kind-not (t .kind) K.Whitespace k refl a h, kind-not (t .kind) K.LineComment k refl b h, kind-not (t .kind) K.BlockComment k refl c h)
 
--- brackets are no trivia
+-- brackets are not trivia
 pub bracket-solid : (t : Token) → seen t ≡ K.LParen → trivia t ≡ false
 bracket-solid t h = solid-seen t K.LParen h (λ z. omega arith) (λ z. omega arith) (λ z. omega arith)
 
@@ -86,7 +86,7 @@ test-one k j h = go (eqb k j) refl h
     go true e g = sym (eqb-true k j e)
     go false e g = absurd (false≢true g)
 
--- a bracket directly behind it opens its arguments
+-- a bracket directly after it opens its arguments
 pub symbols-arguments : (t : Token) (ts : List Token) → first-in (K.LParen ∷ []) (t ∷ ts) ≡ true → symbols true (t ∷ ts) ≡ arguments ∷ symbols false ts
 unfolding first-in symbol
 symbols-arguments t ts h =
@@ -101,7 +101,7 @@ test-other k j h = go (eqb k j) refl h
     go true e g = absurd (true≢false g)
     go false e g = ne-eqb j k (λ z. eqb-false k j e (sym z))
 
--- behind any other token, an Ident in front makes no difference
+-- after any other token, an Ident in front makes no difference
 pub symbols-apart : (ts : List Token) → first-in (K.LParen ∷ []) ts ≡ false → symbols true ts ≡ symbols false ts
 unfolding first-in symbol symbols
 symbols-apart [] h = refl
@@ -127,7 +127,7 @@ tail-length us ts p = omega (arith, simp length-append at (ap length (p .split))
 pub tail-passes : (ts us : List Token) → Passes ts us → Tail us ts
 tail-passes ts us p = record { front = p .over; split = p .split }
 
--- what stands behind the next token
+-- what stands after the next token
 pub tail-next : (r : List Token) (t : Token) (ts : List Token) → drop-trivia r ≡ t ∷ ts → Tail ts r
 tail-next r t ts h =
     let p = passes-all r in
@@ -160,7 +160,7 @@ symbols-fewer b c (x ∷ xs) us = go (trivia x) refl (λ d. symbols-fewer b d xs
     go true e h = rw (symbols-blank c x (xs ++ us) e) (h false)
     go false e h = rw (symbols-solid c x (xs ++ us) e) (omega (arith, h (eqb (seen x) K.Ident)))
 
--- What is left of the tokens still has the bracket that balances, if its symbols do: `behind` are the tokens behind the bracket t.
+-- What is left of the tokens still has the bracket that balances, if its symbols do: `behind` are the tokens after the bracket t.
 pub still-there : (r raw inner behind : List Token) (t : Token) (xs : List Symbol) → Tail raw r → r ≡ inner ++ (t ∷ behind)
     → symbols false raw ≡ xs ++ (plain K.RParen ∷ symbols false behind) → length (t ∷ behind) ≤ length raw
 still-there r raw inner behind t xs p e h = go (leb (length raw) (length behind)) refl
@@ -215,7 +215,7 @@ close-apart : (b : Bool) (t : Token) (ts : List Token) → seen t ≡ K.RParen �
 close-apart b t ts e s =
     symbols-solid b t ts s ∙ rw (symbol-kind b t (ap (λ (k : ℕ). eqb k K.LParen) e), ap (λ (k : ℕ). eqb k K.Ident) e) (ap (λ (k : ℕ). plain k ∷ symbols false ts) e)
 
--- the symbols of what stands before it, the bracket's, and those of what stands behind it
+-- the symbols of what stands before it, the bracket's, and those of what stands after it
 pub symbols-split : (b : Bool) (xs : List Token) (t : Token) (ts : List Token) → seen t ≡ K.RParen
     → symbols b (xs ++ (t ∷ ts)) ≡ symbols b xs ++ (plain K.RParen ∷ symbols false ts)
 unfolding symbols

@@ -92,7 +92,7 @@ module _ (Q : List Token → Tree → Type 0) where
   cell-past : (f : Tree) (l : List ℕ) (q : ℕ) → Is-cell (row-count f + q) (rows f ++ l) → Is-cell q l
   cell-past f l q h = (h .0, h .1, ap (take 4) (sym (drop-rows f l q)) ∙ h .2)
 
-  -- among the children, or behind them
+  -- among the children, or after them
   find-both : (c f : Tree) (l : List ℕ) (ts : List Token) (q : ℕ) → Each Q ts c → Each Q (drop (length (leaves c)) ts) f → q < row-count c + row-count f
       → Is-cell q (rows c ++ (rows f ++ l)) → Finds c → Finds f → Found Q ts q (rows c ++ (rows f ++ l))
   find-both c f l ts q x y h i find-c find-f = go (ltb q (row-count c)) refl

@@ -116,7 +116,7 @@ step-turn more rec m e (x ∷ us) = by (operator x)
 
 -- ---------------------------------------------------------------- what a run's turn has to come to
 
--- p was made of an operator and what stands behind it, so that e becomes f
+-- p was made of an operator and what stands after it, so that e becomes f
 pub record Linked (s : State) (e f : Expr) (vs : List Symbol) (o : Out) : Type 0 where
   pub p : Skeleton
   pub becomes : parts f ≡ nodes N.InfixExpr (parts e ⧺ p)
@@ -208,7 +208,7 @@ module _ (ask : Rule → State → Out) (b : Label) (rec : Reader)
   middle-follows : Ends ask b (open-call (expr-binding-power 0) and expect (of-kind K.Colon)) (taken ts) (Follows (taken ts) with-colon (middle (rec 0 (symbols false ts))))
   middle-follows = branch ask b (below 0 (taken ts) (stands-taken ts)) (middle-by (rec 0 (symbols false ts)))
 
-  -- the last part, behind the colon
+  -- the last part, after the colon
   last-by : (a : Expr) (xs : List Symbol) (o : Out) → Done (taken ts) (with-colon a) xs (o .made) (o .state) → (x : Res) (o′ : Out) → Follows (o .state) parts x o′
       → Ends ask b (pick (o′ .ans) (ret N.InfixExpr yes) (ret N.InfixExpr again) (ret N.InfixExpr again)) (o′ .state)
       (λ o″. Turns s e (goes (bind x (λ c ys. P.done (ternary e a c) ys))) (add (took t ts) (add o (add o′ o″))))
@@ -289,7 +289,7 @@ module _ (ask : Rule → State → Out) (b : Label) (rec : Reader)
           (λ v j k. bind-turns v j k (seen t) (l .right)) u g (i ∙ si)
       by false f u g i = f u g (i ∙ si)
 
-  -- what `infix-turn` does behind its expectation
+  -- what `infix-turn` does after its expectation
   ternary-turn : (m : ℕ) (x : Bool) → Onward s (λ u.
       Ends ask b
       (pick (truth x) (infix-levels m binding-power)
@@ -300,7 +300,7 @@ module _ (ask : Rule → State → Out) (b : Label) (rec : Reader)
       checked (bump! ⨟ if open-call (expr-binding-power 0) and expect (of-kind K.Colon) then rhs (ternary-level .right) else ret N.InfixExpr yes) (ask-turn rec e (symbols false ts)) (ternary-level .left) m ask-turns u g i
   ternary-turn m false u g i = levels-turn m binding-power u g i
 
-  -- an Ident is no operator, so that what stands directly behind it is of no account
+  -- an Ident is not an operator, so that what stands directly after it is of no account
   apart : (m : ℕ) (x : Bool) → eqb (seen t) K.Ident ≡ x
       → turn-by (operator (C.plain (seen t))) rec m e (symbols x ts) ≡ turn-by (operator (C.plain (seen t))) rec m e (symbols false ts)
   unfolding operator one-of level-of

@@ -9,7 +9,7 @@ use Rattle.definitions.specs.NodeKind as N
 use Rattle.definitions.specs.Skeleton.{Skeleton, done, token, node, _⧺_}
 use Rattle.definitions.specs.C.{Symbol, plain, arguments, Turn, opens, closes, keeps, turn, Expr, literal, name, invocation, bracketed, prefix, binary, ternary}
 
--- the next token that is no trivia; `place` takes it from the raw tokens, and looks at no mark
+-- the next token that is not trivia; `place` takes it from the raw tokens, and looks at no mark
 abbrev pub one : Skeleton
 one = token (record { kind = 0; len = 0 }) 0 done
 

@@ -46,7 +46,7 @@ looks h s u ts p e x = record { still = λ y. absurd (false≢true y); head = x;
 pub unknown : (s u : State) (ts : List Token) (p : Skeleton) → Holds (know true high high) s ts p u
 unknown s u ts p = record { still = λ y. absurd (false≢true y); head = λ _. refl; tail = tt; part = tt }
 
--- a part that is no statement that ends in a semicolon of its own
+-- a part that is not a statement that ends in a semicolon of its own
 pub lead-ends : (ts : List Token) (f : Tree) → ((a b : Bool) → ends-in a f ≡ ends-in b f) → (b : Bool) → ends-in b (lead ts ⊕ f) ≡ ends-in false f
 unfolding lead _⊕_ ends-in
 lead-ends [] f x b = x b false
@@ -95,7 +95,7 @@ peek-head h s x e = x (ap (first-in (K.Semicolon ∷ [])) (sym (drop-twice (s .r
 at-first : (s : State) (ts us : List Token) → At s ts → us ≡ drop-trivia (s .rest) → drop-trivia ts ≡ us
 at-first s ts us a e = a .same ∙ passes-drop (s .since) (s .rest) (a .stands .passed) ∙ sym e
 
--- a token taken: if it may be a semicolon, the run stands right behind it
+-- a token taken: if it may be a semicolon, the run stands right after it
 token-tail : (h : Bool) (s : State) (ts : List Token) (t : Token) (us : List Token) → length us < length (s .rest) → drop-trivia ts ≡ t ∷ us
     → ends-in false (place (token t (length us) done) ts) ≡ eqb (seen t) K.Semicolon → (eqb (seen t) K.Semicolon ≡ true → h ≡ true)
     → OfRank (ends h) (ends-in false (place (token t (length us) done) ts) ≡ false) (Sealed s ts (token t (length us) done) (taken us))

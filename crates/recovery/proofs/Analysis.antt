@@ -16,9 +16,9 @@ pub data Rank : Type 0 where
 -- What is known of a run, from the state in which it began.
 -- still: it made nothing and changed nothing.
 -- head: the current token may be a semicolon now.
--- tail: of the last thing made. low: it is no semicolon's leaf; mid: if it is, the run stands right behind it; high: unknown.
+-- tail: of the last thing made. low: it is not a semicolon's leaf; mid: if it is, the run stands right after it; high: unknown.
 -- part: of the parts made. low: no statement among them ends in a semicolon of its own; mid: only the last may, and then the run stands
--- right behind it; high: unknown.
+-- right after it; high: unknown.
 pub record Known : Type 0 where
   pub still : Bool
   pub head : Bool
@@ -31,7 +31,7 @@ idle h = record { still = true; head = h; tail = low; part = low }
 abbrev pub know : Bool → Rank → Rank → Known
 know h t p = record { still = false; head = h; tail = t; part = p }
 
--- one after the other: what stood right behind a semicolon does so no longer
+-- one after the other: what stood right after a semicolon does so no longer
 infixr 30 _▷ʳ_
 abbrev pub _▷ʳ_ : Rank → Rank → Rank
 low ▷ʳ y = y
@@ -152,7 +152,7 @@ surely (open-call r) P h = any-answer (λ x. P 0 x (claim r))
 abbrev pub up-to : Known → Post
 up-to c k x e = eqb k 0 && fits e c
 
--- an item: only its last part may end in a semicolon of its own, and then the run stands right behind it
+-- an item: only its last part may end in a semicolon of its own, and then the run stands right after it
 pub item-surely : surely (grammar item) (up-to (know true low mid)) true ≡ true
 unfolding surely grammar
 item-surely = refl

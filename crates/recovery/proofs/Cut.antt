@@ -26,7 +26,7 @@ rest-same e = cc
 none-some : {A : Type 0} {x : A} {l : List A} → [] ≡ x ∷ l → ⊥
 none-some e = let z : _≡_ {A = ℕ} 0 1 = cc in omega arith
 
--- a node's row is no leaf's
+-- a node's row is not a leaf's
 node-leaf : (r : Row) (k w n : ℕ) → r ≡ 1 ∷ k ∷ w ∷ n ∷ [] → class r ≡ 0 → ⊥
 node-leaf r k w n e h = let z : _≡_ {A = ℕ} 1 0 = sym (ap class e) ∙ h in omega arith
 

@@ -63,7 +63,7 @@ quiet-beside (subtree k c f) g p q = (p .0, quiet-beside f g (p .1) q)
 
 -- ---------------------------------------------------------------- what is known of a run
 
--- the run stands right behind the last token that it took: nothing is pending, nothing was passed over or reported since, and placing
+-- the run stands right after the last token that it took: nothing is pending, nothing was passed over or reported since, and placing
 -- goes on there too
 pub record Sealed (s : State) (ts : List Token) (p : Skeleton) (u : State) : Type 0 where
   pub rest : List Token

@@ -230,7 +230,7 @@ run-claimed (suc n) r s ts A =
     record { shape = E .0; holds = E .1 }
 
 -- A TURN of the source file's loop: no statement in it ends in a semicolon of its own, or only its last part does and the run stands
--- right behind it
+-- right after it
 pub turn-holds : (s : State) (ts : List Token) → At s ts
     → Holds (know true low mid) s ts (exec (run 64) no-label sourcefile-turn s .made) (exec (run 64) no-label sourcefile-turn s .state)
 turn-holds s ts A = program-ends 64 (run-claimed 64) no-label sourcefile-turn (know true low mid) turn-surely s ts A .1

@@ -42,7 +42,7 @@ children-join p q ts =
     ∙ beside-assoc (place p ts) (place q (after p ts)) (lead (after (p ⧺ q) ts))
     ∙ ap (λ (l : List Token). place p ts ⊕ (place q (after p ts) ⊕ lead l)) (after-join p q ts)
 
--- a part of kind k among some, with i under it and v behind it
+-- a part of kind k among some, with i under it and v after it
 unfoldable pub Part : Tree → ℕ → Tree → Tree → Type 0
 Part nil k i v = ⊥
 Part (leaf j us f) k i v = Part f k i v
@@ -81,7 +81,7 @@ onward-last : (n : ℕ) (s : State) → goes-on s (turn s) ≡ false → onward 
 unfolding onward iter makes
 onward-last n s e = ap (λ (b : Bool). let o : Out = cond b (add (turn-of (turn s)) (iter n turn (turn s .state))) (turn-of (turn s)) in o .made ⧺ sweep (o .state) .made) e
 
--- from right behind a token the loop goes as it would from the start of a file
+-- from right after a token the loop goes as it would from the start of a file
 onward-fresh : (n : ℕ) (us : List Token) → length us < n → onward n (taken us) ≡ run-entry SourceFile us
 unfolding onward
 onward-fresh n us l = ap (λ (r : Out). r .made ⧺ sweep (r .state) .made) (iter-same n (suc (length us)) turn (taken us) l (omega arith)) ∙ sym (entry-onward us)
@@ -105,7 +105,7 @@ again-goes-on s o a l = rw (a, lt-ltb (length (o .state .rest)) (length (s .rest
 
 -- ---------------------------------------------------------------- what follows a statement
 
--- v: what stands behind it. It is, and p ends with, what the tokens `rest` make by themselves.
+-- v: what stands after it. It is, and p ends with, what the tokens `rest` make by themselves.
 pub record Found (s : State) (p : Skeleton) (v : Tree) : Type 0 where
   pub rest : List Token
   pub first : Skeleton
@@ -143,7 +143,7 @@ module _ (k : ℕ) (i v : Tree) (C : closes k i ≡ true) where
   quiet-none (subtree j c f) q (inl e) = true≢false (sym C ∙ ap (λ (n : ℕ). closes n i) (sym (e .0)) ∙ ap (closes j) (sym (e .1)) ∙ q .0)
   quiet-none (subtree j c f) q (inr h) = quiet-none f (q .1) h
 
-  -- the statement is the last part of f, or stands behind it
+  -- the statement is the last part of f, or stands after it
   last-part : (f g : Tree) → Last f → Part (f ⊕ g) k i v → (g ≡ v) ⊎ Part g k i v
   last-part f g l h = go (quiet-part (l .others) (subtree (l .kind) (l .inner) nil ⊕ g) (l .quiet) (subst (λ (x : Tree). Part x k i v) (ap (_⊕ g) (l .is) ∙ beside-assoc (l .others) _ g) h))
     where
