@@ -1,12 +1,14 @@
 -- `eat`: the test, and the name, or else its expectation.
 use mathlib.Core.Path.{ap}
+use mathlib.Core.Bool.{false≢true}
 use native.Mathlib.Omega.{arith}
+use Rattle.basics.proofs.Flags.{flags}
 use Rattle.definitions.specs.Token.{tokens-of}
 use Rattle.definitions.specs.Run.{truth}
 use Rattle.definitions.specs.Grammar.{MacroSubstitutableName}
-use Rattle.names.proofs.Ways.{whole, opened, does, acts, tells, seq, if-no, if-yes}
+use Rattle.machine.proofs.Way.{c-walk, c-act, c-ret, c-seq}
+use Rattle.steps.proofs.Ways.{whole, opened, if-no, if-yes}
 use Rattle.names.proofs.Opened.{eat-is, name-matches-is, name-expected-is}
-use Rattle.names.proofs.Kit.{flags, false-true}
 use Rattle.names.proofs.macro_substitutable_name.eat.Statement.{statement}
 use Rattle.names.proofs.macro_substitutable_name.eat.Tie as tie
 
@@ -39,7 +41,7 @@ returns c =
     let a = c .before .before .before .before .before .before in
     let d = a .before .before .before .before .before in
     let e = d .before in
-    (λ ask b. whole (opened (eat-is MacroSubstitutableName) (if-yes (opened name-matches-is (acts (e .silent .ensures .0 b _ _ _ _))) (ap truth (d .if1 .taken)) (seq (does (a .consume .ensures .0 ask b)) tells))), (omega (flags, e .silent .ensures .1 .0, e .silent .ensures .1 .1 (d .if1 .taken), a .consume .ensures .1), λ h. omega (flags, e .silent .ensures .1 .0, e .silent .ensures .1 .1 (d .if1 .taken), a .consume .ensures .1)))
+    (λ ask b. whole (opened (eat-is MacroSubstitutableName) (if-yes (opened name-matches-is (c-act (e .silent .ensures .0 b _ _ _ _))) (ap truth (d .if1 .taken)) (c-seq (c-walk (a .consume .ensures .0 ask b )) c-ret))), (omega (flags, e .silent .ensures .1 .0, e .silent .ensures .1 .1 (d .if1 .taken), a .consume .ensures .1), λ h. omega (flags, e .silent .ensures .1 .0, e .silent .ensures .1 .1 (d .if1 .taken), a .consume .ensures .1)))
 
 returns-2 : tie.Need-returns-2
 returns-2 c =
@@ -47,7 +49,7 @@ returns-2 c =
     let d = a .before .before in
     let e = d .before in
     let s = e .before .before .before .before .before in
-    (λ ask b. whole (opened (eat-is MacroSubstitutableName) (if-no (opened name-matches-is (acts (e .silent .ensures .0 b _ _ _ _))) (ap truth (d .if1 .left)) (seq (opened name-expected-is (does (a .push-expected .ensures .0 ask (tokens-of (s .args .tokens .now)) b _ _ _))) tells))), (omega (flags, e .silent .ensures .1 .0, a .push-expected .ensures .1 (s .args .tokens .now)), λ h. false-true h))
+    (λ ask b. whole (opened (eat-is MacroSubstitutableName) (if-no (opened name-matches-is (c-act (e .silent .ensures .0 b _ _ _ _))) (ap truth (d .if1 .left)) (c-seq (opened name-expected-is (c-walk (a .push-expected .ensures .0 ask (tokens-of (s .args .tokens .now)) b _ _ _))) c-ret))), (omega (flags, e .silent .ensures .1 .0, a .push-expected .ensures .1 (s .args .tokens .now)), λ h. absurd (false≢true h)))
 
 pub eat-spec : {M : Type 1} → statement M
 eat-spec = tie.close (tie.spec silent-requires consume-requires push-expected-requires same-length same-length-2 same-length-3 returns returns-2)

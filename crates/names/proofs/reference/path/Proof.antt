@@ -1,10 +1,11 @@
 -- `path`: absolute, or from a label.
 use mathlib.Core.Path.{ap}
 use native.Mathlib.Omega.{arith}
+use Rattle.basics.proofs.Flags.{flags}
 use Rattle.definitions.specs.Run.{truth}
-use Rattle.names.proofs.Ways.{ends, opened, does, lands, tells, seq, if-no, if-yes}
+use Rattle.machine.proofs.Way.{c-walk, c-ret, c-seq}
+use Rattle.steps.proofs.Ways.{ends, opened, lands, if-no, if-yes}
 use Rattle.names.proofs.Opened.{path-is}
-use Rattle.names.proofs.Kit.{flags}
 use Rattle.names.proofs.reference.path.Statement.{statement}
 use Rattle.names.proofs.reference.path.Tie as tie
 
@@ -26,7 +27,7 @@ returns c =
     let d = a .before .before .before in
     let e = d .before .before .before in
     let f = e .before .before .before in
-    (λ ask b. ends (opened path-is (if-yes (does (f .eat .ensures .0 ask b _ _)) (ap truth (e .if1 .taken)) (if-yes (does (d .eat2 .ensures .0 ask b _ _)) (ap truth (a .if2 .taken)) tells))), omega (flags, f .eat .ensures .1 .0, f .eat .ensures .1 .1 (e .if1 .taken), d .eat2 .ensures .1 .0, d .eat2 .ensures .1 .1 (a .if2 .taken)))
+    (λ ask b. ends (opened path-is (if-yes (c-walk (f .eat .ensures .0 ask b _ _)) (ap truth (e .if1 .taken)) (if-yes (c-walk (d .eat2 .ensures .0 ask b _ _)) (ap truth (a .if2 .taken)) c-ret))), omega (flags, f .eat .ensures .1 .0, f .eat .ensures .1 .1 (e .if1 .taken), d .eat2 .ensures .1 .0, d .eat2 .ensures .1 .1 (a .if2 .taken)))
 
 path-segment-requires : tie.Need-path-segment-requires
 path-segment-requires c κs = tt
@@ -66,7 +67,7 @@ returns-2 c =
     let f = e .before .before .before in
     let g = f .before .before .before in
     let i = g .before .before .before in
-    (λ ask b. ends (opened path-is (if-yes (does (i .eat .ensures .0 ask b _ _)) (ap truth (g .if1 .taken)) (if-no (does (f .eat2 .ensures .0 ask b _ _)) (ap truth (e .if2 .left)) (seq (lands (d .path-segment .ensures .0 ask b)) (lands (a .path-rest .ensures .0 ask b)))))), omega (flags, i .eat .ensures .1 .0, i .eat .ensures .1 .1 (g .if1 .taken), f .eat2 .ensures .1 .0, d .path-segment .ensures .1, a .path-rest .ensures .1))
+    (λ ask b. ends (opened path-is (if-yes (c-walk (i .eat .ensures .0 ask b _ _)) (ap truth (g .if1 .taken)) (if-no (c-walk (f .eat2 .ensures .0 ask b _ _)) (ap truth (e .if2 .left)) (c-seq (lands (d .path-segment .ensures .0 ask b )) (lands (a .path-rest .ensures .0 ask b )))))), omega (flags, i .eat .ensures .1 .0, i .eat .ensures .1 .1 (g .if1 .taken), f .eat2 .ensures .1 .0, d .path-segment .ensures .1, a .path-rest .ensures .1))
 
 eat-requires-3 : tie.Need-eat-requires-3
 eat-requires-3 c κs = tt
@@ -102,7 +103,7 @@ returns-3 c =
     let e = d .before .before .before in
     let f = e .before .before .before in
     let g = f .before .before .before in
-    (λ ask b. ends (opened path-is (if-no (does (g .eat .ensures .0 ask b _ _)) (ap truth (f .if1 .left)) (seq (if-yes (does (e .eat3 .ensures .0 ask b _ _)) (ap truth (d .if3 .taken)) tells) (lands (a .path-rest2 .ensures .0 ask b))))), omega (flags, g .eat .ensures .1 .0, e .eat3 .ensures .1 .0, e .eat3 .ensures .1 .1 (d .if3 .taken), a .path-rest2 .ensures .1))
+    (λ ask b. ends (opened path-is (if-no (c-walk (g .eat .ensures .0 ask b _ _)) (ap truth (f .if1 .left)) (c-seq (if-yes (c-walk (e .eat3 .ensures .0 ask b _ _)) (ap truth (d .if3 .taken)) c-ret) (lands (a .path-rest2 .ensures .0 ask b ))))), omega (flags, g .eat .ensures .1 .0, e .eat3 .ensures .1 .0, e .eat3 .ensures .1 .1 (d .if3 .taken), a .path-rest2 .ensures .1))
 
 error-requires : tie.Need-error-requires
 error-requires c κs = tt
@@ -142,7 +143,7 @@ returns-4 c =
     let f = e .before .before .before in
     let g = f .before .before .before in
     let i = g .before .before .before in
-    (λ ask b. ends (opened path-is (if-no (does (i .eat .ensures .0 ask b _ _)) (ap truth (g .if1 .left)) (seq (if-no (does (f .eat3 .ensures .0 ask b _ _)) (ap truth (e .if3 .left)) (does (d .error .ensures .0 ask b))) (lands (a .path-rest3 .ensures .0 ask b))))), omega (flags, i .eat .ensures .1 .0, f .eat3 .ensures .1 .0, d .error .ensures .1, a .path-rest3 .ensures .1))
+    (λ ask b. ends (opened path-is (if-no (c-walk (i .eat .ensures .0 ask b _ _)) (ap truth (g .if1 .left)) (c-seq (if-no (c-walk (f .eat3 .ensures .0 ask b _ _)) (ap truth (e .if3 .left)) (c-walk (d .error .ensures .0 ask b ))) (lands (a .path-rest3 .ensures .0 ask b ))))), omega (flags, i .eat .ensures .1 .0, f .eat3 .ensures .1 .0, d .error .ensures .1, a .path-rest3 .ensures .1))
 
 pub path-spec : {M : Type 1} → statement M
 path-spec = tie.close (tie.spec eat-requires eat-requires-2 same-length returns path-segment-requires path-rest-requires same-length-2 same-length-3 same-length-4 returns-2 eat-requires-3 path-rest-requires-2 same-length-5 same-length-6 same-length-7 returns-3 error-requires path-rest-requires-3 same-length-8 same-length-9 same-length-10 returns-4)

@@ -1,8 +1,9 @@
 -- `path_rest`: the segments, and the RCurly.
 use native.Mathlib.Omega.{arith}
-use Rattle.names.proofs.Ways.{ends, opened, does, seq}
+use Rattle.basics.proofs.Flags.{flags}
+use Rattle.machine.proofs.Way.{c-walk, c-seq}
+use Rattle.steps.proofs.Ways.{ends, opened}
 use Rattle.names.proofs.Opened.{path-rest-is}
-use Rattle.names.proofs.Kit.{flags}
 use Rattle.names.proofs.reference.path_rest.Statement.{statement}
 use Rattle.names.proofs.reference.path_rest.Tie as tie
 
@@ -34,7 +35,7 @@ returns : tie.Need-returns
 returns c =
     let a = c .before .before .before .before .before .before .before in
     let d = a .before .before .before .before .before .before .before .before .before .before .before in
-    (λ ask b. ends (opened path-rest-is (seq (does (d .path-segments .ensures .0 ask b)) (does (a .expect .ensures .0 ask b)))), omega (flags, d .path-segments .ensures .1, a .expect .ensures .1 .0))
+    (λ ask b. ends (opened path-rest-is (c-seq (c-walk (d .path-segments .ensures .0 ask b )) (c-walk (a .expect .ensures .0 ask b )))), omega (flags, d .path-segments .ensures .1, a .expect .ensures .1 .0))
 
 pub path-rest-spec : {M : Type 1} → statement M
 path-rest-spec = tie.close (tie.spec path-segments-requires expect-requires same-length same-length-2 same-length-3 returns)

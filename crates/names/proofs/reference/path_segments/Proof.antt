@@ -4,6 +4,7 @@ use mathlib.Core.Path.{_≡_, refl, ap, _∙_}
 use native.Mathlib.Omega.{arith}
 use native.Mathlib.Nat.{le-refl}
 use lib.ListN.{length}
+use Rattle.basics.proofs.Flags.{flags}
 use Rattle.definitions.specs.Token.{tokens-of}
 use Rattle.definitions.specs.Skeleton.{Span}
 use Rattle.definitions.specs.Prog.{Rule, loop}
@@ -11,18 +12,19 @@ use Rattle.definitions.specs.Run.{truth}
 use Rattle.definitions.specs.Grammar.{path-turn}
 use Rattle.machine.specs.Machine.{Machine}
 use Rattle.machine.specs.Walk.{Walked, walk}
+use Rattle.machine.proofs.Way.{c-walk, c-ret, c-seq}
 use Rattle.parser.specs.View.{view, left}
-use Rattle.names.proofs.Ways.{opened, does, lands, tells, seq, if-no, if-yes, turns, stops-yes}
+use Rattle.steps.proofs.Ways.{opened, lands, if-no, if-yes, turns, stops-yes}
+use Rattle.steps.proofs.Left.{ahead-falls}
 use Rattle.names.proofs.Opened.{path-turn-is}
-use Rattle.names.proofs.Kit.{flags, ahead-falls}
 use Rattle.names.proofs.reference.path_segments.Statement.{statement}
 use Rattle.names.proofs.reference.path_segments.Tie as tie
 
 abbrev Inv-loop : tie.InvT-loop
-Inv-loop codes₀ t events₀ reports₀ pool₀ q₀ codes events reports pool q = ((ask : Rule → Machine → Walked) (b : Span) → walk ask (tokens-of t) b (loop path-turn) (view q codes events reports pool) ≡ walk ask (tokens-of t) b (loop path-turn) (view q₀ codes₀ events₀ reports₀ pool₀)) × ((left t q ≤ left t q₀) × ((length events ≡ length events₀) × ((length reports ≡ length reports₀) × (length pool ≡ length pool₀))))
+Inv-loop codes₀ tokens events₀ reports₀ pool₀ q₀ codes events reports pool q = ((ask : Rule → Machine → Walked) (b : Span) → walk ask (tokens-of tokens) b (loop path-turn) (view q codes events reports pool) ≡ walk ask (tokens-of tokens) b (loop path-turn) (view q₀ codes₀ events₀ reports₀ pool₀)) × ((left tokens q ≤ left tokens q₀) × ((length events ≡ length events₀) × ((length reports ≡ length reports₀) × (length pool ≡ length pool₀))))
 
 abbrev μ-loop : tie.MeasureT-loop
-μ-loop codes₀ t events₀ reports₀ pool₀ q₀ codes events reports pool q = left t q
+μ-loop codes₀ tokens events₀ reports₀ pool₀ q₀ codes events reports pool q = left tokens q
 
 loop-holds : tie.Need-loop-holds Inv-loop μ-loop
 loop-holds c = (λ ask b. refl, (le-refl _, (refl, (refl, refl))))
@@ -53,7 +55,7 @@ loop-again c =
     let f = e .before in
     let g = f .before .before in
     let s = g .before .before .before .before .before in
-    (λ ask b. turns (opened path-turn-is (if-yes (does (f .at-segment .ensures .0 ask b _ _ _)) (ap truth (e .if1 .taken)) (seq (seq (does (d .expect .ensures .0 ask b)) (lands (a .path-segment .ensures .0 ask b))) tells))) (ahead-falls (s .args .tokens .now) (g .loop .q) (a .path-segment .result) (omega (flags, g .loop .inv .1 .0, f .at-segment .ensures .1 .0, f .at-segment .ensures .1 .1 (e .if1 .taken), d .expect .ensures .1 .0, a .path-segment .ensures .1))) ∙ g .loop .inv .0 ask b, (omega (flags, g .loop .inv .1 .0, f .at-segment .ensures .1 .0, f .at-segment .ensures .1 .1 (e .if1 .taken), d .expect .ensures .1 .0, a .path-segment .ensures .1), (omega (arith, g .loop .inv .1 .1, d .expect .kept, a .path-segment .kept), (omega (arith, g .loop .inv .1 .1, d .expect .kept, a .path-segment .kept), omega (arith, g .loop .inv .1 .1, d .expect .kept, a .path-segment .kept)))))
+    (λ ask b. turns (opened path-turn-is (if-yes (c-walk (f .at-segment .ensures .0 ask b _ _ _)) (ap truth (e .if1 .taken)) (c-seq (c-seq (c-walk (d .expect .ensures .0 ask b )) (lands (a .path-segment .ensures .0 ask b ))) c-ret))) (ahead-falls (s .args .tokens .now) (g .loop .q) (a .path-segment .result) (omega (flags, g .loop .inv .1 .0, f .at-segment .ensures .1 .0, f .at-segment .ensures .1 .1 (e .if1 .taken), d .expect .ensures .1 .0, a .path-segment .ensures .1))) ∙ g .loop .inv .0 ask b, (omega (flags, g .loop .inv .1 .0, f .at-segment .ensures .1 .0, f .at-segment .ensures .1 .1 (e .if1 .taken), d .expect .ensures .1 .0, a .path-segment .ensures .1), (omega (arith, g .loop .inv .1 .1, d .expect .kept, a .path-segment .kept), (omega (arith, g .loop .inv .1 .1, d .expect .kept, a .path-segment .kept), omega (arith, g .loop .inv .1 .1, d .expect .kept, a .path-segment .kept)))))
 
 same-length : tie.Need-same-length Inv-loop μ-loop
 same-length c =
@@ -75,7 +77,7 @@ returns c =
     let a = c .before in
     let d = a .before in
     let e = d .before .before in
-    (λ ask b. stops-yes (opened path-turn-is (if-no (does (d .at-segment .ensures .0 ask b _ _ _)) (ap truth (a .if1 .left)) tells)) ∙ e .loop .inv .0 ask b, omega (flags, e .loop .inv .1 .0, d .at-segment .ensures .1 .0))
+    (λ ask b. stops-yes (opened path-turn-is (if-no (c-walk (d .at-segment .ensures .0 ask b _ _ _)) (ap truth (a .if1 .left)) c-ret)) ∙ e .loop .inv .0 ask b, omega (flags, e .loop .inv .1 .0, d .at-segment .ensures .1 .0))
 
 pub path-segments-spec : {M : Type 1} → statement M
 path-segments-spec = tie.close (tie.spec Inv-loop μ-loop loop-holds at-segment-requires expect-requires path-segment-requires loop-less loop-again same-length same-length-2 same-length-3 returns)
