@@ -416,15 +416,8 @@ fn no_lhs(
     }
     let end = op.p.silent_at(tokens, token_kind::RPAREN);
     if end.yes {
-        return end.p.error(
-            tokens,
-            events,
-            reports,
-            pool,
-            EXPECTED,
-            NO_HINT,
-            Bump::No,
-        );
+        return end.p
+            .error(tokens, events, reports, pool, EXPECTED, NO_HINT, Bump::No);
     }
     end.p.error(
         tokens,

@@ -1,8 +1,8 @@
 // The matcher MacroSubstitutableName: a macro invocation with arguments, or a plain name.
-use macros::invocation::macro_invocation;
 use layout::hint::NO_HINT;
 use layout::message::EXPECTED;
 use layout::set::NAME_SET;
+use macros::invocation::macro_invocation;
 use parser::State;
 use parser::StateTested;
 use parser::errors::Bump;

@@ -1,12 +1,12 @@
 // The matcher Reference: an Ampersand and what `reference_noamp` of grammar.rs parses: a path in curly brackets, a macro
 // invocation with arguments, or a label.
-use macros::invocation::macro_invocation;
 use crate::unit_address;
 use layout::hint::NO_HINT;
 use layout::message::EXPECTED;
 use layout::node_kind;
 use layout::set::CONTINUE_COND_SET;
 use layout::token_kind;
+use macros::invocation::macro_invocation;
 use parser::State;
 use parser::StateTested;
 use parser::errors::Bump;

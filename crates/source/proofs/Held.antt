@@ -33,27 +33,27 @@ abbrev pub α : Lft → NamedLft
 α κ = namedLft 1 0 tt (κ, tt)
 
 -- the machine value of a view's rows
-abbrev pub rows-val : Source → Val
-rows-val d = sliceVal (d .rows .ptr) (length (d .rows .now))
+abbrev pub tokens-val : Source → Val
+tokens-val d = sliceVal (d .tokens .ptr) (length (d .tokens .now))
 
 abbrev pub Own : Lft → Source → Fml
 Own κ d = T.the-row (α κ) .own d (T′.lowered d ∷ [])
 
 abbrev pub Fields : Lft → Source → Fml
-Fields κ d = owns (ShrSlice (named 0) κ u32 ∷ I.the-row ∷ []) (d .rows, (d .cursor, tt)) (rows-val d ∷ [], (I′.lowered (d .cursor) ∷ [], tt))
+Fields κ d = owns (ShrSlice (named 0) κ u32 ∷ I.the-row ∷ []) (d .tokens, (d .cursor, tt)) (tokens-val d ∷ [], (I′.lowered (d .cursor) ∷ [], tt))
 
 abbrev pub moved : Source → TokenIndex → Source
-moved d i = record { rows = d .rows; cursor = i }
+moved d i = record { tokens = d .tokens; cursor = i }
 
 module _ {M : Type 1} (𝓤 : URA M) (H : Heap 𝓤) (A : Atoms 𝓤) (W : Given 𝓤 H A) (κ : Lft) (d : Source) where
   pub opened : ent 𝓤 (sem 𝓤 H A (Own κ d)) (sep 𝓤 (sem 𝓤 H A (Fields κ d)) (sem 𝓤 H A (Own κ d)))
   opened =
       qed W (‵ (Own κ d) ∷ []) ∵
       use1 W (‵ (Own κ d) ⊛ ‵ (Own κ d)) (LL.copy (T.the-type (α κ)) (T′.the-copy (α κ)) 𝓤 H A W .twice d (T′.lowered d ∷ [])) $ split ! $
-      use1 W (given (T′.lowered d ∷ [] ≡ T′.lowered d ∷ []) (‵ (all-own (T.the-type (α κ) .parts) (T′.the-laws (α κ)) (d .rows, (d .cursor, tt))))) (own-open 𝓤 H A W (T.the-type (α κ)) (T′.the-laws (α κ)) (d .rows, (d .cursor, tt)) (T′.lowered d)) $ learn ! (λ _. frame ! $ done !)
+      use1 W (given (T′.lowered d ∷ [] ≡ T′.lowered d ∷ []) (‵ (all-own (T.the-type (α κ) .parts) (T′.the-laws (α κ)) (d .tokens, (d .cursor, tt))))) (own-open 𝓤 H A W (T.the-type (α κ)) (T′.the-laws (α κ)) (d .tokens, (d .cursor, tt)) (T′.lowered d)) $ learn ! (λ _. frame ! $ done !)
 
   pub moved-on : (i : TokenIndex) → Is I.the-row i (I′.lowered i ∷ []) → ent 𝓤 (sem 𝓤 H A (Own κ d)) (sep 𝓤 (sem 𝓤 H A (Own κ d)) (sem 𝓤 H A (Own κ (moved d i))))
   moved-on i ok =
       qed W (‵ (Own κ d) ∷ []) ∵
       use1 W (‵ (Own κ d) ⊛ ‵ (Own κ d)) (LL.copy (T.the-type (α κ)) (T′.the-copy (α κ)) 𝓤 H A W .twice d (T′.lowered d ∷ [])) $ split ! $ frame ! $
-      owned ! I.the-row (Is I.the-row) (LL.makes I.the-type (LL.usize-plain, tt) 𝓤 H A) i _ ok $ move ! (1 ∷ 0 ∷ []) $ by ! (own-put 𝓤 H A W (T.the-type (α κ)) (T′.the-laws (α κ)) 1 (d .rows, (d .cursor, tt)) i (T′.lowered d))
+      owned ! I.the-row (Is I.the-row) (LL.makes I.the-type (LL.usize-plain, tt) 𝓤 H A) i _ ok $ move ! (1 ∷ 0 ∷ []) $ by ! (own-put 𝓤 H A W (T.the-type (α κ)) (T′.the-laws (α κ)) 1 (d .tokens, (d .cursor, tt)) i (T′.lowered d))

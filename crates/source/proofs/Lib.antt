@@ -1,4 +1,4 @@
 -- What the proofs of the functions share.
 pub mod Moves
 pub mod Held
-pub mod StateAnswered
+pub mod Said

@@ -27,16 +27,16 @@ use Rattle.source.proofs.Source.peek_kind_immediate as immediate
 use Rattle.source.proofs.Source.next_token as next
 
 abbrev pub Made : RefT (List ℕ) → TokenIndex → Source → Type 0
-Made s i r = (r .rows ≡ s) × (r .cursor ≡ i)
+Made s i r = (r .tokens ≡ s) × (r .cursor ≡ i)
 
 abbrev pub Peeked : Source → Source → Type 0
-Peeked r p = (p .rows ≡ r .rows) × (p .cursor .0 ≡ after-trivia (tokens-of (now (r .rows))) (r .cursor .0))
+Peeked r p = (p .tokens ≡ r .tokens) × (p .cursor .0 ≡ after-trivia (tokens-of (now (r .tokens))) (r .cursor .0))
 
 abbrev pub KindSeen : Source → ℕ → Type 0
-KindSeen p k = k ≡ kind-of (drop (p .cursor .0) (tokens-of (now (p .rows))))
+KindSeen p k = k ≡ kind-of (drop (p .cursor .0) (tokens-of (now (p .tokens))))
 
 abbrev pub Taken : Source → Source → Type 0
-Taken r n = (n .rows ≡ r .rows) × (n .cursor .0 ≡ after-token (tokens-of (now (r .rows))) (r .cursor .0))
+Taken r n = (n .tokens ≡ r .tokens) × (n .cursor .0 ≡ after-token (tokens-of (now (r .tokens))) (r .cursor .0))
 
 -- the same of a view that was made of rows and a place
 pub seen-here : (s : RefT (List ℕ)) (i : TokenIndex) (r : Source) (k : ℕ) → Made s i r → KindSeen r k → k ≡ kind-of (drop (i .0) (tokens-of (now s)))

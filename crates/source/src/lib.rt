@@ -15,43 +15,43 @@ ghost use Rattle.token_rows.specs.Tokens.{kind-of};
 ghost use Rattle.source.specs.Place.{after-trivia, after-token};
 
 pub struct Source<'a> {
-    pub rows: &'a [u32],
+    pub tokens: &'a [u32],
     // The row that is read next.
     pub cursor: TokenIndex,
 }
 
 impl<'a> Source<'a> {
-    pub fn new(rows: &'a [u32], cursor: TokenIndex) -> Source<'a>
-        ensures { λ r. ⌜ (r .rows ≡ rows .entry) × (r .cursor ≡ cursor) ⌝ }
+    pub fn new(tokens: &'a [u32], cursor: TokenIndex) -> Source<'a>
+        ensures { λ r. ⌜ (r .tokens ≡ tokens .entry) × (r .cursor ≡ cursor) ⌝ }
     {
-        Source { rows, cursor }
+        Source { tokens, cursor }
     }
 
     // A peek moves the cursor past trivia: the view after it.
     pub fn peek(self) -> Source<'a>
-        ensures { λ r. ⌜ (r .rows ≡ self .entry .rows)
-            × (r .cursor .0 ≡ after-trivia (tokens-of (now (self .entry .rows))) (self .entry .cursor .0)) ⌝ }
+        ensures { λ r. ⌜ (r .tokens ≡ self .entry .tokens)
+            × (r .cursor .0 ≡ after-trivia (tokens-of (now (self .entry .tokens))) (self .entry .cursor .0)) ⌝ }
     {
-        let rows = self.rows;
-        let cursor = past_trivia(rows, self.cursor);
-        Source { rows, cursor }
+        let tokens = self.tokens;
+        let cursor = past_trivia(tokens, self.cursor);
+        Source { tokens, cursor }
     }
 
     // The kind at the cursor, trivia or not; past the last token, token_rows' END. Nothing moves.
     pub fn peek_kind_immediate(self) -> u8
-        ensures { λ r. ⌜ r ≡ kind-of (drop (self .entry .cursor .0) (tokens-of (now (self .entry .rows)))) ⌝ }
+        ensures { λ r. ⌜ r ≡ kind-of (drop (self .entry .cursor .0) (tokens-of (now (self .entry .tokens)))) ⌝ }
     {
-        kind_at(self.rows, self.cursor.0)
+        kind_at(self.tokens, self.cursor.0)
     }
 
     // The view past the first token that is not trivia.
     pub fn next_token(self) -> Source<'a>
-        ensures { λ r. ⌜ (r .rows ≡ self .entry .rows)
-            × (r .cursor .0 ≡ after-token (tokens-of (now (self .entry .rows))) (self .entry .cursor .0)) ⌝ }
+        ensures { λ r. ⌜ (r .tokens ≡ self .entry .tokens)
+            × (r .cursor .0 ≡ after-token (tokens-of (now (self .entry .tokens))) (self .entry .cursor .0)) ⌝ }
     {
-        let rows = self.rows;
-        let cursor = past_token(rows, self.cursor);
-        Source { rows, cursor }
+        let tokens = self.tokens;
+        let cursor = past_token(tokens, self.cursor);
+        Source { tokens, cursor }
     }
 }
 

@@ -1,6 +1,7 @@
 -- `expr_binding_power` is the walk of its rule: a chain from its marker on, or refusal 5.
 use Prim.Native.Nat.{ℕ, _-_}
-use mathlib.Core.Path.{sym, ap, _∙_}
+use mathlib.Core.Path.{ap, _∙_}
+use mathlib.Core.Bool.{false≢true}
 use native.Mathlib.Omega.{arith}
 use borrow.Author.Tests.{eqb-true, eqb-false}
 use Rattle.definitions.specs.Token.{tokens-of}
@@ -9,7 +10,6 @@ use Rattle.definitions.specs.Check.{tell, if_then_else_}
 use Rattle.definitions.specs.Grammar.{lhs as lhs-prog, infix-turn, expr-binding-power-body, grammar}
 use Rattle.machine.specs.Walk.{said}
 use Rattle.machine.proofs.Way.{c-ret, c-yes, c-no, c-fn, way, rule-closed, rule-body}
-use Rattle.binding_power.proofs.Below.{true-false}
 use Rattle.expr.proofs.Chain.{chained-on, chained-off}
 use Rattle.expr.proofs.expr_binding_power.Reads as reads
 use Rattle.expr.proofs.+expr_binding_power+infix_chain+infix_step+lhs+missing_lhs+no_lhs+paren_expr+prefix_expr+rhs+ternary_rhs.Lts-expr_binding_power as lts
@@ -133,6 +133,6 @@ returns-3 t c =
       way (s′ .args .allowed - 1) (chained-off (s′ .args .allowed - 1) (tokens-of (s′ .args .tokens .now)) (if lhs-prog then tell again else tell no) (infix-turn (s′ .args .min-bp)) (start′ .start .ensures .0 _ _) (c-no (c-fn (s′ .args .allowed - 1) (lhs′ .lhs .ensures .0)) (if2′ .if2 .left) c-ret) (ignore′ .ignore .ensures .0 _ _)) ∙ rule-body (s′ .args .allowed) (tokens-of (s′ .args .tokens .now)) (expr-binding-power (s′ .args .min-bp)) _ (omega (arith, eqb-false (s′ .args .allowed) 0 (if1′ .if1 .left))),
       (
         omega (arith, start′ .start .ensures .1 (s′ .args .tokens .now), lhs′ .lhs .ensures .1 .0, ignore′ .ignore .ensures .1 (s′ .args .tokens .now)),
-        λ e. true-false (sym e),
+        λ e. absurd (false≢true e),
       ),
     )

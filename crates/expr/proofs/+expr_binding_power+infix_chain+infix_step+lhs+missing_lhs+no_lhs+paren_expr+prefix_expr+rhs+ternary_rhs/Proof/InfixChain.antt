@@ -6,9 +6,9 @@ use native.Mathlib.Omega.{arith}
 use Rattle.definitions.specs.Token.{tokens-of}
 use Rattle.definitions.specs.Grammar.{infix-turn}
 use Rattle.parser.specs.View.{left, marker-of, view-of}
-use Rattle.expr.specs.Parts.{links-from}
+use Rattle.expr.specs.Chain.{links-from}
 use Rattle.machine.proofs.Way.{c-fn}
-use Rattle.names.proofs.Kit.{ahead-falls}
+use Rattle.steps.proofs.Left.{ahead-falls}
 use Rattle.expr.proofs.Chain.{linked-again, linked-last, linked-stop, step-again, step-last, step-none}
 use Rattle.expr.proofs.infix_chain.Reads as reads
 use Rattle.expr.proofs.+expr_binding_power+infix_chain+infix_step+lhs+missing_lhs+no_lhs+paren_expr+prefix_expr+rhs+ternary_rhs.Lts-infix_chain as lts
@@ -16,14 +16,14 @@ use Rattle.expr.proofs.+expr_binding_power+infix_chain+infix_step+lhs+m
 
 -- the chain from here is the chain from the start
 abbrev pub Inv-loop : lts.InvT-loop
-Inv-loop t events₀ reports₀ pool₀ room min-bp m₀ q₀ events reports pool m q =
-    (left t (q .s) ≤ left t (q₀ .s))
+Inv-loop tokens events₀ reports₀ pool₀ allowed min-bp m₀ q₀ events reports pool m q =
+    (left tokens (q .s) ≤ left tokens (q₀ .s))
     × ((length events ≡ length events₀)
     × ((length reports ≡ length reports₀)
-    × ((length pool ≡ length pool₀) × (links-from room (tokens-of t) (infix-turn min-bp) (marker-of m) (view-of q events reports pool) ≡ links-from room (tokens-of t) (infix-turn min-bp) (marker-of m₀) (view-of q₀ events₀ reports₀ pool₀)))))
+    × ((length pool ≡ length pool₀) × (links-from allowed (tokens-of tokens) (infix-turn min-bp) (marker-of m) (view-of q events reports pool) ≡ links-from allowed (tokens-of tokens) (infix-turn min-bp) (marker-of m₀) (view-of q₀ events₀ reports₀ pool₀)))))
 
 abbrev pub μ-loop : lts.MeasureT-loop
-μ-loop t events₀ reports₀ pool₀ room min-bp m₀ q₀ events reports pool m q = left t (q .s)
+μ-loop tokens events₀ reports₀ pool₀ allowed min-bp m₀ q₀ events reports pool m q = left tokens (q .s)
 
 pub loop-holds : (t : ℕ) → lts.Need-loop-holds (infix-chain-claims t) (infix-chain-at t) reads.Post Inv-loop μ-loop
 loop-holds t c = (omega arith, (refl, (refl, (refl, refl))))

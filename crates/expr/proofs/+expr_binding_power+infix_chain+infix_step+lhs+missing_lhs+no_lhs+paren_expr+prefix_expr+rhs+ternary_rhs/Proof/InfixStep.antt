@@ -1,11 +1,10 @@
 -- `infix_step` is one turn of the chain: which arm it takes is decided by the operator at the cursor.
 use Prim.Native.Nat.{ℕ}
-use mathlib.Core.Path.{sym}
+use mathlib.Core.Bool.{false≢true}
 use native.Mathlib.Omega.{arith}
 use borrow.Author.Tests.{eqb-false}
 use Rattle.machine.specs.Walk.{unlabelled}
 use Rattle.machine.proofs.Way.{c-act, c-seq, c-fn, way}
-use Rattle.binding_power.proofs.Below.{true-false}
 use Rattle.expr.proofs.Levels.{turn-none, turn-weaker, turn-ternary, turn-binary}
 use Rattle.expr.proofs.infix_step.Reads as reads
 use Rattle.expr.proofs.+expr_binding_power+infix_chain+infix_step+lhs+missing_lhs+no_lhs+paren_expr+prefix_expr+rhs+ternary_rhs.Lts-infix_step as lts
@@ -22,7 +21,7 @@ returns t c =
       way (s′ .args .allowed) (turn-none (s′ .args .min-bp) (infix-op-at′ .infix-op-at .result .left) (infix-op-at′ .infix-op-at .result .right) (infix-op-at′ .infix-op-at .ensures .0 _ _ _) (infix-op-at′ .infix-op-at .ensures .1 .0) (infix-op-at′ .infix-op-at .ensures .1 .1 .0) (if1′ .if1 .taken)),
       (
         omega (arith, infix-op-at′ .infix-op-at .ensures .1 .1 .1 .1 .0),
-        λ e. true-false (sym e),
+        λ e. absurd (false≢true e),
       ),
     )
 
@@ -35,7 +34,7 @@ returns-2 t c =
       way (s′ .args .allowed) (turn-weaker (s′ .args .min-bp) (infix-op-at′ .infix-op-at .result .left) (infix-op-at′ .infix-op-at .result .right) (infix-op-at′ .infix-op-at .ensures .0 _ _ _) (infix-op-at′ .infix-op-at .ensures .1 .0) (infix-op-at′ .infix-op-at .ensures .1 .1 .0) (if1′ .if1 .left) (if2′ .if2 .taken)),
       (
         omega (arith, infix-op-at′ .infix-op-at .ensures .1 .1 .1 .1 .0),
-        λ e. true-false (sym e),
+        λ e. absurd (false≢true e),
       ),
     )
 

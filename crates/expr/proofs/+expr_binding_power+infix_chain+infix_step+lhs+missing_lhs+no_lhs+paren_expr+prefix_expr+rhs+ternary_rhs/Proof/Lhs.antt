@@ -1,12 +1,11 @@
 -- `lhs` is the walk of the definitions' `lhs`, test by test.
 use Prim.Native.Nat.{ℕ}
-use mathlib.Core.Path.{sym}
+use mathlib.Core.Bool.{false≢true}
 use native.Mathlib.Omega.{arith}
 use Rattle.definitions.specs.Token.{tokens-of}
 use Rattle.definitions.specs.Grammar.{lhs as lhs-prog}
 use Rattle.machine.specs.Walk.{walk-rule, unlabelled}
 use Rattle.machine.proofs.Way.{c-walk, c-ret, c-seq, c-yes, c-no, c-fn, way}
-use Rattle.binding_power.proofs.Below.{true-false}
 use Rattle.expr.proofs.lhs.Reads as reads
 use Rattle.expr.proofs.+expr_binding_power+infix_chain+infix_step+lhs+missing_lhs+no_lhs+paren_expr+prefix_expr+rhs+ternary_rhs.Lts-lhs as lts
 use Rattle.expr.proofs.+expr_binding_power+infix_chain+infix_step+lhs+missing_lhs+no_lhs+paren_expr+prefix_expr+rhs+ternary_rhs.Proof.Measures.{lhs-at, lhs-claims}
@@ -193,6 +192,6 @@ returns-5 t c =
       way (s′ .args .allowed) (c-no (c-walk (at-prefix-op′ .at-prefix-op .ensures .0 (walk-rule (s′ .args .allowed) (tokens-of (s′ .args .tokens .now))) unlabelled _ _ _)) (if1′ .if1 .left) (c-no (c-walk (at′ .at .ensures .0 (walk-rule (s′ .args .allowed) (tokens-of (s′ .args .tokens .now))) unlabelled _ _ _)) (if2′ .if2 .left) (c-no (c-walk (at2′ .at2 .ensures .0 (walk-rule (s′ .args .allowed) (tokens-of (s′ .args .tokens .now))) unlabelled _ _ _)) (if3′ .if3 .left) (c-no (c-walk (at3′ .at3 .ensures .0 (walk-rule (s′ .args .allowed) (tokens-of (s′ .args .tokens .now))) unlabelled _ _ _)) (if4′ .if4 .left) (c-fn (s′ .args .allowed) (no-lhs′ .no-lhs .ensures .0)))))),
       (
         omega (arith, at-prefix-op′ .at-prefix-op .ensures .1 .0, at′ .at .ensures .1 .0, at2′ .at2 .ensures .1 .0, at3′ .at3 .ensures .1 .0, no-lhs′ .no-lhs .ensures .1),
-        λ e. true-false (sym e),
+        λ e. absurd (false≢true e),
       ),
     )

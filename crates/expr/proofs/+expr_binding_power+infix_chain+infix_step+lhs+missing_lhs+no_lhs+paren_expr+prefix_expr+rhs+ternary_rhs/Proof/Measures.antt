@@ -25,7 +25,7 @@ use Rattle.expr.proofs.ternary_rhs.Kinds as ternary-rhs-kinds
 use Rattle.expr.proofs.at_prefix_op.Reads as at-prefix-op-reads
 use Rattle.expr.proofs.infix_op_at.Reads as infix-op-at-reads
 use Rattle.expr.proofs.literal_expr.Reads as literal-expr-reads
-use Rattle.names.proofs.macro_invocation.Reads as macro-invocation-reads
+use Rattle.macros.proofs.macro_invocation.Reads as macro-invocation-reads
 use Rattle.parser.proofs.Parser.at.Reads as at-reads
 use Rattle.parser.proofs.Parser.bump.Reads as bump-reads
 use Rattle.parser.proofs.Parser.complete.Reads as complete-reads

@@ -65,7 +65,7 @@ returns c =
     let i = g .before .before .before .before in
     let j = i .before .before in
     let s = j .before .before .before .before .before in
-    (λ ask b. whole (opened macro-invocation-is (completes (lit< tt) (j .new .ensures) (i .start .ensures .0 _ _ _) (c-seq (c-seq (c-act (g .bump .ensures .0 b _ _ _)) (if-yes (c-walk (f .at-immediate .ensures .0 ask b _ _ _)) (ap truth (e .if1 .taken)) (lands (d .argument-list .ensures .0 ask b )))) c-ret) (a .complete .ensures .0 _ _ _))), omega (flags, i .start .ensures .1 (s .args .tokens .now), g .bump .ensures .1, f .at-immediate .ensures .1 .0, f .at-immediate .ensures .1 .1 (e .if1 .taken), d .argument-list .ensures .1, a .complete .ensures .1 (s .args .tokens .now)))
+    (λ ask b. whole (opened macro-invocation-is (completes (lit< tt) (j .new .ensures) (i .start .ensures .0 _ _ _) (c-seq (c-seq (c-act (g .bump .ensures .0 b _ _ _)) (if-yes (c-walk (f .at-immediate .ensures .0 ask b _ _ _)) (ap truth (e .if1 .taken)) (lands (d .argument-list .ensures .0 ask b)))) c-ret) (a .complete .ensures .0 _ _ _))), omega (flags, i .start .ensures .1 (s .args .tokens .now), g .bump .ensures .1, f .at-immediate .ensures .1 .0, f .at-immediate .ensures .1 .1 (e .if1 .taken), d .argument-list .ensures .1, a .complete .ensures .1 (s .args .tokens .now)))
 
 same-length-4 : tie.Need-same-length-4
 same-length-4 c =

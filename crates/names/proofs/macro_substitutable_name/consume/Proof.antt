@@ -42,7 +42,7 @@ returns c =
     let a = c .before .before .before .before .before .before in
     let d = a .before .before .before .before .before in
     let e = d .before in
-    (λ ask b. whole (opened name-consume-is (if-yes (c-walk (e .silent-at-macro-invocation-with-args .ensures .0 ask b _ _ _ _)) (ap truth (d .if1 .taken)) (c-walk (a .macro-invocation .ensures .0 ask b )))), omega (flags, e .silent-at-macro-invocation-with-args .ensures .1 .0, e .silent-at-macro-invocation-with-args .ensures .1 .1 (d .if1 .taken), a .macro-invocation .ensures .1))
+    (λ ask b. whole (opened name-consume-is (if-yes (c-walk (e .silent-at-macro-invocation-with-args .ensures .0 ask b _ _ _ _)) (ap truth (d .if1 .taken)) (c-walk (a .macro-invocation .ensures .0 ask b)))), omega (flags, e .silent-at-macro-invocation-with-args .ensures .1 .0, e .silent-at-macro-invocation-with-args .ensures .1 .1 (d .if1 .taken), a .macro-invocation .ensures .1))
 
 same-length-4 : tie.Need-same-length-4
 same-length-4 c =

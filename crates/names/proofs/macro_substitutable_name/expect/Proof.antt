@@ -35,7 +35,7 @@ returns : tie.Need-returns
 returns c =
     let a = c .before in
     let d = a .before .before .before .before .before .before .before in
-    (λ ask b. ends (opened (expect-is MacroSubstitutableName) (if-yes (c-walk (d .eat .ensures .0 ask b )) (ap truth (a .if1 .taken)) c-ret)), omega (flags, d .eat .ensures .1 .0, d .eat .ensures .1 .1 (a .if1 .taken)))
+    (λ ask b. ends (opened (expect-is MacroSubstitutableName) (if-yes (c-walk (d .eat .ensures .0 ask b)) (ap truth (a .if1 .taken)) c-ret)), omega (flags, d .eat .ensures .1 .0, d .eat .ensures .1 .1 (a .if1 .taken)))
 
 same-length-4 : tie.Need-same-length-4
 same-length-4 c =
@@ -60,7 +60,7 @@ returns-2 c =
     let a = c .before .before .before .before .before .before in
     let d = a .before .before .before .before .before in
     let e = d .before .before .before .before .before .before .before in
-    (λ ask b. ends (opened (expect-is MacroSubstitutableName) (if-no (c-walk (e .eat .ensures .0 ask b )) (ap truth (d .if1 .left)) (c-seq (c-walk (a .error .ensures .0 ask b )) c-ret))), omega (flags, e .eat .ensures .1 .0, a .error .ensures .1))
+    (λ ask b. ends (opened (expect-is MacroSubstitutableName) (if-no (c-walk (e .eat .ensures .0 ask b)) (ap truth (d .if1 .left)) (c-seq (c-walk (a .error .ensures .0 ask b)) c-ret))), omega (flags, e .eat .ensures .1 .0, a .error .ensures .1))
 
 pub expect-spec : {M : Type 1} → statement M
 expect-spec = tie.close (tie.spec eat-requires error-requires same-length same-length-2 same-length-3 returns same-length-4 same-length-5 same-length-6 returns-2)

@@ -67,7 +67,7 @@ returns-2 c =
     let f = e .before .before .before in
     let g = f .before .before .before in
     let i = g .before .before .before in
-    (λ ask b. ends (opened path-is (if-yes (c-walk (i .eat .ensures .0 ask b _ _)) (ap truth (g .if1 .taken)) (if-no (c-walk (f .eat2 .ensures .0 ask b _ _)) (ap truth (e .if2 .left)) (c-seq (lands (d .path-segment .ensures .0 ask b )) (lands (a .path-rest .ensures .0 ask b )))))), omega (flags, i .eat .ensures .1 .0, i .eat .ensures .1 .1 (g .if1 .taken), f .eat2 .ensures .1 .0, d .path-segment .ensures .1, a .path-rest .ensures .1))
+    (λ ask b. ends (opened path-is (if-yes (c-walk (i .eat .ensures .0 ask b _ _)) (ap truth (g .if1 .taken)) (if-no (c-walk (f .eat2 .ensures .0 ask b _ _)) (ap truth (e .if2 .left)) (c-seq (lands (d .path-segment .ensures .0 ask b)) (lands (a .path-rest .ensures .0 ask b)))))), omega (flags, i .eat .ensures .1 .0, i .eat .ensures .1 .1 (g .if1 .taken), f .eat2 .ensures .1 .0, d .path-segment .ensures .1, a .path-rest .ensures .1))
 
 eat-requires-3 : tie.Need-eat-requires-3
 eat-requires-3 c κs = tt
@@ -103,7 +103,7 @@ returns-3 c =
     let e = d .before .before .before in
     let f = e .before .before .before in
     let g = f .before .before .before in
-    (λ ask b. ends (opened path-is (if-no (c-walk (g .eat .ensures .0 ask b _ _)) (ap truth (f .if1 .left)) (c-seq (if-yes (c-walk (e .eat3 .ensures .0 ask b _ _)) (ap truth (d .if3 .taken)) c-ret) (lands (a .path-rest2 .ensures .0 ask b ))))), omega (flags, g .eat .ensures .1 .0, e .eat3 .ensures .1 .0, e .eat3 .ensures .1 .1 (d .if3 .taken), a .path-rest2 .ensures .1))
+    (λ ask b. ends (opened path-is (if-no (c-walk (g .eat .ensures .0 ask b _ _)) (ap truth (f .if1 .left)) (c-seq (if-yes (c-walk (e .eat3 .ensures .0 ask b _ _)) (ap truth (d .if3 .taken)) c-ret) (lands (a .path-rest2 .ensures .0 ask b))))), omega (flags, g .eat .ensures .1 .0, e .eat3 .ensures .1 .0, e .eat3 .ensures .1 .1 (d .if3 .taken), a .path-rest2 .ensures .1))
 
 error-requires : tie.Need-error-requires
 error-requires c κs = tt
@@ -143,7 +143,7 @@ returns-4 c =
     let f = e .before .before .before in
     let g = f .before .before .before in
     let i = g .before .before .before in
-    (λ ask b. ends (opened path-is (if-no (c-walk (i .eat .ensures .0 ask b _ _)) (ap truth (g .if1 .left)) (c-seq (if-no (c-walk (f .eat3 .ensures .0 ask b _ _)) (ap truth (e .if3 .left)) (c-walk (d .error .ensures .0 ask b ))) (lands (a .path-rest3 .ensures .0 ask b ))))), omega (flags, i .eat .ensures .1 .0, f .eat3 .ensures .1 .0, d .error .ensures .1, a .path-rest3 .ensures .1))
+    (λ ask b. ends (opened path-is (if-no (c-walk (i .eat .ensures .0 ask b _ _)) (ap truth (g .if1 .left)) (c-seq (if-no (c-walk (f .eat3 .ensures .0 ask b _ _)) (ap truth (e .if3 .left)) (c-walk (d .error .ensures .0 ask b))) (lands (a .path-rest3 .ensures .0 ask b))))), omega (flags, i .eat .ensures .1 .0, f .eat3 .ensures .1 .0, d .error .ensures .1, a .path-rest3 .ensures .1))
 
 pub path-spec : {M : Type 1} → statement M
 path-spec = tie.close (tie.spec eat-requires eat-requires-2 same-length returns path-segment-requires path-rest-requires same-length-2 same-length-3 same-length-4 returns-2 eat-requires-3 path-rest-requires-2 same-length-5 same-length-6 same-length-7 returns-3 error-requires path-rest-requires-3 same-length-8 same-length-9 same-length-10 returns-4)

@@ -55,7 +55,7 @@ loop-again c =
     let f = e .before in
     let g = f .before .before in
     let s = g .before .before .before .before .before in
-    (λ ask b. turns (opened path-turn-is (if-yes (c-walk (f .at-segment .ensures .0 ask b _ _ _)) (ap truth (e .if1 .taken)) (c-seq (c-seq (c-walk (d .expect .ensures .0 ask b )) (lands (a .path-segment .ensures .0 ask b ))) c-ret))) (ahead-falls (s .args .tokens .now) (g .loop .q) (a .path-segment .result) (omega (flags, g .loop .inv .1 .0, f .at-segment .ensures .1 .0, f .at-segment .ensures .1 .1 (e .if1 .taken), d .expect .ensures .1 .0, a .path-segment .ensures .1))) ∙ g .loop .inv .0 ask b, (omega (flags, g .loop .inv .1 .0, f .at-segment .ensures .1 .0, f .at-segment .ensures .1 .1 (e .if1 .taken), d .expect .ensures .1 .0, a .path-segment .ensures .1), (omega (arith, g .loop .inv .1 .1, d .expect .kept, a .path-segment .kept), (omega (arith, g .loop .inv .1 .1, d .expect .kept, a .path-segment .kept), omega (arith, g .loop .inv .1 .1, d .expect .kept, a .path-segment .kept)))))
+    (λ ask b. turns (opened path-turn-is (if-yes (c-walk (f .at-segment .ensures .0 ask b _ _ _)) (ap truth (e .if1 .taken)) (c-seq (c-seq (c-walk (d .expect .ensures .0 ask b)) (lands (a .path-segment .ensures .0 ask b))) c-ret))) (ahead-falls (s .args .tokens .now) (g .loop .q) (a .path-segment .result) (omega (flags, g .loop .inv .1 .0, f .at-segment .ensures .1 .0, f .at-segment .ensures .1 .1 (e .if1 .taken), d .expect .ensures .1 .0, a .path-segment .ensures .1))) ∙ g .loop .inv .0 ask b, (omega (flags, g .loop .inv .1 .0, f .at-segment .ensures .1 .0, f .at-segment .ensures .1 .1 (e .if1 .taken), d .expect .ensures .1 .0, a .path-segment .ensures .1), (omega (arith, g .loop .inv .1 .1, d .expect .kept, a .path-segment .kept), (omega (arith, g .loop .inv .1 .1, d .expect .kept, a .path-segment .kept), omega (arith, g .loop .inv .1 .1, d .expect .kept, a .path-segment .kept)))))
 
 same-length : tie.Need-same-length Inv-loop μ-loop
 same-length c =

@@ -38,7 +38,7 @@ returns c =
     let a = c .before .before .before .before .before .before in
     let d = a .before .before .before .before .before in
     let e = d .before .before .before in
-    (λ ask b. ends (opened reference-noamp-is (if-yes (c-walk (e .eat .ensures .0 ask b _ _)) (ap truth (d .if1 .taken)) (lands (a .path .ensures .0 ask b )))), omega (flags, e .eat .ensures .1 .0, e .eat .ensures .1 .1 (d .if1 .taken), a .path .ensures .1))
+    (λ ask b. ends (opened reference-noamp-is (if-yes (c-walk (e .eat .ensures .0 ask b _ _)) (ap truth (d .if1 .taken)) (lands (a .path .ensures .0 ask b)))), omega (flags, e .eat .ensures .1 .0, e .eat .ensures .1 .1 (d .if1 .taken), a .path .ensures .1))
 
 silent-at-macro-invocation-with-args-requires : tie.Need-silent-at-macro-invocation-with-args-requires
 silent-at-macro-invocation-with-args-requires c κs = tt
@@ -71,7 +71,7 @@ returns-2 c =
     let e = d .before in
     let f = e .before in
     let g = f .before .before .before in
-    (λ ask b. ends (opened reference-noamp-is (if-no (c-walk (g .eat .ensures .0 ask b _ _)) (ap truth (f .if1 .left)) (if-yes (c-walk (e .silent-at-macro-invocation-with-args .ensures .0 ask b _ _ _ _)) (ap truth (d .if2 .taken)) (c-walk (a .macro-invocation .ensures .0 ask b ))))), omega (flags, g .eat .ensures .1 .0, e .silent-at-macro-invocation-with-args .ensures .1 .0, e .silent-at-macro-invocation-with-args .ensures .1 .1 (d .if2 .taken), a .macro-invocation .ensures .1))
+    (λ ask b. ends (opened reference-noamp-is (if-no (c-walk (g .eat .ensures .0 ask b _ _)) (ap truth (f .if1 .left)) (if-yes (c-walk (e .silent-at-macro-invocation-with-args .ensures .0 ask b _ _ _ _)) (ap truth (d .if2 .taken)) (c-walk (a .macro-invocation .ensures .0 ask b))))), omega (flags, g .eat .ensures .1 .0, e .silent-at-macro-invocation-with-args .ensures .1 .0, e .silent-at-macro-invocation-with-args .ensures .1 .1 (d .if2 .taken), a .macro-invocation .ensures .1))
 
 eat-requires-2 : tie.Need-eat-requires-2
 eat-requires-2 c κs = tt
@@ -125,7 +125,7 @@ returns-4 c =
     let g = f .before in
     let i = g .before in
     let j = i .before .before .before in
-    (λ ask b. ends (opened reference-noamp-is (if-no (c-walk (j .eat .ensures .0 ask b _ _)) (ap truth (i .if1 .left)) (if-no (c-walk (g .silent-at-macro-invocation-with-args .ensures .0 ask b _ _ _ _)) (ap truth (f .if2 .left)) (if-no (c-walk (e .eat2 .ensures .0 ask b _ _)) (ap truth (d .if3 .left)) (c-walk (a .error .ensures .0 ask b )))))), omega (flags, j .eat .ensures .1 .0, g .silent-at-macro-invocation-with-args .ensures .1 .0, e .eat2 .ensures .1 .0, a .error .ensures .1))
+    (λ ask b. ends (opened reference-noamp-is (if-no (c-walk (j .eat .ensures .0 ask b _ _)) (ap truth (i .if1 .left)) (if-no (c-walk (g .silent-at-macro-invocation-with-args .ensures .0 ask b _ _ _ _)) (ap truth (f .if2 .left)) (if-no (c-walk (e .eat2 .ensures .0 ask b _ _)) (ap truth (d .if3 .left)) (c-walk (a .error .ensures .0 ask b)))))), omega (flags, j .eat .ensures .1 .0, g .silent-at-macro-invocation-with-args .ensures .1 .0, e .eat2 .ensures .1 .0, a .error .ensures .1))
 
 pub reference-noamp-spec : {M : Type 1} → statement M
 reference-noamp-spec = tie.close (tie.spec eat-requires path-requires same-length same-length-2 same-length-3 returns silent-at-macro-invocation-with-args-requires macro-invocation-requires same-length-4 same-length-5 same-length-6 returns-2 eat-requires-2 same-length-7 returns-3 error-requires same-length-8 same-length-9 same-length-10 returns-4)

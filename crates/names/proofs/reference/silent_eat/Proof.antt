@@ -37,7 +37,7 @@ returns c =
     let a = c .before .before .before .before .before .before in
     let d = a .before .before .before .before .before in
     let e = d .before in
-    (λ ask b. whole (opened (silent-eat-is Reference) (if-yes (opened reference-matches-is (c-act (e .silent-at .ensures .0 b _ _ _ _))) (ap truth (d .if1 .taken)) (c-seq (c-walk (a .consume .ensures .0 ask b )) c-ret))), (omega (flags, e .silent-at .ensures .1 .0, e .silent-at .ensures .1 .1 (d .if1 .taken), a .consume .ensures .1), λ h. omega (flags, e .silent-at .ensures .1 .0, e .silent-at .ensures .1 .1 (d .if1 .taken), a .consume .ensures .1)))
+    (λ ask b. whole (opened (silent-eat-is Reference) (if-yes (opened reference-matches-is (c-act (e .silent-at .ensures .0 b _ _ _ _))) (ap truth (d .if1 .taken)) (c-seq (c-walk (a .consume .ensures .0 ask b)) c-ret))), (omega (flags, e .silent-at .ensures .1 .0, e .silent-at .ensures .1 .1 (d .if1 .taken), a .consume .ensures .1), λ h. omega (flags, e .silent-at .ensures .1 .0, e .silent-at .ensures .1 .1 (d .if1 .taken), a .consume .ensures .1)))
 
 returns-2 : tie.Need-returns-2
 returns-2 c =

@@ -55,7 +55,7 @@ returns c =
     let f = e .before .before .before .before in
     let g = f .before .before in
     let s = g .before .before .before .before .before in
-    (λ ask b. whole (opened address-consume-is (completes (lit< tt) (g .new .ensures) (f .start .ensures .0 _ _ _) (c-seq (c-seq (c-act (e .bump .ensures .0 b _ _ _)) (lands (d .expect .ensures .0 ask b ))) c-ret) (a .complete .ensures .0 _ _ _))), omega (flags, f .start .ensures .1 (s .args .tokens .now), e .bump .ensures .1, d .expect .ensures .1, a .complete .ensures .1 (s .args .tokens .now)))
+    (λ ask b. whole (opened address-consume-is (completes (lit< tt) (g .new .ensures) (f .start .ensures .0 _ _ _) (c-seq (c-seq (c-act (e .bump .ensures .0 b _ _ _)) (lands (d .expect .ensures .0 ask b))) c-ret) (a .complete .ensures .0 _ _ _))), omega (flags, f .start .ensures .1 (s .args .tokens .now), e .bump .ensures .1, d .expect .ensures .1, a .complete .ensures .1 (s .args .tokens .now)))
 
 pub consume-spec : {M : Type 1} → statement M
 consume-spec = tie.close (tie.spec new-requires start-requires bump-requires expect-requires complete-requires same-length same-length-2 same-length-3 returns)

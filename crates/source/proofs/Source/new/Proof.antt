@@ -1,5 +1,5 @@
 -- `Source::new` meets its contract: a walk of its MIR, by hand. A view is made of the rows and the place passed, in the result's local.
--- A `&[u32]` is Copy, so what it owns is had twice: once for rows at exit, and once inside the result, beside the facts of cursor.
+-- A `&[u32]` is Copy, so what it owns is had twice: once for tokens at exit, and once inside the result, beside the facts of cursor.
 use mathlib.Core.Path.{refl}
 use Prim.Native.Nat.{ℕ}
 use mathlib.Core.List.{List, [], _∷_}
@@ -56,7 +56,7 @@ module _ {M : Type 1} (𝓤 : URA M) (H : Heap 𝓤) (A : Atoms 𝓤) (W : Given
   v = sliceVal (s .ptr) (length (s .now))
 
   abbrev made : Source
-  made = record { rows = s; cursor = i }
+  made = record { tokens = s; cursor = i }
 
   abbrev at : Vals new.signature (κ, tt)
   at = (v ∷ [], (I′.lowered i ∷ [], tt))
@@ -72,17 +72,17 @@ module _ {M : Type 1} (𝓤 : URA M) (H : Heap 𝓤) (A : Atoms 𝓤) (W : Given
       qed W ((‵ (flft κ q) ⊛ ‵ ftrue) ∷ ‵ (owns (ShrSlice (named 0) κ u32 ∷ I.the-row ∷ []) (s, (i, tt)) at) ∷ []) ∵
       suffices ! _ (ends-at 𝓤 H A new.ended stayed (new.clauses 𝓤 H A mem run) W (((κ, tt), (q, tt), tt, (s, (i, tt)), at), tt) (T′.lowered made) made (tt, (tt, tt)) (tt, (tt, tt))) $ says ! (refl, refl) $
       frame ! $ fsplit ! $ use1 W (‵ Own ⊛ ‵ Own) (shr-slice-copy 𝓤 H A W (named 0) κ u32 .twice s (v ∷ [])) $ split ! $ move ! (0 ∷ 2 ∷ []) $ fjoin ! $ frame ! $
-      -- [what rows owns]: what the fields own together, of it and of cursor's facts, is what the struct owns
+      -- [what tokens owns]: what the fields own together, of it and of cursor's facts, is what the struct owns
       nothing ! $ owned ! I.the-row (Is I.the-row) (LL.makes I.the-type (LL.usize-plain, tt) 𝓤 H A) i _ ok $ fjoin ! $ move ! (1 ∷ 0 ∷ []) $ fjoin ! $ by ! (own-shut 𝓤 H A W (T.the-type α) (T′.the-laws α) (s, (i, tt)))
 
   module _ (C : Calls 𝓤 H) (Λ : Loops 𝓤 H) where
     walk : Is (ShrSlice (named 0) κ u32) s (v ∷ []) → ent 𝓤 (onEntry 𝓤 H A new.signature (κ, tt) (q, tt) (s, (i, tt)) at) (WpFn 𝓤 H C Λ code.function (v ∷ I′.lowered i ∷ []) Post)
     walk p =
-        let rows-typed = shr-slice-lawful 𝓤 H A W (named 0) κ u32 .typed s (v ∷ []) p .0 in
+        let tokens-typed = shr-slice-lawful 𝓤 H A W (named 0) κ u32 .typed s (v ∷ []) p .0 in
         let cursor-typed = LL.lawful I.the-type I′.the-laws 𝓤 H A W .typed i (I′.lowered i ∷ []) ok .0 in
         qed W (raw (onEntry 𝓤 H A new.signature (κ, tt) (q, tt) (s, (i, tt)) at) ∷ []) ∵ enter ! C Λ code.function (v ∷ I′.lowered i ∷ []) _ $
-        alloc1 ! (λ l₀. alloc1 ! (λ l₁. alloc1 ! (λ l₂. alloc0 ! $ params1 ! $ pass1 ! (init ! 2 refl rows-typed) $ pass1 ! (init ! 0 refl cursor-typed) $ pass0 ! $
-        assigns ! (agg ! (and-then ! (load ! (from ! (stop !)) (look ! 2 refl)) (and-then ! (load ! (from ! (stop !)) (look ! 0 refl)) (no-more !)))) (from ! (stop !)) (init ! 4 refl (tt, (rows-typed .1, (cursor-typed .1, tt)))) $
+        alloc1 ! (λ l₀. alloc1 ! (λ l₁. alloc1 ! (λ l₂. alloc0 ! $ params1 ! $ pass1 ! (init ! 2 refl tokens-typed) $ pass1 ! (init ! 0 refl cursor-typed) $ pass0 ! $
+        assigns ! (agg ! (and-then ! (load ! (from ! (stop !)) (look ! 2 refl)) (and-then ! (load ! (from ! (stop !)) (look ! 0 refl)) (no-more !)))) (from ! (stop !)) (init ! 4 refl (tt, (tokens-typed .1, (cursor-typed .1, tt)))) $
         returns ! (look ! 4 refl) $ forget ! 0 refl $ forget ! 2 refl $ forget ! 4 refl $ move ! (4 ∷ 5 ∷ []) $ free1 ! $ move ! (2 ∷ 3 ∷ []) $ free1 ! $ free1 ! $ free0 ! $ by ! exits)))
 
 module _ {M : Type 1} (𝓤 : URA M) (H : Heap 𝓤) (A : Atoms 𝓤) (W : Given 𝓤 H A) (mem : Memory → SProp 𝓤) (run : Routine → Fun 𝓤) where

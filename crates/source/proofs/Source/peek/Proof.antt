@@ -41,7 +41,7 @@ use Rattle.layout.proofs.TokenIndex as I
 use Rattle.layout.proofs.TokenIndex.Laws as I′
 use Rattle.source.specs.Place.{after-trivia}
 use Rattle.source.specs.declared.Source.{Source}
-use Rattle.source.proofs.Held.{Own, Fields, rows-val, moved, opened, moved-on}
+use Rattle.source.proofs.Held.{Own, Fields, tokens-val, moved, opened, moved-on}
 use Rattle.source.proofs.Source as T
 use Rattle.source.proofs.Source.Laws as T′
 use Rattle.source.proofs.place.past_trivia as past
@@ -71,22 +71,22 @@ module _ {M : Type 1} (𝓤 : URA M) (H : Heap 𝓤) (A : Atoms 𝓤) (W : Given
 
   -- what is known of the place that the callee returns
   abbrev Found : TokenIndex → Type 0
-  Found i = i .0 ≡ after-trivia (tokens-of (now (d .rows))) (d .cursor .0)
+  Found i = i .0 ≡ after-trivia (tokens-of (now (d .tokens))) (d .cursor .0)
 
   abbrev Left : TokenIndex → Type 0
-  Left i = dropped (i .0) (tokens-of (now (d .rows))) ≡ drop-trivia (dropped (d .cursor .0) (tokens-of (now (d .rows))))
+  Left i = dropped (i .0) (tokens-of (now (d .tokens))) ≡ drop-trivia (dropped (d .cursor .0) (tokens-of (now (d .tokens))))
 
   abbrev Post : Val → SProp 𝓤
   Post = walkOf 𝓤 H A peek.ended stayed (peek.clauses 𝓤 H A mem run) .post (((κ, tt), (q, tt), tt, (d, tt), (mach ∷ [], tt)), tt)
 
   -- what the callee is passed
   abbrev passed : Vals past.signature (κ, tt)
-  passed = (rows-val d ∷ [], (I′.lowered (d .cursor) ∷ [], tt))
+  passed = (tokens-val d ∷ [], (I′.lowered (d .cursor) ∷ [], tt))
 
   abbrev to : Past 𝓤 H A mem run .Ghost
-  to = (((κ, tt), (q, tt), tt, (d .rows, (d .cursor, tt)), passed), tt)
+  to = (((κ, tt), (q, tt), tt, (d .tokens, (d .cursor, tt)), passed), tt)
 
-  asked : ent 𝓤 (onEntry 𝓤 H A past.signature (κ, tt) (q, tt) (d .rows, (d .cursor, tt)) passed) (Past 𝓤 H A mem run .pre to)
+  asked : ent 𝓤 (onEntry 𝓤 H A past.signature (κ, tt) (q, tt) (d .tokens, (d .cursor, tt)) passed) (Past 𝓤 H A mem run .pre to)
   asked = qed W ((‵ (flft κ q) ⊛ ‵ ftrue) ∷ ‵ (Fields κ d) ∷ []) ∵ join ! $ frame ! $ done !
 
   -- what the view owns gives what the callee asks, and is kept
@@ -98,9 +98,9 @@ module _ {M : Type 1} (𝓤 : URA M) (H : Heap 𝓤) (A : Atoms 𝓤) (W : Given
       move ! (2 ∷ 0 ∷ []) $ use2 W (raw (Past 𝓤 H A mem run .pre to)) asked $ frame ! $ done !
 
   -- of the callee's `ensured`, the first clause alone
-  said : (i : TokenIndex) → ent 𝓤 (ensured 𝓤 H A past.ended (past.clauses 𝓤 H A mem run) (κ, tt) (d .rows, (d .cursor, tt)) tt i) (fact 𝓤 (Found i))
+  said : (i : TokenIndex) → ent 𝓤 (ensured 𝓤 H A past.ended (past.clauses 𝓤 H A mem run) (κ, tt) (d .tokens, (d .cursor, tt)) tt i) (fact 𝓤 (Found i))
   said i =
-      exE 𝓤 _ (λ ws. via 𝓤 (sep 𝓤 (fact 𝓤 (Found i)) (fact 𝓤 (Left i))) (snd∗ 𝓤 (sem 𝓤 H A (lasts past.ended (κ, tt) (d .rows, (d .cursor, tt)) ws)) (sep 𝓤 (fact 𝓤 (Found i)) (fact 𝓤 (Left i)))) (fst∗ 𝓤 (fact 𝓤 (Found i)) (fact 𝓤 (Left i))))
+      exE 𝓤 _ (λ ws. via 𝓤 (sep 𝓤 (fact 𝓤 (Found i)) (fact 𝓤 (Left i))) (snd∗ 𝓤 (sem 𝓤 H A (lasts past.ended (κ, tt) (d .tokens, (d .cursor, tt)) ws)) (sep 𝓤 (fact 𝓤 (Found i)) (fact 𝓤 (Left i)))) (fst∗ 𝓤 (fact 𝓤 (Found i)) (fact 𝓤 (Left i))))
 
   exits : (i : TokenIndex) (u : Val) → Found i → Is I.the-row i (I′.lowered i ∷ []) → ent 𝓤 (⋆ 𝓤 H A (‵ (I.the-row .own i (u ∷ [])) ∷ (‵ (flft κ q) ⊛ ‵ ftrue) ∷ ‵ (Own κ d) ∷ [])) (Post (T′.lowered (moved d i)))
   exits i u e ok =
@@ -117,7 +117,7 @@ module _ {M : Type 1} (𝓤 : URA M) (H : Heap 𝓤) (A : Atoms 𝓤) (W : Given
         assigns ! (of-opd ! (load ! (from ! (fld ! refl (stop !))) (look-in ! 6 (sub ! 1 refl (whole !))))) (from ! (stop !)) (init ! 0 refl (tt, wt .1 .1 .0)) $
         move ! (10 ∷ []) $ use1 W (raw (Past 𝓤 H A mem run .pre to) ⊛ ‵ (Own κ d)) apart $ split ! $
         calls-at ! fm (Past 𝓤 H A mem run) known to (and-then ! (load ! (from ! (stop !)) (look ! 6 refl)) (and-then ! (load ! (from ! (stop !)) (look ! 2 refl)) (no-more !))) (λ u.
-        use1 W (later (some (λ (i : TokenIndex). ((‵ (flft κ q) ⊛ ‵ ftrue) ⊛ ‵ (I.the-row .own i (u ∷ []))) ⊛ raw (ensured 𝓤 H A past.ended (past.clauses 𝓤 H A mem run) (κ, tt) (d .rows, (d .cursor, tt)) tt i)))) (id⊢ 𝓤 _) $ await ! tt $ pick ! (λ i.
+        use1 W (later (some (λ (i : TokenIndex). ((‵ (flft κ q) ⊛ ‵ ftrue) ⊛ ‵ (I.the-row .own i (u ∷ []))) ⊛ raw (ensured 𝓤 H A past.ended (past.clauses 𝓤 H A mem run) (κ, tt) (d .tokens, (d .cursor, tt)) tt i)))) (id⊢ 𝓤 _) $ await ! tt $ pick ! (λ i.
         split ! $ move ! (1 ∷ []) $ use1 W (raw (fact 𝓤 (Found i))) (said i) $ heard ! (Found i) (λ e. split ! $ move ! (1 ∷ []) $
         -- [the place; the lifetime's token; what the view owns; _4; …; _3; …; _2; …; _1; …; room for _0; …]
         peeks ! I.the-row (Is I.the-row) (shows 𝓤 H A I.the-row) i (u ∷ []) (λ is.

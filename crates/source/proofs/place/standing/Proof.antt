@@ -8,7 +8,7 @@ new-requires : tie.Need-new-requires
 new-requires c κs = tt
 
 returns : tie.Need-returns
-returns c = λ codes events reports pool. ap (λ (m : Machine). with-cursor (c .before .args .at .0) (m .at) m) (c .new .ensures codes events reports pool)
+returns c = λ codes events reports pool. ap (λ (m : Machine). with-cursor (c .before .args .at .0) (m .byte) m) (c .new .ensures codes events reports pool)
 
 pub standing-spec : {M : Type 1} → statement M
 standing-spec = tie.close (tie.spec new-requires returns)
