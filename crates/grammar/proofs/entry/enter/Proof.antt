@@ -11,7 +11,7 @@ use Rattle.machine.specs.Walk.{Walked, walk, walk-rule, unlabelled}
 use Rattle.machine.proofs.Way.{Way, c-call, c-fn}
 use Rattle.steps.proofs.Steps.{c-any}
 use Rattle.grammar.specs.declared.entry.Entrypoint.{Entrypoint}
-use Rattle.grammar.specs.Parts.{entry-of}
+use Rattle.grammar.specs.Subprograms.{entry-of}
 use Rattle.grammar.proofs.Ways.{part-on}
 use Rattle.grammar.proofs.entry.enter.Statement.{statement}
 use Rattle.grammar.proofs.entry.enter.Tie as tie

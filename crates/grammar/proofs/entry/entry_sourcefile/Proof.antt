@@ -10,16 +10,16 @@ use Rattle.definitions.specs.Grammar.{sourcefile-turn, entry-sourcefile}
 use Rattle.machine.specs.Walk.{walk-prog, unlabelled}
 use Rattle.machine.proofs.Way.{c-act, c-ret, c-yes, c-no}
 use Rattle.parser.specs.View.{left, view-of}
-use Rattle.names.proofs.Kit.{ahead-falls}
+use Rattle.steps.proofs.Left.{ahead-falls}
 use Rattle.grammar.proofs.Ways.{c-part-on, again-part, last-yes}
 use Rattle.grammar.proofs.entry.entry_sourcefile.Statement.{statement}
 use Rattle.grammar.proofs.entry.entry_sourcefile.Tie as tie
 
 abbrev Inv-loop : tie.InvT-loop
-Inv-loop t events₀ reports₀ pool₀ q₀ events reports pool q = (walk-prog 64 (tokens-of t) unlabelled entry-sourcefile (view-of q events reports pool) ≡ walk-prog 64 (tokens-of t) unlabelled entry-sourcefile (view-of q₀ events₀ reports₀ pool₀)) × ((left t (q .s) ≤ left t (q₀ .s)) × ((length events ≡ length events₀) × ((length reports ≡ length reports₀) × (length pool ≡ length pool₀))))
+Inv-loop tokens events₀ reports₀ pool₀ q₀ events reports pool q = (walk-prog 64 (tokens-of tokens) unlabelled entry-sourcefile (view-of q events reports pool) ≡ walk-prog 64 (tokens-of tokens) unlabelled entry-sourcefile (view-of q₀ events₀ reports₀ pool₀)) × ((left tokens (q .s) ≤ left tokens (q₀ .s)) × ((length events ≡ length events₀) × ((length reports ≡ length reports₀) × (length pool ≡ length pool₀))))
 
 abbrev μ-loop : tie.MeasureT-loop
-μ-loop t events₀ reports₀ pool₀ q₀ events reports pool q = left t (q .s)
+μ-loop tokens events₀ reports₀ pool₀ q₀ events reports pool q = left tokens (q .s)
 
 loop-holds : tie.Need-loop-holds Inv-loop μ-loop
 loop-holds c = (refl, (le-refl _, (refl, (refl, refl))))

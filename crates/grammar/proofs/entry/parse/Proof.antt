@@ -6,7 +6,7 @@ use Rattle.definitions.specs.Grammar.{whole}
 use Rattle.machine.specs.Machine.{Machine}
 use Rattle.machine.specs.Walk.{walk-rule, walk-prog, unlabelled}
 use Rattle.machine.proofs.Way.{c-walk}
-use Rattle.grammar.specs.Parts.{entry-of}
+use Rattle.grammar.specs.Subprograms.{entry-of}
 use Rattle.grammar.proofs.Ways.{c-part-on, part-on}
 use Rattle.grammar.proofs.entry.parse.Statement.{statement}
 use Rattle.grammar.proofs.entry.parse.Tie as tie
