@@ -31,6 +31,7 @@ MODULES = {
     "native.Mathlib.Omega": "arith",
     "native.Mathlib.Nat": "le-refl",
     "lib.ListN": "length",
+    "Rattle.definitions.specs.Layout": "MOST-OPEN-CALLS",
     "Rattle.definitions.specs.Token": "Token tokens-of",
     "Rattle.definitions.specs.Skeleton": "Span",
     "Rattle.definitions.specs.Prog": "Rule",
@@ -95,21 +96,21 @@ def directive(c):
 
 def source_file(c):
     rcurly = "(c-act (@silent-at .ensures .0 unlabelled _ _ _))"
-    caught = "(c-fn 64 (@catch-unmatched-pp-directive .ensures .0))"
+    caught = "(c-fn MOST-OPEN-CALLS (@catch-unmatched-pp-directive .ensures .0))"
     opened = "sourcefile-part silent"
     c.proof("entry/sourcefile_part", {
-        "returns": (opened, f"(part-on 64 (c-yes {rcurly} (@if1 .taken) (c-walk (@unmatched-rcurly .ensures .0 {asked('64')}))), {LEFT})"),
-        "returns-2": (opened, f"(part-on 64 (c-no {rcurly} (@if1 .left) (c-yes {caught} (@if2 .taken) c-ret)), {LEFT})"),
-        "returns-3": (opened, f"(@item .ensures .0 ∙ part-on 64 (c-no {rcurly} (@if1 .left) (c-no {caught} (@if2 .left) (c-call 64 refl))), {LEFT})"),
+        "returns": (opened, f"(part-on MOST-OPEN-CALLS (c-yes {rcurly} (@if1 .taken) (c-walk (@unmatched-rcurly .ensures .0 {asked('MOST-OPEN-CALLS')}))), {LEFT})"),
+        "returns-2": (opened, f"(part-on MOST-OPEN-CALLS (c-no {rcurly} (@if1 .left) (c-yes {caught} (@if2 .taken) c-ret)), {LEFT})"),
+        "returns-3": (opened, f"(@item .ensures .0 ∙ part-on MOST-OPEN-CALLS (c-no {rcurly} (@if1 .left) (c-no {caught} (@if2 .left) (c-call MOST-OPEN-CALLS refl))), {LEFT})"),
     }, "`sourcefile_part`: one turn of the loop over the source file.")
-    whole = "walk-prog 64 (tokens-of tokens) unlabelled entry-sourcefile"
+    whole = "walk-prog MOST-OPEN-CALLS (tokens-of tokens) unlabelled entry-sourcefile"
     end = "(c-act (@at-end .ensures .0 unlabelled _ _ _))"
     opened = "entry-sourcefile sourcefile-turn"
     c.proof("entry/entry_sourcefile", {
         "loop-holds": "(refl, (le-refl _, (refl, (refl, refl))))",
         "loop-less": LEFT,
-        "loop-again": (opened, f"(again-part 64 (c-yes {{t = true}} (c-no {end} (@if1 .left) c-ret) refl (c-part-on 64 (@sourcefile-part .ensures .0) c-ret)) (ahead-falls {ROWS} (@loop .q .s) (@sourcefile-part .result .s) ({LEFT})) ∙ @loop .inv .0, ({LEFT}, ({KEPT}, ({KEPT}, {KEPT}))))"),
-        "returns": (opened, f"(last-yes 64 (c-no {{t = false}} (c-yes {end} (@if1 .taken) c-ret) refl c-ret) ∙ @loop .inv .0, {LEFT})"),
+        "loop-again": (opened, f"(again-part MOST-OPEN-CALLS (c-yes {{t = true}} (c-no {end} (@if1 .left) c-ret) refl (c-part-on MOST-OPEN-CALLS (@sourcefile-part .ensures .0) c-ret)) (ahead-falls {ROWS} (@loop .q .s) (@sourcefile-part .result .s) ({LEFT})) ∙ @loop .inv .0, ({LEFT}, ({KEPT}, ({KEPT}, {KEPT}))))"),
+        "returns": (opened, f"(last-yes MOST-OPEN-CALLS (c-no {{t = false}} (c-yes {end} (@if1 .taken) c-ret) refl c-ret) ∙ @loop .inv .0, {LEFT})"),
     }, "`entry_sourcefile`: the loop of `sourcefile-turn`.",
         inv=("tokens events₀ reports₀ pool₀ q₀ events reports pool q",
              f"({whole} (view-of q events reports pool) ≡ {whole} (view-of q₀ events₀ reports₀ pool₀)) × ((left tokens (q .s) ≤ left tokens (q₀ .s)) × ((length events ≡ length events₀) × ((length reports ≡ length reports₀) × (length pool ≡ length pool₀))))"),
@@ -118,14 +119,14 @@ def source_file(c):
 
 def entries(c):
     c.proof("entry/enter", {
-        "returns": ("entry", f"(part-on 64 (entered (@enum-told .given .1) (c-fn 64 (@entry-sourcefile .ensures .0))), {LEFT})"),
-        "returns-2": ("entry", f"(@reference-noamp .ensures .0 {asked('64')} ∙ part-on 64 (entered (@enum-told2 .given .1) c-any), {LEFT})"),
-        "returns-3": ("entry", f"(part-on 64 (entered (@enum-told3 .given .1) (c-call 64 (@propvalues .ensures .0))), {LEFT})"),
-        "returns-4": ("entry", f"(part-on 64 (entered (@enum-told4 .given .1) (c-fn 64 (@cells .ensures .0))), {LEFT})"),
+        "returns": ("entry", f"(part-on MOST-OPEN-CALLS (entered (@enum-told .given .1) (c-fn MOST-OPEN-CALLS (@entry-sourcefile .ensures .0))), {LEFT})"),
+        "returns-2": ("entry", f"(@reference-noamp .ensures .0 {asked('MOST-OPEN-CALLS')} ∙ part-on MOST-OPEN-CALLS (entered (@enum-told2 .given .1) c-any), {LEFT})"),
+        "returns-3": ("entry", f"(part-on MOST-OPEN-CALLS (entered (@enum-told3 .given .1) (c-call MOST-OPEN-CALLS (@propvalues .ensures .0))), {LEFT})"),
+        "returns-4": ("entry", f"(part-on MOST-OPEN-CALLS (entered (@enum-told4 .given .1) (c-fn MOST-OPEN-CALLS (@cells .ensures .0))), {LEFT})"),
     }, "`enter`: the entry that is asked for.")
-    start = f"ap (λ (m : Machine). walk-prog 64 (tokens-of {ROWS}) unlabelled (whole (entry-of (@@ .args .entrypoint))) m .on) (@new .ensures _ _ _)"
+    start = f"ap (λ (m : Machine). walk-prog MOST-OPEN-CALLS (tokens-of {ROWS}) unlabelled (whole (entry-of (@@ .args .entrypoint))) m .on) (@new .ensures _ _ _)"
     c.proof("entry/parse", {
-        "returns": ("whole", f"part-on 64 (c-part-on 64 (@enter .ensures .0) (c-walk (@left-over .ensures .0 {asked('64')}))) ∙ {start}"),
+        "returns": ("whole", f"part-on MOST-OPEN-CALLS (c-part-on MOST-OPEN-CALLS (@enter .ensures .0) (c-walk (@left-over .ensures .0 {asked('MOST-OPEN-CALLS')}))) ∙ {start}"),
     }, "`parse`: a new parser, the entry, and what it leaves.")
 
 

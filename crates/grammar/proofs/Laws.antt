@@ -8,8 +8,8 @@ use Rattle.definitions.specs.NodeKind as N
 use Rattle.definitions.specs.Errors as E
 use Rattle.definitions.specs.Token.{Token}
 use Rattle.definitions.specs.Skeleton.{Span}
-use Rattle.definitions.specs.Prog.{no, yes, Rule, item, Prog, ret, _⨟_, in-marker, loop, brace, open-call}
-use Rattle.definitions.specs.Check.{tell, if_then_else_, _or_, in-node, expected, error, error-bump!, set, of-kind, silent, at, silent-eat, assert-eat}
+use Rattle.definitions.specs.Prog.{yes, Rule, item, Prog, ret, _⨟_, in-marker, loop, brace, open-call}
+use Rattle.definitions.specs.Check.{tell, if_then_else_, in-node, expected, error, error-bump!, set, of-kind, silent, at, silent-eat, assert-eat}
 use Rattle.definitions.specs.Grammar.{Item, Reference, macro-invocation, dt-expr, eat-cell-body, bits-value, dt-cell-list, propvalue, dt-property, node-body-turn, dt-node-body, forbidden-property, no-property, eat-node-or-prop, item-body, catch-unmatched-pp-directive, sourcefile-part}
 use Rattle.machine.specs.Machine.{Machine}
 use Rattle.machine.specs.Walk.{Walked, walk, walk-rule, walk-prog, unlabelled}

@@ -1,8 +1,6 @@
 -- What of the definitions' programs has a function of its own here, and the code's enums as the definitions have them. proofs/Laws.antt
 -- shows each program to stand in the definitions' term.
-use Prim.Native.Nat.{ℕ}
 use mathlib.Core.Bool.{Bool}
-use mathlib.Core.List.{List, [], _∷_}
 use Rattle.definitions.specs.TokenKind as K
 use Rattle.definitions.specs.Errors as E
 use Rattle.definitions.specs.Prog.{no, yes, also, Prog, _⨟_}

@@ -12,6 +12,7 @@ use names::reference_noamp;
 use parser::Parser;
 ghost use mathlib.Core.Path.{_≡_};
 ghost use Prim.Native.Nat.{_-_, _≤_};
+ghost use Rattle.definitions.specs.Layout.{MOST-OPEN-CALLS};
 ghost use Rattle.definitions.specs.Token.{tokens-of};
 ghost use Rattle.definitions.specs.Prog.{yes};
 ghost use Rattle.definitions.specs.Grammar.{sourcefile-part, entry-sourcefile, entry, whole};
@@ -35,7 +36,7 @@ fn sourcefile_part(
     reports: &mut [u32],
     pool: &mut [u32],
 ) -> Parser
-    ensures { λ r. ⌜ runs-on-of 64 sourcefile-part p r tokens events reports pool ⌝ }
+    ensures { λ r. ⌜ runs-on-of MOST-OPEN-CALLS sourcefile-part p r tokens events reports pool ⌝ }
     ensures { λ r. ⌜ left (now (tokens .entry)) (r .s) ≤ left (now (tokens .entry)) (p .s) - 1 ⌝ }
 {
     let rcurly = p.silent_at(tokens, token_kind::RCURLY);
@@ -64,7 +65,7 @@ fn entry_sourcefile(
     reports: &mut [u32],
     pool: &mut [u32],
 ) -> Parser
-    ensures { λ r. ⌜ runs-of 64 entry-sourcefile p (says-of yes r) tokens events reports pool ⌝ }
+    ensures { λ r. ⌜ runs-of MOST-OPEN-CALLS entry-sourcefile p (says-of yes r) tokens events reports pool ⌝ }
     ensures { λ r. ⌜ left (now (tokens .entry)) (r .s) ≤ left (now (tokens .entry)) (p .s) ⌝ }
 {
     let mut q = p;
@@ -85,7 +86,7 @@ fn enter(
     pool: &mut [u32],
     entrypoint: Entrypoint,
 ) -> Parser
-    ensures { λ r. ⌜ runs-on-of 64 (entry (entry-of entrypoint)) p r tokens events reports pool ⌝ }
+    ensures { λ r. ⌜ runs-on-of MOST-OPEN-CALLS (entry (entry-of entrypoint)) p r tokens events reports pool ⌝ }
     ensures { λ r. ⌜ left (now (tokens .entry)) (r .s) ≤ left (now (tokens .entry)) (p .s) ⌝ }
 {
     match entrypoint {
@@ -110,7 +111,7 @@ pub fn parse(
     entrypoint: Entrypoint,
 ) -> Parser
     ensures { λ r. ⌜ view-of r (now (events .exit)) (now (reports .exit)) (now (pool .exit))
-        ≡ walk-prog 64 (tokens-of (now (tokens .entry))) unlabelled (whole (entry-of entrypoint)) (fresh (now (events .entry)) (now (reports .entry)) (now (pool .entry))) .on ⌝ }
+        ≡ walk-prog MOST-OPEN-CALLS (tokens-of (now (tokens .entry))) unlabelled (whole (entry-of entrypoint)) (fresh (now (events .entry)) (now (reports .entry)) (now (pool .entry))) .on ⌝ }
 {
     let p = Parser::new();
     let parsed = enter(p, tokens, events, reports, pool, entrypoint);

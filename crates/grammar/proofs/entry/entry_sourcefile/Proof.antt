@@ -5,21 +5,22 @@ use mathlib.Core.Bool.{true, false}
 use native.Mathlib.Omega.{arith}
 use native.Mathlib.Nat.{le-refl}
 use lib.ListN.{length}
+use Rattle.definitions.specs.Layout.{MOST-OPEN-CALLS}
 use Rattle.definitions.specs.Token.{tokens-of}
 use Rattle.definitions.specs.Grammar.{sourcefile-turn, entry-sourcefile}
 use Rattle.machine.specs.Walk.{walk-prog, unlabelled}
 use Rattle.machine.proofs.Way.{c-act, c-ret, c-yes, c-no}
 use Rattle.parser.specs.View.{left, view-of}
-use Rattle.names.proofs.Kit.{ahead-falls}
+use Rattle.steps.proofs.Left.{ahead-falls}
 use Rattle.grammar.proofs.Ways.{c-part-on, again-part, last-yes}
 use Rattle.grammar.proofs.entry.entry_sourcefile.Statement.{statement}
 use Rattle.grammar.proofs.entry.entry_sourcefile.Tie as tie
 
 abbrev Inv-loop : tie.InvT-loop
-Inv-loop t events₀ reports₀ pool₀ q₀ events reports pool q = (walk-prog 64 (tokens-of t) unlabelled entry-sourcefile (view-of q events reports pool) ≡ walk-prog 64 (tokens-of t) unlabelled entry-sourcefile (view-of q₀ events₀ reports₀ pool₀)) × ((left t (q .s) ≤ left t (q₀ .s)) × ((length events ≡ length events₀) × ((length reports ≡ length reports₀) × (length pool ≡ length pool₀))))
+Inv-loop tokens events₀ reports₀ pool₀ q₀ events reports pool q = (walk-prog MOST-OPEN-CALLS (tokens-of tokens) unlabelled entry-sourcefile (view-of q events reports pool) ≡ walk-prog MOST-OPEN-CALLS (tokens-of tokens) unlabelled entry-sourcefile (view-of q₀ events₀ reports₀ pool₀)) × ((left tokens (q .s) ≤ left tokens (q₀ .s)) × ((length events ≡ length events₀) × ((length reports ≡ length reports₀) × (length pool ≡ length pool₀))))
 
 abbrev μ-loop : tie.MeasureT-loop
-μ-loop t events₀ reports₀ pool₀ q₀ events reports pool q = left t (q .s)
+μ-loop tokens events₀ reports₀ pool₀ q₀ events reports pool q = left tokens (q .s)
 
 loop-holds : tie.Need-loop-holds Inv-loop μ-loop
 loop-holds c = (refl, (le-refl _, (refl, (refl, refl))))
@@ -48,7 +49,7 @@ returns c =
     let a = c .before in
     let d = a .before in
     let e = d .before in
-    (last-yes 64 (c-no {t = false} (c-yes (c-act (d .at-end .ensures .0 unlabelled _ _ _)) (a .if1 .taken) c-ret) refl c-ret) ∙ e .loop .inv .0, omega (arith, e .loop .inv .1 .0, d .at-end .ensures .1 .0))
+    (last-yes MOST-OPEN-CALLS (c-no {t = false} (c-yes (c-act (d .at-end .ensures .0 unlabelled _ _ _)) (a .if1 .taken) c-ret) refl c-ret) ∙ e .loop .inv .0, omega (arith, e .loop .inv .1 .0, d .at-end .ensures .1 .0))
 
 sourcefile-part-requires : tie.Need-sourcefile-part-requires Inv-loop μ-loop
 sourcefile-part-requires c κs = tt
@@ -69,7 +70,7 @@ loop-again c =
     let e = d .before in
     let f = e .before in
     let s = f .before .before .before .before .before in
-    (again-part 64 (c-yes {t = true} (c-no (c-act (e .at-end .ensures .0 unlabelled _ _ _)) (d .if1 .left) c-ret) refl (c-part-on 64 (a .sourcefile-part .ensures .0) c-ret)) (ahead-falls (s .args .tokens .now) (f .loop .q .s) (a .sourcefile-part .result .s) (omega (arith, f .loop .inv .1 .0, e .at-end .ensures .1 .0, e .at-end .ensures .1 .1 .0 (d .if1 .left), a .sourcefile-part .ensures .1))) ∙ f .loop .inv .0, (omega (arith, f .loop .inv .1 .0, e .at-end .ensures .1 .0, e .at-end .ensures .1 .1 .0 (d .if1 .left), a .sourcefile-part .ensures .1), (omega (arith, f .loop .inv .1 .1, a .sourcefile-part .kept), (omega (arith, f .loop .inv .1 .1, a .sourcefile-part .kept), omega (arith, f .loop .inv .1 .1, a .sourcefile-part .kept)))))
+    (again-part MOST-OPEN-CALLS (c-yes {t = true} (c-no (c-act (e .at-end .ensures .0 unlabelled _ _ _)) (d .if1 .left) c-ret) refl (c-part-on MOST-OPEN-CALLS (a .sourcefile-part .ensures .0) c-ret)) (ahead-falls (s .args .tokens .now) (f .loop .q .s) (a .sourcefile-part .result .s) (omega (arith, f .loop .inv .1 .0, e .at-end .ensures .1 .0, e .at-end .ensures .1 .1 .0 (d .if1 .left), a .sourcefile-part .ensures .1))) ∙ f .loop .inv .0, (omega (arith, f .loop .inv .1 .0, e .at-end .ensures .1 .0, e .at-end .ensures .1 .1 .0 (d .if1 .left), a .sourcefile-part .ensures .1), (omega (arith, f .loop .inv .1 .1, a .sourcefile-part .kept), (omega (arith, f .loop .inv .1 .1, a .sourcefile-part .kept), omega (arith, f .loop .inv .1 .1, a .sourcefile-part .kept)))))
 
 pub entry-sourcefile-spec : {M : Type 1} → statement M
 entry-sourcefile-spec = tie.close (tie.spec Inv-loop μ-loop loop-holds at-end-requires same-length same-length-2 same-length-3 returns sourcefile-part-requires loop-less loop-again)

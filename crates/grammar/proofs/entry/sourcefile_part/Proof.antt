@@ -1,6 +1,7 @@
 -- `sourcefile_part`: one turn of the loop over the source file.
 use mathlib.Core.Path.{refl, _∙_}
 use native.Mathlib.Omega.{arith}
+use Rattle.definitions.specs.Layout.{MOST-OPEN-CALLS}
 use Rattle.definitions.specs.Token.{tokens-of}
 use Rattle.definitions.specs.Check.{silent}
 use Rattle.definitions.specs.Grammar.{sourcefile-part}
@@ -38,7 +39,7 @@ returns c =
     let d = a .before .before .before .before in
     let e = d .before in
     let s = e .before .before .before .before .before in
-    (part-on 64 (c-yes (c-act (e .silent-at .ensures .0 unlabelled _ _ _)) (d .if1 .taken) (c-walk (a .unmatched-rcurly .ensures .0 (walk-rule 64 (tokens-of (s .args .tokens .now))) unlabelled))), omega (arith, e .silent-at .ensures .1 .0, e .silent-at .ensures .1 .1 (d .if1 .taken), a .unmatched-rcurly .ensures .1))
+    (part-on MOST-OPEN-CALLS (c-yes (c-act (e .silent-at .ensures .0 unlabelled _ _ _)) (d .if1 .taken) (c-walk (a .unmatched-rcurly .ensures .0 (walk-rule MOST-OPEN-CALLS (tokens-of (s .args .tokens .now))) unlabelled))), omega (arith, e .silent-at .ensures .1 .0, e .silent-at .ensures .1 .1 (d .if1 .taken), a .unmatched-rcurly .ensures .1))
 
 catch-unmatched-pp-directive-requires : tie.Need-catch-unmatched-pp-directive-requires
 catch-unmatched-pp-directive-requires c κs = tt
@@ -65,7 +66,7 @@ returns-2 c =
     let d = a .before .before .before .before .before .before .before in
     let e = d .before .before .before .before in
     let f = e .before in
-    (part-on 64 (c-no (c-act (f .silent-at .ensures .0 unlabelled _ _ _)) (e .if1 .left) (c-yes (c-fn 64 (d .catch-unmatched-pp-directive .ensures .0)) (a .if2 .taken) c-ret)), omega (arith, f .silent-at .ensures .1 .0, d .catch-unmatched-pp-directive .ensures .1 .0, d .catch-unmatched-pp-directive .ensures .1 .1 (a .if2 .taken)))
+    (part-on MOST-OPEN-CALLS (c-no (c-act (f .silent-at .ensures .0 unlabelled _ _ _)) (e .if1 .left) (c-yes (c-fn MOST-OPEN-CALLS (d .catch-unmatched-pp-directive .ensures .0)) (a .if2 .taken) c-ret)), omega (arith, f .silent-at .ensures .1 .0, d .catch-unmatched-pp-directive .ensures .1 .0, d .catch-unmatched-pp-directive .ensures .1 .1 (a .if2 .taken)))
 
 item-requires : tie.Need-item-requires
 item-requires c κs = tt
@@ -96,7 +97,7 @@ returns-3 c =
     let e = d .before .before .before .before .before .before .before in
     let f = e .before .before .before .before in
     let g = f .before in
-    (a .item .ensures .0 ∙ part-on 64 (c-no (c-act (g .silent-at .ensures .0 unlabelled _ _ _)) (f .if1 .left) (c-no (c-fn 64 (e .catch-unmatched-pp-directive .ensures .0)) (d .if2 .left) (c-call 64 refl))), omega (arith, g .silent-at .ensures .1 .0, e .catch-unmatched-pp-directive .ensures .1 .0, a .item .ensures .1))
+    (a .item .ensures .0 ∙ part-on MOST-OPEN-CALLS (c-no (c-act (g .silent-at .ensures .0 unlabelled _ _ _)) (f .if1 .left) (c-no (c-fn MOST-OPEN-CALLS (e .catch-unmatched-pp-directive .ensures .0)) (d .if2 .left) (c-call MOST-OPEN-CALLS refl))), omega (arith, g .silent-at .ensures .1 .0, e .catch-unmatched-pp-directive .ensures .1 .0, a .item .ensures .1))
 
 pub sourcefile-part-spec : {M : Type 1} → statement M
 sourcefile-part-spec = tie.close (tie.spec silent-at-requires unmatched-rcurly-requires same-length same-length-2 same-length-3 returns catch-unmatched-pp-directive-requires same-length-4 same-length-5 same-length-6 returns-2 item-requires same-length-7 same-length-8 same-length-9 returns-3)

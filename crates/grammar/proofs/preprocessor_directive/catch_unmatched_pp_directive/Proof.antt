@@ -1,12 +1,13 @@
 -- `catch_unmatched_pp_directive`: an `#endif`, or a branch, without its conditional.
 use mathlib.Core.Path.{sym, _∙_}
+use mathlib.Core.Bool.{false≢true}
 use native.Mathlib.Omega.{arith}
 use Rattle.definitions.specs.Token.{tokens-of}
 use Rattle.definitions.specs.Check.{silent}
 use Rattle.definitions.specs.Grammar.{catch-unmatched-pp-directive}
 use Rattle.machine.specs.Walk.{walk-rule, unlabelled}
 use Rattle.machine.proofs.Way.{c-walk, c-act, c-ret, c-seq, c-yes, c-no, c-mark, completed, way}
-use Rattle.steps.proofs.Steps.{true-false, c-ret-no}
+use Rattle.steps.proofs.Steps.{c-ret-no}
 use Rattle.grammar.proofs.Ways.{c-part-on, c-assoc}
 use borrow.Author.Needs.{needs}
 use Rattle.grammar.proofs.preprocessor_directive.catch_unmatched_pp_directive.Statement.{statement}
@@ -117,7 +118,7 @@ returns-3 c =
     let e = d .before .before in
     let f = e .before in
     let s = f .before .before .before .before .before in
-    (way (s .args .allowed) (c-no (c-act (f .silent-at .ensures .0 unlabelled _ _ _)) (e .if1 .left) (c-no (c-act (d .silent-at-set .ensures .0 unlabelled _ _ _)) (a .if2 .left) (c-ret-no (a .if2 .left)))), (omega (arith, f .silent-at .ensures .1 .0, d .silent-at-set .ensures .1 .0), λ h. true-false (sym h ∙ a .if2 .left)))
+    (way (s .args .allowed) (c-no (c-act (f .silent-at .ensures .0 unlabelled _ _ _)) (e .if1 .left) (c-no (c-act (d .silent-at-set .ensures .0 unlabelled _ _ _)) (a .if2 .left) (c-ret-no (a .if2 .left)))), (omega (arith, f .silent-at .ensures .1 .0, d .silent-at-set .ensures .1 .0), λ h. absurd (false≢true (sym (a .if2 .left) ∙ h))))
 
 pub catch-unmatched-pp-directive-spec : {M : Type 1} → statement M
 catch-unmatched-pp-directive-spec = tie.close (tie.spec silent-at-requires error-requires same-length same-length-2 same-length-3 returns slice-aggregate-silent-at-set silent-at-set-requires error-requires-2 new-requires start-requires bump-requires cond-branches-and-end-requires complete-requires same-length-4 same-length-5 same-length-6 returns-2 returns-3)

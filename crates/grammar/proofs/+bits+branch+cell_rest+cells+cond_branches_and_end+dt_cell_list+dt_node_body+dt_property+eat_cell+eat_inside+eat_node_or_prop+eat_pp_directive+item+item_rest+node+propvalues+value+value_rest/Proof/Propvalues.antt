@@ -11,23 +11,23 @@ use Rattle.definitions.specs.Grammar.{propvalues-turn, propvalues-body, grammar
 use Rattle.machine.specs.Walk.{said, walk-rule, walk-prog, unlabelled}
 use Rattle.parser.specs.View.{left, view-of, ans-of}
 use Rattle.machine.proofs.Way.{c-walk, c-act, c-ret, c-yes, c-no, c-fn, rule-closed, rule-body}
-use Rattle.names.proofs.Kit.{ahead-falls}
+use Rattle.steps.proofs.Left.{ahead-falls}
 use Rattle.steps.proofs.Steps.{c-said-no, c-said-also}
 use Rattle.grammar.proofs.Ways.{again-part, last-yes, last-no, as-yes, c-said-other, other-no, c-answered}
 use Rattle.grammar.proofs.propvalues.Reads as reads
-use Rattle.grammar.proofs.+arm+bits+cell2+cells+cond_branches_and_end+dt_cell_list+dt_node_body+dt_property+eat_cell+eat_inside+eat_node_or_prop+eat_preprocessor_directive+item+item2+propvalues+rest+value+value2.Lts-propvalues as lts
-use Rattle.grammar.proofs.+arm+bits+cell2+cells+cond_branches_and_end+dt_cell_list+dt_node_body+dt_property+eat_cell+eat_inside+eat_node_or_prop+eat_preprocessor_directive+item+item2+propvalues+rest+value+value2.Proof.Measures.{propvalues-at, propvalues-claims}
+use Rattle.grammar.proofs.+bits+branch+cell_rest+cells+cond_branches_and_end+dt_cell_list+dt_node_body+dt_property+eat_cell+eat_inside+eat_node_or_prop+eat_pp_directive+item+item_rest+node+propvalues+value+value_rest.Lts-propvalues as lts
+use Rattle.grammar.proofs.+bits+branch+cell_rest+cells+cond_branches_and_end+dt_cell_list+dt_node_body+dt_property+eat_cell+eat_inside+eat_node_or_prop+eat_pp_directive+item+item_rest+node+propvalues+value+value_rest.Proof.Measures.{propvalues-at, propvalues-claims}
 
 -- the loop from here is the loop from the start
 abbrev pub Inv-loop : lts.InvT-loop
-Inv-loop t events₀ reports₀ pool₀ room semicolon other q₀ events reports pool q =
-    (left t (q .s) ≤ left t (q₀ .s))
+Inv-loop tokens events₀ reports₀ pool₀ allowed semicolon other q₀ events reports pool q =
+    (left tokens (q .s) ≤ left tokens (q₀ .s))
     × ((length events ≡ length events₀)
     × ((length reports ≡ length reports₀)
-    × ((length pool ≡ length pool₀) × (walk-prog (room - 1) (tokens-of t) unlabelled (propvalues-body semicolon) (view-of q events reports pool) ≡ walk-prog (room - 1) (tokens-of t) unlabelled (propvalues-body semicolon) (view-of q₀ events₀ reports₀ pool₀)))))
+    × ((length pool ≡ length pool₀) × (walk-prog (allowed - 1) (tokens-of tokens) unlabelled (propvalues-body semicolon) (view-of q events reports pool) ≡ walk-prog (allowed - 1) (tokens-of tokens) unlabelled (propvalues-body semicolon) (view-of q₀ events₀ reports₀ pool₀)))))
 
 abbrev pub μ-loop : lts.MeasureT-loop
-μ-loop t events₀ reports₀ pool₀ room semicolon other q₀ events reports pool q = left t (q .s)
+μ-loop tokens events₀ reports₀ pool₀ allowed semicolon other q₀ events reports pool q = left tokens (q .s)
 
 pub refuse-requires : (t : ℕ) → lts.Need-refuse-requires (propvalues-claims t) (propvalues-at t) reads.Post Inv-loop μ-loop
 refuse-requires t c κs = tt

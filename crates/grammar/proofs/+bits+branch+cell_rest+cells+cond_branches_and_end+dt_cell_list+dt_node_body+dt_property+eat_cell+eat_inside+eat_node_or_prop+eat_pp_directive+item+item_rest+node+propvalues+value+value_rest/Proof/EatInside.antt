@@ -5,8 +5,8 @@ use Rattle.definitions.specs.Grammar.{eat-inside}
 use Rattle.machine.proofs.Way.{c-ret, c-seq, c-call, way}
 use Rattle.grammar.proofs.Ways.{c-call-on, c-inside}
 use Rattle.grammar.proofs.eat_inside.Reads as reads
-use Rattle.grammar.proofs.+arm+bits+cell2+cells+cond_branches_and_end+dt_cell_list+dt_node_body+dt_property+eat_cell+eat_inside+eat_node_or_prop+eat_preprocessor_directive+item+item2+propvalues+rest+value+value2.Lts-eat_inside as lts
-use Rattle.grammar.proofs.+arm+bits+cell2+cells+cond_branches_and_end+dt_cell_list+dt_node_body+dt_property+eat_cell+eat_inside+eat_node_or_prop+eat_preprocessor_directive+item+item2+propvalues+rest+value+value2.Proof.Measures.{eat-inside-at, eat-inside-claims}
+use Rattle.grammar.proofs.+bits+branch+cell_rest+cells+cond_branches_and_end+dt_cell_list+dt_node_body+dt_property+eat_cell+eat_inside+eat_node_or_prop+eat_pp_directive+item+item_rest+node+propvalues+value+value_rest.Lts-eat_inside as lts
+use Rattle.grammar.proofs.+bits+branch+cell_rest+cells+cond_branches_and_end+dt_cell_list+dt_node_body+dt_property+eat_cell+eat_inside+eat_node_or_prop+eat_pp_directive+item+item_rest+node+propvalues+value+value_rest.Proof.Measures.{eat-inside-at, eat-inside-claims}
 
 pub enum-told : (t : ℕ) → lts.Need-enum-told (eat-inside-claims t) (eat-inside-at t) reads.Post
 enum-told t c =

@@ -11,22 +11,22 @@ use Rattle.definitions.specs.Grammar.{cells-turn, cells}
 use Rattle.machine.specs.Walk.{walk-rule, walk-prog, unlabelled}
 use Rattle.parser.specs.View.{left, view-of}
 use Rattle.machine.proofs.Way.{c-walk, c-ret, c-seq, c-yes, c-no, c-call}
-use Rattle.names.proofs.Kit.{ahead-falls}
+use Rattle.steps.proofs.Left.{ahead-falls}
 use Rattle.grammar.proofs.Ways.{again-part, last-yes, last-no, as-yes}
 use Rattle.grammar.proofs.cells.Reads as reads
-use Rattle.grammar.proofs.+arm+bits+cell2+cells+cond_branches_and_end+dt_cell_list+dt_node_body+dt_property+eat_cell+eat_inside+eat_node_or_prop+eat_preprocessor_directive+item+item2+propvalues+rest+value+value2.Lts-cells as lts
-use Rattle.grammar.proofs.+arm+bits+cell2+cells+cond_branches_and_end+dt_cell_list+dt_node_body+dt_property+eat_cell+eat_inside+eat_node_or_prop+eat_preprocessor_directive+item+item2+propvalues+rest+value+value2.Proof.Measures.{cells-at, cells-claims}
+use Rattle.grammar.proofs.+bits+branch+cell_rest+cells+cond_branches_and_end+dt_cell_list+dt_node_body+dt_property+eat_cell+eat_inside+eat_node_or_prop+eat_pp_directive+item+item_rest+node+propvalues+value+value_rest.Lts-cells as lts
+use Rattle.grammar.proofs.+bits+branch+cell_rest+cells+cond_branches_and_end+dt_cell_list+dt_node_body+dt_property+eat_cell+eat_inside+eat_node_or_prop+eat_pp_directive+item+item_rest+node+propvalues+value+value_rest.Proof.Measures.{cells-at, cells-claims}
 
 -- the loop from here is the loop from the start
 abbrev pub Inv-loop : lts.InvT-loop
-Inv-loop t events₀ reports₀ pool₀ room at-end q₀ events reports pool q =
-    (left t (q .s) ≤ left t (q₀ .s))
+Inv-loop tokens events₀ reports₀ pool₀ allowed until-end q₀ events reports pool q =
+    (left tokens (q .s) ≤ left tokens (q₀ .s))
     × ((length events ≡ length events₀)
     × ((length reports ≡ length reports₀)
-    × ((length pool ≡ length pool₀) × (walk-prog room (tokens-of t) unlabelled (cells at-end) (view-of q events reports pool) ≡ walk-prog room (tokens-of t) unlabelled (cells at-end) (view-of q₀ events₀ reports₀ pool₀)))))
+    × ((length pool ≡ length pool₀) × (walk-prog allowed (tokens-of tokens) unlabelled (cells until-end) (view-of q events reports pool) ≡ walk-prog allowed (tokens-of tokens) unlabelled (cells until-end) (view-of q₀ events₀ reports₀ pool₀)))))
 
 abbrev pub μ-loop : lts.MeasureT-loop
-μ-loop t events₀ reports₀ pool₀ room at-end q₀ events reports pool q = left t (q .s)
+μ-loop tokens events₀ reports₀ pool₀ allowed until-end q₀ events reports pool q = left tokens (q .s)
 
 pub loop-holds : (t : ℕ) → lts.Need-loop-holds (cells-claims t) (cells-at t) reads.Post Inv-loop μ-loop
 loop-holds t c = (omega arith, (refl, (refl, (refl, refl))))

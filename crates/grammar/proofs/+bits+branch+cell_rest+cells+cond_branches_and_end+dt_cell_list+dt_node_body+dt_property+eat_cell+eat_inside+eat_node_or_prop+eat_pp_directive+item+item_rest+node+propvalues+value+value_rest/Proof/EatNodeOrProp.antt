@@ -1,18 +1,19 @@
 -- `eat_node_or_prop` is the walk of its program, step by step.
 use Prim.Native.Nat.{ℕ}
-use mathlib.Core.Path.{sym, ap}
+use mathlib.Core.Path.{ap}
+use mathlib.Core.Bool.{false≢true}
 use native.Mathlib.Omega.{arith}
 use Rattle.definitions.specs.Token.{tokens-of}
 use Rattle.definitions.specs.Grammar.{eat-node-or-prop}
 use Rattle.machine.specs.Walk.{walk-rule, unlabelled}
 use Rattle.parser.specs.View.{ans-of}
 use Rattle.machine.proofs.Way.{c-walk, c-ret, c-yes, c-no, c-mark, way}
-use Rattle.steps.proofs.Steps.{true-false, c-said-no, c-said-also, closing, ignored}
 use Rattle.steps.specs.View.{found}
+use Rattle.steps.proofs.Steps.{c-said-no, c-said-also, closing, ignored}
 use Rattle.grammar.proofs.Ways.{c-same, c-said-other, found-other}
 use Rattle.grammar.proofs.eat_node_or_prop.Reads as reads
-use Rattle.grammar.proofs.+arm+bits+cell2+cells+cond_branches_and_end+dt_cell_list+dt_node_body+dt_property+eat_cell+eat_inside+eat_node_or_prop+eat_preprocessor_directive+item+item2+propvalues+rest+value+value2.Lts-eat_node_or_prop as lts
-use Rattle.grammar.proofs.+arm+bits+cell2+cells+cond_branches_and_end+dt_cell_list+dt_node_body+dt_property+eat_cell+eat_inside+eat_node_or_prop+eat_preprocessor_directive+item+item2+propvalues+rest+value+value2.Proof.Measures.{eat-node-or-prop-at, eat-node-or-prop-claims}
+use Rattle.grammar.proofs.+bits+branch+cell_rest+cells+cond_branches_and_end+dt_cell_list+dt_node_body+dt_property+eat_cell+eat_inside+eat_node_or_prop+eat_pp_directive+item+item_rest+node+propvalues+value+value_rest.Lts-eat_node_or_prop as lts
+use Rattle.grammar.proofs.+bits+branch+cell_rest+cells+cond_branches_and_end+dt_cell_list+dt_node_body+dt_property+eat_cell+eat_inside+eat_node_or_prop+eat_pp_directive+item+item_rest+node+propvalues+value+value_rest.Proof.Measures.{eat-node-or-prop-at, eat-node-or-prop-claims}
 
 pub new-requires : (t : ℕ) → lts.Need-new-requires (eat-node-or-prop-claims t) (eat-node-or-prop-at t) reads.Post
 new-requires t c κs = tt
@@ -84,16 +85,16 @@ returns t c =
       (omega (arith, start′ .start .ensures .1 (s′ .args .tokens .now), eat-node-or-prop-prefix′ .eat-node-or-prop-prefix .ensures .1, at′ .at .ensures .1 .0, at′ .at .ensures .1 .1 (if1′ .if1 .taken), dt-property′ .dt-property .ensures .1, ap found (enum-told2′ .enum-told2 .given .1)), λ e. omega (arith, start′ .start .ensures .1 (s′ .args .tokens .now), eat-node-or-prop-prefix′ .eat-node-or-prop-prefix .ensures .1, at′ .at .ensures .1 .0, at′ .at .ensures .1 .1 (if1′ .if1 .taken), dt-property′ .dt-property .ensures .1, ap found (enum-told2′ .enum-told2 .given .1))),
     )
 
-pub rest-requires : (t : ℕ) → lts.Need-rest-requires (eat-node-or-prop-claims t) (eat-node-or-prop-at t) reads.Post
-rest-requires t c κs =
+pub node-requires : (t : ℕ) → lts.Need-node-requires (eat-node-or-prop-claims t) (eat-node-or-prop-at t) reads.Post
+node-requires t c κs =
     let at′ = c .before .before .before .before in
     let eat-node-or-prop-prefix′ = at′ .before .before .before .before .before .before .before .before .before in
     let start′ = eat-node-or-prop-prefix′ .before .before .before .before .before .before in
     let s′ = start′ .before .before .before .before .before .before .before in
     (omega (arith, start′ .start .ensures .1 (s′ .args .tokens .now), eat-node-or-prop-prefix′ .eat-node-or-prop-prefix .ensures .1, at′ .at .ensures .1 .0, s′ .pre .0), tt)
 
-pub rest-requires-2 : (t : ℕ) → lts.Need-rest-requires-2 (eat-node-or-prop-claims t) (eat-node-or-prop-at t) reads.Post
-rest-requires-2 t c κs =
+pub node-requires-2 : (t : ℕ) → lts.Need-node-requires-2 (eat-node-or-prop-claims t) (eat-node-or-prop-at t) reads.Post
+node-requires-2 t c κs =
     let eat-node-or-prop-prefix′ = c .before .before .before .before .before .before .before .before .before .before in
     let start′ = eat-node-or-prop-prefix′ .before .before .before .before .before .before in
     let s′ = start′ .before .before .before .before .before .before .before in
@@ -130,75 +131,75 @@ returns-2 t c =
     let new′ = start′ .before .before in
     let s′ = new′ .before .before .before .before .before in (
       way (s′ .args .allowed) (c-mark (new′ .new .ensures) (start′ .start .ensures .0 _ _) (c-said-no (eat-node-or-prop-prefix′ .eat-node-or-prop-prefix .result .ans) (c-walk (eat-node-or-prop-prefix′ .eat-node-or-prop-prefix .ensures .0 (walk-rule (s′ .args .allowed) (tokens-of (s′ .args .tokens .now))) unlabelled)) (ap ans-of (enum-told′ .enum-told .given .1)) c-ret) (ignored (ignore′ .ignore .ensures .0 _ _))),
-      (omega (arith, start′ .start .ensures .1 (s′ .args .tokens .now), eat-node-or-prop-prefix′ .eat-node-or-prop-prefix .ensures .1, ignore′ .ignore .ensures .1 (s′ .args .tokens .now), ap found (enum-told′ .enum-told .given .1)), λ e. true-false (sym e)),
+      (omega (arith, start′ .start .ensures .1 (s′ .args .tokens .now), eat-node-or-prop-prefix′ .eat-node-or-prop-prefix .ensures .1, ignore′ .ignore .ensures .1 (s′ .args .tokens .now), ap found (enum-told′ .enum-told .given .1)), λ e. absurd (false≢true e)),
     )
 
 pub same-length-7 : (t : ℕ) → lts.Need-same-length-7 (eat-node-or-prop-claims t) (eat-node-or-prop-at t) reads.Post
 same-length-7 t c =
-    let rest′ = c .before .before .before .before .before .before in
-    let eat-node-or-prop-prefix′ = rest′ .before .before .before .before .before .before .before .before .before .before .before .before .before .before in
+    let node′ = c .before .before .before .before .before .before in
+    let eat-node-or-prop-prefix′ = node′ .before .before .before .before .before .before .before .before .before .before .before .before .before .before in
     let start′ = eat-node-or-prop-prefix′ .before .before .before .before .before .before in
-    omega (arith, start′ .start .kept, eat-node-or-prop-prefix′ .eat-node-or-prop-prefix .kept, rest′ .rest .kept)
+    omega (arith, start′ .start .kept, eat-node-or-prop-prefix′ .eat-node-or-prop-prefix .kept, node′ .node .kept)
 
 pub same-length-8 : (t : ℕ) → lts.Need-same-length-8 (eat-node-or-prop-claims t) (eat-node-or-prop-at t) reads.Post
 same-length-8 t c =
-    let rest′ = c .before .before .before .before .before .before in
-    let eat-node-or-prop-prefix′ = rest′ .before .before .before .before .before .before .before .before .before .before .before .before .before .before in
+    let node′ = c .before .before .before .before .before .before in
+    let eat-node-or-prop-prefix′ = node′ .before .before .before .before .before .before .before .before .before .before .before .before .before .before in
     let start′ = eat-node-or-prop-prefix′ .before .before .before .before .before .before in
-    omega (arith, start′ .start .kept, eat-node-or-prop-prefix′ .eat-node-or-prop-prefix .kept, rest′ .rest .kept)
+    omega (arith, start′ .start .kept, eat-node-or-prop-prefix′ .eat-node-or-prop-prefix .kept, node′ .node .kept)
 
 pub same-length-9 : (t : ℕ) → lts.Need-same-length-9 (eat-node-or-prop-claims t) (eat-node-or-prop-at t) reads.Post
 same-length-9 t c =
-    let rest′ = c .before .before .before .before .before .before in
-    let eat-node-or-prop-prefix′ = rest′ .before .before .before .before .before .before .before .before .before .before .before .before .before .before in
+    let node′ = c .before .before .before .before .before .before in
+    let eat-node-or-prop-prefix′ = node′ .before .before .before .before .before .before .before .before .before .before .before .before .before .before in
     let start′ = eat-node-or-prop-prefix′ .before .before .before .before .before .before in
-    omega (arith, start′ .start .kept, eat-node-or-prop-prefix′ .eat-node-or-prop-prefix .kept, rest′ .rest .kept)
+    omega (arith, start′ .start .kept, eat-node-or-prop-prefix′ .eat-node-or-prop-prefix .kept, node′ .node .kept)
 
 pub returns-3 : (t : ℕ) → lts.Need-returns-3 (eat-node-or-prop-claims t) (eat-node-or-prop-at t) reads.Post
 unfolding eat-node-or-prop
 returns-3 t c =
-    let rest′ = c .before .before .before .before .before .before in
-    let if1′ = rest′ .before .before .before .before in
+    let node′ = c .before .before .before .before .before .before in
+    let if1′ = node′ .before .before .before .before in
     let at′ = if1′ .before in
     let enum-told2′ = at′ .before in
     let eat-node-or-prop-prefix′ = enum-told2′ .before .before .before .before .before .before .before .before in
     let start′ = eat-node-or-prop-prefix′ .before .before .before .before .before .before in
     let new′ = start′ .before .before in
     let s′ = new′ .before .before .before .before .before in (
-      way (s′ .args .allowed) (c-mark (new′ .new .ensures) (start′ .start .ensures .0 _ _) (c-said-also (eat-node-or-prop-prefix′ .eat-node-or-prop-prefix .result .ans) (c-walk (eat-node-or-prop-prefix′ .eat-node-or-prop-prefix .ensures .0 (walk-rule (s′ .args .allowed) (tokens-of (s′ .args .tokens .now))) unlabelled)) (ap ans-of (enum-told2′ .enum-told2 .given .1)) (c-no (c-walk (at′ .at .ensures .0 (walk-rule (s′ .args .allowed) (tokens-of (s′ .args .tokens .now))) unlabelled _ _ _)) (if1′ .if1 .left) (c-same (s′ .args .allowed)))) (closing (rest′ .rest .ensures .0))),
-      (omega (arith, start′ .start .ensures .1 (s′ .args .tokens .now), eat-node-or-prop-prefix′ .eat-node-or-prop-prefix .ensures .1, at′ .at .ensures .1 .0, rest′ .rest .ensures .1, ap found (enum-told2′ .enum-told2 .given .1)), λ e. omega (arith, start′ .start .ensures .1 (s′ .args .tokens .now), eat-node-or-prop-prefix′ .eat-node-or-prop-prefix .ensures .1, at′ .at .ensures .1 .0, rest′ .rest .ensures .1, ap found (enum-told2′ .enum-told2 .given .1))),
+      way (s′ .args .allowed) (c-mark (new′ .new .ensures) (start′ .start .ensures .0 _ _) (c-said-also (eat-node-or-prop-prefix′ .eat-node-or-prop-prefix .result .ans) (c-walk (eat-node-or-prop-prefix′ .eat-node-or-prop-prefix .ensures .0 (walk-rule (s′ .args .allowed) (tokens-of (s′ .args .tokens .now))) unlabelled)) (ap ans-of (enum-told2′ .enum-told2 .given .1)) (c-no (c-walk (at′ .at .ensures .0 (walk-rule (s′ .args .allowed) (tokens-of (s′ .args .tokens .now))) unlabelled _ _ _)) (if1′ .if1 .left) (c-same (s′ .args .allowed)))) (closing (node′ .node .ensures .0))),
+      (omega (arith, start′ .start .ensures .1 (s′ .args .tokens .now), eat-node-or-prop-prefix′ .eat-node-or-prop-prefix .ensures .1, at′ .at .ensures .1 .0, node′ .node .ensures .1, ap found (enum-told2′ .enum-told2 .given .1)), λ e. omega (arith, start′ .start .ensures .1 (s′ .args .tokens .now), eat-node-or-prop-prefix′ .eat-node-or-prop-prefix .ensures .1, at′ .at .ensures .1 .0, node′ .node .ensures .1, ap found (enum-told2′ .enum-told2 .given .1))),
     )
 
 pub same-length-10 : (t : ℕ) → lts.Need-same-length-10 (eat-node-or-prop-claims t) (eat-node-or-prop-at t) reads.Post
 same-length-10 t c =
-    let rest2′ = c .before .before .before .before .before .before in
-    let eat-node-or-prop-prefix′ = rest2′ .before .before .before .before .before .before .before .before .before .before .before in
+    let node2′ = c .before .before .before .before .before .before in
+    let eat-node-or-prop-prefix′ = node2′ .before .before .before .before .before .before .before .before .before .before .before in
     let start′ = eat-node-or-prop-prefix′ .before .before .before .before .before .before in
-    omega (arith, start′ .start .kept, eat-node-or-prop-prefix′ .eat-node-or-prop-prefix .kept, rest2′ .rest2 .kept)
+    omega (arith, start′ .start .kept, eat-node-or-prop-prefix′ .eat-node-or-prop-prefix .kept, node2′ .node2 .kept)
 
 pub same-length-11 : (t : ℕ) → lts.Need-same-length-11 (eat-node-or-prop-claims t) (eat-node-or-prop-at t) reads.Post
 same-length-11 t c =
-    let rest2′ = c .before .before .before .before .before .before in
-    let eat-node-or-prop-prefix′ = rest2′ .before .before .before .before .before .before .before .before .before .before .before in
+    let node2′ = c .before .before .before .before .before .before in
+    let eat-node-or-prop-prefix′ = node2′ .before .before .before .before .before .before .before .before .before .before .before in
     let start′ = eat-node-or-prop-prefix′ .before .before .before .before .before .before in
-    omega (arith, start′ .start .kept, eat-node-or-prop-prefix′ .eat-node-or-prop-prefix .kept, rest2′ .rest2 .kept)
+    omega (arith, start′ .start .kept, eat-node-or-prop-prefix′ .eat-node-or-prop-prefix .kept, node2′ .node2 .kept)
 
 pub same-length-12 : (t : ℕ) → lts.Need-same-length-12 (eat-node-or-prop-claims t) (eat-node-or-prop-at t) reads.Post
 same-length-12 t c =
-    let rest2′ = c .before .before .before .before .before .before in
-    let eat-node-or-prop-prefix′ = rest2′ .before .before .before .before .before .before .before .before .before .before .before in
+    let node2′ = c .before .before .before .before .before .before in
+    let eat-node-or-prop-prefix′ = node2′ .before .before .before .before .before .before .before .before .before .before .before in
     let start′ = eat-node-or-prop-prefix′ .before .before .before .before .before .before in
-    omega (arith, start′ .start .kept, eat-node-or-prop-prefix′ .eat-node-or-prop-prefix .kept, rest2′ .rest2 .kept)
+    omega (arith, start′ .start .kept, eat-node-or-prop-prefix′ .eat-node-or-prop-prefix .kept, node2′ .node2 .kept)
 
 pub returns-4 : (t : ℕ) → lts.Need-returns-4 (eat-node-or-prop-claims t) (eat-node-or-prop-at t) reads.Post
 unfolding eat-node-or-prop
 returns-4 t c =
-    let rest2′ = c .before .before .before .before .before .before in
-    let match0′ = rest2′ .before .before .before .before in
+    let node2′ = c .before .before .before .before .before .before in
+    let match0′ = node2′ .before .before .before .before in
     let eat-node-or-prop-prefix′ = match0′ .before .before .before .before .before .before .before in
     let start′ = eat-node-or-prop-prefix′ .before .before .before .before .before .before in
     let new′ = start′ .before .before in
     let s′ = new′ .before .before .before .before .before in (
-      way (s′ .args .allowed) (c-mark (new′ .new .ensures) (start′ .start .ensures .0 _ _) (c-said-other (eat-node-or-prop-prefix′ .eat-node-or-prop-prefix .result .ans) (c-walk (eat-node-or-prop-prefix′ .eat-node-or-prop-prefix .ensures .0 (walk-rule (s′ .args .allowed) (tokens-of (s′ .args .tokens .now))) unlabelled)) (match0′ .match .keys3) (c-same (s′ .args .allowed))) (closing (rest2′ .rest2 .ensures .0))),
-      (omega (arith, start′ .start .ensures .1 (s′ .args .tokens .now), eat-node-or-prop-prefix′ .eat-node-or-prop-prefix .ensures .1, rest2′ .rest2 .ensures .1, found-other (eat-node-or-prop-prefix′ .eat-node-or-prop-prefix .result .ans) (match0′ .match .keys3)), λ e. omega (arith, start′ .start .ensures .1 (s′ .args .tokens .now), eat-node-or-prop-prefix′ .eat-node-or-prop-prefix .ensures .1, rest2′ .rest2 .ensures .1, found-other (eat-node-or-prop-prefix′ .eat-node-or-prop-prefix .result .ans) (match0′ .match .keys3))),
+      way (s′ .args .allowed) (c-mark (new′ .new .ensures) (start′ .start .ensures .0 _ _) (c-said-other (eat-node-or-prop-prefix′ .eat-node-or-prop-prefix .result .ans) (c-walk (eat-node-or-prop-prefix′ .eat-node-or-prop-prefix .ensures .0 (walk-rule (s′ .args .allowed) (tokens-of (s′ .args .tokens .now))) unlabelled)) (match0′ .match .keys3) (c-same (s′ .args .allowed))) (closing (node2′ .node2 .ensures .0))),
+      (omega (arith, start′ .start .ensures .1 (s′ .args .tokens .now), eat-node-or-prop-prefix′ .eat-node-or-prop-prefix .ensures .1, node2′ .node2 .ensures .1, found-other (eat-node-or-prop-prefix′ .eat-node-or-prop-prefix .result .ans) (match0′ .match .keys3)), λ e. omega (arith, start′ .start .ensures .1 (s′ .args .tokens .now), eat-node-or-prop-prefix′ .eat-node-or-prop-prefix .ensures .1, node2′ .node2 .ensures .1, found-other (eat-node-or-prop-prefix′ .eat-node-or-prop-prefix .result .ans) (match0′ .match .keys3))),
     )

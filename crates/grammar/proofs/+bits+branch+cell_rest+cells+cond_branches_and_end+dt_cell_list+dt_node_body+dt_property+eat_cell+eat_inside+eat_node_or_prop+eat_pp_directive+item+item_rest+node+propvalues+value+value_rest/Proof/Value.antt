@@ -7,11 +7,11 @@ use Rattle.definitions.specs.Check.{silent}
 use Rattle.definitions.specs.Grammar.{propvalue}
 use Rattle.machine.specs.Walk.{walk-rule, unlabelled}
 use Rattle.machine.proofs.Way.{c-walk, c-act, c-ret, c-seq, c-yes, c-no, c-mark, c-fn, way}
-use Rattle.steps.proofs.Steps.{closing, told-is, told-yes}
-use Rattle.grammar.proofs.Ways.{c-same, told-left}
+use Rattle.steps.proofs.Steps.{closing, answered-is, answered-yes}
+use Rattle.grammar.proofs.Ways.{c-same, answered-left}
 use Rattle.grammar.proofs.value.Reads as reads
-use Rattle.grammar.proofs.+arm+bits+cell2+cells+cond_branches_and_end+dt_cell_list+dt_node_body+dt_property+eat_cell+eat_inside+eat_node_or_prop+eat_preprocessor_directive+item+item2+propvalues+rest+value+value2.Lts-value as lts
-use Rattle.grammar.proofs.+arm+bits+cell2+cells+cond_branches_and_end+dt_cell_list+dt_node_body+dt_property+eat_cell+eat_inside+eat_node_or_prop+eat_preprocessor_directive+item+item2+propvalues+rest+value+value2.Proof.Measures.{value-at, value-claims}
+use Rattle.grammar.proofs.+bits+branch+cell_rest+cells+cond_branches_and_end+dt_cell_list+dt_node_body+dt_property+eat_cell+eat_inside+eat_node_or_prop+eat_pp_directive+item+item_rest+node+propvalues+value+value_rest.Lts-value as lts
+use Rattle.grammar.proofs.+bits+branch+cell_rest+cells+cond_branches_and_end+dt_cell_list+dt_node_body+dt_property+eat_cell+eat_inside+eat_node_or_prop+eat_pp_directive+item+item_rest+node+propvalues+value+value_rest.Proof.Measures.{value-at, value-claims}
 
 pub add-expected-requires : (t : ℕ) → lts.Need-add-expected-requires (value-claims t) (value-at t) reads.Post
 add-expected-requires t c κs = tt
@@ -27,8 +27,8 @@ bits-requires t c κs =
     let s′ = add-expected′ .before .before .before .before .before in
     (omega (arith, add-expected′ .add-expected .ensures .1 (s′ .args .tokens .now), silent-at′ .silent-at .ensures .1 .0, silent-at′ .silent-at .ensures .1 .1 (if1′ .if1 .taken), s′ .pre .0), tt)
 
-pub told-requires : (t : ℕ) → lts.Need-told-requires (value-claims t) (value-at t) reads.Post
-told-requires t c κs = tt
+pub answered-requires : (t : ℕ) → lts.Need-answered-requires (value-claims t) (value-at t) reads.Post
+answered-requires t c κs = tt
 
 pub same-length : (t : ℕ) → lts.Need-same-length (value-claims t) (value-at t) reads.Post
 same-length t c =
@@ -48,21 +48,21 @@ same-length-3 t c =
 pub returns : (t : ℕ) → lts.Need-returns (value-claims t) (value-at t) reads.Post
 unfolding propvalue silent
 returns t c =
-    let told′ = c in
-    let bits′ = told′ .before .before .before .before .before .before .before in
+    let answered′ = c in
+    let bits′ = answered′ .before .before .before .before .before .before .before in
     let if1′ = bits′ .before .before .before .before in
     let silent-at′ = if1′ .before in
     let add-expected′ = silent-at′ .before in
     let s′ = add-expected′ .before .before .before .before .before in (
-      told-is (told′ .told .result) (bits′ .bits .result) _ _ _ (told′ .told .ensures .0) (told′ .told .ensures .1) ∙ way (s′ .args .allowed) (c-seq (c-act (add-expected′ .add-expected .ensures .0 (tokens-of (s′ .args .tokens .now)) unlabelled _ _ _)) (c-yes (c-act (silent-at′ .silent-at .ensures .0 unlabelled _ _ _)) (if1′ .if1 .taken) (c-fn (s′ .args .allowed) (bits′ .bits .ensures .0)))),
-      omega (arith, add-expected′ .add-expected .ensures .1 (s′ .args .tokens .now), silent-at′ .silent-at .ensures .1 .0, silent-at′ .silent-at .ensures .1 .1 (if1′ .if1 .taken), bits′ .bits .ensures .1, told-left (s′ .args .tokens .now) (told′ .told .result) (bits′ .bits .result) (told′ .told .ensures .0)),
+      answered-is (answered′ .answered .result) (bits′ .bits .result) _ _ _ (answered′ .answered .ensures .0) (answered′ .answered .ensures .1) ∙ way (s′ .args .allowed) (c-seq (c-act (add-expected′ .add-expected .ensures .0 (tokens-of (s′ .args .tokens .now)) unlabelled _ _ _)) (c-yes (c-act (silent-at′ .silent-at .ensures .0 unlabelled _ _ _)) (if1′ .if1 .taken) (c-fn (s′ .args .allowed) (bits′ .bits .ensures .0)))),
+      omega (arith, add-expected′ .add-expected .ensures .1 (s′ .args .tokens .now), silent-at′ .silent-at .ensures .1 .0, silent-at′ .silent-at .ensures .1 .1 (if1′ .if1 .taken), bits′ .bits .ensures .1, answered-left (s′ .args .tokens .now) (answered′ .answered .result) (bits′ .bits .result) (answered′ .answered .ensures .0)),
     )
 
 pub silent-eat-requires : (t : ℕ) → lts.Need-silent-eat-requires (value-claims t) (value-at t) reads.Post
 silent-eat-requires t c κs = tt
 
-pub told-requires-2 : (t : ℕ) → lts.Need-told-requires-2 (value-claims t) (value-at t) reads.Post
-told-requires-2 t c κs = tt
+pub answered-requires-2 : (t : ℕ) → lts.Need-answered-requires-2 (value-claims t) (value-at t) reads.Post
+answered-requires-2 t c κs = tt
 
 pub same-length-4 : (t : ℕ) → lts.Need-same-length-4 (value-claims t) (value-at t) reads.Post
 same-length-4 t c =
@@ -72,15 +72,15 @@ same-length-4 t c =
 pub returns-2 : (t : ℕ) → lts.Need-returns-2 (value-claims t) (value-at t) reads.Post
 unfolding propvalue silent
 returns-2 t c =
-    let told2′ = c in
-    let if2′ = told2′ .before in
+    let answered2′ = c in
+    let if2′ = answered2′ .before in
     let silent-eat′ = if2′ .before .before .before in
     let if1′ = silent-eat′ .before .before in
     let silent-at′ = if1′ .before in
     let add-expected′ = silent-at′ .before in
     let s′ = add-expected′ .before .before .before .before .before in (
-      told-yes (told2′ .told2 .result) (silent-eat′ .silent-eat .result) _ _ _ (told2′ .told2 .ensures .0) (told2′ .told2 .ensures .1) (if2′ .if2 .taken) ∙ way (s′ .args .allowed) (c-seq (c-act (add-expected′ .add-expected .ensures .0 (tokens-of (s′ .args .tokens .now)) unlabelled _ _ _)) (c-no (c-act (silent-at′ .silent-at .ensures .0 unlabelled _ _ _)) (if1′ .if1 .left) (c-yes (c-walk (silent-eat′ .silent-eat .ensures .0 (walk-rule (s′ .args .allowed) (tokens-of (s′ .args .tokens .now))) unlabelled _ _)) (if2′ .if2 .taken) c-ret))),
-      omega (arith, add-expected′ .add-expected .ensures .1 (s′ .args .tokens .now), silent-at′ .silent-at .ensures .1 .0, silent-eat′ .silent-eat .ensures .1 .0, silent-eat′ .silent-eat .ensures .1 .1 (if2′ .if2 .taken), told-left (s′ .args .tokens .now) (told2′ .told2 .result) (silent-eat′ .silent-eat .result) (told2′ .told2 .ensures .0)),
+      answered-yes (answered2′ .answered2 .result) (silent-eat′ .silent-eat .result) _ _ _ (answered2′ .answered2 .ensures .0) (answered2′ .answered2 .ensures .1) (if2′ .if2 .taken) ∙ way (s′ .args .allowed) (c-seq (c-act (add-expected′ .add-expected .ensures .0 (tokens-of (s′ .args .tokens .now)) unlabelled _ _ _)) (c-no (c-act (silent-at′ .silent-at .ensures .0 unlabelled _ _ _)) (if1′ .if1 .left) (c-yes (c-walk (silent-eat′ .silent-eat .ensures .0 (walk-rule (s′ .args .allowed) (tokens-of (s′ .args .tokens .now))) unlabelled _ _)) (if2′ .if2 .taken) c-ret))),
+      omega (arith, add-expected′ .add-expected .ensures .1 (s′ .args .tokens .now), silent-at′ .silent-at .ensures .1 .0, silent-eat′ .silent-eat .ensures .1 .0, silent-eat′ .silent-eat .ensures .1 .1 (if2′ .if2 .taken), answered-left (s′ .args .tokens .now) (answered2′ .answered2 .result) (silent-eat′ .silent-eat .result) (answered2′ .answered2 .ensures .0)),
     )
 
 pub silent-at-requires-2 : (t : ℕ) → lts.Need-silent-at-requires-2 (value-claims t) (value-at t) reads.Post
@@ -103,8 +103,8 @@ dt-cell-list-requires t c κs =
     let s′ = add-expected′ .before .before .before .before .before in
     (omega (arith, add-expected′ .add-expected .ensures .1 (s′ .args .tokens .now), silent-at′ .silent-at .ensures .1 .0, silent-eat′ .silent-eat .ensures .1 .0, silent-at2′ .silent-at2 .ensures .1 .0, silent-at2′ .silent-at2 .ensures .1 .1 (if3′ .if3 .taken), start′ .start .ensures .1 (s′ .args .tokens .now), s′ .pre .0), tt)
 
-pub told-requires-3 : (t : ℕ) → lts.Need-told-requires-3 (value-claims t) (value-at t) reads.Post
-told-requires-3 t c κs = tt
+pub answered-requires-3 : (t : ℕ) → lts.Need-answered-requires-3 (value-claims t) (value-at t) reads.Post
+answered-requires-3 t c κs = tt
 
 pub same-length-5 : (t : ℕ) → lts.Need-same-length-5 (value-claims t) (value-at t) reads.Post
 same-length-5 t c =
@@ -130,8 +130,8 @@ same-length-7 t c =
 pub returns-3 : (t : ℕ) → lts.Need-returns-3 (value-claims t) (value-at t) reads.Post
 unfolding propvalue silent
 returns-3 t c =
-    let told3′ = c in
-    let dt-cell-list′ = told3′ .before .before .before .before .before .before .before in
+    let answered3′ = c in
+    let dt-cell-list′ = answered3′ .before .before .before .before .before .before .before in
     let start′ = dt-cell-list′ .before .before .before .before .before .before in
     let new′ = start′ .before .before in
     let if3′ = new′ .before in
@@ -142,12 +142,12 @@ returns-3 t c =
     let silent-at′ = if1′ .before in
     let add-expected′ = silent-at′ .before in
     let s′ = add-expected′ .before .before .before .before .before in (
-      told-is (told3′ .told3 .result) (dt-cell-list′ .dt-cell-list .result) _ _ _ (told3′ .told3 .ensures .0) (told3′ .told3 .ensures .1) ∙ way (s′ .args .allowed) (c-seq (c-act (add-expected′ .add-expected .ensures .0 (tokens-of (s′ .args .tokens .now)) unlabelled _ _ _)) (c-no (c-act (silent-at′ .silent-at .ensures .0 unlabelled _ _ _)) (if1′ .if1 .left) (c-no (c-walk (silent-eat′ .silent-eat .ensures .0 (walk-rule (s′ .args .allowed) (tokens-of (s′ .args .tokens .now))) unlabelled _ _)) (if2′ .if2 .left) (c-yes (c-act (silent-at2′ .silent-at2 .ensures .0 unlabelled _ _ _)) (if3′ .if3 .taken) (c-mark (new′ .new .ensures) (start′ .start .ensures .0 _ _) (c-same (s′ .args .allowed)) (closing (dt-cell-list′ .dt-cell-list .ensures .0))))))),
-      omega (arith, add-expected′ .add-expected .ensures .1 (s′ .args .tokens .now), silent-at′ .silent-at .ensures .1 .0, silent-eat′ .silent-eat .ensures .1 .0, silent-at2′ .silent-at2 .ensures .1 .0, silent-at2′ .silent-at2 .ensures .1 .1 (if3′ .if3 .taken), start′ .start .ensures .1 (s′ .args .tokens .now), dt-cell-list′ .dt-cell-list .ensures .1, told-left (s′ .args .tokens .now) (told3′ .told3 .result) (dt-cell-list′ .dt-cell-list .result) (told3′ .told3 .ensures .0)),
+      answered-is (answered3′ .answered3 .result) (dt-cell-list′ .dt-cell-list .result) _ _ _ (answered3′ .answered3 .ensures .0) (answered3′ .answered3 .ensures .1) ∙ way (s′ .args .allowed) (c-seq (c-act (add-expected′ .add-expected .ensures .0 (tokens-of (s′ .args .tokens .now)) unlabelled _ _ _)) (c-no (c-act (silent-at′ .silent-at .ensures .0 unlabelled _ _ _)) (if1′ .if1 .left) (c-no (c-walk (silent-eat′ .silent-eat .ensures .0 (walk-rule (s′ .args .allowed) (tokens-of (s′ .args .tokens .now))) unlabelled _ _)) (if2′ .if2 .left) (c-yes (c-act (silent-at2′ .silent-at2 .ensures .0 unlabelled _ _ _)) (if3′ .if3 .taken) (c-mark (new′ .new .ensures) (start′ .start .ensures .0 _ _) (c-same (s′ .args .allowed)) (closing (dt-cell-list′ .dt-cell-list .ensures .0))))))),
+      omega (arith, add-expected′ .add-expected .ensures .1 (s′ .args .tokens .now), silent-at′ .silent-at .ensures .1 .0, silent-eat′ .silent-eat .ensures .1 .0, silent-at2′ .silent-at2 .ensures .1 .0, silent-at2′ .silent-at2 .ensures .1 .1 (if3′ .if3 .taken), start′ .start .ensures .1 (s′ .args .tokens .now), dt-cell-list′ .dt-cell-list .ensures .1, answered-left (s′ .args .tokens .now) (answered3′ .answered3 .result) (dt-cell-list′ .dt-cell-list .result) (answered3′ .answered3 .ensures .0)),
     )
 
-pub value2-requires : (t : ℕ) → lts.Need-value2-requires (value-claims t) (value-at t) reads.Post
-value2-requires t c κs =
+pub value-rest-requires : (t : ℕ) → lts.Need-value-rest-requires (value-claims t) (value-at t) reads.Post
+value-rest-requires t c κs =
     let silent-at2′ = c .before .before .before .before in
     let silent-eat′ = silent-at2′ .before .before .before .before in
     let silent-at′ = silent-eat′ .before .before .before in
@@ -157,27 +157,27 @@ value2-requires t c κs =
 
 pub same-length-8 : (t : ℕ) → lts.Need-same-length-8 (value-claims t) (value-at t) reads.Post
 same-length-8 t c =
-    let value2′ = c .before .before .before .before .before .before in
-    let silent-eat′ = value2′ .before .before .before .before .before .before .before .before .before in
-    omega (arith, silent-eat′ .silent-eat .kept, value2′ .value2 .kept)
+    let value-rest′ = c .before .before .before .before .before .before in
+    let silent-eat′ = value-rest′ .before .before .before .before .before .before .before .before .before in
+    omega (arith, silent-eat′ .silent-eat .kept, value-rest′ .value-rest .kept)
 
 pub same-length-9 : (t : ℕ) → lts.Need-same-length-9 (value-claims t) (value-at t) reads.Post
 same-length-9 t c =
-    let value2′ = c .before .before .before .before .before .before in
-    let silent-eat′ = value2′ .before .before .before .before .before .before .before .before .before in
-    omega (arith, silent-eat′ .silent-eat .kept, value2′ .value2 .kept)
+    let value-rest′ = c .before .before .before .before .before .before in
+    let silent-eat′ = value-rest′ .before .before .before .before .before .before .before .before .before in
+    omega (arith, silent-eat′ .silent-eat .kept, value-rest′ .value-rest .kept)
 
 pub same-length-10 : (t : ℕ) → lts.Need-same-length-10 (value-claims t) (value-at t) reads.Post
 same-length-10 t c =
-    let value2′ = c .before .before .before .before .before .before in
-    let silent-eat′ = value2′ .before .before .before .before .before .before .before .before .before in
-    omega (arith, silent-eat′ .silent-eat .kept, value2′ .value2 .kept)
+    let value-rest′ = c .before .before .before .before .before .before in
+    let silent-eat′ = value-rest′ .before .before .before .before .before .before .before .before .before in
+    omega (arith, silent-eat′ .silent-eat .kept, value-rest′ .value-rest .kept)
 
 pub returns-4 : (t : ℕ) → lts.Need-returns-4 (value-claims t) (value-at t) reads.Post
 unfolding propvalue silent
 returns-4 t c =
-    let value2′ = c .before .before .before .before .before .before in
-    let if3′ = value2′ .before .before .before .before in
+    let value-rest′ = c .before .before .before .before .before .before in
+    let if3′ = value-rest′ .before .before .before .before in
     let silent-at2′ = if3′ .before in
     let if2′ = silent-at2′ .before in
     let silent-eat′ = if2′ .before .before .before in
@@ -185,6 +185,6 @@ returns-4 t c =
     let silent-at′ = if1′ .before in
     let add-expected′ = silent-at′ .before in
     let s′ = add-expected′ .before .before .before .before .before in (
-      way (s′ .args .allowed) (c-seq (c-act (add-expected′ .add-expected .ensures .0 (tokens-of (s′ .args .tokens .now)) unlabelled _ _ _)) (c-no (c-act (silent-at′ .silent-at .ensures .0 unlabelled _ _ _)) (if1′ .if1 .left) (c-no (c-walk (silent-eat′ .silent-eat .ensures .0 (walk-rule (s′ .args .allowed) (tokens-of (s′ .args .tokens .now))) unlabelled _ _)) (if2′ .if2 .left) (c-no (c-act (silent-at2′ .silent-at2 .ensures .0 unlabelled _ _ _)) (if3′ .if3 .left) (c-fn (s′ .args .allowed) (value2′ .value2 .ensures .0)))))),
-      omega (arith, add-expected′ .add-expected .ensures .1 (s′ .args .tokens .now), silent-at′ .silent-at .ensures .1 .0, silent-eat′ .silent-eat .ensures .1 .0, silent-at2′ .silent-at2 .ensures .1 .0, value2′ .value2 .ensures .1),
+      way (s′ .args .allowed) (c-seq (c-act (add-expected′ .add-expected .ensures .0 (tokens-of (s′ .args .tokens .now)) unlabelled _ _ _)) (c-no (c-act (silent-at′ .silent-at .ensures .0 unlabelled _ _ _)) (if1′ .if1 .left) (c-no (c-walk (silent-eat′ .silent-eat .ensures .0 (walk-rule (s′ .args .allowed) (tokens-of (s′ .args .tokens .now))) unlabelled _ _)) (if2′ .if2 .left) (c-no (c-act (silent-at2′ .silent-at2 .ensures .0 unlabelled _ _ _)) (if3′ .if3 .left) (c-fn (s′ .args .allowed) (value-rest′ .value-rest .ensures .0)))))),
+      omega (arith, add-expected′ .add-expected .ensures .1 (s′ .args .tokens .now), silent-at′ .silent-at .ensures .1 .0, silent-eat′ .silent-eat .ensures .1 .0, silent-at2′ .silent-at2 .ensures .1 .0, value-rest′ .value-rest .ensures .1),
     )

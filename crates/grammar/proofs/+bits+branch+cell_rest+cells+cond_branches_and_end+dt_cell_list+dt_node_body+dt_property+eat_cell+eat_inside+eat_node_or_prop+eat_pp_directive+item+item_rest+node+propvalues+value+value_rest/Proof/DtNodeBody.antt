@@ -10,23 +10,23 @@ use Rattle.definitions.specs.Grammar.{node-body-turn, dt-node-body}
 use Rattle.machine.specs.Walk.{walk-rule, walk-prog}
 use Rattle.parser.specs.View.{left, view-of, span-of}
 use Rattle.machine.proofs.Way.{c-walk, c-act, c-ret, c-seq, c-yes, c-no}
-use Rattle.names.proofs.Kit.{ahead-falls}
+use Rattle.steps.proofs.Left.{ahead-falls}
 use Rattle.steps.proofs.Steps.{c-brace, c-any, closing}
 use Rattle.grammar.proofs.Ways.{c-part, c-call-on, closes, again-part, last-yes}
 use Rattle.grammar.proofs.dt_node_body.Reads as reads
-use Rattle.grammar.proofs.+arm+bits+cell2+cells+cond_branches_and_end+dt_cell_list+dt_node_body+dt_property+eat_cell+eat_inside+eat_node_or_prop+eat_preprocessor_directive+item+item2+propvalues+rest+value+value2.Lts-dt_node_body as lts
-use Rattle.grammar.proofs.+arm+bits+cell2+cells+cond_branches_and_end+dt_cell_list+dt_node_body+dt_property+eat_cell+eat_inside+eat_node_or_prop+eat_preprocessor_directive+item+item2+propvalues+rest+value+value2.Proof.Measures.{dt-node-body-at, dt-node-body-claims}
+use Rattle.grammar.proofs.+bits+branch+cell_rest+cells+cond_branches_and_end+dt_cell_list+dt_node_body+dt_property+eat_cell+eat_inside+eat_node_or_prop+eat_pp_directive+item+item_rest+node+propvalues+value+value_rest.Lts-dt_node_body as lts
+use Rattle.grammar.proofs.+bits+branch+cell_rest+cells+cond_branches_and_end+dt_cell_list+dt_node_body+dt_property+eat_cell+eat_inside+eat_node_or_prop+eat_pp_directive+item+item_rest+node+propvalues+value+value_rest.Proof.Measures.{dt-node-body-at, dt-node-body-claims}
 
 -- the loop from here is the loop from the start
 abbrev pub Inv-loop : lts.InvT-loop
-Inv-loop t events₀ reports₀ pool₀ room m lcurly q₀ events reports pool q =
-    (left t (q .s) ≤ left t (q₀ .s))
+Inv-loop tokens events₀ reports₀ pool₀ allowed m lcurly q₀ events reports pool q =
+    (left tokens (q .s) ≤ left tokens (q₀ .s))
     × ((length events ≡ length events₀)
     × ((length reports ≡ length reports₀)
-    × ((length pool ≡ length pool₀) × (walk-prog room (tokens-of t) (span-of lcurly) (loop node-body-turn) (view-of q events reports pool) ≡ walk-prog room (tokens-of t) (span-of lcurly) (loop node-body-turn) (view-of q₀ events₀ reports₀ pool₀)))))
+    × ((length pool ≡ length pool₀) × (walk-prog allowed (tokens-of tokens) (span-of lcurly) (loop node-body-turn) (view-of q events reports pool) ≡ walk-prog allowed (tokens-of tokens) (span-of lcurly) (loop node-body-turn) (view-of q₀ events₀ reports₀ pool₀)))))
 
 abbrev pub μ-loop : lts.MeasureT-loop
-μ-loop t events₀ reports₀ pool₀ room m lcurly q₀ events reports pool q = left t (q .s)
+μ-loop tokens events₀ reports₀ pool₀ allowed m lcurly q₀ events reports pool q = left tokens (q .s)
 
 pub range-requires : (t : ℕ) → lts.Need-range-requires (dt-node-body-claims t) (dt-node-body-at t) reads.Post Inv-loop μ-loop
 range-requires t c κs = tt

@@ -13,8 +13,8 @@ use Rattle.machine.proofs.Way.{c-walk, c-act, c-ret, c-seq, c-yes, c-no, c-mark
 use Rattle.steps.proofs.Steps.{closing}
 use Rattle.grammar.proofs.Ways.{c-same}
 use Rattle.grammar.proofs.item.Reads as reads
-use Rattle.grammar.proofs.+arm+bits+cell2+cells+cond_branches_and_end+dt_cell_list+dt_node_body+dt_property+eat_cell+eat_inside+eat_node_or_prop+eat_preprocessor_directive+item+item2+propvalues+rest+value+value2.Lts-item as lts
-use Rattle.grammar.proofs.+arm+bits+cell2+cells+cond_branches_and_end+dt_cell_list+dt_node_body+dt_property+eat_cell+eat_inside+eat_node_or_prop+eat_preprocessor_directive+item+item2+propvalues+rest+value+value2.Proof.Measures.{item-at, item-claims}
+use Rattle.grammar.proofs.+bits+branch+cell_rest+cells+cond_branches_and_end+dt_cell_list+dt_node_body+dt_property+eat_cell+eat_inside+eat_node_or_prop+eat_pp_directive+item+item_rest+node+propvalues+value+value_rest.Lts-item as lts
+use Rattle.grammar.proofs.+bits+branch+cell_rest+cells+cond_branches_and_end+dt_cell_list+dt_node_body+dt_property+eat_cell+eat_inside+eat_node_or_prop+eat_pp_directive+item+item_rest+node+propvalues+value+value_rest.Proof.Measures.{item-at, item-claims}
 
 pub refuse-requires : (t : ℕ) → lts.Need-refuse-requires (item-claims t) (item-at t) reads.Post
 refuse-requires t c κs = tt
@@ -247,14 +247,14 @@ returns-4 t c =
       omega (arith, eat-node-or-prop′ .eat-node-or-prop .ensures .1 .0, silent-at′ .silent-at .ensures .1 .0, silent-at2′ .silent-at2 .ensures .1 .0, silent-at2′ .silent-at2 .ensures .1 .1 (if4′ .if4 .taken), start3′ .start3 .ensures .1 (s′ .args .tokens .now), error2′ .error2 .ensures .1, start4′ .start4 .ensures .1 (s′ .args .tokens .now), dt-node-body′ .dt-node-body .ensures .1, complete2′ .complete2 .ensures .1 (s′ .args .tokens .now), eqb-false (s′ .args .allowed) 0 (if1′ .if1 .left)),
     )
 
-pub sub-item2 : (t : ℕ) → lts.Need-sub-item2 (item-claims t) (item-at t) reads.Post
-sub-item2 t c =
+pub sub-item-rest : (t : ℕ) → lts.Need-sub-item-rest (item-claims t) (item-at t) reads.Post
+sub-item-rest t c =
     let if1′ = c .before .before .before .before .before .before .before .before .before .before .before .before .before .before .before .before .before .before in
     let s′ = if1′ .before .before .before .before .before in
     omega (arith, eqb-false (s′ .args .allowed) 0 (if1′ .if1 .left))
 
-pub item2-requires : (t : ℕ) → lts.Need-item2-requires (item-claims t) (item-at t) reads.Post
-item2-requires t c κs =
+pub item-rest-requires : (t : ℕ) → lts.Need-item-rest-requires (item-claims t) (item-at t) reads.Post
+item-rest-requires t c κs =
     let silent-at2′ = c .before .before .before .before in
     let silent-at′ = silent-at2′ .before .before in
     let eat-node-or-prop′ = silent-at′ .before .before .before .before .before .before .before .before in
@@ -264,27 +264,27 @@ item2-requires t c κs =
 
 pub same-length-10 : (t : ℕ) → lts.Need-same-length-10 (item-claims t) (item-at t) reads.Post
 same-length-10 t c =
-    let item2′ = c .before .before .before .before .before .before in
-    let eat-node-or-prop′ = item2′ .before .before .before .before .before .before .before .before .before .before .before .before .before .before .before in
-    omega (arith, eat-node-or-prop′ .eat-node-or-prop .kept, item2′ .item2 .kept)
+    let item-rest′ = c .before .before .before .before .before .before in
+    let eat-node-or-prop′ = item-rest′ .before .before .before .before .before .before .before .before .before .before .before .before .before .before .before in
+    omega (arith, eat-node-or-prop′ .eat-node-or-prop .kept, item-rest′ .item-rest .kept)
 
 pub same-length-11 : (t : ℕ) → lts.Need-same-length-11 (item-claims t) (item-at t) reads.Post
 same-length-11 t c =
-    let item2′ = c .before .before .before .before .before .before in
-    let eat-node-or-prop′ = item2′ .before .before .before .before .before .before .before .before .before .before .before .before .before .before .before in
-    omega (arith, eat-node-or-prop′ .eat-node-or-prop .kept, item2′ .item2 .kept)
+    let item-rest′ = c .before .before .before .before .before .before in
+    let eat-node-or-prop′ = item-rest′ .before .before .before .before .before .before .before .before .before .before .before .before .before .before .before in
+    omega (arith, eat-node-or-prop′ .eat-node-or-prop .kept, item-rest′ .item-rest .kept)
 
 pub same-length-12 : (t : ℕ) → lts.Need-same-length-12 (item-claims t) (item-at t) reads.Post
 same-length-12 t c =
-    let item2′ = c .before .before .before .before .before .before in
-    let eat-node-or-prop′ = item2′ .before .before .before .before .before .before .before .before .before .before .before .before .before .before .before in
-    omega (arith, eat-node-or-prop′ .eat-node-or-prop .kept, item2′ .item2 .kept)
+    let item-rest′ = c .before .before .before .before .before .before in
+    let eat-node-or-prop′ = item-rest′ .before .before .before .before .before .before .before .before .before .before .before .before .before .before .before in
+    omega (arith, eat-node-or-prop′ .eat-node-or-prop .kept, item-rest′ .item-rest .kept)
 
 pub returns-5 : (t : ℕ) → lts.Need-returns-5 (item-claims t) (item-at t) reads.Post
 unfolding grammar item-body silent
 returns-5 t c =
-    let item2′ = c .before .before .before .before .before .before in
-    let if4′ = item2′ .before .before .before .before in
+    let item-rest′ = c .before .before .before .before .before .before in
+    let if4′ = item-rest′ .before .before .before .before in
     let silent-at2′ = if4′ .before in
     let if3′ = silent-at2′ .before in
     let silent-at′ = if3′ .before in
@@ -292,6 +292,6 @@ returns-5 t c =
     let eat-node-or-prop′ = if2′ .before .before .before .before .before .before .before in
     let if1′ = eat-node-or-prop′ .before .before .before .before in
     let s′ = if1′ .before .before .before .before .before in (
-      ap (λ (w : Walked). w .on) (way (s′ .args .allowed - 1) (c-no (c-fn (s′ .args .allowed - 1) (eat-node-or-prop′ .eat-node-or-prop .ensures .0)) (if2′ .if2 .left) (c-no (c-act (silent-at′ .silent-at .ensures .0 unlabelled _ _ _)) (if3′ .if3 .left) (c-no (c-act (silent-at2′ .silent-at2 .ensures .0 unlabelled _ _ _)) (if4′ .if4 .left) (c-fn (s′ .args .allowed - 1) (item2′ .item2 .ensures .0))))) ∙ rule-body (s′ .args .allowed) (tokens-of (s′ .args .tokens .now)) item _ (omega (arith, eqb-false (s′ .args .allowed) 0 (if1′ .if1 .left)))),
-      omega (arith, eat-node-or-prop′ .eat-node-or-prop .ensures .1 .0, silent-at′ .silent-at .ensures .1 .0, silent-at2′ .silent-at2 .ensures .1 .0, item2′ .item2 .ensures .1, eqb-false (s′ .args .allowed) 0 (if1′ .if1 .left)),
+      ap (λ (w : Walked). w .on) (way (s′ .args .allowed - 1) (c-no (c-fn (s′ .args .allowed - 1) (eat-node-or-prop′ .eat-node-or-prop .ensures .0)) (if2′ .if2 .left) (c-no (c-act (silent-at′ .silent-at .ensures .0 unlabelled _ _ _)) (if3′ .if3 .left) (c-no (c-act (silent-at2′ .silent-at2 .ensures .0 unlabelled _ _ _)) (if4′ .if4 .left) (c-fn (s′ .args .allowed - 1) (item-rest′ .item-rest .ensures .0))))) ∙ rule-body (s′ .args .allowed) (tokens-of (s′ .args .tokens .now)) item _ (omega (arith, eqb-false (s′ .args .allowed) 0 (if1′ .if1 .left)))),
+      omega (arith, eat-node-or-prop′ .eat-node-or-prop .ensures .1 .0, silent-at′ .silent-at .ensures .1 .0, silent-at2′ .silent-at2 .ensures .1 .0, item-rest′ .item-rest .ensures .1, eqb-false (s′ .args .allowed) 0 (if1′ .if1 .left)),
     )

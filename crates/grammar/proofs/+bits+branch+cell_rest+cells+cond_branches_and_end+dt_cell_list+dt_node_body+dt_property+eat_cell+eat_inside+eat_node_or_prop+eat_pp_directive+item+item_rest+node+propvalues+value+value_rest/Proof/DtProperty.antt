@@ -8,8 +8,8 @@ use Rattle.machine.specs.Walk.{walk-rule, unlabelled}
 use Rattle.machine.proofs.Way.{c-walk, c-act, c-ret, c-seq, c-yes, c-no, c-told, c-mark, completed, c-call}
 use Rattle.grammar.proofs.Ways.{closes}
 use Rattle.grammar.proofs.dt_property.Reads as reads
-use Rattle.grammar.proofs.+arm+bits+cell2+cells+cond_branches_and_end+dt_cell_list+dt_node_body+dt_property+eat_cell+eat_inside+eat_node_or_prop+eat_preprocessor_directive+item+item2+propvalues+rest+value+value2.Lts-dt_property as lts
-use Rattle.grammar.proofs.+arm+bits+cell2+cells+cond_branches_and_end+dt_cell_list+dt_node_body+dt_property+eat_cell+eat_inside+eat_node_or_prop+eat_preprocessor_directive+item+item2+propvalues+rest+value+value2.Proof.Measures.{dt-property-at, dt-property-claims}
+use Rattle.grammar.proofs.+bits+branch+cell_rest+cells+cond_branches_and_end+dt_cell_list+dt_node_body+dt_property+eat_cell+eat_inside+eat_node_or_prop+eat_pp_directive+item+item_rest+node+propvalues+value+value_rest.Lts-dt_property as lts
+use Rattle.grammar.proofs.+bits+branch+cell_rest+cells+cond_branches_and_end+dt_cell_list+dt_node_body+dt_property+eat_cell+eat_inside+eat_node_or_prop+eat_pp_directive+item+item_rest+node+propvalues+value+value_rest.Proof.Measures.{dt-property-at, dt-property-claims}
 
 pub eat-requires : (t : ℕ) → lts.Need-eat-requires (dt-property-claims t) (dt-property-at t) reads.Post
 eat-requires t c κs = tt

@@ -1,4 +1,4 @@
--- `rest` is the walk of its program, step by step.
+-- `node` is the walk of its program, step by step.
 use Prim.Native.Nat.{ℕ}
 use native.Mathlib.Omega.{arith}
 use Rattle.definitions.specs.Token.{tokens-of}
@@ -8,36 +8,36 @@ use Rattle.machine.specs.Walk.{walk-rule, unlabelled}
 use Rattle.machine.proofs.Way.{c-walk, c-act, c-ret, c-seq, c-yes, c-no, c-mark, completed}
 use Rattle.steps.proofs.Steps.{c-any, closing}
 use Rattle.grammar.proofs.Ways.{c-same, closes}
-use Rattle.grammar.proofs.rest.Reads as reads
-use Rattle.grammar.proofs.+arm+bits+cell2+cells+cond_branches_and_end+dt_cell_list+dt_node_body+dt_property+eat_cell+eat_inside+eat_node_or_prop+eat_preprocessor_directive+item+item2+propvalues+rest+value+value2.Lts-rest as lts
-use Rattle.grammar.proofs.+arm+bits+cell2+cells+cond_branches_and_end+dt_cell_list+dt_node_body+dt_property+eat_cell+eat_inside+eat_node_or_prop+eat_preprocessor_directive+item+item2+propvalues+rest+value+value2.Proof.Measures.{rest-at, rest-claims}
+use Rattle.grammar.proofs.node.Reads as reads
+use Rattle.grammar.proofs.+bits+branch+cell_rest+cells+cond_branches_and_end+dt_cell_list+dt_node_body+dt_property+eat_cell+eat_inside+eat_node_or_prop+eat_pp_directive+item+item_rest+node+propvalues+value+value_rest.Lts-node as lts
+use Rattle.grammar.proofs.+bits+branch+cell_rest+cells+cond_branches_and_end+dt_cell_list+dt_node_body+dt_property+eat_cell+eat_inside+eat_node_or_prop+eat_pp_directive+item+item_rest+node+propvalues+value+value_rest.Proof.Measures.{node-at, node-claims}
 
-pub at-requires : (t : ℕ) → lts.Need-at-requires (rest-claims t) (rest-at t) reads.Post
+pub at-requires : (t : ℕ) → lts.Need-at-requires (node-claims t) (node-at t) reads.Post
 at-requires t c κs = tt
 
-pub dt-node-body-requires : (t : ℕ) → lts.Need-dt-node-body-requires (rest-claims t) (rest-at t) reads.Post
+pub dt-node-body-requires : (t : ℕ) → lts.Need-dt-node-body-requires (node-claims t) (node-at t) reads.Post
 dt-node-body-requires t c κs =
     let if1′ = c .before .before .before in
     let at′ = if1′ .before in
     let s′ = at′ .before .before .before .before .before in
     (omega (arith, at′ .at .ensures .1 .0, at′ .at .ensures .1 .1 (if1′ .if1 .taken), s′ .pre .0), tt)
 
-pub same-length : (t : ℕ) → lts.Need-same-length (rest-claims t) (rest-at t) reads.Post
+pub same-length : (t : ℕ) → lts.Need-same-length (node-claims t) (node-at t) reads.Post
 same-length t c =
     let dt-node-body′ = c .before .before .before .before .before .before in
     omega (arith, dt-node-body′ .dt-node-body .kept)
 
-pub same-length-2 : (t : ℕ) → lts.Need-same-length-2 (rest-claims t) (rest-at t) reads.Post
+pub same-length-2 : (t : ℕ) → lts.Need-same-length-2 (node-claims t) (node-at t) reads.Post
 same-length-2 t c =
     let dt-node-body′ = c .before .before .before .before .before .before in
     omega (arith, dt-node-body′ .dt-node-body .kept)
 
-pub same-length-3 : (t : ℕ) → lts.Need-same-length-3 (rest-claims t) (rest-at t) reads.Post
+pub same-length-3 : (t : ℕ) → lts.Need-same-length-3 (node-claims t) (node-at t) reads.Post
 same-length-3 t c =
     let dt-node-body′ = c .before .before .before .before .before .before in
     omega (arith, dt-node-body′ .dt-node-body .kept)
 
-pub returns : (t : ℕ) → lts.Need-returns (rest-claims t) (rest-at t) reads.Post
+pub returns : (t : ℕ) → lts.Need-returns (node-claims t) (node-at t) reads.Post
 unfolding no-property silent
 returns t c =
     let dt-node-body′ = c .before .before .before .before .before .before in
@@ -48,34 +48,34 @@ returns t c =
       omega (arith, at′ .at .ensures .1 .0, at′ .at .ensures .1 .1 (if1′ .if1 .taken), dt-node-body′ .dt-node-body .ensures .1),
     )
 
-pub silent-at-requires : (t : ℕ) → lts.Need-silent-at-requires (rest-claims t) (rest-at t) reads.Post
+pub silent-at-requires : (t : ℕ) → lts.Need-silent-at-requires (node-claims t) (node-at t) reads.Post
 silent-at-requires t c κs = tt
 
-pub error-requires : (t : ℕ) → lts.Need-error-requires (rest-claims t) (rest-at t) reads.Post
+pub error-requires : (t : ℕ) → lts.Need-error-requires (node-claims t) (node-at t) reads.Post
 error-requires t c κs = tt
 
-pub complete-requires : (t : ℕ) → lts.Need-complete-requires (rest-claims t) (rest-at t) reads.Post
+pub complete-requires : (t : ℕ) → lts.Need-complete-requires (node-claims t) (node-at t) reads.Post
 complete-requires t c κs = tt
 
-pub same-length-4 : (t : ℕ) → lts.Need-same-length-4 (rest-claims t) (rest-at t) reads.Post
+pub same-length-4 : (t : ℕ) → lts.Need-same-length-4 (node-claims t) (node-at t) reads.Post
 same-length-4 t c =
     let complete′ = c .before .before in
     let error′ = complete′ .before .before .before .before .before .before .before .before in
     omega (arith, error′ .error .kept, complete′ .complete .kept)
 
-pub same-length-5 : (t : ℕ) → lts.Need-same-length-5 (rest-claims t) (rest-at t) reads.Post
+pub same-length-5 : (t : ℕ) → lts.Need-same-length-5 (node-claims t) (node-at t) reads.Post
 same-length-5 t c =
     let complete′ = c .before .before in
     let error′ = complete′ .before .before .before .before .before .before .before .before in
     omega (arith, error′ .error .kept, complete′ .complete .kept)
 
-pub same-length-6 : (t : ℕ) → lts.Need-same-length-6 (rest-claims t) (rest-at t) reads.Post
+pub same-length-6 : (t : ℕ) → lts.Need-same-length-6 (node-claims t) (node-at t) reads.Post
 same-length-6 t c =
     let complete′ = c .before .before in
     let error′ = complete′ .before .before .before .before .before .before .before .before in
     omega (arith, error′ .error .kept, complete′ .complete .kept)
 
-pub returns-2 : (t : ℕ) → lts.Need-returns-2 (rest-claims t) (rest-at t) reads.Post
+pub returns-2 : (t : ℕ) → lts.Need-returns-2 (node-claims t) (node-at t) reads.Post
 unfolding no-property silent
 returns-2 t c =
     let complete′ = c .before .before in
@@ -89,19 +89,19 @@ returns-2 t c =
       omega (arith, at′ .at .ensures .1 .0, silent-at′ .silent-at .ensures .1 .0, silent-at′ .silent-at .ensures .1 .1 (if2′ .if2 .taken), error′ .error .ensures .1, complete′ .complete .ensures .1 (s′ .args .tokens .now)),
     )
 
-pub forbidden-property-requires : (t : ℕ) → lts.Need-forbidden-property-requires (rest-claims t) (rest-at t) reads.Post
+pub forbidden-property-requires : (t : ℕ) → lts.Need-forbidden-property-requires (node-claims t) (node-at t) reads.Post
 forbidden-property-requires t c κs = tt
 
-pub error-requires-2 : (t : ℕ) → lts.Need-error-requires-2 (rest-claims t) (rest-at t) reads.Post
+pub error-requires-2 : (t : ℕ) → lts.Need-error-requires-2 (node-claims t) (node-at t) reads.Post
 error-requires-2 t c κs = tt
 
-pub new-requires : (t : ℕ) → lts.Need-new-requires (rest-claims t) (rest-at t) reads.Post
+pub new-requires : (t : ℕ) → lts.Need-new-requires (node-claims t) (node-at t) reads.Post
 new-requires t c κs = tt
 
-pub start-requires : (t : ℕ) → lts.Need-start-requires (rest-claims t) (rest-at t) reads.Post
+pub start-requires : (t : ℕ) → lts.Need-start-requires (node-claims t) (node-at t) reads.Post
 start-requires t c κs = tt
 
-pub dt-property-requires : (t : ℕ) → lts.Need-dt-property-requires (rest-claims t) (rest-at t) reads.Post
+pub dt-property-requires : (t : ℕ) → lts.Need-dt-property-requires (node-claims t) (node-at t) reads.Post
 dt-property-requires t c κs =
     let start′ = c .before .before .before .before .before in
     let error2′ = start′ .before .before .before .before .before .before .before .before .before in
@@ -111,10 +111,10 @@ dt-property-requires t c κs =
     let s′ = at′ .before .before .before .before .before in
     (omega (arith, at′ .at .ensures .1 .0, silent-at′ .silent-at .ensures .1 .0, forbidden-property′ .forbidden-property .ensures .1, error2′ .error2 .ensures .1, start′ .start .ensures .1 (s′ .args .tokens .now), s′ .pre .0), tt)
 
-pub complete-requires-2 : (t : ℕ) → lts.Need-complete-requires-2 (rest-claims t) (rest-at t) reads.Post
+pub complete-requires-2 : (t : ℕ) → lts.Need-complete-requires-2 (node-claims t) (node-at t) reads.Post
 complete-requires-2 t c κs = tt
 
-pub same-length-7 : (t : ℕ) → lts.Need-same-length-7 (rest-claims t) (rest-at t) reads.Post
+pub same-length-7 : (t : ℕ) → lts.Need-same-length-7 (node-claims t) (node-at t) reads.Post
 same-length-7 t c =
     let complete2′ = c .before .before in
     let dt-property′ = complete2′ .before .before .before .before .before .before .before .before in
@@ -122,7 +122,7 @@ same-length-7 t c =
     let error2′ = start′ .before .before .before .before .before .before .before .before .before in
     omega (arith, error2′ .error2 .kept, start′ .start .kept, dt-property′ .dt-property .kept, complete2′ .complete2 .kept)
 
-pub same-length-8 : (t : ℕ) → lts.Need-same-length-8 (rest-claims t) (rest-at t) reads.Post
+pub same-length-8 : (t : ℕ) → lts.Need-same-length-8 (node-claims t) (node-at t) reads.Post
 same-length-8 t c =
     let complete2′ = c .before .before in
     let dt-property′ = complete2′ .before .before .before .before .before .before .before .before in
@@ -130,7 +130,7 @@ same-length-8 t c =
     let error2′ = start′ .before .before .before .before .before .before .before .before .before in
     omega (arith, error2′ .error2 .kept, start′ .start .kept, dt-property′ .dt-property .kept, complete2′ .complete2 .kept)
 
-pub same-length-9 : (t : ℕ) → lts.Need-same-length-9 (rest-claims t) (rest-at t) reads.Post
+pub same-length-9 : (t : ℕ) → lts.Need-same-length-9 (node-claims t) (node-at t) reads.Post
 same-length-9 t c =
     let complete2′ = c .before .before in
     let dt-property′ = complete2′ .before .before .before .before .before .before .before .before in
@@ -138,7 +138,7 @@ same-length-9 t c =
     let error2′ = start′ .before .before .before .before .before .before .before .before .before in
     omega (arith, error2′ .error2 .kept, start′ .start .kept, dt-property′ .dt-property .kept, complete2′ .complete2 .kept)
 
-pub returns-3 : (t : ℕ) → lts.Need-returns-3 (rest-claims t) (rest-at t) reads.Post
+pub returns-3 : (t : ℕ) → lts.Need-returns-3 (node-claims t) (node-at t) reads.Post
 unfolding no-property silent
 returns-3 t c =
     let complete2′ = c .before .before in
@@ -157,25 +157,25 @@ returns-3 t c =
       omega (arith, at′ .at .ensures .1 .0, silent-at′ .silent-at .ensures .1 .0, forbidden-property′ .forbidden-property .ensures .1, error2′ .error2 .ensures .1, start′ .start .ensures .1 (s′ .args .tokens .now), dt-property′ .dt-property .ensures .1, complete2′ .complete2 .ensures .1 (s′ .args .tokens .now)),
     )
 
-pub unfinished-requires : (t : ℕ) → lts.Need-unfinished-requires (rest-claims t) (rest-at t) reads.Post
+pub unfinished-requires : (t : ℕ) → lts.Need-unfinished-requires (node-claims t) (node-at t) reads.Post
 unfinished-requires t c κs = tt
 
-pub same-length-10 : (t : ℕ) → lts.Need-same-length-10 (rest-claims t) (rest-at t) reads.Post
+pub same-length-10 : (t : ℕ) → lts.Need-same-length-10 (node-claims t) (node-at t) reads.Post
 same-length-10 t c =
     let unfinished′ = c .before .before .before .before .before .before in
     omega (arith, unfinished′ .unfinished .kept)
 
-pub same-length-11 : (t : ℕ) → lts.Need-same-length-11 (rest-claims t) (rest-at t) reads.Post
+pub same-length-11 : (t : ℕ) → lts.Need-same-length-11 (node-claims t) (node-at t) reads.Post
 same-length-11 t c =
     let unfinished′ = c .before .before .before .before .before .before in
     omega (arith, unfinished′ .unfinished .kept)
 
-pub same-length-12 : (t : ℕ) → lts.Need-same-length-12 (rest-claims t) (rest-at t) reads.Post
+pub same-length-12 : (t : ℕ) → lts.Need-same-length-12 (node-claims t) (node-at t) reads.Post
 same-length-12 t c =
     let unfinished′ = c .before .before .before .before .before .before in
     omega (arith, unfinished′ .unfinished .kept)
 
-pub returns-4 : (t : ℕ) → lts.Need-returns-4 (rest-claims t) (rest-at t) reads.Post
+pub returns-4 : (t : ℕ) → lts.Need-returns-4 (node-claims t) (node-at t) reads.Post
 unfolding no-property silent
 returns-4 t c =
     let unfinished′ = c .before .before .before .before .before .before in
