@@ -10,7 +10,7 @@ use Rattle.definitions.specs.Errors as E
 use Rattle.definitions.specs.NodeKind as N
 use Rattle.definitions.specs.Token.{Token, seen, drop-trivia}
 use Rattle.definitions.specs.Prog.{Rule, Prog, _⨟_, loop}
-use Rattle.definitions.specs.Check.{in-node, error!}
+use Rattle.definitions.specs.Check.{in-node, error! }
 use Rattle.definitions.specs.Grammar.{left-over, left-over-turn}
 use Rattle.definitions.specs.Skeleton.{Label, done, token, _⧺_}
 use Rattle.definitions.specs.Run.{State, Out, mark-of, peeked, answer, makes, taken, do-emit, do-expected, over-unless, perform, add, choose, marked, is-again, goes-on, iter, exec}

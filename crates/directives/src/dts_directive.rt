@@ -1,5 +1,6 @@
 // grammar.rs, the directives of the devicetree source that a DtsDirective wraps.
 use layout::hint::NO_HINT;
+use layout::limit::Codes;
 use layout::message::EXPECTED;
 use layout::node_kind;
 use layout::set::ITEM_RECOVERY_SET;
@@ -26,7 +27,7 @@ ghost use Rattle.directives.specs.Subprograms.{directive-end, memreserve
 
 pub fn eat_dts_include(
     s: State,
-    codes: &mut [u8; 256],
+    codes: &mut Codes,
     tokens: &[u32],
     events: &mut [u32],
     reports: &mut [u32],
@@ -62,7 +63,7 @@ pub fn eat_dts_include(
 // The semicolon, and the directive whose marker this is.
 fn directive_end(
     s: State,
-    codes: &mut [u8; 256],
+    codes: &mut Codes,
     tokens: &[u32],
     events: &mut [u32],
     reports: &mut [u32],
@@ -88,7 +89,7 @@ fn directive_end(
 
 fn memreserve_arguments(
     s: State,
-    codes: &mut [u8; 256],
+    codes: &mut Codes,
     tokens: &[u32],
     events: &mut [u32],
     reports: &mut [u32],
@@ -122,7 +123,7 @@ fn memreserve_arguments(
 // What is deleted: a reference, or a name and perhaps a unit address.
 fn eat_deleted(
     s: State,
-    codes: &mut [u8; 256],
+    codes: &mut Codes,
     tokens: &[u32],
     events: &mut [u32],
     reports: &mut [u32],
@@ -154,7 +155,7 @@ fn eat_deleted(
 
 fn delete_arguments(
     s: State,
-    codes: &mut [u8; 256],
+    codes: &mut Codes,
     tokens: &[u32],
     events: &mut [u32],
     reports: &mut [u32],
@@ -174,7 +175,7 @@ fn delete_arguments(
 // The directives with arguments.
 fn eat_directive_with_arguments(
     s: State,
-    codes: &mut [u8; 256],
+    codes: &mut Codes,
     tokens: &[u32],
     events: &mut [u32],
     reports: &mut [u32],
@@ -213,7 +214,7 @@ fn eat_directive_with_arguments(
 
 pub fn eat_dts_directive(
     s: State,
-    codes: &mut [u8; 256],
+    codes: &mut Codes,
     tokens: &[u32],
     events: &mut [u32],
     reports: &mut [u32],

@@ -1,6 +1,7 @@
 // Where items, values and cells end: the conditions of grammar.rs's loops.
 use layout::expected;
 use layout::hint::NO_HINT;
+use layout::limit::Codes;
 use layout::message::EXPECTED;
 use layout::node_kind;
 use layout::set::CELLS_RECOVERY_SET;
@@ -30,7 +31,7 @@ ghost use Rattle.steps.specs.View.{state-answered};
 ghost use Rattle.ends.specs.Subprograms.{at-item, at-cells-recovery, at-values-end, unfinished};
 
 // Whether a node's body goes on here.
-pub fn at_item(s: State, codes: &mut [u8; 256], tokens: &[u32]) -> StateTested
+pub fn at_item(s: State, codes: &mut Codes, tokens: &[u32]) -> StateTested
     ensures { λ r. ⌜ looks at-item s (state-tested r) codes tokens ⌝ }
     ensures { λ r. ⌜ left (now (tokens .entry)) (r .s) ≤ left (now (tokens .entry)) s ⌝ }
     ensures { λ r. ⌜ (r .yes ≡ true → 0 < left (now (tokens .entry)) (r .s)) ⌝ }
@@ -50,7 +51,7 @@ pub fn at_item(s: State, codes: &mut [u8; 256], tokens: &[u32]) -> StateTested
 }
 
 // Whether cells end here.
-pub fn at_cells_end(s: State, codes: &mut [u8; 256], tokens: &[u32], until_end: bool) -> StateTested
+pub fn at_cells_end(s: State, codes: &mut Codes, tokens: &[u32], until_end: bool) -> StateTested
     ensures { λ r. ⌜ looks (cells-end «until_end») s (state-tested r) codes tokens ⌝ }
     ensures { λ r. ⌜ left (now (tokens .entry)) (r .s) ≤ left (now (tokens .entry)) s ⌝ }
 {
@@ -85,7 +86,7 @@ pub fn at_cells_recovery(s: State, tokens: &[u32]) -> StateTested
 }
 
 // `at(ending_kinds)`
-fn at_values_end(s: State, codes: &mut [u8; 256], tokens: &[u32], semicolon: bool) -> StateTested
+fn at_values_end(s: State, codes: &mut Codes, tokens: &[u32], semicolon: bool) -> StateTested
     ensures { λ r. ⌜ looks (at-values-end semicolon) s (state-tested r) codes tokens ⌝ }
     ensures { λ r. ⌜ left (now (tokens .entry)) (r .s) ≤ left (now (tokens .entry)) s ⌝ }
 {
@@ -99,7 +100,7 @@ fn at_values_end(s: State, codes: &mut [u8; 256], tokens: &[u32], semicolon: boo
 // After a value. Again: one more; Yes: the values end here; No: they are cut off.
 pub fn after_propvalue(
     s: State,
-    codes: &mut [u8; 256],
+    codes: &mut Codes,
     tokens: &[u32],
     events: &mut [u32],
     reports: &mut [u32],
@@ -151,7 +152,7 @@ pub fn after_propvalue(
 // marker.
 pub fn unfinished(
     s: State,
-    codes: &[u8; 256],
+    codes: &Codes,
     tokens: &[u32],
     events: &mut [u32],
     reports: &mut [u32],

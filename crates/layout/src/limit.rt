@@ -10,3 +10,6 @@ pub const MOST_TOKEN_NUMBERS: usize = 131072;
 pub const MOST_OPEN_CALLS: usize = 64;
 
 pub const MOST_PENDING: usize = 256;
+
+// The pending expectations, each a code: a kind, or one of `expected`.
+pub type Codes = [u8; MOST_PENDING];

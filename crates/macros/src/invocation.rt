@@ -1,4 +1,5 @@
 // `macro_invocation` of grammar.rs: an Ident, and a bracketed argument list directly after it.
+use layout::limit::Codes;
 use layout::node_kind;
 use layout::token_kind;
 use parser::State;
@@ -124,7 +125,7 @@ fn arguments(s: State, tokens: &[u32], events: &mut [u32]) -> State
 // From the LParen to the RParen.
 fn argument_list(
     s: State,
-    codes: &mut [u8; 256],
+    codes: &mut Codes,
     tokens: &[u32],
     events: &mut [u32],
     reports: &mut [u32],
@@ -162,7 +163,7 @@ fn argument_list(
 // The cursor stands at the Ident.
 pub fn macro_invocation(
     s: State,
-    codes: &mut [u8; 256],
+    codes: &mut Codes,
     tokens: &[u32],
     events: &mut [u32],
     reports: &mut [u32],

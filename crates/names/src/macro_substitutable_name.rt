@@ -1,5 +1,6 @@
 // The matcher MacroSubstitutableName: a macro invocation with arguments, or a plain name.
 use layout::hint::NO_HINT;
+use layout::limit::Codes;
 use layout::message::EXPECTED;
 use layout::set::NAME_SET;
 use macros::invocation::macro_invocation;
@@ -15,7 +16,7 @@ ghost use Rattle.definitions.specs.Check.{at as at-prog, eat as eat-prog, expec
 ghost use Rattle.definitions.specs.Grammar.{MacroSubstitutableName};
 ghost use Rattle.parser.specs.View.{left, state-tested, looks, says, walks, walks-on};
 
-pub fn at(s: State, codes: &mut [u8; 256], tokens: &[u32]) -> StateTested
+pub fn at(s: State, codes: &mut Codes, tokens: &[u32]) -> StateTested
     ensures { λ r. ⌜ looks (at-prog MacroSubstitutableName) s (state-tested r) codes tokens ⌝ }
     ensures { λ r. ⌜ left (now (tokens .entry)) (r .s) ≤ left (now (tokens .entry)) s ⌝ }
     ensures { λ r. ⌜ (r .yes ≡ true → 0 < left (now (tokens .entry)) (r .s)) ⌝ }
@@ -25,7 +26,7 @@ pub fn at(s: State, codes: &mut [u8; 256], tokens: &[u32]) -> StateTested
 
 pub fn consume(
     s: State,
-    codes: &mut [u8; 256],
+    codes: &mut Codes,
     tokens: &[u32],
     events: &mut [u32],
     reports: &mut [u32],
@@ -44,7 +45,7 @@ pub fn consume(
 
 pub fn eat(
     s: State,
-    codes: &mut [u8; 256],
+    codes: &mut Codes,
     tokens: &[u32],
     events: &mut [u32],
     reports: &mut [u32],
@@ -66,7 +67,7 @@ pub fn eat(
 
 pub fn expect(
     s: State,
-    codes: &mut [u8; 256],
+    codes: &mut Codes,
     tokens: &[u32],
     events: &mut [u32],
     reports: &mut [u32],

@@ -2,6 +2,7 @@
 // invocation with arguments, or a label.
 use crate::unit_address;
 use layout::hint::NO_HINT;
+use layout::limit::Codes;
 use layout::message::EXPECTED;
 use layout::node_kind;
 use layout::set::CONTINUE_COND_SET;
@@ -23,7 +24,7 @@ ghost use Rattle.names.specs.Subprograms.{at-segment, path};
 
 fn path_segment(
     s: State,
-    codes: &mut [u8; 256],
+    codes: &mut Codes,
     tokens: &[u32],
     events: &mut [u32],
     reports: &mut [u32],
@@ -51,7 +52,7 @@ fn path_segment(
 }
 
 // Whether a path goes on here.
-fn at_segment(s: State, codes: &mut [u8; 256], tokens: &[u32]) -> StateTested
+fn at_segment(s: State, codes: &mut Codes, tokens: &[u32]) -> StateTested
     ensures { λ r. ⌜ looks at-segment s (state-tested r) codes tokens ⌝ }
     ensures { λ r. ⌜ left (now (tokens .entry)) (r .s) ≤ left (now (tokens .entry)) s ⌝ }
     ensures { λ r. ⌜ (r .yes ≡ true → 0 < left (now (tokens .entry)) s) ⌝ }
@@ -83,7 +84,7 @@ fn at_segment(s: State, codes: &mut [u8; 256], tokens: &[u32]) -> StateTested
 // A slash and a segment, again and again.
 fn path_segments(
     s: State,
-    codes: &mut [u8; 256],
+    codes: &mut Codes,
     tokens: &[u32],
     events: &mut [u32],
     reports: &mut [u32],
@@ -113,7 +114,7 @@ fn path_segments(
 
 fn path_rest(
     s: State,
-    codes: &mut [u8; 256],
+    codes: &mut Codes,
     tokens: &[u32],
     events: &mut [u32],
     reports: &mut [u32],
@@ -137,7 +138,7 @@ fn path_rest(
 // After the LCurly: an absolute path starts with a slash, a relative one with a label.
 fn path(
     s: State,
-    codes: &mut [u8; 256],
+    codes: &mut Codes,
     tokens: &[u32],
     events: &mut [u32],
     reports: &mut [u32],
@@ -176,7 +177,7 @@ fn path(
 
 pub fn reference_noamp(
     s: State,
-    codes: &mut [u8; 256],
+    codes: &mut Codes,
     tokens: &[u32],
     events: &mut [u32],
     reports: &mut [u32],
@@ -211,7 +212,7 @@ pub fn reference_noamp(
 
 fn consume(
     s: State,
-    codes: &mut [u8; 256],
+    codes: &mut Codes,
     tokens: &[u32],
     events: &mut [u32],
     reports: &mut [u32],
@@ -230,7 +231,7 @@ fn consume(
 // `check(Reference).silent().eat()`
 pub fn silent_eat(
     s: State,
-    codes: &mut [u8; 256],
+    codes: &mut Codes,
     tokens: &[u32],
     events: &mut [u32],
     reports: &mut [u32],
@@ -251,7 +252,7 @@ pub fn silent_eat(
 
 pub fn eat(
     s: State,
-    codes: &mut [u8; 256],
+    codes: &mut Codes,
     tokens: &[u32],
     events: &mut [u32],
     reports: &mut [u32],

@@ -1,5 +1,6 @@
 // The matcher UnitAddress: an AtSign and a name.
 use crate::macro_substitutable_name;
+use layout::limit::Codes;
 use layout::node_kind;
 use layout::token_kind;
 use parser::State;
@@ -15,7 +16,7 @@ ghost use Rattle.parser.specs.View.{left, state-tested, says, walks};
 
 fn consume(
     s: State,
-    codes: &mut [u8; 256],
+    codes: &mut Codes,
     tokens: &[u32],
     events: &mut [u32],
     reports: &mut [u32],
@@ -33,7 +34,7 @@ fn consume(
 
 pub fn eat(
     s: State,
-    codes: &mut [u8; 256],
+    codes: &mut Codes,
     tokens: &[u32],
     events: &mut [u32],
     reports: &mut [u32],

@@ -7,6 +7,7 @@ use crate::marker::Marker;
 use crate::matcher::Matcher;
 use crate::source::is_matched_at;
 use layout::hint::NO_HINT;
+use layout::limit::Codes;
 use layout::message::EXPECTED;
 use layout::refusal::TOO_DEEP;
 use token_rows::token::is_at;
@@ -44,8 +45,8 @@ fn put_code(codes: &mut [u8], index: usize, code: u8) -> bool
 }
 
 impl State {
-    // At most as many as there are codes: 256.
-    pub fn add_expected(self, codes: &mut [u8; 256], code: u8) -> State
+    // At most as many as there are codes.
+    pub fn add_expected(self, codes: &mut Codes, code: u8) -> State
         ensures { λ r. ⌜ ((ts : List Token) (b : Span) (events reports pool : List ℕ) → said yes (view r (now (codes .exit)) events reports pool)
             ≡ perform ts b (add-expected code) (view self (now (codes .entry)) events reports pool)) ⌝ }
         ensures { λ r. ⌜ ((tokens : List ℕ) → left tokens r ≤ left tokens self) ⌝ }
@@ -88,7 +89,7 @@ impl State {
         }
     }
 
-    pub fn at(self, codes: &mut [u8; 256], tokens: &[u32], m: Matcher) -> StateTested
+    pub fn at(self, codes: &mut Codes, tokens: &[u32], m: Matcher) -> StateTested
         ensures { λ r. ⌜ looks (at-prog (matcher-of m)) self (state-tested r) codes tokens ⌝ }
         ensures { λ r. ⌜ left (now (tokens .entry)) (r .s) ≤ left (now (tokens .entry)) self ⌝ }
         ensures { λ r. ⌜ (r .yes ≡ true → 0 < left (now (tokens .entry)) (r .s)) ⌝ }
@@ -98,7 +99,7 @@ impl State {
     }
 
     // Pushes the kind, and looks at the row at the cursor, be it trivia.
-    pub fn at_immediate(self, codes: &mut [u8; 256], tokens: &[u32], k: u8) -> StateTested
+    pub fn at_immediate(self, codes: &mut Codes, tokens: &[u32], k: u8) -> StateTested
         ensures { λ r. ⌜ looks (expected k ⨟ act (immediate k)) self (state-tested r) codes tokens ⌝ }
         ensures { λ r. ⌜ left (now (tokens .entry)) (r .s) ≤ left (now (tokens .entry)) self ⌝ }
         ensures { λ r. ⌜ (r .yes ≡ true → 0 < left (now (tokens .entry)) (r .s)) ⌝ }
@@ -110,7 +111,7 @@ impl State {
 
     pub fn eat(
         self,
-        codes: &mut [u8; 256],
+        codes: &mut Codes,
         tokens: &[u32],
         events: &mut [u32],
         m: Matcher,
@@ -133,7 +134,7 @@ impl State {
     // The marker is made only on a match.
     pub fn eat_starting(
         self,
-        codes: &mut [u8; 256],
+        codes: &mut Codes,
         tokens: &[u32],
         events: &mut [u32],
         matcher: Matcher,
@@ -167,7 +168,7 @@ impl State {
 
     pub fn expect(
         self,
-        codes: &mut [u8; 256],
+        codes: &mut Codes,
         tokens: &[u32],
         events: &mut [u32],
         reports: &mut [u32],
@@ -199,7 +200,7 @@ impl State {
     // On a failure, a token that is not in the recovery set is taken into a ParseError.
     pub fn expect_recoverable(
         self,
-        codes: &mut [u8; 256],
+        codes: &mut Codes,
         tokens: &[u32],
         events: &mut [u32],
         reports: &mut [u32],

@@ -3,6 +3,7 @@ use crate::State;
 use crate::marker::Marker;
 use layout::ByteOffset;
 use layout::event_tag::ERROR;
+use layout::limit::Codes;
 use layout::message::EXPECTED;
 use layout::message::UNCLOSED_NODE;
 use layout::node_kind;
@@ -136,7 +137,7 @@ fn put_report(
 
 impl State {
     // The cursor stands at a token, or at the end.
-    fn current_token_error_range(self, codes: &[u8; 256], tokens: &[u32]) -> TextRange
+    fn current_token_error_range(self, codes: &Codes, tokens: &[u32]) -> TextRange
         ensures { λ r. ⌜ ((events reports pool : List ℕ) → span-of r
             ≡ error-range (drop (self .cursor .0) (tokens-of (now (tokens .entry)))) (view self (now (codes .entry)) events reports pool)) ⌝ }
     {
@@ -167,7 +168,7 @@ impl State {
     // The report's row and its expectations: both fit, or neither is written.
     fn push_report(
         self,
-        codes: &[u8; 256],
+        codes: &Codes,
         reports: &mut [u32],
         pool: &mut [u32],
         message: u32,
@@ -214,7 +215,7 @@ impl State {
     // A report alone: its event, and then its row. Neither is written once something was refused.
     pub fn emit(
         self,
-        codes: &[u8; 256],
+        codes: &Codes,
         tokens: &[u32],
         events: &mut [u32],
         reports: &mut [u32],
@@ -269,7 +270,7 @@ impl State {
     // `error().msg_..().add_hint(..).bump..().emit()`
     pub fn error(
         self,
-        codes: &[u8; 256],
+        codes: &Codes,
         tokens: &[u32],
         events: &mut [u32],
         reports: &mut [u32],

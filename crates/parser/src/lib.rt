@@ -15,6 +15,8 @@ use crate::marker::Marker;
 use crate::matcher::Matcher;
 use layout::ByteOffset;
 use layout::TokenIndex;
+use layout::limit::Codes;
+use layout::limit::MOST_PENDING;
 ghost use mathlib.Core.Path.{_≡_};
 ghost use mathlib.Core.Bool.{true, false};
 ghost use mathlib.Core.List.{List, [], _∷_};
@@ -52,7 +54,7 @@ pub struct State {
 
 pub struct Parser {
     // The pending expectations; past them, codes that no longer count.
-    pub codes: [u8; 256],
+    pub codes: Codes,
     pub s: State,
 }
 
@@ -113,7 +115,7 @@ impl Parser {
     {
         let s = State::new();
         Parser {
-            codes: [0; 256],
+            codes: [0; MOST_PENDING],
             s: s,
         }
     }

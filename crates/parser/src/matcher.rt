@@ -3,6 +3,7 @@
 use crate::State;
 use crate::event;
 use layout::expected;
+use layout::limit::Codes;
 use layout::set::LABEL_NAME_SET;
 use layout::set::NAME_SET;
 use layout::token_kind;
@@ -52,7 +53,7 @@ impl Matcher {
         }
     }
 
-    pub fn push_expected(self, s: State, codes: &mut [u8; 256]) -> State
+    pub fn push_expected(self, s: State, codes: &mut Codes) -> State
         ensures { λ r. ⌜ ((ask : Rule → Machine → Walked) (ts : List Token) (b : Span) (events reports pool : List ℕ) → said yes (view r (now (codes .exit)) events reports pool)
             ≡ walk ask ts b (matcher-of self .push-expected) (view s (now (codes .entry)) events reports pool)) ⌝ }
         ensures { λ r. ⌜ ((tokens : List ℕ) → left tokens r ≤ left tokens s) ⌝ }

@@ -1,5 +1,6 @@
 // The first cases of `eat_cell` of grammar.rs: the cells that no call is opened for: a literal, a macro or a reference.
 use layout::expected;
+use layout::limit::Codes;
 use layout::token_kind;
 use macros::invocation::macro_invocation;
 use names::reference;
@@ -15,7 +16,7 @@ ghost use Rattle.plain_cells.specs.Subprograms.{plain-cell};
 
 pub fn eat(
     s: State,
-    codes: &mut [u8; 256],
+    codes: &mut Codes,
     tokens: &[u32],
     events: &mut [u32],
     reports: &mut [u32],

@@ -11,7 +11,7 @@ use Rattle.definitions.specs.TokenKind as K
 use Rattle.definitions.specs.NodeKind as N
 use Rattle.definitions.specs.Token.{Token, drop-trivia}
 use Rattle.definitions.specs.Prog.{Ans, no, yes, again, Rule, bump-argument, ret, act, _⨟_, case, in-marker, loop}
-use Rattle.definitions.specs.Check.{tell, bump!}
+use Rattle.definitions.specs.Check.{tell, bump! }
 use Rattle.definitions.specs.Grammar.{macro-argument-turn}
 use Rattle.definitions.specs.Skeleton.{Label, Skeleton, done, token, _⧺_}
 use Rattle.definitions.specs.Run.{State, Out, mark-of, makes, taken, add, perform, closed as closed-marker, marked, is-again, goes-on, iter, exec}

@@ -1,5 +1,6 @@
 // `eat_node_or_prop_prefix` of grammar.rs: labels, and the name of a node or property with its unit address.
 use layout::hint::NO_HINT;
+use layout::limit::Codes;
 use layout::message::AT_SIGN_IN_LABEL;
 use layout::node_kind;
 use layout::token_kind;
@@ -40,7 +41,7 @@ fn some(s: State, allow_prop: bool) -> StateAnswered
 
 fn eat_unit_address_and_at_colon(
     s: State,
-    codes: &mut [u8; 256],
+    codes: &mut Codes,
     tokens: &[u32],
     events: &mut [u32],
     reports: &mut [u32],
@@ -60,7 +61,7 @@ fn eat_unit_address_and_at_colon(
 // A label (Again), or the name of a node or property. The cursor stands at the name.
 fn label_or_name(
     s: State,
-    codes: &mut [u8; 256],
+    codes: &mut Codes,
     tokens: &[u32],
     events: &mut [u32],
     reports: &mut [u32],
@@ -106,7 +107,7 @@ fn label_or_name(
 
 fn turn(
     s: State,
-    codes: &mut [u8; 256],
+    codes: &mut Codes,
     tokens: &[u32],
     events: &mut [u32],
     reports: &mut [u32],
@@ -146,7 +147,7 @@ fn turn(
 
 fn labels_and_name(
     s: State,
-    codes: &mut [u8; 256],
+    codes: &mut Codes,
     tokens: &[u32],
     events: &mut [u32],
     reports: &mut [u32],
@@ -175,7 +176,7 @@ fn labels_and_name(
 // No: None; Yes: Some(false); Also: Some(true), a property is allowed.
 pub fn eat_node_or_prop_prefix(
     s: State,
-    codes: &mut [u8; 256],
+    codes: &mut Codes,
     tokens: &[u32],
     events: &mut [u32],
     reports: &mut [u32],
