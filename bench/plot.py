@@ -1,113 +1,78 @@
-"""plot.py CSV PNG: four panels that show how the cost grows with the number of tokens."""
-import csv
-import math
+"""plot.py RESULTS NAME: draws NAME.svg and NAME.png: how the cost grows with the number of tokens."""
 import sys
 
-from png import Canvas, text_width
+import matplotlib
 
-CSV, PNG = sys.argv[1:]
-COLOURS = [(200, 30, 30), (30, 80, 200), (20, 140, 60), (150, 60, 170), (220, 130, 0), (90, 90, 90)]
-WIDTH, HEIGHT, LEFT, TOP, RIGHT, BOTTOM = 620, 430, 84, 52, 20, 60
+matplotlib.use("Agg")
+from matplotlib import pyplot, ticker
 
+from results import HEADLINE, Times, counts
 
-class Panel:
-    """A plot with a logarithmic axis of tokens; the other axis is logarithmic too if `log` is set, else it starts at 0."""
-
-    def __init__(self, canvas, column, row, title, most, least=0.0, log=False):
-        self.canvas, self.log = canvas, log
-        self.x0, self.y0 = column * WIDTH + LEFT, row * HEIGHT + TOP
-        self.w, self.h = WIDTH - LEFT - RIGHT, HEIGHT - TOP - BOTTOM
-        self.least, self.most = least, most
-        self.words = 0
-        canvas.text(self.x0, self.y0 - 34, title)
-
-    def x(self, n):
-        share = (math.log(n) - math.log(900)) / (math.log(70000) - math.log(900))
-        return round(self.x0 + share * self.w)
-
-    def y(self, v):
-        scale = math.log if self.log else float
-        low = scale(self.least) if self.log else self.least
-        return round(self.y0 + self.h - (scale(v) - low) / (scale(self.most) - low) * self.h)
-
-    def axes(self, marks):
-        c, right, bottom = self.canvas, self.x0 + self.w, self.y0 + self.h
-        for n in 1000, 2000, 4000, 8000, 16000, 32000, 65536:
-            c.line(self.x(n), self.y0, self.x(n), bottom, (225, 225, 225))
-            label = f"{n / 1000:.1f}k".replace(".0k", "k")
-            c.text(self.x(n) - text_width(label) // 2, bottom + 10, label)
-        for v in marks:
-            c.line(self.x0, self.y(v), right, self.y(v), (225, 225, 225))
-            label = f"{v:,.0f}"
-            c.text(self.x0 - 8 - text_width(label), self.y(v) - 7, label)
-        c.line(self.x0, bottom, right, bottom, (0, 0, 0))
-        c.line(self.x0, self.y0, self.x0, bottom, (0, 0, 0))
-        c.text(self.x0 + self.w // 2 - text_width("tokens") // 2, bottom + 34, "tokens")
-
-    def curve(self, name, points, colour, dashed=False):
-        ends = [(self.x(n), self.y(v)) for n, v in points]
-        for (a, b), (c, d) in zip(ends, ends[1:]):
-            self.canvas.line(a, b, c, d, colour, 0 if dashed else 1, dashed)
-        for x, y in ends if not dashed else []:
-            self.canvas.square(x, y, 3, colour)
-        self.canvas.text(self.x0 + 14 + self.words % 3 * 170, self.y0 - 14 + self.words // 3 * 18 + 4, name, colour)
-        self.words += 1
+RESULTS, NAME = sys.argv[1:]
+PORT, RUST = "tab:red", "tab:blue"
+MARKS = dict(zip(["chain", "braces", "errors", "novalue", "name", "blanks"], "os^Dv*"))
 
 
-def read():
-    with open(CSV) as file:
-        rows = [{k: v if k == "input" else float(v) for k, v in row.items()} for row in csv.DictReader(file)]
-    families = {}
-    for r in rows:
-        n = r["tokens"]
-        r["port"] = r["port_instructions"] / n
-        r["rust"] = (r["rust_with_copy_instructions"] - r["rust_copy_instructions"]) / n
-        r["rust_ns"] = r["rust_with_copy_ns"] - r["rust_copy_ns"]
-        families.setdefault(r["input"].split("-")[0], []).append(r)
-    return families
+def axes(ax, title, unit, scale="linear"):
+    """Tokens are on a logarithmic scale, so that each doubling is a step of the same width."""
+    ticks = [1000, 2000, 4000, 8000, 16000, 32000, 65536]
+    ax.set_xscale("log")
+    ax.set_yscale(scale)
+    ax.xaxis.set_major_locator(ticker.FixedLocator(ticks))
+    ax.xaxis.set_minor_locator(ticker.NullLocator())
+    ax.xaxis.set_major_formatter(ticker.FuncFormatter(lambda n, _: f"{n:,.0f}"))
+    ax.yaxis.set_major_formatter(ticker.FuncFormatter(lambda n, _: f"{n:,.0f}"))
+    ax.set_xlabel("tokens in the file")
+    ax.set_ylabel(unit)
+    ax.set_title(title)
+    ax.grid(alpha=0.3)
 
 
-def points(rows, column, by=1.0):
-    return [(r["tokens"], r[column] / by) for r in rows]
+def board_instructions(ax, board):
+    ratio = next(c.port / c.rust for c in board if c.name == HEADLINE)
+    axes(ax, f"Board files: instructions, port / Rust = {ratio:.2f}", "instructions a token")
+    tokens = [c.tokens for c in board]
+    for label, colour, of in ("port", PORT, "port"), ("Rust", RUST, "rust"):
+        ax.plot(tokens, [getattr(c, of) / c.tokens for c in board], "o-", color=colour, label=label)
+    ax.set_ylim(0, 1.15 * max(c.port / c.tokens for c in board))
+    ax.legend(loc="lower right")
 
 
-def steps(most):
-    """Five or so round marks from 0 on."""
-    step = 10 ** math.floor(math.log10(most / 3))
-    while most / step > 7:
-        step *= 2 if str(step)[0] in "15" else 2.5
-    return [i * step for i in range(int(most / step) + 1)]
+def board_times(ax, board, times):
+    axes(ax, f"Board files: time in {times.runs} runs on one machine", "nanoseconds a token")
+    tokens = [c.tokens for c in board]
+    for label, colour, column in ("port", PORT, "port_ns"), ("Rust", RUST, "rust_ns"):
+        spreads = [[x / c.tokens for x in times.spread(c.name, column)] for c in board]
+        best, median, worst = zip(*spreads)
+        ax.plot(tokens, median, "o-", color=colour, label=f"{label}: median")
+        ax.fill_between(tokens, best, worst, color=colour, alpha=0.2, linewidth=0, label=f"{label}: best to worst")
+    ax.set_ylim(bottom=0)
+    ax.legend(loc="lower right", ncol=2)
 
 
-def instructions(canvas, column, row, title, curves):
-    most = 1.25 * max(v for _, p in curves for _, v in p)
-    panel = Panel(canvas, column, row, title, most)
-    panel.axes(steps(most))
-    for (name, p), colour in zip(curves, COLOURS):
-        panel.curve(name, p, colour)
-
-
-def times(canvas, board):
-    one = board[0]["rust_ns"]
-    panel = Panel(canvas, 1, 0, "board files: time / Rust at 1k", 160, 0.7, log=True)
-    panel.axes([1, 2, 4, 8, 16, 32, 64, 128])
-    panel.curve("port", points(board, "port_ns", one), COLOURS[0])
-    panel.curve("Rust", points(board, "rust_ns", one), COLOURS[1])
-    first, last = board[0]["tokens"], board[-1]["tokens"]
-    panel.curve("proportional", [(first, 1), (last, last / first)], (120, 120, 120), dashed=True)
+def worst_cases(ax, title, families, of):
+    axes(ax, title, "instructions a token (logarithmic)", "log")
+    for family, mark in MARKS.items():
+        rows = families[family]
+        ax.plot([c.tokens for c in rows], [getattr(c, of) / c.tokens for c in rows], mark + "-", label=family)
+    ax.set_ylim(20, 40000)
+    ax.legend(loc="upper center", ncol=3)
 
 
 def main():
-    families = read()
-    board = families.pop("board")
-    canvas = Canvas(2 * WIDTH, 2 * HEIGHT)
-    both = [("port", points(board, "port")), ("Rust", points(board, "rust"))]
-    instructions(canvas, 0, 0, "board files: instructions a token", both)
-    times(canvas, board)
-    for column, name, title in (0, "port", "port"), (1, "rust", "Rust"):
-        curves = [(f, points(rows, name)) for f, rows in families.items()]
-        instructions(canvas, column, 1, f"{title}: instructions a token", curves)
-    canvas.write(PNG)
+    families = {}
+    for c in counts(f"{RESULTS}/counts.csv"):
+        families.setdefault(c.family, []).append(c)
+    # the same figures give the same files
+    pyplot.rcParams.update({"svg.hashsalt": "benchmark", "font.size": 10, "axes.titlesize": 11})
+    figure, ((a, b), (c, d)) = pyplot.subplots(2, 2, figsize=(12, 8.5), layout="constrained")
+    figure.suptitle("Cost of a token as the file grows: a level line is a cost in proportion to the input")
+    board_instructions(a, families["board"])
+    board_times(b, families["board"], Times(f"{RESULTS}/times.csv"))
+    worst_cases(c, "Inputs that might cost more: port", families, "port")
+    worst_cases(d, "Inputs that might cost more: Rust", families, "rust")
+    figure.savefig(f"{NAME}.svg", metadata={"Date": None})
+    figure.savefig(f"{NAME}.png", dpi=110, metadata={"Software": None})
 
 
 main()

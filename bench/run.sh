@@ -1,16 +1,28 @@
 #!/bin/sh
-# Measures both parsers and writes docs/benchmark.csv, docs/stack.csv, the tables of docs/BENCHMARK.md and
-# docs/benchmark.png.
-# bench/run.sh [RUNS]: interleaved runs for each time (31). Some minutes, most of them under callgrind.
+# Measures both parsers and writes bench/results, the plot (docs/benchmark.svg, docs/benchmark.png) and the tables of
+# docs/BENCHMARK.md, docs/FIGURES.md and README.md. Some minutes, most of them under callgrind.
+#   bench/run.sh [RUNS] [ROUNDS] [MACHINE]    timed runs (5) of so many interleaved rounds each (31); the machine's name
+#   bench/run.sh tables                       tables and plot again, from bench/results
+# For times that say something nothing else should run. Instructions do not vary.
 set -eu
 here=$(cd "$(dirname "$0")" && pwd)
-docs=$here/../docs
-DT_PARSER_LIB=$("$here/../tools/static-library")
-export DT_PARSER_LIB
-"$here/../oracle/build.sh" >&2 # makes the Rust files that the driver is built over
-(cd "$here" && cargo build --release --offline --quiet)
-gcc -std=c11 -O2 -Wall -Wextra -pedantic -o "$here/target/stack" "$here/stack.c" "$DT_PARSER_LIB" -pthread
-"$here/target/stack" >"$docs/stack.csv"
-python3 "$here/measure.py" "$here/target/release" "${1:-31}" "$docs/benchmark.csv"
-python3 "$here/tables.py" "$docs/benchmark.csv" "$docs/stack.csv" "$docs/BENCHMARK.md"
-python3 "$here/plot.py" "$docs/benchmark.csv" "$docs/benchmark.png"
+root=$(dirname "$here")
+results=$here/results
+python=python3
+"$python" -c 'import matplotlib' 2>/dev/null || python=/usr/bin/python3 # a python3 beside the system's may lack it
+"$python" -c 'import matplotlib' 2>/dev/null || {
+    echo "no matplotlib: the plot is drawn with it (Debian: apt-get install python3-matplotlib)" >&2
+    exit 2
+}
+if [ "${1:-}" != tables ]; then
+    DT_PARSER_LIB=$("$root/tools/static-library")
+    export DT_PARSER_LIB
+    "$root/oracle/build.sh" --copies
+    (cd "$here" && cargo build --release --offline --quiet)
+    gcc -std=c11 -O2 -Wall -Wextra -pedantic -o "$here/target/stack" "$here/stack.c" "$DT_PARSER_LIB" -pthread
+    "$here/target/stack" >"$results/stack.csv"
+    "$python" "$here/times.py" "$here/target/release" "${1:-5}" "${2:-31}" "${3:-}" "$results"
+    "$python" "$here/counts.py" "$here/target/release" "$results/counts.csv"
+fi
+"$python" "$here/tables.py" "$results" "$root"
+"$python" "$here/plot.py" "$results" "$root/docs/benchmark"

@@ -1,15 +1,17 @@
-"""tables.py CSV STACK MARKDOWN: writes the tables between the lines `<!-- NAME -->` and `<!-- end -->` of MARKDOWN."""
-import csv
+"""tables.py RESULTS ROOT: prints the figures in short, and writes the tables between the lines `<!-- NAME -->` and
+`<!-- end -->` of README.md, docs/FIGURES.md and docs/BENCHMARK.md."""
 import re
 import sys
 
-CSV, STACK, MARKDOWN = sys.argv[1:]
-with open(CSV) as file:
-    ROWS = [{k: v if k == "input" else float(v) for k, v in row.items()} for row in csv.DictReader(file)]
+from results import HEADLINE, Times, counts, read
 
-
-def rust_instructions(r):
-    return r["rust_with_copy_instructions"] - r["rust_copy_instructions"]
+RESULTS, ROOT = sys.argv[1:]
+COUNTS = counts(f"{RESULTS}/counts.csv")
+TIMES = Times(f"{RESULTS}/times.csv")
+MACHINES = read(f"{RESULTS}/machines.csv")
+BOARD = [c for c in COUNTS if c.family == "board"]
+WORST = [c for c in COUNTS if c.family != "board"]
+LARGEST = [c for c in COUNTS if c.tokens > 40000]
 
 
 def table(head, rows):
@@ -17,62 +19,86 @@ def table(head, rows):
     return "\n".join("| " + " | ".join(map(str, line)) + " |" for line in lines)
 
 
+def plural(n, word):
+    return f"{n} {word}" if n == 1 else f"{n} {word}s"
+
+
+def summary():
+    """Instructions first; times as their range over all runs on all machines."""
+    c = next(c for c in COUNTS if c.name == HEADLINE)
+    n, runs = c.tokens, sum(int(m["runs"]) for m in MACHINES)
+    best, worst = min(float(m["best"]) for m in MACHINES), max(float(m["worst"]) for m in MACHINES)
+    ours, heap = c.each("port_buffer_bytes"), c.each("rust_peak_heap_bytes")
+    return table([f"A board file of {n:,} tokens", "Port", "Rust", "Port / Rust"], [
+        ["instructions a token", f"{c.port / n:,.0f}", f"{c.rust / n:,.0f}", f"{c.port / c.rust:.2f}"],
+        [f"time, {plural(runs, 'run')} on {plural(len(MACHINES), 'machine')}", "", "", f"{best:.2f} to {worst:.2f}"],
+        ["bytes of memory a token", f"{ours:,.0f} lent", f"{heap:,.0f} of heap", f"{ours / heap:.2f}"],
+    ])
+
+
+def machines():
+    rows = [[m["machine"], m["runs"], m["best"], m["median"], m["worst"], m["load"] or "not noted"] for m in MACHINES]
+    return table(["Machine", "Runs", "Port / Rust by time: best", "median", "worst", "Load at the start"], rows)
+
+
+def ratios(name, column):
+    return [f"{x:.2f}" for x in TIMES.spread(name, column)] if TIMES.comparable(name) else ["-"] * 3
+
+
 def cost(rows):
-    """Instructions and time."""
-    head = ["Input", "Tokens", "Reports", "Port, instructions a token", "Rust", "Port / Rust", "Port / Rust by time", "with freeing"]
+    head = ["Input", "Tokens", "Reports", "Port, instructions a token", "Rust", "Port / Rust", "By time: best", "median",
+            "worst", "median with freeing"]
     out = []
-    for r in rows:
-        n, ours, theirs = r["tokens"], r["port_instructions"], rust_instructions(r)
-        freed = r["port_ns"] / (r["rust_with_copy_and_free_ns"] - r["rust_copy_ns"])
-        out.append([r["input"], f"{n:,.0f}", f"{r['reports']:,.0f}", f"{ours / n:,.0f}", f"{theirs / n:,.0f}",
-                    f"{ours / theirs:.2f}", f"{r['time_ratio']:.2f}", f"{freed:.2f}"])
+    for c in rows:
+        each = [f"{c.port / c.tokens:,.0f}", f"{c.rust / c.tokens:,.0f}", f"{c.port / c.rust:.2f}"]
+        freed = ratios(c.name, "time_ratio_with_freeing")[1]
+        out.append([c.name, f"{c.tokens:,}", f"{c['reports']:,}", *each, *ratios(c.name, "time_ratio"), freed])
     return table(head, out)
 
 
 def memory(rows):
-    head = ["Input", "Tokens", "Port: buffers that just suffice", "buffers by the bound", "Rust: most heap at once", "heap that its answer keeps"]
+    head = ["Input", "Tokens", "Port: buffers that just suffice", "buffers by the bound", "Rust: most heap at once",
+            "heap that its answer keeps"]
     columns = ["port_buffer_bytes", "bound_buffer_bytes", "rust_peak_heap_bytes", "rust_kept_heap_bytes"]
-    return table(head, [[r["input"], f"{r['tokens']:,.0f}", *(f"{r[c] / r['tokens']:,.0f}" for c in columns)] for r in rows])
+    return table(head, [[c.name, f"{c.tokens:,}", *(f"{c.each(k):,.0f}" for k in columns)] for c in rows])
 
 
 def clearing(rows):
-    head = ["Input", "Port, instructions a token", "as callgrind counts `rep stosb`", "Time in buffers by the bound / time in buffers that just suffice"]
+    head = ["Input", "Port, instructions a token", "as callgrind counts `rep stosb`",
+            "Time in buffers by the bound / time in buffers that just suffice"]
     out = []
-    for r in rows:
-        n = r["tokens"]
-        out.append([r["input"], f"{r['port_instructions'] / n:,.0f}", f"{r['port_instructions_with_rep'] / n:,.0f}",
-                    f"{r['port_in_bound_buffers_ns'] / r['port_ns']:.1f}"])
+    for c in rows:
+        slower = TIMES.spread(c.name, "port_in_bound_buffers_ns")[1] / TIMES.spread(c.name, "port_ns")[1]
+        each = [f"{c.each(k):,.0f}" for k in ("port_instructions", "port_instructions_with_rep")]
+        out.append([c.name, *each, f"{slower:.1f}"])
     return table(head, out)
 
 
 def stack():
-    with open(STACK) as file:
-        rows = list(csv.DictReader(file))
     return table(["Nesting", "Levels", "Answer's number", "Bytes of stack"],
-                 [[r["nesting"], r["levels"], r["number"], f"{int(r['bytes']):,}"] for r in rows])
+                 [[r["nesting"], r["levels"], r["number"], f"{int(r['bytes']):,}"] for r in read(f"{RESULTS}/stack.csv")])
 
 
-def summary(rows):
-    """The file of about 50,000 tokens in words."""
-    r = next(r for r in rows if r["input"] == "board-50000")
-    n, ours, theirs = r["tokens"], r["port_instructions"], rust_instructions(r)
-    return (f"On one file of {n:,.0f} tokens the port takes {ours / n:,.0f} instructions a token and the Rust {theirs / n:,.0f}: "
-            f"{ours / theirs:.2f} times as many. By time it is {r['time_ratio']:.2f} times. The port's lent buffers have "
-            f"{r['port_buffer_bytes'] / n:,.0f} bytes a token; the Rust's heap reaches {r['rust_peak_heap_bytes'] / n:,.0f}.")
+def put(path, tables):
+    with open(f"{ROOT}/{path}") as file:
+        text = file.read()
+    for name, lines in tables.items():
+        pattern = rf"(<!-- {name} -->\n).*?(<!-- end -->)"
+        if not re.search(pattern, text, re.S):
+            sys.exit(f"{path}: no place for the table {name}")
+        text = re.sub(pattern, lambda m: m[1] + lines + "\n" + m[2], text, flags=re.S)
+    with open(f"{ROOT}/{path}", "w") as file:
+        file.write(text)
 
 
-BOARD = [r for r in ROWS if r["input"].startswith("board")]
-WORST = [r for r in ROWS if not r["input"].startswith("board")]
-LARGEST = [r for r in ROWS if r["tokens"] > 40000]
-TABLES = {"summary": summary(BOARD), "board": cost(BOARD), "worst": cost(WORST), "memory": memory(LARGEST), "clearing": clearing(BOARD),
-          "stack": stack()}
+def main():
+    short = {"speed": summary()}
+    put("README.md", short)
+    put("docs/FIGURES.md", short)
+    put("docs/BENCHMARK.md", short | {
+        "machines": machines(), "board": cost(BOARD), "worst": cost(WORST), "memory": memory(LARGEST),
+        "clearing": clearing(BOARD), "stack": stack()})
+    print("\n\n".join([summary(), machines(), cost(COUNTS)]))
 
-with open(MARKDOWN) as file:
-    text = file.read()
-for name, lines in TABLES.items():
-    pattern = rf"(<!-- {name} -->\n).*?(<!-- end -->)"
-    if not re.search(pattern, text, re.S):
-        sys.exit(f"{MARKDOWN}: no place for the table {name}")
-    text = re.sub(pattern, lambda m: m[1] + lines + "\n" + m[2], text, flags=re.S)
-with open(MARKDOWN, "w") as file:
-    file.write(text)
+
+main()

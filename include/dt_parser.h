@@ -3,19 +3,33 @@
  *
  * "Document 01" is docs/01-scope.md. What the call answers and what each buffer holds afterwards is
  * crates/definitions/specs/Call.antt. tools/check-header compares every number below with the definitions and the code.
+ * The names and message texts of the numbers are in dt_names.h.
  *
  * Link: libdt_parser.a (`rt staticlib dt_parser` writes target/staticlib/libdt_parser.a), x86-64 Linux. It needs the C
- * library (memcpy, memmove, memset) and nothing else. The call allocates nothing, keeps nothing and has no state: calls
- * in several threads at once are safe if each has its own lent buffers. The deepest inputs take 0.8 MiB of stack
- * (bench/stack.c): a thread that calls should have 2 MiB.
+ * library (memcpy, memmove, memset) and nothing else. `tools/install-library PREFIX` puts library, headers and a file
+ * for pkg-config in their places. The call allocates nothing, keeps nothing and has no state: calls in several threads
+ * at once are safe if each has its own lent buffers. The deepest inputs take 0.8 MiB of stack (bench/stack.c): a thread
+ * that calls should have 2 MiB.
  *
  * All rows are of uint32_t numbers. A length is a count of elements (bytes or numbers), never of rows.
+ *
+ * C99 or newer, C++11 or newer.
  */
 #ifndef DT_PARSER_H
 #define DT_PARSER_H
 
 #include <stddef.h>
 #include <stdint.h>
+
+/*
+ * The version of this interface. The library is made from the same sources and has no number of its own. Up to 1.0.0 a
+ * new minor number says that something a caller relies on has changed, for instance how many numbers a row has.
+ */
+#define DT_PARSER_VERSION_MAJOR 0
+#define DT_PARSER_VERSION_MINOR 1
+#define DT_PARSER_VERSION_PATCH 0
+/* As one number, to compare in an #if: 0.1.0 is 100, 1.2.3 is 10203. */
+#define DT_PARSER_VERSION (10000 * DT_PARSER_VERSION_MAJOR + 100 * DT_PARSER_VERSION_MINOR + DT_PARSER_VERSION_PATCH)
 
 #ifdef __cplusplus
 extern "C" {
@@ -24,12 +38,12 @@ extern "C" {
 /* What is parsed: the first argument of dt_parse. */
 enum dt_entry {
     DT_ENTRY_SOURCE_FILE = 1,     /* a whole file */
-    DT_ENTRY_REFERENCE_NOAMP = 2, /* a reference behind its & */
+    DT_ENTRY_REFERENCE_NOAMP = 2, /* a reference after its & */
     DT_ENTRY_PROP_VALUES = 3,     /* the values of a property */
     DT_ENTRY_CELLS = 4            /* the cells between < and > */
 };
 
-/* The answer's number: 0, or why the call was refused. Tried in this order; of 5 to 7 the one that the run meets first. */
+/* The answer's number: 0, or why the call was refused. Tried in this order; of 5 to 7 the one that a run meets first. */
 enum dt_refusal {
     DT_ACCEPTED = 0,
     DT_REFUSAL_UNKNOWN_ENTRY = 1,  /* entry not 1 to 4; place 0 */
@@ -88,7 +102,72 @@ enum dt_report_column {
     DT_COL_REPORT_LABEL_END = 8
 };
 
-/* Token kinds, of a token row, a leaf or an expectation. Behind a kind: its fixed text, which the bytes must be. */
+/*
+ * The rows as structs, with a member for each column in the columns' order. A buffer of numbers may be read through a
+ * cast, (const struct dt_tree_row *)trees; and an array of structs may be lent as numbers, (uint32_t *)rows, with
+ * DT_ROW_TREE times its length: a row has no padding, and every member is a uint32_t as the numbers are.
+ */
+struct dt_token_row {
+    uint32_t kind;   /* enum dt_token or enum dt_lex_error */
+    uint32_t length; /* in bytes */
+};
+
+struct dt_tree_row {
+    uint32_t class_; /* enum dt_class; `class` is a word of C++ */
+    uint32_t kind;   /* of a node enum dt_node, of a leaf enum dt_token */
+    uint32_t width;  /* in bytes */
+    uint32_t count;  /* children of a node, raw tokens of a leaf */
+};
+
+struct dt_error_row {
+    uint32_t number; /* enum dt_lex_error */
+    uint32_t start;
+    uint32_t end;
+};
+
+struct dt_report_row {
+    uint32_t message; /* enum dt_message */
+    uint32_t start;
+    uint32_t end;
+    uint32_t mark;
+    uint32_t pool_first;
+    uint32_t pool_count;
+    uint32_t hint; /* enum dt_hint */
+    uint32_t label_start;
+    uint32_t label_end;
+};
+
+/* Refused by the compiler unless a struct is as large as its row. (C99 has no static assertion.) */
+#define DT_ASSERT_ROW(row, size) typedef char dt_assert_##row[sizeof(struct row) == (size) * sizeof(uint32_t) ? 1 : -1]
+DT_ASSERT_ROW(dt_token_row, DT_ROW_TOKEN);
+DT_ASSERT_ROW(dt_tree_row, DT_ROW_TREE);
+DT_ASSERT_ROW(dt_error_row, DT_ROW_ERROR);
+DT_ASSERT_ROW(dt_report_row, DT_ROW_REPORT);
+#undef DT_ASSERT_ROW
+
+/*
+ * The row after a subtree: that of the next sibling if there is one, else of what follows the parent's subtree; `count`
+ * at the end. trees are the `count` rows of an accepted call (dt_answer.trees), at is the row of the subtree's root.
+ * Rows that are not a tree lead no further than `count`. The time is in the subtree's size.
+ *
+ * The children of a node, in order:
+ *
+ *   size_t child = node + 1;
+ *   for (uint32_t i = 0; i < trees[node].count; i++, child = dt_after_subtree(trees, count, child))
+ *       visit(&trees[child]);
+ */
+static inline size_t dt_after_subtree(const struct dt_tree_row *trees, size_t count, size_t at)
+{
+    size_t open = 1; /* subtrees that have still to end */
+    for (; open > 0 && at < count; at++) {
+        open--;
+        if (trees[at].class_ == DT_CLASS_NODE)
+            open += trees[at].count;
+    }
+    return at;
+}
+
+/* Token kinds, of a token row, a leaf or an expectation. After a kind: its fixed text, which the bytes must be. */
 enum dt_token {
     DT_TOKEN_WHITESPACE = 0,                 /* trivia */
     DT_TOKEN_BLOCK_COMMENT = 1,              /* trivia */
@@ -232,9 +311,9 @@ enum dt_expected {
 };
 
 /*
- * Lengths that suffice for n token rows (crates/numbers has the proof), so that 6, 7 and 8 cannot be met. Files without
+ * Lengths that suffice for n token rows (crates/bounds has the proof), so that 6, 7 and 8 cannot be met. Files without
  * errors need far less; a caller may start small and grow what refusal 6 (events), 7 (reports, pool) or 8 (trees,
- * errors) names, as examples/c/print_tree.c does.
+ * errors) names, as examples/c/parse.c does.
  */
 #define DT_EVENTS_FOR(n) (DT_ROW_EVENT * (13 * (size_t)(n) + 1))
 #define DT_TREES_FOR(n) (DT_ROW_TREE * (6 * (size_t)(n) + 1))
@@ -268,7 +347,7 @@ struct dt_answer {
  *                     and all of events, is zero
  *   refused, 1 to 4   every buffer is as it was
  *   refused, 5 to 8   every number of every buffer is zero
- * A length that is no multiple of the row's: only whole rows are used, the numbers over count as rest.
+ * A length that is not a multiple of the row's: only whole rows are used, the numbers over count as rest.
  *
  * Overlap: the five lent buffers must not overlap each other, nor bytes or tokens. bytes and tokens may overlap, since
  * neither is written. Pointers to numbers must be aligned as uint32_t is. Where a length is 0 the pointer is not used

@@ -1,7 +1,8 @@
 #!/bin/sh
-# Builds the oracle: copies the Rust of ../docs/src to its places, once unchanged and once with doc01.patch applied,
-# then `cargo build --release --offline` (about 10 s, no registry needed). The program is target/release/oracle.
-# ast.rs is left out, since it needs crates that are not at hand; crates/parser/src/ast.rs stands in for it.
+# Builds the oracle: copies the Rust of ../docs/src to its places, once unchanged and once, as far as doc01.patch has to do
+# with it, patched; then `cargo build --release --offline` (about 10 s, no registry needed). The library is crates/oracle,
+# the program over it target/release/oracle. oracle/build.sh --copies makes the copies alone, for those who build over the
+# library. ast.rs is left out, since it needs crates that are not at hand; crates/parser/src/ast.rs stands in for it.
 set -eu
 cd "$(dirname "$0")"
 src=../docs/src/crates/parser/src
@@ -16,8 +17,12 @@ cp -R "$src" "$patched/src"
 put() { cmp -s "$1" "$2" || { mkdir -p "$(dirname "$2")" && cp "$1" "$2"; }; }
 for file in $(cd "$src" && find . -name '*.rs' ! -name ast.rs); do
     put "$src/$file" "crates/parser/src/$file"
-    put "$patched/src/$file" "crates/parser_doc01/src/$file"
+    case $file in
+    ./cst.rs | ./lexer.rs) ;; # the patched copy has those of crates/parser
+    *) put "$patched/src/$file" "crates/parser_doc01/src/$file" ;;
+    esac
 done
 
+[ "${1:-}" != --copies ] || exit 0
 cargo build --release --offline --quiet
 echo "built $(pwd)/target/release/oracle"

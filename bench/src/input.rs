@@ -1,6 +1,6 @@
 //! The inputs: a realistic file in many sizes, and inputs that might cost more than others.
-use crate::case::{Case, Rows};
-use crate::{generate, orig};
+use oracle::case::{Case, Rows};
+use oracle::{generate, token};
 
 /// A token list is at most this long.
 pub const MOST: usize = 65_536;
@@ -36,7 +36,6 @@ impl Input {
     /// A realistic file (`board`) or one of the patterns, of about n tokens.
     pub fn new(family: &str, n: usize) -> Input {
         let name = format!("{family}-{n}");
-        orig::inject(None);
         if family == "board" {
             return Input::board(name, n);
         }
@@ -53,7 +52,7 @@ impl Input {
     fn board(name: String, n: usize) -> Input {
         let mut less = 0;
         loop {
-            let (rows, text) = orig::tokens(&Case::Text(generate::big(n - less)));
+            let (rows, text) = token::rows(&Case::Text(generate::big(n - less)));
             if rows.len() <= MOST {
                 return Input::from(name, 1, rows, text);
             }

@@ -1,18 +1,13 @@
 //! The static library, with lent buffers that just suffice.
-use crate::ffi::{self, Answer, Lent};
 use crate::input::Input;
+use dt_parser_ffi::{Answer, Lengths, ROW};
 
 pub struct Port {
     buffers: [Vec<u32>; 5],
 }
 
-/// Lengths in numbers that suffice for n tokens whatever they are (crates/numbers).
-pub fn bound(n: usize) -> [usize; 5] {
-    [3 * (13 * n + 1), 4 * (6 * n + 1), 3 * n, 9 * (3 * n + 1), 768 * n + 256]
-}
-
 impl Port {
-    pub fn with(lengths: [usize; 5]) -> Port {
+    pub fn with(lengths: Lengths) -> Port {
         Port { buffers: lengths.map(|n| vec![0x5A5A5A5A; n]) }
     }
 
@@ -29,21 +24,21 @@ impl Port {
                 _ => panic!("{}: {answer:?}", input.name),
             }
         };
-        lengths[1..].copy_from_slice(&[4 * answer.trees, 3 * answer.errors, 9 * answer.reports, answer.expectations]);
-        let (mut refused, mut accepted) = (0, lengths[0] / 3);
+        lengths[1..].copy_from_slice(&answer.used()[1..]);
+        let (mut refused, mut accepted) = (0, lengths[0] / ROW[0]);
         while refused < accepted {
             let events = (refused + accepted) / 2;
-            lengths[0] = 3 * events;
+            lengths[0] = ROW[0] * events;
             match Port::with(lengths).parse(input).number {
                 0 => accepted = events,
                 _ => refused = events + 1,
             }
         }
-        lengths[0] = 3 * accepted;
+        lengths[0] = ROW[0] * accepted;
         Port::with(lengths)
     }
 
-    pub fn lengths(&self) -> [usize; 5] {
+    pub fn lengths(&self) -> Lengths {
         self.buffers.each_ref().map(Vec::len)
     }
 
@@ -52,8 +47,6 @@ impl Port {
     }
 
     pub fn parse(&mut self, input: &Input) -> Answer {
-        let lent = self.buffers.each_mut().map(|b| Lent { at: b.as_mut_ptr(), len: b.len() });
-        // Safety: five vectors of those lengths
-        unsafe { ffi::parse(input.entry, input.text.as_bytes(), &input.tokens, lent) }
+        dt_parser_ffi::parse(input.entry, input.text.as_bytes(), &input.tokens, &mut self.buffers)
     }
 }

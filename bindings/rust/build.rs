@@ -1,20 +1,20 @@
 //! Finds the static library that the proved crate `dt_parser` is made into, and has it linked.
 //!
-//! `DT_PARSER_LIB_DIR` names the folder of a library that is there already. Without it, `rt staticlib dt_parser` is run at
-//! the repository's root, two levels up: it proves what has changed since the last time, and writes the library. A copy
-//! of that is linked, so that the build stays good when the root's target/ is removed.
+//! `DT_PARSER_LIB` names a library that is there already, as it does for the project's other tools. Without it,
+//! `rt staticlib dt_parser` is run at the repository's root, two levels up: it proves what has changed since the last
+//! time, and writes the library. A copy is linked, so that the build stays good when the library is removed.
 
 use std::env;
 use std::path::{Path, PathBuf};
 use std::process::{Command, exit};
 
-const VARIABLE: &str = "DT_PARSER_LIB_DIR";
+const VARIABLE: &str = "DT_PARSER_LIB";
 const ARCHIVE: &str = "libdt_parser.a";
 
 fn main() {
     println!("cargo::rerun-if-env-changed={VARIABLE}");
     println!("cargo::rerun-if-changed=build.rs");
-    match check_target().and_then(|()| library_folder()) {
+    match check_target().and_then(|()| library()).and_then(|library| copied(&library)) {
         Ok(folder) => {
             println!("cargo::rustc-link-search=native={}", folder.display());
             println!("cargo::rustc-link-lib=static=dt_parser");
@@ -39,26 +39,30 @@ fn check_target() -> Result<(), String> {
     }
 }
 
-fn library_folder() -> Result<PathBuf, String> {
+fn library() -> Result<PathBuf, String> {
     match env::var_os(VARIABLE) {
-        Some(folder) => given(PathBuf::from(folder)),
+        Some(file) => given(PathBuf::from(file)),
         None => made_by_rt(),
     }
 }
 
-/// The folder that the variable names. A relative one is taken from the repository's root.
-fn given(folder: PathBuf) -> Result<PathBuf, String> {
-    let folder = root().join(folder);
-    let archive = folder.join(ARCHIVE);
-    println!("cargo::rerun-if-changed={}", archive.display());
-    if archive.is_file() {
-        Ok(folder)
-    } else {
-        Err(format!("{VARIABLE} names {}, and there is no {ARCHIVE} in it", folder.display()))
+/// The file that the variable names. A relative path is taken from the repository's root.
+fn given(file: PathBuf) -> Result<PathBuf, String> {
+    let file = root().join(file);
+    println!("cargo::rerun-if-changed={}", file.display());
+    if file.is_file() { Ok(file) } else { Err(format!("{VARIABLE} names {}, which is not a file", file.display())) }
+}
+
+/// Copies the library to cargo's folder, under the name that the linker looks for. Gives the folder.
+fn copied(library: &Path) -> Result<PathBuf, String> {
+    let folder = PathBuf::from(env::var_os("OUT_DIR").unwrap_or_default());
+    match std::fs::copy(library, folder.join(ARCHIVE)) {
+        Ok(_) => Ok(folder),
+        Err(why) => Err(format!("{} could not be copied: {why}", library.display())),
     }
 }
 
-/// Has the kit prove the crate and write its library. The folder is cargo's, with a copy.
+/// Has the kit prove the crate and write its library.
 fn made_by_rt() -> Result<PathBuf, String> {
     let root = root();
     for file in ["crates", "crates.txt"] {
@@ -72,14 +76,7 @@ fn made_by_rt() -> Result<PathBuf, String> {
         ));
     }
     run_rt(&root)?;
-    let archive = root.join("target/staticlib").join(ARCHIVE);
-    let folder = PathBuf::from(env::var_os("OUT_DIR").unwrap_or_default());
-    match std::fs::copy(&archive, folder.join(ARCHIVE)) {
-        Ok(_) => Ok(folder),
-        Err(why) => {
-            Err(format!("`rt staticlib dt_parser` passed, and {} could not be copied: {why}", archive.display()))
-        }
-    }
+    Ok(root.join("target/staticlib").join(ARCHIVE))
 }
 
 fn run_rt(root: &Path) -> Result<(), String> {
@@ -106,5 +103,5 @@ fn last_lines(text: &str) -> String {
 }
 
 fn help() -> String {
-    format!("To link a library that is there already, set {VARIABLE} to the folder that has {ARCHIVE}.")
+    format!("To link a library that is there already, set {VARIABLE} to the path of {ARCHIVE}.")
 }

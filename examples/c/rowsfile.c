@@ -1,7 +1,6 @@
 /* Reads files of token rows (docs/TOKENS.md). */
 #include "rowsfile.h"
-#include "dt_parser.h"
-#include "names.h"
+#include "dt_names.h"
 #include <stdlib.h>
 #include <string.h>
 
@@ -38,49 +37,44 @@ static int number(const char *text, uint32_t most, uint32_t *out)
     return 1;
 }
 
-static int place_in(const char *const *names, size_t count, const char *name, uint32_t first, uint32_t *out)
+/* The number from `first` to `last` that has this name. */
+static int named(const char *(*name_of)(uint32_t), uint32_t first, uint32_t last, const char *name, uint32_t *out)
 {
-    size_t i;
-    for (i = 0; i < count; i++)
-        if (strcmp(names[i], name) == 0) {
-            *out = first + (uint32_t)i;
+    uint32_t n;
+    for (n = first; n <= last; n++)
+        if (strcmp(name_of(n), name) == 0) {
+            *out = n;
             return 1;
         }
     return 0;
-}
-
-static int entry_of(const char *name, uint32_t *entry)
-{
-    static const char *const names[] = {"SourceFile", "ReferenceNoamp", "PropValues", "Cells"};
-    return place_in(names, 4, name, DT_ENTRY_SOURCE_FILE, entry);
 }
 
 /* By name or number. */
 static int kind_of(const char *word, uint32_t *kind)
 {
     static const char error[] = "LexError::";
+    const size_t n = sizeof error - 1;
     if (number(word, UINT32_MAX, kind))
         return 1;
-    if (strncmp(word, error, sizeof error - 1) == 0)
-        return place_in(lex_error_names, LEX_ERROR_NAMES, word + sizeof error - 1, DT_LEX_ERROR_UNEXPECTED_END_INCBIN,
-                        kind);
-    return place_in(token_names, TOKEN_NAMES, word, 0, kind);
+    if (strncmp(word, error, n) == 0)
+        return named(dt_lex_error_name, DT_TOKEN_FIRST_LEX_ERROR, DT_TOKEN_LAST_LEX_ERROR, word + n, kind);
+    return named(dt_token_name, DT_TOKEN_WHITESPACE, DT_TOKEN_QUESTION_MARK, word, kind);
 }
 
 static const char *read_rows(FILE *file, uint32_t rows, struct rowsfile *out)
 {
     char line[LINE], *blank;
     uint32_t i;
-    out->tokens_len = DT_ROW_TOKEN * (size_t)rows;
-    out->tokens = malloc(out->tokens_len * sizeof *out->tokens + 1);
+    out->tokens_count = rows;
+    out->tokens = (struct dt_token_row *)malloc(out->tokens_count * sizeof *out->tokens + 1);
     if (!out->tokens)
         return "no memory";
     for (i = 0; i < rows; i++) {
-        uint32_t *row = out->tokens + DT_ROW_TOKEN * (size_t)i;
+        struct dt_token_row *row = &out->tokens[i];
         if (!next_line(file, line) || !(blank = strchr(line, ' ')))
             return "expected a token's kind and length";
         *blank = 0;
-        if (!kind_of(line, row + DT_COL_TOKEN_KIND) || !number(blank + 1, UINT32_MAX, row + DT_COL_TOKEN_LENGTH))
+        if (!kind_of(line, &row->kind) || !number(blank + 1, UINT32_MAX, &row->length))
             return "not a token's kind and length";
     }
     return NULL;
@@ -94,7 +88,7 @@ static const char *read_text(FILE *file, struct rowsfile *out)
     if (!next_line(file, line) || !(rest = after(line, "text")) || !number(rest, INT32_MAX, &n))
         return "expected the text's length";
     out->bytes_len = n;
-    out->bytes = malloc(out->bytes_len + 1);
+    out->bytes = (uint8_t *)malloc(out->bytes_len + 1);
     if (!out->bytes)
         return "no memory";
     return fread(out->bytes, 1, n, file) == n && fgetc(file) == EOF ? NULL : "the text's length is wrong";
@@ -113,7 +107,7 @@ const char *read_rowsfile(FILE *file, struct rowsfile *out)
         if (after(line, "file"))
             continue;
         if ((rest = after(line, "entry"))) {
-            if (!entry_of(rest, &out->entry))
+            if (!named(dt_entry_name, DT_ENTRY_SOURCE_FILE, DT_ENTRY_CELLS, rest, &out->entry))
                 return "unknown entry";
         } else if ((rest = after(line, "rows")) && number(rest, INT32_MAX, &rows)) {
             wrong = read_rows(file, rows, out);

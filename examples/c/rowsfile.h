@@ -2,14 +2,13 @@
 #ifndef ROWSFILE_H
 #define ROWSFILE_H
 
-#include <stddef.h>
-#include <stdint.h>
+#include "dt_parser.h"
 #include <stdio.h>
 
 struct rowsfile {
     uint32_t entry;
-    uint32_t *tokens; /* kind, length of each */
-    size_t tokens_len;
+    struct dt_token_row *tokens;
+    size_t tokens_count;
     uint8_t *bytes;
     size_t bytes_len;
 };

@@ -1,6 +1,5 @@
 //! The lent buffers: filled with garbage before a call, guarded on both sides, and looked at whole afterwards.
-use crate::call::Lengths;
-use crate::ffi::Lent;
+use dt_parser_ffi::{Lengths, Lent};
 
 const GUARD: usize = 16;
 

@@ -1,8 +1,6 @@
 //! One call: its input as a line of text and back.
-use crate::case::{esc, unesc};
-
-/// Lengths of the lent buffers in numbers: events, tree, lexical errors, reports, pool.
-pub type Lengths = [usize; 5];
+use dt_parser_ffi::Lengths;
+use oracle::case::{Rows, esc, parse_rows, rows_words, unesc};
 
 #[derive(Clone, Default, PartialEq)]
 pub struct Call {
@@ -17,19 +15,27 @@ fn numbers<T: std::str::FromStr>(s: &str) -> Option<Vec<T>> {
     s.split(',').filter(|x| !x.is_empty()).map(|x| x.parse().ok()).collect()
 }
 
+/// Token rows as the call takes them.
+pub fn flat(rows: &Rows) -> Vec<u32> {
+    rows.iter().flat_map(|&(k, n)| [k, n as u32]).collect()
+}
+
 impl Call {
     /// `ENTRY caps N,N,N,N,N toks KIND[:LENGTH],.. BYTES`, as the oracle reads it too; with an odd count of token
     /// numbers `.. nums N,.. BYTES`.
     pub fn line(&self) -> String {
         let caps: Vec<_> = self.lengths.iter().map(usize::to_string).collect();
-        let (word, rows): (_, Vec<_>) = if self.tokens.len() % 2 == 0 {
-            let row = |x: &[u32]| if x[1] == 1 { x[0].to_string() } else { format!("{}:{}", x[0], x[1]) };
-            ("toks", self.tokens.chunks(2).map(row).collect())
+        let (word, rows) = if self.tokens.len().is_multiple_of(2) {
+            ("toks", rows_words(&self.rows()))
         } else {
-            ("nums", self.tokens.iter().map(u32::to_string).collect())
+            ("nums", self.tokens.iter().map(u32::to_string).collect::<Vec<_>>().join(","))
         };
-        let (caps, rows) = (caps.join(","), rows.join(","));
-        format!("{} caps {caps} {word} {rows} {}", self.entry, esc(&self.bytes))
+        format!("{} caps {} {word} {rows} {}", self.entry, caps.join(","), esc(&self.bytes))
+    }
+
+    /// The whole rows, as the oracle takes them.
+    pub fn rows(&self) -> Rows {
+        self.tokens.chunks_exact(2).map(|x| (x[0], x[1] as usize)).collect()
     }
 
     pub fn read(line: &str) -> Option<Call> {
@@ -41,17 +47,11 @@ impl Call {
         let lengths = numbers(words.next()?)?.try_into().ok()?;
         let (form, rows) = (words.next()?, words.next()?);
         let bytes = unesc(words.next().unwrap_or(""));
-        let mut tokens = vec![];
-        match form {
-            "nums" => tokens = numbers(rows)?,
-            "toks" => {
-                for row in rows.split(',').filter(|x| !x.is_empty()) {
-                    let (k, n) = row.split_once(':').unwrap_or((row, "1"));
-                    tokens.extend([k.parse().ok()?, n.parse::<u32>().ok()?])
-                }
-            }
+        let tokens = match form {
+            "nums" => numbers(rows)?,
+            "toks" => flat(&parse_rows(rows).filter(|r| r.iter().all(|x| x.1 <= u32::MAX as usize))?),
             _ => return None,
-        }
+        };
         Some(Call { entry, tokens, bytes, lengths })
     }
 }

@@ -1,10 +1,10 @@
 //! For valgrind: each buffer is allocated for itself, exactly as long as it says, and was never written before the call.
 use crate::call::Call;
-use crate::ffi::{self, Lent};
 use crate::judge::{Input, Judge};
 use crate::make::Maker;
 use crate::rng::Rng;
 use crate::run::chosen;
+use dt_parser_ffi::{self as ffi, Lent};
 
 /// True if each answer and each written buffer was right; valgrind says whether memory was used rightly.
 pub fn run(seed: u64, cases: u64) -> bool {
@@ -37,7 +37,7 @@ fn one(judge: &Judge, call: &Call, input: Input) -> bool {
     let at = store.each_mut().map(|v| v.as_mut_ptr());
     let lent = std::array::from_fn(|i| Lent { at: at[i], len: call.lengths[i] });
     // Safety: five allocations of those lengths
-    let given = unsafe { ffi::parse(call.entry, &bytes, &tokens, lent) };
+    let given = unsafe { ffi::parse_lent(call.entry, &bytes, &tokens, lent) };
     if given != expected {
         return false;
     }

@@ -1,18 +1,16 @@
 //! One call against the Rust: the answer and every buffer whole.
 use crate::buffers::{Buffers, Held};
-use crate::call::{Call, Lengths};
-use crate::case::Rows;
-use crate::checks::Checks;
-use crate::ffi::{self, Answer};
-use crate::model::run::{Run, Unchanged};
+use crate::call::Call;
+use crate::unchanged::Unchanged;
+use dt_parser_ffi::{self as ffi, Answer, Lengths};
+use oracle::checks::refusal;
+use oracle::doc01::Run;
+use oracle::token::ascii;
 
 #[derive(Default)]
 pub struct Judge {
-    pub checks: Checks,
     pub run: Run,
     pub buffers: Buffers,
-    rows: Rows,
-    text: String,
     tokens: Vec<u32>,
     bytes: Vec<u8>,
 }
@@ -49,37 +47,25 @@ pub struct Verdict {
 impl Judge {
     /// Causes 1 to 4, else the Rust's run; `also`: the unchanged Rust too.
     pub fn input(&mut self, call: &Call, also: bool) -> Result<(Input, Option<Unchanged>), Wrong> {
-        if let Some((number, place)) = self.checks.refusal(call) {
+        if let Some((number, place)) = refusal(call.entry, &call.bytes, &call.tokens) {
             return Ok((Input::Bad(number, place), None));
         }
-        self.rows.clear();
-        self.rows.extend(call.tokens.chunks_exact(2).map(|x| (x[0], x[1] as usize)));
-        // the Rust takes text; a byte over 127 may be cut by a row, and its value is never looked at
-        self.text.clear();
-        self.text.extend(call.bytes.iter().map(|&b| if b < 128 { b as char } else { '?' }));
-        match self.run.of(call.entry, &self.rows, &self.text, also) {
-            Ok(Some(Unchanged::Differs)) => Err(Wrong::Oracle),
-            Ok(unchanged) => Ok((Input::Parsed, unchanged)),
-            Err(text) => Err(Wrong::Panic(text)),
-        }
+        // the Rust takes text, and a row may cut a character
+        let (entry, rows, text) = (call.entry, &call.rows(), &ascii(&call.bytes));
+        let parsed = self.run.of(entry, rows, text, false).map_err(Wrong::Panic)?;
+        let unchanged = also.then(|| Unchanged::of(&self.run, &parsed, entry, rows, text));
+        if unchanged == Some(Unchanged::Differs) { Err(Wrong::Oracle) } else { Ok((Input::Parsed, unchanged)) }
     }
 
     pub fn expected(&self, input: Input, lengths: Lengths) -> Answer {
-        let refusal = match input {
+        let refused = match input {
             Input::Bad(number, place) => Some((number, place)),
             Input::Parsed => self.run.refusal(lengths),
         };
-        let [trees, errors, reports, pool] = &self.run.rows;
-        match refusal {
+        let [trees, errors, reports, pool] = self.run.rows.each_ref().map(Vec::len);
+        match refused {
             Some((number, place)) => Answer { number, place, ..Answer::default() },
-            None => Answer {
-                number: 0,
-                place: 0,
-                trees: trees.len() / 4,
-                errors: errors.len() / 3,
-                reports: reports.len() / 9,
-                expectations: pool.len(),
-            },
+            None => Answer::accepted([0, trees, errors, reports, pool]),
         }
     }
 
@@ -100,7 +86,7 @@ impl Judge {
         self.bytes.clone_from(&call.bytes);
         let lent = self.buffers.lent(garbage & 2 == 0);
         // Safety: each lent buffer has its length, and they are five vectors
-        let given = unsafe { ffi::parse(call.entry, &self.bytes, &self.tokens, lent) };
+        let given = unsafe { ffi::parse_lent(call.entry, &self.bytes, &self.tokens, lent) };
         let wrong = if given != expected {
             Some(Wrong::Answer)
         } else if self.tokens != call.tokens || self.bytes != call.bytes {

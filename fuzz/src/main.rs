@@ -1,9 +1,7 @@
 //! The static library against the Rust, in one process. ../docs/FUZZING.md says what is compared and how it is run.
 mod buffers;
 mod call;
-mod checks;
 mod exact;
-mod ffi;
 mod judge;
 mod make;
 mod rng;
@@ -12,34 +10,9 @@ mod seen;
 mod show;
 mod shrink;
 mod tally;
+mod unchanged;
 
-#[allow(dead_code)]
-#[path = "../../oracle/crates/oracle/src/case.rs"]
-mod case;
-#[allow(dead_code, unused_imports)]
-#[path = "../../oracle/crates/oracle/src/generate/mod.rs"]
-mod generate;
-
-/// The unchanged Rust.
-#[allow(dead_code)]
-mod orig {
-    use dt_tools_parser as pc;
-    include!("../../oracle/crates/oracle/src/show.rs");
-    include!("rows.rs");
-}
-
-/// The patched copy.
-#[allow(dead_code)]
-mod model {
-    use parser_doc01 as pc;
-    include!("../../oracle/crates/oracle/src/show.rs");
-    include!("../../oracle/crates/oracle/src/doc01.rs");
-    include!("rows.rs");
-    pub mod run;
-}
-
-/// What the oracle's generator writes to; not used here.
-type Out<'a> = std::io::BufWriter<std::io::StdoutLock<'a>>;
+use oracle::parsers::on_large_stack;
 
 const USAGE: &str = "fuzz run [--seed N] [--cases N] [--first N] [--unchanged N]
     compares; --unchanged N: in one of N cases with the unchanged Rust too (default 1, 0: never)
@@ -74,18 +47,8 @@ fn command(args: &[String]) -> bool {
     }
 }
 
-/// The Rust is recursive, so it runs on a large stack. Its panics are answers and stay quiet.
 fn main() {
     let args: Vec<String> = std::env::args().skip(1).collect();
-    let worker = std::thread::Builder::new().stack_size(1 << 30).spawn(move || {
-        let said = std::panic::take_hook();
-        std::panic::set_hook(Box::new(move |p| {
-            if !p.location().is_some_and(|l| l.file().contains("/parser")) {
-                said(p)
-            }
-        }));
-        command(&args)
-    });
-    let good = worker.expect("a thread").join().unwrap_or(false);
+    let good = on_large_stack(move || command(&args));
     std::process::exit(if good { 0 } else { 1 })
 }

@@ -1,20 +1,14 @@
-//! The splitmix64 generator. A case's numbers depend on the seed and the case's own number alone.
+//! Random numbers. A case's numbers depend on the seed and the case's own number alone.
+use oracle::rng::{STEP, SplitMix64, mix};
 
-pub struct Rng(u64);
-
-fn mix(mut z: u64) -> u64 {
-    z = (z ^ (z >> 30)).wrapping_mul(0xBF58476D1CE4E5B9);
-    z = (z ^ (z >> 27)).wrapping_mul(0x94D049BB133111EB);
-    z ^ (z >> 31)
-}
+pub struct Rng(SplitMix64);
 
 impl Rng {
     pub fn of_case(seed: u64, case: u64) -> Self {
-        Rng(mix(mix(seed.wrapping_add(0x9E3779B97F4A7C15)) ^ case))
+        Rng(SplitMix64(mix(mix(seed.wrapping_add(STEP)) ^ case)))
     }
     pub fn next(&mut self) -> u64 {
-        self.0 = self.0.wrapping_add(0x9E3779B97F4A7C15);
-        mix(self.0)
+        self.0.next_u64()
     }
     /// A number below `k`.
     pub fn n(&mut self, k: usize) -> usize {

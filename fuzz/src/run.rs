@@ -46,7 +46,7 @@ pub fn run(plan: &Plan) -> bool {
 pub fn chosen(r: &mut Rng, judge: &Judge, input: Input, call: &Call) -> [usize; 5] {
     match input {
         Input::Bad(..) => lengths::small(r),
-        Input::Parsed => lengths::around(r, judge.run.needs, call.tokens.len() / 2),
+        Input::Parsed => lengths::around(r, judge.run.needs(), call.tokens.len() / 2),
     }
 }
 

@@ -1,4 +1,5 @@
 //! Which codes the accepted calls of a run gave: a run that never gives one says nothing of it.
+use dt_parser_ffi::ROW;
 
 /// A bit for each code.
 #[derive(Default)]
@@ -23,12 +24,12 @@ fn list(set: u128) -> String {
 impl Seen {
     /// Tree, lexical errors, reports, pool.
     pub fn add(&mut self, rows: &[Vec<u32>; 4]) {
-        for row in rows[0].chunks_exact(4) {
+        for row in rows[0].chunks_exact(ROW[1]) {
             let set = if row[0] == 0 { &mut self.nodes } else { &mut self.leaves };
             *set |= 1 << row[1]
         }
-        rows[1].chunks_exact(3).for_each(|row| self.lexical |= 1 << row[0]);
-        for row in rows[2].chunks_exact(9) {
+        rows[1].chunks_exact(ROW[2]).for_each(|row| self.lexical |= 1 << row[0]);
+        for row in rows[2].chunks_exact(ROW[3]) {
             self.messages |= 1 << row[0];
             self.hints |= 1 << row[6]
         }

@@ -1,11 +1,12 @@
 //! Both answers to a call, for a reader.
 use crate::buffers::Held;
 use crate::call::Call;
-use crate::ffi::Answer;
 use crate::judge::{Judge, Verdict, Wrong};
+use dt_parser_ffi::{Answer, ROW};
 
 const BUFFERS: [&str; 5] = ["events", "tree", "lexical errors", "reports", "pool"];
-const ROWS: [usize; 5] = [3, 4, 3, 9, 16];
+/// A line of the pool has so many numbers.
+const POOL_LINE: usize = 16;
 
 pub fn quoted(line: &str) -> String {
     format!("'{}'", line.replace('\'', r"'\''"))
@@ -18,18 +19,19 @@ fn answer(a: &Answer) -> String {
     )
 }
 
-fn rows(name: &str, row: usize, numbers: &[u32]) {
-    println!("  {name}: {} numbers", numbers.len());
-    for (i, r) in numbers.chunks(row).enumerate() {
+fn rows(i: usize, numbers: &[u32]) {
+    println!("  {}: {} numbers", BUFFERS[i], numbers.len());
+    let row = if ROW[i] == 1 { POOL_LINE } else { ROW[i] };
+    for (at, r) in numbers.chunks(row).enumerate() {
         let line: Vec<_> = r.iter().map(u32::to_string).collect();
-        println!("    {i}: {}", line.join(" "))
+        println!("    {at}: {}", line.join(" "))
     }
 }
 
 fn expected_buffer(judge: &Judge, v: &Verdict, i: usize) {
     match judge.held(v.expected) {
         Held::AsItWas => println!("  {}: as it was", BUFFERS[i]),
-        Held::Rows(all) if i > 0 => rows(BUFFERS[i], ROWS[i], &all[i - 1]),
+        Held::Rows(all) if i > 0 => rows(i, &all[i - 1]),
         _ => println!("  {}: all zero", BUFFERS[i]),
     }
 }
@@ -52,7 +54,7 @@ pub fn both(judge: &mut Judge, call: &Call) -> bool {
             println!("expected buffers:");
             (0..5).for_each(|i| expected_buffer(judge, &v, i));
             println!("the library's buffers, whole:");
-            (0..5).for_each(|i| rows(BUFFERS[i], ROWS[i], judge.buffers.get(i)))
+            (0..5).for_each(|i| rows(i, judge.buffers.get(i)))
         }
     }
     v.wrong.is_none()

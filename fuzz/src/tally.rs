@@ -1,9 +1,9 @@
 //! Figures of a run.
 use crate::call::Call;
-use crate::ffi::Answer;
 use crate::make;
-use crate::model::run::Unchanged;
 use crate::seen::Seen;
+use crate::unchanged::Unchanged;
+use dt_parser_ffi::Answer;
 use std::time::Instant;
 
 pub struct Tally {

@@ -39,6 +39,22 @@ static uint32_t early(uint32_t entry, size_t n, const uint32_t *tokens, size_t t
     return t % 2 || at != n ? 3 : 0;
 }
 
+/* The rows, read as a caller reads them, are one tree over all of the input. */
+static void check_root(const char *name, const struct dt_tree_row *trees, size_t count, size_t n)
+{
+    if (count == 0 || trees[0].class_ != DT_CLASS_NODE || trees[0].width != n)
+        fail(name, "the root is not a node as wide as the input");
+    if (dt_after_subtree(trees, count, 0) != count)
+        fail(name, "the rows are not one tree");
+    size_t child = 1, width = 0;
+    for (uint32_t i = 0; i < trees[0].count; i++) {
+        width += trees[child].width;
+        child = dt_after_subtree(trees, count, child);
+    }
+    if (child != count || width != n)
+        fail(name, "the root's children are not side by side");
+}
+
 /* Number, place, counts and buffers agree with one another and with causes 1 to 3. Gives the number. */
 static uint32_t checked(const char *name, uint32_t entry, const uint8_t *bytes, size_t n, const uint32_t *tokens, size_t t,
                         struct buffer *b)
@@ -53,8 +69,8 @@ static uint32_t checked(const char *name, uint32_t entry, const uint8_t *bytes, 
         fail(name, "a number or a place that there is not");
     if (a.number && (a.trees || a.errors || a.reports || a.expectations))
         fail(name, "a refused call that counts something");
-    if (a.number == 0 && (a.trees == 0 || b[TREES].at[2] != n))
-        fail(name, "the root is not as wide as the input");
+    if (a.number == 0)
+        check_root(name, (const struct dt_tree_row *)b[TREES].at, a.trees, n);
     for (int i = 0; i < BUFFERS; i++) {
         int left = b[i].length > used[i] && a.number > 0 && a.number < 5;
         if (used[i] > b[i].length || rest(b[i], used[i]) != left)

@@ -36,7 +36,7 @@ static int all(struct buffer b, size_t from, uint32_t n)
     return 1;
 }
 
-/* What stands behind the counted rows: 0 zeros or nothing, 1 only what was lent, 2 anything else. */
+/* What stands after the counted rows: 0 zeros or nothing, 1 only what was lent, 2 anything else. */
 static int rest(struct buffer b, size_t from)
 {
     return all(b, from, 0) ? 0 : all(b, from, LENT) ? 1 : 2;
@@ -59,8 +59,8 @@ static struct dt_answer call(uint32_t entry, const uint8_t *bytes, size_t n, con
 static void counted(struct dt_answer a, size_t *out)
 {
     out[EVENTS] = 0;
-    out[TREES] = a.trees * 4;
-    out[ERRORS] = a.errors * 3;
-    out[REPORTS] = a.reports * 9;
+    out[TREES] = a.trees * DT_ROW_TREE;
+    out[ERRORS] = a.errors * DT_ROW_ERROR;
+    out[REPORTS] = a.reports * DT_ROW_REPORT;
     out[POOL] = a.expectations;
 }

@@ -66,7 +66,7 @@ static void again(const struct one *c, const size_t *lengths, uint32_t number, c
         if (number == 0 && memcmp(b[i].at, first[i].at, used[i] * sizeof(uint32_t)))
             fail(c->name, "other rows in buffers that just fit");
         if (rest(b[i], number == 0 ? used[i] : 0) != 0)
-            fail(c->name, "a buffer is not zero behind its rows");
+            fail(c->name, "a buffer is not zero after its rows");
         give_back(c->name, b[i]);
     }
 }

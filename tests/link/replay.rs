@@ -1,37 +1,7 @@
-//! Runs the cases of a list, in the form that crates/replay says, over the static library and prints what the gate's program prints.
+//! Runs the cases of a list, in the form that crates/replay says, over the static library and prints what the gate's
+//! program prints.
+use dt_parser_ffi::{Answer, parse};
 use std::io::Write;
-
-/// The call's answer, as the C header has it.
-#[repr(C)]
-#[derive(Clone, Copy)]
-struct Answer {
-    number: u32,
-    place: usize,
-    trees: usize,
-    errors: usize,
-    reports: usize,
-    expectations: usize,
-}
-
-unsafe extern "C" {
-    fn dt_parse(
-        entry: u32,
-        bytes: *const u8,
-        bytes_len: usize,
-        tokens: *const u32,
-        tokens_len: usize,
-        events: *mut u32,
-        events_len: usize,
-        trees: *mut u32,
-        trees_len: usize,
-        errors: *mut u32,
-        errors_len: usize,
-        reports: *mut u32,
-        reports_len: usize,
-        pool: *mut u32,
-        pool_len: usize,
-    ) -> Answer;
-}
 
 /// What each number of a buffer is before a call. No row holds it.
 const LENT: u32 = 4042322160;
@@ -40,32 +10,9 @@ const LETTERS: [&str; 5] = ["-", "t", "x", "r", "e"];
 /// Events, trees, errors, reports, pool.
 type Buffers = [Vec<u32>; 5];
 
-fn parse(entry: u32, bytes: &[u8], tokens: &[u32], buffers: &mut Buffers) -> Answer {
-    let [e, t, x, r, p] = buffers;
-    unsafe {
-        dt_parse(
-            entry,
-            bytes.as_ptr(),
-            bytes.len(),
-            tokens.as_ptr(),
-            tokens.len(),
-            e.as_mut_ptr(),
-            e.len(),
-            t.as_mut_ptr(),
-            t.len(),
-            x.as_mut_ptr(),
-            x.len(),
-            r.as_mut_ptr(),
-            r.len(),
-            p.as_mut_ptr(),
-            p.len(),
-        )
-    }
-}
-
-/// What stands behind the counted rows: 0 zeros or nothing, 1 only what was lent, 2 anything else.
-fn rest(behind: &[u32]) -> u32 {
-    match behind {
+/// What stands after the counted rows: 0 zeros or nothing, 1 only what was lent, 2 anything else.
+fn rest(after: &[u32]) -> u32 {
+    match after {
         b if b.iter().all(|&n| n == 0) => 0,
         b if b.iter().all(|&n| n == LENT) => 1,
         _ => 2,
@@ -73,7 +20,7 @@ fn rest(behind: &[u32]) -> u32 {
 }
 
 fn print(out: &mut impl Write, name: &str, a: Answer, buffers: &Buffers) -> std::io::Result<()> {
-    let used = [0, a.trees * 4, a.errors * 3, a.reports * 9, a.expectations];
+    let used = a.used();
     write!(out, "{name} {} {} {} {} {} {}", a.number, a.place, a.trees, a.errors, a.reports, a.expectations)?;
     for (b, n) in buffers.iter().zip(used) {
         write!(out, " {}", rest(&b[n..]))?

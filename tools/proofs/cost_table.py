@@ -1,5 +1,5 @@
 #!/usr/bin/env python3
-"""Finds the numbers of the tables in crates/numbers/proofs/Tables.antt.
+"""Finds the numbers of the tables in crates/bounds/proofs/Tables.antt.
 
     python3 tools/proofs/cost_table.py events      (or: reports, nodes)
     python3 tools/proofs/cost_table.py 1 2 1 13 100     (any other price: leaf, marker, report, credit, base)

@@ -1,44 +1,24 @@
-//! bench times RUNS INPUT..          a line for each input: medians of so many interleaved rounds
+//! bench facts INPUT                 its tokens and bytes, the rows of its answer, bytes of the lent buffers
+//! bench times ROUNDS INPUT..        a line for each input: medians of so many interleaved rounds
 //! bench lengths INPUT               lengths of the lent buffers that just suffice
 //! bench once WHAT INPUT LENGTHS     one run inside `measured`, for callgrind --toggle-collect
+use bench::clock::{median, ns};
 use bench::input::Input;
-use bench::port::{Port, bound};
+use bench::port::Port;
 use bench::rust;
+use dt_parser_ffi::bound;
+use oracle::parsers::on_large_stack;
 use std::hint::black_box;
 
-/// C's struct timespec on x86-64 Linux.
-#[repr(C)]
-struct Time {
-    seconds: i64,
-    nanoseconds: i64,
-}
-
-const CLOCK_THREAD_CPUTIME_ID: i32 = 3;
-
-unsafe extern "C" {
-    fn clock_gettime(clock: i32, time: *mut Time) -> i32;
-}
-
-/// Processor time of this thread in nanoseconds: what else runs on the machine is not counted.
-fn now() -> f64 {
-    let mut t = Time { seconds: 0, nanoseconds: 0 };
-    // Safety: writes one struct
-    unsafe { clock_gettime(CLOCK_THREAD_CPUTIME_ID, &mut t) };
-    t.seconds as f64 * 1e9 + t.nanoseconds as f64
-}
-
-/// What the work gives is freed after the clock stops.
-fn ns<T>(work: impl FnOnce() -> T) -> f64 {
-    let start = now();
-    let answer = black_box(work());
-    let took = now() - start;
-    drop(answer);
-    took
-}
-
-fn median(mut v: Vec<f64>) -> f64 {
-    v.sort_by(f64::total_cmp);
-    v[v.len() / 2]
+/// Columns: input, tokens, bytes, tree rows, lexical errors, reports, expectations, bytes of the lent buffers, bytes by
+/// the bound.
+fn facts(name: &str) {
+    let input: Input = name.parse().expect("an input");
+    let mut port = Port::fitting(&input);
+    let (n, a) = (input.rows.len(), port.parse(&input));
+    let bound_bytes = 4 * bound(n).iter().sum::<usize>();
+    print!("{name},{n},{},{},{},{},", input.text.len(), a.trees, a.errors, a.reports);
+    println!("{},{},{bound_bytes}", a.expectations, port.bytes())
 }
 
 /// Times of one input, a number for each round.
@@ -66,28 +46,26 @@ impl Timed {
         self.freed.push(ns(|| drop(rust::parse(&self.input))))
     }
 
-    /// Columns: input, tokens, bytes, tree rows, lexical errors, reports, expectations, bytes of the lent buffers, bytes by
-    /// the bound; medians in ns: port, Rust's copy of the tokens, Rust with that copy, Rust with copy and freeing; the median
-    /// of port / (Rust less copy) over the rounds; the port's ns in buffers as long as the bound says.
-    fn write(mut self) {
-        let (input, a) = (&self.input, self.port.parse(&self.input));
-        let n = input.rows.len();
-        let bound_bytes = 4 * bound(n).iter().sum::<usize>();
-        print!("{},{n},{},{},{},{},{},", input.name, input.text.len(), a.trees, a.errors, a.reports, a.expectations);
-        print!("{},{bound_bytes},", self.port.bytes());
-        let ratio = |i: usize| self.ours[i] / (self.whole[i] - self.copy[i]);
-        let ratios = (0..self.ours.len()).map(ratio).collect();
-        let mut large = Port::with(bound(n));
-        let in_bound = (0..7).map(|_| ns(|| large.parse(input))).collect();
+    /// The median over the rounds of port / (Rust less the copy of its tokens).
+    fn ratio(&self, rust: &[f64]) -> f64 {
+        median((0..self.ours.len()).map(|i| self.ours[i] / (rust[i] - self.copy[i])).collect())
+    }
+
+    /// Columns: input; medians in ns: port, Rust's copy of the tokens, Rust with that copy, Rust with copy and freeing;
+    /// the ratios to the last two; the port's ns in buffers as long as the bound says.
+    fn write(self) {
+        let ratios = [&self.whole, &self.freed].map(|v| format!("{:.3}", self.ratio(v)));
+        let mut large = Port::with(bound(self.input.rows.len()));
+        let in_bound = (0..7).map(|_| ns(|| large.parse(&self.input))).collect();
         let times = [self.ours, self.copy, self.whole, self.freed].map(|v| format!("{:.0}", median(v)));
-        println!("{},{:.3},{:.0}", times.join(","), median(ratios), median(in_bound))
+        println!("{},{},{},{:.0}", self.input.name, times.join(","), ratios.join(","), median(in_bound))
     }
 }
 
 /// In each round every input has its turn, so that whatever else the machine does falls on all alike.
-fn times(runs: usize, names: &[String]) {
+fn times(rounds: usize, names: &[String]) {
     let mut all: Vec<_> = names.iter().map(|n| Timed::new(n)).collect();
-    for _ in 0..runs {
+    for _ in 0..rounds {
         all.iter_mut().for_each(Timed::round)
     }
     all.into_iter().for_each(Timed::write)
@@ -129,19 +107,18 @@ fn run() {
     let args: Vec<String> = std::env::args().skip(1).collect();
     match args.first().map(String::as_str) {
         Some("times") if args.len() > 2 => {
-            let runs = args[1].parse().expect("a number of runs");
-            times(runs, &args[2..])
+            let rounds = args[1].parse().expect("a number of rounds");
+            times(rounds, &args[2..])
         }
+        Some("facts") if args.len() == 2 => facts(&args[1]),
         Some("lengths") if args.len() == 2 => lengths(&args[1]),
         Some("once") if args.len() == 4 => once(&args[1], &args[2], &args[3]),
-        _ => panic!("bench times RUNS INPUT.. | bench lengths INPUT | bench once port|copy|rust INPUT LENGTHS"),
+        _ => {
+            panic!("bench facts INPUT | times ROUNDS INPUT.. | lengths INPUT | once port|copy|rust INPUT LENGTHS")
+        }
     }
 }
 
-/// The Rust frees its tree by recursion, so it gets a large stack.
 fn main() {
-    let worker = std::thread::Builder::new().stack_size(1 << 30).spawn(run);
-    if worker.expect("a thread").join().is_err() {
-        std::process::exit(1)
-    }
+    on_large_stack(run)
 }

@@ -1,6 +1,7 @@
 //! memory INPUT..: the most heap bytes that the Rust's parse has at once beyond its input, and what its answer keeps.
 use bench::input::Input;
 use bench::rust;
+use oracle::parsers::on_large_stack;
 use std::alloc::{GlobalAlloc, Layout, System};
 use std::sync::atomic::{AtomicUsize, Ordering::Relaxed};
 
@@ -49,8 +50,5 @@ fn run() {
 }
 
 fn main() {
-    let worker = std::thread::Builder::new().stack_size(1 << 30).spawn(run);
-    if worker.expect("a thread").join().is_err() {
-        std::process::exit(1)
-    }
+    on_large_stack(run)
 }

@@ -1,8 +1,9 @@
-//! Lists the properties of a file of token rows with the node that each stands in, whatever is wrong with the file.
+//! Lists the properties of a file of token rows, each with its line and the nodes that it stands in, whatever is wrong
+//! with the file.
 //!
 //! `cargo run --example properties -- ../../examples/board.rows`
 
-use dt_parser::{Leaf, Node, NodeKind, TokenKind, rowsfile::RowsFile};
+use dt_parser::{Columns, Leaf, LineIndex, Node, NodeKind, TextRange, TokenKind, rowsfile::RowsFile};
 use std::error::Error;
 
 fn main() -> Result<(), Box<dyn Error>> {
@@ -10,19 +11,22 @@ fn main() -> Result<(), Box<dyn Error>> {
     let bytes = std::fs::read(path)?;
     let file = RowsFile::read(&bytes)?;
     let parse = file.entry.parse(&file.input)?;
+    let lines = LineIndex::new(file.input.text);
+    let place = |range: TextRange| lines.position(range.start, Columns::Characters).expect("a range of the text");
 
-    for property in parse.tree.root().descendant_nodes().filter(|node| node.kind() == NodeKind::DtProperty) {
-        let nodes = property.ancestors().filter(|node| node.kind() == NodeKind::DtNode);
+    for property in parse.tree.root().nodes_below().filter(|node| node.kind() == NodeKind::DtProperty) {
+        let nodes = property.nodes_above().filter(|node| node.kind() == NodeKind::DtNode);
         let values = property.child(NodeKind::PropValueList).map(|values| format!(" = {}", values.text_lossy()));
         println!(
-            "{}{} in {}",
+            "{}: {}{} in {}",
+            place(property.range()),
             name(property),
             values.unwrap_or_default(),
             nodes.map(name).collect::<Vec<_>>().join(" in ")
         );
     }
     for report in &parse.reports {
-        println!("{}: {report}", report.range);
+        println!("{}: {report}", place(report.range));
     }
     Ok(())
 }

@@ -1,12 +1,7 @@
 //! The lent buffers, and how much room is tried.
 
+use crate::rows::{EVENT_ROW, ErrorRow, ReportRow, TreeRow};
 use crate::{Input, Refusal};
-
-/// Numbers in an event, a row of the tree, a lexical error and a report.
-pub(crate) const EVENT_ROW: usize = 3;
-pub(crate) const TREE_ROW: usize = 4;
-pub(crate) const ERROR_ROW: usize = 3;
-pub(crate) const REPORT_ROW: usize = 9;
 
 /// The five buffers that a call writes.
 #[derive(Debug, Default)]
@@ -22,9 +17,9 @@ impl Buffers {
     /// Gives each buffer the length that the room asks for. What they hold does not matter: no answer depends on it.
     pub fn set_room(&mut self, room: Room) {
         self.events.resize(EVENT_ROW * room.events, 0);
-        self.trees.resize(TREE_ROW * room.trees, 0);
-        self.errors.resize(ERROR_ROW * room.errors, 0);
-        self.reports.resize(REPORT_ROW * room.reports, 0);
+        self.trees.resize(TreeRow::SIZE * room.trees, 0);
+        self.errors.resize(ErrorRow::SIZE * room.errors, 0);
+        self.reports.resize(ReportRow::SIZE * room.reports, 0);
         self.pool.resize(room.pool, 0);
     }
 }
@@ -47,7 +42,7 @@ impl Room {
         guess.at_most(Self::most(input))
     }
 
-    /// What suffices for every run on so many tokens: the theorem of crates/numbers, 13 n + 1 events, 6 n + 1 tree rows,
+    /// What suffices for every run on so many tokens: the theorem of crates/bounds, 13 n + 1 events, 6 n + 1 tree rows,
     /// 3 n + 1 reports and 768 n + 256 expectations. There are as many lexical errors as error tokens.
     pub fn most(input: &Input<'_>) -> Self {
         let n = input.tokens.len().min(Input::MAX_TOKENS);
@@ -110,6 +105,26 @@ mod tests {
                 turns += 1;
             }
             assert!(turns > 0 && turns < 20, "{refusal}: {turns}");
+        }
+    }
+
+    /// `#define DT_EVENTS_FOR(n) (DT_ROW_EVENT * (13 * (size_t)(n) + 1))`: 13 and 1.
+    fn bound(name: &str) -> Vec<usize> {
+        let text = std::fs::read_to_string(concat!(env!("CARGO_MANIFEST_DIR"), "/../../include/dt_parser.h")).unwrap();
+        let line = text.lines().find(|line| line.contains(&format!("DT_{name}_FOR(n)"))).unwrap();
+        line.split(|c: char| !c.is_alphanumeric() && c != '_').filter_map(|word| word.parse().ok()).collect()
+    }
+
+    #[test]
+    fn the_bounds_are_those_of_the_c_header() {
+        for n in [0, 1, 1000] {
+            let most = Room::most(&blanks(n));
+            let rooms =
+                [("EVENTS", most.events), ("TREES", most.trees), ("REPORTS", most.reports), ("POOL", most.pool)];
+            for (name, room) in rooms {
+                let bound = bound(name);
+                assert_eq!(room, bound[0] * n + bound[1], "{name}");
+            }
         }
     }
 

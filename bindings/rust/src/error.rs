@@ -4,6 +4,7 @@ use std::fmt;
 
 /// A refused call: document 01's causes 1 to 8.
 #[derive(Debug, Clone, Copy, PartialEq, Eq, Hash)]
+#[non_exhaustive]
 pub enum Refusal {
     /// 1: the entry is none of 1 to 4.
     UnknownEntry,
@@ -28,17 +29,34 @@ impl Refusal {
     /// The refusal that a call's number and place stand for.
     #[must_use]
     pub const fn from_number(number: u32, place: usize) -> Option<Self> {
-        Some(match number {
-            1 => Self::UnknownEntry,
-            2 => Self::TooLong,
-            3 => Self::BadRow(place),
-            4 => Self::BadText(place),
-            5 => Self::TooDeep(place),
-            6 => Self::NoEventRoom(place),
-            7 => Self::NoReportRoom(place),
-            8 => Self::NoTreeRoom,
-            _ => return None,
-        })
+        let all = Self::all_at(place);
+        let mut i = 0;
+        while i < all.len() {
+            if all[i].number() == number {
+                return Some(all[i]);
+            }
+            i += 1;
+        }
+        None
+    }
+
+    /// Every refusal, with this place where it has one.
+    const fn all_at(place: usize) -> [Self; 8] {
+        [
+            Self::UnknownEntry,
+            Self::TooLong,
+            Self::BadRow(place),
+            Self::BadText(place),
+            Self::TooDeep(place),
+            Self::NoEventRoom(place),
+            Self::NoReportRoom(place),
+            Self::NoTreeRoom,
+        ]
+    }
+
+    /// Whether a buffer was too small, and not the input refused.
+    pub(crate) const fn is_about_room(self) -> bool {
+        matches!(self, Self::NoEventRoom(_) | Self::NoReportRoom(_) | Self::NoTreeRoom)
     }
 
     /// Its number, 1 to 8.
@@ -94,10 +112,11 @@ impl std::error::Error for Refusal {}
 
 /// Why a parse gave no answer.
 #[derive(Debug, Clone, Copy, PartialEq, Eq, Hash)]
+#[non_exhaustive]
 pub enum Error {
     /// The call was refused for its input: one of the refusals 1 to 5. (6 to 8 are met with larger buffers.)
     Refused(Refusal),
-    /// Refused for lack of room with buffers that every run on so many tokens fits, by a theorem (crates/numbers).
+    /// Refused for lack of room with buffers that every run on so many tokens fits, by a theorem (crates/bounds).
     /// So the linked library is not the proved one.
     LimitPassed {
         /// What there was no room for.

@@ -12,6 +12,7 @@ use std::fmt;
 /// assert_eq!(Expected::End.to_string(), "end of input");
 /// ```
 #[derive(Debug, Clone, Copy, PartialEq, Eq, Hash)]
+#[non_exhaustive]
 pub enum Expected {
     /// A token of this kind.
     Kind(TokenKind),
@@ -53,21 +54,30 @@ impl Expected {
     /// The expectation with this number.
     #[must_use]
     pub const fn from_number(number: u32) -> Option<Self> {
-        Some(match number {
-            101 => Self::PreprocessorDirective,
-            102 => Self::PreprocessorDefinedOperator,
-            103 => Self::Value,
-            104 => Self::Cell,
-            105 => Self::LabelName,
-            106 => Self::InfixOperator,
-            107 => Self::PrefixOperator,
-            108 => Self::End,
-            _ => match TokenKind::from_number(number) {
-                Some(kind) => Self::Kind(kind),
-                None => return None,
-            },
-        })
+        let mut i = 0;
+        while i < Self::OTHERS.len() {
+            if Self::OTHERS[i].number() == number {
+                return Some(Self::OTHERS[i]);
+            }
+            i += 1;
+        }
+        match TokenKind::from_number(number) {
+            Some(kind) => Some(Self::Kind(kind)),
+            None => None,
+        }
     }
+
+    /// All that are not a kind of token, in the order of their numbers.
+    pub const OTHERS: [Self; 8] = [
+        Self::PreprocessorDirective,
+        Self::PreprocessorDefinedOperator,
+        Self::Value,
+        Self::Cell,
+        Self::LabelName,
+        Self::InfixOperator,
+        Self::PrefixOperator,
+        Self::End,
+    ];
 }
 
 /// The words that reports use, as in dt-tools.

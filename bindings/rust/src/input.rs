@@ -1,5 +1,6 @@
 //! What is parsed: a text and the tokens over it.
 
+use crate::rows::TokenRow;
 use crate::{LexError, TextRange, TokenKind};
 
 /// A token: what it is, and how many bytes of the text it takes.
@@ -89,12 +90,13 @@ impl<'i> Input<'i> {
         })
     }
 
-    /// The rows that a call takes: kind and length, one after the other.
+    /// The rows that a call takes, one after the other.
     pub(crate) fn rows(&self) -> Vec<u32> {
-        self.tokens.iter().flat_map(|token| [token.number(), token.length]).collect()
+        let row = |token: &Token| TokenRow { kind: token.number(), length: token.length };
+        self.tokens.iter().flat_map(|token| <[u32; TokenRow::SIZE]>::from(row(token))).collect()
     }
 
-    /// What the parser sees from this token on: the first that is no trivia, none at the end.
+    /// What the parser sees from this token on: the first that is not trivia, none at the end.
     pub(crate) fn seen_from(&self, token: usize) -> Option<TokenKind> {
         let rest = self.tokens.get(token..).unwrap_or_default();
         rest.iter().find(|token| !token.is_trivia()).map(|token| token.seen_kind())

@@ -1,5 +1,6 @@
 //! Lexical errors: the error tokens of the input.
 
+use crate::rows::ErrorRow;
 use crate::{Error, LexError, TextRange};
 use std::fmt;
 
@@ -21,9 +22,9 @@ impl fmt::Display for LexicalError {
 
 impl std::error::Error for LexicalError {}
 
-/// Rows of number, start and end.
-pub(crate) fn read(rows: &[[u32; 3]]) -> Result<Vec<LexicalError>, Error> {
-    let one = |(row, &[number, start, end]): (usize, &[u32; 3])| {
+pub(crate) fn read(rows: &[[u32; ErrorRow::SIZE]]) -> Result<Vec<LexicalError>, Error> {
+    let one = |(row, numbers): (usize, &[u32; ErrorRow::SIZE])| {
+        let ErrorRow { number, start, end } = (*numbers).into();
         let error = LexError::from_number(number).ok_or(Error::BadAnswer { expected: "a lexical error", row })?;
         Ok(LexicalError { error, range: TextRange { start: start as usize, end: end as usize } })
     };

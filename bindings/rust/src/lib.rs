@@ -26,6 +26,27 @@
 //! # Ok::<(), Box<dyn std::error::Error>>(())
 //! ```
 //!
+//! # Places, and trees to keep
+//!
+//! A range is in bytes. [`LineIndex`] turns an offset into a line and a column, counted in bytes, in characters or, as
+//! editors want it, in units of UTF-16; and back. A [`Parse`] borrows the text that it was made from;
+//! [`Parse::into_owned`] gives one that can be kept without it, sent to another thread, and asked for the
+//! [node at a range](Tree::covering_node) or the [leaf at an offset](Tree::leaf_at) later.
+//!
+//! ```
+//! use dt_parser::{Columns, LineIndex, OwnedParse, rowsfile::RowsFile};
+//!
+//! let rows = b"devicetree tokens 1\nrows 4\nIdent 1\nSemicolon 1\nWhitespace 1\nRCurly 1\ntext 4\na;\n}";
+//! let file = RowsFile::read(rows)?;
+//! let kept: OwnedParse = file.entry.parse(&file.input)?.into_owned();
+//! let index = LineIndex::new(kept.tree.text());
+//!
+//! let range = kept.reports[0].range; // of the `}` that closes nothing
+//! let place = index.position(range.start, Columns::Characters).expect("it lies in the text");
+//! assert_eq!(format!("{place}: {}", kept.reports[0]), "2:1: Unmatched `}`");
+//! # Ok::<(), Box<dyn std::error::Error>>(())
+//! ```
+//!
 //! # What is proved and what is not
 //!
 //! The call that this crate makes is proved to answer every input as the definitions say (docs/READING.md). Not proved is
@@ -36,6 +57,10 @@
 #![deny(unsafe_code)]
 #![deny(missing_docs)]
 
+// For the tests that are also used from outside (tests/common).
+#[cfg(test)]
+extern crate self as dt_parser;
+
 mod buffers;
 mod entrypoint;
 mod error;
@@ -43,12 +68,15 @@ mod expected;
 mod input;
 mod lex_error;
 mod lexical;
+mod line_index;
 mod message;
+mod navigate;
 mod node_kind;
 mod numbered;
 mod parser;
 mod range;
 mod report;
+mod rows;
 pub mod rowsfile;
 mod sys;
 mod token_kind;
@@ -62,11 +90,12 @@ pub use expected::Expected;
 pub use input::{Input, Token};
 pub use lex_error::LexError;
 pub use lexical::LexicalError;
+pub use line_index::{Columns, LineEnds, LineIndex, Position};
 pub use message::{Hint, Message};
 pub use node_kind::NodeKind;
-pub use parser::{Parse, Parser};
+pub use parser::{OwnedParse, Parse, Parser};
 pub use range::TextRange;
 pub use report::{Label, Report};
 pub use token_kind::TokenKind;
-pub use tree::Tree;
+pub use tree::{OwnedTree, Tree};
 pub use walk::{Item, Leaf, Node};

@@ -1,6 +1,7 @@
 //! A call with owned buffers.
 
 use crate::buffers::{Buffers, Room};
+use crate::rows;
 use crate::sys::{self, Answer};
 use crate::{Entrypoint, Error, Input, LexicalError, Refusal, Report, Tree};
 use crate::{lexical, report};
@@ -22,6 +23,7 @@ pub struct Parser {
 
 /// What a parse gives: the tree, and what is wrong.
 #[derive(Debug, Clone)]
+#[non_exhaustive]
 pub struct Parse<'i> {
     /// The tree. It holds every token of the input.
     pub tree: Tree<'i>,
@@ -38,7 +40,17 @@ impl Parse<'_> {
     pub fn is_clean(&self) -> bool {
         self.reports.is_empty() && self.lexical_errors.is_empty()
     }
+
+    /// The same without a borrow of the input, to be kept: the text is copied where it is borrowed.
+    /// [`Tree::into_owned`] has an example.
+    #[must_use]
+    pub fn into_owned(self) -> OwnedParse {
+        Parse { tree: self.tree.into_owned(), lexical_errors: self.lexical_errors, reports: self.reports }
+    }
 }
+
+/// A parse that borrows nothing: [`Parse::into_owned`].
+pub type OwnedParse = Parse<'static>;
 
 impl Parser {
     /// A parser without buffers; they are made when they are needed.
@@ -48,7 +60,7 @@ impl Parser {
     }
 
     /// Parses the input. Where a buffer is too small (refusals 6 to 8) the call is made again with a larger one, up to
-    /// what every run fits by the theorem of crates/numbers.
+    /// what every run fits by the theorem of crates/bounds.
     ///
     /// # Errors
     ///
@@ -77,7 +89,7 @@ impl Parser {
                 .ok_or(Error::BadAnswer { expected: "a refusal from 1 to 8", row: 0 })?;
             match room.after(refusal, most) {
                 Some(more) => room = more,
-                None if refusal.number() <= 5 => return Err(Error::Refused(refusal)),
+                None if !refusal.is_about_room() => return Err(Error::Refused(refusal)),
                 None => {
                     return Err(Error::LimitPassed { refusal, tokens: input.tokens.len() });
                 }
@@ -90,17 +102,11 @@ impl Parser {
         let Buffers { trees, errors, reports, pool, .. } = &self.buffers;
         let pool = pool.get(..answer.expectations).ok_or(short("expectations"))?;
         Ok(Parse {
-            tree: Tree::read(rows(trees, answer.trees, "tree rows")?, input)?,
-            lexical_errors: lexical::read(rows(errors, answer.errors, "lexical errors")?)?,
-            reports: report::read(rows(reports, answer.reports, "reports")?, pool, input)?,
+            tree: Tree::read(rows::front(trees, answer.trees).ok_or(short("tree rows"))?, input)?,
+            lexical_errors: lexical::read(rows::front(errors, answer.errors).ok_or(short("lexical errors"))?)?,
+            reports: report::read(rows::front(reports, answer.reports).ok_or(short("reports"))?, pool, input)?,
         })
     }
-}
-
-/// The first rows of a buffer.
-fn rows<'b, const N: usize>(buffer: &'b [u32], count: usize, what: &'static str) -> Result<&'b [[u32; N]], Error> {
-    let (rows, _) = buffer.as_chunks::<N>();
-    rows.get(..count).ok_or(short(what))
 }
 
 fn short(expected: &'static str) -> Error {

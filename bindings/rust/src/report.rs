@@ -1,10 +1,12 @@
 //! The parser's reports.
 
+use crate::rows::ReportRow;
 use crate::{Error, Expected, Hint, Input, Message, TextRange, TokenKind};
 use std::fmt;
 
 /// Something that the parser did not understand. It goes on after it.
 #[derive(Debug, Clone, PartialEq, Eq, Hash)]
+#[non_exhaustive]
 pub struct Report {
     /// What it says.
     pub message: Message,
@@ -108,28 +110,28 @@ impl fmt::Display for Report {
 impl std::error::Error for Report {}
 
 /// Report rows with their expectations.
-pub(crate) fn read(rows: &[[u32; 9]], pool: &[u32], input: &Input<'_>) -> Result<Vec<Report>, Error> {
+pub(crate) fn read(rows: &[[u32; ReportRow::SIZE]], pool: &[u32], input: &Input<'_>) -> Result<Vec<Report>, Error> {
     rows.iter().enumerate().map(|(i, row)| read_one(i, row, pool, input)).collect()
 }
 
-fn read_one(row: usize, numbers: &[u32; 9], pool: &[u32], input: &Input<'_>) -> Result<Report, Error> {
-    let bad = |expected| Error::BadAnswer { expected, row };
-    let [message, _, _, _, _, _, hint, _, _] = *numbers;
-    let [_, start, end, mark, first, count, _, label_start, label_end] = numbers.map(|n| n as usize);
+fn read_one(i: usize, numbers: &[u32; ReportRow::SIZE], pool: &[u32], input: &Input<'_>) -> Result<Report, Error> {
+    let bad = |expected| Error::BadAnswer { expected, row: i };
+    let row = ReportRow::from(*numbers);
+    let (first, count) = (row.pool_first as usize, row.pool_count as usize);
     let codes = pool.get(first..first.saturating_add(count)).ok_or(bad("a part of the pool"))?;
     let expected = codes.iter().map(|code| Expected::from_number(*code));
-    let range = TextRange { start, end };
-    let label = TextRange { start: label_start, end: label_end };
-    if end < start || end > input.text.len() || label_end < label_start || label_end > input.text.len() {
+    let range = TextRange { start: row.start as usize, end: row.end as usize };
+    let label = TextRange { start: row.label_start as usize, end: row.label_end as usize };
+    if [range, label].iter().any(|range| range.end < range.start || range.end > input.text.len()) {
         return Err(bad("a range of the text"));
     }
     Ok(Report {
-        message: Message::from_number(message).ok_or(bad("a message"))?,
+        message: Message::from_number(row.message).ok_or(bad("a message"))?,
         range,
-        mark,
+        mark: row.mark as usize,
         expected: expected.collect::<Option<_>>().ok_or(bad("an expectation"))?,
-        found: input.seen_from(mark),
-        hint: match hint {
+        found: input.seen_from(row.mark as usize),
+        hint: match row.hint {
             0 => None,
             n => Some(Hint::from_number(n).ok_or(bad("a hint"))?),
         },

@@ -244,7 +244,30 @@ impl TokenKind {
 
     /// dt-tools closes the quotes of these with the opening sign, and so its texts are kept.
     const fn closed_by_opening_sign(self) -> bool {
-        matches!(self.number(), 17..=24 | 49 | 53..=60)
+        let is_dts_directive = matches!(
+            self,
+            Self::BitsDirective
+                | Self::OmitIfNoRefDirective
+                | Self::DtIncludeDirective
+                | Self::MemreserveDirective
+                | Self::DeleteNodeDirective
+                | Self::DeletePropertyDirective
+                | Self::V1Directive
+                | Self::PluginDirective
+        );
+        let is_late_operator = matches!(
+            self,
+            Self::BitwiseXor
+                | Self::LogicalAnd
+                | Self::LogicalOr
+                | Self::LogicalNot
+                | Self::RelationalLtEq
+                | Self::RelationalGtEq
+                | Self::RelationalEq
+                | Self::RelationalNeq
+                | Self::QuestionMark
+        );
+        is_dts_directive || is_late_operator
     }
 }
 

@@ -1,6 +1,8 @@
 //! The tree: rows in preorder, with what is needed to walk it in any direction.
 
+use crate::rows::{self, TreeRow};
 use crate::{Error, Input, Item, Leaf, Node, NodeKind, TokenKind};
+use std::borrow::Cow;
 use std::fmt;
 
 /// What a row stands for.
@@ -44,15 +46,42 @@ pub(crate) struct Row {
 /// ```
 #[derive(Clone)]
 pub struct Tree<'i> {
-    pub(crate) text: &'i [u8],
+    pub(crate) text: Cow<'i, [u8]>,
     pub(crate) rows: Vec<Row>,
 }
+
+/// A tree that borrows nothing: [`Tree::into_owned`].
+pub type OwnedTree = Tree<'static>;
 
 impl<'i> Tree<'i> {
     /// The text that was parsed.
     #[must_use]
-    pub const fn text(&self) -> &'i [u8] {
-        self.text
+    pub fn text(&self) -> &[u8] {
+        &self.text
+    }
+
+    /// The same tree without a borrow of the input, to be kept: the text is copied where it is borrowed.
+    ///
+    /// A [`Node`] borrows its tree. What is to be kept beside an owned tree is the node's [row](Node::row), which
+    /// [`Tree::item`] turns into the node again.
+    ///
+    /// ```
+    /// use dt_parser::{Entrypoint, Input, NodeKind, OwnedTree, Token, TokenKind};
+    ///
+    /// fn tree_of(text: String) -> OwnedTree {
+    ///     let tokens = vec![Token::new(TokenKind::Ident, 1), Token::new(TokenKind::Semicolon, 1)];
+    ///     let parse = Entrypoint::SourceFile.parse(&Input::new(text.as_bytes(), tokens)).expect("two good tokens");
+    ///     parse.tree.into_owned() // the text is dropped here
+    /// }
+    ///
+    /// let tree = tree_of("a;".to_string());
+    /// let row = tree.root().child(NodeKind::DtProperty).expect("there is one").row();
+    /// let tree = std::thread::spawn(move || tree).join().expect("it goes to another thread and back");
+    /// assert_eq!(tree.item(row).expect("the row is there").text(), b"a;");
+    /// ```
+    #[must_use]
+    pub fn into_owned(self) -> OwnedTree {
+        Tree { text: Cow::Owned(self.text.into_owned()), rows: self.rows }
     }
 
     /// The root.
@@ -61,28 +90,28 @@ impl<'i> Tree<'i> {
         Node { tree: self, row: 0 }
     }
 
-    /// The leaf that has the byte at this offset.
+    /// How many nodes and leaves there are.
     #[must_use]
-    pub fn leaf_at(&self, offset: usize) -> Option<Leaf<'_>> {
-        let mut node = self.root();
-        loop {
-            match node.children().find(|item| item.range().contains(offset))? {
-                Item::Node(inner) => node = inner,
-                Item::Leaf(leaf) => return Some(leaf),
-            }
-        }
+    pub fn item_count(&self) -> usize {
+        self.rows.len()
     }
 
-    pub(crate) fn item(&self, row: usize) -> Item<'_> {
-        match self.rows[row].kind {
+    /// The node or leaf with this [row](Node::row); none past the last.
+    #[must_use]
+    pub fn item(&self, row: usize) -> Option<Item<'_>> {
+        Some(match self.rows.get(row)?.kind {
             RowKind::Node(_) => Item::Node(Node { tree: self, row }),
             RowKind::Leaf(_) => Item::Leaf(Leaf { tree: self, row }),
-        }
+        })
     }
 
-    /// Reads rows of class, kind, width and count. They are checked to be one tree over the input, so that no walk can
-    /// leave it.
-    pub(crate) fn read(rows: &[[u32; 4]], input: &Input<'i>) -> Result<Self, Error> {
+    /// The item of a row that is there.
+    pub(crate) fn at(&self, row: usize) -> Item<'_> {
+        self.item(row).unwrap_or_else(|| unreachable!("row {row} of {}", self.rows.len()))
+    }
+
+    /// Reads the rows of a call. They are checked to be one tree over the input, so that no walk can leave it.
+    pub(crate) fn read(rows: &[[u32; TreeRow::SIZE]], input: &Input<'i>) -> Result<Self, Error> {
         let mut reader = Reader { input, rows: Vec::with_capacity(rows.len()), open: Vec::new(), at: 0, token: 0 };
         for (i, numbers) in rows.iter().enumerate() {
             if i > 0 && reader.open.is_empty() {
@@ -92,7 +121,7 @@ impl<'i> Tree<'i> {
         }
         let whole = !rows.is_empty() && reader.open.is_empty();
         if whole && reader.at == input.text.len() && reader.token == input.tokens.len() {
-            Ok(Self { text: input.text, rows: reader.rows })
+            Ok(Self { text: Cow::Borrowed(input.text), rows: reader.rows })
         } else {
             Err(Error::BadAnswer { expected: "the last of a tree of all tokens", row: rows.len() })
         }
@@ -111,23 +140,23 @@ struct Reader<'r, 'i> {
 }
 
 impl Reader<'_, '_> {
-    fn add(&mut self, numbers: &[u32; 4]) -> Result<(), Error> {
+    fn add(&mut self, numbers: &[u32; TreeRow::SIZE]) -> Result<(), Error> {
         let row = self.rows.len();
         let bad = |expected| Error::BadAnswer { expected, row };
-        let [class, kind, width, count] = *numbers;
+        let TreeRow { class, kind, width, count } = (*numbers).into();
         let parent = self.open.last_mut().map_or(row, |(parent, left)| {
             *left -= 1;
             *parent
         });
         let (kind, tokens) = match class {
-            0 => (RowKind::Node(NodeKind::from_number(kind).ok_or(bad("a node kind"))?), 0),
-            1 => (RowKind::Leaf(TokenKind::from_number(kind).ok_or(bad("a token kind"))?), count as usize),
+            rows::NODE => (RowKind::Node(NodeKind::from_number(kind).ok_or(bad("a node kind"))?), 0),
+            rows::LEAF => (RowKind::Leaf(TokenKind::from_number(kind).ok_or(bad("a token kind"))?), count as usize),
             _ => return Err(bad("a node or a leaf")),
         };
         let (start, token, width) = (self.at, self.token, width as usize);
         self.rows.push(Row { kind, start, width, parent, next: row + 1, token, tokens });
         match class {
-            0 => self.open.push((row, count as usize)),
+            rows::NODE => self.open.push((row, count as usize)),
             _ => self.take(width, tokens).ok_or(bad("a leaf of tokens"))?,
         }
         self.close()
@@ -182,7 +211,7 @@ mod tests {
     use crate::Token;
 
     /// `a;` as SourceFile(DtProperty(Name, Semicolon)).
-    const ROWS: [[u32; 4]; 4] = [[0, 0, 2, 1], [0, 16, 2, 2], [1, 26, 1, 1], [1, 29, 1, 1]];
+    const ROWS: [[u32; TreeRow::SIZE]; 4] = [[0, 0, 2, 1], [0, 16, 2, 2], [1, 26, 1, 1], [1, 29, 1, 1]];
 
     fn input() -> Input<'static> {
         Input::new(b"a;", vec![Token::new(TokenKind::Ident, 1), Token::new(TokenKind::Semicolon, 1)])
@@ -203,7 +232,7 @@ mod tests {
         assert!(Tree::read(&ROWS[..3], &input()).is_err());
         assert!(Tree::read(&[ROWS.as_slice(), &ROWS[3..]].concat(), &input()).is_err());
         for row in 0..ROWS.len() {
-            for number in 0..4 {
+            for number in 0..TreeRow::SIZE {
                 for other in [3, 200, u32::MAX] {
                     let mut rows = ROWS;
                     rows[row][number] = other;

@@ -4,7 +4,7 @@ use crate::{Node, NodeKind, Parse, TextRange};
 
 impl Parse<'_> {
     /// The outermost [`ParseError`](NodeKind::ParseError) nodes without a report or a lexical error inside them or just
-    /// behind them. dt-tools' grammar makes such nodes: `a=<1> b;` lacks a semicolon, `a=<1>` becomes a `ParseError`, and
+    /// after them. dt-tools' grammar makes such nodes: `a=<1> b;` lacks a semicolon, `a=<1>` becomes a `ParseError`, and
     /// nothing is reported.
     #[must_use]
     pub fn unreported(&self) -> Vec<Node<'_>> {
@@ -26,7 +26,7 @@ impl Parse<'_> {
     pub fn outermost_errors(&self) -> Vec<Node<'_>> {
         let mut found = Vec::new();
         let mut past = 0;
-        for node in self.tree.root().descendant_nodes() {
+        for node in self.tree.root().nodes_below() {
             if node.kind() == NodeKind::ParseError && node.row >= past {
                 past = node.data().next;
                 found.push(node);

@@ -80,9 +80,19 @@ macro_rules! placed {
                 (row != parent).then_some(Node { tree: self.tree(), row: parent })
             }
 
-            /// The nodes around it, the nearest first.
-            pub fn ancestors(self) -> impl Iterator<Item = Node<'t>> + use<'t> {
+            /// The nodes that it lies in, the nearest first and the root last. It is not one of them itself.
+            pub fn nodes_above(self) -> impl Iterator<Item = Node<'t>> + use<'t> {
                 std::iter::successors(self.parent(), |node| node.parent())
+            }
+
+            /// Its row: its place in the tree's preorder, where the root is 0. [`Tree::item`] is the way back.
+            #[must_use]
+            pub const fn row(self) -> usize {
+                self.place().1
+            }
+
+            pub(crate) const fn tree(self) -> &'t Tree<'t> {
+                self.place().0
             }
 
             pub(crate) fn data(self) -> &'t Row {
@@ -106,11 +116,11 @@ impl<'t> Node<'t> {
         }
     }
 
-    /// Its children, in order.
+    /// Its children, in order: nodes and leaves just below it.
     pub fn children(self) -> impl Iterator<Item = Item<'t>> + use<'t> {
         let (tree, end) = (self.tree, self.data().next);
         let within = move |row: usize| (row < end).then_some(row);
-        std::iter::successors(within(self.row + 1), move |row| within(tree.rows[*row].next)).map(|row| tree.item(row))
+        std::iter::successors(within(self.row + 1), move |row| within(tree.rows[*row].next)).map(|row| tree.at(row))
     }
 
     /// Its children that are nodes.
@@ -135,23 +145,36 @@ impl<'t> Node<'t> {
         self.child_leaves().find(|leaf| leaf.kind() == kind)
     }
 
-    /// All that lies under it: each node before its children, in the order of the text.
-    pub fn descendants(self) -> impl Iterator<Item = Item<'t>> + use<'t> {
+    /// All that lies below it, without itself: each node before its children, in the order of the text.
+    ///
+    /// ```
+    /// # use dt_parser::{Entrypoint, Input, Token, TokenKind};
+    /// # let kinds = [TokenKind::Ident, TokenKind::Semicolon];
+    /// # let input = Input::new(b"a;", kinds.map(|kind| Token::new(kind, 1)).to_vec());
+    /// let parse = Entrypoint::SourceFile.parse(&input)?; // of `a;`
+    /// let root = parse.tree.root();
+    /// let below: Vec<String> = root.items_below().map(|item| item.to_string()).collect();
+    /// assert_eq!(below, ["DtProperty@0..2", "Name@0..1 \"a\"", "Semicolon@1..2 \";\""]);
+    /// assert_eq!(root.walk().count(), below.len() + 1); // with the root itself
+    /// # Ok::<(), dt_parser::Error>(())
+    /// ```
+    pub fn items_below(self) -> impl Iterator<Item = Item<'t>> + use<'t> {
         let tree = self.tree;
-        (self.row + 1..self.data().next).map(|row| tree.item(row))
+        (self.row + 1..self.data().next).map(|row| tree.at(row))
     }
 
-    /// The nodes under it.
-    pub fn descendant_nodes(self) -> impl Iterator<Item = Node<'t>> + use<'t> {
-        self.descendants().filter_map(Item::as_node)
+    /// The nodes below it, without itself, in the order of [`Node::items_below`].
+    pub fn nodes_below(self) -> impl Iterator<Item = Node<'t>> + use<'t> {
+        self.items_below().filter_map(Item::as_node)
     }
 
-    /// The leaves under it, in the order of the text.
+    /// The leaves below it, in the order of the text.
     pub fn leaves(self) -> impl Iterator<Item = Leaf<'t>> + use<'t> {
-        self.descendants().filter_map(Item::as_leaf)
+        self.items_below().filter_map(Item::as_leaf)
     }
 
-    /// Itself and all that lies under it, each with its depth below this node. No recursion, however deep the tree is.
+    /// Itself and all that lies below it, each with its depth below this node, which is 0 for itself. No recursion,
+    /// however deep the tree is.
     pub fn walk(self) -> impl Iterator<Item = (Item<'t>, usize)> + use<'t> {
         let mut ends: Vec<usize> = Vec::new();
         let tree = self.tree;
@@ -161,16 +184,12 @@ impl<'t> Node<'t> {
             }
             let depth = ends.len();
             ends.push(tree.rows[row].next);
-            (tree.item(row), depth)
+            (tree.at(row), depth)
         })
     }
 
-    const fn tree(self) -> &'t Tree<'t> {
-        self.tree
-    }
-
-    const fn row(self) -> usize {
-        self.row
+    const fn place(self) -> (&'t Tree<'t>, usize) {
+        (self.tree, self.row)
     }
 }
 
@@ -190,12 +209,8 @@ impl<'t> Leaf<'t> {
         self.kind().is_trivia()
     }
 
-    const fn tree(self) -> &'t Tree<'t> {
-        self.tree
-    }
-
-    const fn row(self) -> usize {
-        self.row
+    const fn place(self) -> (&'t Tree<'t>, usize) {
+        (self.tree, self.row)
     }
 }
 
@@ -218,17 +233,10 @@ impl<'t> Item<'t> {
         }
     }
 
-    const fn tree(self) -> &'t Tree<'t> {
+    const fn place(self) -> (&'t Tree<'t>, usize) {
         match self {
-            Self::Node(node) => node.tree,
-            Self::Leaf(leaf) => leaf.tree,
-        }
-    }
-
-    const fn row(self) -> usize {
-        match self {
-            Self::Node(node) => node.row,
-            Self::Leaf(leaf) => leaf.row,
+            Self::Node(node) => node.place(),
+            Self::Leaf(leaf) => leaf.place(),
         }
     }
 }

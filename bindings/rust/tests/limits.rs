@@ -102,5 +102,14 @@ fn a_deep_tree_is_walked_without_recursion() {
     // root, DtExpr, the InfixExprs, LiteralExpr, leaf
     assert_eq!(parse.tree.root().walk().map(|(_, depth)| depth).max(), Some(count + 3));
     assert_eq!(parse.tree.root().leaves().count(), input.tokens.len());
-    assert_eq!(parse.tree.leaf_at(1).unwrap().text(), b"1");
+    let first = parse.tree.leaf_at(1).unwrap();
+    assert_eq!(first.text(), b"1");
+    assert_eq!(first.nodes_above().count(), count + 3);
+    let expr = parse.tree.root().child_nodes().next().unwrap();
+    let close = expr.last_leaf().unwrap();
+    // the sibling before the last bracket is the whole sum, whose first leaf is the deepest
+    let sum = close.prev_sibling().and_then(|item| item.as_node()).unwrap();
+    assert_eq!(sum.first_leaf(), Some(first));
+    assert_eq!(parse.tree.covering_node((1..text.len() - 1).into()), Some(sum));
+    assert_eq!(parse.tree.covering_node((0..text.len()).into()), Some(expr));
 }

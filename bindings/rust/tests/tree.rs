@@ -32,7 +32,7 @@ fn the_leaves_are_the_text() {
 #[test]
 fn children_lie_side_by_side_in_their_parent() {
     on_examples(|root, _| {
-        for node in std::iter::once(root).chain(root.descendant_nodes()) {
+        for node in std::iter::once(root).chain(root.nodes_below()) {
             let mut at = node.range().start;
             for child in node.children() {
                 assert_eq!(child.parent(), Some(node));
@@ -52,14 +52,14 @@ fn a_walk_is_in_preorder_with_depths() {
     on_examples(|root, _| {
         let walked: Vec<(Item<'_>, usize)> = root.walk().collect();
         assert_eq!(walked[0], (Item::Node(root), 0));
-        assert!(walked[1..].iter().map(|(item, _)| *item).eq(root.descendants()));
+        assert!(walked[1..].iter().map(|(item, _)| *item).eq(root.items_below()));
         for (item, depth) in walked {
-            assert_eq!(item.ancestors().count(), depth);
+            assert_eq!(item.nodes_above().count(), depth);
         }
-        for node in root.descendant_nodes() {
-            let around = node.ancestors().count();
+        for node in root.nodes_below() {
+            let around = node.nodes_above().count();
             for (item, depth) in node.walk() {
-                assert_eq!(item.ancestors().count(), around + depth);
+                assert_eq!(item.nodes_above().count(), around + depth);
             }
         }
     });
@@ -86,12 +86,12 @@ fn the_node_after_the_mistake_is_whole() {
     let mistake = parse.reports[0].range.start;
     let name = |node: Node<'_>| node.child_leaf(TokenKind::Name).map(|leaf| leaf.text().to_vec());
     let is_regulator = |node: &Node<'_>| name(*node).is_some_and(|name| name == b"regulator-3v3");
-    let node = parse.tree.root().descendant_nodes().find(is_regulator).unwrap();
+    let node = parse.tree.root().nodes_below().find(is_regulator).unwrap();
     assert_eq!(node.kind(), NodeKind::DtNode);
     assert!(node.range().start > mistake);
     assert_eq!(node.child_nodes().filter(|child| child.kind() == NodeKind::DtProperty).count(), 6);
     assert_eq!(node.child(NodeKind::DtLabel).unwrap().text(), b"vcc_3v3:");
-    assert!(node.descendant_nodes().all(|inner| inner.kind() != NodeKind::ParseError));
+    assert!(node.nodes_below().all(|inner| inner.kind() != NodeKind::ParseError));
 }
 
 #[test]

@@ -10,7 +10,8 @@ use Rattle.definitions.specs.Grammar.{Entry}
 use Rattle.definitions.specs.Event.{events}
 use Rattle.definitions.specs.Report.{pushes, reports}
 use Rattle.definitions.specs.Call.{run-entry}
-use Rattle.laws.proofs.Skeleton.{event-count, event-count-append, reports-append}
+use Rattle.laws.specs.Pushes.{event-count}
+use Rattle.laws.proofs.Skeleton.{event-count-append, reports-append}
 use Rattle.bounds.proofs.Tables as T
 use Rattle.bounds.proofs.Paid.{cost}
 use Rattle.bounds.proofs.CostRuns.{entry-cost}

@@ -8,7 +8,7 @@ use mathlib.Core.List.{List, [], _∷_, _++_, append-nil}
 use lib.Dec.{leb, eqb}
 use lib.ListN.{length, length-append}
 use borrow.Author.Tests.{leb-true}
-use Rattle.definitions.specs.Layout.{TREE-ROW, ERROR-ROW, REPORT-ROW}
+use Rattle.definitions.specs.Layout.{TREE-ROW, ERROR-ROW, REPORT-ROW, MOST-TOKENS}
 use Rattle.definitions.specs.TokenKind as K
 use Rattle.definitions.specs.Token.{Token, tokens-of, bytes}
 use Rattle.definitions.specs.Grammar.{Entry}
@@ -19,8 +19,8 @@ use Rattle.definitions.specs.Report.{Push, pushes, reports, report-rows, pool, 
 use Rattle.definitions.specs.Refusal.{Refusal, unknown-entry, no-tree-room, place-of, Verdict, accepted, refused, is-kind, check-input}
 use Rattle.definitions.specs.Call.{Buffers, zeros, written, refusal, cleared, Sheets, sheets, kept, finish, forward-mark, outcome, room-of, run-entry, parse, Asked, for, unknown, entry-of, checked, asked, call}
 use Rattle.basics.proofs.Tests.{cond-all}
-use Rattle.laws.proofs.Skeleton.{event-count, event-count-append, events-length, reports-append}
-use Rattle.laws.proofs.Clear.{Clear}
+use Rattle.laws.proofs.Skeleton.{event-count-append, events-length, reports-append}
+use Rattle.laws.specs.Pushes.{event-count, Clear}
 use Rattle.laws.proofs.Scan.{fits-clear}
 use Rattle.laws.proofs.Between.{entry-reads}
 use Rattle.laws.proofs.Decode.{rows-length}
@@ -95,7 +95,7 @@ below-written l b h = below-append WORD l _ h (below-zeros WORD (length b - leng
 -- what a run has written, within cause 2's limits
 pub so-far : Words-so-far
 so-far e ts w l m h c =
-    let n : length ts ≤ 65536 = w .tokens in
+    let n : length ts ≤ MOST-TOKENS = w .tokens in
     let i : bytes ts ≤ 1048576 = w .input in
     let a : event-count l ≤ most-events (length ts) = few-pushed e ts l m h in
     let b : length (reports l) ≤ most-reports (length ts) = few-reported e ts l m h in
@@ -116,7 +116,7 @@ module _ (e : Entry) (ts : List Token) (limits : Within-limits ts) (k : Kinded t
   sheets-fit b =
       let l = reports (pushes (run-entry e ts)) in
       let x = lexical-errors 0 ts in
-      let n : length ts ≤ 65536 = limits .tokens in
+      let n : length ts ≤ MOST-TOKENS = limits .tokens in
       let i : bytes ts ≤ 1048576 = limits .input in
       let t : length (rows (tree e ts)) ≤ TREE-ROW * most-rows (length ts) = bounded e ts .tree-rows in
       let s : So-far ts (pushes (run-entry e ts)) = so-far e ts limits (pushes (run-entry e ts)) [] (sym (append-nil (pushes (run-entry e ts)))) c in

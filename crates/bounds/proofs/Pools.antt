@@ -15,8 +15,9 @@ use Rattle.definitions.specs.Run.{State, mark-of, pool-of, over-unless, closed}
 use Rattle.definitions.specs.Report.{Push, event, reported, exceeded, pushes, reports, pool}
 use Rattle.definitions.specs.Call.{run-entry}
 use Rattle.basics.proofs.Tests.{cond-all}
+use Rattle.laws.specs.Pushes.{Clear}
 use Rattle.laws.proofs.Skeleton.{pushes-join, pushes-closed}
-use Rattle.laws.proofs.Clear.{Clear, clear-append}
+use Rattle.laws.proofs.Clear.{clear-append}
 use Rattle.laws.proofs.Kept.{Kept, whole-kept}
 
 -- up to the first refusal 5, no report has more than 256 expectations

@@ -6,15 +6,14 @@ use mathlib.Core.Path.{_≡_}
 use mathlib.Core.Bool.{false}
 use mathlib.Core.List.{List, [], _∷_, _++_}
 use lib.ListN.{length}
-use Rattle.definitions.specs.Layout.{EVENT-ROW, TREE-ROW, REPORT-ROW}
+use Rattle.definitions.specs.Layout.{EVENT-ROW, TREE-ROW, REPORT-ROW, TWO-TO-32, MOST-BYTES, MOST-TOKENS}
 use Rattle.definitions.specs.Token.{Token, bytes}
 use Rattle.definitions.specs.Grammar.{Entry, root-kind}
 use Rattle.definitions.specs.Event.{Event, StartNode, AddToken, AddCombinedToken, FinishNode, Placeholder, Error, events}
 use Rattle.definitions.specs.Place.{Tree, nil, leaf, subtree, root, count, rows}
 use Rattle.definitions.specs.Report.{Push, pushes, reports, report-rows, pool}
 use Rattle.definitions.specs.Call.{Buffers, Answer, Result, run-entry, call}
-use Rattle.laws.proofs.Skeleton.{event-count}
-use Rattle.laws.proofs.Clear.{Clear}
+use Rattle.laws.specs.Pushes.{event-count, Clear}
 
 -- ---------------------------------------------------------------- for n tokens
 
@@ -75,7 +74,7 @@ Runs-bounded = (e : Entry) (ts : List Token) → Bounded e ts
 
 -- 2^32
 abbrev pub WORD : ℕ
-WORD = 4294967296
+WORD = TWO-TO-32
 
 -- every number of a list is below a limit
 abbrev pub Below : ℕ → List ℕ → Type 0
@@ -83,8 +82,8 @@ Below n [] = Unit {0}
 Below n (x ∷ l) = (x < n) × Below n l
 
 pub record Within-limits (ts : List Token) : Type 0 where
-  pub tokens : length ts ≤ 65536
-  pub input : bytes ts ≤ 1048576
+  pub tokens : length ts ≤ MOST-TOKENS
+  pub input : bytes ts ≤ MOST-BYTES
 
 -- when a run has made the pushes l, without a refusal 5: how many numbers were written, and that they are words themselves
 pub record So-far (ts : List Token) (l : List Push) : Type 0 where

@@ -1,4 +1,4 @@
--- What the exported call's proof cites: the parse with what is done behind it, and the ways around it.
+-- What the exported call's proof cites: the parse with what is done after it, and the ways around it.
 use Prim.Native.Nat.{ℕ, _≤_}
 use native.Mathlib.Omega.{arith}
 use mathlib.Core.Path.{_≡_, refl, ap, sym, _∙_, subst}
@@ -46,9 +46,9 @@ module _ (e : Entry) (bs tk : List ℕ) (b : Buffers) (m : Machine) (ok : check-
     by-refusal true q =
         let s : Sinks k (m .events .count) (m .reports .count) (m .pool .count) tk (m .events .numbers) (b .trees) (b .errors) (h .answer) (h .trees) (h .errors) = h .answered .sunk q in
         ap (λ (y : Answer). swept (answer-of y) (after-sink m (h .trees) (h .errors))) (s .answer)
-        ∙ ap (λ (y : _). swept y (after-sink m (h .trees) (h .errors))) (same-answer (s .said) m)
-        ∙ ends .sunk (eqb-true (m .refusal) 0 q) (s .said) (h .trees) (h .errors) (h .trees-length) (h .errors-length)
-        (subst (λ (r : ℕ). Promise r tk (take (m .events .count) (m .events .numbers)) (b .trees) (b .errors) (s .said) (h .trees) (h .errors)) root (s .promise))
+        ∙ ap (λ (y : _). swept y (after-sink m (h .trees) (h .errors))) (same-answer (s .sunk) m)
+        ∙ ends .sunk (eqb-true (m .refusal) 0 q) (s .sunk) (h .trees) (h .errors) (h .trees-length) (h .errors-length)
+        (subst (λ (r : ℕ). Promise r tk (take (m .events .count) (m .events .numbers)) (b .trees) (b .errors) (s .sunk) (h .trees) (h .errors)) root (s .promise))
 
     pub finished : x ≡ parse e (tokens-of tk) b
     finished = sym (h .once-cleared) ∙ by-refusal (eqb (m .refusal) 0) refl

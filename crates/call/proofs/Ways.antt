@@ -7,7 +7,7 @@ use mathlib.Core.Bool.{true, false}
 use lib.Dec.{eqb}
 use lib.ListN.{length, take}
 use borrow.Author.Tests.{eqb-true, eqb-false}
-use Rattle.definitions.specs.Layout.{TREE-ROW, ERROR-ROW, REPORT-ROW}
+use Rattle.definitions.specs.Layout.{TREE-ROW, ERROR-ROW, REPORT-ROW, NO-TREE-ROOM, TWO-TO-32, TWO-TO-64}
 use Rattle.definitions.specs.Refusal.{Refusal, Verdict, accepted, refused, check-input}
 use Rattle.definitions.specs.Call.{Buffers, Result, refusal, checked}
 use Rattle.sink.specs.declared.Sunk.{Sunk}
@@ -54,27 +54,27 @@ module _ (number place k n r p : ℕ) (tk ev tr er tr′ er′ : List ℕ) where
       })
 
   -- cause 8
-  pub unplaced : eqb number 0 ≡ true → (s : Sunk) → Promise k tk (take n ev) tr er s tr′ er′ → s ≡ NoRoom → (a : Answer) → a ≡ refused-with 8 0
+  pub unplaced : eqb number 0 ≡ true → (s : Sunk) → Promise k tk (take n ev) tr er s tr′ er′ → s ≡ NoRoom → (a : Answer) → a ≡ refused-with NO-TREE-ROOM 0
       → Answered number place k n r p tk ev tr er a tr′ er′
   unplaced q s h none a e =
       subst (λ (y : Answer). Answered number place k n r p tk ev tr er y tr′ er′) (sym e)
       (record {
         stopped = λ z. absurd (eqb-false number 0 z (eqb-true number 0 q));
-        sunk = λ _. record { said = NoRoom; promise = subst (λ (x : Sunk). Promise k tk (take n ev) tr er x tr′ er′) none h; answer = refl };
+        sunk = λ _. record { sunk = NoRoom; promise = subst (λ (x : Sunk). Promise k tk (take n ev) tr er x tr′ er′) none h; answer = refl };
         trees-fit = omega arith;
         errors-fit = omega arith;
         reports-fit = omega arith;
       })
 
   -- accepted
-  pub placed : eqb number 0 ≡ true → (s : Sunk) → Promise k tk (take n ev) tr er s tr′ er′ → (t f : ℕ) → s ≡ Written t f → t < 4294967296 → f < 4294967296 → r < 18446744073709551616
+  pub placed : eqb number 0 ≡ true → (s : Sunk) → Promise k tk (take n ev) tr er s tr′ er′ → (t f : ℕ) → s ≡ Written t f → t < TWO-TO-32 → f < TWO-TO-32 → r < TWO-TO-64
       → (a : Answer) → a ≡ accepted-with t f (r / REPORT-ROW) p → Answered number place k n r p tk ev tr er a tr′ er′
   placed q s h t f w ht hf hr a e =
-      let m : r / REPORT-ROW * REPORT-ROW < 18446744073709551616 = omega arith in
+      let m : r / REPORT-ROW * REPORT-ROW < TWO-TO-64 = omega arith in
       subst (λ (y : Answer). Answered number place k n r p tk ev tr er y tr′ er′) (sym e)
       (record {
         stopped = λ z. absurd (eqb-false number 0 z (eqb-true number 0 q));
-        sunk = λ _. record { said = Written t f; promise = subst (λ (x : Sunk). Promise k tk (take n ev) tr er x tr′ er′) w h; answer = refl };
+        sunk = λ _. record { sunk = Written t f; promise = subst (λ (x : Sunk). Promise k tk (take n ev) tr er x tr′ er′) w h; answer = refl };
         trees-fit = omega arith;
         errors-fit = omega arith;
         reports-fit = m;
@@ -82,7 +82,7 @@ module _ (number place k n r p : ℕ) (tk ev tr er tr′ er′ : List ℕ) where
 
 -- ---------------------------------------------------------------- finish
 
--- each buffer cleared behind what is written
+-- each buffer cleared after what is written
 pub all-cleared : (number place k n r p : ℕ) (tk ev tr er rp pl : List ℕ) (a : Answer) (tr′ er′ : List ℕ) → length tr′ ≡ length tr → length er′ ≡ length er → Answered number place k n r p tk ev tr er a tr′ er′
     → (ev″ tr″ er″ rp″ pl″ : List ℕ) → ev″ ≡ wiped 0 ev → tr″ ≡ wiped (a .trees * TREE-ROW) tr′ → er″ ≡ wiped (a .errors * ERROR-ROW) er′ → rp″ ≡ wiped (a .reports * REPORT-ROW) rp → pl″ ≡ wiped (a .expectations) pl
     → Ended number place k n r p tk (lent ev tr er rp pl) (result-of a (lent ev″ tr″ er″ rp″ pl″))

@@ -1,6 +1,8 @@
 -- The exported call's answer and the lent buffers, in the terms of `definitions`.
 use Prim.Native.Nat.{ℕ}
 use mathlib.Core.List.{List}
+use denote.Ref.{RefT, now}
+use denote.Triple.Both.{Both}
 use Rattle.definitions.specs.Call.{Buffers, Result}
 use Rattle.definitions.specs.Call as Call
 use Rattle.call.specs.declared.Answer.{Answer}
@@ -9,9 +11,20 @@ use Rattle.call.specs.declared.Answer.{Answer}
 abbrev pub answer-of : Answer → Call.Answer
 answer-of a = record { number = a .number; place = a .place; trees = a .trees; errors = a .errors; reports = a .reports; expectations = a .expectations }
 
+-- a lent slice of numbers, as a contract has it
+abbrev pub Slice : Type 0
+Slice = Both (RefT (List ℕ)) (RefT (List ℕ))
+
 -- what the lent buffers hold: events, tree rows, lexical errors, reports, expectations
 abbrev pub lent : List ℕ → List ℕ → List ℕ → List ℕ → List ℕ → Buffers
-lent ev tr er rp pl = record { events = ev; trees = tr; errors = er; reports = rp; pool = pl }
+lent events trees errors reports pool = record { events = events; trees = trees; errors = errors; reports = reports; pool = pool }
+
+-- the same of the buffers that a function was lent, at its entry and at its exit
+abbrev pub at-entry : Slice → Slice → Slice → Slice → Slice → Buffers
+at-entry events trees errors reports pool = lent (now (events .entry)) (now (trees .entry)) (now (errors .entry)) (now (reports .entry)) (now (pool .entry))
+
+abbrev pub at-exit : Slice → Slice → Slice → Slice → Slice → Buffers
+at-exit events trees errors reports pool = lent (now (events .exit)) (now (trees .exit)) (now (errors .exit)) (now (reports .exit)) (now (pool .exit))
 
 -- an answer, and what the buffers hold with it
 abbrev pub result-of : Answer → Buffers → Result

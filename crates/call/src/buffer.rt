@@ -1,4 +1,4 @@
-// A lent buffer is left zero behind what was written to it.
+// A lent buffer is left zero after what was written to it.
 ghost use mathlib.Core.Path.{_≡_};
 ghost use Rattle.refinement.specs.Ends.{wiped};
 

@@ -1,21 +1,10 @@
-// A call's answer, in document 01's numbers. Beside it: what is checked before the parse, and what is done behind it.
+// A call's answer, in document 01's numbers. Beside it: what is checked before the parse, and what is done after it.
 mod buffer;
-pub mod checks;
-pub mod ends;
+pub mod check_input;
+pub mod finish;
 
 ghost use mathlib.Core.Path.{_≡_};
 ghost use Rattle.call.specs.Ended.{refused-with, accepted-with};
-
-// The causes that the exported call gives itself. The parser gives 5 to 7.
-pub const UNKNOWN_ENTRY: u32 = 1;
-
-pub const TOO_LONG: u32 = 2;
-
-pub const BAD_ROW: u32 = 3;
-
-pub const BAD_TEXT: u32 = 4;
-
-pub const NO_TREE_ROOM: u32 = 8;
 
 // The cause, or 0 for an accepted call; its place; and how many tree rows, lexical errors, reports and expectations were
 // written.

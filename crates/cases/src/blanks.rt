@@ -1,21 +1,25 @@
-// Blanks of one byte each, one more than a call takes, their token rows, and room for the tree of as many as it takes.
+// Blanks of one byte each, one more than a call takes, their token rows, and an array for the tree of as many as it takes.
 use crate::lend::LENT;
 use crate::show;
-use layout::token_kind::WHITESPACE;
 use layout::limit::MOST_TOKEN_NUMBERS;
+use layout::row;
+use layout::row::TOKEN_LENGTH;
+use layout::row::TOKEN_ROW;
+use layout::row::TREE_ROW;
+use layout::row_kind::WHITESPACE;
 
-const NUMBERS: usize = MOST_TOKEN_NUMBERS + 2;
+const NUMBERS: usize = MOST_TOKEN_NUMBERS + TOKEN_ROW;
 
-const BLANKS: usize = NUMBERS / 2;
+const BLANKS: usize = NUMBERS / TOKEN_ROW;
 
-const TREE: usize = BLANKS * 4;
+const TREE: usize = BLANKS * TREE_ROW;
 
 pub fn bytes() -> [u8; BLANKS] {
     [32u8; BLANKS]
 }
 
 fn kinds() -> [u32; NUMBERS] {
-    [WHITESPACE as u32; NUMBERS]
+    [WHITESPACE; NUMBERS]
 }
 
 pub fn tree() -> [u32; TREE] {
@@ -25,33 +29,37 @@ pub fn tree() -> [u32; TREE] {
 // The length of each row is 1.
 fn fill(tokens: &mut [u32]) {
     let mut i: usize = 0;
-    while i < tokens.len() / 2 {
-        tokens[i * 2 + 1] = 1;
+    while i < tokens.len() / TOKEN_ROW {
+        tokens[i * TOKEN_ROW + TOKEN_LENGTH] = 1;
         i += 1;
     }
 }
 
-pub fn rows() -> [u32; NUMBERS] {
+pub fn tokens() -> [u32; NUMBERS] {
     let mut tokens = kinds();
     fill(&mut tokens);
     tokens
 }
 
-// A number of the leaves: a leaf's row is 1, its kind, its width and 1.
+// A number of the leaves: a leaf's row is its class, its kind, its width 1 and its count 1.
 fn number(i: usize) -> u32 {
-    if i % 4 == 1 { WHITESPACE as u32 } else { 1 }
+    let column = i % TREE_ROW;
+    if column == 0 {
+        return row::LEAF;
+    }
+    if column == row::TREE_KIND { WHITESPACE } else { 1 }
 }
 
-// How many rows behind the root's are a leaf of one blank, up to the first that is not.
+// How many rows after the root's are a leaf of one blank, up to the first that is not.
 fn leaves(trees: &[u32]) -> usize {
-    let mut i: usize = 4;
+    let mut i: usize = TREE_ROW;
     while i < trees.len() {
         if trees[i] != number(i) {
-            return i / 4 - 1;
+            return i / TREE_ROW - 1;
         }
         i += 1;
     }
-    i / 4 - 1
+    i / TREE_ROW - 1
 }
 
 pub fn show_leaves(trees: &[u32]) {

@@ -15,7 +15,7 @@ fn all(buffer: &[u32], from: usize, n: u32) -> bool {
 }
 
 // What a buffer holds from a place on: 0 zeros or nothing, 1 only what was lent, 2 anything else.
-pub fn rest(buffer: &[u32], from: usize) -> u64 {
+pub fn tail(buffer: &[u32], from: usize) -> u64 {
     if all(buffer, from, 0) {
         return 0;
     }

@@ -1,8 +1,7 @@
-// What the programs of the gate share and what needs nothing of the code that they run: numbers in a text, numbers printed, buffers
-// to lend, what a call leaves of them, and rows of blanks.
+// What the programs of the gate share and what needs nothing of the code that they run: numbers in a text, numbers printed, arrays
+// to lend, what is left of them, and token rows of blanks.
+pub mod arrays;
 pub mod blanks;
-pub mod left;
 pub mod lend;
-pub mod room;
 pub mod scan;
 pub mod show;

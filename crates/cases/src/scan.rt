@@ -1,4 +1,5 @@
 // Places and numbers in the text of a list of cases.
+use layout::word::low32;
 ghost use Prim.Native.Nat.{_≤_};
 ghost use lib.ListN.{length};
 
@@ -35,7 +36,7 @@ fn is_digit(b: u8) -> bool {
     if b < b'0' { false } else { b <= b'9' }
 }
 
-// Where the digits end that stand at a place, or where there are none, what is no digit.
+// Where the digits end that stand at a place, or where there are none, what is not a digit.
 fn run_end(text: &[u8], from: usize, digits: bool) -> usize
     requires { ⌜ from ≤ length (now text) ⌝ }
     ensures { λ r. ⌜ from ≤ r ⌝ }
@@ -51,7 +52,7 @@ fn run_end(text: &[u8], from: usize, digits: bool) -> usize
     i
 }
 
-// The place behind the next number.
+// The place after the next number.
 fn number_end(text: &[u8], from: usize) -> usize
     requires { ⌜ from ≤ length (now text) ⌝ }
     ensures { λ r. ⌜ from ≤ r ⌝ }
@@ -60,13 +61,12 @@ fn number_end(text: &[u8], from: usize) -> usize
     run_end(text, run_end(text, from, false), true)
 }
 
-// One digit more, of a number that stays below 2^32. What is no digit counts for nothing.
+// One digit more, of a number that stays below 2^32. What is not a digit counts for nothing.
 fn with_digit(value: u32, b: u8) -> u32 {
     if !is_digit(b) {
         return value;
     }
-    let n = value as u64 * 10 + (b % 16) as u64;
-    (n % 4294967296) as u32
+    low32(value as usize * 10 + (b % 16) as usize)
 }
 
 fn value(digits: &[u8]) -> u32 {
@@ -79,22 +79,22 @@ fn value(digits: &[u8]) -> u32 {
     n
 }
 
-// The next so many numbers, where `out` has as many places. Answers the place behind the last.
+// The next so many numbers, where `out` has as many places. Answers the place after the last.
 pub fn numbers(text: &[u8], from: usize, count: u32, out: &mut [u32]) -> usize
     requires { ⌜ from ≤ length (now text) ⌝ }
     ensures { λ r. ⌜ from ≤ r ⌝ }
     ensures { λ r. ⌜ r ≤ length (now (text .entry)) ⌝ }
 {
     let n = at_most(count, out.len());
-    let mut at = from;
+    let mut byte = from;
     let mut i: usize = 0;
     while i < n {
-        let end = number_end(text, at);
-        out[i] = value(&text[at..end]);
-        at = end;
+        let end = number_end(text, byte);
+        out[i] = value(&text[byte..end]);
+        byte = end;
         i += 1;
     }
-    at
+    byte
 }
 
 // So many bytes further, where there are as many.

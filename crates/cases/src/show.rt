@@ -18,7 +18,7 @@ fn word(n: u32) {
     number(n as u64);
 }
 
-// A line of the numbers of a buffer from an index on and before another, behind a name.
+// A line of the numbers of a buffer from an index on and before another, after a name.
 pub fn numbers(name: &[u8], l: &[u32], from: usize, to: usize) {
     text(name);
     let mut i = from;

@@ -1,16 +1,16 @@
 -- The whole call: its answer, and what every lent buffer holds afterwards.
 use Prim.Native.Nat.{ℕ, _-_, _/_}
-use mathlib.Core.Bool.{Bool, true, false, cond, _&&_}
-use mathlib.Core.List.{List, [], _∷_, _++_}
+use mathlib.Core.Bool.{cond, _&&_}
+use mathlib.Core.List.{List, _++_}
 use lib.Dec.{leb, eqb}
 use lib.ListN.{length, replicate}
 use Rattle.definitions.specs.Layout.{EVENT-ROW, TREE-ROW, ERROR-ROW, REPORT-ROW, MOST-OPEN-CALLS}
 use Rattle.definitions.specs.Token.{Token, tokens-of, bytes}
 use Rattle.definitions.specs.Grammar.{Entry, SourceFile, ReferenceNoamp, PropValues, Cells, whole, root-kind}
 use Rattle.definitions.specs.Skeleton.{no-label, Skeleton}
-use Rattle.definitions.specs.Run.{Out, taken, exec, run}
+use Rattle.definitions.specs.Run.{taken, exec, run}
 use Rattle.definitions.specs.Place.{root, rows, lexical-errors}
-use Rattle.definitions.specs.Report.{Room, Fit, fits, stops, Push, pushes, scan, reports, report-rows, pool}
+use Rattle.definitions.specs.Report.{Room, Fit, fits, stops, pushes, scan, reports, report-rows, pool}
 use Rattle.definitions.specs.Refusal.{Refusal, unknown-entry, too-long, bad-row, bad-text, too-deep, no-event-room, no-report-room, no-tree-room, number-of, place-of, Verdict, accepted, refused, check-input}
 
 -- the lent buffers: events (work only), tree rows, lexical errors, reports, expectations

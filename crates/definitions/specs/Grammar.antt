@@ -5,7 +5,7 @@
 use Prim.Native.Nat.{ℕ}
 use mathlib.Core.Bool.{Bool, true, false}
 use mathlib.Core.List.{List, [], _∷_, _++_}
-use Rattle.definitions.specs.Prog.{Ans, no, yes, also, again, Rule, item, propvalues, eat-cell, expr-binding-power, silent-at, immediate, immediate-next, bump-name, bump-argument, emit-unclosed, less, Prog, ret, act, _⨟_, case, in-marker, loop, chain, brace, open-call}
+use Rattle.definitions.specs.Prog.{Ans, no, yes, also, again, Rule, item, propvalues, eat-cell, expr-binding-power, silent-at, immediate, immediate-next, bump-argument, emit-unclosed, less, Prog, ret, act, _⨟_, case, in-marker, loop, chain, brace, open-call}
 use Rattle.definitions.specs.Check.{tell, if_then_else_, _and_, _or_, not!, while_run_, in-node, end?, bump!, expected, error, error-bump, error-wrap, error!, error-bump!, error-wrap!, Matcher, set, of-kind, NAME-SET, Name, LabelName, silent, at, silent-eat, eat, assert-eat, expect, expect-recoverable, eat-starting_inside_else_}
 use Rattle.definitions.specs.TokenKind as K
 use Rattle.definitions.specs.NodeKind as N

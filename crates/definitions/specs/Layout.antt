@@ -1,5 +1,5 @@
 -- The numbers of the layout, each once: how many numbers a row has, the tags of event rows, the refusals, and the limits of a call.
-use Prim.Native.Nat.{ℕ}
+use Prim.Native.Nat.{ℕ, _/_}
 
 -- ---------------------------------------------------------------- how many numbers a row has
 
@@ -123,6 +123,10 @@ MOST-BYTES = 1048576
 
 abbrev pub MOST-TOKEN-NUMBERS : ℕ
 MOST-TOKEN-NUMBERS = 131072
+
+-- as many token rows
+abbrev pub MOST-TOKENS : ℕ
+MOST-TOKENS = MOST-TOKEN-NUMBERS / TOKEN-ROW
 
 -- cause 5: the most open calls, and the most pending expectations
 abbrev pub MOST-OPEN-CALLS : ℕ

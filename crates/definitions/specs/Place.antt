@@ -1,6 +1,6 @@
 -- sink.rs: the tree of a skeleton and the raw tokens. Trivia go in before each start, each token and each name, and at the end.
 use Prim.Native.Nat.{ℕ, suc, _+_}
-use mathlib.Core.Bool.{Bool, true, false, cond}
+use mathlib.Core.Bool.{cond}
 use mathlib.Core.List.{List, [], _∷_, _++_}
 use lib.ListN.{length, take, drop}
 use Rattle.definitions.specs.Layout.{NODE, LEAF}

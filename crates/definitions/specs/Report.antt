@@ -1,10 +1,10 @@
 -- What a run pushes, in order: whether it fits the lent buffers, and the rows of its reports.
 use Prim.Native.Nat.{ℕ, zero, suc, _+_, _-_}
-use mathlib.Core.Bool.{Bool, true, false, cond}
+use mathlib.Core.Bool.{cond}
 use mathlib.Core.List.{List, [], _∷_, _++_}
 use lib.Dec.{leb}
 use lib.ListN.{length}
-use Rattle.definitions.specs.Skeleton.{Span, Label, no-label, label, Report, Skeleton, done, token, name, node, ignored, report, over}
+use Rattle.definitions.specs.Skeleton.{Label, no-label, label, Report, Skeleton, done, token, name, node, ignored, report, over}
 use Rattle.definitions.specs.Refusal.{Refusal, too-deep, no-event-room, no-report-room}
 
 -- an event, at a mark; a report (`emit_parse_error`: its event, then its row); a 65th open call or a 257th expectation, at a mark

@@ -8,7 +8,7 @@ use Rattle.definitions.specs.Layout.{MOST-PENDING}
 use Rattle.definitions.specs.TokenKind as K
 use Rattle.definitions.specs.Errors as E
 use Rattle.definitions.specs.Token.{Token, seen, trivia, drop-trivia, bytes, past, ended, one-of, first-in}
-use Rattle.definitions.specs.Skeleton.{Span, Label, no-label, label, Report, Skeleton, done, token, name, node, ignored, report, over, _⧺_}
+use Rattle.definitions.specs.Skeleton.{Span, Label, no-label, label, Skeleton, done, token, name, node, ignored, report, over, _⧺_}
 use Rattle.definitions.specs.Prog.{Ans, no, yes, also, again, Rule, Act, silent-at, at-end, immediate, immediate-next, add-expected, bump, bump-name, bump-argument, emit, emit-unclosed, less, Prog, ret, act, _⨟_, case, in-marker, loop, chain, brace, open-call}
 use Rattle.definitions.specs.Grammar.{grammar}
 

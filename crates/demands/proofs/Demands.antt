@@ -1,20 +1,38 @@
 -- Each demand by its theorem.
 use Rattle.demands.specs.Demands.{Demands}
+use Rattle.refusals.proofs.Refusals as refusals
 use Rattle.laws.proofs.Lossless as lossless
 use Rattle.laws.proofs.Limits as limits
 use Rattle.precedence.proofs.Theorem as precedence
+use Rattle.brackets.proofs.Theorem as brackets
+use Rattle.brackets.proofs.Partner as partner
 use Rattle.recovery.proofs.Local as recovery
-use Rattle.bounds.proofs.Numbers as numbers
+use Rattle.bounds.proofs.Numbers as bounds
+use Rattle.run_steps.proofs.Complete as complete
+use Rattle.turns.proofs.Turns as turns
+use Rattle.pending.proofs.Repeats as pending
 
 pub demands : Demands
 demands =
     record {
-      nothing-lost = lossless.nothing-lost;
-      c-table = precedence.c-table;
-      one-tree = precedence.one-tree;
-      stays-local = recovery.stays-local;
-      limits = limits.limits;
-      runs-bounded = numbers.runs-bounded;
-      words-so-far = numbers.so-far;
-      numbers-fit = numbers.numbers-fit;
+      promise-1 = record { answered = refusals.answered; refusals = refusals.refusals };
+      promise-2 =
+          record {
+            nothing-lost = lossless.nothing-lost;
+            c-table = precedence.c-table;
+            one-tree = precedence.one-tree;
+            brackets-fit = brackets.brackets-fit;
+            partner-missed = partner.missed;
+          };
+      promise-3 = record { stays-local = recovery.stays-local };
+      beside =
+          record {
+            limits = limits.limits;
+            runs-bounded = bounds.runs-bounded;
+            words-so-far = bounds.so-far;
+            numbers-fit = bounds.numbers-fit;
+            turns = turns.turns;
+            steps-complete = complete.complete;
+            repeats = pending.repeats;
+          };
     }

@@ -5,6 +5,6 @@ use mathlib.Core.List.{List}
 use Rattle.definitions.specs.Refusal.{accepted, check-input}
 
 -- they passed causes 2 to 4, with some input bytes
-pub record Sound (tk : List ℕ) : Type 0 where
+pub record Sound (tokens : List ℕ) : Type 0 where
   pub bytes : List ℕ
-  pub checked : check-input bytes tk ≡ accepted
+  pub checked : check-input bytes tokens ≡ accepted

@@ -4,14 +4,15 @@ mod entrypoint;
 use crate::entrypoint::Entry;
 use call::Answer;
 use grammar::entry::Entrypoint;
+use layout::refusal::UNKNOWN_ENTRY;
 ghost use mathlib.Core.Path.{_≡_};
 ghost use Rattle.definitions.specs.Token.{tokens-of};
 ghost use Rattle.definitions.specs.Call as Call;
 ghost use Rattle.grammar.specs.Parts.{entry-of as entry-for};
-ghost use Rattle.call.specs.Result.{lent, result-of};
+ghost use Rattle.call.specs.Result.{at-entry, at-exit, result-of};
 ghost use Rattle.dt_parser.specs.Sound.{Sound};
 
-// The parser, and what is done behind it.
+// The parser, and what is done after it.
 fn run(
     e: Entrypoint,
     tokens: &[u32],
@@ -22,12 +23,13 @@ fn run(
     pool: &mut [u32],
 ) -> Answer
     requires { ⌜ Sound (now tokens) ⌝ }
-    ensures { λ r. ⌜ result-of r (lent (now (events .exit)) (now (trees .exit)) (now (errors .exit)) (now (reports .exit)) (now (pool .exit))) ≡ Call.parse (entry-for e) (tokens-of (now (tokens .entry))) (lent (now (events .entry)) (now (trees .entry)) (now (errors .entry)) (now (reports .entry)) (now (pool .entry))) ⌝ }
+    ensures { λ r. ⌜ result-of r (at-exit events trees errors reports pool)
+        ≡ Call.parse (entry-for e) (tokens-of (now (tokens .entry))) (at-entry events trees errors reports pool) ⌝ }
 {
     let p = grammar::entry::parse(tokens, events, reports, pool, e);
     let kind = entrypoint::root_kind(e);
     let mark = p.s.place;
-    call::ends::finish(
+    call::finish::finish(
         p.s.refusal,
         mark.0,
         kind,
@@ -57,13 +59,14 @@ pub extern "C" fn dt_parse(
     reports: &mut [u32],
     pool: &mut [u32],
 ) -> Answer
-    ensures { λ r. ⌜ result-of r (lent (now (events .exit)) (now (trees .exit)) (now (errors .exit)) (now (reports .exit)) (now (pool .exit))) ≡ Call.call entry (now (bytes .entry)) (now (tokens .entry)) (lent (now (events .entry)) (now (trees .entry)) (now (errors .entry)) (now (reports .entry)) (now (pool .entry))) ⌝ }
+    ensures { λ r. ⌜ result-of r (at-exit events trees errors reports pool)
+        ≡ Call.call entry (now (bytes .entry)) (now (tokens .entry)) (at-entry events trees errors reports pool) ⌝ }
 {
     let asked = entrypoint::entry_of(entry);
     match asked {
-        Entry::Unknown => call::refused(call::UNKNOWN_ENTRY, 0),
+        Entry::Unknown => call::refused(UNKNOWN_ENTRY, 0),
         Entry::Known(e) => {
-            let checked = call::checks::check(bytes, tokens);
+            let checked = call::check_input::check(bytes, tokens);
             let sound = checked.number == 0;
             if sound {
                 run(e, tokens, events, trees, errors, reports, pool)

@@ -2,6 +2,7 @@
 // What is tried stands beside each call; the expected lines are in stdout.
 use input::causes;
 use input::causes::Checked;
+use layout::refusal;
 
 fn line(number: u64, place: usize) {
     let _a = io::print_decimal(1, number);
@@ -14,14 +15,14 @@ fn show(bytes: &[u8], tokens: &[u32]) {
     let checked = causes::check(bytes, tokens);
     match checked {
         Checked::Sound => line(0, 0),
-        Checked::TooLong => line(2, 0),
-        Checked::BadRow(i) => line(3, i.0),
-        Checked::BadText(i) => line(4, i.0),
+        Checked::TooLong => line(refusal::TOO_LONG as u64, 0),
+        Checked::BadRow(i) => line(refusal::BAD_ROW as u64, i.0),
+        Checked::BadText(i) => line(refusal::BAD_TEXT as u64, i.0),
     }
 }
 
 // The most token numbers, 65,536 rows of a comment of one byte, and one number more. (An array of as many bytes as cause 2
-// allows is more than the prover takes: that limit is in the proof of the crate lexer, `bytes-at-the-limit`.) Each large array is made
+// allows is more than the prover takes: that limit is in the proof of the crate input, `bytes-at-the-limit`.) Each large array is made
 // by a function of its own.
 fn bytes_at_the_limit() -> [u8; 65536] {
     [32u8; 65536]

@@ -7,13 +7,7 @@ use Rattle.definitions.specs.Run.{closed}
 use Rattle.definitions.specs.Report.{Push, event, reported, exceeded, pushes}
 use Rattle.laws.proofs.Skeleton.{pushes-join, pushes-closed}
 use Rattle.laws.proofs.Parts.{Parts}
-
--- no 65th open call and no 257th pending expectation among what is pushed
-abbrev pub Clear : List Push → Type 0
-Clear [] = Unit {0}
-Clear (event m ∷ l) = Clear l
-Clear (reported r ∷ l) = Clear l
-Clear (exceeded m ∷ l) = ⊥
+use Rattle.laws.specs.Pushes.{Clear}
 
 pub clear-append : (l m : List Push) → Clear (l ++ m) → Clear l × Clear m
 clear-append [] m h = (tt, h)

@@ -16,11 +16,12 @@ use Rattle.definitions.specs.Skeleton.{Label, no-label, Skeleton, done, _⧺_}
 use Rattle.definitions.specs.Run.{State, Out, mark-of, peeked, answer, makes, taken, do-bump, do-name, add, at-depth, do-argument, do-emit, over-unless, do-expected, perform, choose, marked, is-again, goes-on, iter, unlinked, by-shape, links, chained, here, exec, run}
 use Rattle.definitions.specs.Report.{pushes}
 use Rattle.definitions.specs.Call.{Buffers, run-entry}
+use Rattle.laws.specs.Pushes.{Clear}
 use Rattle.laws.specs.Limits.{Place, at, deeper, iter-places, links-places, choose-places, places, run-places, entry-places, Limited, Limits}
 use Rattle.basics.proofs.Tests.{cond-all}
 use Rattle.laws.proofs.Fuel.{turn-of}
 use Rattle.laws.proofs.Parts.{linked, closed-parts, links-parts}
-use Rattle.laws.proofs.Clear.{Clear, Within-room, join-within, closed-within, within-parts}
+use Rattle.laws.proofs.Clear.{Within-room, join-within, closed-within, within-parts}
 use Rattle.laws.proofs.Scan.{fits-clear}
 use Rattle.laws.proofs.Accepted.{Accepted, accepted-call}
 

@@ -8,7 +8,7 @@ use lib.Dec.{leb}
 use lib.ListN.{length}
 use Rattle.definitions.specs.Refusal.{Refusal, no-event-room, no-report-room, too-deep}
 use Rattle.definitions.specs.Report.{Push, event, reported, exceeded, Room, Fit, fits, stops, one-event, one-report, scan}
-use Rattle.laws.proofs.Clear.{Clear}
+use Rattle.laws.specs.Pushes.{Clear}
 
 -- go on with the room that is left, unless something did not fit
 abbrev pub and-then : Fit → (Room → Fit) → Fit

@@ -13,6 +13,7 @@ use Rattle.definitions.specs.Run.{closed}
 use Rattle.definitions.specs.Event.{Event, StartNode, AddToken, AddCombinedToken, FinishNode, Placeholder, Error, forward, events}
 use Rattle.definitions.specs.Place.{after}
 use Rattle.definitions.specs.Report.{Push, event, reported, exceeded, pushes, reports, label-numbers, report-rows, pool}
+use Rattle.laws.specs.Pushes.{event-count}
 
 -- ---------------------------------------------------------------- joining
 
@@ -74,13 +75,6 @@ events-join b (ignored m m′ a i p) q =
     ∙ behind (events Bool.true a) Placeholder Placeholder (events Bool.false i) (events b p) (events b q)
 events-join b (report r p) q = ap (Error ∷_) (events-join b p q)
 events-join b (over m p) q = events-join b p q
-
--- how many events are pushed: an event is one, and so is a report's
-unfoldable pub event-count : List Push → ℕ
-event-count [] = 0
-event-count (event m ∷ l) = suc (event-count l)
-event-count (reported r ∷ l) = suc (event-count l)
-event-count (exceeded m ∷ l) = event-count l
 
 pub event-count-append : (l m : List Push) → event-count (l ++ m) ≡ event-count l + event-count m
 unfolding event-count

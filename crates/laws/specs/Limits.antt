@@ -5,6 +5,7 @@ use mathlib.Core.Path.{_≡_}
 use mathlib.Core.Bool.{cond}
 use mathlib.Core.List.{List, [], _∷_, _++_}
 use lib.ListN.{length}
+use Rattle.definitions.specs.Layout.{MOST-OPEN-CALLS, MOST-PENDING}
 use Rattle.definitions.specs.Token.{Token, tokens-of}
 use Rattle.definitions.specs.Prog.{Ans, no, yes, also, again, Rule, Prog, ret, act, _⨟_, case, in-marker, loop, chain, brace, open-call}
 use Rattle.definitions.specs.Grammar.{grammar, Entry, whole}
@@ -70,15 +71,15 @@ run-places (suc n) r s = deeper (at s ++ places (run n) (run-places n) no-label 
 -- the places that a file's run comes to
 unfoldable pub entry-places : Entry → List Token → List Place
 unfolding places run run-places
-entry-places e ts = places (run 64) (run-places 64) no-label (whole e) (taken ts)
+entry-places e ts = places (run MOST-OPEN-CALLS) (run-places MOST-OPEN-CALLS) no-label (whole e) (taken ts)
 
--- at each of them at most n calls are open and at most 256 expectations are pending
+-- at each of them at most n calls are open, and no more expectations are pending than may be
 abbrev pub Limited : ℕ → List Place → Type 0
 Limited n [] = Unit {0}
-Limited n (x ∷ l) = (x .open-calls ≤ n) × (length (x .state .pending) ≤ 256) × Limited n l
+Limited n (x ∷ l) = (x .open-calls ≤ n) × (length (x .state .pending) ≤ MOST-PENDING) × Limited n l
 
 -- for every accepted call
 abbrev pub Limits : Type 0
 Limits =
     (n : ℕ) (bs tk : List ℕ) (b : Buffers) → Call.call n bs tk b .answer .number ≡ 0
-    → (e : Entry) × (entry-of n ≡ for e) × Limited 64 (entry-places e (tokens-of tk))
+    → (e : Entry) × (entry-of n ≡ for e) × Limited MOST-OPEN-CALLS (entry-places e (tokens-of tk))

@@ -7,6 +7,7 @@ use mathlib.Core.List.{List, [], _∷_}
 use lib.Dec.{leb, eqb}
 use lib.ListN.{length}
 use borrow.Author.Tests.{leb-true, ne-eqb, eq-eqb, eqb-true, eqb-false}
+use Rattle.definitions.specs.LexError as L
 use Rattle.definitions.specs.TokenKind as K
 use Rattle.definitions.specs.Token.{Token, is-error, seen, trivia, drop-trivia, ended, one-of, first-in}
 use Rattle.definitions.specs.Skeleton.{done, token}
@@ -36,16 +37,16 @@ eqb-flip a b = by (eqb b a) refl
     by false e = ne-eqb a b (λ h. eqb-false b a e (sym h))
 
 -- the machine looks at the kind that is seen, the definitions at the row's: the same, for a kind that no error token is seen as
-pub same-test : (k : ℕ) (t : Token) (l : List Token) → k < 64 → eqb k K.Unrecognized ≡ false → first-in (k ∷ []) (t ∷ l) ≡ eqb (t .kind) k
+pub same-test : (k : ℕ) (t : Token) (l : List Token) → k < L.UnexpectedEndIncbin → eqb k K.Unrecognized ≡ false → first-in (k ∷ []) (t ∷ l) ≡ eqb (t .kind) k
 unfolding first-in one-of seen is-error
-same-test k t l h u = by (leb 64 (t .kind)) refl
+same-test k t l h u = by (leb L.UnexpectedEndIncbin (t .kind)) refl
   where
     plain : (b : Bool) → cond b true false ≡ b
     plain true = refl
     plain false = refl
 
-    by : (b : Bool) → leb 64 (t .kind) ≡ b → cond (eqb k (cond b K.Unrecognized (t .kind))) true false ≡ eqb (t .kind) k
-    by true e = rw u (sym (ne-eqb (t .kind) k (λ q. let w : 64 ≤ t .kind = leb-true _ _ e in absurd (omega arith))))
+    by : (b : Bool) → leb L.UnexpectedEndIncbin (t .kind) ≡ b → cond (eqb k (cond b K.Unrecognized (t .kind))) true false ≡ eqb (t .kind) k
+    by true e = rw u (sym (ne-eqb (t .kind) k (λ q. let w : L.UnexpectedEndIncbin ≤ t .kind = leb-true _ _ e in absurd (omega arith))))
     by false e = plain (eqb k (t .kind)) ∙ eqb-flip k (t .kind)
 
 -- ---------------------------------------------------------------- the argument's next token

@@ -7,7 +7,7 @@ use mathlib.Core.Path.{_≡_, refl, sym, ap, _∙_}
 use mathlib.Core.Bool.{Bool, true, false}
 use mathlib.Core.List.{List, [], _∷_, _++_, append-assoc}
 use lib.ListN.{length, length-append}
-use Rattle.definitions.specs.Layout.{TWO-TO-32}
+use Rattle.definitions.specs.Layout.{EVENT-ROW, REPORT-ROW, PLACEHOLDER, ADD-TOKEN, ADD-COMBINED-TOKEN, FINISH-NODE, ERROR, TWO-TO-32}
 use Rattle.definitions.specs.Skeleton.{Label, no-label, label, Report, Skeleton, done, token, name, node, ignored, report, over, _⧺_}
 use Rattle.definitions.specs.Event.{forward, events}
 use Rattle.definitions.specs.Report.{label-numbers, report-rows, pool}
@@ -21,12 +21,12 @@ use Rattle.machine.specs.Encode.{start-tag, encode}
 unfoldable pub coded : Bool → Skeleton → List ℕ
 unfolding events
 coded linked done = []
-coded linked (token t m o) = 2 ∷ 0 ∷ 0 ∷ coded linked o
-coded linked (name ts m o) = 3 ∷ length ts ∷ 0 ∷ coded linked o
+coded linked (token t m o) = ADD-TOKEN ∷ 0 ∷ 0 ∷ coded linked o
+coded linked (name ts m o) = ADD-COMBINED-TOKEN ∷ length ts ∷ 0 ∷ coded linked o
 coded linked (node k m m′ a i o) =
-    coded true a ++ (start-tag a ∷ k ∷ forward linked (low (suc (suc (length (events false i))))) ∷ (coded false i ++ (4 ∷ 0 ∷ 0 ∷ coded linked o)))
-coded linked (ignored m m′ a i o) = coded true a ++ (0 ∷ 0 ∷ 0 ∷ (coded false i ++ (0 ∷ 0 ∷ 0 ∷ coded linked o)))
-coded linked (report r o) = 5 ∷ 0 ∷ 0 ∷ coded linked o
+    coded true a ++ (start-tag a ∷ k ∷ forward linked (low (suc (suc (length (events false i))))) ∷ (coded false i ++ (FINISH-NODE ∷ 0 ∷ 0 ∷ coded linked o)))
+coded linked (ignored m m′ a i o) = coded true a ++ (PLACEHOLDER ∷ 0 ∷ 0 ∷ (coded false i ++ (PLACEHOLDER ∷ 0 ∷ 0 ∷ coded linked o)))
+coded linked (report r o) = ERROR ∷ 0 ∷ 0 ∷ coded linked o
 coded linked (over m o) = coded linked o
 
 -- a list behind the last of three parts, with rows between them
@@ -37,20 +37,20 @@ behind a x y z i u v w o l = sym (append-assoc a _ l ∙ ap (λ (t : List ℕ). 
 pub coded-join : (b : Bool) (p q : Skeleton) → coded b (p ⧺ q) ≡ coded b p ++ coded b q
 unfolding coded _⧺_
 coded-join b done q = refl
-coded-join b (token t m p) q = ap (λ (l : List ℕ). 2 ∷ 0 ∷ 0 ∷ l) (coded-join b p q)
-coded-join b (name ts m p) q = ap (λ (l : List ℕ). 3 ∷ length ts ∷ 0 ∷ l) (coded-join b p q)
+coded-join b (token t m p) q = ap (λ (l : List ℕ). ADD-TOKEN ∷ 0 ∷ 0 ∷ l) (coded-join b p q)
+coded-join b (name ts m p) q = ap (λ (l : List ℕ). ADD-COMBINED-TOKEN ∷ length ts ∷ 0 ∷ l) (coded-join b p q)
 coded-join b (node k m m′ a i p) q =
     let d : ℕ = forward b (low (suc (suc (length (events false i))))) in
-    ap (λ (l : List ℕ). coded true a ++ (start-tag a ∷ k ∷ d ∷ (coded false i ++ (4 ∷ 0 ∷ 0 ∷ l)))) (coded-join b p q)
-    ∙ behind (coded true a) (start-tag a) k d (coded false i) 4 0 0 (coded b p) (coded b q)
+    ap (λ (l : List ℕ). coded true a ++ (start-tag a ∷ k ∷ d ∷ (coded false i ++ (FINISH-NODE ∷ 0 ∷ 0 ∷ l)))) (coded-join b p q)
+    ∙ behind (coded true a) (start-tag a) k d (coded false i) FINISH-NODE 0 0 (coded b p) (coded b q)
 coded-join b (ignored m m′ a i p) q =
-    ap (λ (l : List ℕ). coded true a ++ (0 ∷ 0 ∷ 0 ∷ (coded false i ++ (0 ∷ 0 ∷ 0 ∷ l)))) (coded-join b p q)
-    ∙ behind (coded true a) 0 0 0 (coded false i) 0 0 0 (coded b p) (coded b q)
-coded-join b (report r p) q = ap (λ (l : List ℕ). 5 ∷ 0 ∷ 0 ∷ l) (coded-join b p q)
+    ap (λ (l : List ℕ). coded true a ++ (PLACEHOLDER ∷ 0 ∷ 0 ∷ (coded false i ++ (PLACEHOLDER ∷ 0 ∷ 0 ∷ l)))) (coded-join b p q)
+    ∙ behind (coded true a) PLACEHOLDER 0 0 (coded false i) PLACEHOLDER 0 0 (coded b p) (coded b q)
+coded-join b (report r p) q = ap (λ (l : List ℕ). ERROR ∷ 0 ∷ 0 ∷ l) (coded-join b p q)
 coded-join b (over m p) q = coded-join b p q
 
 -- three numbers for an event
-pub coded-length : (b : Bool) (o : Skeleton) → length (coded b o) ≡ 3 * length (events b o)
+pub coded-length : (b : Bool) (o : Skeleton) → length (coded b o) ≡ EVENT-ROW * length (events b o)
 unfolding coded events
 coded-length b done = refl
 coded-length b (token t m o) = omega (arith, coded-length b o)
@@ -64,8 +64,8 @@ coded-length b (over m o) = coded-length b o
 pub coded-small : (b : Bool) (o : Skeleton) → length (events b o) < TWO-TO-32 → coded b o ≡ encode b o
 unfolding coded encode events
 coded-small b done h = refl
-coded-small b (token t m o) h = ap (λ (l : List ℕ). 2 ∷ 0 ∷ 0 ∷ l) (coded-small b o (omega arith))
-coded-small b (name ts m o) h = ap (λ (l : List ℕ). 3 ∷ length ts ∷ 0 ∷ l) (coded-small b o (omega arith))
+coded-small b (token t m o) h = ap (λ (l : List ℕ). ADD-TOKEN ∷ 0 ∷ 0 ∷ l) (coded-small b o (omega arith))
+coded-small b (name ts m o) h = ap (λ (l : List ℕ). ADD-COMBINED-TOKEN ∷ length ts ∷ 0 ∷ l) (coded-small b o (omega arith))
 coded-small b (node k m m′ a i o) h =
     let g : length (events true a) + suc (length (events false i) + suc (length (events b o))) < TWO-TO-32 = simp length-append at h in
     let d : low (suc (suc (length (events false i)))) ≡ suc (suc (length (events false i))) = mod-eq-of-lt (omega arith) in
@@ -79,7 +79,7 @@ coded-small b (ignored m m′ a i o) h =
     let y : coded false i ≡ encode false i = coded-small false i (omega arith) in
     let z : coded b o ≡ encode b o = coded-small b o (omega arith) in
     rw (x, y, z)
-coded-small b (report r o) h = ap (λ (l : List ℕ). 5 ∷ 0 ∷ 0 ∷ l) (coded-small b o (omega arith))
+coded-small b (report r o) h = ap (λ (l : List ℕ). ERROR ∷ 0 ∷ 0 ∷ l) (coded-small b o (omega arith))
 coded-small b (over m o) h = coded-small b o h
 
 -- ---------------------------------------------------------------- reports
@@ -113,10 +113,10 @@ low-rows-small n b first (r ∷ l) h =
     ∙ ap (λ (u : List ℕ). r .message ∷ (b - r .range .from) ∷ (b - r .range .to) ∷ (n - r .mark) ∷ first ∷ length (r .pool) ∷ r .hint ∷ label-numbers b (r .labelled) u) z
 
 -- nine numbers for a report
-pub low-row-length : (n b first : ℕ) (r : Report) → length (low-rows n b first (r ∷ [])) ≡ 9
+pub low-row-length : (n b first : ℕ) (r : Report) → length (low-rows n b first (r ∷ [])) ≡ REPORT-ROW
 unfolding low-rows
 low-row-length n b first r = by-label (r .labelled)
   where
-    by-label : (x : Label) → suc (suc (suc (suc (suc (suc (suc (length (label-numbers b x [])))))))) ≡ 9
+    by-label : (x : Label) → suc (suc (suc (suc (suc (suc (suc (length (label-numbers b x [])))))))) ≡ REPORT-ROW
     by-label no-label = refl
     by-label (label s) = refl

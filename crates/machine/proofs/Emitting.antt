@@ -8,7 +8,7 @@ use mathlib.Core.List.{List, [], _∷_, _++_}
 use lib.Dec.{leb}
 use lib.ListN.{length, length-append}
 use borrow.Author.Tests.{leb-true, leb-false, le-leb, lt-leb}
-use Rattle.definitions.specs.Layout.{ERROR, TWO-TO-32}
+use Rattle.definitions.specs.Layout.{EVENT-ROW, REPORT-ROW, ERROR, NO-REPORT-ROOM, MOST-TOKENS, TWO-TO-32}
 use Rattle.definitions.specs.Token.{Token, bytes}
 use Rattle.definitions.specs.Skeleton.{Span, Label, no-label, label, Report, done, report}
 use Rattle.definitions.specs.Refusal.{no-event-room, no-report-room, number-of, place-of}
@@ -80,7 +80,7 @@ here-is g e l s i = ap (λ (x : List Token). range-at x (image g e l s)) (rest-i
 
 -- ---------------------------------------------------------------- the row
 
-row-is : (n b first m h mark : ℕ) (x : Span) (lab : Label) (codes : List ℕ) → n ≤ 65536
+row-is : (n b first m h mark : ℕ) (x : Span) (lab : Label) (codes : List ℕ) → n ≤ MOST-TOKENS
     → report-row m h (forward-span b x) (span-of b lab) (n - mark) first (length codes)
     ≡ low-rows n b (0 + first) (record { message = m; range = x; mark = mark; hint = h; labelled = lab; pool = codes } ∷ [])
 unfolding low-rows
@@ -117,7 +117,7 @@ all-told r e p q n j h k l = rw (h, k, le-leb (length (r .pool)) q l)
 
 -- ---------------------------------------------------------------- emit
 
-refused-report : (g : Ground) (e : List ℕ) (l : List Report) (s : State) → Refused (g .tokens) (no-report-room (mark-of s)) (refuse 7 (image g e l s))
+refused-report : (g : Ground) (e : List ℕ) (l : List Report) (s : State) → Refused (g .tokens) (no-report-room (mark-of s)) (refuse NO-REPORT-ROOM (image g e l s))
 unfolding refuse image number-of place-of forward-mark
 refused-report g e l s = record { refusal = refl; some = omega arith; place = refl }
 
@@ -132,7 +132,7 @@ module _ (g : Ground) (m h : ℕ) (lab : Label) (c : Sofar) (s : State) (f : Fit
   l = reports (c .pushed)
 
   abbrev e′ : List ℕ
-  e′ = c .numbers ++ (5 ∷ 0 ∷ 0 ∷ [])
+  e′ = c .numbers ++ (ERROR ∷ 0 ∷ 0 ∷ [])
 
   abbrev n : ℕ
   n = length (pool-of m (s .pending))
@@ -150,7 +150,7 @@ module _ (g : Ground) (m h : ℕ) (lab : Label) (c : Sofar) (s : State) (f : Fit
   unfolding reports
   reports-are = reports-append (c .pushed) (reported r ∷ [])
 
-  rows-grow : length (rows-of g (l ++ (r ∷ []))) ≡ length (rows-of g l) + 9
+  rows-grow : length (rows-of g (l ++ (r ∷ []))) ≡ length (rows-of g l) + REPORT-ROW
   rows-grow =
       let N = length (g .tokens) in
       ap length (low-rows-append N B 0 l (r ∷ [])) ∙ length-append (rows-of g l) (low-rows N B (0 + length (pool l)) (r ∷ [])) ∙ ap (λ (k : ℕ). length (rows-of g l) + k) (low-row-length N B (0 + length (pool l)) r)
@@ -160,29 +160,29 @@ module _ (g : Ground) (m h : ℕ) (lab : Label) (c : Sofar) (s : State) (f : Fit
   pool-grows = ap length (pool-append l (r ∷ [])) ∙ length-append (pool l) (r .pool ++ []) ∙ ap (λ (k : ℕ). length (pool l) + k) (length-append (r .pool) [] ∙ native.Mathlib.Nat.add-zero n)
 
   -- the event fits: the row and the expectations fit or not
-  after-event : (b d : Bool) → length (c .numbers) + 3 ≤ length (g .events)
-      → leb (length (rows-of g l) + 9) (length (g .reports)) ≡ b → leb (length (pool l) + n) (length (g .pool)) ≡ d
+  after-event : (b d : Bool) → length (c .numbers) + EVENT-ROW ≤ length (g .events)
+      → leb (length (rows-of g l) + REPORT-ROW) (length (g .reports)) ≡ b → leb (length (pool l) + n) (length (g .pool)) ≡ d
       → Meets g (grow c (report r done)) yes 0 s (said yes (write-report m h range (span-of B lab) (image g e′ l s)))
   unfolding coded pushes
   after-event false d fit p q =
-      let more : length (g .reports) < length (rows-of g l) + 9 = leb-false _ _ p in
-      let ev : room-left g (c .numbers) l .events ≡ suc ((length (g .events) - (length (c .numbers) + 3)) / 3) = omega arith in
+      let more : length (g .reports) < length (rows-of g l) + REPORT-ROW = leb-false _ _ p in
+      let ev : room-left g (c .numbers) l .events ≡ suc ((length (g .events) - (length (c .numbers) + EVENT-ROW)) / EVENT-ROW) = omega arith in
       let rp : room-left g (c .numbers) l .reports ≡ 0 = omega (arith, f .rows) in
       stop (no-report-room (mark-of s)) (scan-is ∙ no-report r _ _ _ _ ev rp)
       (subst (Refused (g .tokens) (no-report-room (mark-of s))) (sym (report-full g l s e′ m h range (span-of B lab) (no-row g l s n (f .rows) more))) (refused-report g e′ l s))
   after-event true false fit p q =
-      let rows : length (rows-of g l) + 9 ≤ length (g .reports) = leb-true _ _ p in
+      let rows : length (rows-of g l) + REPORT-ROW ≤ length (g .reports) = leb-true _ _ p in
       let more : length (g .pool) < length (pool l) + n = leb-false _ _ q in
-      let ev : room-left g (c .numbers) l .events ≡ suc ((length (g .events) - (length (c .numbers) + 3)) / 3) = omega arith in
-      let rp : room-left g (c .numbers) l .reports ≡ suc ((length (g .reports) - (length (rows-of g l) + 9)) / 9) = omega arith in
+      let ev : room-left g (c .numbers) l .events ≡ suc ((length (g .events) - (length (c .numbers) + EVENT-ROW)) / EVENT-ROW) = omega arith in
+      let rp : room-left g (c .numbers) l .reports ≡ suc ((length (g .reports) - (length (rows-of g l) + REPORT-ROW)) / REPORT-ROW) = omega arith in
       stop (no-report-room (mark-of s)) (scan-is ∙ no-pool r _ _ _ _ _ ev rp (omega (arith, f .codes)))
       (subst (Refused (g .tokens) (no-report-room (mark-of s))) (sym (report-full g l s e′ m h range (span-of B lab) (no-codes g l s n rows (f .codes) more))) (refused-report g e′ l s))
   after-event true true fit p q =
-      let rows : length (rows-of g l) + 9 ≤ length (g .reports) = leb-true _ _ p in
+      let rows : length (rows-of g l) + REPORT-ROW ≤ length (g .reports) = leb-true _ _ p in
       let codes : length (pool l) + n ≤ length (g .pool) = leb-true _ _ q in
-      let el : length e′ ≡ length (c .numbers) + 3 = length-append (c .numbers) (5 ∷ 0 ∷ 0 ∷ []) in
-      let ev : room-left g (c .numbers) l .events ≡ suc ((length (g .events) - length e′) / 3) = omega arith in
-      let rp : room-left g (c .numbers) l .reports ≡ suc ((length (g .reports) - length (rows-of g (l ++ (r ∷ [])))) / 9) = omega (arith, rows-grow) in
+      let el : length e′ ≡ length (c .numbers) + EVENT-ROW = length-append (c .numbers) (ERROR ∷ 0 ∷ 0 ∷ []) in
+      let ev : room-left g (c .numbers) l .events ≡ suc ((length (g .events) - length e′) / EVENT-ROW) = omega arith in
+      let rp : room-left g (c .numbers) l .reports ≡ suc ((length (g .reports) - length (rows-of g (l ++ (r ∷ [])))) / REPORT-ROW) = omega (arith, rows-grow) in
       let pl : room-left g (c .numbers) l .pool - n ≡ length (g .pool) - length (pool (l ++ (r ∷ []))) = omega (arith, pool-grows) in
       let row : report-row m h range (span-of B lab) (length (g .tokens) - length (s .since)) (length (pool l)) n ≡ low-rows (length (g .tokens)) B (0 + length (pool l)) (r ∷ []) =
       ap (λ (x : Span). report-row m h x (span-of B lab) (length (g .tokens) - length (s .since)) (length (pool l)) n) (range-is g (c .numbers) l s i)
@@ -194,21 +194,21 @@ module _ (g : Ground) (m h : ℕ) (lab : Label) (c : Sofar) (s : State) (f : Fit
         codes = subst (λ (u : List Report). length (pool u) ≤ length (g .pool)) (sym reports-are) (omega (arith, pool-grows));
         room =
             scan-is ∙ all-told r _ _ _ _ _ ev rp (omega (arith, f .codes))
-            ∙ ap (λ (k : ℕ). fits (record { events = (length (g .events) - length e′) / 3; reports = (length (g .reports) - length (rows-of g (l ++ (r ∷ [])))) / 9; pool = k })) pl
+            ∙ ap (λ (k : ℕ). fits (record { events = (length (g .events) - length e′) / EVENT-ROW; reports = (length (g .reports) - length (rows-of g (l ++ (r ∷ [])))) / REPORT-ROW; pool = k })) pl
             ∙ ap (λ (u : List Report). fits (room-left g e′ u)) (sym reports-are);
       })
       i
       (ap (λ (x : Machine). said yes x) (report-fits g l s e′ m h range (span-of B lab) r refl row rows codes ∙ ap (λ (u : List Report). image g e′ u s) (sym reports-are)))
 
-  by-event : (b : Bool) → leb (length (c .numbers) + 3) (length (g .events)) ≡ b
+  by-event : (b : Bool) → leb (length (c .numbers) + EVENT-ROW) (length (g .events)) ≡ b
       → Meets g (grow c (report r done)) yes 0 s (said yes (write-report m h range (span-of B lab) (push ERROR 0 (stand g c s))))
   unfolding pushes
   by-event true p =
-      let fit : length (c .numbers) + 3 ≤ length (g .events) = leb-true _ _ p in
+      let fit : length (c .numbers) + EVENT-ROW ≤ length (g .events) = leb-true _ _ p in
       subst (λ (x : Machine). Meets g (grow c (report r done)) yes 0 s (said yes (write-report m h range (span-of B lab) x))) (sym (push-fits g l s (c .numbers) ERROR 0 fit))
       (after-event _ _ fit refl refl)
   by-event false p =
-      let more : length (g .events) < length (c .numbers) + 3 = leb-false _ _ p in
+      let more : length (g .events) < length (c .numbers) + EVENT-ROW = leb-false _ _ p in
       let ev : room-left g (c .numbers) l .events ≡ 0 = omega (arith, f .events) in
       stop (no-event-room (mark-of s)) (scan-is ∙ no-event r _ _ _ ev)
       (s-write (g .tokens) (no-event-room (mark-of s)) m h range (span-of B lab) (push ERROR 0 (stand g c s))

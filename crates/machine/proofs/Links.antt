@@ -6,7 +6,7 @@ use mathlib.Core.List.{List}
 use native.Mathlib.Omega.{arith}
 use lib.Dec.{ltb, eqb}
 use borrow.Author.Tests.{ltb-true, lt-ltb}
-use Rattle.definitions.specs.Layout.{PLACEHOLDER, FINISH-NODE, START-NODE, LINKED-START-NODE}
+use Rattle.definitions.specs.Layout.{PLACEHOLDER, START-NODE, FINISH-NODE, LINKED-START-NODE}
 use Rattle.definitions.specs.Token.{Token}
 use Rattle.definitions.specs.Skeleton.{Span}
 use Rattle.definitions.specs.Prog.{Ans, again, Rule, Prog, chain}

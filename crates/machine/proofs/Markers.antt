@@ -7,7 +7,7 @@ use mathlib.Core.List.{List, [], _∷_, _++_, append-assoc}
 use lib.Dec.{leb}
 use lib.ListN.{length, length-append}
 use borrow.Author.Tests.{leb-true, leb-false}
-use Rattle.definitions.specs.Layout.{FINISH-NODE, PLACEHOLDER, START-NODE}
+use Rattle.definitions.specs.Layout.{EVENT-ROW, REPORT-ROW, PLACEHOLDER, START-NODE, FINISH-NODE}
 use Rattle.definitions.specs.Skeleton.{Report, Skeleton, done, node, ignored, _⧺_}
 use Rattle.definitions.specs.Refusal.{no-event-room}
 use Rattle.definitions.specs.Prog.{Ans, yes}
@@ -31,7 +31,7 @@ use Rattle.machine.proofs.Meets.{Sofar, Fitting, stand, Meets, goes, st
 
 -- a marker pushed at mark m and not closed yet. a: what stood before it. i: what was made since.
 abbrev pub opened : Sofar → Skeleton → ℕ → Skeleton → Sofar
-opened c a m i = record { numbers = c .numbers ++ (coded true a ++ (0 ∷ 0 ∷ 0 ∷ coded false i)); pushed = c .pushed ++ (pushes a ++ (event m ∷ pushes i)) }
+opened c a m i = record { numbers = c .numbers ++ (coded true a ++ (PLACEHOLDER ∷ 0 ∷ 0 ∷ coded false i)); pushed = c .pushed ++ (pushes a ++ (event m ∷ pushes i)) }
 
 deeper : {A : Type 0} (n a i o : List A) → (n ++ (a ++ i)) ++ o ≡ n ++ (a ++ (i ++ o))
 deeper n a i o = append-assoc n (a ++ i) o ∙ ap (λ (l : _). n ++ l) (append-assoc a i o)
@@ -39,25 +39,25 @@ deeper n a i o = append-assoc n (a ++ i) o ∙ ap (λ (l : _). n ++ l) (append-a
 pub opened-grow : (c : Sofar) (a : Skeleton) (m : ℕ) (i o : Skeleton) → grow (opened c a m i) o ≡ opened c a m (i ⧺ o)
 opened-grow c a m i o =
     same-sofar _ _ _ _
-    (deeper (c .numbers) (coded true a) (0 ∷ 0 ∷ 0 ∷ coded false i) (coded false o) ∙ ap (λ (l : List ℕ). c .numbers ++ (coded true a ++ (0 ∷ 0 ∷ 0 ∷ l))) (sym (coded-join false i o)))
+    (deeper (c .numbers) (coded true a) (PLACEHOLDER ∷ 0 ∷ 0 ∷ coded false i) (coded false o) ∙ ap (λ (l : List ℕ). c .numbers ++ (coded true a ++ (PLACEHOLDER ∷ 0 ∷ 0 ∷ l))) (sym (coded-join false i o)))
     (deeper (c .pushed) (pushes a) (event m ∷ pushes i) (pushes o) ∙ ap (λ (l : List Push). c .pushed ++ (pushes a ++ (event m ∷ l))) (sym (pushes-join i o)))
 
-opened-ignored : (c : Sofar) (a : Skeleton) (m : ℕ) (i : Skeleton) (m′ : ℕ) → put (opened c a m i) 0 0 0 m′ ≡ grow c (ignored m m′ a i done)
+opened-ignored : (c : Sofar) (a : Skeleton) (m : ℕ) (i : Skeleton) (m′ : ℕ) → put (opened c a m i) PLACEHOLDER 0 0 m′ ≡ grow c (ignored m m′ a i done)
 unfolding coded pushes
 opened-ignored c a m i m′ =
     same-sofar _ _ _ _
-    (deeper (c .numbers) (coded true a) (0 ∷ 0 ∷ 0 ∷ coded false i) (0 ∷ 0 ∷ 0 ∷ []))
+    (deeper (c .numbers) (coded true a) (PLACEHOLDER ∷ 0 ∷ 0 ∷ coded false i) (PLACEHOLDER ∷ 0 ∷ 0 ∷ []))
     (deeper (c .pushed) (pushes a) (event m ∷ pushes i) (event m′ ∷ []))
 
 -- its placeholder has become a start
 abbrev started : Sofar → Skeleton → ℕ → Skeleton → ℕ → Sofar
 started c a m i kind = record { numbers = c .numbers ++ (coded true a ++ (start-tag a ∷ kind ∷ 0 ∷ coded false i)); pushed = c .pushed ++ (pushes a ++ (event m ∷ pushes i)) }
 
-started-node : (c : Sofar) (a : Skeleton) (m : ℕ) (i : Skeleton) (kind m′ : ℕ) → put (started c a m i kind) 4 0 0 m′ ≡ grow c (node kind m m′ a i done)
+started-node : (c : Sofar) (a : Skeleton) (m : ℕ) (i : Skeleton) (kind m′ : ℕ) → put (started c a m i kind) FINISH-NODE 0 0 m′ ≡ grow c (node kind m m′ a i done)
 unfolding coded pushes
 started-node c a m i kind m′ =
     same-sofar _ _ _ _
-    (deeper (c .numbers) (coded true a) (start-tag a ∷ kind ∷ 0 ∷ coded false i) (4 ∷ 0 ∷ 0 ∷ []))
+    (deeper (c .numbers) (coded true a) (start-tag a ∷ kind ∷ 0 ∷ coded false i) (FINISH-NODE ∷ 0 ∷ 0 ∷ []))
     (deeper (c .pushed) (pushes a) (event m ∷ pushes i) (event m′ ∷ []))
 
 -- only how many numbers are written counts
@@ -69,7 +69,7 @@ fitting-alike g e e′ p h f =
       codes = f .codes;
       room =
           f .room
-          ∙ ap (λ (n : ℕ). fits (record { events = (length (g .events) - n) / 3; reports = (length (g .reports) - length (rows-of g (reports p))) / 9; pool = length (g .pool) - length (pool (reports p)) })) h;
+          ∙ ap (λ (n : ℕ). fits (record { events = (length (g .events) - n) / EVENT-ROW; reports = (length (g .reports) - length (rows-of g (reports p))) / REPORT-ROW; pool = length (g .pool) - length (pool (reports p)) })) h;
     }
 
 -- ---------------------------------------------------------------- closing it
@@ -143,8 +143,8 @@ mark-sim g f h t st c s fit i =
 -- ---------------------------------------------------------------- precede
 
 -- how far a node's start is from the marker after it
-distance : (i : Skeleton) → suc (length (coded false i ++ (4 ∷ 0 ∷ 0 ∷ [])) / 3) ≡ suc (suc (length (events false i)))
-distance i = let n : length (coded false i ++ (4 ∷ 0 ∷ 0 ∷ [])) ≡ length (coded false i) + 3 = length-append (coded false i) (4 ∷ 0 ∷ 0 ∷ []) in omega (arith, coded-length false i)
+distance : (i : Skeleton) → suc (length (coded false i ++ (FINISH-NODE ∷ 0 ∷ 0 ∷ [])) / EVENT-ROW) ≡ suc (suc (length (events false i)))
+distance i = let n : length (coded false i ++ (FINISH-NODE ∷ 0 ∷ 0 ∷ [])) ≡ length (coded false i) + EVENT-ROW = length-append (coded false i) (FINISH-NODE ∷ 0 ∷ 0 ∷ []) in omega (arith, coded-length false i)
 
 -- linked or not, a node has as many numbers
 pub linked-length : (c : Sofar) (kind m m′ : ℕ) (a i : Skeleton) → length (c .numbers ++ coded false (node kind m m′ a i done)) ≡ length (c .numbers ++ coded true (node kind m m′ a i done))
@@ -166,35 +166,35 @@ module _ (g : Ground) (c : Sofar) (kind m m′ : ℕ) (a i : Skeleton) (s : Stat
   unfolding pushes
   pushed-is = append-assoc (c .pushed) (pushes N) (event (mark-of s) ∷ [])
 
-  precede-is : length (grow c N .numbers) + 3 ≤ length (g .events) → precede k (stand g (grow c N) s) ≡ stand g next s
+  precede-is : length (grow c N .numbers) + EVENT-ROW ≤ length (g .events) → precede k (stand g (grow c N) s) ≡ stand g next s
   unfolding coded pushes
-  precede-is room =
+  precede-is enough =
       let p = c .numbers ++ coded true a in
-      let fi = coded false i ++ (4 ∷ 0 ∷ 0 ∷ []) in
+      let fi = coded false i ++ (FINISH-NODE ∷ 0 ∷ 0 ∷ []) in
       let q : (z : ℕ) → p ++ (start-tag a ∷ kind ∷ z ∷ fi) ≡ c .numbers ++ (coded true a ++ (start-tag a ∷ kind ∷ z ∷ fi)) = λ z. append-assoc (c .numbers) (coded true a) (start-tag a ∷ kind ∷ z ∷ fi) in
       let r : reports (grow c N .pushed) ≡ reports (next .pushed) = sym (no-report (grow c N .pushed) (mark-of s)) ∙ ap reports pushed-is in
       let d = low (suc (suc (length (events false i)))) in
       ap (λ (u : List ℕ). precede k (image g u lp s)) (sym (q 0))
-      ∙ precede-fits g lp s p fi (start-tag a) kind 0 k e (subst (λ (u : List ℕ). length u + 3 ≤ length (g .events)) (sym (q 0)) room)
-      ∙ ap (λ (z : ℕ). image g ((p ++ (start-tag a ∷ kind ∷ low z ∷ fi)) ++ (0 ∷ 0 ∷ 0 ∷ [])) lp s) (distance i)
-      ∙ ap (λ (u : List ℕ). image g (u ++ (0 ∷ 0 ∷ 0 ∷ [])) lp s) (q d)
-      ∙ ap (λ (u : List ℕ). image g u lp s) (append-assoc (c .numbers) (coded true a ++ (start-tag a ∷ kind ∷ d ∷ fi)) (0 ∷ 0 ∷ 0 ∷ []))
+      ∙ precede-fits g lp s p fi (start-tag a) kind 0 k e (subst (λ (u : List ℕ). length u + EVENT-ROW ≤ length (g .events)) (sym (q 0)) enough)
+      ∙ ap (λ (z : ℕ). image g ((p ++ (start-tag a ∷ kind ∷ low z ∷ fi)) ++ (PLACEHOLDER ∷ 0 ∷ 0 ∷ [])) lp s) (distance i)
+      ∙ ap (λ (u : List ℕ). image g (u ++ (PLACEHOLDER ∷ 0 ∷ 0 ∷ [])) lp s) (q d)
+      ∙ ap (λ (u : List ℕ). image g u lp s) (append-assoc (c .numbers) (coded true a ++ (start-tag a ∷ kind ∷ d ∷ fi)) (PLACEHOLDER ∷ 0 ∷ 0 ∷ []))
       ∙ ap (λ (u : List Report). image g (next .numbers) u s) r
 
-  precede-fitting : length (grow c N .numbers) + 3 ≤ length (g .events) → Fitting g next
+  precede-fitting : length (grow c N .numbers) + EVENT-ROW ≤ length (g .events) → Fitting g next
   unfolding coded
-  precede-fitting room =
-      let n : length (grow c N .numbers ++ (0 ∷ 0 ∷ 0 ∷ [])) ≡ length (next .numbers) = simp length-append (omega arith) in
+  precede-fitting enough =
+      let n : length (grow c N .numbers ++ (PLACEHOLDER ∷ 0 ∷ 0 ∷ [])) ≡ length (next .numbers) = simp length-append (omega arith) in
       subst (λ (u : List Push). Fitting g (record { numbers = next .numbers; pushed = u })) pushed-is
-      (fitting-alike g (grow c N .numbers ++ (0 ∷ 0 ∷ 0 ∷ [])) (next .numbers) (grow c N .pushed ++ (event (mark-of s) ∷ [])) n (event-fits g (grow c N) f 0 0 0 (mark-of s) room))
+      (fitting-alike g (grow c N .numbers ++ (PLACEHOLDER ∷ 0 ∷ 0 ∷ [])) (next .numbers) (grow c N .pushed ++ (event (mark-of s) ∷ [])) n (event-fits g (grow c N) f PLACEHOLDER 0 0 (mark-of s) enough))
 
   pub precede-sim : Meets g next x 0 s (said x (precede k (stand g (grow c N) s)))
-  precede-sim = by-room (leb (length (grow c N .numbers) + 3) (length (g .events))) refl
+  precede-sim = by-fit (leb (length (grow c N .numbers) + EVENT-ROW) (length (g .events))) refl
     where
-      by-room : (b : Bool) → leb (length (grow c N .numbers) + 3) (length (g .events)) ≡ b → Meets g next x 0 s (said x (precede k (stand g (grow c N) s)))
-      by-room true q = let room : length (grow c N .numbers) + 3 ≤ length (g .events) = leb-true _ _ q in goes (precede-fitting room) h (ap (λ (w : Machine). said x w) (precede-is room))
-      by-room false q =
-          let full : length (g .events) < length (grow c N .numbers) + 3 = leb-false _ _ q in
+      by-fit : (b : Bool) → leb (length (grow c N .numbers) + EVENT-ROW) (length (g .events)) ≡ b → Meets g next x 0 s (said x (precede k (stand g (grow c N) s)))
+      by-fit true q = let enough : length (grow c N .numbers) + EVENT-ROW ≤ length (g .events) = leb-true _ _ q in goes (precede-fitting enough) h (ap (λ (w : Machine). said x w) (precede-is enough))
+      by-fit false q =
+          let full : length (g .events) < length (grow c N .numbers) + EVENT-ROW = leb-false _ _ q in
           stop (no-event-room (mark-of s))
           (ap (λ (u : List Push). scan u (room-at-first g)) (sym pushed-is) ∙ event-full g (grow c N) f (mark-of s) full)
           (subst (Refused (g .tokens) (no-event-room (mark-of s))) (sym (precede-full g lp s (grow c N .numbers) k (f .events) full)) (refused-event g (grow c N .numbers) lp s))

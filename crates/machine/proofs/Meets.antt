@@ -8,6 +8,7 @@ use mathlib.Core.List.{List, [], _∷_, _++_, append-assoc, append-nil}
 use lib.Dec.{leb}
 use lib.ListN.{length, length-append}
 use borrow.Author.Tests.{leb-true, leb-false}
+use Rattle.definitions.specs.Layout.{EVENT-ROW, REPORT-ROW, NO-EVENT-ROOM}
 use Rattle.definitions.specs.Skeleton.{Report, Skeleton, done, _⧺_}
 use Rattle.definitions.specs.Refusal.{Refusal, no-event-room, number-of, place-of}
 use Rattle.definitions.specs.Prog.{Ans}
@@ -33,7 +34,7 @@ room-at-first g = room-in (g .events) (g .reports) (g .pool)
 
 abbrev pub room-left : Ground → List ℕ → List Report → Room
 room-left g e l =
-    record { events = (length (g .events) - length e) / 3; reports = (length (g .reports) - length (rows-of g l)) / 9; pool = length (g .pool) - length (pool l) }
+    record { events = (length (g .events) - length e) / EVENT-ROW; reports = (length (g .reports) - length (rows-of g l)) / REPORT-ROW; pool = length (g .pool) - length (pool l) }
 
 -- all of it fits
 pub record Fitting (g : Ground) (c : Sofar) : Type 0 where
@@ -104,24 +105,24 @@ pub no-report : (p : List Push) (m : ℕ) → reports (p ++ (event m ∷ [])) �
 unfolding reports
 no-report p m = reports-append p (event m ∷ []) ∙ append-nil (reports p)
 
-pub refused-event : (g : Ground) (e : List ℕ) (l : List Report) (s : State) → Refused (g .tokens) (no-event-room (mark-of s)) (refuse 6 (image g e l s))
+pub refused-event : (g : Ground) (e : List ℕ) (l : List Report) (s : State) → Refused (g .tokens) (no-event-room (mark-of s)) (refuse NO-EVENT-ROOM (image g e l s))
 unfolding refuse image number-of place-of forward-mark
 refused-event g e l s = record { refusal = refl; some = omega arith; place = refl }
 
 module _ (g : Ground) (c : Sofar) (f : Fitting g c) where
-  pub event-full : (m : ℕ) → length (g .events) < length (c .numbers) + 3 → scan (c .pushed ++ (event m ∷ [])) (room-at-first g) ≡ stops (no-event-room m)
+  pub event-full : (m : ℕ) → length (g .events) < length (c .numbers) + EVENT-ROW → scan (c .pushed ++ (event m ∷ [])) (room-at-first g) ≡ stops (no-event-room m)
   unfolding scan one-event
   event-full m h =
-      let n : (length (g .events) - length (c .numbers)) / 3 ≡ 0 = omega (arith, f .events) in
+      let n : (length (g .events) - length (c .numbers)) / EVENT-ROW ≡ 0 = omega (arith, f .events) in
       scan-append (c .pushed) (event m ∷ []) (room-at-first g)
       ∙ ap (λ (x : Fit). and-then x (scan (event m ∷ []))) (f .room)
       ∙ ap (λ (k : ℕ). one-event m k (room-left g (c .numbers) (reports (c .pushed)) .reports) (room-left g (c .numbers) (reports (c .pushed)) .pool) (scan [])) n
 
-  pub event-fits : (x y z m : ℕ) → length (c .numbers) + 3 ≤ length (g .events) → Fitting g (put c x y z m)
+  pub event-fits : (x y z m : ℕ) → length (c .numbers) + EVENT-ROW ≤ length (g .events) → Fitting g (put c x y z m)
   unfolding scan one-event
   event-fits x y z m h =
-      let b : length (c .numbers ++ (x ∷ y ∷ z ∷ [])) ≡ length (c .numbers) + 3 = length-append (c .numbers) (x ∷ y ∷ z ∷ []) in
-      let n : (length (g .events) - length (c .numbers)) / 3 ≡ suc ((length (g .events) - length (c .numbers ++ (x ∷ y ∷ z ∷ []))) / 3) = omega arith in
+      let b : length (c .numbers ++ (x ∷ y ∷ z ∷ [])) ≡ length (c .numbers) + EVENT-ROW = length-append (c .numbers) (x ∷ y ∷ z ∷ []) in
+      let n : (length (g .events) - length (c .numbers)) / EVENT-ROW ≡ suc ((length (g .events) - length (c .numbers ++ (x ∷ y ∷ z ∷ []))) / EVENT-ROW) = omega arith in
       let l = reports (c .pushed) in
       let k : reports (c .pushed ++ (event m ∷ [])) ≡ l = no-report (c .pushed) m in
       record {
@@ -137,18 +138,18 @@ module _ (g : Ground) (c : Sofar) (f : Fitting g c) where
 
   -- an event pushed, or refusal 6
   pub push-meets : (s : State) (tag v : ℕ) (a : Ans) (k : ℕ) → Inside g s → Meets g (put c tag v 0 (mark-of s)) a k s (record { ans = a; shape = k; on = push tag v (stand g c s) })
-  push-meets s tag v a k i = by-room (leb (length (c .numbers) + 3) (length (g .events))) refl
+  push-meets s tag v a k i = by-fit (leb (length (c .numbers) + EVENT-ROW) (length (g .events))) refl
     where
       said-so : Machine → Walked
       said-so m = record { ans = a; shape = k; on = m }
 
-      by-room : (b : Bool) → leb (length (c .numbers) + 3) (length (g .events)) ≡ b → Meets g (put c tag v 0 (mark-of s)) a k s (said-so (push tag v (stand g c s)))
-      by-room true e =
-          let h : length (c .numbers) + 3 ≤ length (g .events) = leb-true _ _ e in
+      by-fit : (b : Bool) → leb (length (c .numbers) + EVENT-ROW) (length (g .events)) ≡ b → Meets g (put c tag v 0 (mark-of s)) a k s (said-so (push tag v (stand g c s)))
+      by-fit true e =
+          let h : length (c .numbers) + EVENT-ROW ≤ length (g .events) = leb-true _ _ e in
           goes (event-fits tag v 0 (mark-of s) h) i
           (ap said-so (push-fits g (reports (c .pushed)) s (c .numbers) tag v h ∙ ap (λ (u : List Report). image g (c .numbers ++ (tag ∷ v ∷ 0 ∷ [])) u s) (sym (no-report (c .pushed) (mark-of s)))))
-      by-room false e =
-          let h : length (g .events) < length (c .numbers) + 3 = leb-false _ _ e in
+      by-fit false e =
+          let h : length (g .events) < length (c .numbers) + EVENT-ROW = leb-false _ _ e in
           stop (no-event-room (mark-of s)) (event-full (mark-of s) h)
           (subst (Refused (g .tokens) (no-event-room (mark-of s))) (sym (push-full g (reports (c .pushed)) s (c .numbers) tag v (f .events) h)) (refused-event g (c .numbers) (reports (c .pushed)) s))
 

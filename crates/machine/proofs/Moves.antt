@@ -6,6 +6,7 @@ use mathlib.Core.Path.{_≡_, refl, ap, _∙_}
 use mathlib.Core.Bool.{Bool, true, false, cond}
 use mathlib.Core.List.{List, [], _∷_}
 use lib.ListN.{length}
+use Rattle.definitions.specs.Layout.{MOST-TOKENS}
 use Rattle.definitions.specs.Token.{Token, seen, trivia, drop-trivia, one-of}
 use Rattle.definitions.specs.Skeleton.{Report}
 use Rattle.definitions.specs.Run.{State, taken, peeked, Run, run-of}
@@ -63,7 +64,7 @@ name-run-is g e l ks (t ∷ ts) p =
     pick false = refl
 
 -- how many tokens a name has
-distance : (n a r l : ℕ) → r + a ≡ l → suc l ≤ n → n ≤ 65536 → low (n - a - (n - suc l)) ≡ suc r
+distance : (n a r l : ℕ) → r + a ≡ l → suc l ≤ n → n ≤ MOST-TOKENS → low (n - a - (n - suc l)) ≡ suc r
 distance n a r l e h k = let d : n - a - (n - suc l) ≡ suc r = omega arith in ap low d ∙ mod-eq-of-lt (omega arith)
 
 pub name-count : (g : Ground) (e : List ℕ) (l : List Report) (s : State) (ks : List ℕ) (t : Token) (ts : List Token) → Part (g .tokens) (t ∷ ts)

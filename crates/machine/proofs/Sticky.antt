@@ -7,7 +7,7 @@ use mathlib.Core.List.{List, [], _∷_, _++_}
 use lib.Dec.{ltb, eqb}
 use lib.ListN.{length}
 use borrow.Author.Tests.{ne-eqb}
-use Rattle.definitions.specs.Layout.{PLACEHOLDER, START-NODE, LINKED-START-NODE, ADD-TOKEN, ADD-COMBINED-TOKEN, ERROR}
+use Rattle.definitions.specs.Layout.{PLACEHOLDER, START-NODE, ADD-TOKEN, ADD-COMBINED-TOKEN, ERROR, LINKED-START-NODE, TOO-DEEP, MOST-PENDING}
 use Rattle.definitions.specs.TokenKind as K
 use Rattle.definitions.specs.Errors as E
 use Rattle.definitions.specs.Token.{Token, seen, trivia, ended, one-of, first-in}
@@ -58,7 +58,7 @@ module _ (ts : List Token) (r : Refusal) where
   s-expect : (k : ℕ) (m : Machine) → Refused ts r m → Refused ts r (expect-code k m)
   unfolding expect-code
   s-expect k m h =
-      cond-all (Refused ts r) (ltb (length (m .pending)) 256) {x = with-pending (m .pending ++ (k ∷ [])) m} {y = refuse 5 m} (record { refusal = h .refusal; some = h .some; place = h .place }) (s-refuse 5 m h)
+      cond-all (Refused ts r) (ltb (length (m .pending)) MOST-PENDING) {x = with-pending (m .pending ++ (k ∷ [])) m} {y = refuse TOO-DEEP m} (record { refusal = h .refusal; some = h .some; place = h .place }) (s-refuse TOO-DEEP m h)
 
   pub s-push : (tag v : ℕ) (m : Machine) → Refused ts r m → Refused ts r (push tag v m)
   unfolding push
@@ -216,5 +216,5 @@ module _ (ts : List Token) (r : Refusal) where
 
   pub s-rule : (n : ℕ) (c : Rule) (m : Machine) → Refused ts r m → Refused ts r (walk-rule n ts c m .on)
   unfolding walk-rule
-  s-rule zero c m h = s-refuse 5 m h
+  s-rule zero c m h = s-refuse TOO-DEEP m h
   s-rule (suc n) c m h = s-walk (walk-rule n ts) (s-rule n) unlabelled (grammar c) m h

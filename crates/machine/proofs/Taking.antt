@@ -6,7 +6,7 @@ use mathlib.Core.Bool.{Bool, true, false, cond}
 use mathlib.Core.List.{List, [], _∷_, _++_}
 use lib.Dec.{ltb}
 use lib.ListN.{length}
-use Rattle.definitions.specs.Layout.{ADD-TOKEN, ADD-COMBINED-TOKEN}
+use Rattle.definitions.specs.Layout.{ADD-TOKEN, ADD-COMBINED-TOKEN, TOO-DEEP, MOST-PENDING}
 use Rattle.definitions.specs.Token.{Token, drop-trivia}
 use Rattle.definitions.specs.Skeleton.{Report, done, token, name, over}
 use Rattle.definitions.specs.Refusal.{too-deep, number-of, place-of}
@@ -52,7 +52,7 @@ fixed-sim g a k c s f i = quiet g c a k s _ f i refl
 
 -- ---------------------------------------------------------------- refusal 5
 
-pub refused-deep : (g : Ground) (e : List ℕ) (l : List Report) (s : State) → Refused (g .tokens) (too-deep (mark-of s)) (refuse 5 (image g e l s))
+pub refused-deep : (g : Ground) (e : List ℕ) (l : List Report) (s : State) → Refused (g .tokens) (too-deep (mark-of s)) (refuse TOO-DEEP (image g e l s))
 unfolding refuse image number-of place-of forward-mark
 refused-deep g e l s = record { refusal = refl; some = omega arith; place = refl }
 
@@ -61,7 +61,7 @@ unfolding scan
 deep-stops g c m f = scan-append (c .pushed) (exceeded m ∷ []) (room-at-first g) ∙ ap (λ (x : Fit). and-then x (scan (exceeded m ∷ []))) (f .room)
 
 -- an open call too many
-pub over-sim : (g : Ground) → Tracks g (λ s. makes no (over (mark-of s) done) s) (λ m. said no (refuse 5 m))
+pub over-sim : (g : Ground) → Tracks g (λ s. makes no (over (mark-of s) done) s) (λ m. said no (refuse TOO-DEEP m))
 unfolding makes pushes coded
 over-sim g c s f i = stop (too-deep (mark-of s)) (deep-stops g c (mark-of s) f) (refused-deep g (c .numbers) (reports (c .pushed)) s)
 
@@ -70,11 +70,11 @@ expecting s k = record { rest = s .rest; since = s .since; pending = s .pending 
 
 pub expected-sim : (g : Ground) (k : ℕ) → Tracks g (do-expected k) (λ m. said yes (expect-code k m))
 unfolding do-expected makes expect-code image over-unless pushes coded
-expected-sim g k c s f i = by-room (ltb (length (s .pending)) 256)
+expected-sim g k c s f i = by-fit (ltb (length (s .pending)) MOST-PENDING)
   where
-    by-room : (b : Bool) → Meets g (grow c (over-unless b (mark-of s))) yes 0 (expecting s k) (said yes (cond b (with-pending (s .pending ++ (k ∷ [])) (stand g c s)) (refuse 5 (stand g c s))))
-    by-room true = quiet g c yes 0 (expecting s k) _ f (record { rest = i .rest; since = i .since; order = i .order }) refl
-    by-room false = stop (too-deep (mark-of s)) (deep-stops g c (mark-of s) f) (refused-deep g (c .numbers) (reports (c .pushed)) s)
+    by-fit : (b : Bool) → Meets g (grow c (over-unless b (mark-of s))) yes 0 (expecting s k) (said yes (cond b (with-pending (s .pending ++ (k ∷ [])) (stand g c s)) (refuse TOO-DEEP (stand g c s))))
+    by-fit true = quiet g c yes 0 (expecting s k) _ f (record { rest = i .rest; since = i .since; order = i .order }) refl
+    by-fit false = stop (too-deep (mark-of s)) (deep-stops g c (mark-of s) f) (refused-deep g (c .numbers) (reports (c .pushed)) s)
 
 -- ---------------------------------------------------------------- a token, a name
 

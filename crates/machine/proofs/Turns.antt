@@ -10,7 +10,7 @@ use lib.ListN.{length, drop, length-drop}
 use borrow.Author.Tests.{ltb-true, lt-ltb}
 use Rattle.basics.proofs.Tests.{cond-all}
 use Rattle.basics.proofs.TokenRows.{tokens-length}
-use Rattle.definitions.specs.Layout.{TOKEN-ROW, TWO-TO-64}
+use Rattle.definitions.specs.Layout.{TOKEN-ROW, EVENT-ROW, ADD-TOKEN, NO-EVENT-ROOM, TWO-TO-64}
 use Rattle.definitions.specs.TokenKind as K
 use Rattle.definitions.specs.Token.{Token, tokens-of, trivia, ended, first-in}
 use Rattle.definitions.specs.Skeleton.{Span}
@@ -56,7 +56,7 @@ refuse-ahead ts n m h = omega (arith, length-drop PAST-THE-END ts, h)
 pub row-ahead : (ts : List Token) (tag value : ℕ) (m : Machine) → Few ts → ahead ts (push-row tag value m) ≤ ahead ts m
 unfolding push-row
 row-ahead ts tag value m h =
-    cond-all (λ (x : Machine). ahead ts x ≤ ahead ts m) (fits (length (m .events .numbers)) (m .events .count) 3) (omega arith) (omega (arith, refuse-ahead ts 6 m h))
+    cond-all (λ (x : Machine). ahead ts x ≤ ahead ts m) (fits (length (m .events .numbers)) (m .events .count) EVENT-ROW) (omega arith) (omega (arith, refuse-ahead ts NO-EVENT-ROOM m h))
 
 pub push-ahead : (ts : List Token) (tag value : ℕ) (m : Machine) → Few ts → ahead ts (push tag value m) ≤ ahead ts m
 unfolding push
@@ -67,7 +67,7 @@ first-ahead : (ts : List Token) (m : Machine) → Few ts → (l : List Token) �
 unfolding bump-first
 first-ahead ts m h [] e = omega (arith, ap length e)
 first-ahead ts m h (t ∷ l) e =
-    omega (arith, push-ahead ts 2 0 (took t m) h, length-drop (m .cursor) ts, length-drop (took t m .cursor) ts)
+    omega (arith, push-ahead ts ADD-TOKEN 0 (took t m) h, length-drop (m .cursor) ts, length-drop (took t m .cursor) ts)
 
 pub bump-ahead : (ts : List Token) (m : Machine) → Few ts → ahead ts (bump ts m) ≤ ahead ts m - 1
 unfolding bump

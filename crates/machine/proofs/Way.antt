@@ -4,7 +4,7 @@ use mathlib.Core.Path.{_≡_, refl, sym, ap, _∙_}
 use mathlib.Core.Bool.{Bool, true, false, cond}
 use mathlib.Core.List.{List}
 use native.Mathlib.Omega.{arith}
-use Rattle.definitions.specs.Layout.{PLACEHOLDER, START-NODE}
+use Rattle.definitions.specs.Layout.{PLACEHOLDER, START-NODE, TOO-DEEP}
 use Rattle.definitions.specs.Token.{Token}
 use Rattle.definitions.specs.Skeleton.{Span}
 use Rattle.definitions.specs.Prog.{Ans, no, yes, also, again, Rule, Act, Prog, ret, act, _⨟_, case, in-marker, open-call}
@@ -95,7 +95,7 @@ module _ (n : ℕ) {ts : List Token} where
   way e = e .is
 
 -- a rule: with no open call to spare, and with some
-pub rule-closed : (n : ℕ) (ts : List Token) (r : Rule) (m : Machine) → n ≡ 0 → said no (refuse 5 m) ≡ walk-rule n ts r m
+pub rule-closed : (n : ℕ) (ts : List Token) (r : Rule) (m : Machine) → n ≡ 0 → said no (refuse TOO-DEEP m) ≡ walk-rule n ts r m
 unfolding walk-rule
 rule-closed n ts r m e = rw e
 

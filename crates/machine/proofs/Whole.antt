@@ -6,6 +6,7 @@ use mathlib.Core.Path.{_≡_, refl, sym, subst}
 use mathlib.Core.Bool.{false}
 use mathlib.Core.List.{List, []}
 use lib.ListN.{length}
+use Rattle.definitions.specs.Layout.{MOST-OPEN-CALLS}
 use Rattle.definitions.specs.Token.{Token, bytes}
 use Rattle.definitions.specs.Skeleton.{no-label, Skeleton}
 use Rattle.definitions.specs.Refusal.{Refusal}
@@ -52,9 +53,9 @@ settled g o s h f =
     low-rows-small (length (g .tokens)) (bytes (g .tokens)) 0 (reports (pushes o)) (omega (arith, z, h .pool-fits)) in
     record {
       refusal = refl;
-      events-hold = subst (λ (l : List ℕ). Holds l (g .events) (stand g (grow none o) s .events)) e (record { numbers = refl; count = refl; room = f .events });
-      reports-hold = subst (λ (l : List ℕ). Holds l (g .reports) (stand g (grow none o) s .reports)) r (record { numbers = refl; count = refl; room = f .rows });
-      pool-holds = record { numbers = refl; count = refl; room = f .codes };
+      events-hold = subst (λ (l : List ℕ). Holds l (g .events) (stand g (grow none o) s .events)) e (record { numbers = refl; count = refl; inside = f .events });
+      reports-hold = subst (λ (l : List ℕ). Holds l (g .reports) (stand g (grow none o) s .reports)) r (record { numbers = refl; count = refl; inside = f .rows });
+      pool-holds = record { numbers = refl; count = refl; inside = f .codes };
     }
 
 ends-with : (g : Ground) (o : Skeleton) (x : Fit) (m : Machine) → scan (pushes o) (room-at-first g) ≡ x → Ends (g .tokens) o (g .events) (g .reports) (g .pool) x m
@@ -71,24 +72,24 @@ meets-ends g o w h (stop r e m) = ends-with g (o .made) (stops r) (w .on) e m
 -- THE MACHINE'S END, for every entry, tokens within the limits, and buffers of any lengths and contents. The skeleton has to be small
 -- only where all of it fits the buffers.
 pub machine-ends : (e : Entry) (ts : List Token) (ev rp pl : List ℕ) → Limits ts → ((z : Room) → scan (pushes (run-entry e ts)) (room-in ev rp pl) ≡ fits z → Small (run-entry e ts))
-    → Ends ts (run-entry e ts) ev rp pl (scan (pushes (run-entry e ts)) (room-in ev rp pl)) (walk-prog 64 ts unlabelled (whole e) (fresh ev rp pl) .on)
+    → Ends ts (run-entry e ts) ev rp pl (scan (pushes (run-entry e ts)) (room-in ev rp pl)) (walk-prog MOST-OPEN-CALLS ts unlabelled (whole e) (fresh ev rp pl) .on)
 unfolding run-entry
 machine-ends e ts ev rp pl l h =
     let g : Ground = record { tokens = ts; events = ev; reports = rp; pool = pl; limits = l } in
-    let o = exec (run 64) no-label (whole e) (taken ts) in
-    subst (λ (m : Machine). Ends ts (o .made) ev rp pl (scan (pushes (o .made)) (room-in ev rp pl)) (walk-prog 64 ts unlabelled (whole e) m .on)) (sym (fresh-is g))
-    (meets-ends g o (walk-prog 64 ts unlabelled (whole e) (stand g none (taken ts))) h
-    (prog-sim g 64 no-label (whole e) none (taken ts) (fitting-none g) (inside-taken g ts (part-whole ts))))
+    let o = exec (run MOST-OPEN-CALLS) no-label (whole e) (taken ts) in
+    subst (λ (m : Machine). Ends ts (o .made) ev rp pl (scan (pushes (o .made)) (room-in ev rp pl)) (walk-prog MOST-OPEN-CALLS ts unlabelled (whole e) m .on)) (sym (fresh-is g))
+    (meets-ends g o (walk-prog MOST-OPEN-CALLS ts unlabelled (whole e) (stand g none (taken ts))) h
+    (prog-sim g MOST-OPEN-CALLS no-label (whole e) none (taken ts) (fitting-none g) (inside-taken g ts (part-whole ts))))
 
 -- where all fits
 pub machine-accepts : (e : Entry) (ts : List Token) (ev rp pl : List ℕ) (z : Room) → Limits ts → Small (run-entry e ts) → scan (pushes (run-entry e ts)) (room-in ev rp pl) ≡ fits z
-    → Accepted ts (run-entry e ts) ev rp pl (walk-prog 64 ts unlabelled (whole e) (fresh ev rp pl) .on)
+    → Accepted ts (run-entry e ts) ev rp pl (walk-prog MOST-OPEN-CALLS ts unlabelled (whole e) (fresh ev rp pl) .on)
 machine-accepts e ts ev rp pl z l h q =
-    subst (λ (x : Fit). Ends ts (run-entry e ts) ev rp pl x (walk-prog 64 ts unlabelled (whole e) (fresh ev rp pl) .on)) q (machine-ends e ts ev rp pl l (λ y p. h))
+    subst (λ (x : Fit). Ends ts (run-entry e ts) ev rp pl x (walk-prog MOST-OPEN-CALLS ts unlabelled (whole e) (fresh ev rp pl) .on)) q (machine-ends e ts ev rp pl l (λ y p. h))
 
 -- where something does not, whatever the skeleton's size
 pub machine-refuses : (e : Entry) (ts : List Token) (ev rp pl : List ℕ) (r : Refusal) → Limits ts → scan (pushes (run-entry e ts)) (room-in ev rp pl) ≡ stops r
-    → Refused ts r (walk-prog 64 ts unlabelled (whole e) (fresh ev rp pl) .on)
+    → Refused ts r (walk-prog MOST-OPEN-CALLS ts unlabelled (whole e) (fresh ev rp pl) .on)
 machine-refuses e ts ev rp pl r l q =
-    subst (λ (x : Fit). Ends ts (run-entry e ts) ev rp pl x (walk-prog 64 ts unlabelled (whole e) (fresh ev rp pl) .on)) q
+    subst (λ (x : Fit). Ends ts (run-entry e ts) ev rp pl x (walk-prog MOST-OPEN-CALLS ts unlabelled (whole e) (fresh ev rp pl) .on)) q
     (machine-ends e ts ev rp pl l (λ z p. let x : _≡_ {A = ℕ} 0 1 = cc in absurd (omega arith)))

@@ -7,7 +7,7 @@ use lib.Dec.{ltb, leb, eqb}
 use lib.ListN.{length, drop}
 use lib.Seq.{sets}
 use Rattle.basics.specs.Word.{low}
-use Rattle.definitions.specs.Layout.{EVENT-ROW, REPORT-ROW, PLACEHOLDER, ADD-TOKEN, ADD-COMBINED-TOKEN, FINISH-NODE, ERROR, TOO-DEEP, NO-EVENT-ROOM, NO-REPORT-ROOM, MOST-PENDING}
+use Rattle.definitions.specs.Layout.{EVENT-ROW, EVENT-DISTANCE, REPORT-ROW, PLACEHOLDER, ADD-TOKEN, ADD-COMBINED-TOKEN, FINISH-NODE, ERROR, TOO-DEEP, NO-EVENT-ROOM, NO-REPORT-ROOM, MOST-PENDING, TWO-TO-64}
 use Rattle.definitions.specs.Token.{Token, seen, trivia, one-of}
 use Rattle.definitions.specs.Skeleton.{Span}
 use Rattle.definitions.specs.Run.{only-separators, pool-of}
@@ -59,7 +59,7 @@ with-refusal n p m = record { cursor = m .cursor; byte = m .byte; mark = m .mark
 
 -- past every row: the cursor after a refusal, so that every loop ends by itself
 abbrev pub PAST-THE-END : ℕ
-PAST-THE-END = 18446744073709551615
+PAST-THE-END = TWO-TO-64 - 1
 
 -- the token at the cursor passed over
 abbrev pub passed : Token → Machine → Machine
@@ -124,7 +124,7 @@ complete k kind m =
 
 -- the forward distance of the start at a place to the event at another
 abbrev pub put-link : ℕ → ℕ → List ℕ → List ℕ
-put-link from to l = cond (fits (length l) from EVENT-ROW && leb from to) (sets l (from + 2) (low ((to - from) / EVENT-ROW) ∷ [])) l
+put-link from to l = cond (fits (length l) from EVENT-ROW && leb from to) (sets l (from + EVENT-DISTANCE) (low ((to - from) / EVENT-ROW) ∷ [])) l
 
 -- links the completed node forward to a placeholder, which is pushed
 unfoldable pub precede : Marker → Machine → Machine

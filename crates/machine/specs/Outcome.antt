@@ -5,7 +5,7 @@ use mathlib.Core.Path.{_≡_}
 use mathlib.Core.Bool.{false}
 use mathlib.Core.List.{List, [], _∷_, _++_}
 use lib.ListN.{length, drop}
-use Rattle.definitions.specs.Layout.{EVENT-ROW, REPORT-ROW, TWO-TO-32, MOST-OPEN-CALLS}
+use Rattle.definitions.specs.Layout.{EVENT-ROW, REPORT-ROW, MOST-OPEN-CALLS, MOST-TOKENS, TWO-TO-32}
 use Rattle.definitions.specs.Token.{Token, tokens-of, bytes}
 use Rattle.definitions.specs.Skeleton.{Skeleton}
 use Rattle.definitions.specs.Event.{events}
@@ -24,7 +24,7 @@ Filled (t ∷ ts) = (1 ≤ t .len) × Filled ts
 
 -- what is asked of the tokens: causes 2 and 3 leave more
 pub record Limits (ts : List Token) : Type 0 where
-  pub few : length ts ≤ 65536
+  pub few : length ts ≤ MOST-TOKENS
   pub short : bytes ts < TWO-TO-32
   pub filled : Filled ts
 
@@ -39,22 +39,22 @@ unwritten l = record { count = 0; numbers = l }
 
 -- nothing taken, nothing pending, nothing written, nothing refused
 abbrev pub fresh : List ℕ → List ℕ → List ℕ → Machine
-fresh ev rp pl =
-    record { cursor = 0; byte = 0; mark = 0; mark-byte = 0; pending = []; events = unwritten ev; reports = unwritten rp; pool = unwritten pl; refusal = 0; place = 0 }
+fresh events reports pool =
+    record { cursor = 0; byte = 0; mark = 0; mark-byte = 0; pending = []; events = unwritten events; reports = unwritten reports; pool = unwritten pool; refusal = 0; place = 0 }
 
 -- the room of the three buffers, as `room-of` counts it
 abbrev pub room-in : List ℕ → List ℕ → List ℕ → Room
-room-in ev rp pl = record { events = length ev / EVENT-ROW; reports = length rp / REPORT-ROW; pool = length pl }
+room-in events reports pool = record { events = length events / EVENT-ROW; reports = length reports / REPORT-ROW; pool = length pool }
 
 -- the numbers l at the front of a buffer; the rest is as it was
 abbrev pub onto : List ℕ → List ℕ → List ℕ
 onto l b = l ++ drop (length l) b
 
--- the buffer b with the numbers l written to its front, and no more than it has room for
+-- the buffer b with the numbers l written to its front, no more than it is long
 pub record Holds (l b : List ℕ) (x : Buffer) : Type 0 where
   pub numbers : x .numbers ≡ onto l b
   pub count : x .count ≡ length l
-  pub room : length l ≤ length b
+  pub inside : length l ≤ length b
 
 -- nothing was refused: the events encode the skeleton, reports and pool are the definitions'
 pub record Accepted (ts : List Token) (o : Skeleton) (ev rp pl : List ℕ) (m : Machine) : Type 0 where

@@ -8,7 +8,7 @@ use native.Mathlib.Omega.{arith}
 use lib.Dec.{ltb, leb, eqb}
 use lib.ListN.{length, getD, set, take, drop}
 use lib.Seq.{sets, set-out}
-use Rattle.definitions.specs.Layout.{TOKEN-ROW}
+use Rattle.definitions.specs.Layout.{TOKEN-ROW, EVENT-ROW, EVENT-ARGUMENT, EVENT-DISTANCE, PLACEHOLDER, ADD-TOKEN, ADD-COMBINED-TOKEN, FINISH-NODE, TOO-DEEP, MOST-PENDING}
 use Rattle.definitions.specs.Token.{Token, tokens-of, past, ended, one-of, first-in, seen}
 use Rattle.definitions.specs.Skeleton.{Span}
 use Rattle.definitions.specs.Prog.{Ans, yes, silent-at, at-end, add-expected, bump, bump-name}
@@ -80,22 +80,22 @@ took-nothing tk m h = sym (ap (λ (l : List Token). take-first l m) (tokens-end 
 -- ---------------------------------------------------------------- refusals and expectations
 
 -- codes′: the codes with k stored at place n, if there is one
-module _ (ts : List Token) (b : Span) (codes codes′ : List ℕ) (n k : ℕ) (m : Machine) (long : length codes ≡ 256) (put : codes′ ≡ set codes n k) (pends : m .pending ≡ take n codes) where
+module _ (ts : List Token) (b : Span) (codes codes′ : List ℕ) (n k : ℕ) (m : Machine) (long : length codes ≡ MOST-PENDING) (put : codes′ ≡ set codes n k) (pends : m .pending ≡ take n codes) where
   pub expected-room : n < length codes → said yes (with-pending (take (n + 1) codes′) m) ≡ perform ts b (add-expected k) m
   unfolding perform
   expected-room h =
-      let few : ltb (length (m .pending)) 256 ≡ true = ap (λ (l : List ℕ). ltb (length l) 256) pends ∙ pending-few codes n long (omega (arith, long, h)) in
+      let few : ltb (length (m .pending)) MOST-PENDING ≡ true = ap (λ (l : List ℕ). ltb (length l) MOST-PENDING) pends ∙ pending-few codes n long (omega (arith, long, h)) in
       ap (λ (l : List ℕ). said yes (with-pending (take (n + 1) l) m)) put
       ∙ ap (λ (l : List ℕ). said yes (with-pending l m)) (pending-more codes n k h ∙ ap (λ (l : List ℕ). l ++ (k ∷ [])) (sym pends))
-      ∙ sym (ap (λ (z : Bool). said yes (cond z (with-pending (m .pending ++ (k ∷ [])) m) (M.refuse 5 m))) few)
+      ∙ sym (ap (λ (z : Bool). said yes (cond z (with-pending (m .pending ++ (k ∷ [])) m) (M.refuse TOO-DEEP m))) few)
 
-  pub expected-full : (r : Machine) → length codes ≤ n → r ≡ M.refuse 5 (with-pending (take n codes′) m) → said yes r ≡ perform ts b (add-expected k) m
+  pub expected-full : (r : Machine) → length codes ≤ n → r ≡ M.refuse TOO-DEEP (with-pending (take n codes′) m) → said yes r ≡ perform ts b (add-expected k) m
   unfolding perform
   expected-full r h q =
-      let full : ltb (length (m .pending)) 256 ≡ false = ap (λ (l : List ℕ). ltb (length l) 256) pends ∙ pending-full codes n long (omega (arith, long, h)) in
+      let full : ltb (length (m .pending)) MOST-PENDING ≡ false = ap (λ (l : List ℕ). ltb (length l) MOST-PENDING) pends ∙ pending-full codes n long (omega (arith, long, h)) in
       let same : take n codes′ ≡ m .pending = ap (take n) (put ∙ set-out codes n k h) ∙ sym pends in
-      ap (λ (x : Machine). said yes x) (q ∙ ap (λ (l : List ℕ). M.refuse 5 (with-pending l m)) same)
-      ∙ sym (ap (λ (z : Bool). said yes (cond z (with-pending (m .pending ++ (k ∷ [])) m) (M.refuse 5 m))) full)
+      ap (λ (x : Machine). said yes x) (q ∙ ap (λ (l : List ℕ). M.refuse TOO-DEEP (with-pending l m)) same)
+      ∙ sym (ap (λ (z : Bool). said yes (cond z (with-pending (m .pending ++ (k ∷ [])) m) (M.refuse TOO-DEEP m))) full)
 
 -- ---------------------------------------------------------------- events
 
@@ -107,40 +107,40 @@ pub push-off : (tag value : ℕ) (m : Machine) → eqb (m .refusal) 0 ≡ false 
 unfolding M.push
 push-off tag value m e = sym (ap (λ (z : Bool). cond z (M.push-row tag value m) m) e)
 
-pub started : (l : List ℕ) (at tag kind : ℕ) (b : Bool) → b ≡ fits (length l) at 3 → b ≡ true → set (set l at tag) (at + 1) kind ≡ put-start (record { place = at; tag = tag }) kind l
-started l at tag kind b e f = sets2 l at tag kind ∙ sym (on-true b (fits (length l) at 3) (sets l at (tag ∷ kind ∷ [])) l e f)
+pub started : (l : List ℕ) (at tag kind : ℕ) (b : Bool) → b ≡ fits (length l) at EVENT-ROW → b ≡ true → set (set l at tag) (at + EVENT-ARGUMENT) kind ≡ put-start (record { place = at; tag = tag }) kind l
+started l at tag kind b e f = sets2 l at tag kind ∙ sym (on-true b (fits (length l) at EVENT-ROW) (sets l at (tag ∷ kind ∷ [])) l e f)
 
-pub not-started : (l : List ℕ) (at tag kind : ℕ) (b : Bool) → b ≡ fits (length l) at 3 → b ≡ false → l ≡ put-start (record { place = at; tag = tag }) kind l
-not-started l at tag kind b e f = sym (on-false b (fits (length l) at 3) (sets l at (tag ∷ kind ∷ [])) l e f)
+pub not-started : (l : List ℕ) (at tag kind : ℕ) (b : Bool) → b ≡ fits (length l) at EVENT-ROW → b ≡ false → l ≡ put-start (record { place = at; tag = tag }) kind l
+not-started l at tag kind b e f = sym (on-false b (fits (length l) at EVENT-ROW) (sets l at (tag ∷ kind ∷ [])) l e f)
 
-pub linked : (l : List ℕ) (at to d : ℕ) (b : Bool) → b ≡ fits (length l) at 3 → b ≡ true → leb at to ≡ true → d ≡ low ((to - at) / 3) → set l (at + 2) d ≡ put-link at to l
+pub linked : (l : List ℕ) (at to d : ℕ) (b : Bool) → b ≡ fits (length l) at EVENT-ROW → b ≡ true → leb at to ≡ true → d ≡ low ((to - at) / EVENT-ROW) → set l (at + EVENT-DISTANCE) d ≡ put-link at to l
 linked l at to d b e f g h =
-    ap (λ (x : ℕ). set l (at + 2) x) h
-    ∙ sym (ap (λ (z : Bool). cond (z && leb at to) (sets l (at + 2) (low ((to - at) / 3) ∷ [])) l) (sym e ∙ f) ∙ ap (λ (z : Bool). cond z (sets l (at + 2) (low ((to - at) / 3) ∷ [])) l) g)
+    ap (λ (x : ℕ). set l (at + EVENT-DISTANCE) x) h
+    ∙ sym (ap (λ (z : Bool). cond (z && leb at to) (sets l (at + EVENT-DISTANCE) (low ((to - at) / EVENT-ROW) ∷ [])) l) (sym e ∙ f) ∙ ap (λ (z : Bool). cond z (sets l (at + EVENT-DISTANCE) (low ((to - at) / EVENT-ROW) ∷ [])) l) g)
 
-pub not-ahead : (l : List ℕ) (at to : ℕ) (b : Bool) → b ≡ fits (length l) at 3 → b ≡ true → leb at to ≡ false → l ≡ put-link at to l
+pub not-ahead : (l : List ℕ) (at to : ℕ) (b : Bool) → b ≡ fits (length l) at EVENT-ROW → b ≡ true → leb at to ≡ false → l ≡ put-link at to l
 not-ahead l at to b e f g =
-    sym (ap (λ (z : Bool). cond (z && leb at to) (sets l (at + 2) (low ((to - at) / 3) ∷ [])) l) (sym e ∙ f) ∙ ap (λ (z : Bool). cond z (sets l (at + 2) (low ((to - at) / 3) ∷ [])) l) g)
+    sym (ap (λ (z : Bool). cond (z && leb at to) (sets l (at + EVENT-DISTANCE) (low ((to - at) / EVENT-ROW) ∷ [])) l) (sym e ∙ f) ∙ ap (λ (z : Bool). cond z (sets l (at + EVENT-DISTANCE) (low ((to - at) / EVENT-ROW) ∷ [])) l) g)
 
-pub not-linked : (l : List ℕ) (at to : ℕ) (b : Bool) → b ≡ fits (length l) at 3 → b ≡ false → l ≡ put-link at to l
-not-linked l at to b e f = sym (ap (λ (z : Bool). cond (z && leb at to) (sets l (at + 2) (low ((to - at) / 3) ∷ [])) l) (sym e ∙ f))
+pub not-linked : (l : List ℕ) (at to : ℕ) (b : Bool) → b ≡ fits (length l) at EVENT-ROW → b ≡ false → l ≡ put-link at to l
+not-linked l at to b e f = sym (ap (λ (z : Bool). cond (z && leb at to) (sets l (at + EVENT-DISTANCE) (low ((to - at) / EVENT-ROW) ∷ [])) l) (sym e ∙ f))
 
 -- events put-started, then a finish
 pub complete-on : (k : Marker) (kind : ℕ) (m r : Machine) (l : List ℕ) → eqb (m .refusal) 0 ≡ true → l ≡ put-start k kind (m .events .numbers)
-    → r ≡ M.push-row 4 0 (with-events (record { count = m .events .count; numbers = l }) m) → r ≡ M.complete k kind m
+    → r ≡ M.push-row FINISH-NODE 0 (with-events (record { count = m .events .count; numbers = l }) m) → r ≡ M.complete k kind m
 unfolding M.complete
 complete-on k kind m r l e f g =
-    g ∙ ap (λ (x : List ℕ). M.push-row 4 0 (with-events (record { count = m .events .count; numbers = x }) m)) f
-    ∙ sym (ap (λ (z : Bool). cond z (M.push-row 4 0 (with-events (record { count = m .events .count; numbers = put-start k kind (m .events .numbers) }) m)) m) e)
+    g ∙ ap (λ (x : List ℕ). M.push-row FINISH-NODE 0 (with-events (record { count = m .events .count; numbers = x }) m)) f
+    ∙ sym (ap (λ (z : Bool). cond z (M.push-row FINISH-NODE 0 (with-events (record { count = m .events .count; numbers = put-start k kind (m .events .numbers) }) m)) m) e)
 
 pub complete-off : (k : Marker) (kind : ℕ) (m : Machine) → eqb (m .refusal) 0 ≡ false → m ≡ M.complete k kind m
 unfolding M.complete
-complete-off k kind m e = sym (ap (λ (z : Bool). cond z (M.push-row 4 0 (with-events (record { count = m .events .count; numbers = put-start k kind (m .events .numbers) }) m)) m) e)
+complete-off k kind m e = sym (ap (λ (z : Bool). cond z (M.push-row FINISH-NODE 0 (with-events (record { count = m .events .count; numbers = put-start k kind (m .events .numbers) }) m)) m) e)
 
 abbrev preceded : Marker → Machine → Machine → Machine
 preceded k m p = cond (eqb (p .refusal) 0) (with-events (record { count = p .events .count; numbers = put-link (k .place) (m .events .count) (p .events .numbers) }) p) p
 
-pub precede-on : (k : Marker) (m p : Machine) (l : List ℕ) → p ≡ M.push 0 0 m → eqb (p .refusal) 0 ≡ true → l ≡ put-link (k .place) (m .events .count) (p .events .numbers)
+pub precede-on : (k : Marker) (m p : Machine) (l : List ℕ) → p ≡ M.push PLACEHOLDER 0 m → eqb (p .refusal) 0 ≡ true → l ≡ put-link (k .place) (m .events .count) (p .events .numbers)
     → with-events (record { count = p .events .count; numbers = l }) p ≡ M.precede k m
 unfolding M.precede
 precede-on k m p l e f g =
@@ -148,19 +148,19 @@ precede-on k m p l e f g =
     ∙ sym (ap (λ (z : Bool). cond z (with-events (record { count = p .events .count; numbers = put-link (k .place) (m .events .count) (p .events .numbers) }) p) p) f)
     ∙ ap (preceded k m) e
 
-pub precede-off : (k : Marker) (m p : Machine) → p ≡ M.push 0 0 m → eqb (p .refusal) 0 ≡ false → p ≡ M.precede k m
+pub precede-off : (k : Marker) (m p : Machine) → p ≡ M.push PLACEHOLDER 0 m → eqb (p .refusal) 0 ≡ false → p ≡ M.precede k m
 unfolding M.precede
 precede-off k m p e f =
     sym (ap (λ (z : Bool). cond z (with-events (record { count = p .events .count; numbers = put-link (k .place) (m .events .count) (p .events .numbers) }) p) p) f) ∙ ap (preceded k m) e
 
 -- ---------------------------------------------------------------- tokens and names taken
 
-pub bump-in : (tk : List ℕ) (b : Span) (m p q r : Machine) → p ≡ M.peek (tokens-of tk) m → p .cursor < length tk / TOKEN-ROW → q ≡ take-first (drop (p .cursor) (tokens-of tk)) p → r ≡ M.push 2 0 q
+pub bump-in : (tk : List ℕ) (b : Span) (m p q r : Machine) → p ≡ M.peek (tokens-of tk) m → p .cursor < length tk / TOKEN-ROW → q ≡ take-first (drop (p .cursor) (tokens-of tk)) p → r ≡ M.push ADD-TOKEN 0 q
     → said yes r ≡ perform (tokens-of tk) b bump m
 unfolding perform M.bump M.bump-first take-first
 bump-in tk b m p q r e h f g =
     let d = tokens-cons tk (p .cursor) h in
-    ap (λ (x : Machine). said yes x) (g ∙ ap (λ (x : Machine). M.push 2 0 x) (f ∙ ap (λ (l : List Token). take-first l p) d) ∙ sym (ap (λ (l : List Token). M.bump-first l p) d))
+    ap (λ (x : Machine). said yes x) (g ∙ ap (λ (x : Machine). M.push ADD-TOKEN 0 x) (f ∙ ap (λ (l : List Token). take-first l p) d) ∙ sym (ap (λ (l : List Token). M.bump-first l p) d))
     ∙ ap (λ (x : Machine). said yes (M.bump-first (drop (x .cursor) (tokens-of tk)) x)) e
 
 pub bump-past : (tk : List ℕ) (b : Span) (m p : Machine) → p ≡ M.peek (tokens-of tk) m → length tk / TOKEN-ROW ≤ p .cursor → said yes p ≡ perform (tokens-of tk) b bump m
@@ -170,7 +170,7 @@ bump-past tk b m p e h =
     ∙ ap (λ (x : Machine). said yes (M.bump-first (drop (x .cursor) (tokens-of tk)) x)) e
 
 pub name-in : (tk ks : List ℕ) (b : Span) (m p q r x : Machine) (n : ℕ) → p ≡ M.peek (tokens-of tk) m → p .cursor < length tk / TOKEN-ROW → q ≡ take-first (drop (p .cursor) (tokens-of tk)) p
-    → r ≡ M.name-run ks (drop (q .cursor) (tokens-of tk)) q → n ≡ low (r .cursor - p .cursor) → x ≡ M.push 3 n r → said yes x ≡ perform (tokens-of tk) b (bump-name ks) m
+    → r ≡ M.name-run ks (drop (q .cursor) (tokens-of tk)) q → n ≡ low (r .cursor - p .cursor) → x ≡ M.push ADD-COMBINED-TOKEN n r → said yes x ≡ perform (tokens-of tk) b (bump-name ks) m
 unfolding perform M.bump-name M.name-first take-first
 name-in tk ks b m p q r x n e h f g i j =
     let d = tokens-cons tk (p .cursor) h in
@@ -178,7 +178,7 @@ name-in tk ks b m p q r x n e h f g i j =
     let z : r ≡ M.name-run ks (drop (p .cursor + 1) (tokens-of tk)) (took t p) =
     g ∙ ap (λ (y : Machine). M.name-run ks (drop (y .cursor) (tokens-of tk)) y) (f ∙ ap (λ (l : List Token). take-first l p) d) in
     ap (λ (y : Machine). said yes y)
-    (j ∙ ap (λ (v : ℕ). M.push 3 v r) i ∙ ap (λ (y : Machine). M.push 3 (low (y .cursor - p .cursor)) y) z ∙ sym (ap (λ (l : List Token). M.name-first ks l p) d))
+    (j ∙ ap (λ (v : ℕ). M.push ADD-COMBINED-TOKEN v r) i ∙ ap (λ (y : Machine). M.push ADD-COMBINED-TOKEN (low (y .cursor - p .cursor)) y) z ∙ sym (ap (λ (l : List Token). M.name-first ks l p) d))
     ∙ ap (λ (y : Machine). said yes (M.name-first ks (drop (y .cursor) (tokens-of tk)) y)) e
 
 pub name-past : (tk ks : List ℕ) (b : Span) (m p : Machine) → p ≡ M.peek (tokens-of tk) m → length tk / TOKEN-ROW ≤ p .cursor → said yes p ≡ perform (tokens-of tk) b (bump-name ks) m

@@ -6,7 +6,7 @@ use mathlib.Core.List.{List, [], _∷_}
 use lib.Dec.{eqb}
 use lib.ListN.{length, set, take, drop}
 use lib.Seq.{sets, length-take-le}
-use Rattle.definitions.specs.Layout.{TOKEN-ROW}
+use Rattle.definitions.specs.Layout.{TOKEN-ROW, REPORT-ROW, ERROR, NO-REPORT-ROOM}
 use Rattle.definitions.specs.Token.{Token, tokens-of}
 use Rattle.definitions.specs.Skeleton.{Span}
 use Rattle.definitions.specs.Run.{only-separators, pool-of}
@@ -61,11 +61,11 @@ sets9 l i a b d e f g h j k =
     (and-store (a ∷ b ∷ []) l i d _
     (and-store (a ∷ []) l i b _ refl)))))))
 
-pub stored-row : (l r x : List ℕ) (at : ℕ) (y : Bool) → y ≡ fits (length l) at 9 → y ≡ true → x ≡ sets l at r → x ≡ stored at r l
-stored-row l r x at y e f g = g ∙ sym (on-true y (fits (length l) at 9) (sets l at r) l e f)
+pub stored-row : (l r x : List ℕ) (at : ℕ) (y : Bool) → y ≡ fits (length l) at REPORT-ROW → y ≡ true → x ≡ sets l at r → x ≡ stored at r l
+stored-row l r x at y e f g = g ∙ sym (on-true y (fits (length l) at REPORT-ROW) (sets l at r) l e f)
 
-pub not-stored : (l r : List ℕ) (at : ℕ) (y : Bool) → y ≡ fits (length l) at 9 → y ≡ false → l ≡ stored at r l
-not-stored l r at y e f = sym (on-false y (fits (length l) at 9) (sets l at r) l e f)
+pub not-stored : (l r : List ℕ) (at : ℕ) (y : Bool) → y ≡ fits (length l) at REPORT-ROW → y ≡ false → l ≡ stored at r l
+not-stored l r at y e f = sym (on-false y (fits (length l) at REPORT-ROW) (sets l at r) l e f)
 
 -- ---------------------------------------------------------------- the report
 
@@ -74,13 +74,13 @@ abbrev written-if : Bool → ℕ → ℕ → Span → Span → Machine → List 
 written-if v message hint range lab m ks =
     cond (v && fits (length (m .pool .numbers)) (m .pool .count) (length ks))
     (with-reports
-    (record { count = m .reports .count + 9; numbers = sets (m .reports .numbers) (m .reports .count) (report-row message hint range lab (m .mark) (m .pool .count) (length ks)) })
+    (record { count = m .reports .count + REPORT-ROW; numbers = sets (m .reports .numbers) (m .reports .count) (report-row message hint range lab (m .mark) (m .pool .count) (length ks)) })
     (record { count = m .pool .count + length ks; numbers = sets (m .pool .numbers) (m .pool .count) ks })
     m)
-    (M.refuse 7 m)
+    (M.refuse NO-REPORT-ROOM m)
 
 abbrev written : ℕ → ℕ → Span → Span → Machine → List ℕ → Machine
-written message hint range lab m ks = written-if (fits (length (m .reports .numbers)) (m .reports .count) 9) message hint range lab m ks
+written message hint range lab m ks = written-if (fits (length (m .reports .numbers)) (m .reports .count) REPORT-ROW) message hint range lab m ks
 
 report-on : (message hint : ℕ) (range lab : Span) (m : Machine) (ks : List ℕ) → m .refusal ≡ 0 → ks ≡ pool-of message (m .pending) → written message hint range lab m ks ≡ write-report message hint range lab m
 unfolding write-report
@@ -93,7 +93,7 @@ report-off message hint range lab m e = sym (ap (λ (b : Bool). cond b (written 
 
 module _ (message hint : ℕ) (range lab : Span) (m : Machine) (codes : List ℕ) (n : ℕ) (y z : Bool)
     (quiet : m .refusal ≡ 0) (has : take n codes ≡ pool-of message (m .pending)) (few : n ≤ length codes)
-    (rows : y ≡ fits (length (m .reports .numbers)) (m .reports .count) 9) (pools : z ≡ fits (length (m .pool .numbers)) (m .pool .count) n) where
+    (rows : y ≡ fits (length (m .reports .numbers)) (m .reports .count) REPORT-ROW) (pools : z ≡ fits (length (m .pool .numbers)) (m .pool .count) n) where
   size : length (take n codes) ≡ n
   size = length-take-le n codes few
 
@@ -104,41 +104,41 @@ module _ (message hint : ℕ) (range lab : Span) (m : Machine) (codes : List ℕ
   abbrev both : Machine
   both =
       with-reports
-      (record { count = m .reports .count + 9; numbers = sets (m .reports .numbers) (m .reports .count) (report-row message hint range lab (m .mark) (m .pool .count) (length (take n codes))) })
+      (record { count = m .reports .count + REPORT-ROW; numbers = sets (m .reports .numbers) (m .reports .count) (report-row message hint range lab (m .mark) (m .pool .count) (length (take n codes))) })
       (record { count = m .pool .count + length (take n codes); numbers = sets (m .pool .numbers) (m .pool .count) (take n codes) })
       m
 
-  tested : (b c : Bool) → y ≡ b → z ≡ c → written message hint range lab m (take n codes) ≡ cond (b && c) both (M.refuse 7 m)
-  tested b c e f = ap (λ (v : Bool). written-if v message hint range lab m (take n codes)) (sym rows ∙ e) ∙ ap (λ (v : Bool). cond (b && v) both (M.refuse 7 m)) (sym pools-of ∙ f)
+  tested : (b c : Bool) → y ≡ b → z ≡ c → written message hint range lab m (take n codes) ≡ cond (b && c) both (M.refuse NO-REPORT-ROOM m)
+  tested b c e f = ap (λ (v : Bool). written-if v message hint range lab m (take n codes)) (sym rows ∙ e) ∙ ap (λ (v : Bool). cond (b && v) both (M.refuse NO-REPORT-ROOM m)) (sym pools-of ∙ f)
 
   pub report-fits : (reports pool : List ℕ) (mark first count : ℕ) → y ≡ true → z ≡ true → mark ≡ low (m .mark) → first ≡ low (m .pool .count) → count ≡ low n
       → reports ≡ stored (m .reports .count) (message ∷ range .from ∷ range .to ∷ mark ∷ first ∷ count ∷ hint ∷ lab .from ∷ lab .to ∷ []) (m .reports .numbers)
       → pool ≡ sets (m .pool .numbers) (m .pool .count) (take n codes)
-      → with-reports (record { count = m .reports .count + 9; numbers = reports }) (record { count = m .pool .count + n; numbers = pool }) m ≡ write-report message hint range lab m
+      → with-reports (record { count = m .reports .count + REPORT-ROW; numbers = reports }) (record { count = m .pool .count + n; numbers = pool }) m ≡ write-report message hint range lab m
   report-fits reports pool mark first count e f p q r s t =
       let at = m .reports .count in
       let l = m .reports .numbers in
       let w : ℕ → ℕ → ℕ → List ℕ = λ a b d. message ∷ range .from ∷ range .to ∷ a ∷ b ∷ d ∷ hint ∷ lab .from ∷ lab .to ∷ [] in
       let u : reports ≡ sets l at (report-row message hint range lab (m .mark) (m .pool .count) n) =
-      s ∙ on-true y (fits (length l) at 9) (sets l at (w mark first count)) l rows e
+      s ∙ on-true y (fits (length l) at REPORT-ROW) (sets l at (w mark first count)) l rows e
       ∙ ap (λ (a : ℕ). sets l at (w a first count)) p ∙ ap (λ (b : ℕ). sets l at (w (low (m .mark)) b count)) q ∙ ap (λ (d : ℕ). sets l at (w (low (m .mark)) (low (m .pool .count)) d)) r in
-      ap (λ (x : List ℕ). with-reports (record { count = at + 9; numbers = x }) (record { count = m .pool .count + n; numbers = pool }) m) u
-      ∙ ap (λ (x : List ℕ). with-reports (record { count = at + 9; numbers = sets l at (report-row message hint range lab (m .mark) (m .pool .count) n) }) (record { count = m .pool .count + n; numbers = x }) m) t
-      ∙ ap (λ (k : ℕ). with-reports (record { count = at + 9; numbers = sets l at (report-row message hint range lab (m .mark) (m .pool .count) k) }) (record { count = m .pool .count + k; numbers = sets (m .pool .numbers) (m .pool .count) (take n codes) }) m) (sym size)
+      ap (λ (x : List ℕ). with-reports (record { count = at + REPORT-ROW; numbers = x }) (record { count = m .pool .count + n; numbers = pool }) m) u
+      ∙ ap (λ (x : List ℕ). with-reports (record { count = at + REPORT-ROW; numbers = sets l at (report-row message hint range lab (m .mark) (m .pool .count) n) }) (record { count = m .pool .count + n; numbers = x }) m) t
+      ∙ ap (λ (k : ℕ). with-reports (record { count = at + REPORT-ROW; numbers = sets l at (report-row message hint range lab (m .mark) (m .pool .count) k) }) (record { count = m .pool .count + k; numbers = sets (m .pool .numbers) (m .pool .count) (take n codes) }) m) (sym size)
       ∙ sym (tested true true e f) ∙ report-on message hint range lab m (take n codes) quiet has
 
-  pub report-no-pool : (r : Machine) → y ≡ true → z ≡ false → r ≡ M.refuse 7 m → r ≡ write-report message hint range lab m
+  pub report-no-pool : (r : Machine) → y ≡ true → z ≡ false → r ≡ M.refuse NO-REPORT-ROOM m → r ≡ write-report message hint range lab m
   report-no-pool r e f g = g ∙ sym (tested true false e f) ∙ report-on message hint range lab m (take n codes) quiet has
 
-pub report-no-row : (message hint : ℕ) (range lab : Span) (m r : Machine) (y : Bool) → m .refusal ≡ 0 → y ≡ fits (length (m .reports .numbers)) (m .reports .count) 9 → y ≡ false → r ≡ M.refuse 7 m
+pub report-no-row : (message hint : ℕ) (range lab : Span) (m r : Machine) (y : Bool) → m .refusal ≡ 0 → y ≡ fits (length (m .reports .numbers)) (m .reports .count) REPORT-ROW → y ≡ false → r ≡ M.refuse NO-REPORT-ROOM m
     → r ≡ write-report message hint range lab m
 report-no-row message hint range lab m r y q e f g =
     g ∙ sym (ap (λ (v : Bool). written-if v message hint range lab m (pool-of message (m .pending))) (sym e ∙ f)) ∙ report-on message hint range lab m (pool-of message (m .pending)) q refl
 
 -- the event, and then the row
-pub emit-is : (ts : List Token) (message hint : ℕ) (range lab : Span) (m p q r : Machine) → p ≡ M.peek ts m → range ≡ error-range (drop (p .cursor) ts) p → q ≡ M.push 5 0 p
+pub emit-is : (ts : List Token) (message hint : ℕ) (range lab : Span) (m p q r : Machine) → p ≡ M.peek ts m → range ≡ error-range (drop (p .cursor) ts) p → q ≡ M.push ERROR 0 p
     → r ≡ write-report message hint range lab q → r ≡ M.emit ts message hint lab m
 unfolding M.emit
 emit-is ts message hint range lab m p q r e f g h =
-    h ∙ ap (λ (x : Machine). write-report message hint range lab x) g ∙ ap (λ (x : Span). write-report message hint x lab (M.push 5 0 p)) f
-    ∙ ap (λ (x : Machine). write-report message hint (error-range (drop (x .cursor) ts) x) lab (M.push 5 0 x)) e
+    h ∙ ap (λ (x : Machine). write-report message hint range lab x) g ∙ ap (λ (x : Span). write-report message hint x lab (M.push ERROR 0 p)) f
+    ∙ ap (λ (x : Machine). write-report message hint (error-range (drop (x .cursor) ts) x) lab (M.push ERROR 0 x)) e

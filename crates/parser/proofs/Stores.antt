@@ -8,9 +8,10 @@ use lib.Dec.{ltb}
 use lib.ListN.{length, set, take}
 use lib.Seq.{take-suc-set, sets, length-take-le, take-all}
 use borrow.Author.Tests.{lt-ltb, le-ltb}
+use Rattle.definitions.specs.Layout.{MOST-PENDING, TWO-TO-64}
 use Rattle.definitions.specs.Token.{Token}
 use Rattle.basics.specs.Word.{low}
-use Rattle.machine.specs.Machine.{Machine, range-at, refuse}
+use Rattle.machine.specs.Machine.{PAST-THE-END, Machine, range-at, refuse}
 use Rattle.parser.specs.View.{left}
 use Rattle.parser.specs.declared.State.{State}
 
@@ -31,22 +32,22 @@ sets3 l i a b d = let e : i + 2 ≡ suc (suc i) = omega arith in ap (λ (x : Lis
 pub pending-more : (codes : List ℕ) (n k : ℕ) → n < length codes → take (n + 1) (set codes n k) ≡ take n codes ++ (k ∷ [])
 pending-more codes n k h = let e : n + 1 ≡ suc n = omega arith in ap (λ (j : ℕ). take j (set codes n k)) e ∙ take-suc-set codes n k h
 
--- how many are pending, where there are 256 codes
-pub pending-few : (codes : List ℕ) (n : ℕ) → length codes ≡ 256 → n < 256 → ltb (length (take n codes)) 256 ≡ true
-pending-few codes n e h = ap (λ (j : ℕ). ltb j 256) (length-take-le n codes (omega (arith, e, h))) ∙ lt-ltb n 256 h
+-- how many are pending, where there is room for as many codes as may be pending
+pub pending-few : (codes : List ℕ) (n : ℕ) → length codes ≡ MOST-PENDING → n < MOST-PENDING → ltb (length (take n codes)) MOST-PENDING ≡ true
+pending-few codes n e h = ap (λ (j : ℕ). ltb j MOST-PENDING) (length-take-le n codes (omega (arith, e, h))) ∙ lt-ltb n MOST-PENDING h
 
-pub pending-full : (codes : List ℕ) (n : ℕ) → length codes ≡ 256 → 256 ≤ n → ltb (length (take n codes)) 256 ≡ false
-pending-full codes n e h = ap (λ (j : ℕ). ltb j 256) (ap length (take-all n codes (omega (arith, e, h))) ∙ e) ∙ le-ltb 256 256 (omega arith)
+pub pending-full : (codes : List ℕ) (n : ℕ) → length codes ≡ MOST-PENDING → MOST-PENDING ≤ n → ltb (length (take n codes)) MOST-PENDING ≡ false
+pending-full codes n e h = ap (λ (j : ℕ). ltb j MOST-PENDING) (ap length (take-all n codes (omega (arith, e, h))) ∙ e) ∙ le-ltb MOST-PENDING MOST-PENDING (omega arith)
 
 -- a difference that stops at 0
 pub below : (a b : ℕ) → a ≤ b → low (a - b) ≡ 0
 below a b h = let e : a - b ≡ 0 = omega (arith, h) in ap low e
 
 -- past every row nothing is left
-pub left-none : (tk : List ℕ) (s : State) → s .cursor .0 ≡ 18446744073709551615 → length tk < 18446744073709551616 → left tk s ≡ 0
+pub left-none : (tk : List ℕ) (s : State) → s .cursor .0 ≡ PAST-THE-END → length tk < TWO-TO-64 → left tk s ≡ 0
 unfolding left
 left-none tk s e h = omega (arith, e, h)
 
-pub refused-past : (n : ℕ) (m r : Machine) → r ≡ refuse n m → r .cursor ≡ 18446744073709551615
+pub refused-past : (n : ℕ) (m r : Machine) → r ≡ refuse n m → r .cursor ≡ PAST-THE-END
 unfolding refuse
 refused-past n m r e = ap (λ (x : Machine). x .cursor) e

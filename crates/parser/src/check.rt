@@ -138,7 +138,9 @@ impl State {
         events: &mut [u32],
         matcher: Matcher,
     ) -> Started
-        ensures { λ r. ⌜ ((ask : Rule → Machine → Walked) (b : Span) (reports pool : List ℕ) → starting ask (tokens-of (now (tokens .entry))) b (matcher-of matcher) (view self (now (codes .entry)) (now (events .entry)) reports pool)
+        ensures { λ r. ⌜ ((ask : Rule → Machine → Walked) (b : Span) (reports pool : List ℕ)
+            → starting ask (tokens-of (now (tokens .entry))) b (matcher-of matcher)
+            (view self (now (codes .entry)) (now (events .entry)) reports pool)
             ≡ record { yes = r .yes; marker = marker-of (r .m); on = view (r .s) (now (codes .exit)) (now (events .exit)) reports pool }) ⌝ }
         ensures { λ r. ⌜ left (now (tokens .entry)) (r .s) ≤ left (now (tokens .entry)) self ⌝ }
         ensures { λ r. ⌜ (r .yes ≡ true → left (now (tokens .entry)) (r .s) ≤ left (now (tokens .entry)) self - 1) ⌝ }

@@ -18,14 +18,13 @@ ghost use mathlib.Core.List.{List, [], _∷_};
 ghost use Prim.Native.Nat.{ℕ, _+_, _-_, _≤_, _<_};
 ghost use lib.ListN.{length, take, drop};
 ghost use Rattle.definitions.specs.Token.{tokens-of};
-ghost use Rattle.definitions.specs.Skeleton.{Span};
-ghost use Rattle.definitions.specs.Prog.{Rule, yes};
+ghost use Rattle.definitions.specs.Prog.{yes};
 ghost use Rattle.definitions.specs.Check.{if_then_else_, end?, bump!, tell, in-node as node-prog};
 ghost use Rattle.definitions.specs.NodeKind as N;
 ghost use Rattle.definitions.specs.Run.{only-separators, pool-of};
-ghost use Rattle.machine.specs.Machine.{Machine, error-range, write-report, emit as emit-machine};
-ghost use Rattle.machine.specs.Walk.{Walked, said, walk, unlabelled};
-ghost use Rattle.parser.specs.View.{view, left, span-of, error-prog, takes, stored, moves, says};
+ghost use Rattle.machine.specs.Machine.{error-range, write-report, emit as emit-machine};
+ghost use Rattle.machine.specs.Walk.{unlabelled};
+ghost use Rattle.parser.specs.View.{view, left, span-of, error-prog, takes, stored, walks, moves, says};
 ghost use lib.Seq.{sets};
 
 pub struct TextRange {
@@ -279,8 +278,7 @@ impl State {
         hint: u32,
         bump: Bump,
     ) -> State
-        ensures { λ r. ⌜ ((ask : Rule → Machine → Walked) (b : Span) → said yes (view r (now (codes .entry)) (now (events .exit)) (now (reports .exit)) (now (pool .exit)))
-            ≡ walk ask (tokens-of (now (tokens .entry))) b (error-prog bump message hint) (view self (now (codes .entry)) (now (events .entry)) (now (reports .entry)) (now (pool .entry)))) ⌝ }
+        ensures { λ r. ⌜ walks (error-prog bump message hint) self (says yes r) codes tokens events reports pool ⌝ }
         ensures { λ r. ⌜ left (now (tokens .entry)) r ≤ left (now (tokens .entry)) self - takes bump ⌝ }
     {
         let none = no_label();

@@ -43,8 +43,8 @@ fn pushed(p: Parser, n: usize) -> Parser {
 
 // So many expectations after a token.
 fn expectations(n: usize) {
-    let mut ev = [0u32; 3];
-    let taken = Parser::new().bump(&TOKENS, &mut ev);
+    let mut events = [0u32; 3];
+    let taken = Parser::new().bump(&TOKENS, &mut events);
     let p = pushed(taken, n);
     show::text(b"expectations");
     show::number(n as u64);
@@ -52,39 +52,39 @@ fn expectations(n: usize) {
 }
 
 // A marker and a token: two events, of three numbers each.
-fn events(ev: &mut [u32]) {
-    let started = Parser::new().start(ev);
-    let p = started.bump(&TOKENS, ev);
-    say_events(ev.len());
+fn marker_and_token(events: &mut [u32]) {
+    let started = Parser::new().start(events);
+    let p = started.bump(&TOKENS, events);
+    say_events(events.len());
     say(p.s);
 }
 
 // A token, and a report with two expectations: two events, a row of nine numbers, two codes.
-fn report(ev: &mut [u32], rep: &mut [u32], pool: &mut [u32]) {
-    let taken = Parser::new().bump(&TOKENS, ev);
+fn token_and_report(events: &mut [u32], reports: &mut [u32], pool: &mut [u32]) {
+    let taken = Parser::new().bump(&TOKENS, events);
     let m = Matcher::Either(token_kind::EQUALS, token_kind::LCURLY);
-    let e = taken.expect(&TOKENS, ev, rep, pool, m);
-    say_events(ev.len());
-    say_reports(rep.len(), pool.len());
+    let e = taken.expect(&TOKENS, events, reports, pool, m);
+    say_events(events.len());
+    say_reports(reports.len(), pool.len());
     say(e.p.s);
 }
 
 // On so many numbers, at most 6.
 fn events_on(n: usize) {
-    let mut ev = [0u32; 6];
+    let mut events = [0u32; 6];
     let e = least(n, 6);
-    events(&mut ev[..e]);
+    marker_and_token(&mut events[..e]);
 }
 
 // On so many numbers, at most 6, 9 and 2.
-fn report_on(events: usize, reports: usize, codes: usize) {
-    let mut ev = [0u32; 6];
-    let mut rep = [0u32; 9];
+fn report_on(event_numbers: usize, report_numbers: usize, codes: usize) {
+    let mut events = [0u32; 6];
+    let mut reports = [0u32; 9];
     let mut pool = [0u32; 2];
-    let e = least(events, 6);
-    let r = least(reports, 9);
+    let e = least(event_numbers, 6);
+    let r = least(report_numbers, 9);
     let c = least(codes, 2);
-    report(&mut ev[..e], &mut rep[..r], &mut pool[..c]);
+    token_and_report(&mut events[..e], &mut reports[..r], &mut pool[..c]);
 }
 
 fn main() {

@@ -23,7 +23,7 @@ use Rattle.laws.proofs.Skeleton.{join-done, join-assoc}
 use Rattle.laws.proofs.Kept.{Stands, stands-taken}
 use Rattle.precedence.specs.Nodes.{one, nodes, Split, argument, split}
 use Rattle.precedence.proofs.Pratt.{Args, closed, unclosed, args}
-use Rattle.laws.proofs.Clear.{Clear}
+use Rattle.laws.specs.Pushes.{Clear}
 use Rattle.precedence.proofs.Pushed.{Quiet, quiet-done, quiet-join, quiet-closed, clear-first, clear-second}
 use Rattle.precedence.proofs.Same.{Same, same-join, same-one, same-node, same-path}
 use Rattle.precedence.proofs.Symbols.{symbols-drop, Tail, tail-trans, tail-next, ahead-length}

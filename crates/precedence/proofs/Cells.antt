@@ -18,7 +18,7 @@ use Rattle.basics.proofs.Tests.{cond-all}
 use Rattle.laws.proofs.Trivia.{drop-twice, passes-none}
 use Rattle.laws.proofs.Kept.{Stands, run-kept, exec-kept}
 use Rattle.laws.proofs.Between.{Taking, reads-kept}
-use Rattle.laws.proofs.Clear.{Clear}
+use Rattle.laws.specs.Pushes.{Clear}
 use Rattle.precedence.proofs.Pushed.{clear-first, clear-second, clear-inside, clear-before}
 use Rattle.precedence.proofs.Cell.{CellOf}
 use Rattle.precedence.proofs.Only.{Ran, Holds}

@@ -18,7 +18,7 @@ use Rattle.laws.proofs.Trivia.{drop-twice, passes-drop}
 use Rattle.laws.proofs.Skeleton.{join-done}
 use Rattle.laws.proofs.Kept.{Stands, stands-taken, run-kept, exec-kept}
 use Rattle.laws.proofs.Between.{Taking, reads-kept}
-use Rattle.laws.proofs.Clear.{Clear}
+use Rattle.laws.specs.Pushes.{Clear}
 use Rattle.precedence.proofs.Pushed.{clear-inside, clear-first}
 use Rattle.precedence.proofs.Symbols.{test-one}
 use Rattle.precedence.proofs.Cell.{CellOf, CellNode, cells}

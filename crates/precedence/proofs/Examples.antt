@@ -1,7 +1,9 @@
 -- The definitions of the claim, computed on small calls: where a cell starts, which marks the reports have, and the rows of its tree.
 use Prim.Native.Nat.{ℕ, zero, suc, _*_}
 use mathlib.Core.Path.{_≡_, refl}
+use mathlib.Core.Bool.{Bool, true, false, _&&_}
 use mathlib.Core.List.{List, [], _∷_, _++_}
+use lib.Dec.{eqb}
 use lib.ListN.{length, take, drop, replicate}
 use Rattle.definitions.specs.TokenKind as K
 use Rattle.definitions.specs.Token.{tokens-of}
@@ -83,6 +85,20 @@ unfolding tree-rows
 wanted [] = []
 wanted (x ∷ l) = (x .before ∷ (x .marks ++ tree-rows (x .tree) (x .numbers) (x .before))) ∷ wanted l
 
-examples-hold : called examples ≡ wanted examples
-unfolding called wanted examples
+-- number by number: the two sides are computed, and not compared as terms
+same : List ℕ → List ℕ → Bool
+same [] [] = true
+same [] (y ∷ m) = false
+same (x ∷ l) [] = false
+same (x ∷ l) (y ∷ m) = eqb x y && same l m
+
+agree : List (List ℕ) → List (List ℕ) → Bool
+unfolding same
+agree [] [] = true
+agree [] (y ∷ m) = false
+agree (x ∷ l) [] = false
+agree (x ∷ l) (y ∷ m) = same x y && agree l m
+
+examples-hold : agree (called examples) (wanted examples) ≡ true
+unfolding agree called wanted examples
 examples-hold = refl

@@ -14,12 +14,13 @@ use Rattle.definitions.specs.Skeleton.{Label, no-label, Skeleton, done, node, _
 use Rattle.definitions.specs.Run.{State, Out, mark-of, answer, makes, add, closed, is-again, goes-on, unlinked, by-shape, links, chained, exec, run}
 use Rattle.definitions.specs.Report.{Push, event, pushes}
 use Rattle.definitions.specs.C.{Symbol, symbols, Expr}
+use Rattle.laws.specs.Pushes.{Clear}
 use Rattle.laws.proofs.Skeleton.{join-done, join-assoc, pushes-join, pushes-closed}
 use Rattle.laws.proofs.Kept.{Stands}
 use Rattle.precedence.specs.Nodes.{parts}
 use Rattle.precedence.proofs.Pratt.{Res, refused, spent, Reader, bind, step, loop, reader}
 use Rattle.precedence.proofs.Pratt as P
-use Rattle.laws.proofs.Clear.{Clear, clear-append}
+use Rattle.laws.proofs.Clear.{clear-append}
 use Rattle.precedence.proofs.Pushed.{Quiet, quiet-done, quiet-join, quiet-closed, Reported, there, reported-left, reported-right}
 use Rattle.precedence.proofs.Same.{Same, same-join, same-node, same-ignored}
 use Rattle.precedence.proofs.Symbols.{Tail, tail-trans}

@@ -16,7 +16,7 @@ use Rattle.definitions.specs.Call.{run-entry}
 use Rattle.laws.proofs.Marks.{Falls, entry-marks}
 use Rattle.laws.proofs.Tree.{leaves}
 use Rattle.laws.proofs.Placed.{lead-whole, front-whole}
-use Rattle.laws.proofs.Clear.{Clear}
+use Rattle.laws.specs.Pushes.{Clear}
 use Rattle.precedence.proofs.Cell.{CellOf}
 use Rattle.precedence.proofs.Cells.{Cells}
 use Rattle.precedence.proofs.Everywhere.{entry-cells}

@@ -5,7 +5,8 @@ use mathlib.Core.List.{List, [], _∷_, _++_}
 use Rattle.definitions.specs.Skeleton.{Report, Skeleton, done, _⧺_}
 use Rattle.definitions.specs.Run.{closed}
 use Rattle.definitions.specs.Report.{Push, event, reported, exceeded, pushes}
-use Rattle.laws.proofs.Clear.{Clear, clear-append}
+use Rattle.laws.specs.Pushes.{Clear}
+use Rattle.laws.proofs.Clear.{clear-append}
 use Rattle.laws.proofs.Skeleton.{pushes-join, pushes-closed}
 
 -- no report

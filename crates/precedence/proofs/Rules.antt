@@ -13,7 +13,7 @@ use Rattle.definitions.specs.Run.{State, Out, mark-of, peeked, truth, answer, m
 use Rattle.definitions.specs.Report.{pushes}
 use Rattle.laws.proofs.Trivia.{passes-drop}
 use Rattle.laws.proofs.Kept.{Stands, stands-peeked}
-use Rattle.laws.proofs.Clear.{Clear}
+use Rattle.laws.specs.Pushes.{Clear}
 use Rattle.precedence.proofs.Pushed.{clear-first, clear-second, clear-inside}
 
 -- the branch that an answer takes

@@ -24,7 +24,7 @@ use Rattle.laws.proofs.Accepted.{accepted-call}
 use Rattle.precedence.specs.Nodes.{one, parts, cell}
 use Rattle.precedence.specs.Precedence.{tokens-before, mark-in, DtExpr-at, Starts-cell, Brackets, opening-index, Between, Holds, Judged, C-table, One-tree}
 use Rattle.precedence.proofs.Bare.{unique}
-use Rattle.laws.proofs.Clear.{Clear}
+use Rattle.laws.specs.Pushes.{Clear}
 use Rattle.precedence.proofs.Pushed.{Reported}
 use Rattle.precedence.proofs.Symbols.{bracket-solid}
 use Rattle.precedence.proofs.Settle.{Clean, Faulty, Settled}

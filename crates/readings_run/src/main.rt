@@ -6,7 +6,7 @@ use cases::blanks;
 // A case's numbers on so many blanks: the answer, the root's row, and how many rows of one blank follow it.
 fn called(name: &[u8], head: [u32; 8]) {
     let bytes = blanks::bytes();
-    let tokens = blanks::rows();
+    let tokens = blanks::tokens();
     let mut trees = blanks::tree();
     let number = replay::lent(name, head, &bytes, &tokens, &mut trees, 4);
     if number == 0 {

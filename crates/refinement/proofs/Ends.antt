@@ -61,18 +61,18 @@ pub record Rows-in (size n : ℕ) (l b c : List ℕ) : Type 0 where
   pub count : n ≡ length l / size
   pub whole : n * size ≡ length l
   pub numbers : c ≡ onto l b
-  pub room : length l ≤ length b
+  pub inside : length l ≤ length b
 
 -- an accepted call's buffers hold what was written, and then zeros
 swept-kept : (z : Sheets) (b c : Buffers) (t e r : ℕ) → length (c .events) ≡ length (b .events) → Rows-in TREE-ROW t (z .trees) (b .trees) (c .trees) → Rows-in ERROR-ROW e (z .errors) (b .errors) (c .errors)
     → Rows-in REPORT-ROW r (z .reports) (b .reports) (c .reports) → (n : ℕ) → n ≡ length (z .pool) → c .pool ≡ onto (z .pool) (b .pool) → length (z .pool) ≤ length (b .pool)
     → swept (record { number = 0; place = 0; trees = t; errors = e; reports = r; expectations = n }) c ≡ kept z b
-swept-kept z b c t e r k ft fe fr n q h room =
+swept-kept z b c t e r k ft fe fr n q h inside =
     let ev : wiped 0 (c .events) ≡ _ = wiped-whole (b .events) (c .events) k in
-    let tr : wiped (t * TREE-ROW) (c .trees) ≡ _ = wiped-written (z .trees) (b .trees) (c .trees) (t * TREE-ROW) (ft .numbers) (ft .room) (ft .whole) in
-    let er : wiped (e * ERROR-ROW) (c .errors) ≡ _ = wiped-written (z .errors) (b .errors) (c .errors) (e * ERROR-ROW) (fe .numbers) (fe .room) (fe .whole) in
-    let rp : wiped (r * REPORT-ROW) (c .reports) ≡ _ = wiped-written (z .reports) (b .reports) (c .reports) (r * REPORT-ROW) (fr .numbers) (fr .room) (fr .whole) in
-    let pl : wiped n (c .pool) ≡ _ = wiped-written (z .pool) (b .pool) (c .pool) n h room q in
+    let tr : wiped (t * TREE-ROW) (c .trees) ≡ _ = wiped-written (z .trees) (b .trees) (c .trees) (t * TREE-ROW) (ft .numbers) (ft .inside) (ft .whole) in
+    let er : wiped (e * ERROR-ROW) (c .errors) ≡ _ = wiped-written (z .errors) (b .errors) (c .errors) (e * ERROR-ROW) (fe .numbers) (fe .inside) (fe .whole) in
+    let rp : wiped (r * REPORT-ROW) (c .reports) ≡ _ = wiped-written (z .reports) (b .reports) (c .reports) (r * REPORT-ROW) (fr .numbers) (fr .inside) (fr .whole) in
+    let pl : wiped n (c .pool) ≡ _ = wiped-written (z .pool) (b .pool) (c .pool) n h inside q in
     rw (ev, tr, er, rp, pl, ft .count, fe .count, fr .count, q)
 
 module _ (e : Entry) (bs tk : List ℕ) (b : Buffers) (m : Machine) (ok : check-input bs tk ≡ accepted) (parsed : Parsed e tk b m) where
@@ -133,10 +133,10 @@ module _ (e : Entry) (bs tk : List ℕ) (b : Buffers) (m : Machine) (ok : check-
 
   -- the rows of a tree, of lexical errors and of reports are whole
   trees-in : (c : List ℕ) → length R ≤ length (b .trees) → c ≡ onto R (b .trees) → Rows-in TREE-ROW (length R / TREE-ROW) R (b .trees) c
-  trees-in c room h = record { count = refl; whole = omega (arith, rows-length (root (root-kind e) o ts)); numbers = h; room = room }
+  trees-in c inside h = record { count = refl; whole = omega (arith, rows-length (root (root-kind e) o ts)); numbers = h; inside = inside }
 
   errors-in : (c : List ℕ) → length L ≤ length (b .errors) → c ≡ onto L (b .errors) → Rows-in ERROR-ROW (length L / ERROR-ROW) L (b .errors) c
-  errors-in c room h = record { count = refl; whole = omega (arith, errors-length 0 ts); numbers = h; room = room }
+  errors-in c inside h = record { count = refl; whole = omega (arith, errors-length 0 ts); numbers = h; inside = inside }
 
   abbrev P : List ℕ
   P = report-rows (length ts) (bytes ts) 0 (reports (pushes o))
@@ -144,7 +144,7 @@ module _ (e : Entry) (bs tk : List ℕ) (b : Buffers) (m : Machine) (ok : check-
   reports-in : Holds P (b .reports) (m .reports) → Rows-in REPORT-ROW (m .reports .count / REPORT-ROW) P (b .reports) (m .reports .numbers)
   reports-in h =
       let n : m .reports .count ≡ length P = h .count in
-      record { count = omega arith; whole = omega (arith, report-rows-length (length ts) (bytes ts) 0 (reports (pushes o))); numbers = h .numbers; room = h .room }
+      record { count = omega arith; whole = omega (arith, report-rows-length (length ts) (bytes ts) 0 (reports (pushes o))); numbers = h .numbers; inside = h .inside }
 
   sunk-ends : Accepted ts o (b .events) (b .reports) (b .pool) m → (s : Sunk) (trees errors : List ℕ) → length trees ≡ length (b .trees) → length errors ≡ length (b .errors)
       → Placed (root-kind e) o tk (b .trees) (b .errors) s trees errors → (x : Bool) → enough R L (b .trees) (b .errors) ≡ x
@@ -159,7 +159,7 @@ module _ (e : Entry) (bs tk : List ℕ) (b : Buffers) (m : Machine) (ok : check-
       ∙ swept-kept (sheets e ts o) b (after-sink m trees errors) (length R / TREE-ROW) (length L / ERROR-ROW) (m .reports .count / REPORT-ROW)
       (held-length (encode false o) (b .events) (m .events) (a .events-hold))
       (trees-in trees rt (w .rows)) (errors-in errors re (w .lexical)) (reports-in (a .reports-hold))
-      (m .pool .count) (q .count) (q .numbers) (q .room)
+      (m .pool .count) (q .count) (q .numbers) (q .inside)
   sunk-ends a s trees errors lt le p false h =
       ap (λ (x : Sunk). swept (sunk-answer x m) (after-sink m trees errors)) (p .lacks h)
       ∙ swept-refused (number-of no-tree-room) (place-of no-tree-room) no-tree-room b (after-sink m trees errors) refl refl
@@ -181,7 +181,7 @@ calls-end e bs tk b m ok parsed =
     let went = accepted-by e bs tk b m ok parsed (scan (pushes (run-entry e (tokens-of tk))) (room-of b)) refl in
     record {
       refused = refused-ends e bs tk b m ok parsed (scan (pushes (run-entry e (tokens-of tk))) (room-of b)) refl;
-      events-inside = λ q. let h = went q .0 .events-hold in omega (arith, h .count, h .room);
+      events-inside = λ q. let h = went q .0 .events-hold in omega (arith, h .count, h .inside);
       sunk =
           λ q s trees errors lt le p.
           let a = went q .0 in

@@ -5,6 +5,7 @@ use native.Mathlib.Omega.{arith}
 use mathlib.Core.Path.{_≡_, sym}
 use mathlib.Core.List.{List, [], _∷_, append-nil}
 use lib.ListN.{length}
+use Rattle.definitions.specs.Layout.{MOST-TOKENS}
 use Rattle.definitions.specs.Token.{Token, tokens-of}
 use Rattle.definitions.specs.Grammar.{Entry}
 use Rattle.definitions.specs.Report.{Room, fits, scan, pushes}
@@ -23,7 +24,7 @@ all-filled (t ∷ ts) h = (h .0 .len, all-filled ts (h .1))
 pub limits-hold : (bs tk : List ℕ) → Checked bs tk → Limits (tokens-of tk)
 limits-hold bs tk h = record { few = omega (arith, h .pairs, h .numbers-limit); short = omega (arith, h .covered, h .bytes-limit); filled = all-filled (tokens-of tk) (h .good) }
 
-pub entry-small : (e : Entry) (ts : List Token) (y z : Room) → length ts ≤ 65536 → scan (pushes (run-entry e ts)) y ≡ fits z → Small (run-entry e ts)
+pub entry-small : (e : Entry) (ts : List Token) (y z : Room) → length ts ≤ MOST-TOKENS → scan (pushes (run-entry e ts)) y ≡ fits z → Small (run-entry e ts)
 entry-small e ts y z few h =
     let b : Bounded e ts = bounded e ts in
     let p = pushes (run-entry e ts) in

@@ -18,10 +18,10 @@ wiped-whole b c h =
     let e : length c - 0 ≡ length b = omega arith in
     ap (λ (n : ℕ). replicate n 0) e
 
--- behind the numbers l that were written to its front
+-- after the numbers l that were written to its front
 pub wiped-written : (l b c : List ℕ) (n : ℕ) → c ≡ onto l b → length l ≤ length b → n ≡ length l → wiped n c ≡ written l b
 unfolding wiped
-wiped-written l b c n h room e =
+wiped-written l b c n h inside e =
     let t : take n c ≡ l = ap (take n) h ∙ take-at l (drop (length l) b) n (sym e) in
     let k : length c ≡ length l + length (drop (length l) b) = ap length h ∙ length-append l (drop (length l) b) in
     let d : length c - n ≡ length b - length l = omega (arith, k, length-drop (length l) b) in
@@ -29,12 +29,12 @@ wiped-written l b c n h room e =
 
 -- numbers written to the front leave the length as it is
 pub onto-length : (l b c : List ℕ) → c ≡ onto l b → length l ≤ length b → length c ≡ length b
-onto-length l b c h room =
+onto-length l b c h inside =
     let k : length c ≡ length l + length (drop (length l) b) = ap length h ∙ length-append l (drop (length l) b) in
     omega (arith, k, length-drop (length l) b)
 
 pub held-length : (l b : List ℕ) (x : Buffer) → Holds l b x → length (x .numbers) ≡ length b
-held-length l b x h = onto-length l b (x .numbers) (h .numbers) (h .room)
+held-length l b x h = onto-length l b (x .numbers) (h .numbers) (h .inside)
 
 -- ---------------------------------------------------------------- one number after the other
 
@@ -47,7 +47,7 @@ wiped-step l i h =
     let t : take (i + 1) (set l i 0) ≡ take i l ++ (0 ∷ []) = ap (λ (k : ℕ). take k (set l i 0)) (add-one i) ∙ take-suc-set l i 0 h in
     rw (n, m, t) (append-assoc (take i l) (0 ∷ []) (replicate (length l - suc i) 0))
 
--- behind its last number
+-- after its last number
 pub wiped-past : (l : List ℕ) (i : ℕ) → length l ≤ i → wiped i l ≡ l
 unfolding wiped
 wiped-past l i h =

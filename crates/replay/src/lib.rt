@@ -1,11 +1,11 @@
-// Cases of the exported call, run one after the other; what each answers and leaves is printed (crates/cases, left.rt).
+// Cases of the exported call, run one after the other; what each answers and leaves is printed (left.rt).
 //
-// A case is a line and then its bytes as they are, with a line end behind each. The line has a name, eight numbers (how many token
+// A case is a line and then its bytes as they are, with a line end after each. The line has a name, eight numbers (how many token
 // numbers, how many bytes, the entry, and how many numbers of each buffer are lent: events, trees, errors, reports, pool), and the
 // token numbers.
-use cases::left;
-use cases::left::Said;
-use cases::room;
+mod left;
+
+use cases::arrays;
 use cases::scan;
 use cases::scan::at_most;
 use libc::STDIN_FILENO;
@@ -26,15 +26,7 @@ fn called(
     most: usize,
 ) -> u32 {
     let a = dt_parser::dt_parse(entry, bytes, tokens, events, trees, errors, reports, pool);
-    let said = Said {
-        number: a.number,
-        place: a.place,
-        trees: a.trees,
-        errors: a.errors,
-        reports: a.reports,
-        expectations: a.expectations,
-    };
-    left::show(name, said, most, events, trees, errors, reports, pool);
+    left::show(name, a, most, events, trees, errors, reports, pool);
     a.number
 }
 
@@ -47,17 +39,17 @@ pub fn lent(
     trees: &mut [u32],
     most: usize,
 ) -> u32 {
-    let mut events = room::events();
-    let mut errors = room::errors();
-    let mut reports = room::reports();
-    let mut pool = room::pool();
+    let mut events = arrays::events();
+    let mut errors = arrays::errors();
+    let mut reports = arrays::reports();
+    let mut pool = arrays::pool();
     let n = at_most(head[0], tokens.len());
     let b = at_most(head[1], bytes.len());
-    let e = at_most(head[3], room::EVENTS);
+    let e = at_most(head[3], arrays::EVENTS);
     let t = at_most(head[4], trees.len());
-    let x = at_most(head[5], room::ERRORS);
-    let r = at_most(head[6], room::REPORTS);
-    let p = at_most(head[7], room::POOL);
+    let x = at_most(head[5], arrays::ERRORS);
+    let r = at_most(head[6], arrays::REPORTS);
+    let p = at_most(head[7], arrays::POOL);
     called(
         name,
         head[2],
@@ -79,8 +71,8 @@ fn case(text: &[u8], from: usize) -> usize
     ensures { λ r. ⌜ r ≤ length (now (text .entry)) ⌝ }
 {
     let mut head = [0u32; 8];
-    let mut tokens = room::tokens();
-    let mut trees = room::trees();
+    let mut tokens = arrays::tokens();
+    let mut trees = arrays::trees();
     let name_end = scan::find(text, from, b' ');
     let head_end = scan::numbers(text, name_end, 8, &mut head);
     let line_end = scan::numbers(text, head_end, head[0], &mut tokens);
@@ -91,22 +83,22 @@ fn case(text: &[u8], from: usize) -> usize
         &text[start..],
         &tokens,
         &mut trees,
-        room::TREES,
+        arrays::TREES,
     );
     scan::further(text, start, head[1])
 }
 
 fn cases(text: &[u8]) {
-    let mut at: usize = 0;
-    while at < text.len() {
-        let end = case(text, at);
-        at = end + 1;
+    let mut byte: usize = 0;
+    while byte < text.len() {
+        let end = case(text, byte);
+        byte = end + 1;
     }
 }
 
 // All cases of standard input.
 pub fn run() {
-    let mut text = room::text();
+    let mut text = arrays::text();
     let n = io::read_full(STDIN_FILENO, &mut text);
     cases(&text[..n]);
 }

@@ -5,7 +5,7 @@ use mathlib.Core.Path.{_≡_, refl, sym, _∙_, ap}
 use mathlib.Core.Bool.{Bool, true, false}
 use mathlib.Core.List.{List, [], _∷_, _++_, append-assoc, append-nil}
 use lib.ListN.{length, length-append}
-use Rattle.definitions.specs.Layout.{EVENT-ROW}
+use Rattle.definitions.specs.Layout.{EVENT-ROW, PLACEHOLDER, ADD-TOKEN, ADD-COMBINED-TOKEN, FINISH-NODE, ERROR}
 use Rattle.definitions.specs.Skeleton.{Skeleton, done, token, name, node, ignored, report, over, _⧺_}
 use Rattle.definitions.specs.Event.{Event, StartNode, AddToken, AddCombinedToken, FinishNode, Placeholder, Error, forward, events}
 use Rattle.definitions.specs.Report.{Push, event, reported, exceeded, pushes, reports}
@@ -30,24 +30,24 @@ decode-before l (token t m o) x = ap (λ q. AddToken ∷ q) (decode-before l o x
 decode-before l (name ts m o) x = ap (λ q. AddCombinedToken (length ts) ∷ q) (decode-before l o x)
 decode-before l (node k m m′ a i o) x =
     let d = forward l (suc (suc (length (events false i)))) in
-    let y : List ℕ = encode false i ++ event-row 4 0 0 (encode l o) in
+    let y : List ℕ = encode false i ++ event-row FINISH-NODE 0 0 (encode l o) in
     ap decode (append-assoc (encode true a) (event-row (start-tag a) k d y) x)
     ∙ decode-before true a (event-row (start-tag a) k d (y ++ x))
     ∙ ap (λ q. events true a ++ q)
     (ap (λ e. e ∷ decode (y ++ x)) (start-of a k d)
     ∙ ap (λ q. StartNode k d ∷ q)
-    (ap decode (append-assoc (encode false i) (event-row 4 0 0 (encode l o)) x)
-    ∙ decode-before false i (event-row 4 0 0 (encode l o ++ x))
+    (ap decode (append-assoc (encode false i) (event-row FINISH-NODE 0 0 (encode l o)) x)
+    ∙ decode-before false i (event-row FINISH-NODE 0 0 (encode l o ++ x))
     ∙ ap (λ q. events false i ++ FinishNode ∷ q) (decode-before l o x)
     ∙ sym (append-assoc (events false i) (FinishNode ∷ events l o) (decode x))))
     ∙ sym (append-assoc (events true a) (StartNode k d ∷ (events false i ++ FinishNode ∷ events l o)) (decode x))
 decode-before l (ignored m m′ a i o) x =
-    let y : List ℕ = encode false i ++ event-row 0 0 0 (encode l o) in
-    ap decode (append-assoc (encode true a) (event-row 0 0 0 y) x)
-    ∙ decode-before true a (event-row 0 0 0 (y ++ x))
+    let y : List ℕ = encode false i ++ event-row PLACEHOLDER 0 0 (encode l o) in
+    ap decode (append-assoc (encode true a) (event-row PLACEHOLDER 0 0 y) x)
+    ∙ decode-before true a (event-row PLACEHOLDER 0 0 (y ++ x))
     ∙ ap (λ q. events true a ++ Placeholder ∷ q)
-    (ap decode (append-assoc (encode false i) (event-row 0 0 0 (encode l o)) x)
-    ∙ decode-before false i (event-row 0 0 0 (encode l o ++ x))
+    (ap decode (append-assoc (encode false i) (event-row PLACEHOLDER 0 0 (encode l o)) x)
+    ∙ decode-before false i (event-row PLACEHOLDER 0 0 (encode l o ++ x))
     ∙ ap (λ q. events false i ++ Placeholder ∷ q) (decode-before l o x)
     ∙ sym (append-assoc (events false i) (Placeholder ∷ events l o) (decode x)))
     ∙ sym (append-assoc (events true a) (Placeholder ∷ (events false i ++ Placeholder ∷ events l o)) (decode x))
@@ -145,18 +145,18 @@ errors-reports l (over m o) = errors-reports l o
 pub encode-join : (l : Bool) (o p : Skeleton) → encode l (o ⧺ p) ≡ encode l o ++ encode l p
 unfolding encode _⧺_
 encode-join l done p = refl
-encode-join l (token t m o) p = ap (event-row 2 0 0) (encode-join l o p)
-encode-join l (name ts m o) p = ap (event-row 3 (length ts) 0) (encode-join l o p)
+encode-join l (token t m o) p = ap (event-row ADD-TOKEN 0 0) (encode-join l o p)
+encode-join l (name ts m o) p = ap (event-row ADD-COMBINED-TOKEN (length ts) 0) (encode-join l o p)
 encode-join l (node k m m′ a i o) p =
     let s : List ℕ → List ℕ = event-row (start-tag a) k (forward l (suc (suc (length (events false i))))) in
-    ap (λ x. encode true a ++ s (encode false i ++ event-row 4 0 0 x)) (encode-join l o p)
-    ∙ ap (λ x. encode true a ++ s x) (sym (append-assoc (encode false i) (event-row 4 0 0 (encode l o)) (encode l p)))
-    ∙ sym (append-assoc (encode true a) (s (encode false i ++ event-row 4 0 0 (encode l o))) (encode l p))
+    ap (λ x. encode true a ++ s (encode false i ++ event-row FINISH-NODE 0 0 x)) (encode-join l o p)
+    ∙ ap (λ x. encode true a ++ s x) (sym (append-assoc (encode false i) (event-row FINISH-NODE 0 0 (encode l o)) (encode l p)))
+    ∙ sym (append-assoc (encode true a) (s (encode false i ++ event-row FINISH-NODE 0 0 (encode l o))) (encode l p))
 encode-join l (ignored m m′ a i o) p =
-    ap (λ x. encode true a ++ event-row 0 0 0 (encode false i ++ event-row 0 0 0 x)) (encode-join l o p)
-    ∙ ap (λ x. encode true a ++ event-row 0 0 0 x) (sym (append-assoc (encode false i) (event-row 0 0 0 (encode l o)) (encode l p)))
-    ∙ sym (append-assoc (encode true a) (event-row 0 0 0 (encode false i ++ event-row 0 0 0 (encode l o))) (encode l p))
-encode-join l (report r o) p = ap (event-row 5 0 0) (encode-join l o p)
+    ap (λ x. encode true a ++ event-row PLACEHOLDER 0 0 (encode false i ++ event-row PLACEHOLDER 0 0 x)) (encode-join l o p)
+    ∙ ap (λ x. encode true a ++ event-row PLACEHOLDER 0 0 x) (sym (append-assoc (encode false i) (event-row PLACEHOLDER 0 0 (encode l o)) (encode l p)))
+    ∙ sym (append-assoc (encode true a) (event-row PLACEHOLDER 0 0 (encode false i ++ event-row PLACEHOLDER 0 0 (encode l o))) (encode l p))
+encode-join l (report r o) p = ap (event-row ERROR 0 0) (encode-join l o p)
 encode-join l (over m o) p = encode-join l o p
 
 pub chained-join : (o p : Skeleton) → Chained o → Chained p → Chained (o ⧺ p)

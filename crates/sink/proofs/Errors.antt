@@ -7,14 +7,15 @@ use mathlib.Core.Bool.{Bool, true, false, cond}
 use lib.ListN.{length, drop, length-append, length-drop}
 use lib.Seq.{sets-eq, take-at, drop-at, drop-drop}
 use borrow.Author.Tests.{le-leb}
-use Rattle.definitions.specs.Layout.{ERROR-ROW}
+use Rattle.basics.specs.Word.{low}
+use Rattle.basics.proofs.TokenRows.{tokens-length}
+use Rattle.definitions.specs.Layout.{ERROR-ROW, TWO-TO-32}
 use Rattle.definitions.specs.Token.{Token, tokens-of, is-error, bytes}
 use Rattle.definitions.specs.Place.{lexical-errors}
 use Rattle.laws.specs.Lossless.{errors-in}
-use Rattle.sink_rows.specs.Rows.{low}
 use Rattle.sink_tokens.specs.Tokens.{put-error, Log, log, logged, errorsN, errors-on}
 use Rattle.sink.proofs.Grow.{low-small}
-use Rattle.sink.proofs.Steps.{From, from-kind, from-len, from-past, tokens-length}
+use Rattle.sink.proofs.Steps.{From, from-kind, from-len, from-past}
 
 abbrev pub found : Log → ℕ
 found (log n e) = n
@@ -54,13 +55,13 @@ module _ (tk : List ℕ) where
   step t ts at b x e = rw (← (from-kind tk at t ts e), ← (from-len tk at t ts e))
 
   -- the count, whatever the buffer
-  count-runs : (ts : List Token) (at b : ℕ) (x : Log) → From tk at ts → found x + length ts < 4294967296 → found (errorsN (length ts) tk at b x) ≡ found x + errors-in ts
+  count-runs : (ts : List Token) (at b : ℕ) (x : Log) → From tk at ts → found x + length ts < TWO-TO-32 → found (errorsN (length ts) tk at b x) ≡ found x + errors-in ts
   unfolding errorsN errors-in logged is-error
   count-runs [] at b x e h = omega arith
   count-runs (t ∷ ts) at b (log n l) e h =
       ap found (step t ts at b (log n l) e) ∙ go (λ y g. count-runs ts (at + 1) (low (b + t .len)) y (from-past tk at 1 (t ∷ ts) ts e refl) g) (is-error (t .kind)) refl
     where
-      go : ((y : Log) → found y + length ts < 4294967296 → found (errorsN (length ts) tk (at + 1) (low (b + t .len)) y) ≡ found y + errors-in ts) → (x : Bool) → is-error (t .kind) ≡ x
+      go : ((y : Log) → found y + length ts < TWO-TO-32 → found (errorsN (length ts) tk (at + 1) (low (b + t .len)) y) ≡ found y + errors-in ts) → (x : Bool) → is-error (t .kind) ≡ x
           → found (errorsN (length ts) tk (at + 1) (low (b + t .len)) (logged (t .kind) b (low (b + t .len)) (log n l))) ≡ n + cond x (suc (errors-in ts)) (errors-in ts)
       go ih true p =
           let m : low (n + 1) ≡ n + 1 = low-small (n + 1) (omega arith) in
@@ -68,7 +69,7 @@ module _ (tk : List ℕ) where
       go ih false p = rw p (ih (log n l) (omega arith))
 
   -- the rows, where they fit
-  log-runs : (ts : List Token) (at b n : ℕ) (L G : List ℕ) → From tk at ts → length L ≡ n * ERROR-ROW → n + length ts < 4294967296 → b + bytes ts < 4294967296 → length (lexical-errors b ts) ≤ length G
+  log-runs : (ts : List Token) (at b n : ℕ) (L G : List ℕ) → From tk at ts → length L ≡ n * ERROR-ROW → n + length ts < TWO-TO-32 → b + bytes ts < TWO-TO-32 → length (lexical-errors b ts) ≤ length G
       → errorsN (length ts) tk at b (log n (L ++ G)) ≡ log (n + errors-in ts) ((L ++ lexical-errors b ts) ++ drop (length (lexical-errors b ts)) G)
   unfolding errors-in lexical-errors logged is-error bytes errorsN
   log-runs [] at b n L G e w h hb r = let z : n + 0 ≡ n = omega arith in rw (z, append-nil L)
@@ -78,7 +79,7 @@ module _ (tk : List ℕ) where
       ∙ ap (λ y. errorsN (length ts) tk (at + 1) y (logged (t .kind) b y (log n (L ++ G)))) end
       ∙ (go (λ m M H u v x. log-runs ts (at + 1) (b + t .len) m M H (from-past tk at 1 (t ∷ ts) ts e refl) u v (omega arith) x) (is-error (t .kind)) refl r)
     where
-      go : ((m : ℕ) (M H : List ℕ) → length M ≡ m * ERROR-ROW → m + length ts < 4294967296 → length (lexical-errors (b + t .len) ts) ≤ length H
+      go : ((m : ℕ) (M H : List ℕ) → length M ≡ m * ERROR-ROW → m + length ts < TWO-TO-32 → length (lexical-errors (b + t .len) ts) ≤ length H
           → errorsN (length ts) tk (at + 1) (b + t .len) (log m (M ++ H)) ≡ log (m + errors-in ts) ((M ++ lexical-errors (b + t .len) ts) ++ drop (length (lexical-errors (b + t .len) ts)) H))
           → (x : Bool) → is-error (t .kind) ≡ x
           → length (cond x (t .kind ∷ b ∷ (b + t .len) ∷ lexical-errors (b + t .len) ts) (lexical-errors (b + t .len) ts)) ≤ length G
@@ -97,13 +98,13 @@ module _ (tk : List ℕ) where
 
   -- ---------------------------------------------------------------- over all tokens
 
-  pub errors-count : (e : List ℕ) → length tk < 4294967296 → found (errors-on tk e) ≡ errors-in (tokens-of tk)
+  pub errors-count : (e : List ℕ) → length tk < TWO-TO-32 → found (errors-on tk e) ≡ errors-in (tokens-of tk)
   unfolding errors-on
   errors-count e h =
       let z : 0 + errors-in (tokens-of tk) ≡ errors-in (tokens-of tk) = omega arith in
       ap (λ m. found (errorsN m tk 0 0 (log 0 e))) (sym (tokens-length tk)) ∙ count-runs (tokens-of tk) 0 0 (log 0 e) refl (omega (arith, tokens-length tk)) ∙ z
 
-  pub errors-written : (e : List ℕ) → length tk < 4294967296 → bytes (tokens-of tk) < 4294967296 → length (lexical-errors 0 (tokens-of tk)) ≤ length e
+  pub errors-written : (e : List ℕ) → length tk < TWO-TO-32 → bytes (tokens-of tk) < TWO-TO-32 → length (lexical-errors 0 (tokens-of tk)) ≤ length e
       → errors-on tk e ≡ log (errors-in (tokens-of tk)) (lexical-errors 0 (tokens-of tk) ++ drop (length (lexical-errors 0 (tokens-of tk))) e)
   unfolding errors-on
   errors-written e h hb r =

@@ -7,11 +7,12 @@ use mathlib.Core.Path.{_≡_, refl, sym, _∙_, ap}
 use lib.ListN.{length, getD, drop, length-append, length-drop}
 use lib.Seq.{sets-eq, take-at, drop-at, drop-drop, getD-append-add}
 use borrow.Author.Tests.{le-leb}
-use Rattle.definitions.specs.Layout.{TREE-ROW}
+use Rattle.basics.specs.Word.{low}
+use Rattle.definitions.specs.Layout.{TREE-ROW, LEAF, TWO-TO-32}
 use Rattle.definitions.specs.Token.{Token, bytes}
 use Rattle.definitions.specs.Place.{Tree, nil, leaf, _⊕_, width, count, rows, tree-row}
 use Rattle.laws.proofs.Tree.{rows-beside, width-beside, count-beside}
-use Rattle.sink_rows.specs.Rows.{low, put, number}
+use Rattle.sink_rows.specs.Rows.{put, number}
 use Rattle.sink.specs.Machine.{On, on, moved, leaf-on}
 use Rattle.sink.proofs.Trees.{raw, size, raw-beside, size-beside, rows-length, rows-add}
 
@@ -69,15 +70,15 @@ grow-nil s =
     rw (p, q, n, r, append-nil (s .written))
 
 -- A forest fits, and no number in it is too large. What is written are whole rows.
-pub record Room (f : Tree) (s : Filled) : Type 0 where
+pub record Fits (f : Tree) (s : Filled) : Type 0 where
   pub free : length (rows f) ≤ length (s .free)
   pub whole : length (s .written) ≡ s .rows * TREE-ROW
-  pub byte : s .byte + width f < 4294967296
-  pub rows : s .rows + size f < 4294967296
-  pub children : s .children + count f < 4294967296
+  pub byte : s .byte + width f < TWO-TO-32
+  pub rows : s .rows + size f < TWO-TO-32
+  pub children : s .children + count f < TWO-TO-32
 
-pub room-front : (f g : Tree) (s : Filled) → Room (f ⊕ g) s → Room f s
-room-front f g s r =
+pub fits-front : (f g : Tree) (s : Filled) → Fits (f ⊕ g) s → Fits f s
+fits-front f g s r =
     record {
       free = omega (arith, r .free, rows-add f g);
       whole = r .whole;
@@ -86,9 +87,9 @@ room-front f g s r =
       children = omega (arith, r .children, count-beside f g);
     }
 
-pub room-back : (f g : Tree) (s : Filled) → Room (f ⊕ g) s → Room g (grow f s)
+pub fits-back : (f g : Tree) (s : Filled) → Fits (f ⊕ g) s → Fits g (grow f s)
 unfolding grow
-room-back f g s r =
+fits-back f g s r =
     record {
       free = omega (arith, r .free, rows-add f g, length-drop (length (rows f)) (s .free));
       whole = omega (arith, r .whole, rows-length f, length-append (s .written) (rows f));
@@ -99,8 +100,7 @@ room-back f g s r =
 
 -- ---------------------------------------------------------------- a row at the seam
 
-pub low-small : (x : ℕ) → x < 4294967296 → low x ≡ x
-unfolding low
+pub low-small : (x : ℕ) → x < TWO-TO-32 → low x ≡ x
 low-small x h = mod-eq-of-lt h
 
 pub put-seam : (row : ℕ) (t r x : List ℕ) → length t ≡ row * TREE-ROW → length r ≡ TREE-ROW → TREE-ROW ≤ length x → put row r (t ++ x) ≡ t ++ (r ++ drop TREE-ROW x)
@@ -120,7 +120,7 @@ number-seam row j t x e h =
 
 -- ---------------------------------------------------------------- a leaf
 
-module _ (k : ℕ) (ts : List Token) (n w : ℕ) (hn : length ts ≡ n) (hw : bytes ts ≡ w) (s : Filled) (r : Room (leaf k ts nil) s) where
+module _ (k : ℕ) (ts : List Token) (n w : ℕ) (hn : length ts ≡ n) (hw : bytes ts ≡ w) (s : Filled) (r : Fits (leaf k ts nil) s) where
   pub leaf-runs : leaf-on k w n (moved (s .cursor + n) (state s)) ≡ state (grow (leaf k ts nil) s)
   unfolding rows width count raw size grow state leaf-on
   leaf-runs =
@@ -129,12 +129,12 @@ module _ (k : ℕ) (ts : List Token) (n w : ℕ) (hn : length ts ≡ n) (hw : by
       let c : low (s .children + 1) ≡ s .children + 1 = low-small (s .children + 1) (omega (arith, r .children)) in
       let a : s .cursor + n ≡ s .cursor + (length ts + 0) = omega arith in
       rw (
-        put-seam (s .rows) (s .written) (tree-row 1 k w n []) (s .free) (r .whole) refl (r .free),
+        put-seam (s .rows) (s .written) (tree-row LEAF k w n []) (s .free) (r .whole) refl (r .free),
         b,
         m,
         c,
         a,
         ← hn,
         ← hw,
-        append-assoc (s .written) (tree-row 1 k (bytes ts) (length ts) []) (drop TREE-ROW (s .free)),
+        append-assoc (s .written) (tree-row LEAF k (bytes ts) (length ts) []) (drop TREE-ROW (s .free)),
       )

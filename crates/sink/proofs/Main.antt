@@ -8,8 +8,9 @@ use lib.ListN.{length, getD, take, drop, length-append, length-drop}
 use lib.Seq.{drop-drop, drop-length, length-take-le, take-all}
 use lib.Dec.{leb}
 use borrow.Author.Tests.{leb-true}
+use Rattle.basics.proofs.Flags.{flags}
+use Rattle.definitions.specs.Layout.{TREE-ROW, EVENT-ROW, EVENT-ARGUMENT, PLACEHOLDER, ADD-TOKEN, ADD-COMBINED-TOKEN, FINISH-NODE, ERROR, LINKED-START-NODE, TWO-TO-32}
 use Rattle.definitions.specs.TokenKind as K
-use Rattle.definitions.specs.Layout.{TREE-ROW, EVENT-ROW}
 use Rattle.definitions.specs.Token.{Token, trivia, drop-trivia, past}
 use Rattle.definitions.specs.Skeleton.{Skeleton, done, token, name, node, ignored, report, over}
 use Rattle.definitions.specs.Event.{events}
@@ -17,12 +18,11 @@ use Rattle.definitions.specs.Place.{Tree, nil, leaf, subtree, _⊕_, lead, fron
 use Rattle.laws.proofs.Trivia.{Solid, dropped-solid, drop-twice}
 use Rattle.machine.specs.Encode.{start-tag, encode}
 use Rattle.sink.specs.Encode.{event-row, Alone, Chained}
-use Rattle.sink_rows.specs.Rows.{field}
+use Rattle.sink_rows.specs.Rows.{TAG, field}
 use Rattle.sink.specs.Machine.{On, on, token-on, trivia-on, combined-on, start-on, finish-on, event-on, eventsN}
-use Rattle.sink.proofs.Kit.{flags}
 use Rattle.sink.proofs.Encode.{event-count, events-length, encode-count}
 use Rattle.sink.proofs.Trees.{raw, size, raw-beside, size-beside, rows-length, count-size, raw-lead, raw-place}
-use Rattle.sink.proofs.Grow.{Filled, state, grow, grow-grow, grow-nil, Room, room-front, room-back}
+use Rattle.sink.proofs.Grow.{Filled, state, grow, grow-grow, grow-nil, Fits, fits-front, fits-back}
 use Rattle.sink.proofs.Steps.{From, from-grown, token-runs, trivia-runs, name-runs, inside, finish-runs}
 use Rattle.sink.proofs.Chain.{opened, depth, far, encode-alone, ev-past, ev-field, ev-other, start-runs}
 
@@ -83,10 +83,10 @@ pub place-alone : (k m m′ : ℕ) (a i o : Skeleton) (ts : List Token) → o �
 unfolding place _⊕_
 place-alone k m m′ a i o ts h s d = rw (h, d, lead-solid ts s)
 
--- an open node's inside has room where the node has
-pub room-inside : (k : ℕ) (f : Tree) (s : Filled) → Room (subtree k f nil) s → Room f (inside k s)
+-- what is inside an open node fits where the node does
+pub fits-inside : (k : ℕ) (f : Tree) (s : Filled) → Fits (subtree k f nil) s → Fits f (inside k s)
 unfolding inside rows width size
-room-inside k f s r =
+fits-inside k f s r =
     record {
       free = omega (arith, r .free, length-append (rows f) [], length-drop TREE-ROW (s .free));
       whole = omega (arith, r .whole, length-append (s .written) (s .node ∷ k ∷ s .byte ∷ s .children ∷ []));
@@ -95,7 +95,7 @@ room-inside k f s r =
       children = omega (arith, r .rows, count-size f);
     }
 
-module _ (tk ev : List ℕ) (small : length tk < 4294967296) where
+module _ (tk ev : List ℕ) (small : length tk < TWO-TO-32) where
   -- m events from i on make y of x
   unfoldable pub Runs : ℕ → ℕ → On → On → Type 0
   Runs m i x y = (n : ℕ) → eventsN (m + n) tk ev i x ≡ eventsN n tk ev (i + m) y
@@ -125,11 +125,11 @@ module _ (tk ev : List ℕ) (small : length tk < 4294967296) where
   -- ---------------------------------------------------------------- what each event does
 
   module _ (i tag a b : ℕ) (x : List ℕ) (e : drop (i * EVENT-ROW) ev ≡ tag ∷ a ∷ b ∷ x) where
-    tag-is : field ev i 0 ≡ tag
-    tag-is = ev-field ev i 0 (tag ∷ a ∷ b ∷ x) e (omega arith)
+    tag-is : field ev i TAG ≡ tag
+    tag-is = ev-field ev i TAG (tag ∷ a ∷ b ∷ x) e (omega arith)
 
-    arg-is : field ev i 1 ≡ a
-    arg-is = ev-field ev i 1 (tag ∷ a ∷ b ∷ x) e (omega arith)
+    arg-is : field ev i EVENT-ARGUMENT ≡ a
+    arg-is = ev-field ev i EVENT-ARGUMENT (tag ∷ a ∷ b ∷ x) e (omega arith)
 
     ev-take : (q : On) → tag ≡ 2 → event-on tk ev i q ≡ token-on tk (trivia-on tk q)
     unfolding event-on
@@ -151,14 +151,14 @@ module _ (tk ev : List ℕ) (small : length tk < 4294967296) where
     unfolding event-on
     ev-error q h = rw (tag-is, h)
 
-    ev-linked : (q : On) → tag ≡ 6 → event-on tk ev i q ≡ q
+    ev-linked : (q : On) → tag ≡ LINKED-START-NODE → event-on tk ev i q ≡ q
     unfolding event-on
     ev-linked q h = rw (tag-is, h)
 
     ev-next : drop ((i + 1) * EVENT-ROW) ev ≡ x
     ev-next = ev-past ev i 1 (tag ∷ a ∷ b ∷ []) x e refl
 
-  ev-start : (i : ℕ) (q : On) → field ev i 0 ≡ 1 → event-on tk ev i q ≡ start-on ev i (trivia-on tk q)
+  ev-start : (i : ℕ) (q : On) → field ev i TAG ≡ 1 → event-on tk ev i q ≡ start-on ev i (trivia-on tk q)
   unfolding event-on
   ev-start i q t = rw t
 
@@ -168,7 +168,7 @@ module _ (tk ev : List ℕ) (small : length tk < 4294967296) where
   unfolding encode Chained
   chain-first done k d x h c = refl
   chain-first (node q m m′ a i o) k d x h c =
-      ap (λ l. getD l 0 0) (append-assoc (encode true a) _ (6 ∷ k ∷ d ∷ x)) ∙ chain-first a q _ _ (c .0) (c .1 .0)
+      ap (λ l. getD l 0 0) (append-assoc (encode true a) _ (LINKED-START-NODE ∷ k ∷ d ∷ x)) ∙ chain-first a q _ _ (c .0) (c .1 .0)
   chain-first (token t m o) k d x h c = absurd h
   chain-first (name ts m o) k d x h c = absurd h
   chain-first (ignored m m′ a i o) k d x h c = absurd h
@@ -176,7 +176,7 @@ module _ (tk ev : List ℕ) (small : length tk < 4294967296) where
   chain-first (over m o) k d x h c = absurd h
 
   -- no skeleton's events begin with a linked start
-  first-other : (l : Bool) (o : Skeleton) (e : List ℕ) → Chained o → (getD e 0 0 ≡ 6 → ⊥) → getD (encode l o ++ e) 0 0 ≡ 6 → ⊥
+  first-other : (l : Bool) (o : Skeleton) (e : List ℕ) → Chained o → (getD e 0 0 ≡ LINKED-START-NODE → ⊥) → getD (encode l o ++ e) 0 0 ≡ LINKED-START-NODE → ⊥
   unfolding encode Chained
   first-other l done e c h g = h g
   first-other l (token t m o) e c h g = let z : _≡_ {A = ℕ} 2 6 = g in omega arith
@@ -184,24 +184,24 @@ module _ (tk ev : List ℕ) (small : length tk < 4294967296) where
   first-other l (node k m m′ a i o) e c h g =
       let z : _≡_ {A = ℕ} 1 6 = sym (ap (λ q. getD q 0 0) (append-assoc (encode true a) _ e) ∙ chain-first a k _ _ (c .0) (c .1 .0)) ∙ g in omega arith
   first-other l (ignored m m′ a i o) e c h g =
-      let y : List ℕ = event-row 0 0 0 ((encode false i ++ event-row 0 0 0 (encode l o)) ++ e) in
+      let y : List ℕ = event-row PLACEHOLDER 0 0 ((encode false i ++ event-row PLACEHOLDER 0 0 (encode l o)) ++ e) in
       first-other true a y (c .1 .0) (λ z. omega arith) (sym (ap (λ q. getD q 0 0) (append-assoc (encode true a) _ e)) ∙ g)
   first-other l (report r o) e c h g = let z : _≡_ {A = ℕ} 5 6 = g in omega arith
   first-other l (over m o) e c h g = first-other l o e c h g
 
   -- ---------------------------------------------------------------- the statements of the induction
 
-  -- the events of o, from any filled state with room, leave its placed tree's rows behind what was written
+  -- the events of o, from any filled state where they fit, leave its placed tree's rows behind what was written
   unfoldable pub Sinks : Skeleton → Type 0
   Sinks o =
-      (l : Bool) (e : List ℕ) (i : ℕ) (ts : List Token) (s : Filled) → Chained o → drop (i * EVENT-ROW) ev ≡ encode l o ++ e → (getD e 0 0 ≡ 6 → ⊥) → From tk (s .cursor) ts
-      → Room (place o ts) s → Runs (event-count o) i (state s) (state (grow (place o ts) s))
+      (l : Bool) (e : List ℕ) (i : ℕ) (ts : List Token) (s : Filled) → Chained o → drop (i * EVENT-ROW) ev ≡ encode l o ++ e → (getD e 0 0 ≡ LINKED-START-NODE → ⊥) → From tk (s .cursor) ts
+      → Fits (place o ts) s → Runs (event-count o) i (state s) (state (grow (place o ts) s))
 
   -- the same of what stands before a marker: its first start has opened its nodes, and the marker's own start is passed over
   unfoldable pub Befores : Skeleton → Type 0
   Befores a =
       (k d : ℕ) (x : List ℕ) (i : ℕ) (ts : List Token) (s : Filled) → Alone a → Chained a → drop (i * EVENT-ROW) ev ≡ encode true a ++ (start-tag a ∷ k ∷ d ∷ x)
-      → Solid ts → drop-trivia ts ≡ ts → From tk (s .cursor) ts → Room (place a ts) s → Runs (event-count a) (i + 1) (state (opened a s)) (state (grow (place a ts) s))
+      → Solid ts → drop-trivia ts ≡ ts → From tk (s .cursor) ts → Fits (place a ts) s → Runs (event-count a) (i + 1) (state (opened a s)) (state (grow (place a ts) s))
 
   from-inside : (k : ℕ) (s : Filled) (ts : List Token) → From tk (s .cursor) ts → From tk (inside k s .cursor) ts
   unfolding inside
@@ -209,8 +209,8 @@ module _ (tk ev : List ℕ) (small : length tk < 4294967296) where
 
   -- a node once it is open: what stands before it, what is inside it, and its end
   node-inside : (a i : Skeleton) → Befores a → Sinks i → (k d : ℕ) (x : List ℕ) (j : ℕ) (ts : List Token) (s : Filled) → Alone a → Chained a → Chained i
-      → drop (j * EVENT-ROW) ev ≡ encode true a ++ (start-tag a ∷ k ∷ d ∷ (encode false i ++ (4 ∷ 0 ∷ 0 ∷ x))) → Solid ts → drop-trivia ts ≡ ts → From tk (s .cursor) ts
-      → Room (subtree k (place a ts ⊕ place i (after a ts)) nil) s
+      → drop (j * EVENT-ROW) ev ≡ encode true a ++ (start-tag a ∷ k ∷ d ∷ (encode false i ++ (FINISH-NODE ∷ 0 ∷ 0 ∷ x))) → Solid ts → drop-trivia ts ≡ ts → From tk (s .cursor) ts
+      → Fits (subtree k (place a ts ⊕ place i (after a ts)) nil) s
       → Runs (event-count a + (event-count i + 1)) (j + 1) (state (opened a (inside k s))) (state (grow (subtree k (place a ts ⊕ place i (after a ts)) nil) s))
   unfolding Sinks Befores
   node-inside a i ba si k d x j ts s al ca ci e so dt fr r =
@@ -221,16 +221,16 @@ module _ (tk ev : List ℕ) (small : length tk < 4294967296) where
       let q1 = grow A q in
       let n = event-count a in
       let p = event-count i in
-      let y : List ℕ = encode false i ++ (4 ∷ 0 ∷ 0 ∷ x) in
+      let y : List ℕ = encode false i ++ (FINISH-NODE ∷ 0 ∷ 0 ∷ x) in
       let g0 : drop ((j + n) * EVENT-ROW) ev ≡ start-tag a ∷ k ∷ d ∷ y = ev-past ev j n (encode true a) (start-tag a ∷ k ∷ d ∷ y) e (encode-count true a) in
       let g1 : drop ((j + 1 + n) * EVENT-ROW) ev ≡ y = (let z : j + 1 + n ≡ j + n + 1 = omega arith in ap (λ v. drop (v * EVENT-ROW) ev) z ∙ ev-next (j + n) (start-tag a) k d y g0) in
-      let g2 : drop ((j + 1 + n + p) * EVENT-ROW) ev ≡ 4 ∷ 0 ∷ 0 ∷ x = ev-past ev (j + 1 + n) p (encode false i) (4 ∷ 0 ∷ 0 ∷ x) g1 (encode-count false i) in
-      let g3 : drop ((j + 1 + (n + p)) * EVENT-ROW) ev ≡ 4 ∷ 0 ∷ 0 ∷ x = (let z : j + 1 + (n + p) ≡ j + 1 + n + p = omega arith in ap (λ v. drop (v * EVENT-ROW) ev) z ∙ g2) in
-      let rq : Room (A ⊕ I) q = room-inside k (A ⊕ I) s r in
+      let g2 : drop ((j + 1 + n + p) * EVENT-ROW) ev ≡ FINISH-NODE ∷ 0 ∷ 0 ∷ x = ev-past ev (j + 1 + n) p (encode false i) (FINISH-NODE ∷ 0 ∷ 0 ∷ x) g1 (encode-count false i) in
+      let g3 : drop ((j + 1 + (n + p)) * EVENT-ROW) ev ≡ FINISH-NODE ∷ 0 ∷ 0 ∷ x = (let z : j + 1 + (n + p) ≡ j + 1 + n + p = omega arith in ap (λ v. drop (v * EVENT-ROW) ev) z ∙ g2) in
+      let rq : Fits (A ⊕ I) q = fits-inside k (A ⊕ I) s r in
       let fq : From tk (q .cursor) ts = from-inside k s ts fr in
-      let before : Runs n (j + 1) (state (opened a q)) (state q1) = ba k d y j ts q al ca e so dt fq (room-front A I q rq) in
+      let before : Runs n (j + 1) (state (opened a q)) (state q1) = ba k d y j ts q al ca e so dt fq (fits-front A I q rq) in
       let within : Runs p (j + 1 + n) (state q1) (state (grow I q1)) =
-      si false (4 ∷ 0 ∷ 0 ∷ x) (j + 1 + n) vs q1 ci g1 (λ z. omega arith) (from-grown tk A q ts vs fq (raw-place a ts)) (room-back A I q rq) in
+      si false (FINISH-NODE ∷ 0 ∷ 0 ∷ x) (j + 1 + n) vs q1 ci g1 (λ z. omega arith) (from-grown tk A q ts vs fq (raw-place a ts)) (fits-back A I q rq) in
       let both : Runs (n + p) (j + 1) (state (opened a q)) (state (grow (A ⊕ I) q)) =
       runs-as (n + p) (n + p) (j + 1) (j + 1) _ _ _ refl refl (ap state (grow-grow A I q)) (runs-then n p (j + 1) _ _ _ before within) in
       let end : Runs 1 (j + 1 + (n + p)) (state (grow (A ⊕ I) q)) (state (grow (subtree k (A ⊕ I) nil) s)) =
@@ -250,15 +250,15 @@ module _ (tk ev : List ℕ) (small : length tk < 4294967296) where
       let p = event-count i in
       let w = far true i in
       let p1 = node q m m′ a i o in
-      let R : List ℕ = 6 ∷ k ∷ d ∷ x in
+      let R : List ℕ = LINKED-START-NODE ∷ k ∷ d ∷ x in
       let B = subtree q (place a ts ⊕ place i (after a ts)) nil in
       let b : place p1 ts ≡ B = place-alone q m m′ a i o ts al so dt in
-      let e′ : drop (j * EVENT-ROW) ev ≡ encode true a ++ (start-tag a ∷ q ∷ w ∷ (encode false i ++ (4 ∷ 0 ∷ 0 ∷ R))) =
-      e ∙ ap (λ y. y ++ R) (encode-alone true q m m′ a i o al) ∙ append-assoc (encode true a) (start-tag a ∷ q ∷ w ∷ (encode false i ++ (4 ∷ 0 ∷ 0 ∷ []))) R
-      ∙ ap (λ y. encode true a ++ (start-tag a ∷ q ∷ w ∷ y)) (append-assoc (encode false i) (4 ∷ 0 ∷ 0 ∷ []) R) in
+      let e′ : drop (j * EVENT-ROW) ev ≡ encode true a ++ (start-tag a ∷ q ∷ w ∷ (encode false i ++ (FINISH-NODE ∷ 0 ∷ 0 ∷ R))) =
+      e ∙ ap (λ y. y ++ R) (encode-alone true q m m′ a i o al) ∙ append-assoc (encode true a) (start-tag a ∷ q ∷ w ∷ (encode false i ++ (FINISH-NODE ∷ 0 ∷ 0 ∷ []))) R
+      ∙ ap (λ y. encode true a ++ (start-tag a ∷ q ∷ w ∷ y)) (append-assoc (encode false i) (FINISH-NODE ∷ 0 ∷ 0 ∷ []) R) in
       let g : drop ((j + event-count p1) * EVENT-ROW) ev ≡ R = ev-past ev j (event-count p1) (encode true p1) R e (encode-count true p1) in
       let t : j + event-count p1 ≡ j + 1 + (n + (p + 1)) = omega (arith, ap event-count al) in
-      let rb : Room B s = subst (λ f. Room f s) b r in
+      let rb : Fits B s = subst (λ f. Fits f s) b r in
       let within : Runs (n + (p + 1)) (j + 1) (state (opened a (inside q s))) (state (grow B s)) = node-inside a i ba si q w R j ts s (c .0) (c .1 .0) (c .1 .1 .0) e′ so dt fr rb in
       let skip : Runs 1 (j + 1 + (n + (p + 1))) (state (grow B s)) (state (grow B s)) =
       runs-as 1 1 (j + event-count p1) (j + 1 + (n + (p + 1))) _ _ _ refl t refl (runs-one (j + event-count p1) _ _ (ev-linked (j + event-count p1) 6 k d x g (state (grow B s)) refl)) in
@@ -268,8 +268,8 @@ module _ (tk ev : List ℕ) (small : length tk < 4294967296) where
 
   -- its first event: trivia, and its chain opened
   start-event : (a i : Skeleton) (k : ℕ) (l : Bool) (x : List ℕ) (j : ℕ) (ts : List Token) (s : Filled) → Alone a → Chained a
-      → drop (j * EVENT-ROW) ev ≡ encode true a ++ (start-tag a ∷ k ∷ far l i ∷ (encode false i ++ (4 ∷ 0 ∷ 0 ∷ x))) → (getD x 0 0 ≡ 6 → ⊥) → From tk (s .cursor) ts → Room (lead ts) s
-      → Room (subtree k (place a (drop-trivia ts) ⊕ place i (after a (drop-trivia ts))) nil) (grow (lead ts) s)
+      → drop (j * EVENT-ROW) ev ≡ encode true a ++ (start-tag a ∷ k ∷ far l i ∷ (encode false i ++ (FINISH-NODE ∷ 0 ∷ 0 ∷ x))) → (getD x 0 0 ≡ LINKED-START-NODE → ⊥) → From tk (s .cursor) ts → Fits (lead ts) s
+      → Fits (subtree k (place a (drop-trivia ts) ⊕ place i (after a (drop-trivia ts))) nil) (grow (lead ts) s)
       → event-on tk ev j (state s) ≡ state (opened a (inside k (grow (lead ts) s)))
   unfolding size
   start-event a i k l x j ts s al ca e ne fr r0 r1 =
@@ -278,17 +278,17 @@ module _ (tk ev : List ℕ) (small : length tk < 4294967296) where
       let A = place a us in
       let I = place i vs in
       let w = length (events false i) in
-      let y : List ℕ = start-tag a ∷ k ∷ far l i ∷ (encode false i ++ (4 ∷ 0 ∷ 0 ∷ x)) in
+      let y : List ℕ = start-tag a ∷ k ∷ far l i ∷ (encode false i ++ (FINISH-NODE ∷ 0 ∷ 0 ∷ x)) in
       let ly : length (encode true a ++ y) ≡ length (encode true a) + length y = length-append (encode true a) y in
-      let t : field ev j 0 ≡ 1 = ev-field ev j 0 (encode true a ++ y) e (omega arith) ∙ chain-first a k (far l i) (encode false i ++ (4 ∷ 0 ∷ 0 ∷ x)) al ca in
-      let z : List ℕ = start-tag a ∷ k ∷ far l i ∷ (encode false i ++ (4 ∷ 0 ∷ 0 ∷ [])) in
-      let ye : y ≡ z ++ x = ap (λ q. start-tag a ∷ k ∷ far l i ∷ q) (sym (append-assoc (encode false i) (4 ∷ 0 ∷ 0 ∷ []) x)) in
+      let t : field ev j TAG ≡ 1 = ev-field ev j TAG (encode true a ++ y) e (omega arith) ∙ chain-first a k (far l i) (encode false i ++ (FINISH-NODE ∷ 0 ∷ 0 ∷ x)) al ca in
+      let z : List ℕ = start-tag a ∷ k ∷ far l i ∷ (encode false i ++ (FINISH-NODE ∷ 0 ∷ 0 ∷ [])) in
+      let ye : y ≡ z ++ x = ap (λ q. start-tag a ∷ k ∷ far l i ∷ q) (sym (append-assoc (encode false i) (FINISH-NODE ∷ 0 ∷ 0 ∷ []) x)) in
       let e1 : drop ((j + event-count a) * EVENT-ROW) ev ≡ z ++ x = ev-past ev j (event-count a) (encode true a) y e (encode-count true a) ∙ ye in
-      let lz : length z ≡ suc (suc w) * EVENT-ROW = omega (arith, length-append (encode false i) (4 ∷ 0 ∷ 0 ∷ []), encode-count false i, events-length false i) in
+      let lz : length z ≡ suc (suc w) * EVENT-ROW = omega (arith, length-append (encode false i) (FINISH-NODE ∷ 0 ∷ 0 ∷ []), encode-count false i, events-length false i) in
       let e2 : drop ((j + event-count a + suc (suc w)) * EVENT-ROW) ev ≡ x = ev-past ev (j + event-count a) (suc (suc w)) z x e1 lz in
       let dp : depth a ≤ size (A ⊕ I) = omega (arith, depth-size a us, size-beside A I) in
       ev-start j (state s) t ∙ ap (λ q. start-on ev j q) (trivia-runs tk ts s fr r0)
-      ∙ start-runs ev a k w l (encode false i ++ (4 ∷ 0 ∷ 0 ∷ x)) j (grow (lead ts) s) al ca e (λ _. ev-other ev (j + event-count a + suc (suc w)) x e2 ne)
+      ∙ start-runs ev a k w l (encode false i ++ (FINISH-NODE ∷ 0 ∷ 0 ∷ x)) j (grow (lead ts) s) al ca e (λ _. ev-other ev (j + event-count a + suc (suc w)) x e2 ne)
       (r1 .whole) (omega (arith, r1 .free, rows-length (subtree k (A ⊕ I) nil))) (omega (arith, r1 .rows))
 
   sinks-node : (k m m′ : ℕ) (a i o : Skeleton) → Befores a → Sinks i → Sinks o → Sinks (node k m m′ a i o)
@@ -304,26 +304,26 @@ module _ (tk ev : List ℕ) (small : length tk < 4294967296) where
       let q1 = grow (lead ts) s in
       let q2 = grow B q1 in
       let x : List ℕ = encode l o ++ e in
-      let h′ : drop (j * EVENT-ROW) ev ≡ encode true a ++ (start-tag a ∷ k ∷ far l i ∷ (encode false i ++ (4 ∷ 0 ∷ 0 ∷ x))) =
-      h ∙ append-assoc (encode true a) (start-tag a ∷ k ∷ far l i ∷ (encode false i ++ (4 ∷ 0 ∷ 0 ∷ encode l o))) e
-      ∙ ap (λ y. encode true a ++ (start-tag a ∷ k ∷ far l i ∷ y)) (append-assoc (encode false i) (4 ∷ 0 ∷ 0 ∷ encode l o) e) in
-      let r0 : Room (lead ts) s = room-front (lead ts) (B ⊕ P) s r in
-      let r1 : Room (B ⊕ P) q1 = room-back (lead ts) (B ⊕ P) s r in
-      let r2 : Room B q1 = room-front B P q1 r1 in
+      let h′ : drop (j * EVENT-ROW) ev ≡ encode true a ++ (start-tag a ∷ k ∷ far l i ∷ (encode false i ++ (FINISH-NODE ∷ 0 ∷ 0 ∷ x))) =
+      h ∙ append-assoc (encode true a) (start-tag a ∷ k ∷ far l i ∷ (encode false i ++ (FINISH-NODE ∷ 0 ∷ 0 ∷ encode l o))) e
+      ∙ ap (λ y. encode true a ++ (start-tag a ∷ k ∷ far l i ∷ y)) (append-assoc (encode false i) (FINISH-NODE ∷ 0 ∷ 0 ∷ encode l o) e) in
+      let r0 : Fits (lead ts) s = fits-front (lead ts) (B ⊕ P) s r in
+      let r1 : Fits (B ⊕ P) q1 = fits-back (lead ts) (B ⊕ P) s r in
+      let r2 : Fits B q1 = fits-front B P q1 r1 in
       let f1 : From tk (q1 .cursor) us = from-grown tk (lead ts) s ts us fr (raw-lead ts) in
-      let xo : getD x 0 0 ≡ 6 → ⊥ = first-other l o e (c .1 .1 .1) ne in
+      let xo : getD x 0 0 ≡ LINKED-START-NODE → ⊥ = first-other l o e (c .1 .1 .1) ne in
       let first : Runs 1 j (state s) (state (opened a (inside k q1))) = runs-one j _ _ (start-event a i k l x j ts s (c .0) (c .1 .0) h′ xo fr r0 r2) in
       let within : Runs (n + (p + 1)) (j + 1) (state (opened a (inside k q1))) (state q2) =
       node-inside a i ba si k (far l i) x j us q1 (c .0) (c .1 .0) (c .1 .1 .0) h′ (dropped-solid ts) (drop-twice ts) f1 r2 in
       let whole : Runs (1 + (n + (p + 1))) j (state s) (state q2) = runs-then 1 (n + (p + 1)) j _ _ _ first within in
-      let z : List ℕ = start-tag a ∷ k ∷ far l i ∷ (encode false i ++ (4 ∷ 0 ∷ 0 ∷ [])) in
-      let ye : encode true a ++ (start-tag a ∷ k ∷ far l i ∷ (encode false i ++ (4 ∷ 0 ∷ 0 ∷ x))) ≡ (encode true a ++ z) ++ x =
-      ap (λ y. encode true a ++ (start-tag a ∷ k ∷ far l i ∷ y)) (sym (append-assoc (encode false i) (4 ∷ 0 ∷ 0 ∷ []) x)) ∙ sym (append-assoc (encode true a) z x) in
+      let z : List ℕ = start-tag a ∷ k ∷ far l i ∷ (encode false i ++ (FINISH-NODE ∷ 0 ∷ 0 ∷ [])) in
+      let ye : encode true a ++ (start-tag a ∷ k ∷ far l i ∷ (encode false i ++ (FINISH-NODE ∷ 0 ∷ 0 ∷ x))) ≡ (encode true a ++ z) ++ x =
+      ap (λ y. encode true a ++ (start-tag a ∷ k ∷ far l i ∷ y)) (sym (append-assoc (encode false i) (FINISH-NODE ∷ 0 ∷ 0 ∷ []) x)) ∙ sym (append-assoc (encode true a) z x) in
       let lz : length (encode true a ++ z) ≡ (1 + (n + (p + 1))) * EVENT-ROW =
-      omega (arith, length-append (encode true a) z, length-append (encode false i) (4 ∷ 0 ∷ 0 ∷ []), encode-count true a, encode-count false i) in
+      omega (arith, length-append (encode true a) z, length-append (encode false i) (FINISH-NODE ∷ 0 ∷ 0 ∷ []), encode-count true a, encode-count false i) in
       let h2 : drop ((j + (1 + (n + (p + 1)))) * EVENT-ROW) ev ≡ x = ev-past ev j (1 + (n + (p + 1))) (encode true a ++ z) x (h′ ∙ ye) lz in
       let f2 : From tk (q2 .cursor) ws = from-grown tk B q1 us ws f1 (raw-branch k (place a us ⊕ place i vs) us ws (drop-then (place a us) (place i vs) us vs ws (raw-place a us) (raw-place i vs))) in
-      let rest : Runs (event-count o) (j + (1 + (n + (p + 1)))) (state q2) (state (grow P q2)) = so l e (j + (1 + (n + (p + 1)))) ws q2 (c .1 .1 .1) h2 ne f2 (room-back B P q1 r1) in
+      let rest : Runs (event-count o) (j + (1 + (n + (p + 1)))) (state q2) (state (grow P q2)) = so l e (j + (1 + (n + (p + 1)))) ws q2 (c .1 .1 .1) h2 ne f2 (fits-back B P q1 r1) in
       runs-as (1 + (n + (p + 1)) + event-count o) (n + (p + event-count o + 2)) j j _ _ _ (omega arith) refl
       (ap state (grow-grow B P q1 ∙ grow-grow (lead ts) (B ⊕ P) s))
       (runs-then (1 + (n + (p + 1))) (event-count o) j _ _ _ whole rest)
@@ -342,22 +342,22 @@ module _ (tk ev : List ℕ) (small : length tk < 4294967296) where
       let p = event-count i in
       let q1 = grow A s in
       let q2 = grow I q1 in
-      let y : List ℕ = 0 ∷ 0 ∷ 0 ∷ (encode l o ++ e) in
-      let x : List ℕ = 0 ∷ 0 ∷ 0 ∷ (encode false i ++ y) in
+      let y : List ℕ = PLACEHOLDER ∷ 0 ∷ 0 ∷ (encode l o ++ e) in
+      let x : List ℕ = PLACEHOLDER ∷ 0 ∷ 0 ∷ (encode false i ++ y) in
       let h0 : drop (j * EVENT-ROW) ev ≡ encode true a ++ x =
-      h ∙ append-assoc (encode true a) (0 ∷ 0 ∷ 0 ∷ (encode false i ++ (0 ∷ 0 ∷ 0 ∷ encode l o))) e ∙ ap (λ z. encode true a ++ (0 ∷ 0 ∷ 0 ∷ z)) (append-assoc (encode false i) (0 ∷ 0 ∷ 0 ∷ encode l o) e) in
+      h ∙ append-assoc (encode true a) (PLACEHOLDER ∷ 0 ∷ 0 ∷ (encode false i ++ (PLACEHOLDER ∷ 0 ∷ 0 ∷ encode l o))) e ∙ ap (λ z. encode true a ++ (PLACEHOLDER ∷ 0 ∷ 0 ∷ z)) (append-assoc (encode false i) (PLACEHOLDER ∷ 0 ∷ 0 ∷ encode l o) e) in
       let h1 : drop ((j + n) * EVENT-ROW) ev ≡ x = ev-past ev j n (encode true a) x h0 (encode-count true a) in
-      let h2 : drop ((j + n + 1) * EVENT-ROW) ev ≡ encode false i ++ y = ev-next (j + n) 0 0 0 (encode false i ++ y) h1 in
+      let h2 : drop ((j + n + 1) * EVENT-ROW) ev ≡ encode false i ++ y = ev-next (j + n) PLACEHOLDER 0 0 (encode false i ++ y) h1 in
       let h3 : drop ((j + n + 1 + p) * EVENT-ROW) ev ≡ y = ev-past ev (j + n + 1) p (encode false i) y h2 (encode-count false i) in
-      let h4 : drop ((j + n + 1 + p + 1) * EVENT-ROW) ev ≡ encode l o ++ e = ev-next (j + n + 1 + p) 0 0 0 (encode l o ++ e) h3 in
-      let r1 : Room (I ⊕ P) q1 = room-back A (I ⊕ P) s r in
+      let h4 : drop ((j + n + 1 + p + 1) * EVENT-ROW) ev ≡ encode l o ++ e = ev-next (j + n + 1 + p) PLACEHOLDER 0 0 (encode l o ++ e) h3 in
+      let r1 : Fits (I ⊕ P) q1 = fits-back A (I ⊕ P) s r in
       let f1 : From tk (q1 .cursor) vs = from-grown tk A s ts vs fr (raw-place a ts) in
       let f2 : From tk (q2 .cursor) ws = from-grown tk I q1 vs ws f1 (raw-place i vs) in
-      let one : Runs n j (state s) (state q1) = sa true x j ts s (c .1 .0) h0 (λ z. omega arith) fr (room-front A (I ⊕ P) s r) in
-      let two : Runs 1 (j + n) (state q1) (state q1) = runs-one (j + n) _ _ (ev-hole (j + n) 0 0 0 (encode false i ++ y) h1 (state q1) refl) in
-      let three : Runs p (j + n + 1) (state q1) (state q2) = si false y (j + n + 1) vs q1 (c .1 .1 .0) h2 (λ z. omega arith) f1 (room-front I P q1 r1) in
-      let four : Runs 1 (j + n + 1 + p) (state q2) (state q2) = runs-one (j + n + 1 + p) _ _ (ev-hole (j + n + 1 + p) 0 0 0 (encode l o ++ e) h3 (state q2) refl) in
-      let five : Runs (event-count o) (j + n + 1 + p + 1) (state q2) (state (grow P q2)) = so l e (j + n + 1 + p + 1) ws q2 (c .1 .1 .1) h4 ne f2 (room-back I P q1 r1) in
+      let one : Runs n j (state s) (state q1) = sa true x j ts s (c .1 .0) h0 (λ z. omega arith) fr (fits-front A (I ⊕ P) s r) in
+      let two : Runs 1 (j + n) (state q1) (state q1) = runs-one (j + n) _ _ (ev-hole (j + n) PLACEHOLDER 0 0 (encode false i ++ y) h1 (state q1) refl) in
+      let three : Runs p (j + n + 1) (state q1) (state q2) = si false y (j + n + 1) vs q1 (c .1 .1 .0) h2 (λ z. omega arith) f1 (fits-front I P q1 r1) in
+      let four : Runs 1 (j + n + 1 + p) (state q2) (state q2) = runs-one (j + n + 1 + p) _ _ (ev-hole (j + n + 1 + p) PLACEHOLDER 0 0 (encode l o ++ e) h3 (state q2) refl) in
+      let five : Runs (event-count o) (j + n + 1 + p + 1) (state q2) (state (grow P q2)) = so l e (j + n + 1 + p + 1) ws q2 (c .1 .1 .1) h4 ne f2 (fits-back I P q1 r1) in
       runs-as (n + 1 + p + 1 + event-count o) (n + (p + event-count o + 2)) j j _ _ _ (omega arith) refl
       (ap state (grow-grow I P q1 ∙ grow-grow A (I ⊕ P) s))
       (runs-on (n + 1 + p + 1) (event-count o) j (j + n + 1 + p + 1) _ _ _ (omega arith)
@@ -367,8 +367,8 @@ module _ (tk ev : List ℕ) (small : length tk < 4294967296) where
   -- ---------------------------------------------------------------- a token, a name, and events that write nothing
 
   leaf-then : (o : Skeleton) → Sinks o → (F : Tree) (vs : List Token) (l : Bool) (e : List ℕ) (j : ℕ) (ts : List Token) (s : Filled) → Chained o
-      → drop ((j + 1) * EVENT-ROW) ev ≡ encode l o ++ e → (getD e 0 0 ≡ 6 → ⊥) → From tk (s .cursor) ts → drop (raw F) (drop-trivia ts) ≡ vs → Room (lead ts ⊕ (F ⊕ place o vs)) s
-      → (From tk (grow (lead ts) s .cursor) (drop-trivia ts) → Room (lead ts) s → Room F (grow (lead ts) s) → event-on tk ev j (state s) ≡ state (grow F (grow (lead ts) s)))
+      → drop ((j + 1) * EVENT-ROW) ev ≡ encode l o ++ e → (getD e 0 0 ≡ LINKED-START-NODE → ⊥) → From tk (s .cursor) ts → drop (raw F) (drop-trivia ts) ≡ vs → Fits (lead ts ⊕ (F ⊕ place o vs)) s
+      → (From tk (grow (lead ts) s .cursor) (drop-trivia ts) → Fits (lead ts) s → Fits F (grow (lead ts) s) → event-on tk ev j (state s) ≡ state (grow F (grow (lead ts) s)))
       → Runs (suc (event-count o)) j (state s) (state (grow (lead ts ⊕ (F ⊕ place o vs)) s))
   unfolding Sinks
   leaf-then o so F vs l e j ts s c h ne fr rf r step =
@@ -376,10 +376,10 @@ module _ (tk ev : List ℕ) (small : length tk < 4294967296) where
       let P = place o vs in
       let q1 = grow (lead ts) s in
       let f1 : From tk (q1 .cursor) us = from-grown tk (lead ts) s ts us fr (raw-lead ts) in
-      let r1 : Room (F ⊕ P) q1 = room-back (lead ts) (F ⊕ P) s r in
-      let one : Runs 1 j (state s) (state (grow F q1)) = runs-one j _ _ (step f1 (room-front (lead ts) (F ⊕ P) s r) (room-front F P q1 r1)) in
+      let r1 : Fits (F ⊕ P) q1 = fits-back (lead ts) (F ⊕ P) s r in
+      let one : Runs 1 j (state s) (state (grow F q1)) = runs-one j _ _ (step f1 (fits-front (lead ts) (F ⊕ P) s r) (fits-front F P q1 r1)) in
       let rest : Runs (event-count o) (j + 1) (state (grow F q1)) (state (grow P (grow F q1))) =
-      so l e (j + 1) vs (grow F q1) c h ne (from-grown tk F q1 us vs f1 rf) (room-back F P q1 r1) in
+      so l e (j + 1) vs (grow F q1) c h ne (from-grown tk F q1 us vs f1 rf) (fits-back F P q1 r1) in
       runs-as (1 + event-count o) (suc (event-count o)) j j _ _ _ (omega arith) refl
       (ap state (grow-grow F P q1 ∙ grow-grow (lead ts) (F ⊕ P) s)) (runs-then 1 (event-count o) j _ _ _ one rest)
 
@@ -387,23 +387,23 @@ module _ (tk ev : List ℕ) (small : length tk < 4294967296) where
   unfolding Sinks Chained event-count encode place
   sinks-token t m o so l e j ts s c h ne fr r =
       let us = drop-trivia ts in
-      leaf-then o so (front us) (past us) l e j ts s c (ev-next j 2 0 0 (encode l o ++ e) h) ne fr (raw-front us) r
-      (λ f1 r0 r1. ev-take j 2 0 0 (encode l o ++ e) h (state s) refl ∙ ap (λ x. token-on tk x) (trivia-runs tk ts s fr r0) ∙ token-runs tk (grow (lead ts) s) us f1 r1)
+      leaf-then o so (front us) (past us) l e j ts s c (ev-next j ADD-TOKEN 0 0 (encode l o ++ e) h) ne fr (raw-front us) r
+      (λ f1 r0 r1. ev-take j ADD-TOKEN 0 0 (encode l o ++ e) h (state s) refl ∙ ap (λ x. token-on tk x) (trivia-runs tk ts s fr r0) ∙ token-runs tk (grow (lead ts) s) us f1 r1)
 
   sinks-name : (raw-tokens : List Token) (m : ℕ) (o : Skeleton) → Sinks o → Sinks (name raw-tokens m o)
   unfolding Sinks Chained event-count encode place
   sinks-name rt m o so l e j ts s c h ne fr r =
       let us = drop-trivia ts in
       let n = length rt in
-      leaf-then o so (leaf K.Name (take n us) nil) (drop n us) l e j ts s c (ev-next j 3 n 0 (encode l o ++ e) h) ne fr (raw-name n us) r
-      (λ f1 r0 r1. ev-name j 3 n 0 (encode l o ++ e) h (state s) refl ∙ ap (λ x. combined-on tk n x) (trivia-runs tk ts s fr r0) ∙ name-runs tk small n (grow (lead ts) s) us f1 r1)
+      leaf-then o so (leaf K.Name (take n us) nil) (drop n us) l e j ts s c (ev-next j ADD-COMBINED-TOKEN n 0 (encode l o ++ e) h) ne fr (raw-name n us) r
+      (λ f1 r0 r1. ev-name j ADD-COMBINED-TOKEN n 0 (encode l o ++ e) h (state s) refl ∙ ap (λ x. combined-on tk n x) (trivia-runs tk ts s fr r0) ∙ name-runs tk small n (grow (lead ts) s) us f1 r1)
 
-  sinks-report : (o : Skeleton) → Sinks o → (l : Bool) (e : List ℕ) (j : ℕ) (ts : List Token) (s : Filled) → Chained o → drop (j * EVENT-ROW) ev ≡ 5 ∷ 0 ∷ 0 ∷ (encode l o ++ e)
-      → (getD e 0 0 ≡ 6 → ⊥) → From tk (s .cursor) ts → Room (place o ts) s → Runs (suc (event-count o)) j (state s) (state (grow (place o ts) s))
+  sinks-report : (o : Skeleton) → Sinks o → (l : Bool) (e : List ℕ) (j : ℕ) (ts : List Token) (s : Filled) → Chained o → drop (j * EVENT-ROW) ev ≡ ERROR ∷ 0 ∷ 0 ∷ (encode l o ++ e)
+      → (getD e 0 0 ≡ LINKED-START-NODE → ⊥) → From tk (s .cursor) ts → Fits (place o ts) s → Runs (suc (event-count o)) j (state s) (state (grow (place o ts) s))
   unfolding Sinks
   sinks-report o so l e j ts s c h ne fr r =
       runs-as (1 + event-count o) (suc (event-count o)) j j _ _ _ (omega arith) refl refl
-      (runs-then 1 (event-count o) j _ _ _ (runs-one j _ _ (ev-error j 5 0 0 (encode l o ++ e) h (state s) refl)) (so l e (j + 1) ts s c (ev-next j 5 0 0 (encode l o ++ e) h) ne fr r))
+      (runs-then 1 (event-count o) j _ _ _ (runs-one j _ _ (ev-error j ERROR 0 0 (encode l o ++ e) h (state s) refl)) (so l e (j + 1) ts s c (ev-next j ERROR 0 0 (encode l o ++ e) h) ne fr r))
 
   sinks-done : Sinks done
   unfolding Sinks event-count place

@@ -5,6 +5,7 @@ use mathlib.Core.Bool.{Bool, true, false}
 use mathlib.Core.List.{List, [], _∷_}
 use lib.Dec.{ltb, eqb}
 use lib.ListN.{length}
+use Rattle.definitions.specs.Layout.{MOST-OPEN-CALLS}
 use Rattle.definitions.specs.TokenKind as K
 use Rattle.definitions.specs.Token.{Token, trivia}
 use Rattle.definitions.specs.Prog.{no, yes, Act, silent-at, at-end, immediate, immediate-next, add-expected, bump, bump-name, bump-argument, emit, emit-unclosed, less}
@@ -46,10 +47,10 @@ argument-chained n s (t ∷ ts) =
     (cond-all made (eqb (t .kind) K.RParen) (depth-chained n _ go tt gone)
     (cond-all made (eqb (t .kind) K.Comma) (depth-chained n _ (λ m. go (suc m)) tt (λ m. gone (suc m))) (gone n))))
 
-room-chained : (b : Bool) (m : ℕ) → Chained (over-unless b m)
+fits-chained : (b : Bool) (m : ℕ) → Chained (over-unless b m)
 unfolding over-unless Chained
-room-chained true m = tt
-room-chained false m = tt
+fits-chained true m = tt
+fits-chained false m = tt
 
 act-chained : (b : Label) (a : Act) (s : State) → Chained (perform b a s .made)
 unfolding perform answer makes do-emit do-expected Chained
@@ -57,7 +58,7 @@ act-chained b (silent-at ks) s = tt
 act-chained b at-end s = tt
 act-chained b (immediate k) s = tt
 act-chained b (immediate-next k) s = tt
-act-chained b (add-expected k) s = room-chained (ltb (length (s .pending)) 256) (mark-of s)
+act-chained b (add-expected k) s = fits-chained (ltb (length (s .pending)) 256) (mark-of s)
 act-chained b bump s = bump-chained (peeked s) (peeked s .rest)
 act-chained b (bump-name ks) s = name-chained ks (peeked s) (peeked s .rest)
 act-chained b bump-argument s = argument-chained 0 s (s .rest)
@@ -100,4 +101,4 @@ steady = record { composes = composes; act = act-chained; deep = λ s. tt }
 -- EVERY RUN'S SKELETON IS CHAINED
 pub entry-chained : (e : Entry) (ts : List Token) → Chained (run-entry e ts)
 unfolding run-entry made-chained
-entry-chained e ts = exec-all made-chained under-chained steady (run 64) (run-all made-chained under-chained steady 64) no-label (whole e) (taken ts)
+entry-chained e ts = exec-all made-chained under-chained steady (run MOST-OPEN-CALLS) (run-all made-chained under-chained steady MOST-OPEN-CALLS) no-label (whole e) (taken ts)

@@ -5,7 +5,9 @@ use mathlib.Core.Path.{_≡_, refl, ap, subst}
 use mathlib.Core.Bool.{Bool, true, false, cond}
 use lib.ListN.{length}
 use lib.Dec.{ltb, eqb}
-use Rattle.sink_rows.specs.Rows.{low, field, links}
+use Rattle.basics.specs.Word.{low}
+use Rattle.definitions.specs.Layout.{TOKEN-ROW, EVENT-ROW, EVENT-ARGUMENT, START-NODE, ADD-TOKEN, ADD-COMBINED-TOKEN, FINISH-NODE}
+use Rattle.sink_rows.specs.Rows.{TAG, field, links}
 use Rattle.sink_tokens.specs.Tokens.{at-most, trivia-here}
 use Rattle.sink.specs.Machine.{On, on, sink-of, moved, leaf-on, token-on, triviaN, trivia-on, combined-on, start-on, finish-on, event-on, eventsN, root-on, events-on}
 
@@ -33,7 +35,7 @@ module _ (tk : List ℕ) where
   unfolding token-on
   like-token x y h =
       let a = sink-of y .cursor in
-      rw (h .cursor) (like-cond (ltb a (length tk / 2)) _ _ _ _ (like-leaf _ _ 1 _ _ 1 (moved (a + 1) x) (moved (a + 1) y) (like-moved (a + 1) x y h)) h)
+      rw (h .cursor) (like-cond (ltb a (length tk / TOKEN-ROW)) _ _ _ _ (like-leaf _ _ 1 _ _ 1 (moved (a + 1) x) (moved (a + 1) y) (like-moved (a + 1) x y h)) h)
 
   like-triviaN : (n : ℕ) (x y : On) → Like x y → Like (triviaN n tk x) (triviaN n tk y)
   unfolding triviaN
@@ -44,13 +46,13 @@ module _ (tk : List ℕ) where
 
   like-trivia : (x y : On) → Like x y → Like (trivia-on tk x) (trivia-on tk y)
   unfolding trivia-on
-  like-trivia x y h = rw (h .cursor) (like-triviaN (length tk / 2 - sink-of y .cursor) x y h)
+  like-trivia x y h = rw (h .cursor) (like-triviaN (length tk / TOKEN-ROW - sink-of y .cursor) x y h)
 
   like-combined : (n : ℕ) (x y : On) → Like x y → Like (combined-on tk n x) (combined-on tk n y)
   unfolding combined-on
   like-combined n x y h =
       let a = sink-of y .cursor in
-      let k = at-most n (length tk / 2 - a) in
+      let k = at-most n (length tk / TOKEN-ROW - a) in
       rw (h .cursor) (like-leaf _ _ _ _ _ _ (moved (a + k) x) (moved (a + k) y) (like-moved (a + k) x y h))
 
   like-start : (ev : List ℕ) (i : ℕ) (x y : On) → Like x y → Like (start-on ev i x) (start-on ev i y)
@@ -65,10 +67,10 @@ module _ (tk : List ℕ) where
   unfolding event-on
   like-event ev i x y h =
       let t : Like (trivia-on tk x) (trivia-on tk y) = like-trivia x y h in
-      like-cond (eqb (field ev i 0) 1) _ _ _ _ (like-start ev i (trivia-on tk x) (trivia-on tk y) t)
-      (like-cond (eqb (field ev i 0) 2) _ _ _ _ (like-token (trivia-on tk x) (trivia-on tk y) t)
-      (like-cond (eqb (field ev i 0) 3) _ _ _ _ (like-combined (field ev i 1) (trivia-on tk x) (trivia-on tk y) t)
-      (like-cond (eqb (field ev i 0) 4) _ _ _ _ (like-finish x y h) h)))
+      like-cond (eqb (field ev i TAG) START-NODE) _ _ _ _ (like-start ev i (trivia-on tk x) (trivia-on tk y) t)
+      (like-cond (eqb (field ev i TAG) ADD-TOKEN) _ _ _ _ (like-token (trivia-on tk x) (trivia-on tk y) t)
+      (like-cond (eqb (field ev i TAG) ADD-COMBINED-TOKEN) _ _ _ _ (like-combined (field ev i EVENT-ARGUMENT) (trivia-on tk x) (trivia-on tk y) t)
+      (like-cond (eqb (field ev i TAG) FINISH-NODE) _ _ _ _ (like-finish x y h) h)))
 
   like-events : (n : ℕ) (ev : List ℕ) (i : ℕ) (x y : On) → Like x y → Like (eventsN n tk ev i x) (eventsN n tk ev i y)
   unfolding eventsN
@@ -78,7 +80,7 @@ module _ (tk : List ℕ) where
   pub rows-alike : (k : ℕ) (ev t u : List ℕ) → sink-of (events-on k tk ev t) .rows ≡ sink-of (events-on k tk ev u) .rows
   unfolding events-on root-on
   rows-alike k ev t u =
-      let n = length ev / 3 in
+      let n = length ev / EVENT-ROW in
       like-finish (trivia-on tk (eventsN n tk ev 0 (root-on k t))) (trivia-on tk (eventsN n tk ev 0 (root-on k u)))
       (like-trivia (eventsN n tk ev 0 (root-on k t)) (eventsN n tk ev 0 (root-on k u))
       (like-events n ev 0 (root-on k t) (root-on k u) (record { cursor = refl; rows = refl }))) .rows

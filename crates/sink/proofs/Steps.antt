@@ -8,31 +8,22 @@ use lib.ListN.{length, getD, take, drop, length-append, length-drop}
 use lib.Seq.{drop-drop, getD-drop, drop-nil, take-length, take-all, length-take-le}
 use lib.Dec.{leb, eqb}
 use borrow.Author.Tests.{leb-true, lt-ltb, le-ltb, lt-leb}
+use Rattle.basics.specs.Word.{low}
+use Rattle.basics.proofs.Flags.{flags}
+use Rattle.basics.proofs.TokenRows.{tokens-length, tokens-drop}
+use Rattle.definitions.specs.Layout.{TOKEN-ROW, TOKEN-LENGTH, TREE-ROW, NODE, TWO-TO-32}
+use Rattle.definitions.specs.LexError as L
 use Rattle.definitions.specs.TokenKind as K
-use Rattle.definitions.specs.Layout.{TREE-ROW}
 use Rattle.definitions.specs.Token.{Token, tokens-of, is-error, seen, trivia, bytes}
 use Rattle.definitions.specs.Place.{Tree, nil, leaf, subtree, _⊕_, lead, front, width, count, rows, tree-row}
-use Rattle.sink_rows.specs.Rows.{low}
-use Rattle.sink_tokens.specs.Tokens.{kind-seen, is-trivia, trivia-here, at-most, widthN}
+use Rattle.sink_rows.specs.Rows.{PARENT, KIND, FIRST-BYTE, CHILDREN-BEFORE}
+use Rattle.sink_tokens.specs.Tokens.{kind-seen, trivia-here, at-most, widthN}
 use Rattle.sink.specs.Machine.{on, sink-of, trivia-on, token-on, combined-on, finish-on}
-use Rattle.sink.proofs.Kit.{flags, trivia-more, trivia-done}
+use Rattle.sink.proofs.Loops.{trivia-more, trivia-done}
 use Rattle.sink.proofs.Trees.{raw, size}
-use Rattle.sink.proofs.Grow.{Filled, state, grow, grow-grow, grow-nil, Room, room-front, room-back, low-small, put-seam, number-seam, leaf-runs}
+use Rattle.sink.proofs.Grow.{Filled, state, grow, grow-grow, grow-nil, Fits, fits-front, fits-back, low-small, put-seam, number-seam, leaf-runs}
 
 -- ---------------------------------------------------------------- token rows
-
-pub tokens-length : (tk : List ℕ) → length (tokens-of tk) ≡ length tk / 2
-unfolding tokens-of
-tokens-length [] = refl
-tokens-length (k ∷ []) = refl
-tokens-length (k ∷ n ∷ l) = omega (arith, tokens-length l)
-
-pub tokens-drop : (m : ℕ) (tk : List ℕ) → tokens-of (drop (m * 2) tk) ≡ drop m (tokens-of tk)
-unfolding tokens-of
-tokens-drop zero tk = refl
-tokens-drop (suc m) [] = ap tokens-of (drop-nil (suc m * 2)) ∙ sym (drop-nil (suc m))
-tokens-drop (suc m) (k ∷ []) = let e : suc m * 2 ≡ suc (suc (m * 2)) = omega arith in rw e (ap tokens-of (drop-nil (suc (m * 2))) ∙ sym (drop-nil (suc m)))
-tokens-drop (suc m) (k ∷ n ∷ l) = let e : suc m * 2 ≡ suc (suc (m * 2)) = omega arith in rw e (tokens-drop m l)
 
 first-kind : (l : List ℕ) (t : Token) (ts : List Token) → tokens-of l ≡ t ∷ ts → getD l 0 0 ≡ t .kind
 unfolding tokens-of
@@ -59,20 +50,20 @@ module _ (tk : List ℕ) where
   abbrev pub From : ℕ → List Token → Type 0
   From at ts = drop at (tokens-of tk) ≡ ts
 
-  pub from-left : (at : ℕ) (ts : List Token) → From at ts → length tk / 2 - at ≡ length ts
+  pub from-left : (at : ℕ) (ts : List Token) → From at ts → length tk / TOKEN-ROW - at ≡ length ts
   from-left at ts e = omega (arith, length-drop at (tokens-of tk), ap length e, tokens-length tk)
 
-  pub from-inside : (at : ℕ) (t : Token) (ts : List Token) → From at (t ∷ ts) → at < length tk / 2
+  pub from-inside : (at : ℕ) (t : Token) (ts : List Token) → From at (t ∷ ts) → at < length tk / TOKEN-ROW
   from-inside at t ts e = omega (arith, from-left at (t ∷ ts) e)
 
-  pub from-kind : (at : ℕ) (t : Token) (ts : List Token) → From at (t ∷ ts) → getD tk (at * 2) 0 ≡ t .kind
+  pub from-kind : (at : ℕ) (t : Token) (ts : List Token) → From at (t ∷ ts) → getD tk (at * TOKEN-ROW) 0 ≡ t .kind
   from-kind at t ts e =
-      let z : at * 2 + 0 ≡ at * 2 = omega arith in
-      let g : getD tk (at * 2 + 0) 0 ≡ t .kind = sym (getD-drop (at * 2) tk 0 0) ∙ first-kind (drop (at * 2) tk) t ts (tokens-drop at tk ∙ e) in
+      let z : at * TOKEN-ROW + 0 ≡ at * TOKEN-ROW = omega arith in
+      let g : getD tk (at * TOKEN-ROW + 0) 0 ≡ t .kind = sym (getD-drop (at * TOKEN-ROW) tk 0 0) ∙ first-kind (drop (at * TOKEN-ROW) tk) t ts (tokens-drop at tk ∙ e) in
       rw z at g
 
-  pub from-len : (at : ℕ) (t : Token) (ts : List Token) → From at (t ∷ ts) → getD tk (at * 2 + 1) 0 ≡ t .len
-  from-len at t ts e = sym (getD-drop (at * 2) tk 1 0) ∙ first-len (drop (at * 2) tk) t ts (tokens-drop at tk ∙ e)
+  pub from-len : (at : ℕ) (t : Token) (ts : List Token) → From at (t ∷ ts) → getD tk (at * TOKEN-ROW + TOKEN-LENGTH) 0 ≡ t .len
+  from-len at t ts e = sym (getD-drop (at * TOKEN-ROW) tk 1 0) ∙ first-len (drop (at * TOKEN-ROW) tk) t ts (tokens-drop at tk ∙ e)
 
   pub from-past : (at n : ℕ) (ts us : List Token) → From at ts → drop n ts ≡ us → From (at + n) us
   from-past at n ts us e h = sym (drop-drop n at (tokens-of tk)) ∙ ap (λ l. drop n l) e ∙ h
@@ -83,18 +74,18 @@ module _ (tk : List ℕ) where
 
   -- ---------------------------------------------------------------- a token
 
-  token-one : (s : Filled) (t : Token) (ts : List Token) → From (s .cursor) (t ∷ ts) → Room (leaf (seen t) (t ∷ []) nil) s
+  token-one : (s : Filled) (t : Token) (ts : List Token) → From (s .cursor) (t ∷ ts) → Fits (leaf (seen t) (t ∷ []) nil) s
       → token-on tk (state s) ≡ state (grow (leaf (seen t) (t ∷ []) nil) s)
   unfolding token-on state kind-seen seen is-error bytes
   token-one s t ts e r =
-      rw (lt-ltb (s .cursor) (length tk / 2) (from-inside (s .cursor) t ts e), from-kind (s .cursor) t ts e, from-len (s .cursor) t ts e)
+      rw (lt-ltb (s .cursor) (length tk / TOKEN-ROW) (from-inside (s .cursor) t ts e), from-kind (s .cursor) t ts e, from-len (s .cursor) t ts e)
       (leaf-runs (seen t) (t ∷ []) 1 (t .len) refl (omega arith) s r)
 
   token-none : (s : Filled) → From (s .cursor) [] → token-on tk (state s) ≡ state s
   unfolding token-on state
-  token-none s e = rw (le-ltb (s .cursor) (length tk / 2) (omega (arith, from-left (s .cursor) [] e)))
+  token-none s e = rw (le-ltb (s .cursor) (length tk / TOKEN-ROW) (omega (arith, from-left (s .cursor) [] e)))
 
-  pub token-runs : (s : Filled) (ts : List Token) → From (s .cursor) ts → Room (front ts) s → token-on tk (state s) ≡ state (grow (front ts) s)
+  pub token-runs : (s : Filled) (ts : List Token) → From (s .cursor) ts → Fits (front ts) s → token-on tk (state s) ≡ state (grow (front ts) s)
   unfolding front
   token-runs s [] e r = token-none s e ∙ ap state (sym (grow-nil s))
   token-runs s (t ∷ ts) e r = token-one s t ts e r
@@ -102,22 +93,22 @@ module _ (tk : List ℕ) where
   -- ---------------------------------------------------------------- trivia
 
   trivia-is : (s : Filled) (t : Token) (ts : List Token) (b : Bool) → From (s .cursor) (t ∷ ts) → trivia t ≡ b → trivia-here tk (sink-of (state s) .cursor) ≡ b
-  unfolding trivia-here state is-trivia trivia
-  trivia-is s t ts b e h = rw (lt-ltb (s .cursor) (length tk / 2) (from-inside (s .cursor) t ts e), from-kind (s .cursor) t ts e) h
+  unfolding trivia-here state trivia
+  trivia-is s t ts b e h = rw (lt-ltb (s .cursor) (length tk / TOKEN-ROW) (from-inside (s .cursor) t ts e), from-kind (s .cursor) t ts e) h
 
   trivia-over : (s : Filled) → From (s .cursor) [] → trivia-here tk (sink-of (state s) .cursor) ≡ false
   unfolding trivia-here state
-  trivia-over s e = rw (le-ltb (s .cursor) (length tk / 2) (omega (arith, from-left (s .cursor) [] e)))
+  trivia-over s e = rw (le-ltb (s .cursor) (length tk / TOKEN-ROW) (omega (arith, from-left (s .cursor) [] e)))
 
   seen-trivia : (t : Token) → trivia t ≡ true → seen t ≡ t .kind
   unfolding seen is-error trivia
   seen-trivia t h = go (eqb (t .kind) K.Whitespace) (eqb (t .kind) K.LineComment) (eqb (t .kind) K.BlockComment) refl refl refl h
     where
-      small : t .kind < 64 → cond (leb 64 (t .kind)) K.Unrecognized (t .kind) ≡ t .kind
-      small g = rw (lt-leb 64 (t .kind) g)
+      small : t .kind < L.UnexpectedEndIncbin → cond (leb L.UnexpectedEndIncbin (t .kind)) K.Unrecognized (t .kind) ≡ t .kind
+      small g = rw (lt-leb L.UnexpectedEndIncbin (t .kind) g)
 
       go : (x y z : Bool) → eqb (t .kind) K.Whitespace ≡ x → eqb (t .kind) K.LineComment ≡ y → eqb (t .kind) K.BlockComment ≡ z → (x || y || z) ≡ true
-          → cond (leb 64 (t .kind)) K.Unrecognized (t .kind) ≡ t .kind
+          → cond (leb L.UnexpectedEndIncbin (t .kind)) K.Unrecognized (t .kind) ≡ t .kind
       go true y z p q r h = small (omega flags)
       go false true z p q r h = small (omega flags)
       go false false true p q r h = small (omega flags)
@@ -127,27 +118,27 @@ module _ (tk : List ℕ) where
   unfolding raw
   raw-one k t ts = refl
 
-  pub trivia-runs : (ts : List Token) (s : Filled) → From (s .cursor) ts → Room (lead ts) s → trivia-on tk (state s) ≡ state (grow (lead ts) s)
+  pub trivia-runs : (ts : List Token) (s : Filled) → From (s .cursor) ts → Fits (lead ts) s → trivia-on tk (state s) ≡ state (grow (lead ts) s)
   unfolding lead _⊕_
   trivia-runs [] s e r = trivia-done tk (state s) (trivia-over s e) ∙ ap state (sym (grow-nil s))
   trivia-runs (t ∷ ts) s e r = go (λ q e′ r′. trivia-runs ts q e′ r′) (trivia t) refl r
     where
-      go : ((q : Filled) → From (q .cursor) ts → Room (lead ts) q → trivia-on tk (state q) ≡ state (grow (lead ts) q)) → (b : Bool) → trivia t ≡ b
-          → Room (cond b (leaf (t .kind) (t ∷ []) (lead ts)) nil) s → trivia-on tk (state s) ≡ state (grow (cond b (leaf (t .kind) (t ∷ []) (lead ts)) nil) s)
+      go : ((q : Filled) → From (q .cursor) ts → Fits (lead ts) q → trivia-on tk (state q) ≡ state (grow (lead ts) q)) → (b : Bool) → trivia t ≡ b
+          → Fits (cond b (leaf (t .kind) (t ∷ []) (lead ts)) nil) s → trivia-on tk (state s) ≡ state (grow (cond b (leaf (t .kind) (t ∷ []) (lead ts)) nil) s)
       go ih false h r = trivia-done tk (state s) (trivia-is s t ts false e h) ∙ ap state (sym (grow-nil s))
       go ih true h r =
           let f = leaf (t .kind) (t ∷ []) nil in
           let k : seen t ≡ t .kind = seen-trivia t h in
           let one : token-on tk (state s) ≡ state (grow f s) =
-          subst (λ n. Room (leaf n (t ∷ []) nil) s → token-on tk (state s) ≡ state (grow (leaf n (t ∷ []) nil) s)) k (token-one s t ts e) (room-front f (lead ts) s r) in
+          subst (λ n. Fits (leaf n (t ∷ []) nil) s → token-on tk (state s) ≡ state (grow (leaf n (t ∷ []) nil) s)) k (token-one s t ts e) (fits-front f (lead ts) s r) in
           sym (trivia-more tk (state s) (trivia-is s t ts true e h))
           ∙ ap (λ x. trivia-on tk x) one
-          ∙ ih (grow f s) (from-grown f s (t ∷ ts) ts e (raw-one (t .kind) t ts)) (room-back f (lead ts) s r)
+          ∙ ih (grow f s) (from-grown f s (t ∷ ts) ts e (raw-one (t .kind) t ts)) (fits-back f (lead ts) s r)
           ∙ ap state (grow-grow f (lead ts) s)
 
   -- ---------------------------------------------------------------- a name
 
-  width-runs : (k : ℕ) (ts : List Token) (at sum : ℕ) → From at ts → k ≤ length ts → sum + bytes (take k ts) < 4294967296 → widthN k tk at sum ≡ sum + bytes (take k ts)
+  width-runs : (k : ℕ) (ts : List Token) (at sum : ℕ) → From at ts → k ≤ length ts → sum + bytes (take k ts) < TWO-TO-32 → widthN k tk at sum ≡ sum + bytes (take k ts)
   unfolding widthN bytes
   width-runs zero ts at sum e h b = omega arith
   width-runs (suc k) [] at sum e h b = absurd (omega arith)
@@ -180,7 +171,7 @@ module _ (tk : List ℕ) where
       go true h = leb-true n m h
       go false h = omega arith
 
-  pub name-runs : length tk < 4294967296 → (n : ℕ) (s : Filled) (ts : List Token) → From (s .cursor) ts → Room (leaf K.Name (take n ts) nil) s
+  pub name-runs : length tk < TWO-TO-32 → (n : ℕ) (s : Filled) (ts : List Token) → From (s .cursor) ts → Fits (leaf K.Name (take n ts) nil) s
       → combined-on tk n (state s) ≡ state (grow (leaf K.Name (take n ts) nil) s)
   unfolding combined-on state width
   name-runs small n s ts e r =
@@ -206,12 +197,12 @@ inside k s =
     }
 
 -- AN OPEN ROW AND THE ROWS INSIDE IT BECOME A CLOSED ROW AND THE ROWS INSIDE IT
-pub finish-runs : (k : ℕ) (f : Tree) (s : Filled) → Room (subtree k f nil) s → finish-on (state (grow f (inside k s))) ≡ state (grow (subtree k f nil) s)
+pub finish-runs : (k : ℕ) (f : Tree) (s : Filled) → Fits (subtree k f nil) s → finish-on (state (grow f (inside k s))) ≡ state (grow (subtree k f nil) s)
 unfolding state grow inside finish-on rows width count raw size
 finish-runs k f s r =
     let T = s .written in
     let o : List ℕ = tree-row (s .node) k (s .byte) (s .children) [] in
-    let c : List ℕ = tree-row 0 k (width f) (count f) [] in
+    let c : List ℕ = tree-row NODE k (width f) (count f) [] in
     let D : List ℕ = drop (length (rows f)) (drop TREE-ROW (s .free)) in
     let Z : List ℕ = rows f ++ D in
     let t : ((T ++ o) ++ rows f) ++ D ≡ T ++ (o ++ Z) = simp append-assoc in
@@ -228,10 +219,10 @@ finish-runs k f s r =
     let m : s .rows + 1 + size f ≡ s .rows + suc (size f + 0) = omega arith in
     rw (
       t,
-      number-seam (s .rows) 0 T (o ++ Z) (r .whole) (omega arith),
-      number-seam (s .rows) 1 T (o ++ Z) (r .whole) (omega arith),
-      number-seam (s .rows) 2 T (o ++ Z) (r .whole) (omega arith),
-      number-seam (s .rows) 3 T (o ++ Z) (r .whole) (omega arith),
+      number-seam (s .rows) PARENT T (o ++ Z) (r .whole) (omega arith),
+      number-seam (s .rows) KIND T (o ++ Z) (r .whole) (omega arith),
+      number-seam (s .rows) FIRST-BYTE T (o ++ Z) (r .whole) (omega arith),
+      number-seam (s .rows) CHILDREN-BEFORE T (o ++ Z) (r .whole) (omega arith),
       w,
       n,
       put-seam (s .rows) T c (o ++ Z) (r .whole) refl (omega arith),

@@ -6,8 +6,8 @@ use mathlib.Core.Path.{_≡_, refl, ap, sym, _∙_}
 use mathlib.Core.Bool.{Bool, true, false, cond}
 use lib.ListN.{length, take, drop, length-append}
 use lib.Seq.{drop-at}
-use Rattle.definitions.specs.TokenKind as K
 use Rattle.definitions.specs.Layout.{TREE-ROW}
+use Rattle.definitions.specs.TokenKind as K
 use Rattle.definitions.specs.Token.{Token, trivia, drop-trivia, past, bytes}
 use Rattle.definitions.specs.Skeleton.{Skeleton, done, token, name, node, ignored, report, over}
 use Rattle.definitions.specs.Place.{Tree, nil, leaf, subtree, _⊕_, lead, front, after, place, root, width, count, rows}

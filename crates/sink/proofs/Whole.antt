@@ -16,17 +16,16 @@ use Rattle.laws.specs.Lossless.{errors-in}
 use Rattle.basics.proofs.Tests.{and-left, and-right}
 use Rattle.sink.specs.declared.Sunk.{Sunk}
 use Rattle.sink.specs.declared.Sunk.the-variants.{Written, NoRoom}
-use Rattle.sink.specs.Answer.{number}
 use Rattle.machine.specs.Encode.{encode}
 use Rattle.sink.specs.Encode.{Chained}
 use Rattle.sink_tokens.specs.Tokens.{Log, log, errors-on}
 use Rattle.sink.specs.Machine.{On, on, sink-of, trivia-on, finish-on, eventsN, root-on, events-on, Left, left, answered, finish-all}
-use Rattle.sink.specs.Promise.{Small, enough, Placed, Promise}
+use Rattle.sink.specs.Promise.{number, Small, enough, Placed, Promise}
 use Rattle.sink.proofs.Encode.{event-count, events-length, encode-count}
 use Rattle.sink.proofs.Trees.{size, rows-length, raw-place, root-width, root-size}
-use Rattle.sink.proofs.Grow.{Filled, state, grow, grow-grow, Room, room-front, room-back, put-seam}
+use Rattle.sink.proofs.Grow.{Filled, state, grow, grow-grow, Fits, fits-front, fits-back, put-seam}
 use Rattle.sink.proofs.Steps.{From, from-grown, trivia-runs, inside, finish-runs}
-use Rattle.sink.proofs.Main.{Runs, Sinks, sinks, room-inside}
+use Rattle.sink.proofs.Main.{Runs, Sinks, sinks, fits-inside}
 use Rattle.sink.proofs.Same.{rows-alike}
 use Rattle.sink.proofs.Errors.{found, errors-length, errors-count, errors-written}
 
@@ -43,10 +42,10 @@ trees-of (left a t e) = t
 abbrev errors-of : Left → List ℕ
 errors-of (left a t e) = e
 
-answered-is : (len room : ℕ) (x : On) (y : Log) (n m : ℕ) → sink-of x .rows ≡ n → found y ≡ m
-    → answer-of (answered len room x y) ≡ cond (leb (n * TREE-ROW) len && leb (m * ERROR-ROW) room) (Written n m) NoRoom
+answered-is : (trees errors : ℕ) (x : On) (y : Log) (n m : ℕ) → sink-of x .rows ≡ n → found y ≡ m
+    → answer-of (answered trees errors x y) ≡ cond (leb (n * TREE-ROW) trees && leb (m * ERROR-ROW) errors) (Written n m) NoRoom
 unfolding answered
-answered-is len room (on s t) (log f e) n m p q = rw (p, q)
+answered-is trees errors (on s t) (log f e) n m p q = rw (p, q)
 
 number-of-cond : (b : Bool) (n m : ℕ) → number (cond b (Written n m) NoRoom) ≡ cond b 0 (number-of no-tree-room)
 unfolding number
@@ -70,8 +69,8 @@ unfolding inside
 from-begin k t tk = refl
 
 module _ (k : ℕ) (o : Skeleton) (tk : List ℕ) (c : Chained o) (small : Small o tk) where
-  room : (t : List ℕ) → length (rows (root k o (tokens-of tk))) ≤ length t → Room (root k o (tokens-of tk)) (begin t)
-  room t h =
+  root-fits : (t : List ℕ) → length (rows (root k o (tokens-of tk))) ≤ length t → Fits (root k o (tokens-of tk)) (begin t)
+  root-fits t h =
       record {
         free = h;
         whole = refl;
@@ -90,17 +89,17 @@ module _ (k : ℕ) (o : Skeleton) (tk : List ℕ) (c : Chained o) (small : Small
       let P = place o ts in
       let q = inside k (begin t) in
       let n = event-count o in
-      let rw0 : Room (subtree k (P ⊕ lead us) nil) (begin t) = room t h in
-      let r : Room (P ⊕ lead us) q = room-inside k (P ⊕ lead us) (begin t) rw0 in
+      let rw0 : Fits (subtree k (P ⊕ lead us) nil) (begin t) = root-fits t h in
+      let r : Fits (P ⊕ lead us) q = fits-inside k (P ⊕ lead us) (begin t) rw0 in
       let h4 : TREE-ROW ≤ length t = omega (arith, rows-length (root k o ts), root-rows k o ts) in
       let fr : From tk (q .cursor) ts = from-begin k t tk in
       let m : length ev / EVENT-ROW ≡ n + 0 = omega (arith, encode-count false o) in
       let ran : eventsN (length ev / EVENT-ROW) tk ev 0 (state q) ≡ state (grow P q) =
       ap (λ x. eventsN x tk ev 0 (state q)) m
-      ∙ sinks tk ev (small .numbers) o false [] 0 ts q c (sym (append-nil ev)) (λ z. omega arith) fr (room-front P (lead us) q r) 0 in
+      ∙ sinks tk ev (small .numbers) o false [] 0 ts q c (sym (append-nil ev)) (λ z. omega arith) fr (fits-front P (lead us) q r) 0 in
       ap (λ x. finish-on (trivia-on tk (eventsN (length ev / EVENT-ROW) tk ev 0 x))) (root-runs k t h4)
       ∙ ap (λ x. finish-on (trivia-on tk x)) ran
-      ∙ ap (λ x. finish-on x) (trivia-runs tk us (grow P q) (from-grown tk P q ts us fr (raw-place o ts)) (room-back P (lead us) q r))
+      ∙ ap (λ x. finish-on x) (trivia-runs tk us (grow P q) (from-grown tk P q ts us fr (raw-place o ts)) (fits-back P (lead us) q r))
       ∙ ap (λ s. finish-on (state s)) (grow-grow P (lead us) q)
       ∙ finish-runs k (P ⊕ lead us) (begin t) rw0
 

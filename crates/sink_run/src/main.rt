@@ -61,10 +61,10 @@ fn case(text: &[u8], from: usize) -> usize
 }
 
 fn cases(text: &[u8]) {
-    let mut at: usize = 0;
-    while at < text.len() {
-        let end = case(text, at);
-        at = end + 1;
+    let mut byte: usize = 0;
+    while byte < text.len() {
+        let end = case(text, byte);
+        byte = end + 1;
     }
 }
 

@@ -5,30 +5,31 @@
 use cases::show;
 use cases::show::number;
 use layout::TokenIndex;
+use layout::row::TOKEN_ROW;
 use source::look;
 
-fn place(t: &[u32], i: usize) {
-    let s = look(t, TokenIndex(i));
-    number(i as u64);
+fn place(tokens: &[u32], at: usize) {
+    let s = look(tokens, TokenIndex(at));
+    number(at as u64);
     number(s.immediate as u64);
     number(s.kind as u64);
     number(s.next.0 as u64);
     show::line_end();
 }
 
-fn places(t: &[u32], n: usize) {
+fn places(tokens: &[u32], n: usize) {
     let mut i: usize = 0;
     while i < n {
-        place(t, i);
+        place(tokens, i);
         i += 1;
     }
 }
 
 // Every place, the end with it.
-fn along(name: &[u8], t: &[u32]) {
+fn along(name: &[u8], tokens: &[u32]) {
     show::text(name);
     show::line_end();
-    places(t, t.len() / 2 + 1);
+    places(tokens, tokens.len() / TOKEN_ROW + 1);
 }
 
 fn texts() {

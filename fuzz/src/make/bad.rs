@@ -1,9 +1,9 @@
 //! Input for causes 1 to 4.
 use crate::call::Call;
-use crate::checks::Checks;
 use crate::rng::Rng;
+use oracle::token::fixed_text;
 
-pub fn damage(r: &mut Rng, checks: &Checks, call: &mut Call) {
+pub fn damage(r: &mut Rng, call: &mut Call) {
     for _ in 0..1 + r.n(2) {
         match r.n(16) {
             0 => call.entry = entry(r),
@@ -18,18 +18,18 @@ pub fn damage(r: &mut Rng, checks: &Checks, call: &mut Call) {
                 call.bytes.pop();
             }
             11 => byte(r, call),
-            _ => text(r, checks, call),
+            _ => text(r, call),
         }
     }
 }
 
 /// Another byte in a fixed text, or another kind whose fixed text is as long.
-fn text(r: &mut Rng, checks: &Checks, call: &mut Call) {
+fn text(r: &mut Rng, call: &mut Call) {
     let mut at = 0;
     let mut fixed = vec![];
     for (i, row) in call.tokens.chunks_exact(2).enumerate() {
         let end = at + row[1] as usize;
-        let right = checks.text(row[0]).is_some_and(|t| t.len() == row[1] as usize);
+        let right = fixed_text(row[0]).is_some_and(|t| t.len() == row[1] as usize);
         if right && end <= call.bytes.len() {
             fixed.push((i, at, end))
         }
@@ -39,7 +39,7 @@ fn text(r: &mut Rng, checks: &Checks, call: &mut Call) {
         if r.p(50) {
             call.bytes[start + r.n(end - start)] ^= 1 << r.n(8)
         } else {
-            let as_long = |k: &u32| checks.text(*k).is_some_and(|t| t.len() == end - start);
+            let as_long = |k: &u32| fixed_text(*k).is_some_and(|t| t.len() == end - start);
             let kinds: Vec<u32> = (0..61).filter(as_long).collect();
             call.tokens[2 * row] = r.pick(&kinds)
         }

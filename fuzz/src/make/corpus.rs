@@ -1,7 +1,7 @@
 //! What random token lists are made of: lexed files, their values, cells and references, and single tokens.
-use crate::generate::{SAMPLES, SNIPPETS};
-use crate::model;
 use crate::rng::Rng;
+use oracle::generate::{SAMPLES, SNIPPETS};
+use oracle::token::{code, lexed};
 
 #[derive(Clone, Copy)]
 pub struct Tok {
@@ -34,8 +34,7 @@ pub struct Corpus {
 }
 
 fn lex(text: &'static str) -> Vec<Tok> {
-    let tok = |t: &parser_doc01::lexer::Token<'static>| Tok { kind: model::code(&t.kind), text: t.text.as_bytes() };
-    parser_doc01::lexer::lex(text).iter().map(tok).collect()
+    lexed(text).iter().map(|t| Tok { kind: code(&t.kind), text: t.text.as_bytes() }).collect()
 }
 
 /// The parts of files that follow a token of kind `from`, up to one of `to` or 24 tokens.

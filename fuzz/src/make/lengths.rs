@@ -1,9 +1,6 @@
 //! Lengths of the lent buffers, around what a run needs.
-use crate::call::Lengths;
 use crate::rng::Rng;
-
-/// The numbers of a row of each buffer.
-const ROWS: Lengths = [3, 4, 3, 9, 1];
+use dt_parser_ffi::{Lengths, ROW, bound};
 
 /// For a call that is refused before it is parsed.
 pub fn small(r: &mut Rng) -> Lengths {
@@ -25,29 +22,24 @@ fn slack(r: &mut Rng, row: usize) -> usize {
     r.pick(&[0, 1, row - 1, row, row + 1, 2 * row, 20])
 }
 
-/// What crates/numbers proves to be enough for n tokens.
-fn enough(n: usize) -> Lengths {
-    [3 * (13 * n + 1), 4 * (6 * n + 1), 3 * n, 9 * (3 * n + 1), 768 * n + 256]
-}
-
 pub fn around(r: &mut Rng, needs: Lengths, tokens: usize) -> Lengths {
     let mut l = needs;
     match r.n(20) {
         0..6 => {}
-        6..10 => (0..5).for_each(|i| l[i] += slack(r, ROWS[i])),
+        6..10 => (0..5).for_each(|i| l[i] += slack(r, ROW[i])),
         10..16 => {
             // one of the five is short; one that is needed, if the first draw is not
             let drawn = r.n(5);
             let i = (0..5).map(|k| (drawn + k) % 5).find(|&k| needs[k] > 0).unwrap_or(drawn);
-            (0..5).filter(|&k| k != i).for_each(|k| l[k] += slack(r, ROWS[k]));
-            l[i] = short(r, needs[i], ROWS[i])
+            (0..5).filter(|&k| k != i).for_each(|k| l[k] += slack(r, ROW[k]));
+            l[i] = short(r, needs[i], ROW[i])
         }
         16..18 => {
             for i in 0..5 {
-                l[i] = if r.p(30) { short(r, needs[i], ROWS[i]) } else { needs[i] + slack(r, ROWS[i]) }
+                l[i] = if r.p(30) { short(r, needs[i], ROW[i]) } else { needs[i] + slack(r, ROW[i]) }
             }
         }
-        18 if tokens <= 4 => l = enough(tokens),
+        18 if tokens <= 4 => l = bound(tokens),
         18 => l = needs.map(|n| n + r.n(60)),
         _ => l = small(r),
     }

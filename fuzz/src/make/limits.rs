@@ -1,7 +1,7 @@
 //! Calls just below, at and above the limits of cause 2.
 use crate::call::Call;
-use crate::checks::{MAX_BYTES, MAX_TOKEN_NUMBERS};
 use crate::rng::Rng;
+use oracle::checks::{MAX_BYTES, MAX_TOKEN_NUMBERS};
 
 pub fn huge(r: &mut Rng, call: &mut Call) {
     call.entry = 1 + r.n(4) as u32;

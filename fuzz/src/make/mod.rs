@@ -1,10 +1,9 @@
 //! Random calls. `Maker::call` draws the input; the buffers' lengths are chosen when it is known what the input needs.
-use crate::call::Call;
-use crate::case::Case;
-use crate::checks::Checks;
+use crate::call::{Call, flat};
 use crate::rng::Rng;
-use crate::{generate, model};
 use corpus::{Corpus, Tok};
+use oracle::case::Case;
+use oracle::{generate, token};
 
 mod bad;
 mod corpus;
@@ -33,13 +32,12 @@ pub fn ways() -> impl Iterator<Item = &'static str> {
 
 pub struct Maker {
     corpus: Corpus,
-    checks: Checks,
     toks: Vec<Tok>,
 }
 
 impl Maker {
     pub fn new() -> Self {
-        Maker { corpus: Corpus::load(), checks: Checks::default(), toks: vec![] }
+        Maker { corpus: Corpus::load(), toks: vec![] }
     }
 
     /// Entry, tokens and bytes of a call, and the number of the way that made them.
@@ -65,7 +63,7 @@ impl Maker {
             }
         }
         if r.p(10) {
-            bad::damage(r, &self.checks, call)
+            bad::damage(r, call)
         }
         if r.n(40_000) == 0 {
             limits::huge(r, call)
@@ -111,9 +109,8 @@ impl Maker {
 }
 
 fn take(case: &Case, call: &mut Call) {
-    let (rows, text) = model::tokens(case);
-    call.tokens.clear();
-    call.tokens.extend(rows.iter().flat_map(|&(k, n)| [k, n as u32]));
+    let (rows, text) = token::rows(case);
+    call.tokens = flat(&rows);
     call.bytes = text.into_bytes()
 }
 

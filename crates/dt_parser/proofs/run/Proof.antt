@@ -1,4 +1,4 @@
--- `run`: the parse with what is done behind it, by the crate `answer`.
+-- `run`: the parse with what is done after it, by the crate `call`.
 use mathlib.Core.Path.{_∙_}
 use Rattle.parser.specs.View.{view-of}
 use Rattle.grammar.specs.Parts.{entry-of as entry-for}

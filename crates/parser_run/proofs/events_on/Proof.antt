@@ -8,14 +8,14 @@ use Rattle.parser_run.proofs.events_on.Tie as tie
 least-requires : tie.Need-least-requires
 least-requires c κs = tt
 
-array-borrow-prefix-ev : tie.Need-array-borrow-prefix-ev
-array-borrow-prefix-ev c = search needs
+array-borrow-prefix-events : tie.Need-array-borrow-prefix-events
+array-borrow-prefix-events c = search needs
 
-slice-aggregate-events : tie.Need-slice-aggregate-events
-slice-aggregate-events c = sym (length-take-le _ _ (search needs))
+slice-aggregate-marker-and-token : tie.Need-slice-aggregate-marker-and-token
+slice-aggregate-marker-and-token c = sym (length-take-le _ _ (search needs))
 
-events-requires : tie.Need-events-requires
-events-requires c κs = tt
+marker-and-token-requires : tie.Need-marker-and-token-requires
+marker-and-token-requires c κs = tt
 
 returns : tie.Need-returns
 returns c = search needs
@@ -23,4 +23,4 @@ returns c = search needs
 pub events-on-spec : {M : Type 1} → statement M
 events-on-spec =
     tie.close
-    (tie.spec least-requires array-borrow-prefix-ev slice-aggregate-events events-requires returns)
+    (tie.spec least-requires array-borrow-prefix-events slice-aggregate-marker-and-token marker-and-token-requires returns)

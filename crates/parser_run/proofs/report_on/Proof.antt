@@ -14,26 +14,26 @@ least-requires-2 c κs = tt
 least-requires-3 : tie.Need-least-requires-3
 least-requires-3 c κs = tt
 
-array-borrow-prefix-ev : tie.Need-array-borrow-prefix-ev
-array-borrow-prefix-ev c = search needs
+array-borrow-prefix-events : tie.Need-array-borrow-prefix-events
+array-borrow-prefix-events c = search needs
 
-slice-aggregate-report : tie.Need-slice-aggregate-report
-slice-aggregate-report c = sym (length-take-le _ _ (search needs))
+slice-aggregate-token-and-report : tie.Need-slice-aggregate-token-and-report
+slice-aggregate-token-and-report c = sym (length-take-le _ _ (search needs))
 
-array-borrow-prefix-rep : tie.Need-array-borrow-prefix-rep
-array-borrow-prefix-rep c = search needs
+array-borrow-prefix-reports : tie.Need-array-borrow-prefix-reports
+array-borrow-prefix-reports c = search needs
 
-slice-aggregate-report-2 : tie.Need-slice-aggregate-report-2
-slice-aggregate-report-2 c = sym (length-take-le _ _ (search needs))
+slice-aggregate-token-and-report-2 : tie.Need-slice-aggregate-token-and-report-2
+slice-aggregate-token-and-report-2 c = sym (length-take-le _ _ (search needs))
 
 array-borrow-prefix-pool : tie.Need-array-borrow-prefix-pool
 array-borrow-prefix-pool c = search needs
 
-slice-aggregate-report-3 : tie.Need-slice-aggregate-report-3
-slice-aggregate-report-3 c = sym (length-take-le _ _ (search needs))
+slice-aggregate-token-and-report-3 : tie.Need-slice-aggregate-token-and-report-3
+slice-aggregate-token-and-report-3 c = sym (length-take-le _ _ (search needs))
 
-report-requires : tie.Need-report-requires
-report-requires c κs = tt
+token-and-report-requires : tie.Need-token-and-report-requires
+token-and-report-requires c κs = tt
 
 returns : tie.Need-returns
 returns c = search needs
@@ -45,11 +45,11 @@ report-on-spec =
     least-requires
     least-requires-2
     least-requires-3
-    array-borrow-prefix-ev
-    slice-aggregate-report
-    array-borrow-prefix-rep
-    slice-aggregate-report-2
+    array-borrow-prefix-events
+    slice-aggregate-token-and-report
+    array-borrow-prefix-reports
+    slice-aggregate-token-and-report-2
     array-borrow-prefix-pool
-    slice-aggregate-report-3
-    report-requires
+    slice-aggregate-token-and-report-3
+    token-and-report-requires
     returns)

@@ -2,7 +2,9 @@
 use Prim.Native.Nat.{_-_, _/_, _≤_}
 use mathlib.Core.Path.{_≡_, refl, sym, _∙_}
 use lib.ListN.{length}
-use Rattle.sink.proofs.Kit.{flags, events-begin, events-again, events-end}
+use Rattle.basics.proofs.Flags.{flags}
+use Rattle.sink.proofs.Loops.{events-begin, events-again, events-end}
+use Rattle.definitions.specs.Layout.{EVENT-ROW}
 use Rattle.sink.specs.Machine.{on, eventsN, events-on}
 use Rattle.sink.proofs.all_events.Statement.{statement}
 use Rattle.sink.proofs.all_events.Tie as tie
@@ -42,7 +44,7 @@ same-length c = omega (flags, c .before .before .finish-node .kept, c .before .b
 
 returns : tie.Need-returns Inv-loop μ-loop
 unfolding events-on
-returns c = rw (← (c .before .before .before .before .before .before .before .before .before .before .before .before .root-node .ensures), sym (c .before .before .before .before .before .before .before .before .before .loop .inv .0) ∙ events-end (length (c .before .before .before .before .before .before .before .before .before .before .before .before .before .before .before .before .before .args .events .now) / 3) (c .before .before .before .before .before .before .before .before .before .before .before .before .before .before .before .before .before .args .tokens .now) (c .before .before .before .before .before .before .before .before .before .before .before .before .before .before .before .before .before .args .events .now) (c .before .before .before .before .before .before .before .before .before .loop .i) (on (c .before .before .before .before .before .before .before .before .before .loop .q) (c .before .before .before .before .before .before .before .before .before .loop .trees)) (omega flags), ← (c .before .before .before .before .before .before .eat-trivia .ensures), ← (c .before .before .finish-node .ensures))
+returns c = rw (← (c .before .before .before .before .before .before .before .before .before .before .before .before .root-node .ensures), sym (c .before .before .before .before .before .before .before .before .before .loop .inv .0) ∙ events-end (length (c .before .before .before .before .before .before .before .before .before .before .before .before .before .before .before .before .before .args .events .now) / EVENT-ROW) (c .before .before .before .before .before .before .before .before .before .before .before .before .before .before .before .before .before .args .tokens .now) (c .before .before .before .before .before .before .before .before .before .before .before .before .before .before .before .before .before .args .events .now) (c .before .before .before .before .before .before .before .before .before .loop .i) (on (c .before .before .before .before .before .before .before .before .before .loop .q) (c .before .before .before .before .before .before .before .before .before .loop .trees)) (omega flags), ← (c .before .before .before .before .before .before .eat-trivia .ensures), ← (c .before .before .finish-node .ensures))
 
 pub all-events-spec : {M : Type 1} → statement M
 all-events-spec =

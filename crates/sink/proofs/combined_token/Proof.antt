@@ -4,8 +4,8 @@ use Rattle.sink.specs.Machine.{combined-on}
 use Rattle.sink.proofs.combined_token.Statement.{statement}
 use Rattle.sink.proofs.combined_token.Tie as tie
 
-rest-requires : tie.Need-rest-requires
-rest-requires c κs = tt
+count-from-requires : tie.Need-count-from-requires
+count-from-requires c κs = tt
 
 at-most-requires : tie.Need-at-most-requires
 at-most-requires c κs = tt
@@ -27,13 +27,13 @@ same-length c = omega (arith, c .before .before .leaf .kept)
 
 returns : tie.Need-returns
 unfolding combined-on
-returns c = rw (← (c .before .before .before .before .before .before .before .rest .ensures), ← (c .before .before .before .before .before .before .at-most .ensures .0), ← (c .before .before .before .before .before .width-of .ensures), ← (c .before .before .before .low32 .ensures), ← (c .before .before .leaf .ensures .0))
+returns c = rw (← (c .before .before .before .before .before .before .before .count-from .ensures), ← (c .before .before .before .before .before .before .at-most .ensures .0), ← (c .before .before .before .before .before .width-of .ensures), ← (c .before .before .before .low32 .ensures), ← (c .before .before .leaf .ensures .0))
 
 pub combined-token-spec : {M : Type 1} → statement M
 combined-token-spec =
     tie.close
     (tie.spec
-    rest-requires
+    count-from-requires
     at-most-requires
     width-of-requires
     add-q

@@ -2,7 +2,9 @@
 use Prim.Native.Nat.{_-_, _/_}
 use mathlib.Core.Path.{_≡_, refl, sym, _∙_}
 use lib.ListN.{length}
-use Rattle.sink.proofs.Kit.{flags, trivia-lt, trivia-again, trivia-done}
+use Rattle.basics.proofs.Flags.{flags}
+use Rattle.sink.proofs.Loops.{trivia-lt, trivia-again, trivia-done}
+use Rattle.definitions.specs.Layout.{TOKEN-ROW}
 use Rattle.sink.specs.Machine.{on, trivia-on}
 use Rattle.sink.proofs.eat_trivia.Statement.{statement}
 use Rattle.sink.proofs.eat_trivia.Tie as tie
@@ -11,7 +13,7 @@ abbrev Inv-loop : tie.InvT-loop
 Inv-loop tokens trees₀ q₀ trees q = (trivia-on tokens (on q trees) ≡ trivia-on tokens (on q₀ trees₀)) × (length trees ≡ length trees₀)
 
 abbrev μ-loop : tie.MeasureT-loop
-μ-loop tokens trees₀ q₀ trees q = length tokens / 2 - q .cursor
+μ-loop tokens trees₀ q₀ trees q = length tokens / TOKEN-ROW - q .cursor
 
 loop-holds : tie.Need-loop-holds Inv-loop μ-loop
 loop-holds c = (refl, refl)

@@ -1,6 +1,6 @@
 -- `token`: a leaf of the token at the cursor, and one token less is left.
 use native.Mathlib.Omega.{arith}
-use Rattle.sink.proofs.Kit.{flags}
+use Rattle.basics.proofs.Flags.{flags}
 use Rattle.sink.specs.Machine.{token-on}
 use Rattle.sink.proofs.token.Statement.{statement}
 use Rattle.sink.proofs.token.Tie as tie

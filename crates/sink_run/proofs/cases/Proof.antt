@@ -6,10 +6,10 @@ use Rattle.sink_run.proofs.cases.Statement.{statement}
 use Rattle.sink_run.proofs.cases.Tie as tie
 
 abbrev Inv-loop : tie.InvT-loop
-Inv-loop text at₀ at = at ≤ length text + 1
+Inv-loop text byte₀ byte = byte ≤ length text + 1
 
 abbrev μ-loop : tie.MeasureT-loop
-μ-loop text at₀ at = length text + 1 - at
+μ-loop text byte₀ byte = length text + 1 - byte
 
 loop-holds : tie.Need-loop-holds Inv-loop μ-loop
 loop-holds c = omega arith
@@ -17,8 +17,8 @@ loop-holds c = omega arith
 case-requires : tie.Need-case-requires Inv-loop μ-loop
 case-requires c κs = omega arith
 
-add-at : tie.Need-add-at Inv-loop μ-loop
-add-at c = omega arith
+add-byte : tie.Need-add-byte Inv-loop μ-loop
+add-byte c = omega arith
 
 loop-less : tie.Need-loop-less Inv-loop μ-loop
 loop-less c = omega arith
@@ -37,7 +37,7 @@ cases-spec =
     μ-loop
     loop-holds
     case-requires
-    add-at
+    add-byte
     loop-less
     loop-again
     returns)

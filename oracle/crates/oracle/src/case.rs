@@ -20,13 +20,6 @@ pub struct Line {
     pub case: Case,
 }
 
-/// Which of the Rust's lines are written beside errors and reports.
-pub struct Opts {
-    pub toks: bool,
-    pub tree: bool,
-    pub pretty: bool,
-}
-
 pub fn esc(b: &[u8]) -> String {
     let mut o = String::new();
     for &c in b {
@@ -70,9 +63,7 @@ pub fn case_line(entry: u32, case: &Case) -> String {
     match case {
         Case::Text(t) => format!("{entry} text {}", esc(t.as_bytes())),
         Case::Toks(rows, bytes) => {
-            let row = |(k, n): &(u32, usize)| if *n == 1 { format!("{k}") } else { format!("{k}:{n}") };
-            let rows: Vec<String> = rows.iter().map(row).collect();
-            format!("{entry} toks {} {}", rows.join(","), esc(bytes))
+            format!("{entry} toks {} {}", rows_words(rows), esc(bytes))
         }
     }
 }
@@ -85,10 +76,17 @@ pub fn parse_caps(s: &str) -> Caps {
     caps
 }
 
-fn parse_rows(s: &str) -> Rows {
-    let row = |x: &str| match x.split_once(':') {
-        Some((k, n)) => (k.parse().unwrap(), n.parse().unwrap()),
-        None => (x.parse().unwrap(), 1),
+/// `KIND:LENGTH,..`, a length of 1 left out.
+pub fn rows_words(rows: &[(u32, usize)]) -> String {
+    let row = |(k, n): &(u32, usize)| if *n == 1 { format!("{k}") } else { format!("{k}:{n}") };
+    rows.iter().map(row).collect::<Vec<_>>().join(",")
+}
+
+/// None where a number is missing or too large.
+pub fn parse_rows(s: &str) -> Option<Rows> {
+    let row = |x: &str| {
+        let (k, n) = x.split_once(':').unwrap_or((x, "1"));
+        Some((k.parse().ok()?, n.parse().ok()?))
     };
     s.split(',').filter(|x| !x.is_empty()).map(row).collect()
 }
@@ -121,7 +119,7 @@ pub fn parse_line(line: &str, entry: Option<u32>) -> Option<Line> {
         "file" => Case::Text(std::fs::read_to_string(rest).unwrap()),
         "toks" => {
             let (rows, bytes) = word(rest);
-            Case::Toks(parse_rows(rows), unesc(bytes))
+            Case::Toks(parse_rows(rows).expect("KIND:LENGTH,.."), unesc(bytes))
         }
         _ => panic!("text, toks or file: {line}"),
     };

@@ -1,78 +1,98 @@
-// Included after show.rs for the patched copy: document 01's answer to a call, with refusals 3 to 8.
-// The entry and the lengths of input and token list (causes 1 and 2) are not looked at.
-use crate::case::Caps;
-use pc::record;
+//! A run of the patched copy as document 01's numbers, and what becomes of it in buffers of given lengths.
+//! Entry, bytes and tokens were found good before (`checks`).
+use crate::case::{Caps, Rows};
+use crate::parsed::{Parsed, Report};
+use crate::parsers::patched::{self, Added};
+use parser_doc01::record::{self, Step};
 
-/// The patched copy's answer in the Rust's lines, to be compared with the Rust's own.
-pub fn plain(entry: u32, toks: &Rows, text: &str, opts: &Opts, unit_immediate: bool, out: &mut String) {
-    record::reset(unit_immediate);
-    show(entry, toks, text, opts, out);
+/// Numbers in a row of each buffer: events, tree, lexical errors, reports, pool.
+pub const ROW: Caps = [3, 4, 3, 9, 1];
+
+#[derive(Default)]
+pub struct Run {
+    /// Tree, lexical errors, reports, pool.
+    pub rows: [Vec<u32>; 4],
+    /// Rows of events, reports and pool that were pushed before a limit of refusal 5.
+    pub pushed: [usize; 3],
 }
 
-/// Cause 3, then 4, over all rows.
-fn bad_row(toks: &Rows, bytes: &[u8]) -> Option<(u32, usize)> {
-    let mut at = 0;
-    for (i, &(kind, len)) in toks.iter().enumerate() {
-        if matches!(kind, 25 | 26 | 61..64 | 75..) || len == 0 || len > bytes.len() - at {
-            return Some((3, i));
+impl Run {
+    /// Runs a call. An error is a panic's text; `pushed` is right then too.
+    pub fn of(&mut self, entry: u32, toks: &Rows, text: &str, unit_immediate: bool) -> Result<Parsed, String> {
+        record::reset(unit_immediate);
+        let answer = patched::parse(entry, toks, text);
+        self.pushed = pushed();
+        let (parsed, added) = answer?;
+        self.rows.iter_mut().for_each(Vec::clear);
+        let [tree, lexical, reports, pool] = &mut self.rows;
+        parsed.tree_rows(toks, tree);
+        lexical.extend_from_slice(&parsed.lexical);
+        for (r, a) in parsed.reports.iter().zip(&added) {
+            reports.extend(report_row(r, a, pool.len()));
+            pool.extend_from_slice(a.pool.as_deref().unwrap_or(&[]))
         }
-        at += len;
+        Ok(parsed)
     }
-    if at != bytes.len() {
-        return Some((3, toks.len()));
+
+    /// Numbers that the run needs of each buffer, up to a limit of refusal 5 if it meets one.
+    pub fn needs(&self) -> Caps {
+        let [events, reports, pool] = self.pushed;
+        [ROW[0] * events, self.rows[0].len(), self.rows[1].len(), ROW[3] * reports, pool]
     }
-    let mut rest = bytes;
-    for (i, &(k, len)) in toks.iter().enumerate() {
-        let (text, after) = rest.split_at(len);
-        let fixed = kind(k).ok().and_then(TokenKind::static_text);
-        if fixed.is_some_and(|s| s.as_bytes() != text) {
-            return Some((4, i));
-        }
-        rest = after;
+
+    /// Refusal and place in buffers of these lengths; None if the call is accepted.
+    pub fn refusal(&self, caps: Caps) -> Option<(u32, usize)> {
+        let tree_fits = self.rows[0].len() <= caps[1] && self.rows[1].len() <= caps[2];
+        first_misfit(caps).or((!tree_fits).then_some((8, 0)))
     }
-    None
 }
 
-/// Line S: the most that the run reached, and what it pushed before a limit of refusal 5 stopped it.
-fn show_stats(out: &mut String) {
-    let most = record::most();
-    let (mut events, mut reports, mut pool) = (0, 0, 0);
+fn report_row(r: &Report, a: &Added, first: usize) -> [u32; 9] {
+    let message = if a.pool.is_some() { 1 } else { message_number(&r.message) };
+    let (mut hint, mut label) = (0, (0, 0));
+    for (range, text) in &r.labels {
+        match hint_number(text) {
+            Some(n) => hint = n,
+            None => label = (range.start as u32, range.end as u32),
+        }
+    }
+    let count = a.pool.as_ref().map_or(0, Vec::len);
+    let (start, end) = (r.range.start as u32, r.range.end as u32);
+    [message, start, end, a.mark as u32, first as u32, count as u32, hint, label.0, label.1]
+}
+
+fn pushed() -> [usize; 3] {
+    let mut n = [0; 3];
     record::with_log(|log| {
-        for s in log {
-            match s {
-                record::Step::Limit(_) => break,
-                record::Step::Event(_) => events += 1,
-                record::Step::Report(_, count) => {
-                    reports += 1;
-                    pool += count
+        for step in log {
+            match step {
+                Step::Limit(_) => break,
+                Step::Event(_) => n[0] += 1,
+                Step::Report(_, count) => {
+                    n[1] += 1;
+                    n[2] += count
                 }
             }
         }
     });
-    write!(
-        out,
-        "S open {} pending {} steps {} ",
-        most.open, most.pending, most.steps
-    )
-    .unwrap();
-    writeln!(out, "events {events} reports {reports} pool {pool}").unwrap()
+    n
 }
 
 /// The first of refusals 5 to 7 that the recorded run meets in buffers of these lengths.
-fn first_misfit(caps: Caps) -> Option<(u32, usize)> {
+pub fn first_misfit(caps: Caps) -> Option<(u32, usize)> {
     let [event_len, _, _, report_len, pool_len] = caps;
     let (mut events, mut reports, mut pool) = (0, 0, 0);
     record::with_log(|log| {
         log.iter().find_map(|s| match s {
-            record::Step::Limit(mark) => Some((5, *mark)),
-            record::Step::Event(mark) => {
-                events += 1;
-                (3 * events > event_len).then_some((6, *mark))
+            Step::Limit(mark) => Some((5, *mark)),
+            Step::Event(mark) => {
+                events += ROW[0];
+                (events > event_len).then_some((6, *mark))
             }
-            record::Step::Report(mark, count) => {
-                reports += 1;
+            Step::Report(mark, count) => {
+                reports += ROW[3];
                 pool += count;
-                (9 * reports > report_len || pool > pool_len).then_some((7, *mark))
+                (reports > report_len || pool > pool_len).then_some((7, *mark))
             }
         })
     })
@@ -90,7 +110,7 @@ fn message_number(text: &str) -> u32 {
     }
 }
 
-/// A hint's number; none for the one label that is no hint.
+/// A hint's number; none for the one label that is not a hint.
 fn hint_number(text: &str) -> Option<u32> {
     Some(match text {
         "Unclosed delimiter" => return None,
@@ -102,72 +122,4 @@ fn hint_number(text: &str) -> Option<u32> {
         "Recovered as expression with missing left-hand-side expression" => 6,
         x => panic!("unknown hint: {x}"),
     })
-}
-
-/// Report rows, each with its expectations behind a bar.
-fn show_reports(p: &Parse, out: &mut String) {
-    let mut first = 0;
-    for r in &p.errors {
-        let message = if r.pool.is_some() {
-            1
-        } else {
-            message_number(&r.message)
-        };
-        let (mut hint, mut label) = (0, (0, 0));
-        for (range, text) in &r.span_labels {
-            match hint_number(text) {
-                Some(n) => hint = n,
-                None => label = (range.start, range.end),
-            }
-        }
-        let pool = r.pool.as_deref().unwrap_or(&[]);
-        let (start, end) = (r.primary_text_range.start, r.primary_text_range.end);
-        write!(
-            out,
-            "P {message} {start} {end} {} {first} {} {hint} {} {} |",
-            r.mark,
-            pool.len(),
-            label.0,
-            label.1
-        )
-        .unwrap();
-        for code in pool {
-            write!(out, " {code}").unwrap()
-        }
-        out.push('\n');
-        first += pool.len();
-    }
-}
-
-/// Document 01's answer: REFUSED, or OK with all rows.
-pub fn doc01(entry: u32, toks: &Rows, bytes: &[u8], text: &str, unit_immediate: bool, caps: Caps, out: &mut String) {
-    if let Some((number, place)) = bad_row(toks, bytes) {
-        return writeln!(out, "REFUSED {number} {place}").unwrap();
-    }
-    record::reset(unit_immediate);
-    let parsed = run_parse(entry, toks, text);
-    show_stats(out);
-    if let Some((number, mark)) = first_misfit(caps) {
-        return writeln!(out, "REFUSED {number} {mark}").unwrap();
-    }
-    let p = match parsed {
-        Ok(p) => p,
-        Err(m) => return writeln!(out, "PANIC {}", esc(m.as_bytes())).unwrap(),
-    };
-    let mut rows = String::new();
-    walk(&p.green_node, toks, &mut 0, &mut rows);
-    let (tree, lexical) = (rows.lines().count(), p.lex_errors.len());
-    if 4 * tree > caps[1] || 3 * lexical > caps[2] {
-        return writeln!(out, "REFUSED 8 0").unwrap();
-    }
-    let pool: usize = p.errors.iter().map(|r| r.pool.as_ref().map_or(0, Vec::len)).sum();
-    writeln!(
-        out,
-        "OK 0 0 tree {tree} lexical {lexical} reports {} pool {pool}",
-        p.errors.len()
-    )
-    .unwrap();
-    out.push_str(&rows);
-    show_lex_errors(&p, out);
-    show_reports(&p, out);
 }

@@ -12,19 +12,12 @@ impl TextRange {
         self.start..self.end
     }
     pub fn within_file<F>(self, file: F) -> dt_tools_diagnostic::Span<F> {
-        dt_tools_diagnostic::Span {
-            start: self.start,
-            end: self.end,
-            file,
-        }
+        dt_tools_diagnostic::Span { start: self.start, end: self.end, file }
     }
 }
 
 impl From<std::ops::Range<usize>> for TextRange {
     fn from(r: std::ops::Range<usize>) -> Self {
-        TextRange {
-            start: r.start,
-            end: r.end,
-        }
+        TextRange { start: r.start, end: r.end }
     }
 }

@@ -40,11 +40,7 @@ pub fn reset(unit_immediate: bool) {
     MARK.set(0);
     OPEN.set(0);
     LOG.take();
-    MOST.set(Most {
-        open: 0,
-        pending: 0,
-        steps: 0,
-    });
+    MOST.set(Most { open: 0, pending: 0, steps: 0 });
     UNIT_IMMEDIATE.set(unit_immediate);
 }
 

@@ -6,9 +6,7 @@ pub fn display(ts: TokenStream) -> TokenStream {
     let all: Vec<TokenTree> = ts.into_iter().collect();
     let at = all.iter().position(|t| t.to_string() == "enum").unwrap();
     let name = all[at + 1].to_string();
-    let TokenTree::Group(body) = &all[at + 2] else {
-        panic!("an enum has a body")
-    };
+    let TokenTree::Group(body) = &all[at + 2] else { panic!("an enum has a body") };
     let (mut arms, mut doc) = (String::new(), None);
     for t in body.stream() {
         match t {

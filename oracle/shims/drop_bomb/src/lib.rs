@@ -6,10 +6,7 @@ pub struct DropBomb {
 }
 impl DropBomb {
     pub fn new(m: impl Into<Cow<'static, str>>) -> Self {
-        DropBomb {
-            msg: m.into(),
-            defused: false,
-        }
+        DropBomb { msg: m.into(), defused: false }
     }
     pub fn defuse(&mut self) {
         self.defused = true

@@ -24,10 +24,7 @@ pub trait Itertools: Iterator {
         Self: Sized,
         Self::Item: Clone + Eq + Hash,
     {
-        Unique {
-            it: self,
-            seen: HashSet::new(),
-        }
+        Unique { it: self, seen: HashSet::new() }
     }
 }
 impl<I: Iterator> Itertools for I {}

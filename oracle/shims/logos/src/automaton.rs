@@ -84,11 +84,7 @@ impl Dfa {
         let root = nfa.state();
         let mut priority = vec![];
         for (k, r) in rules.iter().enumerate() {
-            let p = if r.literal {
-                Pattern::literal(r.pattern)
-            } else {
-                Pattern::regex(r.pattern)
-            };
+            let p = if r.literal { Pattern::literal(r.pattern) } else { Pattern::regex(r.pattern) };
             priority.push(p.priority());
             let end = nfa.add(&p, root);
             nfa.rule.insert(end, k);
@@ -119,10 +115,7 @@ impl Dfa {
     fn winner(nfa: &Nfa, states: &States, priority: &[usize]) -> Option<u16> {
         let ending: Vec<usize> = states.iter().filter_map(|s| nfa.rule.get(s).copied()).collect();
         let best = *ending.iter().max_by_key(|&&k| priority[k])?;
-        assert!(
-            ending.iter().all(|&k| k == best || priority[k] < priority[best]),
-            "rules of the same priority"
-        );
+        assert!(ending.iter().all(|&k| k == best || priority[k] < priority[best]), "rules of the same priority");
         Some(best as u16)
     }
 

@@ -47,10 +47,7 @@ pub struct Lexer<'s, T: Logos> {
 
 impl<T: Logos> Clone for Lexer<'_, T> {
     fn clone(&self) -> Self {
-        Lexer {
-            injected: self.injected.clone(),
-            ..*self
-        }
+        Lexer { injected: self.injected.clone(), ..*self }
     }
 }
 
@@ -62,16 +59,8 @@ impl<T: Logos> std::fmt::Debug for Lexer<'_, T> {
 
 impl<'s, T: Logos> Lexer<'s, T> {
     pub fn new(src: &'s str) -> Self {
-        let list = INJECTED
-            .with_borrow(|i| i.clone())
-            .and_then(|r| r.downcast::<Injected<T>>().ok());
-        Lexer {
-            src,
-            start: 0,
-            end: 0,
-            injected: list.map(|r| (r, 0)),
-            dfa: T::dfa(),
-        }
+        let list = INJECTED.with_borrow(|i| i.clone()).and_then(|r| r.downcast::<Injected<T>>().ok());
+        Lexer { src, start: 0, end: 0, injected: list.map(|r| (r, 0)), dfa: T::dfa() }
     }
     pub fn remainder(&self) -> &'s str {
         &self.src[self.end..]

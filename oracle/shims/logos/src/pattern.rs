@@ -19,10 +19,7 @@ impl Pattern {
     }
 
     pub fn regex(text: &str) -> Pattern {
-        let mut r = Reader {
-            text: text.as_bytes(),
-            at: 0,
-        };
+        let mut r = Reader { text: text.as_bytes(), at: 0 };
         let pattern = r.alternation();
         assert_eq!(r.at, text.len());
         pattern
@@ -70,11 +67,7 @@ impl Reader<'_> {
         while self.eat(b'|') {
             alts.push(self.sequence())
         }
-        if alts.len() == 1 {
-            alts.pop().unwrap()
-        } else {
-            Pattern::Alt(alts)
-        }
+        if alts.len() == 1 { alts.pop().unwrap() } else { Pattern::Alt(alts) }
     }
 
     fn sequence(&mut self) -> Pattern {
@@ -82,11 +75,7 @@ impl Reader<'_> {
         while self.peek().is_some_and(|b| b != b'|' && b != b')') {
             v.push(self.repeated())
         }
-        if v.len() == 1 {
-            v.pop().unwrap()
-        } else {
-            Pattern::Cat(v)
-        }
+        if v.len() == 1 { v.pop().unwrap() } else { Pattern::Cat(v) }
     }
 
     /// An atom with what repeats it. A lazy `*?` or `+?` is read as `*` or `+`: the longest match wins all the same.

@@ -1,53 +1,36 @@
-//! The lines of a text.
+//! The lines of a text, for people.
 
-use crate::shown;
-use std::cell::Cell;
+use dt_parser::{Columns, LineIndex, Position};
 
-/// Where each line starts. A line ends in LF; a CR before it belongs to the end.
+/// A text with its line index. A line ends in LF; a CR before it belongs to the end.
 pub struct Lines<'t> {
     text: &'t [u8],
-    starts: Vec<usize>,
-    /// The last offset that was asked for, and the characters before it in its line. Places are asked for in order,
-    /// so that a long line is counted through once and not for each place.
-    counted: Cell<(usize, usize)>,
+    index: LineIndex,
 }
 
 impl<'t> Lines<'t> {
     pub fn new(text: &'t [u8]) -> Self {
-        let ends = text.iter().enumerate().filter(|(_, byte)| **byte == b'\n');
-        let starts = std::iter::once(0).chain(ends.map(|(at, _)| at + 1)).collect();
-        Self { text, starts, counted: Cell::new((0, 0)) }
+        Self { text, index: LineIndex::new(text) }
     }
 
-    /// The index of the line that has this offset. A line's end belongs to the line.
+    /// The line that has this offset, counted from 0. A line's end belongs to the line.
     pub fn line_of(&self, offset: usize) -> usize {
-        self.starts.partition_point(|start| *start <= offset) - 1
+        self.index.line_of(offset.min(self.text.len())).unwrap_or(0)
     }
 
     pub fn start(&self, line: usize) -> usize {
-        self.starts[line]
+        self.index.line_range(line).map_or(self.text.len(), |range| range.start)
     }
 
     /// A line without its end.
     pub fn line(&self, line: usize) -> &'t [u8] {
-        let end = self.starts.get(line + 1).copied().unwrap_or(self.text.len());
-        let bytes = &self.text[self.starts[line]..end];
-        match bytes.strip_suffix(b"\n") {
-            Some(bytes) => bytes.strip_suffix(b"\r").unwrap_or(bytes),
-            None => bytes,
-        }
+        self.index.line_range(line).map_or(b"", |range| &self.text[range.byte_range()])
     }
 
-    /// Line and column of an offset, from 1. A column is a character.
-    pub fn position(&self, offset: usize) -> (usize, usize) {
-        let offset = offset.min(self.text.len());
-        let line = self.line_of(offset);
-        let (last, counted) = self.counted.get();
-        let known = last <= offset && self.line_of(last) == line;
-        let (from, before) = if known { (last, counted) } else { (self.starts[line], 0) };
-        let characters = before + shown::characters(&self.text[from..offset]);
-        self.counted.set((offset, characters));
-        (line + 1, characters + 1)
+    /// Line and column of an offset. A column is a character.
+    pub fn position(&self, offset: usize) -> Position {
+        let position = self.index.position(offset.min(self.text.len()), Columns::Characters);
+        position.unwrap_or(Position { line: 0, column: 0 })
     }
 }
 
@@ -64,17 +47,19 @@ mod tests {
 
     #[test]
     fn the_end_of_a_text_has_a_place() {
-        assert_eq!(Lines::new(b"").position(0), (1, 1));
-        assert_eq!(Lines::new(b"a\n").position(1), (1, 2));
-        assert_eq!(Lines::new(b"a\n").position(2), (2, 1));
+        let position = |text: &[u8], offset| Lines::new(text).position(offset).to_string();
+        assert_eq!(position(b"", 0), "1:1");
+        assert_eq!(position(b"a\n", 1), "1:2");
+        assert_eq!(position(b"a\n", 2), "2:1");
         assert_eq!(Lines::new(b"a\n").line(1), b"");
     }
 
     #[test]
     fn columns_are_characters() {
-        assert_eq!(Lines::new("é\tx".as_bytes()).position(3), (1, 3));
-        assert_eq!(Lines::new(b"\xff\xfex").position(2), (1, 3));
+        assert_eq!(Lines::new("é\tx".as_bytes()).position(3).to_string(), "1:3");
+        assert_eq!(Lines::new(b"\xff\xfex").position(2).to_string(), "1:3");
         let lines = Lines::new("éé\néé".as_bytes());
-        assert_eq!([2, 4, 0, 7, 9].map(|offset| lines.position(offset)), [(1, 2), (1, 3), (1, 1), (2, 2), (2, 3)]);
+        let places = [2, 4, 0, 7, 9].map(|offset| lines.position(offset).to_string());
+        assert_eq!(places, ["1:2", "1:3", "1:1", "2:2", "2:3"]);
     }
 }

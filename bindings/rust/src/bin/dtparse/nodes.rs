@@ -10,7 +10,7 @@ use std::collections::HashMap;
 const DEEPEST: usize = 32;
 
 pub fn print(page: &Page) -> String {
-    let nodes: Vec<Node> = page.parse.tree.root().descendant_nodes().filter(is_dt_node).collect();
+    let nodes: Vec<Node> = page.parse.tree.root().nodes_below().filter(is_dt_node).collect();
     let Some(last) = nodes.last() else {
         return String::new();
     };
@@ -51,7 +51,7 @@ fn errors_inside(page: &Page, nodes: &[Node]) -> Vec<usize> {
         // The last node that starts before the place, or the nearest one around it that has the place.
         let before = nodes.partition_point(|node| node.range().start <= offset);
         let last = nodes[..before].last().copied();
-        let mut around = last.into_iter().chain(last.into_iter().flat_map(Node::ancestors));
+        let mut around = last.into_iter().chain(last.into_iter().flat_map(Node::nodes_above));
         let inner = around.find(|node| is_dt_node(node) && node.range().contains(offset));
         if let Some(index) = inner.and_then(|node| index.get(&node)) {
             counts[*index] += 1;
@@ -62,7 +62,7 @@ fn errors_inside(page: &Page, nodes: &[Node]) -> Vec<usize> {
 
 /// What stands before the node's `{`: labels, name or reference, unit address; without blanks and comments.
 fn name(node: Node) -> String {
-    let depth = node.ancestors().filter(is_dt_node).count().min(DEEPEST);
+    let depth = node.nodes_above().filter(is_dt_node).count().min(DEEPEST);
     let mut name = "    ".repeat(depth);
     let mut unnamed = true;
     for item in node.children() {

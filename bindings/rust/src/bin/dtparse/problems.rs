@@ -62,7 +62,7 @@ fn print_one(problem: &Problem, page: &Page) -> String {
 /// One line: how many errors, what was read, and how much was not.
 pub fn summary(page: &Page) -> String {
     let parse = page.parse;
-    let of_kind = |kind| parse.tree.root().descendant_nodes().filter(|node| node.kind() == kind).count();
+    let of_kind = |kind| parse.tree.root().nodes_below().filter(|node| node.kind() == kind).count();
     let errors = match parse.reports.len() + parse.lexical_errors.len() {
         0 => page.style.paint(Ink::Strong, "no errors"),
         n => page.style.paint(Ink::Error, &plural(n, "error", "errors")),

@@ -39,8 +39,7 @@ fn reason(file: &RowsFile, refusal: Refusal) -> String {
         Refusal::TooDeep(mark) => {
             let lines = Lines::new(input.text);
             let at = mark.checked_sub(1).and_then(|last| input.ranges().nth(last)).map_or(0, |range| range.start);
-            let (line, column) = lines.position(at);
-            format!("{refusal}, the last of them at {line}:{column} of the text")
+            format!("{refusal}, the last of them at {} of the text", lines.position(at))
         }
         _ => refusal.to_string(),
     }

@@ -31,11 +31,6 @@ pub fn plain(text: &str) -> String {
     shown(text.as_bytes()).text
 }
 
-/// How many characters there are; a byte that belongs to none counts as one.
-pub fn characters(bytes: &[u8]) -> usize {
-    bytes.utf8_chunks().map(|chunk| chunk.valid().chars().count() + chunk.invalid().len()).sum()
-}
-
 /// Adds a character and tells its width.
 fn push(out: &mut String, character: char, column: usize) -> usize {
     let (character, width) = match character {
@@ -85,6 +80,5 @@ mod tests {
         assert_eq!(line.text, "\u{fffd}\u{fffd}\u{fffd}\u{fffd};");
         assert_eq!(line.columns, [0, 1, 2, 3, 4, 5]);
         assert_eq!(plain("a\nb\u{202e}c"), "a\u{240a}b\u{fffd}c");
-        assert_eq!(characters("é".as_bytes()), 1);
     }
 }

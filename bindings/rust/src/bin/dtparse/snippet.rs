@@ -32,9 +32,9 @@ pub fn snippet(name: &str, lines: &Lines, marks: &[Mark], style: Style) -> Strin
     pieces.sort_by_key(|piece| piece.line);
     let last = pieces.last().map_or(0, |piece| piece.line);
     let gutter = (last + 1).to_string().len();
-    let (line, column) = lines.position(marks.first().map_or(0, |mark| mark.range.start));
+    let place = lines.position(marks.first().map_or(0, |mark| mark.range.start));
     let frame = |text: String| style.paint(Ink::Frame, &text);
-    let mut out = format!("{} {name}:{line}:{column}\n", frame(format!("{:gutter$}-->", "")));
+    let mut out = format!("{} {name}:{place}\n", frame(format!("{:gutter$}-->", "")));
     out += &format!("{}\n", frame(format!("{:gutter$} |", "")));
     let mut before = None;
     for group in pieces.chunk_by(|a, b| a.line == b.line && lines.line(a.line).len() <= LONG) {

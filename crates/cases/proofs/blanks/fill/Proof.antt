@@ -5,13 +5,14 @@ use native.Mathlib.Omega.{arith}
 use lib.ListN.{length, length-set}
 use Prim.Native.Nat.{_/_}
 use Rattle.cases.proofs.blanks.fill.Statement.{statement}
+use Rattle.definitions.specs.Layout.{TOKEN-ROW}
 use Rattle.cases.proofs.blanks.fill.Tie as tie
 
 abbrev Inv-loop : tie.InvT-loop
-Inv-loop tokens₀ i₀ tokens i = (i ≤ length tokens₀ / 2) × (length tokens ≡ length tokens₀)
+Inv-loop tokens₀ i₀ tokens i = (i ≤ length tokens₀ / TOKEN-ROW) × (length tokens ≡ length tokens₀)
 
 abbrev μ-loop : tie.MeasureT-loop
-μ-loop tokens₀ i₀ tokens i = length tokens₀ / 2 - i
+μ-loop tokens₀ i₀ tokens i = length tokens₀ / TOKEN-ROW - i
 
 loop-holds : tie.Need-loop-holds Inv-loop μ-loop
 loop-holds c = (omega arith, refl)

@@ -1,12 +1,13 @@
--- `leaves`: the index stays behind the root's row.
+-- `leaves`: the index stays after the root's row.
 use Prim.Native.Nat.{_-_, _<_, _≤_}
 use lib.ListN.{length}
 use native.Mathlib.Omega.{arith}
+use Rattle.definitions.specs.Layout.{TREE-ROW, TWO-TO-64}
 use Rattle.cases.proofs.blanks.leaves.Statement.{statement}
 use Rattle.cases.proofs.blanks.leaves.Tie as tie
 
 abbrev Inv-loop : tie.InvT-loop
-Inv-loop trees i₀ i = (4 ≤ i) × (i < 18446744073709551616)
+Inv-loop trees i₀ i = (TREE-ROW ≤ i) × (i < TWO-TO-64)
 
 abbrev μ-loop : tie.MeasureT-loop
 μ-loop trees i₀ i = length trees - i

@@ -2,11 +2,12 @@
 use Prim.Native.Nat.{_-_, _<_}
 use lib.ListN.{length}
 use native.Mathlib.Omega.{arith}
+use Rattle.definitions.specs.Layout.{TWO-TO-64}
 use Rattle.cases.proofs.lend.all.Statement.{statement}
 use Rattle.cases.proofs.lend.all.Tie as tie
 
 abbrev Inv-loop : tie.InvT-loop
-Inv-loop buffer from n i₀ i = i < 18446744073709551616
+Inv-loop buffer from n i₀ i = i < TWO-TO-64
 
 abbrev μ-loop : tie.MeasureT-loop
 μ-loop buffer from n i₀ i = length buffer - i

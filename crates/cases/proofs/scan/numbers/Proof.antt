@@ -7,10 +7,10 @@ use Rattle.cases.proofs.scan.numbers.Statement.{statement}
 use Rattle.cases.proofs.scan.numbers.Tie as tie
 
 abbrev Inv-loop : tie.InvT-loop
-Inv-loop text from count out₀ n at₀ i₀ out at i = (from ≤ at) × ((at ≤ length text) × ((i ≤ n) × ((n ≤ length out) × (length out ≡ length out₀))))
+Inv-loop text from count out₀ n byte₀ i₀ out byte i = (from ≤ byte) × ((byte ≤ length text) × ((i ≤ n) × ((n ≤ length out) × (length out ≡ length out₀))))
 
 abbrev μ-loop : tie.MeasureT-loop
-μ-loop text from count out₀ n at₀ i₀ out at i = n - i
+μ-loop text from count out₀ n byte₀ i₀ out byte i = n - i
 
 at-most-requires : tie.Need-at-most-requires Inv-loop μ-loop
 at-most-requires c κs = tt

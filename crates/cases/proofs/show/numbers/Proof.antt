@@ -1,11 +1,12 @@
 -- `numbers`: the index stays a number of 64 bits.
 use Prim.Native.Nat.{_<_, _-_}
 use native.Mathlib.Omega.{arith}
+use Rattle.definitions.specs.Layout.{TWO-TO-64}
 use Rattle.cases.proofs.show.numbers.Statement.{statement}
 use Rattle.cases.proofs.show.numbers.Tie as tie
 
 abbrev Inv-loop : tie.InvT-loop
-Inv-loop name l from to i₀ i = i < 18446744073709551616
+Inv-loop name l from to i₀ i = i < TWO-TO-64
 
 abbrev μ-loop : tie.MeasureT-loop
 μ-loop name l from to i₀ i = to - i

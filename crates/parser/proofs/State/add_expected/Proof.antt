@@ -1,4 +1,5 @@
 -- `add_expected`: one code more, or refusal 5.
+use Rattle.definitions.specs.Layout.{MOST-PENDING}
 use Rattle.basics.proofs.Flags.{flags}
 use Prim.Native.Nat.{_≤_, _<_}
 use mathlib.Core.Path.{_≡_, refl, sym, _∙_, ap}
@@ -20,7 +21,7 @@ add-q c =
     let codes₀ = args .codes .now in
     let put-code = c .before .put-code in
     let if1 = c .if1 in
-    let long : length codes₀ ≡ 256 = search needs in
+    let long : length codes₀ ≡ MOST-PENDING = search needs in
     let has : (args .self .pending) < length codes₀ = ltb-true (args .self .pending) (length codes₀) (sym (put-code .ensures .0) ∙ if1 .taken) in
     omega (arith, long, has)
 
@@ -35,7 +36,7 @@ returns c =
     let codes₀ = args .codes .now in
     let put-code = c .before .put-code in
     let if1 = c .if1 in
-    let long : length codes₀ ≡ 256 = search needs in
+    let long : length codes₀ ≡ MOST-PENDING = search needs in
     let has : (args .self .pending) < length codes₀ = ltb-true (args .self .pending) (length codes₀) (sym (put-code .ensures .0) ∙ if1 .taken) in (
       λ ts b events reports pool.
           expected-room ts b codes₀ _ (args .self .pending) (args .code) (view self codes₀ events reports pool) long (put-code .ensures .1)
@@ -51,7 +52,7 @@ returns-2 c =
     let put-code = c .before .before .put-code in
     let if1 = c .before .if1 in
     let refuse = c .refuse in
-    let long : length codes₀ ≡ 256 = search needs in
+    let long : length codes₀ ≡ MOST-PENDING = search needs in
     let full : length codes₀ ≤ (args .self .pending) = ltb-false (args .self .pending) (length codes₀) (sym (put-code .ensures .0) ∙ if1 .left) in (
       λ ts b events reports pool.
           expected-full ts b codes₀ _ (args .self .pending) (args .code) (view self codes₀ events reports pool) long (put-code .ensures .1)

@@ -1,4 +1,5 @@
 -- `current_token_error_range`: the byte after the last token, the current token, or the last byte.
+use Rattle.definitions.specs.Layout.{MOST-PENDING}
 use Rattle.basics.proofs.Flags.{flags}
 use mathlib.Core.Path.{_≡_}
 use native.Mathlib.Omega.{arith}
@@ -13,7 +14,7 @@ ends-statement-requires : tie.Need-ends-statement-requires
 ends-statement-requires c κs =
     let args = c .before .before .before .args in
     let codes₀ = args .codes .now in
-    let long : length codes₀ ≡ 256 = search needs in omega (arith, long)
+    let long : length codes₀ ≡ MOST-PENDING = search needs in omega (arith, long)
 
 add-requires : tie.Need-add-requires
 add-requires c κs = tt

@@ -1,4 +1,5 @@
 //! A large file for timing.
+use crate::token::lexed;
 
 const HEAD: &str = "\
 /dts-v1/;
@@ -112,7 +113,7 @@ pub fn big(n: usize) -> String {
     let (mut i, mut tokens) = (0, 40);
     while tokens < n {
         let node = [uart, i2c, pinctrl, ethernet][i as usize % 4](i, 0x10000000 + i * 0x1000);
-        tokens += dt_tools_parser::lexer::lex(&node).len();
+        tokens += lexed(&node).len();
         o.push_str(&node);
         i += 1;
     }

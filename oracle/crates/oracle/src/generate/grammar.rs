@@ -2,13 +2,7 @@
 use super::{Rng, SAMPLES, Toks};
 use dt_tools_parser::lexer::TokenKind::{self, *};
 
-const DIRECTIVES: &[TokenKind] = &[
-    PragmaDirective,
-    DefineDirective,
-    UndefDirective,
-    IncludeDirective,
-    ErrorDirective,
-];
+const DIRECTIVES: &[TokenKind] = &[PragmaDirective, DefineDirective, UndefDirective, IncludeDirective, ErrorDirective];
 const INFIX: &[TokenKind] = &[
     Plus,
     Minus,
@@ -40,11 +34,7 @@ enum Inside {
 
 /// A token list for an entry.
 pub fn tokens(r: &mut Rng, entry: u32) -> Toks {
-    let mut w = Writer {
-        r,
-        toks: vec![],
-        depth: 0,
-    };
+    let mut w = Writer { r, toks: vec![], depth: 0 };
     match entry {
         1 => w.times(5, Writer::item),
         2 => w.reference_noamp(),
@@ -88,9 +78,7 @@ impl Writer<'_> {
 
     fn trivia(&mut self) {
         if self.r.p(25) {
-            let k = self
-                .r
-                .pick(&[Whitespace, Whitespace, Whitespace, BlockComment, LineComment]);
+            let k = self.r.pick(&[Whitespace, Whitespace, Whitespace, BlockComment, LineComment]);
             self.k(k);
             if k == LineComment {
                 self.blank("\n")
@@ -100,21 +88,13 @@ impl Writer<'_> {
 
     fn name(&mut self) {
         for i in 0..1 + self.r.n(3) {
-            if i % 2 == 0 {
-                self.any(&[Ident, Ident, Ident, Number])
-            } else {
-                self.any(&[Comma, Minus])
-            }
+            if i % 2 == 0 { self.any(&[Ident, Ident, Ident, Number]) } else { self.any(&[Comma, Minus]) }
         }
     }
 
     /// A name that may be a macro with arguments.
     fn macro_name(&mut self) {
-        if self.r.p(12) {
-            self.invocation(true)
-        } else {
-            self.name()
-        }
+        if self.r.p(12) { self.invocation(true) } else { self.name() }
     }
 
     fn unit_address(&mut self) {
@@ -310,13 +290,7 @@ impl Writer<'_> {
         self.blank("\n");
         self.inside(what);
         for _ in 0..self.r.n(2) {
-            self.any(&[
-                ElifDirective,
-                ElifdefDirective,
-                ElifndefDirective,
-                ElseDirective,
-                ElseDirective,
-            ]);
+            self.any(&[ElifDirective, ElifdefDirective, ElifndefDirective, ElseDirective, ElseDirective]);
             self.blank("\n");
             self.inside(what)
         }

@@ -1,8 +1,7 @@
 //! Random cases. Hand-written; of the repository it uses the kinds' names and the lexer.
-use crate::Out;
-use crate::case::{Case, case_line};
-use dt_tools_parser::lexer::TokenKind;
-use std::io::Write;
+use crate::case::Case;
+use crate::rng::{STEP, SplitMix64};
+use crate::token::fixed_text;
 
 mod big;
 mod damage;
@@ -11,23 +10,16 @@ mod samples;
 pub use big::big;
 pub use samples::{SAMPLES, SNIPPETS};
 
-/// The splitmix64 generator.
-pub struct Rng(u64);
+/// What the cases are drawn from.
+pub struct Rng(SplitMix64);
 
 impl Rng {
     pub fn new(seed: u64) -> Self {
-        Rng(seed.wrapping_mul(0x9E3779B97F4A7C15) ^ 0xD1B54A32D192ED03)
-    }
-    fn next(&mut self) -> u64 {
-        self.0 = self.0.wrapping_add(0x9E3779B97F4A7C15);
-        let mut z = self.0;
-        z = (z ^ (z >> 30)).wrapping_mul(0xBF58476D1CE4E5B9);
-        z = (z ^ (z >> 27)).wrapping_mul(0x94D049BB133111EB);
-        z ^ (z >> 31)
+        Rng(SplitMix64(seed.wrapping_mul(STEP) ^ 0xD1B54A32D192ED03))
     }
     /// A number below `k`.
     fn n(&mut self, k: usize) -> usize {
-        (self.next() % k.max(1) as u64) as usize
+        (self.0.next_u64() % k.max(1) as u64) as usize
     }
     /// True in `pct` of a hundred draws.
     fn p(&mut self, pct: usize) -> bool {
@@ -78,7 +70,7 @@ fn unlexable(r: &mut Rng) -> Case {
             let n = 1 + r.n(4);
             rows.push((64 + r.n(11) as u32, n));
             bytes.extend((0..n).map(|_| r.pick(b"?x ;")))
-        } else if orig_kind(kind).static_text().is_some() {
+        } else if fixed_text(kind).is_some() {
             rows.push((kind, text.len()));
             bytes.extend_from_slice(text.as_bytes())
         } else {
@@ -90,19 +82,11 @@ fn unlexable(r: &mut Rng) -> Case {
     Case::Toks(rows, bytes)
 }
 
-fn orig_kind(k: u32) -> TokenKind {
-    crate::orig::kind(k).expect("a kind below 64")
-}
-
 /// A value of some property of a realistic file, for the small entries.
 fn fragment(r: &mut Rng, file: &str, entry: u32) -> Vec<u8> {
     let value = |l| str::split_once(l, '=').map(|x| x.1.trim());
     let values: Vec<&str> = file.split([';', '\n']).filter_map(value).collect();
-    let mut s = if values.is_empty() {
-        b"<1 2>, \"x\"".to_vec()
-    } else {
-        r.pick(&values).as_bytes().to_vec()
-    };
+    let mut s = if values.is_empty() { b"<1 2>, \"x\"".to_vec() } else { r.pick(&values).as_bytes().to_vec() };
     if entry == 4 {
         s.retain(|c| !b"<>".contains(c))
     }
@@ -112,11 +96,7 @@ fn fragment(r: &mut Rng, file: &str, entry: u32) -> Vec<u8> {
 /// A damaged realistic text.
 fn realistic(r: &mut Rng, entry: u32) -> Case {
     let file = r.pick(SNIPPETS);
-    let mut s = if entry != 1 && r.p(70) {
-        fragment(r, file, entry)
-    } else {
-        file.as_bytes().to_vec()
-    };
+    let mut s = if entry != 1 && r.p(70) { fragment(r, file, entry) } else { file.as_bytes().to_vec() };
     for _ in 0..r.n(5) {
         damage::bytes(r, &mut s)
     }
@@ -135,13 +115,4 @@ pub fn one(r: &mut Rng, only: Option<u32>) -> (u32, Case) {
         _ => realistic(r, entry),
     };
     (entry, case)
-}
-
-/// oracle gen SEED COUNT [ENTRY]
-pub fn run(seed: u64, count: usize, only: Option<u32>, out: &mut Out) {
-    let mut r = Rng::new(seed);
-    for _ in 0..count {
-        let (entry, case) = one(&mut r, only);
-        writeln!(out, "{}", case_line(entry, &case)).unwrap()
-    }
 }

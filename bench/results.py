@@ -1,0 +1,59 @@
+"""Reads what was measured (results/): for tables.py and plot.py."""
+import csv
+import os
+import statistics
+
+# the input that the summary is about
+HEADLINE = "board-50000"
+
+
+def read(path):
+    """A dictionary for each line; none if there is no such file."""
+    if not os.path.exists(path):
+        return []
+    with open(path, newline="") as file:
+        return list(csv.DictReader(file))
+
+
+class Times:
+    """The times of all runs on one machine."""
+
+    def __init__(self, path):
+        self.by_input = {}
+        for row in read(path):
+            numbers = {k: float(v) for k, v in row.items() if k != "input"}
+            numbers["rust_ns"] = numbers["rust_with_copy_ns"] - numbers["rust_copy_ns"]
+            self.by_input.setdefault(row["input"], []).append(numbers)
+        self.runs = max(map(len, self.by_input.values()))
+
+    def spread(self, name, column):
+        """Least, median and most over the runs."""
+        values = [run[column] for run in self.by_input[name]]
+        return min(values), statistics.median(values), max(values)
+
+    def comparable(self, name):
+        """False where the Rust's time is lost in that of the copy of its tokens, which is taken off."""
+        return all(run["rust_ns"] > run["rust_copy_ns"] / 2 for run in self.by_input[name])
+
+
+class Counts:
+    """What one input has and costs, with the instructions of each parser."""
+
+    def __init__(self, row):
+        self.name = row["input"]
+        self.numbers = {k: int(v) for k, v in row.items() if k != "input"}
+        self.tokens = self["tokens"]
+        self.family = self.name.split("-")[0]
+        self.port = self["port_instructions"]
+        self.rust = self["rust_with_copy_instructions"] - self["rust_copy_instructions"]
+
+    def __getitem__(self, column):
+        return self.numbers[column]
+
+    def each(self, column):
+        """A token's share."""
+        return self[column] / self.tokens
+
+
+def counts(path):
+    return [Counts(row) for row in read(path)]

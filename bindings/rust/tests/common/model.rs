@@ -1,0 +1,127 @@
+//! A plain reading of tree rows, in which every answer is found by looking at all there is; and the crate's steps and
+//! walks against it. Used on random trees (src/navigate/tests.rs) and on files (tests/navigate.rs).
+
+use dt_parser::{Item, Leaf, Node, TextRange, Tree};
+
+/// What the rows say of an item.
+pub struct Known {
+    pub parent: Option<usize>,
+    pub children: Vec<usize>,
+    /// The row after all that lies below it.
+    pub after: usize,
+    pub range: TextRange,
+    pub depth: usize,
+    pub is_leaf: bool,
+}
+
+/// Reads rows, by recursion. Their first numbers are class, kind, width and count.
+pub fn read(rows: &[impl AsRef<[u32]>]) -> Vec<Known> {
+    let mut known = Vec::new();
+    read_subtree(rows, None, 0, 0, &mut known);
+    assert_eq!(known.len(), rows.len());
+    known
+}
+
+fn read_subtree(
+    rows: &[impl AsRef<[u32]>],
+    parent: Option<usize>,
+    depth: usize,
+    start: usize,
+    known: &mut Vec<Known>,
+) -> usize {
+    let row = known.len();
+    let number = |column: usize| rows[row].as_ref()[column] as usize;
+    let (class, width, count) = (number(0), number(2), number(3));
+    let range = TextRange { start, end: start + width };
+    known.push(Known { parent, children: Vec::new(), after: row + 1, range, depth, is_leaf: class == 1 });
+    if class == 0 {
+        let mut at = start;
+        for _ in 0..count {
+            let child = read_subtree(rows, Some(row), depth + 1, at, known);
+            at = known[child].range.end;
+            known[row].children.push(child);
+        }
+        known[row].after = known.len();
+    }
+    row
+}
+
+/// Every item of the tree, and the leaf at every offset.
+pub fn check_items(tree: &Tree<'_>, known: &[Known]) {
+    assert_eq!(tree.item_count(), known.len());
+    assert_eq!(tree.item(known.len()), None);
+    for row in 0..known.len() {
+        check_item(tree, known, row);
+    }
+    for offset in 0..known[0].range.end + 2 {
+        let leaf = (0..known.len()).find(|row| known[*row].is_leaf && known[*row].range.contains(offset));
+        assert_eq!(tree.leaf_at(offset).map(Leaf::row), leaf, "{offset}");
+    }
+}
+
+fn check_item(tree: &Tree<'_>, known: &[Known], row: usize) {
+    let item = tree.item(row).unwrap();
+    let row_of = |item: Option<Item<'_>>| item.map(Item::row);
+    assert_eq!((item.row(), item.range()), (row, known[row].range));
+    assert_eq!(item.parent().map(Node::row), known[row].parent);
+    assert_eq!(row_of(item.next_sibling()), sibling(known, row, 1));
+    assert_eq!(row_of(item.prev_sibling()), sibling(known, row, -1));
+    let within = |row: usize, above: usize| above <= row && row < known[above].after;
+    let leaves: Vec<usize> = (0..known.len()).filter(|at| known[*at].is_leaf && within(*at, row)).collect();
+    assert_eq!(item.first_leaf().map(Leaf::row), leaves.first().copied());
+    assert_eq!(item.last_leaf().map(Leaf::row), leaves.last().copied());
+    let above = (0..known.len()).rev().filter(|at| *at != row && within(row, *at));
+    assert!(item.nodes_above().map(Node::row).eq(above));
+    if let Some(node) = item.as_node() {
+        let below = || (0..known.len()).filter(|at| *at != row && within(*at, row));
+        assert!(node.items_below().map(Item::row).eq(below()));
+        assert!(node.nodes_below().map(Node::row).eq(below().filter(|at| !known[*at].is_leaf)));
+        assert!(node.children().map(Item::row).eq(known[row].children.iter().copied()));
+        assert!(node.leaves().map(Leaf::row).eq(leaves));
+        let depths = (0..known.len()).filter(|at| within(*at, row)).map(|at| known[at].depth - known[row].depth);
+        assert!(node.walk().map(|(_, depth)| depth).eq(depths));
+    }
+}
+
+/// The nearest sibling before (-1) or after (+1), by the parent's list.
+fn sibling(known: &[Known], row: usize, step: isize) -> Option<usize> {
+    let siblings = &known[known[row].parent?].children;
+    let at = siblings.iter().position(|child| *child == row).unwrap();
+    siblings.get(at.checked_add_signed(step)?).copied()
+}
+
+/// The node that covers a range.
+pub fn check_covering(tree: &Tree<'_>, known: &[Known], range: TextRange) {
+    assert_eq!(tree.covering_node(range).map(Node::row), covering(known, range), "{range} in\n{tree}");
+}
+
+/// The deepest node that has every byte of the range, by looking at all nodes.
+fn covering(known: &[Known], range: TextRange) -> Option<usize> {
+    let TextRange { start, end } = range;
+    let length = known[0].range.end;
+    if start > end || end > length {
+        return None;
+    }
+    let (start, end) = match (start == end, start == length) {
+        (false, _) => (start, end),
+        (true, false) => (start, start + 1),
+        (true, true) => (length.saturating_sub(1), length),
+    };
+    if length == 0 {
+        return Some(0);
+    }
+    let covers = |known: &Known| !known.is_leaf && known.range.start <= start && end <= known.range.end;
+    (0..known.len()).filter(|row| covers(&known[*row])).max_by_key(|row| known[*row].depth)
+}
+
+/// Numbers that look random and are the same each time.
+pub struct Random(pub u64);
+
+impl Random {
+    pub fn below(&mut self, n: usize) -> usize {
+        self.0 ^= self.0 << 13;
+        self.0 ^= self.0 >> 7;
+        self.0 ^= self.0 << 17;
+        (self.0 >> 32) as usize % n
+    }
+}

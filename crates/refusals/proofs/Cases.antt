@@ -1,0 +1,171 @@
+-- Calls on both sides of every limit, computed: each has the cause that is listed and no other. The sizes of the lent buffers are given as
+-- events, tree rows, lexical errors, reports, expectations, in numbers.
+use Prim.Native.Nat.{ℕ, zero, suc}
+use native.Mathlib.Omega.{arith}
+use mathlib.Core.Path.{_≡_, refl, sym, _∙_}
+use mathlib.Core.Bool.{Bool, true, _&&_}
+use mathlib.Core.List.{List, [], _∷_, _++_}
+use lib.Dec.{eqb}
+use lib.ListN.{length, replicate}
+use borrow.Author.Tests.{eqb-true}
+use Rattle.definitions.specs.Token.{tokens-of, bytes}
+use Rattle.definitions.specs.Grammar.{SourceFile, Cells}
+use Rattle.definitions.specs.Call.{Buffers, Answer, call}
+use Rattle.basics.proofs.Tests.{and-left, and-right}
+use Rattle.refusals.specs.Trace.{call-opened, expectation-pushed, event-pushed, report-written, trace}
+use Rattle.refusals.specs.Refusals.{Good-row, happens, Cause, over-size, odd-or-short}
+use Rattle.refusals.proofs.Firsts.{each-nil}
+use Rattle.refusals.proofs.Refusals.{refusals}
+
+record Case : Type 0 where
+  entry : ℕ
+  bytes : List ℕ
+  rows : List ℕ
+  lent : Buffers
+  number : ℕ
+  place : ℕ
+
+-- so many times, and then
+abbrev times : ℕ → List ℕ → List ℕ → List ℕ
+times zero l k = k
+times (suc n) l k = l ++ times n l k
+
+abbrev room : ℕ → ℕ → ℕ → ℕ → ℕ → Buffers
+room e t x r p = record { events = replicate e 7; trees = replicate t 7; errors = replicate x 7; reports = replicate r 7; pool = replicate p 7 }
+
+abbrev enough : Buffers
+enough = room 6000 3000 9 9000 9000
+
+abbrev on : ℕ → List ℕ → List ℕ → Buffers → ℕ → ℕ → Case
+on e bs tk b n p = record { entry = e; bytes = bs; rows = tk; lent = b; number = n; place = p }
+
+-- #if fifty times, and then: conditionals, each inside the one before. Where they end each pushes expectations, and nothing is taken
+abbrev directives : List ℕ → List ℕ
+directives = times 50 (35 ∷ 105 ∷ 102 ∷ [])
+
+abbrev directive-rows : List ℕ → List ℕ
+directive-rows = times 50 (4 ∷ 3 ∷ [])
+
+-- 1 in so many brackets
+abbrev brackets : ℕ → List ℕ
+brackets n = times n (40 ∷ []) (49 ∷ times n (41 ∷ []) [])
+
+abbrev bracket-rows : ℕ → List ℕ
+bracket-rows n = times n (41 ∷ 1 ∷ []) (35 ∷ 1 ∷ times n (42 ∷ 1 ∷ []) [])
+
+abbrev with-error : Buffers → ℕ → ℕ → Case
+with-error = on 1 (97 ∷ 59 ∷ 97 ∷ []) (27 ∷ 1 ∷ 29 ∷ 1 ∷ 74 ∷ 1 ∷ [])
+
+abbrev cases : List Case
+cases =
+    -- 1: entry 0 and entry 5, whatever else is wrong
+    on 0 [] [] enough 1 0
+    ∷ on 5 [] (27 ∷ []) enough 1 0
+    -- 2: one number too many; with one fewer the first row is bad
+    ∷ on 1 [] (replicate 131073 0) enough 2 0
+    ∷ on 1 [] (replicate 131072 0) enough 3 0
+    -- 3: kinds 25, 61 and 75; length 0; an end past the input; odd numbers; a short total; no row for one byte; 3 in a later row before 4
+    ∷ on 1 (97 ∷ []) (25 ∷ 1 ∷ []) enough 3 0
+    ∷ on 1 (97 ∷ 98 ∷ []) (27 ∷ 1 ∷ 61 ∷ 1 ∷ []) enough 3 1
+    ∷ on 1 (97 ∷ []) (75 ∷ 1 ∷ []) enough 3 0
+    ∷ on 1 (97 ∷ []) (27 ∷ 0 ∷ []) enough 3 0
+    ∷ on 1 (97 ∷ []) (27 ∷ 1 ∷ 27 ∷ 1 ∷ []) enough 3 1
+    ∷ on 1 (97 ∷ []) (27 ∷ 1 ∷ 27 ∷ []) enough 3 1
+    ∷ on 1 (97 ∷ 98 ∷ []) (27 ∷ 1 ∷ []) enough 3 1
+    ∷ on 1 (97 ∷ []) [] enough 3 0
+    ∷ on 1 (97 ∷ 98 ∷ []) (29 ∷ 1 ∷ 26 ∷ 1 ∷ []) enough 3 1
+    -- 4: a row of kind Semicolon whose byte is not `;`
+    ∷ on 1 (97 ∷ 98 ∷ []) (27 ∷ 1 ∷ 29 ∷ 1 ∷ []) enough 4 1
+    -- 5: 256 and 257 pending; 64 and 65 open calls
+    ∷ on 4 (directives (97 ∷ 59 ∷ [])) (directive-rows (27 ∷ 1 ∷ 29 ∷ 1 ∷ [])) enough 0 0
+    ∷ on 4 (directives (40 ∷ 49 ∷ 59 ∷ [])) (directive-rows (41 ∷ 1 ∷ 35 ∷ 1 ∷ 29 ∷ 1 ∷ [])) enough 5 52
+    ∷ on 4 (brackets 63) (bracket-rows 63) enough 0 0
+    ∷ on 4 (brackets 64) (bracket-rows 64) enough 5 64
+    -- 6 to 8: `a;` and an error token, with just enough room, and with one number fewer of each
+    ∷ with-error (room 36 24 3 9 11) 0 0
+    ∷ with-error (room 35 24 3 9 11) 6 3
+    ∷ with-error (room 36 24 3 8 11) 7 2
+    ∷ with-error (room 36 24 3 9 10) 7 2
+    ∷ with-error (room 36 23 3 9 11) 8 0
+    ∷ with-error (room 36 24 2 9 11) 8 0
+    -- of two that do not fit, the one that is met first: the ninth event is the report's, before its row; 8 comes last
+    ∷ with-error (room 26 24 3 0 0) 6 2
+    ∷ with-error (room 27 24 3 0 0) 7 2
+    ∷ with-error (room 36 0 0 9 10) 7 2
+    ∷ with-error (room 2 0 0 0 0) 6 0
+    ∷ []
+
+abbrev said : Answer → ℕ → ℕ → Bool
+said a n p = eqb (a .number) n && eqb (a .place) p
+
+right : Case → Bool
+unfolding call
+right c = said (call (c .entry) (c .bytes) (c .rows) (c .lent) .answer) (c .number) (c .place)
+
+all-right : List Case → Bool
+unfolding right
+all-right [] = true
+all-right (c ∷ l) = right c && all-right l
+
+computed : all-right cases ≡ true
+unfolding all-right
+computed = refl
+
+-- its cause holds, and no other
+abbrev Only : Case → Type 0
+Only c =
+    Cause (c .entry) (c .bytes) (c .rows) (c .lent) (c .number) (c .place)
+    × ((number place : ℕ) → Cause (c .entry) (c .bytes) (c .rows) (c .lent) number place → (number ≡ c .number) × (place ≡ c .place))
+
+abbrev All-only : List Case → Type 0
+All-only [] = Unit {0}
+All-only (c ∷ l) = Only c × All-only l
+
+only : (c : Case) → right c ≡ true → Only c
+unfolding right
+only c h = (refusals (c .entry) (c .bytes) (c .rows) (c .lent) (c .number) (c .place) .0 (n, p), others)
+  where
+    n : call (c .entry) (c .bytes) (c .rows) (c .lent) .answer .number ≡ c .number
+    n = eqb-true _ _ (and-left _ _ h)
+
+    p : call (c .entry) (c .bytes) (c .rows) (c .lent) .answer .place ≡ c .place
+    p = eqb-true _ _ (and-right (eqb (call (c .entry) (c .bytes) (c .rows) (c .lent) .answer .number) (c .number)) _ h)
+
+    others : (number place : ℕ) → Cause (c .entry) (c .bytes) (c .rows) (c .lent) number place → (number ≡ c .number) × (place ≡ c .place)
+    others number place q =
+        let r : (call (c .entry) (c .bytes) (c .rows) (c .lent) .answer .number ≡ number) × (call (c .entry) (c .bytes) (c .rows) (c .lent) .answer .place ≡ place) =
+        refusals (c .entry) (c .bytes) (c .rows) (c .lent) number place .1 q in
+        (sym (r .0) ∙ n, sym (r .1) ∙ p)
+
+all-only : (l : List Case) → all-right l ≡ true → All-only l
+unfolding all-right
+all-only [] h = tt
+all-only (c ∷ l) h = (only c (and-left (right c) _ h), all-only l (and-right (right c) _ h))
+
+-- THE CASES
+pub cases-hold : All-only cases
+cases-hold = all-only cases computed
+
+-- both sides of the limit on bytes, which are too many to compute with: one too many; and none too many, where no row covers them
+pub bytes-over : (bs : List ℕ) (b : Buffers) → length bs ≡ 1048577 → call 1 bs [] b .answer .number ≡ 2
+bytes-over bs b h = refusals 1 bs [] b 2 0 .1 (over-size SourceFile refl (λ s. omega (arith, h, s .0))) .0
+
+pub bytes-kept : (bs : List ℕ) (b : Buffers) → length bs ≡ 1048576 → call 1 bs [] b .answer .number ≡ 3
+unfolding tokens-of bytes
+bytes-kept bs b h =
+    refusals 1 bs [] b 3 0 .1 (odd-or-short SourceFile (refl, (omega (arith, h), omega arith)) (each-nil (Good-row bs) []) (λ c. omega (arith, h, c .1))) .0
+
+-- ---------------------------------------------------------------- what happens in a run, written out
+
+-- cells, `;`: the call of `eat_cell` leaves four expectations and reports; the end of input is expected, and what is left over is reported
+pub semicolon-in-cells :
+    happens Cells (29 ∷ 1 ∷ [])
+    ≡ call-opened 1 1 ∷ expectation-pushed 1 1 ∷ expectation-pushed 2 1 ∷ expectation-pushed 3 1 ∷ expectation-pushed 4 1 ∷ event-pushed 1 ∷ report-written 4 1
+    ∷ expectation-pushed 5 1 ∷ event-pushed 1 ∷ event-pushed 1 ∷ report-written 5 1 ∷ event-pushed 0 ∷ event-pushed 0 ∷ []
+unfolding trace tokens-of
+semicolon-in-cells = refl
+
+-- source file, `}`: message 2 has no expectations; then the marker, the token and the marker's end
+pub unmatched-brace : happens SourceFile (38 ∷ 1 ∷ []) ≡ event-pushed 1 ∷ report-written 0 1 ∷ event-pushed 1 ∷ event-pushed 0 ∷ event-pushed 0 ∷ []
+unfolding trace tokens-of
+unmatched-brace = refl

@@ -1,0 +1,162 @@
+-- What is returned at each end of a call: a refusal before the parse, one in it, and an accepted call.
+use Prim.Native.Nat.{ℕ, zero, suc, _-_, _*_, _/_, _≤_}
+use native.Mathlib.Omega.{arith}
+use mathlib.Core.Path.{_≡_, refl, ap, _∙_}
+use mathlib.Core.Bool.{Bool, true, false, cond}
+use mathlib.Core.List.{List, [], _∷_, _++_}
+use lib.Dec.{leb}
+use lib.ListN.{length, length-append, replicate, length-replicate}
+use borrow.Author.Tests.{leb-true}
+use Rattle.definitions.specs.Layout.{TREE-ROW, ERROR-ROW, REPORT-ROW}
+use Rattle.definitions.specs.Token.{tokens-of, bytes}
+use Rattle.definitions.specs.Grammar.{Entry, root-kind}
+use Rattle.definitions.specs.Place.{root}
+use Rattle.definitions.specs.Skeleton.{Report}
+use Rattle.definitions.specs.Report.{Push, event, reported, exceeded, pushes, Room, Fit, fits, stops, one-event, one-report, scan, reports, pool}
+use Rattle.definitions.specs.Refusal.{Refusal, unknown-entry, too-long, bad-row, bad-text, too-deep, no-event-room, no-report-room, no-tree-room, number-of, place-of}
+use Rattle.definitions.specs.Call.{Buffers, untouched, cleared, sheets, written, kept, room-of, run-entry}
+use Rattle.laws.proofs.Decode.{rows-length}
+use Rattle.laws.proofs.LexicalErrors.{errors-length}
+use Rattle.bounds.proofs.Written.{report-rows-length}
+use Rattle.refusals.specs.Refusals.{entry-number, to-write, Tree-fits}
+use Rattle.refusals.specs.Answered.{Filled, Written, Returns}
+
+-- ---------------------------------------------------------------- refusals
+
+bounds : (r : Refusal) → (1 ≤ number-of r) × (number-of r ≤ 8)
+unfolding number-of
+bounds unknown-entry = (omega arith, omega arith)
+bounds too-long = (omega arith, omega arith)
+bounds (bad-row i) = (omega arith, omega arith)
+bounds (bad-text i) = (omega arith, omega arith)
+bounds (too-deep m) = (omega arith, omega arith)
+bounds (no-event-room m) = (omega arith, omega arith)
+bounds (no-report-room m) = (omega arith, omega arith)
+bounds no-tree-room = (omega arith, omega arith)
+
+no-place : (r : Refusal) → ¬ ((3 ≤ number-of r) × (number-of r ≤ 7)) → place-of r ≡ 0
+unfolding number-of place-of
+no-place unknown-entry h = refl
+no-place too-long h = refl
+no-place (bad-row i) h = absurd (h (omega arith, omega arith))
+no-place (bad-text i) h = absurd (h (omega arith, omega arith))
+no-place (too-deep m) h = absurd (h (omega arith, omega arith))
+no-place (no-event-room m) h = absurd (h (omega arith, omega arith))
+no-place (no-report-room m) h = absurd (h (omega arith, omega arith))
+no-place no-tree-room h = refl
+
+module _ (n : ℕ) (tk : List ℕ) (b : Buffers) where
+  pub left-as-it-was : (r : Refusal) → number-of r ≤ 4 → Returns n tk b (untouched r b)
+  left-as-it-was r h =
+      record {
+        at-most-8 = bounds r .1;
+        accepted = λ e. absurd (omega (arith, e, bounds r .0));
+        as-it-was = λ p q. refl;
+        all-zero = λ p. absurd (omega (arith, p, h));
+        no-counts = λ p. record { trees = refl; errors = refl; reports = refl; expectations = refl };
+        no-place = no-place r;
+        lengths = record { events = refl; trees = refl; errors = refl; reports = refl; pool = refl };
+      }
+
+  pub left-zero : (r : Refusal) → 5 ≤ number-of r → Returns n tk b (cleared r b)
+  left-zero r h =
+      record {
+        at-most-8 = bounds r .1;
+        accepted = λ e. absurd (omega (arith, e, h));
+        as-it-was = λ p q. absurd (omega (arith, q, h));
+        all-zero = λ p. record { events = refl; trees = refl; errors = refl; reports = refl; pool = refl };
+        no-counts = λ p. record { trees = refl; errors = refl; reports = refl; expectations = refl };
+        no-place = no-place r;
+        lengths =
+            record {
+              events = length-replicate (length (b .events)) 0;
+              trees = length-replicate (length (b .trees)) 0;
+              errors = length-replicate (length (b .errors)) 0;
+              reports = length-replicate (length (b .reports)) 0;
+              pool = length-replicate (length (b .pool)) 0;
+            };
+      }
+
+-- ---------------------------------------------------------------- an accepted call
+
+-- the reports of what is pushed, and their expectations, are no more than there is room for
+abbrev In-room : List Push → ℕ → ℕ → Type 0
+In-room l r p = (length (reports l) ≤ r) × (length (pool (reports l)) ≤ p)
+
+stops-never : (r : Refusal) (y : Room) → stops r ≡ fits y → ⊥
+stops-never r y e = let x : _≡_ {A = ℕ} 0 1 = cc in omega arith
+
+event-room : (l : List Push) (m e r p : ℕ) (k : Room → Fit) (y : Room) → ((z : Room) → k z ≡ fits y → In-room l (z .reports) (z .pool)) → one-event m e r p k ≡ fits y → In-room l r p
+unfolding one-event
+event-room l m zero r p k y h e = absurd (stops-never (no-event-room m) y e)
+event-room l m (suc n) r p k y h e = h (record { events = n; reports = r; pool = p }) e
+
+-- x: the report
+report-room : (x : Report) (l : List Push) (m e r p : ℕ) (k : Room → Fit) (y : Room) → ((z : Room) → k z ≡ fits y → In-room l (z .reports) (z .pool))
+    → one-report m (length (x .pool)) e r p k ≡ fits y → In-room (reported x ∷ l) r p
+unfolding one-report reports pool
+report-room x l m e zero p k y h q = absurd (stops-never (no-report-room m) y q)
+report-room x l m e (suc r) p k y h q = by (leb (length (x .pool)) p) refl q
+  where
+    by : (t : Bool) → leb (length (x .pool)) p ≡ t → cond t (k (record { events = e; reports = r; pool = p - length (x .pool) })) (stops (no-report-room m)) ≡ fits y
+        → (suc (length (reports l)) ≤ suc r) × (length (x .pool ++ pool (reports l)) ≤ p)
+    by true w f =
+        let c : length (x .pool) ≤ p = leb-true (length (x .pool)) p w in
+        let g : In-room l r (p - length (x .pool)) = h (record { events = e; reports = r; pool = p - length (x .pool) }) f in
+        (omega (arith, g .0), omega (arith, g .1, c, length-append (x .pool) (pool (reports l))))
+    by false w f = absurd (stops-never (no-report-room m) y f)
+
+scan-room : (l : List Push) (z y : Room) → scan l z ≡ fits y → In-room l (z .reports) (z .pool)
+unfolding scan reports pool
+scan-room [] z y h = (omega arith, omega arith)
+scan-room (event m ∷ l) z y h = event-room l m (z .events) (z .reports) (z .pool) (scan l) y (λ x. scan-room l x y) h
+scan-room (reported r ∷ l) z y h =
+    event-room (reported r ∷ l) (r .mark) (z .events) (z .reports) (z .pool) (λ x. one-report (r .mark) (length (r .pool)) (x .events) (x .reports) (x .pool) (scan l)) y
+    (λ x. report-room r l (r .mark) (x .events) (x .reports) (x .pool) (scan l) y (λ w. scan-room l w y)) h
+scan-room (exceeded m ∷ l) z y h = absurd (stops-never (too-deep m) y h)
+
+filled : (size count : ℕ) (l was : List ℕ) → length l ≡ size * count → length l ≤ length was → Filled size count l was (written l was)
+filled size count l was h g = record { whole-rows = h; room = g; then-zeros = refl }
+
+filled-length : (size count : ℕ) (l was is : List ℕ) → Filled size count l was is → length is ≡ length was
+filled-length size count l was is f =
+    ap length (f .then-zeros) ∙ length-append l (replicate (length was - length l) 0) ∙ omega (arith, length-replicate {A = ℕ} (length was - length l) 0, f .room)
+
+module _ (n : ℕ) (tk : List ℕ) (b : Buffers) where
+  pub left-written : (e : Entry) → entry-number e ≡ n → (z : Room) → scan (pushes (run-entry e (tokens-of tk))) (room-of b) ≡ fits z → Tree-fits e tk b → Returns n tk b (kept (to-write e tk) b)
+  unfolding sheets
+  left-written e h z f t =
+      record {
+        at-most-8 = omega arith;
+        accepted = λ q. (e, h, w);
+        as-it-was = λ p q. absurd (omega (arith, p));
+        all-zero = λ p. absurd (omega (arith, p));
+        no-counts = λ p. absurd (omega (arith, p));
+        no-place = λ p. refl;
+        lengths =
+            record {
+              events = length-replicate (length (b .events)) 0;
+              trees = filled-length TREE-ROW _ _ _ _ (w .trees);
+              errors = filled-length ERROR-ROW _ _ _ _ (w .errors);
+              reports = filled-length REPORT-ROW _ _ _ _ (w .reports);
+              pool = filled-length 1 _ _ _ _ (w .pool);
+            };
+      }
+    where
+      l : List Report
+      l = reports (pushes (run-entry e (tokens-of tk)))
+
+      g : In-room (pushes (run-entry e (tokens-of tk))) (length (b .reports) / REPORT-ROW) (length (b .pool))
+      g = scan-room (pushes (run-entry e (tokens-of tk))) (room-of b) z f
+
+      w : Written (to-write e tk) b (kept (to-write e tk) b)
+      w =
+          record {
+            trees = filled TREE-ROW _ (to-write e tk .trees) (b .trees) (omega (arith, rows-length (root (root-kind e) (run-entry e (tokens-of tk)) (tokens-of tk)))) (t .0);
+            errors = filled ERROR-ROW _ (to-write e tk .errors) (b .errors) (omega (arith, errors-length 0 (tokens-of tk))) (t .1);
+            reports =
+                filled REPORT-ROW _ (to-write e tk .reports) (b .reports) (omega (arith, report-rows-length (length (tokens-of tk)) (bytes (tokens-of tk)) 0 l))
+                (omega (arith, report-rows-length (length (tokens-of tk)) (bytes (tokens-of tk)) 0 l, g .0));
+            pool = filled 1 _ (to-write e tk .pool) (b .pool) (omega arith) (g .1);
+            events = refl;
+          }

@@ -1,0 +1,63 @@
+-- ANSWERED: what any call returns, by its number, and what every lent buffer then holds. It shuts out a number above 8, buffers left
+-- unwritten or half written, a refusal that leaves something in them, and counts that differ from the rows written.
+use Prim.Native.Nat.{ℕ, _-_, _*_, _≤_}
+use mathlib.Core.Path.{_≡_}
+use mathlib.Core.List.{List, _++_}
+use lib.ListN.{length, replicate}
+use Rattle.definitions.specs.Layout.{TREE-ROW, ERROR-ROW, REPORT-ROW}
+use Rattle.definitions.specs.Grammar.{Entry}
+use Rattle.definitions.specs.Call.{Buffers, Result, Sheets}
+use Rattle.definitions.specs.Call as Call
+use Rattle.refusals.specs.Refusals.{entry-number, to-write}
+
+abbrev pub zeros : List ℕ → List ℕ
+zeros l = replicate (length l) 0
+
+-- a buffer that holds these numbers and then zeros: whole rows of a size, as many as the answer says
+pub record Filled (size count : ℕ) (numbers was is : List ℕ) : Type 0 where
+  pub whole-rows : length numbers ≡ size * count
+  pub room : length numbers ≤ length was
+  pub then-zeros : is ≡ numbers ++ replicate (length was - length numbers) 0
+
+-- what an accepted call leaves, where s is to be written
+pub record Written (s : Sheets) (b : Buffers) (r : Result) : Type 0 where
+  pub trees : Filled TREE-ROW (r .answer .trees) (s .trees) (b .trees) (r .buffers .trees)
+  pub errors : Filled ERROR-ROW (r .answer .errors) (s .errors) (b .errors) (r .buffers .errors)
+  pub reports : Filled REPORT-ROW (r .answer .reports) (s .reports) (b .reports) (r .buffers .reports)
+  pub pool : Filled 1 (r .answer .expectations) (s .pool) (b .pool) (r .buffers .pool)
+  pub events : r .buffers .events ≡ zeros (b .events)
+
+-- what a refusal from 5 on leaves
+pub record All-zero (b : Buffers) (r : Result) : Type 0 where
+  pub events : r .buffers .events ≡ zeros (b .events)
+  pub trees : r .buffers .trees ≡ zeros (b .trees)
+  pub errors : r .buffers .errors ≡ zeros (b .errors)
+  pub reports : r .buffers .reports ≡ zeros (b .reports)
+  pub pool : r .buffers .pool ≡ zeros (b .pool)
+
+pub record Same-lengths (b : Buffers) (r : Result) : Type 0 where
+  pub events : length (r .buffers .events) ≡ length (b .events)
+  pub trees : length (r .buffers .trees) ≡ length (b .trees)
+  pub errors : length (r .buffers .errors) ≡ length (b .errors)
+  pub reports : length (r .buffers .reports) ≡ length (b .reports)
+  pub pool : length (r .buffers .pool) ≡ length (b .pool)
+
+pub record No-counts (r : Result) : Type 0 where
+  pub trees : r .answer .trees ≡ 0
+  pub errors : r .answer .errors ≡ 0
+  pub reports : r .answer .reports ≡ 0
+  pub expectations : r .answer .expectations ≡ 0
+
+-- n, tk, b: a call's entry, token numbers and buffers. r: what it returns.
+pub record Returns (n : ℕ) (tk : List ℕ) (b : Buffers) (r : Result) : Type 0 where
+  pub at-most-8 : r .answer .number ≤ 8
+  pub accepted : r .answer .number ≡ 0 → (e : Entry) × (entry-number e ≡ n) × Written (to-write e tk) b r
+  pub as-it-was : 1 ≤ r .answer .number → r .answer .number ≤ 4 → r .buffers ≡ b
+  pub all-zero : 5 ≤ r .answer .number → All-zero b r
+  pub no-counts : 1 ≤ r .answer .number → No-counts r
+  -- a place other than 0 comes with 3 to 7 only
+  pub no-place : ¬ ((3 ≤ r .answer .number) × (r .answer .number ≤ 7)) → r .answer .place ≡ 0
+  pub lengths : Same-lengths b r
+
+abbrev pub Answered : Type 0
+Answered = (n : ℕ) (bs tk : List ℕ) (b : Buffers) → Returns n tk b (Call.call n bs tk b)

@@ -1,0 +1,158 @@
+-- REFUSALS: document 01's table of causes. Each of the numbers 0 to 8 is returned, with its place, if and only if its condition holds.
+-- It shuts out refusing everything, a limit that is one off, "does not fit" before a buffer is used up, and causes tried in another order.
+use Prim.Native.Nat.{ℕ, suc, _+_, _-_, _*_, _≤_}
+use mathlib.Core.Path.{_≡_}
+use mathlib.Core.Logic.{_↔_}
+use mathlib.Core.List.{List, [], _∷_}
+use lib.ListN.{length, take, drop}
+use Rattle.definitions.specs.Layout.{EVENT-ROW, REPORT-ROW}
+use Rattle.definitions.specs.TokenKind as K
+use Rattle.definitions.specs.Token.{Token, tokens-of, bytes}
+use Rattle.definitions.specs.StaticText.{static-texts}
+use Rattle.definitions.specs.Grammar.{Entry, SourceFile, ReferenceNoamp, PropValues, Cells}
+use Rattle.definitions.specs.Call.{Buffers, Sheets, sheets, run-entry}
+use Rattle.definitions.specs.Call as Call
+use Rattle.refusals.specs.First.{Each, First}
+use Rattle.refusals.specs.Trace.{Happening, call-opened, expectation-pushed, event-pushed, report-written, trace}
+
+-- ---------------------------------------------------------------- document 01's limits
+
+-- Written out, and not cited from the definitions: another number there would otherwise change the statement with it.
+abbrev pub MAX-BYTES : ℕ
+MAX-BYTES = 1048576
+
+abbrev pub MAX-NUMBERS : ℕ
+MAX-NUMBERS = 131072
+
+abbrev pub MAX-OPEN : ℕ
+MAX-OPEN = 64
+
+abbrev pub MAX-PENDING : ℕ
+MAX-PENDING = 256
+
+-- ---------------------------------------------------------------- causes 1 to 4: what passes each of them
+
+-- 1: the entries by number
+abbrev pub entry-number : Entry → ℕ
+entry-number SourceFile = 1
+entry-number ReferenceNoamp = 2
+entry-number PropValues = 3
+entry-number Cells = 4
+
+abbrev pub Past-1 : ℕ → Entry → Type 0
+Past-1 n e = entry-number e ≡ n
+
+-- 2: the sizes
+abbrev pub Sizes : List ℕ → List ℕ → Type 0
+Sizes bs tk = (length bs ≤ MAX-BYTES) × (length tk ≤ MAX-NUMBERS)
+
+abbrev pub Past-2 : ℕ → List ℕ → List ℕ → Entry → Type 0
+Past-2 n bs tk e = Past-1 n e × Sizes bs tk
+
+-- 3: a kind that may be input
+pub data Input-kind (k : ℕ) : Type 0 where
+  a-token : k ≤ 60 → ¬ (k ≡ K.Unrecognized) → ¬ (k ≡ K.Name) → Input-kind k
+  a-lexical-error : 64 ≤ k → k ≤ 74 → Input-kind k
+
+-- a row, after other rows: its kind, its length, and its end within the input
+pub record Good-row (bs : List ℕ) (before : List Token) (t : Token) : Type 0 where
+  pub kind : Input-kind (t .kind)
+  pub not-empty : 1 ≤ t .len
+  pub ends-inside : bytes before + t .len ≤ length bs
+
+-- no number is left over, and the rows cover the input
+abbrev pub Covers : List ℕ → List ℕ → Type 0
+Covers bs tk = (length tk ≡ 2 * length (tokens-of tk)) × (bytes (tokens-of tk) ≡ length bs)
+
+abbrev pub Past-3 : ℕ → List ℕ → List ℕ → Entry → Type 0
+Past-3 n bs tk e = Past-2 n bs tk e × Each (Good-row bs) (tokens-of tk) × Covers bs tk
+
+-- 4: where the table of static texts has a text for the row's kind, that is what the row's bytes are
+abbrev pub Right-text : List ℕ → List Token → Token → Type 0
+Right-text bs before t = Each (λ above entry. entry .kind ≡ t .kind → take (t .len) (drop (bytes before) bs) ≡ entry .text) static-texts
+
+abbrev pub Past-4 : ℕ → List ℕ → List ℕ → Entry → Type 0
+Past-4 n bs tk e = Past-3 n bs tk e × Each (Right-text bs) (tokens-of tk)
+
+-- ---------------------------------------------------------------- causes 5 to 8: the limits and the room
+
+unfoldable pub events-in : List Happening → ℕ
+events-in [] = 0
+events-in (call-opened c m ∷ l) = events-in l
+events-in (expectation-pushed c m ∷ l) = events-in l
+events-in (event-pushed m ∷ l) = suc (events-in l)
+events-in (report-written c m ∷ l) = events-in l
+
+unfoldable pub reports-in : List Happening → ℕ
+reports-in [] = 0
+reports-in (call-opened c m ∷ l) = reports-in l
+reports-in (expectation-pushed c m ∷ l) = reports-in l
+reports-in (event-pushed m ∷ l) = reports-in l
+reports-in (report-written c m ∷ l) = suc (reports-in l)
+
+unfoldable pub expectations-in : List Happening → ℕ
+expectations-in [] = 0
+expectations-in (call-opened c m ∷ l) = expectations-in l
+expectations-in (expectation-pushed c m ∷ l) = expectations-in l
+expectations-in (event-pushed m ∷ l) = expectations-in l
+expectations-in (report-written c m ∷ l) = c + expectations-in l
+
+-- What happens breaks no limit and fits: with this one the open calls are at most 64, the pending expectations at most 256; with those
+-- before it the event rows, the report rows and the expectations written are no more than their buffer holds.
+abbrev pub Allowed : Buffers → List Happening → Happening → Type 0
+Allowed b before (call-opened c m) = c ≤ MAX-OPEN
+Allowed b before (expectation-pushed c m) = c ≤ MAX-PENDING
+Allowed b before (event-pushed m) = EVENT-ROW * suc (events-in before) ≤ length (b .events)
+Allowed b before (report-written c m) = (REPORT-ROW * suc (reports-in before) ≤ length (b .reports)) × (expectations-in before + c ≤ length (b .pool))
+
+abbrev pub happens : Entry → List ℕ → List Happening
+happens e tk = trace MAX-OPEN e (tokens-of tk)
+
+-- a mark counted from the start
+abbrev pub from-start : List ℕ → ℕ → ℕ
+from-start tk m = length (tokens-of tk) - m
+
+-- what a file's run gives to write
+abbrev pub to-write : Entry → List ℕ → Sheets
+to-write e tk = sheets e (tokens-of tk) (run-entry e (tokens-of tk))
+
+-- the tree rows and the lexical errors fit
+abbrev pub Tree-fits : Entry → List ℕ → Buffers → Type 0
+Tree-fits e tk b = (length (to-write e tk .trees) ≤ length (b .trees)) × (length (to-write e tk .errors) ≤ length (b .errors))
+
+-- ---------------------------------------------------------------- the table
+
+-- the first of what happens that is not allowed
+abbrev pub First-met : Entry → List ℕ → Buffers → List Happening → Happening → Type 0
+First-met e tk b before x = First (Allowed b) (happens e tk) before x
+
+-- the condition for each number and place, in document 01's order and words
+pub data Cause (n : ℕ) (bs tk : List ℕ) (b : Buffers) : ℕ → ℕ → Type 0 where
+  -- entry not 1 to 4
+  unknown-entry : ¬ ((1 ≤ n) × (n ≤ 4)) → Cause n bs tk b 1 0
+  -- over 1,048,576 bytes or 131,072 token numbers
+  over-size : (e : Entry) → Past-1 n e → ¬ Sizes bs tk → Cause n bs tk b 2 0
+  -- a row with a bad kind, length 0 or an end past the input: the first bad row
+  bad-row : (e : Entry) → Past-2 n bs tk e → (before : List Token) (t : Token) → First (Good-row bs) (tokens-of tk) before t → Cause n bs tk b 3 (length before)
+  -- odd numbers or a short total: the count of whole rows
+  odd-or-short : (e : Entry) → Past-2 n bs tk e → Each (Good-row bs) (tokens-of tk) → ¬ Covers bs tk → Cause n bs tk b 3 (length (tokens-of tk))
+  -- bytes of a kind with a static text differ from it: the first such row
+  wrong-text : (e : Entry) → Past-3 n bs tk e → (before : List Token) (t : Token) → First (Right-text bs) (tokens-of tk) before t → Cause n bs tk b 4 (length before)
+  -- a 65th open call
+  call-too-many : (e : Entry) → Past-4 n bs tk e → (before : List Happening) (m : ℕ) → First-met e tk b before (call-opened (suc MAX-OPEN) m) → Cause n bs tk b 5 (from-start tk m)
+  -- a 257th pending expectation
+  expectation-too-many : (e : Entry) → Past-4 n bs tk e → (before : List Happening) (m : ℕ) → First-met e tk b before (expectation-pushed (suc MAX-PENDING) m) → Cause n bs tk b 5 (from-start tk m)
+  -- the next event does not fit
+  no-event-room : (e : Entry) → Past-4 n bs tk e → (before : List Happening) (m : ℕ) → First-met e tk b before (event-pushed m) → Cause n bs tk b 6 (from-start tk m)
+  -- a report row or its expectations do not fit
+  no-report-room : (e : Entry) → Past-4 n bs tk e → (before : List Happening) (c m : ℕ) → First-met e tk b before (report-written c m) → Cause n bs tk b 7 (from-start tk m)
+  -- the tree or the lexical errors do not fit
+  no-tree-room : (e : Entry) → Past-4 n bs tk e → Each (Allowed b) (happens e tk) → ¬ Tree-fits e tk b → Cause n bs tk b 8 0
+  -- accepted
+  none : (e : Entry) → Past-4 n bs tk e → Each (Allowed b) (happens e tk) → Tree-fits e tk b → Cause n bs tk b 0 0
+
+-- for every call, each number with each place: returned if and only if its cause is there
+abbrev pub Refusals : Type 0
+Refusals =
+    (n : ℕ) (bs tk : List ℕ) (b : Buffers) (number place : ℕ)
+    → ((Call.call n bs tk b .answer .number ≡ number) × (Call.call n bs tk b .answer .place ≡ place)) ↔ Cause n bs tk b number place

@@ -1,0 +1,60 @@
+#include "parse.h"
+#include <stdlib.h>
+#include <string.h>
+
+enum { EVENTS, TREES, ERRORS, REPORTS, POOL };
+
+static int grow(struct numbers *n)
+{
+    size_t len = 2 * n->len + 64;
+    uint32_t *at = (uint32_t *)realloc(n->at, len * sizeof *at);
+    if (!at)
+        return 0;
+    n->at = at;
+    n->len = len;
+    return 1;
+}
+
+static struct dt_answer call(const struct input *in, const struct numbers *b)
+{
+    return dt_parse(in->entry, in->bytes, in->bytes_len, (const uint32_t *)in->tokens, DT_ROW_TOKEN * in->tokens_count,
+                    b[EVENTS].at, b[EVENTS].len, b[TREES].at, b[TREES].len, b[ERRORS].at, b[ERRORS].len, b[REPORTS].at,
+                    b[REPORTS].len, b[POOL].at, b[POOL].len);
+}
+
+/* Starts with no room at all, and grows what a refusal names. The bounds DT_..._FOR end this for every input. */
+int parse(const struct input *in, struct parsed *out)
+{
+    struct numbers *b = out->buffers;
+    int room = 1;
+    memset(out, 0, sizeof *out);
+    while (room) {
+        out->answer = call(in, b);
+        switch (out->answer.number) {
+        case DT_REFUSAL_NO_EVENT_ROOM:
+            room = grow(&b[EVENTS]);
+            break;
+        case DT_REFUSAL_NO_REPORT_ROOM:
+            room = grow(&b[REPORTS]) && grow(&b[POOL]);
+            break;
+        case DT_REFUSAL_NO_TREE_ROOM:
+            room = grow(&b[TREES]) && grow(&b[ERRORS]);
+            break;
+        default:
+            out->trees = (const struct dt_tree_row *)b[TREES].at;
+            out->errors = (const struct dt_error_row *)b[ERRORS].at;
+            out->reports = (const struct dt_report_row *)b[REPORTS].at;
+            out->pool = b[POOL].at;
+            return 1;
+        }
+    }
+    return 0;
+}
+
+void free_parsed(struct parsed *out)
+{
+    size_t i;
+    for (i = 0; i < sizeof out->buffers / sizeof *out->buffers; i++)
+        free(out->buffers[i].at);
+    memset(out, 0, sizeof *out);
+}

@@ -1,0 +1,35 @@
+/* A call in buffers that grow. */
+#ifndef PARSE_H
+#define PARSE_H
+
+#include "dt_parser.h"
+
+struct input {
+    uint32_t entry;
+    const uint8_t *bytes;
+    size_t bytes_len;
+    const struct dt_token_row *tokens;
+    size_t tokens_count;
+};
+
+/* `len` numbers at `at`. */
+struct numbers {
+    uint32_t *at;
+    size_t len;
+};
+
+/* What a call gave. The rows are those that the answer counts, and lie in the buffers. */
+struct parsed {
+    struct dt_answer answer;
+    const struct dt_tree_row *trees;
+    const struct dt_error_row *errors;
+    const struct dt_report_row *reports;
+    const uint32_t *pool;
+    struct numbers buffers[5];
+};
+
+/* 0 if there was no memory. free_parsed is due in every case. */
+int parse(const struct input *in, struct parsed *out);
+void free_parsed(struct parsed *out);
+
+#endif

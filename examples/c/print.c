@@ -1,0 +1,174 @@
+#include "print.h"
+#include "dt_names.h"
+#include <stdio.h>
+#include <stdlib.h>
+#include <string.h>
+
+static void print_text(const uint8_t *bytes, size_t from, size_t to)
+{
+    for (; from < to; from++) {
+        if (bytes[from] == '\n')
+            fputs("\\n", stdout);
+        else if (bytes[from] == '\t')
+            fputs("\\t", stdout);
+        else if (bytes[from] == '"' || bytes[from] == '\\')
+            printf("\\%c", bytes[from]);
+        else if (bytes[from] < 32 || bytes[from] > 126)
+            printf("\\x%02x", bytes[from]);
+        else
+            putchar(bytes[from]);
+    }
+}
+
+static void indent(size_t depth)
+{
+    for (; depth > 0; depth--)
+        fputs("  ", stdout);
+}
+
+/* Prints a row that starts at this byte, and gives the byte that the next row starts at. */
+static size_t print_row(const struct input *in, const struct dt_tree_row *row, size_t at)
+{
+    size_t end = at + row->width;
+    if (row->class_ == DT_CLASS_NODE) {
+        printf("%s@%zu..%zu\n", dt_node_name(row->kind), at, end);
+        return at;
+    }
+    printf("%s@%zu..%zu \"", dt_token_name(row->kind), at, end);
+    print_text(in->bytes, at, end);
+    puts("\"");
+    return end;
+}
+
+/* A tree can be as deep as it has rows, so this does not call itself. left[d]: children still to come at depth d. */
+int print_tree(const struct input *in, const struct parsed *p)
+{
+    size_t depth = 0, at = 0, i;
+    uint32_t *left = (uint32_t *)malloc((p->answer.trees + 1) * sizeof *left);
+    if (!left)
+        return 0;
+    for (i = 0; i < p->answer.trees; i++) {
+        const struct dt_tree_row *row = &p->trees[i];
+        indent(depth);
+        at = print_row(in, row, at);
+        if (row->class_ == DT_CLASS_NODE)
+            left[depth++] = row->count;
+        else if (depth > 0)
+            left[depth - 1]--;
+        /* a node without children left ends, and is a child of the one above it */
+        while (depth > 0 && left[depth - 1] == 0) {
+            depth--;
+            if (depth > 0)
+                left[depth - 1]--;
+        }
+    }
+    free(left);
+    return 1;
+}
+
+/* Where the bytes before a node's brace end, without the blanks before it. The node starts at byte `at`. */
+static size_t head_end(const struct input *in, const struct parsed *p, size_t node, size_t at)
+{
+    size_t child = node + 1, start = at;
+    uint32_t i;
+    for (i = 0; i < p->trees[node].count; i++) {
+        const struct dt_tree_row *row = &p->trees[child];
+        if (row->class_ == DT_CLASS_LEAF && row->kind == DT_TOKEN_LCURLY)
+            break;
+        at += row->width;
+        child = dt_after_subtree(p->trees, p->answer.trees, child);
+    }
+    while (at > start && strchr(" \t\r\n", in->bytes[at - 1]))
+        at--;
+    return at;
+}
+
+/* The children of a row that starts at this byte. It calls itself for a node in a node, which is at most
+   DT_MAX_OPEN_CALLS deep. */
+static void print_children(const struct input *in, const struct parsed *p, size_t parent, size_t at, size_t depth)
+{
+    size_t child = parent + 1;
+    uint32_t i;
+    for (i = 0; i < p->trees[parent].count; i++) {
+        const struct dt_tree_row *row = &p->trees[child];
+        if (row->class_ == DT_CLASS_NODE && row->kind == DT_NODE_DT_NODE) {
+            indent(depth + 1);
+            print_text(in->bytes, at, head_end(in, p, child, at));
+            putchar('\n');
+            print_children(in, p, child, at, depth + 1);
+        }
+        at += row->width;
+        child = dt_after_subtree(p->trees, p->answer.trees, child);
+    }
+}
+
+void print_nodes(const struct input *in, const struct parsed *p)
+{
+    puts("nodes:");
+    print_children(in, p, 0, 0, 0);
+}
+
+/* The words for the first token from this index on that is not trivia; NULL at the end of the input. */
+static const char *found_text(const struct input *in, size_t token)
+{
+    for (; token < in->tokens_count; token++)
+        switch (in->tokens[token].kind) {
+        case DT_TOKEN_WHITESPACE:
+        case DT_TOKEN_BLOCK_COMMENT:
+        case DT_TOKEN_LINE_COMMENT:
+            break;
+        default:
+            if (in->tokens[token].kind >= DT_TOKEN_FIRST_LEX_ERROR)
+                return dt_token_text(DT_TOKEN_UNRECOGNIZED);
+            return dt_token_text(in->tokens[token].kind);
+        }
+    return NULL;
+}
+
+/* Whether the code at this place of a list stands in it before. */
+static int is_repeat(const uint32_t *codes, uint32_t at)
+{
+    uint32_t i;
+    for (i = 0; i < at; i++)
+        if (codes[i] == codes[at])
+            return 1;
+    return 0;
+}
+
+/* ` A, B or C, but found D`, each expectation once. */
+static void print_expected(const struct input *in, const struct parsed *p, const struct dt_report_row *report)
+{
+    const uint32_t *codes = p->pool + report->pool_first;
+    const char *found = found_text(in, report->mark);
+    uint32_t i, last = 0;
+    for (i = 0; i < report->pool_count; i++)
+        if (!is_repeat(codes, i))
+            last = i;
+    for (i = 0; i < report->pool_count; i++)
+        if (!is_repeat(codes, i))
+            printf("%s%s", i == 0 ? " " : i == last ? " or " : ", ", dt_expected_text(codes[i]));
+    if (found)
+        printf(", but found %s", found);
+    else
+        printf(", but reached end of input");
+}
+
+void print_messages(const struct input *in, const struct parsed *p)
+{
+    size_t i;
+    for (i = 0; i < p->answer.errors; i++) {
+        const struct dt_error_row *error = &p->errors[i];
+        printf("%u..%u: %s\n", error->start, error->end, dt_lex_error_text(error->number));
+    }
+    for (i = 0; i < p->answer.reports; i++) {
+        const struct dt_report_row *report = &p->reports[i];
+        printf("%u..%u: %s", report->start, report->end, dt_message_text(report->message));
+        if (report->message == DT_MESSAGE_EXPECTED)
+            print_expected(in, p, report);
+        putchar('\n');
+        if (report->label_end != 0)
+            printf("  %u..%u: %s\n", report->label_start, report->label_end, dt_label_text(report->message));
+        if (report->hint != DT_HINT_NONE)
+            printf("  hint: %s\n", dt_hint_text(report->hint));
+    }
+}

@@ -1,0 +1,16 @@
+/* Prints what an accepted call gave. */
+#ifndef PRINT_H
+#define PRINT_H
+
+#include "parse.h"
+
+/* Every node and leaf with its range, each leaf with its text. 0 if there was no memory. */
+int print_tree(const struct input *in, const struct parsed *p);
+
+/* The devicetree nodes, each with what stands before its brace. */
+void print_nodes(const struct input *in, const struct parsed *p);
+
+/* Lexical errors and reports, in the words of dt-tools. */
+void print_messages(const struct input *in, const struct parsed *p);
+
+#endif

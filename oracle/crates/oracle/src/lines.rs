@@ -1,0 +1,115 @@
+//! Answers as lines of text; ../../../README.md has their form.
+use crate::case::{Caps, Rows, esc};
+use crate::checks::bad_input;
+use crate::doc01::{ROW, Run, first_misfit};
+use crate::parsed::Parsed;
+use crate::parsers::{patched, rust};
+use parser_doc01::record;
+use std::fmt::Write;
+
+/// Which of the Rust's lines are written beside errors and reports.
+pub struct Opts {
+    pub toks: bool,
+    pub tree: bool,
+    pub pretty: bool,
+}
+
+/// The Rust's answer.
+pub fn of_rust(entry: u32, toks: &Rows, text: &str, opts: &Opts, out: &mut String) {
+    answer(rust::parse(entry, toks, text), toks, opts, out)
+}
+
+/// The patched copy's answer in the Rust's lines, to be compared with the Rust's own.
+pub fn of_patched(entry: u32, toks: &Rows, text: &str, opts: &Opts, unit_immediate: bool, out: &mut String) {
+    record::reset(unit_immediate);
+    answer(patched::parse(entry, toks, text).map(|p| p.0), toks, opts, out)
+}
+
+/// Lines T, R, X, E and L, or PANIC.
+fn answer(parsed: Result<Parsed, String>, toks: &Rows, opts: &Opts, out: &mut String) {
+    if opts.toks {
+        for t in toks {
+            writeln!(out, "T {} {}", t.0, t.1).unwrap()
+        }
+    }
+    let p = match parsed {
+        Ok(p) => p,
+        Err(text) => return panicked(&text, out),
+    };
+    if opts.tree {
+        let mut tree = vec![];
+        let taken = p.tree_rows(toks, &mut tree);
+        write_rows('R', ROW[1], &tree, out);
+        if taken != toks.len() {
+            writeln!(out, "NOT LOSSLESS: {taken} of {} tokens", toks.len()).unwrap()
+        }
+    }
+    if opts.pretty {
+        out.push_str(&p.green.print_tree())
+    }
+    write_rows('X', ROW[2], &p.lexical, out);
+    for r in &p.reports {
+        writeln!(out, "E {} {} {}", r.range.start, r.range.end, r.message).unwrap();
+        for (t, m) in &r.labels {
+            writeln!(out, "L {} {} {m}", t.start, t.end).unwrap()
+        }
+    }
+}
+
+fn panicked(text: &str, out: &mut String) {
+    writeln!(out, "PANIC {}", esc(text.as_bytes())).unwrap()
+}
+
+fn refused((number, place): (u32, usize), out: &mut String) {
+    writeln!(out, "REFUSED {number} {place}").unwrap()
+}
+
+fn numbers(list: &[u32]) -> String {
+    list.iter().map(|n| format!(" {n}")).collect()
+}
+
+fn write_rows(letter: char, size: usize, rows: &[u32], out: &mut String) {
+    for row in rows.chunks_exact(size) {
+        writeln!(out, "{letter}{}", numbers(row)).unwrap()
+    }
+}
+
+/// Line S: the most that the run reached, and what it pushed before a limit of refusal 5 stopped it.
+fn write_stats(run: &Run, out: &mut String) {
+    let (most, [events, reports, pool]) = (record::most(), run.pushed);
+    write!(out, "S open {} pending {} steps {} ", most.open, most.pending, most.steps).unwrap();
+    writeln!(out, "events {events} reports {reports} pool {pool}").unwrap()
+}
+
+/// Document 01's answer by the patched copy: REFUSED, or OK with all rows. The entry and the lengths of input and token
+/// list (causes 1 and 2) are not looked at.
+pub fn of_doc01(entry: u32, toks: &Rows, bytes: &[u8], text: &str, unit_immediate: bool, caps: Caps, out: &mut String) {
+    if let Some(bad) = bad_input(toks.iter().copied(), false, bytes) {
+        return refused(bad, out);
+    }
+    let mut run = Run::default();
+    let parsed = run.of(entry, toks, text, unit_immediate);
+    write_stats(&run, out);
+    match (first_misfit(caps), parsed) {
+        (Some(misfit), _) => refused(misfit, out),
+        (None, Err(text)) => panicked(&text, out),
+        (None, Ok(_)) => match run.refusal(caps) {
+            Some(misfit) => refused(misfit, out),
+            None => accepted(&run, out),
+        },
+    }
+}
+
+/// Lines OK, R, X and P; a report's expectations stand after a bar.
+fn accepted(run: &Run, out: &mut String) {
+    let [tree, lexical, reports, pool] = &run.rows;
+    let (trees, errors, count) = (tree.len() / ROW[1], lexical.len() / ROW[2], reports.len() / ROW[3]);
+    writeln!(out, "OK 0 0 tree {trees} lexical {errors} reports {count} pool {}", pool.len()).unwrap();
+    write_rows('R', ROW[1], tree, out);
+    write_rows('X', ROW[2], lexical, out);
+    for row in reports.chunks_exact(ROW[3]) {
+        let first = row[4] as usize;
+        let codes = &pool[first..first + row[5] as usize];
+        writeln!(out, "P{} |{}", numbers(row), numbers(codes)).unwrap()
+    }
+}

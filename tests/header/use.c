@@ -1,0 +1,133 @@
+/* What a caller in C or C++ relies on, without the library: the structs lie over the rows, the names are there, and
+   dt_after_subtree goes from sibling to sibling. Compiled as C and as C++. */
+#include "dt_names.h"
+#include <stdio.h>
+#include <stdlib.h>
+#include <string.h>
+
+#define COLUMN(row, member, column) \
+    typedef char over_##row##_##member[offsetof(struct row, member) == (column) * sizeof(uint32_t) ? 1 : -1]
+
+COLUMN(dt_token_row, kind, DT_COL_TOKEN_KIND);
+COLUMN(dt_token_row, length, DT_COL_TOKEN_LENGTH);
+COLUMN(dt_tree_row, class_, DT_COL_TREE_CLASS);
+COLUMN(dt_tree_row, kind, DT_COL_TREE_KIND);
+COLUMN(dt_tree_row, width, DT_COL_TREE_WIDTH);
+COLUMN(dt_tree_row, count, DT_COL_TREE_COUNT);
+COLUMN(dt_error_row, number, DT_COL_ERROR_NUMBER);
+COLUMN(dt_error_row, start, DT_COL_ERROR_START);
+COLUMN(dt_error_row, end, DT_COL_ERROR_END);
+COLUMN(dt_report_row, message, DT_COL_REPORT_MESSAGE);
+COLUMN(dt_report_row, start, DT_COL_REPORT_START);
+COLUMN(dt_report_row, end, DT_COL_REPORT_END);
+COLUMN(dt_report_row, mark, DT_COL_REPORT_MARK);
+COLUMN(dt_report_row, pool_first, DT_COL_REPORT_POOL_FIRST);
+COLUMN(dt_report_row, pool_count, DT_COL_REPORT_POOL_COUNT);
+COLUMN(dt_report_row, hint, DT_COL_REPORT_HINT);
+COLUMN(dt_report_row, label_start, DT_COL_REPORT_LABEL_START);
+COLUMN(dt_report_row, label_end, DT_COL_REPORT_LABEL_END);
+
+#if DT_PARSER_VERSION < 100
+#error "the version cannot be compared"
+#endif
+
+enum { ROWS = 400 };
+
+static struct dt_tree_row rows[ROWS];
+static size_t ends[ROWS]; /* of each row, the row after its subtree, noted while the tree is made */
+static size_t made;
+static uint64_t state = 88172645463325252u;
+
+static void expect(int holds, const char *what)
+{
+    if (!holds) {
+        fprintf(stderr, "%s\n", what);
+        exit(1);
+    }
+}
+
+static uint32_t below(uint32_t n)
+{
+    state ^= state << 13;
+    state ^= state >> 7;
+    state ^= state << 17;
+    return (uint32_t)(state >> 32) % n;
+}
+
+/* A random subtree. A leaf's count is of tokens, and must not be taken for children. */
+static void make_subtree(uint32_t depth)
+{
+    size_t at = made++;
+    uint32_t i;
+    if (depth == 0 || made > ROWS / 2 || below(3) == 0) {
+        rows[at].class_ = DT_CLASS_LEAF;
+        rows[at].count = 1 + below(4);
+    } else {
+        rows[at].class_ = DT_CLASS_NODE;
+        rows[at].count = below(5);
+        for (i = 0; i < rows[at].count; i++)
+            make_subtree(depth - 1);
+    }
+    ends[at] = made;
+}
+
+static void check_trees(void)
+{
+    int turn;
+    size_t at;
+    for (turn = 0; turn < 20000; turn++) {
+        made = 0;
+        make_subtree(1 + below(8));
+        for (at = 0; at < made; at++)
+            expect(dt_after_subtree(rows, made, at) == ends[at], "dt_after_subtree: not the row after the subtree");
+    }
+    for (turn = 0; turn < 20000; turn++) {
+        size_t count = below(20);
+        for (at = 0; at < count; at++) {
+            rows[at].class_ = below(3);
+            rows[at].count = below(2) ? below(4) : 4294967295u;
+        }
+        for (at = 0; at <= count; at++)
+            expect(dt_after_subtree(rows, count, at) <= count, "dt_after_subtree: past the rows");
+    }
+}
+
+/* The numbers from first to last have names that differ from each other, and no other number has one. */
+static void check_names(const char *(*name)(uint32_t), uint32_t first, uint32_t last, const char *what)
+{
+    uint32_t n, other;
+    for (n = 0; n < 300; n++) {
+        expect((strcmp(name(n), "?") != 0) == (n >= first && n <= last), what);
+        for (other = first; other < n && n <= last; other++)
+            expect(strcmp(name(n), name(other)) != 0, what);
+    }
+    expect(strcmp(name(4294967295u), "?") == 0, what);
+}
+
+static void check_all_names(void)
+{
+    check_names(dt_entry_name, DT_ENTRY_SOURCE_FILE, DT_ENTRY_CELLS, "dt_entry_name");
+    check_names(dt_refusal_name, DT_ACCEPTED, DT_REFUSAL_NO_TREE_ROOM, "dt_refusal_name");
+    check_names(dt_refusal_text, DT_ACCEPTED, DT_REFUSAL_NO_TREE_ROOM, "dt_refusal_text");
+    check_names(dt_token_name, DT_TOKEN_WHITESPACE, DT_TOKEN_QUESTION_MARK, "dt_token_name");
+    check_names(dt_token_text, DT_TOKEN_WHITESPACE, DT_TOKEN_QUESTION_MARK, "dt_token_text");
+    check_names(dt_lex_error_name, DT_TOKEN_FIRST_LEX_ERROR, DT_TOKEN_LAST_LEX_ERROR, "dt_lex_error_name");
+    check_names(dt_lex_error_text, DT_TOKEN_FIRST_LEX_ERROR, DT_TOKEN_LAST_LEX_ERROR, "dt_lex_error_text");
+    check_names(dt_node_name, DT_NODE_SOURCE_FILE, DT_NODE_MACRO_ARGUMENT, "dt_node_name");
+    check_names(dt_message_name, DT_MESSAGE_EXPECTED, DT_MESSAGE_UNCLOSED_NODE, "dt_message_name");
+    check_names(dt_message_text, DT_MESSAGE_EXPECTED, DT_MESSAGE_UNCLOSED_NODE, "dt_message_text");
+    check_names(dt_hint_name, DT_HINT_NONE, DT_HINT_MISSING_LEFT_SIDE, "dt_hint_name");
+    check_names(dt_hint_text, DT_HINT_NONE, DT_HINT_MISSING_LEFT_SIDE, "dt_hint_text");
+    expect(strcmp(dt_expected_name(DT_EXPECTED_END), "End") == 0, "dt_expected_name");
+    expect(strcmp(dt_expected_text(DT_TOKEN_COMMA), dt_token_text(DT_TOKEN_COMMA)) == 0, "dt_expected_text");
+    expect(strcmp(dt_expected_text(100), "?") == 0 && strcmp(dt_expected_text(109), "?") == 0, "dt_expected_text");
+    expect(strcmp(dt_label_text(DT_MESSAGE_UNCLOSED_NODE), "") != 0, "dt_label_text");
+    expect(strcmp(dt_label_text(DT_MESSAGE_EXPECTED), "") == 0, "dt_label_text");
+}
+
+int main(void)
+{
+    check_trees();
+    check_all_names();
+    return 0;
+}

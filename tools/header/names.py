@@ -1,0 +1,211 @@
+"""The text of include/dt_names.h: for each number of dt_parser.h its name and, where the Rust has one, its text."""
+import re
+
+from header.sources import RUST, SPECS, plain
+
+LEXER, ERRORS = RUST + "lexer.rs", RUST + "parser/errors.rs"
+GRAMMAR, EXPR, DIRECTIVES = RUST + "grammar.rs", RUST + "grammar/expr.rs", RUST + "grammar/preprocessor_directive.rs"
+
+# Where the Rust makes each message and hint of Errors.antt: file, function, and which of the function's, from 0.
+MESSAGES = {
+    "unmatched-rcurly": (GRAMMAR, "entry_sourcefile", 0),
+    "unmatched-semicolon": (GRAMMAR, "item", 0),
+    "unmatched-endif": (DIRECTIVES, "catch_unmatched_pp_directive", 0),
+    "stray-continuation": (DIRECTIVES, "catch_unmatched_pp_directive", 1),
+    "at-sign-in-label": (GRAMMAR, "eat_node_or_prop_prefix", 0),
+    "unclosed-node": (GRAMMAR, "dt_node_body", 0),
+}
+HINTS = {
+    "unnamed-property": (GRAMMAR, "item", 0),
+    "unnamed-node": (GRAMMAR, "item", 1),
+    "missing-parentheses": (GRAMMAR, "eat_cell", 0),
+    "in-cells": (GRAMMAR, "cells", 0),
+    "property-not-allowed": (GRAMMAR, "eat_node_or_prop", 0),
+    "missing-left-side": (EXPR, "lhs", 0),
+}
+# The two codes of Errors.antt that the Rust has no text for.
+EXPECTED = "msg-expected"
+NO_HINT = "no-hint"
+
+TOP = """/*
+ * The numbers of dt_parser.h as text: their names, and the texts that dt-tools has for them.
+ *
+ * Written by tools/make-names from docs/src, docs/01-scope.md and crates/definitions: change those, not this file.
+ * tools/check-header compares.
+ *
+ * Names are those of docs/src where it has one (`Semicolon`), else those of the definitions (`unclosed-node`). Texts
+ * are UTF-8. No function returns NULL: for a number that has no name or text it is "?".
+ */
+#ifndef DT_NAMES_H
+#define DT_NAMES_H
+
+#include "dt_parser.h"
+
+#ifdef __cplusplus
+extern "C" {
+#endif
+"""
+
+MESSAGE_COMMENT = """The message; of DT_MESSAGE_EXPECTED its first word. The expectations follow it, each once:
+ * `Expected A, B or C, but found D`, or `.., but reached end of input` (examples/c/print.c)."""
+
+END = """
+#ifdef __cplusplus
+}
+#endif
+
+#endif
+"""
+
+
+class SourceFault(Exception):
+    """A source does not have what the header is made from."""
+
+
+# ---------------------------------------------------------------- texts of the sources
+
+
+def arms(repo, path, implementation, enum):
+    """The arms `ENUM::CASE => "TEXT"` of an implementation."""
+    body = between(repo.text(path), implementation, "\n}")
+    return dict(re.findall(r'%s::(\w+) => (?:f\.write_str\()?"([^"]*)"' % enum, body))
+
+
+def between(text, start, end):
+    at = text.find(start)
+    if at < 0:
+        raise SourceFault(f"nothing like {start}")
+    return text[at : text.index(end, at)]
+
+
+def doc_comments(repo, path, enum):
+    """The comment before each case of an enum."""
+    body = between(repo.text(path), "pub enum %s {" % enum, "\n}")
+    return {case: text for text, case in re.findall(r"/// (.*)\n(?:    #.*\n)*    (\w+),", body)}
+
+
+def said(repo, method, place):
+    """The text of the n-th call of a method in a function of the Rust."""
+    path, function, n = place
+    start = re.search(r"^(?:pub(?:\(super\))? )?fn %s\b" % function, repo.text(path), re.M)
+    body = repo.text(path)[start.start() :] if start else ""
+    found = re.findall(r'\.%s\((?:\w+, )?(?:[\w:]+\()?\s*"([^"]*)"' % method, body[: body.find("\n}")])
+    if len(found) <= n:
+        raise SourceFault(f"{path}: no {method} {n} in {function}")
+    return found[n]
+
+
+def all_said(repo, method, places):
+    """The texts of a table of places; each call of the method in the grammar must be in the table once."""
+    calls = sum(repo.text(path).count(f".{method}(") for path in (GRAMMAR, EXPR, DIRECTIVES))
+    if calls != len(places):
+        raise SourceFault(f"the Rust's grammar has {calls} calls of {method}, and {len(places)} are known")
+    return {name: said(repo, method, place) for name, place in places.items()}
+
+
+def chosen(codes, names):
+    missing = [name for name in names if name not in codes]
+    if missing:
+        raise SourceFault(f"{SPECS}Errors.antt: no {', '.join(missing)}")
+    return {name: codes[name] for name in names}
+
+
+def first_word(repo):
+    """What a message of expectations begins with."""
+    found = re.search(r'let mut message = "(\w+) "', repo.text(ERRORS))
+    if not found:
+        raise SourceFault(f"{ERRORS}: no first word of a message of expectations")
+    return found[1]
+
+
+def causes(repo):
+    """The causes of document 01's table, by the refusal's number."""
+    table = re.findall(r"^\| ([^|]+) \| (\d+) \| [^|]+ \| [^|]+ \|$", repo.text("docs/01-scope.md"), re.M)
+    return {int(number): cause for cause, number in table}
+
+
+# ---------------------------------------------------------------- the functions of the header
+
+
+def function(name, parameter, comment, cases, otherwise='"?"'):
+    """A C function that gives a text for each constant."""
+    head = f"static inline const char *{name}(uint32_t {parameter})"
+    lines = [f"\n/* {comment} */", head, "{", f"    switch ({parameter}) {{"]
+    lines += [f'    case {constant}: return "{escaped(text)}";' for constant, text in cases]
+    return "\n".join([*lines, f"    default: return {otherwise};", "    }", "}", ""])
+
+
+def escaped(text):
+    return text.replace("\\", "\\\\").replace('"', '\\"')
+
+
+class Names:
+    """Writes the header. constants: the names of dt_parser.h with their numbers."""
+
+    def __init__(self, repo, constants):
+        self.repo, self.constants = repo, constants
+
+    def cases(self, prefix, table, texts=None):
+        """The constants of a table of numbers in their order, each with its text; without texts, with its name."""
+        known = {plain(c[len(prefix) :]): c for c in self.constants if c.startswith(prefix)}
+        for name, number in sorted(table.items(), key=lambda item: item[1]):
+            constant = known.get(plain(name))
+            if constant is None or self.constants[constant] != number:
+                raise SourceFault(f"dt_parser.h has no {prefix}.. for {name} = {number}")
+            if texts is not None and name not in texts:
+                raise SourceFault(f"no text for {name}")
+            yield constant, name if texts is None else texts[name]
+
+    def calls(self):
+        entries, refusals, cause = self.repo.entries(), self.repo.refusals(), causes(self.repo)
+        accepted = [("DT_ACCEPTED", "accepted")]
+        texts = {name: cause.get(number, "?") for name, number in refusals.items()}
+        yield function("dt_entry_name", "entry", "What is parsed, of enum dt_entry.", self.cases("DT_ENTRY_", entries))
+        yield function("dt_refusal_name", "number", "Why a call was refused, of enum dt_refusal.",
+                       [*accepted, *self.cases("DT_REFUSAL_", refusals)])
+        yield function("dt_refusal_text", "number", "The cause as document 01 has it.",
+                       [*accepted, *self.cases("DT_REFUSAL_", refusals, texts)])
+
+    def kinds(self):
+        repo = self.repo
+        tokens, errors = repo.rust_enum(LEXER, "TokenKind", 0), repo.rust_enum(LEXER, "LexError", 64)
+        words = arms(repo, LEXER, "impl core::fmt::Display for TokenKind", "TokenKind")
+        yield function("dt_token_name", "kind", "A token's kind, of enum dt_token.", self.cases("DT_TOKEN_", tokens))
+        yield function("dt_token_text", "kind", "The words for it in a message, with quotes where dt-tools has them.",
+                       self.cases("DT_TOKEN_", tokens, words))
+        yield function("dt_lex_error_name", "number", "A lexical error, of enum dt_lex_error.",
+                       self.cases("DT_LEX_ERROR_", errors))
+        yield function("dt_lex_error_text", "number", "The message for it.",
+                       self.cases("DT_LEX_ERROR_", errors, doc_comments(repo, LEXER, "LexError")))
+        yield function("dt_node_name", "kind", "A node's kind, of enum dt_node.",
+                       self.cases("DT_NODE_", repo.rust_enum(RUST + "cst.rs", "NodeKind", 0)))
+
+    def reports(self):
+        codes = self.repo.spec(SPECS + "Errors.antt")
+        texts = all_said(self.repo, "msg_custom", MESSAGES)
+        texts["expected"] = first_word(self.repo)
+        messages = {"expected": chosen(codes, [EXPECTED])[EXPECTED], **chosen(codes, MESSAGES)}
+        hints = {"none": chosen(codes, [NO_HINT])[NO_HINT], **chosen(codes, HINTS)}
+        label = said(self.repo, "add_span_label", (GRAMMAR, "dt_node_body", 0))
+        yield function("dt_message_name", "message", "A report's message, of enum dt_message.",
+                       self.cases("DT_MESSAGE_", messages))
+        yield function("dt_message_text", "message", MESSAGE_COMMENT, self.cases("DT_MESSAGE_", messages, texts))
+        yield function("dt_label_text", "message", "What a message says at its label; empty for one that has no label.",
+                       [("DT_MESSAGE_UNCLOSED_NODE", label)], '""')
+        yield function("dt_hint_name", "hint", "A report's hint, of enum dt_hint.", self.cases("DT_HINT_", hints))
+        yield function("dt_hint_text", "hint", "What it adds to the message; empty for DT_HINT_NONE.",
+                       self.cases("DT_HINT_", hints, {"none": "", **all_said(self.repo, "add_hint", HINTS)}))
+
+    def expectations(self):
+        expected = self.repo.rust_enum(ERRORS, "Expected", 100)
+        del expected["Kind"]
+        words = arms(self.repo, ERRORS, "impl core::fmt::Display for Expected", "Expected")
+        yield function("dt_expected_name", "code", "An expectation: of enum dt_expected, or a token's kind.",
+                       self.cases("DT_EXPECTED_", expected), "dt_token_name(code)")
+        yield function("dt_expected_text", "code", "The words for it in a message.",
+                       self.cases("DT_EXPECTED_", expected, words), "dt_token_text(code)")
+
+    def header(self):
+        return TOP + "".join([*self.calls(), *self.kinds(), *self.reports(), *self.expectations()]) + END
+
+

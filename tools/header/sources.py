@@ -1,0 +1,52 @@
+"""What the definitions, the code and the Rust say: tables from names to numbers, in their files' own spelling."""
+import pathlib
+import re
+
+SPECS = "crates/definitions/specs/"
+LAYOUT = "crates/layout/src/"
+RUST = "docs/src/crates/parser/src/"
+
+
+def plain(name):
+    """A name without its separators, so that QuestionMark, QUESTION_MARK and question-mark are one."""
+    return re.sub("[-_]", "", name).upper()
+
+
+def header_constants(text):
+    """The constants of a C header with their numbers, in order; one that stands twice is there twice."""
+    return [(name, int(number)) for name, number in re.findall(r"\b(DT_[A-Z0-9_]+) = (\d+)\b", text)]
+
+
+class Repository:
+    """The files under a root, read by what they are."""
+
+    def __init__(self, root):
+        self.root = pathlib.Path(root)
+
+    def text(self, path):
+        return (self.root / path).read_text()
+
+    def spec(self, path):
+        """The numbers of a file of definitions."""
+        return {n: int(v) for n, v in re.findall(r"^([\w-]+) = (\d+)$", self.text(path), re.M)}
+
+    def code(self, path):
+        """The constants of a file of code."""
+        return {n: int(v) for n, v in re.findall(r"\bconst (\w+): u\w+ = (\d+);", self.text(path))}
+
+    def rust_enum(self, path, name, first):
+        """The cases of one of the Rust's enums, numbered in their order."""
+        body = re.search(r"\benum %s \{\n(.*?)\n\}" % name, self.text(path), re.S)[1]
+        cases = re.findall(r"^    ([A-Z]\w*)(?:\([^)]*\))?,", body, re.M)
+        return {n: first + i for i, n in enumerate(cases)}
+
+    def entries(self):
+        """The entries of a call, by name."""
+        found = re.findall(r"eqb n (\d)\) \(for (\w+)\)", self.text(SPECS + "Call.antt"))
+        return {n: int(v) for v, n in found}
+
+    def refusals(self):
+        """The numbers of the refusals, by their names in the definitions."""
+        found = re.findall(r"^number-of \(?([\w-]+).*= ([A-Z-]+)$", self.text(SPECS + "Refusal.antt"), re.M)
+        numbers = self.spec(SPECS + "Layout.antt")
+        return {n: numbers[v] for n, v in found}
