@@ -1,6 +1,6 @@
 -- `eat_directive_with_arguments` is the walk of its program, step by step.
-use mathlib.Core.Bool.{false≢true}
 use Rattle.definitions.specs.TokenKind as K
+use mathlib.Core.Bool.{false≢true}
 use mathlib.Core.List.{[], _∷_}
 use native.Mathlib.Omega.{arith}
 use Rattle.definitions.specs.Check.{set, of-kind, eat-starting_inside_else_}

@@ -1,6 +1,6 @@
 -- `eat_dts_include` is the walk of its program, step by step.
-use mathlib.Core.Bool.{false≢true}
 use Rattle.definitions.specs.TokenKind as K
+use mathlib.Core.Bool.{false≢true}
 use mathlib.Core.List.{[]}
 use native.Mathlib.Omega.{arith}
 use Rattle.definitions.specs.Token.{tokens-of}

@@ -12,17 +12,17 @@ use Rattle.machine.specs.Machine.{Machine}
 use Rattle.machine.specs.Walk.{Walked, walk}
 use Rattle.machine.proofs.Way.{c-walk}
 use Rattle.parser.specs.View.{view, left, ans-of}
-use Rattle.steps.proofs.Left.{ahead-falls}
 use Rattle.steps.specs.View.{own-name, goes}
+use Rattle.steps.proofs.Left.{ahead-falls}
 use Rattle.steps.proofs.Steps.{went-told, ended-told, other-ends}
 use Rattle.prefixes.proofs.node_or_prop_prefix.labels_and_name.Statement.{statement}
 use Rattle.prefixes.proofs.node_or_prop_prefix.labels_and_name.Tie as tie
 
 abbrev Inv-loop : tie.InvT-loop
-Inv-loop codes₀ t events₀ reports₀ pool₀ allow q₀ codes events reports pool q = ((ask : Rule → Machine → Walked) (b : Span) → walk ask (tokens-of t) b (loop (prefix-turn (own-name allow))) (view q codes events reports pool) ≡ walk ask (tokens-of t) b (loop (prefix-turn (own-name allow))) (view q₀ codes₀ events₀ reports₀ pool₀)) × ((left t q ≤ left t q₀) × ((length events ≡ length events₀) × ((length reports ≡ length reports₀) × (length pool ≡ length pool₀))))
+Inv-loop codes₀ tokens events₀ reports₀ pool₀ allow q₀ codes events reports pool q = ((ask : Rule → Machine → Walked) (b : Span) → walk ask (tokens-of tokens) b (loop (prefix-turn (own-name allow))) (view q codes events reports pool) ≡ walk ask (tokens-of tokens) b (loop (prefix-turn (own-name allow))) (view q₀ codes₀ events₀ reports₀ pool₀)) × ((left tokens q ≤ left tokens q₀) × ((length events ≡ length events₀) × ((length reports ≡ length reports₀) × (length pool ≡ length pool₀))))
 
 abbrev μ-loop : tie.MeasureT-loop
-μ-loop codes₀ t events₀ reports₀ pool₀ allow q₀ codes events reports pool q = left t q
+μ-loop codes₀ tokens events₀ reports₀ pool₀ allow q₀ codes events reports pool q = left tokens q
 
 loop-holds : tie.Need-loop-holds Inv-loop μ-loop
 loop-holds c = (λ ask b. refl, (le-refl _, (refl, (refl, refl))))
