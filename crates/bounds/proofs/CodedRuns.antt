@@ -7,6 +7,7 @@ use mathlib.Core.List.{List, [], _∷_}
 use lib.Dec.{ltb, eqb}
 use lib.ListN.{length}
 use borrow.Author.Tests.{ltb-true}
+use Rattle.definitions.specs.Layout.{MOST-OPEN-CALLS, MOST-PENDING}
 use Rattle.definitions.specs.TokenKind as K
 use Rattle.definitions.specs.Errors as E
 use Rattle.definitions.specs.Token.{Token, trivia, drop-trivia}
@@ -82,7 +83,7 @@ act-codes b (silent-at ks) e s = quiet _ s (peeked s) refl
 act-codes b at-end e s = quiet _ s (peeked s) refl
 act-codes b (immediate k) e s = quiet _ s s refl
 act-codes b (immediate-next k) e s = quiet _ s s refl
-act-codes b (add-expected k) e s = λ h. record { shape = omega arith; made = room-coded (ltb (length (s .pending)) 256) (mark-of s); pending = below-append CODES (s .pending) (k ∷ []) h (ltb-true _ _ e, tt) }
+act-codes b (add-expected k) e s = λ h. record { shape = omega arith; made = room-coded (ltb (length (s .pending)) MOST-PENDING) (mark-of s); pending = below-append CODES (s .pending) (k ∷ []) h (ltb-true _ _ e, tt) }
 act-codes b bump e s = bump-codes (peeked s) (drop-trivia (s .rest))
 act-codes b (bump-name ks) e s = name-codes ks (peeked s) (drop-trivia (s .rest))
 act-codes b bump-argument e s = argument-codes 0 s (s .rest)
@@ -162,4 +163,4 @@ run-codes (suc n) r s h = exec-codes (run n) (run-codes n) (grammar r) (grammar-
 -- EVERY CODE of an entry's run is below 256
 pub entry-coded : (e : Entry) (ts : List Token) → Coded (run-entry e ts)
 unfolding run-entry
-entry-coded e ts = exec-codes (run 64) (run-codes 64) (whole e) (whole-small e) no-label (taken ts) tt .made
+entry-coded e ts = exec-codes (run MOST-OPEN-CALLS) (run-codes MOST-OPEN-CALLS) (whole e) (whole-small e) no-label (taken ts) tt .made

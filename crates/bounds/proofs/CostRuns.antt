@@ -8,6 +8,7 @@ use mathlib.Core.List.{List}
 use lib.Dec.{leb}
 use lib.ListN.{length}
 use borrow.Author.Tests.{leb-true}
+use Rattle.definitions.specs.Layout.{MOST-OPEN-CALLS}
 use Rattle.definitions.specs.Token.{Token}
 use Rattle.definitions.specs.Skeleton.{no-label}
 use Rattle.definitions.specs.Prog.{Ans, no, yes, also, again, Rule}
@@ -60,8 +61,8 @@ module _ (w : Price) (one : 1 ≤ w .base) (worth : w .leaf ≤ w .credit) where
     pub entry-cost : (v : ℕ) (e : Entry) → ends v (bill w t (whole e)) ≡ true → (ts : List Token) → cost w (run-entry e ts) + w .base ≤ v + w .credit * length ts
     unfolding run-entry
     entry-cost v e h ts =
-        let o = exec (run 64) no-label (whole e) (taken ts) in
-        let f : Fits w (get (bill w t (whole e) .cold) (o .ans)) (taken ts) (o .state) (cost w (o .made)) = exec-fits w one t (run 64) (acts w one worth t) (run-fits 64) (whole e) (and-left _ (every (λ a κ. leb (get (bill w t (whole e) .cold) a κ) v)) h) no-label false (taken ts) tt in
+        let o = exec (run MOST-OPEN-CALLS) no-label (whole e) (taken ts) in
+        let f : Fits w (get (bill w t (whole e) .cold) (o .ans)) (taken ts) (o .state) (cost w (o .made)) = exec-fits w one t (run MOST-OPEN-CALLS) (acts w one worth t) (run-fits MOST-OPEN-CALLS) (whole e) (and-left _ (every (λ a κ. leb (get (bill w t (whole e) .cold) a κ) v)) h) no-label false (taken ts) tt in
         let c : get (bill w t (whole e) .cold) (o .ans) (f .key) ≤ v = leb-true _ _ (every-all (λ a κ. leb (get (bill w t (whole e) .cold) a κ) v) (and-right (bill w t (whole e) .ok) _ h) (o .ans) (f .key)) in
         let l : length (o .state .rest) + f .paid .steps ≡ length ts = f .paid .left in
         let m : w .credit * counted (f .key) (f .paid .steps) ≤ w .credit * length ts = mul-le-mul-left (w .credit) (le-trans (counted-le (f .key) (f .paid .steps)) (omega arith)) in

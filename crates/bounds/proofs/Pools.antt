@@ -7,6 +7,7 @@ use mathlib.Core.List.{List, [], _∷_, _++_}
 use lib.Dec.{ltb, eqb}
 use lib.ListN.{length, length-append}
 use borrow.Author.Tests.{ltb-true}
+use Rattle.definitions.specs.Layout.{MOST-PENDING}
 use Rattle.definitions.specs.Errors as E
 use Rattle.definitions.specs.Token.{Token}
 use Rattle.definitions.specs.Skeleton.{Skeleton, _⧺_}
@@ -24,7 +25,7 @@ use Rattle.laws.proofs.Kept.{Kept, whole-kept}
 abbrev pub Small : List Push → Type 0
 Small [] = Unit {0}
 Small (event m ∷ l) = Small l
-Small (reported r ∷ l) = (length (r .pool) ≤ 256) × Small l
+Small (reported r ∷ l) = (length (r .pool) ≤ MOST-PENDING) × Small l
 Small (exceeded m ∷ l) = Unit {0}
 
 -- what follows counts only if nothing before it was refused
@@ -35,13 +36,13 @@ small-append (reported r ∷ l) m p q = (p .0, small-append l m (p .1) q)
 small-append (exceeded x ∷ l) m p q = tt
 
 -- so of the pushes before a refusal
-pub few-expected : (l m : List Push) → Small (l ++ m) → Clear l → length (pool (reports l)) ≤ 256 * length (reports l)
+pub few-expected : (l m : List Push) → Small (l ++ m) → Clear l → length (pool (reports l)) ≤ MOST-PENDING * length (reports l)
 unfolding pool reports
 few-expected [] m s c = zero-le
 few-expected (event x ∷ l) m s c = few-expected l m s c
 few-expected (reported r ∷ l) m s c =
-    let h : length (pool (reports l)) ≤ 256 * length (reports l) = few-expected l m (s .1) c in
-    let f : length (r .pool) ≤ 256 = s .0 in
+    let h : length (pool (reports l)) ≤ MOST-PENDING * length (reports l) = few-expected l m (s .1) c in
+    let f : length (r .pool) ≤ MOST-PENDING = s .0 in
     simp length-append (omega arith)
 few-expected (exceeded x ∷ l) m s c = absurd c
 
@@ -49,17 +50,17 @@ few-expected (exceeded x ∷ l) m s c = absurd c
 
 -- from at most 256 pending to at most 256
 pub record Few (s : State) (p : Skeleton) (u : State) : Type 0 where
-  pub small : length (s .pending) ≤ 256 → Small (pushes p)
-  pub few : length (s .pending) ≤ 256 → Clear (pushes p) → length (u .pending) ≤ 256
+  pub small : length (s .pending) ≤ MOST-PENDING → Small (pushes p)
+  pub few : length (s .pending) ≤ MOST-PENDING → Clear (pushes p) → length (u .pending) ≤ MOST-PENDING
 
-room-few : (s : State) (u : State) (b : Bool) (m : ℕ) → ltb (length (s .pending)) 256 ≡ b → length (u .pending) ≡ suc (length (s .pending)) → Few s (over-unless b m) u
+room-few : (s : State) (u : State) (b : Bool) (m : ℕ) → ltb (length (s .pending)) MOST-PENDING ≡ b → length (u .pending) ≡ suc (length (s .pending)) → Few s (over-unless b m) u
 unfolding over-unless pushes
-room-few s u true m e l = let h : length (s .pending) < 256 = ltb-true _ _ e in record { small = λ _. tt; few = λ _ _. omega arith }
+room-few s u true m e l = let h : length (s .pending) < MOST-PENDING = ltb-true _ _ e in record { small = λ _. tt; few = λ _ _. omega arith }
 room-few s u false m e l = record { small = λ _. tt; few = λ _ c. absurd c }
 
-pool-few : (m : ℕ) (ks : List ℕ) → length ks ≤ 256 → length (pool-of m ks) ≤ 256
+pool-few : (m : ℕ) (ks : List ℕ) → length ks ≤ MOST-PENDING → length (pool-of m ks) ≤ MOST-PENDING
 unfolding pool-of
-pool-few m ks h = cond-all (λ (l : List ℕ). length l ≤ 256) (eqb m E.msg-expected) {x = ks} {y = []} h zero-le
+pool-few m ks h = cond-all (λ (l : List ℕ). length l ≤ MOST-PENDING) (eqb m E.msg-expected) {x = ks} {y = []} h zero-le
 
 few-join : (s u v : State) (p q : Skeleton) → Few s p u → Few u q v → Few s (p ⧺ q) v
 few-join s u v p q f g =
@@ -82,7 +83,7 @@ unfolding pushes
 few-kept =
     record {
       pass = λ s ts h p. record { small = λ _. tt; few = λ l _. l };
-      expect = λ s k h. room-few s _ (ltb (length (s .pending)) 256) (mark-of s) refl (simp length-append (omega arith));
+      expect = λ s k h. room-few s _ (ltb (length (s .pending)) MOST-PENDING) (mark-of s) refl (simp length-append (omega arith));
       token = λ s t ts h e d. record { small = λ _. tt; few = λ _ _. zero-le };
       name = λ s ks t raw ts h e d i. record { small = λ _. tt; few = λ _ _. zero-le };
       report = λ s m k l h d. record { small = λ f. (pool-few m (s .pending) f, tt); few = λ f _. f };

@@ -6,6 +6,7 @@ use mathlib.Core.List.{List, [], _∷_}
 use lib.Dec.{ltb, eqb}
 use lib.ListN.{length}
 use borrow.Author.Tests.{eqb-true}
+use Rattle.definitions.specs.Layout.{MOST-PENDING}
 use Rattle.definitions.specs.TokenKind as K
 use Rattle.definitions.specs.Prog.{Ans, no, yes, also, again, Act, silent-at, at-end, immediate, immediate-next, add-expected, bump, bump-name, bump-argument, emit, emit-unclosed, less}
 use Rattle.definitions.specs.Token.{Token, is-error, seen, trivia, drop-trivia, first-in, past, ended}
@@ -143,7 +144,7 @@ act-gives b at-end n m q s h =
 act-gives b (immediate k) n m q s h = by-truth (fact n m) (fact n m) (first-in (k ∷ []) (s .rest)) (q ⊞ end) s (λ _. still n m q s s refl h) (λ _. still n m q s s refl h)
 act-gives b (immediate-next k) n m q s h = by-truth (fact n m) (fact n m) (first-in (k ∷ []) (past (s .rest))) (q ⊞ end) s (λ _. still n m q s s refl h) (λ _. still n m q s s refl h)
 act-gives b (add-expected k) n m q s h =
-    subst (λ (x : Kinds). Known n m (q ⊞ x) (perform b (add-expected k) s .state)) (sym (room-made (ltb (length (s .pending)) 256) (mark-of s))) (still n m q s (perform b (add-expected k) s .state) refl h)
+    subst (λ (x : Kinds). Known n m (q ⊞ x) (perform b (add-expected k) s .state)) (sym (room-made (ltb (length (s .pending)) MOST-PENDING) (mark-of s))) (still n m q s (perform b (add-expected k) s .state) refl h)
 act-gives b bump n m q s h = unfold peeked in bump-gives n m q s (drop-trivia (s .rest)) refl h
 act-gives b (bump-name ks) n m q s h = unfold peeked in name-gives ks n m q s (drop-trivia (s .rest)) refl h
 act-gives b bump-argument n m q s h = argument-gives n m q s (do-argument 0 s (s .rest)) (argued 0 s (s .rest)) h

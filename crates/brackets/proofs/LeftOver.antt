@@ -6,6 +6,7 @@ use mathlib.Core.List.{List, [], _∷_, _++_}
 use lib.Dec.{ltb}
 use lib.ListN.{length}
 use borrow.Author.Tests.{lt-ltb}
+use Rattle.definitions.specs.Layout.{MOST-PENDING}
 use Rattle.definitions.specs.Errors as E
 use Rattle.definitions.specs.NodeKind as N
 use Rattle.definitions.specs.Token.{Token, seen, drop-trivia}
@@ -79,8 +80,8 @@ module _ (ask : Rule → State → Out) (b : Label) where
       let u : State = record { rest = t ∷ ts; since = s .since; pending = s .pending ++ (E.End ∷ []) } in
       let d : drop-trivia (t ∷ ts) ≡ t ∷ ts = ap drop-trivia (sym e) ∙ drop-twice (s .rest) ∙ e in
       let made = exec ask b (in-node N.ParseError inner) u .made in
-      let r = over-unless (ltb (length (s .pending)) 256) (mark-of s) in (
+      let r = over-unless (ltb (length (s .pending)) MOST-PENDING) (mark-of s) in (
         flat (exec ask b inner u .made),
         inner-leaves u t ts d,
-        rw e (flat-join r made ∙ ap (_⊞ flat made) (room-made (ltb (length (s .pending)) 256) (mark-of s)) ∙ node-flat 9 inner u),
+        rw e (flat-join r made ∙ ap (_⊞ flat made) (room-made (ltb (length (s .pending)) MOST-PENDING) (mark-of s)) ∙ node-flat 9 inner u),
       )

@@ -3,6 +3,7 @@ use Prim.Native.Nat.{ℕ, zero, suc}
 use mathlib.Core.Path.{_≡_, refl, sym, _∙_}
 use mathlib.Core.Bool.{Bool, true, false, cond, true≢false}
 use mathlib.Core.List.{List}
+use Rattle.definitions.specs.Layout.{MOST-OPEN-CALLS}
 use Rattle.definitions.specs.Prog.{Prog, Rule, item, propvalues, eat-cell, expr-binding-power}
 use Rattle.definitions.specs.Token.{Token, drop-trivia, ended}
 use Rattle.definitions.specs.Grammar.{grammar, Entry, entry}
@@ -80,9 +81,9 @@ run-gives zero r s h w k a ok = absurd (w .clear)
 run-gives (suc n) r s h w k a ok = by-kind n (run-gives n) s h r k a w
 
 -- EVERY ENTRY, from the tokens of a file on
-pub entry-gives : (e : Entry) (ts : List Token) → Within-room (exec (run 64) no-label (entry e) (taken ts) .made)
-    → Holds (entry-fact e) (flat (exec (run 64) no-label (entry e) (taken ts) .made)) (exec (run 64) no-label (entry e) (taken ts) .state)
+pub entry-gives : (e : Entry) (ts : List Token) → Within-room (exec (run MOST-OPEN-CALLS) no-label (entry e) (taken ts) .made)
+    → Holds (entry-fact e) (flat (exec (run MOST-OPEN-CALLS) no-label (entry e) (taken ts) .made)) (exec (run MOST-OPEN-CALLS) no-label (entry e) (taken ts) .state)
 entry-gives e ts w =
-    let o = exec (run 64) no-label (entry e) (taken ts) in
+    let o = exec (run MOST-OPEN-CALLS) no-label (entry e) (taken ts) in
     out-same (entry-fact e) (o .ans) (flat (o .made)) (o .state)
-    (exec-known 64 (run-gives 64) (entry e) (entry-shapeless e) anything (same true (entry-fact e)) (entry-holds e) (taken ts) (stands-taken ts) (allows-anything _) w)
+    (exec-known MOST-OPEN-CALLS (run-gives MOST-OPEN-CALLS) (entry e) (entry-shapeless e) anything (same true (entry-fact e)) (entry-holds e) (taken ts) (stands-taken ts) (allows-anything _) w)

@@ -5,7 +5,7 @@ use mathlib.Core.Bool.{true, false, not, _&&_, false≢true}
 use mathlib.Core.List.{List, [], _∷_}
 use lib.Dec.{eqb}
 use lib.ListN.{take}
-use Rattle.definitions.specs.Layout.{TREE-ROW}
+use Rattle.definitions.specs.Layout.{TREE-ROW, MOST-OPEN-CALLS}
 use Rattle.definitions.specs.TokenKind as K
 use Rattle.definitions.specs.NodeKind as N
 use Rattle.definitions.specs.Token.{Token, tokens-of, seen, drop-trivia}
@@ -98,19 +98,19 @@ fits-of Cells q s h = h .sums .flags .holds 10 refl
 
 module _ (e : Entry) (ts : List Token) where
   abbrev made : Out
-  made = exec (run 64) no-label (entry e) (taken ts)
+  made = exec (run MOST-OPEN-CALLS) no-label (entry e) (taken ts)
 
   abbrev left : Out
-  left = exec (run 64) no-label left-over (made .state)
+  left = exec (run MOST-OPEN-CALLS) no-label left-over (made .state)
 
   left-fit : Holds (entry-fact e) (flat (made .made)) (made .state) → root-fits (root-kind e) (flat (left .made)) ≡ true
   unfolding root-fits is-end
   left-fit h = go (drop-trivia (made .state .rest)) refl
     where
       go : (l : List Token) → drop-trivia (made .state .rest) ≡ l → root-fits (root-kind e) (flat (left .made)) ≡ true
-      go [] z = ap (root-fits (root-kind e)) (none-left-over (run 64) no-label (made .state) z)
+      go [] z = ap (root-fits (root-kind e)) (none-left-over (run MOST-OPEN-CALLS) no-label (made .state) z)
       go (t ∷ us) z =
-          let d = some-left-over (run 64) no-label (made .state) t us z in
+          let d = some-left-over (run MOST-OPEN-CALLS) no-label (made .state) t us z in
           ap (root-fits (root-kind e)) (d .2)
           ∙ and-both (or-left _ _ (left-fits e (seen t) (d .0) (d .1) (starts e (flat (made .made)) (made .state) t us z h))) refl
 

@@ -6,6 +6,7 @@ use mathlib.Core.Bool.{Bool, true, false, cond, _&&_}
 use mathlib.Core.List.{List, [], _∷_, _++_}
 use lib.Dec.{ltb}
 use lib.ListN.{length}
+use Rattle.definitions.specs.Layout.{MOST-OPEN-CALLS, MOST-PENDING}
 use Rattle.definitions.specs.Token.{Token, drop-trivia}
 use Rattle.definitions.specs.Prog.{Ans, no, yes, also, again, Rule, Act, silent-at, immediate, immediate-next, add-expected, bump, bump-name, bump-argument, emit, emit-unclosed, less, Prog, ret, act, _⨟_, case, in-marker, loop, chain, brace, open-call}
 use Rattle.definitions.specs.Prog as P
@@ -47,7 +48,7 @@ act-each (silent-at ks) s = tt
 act-each P.at-end s = tt
 act-each (immediate k) s = tt
 act-each (immediate-next k) s = tt
-act-each (add-expected k) s = exceeds-each (ltb (length (s .pending)) 256)
+act-each (add-expected k) s = exceeds-each (ltb (length (s .pending)) MOST-PENDING)
 act-each bump s = tt
 act-each (bump-name ks) s = tt
 act-each bump-argument s = tt
@@ -248,4 +249,4 @@ starts ts = record { within = le-refl _; below = le-refl _; way = fresh-way refl
 -- EACH STEP OF A RUN is good, for every entry and every list of tokens
 pub entry-good : (e : Entry) (ts : List Token) → Each Good (entry-steps e ts)
 unfolding entry-steps
-entry-good e ts = exec-gives (run 64) (run-steps 64) table (run-gives 64) no-label (whole e) start (taken ts) (taken ts) (whole-looks e) (starts ts) .each
+entry-good e ts = exec-gives (run MOST-OPEN-CALLS) (run-steps MOST-OPEN-CALLS) table (run-gives MOST-OPEN-CALLS) no-label (whole e) start (taken ts) (taken ts) (whole-looks e) (starts ts) .each

@@ -5,6 +5,7 @@ use mathlib.Core.Path.{_≡_, refl, ap, _∙_}
 use mathlib.Core.List.{List}
 use mathlib.Core.Bool.{Bool, true, false, cond}
 use lib.ListN.{length}
+use Rattle.definitions.specs.Layout.{MOST-OPEN-CALLS}
 use Rattle.definitions.specs.Prog.{Ans, no, yes, also, again, Rule, Prog, ret, act, _⨟_, case, in-marker, loop, chain, brace, open-call}
 use Rattle.definitions.specs.Token.{Token}
 use Rattle.definitions.specs.Grammar.{grammar, Entry, whole}
@@ -107,6 +108,6 @@ run-agrees (suc n) zero l r s w = absurd (not-suc-le-zero l)
 run-agrees (suc n) (suc m) l r s w = exec-agrees (run n) (run m) (run-agrees n m (le-of-suc-le-suc l)) no-label (grammar r) s w
 
 -- and so does a whole file's run that meets none with 64
-pub entry-agrees : (e : Entry) (ts : List Token) (m : ℕ) → 64 ≤ m → Within-room (run-entry e ts) → exec (run m) no-label (whole e) (taken ts) ≡ exec (run 64) no-label (whole e) (taken ts)
+pub entry-agrees : (e : Entry) (ts : List Token) (m : ℕ) → MOST-OPEN-CALLS ≤ m → Within-room (run-entry e ts) → exec (run m) no-label (whole e) (taken ts) ≡ exec (run MOST-OPEN-CALLS) no-label (whole e) (taken ts)
 unfolding run-entry
-entry-agrees e ts m l w = exec-agrees (run 64) (run m) (run-agrees 64 m l) no-label (whole e) (taken ts) w
+entry-agrees e ts m l w = exec-agrees (run MOST-OPEN-CALLS) (run m) (run-agrees MOST-OPEN-CALLS m l) no-label (whole e) (taken ts) w

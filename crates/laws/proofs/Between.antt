@@ -6,6 +6,7 @@ use mathlib.Core.List.{List, _∷_, _++_}
 use lib.Dec.{ltb}
 use lib.ListN.{length, drop}
 use lib.Seq.{drop-append-seam}
+use Rattle.definitions.specs.Layout.{MOST-OPEN-CALLS, MOST-PENDING}
 use Rattle.definitions.specs.Token.{Token, trivia, drop-trivia, past}
 use Rattle.definitions.specs.Prog.{Rule, Prog}
 use Rattle.definitions.specs.Grammar.{Entry, whole}
@@ -103,7 +104,7 @@ unfolding Reads after
 reads-kept =
     record {
       pass = λ s ts h p. record { takes = between-none (s .since) };
-      expect = λ s k h. record { takes = between-room (ltb (length (s .pending)) 256) (mark-of s) (s .since) };
+      expect = λ s k h. record { takes = between-room (ltb (length (s .pending)) MOST-PENDING) (mark-of s) (s .since) };
       token = λ s t ts h e d. record { takes = between-token t ts (s .since) (stands-first s t ts h e d) };
       name = λ s ks t raw ts h e d i. record { takes = between-name (t ∷ raw) ts (s .since) (stands-first s t (raw ++ ts) h e d) };
       report = λ s m k l h d. record { takes = record { reads = λ ts e. tt; leaves = λ ts e. e } };
@@ -121,5 +122,5 @@ pub exec-reads : (n : ℕ) (b : Label) (p : Prog) (s : State) → Stands s → B
 exec-reads n b p s h = exec-kept Taking reads-kept (run n) (run-kept Taking reads-kept n) b p s h .1 .takes
 
 -- and a whole file
-pub entry-reads : (e : Entry) (ts : List Token) → Between (run-entry e ts) ts (exec (run 64) no-label (whole e) (taken ts) .state .since)
+pub entry-reads : (e : Entry) (ts : List Token) → Between (run-entry e ts) ts (exec (run MOST-OPEN-CALLS) no-label (whole e) (taken ts) .state .since)
 entry-reads e ts = whole-kept Taking reads-kept e ts .takes

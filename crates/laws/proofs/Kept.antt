@@ -5,6 +5,7 @@ use mathlib.Core.Bool.{true, false}
 use mathlib.Core.List.{List, [], _∷_, _++_}
 use lib.Dec.{ltb, eqb}
 use lib.ListN.{length}
+use Rattle.definitions.specs.Layout.{MOST-OPEN-CALLS, MOST-PENDING}
 use Rattle.definitions.specs.TokenKind as K
 use Rattle.definitions.specs.Errors as E
 use Rattle.definitions.specs.Prog.{Ans, no, yes, Rule, Act, silent-at, at-end, immediate, immediate-next, add-expected, bump, bump-name, bump-argument, emit, emit-unclosed, less, Prog}
@@ -46,7 +47,7 @@ All-in ks (t ∷ ts) = (one-of ks (seen t) ≡ true) × All-in ks ts
 pub record Kept (R : State → Skeleton → State → Type 0) : Type 0 where
   -- nothing made, the cursor past some trivia or where it was
   pub pass : (s : State) (ts : List Token) → Stands s → Passes (s .rest) ts → R s done (moved s ts)
-  pub expect : (s : State) (k : ℕ) → Stands s → R s (over-unless (ltb (length (s .pending)) 256) (mark-of s)) (expecting s k)
+  pub expect : (s : State) (k : ℕ) → Stands s → R s (over-unless (ltb (length (s .pending)) MOST-PENDING) (mark-of s)) (expecting s k)
   pub token : (s : State) (t : Token) (ts : List Token) → Stands s → s .rest ≡ t ∷ ts → trivia t ≡ false → R s (token t (length ts) done) (taken ts)
   pub name : (s : State) (ks : List ℕ) (t : Token) (raw ts : List Token) → Stands s → s .rest ≡ t ∷ (raw ++ ts) → trivia t ≡ false → All-in ks raw
       → R s (name (t ∷ raw) (length ts) done) (taken ts)
@@ -219,6 +220,6 @@ module _ (R : State → Skeleton → State → Type 0) (kept : Kept R) where
   exec-kept ask h b p s = exec-all Ran _ steady ask h b p s
 
   -- every program of the grammar, from the tokens of a file on
-  pub whole-kept : (e : Entry) (ts : List Token) → R (taken ts) (run-entry e ts) (exec (run 64) no-label (whole e) (taken ts) .state)
+  pub whole-kept : (e : Entry) (ts : List Token) → R (taken ts) (run-entry e ts) (exec (run MOST-OPEN-CALLS) no-label (whole e) (taken ts) .state)
   unfolding run-entry
-  whole-kept e ts = exec-kept (run 64) (run-kept 64) no-label (whole e) (taken ts) (stands-taken ts) .1
+  whole-kept e ts = exec-kept (run MOST-OPEN-CALLS) (run-kept MOST-OPEN-CALLS) no-label (whole e) (taken ts) (stands-taken ts) .1

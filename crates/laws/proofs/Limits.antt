@@ -8,6 +8,7 @@ use mathlib.Core.List.{List, [], _∷_, _++_}
 use lib.Dec.{ltb, eqb}
 use lib.ListN.{length, length-append}
 use borrow.Author.Tests.{ltb-true}
+use Rattle.definitions.specs.Layout.{MOST-OPEN-CALLS, MOST-PENDING}
 use Rattle.definitions.specs.TokenKind as K
 use Rattle.definitions.specs.Token.{Token, tokens-of, trivia, drop-trivia}
 use Rattle.definitions.specs.Prog.{Ans, no, yes, also, again, Rule, Act, silent-at, at-end, immediate, immediate-next, add-expected, bump, bump-name, bump-argument, emit, emit-unclosed, less, Prog, ret, act, _⨟_, case, in-marker, loop, chain, brace, open-call}
@@ -37,14 +38,14 @@ limited-deeper n (x ∷ l) h = (suc-le-suc (h .0), h .1, limited-deeper n l (h .
 -- ---------------------------------------------------------------- what is pending
 
 abbrev Few : State → Type 0
-Few s = length (s .pending) ≤ 256
+Few s = length (s .pending) ≤ MOST-PENDING
 
 abbrev Fewer : Out → Type 0
 Fewer o = Few (o .state)
 
-expected-few : (b : Bool) (m k : ℕ) (l : List ℕ) → ltb (length l) 256 ≡ b → Within-room (over-unless b m) → length (l ++ (k ∷ [])) ≤ 256
+expected-few : (b : Bool) (m k : ℕ) (l : List ℕ) → ltb (length l) MOST-PENDING ≡ b → Within-room (over-unless b m) → length (l ++ (k ∷ [])) ≤ MOST-PENDING
 unfolding over-unless pushes
-expected-few true m k l e w = let h : length l < 256 = ltb-true (length l) 256 e in simp length-append (omega arith)
+expected-few true m k l e w = let h : length l < MOST-PENDING = ltb-true (length l) MOST-PENDING e in simp length-append (omega arith)
 expected-few false m k l e w = absurd (w .clear)
 
 bump-few : (s : State) (l : List Token) → Few s → Fewer (do-bump s l)
@@ -77,7 +78,7 @@ act-few b (silent-at ks) s h w = h
 act-few b at-end s h w = h
 act-few b (immediate k) s h w = h
 act-few b (immediate-next k) s h w = h
-act-few b (add-expected k) s h w = expected-few (ltb (length (s .pending)) 256) (mark-of s) k (s .pending) refl w
+act-few b (add-expected k) s h w = expected-few (ltb (length (s .pending)) MOST-PENDING) (mark-of s) k (s .pending) refl w
 act-few b bump s h w = bump-few (peeked s) (drop-trivia (s .rest)) h
 act-few b (bump-name ks) s h w = name-few ks (peeked s) (drop-trivia (s .rest)) h
 act-few b bump-argument s h w = argument-few 0 s (s .rest) h
@@ -201,9 +202,9 @@ run-keeps (suc n) r s h w =
     (g .0, limited-deeper n (at s ++ places (run n) (run-places n) no-label (grammar r) s) (zero-le, h, g .1))
 
 -- A FILE'S RUN without refusal 5 stays within the limits
-pub clear-limited : (e : Entry) (ts : List Token) → Clear (pushes (run-entry e ts)) → Limited 64 (entry-places e ts)
+pub clear-limited : (e : Entry) (ts : List Token) → Clear (pushes (run-entry e ts)) → Limited MOST-OPEN-CALLS (entry-places e ts)
 unfolding run-entry entry-places
-clear-limited e ts w = exec-keeps 64 (run 64) (run-places 64) (run-keeps 64) no-label (whole e) (taken ts) zero-le (record { clear = w }) .1
+clear-limited e ts w = exec-keeps MOST-OPEN-CALLS (run MOST-OPEN-CALLS) (run-places MOST-OPEN-CALLS) (run-keeps MOST-OPEN-CALLS) no-label (whole e) (taken ts) zero-le (record { clear = w }) .1
 
 -- an accepted call's run meets no refusal 5
 pub accepted-clear : (n : ℕ) (bs tk : List ℕ) (b : Buffers) (a : Accepted n bs tk b) → Clear (pushes (run-entry (a .entry) (tokens-of tk)))

@@ -7,6 +7,7 @@ use mathlib.Core.Path.{ap}
 use mathlib.Core.Bool.{Bool, true, false}
 use mathlib.Core.List.{List, [], _∷_, _++_}
 use lib.ListN.{length, length-append}
+use Rattle.definitions.specs.Layout.{MOST-OPEN-CALLS}
 use Rattle.definitions.specs.Token.{Token}
 use Rattle.definitions.specs.Prog.{Rule, Prog}
 use Rattle.definitions.specs.Grammar.{Entry, whole}
@@ -101,5 +102,5 @@ pub exec-marks : (n : ℕ) (b : Label) (p : Prog) (s : State) → Stands s → F
 exec-marks n b p s h = exec-kept Down marks-kept (run n) (run-kept Down marks-kept n) b p s h .1 .falls
 
 -- and of a whole file
-pub entry-marks : (e : Entry) (ts : List Token) → Falls (length ts) (pushes (run-entry e ts)) (mark-of (exec (run 64) no-label (whole e) (taken ts) .state))
+pub entry-marks : (e : Entry) (ts : List Token) → Falls (length ts) (pushes (run-entry e ts)) (mark-of (exec (run MOST-OPEN-CALLS) no-label (whole e) (taken ts) .state))
 entry-marks e ts = whole-kept Down marks-kept e ts .falls

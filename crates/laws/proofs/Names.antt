@@ -7,6 +7,7 @@ use mathlib.Core.List.{List, [], _∷_, _++_}
 use lib.Dec.{ltb, eqb}
 use lib.ListN.{length}
 use borrow.Author.Tests.{eqb-true}
+use Rattle.definitions.specs.Layout.{MOST-OPEN-CALLS, MOST-PENDING}
 use Rattle.definitions.specs.TokenKind as K
 use Rattle.definitions.specs.Prog.{Rule, Act, silent-at, at-end, immediate, immediate-next, add-expected, bump, bump-name, bump-argument, emit, emit-unclosed, less}
 use Rattle.definitions.specs.Check.{NAME-SET}
@@ -227,7 +228,7 @@ act-gives b (silent-at ks) d s₀ s m h w =
 act-gives b at-end d s₀ s m h w = (tt, in-tested d d (ended (drop-trivia (s .rest))) (peeked s) (λ _. peek-holds d s h) (λ _. peek-holds d s h))
 act-gives b (immediate k) d s₀ s m h w = (tt, in-tested d d (first-in (k ∷ []) (s .rest)) s (λ _. h) (λ _. h))
 act-gives b (immediate-next k) d s₀ s m h w = (tt, in-tested d d (first-in (k ∷ []) (past (s .rest))) s (λ _. h) (λ _. h))
-act-gives b (add-expected k) d s₀ s m h w = (room-named (ltb (length (s .pending)) 256) (mark-of s), still-holds d s (perform b (add-expected k) s .state) refl h)
+act-gives b (add-expected k) d s₀ s m h w = (room-named (ltb (length (s .pending)) MOST-PENDING) (mark-of s), still-holds d s (perform b (add-expected k) s .state) refl h)
 act-gives b bump d s₀ s m h w = (bump-named (peeked s) (drop-trivia (s .rest)), bump-holds d (peeked s) (drop-trivia (s .rest)))
 act-gives b (bump-name ks) d s₀ s m h w = (name-named d ks s (drop-trivia (s .rest)) refl m h, name-holds (may-name d ks) ks (peeked s) (drop-trivia (s .rest)))
 act-gives b bump-argument d s₀ s m h w = (argument-named 0 s (s .rest), in-same names names-mean true nothing (do-argument 0 s (s .rest) .ans) s₀ (do-argument 0 s (s .rest) .state) tt)
@@ -258,5 +259,5 @@ run-names (suc n) r s =
 pub entry-names : (e : Entry) (ts : List Token) → Named (run-entry e ts)
 unfolding run-entry
 entry-names e ts =
-    exec-gives names names-mean names-acts (run 64) (run-goes 64) calls (λ q d s₀ u m h w. (run-names 64 q u, in-same names names-mean true nothing (run 64 q u .ans) s₀ (run 64 q u .state) tt)) no-label
+    exec-gives names names-mean names-acts (run MOST-OPEN-CALLS) (run-goes MOST-OPEN-CALLS) calls (λ q d s₀ u m h w. (run-names MOST-OPEN-CALLS q u, in-same names names-mean true nothing (run MOST-OPEN-CALLS q u .ans) s₀ (run MOST-OPEN-CALLS q u .state) tt)) no-label
     (whole e) nothing (taken ts) (taken ts) (whole-looks e) tt tt .0

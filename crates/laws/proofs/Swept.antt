@@ -6,6 +6,7 @@ use mathlib.Core.Path.{_≡_, refl, ap, sym, _∙_, subst}
 use mathlib.Core.List.{List, [], _∷_, _++_}
 use lib.ListN.{length}
 use borrow.Author.Tests.{lt-ltb}
+use Rattle.definitions.specs.Layout.{MOST-OPEN-CALLS}
 use Rattle.definitions.specs.Errors as E
 use Rattle.definitions.specs.Token.{Token, drop-trivia}
 use Rattle.definitions.specs.Prog.{yes, again, Rule}
@@ -55,13 +56,13 @@ module _ (ask : Rule → State → Out) (b : Label) where
       go (t ∷ ts) e = rw e (sweeps (suc (length (drop-trivia (t ∷ ts)))) (record { rest = drop-trivia (t ∷ ts); since = s .since; pending = s .pending ++ (E.End ∷ []) }) (omega arith))
 
 -- A WHOLE RUN ENDS AT THE END
-pub whole-ends : (e : Entry) (ts : List Token) → Ended (exec (run 64) no-label (whole e) (taken ts))
+pub whole-ends : (e : Entry) (ts : List Token) → Ended (exec (run MOST-OPEN-CALLS) no-label (whole e) (taken ts))
 unfolding whole exec add
-whole-ends e ts = left-over-ends (run 64) no-label (exec (run 64) no-label (entry e) (taken ts) .state)
+whole-ends e ts = left-over-ends (run MOST-OPEN-CALLS) no-label (exec (run MOST-OPEN-CALLS) no-label (entry e) (taken ts) .state)
 
 -- and so its skeleton leaves nothing but trivia
 pub entry-leaves : (e : Entry) (ts : List Token) → drop-trivia (after (run-entry e ts) ts) ≡ []
 entry-leaves e ts =
-    let u : State = exec (run 64) no-label (whole e) (taken ts) .state in
-    let h : Stands u = exec-kept Taking reads-kept (run 64) (run-kept Taking reads-kept 64) no-label (whole e) (taken ts) (stands-taken ts) .0 in
+    let u : State = exec (run MOST-OPEN-CALLS) no-label (whole e) (taken ts) .state in
+    let h : Stands u = exec-kept Taking reads-kept (run MOST-OPEN-CALLS) (run-kept Taking reads-kept MOST-OPEN-CALLS) no-label (whole e) (taken ts) (stands-taken ts) .0 in
     entry-reads e ts .leaves ts refl ∙ passes-drop (u .since) (u .rest) (h .passed) ∙ whole-ends e ts

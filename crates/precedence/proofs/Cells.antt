@@ -6,6 +6,7 @@ use mathlib.Core.List.{List, [], _∷_}
 use lib.Dec.{eqb, ltb}
 use lib.ListN.{length, drop}
 use borrow.Author.Tests.{eq-eqb}
+use Rattle.definitions.specs.Layout.{MOST-PENDING}
 use Rattle.definitions.specs.TokenKind as K
 use Rattle.definitions.specs.NodeKind as N
 use Rattle.definitions.specs.Token.{Token, trivia, drop-trivia, past}
@@ -122,7 +123,7 @@ simple-act b (silent-at ks) s = simple-answer _ _
 simple-act b at-end s = simple-answer _ _
 simple-act b (immediate k) s = simple-answer _ _
 simple-act b (immediate-next k) s = simple-answer _ _
-simple-act b (add-expected k) s = record { shape-is = refl; nodeless = simple-room (ltb (length (s .pending)) 256) (mark-of s) }
+simple-act b (add-expected k) s = record { shape-is = refl; nodeless = simple-room (ltb (length (s .pending)) MOST-PENDING) (mark-of s) }
 simple-act b bump s = simple-bump (peeked s) (peeked s .rest)
 simple-act b (bump-name ks) s = simple-name ks (peeked s) (peeked s .rest)
 simple-act b bump-argument s = simple-argument 0 s (s .rest)

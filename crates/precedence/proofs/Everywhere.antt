@@ -4,6 +4,7 @@ use mathlib.Core.Path.{_≡_, refl, sym, _∙_, subst}
 use mathlib.Core.Bool.{Bool, true, false, false≢true}
 use mathlib.Core.List.{List, [], _∷_}
 use lib.ListN.{length}
+use Rattle.definitions.specs.Layout.{MOST-OPEN-CALLS}
 use Rattle.definitions.specs.TokenKind as K
 use Rattle.definitions.specs.NodeKind as N
 use Rattle.definitions.specs.Errors as E
@@ -177,4 +178,4 @@ run-celled (suc n) (expr-binding-power m) s = plain n (run-celled n) no-label (g
 -- EVERY DTEXPR of a whole run is a judged cell, if no limit was exceeded
 pub entry-cells : (e : Entry) (ts : List Token) → Clear (pushes (run-entry e ts)) → Cs.Cells (run-entry e ts) ts
 unfolding run-entry
-entry-cells e ts c = plain 64 (run-celled 64) no-label (whole e) (plain-whole e) (taken ts) .makes-it (stands-taken ts) .cells c ts refl
+entry-cells e ts c = plain MOST-OPEN-CALLS (run-celled MOST-OPEN-CALLS) no-label (whole e) (plain-whole e) (taken ts) .makes-it (stands-taken ts) .cells c ts refl

@@ -4,6 +4,7 @@ use native.Mathlib.Omega.{arith}
 use mathlib.Core.Path.{_≡_, refl, sym, _∙_, subst}
 use mathlib.Core.List.{List, [], _∷_, _++_, append-assoc, append-nil}
 use lib.ListN.{length, drop, take}
+use Rattle.definitions.specs.Layout.{MOST-OPEN-CALLS}
 use Rattle.definitions.specs.TokenKind as K
 use Rattle.definitions.specs.NodeKind as N
 use Rattle.definitions.specs.Token.{Token, drop-trivia, past}
@@ -117,6 +118,6 @@ unfolding root Each Part
 entry-settled e ts c =
     let o = run-entry e ts in
     let all = pushes o in
-    let last = mark-of (exec (run 64) no-label (whole e) (taken ts) .state) in
+    let last = mark-of (exec (run MOST-OPEN-CALLS) no-label (whole e) (taken ts) .state) in
     let made : Each (Settled all) ts (place o ts) = settle all (length ts) last (entry-marks e ts) o ts ([], [], sym (append-nil all)) (entry-cells e ts c) in
     (λ k. absurd (root-other e k), place-then (Settled all) o (lead (after o ts)) ts made (each-lead (Settled all) (after o ts) (after o ts)), tt)

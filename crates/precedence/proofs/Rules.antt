@@ -5,6 +5,7 @@ use mathlib.Core.Bool.{Bool, true, false}
 use mathlib.Core.List.{List, [], _∷_, _++_}
 use lib.Dec.{ltb}
 use lib.ListN.{length}
+use Rattle.definitions.specs.Layout.{MOST-PENDING}
 use Rattle.definitions.specs.Token.{Token, drop-trivia, first-in}
 use Rattle.definitions.specs.Prog.{Ans, no, yes, also, again, Rule, silent-at, immediate, add-expected, bump, less, Prog, ret, act, _⨟_, case, in-marker}
 use Rattle.definitions.specs.Check.{push-all}
@@ -205,7 +206,7 @@ module _ (ask : Rule → State → Out) (b : Label) where
       → exec ask b (act (add-expected k)) s ≡ answer yes (expecting k s)
   unfolding exec perform do-expected makes answer
   expected-is k s c =
-      ap (λ (p : Skeleton). makes yes p (expecting k s)) (room-clear (ltb (length (s .pending)) 256) (mark-of s) c)
+      ap (λ (p : Skeleton). makes yes p (expecting k s)) (room-clear (ltb (length (s .pending)) MOST-PENDING) (mark-of s) c)
 
   pub test-expected : {k : ℕ} {s : State} → Stands s → Tests (act (add-expected k)) s yes
   test-expected {k} {s} h =

@@ -8,6 +8,7 @@ use mathlib.Core.List.{List, _∷_, _++_}
 use lib.Dec.{ltb}
 use lib.ListN.{length, drop}
 use lib.Seq.{drop-append-seam}
+use Rattle.definitions.specs.Layout.{MOST-PENDING}
 use Rattle.definitions.specs.Token.{Token, drop-trivia, past}
 use Rattle.definitions.specs.Prog.{Prog}
 use Rattle.definitions.specs.Skeleton.{Label, Skeleton, done, token, name, _⧺_}
@@ -59,7 +60,7 @@ unfolding after
 leaves-kept =
     record {
       pass = λ s ts h p. record { takes = reads-kept .pass s ts h p; short = still (s .since) };
-      expect = λ s k h. record { takes = reads-kept .expect s k h; short = short-room (ltb (length (s .pending)) 256) (mark-of s) (s .since) };
+      expect = λ s k h. record { takes = reads-kept .expect s k h; short = short-room (ltb (length (s .pending)) MOST-PENDING) (mark-of s) (s .since) };
       token = λ s t ts h e d. record { takes = reads-kept .token s t ts h e d; short = short-token t ts (s .since) (stands-first s t ts h e d) };
       name = λ s ks t raw ts h e d i. record { takes = reads-kept .name s ks t raw ts h e d i; short = short-name (t ∷ raw) ts (s .since) (stands-first s t (raw ++ ts) h e d) };
       report = λ s m k l h d. record { takes = reads-kept .report s m k l h d; short = λ ts e x. x };

@@ -7,6 +7,7 @@ use mathlib.Core.List.{List, [], _∷_, _++_, append-assoc}
 use borrow.Author.Tests.{eqb-true, eqb-false, ne-eqb, leb-true, leb-false}
 use lib.Dec.{eqb, leb}
 use lib.ListN.{length, length-append}
+use Rattle.definitions.specs.Layout.{MOST-OPEN-CALLS}
 use Rattle.definitions.specs.TokenKind as K
 use Rattle.definitions.specs.Token.{Token, is-error, seen, trivia, drop-trivia, one-of, first-in}
 use Rattle.definitions.specs.C.{Symbol, plain, arguments, symbol, symbols, opens, turn}
@@ -191,7 +192,7 @@ ahead-length us ts p = rw (p .split) (go (p .front))
 -- a kind that no error token is seen as
 raw-by : (k j : ℕ) → j < 64 → (j ≡ K.Unrecognized → ⊥) → (b : Bool) → leb 64 k ≡ b → eqb k j ≡ eqb (cond b K.Unrecognized k) j
 raw-by k j l d true e =
-    let h = leb-true 64 k e in
+    let h = leb-true MOST-OPEN-CALLS k e in
     ne-eqb k j (λ z. omega arith) ∙ sym (ne-eqb K.Unrecognized j (λ z. d (sym z)))
 raw-by k j l d false e = refl
 

@@ -7,6 +7,7 @@ use mathlib.Core.List.{List, [], _∷_}
 use lib.Dec.{ltb, eqb}
 use lib.ListN.{length}
 use borrow.Author.Tests.{eqb-true}
+use Rattle.definitions.specs.Layout.{MOST-PENDING}
 use Rattle.definitions.specs.TokenKind as K
 use Rattle.definitions.specs.Errors as E
 use Rattle.definitions.specs.Token.{Token, seen, trivia, drop-trivia, past, ended, one-of, first-in}
@@ -209,7 +210,7 @@ module _ (P : Post) (h : Bool) (s : State) (ts : List Token) (A : At s ts) (x : 
       (λ z. looks _ s (peeked s) ts done refl (λ y. ended-none (drop-trivia (peeked s .rest)) (unfold peeked in ap ended (drop-twice (s .rest)) ∙ z) y))
   act-ends b (immediate k) e = asked-still (first-in (k ∷ []) (s .rest)) e
   act-ends b (immediate-next k) e = asked-still (first-in (k ∷ []) (past (s .rest))) e
-  act-ends b (add-expected k) e = record { known = know h low low; post = e; holds = looks h s _ ts _ (room-placed (ltb (length (s .pending)) 256) (mark-of s) ts) x }
+  act-ends b (add-expected k) e = record { known = know h low low; post = e; holds = looks h s _ ts _ (room-placed (ltb (length (s .pending)) MOST-PENDING) (mark-of s) ts) x }
   act-ends b bump e = record { known = know true (ends h) low; post = bump-yes P _ (peeked s) (peeked s .rest) e; holds = bump-holds h s ts A x (peeked s .rest) (unfold peeked in refl) (peeked s) }
   act-ends b (bump-name ks) e = record { known = know true low low; post = name-yes P _ ks (peeked s) (peeked s .rest) e; holds = name-holds h s ts A x ks (peeked s .rest) (peeked s) }
   act-ends b bump-argument e =

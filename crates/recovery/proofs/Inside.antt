@@ -7,6 +7,7 @@ use mathlib.Core.Bool.{Bool, true, false}
 use mathlib.Core.List.{List, [], _∷_}
 use lib.Dec.{ltb, eqb}
 use lib.ListN.{length}
+use Rattle.definitions.specs.Layout.{MOST-OPEN-CALLS, MOST-PENDING}
 use Rattle.definitions.specs.TokenKind as K
 use Rattle.definitions.specs.Token.{Token, trivia, bytes}
 use Rattle.definitions.specs.Prog.{yes, Rule, Act, silent-at, at-end, immediate, immediate-next, add-expected, bump, bump-name, bump-argument, emit, emit-unclosed, less, Prog, ret, act, _⨟_, case, in-marker, loop, chain, brace, open-call}
@@ -54,7 +55,7 @@ ranges-kept b =
     let P : Report → Type 0 = λ r. Range-in b (r .range) in
     record {
       pass = λ s ts h p. record { less = le-refl _; ranges = λ _. tt };
-      expect = λ s k h. record { less = le-refl _; ranges = λ _. subst (All P) (sym (room-told (ltb (length (s .pending)) 256) (mark-of s))) tt };
+      expect = λ s k h. record { less = le-refl _; ranges = λ _. subst (All P) (sym (room-told (ltb (length (s .pending)) MOST-PENDING) (mark-of s))) tt };
       token = λ s t ts h e d. let w : bytes (s .rest) ≤ bytes (s .since) = stands-bytes s h in record { less = omega (arith, ap bytes e); ranges = λ _. tt };
       name = λ s ks t raw ts h e d i. let w : bytes (s .rest) ≤ bytes (s .since) = stands-bytes s h in record { less = omega (arith, simp bytes-append at (ap bytes e)); ranges = λ _. tt };
       report = λ s m k l h d. record { less = le-refl _; ranges = λ g. (range-in b s (s .rest) g (le-trans (stands-bytes s h) g), tt) };
@@ -151,7 +152,7 @@ module _ (b : ℕ) where
   act-labels l w at-end s = tt
   act-labels l w (immediate k) s = tt
   act-labels l w (immediate-next k) s = tt
-  act-labels l w (add-expected k) s = subst (All P) (sym (room-told (ltb (length (s .pending)) 256) (mark-of s))) tt
+  act-labels l w (add-expected k) s = subst (All P) (sym (room-told (ltb (length (s .pending)) MOST-PENDING) (mark-of s))) tt
   act-labels l w bump s = subst (All P) (sym (bump-told (peeked s) (peeked s .rest))) tt
   act-labels l w (bump-name ks) s = subst (All P) (sym (name-told ks (peeked s) (peeked s .rest))) tt
   act-labels l w bump-argument s = subst (All P) (sym (argument-told 0 s (s .rest))) tt
@@ -208,5 +209,5 @@ entry-inside e ts =
     all-map _ (Inside (length ts) b) (λ r h. record { marked = h .0; ranged = h .1; labelled = h .2 }) (told (run-entry e ts))
     (all-three (λ r. r .mark ≤ length ts) (λ r. Range-in b (r .range)) (λ r. Label-in b (r .labelled)) (told (run-entry e ts))
     (falls-below (length ts) _ (run-entry e ts) (entry-marks e ts))
-    (exec-kept (Ranging b) (ranges-kept b) (run 64) (run-kept (Ranging b) (ranges-kept b) 64) no-label (whole e) (taken ts) (stands-taken ts) .1 .ranges (le-refl _))
-    (exec-labels b 64 (run-labels b 64) no-label tt (whole e) (taken ts) (record { stands = stands-taken ts; bytes-left = le-refl _ }) .labels))
+    (exec-kept (Ranging b) (ranges-kept b) (run MOST-OPEN-CALLS) (run-kept (Ranging b) (ranges-kept b) MOST-OPEN-CALLS) no-label (whole e) (taken ts) (stands-taken ts) .1 .ranges (le-refl _))
+    (exec-labels b MOST-OPEN-CALLS (run-labels b MOST-OPEN-CALLS) no-label tt (whole e) (taken ts) (record { stands = stands-taken ts; bytes-left = le-refl _ }) .labels))

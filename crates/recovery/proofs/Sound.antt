@@ -6,6 +6,7 @@ use mathlib.Core.List.{List}
 use lib.Dec.{eqb}
 use lib.ListN.{length}
 use borrow.Author.Tests.{eqb-true}
+use Rattle.definitions.specs.Layout.{MOST-OPEN-CALLS}
 use Rattle.definitions.specs.Token.{Token, drop-trivia}
 use Rattle.definitions.specs.Prog.{Ans, no, yes, also, again, Rule, item, propvalues, eat-cell, expr-binding-power, Prog, ret, act, _⨟_, case, in-marker, loop, chain, brace, open-call}
 use Rattle.definitions.specs.Grammar.{grammar, sourcefile-turn, left-over}
@@ -232,9 +233,9 @@ run-claimed (suc n) r s ts A =
 -- A TURN of the source file's loop: no statement in it ends in a semicolon of its own, or only its last part does and the run stands
 -- right after it
 pub turn-holds : (s : State) (ts : List Token) → At s ts
-    → Holds (know true low mid) s ts (exec (run 64) no-label sourcefile-turn s .made) (exec (run 64) no-label sourcefile-turn s .state)
-turn-holds s ts A = program-ends 64 (run-claimed 64) no-label sourcefile-turn (know true low mid) turn-surely s ts A .1
+    → Holds (know true low mid) s ts (exec (run MOST-OPEN-CALLS) no-label sourcefile-turn s .made) (exec (run MOST-OPEN-CALLS) no-label sourcefile-turn s .state)
+turn-holds s ts A = program-ends MOST-OPEN-CALLS (run-claimed MOST-OPEN-CALLS) no-label sourcefile-turn (know true low mid) turn-surely s ts A .1
 
 pub left-over-holds : (s : State) (ts : List Token) → At s ts
-    → Holds (know true low low) s ts (exec (run 64) no-label left-over s .made) (exec (run 64) no-label left-over s .state)
-left-over-holds s ts A = program-ends 64 (run-claimed 64) no-label left-over (know true low low) left-over-surely s ts A .1
+    → Holds (know true low low) s ts (exec (run MOST-OPEN-CALLS) no-label left-over s .made) (exec (run MOST-OPEN-CALLS) no-label left-over s .state)
+left-over-holds s ts A = program-ends MOST-OPEN-CALLS (run-claimed MOST-OPEN-CALLS) no-label left-over (know true low low) left-over-surely s ts A .1

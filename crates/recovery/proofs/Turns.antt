@@ -9,6 +9,7 @@ use mathlib.Core.Bool.{Bool, true, false, cond, true≢false}
 use mathlib.Core.List.{List, [], _∷_}
 use lib.ListN.{length}
 use borrow.Author.Tests.{lt-ltb}
+use Rattle.definitions.specs.Layout.{MOST-OPEN-CALLS}
 use Rattle.definitions.specs.Token.{Token, drop-trivia}
 use Rattle.definitions.specs.Prog.{again}
 use Rattle.definitions.specs.Grammar.{SourceFile, whole, entry, entry-sourcefile, sourcefile-turn, left-over}
@@ -57,10 +58,10 @@ part-here (subtree j c f) k i v = inr (part-here f k i v)
 -- ---------------------------------------------------------------- the loop
 
 abbrev pub turn : State → Out
-turn s = exec (run 64) no-label sourcefile-turn s
+turn s = exec (run MOST-OPEN-CALLS) no-label sourcefile-turn s
 
 abbrev pub sweep : State → Out
-sweep s = exec (run 64) no-label left-over s
+sweep s = exec (run MOST-OPEN-CALLS) no-label left-over s
 
 -- at most n turns from a state, and then what is left over
 unfoldable pub onward : ℕ → State → Skeleton
@@ -165,7 +166,7 @@ module _ (k : ℕ) (i v : Tree) (C : closes k i ≡ true) where
       let u : State = turn s .state in
       let q : Skeleton = onward n u in
       let h′ : Part (place p ts ⊕ children q (after p ts)) k i v = subst (λ (x : Tree). Part x k i v) (children-join p q ts) h in
-      let on : Part (children q (after p ts)) k i v → Found s (p ⧺ q) v = λ x. found-later s u p q v (exec-goes 64 no-label sourcefile-turn s (A .stands)) (ih x) in
+      let on : Part (children q (after p ts)) k i v → Found s (p ⧺ q) v = λ x. found-later s u p q v (exec-goes MOST-OPEN-CALLS no-label sourcefile-turn s (A .stands)) (ih x) in
       ⊎-elim
       (λ x. on (quiet-part (place p ts) _ x h′))
       (λ x.
@@ -196,7 +197,7 @@ module _ (k : ℕ) (i v : Tree) (C : closes k i ≡ true) where
   stops s ts A T b h =
       let p : Skeleton = turn s .made in
       let u : State = turn s .state in
-      let A′ : At u (after p ts) = at-after s u ts p A (exec-goes 64 no-label sourcefile-turn s (A .stands)) in
+      let A′ : At u (after p ts) = at-after s u ts p A (exec-goes MOST-OPEN-CALLS no-label sourcefile-turn s (A .stands)) in
       let quiet : Quiet (place p ts) → ⊥ = λ x. swept u (after p ts) A′ (quiet-part (place p ts) _ x (subst (λ (z : Tree). Part z k i v) (children-join p (sweep u .made) ts) h)) in
       ⊎-elim quiet
       (λ x.
@@ -220,7 +221,7 @@ module _ (k : ℕ) (i v : Tree) (C : closes k i ≡ true) where
       let enough : length (u .rest) < n = omega arith in
       let e : onward (suc n) s ≡ p ⧺ onward n u = onward-again n s b in
       subst (λ (r : Skeleton). Found s r v) (sym e)
-      (goes-further n s ts A T enough (λ x. find n u (after p ts) (at-after s u ts p A (exec-goes 64 no-label sourcefile-turn s (A .stands))) enough x)
+      (goes-further n s ts A T enough (λ x. find n u (after p ts) (at-after s u ts p A (exec-goes MOST-OPEN-CALLS no-label sourcefile-turn s (A .stands))) enough x)
       (subst (λ (r : Skeleton). Part (children r ts) k i v) e h)))
       (λ b. absurd (stops s ts A T b (subst (λ (r : Skeleton). Part (children r ts) k i v) (onward-last n s b) h)))
 

@@ -5,6 +5,7 @@ use mathlib.Core.Bool.{Bool, true, false, cond}
 use mathlib.Core.List.{List, [], _∷_, _++_, append-assoc, append-nil}
 use lib.Dec.{eqb, ltb}
 use lib.ListN.{length}
+use Rattle.definitions.specs.Layout.{MOST-OPEN-CALLS, MOST-PENDING}
 use Rattle.definitions.specs.TokenKind as K
 use Rattle.definitions.specs.Token.{Token, trivia}
 use Rattle.definitions.specs.Prog.{Ans, no, yes, also, again, Rule, Act, silent-at, at-end, immediate, immediate-next, add-expected, bump, bump-name, bump-argument, emit, emit-unclosed, less, Prog, ret, act, _⨟_, case, in-marker, loop, chain, brace, open-call}
@@ -111,7 +112,7 @@ act-tells b (silent-at ks) s = record { same = refl }
 act-tells b at-end s = record { same = refl }
 act-tells b (immediate k) s = record { same = refl }
 act-tells b (immediate-next k) s = record { same = refl }
-act-tells b (add-expected k) s = record { same = room-tells (ltb (length (s .pending)) 256) (mark-of s) }
+act-tells b (add-expected k) s = record { same = room-tells (ltb (length (s .pending)) MOST-PENDING) (mark-of s) }
 act-tells b bump s = record { same = bump-silent (peeked s) (peeked s .rest) }
 act-tells b (bump-name ks) s = record { same = name-silent ks (peeked s) (peeked s .rest) }
 act-tells b bump-argument s = record { same = argument-silent 0 s (s .rest) }
@@ -235,4 +236,4 @@ run-tells (suc n) r s = exec-tells (run n) (run-steps n) (run-tells n) no-label 
 
 pub complete : Complete
 unfolding entry-steps run-entry
-complete e ts = exec-tells (run 64) (run-steps 64) (run-tells 64) no-label (whole e) (taken ts) .same
+complete e ts = exec-tells (run MOST-OPEN-CALLS) (run-steps MOST-OPEN-CALLS) (run-tells MOST-OPEN-CALLS) no-label (whole e) (taken ts) .same
