@@ -2,7 +2,7 @@
 """Writes the proof of crate expr's cycle of calls, the files below
 crates/expr/proofs/+expr_binding_power+..+ternary_rhs/, and that of `dt_expr`.
 
-    rt dev expr --generated target/generated/expr; python3 tools/proofs/expr_proofs.py target/generated/expr
+    rt dev expr --generated target/generated/expr; python3 tools/proofs/expr_proofs.py target/generated/expr; rt fmt
 
 The first command writes what the check generates for each function; it may fail, and writes all the same. Where the cycle has no proof
 file yet, give it one with a hole first, or the check searches for each need.

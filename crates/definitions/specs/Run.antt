@@ -223,7 +223,7 @@ chained f s o =
     let off = unlinked (mark-of s) done (o .made) (o .ans) (o .state) in
     cond (is-again (o .ans)) on off
 
--- the token that stands at the cursor
+-- the token that stands at the cursor. The Rust expects one there, and there is: a node's body begins at its LCurly.
 abbrev pub here : List Token → Label
 unfolding bytes
 here ts = label (record { from = bytes ts; to = bytes (past ts) })
