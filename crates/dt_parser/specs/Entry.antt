@@ -1,6 +1,6 @@
 -- The entries by number, in the terms of `definitions`. No part of the exported promise.
 use Rattle.definitions.specs.Call.{Asked, for, unknown}
-use Rattle.grammar.specs.Parts.{entry-of as entry-for}
+use Rattle.grammar.specs.Subprograms.{entry-of as entry-for}
 use Rattle.dt_parser.specs.declared.entrypoint.Entry.{Entry}
 use Rattle.dt_parser.specs.declared.entrypoint.Entry.the-variants.{Known, Unknown}
 

@@ -4,7 +4,7 @@ use layout::node_kind;
 ghost use mathlib.Core.Path.{_≡_};
 ghost use Rattle.definitions.specs.Grammar as Grammar;
 ghost use Rattle.definitions.specs.Call as Call;
-ghost use Rattle.grammar.specs.Parts.{entry-of as entry-for};
+ghost use Rattle.grammar.specs.Subprograms.{entry-of as entry-for};
 ghost use Rattle.dt_parser.specs.Entry.{asked-of};
 
 pub enum Entry {

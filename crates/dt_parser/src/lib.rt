@@ -8,7 +8,7 @@ use layout::refusal::UNKNOWN_ENTRY;
 ghost use mathlib.Core.Path.{_≡_};
 ghost use Rattle.definitions.specs.Token.{tokens-of};
 ghost use Rattle.definitions.specs.Call as Call;
-ghost use Rattle.grammar.specs.Parts.{entry-of as entry-for};
+ghost use Rattle.grammar.specs.Subprograms.{entry-of as entry-for};
 ghost use Rattle.call.specs.Result.{at-entry, at-exit, result-of};
 ghost use Rattle.dt_parser.specs.Sound.{Sound};
 

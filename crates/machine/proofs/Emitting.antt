@@ -24,7 +24,7 @@ use Rattle.machine.specs.Machine as M
 use Rattle.machine.specs.Walk.{said}
 use Rattle.machine.specs.Outcome.{Refused}
 use Rattle.machine.proofs.Coded.{coded, low-rows, low-rows-append, low-row-length}
-use Rattle.machine.proofs.Part.{part-bytes, part-filled}
+use Rattle.machine.proofs.Suffix.{suffix-bytes, suffix-filled}
 use Rattle.machine.proofs.Image.{Ground, image, rows-of, Inside, moved, rest-is, inside-peeked, byte}
 use Rattle.machine.proofs.Moves.{peek-is}
 use Rattle.machine.proofs.Stores.{push-fits, push-full, report-fits, report-full, no-row, no-codes}
@@ -55,10 +55,10 @@ range-with g e l s (t ∷ ts) i = pick (only-separators (s .pending))
     B = bytes (g .tokens)
 
     some : 1 ≤ bytes (s .since)
-    some = let h : 1 ≤ t .len = part-filled (g .tokens) (t ∷ ts) (i .rest) (g .limits .filled) .0 in omega (arith, h, i .order)
+    some = let h : 1 ≤ t .len = suffix-filled (g .tokens) (t ∷ ts) (i .rest) (g .limits .filled) .0 in omega (arith, h, i .order)
 
     one : low (B - bytes (s .since) + 1) ≡ B - (bytes (s .since) - 1)
-    one = behind-mark B (bytes (s .since)) some (part-bytes (g .tokens) (s .since) (i .since)) (g .limits .short)
+    one = behind-mark B (bytes (s .since)) some (suffix-bytes (g .tokens) (s .since) (i .since)) (g .limits .short)
 
     pick : (c : Bool)
         → cond {A = Span} c (record { from = B - bytes (s .since); to = low (B - bytes (s .since) + 1) }) (record { from = B - (t .len + bytes ts); to = low (B - (t .len + bytes ts) + t .len) })

@@ -14,7 +14,7 @@ use Rattle.basics.specs.Word.{low}
 use Rattle.machine.specs.Machine.{Buffer, Machine, rest, passed, took}
 use Rattle.machine.specs.Outcome.{Limits, onto}
 use Rattle.machine.proofs.Coded.{low-rows}
-use Rattle.machine.proofs.Part.{Part, part-length, part-bytes, part-drop, part-trivia, bytes-trivia}
+use Rattle.machine.proofs.Suffix.{Suffix, suffix-length, suffix-bytes, suffix-drop, suffix-trivia, bytes-trivia}
 
 -- what a call is given: the tokens and the three lent buffers
 pub record Ground : Type 0 where
@@ -44,8 +44,8 @@ image g e l s =
 
 -- the cursor and the last token taken are places of the file, the cursor no earlier
 pub record Inside (g : Ground) (s : State) : Type 0 where
-  pub rest : Part (g .tokens) (s .rest)
-  pub since : Part (g .tokens) (s .since)
+  pub rest : Suffix (g .tokens) (s .rest)
+  pub since : Suffix (g .tokens) (s .since)
   pub order : bytes (s .rest) ≤ bytes (s .since)
 
 abbrev pub moved : State → List Token → State
@@ -53,15 +53,15 @@ moved s l = record { rest = l; since = s .since; pending = s .pending }
 
 pub rest-is : (g : Ground) (e : List ℕ) (l : List Report) (s : State) → Inside g s → rest (g .tokens) (image g e l s) ≡ s .rest
 unfolding image
-rest-is g e l s h = part-drop (g .tokens) (s .rest) (h .rest)
+rest-is g e l s h = suffix-drop (g .tokens) (s .rest) (h .rest)
 
-pub inside-taken : (g : Ground) (l : List Token) → Part (g .tokens) l → Inside g (taken l)
+pub inside-taken : (g : Ground) (l : List Token) → Suffix (g .tokens) l → Inside g (taken l)
 inside-taken g l p = record { rest = p; since = p; order = omega arith }
 
 pub inside-peeked : (g : Ground) (s : State) → Inside g s → Inside g (peeked s)
 unfolding peeked
 inside-peeked g s h =
-    record { rest = part-trivia (g .tokens) (s .rest) (h .rest); since = h .since; order = omega (arith, h .order, bytes-trivia (s .rest)) }
+    record { rest = suffix-trivia (g .tokens) (s .rest) (h .rest); since = h .since; order = omega (arith, h .order, bytes-trivia (s .rest)) }
 
 -- ---------------------------------------------------------------- one token further
 
@@ -72,13 +72,13 @@ next-index n k h = omega arith
 next-byte : (b k j : ℕ) → j + k ≤ b → b < TWO-TO-32 → low (b - (j + k) + j) ≡ b - k
 next-byte b k j h l = let e : b - (j + k) + j ≡ b - k = omega arith in ap low e ∙ mod-eq-of-lt (omega arith)
 
-module _ (g : Ground) (e : List ℕ) (l : List Report) (s : State) (t : Token) (ts : List Token) (p : Part (g .tokens) (t ∷ ts)) where
+module _ (g : Ground) (e : List ℕ) (l : List Report) (s : State) (t : Token) (ts : List Token) (p : Suffix (g .tokens) (t ∷ ts)) where
   index : length (g .tokens) - suc (length ts) + 1 ≡ length (g .tokens) - length ts
-  index = next-index (length (g .tokens)) (length ts) (part-length (g .tokens) (t ∷ ts) p)
+  index = next-index (length (g .tokens)) (length ts) (suffix-length (g .tokens) (t ∷ ts) p)
 
   pub byte : low (bytes (g .tokens) - bytes (t ∷ ts) + t .len) ≡ bytes (g .tokens) - bytes ts
   unfolding bytes
-  byte = next-byte (bytes (g .tokens)) (bytes ts) (t .len) (part-bytes (g .tokens) (t ∷ ts) p) (g .limits .short)
+  byte = next-byte (bytes (g .tokens)) (bytes ts) (t .len) (suffix-bytes (g .tokens) (t ∷ ts) p) (g .limits .short)
 
   pub pass-is : passed t (image g e l (moved s (t ∷ ts))) ≡ image g e l (moved s ts)
   unfolding image

@@ -13,17 +13,17 @@ use Rattle.definitions.specs.Run.{State, taken, peeked, Run, run-of}
 use Rattle.basics.proofs.Tests.{cond-all}
 use Rattle.basics.specs.Word.{low}
 use Rattle.machine.specs.Machine.{Machine, rest, skip, peek, name-run}
-use Rattle.machine.proofs.Part.{Part, part-tail, part-length}
+use Rattle.machine.proofs.Suffix.{Suffix, suffix-tail, suffix-length}
 use Rattle.machine.proofs.Image.{Ground, image, Inside, moved, rest-is, pass-is, took-is}
 
 -- ---------------------------------------------------------------- past trivia
 
-pub skip-is : (g : Ground) (e : List ℕ) (l : List Report) (s : State) (ts : List Token) → Part (g .tokens) ts → skip ts (image g e l (moved s ts)) ≡ image g e l (moved s (drop-trivia ts))
+pub skip-is : (g : Ground) (e : List ℕ) (l : List Report) (s : State) (ts : List Token) → Suffix (g .tokens) ts → skip ts (image g e l (moved s ts)) ≡ image g e l (moved s (drop-trivia ts))
 unfolding skip drop-trivia
 skip-is g e l s [] p = refl
 skip-is g e l s (t ∷ ts) p =
     ap (λ (m : Machine). cond (trivia t) (skip ts m) (image g e l (moved s (t ∷ ts)))) (pass-is g e l s t ts p)
-    ∙ ap (λ (m : Machine). cond (trivia t) m (image g e l (moved s (t ∷ ts)))) (skip-is g e l s ts (part-tail (g .tokens) ts t p))
+    ∙ ap (λ (m : Machine). cond (trivia t) m (image g e l (moved s (t ∷ ts)))) (skip-is g e l s ts (suffix-tail (g .tokens) ts t p))
     ∙ pick (trivia t)
   where
     pick : (b : Bool) → cond b (image g e l (moved s (drop-trivia ts))) (image g e l (moved s (t ∷ ts))) ≡ image g e l (moved s (cond b (drop-trivia ts) (t ∷ ts)))
@@ -36,12 +36,12 @@ peek-is g e l s h = ap (λ (ts : List Token). skip ts (image g e l s)) (rest-is 
 
 -- ---------------------------------------------------------------- the tokens of a name
 
-pub run-part : (g : Ground) (ks : List ℕ) (ts : List Token) → Part (g .tokens) ts → Part (g .tokens) (run-of ks ts .after)
+pub run-part : (g : Ground) (ks : List ℕ) (ts : List Token) → Suffix (g .tokens) ts → Suffix (g .tokens) (run-of ks ts .after)
 unfolding run-of
 run-part g ks [] p = p
 run-part g ks (t ∷ ts) p =
-    cond-all (λ (r : Run). Part (g .tokens) (r .after)) (one-of ks (seen t)) {x = record { raw = t ∷ run-of ks ts .raw; after = run-of ks ts .after }} {y = record { raw = []; after = t ∷ ts }}
-    (run-part g ks ts (part-tail (g .tokens) ts t p)) p
+    cond-all (λ (r : Run). Suffix (g .tokens) (r .after)) (one-of ks (seen t)) {x = record { raw = t ∷ run-of ks ts .raw; after = run-of ks ts .after }} {y = record { raw = []; after = t ∷ ts }}
+    (run-part g ks ts (suffix-tail (g .tokens) ts t p)) p
 
 run-length : (ks : List ℕ) (ts : List Token) → length (run-of ks ts .raw) + length (run-of ks ts .after) ≡ length ts
 unfolding run-of
@@ -50,12 +50,12 @@ run-length ks (t ∷ ts) =
     cond-all (λ (r : Run). length (r .raw) + length (r .after) ≡ suc (length ts)) (one-of ks (seen t)) {x = record { raw = t ∷ run-of ks ts .raw; after = run-of ks ts .after }} {y = record { raw = []; after = t ∷ ts }}
     (omega (arith, run-length ks ts)) (omega arith)
 
-pub name-run-is : (g : Ground) (e : List ℕ) (l : List Report) (ks : List ℕ) (ts : List Token) → Part (g .tokens) ts → name-run ks ts (image g e l (taken ts)) ≡ image g e l (taken (run-of ks ts .after))
+pub name-run-is : (g : Ground) (e : List ℕ) (l : List Report) (ks : List ℕ) (ts : List Token) → Suffix (g .tokens) ts → name-run ks ts (image g e l (taken ts)) ≡ image g e l (taken (run-of ks ts .after))
 unfolding name-run run-of
 name-run-is g e l ks [] p = refl
 name-run-is g e l ks (t ∷ ts) p =
     ap (λ (m : Machine). cond (one-of ks (seen t)) (name-run ks ts m) (image g e l (taken (t ∷ ts)))) (took-is g e l (taken (t ∷ ts)) t ts p)
-    ∙ ap (λ (m : Machine). cond (one-of ks (seen t)) m (image g e l (taken (t ∷ ts)))) (name-run-is g e l ks ts (part-tail (g .tokens) ts t p))
+    ∙ ap (λ (m : Machine). cond (one-of ks (seen t)) m (image g e l (taken (t ∷ ts)))) (name-run-is g e l ks ts (suffix-tail (g .tokens) ts t p))
     ∙ pick (one-of ks (seen t))
   where
     pick : (b : Bool) → cond b (image g e l (taken (run-of ks ts .after))) (image g e l (taken (t ∷ ts)))
@@ -67,8 +67,8 @@ name-run-is g e l ks (t ∷ ts) p =
 distance : (n a r l : ℕ) → r + a ≡ l → suc l ≤ n → n ≤ MOST-TOKENS → low (n - a - (n - suc l)) ≡ suc r
 distance n a r l e h k = let d : n - a - (n - suc l) ≡ suc r = omega arith in ap low d ∙ mod-eq-of-lt (omega arith)
 
-pub name-count : (g : Ground) (e : List ℕ) (l : List Report) (s : State) (ks : List ℕ) (t : Token) (ts : List Token) → Part (g .tokens) (t ∷ ts)
+pub name-count : (g : Ground) (e : List ℕ) (l : List Report) (s : State) (ks : List ℕ) (t : Token) (ts : List Token) → Suffix (g .tokens) (t ∷ ts)
     → low (image g e l (taken (run-of ks ts .after)) .cursor - image g e l (moved s (t ∷ ts)) .cursor) ≡ length (t ∷ run-of ks ts .raw)
 unfolding image
 name-count g e l s ks t ts p =
-    distance (length (g .tokens)) (length (run-of ks ts .after)) (length (run-of ks ts .raw)) (length ts) (run-length ks ts) (part-length (g .tokens) (t ∷ ts) p) (g .limits .few)
+    distance (length (g .tokens)) (length (run-of ks ts .after)) (length (run-of ks ts .raw)) (length ts) (run-length ks ts) (suffix-length (g .tokens) (t ∷ ts) p) (g .limits .few)

@@ -21,7 +21,7 @@ use Rattle.machine.specs.Machine as M
 use Rattle.machine.specs.Walk.{Walked, said}
 use Rattle.machine.specs.Outcome.{Refused}
 use Rattle.machine.proofs.Coded.{coded}
-use Rattle.machine.proofs.Part.{Part, part-tail}
+use Rattle.machine.proofs.Suffix.{Suffix, suffix-tail}
 use Rattle.machine.proofs.Image.{Ground, image, Inside, moved, rest-is, inside-taken, inside-peeked, took-is}
 use Rattle.machine.proofs.Moves.{peek-is, run-part, name-run-is, name-count}
 use Rattle.machine.proofs.Meets.{Sofar, Fitting, stand, Meets, goes, stop, grow, grow-done, Sim, Tracks, room-at-first, push-meets}
@@ -83,7 +83,7 @@ first-sim : (g : Ground) (c : Sofar) (s : State) (l : List Token) → Fitting g 
 unfolding do-bump answer makes bump-first coded pushes
 first-sim g c s [] f i = quiet g c yes 0 (moved s []) _ f i refl
 first-sim g c s (t ∷ l) f i =
-    let p : Part (g .tokens) l = part-tail (g .tokens) l t (i .rest) in
+    let p : Suffix (g .tokens) l = suffix-tail (g .tokens) l t (i .rest) in
     subst (λ (m : Machine). Meets g (grow c (token t (length l) done)) yes 0 (taken l) (said yes (push ADD-TOKEN 0 m))) (sym (took-is g (c .numbers) (reports (c .pushed)) s t l (i .rest)))
     (push-meets g c f (taken l) ADD-TOKEN 0 yes 0 (inside-taken g l p))
 
@@ -91,7 +91,7 @@ name-sim : (g : Ground) (ks : List ℕ) (c : Sofar) (s : State) (l : List Token)
 unfolding do-name answer makes name-first coded pushes
 name-sim g ks c s [] f i = quiet g c yes 0 (moved s []) _ f i refl
 name-sim g ks c s (t ∷ l) f i =
-    let p : Part (g .tokens) l = part-tail (g .tokens) l t (i .rest) in
+    let p : Suffix (g .tokens) l = suffix-tail (g .tokens) l t (i .rest) in
     let e = c .numbers in
     let u = reports (c .pushed) in
     let r = run-of ks l in

@@ -19,7 +19,7 @@ use Rattle.machine.specs.Walk.{Walked, unlabelled, walk-prog}
 use Rattle.machine.specs.Encode.{encode}
 use Rattle.machine.specs.Outcome.{Limits, Small, fresh, room-in, Holds, Accepted, Refused, Ends}
 use Rattle.machine.proofs.Coded.{coded, coded-small, low-rows, low-rows-small}
-use Rattle.machine.proofs.Part.{part-whole}
+use Rattle.machine.proofs.Suffix.{suffix-whole}
 use Rattle.machine.proofs.Image.{Ground, image, rows-of, inside-taken}
 use Rattle.machine.proofs.Meets.{Sofar, Fitting, stand, goes, stop, grow, Sim, room-at-first}
 use Rattle.machine.proofs.Programs.{prog-sim}
@@ -79,7 +79,7 @@ machine-ends e ts ev rp pl l h =
     let o = exec (run MOST-OPEN-CALLS) no-label (whole e) (taken ts) in
     subst (λ (m : Machine). Ends ts (o .made) ev rp pl (scan (pushes (o .made)) (room-in ev rp pl)) (walk-prog MOST-OPEN-CALLS ts unlabelled (whole e) m .on)) (sym (fresh-is g))
     (meets-ends g o (walk-prog MOST-OPEN-CALLS ts unlabelled (whole e) (stand g none (taken ts))) h
-    (prog-sim g MOST-OPEN-CALLS no-label (whole e) none (taken ts) (fitting-none g) (inside-taken g ts (part-whole ts))))
+    (prog-sim g MOST-OPEN-CALLS no-label (whole e) none (taken ts) (fitting-none g) (inside-taken g ts (suffix-whole ts))))
 
 -- where all fits
 pub machine-accepts : (e : Entry) (ts : List Token) (ev rp pl : List ℕ) (z : Room) → Limits ts → Small (run-entry e ts) → scan (pushes (run-entry e ts)) (room-in ev rp pl) ≡ fits z

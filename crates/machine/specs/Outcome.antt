@@ -56,6 +56,8 @@ pub record Holds (l b : List ℕ) (x : Buffer) : Type 0 where
   pub count : x .count ≡ length l
   pub inside : length l ≤ length b
 
+-- ev, rp, pl: what the lent buffers events, reports and pool hold at first
+
 -- nothing was refused: the events encode the skeleton, reports and pool are the definitions'
 pub record Accepted (ts : List Token) (o : Skeleton) (ev rp pl : List ℕ) (m : Machine) : Type 0 where
   pub refusal : m .refusal ≡ 0

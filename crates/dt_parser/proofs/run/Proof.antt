@@ -1,7 +1,7 @@
 -- `run`: the parse with what is done after it, by the crate `call`.
 use mathlib.Core.Path.{_∙_}
 use Rattle.parser.specs.View.{view-of}
-use Rattle.grammar.specs.Parts.{entry-of as entry-for}
+use Rattle.grammar.specs.Subprograms.{entry-of as entry-for}
 use Rattle.call.specs.Result.{lent, result-of}
 use Rattle.call.proofs.Called.{events-inside, finished}
 use Rattle.dt_parser.proofs.run.Statement.{statement}
