@@ -1,14 +1,16 @@
 -- One induction over programs, loops, chains and open calls: what holds of each action and is kept by joining and by closing a marker
--- holds of every run. `Steady` is the general form, for a property of a run's state and result. `Kept` is the form for a property of
+-- holds of every run. `Composes` is what is asked of joining and closing; `exec-only` gives the property of programs that complete markers
+-- only as certain kinds, `Steady` of all programs. `Kept` is the form for a property of
 -- what a run makes between two states: its eight cases are all that a user shows.
 use Prim.Native.Nat.{ℕ, zero, suc}
-use mathlib.Core.Path.{_≡_, refl, sym, subst}
+use mathlib.Core.Path.{_≡_, refl, sym, ap, subst, _∙_}
+use mathlib.Core.Bool.{Bool, true, _&&_}
 use lib.ListN.{length}
 use Rattle.definitions.specs.Prog.{Ans, no, yes, also, again, Rule, Act, Prog, ret, act, _⨟_, case, in-marker, loop, chain, brace, open-call}
 use Rattle.definitions.specs.Grammar.{grammar}
 use Rattle.definitions.specs.Skeleton.{Label, no-label, Skeleton, done, node, over, _⧺_}
 use Rattle.definitions.specs.Run.{State, Out, mark-of, answer, makes, add, perform, choose, closed, marked, is-again, goes-on, iter, unlinked, by-shape, links, chained, here, exec, run}
-use Rattle.basics.proofs.Tests.{cond-all}
+use Rattle.basics.proofs.Tests.{cond-all, and-left, and-right}
 
 -- ---------------------------------------------------------------- the general form
 
@@ -17,7 +19,7 @@ use Rattle.basics.proofs.Tests.{cond-all}
 -- chain's node so far, i what was made since that marker.
 -- Kept by putting programs together:
 pub record Composes (Q : State → Out → Type 0) (C : State → ℕ → Skeleton → Skeleton → State → Type 0) : Type 0 where
-  pub ret : (k : ℕ) (a : Ans) (s : State) → Q s (record { ans = a; shape = k; made = done; state = s })
+  pub idle : (a : Ans) (s : State) → Q s (record { ans = a; shape = 0; made = done; state = s })
   pub add : (s : State) (o o′ : Out) → Q s o → Q (o .state) o′ → Q s (add o o′)
   pub mark : (s : State) (o : Out) → Q s o → Q s (marked s o)
   -- a loop's turn shapes no marker
@@ -25,12 +27,15 @@ pub record Composes (Q : State → Out → Type 0) (C : State → ℕ → Skelet
   -- a chain begins; something more is made in it; a link completes its marker and precedes it by a new one; it ends
   pub first : (s : State) (o : Out) → Q s o → C s (mark-of s) done (o .made) (o .state)
   pub more : (s u : State) (m : ℕ) (a i : Skeleton) (o : Out) → C s m a i u → Q u o → C s m a (i ⧺ o .made) (o .state)
-  pub link : (s u : State) (m k : ℕ) (a i : Skeleton) → C s m a i u → C s (mark-of u) (node (suc k) m (mark-of u) a i done) done u
+  -- (o: what the link, begun at w, gave, so that its shape is known)
+  pub link : (s u : State) (m k : ℕ) (a i : Skeleton) (w : State) (o : Out) → Q w o → o .shape ≡ suc k → C s m a i u
+      → C s (mark-of u) (node (suc k) m (mark-of u) a i done) done u
   pub last : (s u : State) (m : ℕ) (a i : Skeleton) (x : Ans) → C s m a i u → Q s (unlinked m a i x u)
 
 -- and true of each action, and of the call that is one too many
 pub record Steady (Q : State → Out → Type 0) (C : State → ℕ → Skeleton → Skeleton → State → Type 0) : Type 0 where
   pub composes : Composes Q C
+  pub ret : (k : ℕ) (a : Ans) (s : State) → Q s (record { ans = a; shape = k; made = done; state = s })
   pub act : (b : Label) (a : Act) (s : State) → Q s (perform b a s)
   pub deep : (s : State) → Q s (makes no (over (mark-of s) done) s)
 
@@ -46,7 +51,7 @@ module _ (Q : State → Out → Type 0) (C : State → ℕ → Skeleton → Skel
   -- every loop
   pub iter-all : (n : ℕ) (f : State → Out) → ((s : State) → Q s (f s)) → (s : State) → Q s (iter n f s)
   unfolding iter answer
-  iter-all zero f h s = S .ret 0 again s
+  iter-all zero f h s = S .idle again s
   iter-all (suc n) f h s =
       let turn : Q s (makes (f s .ans) (f s .made) (f s .state)) = S .turn s (f s) (h s) in
       cond-all (Q s) (goes-on s (f s)) (S .add s _ _ (unfold makes in turn) (iter-all n f h (f s .state))) turn
@@ -66,7 +71,7 @@ module _ (Q : State → Out → Type 0) (C : State → ℕ → Skeleton → Skel
       by-shape-all s (o .shape) _ _ (S .last s (o .state) m a (i ⧺ o .made) (o .ans) d)
       (λ j e.
       let l : C s (mark-of (o .state)) (closed (o .shape) m (mark-of (o .state)) a (i ⧺ o .made)) done (o .state) =
-      subst (λ (k : ℕ). C s (mark-of (o .state)) (closed k m (mark-of (o .state)) a (i ⧺ o .made)) done (o .state)) (sym e) (S .link s (o .state) m j a (i ⧺ o .made) d) in
+      subst (λ (k : ℕ). C s (mark-of (o .state)) (closed k m (mark-of (o .state)) a (i ⧺ o .made)) done (o .state)) (sym e) (S .link s (o .state) m j a (i ⧺ o .made) u o (h u) e d) in
       cond-all (Q s) (goes-on u o) (links-all n f h s (o .state) (mark-of (o .state)) _ done l) (S .last s (o .state) (mark-of (o .state)) _ done (o .ans) l))
 
   -- every chain
@@ -78,21 +83,63 @@ module _ (Q : State → Out → Type 0) (C : State → ℕ → Skeleton → Skel
       (links-all (suc (length (o .state .rest))) f h s (o .state) (mark-of s) done (o .made) c)
       (S .last s (o .state) (mark-of s) done (o .made) (o .ans) c)
 
+-- every marker of the program is ignored or completed as a kind of which f holds
+unfoldable pub only : (ℕ → Bool) → Prog → Bool
+only f (ret k a) = f k
+only f (act a) = true
+only f (p ⨟ q) = only f p && only f q
+only f (case c n y a) = only f c && (only f n && (only f y && only f a))
+only f (in-marker p) = only f p
+only f (loop p) = only f p
+only f (chain p q) = only f p && only f q
+only f (brace p) = only f p
+only f (open-call r) = true
+
+module _ (Q : State → Out → Type 0) (C : State → ℕ → Skeleton → Skeleton → State → Type 0) (S : Composes Q C) (f : ℕ → Bool)
+    (rets : (k : ℕ) (a : Ans) (s : State) → f k ≡ true → Q s (record { ans = a; shape = k; made = done; state = s }))
+    (acts : (b : Label) (a : Act) (s : State) → Q s (perform b a s)) where
+  -- every such program, if it holds of what the calls do
+  pub exec-only : (ask : Rule → State → Out) → ((r : Rule) (s : State) → Q s (ask r s)) → (b : Label) (p : Prog) (s : State) → only f p ≡ true → Q s (exec ask b p s)
+  unfolding exec only
+  exec-only ask h b (ret k a) s e = rets k a s e
+  exec-only ask h b (act a) s e = acts b a s
+  exec-only ask h b (p ⨟ q) s e =
+      S .add s _ _ (exec-only ask h b p s (and-left _ _ e)) (exec-only ask h b q (exec ask b p s .state) (and-right (only f p) _ e))
+  exec-only ask h b (case c n y a) s e =
+      let e₁ = and-right (only f c) _ e in
+      let e₂ = and-right (only f n) _ e₁ in
+      S .add s _ _ (exec-only ask h b c s (and-left _ _ e))
+      (choose-all Q C S (exec ask b c s .ans) (exec ask b n) (exec ask b y) (exec ask b a) (λ u. exec-only ask h b n u (and-left _ _ e₁))
+      (λ u. exec-only ask h b y u (and-left _ _ e₂)) (λ u. exec-only ask h b a u (and-right (only f y) _ e₂)) (exec ask b c s .state))
+  exec-only ask h b (in-marker p) s e = S .mark s _ (exec-only ask h b p s e)
+  exec-only ask h b (loop p) s e = iter-all Q C S (suc (length (s .rest))) (exec ask b p) (λ u. exec-only ask h b p u e) s
+  exec-only ask h b (chain p q) s e =
+      chained-all Q C S (exec ask b q) (λ u. exec-only ask h b q u (and-right (only f p) _ e)) s (exec ask b p s) (exec-only ask h b p s (and-left _ _ e))
+  exec-only ask h b (brace p) s e = exec-only ask h (here (s .rest)) p s e
+  exec-only ask h b (open-call r) s e = h r s
+
+any-kind : ℕ → Bool
+any-kind k = true
+
+both : {a b : Bool} → a ≡ true → b ≡ true → (a && b) ≡ true
+both {b = b} e h = ap (_&& b) e ∙ h
+
+only-any : (p : Prog) → only any-kind p ≡ true
+unfolding only any-kind
+only-any (ret k a) = refl
+only-any (act a) = refl
+only-any (p ⨟ q) = both (only-any p) (only-any q)
+only-any (case c n y a) = both (only-any c) (both (only-any n) (both (only-any y) (only-any a)))
+only-any (in-marker p) = only-any p
+only-any (loop p) = only-any p
+only-any (chain p q) = both (only-any p) (only-any q)
+only-any (brace p) = only-any p
+only-any (open-call r) = refl
+
 module _ (Q : State → Out → Type 0) (C : State → ℕ → Skeleton → Skeleton → State → Type 0) (S : Steady Q C) where
   -- every program, if it holds of what the calls do
   pub exec-all : (ask : Rule → State → Out) → ((r : Rule) (s : State) → Q s (ask r s)) → (b : Label) (p : Prog) (s : State) → Q s (exec ask b p s)
-  unfolding exec
-  exec-all ask h b (ret k a) s = S .composes .ret k a s
-  exec-all ask h b (act a) s = S .act b a s
-  exec-all ask h b (p ⨟ q) s = S .composes .add s _ _ (exec-all ask h b p s) (exec-all ask h b q (exec ask b p s .state))
-  exec-all ask h b (case c n y a) s =
-      S .composes .add s _ _ (exec-all ask h b c s)
-      (choose-all Q C (S .composes) (exec ask b c s .ans) (exec ask b n) (exec ask b y) (exec ask b a) (exec-all ask h b n) (exec-all ask h b y) (exec-all ask h b a) (exec ask b c s .state))
-  exec-all ask h b (in-marker p) s = S .composes .mark s _ (exec-all ask h b p s)
-  exec-all ask h b (loop p) s = iter-all Q C (S .composes) (suc (length (s .rest))) (exec ask b p) (exec-all ask h b p) s
-  exec-all ask h b (chain p q) s = chained-all Q C (S .composes) (exec ask b q) (exec-all ask h b q) s (exec ask b p s) (exec-all ask h b p s)
-  exec-all ask h b (brace p) s = exec-all ask h (here (s .rest)) p s
-  exec-all ask h b (open-call r) s = h r s
+  exec-all ask h b p s = exec-only Q C (S .composes) any-kind (λ k a u e. S .ret k a u) (S .act) ask h b p s (only-any p)
 
   -- every call, with any number of open calls allowed
   pub run-all : (n : ℕ) (r : Rule) (s : State) → Q s (run n r s)

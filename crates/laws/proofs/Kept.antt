@@ -179,7 +179,7 @@ module _ (R : State → Skeleton → State → Type 0) (kept : Kept R) where
   unfolding marked makes unlinked _⧺_ closed
   composed =
       record {
-        ret = λ k a s h. (h, idle s h);
+        idle = λ a s h. (h, idle s h);
         add = ran-add;
         mark = λ s o p h. (p h .0, kept .close s s (o .state) (o .shape) done (o .made) (idle s h) (p h .1));
         turn = λ s o p h. p h;
@@ -188,7 +188,7 @@ module _ (R : State → Skeleton → State → Type 0) (kept : Kept R) where
             let d : Under s m a i u = c h in
             let q : Stands (o .state) × R u (o .made) (o .state) = p (d .stands) in
             record { at = d .at; pushed = d .pushed; stands = q .0; before = d .before; since = kept .join (d .at) u (o .state) i (o .made) (d .since) (q .1) };
-        link = λ s u m k a i c h.
+        link = λ s u m k a i w o q e c h.
             let d : Under s m a i u = c h in
             record {
               at = u;
@@ -207,6 +207,7 @@ module _ (R : State → Skeleton → State → Type 0) (kept : Kept R) where
   steady =
       record {
         composes = composed;
+        ret = λ k a s h. (h, idle s h);
         act = act-ran;
         deep = λ s h. (h, kept .over s h);
       }

@@ -26,7 +26,8 @@ use Rattle.precedence.proofs.Pushed.{clear-inside, clear-first}
 use Rattle.precedence.proofs.Symbols.{test-one}
 use Rattle.precedence.proofs.Short.{exec-short}
 use Rattle.precedence.proofs.Cell.{CellOf, CellNode, cells}
-use Rattle.precedence.proofs.Only.{only, Ran, ran-add, ran-ret, ran-choose, ran-exec}
+use Rattle.laws.proofs.Engine.{only}
+use Rattle.precedence.proofs.Only.{Ran, ran-add, ran-ret, ran-choose, ran-exec}
 use Rattle.precedence.proofs.Cells.{no-cell, Celled, celled}
 use Rattle.precedence.proofs.Cells as Cs
 

@@ -10,7 +10,7 @@ use lib.ListN.{length}
 use Rattle.definitions.specs.Layout.{MOST-OPEN-CALLS, MOST-PENDING}
 use Rattle.definitions.specs.TokenKind as K
 use Rattle.definitions.specs.Token.{Token, trivia, bytes}
-use Rattle.definitions.specs.Prog.{yes, Rule, Act, silent-at, at-end, immediate, immediate-next, add-expected, bump, bump-name, bump-argument, emit, emit-unclosed, less, Prog, ret, act, _⨟_, case, in-marker, loop, chain, brace, open-call}
+use Rattle.definitions.specs.Prog.{Ans, yes, Rule, Act, silent-at, at-end, immediate, immediate-next, add-expected, bump, bump-name, bump-argument, emit, emit-unclosed, less, Prog, ret, act, _⨟_, case, in-marker, loop, chain, brace, open-call}
 use Rattle.definitions.specs.Grammar.{grammar, Entry, whole}
 use Rattle.definitions.specs.Skeleton.{Span, Label, no-label, label, Report, Skeleton, done, token, name, report, over, _⧺_}
 use Rattle.definitions.specs.Run.{State, Out, mark-of, peeked, answer, makes, taken, do-bump, do-name, add, at-depth, do-argument, only-separators, error-range, do-emit, over-unless, do-expected, perform, closed, marked, unlinked, here, exec, run}
@@ -103,11 +103,15 @@ module _ (b : ℕ) where
   closed-labels : (k m m′ : ℕ) (a i : Skeleton) → All P (told a) → All P (told i) → All P (told (closed k m m′ a i))
   closed-labels k m m′ a i h g = subst (All P) (sym (told-closed k m m′ a i)) (all-append P (told a) (told i) h g)
 
+  rets : (k : ℕ) (a : Ans) (s : State) → Q s (record { ans = a; shape = k; made = done; state = s })
+  unfolding pushes reports
+  rets k a s h = record { near = h; labels = tt }
+
   labels-compose : Composes Q C
   unfolding add marked makes unlinked pushes reports
   labels-compose =
       record {
-        ret = λ k a s h. record { near = h; labels = tt };
+        idle = rets 0;
         add = λ s o o′ p q h. let x : Labels o = p h in let y : Labels o′ = q (x .near) in record { near = y .near; labels = told-all P (o .made) (o′ .made) (x .labels) (y .labels) };
         mark = λ s o p h. let x : Labels o = p h in record { near = x .near; labels = closed-labels (o .shape) (mark-of s) (mark-of (o .state)) done (o .made) tt (x .labels) };
         turn = λ s o p h. let x : Labels o = p h in record { near = x .near; labels = x .labels };
@@ -116,7 +120,7 @@ module _ (b : ℕ) where
             let x : Chaining u a i = c h in
             let y : Labels o = p (x .near) in
             record { near = y .near; before = x .before; since = told-all P i (o .made) (x .since) (y .labels) };
-        link = λ s u m k a i c h. let x : Chaining u a i = c h in record { near = x .near; before = unfold closed in closed-labels (suc k) m (mark-of u) a i (x .before) (x .since); since = tt };
+        link = λ s u m k a i w o q e c h. let x : Chaining u a i = c h in record { near = x .near; before = unfold closed in closed-labels (suc k) m (mark-of u) a i (x .before) (x .since); since = tt };
         last = λ s u m a i x c h. let y : Chaining u a i = c h in record { near = y .near; labels = closed-labels 0 m (mark-of u) a i (y .before) (y .since) };
       }
 
@@ -172,7 +176,7 @@ module _ (b : ℕ) where
 
   exec-labels : (n : ℕ) → ((r : Rule) (s : State) → Q s (run n r s)) → (l : Label) → Label-in b l → (p : Prog) (s : State) → Q s (exec (run n) l p s)
   unfolding exec
-  exec-labels n f l w (ret k a) s = labels-compose .ret k a s
+  exec-labels n f l w (ret k a) s = rets k a s
   exec-labels n f l w (act a) s = λ h. record { near = near-after n l (act a) s h; labels = act-labels l w a s }
   exec-labels n f l w (p ⨟ q) s = labels-compose .add s _ _ (exec-labels n f l w p s) (exec-labels n f l w q (exec (run n) l p s .state))
   exec-labels n f l w (case c m y a) s =

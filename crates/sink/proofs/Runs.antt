@@ -8,8 +8,8 @@ use lib.ListN.{length}
 use Rattle.definitions.specs.Layout.{MOST-OPEN-CALLS}
 use Rattle.definitions.specs.TokenKind as K
 use Rattle.definitions.specs.Token.{Token, trivia}
-use Rattle.definitions.specs.Prog.{no, yes, Act, silent-at, at-end, immediate, immediate-next, add-expected, bump, bump-name, bump-argument, emit, emit-unclosed, less}
-use Rattle.definitions.specs.Skeleton.{Label, no-label, Skeleton, done, token, node, _⧺_}
+use Rattle.definitions.specs.Prog.{yes, Act, silent-at, at-end, immediate, immediate-next, add-expected, bump, bump-name, bump-argument, emit, emit-unclosed, less}
+use Rattle.definitions.specs.Skeleton.{Label, no-label, Skeleton, done, token, _⧺_}
 use Rattle.definitions.specs.Run.{State, Out, mark-of, peeked, answer, makes, taken, do-bump, do-name, add, at-depth, do-argument, do-emit, over-unless, do-expected, perform, closed, marked, unlinked, run}
 use Rattle.definitions.specs.Grammar.{Entry, whole}
 use Rattle.definitions.specs.Call.{run-entry}
@@ -84,19 +84,19 @@ composes : Composes made-chained under-chained
 unfolding made-chained under-chained add marked makes unlinked Chained
 composes =
     record {
-      ret = λ k a s. tt;
+      idle = λ a s. tt;
       add = λ s o o′ h g. chained-join (o .made) (o′ .made) h g;
       mark = λ s o h. closed-chained (o .shape) (mark-of s) (mark-of (o .state)) done (o .made) tt tt h;
       turn = λ s o h. h;
       first = λ s o h. (tt, (tt, h));
       more = λ s u m a i o c h. (c .0, (c .1 .0, chained-join i (o .made) (c .1 .1) h));
-      link = λ s u m k a i c. (refl, ((c .0, (c .1 .0, (c .1 .1, tt))), tt));
+      link = λ s u m k a i w o q e c. (refl, ((c .0, (c .1 .0, (c .1 .1, tt))), tt));
       last = λ s u m a i x c. closed-chained 0 m (mark-of u) a i (c .0) (c .1 .0) (c .1 .1);
     }
 
 steady : Steady made-chained under-chained
 unfolding made-chained makes Chained
-steady = record { composes = composes; act = act-chained; deep = λ s. tt }
+steady = record { composes = composes; ret = λ k a s. tt; act = act-chained; deep = λ s. tt }
 
 -- EVERY RUN'S SKELETON IS CHAINED
 pub entry-chained : (e : Entry) (ts : List Token) → Chained (run-entry e ts)
