@@ -1,8 +1,8 @@
 -- Every code that a run makes is below 256, since the grammar names no other.
 use Prim.Native.Nat.{ℕ, zero, suc, _<_}
 use native.Mathlib.Omega.{arith}
-use mathlib.Core.Path.{_≡_, refl}
-use mathlib.Core.Bool.{Bool, true, false, _&&_}
+use mathlib.Core.Path.{_≡_, refl, subst}
+use mathlib.Core.Bool.{Bool, true, false}
 use mathlib.Core.List.{List, [], _∷_}
 use lib.Dec.{ltb, eqb}
 use lib.ListN.{length}
@@ -11,14 +11,15 @@ use Rattle.definitions.specs.Layout.{MOST-OPEN-CALLS, MOST-PENDING}
 use Rattle.definitions.specs.TokenKind as K
 use Rattle.definitions.specs.Errors as E
 use Rattle.definitions.specs.Token.{Token, trivia, drop-trivia}
-use Rattle.definitions.specs.Prog.{Ans, no, yes, also, again, Rule, Act, silent-at, at-end, immediate, immediate-next, add-expected, bump, bump-name, bump-argument, emit, emit-unclosed, less, Prog, ret, act, _⨟_, case, in-marker, loop, chain, brace, open-call}
+use Rattle.definitions.specs.Prog.{Ans, no, yes, Rule, Act, silent-at, at-end, immediate, immediate-next, add-expected, bump, bump-name, bump-argument, emit, emit-unclosed, less, Prog}
 use Rattle.definitions.specs.Grammar.{grammar, Entry, whole}
 use Rattle.definitions.specs.Skeleton.{Label, no-label, Skeleton, done, token, _⧺_}
-use Rattle.definitions.specs.Run.{State, Out, mark-of, peeked, answer, makes, taken, do-bump, do-name, add, at-depth, do-argument, pool-of, do-emit, over-unless, do-expected, perform, choose, closed, marked, is-again, goes-on, iter, unlinked, by-shape, links, chained, here, exec, run}
+use Rattle.definitions.specs.Run.{State, Out, mark-of, peeked, answer, makes, taken, do-bump, do-name, add, at-depth, do-argument, pool-of, do-emit, over-unless, do-expected, perform, closed, marked, unlinked, exec, run}
 use Rattle.definitions.specs.Call.{run-entry}
+use Rattle.laws.proofs.Engine.{Composes, exec-only}
 use Rattle.basics.proofs.Tests.{cond-all, and-left, and-right}
 use Rattle.bounds.specs.Numbers.{Below}
-use Rattle.bounds.proofs.Codes.{CODES, small-act, small, grammar-small, whole-small, Coded, coded-join, coded-closed, below-append}
+use Rattle.bounds.proofs.Codes.{CODES, small-kind, small-act, small, grammar-small, whole-small, Coded, coded-join, coded-closed, below-append}
 
 -- what a run makes, if what was pending is small
 pub record Makes-codes (o : Out) : Type 0 where
@@ -93,67 +94,40 @@ act-codes b (less m n) e s = quiet _ s s refl
 
 -- ---------------------------------------------------------------- loops, chains, programs
 
-module _ (f : State → Out) (F : (s : State) → Q s (f s)) where
-  iter-codes : (n : ℕ) (s : State) → Q s (iter n f s)
-  unfolding iter makes
-  iter-codes zero s = quiet again s s refl
-  iter-codes (suc n) s =
-      let turn : Q s (makes (f s .ans) (f s .made) (f s .state)) = λ h. record { shape = omega arith; made = F s h .made; pending = F s h .pending } in
-      cond-all (Q s) (goes-on s (f s)) (add-codes s _ _ turn (iter-codes n (f s .state))) turn
+-- a chain under way
+record Chain-codes (a i : Skeleton) (u : State) : Type 0 where
+  before : Coded a
+  since : Coded i
+  pending : Below CODES (u .pending)
 
-  last-codes : (m : ℕ) (a i : Skeleton) (x : Ans) (s : State) → Coded a → Coded i → Below CODES (s .pending) → Makes-codes (unlinked m a i x s)
-  unfolding unlinked makes
-  last-codes m a i x s p q h = record { shape = omega arith; made = coded-closed 0 m (mark-of s) a i (omega arith) p q; pending = h }
+composed : Composes Q (λ s m a i u. Below CODES (s .pending) → Chain-codes a i u)
+unfolding marked makes unlinked answer Coded closed
+composed =
+    record {
+      idle = λ a s. quiet a s s refl;
+      add = add-codes;
+      mark = λ s o p h. record { shape = omega arith; made = coded-closed (o .shape) _ _ done (o .made) (p h .shape) tt (p h .made); pending = p h .pending };
+      turn = λ s o p h. record { shape = omega arith; made = p h .made; pending = p h .pending };
+      first = λ s o p h. record { before = tt; since = p h .made; pending = p h .pending };
+      more = λ s u m a i o c p h.
+          let x : Chain-codes a i u = c h in
+          let y : Makes-codes o = p (x .pending) in
+          record { before = x .before; since = coded-join i (o .made) (x .since) (y .made); pending = y .pending };
+      link = λ s u m k a i o b q e c h.
+          let v = o .state in
+          let x : Chain-codes a (i ⧺ o .made) v = c h in
+          let l : suc k < CODES = subst (λ (j : ℕ). j < CODES) e (q (b h .pending) .shape) in
+          record { before = coded-closed (suc k) m (mark-of v) a (i ⧺ o .made) l (x .before) (x .since); since = tt; pending = x .pending };
+      last = λ s u m a i x c h. record { shape = omega arith; made = coded-closed 0 m (mark-of u) a i (omega arith) (c h .before) (c h .since); pending = c h .pending };
+    }
 
-  by-shape-all : (k : ℕ) {o o′ : Out} → Makes-codes o → Makes-codes o′ → Makes-codes (by-shape k o o′)
-  unfolding by-shape
-  by-shape-all zero p q = p
-  by-shape-all (suc k) p q = q
+rets : (k : ℕ) (a : Ans) (s : State) → ltb k CODES ≡ true → Q s (record { ans = a; shape = k; made = done; state = s })
+unfolding Coded
+rets k a s e h = record { shape = ltb-true _ _ e; made = tt; pending = h }
 
-  links-codes : (n m : ℕ) (a i : Skeleton) (s : State) → Coded a → Coded i → Q s (links n f m a i s)
-  unfolding links Coded
-  links-codes zero m a i s p q h = last-codes m a i again s p q h
-  links-codes (suc n) m a i s p q h =
-      let o = F s h in
-      let j : Coded (i ⧺ f s .made) = coded-join i (f s .made) q (o .made) in
-      let l : Coded (closed (f s .shape) m (mark-of (f s .state)) a (i ⧺ f s .made)) = coded-closed (f s .shape) m _ a _ (o .shape) p j in
-      by-shape-all (f s .shape) (last-codes m a _ (f s .ans) (f s .state) p j (o .pending))
-      (cond-all Makes-codes (goes-on s (f s)) (links-codes n (mark-of (f s .state)) _ done (f s .state) l tt (o .pending)) (last-codes _ _ done (f s .ans) (f s .state) l tt (o .pending)))
-
-  chained-codes : (s : State) (o : Out) → Q s o → Q s (chained f s o)
-  unfolding chained Coded
-  chained-codes s o p h =
-      let a = p h in
-      cond-all Makes-codes (is-again (o .ans)) (links-codes (suc (length (o .state .rest))) (mark-of s) done (o .made) (o .state) tt (a .made) (a .pending)) (last-codes (mark-of s) done (o .made) (o .ans) (o .state) tt (a .made) (a .pending))
-
-choose-codes : (x : Ans) (n y a : State → Out) → ((s : State) → Q s (n s)) → ((s : State) → Q s (y s)) → ((s : State) → Q s (a s)) → (s : State) → Q s (choose x n y a s)
-unfolding choose
-choose-codes no n y a p q r s = p s
-choose-codes yes n y a p q r s = q s
-choose-codes also n y a p q r s = r s
-choose-codes again n y a p q r s = q s
-
-marked-codes : (s : State) (o : Out) → Q s o → Q s (marked s o)
-unfolding marked makes Coded
-marked-codes s o p h = let a = p h in record { shape = omega arith; made = coded-closed (o .shape) _ _ done (o .made) (a .shape) tt (a .made); pending = a .pending }
-
-module _ (ask : Rule → State → Out) (A : (r : Rule) (s : State) → Q s (ask r s)) where
-  exec-codes : (p : Prog) → small p ≡ true → (b : Label) (s : State) → Q s (exec ask b p s)
-  unfolding exec small Coded
-  exec-codes (ret k a) e b s h = record { shape = ltb-true _ _ e; made = tt; pending = h }
-  exec-codes (act a) e b s h = act-codes b a e s h
-  exec-codes (p ⨟ q) e b s h = add-codes s _ _ (exec-codes p (and-left (small p) _ e) b s) (exec-codes q (and-right (small p) _ e) b (exec ask b p s .state)) h
-  exec-codes (case c n y a) e b s h =
-      let e₀ = and-left (small c && small n) _ e in
-      let e₁ = and-right (small c && small n) _ e in
-      add-codes s _ _ (exec-codes c (and-left (small c) _ e₀) b s)
-      (choose-codes (exec ask b c s .ans) (exec ask b n) (exec ask b y) (exec ask b a) (exec-codes n (and-right (small c) _ e₀) b) (exec-codes y (and-left (small y) _ e₁) b) (exec-codes a (and-right (small y) _ e₁) b) (exec ask b c s .state))
-      h
-  exec-codes (in-marker p) e b s h = marked-codes s _ (exec-codes p e b s) h
-  exec-codes (loop p) e b s h = iter-codes (exec ask b p) (exec-codes p e b) (suc (length (s .rest))) s h
-  exec-codes (chain p q) e b s h = chained-codes (exec ask b q) (exec-codes q (and-right (small p) _ e) b) s _ (exec-codes p (and-left (small p) _ e) b s) h
-  exec-codes (brace p) e b s h = exec-codes p e (here (s .rest)) s h
-  exec-codes (open-call r) e b s h = A r s h
+exec-codes : (ask : Rule → State → Out) → ((r : Rule) (s : State) → Q s (ask r s)) → (p : Prog) → small p ≡ true → (b : Label) (s : State) → Q s (exec ask b p s)
+unfolding small
+exec-codes ask A p e b s = exec-only Q _ composed small-kind small-act rets act-codes ask A b p s e
 
 run-codes : (n : ℕ) (r : Rule) (s : State) → Q s (run n r s)
 unfolding run makes Coded

@@ -5,10 +5,11 @@ use mathlib.Core.Path.{_≡_, refl}
 use mathlib.Core.Bool.{Bool, true, false, _&&_}
 use mathlib.Core.List.{List, [], _∷_, _++_}
 use lib.Dec.{ltb}
-use Rattle.definitions.specs.Prog.{Rule, item, propvalues, eat-cell, expr-binding-power, Act, silent-at, at-end, immediate, immediate-next, add-expected, bump, bump-name, bump-argument, emit, emit-unclosed, less, Prog, ret, act, _⨟_, case, in-marker, loop, chain, brace, open-call}
+use Rattle.definitions.specs.Prog.{Rule, item, propvalues, eat-cell, expr-binding-power, Act, silent-at, at-end, immediate, immediate-next, add-expected, bump, bump-name, bump-argument, emit, emit-unclosed, less, Prog}
 use Rattle.definitions.specs.Grammar.{grammar, Entry, SourceFile, ReferenceNoamp, PropValues, Cells, whole}
 use Rattle.definitions.specs.Skeleton.{Report, Skeleton, done, token, name, node, ignored, report, over, _⧺_}
 use Rattle.definitions.specs.Run.{closed}
+use Rattle.laws.proofs.Engine.{only}
 use Rattle.bounds.specs.Numbers.{Below}
 
 -- ---------------------------------------------------------------- in programs
@@ -29,17 +30,12 @@ small-act (emit m h) = ltb m CODES && ltb h CODES
 small-act emit-unclosed = true
 small-act (less m n) = true
 
+abbrev pub small-kind : ℕ → Bool
+small-kind k = ltb k CODES
+
 unfoldable pub small : Prog → Bool
-unfolding small-act
-small (ret k a) = ltb k CODES
-small (act a) = small-act a
-small (p ⨟ q) = small p && small q
-small (case c n y a) = (small c && small n) && (small y && small a)
-small (in-marker p) = small p
-small (loop p) = small p
-small (chain p q) = small p && small q
-small (brace p) = small p
-small (open-call r) = true
+unfolding only small-act
+small p = only small-kind small-act p
 
 pub grammar-small : (r : Rule) → small (grammar r) ≡ true
 unfolding small grammar

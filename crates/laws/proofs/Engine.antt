@@ -27,9 +27,9 @@ pub record Composes (Q : State → Out → Type 0) (C : State → ℕ → Skelet
   -- a chain begins; something more is made in it; a link completes its marker and precedes it by a new one; it ends
   pub first : (s : State) (o : Out) → Q s o → C s (mark-of s) done (o .made) (o .state)
   pub more : (s u : State) (m : ℕ) (a i : Skeleton) (o : Out) → C s m a i u → Q u o → C s m a (i ⧺ o .made) (o .state)
-  -- (o: what the link, begun at w, gave, so that its shape is known)
-  pub link : (s u : State) (m k : ℕ) (a i : Skeleton) (w : State) (o : Out) → Q w o → o .shape ≡ suc k → C s m a i u
-      → C s (mark-of u) (node (suc k) m (mark-of u) a i done) done u
+  -- (the link began at u and gave o; the chain is known before it and after it)
+  pub link : (s u : State) (m k : ℕ) (a i : Skeleton) (o : Out) → C s m a i u → Q u o → o .shape ≡ suc k → C s m a (i ⧺ o .made) (o .state)
+      → C s (mark-of (o .state)) (node (suc k) m (mark-of (o .state)) a (i ⧺ o .made) done) done (o .state)
   pub last : (s u : State) (m : ℕ) (a i : Skeleton) (x : Ans) → C s m a i u → Q s (unlinked m a i x u)
 
 -- and true of each action, and of the call that is one too many
@@ -71,7 +71,7 @@ module _ (Q : State → Out → Type 0) (C : State → ℕ → Skeleton → Skel
       by-shape-all s (o .shape) _ _ (S .last s (o .state) m a (i ⧺ o .made) (o .ans) d)
       (λ j e.
       let l : C s (mark-of (o .state)) (closed (o .shape) m (mark-of (o .state)) a (i ⧺ o .made)) done (o .state) =
-      subst (λ (k : ℕ). C s (mark-of (o .state)) (closed k m (mark-of (o .state)) a (i ⧺ o .made)) done (o .state)) (sym e) (S .link s (o .state) m j a (i ⧺ o .made) u o (h u) e d) in
+      subst (λ (k : ℕ). C s (mark-of (o .state)) (closed k m (mark-of (o .state)) a (i ⧺ o .made)) done (o .state)) (sym e) (S .link s u m j a i o c (h u) e d) in
       cond-all (Q s) (goes-on u o) (links-all n f h s (o .state) (mark-of (o .state)) _ done l) (S .last s (o .state) (mark-of (o .state)) _ done (o .ans) l))
 
   -- every chain
@@ -83,38 +83,41 @@ module _ (Q : State → Out → Type 0) (C : State → ℕ → Skeleton → Skel
       (links-all (suc (length (o .state .rest))) f h s (o .state) (mark-of s) done (o .made) c)
       (S .last s (o .state) (mark-of s) done (o .made) (o .ans) c)
 
--- every marker of the program is ignored or completed as a kind of which f holds
-unfoldable pub only : (ℕ → Bool) → Prog → Bool
-only f (ret k a) = f k
-only f (act a) = true
-only f (p ⨟ q) = only f p && only f q
-only f (case c n y a) = only f c && (only f n && (only f y && only f a))
-only f (in-marker p) = only f p
-only f (loop p) = only f p
-only f (chain p q) = only f p && only f q
-only f (brace p) = only f p
-only f (open-call r) = true
+-- every marker of the program is ignored or completed as a kind of which f holds, and g holds of every action
+unfoldable pub only : (ℕ → Bool) → (Act → Bool) → Prog → Bool
+only f g (ret k a) = f k
+only f g (act a) = g a
+only f g (p ⨟ q) = only f g p && only f g q
+only f g (case c n y a) = only f g c && (only f g n && (only f g y && only f g a))
+only f g (in-marker p) = only f g p
+only f g (loop p) = only f g p
+only f g (chain p q) = only f g p && only f g q
+only f g (brace p) = only f g p
+only f g (open-call r) = true
 
-module _ (Q : State → Out → Type 0) (C : State → ℕ → Skeleton → Skeleton → State → Type 0) (S : Composes Q C) (f : ℕ → Bool)
+abbrev pub any-act : Act → Bool
+any-act a = true
+
+module _ (Q : State → Out → Type 0) (C : State → ℕ → Skeleton → Skeleton → State → Type 0) (S : Composes Q C) (f : ℕ → Bool) (g : Act → Bool)
     (rets : (k : ℕ) (a : Ans) (s : State) → f k ≡ true → Q s (record { ans = a; shape = k; made = done; state = s }))
-    (acts : (b : Label) (a : Act) (s : State) → Q s (perform b a s)) where
+    (acts : (b : Label) (a : Act) → g a ≡ true → (s : State) → Q s (perform b a s)) where
   -- every such program, if it holds of what the calls do
-  pub exec-only : (ask : Rule → State → Out) → ((r : Rule) (s : State) → Q s (ask r s)) → (b : Label) (p : Prog) (s : State) → only f p ≡ true → Q s (exec ask b p s)
+  pub exec-only : (ask : Rule → State → Out) → ((r : Rule) (s : State) → Q s (ask r s)) → (b : Label) (p : Prog) (s : State) → only f g p ≡ true → Q s (exec ask b p s)
   unfolding exec only
   exec-only ask h b (ret k a) s e = rets k a s e
-  exec-only ask h b (act a) s e = acts b a s
+  exec-only ask h b (act a) s e = acts b a e s
   exec-only ask h b (p ⨟ q) s e =
-      S .add s _ _ (exec-only ask h b p s (and-left _ _ e)) (exec-only ask h b q (exec ask b p s .state) (and-right (only f p) _ e))
+      S .add s _ _ (exec-only ask h b p s (and-left _ _ e)) (exec-only ask h b q (exec ask b p s .state) (and-right (only f g p) _ e))
   exec-only ask h b (case c n y a) s e =
-      let e₁ = and-right (only f c) _ e in
-      let e₂ = and-right (only f n) _ e₁ in
+      let e₁ = and-right (only f g c) _ e in
+      let e₂ = and-right (only f g n) _ e₁ in
       S .add s _ _ (exec-only ask h b c s (and-left _ _ e))
       (choose-all Q C S (exec ask b c s .ans) (exec ask b n) (exec ask b y) (exec ask b a) (λ u. exec-only ask h b n u (and-left _ _ e₁))
-      (λ u. exec-only ask h b y u (and-left _ _ e₂)) (λ u. exec-only ask h b a u (and-right (only f y) _ e₂)) (exec ask b c s .state))
+      (λ u. exec-only ask h b y u (and-left _ _ e₂)) (λ u. exec-only ask h b a u (and-right (only f g y) _ e₂)) (exec ask b c s .state))
   exec-only ask h b (in-marker p) s e = S .mark s _ (exec-only ask h b p s e)
   exec-only ask h b (loop p) s e = iter-all Q C S (suc (length (s .rest))) (exec ask b p) (λ u. exec-only ask h b p u e) s
   exec-only ask h b (chain p q) s e =
-      chained-all Q C S (exec ask b q) (λ u. exec-only ask h b q u (and-right (only f p) _ e)) s (exec ask b p s) (exec-only ask h b p s (and-left _ _ e))
+      chained-all Q C S (exec ask b q) (λ u. exec-only ask h b q u (and-right (only f g p) _ e)) s (exec ask b p s) (exec-only ask h b p s (and-left _ _ e))
   exec-only ask h b (brace p) s e = exec-only ask h (here (s .rest)) p s e
   exec-only ask h b (open-call r) s e = h r s
 
@@ -124,7 +127,7 @@ any-kind k = true
 both : {a b : Bool} → a ≡ true → b ≡ true → (a && b) ≡ true
 both {b = b} e h = ap (_&& b) e ∙ h
 
-only-any : (p : Prog) → only any-kind p ≡ true
+only-any : (p : Prog) → only any-kind any-act p ≡ true
 unfolding only any-kind
 only-any (ret k a) = refl
 only-any (act a) = refl
@@ -139,7 +142,7 @@ only-any (open-call r) = refl
 module _ (Q : State → Out → Type 0) (C : State → ℕ → Skeleton → Skeleton → State → Type 0) (S : Steady Q C) where
   -- every program, if it holds of what the calls do
   pub exec-all : (ask : Rule → State → Out) → ((r : Rule) (s : State) → Q s (ask r s)) → (b : Label) (p : Prog) (s : State) → Q s (exec ask b p s)
-  exec-all ask h b p s = exec-only Q C (S .composes) any-kind (λ k a u e. S .ret k a u) (S .act) ask h b p s (only-any p)
+  exec-all ask h b p s = exec-only Q C (S .composes) any-kind any-act (λ k a u e. S .ret k a u) (λ c a e u. S .act c a u) ask h b p s (only-any p)
 
   -- every call, with any number of open calls allowed
   pub run-all : (n : ℕ) (r : Rule) (s : State) → Q s (run n r s)

@@ -188,14 +188,15 @@ module _ (R : State → Skeleton → State → Type 0) (kept : Kept R) where
             let d : Under s m a i u = c h in
             let q : Stands (o .state) × R u (o .made) (o .state) = p (d .stands) in
             record { at = d .at; pushed = d .pushed; stands = q .0; before = d .before; since = kept .join (d .at) u (o .state) i (o .made) (d .since) (q .1) };
-        link = λ s u m k a i w o q e c h.
-            let d : Under s m a i u = c h in
+        link = λ s u m k a i o b q e c h.
+            let v = o .state in
+            let d : Under s m a (i ⧺ o .made) v = c h in
             record {
-              at = u;
+              at = v;
               pushed = refl;
               stands = d .stands;
-              before = subst (λ (x : ℕ). R s (node (suc k) x (mark-of u) a i done) u) (sym (d .pushed)) (kept .close s (d .at) u (suc k) a i (d .before) (d .since));
-              since = idle u (d .stands);
+              before = subst (λ (x : ℕ). R s (node (suc k) x (mark-of v) a (i ⧺ o .made) done) v) (sym (d .pushed)) (kept .close s (d .at) v (suc k) a (i ⧺ o .made) (d .before) (d .since));
+              since = idle v (d .stands);
             };
         last = λ s u m a i x c h.
             let d : Under s m a i u = c h in

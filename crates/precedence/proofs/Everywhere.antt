@@ -26,7 +26,7 @@ use Rattle.precedence.proofs.Pushed.{clear-inside, clear-first}
 use Rattle.precedence.proofs.Symbols.{test-one}
 use Rattle.precedence.proofs.Short.{exec-short}
 use Rattle.precedence.proofs.Cell.{CellOf, CellNode, cells}
-use Rattle.laws.proofs.Engine.{only}
+use Rattle.laws.proofs.Engine.{only, any-act}
 use Rattle.precedence.proofs.Only.{Ran, ran-add, ran-ret, ran-choose, ran-exec}
 use Rattle.precedence.proofs.Cells.{no-cell, Celled, celled}
 use Rattle.precedence.proofs.Cells as Cs
@@ -41,7 +41,7 @@ module _ (n : ℕ) (below : (r : Rule) (s : State) → Made s (run n r s)) (b : 
   abbrev Fine : Prog → Type 0
   Fine p = (s : State) → Made s (does p s)
 
-  plain : (p : Prog) → only no-cell p ≡ true → Fine p
+  plain : (p : Prog) → only no-cell any-act p ≡ true → Fine p
   plain p e s = ran-exec no-cell Celled celled (run n) below b p s e
 
   fine-seq : (p q : Prog) → Fine p → Fine q → Fine (p ⨟ q)
@@ -144,7 +144,7 @@ module _ (n : ℕ) (below : (r : Rule) (s : State) → Made s (run n r s)) (b : 
 
 -- every other function of the grammar completes no marker as a DtExpr: computed
 abbrev Plain : Prog → Type 0
-Plain p = only no-cell p ≡ true
+Plain p = only no-cell any-act p ≡ true
 
 plain-item : Plain (grammar item)
 unfolding only grammar

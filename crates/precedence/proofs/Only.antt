@@ -6,7 +6,7 @@ use mathlib.Core.Bool.{Bool, true}
 use Rattle.definitions.specs.Prog.{Ans, no, yes, also, again, Rule, Act, Prog, act}
 use Rattle.definitions.specs.Skeleton.{Label, Skeleton, done, _⧺_}
 use Rattle.definitions.specs.Run.{State, Out, mark-of, makes, add, perform, choose, closed, marked, unlinked, exec}
-use Rattle.laws.proofs.Engine.{Composes, only, exec-only}
+use Rattle.laws.proofs.Engine.{Composes, only, any-act, exec-only}
 use Rattle.laws.proofs.Kept.{Stands}
 
 module _ (f : ℕ → Bool) (R : State → Skeleton → State → Type 0) where
@@ -79,18 +79,18 @@ module _ (f : ℕ → Bool) (R : State → Skeleton → State → Type 0) (H : H
               before = d .before;
               since = H .join (d .at) u (o .state) i (o .made) (d .since) (p .makes-it (d .stands));
             };
-        link = λ s u m k a i w o q e c h.
-            let d : Under s m a i u = c h in
+        link = λ s u m k a i o b q e c h.
+            let d : Under s m a (i ⧺ o .made) (o .state) = c h in
             record {
-              at = u;
+              at = o .state;
               pushed = refl;
               stands = d .stands;
-              before = unfold closed in closes s m a i u (suc k) (subst (λ (j : ℕ). f j ≡ true) e (q .shape)) d;
-              since = H .idle u (d .stands);
+              before = unfold closed in closes s m a (i ⧺ o .made) (o .state) (suc k) (subst (λ (j : ℕ). f j ≡ true) e (q .shape)) d;
+              since = H .idle (o .state) (d .stands);
             };
         last = λ s u m a i x c. record { shape = H .ignored; stands = λ h. c h .stands; makes-it = λ h. closes s m a i u 0 (H .ignored) (c h) };
       }
 
   -- every such program
-  pub ran-exec : (ask : Rule → State → Out) → ((r : Rule) (s : State) → Ran f R s (ask r s)) → (b : Label) (p : Prog) (s : State) → only f p ≡ true → Ran f R s (exec ask b p s)
-  ran-exec ask asked b p s e = exec-only (Ran f R) _ composed f ran-ret (H .act) ask asked b p s e
+  pub ran-exec : (ask : Rule → State → Out) → ((r : Rule) (s : State) → Ran f R s (ask r s)) → (b : Label) (p : Prog) (s : State) → only f any-act p ≡ true → Ran f R s (exec ask b p s)
+  ran-exec ask asked b p s e = exec-only (Ran f R) _ composed f any-act ran-ret (λ c a e u. H .act c a u) ask asked b p s e

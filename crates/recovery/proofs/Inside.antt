@@ -120,7 +120,10 @@ module _ (b : ℕ) where
             let x : Chaining u a i = c h in
             let y : Labels o = p (x .near) in
             record { near = y .near; before = x .before; since = told-all P i (o .made) (x .since) (y .labels) };
-        link = λ s u m k a i w o q e c h. let x : Chaining u a i = c h in record { near = x .near; before = unfold closed in closed-labels (suc k) m (mark-of u) a i (x .before) (x .since); since = tt };
+        link = λ s u m k a i o b q e c h.
+            let v = o .state in
+            let x : Chaining v a (i ⧺ o .made) = c h in
+            record { near = x .near; before = unfold closed in closed-labels (suc k) m (mark-of v) a (i ⧺ o .made) (x .before) (x .since); since = tt };
         last = λ s u m a i x c h. let y : Chaining u a i = c h in record { near = y .near; labels = closed-labels 0 m (mark-of u) a i (y .before) (y .since) };
       }
 

@@ -90,7 +90,7 @@ composes =
       turn = λ s o h. h;
       first = λ s o h. (tt, (tt, h));
       more = λ s u m a i o c h. (c .0, (c .1 .0, chained-join i (o .made) (c .1 .1) h));
-      link = λ s u m k a i w o q e c. (refl, ((c .0, (c .1 .0, (c .1 .1, tt))), tt));
+      link = λ s u m k a i o b q e c. (refl, ((c .0, (c .1 .0, (c .1 .1, tt))), tt));
       last = λ s u m a i x c. closed-chained 0 m (mark-of u) a i (c .0) (c .1 .0) (c .1 .1);
     }
 
