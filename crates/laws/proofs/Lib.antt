@@ -36,6 +36,7 @@ pub mod Names
 pub mod Leaves
 pub mod LexicalErrors
 pub mod Lossless
+pub mod Few
 pub mod Limits
 pub mod Progress
 pub mod FactsHold

@@ -5,21 +5,20 @@ use native.Mathlib.Omega.{arith}
 use mathlib.Core.Path.{_≡_, refl}
 use mathlib.Core.Bool.{Bool, true, false, cond}
 use mathlib.Core.List.{List, [], _∷_, _++_}
-use lib.Dec.{ltb, eqb}
+use lib.Dec.{ltb}
 use lib.ListN.{length, length-append}
 use borrow.Author.Tests.{ltb-true}
 use Rattle.definitions.specs.Layout.{MOST-OPEN-CALLS, MOST-PENDING}
-use Rattle.definitions.specs.TokenKind as K
-use Rattle.definitions.specs.Token.{Token, tokens-of, trivia, drop-trivia}
+use Rattle.definitions.specs.Token.{Token, tokens-of, drop-trivia}
 use Rattle.definitions.specs.Prog.{Ans, no, yes, also, again, Rule, Act, silent-at, at-end, immediate, immediate-next, add-expected, bump, bump-name, bump-argument, emit, emit-unclosed, less, Prog, ret, act, _⨟_, case, in-marker, loop, chain, brace, open-call}
 use Rattle.definitions.specs.Grammar.{grammar, Entry, whole}
 use Rattle.definitions.specs.Skeleton.{Label, no-label, Skeleton, done, _⧺_}
-use Rattle.definitions.specs.Run.{State, Out, mark-of, peeked, answer, makes, taken, do-bump, do-name, add, at-depth, do-argument, do-emit, over-unless, do-expected, perform, choose, marked, is-again, goes-on, iter, unlinked, by-shape, links, chained, here, exec, run}
+use Rattle.definitions.specs.Run.{State, Out, mark-of, peeked, answer, makes, taken, add, do-emit, over-unless, do-expected, perform, choose, marked, is-again, goes-on, iter, unlinked, by-shape, links, chained, here, exec, run}
 use Rattle.definitions.specs.Report.{pushes}
 use Rattle.definitions.specs.Call.{Buffers, run-entry}
 use Rattle.laws.specs.Pushes.{Clear}
 use Rattle.laws.specs.Limits.{Place, at, deeper, iter-places, links-places, choose-places, places, run-places, entry-places, Limited, Limits}
-use Rattle.basics.proofs.Tests.{cond-all}
+use Rattle.laws.proofs.Few.{bump-few, name-few, argument-few}
 use Rattle.laws.proofs.Fuel.{turn-of}
 use Rattle.laws.proofs.Parts.{linked, closed-parts, links-parts}
 use Rattle.laws.proofs.Clear.{Within-room, join-within, closed-within, within-parts}
@@ -48,30 +47,6 @@ unfolding over-unless pushes
 expected-few true m k l e w = let h : length l < MOST-PENDING = ltb-true (length l) MOST-PENDING e in simp length-append (omega arith)
 expected-few false m k l e w = absurd (w .clear)
 
-bump-few : (s : State) (l : List Token) → Few s → Fewer (do-bump s l)
-unfolding do-bump answer makes
-bump-few s [] h = h
-bump-few s (t ∷ ts) h = zero-le
-
-name-few : (ks : List ℕ) (s : State) (l : List Token) → Few s → Fewer (do-name ks s l)
-unfolding do-name answer makes
-name-few ks s [] h = h
-name-few ks s (t ∷ ts) h = zero-le
-
-depth-few : (n : ℕ) (o : Out) (f : ℕ → Out) → Fewer o → ((m : ℕ) → Fewer (f m)) → Fewer (at-depth n o f)
-unfolding at-depth
-depth-few zero o f p q = p
-depth-few (suc n) o f p q = q n
-
-argument-few : (n : ℕ) (s : State) (ts : List Token) → Few s → Fewer (do-argument n s ts)
-unfolding do-argument answer makes add
-argument-few n s [] h = h
-argument-few n s (t ∷ ts) h =
-    cond-all Fewer (trivia t) (argument-few n s ts h)
-    (cond-all Fewer (eqb (t .kind) K.LParen) (argument-few (suc n) (taken ts) ts zero-le)
-    (cond-all Fewer (eqb (t .kind) K.RParen) (depth-few n _ _ h (λ m. argument-few m (taken ts) ts zero-le))
-    (cond-all Fewer (eqb (t .kind) K.Comma) (depth-few n _ _ h (λ m. argument-few (suc m) (taken ts) ts zero-le)) (argument-few n (taken ts) ts zero-le))))
-
 act-few : (b : Label) (a : Act) (s : State) → Few s → Within-room (perform b a s .made) → Fewer (perform b a s)
 unfolding perform peeked answer makes do-expected do-emit
 act-few b (silent-at ks) s h w = h
@@ -79,9 +54,9 @@ act-few b at-end s h w = h
 act-few b (immediate k) s h w = h
 act-few b (immediate-next k) s h w = h
 act-few b (add-expected k) s h w = expected-few (ltb (length (s .pending)) MOST-PENDING) (mark-of s) k (s .pending) refl w
-act-few b bump s h w = bump-few (peeked s) (drop-trivia (s .rest)) h
-act-few b (bump-name ks) s h w = name-few ks (peeked s) (drop-trivia (s .rest)) h
-act-few b bump-argument s h w = argument-few 0 s (s .rest) h
+act-few b bump s h w = bump-few MOST-PENDING (peeked s) (drop-trivia (s .rest)) h
+act-few b (bump-name ks) s h w = name-few MOST-PENDING ks (peeked s) (drop-trivia (s .rest)) h
+act-few b bump-argument s h w = argument-few MOST-PENDING 0 s (s .rest) h
 act-few b (emit m k) s h w = h
 act-few b emit-unclosed s h w = h
 act-few b (less m n) s h w = h

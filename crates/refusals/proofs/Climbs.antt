@@ -4,16 +4,14 @@ use native.Mathlib.Omega.{arith}
 use mathlib.Core.Path.{_≡_, refl, subst}
 use mathlib.Core.Bool.{Bool, true, false, cond}
 use mathlib.Core.List.{List, [], _∷_, _++_}
-use lib.Dec.{eqb}
 use lib.ListN.{length, length-append}
-use Rattle.definitions.specs.TokenKind as K
-use Rattle.definitions.specs.Token.{Token, tokens-of, trivia}
+use Rattle.definitions.specs.Token.{tokens-of}
 use Rattle.definitions.specs.Prog.{Ans, no, yes, also, again, Rule, Act, silent-at, at-end, immediate, immediate-next, add-expected, bump, bump-name, bump-argument, emit, emit-unclosed, less, Prog, ret, act, _⨟_, case, in-marker, loop, chain, brace, open-call}
 use Rattle.definitions.specs.Grammar.{grammar, Entry, whole}
 use Rattle.definitions.specs.Skeleton.{Label, no-label, Skeleton, done, token, name, node, ignored, report, over, _⧺_}
-use Rattle.definitions.specs.Run.{State, Out, mark-of, peeked, answer, makes, taken, do-bump, do-name, add, at-depth, do-argument, do-emit, do-expected, perform, choose, marked, is-again, goes-on, iter, unlinked, by-shape, links, chained, here, exec, run}
+use Rattle.definitions.specs.Run.{State, Out, mark-of, peeked, answer, makes, taken, do-bump, do-name, add, do-argument, do-emit, do-expected, perform, choose, marked, is-again, goes-on, iter, unlinked, by-shape, links, chained, here, exec, run}
 use Rattle.definitions.specs.Call.{Buffers}
-use Rattle.basics.proofs.Tests.{cond-all}
+use Rattle.laws.proofs.Few.{bump-few, name-few, argument-few}
 use Rattle.laws.proofs.Parts.{linked}
 use Rattle.refusals.specs.First.{First}
 use Rattle.refusals.specs.Trace.{Happening, call-opened, expectation-pushed, event-pushed, report-written, event-at, made-by, act-trace, iter-trace, links-trace, choose-trace, exec-trace, run-trace, trace}
@@ -62,33 +60,6 @@ quiet q (node k m m′ a i o) s h = (tt, h)
 quiet q (ignored m m′ a i o) s h = (tt, h)
 quiet q (report r o) s h = quiet q o s h
 quiet q (over m o) s h = (tt, h)
-
-abbrev Few : ℕ → Out → Type 0
-Few q o = length (o .state .pending) ≤ q
-
-bump-few : (q : ℕ) (s : State) (l : List Token) → length (s .pending) ≤ q → Few q (do-bump s l)
-unfolding do-bump answer makes
-bump-few q s [] h = h
-bump-few q s (t ∷ ts) h = omega arith
-
-name-few : (q : ℕ) (ks : List ℕ) (s : State) (l : List Token) → length (s .pending) ≤ q → Few q (do-name ks s l)
-unfolding do-name answer makes
-name-few q ks s [] h = h
-name-few q ks s (t ∷ ts) h = omega arith
-
-depth-few : (q n : ℕ) (o : Out) (f : ℕ → Out) → Few q o → ((m : ℕ) → Few q (f m)) → Few q (at-depth n o f)
-unfolding at-depth
-depth-few q zero o f p g = p
-depth-few q (suc n) o f p g = g n
-
-argument-few : (q n : ℕ) (s : State) (ts : List Token) → length (s .pending) ≤ q → Few q (do-argument n s ts)
-unfolding do-argument answer makes add
-argument-few q n s [] h = h
-argument-few q n s (t ∷ ts) h =
-    cond-all (Few q) (trivia t) (argument-few q n s ts h)
-    (cond-all (Few q) (eqb (t .kind) K.LParen) (argument-few q (suc n) (taken ts) ts (omega arith))
-    (cond-all (Few q) (eqb (t .kind) K.RParen) (depth-few q n _ _ h (λ m. argument-few q m (taken ts) ts (omega arith)))
-    (cond-all (Few q) (eqb (t .kind) K.Comma) (depth-few q n _ _ h (λ m. argument-few q (suc m) (taken ts) ts (omega arith))) (argument-few q n (taken ts) ts (omega arith)))))
 
 act-up : (b : Label) (a : Act) → Climbing (perform b a) (act-trace b a)
 unfolding perform act-trace peeked answer makes do-expected do-emit made-by
