@@ -20,7 +20,7 @@ use Rattle.definitions.specs.C as C
 use Rattle.laws.proofs.Trivia.{drop-trivia-length}
 use Rattle.laws.proofs.Skeleton.{join-done}
 use Rattle.laws.proofs.Kept.{Stands, stands-taken}
-use Rattle.precedence.specs.Nodes.{one, parts}
+use Rattle.precedence.specs.Nodes.{one, expr-nodes}
 use Rattle.precedence.proofs.Pratt.{Res, refused, spent, bind, reader}
 use Rattle.precedence.proofs.Pratt as P
 use Rattle.precedence.proofs.Enough.{Fin, cell-fin}
@@ -38,20 +38,20 @@ use Rattle.precedence.proofs.Loop.{calls}
 
 -- after the opening bracket: p was made of an expression and the closing bracket, or a report was made where vs was left
 abbrev CellRun : State → Res → Out → Type 0
-CellRun s (P.done e vs) o = Done s (parts e ⧺ one) vs (o .made) (o .state)
+CellRun s (P.done e vs) o = Done s (expr-nodes e ⧺ one) vs (o .made) (o .state)
 CellRun s (P.report vs) o = Noted s vs (o .made)
 CellRun s refused o = ⊥
 CellRun s spent o = Unit {0}
 
 module _ (n : ℕ) (b : Label) where
-  close-by : (s : State) (e : Expr) (vs : List Symbol) (o : Out) → Done s (parts e) vs (o .made) (o .state) → (o′ : Out) → Expected (run n) b K.RParen refl (o .state) o′
+  close-by : (s : State) (e : Expr) (vs : List Symbol) (o : Out) → Done s (expr-nodes e) vs (o .made) (o .state) → (o′ : Out) → Expected (run n) b K.RParen refl (o .state) o′
       → CellRun s (P.expect K.RParen vs (λ ws. P.done e ws)) (add o o′)
   unfolding add makes
   close-by s e vs o d o′ (found t ts z p f) =
       let q : Done (o .state) one (symbols false ts) (o′ .made) (o′ .state) = rw p (done-token (o .state) t ts z) in
       let g : P.expect K.RParen vs (λ ws. P.done e ws) ≡ P.done e (symbols false ts) =
       ap (λ (l : List Symbol). P.expect K.RParen l (λ ws. P.done e ws)) (sym (d .left)) ∙ f (λ ws. P.done e ws) in
-      rw g (done-join s (o .state) (o′ .state) (parts e) one vs (symbols false ts) (o .made) (o′ .made) d q)
+      rw g (done-join s (o .state) (o′ .state) (expr-nodes e) one vs (symbols false ts) (o .made) (o′ .made) d q)
   close-by s e vs o d o′ (missing x m f) =
       let g : P.expect K.RParen vs (λ ws. P.done e ws) ≡ P.report vs =
       ap (λ (l : List Symbol). P.expect K.RParen l (λ ws. P.done e ws)) (sym (d .left)) ∙ f (λ ws. P.done e ws) ∙ ap P.report (d .left) in
@@ -59,7 +59,7 @@ module _ (n : ℕ) (b : Label) where
       (noted-second s vs (o .made) (o′ .made)
       (noted-from s (o .state) vs (o′ .made) (d .tail) (subst (λ (l : List Symbol). Noted (o .state) l (o′ .made)) (d .left) m)))
 
-  cell-by : (s : State) (x : Res) (o : Out) → Follows s parts x o
+  cell-by : (s : State) (x : Res) (o : Out) → Follows s expr-nodes x o
       → Ends (run n) b (expect (of-kind K.RParen)) (o .state) (λ o′. CellRun s (bind x (λ e vs. P.expect K.RParen vs (λ ws. P.done e ws))) (add o o′))
   unfolding add
   cell-by s (P.done e vs) o d = ends-map (run n) b (expects (run n) b K.RParen refl (o .state) (d .1 .stands)) (close-by s e vs o (d .1))
@@ -79,7 +79,7 @@ pub record Good (inner : List Token) (close : Token) (after : List Token) (m : �
   pub tree : Expr
   pub gives : Gives (symbols false inner) tree
   pub quiet : Quiet (pushes i)
-  pub same : Same i (one ⧺ (parts tree ⧺ one))
+  pub same : Same i (one ⧺ (expr-nodes tree ⧺ one))
   pub past : m ≤ length after
 
 -- C's table gives none: a report was made, and the closing bracket not yet taken.
@@ -101,7 +101,7 @@ judge-by : (s : State) (t : Token) (ts : List Token) → drop-trivia (s .since) 
     → Verdict (symbols false inner) (symbols false after) x → (a : ℕ) → Fin a R x
     → Good inner close after (mark-of (o .state)) (token t (length ts) done ⧺ o .made) ⊎ Bad inner close after ts (token t (length ts) done ⧺ o .made)
 judge-by s t ts ahead inner close after e k R (P.done f vs) o d v a g =
-    let r = done-behind s t ts ahead (parts f ⧺ one) vs (o .made) (o .state) d in
+    let r = done-behind s t ts ahead (expr-nodes f ⧺ one) vs (o .made) (o .state) d in
     inl (record {
       tree = f;
       gives = v .0;

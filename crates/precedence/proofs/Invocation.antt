@@ -19,7 +19,7 @@ use Rattle.definitions.specs.C as C
 use Rattle.laws.proofs.Trivia.{drop-none}
 use Rattle.laws.proofs.Skeleton.{join-done}
 use Rattle.laws.proofs.Kept.{Stands, stands-taken}
-use Rattle.precedence.specs.Nodes.{one, nodes, argument, split, argument-list, parts}
+use Rattle.precedence.specs.Nodes.{one, nodes, argument, split, argument-list, expr-nodes}
 use Rattle.precedence.proofs.Pratt.{Res, Args, closed, unclosed, args, invoked, named}
 use Rattle.precedence.proofs.Pratt as P
 use Rattle.precedence.proofs.Sound.{ArgsOf, args-of}
@@ -178,7 +178,7 @@ module _ (ask : Rule → State → Out) (b : Label) where
 
   -- after the name: e is made of it and of p
   abbrev Behind : State → Res → Out → Type 0
-  Behind s (P.done e vs) o = (p : Skeleton) × (parts e ≡ nodes N.MacroInvocation (one ⧺ p)) × Done s p vs (o .made) (o .state)
+  Behind s (P.done e vs) o = (p : Skeleton) × (expr-nodes e ≡ nodes N.MacroInvocation (one ⧺ p)) × Done s p vs (o .made) (o .state)
   Behind s (P.report vs) o = Noted s vs (o .made)
   Behind s P.refused o = ⊥
   Behind s P.spent o = Unit {0}
@@ -248,7 +248,7 @@ module _ (ask : Rule → State → Out) (b : Label) where
 
   -- the name and what stands after it: e's node has the children p
   abbrev Named : State → Res → Out → Type 0
-  Named s (P.done e vs) o = (p : Skeleton) × (parts e ≡ nodes N.MacroInvocation p) × Done s p vs (o .made) (o .state)
+  Named s (P.done e vs) o = (p : Skeleton) × (expr-nodes e ≡ nodes N.MacroInvocation p) × Done s p vs (o .made) (o .state)
   Named s (P.report vs) o = Noted s vs (o .made)
   Named s P.refused o = ⊥
   Named s P.spent o = Unit {0}
@@ -272,7 +272,7 @@ module _ (ask : Rule → State → Out) (b : Label) where
       add (marked s (add o (record { ans = yes; shape = N.MacroInvocation; made = done; state = o .state })))
       (record { ans = yes; shape = 0; made = done; state = o .state })
 
-  node-of : (s : State) (x : Res) (o : Out) → Named s x o → Follows s parts x (answered s o)
+  node-of : (s : State) (x : Res) (o : Out) → Named s x o → Follows s expr-nodes x (answered s o)
   unfolding add marked makes closed-marker _⧺_
   node-of s (P.done e vs) o d =
       let c : Done s (nodes N.MacroInvocation (d .0)) vs (closed-marker N.MacroInvocation (mark-of s) (mark-of (o .state)) done (o .made)) (o .state) =
@@ -283,7 +283,7 @@ module _ (ask : Rule → State → Out) (b : Label) where
   node-of s P.spent o d = tt
 
   node-follows : (s : State) → Stands s → (t : Token) (ts : List Token) → drop-trivia (s .since) ≡ t ∷ ts
-      → Ends ask b macro-invocation s (λ o. Follows s parts (named (symbols true ts)) (add o (record { ans = yes; shape = 0; made = done; state = o .state })))
+      → Ends ask b macro-invocation s (λ o. Follows s expr-nodes (named (symbols true ts)) (add o (record { ans = yes; shape = 0; made = done; state = o .state })))
   unfolding macro-invocation marked makes add
   node-follows s h t ts e =
       let x = named (symbols true ts) in
@@ -293,5 +293,5 @@ module _ (ask : Rule → State → Out) (b : Label) where
 
   -- an Ident where an operand is due
   pub name-follows : (s : State) → Stands s → (t : Token) (ts : List Token) → drop-trivia (s .since) ≡ t ∷ ts
-      → Ends ask b (macro-invocation ⨟ tell yes) s (Follows s parts (named (symbols true ts)))
+      → Ends ask b (macro-invocation ⨟ tell yes) s (Follows s expr-nodes (named (symbols true ts)))
   name-follows s h t ts e = seq ask b (node-follows s h t ts e) (λ o d. ends-ret ask b d)

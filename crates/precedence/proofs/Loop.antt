@@ -17,7 +17,7 @@ use Rattle.definitions.specs.C.{Symbol, symbols, Expr}
 use Rattle.laws.specs.Pushes.{Clear}
 use Rattle.laws.proofs.Skeleton.{join-done, join-assoc, pushes-join, pushes-closed}
 use Rattle.laws.proofs.Kept.{Stands}
-use Rattle.precedence.specs.Nodes.{parts}
+use Rattle.precedence.specs.Nodes.{expr-nodes}
 use Rattle.precedence.proofs.Pratt.{Res, refused, spent, Reader, bind, step, loop, reader}
 use Rattle.precedence.proofs.Pratt as P
 use Rattle.laws.proofs.Clear.{clear-append}
@@ -117,7 +117,7 @@ module _ (n : ℕ) (f : State → Out) (m : ℕ) (a i : Skeleton) (s : State) (o
 
 -- from z the chain has made the expression e: a and i, up to trivia and marks; us is left
 record Holds (z : State) (e : Expr) (us : List Symbol) (a i : Skeleton) (s : State) : Type 0 where
-  same : Same (a ⧺ i) (parts e)
+  same : Same (a ⧺ i) (expr-nodes e)
   quiet-a : Quiet (pushes a)
   quiet-i : Quiet (pushes i)
   stands : Stands s
@@ -126,12 +126,12 @@ record Holds (z : State) (e : Expr) (us : List Symbol) (a i : Skeleton) (s : Sta
 
 -- it ends
 ends-chain : (z : State) (e : Expr) (us : List Symbol) (m : ℕ) (a i : Skeleton) (s : State) → Holds z e us a i s
-    → Follows z parts (P.done e us) (unlinked m a i yes s)
+    → Follows z expr-nodes (P.done e us) (unlinked m a i yes s)
 unfolding unlinked makes closed
 ends-chain z e us m a i s h = (
   refl,
   record {
-    same = same-ignored m (mark-of s) a i (parts e) (h .same);
+    same = same-ignored m (mark-of s) a i (expr-nodes e) (h .same);
     quiet = quiet-closed 0 m (mark-of s) a i (h .quiet-a) (h .quiet-i);
     stands = h .stands;
     left = h .left;
@@ -157,9 +157,9 @@ link-holds : (z : State) (e f : Expr) (us vs : List Symbol) (m : ℕ) (a i : Ske
 unfolding closed _⧺_
 link-holds z e f us vs m a i s o h l =
     let d = l .made in
-    let j : Same (a ⧺ (i ⧺ o .made)) (parts e ⧺ l .p) = rw (← (join-assoc a i (o .made))) (same-join (a ⧺ i) (o .made) (parts e) (l .p) (h .same) (d .same)) in
+    let j : Same (a ⧺ (i ⧺ o .made)) (expr-nodes e ⧺ l .p) = rw (← (join-assoc a i (o .made))) (same-join (a ⧺ i) (o .made) (expr-nodes e) (l .p) (h .same) (d .same)) in
     record {
-      same = rw (l .becomes) (same-node N.InfixExpr m (mark-of (o .state)) a (i ⧺ o .made) (parts e ⧺ l .p) j);
+      same = rw (l .becomes) (same-node N.InfixExpr m (mark-of (o .state)) a (i ⧺ o .made) (expr-nodes e ⧺ l .p) j);
       quiet-a = quiet-closed N.InfixExpr m (mark-of (o .state)) a (i ⧺ o .made) (h .quiet-a) (quiet-join i (o .made) (h .quiet-i) (d .quiet));
       quiet-i = quiet-done;
       stands = d .stands;
@@ -186,7 +186,7 @@ link-is n f m a i s e g vs o l =
 -- ---------------------------------------------------------------- the loop
 
 module _ (ask : Rule → State → Out) (b : Label) (rec : Reader)
-    (below : (m : ℕ) (s : State) → Stands s → Ends ask b (open-call (expr-binding-power m)) s (Follows s parts (rec m (symbols false (s .since)))))
+    (below : (m : ℕ) (s : State) → Stands s → Ends ask b (open-call (expr-binding-power m)) s (Follows s expr-nodes (rec m (symbols false (s .since)))))
     (min : ℕ) (z : State) where
   abbrev turn : State → Out
   turn s = exec ask b (infix-turn min) s
@@ -194,19 +194,19 @@ module _ (ask : Rule → State → Out) (b : Label) (rec : Reader)
   -- what is to be shown of a chain under way
   abbrev Goes : (Expr → List Symbol → Res) → Type 0
   Goes more = (n m : ℕ) (a i : Skeleton) (s : State) (e : Expr) (us : List Symbol) → Holds z e us a i s → length (s .rest) < n
-      → Clear (pushes (links n turn m a i s .made)) → Follows z parts (more e us) (links n turn m a i s)
+      → Clear (pushes (links n turn m a i s .made)) → Follows z expr-nodes (more e us) (links n turn m a i s)
 
   link-by : (more : Expr → List Symbol → Res) → Goes more → (n m : ℕ) (a i : Skeleton) (s : State) (e : Expr) (us : List Symbol) → Holds z e us a i s
       → length (s .rest) < suc n → (x : Turned) (o : Out) → Turns s e x o → Clear (pushes (linking n turn m a i s o .made))
-      → Follows z parts (then-more x more e us) (linking n turn m a i s o)
+      → Follows z expr-nodes (then-more x more e us) (linking n turn m a i s o)
   unfolding by-shape answer closed
   link-by more later n m a i s e us h l stops o t c =
-      let g : Follows z parts (P.done e us) (linking n turn m a i s (answer yes (t .to))) =
+      let g : Follows z expr-nodes (P.done e us) (linking n turn m a i s (answer yes (t .to))) =
       ends-chain z e us m a (i ⧺ done) (t .to) (still-holds z e us a i s (t .to) (t .stands) (t .since-is) h) in
-      subst (λ (o′ : Out). Follows z parts (P.done e us) (linking n turn m a i s o′)) (sym (t .is)) g
+      subst (λ (o′ : Out). Follows z expr-nodes (P.done e us) (linking n turn m a i s o′)) (sym (t .is)) g
   link-by more later n m a i s e us h l (goes (P.done f vs)) o t c =
       let q = link-is n turn m a i s e f vs o t in
-      subst (Follows z parts (more f vs)) (sym q)
+      subst (Follows z expr-nodes (more f vs)) (sym q)
       (later n (mark-of (o .state)) (node N.InfixExpr m (mark-of (o .state)) a (i ⧺ o .made) done) done (o .state) f vs (link-holds z e f us vs m a i s o h t)
       (omega (arith, t .moved)) (subst (λ (o′ : Out). Clear (pushes (o′ .made))) q c))
   link-by more later n m a i s e us h l (goes (P.report vs)) o t c =
@@ -220,7 +220,7 @@ module _ (ask : Rule → State → Out) (b : Label) (rec : Reader)
   steps more later (suc n) m a i s e us h l c =
       let t : Turns s e (turn-of rec min e us) (turn s) =
       subst (λ (vs : List Symbol). Turns s e (turn-of rec min e vs) (turn s)) (h .left) (turns ask b rec below min e s (h .stands) .holds (link-clear n turn m a i s (turn s) c)) in
-      subst (λ (x : Res). Follows z parts x (linking n turn m a i s (turn s))) (sym (step-turn more rec min e us))
+      subst (λ (x : Res). Follows z expr-nodes x (linking n turn m a i s (turn s))) (sym (step-turn more rec min e us))
       (link-by more later n m a i s e us h l (turn-of rec min e us) (turn s) t c)
 
   loops : (k : ℕ) → Goes (loop rec k min)
@@ -231,15 +231,15 @@ module _ (ask : Rule → State → Out) (b : Label) (rec : Reader)
 
 -- the first operand was read, and the loop is to begin
 abbrev Begins : State → Res → Out → Type 0
-Begins s (P.done e vs) o = (o .ans ≡ again) × Done s (parts e) vs (o .made) (o .state)
+Begins s (P.done e vs) o = (o .ans ≡ again) × Done s (expr-nodes e) vs (o .made) (o .state)
 Begins s (P.report vs) o = Noted s vs (o .made)
 Begins s refused o = ⊥
 Begins s spent o = Unit {0}
 
 module _ (ask : Rule → State → Out) (b : Label) (rec : Reader)
-    (below : (m : ℕ) (s : State) → Stands s → Ends ask b (open-call (expr-binding-power m)) s (Follows s parts (rec m (symbols false (s .since)))))
+    (below : (m : ℕ) (s : State) → Stands s → Ends ask b (open-call (expr-binding-power m)) s (Follows s expr-nodes (rec m (symbols false (s .since)))))
     (min : ℕ) where
-  begin-by : (s : State) (x : Res) (o : Out) → Follows s parts x o → Ends ask b (pick (o .ans) (tell no) (tell again) (tell again)) (o .state) (λ o′. Begins s x (add o o′))
+  begin-by : (s : State) (x : Res) (o : Out) → Follows s expr-nodes x o → Ends ask b (pick (o .ans) (tell no) (tell again) (tell again)) (o .state) (λ o′. Begins s x (add o o′))
   unfolding add
   begin-by s (P.done e vs) o d = rw (d .0) (ends-ret ask b (refl, rw (join-done (o .made)) (d .1)))
   begin-by s (P.report vs) o n = ends-any ask b (λ o′. noted-first s vs (o .made) (o′ .made) n)
@@ -277,13 +277,13 @@ module _ (ask : Rule → State → Out) (b : Label) (rec : Reader)
       }
 
   chain-by : (s : State) (x : Res) (o : Out) → Begins s x o → Clear (pushes (chain-of s o (is-again (o .ans)) .made))
-      → Follows s parts (bind x (λ e vs. loop rec (length vs) min e vs)) (chain-of s o (is-again (o .ans)))
+      → Follows s expr-nodes (bind x (λ e vs. loop rec (length vs) min e vs)) (chain-of s o (is-again (o .ans)))
   unfolding is-again pushes _⧺_
   chain-by s (P.done e vs) o d c =
       let q : is-again (o .ans) ≡ true = ap is-again (d .0) in
       let h : Holds s e vs done (o .made) (o .state) =
       record { same = d .1 .same; quiet-a = tt; quiet-i = d .1 .quiet; stands = d .1 .stands; left = d .1 .left; tail = d .1 .tail } in
-      subst (λ (x : Bool). Follows s parts (loop rec (length vs) min e vs) (chain-of s o x)) (sym q)
+      subst (λ (x : Bool). Follows s expr-nodes (loop rec (length vs) min e vs) (chain-of s o x)) (sym q)
       (loops ask b rec below min s (length vs) (suc (length (o .state .rest))) (mark-of s) done (o .made) (o .state) e vs h (omega arith)
       (subst (λ (x : Bool). Clear (pushes (chain-of s o x .made))) q c))
   chain-by s (P.report vs) o n c = chain-noted s o (is-again (o .ans)) vs n
@@ -291,7 +291,7 @@ module _ (ask : Rule → State → Out) (b : Label) (rec : Reader)
   chain-by s spent o d c = tt
 
   body-follows : (s : State) → Stands s
-      → Ends ask b (expr-binding-power-body min) s (Follows s parts (bind (P.lhs rec (symbols false (s .since))) (λ e vs. loop rec (length vs) min e vs)))
+      → Ends ask b (expr-binding-power-body min) s (Follows s expr-nodes (bind (P.lhs rec (symbols false (s .since))) (λ e vs. loop rec (length vs) min e vs)))
   unfolding expr-binding-power-body exec chained
   body-follows s h =
       let o = exec ask b (if lhs then tell again else tell no) s in
@@ -302,7 +302,7 @@ module _ (ask : Rule → State → Out) (b : Label) (rec : Reader)
 
 -- `expr_binding_power`, with so many more open calls allowed, does what the reader does
 pub calls : (n : ℕ) (b : Label) (m : ℕ) (s : State) → Stands s
-    → Ends (run n) b (open-call (expr-binding-power m)) s (Follows s parts (reader n m (symbols false (s .since))))
+    → Ends (run n) b (open-call (expr-binding-power m)) s (Follows s expr-nodes (reader n m (symbols false (s .since))))
 unfolding exec run grammar makes pushes
 calls zero b m s h = record { holds = λ c. absurd c }
 calls (suc n) b m s h = record { holds = body-follows (run n) no-label (reader n) (calls n no-label) m s h .holds }

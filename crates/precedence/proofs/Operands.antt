@@ -19,7 +19,7 @@ use Rattle.definitions.specs.C.{Symbol, symbols, Expr, bracketed, prefix}
 use Rattle.definitions.specs.C as C
 use Rattle.laws.proofs.Skeleton.{join-done}
 use Rattle.laws.proofs.Kept.{Stands, stands-taken}
-use Rattle.precedence.specs.Nodes.{one, parts}
+use Rattle.precedence.specs.Nodes.{one, expr-nodes}
 use Rattle.precedence.proofs.Pratt.{Operand, prefixes, brackets, names, literals, nothing, operand, Res, refused, spent, Reader, bind, lhs-by}
 use Rattle.precedence.proofs.Pratt as P
 use Rattle.precedence.proofs.Symbols.{symbols-end, symbols-next, test-one, tail-next}
@@ -45,17 +45,17 @@ module _ (s : State) (t : Token) (ts : List Token) (ahead : drop-trivia (s .sinc
       noted-second s vs (token t (length ts) done) made (noted-from s (taken ts) vs made (tail-next (s .since) t ts ahead) n)
 
 module _ (ask : Rule → State → Out) (b : Label) (rec : Reader)
-    (below : (m : ℕ) (s : State) → Stands s → Ends ask b (open-call (expr-binding-power m)) s (Follows s parts (rec m (symbols false (s .since))))) where
+    (below : (m : ℕ) (s : State) → Stands s → Ends ask b (open-call (expr-binding-power m)) s (Follows s expr-nodes (rec m (symbols false (s .since))))) where
   module _ (s : State) (h : Stands s) (t : Token) (ts : List Token) (ahead : drop-trivia (s .since) ≡ t ∷ ts) where
     -- ---------------------------------------------------------------- a prefix operator
 
-    prefix-by : (k : ℕ) (x : Res) (o : Out) → Follows (taken ts) parts x o
+    prefix-by : (k : ℕ) (x : Res) (o : Out) → Follows (taken ts) expr-nodes x o
         → Ends ask b (pick (o .ans) (ret N.PrefixExpr no) (ret N.PrefixExpr yes) (ret N.PrefixExpr yes)) (o .state)
-        (λ o′. Follows s parts (bind x (λ e vs. P.done (prefix k e) vs)) (marked s (add (took t ts) (add o o′))))
+        (λ o′. Follows s expr-nodes (bind x (λ e vs. P.done (prefix k e) vs)) (marked s (add (took t ts) (add o o′))))
     unfolding marked makes add _⧺_ closed
     prefix-by k (P.done e vs) o d =
-        let c = done-closed 6 (mark-of s) (mark-of (o .state)) s (o .state) (one ⧺ parts e) vs (token t (length ts) done ⧺ o .made)
-        (done-behind s t ts ahead (parts e) vs (o .made) (o .state) (d .1)) in
+        let c = done-closed 6 (mark-of s) (mark-of (o .state)) s (o .state) (one ⧺ expr-nodes e) vs (token t (length ts) done ⧺ o .made)
+        (done-behind s t ts ahead (expr-nodes e) vs (o .made) (o .state) (d .1)) in
         rw (d .0) (ends-ret ask b (refl, rw (join-done (o .made)) c))
     prefix-by k (P.report vs) o n =
         ends-any ask b
@@ -67,7 +67,7 @@ module _ (ask : Rule → State → Out) (b : Label) (rec : Reader)
 
     prefix-follows : (k : ℕ)
         → Ends ask b (in-marker (bump! ⨟ if open-call (expr-binding-power prefix-power) then ret N.PrefixExpr yes else ret N.PrefixExpr no)) s
-        (Follows s parts (lhs-by (prefixes k) rec (C.plain k) (symbols false ts)))
+        (Follows s expr-nodes (lhs-by (prefixes k) rec (C.plain k) (symbols false ts)))
     prefix-follows k =
         inside ask b
         (after-bump ask b t ts h ahead (branch ask b (below prefix-power (taken ts) (stands-taken ts)) (prefix-by k (rec prefix-power (symbols false ts)))))
@@ -75,16 +75,16 @@ module _ (ask : Rule → State → Out) (b : Label) (rec : Reader)
     -- ---------------------------------------------------------------- brackets
 
     -- the expression e was made, and then the bracket was expected
-    close-by : (e : Expr) (vs : List Symbol) (o : Out) → Done (taken ts) (parts e) vs (o .made) (o .state)
+    close-by : (e : Expr) (vs : List Symbol) (o : Out) → Done (taken ts) (expr-nodes e) vs (o .made) (o .state)
         → (a : Ans) → a ≡ yes → (o′ : Out) → Expected ask b K.RParen refl (o .state) o′
-        → Follows s parts (P.expect K.RParen vs (λ ws. P.done (bracketed e) ws))
+        → Follows s expr-nodes (P.expect K.RParen vs (λ ws. P.done (bracketed e) ws))
         (marked s (add (took t ts) (add o (add o′ (record { ans = a; shape = N.ParenExpr; made = done; state = o′ .state })))))
     unfolding marked makes add _⧺_ closed
     close-by e vs o d a y o′ (found t′ ts′ z p f) =
         let q : Done (o .state) one (symbols false ts′) (o′ .made) (o′ .state) = rw p (done-token (o .state) t′ ts′ z) in
-        let r = done-behind s t ts ahead (parts e ⧺ one) (symbols false ts′) (o .made ⧺ o′ .made) (o′ .state)
-        (done-join (taken ts) (o .state) (o′ .state) (parts e) one vs (symbols false ts′) (o .made) (o′ .made) d q) in
-        let c = done-closed 7 (mark-of s) (mark-of (o′ .state)) s (o′ .state) (one ⧺ parts e ⧺ one) (symbols false ts′) (token t (length ts) done ⧺ (o .made ⧺ o′ .made)) r in
+        let r = done-behind s t ts ahead (expr-nodes e ⧺ one) (symbols false ts′) (o .made ⧺ o′ .made) (o′ .state)
+        (done-join (taken ts) (o .state) (o′ .state) (expr-nodes e) one vs (symbols false ts′) (o .made) (o′ .made) d q) in
+        let c = done-closed 7 (mark-of s) (mark-of (o′ .state)) s (o′ .state) (one ⧺ expr-nodes e ⧺ one) (symbols false ts′) (token t (length ts) done ⧺ (o .made ⧺ o′ .made)) r in
         let g : P.expect K.RParen vs (λ ws. P.done (bracketed e) ws) ≡ P.done (bracketed e) (symbols false ts′) =
         ap (λ (l : List Symbol). P.expect K.RParen l (λ ws. P.done (bracketed e) ws)) (sym (d .left)) ∙ f (λ ws. P.done (bracketed e) ws) in
         rw g (y, rw (join-done (o′ .made)) c)
@@ -101,9 +101,9 @@ module _ (ask : Rule → State → Out) (b : Label) (rec : Reader)
     abbrev close : Ans → Prog
     close a = expect (of-kind K.RParen) ⨟ ret N.ParenExpr a
 
-    bracket-by : (x : Res) (o : Out) → Follows (taken ts) parts x o
+    bracket-by : (x : Res) (o : Out) → Follows (taken ts) expr-nodes x o
         → Ends ask b (pick (o .ans) (close no) (close yes) (close yes)) (o .state)
-        (λ o′. Follows s parts (bind x (λ e vs. P.expect K.RParen vs (λ ws. P.done (bracketed e) ws))) (marked s (add (took t ts) (add o o′))))
+        (λ o′. Follows s expr-nodes (bind x (λ e vs. P.expect K.RParen vs (λ ws. P.done (bracketed e) ws))) (marked s (add (took t ts) (add o o′))))
     unfolding marked makes add closed
     bracket-by (P.done e vs) o d =
         rw (d .0) (seq ask b (expects ask b K.RParen refl (o .state) (d .1 .stands)) (λ o′ p. ends-ret ask b (close-by e vs o (d .1) yes refl o′ p)))
@@ -116,13 +116,13 @@ module _ (ask : Rule → State → Out) (b : Label) (rec : Reader)
     bracket-by spent o d = ends-any ask b (λ o′. tt)
 
     bracket-follows : Ends ask b (in-marker (bump! ⨟ if open-call (expr-binding-power 0) then close yes else close no)) s
-        (Follows s parts (lhs-by brackets rec (C.plain K.LParen) (symbols false ts)))
+        (Follows s expr-nodes (lhs-by brackets rec (C.plain K.LParen) (symbols false ts)))
     bracket-follows =
         inside ask b (after-bump ask b t ts h ahead (branch ask b (below 0 (taken ts) (stands-taken ts)) (bracket-by (rec 0 (symbols false ts)))))
 
     -- ---------------------------------------------------------------- a literal
 
-    literal-follows : (k : ℕ) → Ends ask b (in-node N.LiteralExpr bump!) s (Follows s parts (lhs-by (literals k) rec (C.plain k) (symbols false ts)))
+    literal-follows : (k : ℕ) → Ends ask b (in-node N.LiteralExpr bump!) s (Follows s expr-nodes (lhs-by (literals k) rec (C.plain k) (symbols false ts)))
     unfolding marked makes add _⧺_ closed
     literal-follows k =
         inside ask b
@@ -198,13 +198,13 @@ module _ (ask : Rule → State → Out) (b : Label) (rec : Reader)
     us = symbols (eqb (seen t) K.Ident) ts
 
     abbrev Read : Prog → Operand → Type 0
-    Read p y = (s : State) → Stands s → drop-trivia (s .since) ≡ t ∷ ts → Ends ask b p s (Follows s parts (lhs-by y rec (C.plain (seen t)) us))
+    Read p y = (s : State) → Stands s → drop-trivia (s .since) ≡ t ∷ ts → Ends ask b p s (Follows s expr-nodes (lhs-by y rec (C.plain (seen t)) us))
 
     -- from the state that the test leaves on
     read-on : (s : State) (p : Prog) (y : Operand) → drop-trivia (s .since) ≡ t ∷ ts → Read p y
-        → Onward s (λ to. Ends ask b p to (Follows s parts (lhs-by y rec (C.plain (seen t)) us)))
+        → Onward s (λ to. Ends ask b p to (Follows s expr-nodes (lhs-by y rec (C.plain (seen t)) us)))
     read-on s p y e r to st si =
-        ends-map ask b (r to st (ap drop-trivia si ∙ e)) (λ o d. follows-from s to parts si (lhs-by y rec (C.plain (seen t)) us) o d)
+        ends-map ask b (r to st (ap drop-trivia si ∙ e)) (λ o d. follows-from s to expr-nodes si (lhs-by y rec (C.plain (seen t)) us) o d)
 
     -- the symbols after a token of a set without Ident
     us-plain : (ks : List ℕ) → one-of ks K.Ident ≡ false → one-of ks (seen t) ≡ true → us ≡ symbols false ts
@@ -249,7 +249,7 @@ module _ (ask : Rule → State → Out) (b : Label) (rec : Reader)
         (read-on s from-bracket (bracket-of (t ∷ ts) (seen t)) e (read-bracket (first-in (K.LParen ∷ []) (t ∷ ts)) refl))
 
   -- at the end of the input no test passes
-  end-follows : (s : State) → Stands s → drop-trivia (s .since) ≡ [] → Ends ask b lhs s (Follows s parts (P.lhs rec (symbols false (s .since))))
+  end-follows : (s : State) → Stands s → drop-trivia (s .since) ≡ [] → Ends ask b lhs s (Follows s expr-nodes (P.lhs rec (symbols false (s .since))))
   unfolding lhs silent at first-in
   end-follows s h e =
       rw (symbols-end (s .since) e)
@@ -264,10 +264,10 @@ module _ (ask : Rule → State → Out) (b : Label) (rec : Reader)
       (λ o n. subst (λ (vs : List Symbol). Noted s vs (o .made)) (symbols-end (s .since) e) (noted-at s s₄ (o .made) i n)))
 
   -- `lhs` does what the reader's does
-  pub lhs-follows : (s : State) → Stands s → Ends ask b lhs s (Follows s parts (P.lhs rec (symbols false (s .since))))
+  pub lhs-follows : (s : State) → Stands s → Ends ask b lhs s (Follows s expr-nodes (P.lhs rec (symbols false (s .since))))
   unfolding operand first-in
   lhs-follows s h = go (drop-trivia (s .since)) refl
     where
-      go : (l : List Token) → drop-trivia (s .since) ≡ l → Ends ask b lhs s (Follows s parts (P.lhs rec (symbols false (s .since))))
+      go : (l : List Token) → drop-trivia (s .since) ≡ l → Ends ask b lhs s (Follows s expr-nodes (P.lhs rec (symbols false (s .since))))
       go [] e = end-follows s h e
       go (t ∷ ts) e = rw (symbols-next (s .since) t ts e) (read-prefix t ts (first-in PREFIX-OPERATORS-SET (t ∷ ts)) refl s h e)

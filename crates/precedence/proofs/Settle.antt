@@ -18,7 +18,7 @@ use Rattle.definitions.specs.C.{symbols, Balanced, Expr, Gives}
 use Rattle.laws.proofs.Marks.{push-mark, Falls}
 use Rattle.laws.proofs.Tree.{leaves, leaves-beside}
 use Rattle.laws.proofs.Placed.{place-whole, lead-whole}
-use Rattle.precedence.specs.Nodes.{one, parts}
+use Rattle.precedence.specs.Nodes.{one, expr-nodes}
 use Rattle.precedence.proofs.Pushed.{Quiet, Reported, here, there, reported-left, reported-right}
 use Rattle.precedence.proofs.Symbols.{bracket-solid}
 use Rattle.precedence.proofs.Partner.{Partner, Heard-inside, Paired}
@@ -67,7 +67,7 @@ pub record Clean (whole : List Push) (inner : List Token) (close : Token) (after
   pub tree : Expr
   pub gives : Gives (symbols false inner) tree
   pub silent : (rep : Report) → Reported rep whole → length (close ∷ after) ≤ rep .mark → rep .mark ≤ length behind → ⊥
-  pub holds : c ≡ place (one ⧺ (parts tree ⧺ one)) u
+  pub holds : c ≡ place (one ⧺ (expr-nodes tree ⧺ one)) u
 
 -- it gives none: some report has
 pub record Faulty (whole : List Push) (inner : List Token) (close : Token) (after : List Token) (behind : List Token) : Type 0 where

@@ -22,7 +22,7 @@ use Rattle.laws.proofs.Scan.{fits-clear}
 use Rattle.laws.proofs.Tree.{leaves}
 use Rattle.laws.proofs.Decode.{row-count, rows-length}
 use Rattle.laws.proofs.Accepted.{accepted-call}
-use Rattle.precedence.specs.Nodes.{one, parts, cell}
+use Rattle.precedence.specs.Nodes.{one, expr-nodes, cell}
 use Rattle.precedence.specs.Precedence.{tokens-before, mark-in, DtExpr-at, Starts-cell, Brackets, opening-index, Between, Holds, Judged, C-table, One-tree}
 use Rattle.precedence.proofs.Bare.{unique}
 use Rattle.laws.specs.Pushes.{Clear}
@@ -71,7 +71,7 @@ pub record Answered (ts : List Token) (p : ℕ) (r : Result) : Type 0 where
 
 -- the rows of a DtExpr that holds a tree
 cell-rows : (e : Expr) (t : Token) (ts : List Token) → seen t ≡ K.LParen
-    → place (cell e) (t ∷ ts) ≡ subtree N.DtExpr (place (one ⧺ (parts e ⧺ one)) (t ∷ ts)) nil
+    → place (cell e) (t ∷ ts) ≡ subtree N.DtExpr (place (one ⧺ (expr-nodes e ⧺ one)) (t ∷ ts)) nil
 unfolding place after lead _⊕_
 cell-rows e t ts k =
     rw (bracket-solid t k)
@@ -202,9 +202,9 @@ module _ (e : Entry) (ts : List Token) (l : Buffers) (clear : Clear (pushes (run
       behind-is : found p d .fact .behind ≡ b .inner ++ (b .closing ∷ b .after)
       behind-is = let x = found p d .fact .starts in let y = tokens-are in cc
 
-      holds : (f : Expr) → found p d .children ≡ place (one ⧺ (parts f ⧺ one)) (drop (tokens-before p (r .buffers .trees)) ts) → Holds ts b r p f
+      holds : (f : Expr) → found p d .children ≡ place (one ⧺ (expr-nodes f ⧺ one)) (drop (tokens-before p (r .buffers .trees)) ts) → Holds ts b r p f
       holds f h =
-          let c = ap (λ (us : List Token). place (one ⧺ (parts f ⧺ one)) us) tokens-are in
+          let c = ap (λ (us : List Token). place (one ⧺ (expr-nodes f ⧺ one)) us) tokens-are in
           let w = cell-rows f (b .opening) (b .inner ++ (b .closing ∷ b .after)) (seen-of (b .opening) K.LParen (b .opens) refl) in
           record {
             more = found p d .more;

@@ -20,7 +20,7 @@ use Rattle.definitions.specs.C as C
 use Rattle.laws.proofs.Trivia.{drop-trivia-length, passes-length}
 use Rattle.laws.proofs.Skeleton.{join-done, join-assoc}
 use Rattle.laws.proofs.Kept.{Stands, stands-taken}
-use Rattle.precedence.specs.Nodes.{one, nodes, parts}
+use Rattle.precedence.specs.Nodes.{one, nodes, expr-nodes}
 use Rattle.precedence.proofs.Pratt.{Operator, asks, binds, none, level-of, operator, is, Res, refused, spent, Reader, bind, expect-if, bind-if, ask-if, step-by, step}
 use Rattle.precedence.proofs.Pratt as P
 use Rattle.precedence.proofs.Symbols.{symbols-end, symbols-next, Tail, tail-length}
@@ -119,7 +119,7 @@ step-turn more rec m e (x ∷ us) = by (operator x)
 -- p was made of an operator and what stands after it, so that e becomes f
 pub record Linked (s : State) (e f : Expr) (vs : List Symbol) (o : Out) : Type 0 where
   pub p : Skeleton
-  pub becomes : parts f ≡ nodes N.InfixExpr (parts e ⧺ p)
+  pub becomes : expr-nodes f ≡ nodes N.InfixExpr (expr-nodes e ⧺ p)
   pub answers : o .ans ≡ again
   pub shape-is : o .shape ≡ N.InfixExpr
   pub made : Done s p vs (o .made) (o .state)
@@ -146,11 +146,11 @@ shrinks s u t ts h e g i =
     omega (arith, ap length (ahead s h ∙ e), drop-trivia-length (s .rest), passes-length (u .since) (u .rest) (g .passed), tail-length (u .since) ts i)
 
 module _ (ask : Rule → State → Out) (b : Label) (rec : Reader)
-    (below : (m : ℕ) (s : State) → Stands s → Ends ask b (open-call (expr-binding-power m)) s (Follows s parts (rec m (symbols false (s .since)))))
+    (below : (m : ℕ) (s : State) → Stands s → Ends ask b (open-call (expr-binding-power m)) s (Follows s expr-nodes (rec m (symbols false (s .since)))))
     (s : State) (h : Stands s) (e : Expr) (t : Token) (ts : List Token) (next : drop-trivia (s .since) ≡ t ∷ ts) where
   -- ---------------------------------------------------------------- a binary operator
 
-  bind-by : (k : ℕ) (x : Res) (o : Out) → Follows (taken ts) parts x o
+  bind-by : (k : ℕ) (x : Res) (o : Out) → Follows (taken ts) expr-nodes x o
       → Ends ask b (pick (o .ans) (ret N.InfixExpr yes) (ret N.InfixExpr again) (ret N.InfixExpr again)) (o .state)
       (λ o′. Turns s e (goes (bind x (λ f ws. P.done (binary e k f) ws))) (add (took t ts) (add o o′)))
   unfolding add makes _⧺_
@@ -158,11 +158,11 @@ module _ (ask : Rule → State → Out) (b : Label) (rec : Reader)
       rw (d .0)
       (ends-ret ask b
       (record {
-        p = one ⧺ parts f;
+        p = one ⧺ expr-nodes f;
         becomes = refl;
         answers = refl;
         shape-is = refl;
-        made = rw (join-done (o .made)) (done-behind s t ts next (parts f) vs (o .made) (o .state) (d .1));
+        made = rw (join-done (o .made)) (done-behind s t ts next (expr-nodes f) vs (o .made) (o .state) (d .1));
         moved = shrinks s (o .state) t ts h next (d .1 .stands) (d .1 .tail);
       }))
   bind-by k (P.report vs) o n =
@@ -180,16 +180,16 @@ module _ (ask : Rule → State → Out) (b : Label) (rec : Reader)
 
   -- an expression and the colon
   abbrev with-colon : Expr → Skeleton
-  with-colon a = parts a ⧺ one
+  with-colon a = expr-nodes a ⧺ one
 
-  colon-by : (a : Expr) (ws : List Symbol) (o : Out) → Done (taken ts) (parts a) ws (o .made) (o .state) → (o′ : Out) → Expected ask b K.Colon refl (o .state) o′
+  colon-by : (a : Expr) (ws : List Symbol) (o : Out) → Done (taken ts) (expr-nodes a) ws (o .made) (o .state) → (o′ : Out) → Expected ask b K.Colon refl (o .state) o′
       → Follows (taken ts) with-colon (P.expect K.Colon ws (λ xs. P.done a xs)) (add o o′)
   unfolding add makes
   colon-by a ws o d o′ (found t′ ts′ z p f) =
       let q : Done (o .state) one (symbols false ts′) (o′ .made) (o′ .state) = rw p (done-token (o .state) t′ ts′ z) in
       let g : P.expect K.Colon ws (λ xs. P.done a xs) ≡ P.done a (symbols false ts′) =
       ap (λ (l : List Symbol). P.expect K.Colon l (λ xs. P.done a xs)) (sym (d .left)) ∙ f (λ xs. P.done a xs) in
-      rw g (ap (λ (z : Out). z .ans) p, done-join (taken ts) (o .state) (o′ .state) (parts a) one ws (symbols false ts′) (o .made) (o′ .made) d q)
+      rw g (ap (λ (z : Out). z .ans) p, done-join (taken ts) (o .state) (o′ .state) (expr-nodes a) one ws (symbols false ts′) (o .made) (o′ .made) d q)
   colon-by a ws o d o′ (missing x n f) =
       let g : P.expect K.Colon ws (λ xs. P.done a xs) ≡ P.report ws =
       ap (λ (l : List Symbol). P.expect K.Colon l (λ xs. P.done a xs)) (sym (d .left)) ∙ f (λ xs. P.done a xs) ∙ ap P.report (d .left) in
@@ -197,7 +197,7 @@ module _ (ask : Rule → State → Out) (b : Label) (rec : Reader)
       (noted-second (taken ts) ws (o .made) (o′ .made)
       (noted-from (taken ts) (o .state) ws (o′ .made) (d .tail) (subst (λ (l : List Symbol). Noted (o .state) l (o′ .made)) (d .left) n)))
 
-  middle-by : (x : Res) (o : Out) → Follows (taken ts) parts x o
+  middle-by : (x : Res) (o : Out) → Follows (taken ts) expr-nodes x o
       → Ends ask b (pick (o .ans) (tell no) (expect (of-kind K.Colon)) (expect (of-kind K.Colon))) (o .state) (λ o′. Follows (taken ts) with-colon (middle x) (add o o′))
   unfolding add
   middle-by (P.done a ws) o d = rw (d .0) (ends-map ask b (expects ask b K.Colon refl (o .state) (d .1 .stands)) (colon-by a ws o (d .1)))
@@ -209,21 +209,21 @@ module _ (ask : Rule → State → Out) (b : Label) (rec : Reader)
   middle-follows = branch ask b (below 0 (taken ts) (stands-taken ts)) (middle-by (rec 0 (symbols false ts)))
 
   -- the last part, after the colon
-  last-by : (a : Expr) (xs : List Symbol) (o : Out) → Done (taken ts) (with-colon a) xs (o .made) (o .state) → (x : Res) (o′ : Out) → Follows (o .state) parts x o′
+  last-by : (a : Expr) (xs : List Symbol) (o : Out) → Done (taken ts) (with-colon a) xs (o .made) (o .state) → (x : Res) (o′ : Out) → Follows (o .state) expr-nodes x o′
       → Ends ask b (pick (o′ .ans) (ret N.InfixExpr yes) (ret N.InfixExpr again) (ret N.InfixExpr again)) (o′ .state)
       (λ o″. Turns s e (goes (bind x (λ c ys. P.done (ternary e a c) ys))) (add (took t ts) (add o (add o′ o″))))
   unfolding add makes _⧺_
   last-by a xs o d (P.done c ys) o′ g =
-      let q = done-join (taken ts) (o .state) (o′ .state) (with-colon a) (parts c) xs ys (o .made) (o′ .made) d (g .1) in
-      let r : Done (taken ts) (parts a ⧺ (one ⧺ parts c)) ys (o .made ⧺ o′ .made) (o′ .state) = rw (join-assoc (parts a) one (parts c)) at q in
+      let q = done-join (taken ts) (o .state) (o′ .state) (with-colon a) (expr-nodes c) xs ys (o .made) (o′ .made) d (g .1) in
+      let r : Done (taken ts) (expr-nodes a ⧺ (one ⧺ expr-nodes c)) ys (o .made ⧺ o′ .made) (o′ .state) = rw (join-assoc (expr-nodes a) one (expr-nodes c)) at q in
       rw (g .0)
       (ends-ret ask b
       (record {
-        p = one ⧺ (parts a ⧺ (one ⧺ parts c));
+        p = one ⧺ (expr-nodes a ⧺ (one ⧺ expr-nodes c));
         becomes = refl;
         answers = refl;
         shape-is = refl;
-        made = rw (join-done (o′ .made)) (done-behind s t ts next (parts a ⧺ (one ⧺ parts c)) ys (o .made ⧺ o′ .made) (o′ .state) r);
+        made = rw (join-done (o′ .made)) (done-behind s t ts next (expr-nodes a ⧺ (one ⧺ expr-nodes c)) ys (o .made ⧺ o′ .made) (o′ .state) r);
         moved = shrinks s (o′ .state) t ts h next (r .stands) (r .tail);
       }))
   last-by a xs o d (P.report vs) o′ n =
@@ -241,7 +241,7 @@ module _ (ask : Rule → State → Out) (b : Label) (rec : Reader)
   unfolding rhs add makes
   ask-by (P.done a xs) o d =
       rw (d .0)
-      (branch ask b (subst (λ (l : List Symbol). Ends ask b (open-call (expr-binding-power 1)) (o .state) (Follows (o .state) parts (rec 1 l))) (d .1 .left) (below 1 (o .state) (d .1 .stands)))
+      (branch ask b (subst (λ (l : List Symbol). Ends ask b (open-call (expr-binding-power 1)) (o .state) (Follows (o .state) expr-nodes (rec 1 l))) (d .1 .left) (below 1 (o .state) (d .1 .stands)))
       (last-by a xs o (d .1) (rec 1 xs)))
   ask-by (P.report vs) o n =
       ends-any ask b (λ o′. noted-behind s t ts next vs (o .made ⧺ o′ .made) (noted-first (taken ts) vs (o .made) (o′ .made) n))
@@ -334,7 +334,7 @@ module _ (ask : Rule → State → Out) (b : Label) where
 
   -- `infix-turn` does what the reader's turn does
   pub turns : (rec : Reader)
-      → ((m : ℕ) (s : State) → Stands s → Ends ask b (open-call (expr-binding-power m)) s (Follows s parts (rec m (symbols false (s .since)))))
+      → ((m : ℕ) (s : State) → Stands s → Ends ask b (open-call (expr-binding-power m)) s (Follows s expr-nodes (rec m (symbols false (s .since)))))
       → (m : ℕ) (e : Expr) (s : State) → Stands s → Ends ask b (infix-turn m) s (Turns s e (turn-of rec m e (symbols false (s .since))))
   turns rec below m e s h = go (drop-trivia (s .since)) refl
     where

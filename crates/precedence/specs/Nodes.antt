@@ -59,15 +59,15 @@ argument-list (x ∷ xs) = argument (split (x ∷ xs) 0)
 -- ---------------------------------------------------------------- expressions
 
 -- a ternary is one InfixExpr of five parts
-abbrev pub parts : Expr → Skeleton
-parts (literal k) = nodes N.LiteralExpr one
-parts name = nodes N.MacroInvocation one
-parts (invocation xs) = nodes N.MacroInvocation (one ⧺ one ⧺ argument-list xs ⧺ one)
-parts (bracketed e) = nodes N.ParenExpr (one ⧺ parts e ⧺ one)
-parts (prefix k e) = nodes N.PrefixExpr (one ⧺ parts e)
-parts (binary l k r) = nodes N.InfixExpr (parts l ⧺ one ⧺ parts r)
-parts (ternary c a b) = nodes N.InfixExpr (parts c ⧺ one ⧺ parts a ⧺ one ⧺ parts b)
+abbrev pub expr-nodes : Expr → Skeleton
+expr-nodes (literal k) = nodes N.LiteralExpr one
+expr-nodes name = nodes N.MacroInvocation one
+expr-nodes (invocation xs) = nodes N.MacroInvocation (one ⧺ one ⧺ argument-list xs ⧺ one)
+expr-nodes (bracketed e) = nodes N.ParenExpr (one ⧺ expr-nodes e ⧺ one)
+expr-nodes (prefix k e) = nodes N.PrefixExpr (one ⧺ expr-nodes e)
+expr-nodes (binary l k r) = nodes N.InfixExpr (expr-nodes l ⧺ one ⧺ expr-nodes r)
+expr-nodes (ternary c a b) = nodes N.InfixExpr (expr-nodes c ⧺ one ⧺ expr-nodes a ⧺ one ⧺ expr-nodes b)
 
 -- a cell: its LParen, an expression, its RParen
 abbrev pub cell : Expr → Skeleton
-cell e = nodes N.DtExpr (one ⧺ parts e ⧺ one)
+cell e = nodes N.DtExpr (one ⧺ expr-nodes e ⧺ one)
