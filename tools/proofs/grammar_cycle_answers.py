@@ -144,7 +144,7 @@ class Answers:
         result = f"@{last} .result" if plain(last) in PARSERS else f"@{last} .result .p"
         less, kept = self.progress(*self.open), self.kept()
         falls = f"(ahead-falls ({ROWS}) (@loop .q .s) ({result} .s) ({less}))"
-        equation = f"again-part {self.allowed} {term} {falls} ∙ {LOOP}"
+        equation = f"again-prog {self.allowed} {term} {falls} ∙ {LOOP}"
         return PROGRAMS[self.function][0], f"({less},\n({kept},\n({kept},\n({kept},\n{equation}))))"
 
     def refused(self):
@@ -226,17 +226,17 @@ class Answers:
 
     def of_dt_node_body(self, walk, term, answer):
         """The brace, the loop, and the end, which closes the marker."""
-        loop = f"(c-part {self.allowed} ({self.last_turn(walk, term, answer)}))"
+        loop = f"(c-prog {self.allowed} ({self.last_turn(walk, term, answer)}))"
         body = f"(c-seq (c-act (@bump .ensures .0 {BRACE} _ _)) (c-seq {loop} c-any))"
         return f"closes {self.allowed} (c-brace (@range .ensures _ _ _ _) {body}) (closing (@node-end .ensures .0 {self.ask}))"
 
     def of_branch(self, walk, term, answer):
         """A marker around the loop."""
         step = "c-yes {t = true}" if answer == "yes" else "c-no {t = false}"
-        loop = f"(c-part {self.allowed} ({self.last_turn(walk, term, answer)}))"
+        loop = f"(c-prog {self.allowed} ({self.last_turn(walk, term, answer)}))"
         return f"way {self.allowed} (c-mark (@new .ensures) (@start .ensures .0 _ _) ({step} {loop} refl c-ret) {walk.completed('PreprocessorBranch')})"
 
     def of_cond_branches_and_end(self, walk, term, answer):
         """The loop, and the directive that ends the conditional."""
-        loop = f"(c-part {self.allowed} ({self.last_turn(walk, term, answer)}))"
-        return f"part-on {self.allowed} (c-seq {loop} {walk.leaf('expect', None)})"
+        loop = f"(c-prog {self.allowed} ({self.last_turn(walk, term, answer)}))"
+        return f"prog-on {self.allowed} (c-seq {loop} {walk.leaf('expect', None)})"

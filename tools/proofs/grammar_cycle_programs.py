@@ -19,7 +19,7 @@ STEPS = {
 }
 
 # Contracts that tell no answer are cited together with what follows the call.
-STEPS_ON = {"item": "c-call-on", "cond-branches-and-end": "c-part-on"}
+STEPS_ON = {"item": "c-call-on", "cond-branches-and-end": "c-prog-on"}
 
 # The code returns the last test's own result, where a literal yes does for the step.
 TESTED_YES = ("tested_yes",)

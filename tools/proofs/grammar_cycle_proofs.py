@@ -65,7 +65,7 @@ MODULES = {
     "Rattle.steps.proofs.Left": "ahead-falls",
     "Rattle.steps.proofs.Steps": "c-brace c-said-no c-said-also c-ret-yes c-ret-no c-any closing ignored answered-is answered-yes",
     "Rattle.grammar.proofs.Laws": "cell-body-is",
-    "Rattle.grammar.proofs.Ways": "c-same c-part c-call-on c-part-on closes part-on again-part last-yes last-no as-yes c-said-other other-no c-answered c-inside c-assoc answered-left found-other",
+    "Rattle.grammar.proofs.Ways": "c-same c-prog c-call-on c-prog-on closes prog-on again-prog last-yes last-no as-yes c-said-other other-no c-answered c-inside c-assoc answered-left found-other",
 }
 
 PROOFS = "Rattle.grammar.proofs"

@@ -45,7 +45,7 @@ MODULES = {
     "Rattle.steps.proofs.Steps": "c-ret-no c-any",
     "Rattle.grammar.specs.declared.entry.Entrypoint": "Entrypoint",
     "Rattle.grammar.specs.Subprograms": "entry-of",
-    "Rattle.grammar.proofs.Ways": "c-part-on part-on again-part last-yes c-assoc",
+    "Rattle.grammar.proofs.Ways": "c-prog-on prog-on again-prog last-yes c-assoc",
 }
 
 # `enter`: the program by the variant that a match has told.
@@ -85,7 +85,7 @@ def directive(c):
     allowed = "(@@ .args .allowed)"
     endif = "(c-act (@silent-at .ensures .0 unlabelled _ _ _))"
     branch = "(c-act (@silent-at-set .ensures .0 unlabelled _ _ _))"
-    wrapped = f"c-mark (@new .ensures) (@start .ensures .0 _ _) (c-assoc (c-seq (c-act (@bump .ensures .0 unlabelled _ _)) (c-part-on {allowed} (@cond-branches-and-end .ensures .0) c-ret))) (completed 9 (@complete .ensures .0 _ _))"
+    wrapped = f"c-mark (@new .ensures) (@start .ensures .0 _ _) (c-assoc (c-seq (c-act (@bump .ensures .0 unlabelled _ _)) (c-prog-on {allowed} (@cond-branches-and-end .ensures .0) c-ret))) (completed 9 (@complete .ensures .0 _ _))"
     opened = "catch-unmatched-pp-directive silent"
     c.proof("preprocessor_directive/catch_unmatched_pp_directive", {
         "returns": (opened, f"(way {allowed} (c-yes {endif} (@if1 .taken) (c-seq (c-walk (@error .ensures .0 {asked(allowed)})) c-ret)), ({LEFT}, λ h. {LEFT}))"),
@@ -99,9 +99,9 @@ def source_file(c):
     caught = "(c-fn MOST-OPEN-CALLS (@catch-unmatched-pp-directive .ensures .0))"
     opened = "sourcefile-part silent"
     c.proof("entry/sourcefile_part", {
-        "returns": (opened, f"(part-on MOST-OPEN-CALLS (c-yes {rcurly} (@if1 .taken) (c-walk (@unmatched-rcurly .ensures .0 {asked('MOST-OPEN-CALLS')}))), {LEFT})"),
-        "returns-2": (opened, f"(part-on MOST-OPEN-CALLS (c-no {rcurly} (@if1 .left) (c-yes {caught} (@if2 .taken) c-ret)), {LEFT})"),
-        "returns-3": (opened, f"(@item .ensures .0 ∙ part-on MOST-OPEN-CALLS (c-no {rcurly} (@if1 .left) (c-no {caught} (@if2 .left) (c-call MOST-OPEN-CALLS refl))), {LEFT})"),
+        "returns": (opened, f"(prog-on MOST-OPEN-CALLS (c-yes {rcurly} (@if1 .taken) (c-walk (@unmatched-rcurly .ensures .0 {asked('MOST-OPEN-CALLS')}))), {LEFT})"),
+        "returns-2": (opened, f"(prog-on MOST-OPEN-CALLS (c-no {rcurly} (@if1 .left) (c-yes {caught} (@if2 .taken) c-ret)), {LEFT})"),
+        "returns-3": (opened, f"(@item .ensures .0 ∙ prog-on MOST-OPEN-CALLS (c-no {rcurly} (@if1 .left) (c-no {caught} (@if2 .left) (c-call MOST-OPEN-CALLS refl))), {LEFT})"),
     }, "`sourcefile_part`: one turn of the loop over the source file.")
     whole = "walk-prog MOST-OPEN-CALLS (tokens-of tokens) unlabelled entry-sourcefile"
     end = "(c-act (@at-end .ensures .0 unlabelled _ _ _))"
@@ -109,7 +109,7 @@ def source_file(c):
     c.proof("entry/entry_sourcefile", {
         "loop-holds": "(refl, (le-refl _, (refl, (refl, refl))))",
         "loop-less": LEFT,
-        "loop-again": (opened, f"(again-part MOST-OPEN-CALLS (c-yes {{t = true}} (c-no {end} (@if1 .left) c-ret) refl (c-part-on MOST-OPEN-CALLS (@sourcefile-part .ensures .0) c-ret)) (ahead-falls {ROWS} (@loop .q .s) (@sourcefile-part .result .s) ({LEFT})) ∙ @loop .inv .0, ({LEFT}, ({KEPT}, ({KEPT}, {KEPT}))))"),
+        "loop-again": (opened, f"(again-prog MOST-OPEN-CALLS (c-yes {{t = true}} (c-no {end} (@if1 .left) c-ret) refl (c-prog-on MOST-OPEN-CALLS (@sourcefile-part .ensures .0) c-ret)) (ahead-falls {ROWS} (@loop .q .s) (@sourcefile-part .result .s) ({LEFT})) ∙ @loop .inv .0, ({LEFT}, ({KEPT}, ({KEPT}, {KEPT}))))"),
         "returns": (opened, f"(last-yes MOST-OPEN-CALLS (c-no {{t = false}} (c-yes {end} (@if1 .taken) c-ret) refl c-ret) ∙ @loop .inv .0, {LEFT})"),
     }, "`entry_sourcefile`: the loop of `sourcefile-turn`.",
         inv=("tokens events₀ reports₀ pool₀ q₀ events reports pool q",
@@ -119,14 +119,14 @@ def source_file(c):
 
 def entries(c):
     c.proof("entry/enter", {
-        "returns": ("entry", f"(part-on MOST-OPEN-CALLS (entered (@enum-told .given .1) (c-fn MOST-OPEN-CALLS (@entry-sourcefile .ensures .0))), {LEFT})"),
-        "returns-2": ("entry", f"(@reference-noamp .ensures .0 {asked('MOST-OPEN-CALLS')} ∙ part-on MOST-OPEN-CALLS (entered (@enum-told2 .given .1) c-any), {LEFT})"),
-        "returns-3": ("entry", f"(part-on MOST-OPEN-CALLS (entered (@enum-told3 .given .1) (c-call MOST-OPEN-CALLS (@propvalues .ensures .0))), {LEFT})"),
-        "returns-4": ("entry", f"(part-on MOST-OPEN-CALLS (entered (@enum-told4 .given .1) (c-fn MOST-OPEN-CALLS (@cells .ensures .0))), {LEFT})"),
+        "returns": ("entry", f"(prog-on MOST-OPEN-CALLS (entered (@enum-told .given .1) (c-fn MOST-OPEN-CALLS (@entry-sourcefile .ensures .0))), {LEFT})"),
+        "returns-2": ("entry", f"(@reference-noamp .ensures .0 {asked('MOST-OPEN-CALLS')} ∙ prog-on MOST-OPEN-CALLS (entered (@enum-told2 .given .1) c-any), {LEFT})"),
+        "returns-3": ("entry", f"(prog-on MOST-OPEN-CALLS (entered (@enum-told3 .given .1) (c-call MOST-OPEN-CALLS (@propvalues .ensures .0))), {LEFT})"),
+        "returns-4": ("entry", f"(prog-on MOST-OPEN-CALLS (entered (@enum-told4 .given .1) (c-fn MOST-OPEN-CALLS (@cells .ensures .0))), {LEFT})"),
     }, "`enter`: the entry that is asked for.")
     start = f"ap (λ (m : Machine). walk-prog MOST-OPEN-CALLS (tokens-of {ROWS}) unlabelled (whole (entry-of (@@ .args .entrypoint))) m .on) (@new .ensures _ _ _)"
     c.proof("entry/parse", {
-        "returns": ("whole", f"part-on MOST-OPEN-CALLS (c-part-on MOST-OPEN-CALLS (@enter .ensures .0) (c-walk (@left-over .ensures .0 {asked('MOST-OPEN-CALLS')}))) ∙ {start}"),
+        "returns": ("whole", f"prog-on MOST-OPEN-CALLS (c-prog-on MOST-OPEN-CALLS (@enter .ensures .0) (c-walk (@left-over .ensures .0 {asked('MOST-OPEN-CALLS')}))) ∙ {start}"),
     }, "`parse`: a new parser, the entry, and what it leaves.")
 
 

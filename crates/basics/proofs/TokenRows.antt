@@ -18,20 +18,20 @@ tokens-length (k ∷ n ∷ l) = ap suc (tokens-length l) ∙ omega arith
 -- row i, and the rows after it
 pub row-cons : (tokens : List ℕ) (i : ℕ) → i < length tokens / TOKEN-ROW
     → drop (i * TOKEN-ROW) tokens ≡ getD tokens (i * TOKEN-ROW) 0 ∷ getD tokens (i * TOKEN-ROW + TOKEN-LENGTH) 0 ∷ drop ((i + 1) * TOKEN-ROW) tokens
-row-cons tk i h =
-    let a : i * TOKEN-ROW < length tk = omega (arith, h) in
-    let b : suc (i * TOKEN-ROW) < length tk = omega (arith, h) in
+row-cons tokens i h =
+    let a : i * TOKEN-ROW < length tokens = omega (arith, h) in
+    let b : suc (i * TOKEN-ROW) < length tokens = omega (arith, h) in
     let e : suc (i * TOKEN-ROW) ≡ i * TOKEN-ROW + TOKEN-LENGTH = omega arith in
     let f : suc (suc (i * TOKEN-ROW)) ≡ (i + 1) * TOKEN-ROW = omega arith in
-    drop-cons tk (i * TOKEN-ROW) 0 a
-    ∙ ap (λ (r : List ℕ). getD tk (i * TOKEN-ROW) 0 ∷ r) (drop-cons tk (suc (i * TOKEN-ROW)) 0 b)
-    ∙ ap (λ (j : ℕ). getD tk (i * TOKEN-ROW) 0 ∷ getD tk j 0 ∷ drop (suc (suc (i * TOKEN-ROW))) tk) e
-    ∙ ap (λ (j : ℕ). getD tk (i * TOKEN-ROW) 0 ∷ getD tk (i * TOKEN-ROW + TOKEN-LENGTH) 0 ∷ drop j tk) f
+    drop-cons tokens (i * TOKEN-ROW) 0 a
+    ∙ ap (λ (r : List ℕ). getD tokens (i * TOKEN-ROW) 0 ∷ r) (drop-cons tokens (suc (i * TOKEN-ROW)) 0 b)
+    ∙ ap (λ (j : ℕ). getD tokens (i * TOKEN-ROW) 0 ∷ getD tokens j 0 ∷ drop (suc (suc (i * TOKEN-ROW))) tokens) e
+    ∙ ap (λ (j : ℕ). getD tokens (i * TOKEN-ROW) 0 ∷ getD tokens (i * TOKEN-ROW + TOKEN-LENGTH) 0 ∷ drop j tokens) f
 
 -- the tokens from row i on are those of the numbers from there on
 pub tokens-drop : (i : ℕ) (tokens : List ℕ) → tokens-of (drop (i * TOKEN-ROW) tokens) ≡ drop i (tokens-of tokens)
 unfolding tokens-of
-tokens-drop zero tk = refl
+tokens-drop zero tokens = refl
 tokens-drop (suc i) [] = ap tokens-of (drop-nil {A = ℕ} (suc i * TOKEN-ROW))
 tokens-drop (suc i) (k ∷ []) =
     let e : suc i * TOKEN-ROW ≡ suc (suc (i * TOKEN-ROW)) = omega arith in
@@ -46,13 +46,13 @@ token-at tokens i = record { kind = getD tokens (i * TOKEN-ROW) 0; len = getD to
 
 pub tokens-cons : (tokens : List ℕ) (i : ℕ) → i < length tokens / TOKEN-ROW → drop i (tokens-of tokens) ≡ token-at tokens i ∷ drop (i + 1) (tokens-of tokens)
 unfolding tokens-of
-tokens-cons tk i h =
-    sym (tokens-drop i tk) ∙ ap tokens-of (row-cons tk i h) ∙ ap (λ (l : List Token). token-at tk i ∷ l) (tokens-drop (i + 1) tk)
+tokens-cons tokens i h =
+    sym (tokens-drop i tokens) ∙ ap tokens-of (row-cons tokens i h) ∙ ap (λ (l : List Token). token-at tokens i ∷ l) (tokens-drop (i + 1) tokens)
 
 -- past the last row there are none
 pub tokens-end : (tokens : List ℕ) (i : ℕ) → length tokens / TOKEN-ROW ≤ i → drop i (tokens-of tokens) ≡ []
 unfolding tokens-of
-tokens-end tk i h = sym (tokens-drop i tk) ∙ short (drop (i * TOKEN-ROW) tk) (let e = length-drop (i * TOKEN-ROW) tk in omega (arith, h, e))
+tokens-end tokens i h = sym (tokens-drop i tokens) ∙ short (drop (i * TOKEN-ROW) tokens) (let e = length-drop (i * TOKEN-ROW) tokens in omega (arith, h, e))
   where
     short : (l : List ℕ) → length l < TOKEN-ROW → tokens-of l ≡ []
     short [] e = refl

@@ -83,7 +83,7 @@ module _ (w : Price) where
   stopped-fits : (f : Row) (a : Ans) {s₀ s : State} {n : ℕ} → is-again a ≡ false → Fits w (get f a) s₀ s n → Fits w (get (stopped f) a) s₀ s n
   stopped-fits f a e h = widen w (λ κ. le-of-eq (sym (stopped-is f a κ e))) h
 
-  -- a chain after w its first part, o
+  -- a chain after w its first program, o
   pub chain-fits : (f : Row) (q : Bill) (Q : State → Out) → Sound w q Q → pays w (raise-bill (w .marker) q .cold) ≡ true → (s : State) (o : Out) → Fits w (get f (o .ans)) s (o .state) (cost w (o .made))
       → Fits w (get (raise (w .marker) (chain-row w f (raise-bill (w .marker) q))) (chained Q s o .ans)) s (chained Q s o .state) (cost w (chained Q s o .made))
   unfolding chained chain-row cost

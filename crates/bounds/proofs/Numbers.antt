@@ -10,12 +10,12 @@ use lib.ListN.{length, length-append}
 use borrow.Author.Tests.{leb-true}
 use Rattle.definitions.specs.Layout.{TREE-ROW, ERROR-ROW, REPORT-ROW, MOST-TOKENS}
 use Rattle.definitions.specs.TokenKind as K
-use Rattle.definitions.specs.Token.{Token, tokens-of, bytes}
+use Rattle.definitions.specs.Token.{Token, tokens-of, byte-count}
 use Rattle.definitions.specs.Grammar.{Entry}
 use Rattle.definitions.specs.Skeleton.{Skeleton}
 use Rattle.definitions.specs.Event.{events}
 use Rattle.definitions.specs.Place.{rows, lexical-errors}
-use Rattle.definitions.specs.Report.{Push, pushes, reports, report-rows, pool, Fit, fits, stops, scan}
+use Rattle.definitions.specs.Report.{Push, pushes, reports, report-numbers, pool, Fit, fits, stops, scan}
 use Rattle.definitions.specs.Refusal.{Refusal, unknown-entry, no-tree-room, place-of, Verdict, accepted, refused, is-kind, check-input}
 use Rattle.definitions.specs.Call.{Buffers, zeros, written, refusal, cleared, Sheets, sheets, kept, finish, forward-mark, outcome, room-of, run-entry, parse, Asked, for, unknown, entry-of, checked, asked, call}
 use Rattle.basics.proofs.Tests.{cond-all}
@@ -33,7 +33,7 @@ use Rattle.bounds.proofs.Codes.{CODES, below-append}
 use Rattle.bounds.proofs.CodedRuns.{entry-coded}
 use Rattle.bounds.proofs.Events.{events-fit}
 use Rattle.bounds.proofs.TreeRows.{Kinded, tree, few-rows, few-children, rows-below}
-use Rattle.bounds.proofs.Written.{below-wider, below-zeros, All-coded, coded-left, reports-coded, pool-below, report-rows-length, report-rows-below, errors-most, errors-below}
+use Rattle.bounds.proofs.Written.{below-wider, below-zeros, All-coded, coded-left, reports-coded, pool-below, report-numbers-length, report-numbers-below, errors-most, errors-below}
 use Rattle.bounds.proofs.Places.{number-small, Placed, input-placed, Stopped, scan-stopped}
 
 -- ---------------------------------------------------------------- a run
@@ -96,16 +96,16 @@ below-written l b h = below-append WORD l _ h (below-zeros WORD (length b - leng
 pub so-far : Words-so-far
 so-far e ts w l m h c =
     let n : length ts ≤ MOST-TOKENS = w .tokens in
-    let i : bytes ts ≤ 1048576 = w .input in
+    let i : byte-count ts ≤ 1048576 = w .input in
     let a : event-count l ≤ most-events (length ts) = few-pushed e ts l m h in
     let b : length (reports l) ≤ most-reports (length ts) = few-reported e ts l m h in
     let p : length (pool (reports l)) ≤ most-expectations (length ts) = few-pool e ts l m h c in
     let r : All-coded (reports l) = coded-left (reports l) (reports m) (subst All-coded (ap reports h ∙ reports-append l m) (reports-coded (run-entry e ts) (entry-coded e ts))) in
     record {
-      event-numbers = omega arith;
-      report-numbers = omega arith;
-      pool-numbers = omega arith;
-      report-words = report-rows-below WORD (length ts) (bytes ts) (omega arith) (omega arith) (omega arith) 0 (reports l) r (omega arith);
+      events-written = omega arith;
+      reports-written = omega arith;
+      pool-written = omega arith;
+      report-words = report-numbers-below WORD (length ts) (byte-count ts) (omega arith) (omega arith) (omega arith) 0 (reports l) r (omega arith);
       pool-words = below-wider CODES WORD (pool (reports l)) (omega arith) (pool-below (reports l) r);
     }
 
@@ -117,7 +117,7 @@ module _ (e : Entry) (ts : List Token) (limits : Within-limits ts) (k : Kinded t
       let l = reports (pushes (run-entry e ts)) in
       let x = lexical-errors 0 ts in
       let n : length ts ≤ MOST-TOKENS = limits .tokens in
-      let i : bytes ts ≤ 1048576 = limits .input in
+      let i : byte-count ts ≤ 1048576 = limits .input in
       let t : length (rows (tree e ts)) ≤ TREE-ROW * most-rows (length ts) = bounded e ts .tree-rows in
       let s : So-far ts (pushes (run-entry e ts)) = so-far e ts limits (pushes (run-entry e ts)) [] (sym (append-nil (pushes (run-entry e ts)))) c in
       record {
@@ -125,54 +125,54 @@ module _ (e : Entry) (ts : List Token) (limits : Within-limits ts) (k : Kinded t
             record {
               number = omega arith;
               place = omega arith;
-              trees = omega (arith, div-le-self (length (rows (tree e ts))) TREE-ROW);
-              errors = omega (arith, errors-most 0 ts, div-le-self (length x) ERROR-ROW);
-              reports = omega (arith, s .report-numbers, report-rows-length (length ts) (bytes ts) 0 l, div-le-self (length (report-rows (length ts) (bytes ts) 0 l)) REPORT-ROW);
-              expectations = s .pool-numbers;
+              tree-count = omega (arith, div-le-self (length (rows (tree e ts))) TREE-ROW);
+              error-count = omega (arith, errors-most 0 ts, div-le-self (length x) ERROR-ROW);
+              report-count = omega (arith, s .reports-written, report-numbers-length (length ts) (byte-count ts) 0 l, div-le-self (length (report-numbers (length ts) (byte-count ts) 0 l)) REPORT-ROW);
+              expectation-count = s .pool-written;
             };
         buffers =
             record {
               events = below-zeros WORD (length (b .events)) (omega arith);
               trees = below-written (rows (tree e ts)) (b .trees) (rows-below WORD (omega arith) e ts k (omega arith) (omega arith) (omega arith));
               errors = below-written x (b .errors) (errors-below WORD 0 ts (omega arith) k (omega arith));
-              reports = below-written (report-rows (length ts) (bytes ts) 0 l) (b .reports) (s .report-words);
+              reports = below-written (report-numbers (length ts) (byte-count ts) 0 l) (b .reports) (s .report-words);
               pool = below-written (pool l) (b .pool) (s .pool-words);
             };
       }
 
 refusal-fits : (r : Refusal) → place-of r < WORD → Answer-fits (refusal r)
-refusal-fits r h = record { number = omega (arith, number-small r); place = h; trees = omega arith; errors = omega arith; reports = omega arith; expectations = omega arith }
+refusal-fits r h = record { number = omega (arith, number-small r); place = h; tree-count = omega arith; error-count = omega arith; report-count = omega arith; expectation-count = omega arith }
 
 cleared-fits : (r : Refusal) (b : Buffers) → place-of r < WORD → Fits (cleared r b)
 cleared-fits r b h =
     let z : (l : List ℕ) → Below WORD (zeros l) = λ l. below-zeros WORD (length l) (omega arith) in
     record { answer = refusal-fits r h; buffers = record { events = z (b .events); trees = z (b .trees); errors = z (b .errors); reports = z (b .reports); pool = z (b .pool) } }
 
-module _ (bs tk : List ℕ) (b : Buffers) (w : Words b) where
-  parse-fits : (e : Entry) → check-input bs tk ≡ accepted → (f : Fit) → scan (pushes (run-entry e (tokens-of tk))) (room-of b) ≡ f → Fits (outcome f e (tokens-of tk) (run-entry e (tokens-of tk)) b)
+module _ (bytes tokens : List ℕ) (b : Buffers) (w : Words b) where
+  parse-fits : (e : Entry) → check-input bytes tokens ≡ accepted → (f : Fit) → scan (pushes (run-entry e (tokens-of tokens))) (room-of b) ≡ f → Fits (outcome f e (tokens-of tokens) (run-entry e (tokens-of tokens)) b)
   unfolding outcome finish place-of
   parse-fits e a (stops r) q =
-      let i : Checked bs tk = checked-input bs tk a in
-      let s : place-of (forward-mark (length (tokens-of tk)) r) ≤ length (tokens-of tk) = subst (Stopped (length (tokens-of tk))) q (scan-stopped (length (tokens-of tk)) (pushes (run-entry e (tokens-of tk))) (room-of b)) in
-      cleared-fits (forward-mark (length (tokens-of tk)) r) b (omega (arith, i .pairs, i .numbers-limit))
+      let i : Checked bytes tokens = checked-input bytes tokens a in
+      let s : place-of (forward-mark (length (tokens-of tokens)) r) ≤ length (tokens-of tokens) = subst (Stopped (length (tokens-of tokens))) q (scan-stopped (length (tokens-of tokens)) (pushes (run-entry e (tokens-of tokens))) (room-of b)) in
+      cleared-fits (forward-mark (length (tokens-of tokens)) r) b (omega (arith, i .pairs, i .numbers-limit))
   parse-fits e a (fits z) q =
-      let i : Checked bs tk = checked-input bs tk a in
-      let s : Sheets = sheets e (tokens-of tk) (run-entry e (tokens-of tk)) in
+      let i : Checked bytes tokens = checked-input bytes tokens a in
+      let s : Sheets = sheets e (tokens-of tokens) (run-entry e (tokens-of tokens)) in
       cond-all Fits (leb (length (s .trees)) (length (b .trees)) && leb (length (s .errors)) (length (b .errors)))
-      (sheets-fit e (tokens-of tk) (record { tokens = omega (arith, i .pairs, i .numbers-limit); input = omega (arith, i .covered, i .bytes-limit) }) (good-kinded (tokens-of tk) (i .good)) (fits-clear (pushes (run-entry e (tokens-of tk))) (room-of b) z q) b)
+      (sheets-fit e (tokens-of tokens) (record { tokens = omega (arith, i .pairs, i .numbers-limit); input = omega (arith, i .covered, i .bytes-limit) }) (good-kinded (tokens-of tokens) (i .good)) (fits-clear (pushes (run-entry e (tokens-of tokens))) (room-of b) z q) b)
       (cleared-fits no-tree-room b (omega arith))
 
-  checked-fits : (e : Entry) (v : Verdict) → check-input bs tk ≡ v → Fits (checked v e tk b)
+  checked-fits : (e : Entry) (v : Verdict) → check-input bytes tokens ≡ v → Fits (checked v e tokens b)
   unfolding checked parse
   checked-fits e accepted a = parse-fits e a _ refl
-  checked-fits e (refused r) a = let p : place-of r ≤ 131072 = subst (Placed 131072) a (input-placed bs tk) in record { answer = refusal-fits r (omega arith); buffers = w }
+  checked-fits e (refused r) a = let p : place-of r ≤ 131072 = subst (Placed 131072) a (input-placed bytes tokens) in record { answer = refusal-fits r (omega arith); buffers = w }
 
-  asked-fits : (x : Asked) → Fits (asked x bs tk b)
+  asked-fits : (x : Asked) → Fits (asked x bytes tokens b)
   unfolding asked place-of
   asked-fits unknown = record { answer = refusal-fits unknown-entry (omega arith); buffers = w }
-  asked-fits (for e) = checked-fits e (check-input bs tk) refl
+  asked-fits (for e) = checked-fits e (check-input bytes tokens) refl
 
 -- NUMBERS FIT
 pub numbers-fit : Numbers-fit
 unfolding call
-numbers-fit n bs tk b w = asked-fits bs tk b w (entry-of n)
+numbers-fit n bytes tokens b w = asked-fits bytes tokens b w (entry-of n)

@@ -46,7 +46,7 @@ wider : (p q : ℕ) (v : Verdict) → p ≤ q → Placed p v → Placed q v
 wider p q accepted h g = tt
 wider p q (refused r) h g = le-trans g h
 
-rows-placed : (i left : ℕ) (tk : List ℕ) → Placed (i + length tk) (check-rows i left tk)
+rows-placed : (i left : ℕ) (tokens : List ℕ) → Placed (i + length tokens) (check-rows i left tokens)
 unfolding check-rows place-of
 rows-placed i left [] = unless-placed _ (eqb left 0) (bad-row i) (omega arith)
 rows-placed i left (k ∷ []) = omega arith
@@ -54,31 +54,31 @@ rows-placed i left (k ∷ n ∷ l) =
     cond-all (Placed (i + suc (suc (length l)))) (is-kind k && leb 1 n && leb n left) {x = check-rows (suc i) (left - n) l} {y = refused (bad-row i)}
     (wider _ _ (check-rows (suc i) (left - n) l) (omega arith) (rows-placed (suc i) (left - n) l)) (omega arith)
 
-texts-placed : (i : ℕ) (bs : List ℕ) (ts : List Token) → Placed (i + length ts) (check-texts i bs ts)
+texts-placed : (i : ℕ) (bytes : List ℕ) (ts : List Token) → Placed (i + length ts) (check-texts i bytes ts)
 unfolding check-texts place-of
-texts-placed i bs [] = tt
-texts-placed i bs (t ∷ ts) =
-    cond-all (Placed (i + suc (length ts))) (fits-text static-texts (t .kind) (take (t .len) bs)) {x = check-texts (suc i) (drop (t .len) bs) ts} {y = refused (bad-text i)}
-    (wider _ _ (check-texts (suc i) (drop (t .len) bs) ts) (omega arith) (texts-placed (suc i) (drop (t .len) bs) ts)) (omega arith)
+texts-placed i bytes [] = tt
+texts-placed i bytes (t ∷ ts) =
+    cond-all (Placed (i + suc (length ts))) (fits-text static-texts (t .kind) (take (t .len) bytes)) {x = check-texts (suc i) (drop (t .len) bytes) ts} {y = refused (bad-text i)}
+    (wider _ _ (check-texts (suc i) (drop (t .len) bytes) ts) (omega arith) (texts-placed (suc i) (drop (t .len) bytes) ts)) (omega arith)
 
-tokens-length : (tk : List ℕ) → length (tokens-of tk) ≤ length tk
+tokens-length : (tokens : List ℕ) → length (tokens-of tokens) ≤ length tokens
 unfolding tokens-of
 tokens-length [] = omega arith
 tokens-length (k ∷ []) = omega arith
 tokens-length (k ∷ n ∷ l) = omega (arith, tokens-length l)
 
-sizes-limit : (bs tk : List ℕ) → check-sizes bs tk ≡ accepted → length tk ≤ 131072
+sizes-limit : (bytes tokens : List ℕ) → check-sizes bytes tokens ≡ accepted → length tokens ≤ 131072
 unfolding check-sizes
-sizes-limit bs tk e = leb-true _ _ (and-right (leb (length bs) 1048576) _ (unless-holds (leb (length bs) 1048576 && leb (length tk) 131072) too-long e))
+sizes-limit bytes tokens e = leb-true _ _ (and-right (leb (length bytes) 1048576) _ (unless-holds (leb (length bytes) 1048576 && leb (length tokens) 131072) too-long e))
 
-pub input-placed : (bs tk : List ℕ) → Placed 131072 (check-input bs tk)
+pub input-placed : (bytes tokens : List ℕ) → Placed 131072 (check-input bytes tokens)
 unfolding check-input check-sizes place-of
-input-placed bs tk =
-    or-else-placed 131072 (check-sizes bs tk) _ (unless-placed _ (leb (length bs) 1048576 && leb (length tk) 131072) too-long (omega arith))
+input-placed bytes tokens =
+    or-else-placed 131072 (check-sizes bytes tokens) _ (unless-placed _ (leb (length bytes) 1048576 && leb (length tokens) 131072) too-long (omega arith))
     (λ e.
-    let l : length tk ≤ 131072 = sizes-limit bs tk e in
-    or-else-placed 131072 (check-rows 0 (length bs) tk) _ (wider _ _ (check-rows 0 (length bs) tk) (omega arith) (rows-placed 0 (length bs) tk))
-    (λ _. wider _ _ (check-texts 0 bs (tokens-of tk)) (omega (arith, tokens-length tk)) (texts-placed 0 bs (tokens-of tk))))
+    let l : length tokens ≤ 131072 = sizes-limit bytes tokens e in
+    or-else-placed 131072 (check-rows 0 (length bytes) tokens) _ (wider _ _ (check-rows 0 (length bytes) tokens) (omega arith) (rows-placed 0 (length bytes) tokens))
+    (λ _. wider _ _ (check-texts 0 bytes (tokens-of tokens)) (omega (arith, tokens-length tokens)) (texts-placed 0 bytes (tokens-of tokens))))
 
 -- ---------------------------------------------------------------- causes 5 to 7
 

@@ -5,7 +5,7 @@ use native.Mathlib.Omega.{arith}
 use mathlib.Core.Path.{_≡_, refl}
 use mathlib.Core.List.{List, [], _∷_}
 use lib.ListN.{length}
-use Rattle.definitions.specs.Token.{Token, bytes}
+use Rattle.definitions.specs.Token.{Token, byte-count}
 use Rattle.definitions.specs.Skeleton.{no-label}
 use Rattle.definitions.specs.Event.{StartNode, AddCombinedToken}
 use Rattle.definitions.specs.Place.{leaf, subtree, nil, count}
@@ -19,11 +19,11 @@ large = 4294967296
 
 -- an answer with one number
 abbrev answered : ℕ → ℕ → ℕ → ℕ → ℕ → ℕ → Answer
-answered n p t e r x = record { number = n; place = p; trees = t; errors = e; reports = r; expectations = x }
+answered n p t e r x = record { number = n; place = p; tree-count = t; error-count = e; report-count = r; expectation-count = x }
 
 not-the-answer : (Answer-fits (answered large 0 0 0 0 0) → ⊥) × (Answer-fits (answered 0 large 0 0 0 0) → ⊥) × (Answer-fits (answered 0 0 large 0 0 0) → ⊥) × (Answer-fits (answered 0 0 0 large 0 0) → ⊥) × (Answer-fits (answered 0 0 0 0 large 0) → ⊥) × (Answer-fits (answered 0 0 0 0 0 large) → ⊥)
 not-the-answer =
-    (λ a. omega (arith, a .number), λ a. omega (arith, a .place), λ a. omega (arith, a .trees), λ a. omega (arith, a .errors), λ a. omega (arith, a .reports), λ a. omega (arith, a .expectations))
+    (λ a. omega (arith, a .number), λ a. omega (arith, a .place), λ a. omega (arith, a .tree-count), λ a. omega (arith, a .error-count), λ a. omega (arith, a .report-count), λ a. omega (arith, a .expectation-count))
 
 -- the buffers of a call, with something in one of them
 abbrev held : List ℕ → List ℕ → List ℕ → List ℕ → List ℕ → Result
@@ -60,5 +60,5 @@ bounds-of-nothing : (most-events 0 ≡ 1) × (most-reports 0 ≡ 1) × (most-exp
 bounds-of-nothing = (refl, refl, refl, refl)
 
 -- files at both limits of cause 2 are spoken of
-at-the-limits : (ts : List Token) → length ts ≡ 65536 → bytes ts ≡ 1048576 → Within-limits ts
+at-the-limits : (ts : List Token) → length ts ≡ 65536 → byte-count ts ≡ 1048576 → Within-limits ts
 at-the-limits ts t b = record { tokens = omega arith; input = omega arith }

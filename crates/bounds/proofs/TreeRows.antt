@@ -6,7 +6,7 @@ use mathlib.Core.Path.{_≡_, refl, ap, sym, subst}
 use mathlib.Core.List.{List, [], _∷_, _++_}
 use lib.ListN.{length, drop, length-append}
 use Rattle.definitions.specs.TokenKind as K
-use Rattle.definitions.specs.Token.{Token, is-error, seen, trivia, drop-trivia, past, bytes}
+use Rattle.definitions.specs.Token.{Token, is-error, seen, trivia, drop-trivia, past, byte-count}
 use Rattle.definitions.specs.Skeleton.{Skeleton, done, token, name, node, ignored, report, over}
 use Rattle.definitions.specs.Grammar.{Entry, SourceFile, ReferenceNoamp, PropValues, Cells, root-kind}
 use Rattle.definitions.specs.Place.{Tree, nil, leaf, subtree, _⊕_, lead, front, after, place, root, width, count, rows}
@@ -193,7 +193,7 @@ module _ (b : ℕ) (most : CODES ≤ b) where
       (omega arith, (omega arith, (omega arith, (omega (arith, count-le i), below-append b (rows i) (rows f) p q))))
 
   -- EVERY NUMBER IN THE TREE ROWS
-  pub rows-below : (e : Entry) (ts : List Token) → Kinded ts → bytes ts < b → length ts < b → most-rows (length ts) ≤ b → Below b (rows (tree e ts))
+  pub rows-below : (e : Entry) (ts : List Token) → Kinded ts → byte-count ts < b → length ts < b → most-rows (length ts) ≤ b → Below b (rows (tree e ts))
   rows-below e ts k w l c =
       tree-below (tree e ts) (tree-right e ts) (tree-coded e ts)
       (subst Kinded (sym (lossless e ts)) k)

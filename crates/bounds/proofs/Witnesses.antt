@@ -5,7 +5,7 @@ use native.Mathlib.Omega.{arith}
 use mathlib.Core.Path.{_≡_, refl}
 use mathlib.Core.List.{List, [], _∷_}
 use lib.ListN.{replicate}
-use Rattle.definitions.specs.Token.{bytes, tokens-of}
+use Rattle.definitions.specs.Token.{byte-count, tokens-of}
 use Rattle.definitions.specs.Grammar.{SourceFile, whole}
 use Rattle.definitions.specs.Report.{Push, pushes}
 use Rattle.definitions.specs.Call.{Buffers, run-entry, call}
@@ -31,7 +31,7 @@ fits : Fits (call 1 (125 ∷ []) numbers lent)
 fits = numbers-fit 1 (125 ∷ []) numbers lent (record { events = sevens 12; trees = sevens 12; errors = sevens 12; reports = sevens 12; pool = sevens 12 })
 
 within : Within-limits (tokens-of numbers)
-unfolding tokens-of bytes
+unfolding tokens-of byte-count
 within = record { tokens = omega arith; input = omega arith }
 
 -- all that its run pushes: an event and a row for the report, and the events of a node with its token

@@ -4,10 +4,10 @@ use native.Mathlib.Omega.{arith}
 use mathlib.Core.Path.{_≡_, refl}
 use mathlib.Core.List.{List, [], _∷_, _++_}
 use lib.ListN.{length, length-append, replicate}
-use Rattle.definitions.specs.Token.{Token, is-error, bytes}
+use Rattle.definitions.specs.Token.{Token, is-error, byte-count}
 use Rattle.definitions.specs.Skeleton.{Label, no-label, label, Report, Skeleton, done, token, name, node, ignored, report, over}
 use Rattle.definitions.specs.Place.{lexical-errors}
-use Rattle.definitions.specs.Report.{pushes, reports, label-numbers, report-rows, pool}
+use Rattle.definitions.specs.Report.{pushes, reports, label-numbers, report-numbers, pool}
 use Rattle.basics.proofs.Tests.{cond-all}
 use Rattle.laws.proofs.Skeleton.{reports-append}
 use Rattle.bounds.specs.Numbers.{Below}
@@ -51,12 +51,12 @@ unfolding pool
 pool-below [] c = tt
 pool-below (r ∷ l) c = below-append CODES (r .pool) (pool l) (c .0 .pool) (pool-below l (c .1))
 
-pub report-rows-length : (n b first : ℕ) (l : List Report) → length (report-rows n b first l) ≡ 9 * length l
-unfolding report-rows
-report-rows-length n b first [] = refl
-report-rows-length n b first (r ∷ l) = go (r .labelled) (report-rows-length n b (first + length (r .pool)) l)
+pub report-numbers-length : (n b first : ℕ) (l : List Report) → length (report-numbers n b first l) ≡ 9 * length l
+unfolding report-numbers
+report-numbers-length n b first [] = refl
+report-numbers-length n b first (r ∷ l) = go (r .labelled) (report-numbers-length n b (first + length (r .pool)) l)
   where
-    go : (x : Label) → length (report-rows n b (first + length (r .pool)) l) ≡ 9 * length l → suc (suc (suc (suc (suc (suc (suc (length (label-numbers b x (report-rows n b (first + length (r .pool)) l))))))))) ≡ 9 * suc (length l)
+    go : (x : Label) → length (report-numbers n b (first + length (r .pool)) l) ≡ 9 * length l → suc (suc (suc (suc (suc (suc (suc (length (label-numbers b x (report-numbers n b (first + length (r .pool)) l))))))))) ≡ 9 * suc (length l)
     go no-label h = omega arith
     go (label s) h = omega arith
 
@@ -67,14 +67,14 @@ module _ (m n b : ℕ) (most : CODES ≤ m) (tokens : n < m) (input : b < m) whe
   label-below (label s) l h = (omega arith, (omega arith, h))
 
   -- EVERY NUMBER IN THE REPORT ROWS
-  pub report-rows-below : (first : ℕ) (l : List Report) → All-coded l → first + length (pool l) < m → Below m (report-rows n b first l)
-  unfolding report-rows pool
-  report-rows-below first [] c h = tt
-  report-rows-below first (r ∷ l) c h =
+  pub report-numbers-below : (first : ℕ) (l : List Report) → All-coded l → first + length (pool l) < m → Below m (report-numbers n b first l)
+  unfolding report-numbers pool
+  report-numbers-below first [] c h = tt
+  report-numbers-below first (r ∷ l) c h =
       let p : first + (length (r .pool) + length (pool l)) < m = simp length-append at h in
       let g : r .message < CODES = c .0 .message in
       let k : r .hint < CODES = c .0 .hint in
-      (omega arith, (omega arith, (omega arith, (omega arith, (omega arith, (omega arith, (omega arith, label-below (r .labelled) _ (report-rows-below (first + length (r .pool)) l (c .1) (omega arith)))))))))
+      (omega arith, (omega arith, (omega arith, (omega arith, (omega arith, (omega arith, (omega arith, label-below (r .labelled) _ (report-numbers-below (first + length (r .pool)) l (c .1) (omega arith)))))))))
 
 -- ---------------------------------------------------------------- lexical errors
 
@@ -86,8 +86,8 @@ errors-most at (t ∷ ts) =
     cond-all (λ (l : List ℕ). length l ≤ 3 * suc (length ts)) (is-error (t .kind)) {x = t .kind ∷ at ∷ (at + t .len) ∷ lexical-errors (at + t .len) ts} {y = lexical-errors (at + t .len) ts} (omega arith) (omega arith)
 
 -- EVERY NUMBER IN THE LEXICAL ERRORS
-pub errors-below : (m at : ℕ) (ts : List Token) → CODES ≤ m → Kinded ts → at + bytes ts < m → Below m (lexical-errors at ts)
-unfolding lexical-errors bytes
+pub errors-below : (m at : ℕ) (ts : List Token) → CODES ≤ m → Kinded ts → at + byte-count ts < m → Below m (lexical-errors at ts)
+unfolding lexical-errors byte-count
 errors-below m at [] q k h = tt
 errors-below m at (t ∷ ts) q k h =
     let r : Below m (lexical-errors (at + t .len) ts) = errors-below m (at + t .len) ts q (k .1) (omega arith) in

@@ -7,11 +7,11 @@ use mathlib.Core.Bool.{false}
 use mathlib.Core.List.{List, [], _∷_, _++_}
 use lib.ListN.{length}
 use Rattle.definitions.specs.Layout.{EVENT-ROW, TREE-ROW, REPORT-ROW, TWO-TO-32, MOST-BYTES, MOST-TOKENS}
-use Rattle.definitions.specs.Token.{Token, bytes}
+use Rattle.definitions.specs.Token.{Token, byte-count}
 use Rattle.definitions.specs.Grammar.{Entry, root-kind}
 use Rattle.definitions.specs.Event.{Event, StartNode, AddToken, AddCombinedToken, FinishNode, Placeholder, Error, events}
 use Rattle.definitions.specs.Place.{Tree, nil, leaf, subtree, root, count, rows}
-use Rattle.definitions.specs.Report.{Push, pushes, reports, report-rows, pool}
+use Rattle.definitions.specs.Report.{Push, pushes, reports, report-numbers, pool}
 use Rattle.definitions.specs.Call.{Buffers, Answer, Result, run-entry, call}
 use Rattle.laws.specs.Pushes.{event-count, Clear}
 
@@ -57,7 +57,7 @@ pub record Bounded (e : Entry) (ts : List Token) : Type 0 where
   -- all its events, and the numbers in them
   pub all-events : length (events false (run-entry e ts)) ≤ most-events (length ts)
   pub distances : All-fit (most-events (length ts)) (length ts) (events false (run-entry e ts))
-  -- its pushes, and any first part l of them: so also what a run has made when it is refused
+  -- its pushes, and any first pushes l of them: so also what a run has made when it is refused
   pub events-so-far : (l m : List Push) → pushes (run-entry e ts) ≡ l ++ m → event-count l ≤ most-events (length ts)
   pub reports-so-far : (l m : List Push) → pushes (run-entry e ts) ≡ l ++ m → length (reports l) ≤ most-reports (length ts)
   -- as long as there is no refusal 5 among them
@@ -83,17 +83,17 @@ Below n (x ∷ l) = (x < n) × Below n l
 
 pub record Within-limits (ts : List Token) : Type 0 where
   pub tokens : length ts ≤ MOST-TOKENS
-  pub input : bytes ts ≤ MOST-BYTES
+  pub input : byte-count ts ≤ MOST-BYTES
 
 -- when a run has made the pushes l, without a refusal 5: how many numbers were written, and that they are words themselves
 pub record So-far (ts : List Token) (l : List Push) : Type 0 where
-  pub event-numbers : EVENT-ROW * event-count l < WORD
-  pub report-numbers : REPORT-ROW * length (reports l) < WORD
-  pub pool-numbers : length (pool (reports l)) < WORD
-  pub report-words : Below WORD (report-rows (length ts) (bytes ts) 0 (reports l))
+  pub events-written : EVENT-ROW * event-count l < WORD
+  pub reports-written : REPORT-ROW * length (reports l) < WORD
+  pub pool-written : length (pool (reports l)) < WORD
+  pub report-words : Below WORD (report-numbers (length ts) (byte-count ts) 0 (reports l))
   pub pool-words : Below WORD (pool (reports l))
 
--- for every entry, and any first part l of what its run pushes
+-- for every entry, and any first pushes l of its run
 abbrev pub Words-so-far : Type 0
 Words-so-far = (e : Entry) (ts : List Token) → Within-limits ts → (l m : List Push) → pushes (run-entry e ts) ≡ l ++ m → Clear l → So-far ts l
 
@@ -109,10 +109,10 @@ pub record Words (b : Buffers) : Type 0 where
 pub record Answer-fits (a : Answer) : Type 0 where
   pub number : a .number < WORD
   pub place : a .place < WORD
-  pub trees : a .trees < WORD
-  pub errors : a .errors < WORD
-  pub reports : a .reports < WORD
-  pub expectations : a .expectations < WORD
+  pub tree-count : a .tree-count < WORD
+  pub error-count : a .error-count < WORD
+  pub report-count : a .report-count < WORD
+  pub expectation-count : a .expectation-count < WORD
 
 pub record Fits (r : Result) : Type 0 where
   pub answer : Answer-fits (r .answer)
@@ -120,4 +120,4 @@ pub record Fits (r : Result) : Type 0 where
 
 -- for any entry, input and buffers that hold words: of any length, and whatever the call answers
 abbrev pub Numbers-fit : Type 0
-Numbers-fit = (n : ℕ) (bs tk : List ℕ) (b : Buffers) → Words b → Fits (call n bs tk b)
+Numbers-fit = (n : ℕ) (bytes tokens : List ℕ) (b : Buffers) → Words b → Fits (call n bytes tokens b)

@@ -77,7 +77,7 @@ record Seen : Type 0 where
 
 seen-of : Result → Seen
 unfolding kinds read tree-fits
-seen-of r = let t = kinds (read (take (4 * r .answer .trees) (r .buffers .trees))) in record { number = r .answer .number; tree = t; fits = tree-fits t }
+seen-of r = let t = kinds (read (take (4 * r .answer .tree-count) (r .buffers .trees))) in record { number = r .answer .number; tree = t; fits = tree-fits t }
 
 called : List Example → List Seen
 unfolding seen-of call room
@@ -217,7 +217,7 @@ met-by-theorem = missed 4 (40 ∷ 49 ∷ []) open-numbers room accepted 1 is-cel
 abbrev with-reports : ℕ → List ℕ → Result
 with-reports n l =
     record {
-      answer = record { number = 0; place = 0; trees = 4; errors = 0; reports = n; expectations = 0 };
+      answer = record { number = 0; place = 0; tree-count = 4; error-count = 0; report-count = n; expectation-count = 0 };
       buffers = record { events = []; trees = open-call .buffers .trees; errors = []; reports = l; pool = [] };
     }
 

@@ -16,8 +16,8 @@ use Rattle.laws.proofs.Kept.{Stands}
 use Rattle.laws.proofs.Marks.{stands-within}
 use Rattle.laws.proofs.Onward.{Goes, run-goes}
 use Rattle.laws.proofs.Fuel.{goes-on-shorter, turn-of}
-use Rattle.laws.proofs.Parts.{linked, closed-parts, links-parts}
-use Rattle.laws.proofs.Clear.{Within-room, join-within, closed-within, within-parts}
+use Rattle.laws.proofs.Pieces.{linked, closed-pieces, links-pieces}
+use Rattle.laws.proofs.Clear.{Within-room, join-within, closed-within, within-pieces}
 use Rattle.laws.proofs.Analysis.{Look, get}
 use Rattle.laws.proofs.Analysis as A
 use Rattle.laws.proofs.Sound.{is-again-eq}
@@ -142,12 +142,12 @@ module _ (f : Fact → Look Fact) (F : State → Out) (sound : Sound f F) (goes 
       let closes : (c : ℕ) → F s .shape ≡ c → Within-room (closed c m m′ a (j ⧺ F s .made)) → Holds (get (from i f) (F s .ans)) (flat (closed c m m′ a (j ⧺ F s .made))) (F s .state) =
       λ c e w. subst (λ (x : Kinds). Holds (get (from i f) (F s .ans)) x (F s .state))
       (ap (λ (d : ℕ). shut d ((flat a ⊞ flat j) ⊞ flat (F s .made))) e ∙ same-closed c m m′ a j (F s .made))
-      (enter f F sound i (flat a ⊞ flat j) s ok h g (closed-parts Within-room within-parts c m m′ a j (F s .made) w .2)) in
+      (enter f F sound i (flat a ⊞ flat j) s ok h g (closed-pieces Within-room within-pieces c m m′ a j (F s .made) w .2)) in
       linked-shape (o .shape) _ _ (λ e. closes 0 e)
       (cond-with Linked (goes-on s o) {x = links k F m′ node done (o .state)} {y = unlinked m′ node done (o .ans) (o .state)}
       (λ e w.
       let d : length (F s .state .rest) < length (s .rest) = goes-on-shorter s (F s) e in
-      let v : Within-room node = links-parts Within-room within-parts k F m′ node done (F s .state) w .0 in
+      let v : Within-room node = links-pieces Within-room within-pieces k F m′ node done (F s .state) w .0 in
       links-gives ok k m′ node done (F s .state) (omega arith) (goes s h .0)
       (subst (λ (x : Kinds). Holds i x (F s .state)) (sym (beside-end (flat node))) (head-again s (flat node) e (closes (F s .shape) refl v)))
       w)

@@ -67,4 +67,4 @@ missed-in ts p r a none = go (a .paired)
 
 -- A BRACKET WITHOUT A PARTNER has a report above it
 pub missed : Partner-missed
-missed n bs tk l h p d none = missed-in (tokens-of tk) p (call n bs tk l) (answered n bs tk l h p d) none
+missed n bytes tokens l h p d none = missed-in (tokens-of tokens) p (call n bytes tokens l) (answered n bytes tokens l h p d) none

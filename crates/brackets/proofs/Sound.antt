@@ -12,8 +12,8 @@ use Rattle.definitions.specs.Run.{State, Out, mark-of, makes, add, choose, mark
 use Rattle.basics.proofs.Tests.{cond-with, and-left, and-right}
 use Rattle.laws.proofs.Kept.{Stands}
 use Rattle.laws.proofs.Onward.{Goes, run-goes, exec-goes}
-use Rattle.laws.proofs.Parts.{links-parts}
-use Rattle.laws.proofs.Clear.{Within-room, join-within, closed-within, within-parts}
+use Rattle.laws.proofs.Pieces.{links-pieces}
+use Rattle.laws.proofs.Clear.{Within-room, join-within, closed-within, within-pieces}
 use Rattle.laws.proofs.Sound.{is-again-eq}
 use Rattle.laws.proofs.Analysis.{Look, get}
 use Rattle.brackets.specs.Brackets.{Kinds, end}
@@ -63,7 +63,7 @@ module _ (n : ℕ) (calls : (r : Rule) (s : State) → Stands s → Within-room 
         (gives-first on-yes on-also c (exec (run n) b y s)
         (enter (look table y) (exec (run n) b y) q (l .if-yes ∪ l .if-again) c s (and-left (on-yes .ok) _ (and-right (on-no .ok) _ ok)) k (in-right (l .if-yes) (l .if-again) c s h) w))
 
-  -- a chain in a marker of its own: o is what its first part gave
+  -- a chain in a marker of its own: o is what its first program gave
   module _ (b : Label) (p q : Prog) (P : Sound (look table p) (exec (run n) b p)) (Q : Sound (look table q) (exec (run n) b q)) (s : State) (h : Stands s) (k : List Bool)
       (a : Allows k (drop-trivia (s .rest))) where
     abbrev o : Out
@@ -103,7 +103,7 @@ module _ (n : ℕ) (calls : (r : Rule) (s : State) → Stands s → Within-room 
       links-on e v =
           let j = suc (length (o .state .rest)) in
           let r = links j (exec (run n) b q) (mark-of s) done (o .made) (o .state) in
-          let f = first (links-parts Within-room within-parts j (exec (run n) b q) (mark-of s) done (o .made) (o .state) v .1) in
+          let f = first (links-pieces Within-room within-pieces j (exec (run n) b q) (mark-of s) done (o .made) (o .state) v .1) in
           let g : Holds (l .if-again) (flat (o .made)) (o .state) = subst (λ (y : Ans). Holds (get l y) (flat (o .made)) (o .state)) (is-again-eq (o .ans) e) f in
           in-then checks l both-ways (r .ans) (flat (r .made)) (r .state)
           (in-second (going l never) (from i (look table q)) (r .ans) (flat (r .made)) (r .state)

@@ -1,4 +1,4 @@
--- What is known of kinds side by side: flags, each of which, if it is set, holds of them. The flags of two parts give those of the whole,
+-- What is known of kinds side by side: flags, each of which, if it is set, holds of them. The flags of two pieces give those of the whole,
 -- and the flags of children give those of their node, if the node may be closed.
 use Prim.Native.Nat.{ℕ}
 use mathlib.Core.Path.{_≡_, refl, ap, sym, _∙_, subst}
@@ -85,7 +85,7 @@ exact x =
 pub record Sums (m : Sum) (x : Kinds) : Type 0 where
   pub flags : Below (bits m) (bits (exact x))
 
--- ---------------------------------------------------------------- one part after another
+-- ---------------------------------------------------------------- one piece after another
 
 pub nothing-there : (p : Kinds) → is-end p ≡ true → p ≡ end
 unfolding is-end

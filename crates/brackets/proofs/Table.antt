@@ -11,9 +11,9 @@ use Rattle.brackets.proofs.Summary.{Sum, exact}
 use Rattle.brackets.proofs.Ahead.{anything, none-left, some-left}
 use Rattle.brackets.proofs.Look.{Fact, never, fact, looks-within, look, shapeless}
 
--- no LParen is a part of it; it fits among cells; it fits among values; it fits in a DtExpr
-abbrev pub parts : Bool → Bool → Bool → Sum
-parts c v e =
+-- no LParen is among its children; it fits among cells; it fits among values; it fits in a DtExpr
+abbrev pub flags : Bool → Bool → Bool → Sum
+flags c v e =
     record {
       empty = false;
       free = true;
@@ -38,18 +38,18 @@ no-paren = true ∷ false ∷ true ∷ true ∷ true ∷ []
 
 abbrev pub cell-look : Look Fact
 cell-look =
-    let d = fact anything (parts true false false) in
-    record { ok = true; if-no = fact no-paren (parts true false false); if-yes = d; if-also = d; if-again = d }
+    let d = fact anything (flags true false false) in
+    record { ok = true; if-no = fact no-paren (flags true false false); if-yes = d; if-also = d; if-again = d }
 
 -- where none is left
 abbrev pub cell-at-end : Look Fact
-cell-at-end = record { ok = true; if-no = fact none-left (parts true false false); if-yes = never; if-also = never; if-again = never }
+cell-at-end = record { ok = true; if-no = fact none-left (flags true false false); if-yes = never; if-also = never; if-again = never }
 
 abbrev pub by-rule : Rule → List Bool → Look Fact
-by-rule item n = same true (fact anything (parts false false false))
-by-rule (propvalues b) n = same true (fact anything (parts false true false))
+by-rule item n = same true (fact anything (flags false false false))
+by-rule (propvalues b) n = same true (fact anything (flags false true false))
 by-rule (eat-cell b) n = cond (any (both n some-left)) cell-look cell-at-end
-by-rule (expr-binding-power k) n = same true (fact anything (parts false false true))
+by-rule (expr-binding-power k) n = same true (fact anything (flags false false true))
 
 unfoldable pub table : Rule → Fact → Look Fact
 table r never = same true never
@@ -74,10 +74,10 @@ cell-holds false = refl
 
 -- what is known where an entry ends: of a source file all is taken, and after cells no LParen is ahead
 abbrev pub entry-fact : Entry → Fact
-entry-fact SourceFile = fact none-left (parts false false false)
-entry-fact ReferenceNoamp = fact anything (parts false false false)
-entry-fact PropValues = fact anything (parts false true false)
-entry-fact Cells = fact no-paren (parts true false false)
+entry-fact SourceFile = fact none-left (flags false false false)
+entry-fact ReferenceNoamp = fact anything (flags false false false)
+entry-fact PropValues = fact anything (flags false true false)
+entry-fact Cells = fact no-paren (flags true false false)
 
 -- and it is so: computed
 pub entry-holds : (e : Entry) → looks-within (look table (entry e) (fact anything (exact end))) (same true (entry-fact e)) ≡ true

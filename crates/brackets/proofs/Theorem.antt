@@ -128,11 +128,11 @@ module _ (e : Entry) (ts : List Token) where
 
 -- WHERE AN LPAREN STANDS
 pub brackets-fit : Brackets-fit
-brackets-fit n bs tk b h =
-    let a = accepted-call n bs tk b h in
-    let c = checked-input bs tk (a .input) in
-    let o = run-entry (a .entry) (tokens-of tk) in
-    let t = root (root-kind (a .entry)) o (tokens-of tk) in
+brackets-fit n bytes tokens b h =
+    let a = accepted-call n bytes tokens b h in
+    let c = checked-input bytes tokens (a .input) in
+    let o = run-entry (a .entry) (tokens-of tokens) in
+    let t = root (root-kind (a .entry)) o (tokens-of tokens) in
     let w : Within-room o = record { clear = fits-clear (pushes o) _ (a .left) (a .fitted) } in
-    subst (λ (r : Result). tree-fits (kinds (read (take (TREE-ROW * r .answer .trees) (r .buffers .trees)))) ≡ true) (sym (a .returns))
-    (unfold sheets in (ap (λ (l : List ℕ). tree-fits (kinds (read l))) (in-front (a .entry) bs (tokens-of tk) b (c .covered)) ∙ ap (λ r. tree-fits (kinds r)) (read-back (shown t) (shown-counts t)) ∙ tree-fit (a .entry) (tokens-of tk) w))
+    subst (λ (r : Result). tree-fits (kinds (read (take (TREE-ROW * r .answer .tree-count) (r .buffers .trees)))) ≡ true) (sym (a .returns))
+    (unfold sheets in (ap (λ (l : List ℕ). tree-fits (kinds (read l))) (in-front (a .entry) bytes (tokens-of tokens) b (c .covered)) ∙ ap (λ r. tree-fits (kinds r)) (read-back (shown t) (shown-counts t)) ∙ tree-fit (a .entry) (tokens-of tokens) w))

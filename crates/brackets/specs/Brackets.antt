@@ -125,7 +125,7 @@ inside x k angle =
     cond (one-of (N.DtCellList ∷ N.EntryCells ∷ []) k) cells
     (cond (one-of (N.PropValueList ∷ N.EntryPropValues ∷ []) k) values (cond (eqb k N.DtExpr) expression (inside-other x k angle)))
 
--- no LParen is itself a part of a list of cells
+-- no LParen is itself a child of a list of cells
 abbrev pub leaf-fits : List-of → ℕ → Bool
 leaf-fits cells k = not (eqb k K.LParen)
 leaf-fits values k = true
@@ -174,5 +174,5 @@ tree-fits (node r c f) = is-end f && root-fits r c
 -- for every accepted call
 abbrev pub Brackets-fit : Type 0
 Brackets-fit =
-    (n : ℕ) (bs tk : List ℕ) (b : Buffers) → call n bs tk b .answer .number ≡ 0
-    → tree-fits (kinds (read (take (TREE-ROW * call n bs tk b .answer .trees) (call n bs tk b .buffers .trees)))) ≡ true
+    (n : ℕ) (bytes tokens : List ℕ) (b : Buffers) → call n bytes tokens b .answer .number ≡ 0
+    → tree-fits (kinds (read (take (TREE-ROW * call n bytes tokens b .answer .tree-count) (call n bytes tokens b .buffers .trees)))) ≡ true

@@ -29,46 +29,46 @@ same-answer (Written t f) m = refl
 same-answer NoRoom m = refl
 
 -- e: the entry. b: the buffers at first. m: the parser's machine after its run.
-module _ (e : Entry) (bs tk : List ℕ) (b : Buffers) (m : Machine) (ok : check-input bs tk ≡ accepted) (parsed : Parsed e tk b m) (le : length (m .events .numbers) ≡ length (b .events)) where
-  ends : Call-ends e tk b m
-  ends = calls-end e bs tk b m ok parsed
+module _ (e : Entry) (bytes tokens : List ℕ) (b : Buffers) (m : Machine) (ok : check-input bytes tokens ≡ accepted) (parsed : Parsed e tokens b m) (le : length (m .events .numbers) ≡ length (b .events)) where
+  ends : Call-ends e tokens b m
+  ends = calls-end e bytes tokens b m ok parsed
 
   -- the events that the sink is given
   pub events-inside : eqb (m .refusal) 0 ≡ true → m .events .count ≤ length (m .events .numbers)
   events-inside q = omega (arith, ends .events-inside (eqb-true (m .refusal) 0 q))
 
   module _ (lr : length (m .reports .numbers) ≡ length (b .reports)) (lp : length (m .pool .numbers) ≡ length (b .pool)) (k : ℕ) (root : k ≡ root-kind e) (x : Result)
-      (h : Ended (m .refusal) (m .place) k (m .events .count) (m .reports .count) (m .pool .count) tk (after-sink m (b .trees) (b .errors)) x) where
-    by-refusal : (c : Bool) → eqb (m .refusal) 0 ≡ c → swept (answer-of (h .answer)) (after-sink m (h .trees) (h .errors)) ≡ parse e (tokens-of tk) b
+      (h : Ended (m .refusal) (m .place) k (m .events .count) (m .reports .count) (m .pool .count) tokens (after-sink m (b .trees) (b .errors)) x) where
+    by-refusal : (c : Bool) → eqb (m .refusal) 0 ≡ c → swept (answer-of (h .answer)) (after-sink m (h .trees) (h .errors)) ≡ parse e (tokens-of tokens) b
     by-refusal false q =
-        ap (λ (y : Answer). swept (answer-of y) (after-sink m (h .trees) (h .errors))) (h .answered .stopped q)
+        ap (λ (y : Answer). swept (answer-of y) (after-sink m (h .trees) (h .errors))) (h .of-parse .stopped q)
         ∙ ends .refused (eqb-false (m .refusal) 0 q) (after-sink m (h .trees) (h .errors)) (record { events = le; trees = h .trees-length; errors = h .errors-length; reports = lr; pool = lp })
     by-refusal true q =
-        let s : Sinks k (m .events .count) (m .reports .count) (m .pool .count) tk (m .events .numbers) (b .trees) (b .errors) (h .answer) (h .trees) (h .errors) = h .answered .sunk q in
+        let s : Sinks k (m .events .count) (m .reports .count) (m .pool .count) tokens (m .events .numbers) (b .trees) (b .errors) (h .answer) (h .trees) (h .errors) = h .of-parse .sunk q in
         ap (λ (y : Answer). swept (answer-of y) (after-sink m (h .trees) (h .errors))) (s .answer)
         ∙ ap (λ (y : _). swept y (after-sink m (h .trees) (h .errors))) (same-answer (s .sunk) m)
         ∙ ends .sunk (eqb-true (m .refusal) 0 q) (s .sunk) (h .trees) (h .errors) (h .trees-length) (h .errors-length)
-        (subst (λ (r : ℕ). Promise r tk (take (m .events .count) (m .events .numbers)) (b .trees) (b .errors) (s .sunk) (h .trees) (h .errors)) root (s .promise))
+        (subst (λ (r : ℕ). Promise r tokens (take (m .events .count) (m .events .numbers)) (b .trees) (b .errors) (s .sunk) (h .trees) (h .errors)) root (s .promise))
 
-    pub finished : x ≡ parse e (tokens-of tk) b
+    pub finished : x ≡ parse e (tokens-of tokens) b
     finished = sym (h .once-cleared) ∙ by-refusal (eqb (m .refusal) 0) refl
 
 -- ---------------------------------------------------------------- around it
 
-module _ (e : Entry) (bs tk : List ℕ) (b : Buffers) (n : ℕ) (x : Result) (k : for e ≡ entry-of n) where
-  known-entry : x ≡ checked (check-input bs tk) e tk b → x ≡ call n bs tk b
+module _ (e : Entry) (bytes tokens : List ℕ) (b : Buffers) (n : ℕ) (x : Result) (k : for e ≡ entry-of n) where
+  known-entry : x ≡ checked (check-input bytes tokens) e tokens b → x ≡ call n bytes tokens b
   unfolding call asked
-  known-entry h = h ∙ ap (λ (w : Asked). asked w bs tk b) k
+  known-entry h = h ∙ ap (λ (w : Asked). asked w bytes tokens b) k
 
   -- entries 1 to 4: causes 2 to 4, and the parse
-  pub refused-call : x ≡ checked (check-input bs tk) e tk b → x ≡ call n bs tk b
+  pub refused-call : x ≡ checked (check-input bytes tokens) e tokens b → x ≡ call n bytes tokens b
   refused-call h = known-entry h
 
-  pub sound-call : check-input bs tk ≡ accepted → x ≡ parse e (tokens-of tk) b → x ≡ call n bs tk b
+  pub sound-call : check-input bytes tokens ≡ accepted → x ≡ parse e (tokens-of tokens) b → x ≡ call n bytes tokens b
   unfolding checked
-  sound-call v h = known-entry (h ∙ sym (ap (λ (w : Verdict). checked w e tk b) v))
+  sound-call v h = known-entry (h ∙ sym (ap (λ (w : Verdict). checked w e tokens b) v))
 
 -- cause 1
-pub other-entry : (bs tk : List ℕ) (b : Buffers) (n : ℕ) (a : Answer) → unknown ≡ entry-of n → answer-of a ≡ refusal unknown-entry → result-of a b ≡ call n bs tk b
+pub other-entry : (bytes tokens : List ℕ) (b : Buffers) (n : ℕ) (a : Answer) → unknown ≡ entry-of n → answer-of a ≡ refusal unknown-entry → result-of a b ≡ call n bytes tokens b
 unfolding call asked
-other-entry bs tk b n a k h = ap (λ (z : _). record { answer = z; buffers = b }) h ∙ ap (λ (w : Asked). asked w bs tk b) k
+other-entry bytes tokens b n a k h = ap (λ (z : _). record { answer = z; buffers = b }) h ∙ ap (λ (w : Asked). asked w bytes tokens b) k

@@ -17,34 +17,34 @@ use Rattle.refinement.specs.Ends.{wiped, swept}
 use Rattle.call.specs.declared.Answer.{Answer}
 use Rattle.call.specs.Result.{answer-of, lent, result-of}
 use Rattle.call.specs.Checked.{Input}
-use Rattle.call.specs.Ended.{refused-with, accepted-with, Answered, Ended}
+use Rattle.call.specs.Ended.{refused-with, accepted-with, Answer-of-parse, Ended}
 
 -- ---------------------------------------------------------------- check
 
 -- causes 2 to 4
-pub refused-input : (bs tk : List ℕ) (r : Refusal) (n p : ℕ) (a : Answer) → a ≡ refused-with n p → answer-of (refused-with n p) ≡ refusal r → eqb n 0 ≡ false → refused r ≡ check-input bs tk → Input a bs tk
+pub refused-input : (bytes tokens : List ℕ) (r : Refusal) (n p : ℕ) (a : Answer) → a ≡ refused-with n p → answer-of (refused-with n p) ≡ refusal r → eqb n 0 ≡ false → refused r ≡ check-input bytes tokens → Input a bytes tokens
 unfolding checked
-refused-input bs tk r n p a h z q v =
+refused-input bytes tokens r n p a h z q v =
     record {
       sound = λ s. absurd (eqb-false n 0 q (eqb-true n 0 (sym (ap (λ (x : Answer). eqb (x .number) 0) h) ∙ s)));
       refused =
           λ _ e b.
           ap (λ (x : Answer). result-of x b) h
           ∙ ap (λ (x : _). record { answer = x; buffers = b }) z
-          ∙ ap (λ (w : Verdict). checked w e tk b) v;
+          ∙ ap (λ (w : Verdict). checked w e tokens b) v;
     }
 
-pub sound-input : (bs tk : List ℕ) (a : Answer) → a ≡ accepted-with 0 0 0 0 → accepted ≡ check-input bs tk → Input a bs tk
-sound-input bs tk a h v =
+pub sound-input : (bytes tokens : List ℕ) (a : Answer) → a ≡ accepted-with 0 0 0 0 → accepted ≡ check-input bytes tokens → Input a bytes tokens
+sound-input bytes tokens a h v =
     record { sound = λ _. sym v; refused = λ s e b. absurd (eqb-false (a .number) 0 s (ap (λ (x : Answer). x .number) h)) }
 
--- ---------------------------------------------------------------- answered
+-- ---------------------------------------------------------------- answer_of_parse
 
-module _ (number place k n r p : ℕ) (tk ev tr er tr′ er′ : List ℕ) where
+module _ (number place k n r p : ℕ) (tokens events trees errors trees′ errors′ : List ℕ) where
   -- causes 5 to 7
-  pub stopped : eqb number 0 ≡ false → (a : Answer) → a ≡ refused-with number place → Answered number place k n r p tk ev tr er a tr′ er′
+  pub stopped : eqb number 0 ≡ false → (a : Answer) → a ≡ refused-with number place → Answer-of-parse number place k n r p tokens events trees errors a trees′ errors′
   stopped q a h =
-      subst (λ (y : Answer). Answered number place k n r p tk ev tr er y tr′ er′) (sym h)
+      subst (λ (y : Answer). Answer-of-parse number place k n r p tokens events trees errors y trees′ errors′) (sym h)
       (record {
         stopped = λ _. refl;
         sunk = λ s. absurd (eqb-false number 0 q (eqb-true number 0 s));
@@ -54,27 +54,27 @@ module _ (number place k n r p : ℕ) (tk ev tr er tr′ er′ : List ℕ) where
       })
 
   -- cause 8
-  pub unplaced : eqb number 0 ≡ true → (s : Sunk) → Promise k tk (take n ev) tr er s tr′ er′ → s ≡ NoRoom → (a : Answer) → a ≡ refused-with NO-TREE-ROOM 0
-      → Answered number place k n r p tk ev tr er a tr′ er′
+  pub unplaced : eqb number 0 ≡ true → (s : Sunk) → Promise k tokens (take n events) trees errors s trees′ errors′ → s ≡ NoRoom → (a : Answer) → a ≡ refused-with NO-TREE-ROOM 0
+      → Answer-of-parse number place k n r p tokens events trees errors a trees′ errors′
   unplaced q s h none a e =
-      subst (λ (y : Answer). Answered number place k n r p tk ev tr er y tr′ er′) (sym e)
+      subst (λ (y : Answer). Answer-of-parse number place k n r p tokens events trees errors y trees′ errors′) (sym e)
       (record {
         stopped = λ z. absurd (eqb-false number 0 z (eqb-true number 0 q));
-        sunk = λ _. record { sunk = NoRoom; promise = subst (λ (x : Sunk). Promise k tk (take n ev) tr er x tr′ er′) none h; answer = refl };
+        sunk = λ _. record { sunk = NoRoom; promise = subst (λ (x : Sunk). Promise k tokens (take n events) trees errors x trees′ errors′) none h; answer = refl };
         trees-fit = omega arith;
         errors-fit = omega arith;
         reports-fit = omega arith;
       })
 
   -- accepted
-  pub placed : eqb number 0 ≡ true → (s : Sunk) → Promise k tk (take n ev) tr er s tr′ er′ → (t f : ℕ) → s ≡ Written t f → t < TWO-TO-32 → f < TWO-TO-32 → r < TWO-TO-64
-      → (a : Answer) → a ≡ accepted-with t f (r / REPORT-ROW) p → Answered number place k n r p tk ev tr er a tr′ er′
+  pub placed : eqb number 0 ≡ true → (s : Sunk) → Promise k tokens (take n events) trees errors s trees′ errors′ → (t f : ℕ) → s ≡ Written t f → t < TWO-TO-32 → f < TWO-TO-32 → r < TWO-TO-64
+      → (a : Answer) → a ≡ accepted-with t f (r / REPORT-ROW) p → Answer-of-parse number place k n r p tokens events trees errors a trees′ errors′
   placed q s h t f w ht hf hr a e =
       let m : r / REPORT-ROW * REPORT-ROW < TWO-TO-64 = omega arith in
-      subst (λ (y : Answer). Answered number place k n r p tk ev tr er y tr′ er′) (sym e)
+      subst (λ (y : Answer). Answer-of-parse number place k n r p tokens events trees errors y trees′ errors′) (sym e)
       (record {
         stopped = λ z. absurd (eqb-false number 0 z (eqb-true number 0 q));
-        sunk = λ _. record { sunk = Written t f; promise = subst (λ (x : Sunk). Promise k tk (take n ev) tr er x tr′ er′) w h; answer = refl };
+        sunk = λ _. record { sunk = Written t f; promise = subst (λ (x : Sunk). Promise k tokens (take n events) trees errors x trees′ errors′) w h; answer = refl };
         trees-fit = omega arith;
         errors-fit = omega arith;
         reports-fit = m;
@@ -83,9 +83,9 @@ module _ (number place k n r p : ℕ) (tk ev tr er tr′ er′ : List ℕ) where
 -- ---------------------------------------------------------------- finish
 
 -- each buffer cleared after what is written
-pub all-cleared : (number place k n r p : ℕ) (tk ev tr er rp pl : List ℕ) (a : Answer) (tr′ er′ : List ℕ) → length tr′ ≡ length tr → length er′ ≡ length er → Answered number place k n r p tk ev tr er a tr′ er′
-    → (ev″ tr″ er″ rp″ pl″ : List ℕ) → ev″ ≡ wiped 0 ev → tr″ ≡ wiped (a .trees * TREE-ROW) tr′ → er″ ≡ wiped (a .errors * ERROR-ROW) er′ → rp″ ≡ wiped (a .reports * REPORT-ROW) rp → pl″ ≡ wiped (a .expectations) pl
-    → Ended number place k n r p tk (lent ev tr er rp pl) (result-of a (lent ev″ tr″ er″ rp″ pl″))
-all-cleared number place k n r p tk ev tr er rp pl a tr′ er′ lt le h ev″ tr″ er″ rp″ pl″ v t e w q =
-    let z : result-of a (lent ev″ tr″ er″ rp″ pl″) ≡ swept (answer-of a) (lent ev tr′ er′ rp pl) = rw (v, t, e, w, q) in
-    record { answer = a; trees = tr′; errors = er′; trees-length = lt; errors-length = le; answered = h; once-cleared = sym z }
+pub all-cleared : (number place k n r p : ℕ) (tokens events trees errors reports pool : List ℕ) (a : Answer) (trees′ errors′ : List ℕ) → length trees′ ≡ length trees → length errors′ ≡ length errors → Answer-of-parse number place k n r p tokens events trees errors a trees′ errors′
+    → (events″ trees″ errors″ reports″ pool″ : List ℕ) → events″ ≡ wiped 0 events → trees″ ≡ wiped (a .«tree_count» * TREE-ROW) trees′ → errors″ ≡ wiped (a .«error_count» * ERROR-ROW) errors′ → reports″ ≡ wiped (a .«report_count» * REPORT-ROW) reports → pool″ ≡ wiped (a .«expectation_count») pool
+    → Ended number place k n r p tokens (lent events trees errors reports pool) (result-of a (lent events″ trees″ errors″ reports″ pool″))
+all-cleared number place k n r p tokens events trees errors reports pool a trees′ errors′ lt le h events″ trees″ errors″ reports″ pool″ v t e w q =
+    let z : result-of a (lent events″ trees″ errors″ reports″ pool″) ≡ swept (answer-of a) (lent events trees′ errors′ reports pool) = rw (v, t, e, w, q) in
+    record { answer = a; trees = trees′; errors = errors′; trees-length = lt; errors-length = le; of-parse = h; once-cleared = sym z }

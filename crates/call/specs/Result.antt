@@ -9,7 +9,7 @@ use Rattle.call.specs.declared.Answer.{Answer}
 
 -- the numbers of an answer
 abbrev pub answer-of : Answer → Call.Answer
-answer-of a = record { number = a .number; place = a .place; trees = a .trees; errors = a .errors; reports = a .reports; expectations = a .expectations }
+answer-of a = record { number = a .number; place = a .place; tree-count = a .«tree_count»; error-count = a .«error_count»; report-count = a .«report_count»; expectation-count = a .«expectation_count» }
 
 -- a lent slice of numbers, as a contract has it
 abbrev pub Slice : Type 0

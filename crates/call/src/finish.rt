@@ -14,31 +14,36 @@ ghost use Prim.Native.Nat.{_≤_};
 ghost use lib.Dec.{eqb};
 ghost use lib.ListN.{length};
 ghost use Rattle.call.specs.Result.{at-entry, at-exit, result-of};
-ghost use Rattle.call.specs.Ended.{Answered, Ended};
+ghost use Rattle.call.specs.Ended.{answers-parse, Ended};
 
-// A parse that was refused keeps its number and place. Of another the events go to the sink. written, reported, expected: how many
-// numbers the parse wrote to events, reports and pool. The buffers are not cleared yet.
-fn answered(
+// A parse that was refused keeps its number and place. Of another the events go to the sink. events_written,
+// reports_written, pool_written: how many numbers the parse wrote to these buffers. They are not cleared yet.
+fn answer_of_parse(
     number: u32,
     place: usize,
     kind: u32,
     tokens: &[u32],
     events: &[u32],
-    written: usize,
+    events_written: usize,
     trees: &mut [u32],
     errors: &mut [u32],
-    reported: usize,
-    expected: usize,
+    reports_written: usize,
+    pool_written: usize,
 ) -> Answer
-    requires { ⌜ (eqb number 0 ≡ true → written ≤ length (now events)) ⌝ }
-    ensures { λ r. ⌜ Answered number place kind written reported expected (now (tokens .entry)) (now (events .entry))
-        (now (trees .entry)) (now (errors .entry)) r (now (trees .exit)) (now (errors .exit)) ⌝ }
+    requires { ⌜ (eqb number 0 ≡ true → «events_written» ≤ length (now events)) ⌝ }
+    ensures { λ r. ⌜ answers-parse number place kind «events_written» «reports_written» «pool_written»
+        tokens events trees errors r ⌝ }
 {
     let parsed = number == 0;
     if parsed {
-        let sunk = sink::finish(kind, tokens, &events[..written], trees, errors);
+        let sunk = sink::finish(kind, tokens, &events[..events_written], trees, errors);
         match sunk {
-            Sunk::Written(rows, found) => accepted(rows, found, reported / REPORT_ROW, expected),
+            Sunk::Written(rows, found) => accepted(
+                rows,
+                found,
+                reports_written / REPORT_ROW,
+                pool_written,
+            ),
             Sunk::NoRoom => refused(NO_TREE_ROOM, 0),
         }
     } else {
@@ -53,34 +58,34 @@ pub fn finish(
     kind: u32,
     tokens: &[u32],
     events: &mut [u32],
-    written: usize,
+    events_written: usize,
     trees: &mut [u32],
     errors: &mut [u32],
     reports: &mut [u32],
-    reported: usize,
+    reports_written: usize,
     pool: &mut [u32],
-    expected: usize,
+    pool_written: usize,
 ) -> Answer
-    requires { ⌜ (eqb number 0 ≡ true → written ≤ length (now events)) ⌝ }
-    ensures { λ r. ⌜ Ended number place kind written reported expected (now (tokens .entry))
-        (at-entry events trees errors reports pool) (result-of r (at-exit events trees errors reports pool)) ⌝ }
+    requires { ⌜ (eqb number 0 ≡ true → «events_written» ≤ length (now events)) ⌝ }
+    ensures { λ r. ⌜ Ended number place kind «events_written» «reports_written» «pool_written»
+        (now (tokens .entry)) (at-entry events trees errors reports pool) (result-of r (at-exit events trees errors reports pool)) ⌝ }
 {
-    let a = answered(
+    let a = answer_of_parse(
         number,
         place,
         kind,
         tokens,
         events,
-        written,
+        events_written,
         trees,
         errors,
-        reported,
-        expected,
+        reports_written,
+        pool_written,
     );
     clear(events, 0);
-    clear(trees, a.trees * TREE_ROW);
-    clear(errors, a.errors * ERROR_ROW);
-    clear(reports, a.reports * REPORT_ROW);
-    clear(pool, a.expectations);
+    clear(trees, a.tree_count * TREE_ROW);
+    clear(errors, a.error_count * ERROR_ROW);
+    clear(reports, a.report_count * REPORT_ROW);
+    clear(pool, a.expectation_count);
     a
 }

@@ -12,10 +12,10 @@ ghost use Rattle.call.specs.Ended.{refused-with, accepted-with};
 pub struct Answer {
     pub number: u32,
     pub place: usize,
-    pub trees: usize,
-    pub errors: usize,
-    pub reports: usize,
-    pub expectations: usize,
+    pub tree_count: usize,
+    pub error_count: usize,
+    pub report_count: usize,
+    pub expectation_count: usize,
 }
 
 // A refused call's counts are 0.
@@ -25,22 +25,27 @@ pub fn refused(number: u32, place: usize) -> Answer
     Answer {
         number: number,
         place: place,
-        trees: 0,
-        errors: 0,
-        reports: 0,
-        expectations: 0,
+        tree_count: 0,
+        error_count: 0,
+        report_count: 0,
+        expectation_count: 0,
     }
 }
 
-pub fn accepted(trees: u32, errors: u32, reports: usize, expectations: usize) -> Answer
-    ensures { λ r. ⌜ r ≡ accepted-with trees errors reports expectations ⌝ }
+pub fn accepted(
+    tree_count: u32,
+    error_count: u32,
+    report_count: usize,
+    expectation_count: usize,
+) -> Answer
+    ensures { λ r. ⌜ r ≡ accepted-with «tree_count» «error_count» «report_count» «expectation_count» ⌝ }
 {
     Answer {
         number: 0,
         place: 0,
-        trees: trees as usize,
-        errors: errors as usize,
-        reports: reports,
-        expectations: expectations,
+        tree_count: tree_count as usize,
+        error_count: error_count as usize,
+        report_count: report_count,
+        expectation_count: expectation_count,
     }
 }

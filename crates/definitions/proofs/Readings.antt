@@ -13,7 +13,7 @@ pub record Reading : Type 0 where
   pub result : Result
 
 abbrev pub answer : ℕ → ℕ → ℕ → ℕ → Answer
-answer t e r x = record { number = 0; place = 0; trees = t; errors = e; reports = r; expectations = x }
+answer t e r x = record { number = 0; place = 0; tree-count = t; error-count = e; report-count = r; expectation-count = x }
 
 -- entry, input, rows; the counts; 100 event numbers, and what the other buffers hold in the end
 abbrev pub reading : ℕ → List ℕ → List ℕ → Answer → List ℕ → List ℕ → List ℕ → List ℕ → Reading

@@ -5,12 +5,12 @@ use mathlib.Core.List.{List, _++_}
 use lib.Dec.{leb, eqb}
 use lib.ListN.{length, replicate}
 use Rattle.definitions.specs.Layout.{EVENT-ROW, TREE-ROW, ERROR-ROW, REPORT-ROW, MOST-OPEN-CALLS}
-use Rattle.definitions.specs.Token.{Token, tokens-of, bytes}
+use Rattle.definitions.specs.Token.{Token, tokens-of, byte-count}
 use Rattle.definitions.specs.Grammar.{Entry, SourceFile, ReferenceNoamp, PropValues, Cells, whole, root-kind}
 use Rattle.definitions.specs.Skeleton.{no-label, Skeleton}
 use Rattle.definitions.specs.Run.{taken, exec, run}
 use Rattle.definitions.specs.Place.{root, rows, lexical-errors}
-use Rattle.definitions.specs.Report.{Room, Fit, fits, stops, pushes, scan, reports, report-rows, pool}
+use Rattle.definitions.specs.Report.{Room, Fit, fits, stops, pushes, scan, reports, report-numbers, pool}
 use Rattle.definitions.specs.Refusal.{Refusal, unknown-entry, too-long, bad-row, bad-text, too-deep, no-event-room, no-report-room, no-tree-room, number-of, place-of, Verdict, accepted, refused, check-input}
 
 -- the lent buffers: events (work only), tree rows, lexical errors, reports, expectations
@@ -25,10 +25,10 @@ pub record Buffers : Type 0 where
 pub record Answer : Type 0 where
   pub number : ℕ
   pub place : ℕ
-  pub trees : ℕ
-  pub errors : ℕ
-  pub reports : ℕ
-  pub expectations : ℕ
+  pub tree-count : ℕ
+  pub error-count : ℕ
+  pub report-count : ℕ
+  pub expectation-count : ℕ
 
 pub record Result : Type 0 where
   pub answer : Answer
@@ -37,7 +37,7 @@ pub record Result : Type 0 where
 -- ---------------------------------------------------------------- refused
 
 abbrev pub refusal : Refusal → Answer
-refusal r = record { number = number-of r; place = place-of r; trees = 0; errors = 0; reports = 0; expectations = 0 }
+refusal r = record { number = number-of r; place = place-of r; tree-count = 0; error-count = 0; report-count = 0; expectation-count = 0 }
 
 -- causes 1 to 4: every buffer is left as it was
 abbrev pub untouched : Refusal → Buffers → Result
@@ -69,10 +69,10 @@ pub record Sheets : Type 0 where
   pub pool : List ℕ
 
 unfoldable pub sheets : Entry → List Token → Skeleton → Sheets
-unfolding root rows lexical-errors reports report-rows pool root-kind bytes
+unfolding root rows lexical-errors reports report-numbers pool root-kind byte-count
 sheets e ts o =
     let l = reports (pushes o) in
-    record { trees = rows (root (root-kind e) o ts); errors = lexical-errors 0 ts; reports = report-rows (length ts) (bytes ts) 0 l; pool = pool l }
+    record { trees = rows (root (root-kind e) o ts); errors = lexical-errors 0 ts; reports = report-numbers (length ts) (byte-count ts) 0 l; pool = pool l }
 
 -- written to the front of a buffer; the rest is zero
 abbrev pub written : List ℕ → List ℕ → List ℕ
@@ -85,10 +85,10 @@ kept s b =
           record {
             number = 0;
             place = 0;
-            trees = length (s .trees) / TREE-ROW;
-            errors = length (s .errors) / ERROR-ROW;
-            reports = length (s .reports) / REPORT-ROW;
-            expectations = length (s .pool);
+            tree-count = length (s .trees) / TREE-ROW;
+            error-count = length (s .errors) / ERROR-ROW;
+            report-count = length (s .reports) / REPORT-ROW;
+            expectation-count = length (s .pool);
           };
       buffers =
           record {
@@ -141,15 +141,15 @@ entry-of n = cond (eqb n 1) (for SourceFile) (cond (eqb n 2) (for ReferenceNoamp
 
 unfoldable pub checked : Verdict → Entry → List ℕ → Buffers → Result
 unfolding parse tokens-of number-of place-of
-checked (refused r) e tk b = untouched r b
-checked accepted e tk b = parse e (tokens-of tk) b
+checked (refused r) e tokens b = untouched r b
+checked accepted e tokens b = parse e (tokens-of tokens) b
 
 unfoldable pub asked : Asked → List ℕ → List ℕ → Buffers → Result
 unfolding checked check-input number-of place-of
-asked unknown bs tk b = untouched unknown-entry b
-asked (for e) bs tk b = checked (check-input bs tk) e tk b
+asked unknown bytes tokens b = untouched unknown-entry b
+asked (for e) bytes tokens b = checked (check-input bytes tokens) e tokens b
 
 -- entry, input bytes, token numbers, and the lent buffers as they are at entry
 unfoldable pub call : ℕ → List ℕ → List ℕ → Buffers → Result
 unfolding asked entry-of
-call n bs tk b = asked (entry-of n) bs tk b
+call n bytes tokens b = asked (entry-of n) bytes tokens b

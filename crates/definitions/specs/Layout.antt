@@ -45,6 +45,37 @@ TREE-WIDTH = 2
 abbrev pub TREE-COUNT : ℕ
 TREE-COUNT = 3
 
+abbrev pub ERROR-START : ℕ
+ERROR-START = 1
+
+abbrev pub ERROR-END : ℕ
+ERROR-END = 2
+
+abbrev pub REPORT-START : ℕ
+REPORT-START = 1
+
+abbrev pub REPORT-END : ℕ
+REPORT-END = 2
+
+abbrev pub REPORT-MARK : ℕ
+REPORT-MARK = 3
+
+-- its first place in the pool, and how many expectations it has there
+abbrev pub REPORT-POOL-FIRST : ℕ
+REPORT-POOL-FIRST = 4
+
+abbrev pub REPORT-POOL-COUNT : ℕ
+REPORT-POOL-COUNT = 5
+
+abbrev pub REPORT-HINT : ℕ
+REPORT-HINT = 6
+
+abbrev pub REPORT-LABEL-START : ℕ
+REPORT-LABEL-START = 7
+
+abbrev pub REPORT-LABEL-END : ℕ
+REPORT-LABEL-END = 8
+
 -- ---------------------------------------------------------------- the first number of a tree row
 
 -- its count is that of its children

@@ -5,7 +5,7 @@ use mathlib.Core.List.{List, [], _∷_, _++_}
 use lib.ListN.{length, take, drop}
 use Rattle.definitions.specs.Layout.{NODE, LEAF}
 use Rattle.definitions.specs.TokenKind as K
-use Rattle.definitions.specs.Token.{Token, is-error, seen, trivia, drop-trivia, bytes, past}
+use Rattle.definitions.specs.Token.{Token, is-error, seen, trivia, drop-trivia, byte-count, past}
 use Rattle.definitions.specs.Skeleton.{Skeleton, done, token, name, node, ignored, report, over}
 
 -- leaves and nodes side by side, each with what follows it. A leaf has a kind and its raw tokens, a node a kind and its children.
@@ -66,9 +66,9 @@ root k o ts = subtree k (place o ts ⊕ lead (after o ts)) nil
 -- ---------------------------------------------------------------- rows
 
 unfoldable pub width : Tree → ℕ
-unfolding bytes
+unfolding byte-count
 width nil = 0
-width (leaf k ts f) = bytes ts + width f
+width (leaf k ts f) = byte-count ts + width f
 width (subtree k c f) = width c + width f
 
 unfoldable pub count : Tree → ℕ
@@ -76,15 +76,15 @@ count nil = 0
 count (leaf k ts f) = suc (count f)
 count (subtree k c f) = suc (count f)
 
--- a tree row: class (0 node, 1 leaf), kind, width, count (children of a node, raw tokens of a leaf)
+-- a tree row: class, kind, width, count (children of a node, raw tokens of a leaf)
 abbrev pub tree-row : ℕ → ℕ → ℕ → ℕ → List ℕ → List ℕ
 tree-row c k w n l = c ∷ k ∷ w ∷ n ∷ l
 
 -- in preorder
 unfoldable pub rows : Tree → List ℕ
-unfolding bytes width count
+unfolding byte-count width count
 rows nil = []
-rows (leaf k ts f) = tree-row LEAF k (bytes ts) (length ts) (rows f)
+rows (leaf k ts f) = tree-row LEAF k (byte-count ts) (length ts) (rows f)
 rows (subtree k c f) = tree-row NODE k (width c) (count c) (rows c ++ rows f)
 
 -- the lexical errors of tokens that start at a byte: number, start, end of each error token in order

@@ -57,7 +57,7 @@ unless false r = refused r
 
 -- cause 2
 unfoldable pub check-sizes : List ℕ → List ℕ → Verdict
-check-sizes bs tk = unless (leb (length bs) MOST-BYTES && leb (length tk) MOST-TOKEN-NUMBERS) too-long
+check-sizes bytes tokens = unless (leb (length bytes) MOST-BYTES && leb (length tokens) MOST-TOKEN-NUMBERS) too-long
 
 -- the kinds of a token row: those of `TokenKind` but for Unrecognized and Name, which the parser makes, and those of `LexError`
 unfoldable pub is-kind : ℕ → Bool
@@ -75,12 +75,12 @@ check-rows i left (k ∷ n ∷ l) =
 -- cause 4, from row i on, with the bytes from its token on
 unfoldable pub check-texts : ℕ → List ℕ → List Token → Verdict
 unfolding fits-text
-check-texts i bs [] = accepted
-check-texts i bs (t ∷ ts) =
-    let r = check-texts (suc i) (drop (t .len) bs) ts in
-    cond (fits-text static-texts (t .kind) (take (t .len) bs)) r (refused (bad-text i))
+check-texts i bytes [] = accepted
+check-texts i bytes (t ∷ ts) =
+    let r = check-texts (suc i) (drop (t .len) bytes) ts in
+    cond (fits-text static-texts (t .kind) (take (t .len) bytes)) r (refused (bad-text i))
 
 -- causes 2 to 4, in that order
 unfoldable pub check-input : List ℕ → List ℕ → Verdict
 unfolding _or-else_ check-sizes check-rows check-texts tokens-of
-check-input bs tk = check-sizes bs tk or-else check-rows 0 (length bs) tk or-else check-texts 0 bs (tokens-of tk)
+check-input bytes tokens = check-sizes bytes tokens or-else check-rows 0 (length bytes) tokens or-else check-texts 0 bytes (tokens-of tokens)

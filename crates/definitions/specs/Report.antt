@@ -69,11 +69,11 @@ label-numbers b (label s) l = (b - s .from) ∷ (b - s .to) ∷ l
 
 -- The rows of some reports in a file of n tokens and b bytes, `first` expectations having been written before them: message, start, end,
 -- mark, first pool place, pool count, hint, label start, label end. Places are turned here into numbers from the start of the file.
-unfoldable pub report-rows : ℕ → ℕ → ℕ → List Report → List ℕ
-report-rows n b first [] = []
-report-rows n b first (r ∷ l) =
+unfoldable pub report-numbers : ℕ → ℕ → ℕ → List Report → List ℕ
+report-numbers n b first [] = []
+report-numbers n b first (r ∷ l) =
     r .message ∷ (b - r .range .from) ∷ (b - r .range .to) ∷ (n - r .mark) ∷ first ∷ length (r .pool) ∷ r .hint
-    ∷ label-numbers b (r .labelled) (report-rows n b (first + length (r .pool)) l)
+    ∷ label-numbers b (r .labelled) (report-numbers n b (first + length (r .pool)) l)
 
 unfoldable pub pool : List Report → List ℕ
 pool [] = []

@@ -7,7 +7,7 @@ use lib.ListN.{length}
 use Rattle.definitions.specs.Layout.{MOST-PENDING}
 use Rattle.definitions.specs.TokenKind as K
 use Rattle.definitions.specs.Errors as E
-use Rattle.definitions.specs.Token.{Token, seen, trivia, drop-trivia, bytes, past, ended, one-of, first-in}
+use Rattle.definitions.specs.Token.{Token, seen, trivia, drop-trivia, byte-count, past, ended, one-of, first-in}
 use Rattle.definitions.specs.Skeleton.{Span, Label, no-label, label, Skeleton, done, token, name, node, ignored, report, over, _⧺_}
 use Rattle.definitions.specs.Prog.{Ans, no, yes, also, again, Rule, Act, silent-at, at-end, immediate, immediate-next, add-expected, bump, bump-name, bump-argument, emit, emit-unclosed, less, Prog, ret, act, _⨟_, case, in-marker, loop, chain, brace, open-call}
 use Rattle.definitions.specs.Grammar.{grammar}
@@ -111,11 +111,11 @@ only-separators (a ∷ b ∷ c ∷ l) = false
 
 -- `current_token_error_range`; ts: the tokens from the current one on. At the end it is the last token's final byte, or 0..0.
 unfoldable pub error-range : State → List Token → Span
-unfolding only-separators bytes
+unfolding only-separators byte-count
 error-range s [] = record { from = 1; to = 0 }
 error-range s (t ∷ ts) =
-    let one-byte : Span = record { from = bytes (s .since); to = bytes (s .since) - 1 } in
-    let current : Span = record { from = bytes (t ∷ ts); to = bytes ts } in
+    let one-byte : Span = record { from = byte-count (s .since); to = byte-count (s .since) - 1 } in
+    let current : Span = record { from = byte-count (t ∷ ts); to = byte-count ts } in
     cond (only-separators (s .pending)) one-byte current
 
 -- the pool holds the pending list for message 1, and nothing for any other
@@ -225,12 +225,12 @@ chained f s o =
 
 -- the token that stands at the cursor. The Rust expects one there, and there is: a node's body begins at its LCurly.
 abbrev pub here : List Token → Label
-unfolding bytes
-here ts = label (record { from = bytes ts; to = bytes (past ts) })
+unfolding byte-count
+here ts = label (record { from = byte-count ts; to = byte-count (past ts) })
 
 -- ask: what a call does. b: the brace around.
 unfoldable pub exec : (Rule → State → Out) → Label → Prog → State → Out
-unfolding perform answer add choose marked iter chained bytes
+unfolding perform answer add choose marked iter chained byte-count
 exec ask b (ret k a) s = record { ans = a; shape = k; made = done; state = s }
 exec ask b (act a) s = perform b a s
 exec ask b (p ⨟ q) s = let o = exec ask b p s in add o (exec ask b q (o .state))

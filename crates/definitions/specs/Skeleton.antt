@@ -23,7 +23,7 @@ pub record Report : Type 0 where
   pub labelled : Label
   pub pool : List ℕ
 
--- Each part with what follows it.
+-- Each piece with what follows it.
 -- token: `AddToken`, with the mark after it. name: `AddCombinedToken`, its raw tokens and the mark after it.
 -- node k m m′ before inside: a completed marker, pushed at mark m and finished at mark m′; `before` is the node that it was made to
 -- precede (none, but in a chain), and its children are what `before` and `inside` hold. ignored: the same, for an ignored marker.

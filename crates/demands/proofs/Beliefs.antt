@@ -12,7 +12,7 @@ lent t r p = record { events = replicate 100 7; trees = replicate t 7; errors = 
 abbrev pub result : ℕ → ℕ → ℕ → List ℕ → List ℕ → List ℕ → Result
 result nt nr np t r p =
     record {
-      answer = record { number = 0; place = 0; trees = nt; errors = 0; reports = nr; expectations = np };
+      answer = record { number = 0; place = 0; tree-count = nt; error-count = 0; report-count = nr; expectation-count = np };
       buffers = record { events = replicate 100 0; trees = t; errors = []; reports = r; pool = p };
     }
 

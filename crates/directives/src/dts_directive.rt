@@ -16,13 +16,9 @@ use parser::matcher::Matcher;
 ghost use mathlib.Core.Path.{_≡_};
 ghost use mathlib.Core.Bool.{true};
 ghost use Prim.Native.Nat.{_-_, _≤_, _<_};
-ghost use Rattle.definitions.specs.Token.{tokens-of};
-ghost use Rattle.definitions.specs.Skeleton.{Span};
-ghost use Rattle.definitions.specs.Prog.{Rule, yes};
+ghost use Rattle.definitions.specs.Prog.{yes};
 ghost use Rattle.definitions.specs.Grammar.{eat-dts-include, eat-dts-directive};
-ghost use Rattle.machine.specs.Machine.{Machine};
-ghost use Rattle.machine.specs.Walk.{Walked, walk, closed};
-ghost use Rattle.parser.specs.View.{view, left, state-tested, marker-of, says, walks};
+ghost use Rattle.parser.specs.View.{left, state-tested, says, walks, closes};
 ghost use Rattle.directives.specs.Subprograms.{directive-end, memreserve-arguments, deleted, delete-arguments, directive-with-arguments};
 
 pub fn eat_dts_include(
@@ -70,8 +66,7 @@ fn directive_end(
     pool: &mut [u32],
     m: Marker,
 ) -> StateTested
-    ensures { λ r. ⌜ ((ask : Rule → Machine → Walked) (b : Span) → state-tested r (now (codes .exit)) (now (events .exit)) (now (reports .exit)) (now (pool .exit))
-        ≡ closed (marker-of m) (walk ask (tokens-of (now (tokens .entry))) b directive-end (view s (now (codes .entry)) (now (events .entry)) (now (reports .entry)) (now (pool .entry))))) ⌝ }
+    ensures { λ r. ⌜ closes m directive-end s (state-tested r) codes tokens events reports pool ⌝ }
     ensures { λ r. ⌜ left (now (tokens .entry)) (r .s) ≤ left (now (tokens .entry)) s ⌝ }
 {
     let end = s.expect_recoverable(

@@ -35,13 +35,13 @@ fn run(
         kind,
         tokens,
         events,
-        p.s.events,
+        p.s.events_written,
         trees,
         errors,
         reports,
-        p.s.reports,
+        p.s.reports_written,
         pool,
-        p.s.pool,
+        p.s.pool_written,
     )
 }
 

@@ -10,13 +10,9 @@ use parser::marker::Marker;
 ghost use mathlib.Core.Path.{_≡_};
 ghost use mathlib.Core.Bool.{true, false};
 ghost use Prim.Native.Nat.{_≤_, _<_};
-ghost use Rattle.definitions.specs.Token.{tokens-of};
-ghost use Rattle.definitions.specs.Skeleton.{Span};
-ghost use Rattle.definitions.specs.Prog.{Rule, yes, also};
+ghost use Rattle.definitions.specs.Prog.{yes, also};
 ghost use Rattle.definitions.specs.Grammar.{cells-end, after-propvalue};
-ghost use Rattle.machine.specs.Machine.{Machine};
-ghost use Rattle.machine.specs.Walk.{Walked, said, walk, closed};
-ghost use Rattle.parser.specs.View.{view-of, parser-tested, left, marker-of, ans-of, looks-of, walks-of};
+ghost use Rattle.parser.specs.View.{parser-tested, left, ans-of, looks-of, walks-of, closes-of};
 ghost use Rattle.steps.specs.View.{parser-answered};
 ghost use Rattle.ends.specs.Subprograms.{at-item, at-cells-recovery, unfinished};
 
@@ -83,8 +79,7 @@ pub fn unfinished(
     pool: &mut [u32],
     m: Marker,
 ) -> Parser
-    ensures { λ r. ⌜ ((ask : Rule → Machine → Walked) (b : Span) → said yes (view-of r (now (events .exit)) (now (reports .exit)) (now (pool .exit)))
-        ≡ closed (marker-of m) (walk ask (tokens-of (now (tokens .entry))) b unfinished (view-of p (now (events .entry)) (now (reports .entry)) (now (pool .entry))))) ⌝ }
+    ensures { λ r. ⌜ closes-of m unfinished p (says-of yes r) tokens events reports pool ⌝ }
     ensures { λ r. ⌜ left (now (tokens .entry)) (r .s) ≤ left (now (tokens .entry)) (p .s) ⌝ }
 {
     let codes = p.codes;

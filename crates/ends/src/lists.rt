@@ -18,15 +18,10 @@ use parser::marker::Marker;
 use parser::matcher::Matcher;
 ghost use mathlib.Core.Path.{_≡_};
 ghost use mathlib.Core.Bool.{true, false};
-ghost use mathlib.Core.List.{List};
-ghost use Prim.Native.Nat.{ℕ, _≤_, _<_};
-ghost use Rattle.definitions.specs.Token.{tokens-of};
-ghost use Rattle.definitions.specs.Skeleton.{Span};
-ghost use Rattle.definitions.specs.Prog.{Rule, yes, also};
+ghost use Prim.Native.Nat.{_≤_, _<_};
+ghost use Rattle.definitions.specs.Prog.{yes, also};
 ghost use Rattle.definitions.specs.Grammar.{cells-end, after-propvalue};
-ghost use Rattle.machine.specs.Machine.{Machine};
-ghost use Rattle.machine.specs.Walk.{Walked, said, walk, closed};
-ghost use Rattle.parser.specs.View.{view, left, state-tested, marker-of, ans-of, looks, walks};
+ghost use Rattle.parser.specs.View.{left, state-tested, ans-of, looks, walks, closes, sees};
 ghost use Rattle.steps.specs.View.{state-answered};
 ghost use Rattle.ends.specs.Subprograms.{at-item, at-cells-recovery, at-values-end, unfinished};
 
@@ -65,8 +60,7 @@ pub fn at_cells_end(s: State, codes: &mut Codes, tokens: &[u32], until_end: bool
 
 // Whether cells are cut off here.
 pub fn at_cells_recovery(s: State, tokens: &[u32]) -> StateTested
-    ensures { λ r. ⌜ ((ask : Rule → Machine → Walked) (b : Span) (codes events reports pool : List ℕ) → state-tested r codes events reports pool
-        ≡ walk ask (tokens-of (now (tokens .entry))) b at-cells-recovery (view s codes events reports pool)) ⌝ }
+    ensures { λ r. ⌜ sees at-cells-recovery s (state-tested r) tokens ⌝ }
     ensures { λ r. ⌜ left (now (tokens .entry)) (r .s) ≤ left (now (tokens .entry)) s ⌝ }
     ensures { λ r. ⌜ (r .yes ≡ false → 0 < left (now (tokens .entry)) s) ⌝ }
 {
@@ -159,8 +153,7 @@ pub fn unfinished(
     pool: &mut [u32],
     m: Marker,
 ) -> State
-    ensures { λ r. ⌜ ((ask : Rule → Machine → Walked) (b : Span) → said yes (view r (now (codes .entry)) (now (events .exit)) (now (reports .exit)) (now (pool .exit)))
-        ≡ closed (marker-of m) (walk ask (tokens-of (now (tokens .entry))) b unfinished (view s (now (codes .entry)) (now (events .entry)) (now (reports .entry)) (now (pool .entry))))) ⌝ }
+    ensures { λ r. ⌜ closes m unfinished s (says yes r) codes tokens events reports pool ⌝ }
     ensures { λ r. ⌜ left (now (tokens .entry)) r ≤ left (now (tokens .entry)) s ⌝ }
 {
     let reported = s.error(

@@ -19,13 +19,10 @@ use parser::marker::Marker;
 use parser::matcher::Matcher;
 ghost use mathlib.Core.Path.{_≡_};
 ghost use Prim.Native.Nat.{_-_, _≤_};
-ghost use Rattle.definitions.specs.Token.{tokens-of};
-ghost use Rattle.definitions.specs.Prog.{Rule, yes, loop};
+ghost use Rattle.definitions.specs.Prog.{yes, loop};
 ghost use Rattle.definitions.specs.Run.{truth};
 ghost use Rattle.definitions.specs.Grammar.{forbidden-property, left-over-turn, left-over};
-ghost use Rattle.machine.specs.Machine.{Machine};
-ghost use Rattle.machine.specs.Walk.{Walked, said, walk, closed};
-ghost use Rattle.parser.specs.View.{view-of, parser-tested, left, marker-of, ans-of, span-of, looks-of, moves-of, says-of, walks-of};
+ghost use Rattle.parser.specs.View.{parser-tested, left, ans-of, looks-of, moves-of, says-of, walks-of, closes-at-of};
 ghost use Rattle.ends.specs.Subprograms.{node-end, unmatched-rcurly};
 
 // Yes or No.
@@ -66,8 +63,7 @@ pub fn node_end(
     m: Marker,
     lcurly_span: TextRange,
 ) -> Parser
-    ensures { λ r. ⌜ ((ask : Rule → Machine → Walked) → said yes (view-of r (now (events .exit)) (now (reports .exit)) (now (pool .exit)))
-        ≡ closed (marker-of m) (walk ask (tokens-of (now (tokens .entry))) (span-of «lcurly_span») node-end (view-of p (now (events .entry)) (now (reports .entry)) (now (pool .entry))))) ⌝ }
+    ensures { λ r. ⌜ closes-at-of «lcurly_span» m node-end p (says-of yes r) tokens events reports pool ⌝ }
     ensures { λ r. ⌜ left (now (tokens .entry)) (r .s) ≤ left (now (tokens .entry)) (p .s) ⌝ }
 {
     let end = p.at_end(tokens);

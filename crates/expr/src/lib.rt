@@ -27,7 +27,7 @@ ghost use Rattle.definitions.specs.Prog.{no, yes, expr-binding-power};
 ghost use Rattle.definitions.specs.Grammar.{lhs as lhs-prog, rhs as rhs-prog, infix-turn, dt-expr};
 ghost use Rattle.machine.specs.Machine.{expect-code, peek};
 ghost use Rattle.token_rows.specs.Tokens.{kind-of};
-ghost use Rattle.parser.specs.View.{left, view-of, parser-tested, marker-of, calls-of, looks-of, moves-of, runs-of, says-of};
+ghost use Rattle.parser.specs.View.{left, view-of, parser-tested, marker-of, calls-of, looks-of, moves-of, runs-of, says-of, leaving, entering};
 ghost use Rattle.binding_power.specs.Power.{levels, left-power, right-power, is-binary};
 ghost use Rattle.expr.specs.Subprograms.{at-prefix-op, prefix-expr, paren-expr, literal-expr, missing-lhs, no-lhs, ternary-rhs};
 ghost use Rattle.expr.specs.Chain.{step-as, links-from};
@@ -171,8 +171,8 @@ fn infix_chain(
     min_bp: u8,
     first: Marker,
 ) -> ParserTested
-    ensures { λ r. ⌜ parser-tested r (now (events .exit)) (now (reports .exit)) (now (pool .exit))
-        ≡ links-from allowed (tokens-of (now (tokens .entry))) (infix-turn «min_bp») (marker-of first) (view-of p (now (events .entry)) (now (reports .entry)) (now (pool .entry))) ⌝ }
+    ensures { λ r. ⌜ leaving (parser-tested r) events reports pool
+        ≡ links-from allowed (tokens-of (now (tokens .entry))) (infix-turn «min_bp») (marker-of first) (entering (view-of p) events reports pool) ⌝ }
     ensures { λ r. ⌜ left (now (tokens .entry)) (r .p .s) ≤ left (now (tokens .entry)) (p .s) ⌝ }
 {
     let mut m = first;

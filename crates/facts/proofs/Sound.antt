@@ -26,7 +26,7 @@ use Rattle.facts.proofs.Looks.{in-only, in-and, in-first, in-second, in
 use Rattle.facts.proofs.Good.{Good, Free, each-append, free-append, Gives, Sound, gives-by, gives-begun, gives-add}
 use Rattle.facts.proofs.Turns.{from-sound, joined-sound, iter-gives, links-gives}
 
--- ---------------------------------------------------------------- parts of programs
+-- ---------------------------------------------------------------- pieces of programs
 
 gives-and : (b : Bool) (l : Look) (s₀ : State) (o : Out) (ss : List Step) → Gives l s₀ o ss → Gives (and-ok b l) s₀ o ss
 gives-and b l s₀ o ss g = gives-by l (and-ok b l) s₀ o ss (in-and s₀ (o .state) b l (o .ans) (o .shape)) g
@@ -127,7 +127,7 @@ module _ (f : Fact → Look) (G : State → Out) (T : State → List Step) (S : 
   unfolding settled
   settled-holds d s₀ s h = holds-left d (left-over (turns d f)) s₀ s h
 
-  -- a chain whose first part, from s, gave o
+  -- a chain whose first program, from s, gave o
   chained-gives : (l : Look) (s₀ s : State) (o : Out) (ss : List Step) → Gives l s₀ o ss → looped (settled (again-of l) f) (turns (settled (again-of l) f) f) .ok ≡ true
       → fact-never (turns (settled (again-of l) f) f .first .if-again) ≡ true → fact-never (turns (settled (again-of l) f) f .after .if-again) ≡ true
       → Gives (either (stopped l) (looped (settled (again-of l) f) (turns (settled (again-of l) f) f))) s₀ (chained G s o)

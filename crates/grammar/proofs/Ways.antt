@@ -23,7 +23,7 @@ use Rattle.grammar.specs.declared.preprocessor_directive.Inside.{Inside}
 use Rattle.grammar.specs.Subprograms.{inside-of}
 use Rattle.definitions.specs.Prog.{Ans, no, yes, also, again, Rule, Prog, _⨟_, case, loop, open-call}
 use Rattle.machine.specs.Machine.{Machine, Marker}
-use Rattle.machine.specs.Walk.{Walked, said, choose, closed, walk, walk-rule, walk-prog, unlabelled}
+use Rattle.machine.specs.Walk.{Walked, said, choose, marked, walk, walk-rule, walk-prog, unlabelled}
 use Rattle.machine.proofs.Turns.{ahead}
 use Rattle.machine.proofs.Way.{Way, Closes, c-case}
 use Rattle.steps.proofs.Ways.{turns, stops-yes, stops-no}
@@ -36,31 +36,31 @@ module _ (n : ℕ) {ts : List Token} where
   unfolding walk-prog
   c-same = record { is = refl }
 
-  pub c-part : {b : Span} {p : Prog} {m : Machine} {w : Walked} → w ≡ walk-prog n ts b p m → Way (walk-rule n ts) ts b p m w
+  pub c-prog : {b : Span} {p : Prog} {m : Machine} {w : Walked} → w ≡ walk-prog n ts b p m → Way (walk-rule n ts) ts b p m w
   unfolding walk-prog
-  c-part e = record { is = e }
+  c-prog e = record { is = e }
 
   pub c-call-on : {b : Span} {r : Rule} {q : Prog} {m x : Machine} {w : Walked} → x ≡ walk-rule n ts r m .on → Way (walk-rule n ts) ts b q x w → Way (walk-rule n ts) ts b (open-call r ⨟ q) m w
   unfolding walk
   c-call-on e f = c-on e f
 
-  pub c-part-on : {p q : Prog} {m x : Machine} {w : Walked} → x ≡ walk-prog n ts unlabelled p m .on → Way (walk-rule n ts) ts unlabelled q x w → Way (walk-rule n ts) ts unlabelled (p ⨟ q) m w
+  pub c-prog-on : {p q : Prog} {m x : Machine} {w : Walked} → x ≡ walk-prog n ts unlabelled p m .on → Way (walk-rule n ts) ts unlabelled q x w → Way (walk-rule n ts) ts unlabelled (p ⨟ q) m w
   unfolding walk-prog
-  c-part-on e f = c-on e f
+  c-prog-on e f = c-on e f
 
   -- a function that closes its caller's marker
-  pub closes : {p : Prog} {k : Marker} {m : Machine} {v w : Walked} → Way (walk-rule n ts) ts unlabelled p m v → Closes k v w → w ≡ closed k (walk-prog n ts unlabelled p m)
+  pub closes : {p : Prog} {k : Marker} {m : Machine} {v w : Walked} → Way (walk-rule n ts) ts unlabelled p m v → Closes k v w → w ≡ marked k (walk-prog n ts unlabelled p m)
   unfolding walk-prog
-  closes {k = k} f g = g .is ∙ ap (closed k) (f .is)
+  closes {k = k} f g = g .is ∙ ap (marked k) (f .is)
 
-  pub part-on : {p : Prog} {m : Machine} {w : Walked} → Way (walk-rule n ts) ts unlabelled p m w → w .on ≡ walk-prog n ts unlabelled p m .on
+  pub prog-on : {p : Prog} {m : Machine} {w : Walked} → Way (walk-rule n ts) ts unlabelled p m w → w .on ≡ walk-prog n ts unlabelled p m .on
   unfolding walk-prog
-  part-on f = ap (λ (w : Walked). w .on) (f .is)
+  prog-on f = ap (λ (w : Walked). w .on) (f .is)
 
 module _ (n : ℕ) {ts : List Token} {b : Span} {p : Prog} {m m′ : Machine} where
-  pub again-part : Way (walk-rule n ts) ts b p m (said again m′) → ahead ts m′ < ahead ts m → walk-prog n ts b (loop p) m′ ≡ walk-prog n ts b (loop p) m
+  pub again-prog : Way (walk-rule n ts) ts b p m (said again m′) → ahead ts m′ < ahead ts m → walk-prog n ts b (loop p) m′ ≡ walk-prog n ts b (loop p) m
   unfolding walk-prog
-  again-part w l = turns w l
+  again-prog w l = turns w l
 
   pub last-yes : Way (walk-rule n ts) ts b p m (said yes m′) → said yes m′ ≡ walk-prog n ts b (loop p) m
   unfolding walk-prog
@@ -138,5 +138,5 @@ pub c-assoc : {ask : Rule → Machine → Walked} {ts : List Token} {b : Span} {
 c-assoc {ask = ask} {ts = ts} {b = b} {p = p} {q = q} {r = r} {m = m} e = record { is = e .is ∙ sequence-is ask ts b p q r m }
 
 -- `answered` leaves the parser as it is
-pub answered-left : (tk : List ℕ) (r : ParserAnswered) (k : ParserTested) → r .p ≡ k .p → left tk (r .p .s) ≡ left tk (k .p .s)
-answered-left tk r k e = ap (λ (p : Parser). left tk (p .s)) e
+pub answered-left : (tokens : List ℕ) (r : ParserAnswered) (k : ParserTested) → r .p ≡ k .p → left tokens (r .p .s) ≡ left tokens (k .p .s)
+answered-left tokens r k e = ap (λ (p : Parser). left tokens (p .s)) e

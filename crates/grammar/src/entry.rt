@@ -18,7 +18,7 @@ ghost use Rattle.definitions.specs.Prog.{yes};
 ghost use Rattle.definitions.specs.Grammar.{sourcefile-part, entry-sourcefile, entry, whole};
 ghost use Rattle.machine.specs.Walk.{walk-prog, unlabelled};
 ghost use Rattle.machine.specs.Outcome.{fresh};
-ghost use Rattle.parser.specs.View.{view-of, left, runs-of, runs-on-of, says-of};
+ghost use Rattle.parser.specs.View.{view-of, left, runs-of, runs-on-of, says-of, leaving, entering};
 ghost use Rattle.grammar.specs.Subprograms.{entry-of};
 
 pub enum Entrypoint {
@@ -110,8 +110,9 @@ pub fn parse(
     pool: &mut [u32],
     entrypoint: Entrypoint,
 ) -> Parser
-    ensures { λ r. ⌜ view-of r (now (events .exit)) (now (reports .exit)) (now (pool .exit))
-        ≡ walk-prog MOST-OPEN-CALLS (tokens-of (now (tokens .entry))) unlabelled (whole (entry-of entrypoint)) (fresh (now (events .entry)) (now (reports .entry)) (now (pool .entry))) .on ⌝ }
+    ensures { λ r. ⌜ leaving (view-of r) events reports pool
+        ≡ walk-prog MOST-OPEN-CALLS (tokens-of (now (tokens .entry))) unlabelled (whole (entry-of entrypoint))
+        (entering fresh events reports pool) .on ⌝ }
 {
     let p = Parser::new();
     let parsed = enter(p, tokens, events, reports, pool, entrypoint);

@@ -54,7 +54,7 @@ ghost use mathlib.Core.Bool.{true};
 ghost use Prim.Native.Nat.{_-_, _≤_, _<_};
 ghost use Rattle.definitions.specs.Prog.{yes, item, propvalues, eat-cell};
 ghost use Rattle.definitions.specs.Grammar.{eat-inside, branch, cond-branches-and-end, eat-preprocessor-directive, cells, dt-cell-list, bits-value, propvalue, dt-property, dt-node-body, no-property, eat-node-or-prop};
-ghost use Rattle.parser.specs.View.{parser-tested, left, calls-of, calls-on-of, closes-of, runs-of, runs-on-of, says-of};
+ghost use Rattle.parser.specs.View.{parser-tested, left, calls-of, calls-on-of, run-closes-of, runs-of, runs-on-of, says-of};
 ghost use Rattle.steps.specs.View.{parser-answered};
 ghost use Rattle.grammar.specs.Subprograms.{inside-of, cell-rest, value-rest, item-rest};
 
@@ -200,7 +200,7 @@ fn dt_cell_list(
     allowed: usize,
     m: Marker,
 ) -> ParserTested
-    ensures { λ r. ⌜ closes-of allowed m dt-cell-list p (parser-tested r) tokens events reports pool ⌝ }
+    ensures { λ r. ⌜ run-closes-of allowed m dt-cell-list p (parser-tested r) tokens events reports pool ⌝ }
     ensures { λ r. ⌜ left (now (tokens .entry)) (r .p .s) ≤ left (now (tokens .entry)) (p .s) - 1 ⌝ }
 {
     let opened = p.bump(tokens, events);
@@ -423,7 +423,7 @@ fn dt_property(
     allowed: usize,
     m: Marker,
 ) -> Parser
-    ensures { λ r. ⌜ closes-of allowed m dt-property p (says-of yes r) tokens events reports pool ⌝ }
+    ensures { λ r. ⌜ run-closes-of allowed m dt-property p (says-of yes r) tokens events reports pool ⌝ }
     ensures { λ r. ⌜ left (now (tokens .entry)) (r .s) ≤ left (now (tokens .entry)) (p .s) - 1 ⌝ }
 {
     let empty = p.eat(tokens, events, Matcher::Kind(token_kind::SEMICOLON));
@@ -463,7 +463,7 @@ fn dt_node_body(
     allowed: usize,
     m: Marker,
 ) -> Parser
-    ensures { λ r. ⌜ closes-of allowed m dt-node-body p (says-of yes r) tokens events reports pool ⌝ }
+    ensures { λ r. ⌜ run-closes-of allowed m dt-node-body p (says-of yes r) tokens events reports pool ⌝ }
     ensures { λ r. ⌜ left (now (tokens .entry)) (r .s) ≤ left (now (tokens .entry)) (p .s) - 1 ⌝ }
 {
     let lcurly_span = p.s.range(tokens);
@@ -632,7 +632,7 @@ fn node(
     m: Marker,
     allow_prop: bool,
 ) -> Parser
-    ensures { λ r. ⌜ closes-of allowed m (no-property «allow_prop») p (says-of yes r) tokens events reports pool ⌝ }
+    ensures { λ r. ⌜ run-closes-of allowed m (no-property «allow_prop») p (says-of yes r) tokens events reports pool ⌝ }
     ensures { λ r. ⌜ left (now (tokens .entry)) (r .s) ≤ left (now (tokens .entry)) (p .s) ⌝ }
 {
     let lcurly = p.at(tokens, Matcher::Kind(token_kind::LCURLY));

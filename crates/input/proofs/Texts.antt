@@ -29,8 +29,8 @@ lookup [] k = []
 lookup (e ∷ es) k = cond (eqb (e .kind) k) (e .text) (lookup es k)
 
 abbrev free-or-same : List ℕ → List ℕ → Bool
-free-or-same [] bs = true
-free-or-same (x ∷ xs) bs = same (x ∷ xs) bs
+free-or-same [] bytes = true
+free-or-same (x ∷ xs) bytes = same (x ∷ xs) bytes
 
 abbrev is-empty : List ℕ → Bool
 is-empty [] = true
@@ -47,30 +47,30 @@ static-texts-sound : sound static-texts ≡ true
 unfolding sound
 static-texts-sound = refl
 
-full : (t bs : List ℕ) → cond (is-empty t) false true ≡ true → same t bs ≡ free-or-same t bs
-full [] bs h = absurd (false≢true h)
-full (x ∷ xs) bs h = refl
+full : (t bytes : List ℕ) → cond (is-empty t) false true ≡ true → same t bytes ≡ free-or-same t bytes
+full [] bytes h = absurd (false≢true h)
+full (x ∷ xs) bytes h = refl
 
-by-lookup : (es : List Text) (k : ℕ) (bs : List ℕ) → sound es ≡ true → fits-text es k bs ≡ free-or-same (lookup es k) bs
+by-lookup : (es : List Text) (k : ℕ) (bytes : List ℕ) → sound es ≡ true → fits-text es k bytes ≡ free-or-same (lookup es k) bytes
 unfolding sound lookup fits-text
-by-lookup [] k bs h = refl
-by-lookup (e ∷ es) k bs h =
-    go (eqb (e .kind) k) (by-lookup es k bs (and-right (cond (is-empty (e .text)) false true && leb (e .kind) K.QuestionMark) (sound es) h))
+by-lookup [] k bytes h = refl
+by-lookup (e ∷ es) k bytes h =
+    go (eqb (e .kind) k) (by-lookup es k bytes (and-right (cond (is-empty (e .text)) false true && leb (e .kind) K.QuestionMark) (sound es) h))
   where
-    go : (b : Bool) → fits-text es k bs ≡ free-or-same (lookup es k) bs → cond b (same (e .text) bs) (fits-text es k bs) ≡ free-or-same (cond b (e .text) (lookup es k)) bs
-    go true r = full (e .text) bs (and-left (cond (is-empty (e .text)) false true) (leb (e .kind) K.QuestionMark) (and-left _ (sound es) h))
+    go : (b : Bool) → fits-text es k bytes ≡ free-or-same (lookup es k) bytes → cond b (same (e .text) bytes) (fits-text es k bytes) ≡ free-or-same (cond b (e .text) (lookup es k)) bytes
+    go true r = full (e .text) bytes (and-left (cond (is-empty (e .text)) false true) (leb (e .kind) K.QuestionMark) (and-left _ (sound es) h))
     go false r = r
 
 -- a kind above the last of `TokenKind` has none
-none-above : (es : List Text) (k : ℕ) (bs : List ℕ) → sound es ≡ true → K.QuestionMark < k → fits-text es k bs ≡ true
+none-above : (es : List Text) (k : ℕ) (bytes : List ℕ) → sound es ≡ true → K.QuestionMark < k → fits-text es k bytes ≡ true
 unfolding sound fits-text
-none-above [] k bs h l = refl
-none-above (e ∷ es) k bs h l =
+none-above [] k bytes h l = refl
+none-above (e ∷ es) k bytes h l =
     let a = leb-true (e .kind) K.QuestionMark (and-right (cond (is-empty (e .text)) false true) (leb (e .kind) K.QuestionMark) (and-left _ (sound es) h)) in
-    rw (ne-eqb (e .kind) k (λ q. absurd (omega (arith, a, q, l)))) (none-above es k bs (and-right (cond (is-empty (e .text)) false true && leb (e .kind) K.QuestionMark) (sound es) h) l)
+    rw (ne-eqb (e .kind) k (λ q. absurd (omega (arith, a, q, l)))) (none-above es k bytes (and-right (cond (is-empty (e .text)) false true && leb (e .kind) K.QuestionMark) (sound es) h) l)
 
-pub above : (k : ℕ) (bs : List ℕ) → K.QuestionMark < k → fits-text static-texts k bs ≡ true
-above k bs h = none-above static-texts k bs static-texts-sound h
+pub above : (k : ℕ) (bytes : List ℕ) → K.QuestionMark < k → fits-text static-texts k bytes ≡ true
+above k bytes h = none-above static-texts k bytes static-texts-sound h
 
 -- ---------------------------------------------------------------- the rule of TEXTS and TEXT_STARTS
 
@@ -114,7 +114,7 @@ same-refl (x ∷ xs) = rw (eq-eqb x x refl) (same-refl xs)
 pub record Rule (k : ℕ) : Type 0 where
   pub ordered : getD starts k 0 ≤ getD starts (k + 1) 0
   pub inside : getD starts (k + 1) 0 ≤ 127
-  pub says : (bs : List ℕ) → fits-text static-texts k bs ≡ free-or-same (slice k) bs
+  pub says : (bytes : List ℕ) → fits-text static-texts k bytes ≡ free-or-same (slice k) bytes
 
 pub rule : (k : ℕ) → k ≤ K.QuestionMark → Rule k
 unfolding right
@@ -127,21 +127,21 @@ rule k h =
     record {
       ordered = leb-true _ _ (and-left a b ab);
       inside = leb-true _ _ (and-right a b ab);
-      says = λ bs. by-lookup static-texts k bs static-texts-sound ∙ ap (λ (l : List ℕ). free-or-same l bs) e;
+      says = λ bytes. by-lookup static-texts k bytes static-texts-sound ∙ ap (λ (l : List ℕ). free-or-same l bytes) e;
     }
 
 -- ---------------------------------------------------------------- as the function holds it
 
 -- s, e: where the kind's bytes start and end in TEXTS
-pub spelled-free : (k s e : ℕ) (bs : List ℕ) → k ≤ K.QuestionMark → s ≡ getD starts k 0 → e ≡ getD starts (k + 1) 0 → eqb s e ≡ true → true ≡ fits-text static-texts k bs
-spelled-free k s e bs h f g q =
+pub spelled-free : (k s e : ℕ) (bytes : List ℕ) → k ≤ K.QuestionMark → s ≡ getD starts k 0 → e ≡ getD starts (k + 1) 0 → eqb s e ≡ true → true ≡ fits-text static-texts k bytes
+spelled-free k s e bytes h f g q =
     let z : getD starts (k + 1) 0 - getD starts k 0 ≡ 0 = omega (arith, f, g, eqb-true s e q) in
-    sym (rule k h .says bs ∙ ap (λ (n : ℕ). free-or-same (take n (drop (getD starts k 0) texts)) bs) z)
+    sym (rule k h .says bytes ∙ ap (λ (n : ℕ). free-or-same (take n (drop (getD starts k 0) texts)) bytes) z)
 
-some : (n : ℕ) (l bs : List ℕ) → 0 < n → 0 < length l → free-or-same (take n l) bs ≡ same (take n l) bs
-some zero l bs a b = absurd (omega (arith, a))
-some (suc n) [] bs a b = absurd (omega (arith, b))
-some (suc n) (x ∷ xs) bs a b = refl
+some : (n : ℕ) (l bytes : List ℕ) → 0 < n → 0 < length l → free-or-same (take n l) bytes ≡ same (take n l) bytes
+some zero l bytes a b = absurd (omega (arith, a))
+some (suc n) [] bytes a b = absurd (omega (arith, b))
+some (suc n) (x ∷ xs) bytes a b = refl
 
 -- a test that holds just where the lists are equal
 tested : (r : Bool) (a b : List ℕ) → (r ≡ true → a ≡ b) → (a ≡ b → r ≡ true) → r ≡ same a b
@@ -153,13 +153,13 @@ tested r a b f g = go r refl (same a b) refl
     go true p false q = absurd (true≢false (sym (same-refl b) ∙ ap (λ (l : List ℕ). same l b) (sym (f p)) ∙ q))
     go false p true q = absurd (true≢false (sym (g (same-true a b q)) ∙ p))
 
-pub spelled-same : (k s e : ℕ) (bs : List ℕ) (r : Bool) → k ≤ K.QuestionMark → s ≡ getD starts k 0 → e ≡ getD starts (k + 1) 0 → eqb s e ≡ false
-    → (r ≡ true → take (e - s) (drop s texts) ≡ bs) × (take (e - s) (drop s texts) ≡ bs → r ≡ true) → r ≡ fits-text static-texts k bs
-spelled-same k s e bs r h f g q t =
+pub spelled-same : (k s e : ℕ) (bytes : List ℕ) (r : Bool) → k ≤ K.QuestionMark → s ≡ getD starts k 0 → e ≡ getD starts (k + 1) 0 → eqb s e ≡ false
+    → (r ≡ true → take (e - s) (drop s texts) ≡ bytes) × (take (e - s) (drop s texts) ≡ bytes → r ≡ true) → r ≡ fits-text static-texts k bytes
+spelled-same k s e bytes r h f g q t =
     let u = rule k h in
     let a : 0 < e - s = omega (arith, f, g, u .ordered, eqb-false s e q) in
     let b : 0 < length (drop s texts) = subst⁻¹ (λ (n : ℕ). 0 < n) (length-drop s texts) (omega (arith, f, g, u .ordered, u .inside, eqb-false s e q)) in
-    let v : free-or-same (slice k) bs ≡ same (take (e - s) (drop s texts)) bs =
-    ap (λ (n : ℕ). free-or-same (take (getD starts (k + 1) 0 - n) (drop n texts)) bs) (sym f)
-    ∙ ap (λ (n : ℕ). free-or-same (take (n - s) (drop s texts)) bs) (sym g) ∙ some (e - s) (drop s texts) bs a b in
-    tested r (take (e - s) (drop s texts)) bs (t .0) (t .1) ∙ sym v ∙ sym (u .says bs)
+    let v : free-or-same (slice k) bytes ≡ same (take (e - s) (drop s texts)) bytes =
+    ap (λ (n : ℕ). free-or-same (take (getD starts (k + 1) 0 - n) (drop n texts)) bytes) (sym f)
+    ∙ ap (λ (n : ℕ). free-or-same (take (n - s) (drop s texts)) bytes) (sym g) ∙ some (e - s) (drop s texts) bytes a b in
+    tested r (take (e - s) (drop s texts)) bytes (t .0) (t .1) ∙ sym v ∙ sym (u .says bytes)

@@ -14,8 +14,8 @@ use Rattle.definitions.specs.Run.{State, Out, mark-of, makes, add, choose, mark
 use Rattle.definitions.specs.Report.{pushes}
 use Rattle.definitions.specs.Call.{run-entry}
 use Rattle.laws.proofs.Fuel.{turn-of}
-use Rattle.laws.proofs.Parts.{turn-parts, linked, link, link-parts, links-parts, chained-parts}
-use Rattle.laws.proofs.Clear.{Within-room, join-within, closed-within, within-parts}
+use Rattle.laws.proofs.Pieces.{turn-pieces, linked, link, link-pieces, links-pieces, chained-pieces}
+use Rattle.laws.proofs.Clear.{Within-room, join-within, closed-within, within-pieces}
 
 -- g does what f does wherever f meets no refusal 5
 abbrev pub Agrees : (State → Out) → (State → Out) → Type 0
@@ -31,7 +31,7 @@ iter-agrees : (n : ℕ) (f g : State → Out) → Agrees f g → Agrees (iter n 
 unfolding iter makes
 iter-agrees zero f g a s h = refl
 iter-agrees (suc n) f g a s h =
-    ap (λ (o : Out). cond (goes-on s o) (add (turn-of o) (iter n g (o .state))) (turn-of o)) (a s (turn-parts Within-room within-parts (goes-on s (f s)) (f s) (iter n f (f s .state)) h))
+    ap (λ (o : Out). cond (goes-on s o) (add (turn-of o) (iter n g (o .state))) (turn-of o)) (a s (turn-pieces Within-room within-pieces (goes-on s (f s)) (f s) (iter n f (f s .state)) h))
     ∙ turn-agrees (goes-on s (f s)) (f s) (iter n f (f s .state)) (iter n g (f s .state)) h (λ w. iter-agrees n f g a (f s .state) w)
 
 link-agrees : (m : ℕ) (a i : Skeleton) (s : State) (o x y : Out) → Within-room (link m a i s o x .made) → (Within-room (x .made) → y ≡ x) → link m a i s o y ≡ link m a i s o x
@@ -50,7 +50,7 @@ unfolding links
 links-agrees zero f g h m a i s w = refl
 links-agrees (suc n) f g h m a i s w =
     let c : Within-room a × Within-room i × Within-room (f s .made) =
-    link-parts Within-room within-parts m a i s (f s) (links n f (mark-of (f s .state)) (linked m a i (f s)) done (f s .state)) (λ v. links-parts Within-room within-parts n f (mark-of (f s .state)) (linked m a i (f s)) done (f s .state) v .0) w in
+    link-pieces Within-room within-pieces m a i s (f s) (links n f (mark-of (f s .state)) (linked m a i (f s)) done (f s .state)) (λ v. links-pieces Within-room within-pieces n f (mark-of (f s .state)) (linked m a i (f s)) done (f s .state) v .0) w in
     ap (λ (o : Out). link m a i s o (links n g (mark-of (o .state)) (linked m a i o) done (o .state))) (h s (c .2))
     ∙ link-agrees m a i s (f s) (links n f (mark-of (f s .state)) (linked m a i (f s)) done (f s .state)) (links n g (mark-of (f s .state)) (linked m a i (f s)) done (f s .state)) w
     (λ v. links-agrees n f g h (mark-of (f s .state)) (linked m a i (f s)) done (f s .state) v)
@@ -95,7 +95,7 @@ exec-agrees ask more h b (in-marker p) s w =
 exec-agrees ask more h b (loop p) s w = iter-agrees (suc (length (s .rest))) (exec ask b p) (exec more b p) (exec-agrees ask more h b p) s w
 exec-agrees ask more h b (chain p q) s w =
     let o : Out = exec ask b p s in
-    ap (chained (exec more b q) s) (exec-agrees ask more h b p s (chained-parts Within-room within-parts (exec ask b q) s o w))
+    ap (chained (exec more b q) s) (exec-agrees ask more h b p s (chained-pieces Within-room within-pieces (exec ask b q) s o w))
     ∙ chained-agrees (exec ask b q) (exec more b q) (exec-agrees ask more h b q) s o w
 exec-agrees ask more h b (brace p) s w = exec-agrees ask more h (here (s .rest)) p s w
 exec-agrees ask more h b (open-call r) s w = h r s w

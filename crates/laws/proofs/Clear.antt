@@ -6,7 +6,7 @@ use Rattle.definitions.specs.Skeleton.{Skeleton, _⧺_}
 use Rattle.definitions.specs.Run.{closed}
 use Rattle.definitions.specs.Report.{Push, event, reported, exceeded, pushes}
 use Rattle.laws.proofs.Skeleton.{pushes-join, pushes-closed}
-use Rattle.laws.proofs.Parts.{Parts}
+use Rattle.laws.proofs.Pieces.{Pieces}
 use Rattle.laws.specs.Pushes.{Clear}
 
 pub clear-append : (l m : List Push) → Clear (l ++ m) → Clear l × Clear m
@@ -36,6 +36,6 @@ closed-within k m m′ a i h =
     let d : Clear (pushes i) × Clear (event m′ ∷ []) = clear-append (pushes i) (event m′ ∷ []) (c .1) in
     (record { clear = c .0 }, record { clear = d .0 })
 
--- a result without it has no part with it
-pub within-parts : Parts Within-room
-within-parts = record { join = join-within; closing = closed-within }
+-- a result without it has no piece with it
+pub within-pieces : Pieces Within-room
+within-pieces = record { join = join-within; closing = closed-within }

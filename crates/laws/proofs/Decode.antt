@@ -5,9 +5,9 @@ use mathlib.Core.Path.{_≡_, refl, ap, sym, _∙_}
 use mathlib.Core.List.{List, [], _++_, append-assoc, append-nil}
 use lib.ListN.{length, length-append}
 use Rattle.definitions.specs.Layout.{TREE-ROW}
-use Rattle.definitions.specs.Token.{bytes}
+use Rattle.definitions.specs.Token.{byte-count}
 use Rattle.definitions.specs.Place.{Tree, nil, leaf, subtree, width, count, rows, tree-row}
-use Rattle.laws.specs.TreeRows.{Rows, end, node, preorder, number, widths, Counts, Widths, first-rows, later-rows, read-row, read}
+use Rattle.laws.specs.TreeRows.{Rows, end, node, preorder, siblings, widths, Counts, Widths, first-rows, later-rows, read-row, read}
 use Rattle.laws.specs.TreeRows as R
 
 -- ---------------------------------------------------------------- reading
@@ -24,14 +24,14 @@ beside-end end = refl
 beside-end (R.leaf k w n f) = ap (R.leaf k w n) (beside-end f)
 beside-end (node k w n c f) = ap (node k w n c) (beside-end f)
 
-first-of : (c g : Rows) → first-rows (number c) (c ⊞ g) ≡ c
-unfolding _⊞_ first-rows number
+first-of : (c g : Rows) → first-rows (siblings c) (c ⊞ g) ≡ c
+unfolding _⊞_ first-rows siblings
 first-of end g = refl
 first-of (R.leaf k w n f) g = ap (R.leaf k w n) (first-of f g)
 first-of (node k w n c f) g = ap (node k w n c) (first-of f g)
 
-later-of : (c g : Rows) → later-rows (number c) (c ⊞ g) ≡ g
-unfolding _⊞_ later-rows number
+later-of : (c g : Rows) → later-rows (siblings c) (c ⊞ g) ≡ g
+unfolding _⊞_ later-rows siblings
 later-of end g = refl
 later-of (R.leaf k w n f) g = later-of f g
 later-of (node k w n c f) g = later-of f g
@@ -46,7 +46,7 @@ read-preorder (node k w n c f) l h =
     ap read (append-assoc (preorder c) (preorder f) l) ∙ read-preorder c (preorder f ++ l) (h .1) ∙ ap (c ⊞_) (read-preorder f l (h .2)) in
     ap (λ (x : Rows). node k w n (first-rows n x) (later-rows n x)) e
     ∙ ap (λ (m : ℕ). node k w n (first-rows m (c ⊞ (f ⊞ read l))) (later-rows m (c ⊞ (f ⊞ read l)))) (h .0)
-    ∙ ap (λ (x : Rows). node k w n x (later-rows (number c) (c ⊞ (f ⊞ read l)))) (first-of c (f ⊞ read l))
+    ∙ ap (λ (x : Rows). node k w n x (later-rows (siblings c) (c ⊞ (f ⊞ read l)))) (first-of c (f ⊞ read l))
     ∙ ap (node k w n c) (later-of c (f ⊞ read l))
 
 -- READ BACK
@@ -63,18 +63,18 @@ preorder-once r q h g e = sym (read-back r h) ∙ ap read e ∙ read-back q g
 -- a placed tree as its rows show it: without the raw tokens
 unfoldable pub shown : Tree → Rows
 shown nil = end
-shown (leaf k ts f) = R.leaf k (bytes ts) (length ts) (shown f)
+shown (leaf k ts f) = R.leaf k (byte-count ts) (length ts) (shown f)
 shown (subtree k c f) = node k (width c) (count c) (shown c) (shown f)
 
 pub shown-preorder : (t : Tree) → preorder (shown t) ≡ rows t
 unfolding shown preorder rows
 shown-preorder nil = refl
-shown-preorder (leaf k ts f) = ap (tree-row 1 k (bytes ts) (length ts)) (shown-preorder f)
+shown-preorder (leaf k ts f) = ap (tree-row 1 k (byte-count ts) (length ts)) (shown-preorder f)
 shown-preorder (subtree k c f) =
     ap (λ (l : List ℕ). tree-row 0 k (width c) (count c) (l ++ preorder (shown f))) (shown-preorder c) ∙ ap (λ (l : List ℕ). tree-row 0 k (width c) (count c) (rows c ++ l)) (shown-preorder f)
 
-count-number : (t : Tree) → count t ≡ number (shown t)
-unfolding shown count number
+count-number : (t : Tree) → count t ≡ siblings (shown t)
+unfolding shown count siblings
 count-number nil = refl
 count-number (leaf k ts f) = ap suc (count-number f)
 count-number (subtree k c f) = ap suc (count-number f)
@@ -82,7 +82,7 @@ count-number (subtree k c f) = ap suc (count-number f)
 width-widths : (t : Tree) → width t ≡ widths (shown t)
 unfolding shown width widths
 width-widths nil = refl
-width-widths (leaf k ts f) = ap (bytes ts +_) (width-widths f)
+width-widths (leaf k ts f) = ap (byte-count ts +_) (width-widths f)
 width-widths (subtree k c f) = ap (width c +_) (width-widths f)
 
 pub shown-counts : (t : Tree) → Counts (shown t)

@@ -15,7 +15,7 @@ use Rattle.basics.proofs.Tests.{and-left, and-right}
 use Rattle.laws.proofs.Trivia.{drop-twice, drop-trivia-length}
 use Rattle.laws.proofs.Kept.{Stands, stands-taken, stands-peeked, run-of-split, act-ran}
 use Rattle.laws.proofs.Onward.{Onward, onward-kept}
-use Rattle.laws.proofs.Clear.{Within-room, within-parts}
+use Rattle.laws.proofs.Clear.{Within-room, within-pieces}
 use Rattle.laws.proofs.Analysis.{get}
 use Rattle.laws.proofs.Sound.{Meaning, in-same}
 use Rattle.laws.proofs.Progress.{Fact, fact, anything, _∪_, implies, within, tested, done-so, bumped, act-facts, taking-tokens}
@@ -108,7 +108,7 @@ taking-means =
       Holds = Holds;
       Pre = Within-room;
       Post = λ p. Unit {0};
-      parts = within-parts;
+      pieces = within-pieces;
       post-done = tt;
       post-join = λ p q h g. tt;
       post-closed = λ k m m′ a i h g. tt;

@@ -7,7 +7,7 @@ use mathlib.Core.List.{List, [], _∷_}
 use lib.Dec.{leb, eqb}
 use lib.ListN.{length, take, drop}
 use borrow.Author.Tests.{leb-true, eqb-true}
-use Rattle.definitions.specs.Token.{Token, tokens-of, bytes}
+use Rattle.definitions.specs.Token.{Token, tokens-of, byte-count}
 use Rattle.definitions.specs.StaticText.{static-texts, fits-text}
 use Rattle.definitions.specs.Refusal.{Refusal, too-long, bad-row, bad-text, Verdict, accepted, refused, _or-else_, unless, check-sizes, is-kind, check-rows, check-texts, check-input}
 use Rattle.basics.proofs.Tests.{and-left, and-right}
@@ -37,31 +37,31 @@ All-good (t ∷ ts) = Good t × All-good ts
 
 -- each token's bytes fit the text of its kind
 abbrev pub Texts-fit : List ℕ → List Token → Type 0
-Texts-fit bs [] = Unit {0}
-Texts-fit bs (t ∷ ts) = (fits-text static-texts (t .kind) (take (t .len) bs) ≡ true) × Texts-fit (drop (t .len) bs) ts
+Texts-fit bytes [] = Unit {0}
+Texts-fit bytes (t ∷ ts) = (fits-text static-texts (t .kind) (take (t .len) bytes) ≡ true) × Texts-fit (drop (t .len) bytes) ts
 
 -- what causes 2 to 4 leave
-pub record Checked (bs tk : List ℕ) : Type 0 where
-  pub bytes-limit : length bs ≤ 1048576
-  pub numbers-limit : length tk ≤ 131072
+pub record Checked (bytes tokens : List ℕ) : Type 0 where
+  pub bytes-limit : length bytes ≤ 1048576
+  pub numbers-limit : length tokens ≤ 131072
   -- rows come in pairs, and cover the input exactly
-  pub pairs : length tk ≡ 2 * length (tokens-of tk)
-  pub covered : bytes (tokens-of tk) ≡ length bs
-  pub good : All-good (tokens-of tk)
-  pub texts : Texts-fit bs (tokens-of tk)
+  pub pairs : length tokens ≡ 2 * length (tokens-of tokens)
+  pub covered : byte-count (tokens-of tokens) ≡ length bytes
+  pub good : All-good (tokens-of tokens)
+  pub texts : Texts-fit bytes (tokens-of tokens)
 
 -- cause 3, from any row on
-pub record Rows-good (left : ℕ) (tk : List ℕ) : Type 0 where
-  pub pairs : length tk ≡ 2 * length (tokens-of tk)
-  pub covered : bytes (tokens-of tk) ≡ left
-  pub good : All-good (tokens-of tk)
+pub record Rows-good (left : ℕ) (tokens : List ℕ) : Type 0 where
+  pub pairs : length tokens ≡ 2 * length (tokens-of tokens)
+  pub covered : byte-count (tokens-of tokens) ≡ left
+  pub good : All-good (tokens-of tokens)
 
 cond-accepted : (c : Bool) (v : Verdict) (r : Refusal) → cond c v (refused r) ≡ accepted → (c ≡ true) × (v ≡ accepted)
 cond-accepted true v r e = (refl, e)
 cond-accepted false v r e = let x : _≡_ {A = ℕ} 0 1 = cc in absurd (omega arith)
 
-rows-good : (i left : ℕ) (tk : List ℕ) → check-rows i left tk ≡ accepted → Rows-good left tk
-unfolding check-rows tokens-of bytes
+rows-good : (i left : ℕ) (tokens : List ℕ) → check-rows i left tokens ≡ accepted → Rows-good left tokens
+unfolding check-rows tokens-of byte-count
 rows-good i left [] e = let z : left ≡ 0 = eqb-true left 0 (unless-holds (eqb left 0) (bad-row i) e) in record { pairs = omega arith; covered = sym z; good = tt }
 rows-good i left (k ∷ []) e = let x : _≡_ {A = ℕ} 0 1 = cc in absurd (omega arith)
 rows-good i left (k ∷ n ∷ l) e =
@@ -80,26 +80,26 @@ rows-good i left (k ∷ n ∷ l) e =
       );
     }
 
-texts-fit : (i : ℕ) (bs : List ℕ) (ts : List Token) → check-texts i bs ts ≡ accepted → Texts-fit bs ts
+texts-fit : (i : ℕ) (bytes : List ℕ) (ts : List Token) → check-texts i bytes ts ≡ accepted → Texts-fit bytes ts
 unfolding check-texts
-texts-fit i bs [] e = tt
-texts-fit i bs (t ∷ ts) e =
-    let h : (fits-text static-texts (t .kind) (take (t .len) bs) ≡ true) × (check-texts (suc i) (drop (t .len) bs) ts ≡ accepted) =
-    cond-accepted (fits-text static-texts (t .kind) (take (t .len) bs)) (check-texts (suc i) (drop (t .len) bs) ts) (bad-text i) e in
-    (h .0, texts-fit (suc i) (drop (t .len) bs) ts (h .1))
+texts-fit i bytes [] e = tt
+texts-fit i bytes (t ∷ ts) e =
+    let h : (fits-text static-texts (t .kind) (take (t .len) bytes) ≡ true) × (check-texts (suc i) (drop (t .len) bytes) ts ≡ accepted) =
+    cond-accepted (fits-text static-texts (t .kind) (take (t .len) bytes)) (check-texts (suc i) (drop (t .len) bytes) ts) (bad-text i) e in
+    (h .0, texts-fit (suc i) (drop (t .len) bytes) ts (h .1))
 
 -- INPUT THAT PASSED causes 2 to 4
-pub checked-input : (bs tk : List ℕ) → check-input bs tk ≡ accepted → Checked bs tk
+pub checked-input : (bytes tokens : List ℕ) → check-input bytes tokens ≡ accepted → Checked bytes tokens
 unfolding check-input check-sizes
-checked-input bs tk e =
-    let sizes : (leb (length bs) 1048576 && leb (length tk) 131072) ≡ true = unless-holds _ too-long (or-else-left (check-sizes bs tk) _ e) in
-    let rest : (check-rows 0 (length bs) tk or-else check-texts 0 bs (tokens-of tk)) ≡ accepted = or-else-right (check-sizes bs tk) _ e in
-    let g : Rows-good (length bs) tk = rows-good 0 (length bs) tk (or-else-left (check-rows 0 (length bs) tk) _ rest) in
+checked-input bytes tokens e =
+    let sizes : (leb (length bytes) 1048576 && leb (length tokens) 131072) ≡ true = unless-holds _ too-long (or-else-left (check-sizes bytes tokens) _ e) in
+    let rest : (check-rows 0 (length bytes) tokens or-else check-texts 0 bytes (tokens-of tokens)) ≡ accepted = or-else-right (check-sizes bytes tokens) _ e in
+    let g : Rows-good (length bytes) tokens = rows-good 0 (length bytes) tokens (or-else-left (check-rows 0 (length bytes) tokens) _ rest) in
     record {
       bytes-limit = leb-true _ _ (and-left _ _ sizes);
-      numbers-limit = leb-true _ _ (and-right (leb (length bs) 1048576) _ sizes);
+      numbers-limit = leb-true _ _ (and-right (leb (length bytes) 1048576) _ sizes);
       pairs = g .pairs;
       covered = g .covered;
       good = g .good;
-      texts = texts-fit 0 bs (tokens-of tk) (or-else-right (check-rows 0 (length bs) tk) _ rest);
+      texts = texts-fit 0 bytes (tokens-of tokens) (or-else-right (check-rows 0 (length bytes) tokens) _ rest);
     }

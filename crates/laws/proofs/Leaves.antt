@@ -9,7 +9,7 @@ use lib.ListN.{length, take, drop, length-take}
 use lib.Seq.{take-append-seam, drop-append-seam, take-append-le, drop-append-le}
 use borrow.Author.Tests.{eqb-true, lt-leb}
 use Rattle.definitions.specs.TokenKind as K
-use Rattle.definitions.specs.Token.{Token, is-error, seen, trivia, drop-trivia, past, bytes}
+use Rattle.definitions.specs.Token.{Token, is-error, seen, trivia, drop-trivia, past, byte-count}
 use Rattle.definitions.specs.Skeleton.{Skeleton, done, token, name, node, ignored, report, over}
 use Rattle.definitions.specs.Place.{Tree, nil, leaf, subtree, _⊕_, lead, front, after, place, root}
 use Rattle.laws.specs.Lossless.{Leaf, Kind-of, one-token, a-name, Stands-for, Cover}
@@ -100,7 +100,7 @@ pub leaves-cover : (t : Tree) → Right t → Cover (L.leaves (shown t)) (leaves
 unfolding Cover Right shown leaves L.leaves
 leaves-cover nil h = refl
 leaves-cover (leaf k raw f) h = (
-  subst (Stands-for (record { kind = k; width = bytes raw; count = length raw })) (sym (take-append-seam raw (leaves f))) (record { kind = h .0; width = refl; count = refl }),
+  subst (Stands-for (record { kind = k; width = byte-count raw; count = length raw })) (sym (take-append-seam raw (leaves f))) (record { kind = h .0; width = refl; count = refl }),
   subst (Cover (L.leaves (shown f))) (sym (drop-append-seam raw (leaves f))) (leaves-cover f (h .1)),
 )
 leaves-cover (subtree k c f) h = cover-append (L.leaves (shown c)) (L.leaves (shown f)) (leaves c) (leaves f) (leaves-cover c (h .0)) (leaves-cover f (h .1))

@@ -7,7 +7,7 @@ use mathlib.Core.Bool.{Bool, true, false, cond}
 use mathlib.Core.List.{List, [], _∷_, _++_, append-assoc}
 use lib.ListN.{length, take, drop}
 use lib.Seq.{drop-at}
-use Rattle.definitions.specs.Token.{Token, is-error, bytes}
+use Rattle.definitions.specs.Token.{Token, is-error, byte-count}
 use Rattle.definitions.specs.Place.{lexical-errors}
 use Rattle.laws.specs.Lossless.{errors-in, Errors-of}
 
@@ -23,15 +23,15 @@ errors-length at (t ∷ ts) = go (is-error (t .kind)) (errors-length (at + t .le
     go false h = h
 
 -- the errors of tokens after others
-pub errors-append : (at : ℕ) (ts us : List Token) → lexical-errors at (ts ++ us) ≡ lexical-errors at ts ++ lexical-errors (at + bytes ts) us
-unfolding lexical-errors bytes
+pub errors-append : (at : ℕ) (ts us : List Token) → lexical-errors at (ts ++ us) ≡ lexical-errors at ts ++ lexical-errors (at + byte-count ts) us
+unfolding lexical-errors byte-count
 errors-append at [] us = ap (λ (n : ℕ). lexical-errors n us) (sym (add-zero at))
 errors-append at (t ∷ ts) us =
-    go (is-error (t .kind)) (errors-append (at + t .len) ts us ∙ ap (λ (n : ℕ). lexical-errors (at + t .len) ts ++ lexical-errors n us) (add-assoc at (t .len) (bytes ts)))
+    go (is-error (t .kind)) (errors-append (at + t .len) ts us ∙ ap (λ (n : ℕ). lexical-errors (at + t .len) ts ++ lexical-errors n us) (add-assoc at (t .len) (byte-count ts)))
   where
-    go : (b : Bool) → lexical-errors (at + t .len) (ts ++ us) ≡ lexical-errors (at + t .len) ts ++ lexical-errors (at + (t .len + bytes ts)) us
+    go : (b : Bool) → lexical-errors (at + t .len) (ts ++ us) ≡ lexical-errors (at + t .len) ts ++ lexical-errors (at + (t .len + byte-count ts)) us
         → cond b (t .kind ∷ at ∷ (at + t .len) ∷ lexical-errors (at + t .len) (ts ++ us)) (lexical-errors (at + t .len) (ts ++ us))
-        ≡ cond b (t .kind ∷ at ∷ (at + t .len) ∷ lexical-errors (at + t .len) ts) (lexical-errors (at + t .len) ts) ++ lexical-errors (at + (t .len + bytes ts)) us
+        ≡ cond b (t .kind ∷ at ∷ (at + t .len) ∷ lexical-errors (at + t .len) ts) (lexical-errors (at + t .len) ts) ++ lexical-errors (at + (t .len + byte-count ts)) us
     go true h = ap (λ (l : List ℕ). t .kind ∷ at ∷ (at + t .len) ∷ l) h
     go false h = h
 
@@ -44,8 +44,8 @@ first-error at t ts e = ap (λ (b : Bool). cond b (t .kind ∷ at ∷ (at + t .l
 pub errors-of : (ts : List Token) (l : List ℕ) → Errors-of ts (lexical-errors 0 ts ++ l)
 errors-of ts l before after t e f =
     let a : List ℕ = lexical-errors 0 before in
-    let z : lexical-errors 0 ts ++ l ≡ a ++ (t .kind ∷ bytes before ∷ (bytes before + t .len) ∷ (lexical-errors (bytes before + t .len) after ++ l)) =
-    ap (_++ l) (ap (lexical-errors 0) e ∙ errors-append 0 before (t ∷ after) ∙ ap (λ (n : ℕ). a ++ lexical-errors n (t ∷ after)) (zero-add (bytes before)) ∙ ap (a ++_) (first-error (bytes before) t after f))
+    let z : lexical-errors 0 ts ++ l ≡ a ++ (t .kind ∷ byte-count before ∷ (byte-count before + t .len) ∷ (lexical-errors (byte-count before + t .len) after ++ l)) =
+    ap (_++ l) (ap (lexical-errors 0) e ∙ errors-append 0 before (t ∷ after) ∙ ap (λ (n : ℕ). a ++ lexical-errors n (t ∷ after)) (zero-add (byte-count before)) ∙ ap (a ++_) (first-error (byte-count before) t after f))
     ∙ append-assoc a _ l in
     ap (λ (x : List ℕ). take 3 (drop (3 * errors-in before) x)) z
     ∙ ap (take 3) (drop-at a _ (3 * errors-in before) (errors-length 0 before))

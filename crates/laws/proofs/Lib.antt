@@ -3,7 +3,7 @@
 --   Trivia, Skeleton, Tree            lists of tokens, skeletons and trees side by side
 --   Engine, Kept                      the induction (`Steady`), and its form with eight cases for what a run makes between two states
 --   Marks, Onward, Between, Swept     its instances: marks fall, cursors go on, tokens are read off the file, all are taken
---   Fuel, Parts, Clear, Allowance, Scan   turns and open calls allowed, runs without refusal 5, what is pushed scanned in parts
+--   Fuel, Pieces, Clear, Allowance, Scan   turns and open calls allowed, runs without refusal 5, what is pushed scanned piece by piece
 --   Analysis, Sound                   analyses that the checker computes on programs, sound for every domain; two instances: which names
 --   NameLook, Names; Progress, FactsHold, Takes      are taken; that items, values and top-level statements take a token
 --   Placed, Leaves, LexicalErrors     placing loses no token; the rows of leaves and of lexical errors
@@ -18,7 +18,7 @@ pub mod Kept
 pub mod Marks
 pub mod Onward
 pub mod Fuel
-pub mod Parts
+pub mod Pieces
 pub mod Shape
 pub mod Clear
 pub mod Allowance

@@ -20,8 +20,8 @@ use Rattle.laws.specs.Pushes.{Clear}
 use Rattle.laws.specs.Limits.{Place, at, deeper, iter-places, links-places, choose-places, places, run-places, entry-places, Limited, Limits}
 use Rattle.laws.proofs.Few.{bump-few, name-few, argument-few}
 use Rattle.laws.proofs.Fuel.{turn-of}
-use Rattle.laws.proofs.Parts.{linked, closed-parts, links-parts}
-use Rattle.laws.proofs.Clear.{Within-room, join-within, closed-within, within-parts}
+use Rattle.laws.proofs.Pieces.{linked, closed-pieces, links-pieces}
+use Rattle.laws.proofs.Clear.{Within-room, join-within, closed-within, within-pieces}
 use Rattle.laws.proofs.Scan.{fits-clear}
 use Rattle.laws.proofs.Accepted.{Accepted, accepted-call}
 
@@ -91,13 +91,13 @@ link-keeps : (n k m : ℕ) (b : Bool) (a i : Skeleton) (o x : Out) (l q : List P
     × Limited n (l ++ by-shape k [] (cond b q []))
 unfolding by-shape unlinked makes
 link-keeps n zero m b a i o x l q e t f g w =
-    let p : Fewer o × Limited n l = f (closed-parts Within-room within-parts 0 m (mark-of (o .state)) a i (o .made) w .2) in (p .0, limited-append n l [] (p .1) tt)
+    let p : Fewer o × Limited n l = f (closed-pieces Within-room within-pieces 0 m (mark-of (o .state)) a i (o .made) w .2) in (p .0, limited-append n l [] (p .1) tt)
 link-keeps n (suc k) m true a i o x l q e t f g w =
-    let p : Fewer o × Limited n l = f (closed-parts Within-room within-parts (o .shape) m (mark-of (o .state)) a i (o .made) (t w) .2) in
+    let p : Fewer o × Limited n l = f (closed-pieces Within-room within-pieces (o .shape) m (mark-of (o .state)) a i (o .made) (t w) .2) in
     let r : Fewer x × Limited n q = g (p .0) w in
     (r .0, limited-append n l q (p .1) (r .1))
 link-keeps n (suc k) m false a i o x l q e t f g w =
-    let p : Fewer o × Limited n l = f (closed-parts Within-room within-parts (o .shape) m (mark-of (o .state)) a i (o .made) (closed-within 0 (mark-of (o .state)) (mark-of (o .state)) (linked m a i o) done w .0) .2) in
+    let p : Fewer o × Limited n l = f (closed-pieces Within-room within-pieces (o .shape) m (mark-of (o .state)) a i (o .made) (closed-within 0 (mark-of (o .state)) (mark-of (o .state)) (linked m a i o) done w .0) .2) in
     (p .0, limited-append n l [] (p .1) tt)
 
 links-keeps : (n k : ℕ) (f : State → Out) (g : State → List Place) → Keeps n f g → (m : ℕ) (a i : Skeleton) → Keeps n (links k f m a i) (links-places k f g)
@@ -106,7 +106,7 @@ links-keeps n zero f g K m a i s h w = (h, tt)
 links-keeps n (suc k) f g K m a i s h w =
     let o : Out = f s in
     link-keeps n (o .shape) m (goes-on s o) a i o (links k f (mark-of (o .state)) (linked m a i o) done (o .state)) (g s) (links-places k f g (o .state)) refl
-    (λ v. links-parts Within-room within-parts k f (mark-of (o .state)) (linked m a i o) done (o .state) v .0) (K s h) (links-keeps n k f g K (mark-of (o .state)) (linked m a i o) done (o .state)) w
+    (λ v. links-pieces Within-room within-pieces k f (mark-of (o .state)) (linked m a i o) done (o .state) v .0) (K s h) (links-keeps n k f g K (mark-of (o .state)) (linked m a i o) done (o .state)) w
 
 chained-keeps : (n : ℕ) (f : State → Out) (g : State → List Place) → Keeps n f g → (s : State) (o : Out) (l : List Place) → (Within-room (o .made) → Fewer o × Limited n l)
     → Within-room (chained f s o .made)
@@ -121,7 +121,7 @@ chained-keeps n f g K s o l p = go (is-again (o .ans))
         → Fewer (cond b (links (suc (length (o .state .rest))) f (mark-of s) done (o .made) (o .state)) (unlinked (mark-of s) done (o .made) (o .ans) (o .state)))
         × Limited n (l ++ cond b (links-places (suc (length (o .state .rest))) f g (o .state)) [])
     go true w =
-        let q : Fewer o × Limited n l = p (links-parts Within-room within-parts (suc (length (o .state .rest))) f (mark-of s) done (o .made) (o .state) w .1) in
+        let q : Fewer o × Limited n l = p (links-pieces Within-room within-pieces (suc (length (o .state .rest))) f (mark-of s) done (o .made) (o .state) w .1) in
         let r : Fewer (links (suc (length (o .state .rest))) f (mark-of s) done (o .made) (o .state)) × Limited n (links-places (suc (length (o .state .rest))) f g (o .state)) =
         links-keeps n (suc (length (o .state .rest))) f g K (mark-of s) done (o .made) (o .state) (q .0) w in
         (r .0, limited-append n l (links-places (suc (length (o .state .rest))) f g (o .state)) (q .1) (r .1))
@@ -182,11 +182,11 @@ unfolding run-entry entry-places
 clear-limited e ts w = exec-keeps MOST-OPEN-CALLS (run MOST-OPEN-CALLS) (run-places MOST-OPEN-CALLS) (run-keeps MOST-OPEN-CALLS) no-label (whole e) (taken ts) zero-le (record { clear = w }) .1
 
 -- an accepted call's run meets no refusal 5
-pub accepted-clear : (n : ℕ) (bs tk : List ℕ) (b : Buffers) (a : Accepted n bs tk b) → Clear (pushes (run-entry (a .entry) (tokens-of tk)))
-accepted-clear n bs tk b a = fits-clear (pushes (run-entry (a .entry) (tokens-of tk))) _ (a .left) (a .fitted)
+pub accepted-clear : (n : ℕ) (bytes tokens : List ℕ) (b : Buffers) (a : Accepted n bytes tokens b) → Clear (pushes (run-entry (a .entry) (tokens-of tokens)))
+accepted-clear n bytes tokens b a = fits-clear (pushes (run-entry (a .entry) (tokens-of tokens))) _ (a .left) (a .fitted)
 
 -- LIMITS
 pub limits : Limits
-limits n bs tk b h =
-    let a : Accepted n bs tk b = accepted-call n bs tk b h in
-    (a .entry, a .asked-for, clear-limited (a .entry) (tokens-of tk) (accepted-clear n bs tk b a))
+limits n bytes tokens b h =
+    let a : Accepted n bytes tokens b = accepted-call n bytes tokens b h in
+    (a .entry, a .asked-for, clear-limited (a .entry) (tokens-of tokens) (accepted-clear n bytes tokens b a))

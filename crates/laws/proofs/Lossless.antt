@@ -7,7 +7,7 @@ use mathlib.Core.List.{List, _++_}
 use lib.Dec.{lit<}
 use lib.ListN.{length, take, replicate}
 use lib.Seq.{take-at}
-use Rattle.definitions.specs.Token.{Token, tokens-of, bytes}
+use Rattle.definitions.specs.Token.{Token, tokens-of, byte-count}
 use Rattle.definitions.specs.Grammar.{Entry, root-kind}
 use Rattle.definitions.specs.Place.{Tree, lead, after, place, _⊕_, root, width, count, rows}
 use Rattle.definitions.specs.Call.{Buffers, sheets, kept, run-entry}
@@ -43,7 +43,7 @@ rows-in-front k n l z e =
 
 -- ---------------------------------------------------------------- what an accepted call writes
 
-module _ (e : Entry) (bs : List ℕ) (ts : List Token) (b : Buffers) (full : bytes ts ≡ length bs) where
+module _ (e : Entry) (bytes : List ℕ) (ts : List Token) (b : Buffers) (full : byte-count ts ≡ length bytes) where
   abbrev t : Tree
   t = root (root-kind e) (run-entry e ts) ts
 
@@ -51,17 +51,17 @@ module _ (e : Entry) (bs : List ℕ) (ts : List Token) (b : Buffers) (full : byt
   in-front = rows-in-front 3 (row-count t) (rows t) _ (rows-length t) ∙ sym (shown-preorder t)
 
   -- the root's width is the length of the input
-  root-width : width t ≡ length bs
-  root-width = width-leaves t ∙ ap bytes (lossless e ts) ∙ full
+  root-width : width t ≡ length bytes
+  root-width = width-leaves t ∙ ap byte-count (lossless e ts) ∙ full
 
   abbrev inside : Tree
   inside = place (run-entry e ts) ts ⊕ lead (after (run-entry e ts) ts)
 
-  root-shown : shown t ≡ node (root-kind e) (length bs) (count inside) (shown inside) end
+  root-shown : shown t ≡ node (root-kind e) (length bytes) (count inside) (shown inside) end
   unfolding shown root width
   root-shown = ap (λ (w : ℕ). node (root-kind e) w (count inside) (shown inside) end) (sym (add-zero (width inside)) ∙ root-width)
 
-  pub writes-lossless : Lossless e bs ts (kept (sheets e ts (run-entry e ts)) b)
+  pub writes-lossless : Lossless e bytes ts (kept (sheets e ts (run-entry e ts)) b)
   unfolding sheets
   writes-lossless =
       record {
@@ -75,13 +75,13 @@ module _ (e : Entry) (bs : List ℕ) (ts : List Token) (b : Buffers) (full : byt
         widths = shown-widths t;
         counts = shown-counts t;
         covers = root-covers e ts;
-        errors = div-eq-of-eq-mul-right (lit< tt) (errors-length 0 ts);
+        error-count = div-eq-of-eq-mul-right (lit< tt) (errors-length 0 ts);
         error-rows = errors-of ts _;
       }
 
 -- NOTHING LOST
 pub nothing-lost : Nothing-lost
-nothing-lost n bs tk b h =
-    let a : Accepted n bs tk b = accepted-call n bs tk b h in
-    let c : Checked bs tk = checked-input bs tk (a .input) in
-    (a .entry, a .asked-for, subst (Lossless (a .entry) bs (tokens-of tk)) (sym (a .returns)) (writes-lossless (a .entry) bs (tokens-of tk) b (c .covered)))
+nothing-lost n bytes tokens b h =
+    let a : Accepted n bytes tokens b = accepted-call n bytes tokens b h in
+    let c : Checked bytes tokens = checked-input bytes tokens (a .input) in
+    (a .entry, a .asked-for, subst (Lossless (a .entry) bytes (tokens-of tokens)) (sym (a .returns)) (writes-lossless (a .entry) bytes (tokens-of tokens) b (c .covered)))

@@ -127,7 +127,7 @@ names-mean =
       Holds = λ d s₀ s. Holds d s;
       Pre = λ p. Unit {0};
       Post = Named;
-      parts = record { join = λ p q h. (tt, tt); closing = λ k m m′ a i h. (tt, tt) };
+      pieces = record { join = λ p q h. (tt, tt); closing = λ k m m′ a i h. (tt, tt) };
       post-done = named-done;
       post-join = named-join;
       post-closed = named-closed;

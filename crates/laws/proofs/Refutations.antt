@@ -9,7 +9,7 @@ use mathlib.Core.Logic.{_⊎_, inl, inr}
 use lib.ListN.{length, getD, replicate}
 use Rattle.definitions.specs.TokenKind as K
 use Rattle.definitions.specs.NodeKind as N
-use Rattle.definitions.specs.Token.{Token, is-error, seen, one-of, bytes}
+use Rattle.definitions.specs.Token.{Token, is-error, seen, one-of, byte-count}
 use Rattle.definitions.specs.Grammar.{SourceFile, root-kind}
 use Rattle.definitions.specs.Call.{Result}
 use Rattle.laws.specs.TreeRows.{Rows, end, leaf, node, Counts, Widths, preorder, read}
@@ -68,7 +68,7 @@ two-in-one s = let e : K.Ident ≡ K.Name = allowed _ _ (s .kind) .0 in omega ar
 
 -- a width, and a count, that are not the tokens'
 too-wide : Stands-for (a-leaf K.Ident 2 1) (token K.Ident 1 ∷ []) → ⊥
-unfolding bytes
+unfolding byte-count
 too-wide s = omega (arith, s .width)
 
 too-many : Stands-for (a-leaf K.Ident 1 2) (token K.Ident 1 ∷ []) → ⊥
@@ -80,7 +80,7 @@ unfolding Cover
 lost e = let n : _≡_ {A = ℕ} 1 0 = ap length e in omega arith
 
 doubled : Cover (a-leaf K.Ident 1 1 ∷ a-leaf K.Ident 1 1 ∷ []) (token K.Ident 1 ∷ []) → ⊥
-unfolding Cover bytes
+unfolding Cover byte-count
 doubled c = let e : _≡_ {A = ℕ} 1 0 = c .1 .0 .width in omega arith
 
 -- ---------------------------------------------------------------- whole answers
@@ -89,7 +89,7 @@ doubled c = let e : _≡_ {A = ℕ} 1 0 = c .1 .0 .width in omega arith
 abbrev wrote : ℕ → List ℕ → ℕ → List ℕ → Result
 wrote nt t ne e =
     record {
-      answer = record { number = 0; place = 0; trees = nt; errors = ne; reports = 0; expectations = 0 };
+      answer = record { number = 0; place = 0; tree-count = nt; error-count = ne; report-count = 0; expectation-count = 0 };
       buffers = record { events = []; trees = t; errors = e; reports = []; pool = [] };
     }
 
@@ -132,7 +132,7 @@ invented-width x = let e : _≡_ {A = ℕ} 2 1 = subst Widths (sym (x .read-back
 
 -- the semicolon lost, its byte given to the name
 lost-token : Lossless SourceFile (97 ∷ 59 ∷ []) tokens (wrote 3 (0 ∷ 0 ∷ 2 ∷ 1 ∷ 0 ∷ 16 ∷ 2 ∷ 1 ∷ 1 ∷ 26 ∷ 2 ∷ 1 ∷ []) 0 []) → ⊥
-unfolding read leaves Cover bytes
+unfolding read leaves Cover byte-count
 lost-token x = let e : _≡_ {A = ℕ} 2 1 = subst (λ (t : Rows). Cover (leaves t) tokens) (sym (x .read-back)) (x .covers) .0 .width in omega arith
 
 -- a row that is neither a node nor a leaf
@@ -143,11 +143,11 @@ third-class x = let e : _≡_ {A = ℕ} 2 1 = ap (λ (l : List ℕ). getD l 12 0
 -- a lexical error too many, and one whose range is not its token's
 invented-error : Lossless SourceFile (97 ∷ 59 ∷ []) tokens (wrote 4 (0 ∷ 0 ∷ 2 ∷ 1 ∷ 0 ∷ 16 ∷ 2 ∷ 2 ∷ 1 ∷ 26 ∷ 1 ∷ 1 ∷ 1 ∷ 29 ∷ 1 ∷ 1 ∷ []) 1 (74 ∷ 0 ∷ 1 ∷ [])) → ⊥
 unfolding errors-in
-invented-error x = omega (arith, x .errors)
+invented-error x = omega (arith, x .error-count)
 
 -- (`ab` and a backtick, the error said to start at its token's index)
 shifted-error : Lossless SourceFile (97 ∷ 98 ∷ 96 ∷ []) (token K.Ident 2 ∷ token 74 1 ∷ []) (wrote 3 (0 ∷ 0 ∷ 3 ∷ 2 ∷ 1 ∷ 27 ∷ 2 ∷ 1 ∷ 1 ∷ 25 ∷ 1 ∷ 1 ∷ []) 1 (74 ∷ 1 ∷ 2 ∷ [])) → ⊥
-unfolding is-error errors-in bytes
+unfolding is-error errors-in byte-count
 shifted-error x = let e : _≡_ {A = ℕ} 1 2 = ap (λ (l : List ℕ). getD l 1 0) (x .error-rows (token K.Ident 2 ∷ []) [] (token 74 1) refl refl) in omega arith
 
 -- ---------------------------------------------------------------- limits

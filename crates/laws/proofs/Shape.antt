@@ -6,7 +6,7 @@ use Rattle.definitions.specs.Skeleton.{Skeleton, done}
 use Rattle.definitions.specs.Run.{State, Out, mark-of, answer, makes, add, is-again, goes-on, iter, unlinked, by-shape, links, chained}
 use Rattle.basics.proofs.Tests.{cond-all}
 use Rattle.laws.proofs.Fuel.{turn-of}
-use Rattle.laws.proofs.Parts.{linked}
+use Rattle.laws.proofs.Pieces.{linked}
 
 pub iter-shape : (n : ℕ) (f : State → Out) (s : State) → iter n f s .shape ≡ 0
 unfolding iter answer makes add

@@ -1,5 +1,5 @@
 -- Skeletons side by side: joining is associative with `done` as its unit, and what is read off a join (pushes, events, reports, what it
--- leaves) is read off its parts in turn.
+-- leaves) is read off its pieces in turn.
 use Prim.Native.Nat.{ℕ, zero, suc, _+_, _-_}
 use native.Mathlib.Nat.{zero-add, add-zero}
 use native.Mathlib.Omega.{arith}
@@ -7,12 +7,12 @@ use mathlib.Core.Path.{_≡_, refl, ap, sym, _∙_}
 use mathlib.Core.Bool.{Bool}
 use mathlib.Core.List.{List, [], _∷_, _++_, append-assoc}
 use lib.ListN.{length, length-append}
-use Rattle.definitions.specs.Token.{Token, bytes}
+use Rattle.definitions.specs.Token.{Token, byte-count}
 use Rattle.definitions.specs.Skeleton.{Label, no-label, label, Report, Skeleton, done, token, name, node, ignored, report, over, _⧺_}
 use Rattle.definitions.specs.Run.{closed}
 use Rattle.definitions.specs.Event.{Event, StartNode, AddToken, AddCombinedToken, FinishNode, Placeholder, Error, forward, events}
 use Rattle.definitions.specs.Place.{after}
-use Rattle.definitions.specs.Report.{Push, event, reported, exceeded, pushes, reports, label-numbers, report-rows, pool}
+use Rattle.definitions.specs.Report.{Push, event, reported, exceeded, pushes, reports, label-numbers, report-numbers, pool}
 use Rattle.laws.specs.Pushes.{event-count}
 
 -- ---------------------------------------------------------------- joining
@@ -45,7 +45,7 @@ unfolding pushes closed
 pushes-closed zero m m′ a i = refl
 pushes-closed (suc k) m m′ a i = refl
 
--- a list after the last part of a list in three parts
+-- a list after the last piece of a list in three pieces
 behind : {A : Type 0} (a : List A) (x y : A) (i o l : List A) → a ++ (x ∷ (i ++ (y ∷ (o ++ l)))) ≡ (a ++ (x ∷ (i ++ (y ∷ o)))) ++ l
 behind a x y i o l = sym (append-assoc a _ l ∙ ap (λ (z : _). a ++ (x ∷ z)) (append-assoc i (y ∷ o) l))
 
@@ -121,23 +121,23 @@ label-append b no-label l m = refl
 label-append b (label s) l m = refl
 
 -- the rows of the later reports stand after those of the earlier, their first pool places after the earlier expectations
-pub report-rows-append : (n b first : ℕ) (l m : List Report) → report-rows n b first (l ++ m) ≡ report-rows n b first l ++ report-rows n b (first + length (pool l)) m
-unfolding report-rows pool
-report-rows-append n b first [] m = ap (λ (x : ℕ). report-rows n b x m) (sym (add-zero first))
-report-rows-append n b first (r ∷ l) m =
+pub report-numbers-append : (n b first : ℕ) (l m : List Report) → report-numbers n b first (l ++ m) ≡ report-numbers n b first l ++ report-numbers n b (first + length (pool l)) m
+unfolding report-numbers pool
+report-numbers-append n b first [] m = ap (λ (x : ℕ). report-numbers n b x m) (sym (add-zero first))
+report-numbers-append n b first (r ∷ l) m =
     let e : first + length (r .pool) + length (pool l) ≡ first + length (r .pool ++ pool l) = simp length-append (omega arith) in
     ap (λ (x : List ℕ). r .message ∷ (b - r .range .from) ∷ (b - r .range .to) ∷ (n - r .mark) ∷ first ∷ length (r .pool) ∷ r .hint ∷ x)
-    (ap (label-numbers b (r .labelled)) (report-rows-append n b (first + length (r .pool)) l m ∙ ap (λ (x : ℕ). report-rows n b (first + length (r .pool)) l ++ report-rows n b x m) e)
-    ∙ label-append b (r .labelled) (report-rows n b (first + length (r .pool)) l) (report-rows n b (first + length (r .pool ++ pool l)) m))
+    (ap (label-numbers b (r .labelled)) (report-numbers-append n b (first + length (r .pool)) l m ∙ ap (λ (x : ℕ). report-numbers n b (first + length (r .pool)) l ++ report-numbers n b x m) e)
+    ∙ label-append b (r .labelled) (report-numbers n b (first + length (r .pool)) l) (report-numbers n b (first + length (r .pool ++ pool l)) m))
 
 -- ---------------------------------------------------------------- raw tokens
 
-pub bytes-append : (ts us : List Token) → bytes (ts ++ us) ≡ bytes ts + bytes us
-unfolding bytes
-bytes-append [] us = sym (zero-add (bytes us))
-bytes-append (t ∷ ts) us = let h : bytes (ts ++ us) ≡ bytes ts + bytes us = bytes-append ts us in omega arith
+pub bytes-append : (ts us : List Token) → byte-count (ts ++ us) ≡ byte-count ts + byte-count us
+unfolding byte-count
+bytes-append [] us = sym (zero-add (byte-count us))
+bytes-append (t ∷ ts) us = let h : byte-count (ts ++ us) ≡ byte-count ts + byte-count us = bytes-append ts us in omega arith
 
--- what a join leaves is what its second part leaves of what its first part leaves
+-- what a join leaves is what its second piece leaves of what its first piece leaves
 pub after-join : (p q : Skeleton) (ts : List Token) → after (p ⧺ q) ts ≡ after q (after p ts)
 unfolding _⧺_ after
 after-join done q ts = refl

@@ -11,7 +11,7 @@ use Rattle.definitions.specs.Run.{State, Out, mark-of, makes, add, perform, cho
 use Rattle.basics.proofs.Tests.{cond-with, and-left, and-right}
 use Rattle.laws.proofs.Onward.{Goes, exec-goes}
 use Rattle.laws.proofs.Fuel.{goes-on-shorter, turn-of}
-use Rattle.laws.proofs.Parts.{Parts, linked, closed-parts, links-parts}
+use Rattle.laws.proofs.Pieces.{Pieces, linked, closed-pieces, links-pieces}
 use Rattle.laws.proofs.Analysis.{Look, get, same, Domain, only, any-of, then-look, either, stopped, settled, look, looks-within}
 
 -- ---------------------------------------------------------------- what facts mean
@@ -21,7 +21,7 @@ pub record Meaning (D : Domain) : Type 1 where
   pub Holds : D .Fact → State → State → Type 0
   pub Pre : Skeleton → Type 0
   pub Post : Skeleton → Type 0
-  pub parts : Parts Pre
+  pub pieces : Pieces Pre
   pub post-done : Post done
   pub post-join : (p q : Skeleton) → Post p → Post q → Post (p ⧺ q)
   pub post-closed : (k m m′ : ℕ) (a i : Skeleton) → Post a → Post i → Post (closed k m m′ a i)
@@ -100,7 +100,7 @@ module _ (D : Domain) (M : Meaning D) where
   gives-add : (l m : Look (D .Fact)) (s₀ : State) (o x : Out) → Gives l s₀ o → (M .Holds (get l (o .ans)) s₀ (o .state) → Gives m s₀ x) → Gives (then-look D l m) s₀ (add o x)
   unfolding add
   gives-add l m s₀ o x g k w =
-      let c : M .Pre (o .made) × M .Pre (x .made) = M .parts .join (o .made) (x .made) w in
+      let c : M .Pre (o .made) × M .Pre (x .made) = M .pieces .join (o .made) (x .made) w in
       let p : M .Post (o .made) × M .Holds (get l (o .ans)) s₀ (o .state) = g (c .0) in
       let q : M .Post (x .made) × M .Holds (get m (x .ans)) s₀ (x .state) = k (p .1) (c .1) in
       (M .post-join (o .made) (x .made) (p .0) (q .0), in-then l m (x .ans) s₀ (x .state) (q .1))
@@ -164,7 +164,7 @@ module _ (D : Domain) (M : Meaning D) (A : Acts D M) where
     iter-gives (suc n) s₀ s l h =
         cond-with (Gives D M (D .from i f) s₀) (goes-on s (G s)) {x = add (turn-of (G s)) (iter n G (G s .state))} {y = turn-of (G s)}
         (λ e w.
-        let c : M .Pre (G s .made) × M .Pre (iter n G (G s .state) .made) = M .parts .join (G s .made) (iter n G (G s .state) .made) w in
+        let c : M .Pre (G s .made) × M .Pre (iter n G (G s .state) .made) = M .pieces .join (G s .made) (iter n G (G s .state) .made) w in
         let p : M .Post (G s .made) × M .Holds (get (D .from i f) (G s .ans)) s₀ (G s .state) = turn-gives s₀ s h (c .0) in
         let m : length (G s .state .rest) < length (s .rest) = goes-on-shorter s (G s) e in
         let q : M .Post (iter n G (G s .state) .made) × M .Holds (get (D .from i f) (iter n G (G s .state) .ans)) s₀ (iter n G (G s .state) .state) =
@@ -180,7 +180,7 @@ module _ (D : Domain) (M : Meaning D) (A : Acts D M) where
     end-gives : (s₀ : State) (k m m′ : ℕ) (a p : Skeleton) (o : Out) → Fine a → Fine p → Gives D M (D .from i f) s₀ o → M .Pre (closed k m m′ a (p ⧺ o .made))
         → M .Post (closed k m m′ a (p ⧺ o .made)) × M .Holds (get (D .from i f) (o .ans)) s₀ (o .state)
     end-gives s₀ k m m′ a p o x y g w =
-        let c : M .Pre a × M .Pre p × M .Pre (o .made) = closed-parts (M .Pre) (M .parts) k m m′ a p (o .made) w in
+        let c : M .Pre a × M .Pre p × M .Pre (o .made) = closed-pieces (M .Pre) (M .pieces) k m m′ a p (o .made) w in
         let q : M .Post (o .made) × M .Holds (get (D .from i f) (o .ans)) s₀ (o .state) = g (c .2) in
         (M .post-closed k m m′ a (p ⧺ o .made) (x (c .0)) (M .post-join p (o .made) (y (c .1)) (q .0)), q .1)
 
@@ -202,14 +202,14 @@ module _ (D : Domain) (M : Meaning D) (A : Acts D M) where
         (cond-with (Gives D M (D .from i f) s₀) (goes-on s o) {x = links n G m′ node done (o .state)} {y = unlinked m′ node done (o .ans) (o .state)}
         (λ e w.
         let d : length (G s .state .rest) < length (s .rest) = goes-on-shorter s (G s) e in
-        let q : M .Post node × M .Holds (get (D .from i f) (G s .ans)) s₀ (G s .state) = whole (links-parts (M .Pre) (M .parts) n G m′ node done (G s .state) w .0) in
+        let q : M .Post node × M .Holds (get (D .from i f) (G s .ans)) s₀ (G s .state) = whole (links-pieces (M .Pre) (M .pieces) n G m′ node done (G s .state) w .0) in
         links-gives n s₀ (G s .state) m′ node done (omega arith) (λ v. whole v .0) (λ _. M .post-done) (head-again s₀ s e (q .1)) w)
         (λ e w.
-        let c : M .Pre node × M .Pre done = M .parts .closing 0 m′ m′ node done w in
+        let c : M .Pre node × M .Pre done = M .pieces .closing 0 m′ m′ node done w in
         let q : M .Post node × M .Holds (get (D .from i f) (G s .ans)) s₀ (G s .state) = whole (c .0) in
         (M .post-closed 0 m′ m′ node done (q .0) (M .post-done), q .1)))
 
-  -- a chain: o is what its first part gave
+  -- a chain: o is what its first program gave
   chained-gives : (l : Look (D .Fact)) (f : D .Fact → Look (D .Fact)) → D .from (settled D (l .if-again) f) f .ok ≡ true → (G : State → Out) → Sound D M f G → ((s : State) → Goes s (G s))
       → (s₀ s : State) (o : Out) → Gives D M l s₀ o → Gives D M (either D (stopped D l) (D .from (settled D (l .if-again) f) f)) s₀ (chained G s o)
   unfolding chained unlinked makes
@@ -219,20 +219,20 @@ module _ (D : Domain) (M : Meaning D) (A : Acts D M) where
       {x = links (suc (length (o .state .rest))) G (mark-of s) done (o .made) (o .state)} {y = unlinked (mark-of s) done (o .made) (o .ans) (o .state)}
       (λ e w.
       let n : ℕ = suc (length (o .state .rest)) in
-      let q : M .Post (o .made) × M .Holds (get l (o .ans)) s₀ (o .state) = g (links-parts (M .Pre) (M .parts) n G (mark-of s) done (o .made) (o .state) w .1) in
+      let q : M .Post (o .made) × M .Holds (get l (o .ans)) s₀ (o .state) = g (links-pieces (M .Pre) (M .pieces) n G (mark-of s) done (o .made) (o .state) w .1) in
       let h : M .Holds (l .if-again) s₀ (o .state) = subst (λ (a : Ans). M .Holds (get l a) s₀ (o .state)) (is-again-eq (o .ans) e) (q .1) in
       gives-second D M (stopped D l) (D .from i f) s₀ (links n G (mark-of s) done (o .made) (o .state))
       (links-gives i f (settled-closed (l .if-again) f) ok G S goes n s₀ (o .state) (mark-of s) done (o .made) (le-refl _) (λ _. M .post-done) (λ _. q .0) (settled-start (l .if-again) f s₀ (o .state) h))
       w)
       (λ e w.
-      let c : M .Pre done × M .Pre (o .made) = M .parts .closing 0 (mark-of s) (mark-of (o .state)) done (o .made) w in
+      let c : M .Pre done × M .Pre (o .made) = M .pieces .closing 0 (mark-of s) (mark-of (o .state)) done (o .made) w in
       let q : M .Post (o .made) × M .Holds (get l (o .ans)) s₀ (o .state) = g (c .1) in
       (M .post-closed 0 (mark-of s) (mark-of (o .state)) done (o .made) (M .post-done) (q .0), in-first D M (stopped D l) (D .from i f) (o .ans) s₀ (o .state) (in-stopped D M l (o .ans) s₀ (o .state) e (q .1))))
 
   mark-gives : (l : Look (D .Fact)) (s₀ s : State) (o : Out) → Gives D M l s₀ o → Gives D M l s₀ (marked s o)
   unfolding marked makes
   mark-gives l s₀ s o g w =
-      let c : M .Pre done × M .Pre (o .made) = M .parts .closing (o .shape) (mark-of s) (mark-of (o .state)) done (o .made) w in
+      let c : M .Pre done × M .Pre (o .made) = M .pieces .closing (o .shape) (mark-of s) (mark-of (o .state)) done (o .made) w in
       let q : M .Post (o .made) × M .Holds (get l (o .ans)) s₀ (o .state) = g (c .1) in
       (M .post-closed (o .shape) (mark-of s) (mark-of (o .state)) done (o .made) (M .post-done) (q .0), q .1)
 

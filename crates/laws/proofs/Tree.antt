@@ -1,4 +1,4 @@
--- Trees side by side: width, number, rows and leaves of a join are those of its parts in turn, and a join is placed part by part.
+-- Trees side by side: width, number, rows and leaves of a join are those of its pieces in turn, and a join is placed piece by piece.
 use Prim.Native.Nat.{ℕ, _+_}
 use native.Mathlib.Nat.{zero-add}
 use native.Mathlib.Omega.{arith}
@@ -6,7 +6,7 @@ use mathlib.Core.Path.{_≡_, refl, ap, sym, _∙_}
 use mathlib.Core.List.{List, [], _++_, append-assoc}
 use lib.ListN.{length, take, drop}
 use Rattle.definitions.specs.TokenKind as K
-use Rattle.definitions.specs.Token.{Token, drop-trivia, past, bytes}
+use Rattle.definitions.specs.Token.{Token, drop-trivia, past, byte-count}
 use Rattle.definitions.specs.Skeleton.{Skeleton, done, token, name, node, ignored, report, over, _⧺_}
 use Rattle.laws.proofs.Skeleton.{bytes-append}
 use Rattle.definitions.specs.Place.{Tree, nil, leaf, subtree, _⊕_, lead, front, after, place, width, count, rows, tree-row}
@@ -38,7 +38,7 @@ count-beside (subtree k c f) g = let h : count (f ⊕ g) ≡ count f + count g =
 pub rows-beside : (f g : Tree) → rows (f ⊕ g) ≡ rows f ++ rows g
 unfolding _⊕_ rows
 rows-beside nil g = refl
-rows-beside (leaf k ts f) g = ap (tree-row 1 k (bytes ts) (length ts)) (rows-beside f g)
+rows-beside (leaf k ts f) g = ap (tree-row 1 k (byte-count ts) (length ts)) (rows-beside f g)
 rows-beside (subtree k c f) g = ap (λ (l : List ℕ). tree-row 0 k (width c) (count c) (rows c ++ l)) (rows-beside f g) ∙ ap (tree-row 0 k (width c) (count c)) (sym (append-assoc (rows c) (rows f) (rows g)))
 
 -- the raw tokens of a tree's leaves, in order
@@ -54,16 +54,16 @@ leaves-beside (leaf k ts f) g = ap (ts ++_) (leaves-beside f g) ∙ sym (append-
 leaves-beside (subtree k c f) g = ap (leaves c ++_) (leaves-beside f g) ∙ sym (append-assoc (leaves c) (leaves f) (leaves g))
 
 -- a tree is as wide as its leaves' tokens are long
-pub width-leaves : (f : Tree) → width f ≡ bytes (leaves f)
-unfolding width leaves bytes
+pub width-leaves : (f : Tree) → width f ≡ byte-count (leaves f)
+unfolding width leaves byte-count
 width-leaves nil = refl
-width-leaves (leaf k ts f) = ap (bytes ts +_) (width-leaves f) ∙ sym (bytes-append ts (leaves f))
+width-leaves (leaf k ts f) = ap (byte-count ts +_) (width-leaves f) ∙ sym (bytes-append ts (leaves f))
 width-leaves (subtree k c f) = ap2 (width-leaves c) (width-leaves f) ∙ sym (bytes-append (leaves c) (leaves f))
   where
     ap2 : {a b x y : ℕ} → a ≡ x → b ≡ y → a + b ≡ x + y
     ap2 p q = rw (p, q)
 
--- the second part is placed where the first part leaves off
+-- the second piece is placed where the first one leaves off
 pub place-join : (p q : Skeleton) (ts : List Token) → place (p ⧺ q) ts ≡ place p ts ⊕ place q (after p ts)
 unfolding _⧺_ after place _⊕_
 place-join done q ts = refl

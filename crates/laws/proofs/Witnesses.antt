@@ -86,7 +86,7 @@ limited = limits 4 (ifs 50) (if-numbers 50) (lent 6936) all-pending
 -- and with `(1;` after them a 257th is pushed: refusal 5, where 52 tokens are taken
 over-pending :
     call 4 (times 50 (35 ∷ 105 ∷ 102 ∷ []) (40 ∷ 49 ∷ 59 ∷ [])) (times 50 (4 ∷ 3 ∷ []) (41 ∷ 1 ∷ 35 ∷ 1 ∷ 29 ∷ 1 ∷ [])) (lent 6936) .answer
-    ≡ record { number = 5; place = 52; trees = 0; errors = 0; reports = 0; expectations = 0 }
+    ≡ record { number = 5; place = 52; tree-count = 0; error-count = 0; report-count = 0; expectation-count = 0 }
 unfolding call times
 over-pending = refl
 
@@ -105,7 +105,7 @@ unfolding call brackets bracket-numbers
 all-open = refl
 
 -- and the 64th bracket is a 65th call
-over-open : call 4 (brackets 64) (bracket-numbers 64) (lent 1143) .answer ≡ record { number = 5; place = 64; trees = 0; errors = 0; reports = 0; expectations = 0 }
+over-open : call 4 (brackets 64) (bracket-numbers 64) (lent 1143) .answer ≡ record { number = 5; place = 64; tree-count = 0; error-count = 0; report-count = 0; expectation-count = 0 }
 unfolding call brackets bracket-numbers
 over-open = refl
 

@@ -81,5 +81,5 @@ Limited n (x ∷ l) = (x .open-calls ≤ n) × (length (x .state .pending) ≤ M
 -- for every accepted call
 abbrev pub Limits : Type 0
 Limits =
-    (n : ℕ) (bs tk : List ℕ) (b : Buffers) → Call.call n bs tk b .answer .number ≡ 0
-    → (e : Entry) × (entry-of n ≡ for e) × Limited MOST-OPEN-CALLS (entry-places e (tokens-of tk))
+    (n : ℕ) (bytes tokens : List ℕ) (b : Buffers) → Call.call n bytes tokens b .answer .number ≡ 0
+    → (e : Entry) × (entry-of n ≡ for e) × Limited MOST-OPEN-CALLS (entry-places e (tokens-of tokens))

@@ -8,7 +8,7 @@ use mathlib.Core.List.{List, [], _∷_, _++_}
 use lib.ListN.{length, take, drop}
 use Rattle.definitions.specs.Layout.{TREE-ROW, ERROR-ROW}
 use Rattle.definitions.specs.TokenKind as K
-use Rattle.definitions.specs.Token.{Token, tokens-of, is-error, seen, one-of, bytes}
+use Rattle.definitions.specs.Token.{Token, tokens-of, is-error, seen, one-of, byte-count}
 use Rattle.definitions.specs.Check.{NAME-SET}
 use Rattle.definitions.specs.Grammar.{Entry, root-kind}
 use Rattle.definitions.specs.Call.{Buffers, Result, for, entry-of, call}
@@ -42,7 +42,7 @@ pub data Kind-of (k : ℕ) : List Token → Type 0 where
 -- a leaf stands for these raw tokens: its count is their number, its width the sum of their lengths
 pub record Stands-for (l : Leaf) (raw : List Token) : Type 0 where
   pub kind : Kind-of (l .kind) raw
-  pub width : l .width ≡ bytes raw
+  pub width : l .width ≡ byte-count raw
   pub count : l .count ≡ length raw
 
 -- the leaves, in order, stand for all the tokens: each for the next ones, as many as its count says
@@ -63,34 +63,34 @@ errors-in (t ∷ ts) = cond (is-error (t .kind)) (suc (errors-in ts)) (errors-in
 abbrev pub Errors-of : List Token → List ℕ → Type 0
 Errors-of ts l =
     (before after : List Token) (t : Token) → ts ≡ before ++ (t ∷ after) → is-error (t .kind) ≡ true
-    → take ERROR-ROW (drop (ERROR-ROW * errors-in before) l) ≡ t .kind ∷ bytes before ∷ (bytes before + t .len) ∷ []
+    → take ERROR-ROW (drop (ERROR-ROW * errors-in before) l) ≡ t .kind ∷ byte-count before ∷ (byte-count before + t .len) ∷ []
 
 -- ---------------------------------------------------------------- the claim
 
--- of a call's result r, for the entry e, the input bytes bs and the tokens ts
-pub record Lossless (e : Entry) (bs : List ℕ) (ts : List Token) (r : Result) : Type 0 where
+-- of a call's result r, for the entry e, the input bytes bytes and the tokens ts
+pub record Lossless (e : Entry) (bytes : List ℕ) (ts : List Token) (r : Result) : Type 0 where
   -- the tree that the rows are
   pub tree : Rows
   -- the rows that the call says it has written are that tree's, in preorder
-  pub written : take (TREE-ROW * r .answer .trees) (r .buffers .trees) ≡ preorder tree
+  pub written : take (TREE-ROW * r .answer .tree-count) (r .buffers .trees) ≡ preorder tree
   -- read as a preorder they give it back, and no other tree with true counts has these rows
-  pub read-back : read (take (TREE-ROW * r .answer .trees) (r .buffers .trees)) ≡ tree
-  pub only-one : (other : Rows) → Counts other → preorder other ≡ take (TREE-ROW * r .answer .trees) (r .buffers .trees) → other ≡ tree
+  pub read-back : read (take (TREE-ROW * r .answer .tree-count) (r .buffers .trees)) ≡ tree
+  pub only-one : (other : Rows) → Counts other → preorder other ≡ take (TREE-ROW * r .answer .tree-count) (r .buffers .trees) → other ≡ tree
   -- it has one root, of the entry's kind, and the root's width is the length of the input
   pub root-count : ℕ
   pub root-children : Rows
-  pub root : tree ≡ node (root-kind e) (length bs) root-count root-children end
+  pub root : tree ≡ node (root-kind e) (length bytes) root-count root-children end
   -- each node's width is the sum of its children's, and its count their number
   pub widths : Widths tree
   pub counts : Counts tree
   -- the leaves, in order, are the tokens
   pub covers : Cover (leaves tree) ts
   -- the lexical errors are the error tokens, in order
-  pub errors : r .answer .errors ≡ errors-in ts
+  pub error-count : r .answer .error-count ≡ errors-in ts
   pub error-rows : Errors-of ts (r .buffers .errors)
 
 -- for every accepted call
 abbrev pub Nothing-lost : Type 0
 Nothing-lost =
-    (n : ℕ) (bs tk : List ℕ) (b : Buffers) → call n bs tk b .answer .number ≡ 0
-    → (e : Entry) × (entry-of n ≡ for e) × Lossless e bs (tokens-of tk) (call n bs tk b)
+    (n : ℕ) (bytes tokens : List ℕ) (b : Buffers) → call n bytes tokens b .answer .number ≡ 0
+    → (e : Entry) × (entry-of n ≡ for e) × Lossless e bytes (tokens-of tokens) (call n bytes tokens b)

@@ -4,6 +4,7 @@ use mathlib.Core.Path.{_≡_}
 use mathlib.Core.Bool.{Bool, cond}
 use mathlib.Core.List.{List, [], _∷_, _++_}
 use lib.Dec.{eqb}
+use Rattle.definitions.specs.Layout.{NODE, LEAF}
 
 -- rows side by side, each with what follows it. A leaf has kind, width and count; a node has them too, and its children.
 pub data Rows : Type 0 where
@@ -11,17 +12,17 @@ pub data Rows : Type 0 where
   leaf : ℕ → ℕ → ℕ → Rows → Rows
   node : ℕ → ℕ → ℕ → Rows → Rows → Rows
 
--- the numbers of rows in preorder: class (0 node, 1 leaf), kind, width, count
+-- the numbers of rows in preorder: class, kind, width, count
 unfoldable pub preorder : Rows → List ℕ
 preorder end = []
-preorder (leaf k w n f) = 1 ∷ k ∷ w ∷ n ∷ preorder f
-preorder (node k w n c f) = 0 ∷ k ∷ w ∷ n ∷ (preorder c ++ preorder f)
+preorder (leaf k w n f) = LEAF ∷ k ∷ w ∷ n ∷ preorder f
+preorder (node k w n c f) = NODE ∷ k ∷ w ∷ n ∷ (preorder c ++ preorder f)
 
 -- how many rows stand side by side, those under a node not counted
-unfoldable pub number : Rows → ℕ
-number end = 0
-number (leaf k w n f) = suc (number f)
-number (node k w n c f) = suc (number f)
+unfoldable pub siblings : Rows → ℕ
+siblings end = 0
+siblings (leaf k w n f) = suc (siblings f)
+siblings (node k w n c f) = suc (siblings f)
 
 -- the sum of their widths
 unfoldable pub widths : Rows → ℕ
@@ -31,10 +32,10 @@ widths (node k w n c f) = w + widths f
 
 -- each node's count is the number of its children
 unfoldable pub Counts : Rows → Type 0
-unfolding number
+unfolding siblings
 Counts end = Unit {0}
 Counts (leaf k w n f) = Counts f
-Counts (node k w n c f) = (n ≡ number c) × Counts c × Counts f
+Counts (node k w n c f) = (n ≡ siblings c) × Counts c × Counts f
 
 -- each node's width is the sum of its children's
 unfoldable pub Widths : Rows → Type 0
@@ -70,4 +71,4 @@ read [] = end
 read (c ∷ []) = end
 read (c ∷ k ∷ []) = end
 read (c ∷ k ∷ w ∷ []) = end
-read (c ∷ k ∷ w ∷ n ∷ l) = read-row (eqb c 0) k w n (read l)
+read (c ∷ k ∷ w ∷ n ∷ l) = read-row (eqb c NODE) k w n (read l)

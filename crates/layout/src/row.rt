@@ -34,6 +34,23 @@ pub const ERROR_START: usize = 1;
 
 pub const ERROR_END: usize = 2;
 
+pub const REPORT_START: usize = 1;
+
+pub const REPORT_END: usize = 2;
+
+pub const REPORT_MARK: usize = 3;
+
+// Its first place in the pool, and how many expectations it has there.
+pub const REPORT_POOL_FIRST: usize = 4;
+
+pub const REPORT_POOL_COUNT: usize = 5;
+
+pub const REPORT_HINT: usize = 6;
+
+pub const REPORT_LABEL_START: usize = 7;
+
+pub const REPORT_LABEL_END: usize = 8;
+
 // The first number of a tree row.
 pub const NODE: u32 = 0;
 

@@ -13,7 +13,7 @@ use Rattle.definitions.specs.Run.{State, Out, mark-of, makes, closed, is-again,
 use Rattle.definitions.specs.Report.{Push, event, pushes}
 use Rattle.laws.proofs.Skeleton.{pushes-join}
 use Rattle.machine.specs.Machine.{Machine, Marker, rest, push, complete, precede}
-use Rattle.machine.specs.Walk.{Walked, said, marker, link}
+use Rattle.machine.specs.Walk.{Walked, said, next-marker, link}
 use Rattle.machine.specs.Walk as W
 use Rattle.machine.specs.Encode.{start-tag}
 use Rattle.machine.specs.Outcome.{Refused}
@@ -21,7 +21,7 @@ use Rattle.machine.proofs.Coded.{coded}
 use Rattle.machine.proofs.Image.{Ground, image, Inside}
 use Rattle.machine.proofs.Sticky.{Sticks, either, s-push, s-precede, s-links, s-turn, s-chained}
 use Rattle.machine.proofs.Meets.{Sofar, Fitting, stand, Meets, grow, Sim, Tracks, Begins, begins-with, begins-then, begins-behind, push-meets, meets-then}
-use Rattle.machine.proofs.Markers.{opened, opened-grow, ignore-sim, complete-sim, begins-closed, start-place, linked-length, precede-sim}
+use Rattle.machine.proofs.Markers.{opened, opened-grow, ignore-sim, complete-sim, begins-closed, start-index, linked-length, precede-sim}
 use Rattle.machine.proofs.Loops.{left-is, goes-on-is}
 
 -- ---------------------------------------------------------------- what a chain pushes
@@ -73,7 +73,7 @@ begins-links f (suc n) m a i s =
 -- ---------------------------------------------------------------- the machine's side
 
 abbrev Links : Ground → (State → Out) → (Machine → Walked) → ℕ → Type 0
-Links g f h n = (c : Sofar) (m : ℕ) (a i : Skeleton) (s : State) (k : Marker) → k .place ≡ length (c .numbers ++ coded true a) → k .tag ≡ start-tag a
+Links g f h n = (c : Sofar) (m : ℕ) (a i : Skeleton) (s : State) (k : Marker) → k .index ≡ length (c .numbers ++ coded true a) → k .tag ≡ start-tag a
     → Fitting g (opened c a m i) → Inside g s → Sim g c (links n f m a i s) (W.links (g .tokens) n h k (stand g (opened c a m i) s))
 
 module _ (g : Ground) (f : State → Out) (h : Machine → Walked) (st : Sticks (g .tokens) h) where
@@ -87,10 +87,10 @@ module _ (g : Ground) (f : State → Out) (h : Machine → Walked) (st : Sticks 
 
   -- the machine after a link that came to v, its marker completed
   abbrev next : ℕ → Bool → Marker → Ans → Machine → Walked
-  next n b k x v = cond b (W.links ts n h (marker LINKED-START-NODE v) (precede k v)) (said x (push PLACEHOLDER 0 (precede k v)))
+  next n b k x v = cond b (W.links ts n h (next-marker LINKED-START-NODE v) (precede k v)) (said x (push PLACEHOLDER 0 (precede k v)))
 
   -- after the new marker
-  onward-sim : (n : ℕ) → Links g f h n → (c : Sofar) (N : Skeleton) (k : Marker) (b : Bool) (x : Ans) (s : State) → k .place ≡ length (c .numbers ++ coded true N) → k .tag ≡ start-tag N
+  onward-sim : (n : ℕ) → Links g f h n → (c : Sofar) (N : Skeleton) (k : Marker) (b : Bool) (x : Ans) (s : State) → k .index ≡ length (c .numbers ++ coded true N) → k .tag ≡ start-tag N
       → Fitting g (opened c N (mark-of s) done) → Inside g s
       → Sim g c (onward f n b (mark-of s) N x s) (cond b (W.links ts n h k (stand g (opened c N (mark-of s) done) s)) (said x (push PLACEHOLDER 0 (stand g (opened c N (mark-of s) done) s))))
   onward-sim n more c N k true x s e t fit j = more c (mark-of s) N done s k e t fit j
@@ -100,7 +100,7 @@ module _ (g : Ground) (f : State → Out) (h : Machine → Walked) (st : Sticks 
   s-next r n b k k′ x p q = either ts r b (W.links ts n h k′ p) (said x (push PLACEHOLDER 0 p)) (s-links ts r n h (st r) k′ p q) (s-push ts r PLACEHOLDER 0 p q)
 
   -- from a link on
-  link-sim : (n : ℕ) → Links g f h n → (c : Sofar) (m : ℕ) (a i : Skeleton) (k : Marker) (kind : ℕ) (b : Bool) (x : Ans) (s : State) → k .place ≡ length (c .numbers ++ coded true a) → k .tag ≡ start-tag a
+  link-sim : (n : ℕ) → Links g f h n → (c : Sofar) (m : ℕ) (a i : Skeleton) (k : Marker) (kind : ℕ) (b : Bool) (x : Ans) (s : State) → k .index ≡ length (c .numbers ++ coded true a) → k .tag ≡ start-tag a
       → Fitting g (opened c a m i) → Inside g s
       → Sim g c (onward f n b (mark-of s) (node kind m (mark-of s) a i done) x s) (next n b k x (complete k kind (stand g (opened c a m i) s)))
   unfolding pushes image
@@ -112,7 +112,7 @@ module _ (g : Ground) (f : State → Out) (h : Machine → Walked) (st : Sticks 
       let c₁ = grow c N in
       let c₂ = opened c N m′ done in
       let v = complete k kind (stand g (opened c a m i) s) in
-      let K = marker LINKED-START-NODE (stand g c₁ s) in
+      let K = next-marker LINKED-START-NODE (stand g c₁ s) in
       let b₂ : Begins (c₂ .pushed) (end .pushed) = begins-behind (c .pushed) (pushes N ++ (event m′ ∷ [])) (pushes (D .made)) (begins-onward f n (begins-links f n) b m′ N x s) in
       let b₁ : Begins (c₁ .pushed) (c₂ .pushed) = begins-behind (c .pushed) (pushes N) (pushes N ++ (event m′ ∷ [])) (begins-with (pushes N) (event m′ ∷ [])) in
       meets-then g c₁ end x (D .ans) 0 (D .shape) s (D .state) (said x v) (next n b k x v) (begins-then (c₁ .pushed) (c₂ .pushed) (end .pushed) b₁ b₂)
@@ -125,10 +125,10 @@ module _ (g : Ground) (f : State → Out) (h : Machine → Walked) (st : Sticks 
       subst (λ (w : Walked). Meets g end (D .ans) (D .shape) (D .state) (cond b (W.links ts n h K (w .on)) (said x (push PLACEHOLDER 0 (w .on))))) (sym e₂)
       (onward-sim n more c N K b x s (linked-length c kind m m′ a i) refl fit₂ j₂))
       (λ r q. s-next r n b k K x (precede k (stand g c₁ s)) q)))
-      (λ r q. s-next r n b k (marker LINKED-START-NODE v) x (precede k v) (s-precede ts r k v q))
+      (λ r q. s-next r n b k (next-marker LINKED-START-NODE v) x (precede k v) (s-precede ts r k v q))
 
   -- a turn that was not refused
-  turn-sim : (n : ℕ) → Links g f h n → (c : Sofar) (m : ℕ) (a i : Skeleton) (k : Marker) (s : State) (o : Out) (b : Bool) → k .place ≡ length (c .numbers ++ coded true a) → k .tag ≡ start-tag a
+  turn-sim : (n : ℕ) → Links g f h n → (c : Sofar) (m : ℕ) (a i : Skeleton) (k : Marker) (s : State) (o : Out) (b : Bool) → k .index ≡ length (c .numbers ++ coded true a) → k .tag ≡ start-tag a
       → Fitting g (opened c a m i) → Inside g (o .state)
       → Sim g c (by-shape (o .shape) (unlinked m a i (o .ans) (o .state)) (onward f n b (mark-of (o .state)) (closed (o .shape) m (mark-of (o .state)) a i) (o .ans) (o .state)))
       (by-shape (o .shape) (said (o .ans) (push PLACEHOLDER 0 (stand g (opened c a m i) (o .state)))) (next n b k (o .ans) (complete k (o .shape) (stand g (opened c a m i) (o .state)))))
@@ -174,18 +174,18 @@ begins-chain f true m i x s = begins-links f (suc (length (s .rest))) m done i s
 begins-chain f false m i x s = begins-last m done i x s
 
 module _ (g : Ground) (f f₀ : State → Out) (h h₀ : Machine → Walked) (tr : Tracks g f h) (st : Sticks (g .tokens) h) (tr₀ : Tracks g f₀ h₀) (st₀ : Sticks (g .tokens) h₀) where
-  -- after the first part
-  first-sim : (c : Sofar) (m : ℕ) (i : Skeleton) (k : Marker) (b : Bool) (x : Ans) (s : State) → k .place ≡ length (c .numbers ++ coded true done) → k .tag ≡ START-NODE
+  -- after the first program
+  first-sim : (c : Sofar) (m : ℕ) (i : Skeleton) (k : Marker) (b : Bool) (x : Ans) (s : State) → k .index ≡ length (c .numbers ++ coded true done) → k .tag ≡ START-NODE
       → Fitting g (opened c done m i) → Inside g s
       → Sim g c (linked-on f b m i x s) (cond b (W.links (g .tokens) (suc (length (s .rest))) h k (stand g (opened c done m i) s)) (said x (push PLACEHOLDER 0 (stand g (opened c done m i) s))))
   first-sim c m i k true x s e t fit j = links-sim g f h st tr (suc (length (s .rest))) c m done i s k e t fit j
   first-sim c m i k false x s e t fit j = last-sim g f h st c m done i x s fit j
 
-  pub chain-sim : Tracks g (λ s. chained f s (f₀ s)) (λ m. W.chained (g .tokens) h (marker START-NODE m) (h₀ (push PLACEHOLDER 0 m)))
+  pub chain-sim : Tracks g (λ s. chained f s (f₀ s)) (λ m. W.chained (g .tokens) h (next-marker START-NODE m) (h₀ (push PLACEHOLDER 0 m)))
   unfolding chained W.chained coded pushes _⧺_
   chain-sim c s fit j =
       let M = stand g c s in
-      let k = marker START-NODE M in
+      let k = next-marker START-NODE M in
       let m = mark-of s in
       let o = f₀ s in
       let p = push PLACEHOLDER 0 M in
@@ -208,6 +208,6 @@ module _ (g : Ground) (f f₀ : State → Out) (h h₀ : Machine → Walked) (tr
       (λ fit₂ j₂ e₂.
       subst (λ (y : Walked). Meets g end (D .ans) (D .shape) (D .state) (out (length (rest (g .tokens) (y .on))) y)) (sym e₂)
       (subst (λ (n : ℕ). Meets g end (D .ans) (D .shape) (D .state) (out n v)) (sym (left-is g mid (o .state) j₂))
-      (first-sim c m (o .made) k (is-again (o .ans)) (o .ans) (o .state) (start-place g c s) refl fit₂ j₂)))
+      (first-sim c m (o .made) k (is-again (o .ans)) (o .ans) (o .state) (start-index g c s) refl fit₂ j₂)))
       (λ r q. s-chained (g .tokens) r h (st r) k w q))
       (λ r q. s-chained (g .tokens) r h (st r) k w (st₀ r p q))

@@ -10,7 +10,7 @@ use lib.ListN.{length, length-append}
 use Rattle.definitions.specs.Layout.{EVENT-ROW, REPORT-ROW, PLACEHOLDER, ADD-TOKEN, ADD-COMBINED-TOKEN, FINISH-NODE, ERROR, TWO-TO-32}
 use Rattle.definitions.specs.Skeleton.{Label, no-label, label, Report, Skeleton, done, token, name, node, ignored, report, over, _⧺_}
 use Rattle.definitions.specs.Event.{forward, events}
-use Rattle.definitions.specs.Report.{label-numbers, report-rows, pool}
+use Rattle.definitions.specs.Report.{label-numbers, report-numbers, pool}
 use Rattle.laws.proofs.Skeleton.{label-append}
 use Rattle.basics.specs.Word.{low}
 use Rattle.machine.specs.Encode.{start-tag, encode}
@@ -29,7 +29,7 @@ coded linked (ignored m m′ a i o) = coded true a ++ (PLACEHOLDER ∷ 0 ∷ 0 �
 coded linked (report r o) = ERROR ∷ 0 ∷ 0 ∷ coded linked o
 coded linked (over m o) = coded linked o
 
--- a list after the last of three parts, with rows between them
+-- a list after the last of three pieces, with rows between them
 behind : (a : List ℕ) (x y z : ℕ) (i : List ℕ) (u v w : ℕ) (o l : List ℕ)
     → a ++ (x ∷ y ∷ z ∷ (i ++ (u ∷ v ∷ w ∷ (o ++ l)))) ≡ (a ++ (x ∷ y ∷ z ∷ (i ++ (u ∷ v ∷ w ∷ o)))) ++ l
 behind a x y z i u v w o l = sym (append-assoc a _ l ∙ ap (λ (t : List ℕ). a ++ (x ∷ y ∷ z ∷ t)) (append-assoc i (u ∷ v ∷ w ∷ o) l))
@@ -84,7 +84,7 @@ coded-small b (over m o) h = coded-small b o h
 
 -- ---------------------------------------------------------------- reports
 
--- `report-rows`, first pool places and pool counts cut to 32 bits
+-- `report-numbers`, first pool places and pool counts cut to 32 bits
 unfoldable pub low-rows : ℕ → ℕ → ℕ → List Report → List ℕ
 low-rows n b first [] = []
 low-rows n b first (r ∷ l) =
@@ -100,14 +100,14 @@ low-rows-append n b first (r ∷ l) m =
     (ap (label-numbers b (r .labelled)) (low-rows-append n b (first + length (r .pool)) l m ∙ ap (λ (x : ℕ). low-rows n b (first + length (r .pool)) l ++ low-rows n b x m) e)
     ∙ label-append b (r .labelled) (low-rows n b (first + length (r .pool)) l) (low-rows n b (first + length (r .pool ++ pool l)) m))
 
-pub low-rows-small : (n b first : ℕ) (l : List Report) → first + length (pool l) < TWO-TO-32 → low-rows n b first l ≡ report-rows n b first l
-unfolding low-rows report-rows pool
+pub low-rows-small : (n b first : ℕ) (l : List Report) → first + length (pool l) < TWO-TO-32 → low-rows n b first l ≡ report-numbers n b first l
+unfolding low-rows report-numbers pool
 low-rows-small n b first [] h = refl
 low-rows-small n b first (r ∷ l) h =
     let g : first + (length (r .pool) + length (pool l)) < TWO-TO-32 = simp length-append at h in
     let x : low first ≡ first = mod-eq-of-lt (omega arith) in
     let y : low (length (r .pool)) ≡ length (r .pool) = mod-eq-of-lt (omega arith) in
-    let z : low-rows n b (first + length (r .pool)) l ≡ report-rows n b (first + length (r .pool)) l = low-rows-small n b (first + length (r .pool)) l (omega arith) in
+    let z : low-rows n b (first + length (r .pool)) l ≡ report-numbers n b (first + length (r .pool)) l = low-rows-small n b (first + length (r .pool)) l (omega arith) in
     ap (λ (u : ℕ). r .message ∷ (b - r .range .from) ∷ (b - r .range .to) ∷ (n - r .mark) ∷ u ∷ low (length (r .pool)) ∷ r .hint ∷ label-numbers b (r .labelled) (low-rows n b (first + length (r .pool)) l)) x
     ∙ ap (λ (u : ℕ). r .message ∷ (b - r .range .from) ∷ (b - r .range .to) ∷ (n - r .mark) ∷ first ∷ u ∷ r .hint ∷ label-numbers b (r .labelled) (low-rows n b (first + length (r .pool)) l)) y
     ∙ ap (λ (u : List ℕ). r .message ∷ (b - r .range .from) ∷ (b - r .range .to) ∷ (n - r .mark) ∷ first ∷ length (r .pool) ∷ r .hint ∷ label-numbers b (r .labelled) u) z

@@ -9,7 +9,7 @@ use lib.Dec.{leb}
 use lib.ListN.{length, length-append}
 use borrow.Author.Tests.{leb-true, leb-false, le-leb, lt-leb}
 use Rattle.definitions.specs.Layout.{EVENT-ROW, REPORT-ROW, ERROR, NO-REPORT-ROOM, MOST-TOKENS, TWO-TO-32}
-use Rattle.definitions.specs.Token.{Token, bytes}
+use Rattle.definitions.specs.Token.{Token, byte-count}
 use Rattle.definitions.specs.Skeleton.{Span, Label, no-label, label, Report, done, report}
 use Rattle.definitions.specs.Refusal.{no-event-room, no-report-room, number-of, place-of}
 use Rattle.definitions.specs.Prog.{yes}
@@ -46,36 +46,36 @@ behind-mark : (b k : ℕ) → 1 ≤ k → k ≤ b → b < TWO-TO-32 → low (b -
 behind-mark b k h i l = let e : b - k + 1 ≡ b - (k - 1) = omega arith in ap low e ∙ mod-eq-of-lt (omega arith)
 
 range-with : (g : Ground) (e : List ℕ) (l : List Report) (s : State) (ts : List Token) → Inside g (moved s ts)
-    → M.error-range ts (image g e l (moved s ts)) ≡ forward-span (bytes (g .tokens)) (error-range (moved s ts) ts)
-unfolding M.error-range error-range image range-at bytes
-range-with g e l s [] i = let q : bytes (g .tokens) - 0 - 1 ≡ bytes (g .tokens) - 1 = omega arith in ap (λ (x : ℕ). record { from = x; to = bytes (g .tokens) - 0 }) q
+    → M.error-range ts (image g e l (moved s ts)) ≡ forward-span (byte-count (g .tokens)) (error-range (moved s ts) ts)
+unfolding M.error-range error-range image range-at byte-count
+range-with g e l s [] i = let q : byte-count (g .tokens) - 0 - 1 ≡ byte-count (g .tokens) - 1 = omega arith in ap (λ (x : ℕ). record { from = x; to = byte-count (g .tokens) - 0 }) q
 range-with g e l s (t ∷ ts) i = pick (only-separators (s .pending))
   where
     B : ℕ
-    B = bytes (g .tokens)
+    B = byte-count (g .tokens)
 
-    some : 1 ≤ bytes (s .since)
+    some : 1 ≤ byte-count (s .since)
     some = let h : 1 ≤ t .len = suffix-filled (g .tokens) (t ∷ ts) (i .rest) (g .limits .filled) .0 in omega (arith, h, i .order)
 
-    one : low (B - bytes (s .since) + 1) ≡ B - (bytes (s .since) - 1)
-    one = behind-mark B (bytes (s .since)) some (suffix-bytes (g .tokens) (s .since) (i .since)) (g .limits .short)
+    one : low (B - byte-count (s .since) + 1) ≡ B - (byte-count (s .since) - 1)
+    one = behind-mark B (byte-count (s .since)) some (suffix-bytes (g .tokens) (s .since) (i .since)) (g .limits .short)
 
     pick : (c : Bool)
-        → cond {A = Span} c (record { from = B - bytes (s .since); to = low (B - bytes (s .since) + 1) }) (record { from = B - (t .len + bytes ts); to = low (B - (t .len + bytes ts) + t .len) })
-        ≡ forward-span B (cond {A = Span} c (record { from = bytes (s .since); to = bytes (s .since) - 1 }) (record { from = t .len + bytes ts; to = bytes ts }))
-    pick true = ap (λ (x : ℕ). record { from = B - bytes (s .since); to = x }) one
-    pick false = ap (λ (x : ℕ). record { from = B - (t .len + bytes ts); to = x }) (byte g e l s t ts (i .rest))
+        → cond {A = Span} c (record { from = B - byte-count (s .since); to = low (B - byte-count (s .since) + 1) }) (record { from = B - (t .len + byte-count ts); to = low (B - (t .len + byte-count ts) + t .len) })
+        ≡ forward-span B (cond {A = Span} c (record { from = byte-count (s .since); to = byte-count (s .since) - 1 }) (record { from = t .len + byte-count ts; to = byte-count ts }))
+    pick true = ap (λ (x : ℕ). record { from = B - byte-count (s .since); to = x }) one
+    pick false = ap (λ (x : ℕ). record { from = B - (t .len + byte-count ts); to = x }) (byte g e l s t ts (i .rest))
 
-pub range-is : (g : Ground) (e : List ℕ) (l : List Report) (s : State) → Inside g s → M.error-range (s .rest) (image g e l s) ≡ forward-span (bytes (g .tokens)) (error-range s (s .rest))
+pub range-is : (g : Ground) (e : List ℕ) (l : List Report) (s : State) → Inside g s → M.error-range (s .rest) (image g e l s) ≡ forward-span (byte-count (g .tokens)) (error-range s (s .rest))
 range-is g e l s i = range-with g e l s (s .rest) i
 
 -- the range of the token at the cursor, for a label
-here-with : (g : Ground) (e : List ℕ) (l : List Report) (s : State) (ts : List Token) → Inside g (moved s ts) → range-at ts (image g e l (moved s ts)) ≡ span-of (bytes (g .tokens)) (here ts)
-unfolding image range-at bytes
+here-with : (g : Ground) (e : List ℕ) (l : List Report) (s : State) (ts : List Token) → Inside g (moved s ts) → range-at ts (image g e l (moved s ts)) ≡ span-of (byte-count (g .tokens)) (here ts)
+unfolding image range-at byte-count
 here-with g e l s [] i = refl
-here-with g e l s (t ∷ ts) i = ap (λ (x : ℕ). record { from = bytes (g .tokens) - (t .len + bytes ts); to = x }) (byte g e l s t ts (i .rest))
+here-with g e l s (t ∷ ts) i = ap (λ (x : ℕ). record { from = byte-count (g .tokens) - (t .len + byte-count ts); to = x }) (byte g e l s t ts (i .rest))
 
-pub here-is : (g : Ground) (e : List ℕ) (l : List Report) (s : State) → Inside g s → range-at (rest (g .tokens) (image g e l s)) (image g e l s) ≡ span-of (bytes (g .tokens)) (here (s .rest))
+pub here-is : (g : Ground) (e : List ℕ) (l : List Report) (s : State) → Inside g s → range-at (rest (g .tokens) (image g e l s)) (image g e l s) ≡ span-of (byte-count (g .tokens)) (here (s .rest))
 here-is g e l s i = ap (λ (x : List Token). range-at x (image g e l s)) (rest-is g e l s i) ∙ here-with g e l s (s .rest) i
 
 -- ---------------------------------------------------------------- the row
@@ -141,7 +141,7 @@ module _ (g : Ground) (m h : ℕ) (lab : Label) (c : Sofar) (s : State) (f : Fit
   range = M.error-range (s .rest) (stand g c s)
 
   abbrev B : ℕ
-  B = bytes (g .tokens)
+  B = byte-count (g .tokens)
 
   scan-is : scan (c .pushed ++ (reported r ∷ [])) (room-at-first g) ≡ told r (room-left g (c .numbers) l .events) (room-left g (c .numbers) l .reports) (room-left g (c .numbers) l .pool)
   scan-is = scan-append (c .pushed) (reported r ∷ []) (room-at-first g) ∙ ap (λ (x : Fit). and-then x (scan (reported r ∷ []))) (f .room)
@@ -166,24 +166,24 @@ module _ (g : Ground) (m h : ℕ) (lab : Label) (c : Sofar) (s : State) (f : Fit
   unfolding coded pushes
   after-event false d fit p q =
       let more : length (g .reports) < length (rows-of g l) + REPORT-ROW = leb-false _ _ p in
-      let ev : room-left g (c .numbers) l .events ≡ suc ((length (g .events) - (length (c .numbers) + EVENT-ROW)) / EVENT-ROW) = omega arith in
-      let rp : room-left g (c .numbers) l .reports ≡ 0 = omega (arith, f .rows) in
-      stop (no-report-room (mark-of s)) (scan-is ∙ no-report r _ _ _ _ ev rp)
+      let event-room : room-left g (c .numbers) l .events ≡ suc ((length (g .events) - (length (c .numbers) + EVENT-ROW)) / EVENT-ROW) = omega arith in
+      let report-room : room-left g (c .numbers) l .reports ≡ 0 = omega (arith, f .rows) in
+      stop (no-report-room (mark-of s)) (scan-is ∙ no-report r _ _ _ _ event-room report-room)
       (subst (Refused (g .tokens) (no-report-room (mark-of s))) (sym (report-full g l s e′ m h range (span-of B lab) (no-row g l s n (f .rows) more))) (refused-report g e′ l s))
   after-event true false fit p q =
       let rows : length (rows-of g l) + REPORT-ROW ≤ length (g .reports) = leb-true _ _ p in
       let more : length (g .pool) < length (pool l) + n = leb-false _ _ q in
-      let ev : room-left g (c .numbers) l .events ≡ suc ((length (g .events) - (length (c .numbers) + EVENT-ROW)) / EVENT-ROW) = omega arith in
-      let rp : room-left g (c .numbers) l .reports ≡ suc ((length (g .reports) - (length (rows-of g l) + REPORT-ROW)) / REPORT-ROW) = omega arith in
-      stop (no-report-room (mark-of s)) (scan-is ∙ no-pool r _ _ _ _ _ ev rp (omega (arith, f .codes)))
+      let event-room : room-left g (c .numbers) l .events ≡ suc ((length (g .events) - (length (c .numbers) + EVENT-ROW)) / EVENT-ROW) = omega arith in
+      let report-room : room-left g (c .numbers) l .reports ≡ suc ((length (g .reports) - (length (rows-of g l) + REPORT-ROW)) / REPORT-ROW) = omega arith in
+      stop (no-report-room (mark-of s)) (scan-is ∙ no-pool r _ _ _ _ _ event-room report-room (omega (arith, f .codes)))
       (subst (Refused (g .tokens) (no-report-room (mark-of s))) (sym (report-full g l s e′ m h range (span-of B lab) (no-codes g l s n rows (f .codes) more))) (refused-report g e′ l s))
   after-event true true fit p q =
       let rows : length (rows-of g l) + REPORT-ROW ≤ length (g .reports) = leb-true _ _ p in
       let codes : length (pool l) + n ≤ length (g .pool) = leb-true _ _ q in
       let el : length e′ ≡ length (c .numbers) + EVENT-ROW = length-append (c .numbers) (ERROR ∷ 0 ∷ 0 ∷ []) in
-      let ev : room-left g (c .numbers) l .events ≡ suc ((length (g .events) - length e′) / EVENT-ROW) = omega arith in
-      let rp : room-left g (c .numbers) l .reports ≡ suc ((length (g .reports) - length (rows-of g (l ++ (r ∷ [])))) / REPORT-ROW) = omega (arith, rows-grow) in
-      let pl : room-left g (c .numbers) l .pool - n ≡ length (g .pool) - length (pool (l ++ (r ∷ []))) = omega (arith, pool-grows) in
+      let event-room : room-left g (c .numbers) l .events ≡ suc ((length (g .events) - length e′) / EVENT-ROW) = omega arith in
+      let report-room : room-left g (c .numbers) l .reports ≡ suc ((length (g .reports) - length (rows-of g (l ++ (r ∷ [])))) / REPORT-ROW) = omega (arith, rows-grow) in
+      let pool-room : room-left g (c .numbers) l .pool - n ≡ length (g .pool) - length (pool (l ++ (r ∷ []))) = omega (arith, pool-grows) in
       let row : report-row m h range (span-of B lab) (length (g .tokens) - length (s .since)) (length (pool l)) n ≡ low-rows (length (g .tokens)) B (0 + length (pool l)) (r ∷ []) =
       ap (λ (x : Span). report-row m h x (span-of B lab) (length (g .tokens) - length (s .since)) (length (pool l)) n) (range-is g (c .numbers) l s i)
       ∙ row-is (length (g .tokens)) B (length (pool l)) m h (mark-of s) (error-range s (s .rest)) lab (pool-of m (s .pending)) (g .limits .few) in
@@ -193,8 +193,8 @@ module _ (g : Ground) (m h : ℕ) (lab : Label) (c : Sofar) (s : State) (f : Fit
         rows = subst (λ (u : List Report). length (rows-of g u) ≤ length (g .reports)) (sym reports-are) (omega (arith, rows-grow));
         codes = subst (λ (u : List Report). length (pool u) ≤ length (g .pool)) (sym reports-are) (omega (arith, pool-grows));
         room =
-            scan-is ∙ all-told r _ _ _ _ _ ev rp (omega (arith, f .codes))
-            ∙ ap (λ (k : ℕ). fits (record { events = (length (g .events) - length e′) / EVENT-ROW; reports = (length (g .reports) - length (rows-of g (l ++ (r ∷ [])))) / REPORT-ROW; pool = k })) pl
+            scan-is ∙ all-told r _ _ _ _ _ event-room report-room (omega (arith, f .codes))
+            ∙ ap (λ (k : ℕ). fits (record { events = (length (g .events) - length e′) / EVENT-ROW; reports = (length (g .reports) - length (rows-of g (l ++ (r ∷ [])))) / REPORT-ROW; pool = k })) pool-room
             ∙ ap (λ (u : List Report). fits (room-left g e′ u)) (sym reports-are);
       })
       i
@@ -209,17 +209,17 @@ module _ (g : Ground) (m h : ℕ) (lab : Label) (c : Sofar) (s : State) (f : Fit
       (after-event _ _ fit refl refl)
   by-event false p =
       let more : length (g .events) < length (c .numbers) + EVENT-ROW = leb-false _ _ p in
-      let ev : room-left g (c .numbers) l .events ≡ 0 = omega (arith, f .events) in
-      stop (no-event-room (mark-of s)) (scan-is ∙ no-event r _ _ _ ev)
+      let event-room : room-left g (c .numbers) l .events ≡ 0 = omega (arith, f .events) in
+      stop (no-event-room (mark-of s)) (scan-is ∙ no-event r _ _ _ event-room)
       (s-write (g .tokens) (no-event-room (mark-of s)) m h range (span-of B lab) (push ERROR 0 (stand g c s))
       (subst (Refused (g .tokens) (no-event-room (mark-of s))) (sym (push-full g l s (c .numbers) ERROR 0 (f .events) more)) (refused-event g (c .numbers) l s)))
 
-pub emit-sim : (g : Ground) (m h : ℕ) (lab : Label) → Tracks g (λ s. do-emit m h lab (peeked s)) (λ x. said yes (M.emit (g .tokens) m h (span-of (bytes (g .tokens)) lab) x))
+pub emit-sim : (g : Ground) (m h : ℕ) (lab : Label) → Tracks g (λ s. do-emit m h lab (peeked s)) (λ x. said yes (M.emit (g .tokens) m h (span-of (byte-count (g .tokens)) lab) x))
 unfolding M.emit do-emit makes
 emit-sim g m h lab c s f i =
     let e = c .numbers in
     let l = reports (c .pushed) in
-    let B = bytes (g .tokens) in
+    let B = byte-count (g .tokens) in
     let j : Inside g (peeked s) = inside-peeked g s i in
     let o = do-emit m h lab (peeked s) in
     subst (λ (x : Machine). Sim g c o (said yes (write-report m h (M.error-range (rest (g .tokens) x) x) (span-of B lab) (push ERROR 0 x)))) (sym (peek-is g e l s i))

@@ -6,7 +6,7 @@ use mathlib.Core.Path.{_≡_, ap, _∙_}
 use mathlib.Core.List.{List, _∷_}
 use lib.ListN.{length}
 use Rattle.definitions.specs.Layout.{TWO-TO-32}
-use Rattle.definitions.specs.Token.{Token, bytes}
+use Rattle.definitions.specs.Token.{Token, byte-count}
 use Rattle.definitions.specs.Skeleton.{Report}
 use Rattle.definitions.specs.Run.{State, taken, peeked}
 use Rattle.definitions.specs.Report.{pool}
@@ -33,20 +33,20 @@ machine-at c a m b ks e r p = record { cursor = c; byte = a; mark = m; mark-byte
 
 -- the report numbers of a list of reports
 abbrev pub rows-of : Ground → List Report → List ℕ
-rows-of g l = low-rows (length (g .tokens)) (bytes (g .tokens)) 0 l
+rows-of g l = low-rows (length (g .tokens)) (byte-count (g .tokens)) 0 l
 
 -- e: the event numbers so far. l: the reports so far.
 unfoldable pub image : Ground → List ℕ → List Report → State → Machine
-unfolding bytes low-rows pool
+unfolding byte-count low-rows pool
 image g e l s =
-    machine-at (length (g .tokens) - length (s .rest)) (bytes (g .tokens) - bytes (s .rest)) (length (g .tokens) - length (s .since)) (bytes (g .tokens) - bytes (s .since)) (s .pending)
+    machine-at (length (g .tokens) - length (s .rest)) (byte-count (g .tokens) - byte-count (s .rest)) (length (g .tokens) - length (s .since)) (byte-count (g .tokens) - byte-count (s .since)) (s .pending)
     (written e (g .events)) (written (rows-of g l) (g .reports)) (written (pool l) (g .pool))
 
 -- the cursor and the last token taken are places of the file, the cursor no earlier
 pub record Inside (g : Ground) (s : State) : Type 0 where
   pub rest : Suffix (g .tokens) (s .rest)
   pub since : Suffix (g .tokens) (s .since)
-  pub order : bytes (s .rest) ≤ bytes (s .since)
+  pub order : byte-count (s .rest) ≤ byte-count (s .since)
 
 abbrev pub moved : State → List Token → State
 moved s l = record { rest = l; since = s .since; pending = s .pending }
@@ -76,9 +76,9 @@ module _ (g : Ground) (e : List ℕ) (l : List Report) (s : State) (t : Token) (
   index : length (g .tokens) - suc (length ts) + 1 ≡ length (g .tokens) - length ts
   index = next-index (length (g .tokens)) (length ts) (suffix-length (g .tokens) (t ∷ ts) p)
 
-  pub byte : low (bytes (g .tokens) - bytes (t ∷ ts) + t .len) ≡ bytes (g .tokens) - bytes ts
-  unfolding bytes
-  byte = next-byte (bytes (g .tokens)) (bytes ts) (t .len) (suffix-bytes (g .tokens) (t ∷ ts) p) (g .limits .short)
+  pub byte : low (byte-count (g .tokens) - byte-count (t ∷ ts) + t .len) ≡ byte-count (g .tokens) - byte-count ts
+  unfolding byte-count
+  byte = next-byte (byte-count (g .tokens)) (byte-count ts) (t .len) (suffix-bytes (g .tokens) (t ∷ ts) p) (g .limits .short)
 
   pub pass-is : passed t (image g e l (moved s (t ∷ ts))) ≡ image g e l (moved s ts)
   unfolding image

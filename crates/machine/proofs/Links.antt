@@ -12,7 +12,7 @@ use Rattle.definitions.specs.Skeleton.{Span}
 use Rattle.definitions.specs.Prog.{Ans, again, Rule, Prog, chain}
 use Rattle.definitions.specs.Run.{is-again, by-shape}
 use Rattle.machine.specs.Machine.{Machine, Marker, with-events, put-start, push, complete, precede}
-use Rattle.machine.specs.Walk.{Walked, said, marker, goes-on, link, links, chained, walk}
+use Rattle.machine.specs.Walk.{Walked, said, next-marker, goes-on, link, links, chained, walk}
 use Rattle.basics.proofs.Tests.{cond-all}
 use Rattle.machine.proofs.Turns.{ahead, Few, row-ahead, push-ahead}
 
@@ -42,13 +42,13 @@ links-fuel ts w (suc n) (suc j) f k m h g =
     ap (by-shape (f m .shape) (said (f m .ans) (push PLACEHOLDER 0 (f m .on))))
     (go (is-again (f m .ans)) (ltb (ahead ts (f m .on)) (ahead ts m)) refl
     (λ l. let q = link-ahead ts k (f m .shape) (f m .on) w in
-    links-fuel ts w n j f (marker LINKED-START-NODE (complete k (f m .shape) (f m .on))) (link k (f m .shape) (f m .on)) (omega (arith, h, l, q)) (omega (arith, g, l, q))))
+    links-fuel ts w n j f (next-marker LINKED-START-NODE (complete k (f m .shape) (f m .on))) (link k (f m .shape) (f m .on)) (omega (arith, h, l, q)) (omega (arith, g, l, q))))
   where
     x : Machine
     x = link k (f m .shape) (f m .on)
 
     next : Marker
-    next = marker LINKED-START-NODE (complete k (f m .shape) (f m .on))
+    next = next-marker LINKED-START-NODE (complete k (f m .shape) (f m .on))
 
     last : Walked
     last = said (f m .ans) (push PLACEHOLDER 0 x)
@@ -70,7 +70,7 @@ linked ask ts b q k m = links ts (suc (ahead ts m)) (walk ask ts b q) k m
 abbrev turned : List Token → ℕ → (Machine → Walked) → Marker → Machine → Walked → Walked
 turned ts n f k m w =
     by-shape (w .shape) (said (w .ans) (push PLACEHOLDER 0 (w .on)))
-    (cond (goes-on ts m w) (links ts n f (marker LINKED-START-NODE (complete k (w .shape) (w .on))) (link k (w .shape) (w .on))) (said (w .ans) (push PLACEHOLDER 0 (link k (w .shape) (w .on)))))
+    (cond (goes-on ts m w) (links ts n f (next-marker LINKED-START-NODE (complete k (w .shape) (w .on))) (link k (w .shape) (w .on))) (said (w .ans) (push PLACEHOLDER 0 (link k (w .shape) (w .on)))))
 
 module _ (ask : Rule → Machine → Walked) (ts : List Token) (b : Span) (q : Prog) (k : Marker) (m m′ : Machine) where
   came : (w : Walked) → w ≡ walk ask ts b q m → turned ts (ahead ts m) (walk ask ts b q) k m w ≡ linked ask ts b q k m
@@ -79,11 +79,11 @@ module _ (ask : Rule → Machine → Walked) (ts : List Token) (b : Span) (q : P
 
   -- a turn that answers again with a kind and moved the cursor: the chain from here is the chain from there
   pub link-again : (kind : ℕ) → Few ts → record { ans = again; shape = suc kind; on = m′ } ≡ walk ask ts b q m → ahead ts m′ < ahead ts m
-      → linked ask ts b q (marker LINKED-START-NODE (complete k (suc kind) m′)) (link k (suc kind) m′) ≡ linked ask ts b q k m
+      → linked ask ts b q (next-marker LINKED-START-NODE (complete k (suc kind) m′)) (link k (suc kind) m′) ≡ linked ask ts b q k m
   unfolding linked goes-on is-again by-shape
   link-again kind w e h =
       let l = link-ahead ts k (suc kind) m′ w in
-      let next = marker LINKED-START-NODE (complete k (suc kind) m′) in
+      let next = next-marker LINKED-START-NODE (complete k (suc kind) m′) in
       let x = link k (suc kind) m′ in
       links-fuel ts w (suc (ahead ts x)) (ahead ts m) (walk ask ts b q) next x (omega arith) (omega (arith, l, h))
       ∙ sym (ap (λ (g : Bool). cond g (links ts (ahead ts m) (walk ask ts b q) next x) (said again (push PLACEHOLDER 0 x))) (lt-ltb _ _ h))
@@ -94,7 +94,7 @@ module _ (ask : Rule → Machine → Walked) (ts : List Token) (b : Span) (q : P
   unfolding goes-on by-shape
   link-last kind a i e =
       let x = link k (suc kind) m′ in
-      sym (ap (λ (g : Bool). cond (g && ltb (ahead ts m′) (ahead ts m)) (links ts (ahead ts m) (walk ask ts b q) (marker LINKED-START-NODE (complete k (suc kind) m′)) x) (said a (push PLACEHOLDER 0 x))) i)
+      sym (ap (λ (g : Bool). cond (g && ltb (ahead ts m′) (ahead ts m)) (links ts (ahead ts m) (walk ask ts b q) (next-marker LINKED-START-NODE (complete k (suc kind) m′)) x) (said a (push PLACEHOLDER 0 x))) i)
       ∙ came (record { ans = a; shape = suc kind; on = m′ }) e
 
   -- a turn without a kind ends the chain
@@ -103,14 +103,14 @@ module _ (ask : Rule → Machine → Walked) (ts : List Token) (b : Span) (q : P
   link-stop a e = came (said a m′) e
 
 module _ (ask : Rule → Machine → Walked) (ts : List Token) (b : Span) (p q : Prog) (m m′ : Machine) where
-  -- the first part answers again: the links follow
-  pub chain-on : said again m′ ≡ walk ask ts b p (push PLACEHOLDER 0 m) → linked ask ts b q (marker START-NODE m) m′ ≡ walk ask ts b (chain p q) m
+  -- the first program answers again: the links follow
+  pub chain-on : said again m′ ≡ walk ask ts b p (push PLACEHOLDER 0 m) → linked ask ts b q (next-marker START-NODE m) m′ ≡ walk ask ts b (chain p q) m
   unfolding walk chained linked is-again
-  chain-on e = ap (chained ts (walk ask ts b q) (marker START-NODE m)) e
+  chain-on e = ap (chained ts (walk ask ts b q) (next-marker START-NODE m)) e
 
   -- it answers anything else: there are none
   pub chain-off : (a : Ans) → is-again a ≡ false → said a m′ ≡ walk ask ts b p (push PLACEHOLDER 0 m) → said a (push PLACEHOLDER 0 m′) ≡ walk ask ts b (chain p q) m
   unfolding walk chained
   chain-off a i e =
-      sym (ap (λ (g : Bool). cond g (links ts (suc (ahead ts m′)) (walk ask ts b q) (marker START-NODE m) m′) (said a (push PLACEHOLDER 0 m′))) i)
-      ∙ ap (chained ts (walk ask ts b q) (marker START-NODE m)) e
+      sym (ap (λ (g : Bool). cond g (links ts (suc (ahead ts m′)) (walk ask ts b q) (next-marker START-NODE m) m′) (said a (push PLACEHOLDER 0 m′))) i)
+      ∙ ap (chained ts (walk ask ts b q) (next-marker START-NODE m)) e

@@ -17,7 +17,7 @@ use Rattle.definitions.specs.Report.{Push, event, pushes, reports, fits, scan, 
 use Rattle.laws.proofs.Skeleton.{pushes-join}
 use Rattle.basics.specs.Word.{low}
 use Rattle.machine.specs.Machine.{Machine, Marker, push, complete, precede}
-use Rattle.machine.specs.Walk.{Walked, said, marker, close}
+use Rattle.machine.specs.Walk.{Walked, said, next-marker, close}
 use Rattle.machine.specs.Walk as W
 use Rattle.machine.specs.Encode.{start-tag}
 use Rattle.machine.specs.Outcome.{Refused}
@@ -82,7 +82,7 @@ module _ (g : Ground) (c : Sofar) (a : Skeleton) (m : ℕ) (i : Skeleton) (s : S
   ignore-sim =
       subst (λ (y : Sofar). Meets g y x 0 s (said x (push PLACEHOLDER 0 (stand g (opened c a m i) s)))) (opened-ignored c a m i (mark-of s)) (push-meets g (opened c a m i) f s PLACEHOLDER 0 x 0 h)
 
-  pub complete-sim : (k : Marker) (kind : ℕ) → k .place ≡ length (c .numbers ++ coded true a) → k .tag ≡ start-tag a
+  pub complete-sim : (k : Marker) (kind : ℕ) → k .index ≡ length (c .numbers ++ coded true a) → k .tag ≡ start-tag a
       → Meets g (grow c (node kind m (mark-of s) a i done)) x 0 s (said x (complete k kind (stand g (opened c a m i) s)))
   complete-sim k kind e t =
       let p = c .numbers ++ coded true a in
@@ -98,9 +98,9 @@ module _ (g : Ground) (c : Sofar) (a : Skeleton) (m : ℕ) (i : Skeleton) (s : S
       (push-meets g (started c a m i kind) (fitting-alike g (opened c a m i .numbers) (started c a m i kind .numbers) (opened c a m i .pushed) n f) s FINISH-NODE 0 x 0 h))
 
   -- completed or ignored
-  pub close-sim : (k : Marker) (shape : ℕ) → k .place ≡ length (c .numbers ++ coded true a) → k .tag ≡ start-tag a
-      → Meets g (grow c (closed shape m (mark-of s) a i)) x 0 s (W.closed k (record { ans = x; shape = shape; on = stand g (opened c a m i) s }))
-  unfolding closed W.closed close
+  pub close-sim : (k : Marker) (shape : ℕ) → k .index ≡ length (c .numbers ++ coded true a) → k .tag ≡ start-tag a
+      → Meets g (grow c (closed shape m (mark-of s) a i)) x 0 s (W.marked k (record { ans = x; shape = shape; on = stand g (opened c a m i) s }))
+  unfolding closed W.marked close
   close-sim k zero e t = ignore-sim
   close-sim k (suc n) e t = complete-sim k (suc n) e t
 
@@ -111,20 +111,20 @@ unfolding closed pushes
 begins-closed zero m m′ a i = record { more = event m′ ∷ []; joins = append-assoc (pushes a) (event m ∷ pushes i) (event m′ ∷ []) }
 begins-closed (suc k) m m′ a i = record { more = event m′ ∷ []; joins = append-assoc (pushes a) (event m ∷ pushes i) (event m′ ∷ []) }
 
-pub start-place : (g : Ground) (c : Sofar) (s : State) → marker START-NODE (stand g c s) .place ≡ length (c .numbers ++ coded true done)
+pub start-index : (g : Ground) (c : Sofar) (s : State) → next-marker START-NODE (stand g c s) .index ≡ length (c .numbers ++ coded true done)
 unfolding image coded
-start-place g c s = simp length-append (omega arith)
+start-index g c s = simp length-append (omega arith)
 
-pub mark-sim : (g : Ground) (f : State → Out) (h : Machine → Walked) → Tracks g f h → Sticks (g .tokens) h → Tracks g (λ s. marked s (f s)) (λ m. W.closed (marker START-NODE m) (h (push PLACEHOLDER 0 m)))
+pub mark-sim : (g : Ground) (f : State → Out) (h : Machine → Walked) → Tracks g f h → Sticks (g .tokens) h → Tracks g (λ s. marked s (f s)) (λ m. W.marked (next-marker START-NODE m) (h (push PLACEHOLDER 0 m)))
 unfolding marked makes coded pushes _⧺_
 mark-sim g f h t st c s fit i =
     let M = stand g c s in
-    let k = marker START-NODE M in
+    let k = next-marker START-NODE M in
     let m = mark-of s in
     let o = f s in
     let m′ = mark-of (o .state) in
     let end = grow c (closed (o .shape) m m′ done (o .made)) in
-    let w = W.closed k (h (push PLACEHOLDER 0 M)) in
+    let w = W.marked k (h (push PLACEHOLDER 0 M)) in
     let mid = opened c done m (o .made) in
     let b₂ : Begins (mid .pushed) (end .pushed) = begins-behind (c .pushed) (event m ∷ pushes (o .made)) (pushes (closed (o .shape) m m′ done (o .made))) (begins-closed (o .shape) m m′ done (o .made)) in
     let b₁ : Begins (opened c done m done .pushed) (mid .pushed) = begins-behind (c .pushed) (event m ∷ []) (event m ∷ pushes (o .made)) (begins-with (event m ∷ []) (pushes (o .made))) in
@@ -135,8 +135,8 @@ mark-sim g f h t st c s fit i =
     meets-then g mid end (o .ans) (o .ans) (o .shape) 0 (o .state) (o .state) (h (push PLACEHOLDER 0 M)) w b₂
     (subst (λ (v : Walked). Meets g mid (o .ans) (o .shape) (o .state) (h (v .on))) (sym e₁)
     (subst (λ (y : Sofar). Meets g y (o .ans) (o .shape) (o .state) (h (stand g (opened c done m done) s))) (opened-grow c done m done (o .made)) (t (opened c done m done) s fit₁ i₁)))
-    (λ fit₂ i₂ e₂. subst (λ (v : Walked). Meets g end (o .ans) 0 (o .state) (W.closed k v)) (sym e₂)
-    (close-sim g c done m (o .made) (o .state) fit₂ i₂ (o .ans) k (o .shape) (start-place g c s) refl))
+    (λ fit₂ i₂ e₂. subst (λ (v : Walked). Meets g end (o .ans) 0 (o .state) (W.marked k v)) (sym e₂)
+    (close-sim g c done m (o .made) (o .state) fit₂ i₂ (o .ans) k (o .shape) (start-index g c s) refl))
     (λ r q. s-closed (g .tokens) r k (h (push PLACEHOLDER 0 M)) q))
     (λ r q. s-closed (g .tokens) r k (h (push PLACEHOLDER 0 M)) (st r (push PLACEHOLDER 0 M) q))
 
@@ -151,7 +151,7 @@ pub linked-length : (c : Sofar) (kind m m′ : ℕ) (a i : Skeleton) → length 
 unfolding coded
 linked-length c kind m m′ a i = simp length-append
 
-module _ (g : Ground) (c : Sofar) (kind m m′ : ℕ) (a i : Skeleton) (s : State) (f : Fitting g (grow c (node kind m m′ a i done))) (h : Inside g s) (x : Ans) (k : Marker) (e : k .place ≡ length (c .numbers ++ coded true a)) where
+module _ (g : Ground) (c : Sofar) (kind m m′ : ℕ) (a i : Skeleton) (s : State) (f : Fitting g (grow c (node kind m m′ a i done))) (h : Inside g s) (x : Ans) (k : Marker) (e : k .index ≡ length (c .numbers ++ coded true a)) where
   abbrev N : Skeleton
   N = node kind m m′ a i done
 

@@ -36,12 +36,12 @@ peek-is g e l s h = ap (λ (ts : List Token). skip ts (image g e l s)) (rest-is 
 
 -- ---------------------------------------------------------------- the tokens of a name
 
-pub run-part : (g : Ground) (ks : List ℕ) (ts : List Token) → Suffix (g .tokens) ts → Suffix (g .tokens) (run-of ks ts .after)
+pub run-suffix : (g : Ground) (ks : List ℕ) (ts : List Token) → Suffix (g .tokens) ts → Suffix (g .tokens) (run-of ks ts .after)
 unfolding run-of
-run-part g ks [] p = p
-run-part g ks (t ∷ ts) p =
+run-suffix g ks [] p = p
+run-suffix g ks (t ∷ ts) p =
     cond-all (λ (r : Run). Suffix (g .tokens) (r .after)) (one-of ks (seen t)) {x = record { raw = t ∷ run-of ks ts .raw; after = run-of ks ts .after }} {y = record { raw = []; after = t ∷ ts }}
-    (run-part g ks ts (suffix-tail (g .tokens) ts t p)) p
+    (run-suffix g ks ts (suffix-tail (g .tokens) ts t p)) p
 
 run-length : (ks : List ℕ) (ts : List Token) → length (run-of ks ts .raw) + length (run-of ks ts .after) ≡ length ts
 unfolding run-of

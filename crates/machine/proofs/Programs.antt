@@ -4,7 +4,7 @@ use mathlib.Core.Path.{sym, subst}
 use mathlib.Core.List.{[], _∷_}
 use lib.Dec.{ltb}
 use Rattle.definitions.specs.Errors as E
-use Rattle.definitions.specs.Token.{past, ended, first-in, bytes}
+use Rattle.definitions.specs.Token.{past, ended, first-in, byte-count}
 use Rattle.definitions.specs.Skeleton.{Span, Label, no-label}
 use Rattle.definitions.specs.Prog.{Rule, Act, silent-at, at-end, immediate, immediate-next, add-expected, bump, bump-name, bump-argument, emit, emit-unclosed, less, Prog, ret, act, _⨟_, case, in-marker, loop, chain, brace, open-call}
 use Rattle.definitions.specs.Grammar.{grammar}
@@ -26,7 +26,7 @@ use Rattle.machine.proofs.Chains.{chain-sim}
 
 -- a label, in the machine's numbers
 abbrev pub lab : Ground → Label → Span
-lab g b = span-of (bytes (g .tokens)) b
+lab g b = span-of (byte-count (g .tokens)) b
 
 pub act-sim : (g : Ground) (b : Label) (a : Act) → Tracks g (perform b a) (W.perform (g .tokens) (lab g b) a)
 unfolding perform W.perform answer

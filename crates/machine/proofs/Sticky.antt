@@ -19,7 +19,7 @@ use Rattle.definitions.specs.Run.{is-again, by-shape}
 use Rattle.basics.proofs.Tests.{cond-all}
 use Rattle.machine.specs.Machine.{Machine, Marker, rest, with-pending, with-refusal, passed, skip, peek, took, range-at, refuse, expect-code, push-row, push, complete, precede, bump-first, name-run, name-first, write-report}
 use Rattle.machine.specs.Machine as M
-use Rattle.machine.specs.Walk.{Walked, said, at-depth, argument, unlabelled, perform, choose, marker, close, closed, goes-on, iter, link, links, chained, walk, walk-rule}
+use Rattle.machine.specs.Walk.{Walked, said, at-depth, argument, unlabelled, perform, choose, next-marker, close, marked, goes-on, iter, link, links, chained, walk, walk-rule}
 use Rattle.machine.specs.Outcome.{Refused}
 
 -- whatever is refused stays so
@@ -30,7 +30,7 @@ Sticks ts g = (r : Refusal) (m : Machine) → Refused ts r m → Refused ts r (g
 abbrev pub turn : List Token → ℕ → (Machine → Walked) → Marker → Machine → Walked → Walked
 turn ts n f k m w =
     by-shape (w .shape) (said (w .ans) (push PLACEHOLDER 0 (w .on)))
-    (cond (goes-on ts m w) (links ts n f (marker LINKED-START-NODE (complete k (w .shape) (w .on))) (link k (w .shape) (w .on))) (said (w .ans) (push PLACEHOLDER 0 (link k (w .shape) (w .on)))))
+    (cond (goes-on ts m w) (links ts n f (next-marker LINKED-START-NODE (complete k (w .shape) (w .on))) (link k (w .shape) (w .on))) (said (w .ans) (push PLACEHOLDER 0 (link k (w .shape) (w .on)))))
 
 module _ (ts : List Token) (r : Refusal) where
   on : (m : Machine) → Refused ts r m → eqb (m .refusal) 0 ≡ false
@@ -150,8 +150,8 @@ module _ (ts : List Token) (r : Refusal) where
 
   -- ---------------------------------------------------------------- programs
 
-  pub s-closed : (k : Marker) (w : Walked) → Refused ts r (w .on) → Refused ts r (closed k w .on)
-  unfolding closed close
+  pub s-closed : (k : Marker) (w : Walked) → Refused ts r (w .on) → Refused ts r (marked k w .on)
+  unfolding marked close
   s-closed k w h = by (w .shape)
     where
       by : (n : ℕ) → Refused ts r (close k n (w .on))
@@ -180,7 +180,7 @@ module _ (ts : List Token) (r : Refusal) where
   s-turn-with n f g k m w h =
       let x = link k (w .shape) (w .on) in
       let q : Refused ts r x = s-link k (w .shape) (w .on) h in
-      let next = marker LINKED-START-NODE (complete k (w .shape) (w .on)) in
+      let next = next-marker LINKED-START-NODE (complete k (w .shape) (w .on)) in
       let more = links ts n f next x in
       let last : Walked = said (w .ans) (push PLACEHOLDER 0 x) in
       shaped (w .shape) (said (w .ans) (push PLACEHOLDER 0 (w .on))) (cond (goes-on ts m w) more last) (s-push PLACEHOLDER 0 (w .on) h)
@@ -207,10 +207,10 @@ module _ (ts : List Token) (r : Refusal) where
   s-walk ask k b (p ⨟ q) m h = s-walk ask k b q (walk ask ts b p m .on) (s-walk ask k b p m h)
   s-walk ask k b (case c n y a) m h =
       s-choose (walk ask ts b c m .ans) (walk ask ts b n) (walk ask ts b y) (walk ask ts b a) (s-walk ask k b n) (s-walk ask k b y) (s-walk ask k b a) (walk ask ts b c m .on) (s-walk ask k b c m h)
-  s-walk ask k b (in-marker p) m h = s-closed (marker START-NODE m) (walk ask ts b p (push PLACEHOLDER 0 m)) (s-walk ask k b p (push PLACEHOLDER 0 m) (s-push PLACEHOLDER 0 m h))
+  s-walk ask k b (in-marker p) m h = s-closed (next-marker START-NODE m) (walk ask ts b p (push PLACEHOLDER 0 m)) (s-walk ask k b p (push PLACEHOLDER 0 m) (s-push PLACEHOLDER 0 m h))
   s-walk ask k b (loop p) m h = s-iter (suc (length (rest ts m))) (walk ask ts b p) (s-walk ask k b p) m h
   s-walk ask k b (chain p q) m h =
-      s-chained (walk ask ts b q) (s-walk ask k b q) (marker START-NODE m) (walk ask ts b p (push PLACEHOLDER 0 m)) (s-walk ask k b p (push PLACEHOLDER 0 m) (s-push PLACEHOLDER 0 m h))
+      s-chained (walk ask ts b q) (s-walk ask k b q) (next-marker START-NODE m) (walk ask ts b p (push PLACEHOLDER 0 m)) (s-walk ask k b p (push PLACEHOLDER 0 m) (s-push PLACEHOLDER 0 m h))
   s-walk ask k b (brace p) m h = s-walk ask k (range-at (rest ts m) m) p m h
   s-walk ask k b (open-call c) m h = k c m h
 

@@ -10,7 +10,7 @@ use lib.ListN.{length, length-append}
 use lib.Seq.{sets}
 use borrow.Author.Tests.{le-leb, lt-leb}
 use Rattle.definitions.specs.Layout.{EVENT-ROW, EVENT-DISTANCE, REPORT-ROW, PLACEHOLDER, FINISH-NODE, NO-EVENT-ROOM, NO-REPORT-ROOM}
-use Rattle.definitions.specs.Token.{bytes}
+use Rattle.definitions.specs.Token.{byte-count}
 use Rattle.definitions.specs.Skeleton.{Span, Report}
 use Rattle.definitions.specs.Run.{State, pool-of}
 use Rattle.definitions.specs.Report.{pool}
@@ -56,7 +56,7 @@ module _ (g : Ground) (l : List Report) (s : State) where
   -- ---------------------------------------------------------------- a marker completed
 
   -- the placeholder after p becomes a start
-  start-is : (p f : List ℕ) (k : Marker) (kind : ℕ) → k .place ≡ length p → length (p ++ (PLACEHOLDER ∷ 0 ∷ 0 ∷ f)) ≤ length (g .events)
+  start-is : (p f : List ℕ) (k : Marker) (kind : ℕ) → k .index ≡ length p → length (p ++ (PLACEHOLDER ∷ 0 ∷ 0 ∷ f)) ≤ length (g .events)
       → with-events (record { count = length (p ++ (PLACEHOLDER ∷ 0 ∷ 0 ∷ f)); numbers = put-start k kind (onto (p ++ (PLACEHOLDER ∷ 0 ∷ 0 ∷ f)) (g .events)) }) (image g (p ++ (PLACEHOLDER ∷ 0 ∷ 0 ∷ f)) l s)
       ≡ image g (p ++ (k .tag ∷ kind ∷ 0 ∷ f)) l s
   unfolding image
@@ -72,7 +72,7 @@ module _ (g : Ground) (l : List Report) (s : State) where
       ap (λ (x : List ℕ). with-events (record { count = length (p ++ (PLACEHOLDER ∷ 0 ∷ 0 ∷ f)); numbers = x }) m) t
       ∙ ap (λ (i : ℕ). with-events (record { count = i; numbers = onto (p ++ (k .tag ∷ kind ∷ 0 ∷ f)) (g .events) }) m) c
 
-  pub complete-is : (p f : List ℕ) (k : Marker) (kind : ℕ) → k .place ≡ length p → length (p ++ (PLACEHOLDER ∷ 0 ∷ 0 ∷ f)) ≤ length (g .events)
+  pub complete-is : (p f : List ℕ) (k : Marker) (kind : ℕ) → k .index ≡ length p → length (p ++ (PLACEHOLDER ∷ 0 ∷ 0 ∷ f)) ≤ length (g .events)
       → complete k kind (image g (p ++ (PLACEHOLDER ∷ 0 ∷ 0 ∷ f)) l s) ≡ push FINISH-NODE 0 (image g (p ++ (k .tag ∷ kind ∷ 0 ∷ f)) l s)
   unfolding complete push image
   complete-is p f k kind e h = ap (λ (m : Machine). push-row FINISH-NODE 0 m) (start-is p f k kind e h)
@@ -105,7 +105,7 @@ module _ (g : Ground) (l : List Report) (s : State) where
       ∙ ap (λ (u : List ℕ). onto u (g .events)) (sym (v d))
       ∙ ap (λ (i : ℕ). onto ((p ++ (x ∷ y ∷ low i ∷ f)) ++ r) (g .events)) (gap p f x y z)
 
-  pub precede-fits : (p f : List ℕ) (x y z : ℕ) (k : Marker) → k .place ≡ length p → length (p ++ (x ∷ y ∷ z ∷ f)) + EVENT-ROW ≤ length (g .events)
+  pub precede-fits : (p f : List ℕ) (x y z : ℕ) (k : Marker) → k .index ≡ length p → length (p ++ (x ∷ y ∷ z ∷ f)) + EVENT-ROW ≤ length (g .events)
       → precede k (image g (p ++ (x ∷ y ∷ z ∷ f)) l s) ≡ image g ((p ++ (x ∷ y ∷ low (suc (length f / EVENT-ROW)) ∷ f)) ++ (PLACEHOLDER ∷ 0 ∷ 0 ∷ [])) l s
   unfolding precede image
   precede-fits p f x y z k e h =
@@ -115,7 +115,7 @@ module _ (g : Ground) (l : List Report) (s : State) where
       let m = image g (E ++ r) l s in
       let c : length (E ++ r) ≡ length (D ++ r) = simp length-append in
       let b : length (E ++ r) ≤ length (g .events) = omega (arith, h, length-append E r) in
-      ap (λ (q : Machine). cond (eqb (q .refusal) 0) (with-events (record { count = q .events .count; numbers = put-link (k .place) (length E) (q .events .numbers) }) q) q) (push-fits E PLACEHOLDER 0 h)
+      ap (λ (q : Machine). cond (eqb (q .refusal) 0) (with-events (record { count = q .events .count; numbers = put-link (k .index) (length E) (q .events .numbers) }) q) q) (push-fits E PLACEHOLDER 0 h)
       ∙ ap (λ (i : ℕ). with-events (record { count = length (E ++ r); numbers = put-link i (length E) (onto (E ++ r) (g .events)) }) m) e
       ∙ ap (λ (o : List ℕ). with-events (record { count = length (E ++ r); numbers = o }) m) (link-is p f x y z b)
       ∙ ap (λ (i : ℕ). with-events (record { count = i; numbers = onto (D ++ r) (g .events) }) m) c
@@ -123,14 +123,14 @@ module _ (g : Ground) (l : List Report) (s : State) where
   pub precede-full : (e : List ℕ) (k : Marker) → length e ≤ length (g .events) → length (g .events) < length e + EVENT-ROW → precede k (image g e l s) ≡ refuse NO-EVENT-ROOM (image g e l s)
   unfolding precede image refuse
   precede-full e k a h =
-      ap (λ (q : Machine). cond (eqb (q .refusal) 0) (with-events (record { count = q .events .count; numbers = put-link (k .place) (length e) (q .events .numbers) }) q) q) (push-full e PLACEHOLDER 0 a h)
+      ap (λ (q : Machine). cond (eqb (q .refusal) 0) (with-events (record { count = q .events .count; numbers = put-link (k .index) (length e) (q .events .numbers) }) q) q) (push-full e PLACEHOLDER 0 a h)
 
   -- ---------------------------------------------------------------- a report written
 
   -- r: the report; the machine makes the same row of it
   pub report-fits : (e : List ℕ) (message hint : ℕ) (range lab : Span) (r : Report) → r .pool ≡ pool-of message (s .pending)
       → report-row message hint range lab (length (g .tokens) - length (s .since)) (length (pool l)) (length (pool-of message (s .pending)))
-      ≡ low-rows (length (g .tokens)) (bytes (g .tokens)) (0 + length (pool l)) (r ∷ [])
+      ≡ low-rows (length (g .tokens)) (byte-count (g .tokens)) (0 + length (pool l)) (r ∷ [])
       → length (rows-of g l) + REPORT-ROW ≤ length (g .reports) → length (pool l) + length (pool-of message (s .pending)) ≤ length (g .pool)
       → write-report message hint range lab (image g e l s) ≡ image g e (l ++ (r ∷ [])) s
   unfolding write-report image pool
@@ -139,16 +139,16 @@ module _ (g : Ground) (l : List Report) (s : State) where
       let codes = pool-of message (s .pending) in
       let m = image g e l s in
       let line : List ℕ = report-row message hint range lab (n - length (s .since)) (length (pool l)) (length codes) in
-      let rp = rows-of g l in
-      let R : Buffer = record { count = length rp + REPORT-ROW; numbers = sets (onto rp (g .reports)) (length rp) line } in
+      let rows = rows-of g l in
+      let R : Buffer = record { count = length rows + REPORT-ROW; numbers = sets (onto rows (g .reports)) (length rows) line } in
       let P : Buffer = record { count = length (pool l) + length codes; numbers = sets (onto (pool l) (g .pool)) (length (pool l)) codes } in
-      let t : (fits (length (onto rp (g .reports))) (length rp) REPORT-ROW && fits (length (onto (pool l) (g .pool))) (length (pool l)) (length codes)) ≡ true =
-      rw (length-onto rp (g .reports) (omega arith), length-onto (pool l) (g .pool) (omega arith), fits-true (length (g .reports)) (length rp) REPORT-ROW h, fits-true (length (g .pool)) (length (pool l)) (length codes) k) in
-      let u : rp ++ line ≡ rows-of g (l ++ (r ∷ [])) = ap (λ (x : List ℕ). rp ++ x) row ∙ sym (low-rows-append n (bytes (g .tokens)) 0 l (r ∷ [])) in
+      let t : (fits (length (onto rows (g .reports))) (length rows) REPORT-ROW && fits (length (onto (pool l) (g .pool))) (length (pool l)) (length codes)) ≡ true =
+      rw (length-onto rows (g .reports) (omega arith), length-onto (pool l) (g .pool) (omega arith), fits-true (length (g .reports)) (length rows) REPORT-ROW h, fits-true (length (g .pool)) (length (pool l)) (length codes) k) in
+      let u : rows ++ line ≡ rows-of g (l ++ (r ∷ [])) = ap (λ (x : List ℕ). rows ++ x) row ∙ sym (low-rows-append n (byte-count (g .tokens)) 0 l (r ∷ [])) in
       let v : pool l ++ codes ≡ pool (l ++ (r ∷ [])) = ap (λ (x : List ℕ). pool l ++ x) (sym same ∙ sym (append-nil (r .pool))) ∙ sym (pool-append l (r ∷ [])) in
       ap (λ (b : Bool). cond b (with-reports R P m) (refuse NO-REPORT-ROOM m)) t
-      ∙ ap (λ (x : Buffer). with-reports x P m) (row-behind rp line (g .reports) REPORT-ROW refl h)
-      ∙ ap (λ (x : Buffer). with-reports (written (rp ++ line) (g .reports)) x m) (row-behind (pool l) codes (g .pool) (length codes) refl k)
+      ∙ ap (λ (x : Buffer). with-reports x P m) (row-behind rows line (g .reports) REPORT-ROW refl h)
+      ∙ ap (λ (x : Buffer). with-reports (written (rows ++ line) (g .reports)) x m) (row-behind (pool l) codes (g .pool) (length codes) refl k)
       ∙ ap (λ (x : List ℕ). with-reports (written x (g .reports)) (written (pool l ++ codes) (g .pool)) m) u
       ∙ ap (λ (x : List ℕ). with-reports (written (rows-of g (l ++ (r ∷ []))) (g .reports)) (written x (g .pool)) m) v
 
@@ -160,9 +160,9 @@ module _ (g : Ground) (l : List Report) (s : State) where
   report-full e message hint range lab c =
       let codes = pool-of message (s .pending) in
       let m = image g e l s in
-      let rp = rows-of g l in
+      let rows = rows-of g l in
       let line : List ℕ = report-row message hint range lab (length (g .tokens) - length (s .since)) (length (pool l)) (length codes) in
-      let R : Buffer = record { count = length rp + REPORT-ROW; numbers = sets (onto rp (g .reports)) (length rp) line } in
+      let R : Buffer = record { count = length rows + REPORT-ROW; numbers = sets (onto rows (g .reports)) (length rows) line } in
       let P : Buffer = record { count = length (pool l) + length codes; numbers = sets (onto (pool l) (g .pool)) (length (pool l)) codes } in
       ap (λ (b : Bool). cond b (with-reports R P m) (refuse NO-REPORT-ROOM m)) c
 

@@ -5,7 +5,7 @@ use mathlib.Core.Path.{_≡_, refl, sym, ap, _∙_, subst}
 use mathlib.Core.List.{List, [], _∷_, _++_, append-assoc}
 use lib.ListN.{length, drop, length-append}
 use lib.Seq.{drop-append-seam}
-use Rattle.definitions.specs.Token.{Token, trivia, drop-trivia, bytes}
+use Rattle.definitions.specs.Token.{Token, trivia, drop-trivia, byte-count}
 use Rattle.basics.proofs.Tests.{cond-all}
 use Rattle.laws.proofs.Skeleton.{bytes-append}
 use Rattle.machine.specs.Outcome.{Filled}
@@ -23,8 +23,8 @@ suffix-tail ts l t p = record { front = p .front ++ (t ∷ []); joins = append-a
 pub suffix-length : (ts l : List Token) → Suffix ts l → length l ≤ length ts
 suffix-length ts l p = let e : length (p .front) + length l ≡ length ts = sym (length-append (p .front) l) ∙ ap length (p .joins) in omega arith
 
-pub suffix-bytes : (ts l : List Token) → Suffix ts l → bytes l ≤ bytes ts
-suffix-bytes ts l p = let e : bytes (p .front) + bytes l ≡ bytes ts = sym (bytes-append (p .front) l) ∙ ap bytes (p .joins) in omega arith
+pub suffix-bytes : (ts l : List Token) → Suffix ts l → byte-count l ≤ byte-count ts
+suffix-bytes ts l p = let e : byte-count (p .front) + byte-count l ≡ byte-count ts = sym (bytes-append (p .front) l) ∙ ap byte-count (p .joins) in omega arith
 
 -- dropped up to there
 pub suffix-drop : (ts l : List Token) → Suffix ts l → drop (length ts - length l) ts ≡ l
@@ -46,11 +46,11 @@ unfolding drop-trivia
 suffix-trivia ts [] p = p
 suffix-trivia ts (t ∷ l) p = cond-all (Suffix ts) (trivia t) {x = drop-trivia l} {y = t ∷ l} (suffix-trivia ts l (suffix-tail ts l t p)) p
 
-pub bytes-trivia : (l : List Token) → bytes (drop-trivia l) ≤ bytes l
-unfolding drop-trivia bytes
+pub bytes-trivia : (l : List Token) → byte-count (drop-trivia l) ≤ byte-count l
+unfolding drop-trivia byte-count
 bytes-trivia [] = omega arith
-bytes-trivia (t ∷ l) = cond-all (λ (u : List Token). bytes u ≤ t .len + bytes l) (trivia t) {x = drop-trivia l} {y = t ∷ l} (omega (arith, bytes-trivia l)) (omega arith)
+bytes-trivia (t ∷ l) = cond-all (λ (u : List Token). byte-count u ≤ t .len + byte-count l) (trivia t) {x = drop-trivia l} {y = t ∷ l} (omega (arith, bytes-trivia l)) (omega arith)
 
-pub bytes-first : (t : Token) (l : List Token) → bytes (t ∷ l) ≡ t .len + bytes l
-unfolding bytes
+pub bytes-first : (t : Token) (l : List Token) → byte-count (t ∷ l) ≡ t .len + byte-count l
+unfolding byte-count
 bytes-first t l = refl

@@ -23,7 +23,7 @@ use Rattle.machine.specs.Outcome.{Refused}
 use Rattle.machine.proofs.Coded.{coded}
 use Rattle.machine.proofs.Suffix.{Suffix, suffix-tail}
 use Rattle.machine.proofs.Image.{Ground, image, Inside, moved, rest-is, inside-taken, inside-peeked, took-is}
-use Rattle.machine.proofs.Moves.{peek-is, run-part, name-run-is, name-count}
+use Rattle.machine.proofs.Moves.{peek-is, run-suffix, name-run-is, name-count}
 use Rattle.machine.proofs.Meets.{Sofar, Fitting, stand, Meets, goes, stop, grow, grow-done, Sim, Tracks, room-at-first, push-meets}
 
 -- nothing written
@@ -100,7 +100,7 @@ name-sim g ks c s (t ∷ l) f i =
     ap (name-run ks l) (took-is g e u s t l (i .rest)) ∙ name-run-is g e u ks l p in
     subst (λ (m : Machine). Meets g (grow c o) yes 0 (taken (r .after)) (said yes (push ADD-COMBINED-TOKEN (low (m .cursor - stand g c (moved s (t ∷ l)) .cursor)) m))) (sym is)
     (subst (λ (n : ℕ). Meets g (grow c o) yes 0 (taken (r .after)) (said yes (push ADD-COMBINED-TOKEN n (stand g c (taken (r .after)))))) (sym (name-count g e u s ks t l (i .rest)))
-    (push-meets g c f (taken (r .after)) ADD-COMBINED-TOKEN (length (t ∷ r .raw)) yes 0 (inside-taken g (r .after) (run-part g ks l p))))
+    (push-meets g c f (taken (r .after)) ADD-COMBINED-TOKEN (length (t ∷ r .raw)) yes 0 (inside-taken g (r .after) (run-suffix g ks l p))))
 
 pub bump-sim : (g : Ground) → Tracks g (λ s. do-bump (peeked s) (peeked s .rest)) (λ m. said yes (M.bump (g .tokens) m))
 unfolding M.bump peeked

@@ -25,15 +25,15 @@ abbrev pub ahead : List Token → Machine → ℕ
 ahead ts m = length (rest ts m)
 
 -- as the code counts them
-pub ahead-is : (tk : List ℕ) (m : Machine) → ahead (tokens-of tk) m ≡ length tk / TOKEN-ROW - m .cursor
-ahead-is tk m = length-drop (m .cursor) (tokens-of tk) ∙ ap (λ (n : ℕ). n - m .cursor) (tokens-length tk)
+pub ahead-is : (tokens : List ℕ) (m : Machine) → ahead (tokens-of tokens) m ≡ length tokens / TOKEN-ROW - m .cursor
+ahead-is tokens m = length-drop (m .cursor) (tokens-of tokens) ∙ ap (λ (n : ℕ). n - m .cursor) (tokens-length tokens)
 
 -- no more tokens than a cursor can pass
 abbrev pub Few : List Token → Type 0
 Few ts = length ts ≤ PAST-THE-END
 
-pub few-rows : (tk : List ℕ) → length tk < TWO-TO-64 → Few (tokens-of tk)
-few-rows tk h = omega (arith, tokens-length tk, h)
+pub few-rows : (tokens : List ℕ) → length tokens < TWO-TO-64 → Few (tokens-of tokens)
+few-rows tokens h = omega (arith, tokens-length tokens, h)
 
 -- ---------------------------------------------------------------- what moves the cursor, and no move goes back
 
@@ -103,19 +103,19 @@ module _ (ask : Rule → Machine → Walked) (ts : List Token) (b : Span) (p : P
 -- ---------------------------------------------------------------- macro arguments
 
 -- one token of an argument: the answers at its end, or go, with so many brackets open after it
-abbrev pub part : Bool → Bool → Bool → Bool → ℕ → Machine → (ℕ → Walked) → Walked
-part end opens closes comma n p go =
+abbrev pub one-token : Bool → Bool → Bool → Bool → ℕ → Machine → (ℕ → Walked) → Walked
+one-token end opens closes comma n p go =
     cond end (said no p) (cond opens (go (suc n)) (cond closes (at-depth n (said no p) go) (cond comma (at-depth n (said yes p) (λ k. go (suc k))) (go n))))
 
-part-same : (end opens closes comma : Bool) (n : ℕ) (p : Machine) (go go′ : ℕ → Walked) → (end ≡ false → (k : ℕ) → go k ≡ go′ k)
-    → part end opens closes comma n p go ≡ part end opens closes comma n p go′
-part-same true opens closes comma n p go go′ h = refl
-part-same false true closes comma n p go go′ h = h refl (suc n)
-part-same false false true comma zero p go go′ h = refl
-part-same false false true comma (suc n) p go go′ h = h refl n
-part-same false false false true zero p go go′ h = refl
-part-same false false false true (suc n) p go go′ h = h refl (suc n)
-part-same false false false false n p go go′ h = h refl n
+one-token-same : (end opens closes comma : Bool) (n : ℕ) (p : Machine) (go go′ : ℕ → Walked) → (end ≡ false → (k : ℕ) → go k ≡ go′ k)
+    → one-token end opens closes comma n p go ≡ one-token end opens closes comma n p go′
+one-token-same true opens closes comma n p go go′ h = refl
+one-token-same false true closes comma n p go go′ h = h refl (suc n)
+one-token-same false false true comma zero p go go′ h = refl
+one-token-same false false true comma (suc n) p go go′ h = h refl n
+one-token-same false false false true zero p go go′ h = refl
+one-token-same false false false true (suc n) p go go′ h = h refl (suc n)
+one-token-same false false false false n p go go′ h = h refl n
 
 some-ahead : (l : List Token) → ended l ≡ false → 0 < length l
 some-ahead [] e = let z : _≡_ {A = ℕ} 1 0 = ap (λ (x : Bool). cond x 1 0) e in absurd (omega (arith, z))
@@ -131,7 +131,7 @@ argument-fuel ts w zero g n m h k = absurd (omega (arith, h))
 argument-fuel ts w (suc f) zero n m h k = absurd (omega (arith, k))
 argument-fuel ts w (suc f) (suc g) n m h k =
     let p = peek ts m in
-    part-same (ended (rest ts p)) (first-in (K.LParen ∷ []) (rest ts p)) (first-in (K.RParen ∷ []) (rest ts p)) (first-in (K.Comma ∷ []) (rest ts p)) n p
+    one-token-same (ended (rest ts p)) (first-in (K.LParen ∷ []) (rest ts p)) (first-in (K.RParen ∷ []) (rest ts p)) (first-in (K.Comma ∷ []) (rest ts p)) n p
     (λ j. argument f ts j (bump ts p)) (λ j. argument g ts j (bump ts p))
     (λ e j. let l = bump-falls ts m w e in argument-fuel ts w f g j (bump ts p) (omega (arith, h, l)) (omega (arith, k, l)))
 
@@ -140,12 +140,12 @@ unfoldable pub argue : List Token → ℕ → Machine → Walked
 argue ts n m = argument (suc (ahead ts m)) ts n m
 
 -- one token further
-pub argue-part : (ts : List Token) (n : ℕ) (m : Machine) → Few ts → let p = peek ts m in
-    part (ended (rest ts p)) (first-in (K.LParen ∷ []) (rest ts p)) (first-in (K.RParen ∷ []) (rest ts p)) (first-in (K.Comma ∷ []) (rest ts p)) n p (λ k. argue ts k (bump ts p))
+pub argue-one : (ts : List Token) (n : ℕ) (m : Machine) → Few ts → let p = peek ts m in
+    one-token (ended (rest ts p)) (first-in (K.LParen ∷ []) (rest ts p)) (first-in (K.RParen ∷ []) (rest ts p)) (first-in (K.Comma ∷ []) (rest ts p)) n p (λ k. argue ts k (bump ts p))
     ≡ argue ts n m
 unfolding argue argument
-argue-part ts n m w =
+argue-one ts n m w =
     let p = peek ts m in
-    part-same (ended (rest ts p)) (first-in (K.LParen ∷ []) (rest ts p)) (first-in (K.RParen ∷ []) (rest ts p)) (first-in (K.Comma ∷ []) (rest ts p)) n p
+    one-token-same (ended (rest ts p)) (first-in (K.LParen ∷ []) (rest ts p)) (first-in (K.RParen ∷ []) (rest ts p)) (first-in (K.Comma ∷ []) (rest ts p)) n p
     (λ k. argue ts k (bump ts p)) (λ k. argument (ahead ts m) ts k (bump ts p))
     (λ e k. let l = bump-falls ts m w e in argument-fuel ts w (suc (ahead ts (bump ts p))) (ahead ts m) k (bump ts p) (omega arith) l)

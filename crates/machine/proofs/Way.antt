@@ -11,7 +11,7 @@ use Rattle.definitions.specs.Prog.{Ans, no, yes, also, again, Rule, Act, Prog, 
 use Rattle.definitions.specs.Grammar.{grammar}
 use Rattle.definitions.specs.Run.{truth}
 use Rattle.machine.specs.Machine.{Machine, Marker, push, complete, refuse}
-use Rattle.machine.specs.Walk.{Walked, said, perform, choose, marker, close, closed, walk, walk-rule, walk-prog, unlabelled}
+use Rattle.machine.specs.Walk.{Walked, said, perform, choose, next-marker, close, marked, walk, walk-rule, walk-prog, unlabelled}
 
 -- p, walked from m, comes to w
 pub record Way (ask : Rule → Machine → Walked) (ts : List Token) (b : Span) (p : Prog) (m : Machine) (w : Walked) : Type 0 where
@@ -19,7 +19,7 @@ pub record Way (ask : Rule → Machine → Walked) (ts : List Token) (b : Span) 
 
 -- a marker closed: where it stood at v, w
 pub record Closes (k : Marker) (v w : Walked) : Type 0 where
-  pub is : w ≡ closed k v
+  pub is : w ≡ marked k v
 
 module _ {ask : Rule → Machine → Walked} {ts : List Token} {b : Span} where
   pub c-walk : {p : Prog} {m : Machine} {w : Walked} → w ≡ walk ask ts b p m → Way ask ts b p m w
@@ -70,14 +70,14 @@ module _ {ask : Rule → Machine → Walked} {ts : List Token} {b : Span} where
   c-told-past false e f = c-no {t = false} e refl (c-seq f c-ret)
 
   -- a marker: x, after it was pushed, and v, where it is closed
-  pub c-mark : {p : Prog} {k : Marker} {m x : Machine} {v w : Walked} → k ≡ marker START-NODE m → x ≡ push PLACEHOLDER 0 m → Way ask ts b p x v → Closes k v w → Way ask ts b (in-marker p) m w
+  pub c-mark : {p : Prog} {k : Marker} {m x : Machine} {v w : Walked} → k ≡ next-marker START-NODE m → x ≡ push PLACEHOLDER 0 m → Way ask ts b p x v → Closes k v w → Way ask ts b (in-marker p) m w
   unfolding walk
   c-mark {p = p} {k = k} {m = m} {v = v} i e f g =
-      record { is = g .is ∙ ap (λ (k : Marker). closed k v) i ∙ ap (closed (marker START-NODE m)) (f .is ∙ ap (walk ask ts b p) e) }
+      record { is = g .is ∙ ap (λ (k : Marker). marked k v) i ∙ ap (marked (next-marker START-NODE m)) (f .is ∙ ap (walk ask ts b p) e) }
 
 -- completed as a node of kind suc s
 pub completed : (s : ℕ) {k : Marker} {a : Ans} {m x : Machine} → x ≡ complete k (suc s) m → Closes k (record { ans = a; shape = suc s; on = m }) (said a x)
-unfolding closed close
+unfolding marked close
 completed s {a = a} e = record { is = ap (said a) e }
 
 module _ (n : ℕ) {ts : List Token} where

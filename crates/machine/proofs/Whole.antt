@@ -7,12 +7,12 @@ use mathlib.Core.Bool.{false}
 use mathlib.Core.List.{List, []}
 use lib.ListN.{length}
 use Rattle.definitions.specs.Layout.{MOST-OPEN-CALLS}
-use Rattle.definitions.specs.Token.{Token, bytes}
+use Rattle.definitions.specs.Token.{Token, byte-count}
 use Rattle.definitions.specs.Skeleton.{no-label, Skeleton}
 use Rattle.definitions.specs.Refusal.{Refusal}
 use Rattle.definitions.specs.Grammar.{Entry, whole}
 use Rattle.definitions.specs.Run.{State, Out, taken, exec, run}
-use Rattle.definitions.specs.Report.{Room, Fit, fits, stops, scan, pushes, reports, pool, report-rows}
+use Rattle.definitions.specs.Report.{Room, Fit, fits, stops, scan, pushes, reports, pool, report-numbers}
 use Rattle.definitions.specs.Call.{run-entry}
 use Rattle.machine.specs.Machine.{Machine}
 use Rattle.machine.specs.Walk.{Walked, unlabelled, walk-prog}
@@ -40,7 +40,7 @@ fresh-is : (g : Ground) → fresh (g .events) (g .reports) (g .pool) ≡ stand g
 unfolding image reports pool low-rows
 fresh-is g =
     let n : length (g .tokens) - length (g .tokens) ≡ 0 = omega arith in
-    let b : bytes (g .tokens) - bytes (g .tokens) ≡ 0 = omega arith in
+    let b : byte-count (g .tokens) - byte-count (g .tokens) ≡ 0 = omega arith in
     rw (n, b)
 
 -- what the definitions' numbers are when nothing is cut
@@ -49,8 +49,8 @@ unfolding image
 settled g o s h f =
     let e : coded false o ≡ encode false o = coded-small false o (h .events-fit) in
     let z : 0 + length (pool (reports (pushes o))) ≡ length (pool (reports (pushes o))) = zero-add (length (pool (reports (pushes o)))) in
-    let r : rows-of g (reports (pushes o)) ≡ report-rows (length (g .tokens)) (bytes (g .tokens)) 0 (reports (pushes o)) =
-    low-rows-small (length (g .tokens)) (bytes (g .tokens)) 0 (reports (pushes o)) (omega (arith, z, h .pool-fits)) in
+    let r : rows-of g (reports (pushes o)) ≡ report-numbers (length (g .tokens)) (byte-count (g .tokens)) 0 (reports (pushes o)) =
+    low-rows-small (length (g .tokens)) (byte-count (g .tokens)) 0 (reports (pushes o)) (omega (arith, z, h .pool-fits)) in
     record {
       refusal = refl;
       events-hold = subst (λ (l : List ℕ). Holds l (g .events) (stand g (grow none o) s .events)) e (record { numbers = refl; count = refl; inside = f .events });
@@ -71,25 +71,25 @@ meets-ends g o w h (stop r e m) = ends-with g (o .made) (stops r) (w .on) e m
 
 -- THE MACHINE'S END, for every entry, tokens within the limits, and buffers of any lengths and contents. The skeleton has to be small
 -- only where all of it fits the buffers.
-pub machine-ends : (e : Entry) (ts : List Token) (ev rp pl : List ℕ) → Limits ts → ((z : Room) → scan (pushes (run-entry e ts)) (room-in ev rp pl) ≡ fits z → Small (run-entry e ts))
-    → Ends ts (run-entry e ts) ev rp pl (scan (pushes (run-entry e ts)) (room-in ev rp pl)) (walk-prog MOST-OPEN-CALLS ts unlabelled (whole e) (fresh ev rp pl) .on)
+pub machine-ends : (e : Entry) (ts : List Token) (events₀ reports₀ pool₀ : List ℕ) → Limits ts → ((z : Room) → scan (pushes (run-entry e ts)) (room-in events₀ reports₀ pool₀) ≡ fits z → Small (run-entry e ts))
+    → Ends ts (run-entry e ts) events₀ reports₀ pool₀ (scan (pushes (run-entry e ts)) (room-in events₀ reports₀ pool₀)) (walk-prog MOST-OPEN-CALLS ts unlabelled (whole e) (fresh events₀ reports₀ pool₀) .on)
 unfolding run-entry
-machine-ends e ts ev rp pl l h =
-    let g : Ground = record { tokens = ts; events = ev; reports = rp; pool = pl; limits = l } in
+machine-ends e ts events₀ reports₀ pool₀ l h =
+    let g : Ground = record { tokens = ts; events = events₀; reports = reports₀; pool = pool₀; limits = l } in
     let o = exec (run MOST-OPEN-CALLS) no-label (whole e) (taken ts) in
-    subst (λ (m : Machine). Ends ts (o .made) ev rp pl (scan (pushes (o .made)) (room-in ev rp pl)) (walk-prog MOST-OPEN-CALLS ts unlabelled (whole e) m .on)) (sym (fresh-is g))
+    subst (λ (m : Machine). Ends ts (o .made) events₀ reports₀ pool₀ (scan (pushes (o .made)) (room-in events₀ reports₀ pool₀)) (walk-prog MOST-OPEN-CALLS ts unlabelled (whole e) m .on)) (sym (fresh-is g))
     (meets-ends g o (walk-prog MOST-OPEN-CALLS ts unlabelled (whole e) (stand g none (taken ts))) h
     (prog-sim g MOST-OPEN-CALLS no-label (whole e) none (taken ts) (fitting-none g) (inside-taken g ts (suffix-whole ts))))
 
 -- where all fits
-pub machine-accepts : (e : Entry) (ts : List Token) (ev rp pl : List ℕ) (z : Room) → Limits ts → Small (run-entry e ts) → scan (pushes (run-entry e ts)) (room-in ev rp pl) ≡ fits z
-    → Accepted ts (run-entry e ts) ev rp pl (walk-prog MOST-OPEN-CALLS ts unlabelled (whole e) (fresh ev rp pl) .on)
-machine-accepts e ts ev rp pl z l h q =
-    subst (λ (x : Fit). Ends ts (run-entry e ts) ev rp pl x (walk-prog MOST-OPEN-CALLS ts unlabelled (whole e) (fresh ev rp pl) .on)) q (machine-ends e ts ev rp pl l (λ y p. h))
+pub machine-accepts : (e : Entry) (ts : List Token) (events₀ reports₀ pool₀ : List ℕ) (z : Room) → Limits ts → Small (run-entry e ts) → scan (pushes (run-entry e ts)) (room-in events₀ reports₀ pool₀) ≡ fits z
+    → Accepted ts (run-entry e ts) events₀ reports₀ pool₀ (walk-prog MOST-OPEN-CALLS ts unlabelled (whole e) (fresh events₀ reports₀ pool₀) .on)
+machine-accepts e ts events₀ reports₀ pool₀ z l h q =
+    subst (λ (x : Fit). Ends ts (run-entry e ts) events₀ reports₀ pool₀ x (walk-prog MOST-OPEN-CALLS ts unlabelled (whole e) (fresh events₀ reports₀ pool₀) .on)) q (machine-ends e ts events₀ reports₀ pool₀ l (λ y p. h))
 
 -- where something does not, whatever the skeleton's size
-pub machine-refuses : (e : Entry) (ts : List Token) (ev rp pl : List ℕ) (r : Refusal) → Limits ts → scan (pushes (run-entry e ts)) (room-in ev rp pl) ≡ stops r
-    → Refused ts r (walk-prog MOST-OPEN-CALLS ts unlabelled (whole e) (fresh ev rp pl) .on)
-machine-refuses e ts ev rp pl r l q =
-    subst (λ (x : Fit). Ends ts (run-entry e ts) ev rp pl x (walk-prog MOST-OPEN-CALLS ts unlabelled (whole e) (fresh ev rp pl) .on)) q
-    (machine-ends e ts ev rp pl l (λ z p. let x : _≡_ {A = ℕ} 0 1 = cc in absurd (omega arith)))
+pub machine-refuses : (e : Entry) (ts : List Token) (events₀ reports₀ pool₀ : List ℕ) (r : Refusal) → Limits ts → scan (pushes (run-entry e ts)) (room-in events₀ reports₀ pool₀) ≡ stops r
+    → Refused ts r (walk-prog MOST-OPEN-CALLS ts unlabelled (whole e) (fresh events₀ reports₀ pool₀) .on)
+machine-refuses e ts events₀ reports₀ pool₀ r l q =
+    subst (λ (x : Fit). Ends ts (run-entry e ts) events₀ reports₀ pool₀ x (walk-prog MOST-OPEN-CALLS ts unlabelled (whole e) (fresh events₀ reports₀ pool₀) .on)) q
+    (machine-ends e ts events₀ reports₀ pool₀ l (λ z p. let x : _≡_ {A = ℕ} 0 1 = cc in absurd (omega arith)))

@@ -109,20 +109,20 @@ unfoldable pub push : ℕ → ℕ → Machine → Machine
 unfolding push-row
 push tag value m = cond (eqb (m .refusal) 0) (push-row tag value m) m
 
--- a marker: its placeholder's place among the event numbers, and the first number of the start that it becomes
+-- a marker: the index of its placeholder among the event numbers, and the first number of the start that it becomes
 pub record Marker : Type 0 where
-  pub place : ℕ
+  pub index : ℕ
   pub tag : ℕ
 
 abbrev pub put-start : Marker → ℕ → List ℕ → List ℕ
-put-start k kind l = cond (fits (length l) (k .place) EVENT-ROW) (sets l (k .place) (k .tag ∷ kind ∷ [])) l
+put-start k kind l = cond (fits (length l) (k .index) EVENT-ROW) (sets l (k .index) (k .tag ∷ kind ∷ [])) l
 
 unfoldable pub complete : Marker → ℕ → Machine → Machine
 unfolding push-row
 complete k kind m =
     cond (eqb (m .refusal) 0) (push-row FINISH-NODE 0 (with-events (record { count = m .events .count; numbers = put-start k kind (m .events .numbers) }) m)) m
 
--- the forward distance of the start at a place to the event at another
+-- the forward distance of the start at an index to the event at another
 abbrev pub put-link : ℕ → ℕ → List ℕ → List ℕ
 put-link from to l = cond (fits (length l) from EVENT-ROW && leb from to) (sets l (from + EVENT-DISTANCE) (low ((to - from) / EVENT-ROW) ∷ [])) l
 
@@ -131,7 +131,7 @@ unfoldable pub precede : Marker → Machine → Machine
 unfolding push
 precede k m =
     let p = push PLACEHOLDER 0 m in
-    cond (eqb (p .refusal) 0) (with-events (record { count = p .events .count; numbers = put-link (k .place) (m .events .count) (p .events .numbers) }) p) p
+    cond (eqb (p .refusal) 0) (with-events (record { count = p .events .count; numbers = put-link (k .index) (m .events .count) (p .events .numbers) }) p) p
 
 -- ---------------------------------------------------------------- tokens and names taken
 

@@ -6,11 +6,12 @@ use mathlib.Core.Bool.{false}
 use mathlib.Core.List.{List, [], _∷_, _++_}
 use lib.ListN.{length, drop}
 use Rattle.definitions.specs.Layout.{EVENT-ROW, REPORT-ROW, MOST-OPEN-CALLS, MOST-TOKENS, TWO-TO-32}
-use Rattle.definitions.specs.Token.{Token, tokens-of, bytes}
+use Rattle.definitions.specs.Token.{Token, tokens-of, byte-count}
 use Rattle.definitions.specs.Skeleton.{Skeleton}
-use Rattle.definitions.specs.Event.{events}
+use Rattle.definitions.specs.Event as Event
 use Rattle.definitions.specs.Refusal.{Refusal, number-of, place-of, accepted, check-input}
-use Rattle.definitions.specs.Report.{Room, Fit, fits, stops, scan, pushes, reports, report-rows, pool}
+use Rattle.definitions.specs.Report.{Room, Fit, fits, stops, scan, pushes, report-numbers}
+use Rattle.definitions.specs.Report as Report
 use Rattle.definitions.specs.Grammar.{Entry, whole}
 use Rattle.definitions.specs.Call.{forward-mark, run-entry}
 use Rattle.machine.specs.Machine.{Buffer, Machine}
@@ -25,13 +26,13 @@ Filled (t ∷ ts) = (1 ≤ t .len) × Filled ts
 -- what is asked of the tokens: causes 2 and 3 leave more
 pub record Limits (ts : List Token) : Type 0 where
   pub few : length ts ≤ MOST-TOKENS
-  pub short : bytes ts < TWO-TO-32
+  pub short : byte-count ts < TWO-TO-32
   pub filled : Filled ts
 
 -- what is asked of a skeleton: its numbers fit 32 bits
 pub record Small (o : Skeleton) : Type 0 where
-  pub events-fit : length (events false o) < TWO-TO-32
-  pub pool-fits : length (pool (reports (pushes o))) < TWO-TO-32
+  pub events-fit : length (Event.events false o) < TWO-TO-32
+  pub pool-fits : length (Report.pool (Report.reports (pushes o))) < TWO-TO-32
 
 -- nothing written yet
 abbrev pub unwritten : List ℕ → Buffer
@@ -56,14 +57,14 @@ pub record Holds (l b : List ℕ) (x : Buffer) : Type 0 where
   pub count : x .count ≡ length l
   pub inside : length l ≤ length b
 
--- ev, rp, pl: what the lent buffers events, reports and pool hold at first
+-- events, reports, pool: what the lent buffers hold at first
 
 -- nothing was refused: the events encode the skeleton, reports and pool are the definitions'
-pub record Accepted (ts : List Token) (o : Skeleton) (ev rp pl : List ℕ) (m : Machine) : Type 0 where
+pub record Accepted (ts : List Token) (o : Skeleton) (events reports pool : List ℕ) (m : Machine) : Type 0 where
   pub refusal : m .refusal ≡ 0
-  pub events-hold : Holds (encode false o) ev (m .events)
-  pub reports-hold : Holds (report-rows (length ts) (bytes ts) 0 (reports (pushes o))) rp (m .reports)
-  pub pool-holds : Holds (pool (reports (pushes o))) pl (m .pool)
+  pub events-hold : Holds (encode false o) events (m .events)
+  pub reports-hold : Holds (report-numbers (length ts) (byte-count ts) 0 (Report.reports (pushes o))) reports (m .reports)
+  pub pool-holds : Holds (Report.pool (Report.reports (pushes o))) pool (m .pool)
 
 -- refused with the number and at the place of r
 pub record Refused (ts : List Token) (r : Refusal) (m : Machine) : Type 0 where
@@ -73,8 +74,8 @@ pub record Refused (ts : List Token) (r : Refusal) (m : Machine) : Type 0 where
 
 -- what the machine has come to, by what `scan` finds in the skeleton's pushes
 abbrev pub Ends : List Token → Skeleton → List ℕ → List ℕ → List ℕ → Fit → Machine → Type 0
-Ends ts o ev rp pl (fits z) m = Accepted ts o ev rp pl m
-Ends ts o ev rp pl (stops r) m = Refused ts r m
+Ends ts o events reports pool (fits z) m = Accepted ts o events reports pool m
+Ends ts o events reports pool (stops r) m = Refused ts r m
 
 -- THE MACHINE'S END: for every entry, every input that passes causes 2 to 4, and lent buffers of any lengths and contents, the machine
 -- that starts fresh comes to what `scan` says of the skeleton that `definitions` gives. If all of it fits the buffers, nothing is
@@ -82,5 +83,5 @@ Ends ts o ev rp pl (stops r) m = Refused ts r m
 -- refusal's number and place are those of the first push that does not fit.
 abbrev pub Machine-ends : Type 0
 Machine-ends =
-    (e : Entry) (bs tk ev rp pl : List ℕ) → check-input bs tk ≡ accepted
-    → Ends (tokens-of tk) (run-entry e (tokens-of tk)) ev rp pl (scan (pushes (run-entry e (tokens-of tk))) (room-in ev rp pl)) (walk-prog MOST-OPEN-CALLS (tokens-of tk) unlabelled (whole e) (fresh ev rp pl) .on)
+    (e : Entry) (bytes tokens events reports pool : List ℕ) → check-input bytes tokens ≡ accepted
+    → Ends (tokens-of tokens) (run-entry e (tokens-of tokens)) events reports pool (scan (pushes (run-entry e (tokens-of tokens))) (room-in events reports pool)) (walk-prog MOST-OPEN-CALLS (tokens-of tokens) unlabelled (whole e) (fresh events reports pool) .on)

@@ -73,8 +73,8 @@ choose also n y a = a
 choose again n y a = y
 
 -- the marker that is pushed next
-abbrev pub marker : ℕ → Machine → Marker
-marker tag m = record { place = m .events .count; tag = tag }
+abbrev pub next-marker : ℕ → Machine → Marker
+next-marker tag m = record { index = m .events .count; tag = tag }
 
 -- completed as a node of that kind, or ignored
 unfoldable pub close : Marker → ℕ → Machine → Machine
@@ -82,9 +82,9 @@ unfolding push complete
 close k zero m = push PLACEHOLDER 0 m
 close k (suc n) m = complete k (suc n) m
 
-unfoldable pub closed : Marker → Walked → Walked
+unfoldable pub marked : Marker → Walked → Walked
 unfolding close
-closed k w = said (w .ans) (close k (w .shape) (w .on))
+marked k w = said (w .ans) (close k (w .shape) (w .on))
 
 unfoldable pub goes-on : List Token → Machine → Walked → Bool
 unfolding is-again
@@ -109,7 +109,7 @@ links ts zero f k m = said again (push PLACEHOLDER 0 m)
 links ts (suc n) f k m =
     let w = f m in
     let x = link k (w .shape) (w .on) in
-    let more = links ts n f (marker LINKED-START-NODE (complete k (w .shape) (w .on))) x in
+    let more = links ts n f (next-marker LINKED-START-NODE (complete k (w .shape) (w .on))) x in
     let last = said (w .ans) (push PLACEHOLDER 0 x) in
     let on = cond (goes-on ts m w) more last in
     let off = said (w .ans) (push PLACEHOLDER 0 (w .on)) in
@@ -123,14 +123,14 @@ chained ts f k w =
     cond (is-again (w .ans)) on off
 
 unfoldable pub walk : (Rule → Machine → Walked) → List Token → Span → Prog → Machine → Walked
-unfolding perform choose push closed iter chained range-at
+unfolding perform choose push marked iter chained range-at
 walk ask ts b (ret k a) m = record { ans = a; shape = k; on = m }
 walk ask ts b (act a) m = perform ts b a m
 walk ask ts b (p ⨟ q) m = walk ask ts b q (walk ask ts b p m .on)
 walk ask ts b (case c n y a) m = let w = walk ask ts b c m in choose (w .ans) (walk ask ts b n) (walk ask ts b y) (walk ask ts b a) (w .on)
-walk ask ts b (in-marker p) m = closed (marker START-NODE m) (walk ask ts b p (push PLACEHOLDER 0 m))
+walk ask ts b (in-marker p) m = marked (next-marker START-NODE m) (walk ask ts b p (push PLACEHOLDER 0 m))
 walk ask ts b (loop p) m = iter ts (suc (length (rest ts m))) (walk ask ts b p) m
-walk ask ts b (chain p q) m = chained ts (walk ask ts b q) (marker START-NODE m) (walk ask ts b p (push PLACEHOLDER 0 m))
+walk ask ts b (chain p q) m = chained ts (walk ask ts b q) (next-marker START-NODE m) (walk ask ts b p (push PLACEHOLDER 0 m))
 walk ask ts b (brace p) m = walk ask ts (range-at (rest ts m) m) p m
 walk ask ts b (open-call r) m = ask r m
 

@@ -16,7 +16,7 @@ use Rattle.definitions.specs.Prog.{no, yes, bump-argument}
 use Rattle.definitions.specs.Prog as P
 use Rattle.machine.specs.Machine.{Machine, rest, peek, bump}
 use Rattle.machine.specs.Walk.{Walked, said, perform}
-use Rattle.machine.proofs.Turns.{Few, argue, argue-part}
+use Rattle.machine.proofs.Turns.{Few, argue, argue-one}
 use Rattle.machine.proofs.Turns as T
 use Rattle.token_rows.specs.Tokens.{END, kind-of}
 use Rattle.token_rows.proofs.Seen.{one-of-one}
@@ -118,7 +118,7 @@ module _ (ts : List Token) (n : ℕ) (m p : Machine) (few : Few ts) (e : p ≡ p
   argued =
       ap (λ (y : Role). role-as y p (λ k. argue ts k (bump ts p))) f ∙ seen-role (rest ts p) n p (λ k. argue ts k (bump ts p))
       ∙ ap (λ (q : Machine). T.part (ended (rest ts q)) (first-in (K.LParen ∷ []) (rest ts q)) (first-in (K.RParen ∷ []) (rest ts q)) (first-in (K.Comma ∷ []) (rest ts q)) n q (λ k. argue ts k (bump ts q))) e
-      ∙ argue-part ts n m few
+      ∙ argue-one ts n m few
 
   -- the comma after it, its end, and a token of it
   pub argue-comma : x ≡ Comma → said yes p ≡ argue ts n m

@@ -10,18 +10,14 @@ use token_rows::token::END;
 use token_rows::token::kind_at;
 ghost use mathlib.Core.Path.{_≡_};
 ghost use mathlib.Core.Bool.{true, false};
-ghost use mathlib.Core.List.{List};
-ghost use Prim.Native.Nat.{ℕ, _-_, _≤_, _<_};
+ghost use Prim.Native.Nat.{_-_, _≤_, _<_};
 ghost use lib.Dec.{eqb};
 ghost use Rattle.definitions.specs.Layout.{TWO-TO-64};
 ghost use Rattle.definitions.specs.TokenKind as K;
-ghost use Rattle.definitions.specs.Token.{tokens-of};
-ghost use Rattle.definitions.specs.Skeleton.{Span};
 ghost use Rattle.definitions.specs.Prog.{yes, bump-argument, loop};
 ghost use Rattle.definitions.specs.Grammar.{macro-argument-turn, macro-invocation};
-ghost use Rattle.machine.specs.Walk.{perform};
 ghost use Rattle.token_rows.specs.Tokens.{END as seen-at-end};
-ghost use Rattle.parser.specs.View.{view, left, state-tested, moves, says, walks, walks-on};
+ghost use Rattle.parser.specs.View.{left, state-tested, moves, says, walks, walks-on, bumps};
 ghost use Rattle.macros.specs.Subprograms.{argument-list};
 ghost use Rattle.macros.specs.Role.{role};
 
@@ -75,8 +71,7 @@ fn role_of(k: u8, level: usize) -> Role
 
 // One argument: every token up to a comma (yes), an RParen or the end (no) outside inner brackets.
 fn bump_argument(s: State, tokens: &[u32], events: &mut [u32]) -> StateTested
-    ensures { λ r. ⌜ ((b : Span) (codes reports pool : List ℕ) → state-tested r codes (now (events .exit)) reports pool
-        ≡ perform (tokens-of (now (tokens .entry))) b bump-argument (view s codes (now (events .entry)) reports pool)) ⌝ }
+    ensures { λ r. ⌜ bumps bump-argument s (state-tested r) tokens events ⌝ }
     ensures { λ r. ⌜ left (now (tokens .entry)) (r .s) ≤ left (now (tokens .entry)) s ⌝ }
     ensures { λ r. ⌜ (r .yes ≡ true → 0 < left (now (tokens .entry)) (r .s)) ⌝ }
 {

@@ -42,8 +42,8 @@ pub with-said : (p : Parser) (codes : List ℕ) (s : State) (events reports pool
     → said a (view-of p events reports pool) ≡ w
 with-said p codes s events reports pool a w e f = ap (λ (x : Parser). said a (view-of x events reports pool)) e ∙ f
 
-pub with-left : (p : Parser) (codes : List ℕ) (s : State) (tk : List ℕ) → p ≡ record { codes = codes; s = s } → left tk (p .s) ≡ left tk s
-with-left p codes s tk e = ap (λ (x : Parser). left tk (x .s)) e
+pub with-left : (p : Parser) (codes : List ℕ) (s : State) (tokens : List ℕ) → p ≡ record { codes = codes; s = s } → left tokens (p .s) ≡ left tokens s
+with-left p codes s tokens e = ap (λ (x : Parser). left tokens (x .s)) e
 
 -- ---------------------------------------------------------------- the cursor
 
@@ -59,23 +59,23 @@ pub at-end-is : (ts : List Token) (b : Span) (m p : Machine) (y : Bool) → p �
 unfolding perform
 at-end-is ts b m p y e f = ap (λ (z : Bool). said (truth z) p) f ∙ ap (λ (x : Machine). said (truth (ended (drop (x .cursor) ts))) x) e
 
-pub ended-in : (tk : List ℕ) (i : ℕ) → i < length tk / TOKEN-ROW → false ≡ ended (drop i (tokens-of tk))
-ended-in tk i h = sym (ap ended (tokens-cons tk i h))
+pub ended-in : (tokens : List ℕ) (i : ℕ) → i < length tokens / TOKEN-ROW → false ≡ ended (drop i (tokens-of tokens))
+ended-in tokens i h = sym (ap ended (tokens-cons tokens i h))
 
-pub ended-past : (tk : List ℕ) (i : ℕ) → length tk / TOKEN-ROW ≤ i → true ≡ ended (drop i (tokens-of tk))
-ended-past tk i h = sym (ap ended (tokens-end tk i h))
+pub ended-past : (tokens : List ℕ) (i : ℕ) → length tokens / TOKEN-ROW ≤ i → true ≡ ended (drop i (tokens-of tokens))
+ended-past tokens i h = sym (ap ended (tokens-end tokens i h))
 
 -- the row at the cursor taken; a: its first byte, e: its end
-pub took-row : (tk : List ℕ) (e : ℕ) (m : Machine) → m .cursor < length tk / TOKEN-ROW
-    → ((x : Machine) → x .byte ≡ m .byte → e ≡ range-at (drop (m .cursor) (tokens-of tk)) x .to)
-    → with-taken (m .cursor + 1) e m ≡ take-first (drop (m .cursor) (tokens-of tk)) m
+pub took-row : (tokens : List ℕ) (e : ℕ) (m : Machine) → m .cursor < length tokens / TOKEN-ROW
+    → ((x : Machine) → x .byte ≡ m .byte → e ≡ range-at (drop (m .cursor) (tokens-of tokens)) x .to)
+    → with-taken (m .cursor + 1) e m ≡ take-first (drop (m .cursor) (tokens-of tokens)) m
 unfolding take-first
-took-row tk e m h g =
-    ap (λ (x : ℕ). with-taken (m .cursor + 1) x m) (end-row tk (m .cursor) (m .byte) e h g m refl) ∙ sym (ap (λ (l : List Token). take-first l m) (tokens-cons tk (m .cursor) h))
+took-row tokens e m h g =
+    ap (λ (x : ℕ). with-taken (m .cursor + 1) x m) (end-row tokens (m .cursor) (m .byte) e h g m refl) ∙ sym (ap (λ (l : List Token). take-first l m) (tokens-cons tokens (m .cursor) h))
 
-pub took-nothing : (tk : List ℕ) (m : Machine) → length tk / TOKEN-ROW ≤ m .cursor → m ≡ take-first (drop (m .cursor) (tokens-of tk)) m
+pub took-nothing : (tokens : List ℕ) (m : Machine) → length tokens / TOKEN-ROW ≤ m .cursor → m ≡ take-first (drop (m .cursor) (tokens-of tokens)) m
 unfolding take-first
-took-nothing tk m h = sym (ap (λ (l : List Token). take-first l m) (tokens-end tk (m .cursor) h))
+took-nothing tokens m h = sym (ap (λ (l : List Token). take-first l m) (tokens-end tokens (m .cursor) h))
 
 -- ---------------------------------------------------------------- refusals and expectations
 
@@ -107,10 +107,10 @@ pub push-off : (tag value : ℕ) (m : Machine) → eqb (m .refusal) 0 ≡ false 
 unfolding M.push
 push-off tag value m e = sym (ap (λ (z : Bool). cond z (M.push-row tag value m) m) e)
 
-pub started : (l : List ℕ) (at tag kind : ℕ) (b : Bool) → b ≡ fits (length l) at EVENT-ROW → b ≡ true → set (set l at tag) (at + EVENT-ARGUMENT) kind ≡ put-start (record { place = at; tag = tag }) kind l
+pub started : (l : List ℕ) (at tag kind : ℕ) (b : Bool) → b ≡ fits (length l) at EVENT-ROW → b ≡ true → set (set l at tag) (at + EVENT-ARGUMENT) kind ≡ put-start (record { index = at; tag = tag }) kind l
 started l at tag kind b e f = sets2 l at tag kind ∙ sym (on-true b (fits (length l) at EVENT-ROW) (sets l at (tag ∷ kind ∷ [])) l e f)
 
-pub not-started : (l : List ℕ) (at tag kind : ℕ) (b : Bool) → b ≡ fits (length l) at EVENT-ROW → b ≡ false → l ≡ put-start (record { place = at; tag = tag }) kind l
+pub not-started : (l : List ℕ) (at tag kind : ℕ) (b : Bool) → b ≡ fits (length l) at EVENT-ROW → b ≡ false → l ≡ put-start (record { index = at; tag = tag }) kind l
 not-started l at tag kind b e f = sym (on-false b (fits (length l) at EVENT-ROW) (sets l at (tag ∷ kind ∷ [])) l e f)
 
 pub linked : (l : List ℕ) (at to d : ℕ) (b : Bool) → b ≡ fits (length l) at EVENT-ROW → b ≡ true → leb at to ≡ true → d ≡ low ((to - at) / EVENT-ROW) → set l (at + EVENT-DISTANCE) d ≡ put-link at to l
@@ -138,65 +138,65 @@ unfolding M.complete
 complete-off k kind m e = sym (ap (λ (z : Bool). cond z (M.push-row FINISH-NODE 0 (with-events (record { count = m .events .count; numbers = put-start k kind (m .events .numbers) }) m)) m) e)
 
 abbrev preceded : Marker → Machine → Machine → Machine
-preceded k m p = cond (eqb (p .refusal) 0) (with-events (record { count = p .events .count; numbers = put-link (k .place) (m .events .count) (p .events .numbers) }) p) p
+preceded k m p = cond (eqb (p .refusal) 0) (with-events (record { count = p .events .count; numbers = put-link (k .index) (m .events .count) (p .events .numbers) }) p) p
 
-pub precede-on : (k : Marker) (m p : Machine) (l : List ℕ) → p ≡ M.push PLACEHOLDER 0 m → eqb (p .refusal) 0 ≡ true → l ≡ put-link (k .place) (m .events .count) (p .events .numbers)
+pub precede-on : (k : Marker) (m p : Machine) (l : List ℕ) → p ≡ M.push PLACEHOLDER 0 m → eqb (p .refusal) 0 ≡ true → l ≡ put-link (k .index) (m .events .count) (p .events .numbers)
     → with-events (record { count = p .events .count; numbers = l }) p ≡ M.precede k m
 unfolding M.precede
 precede-on k m p l e f g =
     ap (λ (x : List ℕ). with-events (record { count = p .events .count; numbers = x }) p) g
-    ∙ sym (ap (λ (z : Bool). cond z (with-events (record { count = p .events .count; numbers = put-link (k .place) (m .events .count) (p .events .numbers) }) p) p) f)
+    ∙ sym (ap (λ (z : Bool). cond z (with-events (record { count = p .events .count; numbers = put-link (k .index) (m .events .count) (p .events .numbers) }) p) p) f)
     ∙ ap (preceded k m) e
 
 pub precede-off : (k : Marker) (m p : Machine) → p ≡ M.push PLACEHOLDER 0 m → eqb (p .refusal) 0 ≡ false → p ≡ M.precede k m
 unfolding M.precede
 precede-off k m p e f =
-    sym (ap (λ (z : Bool). cond z (with-events (record { count = p .events .count; numbers = put-link (k .place) (m .events .count) (p .events .numbers) }) p) p) f) ∙ ap (preceded k m) e
+    sym (ap (λ (z : Bool). cond z (with-events (record { count = p .events .count; numbers = put-link (k .index) (m .events .count) (p .events .numbers) }) p) p) f) ∙ ap (preceded k m) e
 
 -- ---------------------------------------------------------------- tokens and names taken
 
-pub bump-in : (tk : List ℕ) (b : Span) (m p q r : Machine) → p ≡ M.peek (tokens-of tk) m → p .cursor < length tk / TOKEN-ROW → q ≡ take-first (drop (p .cursor) (tokens-of tk)) p → r ≡ M.push ADD-TOKEN 0 q
-    → said yes r ≡ perform (tokens-of tk) b bump m
+pub bump-in : (tokens : List ℕ) (b : Span) (m p q r : Machine) → p ≡ M.peek (tokens-of tokens) m → p .cursor < length tokens / TOKEN-ROW → q ≡ take-first (drop (p .cursor) (tokens-of tokens)) p → r ≡ M.push ADD-TOKEN 0 q
+    → said yes r ≡ perform (tokens-of tokens) b bump m
 unfolding perform M.bump M.bump-first take-first
-bump-in tk b m p q r e h f g =
-    let d = tokens-cons tk (p .cursor) h in
+bump-in tokens b m p q r e h f g =
+    let d = tokens-cons tokens (p .cursor) h in
     ap (λ (x : Machine). said yes x) (g ∙ ap (λ (x : Machine). M.push ADD-TOKEN 0 x) (f ∙ ap (λ (l : List Token). take-first l p) d) ∙ sym (ap (λ (l : List Token). M.bump-first l p) d))
-    ∙ ap (λ (x : Machine). said yes (M.bump-first (drop (x .cursor) (tokens-of tk)) x)) e
+    ∙ ap (λ (x : Machine). said yes (M.bump-first (drop (x .cursor) (tokens-of tokens)) x)) e
 
-pub bump-past : (tk : List ℕ) (b : Span) (m p : Machine) → p ≡ M.peek (tokens-of tk) m → length tk / TOKEN-ROW ≤ p .cursor → said yes p ≡ perform (tokens-of tk) b bump m
+pub bump-past : (tokens : List ℕ) (b : Span) (m p : Machine) → p ≡ M.peek (tokens-of tokens) m → length tokens / TOKEN-ROW ≤ p .cursor → said yes p ≡ perform (tokens-of tokens) b bump m
 unfolding perform M.bump M.bump-first
-bump-past tk b m p e h =
-    ap (λ (x : Machine). said yes x) (sym (ap (λ (l : List Token). M.bump-first l p) (tokens-end tk (p .cursor) h)))
-    ∙ ap (λ (x : Machine). said yes (M.bump-first (drop (x .cursor) (tokens-of tk)) x)) e
+bump-past tokens b m p e h =
+    ap (λ (x : Machine). said yes x) (sym (ap (λ (l : List Token). M.bump-first l p) (tokens-end tokens (p .cursor) h)))
+    ∙ ap (λ (x : Machine). said yes (M.bump-first (drop (x .cursor) (tokens-of tokens)) x)) e
 
-pub name-in : (tk ks : List ℕ) (b : Span) (m p q r x : Machine) (n : ℕ) → p ≡ M.peek (tokens-of tk) m → p .cursor < length tk / TOKEN-ROW → q ≡ take-first (drop (p .cursor) (tokens-of tk)) p
-    → r ≡ M.name-run ks (drop (q .cursor) (tokens-of tk)) q → n ≡ low (r .cursor - p .cursor) → x ≡ M.push ADD-COMBINED-TOKEN n r → said yes x ≡ perform (tokens-of tk) b (bump-name ks) m
+pub name-in : (tokens ks : List ℕ) (b : Span) (m p q r x : Machine) (n : ℕ) → p ≡ M.peek (tokens-of tokens) m → p .cursor < length tokens / TOKEN-ROW → q ≡ take-first (drop (p .cursor) (tokens-of tokens)) p
+    → r ≡ M.name-run ks (drop (q .cursor) (tokens-of tokens)) q → n ≡ low (r .cursor - p .cursor) → x ≡ M.push ADD-COMBINED-TOKEN n r → said yes x ≡ perform (tokens-of tokens) b (bump-name ks) m
 unfolding perform M.bump-name M.name-first take-first
-name-in tk ks b m p q r x n e h f g i j =
-    let d = tokens-cons tk (p .cursor) h in
-    let t = token-at tk (p .cursor) in
-    let z : r ≡ M.name-run ks (drop (p .cursor + 1) (tokens-of tk)) (took t p) =
-    g ∙ ap (λ (y : Machine). M.name-run ks (drop (y .cursor) (tokens-of tk)) y) (f ∙ ap (λ (l : List Token). take-first l p) d) in
+name-in tokens ks b m p q r x n e h f g i j =
+    let d = tokens-cons tokens (p .cursor) h in
+    let t = token-at tokens (p .cursor) in
+    let z : r ≡ M.name-run ks (drop (p .cursor + 1) (tokens-of tokens)) (took t p) =
+    g ∙ ap (λ (y : Machine). M.name-run ks (drop (y .cursor) (tokens-of tokens)) y) (f ∙ ap (λ (l : List Token). take-first l p) d) in
     ap (λ (y : Machine). said yes y)
     (j ∙ ap (λ (v : ℕ). M.push ADD-COMBINED-TOKEN v r) i ∙ ap (λ (y : Machine). M.push ADD-COMBINED-TOKEN (low (y .cursor - p .cursor)) y) z ∙ sym (ap (λ (l : List Token). M.name-first ks l p) d))
-    ∙ ap (λ (y : Machine). said yes (M.name-first ks (drop (y .cursor) (tokens-of tk)) y)) e
+    ∙ ap (λ (y : Machine). said yes (M.name-first ks (drop (y .cursor) (tokens-of tokens)) y)) e
 
-pub name-past : (tk ks : List ℕ) (b : Span) (m p : Machine) → p ≡ M.peek (tokens-of tk) m → length tk / TOKEN-ROW ≤ p .cursor → said yes p ≡ perform (tokens-of tk) b (bump-name ks) m
+pub name-past : (tokens ks : List ℕ) (b : Span) (m p : Machine) → p ≡ M.peek (tokens-of tokens) m → length tokens / TOKEN-ROW ≤ p .cursor → said yes p ≡ perform (tokens-of tokens) b (bump-name ks) m
 unfolding perform M.bump-name M.name-first
-name-past tk ks b m p e h =
-    ap (λ (x : Machine). said yes x) (sym (ap (λ (l : List Token). M.name-first ks l p) (tokens-end tk (p .cursor) h)))
-    ∙ ap (λ (y : Machine). said yes (M.name-first ks (drop (y .cursor) (tokens-of tk)) y)) e
+name-past tokens ks b m p e h =
+    ap (λ (x : Machine). said yes x) (sym (ap (λ (l : List Token). M.name-first ks l p) (tokens-end tokens (p .cursor) h)))
+    ∙ ap (λ (y : Machine). said yes (M.name-first ks (drop (y .cursor) (tokens-of tokens)) y)) e
 
 -- one more row of a name, or none
-pub name-more : (tk ks : List ℕ) (m q : Machine) → m .cursor < length tk / TOKEN-ROW → first-in ks (drop (m .cursor) (tokens-of tk)) ≡ true → q ≡ take-first (drop (m .cursor) (tokens-of tk)) m
-    → M.name-run ks (drop (q .cursor) (tokens-of tk)) q ≡ M.name-run ks (drop (m .cursor) (tokens-of tk)) m
+pub name-more : (tokens ks : List ℕ) (m q : Machine) → m .cursor < length tokens / TOKEN-ROW → first-in ks (drop (m .cursor) (tokens-of tokens)) ≡ true → q ≡ take-first (drop (m .cursor) (tokens-of tokens)) m
+    → M.name-run ks (drop (q .cursor) (tokens-of tokens)) q ≡ M.name-run ks (drop (m .cursor) (tokens-of tokens)) m
 unfolding M.name-run take-first first-in
-name-more tk ks m q h f g =
-    let d = tokens-cons tk (m .cursor) h in
-    let t = token-at tk (m .cursor) in
+name-more tokens ks m q h f g =
+    let d = tokens-cons tokens (m .cursor) h in
+    let t = token-at tokens (m .cursor) in
     let o : one-of ks (seen t) ≡ true = sym (ap (first-in ks) d) ∙ f in
-    ap (λ (y : Machine). M.name-run ks (drop (y .cursor) (tokens-of tk)) y) (g ∙ ap (λ (l : List Token). take-first l m) d)
-    ∙ sym (ap (λ (z : Bool). cond z (M.name-run ks (drop (m .cursor + 1) (tokens-of tk)) (took t m)) m) o)
+    ap (λ (y : Machine). M.name-run ks (drop (y .cursor) (tokens-of tokens)) y) (g ∙ ap (λ (l : List Token). take-first l m) d)
+    ∙ sym (ap (λ (z : Bool). cond z (M.name-run ks (drop (m .cursor + 1) (tokens-of tokens)) (took t m)) m) o)
     ∙ sym (ap (λ (l : List Token). M.name-run ks l m) d)
 
 pub name-done : (ks : List ℕ) (l : List Token) (m : Machine) → first-in ks l ≡ false → m ≡ M.name-run ks l m

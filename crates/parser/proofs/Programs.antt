@@ -19,7 +19,7 @@ use Rattle.definitions.specs.Grammar.{silent-at-macro-invocation-with-args}
 use Rattle.definitions.specs.Run.{truth}
 use Rattle.machine.specs.Machine.{Machine, Marker}
 use Rattle.machine.specs.Machine as M
-use Rattle.machine.specs.Walk.{Walked, said, perform, walk, choose, close, closed, marker, unlabelled}
+use Rattle.machine.specs.Walk.{Walked, said, perform, walk, choose, close, marked, next-marker, unlabelled}
 use Rattle.parser.specs.View.{Starting, starting, by-answer, matcher-of, kinds-of, error-prog}
 use Rattle.parser.specs.declared.matcher.Matcher.{Matcher}
 use Rattle.parser.specs.declared.matcher.Matcher.the-variants as Of
@@ -55,14 +55,14 @@ module _ (ask : Rule → Machine → Walked) (ts : List Token) (b : Span) where
   walk-yes c n y a m p w e f = f ∙ ap (λ (x : Walked). choose (x .ans) (walk ask ts b n) (walk ask ts b y) (walk ask ts b a) (x .on)) (sym e)
 
   -- k: the marker. s: after it was started, x: after what is in it, r: after it was completed
-  pub walk-node : (kind : ℕ) (p : Prog) (k : Marker) (m s r : Machine) (v : Walked) → 0 < kind → k ≡ marker START-NODE m → s ≡ M.push 0 0 m → walk ask ts b p s ≡ v → r ≡ M.complete k kind (v .on)
+  pub walk-node : (kind : ℕ) (p : Prog) (k : Marker) (m s r : Machine) (v : Walked) → 0 < kind → k ≡ next-marker START-NODE m → s ≡ M.push 0 0 m → walk ask ts b p s ≡ v → r ≡ M.complete k kind (v .on)
       → said yes r ≡ walk ask ts b (in-node kind p) m
-  unfolding walk closed close
+  unfolding walk marked close
   walk-node zero p k m s r v h e f g i = absurd (omega (arith, h))
   walk-node (suc n) p k m s r v h e f g i =
       ap (λ (x : Machine). said yes x)
-      (i ∙ ap (λ (z : Marker). M.complete z (suc n) (v .on)) e ∙ ap (λ (w : Walked). M.complete (marker START-NODE m) (suc n) (w .on)) (sym g)
-      ∙ ap (λ (x : Machine). M.complete (marker START-NODE m) (suc n) (walk ask ts b p x .on)) f)
+      (i ∙ ap (λ (z : Marker). M.complete z (suc n) (v .on)) e ∙ ap (λ (w : Walked). M.complete (next-marker START-NODE m) (suc n) (w .on)) (sym g)
+      ∙ ap (λ (x : Machine). M.complete (next-marker START-NODE m) (suc n) (walk ask ts b p x .on)) f)
 
   -- ---------------------------------------------------------------- tests
 
@@ -207,7 +207,7 @@ module _ (ask : Rule → Machine → Walked) (ts : List Token) (b : Span) where
 
   -- ---------------------------------------------------------------- `eat_starting`
 
-  pub starting-yes : (k : C.Matcher) (m p s q : Machine) (z : Marker) → walk ask ts b (C.at k) m ≡ said yes p → z ≡ marker START-NODE p → s ≡ M.push 0 0 p → said yes q ≡ walk ask ts b (k .consume) s
+  pub starting-yes : (k : C.Matcher) (m p s q : Machine) (z : Marker) → walk ask ts b (C.at k) m ≡ said yes p → z ≡ next-marker START-NODE p → s ≡ M.push 0 0 p → said yes q ≡ walk ask ts b (k .consume) s
       → starting ask ts b k m ≡ record { yes = true; marker = z; on = q }
   unfolding starting
   starting-yes k m p s q z e f g h =
@@ -215,12 +215,12 @@ module _ (ask : Rule → Machine → Walked) (ts : List Token) (b : Span) where
       ∙ ap (λ (x : Machine). record { yes = true; marker = z; on = walk ask ts b (k .consume) x .on }) (sym g) ∙ ap (λ (w : Walked). record { yes = true; marker = z; on = w .on }) (sym h)
     where
       from : Ans → Machine → Starting
-      from a x = by-answer a (record { yes = false; marker = marker START-NODE x; on = x }) (record { yes = true; marker = marker START-NODE x; on = walk ask ts b (k .consume) (M.push 0 0 x) .on })
+      from a x = by-answer a (record { yes = false; marker = next-marker START-NODE x; on = x }) (record { yes = true; marker = next-marker START-NODE x; on = walk ask ts b (k .consume) (M.push 0 0 x) .on })
 
-  pub starting-no : (k : C.Matcher) (m p : Machine) (z : Marker) → walk ask ts b (C.at k) m ≡ said no p → z ≡ marker START-NODE p → starting ask ts b k m ≡ record { yes = false; marker = z; on = p }
+  pub starting-no : (k : C.Matcher) (m p : Machine) (z : Marker) → walk ask ts b (C.at k) m ≡ said no p → z ≡ next-marker START-NODE p → starting ask ts b k m ≡ record { yes = false; marker = z; on = p }
   unfolding starting
   starting-no k m p z e f =
       ap (λ (w : Walked). from (w .ans) (w .on)) e ∙ ap (λ (y : Marker). record { yes = false; marker = y; on = p }) (sym f)
     where
       from : Ans → Machine → Starting
-      from a x = by-answer a (record { yes = false; marker = marker START-NODE x; on = x }) (record { yes = true; marker = marker START-NODE x; on = walk ask ts b (k .consume) (M.push 0 0 x) .on })
+      from a x = by-answer a (record { yes = false; marker = next-marker START-NODE x; on = x }) (record { yes = true; marker = next-marker START-NODE x; on = walk ask ts b (k .consume) (M.push 0 0 x) .on })

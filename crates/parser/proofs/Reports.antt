@@ -20,31 +20,31 @@ use Rattle.parser.proofs.Moves.{on-true, on-false}
 
 -- ---------------------------------------------------------------- the range
 
-pub range-lone : (tk : List ℕ) (m : Machine) (y : Bool) (e : ℕ) → m .cursor < length tk / TOKEN-ROW → y ≡ only-separators (m .pending) → y ≡ true → e ≡ low (m .mark-byte + 1)
-    → record { from = m .mark-byte; to = e } ≡ error-range (drop (m .cursor) (tokens-of tk)) m
+pub range-lone : (tokens : List ℕ) (m : Machine) (y : Bool) (e : ℕ) → m .cursor < length tokens / TOKEN-ROW → y ≡ only-separators (m .pending) → y ≡ true → e ≡ low (m .mark-byte + 1)
+    → record { from = m .mark-byte; to = e } ≡ error-range (drop (m .cursor) (tokens-of tokens)) m
 unfolding error-range
-range-lone tk m y e h f g i =
-    let d = tokens-cons tk (m .cursor) h in
-    let t = token-at tk (m .cursor) in
+range-lone tokens m y e h f g i =
+    let d = tokens-cons tokens (m .cursor) h in
+    let t = token-at tokens (m .cursor) in
     let z : Span = record { from = m .mark-byte; to = low (m .mark-byte + 1) } in
     ap (λ (x : ℕ). record { from = m .mark-byte; to = x }) i
-    ∙ sym (on-true y (only-separators (m .pending)) z (range-at (t ∷ drop (m .cursor + 1) (tokens-of tk)) m) f g)
+    ∙ sym (on-true y (only-separators (m .pending)) z (range-at (t ∷ drop (m .cursor + 1) (tokens-of tokens)) m) f g)
     ∙ sym (ap (λ (l : List Token). error-range l m) d)
 
-pub range-token : (tk : List ℕ) (m : Machine) (y : Bool) (r : Span) → m .cursor < length tk / TOKEN-ROW → y ≡ only-separators (m .pending) → y ≡ false → r ≡ range-at (drop (m .cursor) (tokens-of tk)) m
-    → r ≡ error-range (drop (m .cursor) (tokens-of tk)) m
+pub range-token : (tokens : List ℕ) (m : Machine) (y : Bool) (r : Span) → m .cursor < length tokens / TOKEN-ROW → y ≡ only-separators (m .pending) → y ≡ false → r ≡ range-at (drop (m .cursor) (tokens-of tokens)) m
+    → r ≡ error-range (drop (m .cursor) (tokens-of tokens)) m
 unfolding error-range
-range-token tk m y r h f g i =
-    let d = tokens-cons tk (m .cursor) h in
-    let t = token-at tk (m .cursor) in
+range-token tokens m y r h f g i =
+    let d = tokens-cons tokens (m .cursor) h in
+    let t = token-at tokens (m .cursor) in
     let z : Span = record { from = m .mark-byte; to = low (m .mark-byte + 1) } in
     i ∙ ap (λ (l : List Token). range-at l m) d
-    ∙ sym (on-false y (only-separators (m .pending)) z (range-at (t ∷ drop (m .cursor + 1) (tokens-of tk)) m) f g)
+    ∙ sym (on-false y (only-separators (m .pending)) z (range-at (t ∷ drop (m .cursor + 1) (tokens-of tokens)) m) f g)
     ∙ sym (ap (λ (l : List Token). error-range l m) d)
 
-pub range-end : (tk : List ℕ) (m : Machine) (s : ℕ) → length tk / TOKEN-ROW ≤ m .cursor → s ≡ m .byte - 1 → record { from = s; to = m .byte } ≡ error-range (drop (m .cursor) (tokens-of tk)) m
+pub range-end : (tokens : List ℕ) (m : Machine) (s : ℕ) → length tokens / TOKEN-ROW ≤ m .cursor → s ≡ m .byte - 1 → record { from = s; to = m .byte } ≡ error-range (drop (m .cursor) (tokens-of tokens)) m
 unfolding error-range
-range-end tk m s h e = ap (λ (x : ℕ). record { from = x; to = m .byte }) e ∙ sym (ap (λ (l : List Token). error-range l m) (tokens-end tk (m .cursor) h))
+range-end tokens m s h e = ap (λ (x : ℕ). record { from = x; to = m .byte }) e ∙ sym (ap (λ (l : List Token). error-range l m) (tokens-end tokens (m .cursor) h))
 
 -- ---------------------------------------------------------------- the row
 

@@ -44,9 +44,9 @@ pub below : (a b : ℕ) → a ≤ b → low (a - b) ≡ 0
 below a b h = let e : a - b ≡ 0 = omega (arith, h) in ap low e
 
 -- past every row nothing is left
-pub left-none : (tk : List ℕ) (s : State) → s .cursor .0 ≡ PAST-THE-END → length tk < TWO-TO-64 → left tk s ≡ 0
+pub left-none : (tokens : List ℕ) (s : State) → s .cursor .0 ≡ PAST-THE-END → length tokens < TWO-TO-64 → left tokens s ≡ 0
 unfolding left
-left-none tk s e h = omega (arith, e, h)
+left-none tokens s e h = omega (arith, e, h)
 
 pub refused-past : (n : ℕ) (m r : Machine) → r ≡ refuse n m → r .cursor ≡ PAST-THE-END
 unfolding refuse

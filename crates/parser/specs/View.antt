@@ -9,13 +9,13 @@ use Rattle.definitions.specs.TokenKind as K
 use Rattle.definitions.specs.Errors as E
 use Rattle.definitions.specs.Token.{Token, tokens-of}
 use Rattle.definitions.specs.Skeleton.{Span}
-use Rattle.definitions.specs.Prog.{Ans, no, yes, also, again, Rule, Prog}
+use Rattle.definitions.specs.Prog.{Ans, no, yes, also, again, Rule, Act, Prog}
 use Rattle.definitions.specs.Run.{truth}
 use Rattle.definitions.specs.Check.{NAME-SET, LABEL-NAME-SET}
 use Rattle.definitions.specs.Check as C
 use Rattle.machine.specs.Machine.{Machine}
 use Rattle.machine.specs.Machine as M
-use Rattle.machine.specs.Walk.{Walked, said, walk, marker, closed, unlabelled, walk-prog, walk-rule}
+use Rattle.machine.specs.Walk.{Walked, said, perform, walk, next-marker, marked, unlabelled, walk-prog, walk-rule}
 use lib.Seq.{sets}
 use denote.Ref.{RefT, now}
 use denote.Triple.Both.{Both}
@@ -23,7 +23,7 @@ use Rattle.parser.specs.declared.State.{State}
 use Rattle.parser.specs.declared.Parser.{Parser}
 use Rattle.parser.specs.declared.StateTested.{StateTested}
 use Rattle.parser.specs.declared.ParserTested.{ParserTested}
-use Rattle.parser.specs.declared.Ans.{Ans as Answered}
+use Rattle.parser.specs.declared.Ans.{Ans as CodeAns}
 use Rattle.parser.specs.declared.Ans.the-variants as A
 use Rattle.parser.specs.declared.errors.Bump.{Bump}
 use Rattle.parser.specs.declared.errors.Bump.the-variants.{No, Yes, YesWrapErr}
@@ -41,9 +41,9 @@ view s codes events reports pool =
       mark = s .mark .0;
       mark-byte = s .«mark_byte» .0;
       pending = take (s .pending) codes;
-      events = record { count = s .events; numbers = events };
-      reports = record { count = s .reports; numbers = reports };
-      pool = record { count = s .pool; numbers = pool };
+      events = record { count = s .«events_written»; numbers = events };
+      reports = record { count = s .«reports_written»; numbers = reports };
+      pool = record { count = s .«pool_written»; numbers = pool };
       refusal = s .refusal;
       place = s .place .0;
     }
@@ -63,7 +63,7 @@ view-of p events reports pool = view (p .s) (p .codes) events reports pool
 abbrev pub parser-tested : ParserTested → List ℕ → List ℕ → List ℕ → Walked
 parser-tested r events reports pool = said (truth (r .yes)) (view-of (r .p) events reports pool)
 
-abbrev pub ans-of : Answered → Ans
+abbrev pub ans-of : CodeAns → Ans
 ans-of A.No = no
 ans-of A.Yes = yes
 ans-of A.Also = also
@@ -75,7 +75,7 @@ take-first [] m = m
 take-first (t ∷ ts) m = M.took t m
 
 abbrev pub marker-of : Marker → M.Marker
-marker-of m = record { place = m .0; tag = m .1 }
+marker-of m = record { index = m .0; tag = m .1 }
 
 abbrev pub span-of : TextRange → Span
 span-of r = record { from = r .start .0; to = r .end .0 }
@@ -119,8 +119,8 @@ unfolding C.at walk M.push
 starting ask ts b k m =
     let w = walk ask ts b (C.at k) m in
     by-answer (w .ans)
-    (record { yes = false; marker = marker START-NODE (w .on); on = w .on })
-    (record { yes = true; marker = marker START-NODE (w .on); on = walk ask ts b (k .consume) (M.push PLACEHOLDER 0 (w .on)) .on })
+    (record { yes = false; marker = next-marker START-NODE (w .on); on = w .on })
+    (record { yes = true; marker = next-marker START-NODE (w .on); on = walk ask ts b (k .consume) (M.push PLACEHOLDER 0 (w .on)) .on })
 
 -- the program of a report with what it takes
 abbrev pub error-prog : Bump → ℕ → ℕ → Prog
@@ -134,11 +134,11 @@ takes No = 0
 takes Yes = 1
 takes YesWrapErr = 1
 
--- numbers stored from a place on, if they fit
+-- a report's row stored from an index on, if it fits
 abbrev pub stored : ℕ → List ℕ → List ℕ → List ℕ
-stored at row l = cond (M.fits (length l) at REPORT-ROW) (sets l at row) l
+stored index row l = cond (M.fits (length l) index REPORT-ROW) (sets l index row) l
 
--- ---------------------------------------------------------------- what a contract says: the walk of a term from the state before a call to the state after it
+-- ---------------------------------------------------------------- what a contract says of the machine before and after
 
 -- a lent buffer, as an `ensures` names it: before the call and after it
 abbrev pub Lent : Type 0
@@ -148,48 +148,169 @@ Lent = Both (RefT (List ℕ)) (RefT (List ℕ))
 abbrev pub says : Ans → State → List ℕ → List ℕ → List ℕ → List ℕ → Walked
 says a s codes events reports pool = said a (view s codes events reports pool)
 
+-- f of the machine before it, whatever the buffers hold: none is written
+abbrev pub becomes : (Machine → Machine) → State → State → Type 0
+becomes f s r = (codes events reports pool : List ℕ) → view r codes events reports pool ≡ f (view s codes events reports pool)
+
+-- the same: events are written, and nothing else
+abbrev pub writes-events : (Machine → Machine) → State → State → Lent → Type 0
+writes-events f s r events =
+    (codes reports pool : List ℕ)
+    → view r codes (now (events .exit)) reports pool ≡ f (view s codes (now (events .entry)) reports pool)
+
+-- a report's row and its expectations, if nothing was refused before
+abbrev pub writes-report : ℕ → ℕ → TextRange → TextRange → State → State → Lent → Lent → Lent → Type 0
+writes-report message hint range label s r codes reports pool =
+    (events : List ℕ) → s .refusal ≡ 0
+    → view r (now (codes .entry)) events (now (reports .exit)) (now (pool .exit))
+    ≡ M.write-report message hint (span-of range) (span-of label)
+    (view s (now (codes .entry)) events (now (reports .entry)) (now (pool .entry)))
+
+-- a report's event, row and expectations
+abbrev pub emits : ℕ → ℕ → TextRange → State → State → Lent → Lent → Lent → Lent → Lent → Type 0
+emits message hint label s r codes tokens events reports pool =
+    view r (now (codes .entry)) (now (events .exit)) (now (reports .exit)) (now (pool .exit))
+    ≡ M.emit (tokens-of (now (tokens .entry))) message hint (span-of label)
+    (view s (now (codes .entry)) (now (events .entry)) (now (reports .entry)) (now (pool .entry)))
+
+-- ---------------------------------------------------------------- an action, from the state before a call to the state after it
+
+-- it writes nothing
+abbrev pub tests : Act → State → (List ℕ → List ℕ → List ℕ → List ℕ → Walked) → Lent → Type 0
+tests a s r tokens =
+    (b : Span) (codes events reports pool : List ℕ)
+    → r codes events reports pool ≡ perform (tokens-of (now (tokens .entry))) b a (view s codes events reports pool)
+
+-- it writes events, and nothing else
+abbrev pub bumps : Act → State → (List ℕ → List ℕ → List ℕ → List ℕ → Walked) → Lent → Lent → Type 0
+bumps a s r tokens events =
+    (b : Span) (codes reports pool : List ℕ)
+    → r codes (now (events .exit)) reports pool
+    ≡ perform (tokens-of (now (tokens .entry))) b a (view s codes (now (events .entry)) reports pool)
+
+-- it pushes expectations, and nothing else
+abbrev pub adds : Act → State → (List ℕ → List ℕ → List ℕ → List ℕ → Walked) → Lent → Type 0
+adds a s r codes =
+    (ts : List Token) (b : Span) (events reports pool : List ℕ)
+    → r (now (codes .exit)) events reports pool ≡ perform ts b a (view s (now (codes .entry)) events reports pool)
+
+-- ---------------------------------------------------------------- the walk of a term, from the state before a call to the state after it
+
 -- p walked from s comes to r, whatever an open call does and wherever the brace is
 abbrev pub walks : Prog → State → (List ℕ → List ℕ → List ℕ → List ℕ → Walked) → Lent → Lent → Lent → Lent → Lent → Type 0
 walks p s r codes tokens events reports pool =
     (ask : Rule → Machine → Walked) (b : Span)
     → r (now (codes .exit)) (now (events .exit)) (now (reports .exit)) (now (pool .exit))
-    ≡ walk ask (tokens-of (now (tokens .entry))) b p (view s (now (codes .entry)) (now (events .entry)) (now (reports .entry)) (now (pool .entry)))
+    ≡ walk ask (tokens-of (now (tokens .entry))) b p
+    (view s (now (codes .entry)) (now (events .entry)) (now (reports .entry)) (now (pool .entry)))
 
 -- the same, where the code does not know the answer
 abbrev pub walks-on : Prog → State → State → Lent → Lent → Lent → Lent → Lent → Type 0
 walks-on p s r codes tokens events reports pool =
     (ask : Rule → Machine → Walked) (b : Span)
     → view r (now (codes .exit)) (now (events .exit)) (now (reports .exit)) (now (pool .exit))
-    ≡ walk ask (tokens-of (now (tokens .entry))) b p (view s (now (codes .entry)) (now (events .entry)) (now (reports .entry)) (now (pool .entry))) .on
+    ≡ walk ask (tokens-of (now (tokens .entry))) b p
+    (view s (now (codes .entry)) (now (events .entry)) (now (reports .entry)) (now (pool .entry))) .on
+
+-- the same, of a program whose marker m its caller made
+abbrev pub closes : Marker → Prog → State → (List ℕ → List ℕ → List ℕ → List ℕ → Walked) → Lent → Lent → Lent → Lent → Lent → Type 0
+closes m p s r codes tokens events reports pool =
+    (ask : Rule → Machine → Walked) (b : Span)
+    → r (now (codes .exit)) (now (events .exit)) (now (reports .exit)) (now (pool .exit))
+    ≡ marked (marker-of m) (walk ask (tokens-of (now (tokens .entry))) b p
+    (view s (now (codes .entry)) (now (events .entry)) (now (reports .entry)) (now (pool .entry))))
+
+-- a silent test: it writes nothing
+abbrev pub sees : Prog → State → (List ℕ → List ℕ → List ℕ → List ℕ → Walked) → Lent → Type 0
+sees p s r tokens =
+    (ask : Rule → Machine → Walked) (b : Span) (codes events reports pool : List ℕ)
+    → r codes events reports pool ≡ walk ask (tokens-of (now (tokens .entry))) b p (view s codes events reports pool)
 
 -- a test: it may push expectations, and writes nothing else
 abbrev pub looks : Prog → State → (List ℕ → List ℕ → List ℕ → List ℕ → Walked) → Lent → Lent → Type 0
 looks p s r codes tokens =
     (ask : Rule → Machine → Walked) (b : Span) (events reports pool : List ℕ)
-    → r (now (codes .exit)) events reports pool ≡ walk ask (tokens-of (now (tokens .entry))) b p (view s (now (codes .entry)) events reports pool)
+    → r (now (codes .exit)) events reports pool
+    ≡ walk ask (tokens-of (now (tokens .entry))) b p (view s (now (codes .entry)) events reports pool)
+
+-- expectations pushed, whatever the tokens are
+abbrev pub expects : Prog → State → (List ℕ → List ℕ → List ℕ → List ℕ → Walked) → Lent → Type 0
+expects p s r codes =
+    (ask : Rule → Machine → Walked) (ts : List Token) (b : Span) (events reports pool : List ℕ)
+    → r (now (codes .exit)) events reports pool ≡ walk ask ts b p (view s (now (codes .entry)) events reports pool)
 
 -- tokens taken: it writes events, and nothing else
 abbrev pub moves : Prog → State → (List ℕ → List ℕ → List ℕ → List ℕ → Walked) → Lent → Lent → Type 0
 moves p s r tokens events =
     (ask : Rule → Machine → Walked) (b : Span) (codes reports pool : List ℕ)
-    → r codes (now (events .exit)) reports pool ≡ walk ask (tokens-of (now (tokens .entry))) b p (view s codes (now (events .entry)) reports pool)
+    → r codes (now (events .exit)) reports pool
+    ≡ walk ask (tokens-of (now (tokens .entry))) b p (view s codes (now (events .entry)) reports pool)
+
+-- the same, or expectations pushed
+abbrev pub eats : Prog → State → (List ℕ → List ℕ → List ℕ → List ℕ → Walked) → Lent → Lent → Lent → Type 0
+eats p s r codes tokens events =
+    (ask : Rule → Machine → Walked) (b : Span) (reports pool : List ℕ)
+    → r (now (codes .exit)) (now (events .exit)) reports pool
+    ≡ walk ask (tokens-of (now (tokens .entry))) b p (view s (now (codes .entry)) (now (events .entry)) reports pool)
+
+-- `eat_starting` of k: whether it matched, the marker m, and the numbers r after it
+abbrev pub starts : C.Matcher → State → Bool → Marker → State → Lent → Lent → Lent → Type 0
+starts k s yes m r codes tokens events =
+    (ask : Rule → Machine → Walked) (b : Span) (reports pool : List ℕ)
+    → starting ask (tokens-of (now (tokens .entry))) b k (view s (now (codes .entry)) (now (events .entry)) reports pool)
+    ≡ record { yes = yes; marker = marker-of m; on = view r (now (codes .exit)) (now (events .exit)) reports pool }
 
 -- ---------------------------------------------------------------- the same of the whole parser
+
+-- what is said of the lent buffers, of them as they are before the call, and after it
+abbrev pub entering : {X : Type 0} → (List ℕ → List ℕ → List ℕ → X) → Lent → Lent → Lent → X
+entering f events reports pool = f (now (events .entry)) (now (reports .entry)) (now (pool .entry))
+
+abbrev pub leaving : {X : Type 0} → (List ℕ → List ℕ → List ℕ → X) → Lent → Lent → Lent → X
+leaving f events reports pool = f (now (events .exit)) (now (reports .exit)) (now (pool .exit))
 
 abbrev pub says-of : Ans → Parser → List ℕ → List ℕ → List ℕ → Walked
 says-of a p events reports pool = said a (view-of p events reports pool)
 
+abbrev pub becomes-of : (Machine → Machine) → Parser → Parser → Type 0
+becomes-of f p r = (events reports pool : List ℕ) → view-of r events reports pool ≡ f (view-of p events reports pool)
+
+abbrev pub writes-events-of : (Machine → Machine) → Parser → Parser → Lent → Type 0
+writes-events-of f p r events =
+    (reports pool : List ℕ) → view-of r (now (events .exit)) reports pool ≡ f (view-of p (now (events .entry)) reports pool)
+
+abbrev pub emits-of : ℕ → ℕ → TextRange → Parser → Parser → Lent → Lent → Lent → Lent → Type 0
+emits-of message hint label p r tokens events reports pool =
+    leaving (view-of r) events reports pool
+    ≡ M.emit (tokens-of (now (tokens .entry))) message hint (span-of label) (entering (view-of p) events reports pool)
+
+abbrev pub tests-of : Act → Parser → (List ℕ → List ℕ → List ℕ → Walked) → Lent → Type 0
+tests-of a p r tokens =
+    (b : Span) (events reports pool : List ℕ)
+    → r events reports pool ≡ perform (tokens-of (now (tokens .entry))) b a (view-of p events reports pool)
+
+abbrev pub bumps-of : Act → Parser → (List ℕ → List ℕ → List ℕ → Walked) → Lent → Lent → Type 0
+bumps-of a p r tokens events =
+    (b : Span) (reports pool : List ℕ)
+    → r (now (events .exit)) reports pool
+    ≡ perform (tokens-of (now (tokens .entry))) b a (view-of p (now (events .entry)) reports pool)
+
+abbrev pub adds-of : Act → Parser → (List ℕ → List ℕ → List ℕ → Walked) → Type 0
+adds-of a p r =
+    (ts : List Token) (b : Span) (events reports pool : List ℕ)
+    → r events reports pool ≡ perform ts b a (view-of p events reports pool)
+
 abbrev pub walks-of : Prog → Parser → (List ℕ → List ℕ → List ℕ → Walked) → Lent → Lent → Lent → Lent → Type 0
 walks-of q p r tokens events reports pool =
     (ask : Rule → Machine → Walked) (b : Span)
-    → r (now (events .exit)) (now (reports .exit)) (now (pool .exit))
-    ≡ walk ask (tokens-of (now (tokens .entry))) b q (view-of p (now (events .entry)) (now (reports .entry)) (now (pool .entry)))
+    → leaving r events reports pool
+    ≡ walk ask (tokens-of (now (tokens .entry))) b q (entering (view-of p) events reports pool)
 
 abbrev pub walks-on-of : Prog → Parser → Parser → Lent → Lent → Lent → Lent → Type 0
 walks-on-of q p r tokens events reports pool =
     (ask : Rule → Machine → Walked) (b : Span)
-    → view-of r (now (events .exit)) (now (reports .exit)) (now (pool .exit))
-    ≡ walk ask (tokens-of (now (tokens .entry))) b q (view-of p (now (events .entry)) (now (reports .entry)) (now (pool .entry))) .on
+    → leaving (view-of r) events reports pool
+    ≡ walk ask (tokens-of (now (tokens .entry))) b q (entering (view-of p) events reports pool) .on
 
 abbrev pub looks-of : Prog → Parser → (List ℕ → List ℕ → List ℕ → Walked) → Lent → Type 0
 looks-of q p r tokens =
@@ -199,30 +320,47 @@ looks-of q p r tokens =
 abbrev pub moves-of : Prog → Parser → (List ℕ → List ℕ → List ℕ → Walked) → Lent → Lent → Type 0
 moves-of q p r tokens events =
     (ask : Rule → Machine → Walked) (b : Span) (reports pool : List ℕ)
-    → r (now (events .exit)) reports pool ≡ walk ask (tokens-of (now (tokens .entry))) b q (view-of p (now (events .entry)) reports pool)
+    → r (now (events .exit)) reports pool
+    ≡ walk ask (tokens-of (now (tokens .entry))) b q (view-of p (now (events .entry)) reports pool)
 
--- with n open calls allowed: a program, a rule, and a program whose marker m its caller made
+-- a program whose marker m its caller made; the same with its brace at a span
+abbrev pub closes-of : Marker → Prog → Parser → (List ℕ → List ℕ → List ℕ → Walked) → Lent → Lent → Lent → Lent → Type 0
+closes-of m q p r tokens events reports pool =
+    (ask : Rule → Machine → Walked) (b : Span)
+    → leaving r events reports pool
+    ≡ marked (marker-of m) (walk ask (tokens-of (now (tokens .entry))) b q (entering (view-of p) events reports pool))
+
+abbrev pub closes-at-of : TextRange → Marker → Prog → Parser → (List ℕ → List ℕ → List ℕ → Walked) → Lent → Lent → Lent → Lent → Type 0
+closes-at-of range m q p r tokens events reports pool =
+    (ask : Rule → Machine → Walked)
+    → leaving r events reports pool
+    ≡ marked (marker-of m)
+    (walk ask (tokens-of (now (tokens .entry))) (span-of range) q (entering (view-of p) events reports pool))
+
+-- ---------------------------------------------------------------- the same with n open calls allowed: a program, a rule, a program whose marker m its caller made
+
 abbrev pub runs-of : ℕ → Prog → Parser → (List ℕ → List ℕ → List ℕ → Walked) → Lent → Lent → Lent → Lent → Type 0
 runs-of n q p r tokens events reports pool =
-    r (now (events .exit)) (now (reports .exit)) (now (pool .exit))
-    ≡ walk-prog n (tokens-of (now (tokens .entry))) unlabelled q (view-of p (now (events .entry)) (now (reports .entry)) (now (pool .entry)))
+    leaving r events reports pool
+    ≡ walk-prog n (tokens-of (now (tokens .entry))) unlabelled q (entering (view-of p) events reports pool)
 
 abbrev pub runs-on-of : ℕ → Prog → Parser → Parser → Lent → Lent → Lent → Lent → Type 0
 runs-on-of n q p r tokens events reports pool =
-    view-of r (now (events .exit)) (now (reports .exit)) (now (pool .exit))
-    ≡ walk-prog n (tokens-of (now (tokens .entry))) unlabelled q (view-of p (now (events .entry)) (now (reports .entry)) (now (pool .entry))) .on
+    leaving (view-of r) events reports pool
+    ≡ walk-prog n (tokens-of (now (tokens .entry))) unlabelled q (entering (view-of p) events reports pool) .on
 
 abbrev pub calls-of : ℕ → Rule → Parser → (List ℕ → List ℕ → List ℕ → Walked) → Lent → Lent → Lent → Lent → Type 0
 calls-of n q p r tokens events reports pool =
-    r (now (events .exit)) (now (reports .exit)) (now (pool .exit))
-    ≡ walk-rule n (tokens-of (now (tokens .entry))) q (view-of p (now (events .entry)) (now (reports .entry)) (now (pool .entry)))
+    leaving r events reports pool
+    ≡ walk-rule n (tokens-of (now (tokens .entry))) q (entering (view-of p) events reports pool)
 
 abbrev pub calls-on-of : ℕ → Rule → Parser → Parser → Lent → Lent → Lent → Lent → Type 0
 calls-on-of n q p r tokens events reports pool =
-    view-of r (now (events .exit)) (now (reports .exit)) (now (pool .exit))
-    ≡ walk-rule n (tokens-of (now (tokens .entry))) q (view-of p (now (events .entry)) (now (reports .entry)) (now (pool .entry))) .on
+    leaving (view-of r) events reports pool
+    ≡ walk-rule n (tokens-of (now (tokens .entry))) q (entering (view-of p) events reports pool) .on
 
-abbrev pub closes-of : ℕ → Marker → Prog → Parser → (List ℕ → List ℕ → List ℕ → Walked) → Lent → Lent → Lent → Lent → Type 0
-closes-of n m q p r tokens events reports pool =
-    r (now (events .exit)) (now (reports .exit)) (now (pool .exit))
-    ≡ closed (marker-of m) (walk-prog n (tokens-of (now (tokens .entry))) unlabelled q (view-of p (now (events .entry)) (now (reports .entry)) (now (pool .entry))))
+abbrev pub run-closes-of : ℕ → Marker → Prog → Parser → (List ℕ → List ℕ → List ℕ → Walked) → Lent → Lent → Lent → Lent → Type 0
+run-closes-of n m q p r tokens events reports pool =
+    leaving r events reports pool
+    ≡ marked (marker-of m)
+    (walk-prog n (tokens-of (now (tokens .entry))) unlabelled q (entering (view-of p) events reports pool))

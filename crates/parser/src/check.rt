@@ -17,13 +17,9 @@ ghost use mathlib.Core.List.{List};
 ghost use Prim.Native.Nat.{ℕ, _-_, _≤_, _<_};
 ghost use lib.Dec.{ltb};
 ghost use lib.ListN.{length, set};
-ghost use Rattle.definitions.specs.Token.{Token, tokens-of};
-ghost use Rattle.definitions.specs.Skeleton.{Span};
-ghost use Rattle.definitions.specs.Prog.{Rule, yes, silent-at, immediate, add-expected, act, _⨟_};
+ghost use Rattle.definitions.specs.Prog.{yes, silent-at, immediate, add-expected, act, _⨟_};
 ghost use Rattle.definitions.specs.Check.{expected, silent-eat as silent-eat-prog, at as at-prog, eat as eat-prog, expect as expect-prog, expect-recoverable as expect-recoverable-prog};
-ghost use Rattle.machine.specs.Machine.{Machine};
-ghost use Rattle.machine.specs.Walk.{Walked, said, perform, walk};
-ghost use Rattle.parser.specs.View.{view, left, state-tested, marker-of, matcher-of, kinds-of, starting, looks, moves, walks};
+ghost use Rattle.parser.specs.View.{left, state-tested, matcher-of, kinds-of, looks, moves, walks, adds, eats, starts, tests, says};
 
 // What `eat_starting` gives: on a match, the marker that was started before the token.
 pub struct Started {
@@ -47,8 +43,7 @@ fn put_code(codes: &mut [u8], index: usize, code: u8) -> bool
 impl State {
     // At most as many as there are codes.
     pub fn add_expected(self, codes: &mut Codes, code: u8) -> State
-        ensures { λ r. ⌜ ((ts : List Token) (b : Span) (events reports pool : List ℕ) → said yes (view r (now (codes .exit)) events reports pool)
-            ≡ perform ts b (add-expected code) (view self (now (codes .entry)) events reports pool)) ⌝ }
+        ensures { λ r. ⌜ adds (add-expected code) self (says yes r) codes ⌝ }
         ensures { λ r. ⌜ ((tokens : List ℕ) → left tokens r ≤ left tokens self) ⌝ }
     {
         let n = self.pending;
@@ -64,8 +59,7 @@ impl State {
 
     // `check(matcher).silent().at()`
     pub fn silent(self, tokens: &[u32], m: Matcher) -> StateTested
-        ensures { λ r. ⌜ ((b : Span) (codes events reports pool : List ℕ) → state-tested r codes events reports pool
-            ≡ perform (tokens-of (now (tokens .entry))) b (silent-at (kinds-of m)) (view self codes events reports pool)) ⌝ }
+        ensures { λ r. ⌜ tests (silent-at (kinds-of m)) self (state-tested r) tokens ⌝ }
         ensures { λ r. ⌜ left (now (tokens .entry)) (r .s) ≤ left (now (tokens .entry)) self ⌝ }
         ensures { λ r. ⌜ (r .yes ≡ true → 0 < left (now (tokens .entry)) (r .s)) ⌝ }
     {
@@ -116,8 +110,7 @@ impl State {
         events: &mut [u32],
         m: Matcher,
     ) -> StateTested
-        ensures { λ r. ⌜ ((ask : Rule → Machine → Walked) (b : Span) (reports pool : List ℕ) → state-tested r (now (codes .exit)) (now (events .exit)) reports pool
-            ≡ walk ask (tokens-of (now (tokens .entry))) b (eat-prog (matcher-of m)) (view self (now (codes .entry)) (now (events .entry)) reports pool)) ⌝ }
+        ensures { λ r. ⌜ eats (eat-prog (matcher-of m)) self (state-tested r) codes tokens events ⌝ }
         ensures { λ r. ⌜ left (now (tokens .entry)) (r .s) ≤ left (now (tokens .entry)) self ⌝ }
         ensures { λ r. ⌜ (r .yes ≡ true → left (now (tokens .entry)) (r .s) ≤ left (now (tokens .entry)) self - 1) ⌝ }
     {
@@ -139,10 +132,7 @@ impl State {
         events: &mut [u32],
         matcher: Matcher,
     ) -> Started
-        ensures { λ r. ⌜ ((ask : Rule → Machine → Walked) (b : Span) (reports pool : List ℕ)
-            → starting ask (tokens-of (now (tokens .entry))) b (matcher-of matcher)
-            (view self (now (codes .entry)) (now (events .entry)) reports pool)
-            ≡ record { yes = r .yes; marker = marker-of (r .m); on = view (r .s) (now (codes .exit)) (now (events .exit)) reports pool }) ⌝ }
+        ensures { λ r. ⌜ starts (matcher-of matcher) self (r .yes) (r .m) (r .s) codes tokens events ⌝ }
         ensures { λ r. ⌜ left (now (tokens .entry)) (r .s) ≤ left (now (tokens .entry)) self ⌝ }
         ensures { λ r. ⌜ (r .yes ≡ true → left (now (tokens .entry)) (r .s) ≤ left (now (tokens .entry)) self - 1) ⌝ }
     {

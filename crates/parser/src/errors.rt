@@ -8,7 +8,15 @@ use layout::message::EXPECTED;
 use layout::message::UNCLOSED_NODE;
 use layout::node_kind;
 use layout::refusal::NO_REPORT_ROOM;
+use layout::row::REPORT_END;
+use layout::row::REPORT_HINT;
+use layout::row::REPORT_LABEL_END;
+use layout::row::REPORT_LABEL_START;
+use layout::row::REPORT_MARK;
+use layout::row::REPORT_POOL_COUNT;
+use layout::row::REPORT_POOL_FIRST;
 use layout::row::REPORT_ROW;
+use layout::row::REPORT_START;
 use layout::row::TOKEN_ROW;
 use layout::token_kind;
 use layout::word;
@@ -23,9 +31,9 @@ ghost use Rattle.definitions.specs.Prog.{yes};
 ghost use Rattle.definitions.specs.Check.{if_then_else_, end?, bump!, tell, in-node as node-prog};
 ghost use Rattle.definitions.specs.NodeKind as N;
 ghost use Rattle.definitions.specs.Run.{only-separators, pool-of};
-ghost use Rattle.machine.specs.Machine.{error-range, write-report, emit as emit-machine};
+ghost use Rattle.machine.specs.Machine.{error-range};
 ghost use Rattle.machine.specs.Walk.{unlabelled};
-ghost use Rattle.parser.specs.View.{view, left, span-of, error-prog, takes, stored, walks, moves, says};
+ghost use Rattle.parser.specs.View.{view, left, span-of, error-prog, takes, stored, walks, moves, says, emits, writes-report};
 ghost use lib.Seq.{sets};
 
 pub struct TextRange {
@@ -93,7 +101,7 @@ fn pool_count(message: u32, codes: &[u8], pending: usize) -> usize
     }
 }
 
-// The first n codes, written from a place of the pool on.
+// The first n codes, written from an index of the pool on.
 fn put_codes(codes: &[u8], pool: &mut [u32], first: usize, n: usize)
     requires { ⌜ n ≤ length (now codes) ⌝ }
     requires { ⌜ first + n ≤ length (now pool) ⌝ }
@@ -124,14 +132,14 @@ fn put_report(
     let enough = fits(reports.len(), index, REPORT_ROW);
     if enough {
         reports[index] = message;
-        reports[index + 1] = range.start.0;
-        reports[index + 2] = range.end.0;
-        reports[index + 3] = mark;
-        reports[index + 4] = first;
-        reports[index + 5] = count;
-        reports[index + 6] = hint;
-        reports[index + 7] = label.start.0;
-        reports[index + 8] = label.end.0;
+        reports[index + REPORT_START] = range.start.0;
+        reports[index + REPORT_END] = range.end.0;
+        reports[index + REPORT_MARK] = mark;
+        reports[index + REPORT_POOL_FIRST] = first;
+        reports[index + REPORT_POOL_COUNT] = count;
+        reports[index + REPORT_HINT] = hint;
+        reports[index + REPORT_LABEL_START] = label.start.0;
+        reports[index + REPORT_LABEL_END] = label.end.0;
     }
 }
 
@@ -176,21 +184,20 @@ impl State {
         range: TextRange,
         label: TextRange,
     ) -> State
-        ensures { λ r. ⌜ ((events : List ℕ) → self .refusal ≡ 0 → view r (now (codes .entry)) events (now (reports .exit)) (now (pool .exit))
-            ≡ write-report message hint (span-of range) (span-of label) (view self (now (codes .entry)) events (now (reports .entry)) (now (pool .entry)))) ⌝ }
+        ensures { λ r. ⌜ writes-report message hint range label self r codes reports pool ⌝ }
         ensures { λ r. ⌜ ((tokens : List ℕ) → left tokens r ≤ left tokens self) ⌝ }
     {
-        let at = self.reports;
-        let first = self.pool;
+        let index = self.reports_written;
+        let first = self.pool_written;
         let n = pool_count(message, codes, self.pending);
-        let enough = fits(reports.len(), at, REPORT_ROW);
+        let enough = fits(reports.len(), index, REPORT_ROW);
         if enough {
-            let pool_room = fits(pool.len(), first, n);
-            if pool_room {
+            let pool_fits = fits(pool.len(), first, n);
+            if pool_fits {
                 let mark = low32(self.mark.0);
                 put_report(
                     reports,
-                    at,
+                    index,
                     message,
                     hint,
                     range,
@@ -201,8 +208,8 @@ impl State {
                 );
                 put_codes(codes, pool, first, n);
                 let mut q = self;
-                q.reports = at + REPORT_ROW;
-                q.pool = first + n;
+                q.reports_written = index + REPORT_ROW;
+                q.pool_written = first + n;
                 q
             } else {
                 self.refuse(NO_REPORT_ROOM)
@@ -224,8 +231,7 @@ impl State {
         hint: u32,
         label: TextRange,
     ) -> State
-        ensures { λ r. ⌜ view r (now (codes .entry)) (now (events .exit)) (now (reports .exit)) (now (pool .exit))
-            ≡ emit-machine (tokens-of (now (tokens .entry))) message hint (span-of label) (view self (now (codes .entry)) (now (events .entry)) (now (reports .entry)) (now (pool .entry))) ⌝ }
+        ensures { λ r. ⌜ emits message hint label self r codes tokens events reports pool ⌝ }
         ensures { λ r. ⌜ left (now (tokens .entry)) r ≤ left (now (tokens .entry)) self ⌝ }
     {
         let here = self.peek(tokens);

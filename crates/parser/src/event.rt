@@ -19,11 +19,9 @@ ghost use Prim.Native.Nat.{ℕ, _-_, _≤_};
 ghost use lib.ListN.{drop};
 ghost use Rattle.basics.specs.Word.{low};
 ghost use Rattle.definitions.specs.Token.{tokens-of};
-ghost use Rattle.definitions.specs.Skeleton.{Span};
 ghost use Rattle.definitions.specs.Prog.{yes, bump as bump-act, bump-name as bump-name-act};
 ghost use Rattle.machine.specs.Machine.{refuse as refuse-machine, push-row as push-row-machine, push, name-run};
-ghost use Rattle.machine.specs.Walk.{said, perform};
-ghost use Rattle.parser.specs.View.{view, left};
+ghost use Rattle.parser.specs.View.{left, becomes, bumps, writes-events, says};
 
 // The cursor after a refusal: past every row, so that every loop ends by itself.
 pub const PAST_THE_END: usize = 18446744073709551615;
@@ -31,8 +29,7 @@ pub const PAST_THE_END: usize = 18446744073709551615;
 impl State {
     // The first refusal stays.
     pub fn refuse(self, number: u32) -> State
-        ensures { λ r. ⌜ ((codes events reports pool : List ℕ) → view r codes events reports pool
-            ≡ refuse-machine number (view self codes events reports pool)) ⌝ }
+        ensures { λ r. ⌜ becomes (refuse-machine number) self r ⌝ }
         ensures { λ r. ⌜ ((tokens : List ℕ) → left tokens r ≤ left tokens self) ⌝ }
     {
         let past = TokenIndex(PAST_THE_END);
@@ -53,18 +50,17 @@ impl State {
 
     // An event, if it fits.
     pub fn push_row(self, events: &mut [u32], tag: u32, value: u32) -> State
-        ensures { λ r. ⌜ ((codes reports pool : List ℕ) → view r codes (now (events .exit)) reports pool
-            ≡ push-row-machine tag value (view self codes (now (events .entry)) reports pool)) ⌝ }
+        ensures { λ r. ⌜ writes-events (push-row-machine tag value) self r events ⌝ }
         ensures { λ r. ⌜ ((tokens : List ℕ) → left tokens r ≤ left tokens self) ⌝ }
     {
-        let index = self.events;
+        let index = self.events_written;
         let enough = fits(events.len(), index, EVENT_ROW);
         if enough {
             events[index] = tag;
             events[index + EVENT_ARGUMENT] = value;
             events[index + EVENT_DISTANCE] = 0;
             let mut q = self;
-            q.events = index + EVENT_ROW;
+            q.events_written = index + EVENT_ROW;
             q
         } else {
             self.refuse(NO_EVENT_ROOM)
@@ -73,8 +69,7 @@ impl State {
 
     // Nothing is pushed once something was refused.
     pub fn push_event(self, events: &mut [u32], tag: u32, value: u32) -> State
-        ensures { λ r. ⌜ ((codes reports pool : List ℕ) → view r codes (now (events .exit)) reports pool
-            ≡ push tag value (view self codes (now (events .entry)) reports pool)) ⌝ }
+        ensures { λ r. ⌜ writes-events (push tag value) self r events ⌝ }
         ensures { λ r. ⌜ ((tokens : List ℕ) → left tokens r ≤ left tokens self) ⌝ }
     {
         let on = self.refusal == 0;
@@ -87,8 +82,7 @@ impl State {
 
     // Takes the next token that is not trivia; nothing at the end.
     pub fn bump(self, tokens: &[u32], events: &mut [u32]) -> State
-        ensures { λ r. ⌜ ((b : Span) (codes reports pool : List ℕ) → said yes (view r codes (now (events .exit)) reports pool)
-            ≡ perform (tokens-of (now (tokens .entry))) b bump-act (view self codes (now (events .entry)) reports pool)) ⌝ }
+        ensures { λ r. ⌜ bumps bump-act self (says yes r) tokens events ⌝ }
         ensures { λ r. ⌜ left (now (tokens .entry)) r ≤ left (now (tokens .entry)) self - 1 ⌝ }
     {
         let here = self.peek(tokens);
@@ -104,8 +98,7 @@ impl State {
 
     // Takes the rows of the set that follow.
     fn take_while(self, tokens: &[u32], set: &[u8]) -> State
-        ensures { λ r. ⌜ ((codes events reports pool : List ℕ) → view r codes events reports pool
-            ≡ name-run (now (set .entry)) (drop (self .cursor .0) (tokens-of (now (tokens .entry)))) (view self codes events reports pool)) ⌝ }
+        ensures { λ r. ⌜ becomes (name-run (now (set .entry)) (drop (self .cursor .0) (tokens-of (now (tokens .entry))))) self r ⌝ }
         ensures { λ r. ⌜ left (now (tokens .entry)) r ≤ left (now (tokens .entry)) self ⌝ }
     {
         let mut q = self;
@@ -117,8 +110,7 @@ impl State {
 
     // `bump_name_generic`: takes the next token that is not trivia, and those of the set right after it, as one name.
     pub fn bump_name(self, tokens: &[u32], events: &mut [u32], set: &[u8]) -> State
-        ensures { λ r. ⌜ ((b : Span) (codes reports pool : List ℕ) → said yes (view r codes (now (events .exit)) reports pool)
-            ≡ perform (tokens-of (now (tokens .entry))) b (bump-name-act (now (set .entry))) (view self codes (now (events .entry)) reports pool)) ⌝ }
+        ensures { λ r. ⌜ bumps (bump-name-act (now (set .entry))) self (says yes r) tokens events ⌝ }
         ensures { λ r. ⌜ left (now (tokens .entry)) r ≤ left (now (tokens .entry)) self - 1 ⌝ }
     {
         let here = self.peek(tokens);

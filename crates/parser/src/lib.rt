@@ -23,16 +23,14 @@ ghost use mathlib.Core.List.{List, [], _∷_};
 ghost use Prim.Native.Nat.{ℕ, _-_, _≤_, _<_};
 ghost use lib.ListN.{length};
 ghost use Rattle.definitions.specs.Layout.{PLACEHOLDER as PLACEHOLDER-TAG, TWO-TO-64};
-ghost use Rattle.definitions.specs.Token.{Token, tokens-of};
-ghost use Rattle.definitions.specs.Skeleton.{Span};
+ghost use Rattle.definitions.specs.Token.{tokens-of};
 ghost use Rattle.definitions.specs.Prog.{yes, silent-at as silent-at-act, at-end as at-end-act, add-expected as add-expected-act, bump as bump-act};
 ghost use Rattle.definitions.specs.Check.{silent-eat as silent-eat-prog, at as at-prog, eat as eat-prog, expect as expect-prog, expect-recoverable as expect-recoverable-prog};
-ghost use Rattle.machine.specs.Machine.{refuse as refuse-machine, peek as peek-machine, push, complete as complete-machine, precede as precede-machine, emit as emit-machine};
-ghost use Rattle.machine.specs.Walk.{said, perform};
+ghost use Rattle.machine.specs.Machine.{refuse as refuse-machine, peek as peek-machine, push, complete as complete-machine, precede as precede-machine};
 ghost use Rattle.machine.specs.Outcome.{fresh};
-ghost use Rattle.parser.specs.View.{view, view-of, parser-tested, left, marker-of, matcher-of, span-of, error-prog, takes, looks-of, moves-of, says-of, walks-of};
+ghost use Rattle.parser.specs.View.{view, view-of, parser-tested, left, marker-of, matcher-of, error-prog, takes, looks-of, moves-of, says-of, walks-of, adds-of, becomes-of, bumps-of, emits-of, tests-of, writes-events-of};
 
-// The parser's numbers. Events, reports and pool are counted in numbers written.
+// The parser's numbers.
 pub struct State {
     // The token that is read next.
     pub cursor: TokenIndex,
@@ -42,9 +40,10 @@ pub struct State {
     pub place: TokenIndex,
     // How many expectations are pending: those pushed since the last token or name was taken.
     pub pending: usize,
-    pub events: usize,
-    pub reports: usize,
-    pub pool: usize,
+    // How many numbers of these buffers are written.
+    pub events_written: usize,
+    pub reports_written: usize,
+    pub pool_written: usize,
     // The first of refusals 5 to 7, or 0.
     pub refusal: u32,
     // The first byte of the token at the cursor, and the end of the last token taken.
@@ -70,7 +69,7 @@ pub struct StateTested {
     pub yes: bool,
 }
 
-// What a part of the grammar answers where yes and no are not enough.
+// What a function of the grammar answers where yes and no are not enough.
 pub enum Ans {
     No,
     Yes,
@@ -98,9 +97,9 @@ impl State {
             mark: TokenIndex(0),
             place: TokenIndex(0),
             pending: 0,
-            events: 0,
-            reports: 0,
-            pool: 0,
+            events_written: 0,
+            reports_written: 0,
+            pool_written: 0,
             refusal: 0,
             byte: ByteOffset(0),
             mark_byte: ByteOffset(0),
@@ -130,8 +129,7 @@ impl Parser {
     }
 
     pub fn refuse(self, number: u32) -> Parser
-        ensures { λ r. ⌜ ((events reports pool : List ℕ) → view-of r events reports pool
-            ≡ refuse-machine number (view-of self events reports pool)) ⌝ }
+        ensures { λ r. ⌜ becomes-of (refuse-machine number) self r ⌝ }
         ensures { λ r. ⌜ ((tokens : List ℕ) → length tokens < TWO-TO-64 → left tokens (r .s) ≡ 0) ⌝ }
     {
         let s = self.s.refuse(number);
@@ -139,8 +137,7 @@ impl Parser {
     }
 
     pub fn start(self, events: &mut [u32]) -> Parser
-        ensures { λ r. ⌜ ((reports pool : List ℕ) → view-of r (now (events .exit)) reports pool
-            ≡ push PLACEHOLDER-TAG 0 (view-of self (now (events .entry)) reports pool)) ⌝ }
+        ensures { λ r. ⌜ writes-events-of (push PLACEHOLDER-TAG 0) self r events ⌝ }
         ensures { λ r. ⌜ ((tokens : List ℕ) → left tokens (r .s) ≤ left tokens (self .s)) ⌝ }
     {
         let s = self.s.start(events);
@@ -148,8 +145,7 @@ impl Parser {
     }
 
     pub fn complete(self, events: &mut [u32], m: Marker, kind: u32) -> Parser
-        ensures { λ r. ⌜ ((reports pool : List ℕ) → view-of r (now (events .exit)) reports pool
-            ≡ complete-machine (marker-of m) kind (view-of self (now (events .entry)) reports pool)) ⌝ }
+        ensures { λ r. ⌜ writes-events-of (complete-machine (marker-of m) kind) self r events ⌝ }
         ensures { λ r. ⌜ ((tokens : List ℕ) → left tokens (r .s) ≤ left tokens (self .s)) ⌝ }
     {
         let s = self.s.complete(events, m, kind);
@@ -157,8 +153,7 @@ impl Parser {
     }
 
     pub fn ignore(self, events: &mut [u32]) -> Parser
-        ensures { λ r. ⌜ ((reports pool : List ℕ) → view-of r (now (events .exit)) reports pool
-            ≡ push PLACEHOLDER-TAG 0 (view-of self (now (events .entry)) reports pool)) ⌝ }
+        ensures { λ r. ⌜ writes-events-of (push PLACEHOLDER-TAG 0) self r events ⌝ }
         ensures { λ r. ⌜ ((tokens : List ℕ) → left tokens (r .s) ≤ left tokens (self .s)) ⌝ }
     {
         let s = self.s.ignore(events);
@@ -166,8 +161,7 @@ impl Parser {
     }
 
     pub fn precede(self, events: &mut [u32], m: Marker) -> Parser
-        ensures { λ r. ⌜ ((reports pool : List ℕ) → view-of r (now (events .exit)) reports pool
-            ≡ precede-machine (marker-of m) (view-of self (now (events .entry)) reports pool)) ⌝ }
+        ensures { λ r. ⌜ writes-events-of (precede-machine (marker-of m)) self r events ⌝ }
         ensures { λ r. ⌜ ((tokens : List ℕ) → left tokens (r .s) ≤ left tokens (self .s)) ⌝ }
     {
         let s = self.s.precede(events, m);
@@ -175,8 +169,7 @@ impl Parser {
     }
 
     pub fn bump(self, tokens: &[u32], events: &mut [u32]) -> Parser
-        ensures { λ r. ⌜ ((b : Span) (reports pool : List ℕ) → said yes (view-of r (now (events .exit)) reports pool)
-            ≡ perform (tokens-of (now (tokens .entry))) b bump-act (view-of self (now (events .entry)) reports pool)) ⌝ }
+        ensures { λ r. ⌜ bumps-of bump-act self (says-of yes r) tokens events ⌝ }
         ensures { λ r. ⌜ left (now (tokens .entry)) (r .s) ≤ left (now (tokens .entry)) (self .s) - 1 ⌝ }
     {
         let s = self.s.bump(tokens, events);
@@ -184,8 +177,7 @@ impl Parser {
     }
 
     pub fn peek(self, tokens: &[u32]) -> Parser
-        ensures { λ r. ⌜ ((events reports pool : List ℕ) → view-of r events reports pool
-            ≡ peek-machine (tokens-of (now (tokens .entry))) (view-of self events reports pool)) ⌝ }
+        ensures { λ r. ⌜ becomes-of (peek-machine (tokens-of (now (tokens .entry)))) self r ⌝ }
         ensures { λ r. ⌜ left (now (tokens .entry)) (r .s) ≤ left (now (tokens .entry)) (self .s) ⌝ }
     {
         let s = self.s.peek(tokens);
@@ -193,8 +185,7 @@ impl Parser {
     }
 
     pub fn at_end(self, tokens: &[u32]) -> ParserTested
-        ensures { λ r. ⌜ ((b : Span) (events reports pool : List ℕ) → parser-tested r events reports pool
-            ≡ perform (tokens-of (now (tokens .entry))) b at-end-act (view-of self events reports pool)) ⌝ }
+        ensures { λ r. ⌜ tests-of at-end-act self (parser-tested r) tokens ⌝ }
         ensures { λ r. ⌜ left (now (tokens .entry)) (r .p .s) ≤ left (now (tokens .entry)) (self .s) ⌝ }
         ensures { λ r. ⌜ (r .yes ≡ false → 0 < left (now (tokens .entry)) (r .p .s)) ⌝ }
         ensures { λ r. ⌜ (r .yes ≡ true → left (now (tokens .entry)) (r .p .s) ≡ 0) ⌝ }
@@ -205,8 +196,7 @@ impl Parser {
     }
 
     pub fn silent_at(self, tokens: &[u32], k: u8) -> ParserTested
-        ensures { λ r. ⌜ ((b : Span) (events reports pool : List ℕ) → parser-tested r events reports pool
-            ≡ perform (tokens-of (now (tokens .entry))) b (silent-at-act (k ∷ [])) (view-of self events reports pool)) ⌝ }
+        ensures { λ r. ⌜ tests-of (silent-at-act (k ∷ [])) self (parser-tested r) tokens ⌝ }
         ensures { λ r. ⌜ left (now (tokens .entry)) (r .p .s) ≤ left (now (tokens .entry)) (self .s) ⌝ }
         ensures { λ r. ⌜ (r .yes ≡ true → 0 < left (now (tokens .entry)) (r .p .s)) ⌝ }
     {
@@ -216,8 +206,7 @@ impl Parser {
     }
 
     pub fn silent_at_set(self, tokens: &[u32], set: &[u8]) -> ParserTested
-        ensures { λ r. ⌜ ((b : Span) (events reports pool : List ℕ) → parser-tested r events reports pool
-            ≡ perform (tokens-of (now (tokens .entry))) b (silent-at-act (now (set .entry))) (view-of self events reports pool)) ⌝ }
+        ensures { λ r. ⌜ tests-of (silent-at-act (now (set .entry))) self (parser-tested r) tokens ⌝ }
         ensures { λ r. ⌜ left (now (tokens .entry)) (r .p .s) ≤ left (now (tokens .entry)) (self .s) ⌝ }
         ensures { λ r. ⌜ (r .yes ≡ true → 0 < left (now (tokens .entry)) (r .p .s)) ⌝ }
     {
@@ -238,8 +227,7 @@ impl Parser {
     }
 
     pub fn add_expected(self, code: u8) -> Parser
-        ensures { λ r. ⌜ ((ts : List Token) (b : Span) (events reports pool : List ℕ) → said yes (view-of r events reports pool)
-            ≡ perform ts b (add-expected-act code) (view-of self events reports pool)) ⌝ }
+        ensures { λ r. ⌜ adds-of (add-expected-act code) self (says-of yes r) ⌝ }
         ensures { λ r. ⌜ ((tokens : List ℕ) → left tokens (r .s) ≤ left tokens (self .s)) ⌝ }
     {
         let mut codes = self.codes;
@@ -343,8 +331,7 @@ impl Parser {
         hint: u32,
         label: TextRange,
     ) -> Parser
-        ensures { λ r. ⌜ view-of r (now (events .exit)) (now (reports .exit)) (now (pool .exit))
-            ≡ emit-machine (tokens-of (now (tokens .entry))) message hint (span-of label) (view-of self (now (events .entry)) (now (reports .entry)) (now (pool .entry))) ⌝ }
+        ensures { λ r. ⌜ emits-of message hint label self r tokens events reports pool ⌝ }
         ensures { λ r. ⌜ left (now (tokens .entry)) (r .s) ≤ left (now (tokens .entry)) (self .s) ⌝ }
     {
         let codes = self.codes;

@@ -15,13 +15,13 @@ ghost use mathlib.Core.List.{List};
 ghost use Prim.Native.Nat.{ℕ, _≤_};
 ghost use Rattle.definitions.specs.Layout.{PLACEHOLDER as PLACEHOLDER-TAG, START-NODE as START-TAG, LINKED-START-NODE as LINKED-TAG};
 ghost use Rattle.machine.specs.Machine.{put-start, put-link, push, complete as complete-machine, precede as precede-machine};
-ghost use Rattle.parser.specs.View.{view, left, marker-of};
+ghost use Rattle.parser.specs.View.{left, marker-of, writes-events};
 
 pub struct Marker(pub usize, pub u32);
 
 // The placeholder at this place becomes a start.
 fn put_start(events: &mut [u32], index: usize, tag: u32, kind: u32)
-    ensures { λ _. ⌜ now (events .exit) ≡ put-start (record { place = index; tag = tag }) kind (now (events .entry)) ⌝ }
+    ensures { λ _. ⌜ now (events .exit) ≡ put-start (record { index = index; tag = tag }) kind (now (events .entry)) ⌝ }
 {
     let enough = fits(events.len(), index, EVENT_ROW);
     if enough {
@@ -46,23 +46,22 @@ fn put_link(events: &mut [u32], index: usize, to: usize)
 impl Marker {
     // The marker that `start` pushes next.
     pub fn new(s: State) -> Marker
-        ensures { λ r. ⌜ marker-of r ≡ record { place = s .events; tag = START-TAG } ⌝ }
+        ensures { λ r. ⌜ marker-of r ≡ record { index = s .«events_written»; tag = START-TAG } ⌝ }
     {
-        Marker(s.events, START_NODE)
+        Marker(s.events_written, START_NODE)
     }
 
     // The marker that `precede` pushes next.
     pub fn linked(s: State) -> Marker
-        ensures { λ r. ⌜ marker-of r ≡ record { place = s .events; tag = LINKED-TAG } ⌝ }
+        ensures { λ r. ⌜ marker-of r ≡ record { index = s .«events_written»; tag = LINKED-TAG } ⌝ }
     {
-        Marker(s.events, LINKED_START_NODE)
+        Marker(s.events_written, LINKED_START_NODE)
     }
 }
 
 impl State {
     pub fn start(self, events: &mut [u32]) -> State
-        ensures { λ r. ⌜ ((codes reports pool : List ℕ) → view r codes (now (events .exit)) reports pool
-            ≡ push PLACEHOLDER-TAG 0 (view self codes (now (events .entry)) reports pool)) ⌝ }
+        ensures { λ r. ⌜ writes-events (push PLACEHOLDER-TAG 0) self r events ⌝ }
         ensures { λ r. ⌜ ((tokens : List ℕ) → left tokens r ≤ left tokens self) ⌝ }
     {
         self.push_event(events, PLACEHOLDER, 0)
@@ -70,8 +69,7 @@ impl State {
 
     // `m.complete(p, kind)`
     pub fn complete(self, events: &mut [u32], m: Marker, kind: u32) -> State
-        ensures { λ r. ⌜ ((codes reports pool : List ℕ) → view r codes (now (events .exit)) reports pool
-            ≡ complete-machine (marker-of m) kind (view self codes (now (events .entry)) reports pool)) ⌝ }
+        ensures { λ r. ⌜ writes-events (complete-machine (marker-of m) kind) self r events ⌝ }
         ensures { λ r. ⌜ ((tokens : List ℕ) → left tokens r ≤ left tokens self) ⌝ }
     {
         let on = self.refusal == 0;
@@ -85,8 +83,7 @@ impl State {
 
     // `m.ignore(p)`: the placeholder stays, and a second one is pushed.
     pub fn ignore(self, events: &mut [u32]) -> State
-        ensures { λ r. ⌜ ((codes reports pool : List ℕ) → view r codes (now (events .exit)) reports pool
-            ≡ push PLACEHOLDER-TAG 0 (view self codes (now (events .entry)) reports pool)) ⌝ }
+        ensures { λ r. ⌜ writes-events (push PLACEHOLDER-TAG 0) self r events ⌝ }
         ensures { λ r. ⌜ ((tokens : List ℕ) → left tokens r ≤ left tokens self) ⌝ }
     {
         self.push_event(events, PLACEHOLDER, 0)
@@ -94,11 +91,10 @@ impl State {
 
     // `completed.precede(p)`: a new marker, to which the completed node is linked forward.
     pub fn precede(self, events: &mut [u32], m: Marker) -> State
-        ensures { λ r. ⌜ ((codes reports pool : List ℕ) → view r codes (now (events .exit)) reports pool
-            ≡ precede-machine (marker-of m) (view self codes (now (events .entry)) reports pool)) ⌝ }
+        ensures { λ r. ⌜ writes-events (precede-machine (marker-of m)) self r events ⌝ }
         ensures { λ r. ⌜ ((tokens : List ℕ) → left tokens r ≤ left tokens self) ⌝ }
     {
-        let to = self.events;
+        let to = self.events_written;
         let started = self.push_event(events, PLACEHOLDER, 0);
         let on = started.refusal == 0;
         if on {

@@ -11,12 +11,9 @@ use token_rows::token::one_of;
 ghost use mathlib.Core.Path.{_≡_};
 ghost use mathlib.Core.List.{List};
 ghost use Prim.Native.Nat.{ℕ, _≤_, _-_};
-ghost use Rattle.definitions.specs.Token.{Token, one-of};
-ghost use Rattle.definitions.specs.Skeleton.{Span};
-ghost use Rattle.definitions.specs.Prog.{Rule, yes};
-ghost use Rattle.machine.specs.Machine.{Machine};
-ghost use Rattle.machine.specs.Walk.{Walked, said, walk};
-ghost use Rattle.parser.specs.View.{view, left, first-code, matcher-of, kinds-of, moves, says};
+ghost use Rattle.definitions.specs.Token.{one-of};
+ghost use Rattle.definitions.specs.Prog.{yes};
+ghost use Rattle.parser.specs.View.{left, first-code, matcher-of, kinds-of, moves, says, expects};
 
 pub enum Matcher {
     Kind(u8),
@@ -54,8 +51,7 @@ impl Matcher {
     }
 
     pub fn push_expected(self, s: State, codes: &mut Codes) -> State
-        ensures { λ r. ⌜ ((ask : Rule → Machine → Walked) (ts : List Token) (b : Span) (events reports pool : List ℕ) → said yes (view r (now (codes .exit)) events reports pool)
-            ≡ walk ask ts b (matcher-of self .push-expected) (view s (now (codes .entry)) events reports pool)) ⌝ }
+        ensures { λ r. ⌜ expects (matcher-of self .push-expected) s (says yes r) codes ⌝ }
         ensures { λ r. ⌜ ((tokens : List ℕ) → left tokens r ≤ left tokens s) ⌝ }
     {
         let code = self.first_code();

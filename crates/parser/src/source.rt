@@ -20,12 +20,10 @@ ghost use Prim.Native.Nat.{ℕ, _-_, _/_, _≤_, _<_};
 ghost use lib.ListN.{length, drop};
 ghost use Rattle.definitions.specs.Layout.{TOKEN-ROW};
 ghost use Rattle.definitions.specs.Token.{tokens-of, first-in};
-ghost use Rattle.definitions.specs.Skeleton.{Span};
-ghost use Rattle.definitions.specs.Prog.{Rule, silent-at, at-end};
+ghost use Rattle.definitions.specs.Prog.{silent-at, at-end};
 ghost use Rattle.definitions.specs.Grammar.{silent-at-macro-invocation-with-args};
-ghost use Rattle.machine.specs.Machine.{Machine, peek as peek-machine, range-at};
-ghost use Rattle.machine.specs.Walk.{Walked, perform, walk};
-ghost use Rattle.parser.specs.View.{view, left, state-tested, kinds-of, take-first, span-of};
+ghost use Rattle.machine.specs.Machine.{peek as peek-machine, range-at};
+ghost use Rattle.parser.specs.View.{view, left, state-tested, kinds-of, take-first, span-of, becomes, sees, tests};
 
 // Whether the matcher matches the row.
 pub fn is_matched_at(tokens: &[u32], at: usize, m: Matcher) -> bool
@@ -44,8 +42,7 @@ pub fn is_matched_at(tokens: &[u32], at: usize, m: Matcher) -> bool
 impl State {
     // `skip_trivia`: the cursor stops at a token, or at the end.
     pub fn peek(self, tokens: &[u32]) -> State
-        ensures { λ r. ⌜ ((codes events reports pool : List ℕ) → view r codes events reports pool
-            ≡ peek-machine (tokens-of (now (tokens .entry))) (view self codes events reports pool)) ⌝ }
+        ensures { λ r. ⌜ becomes (peek-machine (tokens-of (now (tokens .entry)))) self r ⌝ }
         ensures { λ r. ⌜ left (now (tokens .entry)) r ≤ left (now (tokens .entry)) self ⌝ }
     {
         let seat = skip_trivia(tokens, self.cursor.0, self.byte.0);
@@ -58,8 +55,7 @@ impl State {
     }
 
     pub fn at_end(self, tokens: &[u32]) -> StateTested
-        ensures { λ r. ⌜ ((b : Span) (codes events reports pool : List ℕ) → state-tested r codes events reports pool
-            ≡ perform (tokens-of (now (tokens .entry))) b at-end (view self codes events reports pool)) ⌝ }
+        ensures { λ r. ⌜ tests at-end self (state-tested r) tokens ⌝ }
         ensures { λ r. ⌜ left (now (tokens .entry)) (r .s) ≤ left (now (tokens .entry)) self ⌝ }
         ensures { λ r. ⌜ (r .yes ≡ false → 0 < left (now (tokens .entry)) (r .s)) ⌝ }
         ensures { λ r. ⌜ (r .yes ≡ true → left (now (tokens .entry)) (r .s) ≡ 0) ⌝ }
@@ -76,8 +72,7 @@ impl State {
 
     // `check(kind).silent().at()`
     pub fn silent_at(self, tokens: &[u32], k: u8) -> StateTested
-        ensures { λ r. ⌜ ((b : Span) (codes events reports pool : List ℕ) → state-tested r codes events reports pool
-            ≡ perform (tokens-of (now (tokens .entry))) b (silent-at (k ∷ [])) (view self codes events reports pool)) ⌝ }
+        ensures { λ r. ⌜ tests (silent-at (k ∷ [])) self (state-tested r) tokens ⌝ }
         ensures { λ r. ⌜ left (now (tokens .entry)) (r .s) ≤ left (now (tokens .entry)) self ⌝ }
         ensures { λ r. ⌜ (r .yes ≡ true → 0 < left (now (tokens .entry)) (r .s)) ⌝ }
     {
@@ -88,8 +83,7 @@ impl State {
 
     // `check(set).silent().at()`
     pub fn silent_at_set(self, tokens: &[u32], set: &[u8]) -> StateTested
-        ensures { λ r. ⌜ ((b : Span) (codes events reports pool : List ℕ) → state-tested r codes events reports pool
-            ≡ perform (tokens-of (now (tokens .entry))) b (silent-at (now (set .entry))) (view self codes events reports pool)) ⌝ }
+        ensures { λ r. ⌜ tests (silent-at (now (set .entry))) self (state-tested r) tokens ⌝ }
         ensures { λ r. ⌜ left (now (tokens .entry)) (r .s) ≤ left (now (tokens .entry)) self ⌝ }
         ensures { λ r. ⌜ (r .yes ≡ true → 0 < left (now (tokens .entry)) (r .s)) ⌝ }
     {
@@ -99,8 +93,7 @@ impl State {
     }
 
     pub fn silent_at_macro_invocation_with_args(self, tokens: &[u32]) -> StateTested
-        ensures { λ r. ⌜ ((ask : Rule → Machine → Walked) (b : Span) (codes events reports pool : List ℕ) → state-tested r codes events reports pool
-            ≡ walk ask (tokens-of (now (tokens .entry))) b silent-at-macro-invocation-with-args (view self codes events reports pool)) ⌝ }
+        ensures { λ r. ⌜ sees silent-at-macro-invocation-with-args self (state-tested r) tokens ⌝ }
         ensures { λ r. ⌜ left (now (tokens .entry)) (r .s) ≤ left (now (tokens .entry)) self ⌝ }
         ensures { λ r. ⌜ (r .yes ≡ true → 0 < left (now (tokens .entry)) (r .s)) ⌝ }
     {
@@ -130,8 +123,7 @@ impl State {
 
     // `next_token`, and the expectations cleared: takes the row at the cursor, whatever it is.
     pub fn next_token(self, tokens: &[u32]) -> State
-        ensures { λ r. ⌜ ((codes events reports pool : List ℕ) → view r codes events reports pool
-            ≡ take-first (drop (self .cursor .0) (tokens-of (now (tokens .entry)))) (view self codes events reports pool)) ⌝ }
+        ensures { λ r. ⌜ becomes (take-first (drop (self .cursor .0) (tokens-of (now (tokens .entry))))) self r ⌝ }
         ensures { λ r. ⌜ left (now (tokens .entry)) r ≤ left (now (tokens .entry)) self - 1 ⌝ }
     {
         let at = self.cursor.0;

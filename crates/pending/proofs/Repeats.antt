@@ -3,7 +3,7 @@ use Prim.Native.Nat.{ℕ, _-_}
 use mathlib.Core.Path.{_≡_, refl, sym, ap, subst, _∙_}
 use mathlib.Core.Bool.{Bool, cond}
 use mathlib.Core.List.{List, [], _∷_}
-use Rattle.definitions.specs.Token.{Token, bytes}
+use Rattle.definitions.specs.Token.{Token, byte-count}
 use Rattle.definitions.specs.Prog.{Act, silent-at, at-end, immediate, immediate-next, add-expected, bump, bump-name, bump-argument, emit, emit-unclosed, less, Prog, ret, act, _⨟_, case, in-marker, loop, chain, brace, open-call}
 use Rattle.definitions.specs.Run.{State, peeked, only-separators, error-range}
 use Rattle.run_steps.specs.Steps.{Step, begun, asked, turned, linked, spent, exceeded, entry-steps}
@@ -19,7 +19,7 @@ range-same : (s : State) (ks : List ℕ) (ts : List Token) → only-separators k
 unfolding error-range
 range-same s ks [] e = refl
 range-same s ks (t ∷ ts) e =
-    ap (λ (b : Bool). cond b (record { from = bytes (s .since); to = bytes (s .since) - 1 }) (record { from = bytes (t ∷ ts); to = bytes ts })) e
+    ap (λ (b : Bool). cond b (record { from = byte-count (s .since); to = byte-count (s .since) - 1 }) (record { from = byte-count (t ∷ ts); to = byte-count ts })) e
 
 unmoved : (s : State) → Fine (s .pending) → Unmoved s
 unmoved s h =

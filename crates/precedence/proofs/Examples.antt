@@ -59,8 +59,8 @@ examples =
 -- the rows of a cell that holds a tree
 tree-rows : Tree → List ℕ → ℕ → List ℕ
 unfolding rows place _⧺_
-tree-rows (holds e) tk i = rows (place (cell e) (drop i (tokens-of tk)))
-tree-rows nothing tk i = []
+tree-rows (holds e) tokens i = rows (place (cell e) (drop i (tokens-of tokens)))
+tree-rows nothing tokens i = []
 
 mark-list : ℕ → List ℕ → List ℕ
 mark-list zero l = []
@@ -69,7 +69,7 @@ mark-list (suc q) l = mark-list q l ++ (mark-in q l ∷ [])
 -- the tokens before the row, the marks, and as many numbers from the row on
 found : ℕ → ℕ → Result → List ℕ
 unfolding mark-list tokens-before
-found p size r = tokens-before p (r .buffers .trees) ∷ (mark-list (r .answer .reports) (r .buffers .reports) ++ take size (drop (4 * p) (r .buffers .trees)))
+found p size r = tokens-before p (r .buffers .trees) ∷ (mark-list (r .answer .report-count) (r .buffers .reports) ++ take size (drop (4 * p) (r .buffers .trees)))
 
 -- buffers with room enough
 room : Buffers

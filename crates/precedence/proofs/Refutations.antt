@@ -19,7 +19,7 @@ use Rattle.precedence.proofs.Witnesses.{token, one, numbers, its-bracke
 abbrev wrote : ℕ → List ℕ → ℕ → List ℕ → Result
 wrote nt t nr r =
     record {
-      answer = record { number = 0; place = 0; trees = nt; errors = 0; reports = nr; expectations = 0 };
+      answer = record { number = 0; place = 0; tree-count = nt; error-count = 0; report-count = nr; expectation-count = 0 };
       buffers = record { events = []; trees = t; errors = []; reports = r; pool = [] };
     }
 

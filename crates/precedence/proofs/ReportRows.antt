@@ -5,7 +5,7 @@ use mathlib.Core.Path.{_≡_, refl, _∙_, ap}
 use mathlib.Core.List.{List, [], _∷_, _++_}
 use lib.ListN.{length, getD, drop}
 use Rattle.definitions.specs.Skeleton.{Label, no-label, label, Report}
-use Rattle.definitions.specs.Report.{Push, event, reported, exceeded, reports, label-numbers, report-rows}
+use Rattle.definitions.specs.Report.{Push, event, reported, exceeded, reports, label-numbers, report-numbers}
 use Rattle.precedence.specs.Precedence.{mark-in}
 use Rattle.precedence.proofs.Pushed.{Reported, here, there}
 
@@ -50,15 +50,15 @@ label-drop b no-label k l z = refl
 label-drop b (label s) k l z = refl
 
 row-drop : (n b f q : ℕ) (r : Report) (l : List Report) (z : List ℕ)
-    → drop (9 * suc q) (report-rows n b f (r ∷ l) ++ z) ≡ drop (9 * q) (report-rows n b (f + length (r .pool)) l ++ z)
-unfolding report-rows
+    → drop (9 * suc q) (report-numbers n b f (r ∷ l) ++ z) ≡ drop (9 * q) (report-numbers n b (f + length (r .pool)) l ++ z)
+unfolding report-numbers
 row-drop n b f q r l z =
-    ap (λ (k : ℕ). drop k (report-rows n b f (r ∷ l) ++ z)) (nine q)
-    ∙ label-drop b (r .labelled) (9 * q) (report-rows n b (f + length (r .pool)) l) z
+    ap (λ (k : ℕ). drop k (report-numbers n b f (r ∷ l) ++ z)) (nine q)
+    ∙ label-drop b (r .labelled) (9 * q) (report-numbers n b (f + length (r .pool)) l) z
 
 -- in a file of n tokens
-pub nth-mark : {r : Report} (n b f q : ℕ) (l : List Report) (z : List ℕ) → Nth r q l → mark-in q (report-rows n b f l ++ z) ≡ n - r .mark
-unfolding report-rows
+pub nth-mark : {r : Report} (n b f q : ℕ) (l : List Report) (z : List ℕ) → Nth r q l → mark-in q (report-numbers n b f l ++ z) ≡ n - r .mark
+unfolding report-numbers
 nth-mark n b f zero (r ∷ l) z first = refl
 nth-mark n b f (suc q) (x ∷ l) z (later h) =
     ap (λ (y : List ℕ). getD y 3 0) (row-drop n b f q x l z) ∙ nth-mark n b (f + length (x .pool)) q l z h
@@ -67,10 +67,10 @@ label-length : (b : ℕ) (x : Label) (l : List ℕ) → length (label-numbers b 
 label-length b no-label l = refl
 label-length b (label s) l = refl
 
-pub reports-length : (n b f : ℕ) (l : List Report) → length (report-rows n b f l) ≡ 9 * length l
-unfolding report-rows
+pub reports-length : (n b f : ℕ) (l : List Report) → length (report-numbers n b f l) ≡ 9 * length l
+unfolding report-numbers
 reports-length n b f [] = refl
 reports-length n b f (r ∷ l) =
     let h = reports-length n b (f + length (r .pool)) l in
-    let g = label-length b (r .labelled) (report-rows n b (f + length (r .pool)) l) in
+    let g = label-length b (r .labelled) (report-numbers n b (f + length (r .pool)) l) in
     omega arith

@@ -11,7 +11,7 @@ use lib.ListN.{length, take, drop, replicate, length-append, length-drop}
 use lib.Seq.{drop-drop, drop-append-seam}
 use Rattle.definitions.specs.TokenKind as K
 use Rattle.definitions.specs.NodeKind as N
-use Rattle.definitions.specs.Token.{Token, tokens-of, is-error, seen, bytes}
+use Rattle.definitions.specs.Token.{Token, tokens-of, is-error, seen, byte-count}
 use Rattle.definitions.specs.Grammar.{Entry, root-kind}
 use Rattle.definitions.specs.Skeleton.{Report, _⧺_}
 use Rattle.definitions.specs.Place.{Tree, nil, subtree, _⊕_, lead, after, place, root, rows}
@@ -52,7 +52,7 @@ seen-of t j e f = rw e (rw f refl)
 
 -- report row q has its mark above the LParen's token index k, and at most the index just past the last of the tokens in c
 pub record Tells (r : Result) (k : ℕ) (c : Tree) (q : ℕ) : Type 0 where
-  pub written : q < r .answer .reports
+  pub written : q < r .answer .report-count
   pub above : k < mark-in q (r .buffers .reports)
   pub at-most : mark-in q (r .buffers .reports) ≤ k + length (leaves c)
 
@@ -88,27 +88,27 @@ module _ (e : Entry) (ts : List Token) (l : Buffers) (clear : Clear (pushes (run
   abbrev r : Result
   r = kept (sheets e ts (run-entry e ts)) l
 
-  trees-count : r .answer .trees ≡ row-count tree
+  trees-count : r .answer .tree-count ≡ row-count tree
   unfolding sheets
   trees-count = div-eq-of-eq-mul-right (omega arith) (rows-length tree)
 
-  reports-count : r .answer .reports ≡ length (reports all)
+  reports-count : r .answer .report-count ≡ length (reports all)
   unfolding sheets
-  reports-count = div-eq-of-eq-mul-right (omega arith) (reports-length (length ts) (bytes ts) 0 (reports all))
+  reports-count = div-eq-of-eq-mul-right (omega arith) (reports-length (length ts) (byte-count ts) 0 (reports all))
 
   -- report row q is a report's
-  row-report : (q : ℕ) → q < r .answer .reports → (rep : Report) × Reported rep all × (mark-in q (r .buffers .reports) ≡ length ts - rep .mark)
+  row-report : (q : ℕ) → q < r .answer .report-count → (rep : Report) × Reported rep all × (mark-in q (r .buffers .reports) ≡ length ts - rep .mark)
   unfolding sheets
   row-report q h =
       let g = nth-there q (reports all) (omega (arith, reports-count)) in
-      (g .0, nth-reported q all (g .1), nth-mark (length ts) (bytes ts) 0 q (reports all) _ (g .1))
+      (g .0, nth-reported q all (g .1), nth-mark (length ts) (byte-count ts) 0 q (reports all) _ (g .1))
 
   -- and each report has a row
-  report-row : (rep : Report) → Reported rep all → (q : ℕ) × (q < r .answer .reports) × (mark-in q (r .buffers .reports) ≡ length ts - rep .mark)
+  report-row : (rep : Report) → Reported rep all → (q : ℕ) × (q < r .answer .report-count) × (mark-in q (r .buffers .reports) ≡ length ts - rep .mark)
   unfolding sheets
   report-row rep h =
       let g = reported-nth all h in
-      (g .0, omega (arith, reports-count, nth-less (g .0) (reports all) (g .1)), nth-mark (length ts) (bytes ts) 0 (g .0) (reports all) _ (g .1))
+      (g .0, omega (arith, reports-count, nth-less (g .0) (reports all) (g .1)), nth-mark (length ts) (byte-count ts) 0 (g .0) (reports all) _ (g .1))
 
   found : (p : ℕ) → DtExpr-at p r → Found (Settled all) ts p (r .buffers .trees)
   unfolding sheets
@@ -118,7 +118,7 @@ module _ (e : Entry) (ts : List Token) (l : Buffers) (clear : Clear (pushes (run
   -- ---------------------------------------------------------------- it starts a cell
 
   starts : (p : ℕ) → DtExpr-at p r → Starts-cell ts p r
-  unfolding rows bytes
+  unfolding rows byte-count
   starts p d =
       let f = found p d in
       let s = f .fact in
@@ -127,7 +127,7 @@ module _ (e : Entry) (ts : List Token) (l : Buffers) (clear : Clear (pushes (run
       ap (λ (n : ℕ). drop n l) (let z : 4 * suc p ≡ 4 * p + 4 = omega arith in z) ∙ sym (drop-drop 4 (4 * p) l) in
       let there : drop 4 (drop (4 * p) l) ≡ rows (f .children) ++ f .more = ap (drop 4) (f .rows-are) ∙ rw (append-nil (rows (f .children))) in
       record {
-        width = bytes (s .bracket ∷ []);
+        width = byte-count (s .bracket ∷ []);
         row = ap (take 4) (next ∙ there ∙ ap (λ (c : Tree). rows c ++ f .more) (s .begins));
         bracket = s .bracket;
         after = s .behind;
@@ -236,23 +236,23 @@ module _ (e : Entry) (ts : List Token) (l : Buffers) (clear : Clear (pushes (run
 
 -- C'S TABLE
 pub c-table : C-table
-c-table n bs tk l h =
-    let a = accepted-call n bs tk l h in
-    let o = run-entry (a .entry) (tokens-of tk) in
+c-table n bytes tokens l h =
+    let a = accepted-call n bytes tokens l h in
+    let o = run-entry (a .entry) (tokens-of tokens) in
     let c : Clear (pushes o) = fits-clear (pushes o) _ (a .left) (a .fitted) in
     subst
-    (λ (r : Result). (p : ℕ) → DtExpr-at p r → Starts-cell (tokens-of tk) p r
-    × ((b : Brackets (tokens-of tk)) → opening-index (tokens-of tk) b ≡ tokens-before p (r .buffers .trees) → Judged (tokens-of tk) b r p))
+    (λ (r : Result). (p : ℕ) → DtExpr-at p r → Starts-cell (tokens-of tokens) p r
+    × ((b : Brackets (tokens-of tokens)) → opening-index (tokens-of tokens) b ≡ tokens-before p (r .buffers .trees) → Judged (tokens-of tokens) b r p))
     (sym (a .returns))
-    (λ p d. (starts (a .entry) (tokens-of tk) l c p d, λ b i. judges (a .entry) (tokens-of tk) l c b p d i))
+    (λ p d. (starts (a .entry) (tokens-of tokens) l c p d, λ b i. judges (a .entry) (tokens-of tokens) l c b p d i))
 
 -- EVERY CELL'S LPAREN has a partner, or a report above it
-pub answered : (n : ℕ) (bs tk : List ℕ) (l : Buffers) → call n bs tk l .answer .number ≡ 0 → (p : ℕ) → DtExpr-at p (call n bs tk l) → Answered (tokens-of tk) p (call n bs tk l)
-answered n bs tk l h =
-    let a = accepted-call n bs tk l h in
-    let o = run-entry (a .entry) (tokens-of tk) in
+pub answered : (n : ℕ) (bytes tokens : List ℕ) (l : Buffers) → call n bytes tokens l .answer .number ≡ 0 → (p : ℕ) → DtExpr-at p (call n bytes tokens l) → Answered (tokens-of tokens) p (call n bytes tokens l)
+answered n bytes tokens l h =
+    let a = accepted-call n bytes tokens l h in
+    let o = run-entry (a .entry) (tokens-of tokens) in
     let c : Clear (pushes o) = fits-clear (pushes o) _ (a .left) (a .fitted) in
-    subst (λ (r : Result). (p : ℕ) → DtExpr-at p r → Answered (tokens-of tk) p r) (sym (a .returns)) (λ p d. answers (a .entry) (tokens-of tk) l c p d)
+    subst (λ (r : Result). (p : ℕ) → DtExpr-at p r → Answered (tokens-of tokens) p r) (sym (a .returns)) (λ p d. answers (a .entry) (tokens-of tokens) l c p d)
 
 -- C'S TABLE GIVES ONE TREE
 pub one-tree : One-tree

@@ -10,7 +10,7 @@ use lib.Dec.{ltb}
 use lib.ListN.{length, take, drop, length-append}
 use lib.Seq.{drop-drop, drop-append-add}
 use Rattle.definitions.specs.NodeKind as N
-use Rattle.definitions.specs.Token.{Token, bytes}
+use Rattle.definitions.specs.Token.{Token, byte-count}
 use Rattle.definitions.specs.Place.{Tree, nil, leaf, subtree, width, count, rows}
 use Rattle.laws.proofs.Tree.{leaves}
 use Rattle.laws.proofs.Decode.{row-count, rows-length}
@@ -112,8 +112,8 @@ module _ (Q : List Token → Tree → Type 0) where
   find nil l ts p h g i = absurd (omega arith)
   find (leaf k raw f) l ts zero h g i = let z : _≡_ {A = ℕ} 1 0 = cc (i .2) in absurd (omega arith)
   find (leaf k raw f) l ts (suc q) h g i =
-      found-next 1 k (bytes raw) (length raw) q (rows f ++ l) ts (drop (length raw) ts) (drop-drop (tokens-before q (rows f ++ l)) (length raw) ts)
-      (find f l (drop (length raw) ts) q h (omega arith) (cell-next 1 k (bytes raw) (length raw) q (rows f ++ l) i))
+      found-next 1 k (byte-count raw) (length raw) q (rows f ++ l) ts (drop (length raw) ts) (drop-drop (tokens-before q (rows f ++ l)) (length raw) ts)
+      (find f l (drop (length raw) ts) q h (omega arith) (cell-next 1 k (byte-count raw) (length raw) q (rows f ++ l) i))
   find (subtree k c f) l ts zero h g i =
       let z : k ≡ N.DtExpr = cc (i .2) in
       record {

@@ -8,7 +8,7 @@ use mathlib.Core.Bool.{false, cond}
 use mathlib.Core.List.{List, [], _∷_, _++_}
 use lib.Dec.{eqb}
 use lib.ListN.{length, getD, take, drop}
-use Rattle.definitions.specs.Layout.{TREE-ROW, REPORT-ROW}
+use Rattle.definitions.specs.Layout.{TREE-ROW, NODE, LEAF, REPORT-ROW, REPORT-MARK}
 use Rattle.definitions.specs.TokenKind as K
 use Rattle.definitions.specs.NodeKind as N
 use Rattle.definitions.specs.Token.{Token, tokens-of}
@@ -19,7 +19,7 @@ use Rattle.precedence.specs.Nodes.{cell}
 
 -- ---------------------------------------------------------------- rows
 
--- the numbers of tree row p: class (0 node, 1 leaf), kind, width, count
+-- the numbers of tree row p: class, kind, width, count
 abbrev pub tree-row : ℕ → List ℕ → List ℕ
 tree-row p l = take TREE-ROW (drop (TREE-ROW * p) l)
 
@@ -30,25 +30,25 @@ tokens-before (suc p) [] = 0
 tokens-before (suc p) (c ∷ []) = 0
 tokens-before (suc p) (c ∷ k ∷ []) = 0
 tokens-before (suc p) (c ∷ k ∷ w ∷ []) = 0
-tokens-before (suc p) (c ∷ k ∷ w ∷ n ∷ l) = cond (eqb c 1) n 0 + tokens-before p l
+tokens-before (suc p) (c ∷ k ∷ w ∷ n ∷ l) = cond (eqb c LEAF) n 0 + tokens-before p l
 
--- the mark in report row q, its fourth number
+-- the mark in report row q
 abbrev pub mark-in : ℕ → List ℕ → ℕ
-mark-in q l = getD (drop (REPORT-ROW * q) l) 3 0
+mark-in q l = getD (drop (REPORT-ROW * q) l) REPORT-MARK 0
 
 -- ---------------------------------------------------------------- cells
 
 -- tree row p is a DtExpr
 pub record DtExpr-at (p : ℕ) (r : Result) : Type 0 where
-  pub written : p < r .answer .trees
+  pub written : p < r .answer .tree-count
   pub width : ℕ
   pub count : ℕ
-  pub row : tree-row p (r .buffers .trees) ≡ 0 ∷ N.DtExpr ∷ width ∷ count ∷ []
+  pub row : tree-row p (r .buffers .trees) ≡ NODE ∷ N.DtExpr ∷ width ∷ count ∷ []
 
 -- "Starts a cell": the DtExpr's first child is the leaf of an LParen, and the index of that LParen is the number of tokens before the DtExpr.
 pub record Starts-cell (ts : List Token) (p : ℕ) (r : Result) : Type 0 where
   pub width : ℕ
-  pub row : tree-row (suc p) (r .buffers .trees) ≡ 1 ∷ K.LParen ∷ width ∷ 1 ∷ []
+  pub row : tree-row (suc p) (r .buffers .trees) ≡ LEAF ∷ K.LParen ∷ width ∷ 1 ∷ []
   pub bracket : Token
   pub after : List Token
   pub token-is : drop (tokens-before p (r .buffers .trees)) ts ≡ bracket ∷ after
@@ -75,7 +75,7 @@ closing-index ts b = length (b .before) + 1 + length (b .inner)
 
 -- report row q has its mark above the LParen's index and at most the RParen's
 pub record Between (ts : List Token) (b : Brackets ts) (r : Result) (q : ℕ) : Type 0 where
-  pub written : q < r .answer .reports
+  pub written : q < r .answer .report-count
   pub above : opening-index ts b < mark-in q (r .buffers .reports)
   pub at-most : mark-in q (r .buffers .reports) ≤ closing-index ts b
 
@@ -96,9 +96,9 @@ pub record Judged (ts : List Token) (b : Brackets ts) (r : Result) (p : ℕ) : T
 -- every DtExpr of an accepted call starts a cell, and is judged
 abbrev pub C-table : Type 0
 C-table =
-    (n : ℕ) (bs tk : List ℕ) (l : Buffers) → call n bs tk l .answer .number ≡ 0 → (p : ℕ) → DtExpr-at p (call n bs tk l)
-    → Starts-cell (tokens-of tk) p (call n bs tk l)
-    × ((b : Brackets (tokens-of tk)) → opening-index (tokens-of tk) b ≡ tokens-before p (call n bs tk l .buffers .trees) → Judged (tokens-of tk) b (call n bs tk l) p)
+    (n : ℕ) (bytes tokens : List ℕ) (l : Buffers) → call n bytes tokens l .answer .number ≡ 0 → (p : ℕ) → DtExpr-at p (call n bytes tokens l)
+    → Starts-cell (tokens-of tokens) p (call n bytes tokens l)
+    × ((b : Brackets (tokens-of tokens)) → opening-index (tokens-of tokens) b ≡ tokens-before p (call n bytes tokens l .buffers .trees) → Judged (tokens-of tokens) b (call n bytes tokens l) p)
 
 -- the tree that C's table gives is unique
 abbrev pub One-tree : Type 0

@@ -6,7 +6,7 @@ use mathlib.Core.Bool.{true}
 use mathlib.Core.List.{List, [], _∷_, _++_, append-assoc, append-nil}
 use lib.ListN.{length, length-append}
 use Rattle.definitions.specs.TokenKind as K
-use Rattle.definitions.specs.Token.{Token, bytes}
+use Rattle.definitions.specs.Token.{Token, byte-count}
 use Rattle.definitions.specs.Place.{Tree, nil, leaf, subtree, _⊕_, width, count}
 use Rattle.laws.proofs.Skeleton.{bytes-append}
 use Rattle.laws.proofs.Tree.{leaves, count-beside}
@@ -47,7 +47,7 @@ whole-parts (S.leaf a p) (leaf k ts f) e x y h =
     ((λ i. first-same h i ∷ g .0 i), g .1)
 whole-parts (S.leaf a p) (subtree k c f) e x y h = absurd (leaf-node _ k (width c) (count c) (sym (first-same h)) a)
 whole-parts (S.node a p q) nil e x y h = absurd (omega arith)
-whole-parts (S.node a p q) (leaf k ts f) e x y h = absurd (node-leaf _ k (bytes ts) (length ts) (sym (first-same h)) a)
+whole-parts (S.node a p q) (leaf k ts f) e x y h = absurd (node-leaf _ k (byte-count ts) (length ts) (sym (first-same h)) a)
 whole-parts (S.node {r = r} {c = d} {l = l} a p q) (subtree k c f) e x y h =
     let h′ : rows-of c ++ (rows-of f ++ x) ≡ d ++ (l ++ y) = sym (append-assoc (rows-of c) (rows-of f) x) ∙ rest-same h ∙ append-assoc d l y in
     let m : count c ≡ S.count r = ap S.count (first-same h) in
@@ -79,7 +79,7 @@ cut (S.leaf a p) (leaf k ts f) m h =
     record { one = leaf k ts (C .one); two = C .two; is = ap (leaf k ts) (C .is); rows-one = (λ i. first-same h i ∷ C .rows-one i); rows-two = C .rows-two }
 cut (S.leaf a p) (subtree k c f) m h = absurd (leaf-node _ k (width c) (count c) (sym (first-same h)) a)
 cut (S.node a p q) nil m h = absurd (none-some h)
-cut (S.node a p q) (leaf k ts f) m h = absurd (node-leaf _ k (bytes ts) (length ts) (sym (first-same h)) a)
+cut (S.node a p q) (leaf k ts f) m h = absurd (node-leaf _ k (byte-count ts) (length ts) (sym (first-same h)) a)
 cut (S.node {r = r} {c = d} {l = l} a p q) (subtree k c f) m h =
     let g : (rows-of c ≡ d) × (rows-of f ≡ l ++ m) = whole-parts p c (ap S.count (first-same h)) (rows-of f) (l ++ m) (rest-same h ∙ append-assoc d l m) in
     let C : Cut f l m = cut q f m (g .1) in
@@ -118,7 +118,7 @@ pub record Opened (f : Tree) (r : Row) (l : List Row) : Type 0 where
 opened : (f : Tree) (r : Row) (l : List Row) → class r ≡ 0 → rows-of f ≡ r ∷ l → Opened f r l
 unfolding rows-of
 opened nil r l e h = absurd (none-some h)
-opened (leaf k ts f) r l e h = absurd (node-leaf r k (bytes ts) (length ts) (sym (first-same h)) e)
+opened (leaf k ts f) r l e h = absurd (node-leaf r k (byte-count ts) (length ts) (sym (first-same h)) e)
 opened (subtree k c f) r l e h = record { kind = k; inner = c; next = f; is = refl; row = sym (first-same h); rows = rest-same h }
 
 -- a single leaf
@@ -183,13 +183,13 @@ tokens-counted (subtree k c f) =
     let e : over-leaves S.count (rows-of f) ≡ length (leaves f) = tokens-counted f in
     simp (length-append, over-append) (omega arith)
 
-pub bytes-counted : (f : Tree) → raw-bytes (rows-of f) ≡ bytes (leaves f)
-unfolding rows-of over-leaves leaves bytes
+pub bytes-counted : (f : Tree) → raw-bytes (rows-of f) ≡ byte-count (leaves f)
+unfolding rows-of over-leaves leaves byte-count
 bytes-counted nil = refl
-bytes-counted (leaf k ts f) = let e : over-leaves S.width (rows-of f) ≡ bytes (leaves f) = bytes-counted f in simp bytes-append (omega arith)
+bytes-counted (leaf k ts f) = let e : over-leaves S.width (rows-of f) ≡ byte-count (leaves f) = bytes-counted f in simp bytes-append (omega arith)
 bytes-counted (subtree k c f) =
-    let d : over-leaves S.width (rows-of c) ≡ bytes (leaves c) = bytes-counted c in
-    let e : over-leaves S.width (rows-of f) ≡ bytes (leaves f) = bytes-counted f in
+    let d : over-leaves S.width (rows-of c) ≡ byte-count (leaves c) = bytes-counted c in
+    let e : over-leaves S.width (rows-of f) ≡ byte-count (leaves f) = bytes-counted f in
     simp (bytes-append, over-append) (omega arith)
 
 -- ---------------------------------------------------------------- none is missed
@@ -197,7 +197,7 @@ bytes-counted (subtree k c f) =
 rows-beside : (f g : Tree) → rows-of (f ⊕ g) ≡ rows-of f ++ rows-of g
 unfolding rows-of _⊕_
 rows-beside nil g = refl
-rows-beside (leaf k ts f) g = ap ((1 ∷ k ∷ bytes ts ∷ length ts ∷ []) ∷_) (rows-beside f g)
+rows-beside (leaf k ts f) g = ap ((1 ∷ k ∷ byte-count ts ∷ length ts ∷ []) ∷_) (rows-beside f g)
 rows-beside (subtree k c f) g = ap (λ (l : List Row). (0 ∷ k ∷ width c ∷ count c ∷ []) ∷ (rows-of c ++ l)) (rows-beside f g) ∙ ap ((0 ∷ k ∷ width c ∷ count c ∷ []) ∷_) (sym (append-assoc (rows-of c) (rows-of f) (rows-of g)))
 
 -- the rows of a tree are those of its parts
@@ -215,7 +215,7 @@ semicolon-in k before j inside raw later e =
     let i : Tree = inside ⊕ leaf K.Semicolon raw nil in
     let f : Tree = before ⊕ subtree j i later in
     let part : Row = 0 ∷ j ∷ width i ∷ count i ∷ [] in
-    let own : Row = 1 ∷ K.Semicolon ∷ bytes raw ∷ length raw ∷ [] in
+    let own : Row = 1 ∷ K.Semicolon ∷ byte-count raw ∷ length raw ∷ [] in
     let n : count i ≡ suc (count inside) = let z : count i ≡ count inside + 1 = count-beside inside (leaf K.Semicolon raw nil) in omega arith in
     record {
       root = 0 ∷ k ∷ width f ∷ count f ∷ [];

@@ -9,7 +9,7 @@ use lib.Dec.{ltb, eqb}
 use lib.ListN.{length}
 use Rattle.definitions.specs.Layout.{MOST-OPEN-CALLS, MOST-PENDING}
 use Rattle.definitions.specs.TokenKind as K
-use Rattle.definitions.specs.Token.{Token, trivia, bytes}
+use Rattle.definitions.specs.Token.{Token, trivia, byte-count}
 use Rattle.definitions.specs.Prog.{Ans, yes, Rule, Act, silent-at, at-end, immediate, immediate-next, add-expected, bump, bump-name, bump-argument, emit, emit-unclosed, less, Prog, ret, act, _⨟_, case, in-marker, loop, chain, brace, open-call}
 use Rattle.definitions.specs.Grammar.{grammar, Entry, whole}
 use Rattle.definitions.specs.Skeleton.{Span, Label, no-label, label, Report, Skeleton, done, token, name, report, over, _⧺_}
@@ -34,30 +34,30 @@ room-told false m = refl
 abbrev pub Range-in : ℕ → Span → Type 0
 Range-in b r = (r .from ≤ suc b) × (r .to ≤ suc b)
 
-stands-bytes : (s : State) → Stands s → bytes (s .rest) ≤ bytes (s .since)
-stands-bytes s h = omega (arith, simp bytes-append at (ap bytes (h .passed .split)))
+stands-bytes : (s : State) → Stands s → byte-count (s .rest) ≤ byte-count (s .since)
+stands-bytes s h = omega (arith, simp bytes-append at (ap byte-count (h .passed .split)))
 
-range-in : (b : ℕ) (s : State) (ts : List Token) → bytes (s .since) ≤ b → bytes ts ≤ b → Range-in b (error-range s ts)
-unfolding error-range bytes
+range-in : (b : ℕ) (s : State) (ts : List Token) → byte-count (s .since) ≤ b → byte-count ts ≤ b → Range-in b (error-range s ts)
+unfolding error-range byte-count
 range-in b s [] h g = (omega arith, zero-le)
 range-in b s (t ∷ ts) h g =
-    cond-all (Range-in b) (only-separators (s .pending)) {x = record { from = bytes (s .since); to = bytes (s .since) - 1 }} {y = record { from = t .len + bytes ts; to = bytes ts }}
+    cond-all (Range-in b) (only-separators (s .pending)) {x = record { from = byte-count (s .since); to = byte-count (s .since) - 1 }} {y = record { from = t .len + byte-count ts; to = byte-count ts }}
     (omega arith, omega arith) (omega arith, omega arith)
 
 -- of a run that begins with at most b bytes left
 pub record Ranging (b : ℕ) (s : State) (p : Skeleton) (u : State) : Type 0 where
-  pub less : bytes (u .since) ≤ bytes (s .since)
-  pub ranges : bytes (s .since) ≤ b → All (λ r. Range-in b (r .range)) (told p)
+  pub less : byte-count (u .since) ≤ byte-count (s .since)
+  pub ranges : byte-count (s .since) ≤ b → All (λ r. Range-in b (r .range)) (told p)
 
 ranges-kept : (b : ℕ) → Kept (Ranging b)
-unfolding pushes reports bytes
+unfolding pushes reports byte-count
 ranges-kept b =
     let P : Report → Type 0 = λ r. Range-in b (r .range) in
     record {
       pass = λ s ts h p. record { less = le-refl _; ranges = λ _. tt };
       expect = λ s k h. record { less = le-refl _; ranges = λ _. subst (All P) (sym (room-told (ltb (length (s .pending)) MOST-PENDING) (mark-of s))) tt };
-      token = λ s t ts h e d. let w : bytes (s .rest) ≤ bytes (s .since) = stands-bytes s h in record { less = omega (arith, ap bytes e); ranges = λ _. tt };
-      name = λ s ks t raw ts h e d i. let w : bytes (s .rest) ≤ bytes (s .since) = stands-bytes s h in record { less = omega (arith, simp bytes-append at (ap bytes e)); ranges = λ _. tt };
+      token = λ s t ts h e d. let w : byte-count (s .rest) ≤ byte-count (s .since) = stands-bytes s h in record { less = omega (arith, ap byte-count e); ranges = λ _. tt };
+      name = λ s ks t raw ts h e d i. let w : byte-count (s .rest) ≤ byte-count (s .since) = stands-bytes s h in record { less = omega (arith, simp bytes-append at (ap byte-count e)); ranges = λ _. tt };
       report = λ s m k l h d. record { less = le-refl _; ranges = λ g. (range-in b s (s .rest) g (le-trans (stands-bytes s h) g), tt) };
       over = λ s h. record { less = le-refl _; ranges = λ _. tt };
       join = λ s u v p q f g. record { less = le-trans (g .less) (f .less); ranges = λ h. told-all P p q (f .ranges h) (g .ranges (le-trans (f .less) h)) };
@@ -83,7 +83,7 @@ module _ (b : ℕ) where
   -- at most b bytes are left
   record Near (s : State) : Type 0 where
     pub stands : Stands s
-    pub bytes-left : bytes (s .since) ≤ b
+    pub bytes-left : byte-count (s .since) ≤ b
 
   record Labels (o : Out) : Type 0 where
     pub near : Near (o .state)
@@ -167,8 +167,8 @@ module _ (b : ℕ) where
   act-labels l w emit-unclosed s = (w, tt)
   act-labels l w (less m n) s = tt
 
-  here-in : (s : State) (ts : List Token) → bytes ts ≤ b → Label-in b (here ts)
-  unfolding bytes
+  here-in : (s : State) (ts : List Token) → byte-count ts ≤ b → Label-in b (here ts)
+  unfolding byte-count
   here-in s [] h = (zero-le, zero-le)
   here-in s (t ∷ ts) h = (h, omega arith)
 
@@ -209,10 +209,10 @@ all-three A B C [] x y z = tt
 all-three A B C (r ∷ l) x y z = ((x .0, y .0, z .0), all-three A B C l (x .1) (y .1) (z .1))
 
 -- EVERY REPORT OF A FILE LIES INSIDE IT
-pub entry-inside : (e : Entry) (ts : List Token) → All (Inside (length ts) (bytes ts)) (told (run-entry e ts))
+pub entry-inside : (e : Entry) (ts : List Token) → All (Inside (length ts) (byte-count ts)) (told (run-entry e ts))
 unfolding run-entry
 entry-inside e ts =
-    let b : ℕ = bytes ts in
+    let b : ℕ = byte-count ts in
     all-map _ (Inside (length ts) b) (λ r h. record { marked = h .0; ranged = h .1; labelled = h .2 }) (told (run-entry e ts))
     (all-three (λ r. r .mark ≤ length ts) (λ r. Range-in b (r .range)) (λ r. Label-in b (r .labelled)) (told (run-entry e ts))
     (falls-below (length ts) _ (run-entry e ts) (entry-marks e ts))

@@ -6,7 +6,7 @@ use mathlib.Core.Path.{_≡_, refl, ap, _∙_}
 use mathlib.Core.Bool.{Bool, true, false, cond}
 use mathlib.Core.List.{List, [], _∷_, _++_}
 use borrow.Author.Tests.{lt-ltb, le-ltb}
-use Rattle.definitions.specs.Token.{Token, is-error, bytes}
+use Rattle.definitions.specs.Token.{Token, is-error, byte-count}
 use Rattle.recovery.specs.ResultRows.{Row, start}
 use Rattle.recovery.specs.Recovery.{those, later-error, Moved, Each, none, more, ErrorMoved}
 use Rattle.recovery.proofs.Written.{errors-of}
@@ -38,21 +38,21 @@ those-none f (r ∷ l) h = ap (λ (b : Bool). cond b (r ∷ those f l) (those f 
 
 -- ---------------------------------------------------------------- lexical errors
 
-errors-append : (a : ℕ) (ts us : List Token) → errors-of a (ts ++ us) ≡ errors-of a ts ++ errors-of (a + bytes ts) us
-unfolding errors-of bytes
+errors-append : (a : ℕ) (ts us : List Token) → errors-of a (ts ++ us) ≡ errors-of a ts ++ errors-of (a + byte-count ts) us
+unfolding errors-of byte-count
 errors-append a [] us = ap (λ (n : ℕ). errors-of n us) (let e : a ≡ a + 0 = omega arith in e)
 errors-append a (t ∷ ts) us =
-    go (is-error (t .kind)) (errors-append (a + t .len) ts us ∙ ap (λ (n : ℕ). errors-of (a + t .len) ts ++ errors-of n us) (let e : a + t .len + bytes ts ≡ a + (t .len + bytes ts) = omega arith in e))
+    go (is-error (t .kind)) (errors-append (a + t .len) ts us ∙ ap (λ (n : ℕ). errors-of (a + t .len) ts ++ errors-of n us) (let e : a + t .len + byte-count ts ≡ a + (t .len + byte-count ts) = omega arith in e))
   where
-    go : (b : Bool) → errors-of (a + t .len) (ts ++ us) ≡ errors-of (a + t .len) ts ++ errors-of (a + (t .len + bytes ts)) us
+    go : (b : Bool) → errors-of (a + t .len) (ts ++ us) ≡ errors-of (a + t .len) ts ++ errors-of (a + (t .len + byte-count ts)) us
         → cond b ((t .kind ∷ a ∷ (a + t .len) ∷ []) ∷ errors-of (a + t .len) (ts ++ us)) (errors-of (a + t .len) (ts ++ us))
-        ≡ cond b ((t .kind ∷ a ∷ (a + t .len) ∷ []) ∷ errors-of (a + t .len) ts) (errors-of (a + t .len) ts) ++ errors-of (a + (t .len + bytes ts)) us
+        ≡ cond b ((t .kind ∷ a ∷ (a + t .len) ∷ []) ∷ errors-of (a + t .len) ts) (errors-of (a + t .len) ts) ++ errors-of (a + (t .len + byte-count ts)) us
     go true h = ap ((t .kind ∷ a ∷ (a + t .len) ∷ []) ∷_) h
     go false h = h
 
 -- where they start
-errors-start : (P : Row → Type 0) (low high a : ℕ) → ((r : Row) → low ≤ start r → start r ≤ high → P r) → (ts : List Token) → low ≤ a → a + bytes ts ≤ high → Every P (errors-of a ts)
-unfolding errors-of bytes
+errors-start : (P : Row → Type 0) (low high a : ℕ) → ((r : Row) → low ≤ start r → start r ≤ high → P r) → (ts : List Token) → low ≤ a → a + byte-count ts ≤ high → Every P (errors-of a ts)
+unfolding errors-of byte-count
 errors-start P low high a f [] h g = tt
 errors-start P low high a f (t ∷ ts) h g = go (is-error (t .kind)) (errors-start P low high (a + t .len) f ts (omega arith) (omega arith))
   where
@@ -61,10 +61,10 @@ errors-start P low high a f (t ∷ ts) h g = go (is-error (t .kind)) (errors-sta
     go false e = e
 
 -- the later ones are those of the tokens after the semicolon
-pub errors-later : (ps : List Token) (t : Token) (us : List Token) → t .len ≡ 1 → is-error (t .kind) ≡ false → those (later-error (bytes ps)) (errors-of 0 (ps ++ (t ∷ us))) ≡ errors-of (suc (bytes ps)) us
+pub errors-later : (ps : List Token) (t : Token) (us : List Token) → t .len ≡ 1 → is-error (t .kind) ≡ false → those (later-error (byte-count ps)) (errors-of 0 (ps ++ (t ∷ us))) ≡ errors-of (suc (byte-count ps)) us
 unfolding errors-of later-error
 errors-later ps t us l n =
-    let p : ℕ = bytes ps in
+    let p : ℕ = byte-count ps in
     let w : 0 + p ≡ p = omega arith in
     let s : p + t .len ≡ suc p = omega arith in
     ap (those (later-error p)) (errors-append 0 ps (t ∷ us) ∙ ap (λ (x : ℕ). errors-of 0 ps ++ errors-of x (t ∷ us)) w)
@@ -74,7 +74,7 @@ errors-later ps t us l n =
     ∙ ap (λ (b : Bool). those (later-error p) (cond b ((t .kind ∷ p ∷ (p + t .len) ∷ []) ∷ errors-of (p + t .len) us) (errors-of (p + t .len) us))) n
     ∙ ap (λ (x : ℕ). those (later-error p) (errors-of x us)) s
     ∙ those-all (later-error p) (errors-of (suc p) us)
-    (errors-start (λ r. later-error p r ≡ true) (suc p) (suc p + bytes us) (suc p) (λ r x y. lt-ltb p (start r) x) us (le-refl _) (le-refl _))
+    (errors-start (λ r. later-error p r ≡ true) (suc p) (suc p + byte-count us) (suc p) (λ r x y. lt-ltb p (start r) x) us (le-refl _) (le-refl _))
 
 pub errors-moved : (a b x y : ℕ) → Moved a b x y → (ts : List Token) → Each (ErrorMoved a b) (errors-of x ts) (errors-of y ts)
 unfolding errors-of

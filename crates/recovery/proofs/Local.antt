@@ -4,7 +4,7 @@ use native.Mathlib.Omega.{arith}
 use mathlib.Core.Path.{_≡_, refl, ap, sym, _∙_, subst}
 use mathlib.Core.List.{List, [], _∷_, _++_}
 use lib.ListN.{length, drop, length-append}
-use Rattle.definitions.specs.Token.{Token, bytes}
+use Rattle.definitions.specs.Token.{Token, byte-count}
 use Rattle.definitions.specs.Grammar.{SourceFile}
 use Rattle.definitions.specs.Skeleton.{Report}
 use Rattle.definitions.specs.Report.{pool}
@@ -30,22 +30,22 @@ pub record Later (f : File) (s : Semicolon (tree-rows (result f))) (rest : List 
   pub parts : s .later ≡ rows-of (children (run-entry SourceFile rest) rest)
   pub errors : later-errors f s ≡ errors-of (suc (start-byte s)) rest
   pub early : List ℕ
-  pub reports : later-reports f s ≡ reports-of (token-index s + suc (length rest)) (start-byte s + suc (bytes rest)) (length early) (told (run-entry SourceFile rest))
+  pub reports : later-reports f s ≡ reports-of (token-index s + suc (length rest)) (start-byte s + suc (byte-count rest)) (length early) (told (run-entry SourceFile rest))
   pub pool-before : places f s .pool ≡ length early
   pub pool : expectations (result f) ≡ early ++ pool (told (run-entry SourceFile rest))
 
 later : (f : File) → Accepted f → (s : Semicolon (tree-rows (result f))) → (rest : List Token) × Later f s rest
-unfolding bytes
+unfolding byte-count
 later f h s =
     let W : Wrote f = wrote f h in
     let T : Tail f s = tail f h s in
     let us : List Token = T .rest in
     let late : List Report = told (run-entry SourceFile us) in
     let n : length (file-tokens f) ≡ token-index s + suc (length us) = ap length (T .file) ∙ length-append (T .head) _ ∙ ap (_+ suc (length us)) (sym (T .at-index)) in
-    let b : bytes (file-tokens f) ≡ start-byte s + suc (bytes us) =
-    ap bytes (T .file) ∙ bytes-append (T .head) _ ∙ ap (λ (x : ℕ). bytes (T .head) + (x + bytes us)) (T .one-byte-long) ∙ (let z : bytes (T .head) + (1 + bytes us) ≡ start-byte s + suc (bytes us) = omega (arith, T .at-byte) in z) in
-    let inside : All (λ r. r .mark ≤ length us) late = all-map (Inside (length us) (bytes us)) _ (λ r I. I .marked) late (entry-inside SourceFile us) in
-    let rows : report-rows (result f) ≡ reports-of (token-index s + suc (length us)) (start-byte s + suc (bytes us)) 0 (T .early ++ late) =
+    let b : byte-count (file-tokens f) ≡ start-byte s + suc (byte-count us) =
+    ap byte-count (T .file) ∙ bytes-append (T .head) _ ∙ ap (λ (x : ℕ). byte-count (T .head) + (x + byte-count us)) (T .one-byte-long) ∙ (let z : byte-count (T .head) + (1 + byte-count us) ≡ start-byte s + suc (byte-count us) = omega (arith, T .at-byte) in z) in
+    let inside : All (λ r. r .mark ≤ length us) late = all-map (Inside (length us) (byte-count us)) _ (λ r I. I .marked) late (entry-inside SourceFile us) in
+    let rows : report-rows (result f) ≡ reports-of (token-index s + suc (length us)) (start-byte s + suc (byte-count us)) 0 (T .early ++ late) =
     W .reports ∙ (λ i. reports-of (n i) (b i) 0 (T .reports i)) in (
       us,
       record {
@@ -56,8 +56,8 @@ later f h s =
             ∙ errors-later (T .head) (T .semicolon) us (T .one-byte-long) (T .no-error)
             ∙ ap (λ (x : ℕ). errors-of (suc x) us) (sym (T .at-byte));
         early = pool (T .early);
-        reports = ap (those (later-report (token-index s))) rows ∙ reports-later (token-index s) (length us) (start-byte s + suc (bytes us)) (T .early) late (T .above) inside;
-        pool-before = ap (pool-before (token-index s)) rows ∙ reports-before (token-index s) (length us) (start-byte s + suc (bytes us)) (T .early) late (T .above) inside;
+        reports = ap (those (later-report (token-index s))) rows ∙ reports-later (token-index s) (length us) (start-byte s + suc (byte-count us)) (T .early) late (T .above) inside;
+        pool-before = ap (pool-before (token-index s)) rows ∙ reports-before (token-index s) (length us) (start-byte s + suc (byte-count us)) (T .early) late (T .above) inside;
         pool = W .pool ∙ ap pool (T .reports) ∙ pool-append (T .early) late;
       },
     )
@@ -81,5 +81,5 @@ stays-local f g hf hg a b A =
       reports =
           subst (λ l. Each (ReportMoved (places f a) (places g b) p q) l (later-reports g b)) (sym (X .reports))
           (subst (Each (ReportMoved (places f a) (places g b) p q) _) (sym (Y .reports))
-          (reports-moved (length us) (bytes us) (places f a) (places g b) p q (X .early) (Y .early) late (entry-inside SourceFile us) (X .pool) (Y .pool) moved));
+          (reports-moved (length us) (byte-count us) (places f a) (places g b) p q (X .early) (Y .early) late (entry-inside SourceFile us) (X .pool) (Y .pool) moved));
     }

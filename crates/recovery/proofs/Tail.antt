@@ -11,7 +11,7 @@ use lib.Seq.{drop-drop, length-take-le}
 use Rattle.definitions.specs.TokenKind as K
 use Rattle.definitions.specs.NodeKind as N
 use Rattle.definitions.specs.StaticText.{static-texts, same, fits-text}
-use Rattle.definitions.specs.Token.{Token, is-error, seen, bytes}
+use Rattle.definitions.specs.Token.{Token, is-error, seen, byte-count}
 use Rattle.definitions.specs.Grammar.{SourceFile}
 use Rattle.definitions.specs.Skeleton.{Report}
 use Rattle.definitions.specs.Run.{taken}
@@ -36,10 +36,10 @@ use Rattle.recovery.proofs.Cut.{Placed, placed, tokens-counted, bytes-c
 
 -- ---------------------------------------------------------------- a semicolon is one byte long
 
-texts-at : (ps : List Token) (t : Token) (us : List Token) (bs : List ℕ) → Texts-fit bs (ps ++ (t ∷ us)) → fits-text static-texts (t .kind) (take (t .len) (drop (bytes ps) bs)) ≡ true
-unfolding bytes
-texts-at [] t us bs h = h .0
-texts-at (p ∷ ps) t us bs h = ap (λ (l : List ℕ). fits-text static-texts (t .kind) (take (t .len) l)) (sym (drop-drop (bytes ps) (p .len) bs)) ∙ texts-at ps t us (drop (p .len) bs) (h .1)
+texts-at : (ps : List Token) (t : Token) (us : List Token) (bytes : List ℕ) → Texts-fit bytes (ps ++ (t ∷ us)) → fits-text static-texts (t .kind) (take (t .len) (drop (byte-count ps) bytes)) ≡ true
+unfolding byte-count
+texts-at [] t us bytes h = h .0
+texts-at (p ∷ ps) t us bytes h = ap (λ (l : List ℕ). fits-text static-texts (t .kind) (take (t .len) l)) (sym (drop-drop (byte-count ps) (p .len) bytes)) ∙ texts-at ps t us (drop (p .len) bytes) (h .1)
 
 one-byte : (l : List ℕ) → fits-text static-texts K.Semicolon l ≡ true → length l ≡ 1
 unfolding fits-text same
@@ -52,14 +52,14 @@ one-byte (x ∷ y ∷ l) e = absurd (go (eqb 59 x) e)
     go false e = false≢true e
 
 semicolon-length : (f : File) (ps : List Token) (t : Token) (us : List Token) → Checked (f .input) (f .rows) → file-tokens f ≡ ps ++ (t ∷ us) → t .kind ≡ K.Semicolon → t .len ≡ 1
-unfolding bytes
+unfolding byte-count
 semicolon-length f ps t us c e k =
-    let bs : List ℕ = f .input in
-    let a : bytes ps + (t .len + bytes us) ≡ length bs = sym (bytes-append ps (t ∷ us)) ∙ ap bytes (sym e) ∙ c .covered in
-    let d : t .len ≤ length (drop (bytes ps) bs) = omega (arith, length-drop (bytes ps) bs) in
-    let g : fits-text static-texts K.Semicolon (take (t .len) (drop (bytes ps) bs)) ≡ true =
-    ap (λ (n : ℕ). fits-text static-texts n (take (t .len) (drop (bytes ps) bs))) (sym k) ∙ texts-at ps t us bs (subst (Texts-fit bs) e (c .texts)) in
-    sym (length-take-le (t .len) (drop (bytes ps) bs) d) ∙ one-byte _ g
+    let bytes : List ℕ = f .input in
+    let a : byte-count ps + (t .len + byte-count us) ≡ length bytes = sym (bytes-append ps (t ∷ us)) ∙ ap byte-count (sym e) ∙ c .covered in
+    let d : t .len ≤ length (drop (byte-count ps) bytes) = omega (arith, length-drop (byte-count ps) bytes) in
+    let g : fits-text static-texts K.Semicolon (take (t .len) (drop (byte-count ps) bytes)) ≡ true =
+    ap (λ (n : ℕ). fits-text static-texts n (take (t .len) (drop (byte-count ps) bytes))) (sym k) ∙ texts-at ps t us bytes (subst (Texts-fit bytes) e (c .texts)) in
+    sym (length-take-le (t .len) (drop (byte-count ps) bytes) d) ∙ one-byte _ g
 
 -- ---------------------------------------------------------------- a semicolon's leaf is one token
 
@@ -122,7 +122,7 @@ pub record Tail (f : File) (s : Semicolon (tree-rows (result f))) : Type 0 where
   pub one-byte-long : semicolon .len ≡ 1
   pub no-error : is-error (semicolon .kind) ≡ false
   pub at-index : token-index s ≡ length head
-  pub at-byte : start-byte s ≡ bytes head
+  pub at-byte : start-byte s ≡ byte-count head
   pub parts : s .later ≡ rows-of (children (run-entry SourceFile rest) rest)
   pub early : List Report
   pub reports : told-of f ≡ early ++ told (run-entry SourceFile rest)
@@ -162,7 +162,7 @@ tail f h s =
           counted (λ (x : Tree). length (leaves x)) raw-tokens tokens-counted (P .before) (P .inside) (s .before) (s .inside) (P .rows-before) (P .rows-inside)
           ∙ sym (length-append (leaves (P .before)) (leaves (P .inside)));
       at-byte =
-          counted (λ (x : Tree). bytes (leaves x)) raw-bytes bytes-counted (P .before) (P .inside) (s .before) (s .inside) (P .rows-before) (P .rows-inside)
+          counted (λ (x : Tree). byte-count (leaves x)) raw-bytes bytes-counted (P .before) (P .inside) (s .before) (s .inside) (P .rows-before) (P .rows-inside)
           ∙ sym (bytes-append (leaves (P .before)) (leaves (P .inside)));
       parts = sym (P .rows-later) ∙ ap rows-of (F .behind);
       early = told (F .first);

@@ -8,11 +8,11 @@ use mathlib.Core.List.{List, [], _∷_, _++_, append-assoc}
 use lib.ListN.{length, take, drop, replicate, length-append}
 use lib.Seq.{take-at, drop-at, take-append-seam}
 use Rattle.definitions.specs.NodeKind as N
-use Rattle.definitions.specs.Token.{Token, tokens-of, is-error, bytes}
+use Rattle.definitions.specs.Token.{Token, tokens-of, is-error, byte-count}
 use Rattle.definitions.specs.Grammar.{Entry, SourceFile, root-kind}
 use Rattle.definitions.specs.Skeleton.{Label, no-label, label, Report, Skeleton}
 use Rattle.definitions.specs.Place.{Tree, nil, leaf, subtree, root, width, count, rows, lexical-errors}
-use Rattle.definitions.specs.Report.{pushes, reports, label-numbers, report-rows, pool}
+use Rattle.definitions.specs.Report.{pushes, reports, label-numbers, report-numbers, pool}
 use Rattle.definitions.specs.Refusal.{accepted, check-input}
 use Rattle.definitions.specs.Call.{Sheets, sheets, kept, written, run-entry, for, entry-of}
 use Rattle.laws.proofs.Accepted.{accepted-call}
@@ -70,9 +70,9 @@ written-rows w l m b pos h e =
 -- ---------------------------------------------------------------- the rows
 
 unfoldable pub rows-of : Tree → List Row
-unfolding bytes width count
+unfolding byte-count width count
 rows-of nil = []
-rows-of (leaf k ts f) = (1 ∷ k ∷ bytes ts ∷ length ts ∷ []) ∷ rows-of f
+rows-of (leaf k ts f) = (1 ∷ k ∷ byte-count ts ∷ length ts ∷ []) ∷ rows-of f
 rows-of (subtree k c f) = (0 ∷ k ∷ width c ∷ count c ∷ []) ∷ (rows-of c ++ rows-of f)
 
 rows-wide : (f : Tree) → Wide 4 (rows-of f)
@@ -84,7 +84,7 @@ rows-wide (subtree k c f) = (refl, wide-append 4 (rows-of c) (rows-of f) (rows-w
 rows-flat : (f : Tree) → rows f ≡ flat (rows-of f)
 unfolding rows-of rows flat
 rows-flat nil = refl
-rows-flat (leaf k ts f) = ap (λ (l : List ℕ). 1 ∷ k ∷ bytes ts ∷ length ts ∷ l) (rows-flat f)
+rows-flat (leaf k ts f) = ap (λ (l : List ℕ). 1 ∷ k ∷ byte-count ts ∷ length ts ∷ l) (rows-flat f)
 rows-flat (subtree k c f) =
     ap (λ (l : List ℕ). 0 ∷ k ∷ width c ∷ count c ∷ l) ((λ i. rows-flat c i ++ rows-flat f i) ∙ sym (flat-append (rows-of c) (rows-of f)))
 
@@ -133,8 +133,8 @@ label-flat : (b : ℕ) (x : Label) (l : List ℕ) → label-numbers b x l ≡ la
 label-flat b no-label l = refl
 label-flat b (label s) l = refl
 
-reports-flat : (n b first : ℕ) (l : List Report) → report-rows n b first l ≡ flat (reports-of n b first l)
-unfolding reports-of report-rows flat
+reports-flat : (n b first : ℕ) (l : List Report) → report-numbers n b first l ≡ flat (reports-of n b first l)
+unfolding reports-of report-numbers flat
 reports-flat n b first [] = refl
 reports-flat n b first (r ∷ l) =
     ap (λ (x : List ℕ). r .message ∷ (b - r .range .from) ∷ (b - r .range .to) ∷ (n - r .mark) ∷ first ∷ length (r .pool) ∷ r .hint ∷ x)
@@ -155,7 +155,7 @@ pub record Wrote (f : File) : Type 0 where
   pub input : check-input (f .input) (f .rows) ≡ accepted
   pub trees : tree-rows (result f) ≡ rows-of (subtree N.SourceFile (children (made-of f) (file-tokens f)) nil)
   pub errors : error-rows (result f) ≡ errors-of 0 (file-tokens f)
-  pub reports : S.report-rows (result f) ≡ reports-of (length (file-tokens f)) (bytes (file-tokens f)) 0 (told-of f)
+  pub reports : S.report-rows (result f) ≡ reports-of (length (file-tokens f)) (byte-count (file-tokens f)) 0 (told-of f)
   pub pool : expectations (result f) ≡ pool (told-of f)
 
 entry-one : (e : Entry) → entry-of 1 ≡ for e → e ≡ SourceFile
@@ -178,7 +178,7 @@ wrote f h =
       errors = ap error-rows is ∙ written-rows 3 (errors-of 0 ts) (z .errors) (f .lent .errors) (omega arith) (errors-wide 0 ts) (errors-flat 0 ts);
       reports =
           ap S.report-rows is
-          ∙ written-rows 9 (reports-of (length ts) (bytes ts) 0 (told-of f)) (z .reports) (f .lent .reports) (omega arith) (reports-wide (length ts) (bytes ts) 0 (told-of f))
-          (reports-flat (length ts) (bytes ts) 0 (told-of f));
+          ∙ written-rows 9 (reports-of (length ts) (byte-count ts) 0 (told-of f)) (z .reports) (f .lent .reports) (omega arith) (reports-wide (length ts) (byte-count ts) 0 (told-of f))
+          (reports-flat (length ts) (byte-count ts) 0 (told-of f));
       pool = ap expectations is ∙ take-append-seam (z .pool) (replicate (length (f .lent .pool) - length (z .pool)) 0);
     }

@@ -6,6 +6,7 @@ use mathlib.Core.Bool.{Bool, true, cond, not}
 use mathlib.Core.List.{List, [], _∷_, _++_}
 use lib.Dec.{ltb}
 use lib.ListN.{take, drop}
+use Rattle.definitions.specs.Layout.{NODE, LEAF}
 use Rattle.definitions.specs.TokenKind as K
 use Rattle.definitions.specs.NodeKind as N
 use Rattle.definitions.specs.Token.{tokens-of, one-of}
@@ -48,12 +49,12 @@ pub record Semicolon (l : List Row) : Type 0 where
   pub is : l ≡ root ∷ (before ++ (part ∷ (inside ++ (leaf ∷ later))))
   pub parts-before : ℕ
   pub before-whole : Parts parts-before before
-  pub part-node : class part ≡ 0
+  pub part-node : class part ≡ NODE
   pub part-kind : is-statement (kind part) ≡ true
   pub parts-inside : ℕ
   pub inside-whole : Parts parts-inside inside
   pub leaf-last : count part ≡ suc parts-inside
-  pub leaf-leaf : class leaf ≡ 1
+  pub leaf-leaf : class leaf ≡ LEAF
   pub leaf-kind : kind leaf ≡ K.Semicolon
 
 -- its token index: as many raw tokens stand before it

@@ -5,7 +5,9 @@ use mathlib.Core.Bool.{cond}
 use mathlib.Core.List.{List, [], _∷_, _++_}
 use lib.Dec.{eqb}
 use lib.ListN.{take, drop, getD}
-use Rattle.definitions.specs.Layout.{TREE-ROW, ERROR-ROW, REPORT-ROW}
+use Rattle.definitions.specs.Layout.{TREE-ROW, TREE-KIND, TREE-WIDTH, TREE-COUNT, NODE, LEAF, ERROR-ROW}
+use Rattle.definitions.specs.Layout.{REPORT-ROW, REPORT-START, REPORT-END, REPORT-MARK, REPORT-POOL-FIRST, REPORT-POOL-COUNT, REPORT-HINT}
+use Rattle.definitions.specs.Layout.{REPORT-LABEL-START, REPORT-LABEL-END}
 use Rattle.definitions.specs.Call.{Result}
 
 -- a row, as a list of its numbers
@@ -21,79 +23,79 @@ first-rows (suc n) w l = take w l ∷ first-rows n w (drop w l)
 
 unfoldable pub tree-rows : Result → List Row
 unfolding first-rows
-tree-rows r = first-rows (r .answer .trees) TREE-ROW (r .buffers .trees)
+tree-rows r = first-rows (r .answer .tree-count) TREE-ROW (r .buffers .trees)
 
 unfoldable pub error-rows : Result → List Row
 unfolding first-rows
-error-rows r = first-rows (r .answer .errors) ERROR-ROW (r .buffers .errors)
+error-rows r = first-rows (r .answer .error-count) ERROR-ROW (r .buffers .errors)
 
 unfoldable pub report-rows : Result → List Row
 unfolding first-rows
-report-rows r = first-rows (r .answer .reports) REPORT-ROW (r .buffers .reports)
+report-rows r = first-rows (r .answer .report-count) REPORT-ROW (r .buffers .reports)
 
 unfoldable pub expectations : Result → List ℕ
-expectations r = take (r .answer .expectations) (r .buffers .pool)
+expectations r = take (r .answer .expectation-count) (r .buffers .pool)
 
 -- ---------------------------------------------------------------- the numbers of a row, by name
 
--- a tree row: class (0 node, 1 leaf), kind, width, count (children of a node, raw tokens of a leaf)
+-- a tree row: class, kind, width, count (children of a node, raw tokens of a leaf)
 abbrev pub class : Row → ℕ
 class r = getD r 0 0
 
 abbrev pub kind : Row → ℕ
-kind r = getD r 1 0
+kind r = getD r TREE-KIND 0
 
 abbrev pub width : Row → ℕ
-width r = getD r 2 0
+width r = getD r TREE-WIDTH 0
 
 abbrev pub count : Row → ℕ
-count r = getD r 3 0
+count r = getD r TREE-COUNT 0
 
 -- a lexical error: number, start, end
 abbrev pub number : Row → ℕ
 number r = getD r 0 0
 
--- start and end stand in the same place in a lexical error and in a report
+-- start and end stand in the same columns of an error row and of a report row (ERROR-START, ERROR-END)
 abbrev pub start : Row → ℕ
-start r = getD r 1 0
+start r = getD r REPORT-START 0
 
 abbrev pub end : Row → ℕ
-end r = getD r 2 0
+end r = getD r REPORT-END 0
 
 -- a report: message, start, end, mark, first pool place, pool count, hint, label start, label end
 abbrev pub message : Row → ℕ
 message r = getD r 0 0
 
 abbrev pub mark : Row → ℕ
-mark r = getD r 3 0
+mark r = getD r REPORT-MARK 0
 
 abbrev pub first-place : Row → ℕ
-first-place r = getD r 4 0
+first-place r = getD r REPORT-POOL-FIRST 0
 
 abbrev pub pool-count : Row → ℕ
-pool-count r = getD r 5 0
+pool-count r = getD r REPORT-POOL-COUNT 0
 
 abbrev pub hint : Row → ℕ
-hint r = getD r 6 0
+hint r = getD r REPORT-HINT 0
 
 abbrev pub label-start : Row → ℕ
-label-start r = getD r 7 0
+label-start r = getD r REPORT-LABEL-START 0
 
 abbrev pub label-end : Row → ℕ
-label-end r = getD r 8 0
+label-end r = getD r REPORT-LABEL-END 0
 
 -- ---------------------------------------------------------------- parts in tree rows
 
 -- so many parts side by side, in preorder: a leaf is a row, a node its row and then the rows of its children
 pub data Parts : ℕ → List Row → Type 0 where
   none : Parts 0 []
-  leaf : {n : ℕ} {r : Row} {l : List Row} → class r ≡ 1 → Parts n l → Parts (suc n) (r ∷ l)
-  node : {n : ℕ} {r : Row} {c l : List Row} → class r ≡ 0 → Parts (count r) c → Parts n l → Parts (suc n) (r ∷ (c ++ l))
+  leaf : {n : ℕ} {r : Row} {l : List Row} → class r ≡ LEAF → Parts n l → Parts (suc n) (r ∷ l)
+  node : {n : ℕ} {r : Row} {c l : List Row} → class r ≡ NODE → Parts (count r) c → Parts n l → Parts (suc n) (r ∷ (c ++ l))
 
 -- what the leaves among some rows add up to
 unfoldable pub over-leaves : (Row → ℕ) → List Row → ℕ
 over-leaves f [] = 0
-over-leaves f (r ∷ l) = cond (eqb (class r) 1) (f r) 0 + over-leaves f l
+over-leaves f (r ∷ l) = cond (eqb (class r) LEAF) (f r) 0 + over-leaves f l
 
 -- the raw tokens of some rows, and their bytes
 abbrev pub raw-tokens : List Row → ℕ

@@ -9,11 +9,11 @@ use lib.ListN.{length, take, drop}
 use lib.Seq.{take-at}
 use borrow.Author.Tests.{leb-true}
 use Rattle.definitions.specs.Layout.{TREE-ROW, ERROR-ROW, REPORT-ROW}
-use Rattle.definitions.specs.Token.{Token, tokens-of, bytes}
+use Rattle.definitions.specs.Token.{Token, tokens-of, byte-count}
 use Rattle.definitions.specs.Skeleton.{Skeleton}
 use Rattle.definitions.specs.Event.{events}
 use Rattle.definitions.specs.Place.{root, rows, lexical-errors}
-use Rattle.definitions.specs.Report.{Fit, fits, stops, scan, pushes, reports, report-rows, pool}
+use Rattle.definitions.specs.Report.{Fit, fits, stops, scan, pushes, reports, report-numbers, pool}
 use Rattle.definitions.specs.Refusal.{Refusal, unknown-entry, too-long, bad-row, bad-text, too-deep, no-event-room, no-report-room, no-tree-room, number-of, place-of, accepted, check-input}
 use Rattle.definitions.specs.Grammar.{Entry, root-kind}
 use Rattle.definitions.specs.Call.{Buffers, Answer, Result, refusal, cleared, Sheets, sheets, kept, finish, forward-mark, outcome, room-of, run-entry, parse}
@@ -22,7 +22,7 @@ use Rattle.basics.proofs.Tests.{and-left, and-right}
 use Rattle.laws.proofs.Decode.{rows-length}
 use Rattle.laws.proofs.LexicalErrors.{errors-length}
 use Rattle.bounds.proofs.Numbers.{bounded}
-use Rattle.bounds.proofs.Written.{report-rows-length}
+use Rattle.bounds.proofs.Written.{report-numbers-length}
 use Rattle.machine.specs.Machine.{Machine, Buffer}
 use Rattle.machine.specs.Encode.{encode}
 use Rattle.machine.specs.Outcome.{onto, Holds, Accepted, Refused, Ends}
@@ -49,12 +49,12 @@ forward-number n no-tree-room = refl
 -- a refused call's buffers are all zero
 swept-refused : (n p : ℕ) (r : Refusal) (b c : Buffers) → n ≡ number-of r → p ≡ place-of r → Same-lengths b c → swept (refused-at n p) c ≡ cleared r b
 swept-refused n p r b c e h s =
-    let ev : wiped 0 (c .events) ≡ _ = wiped-whole (b .events) (c .events) (s .events) in
-    let tr : wiped 0 (c .trees) ≡ _ = wiped-whole (b .trees) (c .trees) (s .trees) in
-    let er : wiped 0 (c .errors) ≡ _ = wiped-whole (b .errors) (c .errors) (s .errors) in
-    let rp : wiped 0 (c .reports) ≡ _ = wiped-whole (b .reports) (c .reports) (s .reports) in
-    let pl : wiped 0 (c .pool) ≡ _ = wiped-whole (b .pool) (c .pool) (s .pool) in
-    rw (e, h, ev, tr, er, rp, pl)
+    let events₀ : wiped 0 (c .events) ≡ _ = wiped-whole (b .events) (c .events) (s .events) in
+    let trees₀ : wiped 0 (c .trees) ≡ _ = wiped-whole (b .trees) (c .trees) (s .trees) in
+    let errors₀ : wiped 0 (c .errors) ≡ _ = wiped-whole (b .errors) (c .errors) (s .errors) in
+    let reports₀ : wiped 0 (c .reports) ≡ _ = wiped-whole (b .reports) (c .reports) (s .reports) in
+    let pool₀ : wiped 0 (c .pool) ≡ _ = wiped-whole (b .pool) (c .pool) (s .pool) in
+    rw (e, h, events₀, trees₀, errors₀, reports₀, pool₀)
 
 -- l: the numbers to write. b, c: the buffer before and after. n: how many rows of so many numbers are answered.
 pub record Rows-in (size n : ℕ) (l b c : List ℕ) : Type 0 where
@@ -66,18 +66,18 @@ pub record Rows-in (size n : ℕ) (l b c : List ℕ) : Type 0 where
 -- an accepted call's buffers hold what was written, and then zeros
 swept-kept : (z : Sheets) (b c : Buffers) (t e r : ℕ) → length (c .events) ≡ length (b .events) → Rows-in TREE-ROW t (z .trees) (b .trees) (c .trees) → Rows-in ERROR-ROW e (z .errors) (b .errors) (c .errors)
     → Rows-in REPORT-ROW r (z .reports) (b .reports) (c .reports) → (n : ℕ) → n ≡ length (z .pool) → c .pool ≡ onto (z .pool) (b .pool) → length (z .pool) ≤ length (b .pool)
-    → swept (record { number = 0; place = 0; trees = t; errors = e; reports = r; expectations = n }) c ≡ kept z b
+    → swept (record { number = 0; place = 0; tree-count = t; error-count = e; report-count = r; expectation-count = n }) c ≡ kept z b
 swept-kept z b c t e r k ft fe fr n q h inside =
-    let ev : wiped 0 (c .events) ≡ _ = wiped-whole (b .events) (c .events) k in
-    let tr : wiped (t * TREE-ROW) (c .trees) ≡ _ = wiped-written (z .trees) (b .trees) (c .trees) (t * TREE-ROW) (ft .numbers) (ft .inside) (ft .whole) in
-    let er : wiped (e * ERROR-ROW) (c .errors) ≡ _ = wiped-written (z .errors) (b .errors) (c .errors) (e * ERROR-ROW) (fe .numbers) (fe .inside) (fe .whole) in
-    let rp : wiped (r * REPORT-ROW) (c .reports) ≡ _ = wiped-written (z .reports) (b .reports) (c .reports) (r * REPORT-ROW) (fr .numbers) (fr .inside) (fr .whole) in
-    let pl : wiped n (c .pool) ≡ _ = wiped-written (z .pool) (b .pool) (c .pool) n h inside q in
-    rw (ev, tr, er, rp, pl, ft .count, fe .count, fr .count, q)
+    let events₀ : wiped 0 (c .events) ≡ _ = wiped-whole (b .events) (c .events) k in
+    let trees₀ : wiped (t * TREE-ROW) (c .trees) ≡ _ = wiped-written (z .trees) (b .trees) (c .trees) (t * TREE-ROW) (ft .numbers) (ft .inside) (ft .whole) in
+    let errors₀ : wiped (e * ERROR-ROW) (c .errors) ≡ _ = wiped-written (z .errors) (b .errors) (c .errors) (e * ERROR-ROW) (fe .numbers) (fe .inside) (fe .whole) in
+    let reports₀ : wiped (r * REPORT-ROW) (c .reports) ≡ _ = wiped-written (z .reports) (b .reports) (c .reports) (r * REPORT-ROW) (fr .numbers) (fr .inside) (fr .whole) in
+    let pool₀ : wiped n (c .pool) ≡ _ = wiped-written (z .pool) (b .pool) (c .pool) n h inside q in
+    rw (events₀, trees₀, errors₀, reports₀, pool₀, ft .count, fe .count, fr .count, q)
 
-module _ (e : Entry) (bs tk : List ℕ) (b : Buffers) (m : Machine) (ok : check-input bs tk ≡ accepted) (parsed : Parsed e tk b m) where
+module _ (e : Entry) (bytes tokens : List ℕ) (b : Buffers) (m : Machine) (ok : check-input bytes tokens ≡ accepted) (parsed : Parsed e tokens b m) where
   abbrev ts : List Token
-  ts = tokens-of tk
+  ts = tokens-of tokens
 
   abbrev o : Skeleton
   o = run-entry e ts
@@ -90,7 +90,7 @@ module _ (e : Entry) (bs tk : List ℕ) (b : Buffers) (m : Machine) (ok : check-
 
   -- the machine's end
   ends : Ends ts o (b .events) (b .reports) (b .pool) (scan (pushes o) (room-of b)) m
-  ends = subst (λ (x : Machine). Ends ts o (b .events) (b .reports) (b .pool) (scan (pushes o) (room-of b)) x) (sym parsed) (entry-ends e bs tk (b .events) (b .reports) (b .pool) ok)
+  ends = subst (λ (x : Machine). Ends ts o (b .events) (b .reports) (b .pool) (scan (pushes o) (room-of b)) x) (sym parsed) (entry-ends e bytes tokens (b .events) (b .reports) (b .pool) ok)
 
   parse-by : (f : Fit) → scan (pushes o) (room-of b) ≡ f → parse e ts b ≡ outcome f e ts o b
   unfolding parse
@@ -122,9 +122,9 @@ module _ (e : Entry) (bs tk : List ℕ) (b : Buffers) (m : Machine) (ok : check-
       ap (take (m .events .count)) (a .events-hold .numbers)
       ∙ take-at (encode false o) (drop (length (encode false o)) (b .events)) (m .events .count) (sym (a .events-hold .count))
 
-  small : Small o tk
+  small : Small o tokens
   small =
-      let c : Checked bs tk = checked-input bs tk ok in
+      let c : Checked bytes tokens = checked-input bytes tokens ok in
       record {
         numbers = omega (arith, c .numbers-limit);
         bytes = omega (arith, c .covered, c .bytes-limit);
@@ -139,15 +139,15 @@ module _ (e : Entry) (bs tk : List ℕ) (b : Buffers) (m : Machine) (ok : check-
   errors-in c inside h = record { count = refl; whole = omega (arith, errors-length 0 ts); numbers = h; inside = inside }
 
   abbrev P : List ℕ
-  P = report-rows (length ts) (bytes ts) 0 (reports (pushes o))
+  P = report-numbers (length ts) (byte-count ts) 0 (reports (pushes o))
 
   reports-in : Holds P (b .reports) (m .reports) → Rows-in REPORT-ROW (m .reports .count / REPORT-ROW) P (b .reports) (m .reports .numbers)
   reports-in h =
       let n : m .reports .count ≡ length P = h .count in
-      record { count = omega arith; whole = omega (arith, report-rows-length (length ts) (bytes ts) 0 (reports (pushes o))); numbers = h .numbers; inside = h .inside }
+      record { count = omega arith; whole = omega (arith, report-numbers-length (length ts) (byte-count ts) 0 (reports (pushes o))); numbers = h .numbers; inside = h .inside }
 
   sunk-ends : Accepted ts o (b .events) (b .reports) (b .pool) m → (s : Sunk) (trees errors : List ℕ) → length trees ≡ length (b .trees) → length errors ≡ length (b .errors)
-      → Placed (root-kind e) o tk (b .trees) (b .errors) s trees errors → (x : Bool) → enough R L (b .trees) (b .errors) ≡ x
+      → Placed (root-kind e) o tokens (b .trees) (b .errors) s trees errors → (x : Bool) → enough R L (b .trees) (b .errors) ≡ x
       → swept (sunk-answer s m) (after-sink m trees errors) ≡ cond x (kept (sheets e ts o) b) (cleared no-tree-room b)
   unfolding sheets
   sunk-ends a s trees errors lt le p true h =
@@ -177,15 +177,15 @@ module _ (e : Entry) (bs tk : List ℕ) (b : Buffers) (m : Machine) (ok : check-
 
 -- THE CALL'S END
 pub calls-end : Calls-end
-calls-end e bs tk b m ok parsed =
-    let went = accepted-by e bs tk b m ok parsed (scan (pushes (run-entry e (tokens-of tk))) (room-of b)) refl in
+calls-end e bytes tokens b m ok parsed =
+    let went = accepted-by e bytes tokens b m ok parsed (scan (pushes (run-entry e (tokens-of tokens))) (room-of b)) refl in
     record {
-      refused = refused-ends e bs tk b m ok parsed (scan (pushes (run-entry e (tokens-of tk))) (room-of b)) refl;
+      refused = refused-ends e bytes tokens b m ok parsed (scan (pushes (run-entry e (tokens-of tokens))) (room-of b)) refl;
       events-inside = λ q. let h = went q .0 .events-hold in omega (arith, h .count, h .inside);
       sunk =
           λ q s trees errors lt le p.
           let a = went q .0 in
-          let placed = p (run-entry e (tokens-of tk)) (given-events e bs tk b m ok parsed a) (entry-chained e (tokens-of tk)) (small e bs tk b m ok parsed) in
-          sunk-ends e bs tk b m ok parsed a s trees errors lt le placed _ refl
-          ∙ sym (went q .1 ∙ finish-by e bs tk b m ok parsed);
+          let placed = p (run-entry e (tokens-of tokens)) (given-events e bytes tokens b m ok parsed a) (entry-chained e (tokens-of tokens)) (small e bytes tokens b m ok parsed) in
+          sunk-ends e bytes tokens b m ok parsed a s trees errors lt le placed _ refl
+          ∙ sym (went q .1 ∙ finish-by e bytes tokens b m ok parsed);
     }

@@ -21,8 +21,8 @@ all-filled : (ts : List Token) → All-good ts → Filled ts
 all-filled [] h = tt
 all-filled (t ∷ ts) h = (h .0 .len, all-filled ts (h .1))
 
-pub limits-hold : (bs tk : List ℕ) → Checked bs tk → Limits (tokens-of tk)
-limits-hold bs tk h = record { few = omega (arith, h .pairs, h .numbers-limit); short = omega (arith, h .covered, h .bytes-limit); filled = all-filled (tokens-of tk) (h .good) }
+pub limits-hold : (bytes tokens : List ℕ) → Checked bytes tokens → Limits (tokens-of tokens)
+limits-hold bytes tokens h = record { few = omega (arith, h .pairs, h .numbers-limit); short = omega (arith, h .covered, h .bytes-limit); filled = all-filled (tokens-of tokens) (h .good) }
 
 pub entry-small : (e : Entry) (ts : List Token) (y z : Room) → length ts ≤ MOST-TOKENS → scan (pushes (run-entry e ts)) y ≡ fits z → Small (run-entry e ts)
 entry-small e ts y z few h =
@@ -32,6 +32,6 @@ entry-small e ts y z few h =
 
 -- THE MACHINE'S END
 pub entry-ends : Machine-ends
-entry-ends e bs tk ev rp pl h =
-    let l : Limits (tokens-of tk) = limits-hold bs tk (checked-input bs tk h) in
-    machine-ends e (tokens-of tk) ev rp pl l (λ z q. entry-small e (tokens-of tk) (room-in ev rp pl) z (l .few) q)
+entry-ends e bytes tokens events₀ reports₀ pool₀ h =
+    let l : Limits (tokens-of tokens) = limits-hold bytes tokens (checked-input bytes tokens h) in
+    machine-ends e (tokens-of tokens) events₀ reports₀ pool₀ l (λ z q. entry-small e (tokens-of tokens) (room-in events₀ reports₀ pool₀) z (l .few) q)

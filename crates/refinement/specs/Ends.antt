@@ -28,21 +28,21 @@ swept a b =
       buffers =
           record {
             events = wiped 0 (b .events);
-            trees = wiped (a .trees * TREE-ROW) (b .trees);
-            errors = wiped (a .errors * ERROR-ROW) (b .errors);
-            reports = wiped (a .reports * REPORT-ROW) (b .reports);
-            pool = wiped (a .expectations) (b .pool);
+            trees = wiped (a .tree-count * TREE-ROW) (b .trees);
+            errors = wiped (a .error-count * ERROR-ROW) (b .errors);
+            reports = wiped (a .report-count * REPORT-ROW) (b .reports);
+            pool = wiped (a .expectation-count) (b .pool);
           };
     }
 
 -- a refusal's answer
 abbrev pub refused-at : ℕ → ℕ → Answer
-refused-at n p = record { number = n; place = p; trees = 0; errors = 0; reports = 0; expectations = 0 }
+refused-at n p = record { number = n; place = p; tree-count = 0; error-count = 0; report-count = 0; expectation-count = 0 }
 
 -- the answer after the parser, which refused nothing, and the sink
 abbrev pub sunk-answer : Sunk → Machine → Answer
 sunk-answer (Written t e) m =
-    record { number = 0; place = 0; trees = t; errors = e; reports = m .reports .count / REPORT-ROW; expectations = m .pool .count }
+    record { number = 0; place = 0; tree-count = t; error-count = e; report-count = m .reports .count / REPORT-ROW; expectation-count = m .pool .count }
 sunk-answer NoRoom m = refused-at (number-of no-tree-room) (place-of no-tree-room)
 
 -- the buffers after both
@@ -57,20 +57,20 @@ pub record Same-lengths (b c : Buffers) : Type 0 where
   pub reports : length (c .reports) ≡ length (b .reports)
   pub pool : length (c .pool) ≡ length (b .pool)
 
--- m: the parser's machine after the entry e over the tokens tk, with the lent buffers b
+-- m: the parser's machine after the entry e over the tokens tokens, with the lent buffers b
 abbrev pub Parsed : Entry → List ℕ → Buffers → Machine → Type 0
-Parsed e tk b m = m ≡ walk-prog MOST-OPEN-CALLS (tokens-of tk) unlabelled (whole e) (fresh (b .events) (b .reports) (b .pool)) .on
+Parsed e tokens b m = m ≡ walk-prog MOST-OPEN-CALLS (tokens-of tokens) unlabelled (whole e) (fresh (b .events) (b .reports) (b .pool)) .on
 
 -- THE CALL'S END, for every entry, every input that passes causes 2 to 4, and lent buffers of any lengths and contents
-pub record Call-ends (e : Entry) (tk : List ℕ) (b : Buffers) (m : Machine) : Type 0 where
+pub record Call-ends (e : Entry) (tokens : List ℕ) (b : Buffers) (m : Machine) : Type 0 where
   -- causes 5 to 7: whatever the buffers hold by then
-  pub refused : (m .refusal ≡ 0 → ⊥) → (c : Buffers) → Same-lengths b c → swept (refused-at (m .refusal) (m .place)) c ≡ parse e (tokens-of tk) b
+  pub refused : (m .refusal ≡ 0 → ⊥) → (c : Buffers) → Same-lengths b c → swept (refused-at (m .refusal) (m .place)) c ≡ parse e (tokens-of tokens) b
   -- no refusal: the events lie within their buffer
   pub events-inside : m .refusal ≡ 0 → m .events .count ≤ length (b .events)
   -- and after the sink over these events all is as `parse` says, cause 8 or accepted
   pub sunk : m .refusal ≡ 0 → (s : Sunk) (trees errors : List ℕ) → length trees ≡ length (b .trees) → length errors ≡ length (b .errors)
-      → Promise (root-kind e) tk (take (m .events .count) (m .events .numbers)) (b .trees) (b .errors) s trees errors
-      → swept (sunk-answer s m) (after-sink m trees errors) ≡ parse e (tokens-of tk) b
+      → Promise (root-kind e) tokens (take (m .events .count) (m .events .numbers)) (b .trees) (b .errors) s trees errors
+      → swept (sunk-answer s m) (after-sink m trees errors) ≡ parse e (tokens-of tokens) b
 
 abbrev pub Calls-end : Type 0
-Calls-end = (e : Entry) (bs tk : List ℕ) (b : Buffers) (m : Machine) → check-input bs tk ≡ accepted → Parsed e tk b m → Call-ends e tk b m
+Calls-end = (e : Entry) (bytes tokens : List ℕ) (b : Buffers) (m : Machine) → check-input bytes tokens ≡ accepted → Parsed e tokens b m → Call-ends e tokens b m

@@ -8,7 +8,7 @@ use mathlib.Core.List.{List, [], _∷_, _++_}
 use lib.Dec.{eqb}
 use lib.ListN.{length, replicate}
 use borrow.Author.Tests.{eqb-true}
-use Rattle.definitions.specs.Token.{tokens-of, bytes}
+use Rattle.definitions.specs.Token.{tokens-of, byte-count}
 use Rattle.definitions.specs.Grammar.{SourceFile, Cells}
 use Rattle.definitions.specs.Call.{Buffers, Answer, call}
 use Rattle.basics.proofs.Tests.{and-left, and-right}
@@ -37,7 +37,7 @@ abbrev enough : Buffers
 enough = room 6000 3000 9 9000 9000
 
 abbrev on : ℕ → List ℕ → List ℕ → Buffers → ℕ → ℕ → Case
-on e bs tk b n p = record { entry = e; bytes = bs; rows = tk; lent = b; number = n; place = p }
+on e bytes tokens b n p = record { entry = e; bytes = bytes; rows = tokens; lent = b; number = n; place = p }
 
 -- #if fifty times, and then: conditionals, each inside the one before. Where they end each pushes expectations, and nothing is taken
 abbrev directives : List ℕ → List ℕ
@@ -147,13 +147,13 @@ pub cases-hold : All-only cases
 cases-hold = all-only cases computed
 
 -- both sides of the limit on bytes, which are too many to compute with: one too many; and none too many, where no row covers them
-pub bytes-over : (bs : List ℕ) (b : Buffers) → length bs ≡ 1048577 → call 1 bs [] b .answer .number ≡ 2
-bytes-over bs b h = refusals 1 bs [] b 2 0 .1 (over-size SourceFile refl (λ s. omega (arith, h, s .0))) .0
+pub bytes-over : (bytes : List ℕ) (b : Buffers) → length bytes ≡ 1048577 → call 1 bytes [] b .answer .number ≡ 2
+bytes-over bytes b h = refusals 1 bytes [] b 2 0 .1 (over-size SourceFile refl (λ s. omega (arith, h, s .0))) .0
 
-pub bytes-kept : (bs : List ℕ) (b : Buffers) → length bs ≡ 1048576 → call 1 bs [] b .answer .number ≡ 3
-unfolding tokens-of bytes
-bytes-kept bs b h =
-    refusals 1 bs [] b 3 0 .1 (odd-or-short SourceFile (refl, (omega (arith, h), omega arith)) (each-nil (Good-row bs) []) (λ c. omega (arith, h, c .1))) .0
+pub bytes-kept : (bytes : List ℕ) (b : Buffers) → length bytes ≡ 1048576 → call 1 bytes [] b .answer .number ≡ 3
+unfolding tokens-of byte-count
+bytes-kept bytes b h =
+    refusals 1 bytes [] b 3 0 .1 (odd-or-short SourceFile (refl, (omega (arith, h), omega arith)) (each-nil (Good-row bytes) []) (λ c. omega (arith, h, c .1))) .0
 
 -- ---------------------------------------------------------------- what happens in a run, written out
 

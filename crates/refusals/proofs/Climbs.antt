@@ -12,7 +12,7 @@ use Rattle.definitions.specs.Skeleton.{Label, no-label, Skeleton, done, token, 
 use Rattle.definitions.specs.Run.{State, Out, mark-of, peeked, answer, makes, taken, do-bump, do-name, add, do-argument, do-emit, do-expected, perform, choose, marked, is-again, goes-on, iter, unlinked, by-shape, links, chained, here, exec, run}
 use Rattle.definitions.specs.Call.{Buffers}
 use Rattle.laws.proofs.Few.{bump-few, name-few, argument-few}
-use Rattle.laws.proofs.Parts.{linked}
+use Rattle.laws.proofs.Pieces.{linked}
 use Rattle.refusals.specs.First.{First}
 use Rattle.refusals.specs.Trace.{Happening, call-opened, expectation-pushed, event-pushed, report-written, event-at, made-by, act-trace, iter-trace, links-trace, choose-trace, exec-trace, run-trace, trace}
 use Rattle.refusals.specs.Refusals.{MAX-OPEN, MAX-PENDING, Allowed, happens}
@@ -158,9 +158,9 @@ run-up (suc n) d e r s q h =
     exec-up (run n) (run-trace n (suc d)) (run-up n (suc d) (omega (arith, e))) no-label (grammar r) s q h in
     ((omega (arith, e), g .0), g .1)
 
-entry-climbs : (e : Entry) (tk : List ℕ) → Climbs 0 (happens e tk)
+entry-climbs : (e : Entry) (tokens : List ℕ) → Climbs 0 (happens e tokens)
 unfolding trace
-entry-climbs e tk = exec-up (run MAX-OPEN) (run-trace MAX-OPEN 0) (run-up MAX-OPEN 0 refl) no-label (whole e) (taken (tokens-of tk)) 0 (omega arith) .0
+entry-climbs e tokens = exec-up (run MAX-OPEN) (run-trace MAX-OPEN 0) (run-up MAX-OPEN 0 refl) no-label (whole e) (taken (tokens-of tokens)) 0 (omega arith) .0
 
 -- ---------------------------------------------------------------- the first too many
 
@@ -180,13 +180,13 @@ peak-allowed b q pre (expectation-pushed c m ∷ l) h g =
 peak-allowed b q pre (event-pushed m ∷ l) h g = peak-allowed b q (pre ++ (event-pushed m ∷ [])) l h (each-rest (Allowed b) pre (event-pushed m) l g)
 peak-allowed b q pre (report-written c m ∷ l) h g = peak-allowed b q (pre ++ (report-written c m ∷ [])) l h (each-rest (Allowed b) pre (report-written c m) l g)
 
-pub the-65th : (b : Buffers) (e : Entry) (tk : List ℕ) (before : List Happening) (c m : ℕ) → First (Allowed b) (happens e tk) before (call-opened c m) → c ≡ suc MAX-OPEN
-the-65th b e tk before c m f =
-    let k : Climbs (peak 0 before) (call-opened c m ∷ f .after) = climbs-after 0 before (call-opened c m ∷ f .after) (subst (Climbs 0) (f .stands) (entry-climbs e tk)) in
+pub the-65th : (b : Buffers) (e : Entry) (tokens : List ℕ) (before : List Happening) (c m : ℕ) → First (Allowed b) (happens e tokens) before (call-opened c m) → c ≡ suc MAX-OPEN
+the-65th b e tokens before c m f =
+    let k : Climbs (peak 0 before) (call-opened c m ∷ f .after) = climbs-after 0 before (call-opened c m ∷ f .after) (subst (Climbs 0) (f .stands) (entry-climbs e tokens)) in
     omega (arith, k .0, f .fails)
 
-pub the-257th : (b : Buffers) (e : Entry) (tk : List ℕ) (before : List Happening) (c m : ℕ) → First (Allowed b) (happens e tk) before (expectation-pushed c m) → c ≡ suc MAX-PENDING
-the-257th b e tk before c m f =
-    let k : Climbs (peak 0 before) (expectation-pushed c m ∷ f .after) = climbs-after 0 before (expectation-pushed c m ∷ f .after) (subst (Climbs 0) (f .stands) (entry-climbs e tk)) in
+pub the-257th : (b : Buffers) (e : Entry) (tokens : List ℕ) (before : List Happening) (c m : ℕ) → First (Allowed b) (happens e tokens) before (expectation-pushed c m) → c ≡ suc MAX-PENDING
+the-257th b e tokens before c m f =
+    let k : Climbs (peak 0 before) (expectation-pushed c m ∷ f .after) = climbs-after 0 before (expectation-pushed c m ∷ f .after) (subst (Climbs 0) (f .stands) (entry-climbs e tokens)) in
     let p : peak 0 before ≤ MAX-PENDING = peak-allowed b 0 [] before (omega arith) (f .each-before) in
     omega (arith, k .0, p, f .fails)

@@ -8,7 +8,7 @@ use lib.Dec.{leb}
 use lib.ListN.{length, length-append, replicate, length-replicate}
 use borrow.Author.Tests.{leb-true}
 use Rattle.definitions.specs.Layout.{TREE-ROW, ERROR-ROW, REPORT-ROW}
-use Rattle.definitions.specs.Token.{tokens-of, bytes}
+use Rattle.definitions.specs.Token.{tokens-of, byte-count}
 use Rattle.definitions.specs.Grammar.{Entry, root-kind}
 use Rattle.definitions.specs.Place.{root}
 use Rattle.definitions.specs.Skeleton.{Report}
@@ -17,7 +17,7 @@ use Rattle.definitions.specs.Refusal.{Refusal, unknown-entry, too-long, bad-row
 use Rattle.definitions.specs.Call.{Buffers, untouched, cleared, sheets, written, kept, room-of, run-entry}
 use Rattle.laws.proofs.Decode.{rows-length}
 use Rattle.laws.proofs.LexicalErrors.{errors-length}
-use Rattle.bounds.proofs.Written.{report-rows-length}
+use Rattle.bounds.proofs.Written.{report-numbers-length}
 use Rattle.refusals.specs.Refusals.{entry-number, to-write, Tree-fits}
 use Rattle.refusals.specs.Answered.{Filled, Written, Returns}
 
@@ -45,27 +45,27 @@ no-place (no-event-room m) h = absurd (h (omega arith, omega arith))
 no-place (no-report-room m) h = absurd (h (omega arith, omega arith))
 no-place no-tree-room h = refl
 
-module _ (n : ℕ) (tk : List ℕ) (b : Buffers) where
-  pub left-as-it-was : (r : Refusal) → number-of r ≤ 4 → Returns n tk b (untouched r b)
+module _ (n : ℕ) (tokens : List ℕ) (b : Buffers) where
+  pub left-as-it-was : (r : Refusal) → number-of r ≤ 4 → Returns n tokens b (untouched r b)
   left-as-it-was r h =
       record {
         at-most-8 = bounds r .1;
         accepted = λ e. absurd (omega (arith, e, bounds r .0));
         as-it-was = λ p q. refl;
         all-zero = λ p. absurd (omega (arith, p, h));
-        no-counts = λ p. record { trees = refl; errors = refl; reports = refl; expectations = refl };
+        no-counts = λ p. record { tree-count = refl; error-count = refl; report-count = refl; expectation-count = refl };
         no-place = no-place r;
         lengths = record { events = refl; trees = refl; errors = refl; reports = refl; pool = refl };
       }
 
-  pub left-zero : (r : Refusal) → 5 ≤ number-of r → Returns n tk b (cleared r b)
+  pub left-zero : (r : Refusal) → 5 ≤ number-of r → Returns n tokens b (cleared r b)
   left-zero r h =
       record {
         at-most-8 = bounds r .1;
         accepted = λ e. absurd (omega (arith, e, h));
         as-it-was = λ p q. absurd (omega (arith, q, h));
         all-zero = λ p. record { events = refl; trees = refl; errors = refl; reports = refl; pool = refl };
-        no-counts = λ p. record { trees = refl; errors = refl; reports = refl; expectations = refl };
+        no-counts = λ p. record { tree-count = refl; error-count = refl; report-count = refl; expectation-count = refl };
         no-place = no-place r;
         lengths =
             record {
@@ -122,8 +122,8 @@ filled-length : (size count : ℕ) (l was is : List ℕ) → Filled size count l
 filled-length size count l was is f =
     ap length (f .then-zeros) ∙ length-append l (replicate (length was - length l) 0) ∙ omega (arith, length-replicate {A = ℕ} (length was - length l) 0, f .room)
 
-module _ (n : ℕ) (tk : List ℕ) (b : Buffers) where
-  pub left-written : (e : Entry) → entry-number e ≡ n → (z : Room) → scan (pushes (run-entry e (tokens-of tk))) (room-of b) ≡ fits z → Tree-fits e tk b → Returns n tk b (kept (to-write e tk) b)
+module _ (n : ℕ) (tokens : List ℕ) (b : Buffers) where
+  pub left-written : (e : Entry) → entry-number e ≡ n → (z : Room) → scan (pushes (run-entry e (tokens-of tokens))) (room-of b) ≡ fits z → Tree-fits e tokens b → Returns n tokens b (kept (to-write e tokens) b)
   unfolding sheets
   left-written e h z f t =
       record {
@@ -144,19 +144,19 @@ module _ (n : ℕ) (tk : List ℕ) (b : Buffers) where
       }
     where
       l : List Report
-      l = reports (pushes (run-entry e (tokens-of tk)))
+      l = reports (pushes (run-entry e (tokens-of tokens)))
 
-      g : In-room (pushes (run-entry e (tokens-of tk))) (length (b .reports) / REPORT-ROW) (length (b .pool))
-      g = scan-room (pushes (run-entry e (tokens-of tk))) (room-of b) z f
+      g : In-room (pushes (run-entry e (tokens-of tokens))) (length (b .reports) / REPORT-ROW) (length (b .pool))
+      g = scan-room (pushes (run-entry e (tokens-of tokens))) (room-of b) z f
 
-      w : Written (to-write e tk) b (kept (to-write e tk) b)
+      w : Written (to-write e tokens) b (kept (to-write e tokens) b)
       w =
           record {
-            trees = filled TREE-ROW _ (to-write e tk .trees) (b .trees) (omega (arith, rows-length (root (root-kind e) (run-entry e (tokens-of tk)) (tokens-of tk)))) (t .0);
-            errors = filled ERROR-ROW _ (to-write e tk .errors) (b .errors) (omega (arith, errors-length 0 (tokens-of tk))) (t .1);
+            trees = filled TREE-ROW _ (to-write e tokens .trees) (b .trees) (omega (arith, rows-length (root (root-kind e) (run-entry e (tokens-of tokens)) (tokens-of tokens)))) (t .0);
+            errors = filled ERROR-ROW _ (to-write e tokens .errors) (b .errors) (omega (arith, errors-length 0 (tokens-of tokens))) (t .1);
             reports =
-                filled REPORT-ROW _ (to-write e tk .reports) (b .reports) (omega (arith, report-rows-length (length (tokens-of tk)) (bytes (tokens-of tk)) 0 l))
-                (omega (arith, report-rows-length (length (tokens-of tk)) (bytes (tokens-of tk)) 0 l, g .0));
-            pool = filled 1 _ (to-write e tk .pool) (b .pool) (omega arith) (g .1);
+                filled REPORT-ROW _ (to-write e tokens .reports) (b .reports) (omega (arith, report-numbers-length (length (tokens-of tokens)) (byte-count (tokens-of tokens)) 0 l))
+                (omega (arith, report-numbers-length (length (tokens-of tokens)) (byte-count (tokens-of tokens)) 0 l, g .0));
+            pool = filled 1 _ (to-write e tokens .pool) (b .pool) (omega arith) (g .1);
             events = refl;
           }

@@ -24,62 +24,62 @@ use Rattle.refusals.proofs.Rows.{sizes-decides, Rows, good-rows, bad-on
 use Rattle.refusals.proofs.Texts.{Texts, right-texts, wrong-one, judged-texts}
 use Rattle.refusals.proofs.Entries.{Asks, known, not-known, asks}
 
-pub tree-decides : (tk : List ℕ) (b : Buffers) (e : Entry) → Decides (Tree-fits e tk b)
-    (leb (length (to-write e tk .trees)) (length (b .trees)) && leb (length (to-write e tk .errors)) (length (b .errors)))
-tree-decides tk b e = both _ _ (leb-decides _ (length (b .trees))) (leb-decides _ (length (b .errors)))
+pub tree-decides : (tokens : List ℕ) (b : Buffers) (e : Entry) → Decides (Tree-fits e tokens b)
+    (leb (length (to-write e tokens .trees)) (length (b .trees)) && leb (length (to-write e tokens .errors)) (length (b .errors)))
+tree-decides tokens b e = both _ _ (leb-decides _ (length (b .trees))) (leb-decides _ (length (b .errors)))
 
-module _ (n : ℕ) (bs tk : List ℕ) (b : Buffers) where
+module _ (n : ℕ) (bytes tokens : List ℕ) (b : Buffers) where
   abbrev pub Found : Result → Type 0
-  Found x = Cause n bs tk b (x .answer .number) (x .answer .place) × Returns n tk b x
+  Found x = Cause n bytes tokens b (x .answer .number) (x .answer .place) × Returns n tokens b x
 
   -- a refusal whose cause is there, before the parse and in it
-  refused-found : (r : Refusal) → number-of r ≤ 4 → Cause n bs tk b (number-of r) (place-of r) → Found (untouched r b)
-  refused-found r h c = (c, left-as-it-was n tk b r h)
+  refused-found : (r : Refusal) → number-of r ≤ 4 → Cause n bytes tokens b (number-of r) (place-of r) → Found (untouched r b)
+  refused-found r h c = (c, left-as-it-was n tokens b r h)
 
-  zero-found : (r : Refusal) → 5 ≤ number-of r → Cause n bs tk b (number-of r) (place-of r) → Found (cleared r b)
-  zero-found r h c = (c, left-zero n tk b r h)
+  zero-found : (r : Refusal) → 5 ≤ number-of r → Cause n bytes tokens b (number-of r) (place-of r) → Found (cleared r b)
+  zero-found r h c = (c, left-zero n tokens b r h)
 
-  first-found : (e : Entry) → Past-4 n bs tk e → (before : List Happening) (x : Happening) → First (Allowed b) (happens e tk) before x → Found (cleared (forward-mark (length (tokens-of tk)) (refusal-for x)) b)
+  first-found : (e : Entry) → Past-4 n bytes tokens e → (before : List Happening) (x : Happening) → First (Allowed b) (happens e tokens) before x → Found (cleared (forward-mark (length (tokens-of tokens)) (refusal-for x)) b)
   unfolding forward-mark number-of place-of
-  first-found e p before (call-opened c m) f = zero-found (too-deep (from-start tk m)) (omega arith)
-      (call-too-many e p before m (subst (λ (k : ℕ). First-met e tk b before (call-opened k m)) (the-65th b e tk before c m f) f))
-  first-found e p before (expectation-pushed c m) f = zero-found (too-deep (from-start tk m)) (omega arith)
-      (expectation-too-many e p before m (subst (λ (k : ℕ). First-met e tk b before (expectation-pushed k m)) (the-257th b e tk before c m f) f))
-  first-found e p before (event-pushed m) f = zero-found (R.no-event-room (from-start tk m)) (omega arith) (no-event-room e p before m f)
-  first-found e p before (report-written c m) f = zero-found (R.no-report-room (from-start tk m)) (omega arith) (no-report-room e p before c m f)
+  first-found e p before (call-opened c m) f = zero-found (too-deep (from-start tokens m)) (omega arith)
+      (call-too-many e p before m (subst (λ (k : ℕ). First-met e tokens b before (call-opened k m)) (the-65th b e tokens before c m f) f))
+  first-found e p before (expectation-pushed c m) f = zero-found (too-deep (from-start tokens m)) (omega arith)
+      (expectation-too-many e p before m (subst (λ (k : ℕ). First-met e tokens b before (expectation-pushed k m)) (the-257th b e tokens before c m f) f))
+  first-found e p before (event-pushed m) f = zero-found (R.no-event-room (from-start tokens m)) (omega arith) (no-event-room e p before m f)
+  first-found e p before (report-written c m) f = zero-found (R.no-report-room (from-start tokens m)) (omega arith) (no-report-room e p before c m f)
 
-  tree-found : (e : Entry) → Past-4 n bs tk e → (z : Room) → scan (pushes (run-entry e (tokens-of tk))) (room-of b) ≡ fits z → Each (Allowed b) (happens e tk) → (t : Bool) → Decides (Tree-fits e tk b) t
-      → Found (cond t (kept (to-write e tk) b) (cleared R.no-tree-room b))
+  tree-found : (e : Entry) → Past-4 n bytes tokens e → (z : Room) → scan (pushes (run-entry e (tokens-of tokens))) (room-of b) ≡ fits z → Each (Allowed b) (happens e tokens) → (t : Bool) → Decides (Tree-fits e tokens b) t
+      → Found (cond t (kept (to-write e tokens) b) (cleared R.no-tree-room b))
   unfolding number-of place-of
-  tree-found e p z q h t (holds g) = (none e p h g, left-written n tk b e (p .0 .0 .0) z q g)
+  tree-found e p z q h t (holds g) = (none e p h g, left-written n tokens b e (p .0 .0 .0) z q g)
   tree-found e p z q h t (not-so g) = zero-found R.no-tree-room (omega arith) (no-tree-room e p h g)
 
-  run-found : (e : Entry) → Past-4 n bs tk e → (f : Fit) → scan (pushes (run-entry e (tokens-of tk))) (room-of b) ≡ f → Ends b (happens e tk) f → Found (outcome f e (tokens-of tk) (run-entry e (tokens-of tk)) b)
+  run-found : (e : Entry) → Past-4 n bytes tokens e → (f : Fit) → scan (pushes (run-entry e (tokens-of tokens))) (room-of b) ≡ f → Ends b (happens e tokens) f → Found (outcome f e (tokens-of tokens) (run-entry e (tokens-of tokens)) b)
   unfolding outcome finish
-  run-found e p f q (all-fits z h) = tree-found e p z q h _ (tree-decides tk b e)
+  run-found e p f q (all-fits z h) = tree-found e p z q h _ (tree-decides tokens b e)
   run-found e p f q (first-stops before x h) = first-found e p before x h
 
-  texts-found : (e : Entry) → Past-3 n bs tk e → (v : Verdict) → Texts bs (tokens-of tk) v → Found (checked v e tk b)
+  texts-found : (e : Entry) → Past-3 n bytes tokens e → (v : Verdict) → Texts bytes (tokens-of tokens) v → Found (checked v e tokens b)
   unfolding checked parse number-of place-of
-  texts-found e p v (right-texts h) = run-found e (p, h) _ refl (run-ends b e tk)
+  texts-found e p v (right-texts h) = run-found e (p, h) _ refl (run-ends b e tokens)
   texts-found e p v (wrong-one before t f) = refused-found (bad-text (length before)) (omega arith) (wrong-text e p before t f)
 
-  rows-found : (e : Entry) → Past-2 n bs tk e → (v : Verdict) → Rows bs tk v → Found (checked (v or-else check-texts 0 bs (tokens-of tk)) e tk b)
+  rows-found : (e : Entry) → Past-2 n bytes tokens e → (v : Verdict) → Rows bytes tokens v → Found (checked (v or-else check-texts 0 bytes (tokens-of tokens)) e tokens b)
   unfolding checked _or-else_ number-of place-of
-  rows-found e p v (good-rows h c) = texts-found e (p, h, c) _ (judged-texts bs (tokens-of tk))
+  rows-found e p v (good-rows h c) = texts-found e (p, h, c) _ (judged-texts bytes (tokens-of tokens))
   rows-found e p v (bad-one before t f) = refused-found (R.bad-row (length before)) (omega arith) (bad-row e p before t f)
-  rows-found e p v (no-cover h c) = refused-found (R.bad-row (length (tokens-of tk))) (omega arith) (odd-or-short e p h c)
+  rows-found e p v (no-cover h c) = refused-found (R.bad-row (length (tokens-of tokens))) (omega arith) (odd-or-short e p h c)
 
-  sizes-found : (e : Entry) → Past-1 n e → (t : Bool) → Decides (Sizes bs tk) t → Found (checked (unless t too-long or-else (check-rows 0 (length bs) tk or-else check-texts 0 bs (tokens-of tk))) e tk b)
+  sizes-found : (e : Entry) → Past-1 n e → (t : Bool) → Decides (Sizes bytes tokens) t → Found (checked (unless t too-long or-else (check-rows 0 (length bytes) tokens or-else check-texts 0 bytes (tokens-of tokens))) e tokens b)
   unfolding checked _or-else_ number-of place-of
-  sizes-found e p t (holds h) = rows-found e (p, h) _ (judged-rows bs tk)
+  sizes-found e p t (holds h) = rows-found e (p, h) _ (judged-rows bytes tokens)
   sizes-found e p t (not-so h) = refused-found too-long (omega arith) (over-size e p h)
 
-  entry-found : (x : Asked) → Asks n x → Found (asked x bs tk b)
+  entry-found : (x : Asked) → Asks n x → Found (asked x bytes tokens b)
   unfolding asked check-input check-sizes number-of place-of
-  entry-found x (known e p) = sizes-found e p _ (sizes-decides bs tk)
+  entry-found x (known e p) = sizes-found e p _ (sizes-decides bytes tokens)
   entry-found x (not-known h) = refused-found R.unknown-entry (omega arith) (unknown-entry h)
 
-  pub found : Found (call n bs tk b)
+  pub found : Found (call n bytes tokens b)
   unfolding call
   found = entry-found (entry-of n) (asks n)

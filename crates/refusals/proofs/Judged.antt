@@ -164,11 +164,11 @@ ended b l f (all z h) = all-fits z h
 ended b l f (first before x h) = first-stops before x (from-nothing (Allowed b) l before x h)
 
 -- WHAT THE RUN MEETS FIRST
-pub run-ends : (b : Buffers) (e : Entry) (tk : List ℕ) → Ends b (happens e tk) (scan (pushes (run-entry e (tokens-of tk))) (room-of b))
+pub run-ends : (b : Buffers) (e : Entry) (tokens : List ℕ) → Ends b (happens e tokens) (scan (pushes (run-entry e (tokens-of tokens))) (room-of b))
 unfolding events-in reports-in expectations-in
-run-ends b e tk =
-    let o : List Push = pushes (run-entry e (tokens-of tk)) in
-    let h : scan o (room-of b) ≡ judge (told (happens e tk)) (room-of b) = scan-judge o (room-of b) ∙ ap (λ (l : List Step). judge l (room-of b)) (entry-tells e (tokens-of tk)) in
-    subst (Ends b (happens e tk)) (sym h)
-    (ended b (happens e tk) _
-    (walk b [] (happens e tk) (room-of b) (record { events = omega arith; reports = omega arith; pool = omega arith; within = omega arith })))
+run-ends b e tokens =
+    let o : List Push = pushes (run-entry e (tokens-of tokens)) in
+    let h : scan o (room-of b) ≡ judge (told (happens e tokens)) (room-of b) = scan-judge o (room-of b) ∙ ap (λ (l : List Step). judge l (room-of b)) (entry-tells e (tokens-of tokens)) in
+    subst (Ends b (happens e tokens)) (sym h)
+    (ended b (happens e tokens) _
+    (walk b [] (happens e tokens) (room-of b) (record { events = omega arith; reports = omega arith; pool = omega arith; within = omega arith })))

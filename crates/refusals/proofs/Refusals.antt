@@ -32,47 +32,47 @@ refuted : {A : Type 0} (t : Bool) → Decides A t → ¬ A → t ≡ false
 refuted t (holds a) h = absurd (h a)
 refuted t (not-so a) h = refl
 
-module _ (bs tk : List ℕ) where
-  sizes-kept : Sizes bs tk → check-sizes bs tk ≡ accepted
+module _ (bytes tokens : List ℕ) where
+  sizes-kept : Sizes bytes tokens → check-sizes bytes tokens ≡ accepted
   unfolding check-sizes
-  sizes-kept h = ap (λ (t : Bool). unless t too-long) (decided _ (sizes-decides bs tk) h)
+  sizes-kept h = ap (λ (t : Bool). unless t too-long) (decided _ (sizes-decides bytes tokens) h)
 
-  sizes-broken : ¬ Sizes bs tk → check-sizes bs tk ≡ refused too-long
+  sizes-broken : ¬ Sizes bytes tokens → check-sizes bytes tokens ≡ refused too-long
   unfolding check-sizes
-  sizes-broken h = ap (λ (t : Bool). unless t too-long) (refuted _ (sizes-decides bs tk) h)
+  sizes-broken h = ap (λ (t : Bool). unless t too-long) (refuted _ (sizes-decides bytes tokens) h)
 
-  rows-pass : Each (Good-row bs) (tokens-of tk) → Covers bs tk → (v : Verdict) → Rows bs tk v → v ≡ accepted
+  rows-pass : Each (Good-row bytes) (tokens-of tokens) → Covers bytes tokens → (v : Verdict) → Rows bytes tokens v → v ≡ accepted
   rows-pass h c v (good-rows g d) = refl
-  rows-pass h c v (bad-one before t f) = absurd (first-each (Good-row bs) (tokens-of tk) before t f h)
+  rows-pass h c v (bad-one before t f) = absurd (first-each (Good-row bytes) (tokens-of tokens) before t f h)
   rows-pass h c v (no-cover g d) = absurd (d c)
 
-  rows-fail : (before : List Token) (t : Token) → First (Good-row bs) (tokens-of tk) before t → (v : Verdict) → Rows bs tk v → v ≡ refused (R.bad-row (length before))
-  rows-fail before t f v (good-rows g d) = absurd (first-each (Good-row bs) (tokens-of tk) before t f g)
-  rows-fail before t f v (bad-one before′ t′ f′) = ap (λ (l : List Token). refused (R.bad-row (length l))) (only-first (Good-row bs) (tokens-of tk) before′ before t′ t f′ f .0)
-  rows-fail before t f v (no-cover g d) = absurd (first-each (Good-row bs) (tokens-of tk) before t f g)
+  rows-fail : (before : List Token) (t : Token) → First (Good-row bytes) (tokens-of tokens) before t → (v : Verdict) → Rows bytes tokens v → v ≡ refused (R.bad-row (length before))
+  rows-fail before t f v (good-rows g d) = absurd (first-each (Good-row bytes) (tokens-of tokens) before t f g)
+  rows-fail before t f v (bad-one before′ t′ f′) = ap (λ (l : List Token). refused (R.bad-row (length l))) (only-first (Good-row bytes) (tokens-of tokens) before′ before t′ t f′ f .0)
+  rows-fail before t f v (no-cover g d) = absurd (first-each (Good-row bytes) (tokens-of tokens) before t f g)
 
-  rows-short : Each (Good-row bs) (tokens-of tk) → ¬ Covers bs tk → (v : Verdict) → Rows bs tk v → v ≡ refused (R.bad-row (length (tokens-of tk)))
+  rows-short : Each (Good-row bytes) (tokens-of tokens) → ¬ Covers bytes tokens → (v : Verdict) → Rows bytes tokens v → v ≡ refused (R.bad-row (length (tokens-of tokens)))
   rows-short h c v (good-rows g d) = absurd (c d)
-  rows-short h c v (bad-one before t f) = absurd (first-each (Good-row bs) (tokens-of tk) before t f h)
+  rows-short h c v (bad-one before t f) = absurd (first-each (Good-row bytes) (tokens-of tokens) before t f h)
   rows-short h c v (no-cover g d) = refl
 
-  texts-pass : Each (Right-text bs) (tokens-of tk) → (v : Verdict) → Texts bs (tokens-of tk) v → v ≡ accepted
+  texts-pass : Each (Right-text bytes) (tokens-of tokens) → (v : Verdict) → Texts bytes (tokens-of tokens) v → v ≡ accepted
   texts-pass h v (right-texts g) = refl
-  texts-pass h v (wrong-one before t f) = absurd (first-each (Right-text bs) (tokens-of tk) before t f h)
+  texts-pass h v (wrong-one before t f) = absurd (first-each (Right-text bytes) (tokens-of tokens) before t f h)
 
-  texts-fail : (before : List Token) (t : Token) → First (Right-text bs) (tokens-of tk) before t → (v : Verdict) → Texts bs (tokens-of tk) v → v ≡ refused (bad-text (length before))
-  texts-fail before t f v (right-texts g) = absurd (first-each (Right-text bs) (tokens-of tk) before t f g)
-  texts-fail before t f v (wrong-one before′ t′ f′) = ap (λ (l : List Token). refused (bad-text (length l))) (only-first (Right-text bs) (tokens-of tk) before′ before t′ t f′ f .0)
+  texts-fail : (before : List Token) (t : Token) → First (Right-text bytes) (tokens-of tokens) before t → (v : Verdict) → Texts bytes (tokens-of tokens) v → v ≡ refused (bad-text (length before))
+  texts-fail before t f v (right-texts g) = absurd (first-each (Right-text bytes) (tokens-of tokens) before t f g)
+  texts-fail before t f v (wrong-one before′ t′ f′) = ap (λ (l : List Token). refused (bad-text (length l))) (only-first (Right-text bytes) (tokens-of tokens) before′ before t′ t f′ f .0)
 
-  input-sizes : check-sizes bs tk ≡ refused too-long → check-input bs tk ≡ refused too-long
+  input-sizes : check-sizes bytes tokens ≡ refused too-long → check-input bytes tokens ≡ refused too-long
   unfolding check-input _or-else_
   input-sizes h = rw h
 
-  input-rows : (r : Refusal) → check-sizes bs tk ≡ accepted → check-rows 0 (length bs) tk ≡ refused r → check-input bs tk ≡ refused r
+  input-rows : (r : Refusal) → check-sizes bytes tokens ≡ accepted → check-rows 0 (length bytes) tokens ≡ refused r → check-input bytes tokens ≡ refused r
   unfolding check-input _or-else_
   input-rows r h g = rw (h, g)
 
-  input-texts : (v : Verdict) → check-sizes bs tk ≡ accepted → check-rows 0 (length bs) tk ≡ accepted → check-texts 0 bs (tokens-of tk) ≡ v → check-input bs tk ≡ v
+  input-texts : (v : Verdict) → check-sizes bytes tokens ≡ accepted → check-rows 0 (length bytes) tokens ≡ accepted → check-texts 0 bytes (tokens-of tokens) ≡ v → check-input bytes tokens ≡ v
   unfolding check-input _or-else_
   input-texts v h g f = rw (h, g, f)
 
@@ -87,64 +87,64 @@ module _ (b : Buffers) (l : List Happening) where
   run-stops before x h f (all-fits z g) = absurd (first-each (Allowed b) l before x h g)
   run-stops before x h f (first-stops before′ x′ g) = ap (λ (y : Happening). stops (refusal-for y)) (only-first (Allowed b) l before′ before x′ x g h .1)
 
-module _ (n : ℕ) (bs tk : List ℕ) (b : Buffers) where
+module _ (n : ℕ) (bytes tokens : List ℕ) (b : Buffers) where
   abbrev Returned : ℕ → ℕ → Type 0
-  Returned k p = (call n bs tk b .answer .number ≡ k) × (call n bs tk b .answer .place ≡ p)
+  Returned k p = (call n bytes tokens b .answer .number ≡ k) × (call n bytes tokens b .answer .place ≡ p)
 
-  returned : (x : Result) → call n bs tk b ≡ x → Returned (x .answer .number) (x .answer .place)
+  returned : (x : Result) → call n bytes tokens b ≡ x → Returned (x .answer .number) (x .answer .place)
   returned x h = (ap (λ (y : Result). y .answer .number) h, ap (λ (y : Result). y .answer .place) h)
 
-  checks : (e : Entry) → Past-1 n e → (v : Verdict) → check-input bs tk ≡ v → call n bs tk b ≡ checked v e tk b
+  checks : (e : Entry) → Past-1 n e → (v : Verdict) → check-input bytes tokens ≡ v → call n bytes tokens b ≡ checked v e tokens b
   unfolding call asked
-  checks e p v h = ap (λ (x : Asked). asked x bs tk b) (entry-eq n e p) ∙ ap (λ (w : Verdict). checked w e tk b) h
+  checks e p v h = ap (λ (x : Asked). asked x bytes tokens b) (entry-eq n e p) ∙ ap (λ (w : Verdict). checked w e tokens b) h
 
-  refuses : (e : Entry) → Past-1 n e → (r : Refusal) → check-input bs tk ≡ refused r → Returned (number-of r) (place-of r)
+  refuses : (e : Entry) → Past-1 n e → (r : Refusal) → check-input bytes tokens ≡ refused r → Returned (number-of r) (place-of r)
   unfolding checked
   refuses e p r h = returned (untouched r b) (checks e p (refused r) h)
 
-  input-3 : (e : Entry) → Past-2 n bs tk e → (r : Refusal) → ((v : Verdict) → Rows bs tk v → v ≡ refused r) → Returned (number-of r) (place-of r)
-  input-3 e p r h = refuses e (p .0) r (input-rows bs tk r (sizes-kept bs tk (p .1)) (h _ (judged-rows bs tk)))
+  input-3 : (e : Entry) → Past-2 n bytes tokens e → (r : Refusal) → ((v : Verdict) → Rows bytes tokens v → v ≡ refused r) → Returned (number-of r) (place-of r)
+  input-3 e p r h = refuses e (p .0) r (input-rows bytes tokens r (sizes-kept bytes tokens (p .1)) (h _ (judged-rows bytes tokens)))
 
-  input-4 : (e : Entry) → Past-3 n bs tk e → (v : Verdict) → ((w : Verdict) → Texts bs (tokens-of tk) w → w ≡ v) → check-input bs tk ≡ v
-  input-4 e p v h = input-texts bs tk v (sizes-kept bs tk (p .0 .1)) (rows-pass bs tk (p .1) (p .2) _ (judged-rows bs tk)) (h _ (judged-texts bs (tokens-of tk)))
+  input-4 : (e : Entry) → Past-3 n bytes tokens e → (v : Verdict) → ((w : Verdict) → Texts bytes (tokens-of tokens) w → w ≡ v) → check-input bytes tokens ≡ v
+  input-4 e p v h = input-texts bytes tokens v (sizes-kept bytes tokens (p .0 .1)) (rows-pass bytes tokens (p .1) (p .2) _ (judged-rows bytes tokens)) (h _ (judged-texts bytes (tokens-of tokens)))
 
-  runs : (e : Entry) → Past-4 n bs tk e → (f : Fit) → scan (pushes (run-entry e (tokens-of tk))) (room-of b) ≡ f → call n bs tk b ≡ outcome f e (tokens-of tk) (run-entry e (tokens-of tk)) b
+  runs : (e : Entry) → Past-4 n bytes tokens e → (f : Fit) → scan (pushes (run-entry e (tokens-of tokens))) (room-of b) ≡ f → call n bytes tokens b ≡ outcome f e (tokens-of tokens) (run-entry e (tokens-of tokens)) b
   unfolding checked parse
   runs e p f h =
-      checks e (p .0 .0 .0) accepted (input-4 e (p .0) accepted (texts-pass bs tk (p .1))) ∙ ap (λ (g : Fit). outcome g e (tokens-of tk) (run-entry e (tokens-of tk)) b) h
+      checks e (p .0 .0 .0) accepted (input-4 e (p .0) accepted (texts-pass bytes tokens (p .1))) ∙ ap (λ (g : Fit). outcome g e (tokens-of tokens) (run-entry e (tokens-of tokens)) b) h
 
-  stops-at : (e : Entry) → Past-4 n bs tk e → (before : List Happening) (x : Happening) → First (Allowed b) (happens e tk) before x
-      → Returned (number-of (forward-mark (length (tokens-of tk)) (refusal-for x))) (place-of (forward-mark (length (tokens-of tk)) (refusal-for x)))
+  stops-at : (e : Entry) → Past-4 n bytes tokens e → (before : List Happening) (x : Happening) → First (Allowed b) (happens e tokens) before x
+      → Returned (number-of (forward-mark (length (tokens-of tokens)) (refusal-for x))) (place-of (forward-mark (length (tokens-of tokens)) (refusal-for x)))
   unfolding outcome
   stops-at e p before x f =
-      returned (cleared (forward-mark (length (tokens-of tk)) (refusal-for x)) b) (runs e p (stops (refusal-for x)) (run-stops b (happens e tk) before x f _ (run-ends b e tk)))
+      returned (cleared (forward-mark (length (tokens-of tokens)) (refusal-for x)) b) (runs e p (stops (refusal-for x)) (run-stops b (happens e tokens) before x f _ (run-ends b e tokens)))
 
-  finishes : (e : Entry) → Past-4 n bs tk e → Each (Allowed b) (happens e tk) → call n bs tk b ≡ finish (to-write e tk) b
+  finishes : (e : Entry) → Past-4 n bytes tokens e → Each (Allowed b) (happens e tokens) → call n bytes tokens b ≡ finish (to-write e tokens) b
   unfolding outcome
-  finishes e p h = let g : (z : Room) × (scan (pushes (run-entry e (tokens-of tk))) (room-of b) ≡ fits z) = run-fits b (happens e tk) h _ (run-ends b e tk) in runs e p (fits (g .0)) (g .1)
+  finishes e p h = let g : (z : Room) × (scan (pushes (run-entry e (tokens-of tokens))) (room-of b) ≡ fits z) = run-fits b (happens e tokens) h _ (run-ends b e tokens) in runs e p (fits (g .0)) (g .1)
 
-  returns : (k p : ℕ) → Cause n bs tk b k p → Returned k p
+  returns : (k p : ℕ) → Cause n bytes tokens b k p → Returned k p
   unfolding number-of place-of forward-mark finish asked call
-  returns k p (unknown-entry h) = returned (untouched R.unknown-entry b) (ap (λ (x : Asked). asked x bs tk b) (unknown-eq n h))
-  returns k p (over-size e q h) = refuses e q too-long (input-sizes bs tk (sizes-broken bs tk h))
-  returns k p (bad-row e q before t f) = input-3 e q (R.bad-row (length before)) (rows-fail bs tk before t f)
-  returns k p (odd-or-short e q h c) = input-3 e q (R.bad-row (length (tokens-of tk))) (rows-short bs tk h c)
-  returns k p (wrong-text e q before t f) = refuses e (q .0 .0) (bad-text (length before)) (input-4 e q (refused (bad-text (length before))) (texts-fail bs tk before t f))
+  returns k p (unknown-entry h) = returned (untouched R.unknown-entry b) (ap (λ (x : Asked). asked x bytes tokens b) (unknown-eq n h))
+  returns k p (over-size e q h) = refuses e q too-long (input-sizes bytes tokens (sizes-broken bytes tokens h))
+  returns k p (bad-row e q before t f) = input-3 e q (R.bad-row (length before)) (rows-fail bytes tokens before t f)
+  returns k p (odd-or-short e q h c) = input-3 e q (R.bad-row (length (tokens-of tokens))) (rows-short bytes tokens h c)
+  returns k p (wrong-text e q before t f) = refuses e (q .0 .0) (bad-text (length before)) (input-4 e q (refused (bad-text (length before))) (texts-fail bytes tokens before t f))
   returns k p (call-too-many e q before m f) = stops-at e q before (call-opened (suc MAX-OPEN) m) f
   returns k p (expectation-too-many e q before m f) = stops-at e q before (expectation-pushed (suc MAX-PENDING) m) f
   returns k p (no-event-room e q before m f) = stops-at e q before (event-pushed m) f
   returns k p (no-report-room e q before c m f) = stops-at e q before (report-written c m) f
   returns k p (no-tree-room e q h g) =
       returned (cleared R.no-tree-room b)
-      (finishes e q h ∙ ap (λ (t : Bool). cond t (kept (to-write e tk) b) (cleared R.no-tree-room b)) (refuted _ (tree-decides tk b e) g))
+      (finishes e q h ∙ ap (λ (t : Bool). cond t (kept (to-write e tokens) b) (cleared R.no-tree-room b)) (refuted _ (tree-decides tokens b e) g))
   returns k p (none e q h g) =
-      returned (kept (to-write e tk) b)
-      (finishes e q h ∙ ap (λ (t : Bool). cond t (kept (to-write e tk) b) (cleared R.no-tree-room b)) (decided _ (tree-decides tk b e) g))
+      returned (kept (to-write e tokens) b)
+      (finishes e q h ∙ ap (λ (t : Bool). cond t (kept (to-write e tokens) b) (cleared R.no-tree-room b)) (decided _ (tree-decides tokens b e) g))
 
 -- REFUSALS
 pub refusals : Refusals
-refusals n bs tk b k p = (λ h. subst₂ (Cause n bs tk b) (h .0) (h .1) (found n bs tk b .0), returns n bs tk b k p)
+refusals n bytes tokens b k p = (λ h. subst₂ (Cause n bytes tokens b) (h .0) (h .1) (found n bytes tokens b .0), returns n bytes tokens b k p)
 
 -- ANSWERED
 pub answered : Answered
-answered n bs tk b = found n bs tk b .1
+answered n bytes tokens b = found n bytes tokens b .1

@@ -8,7 +8,7 @@ use lib.Dec.{eqb}
 use lib.ListN.{length, take, drop, length-append}
 use lib.Seq.{drop-drop}
 use borrow.Author.Tests.{eqb-true, eqb-false, eq-eqb, not-true}
-use Rattle.definitions.specs.Token.{Token, bytes}
+use Rattle.definitions.specs.Token.{Token, byte-count}
 use Rattle.definitions.specs.StaticText.{Text, static-texts, same, fits-text}
 use Rattle.definitions.specs.Refusal.{bad-text, Verdict, accepted, refused, check-texts}
 use Rattle.basics.proofs.Tests.{and-left, and-right}
@@ -78,40 +78,40 @@ text-decides k ys pre (x ∷ l) e = by _ _ _ (eqb-decides (x .kind) k) (same-dec
     by s t u (not-so a) c (holds d) = holds (each-cons (Says k ys) pre x l (λ h. absurd (a h)) d)
     by s t u (not-so a) c (not-so d) = not-so (λ g. d (each-rest (Says k ys) pre x l g))
 
-data Texts-after (bs : List ℕ) (pre ts : List Token) : Verdict → Type 0 where
-  right : Each-after (Right-text bs) pre ts → Texts-after bs pre ts accepted
-  wrong : (before : List Token) (t : Token) (i : ℕ) → First-after (Right-text bs) pre ts before t → i ≡ length pre + length before → Texts-after bs pre ts (refused (bad-text i))
+data Texts-after (bytes : List ℕ) (pre ts : List Token) : Verdict → Type 0 where
+  right : Each-after (Right-text bytes) pre ts → Texts-after bytes pre ts accepted
+  wrong : (before : List Token) (t : Token) (i : ℕ) → First-after (Right-text bytes) pre ts before t → i ≡ length pre + length before → Texts-after bytes pre ts (refused (bad-text i))
 
-text-later : (bs : List ℕ) (pre : List Token) (x : Token) (ts : List Token) (v : Verdict) → Right-text bs pre x → Texts-after bs (pre ++ (x ∷ [])) ts v → Texts-after bs pre (x ∷ ts) v
-text-later bs pre x ts v h (right g) = right (each-cons (Right-text bs) pre x ts h g)
-text-later bs pre x ts v h (wrong before t i f e) =
+text-later : (bytes : List ℕ) (pre : List Token) (x : Token) (ts : List Token) (v : Verdict) → Right-text bytes pre x → Texts-after bytes (pre ++ (x ∷ [])) ts v → Texts-after bytes pre (x ∷ ts) v
+text-later bytes pre x ts v h (right g) = right (each-cons (Right-text bytes) pre x ts h g)
+text-later bytes pre x ts v h (wrong before t i f e) =
     let l : length (pre ++ (x ∷ [])) ≡ length pre + 1 = length-append pre (x ∷ []) in
-    wrong (x ∷ before) t i (first-later (Right-text bs) pre x ts before t h f) (omega (arith, e, l))
+    wrong (x ∷ before) t i (first-later (Right-text bytes) pre x ts before t h f) (omega (arith, e, l))
 
-one-text : (bs : List ℕ) (pre : List Token) (i : ℕ) (x : Token) (ts : List Token) (t : Bool) (v : Verdict) → i ≡ length pre → Decides (Right-text bs pre x) t
-    → Texts-after bs (pre ++ (x ∷ [])) ts v → Texts-after bs pre (x ∷ ts) (cond t v (refused (bad-text i)))
-one-text bs pre i x ts t v p (holds h) j = text-later bs pre x ts v h j
-one-text bs pre i x ts t v p (not-so h) j = wrong [] x i (first-here (Right-text bs) pre x ts h) (omega (arith, p))
+one-text : (bytes : List ℕ) (pre : List Token) (i : ℕ) (x : Token) (ts : List Token) (t : Bool) (v : Verdict) → i ≡ length pre → Decides (Right-text bytes pre x) t
+    → Texts-after bytes (pre ++ (x ∷ [])) ts v → Texts-after bytes pre (x ∷ ts) (cond t v (refused (bad-text i)))
+one-text bytes pre i x ts t v p (holds h) j = text-later bytes pre x ts v h j
+one-text bytes pre i x ts t v p (not-so h) j = wrong [] x i (first-here (Right-text bytes) pre x ts h) (omega (arith, p))
 
-texts-walk : (bs : List ℕ) (pre : List Token) (i : ℕ) (rest : List ℕ) (ts : List Token) → i ≡ length pre → drop (bytes pre) bs ≡ rest → Texts-after bs pre ts (check-texts i rest ts)
+texts-walk : (bytes : List ℕ) (pre : List Token) (i : ℕ) (rest : List ℕ) (ts : List Token) → i ≡ length pre → drop (byte-count pre) bytes ≡ rest → Texts-after bytes pre ts (check-texts i rest ts)
 unfolding check-texts
-texts-walk bs pre i rest [] p e = right (each-nil (Right-text bs) pre)
-texts-walk bs pre i rest (x ∷ ts) p e =
+texts-walk bytes pre i rest [] p e = right (each-nil (Right-text bytes) pre)
+texts-walk bytes pre i rest (x ∷ ts) p e =
     let l : length (pre ++ (x ∷ [])) ≡ length pre + 1 = length-append pre (x ∷ []) in
-    one-text bs pre i x ts (fits-text static-texts (x .kind) (take (x .len) rest)) (check-texts (suc i) (drop (x .len) rest) ts) p
-    (subst (λ (r : List ℕ). Decides (Right-text bs pre x) (fits-text static-texts (x .kind) (take (x .len) r))) e (text-decides (x .kind) (take (x .len) (drop (bytes pre) bs)) [] static-texts static-once))
-    (texts-walk bs (pre ++ (x ∷ [])) (suc i) (drop (x .len) rest) ts (omega (arith, p, l))
-    (ap (λ (n : ℕ). drop n bs) (bytes-more pre x) ∙ sym (drop-drop (x .len) (bytes pre) bs) ∙ ap (drop (x .len)) e))
+    one-text bytes pre i x ts (fits-text static-texts (x .kind) (take (x .len) rest)) (check-texts (suc i) (drop (x .len) rest) ts) p
+    (subst (λ (r : List ℕ). Decides (Right-text bytes pre x) (fits-text static-texts (x .kind) (take (x .len) r))) e (text-decides (x .kind) (take (x .len) (drop (byte-count pre) bytes)) [] static-texts static-once))
+    (texts-walk bytes (pre ++ (x ∷ [])) (suc i) (drop (x .len) rest) ts (omega (arith, p, l))
+    (ap (λ (n : ℕ). drop n bytes) (bytes-more pre x) ∙ sym (drop-drop (x .len) (byte-count pre) bytes) ∙ ap (drop (x .len)) e))
 
 -- CAUSE 4
-pub data Texts (bs : List ℕ) (ts : List Token) : Verdict → Type 0 where
-  right-texts : Each (Right-text bs) ts → Texts bs ts accepted
-  wrong-one : (before : List Token) (t : Token) → First (Right-text bs) ts before t → Texts bs ts (refused (bad-text (length before)))
+pub data Texts (bytes : List ℕ) (ts : List Token) : Verdict → Type 0 where
+  right-texts : Each (Right-text bytes) ts → Texts bytes ts accepted
+  wrong-one : (before : List Token) (t : Token) → First (Right-text bytes) ts before t → Texts bytes ts (refused (bad-text (length before)))
 
-pub judged-texts : (bs : List ℕ) (ts : List Token) → Texts bs ts (check-texts 0 bs ts)
-unfolding bytes
-judged-texts bs ts = by _ (texts-walk bs [] 0 bs ts refl refl)
+pub judged-texts : (bytes : List ℕ) (ts : List Token) → Texts bytes ts (check-texts 0 bytes ts)
+unfolding byte-count
+judged-texts bytes ts = by _ (texts-walk bytes [] 0 bytes ts refl refl)
   where
-    by : (v : Verdict) → Texts-after bs [] ts v → Texts bs ts v
+    by : (v : Verdict) → Texts-after bytes [] ts v → Texts bytes ts v
     by v (right g) = right-texts g
-    by v (wrong before t i f e) = subst (λ (n : ℕ). Texts bs ts (refused (bad-text n))) (omega (arith, e)) (wrong-one before t (from-nothing (Right-text bs) ts before t f))
+    by v (wrong before t i f e) = subst (λ (n : ℕ). Texts bytes ts (refused (bad-text n))) (omega (arith, e)) (wrong-one before t (from-nothing (Right-text bytes) ts before t f))

@@ -13,7 +13,7 @@ use Rattle.definitions.specs.Skeleton.{Label, no-label, Skeleton, done, _⧺_}
 use Rattle.definitions.specs.Run.{State, Out, mark-of, answer, makes, taken, add, choose, closed, marked, is-again, goes-on, iter, unlinked, by-shape, links, chained, here, exec, run}
 use Rattle.definitions.specs.Report.{pushes}
 use Rattle.definitions.specs.Call.{run-entry}
-use Rattle.laws.proofs.Parts.{linked}
+use Rattle.laws.proofs.Pieces.{linked}
 use Rattle.refusals.specs.Trace.{Happening, event-at, iter-trace, links-trace, choose-trace, exec-trace, run-trace, trace}
 use Rattle.refusals.specs.Refusals.{MAX-OPEN}
 use Rattle.refusals.proofs.Steps.{Step, an-event, told, flat, told-append, steps, steps-join, steps-closed, act-told}

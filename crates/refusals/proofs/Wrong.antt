@@ -18,7 +18,7 @@ abbrev gives : Answer → List ℕ → List ℕ → Result
 gives a trees errors = record { answer = a; buffers = record { events = 0 ∷ []; trees = trees; errors = errors; reports = 0 ∷ []; pool = 0 ∷ [] } }
 
 abbrev answers : ℕ → ℕ → ℕ → Answer
-answers n p t = record { number = n; place = p; trees = t; errors = 0; reports = 0; expectations = 0 }
+answers n p t = record { number = n; place = p; tree-count = t; error-count = 0; report-count = 0; expectation-count = 0 }
 
 -- the right one
 pub right : call 1 [] [] lent ≡ gives (answers 0 0 1) (0 ∷ 0 ∷ 0 ∷ 0 ∷ 0 ∷ []) (0 ∷ [])
@@ -43,7 +43,7 @@ untouched-5 h = let e : _≡_ {A = ℕ} 7 0 = ap (λ (l : List ℕ). getD l 0 0)
 
 -- a refusal that counts a row; places with 0, 2 and 8
 pub counted-1 : ¬ Returns 1 [] lent (gives (answers 1 0 1) (7 ∷ 7 ∷ 7 ∷ 7 ∷ 7 ∷ []) (7 ∷ []))
-counted-1 h = omega (arith, h .no-counts (omega arith) .trees)
+counted-1 h = omega (arith, h .no-counts (omega arith) .tree-count)
 
 pub place-0 : ¬ Returns 1 [] lent (gives (answers 0 1 1) (0 ∷ 0 ∷ 0 ∷ 0 ∷ 0 ∷ []) (0 ∷ []))
 place-0 h = omega (arith, h .no-place (λ x. omega (arith, x .0)))

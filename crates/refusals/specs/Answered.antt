@@ -21,10 +21,10 @@ pub record Filled (size count : ℕ) (numbers was is : List ℕ) : Type 0 where
 
 -- what an accepted call leaves, where s is to be written
 pub record Written (s : Sheets) (b : Buffers) (r : Result) : Type 0 where
-  pub trees : Filled TREE-ROW (r .answer .trees) (s .trees) (b .trees) (r .buffers .trees)
-  pub errors : Filled ERROR-ROW (r .answer .errors) (s .errors) (b .errors) (r .buffers .errors)
-  pub reports : Filled REPORT-ROW (r .answer .reports) (s .reports) (b .reports) (r .buffers .reports)
-  pub pool : Filled 1 (r .answer .expectations) (s .pool) (b .pool) (r .buffers .pool)
+  pub trees : Filled TREE-ROW (r .answer .tree-count) (s .trees) (b .trees) (r .buffers .trees)
+  pub errors : Filled ERROR-ROW (r .answer .error-count) (s .errors) (b .errors) (r .buffers .errors)
+  pub reports : Filled REPORT-ROW (r .answer .report-count) (s .reports) (b .reports) (r .buffers .reports)
+  pub pool : Filled 1 (r .answer .expectation-count) (s .pool) (b .pool) (r .buffers .pool)
   pub events : r .buffers .events ≡ zeros (b .events)
 
 -- what a refusal from 5 on leaves
@@ -43,15 +43,15 @@ pub record Same-lengths (b : Buffers) (r : Result) : Type 0 where
   pub pool : length (r .buffers .pool) ≡ length (b .pool)
 
 pub record No-counts (r : Result) : Type 0 where
-  pub trees : r .answer .trees ≡ 0
-  pub errors : r .answer .errors ≡ 0
-  pub reports : r .answer .reports ≡ 0
-  pub expectations : r .answer .expectations ≡ 0
+  pub tree-count : r .answer .tree-count ≡ 0
+  pub error-count : r .answer .error-count ≡ 0
+  pub report-count : r .answer .report-count ≡ 0
+  pub expectation-count : r .answer .expectation-count ≡ 0
 
--- n, tk, b: a call's entry, token numbers and buffers. r: what it returns.
-pub record Returns (n : ℕ) (tk : List ℕ) (b : Buffers) (r : Result) : Type 0 where
+-- n, tokens, b: a call's entry, token numbers and buffers. r: what it returns.
+pub record Returns (n : ℕ) (tokens : List ℕ) (b : Buffers) (r : Result) : Type 0 where
   pub at-most-8 : r .answer .number ≤ 8
-  pub accepted : r .answer .number ≡ 0 → (e : Entry) × (entry-number e ≡ n) × Written (to-write e tk) b r
+  pub accepted : r .answer .number ≡ 0 → (e : Entry) × (entry-number e ≡ n) × Written (to-write e tokens) b r
   pub as-it-was : 1 ≤ r .answer .number → r .answer .number ≤ 4 → r .buffers ≡ b
   pub all-zero : 5 ≤ r .answer .number → All-zero b r
   pub no-counts : 1 ≤ r .answer .number → No-counts r
@@ -60,4 +60,4 @@ pub record Returns (n : ℕ) (tk : List ℕ) (b : Buffers) (r : Result) : Type 0
   pub lengths : Same-lengths b r
 
 abbrev pub Answered : Type 0
-Answered = (n : ℕ) (bs tk : List ℕ) (b : Buffers) → Returns n tk b (Call.call n bs tk b)
+Answered = (n : ℕ) (bytes tokens : List ℕ) (b : Buffers) → Returns n tokens b (Call.call n bytes tokens b)

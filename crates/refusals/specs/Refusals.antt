@@ -7,7 +7,7 @@ use mathlib.Core.List.{List, [], _∷_}
 use lib.ListN.{length, take, drop}
 use Rattle.definitions.specs.Layout.{EVENT-ROW, REPORT-ROW}
 use Rattle.definitions.specs.TokenKind as K
-use Rattle.definitions.specs.Token.{Token, tokens-of, bytes}
+use Rattle.definitions.specs.Token.{Token, tokens-of, byte-count}
 use Rattle.definitions.specs.StaticText.{static-texts}
 use Rattle.definitions.specs.Grammar.{Entry, SourceFile, ReferenceNoamp, PropValues, Cells}
 use Rattle.definitions.specs.Call.{Buffers, Sheets, sheets, run-entry}
@@ -44,10 +44,10 @@ Past-1 n e = entry-number e ≡ n
 
 -- 2: the sizes
 abbrev pub Sizes : List ℕ → List ℕ → Type 0
-Sizes bs tk = (length bs ≤ MAX-BYTES) × (length tk ≤ MAX-NUMBERS)
+Sizes bytes tokens = (length bytes ≤ MAX-BYTES) × (length tokens ≤ MAX-NUMBERS)
 
 abbrev pub Past-2 : ℕ → List ℕ → List ℕ → Entry → Type 0
-Past-2 n bs tk e = Past-1 n e × Sizes bs tk
+Past-2 n bytes tokens e = Past-1 n e × Sizes bytes tokens
 
 -- 3: a kind that may be input
 pub data Input-kind (k : ℕ) : Type 0 where
@@ -55,24 +55,24 @@ pub data Input-kind (k : ℕ) : Type 0 where
   a-lexical-error : 64 ≤ k → k ≤ 74 → Input-kind k
 
 -- a row, after other rows: its kind, its length, and its end within the input
-pub record Good-row (bs : List ℕ) (before : List Token) (t : Token) : Type 0 where
+pub record Good-row (bytes : List ℕ) (before : List Token) (t : Token) : Type 0 where
   pub kind : Input-kind (t .kind)
   pub not-empty : 1 ≤ t .len
-  pub ends-inside : bytes before + t .len ≤ length bs
+  pub ends-inside : byte-count before + t .len ≤ length bytes
 
 -- no number is left over, and the rows cover the input
 abbrev pub Covers : List ℕ → List ℕ → Type 0
-Covers bs tk = (length tk ≡ 2 * length (tokens-of tk)) × (bytes (tokens-of tk) ≡ length bs)
+Covers bytes tokens = (length tokens ≡ 2 * length (tokens-of tokens)) × (byte-count (tokens-of tokens) ≡ length bytes)
 
 abbrev pub Past-3 : ℕ → List ℕ → List ℕ → Entry → Type 0
-Past-3 n bs tk e = Past-2 n bs tk e × Each (Good-row bs) (tokens-of tk) × Covers bs tk
+Past-3 n bytes tokens e = Past-2 n bytes tokens e × Each (Good-row bytes) (tokens-of tokens) × Covers bytes tokens
 
 -- 4: where the table of static texts has a text for the row's kind, that is what the row's bytes are
 abbrev pub Right-text : List ℕ → List Token → Token → Type 0
-Right-text bs before t = Each (λ above entry. entry .kind ≡ t .kind → take (t .len) (drop (bytes before) bs) ≡ entry .text) static-texts
+Right-text bytes before t = Each (λ above entry. entry .kind ≡ t .kind → take (t .len) (drop (byte-count before) bytes) ≡ entry .text) static-texts
 
 abbrev pub Past-4 : ℕ → List ℕ → List ℕ → Entry → Type 0
-Past-4 n bs tk e = Past-3 n bs tk e × Each (Right-text bs) (tokens-of tk)
+Past-4 n bytes tokens e = Past-3 n bytes tokens e × Each (Right-text bytes) (tokens-of tokens)
 
 -- ---------------------------------------------------------------- causes 5 to 8: the limits and the room
 
@@ -106,53 +106,53 @@ Allowed b before (event-pushed m) = EVENT-ROW * suc (events-in before) ≤ lengt
 Allowed b before (report-written c m) = (REPORT-ROW * suc (reports-in before) ≤ length (b .reports)) × (expectations-in before + c ≤ length (b .pool))
 
 abbrev pub happens : Entry → List ℕ → List Happening
-happens e tk = trace MAX-OPEN e (tokens-of tk)
+happens e tokens = trace MAX-OPEN e (tokens-of tokens)
 
 -- a mark counted from the start
 abbrev pub from-start : List ℕ → ℕ → ℕ
-from-start tk m = length (tokens-of tk) - m
+from-start tokens m = length (tokens-of tokens) - m
 
 -- what a file's run gives to write
 abbrev pub to-write : Entry → List ℕ → Sheets
-to-write e tk = sheets e (tokens-of tk) (run-entry e (tokens-of tk))
+to-write e tokens = sheets e (tokens-of tokens) (run-entry e (tokens-of tokens))
 
 -- the tree rows and the lexical errors fit
 abbrev pub Tree-fits : Entry → List ℕ → Buffers → Type 0
-Tree-fits e tk b = (length (to-write e tk .trees) ≤ length (b .trees)) × (length (to-write e tk .errors) ≤ length (b .errors))
+Tree-fits e tokens b = (length (to-write e tokens .trees) ≤ length (b .trees)) × (length (to-write e tokens .errors) ≤ length (b .errors))
 
 -- ---------------------------------------------------------------- the table
 
 -- the first of what happens that is not allowed
 abbrev pub First-met : Entry → List ℕ → Buffers → List Happening → Happening → Type 0
-First-met e tk b before x = First (Allowed b) (happens e tk) before x
+First-met e tokens b before x = First (Allowed b) (happens e tokens) before x
 
 -- the condition for each number and place, in document 01's order and words
-pub data Cause (n : ℕ) (bs tk : List ℕ) (b : Buffers) : ℕ → ℕ → Type 0 where
+pub data Cause (n : ℕ) (bytes tokens : List ℕ) (b : Buffers) : ℕ → ℕ → Type 0 where
   -- entry not 1 to 4
-  unknown-entry : ¬ ((1 ≤ n) × (n ≤ 4)) → Cause n bs tk b 1 0
+  unknown-entry : ¬ ((1 ≤ n) × (n ≤ 4)) → Cause n bytes tokens b 1 0
   -- over 1,048,576 bytes or 131,072 token numbers
-  over-size : (e : Entry) → Past-1 n e → ¬ Sizes bs tk → Cause n bs tk b 2 0
+  over-size : (e : Entry) → Past-1 n e → ¬ Sizes bytes tokens → Cause n bytes tokens b 2 0
   -- a row with a bad kind, length 0 or an end past the input: the first bad row
-  bad-row : (e : Entry) → Past-2 n bs tk e → (before : List Token) (t : Token) → First (Good-row bs) (tokens-of tk) before t → Cause n bs tk b 3 (length before)
+  bad-row : (e : Entry) → Past-2 n bytes tokens e → (before : List Token) (t : Token) → First (Good-row bytes) (tokens-of tokens) before t → Cause n bytes tokens b 3 (length before)
   -- odd numbers or a short total: the count of whole rows
-  odd-or-short : (e : Entry) → Past-2 n bs tk e → Each (Good-row bs) (tokens-of tk) → ¬ Covers bs tk → Cause n bs tk b 3 (length (tokens-of tk))
+  odd-or-short : (e : Entry) → Past-2 n bytes tokens e → Each (Good-row bytes) (tokens-of tokens) → ¬ Covers bytes tokens → Cause n bytes tokens b 3 (length (tokens-of tokens))
   -- bytes of a kind with a static text differ from it: the first such row
-  wrong-text : (e : Entry) → Past-3 n bs tk e → (before : List Token) (t : Token) → First (Right-text bs) (tokens-of tk) before t → Cause n bs tk b 4 (length before)
+  wrong-text : (e : Entry) → Past-3 n bytes tokens e → (before : List Token) (t : Token) → First (Right-text bytes) (tokens-of tokens) before t → Cause n bytes tokens b 4 (length before)
   -- a 65th open call
-  call-too-many : (e : Entry) → Past-4 n bs tk e → (before : List Happening) (m : ℕ) → First-met e tk b before (call-opened (suc MAX-OPEN) m) → Cause n bs tk b 5 (from-start tk m)
+  call-too-many : (e : Entry) → Past-4 n bytes tokens e → (before : List Happening) (m : ℕ) → First-met e tokens b before (call-opened (suc MAX-OPEN) m) → Cause n bytes tokens b 5 (from-start tokens m)
   -- a 257th pending expectation
-  expectation-too-many : (e : Entry) → Past-4 n bs tk e → (before : List Happening) (m : ℕ) → First-met e tk b before (expectation-pushed (suc MAX-PENDING) m) → Cause n bs tk b 5 (from-start tk m)
+  expectation-too-many : (e : Entry) → Past-4 n bytes tokens e → (before : List Happening) (m : ℕ) → First-met e tokens b before (expectation-pushed (suc MAX-PENDING) m) → Cause n bytes tokens b 5 (from-start tokens m)
   -- the next event does not fit
-  no-event-room : (e : Entry) → Past-4 n bs tk e → (before : List Happening) (m : ℕ) → First-met e tk b before (event-pushed m) → Cause n bs tk b 6 (from-start tk m)
+  no-event-room : (e : Entry) → Past-4 n bytes tokens e → (before : List Happening) (m : ℕ) → First-met e tokens b before (event-pushed m) → Cause n bytes tokens b 6 (from-start tokens m)
   -- a report row or its expectations do not fit
-  no-report-room : (e : Entry) → Past-4 n bs tk e → (before : List Happening) (c m : ℕ) → First-met e tk b before (report-written c m) → Cause n bs tk b 7 (from-start tk m)
+  no-report-room : (e : Entry) → Past-4 n bytes tokens e → (before : List Happening) (c m : ℕ) → First-met e tokens b before (report-written c m) → Cause n bytes tokens b 7 (from-start tokens m)
   -- the tree or the lexical errors do not fit
-  no-tree-room : (e : Entry) → Past-4 n bs tk e → Each (Allowed b) (happens e tk) → ¬ Tree-fits e tk b → Cause n bs tk b 8 0
+  no-tree-room : (e : Entry) → Past-4 n bytes tokens e → Each (Allowed b) (happens e tokens) → ¬ Tree-fits e tokens b → Cause n bytes tokens b 8 0
   -- accepted
-  none : (e : Entry) → Past-4 n bs tk e → Each (Allowed b) (happens e tk) → Tree-fits e tk b → Cause n bs tk b 0 0
+  none : (e : Entry) → Past-4 n bytes tokens e → Each (Allowed b) (happens e tokens) → Tree-fits e tokens b → Cause n bytes tokens b 0 0
 
 -- for every call, each number with each place: returned if and only if its cause is there
 abbrev pub Refusals : Type 0
 Refusals =
-    (n : ℕ) (bs tk : List ℕ) (b : Buffers) (number place : ℕ)
-    → ((Call.call n bs tk b .answer .number ≡ number) × (Call.call n bs tk b .answer .place ≡ place)) ↔ Cause n bs tk b number place
+    (n : ℕ) (bytes tokens : List ℕ) (b : Buffers) (number place : ℕ)
+    → ((Call.call n bytes tokens b .answer .number ≡ number) × (Call.call n bytes tokens b .answer .place ≡ place)) ↔ Cause n bytes tokens b number place

@@ -16,10 +16,10 @@ fn show_answer(name: &[u8], a: Answer) {
     show::text(name);
     show::number(a.number as u64);
     show::number(a.place as u64);
-    show::number(a.trees as u64);
-    show::number(a.errors as u64);
-    show::number(a.reports as u64);
-    show::number(a.expectations as u64);
+    show::number(a.tree_count as u64);
+    show::number(a.error_count as u64);
+    show::number(a.report_count as u64);
+    show::number(a.expectation_count as u64);
 }
 
 fn show_tail(buffer: &[u32], from: usize) {
@@ -74,10 +74,10 @@ pub fn show(
     reports: &[u32],
     pool: &[u32],
 ) {
-    let t = a.trees % MOST_ROWS * TREE_ROW;
-    let x = a.errors % MOST_ROWS * ERROR_ROW;
-    let r = a.reports % MOST_ROWS * REPORT_ROW;
-    let e = a.expectations;
+    let t = a.tree_count % MOST_ROWS * TREE_ROW;
+    let x = a.error_count % MOST_ROWS * ERROR_ROW;
+    let r = a.report_count % MOST_ROWS * REPORT_ROW;
+    let e = a.expectation_count;
     show_answer(name, a);
     show_tails(events, trees, t, errors, x, reports, r, pool, e);
     show_rows(trees, least(t, most), errors, x, reports, r, pool, e);

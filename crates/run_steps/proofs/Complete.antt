@@ -176,7 +176,7 @@ module _ (f : State → Out) (g : State → List Step) (T : (s : State) → Tell
       link-tells s m (mark-of (f s .state)) a p (links n f (mark-of (f s .state)) (closed (f s .shape) m (mark-of (f s .state)) a (p ⧺ f s .made)) done (f s .state)) (links-steps n f g (f s .state))
       (links-tells n (mark-of (f s .state)) (closed (f s .shape) m (mark-of (f s .state)) a (p ⧺ f s .made)) done (f s .state)) (f s .shape) (goes-on s (f s))
 
-  -- a chain whose first part gave o
+  -- a chain whose first program gave o
   chained-tells : (s : State) (o : Out) (ss : List Step) → Tells o ss
       → Tells (chained f s o) (ss ++ cond (is-again (o .ans)) (links-steps (suc (length (o .state .rest))) f g (o .state)) [])
   unfolding chained

@@ -1,5 +1,5 @@
 -- HOW THE PROOFS GO. Steps (specs/Steps.antt) are told off a run as `Run.exec` goes through a program, so what a run makes and its steps
--- are compared part by part: one induction over programs, loops, chains and open calls.
+-- are compared piece by piece: one induction over programs, loops, chains and open calls.
 --   Complete  the steps leave out no report and no refusal 5. `Tells`: the signs of some steps are those of what was made. Kept by
 --             joining (`tells-add`) and by closing a marker (`closed-signs`), and true of each action (`act-tells`).
 --             In a chain, what was made before a link stands before it in what is pushed (`Under`, `link-tells`).

@@ -11,7 +11,7 @@ use borrow.Author.Tests.{ltb-true, eqb-true, lt-ltb, eq-eqb, ne-eqb}
 use Rattle.basics.specs.Word.{low}
 use Rattle.definitions.specs.Layout.{TREE-ROW, EVENT-ROW, EVENT-ARGUMENT, EVENT-DISTANCE, FINISH-NODE, LINKED-START-NODE, TWO-TO-32}
 use Rattle.definitions.specs.Skeleton.{Skeleton, done, token, name, node, ignored, report, over}
-use Rattle.definitions.specs.Event.{forward, events}
+use Rattle.definitions.specs.Event.{forward, events as events-of}
 use Rattle.definitions.specs.Place.{tree-row}
 use Rattle.machine.specs.Encode.{start-tag, encode}
 use Rattle.sink.specs.Encode.{Alone, Chained}
@@ -102,7 +102,7 @@ open-all-at k (j ∷ ks) s =
 
 -- how far on a link leads
 abbrev pub far : Bool → Skeleton → ℕ
-far l i = forward l (suc (suc (length (events false i))))
+far l i = forward l (suc (suc (length (events-of false i))))
 
 -- the nodes of a chain
 abbrev pub depth : Skeleton → ℕ
@@ -129,101 +129,101 @@ pub encode-alone : (l : Bool) (k m m′ : ℕ) (a i o : Skeleton) → o ≡ done
 unfolding encode
 encode-alone l k m m′ a i o h = rw h
 
-module _ (ev : List ℕ) where
+module _ (events : List ℕ) where
   -- what stands so many rows further on
-  pub ev-past : (i m : ℕ) (y x : List ℕ) → drop (i * EVENT-ROW) ev ≡ y ++ x → length y ≡ m * EVENT-ROW → drop ((i + m) * EVENT-ROW) ev ≡ x
+  pub ev-past : (i m : ℕ) (y x : List ℕ) → drop (i * EVENT-ROW) events ≡ y ++ x → length y ≡ m * EVENT-ROW → drop ((i + m) * EVENT-ROW) events ≡ x
   ev-past i m y x e h =
       let z : (i + m) * EVENT-ROW ≡ i * EVENT-ROW + m * EVENT-ROW = omega arith in
-      rw z (sym (drop-drop (m * EVENT-ROW) (i * EVENT-ROW) ev) ∙ ap (λ l. drop (m * EVENT-ROW) l) e ∙ drop-at y x (m * EVENT-ROW) h)
+      rw z (sym (drop-drop (m * EVENT-ROW) (i * EVENT-ROW) events) ∙ ap (λ l. drop (m * EVENT-ROW) l) e ∙ drop-at y x (m * EVENT-ROW) h)
 
-  pub ev-inside : (i : ℕ) (x : List ℕ) → drop (i * EVENT-ROW) ev ≡ x → EVENT-ROW ≤ length x → i < length ev / EVENT-ROW
-  ev-inside i x e h = omega (arith, length-drop (i * EVENT-ROW) ev, ap length e)
+  pub ev-inside : (i : ℕ) (x : List ℕ) → drop (i * EVENT-ROW) events ≡ x → EVENT-ROW ≤ length x → i < length events / EVENT-ROW
+  ev-inside i x e h = omega (arith, length-drop (i * EVENT-ROW) events, ap length e)
 
-  pub ev-field : (i j : ℕ) (x : List ℕ) → drop (i * EVENT-ROW) ev ≡ x → EVENT-ROW ≤ length x → field ev i j ≡ getD x j 0
+  pub ev-field : (i j : ℕ) (x : List ℕ) → drop (i * EVENT-ROW) events ≡ x → EVENT-ROW ≤ length x → field events i j ≡ getD x j 0
   unfolding field
-  ev-field i j x e h = rw (lt-ltb i (length ev / EVENT-ROW) (ev-inside i x e h)) (sym (getD-drop (i * EVENT-ROW) ev j 0) ∙ ap (λ l. getD l j 0) e)
+  ev-field i j x e h = rw (lt-ltb i (length events / EVENT-ROW) (ev-inside i x e h)) (sym (getD-drop (i * EVENT-ROW) events j 0) ∙ ap (λ l. getD l j 0) e)
 
   -- an event that is not a linked start
-  pub ev-other : (i : ℕ) (x : List ℕ) → drop (i * EVENT-ROW) ev ≡ x → (getD x 0 0 ≡ LINKED-START-NODE → ⊥) → field ev i TAG ≡ LINKED-START-NODE → ⊥
+  pub ev-other : (i : ℕ) (x : List ℕ) → drop (i * EVENT-ROW) events ≡ x → (getD x 0 0 ≡ LINKED-START-NODE → ⊥) → field events i TAG ≡ LINKED-START-NODE → ⊥
   unfolding field
-  ev-other i x e h = go (ltb i (length ev / EVENT-ROW))
+  ev-other i x e h = go (ltb i (length events / EVENT-ROW))
     where
-      go : (b : Bool) → cond b (getD ev (i * EVENT-ROW + TAG) 0) 0 ≡ LINKED-START-NODE → ⊥
-      go true g = h (sym (ap (λ l. getD l 0 0) e) ∙ getD-drop (i * EVENT-ROW) ev 0 0 ∙ g)
+      go : (b : Bool) → cond b (getD events (i * EVENT-ROW + TAG) 0) 0 ≡ LINKED-START-NODE → ⊥
+      go true g = h (sym (ap (λ l. getD l 0 0) e) ∙ getD-drop (i * EVENT-ROW) events 0 0 ∙ g)
       go false g = let z : _≡_ {A = ℕ} 0 LINKED-START-NODE = g in omega arith
 
   -- ---------------------------------------------------------------- links
 
   -- from event j on the links lead along nodes of these kinds, and no further
   abbrev Chain : ℕ → ℕ → List ℕ → Type 0
-  Chain j k [] = (field ev j EVENT-ARGUMENT ≡ k) × (link ev j ≡ 0)
-  Chain j k (x ∷ ks) = (field ev j EVENT-ARGUMENT ≡ k) × ((0 < link ev j) × Chain (j + link ev j) x ks)
+  Chain j k [] = (field events j EVENT-ARGUMENT ≡ k) × (link events j ≡ 0)
+  Chain j k (x ∷ ks) = (field events j EVENT-ARGUMENT ≡ k) × ((0 < link events j) × Chain (j + link events j) x ks)
 
   -- what a start, linked or not, finds at its link's end
   abbrev Rest : Bool → ℕ → List ℕ → Type 0
-  Rest l j [] = l ≡ true → field ev j TAG ≡ LINKED-START-NODE → ⊥
-  Rest l j (k ∷ ks) = (l ≡ true) × ((field ev j TAG ≡ LINKED-START-NODE) × Chain j k ks)
+  Rest l j [] = l ≡ true → field events j TAG ≡ LINKED-START-NODE → ⊥
+  Rest l j (k ∷ ks) = (l ≡ true) × ((field events j TAG ≡ LINKED-START-NODE) × Chain j k ks)
 
-  field-inside : (m : ℕ) → field ev m TAG ≡ LINKED-START-NODE → m < length ev / EVENT-ROW
+  field-inside : (m : ℕ) → field events m TAG ≡ LINKED-START-NODE → m < length events / EVENT-ROW
   unfolding field
-  field-inside m h = go (ltb m (length ev / EVENT-ROW)) refl h
+  field-inside m h = go (ltb m (length events / EVENT-ROW)) refl h
     where
-      go : (b : Bool) → ltb m (length ev / EVENT-ROW) ≡ b → cond b (getD ev (m * EVENT-ROW + TAG) 0) 0 ≡ LINKED-START-NODE → m < length ev / EVENT-ROW
-      go true p g = ltb-true m (length ev / EVENT-ROW) p
+      go : (b : Bool) → ltb m (length events / EVENT-ROW) ≡ b → cond b (getD events (m * EVENT-ROW + TAG) 0) 0 ≡ LINKED-START-NODE → m < length events / EVENT-ROW
+      go true p g = ltb-true m (length events / EVENT-ROW) p
       go false p g = absurd (let z : _≡_ {A = ℕ} 0 LINKED-START-NODE = g in omega arith)
 
-  link-inside : (j : ℕ) → 0 < link ev j → j + link ev j < length ev / EVENT-ROW
+  link-inside : (j : ℕ) → 0 < link events j → j + link events j < length events / EVENT-ROW
   unfolding link
-  link-inside j h = go (ltb j (length ev / EVENT-ROW)) (eqb (field ev (j + getD ev (j * EVENT-ROW + EVENT-DISTANCE) 0) TAG) LINKED-START-NODE) refl refl h
+  link-inside j h = go (ltb j (length events / EVENT-ROW)) (eqb (field events (j + getD events (j * EVENT-ROW + EVENT-DISTANCE) 0) TAG) LINKED-START-NODE) refl refl h
     where
-      go : (b y : Bool) → ltb j (length ev / EVENT-ROW) ≡ b → eqb (field ev (j + getD ev (j * EVENT-ROW + EVENT-DISTANCE) 0) TAG) LINKED-START-NODE ≡ y
-          → 0 < cond b (cond y (getD ev (j * EVENT-ROW + EVENT-DISTANCE) 0) 0) 0 → j + cond b (cond y (getD ev (j * EVENT-ROW + EVENT-DISTANCE) 0) 0) 0 < length ev / EVENT-ROW
-      go true true p q h = field-inside (j + getD ev (j * EVENT-ROW + EVENT-DISTANCE) 0) (eqb-true (field ev (j + getD ev (j * EVENT-ROW + EVENT-DISTANCE) 0) TAG) LINKED-START-NODE q)
+      go : (b y : Bool) → ltb j (length events / EVENT-ROW) ≡ b → eqb (field events (j + getD events (j * EVENT-ROW + EVENT-DISTANCE) 0) TAG) LINKED-START-NODE ≡ y
+          → 0 < cond b (cond y (getD events (j * EVENT-ROW + EVENT-DISTANCE) 0) 0) 0 → j + cond b (cond y (getD events (j * EVENT-ROW + EVENT-DISTANCE) 0) 0) 0 < length events / EVENT-ROW
+      go true true p q h = field-inside (j + getD events (j * EVENT-ROW + EVENT-DISTANCE) 0) (eqb-true (field events (j + getD events (j * EVENT-ROW + EVENT-DISTANCE) 0) TAG) LINKED-START-NODE q)
       go true false p q h = absurd (omega arith)
       go false y p q h = absurd (omega arith)
 
-  chain-bound : (ks : List ℕ) (j k : ℕ) → j < length ev / EVENT-ROW → Chain j k ks → j + length ks < length ev / EVENT-ROW
+  chain-bound : (ks : List ℕ) (j k : ℕ) → j < length events / EVENT-ROW → Chain j k ks → j + length ks < length events / EVENT-ROW
   chain-bound [] j k h c = omega arith
-  chain-bound (x ∷ ks) j k h c = omega (arith, chain-bound ks (j + link ev j) x (link-inside j (c .1 .0)) (c .1 .1), c .1 .0)
+  chain-bound (x ∷ ks) j k h c = omega (arith, chain-bound ks (j + link events j) x (link-inside j (c .1 .0)) (c .1 .1), c .1 .0)
 
-  chain-links : (ks : List ℕ) (j k n : ℕ) → Chain j k ks → length ks ≤ n → linksN n ev j ≡ length ks
+  chain-links : (ks : List ℕ) (j k n : ℕ) → Chain j k ks → length ks ≤ n → linksN n events j ≡ length ks
   unfolding linksN
-  chain-links [] j k n c h = links-end n ev j (c .1)
+  chain-links [] j k n c h = links-end n events j (c .1)
   chain-links (x ∷ ks) j k zero c h = absurd (omega arith)
-  chain-links (x ∷ ks) j k (suc n) c h = rw (lt-ltb 0 (link ev j) (c .1 .0), chain-links ks (j + link ev j) x n (c .1 .1) (omega arith)) (omega arith)
+  chain-links (x ∷ ks) j k (suc n) c h = rw (lt-ltb 0 (link events j) (c .1 .0), chain-links ks (j + link events j) x n (c .1 .1) (omega arith)) (omega arith)
 
   -- ---------------------------------------------------------------- the links of encoded events
 
-  link-of : (j a k d : ℕ) (x : List ℕ) → drop (j * EVENT-ROW) ev ≡ a ∷ k ∷ d ∷ x → link ev j ≡ cond (eqb (field ev (j + d) TAG) LINKED-START-NODE) d 0
+  link-of : (j a k d : ℕ) (x : List ℕ) → drop (j * EVENT-ROW) events ≡ a ∷ k ∷ d ∷ x → link events j ≡ cond (eqb (field events (j + d) TAG) LINKED-START-NODE) d 0
   unfolding link
   link-of j a k d x e =
-      let f : getD ev (j * EVENT-ROW + EVENT-DISTANCE) 0 ≡ d = sym (getD-drop (j * EVENT-ROW) ev 2 0) ∙ ap (λ l. getD l 2 0) e in
-      rw (lt-ltb j (length ev / EVENT-ROW) (ev-inside j (a ∷ k ∷ d ∷ x) e (omega arith)), f)
+      let f : getD events (j * EVENT-ROW + EVENT-DISTANCE) 0 ≡ d = sym (getD-drop (j * EVENT-ROW) events 2 0) ∙ ap (λ l. getD l 2 0) e in
+      rw (lt-ltb j (length events / EVENT-ROW) (ev-inside j (a ∷ k ∷ d ∷ x) e (omega arith)), f)
 
   cond-same : (b : Bool) (n : ℕ) → cond b n n ≡ n
   cond-same true n = refl
   cond-same false n = refl
 
   -- a start that is linked over n events and its own two
-  row-chain : (j a k n : ℕ) (l : Bool) (x ks : List ℕ) → drop (j * EVENT-ROW) ev ≡ a ∷ k ∷ forward l (suc (suc n)) ∷ x → Rest l (j + suc (suc n)) ks → Chain j k ks
-  row-chain j a k n true x [] e r = (ev-field j EVENT-ARGUMENT _ e (omega arith), link-of j a k (suc (suc n)) x e ∙ rw (ne-eqb (field ev (j + suc (suc n)) TAG) LINKED-START-NODE (r refl)))
-  row-chain j a k n false x [] e r = (ev-field j EVENT-ARGUMENT _ e (omega arith), link-of j a k 0 x e ∙ cond-same (eqb (field ev (j + 0) TAG) LINKED-START-NODE) 0)
+  row-chain : (j a k n : ℕ) (l : Bool) (x ks : List ℕ) → drop (j * EVENT-ROW) events ≡ a ∷ k ∷ forward l (suc (suc n)) ∷ x → Rest l (j + suc (suc n)) ks → Chain j k ks
+  row-chain j a k n true x [] e r = (ev-field j EVENT-ARGUMENT _ e (omega arith), link-of j a k (suc (suc n)) x e ∙ rw (ne-eqb (field events (j + suc (suc n)) TAG) LINKED-START-NODE (r refl)))
+  row-chain j a k n false x [] e r = (ev-field j EVENT-ARGUMENT _ e (omega arith), link-of j a k 0 x e ∙ cond-same (eqb (field events (j + 0) TAG) LINKED-START-NODE) 0)
   row-chain j a k n true x (y ∷ ks) e r =
-      let g : link ev j ≡ suc (suc n) = link-of j a k (suc (suc n)) x e ∙ rw (eq-eqb (field ev (j + suc (suc n)) TAG) LINKED-START-NODE (r .1 .0)) in
+      let g : link events j ≡ suc (suc n) = link-of j a k (suc (suc n)) x e ∙ rw (eq-eqb (field events (j + suc (suc n)) TAG) LINKED-START-NODE (r .1 .0)) in
       (ev-field j EVENT-ARGUMENT _ e (omega arith), (omega arith, rw g (r .1 .1)))
   row-chain j a k n false x (y ∷ ks) e r = absurd (false≢true (r .0))
 
-  chain-of : (a : Skeleton) (k n : ℕ) (l : Bool) (x ks : List ℕ) (j : ℕ) → Alone a → Chained a → drop (j * EVENT-ROW) ev ≡ encode true a ++ (start-tag a ∷ k ∷ forward l (suc (suc n)) ∷ x)
+  chain-of : (a : Skeleton) (k n : ℕ) (l : Bool) (x ks : List ℕ) (j : ℕ) → Alone a → Chained a → drop (j * EVENT-ROW) events ≡ encode true a ++ (start-tag a ∷ k ∷ forward l (suc (suc n)) ∷ x)
       → Rest l (j + event-count a + suc (suc n)) ks → Chain j (inner a k) (outer a k ks)
   unfolding event-count Chained encode
   chain-of done k n l x ks j h c e r = let z : j + 0 + suc (suc n) ≡ j + suc (suc n) = omega arith in row-chain j 1 k n l x ks e (subst (λ m. Rest l m ks) z r)
   chain-of (node q m m′ a i o) k n l x ks j h c e r =
       let R : List ℕ = LINKED-START-NODE ∷ k ∷ forward l (suc (suc n)) ∷ x in
       let p = node q m m′ a i o in
-      let w = length (events false i) in
-      let e′ : drop (j * EVENT-ROW) ev ≡ encode true a ++ (start-tag a ∷ q ∷ suc (suc w) ∷ ((encode false i ++ (FINISH-NODE ∷ 0 ∷ 0 ∷ [])) ++ R)) =
+      let w = length (events-of false i) in
+      let e′ : drop (j * EVENT-ROW) events ≡ encode true a ++ (start-tag a ∷ q ∷ suc (suc w) ∷ ((encode false i ++ (FINISH-NODE ∷ 0 ∷ 0 ∷ [])) ++ R)) =
       e ∙ ap (λ y. y ++ R) (encode-alone true q m m′ a i o h) ∙ append-assoc (encode true a) (start-tag a ∷ q ∷ suc (suc w) ∷ (encode false i ++ (FINISH-NODE ∷ 0 ∷ 0 ∷ []))) R in
-      let g : drop ((j + event-count p) * EVENT-ROW) ev ≡ R = ev-past j (event-count p) (encode true p) R e (encode-count true p) in
+      let g : drop ((j + event-count p) * EVENT-ROW) events ≡ R = ev-past j (event-count p) (encode true p) R e (encode-count true p) in
       let z : j + event-count p ≡ j + event-count a + suc (suc w) = omega (arith, events-length false i, ap event-count h) in
       chain-of a q w true ((encode false i ++ (FINISH-NODE ∷ 0 ∷ 0 ∷ [])) ++ R) (k ∷ ks) j (c .0) (c .1 .0) e′
       (subst (λ y. Rest true y (k ∷ ks)) z (refl, (ev-field (j + event-count p) TAG R g (omega arith), row-chain (j + event-count p) 6 k n l x ks g r)))
@@ -236,12 +236,12 @@ module _ (ev : List ℕ) where
   -- ---------------------------------------------------------------- the rows that opening a chain writes
 
   open-suc : (n j first b up c : ℕ) (t : List ℕ)
-      → open-rows (suc n) ev j first b up c t ≡ open-rows n ev (j + link ev j) first b up c (put (low (low (first + n) + 1)) (tree-row (low (first + n)) (field ev j EVENT-ARGUMENT) b 0 []) t)
+      → open-rows (suc n) events j first b up c t ≡ open-rows n events (j + link events j) first b up c (put (low (low (first + n) + 1)) (tree-row (low (first + n)) (field events j EVENT-ARGUMENT) b 0 []) t)
   unfolding open-rows
   open-suc n j first b up c t = refl
 
   open-of : (ks : List ℕ) (j k first : ℕ) (T D : List ℕ) (b up n : ℕ) → Chain j k ks → length T ≡ first * TREE-ROW → (length ks + 1) * TREE-ROW ≤ length D → first + length ks + 1 < TWO-TO-32
-      → open-rows (length ks) ev j first b up n (T ++ D) ≡ T ++ (open-numbers first b up n k ks ++ drop ((length ks + 1) * TREE-ROW) D)
+      → open-rows (length ks) events j first b up n (T ++ D) ≡ T ++ (open-numbers first b up n k ks ++ drop ((length ks + 1) * TREE-ROW) D)
   unfolding open-rows
   open-of [] j k first T D b up n c w h sm = rw (c .0) (put-seam first T (tree-row up k b n []) D w refl (omega arith))
   open-of (x ∷ ks) j k first T D b up n c w h sm =
@@ -260,19 +260,19 @@ module _ (ev : List ℕ) where
       let z : m + TREE-ROW ≡ (suc (length ks) + 1) * TREE-ROW = omega arith in
       let dd : drop m D′ ≡ row ++ drop ((suc (length ks) + 1) * TREE-ROW) D =
       drop-at (take m D) (row ++ drop TREE-ROW (drop m D)) m lt ∙ ap (λ l. row ++ l) (drop-drop TREE-ROW m D ∙ ap (λ y. drop y D) z) in
-      let pw : put (low (low (first + length ks) + 1)) (tree-row (low (first + length ks)) (field ev j EVENT-ARGUMENT) b 0 []) (T ++ D) ≡ T ++ D′ = rw (c .0, u, v) pt in
+      let pw : put (low (low (first + length ks) + 1)) (tree-row (low (first + length ks)) (field events j EVENT-ARGUMENT) b 0 []) (T ++ D) ≡ T ++ D′ = rw (c .0, u, v) pt in
       open-suc (length ks) j first b up n (T ++ D)
-      ∙ ap (λ t. open-rows (length ks) ev (j + link ev j) first b up n t) pw
-      ∙ open-of ks (j + link ev j) x first T D′ b up n (c .1 .1) w (omega arith) (omega arith)
+      ∙ ap (λ t. open-rows (length ks) events (j + link events j) first b up n t) pw
+      ∙ open-of ks (j + link events j) x first T D′ b up n (c .1 .1) w (omega arith) (omega arith)
       ∙ ap (λ l. T ++ (open-numbers first b up n x ks ++ l)) dd
       ∙ ap (λ l. T ++ l) (sym (append-assoc (open-numbers first b up n x ks) row (drop ((suc (length ks) + 1) * TREE-ROW) D)))
 
   -- the start of a chain opens its nodes
-  start-at : (ks : List ℕ) (j k : ℕ) (s : Filled) → Chain j k ks → j < length ev / EVENT-ROW → length (s .written) ≡ s .rows * TREE-ROW
-      → (length ks + 1) * TREE-ROW ≤ length (s .free) → s .rows + length ks + 1 < TWO-TO-32 → start-on ev j (state s) ≡ state (open-all k ks s)
+  start-at : (ks : List ℕ) (j k : ℕ) (s : Filled) → Chain j k ks → j < length events / EVENT-ROW → length (s .written) ≡ s .rows * TREE-ROW
+      → (length ks + 1) * TREE-ROW ≤ length (s .free) → s .rows + length ks + 1 < TWO-TO-32 → start-on events j (state s) ≡ state (open-all k ks s)
   unfolding start-on state links
   start-at ks j k s c i w h sm =
-      let n : linksN (length ev / EVENT-ROW) ev j ≡ length ks = chain-links ks j k (length ev / EVENT-ROW) c (omega (arith, chain-bound ks j k i c)) in
+      let n : linksN (length events / EVENT-ROW) events j ≡ length ks = chain-links ks j k (length events / EVENT-ROW) c (omega (arith, chain-bound ks j k i c)) in
       let u : low (length ks) ≡ length ks = low-small (length ks) (omega arith) in
       let v : low (s .rows + length ks) ≡ s .rows + length ks = low-small (s .rows + length ks) (omega arith) in
       let y : low (s .rows + length ks + 1) ≡ s .rows + length ks + 1 = low-small (s .rows + length ks + 1) (omega arith) in
@@ -288,11 +288,11 @@ module _ (ev : List ℕ) where
 
   -- the nodes of a
   pub start-runs : (a : Skeleton) (k n : ℕ) (l : Bool) (x : List ℕ) (j : ℕ) (s : Filled) → Alone a → Chained a
-      → drop (j * EVENT-ROW) ev ≡ encode true a ++ (start-tag a ∷ k ∷ forward l (suc (suc n)) ∷ x) → (l ≡ true → field ev (j + event-count a + suc (suc n)) TAG ≡ LINKED-START-NODE → ⊥)
+      → drop (j * EVENT-ROW) events ≡ encode true a ++ (start-tag a ∷ k ∷ forward l (suc (suc n)) ∷ x) → (l ≡ true → field events (j + event-count a + suc (suc n)) TAG ≡ LINKED-START-NODE → ⊥)
       → length (s .written) ≡ s .rows * TREE-ROW → (depth a + 1) * TREE-ROW ≤ length (s .free) → s .rows + depth a + 1 < TWO-TO-32
-      → start-on ev j (state s) ≡ state (opened a (inside k s))
+      → start-on events j (state s) ≡ state (opened a (inside k s))
   start-runs a k n l x j s h c e r w f sm =
       let d : length (outer a k []) ≡ depth a = outer-length a k [] ∙ (let z : depth a + 0 ≡ depth a = omega arith in z) in
-      let i : j < length ev / EVENT-ROW = ev-inside j (encode true a ++ (start-tag a ∷ k ∷ forward l (suc (suc n)) ∷ x)) e (omega (arith, length-append (encode true a) (start-tag a ∷ k ∷ forward l (suc (suc n)) ∷ x))) in
+      let i : j < length events / EVENT-ROW = ev-inside j (encode true a ++ (start-tag a ∷ k ∷ forward l (suc (suc n)) ∷ x)) e (omega (arith, length-append (encode true a) (start-tag a ∷ k ∷ forward l (suc (suc n)) ∷ x))) in
       start-at (outer a k []) j (inner a k) s (chain-of a k n l x [] j h c e r) i w (omega arith) (omega arith)
       ∙ ap state (opened-all a k [] s)

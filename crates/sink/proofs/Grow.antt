@@ -9,7 +9,7 @@ use lib.Seq.{sets-eq, take-at, drop-at, drop-drop, getD-append-add}
 use borrow.Author.Tests.{le-leb}
 use Rattle.basics.specs.Word.{low}
 use Rattle.definitions.specs.Layout.{TREE-ROW, LEAF, TWO-TO-32}
-use Rattle.definitions.specs.Token.{Token, bytes}
+use Rattle.definitions.specs.Token.{Token, byte-count}
 use Rattle.definitions.specs.Place.{Tree, nil, leaf, _⊕_, width, count, rows, tree-row}
 use Rattle.laws.proofs.Tree.{rows-beside, width-beside, count-beside}
 use Rattle.sink_rows.specs.Rows.{put, number}
@@ -121,11 +121,11 @@ number-seam row j t x e h =
 
 -- ---------------------------------------------------------------- a leaf
 
-module _ (k : ℕ) (ts : List Token) (n w : ℕ) (hn : length ts ≡ n) (hw : bytes ts ≡ w) (s : Filled) (r : Fits (leaf k ts nil) s) where
+module _ (k : ℕ) (ts : List Token) (n w : ℕ) (hn : length ts ≡ n) (hw : byte-count ts ≡ w) (s : Filled) (r : Fits (leaf k ts nil) s) where
   pub leaf-runs : leaf-on k w n (moved (s .cursor + n) (state s)) ≡ state (grow (leaf k ts nil) s)
   unfolding rows width count raw row-count grow state leaf-on
   leaf-runs =
-      let b : low (s .byte + w) ≡ s .byte + (bytes ts + 0) = low-small (s .byte + w) (omega (arith, r .byte)) ∙ (let z : s .byte + w ≡ s .byte + (bytes ts + 0) = omega arith in z) in
+      let b : low (s .byte + w) ≡ s .byte + (byte-count ts + 0) = low-small (s .byte + w) (omega (arith, r .byte)) ∙ (let z : s .byte + w ≡ s .byte + (byte-count ts + 0) = omega arith in z) in
       let m : low (s .rows + 1) ≡ s .rows + 1 = low-small (s .rows + 1) (omega (arith, r .rows)) in
       let c : low (s .children + 1) ≡ s .children + 1 = low-small (s .children + 1) (omega (arith, r .children)) in
       let a : s .cursor + n ≡ s .cursor + (length ts + 0) = omega arith in
@@ -137,5 +137,5 @@ module _ (k : ℕ) (ts : List Token) (n w : ℕ) (hn : length ts ≡ n) (hw : by
         a,
         ← hn,
         ← hw,
-        append-assoc (s .written) (tree-row LEAF k (bytes ts) (length ts) []) (drop TREE-ROW (s .free)),
+        append-assoc (s .written) (tree-row LEAF k (byte-count ts) (length ts) []) (drop TREE-ROW (s .free)),
       )

@@ -21,50 +21,50 @@ leaf-cursor k w n (on s t) = refl
 moved-cursor : (n : ℕ) (x : On) → sink-of (moved n x) .cursor ≡ n
 moved-cursor n (on s t) = refl
 
-token-cursor : (tk : List ℕ) (x : On) → ltb (sink-of x .cursor) (length tk / TOKEN-ROW) ≡ true → sink-of (token-on tk x) .cursor ≡ sink-of x .cursor + 1
+token-cursor : (tokens : List ℕ) (x : On) → ltb (sink-of x .cursor) (length tokens / TOKEN-ROW) ≡ true → sink-of (token-on tokens x) .cursor ≡ sink-of x .cursor + 1
 unfolding token-on
-token-cursor tk x h = rw h (leaf-cursor _ _ _ (moved (sink-of x .cursor + 1) x) ∙ moved-cursor (sink-of x .cursor + 1) x)
+token-cursor tokens x h = rw h (leaf-cursor _ _ _ (moved (sink-of x .cursor + 1) x) ∙ moved-cursor (sink-of x .cursor + 1) x)
 
-trivia-inside : (tk : List ℕ) (i : ℕ) → trivia-here tk i ≡ true → ltb i (length tk / TOKEN-ROW) ≡ true
+trivia-inside : (tokens : List ℕ) (i : ℕ) → trivia-here tokens i ≡ true → ltb i (length tokens / TOKEN-ROW) ≡ true
 unfolding trivia-here
-trivia-inside tk i h = go (ltb i (length tk / TOKEN-ROW)) refl
+trivia-inside tokens i h = go (ltb i (length tokens / TOKEN-ROW)) refl
   where
-    go : (b : Bool) → ltb i (length tk / TOKEN-ROW) ≡ b → ltb i (length tk / TOKEN-ROW) ≡ true
+    go : (b : Bool) → ltb i (length tokens / TOKEN-ROW) ≡ b → ltb i (length tokens / TOKEN-ROW) ≡ true
     go true e = e
     go false e = absurd (false≢true (rw e at h))
 
-pub trivia-lt : (tk : List ℕ) (i : ℕ) → trivia-here tk i ≡ true → i < length tk / TOKEN-ROW
-trivia-lt tk i h = ltb-true _ _ (trivia-inside tk i h)
+pub trivia-lt : (tokens : List ℕ) (i : ℕ) → trivia-here tokens i ≡ true → i < length tokens / TOKEN-ROW
+trivia-lt tokens i h = ltb-true _ _ (trivia-inside tokens i h)
 
-pub trivia-more : (tk : List ℕ) (x : On) → trivia-here tk (sink-of x .cursor) ≡ true → trivia-on tk (token-on tk x) ≡ trivia-on tk x
+pub trivia-more : (tokens : List ℕ) (x : On) → trivia-here tokens (sink-of x .cursor) ≡ true → trivia-on tokens (token-on tokens x) ≡ trivia-on tokens x
 unfolding trivia-on triviaN
-trivia-more tk x h =
-    let i : ltb (sink-of x .cursor) (length tk / TOKEN-ROW) ≡ true = trivia-inside tk (sink-of x .cursor) h in
-    let l : length tk / TOKEN-ROW - sink-of x .cursor ≡ suc (length tk / TOKEN-ROW - (sink-of x .cursor + 1)) = omega flags in
-    rw (token-cursor tk x i, l, h)
+trivia-more tokens x h =
+    let i : ltb (sink-of x .cursor) (length tokens / TOKEN-ROW) ≡ true = trivia-inside tokens (sink-of x .cursor) h in
+    let l : length tokens / TOKEN-ROW - sink-of x .cursor ≡ suc (length tokens / TOKEN-ROW - (sink-of x .cursor + 1)) = omega flags in
+    rw (token-cursor tokens x i, l, h)
 
-pub trivia-done : (tk : List ℕ) (x : On) → trivia-here tk (sink-of x .cursor) ≡ false → trivia-on tk x ≡ x
+pub trivia-done : (tokens : List ℕ) (x : On) → trivia-here tokens (sink-of x .cursor) ≡ false → trivia-on tokens x ≡ x
 unfolding trivia-on triviaN
-trivia-done tk x h = go (length tk / TOKEN-ROW - sink-of x .cursor)
+trivia-done tokens x h = go (length tokens / TOKEN-ROW - sink-of x .cursor)
   where
-    go : (n : ℕ) → triviaN n tk x ≡ x
+    go : (n : ℕ) → triviaN n tokens x ≡ x
     go zero = refl
     go (suc n) = rw (h, triviaN)
 
-pub trivia-again : (tk : List ℕ) (x y g : On) → y ≡ token-on tk x → trivia-here tk (sink-of x .cursor) ≡ true → trivia-on tk x ≡ g → trivia-on tk y ≡ g
-trivia-again tk x y g e h p = ap (λ v. trivia-on tk v) e ∙ trivia-more tk x h ∙ p
+pub trivia-again : (tokens : List ℕ) (x y g : On) → y ≡ token-on tokens x → trivia-here tokens (sink-of x .cursor) ≡ true → trivia-on tokens x ≡ g → trivia-on tokens y ≡ g
+trivia-again tokens x y g e h p = ap (λ v. trivia-on tokens v) e ∙ trivia-more tokens x h ∙ p
 
 -- ---------------------------------------------------------------- events
 
-pub events-again : (n : ℕ) (tk ev : List ℕ) (i : ℕ) (x y g : On) → y ≡ event-on tk ev i x → i < n → eventsN (n - i) tk ev i x ≡ g → eventsN (n - (i + 1)) tk ev (i + 1) y ≡ g
+pub events-again : (n : ℕ) (tokens events : List ℕ) (i : ℕ) (x y g : On) → y ≡ event-on tokens events i x → i < n → eventsN (n - i) tokens events i x ≡ g → eventsN (n - (i + 1)) tokens events (i + 1) y ≡ g
 unfolding eventsN
-events-again n tk ev i x y g e h p =
+events-again n tokens events i x y g e h p =
     let l : n - i ≡ suc (n - (i + 1)) = omega arith in
-    ap (λ v. eventsN (n - (i + 1)) tk ev (i + 1) v) e ∙ sym (ap (λ k. eventsN k tk ev i x) l) ∙ p
+    ap (λ v. eventsN (n - (i + 1)) tokens events (i + 1) v) e ∙ sym (ap (λ k. eventsN k tokens events i x) l) ∙ p
 
-pub events-end : (n : ℕ) (tk ev : List ℕ) (i : ℕ) (x : On) → n ≤ i → eventsN (n - i) tk ev i x ≡ x
+pub events-end : (n : ℕ) (tokens events : List ℕ) (i : ℕ) (x : On) → n ≤ i → eventsN (n - i) tokens events i x ≡ x
 unfolding eventsN
-events-end n tk ev i x h = let l : n - i ≡ 0 = omega arith in rw l
+events-end n tokens events i x h = let l : n - i ≡ 0 = omega arith in rw l
 
-pub events-begin : (n : ℕ) (tk ev : List ℕ) (x : On) → eventsN (n - 0) tk ev 0 x ≡ eventsN n tk ev 0 x
-events-begin n tk ev x = let l : n - 0 ≡ n = omega arith in ap (λ k. eventsN k tk ev 0 x) l
+pub events-begin : (n : ℕ) (tokens events : List ℕ) (x : On) → eventsN (n - 0) tokens events 0 x ≡ eventsN n tokens events 0 x
+events-begin n tokens events x = let l : n - 0 ≡ n = omega arith in ap (λ k. eventsN k tokens events 0 x) l

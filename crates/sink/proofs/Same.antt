@@ -30,57 +30,57 @@ like-leaf k w n j v m (on s t) (on q u) h = record { cursor = h .cursor; rows = 
 like-moved : (n : ℕ) (x y : On) → Like x y → Like (moved n x) (moved n y)
 like-moved n (on s t) (on q u) h = record { cursor = refl; rows = h .rows }
 
-module _ (tk : List ℕ) where
-  like-token : (x y : On) → Like x y → Like (token-on tk x) (token-on tk y)
+module _ (tokens : List ℕ) where
+  like-token : (x y : On) → Like x y → Like (token-on tokens x) (token-on tokens y)
   unfolding token-on
   like-token x y h =
       let a = sink-of y .cursor in
-      rw (h .cursor) (like-cond (ltb a (length tk / TOKEN-ROW)) _ _ _ _ (like-leaf _ _ 1 _ _ 1 (moved (a + 1) x) (moved (a + 1) y) (like-moved (a + 1) x y h)) h)
+      rw (h .cursor) (like-cond (ltb a (length tokens / TOKEN-ROW)) _ _ _ _ (like-leaf _ _ 1 _ _ 1 (moved (a + 1) x) (moved (a + 1) y) (like-moved (a + 1) x y h)) h)
 
-  like-triviaN : (n : ℕ) (x y : On) → Like x y → Like (triviaN n tk x) (triviaN n tk y)
+  like-triviaN : (n : ℕ) (x y : On) → Like x y → Like (triviaN n tokens x) (triviaN n tokens y)
   unfolding triviaN
   like-triviaN zero x y h = h
   like-triviaN (suc n) x y h =
-      like-test (trivia-here tk (sink-of x .cursor)) (trivia-here tk (sink-of y .cursor)) (triviaN n tk (token-on tk x)) x (triviaN n tk (token-on tk y)) y
-      (ap (trivia-here tk) (h .cursor)) (like-triviaN n (token-on tk x) (token-on tk y) (like-token x y h)) h
+      like-test (trivia-here tokens (sink-of x .cursor)) (trivia-here tokens (sink-of y .cursor)) (triviaN n tokens (token-on tokens x)) x (triviaN n tokens (token-on tokens y)) y
+      (ap (trivia-here tokens) (h .cursor)) (like-triviaN n (token-on tokens x) (token-on tokens y) (like-token x y h)) h
 
-  like-trivia : (x y : On) → Like x y → Like (trivia-on tk x) (trivia-on tk y)
+  like-trivia : (x y : On) → Like x y → Like (trivia-on tokens x) (trivia-on tokens y)
   unfolding trivia-on
-  like-trivia x y h = rw (h .cursor) (like-triviaN (length tk / TOKEN-ROW - sink-of y .cursor) x y h)
+  like-trivia x y h = rw (h .cursor) (like-triviaN (length tokens / TOKEN-ROW - sink-of y .cursor) x y h)
 
-  like-combined : (n : ℕ) (x y : On) → Like x y → Like (combined-on tk n x) (combined-on tk n y)
+  like-combined : (n : ℕ) (x y : On) → Like x y → Like (combined-on tokens n x) (combined-on tokens n y)
   unfolding combined-on
   like-combined n x y h =
       let a = sink-of y .cursor in
-      let k = at-most n (length tk / TOKEN-ROW - a) in
+      let k = at-most n (length tokens / TOKEN-ROW - a) in
       rw (h .cursor) (like-leaf _ _ _ _ _ _ (moved (a + k) x) (moved (a + k) y) (like-moved (a + k) x y h))
 
-  like-start : (ev : List ℕ) (i : ℕ) (x y : On) → Like x y → Like (start-on ev i x) (start-on ev i y)
+  like-start : (events : List ℕ) (i : ℕ) (x y : On) → Like x y → Like (start-on events i x) (start-on events i y)
   unfolding start-on
-  like-start ev i (on s t) (on q u) h = record { cursor = h .cursor; rows = ap (λ z. low (low (z + low (links ev i)) + 1)) (h .rows) }
+  like-start events i (on s t) (on q u) h = record { cursor = h .cursor; rows = ap (λ z. low (low (z + low (links events i)) + 1)) (h .rows) }
 
   like-finish : (x y : On) → Like x y → Like (finish-on x) (finish-on y)
   unfolding finish-on
   like-finish (on s t) (on q u) h = record { cursor = h .cursor; rows = h .rows }
 
-  like-event : (ev : List ℕ) (i : ℕ) (x y : On) → Like x y → Like (event-on tk ev i x) (event-on tk ev i y)
+  like-event : (events : List ℕ) (i : ℕ) (x y : On) → Like x y → Like (event-on tokens events i x) (event-on tokens events i y)
   unfolding event-on
-  like-event ev i x y h =
-      let t : Like (trivia-on tk x) (trivia-on tk y) = like-trivia x y h in
-      like-cond (eqb (field ev i TAG) START-NODE) _ _ _ _ (like-start ev i (trivia-on tk x) (trivia-on tk y) t)
-      (like-cond (eqb (field ev i TAG) ADD-TOKEN) _ _ _ _ (like-token (trivia-on tk x) (trivia-on tk y) t)
-      (like-cond (eqb (field ev i TAG) ADD-COMBINED-TOKEN) _ _ _ _ (like-combined (field ev i EVENT-ARGUMENT) (trivia-on tk x) (trivia-on tk y) t)
-      (like-cond (eqb (field ev i TAG) FINISH-NODE) _ _ _ _ (like-finish x y h) h)))
+  like-event events i x y h =
+      let t : Like (trivia-on tokens x) (trivia-on tokens y) = like-trivia x y h in
+      like-cond (eqb (field events i TAG) START-NODE) _ _ _ _ (like-start events i (trivia-on tokens x) (trivia-on tokens y) t)
+      (like-cond (eqb (field events i TAG) ADD-TOKEN) _ _ _ _ (like-token (trivia-on tokens x) (trivia-on tokens y) t)
+      (like-cond (eqb (field events i TAG) ADD-COMBINED-TOKEN) _ _ _ _ (like-combined (field events i EVENT-ARGUMENT) (trivia-on tokens x) (trivia-on tokens y) t)
+      (like-cond (eqb (field events i TAG) FINISH-NODE) _ _ _ _ (like-finish x y h) h)))
 
-  like-events : (n : ℕ) (ev : List ℕ) (i : ℕ) (x y : On) → Like x y → Like (eventsN n tk ev i x) (eventsN n tk ev i y)
+  like-events : (n : ℕ) (events : List ℕ) (i : ℕ) (x y : On) → Like x y → Like (eventsN n tokens events i x) (eventsN n tokens events i y)
   unfolding eventsN
-  like-events zero ev i x y h = h
-  like-events (suc n) ev i x y h = like-events n ev (i + 1) (event-on tk ev i x) (event-on tk ev i y) (like-event ev i x y h)
+  like-events zero events i x y h = h
+  like-events (suc n) events i x y h = like-events n events (i + 1) (event-on tokens events i x) (event-on tokens events i y) (like-event events i x y h)
 
-  pub rows-alike : (k : ℕ) (ev t u : List ℕ) → sink-of (events-on k tk ev t) .rows ≡ sink-of (events-on k tk ev u) .rows
+  pub rows-alike : (k : ℕ) (events t u : List ℕ) → sink-of (events-on k tokens events t) .rows ≡ sink-of (events-on k tokens events u) .rows
   unfolding events-on root-on
-  rows-alike k ev t u =
-      let n = length ev / EVENT-ROW in
-      like-finish (trivia-on tk (eventsN n tk ev 0 (root-on k t))) (trivia-on tk (eventsN n tk ev 0 (root-on k u)))
-      (like-trivia (eventsN n tk ev 0 (root-on k t)) (eventsN n tk ev 0 (root-on k u))
-      (like-events n ev 0 (root-on k t) (root-on k u) (record { cursor = refl; rows = refl }))) .rows
+  rows-alike k events t u =
+      let n = length events / EVENT-ROW in
+      like-finish (trivia-on tokens (eventsN n tokens events 0 (root-on k t))) (trivia-on tokens (eventsN n tokens events 0 (root-on k u)))
+      (like-trivia (eventsN n tokens events 0 (root-on k t)) (eventsN n tokens events 0 (root-on k u))
+      (like-events n events 0 (root-on k t) (root-on k u) (record { cursor = refl; rows = refl }))) .rows

@@ -14,7 +14,7 @@ use Rattle.basics.proofs.TokenRows.{tokens-length, tokens-drop}
 use Rattle.definitions.specs.Layout.{TOKEN-ROW, TOKEN-LENGTH, TREE-ROW, NODE, TWO-TO-32}
 use Rattle.definitions.specs.LexError as L
 use Rattle.definitions.specs.TokenKind as K
-use Rattle.definitions.specs.Token.{Token, tokens-of, is-error, seen, trivia, bytes}
+use Rattle.definitions.specs.Token.{Token, tokens-of, is-error, seen, trivia, byte-count}
 use Rattle.definitions.specs.Place.{Tree, nil, leaf, subtree, _⊕_, lead, front, width, count, rows, tree-row}
 use Rattle.sink_rows.specs.Rows.{PARENT, KIND, FIRST-BYTE, CHILDREN-BEFORE}
 use Rattle.sink_tokens.specs.Tokens.{kind-seen, trivia-here, at-most, widthN}
@@ -46,28 +46,28 @@ first-len (k ∷ n ∷ l) t ts e = ap (λ x. len-of x) e
     len-of [] = 0
     len-of (x ∷ xs) = x .len
 
-module _ (tk : List ℕ) where
+module _ (tokens : List ℕ) where
   -- these are the tokens from an index on
   abbrev pub From : ℕ → List Token → Type 0
-  From at ts = drop at (tokens-of tk) ≡ ts
+  From at ts = drop at (tokens-of tokens) ≡ ts
 
-  pub from-left : (at : ℕ) (ts : List Token) → From at ts → length tk / TOKEN-ROW - at ≡ length ts
-  from-left at ts e = omega (arith, length-drop at (tokens-of tk), ap length e, tokens-length tk)
+  pub from-left : (at : ℕ) (ts : List Token) → From at ts → length tokens / TOKEN-ROW - at ≡ length ts
+  from-left at ts e = omega (arith, length-drop at (tokens-of tokens), ap length e, tokens-length tokens)
 
-  pub from-inside : (at : ℕ) (t : Token) (ts : List Token) → From at (t ∷ ts) → at < length tk / TOKEN-ROW
+  pub from-inside : (at : ℕ) (t : Token) (ts : List Token) → From at (t ∷ ts) → at < length tokens / TOKEN-ROW
   from-inside at t ts e = omega (arith, from-left at (t ∷ ts) e)
 
-  pub from-kind : (at : ℕ) (t : Token) (ts : List Token) → From at (t ∷ ts) → getD tk (at * TOKEN-ROW) 0 ≡ t .kind
+  pub from-kind : (at : ℕ) (t : Token) (ts : List Token) → From at (t ∷ ts) → getD tokens (at * TOKEN-ROW) 0 ≡ t .kind
   from-kind at t ts e =
       let z : at * TOKEN-ROW + 0 ≡ at * TOKEN-ROW = omega arith in
-      let g : getD tk (at * TOKEN-ROW + 0) 0 ≡ t .kind = sym (getD-drop (at * TOKEN-ROW) tk 0 0) ∙ first-kind (drop (at * TOKEN-ROW) tk) t ts (tokens-drop at tk ∙ e) in
+      let g : getD tokens (at * TOKEN-ROW + 0) 0 ≡ t .kind = sym (getD-drop (at * TOKEN-ROW) tokens 0 0) ∙ first-kind (drop (at * TOKEN-ROW) tokens) t ts (tokens-drop at tokens ∙ e) in
       rw z at g
 
-  pub from-len : (at : ℕ) (t : Token) (ts : List Token) → From at (t ∷ ts) → getD tk (at * TOKEN-ROW + TOKEN-LENGTH) 0 ≡ t .len
-  from-len at t ts e = sym (getD-drop (at * TOKEN-ROW) tk 1 0) ∙ first-len (drop (at * TOKEN-ROW) tk) t ts (tokens-drop at tk ∙ e)
+  pub from-len : (at : ℕ) (t : Token) (ts : List Token) → From at (t ∷ ts) → getD tokens (at * TOKEN-ROW + TOKEN-LENGTH) 0 ≡ t .len
+  from-len at t ts e = sym (getD-drop (at * TOKEN-ROW) tokens 1 0) ∙ first-len (drop (at * TOKEN-ROW) tokens) t ts (tokens-drop at tokens ∙ e)
 
   pub from-past : (at n : ℕ) (ts us : List Token) → From at ts → drop n ts ≡ us → From (at + n) us
-  from-past at n ts us e h = sym (drop-drop n at (tokens-of tk)) ∙ ap (λ l. drop n l) e ∙ h
+  from-past at n ts us e h = sym (drop-drop n at (tokens-of tokens)) ∙ ap (λ l. drop n l) e ∙ h
 
   pub from-grown : (f : Tree) (s : Filled) (ts us : List Token) → From (s .cursor) ts → drop (raw f) ts ≡ us → From (grow f s .cursor) us
   unfolding grow
@@ -76,30 +76,30 @@ module _ (tk : List ℕ) where
   -- ---------------------------------------------------------------- a token
 
   token-one : (s : Filled) (t : Token) (ts : List Token) → From (s .cursor) (t ∷ ts) → Fits (leaf (seen t) (t ∷ []) nil) s
-      → token-on tk (state s) ≡ state (grow (leaf (seen t) (t ∷ []) nil) s)
-  unfolding token-on state kind-seen seen is-error bytes
+      → token-on tokens (state s) ≡ state (grow (leaf (seen t) (t ∷ []) nil) s)
+  unfolding token-on state kind-seen seen is-error byte-count
   token-one s t ts e r =
-      rw (lt-ltb (s .cursor) (length tk / TOKEN-ROW) (from-inside (s .cursor) t ts e), from-kind (s .cursor) t ts e, from-len (s .cursor) t ts e)
+      rw (lt-ltb (s .cursor) (length tokens / TOKEN-ROW) (from-inside (s .cursor) t ts e), from-kind (s .cursor) t ts e, from-len (s .cursor) t ts e)
       (leaf-runs (seen t) (t ∷ []) 1 (t .len) refl (omega arith) s r)
 
-  token-none : (s : Filled) → From (s .cursor) [] → token-on tk (state s) ≡ state s
+  token-none : (s : Filled) → From (s .cursor) [] → token-on tokens (state s) ≡ state s
   unfolding token-on state
-  token-none s e = rw (le-ltb (s .cursor) (length tk / TOKEN-ROW) (omega (arith, from-left (s .cursor) [] e)))
+  token-none s e = rw (le-ltb (s .cursor) (length tokens / TOKEN-ROW) (omega (arith, from-left (s .cursor) [] e)))
 
-  pub token-runs : (s : Filled) (ts : List Token) → From (s .cursor) ts → Fits (front ts) s → token-on tk (state s) ≡ state (grow (front ts) s)
+  pub token-runs : (s : Filled) (ts : List Token) → From (s .cursor) ts → Fits (front ts) s → token-on tokens (state s) ≡ state (grow (front ts) s)
   unfolding front
   token-runs s [] e r = token-none s e ∙ ap state (sym (grow-nil s))
   token-runs s (t ∷ ts) e r = token-one s t ts e r
 
   -- ---------------------------------------------------------------- trivia
 
-  trivia-is : (s : Filled) (t : Token) (ts : List Token) (b : Bool) → From (s .cursor) (t ∷ ts) → trivia t ≡ b → trivia-here tk (sink-of (state s) .cursor) ≡ b
+  trivia-is : (s : Filled) (t : Token) (ts : List Token) (b : Bool) → From (s .cursor) (t ∷ ts) → trivia t ≡ b → trivia-here tokens (sink-of (state s) .cursor) ≡ b
   unfolding trivia-here state trivia
-  trivia-is s t ts b e h = rw (lt-ltb (s .cursor) (length tk / TOKEN-ROW) (from-inside (s .cursor) t ts e), from-kind (s .cursor) t ts e) h
+  trivia-is s t ts b e h = rw (lt-ltb (s .cursor) (length tokens / TOKEN-ROW) (from-inside (s .cursor) t ts e), from-kind (s .cursor) t ts e) h
 
-  trivia-over : (s : Filled) → From (s .cursor) [] → trivia-here tk (sink-of (state s) .cursor) ≡ false
+  trivia-over : (s : Filled) → From (s .cursor) [] → trivia-here tokens (sink-of (state s) .cursor) ≡ false
   unfolding trivia-here state
-  trivia-over s e = rw (le-ltb (s .cursor) (length tk / TOKEN-ROW) (omega (arith, from-left (s .cursor) [] e)))
+  trivia-over s e = rw (le-ltb (s .cursor) (length tokens / TOKEN-ROW) (omega (arith, from-left (s .cursor) [] e)))
 
   seen-trivia : (t : Token) → trivia t ≡ true → seen t ≡ t .kind
   unfolding seen is-error trivia
@@ -119,33 +119,33 @@ module _ (tk : List ℕ) where
   unfolding raw
   raw-one k t ts = refl
 
-  pub trivia-runs : (ts : List Token) (s : Filled) → From (s .cursor) ts → Fits (lead ts) s → trivia-on tk (state s) ≡ state (grow (lead ts) s)
+  pub trivia-runs : (ts : List Token) (s : Filled) → From (s .cursor) ts → Fits (lead ts) s → trivia-on tokens (state s) ≡ state (grow (lead ts) s)
   unfolding lead _⊕_
-  trivia-runs [] s e r = trivia-done tk (state s) (trivia-over s e) ∙ ap state (sym (grow-nil s))
+  trivia-runs [] s e r = trivia-done tokens (state s) (trivia-over s e) ∙ ap state (sym (grow-nil s))
   trivia-runs (t ∷ ts) s e r = go (λ q e′ r′. trivia-runs ts q e′ r′) (trivia t) refl r
     where
-      go : ((q : Filled) → From (q .cursor) ts → Fits (lead ts) q → trivia-on tk (state q) ≡ state (grow (lead ts) q)) → (b : Bool) → trivia t ≡ b
-          → Fits (cond b (leaf (t .kind) (t ∷ []) (lead ts)) nil) s → trivia-on tk (state s) ≡ state (grow (cond b (leaf (t .kind) (t ∷ []) (lead ts)) nil) s)
-      go ih false h r = trivia-done tk (state s) (trivia-is s t ts false e h) ∙ ap state (sym (grow-nil s))
+      go : ((q : Filled) → From (q .cursor) ts → Fits (lead ts) q → trivia-on tokens (state q) ≡ state (grow (lead ts) q)) → (b : Bool) → trivia t ≡ b
+          → Fits (cond b (leaf (t .kind) (t ∷ []) (lead ts)) nil) s → trivia-on tokens (state s) ≡ state (grow (cond b (leaf (t .kind) (t ∷ []) (lead ts)) nil) s)
+      go ih false h r = trivia-done tokens (state s) (trivia-is s t ts false e h) ∙ ap state (sym (grow-nil s))
       go ih true h r =
           let f = leaf (t .kind) (t ∷ []) nil in
           let k : seen t ≡ t .kind = seen-trivia t h in
-          let one : token-on tk (state s) ≡ state (grow f s) =
-          subst (λ n. Fits (leaf n (t ∷ []) nil) s → token-on tk (state s) ≡ state (grow (leaf n (t ∷ []) nil) s)) k (token-one s t ts e) (fits-front f (lead ts) s r) in
-          sym (trivia-more tk (state s) (trivia-is s t ts true e h))
-          ∙ ap (λ x. trivia-on tk x) one
+          let one : token-on tokens (state s) ≡ state (grow f s) =
+          subst (λ n. Fits (leaf n (t ∷ []) nil) s → token-on tokens (state s) ≡ state (grow (leaf n (t ∷ []) nil) s)) k (token-one s t ts e) (fits-front f (lead ts) s r) in
+          sym (trivia-more tokens (state s) (trivia-is s t ts true e h))
+          ∙ ap (λ x. trivia-on tokens x) one
           ∙ ih (grow f s) (from-grown f s (t ∷ ts) ts e (raw-one (t .kind) t ts)) (fits-back f (lead ts) s r)
           ∙ ap state (grow-grow f (lead ts) s)
 
   -- ---------------------------------------------------------------- a name
 
-  width-runs : (k : ℕ) (ts : List Token) (at sum : ℕ) → From at ts → k ≤ length ts → sum + bytes (take k ts) < TWO-TO-32 → widthN k tk at sum ≡ sum + bytes (take k ts)
-  unfolding widthN bytes
+  width-runs : (k : ℕ) (ts : List Token) (at sum : ℕ) → From at ts → k ≤ length ts → sum + byte-count (take k ts) < TWO-TO-32 → widthN k tokens at sum ≡ sum + byte-count (take k ts)
+  unfolding widthN byte-count
   width-runs zero ts at sum e h b = omega arith
   width-runs (suc k) [] at sum e h b = absurd (omega arith)
   width-runs (suc k) (t ∷ ts) at sum e h b =
       let l : low (sum + t .len) ≡ sum + t .len = low-small (sum + t .len) (omega arith) in
-      let a : sum + t .len + bytes (take k ts) ≡ sum + (t .len + bytes (take k ts)) = omega arith in
+      let a : sum + t .len + byte-count (take k ts) ≡ sum + (t .len + byte-count (take k ts)) = omega arith in
       rw (from-len at t ts e, l) (width-runs k ts (at + 1) (sum + t .len) (from-past at 1 (t ∷ ts) ts e refl) (omega arith) (omega arith) ∙ a)
 
   take-most : (n : ℕ) (ts : List Token) → take (at-most n (length ts)) ts ≡ take n ts
@@ -172,15 +172,15 @@ module _ (tk : List ℕ) where
       go true h = leb-true n m h
       go false h = omega arith
 
-  pub name-runs : length tk < TWO-TO-32 → (n : ℕ) (s : Filled) (ts : List Token) → From (s .cursor) ts → Fits (leaf K.Name (take n ts) nil) s
-      → combined-on tk n (state s) ≡ state (grow (leaf K.Name (take n ts) nil) s)
+  pub name-runs : length tokens < TWO-TO-32 → (n : ℕ) (s : Filled) (ts : List Token) → From (s .cursor) ts → Fits (leaf K.Name (take n ts) nil) s
+      → combined-on tokens n (state s) ≡ state (grow (leaf K.Name (take n ts) nil) s)
   unfolding combined-on state width
   name-runs small n s ts e r =
       let m = at-most n (length ts) in
-      let z : 0 + bytes (take m ts) ≡ bytes (take n ts) = (let z : 0 + bytes (take m ts) ≡ bytes (take m ts) = omega arith in z) ∙ ap bytes (take-most n ts) in
-      let w : widthN m tk (s .cursor) 0 ≡ bytes (take n ts) = width-runs m ts (s .cursor) 0 e (most-le n (length ts)) (rw z (omega (arith, r .byte))) ∙ z in
+      let z : 0 + byte-count (take m ts) ≡ byte-count (take n ts) = (let z : 0 + byte-count (take m ts) ≡ byte-count (take m ts) = omega arith in z) ∙ ap byte-count (take-most n ts) in
+      let w : widthN m tokens (s .cursor) 0 ≡ byte-count (take n ts) = width-runs m ts (s .cursor) 0 e (most-le n (length ts)) (rw z (omega (arith, r .byte))) ∙ z in
       let l : low m ≡ m = low-small m (omega (arith, most-le n (length ts), from-left (s .cursor) ts e)) in
-      rw (from-left (s .cursor) ts e, w, l) (leaf-runs K.Name (take n ts) m (bytes (take n ts)) (length-most n ts) refl s r)
+      rw (from-left (s .cursor) ts e, w, l) (leaf-runs K.Name (take n ts) m (byte-count (take n ts)) (length-most n ts) refl s r)
 
 -- ---------------------------------------------------------------- the open node
 

@@ -8,7 +8,7 @@ use lib.ListN.{length, take, drop, length-append}
 use lib.Seq.{drop-at}
 use Rattle.definitions.specs.Layout.{TREE-ROW}
 use Rattle.definitions.specs.TokenKind as K
-use Rattle.definitions.specs.Token.{Token, trivia, drop-trivia, past, bytes}
+use Rattle.definitions.specs.Token.{Token, trivia, drop-trivia, past, byte-count}
 use Rattle.definitions.specs.Skeleton.{Skeleton, done, token, name, node, ignored, report, over}
 use Rattle.definitions.specs.Place.{Tree, nil, leaf, subtree, _⊕_, lead, front, after, place, root, width, count, rows}
 use Rattle.laws.proofs.Skeleton.{bytes-append}
@@ -61,8 +61,8 @@ raw-lead ts = raw-covers (lead ts) (drop-trivia ts) ts (lead-whole ts)
 pub raw-place : (o : Skeleton) (ts : List Token) → drop (raw (place o ts)) ts ≡ after o ts
 raw-place o ts = raw-covers (place o ts) (after o ts) ts (place-whole o ts)
 
-bytes-covers : (f : Tree) (us ts : List Token) → leaves f ++ us ≡ ts → width f + bytes us ≡ bytes ts
-bytes-covers f us ts e = omega (arith, width-leaves f, bytes-append (leaves f) us, ap bytes e)
+bytes-covers : (f : Tree) (us ts : List Token) → leaves f ++ us ≡ ts → width f + byte-count us ≡ byte-count ts
+bytes-covers f us ts e = omega (arith, width-leaves f, bytes-append (leaves f) us, ap byte-count e)
 
 length-covers : (f : Tree) (us ts : List Token) → leaves f ++ us ≡ ts → raw f + length us ≡ length ts
 length-covers f us ts e = omega (arith, raw-leaves f, length-append (leaves f) us, ap length e)
@@ -70,7 +70,7 @@ length-covers f us ts e = omega (arith, raw-leaves f, length-append (leaves f) u
 -- ---------------------------------------------------------------- bounds
 
 -- the root is no wider than the tokens
-pub root-width : (k : ℕ) (o : Skeleton) (ts : List Token) → width (root k o ts) ≤ bytes ts
+pub root-width : (k : ℕ) (o : Skeleton) (ts : List Token) → width (root k o ts) ≤ byte-count ts
 unfolding root width
 root-width k o ts =
     omega (

@@ -94,13 +94,13 @@ events-on k tokens events t = finish-on (trivia-on tokens (eventsN (length event
 -- ---------------------------------------------------------------- the whole
 
 -- the answer, the tree rows and the lexical errors
-pub data Left : Type 0 where
-  left : Sunk → List ℕ → List ℕ → Left
+pub data Finished : Type 0 where
+  finished : Sunk → List ℕ → List ℕ → Finished
 
 -- in buffers of so many numbers
-unfoldable pub answered : ℕ → ℕ → On → Log → Left
-answered trees errors (on s t) (log n e) = left (cond (leb (s .rows * TREE-ROW) trees && leb (n * ERROR-ROW) errors) (Written (s .rows) n) NoRoom) t e
+unfoldable pub finished-in : ℕ → ℕ → On → Log → Finished
+finished-in trees errors (on s t) (log n e) = finished (cond (leb (s .rows * TREE-ROW) trees && leb (n * ERROR-ROW) errors) (Written (s .rows) n) NoRoom) t e
 
-unfoldable pub finish-all : ℕ → List ℕ → List ℕ → List ℕ → List ℕ → Left
-unfolding answered events-on errors-on
-finish-all k tokens events t e = answered (length t) (length e) (events-on k tokens events t) (errors-on tokens e)
+unfoldable pub finish-all : ℕ → List ℕ → List ℕ → List ℕ → List ℕ → Finished
+unfolding finished-in events-on errors-on
+finish-all k tokens events t e = finished-in (length t) (length e) (events-on k tokens events t) (errors-on tokens e)

@@ -7,7 +7,7 @@ use mathlib.Core.List.{List, _++_}
 use lib.Dec.{leb}
 use lib.ListN.{length, drop}
 use Rattle.definitions.specs.Layout.{TREE-ROW, ERROR-ROW, TWO-TO-32}
-use Rattle.definitions.specs.Token.{Token, tokens-of, bytes}
+use Rattle.definitions.specs.Token.{Token, tokens-of, byte-count}
 use Rattle.definitions.specs.Skeleton.{Skeleton}
 use Rattle.definitions.specs.Event.{events}
 use Rattle.definitions.specs.Refusal.{no-tree-room, number-of}
@@ -21,7 +21,7 @@ use Rattle.sink.specs.Encode.{Chained}
 -- events and one
 pub record Small (o : Skeleton) (tokens : List ℕ) : Type 0 where
   pub numbers : length tokens < TWO-TO-32
-  pub bytes : bytes (tokens-of tokens) < TWO-TO-32
+  pub bytes : byte-count (tokens-of tokens) < TWO-TO-32
   pub rows : suc (length (tokens-of tokens) + length (events false o)) < TWO-TO-32
 
 -- whether both buffers are long enough: cause 8

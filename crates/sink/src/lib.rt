@@ -13,7 +13,7 @@ ghost use Prim.Native.Nat.{ℕ, _-_, _/_, _≤_};
 ghost use lib.ListN.{length};
 ghost use Rattle.definitions.specs.Layout.{TOKEN-ROW};
 ghost use Rattle.sink.specs.Promise.{Promise};
-ghost use Rattle.sink.specs.Machine.{On, on, leaf-on, token-on, trivia-on, combined-on, start-on, finish-on, event-on, events-on, root-on, Left, left, finish-all};
+ghost use Rattle.sink.specs.Machine.{On, on, leaf-on, token-on, trivia-on, combined-on, start-on, finish-on, event-on, events-on, root-on, finished, finish-all};
 
 pub struct Sink {
     // The raw token that is read next, and its first byte.
@@ -189,8 +189,8 @@ fn all_events(kind: u32, tokens: &[u32], events: &[u32], trees: &mut [u32]) -> S
     finish_node(r, trees)
 }
 
-// `Sink::finish`. The first clause says what is answered and left whatever the events are; the second, that for events that encode
-// a skeleton it is what the definitions say.
+// `Sink::finish`. The first clause says what it answers and what the buffers then hold, whatever the events are; the
+// second, that for events that encode a skeleton it is what the definitions say.
 pub fn finish(
     root_kind: u32,
     tokens: &[u32],
@@ -198,7 +198,7 @@ pub fn finish(
     trees: &mut [u32],
     errors: &mut [u32],
 ) -> Sunk
-    ensures { λ r. ⌜ left r (now (trees .exit)) (now (errors .exit))
+    ensures { λ r. ⌜ finished r (now (trees .exit)) (now (errors .exit))
         ≡ finish-all «root_kind» (now (tokens .entry)) (now (events .entry)) (now (trees .entry)) (now (errors .entry)) ⌝ }
     ensures { λ r. ⌜ Promise «root_kind» (now (tokens .entry)) (now (events .entry)) (now (trees .entry)) (now (errors .entry))
         r (now (trees .exit)) (now (errors .exit)) ⌝ }

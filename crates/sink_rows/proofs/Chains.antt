@@ -22,40 +22,40 @@ stores4 t n a b c d =
 
 -- ---------------------------------------------------------------- links
 
-links-step : (ev : List ℕ) (j m : ℕ) → 0 < link ev j → m < length ev / EVENT-ROW → linksN (length ev / EVENT-ROW - m) ev j ≡ linksN (length ev / EVENT-ROW - (m + 1)) ev (j + link ev j) + 1
+links-step : (events : List ℕ) (j m : ℕ) → 0 < link events j → m < length events / EVENT-ROW → linksN (length events / EVENT-ROW - m) events j ≡ linksN (length events / EVENT-ROW - (m + 1)) events (j + link events j) + 1
 unfolding linksN
-links-step ev j m h k =
-    let l : length ev / EVENT-ROW - m ≡ suc (length ev / EVENT-ROW - (m + 1)) = omega arith in
+links-step events j m h k =
+    let l : length events / EVENT-ROW - m ≡ suc (length events / EVENT-ROW - (m + 1)) = omega arith in
     rw (l, lt-ltb _ _ h)
 
-pub links-end : (n : ℕ) (ev : List ℕ) (j : ℕ) → link ev j ≡ 0 → linksN n ev j ≡ 0
+pub links-end : (n : ℕ) (events : List ℕ) (j : ℕ) → link events j ≡ 0 → linksN n events j ≡ 0
 unfolding linksN
-links-end zero ev j e = refl
-links-end (suc n) ev j e = rw (e, linksN)
+links-end zero events j e = refl
+links-end (suc n) events j e = rw (e, linksN)
 
-pub links-begin : (ev : List ℕ) (j : ℕ) → linksN (length ev / EVENT-ROW - 0) ev j + 0 ≡ links ev j
+pub links-begin : (events : List ℕ) (j : ℕ) → linksN (length events / EVENT-ROW - 0) events j + 0 ≡ links events j
 unfolding links
-links-begin ev j = let l : length ev / EVENT-ROW - 0 ≡ length ev / EVENT-ROW = omega arith in rw l (omega arith)
+links-begin events j = let l : length events / EVENT-ROW - 0 ≡ length events / EVENT-ROW = omega arith in rw l (omega arith)
 
-pub links-again : (ev : List ℕ) (i j m d : ℕ) → linksN (length ev / EVENT-ROW - m) ev j + m ≡ links ev i → d ≡ link ev j → 0 < d → m < length ev / EVENT-ROW
-    → linksN (length ev / EVENT-ROW - (m + 1)) ev (j + d) + (m + 1) ≡ links ev i
-links-again ev i j m d p e h k = let g : 0 < link ev j = omega arith in rw e (omega (arith, links-step ev j m g k))
+pub links-again : (events : List ℕ) (i j m d : ℕ) → linksN (length events / EVENT-ROW - m) events j + m ≡ links events i → d ≡ link events j → 0 < d → m < length events / EVENT-ROW
+    → linksN (length events / EVENT-ROW - (m + 1)) events (j + d) + (m + 1) ≡ links events i
+links-again events i j m d p e h k = let g : 0 < link events j = omega arith in rw e (omega (arith, links-step events j m g k))
 
-pub links-done : (ev : List ℕ) (i j m d n : ℕ) → linksN n ev j + m ≡ links ev i → d ≡ link ev j → d ≡ 0 → m ≡ links ev i
-links-done ev i j m d n p e z = let g : link ev j ≡ 0 = omega arith in omega (arith, links-end n ev j g)
+pub links-done : (events : List ℕ) (i j m d n : ℕ) → linksN n events j + m ≡ links events i → d ≡ link events j → d ≡ 0 → m ≡ links events i
+links-done events i j m d n p e z = let g : link events j ≡ 0 = omega arith in omega (arith, links-end n events j g)
 
 -- ---------------------------------------------------------------- the open rows of a chain
 
-pub open-again : (n : ℕ) (ev : List ℕ) (j first byte parent children up row d k : ℕ) (t u g : List ℕ)
-    → up ≡ low (first + (n - 1)) → row ≡ low (up + 1) → k ≡ field ev j EVENT-ARGUMENT → d ≡ link ev j → u ≡ put row (tree-row up k byte 0 []) t → 0 < n
-    → open-rows n ev j first byte parent children t ≡ g → open-rows (n - 1) ev (j + d) first byte parent children u ≡ g
+pub open-again : (n : ℕ) (events : List ℕ) (j first byte parent children up row d k : ℕ) (t u g : List ℕ)
+    → up ≡ low (first + (n - 1)) → row ≡ low (up + 1) → k ≡ field events j EVENT-ARGUMENT → d ≡ link events j → u ≡ put row (tree-row up k byte 0 []) t → 0 < n
+    → open-rows n events j first byte parent children t ≡ g → open-rows (n - 1) events (j + d) first byte parent children u ≡ g
 unfolding open-rows
-open-again n ev j first byte parent children up row d k t u g e1 e2 e3 e4 e5 h p =
+open-again n events j first byte parent children up row d k t u g e1 e2 e3 e4 e5 h p =
     let l : n ≡ suc (n - 1) = omega arith in
-    rw (e5, e2, e1, e3, e4) (sym (ap (λ m. open-rows m ev j first byte parent children t) l) ∙ p)
+    rw (e5, e2, e1, e3, e4) (sym (ap (λ m. open-rows m events j first byte parent children t) l) ∙ p)
 
-pub open-end : (n : ℕ) (ev : List ℕ) (j first byte parent children k : ℕ) (t u g : List ℕ)
-    → k ≡ field ev j EVENT-ARGUMENT → u ≡ put first (tree-row parent k byte children []) t → n ≡ 0
-    → open-rows n ev j first byte parent children t ≡ g → u ≡ g
+pub open-end : (n : ℕ) (events : List ℕ) (j first byte parent children k : ℕ) (t u g : List ℕ)
+    → k ≡ field events j EVENT-ARGUMENT → u ≡ put first (tree-row parent k byte children []) t → n ≡ 0
+    → open-rows n events j first byte parent children t ≡ g → u ≡ g
 unfolding open-rows
-open-end n ev j first byte parent children k t u g e1 e2 z p = rw (e2, e1) (sym (ap (λ m. open-rows m ev j first byte parent children t) z) ∙ p)
+open-end n events j first byte parent children k t u g e1 e2 z p = rw (e2, e1) (sym (ap (λ m. open-rows m events j first byte parent children t) z) ∙ p)

@@ -19,29 +19,29 @@ stores3 t n a b c =
 
 -- ---------------------------------------------------------------- the bytes of a run
 
-width-step : (n : ℕ) (tk : List ℕ) (at sum : ℕ) → 0 < n → widthN n tk at sum ≡ widthN (n - 1) tk (at + 1) (low (sum + getD tk (at * TOKEN-ROW + TOKEN-LENGTH) 0))
+width-step : (n : ℕ) (tokens : List ℕ) (at sum : ℕ) → 0 < n → widthN n tokens at sum ≡ widthN (n - 1) tokens (at + 1) (low (sum + getD tokens (at * TOKEN-ROW + TOKEN-LENGTH) 0))
 unfolding widthN
-width-step n tk at sum h = let l : n ≡ suc (n - 1) = omega arith in ap (λ k. widthN k tk at sum) l
+width-step n tokens at sum h = let l : n ≡ suc (n - 1) = omega arith in ap (λ k. widthN k tokens at sum) l
 
-pub width-again : (n : ℕ) (tk : List ℕ) (at sum w g : ℕ) → w ≡ low (sum + getD tk (at * TOKEN-ROW + TOKEN-LENGTH) 0) → 0 < n → widthN n tk at sum ≡ g → widthN (n - 1) tk (at + 1) w ≡ g
-width-again n tk at sum w g e h p = ap (λ v. widthN (n - 1) tk (at + 1) v) e ∙ sym (width-step n tk at sum h) ∙ p
+pub width-again : (n : ℕ) (tokens : List ℕ) (at sum w g : ℕ) → w ≡ low (sum + getD tokens (at * TOKEN-ROW + TOKEN-LENGTH) 0) → 0 < n → widthN n tokens at sum ≡ g → widthN (n - 1) tokens (at + 1) w ≡ g
+width-again n tokens at sum w g e h p = ap (λ v. widthN (n - 1) tokens (at + 1) v) e ∙ sym (width-step n tokens at sum h) ∙ p
 
-pub width-end : (n : ℕ) (tk : List ℕ) (at sum : ℕ) → n ≡ 0 → widthN n tk at sum ≡ sum
+pub width-end : (n : ℕ) (tokens : List ℕ) (at sum : ℕ) → n ≡ 0 → widthN n tokens at sum ≡ sum
 unfolding widthN
-width-end n tk at sum e = rw e
+width-end n tokens at sum e = rw e
 
 -- ---------------------------------------------------------------- lexical errors
 
-pub errors-again : (n : ℕ) (tk : List ℕ) (at byte end : ℕ) (x y g : Log) → end ≡ low (byte + getD tk (at * TOKEN-ROW + TOKEN-LENGTH) 0) → y ≡ logged (getD tk (at * TOKEN-ROW) 0) byte end x → at < n
-    → errorsN (n - at) tk at byte x ≡ g → errorsN (n - (at + 1)) tk (at + 1) end y ≡ g
+pub errors-again : (n : ℕ) (tokens : List ℕ) (at byte end : ℕ) (x y g : Log) → end ≡ low (byte + getD tokens (at * TOKEN-ROW + TOKEN-LENGTH) 0) → y ≡ logged (getD tokens (at * TOKEN-ROW) 0) byte end x → at < n
+    → errorsN (n - at) tokens at byte x ≡ g → errorsN (n - (at + 1)) tokens (at + 1) end y ≡ g
 unfolding errorsN
-errors-again n tk at byte end x y g e f h p =
+errors-again n tokens at byte end x y g e f h p =
     let l : n - at ≡ suc (n - (at + 1)) = omega arith in
-    rw (f, e) (sym (ap (λ k. errorsN k tk at byte x) l) ∙ p)
+    rw (f, e) (sym (ap (λ k. errorsN k tokens at byte x) l) ∙ p)
 
-pub errors-end : (n : ℕ) (tk : List ℕ) (at byte : ℕ) (x : Log) → n ≤ at → errorsN (n - at) tk at byte x ≡ x
+pub errors-end : (n : ℕ) (tokens : List ℕ) (at byte : ℕ) (x : Log) → n ≤ at → errorsN (n - at) tokens at byte x ≡ x
 unfolding errorsN
-errors-end n tk at byte x h = let l : n - at ≡ 0 = omega arith in rw l
+errors-end n tokens at byte x h = let l : n - at ≡ 0 = omega arith in rw l
 
-pub errors-begin : (n : ℕ) (tk : List ℕ) (x : Log) → errorsN (n - 0) tk 0 0 x ≡ errorsN n tk 0 0 x
-errors-begin n tk x = let l : n - 0 ≡ n = omega arith in ap (λ k. errorsN k tk 0 0 x) l
+pub errors-begin : (n : ℕ) (tokens : List ℕ) (x : Log) → errorsN (n - 0) tokens 0 0 x ≡ errorsN n tokens 0 0 x
+errors-begin n tokens x = let l : n - 0 ≡ n = omega arith in ap (λ k. errorsN k tokens 0 0 x) l

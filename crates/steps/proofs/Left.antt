@@ -9,11 +9,11 @@ use Rattle.parser.specs.View.{left}
 use Rattle.parser.specs.declared.State.{State}
 
 -- fewer tokens left as the code counts them are fewer as the machine does
-pub ahead-falls : (tk : List ℕ) (s s′ : State) → left tk s′ < left tk s → length (drop (s′ .cursor .0) (tokens-of tk)) < length (drop (s .cursor .0) (tokens-of tk))
+pub ahead-falls : (tokens : List ℕ) (s s′ : State) → left tokens s′ < left tokens s → length (drop (s′ .cursor .0) (tokens-of tokens)) < length (drop (s .cursor .0) (tokens-of tokens))
 unfolding left
-ahead-falls tk s s′ h = omega (arith, length-drop (s .cursor .0) (tokens-of tk), length-drop (s′ .cursor .0) (tokens-of tk), tokens-length tk, h)
+ahead-falls tokens s s′ h = omega (arith, length-drop (s .cursor .0) (tokens-of tokens), length-drop (s′ .cursor .0) (tokens-of tokens), tokens-length tokens, h)
 
 -- a token that the machine has left is one that the code has
-pub some-left : (tk : List ℕ) (s : State) → 0 < length (drop (s .cursor .0) (tokens-of tk)) → 0 < left tk s
+pub some-left : (tokens : List ℕ) (s : State) → 0 < length (drop (s .cursor .0) (tokens-of tokens)) → 0 < left tokens s
 unfolding left
-some-left tk s h = omega (arith, tokens-length tk, length-drop (s .cursor .0) (tokens-of tk), h)
+some-left tokens s h = omega (arith, tokens-length tokens, length-drop (s .cursor .0) (tokens-of tokens), h)

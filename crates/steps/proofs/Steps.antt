@@ -19,14 +19,14 @@ use Rattle.definitions.specs.Check as C
 use Rattle.definitions.specs.Run.{truth, is-again}
 use Rattle.machine.specs.Machine.{Machine, rest, peek, push, range-at}
 use Rattle.machine.specs.Machine as M
-use Rattle.machine.specs.Walk.{Walked, said, perform, choose, marker, close, closed, walk}
+use Rattle.machine.specs.Walk.{Walked, said, perform, choose, next-marker, close, marked, walk}
 use lib.Dec.{ltb}
 use Rattle.machine.proofs.Turns.{ahead, Few, peek-ahead, refuse-ahead, turn-again, turn-last}
 use Rattle.parser.specs.declared.StateAnswered.{StateAnswered}
 use Rattle.parser.specs.declared.State.{State}
 use Rattle.parser.specs.declared.ParserTested.{ParserTested}
 use Rattle.parser.specs.declared.ParserAnswered.{ParserAnswered}
-use Rattle.parser.specs.declared.Ans.{Ans as Answered}
+use Rattle.parser.specs.declared.Ans.{Ans as CodeAns}
 use Rattle.parser.specs.declared.Ans.the-variants as A
 use Rattle.parser.proofs.Ans.{the-type}
 use Rattle.parser.specs.View.{view, view-of, parser-tested, ans-of, Starting, by-answer, starting}
@@ -46,24 +46,24 @@ module _ {ask : Rule → Machine → Walked} {ts : List Token} {b : Span} where
 
   -- by the answer that a match has told
   module _ {c n y a : Prog} {m x : Machine} {s : ℕ} {w : Walked} where
-    pub c-answer : (v : Ans) (r : Answered) → Way ask ts b c m (record { ans = ans-of r; shape = s; on = x }) → ans-of r ≡ v → w ≡ choose v (walk ask ts b n) (walk ask ts b y) (walk ask ts b a) x → Way ask ts b (case c n y a) m w
+    pub c-answer : (v : Ans) (r : CodeAns) → Way ask ts b c m (record { ans = ans-of r; shape = s; on = x }) → ans-of r ≡ v → w ≡ choose v (walk ask ts b n) (walk ask ts b y) (walk ask ts b a) x → Way ask ts b (case c n y a) m w
     c-answer v r e h f = c-case e (f ∙ sym (ap (λ (v : Ans). choose v (walk ask ts b n) (walk ask ts b y) (walk ask ts b a) x) h))
 
-    pub c-said-no : (r : Answered) → Way ask ts b c m (record { ans = ans-of r; shape = s; on = x }) → ans-of r ≡ no → Way ask ts b n x w → Way ask ts b (case c n y a) m w
+    pub c-said-no : (r : CodeAns) → Way ask ts b c m (record { ans = ans-of r; shape = s; on = x }) → ans-of r ≡ no → Way ask ts b n x w → Way ask ts b (case c n y a) m w
     unfolding choose
     c-said-no r e h f = c-answer no r e h (f .is)
 
-    pub c-said-yes : (r : Answered) → Way ask ts b c m (record { ans = ans-of r; shape = s; on = x }) → ans-of r ≡ yes → Way ask ts b y x w → Way ask ts b (case c n y a) m w
+    pub c-said-yes : (r : CodeAns) → Way ask ts b c m (record { ans = ans-of r; shape = s; on = x }) → ans-of r ≡ yes → Way ask ts b y x w → Way ask ts b (case c n y a) m w
     unfolding choose
     c-said-yes r e h f = c-answer yes r e h (f .is)
 
-    pub c-said-also : (r : Answered) → Way ask ts b c m (record { ans = ans-of r; shape = s; on = x }) → ans-of r ≡ also → Way ask ts b a x w → Way ask ts b (case c n y a) m w
+    pub c-said-also : (r : CodeAns) → Way ask ts b c m (record { ans = ans-of r; shape = s; on = x }) → ans-of r ≡ also → Way ask ts b a x w → Way ask ts b (case c n y a) m w
     unfolding choose
     c-said-also r e h f = c-answer also r e h (f .is)
 
 -- `eat_starting`, by the answer of its test
 abbrev started : (Rule → Machine → Walked) → List Token → Span → Ans → C.Matcher → Machine → Starting
-started ask ts b v k x = by-answer v (record { yes = false; marker = marker START-NODE x; on = x }) (record { yes = true; marker = marker START-NODE x; on = walk ask ts b (k .consume) (push PLACEHOLDER 0 x) .on })
+started ask ts b v k x = by-answer v (record { yes = false; marker = next-marker START-NODE x; on = x }) (record { yes = true; marker = next-marker START-NODE x; on = walk ask ts b (k .consume) (push PLACEHOLDER 0 x) .on })
 
 module _ {ask : Rule → Machine → Walked} {ts : List Token} {b : Span} (k : C.Matcher) where
   pub c-started : {p q : Prog} {m x : Machine} {z : M.Marker} {t : Bool} {v w : Walked} → starting ask ts b k m ≡ record { yes = t; marker = z; on = x } → t ≡ true → Way ask ts b p x v → Closes z v w
@@ -75,9 +75,9 @@ module _ {ask : Rule → Machine → Walked} {ts : List Token} {b : Span} (k : C
       go : (a : Ans) (y : Machine) → started ask ts b a k y ≡ record { yes = true; marker = z; on = x }
           → w ≡ choose a (walk ask ts b q) (walk ask ts b (in-marker (k .consume ⨟ p))) (walk ask ts b (in-marker (k .consume ⨟ p))) y
       go no y i = absurd (false≢true (ap (λ (r : Starting). r .yes) i))
-      go yes y i = g .is ∙ sym (ap (λ (r : Starting). closed (r .marker) v) i) ∙ ap (closed (marker START-NODE y)) (f .is ∙ sym (ap (λ (r : Starting). walk ask ts b p (r .on)) i))
-      go also y i = g .is ∙ sym (ap (λ (r : Starting). closed (r .marker) v) i) ∙ ap (closed (marker START-NODE y)) (f .is ∙ sym (ap (λ (r : Starting). walk ask ts b p (r .on)) i))
-      go again y i = g .is ∙ sym (ap (λ (r : Starting). closed (r .marker) v) i) ∙ ap (closed (marker START-NODE y)) (f .is ∙ sym (ap (λ (r : Starting). walk ask ts b p (r .on)) i))
+      go yes y i = g .is ∙ sym (ap (λ (r : Starting). marked (r .marker) v) i) ∙ ap (marked (next-marker START-NODE y)) (f .is ∙ sym (ap (λ (r : Starting). walk ask ts b p (r .on)) i))
+      go also y i = g .is ∙ sym (ap (λ (r : Starting). marked (r .marker) v) i) ∙ ap (marked (next-marker START-NODE y)) (f .is ∙ sym (ap (λ (r : Starting). walk ask ts b p (r .on)) i))
+      go again y i = g .is ∙ sym (ap (λ (r : Starting). marked (r .marker) v) i) ∙ ap (marked (next-marker START-NODE y)) (f .is ∙ sym (ap (λ (r : Starting). walk ask ts b p (r .on)) i))
 
   pub c-unstarted : {p q : Prog} {m x : Machine} {z : M.Marker} {t : Bool} {w : Walked} → starting ask ts b k m ≡ record { yes = t; marker = z; on = x } → t ≡ false → Way ask ts b q x w
       → Way ask ts b (case (at k) q (in-marker (k .consume ⨟ p)) (in-marker (k .consume ⨟ p))) m w
@@ -96,10 +96,10 @@ module _ {ask : Rule → Machine → Walked} {ts : List Token} {b : Span} (k : C
 
 -- a turn whose answer a match has told
 module _ {ask : Rule → Machine → Walked} {ts : List Token} {b : Span} {p : Prog} {m m′ : Machine} where
-  pub went-told : (r : Answered) → Way ask ts b p m (said (ans-of r) m′) → ans-of r ≡ again → ahead ts m′ < ahead ts m → walk ask ts b (loop p) m′ ≡ walk ask ts b (loop p) m
+  pub went-told : (r : CodeAns) → Way ask ts b p m (said (ans-of r) m′) → ans-of r ≡ again → ahead ts m′ < ahead ts m → walk ask ts b (loop p) m′ ≡ walk ask ts b (loop p) m
   went-told r w h l = turn-again ask ts b p m m′ (sym (ap (λ (a : Ans). said a m′) h) ∙ w .is) l
 
-  pub ended-told : (r : Answered) → Way ask ts b p m (said (ans-of r) m′) → is-again (ans-of r) ≡ false → said (ans-of r) m′ ≡ walk ask ts b (loop p) m
+  pub ended-told : (r : CodeAns) → Way ask ts b p m (said (ans-of r) m′) → is-again (ans-of r) ≡ false → said (ans-of r) m′ ≡ walk ask ts b (loop p) m
   ended-told r w h = turn-last ask ts b p m m′ (ans-of r) h (w .is)
 
 -- ---------------------------------------------------------------- the tokens left where a test held
@@ -119,7 +119,7 @@ pub answered-yes : (r : ParserAnswered) (k : ParserTested) (events reports pool 
 answered-yes r k events reports pool e f h = answered-is r k events reports pool e f ∙ ap (λ (t : Bool). said (truth t) (view-of (k .p) events reports pool)) h
 
 -- what the last arm of a match is told where the others are for `Again`
-pub other-ends : (a : Answered) → OneOf (0 ∷ 1 ∷ 2 ∷ []) (tagOf the-type a) → is-again (ans-of a) ≡ false
+pub other-ends : (a : CodeAns) → OneOf (0 ∷ 1 ∷ 2 ∷ []) (tagOf the-type a) → is-again (ans-of a) ≡ false
 unfolding is-again
 other-ends A.No h = refl
 other-ends A.Yes h = refl
@@ -132,13 +132,13 @@ other-ends A.Again h = absurd (none h)
     none (inr (inr i)) = omega (arith, i)
 
 -- at most one token is sure
-pub goes-one : (a : Answered) → goes a ≤ 1
+pub goes-one : (a : CodeAns) → goes a ≤ 1
 goes-one A.No = omega arith
 goes-one A.Yes = omega arith
 goes-one A.Also = omega arith
 goes-one A.Again = omega arith
 
-pub found-one : (a : Answered) → found a ≤ 1
+pub found-one : (a : CodeAns) → found a ≤ 1
 found-one A.No = omega arith
 found-one A.Yes = omega arith
 found-one A.Also = omega arith
@@ -163,12 +163,12 @@ module _ {ask : Rule → Machine → Walked} {ts : List Token} {b : Span} where
   c-any = record { is = refl }
 
 -- a marker closed by the function that it is handed to
-pub closing : {k : M.Marker} {v w : Walked} → w ≡ closed k v → Closes k v w
+pub closing : {k : M.Marker} {v w : Walked} → w ≡ marked k v → Closes k v w
 closing e = record { is = e }
 
 -- a marker ignored
 pub ignored : {k : M.Marker} {a : Ans} {m x : Machine} → x ≡ push PLACEHOLDER 0 m → Closes k (record { ans = a; shape = 0; on = m }) (said a x)
-unfolding closed close
+unfolding marked close
 ignored {a = a} e = record { is = ap (said a) e }
 
 -- ---------------------------------------------------------------- takes that held: a token was there

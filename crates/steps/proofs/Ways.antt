@@ -12,7 +12,7 @@ use Rattle.definitions.specs.Errors as E
 use Rattle.definitions.specs.Prog.{Ans, no, yes, again, Rule, emit-unclosed, Prog, act, case, in-marker, loop}
 use Rattle.definitions.specs.Run.{truth, is-again}
 use Rattle.machine.specs.Machine.{Machine, Marker, push, complete, emit}
-use Rattle.machine.specs.Walk.{Walked, said, perform, choose, marker, close, closed, walk}
+use Rattle.machine.specs.Walk.{Walked, said, perform, choose, next-marker, close, marked, walk}
 use Rattle.machine.proofs.Turns.{ahead, turn-again, turn-last}
 use Rattle.machine.proofs.Way.{Way, Closes}
 
@@ -54,15 +54,15 @@ module _ {ask : Rule → Machine → Walked} {ts : List Token} {b : Span} where
 
   -- ---------------------------------------------------------------- markers: k, the marker; s, after its start; r, after its end
 
-  pub completes : {p : Prog} {m s x r : Machine} {k : Marker} {kind : ℕ} {a : Ans} → 0 < kind → k ≡ marker START-NODE m → s ≡ push PLACEHOLDER 0 m
+  pub completes : {p : Prog} {m s x r : Machine} {k : Marker} {kind : ℕ} {a : Ans} → 0 < kind → k ≡ next-marker START-NODE m → s ≡ push PLACEHOLDER 0 m
       → Way ask ts b p s (record { ans = a; shape = kind; on = x }) → r ≡ complete k kind x → Way ask ts b (in-marker p) m (said a r)
-  unfolding walk closed close
+  unfolding walk marked close
   completes {kind = zero} h e f g i = absurd (omega (arith, h))
   completes {p = p} {m = m} {x = x} {kind = suc n} {a = a} h e f g i =
       record {
         is =
-            ap (said a) (i ∙ ap (λ (z : Marker). complete z (suc n) x) e) ∙ ap (closed (marker START-NODE m)) (g .is)
-            ∙ ap (λ (y : Machine). closed (marker START-NODE m) (walk ask ts b p y)) f;
+            ap (said a) (i ∙ ap (λ (z : Marker). complete z (suc n) x) e) ∙ ap (marked (next-marker START-NODE m)) (g .is)
+            ∙ ap (λ (y : Machine). marked (next-marker START-NODE m) (walk ask ts b p y)) f;
       }
 
   -- ---------------------------------------------------------------- loops
@@ -83,8 +83,8 @@ module _ {ask : Rule → Machine → Walked} {ts : List Token} {b : Span} where
   -- ---------------------------------------------------------------- a caller's marker, a flag, a brace
 
   -- a function that closes its caller's marker
-  pub closes-to : {p : Prog} {k : Marker} {m : Machine} {v w : Walked} → Way ask ts b p m v → Closes k v w → w ≡ closed k (walk ask ts b p m)
-  closes-to {k = k} f g = g .is ∙ ap (closed k) (f .is)
+  pub closes-to : {p : Prog} {k : Marker} {m : Machine} {v w : Walked} → Way ask ts b p m v → Closes k v w → w ≡ marked k (walk ask ts b p m)
+  closes-to {k = k} f g = g .is ∙ ap (marked k) (f .is)
 
   -- a program that a flag chooses
   pub c-flag : (p : Bool → Prog) {t v : Bool} {m : Machine} {w : Walked} → t ≡ v → Way ask ts b (p v) m w → Way ask ts b (p t) m w

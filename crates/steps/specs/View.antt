@@ -7,7 +7,7 @@ use Rattle.machine.specs.Walk.{Walked, said}
 use Rattle.parser.specs.View.{view, view-of, ans-of}
 use Rattle.parser.specs.declared.StateAnswered.{StateAnswered}
 use Rattle.parser.specs.declared.ParserAnswered.{ParserAnswered}
-use Rattle.parser.specs.declared.Ans.{Ans as Answered}
+use Rattle.parser.specs.declared.Ans.{Ans as CodeAns}
 use Rattle.parser.specs.declared.Ans.the-variants.{No, Yes, Also, Again}
 
 -- an answer, and the machine after it
@@ -24,14 +24,14 @@ own-name true = also
 own-name false = yes
 
 -- how many tokens were surely taken where a function answers so: one for `Again`
-abbrev pub goes : Answered → ℕ
+abbrev pub goes : CodeAns → ℕ
 goes No = 0
 goes Yes = 0
 goes Also = 0
 goes Again = 1
 
 -- the same: one for any answer but `No`
-abbrev pub found : Answered → ℕ
+abbrev pub found : CodeAns → ℕ
 found No = 0
 found Yes = 1
 found Also = 1

@@ -19,21 +19,21 @@ use Rattle.token_rows.specs.Tokens.{END, kind-of, trivia-first}
 
 -- ---------------------------------------------------------------- in and past the rows
 
-pub kind-in : (tk : List ℕ) (i : ℕ) → i < length tk / TOKEN-ROW → kind-of (drop i (tokens-of tk)) ≡ seen (token-at tk i)
+pub kind-in : (tokens : List ℕ) (i : ℕ) → i < length tokens / TOKEN-ROW → kind-of (drop i (tokens-of tokens)) ≡ seen (token-at tokens i)
 unfolding kind-of
-kind-in tk i h = ap kind-of (tokens-cons tk i h)
+kind-in tokens i h = ap kind-of (tokens-cons tokens i h)
 
-pub kind-past : (tk : List ℕ) (i : ℕ) → length tk / TOKEN-ROW ≤ i → kind-of (drop i (tokens-of tk)) ≡ END
+pub kind-past : (tokens : List ℕ) (i : ℕ) → length tokens / TOKEN-ROW ≤ i → kind-of (drop i (tokens-of tokens)) ≡ END
 unfolding kind-of
-kind-past tk i h = ap kind-of (tokens-end tk i h)
+kind-past tokens i h = ap kind-of (tokens-end tokens i h)
 
-pub first-in-rows : (ks : List ℕ) (tk : List ℕ) (i : ℕ) → i < length tk / TOKEN-ROW → first-in ks (drop i (tokens-of tk)) ≡ one-of ks (kind-of (drop i (tokens-of tk)))
+pub first-in-rows : (ks : List ℕ) (tokens : List ℕ) (i : ℕ) → i < length tokens / TOKEN-ROW → first-in ks (drop i (tokens-of tokens)) ≡ one-of ks (kind-of (drop i (tokens-of tokens)))
 unfolding first-in kind-of
-first-in-rows ks tk i h = ap (first-in ks) (tokens-cons tk i h) ∙ sym (ap (one-of ks) (kind-in tk i h))
+first-in-rows ks tokens i h = ap (first-in ks) (tokens-cons tokens i h) ∙ sym (ap (one-of ks) (kind-in tokens i h))
 
-pub first-past-rows : (ks : List ℕ) (tk : List ℕ) (i : ℕ) → length tk / TOKEN-ROW ≤ i → false ≡ first-in ks (drop i (tokens-of tk))
+pub first-past-rows : (ks : List ℕ) (tokens : List ℕ) (i : ℕ) → length tokens / TOKEN-ROW ≤ i → false ≡ first-in ks (drop i (tokens-of tokens))
 unfolding first-in
-first-past-rows ks tk i h = sym (ap (first-in ks) (tokens-end tk i h))
+first-past-rows ks tokens i h = sym (ap (first-in ks) (tokens-end tokens i h))
 
 pub one-of-one : (k x : ℕ) → one-of (k ∷ []) x ≡ eqb k x
 unfolding one-of
@@ -43,8 +43,8 @@ one-of-one k x = go (eqb k x)
     go true = refl
     go false = refl
 
-pub past-rows : (tk : List ℕ) (i : ℕ) → i < length tk / TOKEN-ROW → past (drop i (tokens-of tk)) ≡ drop (i + 1) (tokens-of tk)
-past-rows tk i h = ap past (tokens-cons tk i h)
+pub past-rows : (tokens : List ℕ) (i : ℕ) → i < length tokens / TOKEN-ROW → past (drop i (tokens-of tokens)) ≡ drop (i + 1) (tokens-of tokens)
+past-rows tokens i h = ap past (tokens-cons tokens i h)
 
 -- ---------------------------------------------------------------- what is seen of a row
 
@@ -56,55 +56,55 @@ seen-error : (t : Token) → ltb (t .kind) L.UnexpectedEndIncbin ≡ false → K
 unfolding seen is-error
 seen-error t e = rw (le-leb L.UnexpectedEndIncbin (t .kind) (ltb-false _ _ e))
 
-pub kind-plain : (tk : List ℕ) (i : ℕ) → i < length tk / TOKEN-ROW → ltb (getD tk (i * TOKEN-ROW) 0) L.UnexpectedEndIncbin ≡ true → getD tk (i * TOKEN-ROW) 0 ≡ kind-of (drop i (tokens-of tk))
-kind-plain tk i h e = seen-plain (token-at tk i) e ∙ sym (kind-in tk i h)
+pub kind-plain : (tokens : List ℕ) (i : ℕ) → i < length tokens / TOKEN-ROW → ltb (getD tokens (i * TOKEN-ROW) 0) L.UnexpectedEndIncbin ≡ true → getD tokens (i * TOKEN-ROW) 0 ≡ kind-of (drop i (tokens-of tokens))
+kind-plain tokens i h e = seen-plain (token-at tokens i) e ∙ sym (kind-in tokens i h)
 
-pub kind-error : (tk : List ℕ) (i : ℕ) → i < length tk / TOKEN-ROW → ltb (getD tk (i * TOKEN-ROW) 0) L.UnexpectedEndIncbin ≡ false → K.Unrecognized ≡ kind-of (drop i (tokens-of tk))
-kind-error tk i h e = seen-error (token-at tk i) e ∙ sym (kind-in tk i h)
+pub kind-error : (tokens : List ℕ) (i : ℕ) → i < length tokens / TOKEN-ROW → ltb (getD tokens (i * TOKEN-ROW) 0) L.UnexpectedEndIncbin ≡ false → K.Unrecognized ≡ kind-of (drop i (tokens-of tokens))
+kind-error tokens i h e = seen-error (token-at tokens i) e ∙ sym (kind-in tokens i h)
 
 -- k: what is looked for. x: what is seen
-pub is-at-rows : (tk : List ℕ) (i k x : ℕ) → i < length tk / TOKEN-ROW → x ≡ kind-of (drop i (tokens-of tk)) → eqb k x ≡ first-in (k ∷ []) (drop i (tokens-of tk))
-is-at-rows tk i k x h e = ap (eqb k) e ∙ sym (one-of-one k (kind-of (drop i (tokens-of tk)))) ∙ sym (first-in-rows (k ∷ []) tk i h)
+pub is-at-rows : (tokens : List ℕ) (i k x : ℕ) → i < length tokens / TOKEN-ROW → x ≡ kind-of (drop i (tokens-of tokens)) → eqb k x ≡ first-in (k ∷ []) (drop i (tokens-of tokens))
+is-at-rows tokens i k x h e = ap (eqb k) e ∙ sym (one-of-one k (kind-of (drop i (tokens-of tokens)))) ∙ sym (first-in-rows (k ∷ []) tokens i h)
 
-pub is-one-of-rows : (tk ks : List ℕ) (i x : ℕ) (b : Bool) → i < length tk / TOKEN-ROW → x ≡ kind-of (drop i (tokens-of tk)) → b ≡ one-of ks x → b ≡ first-in ks (drop i (tokens-of tk))
-is-one-of-rows tk ks i x b h e f = f ∙ ap (one-of ks) e ∙ sym (first-in-rows ks tk i h)
+pub is-one-of-rows : (tokens ks : List ℕ) (i x : ℕ) (b : Bool) → i < length tokens / TOKEN-ROW → x ≡ kind-of (drop i (tokens-of tokens)) → b ≡ one-of ks x → b ≡ first-in ks (drop i (tokens-of tokens))
+is-one-of-rows tokens ks i x b h e f = f ∙ ap (one-of ks) e ∙ sym (first-in-rows ks tokens i h)
 
-pub is-next-rows : (tk : List ℕ) (i k : ℕ) (b : Bool) → i < length tk / TOKEN-ROW → b ≡ first-in (k ∷ []) (drop (i + 1) (tokens-of tk)) → b ≡ first-in (k ∷ []) (past (drop i (tokens-of tk)))
-is-next-rows tk i k b h e = e ∙ ap (first-in (k ∷ [])) (sym (past-rows tk i h))
+pub is-next-rows : (tokens : List ℕ) (i k : ℕ) (b : Bool) → i < length tokens / TOKEN-ROW → b ≡ first-in (k ∷ []) (drop (i + 1) (tokens-of tokens)) → b ≡ first-in (k ∷ []) (past (drop i (tokens-of tokens)))
+is-next-rows tokens i k b h e = e ∙ ap (first-in (k ∷ [])) (sym (past-rows tokens i h))
 
-pub is-next-past : (tk : List ℕ) (i k : ℕ) → length tk / TOKEN-ROW ≤ i → false ≡ first-in (k ∷ []) (past (drop i (tokens-of tk)))
+pub is-next-past : (tokens : List ℕ) (i k : ℕ) → length tokens / TOKEN-ROW ≤ i → false ≡ first-in (k ∷ []) (past (drop i (tokens-of tokens)))
 unfolding first-in
-is-next-past tk i k h = sym (ap (λ (l : List Token). first-in (k ∷ []) (past l)) (tokens-end tk i h))
+is-next-past tokens i k h = sym (ap (λ (l : List Token). first-in (k ∷ []) (past l)) (tokens-end tokens i h))
 
 -- ---------------------------------------------------------------- trivia
 
-pub trivia-in : (tk : List ℕ) (i : ℕ) (b : Bool) → i < length tk / TOKEN-ROW → b ≡ is-trivia (getD tk (i * TOKEN-ROW) 0) → b ≡ trivia-first (drop i (tokens-of tk))
+pub trivia-in : (tokens : List ℕ) (i : ℕ) (b : Bool) → i < length tokens / TOKEN-ROW → b ≡ is-trivia (getD tokens (i * TOKEN-ROW) 0) → b ≡ trivia-first (drop i (tokens-of tokens))
 unfolding trivia-first trivia
-trivia-in tk i b h e = e ∙ sym (ap trivia-first (tokens-cons tk i h))
+trivia-in tokens i b h e = e ∙ sym (ap trivia-first (tokens-cons tokens i h))
 
-pub trivia-past : (tk : List ℕ) (i : ℕ) → length tk / TOKEN-ROW ≤ i → false ≡ trivia-first (drop i (tokens-of tk))
+pub trivia-past : (tokens : List ℕ) (i : ℕ) → length tokens / TOKEN-ROW ≤ i → false ≡ trivia-first (drop i (tokens-of tokens))
 unfolding trivia-first
-trivia-past tk i h = sym (ap trivia-first (tokens-end tk i h))
+trivia-past tokens i h = sym (ap trivia-first (tokens-end tokens i h))
 
 -- the end of the row that starts at byte a
-pub end-in : (tk : List ℕ) (i a r : ℕ) → i < length tk / TOKEN-ROW → r ≡ low (a + getD tk (i * TOKEN-ROW + TOKEN-LENGTH) 0) → (m : Machine) → m .byte ≡ a → r ≡ range-at (drop i (tokens-of tk)) m .to
+pub end-in : (tokens : List ℕ) (i a r : ℕ) → i < length tokens / TOKEN-ROW → r ≡ low (a + getD tokens (i * TOKEN-ROW + TOKEN-LENGTH) 0) → (m : Machine) → m .byte ≡ a → r ≡ range-at (drop i (tokens-of tokens)) m .to
 unfolding range-at
-end-in tk i a r h e m f = e ∙ ap (λ (x : ℕ). low (x + getD tk (i * TOKEN-ROW + TOKEN-LENGTH) 0)) (sym f) ∙ sym (ap (λ (l : List Token). range-at l m .to) (tokens-cons tk i h))
+end-in tokens i a r h e m f = e ∙ ap (λ (x : ℕ). low (x + getD tokens (i * TOKEN-ROW + TOKEN-LENGTH) 0)) (sym f) ∙ sym (ap (λ (l : List Token). range-at l m .to) (tokens-cons tokens i h))
 
-pub end-past : (tk : List ℕ) (i a : ℕ) → length tk / TOKEN-ROW ≤ i → (m : Machine) → m .byte ≡ a → a ≡ range-at (drop i (tokens-of tk)) m .to
+pub end-past : (tokens : List ℕ) (i a : ℕ) → length tokens / TOKEN-ROW ≤ i → (m : Machine) → m .byte ≡ a → a ≡ range-at (drop i (tokens-of tokens)) m .to
 unfolding range-at
-end-past tk i a h m f = sym f ∙ sym (ap (λ (l : List Token). range-at l m .to) (tokens-end tk i h))
+end-past tokens i a h m f = sym f ∙ sym (ap (λ (l : List Token). range-at l m .to) (tokens-end tokens i h))
 
-pub skip-more : (tk : List ℕ) (i a e : ℕ) → i < length tk / TOKEN-ROW → trivia-first (drop i (tokens-of tk)) ≡ true
-    → ((m : Machine) → m .byte ≡ a → e ≡ range-at (drop i (tokens-of tk)) m .to)
-    → (m : Machine) → skip (drop (i + 1) (tokens-of tk)) (with-cursor (i + 1) e m) ≡ skip (drop i (tokens-of tk)) (with-cursor i a m)
+pub skip-more : (tokens : List ℕ) (i a e : ℕ) → i < length tokens / TOKEN-ROW → trivia-first (drop i (tokens-of tokens)) ≡ true
+    → ((m : Machine) → m .byte ≡ a → e ≡ range-at (drop i (tokens-of tokens)) m .to)
+    → (m : Machine) → skip (drop (i + 1) (tokens-of tokens)) (with-cursor (i + 1) e m) ≡ skip (drop i (tokens-of tokens)) (with-cursor i a m)
 unfolding skip trivia-first range-at
-skip-more tk i a e h f g m =
-    let q : e ≡ low (a + getD tk (i * TOKEN-ROW + TOKEN-LENGTH) 0) = g (with-cursor i a m) refl ∙ ap (λ (l : List Token). range-at l (with-cursor i a m) .to) (tokens-cons tk i h) in
-    let t : trivia (token-at tk i) ≡ true = sym (ap trivia-first (tokens-cons tk i h)) ∙ f in
-    ap (λ (x : ℕ). skip (drop (i + 1) (tokens-of tk)) (with-cursor (i + 1) x m)) q
-    ∙ sym (ap (λ (b : Bool). cond b (skip (drop (i + 1) (tokens-of tk)) (passed (token-at tk i) (with-cursor i a m))) (with-cursor i a m)) t)
-    ∙ sym (ap (λ (l : List Token). skip l (with-cursor i a m)) (tokens-cons tk i h))
+skip-more tokens i a e h f g m =
+    let q : e ≡ low (a + getD tokens (i * TOKEN-ROW + TOKEN-LENGTH) 0) = g (with-cursor i a m) refl ∙ ap (λ (l : List Token). range-at l (with-cursor i a m) .to) (tokens-cons tokens i h) in
+    let t : trivia (token-at tokens i) ≡ true = sym (ap trivia-first (tokens-cons tokens i h)) ∙ f in
+    ap (λ (x : ℕ). skip (drop (i + 1) (tokens-of tokens)) (with-cursor (i + 1) x m)) q
+    ∙ sym (ap (λ (b : Bool). cond b (skip (drop (i + 1) (tokens-of tokens)) (passed (token-at tokens i) (with-cursor i a m))) (with-cursor i a m)) t)
+    ∙ sym (ap (λ (l : List Token). skip l (with-cursor i a m)) (tokens-cons tokens i h))
 
 pub skip-done : (l : List Token) (m : Machine) → trivia-first l ≡ false → m ≡ skip l m
 unfolding skip trivia-first
@@ -112,9 +112,9 @@ skip-done [] m f = refl
 skip-done (t ∷ ts) m f = sym (ap (λ (b : Bool). cond b (skip ts (passed t m)) m) f)
 
 -- the byte after the row that starts at byte a
-pub end-row : (tk : List ℕ) (i a e : ℕ) → i < length tk / TOKEN-ROW → ((m : Machine) → m .byte ≡ a → e ≡ range-at (drop i (tokens-of tk)) m .to) → (m : Machine) → m .byte ≡ a → e ≡ low (a + getD tk (i * TOKEN-ROW + TOKEN-LENGTH) 0)
+pub end-row : (tokens : List ℕ) (i a e : ℕ) → i < length tokens / TOKEN-ROW → ((m : Machine) → m .byte ≡ a → e ≡ range-at (drop i (tokens-of tokens)) m .to) → (m : Machine) → m .byte ≡ a → e ≡ low (a + getD tokens (i * TOKEN-ROW + TOKEN-LENGTH) 0)
 unfolding range-at
-end-row tk i a e h g m f = g m f ∙ ap (λ (l : List Token). range-at l m .to) (tokens-cons tk i h) ∙ ap (λ (x : ℕ). low (x + getD tk (i * TOKEN-ROW + TOKEN-LENGTH) 0)) f
+end-row tokens i a e h g m f = g m f ∙ ap (λ (l : List Token). range-at l m .to) (tokens-cons tokens i h) ∙ ap (λ (x : ℕ). low (x + getD tokens (i * TOKEN-ROW + TOKEN-LENGTH) 0)) f
 
 -- ---------------------------------------------------------------- membership
 

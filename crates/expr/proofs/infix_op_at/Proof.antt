@@ -31,8 +31,8 @@ returns c =
     let kind-at′ = c .before .kind-at in
     let binding-power′ = c .binding-power in
     let s′ = c .before .before .before .before .before in
-    let tk = s′ .args .tokens .now in (
-      λ events reports pool. peek′ .ensures .0 events reports pool ∙ ap (λ (w : Walked). peek (tokens-of tk) (w .on)) (add-expected′ .ensures .0 (tokens-of tk) unlabelled events reports pool),
+    let tokens = s′ .args .tokens .now in (
+      λ events reports pool. peek′ .ensures .0 events reports pool ∙ ap (λ (w : Walked). peek (tokens-of tokens) (w .on)) (add-expected′ .ensures .0 (tokens-of tokens) unlabelled events reports pool),
       (
         binding-power′ .ensures .0 ∙ ap (left-power levels) (kind-at′ .ensures .0),
         (
@@ -40,7 +40,7 @@ returns c =
           (
             binding-power′ .ensures .1 .1 ∙ ap is-binary (kind-at′ .ensures .0),
             (
-              omega (arith, add-expected′ .ensures .1 tk, peek′ .ensures .1),
+              omega (arith, add-expected′ .ensures .1 tokens, peek′ .ensures .1),
               λ some. let h = kind-at′ .ensures .1 (λ e. some (binding-power′ .ensures .0 ∙ ap (left-power levels) e ∙ left-end)) in omega (arith, h),
             ),
           ),

@@ -12,7 +12,7 @@ use Rattle.machine.specs.Walk.{walk-rule, walk-prog, unlabelled}
 use Rattle.parser.specs.View.{left, view-of}
 use Rattle.machine.proofs.Way.{c-walk, c-ret, c-seq, c-yes, c-no, c-call}
 use Rattle.steps.proofs.Left.{ahead-falls}
-use Rattle.grammar.proofs.Ways.{again-part, last-yes, last-no, as-yes}
+use Rattle.grammar.proofs.Ways.{again-prog, last-yes, last-no, as-yes}
 use Rattle.grammar.proofs.cells.Reads as reads
 use Rattle.grammar.proofs.+bits+branch+cell_rest+cells+cond_branches_and_end+dt_cell_list+dt_node_body+dt_property+eat_cell+eat_inside+eat_node_or_prop+eat_pp_directive+item+item_rest+node+propvalues+value+value_rest.Lts-cells as lts
 use Rattle.grammar.proofs.+bits+branch+cell_rest+cells+cond_branches_and_end+dt_cell_list+dt_node_body+dt_property+eat_cell+eat_inside+eat_node_or_prop+eat_pp_directive+item+item_rest+node+propvalues+value+value_rest.Proof.Measures.{cells-at, cells-claims}
@@ -58,7 +58,7 @@ loop-again t c =
           omega (arith, eat-cell′ .eat-cell .kept, loop′ .loop .inv .1),
           (
             omega (arith, eat-cell′ .eat-cell .kept, loop′ .loop .inv .1),
-            again-part (s′ .args .allowed) (c-yes (c-call (s′ .args .allowed) (eat-cell′ .eat-cell .ensures .0)) (if1′ .if1 .taken) c-ret) (ahead-falls (s′ .args .tokens .now) (loop′ .loop .q .s) (eat-cell′ .eat-cell .result .p .s) (omega (arith, loop′ .loop .inv .0, eat-cell′ .eat-cell .ensures .1 .0, eat-cell′ .eat-cell .ensures .1 .1 (if1′ .if1 .taken)))) ∙ loop′ .loop .inv .1 .1 .1 .1,
+            again-prog (s′ .args .allowed) (c-yes (c-call (s′ .args .allowed) (eat-cell′ .eat-cell .ensures .0)) (if1′ .if1 .taken) c-ret) (ahead-falls (s′ .args .tokens .now) (loop′ .loop .q .s) (eat-cell′ .eat-cell .result .p .s) (omega (arith, loop′ .loop .inv .0, eat-cell′ .eat-cell .ensures .1 .0, eat-cell′ .eat-cell .ensures .1 .1 (if1′ .if1 .taken)))) ∙ loop′ .loop .inv .1 .1 .1 .1,
           ),
         ),
       ),
@@ -173,7 +173,7 @@ loop-again-2 t c =
           omega (arith, eat-cell′ .eat-cell .kept, error2′ .error2 .kept, loop′ .loop .inv .1),
           (
             omega (arith, eat-cell′ .eat-cell .kept, error2′ .error2 .kept, loop′ .loop .inv .1),
-            again-part (s′ .args .allowed) (c-no (c-call (s′ .args .allowed) (eat-cell′ .eat-cell .ensures .0)) (if1′ .if1 .left) (c-no (c-walk (at-cells-end′ .at-cells-end .ensures .0 (walk-rule (s′ .args .allowed) (tokens-of (s′ .args .tokens .now))) unlabelled _ _ _)) (if2′ .if2 .left) (c-no (c-walk (at-cells-recovery′ .at-cells-recovery .ensures .0 (walk-rule (s′ .args .allowed) (tokens-of (s′ .args .tokens .now))) unlabelled _ _ _)) (if3′ .if3 .left) (c-seq (c-walk (error2′ .error2 .ensures .0 (walk-rule (s′ .args .allowed) (tokens-of (s′ .args .tokens .now))) unlabelled)) c-ret)))) (ahead-falls (s′ .args .tokens .now) (loop′ .loop .q .s) (error2′ .error2 .result .s) (omega (arith, loop′ .loop .inv .0, eat-cell′ .eat-cell .ensures .1 .0, at-cells-end′ .at-cells-end .ensures .1, at-cells-recovery′ .at-cells-recovery .ensures .1 .0, at-cells-recovery′ .at-cells-recovery .ensures .1 .1 (if3′ .if3 .left), error2′ .error2 .ensures .1))) ∙ loop′ .loop .inv .1 .1 .1 .1,
+            again-prog (s′ .args .allowed) (c-no (c-call (s′ .args .allowed) (eat-cell′ .eat-cell .ensures .0)) (if1′ .if1 .left) (c-no (c-walk (at-cells-end′ .at-cells-end .ensures .0 (walk-rule (s′ .args .allowed) (tokens-of (s′ .args .tokens .now))) unlabelled _ _ _)) (if2′ .if2 .left) (c-no (c-walk (at-cells-recovery′ .at-cells-recovery .ensures .0 (walk-rule (s′ .args .allowed) (tokens-of (s′ .args .tokens .now))) unlabelled _ _ _)) (if3′ .if3 .left) (c-seq (c-walk (error2′ .error2 .ensures .0 (walk-rule (s′ .args .allowed) (tokens-of (s′ .args .tokens .now))) unlabelled)) c-ret)))) (ahead-falls (s′ .args .tokens .now) (loop′ .loop .q .s) (error2′ .error2 .result .s) (omega (arith, loop′ .loop .inv .0, eat-cell′ .eat-cell .ensures .1 .0, at-cells-end′ .at-cells-end .ensures .1, at-cells-recovery′ .at-cells-recovery .ensures .1 .0, at-cells-recovery′ .at-cells-recovery .ensures .1 .1 (if3′ .if3 .left), error2′ .error2 .ensures .1))) ∙ loop′ .loop .inv .1 .1 .1 .1,
           ),
         ),
       ),

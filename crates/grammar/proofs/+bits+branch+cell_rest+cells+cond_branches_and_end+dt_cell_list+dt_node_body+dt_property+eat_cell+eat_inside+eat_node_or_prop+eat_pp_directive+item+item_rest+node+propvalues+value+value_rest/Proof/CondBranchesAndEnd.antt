@@ -12,7 +12,7 @@ use Rattle.parser.specs.View.{left, view-of}
 use Rattle.grammar.specs.Subprograms.{inside-of}
 use Rattle.machine.proofs.Way.{c-walk, c-act, c-ret, c-seq, c-yes, c-no, c-fn}
 use Rattle.steps.proofs.Left.{ahead-falls}
-use Rattle.grammar.proofs.Ways.{c-part, part-on, again-part, last-yes}
+use Rattle.grammar.proofs.Ways.{c-prog, prog-on, again-prog, last-yes}
 use Rattle.grammar.proofs.cond_branches_and_end.Reads as reads
 use Rattle.grammar.proofs.+bits+branch+cell_rest+cells+cond_branches_and_end+dt_cell_list+dt_node_body+dt_property+eat_cell+eat_inside+eat_node_or_prop+eat_pp_directive+item+item_rest+node+propvalues+value+value_rest.Lts-cond_branches_and_end as lts
 use Rattle.grammar.proofs.+bits+branch+cell_rest+cells+cond_branches_and_end+dt_cell_list+dt_node_body+dt_property+eat_cell+eat_inside+eat_node_or_prop+eat_pp_directive+item+item_rest+node+propvalues+value+value_rest.Proof.Measures.{cond-branches-and-end-at, cond-branches-and-end-claims}
@@ -63,7 +63,7 @@ loop-again t c =
           omega (arith, branch′ .branch .kept, bump′ .bump .kept, loop′ .loop .inv .1),
           (
             omega (arith, branch′ .branch .kept, bump′ .bump .kept, loop′ .loop .inv .1),
-            again-part (s′ .args .allowed) (c-yes (c-fn (s′ .args .allowed) (branch′ .branch .ensures .0)) (if1′ .if1 .taken) (c-seq (c-act (bump′ .bump .ensures .0 unlabelled _ _)) c-ret)) (ahead-falls (s′ .args .tokens .now) (loop′ .loop .q .s) (bump′ .bump .result .s) (omega (arith, loop′ .loop .inv .0, branch′ .branch .ensures .1 .0, branch′ .branch .ensures .1 .1 (if1′ .if1 .taken), bump′ .bump .ensures .1))) ∙ loop′ .loop .inv .1 .1 .1 .1,
+            again-prog (s′ .args .allowed) (c-yes (c-fn (s′ .args .allowed) (branch′ .branch .ensures .0)) (if1′ .if1 .taken) (c-seq (c-act (bump′ .bump .ensures .0 unlabelled _ _)) c-ret)) (ahead-falls (s′ .args .tokens .now) (loop′ .loop .q .s) (bump′ .bump .result .s) (omega (arith, loop′ .loop .inv .0, branch′ .branch .ensures .1 .0, branch′ .branch .ensures .1 .1 (if1′ .if1 .taken), bump′ .bump .ensures .1))) ∙ loop′ .loop .inv .1 .1 .1 .1,
           ),
         ),
       ),
@@ -101,6 +101,6 @@ returns t c =
     let branch′ = if1′ .before .before .before .before .before .before .before in
     let loop′ = branch′ .before .before .before .before in
     let s′ = loop′ .before .before .before .before .before in (
-      part-on (s′ .args .allowed) (c-seq (c-part (s′ .args .allowed) (last-yes (s′ .args .allowed) (c-no (c-fn (s′ .args .allowed) (branch′ .branch .ensures .0)) (if1′ .if1 .left) c-ret) ∙ loop′ .loop .inv .1 .1 .1 .1)) (c-walk (expect′ .expect .ensures .0 (walk-rule (s′ .args .allowed) (tokens-of (s′ .args .tokens .now))) unlabelled))),
+      prog-on (s′ .args .allowed) (c-seq (c-prog (s′ .args .allowed) (last-yes (s′ .args .allowed) (c-no (c-fn (s′ .args .allowed) (branch′ .branch .ensures .0)) (if1′ .if1 .left) c-ret) ∙ loop′ .loop .inv .1 .1 .1 .1)) (c-walk (expect′ .expect .ensures .0 (walk-rule (s′ .args .allowed) (tokens-of (s′ .args .tokens .now))) unlabelled))),
       omega (arith, loop′ .loop .inv .0, branch′ .branch .ensures .1 .0, expect′ .expect .ensures .1 .0),
     )

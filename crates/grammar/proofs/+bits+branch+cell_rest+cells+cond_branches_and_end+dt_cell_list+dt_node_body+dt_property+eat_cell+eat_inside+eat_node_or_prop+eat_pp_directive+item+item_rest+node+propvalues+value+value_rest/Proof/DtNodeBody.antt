@@ -12,7 +12,7 @@ use Rattle.parser.specs.View.{left, view-of, span-of}
 use Rattle.machine.proofs.Way.{c-walk, c-act, c-ret, c-seq, c-yes, c-no}
 use Rattle.steps.proofs.Left.{ahead-falls}
 use Rattle.steps.proofs.Steps.{c-brace, c-any, closing}
-use Rattle.grammar.proofs.Ways.{c-part, c-call-on, closes, again-part, last-yes}
+use Rattle.grammar.proofs.Ways.{c-prog, c-call-on, closes, again-prog, last-yes}
 use Rattle.grammar.proofs.dt_node_body.Reads as reads
 use Rattle.grammar.proofs.+bits+branch+cell_rest+cells+cond_branches_and_end+dt_cell_list+dt_node_body+dt_property+eat_cell+eat_inside+eat_node_or_prop+eat_pp_directive+item+item_rest+node+propvalues+value+value_rest.Lts-dt_node_body as lts
 use Rattle.grammar.proofs.+bits+branch+cell_rest+cells+cond_branches_and_end+dt_cell_list+dt_node_body+dt_property+eat_cell+eat_inside+eat_node_or_prop+eat_pp_directive+item+item_rest+node+propvalues+value+value_rest.Proof.Measures.{dt-node-body-at, dt-node-body-claims}
@@ -75,7 +75,7 @@ loop-again t c =
           omega (arith, bump′ .bump .kept, item′ .item .kept, loop′ .loop .inv .1),
           (
             omega (arith, bump′ .bump .kept, item′ .item .kept, loop′ .loop .inv .1),
-            again-part (s′ .args .allowed) (c-yes (c-walk (at-item′ .at-item .ensures .0 (walk-rule (s′ .args .allowed) (tokens-of (s′ .args .tokens .now))) (span-of (range′ .range .result)) _ _ _)) (if1′ .if1 .taken) (c-call-on (s′ .args .allowed) (item′ .item .ensures .0) c-ret)) (ahead-falls (s′ .args .tokens .now) (loop′ .loop .q .s) (item′ .item .result .s) (omega (arith, bump′ .bump .ensures .1, loop′ .loop .inv .0, at-item′ .at-item .ensures .1 .0, at-item′ .at-item .ensures .1 .1 (if1′ .if1 .taken), item′ .item .ensures .1))) ∙ loop′ .loop .inv .1 .1 .1 .1,
+            again-prog (s′ .args .allowed) (c-yes (c-walk (at-item′ .at-item .ensures .0 (walk-rule (s′ .args .allowed) (tokens-of (s′ .args .tokens .now))) (span-of (range′ .range .result)) _ _ _)) (if1′ .if1 .taken) (c-call-on (s′ .args .allowed) (item′ .item .ensures .0) c-ret)) (ahead-falls (s′ .args .tokens .now) (loop′ .loop .q .s) (item′ .item .result .s) (omega (arith, bump′ .bump .ensures .1, loop′ .loop .inv .0, at-item′ .at-item .ensures .1 .0, at-item′ .at-item .ensures .1 .1 (if1′ .if1 .taken), item′ .item .ensures .1))) ∙ loop′ .loop .inv .1 .1 .1 .1,
           ),
         ),
       ),
@@ -115,6 +115,6 @@ returns t c =
     let bump′ = loop′ .before .before .before in
     let range′ = bump′ .before .before in
     let s′ = range′ .before .before .before .before .before in (
-      closes (s′ .args .allowed) (c-brace (range′ .range .ensures _ _ _ _) (c-seq (c-act (bump′ .bump .ensures .0 (span-of (range′ .range .result)) _ _)) (c-seq (c-part (s′ .args .allowed) (last-yes (s′ .args .allowed) (c-no (c-walk (at-item′ .at-item .ensures .0 (walk-rule (s′ .args .allowed) (tokens-of (s′ .args .tokens .now))) (span-of (range′ .range .result)) _ _ _)) (if1′ .if1 .left) c-ret) ∙ loop′ .loop .inv .1 .1 .1 .1)) c-any))) (closing (node-end′ .node-end .ensures .0 (walk-rule (s′ .args .allowed) (tokens-of (s′ .args .tokens .now))))),
+      closes (s′ .args .allowed) (c-brace (range′ .range .ensures _ _ _ _) (c-seq (c-act (bump′ .bump .ensures .0 (span-of (range′ .range .result)) _ _)) (c-seq (c-prog (s′ .args .allowed) (last-yes (s′ .args .allowed) (c-no (c-walk (at-item′ .at-item .ensures .0 (walk-rule (s′ .args .allowed) (tokens-of (s′ .args .tokens .now))) (span-of (range′ .range .result)) _ _ _)) (if1′ .if1 .left) c-ret) ∙ loop′ .loop .inv .1 .1 .1 .1)) c-any))) (closing (node-end′ .node-end .ensures .0 (walk-rule (s′ .args .allowed) (tokens-of (s′ .args .tokens .now))))),
       omega (arith, bump′ .bump .ensures .1, loop′ .loop .inv .0, at-item′ .at-item .ensures .1 .0, node-end′ .node-end .ensures .1),
     )

@@ -13,7 +13,7 @@ use Rattle.parser.specs.View.{left, view-of, ans-of}
 use Rattle.machine.proofs.Way.{c-walk, c-act, c-ret, c-yes, c-no, c-fn, rule-closed, rule-body}
 use Rattle.steps.proofs.Left.{ahead-falls}
 use Rattle.steps.proofs.Steps.{c-said-no, c-said-also}
-use Rattle.grammar.proofs.Ways.{again-part, last-yes, last-no, as-yes, c-said-other, other-no, c-answered}
+use Rattle.grammar.proofs.Ways.{again-prog, last-yes, last-no, as-yes, c-said-other, other-no, c-answered}
 use Rattle.grammar.proofs.propvalues.Reads as reads
 use Rattle.grammar.proofs.+bits+branch+cell_rest+cells+cond_branches_and_end+dt_cell_list+dt_node_body+dt_property+eat_cell+eat_inside+eat_node_or_prop+eat_pp_directive+item+item_rest+node+propvalues+value+value_rest.Lts-propvalues as lts
 use Rattle.grammar.proofs.+bits+branch+cell_rest+cells+cond_branches_and_end+dt_cell_list+dt_node_body+dt_property+eat_cell+eat_inside+eat_node_or_prop+eat_pp_directive+item+item_rest+node+propvalues+value+value_rest.Proof.Measures.{propvalues-at, propvalues-claims}
@@ -201,7 +201,7 @@ loop-again t c =
           omega (arith, value′ .value .kept, after-propvalue′ .after-propvalue .kept, loop′ .loop .inv .1),
           (
             omega (arith, value′ .value .kept, after-propvalue′ .after-propvalue .kept, loop′ .loop .inv .1),
-            again-part (s′ .args .allowed - 1) (c-no (c-act (at-end′ .at-end .ensures .0 unlabelled _ _ _)) (if2′ .if2 .left) (c-said-other (value′ .value .result .ans) (c-fn (s′ .args .allowed - 1) (value′ .value .ensures .0)) (match0′ .match .keys3) (c-answered (ap ans-of (enum-told3′ .enum-told3 .given .1)) (c-walk (after-propvalue′ .after-propvalue .ensures .0 (walk-rule (s′ .args .allowed - 1) (tokens-of (s′ .args .tokens .now))) unlabelled))))) (ahead-falls (s′ .args .tokens .now) (loop′ .loop .q .s) (after-propvalue′ .after-propvalue .result .p .s) (omega (arith, loop′ .loop .inv .0, at-end′ .at-end .ensures .1 .0, at-end′ .at-end .ensures .1 .1 .0 (if2′ .if2 .left), value′ .value .ensures .1, after-propvalue′ .after-propvalue .ensures .1 .0, eqb-false (s′ .args .allowed) 0 (if1′ .if1 .left)))) ∙ loop′ .loop .inv .1 .1 .1 .1,
+            again-prog (s′ .args .allowed - 1) (c-no (c-act (at-end′ .at-end .ensures .0 unlabelled _ _ _)) (if2′ .if2 .left) (c-said-other (value′ .value .result .ans) (c-fn (s′ .args .allowed - 1) (value′ .value .ensures .0)) (match0′ .match .keys3) (c-answered (ap ans-of (enum-told3′ .enum-told3 .given .1)) (c-walk (after-propvalue′ .after-propvalue .ensures .0 (walk-rule (s′ .args .allowed - 1) (tokens-of (s′ .args .tokens .now))) unlabelled))))) (ahead-falls (s′ .args .tokens .now) (loop′ .loop .q .s) (after-propvalue′ .after-propvalue .result .p .s) (omega (arith, loop′ .loop .inv .0, at-end′ .at-end .ensures .1 .0, at-end′ .at-end .ensures .1 .1 .0 (if2′ .if2 .left), value′ .value .ensures .1, after-propvalue′ .after-propvalue .ensures .1 .0, eqb-false (s′ .args .allowed) 0 (if1′ .if1 .left)))) ∙ loop′ .loop .inv .1 .1 .1 .1,
           ),
         ),
       ),

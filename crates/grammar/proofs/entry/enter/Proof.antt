@@ -13,7 +13,7 @@ use Rattle.machine.proofs.Way.{Way, c-call, c-fn}
 use Rattle.steps.proofs.Steps.{c-any}
 use Rattle.grammar.specs.declared.entry.Entrypoint.{Entrypoint}
 use Rattle.grammar.specs.Subprograms.{entry-of}
-use Rattle.grammar.proofs.Ways.{part-on}
+use Rattle.grammar.proofs.Ways.{prog-on}
 use Rattle.grammar.proofs.entry.enter.Statement.{statement}
 use Rattle.grammar.proofs.entry.enter.Tie as tie
 
@@ -73,7 +73,7 @@ unfolding entry
 returns c =
     let a = c .before .before .before .before .before .before in
     let d = a .before .before .before .before in
-    (part-on MOST-OPEN-CALLS (entered (d .enum-told .given .1) (c-fn MOST-OPEN-CALLS (a .entry-sourcefile .ensures .0))), omega (arith, a .entry-sourcefile .ensures .1))
+    (prog-on MOST-OPEN-CALLS (entered (d .enum-told .given .1) (c-fn MOST-OPEN-CALLS (a .entry-sourcefile .ensures .0))), omega (arith, a .entry-sourcefile .ensures .1))
 
 same-length-4 : tie.Need-same-length-4
 same-length-4 c =
@@ -96,7 +96,7 @@ returns-2 c =
     let a = c .before .before .before .before .before .before in
     let d = a .before .before .before .before in
     let s = d .before .before .before .before .before .before in
-    (a .reference-noamp .ensures .0 (walk-rule MOST-OPEN-CALLS (tokens-of (s .args .tokens .now))) unlabelled ∙ part-on MOST-OPEN-CALLS (entered (d .enum-told2 .given .1) c-any), omega (arith, a .reference-noamp .ensures .1))
+    (a .reference-noamp .ensures .0 (walk-rule MOST-OPEN-CALLS (tokens-of (s .args .tokens .now))) unlabelled ∙ prog-on MOST-OPEN-CALLS (entered (d .enum-told2 .given .1) c-any), omega (arith, a .reference-noamp .ensures .1))
 
 same-length-7 : tie.Need-same-length-7
 same-length-7 c =
@@ -118,7 +118,7 @@ unfolding entry
 returns-3 c =
     let a = c .before .before .before .before .before .before .before in
     let d = a .before .before .before .before in
-    (part-on MOST-OPEN-CALLS (entered (d .enum-told3 .given .1) (c-call MOST-OPEN-CALLS (a .propvalues .ensures .0))), omega (arith, a .propvalues .ensures .1))
+    (prog-on MOST-OPEN-CALLS (entered (d .enum-told3 .given .1) (c-call MOST-OPEN-CALLS (a .propvalues .ensures .0))), omega (arith, a .propvalues .ensures .1))
 
 same-length-10 : tie.Need-same-length-10
 same-length-10 c =
@@ -140,7 +140,7 @@ unfolding entry
 returns-4 c =
     let a = c .before .before .before .before .before .before .before in
     let d = a .before .before .before .before in
-    (part-on MOST-OPEN-CALLS (entered (d .enum-told4 .given .1) (c-fn MOST-OPEN-CALLS (a .cells .ensures .0))), omega (arith, a .cells .ensures .1))
+    (prog-on MOST-OPEN-CALLS (entered (d .enum-told4 .given .1) (c-fn MOST-OPEN-CALLS (a .cells .ensures .0))), omega (arith, a .cells .ensures .1))
 
 pub enter-spec : {M : Type 1} → statement M
 enter-spec = tie.close (tie.spec enum-told entry-sourcefile-requires enum-told-2 reference-noamp-requires enum-told-3 propvalues-requires enum-told-4 cells-requires same-length same-length-2 same-length-3 returns same-length-4 same-length-5 same-length-6 returns-2 same-length-7 same-length-8 same-length-9 returns-3 same-length-10 same-length-11 same-length-12 returns-4)

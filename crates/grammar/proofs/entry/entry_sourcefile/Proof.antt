@@ -12,7 +12,7 @@ use Rattle.machine.specs.Walk.{walk-prog, unlabelled}
 use Rattle.machine.proofs.Way.{c-act, c-ret, c-yes, c-no}
 use Rattle.parser.specs.View.{left, view-of}
 use Rattle.steps.proofs.Left.{ahead-falls}
-use Rattle.grammar.proofs.Ways.{c-part-on, again-part, last-yes}
+use Rattle.grammar.proofs.Ways.{c-prog-on, again-prog, last-yes}
 use Rattle.grammar.proofs.entry.entry_sourcefile.Statement.{statement}
 use Rattle.grammar.proofs.entry.entry_sourcefile.Tie as tie
 
@@ -70,7 +70,7 @@ loop-again c =
     let e = d .before in
     let f = e .before in
     let s = f .before .before .before .before .before in
-    (again-part MOST-OPEN-CALLS (c-yes {t = true} (c-no (c-act (e .at-end .ensures .0 unlabelled _ _ _)) (d .if1 .left) c-ret) refl (c-part-on MOST-OPEN-CALLS (a .sourcefile-part .ensures .0) c-ret)) (ahead-falls (s .args .tokens .now) (f .loop .q .s) (a .sourcefile-part .result .s) (omega (arith, f .loop .inv .1 .0, e .at-end .ensures .1 .0, e .at-end .ensures .1 .1 .0 (d .if1 .left), a .sourcefile-part .ensures .1))) ∙ f .loop .inv .0, (omega (arith, f .loop .inv .1 .0, e .at-end .ensures .1 .0, e .at-end .ensures .1 .1 .0 (d .if1 .left), a .sourcefile-part .ensures .1), (omega (arith, f .loop .inv .1 .1, a .sourcefile-part .kept), (omega (arith, f .loop .inv .1 .1, a .sourcefile-part .kept), omega (arith, f .loop .inv .1 .1, a .sourcefile-part .kept)))))
+    (again-prog MOST-OPEN-CALLS (c-yes {t = true} (c-no (c-act (e .at-end .ensures .0 unlabelled _ _ _)) (d .if1 .left) c-ret) refl (c-prog-on MOST-OPEN-CALLS (a .sourcefile-part .ensures .0) c-ret)) (ahead-falls (s .args .tokens .now) (f .loop .q .s) (a .sourcefile-part .result .s) (omega (arith, f .loop .inv .1 .0, e .at-end .ensures .1 .0, e .at-end .ensures .1 .1 .0 (d .if1 .left), a .sourcefile-part .ensures .1))) ∙ f .loop .inv .0, (omega (arith, f .loop .inv .1 .0, e .at-end .ensures .1 .0, e .at-end .ensures .1 .1 .0 (d .if1 .left), a .sourcefile-part .ensures .1), (omega (arith, f .loop .inv .1 .1, a .sourcefile-part .kept), (omega (arith, f .loop .inv .1 .1, a .sourcefile-part .kept), omega (arith, f .loop .inv .1 .1, a .sourcefile-part .kept)))))
 
 pub entry-sourcefile-spec : {M : Type 1} → statement M
 entry-sourcefile-spec = tie.close (tie.spec Inv-loop μ-loop loop-holds at-end-requires same-length same-length-2 same-length-3 returns sourcefile-part-requires loop-less loop-again)

@@ -8,7 +8,7 @@ use Rattle.machine.specs.Machine.{Machine}
 use Rattle.machine.specs.Walk.{walk-rule, walk-prog, unlabelled}
 use Rattle.machine.proofs.Way.{c-walk}
 use Rattle.grammar.specs.Subprograms.{entry-of}
-use Rattle.grammar.proofs.Ways.{c-part-on, part-on}
+use Rattle.grammar.proofs.Ways.{c-prog-on, prog-on}
 use Rattle.grammar.proofs.entry.parse.Statement.{statement}
 use Rattle.grammar.proofs.entry.parse.Tie as tie
 
@@ -46,7 +46,7 @@ returns c =
     let d = a .before .before .before .before .before .before .before .before .before .before in
     let e = d .before .before .before .before in
     let s = e .before .before .before .before .before in
-    part-on MOST-OPEN-CALLS (c-part-on MOST-OPEN-CALLS (d .enter .ensures .0) (c-walk (a .left-over .ensures .0 (walk-rule MOST-OPEN-CALLS (tokens-of (s .args .tokens .now))) unlabelled))) ∙ ap (λ (m : Machine). walk-prog MOST-OPEN-CALLS (tokens-of (s .args .tokens .now)) unlabelled (whole (entry-of (s .args .entrypoint))) m .on) (e .new .ensures _ _ _)
+    prog-on MOST-OPEN-CALLS (c-prog-on MOST-OPEN-CALLS (d .enter .ensures .0) (c-walk (a .left-over .ensures .0 (walk-rule MOST-OPEN-CALLS (tokens-of (s .args .tokens .now))) unlabelled))) ∙ ap (λ (m : Machine). walk-prog MOST-OPEN-CALLS (tokens-of (s .args .tokens .now)) unlabelled (whole (entry-of (s .args .entrypoint))) m .on) (e .new .ensures _ _ _)
 
 pub parse-spec : {M : Type 1} → statement M
 parse-spec = tie.close (tie.spec new-requires enter-requires left-over-requires same-length same-length-2 same-length-3 returns)

@@ -1,7 +1,7 @@
 -- `is_good_text` is `is-text`.
 use Rattle.basics.proofs.Flags.{flags}
 use mathlib.Core.Bool.{false≢true}
-use Rattle.input.proofs.RowChecks.{part-text}
+use Rattle.input.proofs.RowChecks.{slice-text}
 use mathlib.Core.Path.{sym, _∙_}
 use Rattle.input.specs.Checks.{is-text}
 use borrow.Author.Needs.{needs}
@@ -31,7 +31,7 @@ is-spelled-requires c κs = search needs
 
 returns : tie.Need-returns
 unfolding is-text
-returns c = (rw (c .before .before .before .if1 .taken, c .before .before .if2 .taken) (c .is-spelled .ensures ∙ part-text (c .before .before .before .before .before .args .bytes .now) (c .before .before .before .before .before .args .byte) (c .before .before .before .before .before .args .kind) (c .before .before .before .before .before .args .n)), λ e. omega flags)
+returns c = (rw (c .before .before .before .if1 .taken, c .before .before .if2 .taken) (c .is-spelled .ensures ∙ slice-text (c .before .before .before .before .before .args .bytes .now) (c .before .before .before .before .before .args .byte) (c .before .before .before .before .before .args .kind) (c .before .before .before .before .before .args .n)), λ e. omega flags)
 
 returns-2 : tie.Need-returns-2
 unfolding is-text

@@ -13,15 +13,15 @@ with-requires c κs = tt
 returns : tie.Need-returns
 returns c =
     let args = c .before .before .before .args in
-    let tk = args .tokens .now in
+    let tokens = args .tokens .now in
     let at-end = c .before .at-end in
     let kept = c .with in (
       λ b events reports pool. with-said _ _ _ events reports pool _ _ (kept .ensures) (at-end .ensures .0 b (args .self .codes) events reports pool),
       (
-        omega (flags, with-left _ _ _ tk (kept .ensures), at-end .ensures .1 .0),
+        omega (flags, with-left _ _ _ tokens (kept .ensures), at-end .ensures .1 .0),
         (
-          λ e. omega (flags, with-left _ _ _ tk (kept .ensures), at-end .ensures .1 .1 .0 e),
-          λ e. omega (flags, with-left _ _ _ tk (kept .ensures), at-end .ensures .1 .1 .1 e),
+          λ e. omega (flags, with-left _ _ _ tokens (kept .ensures), at-end .ensures .1 .1 .0 e),
+          λ e. omega (flags, with-left _ _ _ tokens (kept .ensures), at-end .ensures .1 .1 .1 e),
         ),
       ),
     )

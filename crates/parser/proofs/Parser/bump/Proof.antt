@@ -17,11 +17,11 @@ same-length c = search needs
 returns : tie.Need-returns
 returns c =
     let args = c .before .before .before .before .before .before .before .args in
-    let tk = args .tokens .now in
+    let tokens = args .tokens .now in
     let bump = c .before .before .before .bump in
     let kept = c .with in (
       λ b reports pool. with-said _ _ _ _ reports pool _ _ (kept .ensures) (bump .ensures .0 b (args .self .codes) reports pool),
-      omega (flags, with-left _ _ _ tk (kept .ensures), bump .ensures .1),
+      omega (flags, with-left _ _ _ tokens (kept .ensures), bump .ensures .1),
     )
 
 pub bump-spec : {M : Type 1} → statement M

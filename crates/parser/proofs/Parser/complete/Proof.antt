@@ -20,7 +20,7 @@ returns c =
     let complete = c .before .before .before .complete in
     let kept = c .with in (
       λ reports pool. with-view _ _ _ _ reports pool _ (kept .ensures) (complete .ensures .0 (args .self .codes) reports pool),
-      λ tk. omega (flags, with-left _ _ _ tk (kept .ensures), complete .ensures .1 tk),
+      λ tokens. omega (flags, with-left _ _ _ tokens (kept .ensures), complete .ensures .1 tokens),
     )
 
 pub complete-spec : {M : Type 1} → statement M

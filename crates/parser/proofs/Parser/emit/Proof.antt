@@ -23,11 +23,11 @@ same-length-3 c = search needs
 returns : tie.Need-returns
 returns c =
     let args = c .before .before .before .before .before .before .before .before .before .before .before .before .before .before .before .before .before .args in
-    let tk = args .tokens .now in
+    let tokens = args .tokens .now in
     let emit = c .before .before .before .before .before .before .before .emit in
     let kept = c .with in (
       with-view _ _ _ _ _ _ _ (kept .ensures) (emit .ensures .0),
-      omega (flags, with-left _ _ _ tk (kept .ensures), emit .ensures .1),
+      omega (flags, with-left _ _ _ tokens (kept .ensures), emit .ensures .1),
     )
 
 pub emit-spec : {M : Type 1} → statement M

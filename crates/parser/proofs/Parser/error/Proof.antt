@@ -23,11 +23,11 @@ same-length-3 c = search needs
 returns : tie.Need-returns
 returns c =
     let args = c .before .before .before .before .before .before .before .before .before .before .before .before .before .before .before .before .before .args in
-    let tk = args .tokens .now in
+    let tokens = args .tokens .now in
     let error = c .before .before .before .before .before .before .before .error in
     let kept = c .with in (
       λ ask b. with-said _ _ _ _ _ _ _ _ (kept .ensures) (error .ensures .0 ask b),
-      omega (flags, with-left _ _ _ tk (kept .ensures), error .ensures .1),
+      omega (flags, with-left _ _ _ tokens (kept .ensures), error .ensures .1),
     )
 
 pub error-spec : {M : Type 1} → statement M

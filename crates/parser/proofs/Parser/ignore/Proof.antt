@@ -20,7 +20,7 @@ returns c =
     let ignore = c .before .before .before .ignore in
     let kept = c .with in (
       λ reports pool. with-view _ _ _ _ reports pool _ (kept .ensures) (ignore .ensures .0 (args .self .codes) reports pool),
-      λ tk. omega (flags, with-left _ _ _ tk (kept .ensures), ignore .ensures .1 tk),
+      λ tokens. omega (flags, with-left _ _ _ tokens (kept .ensures), ignore .ensures .1 tokens),
     )
 
 pub ignore-spec : {M : Type 1} → statement M

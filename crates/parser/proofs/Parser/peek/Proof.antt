@@ -13,11 +13,11 @@ with-requires c κs = tt
 returns : tie.Need-returns
 returns c =
     let args = c .before .before .before .args in
-    let tk = args .tokens .now in
+    let tokens = args .tokens .now in
     let peek = c .before .peek in
     let kept = c .with in (
       λ events reports pool. with-view _ _ _ events reports pool _ (kept .ensures) (peek .ensures .0 (args .self .codes) events reports pool),
-      omega (flags, with-left _ _ _ tk (kept .ensures), peek .ensures .1),
+      omega (flags, with-left _ _ _ tokens (kept .ensures), peek .ensures .1),
     )
 
 pub peek-spec : {M : Type 1} → statement M

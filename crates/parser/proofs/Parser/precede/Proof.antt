@@ -20,7 +20,7 @@ returns c =
     let precede = c .before .before .before .precede in
     let kept = c .with in (
       λ reports pool. with-view _ _ _ _ reports pool _ (kept .ensures) (precede .ensures .0 (args .self .codes) reports pool),
-      λ tk. omega (flags, with-left _ _ _ tk (kept .ensures), precede .ensures .1 tk),
+      λ tokens. omega (flags, with-left _ _ _ tokens (kept .ensures), precede .ensures .1 tokens),
     )
 
 pub precede-spec : {M : Type 1} → statement M

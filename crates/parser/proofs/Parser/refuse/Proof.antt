@@ -19,9 +19,9 @@ returns c =
     let refuse = c .before .refuse in
     let kept = c .with in (
       λ events reports pool. with-view _ _ _ events reports pool _ (kept .ensures) (refuse .ensures .0 (args .self .codes) events reports pool),
-      λ tk h.
-          with-left _ _ _ tk (kept .ensures)
-          ∙ left-none tk (refuse .result)
+      λ tokens h.
+          with-left _ _ _ tokens (kept .ensures)
+          ∙ left-none tokens (refuse .result)
           (refused-past (args .number) (view (args .self .s) (args .self .codes) [] [] []) _
           (refuse .ensures .0 (args .self .codes) [] [] [])) h,
     )

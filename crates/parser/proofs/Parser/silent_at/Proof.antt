@@ -13,13 +13,13 @@ with-requires c κs = tt
 returns : tie.Need-returns
 returns c =
     let args = c .before .before .before .args in
-    let tk = args .tokens .now in
+    let tokens = args .tokens .now in
     let silent-at = c .before .silent-at in
     let kept = c .with in (
       λ b events reports pool. with-said _ _ _ events reports pool _ _ (kept .ensures) (silent-at .ensures .0 b (args .self .codes) events reports pool),
       (
-        omega (flags, with-left _ _ _ tk (kept .ensures), silent-at .ensures .1 .0),
-        λ e. omega (flags, with-left _ _ _ tk (kept .ensures), silent-at .ensures .1 .1 e),
+        omega (flags, with-left _ _ _ tokens (kept .ensures), silent-at .ensures .1 .0),
+        λ e. omega (flags, with-left _ _ _ tokens (kept .ensures), silent-at .ensures .1 .1 e),
       ),
     )
 

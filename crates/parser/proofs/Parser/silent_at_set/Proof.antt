@@ -13,14 +13,14 @@ with-requires c κs = tt
 returns : tie.Need-returns
 returns c =
     let args = c .before .before .before .before .args in
-    let tk = args .tokens .now in
+    let tokens = args .tokens .now in
     let silent-at-set = c .before .silent-at-set in
     let kept = c .with in (
       λ b events reports pool.
           with-said _ _ _ events reports pool _ _ (kept .ensures) (silent-at-set .ensures .0 b (args .self .codes) events reports pool),
       (
-        omega (flags, with-left _ _ _ tk (kept .ensures), silent-at-set .ensures .1 .0),
-        λ e. omega (flags, with-left _ _ _ tk (kept .ensures), silent-at-set .ensures .1 .1 e),
+        omega (flags, with-left _ _ _ tokens (kept .ensures), silent-at-set .ensures .1 .0),
+        λ e. omega (flags, with-left _ _ _ tokens (kept .ensures), silent-at-set .ensures .1 .1 e),
       ),
     )
 

@@ -17,13 +17,13 @@ same-length c = search needs
 returns : tie.Need-returns
 returns c =
     let args = c .before .before .before .before .before .before .before .args in
-    let tk = args .tokens .now in
+    let tokens = args .tokens .now in
     let silent-eat = c .before .before .before .silent-eat in
     let kept = c .with in (
       λ ask b reports pool. with-said _ _ _ _ reports pool _ _ (kept .ensures) (silent-eat .ensures .0 ask b (args .self .codes) reports pool),
       (
-        omega (flags, with-left _ _ _ tk (kept .ensures), silent-eat .ensures .1 .0),
-        λ e. omega (flags, with-left _ _ _ tk (kept .ensures), silent-eat .ensures .1 .1 e),
+        omega (flags, with-left _ _ _ tokens (kept .ensures), silent-eat .ensures .1 .0),
+        λ e. omega (flags, with-left _ _ _ tokens (kept .ensures), silent-eat .ensures .1 .1 e),
       ),
     )
 

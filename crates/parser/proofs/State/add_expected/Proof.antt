@@ -41,7 +41,7 @@ returns c =
       λ ts b events reports pool.
           expected-room ts b codes₀ _ (args .self .pending) (args .code) (view self codes₀ events reports pool) long (put-code .ensures .1)
           refl has,
-      λ tk. omega flags,
+      λ tokens. omega flags,
     )
 
 returns-2 : tie.Need-returns-2

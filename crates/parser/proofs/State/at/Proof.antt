@@ -17,8 +17,8 @@ returns : tie.Need-returns
 returns c =
     let args = c .before .before .before .before .args in
     let self = args .self in
-    let tk = args .tokens .now in
-    let ts = tokens-of tk in
+    let tokens = args .tokens .now in
+    let ts = tokens-of tokens in
     let codes₀ = args .codes .now in
     let push-expected = c .before .push-expected in
     let silent = c .silent in (
@@ -26,7 +26,7 @@ returns c =
           at-is ask ts b (matcher-of (args .m)) (view self codes₀ events reports pool) (view (push-expected .result) _ events reports pool) _
           (push-expected .ensures .0 ask ts b events reports pool)
           (silent .ensures .0 b _ events reports pool ∙ matches-is ask ts b (args .m) (view (push-expected .result) _ events reports pool)),
-      (omega (flags, push-expected .ensures .1 tk, silent .ensures .1 .0), silent .ensures .1 .1),
+      (omega (flags, push-expected .ensures .1 tokens, silent .ensures .1 .0), silent .ensures .1 .1),
     )
 
 pub at-spec : {M : Type 1} → statement M

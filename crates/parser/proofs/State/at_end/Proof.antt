@@ -16,12 +16,12 @@ unfolding left
 returns c =
     let args = c .before .before .before .args in
     let self = args .self in
-    let tk = args .tokens .now in
-    let ts = tokens-of tk in
+    let tokens = args .tokens .now in
+    let ts = tokens-of tokens in
     let peek = c .before .peek in (
       λ b codes events reports pool.
           at-end-is ts b (view self codes events reports pool) (view (peek .result) codes events reports pool) _ (peek .ensures .0 codes events reports pool)
-          (ended-in tk (peek .result .cursor .0) (omega flags)),
+          (ended-in tokens (peek .result .cursor .0) (omega flags)),
       (peek .ensures .1, (λ e. omega flags, λ e. absurd (false≢true e))),
     )
 
@@ -30,12 +30,12 @@ unfolding left
 returns-2 c =
     let args = c .before .before .before .args in
     let self = args .self in
-    let tk = args .tokens .now in
-    let ts = tokens-of tk in
+    let tokens = args .tokens .now in
+    let ts = tokens-of tokens in
     let peek = c .before .peek in (
       λ b codes events reports pool.
           at-end-is ts b (view self codes events reports pool) (view (peek .result) codes events reports pool) _ (peek .ensures .0 codes events reports pool)
-          (ended-past tk (peek .result .cursor .0) (omega flags)),
+          (ended-past tokens (peek .result .cursor .0) (omega flags)),
       (peek .ensures .1, (λ e. absurd (true≢false e), λ e. omega flags)),
     )
 

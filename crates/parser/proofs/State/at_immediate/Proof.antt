@@ -17,15 +17,15 @@ unfolding left
 returns c =
     let args = c .before .before .before .before .args in
     let self = args .self in
-    let tk = args .tokens .now in
-    let ts = tokens-of tk in
+    let tokens = args .tokens .now in
+    let ts = tokens-of tokens in
     let codes₀ = args .codes .now in
     let add-expected = c .before .add-expected in
     let is-at = c .is-at in (
       λ ask b events reports pool.
           immediate-is ask ts b (args .k) (view self codes₀ events reports pool) (view (add-expected .result) _ events reports pool) _
           (add-expected .ensures .0 ts b events reports pool) (is-at .ensures .0),
-      (add-expected .ensures .1 tk, λ e. omega (flags, is-at .ensures .1 e)),
+      (add-expected .ensures .1 tokens, λ e. omega (flags, is-at .ensures .1 e)),
     )
 
 pub at-immediate-spec : {M : Type 1} → statement M

@@ -29,7 +29,7 @@ returns : tie.Need-returns
 returns c =
     let args = c .before .before .before .before .before .before .before .before .before .before .before .before .args in
     let self = args .self in
-    let tk = args .tokens .now in
+    let tokens = args .tokens .now in
     let events₀ = args .events .now in
     let set₀ = args .set .now in
     let peek = c .before .before .before .before .before .before .before .before .peek in
@@ -39,11 +39,11 @@ returns c =
     let raw-tokens-since = c .before .before .before .before .raw-tokens-since in
     let push-event = c .before .before .push-event in (
       λ b codes reports pool.
-          name-in tk set₀ b (view self codes events₀ reports pool) (view (peek .result) codes events₀ reports pool)
+          name-in tokens set₀ b (view self codes events₀ reports pool) (view (peek .result) codes events₀ reports pool)
           (view (next-token .result) codes events₀ reports pool) (view (take-while .result) codes events₀ reports pool) _ _
           (peek .ensures .0 codes events₀ reports pool) (ltb-true _ _ (if1 .taken)) (next-token .ensures .0 codes events₀ reports pool)
           (take-while .ensures .0 codes events₀ reports pool) (raw-tokens-since .ensures) (push-event .ensures .0 codes reports pool),
-      omega (flags, peek .ensures .1, next-token .ensures .1, take-while .ensures .1, push-event .ensures .1 tk),
+      omega (flags, peek .ensures .1, next-token .ensures .1, take-while .ensures .1, push-event .ensures .1 tokens),
     )
 
 returns-2 : tie.Need-returns-2
@@ -51,13 +51,13 @@ unfolding left
 returns-2 c =
     let args = c .before .before .before .before .before .args in
     let self = args .self in
-    let tk = args .tokens .now in
+    let tokens = args .tokens .now in
     let events₀ = args .events .now in
     let set₀ = args .set .now in
     let peek = c .before .peek in
     let if1 = c .if1 in (
       λ b codes reports pool.
-          name-past tk set₀ b (view self codes events₀ reports pool) (view (peek .result) codes events₀ reports pool)
+          name-past tokens set₀ b (view self codes events₀ reports pool) (view (peek .result) codes events₀ reports pool)
           (peek .ensures .0 codes events₀ reports pool) (ltb-false _ _ (if1 .left)),
       omega (flags, if1 .left),
     )

@@ -37,7 +37,7 @@ returns-2 c =
     let events₀ = args .events .now in
     let if1 = c .if1 in (
       λ codes reports pool. complete-off (marker-of (args .m)) (args .kind) (view self codes events₀ reports pool) (if1 .left),
-      λ tk. omega flags,
+      λ tokens. omega flags,
     )
 
 pub complete-spec : {M : Type 1} → statement M

@@ -29,36 +29,36 @@ returns : tie.Need-returns
 returns c =
     let args = c .before .before .before .before .before .before .before .args in
     let self = args .self in
-    let tk = args .tokens .now in
+    let tokens = args .tokens .now in
     let codes₀ = args .codes .now in
     let ends-statement = c .before .before .before .ends-statement in
     let if2 = c .before .before .if2 in
     let add = c .add in
     λ events reports pool.
-    range-lone tk (view self codes₀ events reports pool) _ _ (omega flags) (ends-statement .ensures) (if2 .taken)
+    range-lone tokens (view self codes₀ events reports pool) _ _ (omega flags) (ends-statement .ensures) (if2 .taken)
     (add .ensures)
 
 returns-2 : tie.Need-returns-2
 returns-2 c =
     let args = c .before .before .before .before .before .before .args in
     let self = args .self in
-    let tk = args .tokens .now in
+    let tokens = args .tokens .now in
     let codes₀ = args .codes .now in
     let ends-statement = c .before .before .ends-statement in
     let if2 = c .before .if2 in
     let range = c .range in
     λ events reports pool.
-    range-token tk (view self codes₀ events reports pool) _ _ (omega flags) (ends-statement .ensures) (if2 .left)
+    range-token tokens (view self codes₀ events reports pool) _ _ (omega flags) (ends-statement .ensures) (if2 .left)
     (range .ensures codes₀ events reports pool)
 
 returns-3 : tie.Need-returns-3
 returns-3 c =
     let args = c .before .before .before .before .args in
     let self = args .self in
-    let tk = args .tokens .now in
+    let tokens = args .tokens .now in
     let codes₀ = args .codes .now in
     let less = c .less in
-    λ events reports pool. range-end tk (view self codes₀ events reports pool) _ (omega flags) (less .ensures)
+    λ events reports pool. range-end tokens (view self codes₀ events reports pool) _ (omega flags) (less .ensures)
 
 pub current-token-error-range-spec : {M : Type 1} → statement M
 current-token-error-range-spec =

@@ -25,8 +25,8 @@ returns : tie.Need-returns
 returns c =
     let args = c .before .before .before .before .before .before .before .before .args in
     let self = args .self in
-    let tk = args .tokens .now in
-    let ts = tokens-of tk in
+    let tokens = args .tokens .now in
+    let ts = tokens-of tokens in
     let events₀ = args .events .now in
     let codes₀ = args .codes .now in
     let silent = c .before .before .before .before .before .silent in
@@ -44,8 +44,8 @@ returns-2 : tie.Need-returns-2
 returns-2 c =
     let args = c .before .before .before .before .before .before .args in
     let self = args .self in
-    let tk = args .tokens .now in
-    let ts = tokens-of tk in
+    let tokens = args .tokens .now in
+    let ts = tokens-of tokens in
     let events₀ = args .events .now in
     let codes₀ = args .codes .now in
     let silent = c .before .before .before .silent in
@@ -56,7 +56,7 @@ returns-2 c =
           (sym (matches-is ask ts b (args .m) (view self codes₀ events₀ reports pool))
           ∙ answered _ false _ _ (silent .ensures .0 b codes₀ events₀ reports pool) (if1 .left))
           (push-expected .ensures .0 ask ts b events₀ reports pool),
-      (omega (flags, silent .ensures .1 .0, push-expected .ensures .1 tk), λ e. absurd (false≢true e)),
+      (omega (flags, silent .ensures .1 .0, push-expected .ensures .1 tokens), λ e. absurd (false≢true e)),
     )
 
 pub eat-spec : {M : Type 1} → statement M

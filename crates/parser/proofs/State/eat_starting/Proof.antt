@@ -28,8 +28,8 @@ returns : tie.Need-returns
 returns c =
     let args = c .before .before .before .before .before .before .before .before .before .before .before .before .before .before .args in
     let self = args .self in
-    let tk = args .tokens .now in
-    let ts = tokens-of tk in
+    let tokens = args .tokens .now in
+    let ts = tokens-of tokens in
     let events₀ = args .events .now in
     let codes₀ = args .codes .now in
     let at = c .before .before .before .before .before .before .before .before .before .before .at in
@@ -42,8 +42,8 @@ returns c =
           (marker-of (new .result)) (answered _ true _ _ (at .ensures .0 ask b events₀ reports pool) (if1 .taken)) (new .ensures)
           (start′ .ensures .0 _ reports pool) (consume .ensures .0 ask b _ reports pool),
       (
-        omega (flags, at .ensures .1 .0, start′ .ensures .1 tk, consume .ensures .1),
-        λ e. omega (flags, at .ensures .1 .0, start′ .ensures .1 tk, consume .ensures .1),
+        omega (flags, at .ensures .1 .0, start′ .ensures .1 tokens, consume .ensures .1),
+        λ e. omega (flags, at .ensures .1 .0, start′ .ensures .1 tokens, consume .ensures .1),
       ),
     )
 
@@ -51,8 +51,8 @@ returns-2 : tie.Need-returns-2
 returns-2 c =
     let args = c .before .before .before .before .before .before .before .args in
     let self = args .self in
-    let tk = args .tokens .now in
-    let ts = tokens-of tk in
+    let tokens = args .tokens .now in
+    let ts = tokens-of tokens in
     let events₀ = args .events .now in
     let codes₀ = args .codes .now in
     let at = c .before .before .before .at in

@@ -33,8 +33,8 @@ returns : tie.Need-returns
 returns c =
     let args = c .before .before .before .before .before .before .before .before .before .before .before .before .before .before .before .before .before .before .before .args in
     let self = args .self in
-    let tk = args .tokens .now in
-    let ts = tokens-of tk in
+    let tokens = args .tokens .now in
+    let ts = tokens-of tokens in
     let events₀ = args .events .now in
     let reports₀ = args .reports .now in
     let pool₀ = args .pool .now in
@@ -48,7 +48,7 @@ returns c =
           (view self codes₀ events₀ reports₀ pool₀) (view (peek .result) codes₀ events₀ reports₀ pool₀) _ _
           (peek .ensures .0 codes₀ events₀ reports₀ pool₀) (current-token-error-range .ensures events₀ reports₀ pool₀)
           (push-event .ensures .0 codes₀ reports₀ pool₀) (push-report .ensures .0 _ (eqb-true _ _ (if1 .taken))),
-      omega (flags, peek .ensures .1, push-event .ensures .1 tk, push-report .ensures .1 tk),
+      omega (flags, peek .ensures .1, push-event .ensures .1 tokens, push-report .ensures .1 tokens),
     )
 
 same-length-4 : tie.Need-same-length-4
@@ -58,8 +58,8 @@ returns-2 : tie.Need-returns-2
 returns-2 c =
     let args = c .before .before .before .before .before .before .before .before .before .before .before .before .args in
     let self = args .self in
-    let tk = args .tokens .now in
-    let ts = tokens-of tk in
+    let tokens = args .tokens .now in
+    let ts = tokens-of tokens in
     let events₀ = args .events .now in
     let reports₀ = args .reports .now in
     let pool₀ = args .pool .now in
@@ -73,7 +73,7 @@ returns-2 c =
           (peek .ensures .0 codes₀ events₀ reports₀ pool₀) (current-token-error-range .ensures events₀ reports₀ pool₀)
           (push-event .ensures .0 codes₀ reports₀ pool₀)
           (report-off (args .message) (args .hint) _ (span-of (args .label)) _ (if1 .left)),
-      omega (flags, peek .ensures .1, push-event .ensures .1 tk),
+      omega (flags, peek .ensures .1, push-event .ensures .1 tokens),
     )
 
 pub emit-spec : {M : Type 1} → statement M

@@ -16,17 +16,17 @@ unfolding left
 returns c =
     let args = c .before .before .before .args in
     let self = args .self in
-    let tk = args .tokens .now in
+    let tokens = args .tokens .now in
     let end-at = c .end-at in
-    (λ codes events reports pool. took-row tk _ (view self codes events reports pool) (omega flags) (end-at .ensures), omega flags)
+    (λ codes events reports pool. took-row tokens _ (view self codes events reports pool) (omega flags) (end-at .ensures), omega flags)
 
 returns-2 : tie.Need-returns-2
 unfolding left
 returns-2 c =
     let args = c .before .before .args in
     let self = args .self in
-    let tk = args .tokens .now in
-    (λ codes events reports pool. took-nothing tk (view self codes events reports pool) (omega flags), omega flags)
+    let tokens = args .tokens .now in
+    (λ codes events reports pool. took-nothing tokens (view self codes events reports pool) (omega flags), omega flags)
 
 pub next-token-spec : {M : Type 1} → statement M
 next-token-spec = tie.close (tie.spec add-t12 end-at-requires returns returns-2)

@@ -15,8 +15,8 @@ unfolding left
 returns c =
     let args = c .before .before .args in
     let self = args .self in
-    let tk = args .tokens .now in
-    let ts = tokens-of tk in
+    let tokens = args .tokens .now in
+    let ts = tokens-of tokens in
     let skip-trivia = c .skip-trivia in (
       λ codes events reports pool. skip-trivia .ensures .0 (view self codes events reports pool) ∙ sym (peek-is ts (view self codes events reports pool)),
       omega flags,

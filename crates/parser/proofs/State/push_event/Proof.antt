@@ -21,7 +21,7 @@ returns c =
 
 returns-2 : tie.Need-returns-2
 unfolding left
-returns-2 c = (λ codes reports pool. push-off _ _ _ (c .if1 .left), λ tk. omega flags)
+returns-2 c = (λ codes reports pool. push-off _ _ _ (c .if1 .left), λ tokens. omega flags)
 
 pub push-event-spec : {M : Type 1} → statement M
 push-event-spec = tie.close (tie.spec push-row-requires same-length returns returns-2)

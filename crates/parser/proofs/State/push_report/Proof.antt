@@ -82,7 +82,7 @@ returns c =
           report-fits (args .message) (args .hint) (span-of (args .range)) (span-of (args .label)) (view self codes₀ events reports₀ pool₀)
           codes₀ _ _ _ quiet (pool-count .ensures .0) (pool-count .ensures .1) (fits2 .ensures .0) (fits3 .ensures .0) _ _ _ _ _
           (if1 .taken) (if2 .taken) (low32 .ensures) (low322 .ensures) (low323 .ensures) (put-report .ensures) (put-codes .ensures),
-      λ tk. omega flags,
+      λ tokens. omega flags,
     )
 
 returns-2 : tie.Need-returns-2

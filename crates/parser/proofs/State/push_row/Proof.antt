@@ -48,7 +48,7 @@ unfolding M.push-row left
 returns c =
     let fits2 = c .before .fits2 in
     let if1 = c .if1 in
-    (λ codes reports pool. rw (← (fits2 .ensures .0), if1 .taken) (rw (sets3 _ _ _ _ _)), λ tk. omega flags)
+    (λ codes reports pool. rw (← (fits2 .ensures .0), if1 .taken) (rw (sets3 _ _ _ _ _)), λ tokens. omega flags)
 
 returns-2 : tie.Need-returns-2
 unfolding M.push-row left
@@ -56,7 +56,7 @@ returns-2 c =
     let fits2 = c .before .before .fits2 in
     let if1 = c .before .if1 in
     let refuse = c .refuse in
-    (λ codes reports pool. rw (← (fits2 .ensures .0), if1 .left) (refuse .ensures .0 codes _ reports pool), λ tk. refuse .ensures .1 tk)
+    (λ codes reports pool. rw (← (fits2 .ensures .0), if1 .left) (refuse .ensures .0 codes _ reports pool), λ tokens. refuse .ensures .1 tokens)
 
 pub push-row-spec : {M : Type 1} → statement M
 push-row-spec =

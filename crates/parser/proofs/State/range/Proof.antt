@@ -14,8 +14,8 @@ returns : tie.Need-returns
 returns c =
     let args = c .before .before .before .args in
     let self = args .self in
-    let tk = args .tokens .now in
-    let ts = tokens-of tk in
+    let tokens = args .tokens .now in
+    let ts = tokens-of tokens in
     let end-at = c .end-at in
     λ codes events reports pool.
     range-rows (drop (args .self .cursor .0) ts) (view self codes events reports pool) (args .self .byte .0) _ refl

@@ -18,8 +18,8 @@ unfolding left
 returns c =
     let args = c .before .before .before .args in
     let self = args .self in
-    let tk = args .tokens .now in
-    let ts = tokens-of tk in
+    let tokens = args .tokens .now in
+    let ts = tokens-of tokens in
     let peek = c .before .peek in
     let is-at = c .is-at in (
       λ b codes events reports pool.

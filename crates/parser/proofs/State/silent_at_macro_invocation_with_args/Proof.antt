@@ -17,8 +17,8 @@ returns : tie.Need-returns
 returns c =
     let args = c .before .before .before .before .before .args in
     let self = args .self in
-    let tk = args .tokens .now in
-    let ts = tokens-of tk in
+    let tokens = args .tokens .now in
+    let ts = tokens-of tokens in
     let silent-at = c .before .before .before .silent-at in
     let if1 = c .before .before .if1 in
     let is-next-at = c .is-next-at in (
@@ -32,8 +32,8 @@ returns-2 : tie.Need-returns-2
 returns-2 c =
     let args = c .before .before .before .before .args in
     let self = args .self in
-    let tk = args .tokens .now in
-    let ts = tokens-of tk in
+    let tokens = args .tokens .now in
+    let ts = tokens-of tokens in
     let silent-at = c .before .before .silent-at in
     let if1 = c .before .if1 in (
       λ ask b codes events reports pool.

@@ -17,8 +17,8 @@ unfolding left
 returns c =
     let args = c .before .before .before .before .args in
     let self = args .self in
-    let tk = args .tokens .now in
-    let ts = tokens-of tk in
+    let tokens = args .tokens .now in
+    let ts = tokens-of tokens in
     let set₀ = args .set .now in
     let peek = c .before .peek in
     let is-one-of-at = c .is-one-of-at in (

@@ -40,14 +40,14 @@ loop-less c =
 loop-again : tie.Need-loop-again Inv-loop μ-loop
 loop-again c =
     let args = c .before .before .before .before .before .before .args in
-    let tk = args .tokens .now in
+    let tokens = args .tokens .now in
     let set₀ = args .set .now in
     let loop = c .before .before .before .loop in
     let is-one-of-at = c .before .before .is-one-of-at in
     let if1 = c .before .if1 in
     let next-token = c .next-token in (
       λ codes events reports pool.
-          name-more tk set₀ (view (loop .q) codes events reports pool) (view (next-token .result) codes events reports pool)
+          name-more tokens set₀ (view (loop .q) codes events reports pool) (view (next-token .result) codes events reports pool)
           (is-one-of-at .ensures .1 (if1 .taken)) (sym (is-one-of-at .ensures .0) ∙ if1 .taken)
           (next-token .ensures .0 codes events reports pool)
           ∙ loop .inv .0 codes events reports pool,
@@ -57,8 +57,8 @@ loop-again c =
 returns : tie.Need-returns Inv-loop μ-loop
 returns c =
     let args = c .before .before .before .before .before .args in
-    let tk = args .tokens .now in
-    let ts = tokens-of tk in
+    let tokens = args .tokens .now in
+    let ts = tokens-of tokens in
     let set₀ = args .set .now in
     let loop = c .before .before .loop in
     let is-one-of-at = c .before .is-one-of-at in

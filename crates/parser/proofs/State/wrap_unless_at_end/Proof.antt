@@ -32,8 +32,8 @@ returns : tie.Need-returns
 returns c =
     let args = c .before .before .before .before .before .args in
     let self = args .self in
-    let tk = args .tokens .now in
-    let ts = tokens-of tk in
+    let tokens = args .tokens .now in
+    let ts = tokens-of tokens in
     let events₀ = args .events .now in
     let at-end = c .before .before .at-end in
     let if1 = c .before .if1 in (
@@ -50,8 +50,8 @@ returns-2 : tie.Need-returns-2
 returns-2 c =
     let args = c .before .before .before .before .before .before .before .before .before .before .before .before .before .before .before .before .before .args in
     let self = args .self in
-    let tk = args .tokens .now in
-    let ts = tokens-of tk in
+    let tokens = args .tokens .now in
+    let ts = tokens-of tokens in
     let events₀ = args .events .now in
     let at-end = c .before .before .before .before .before .before .before .before .before .before .before .before .before .before .at-end in
     let if1 = c .before .before .before .before .before .before .before .before .before .before .before .before .before .if1 in
@@ -66,7 +66,7 @@ returns-2 c =
           (view (start′ .result) codes _ reports pool) _ _ (omega arith) (new .ensures) (start′ .ensures .0 codes reports pool)
           (sym (bump′ .ensures .0 b codes reports pool ∙ walk-act ask ts b bump (view (start′ .result) codes _ reports pool)))
           (complete .ensures .0 codes reports pool)),
-      omega (flags, at-end .ensures .1 .0, start′ .ensures .1 tk, bump′ .ensures .1, complete .ensures .1 tk),
+      omega (flags, at-end .ensures .1 .0, start′ .ensures .1 tokens, bump′ .ensures .1, complete .ensures .1 tokens),
     )
 
 pub wrap-unless-at-end-spec : {M : Type 1} → statement M

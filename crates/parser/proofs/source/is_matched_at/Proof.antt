@@ -16,18 +16,18 @@ matches-requires c κs = tt
 returns : tie.Need-returns
 returns c =
     let args = c .before .before .before .before .args in
-    let tk = args .tokens .now in
+    let tokens = args .tokens .now in
     let kind-at = c .before .kind-at in
     let matches = c .matches in (
-      is-one-of-rows tk (kinds-of (args .m)) (args .at) _ _ (omega flags) (kind-at .ensures .0) (matches .ensures),
+      is-one-of-rows tokens (kinds-of (args .m)) (args .at) _ _ (omega flags) (kind-at .ensures .0) (matches .ensures),
       λ e. omega flags,
     )
 
 returns-2 : tie.Need-returns-2
 returns-2 c =
     let args = c .before .before .args in
-    let tk = args .tokens .now in
-    (first-past-rows (kinds-of (args .m)) tk (args .at) (omega flags), λ e. absurd (false≢true e))
+    let tokens = args .tokens .now in
+    (first-past-rows (kinds-of (args .m)) tokens (args .at) (omega flags), λ e. absurd (false≢true e))
 
 pub is-matched-at-spec : {M : Type 1} → statement M
 is-matched-at-spec = tie.close (tie.spec kind-at-requires matches-requires returns returns-2)

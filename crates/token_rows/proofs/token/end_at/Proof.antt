@@ -22,15 +22,15 @@ add-requires c κs = tt
 returns : tie.Need-returns
 returns c =
     let args = c .before .before .before .before .args in
-    let tk = args .tokens .now in
+    let tokens = args .tokens .now in
     let add = c .add in
-    end-in tk (args .at) (args .start) _ (omega flags) (add .ensures)
+    end-in tokens (args .at) (args .start) _ (omega flags) (add .ensures)
 
 returns-2 : tie.Need-returns-2
 returns-2 c =
     let args = c .before .before .args in
-    let tk = args .tokens .now in
-    end-past tk (args .at) (args .start) (omega flags)
+    let tokens = args .tokens .now in
+    end-past tokens (args .at) (args .start) (omega flags)
 
 pub end-at-spec : {M : Type 1} → statement M
 end-at-spec =

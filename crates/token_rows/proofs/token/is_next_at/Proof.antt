@@ -13,15 +13,15 @@ is-at-requires c κs = tt
 returns : tie.Need-returns
 returns c =
     let args = c .before .before .before .args in
-    let tk = args .tokens .now in
+    let tokens = args .tokens .now in
     let is-at = c .is-at in
-    is-next-rows tk (args .at) (args .kind) _ (omega flags) (is-at .ensures .0)
+    is-next-rows tokens (args .at) (args .kind) _ (omega flags) (is-at .ensures .0)
 
 returns-2 : tie.Need-returns-2
 returns-2 c =
     let args = c .before .before .args in
-    let tk = args .tokens .now in
-    is-next-past tk (args .at) (args .kind) (omega flags)
+    let tokens = args .tokens .now in
+    is-next-past tokens (args .at) (args .kind) (omega flags)
 
 pub is-next-at-spec : {M : Type 1} → statement M
 is-next-at-spec = tie.close (tie.spec add-is-at is-at-requires returns returns-2)

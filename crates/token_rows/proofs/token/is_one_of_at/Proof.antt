@@ -14,18 +14,18 @@ one-of-requires c κs = tt
 returns : tie.Need-returns
 returns c =
     let args = c .before .before .before .before .before .args in
-    let tk = args .tokens .now in
+    let tokens = args .tokens .now in
     let set₀ = args .set .now in
     let kind-at = c .before .kind-at in
     let one-of = c .one-of in
-    (is-one-of-rows tk set₀ (args .at) _ _ (omega flags) (kind-at .ensures .0) (one-of .ensures), λ e. omega flags)
+    (is-one-of-rows tokens set₀ (args .at) _ _ (omega flags) (kind-at .ensures .0) (one-of .ensures), λ e. omega flags)
 
 returns-2 : tie.Need-returns-2
 returns-2 c =
     let args = c .before .before .before .args in
-    let tk = args .tokens .now in
+    let tokens = args .tokens .now in
     let set₀ = args .set .now in
-    (first-past-rows set₀ tk (args .at) (omega flags), λ e. absurd (false≢true e))
+    (first-past-rows set₀ tokens (args .at) (omega flags), λ e. absurd (false≢true e))
 
 pub is-one-of-at-spec : {M : Type 1} → statement M
 is-one-of-at-spec = tie.close (tie.spec kind-at-requires one-of-requires returns returns-2)

@@ -20,15 +20,15 @@ is-trivia-requires c κs = tt
 returns : tie.Need-returns
 returns c =
     let args = c .before .before .before .before .args in
-    let tk = args .tokens .now in
+    let tokens = args .tokens .now in
     let is-trivia = c .is-trivia in
-    (trivia-in tk (args .at) _ (omega flags) (is-trivia .ensures), λ e. omega flags)
+    (trivia-in tokens (args .at) _ (omega flags) (is-trivia .ensures), λ e. omega flags)
 
 returns-2 : tie.Need-returns-2
 returns-2 c =
     let args = c .before .before .args in
-    let tk = args .tokens .now in
-    (trivia-past tk (args .at) (omega flags), λ e. absurd (false≢true e))
+    let tokens = args .tokens .now in
+    (trivia-past tokens (args .at) (omega flags), λ e. absurd (false≢true e))
 
 pub is-trivia-at-spec : {M : Type 1} → statement M
 is-trivia-at-spec =

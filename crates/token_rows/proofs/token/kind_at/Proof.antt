@@ -20,22 +20,22 @@ cast-result c = omega flags
 returns : tie.Need-returns
 returns c =
     let args = c .before .before .before .args in
-    let tk = args .tokens .now in
+    let tokens = args .tokens .now in
     let if2 = c .if2 in
-    (kind-plain tk (args .at) (omega flags) (if2 .taken), λ e. omega flags)
+    (kind-plain tokens (args .at) (omega flags) (if2 .taken), λ e. omega flags)
 
 returns-2 : tie.Need-returns-2
 returns-2 c =
     let args = c .before .before .before .args in
-    let tk = args .tokens .now in
+    let tokens = args .tokens .now in
     let if2 = c .if2 in
-    (kind-error tk (args .at) (omega flags) (if2 .left), λ e. omega flags)
+    (kind-error tokens (args .at) (omega flags) (if2 .left), λ e. omega flags)
 
 returns-3 : tie.Need-returns-3
 returns-3 c =
     let args = c .before .args in
-    let tk = args .tokens .now in
-    (sym (kind-past tk (args .at) (omega flags)), λ e. absurd (e refl))
+    let tokens = args .tokens .now in
+    (sym (kind-past tokens (args .at) (omega flags)), λ e. absurd (e refl))
 
 pub kind-at-spec : {M : Type 1} → statement M
 kind-at-spec = tie.close (tie.spec mul-kind mul-kind-2 shared-slice-read-kind cast-result returns returns-2 returns-3)

@@ -36,13 +36,13 @@ loop-less c = omega (flags, c .before .before .is-trivia-at .ensures .1 (c .befo
 loop-again : tie.Need-loop-again Inv-loop μ-loop
 loop-again c =
     let args = c .before .before .before .before .before .args in
-    let tk = args .tokens .now in
+    let tokens = args .tokens .now in
     let loop = c .before .before .before .loop in
     let is-trivia-at = c .before .before .is-trivia-at in
     let if1 = c .before .if1 in
     let end-at = c .end-at in (
       λ m.
-          skip-more tk (loop .at) (loop .byte) _ (is-trivia-at .ensures .1 (if1 .taken)) (sym (is-trivia-at .ensures .0) ∙ if1 .taken)
+          skip-more tokens (loop .at) (loop .byte) _ (is-trivia-at .ensures .1 (if1 .taken)) (sym (is-trivia-at .ensures .0) ∙ if1 .taken)
           (end-at .ensures) m
           ∙ loop .inv .0 m,
       omega flags,

@@ -55,7 +55,7 @@ returns-2 c =
           push-either ask ts b (args .self) (told .given .0 .0) (told .given .0 .1 .0) m _ _ (told .given .1)
           (pushed .ensures .0 ts b events reports pool ∙ ap (λ (k : ℕ). perform ts b (add-expected k) m) (first .ensures ∙ ap first-code (told .given .1)))
           (pushed2 .ensures .0 ts b events reports pool),
-      λ tk. omega (flags, pushed .ensures .1 tk, pushed2 .ensures .1 tk),
+      λ tokens. omega (flags, pushed .ensures .1 tokens, pushed2 .ensures .1 tokens),
     )
 
 returns-3 : tie.Need-returns-3
