@@ -26,9 +26,9 @@
  * new minor number says that something a caller relies on has changed, for instance how many numbers a row has.
  */
 #define DT_PARSER_VERSION_MAJOR 0
-#define DT_PARSER_VERSION_MINOR 1
+#define DT_PARSER_VERSION_MINOR 2
 #define DT_PARSER_VERSION_PATCH 0
-/* As one number, to compare in an #if: 0.1.0 is 100, 1.2.3 is 10203. */
+/* As one number, to compare in an #if: 0.2.0 is 200, 1.2.3 is 10203. */
 #define DT_PARSER_VERSION (10000 * DT_PARSER_VERSION_MAJOR + 100 * DT_PARSER_VERSION_MINOR + DT_PARSER_VERSION_PATCH)
 
 #ifdef __cplusplus
@@ -146,25 +146,26 @@ DT_ASSERT_ROW(dt_report_row, DT_ROW_REPORT);
 #undef DT_ASSERT_ROW
 
 /*
- * The row after a subtree: that of the next sibling if there is one, else of what follows the parent's subtree; `count`
- * at the end. trees are the `count` rows of an accepted call (dt_answer.trees), at is the row of the subtree's root.
- * Rows that are not a tree lead no further than `count`. The time is in the subtree's size.
+ * The row after a subtree: that of the next sibling if there is one, else of what follows the parent's subtree;
+ * tree_count at the end. trees are the rows of an accepted call, tree_count how many they are (dt_answer.tree_count), row
+ * is that of the subtree's root. Rows that are not a tree lead no further than tree_count. The time is in the subtree's
+ * size.
  *
  * The children of a node, in order:
  *
  *   size_t child = node + 1;
- *   for (uint32_t i = 0; i < trees[node].count; i++, child = dt_after_subtree(trees, count, child))
+ *   for (uint32_t i = 0; i < trees[node].count; i++, child = dt_after_subtree(trees, tree_count, child))
  *       visit(&trees[child]);
  */
-static inline size_t dt_after_subtree(const struct dt_tree_row *trees, size_t count, size_t at)
+static inline size_t dt_after_subtree(const struct dt_tree_row *trees, size_t tree_count, size_t row)
 {
     size_t open = 1; /* subtrees that have still to end */
-    for (; open > 0 && at < count; at++) {
+    for (; open > 0 && row < tree_count; row++) {
         open--;
-        if (trees[at].class_ == DT_CLASS_NODE)
-            open += trees[at].count;
+        if (trees[row].class_ == DT_CLASS_NODE)
+            open += trees[row].count;
     }
-    return at;
+    return row;
 }
 
 /* Token kinds, of a token row, a leaf or an expectation. After a kind: its fixed text, which the bytes must be. */
@@ -323,12 +324,12 @@ enum dt_expected {
 
 /* Counts are 0 unless number is DT_ACCEPTED. */
 struct dt_answer {
-    uint32_t number;     /* enum dt_refusal */
-    size_t place;        /* 0 if accepted */
-    size_t trees;        /* tree rows written */
-    size_t errors;       /* lexical errors written */
-    size_t reports;      /* reports written */
-    size_t expectations; /* numbers of the pool written */
+    uint32_t number;          /* enum dt_refusal */
+    size_t place;             /* 0 if accepted */
+    size_t tree_count;        /* tree rows written */
+    size_t error_count;       /* lexical errors written */
+    size_t report_count;      /* reports written */
+    size_t expectation_count; /* expectations written, each a number of the pool */
 };
 
 /*

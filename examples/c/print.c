@@ -44,10 +44,10 @@ static size_t print_row(const struct input *in, const struct dt_tree_row *row, s
 int print_tree(const struct input *in, const struct parsed *p)
 {
     size_t depth = 0, at = 0, i;
-    uint32_t *left = (uint32_t *)malloc((p->answer.trees + 1) * sizeof *left);
+    uint32_t *left = (uint32_t *)malloc((p->answer.tree_count + 1) * sizeof *left);
     if (!left)
         return 0;
-    for (i = 0; i < p->answer.trees; i++) {
+    for (i = 0; i < p->answer.tree_count; i++) {
         const struct dt_tree_row *row = &p->trees[i];
         indent(depth);
         at = print_row(in, row, at);
@@ -76,7 +76,7 @@ static size_t head_end(const struct input *in, const struct parsed *p, size_t no
         if (row->class_ == DT_CLASS_LEAF && row->kind == DT_TOKEN_LCURLY)
             break;
         at += row->width;
-        child = dt_after_subtree(p->trees, p->answer.trees, child);
+        child = dt_after_subtree(p->trees, p->answer.tree_count, child);
     }
     while (at > start && strchr(" \t\r\n", in->bytes[at - 1]))
         at--;
@@ -98,7 +98,7 @@ static void print_children(const struct input *in, const struct parsed *p, size_
             print_children(in, p, child, at, depth + 1);
         }
         at += row->width;
-        child = dt_after_subtree(p->trees, p->answer.trees, child);
+        child = dt_after_subtree(p->trees, p->answer.tree_count, child);
     }
 }
 
@@ -156,11 +156,11 @@ static void print_expected(const struct input *in, const struct parsed *p, const
 void print_messages(const struct input *in, const struct parsed *p)
 {
     size_t i;
-    for (i = 0; i < p->answer.errors; i++) {
+    for (i = 0; i < p->answer.error_count; i++) {
         const struct dt_error_row *error = &p->errors[i];
         printf("%u..%u: %s\n", error->start, error->end, dt_lex_error_text(error->number));
     }
-    for (i = 0; i < p->answer.reports; i++) {
+    for (i = 0; i < p->answer.report_count; i++) {
         const struct dt_report_row *report = &p->reports[i];
         printf("%u..%u: %s", report->start, report->end, dt_message_text(report->message));
         if (report->message == DT_MESSAGE_EXPECTED)

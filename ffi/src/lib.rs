@@ -18,22 +18,22 @@ pub fn bound(n: usize) -> Lengths {
 pub struct Answer {
     pub number: u32,
     pub place: usize,
-    pub trees: usize,
-    pub errors: usize,
-    pub reports: usize,
-    pub expectations: usize,
+    pub tree_count: usize,
+    pub error_count: usize,
+    pub report_count: usize,
+    pub expectation_count: usize,
 }
 
 impl Answer {
     /// The answer to an accepted call that wrote so many numbers to each buffer.
     pub fn accepted(used: Lengths) -> Answer {
-        let [_, trees, errors, reports, expectations] = std::array::from_fn(|i| used[i] / ROW[i]);
-        Answer { number: 0, place: 0, trees, errors, reports, expectations }
+        let [_, tree_count, error_count, report_count, expectation_count] = std::array::from_fn(|i| used[i] / ROW[i]);
+        Answer { number: 0, place: 0, tree_count, error_count, report_count, expectation_count }
     }
 
     /// How many numbers of each buffer hold the answer's rows; events are work only.
     pub fn used(&self) -> Lengths {
-        let rows = [0, self.trees, self.errors, self.reports, self.expectations];
+        let rows = [0, self.tree_count, self.error_count, self.report_count, self.expectation_count];
         std::array::from_fn(|i| ROW[i] * rows[i])
     }
 }

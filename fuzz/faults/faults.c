@@ -16,20 +16,20 @@ static int fault(void)
 }
 
 /* The last report of an accepted call. */
-static uint32_t *last(uint32_t *reports, const struct dt_answer *a) { return reports + 9 * (a->reports - 1); }
+static uint32_t *last(uint32_t *reports, const struct dt_answer *a) { return reports + DT_ROW_REPORT * (a->report_count - 1); }
 
 /* Faults of an accepted call's rows. */
 static void damage_rows(struct dt_answer *a, uint32_t *trees, uint32_t *errors, uint32_t *reports, uint32_t *pool)
 {
     switch (fault()) {
-    case 1: if (a->trees > 10) trees[4 * a->trees - 1]++; break;                       /* the last row's count */
-    case 2: if (a->errors > 1) errors[3 * a->errors - 1]++; break;                     /* a lexical error's end */
-    case 3: if (a->reports && last(reports, a)[3] > 5) last(reports, a)[3]--; break;    /* a mark */
-    case 4: if (a->reports && last(reports, a)[0] == 7) last(reports, a)[8] = 0; break; /* a label's end */
-    case 5: if (a->reports && last(reports, a)[6] == 6) last(reports, a)[6] = 0; break; /* a hint */
-    case 6: if (a->expectations && pool[a->expectations - 1] == 108) pool[a->expectations - 1] = 107; break;
-    case 7: if (a->expectations > 20) a->expectations--; break;                        /* a count */
-    case 8: if (a->trees > 3 && trees[4] == 0 && trees[5] == 16) trees[5] = 15; break;   /* a node's kind */
+    case 1: if (a->tree_count > 10) trees[DT_ROW_TREE * a->tree_count - 1]++; break;                       /* the last row's count */
+    case 2: if (a->error_count > 1) errors[DT_ROW_ERROR * a->error_count - 1]++; break;                     /* a lexical error's end */
+    case 3: if (a->report_count && last(reports, a)[3] > 5) last(reports, a)[3]--; break;    /* a mark */
+    case 4: if (a->report_count && last(reports, a)[0] == 7) last(reports, a)[8] = 0; break; /* a label's end */
+    case 5: if (a->report_count && last(reports, a)[6] == 6) last(reports, a)[6] = 0; break; /* a hint */
+    case 6: if (a->expectation_count && pool[a->expectation_count - 1] == 108) pool[a->expectation_count - 1] = 107; break;
+    case 7: if (a->expectation_count > 20) a->expectation_count--; break;                        /* a count */
+    case 8: if (a->tree_count > 3 && trees[4] == 0 && trees[5] == 16) trees[5] = 15; break;   /* a node's kind */
     }
 }
 
@@ -42,7 +42,7 @@ static void damage_refusal(struct dt_answer *a, uint32_t *trees, size_t trees_le
     case 11: if (a->number == 8 && trees_len) trees[trees_len - 1] = 1; break;  /* not all zero */
     case 12: if (a->number == 4 && pool_len) pool[0] = 0; break;                /* not as it was */
     case 13: if (a->number == 5 && a->place) a->place--; break;
-    case 14: if (a->number == 6) a->trees = 1; break;                           /* a count of a refused call */
+    case 14: if (a->number == 6) a->tree_count = 1; break;                           /* a count of a refused call */
     }
 }
 

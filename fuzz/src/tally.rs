@@ -44,7 +44,7 @@ impl Tally {
         self.by_number[answer.number as usize] += 1;
         self.by_entry[if call.entry <= 4 { call.entry as usize } else { 0 }] += 1;
         self.by_way[way] += 1;
-        self.reports += answer.reports as u64;
+        self.reports += answer.report_count as u64;
         self.unchanged += (unchanged == Some(Unchanged::Same)) as u64;
         self.panics += (unchanged == Some(Unchanged::Panics)) as u64
     }

@@ -67,10 +67,10 @@ static uint32_t checked(const char *name, uint32_t entry, const uint8_t *bytes, 
         fail(name, "not the refusal of causes 1 to 3");
     if (a.number > 8 || (a.number == 0 && a.place != 0))
         fail(name, "a number or a place that there is not");
-    if (a.number && (a.trees || a.errors || a.reports || a.expectations))
+    if (a.number && (a.tree_count || a.error_count || a.report_count || a.expectation_count))
         fail(name, "a refused call that counts something");
     if (a.number == 0)
-        check_root(name, (const struct dt_tree_row *)b[TREES].at, a.trees, n);
+        check_root(name, (const struct dt_tree_row *)b[TREES].at, a.tree_count, n);
     for (int i = 0; i < BUFFERS; i++) {
         int left = b[i].length > used[i] && a.number > 0 && a.number < 5;
         if (used[i] > b[i].length || rest(b[i], used[i]) != left)

@@ -59,8 +59,8 @@ static struct dt_answer call(uint32_t entry, const uint8_t *bytes, size_t n, con
 static void counted(struct dt_answer a, size_t *out)
 {
     out[EVENTS] = 0;
-    out[TREES] = a.trees * DT_ROW_TREE;
-    out[ERRORS] = a.errors * DT_ROW_ERROR;
-    out[REPORTS] = a.reports * DT_ROW_REPORT;
-    out[POOL] = a.expectations;
+    out[TREES] = a.tree_count * DT_ROW_TREE;
+    out[ERRORS] = a.error_count * DT_ROW_ERROR;
+    out[REPORTS] = a.report_count * DT_ROW_REPORT;
+    out[POOL] = a.expectation_count;
 }

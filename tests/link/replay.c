@@ -41,7 +41,7 @@ static void print(const struct one *c, struct dt_answer a, struct buffer *b)
 {
     size_t used[BUFFERS];
     counted(a, used);
-    printf("%s %u %zu %zu %zu %zu %zu", c->name, a.number, a.place, a.trees, a.errors, a.reports, a.expectations);
+    printf("%s %u %zu %zu %zu %zu %zu", c->name, a.number, a.place, a.tree_count, a.error_count, a.report_count, a.expectation_count);
     for (int i = 0; i < BUFFERS; i++)
         printf(" %d", rest(b[i], used[i]));
     printf("\n");

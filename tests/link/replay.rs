@@ -21,7 +21,7 @@ fn rest(after: &[u32]) -> u32 {
 
 fn print(out: &mut impl Write, name: &str, a: Answer, buffers: &Buffers) -> std::io::Result<()> {
     let used = a.used();
-    write!(out, "{name} {} {} {} {} {} {}", a.number, a.place, a.trees, a.errors, a.reports, a.expectations)?;
+    write!(out, "{name} {} {} {} {} {} {}", a.number, a.place, a.tree_count, a.error_count, a.report_count, a.expectation_count)?;
     for (b, n) in buffers.iter().zip(used) {
         write!(out, " {}", rest(&b[n..]))?
     }

@@ -17,8 +17,8 @@ fn facts(name: &str) {
     let mut port = Port::fitting(&input);
     let (n, a) = (input.rows.len(), port.parse(&input));
     let bound_bytes = 4 * bound(n).iter().sum::<usize>();
-    print!("{name},{n},{},{},{},{},", input.text.len(), a.trees, a.errors, a.reports);
-    println!("{},{},{bound_bytes}", a.expectations, port.bytes())
+    print!("{name},{n},{},{},{},{},", input.text.len(), a.tree_count, a.error_count, a.report_count);
+    println!("{},{},{bound_bytes}", a.expectation_count, port.bytes())
 }
 
 /// Times of one input, a number for each round.

@@ -100,11 +100,11 @@ impl Parser {
     /// The rows of an accepted call as values.
     fn read<'i>(&self, answer: &Answer, input: &Input<'i>) -> Result<Parse<'i>, Error> {
         let Buffers { trees, errors, reports, pool, .. } = &self.buffers;
-        let pool = pool.get(..answer.expectations).ok_or(short("expectations"))?;
+        let pool = pool.get(..answer.expectation_count).ok_or(short("expectations"))?;
         Ok(Parse {
-            tree: Tree::read(rows::front(trees, answer.trees).ok_or(short("tree rows"))?, input)?,
-            lexical_errors: lexical::read(rows::front(errors, answer.errors).ok_or(short("lexical errors"))?)?,
-            reports: report::read(rows::front(reports, answer.reports).ok_or(short("reports"))?, pool, input)?,
+            tree: Tree::read(rows::front(trees, answer.tree_count).ok_or(short("tree rows"))?, input)?,
+            lexical_errors: lexical::read(rows::front(errors, answer.error_count).ok_or(short("lexical errors"))?)?,
+            reports: report::read(rows::front(reports, answer.report_count).ok_or(short("reports"))?, pool, input)?,
         })
     }
 }
@@ -122,16 +122,16 @@ mod tests {
         Input::new(b" ", vec![Token::new(TokenKind::Whitespace, 1)])
     }
 
-    fn answer(number: u32, trees: usize) -> Answer {
-        Answer { number, place: 0, trees, errors: 0, reports: 0, expectations: 0 }
+    fn answer(number: u32, tree_count: usize) -> Answer {
+        Answer { number, place: 0, tree_count, error_count: 0, report_count: 0, expectation_count: 0 }
     }
 
     /// What comes of a library that always gives this answer, and how often it is called.
-    fn parse_by(number: u32, trees: usize) -> (Error, usize) {
+    fn parse_by(number: u32, tree_count: usize) -> (Error, usize) {
         let mut calls = 0;
         let call = |_: u32, _: &[u8], _: &[u32], _: &mut Buffers| {
             calls += 1;
-            answer(number, trees)
+            answer(number, tree_count)
         };
         let error = Parser::new().parse_by(call, Entrypoint::SourceFile, &blank()).unwrap_err();
         (error, calls)

@@ -7,10 +7,10 @@ use crate::buffers::Buffers;
 pub(crate) struct Answer {
     pub number: u32,
     pub place: usize,
-    pub trees: usize,
-    pub errors: usize,
-    pub reports: usize,
-    pub expectations: usize,
+    pub tree_count: usize,
+    pub error_count: usize,
+    pub report_count: usize,
+    pub expectation_count: usize,
 }
 
 #[allow(unsafe_code)]

@@ -255,10 +255,10 @@ eats p s r codes tokens events =
 
 -- `eat_starting` of k: whether it matched, the marker m, and the numbers r after it
 abbrev pub starts : C.Matcher → State → Bool → Marker → State → Lent → Lent → Lent → Type 0
-starts k s yes m r codes tokens events =
+starts k s matched m r codes tokens events =
     (ask : Rule → Machine → Walked) (b : Span) (reports pool : List ℕ)
     → starting ask (tokens-of (now (tokens .entry))) b k (view s (now (codes .entry)) (now (events .entry)) reports pool)
-    ≡ record { yes = yes; marker = marker-of m; on = view r (now (codes .exit)) (now (events .exit)) reports pool }
+    ≡ record { yes = matched; marker = marker-of m; on = view r (now (codes .exit)) (now (events .exit)) reports pool }
 
 -- ---------------------------------------------------------------- the same of the whole parser
 
