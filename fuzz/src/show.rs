@@ -13,9 +13,10 @@ pub fn quoted(line: &str) -> String {
 }
 
 fn answer(a: &Answer) -> String {
-    let Answer { number, place, trees, errors, reports, expectations } = a;
+    let Answer { number, place, tree_count, error_count, report_count, expectation_count } = a;
     format!(
-        "number {number}, place {place}, tree rows {trees}, lexical errors {errors}, reports {reports}, expectations {expectations}"
+        "number {number}, place {place}, tree rows {tree_count}, lexical errors {error_count}, \
+         reports {report_count}, expectations {expectation_count}"
     )
 }
 

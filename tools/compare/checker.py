@@ -20,7 +20,7 @@ lent e t x r p = record { events = e; trees = t; errors = x; reports = r; pool =
 
 abbrev result : ℕ → ℕ → ℕ → ℕ → ℕ → ℕ → Buffers → Result
 result n p t x r e l =
-    record { answer = record { number = n; place = p; trees = t; errors = x; reports = r; expectations = e }; buffers = l }
+    record { answer = record { number = n; place = p; tree-count = t; error-count = x; report-count = r; expectation-count = e }; buffers = l }
 
 """
 
