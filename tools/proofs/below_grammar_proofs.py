@@ -51,11 +51,11 @@ MODULES = {
     "Rattle.machine.specs.Walk": "Walked said walk unlabelled",
     "Rattle.machine.proofs.Turns": "few-rows",
     "Rattle.machine.proofs.Way": "c-walk c-act c-ret c-seq c-yes c-no c-mark completed",
-    "Rattle.parser.specs.View": "view view-of left ans-of span-of",
-    "Rattle.steps.specs.View": "own-name goes found",
+    "Rattle.parser.specs.View": "view parser-view tokens-left ans-of span-of",
+    "Rattle.steps.specs.View": "own-name took-if-again took-unless-no",
     "Rattle.steps.proofs.Left": "ahead-falls some-left",
     "Rattle.steps.proofs.Ways": "turns stops-yes closes-to c-flag c-unclosed",
-    "Rattle.steps.proofs.Steps": "c-started c-unstarted c-ret-yes c-ret-no c-any closing ignored goes-one found-one went-told ended-told other-ends no-also yes-also again-also some-is at-one at-none taken-some starting-some",
+    "Rattle.steps.proofs.Steps": "c-started c-unstarted c-ret-yes c-ret-no c-any closing ignored again-one unless-no-one went-told ended-told other-ends no-also yes-also again-also some-is at-one at-none taken-some starting-some",
 }
 
 # What of a crate's own Subprograms its proofs name.
@@ -188,17 +188,17 @@ def prefixes(c):
     some = "some-is (@some .result) (@ignore .result) _ _ _ _ _ (@some .ensures .0) (@some .ensures .1)"
 
     def name_or_label(need, answer, walk):
-        same = ", ap (left (@@ .args .tokens .now)) (@some .ensures .0)" if answer == "own" else ""
+        same = ", ap (tokens-left (@@ .args .tokens .now)) (@some .ensures .0)" if answer == "own" else ""
         return f"omega (arith, PROGRESS{same})"
     c.way("node_or_prop_prefix/label_or_name", mark(seq(call("consume"), when(call("eat"), close("DtLabel", "again"), when(call("eat-unit-address-and-at-colon"), seq(call("error"), close("ParseError", "again")), ignore("own"))))),
           name_or_label, "silent", before=("some", some))
 
     def progress(need, answer, walk):
-        one = "" if answer else ", goes-one (@label-or-name .result .ans), found-one (@label-or-name .result .ans)"
+        one = "" if answer else ", again-one (@label-or-name .result .ans), unless-no-one (@label-or-name .result .ans)"
         return f"(omega (arith, PROGRESS{one}), omega (arith, PROGRESS{one}))"
     c.way("node_or_prop_prefix/turn", when(call("at", 3), call("label-or-name"), when(call("eat", 0), YES, when(call("eat", 2), YES, NO))),
           progress, "prefix-turn eat-starting_inside_else_")
-    again = "@turn .ensures .1 .0, ap goes (@enum-told .given .1)"
+    again = "@turn .ensures .1 .0, ap took-if-again (@enum-told .given .1)"
     whole = "walk ask (tokens-of tokens) b (loop (prefix-turn (own-name allow)))"
     c.proof("node_or_prop_prefix/labels_and_name", {
         "loop-holds": "(λ ask b. refl, (le-refl _, (refl, (refl, refl))))",
@@ -207,8 +207,8 @@ def prefixes(c):
         "returns": "(λ ask b. ended-told (@turn .result .ans) (c-walk (@turn .ensures .0 ask b)) (other-ends (@turn .result .ans) (@match .keys2)) ∙ @loop .inv .0 ask b, omega (arith, @turn .ensures .1 .1, @loop .inv .1 .0))",
     }, "`labels_and_name`: the loop of `prefix-turn`.",
         inv=("codes₀ tokens events₀ reports₀ pool₀ allow q₀ codes events reports pool q",
-             f"((ask : Rule → Machine → Walked) (b : Span) → {whole} (view q codes events reports pool) ≡ {whole} (view q₀ codes₀ events₀ reports₀ pool₀)) × ((left tokens q ≤ left tokens q₀) × ((length events ≡ length events₀) × ((length reports ≡ length reports₀) × (length pool ≡ length pool₀))))"),
-        measure="left tokens q")
+             f"((ask : Rule → Machine → Walked) (b : Span) → {whole} (view q codes events reports pool) ≡ {whole} (view q₀ codes₀ events₀ reports₀ pool₀)) × ((tokens-left tokens q ≤ tokens-left tokens q₀) × ((length events ≡ length events₀) × ((length reports ≡ length reports₀) × (length pool ≡ length pool₀))))"),
+        measure="tokens-left tokens q")
     c.way("node_or_prop_prefix/eat_node_or_prop_prefix", when(call("eat"), call("labels-and-name"), call("labels-and-name")), le, "eat-node-or-prop-prefix")
 
 
@@ -252,8 +252,8 @@ def left_over(c):
         "returns": ("left-over-turn", f"(λ ask b reports pool. stops-yes (c-no {{t = false}} (c-yes {end} (@if1 .taken) c-ret) refl c-ret) ∙ @loop .inv .0 ask b reports pool, {LEFT})"),
     }, "`bump_all`: the loop of `left-over-turn`.",
         inv=("tokens events₀ q₀ events q",
-             f"((ask : Rule → Machine → Walked) (b : Span) (reports pool : List ℕ) → {whole} (view-of q events reports pool) ≡ {whole} (view-of q₀ events₀ reports pool)) × ((left tokens (q .s) ≤ left tokens (q₀ .s)) × (length events ≡ length events₀))"),
-        measure="left tokens (q .s)")
+             f"((ask : Rule → Machine → Walked) (b : Span) (reports pool : List ℕ) → {whole} (parser-view q events reports pool) ≡ {whole} (parser-view q₀ events₀ reports pool)) × ((tokens-left tokens (q .s) ≤ tokens-left tokens (q₀ .s)) × (length events ≡ length events₀))"),
+        measure="tokens-left tokens (q .s)")
     end = "(c-act (@at-end .ensures .0 b _ _ _))"
     wrapped = "c-mark (@new .ensures) (@start .ensures .0 _ _) (c-seq (c-seq (c-walk (@error .ensures .0 ask b)) (c-walk (@bump-all .ensures .0 ask b _ _))) c-ret) (completed 9 (@complete .ensures .0 _ _))"
     c.proof("nodes/left_over", {

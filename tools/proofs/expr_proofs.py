@@ -18,7 +18,7 @@ import sys
 sys.path.insert(0, os.path.dirname(__file__))
 from code_proofs import Crate, parse
 
-MEMBERS = ['expr_binding_power', 'infix_chain', 'infix_step', 'lhs', 'missing_lhs', 'no_lhs', 'paren_expr', 'prefix_expr', 'rhs', 'ternary_rhs']
+MEMBERS = ['expr_binding_power', 'infix_chain', 'infix_turn', 'lhs', 'missing_lhs', 'no_lhs', 'paren_expr', 'prefix_expr', 'rhs', 'ternary_rhs']
 CYCLE = ''.join('+' + m for m in MEMBERS)
 HOME = 'crates/expr/proofs/' + CYCLE + '/'
 PROOFS = 'Rattle.expr.proofs.'
@@ -26,7 +26,7 @@ NAMES = [m.replace('_', '-') for m in MEMBERS]
 
 # the order of the members at the same number of open calls left
 RANK = {'expr-binding-power': 0, 'rhs': 1, 'prefix-expr': 1, 'paren-expr': 1, 'missing-lhs': 1, 'ternary-rhs': 2, 'no-lhs': 2,
-        'infix-step': 3, 'lhs': 3, 'infix-chain': 4}
+        'infix-turn': 3, 'lhs': 3, 'infix-chain': 4}
 
 TOKENS = '«s» .args .tokens .now'
 ALLOWED = '«s» .args .allowed'
@@ -37,9 +37,9 @@ LEFT = {'start': f'.ensures .1 ({TOKENS})', 'complete': f'.ensures .1 ({TOKENS})
         'precede': f'.ensures .1 ({TOKENS})', 'bump': '.ensures .1', 'error': '.ensures .1', 'macro-invocation': '.ensures .1',
         'literal-expr': '.ensures .1', 'at': '.ensures .1 .0', 'silent-at': '.ensures .1 .0', 'at-prefix-op': '.ensures .1 .0',
         'expect': '.ensures .1 .0', 'infix-op-at': '.ensures .1 .1 .1 .1 .0', 'expr-binding-power': '.ensures .1 .0', 'lhs': '.ensures .1 .0',
-        'infix-chain': '.ensures .1', 'infix-step': '.ensures .1 .0', 'rhs': '.ensures .1', 'ternary-rhs': '.ensures .1',
+        'infix-chain': '.ensures .1', 'infix-turn': '.ensures .1 .0', 'rhs': '.ensures .1', 'ternary-rhs': '.ensures .1',
         'prefix-expr': '.ensures .1', 'paren-expr': '.ensures .1', 'no-lhs': '.ensures .1', 'missing-lhs': '.ensures .1'}
-LEFT_IF = ['at', 'silent-at', 'at-prefix-op', 'expect', 'expr-binding-power', 'lhs', 'infix-step']
+LEFT_IF = ['at', 'silent-at', 'at-prefix-op', 'expect', 'expr-binding-power', 'lhs', 'infix-turn']
 BUFFERS = {'start', 'bump', 'complete', 'ignore', 'precede', 'error', 'expect', 'macro-invocation', 'literal-expr'} | set(NAMES)
 
 
@@ -93,10 +93,10 @@ WAYS = {
     ('ternary-rhs', 'returns'): ('', f'(c-yes {MIDDLE} («if2» .taken) {member("rhs")})'),
     ('ternary-rhs', 'returns-2'): ('', f'(c-no {MIDDLE} («if2» .left) c-ret)'),
     ('ternary-rhs', 'returns-3'): ('', f'(c-no {{t = false}} (c-no {CALL} («if1» .left) c-ret) refl c-ret)'),
-    ('infix-step', 'returns'): ('', f'(turn-none {TURN} («if1» .taken))'),
-    ('infix-step', 'returns-2'): ('', f'(turn-weaker {TURN} («if1» .left) («if2» .taken))'),
-    ('infix-step', 'returns-3'): ('', f'(turn-ternary {TURN} («if1» .left) («if2» .left) («if3» .taken) (c-seq {BUMP} {member("ternary-rhs")}))'),
-    ('infix-step', 'returns-4'): ('', f'(turn-binary {TURN} («if1» .left) («if2» .left) («if3» .left) (c-seq {BUMP} {member("rhs")}))'),
+    ('infix-turn', 'returns'): ('', f'(turn-none {TURN} («if1» .taken))'),
+    ('infix-turn', 'returns-2'): ('', f'(turn-weaker {TURN} («if1» .left) («if2» .taken))'),
+    ('infix-turn', 'returns-3'): ('', f'(turn-ternary {TURN} («if1» .left) («if2» .left) («if3» .taken) (c-seq {BUMP} {member("ternary-rhs")}))'),
+    ('infix-turn', 'returns-4'): ('', f'(turn-binary {TURN} («if1» .left) («if2» .left) («if3» .left) (c-seq {BUMP} {member("rhs")}))'),
 }
 
 # `expr_binding_power`
@@ -114,31 +114,31 @@ RULE = {
 LONG = '«s» .good .1 .0 .0'
 CHAIN = '(infix-turn («s» .args .min-bp)) (marker-of («loop» .m))'
 LINK = f'({ALLOWED}) ({TOKENS}) {CHAIN} 5 {DONE} («precede» .ensures .0 _ _)'
-STEP = member('infix-step')
-FALLS = f'(ahead-falls ({TOKENS}) («loop» .q .s) («infix-step» .result .p .s) («infix-step» .ensures .1 .1 («if1» .taken)))'
+STEP = member('infix-turn')
+FALLS = f'(ahead-falls ({TOKENS}) («loop» .q .s) («infix-turn» .result .p .s) («infix-turn» .ensures .1 .1 («if1» .taken)))'
 LOOP = {
     'loop-again': f'linked-again {LINK} («linked» .ensures) ({LONG}) (step-again {STEP} («if1» .taken) («if2» .taken)) {FALLS} ∙ «loop» .inv .1 .1 .1 .1',
     'returns': f'linked-last {LINK} («ignore» .ensures .0 _ _) (step-last {STEP} («if1» .taken) («if2» .left)) ∙ «loop» .inv .1 .1 .1 .1',
-    'returns-2': f'linked-stop ({ALLOWED}) (tokens-of ({TOKENS})) {CHAIN} («ignore2» .ensures .0 _ _) (step-none («infix-step» .result .again) {STEP} («if1» .left)) ∙ «loop» .inv .1 .1 .1 .1',
+    'returns-2': f'linked-stop ({ALLOWED}) (tokens-of ({TOKENS})) {CHAIN} («ignore2» .ensures .0 _ _) (step-none («infix-turn» .result .again) {STEP} («if1» .left)) ∙ «loop» .inv .1 .1 .1 .1',
 }
 FROM = 'links-from allowed (tokens-of tokens) (infix-turn min-bp)'
 INVARIANT = f'''-- the chain from here is the chain from the start
 abbrev pub Inv-loop : lts.InvT-loop
 Inv-loop tokens events₀ reports₀ pool₀ allowed min-bp m₀ q₀ events reports pool m q =
-    (left tokens (q .s) ≤ left tokens (q₀ .s))
+    (tokens-left tokens (q .s) ≤ tokens-left tokens (q₀ .s))
     × ((length events ≡ length events₀)
     × ((length reports ≡ length reports₀)
-    × ((length pool ≡ length pool₀) × ({FROM} (marker-of m) (view-of q events reports pool) ≡ {FROM} (marker-of m₀) (view-of q₀ events₀ reports₀ pool₀)))))
+    × ((length pool ≡ length pool₀) × ({FROM} (marker-of m) (parser-view q events reports pool) ≡ {FROM} (marker-of m₀) (parser-view q₀ events₀ reports₀ pool₀)))))
 
 abbrev pub μ-loop : lts.MeasureT-loop
-μ-loop tokens events₀ reports₀ pool₀ allowed min-bp m₀ q₀ events reports pool m q = left tokens (q .s)
+μ-loop tokens events₀ reports₀ pool₀ allowed min-bp m₀ q₀ events reports pool m q = tokens-left tokens (q .s)
 
 '''
 
 SAYS = {
     'expr-binding-power': '`expr_binding_power` is the walk of its rule: a chain from its marker on, or refusal 5.',
     'infix-chain': '`infix_chain` is the rest of the chain, link by link.',
-    'infix-step': '`infix_step` is one turn of the chain: which arm it takes is decided by the operator at the cursor.',
+    'infix-turn': '`infix_turn` is one turn of the chain: which arm it takes is decided by the operator at the cursor.',
     'lhs': "`lhs` is the walk of the definitions' `lhs`, test by test.",
     'missing-lhs': '`missing_lhs`: a report, and a ParseError around the operator and what follows.',
     'no-lhs': '`no_lhs` is what `lhs` does where no test held.',
@@ -154,7 +154,7 @@ LIBRARY = [
     ('Rattle.definitions.specs.Token', ['tokens-of']), ('Rattle.definitions.specs.Prog', ['no', 'again', 'expr-binding-power']),
     ('Rattle.definitions.specs.Check', ['tell', 'if_then_else_', 'silent']),
     ('Rattle.definitions.specs.Grammar', ['lhs as lhs-prog', 'rhs as rhs-prog', 'infix-turn', 'expr-binding-power-body', 'grammar']),
-    ('Rattle.machine.specs.Walk', ['said', 'walk-rule', 'unlabelled']), ('Rattle.parser.specs.View', ['left', 'marker-of', 'view-of']),
+    ('Rattle.machine.specs.Walk', ['said', 'walk-rule', 'unlabelled']), ('Rattle.parser.specs.View', ['tokens-left', 'marker-of', 'parser-view']),
     ('Rattle.expr.specs.Chain', ['links-from']),
     ('Rattle.machine.proofs.Way', ['c-walk', 'c-act', 'c-ret', 'c-seq', 'c-yes', 'c-no', 'c-told', 'c-again', 'c-told-past', 'c-mark', 'completed',
                                    'c-call', 'c-fn', 'way', 'rule-closed', 'rule-body']),
@@ -251,7 +251,7 @@ def answer(name, need, things):
     unfold, way = WAYS[name, need]
     if name == 'lhs':
         left = f'({left},\n{never if need == "returns-5" else "λ e. " + left})'
-    if name == 'infix-step':
+    if name == 'infix-turn':
         some = '«infix-op-at» .ensures .1 .1 .1 .1 .1 (eqb-false («infix-op-at» .result .left) 0 («if1» .left))'
         left = f'({left},\n{never if need in ("returns", "returns-2") else "λ e. " + tokens_left(things, some)})'
     return unfold, f'(way ({ALLOWED}) {way},\n{left})'

@@ -183,7 +183,7 @@ class Answers:
         if self.function != "eat-node-or-prop":
             return []
         given = [thing for thing, _, fields in self.way if thing.startswith("enum-") and "given" in fields]
-        return [f"ap found (@{given[0]} .given .1)" if given else f"found-other (@eat-node-or-prop-prefix .result .ans) ({self.tags()})"]
+        return [f"ap took-unless-no (@{given[0]} .given .1)" if given else f"unless-no-other (@eat-node-or-prop-prefix .result .ans) ({self.tags()})"]
 
     def answered_left(self, walk):
         return [f"answered-left ({ROWS}) (@{thing} .result) (@{walk.last} .result) (@{thing} .ensures .0)" for thing, _ in self.named("answered")]

@@ -58,14 +58,14 @@ MODULES = {
     "Rattle.definitions.specs.Check": "silent",
     "Rattle.definitions.specs.Grammar": "eat-inside branch-turn branch cond-branches-turn cond-branches-and-end eat-preprocessor-directive cells-turn cells dt-cell-list bits-value propvalue propvalues-turn propvalues-body dt-property node-body-turn dt-node-body no-property eat-node-or-prop item-body grammar",
     "Rattle.machine.specs.Walk": "Walked said walk-rule walk-prog unlabelled",
-    "Rattle.parser.specs.View": "left view-of ans-of span-of",
+    "Rattle.parser.specs.View": "tokens-left parser-view ans-of span-of",
     "Rattle.grammar.specs.Subprograms": "inside-of",
     "Rattle.machine.proofs.Way": "c-walk c-act c-ret c-seq c-yes c-no c-told c-mark completed c-call c-fn way rule-closed rule-body",
-    "Rattle.steps.specs.View": "found",
+    "Rattle.steps.specs.View": "took-unless-no",
     "Rattle.steps.proofs.Left": "ahead-falls",
     "Rattle.steps.proofs.Steps": "c-brace c-said-no c-said-also c-ret-yes c-ret-no c-any closing ignored answered-is answered-yes",
     "Rattle.grammar.proofs.Laws": "cell-body-is",
-    "Rattle.grammar.proofs.Ways": "c-same c-prog c-call-on c-prog-on closes prog-on again-prog last-yes last-no as-yes c-said-other other-no c-answered c-inside c-assoc answered-left found-other",
+    "Rattle.grammar.proofs.Ways": "c-same c-prog c-call-on c-prog-on closes prog-on again-prog last-yes last-no as-yes c-said-other other-no c-answered c-inside c-assoc answered-left unless-no-other",
 }
 
 PROOFS = "Rattle.grammar.proofs"
@@ -130,7 +130,7 @@ class Cycle:
             "use Prim.Native.Nat.{ℕ, _+_, _*_, _<_}",
             "use borrow.Fn.Kinds.{In}",
             "use borrow.Fn.PlainCycle.{Measures, is, falls, and}",
-            "use Rattle.parser.specs.View.{left}",
+            "use Rattle.parser.specs.View.{tokens-left}",
             *self.readings(),
             *self.called_readings(),
             *[f"use {PROOFS}.{f}.Kinds as {spelled(f)}-kinds" for f in self.functions],
@@ -148,7 +148,7 @@ class Cycle:
         kinds = f"4 {name}-kinds.ps"
         return [
             f"abbrev pub μ-{name} : Measures {kinds} ℕ",
-            f"μ-{name} κs a = 16 * left (a .1 .0 .now) (a .0 .s) + {RANK[name]}",
+            f"μ-{name} κs a = 16 * tokens-left (a .1 .0 .now) (a .0 .s) + {RANK[name]}",
             "",
             f"abbrev pub {name}-at : ℕ → In {kinds}",
             f"{name}-at t = and {kinds} (is {kinds} μ-{name} t) {name}.Pre",
@@ -174,13 +174,13 @@ class Cycle:
             "-- the loop from here is the loop from the start",
             "abbrev pub Inv-loop : lts.InvT-loop",
             f"Inv-loop {arguments} =",
-            "    (left tokens (q .s) ≤ left tokens (q₀ .s))",
+            "    (tokens-left tokens (q .s) ≤ tokens-left tokens (q₀ .s))",
             "    × ((length events ≡ length events₀)",
             "    × ((length reports ≡ length reports₀)",
-            f"    × ((length pool ≡ length pool₀) × ({walk} (view-of q events reports pool) ≡ {walk} (view-of q₀ events₀ reports₀ pool₀)))))",
+            f"    × ((length pool ≡ length pool₀) × ({walk} (parser-view q events reports pool) ≡ {walk} (parser-view q₀ events₀ reports₀ pool₀)))))",
             "",
             "abbrev pub μ-loop : lts.MeasureT-loop",
-            f"μ-loop {arguments} = left tokens (q .s)",
+            f"μ-loop {arguments} = tokens-left tokens (q .s)",
             "",
         ]
 

@@ -40,18 +40,18 @@ MODULES = {
     "Rattle.machine.specs.Machine": "Machine",
     "Rattle.machine.specs.Walk": "Walked walk walk-rule walk-prog unlabelled",
     "Rattle.machine.proofs.Way": "Way c-walk c-act c-ret c-seq c-yes c-no c-mark completed c-call c-fn way",
-    "Rattle.parser.specs.View": "left view-of",
+    "Rattle.parser.specs.View": "tokens-left parser-view",
     "Rattle.steps.proofs.Left": "ahead-falls",
     "Rattle.steps.proofs.Steps": "c-ret-no c-any",
     "Rattle.grammar.specs.declared.entry.Entrypoint": "Entrypoint",
-    "Rattle.grammar.specs.Subprograms": "entry-of",
+    "Rattle.grammar.specs.Subprograms": "entry-for",
     "Rattle.grammar.proofs.Ways": "c-prog-on prog-on again-prog last-yes c-assoc",
 }
 
 # `enter`: the program by the variant that a match has told.
 ENTERED = """-- by the variant
-entered : {ask : Rule → Machine → Walked} {ts : List Token} {b : Span} {m : Machine} {e f : Entrypoint} {w : Walked} → e ≡ f → Way ask ts b (entry (entry-of f)) m w → Way ask ts b (entry (entry-of e)) m w
-entered {ask = ask} {ts = ts} {b = b} {m = m} h k = record { is = k .is ∙ sym (ap (λ (e : Entrypoint). walk ask ts b (entry (entry-of e)) m) h) }
+entered : {ask : Rule → Machine → Walked} {ts : List Token} {b : Span} {m : Machine} {e f : Entrypoint} {w : Walked} → e ≡ f → Way ask ts b (entry (entry-for f)) m w → Way ask ts b (entry (entry-for e)) m w
+entered {ask = ask} {ts = ts} {b = b} {m = m} h k = record { is = k .is ∙ sym (ap (λ (e : Entrypoint). walk ask ts b (entry (entry-for e)) m) h) }
 """
 
 
@@ -113,8 +113,8 @@ def source_file(c):
         "returns": (opened, f"(last-yes MOST-OPEN-CALLS (c-no {{t = false}} (c-yes {end} (@if1 .taken) c-ret) refl c-ret) ∙ @loop .inv .0, {LEFT})"),
     }, "`entry_sourcefile`: the loop of `sourcefile-turn`.",
         inv=("tokens events₀ reports₀ pool₀ q₀ events reports pool q",
-             f"({whole} (view-of q events reports pool) ≡ {whole} (view-of q₀ events₀ reports₀ pool₀)) × ((left tokens (q .s) ≤ left tokens (q₀ .s)) × ((length events ≡ length events₀) × ((length reports ≡ length reports₀) × (length pool ≡ length pool₀))))"),
-        measure="left tokens (q .s)")
+             f"({whole} (parser-view q events reports pool) ≡ {whole} (parser-view q₀ events₀ reports₀ pool₀)) × ((tokens-left tokens (q .s) ≤ tokens-left tokens (q₀ .s)) × ((length events ≡ length events₀) × ((length reports ≡ length reports₀) × (length pool ≡ length pool₀))))"),
+        measure="tokens-left tokens (q .s)")
 
 
 def entries(c):
@@ -124,10 +124,10 @@ def entries(c):
         "returns-3": ("entry", f"(prog-on MOST-OPEN-CALLS (entered (@enum-told3 .given .1) (c-call MOST-OPEN-CALLS (@propvalues .ensures .0))), {LEFT})"),
         "returns-4": ("entry", f"(prog-on MOST-OPEN-CALLS (entered (@enum-told4 .given .1) (c-fn MOST-OPEN-CALLS (@cells .ensures .0))), {LEFT})"),
     }, "`enter`: the entry that is asked for.")
-    start = f"ap (λ (m : Machine). walk-prog MOST-OPEN-CALLS (tokens-of {ROWS}) unlabelled (whole (entry-of (@@ .args .entrypoint))) m .on) (@new .ensures _ _ _)"
-    c.proof("entry/parse", {
+    start = f"ap (λ (m : Machine). walk-prog MOST-OPEN-CALLS (tokens-of {ROWS}) unlabelled (whole (entry-for (@@ .args .entrypoint))) m .on) (@new .ensures _ _ _)"
+    c.proof("entry/run_entry", {
         "returns": ("whole", f"prog-on MOST-OPEN-CALLS (c-prog-on MOST-OPEN-CALLS (@enter .ensures .0) (c-walk (@left-over .ensures .0 {asked('MOST-OPEN-CALLS')}))) ∙ {start}"),
-    }, "`parse`: a new parser, the entry, and what it leaves.")
+    }, "`run_entry`: a new parser, the entry, and what it leaves.")
 
 
 def main(generated):

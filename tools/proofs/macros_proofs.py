@@ -49,8 +49,8 @@ def main(generated):
         "loop-again": f"(λ codes reports pool. argue-on {here} unlabelled (@here-is .given .0 .0) (view (@bump .result) codes _ reports pool) (@here-is .given .1) (@bump .ensures .0 unlabelled codes reports pool) ∙ @loop .inv .0 codes reports pool, (omega (flags, {inside}, inside-most {kind} (@here-is .given .0 .0) (@role-of .result) (@role-of .ensures) (@here-is .given .1), @peek .ensures .1, @bump .ensures .1, @loop .inv .1 .0), omega (arith, @bump .kept, @loop .inv .1 .1)))",
     }, "`bump_argument`: the rest of the argument from here is the argument from its start.",
         inv=("tokens events₀ q₀ level₀ events q level",
-             "((codes reports pool : List ℕ) → argue (tokens-of tokens) level (view q codes events reports pool) ≡ argue (tokens-of tokens) level₀ (view q₀ codes events₀ reports pool)) × ((level + left tokens q ≤ level₀ + left tokens q₀) × (length events ≡ length events₀))"),
-        measure="left tokens q")
+             "((codes reports pool : List ℕ) → argue (tokens-of tokens) level (view q codes events reports pool) ≡ argue (tokens-of tokens) level₀ (view q₀ codes events₀ reports pool)) × ((level + tokens-left tokens q ≤ level₀ + tokens-left tokens q₀) × (length events ≡ length events₀))"),
+        measure="tokens-left tokens q")
 
     argument = lambda test, way: f"(completes (lit< tt) (@new .ensures) (@start .ensures .0 _ _ _) (if-{way[0]} (c-act (@bump-argument .ensures .0 b _ _ _)) {answered(test, way[1])} c-ret) (@complete .ensures .0 _ _ _))"
     c.proof("invocation/arguments", {
@@ -60,8 +60,8 @@ def main(generated):
         "returns": f"(λ ask b codes reports pool. stops-yes (opened macro-argument-turn-is (if-no {argument('if1', ('no', 'left'))} refl c-ret)) ∙ @loop .inv .0 ask b codes reports pool, omega (flags, PROGRESS))",
     }, "`arguments`: the loop of `macro-argument-turn`.", tests={"bump-argument": "if1"},
         inv=("tokens events₀ q₀ events q",
-             "((ask : Rule → Machine → Walked) (b : Span) (codes reports pool : List ℕ) → walk ask (tokens-of tokens) b (loop macro-argument-turn) (view q codes events reports pool) ≡ walk ask (tokens-of tokens) b (loop macro-argument-turn) (view q₀ codes events₀ reports pool)) × ((left tokens q ≤ left tokens q₀) × (length events ≡ length events₀))"),
-        measure="left tokens q")
+             "((ask : Rule → Machine → Walked) (b : Span) (codes reports pool : List ℕ) → walk ask (tokens-of tokens) b (loop macro-argument-turn) (view q codes events reports pool) ≡ walk ask (tokens-of tokens) b (loop macro-argument-turn) (view q₀ codes events₀ reports pool)) × ((tokens-left tokens q ≤ tokens-left tokens q₀) × (length events ≡ length events₀))"),
+        measure="tokens-left tokens q")
     c.proof("invocation/argument_list", {
         "returns": on(opened("argument-list-is", then(act("bump"), no_not("if1", does("at", "_ _ _"), "c-ret"), does("expect")))),
         "returns-2": on(opened("argument-list-is", then(act("bump"), yes_not("if1", does("at", "_ _ _"), does("arguments", "_ _ _")), does("expect2")))),

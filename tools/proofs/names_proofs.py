@@ -44,7 +44,7 @@ MODULES = {
     "Rattle.machine.specs.Walk": "Walked walk unlabelled",
     "Rattle.machine.proofs.Turns": "argue few-rows",
     "Rattle.machine.proofs.Way": "c-walk c-act c-ret c-seq",
-    "Rattle.parser.specs.View": "view left",
+    "Rattle.parser.specs.View": "view tokens-left",
     "Rattle.steps.proofs.Ways": "whole ends opened lands shown if-no if-yes completes turns stops-yes stops-no",
     "Rattle.steps.proofs.Left": "ahead-falls",
 }
@@ -187,8 +187,8 @@ def main(generated):
         "returns": f"(λ ask b. stops-yes (opened path-turn-is (if-no {does('at-segment', '_ _ _')} {answered('if1', 'left')} c-ret)) ∙ @loop .inv .0 ask b, omega (flags, PROGRESS))",
     }, "`path_segments`: the loop of `path-turn`.",
         inv=("codes₀ tokens events₀ reports₀ pool₀ q₀ codes events reports pool q",
-             "((ask : Rule → Machine → Walked) (b : Span) → walk ask (tokens-of tokens) b (loop path-turn) (view q codes events reports pool) ≡ walk ask (tokens-of tokens) b (loop path-turn) (view q₀ codes₀ events₀ reports₀ pool₀)) × ((left tokens q ≤ left tokens q₀) × ((length events ≡ length events₀) × ((length reports ≡ length reports₀) × (length pool ≡ length pool₀))))"),
-        measure="left tokens q")
+             "((ask : Rule → Machine → Walked) (b : Span) → walk ask (tokens-of tokens) b (loop path-turn) (view q codes events reports pool) ≡ walk ask (tokens-of tokens) b (loop path-turn) (view q₀ codes₀ events₀ reports₀ pool₀)) × ((tokens-left tokens q ≤ tokens-left tokens q₀) × ((length events ≡ length events₀) × ((length reports ≡ length reports₀) × (length pool ≡ length pool₀))))"),
+        measure="tokens-left tokens q")
     c.proof("reference/path_rest", {
         "returns": on(opened("path-rest-is", then(does("path-segments"), does("expect")))),
     }, "`path_rest`: the segments, and the RCurly.")

@@ -9,6 +9,11 @@ pub const FIRST_OPERATOR: u8 = token_kind::AMPERSAND;
 
 pub const LAST_OPERATOR: u8 = token_kind::QUESTION_MARK;
 
+// The ternary's powers: the lowest of all.
+pub const TERNARY_LEFT: u8 = 2;
+
+pub const TERNARY_RIGHT: u8 = 1;
+
 pub const LEFT_POWERS: [u8; 31] = [
     11, // Ampersand
     0, // Colon
@@ -99,8 +104,8 @@ pub fn binding_power(k: u8) -> BindingPower
             let i = (k - FIRST_OPERATOR) as usize;
             let left = LEFT_POWERS[i];
             let right = RIGHT_POWERS[i];
-            // the ternary's left power is 2, and every other operator's is more
-            let binary = 2 < left;
+            // Every other operator's left power is higher than the ternary's.
+            let binary = TERNARY_LEFT < left;
             return BindingPower {
                 left,
                 right,

@@ -17,7 +17,7 @@ use Rattle.definitions.specs.Event.{events}
 use Rattle.definitions.specs.Place.{rows, lexical-errors}
 use Rattle.definitions.specs.Report.{Push, pushes, reports, report-numbers, pool, Fit, fits, stops, scan}
 use Rattle.definitions.specs.Refusal.{Refusal, unknown-entry, no-tree-room, place-of, Verdict, accepted, refused, is-kind, check-input}
-use Rattle.definitions.specs.Call.{Buffers, zeros, written, refusal, cleared, Sheets, sheets, kept, finish, forward-mark, outcome, room-of, run-entry, parse, Asked, for, unknown, entry-of, checked, asked, call}
+use Rattle.definitions.specs.Call.{Buffers, zeros, written, refusal, cleared, Sheets, sheets, kept, delivered, forward-mark, outcome, room-of, run-entry, parse, Asked, for, unknown, entry-of, checked, asked, call}
 use Rattle.basics.proofs.Tests.{cond-all}
 use Rattle.laws.proofs.Skeleton.{event-count-append, events-length, reports-append}
 use Rattle.laws.specs.Pushes.{event-count, Clear}
@@ -150,7 +150,7 @@ cleared-fits r b h =
 
 module _ (bytes tokens : List ℕ) (b : Buffers) (w : Words b) where
   parse-fits : (e : Entry) → check-input bytes tokens ≡ accepted → (f : Fit) → scan (pushes (run-entry e (tokens-of tokens))) (room-of b) ≡ f → Fits (outcome f e (tokens-of tokens) (run-entry e (tokens-of tokens)) b)
-  unfolding outcome finish place-of
+  unfolding outcome delivered place-of
   parse-fits e a (stops r) q =
       let i : Checked bytes tokens = checked-input bytes tokens a in
       let s : place-of (forward-mark (length (tokens-of tokens)) r) ≤ length (tokens-of tokens) = subst (Stopped (length (tokens-of tokens))) q (scan-stopped (length (tokens-of tokens)) (pushes (run-entry e (tokens-of tokens))) (room-of b)) in

@@ -80,7 +80,7 @@ module _ (number place k n r p : ℕ) (tokens events trees errors trees′ error
         reports-fit = m;
       })
 
--- ---------------------------------------------------------------- finish
+-- ---------------------------------------------------------------- outcome
 
 -- each buffer cleared after what is written
 pub all-cleared : (number place k n r p : ℕ) (tokens events trees errors reports pool : List ℕ) (a : Answer) (trees′ errors′ : List ℕ) → length trees′ ≡ length trees → length errors′ ≡ length errors → Answer-of-parse number place k n r p tokens events trees errors a trees′ errors′

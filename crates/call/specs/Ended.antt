@@ -27,38 +27,38 @@ abbrev pub sunk-with : Sunk → ℕ → ℕ → Answer
 sunk-with (Written t e) r n = accepted-with t e (r / REPORT-ROW) n
 sunk-with NoRoom r n = refused-with NO-TREE-ROOM 0
 
--- kind: the root's. events-written, reports-written, pool-written: how many numbers the parse wrote to these buffers.
+-- root-kind: that of the root's node. events-written, reports-written, pool-written: how many numbers the parse wrote to these buffers.
 -- trees, errors: these buffers before the sink, and after it.
-pub record Sinks (kind events-written reports-written pool-written : ℕ) (tokens events trees errors : List ℕ) (a : Answer)
+pub record Sinks (root-kind events-written reports-written pool-written : ℕ) (tokens events trees errors : List ℕ) (a : Answer)
     (trees′ errors′ : List ℕ) : Type 0 where
   pub sunk : Sunk
-  pub promise : Promise kind tokens (take events-written events) trees errors sunk trees′ errors′
+  pub promise : Promise root-kind tokens (take events-written events) trees errors sunk trees′ errors′
   pub answer : a ≡ sunk-with sunk reports-written pool-written
 
 -- the parse was refused with a number at a place, or the sink follows it. The answer's counts are not large numbers.
-pub record Answer-of-parse (number place kind events-written reports-written pool-written : ℕ)
+pub record Answer-of-parse (number place root-kind events-written reports-written pool-written : ℕ)
     (tokens events trees errors : List ℕ) (a : Answer) (trees′ errors′ : List ℕ) : Type 0 where
   pub stopped : eqb number 0 ≡ false → a ≡ refused-with number place
   pub sunk : eqb number 0 ≡ true
-      → Sinks kind events-written reports-written pool-written tokens events trees errors a trees′ errors′
+      → Sinks root-kind events-written reports-written pool-written tokens events trees errors a trees′ errors′
   pub trees-fit : a .«tree_count» * TREE-ROW < TWO-TO-64
   pub errors-fit : a .«error_count» * ERROR-ROW < TWO-TO-64
   pub reports-fit : a .«report_count» * REPORT-ROW < TWO-TO-64
 
 -- the same of lent buffers, as a contract has them
 abbrev pub answers-parse : ℕ → ℕ → ℕ → ℕ → ℕ → ℕ → Slice → Slice → Slice → Slice → Answer → Type 0
-answers-parse number place kind events-written reports-written pool-written tokens events trees errors a =
-    Answer-of-parse number place kind events-written reports-written pool-written
+answers-parse number place root-kind events-written reports-written pool-written tokens events trees errors a =
+    Answer-of-parse number place root-kind events-written reports-written pool-written
     (now (tokens .entry)) (now (events .entry)) (now (trees .entry)) (now (errors .entry)) a (now (trees .exit)) (now (errors .exit))
 
 -- the result x: such an answer, and the buffers b cleared after the rows that it counts
-pub record Ended (number place kind events-written reports-written pool-written : ℕ) (tokens : List ℕ) (b : Buffers)
+pub record Ended (number place root-kind events-written reports-written pool-written : ℕ) (tokens : List ℕ) (b : Buffers)
     (x : Result) : Type 0 where
   pub answer : Answer
   pub trees : List ℕ
   pub errors : List ℕ
   pub trees-length : length trees ≡ length (b .trees)
   pub errors-length : length errors ≡ length (b .errors)
-  pub of-parse : Answer-of-parse number place kind events-written reports-written pool-written
+  pub of-parse : Answer-of-parse number place root-kind events-written reports-written pool-written
       tokens (b .events) (b .trees) (b .errors) answer trees errors
   pub once-cleared : swept (answer-of answer) (lent (b .events) trees errors (b .reports) (b .pool)) ≡ x

@@ -1,7 +1,7 @@
 // A call's answer, in document 01's numbers. Beside it: what is checked before the parse, and what is done after it.
 mod buffer;
 pub mod check_input;
-pub mod finish;
+pub mod outcome;
 
 ghost use mathlib.Core.Path.{_≡_};
 ghost use Rattle.call.specs.Ended.{refused-with, accepted-with};

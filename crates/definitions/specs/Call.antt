@@ -101,8 +101,8 @@ kept s b =
     }
 
 -- cause 8
-unfoldable pub finish : Sheets → Buffers → Result
-finish s b =
+unfoldable pub delivered : Sheets → Buffers → Result
+delivered s b =
     let good = kept s b in
     cond (leb (length (s .trees)) (length (b .trees)) && leb (length (s .errors)) (length (b .errors))) good (cleared no-tree-room b)
 
@@ -119,9 +119,9 @@ forward-mark n no-tree-room = no-tree-room
 
 -- causes 5 to 7, whichever the run meets first, and then 8
 unfoldable pub outcome : Fit → Entry → List Token → Skeleton → Buffers → Result
-unfolding sheets finish forward-mark number-of place-of
+unfolding sheets delivered forward-mark number-of place-of
 outcome (stops r) e ts o b = cleared (forward-mark (length ts) r) b
-outcome (fits z) e ts o b = finish (sheets e ts o) b
+outcome (fits z) e ts o b = delivered (sheets e ts o) b
 
 abbrev pub room-of : Buffers → Room
 room-of b = record { events = length (b .events) / EVENT-ROW; reports = length (b .reports) / REPORT-ROW; pool = length (b .pool) }

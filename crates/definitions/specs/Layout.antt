@@ -28,11 +28,14 @@ REPORT-ROW = 9
 abbrev pub TOKEN-LENGTH : ℕ
 TOKEN-LENGTH = 1
 
+abbrev pub EVENT-TAG : ℕ
+EVENT-TAG = 0
+
 -- a start's kind, or how many raw tokens a combined token has
 abbrev pub EVENT-ARGUMENT : ℕ
 EVENT-ARGUMENT = 1
 
--- how far on the event is of the marker that was made to precede a start's, or 0
+-- for a start: the distance, in events, to the event of the marker that precedes it, or 0
 abbrev pub EVENT-DISTANCE : ℕ
 EVENT-DISTANCE = 2
 

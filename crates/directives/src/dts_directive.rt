@@ -18,7 +18,7 @@ ghost use mathlib.Core.Bool.{true};
 ghost use Prim.Native.Nat.{_-_, _≤_, _<_};
 ghost use Rattle.definitions.specs.Prog.{yes};
 ghost use Rattle.definitions.specs.Grammar.{eat-dts-include, eat-dts-directive};
-ghost use Rattle.parser.specs.View.{left, state-tested, says, walks, closes};
+ghost use Rattle.parser.specs.View.{tokens-left, state-tested, says, walks, closes};
 ghost use Rattle.directives.specs.Subprograms.{directive-end, memreserve-arguments, deleted, delete-arguments, directive-with-arguments};
 
 pub fn eat_dts_include(
@@ -30,8 +30,8 @@ pub fn eat_dts_include(
     pool: &mut [u32],
 ) -> StateTested
     ensures { λ r. ⌜ walks eat-dts-include s (state-tested r) codes tokens events reports pool ⌝ }
-    ensures { λ r. ⌜ left (now (tokens .entry)) (r .s) ≤ left (now (tokens .entry)) s ⌝ }
-    ensures { λ r. ⌜ (r .yes ≡ true → left (now (tokens .entry)) (r .s) < left (now (tokens .entry)) s) ⌝ }
+    ensures { λ r. ⌜ tokens-left (now (tokens .entry)) (r .s) ≤ tokens-left (now (tokens .entry)) s ⌝ }
+    ensures { λ r. ⌜ (r .yes ≡ true → tokens-left (now (tokens .entry)) (r .s) < tokens-left (now (tokens .entry)) s) ⌝ }
 {
     let include = s.eat_starting(
         codes,
@@ -67,7 +67,7 @@ fn directive_end(
     m: Marker,
 ) -> StateTested
     ensures { λ r. ⌜ closes m directive-end s (state-tested r) codes tokens events reports pool ⌝ }
-    ensures { λ r. ⌜ left (now (tokens .entry)) (r .s) ≤ left (now (tokens .entry)) s ⌝ }
+    ensures { λ r. ⌜ tokens-left (now (tokens .entry)) (r .s) ≤ tokens-left (now (tokens .entry)) s ⌝ }
 {
     let end = s.expect_recoverable(
         codes,
@@ -91,7 +91,7 @@ fn memreserve_arguments(
     pool: &mut [u32],
 ) -> State
     ensures { λ r. ⌜ walks memreserve-arguments s (says yes r) codes tokens events reports pool ⌝ }
-    ensures { λ r. ⌜ left (now (tokens .entry)) r ≤ left (now (tokens .entry)) s ⌝ }
+    ensures { λ r. ⌜ tokens-left (now (tokens .entry)) r ≤ tokens-left (now (tokens .entry)) s ⌝ }
 {
     let m_params = Marker::new(s);
     let started = s.start(events);
@@ -125,7 +125,7 @@ fn eat_deleted(
     pool: &mut [u32],
 ) -> StateTested
     ensures { λ r. ⌜ walks deleted s (state-tested r) codes tokens events reports pool ⌝ }
-    ensures { λ r. ⌜ left (now (tokens .entry)) (r .s) ≤ left (now (tokens .entry)) s ⌝ }
+    ensures { λ r. ⌜ tokens-left (now (tokens .entry)) (r .s) ≤ tokens-left (now (tokens .entry)) s ⌝ }
 {
     let reference = reference::eat(s, codes, tokens, events, reports, pool);
     if reference.yes {
@@ -157,7 +157,7 @@ fn delete_arguments(
     pool: &mut [u32],
 ) -> State
     ensures { λ r. ⌜ walks delete-arguments s (says yes r) codes tokens events reports pool ⌝ }
-    ensures { λ r. ⌜ left (now (tokens .entry)) r ≤ left (now (tokens .entry)) s ⌝ }
+    ensures { λ r. ⌜ tokens-left (now (tokens .entry)) r ≤ tokens-left (now (tokens .entry)) s ⌝ }
 {
     let m_params = Marker::new(s);
     let started = s.start(events);
@@ -177,8 +177,8 @@ fn eat_directive_with_arguments(
     pool: &mut [u32],
 ) -> StateTested
     ensures { λ r. ⌜ walks directive-with-arguments s (state-tested r) codes tokens events reports pool ⌝ }
-    ensures { λ r. ⌜ left (now (tokens .entry)) (r .s) ≤ left (now (tokens .entry)) s ⌝ }
-    ensures { λ r. ⌜ (r .yes ≡ true → left (now (tokens .entry)) (r .s) ≤ left (now (tokens .entry)) s - 1) ⌝ }
+    ensures { λ r. ⌜ tokens-left (now (tokens .entry)) (r .s) ≤ tokens-left (now (tokens .entry)) s ⌝ }
+    ensures { λ r. ⌜ (r .yes ≡ true → tokens-left (now (tokens .entry)) (r .s) ≤ tokens-left (now (tokens .entry)) s - 1) ⌝ }
 {
     let memreserve = s.eat_starting(
         codes,
@@ -216,8 +216,8 @@ pub fn eat_dts_directive(
     pool: &mut [u32],
 ) -> StateTested
     ensures { λ r. ⌜ walks eat-dts-directive s (state-tested r) codes tokens events reports pool ⌝ }
-    ensures { λ r. ⌜ left (now (tokens .entry)) (r .s) ≤ left (now (tokens .entry)) s ⌝ }
-    ensures { λ r. ⌜ (r .yes ≡ true → left (now (tokens .entry)) (r .s) ≤ left (now (tokens .entry)) s - 1) ⌝ }
+    ensures { λ r. ⌜ tokens-left (now (tokens .entry)) (r .s) ≤ tokens-left (now (tokens .entry)) s ⌝ }
+    ensures { λ r. ⌜ (r .yes ≡ true → tokens-left (now (tokens .entry)) (r .s) ≤ tokens-left (now (tokens .entry)) s - 1) ⌝ }
 {
     let version = s.eat_starting(
         codes,

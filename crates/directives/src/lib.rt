@@ -10,7 +10,7 @@ ghost use mathlib.Core.Bool.{true};
 ghost use Prim.Native.Nat.{_-_, _≤_, _<_};
 ghost use Rattle.definitions.specs.Prog.{yes};
 ghost use Rattle.definitions.specs.Grammar.{eat-dts-include, eat-dts-directive};
-ghost use Rattle.parser.specs.View.{parser-tested, left, walks-of};
+ghost use Rattle.parser.specs.View.{parser-tested, tokens-left, parser-walks};
 
 pub fn eat_dts_include(
     p: Parser,
@@ -19,9 +19,9 @@ pub fn eat_dts_include(
     reports: &mut [u32],
     pool: &mut [u32],
 ) -> ParserTested
-    ensures { λ r. ⌜ walks-of eat-dts-include p (parser-tested r) tokens events reports pool ⌝ }
-    ensures { λ r. ⌜ left (now (tokens .entry)) (r .p .s) ≤ left (now (tokens .entry)) (p .s) ⌝ }
-    ensures { λ r. ⌜ (r .yes ≡ true → left (now (tokens .entry)) (r .p .s) < left (now (tokens .entry)) (p .s)) ⌝ }
+    ensures { λ r. ⌜ parser-walks eat-dts-include p (parser-tested r) tokens events reports pool ⌝ }
+    ensures { λ r. ⌜ tokens-left (now (tokens .entry)) (r .p .s) ≤ tokens-left (now (tokens .entry)) (p .s) ⌝ }
+    ensures { λ r. ⌜ (r .yes ≡ true → tokens-left (now (tokens .entry)) (r .p .s) < tokens-left (now (tokens .entry)) (p .s)) ⌝ }
 {
     let mut codes = p.codes;
     let e = dts_directive::eat_dts_include(p.s, &mut codes, tokens, events, reports, pool);
@@ -37,9 +37,9 @@ pub fn eat_dts_directive(
     reports: &mut [u32],
     pool: &mut [u32],
 ) -> ParserTested
-    ensures { λ r. ⌜ walks-of eat-dts-directive p (parser-tested r) tokens events reports pool ⌝ }
-    ensures { λ r. ⌜ left (now (tokens .entry)) (r .p .s) ≤ left (now (tokens .entry)) (p .s) ⌝ }
-    ensures { λ r. ⌜ (r .yes ≡ true → left (now (tokens .entry)) (r .p .s) ≤ left (now (tokens .entry)) (p .s) - 1) ⌝ }
+    ensures { λ r. ⌜ parser-walks eat-dts-directive p (parser-tested r) tokens events reports pool ⌝ }
+    ensures { λ r. ⌜ tokens-left (now (tokens .entry)) (r .p .s) ≤ tokens-left (now (tokens .entry)) (p .s) ⌝ }
+    ensures { λ r. ⌜ (r .yes ≡ true → tokens-left (now (tokens .entry)) (r .p .s) ≤ tokens-left (now (tokens .entry)) (p .s) - 1) ⌝ }
 {
     let mut codes = p.codes;
     let e = dts_directive::eat_dts_directive(p.s, &mut codes, tokens, events, reports, pool);

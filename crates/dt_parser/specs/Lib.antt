@@ -1,3 +1,3 @@
 -- What the inner contracts cite. The exported one cites Result of the crate `call`, and `definitions`.
-pub mod Entry
+pub mod Asked
 pub mod Sound

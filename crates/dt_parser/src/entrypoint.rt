@@ -4,23 +4,24 @@ use layout::node_kind;
 ghost use mathlib.Core.Path.{_≡_};
 ghost use Rattle.definitions.specs.Grammar as Grammar;
 ghost use Rattle.definitions.specs.Call as Call;
-ghost use Rattle.grammar.specs.Subprograms.{entry-of as entry-for};
-ghost use Rattle.dt_parser.specs.Entry.{asked-of};
+ghost use Rattle.grammar.specs.Subprograms.{entry-for};
+ghost use Rattle.dt_parser.specs.Asked.{asked-of};
 
-pub enum Entry {
-    Known(Entrypoint),
+// What a call's first number asks for.
+pub enum Asked {
+    For(Entrypoint),
     Unknown,
 }
 
-pub fn entry_of(number: u32) -> Entry
+pub fn entry_of(number: u32) -> Asked
     ensures { λ r. ⌜ asked-of r ≡ Call.entry-of number ⌝ }
 {
     match number {
-        1 => Entry::Known(Entrypoint::SourceFile),
-        2 => Entry::Known(Entrypoint::ReferenceNoamp),
-        3 => Entry::Known(Entrypoint::PropValues),
-        4 => Entry::Known(Entrypoint::Cells),
-        _ => Entry::Unknown,
+        1 => Asked::For(Entrypoint::SourceFile),
+        2 => Asked::For(Entrypoint::ReferenceNoamp),
+        3 => Asked::For(Entrypoint::PropValues),
+        4 => Asked::For(Entrypoint::Cells),
+        _ => Asked::Unknown,
     }
 }
 

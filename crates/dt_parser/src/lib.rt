@@ -1,19 +1,19 @@
 // The exported call: checks, parse, and what every lent buffer holds afterwards.
 mod entrypoint;
 
-use crate::entrypoint::Entry;
+use crate::entrypoint::Asked;
 use call::Answer;
 use grammar::entry::Entrypoint;
 use layout::refusal::UNKNOWN_ENTRY;
 ghost use mathlib.Core.Path.{_≡_};
 ghost use Rattle.definitions.specs.Token.{tokens-of};
 ghost use Rattle.definitions.specs.Call as Call;
-ghost use Rattle.grammar.specs.Subprograms.{entry-of as entry-for};
+ghost use Rattle.grammar.specs.Subprograms.{entry-for};
 ghost use Rattle.call.specs.Result.{at-entry, at-exit, result-of};
 ghost use Rattle.dt_parser.specs.Sound.{Sound};
 
-// The parser, and what is done after it.
-fn run(
+// `Call.parse`: the run of an entry, and what becomes of it.
+fn parse(
     e: Entrypoint,
     tokens: &[u32],
     events: &mut [u32],
@@ -26,12 +26,12 @@ fn run(
     ensures { λ r. ⌜ result-of r (at-exit events trees errors reports pool)
         ≡ Call.parse (entry-for e) (tokens-of (now (tokens .entry))) (at-entry events trees errors reports pool) ⌝ }
 {
-    let p = grammar::entry::parse(tokens, events, reports, pool, e);
+    let p = grammar::entry::run_entry(tokens, events, reports, pool, e);
     let kind = entrypoint::root_kind(e);
-    let mark = p.s.place;
-    call::finish::finish(
+    let place = p.s.place;
+    call::outcome::outcome(
         p.s.refusal,
-        mark.0,
+        place.0,
         kind,
         tokens,
         events,
@@ -64,12 +64,12 @@ pub extern "C" fn dt_parse(
 {
     let asked = entrypoint::entry_of(entry);
     match asked {
-        Entry::Unknown => call::refused(UNKNOWN_ENTRY, 0),
-        Entry::Known(e) => {
+        Asked::Unknown => call::refused(UNKNOWN_ENTRY, 0),
+        Asked::For(e) => {
             let checked = call::check_input::check(bytes, tokens);
             let sound = checked.number == 0;
             if sound {
-                run(e, tokens, events, trees, errors, reports, pool)
+                parse(e, tokens, events, trees, errors, reports, pool)
             } else {
                 checked
             }

@@ -12,13 +12,13 @@ ghost use mathlib.Core.Bool.{true, false};
 ghost use Prim.Native.Nat.{_≤_, _<_};
 ghost use Rattle.definitions.specs.Prog.{yes, also};
 ghost use Rattle.definitions.specs.Grammar.{cells-end, after-propvalue};
-ghost use Rattle.parser.specs.View.{parser-tested, left, ans-of, looks-of, walks-of, closes-of};
+ghost use Rattle.parser.specs.View.{parser-tested, tokens-left, ans-of, parser-looks, parser-walks, parser-closes, parser-says};
 ghost use Rattle.steps.specs.View.{parser-answered};
 ghost use Rattle.ends.specs.Subprograms.{at-item, at-cells-recovery, unfinished};
 
 pub fn at_cells_end(p: Parser, tokens: &[u32], until_end: bool) -> ParserTested
-    ensures { λ r. ⌜ looks-of (cells-end «until_end») p (parser-tested r) tokens ⌝ }
-    ensures { λ r. ⌜ left (now (tokens .entry)) (r .p .s) ≤ left (now (tokens .entry)) (p .s) ⌝ }
+    ensures { λ r. ⌜ parser-looks (cells-end «until_end») p (parser-tested r) tokens ⌝ }
+    ensures { λ r. ⌜ tokens-left (now (tokens .entry)) (r .p .s) ≤ tokens-left (now (tokens .entry)) (p .s) ⌝ }
 {
     let mut codes = p.codes;
     let e = lists::at_cells_end(p.s, &mut codes, tokens, until_end);
@@ -28,9 +28,9 @@ pub fn at_cells_end(p: Parser, tokens: &[u32], until_end: bool) -> ParserTested
 }
 
 pub fn at_cells_recovery(p: Parser, tokens: &[u32]) -> ParserTested
-    ensures { λ r. ⌜ looks-of at-cells-recovery p (parser-tested r) tokens ⌝ }
-    ensures { λ r. ⌜ left (now (tokens .entry)) (r .p .s) ≤ left (now (tokens .entry)) (p .s) ⌝ }
-    ensures { λ r. ⌜ (r .yes ≡ false → 0 < left (now (tokens .entry)) (p .s)) ⌝ }
+    ensures { λ r. ⌜ parser-looks at-cells-recovery p (parser-tested r) tokens ⌝ }
+    ensures { λ r. ⌜ tokens-left (now (tokens .entry)) (r .p .s) ≤ tokens-left (now (tokens .entry)) (p .s) ⌝ }
+    ensures { λ r. ⌜ (r .yes ≡ false → 0 < tokens-left (now (tokens .entry)) (p .s)) ⌝ }
 {
     let e = lists::at_cells_recovery(p.s, tokens);
     let codes = p.codes;
@@ -47,8 +47,8 @@ pub fn after_propvalue(
     pool: &mut [u32],
     semicolon: bool,
 ) -> ParserAnswered
-    ensures { λ r. ⌜ walks-of (after-propvalue semicolon) p (parser-answered r) tokens events reports pool ⌝ }
-    ensures { λ r. ⌜ left (now (tokens .entry)) (r .p .s) ≤ left (now (tokens .entry)) (p .s) ⌝ }
+    ensures { λ r. ⌜ parser-walks (after-propvalue semicolon) p (parser-answered r) tokens events reports pool ⌝ }
+    ensures { λ r. ⌜ tokens-left (now (tokens .entry)) (r .p .s) ≤ tokens-left (now (tokens .entry)) (p .s) ⌝ }
     ensures { λ r. ⌜ (ans-of (r .ans) ≡ also → ⊥) ⌝ }
 {
     let mut codes = p.codes;
@@ -60,9 +60,9 @@ pub fn after_propvalue(
 }
 
 pub fn at_item(p: Parser, tokens: &[u32]) -> ParserTested
-    ensures { λ r. ⌜ looks-of at-item p (parser-tested r) tokens ⌝ }
-    ensures { λ r. ⌜ left (now (tokens .entry)) (r .p .s) ≤ left (now (tokens .entry)) (p .s) ⌝ }
-    ensures { λ r. ⌜ (r .yes ≡ true → 0 < left (now (tokens .entry)) (r .p .s)) ⌝ }
+    ensures { λ r. ⌜ parser-looks at-item p (parser-tested r) tokens ⌝ }
+    ensures { λ r. ⌜ tokens-left (now (tokens .entry)) (r .p .s) ≤ tokens-left (now (tokens .entry)) (p .s) ⌝ }
+    ensures { λ r. ⌜ (r .yes ≡ true → 0 < tokens-left (now (tokens .entry)) (r .p .s)) ⌝ }
 {
     let mut codes = p.codes;
     let e = lists::at_item(p.s, &mut codes, tokens);
@@ -79,8 +79,8 @@ pub fn unfinished(
     pool: &mut [u32],
     m: Marker,
 ) -> Parser
-    ensures { λ r. ⌜ closes-of m unfinished p (says-of yes r) tokens events reports pool ⌝ }
-    ensures { λ r. ⌜ left (now (tokens .entry)) (r .s) ≤ left (now (tokens .entry)) (p .s) ⌝ }
+    ensures { λ r. ⌜ parser-closes m unfinished p (parser-says yes r) tokens events reports pool ⌝ }
+    ensures { λ r. ⌜ tokens-left (now (tokens .entry)) (r .s) ≤ tokens-left (now (tokens .entry)) (p .s) ⌝ }
 {
     let codes = p.codes;
     let s = lists::unfinished(p.s, &codes, tokens, events, reports, pool, m);

@@ -21,22 +21,22 @@ ghost use mathlib.Core.Bool.{true, false};
 ghost use Prim.Native.Nat.{_≤_, _<_};
 ghost use Rattle.definitions.specs.Prog.{yes, also};
 ghost use Rattle.definitions.specs.Grammar.{cells-end, after-propvalue};
-ghost use Rattle.parser.specs.View.{left, state-tested, ans-of, looks, walks, closes, sees};
+ghost use Rattle.parser.specs.View.{tokens-left, state-tested, ans-of, looks, walks, closes, sees, says};
 ghost use Rattle.steps.specs.View.{state-answered};
 ghost use Rattle.ends.specs.Subprograms.{at-item, at-cells-recovery, at-values-end, unfinished};
 
 // Whether a node's body goes on here.
 pub fn at_item(s: State, codes: &mut Codes, tokens: &[u32]) -> StateTested
     ensures { λ r. ⌜ looks at-item s (state-tested r) codes tokens ⌝ }
-    ensures { λ r. ⌜ left (now (tokens .entry)) (r .s) ≤ left (now (tokens .entry)) s ⌝ }
-    ensures { λ r. ⌜ (r .yes ≡ true → 0 < left (now (tokens .entry)) (r .s)) ⌝ }
+    ensures { λ r. ⌜ tokens-left (now (tokens .entry)) (r .s) ≤ tokens-left (now (tokens .entry)) s ⌝ }
+    ensures { λ r. ⌜ (r .yes ≡ true → 0 < tokens-left (now (tokens .entry)) (r .s)) ⌝ }
 {
-    let closed = s.at(codes, tokens, Matcher::Kind(token_kind::RCURLY));
-    if closed.yes {
-        let q = closed.s;
+    let rcurly = s.at(codes, tokens, Matcher::Kind(token_kind::RCURLY));
+    if rcurly.yes {
+        let q = rcurly.s;
         return StateTested { s: q, yes: false };
     }
-    let end = closed.s.at_end(tokens);
+    let end = rcurly.s.at_end(tokens);
     let q = end.s;
     if end.yes {
         StateTested { s: q, yes: false }
@@ -48,7 +48,7 @@ pub fn at_item(s: State, codes: &mut Codes, tokens: &[u32]) -> StateTested
 // Whether cells end here.
 pub fn at_cells_end(s: State, codes: &mut Codes, tokens: &[u32], until_end: bool) -> StateTested
     ensures { λ r. ⌜ looks (cells-end «until_end») s (state-tested r) codes tokens ⌝ }
-    ensures { λ r. ⌜ left (now (tokens .entry)) (r .s) ≤ left (now (tokens .entry)) s ⌝ }
+    ensures { λ r. ⌜ tokens-left (now (tokens .entry)) (r .s) ≤ tokens-left (now (tokens .entry)) s ⌝ }
 {
     if until_end {
         let q = s.add_expected(codes, expected::END);
@@ -61,14 +61,14 @@ pub fn at_cells_end(s: State, codes: &mut Codes, tokens: &[u32], until_end: bool
 // Whether cells are cut off here.
 pub fn at_cells_recovery(s: State, tokens: &[u32]) -> StateTested
     ensures { λ r. ⌜ sees at-cells-recovery s (state-tested r) tokens ⌝ }
-    ensures { λ r. ⌜ left (now (tokens .entry)) (r .s) ≤ left (now (tokens .entry)) s ⌝ }
-    ensures { λ r. ⌜ (r .yes ≡ false → 0 < left (now (tokens .entry)) s) ⌝ }
+    ensures { λ r. ⌜ tokens-left (now (tokens .entry)) (r .s) ≤ tokens-left (now (tokens .entry)) s ⌝ }
+    ensures { λ r. ⌜ (r .yes ≡ false → 0 < tokens-left (now (tokens .entry)) s) ⌝ }
 {
-    let closed = s.silent_at_set(tokens, &CELLS_RECOVERY_SET);
-    if closed.yes {
-        return closed;
+    let cut = s.silent_at_set(tokens, &CELLS_RECOVERY_SET);
+    if cut.yes {
+        return cut;
     }
-    let end = closed.s.at_end(tokens);
+    let end = cut.s.at_end(tokens);
     if end.yes {
         return end;
     }
@@ -82,7 +82,7 @@ pub fn at_cells_recovery(s: State, tokens: &[u32]) -> StateTested
 // `at(ending_kinds)`
 fn at_values_end(s: State, codes: &mut Codes, tokens: &[u32], semicolon: bool) -> StateTested
     ensures { λ r. ⌜ looks (at-values-end semicolon) s (state-tested r) codes tokens ⌝ }
-    ensures { λ r. ⌜ left (now (tokens .entry)) (r .s) ≤ left (now (tokens .entry)) s ⌝ }
+    ensures { λ r. ⌜ tokens-left (now (tokens .entry)) (r .s) ≤ tokens-left (now (tokens .entry)) s ⌝ }
 {
     if semicolon {
         s.at(codes, tokens, Matcher::Kind(token_kind::SEMICOLON))
@@ -102,7 +102,7 @@ pub fn after_propvalue(
     semicolon: bool,
 ) -> StateAnswered
     ensures { λ r. ⌜ walks (after-propvalue semicolon) s (state-answered r) codes tokens events reports pool ⌝ }
-    ensures { λ r. ⌜ left (now (tokens .entry)) (r .s) ≤ left (now (tokens .entry)) s ⌝ }
+    ensures { λ r. ⌜ tokens-left (now (tokens .entry)) (r .s) ≤ tokens-left (now (tokens .entry)) s ⌝ }
     ensures { λ r. ⌜ (ans-of (r .ans) ≡ also → ⊥) ⌝ }
 {
     let comma = s.eat(codes, tokens, events, Matcher::Kind(token_kind::COMMA));
@@ -154,7 +154,7 @@ pub fn unfinished(
     m: Marker,
 ) -> State
     ensures { λ r. ⌜ closes m unfinished s (says yes r) codes tokens events reports pool ⌝ }
-    ensures { λ r. ⌜ left (now (tokens .entry)) r ≤ left (now (tokens .entry)) s ⌝ }
+    ensures { λ r. ⌜ tokens-left (now (tokens .entry)) r ≤ tokens-left (now (tokens .entry)) s ⌝ }
 {
     let reported = s.error(
         codes,

@@ -22,7 +22,7 @@ ghost use Prim.Native.Nat.{_-_, _≤_};
 ghost use Rattle.definitions.specs.Prog.{yes, loop};
 ghost use Rattle.definitions.specs.Run.{truth};
 ghost use Rattle.definitions.specs.Grammar.{forbidden-property, left-over-turn, left-over};
-ghost use Rattle.parser.specs.View.{parser-tested, left, ans-of, looks-of, moves-of, says-of, walks-of, closes-at-of};
+ghost use Rattle.parser.specs.View.{parser-tested, tokens-left, ans-of, parser-looks, parser-moves, parser-says, parser-walks, parser-closes-at};
 ghost use Rattle.ends.specs.Subprograms.{node-end, unmatched-rcurly};
 
 // Yes or No.
@@ -43,8 +43,8 @@ pub fn answered(k: ParserTested) -> ParserAnswered
 
 // `!allow_prop && check(..).silent().at()`
 pub fn forbidden_property(p: Parser, tokens: &[u32], allow_prop: bool) -> ParserTested
-    ensures { λ r. ⌜ looks-of (forbidden-property «allow_prop») p (parser-tested r) tokens ⌝ }
-    ensures { λ r. ⌜ left (now (tokens .entry)) (r .p .s) ≤ left (now (tokens .entry)) (p .s) ⌝ }
+    ensures { λ r. ⌜ parser-looks (forbidden-property «allow_prop») p (parser-tested r) tokens ⌝ }
+    ensures { λ r. ⌜ tokens-left (now (tokens .entry)) (r .p .s) ≤ tokens-left (now (tokens .entry)) (p .s) ⌝ }
 {
     if allow_prop {
         ParserTested { p: p, yes: false }
@@ -63,8 +63,8 @@ pub fn node_end(
     m: Marker,
     lcurly_span: TextRange,
 ) -> Parser
-    ensures { λ r. ⌜ closes-at-of «lcurly_span» m node-end p (says-of yes r) tokens events reports pool ⌝ }
-    ensures { λ r. ⌜ left (now (tokens .entry)) (r .s) ≤ left (now (tokens .entry)) (p .s) ⌝ }
+    ensures { λ r. ⌜ parser-closes-at «lcurly_span» m node-end p (parser-says yes r) tokens events reports pool ⌝ }
+    ensures { λ r. ⌜ tokens-left (now (tokens .entry)) (r .s) ≤ tokens-left (now (tokens .entry)) (p .s) ⌝ }
 {
     let end = p.at_end(tokens);
     if end.yes {
@@ -106,8 +106,8 @@ pub fn unmatched_rcurly(
     reports: &mut [u32],
     pool: &mut [u32],
 ) -> Parser
-    ensures { λ r. ⌜ walks-of unmatched-rcurly p (says-of yes r) tokens events reports pool ⌝ }
-    ensures { λ r. ⌜ left (now (tokens .entry)) (r .s) ≤ left (now (tokens .entry)) (p .s) - 1 ⌝ }
+    ensures { λ r. ⌜ parser-walks unmatched-rcurly p (parser-says yes r) tokens events reports pool ⌝ }
+    ensures { λ r. ⌜ tokens-left (now (tokens .entry)) (r .s) ≤ tokens-left (now (tokens .entry)) (p .s) - 1 ⌝ }
 {
     let reported = p.error(
         tokens,
@@ -125,8 +125,8 @@ pub fn unmatched_rcurly(
 }
 
 pub fn bump_all(p: Parser, tokens: &[u32], events: &mut [u32]) -> Parser
-    ensures { λ r. ⌜ moves-of (loop left-over-turn) p (says-of yes r) tokens events ⌝ }
-    ensures { λ r. ⌜ left (now (tokens .entry)) (r .s) ≤ left (now (tokens .entry)) (p .s) ⌝ }
+    ensures { λ r. ⌜ parser-moves (loop left-over-turn) p (parser-says yes r) tokens events ⌝ }
+    ensures { λ r. ⌜ tokens-left (now (tokens .entry)) (r .s) ≤ tokens-left (now (tokens .entry)) (p .s) ⌝ }
 {
     let mut q = p;
     loop {
@@ -146,8 +146,8 @@ pub fn left_over(
     reports: &mut [u32],
     pool: &mut [u32],
 ) -> Parser
-    ensures { λ r. ⌜ walks-of left-over p (says-of yes r) tokens events reports pool ⌝ }
-    ensures { λ r. ⌜ left (now (tokens .entry)) (r .s) ≤ left (now (tokens .entry)) (p .s) ⌝ }
+    ensures { λ r. ⌜ parser-walks left-over p (parser-says yes r) tokens events reports pool ⌝ }
+    ensures { λ r. ⌜ tokens-left (now (tokens .entry)) (r .s) ≤ tokens-left (now (tokens .entry)) (p .s) ⌝ }
 {
     let end = p.at_end(tokens);
     if end.yes {

@@ -1,5 +1,7 @@
 // grammar/expr.rs: expressions by binding power; and `dt_expr` of grammar.rs.
 use binding_power::PREFIX_POWER;
+use binding_power::TERNARY_LEFT;
+use binding_power::TERNARY_RIGHT;
 use binding_power::binding_power;
 use layout::expected;
 use layout::hint::MISSING_LEFT_SIDE;
@@ -27,10 +29,10 @@ ghost use Rattle.definitions.specs.Prog.{no, yes, expr-binding-power};
 ghost use Rattle.definitions.specs.Grammar.{lhs as lhs-prog, rhs as rhs-prog, infix-turn, dt-expr};
 ghost use Rattle.machine.specs.Machine.{expect-code, peek};
 ghost use Rattle.token_rows.specs.Tokens.{kind-of};
-ghost use Rattle.parser.specs.View.{left, view-of, parser-tested, marker-of, calls-of, looks-of, moves-of, runs-of, says-of, leaving, entering};
+ghost use Rattle.parser.specs.View.{tokens-left, parser-view, parser-tested, marker-of, opens-within, parser-looks, parser-moves, walks-within, parser-says, leaving, entering};
 ghost use Rattle.binding_power.specs.Power.{levels, left-power, right-power, is-binary};
 ghost use Rattle.expr.specs.Subprograms.{at-prefix-op, prefix-expr, paren-expr, literal-expr, missing-lhs, no-lhs, ternary-rhs};
-ghost use Rattle.expr.specs.Chain.{step-as, links-from};
+ghost use Rattle.expr.specs.Chain.{turn-as, links-from};
 
 // The operator at the cursor, if its left power is not 0.
 pub struct InfixOp {
@@ -42,7 +44,7 @@ pub struct InfixOp {
 
 // What one turn of `expr_binding_power` did: whether it took an operator and so makes an InfixExpr of all before it, and
 // whether its right side was parsed.
-pub struct Step {
+pub struct Turn {
     pub p: Parser,
     pub operator: bool,
     pub again: bool,
@@ -50,15 +52,15 @@ pub struct Step {
 
 // `InfixOp::at`
 fn infix_op_at(p: Parser, tokens: &[u32]) -> InfixOp
-    ensures { λ r. ⌜ ((events reports pool : List ℕ) → view-of (r .p) events reports pool
-        ≡ peek (tokens-of (now (tokens .entry))) (expect-code E.InfixOperator (view-of p events reports pool))) ⌝ }
+    ensures { λ r. ⌜ ((events reports pool : List ℕ) → parser-view (r .p) events reports pool
+        ≡ peek (tokens-of (now (tokens .entry))) (expect-code E.InfixOperator (parser-view p events reports pool))) ⌝ }
     ensures { λ r. ⌜ r .left
         ≡ left-power levels (kind-of (drop (r .p .s .cursor .0) (tokens-of (now (tokens .entry))))) ⌝ }
     ensures { λ r. ⌜ r .right
         ≡ right-power levels (kind-of (drop (r .p .s .cursor .0) (tokens-of (now (tokens .entry))))) ⌝ }
     ensures { λ r. ⌜ r .binary ≡ is-binary (kind-of (drop (r .p .s .cursor .0) (tokens-of (now (tokens .entry))))) ⌝ }
-    ensures { λ r. ⌜ left (now (tokens .entry)) (r .p .s) ≤ left (now (tokens .entry)) (p .s) ⌝ }
-    ensures { λ r. ⌜ ((r .left ≡ 0 → ⊥) → 0 < left (now (tokens .entry)) (r .p .s)) ⌝ }
+    ensures { λ r. ⌜ tokens-left (now (tokens .entry)) (r .p .s) ≤ tokens-left (now (tokens .entry)) (p .s) ⌝ }
+    ensures { λ r. ⌜ ((r .left ≡ 0 → ⊥) → 0 < tokens-left (now (tokens .entry)) (r .p .s)) ⌝ }
 {
     let pushed = p.add_expected(expected::INFIX_OPERATOR);
     let here = pushed.peek(tokens);
@@ -73,9 +75,9 @@ fn infix_op_at(p: Parser, tokens: &[u32]) -> InfixOp
 
 // `PrefixOp::at`
 fn at_prefix_op(p: Parser, tokens: &[u32]) -> ParserTested
-    ensures { λ r. ⌜ looks-of at-prefix-op p (parser-tested r) tokens ⌝ }
-    ensures { λ r. ⌜ left (now (tokens .entry)) (r .p .s) ≤ left (now (tokens .entry)) (p .s) ⌝ }
-    ensures { λ r. ⌜ (r .yes ≡ true → 0 < left (now (tokens .entry)) (r .p .s)) ⌝ }
+    ensures { λ r. ⌜ parser-looks at-prefix-op p (parser-tested r) tokens ⌝ }
+    ensures { λ r. ⌜ tokens-left (now (tokens .entry)) (r .p .s) ≤ tokens-left (now (tokens .entry)) (p .s) ⌝ }
+    ensures { λ r. ⌜ (r .yes ≡ true → 0 < tokens-left (now (tokens .entry)) (r .p .s)) ⌝ }
 {
     let q = p.add_expected(expected::PREFIX_OPERATOR);
     q.silent_at_set(tokens, &PREFIX_OPERATORS_SET)
@@ -89,9 +91,9 @@ pub fn expr(
     pool: &mut [u32],
     allowed: usize,
 ) -> ParserTested
-    ensures { λ r. ⌜ calls-of allowed (expr-binding-power 0) p (parser-tested r) tokens events reports pool ⌝ }
-    ensures { λ r. ⌜ left (now (tokens .entry)) (r .p .s) ≤ left (now (tokens .entry)) (p .s) ⌝ }
-    ensures { λ r. ⌜ (r .yes ≡ true → left (now (tokens .entry)) (r .p .s) ≤ left (now (tokens .entry)) (p .s) - 1) ⌝ }
+    ensures { λ r. ⌜ opens-within allowed (expr-binding-power 0) p (parser-tested r) tokens events reports pool ⌝ }
+    ensures { λ r. ⌜ tokens-left (now (tokens .entry)) (r .p .s) ≤ tokens-left (now (tokens .entry)) (p .s) ⌝ }
+    ensures { λ r. ⌜ (r .yes ≡ true → tokens-left (now (tokens .entry)) (r .p .s) ≤ tokens-left (now (tokens .entry)) (p .s) - 1) ⌝ }
 {
     expr_binding_power(p, tokens, events, reports, pool, allowed, 0)
 }
@@ -105,8 +107,8 @@ pub fn dt_expr(
     pool: &mut [u32],
     allowed: usize,
 ) -> Parser
-    ensures { λ r. ⌜ runs-of allowed dt-expr p (says-of yes r) tokens events reports pool ⌝ }
-    ensures { λ r. ⌜ left (now (tokens .entry)) (r .s) ≤ left (now (tokens .entry)) (p .s) - 1 ⌝ }
+    ensures { λ r. ⌜ walks-within allowed dt-expr p (parser-says yes r) tokens events reports pool ⌝ }
+    ensures { λ r. ⌜ tokens-left (now (tokens .entry)) (r .s) ≤ tokens-left (now (tokens .entry)) (p .s) - 1 ⌝ }
 {
     let m = Marker::new(p.s);
     let started = p.start(events);
@@ -131,21 +133,21 @@ pub fn expr_binding_power(
     allowed: usize,
     min_bp: u8,
 ) -> ParserTested
-    ensures { λ r. ⌜ calls-of allowed (expr-binding-power «min_bp») p (parser-tested r) tokens events reports pool ⌝ }
-    ensures { λ r. ⌜ left (now (tokens .entry)) (r .p .s) ≤ left (now (tokens .entry)) (p .s) ⌝ }
-    ensures { λ r. ⌜ (r .yes ≡ true → left (now (tokens .entry)) (r .p .s) ≤ left (now (tokens .entry)) (p .s) - 1) ⌝ }
+    ensures { λ r. ⌜ opens-within allowed (expr-binding-power «min_bp») p (parser-tested r) tokens events reports pool ⌝ }
+    ensures { λ r. ⌜ tokens-left (now (tokens .entry)) (r .p .s) ≤ tokens-left (now (tokens .entry)) (p .s) ⌝ }
+    ensures { λ r. ⌜ (r .yes ≡ true → tokens-left (now (tokens .entry)) (r .p .s) ≤ tokens-left (now (tokens .entry)) (p .s) - 1) ⌝ }
 {
-    let closed = allowed == 0;
-    if closed {
+    let too_deep = allowed == 0;
+    if too_deep {
         let q = p.refuse(TOO_DEEP);
         return ParserTested { p: q, yes: false };
     }
     let m = Marker::new(p.s);
     let started = p.start(events);
-    let left = lhs(started, tokens, events, reports, pool, allowed - 1);
-    if left.yes {
+    let operand = lhs(started, tokens, events, reports, pool, allowed - 1);
+    if operand.yes {
         infix_chain(
-            left.p,
+            operand.p,
             tokens,
             events,
             reports,
@@ -155,7 +157,7 @@ pub fn expr_binding_power(
             m,
         )
     } else {
-        let q = left.p.ignore(events);
+        let q = operand.p.ignore(events);
         ParserTested { p: q, yes: false }
     }
 }
@@ -172,18 +174,18 @@ fn infix_chain(
     first: Marker,
 ) -> ParserTested
     ensures { λ r. ⌜ leaving (parser-tested r) events reports pool
-        ≡ links-from allowed (tokens-of (now (tokens .entry))) (infix-turn «min_bp») (marker-of first) (entering (view-of p) events reports pool) ⌝ }
-    ensures { λ r. ⌜ left (now (tokens .entry)) (r .p .s) ≤ left (now (tokens .entry)) (p .s) ⌝ }
+        ≡ links-from allowed (tokens-of (now (tokens .entry))) (infix-turn «min_bp») (marker-of first) (entering (parser-view p) events reports pool) ⌝ }
+    ensures { λ r. ⌜ tokens-left (now (tokens .entry)) (r .p .s) ≤ tokens-left (now (tokens .entry)) (p .s) ⌝ }
 {
     let mut m = first;
     let mut q = p;
     loop {
-        let step = infix_step(q, tokens, events, reports, pool, allowed, min_bp);
-        if step.operator {
-            let done = step.p.complete(events, m, node_kind::INFIX_EXPR);
+        let turn = infix_turn(q, tokens, events, reports, pool, allowed, min_bp);
+        if turn.operator {
+            let done = turn.p.complete(events, m, node_kind::INFIX_EXPR);
             let next = Marker::linked(done.s);
             let linked = done.precede(events, m);
-            if step.again {
+            if turn.again {
                 q = linked;
                 m = next;
             } else {
@@ -191,13 +193,13 @@ fn infix_chain(
                 return ParserTested { p: end, yes: true };
             }
         } else {
-            let end = step.p.ignore(events);
+            let end = turn.p.ignore(events);
             return ParserTested { p: end, yes: true };
         }
     }
 }
 
-fn infix_step(
+fn infix_turn(
     p: Parser,
     tokens: &[u32],
     events: &mut [u32],
@@ -205,16 +207,16 @@ fn infix_step(
     pool: &mut [u32],
     allowed: usize,
     min_bp: u8,
-) -> Step
-    ensures { λ r. ⌜ runs-of allowed (infix-turn «min_bp») p (step-as r) tokens events reports pool ⌝ }
-    ensures { λ r. ⌜ left (now (tokens .entry)) (r .p .s) ≤ left (now (tokens .entry)) (p .s) ⌝ }
-    ensures { λ r. ⌜ (r .operator ≡ true → left (now (tokens .entry)) (r .p .s) < left (now (tokens .entry)) (p .s)) ⌝ }
+) -> Turn
+    ensures { λ r. ⌜ walks-within allowed (infix-turn «min_bp») p (turn-as r) tokens events reports pool ⌝ }
+    ensures { λ r. ⌜ tokens-left (now (tokens .entry)) (r .p .s) ≤ tokens-left (now (tokens .entry)) (p .s) ⌝ }
+    ensures { λ r. ⌜ (r .operator ≡ true → tokens-left (now (tokens .entry)) (r .p .s) < tokens-left (now (tokens .entry)) (p .s)) ⌝ }
 {
     let op = infix_op_at(p, tokens);
     let none = op.left == 0;
     if none {
         let q = op.p;
-        return Step {
+        return Turn {
             p: q,
             operator: false,
             again: false,
@@ -223,14 +225,14 @@ fn infix_step(
     let weaker = op.left < min_bp;
     if weaker {
         let q = op.p;
-        return Step {
+        return Turn {
             p: q,
             operator: false,
             again: false,
         };
     }
     let taken = op.p.bump(tokens, events);
-    let ternary = op.left == 2;
+    let ternary = op.left == TERNARY_LEFT;
     if ternary {
         ternary_rhs(taken, tokens, events, reports, pool, allowed)
     } else {
@@ -246,13 +248,13 @@ fn rhs(
     pool: &mut [u32],
     allowed: usize,
     right_bp: u8,
-) -> Step
-    ensures { λ r. ⌜ runs-of allowed (rhs-prog «right_bp») p (step-as r) tokens events reports pool ⌝ }
-    ensures { λ r. ⌜ left (now (tokens .entry)) (r .p .s) ≤ left (now (tokens .entry)) (p .s) ⌝ }
+) -> Turn
+    ensures { λ r. ⌜ walks-within allowed (rhs-prog «right_bp») p (turn-as r) tokens events reports pool ⌝ }
+    ensures { λ r. ⌜ tokens-left (now (tokens .entry)) (r .p .s) ≤ tokens-left (now (tokens .entry)) (p .s) ⌝ }
 {
     let right = expr_binding_power(p, tokens, events, reports, pool, allowed, right_bp);
     let q = right.p;
-    Step {
+    Turn {
         p: q,
         operator: true,
         again: right.yes,
@@ -267,9 +269,9 @@ fn ternary_rhs(
     reports: &mut [u32],
     pool: &mut [u32],
     allowed: usize,
-) -> Step
-    ensures { λ r. ⌜ runs-of allowed ternary-rhs p (step-as r) tokens events reports pool ⌝ }
-    ensures { λ r. ⌜ left (now (tokens .entry)) (r .p .s) ≤ left (now (tokens .entry)) (p .s) ⌝ }
+) -> Turn
+    ensures { λ r. ⌜ walks-within allowed ternary-rhs p (turn-as r) tokens events reports pool ⌝ }
+    ensures { λ r. ⌜ tokens-left (now (tokens .entry)) (r .p .s) ≤ tokens-left (now (tokens .entry)) (p .s) ⌝ }
 {
     let middle = expr_binding_power(p, tokens, events, reports, pool, allowed, 0);
     if middle.yes {
@@ -281,10 +283,18 @@ fn ternary_rhs(
             Matcher::Kind(token_kind::COLON),
         );
         if colon.yes {
-            rhs(colon.p, tokens, events, reports, pool, allowed, 1)
+            rhs(
+                colon.p,
+                tokens,
+                events,
+                reports,
+                pool,
+                allowed,
+                TERNARY_RIGHT,
+            )
         } else {
             let q = colon.p;
-            Step {
+            Turn {
                 p: q,
                 operator: true,
                 again: false,
@@ -292,7 +302,7 @@ fn ternary_rhs(
         }
     } else {
         let q = middle.p;
-        Step {
+        Turn {
             p: q,
             operator: true,
             again: false,
@@ -308,9 +318,9 @@ fn lhs(
     pool: &mut [u32],
     allowed: usize,
 ) -> ParserTested
-    ensures { λ r. ⌜ runs-of allowed lhs-prog p (parser-tested r) tokens events reports pool ⌝ }
-    ensures { λ r. ⌜ left (now (tokens .entry)) (r .p .s) ≤ left (now (tokens .entry)) (p .s) ⌝ }
-    ensures { λ r. ⌜ (r .yes ≡ true → left (now (tokens .entry)) (r .p .s) ≤ left (now (tokens .entry)) (p .s) - 1) ⌝ }
+    ensures { λ r. ⌜ walks-within allowed lhs-prog p (parser-tested r) tokens events reports pool ⌝ }
+    ensures { λ r. ⌜ tokens-left (now (tokens .entry)) (r .p .s) ≤ tokens-left (now (tokens .entry)) (p .s) ⌝ }
+    ensures { λ r. ⌜ (r .yes ≡ true → tokens-left (now (tokens .entry)) (r .p .s) ≤ tokens-left (now (tokens .entry)) (p .s) - 1) ⌝ }
 {
     let op = at_prefix_op(p, tokens);
     if op.yes {
@@ -345,8 +355,8 @@ fn prefix_expr(
     pool: &mut [u32],
     allowed: usize,
 ) -> ParserTested
-    ensures { λ r. ⌜ runs-of allowed prefix-expr p (parser-tested r) tokens events reports pool ⌝ }
-    ensures { λ r. ⌜ left (now (tokens .entry)) (r .p .s) ≤ left (now (tokens .entry)) (p .s) - 1 ⌝ }
+    ensures { λ r. ⌜ walks-within allowed prefix-expr p (parser-tested r) tokens events reports pool ⌝ }
+    ensures { λ r. ⌜ tokens-left (now (tokens .entry)) (r .p .s) ≤ tokens-left (now (tokens .entry)) (p .s) - 1 ⌝ }
 {
     let m = Marker::new(p.s);
     let started = p.start(events);
@@ -367,8 +377,8 @@ fn paren_expr(
     pool: &mut [u32],
     allowed: usize,
 ) -> ParserTested
-    ensures { λ r. ⌜ runs-of allowed paren-expr p (parser-tested r) tokens events reports pool ⌝ }
-    ensures { λ r. ⌜ left (now (tokens .entry)) (r .p .s) ≤ left (now (tokens .entry)) (p .s) - 1 ⌝ }
+    ensures { λ r. ⌜ walks-within allowed paren-expr p (parser-tested r) tokens events reports pool ⌝ }
+    ensures { λ r. ⌜ tokens-left (now (tokens .entry)) (r .p .s) ≤ tokens-left (now (tokens .entry)) (p .s) - 1 ⌝ }
 {
     let m = Marker::new(p.s);
     let started = p.start(events);
@@ -389,8 +399,8 @@ fn paren_expr(
 }
 
 fn literal_expr(p: Parser, tokens: &[u32], events: &mut [u32]) -> Parser
-    ensures { λ r. ⌜ moves-of literal-expr p (says-of yes r) tokens events ⌝ }
-    ensures { λ r. ⌜ left (now (tokens .entry)) (r .s) ≤ left (now (tokens .entry)) (p .s) - 1 ⌝ }
+    ensures { λ r. ⌜ parser-moves literal-expr p (parser-says yes r) tokens events ⌝ }
+    ensures { λ r. ⌜ tokens-left (now (tokens .entry)) (r .s) ≤ tokens-left (now (tokens .entry)) (p .s) - 1 ⌝ }
 {
     let m = Marker::new(p.s);
     let started = p.start(events);
@@ -407,8 +417,8 @@ fn no_lhs(
     pool: &mut [u32],
     allowed: usize,
 ) -> Parser
-    ensures { λ r. ⌜ runs-of allowed no-lhs p (says-of no r) tokens events reports pool ⌝ }
-    ensures { λ r. ⌜ left (now (tokens .entry)) (r .s) ≤ left (now (tokens .entry)) (p .s) ⌝ }
+    ensures { λ r. ⌜ walks-within allowed no-lhs p (parser-says no r) tokens events reports pool ⌝ }
+    ensures { λ r. ⌜ tokens-left (now (tokens .entry)) (r .s) ≤ tokens-left (now (tokens .entry)) (p .s) ⌝ }
 {
     let op = infix_op_at(p, tokens);
     if op.binary {
@@ -439,8 +449,8 @@ fn missing_lhs(
     pool: &mut [u32],
     allowed: usize,
 ) -> Parser
-    ensures { λ r. ⌜ runs-of allowed missing-lhs p (says-of no r) tokens events reports pool ⌝ }
-    ensures { λ r. ⌜ left (now (tokens .entry)) (r .s) ≤ left (now (tokens .entry)) (p .s) ⌝ }
+    ensures { λ r. ⌜ walks-within allowed missing-lhs p (parser-says no r) tokens events reports pool ⌝ }
+    ensures { λ r. ⌜ tokens-left (now (tokens .entry)) (r .s) ≤ tokens-left (now (tokens .entry)) (p .s) ⌝ }
 {
     let reported = p.error(
         tokens,

@@ -10,8 +10,8 @@ use denote.Enum.Declared.{tagOf}
 use Rattle.parser.proofs.Ans.{the-type}
 use Rattle.parser.specs.declared.Ans.{Ans as Answered}
 use Rattle.parser.specs.declared.Ans.the-variants as A
-use Rattle.parser.specs.View.{ans-of, left}
-use Rattle.steps.specs.View.{found}
+use Rattle.parser.specs.View.{ans-of, tokens-left}
+use Rattle.steps.specs.View.{took-unless-no}
 use Rattle.parser.specs.declared.Parser.{Parser}
 use Rattle.parser.specs.declared.ParserTested.{ParserTested}
 use Rattle.parser.specs.declared.ParserAnswered.{ParserAnswered}
@@ -117,14 +117,14 @@ other-no A.Again k h = absurd (neither h)
     neither h = elim h [ inl i ↦ omega (arith, i, again-tag) | inr i ↦ omega (arith, i, again-tag) ]
 
 -- what a prefix that was found has taken
-pub found-other : (r : Answered) → OneOf (1 ∷ 3 ∷ []) (tagOf the-type r) → found r ≡ 1
-found-other A.No h = absurd (neither h)
+pub unless-no-other : (r : Answered) → OneOf (1 ∷ 3 ∷ []) (tagOf the-type r) → took-unless-no r ≡ 1
+unless-no-other A.No h = absurd (neither h)
   where
     neither : OneOf (1 ∷ 3 ∷ []) (tagOf the-type A.No) → ⊥
     neither h = elim h [ inl i ↦ omega (arith, i, no-tag) | inr i ↦ omega (arith, i, no-tag) ]
-found-other A.Yes h = refl
-found-other A.Also h = refl
-found-other A.Again h = refl
+unless-no-other A.Yes h = refl
+unless-no-other A.Also h = refl
+unless-no-other A.Again h = refl
 
 -- an answer that is known
 pub c-answered : {ask : Rule → Machine → Walked} {ts : List Token} {b : Span} {p : Prog} {m x : Machine} {v a : Ans} → v ≡ a → Way ask ts b p m (said v x) → Way ask ts b p m (said a x)
@@ -138,5 +138,5 @@ pub c-assoc : {ask : Rule → Machine → Walked} {ts : List Token} {b : Span} {
 c-assoc {ask = ask} {ts = ts} {b = b} {p = p} {q = q} {r = r} {m = m} e = record { is = e .is ∙ sequence-is ask ts b p q r m }
 
 -- `answered` leaves the parser as it is
-pub answered-left : (tokens : List ℕ) (r : ParserAnswered) (k : ParserTested) → r .p ≡ k .p → left tokens (r .p .s) ≡ left tokens (k .p .s)
-answered-left tokens r k e = ap (λ (p : Parser). left tokens (p .s)) e
+pub answered-left : (tokens : List ℕ) (r : ParserAnswered) (k : ParserTested) → r .p ≡ k .p → tokens-left tokens (r .p .s) ≡ tokens-left tokens (k .p .s)
+answered-left tokens r k e = ap (λ (p : Parser). tokens-left tokens (p .s)) e

@@ -19,11 +19,11 @@ inside-of I.Item = Item
 inside-of (I.Values semicolon) = Values semicolon
 inside-of (I.Cell until-end) = Cell until-end
 
-abbrev pub entry-of : D′.Entrypoint → Entry
-entry-of E′.SourceFile = G.SourceFile
-entry-of E′.ReferenceNoamp = G.ReferenceNoamp
-entry-of E′.PropValues = G.PropValues
-entry-of E′.Cells = G.Cells
+abbrev pub entry-for : D′.Entrypoint → Entry
+entry-for E′.SourceFile = G.SourceFile
+entry-for E′.ReferenceNoamp = G.ReferenceNoamp
+entry-for E′.PropValues = G.PropValues
+entry-for E′.Cells = G.Cells
 
 -- ---------------------------------------------------------------- programs
 

@@ -18,8 +18,8 @@ ghost use Rattle.definitions.specs.Prog.{yes};
 ghost use Rattle.definitions.specs.Grammar.{sourcefile-part, entry-sourcefile, entry, whole};
 ghost use Rattle.machine.specs.Walk.{walk-prog, unlabelled};
 ghost use Rattle.machine.specs.Outcome.{fresh};
-ghost use Rattle.parser.specs.View.{view-of, left, runs-of, runs-on-of, says-of, leaving, entering};
-ghost use Rattle.grammar.specs.Subprograms.{entry-of};
+ghost use Rattle.parser.specs.View.{parser-view, tokens-left, walks-within, walks-within-on, parser-says, leaving, entering};
+ghost use Rattle.grammar.specs.Subprograms.{entry-for};
 
 pub enum Entrypoint {
     SourceFile,
@@ -36,8 +36,8 @@ fn sourcefile_part(
     reports: &mut [u32],
     pool: &mut [u32],
 ) -> Parser
-    ensures { λ r. ⌜ runs-on-of MOST-OPEN-CALLS sourcefile-part p r tokens events reports pool ⌝ }
-    ensures { λ r. ⌜ left (now (tokens .entry)) (r .s) ≤ left (now (tokens .entry)) (p .s) - 1 ⌝ }
+    ensures { λ r. ⌜ walks-within-on MOST-OPEN-CALLS sourcefile-part p r tokens events reports pool ⌝ }
+    ensures { λ r. ⌜ tokens-left (now (tokens .entry)) (r .s) ≤ tokens-left (now (tokens .entry)) (p .s) - 1 ⌝ }
 {
     let rcurly = p.silent_at(tokens, token_kind::RCURLY);
     if rcurly.yes {
@@ -65,8 +65,8 @@ fn entry_sourcefile(
     reports: &mut [u32],
     pool: &mut [u32],
 ) -> Parser
-    ensures { λ r. ⌜ runs-of MOST-OPEN-CALLS entry-sourcefile p (says-of yes r) tokens events reports pool ⌝ }
-    ensures { λ r. ⌜ left (now (tokens .entry)) (r .s) ≤ left (now (tokens .entry)) (p .s) ⌝ }
+    ensures { λ r. ⌜ walks-within MOST-OPEN-CALLS entry-sourcefile p (parser-says yes r) tokens events reports pool ⌝ }
+    ensures { λ r. ⌜ tokens-left (now (tokens .entry)) (r .s) ≤ tokens-left (now (tokens .entry)) (p .s) ⌝ }
 {
     let mut q = p;
     loop {
@@ -86,8 +86,8 @@ fn enter(
     pool: &mut [u32],
     entrypoint: Entrypoint,
 ) -> Parser
-    ensures { λ r. ⌜ runs-on-of MOST-OPEN-CALLS (entry (entry-of entrypoint)) p r tokens events reports pool ⌝ }
-    ensures { λ r. ⌜ left (now (tokens .entry)) (r .s) ≤ left (now (tokens .entry)) (p .s) ⌝ }
+    ensures { λ r. ⌜ walks-within-on MOST-OPEN-CALLS (entry (entry-for entrypoint)) p r tokens events reports pool ⌝ }
+    ensures { λ r. ⌜ tokens-left (now (tokens .entry)) (r .s) ≤ tokens-left (now (tokens .entry)) (p .s) ⌝ }
 {
     match entrypoint {
         Entrypoint::SourceFile => entry_sourcefile(p, tokens, events, reports, pool),
@@ -103,15 +103,16 @@ fn enter(
     }
 }
 
-pub fn parse(
+// `Entrypoint::parse` up to the sink: the entry from the first token on, and the tokens that it leaves over.
+pub fn run_entry(
     tokens: &[u32],
     events: &mut [u32],
     reports: &mut [u32],
     pool: &mut [u32],
     entrypoint: Entrypoint,
 ) -> Parser
-    ensures { λ r. ⌜ leaving (view-of r) events reports pool
-        ≡ walk-prog MOST-OPEN-CALLS (tokens-of (now (tokens .entry))) unlabelled (whole (entry-of entrypoint))
+    ensures { λ r. ⌜ leaving (parser-view r) events reports pool
+        ≡ walk-prog MOST-OPEN-CALLS (tokens-of (now (tokens .entry))) unlabelled (whole (entry-for entrypoint))
         (entering fresh events reports pool) .on ⌝ }
 {
     let p = Parser::new();

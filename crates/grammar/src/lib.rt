@@ -54,7 +54,7 @@ ghost use mathlib.Core.Bool.{true};
 ghost use Prim.Native.Nat.{_-_, _≤_, _<_};
 ghost use Rattle.definitions.specs.Prog.{yes, item, propvalues, eat-cell};
 ghost use Rattle.definitions.specs.Grammar.{eat-inside, branch, cond-branches-and-end, eat-preprocessor-directive, cells, dt-cell-list, bits-value, propvalue, dt-property, dt-node-body, no-property, eat-node-or-prop};
-ghost use Rattle.parser.specs.View.{parser-tested, left, calls-of, calls-on-of, run-closes-of, runs-of, runs-on-of, says-of};
+ghost use Rattle.parser.specs.View.{parser-tested, tokens-left, opens-within, opens-within-on, closes-within, walks-within, walks-within-on, parser-says};
 ghost use Rattle.steps.specs.View.{parser-answered};
 ghost use Rattle.grammar.specs.Subprograms.{inside-of, cell-rest, value-rest, item-rest};
 
@@ -69,8 +69,8 @@ fn cells(
     allowed: usize,
     until_end: bool,
 ) -> ParserTested
-    ensures { λ r. ⌜ runs-of allowed (cells «until_end») p (parser-tested r) tokens events reports pool ⌝ }
-    ensures { λ r. ⌜ left (now (tokens .entry)) (r .p .s) ≤ left (now (tokens .entry)) (p .s) ⌝ }
+    ensures { λ r. ⌜ walks-within allowed (cells «until_end») p (parser-tested r) tokens events reports pool ⌝ }
+    ensures { λ r. ⌜ tokens-left (now (tokens .entry)) (r .p .s) ≤ tokens-left (now (tokens .entry)) (p .s) ⌝ }
 {
     let mut q = p;
     loop {
@@ -110,12 +110,12 @@ fn eat_cell(
     allowed: usize,
     until_end: bool,
 ) -> ParserTested
-    ensures { λ r. ⌜ calls-of allowed (eat-cell «until_end») p (parser-tested r) tokens events reports pool ⌝ }
-    ensures { λ r. ⌜ left (now (tokens .entry)) (r .p .s) ≤ left (now (tokens .entry)) (p .s) ⌝ }
-    ensures { λ r. ⌜ (r .yes ≡ true → left (now (tokens .entry)) (r .p .s) < left (now (tokens .entry)) (p .s)) ⌝ }
+    ensures { λ r. ⌜ opens-within allowed (eat-cell «until_end») p (parser-tested r) tokens events reports pool ⌝ }
+    ensures { λ r. ⌜ tokens-left (now (tokens .entry)) (r .p .s) ≤ tokens-left (now (tokens .entry)) (p .s) ⌝ }
+    ensures { λ r. ⌜ (r .yes ≡ true → tokens-left (now (tokens .entry)) (r .p .s) < tokens-left (now (tokens .entry)) (p .s)) ⌝ }
 {
-    let closed = allowed == 0;
-    if closed {
+    let too_deep = allowed == 0;
+    if too_deep {
         let q = p.refuse(TOO_DEEP);
         return ParserTested { p: q, yes: false };
     }
@@ -149,9 +149,9 @@ fn cell_rest(
     allowed: usize,
     until_end: bool,
 ) -> ParserTested
-    ensures { λ r. ⌜ runs-of allowed (cell-rest «until_end») p (parser-tested r) tokens events reports pool ⌝ }
-    ensures { λ r. ⌜ left (now (tokens .entry)) (r .p .s) ≤ left (now (tokens .entry)) (p .s) ⌝ }
-    ensures { λ r. ⌜ (r .yes ≡ true → left (now (tokens .entry)) (r .p .s) < left (now (tokens .entry)) (p .s)) ⌝ }
+    ensures { λ r. ⌜ walks-within allowed (cell-rest «until_end») p (parser-tested r) tokens events reports pool ⌝ }
+    ensures { λ r. ⌜ tokens-left (now (tokens .entry)) (r .p .s) ≤ tokens-left (now (tokens .entry)) (p .s) ⌝ }
+    ensures { λ r. ⌜ (r .yes ≡ true → tokens-left (now (tokens .entry)) (r .p .s) < tokens-left (now (tokens .entry)) (p .s)) ⌝ }
 {
     let include = eat_dts_include(p, tokens, events, reports, pool);
     if include.yes {
@@ -200,8 +200,8 @@ fn dt_cell_list(
     allowed: usize,
     m: Marker,
 ) -> ParserTested
-    ensures { λ r. ⌜ run-closes-of allowed m dt-cell-list p (parser-tested r) tokens events reports pool ⌝ }
-    ensures { λ r. ⌜ left (now (tokens .entry)) (r .p .s) ≤ left (now (tokens .entry)) (p .s) - 1 ⌝ }
+    ensures { λ r. ⌜ closes-within allowed m dt-cell-list p (parser-tested r) tokens events reports pool ⌝ }
+    ensures { λ r. ⌜ tokens-left (now (tokens .entry)) (r .p .s) ≤ tokens-left (now (tokens .entry)) (p .s) - 1 ⌝ }
 {
     let opened = p.bump(tokens, events);
     let inner = cells(opened, tokens, events, reports, pool, allowed, false);
@@ -233,11 +233,11 @@ fn propvalues(
     allowed: usize,
     semicolon: bool,
 ) -> ParserTested
-    ensures { λ r. ⌜ calls-of allowed (propvalues semicolon) p (parser-tested r) tokens events reports pool ⌝ }
-    ensures { λ r. ⌜ left (now (tokens .entry)) (r .p .s) ≤ left (now (tokens .entry)) (p .s) - 1 ⌝ }
+    ensures { λ r. ⌜ opens-within allowed (propvalues semicolon) p (parser-tested r) tokens events reports pool ⌝ }
+    ensures { λ r. ⌜ tokens-left (now (tokens .entry)) (r .p .s) ≤ tokens-left (now (tokens .entry)) (p .s) - 1 ⌝ }
 {
-    let closed = allowed == 0;
-    if closed {
+    let too_deep = allowed == 0;
+    if too_deep {
         let q = p.refuse(TOO_DEEP);
         return ParserTested { p: q, yes: false };
     }
@@ -289,8 +289,8 @@ fn value(
     allowed: usize,
     semicolon: bool,
 ) -> ParserAnswered
-    ensures { λ r. ⌜ runs-of allowed (propvalue semicolon) p (parser-answered r) tokens events reports pool ⌝ }
-    ensures { λ r. ⌜ left (now (tokens .entry)) (r .p .s) ≤ left (now (tokens .entry)) (p .s) - 1 ⌝ }
+    ensures { λ r. ⌜ walks-within allowed (propvalue semicolon) p (parser-answered r) tokens events reports pool ⌝ }
+    ensures { λ r. ⌜ tokens-left (now (tokens .entry)) (r .p .s) ≤ tokens-left (now (tokens .entry)) (p .s) - 1 ⌝ }
 {
     let pushed = p.add_expected(expected::VALUE);
     let directive = pushed.silent_at(tokens, token_kind::BITS_DIRECTIVE);
@@ -323,8 +323,8 @@ fn bits(
     pool: &mut [u32],
     allowed: usize,
 ) -> ParserTested
-    ensures { λ r. ⌜ runs-of allowed bits-value p (parser-tested r) tokens events reports pool ⌝ }
-    ensures { λ r. ⌜ left (now (tokens .entry)) (r .p .s) ≤ left (now (tokens .entry)) (p .s) - 1 ⌝ }
+    ensures { λ r. ⌜ walks-within allowed bits-value p (parser-tested r) tokens events reports pool ⌝ }
+    ensures { λ r. ⌜ tokens-left (now (tokens .entry)) (r .p .s) ≤ tokens-left (now (tokens .entry)) (p .s) - 1 ⌝ }
 {
     let m_cell_list = Marker::new(p.s);
     let listed = p.start(events);
@@ -359,8 +359,8 @@ fn value_rest(
     allowed: usize,
     semicolon: bool,
 ) -> ParserAnswered
-    ensures { λ r. ⌜ runs-of allowed (value-rest semicolon) p (parser-answered r) tokens events reports pool ⌝ }
-    ensures { λ r. ⌜ left (now (tokens .entry)) (r .p .s) ≤ left (now (tokens .entry)) (p .s) - 1 ⌝ }
+    ensures { λ r. ⌜ walks-within allowed (value-rest semicolon) p (parser-answered r) tokens events reports pool ⌝ }
+    ensures { λ r. ⌜ tokens-left (now (tokens .entry)) (r .p .s) ≤ tokens-left (now (tokens .entry)) (p .s) - 1 ⌝ }
 {
     let reference = silent_eat_reference(p, tokens, events, reports, pool);
     if reference.yes {
@@ -423,8 +423,8 @@ fn dt_property(
     allowed: usize,
     m: Marker,
 ) -> Parser
-    ensures { λ r. ⌜ run-closes-of allowed m dt-property p (says-of yes r) tokens events reports pool ⌝ }
-    ensures { λ r. ⌜ left (now (tokens .entry)) (r .s) ≤ left (now (tokens .entry)) (p .s) - 1 ⌝ }
+    ensures { λ r. ⌜ closes-within allowed m dt-property p (parser-says yes r) tokens events reports pool ⌝ }
+    ensures { λ r. ⌜ tokens-left (now (tokens .entry)) (r .s) ≤ tokens-left (now (tokens .entry)) (p .s) - 1 ⌝ }
 {
     let empty = p.eat(tokens, events, Matcher::Kind(token_kind::SEMICOLON));
     if empty.yes {
@@ -463,8 +463,8 @@ fn dt_node_body(
     allowed: usize,
     m: Marker,
 ) -> Parser
-    ensures { λ r. ⌜ run-closes-of allowed m dt-node-body p (says-of yes r) tokens events reports pool ⌝ }
-    ensures { λ r. ⌜ left (now (tokens .entry)) (r .s) ≤ left (now (tokens .entry)) (p .s) - 1 ⌝ }
+    ensures { λ r. ⌜ closes-within allowed m dt-node-body p (parser-says yes r) tokens events reports pool ⌝ }
+    ensures { λ r. ⌜ tokens-left (now (tokens .entry)) (r .s) ≤ tokens-left (now (tokens .entry)) (p .s) - 1 ⌝ }
 {
     let lcurly_span = p.s.range(tokens);
     let mut q = p.bump(tokens, events);
@@ -488,11 +488,11 @@ fn item(
     pool: &mut [u32],
     allowed: usize,
 ) -> Parser
-    ensures { λ r. ⌜ calls-on-of allowed item p r tokens events reports pool ⌝ }
-    ensures { λ r. ⌜ left (now (tokens .entry)) (r .s) ≤ left (now (tokens .entry)) (p .s) - 1 ⌝ }
+    ensures { λ r. ⌜ opens-within-on allowed item p r tokens events reports pool ⌝ }
+    ensures { λ r. ⌜ tokens-left (now (tokens .entry)) (r .s) ≤ tokens-left (now (tokens .entry)) (p .s) - 1 ⌝ }
 {
-    let closed = allowed == 0;
-    if closed {
+    let too_deep = allowed == 0;
+    if too_deep {
         return p.refuse(TOO_DEEP);
     }
     let named = eat_node_or_prop(p, tokens, events, reports, pool, allowed - 1);
@@ -547,8 +547,8 @@ fn item_rest(
     pool: &mut [u32],
     allowed: usize,
 ) -> Parser
-    ensures { λ r. ⌜ runs-of allowed item-rest p (says-of yes r) tokens events reports pool ⌝ }
-    ensures { λ r. ⌜ left (now (tokens .entry)) (r .s) ≤ left (now (tokens .entry)) (p .s) - 1 ⌝ }
+    ensures { λ r. ⌜ walks-within allowed item-rest p (parser-says yes r) tokens events reports pool ⌝ }
+    ensures { λ r. ⌜ tokens-left (now (tokens .entry)) (r .s) ≤ tokens-left (now (tokens .entry)) (p .s) - 1 ⌝ }
 {
     let semicolon = p.silent_at(tokens, token_kind::SEMICOLON);
     if semicolon.yes {
@@ -589,9 +589,9 @@ fn eat_node_or_prop(
     pool: &mut [u32],
     allowed: usize,
 ) -> ParserTested
-    ensures { λ r. ⌜ runs-of allowed eat-node-or-prop p (parser-tested r) tokens events reports pool ⌝ }
-    ensures { λ r. ⌜ left (now (tokens .entry)) (r .p .s) ≤ left (now (tokens .entry)) (p .s) ⌝ }
-    ensures { λ r. ⌜ (r .yes ≡ true → left (now (tokens .entry)) (r .p .s) ≤ left (now (tokens .entry)) (p .s) - 1) ⌝ }
+    ensures { λ r. ⌜ walks-within allowed eat-node-or-prop p (parser-tested r) tokens events reports pool ⌝ }
+    ensures { λ r. ⌜ tokens-left (now (tokens .entry)) (r .p .s) ≤ tokens-left (now (tokens .entry)) (p .s) ⌝ }
+    ensures { λ r. ⌜ (r .yes ≡ true → tokens-left (now (tokens .entry)) (r .p .s) ≤ tokens-left (now (tokens .entry)) (p .s) - 1) ⌝ }
 {
     let m = Marker::new(p.s);
     let started = p.start(events);
@@ -632,8 +632,8 @@ fn node(
     m: Marker,
     allow_prop: bool,
 ) -> Parser
-    ensures { λ r. ⌜ run-closes-of allowed m (no-property «allow_prop») p (says-of yes r) tokens events reports pool ⌝ }
-    ensures { λ r. ⌜ left (now (tokens .entry)) (r .s) ≤ left (now (tokens .entry)) (p .s) ⌝ }
+    ensures { λ r. ⌜ closes-within allowed m (no-property «allow_prop») p (parser-says yes r) tokens events reports pool ⌝ }
+    ensures { λ r. ⌜ tokens-left (now (tokens .entry)) (r .s) ≤ tokens-left (now (tokens .entry)) (p .s) ⌝ }
 {
     let lcurly = p.at(tokens, Matcher::Kind(token_kind::LCURLY));
     if lcurly.yes {
@@ -675,9 +675,9 @@ fn eat_inside(
     allowed: usize,
     inside: Inside,
 ) -> ParserTested
-    ensures { λ r. ⌜ runs-of allowed (eat-inside (inside-of inside)) p (parser-tested r) tokens events reports pool ⌝ }
-    ensures { λ r. ⌜ left (now (tokens .entry)) (r .p .s) ≤ left (now (tokens .entry)) (p .s) ⌝ }
-    ensures { λ r. ⌜ (r .yes ≡ true → left (now (tokens .entry)) (r .p .s) ≤ left (now (tokens .entry)) (p .s) - 1) ⌝ }
+    ensures { λ r. ⌜ walks-within allowed (eat-inside (inside-of inside)) p (parser-tested r) tokens events reports pool ⌝ }
+    ensures { λ r. ⌜ tokens-left (now (tokens .entry)) (r .p .s) ≤ tokens-left (now (tokens .entry)) (p .s) ⌝ }
+    ensures { λ r. ⌜ (r .yes ≡ true → tokens-left (now (tokens .entry)) (r .p .s) ≤ tokens-left (now (tokens .entry)) (p .s) - 1) ⌝ }
 {
     match inside {
         Inside::Item => {
@@ -703,9 +703,9 @@ fn branch(
     allowed: usize,
     inside: Inside,
 ) -> ParserTested
-    ensures { λ r. ⌜ runs-of allowed (branch (inside-of inside)) p (parser-tested r) tokens events reports pool ⌝ }
-    ensures { λ r. ⌜ left (now (tokens .entry)) (r .p .s) ≤ left (now (tokens .entry)) (p .s) ⌝ }
-    ensures { λ r. ⌜ (r .yes ≡ true → 0 < left (now (tokens .entry)) (p .s)) ⌝ }
+    ensures { λ r. ⌜ walks-within allowed (branch (inside-of inside)) p (parser-tested r) tokens events reports pool ⌝ }
+    ensures { λ r. ⌜ tokens-left (now (tokens .entry)) (r .p .s) ≤ tokens-left (now (tokens .entry)) (p .s) ⌝ }
+    ensures { λ r. ⌜ (r .yes ≡ true → 0 < tokens-left (now (tokens .entry)) (p .s)) ⌝ }
 {
     let m_branch = Marker::new(p.s);
     let mut q = p.start(events);
@@ -749,8 +749,8 @@ fn cond_branches_and_end(
     allowed: usize,
     inside: Inside,
 ) -> Parser
-    ensures { λ r. ⌜ runs-on-of allowed (cond-branches-and-end (inside-of inside)) p r tokens events reports pool ⌝ }
-    ensures { λ r. ⌜ left (now (tokens .entry)) (r .s) ≤ left (now (tokens .entry)) (p .s) ⌝ }
+    ensures { λ r. ⌜ walks-within-on allowed (cond-branches-and-end (inside-of inside)) p r tokens events reports pool ⌝ }
+    ensures { λ r. ⌜ tokens-left (now (tokens .entry)) (r .s) ≤ tokens-left (now (tokens .entry)) (p .s) ⌝ }
 {
     let mut q = p;
     loop {
@@ -780,10 +780,10 @@ fn eat_pp_directive(
     allowed: usize,
     inside: Inside,
 ) -> ParserTested
-    ensures { λ r. ⌜ runs-of allowed (eat-preprocessor-directive (inside-of inside)) p (parser-tested r)
+    ensures { λ r. ⌜ walks-within allowed (eat-preprocessor-directive (inside-of inside)) p (parser-tested r)
         tokens events reports pool ⌝ }
-    ensures { λ r. ⌜ left (now (tokens .entry)) (r .p .s) ≤ left (now (tokens .entry)) (p .s) ⌝ }
-    ensures { λ r. ⌜ (r .yes ≡ true → left (now (tokens .entry)) (r .p .s) < left (now (tokens .entry)) (p .s)) ⌝ }
+    ensures { λ r. ⌜ tokens-left (now (tokens .entry)) (r .p .s) ≤ tokens-left (now (tokens .entry)) (p .s) ⌝ }
+    ensures { λ r. ⌜ (r .yes ≡ true → tokens-left (now (tokens .entry)) (r .p .s) < tokens-left (now (tokens .entry)) (p .s)) ⌝ }
 {
     let pushed = p.add_expected(expected::PREPROCESSOR_DIRECTIVE);
     let directive = pushed.silent_at_set(tokens, &PREPROCESSOR_DIRECTIVES);

@@ -14,7 +14,7 @@ ghost use mathlib.Core.Path.{_≡_};
 ghost use mathlib.Core.Bool.{true};
 ghost use Prim.Native.Nat.{_-_, _≤_};
 ghost use Rattle.definitions.specs.Grammar.{catch-unmatched-pp-directive};
-ghost use Rattle.parser.specs.View.{parser-tested, left, runs-of};
+ghost use Rattle.parser.specs.View.{parser-tested, tokens-left, walks-within};
 ghost use Rattle.grammar.specs.Subprograms.{inside-of};
 
 // What a conditional's branch holds, in the place of the closures `eat_inside`: items, values (whether a semicolon ends
@@ -34,10 +34,10 @@ pub fn catch_unmatched_pp_directive(
     allowed: usize,
     inside: Inside,
 ) -> ParserTested
-    ensures { λ r. ⌜ runs-of allowed (catch-unmatched-pp-directive (inside-of inside)) p (parser-tested r)
+    ensures { λ r. ⌜ walks-within allowed (catch-unmatched-pp-directive (inside-of inside)) p (parser-tested r)
         tokens events reports pool ⌝ }
-    ensures { λ r. ⌜ left (now (tokens .entry)) (r .p .s) ≤ left (now (tokens .entry)) (p .s) ⌝ }
-    ensures { λ r. ⌜ (r .yes ≡ true → left (now (tokens .entry)) (r .p .s) ≤ left (now (tokens .entry)) (p .s) - 1) ⌝ }
+    ensures { λ r. ⌜ tokens-left (now (tokens .entry)) (r .p .s) ≤ tokens-left (now (tokens .entry)) (p .s) ⌝ }
+    ensures { λ r. ⌜ (r .yes ≡ true → tokens-left (now (tokens .entry)) (r .p .s) ≤ tokens-left (now (tokens .entry)) (p .s) - 1) ⌝ }
 {
     let endif = p.silent_at(tokens, token_kind::ENDIF_DIRECTIVE);
     if endif.yes {

@@ -70,11 +70,11 @@ fn is_good_row(kind: u32, n: usize, left: usize) -> bool
 }
 
 // Cause 3.
-fn find_bad_row(tokens: &[u32], bytes: usize) -> Found
-    ensures { λ r. ⌜ found bad-row r ≡ check-rows 0 bytes (now (tokens .entry)) ⌝ }
+fn find_bad_row(tokens: &[u32], byte_count: usize) -> Found
+    ensures { λ r. ⌜ found bad-row r ≡ check-rows 0 «byte_count» (now (tokens .entry)) ⌝ }
 {
     let count = tokens.len() / TOKEN_ROW;
-    let mut left = bytes;
+    let mut left = byte_count;
     let mut at: usize = 0;
     while at < count {
         let n = wide(tokens[at * TOKEN_ROW + TOKEN_LENGTH]);
@@ -140,12 +140,12 @@ fn find_bad_text(bytes: &[u8], tokens: &[u32]) -> Found
 }
 
 // Cause 2.
-fn is_too_long(bytes: usize, numbers: usize) -> bool
-    ensures { λ r. ⌜ not r ≡ (leb bytes MOST-BYTES && leb numbers MOST-TOKEN-NUMBERS) ⌝ }
+fn is_too_long(byte_count: usize, number_count: usize) -> bool
+    ensures { λ r. ⌜ not r ≡ (leb «byte_count» MOST-BYTES && leb «number_count» MOST-TOKEN-NUMBERS) ⌝ }
 {
-    let short = bytes <= MOST_BYTES;
+    let short = byte_count <= MOST_BYTES;
     if short {
-        let few = numbers <= MOST_TOKEN_NUMBERS;
+        let few = number_count <= MOST_TOKEN_NUMBERS;
         if few { false } else { true }
     } else {
         true

@@ -12,7 +12,7 @@ use Rattle.definitions.specs.Grammar.{Entry}
 use Rattle.definitions.specs.Skeleton.{Skeleton}
 use Rattle.definitions.specs.Report.{Room, Fit, fits, stops, pushes, scan}
 use Rattle.definitions.specs.Refusal.{Refusal, unknown-entry, too-long, bad-row, bad-text, too-deep, no-event-room, no-report-room, no-tree-room, number-of, Verdict, accepted, refused, check-input}
-use Rattle.definitions.specs.Call.{Buffers, Result, cleared, Sheets, sheets, kept, finish, forward-mark, outcome, room-of, run-entry, parse, Asked, for, unknown, entry-of, checked, asked, call}
+use Rattle.definitions.specs.Call.{Buffers, Result, cleared, Sheets, sheets, kept, delivered, forward-mark, outcome, room-of, run-entry, parse, Asked, for, unknown, entry-of, checked, asked, call}
 use Rattle.basics.proofs.Tests.{and-left, and-right}
 
 pub record Accepted (n : ℕ) (bytes tokens : List ℕ) (b : Buffers) : Type 0 where
@@ -54,7 +54,7 @@ module _ (n : ℕ) (bytes tokens : List ℕ) (b : Buffers) (e : Entry) (for-e : 
 
   by-room : (x : Room) → scan (pushes o) (room-of b) ≡ fits x → (y : Bool) → (leb (length (z .trees)) (length (b .trees)) && leb (length (z .errors)) (length (b .errors))) ≡ y
       → call n bytes tokens b .answer .number ≡ 0 → Accepted n bytes tokens b
-  unfolding outcome finish number-of
+  unfolding outcome delivered number-of
   by-room x f true g h =
       record {
         entry = e;

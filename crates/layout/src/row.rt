@@ -18,10 +18,12 @@ pub const REPORT_ROW: usize = 9;
 // Where a number stands in its row. The first stands where the row starts.
 pub const TOKEN_LENGTH: usize = 1;
 
+pub const EVENT_TAG: usize = 0;
+
 // A start's kind, or how many raw tokens a combined token has.
 pub const EVENT_ARGUMENT: usize = 1;
 
-// How far on the event is of the marker that was made to precede a start's, or 0.
+// For a start: the distance, in events, to the event of the marker that precedes it, or 0.
 pub const EVENT_DISTANCE: usize = 2;
 
 pub const TREE_KIND: usize = 1;

@@ -27,7 +27,7 @@ pub fn add(a: u32, b: u32) -> u32
 }
 
 // The difference, or 0.
-pub fn less(a: u32, b: u32) -> u32
+pub fn minus(a: u32, b: u32) -> u32
     ensures { λ r. ⌜ r ≡ a - b ⌝ }
 {
     let within = b <= a;

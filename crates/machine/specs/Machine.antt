@@ -99,15 +99,15 @@ fits len count n = leb count len && leb n (len - count)
 
 unfoldable pub push-row : ℕ → ℕ → Machine → Machine
 unfolding refuse
-push-row tag value m =
+push-row tag argument m =
     cond (fits (length (m .events .numbers)) (m .events .count) EVENT-ROW)
-    (with-events (record { count = m .events .count + EVENT-ROW; numbers = sets (m .events .numbers) (m .events .count) (tag ∷ value ∷ 0 ∷ []) }) m)
+    (with-events (record { count = m .events .count + EVENT-ROW; numbers = sets (m .events .numbers) (m .events .count) (tag ∷ argument ∷ 0 ∷ []) }) m)
     (refuse NO-EVENT-ROOM m)
 
 -- nothing is pushed once something was refused
 unfoldable pub push : ℕ → ℕ → Machine → Machine
 unfolding push-row
-push tag value m = cond (eqb (m .refusal) 0) (push-row tag value m) m
+push tag argument m = cond (eqb (m .refusal) 0) (push-row tag argument m) m
 
 -- a marker: the index of its placeholder among the event numbers, and the first number of the start that it becomes
 pub record Marker : Type 0 where

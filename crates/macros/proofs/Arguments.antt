@@ -18,9 +18,9 @@ use Rattle.machine.specs.Machine.{Machine, rest, peek, bump}
 use Rattle.machine.specs.Walk.{Walked, said, perform}
 use Rattle.machine.proofs.Turns.{Few, argue, argue-one}
 use Rattle.machine.proofs.Turns as T
-use Rattle.token_rows.specs.Tokens.{END, kind-of}
+use Rattle.token_rows.specs.Tokens.{SEEN-AT-END, kind-of}
 use Rattle.token_rows.proofs.Seen.{one-of-one}
-use Rattle.parser.specs.View.{left}
+use Rattle.parser.specs.View.{tokens-left}
 use Rattle.parser.specs.declared.State.{State}
 use Rattle.macros.specs.declared.invocation.Role.{Role}
 use Rattle.macros.specs.declared.invocation.Role.the-variants.{Comma, End, Inside}
@@ -36,9 +36,9 @@ pub role-opens : (k n : ℕ) → eqb k K.LParen ≡ true → Inside (n + 1) ≡ 
 unfolding role
 role-opens k n e = ap Inside (add-one n) ∙ role-at k n K.LParen e
 
-pub role-ends : (k n : ℕ) → eqb k END ≡ true → End ≡ role k n
+pub role-ends : (k n : ℕ) → eqb k SEEN-AT-END ≡ true → End ≡ role k n
 unfolding role
-role-ends k n e = role-at k n END e
+role-ends k n e = role-at k n SEEN-AT-END e
 
 pub role-comma : (k : ℕ) → eqb k K.Comma ≡ true → Comma ≡ role k 0
 unfolding role
@@ -49,7 +49,7 @@ unfolding role
 role-closes k e = role-at k 0 K.RParen e
 
 -- outside all inner brackets
-pub role-plain : (k : ℕ) → eqb k END ≡ false → eqb k K.LParen ≡ false → eqb k K.RParen ≡ false → eqb k K.Comma ≡ false → Inside 0 ≡ role k 0
+pub role-plain : (k : ℕ) → eqb k SEEN-AT-END ≡ false → eqb k K.LParen ≡ false → eqb k K.RParen ≡ false → eqb k K.Comma ≡ false → Inside 0 ≡ role k 0
 unfolding role
 role-plain k a b d e = rw (a, b, d, e)
 
@@ -59,7 +59,7 @@ unfolding role
 role-less k zero h e = absurd (eqb-false 0 0 h refl)
 role-less k (suc n) h e = ap Inside (let z : suc n - 1 ≡ n = omega arith in z) ∙ role-at k (suc n) K.RParen e
 
-pub role-inner : (k n : ℕ) → eqb n 0 ≡ false → eqb k END ≡ false → eqb k K.LParen ≡ false → eqb k K.RParen ≡ false → Inside n ≡ role k n
+pub role-inner : (k n : ℕ) → eqb n 0 ≡ false → eqb k SEEN-AT-END ≡ false → eqb k K.LParen ≡ false → eqb k K.RParen ≡ false → Inside n ≡ role k n
 unfolding role
 role-inner k zero h a b d = absurd (eqb-false 0 0 h refl)
 role-inner k (suc n) h a b d = rw (a, b, d) (go (eqb k K.Comma))
@@ -77,7 +77,7 @@ role-as End p go = said no p
 role-as (Inside n) p go = go n
 
 as-machine : (o c d : Bool) (n : ℕ) (p : Machine) (go : ℕ → Walked)
-    → role-as (cond o (Inside (suc n)) (cond c (within n End (Inside (one-less n))) (cond d (within n Comma (Inside n)) (Inside n)))) p go ≡ T.part false o c d n p go
+    → role-as (cond o (Inside (suc n)) (cond c (within n End (Inside (one-less n))) (cond d (within n Comma (Inside n)) (Inside n)))) p go ≡ T.one-token false o c d n p go
 as-machine true c d n p go = refl
 as-machine false true d zero p go = refl
 as-machine false true d (suc n) p go = refl
@@ -97,16 +97,16 @@ first-is : (k : ℕ) (t : Token) (l : List Token) → eqb (seen t) k ≡ first-i
 unfolding first-in
 first-is k t l = eqb-swap (seen t) k ∙ sym (one-of-one k (seen t))
 
-seen-token : (t : Token) → eqb (seen t) END ≡ false
+seen-token : (t : Token) → eqb (seen t) SEEN-AT-END ≡ false
 unfolding seen is-error
-seen-token t = go (leb END (t .kind)) refl
+seen-token t = go (leb SEEN-AT-END (t .kind)) refl
   where
-    go : (x : Bool) → leb END (t .kind) ≡ x → eqb (cond x K.Unrecognized (t .kind)) END ≡ false
+    go : (x : Bool) → leb SEEN-AT-END (t .kind) ≡ x → eqb (cond x K.Unrecognized (t .kind)) SEEN-AT-END ≡ false
     go true e = refl
-    go false e = ne-eqb (t .kind) END (λ h. omega (arith, leb-false END (t .kind) e, h))
+    go false e = ne-eqb (t .kind) SEEN-AT-END (λ h. omega (arith, leb-false SEEN-AT-END (t .kind) e, h))
 
 seen-role : (l : List Token) (n : ℕ) (p : Machine) (go : ℕ → Walked)
-    → role-as (role (kind-of l) n) p go ≡ T.part (ended l) (first-in (K.LParen ∷ []) l) (first-in (K.RParen ∷ []) l) (first-in (K.Comma ∷ []) l) n p go
+    → role-as (role (kind-of l) n) p go ≡ T.one-token (ended l) (first-in (K.LParen ∷ []) l) (first-in (K.RParen ∷ []) l) (first-in (K.Comma ∷ []) l) n p go
 unfolding role kind-of
 seen-role [] n p go = refl
 seen-role (t ∷ l) n p go =
@@ -117,7 +117,7 @@ module _ (ts : List Token) (n : ℕ) (m p : Machine) (few : Few ts) (e : p ≡ p
   argued : role-as x p (λ k. argue ts k (bump ts p)) ≡ argue ts n m
   argued =
       ap (λ (y : Role). role-as y p (λ k. argue ts k (bump ts p))) f ∙ seen-role (rest ts p) n p (λ k. argue ts k (bump ts p))
-      ∙ ap (λ (q : Machine). T.part (ended (rest ts q)) (first-in (K.LParen ∷ []) (rest ts q)) (first-in (K.RParen ∷ []) (rest ts q)) (first-in (K.Comma ∷ []) (rest ts q)) n q (λ k. argue ts k (bump ts q))) e
+      ∙ ap (λ (q : Machine). T.one-token (ended (rest ts q)) (first-in (K.LParen ∷ []) (rest ts q)) (first-in (K.RParen ∷ []) (rest ts q)) (first-in (K.Comma ∷ []) (rest ts q)) n q (λ k. argue ts k (bump ts q))) e
       ∙ argue-one ts n m few
 
   -- the comma after it, its end, and a token of it
@@ -143,11 +143,11 @@ tag End = 1
 tag (Inside n) = 2
 
 -- only past the last token is there an end
-pub comma-some : (k n : ℕ) (x : Role) → x ≡ role k n → x ≡ Comma → k ≡ END → ⊥
+pub comma-some : (k n : ℕ) (x : Role) → x ≡ role k n → x ≡ Comma → k ≡ SEEN-AT-END → ⊥
 unfolding role
 comma-some k n x e f g = let z : _≡_ {A = ℕ} 0 1 = ap tag (sym f ∙ e ∙ ap (λ (j : ℕ). role j n) g) in absurd (omega (arith, z))
 
-pub inside-some : (k n j : ℕ) (x : Role) → x ≡ role k n → x ≡ Inside j → k ≡ END → ⊥
+pub inside-some : (k n j : ℕ) (x : Role) → x ≡ role k n → x ≡ Inside j → k ≡ SEEN-AT-END → ⊥
 unfolding role
 inside-some k n j x e f g = let z : _≡_ {A = ℕ} 2 1 = ap tag (sym f ∙ e ∙ ap (λ (j : ℕ). role j n) g) in absurd (omega (arith, z))
 
@@ -171,16 +171,16 @@ pub inside-most : (k n j : ℕ) (x : Role) → x ≡ role k n → x ≡ Inside j
 unfolding role
 inside-most k n j x e f =
     let z : j ≡ open-brackets (role k n) = ap open-brackets (sym f ∙ e) in
-    omega (arith, z, at-most (eqb k END) (eqb k K.LParen) (eqb k K.RParen) (eqb k K.Comma) n)
+    omega (arith, z, at-most (eqb k SEEN-AT-END) (eqb k K.LParen) (eqb k K.RParen) (eqb k K.Comma) n)
 
 -- ---------------------------------------------------------------- the tokens left
 
 -- a row at the cursor is one of them
-pub row-left : (tokens : List ℕ) (s : State) → s .cursor .0 < length tokens / TOKEN-ROW → 0 < left tokens s
-unfolding left
+pub row-left : (tokens : List ℕ) (s : State) → s .cursor .0 < length tokens / TOKEN-ROW → 0 < tokens-left tokens s
+unfolding tokens-left
 row-left tokens s h = omega (arith, h)
 
 -- fewer than a number can count, with a bracket open for each
-pub few-left : (tokens : List ℕ) (s : State) → length tokens < TWO-TO-64 → left tokens s < 9223372036854775808
-unfolding left
+pub few-left : (tokens : List ℕ) (s : State) → length tokens < TWO-TO-64 → tokens-left tokens s < 9223372036854775808
+unfolding tokens-left
 few-left tokens s h = omega (arith, h)

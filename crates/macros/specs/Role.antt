@@ -3,7 +3,7 @@ use Prim.Native.Nat.{ℕ, zero, suc}
 use mathlib.Core.Bool.{Bool, cond}
 use lib.Dec.{eqb}
 use Rattle.definitions.specs.TokenKind as K
-use Rattle.token_rows.specs.Tokens.{END}
+use Rattle.token_rows.specs.Tokens.{SEEN-AT-END}
 use Rattle.macros.specs.declared.invocation.Role.{Role}
 use Rattle.macros.specs.declared.invocation.Role.the-variants.{Comma, End, Inside}
 
@@ -19,6 +19,6 @@ one-less (suc n) = n
 -- seen as kind k, or as the end, with n inner brackets open before it
 unfoldable pub role : ℕ → ℕ → Role
 role k n =
-    cond (eqb k END) End
+    cond (eqb k SEEN-AT-END) End
     (cond (eqb k K.LParen) (Inside (suc n))
     (cond (eqb k K.RParen) (within n End (Inside (one-less n))) (cond (eqb k K.Comma) (within n Comma (Inside n)) (Inside n))))

@@ -6,7 +6,7 @@ use parser::State;
 use parser::StateTested;
 use parser::marker::Marker;
 use parser::matcher::Matcher;
-use token_rows::token::END;
+use token_rows::token::SEEN_AT_END;
 use token_rows::token::kind_at;
 ghost use mathlib.Core.Path.{_≡_};
 ghost use mathlib.Core.Bool.{true, false};
@@ -16,8 +16,8 @@ ghost use Rattle.definitions.specs.Layout.{TWO-TO-64};
 ghost use Rattle.definitions.specs.TokenKind as K;
 ghost use Rattle.definitions.specs.Prog.{yes, bump-argument, loop};
 ghost use Rattle.definitions.specs.Grammar.{macro-argument-turn, macro-invocation};
-ghost use Rattle.token_rows.specs.Tokens.{END as seen-at-end};
-ghost use Rattle.parser.specs.View.{left, state-tested, moves, says, walks, walks-on, bumps};
+ghost use Rattle.token_rows.specs.Tokens.{SEEN-AT-END};
+ghost use Rattle.parser.specs.View.{tokens-left, state-tested, moves, says, walks, walks-on, bumps};
 ghost use Rattle.macros.specs.Subprograms.{argument-list};
 ghost use Rattle.macros.specs.Role.{role};
 
@@ -33,7 +33,7 @@ pub enum Role {
 
 // Outside inner brackets.
 fn outer_role(k: u8) -> Role
-    ensures { λ r. ⌜ (eqb k seen-at-end ≡ false → eqb k K.LParen ≡ false → r ≡ role k 0) ⌝ }
+    ensures { λ r. ⌜ (eqb k SEEN-AT-END ≡ false → eqb k K.LParen ≡ false → r ≡ role k 0) ⌝ }
 {
     let comma = k == token_kind::COMMA;
     if comma {
@@ -50,7 +50,7 @@ fn role_of(k: u8, level: usize) -> Role
     requires { ⌜ level < TWO-TO-64 - 1 ⌝ }
     ensures { λ r. ⌜ r ≡ role k level ⌝ }
 {
-    let end = k == END;
+    let end = k == SEEN_AT_END;
     if end {
         return Role::End;
     }
@@ -72,8 +72,8 @@ fn role_of(k: u8, level: usize) -> Role
 // One argument: every token up to a comma (yes), an RParen or the end (no) outside inner brackets.
 fn bump_argument(s: State, tokens: &[u32], events: &mut [u32]) -> StateTested
     ensures { λ r. ⌜ bumps bump-argument s (state-tested r) tokens events ⌝ }
-    ensures { λ r. ⌜ left (now (tokens .entry)) (r .s) ≤ left (now (tokens .entry)) s ⌝ }
-    ensures { λ r. ⌜ (r .yes ≡ true → 0 < left (now (tokens .entry)) (r .s)) ⌝ }
+    ensures { λ r. ⌜ tokens-left (now (tokens .entry)) (r .s) ≤ tokens-left (now (tokens .entry)) s ⌝ }
+    ensures { λ r. ⌜ (r .yes ≡ true → 0 < tokens-left (now (tokens .entry)) (r .s)) ⌝ }
 {
     let mut q = s;
     let mut level: usize = 0;
@@ -101,7 +101,7 @@ fn bump_argument(s: State, tokens: &[u32], events: &mut [u32]) -> StateTested
 // Arguments, each a MacroArgument, with commas between.
 fn arguments(s: State, tokens: &[u32], events: &mut [u32]) -> State
     ensures { λ r. ⌜ moves (loop macro-argument-turn) s (says yes r) tokens events ⌝ }
-    ensures { λ r. ⌜ left (now (tokens .entry)) r ≤ left (now (tokens .entry)) s ⌝ }
+    ensures { λ r. ⌜ tokens-left (now (tokens .entry)) r ≤ tokens-left (now (tokens .entry)) s ⌝ }
 {
     let mut q = s;
     loop {
@@ -127,7 +127,7 @@ fn argument_list(
     pool: &mut [u32],
 ) -> State
     ensures { λ r. ⌜ walks-on argument-list s r codes tokens events reports pool ⌝ }
-    ensures { λ r. ⌜ left (now (tokens .entry)) r ≤ left (now (tokens .entry)) s - 1 ⌝ }
+    ensures { λ r. ⌜ tokens-left (now (tokens .entry)) r ≤ tokens-left (now (tokens .entry)) s - 1 ⌝ }
 {
     let opened = s.bump(tokens, events);
     let none = opened.at(codes, tokens, Matcher::Kind(token_kind::RPAREN));
@@ -165,7 +165,7 @@ pub fn macro_invocation(
     pool: &mut [u32],
 ) -> State
     ensures { λ r. ⌜ walks macro-invocation s (says yes r) codes tokens events reports pool ⌝ }
-    ensures { λ r. ⌜ left (now (tokens .entry)) r ≤ left (now (tokens .entry)) s - 1 ⌝ }
+    ensures { λ r. ⌜ tokens-left (now (tokens .entry)) r ≤ tokens-left (now (tokens .entry)) s - 1 ⌝ }
 {
     let m = Marker::new(s);
     let started = s.start(events);

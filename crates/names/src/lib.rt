@@ -13,7 +13,7 @@ ghost use Prim.Native.Nat.{_-_, _≤_};
 ghost use Rattle.definitions.specs.Prog.{yes};
 ghost use Rattle.definitions.specs.Check.{silent-eat as silent-eat-prog};
 ghost use Rattle.definitions.specs.Grammar.{reference-noamp as reference-noamp-prog, Reference};
-ghost use Rattle.parser.specs.View.{parser-tested, left, walks-of, walks-on-of};
+ghost use Rattle.parser.specs.View.{parser-tested, tokens-left, parser-walks, parser-walks-on};
 
 pub fn silent_eat_reference(
     p: Parser,
@@ -22,9 +22,9 @@ pub fn silent_eat_reference(
     reports: &mut [u32],
     pool: &mut [u32],
 ) -> ParserTested
-    ensures { λ r. ⌜ walks-of (silent-eat-prog Reference) p (parser-tested r) tokens events reports pool ⌝ }
-    ensures { λ r. ⌜ left (now (tokens .entry)) (r .p .s) ≤ left (now (tokens .entry)) (p .s) ⌝ }
-    ensures { λ r. ⌜ (r .yes ≡ true → left (now (tokens .entry)) (r .p .s) ≤ left (now (tokens .entry)) (p .s) - 1) ⌝ }
+    ensures { λ r. ⌜ parser-walks (silent-eat-prog Reference) p (parser-tested r) tokens events reports pool ⌝ }
+    ensures { λ r. ⌜ tokens-left (now (tokens .entry)) (r .p .s) ≤ tokens-left (now (tokens .entry)) (p .s) ⌝ }
+    ensures { λ r. ⌜ (r .yes ≡ true → tokens-left (now (tokens .entry)) (r .p .s) ≤ tokens-left (now (tokens .entry)) (p .s) - 1) ⌝ }
 {
     let mut codes = p.codes;
     let e = reference::silent_eat(p.s, &mut codes, tokens, events, reports, pool);
@@ -40,8 +40,8 @@ pub fn reference_noamp(
     reports: &mut [u32],
     pool: &mut [u32],
 ) -> Parser
-    ensures { λ r. ⌜ walks-on-of reference-noamp-prog p r tokens events reports pool ⌝ }
-    ensures { λ r. ⌜ left (now (tokens .entry)) (r .s) ≤ left (now (tokens .entry)) (p .s) ⌝ }
+    ensures { λ r. ⌜ parser-walks-on reference-noamp-prog p r tokens events reports pool ⌝ }
+    ensures { λ r. ⌜ tokens-left (now (tokens .entry)) (r .s) ≤ tokens-left (now (tokens .entry)) (p .s) ⌝ }
 {
     let mut codes = p.codes;
     let s = reference::reference_noamp(p.s, &mut codes, tokens, events, reports, pool);

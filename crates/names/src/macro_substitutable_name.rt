@@ -14,12 +14,12 @@ ghost use Prim.Native.Nat.{_-_, _≤_, _<_};
 ghost use Rattle.definitions.specs.Prog.{yes};
 ghost use Rattle.definitions.specs.Check.{at as at-prog, eat as eat-prog, expect as expect-prog};
 ghost use Rattle.definitions.specs.Grammar.{MacroSubstitutableName};
-ghost use Rattle.parser.specs.View.{left, state-tested, looks, says, walks, walks-on};
+ghost use Rattle.parser.specs.View.{tokens-left, state-tested, looks, says, walks, walks-on};
 
 pub fn at(s: State, codes: &mut Codes, tokens: &[u32]) -> StateTested
     ensures { λ r. ⌜ looks (at-prog MacroSubstitutableName) s (state-tested r) codes tokens ⌝ }
-    ensures { λ r. ⌜ left (now (tokens .entry)) (r .s) ≤ left (now (tokens .entry)) s ⌝ }
-    ensures { λ r. ⌜ (r .yes ≡ true → 0 < left (now (tokens .entry)) (r .s)) ⌝ }
+    ensures { λ r. ⌜ tokens-left (now (tokens .entry)) (r .s) ≤ tokens-left (now (tokens .entry)) s ⌝ }
+    ensures { λ r. ⌜ (r .yes ≡ true → 0 < tokens-left (now (tokens .entry)) (r .s)) ⌝ }
 {
     s.at(codes, tokens, Matcher::Name)
 }
@@ -33,7 +33,7 @@ pub fn consume(
     pool: &mut [u32],
 ) -> State
     ensures { λ r. ⌜ walks (MacroSubstitutableName .consume) s (says yes r) codes tokens events reports pool ⌝ }
-    ensures { λ r. ⌜ left (now (tokens .entry)) r ≤ left (now (tokens .entry)) s - 1 ⌝ }
+    ensures { λ r. ⌜ tokens-left (now (tokens .entry)) r ≤ tokens-left (now (tokens .entry)) s - 1 ⌝ }
 {
     let args = s.silent_at_macro_invocation_with_args(tokens);
     if args.yes {
@@ -52,8 +52,8 @@ pub fn eat(
     pool: &mut [u32],
 ) -> StateTested
     ensures { λ r. ⌜ walks (eat-prog MacroSubstitutableName) s (state-tested r) codes tokens events reports pool ⌝ }
-    ensures { λ r. ⌜ left (now (tokens .entry)) (r .s) ≤ left (now (tokens .entry)) s ⌝ }
-    ensures { λ r. ⌜ (r .yes ≡ true → left (now (tokens .entry)) (r .s) ≤ left (now (tokens .entry)) s - 1) ⌝ }
+    ensures { λ r. ⌜ tokens-left (now (tokens .entry)) (r .s) ≤ tokens-left (now (tokens .entry)) s ⌝ }
+    ensures { λ r. ⌜ (r .yes ≡ true → tokens-left (now (tokens .entry)) (r .s) ≤ tokens-left (now (tokens .entry)) s - 1) ⌝ }
 {
     let name = s.silent(tokens, Matcher::Name);
     if name.yes {
@@ -74,7 +74,7 @@ pub fn expect(
     pool: &mut [u32],
 ) -> State
     ensures { λ r. ⌜ walks-on (expect-prog MacroSubstitutableName) s r codes tokens events reports pool ⌝ }
-    ensures { λ r. ⌜ left (now (tokens .entry)) r ≤ left (now (tokens .entry)) s ⌝ }
+    ensures { λ r. ⌜ tokens-left (now (tokens .entry)) r ≤ tokens-left (now (tokens .entry)) s ⌝ }
 {
     let name = eat(s, codes, tokens, events, reports, pool);
     if name.yes {

@@ -19,7 +19,7 @@ ghost use Prim.Native.Nat.{_-_, _≤_, _<_};
 ghost use Rattle.definitions.specs.Prog.{yes, loop};
 ghost use Rattle.definitions.specs.Check.{silent-eat as silent-eat-prog, eat as eat-prog};
 ghost use Rattle.definitions.specs.Grammar.{path-segment, path-turn, path-rest, reference-noamp, Reference};
-ghost use Rattle.parser.specs.View.{left, state-tested, looks, says, walks, walks-on};
+ghost use Rattle.parser.specs.View.{tokens-left, state-tested, looks, says, walks, walks-on};
 ghost use Rattle.names.specs.Subprograms.{at-segment, path};
 
 fn path_segment(
@@ -31,7 +31,7 @@ fn path_segment(
     pool: &mut [u32],
 ) -> State
     ensures { λ r. ⌜ walks-on path-segment s r codes tokens events reports pool ⌝ }
-    ensures { λ r. ⌜ left (now (tokens .entry)) r ≤ left (now (tokens .entry)) s - 1 ⌝ }
+    ensures { λ r. ⌜ tokens-left (now (tokens .entry)) r ≤ tokens-left (now (tokens .entry)) s - 1 ⌝ }
 {
     let name = s.eat(codes, tokens, events, Matcher::Name);
     if name.yes {
@@ -54,15 +54,15 @@ fn path_segment(
 // Whether a path goes on here.
 fn at_segment(s: State, codes: &mut Codes, tokens: &[u32]) -> StateTested
     ensures { λ r. ⌜ looks at-segment s (state-tested r) codes tokens ⌝ }
-    ensures { λ r. ⌜ left (now (tokens .entry)) (r .s) ≤ left (now (tokens .entry)) s ⌝ }
-    ensures { λ r. ⌜ (r .yes ≡ true → 0 < left (now (tokens .entry)) s) ⌝ }
+    ensures { λ r. ⌜ tokens-left (now (tokens .entry)) (r .s) ≤ tokens-left (now (tokens .entry)) s ⌝ }
+    ensures { λ r. ⌜ (r .yes ≡ true → 0 < tokens-left (now (tokens .entry)) s) ⌝ }
 {
-    let closed = s.at(codes, tokens, Matcher::Kind(token_kind::RCURLY));
-    if closed.yes {
-        let q = closed.s;
+    let rcurly = s.at(codes, tokens, Matcher::Kind(token_kind::RCURLY));
+    if rcurly.yes {
+        let q = rcurly.s;
         return StateTested { s: q, yes: false };
     }
-    let end = closed.s.at_end(tokens);
+    let end = rcurly.s.at_end(tokens);
     if end.yes {
         let q = end.s;
         return StateTested { s: q, yes: false };
@@ -91,7 +91,7 @@ fn path_segments(
     pool: &mut [u32],
 ) -> State
     ensures { λ r. ⌜ walks (loop path-turn) s (says yes r) codes tokens events reports pool ⌝ }
-    ensures { λ r. ⌜ left (now (tokens .entry)) r ≤ left (now (tokens .entry)) s ⌝ }
+    ensures { λ r. ⌜ tokens-left (now (tokens .entry)) r ≤ tokens-left (now (tokens .entry)) s ⌝ }
 {
     let mut q = s;
     loop {
@@ -121,7 +121,7 @@ fn path_rest(
     pool: &mut [u32],
 ) -> State
     ensures { λ r. ⌜ walks-on path-rest s r codes tokens events reports pool ⌝ }
-    ensures { λ r. ⌜ left (now (tokens .entry)) r ≤ left (now (tokens .entry)) s ⌝ }
+    ensures { λ r. ⌜ tokens-left (now (tokens .entry)) r ≤ tokens-left (now (tokens .entry)) s ⌝ }
 {
     let segments = path_segments(s, codes, tokens, events, reports, pool);
     let end = segments.expect(
@@ -145,7 +145,7 @@ fn path(
     pool: &mut [u32],
 ) -> State
     ensures { λ r. ⌜ walks-on path s r codes tokens events reports pool ⌝ }
-    ensures { λ r. ⌜ left (now (tokens .entry)) r ≤ left (now (tokens .entry)) s ⌝ }
+    ensures { λ r. ⌜ tokens-left (now (tokens .entry)) r ≤ tokens-left (now (tokens .entry)) s ⌝ }
 {
     let absolute = s.eat(codes, tokens, events, Matcher::Kind(token_kind::SLASH));
     if absolute.yes {
@@ -184,7 +184,7 @@ pub fn reference_noamp(
     pool: &mut [u32],
 ) -> State
     ensures { λ r. ⌜ walks-on reference-noamp s r codes tokens events reports pool ⌝ }
-    ensures { λ r. ⌜ left (now (tokens .entry)) r ≤ left (now (tokens .entry)) s ⌝ }
+    ensures { λ r. ⌜ tokens-left (now (tokens .entry)) r ≤ tokens-left (now (tokens .entry)) s ⌝ }
 {
     let braced = s.eat(codes, tokens, events, Matcher::Kind(token_kind::LCURLY));
     if braced.yes {
@@ -219,7 +219,7 @@ fn consume(
     pool: &mut [u32],
 ) -> State
     ensures { λ r. ⌜ walks (Reference .consume) s (says yes r) codes tokens events reports pool ⌝ }
-    ensures { λ r. ⌜ left (now (tokens .entry)) r ≤ left (now (tokens .entry)) s - 1 ⌝ }
+    ensures { λ r. ⌜ tokens-left (now (tokens .entry)) r ≤ tokens-left (now (tokens .entry)) s - 1 ⌝ }
 {
     let m = Marker::new(s);
     let started = s.start(events);
@@ -238,8 +238,8 @@ pub fn silent_eat(
     pool: &mut [u32],
 ) -> StateTested
     ensures { λ r. ⌜ walks (silent-eat-prog Reference) s (state-tested r) codes tokens events reports pool ⌝ }
-    ensures { λ r. ⌜ left (now (tokens .entry)) (r .s) ≤ left (now (tokens .entry)) s ⌝ }
-    ensures { λ r. ⌜ (r .yes ≡ true → left (now (tokens .entry)) (r .s) ≤ left (now (tokens .entry)) s - 1) ⌝ }
+    ensures { λ r. ⌜ tokens-left (now (tokens .entry)) (r .s) ≤ tokens-left (now (tokens .entry)) s ⌝ }
+    ensures { λ r. ⌜ (r .yes ≡ true → tokens-left (now (tokens .entry)) (r .s) ≤ tokens-left (now (tokens .entry)) s - 1) ⌝ }
 {
     let ampersand = s.silent_at(tokens, token_kind::AMPERSAND);
     if ampersand.yes {
@@ -259,8 +259,8 @@ pub fn eat(
     pool: &mut [u32],
 ) -> StateTested
     ensures { λ r. ⌜ walks (eat-prog Reference) s (state-tested r) codes tokens events reports pool ⌝ }
-    ensures { λ r. ⌜ left (now (tokens .entry)) (r .s) ≤ left (now (tokens .entry)) s ⌝ }
-    ensures { λ r. ⌜ (r .yes ≡ true → left (now (tokens .entry)) (r .s) ≤ left (now (tokens .entry)) s - 1) ⌝ }
+    ensures { λ r. ⌜ tokens-left (now (tokens .entry)) (r .s) ≤ tokens-left (now (tokens .entry)) s ⌝ }
+    ensures { λ r. ⌜ (r .yes ≡ true → tokens-left (now (tokens .entry)) (r .s) ≤ tokens-left (now (tokens .entry)) s - 1) ⌝ }
 {
     let ampersand = s.silent_at(tokens, token_kind::AMPERSAND);
     if ampersand.yes {

@@ -12,7 +12,7 @@ ghost use Prim.Native.Nat.{_-_, _≤_};
 ghost use Rattle.definitions.specs.Prog.{yes};
 ghost use Rattle.definitions.specs.Check.{eat as eat-prog};
 ghost use Rattle.definitions.specs.Grammar.{UnitAddress};
-ghost use Rattle.parser.specs.View.{left, state-tested, says, walks};
+ghost use Rattle.parser.specs.View.{tokens-left, state-tested, says, walks};
 
 fn consume(
     s: State,
@@ -23,7 +23,7 @@ fn consume(
     pool: &mut [u32],
 ) -> State
     ensures { λ r. ⌜ walks (UnitAddress .consume) s (says yes r) codes tokens events reports pool ⌝ }
-    ensures { λ r. ⌜ left (now (tokens .entry)) r ≤ left (now (tokens .entry)) s - 1 ⌝ }
+    ensures { λ r. ⌜ tokens-left (now (tokens .entry)) r ≤ tokens-left (now (tokens .entry)) s - 1 ⌝ }
 {
     let m = Marker::new(s);
     let started = s.start(events);
@@ -41,8 +41,8 @@ pub fn eat(
     pool: &mut [u32],
 ) -> StateTested
     ensures { λ r. ⌜ walks (eat-prog UnitAddress) s (state-tested r) codes tokens events reports pool ⌝ }
-    ensures { λ r. ⌜ left (now (tokens .entry)) (r .s) ≤ left (now (tokens .entry)) s ⌝ }
-    ensures { λ r. ⌜ (r .yes ≡ true → left (now (tokens .entry)) (r .s) ≤ left (now (tokens .entry)) s - 1) ⌝ }
+    ensures { λ r. ⌜ tokens-left (now (tokens .entry)) (r .s) ≤ tokens-left (now (tokens .entry)) s ⌝ }
+    ensures { λ r. ⌜ (r .yes ≡ true → tokens-left (now (tokens .entry)) (r .s) ≤ tokens-left (now (tokens .entry)) s - 1) ⌝ }
 {
     let at_sign = s.silent_at(tokens, token_kind::AT_SIGN);
     if at_sign.yes {

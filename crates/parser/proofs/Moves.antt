@@ -17,7 +17,7 @@ use Rattle.basics.specs.Word.{low}
 use Rattle.machine.specs.Machine.{Machine, Marker, with-cursor, with-taken, with-pending, with-events, took, range-at, fits, put-start, put-link}
 use Rattle.machine.specs.Machine as M
 use Rattle.machine.specs.Walk.{Walked, said, perform}
-use Rattle.parser.specs.View.{view, view-of, left, take-first}
+use Rattle.parser.specs.View.{view, parser-view, tokens-left, take-first}
 use Rattle.parser.specs.declared.State.{State}
 use Rattle.parser.specs.declared.Parser.{Parser}
 use Rattle.basics.proofs.TokenRows.{token-at, tokens-cons, tokens-end}
@@ -35,15 +35,15 @@ on-false b c x y e f = ap (λ (z : Bool). cond z x y) (sym e ∙ f)
 -- ---------------------------------------------------------------- the whole parser
 
 -- with other numbers: what is known of the numbers is known of the parser
-pub with-view : (p : Parser) (codes : List ℕ) (s : State) (events reports pool : List ℕ) (m : Machine) → p ≡ record { codes = codes; s = s } → view s codes events reports pool ≡ m → view-of p events reports pool ≡ m
-with-view p codes s events reports pool m e f = ap (λ (x : Parser). view-of x events reports pool) e ∙ f
+pub with-view : (p : Parser) (codes : List ℕ) (s : State) (events reports pool : List ℕ) (m : Machine) → p ≡ record { codes = codes; s = s } → view s codes events reports pool ≡ m → parser-view p events reports pool ≡ m
+with-view p codes s events reports pool m e f = ap (λ (x : Parser). parser-view x events reports pool) e ∙ f
 
 pub with-said : (p : Parser) (codes : List ℕ) (s : State) (events reports pool : List ℕ) (a : Ans) (w : Walked) → p ≡ record { codes = codes; s = s } → said a (view s codes events reports pool) ≡ w
-    → said a (view-of p events reports pool) ≡ w
-with-said p codes s events reports pool a w e f = ap (λ (x : Parser). said a (view-of x events reports pool)) e ∙ f
+    → said a (parser-view p events reports pool) ≡ w
+with-said p codes s events reports pool a w e f = ap (λ (x : Parser). said a (parser-view x events reports pool)) e ∙ f
 
-pub with-left : (p : Parser) (codes : List ℕ) (s : State) (tokens : List ℕ) → p ≡ record { codes = codes; s = s } → left tokens (p .s) ≡ left tokens s
-with-left p codes s tokens e = ap (λ (x : Parser). left tokens (x .s)) e
+pub with-left : (p : Parser) (codes : List ℕ) (s : State) (tokens : List ℕ) → p ≡ record { codes = codes; s = s } → tokens-left tokens (p .s) ≡ tokens-left tokens s
+with-left p codes s tokens e = ap (λ (x : Parser). tokens-left tokens (x .s)) e
 
 -- ---------------------------------------------------------------- the cursor
 

@@ -12,7 +12,7 @@ use Rattle.definitions.specs.Layout.{MOST-PENDING, TWO-TO-64}
 use Rattle.definitions.specs.Token.{Token}
 use Rattle.basics.specs.Word.{low}
 use Rattle.machine.specs.Machine.{PAST-THE-END, Machine, range-at, refuse}
-use Rattle.parser.specs.View.{left}
+use Rattle.parser.specs.View.{tokens-left}
 use Rattle.parser.specs.declared.State.{State}
 
 pub range-rows : (l : List Token) (m : Machine) (a e : ℕ) → m .byte ≡ a → e ≡ range-at l m .to → record { from = a; to = e } ≡ range-at l m
@@ -44,8 +44,8 @@ pub below : (a b : ℕ) → a ≤ b → low (a - b) ≡ 0
 below a b h = let e : a - b ≡ 0 = omega (arith, h) in ap low e
 
 -- past every row nothing is left
-pub left-none : (tokens : List ℕ) (s : State) → s .cursor .0 ≡ PAST-THE-END → length tokens < TWO-TO-64 → left tokens s ≡ 0
-unfolding left
+pub left-none : (tokens : List ℕ) (s : State) → s .cursor .0 ≡ PAST-THE-END → length tokens < TWO-TO-64 → tokens-left tokens s ≡ 0
+unfolding tokens-left
 left-none tokens s e h = omega (arith, e, h)
 
 pub refused-past : (n : ℕ) (m r : Machine) → r ≡ refuse n m → r .cursor ≡ PAST-THE-END

@@ -49,19 +49,19 @@ view s codes events reports pool =
     }
 
 -- rows not yet passed: the number that falls
-unfoldable pub left : List ℕ → State → ℕ
-left tokens s = length tokens / TOKEN-ROW - s .cursor .0
+unfoldable pub tokens-left : List ℕ → State → ℕ
+tokens-left tokens s = length tokens / TOKEN-ROW - s .cursor .0
 
 -- a test's answer, and the machine after it
 abbrev pub state-tested : StateTested → List ℕ → List ℕ → List ℕ → List ℕ → Walked
 state-tested r codes events reports pool = said (truth (r .yes)) (view (r .s) codes events reports pool)
 
 -- the same of the whole parser
-abbrev pub view-of : Parser → List ℕ → List ℕ → List ℕ → Machine
-view-of p events reports pool = view (p .s) (p .codes) events reports pool
+abbrev pub parser-view : Parser → List ℕ → List ℕ → List ℕ → Machine
+parser-view p events reports pool = view (p .s) (p .codes) events reports pool
 
 abbrev pub parser-tested : ParserTested → List ℕ → List ℕ → List ℕ → Walked
-parser-tested r events reports pool = said (truth (r .yes)) (view-of (r .p) events reports pool)
+parser-tested r events reports pool = said (truth (r .yes)) (parser-view (r .p) events reports pool)
 
 abbrev pub ans-of : CodeAns → Ans
 ans-of A.No = no
@@ -269,98 +269,98 @@ entering f events reports pool = f (now (events .entry)) (now (reports .entry)) 
 abbrev pub leaving : {X : Type 0} → (List ℕ → List ℕ → List ℕ → X) → Lent → Lent → Lent → X
 leaving f events reports pool = f (now (events .exit)) (now (reports .exit)) (now (pool .exit))
 
-abbrev pub says-of : Ans → Parser → List ℕ → List ℕ → List ℕ → Walked
-says-of a p events reports pool = said a (view-of p events reports pool)
+abbrev pub parser-says : Ans → Parser → List ℕ → List ℕ → List ℕ → Walked
+parser-says a p events reports pool = said a (parser-view p events reports pool)
 
-abbrev pub becomes-of : (Machine → Machine) → Parser → Parser → Type 0
-becomes-of f p r = (events reports pool : List ℕ) → view-of r events reports pool ≡ f (view-of p events reports pool)
+abbrev pub parser-becomes : (Machine → Machine) → Parser → Parser → Type 0
+parser-becomes f p r = (events reports pool : List ℕ) → parser-view r events reports pool ≡ f (parser-view p events reports pool)
 
-abbrev pub writes-events-of : (Machine → Machine) → Parser → Parser → Lent → Type 0
-writes-events-of f p r events =
-    (reports pool : List ℕ) → view-of r (now (events .exit)) reports pool ≡ f (view-of p (now (events .entry)) reports pool)
+abbrev pub parser-writes-events : (Machine → Machine) → Parser → Parser → Lent → Type 0
+parser-writes-events f p r events =
+    (reports pool : List ℕ) → parser-view r (now (events .exit)) reports pool ≡ f (parser-view p (now (events .entry)) reports pool)
 
-abbrev pub emits-of : ℕ → ℕ → TextRange → Parser → Parser → Lent → Lent → Lent → Lent → Type 0
-emits-of message hint label p r tokens events reports pool =
-    leaving (view-of r) events reports pool
-    ≡ M.emit (tokens-of (now (tokens .entry))) message hint (span-of label) (entering (view-of p) events reports pool)
+abbrev pub parser-emits : ℕ → ℕ → TextRange → Parser → Parser → Lent → Lent → Lent → Lent → Type 0
+parser-emits message hint label p r tokens events reports pool =
+    leaving (parser-view r) events reports pool
+    ≡ M.emit (tokens-of (now (tokens .entry))) message hint (span-of label) (entering (parser-view p) events reports pool)
 
-abbrev pub tests-of : Act → Parser → (List ℕ → List ℕ → List ℕ → Walked) → Lent → Type 0
-tests-of a p r tokens =
+abbrev pub parser-tests : Act → Parser → (List ℕ → List ℕ → List ℕ → Walked) → Lent → Type 0
+parser-tests a p r tokens =
     (b : Span) (events reports pool : List ℕ)
-    → r events reports pool ≡ perform (tokens-of (now (tokens .entry))) b a (view-of p events reports pool)
+    → r events reports pool ≡ perform (tokens-of (now (tokens .entry))) b a (parser-view p events reports pool)
 
-abbrev pub bumps-of : Act → Parser → (List ℕ → List ℕ → List ℕ → Walked) → Lent → Lent → Type 0
-bumps-of a p r tokens events =
+abbrev pub parser-bumps : Act → Parser → (List ℕ → List ℕ → List ℕ → Walked) → Lent → Lent → Type 0
+parser-bumps a p r tokens events =
     (b : Span) (reports pool : List ℕ)
     → r (now (events .exit)) reports pool
-    ≡ perform (tokens-of (now (tokens .entry))) b a (view-of p (now (events .entry)) reports pool)
+    ≡ perform (tokens-of (now (tokens .entry))) b a (parser-view p (now (events .entry)) reports pool)
 
-abbrev pub adds-of : Act → Parser → (List ℕ → List ℕ → List ℕ → Walked) → Type 0
-adds-of a p r =
+abbrev pub parser-adds : Act → Parser → (List ℕ → List ℕ → List ℕ → Walked) → Type 0
+parser-adds a p r =
     (ts : List Token) (b : Span) (events reports pool : List ℕ)
-    → r events reports pool ≡ perform ts b a (view-of p events reports pool)
+    → r events reports pool ≡ perform ts b a (parser-view p events reports pool)
 
-abbrev pub walks-of : Prog → Parser → (List ℕ → List ℕ → List ℕ → Walked) → Lent → Lent → Lent → Lent → Type 0
-walks-of q p r tokens events reports pool =
+abbrev pub parser-walks : Prog → Parser → (List ℕ → List ℕ → List ℕ → Walked) → Lent → Lent → Lent → Lent → Type 0
+parser-walks q p r tokens events reports pool =
     (ask : Rule → Machine → Walked) (b : Span)
     → leaving r events reports pool
-    ≡ walk ask (tokens-of (now (tokens .entry))) b q (entering (view-of p) events reports pool)
+    ≡ walk ask (tokens-of (now (tokens .entry))) b q (entering (parser-view p) events reports pool)
 
-abbrev pub walks-on-of : Prog → Parser → Parser → Lent → Lent → Lent → Lent → Type 0
-walks-on-of q p r tokens events reports pool =
+abbrev pub parser-walks-on : Prog → Parser → Parser → Lent → Lent → Lent → Lent → Type 0
+parser-walks-on q p r tokens events reports pool =
     (ask : Rule → Machine → Walked) (b : Span)
-    → leaving (view-of r) events reports pool
-    ≡ walk ask (tokens-of (now (tokens .entry))) b q (entering (view-of p) events reports pool) .on
+    → leaving (parser-view r) events reports pool
+    ≡ walk ask (tokens-of (now (tokens .entry))) b q (entering (parser-view p) events reports pool) .on
 
-abbrev pub looks-of : Prog → Parser → (List ℕ → List ℕ → List ℕ → Walked) → Lent → Type 0
-looks-of q p r tokens =
+abbrev pub parser-looks : Prog → Parser → (List ℕ → List ℕ → List ℕ → Walked) → Lent → Type 0
+parser-looks q p r tokens =
     (ask : Rule → Machine → Walked) (b : Span) (events reports pool : List ℕ)
-    → r events reports pool ≡ walk ask (tokens-of (now (tokens .entry))) b q (view-of p events reports pool)
+    → r events reports pool ≡ walk ask (tokens-of (now (tokens .entry))) b q (parser-view p events reports pool)
 
-abbrev pub moves-of : Prog → Parser → (List ℕ → List ℕ → List ℕ → Walked) → Lent → Lent → Type 0
-moves-of q p r tokens events =
+abbrev pub parser-moves : Prog → Parser → (List ℕ → List ℕ → List ℕ → Walked) → Lent → Lent → Type 0
+parser-moves q p r tokens events =
     (ask : Rule → Machine → Walked) (b : Span) (reports pool : List ℕ)
     → r (now (events .exit)) reports pool
-    ≡ walk ask (tokens-of (now (tokens .entry))) b q (view-of p (now (events .entry)) reports pool)
+    ≡ walk ask (tokens-of (now (tokens .entry))) b q (parser-view p (now (events .entry)) reports pool)
 
 -- a program whose marker m its caller made; the same with its brace at a span
-abbrev pub closes-of : Marker → Prog → Parser → (List ℕ → List ℕ → List ℕ → Walked) → Lent → Lent → Lent → Lent → Type 0
-closes-of m q p r tokens events reports pool =
+abbrev pub parser-closes : Marker → Prog → Parser → (List ℕ → List ℕ → List ℕ → Walked) → Lent → Lent → Lent → Lent → Type 0
+parser-closes m q p r tokens events reports pool =
     (ask : Rule → Machine → Walked) (b : Span)
     → leaving r events reports pool
-    ≡ marked (marker-of m) (walk ask (tokens-of (now (tokens .entry))) b q (entering (view-of p) events reports pool))
+    ≡ marked (marker-of m) (walk ask (tokens-of (now (tokens .entry))) b q (entering (parser-view p) events reports pool))
 
-abbrev pub closes-at-of : TextRange → Marker → Prog → Parser → (List ℕ → List ℕ → List ℕ → Walked) → Lent → Lent → Lent → Lent → Type 0
-closes-at-of range m q p r tokens events reports pool =
+abbrev pub parser-closes-at : TextRange → Marker → Prog → Parser → (List ℕ → List ℕ → List ℕ → Walked) → Lent → Lent → Lent → Lent → Type 0
+parser-closes-at range m q p r tokens events reports pool =
     (ask : Rule → Machine → Walked)
     → leaving r events reports pool
     ≡ marked (marker-of m)
-    (walk ask (tokens-of (now (tokens .entry))) (span-of range) q (entering (view-of p) events reports pool))
+    (walk ask (tokens-of (now (tokens .entry))) (span-of range) q (entering (parser-view p) events reports pool))
 
 -- ---------------------------------------------------------------- the same with n open calls allowed: a program, a rule, a program whose marker m its caller made
 
-abbrev pub runs-of : ℕ → Prog → Parser → (List ℕ → List ℕ → List ℕ → Walked) → Lent → Lent → Lent → Lent → Type 0
-runs-of n q p r tokens events reports pool =
+abbrev pub walks-within : ℕ → Prog → Parser → (List ℕ → List ℕ → List ℕ → Walked) → Lent → Lent → Lent → Lent → Type 0
+walks-within n q p r tokens events reports pool =
     leaving r events reports pool
-    ≡ walk-prog n (tokens-of (now (tokens .entry))) unlabelled q (entering (view-of p) events reports pool)
+    ≡ walk-prog n (tokens-of (now (tokens .entry))) unlabelled q (entering (parser-view p) events reports pool)
 
-abbrev pub runs-on-of : ℕ → Prog → Parser → Parser → Lent → Lent → Lent → Lent → Type 0
-runs-on-of n q p r tokens events reports pool =
-    leaving (view-of r) events reports pool
-    ≡ walk-prog n (tokens-of (now (tokens .entry))) unlabelled q (entering (view-of p) events reports pool) .on
+abbrev pub walks-within-on : ℕ → Prog → Parser → Parser → Lent → Lent → Lent → Lent → Type 0
+walks-within-on n q p r tokens events reports pool =
+    leaving (parser-view r) events reports pool
+    ≡ walk-prog n (tokens-of (now (tokens .entry))) unlabelled q (entering (parser-view p) events reports pool) .on
 
-abbrev pub calls-of : ℕ → Rule → Parser → (List ℕ → List ℕ → List ℕ → Walked) → Lent → Lent → Lent → Lent → Type 0
-calls-of n q p r tokens events reports pool =
+abbrev pub opens-within : ℕ → Rule → Parser → (List ℕ → List ℕ → List ℕ → Walked) → Lent → Lent → Lent → Lent → Type 0
+opens-within n q p r tokens events reports pool =
     leaving r events reports pool
-    ≡ walk-rule n (tokens-of (now (tokens .entry))) q (entering (view-of p) events reports pool)
+    ≡ walk-rule n (tokens-of (now (tokens .entry))) q (entering (parser-view p) events reports pool)
 
-abbrev pub calls-on-of : ℕ → Rule → Parser → Parser → Lent → Lent → Lent → Lent → Type 0
-calls-on-of n q p r tokens events reports pool =
-    leaving (view-of r) events reports pool
-    ≡ walk-rule n (tokens-of (now (tokens .entry))) q (entering (view-of p) events reports pool) .on
+abbrev pub opens-within-on : ℕ → Rule → Parser → Parser → Lent → Lent → Lent → Lent → Type 0
+opens-within-on n q p r tokens events reports pool =
+    leaving (parser-view r) events reports pool
+    ≡ walk-rule n (tokens-of (now (tokens .entry))) q (entering (parser-view p) events reports pool) .on
 
-abbrev pub run-closes-of : ℕ → Marker → Prog → Parser → (List ℕ → List ℕ → List ℕ → Walked) → Lent → Lent → Lent → Lent → Type 0
-run-closes-of n m q p r tokens events reports pool =
+abbrev pub closes-within : ℕ → Marker → Prog → Parser → (List ℕ → List ℕ → List ℕ → Walked) → Lent → Lent → Lent → Lent → Type 0
+closes-within n m q p r tokens events reports pool =
     leaving r events reports pool
     ≡ marked (marker-of m)
-    (walk-prog n (tokens-of (now (tokens .entry))) unlabelled q (entering (view-of p) events reports pool))
+    (walk-prog n (tokens-of (now (tokens .entry))) unlabelled q (entering (parser-view p) events reports pool))

@@ -19,7 +19,7 @@ ghost use lib.Dec.{ltb};
 ghost use lib.ListN.{length, set};
 ghost use Rattle.definitions.specs.Prog.{yes, silent-at, immediate, add-expected, act, _⨟_};
 ghost use Rattle.definitions.specs.Check.{expected, silent-eat as silent-eat-prog, at as at-prog, eat as eat-prog, expect as expect-prog, expect-recoverable as expect-recoverable-prog};
-ghost use Rattle.parser.specs.View.{left, state-tested, matcher-of, kinds-of, looks, moves, walks, adds, eats, starts, tests, says};
+ghost use Rattle.parser.specs.View.{tokens-left, state-tested, matcher-of, kinds-of, looks, moves, walks, adds, eats, starts, tests, says};
 
 // What `eat_starting` gives: on a match, the marker that was started before the token.
 pub struct Started {
@@ -44,7 +44,7 @@ impl State {
     // At most as many as there are codes.
     pub fn add_expected(self, codes: &mut Codes, code: u8) -> State
         ensures { λ r. ⌜ adds (add-expected code) self (says yes r) codes ⌝ }
-        ensures { λ r. ⌜ ((tokens : List ℕ) → left tokens r ≤ left tokens self) ⌝ }
+        ensures { λ r. ⌜ ((tokens : List ℕ) → tokens-left tokens r ≤ tokens-left tokens self) ⌝ }
     {
         let n = self.pending;
         let enough = put_code(codes, n, code);
@@ -60,8 +60,8 @@ impl State {
     // `check(matcher).silent().at()`
     pub fn silent(self, tokens: &[u32], m: Matcher) -> StateTested
         ensures { λ r. ⌜ tests (silent-at (kinds-of m)) self (state-tested r) tokens ⌝ }
-        ensures { λ r. ⌜ left (now (tokens .entry)) (r .s) ≤ left (now (tokens .entry)) self ⌝ }
-        ensures { λ r. ⌜ (r .yes ≡ true → 0 < left (now (tokens .entry)) (r .s)) ⌝ }
+        ensures { λ r. ⌜ tokens-left (now (tokens .entry)) (r .s) ≤ tokens-left (now (tokens .entry)) self ⌝ }
+        ensures { λ r. ⌜ (r .yes ≡ true → 0 < tokens-left (now (tokens .entry)) (r .s)) ⌝ }
     {
         let q = self.peek(tokens);
         let yes = is_matched_at(tokens, q.cursor.0, m);
@@ -71,8 +71,8 @@ impl State {
     // `check(matcher).silent().eat()`
     pub fn silent_eat(self, tokens: &[u32], events: &mut [u32], m: Matcher) -> StateTested
         ensures { λ r. ⌜ moves (silent-eat-prog (matcher-of m)) self (state-tested r) tokens events ⌝ }
-        ensures { λ r. ⌜ left (now (tokens .entry)) (r .s) ≤ left (now (tokens .entry)) self ⌝ }
-        ensures { λ r. ⌜ (r .yes ≡ true → left (now (tokens .entry)) (r .s) ≤ left (now (tokens .entry)) self - 1) ⌝ }
+        ensures { λ r. ⌜ tokens-left (now (tokens .entry)) (r .s) ≤ tokens-left (now (tokens .entry)) self ⌝ }
+        ensures { λ r. ⌜ (r .yes ≡ true → tokens-left (now (tokens .entry)) (r .s) ≤ tokens-left (now (tokens .entry)) self - 1) ⌝ }
     {
         let k = self.silent(tokens, m);
         if k.yes {
@@ -85,8 +85,8 @@ impl State {
 
     pub fn at(self, codes: &mut Codes, tokens: &[u32], m: Matcher) -> StateTested
         ensures { λ r. ⌜ looks (at-prog (matcher-of m)) self (state-tested r) codes tokens ⌝ }
-        ensures { λ r. ⌜ left (now (tokens .entry)) (r .s) ≤ left (now (tokens .entry)) self ⌝ }
-        ensures { λ r. ⌜ (r .yes ≡ true → 0 < left (now (tokens .entry)) (r .s)) ⌝ }
+        ensures { λ r. ⌜ tokens-left (now (tokens .entry)) (r .s) ≤ tokens-left (now (tokens .entry)) self ⌝ }
+        ensures { λ r. ⌜ (r .yes ≡ true → 0 < tokens-left (now (tokens .entry)) (r .s)) ⌝ }
     {
         let q = m.push_expected(self, codes);
         q.silent(tokens, m)
@@ -95,8 +95,8 @@ impl State {
     // Pushes the kind, and looks at the row at the cursor, be it trivia.
     pub fn at_immediate(self, codes: &mut Codes, tokens: &[u32], k: u8) -> StateTested
         ensures { λ r. ⌜ looks (expected k ⨟ act (immediate k)) self (state-tested r) codes tokens ⌝ }
-        ensures { λ r. ⌜ left (now (tokens .entry)) (r .s) ≤ left (now (tokens .entry)) self ⌝ }
-        ensures { λ r. ⌜ (r .yes ≡ true → 0 < left (now (tokens .entry)) (r .s)) ⌝ }
+        ensures { λ r. ⌜ tokens-left (now (tokens .entry)) (r .s) ≤ tokens-left (now (tokens .entry)) self ⌝ }
+        ensures { λ r. ⌜ (r .yes ≡ true → 0 < tokens-left (now (tokens .entry)) (r .s)) ⌝ }
     {
         let q = self.add_expected(codes, k);
         let yes = is_at(tokens, q.cursor.0, k);
@@ -111,8 +111,8 @@ impl State {
         m: Matcher,
     ) -> StateTested
         ensures { λ r. ⌜ eats (eat-prog (matcher-of m)) self (state-tested r) codes tokens events ⌝ }
-        ensures { λ r. ⌜ left (now (tokens .entry)) (r .s) ≤ left (now (tokens .entry)) self ⌝ }
-        ensures { λ r. ⌜ (r .yes ≡ true → left (now (tokens .entry)) (r .s) ≤ left (now (tokens .entry)) self - 1) ⌝ }
+        ensures { λ r. ⌜ tokens-left (now (tokens .entry)) (r .s) ≤ tokens-left (now (tokens .entry)) self ⌝ }
+        ensures { λ r. ⌜ (r .yes ≡ true → tokens-left (now (tokens .entry)) (r .s) ≤ tokens-left (now (tokens .entry)) self - 1) ⌝ }
     {
         let k = self.silent(tokens, m);
         if k.yes {
@@ -133,8 +133,8 @@ impl State {
         matcher: Matcher,
     ) -> Started
         ensures { λ r. ⌜ starts (matcher-of matcher) self (r .yes) (r .m) (r .s) codes tokens events ⌝ }
-        ensures { λ r. ⌜ left (now (tokens .entry)) (r .s) ≤ left (now (tokens .entry)) self ⌝ }
-        ensures { λ r. ⌜ (r .yes ≡ true → left (now (tokens .entry)) (r .s) ≤ left (now (tokens .entry)) self - 1) ⌝ }
+        ensures { λ r. ⌜ tokens-left (now (tokens .entry)) (r .s) ≤ tokens-left (now (tokens .entry)) self ⌝ }
+        ensures { λ r. ⌜ (r .yes ≡ true → tokens-left (now (tokens .entry)) (r .s) ≤ tokens-left (now (tokens .entry)) self - 1) ⌝ }
     {
         let k = self.at(codes, tokens, matcher);
         let m = Marker::new(k.s);
@@ -166,8 +166,8 @@ impl State {
         m: Matcher,
     ) -> StateTested
         ensures { λ r. ⌜ walks (expect-prog (matcher-of m)) self (state-tested r) codes tokens events reports pool ⌝ }
-        ensures { λ r. ⌜ left (now (tokens .entry)) (r .s) ≤ left (now (tokens .entry)) self ⌝ }
-        ensures { λ r. ⌜ (r .yes ≡ true → left (now (tokens .entry)) (r .s) ≤ left (now (tokens .entry)) self - 1) ⌝ }
+        ensures { λ r. ⌜ tokens-left (now (tokens .entry)) (r .s) ≤ tokens-left (now (tokens .entry)) self ⌝ }
+        ensures { λ r. ⌜ (r .yes ≡ true → tokens-left (now (tokens .entry)) (r .s) ≤ tokens-left (now (tokens .entry)) self - 1) ⌝ }
     {
         let k = self.eat(codes, tokens, events, m);
         if k.yes {
@@ -200,7 +200,7 @@ impl State {
     ) -> StateTested
         ensures { λ r. ⌜ walks (expect-recoverable-prog (matcher-of m) (now (recovery .entry))) self (state-tested r)
             codes tokens events reports pool ⌝ }
-        ensures { λ r. ⌜ left (now (tokens .entry)) (r .s) ≤ left (now (tokens .entry)) self ⌝ }
+        ensures { λ r. ⌜ tokens-left (now (tokens .entry)) (r .s) ≤ tokens-left (now (tokens .entry)) self ⌝ }
     {
         let k = self.eat(codes, tokens, events, m);
         if k.yes {

@@ -5,7 +5,6 @@ use layout::ByteOffset;
 use layout::event_tag::ERROR;
 use layout::limit::Codes;
 use layout::message::EXPECTED;
-use layout::message::UNCLOSED_NODE;
 use layout::node_kind;
 use layout::refusal::NO_REPORT_ROOM;
 use layout::row::REPORT_END;
@@ -33,7 +32,7 @@ ghost use Rattle.definitions.specs.NodeKind as N;
 ghost use Rattle.definitions.specs.Run.{only-separators, pool-of};
 ghost use Rattle.machine.specs.Machine.{error-range};
 ghost use Rattle.machine.specs.Walk.{unlabelled};
-ghost use Rattle.parser.specs.View.{view, left, span-of, error-prog, takes, stored, walks, moves, says, emits, writes-report};
+ghost use Rattle.parser.specs.View.{view, tokens-left, span-of, error-prog, takes, stored, walks, moves, says, emits, writes-report};
 ghost use lib.Seq.{sets};
 
 pub struct TextRange {
@@ -150,8 +149,8 @@ impl State {
             ≡ error-range (drop (self .cursor .0) (tokens-of (now (tokens .entry)))) (view self (now (codes .entry)) events reports pool)) ⌝ }
     {
         let at = self.cursor.0;
-        let inside = at < tokens.len() / TOKEN_ROW;
-        if inside {
+        let exists = at < tokens.len() / TOKEN_ROW;
+        if exists {
             let lone = ends_statement(codes, self.pending);
             if lone {
                 let start = self.mark_byte;
@@ -165,7 +164,7 @@ impl State {
             }
         } else {
             let end = self.byte;
-            let start = ByteOffset(word::less(end.0, 1));
+            let start = ByteOffset(word::minus(end.0, 1));
             TextRange {
                 start: start,
                 end: end,
@@ -185,7 +184,7 @@ impl State {
         label: TextRange,
     ) -> State
         ensures { λ r. ⌜ writes-report message hint range label self r codes reports pool ⌝ }
-        ensures { λ r. ⌜ ((tokens : List ℕ) → left tokens r ≤ left tokens self) ⌝ }
+        ensures { λ r. ⌜ ((tokens : List ℕ) → tokens-left tokens r ≤ tokens-left tokens self) ⌝ }
     {
         let index = self.reports_written;
         let first = self.pool_written;
@@ -232,13 +231,13 @@ impl State {
         label: TextRange,
     ) -> State
         ensures { λ r. ⌜ emits message hint label self r codes tokens events reports pool ⌝ }
-        ensures { λ r. ⌜ left (now (tokens .entry)) r ≤ left (now (tokens .entry)) self ⌝ }
+        ensures { λ r. ⌜ tokens-left (now (tokens .entry)) r ≤ tokens-left (now (tokens .entry)) self ⌝ }
     {
         let here = self.peek(tokens);
         let range = here.current_token_error_range(codes, tokens);
         let pushed = here.push_event(events, ERROR, 0);
-        let on = pushed.refusal == 0;
-        if on {
+        let unrefused = pushed.refusal == 0;
+        if unrefused {
             pushed.push_report(codes, reports, pool, message, hint, range, label)
         } else {
             pushed
@@ -247,7 +246,7 @@ impl State {
 
     fn bump_unless_at_end(self, tokens: &[u32], events: &mut [u32]) -> State
         ensures { λ r. ⌜ moves (if end? then tell yes else bump!) self (says yes r) tokens events ⌝ }
-        ensures { λ r. ⌜ left (now (tokens .entry)) r ≤ left (now (tokens .entry)) self - 1 ⌝ }
+        ensures { λ r. ⌜ tokens-left (now (tokens .entry)) r ≤ tokens-left (now (tokens .entry)) self - 1 ⌝ }
     {
         let end = self.at_end(tokens);
         if end.yes {
@@ -260,7 +259,7 @@ impl State {
     fn wrap_unless_at_end(self, tokens: &[u32], events: &mut [u32]) -> State
         ensures { λ r. ⌜ moves (if end? then tell yes else node-prog N.ParseError bump!) self (says yes r)
             tokens events ⌝ }
-        ensures { λ r. ⌜ left (now (tokens .entry)) r ≤ left (now (tokens .entry)) self - 1 ⌝ }
+        ensures { λ r. ⌜ tokens-left (now (tokens .entry)) r ≤ tokens-left (now (tokens .entry)) self - 1 ⌝ }
     {
         let end = self.at_end(tokens);
         if end.yes {
@@ -286,7 +285,7 @@ impl State {
         bump: Bump,
     ) -> State
         ensures { λ r. ⌜ walks (error-prog bump message hint) self (says yes r) codes tokens events reports pool ⌝ }
-        ensures { λ r. ⌜ left (now (tokens .entry)) r ≤ left (now (tokens .entry)) self - takes bump ⌝ }
+        ensures { λ r. ⌜ tokens-left (now (tokens .entry)) r ≤ tokens-left (now (tokens .entry)) self - takes bump ⌝ }
     {
         let none = no_label();
         let reported = self.emit(codes, tokens, events, reports, pool, message, hint, none);

@@ -21,7 +21,7 @@ ghost use Rattle.basics.specs.Word.{low};
 ghost use Rattle.definitions.specs.Token.{tokens-of};
 ghost use Rattle.definitions.specs.Prog.{yes, bump as bump-act, bump-name as bump-name-act};
 ghost use Rattle.machine.specs.Machine.{refuse as refuse-machine, push-row as push-row-machine, push, name-run};
-ghost use Rattle.parser.specs.View.{left, becomes, bumps, writes-events, says};
+ghost use Rattle.parser.specs.View.{tokens-left, becomes, bumps, writes-events, says};
 
 // The cursor after a refusal: past every row, so that every loop ends by itself.
 pub const PAST_THE_END: usize = 18446744073709551615;
@@ -30,7 +30,7 @@ impl State {
     // The first refusal stays.
     pub fn refuse(self, number: u32) -> State
         ensures { λ r. ⌜ becomes (refuse-machine number) self r ⌝ }
-        ensures { λ r. ⌜ ((tokens : List ℕ) → left tokens r ≤ left tokens self) ⌝ }
+        ensures { λ r. ⌜ ((tokens : List ℕ) → tokens-left tokens r ≤ tokens-left tokens self) ⌝ }
     {
         let past = TokenIndex(PAST_THE_END);
         let first = self.refusal == 0;
@@ -49,15 +49,15 @@ impl State {
     }
 
     // An event, if it fits.
-    pub fn push_row(self, events: &mut [u32], tag: u32, value: u32) -> State
-        ensures { λ r. ⌜ writes-events (push-row-machine tag value) self r events ⌝ }
-        ensures { λ r. ⌜ ((tokens : List ℕ) → left tokens r ≤ left tokens self) ⌝ }
+    pub fn push_row(self, events: &mut [u32], tag: u32, argument: u32) -> State
+        ensures { λ r. ⌜ writes-events (push-row-machine tag argument) self r events ⌝ }
+        ensures { λ r. ⌜ ((tokens : List ℕ) → tokens-left tokens r ≤ tokens-left tokens self) ⌝ }
     {
         let index = self.events_written;
         let enough = fits(events.len(), index, EVENT_ROW);
         if enough {
             events[index] = tag;
-            events[index + EVENT_ARGUMENT] = value;
+            events[index + EVENT_ARGUMENT] = argument;
             events[index + EVENT_DISTANCE] = 0;
             let mut q = self;
             q.events_written = index + EVENT_ROW;
@@ -68,13 +68,13 @@ impl State {
     }
 
     // Nothing is pushed once something was refused.
-    pub fn push_event(self, events: &mut [u32], tag: u32, value: u32) -> State
-        ensures { λ r. ⌜ writes-events (push tag value) self r events ⌝ }
-        ensures { λ r. ⌜ ((tokens : List ℕ) → left tokens r ≤ left tokens self) ⌝ }
+    pub fn push_event(self, events: &mut [u32], tag: u32, argument: u32) -> State
+        ensures { λ r. ⌜ writes-events (push tag argument) self r events ⌝ }
+        ensures { λ r. ⌜ ((tokens : List ℕ) → tokens-left tokens r ≤ tokens-left tokens self) ⌝ }
     {
-        let on = self.refusal == 0;
-        if on {
-            self.push_row(events, tag, value)
+        let unrefused = self.refusal == 0;
+        if unrefused {
+            self.push_row(events, tag, argument)
         } else {
             self
         }
@@ -83,12 +83,12 @@ impl State {
     // Takes the next token that is not trivia; nothing at the end.
     pub fn bump(self, tokens: &[u32], events: &mut [u32]) -> State
         ensures { λ r. ⌜ bumps bump-act self (says yes r) tokens events ⌝ }
-        ensures { λ r. ⌜ left (now (tokens .entry)) r ≤ left (now (tokens .entry)) self - 1 ⌝ }
+        ensures { λ r. ⌜ tokens-left (now (tokens .entry)) r ≤ tokens-left (now (tokens .entry)) self - 1 ⌝ }
     {
         let here = self.peek(tokens);
         let at = here.cursor.0;
-        let inside = at < tokens.len() / TOKEN_ROW;
-        if inside {
+        let exists = at < tokens.len() / TOKEN_ROW;
+        if exists {
             let taken = here.next_token(tokens);
             taken.push_event(events, ADD_TOKEN, 0)
         } else {
@@ -99,7 +99,7 @@ impl State {
     // Takes the rows of the set that follow.
     fn take_while(self, tokens: &[u32], set: &[u8]) -> State
         ensures { λ r. ⌜ becomes (name-run (now (set .entry)) (drop (self .cursor .0) (tokens-of (now (tokens .entry))))) self r ⌝ }
-        ensures { λ r. ⌜ left (now (tokens .entry)) r ≤ left (now (tokens .entry)) self ⌝ }
+        ensures { λ r. ⌜ tokens-left (now (tokens .entry)) r ≤ tokens-left (now (tokens .entry)) self ⌝ }
     {
         let mut q = self;
         while is_one_of_at(tokens, q.cursor.0, set) {
@@ -111,12 +111,12 @@ impl State {
     // `bump_name_generic`: takes the next token that is not trivia, and those of the set right after it, as one name.
     pub fn bump_name(self, tokens: &[u32], events: &mut [u32], set: &[u8]) -> State
         ensures { λ r. ⌜ bumps (bump-name-act (now (set .entry))) self (says yes r) tokens events ⌝ }
-        ensures { λ r. ⌜ left (now (tokens .entry)) r ≤ left (now (tokens .entry)) self - 1 ⌝ }
+        ensures { λ r. ⌜ tokens-left (now (tokens .entry)) r ≤ tokens-left (now (tokens .entry)) self - 1 ⌝ }
     {
         let here = self.peek(tokens);
         let at = here.cursor.0;
-        let inside = at < tokens.len() / TOKEN_ROW;
-        if inside {
+        let exists = at < tokens.len() / TOKEN_ROW;
+        if exists {
             let first = here.next_token(tokens);
             let last = first.take_while(tokens, set);
             let n = last.raw_tokens_since(at);

@@ -28,7 +28,7 @@ ghost use Rattle.definitions.specs.Prog.{yes, silent-at as silent-at-act, at-en
 ghost use Rattle.definitions.specs.Check.{silent-eat as silent-eat-prog, at as at-prog, eat as eat-prog, expect as expect-prog, expect-recoverable as expect-recoverable-prog};
 ghost use Rattle.machine.specs.Machine.{refuse as refuse-machine, peek as peek-machine, push, complete as complete-machine, precede as precede-machine};
 ghost use Rattle.machine.specs.Outcome.{fresh};
-ghost use Rattle.parser.specs.View.{view, view-of, parser-tested, left, marker-of, matcher-of, error-prog, takes, looks-of, moves-of, says-of, walks-of, adds-of, becomes-of, bumps-of, emits-of, tests-of, writes-events-of};
+ghost use Rattle.parser.specs.View.{view, parser-view, parser-tested, tokens-left, marker-of, matcher-of, error-prog, takes, parser-looks, parser-moves, parser-says, parser-walks, parser-adds, parser-becomes, parser-bumps, parser-emits, parser-tests, parser-writes-events};
 
 // The parser's numbers.
 pub struct State {
@@ -109,7 +109,7 @@ impl State {
 
 impl Parser {
     pub fn new() -> Parser
-        ensures { λ r. ⌜ ((events reports pool : List ℕ) → view-of r events reports pool
+        ensures { λ r. ⌜ ((events reports pool : List ℕ) → parser-view r events reports pool
             ≡ fresh events reports pool) ⌝ }
     {
         let s = State::new();
@@ -129,66 +129,66 @@ impl Parser {
     }
 
     pub fn refuse(self, number: u32) -> Parser
-        ensures { λ r. ⌜ becomes-of (refuse-machine number) self r ⌝ }
-        ensures { λ r. ⌜ ((tokens : List ℕ) → length tokens < TWO-TO-64 → left tokens (r .s) ≡ 0) ⌝ }
+        ensures { λ r. ⌜ parser-becomes (refuse-machine number) self r ⌝ }
+        ensures { λ r. ⌜ ((tokens : List ℕ) → length tokens < TWO-TO-64 → tokens-left tokens (r .s) ≡ 0) ⌝ }
     {
         let s = self.s.refuse(number);
         self.with(s)
     }
 
     pub fn start(self, events: &mut [u32]) -> Parser
-        ensures { λ r. ⌜ writes-events-of (push PLACEHOLDER-TAG 0) self r events ⌝ }
-        ensures { λ r. ⌜ ((tokens : List ℕ) → left tokens (r .s) ≤ left tokens (self .s)) ⌝ }
+        ensures { λ r. ⌜ parser-writes-events (push PLACEHOLDER-TAG 0) self r events ⌝ }
+        ensures { λ r. ⌜ ((tokens : List ℕ) → tokens-left tokens (r .s) ≤ tokens-left tokens (self .s)) ⌝ }
     {
         let s = self.s.start(events);
         self.with(s)
     }
 
     pub fn complete(self, events: &mut [u32], m: Marker, kind: u32) -> Parser
-        ensures { λ r. ⌜ writes-events-of (complete-machine (marker-of m) kind) self r events ⌝ }
-        ensures { λ r. ⌜ ((tokens : List ℕ) → left tokens (r .s) ≤ left tokens (self .s)) ⌝ }
+        ensures { λ r. ⌜ parser-writes-events (complete-machine (marker-of m) kind) self r events ⌝ }
+        ensures { λ r. ⌜ ((tokens : List ℕ) → tokens-left tokens (r .s) ≤ tokens-left tokens (self .s)) ⌝ }
     {
         let s = self.s.complete(events, m, kind);
         self.with(s)
     }
 
     pub fn ignore(self, events: &mut [u32]) -> Parser
-        ensures { λ r. ⌜ writes-events-of (push PLACEHOLDER-TAG 0) self r events ⌝ }
-        ensures { λ r. ⌜ ((tokens : List ℕ) → left tokens (r .s) ≤ left tokens (self .s)) ⌝ }
+        ensures { λ r. ⌜ parser-writes-events (push PLACEHOLDER-TAG 0) self r events ⌝ }
+        ensures { λ r. ⌜ ((tokens : List ℕ) → tokens-left tokens (r .s) ≤ tokens-left tokens (self .s)) ⌝ }
     {
         let s = self.s.ignore(events);
         self.with(s)
     }
 
     pub fn precede(self, events: &mut [u32], m: Marker) -> Parser
-        ensures { λ r. ⌜ writes-events-of (precede-machine (marker-of m)) self r events ⌝ }
-        ensures { λ r. ⌜ ((tokens : List ℕ) → left tokens (r .s) ≤ left tokens (self .s)) ⌝ }
+        ensures { λ r. ⌜ parser-writes-events (precede-machine (marker-of m)) self r events ⌝ }
+        ensures { λ r. ⌜ ((tokens : List ℕ) → tokens-left tokens (r .s) ≤ tokens-left tokens (self .s)) ⌝ }
     {
         let s = self.s.precede(events, m);
         self.with(s)
     }
 
     pub fn bump(self, tokens: &[u32], events: &mut [u32]) -> Parser
-        ensures { λ r. ⌜ bumps-of bump-act self (says-of yes r) tokens events ⌝ }
-        ensures { λ r. ⌜ left (now (tokens .entry)) (r .s) ≤ left (now (tokens .entry)) (self .s) - 1 ⌝ }
+        ensures { λ r. ⌜ parser-bumps bump-act self (parser-says yes r) tokens events ⌝ }
+        ensures { λ r. ⌜ tokens-left (now (tokens .entry)) (r .s) ≤ tokens-left (now (tokens .entry)) (self .s) - 1 ⌝ }
     {
         let s = self.s.bump(tokens, events);
         self.with(s)
     }
 
     pub fn peek(self, tokens: &[u32]) -> Parser
-        ensures { λ r. ⌜ becomes-of (peek-machine (tokens-of (now (tokens .entry)))) self r ⌝ }
-        ensures { λ r. ⌜ left (now (tokens .entry)) (r .s) ≤ left (now (tokens .entry)) (self .s) ⌝ }
+        ensures { λ r. ⌜ parser-becomes (peek-machine (tokens-of (now (tokens .entry)))) self r ⌝ }
+        ensures { λ r. ⌜ tokens-left (now (tokens .entry)) (r .s) ≤ tokens-left (now (tokens .entry)) (self .s) ⌝ }
     {
         let s = self.s.peek(tokens);
         self.with(s)
     }
 
     pub fn at_end(self, tokens: &[u32]) -> ParserTested
-        ensures { λ r. ⌜ tests-of at-end-act self (parser-tested r) tokens ⌝ }
-        ensures { λ r. ⌜ left (now (tokens .entry)) (r .p .s) ≤ left (now (tokens .entry)) (self .s) ⌝ }
-        ensures { λ r. ⌜ (r .yes ≡ false → 0 < left (now (tokens .entry)) (r .p .s)) ⌝ }
-        ensures { λ r. ⌜ (r .yes ≡ true → left (now (tokens .entry)) (r .p .s) ≡ 0) ⌝ }
+        ensures { λ r. ⌜ parser-tests at-end-act self (parser-tested r) tokens ⌝ }
+        ensures { λ r. ⌜ tokens-left (now (tokens .entry)) (r .p .s) ≤ tokens-left (now (tokens .entry)) (self .s) ⌝ }
+        ensures { λ r. ⌜ (r .yes ≡ false → 0 < tokens-left (now (tokens .entry)) (r .p .s)) ⌝ }
+        ensures { λ r. ⌜ (r .yes ≡ true → tokens-left (now (tokens .entry)) (r .p .s) ≡ 0) ⌝ }
     {
         let e = self.s.at_end(tokens);
         let p = self.with(e.s);
@@ -196,9 +196,9 @@ impl Parser {
     }
 
     pub fn silent_at(self, tokens: &[u32], k: u8) -> ParserTested
-        ensures { λ r. ⌜ tests-of (silent-at-act (k ∷ [])) self (parser-tested r) tokens ⌝ }
-        ensures { λ r. ⌜ left (now (tokens .entry)) (r .p .s) ≤ left (now (tokens .entry)) (self .s) ⌝ }
-        ensures { λ r. ⌜ (r .yes ≡ true → 0 < left (now (tokens .entry)) (r .p .s)) ⌝ }
+        ensures { λ r. ⌜ parser-tests (silent-at-act (k ∷ [])) self (parser-tested r) tokens ⌝ }
+        ensures { λ r. ⌜ tokens-left (now (tokens .entry)) (r .p .s) ≤ tokens-left (now (tokens .entry)) (self .s) ⌝ }
+        ensures { λ r. ⌜ (r .yes ≡ true → 0 < tokens-left (now (tokens .entry)) (r .p .s)) ⌝ }
     {
         let e = self.s.silent_at(tokens, k);
         let p = self.with(e.s);
@@ -206,9 +206,9 @@ impl Parser {
     }
 
     pub fn silent_at_set(self, tokens: &[u32], set: &[u8]) -> ParserTested
-        ensures { λ r. ⌜ tests-of (silent-at-act (now (set .entry))) self (parser-tested r) tokens ⌝ }
-        ensures { λ r. ⌜ left (now (tokens .entry)) (r .p .s) ≤ left (now (tokens .entry)) (self .s) ⌝ }
-        ensures { λ r. ⌜ (r .yes ≡ true → 0 < left (now (tokens .entry)) (r .p .s)) ⌝ }
+        ensures { λ r. ⌜ parser-tests (silent-at-act (now (set .entry))) self (parser-tested r) tokens ⌝ }
+        ensures { λ r. ⌜ tokens-left (now (tokens .entry)) (r .p .s) ≤ tokens-left (now (tokens .entry)) (self .s) ⌝ }
+        ensures { λ r. ⌜ (r .yes ≡ true → 0 < tokens-left (now (tokens .entry)) (r .p .s)) ⌝ }
     {
         let e = self.s.silent_at_set(tokens, set);
         let p = self.with(e.s);
@@ -216,10 +216,10 @@ impl Parser {
     }
 
     pub fn silent_eat(self, tokens: &[u32], events: &mut [u32], m: Matcher) -> ParserTested
-        ensures { λ r. ⌜ moves-of (silent-eat-prog (matcher-of m)) self (parser-tested r) tokens events ⌝ }
-        ensures { λ r. ⌜ left (now (tokens .entry)) (r .p .s) ≤ left (now (tokens .entry)) (self .s) ⌝ }
+        ensures { λ r. ⌜ parser-moves (silent-eat-prog (matcher-of m)) self (parser-tested r) tokens events ⌝ }
+        ensures { λ r. ⌜ tokens-left (now (tokens .entry)) (r .p .s) ≤ tokens-left (now (tokens .entry)) (self .s) ⌝ }
         ensures { λ r. ⌜ (r .yes ≡ true
-            → left (now (tokens .entry)) (r .p .s) ≤ left (now (tokens .entry)) (self .s) - 1) ⌝ }
+            → tokens-left (now (tokens .entry)) (r .p .s) ≤ tokens-left (now (tokens .entry)) (self .s) - 1) ⌝ }
     {
         let e = self.s.silent_eat(tokens, events, m);
         let p = self.with(e.s);
@@ -227,8 +227,8 @@ impl Parser {
     }
 
     pub fn add_expected(self, code: u8) -> Parser
-        ensures { λ r. ⌜ adds-of (add-expected-act code) self (says-of yes r) ⌝ }
-        ensures { λ r. ⌜ ((tokens : List ℕ) → left tokens (r .s) ≤ left tokens (self .s)) ⌝ }
+        ensures { λ r. ⌜ parser-adds (add-expected-act code) self (parser-says yes r) ⌝ }
+        ensures { λ r. ⌜ ((tokens : List ℕ) → tokens-left tokens (r .s) ≤ tokens-left tokens (self .s)) ⌝ }
     {
         let mut codes = self.codes;
         let s = self.s.add_expected(&mut codes, code);
@@ -236,9 +236,9 @@ impl Parser {
     }
 
     pub fn at(self, tokens: &[u32], m: Matcher) -> ParserTested
-        ensures { λ r. ⌜ looks-of (at-prog (matcher-of m)) self (parser-tested r) tokens ⌝ }
-        ensures { λ r. ⌜ left (now (tokens .entry)) (r .p .s) ≤ left (now (tokens .entry)) (self .s) ⌝ }
-        ensures { λ r. ⌜ (r .yes ≡ true → 0 < left (now (tokens .entry)) (r .p .s)) ⌝ }
+        ensures { λ r. ⌜ parser-looks (at-prog (matcher-of m)) self (parser-tested r) tokens ⌝ }
+        ensures { λ r. ⌜ tokens-left (now (tokens .entry)) (r .p .s) ≤ tokens-left (now (tokens .entry)) (self .s) ⌝ }
+        ensures { λ r. ⌜ (r .yes ≡ true → 0 < tokens-left (now (tokens .entry)) (r .p .s)) ⌝ }
     {
         let mut codes = self.codes;
         let e = self.s.at(&mut codes, tokens, m);
@@ -248,10 +248,10 @@ impl Parser {
     }
 
     pub fn eat(self, tokens: &[u32], events: &mut [u32], m: Matcher) -> ParserTested
-        ensures { λ r. ⌜ moves-of (eat-prog (matcher-of m)) self (parser-tested r) tokens events ⌝ }
-        ensures { λ r. ⌜ left (now (tokens .entry)) (r .p .s) ≤ left (now (tokens .entry)) (self .s) ⌝ }
+        ensures { λ r. ⌜ parser-moves (eat-prog (matcher-of m)) self (parser-tested r) tokens events ⌝ }
+        ensures { λ r. ⌜ tokens-left (now (tokens .entry)) (r .p .s) ≤ tokens-left (now (tokens .entry)) (self .s) ⌝ }
         ensures { λ r. ⌜ (r .yes ≡ true
-            → left (now (tokens .entry)) (r .p .s) ≤ left (now (tokens .entry)) (self .s) - 1) ⌝ }
+            → tokens-left (now (tokens .entry)) (r .p .s) ≤ tokens-left (now (tokens .entry)) (self .s) - 1) ⌝ }
     {
         let mut codes = self.codes;
         let e = self.s.eat(&mut codes, tokens, events, m);
@@ -268,10 +268,10 @@ impl Parser {
         pool: &mut [u32],
         m: Matcher,
     ) -> ParserTested
-        ensures { λ r. ⌜ walks-of (expect-prog (matcher-of m)) self (parser-tested r) tokens events reports pool ⌝ }
-        ensures { λ r. ⌜ left (now (tokens .entry)) (r .p .s) ≤ left (now (tokens .entry)) (self .s) ⌝ }
+        ensures { λ r. ⌜ parser-walks (expect-prog (matcher-of m)) self (parser-tested r) tokens events reports pool ⌝ }
+        ensures { λ r. ⌜ tokens-left (now (tokens .entry)) (r .p .s) ≤ tokens-left (now (tokens .entry)) (self .s) ⌝ }
         ensures { λ r. ⌜ (r .yes ≡ true
-            → left (now (tokens .entry)) (r .p .s) ≤ left (now (tokens .entry)) (self .s) - 1) ⌝ }
+            → tokens-left (now (tokens .entry)) (r .p .s) ≤ tokens-left (now (tokens .entry)) (self .s) - 1) ⌝ }
     {
         let mut codes = self.codes;
         let e = self.s.expect(&mut codes, tokens, events, reports, pool, m);
@@ -289,9 +289,9 @@ impl Parser {
         m: Matcher,
         recovery: &[u8],
     ) -> ParserTested
-        ensures { λ r. ⌜ walks-of (expect-recoverable-prog (matcher-of m) (now (recovery .entry))) self (parser-tested r)
+        ensures { λ r. ⌜ parser-walks (expect-recoverable-prog (matcher-of m) (now (recovery .entry))) self (parser-tested r)
             tokens events reports pool ⌝ }
-        ensures { λ r. ⌜ left (now (tokens .entry)) (r .p .s) ≤ left (now (tokens .entry)) (self .s) ⌝ }
+        ensures { λ r. ⌜ tokens-left (now (tokens .entry)) (r .p .s) ≤ tokens-left (now (tokens .entry)) (self .s) ⌝ }
     {
         let mut codes = self.codes;
         let e = self.s
@@ -312,8 +312,8 @@ impl Parser {
         hint: u32,
         bump: Bump,
     ) -> Parser
-        ensures { λ r. ⌜ walks-of (error-prog bump message hint) self (says-of yes r) tokens events reports pool ⌝ }
-        ensures { λ r. ⌜ left (now (tokens .entry)) (r .s) ≤ left (now (tokens .entry)) (self .s) - takes bump ⌝ }
+        ensures { λ r. ⌜ parser-walks (error-prog bump message hint) self (parser-says yes r) tokens events reports pool ⌝ }
+        ensures { λ r. ⌜ tokens-left (now (tokens .entry)) (r .s) ≤ tokens-left (now (tokens .entry)) (self .s) - takes bump ⌝ }
     {
         let codes = self.codes;
         let s = self.s
@@ -331,8 +331,8 @@ impl Parser {
         hint: u32,
         label: TextRange,
     ) -> Parser
-        ensures { λ r. ⌜ emits-of message hint label self r tokens events reports pool ⌝ }
-        ensures { λ r. ⌜ left (now (tokens .entry)) (r .s) ≤ left (now (tokens .entry)) (self .s) ⌝ }
+        ensures { λ r. ⌜ parser-emits message hint label self r tokens events reports pool ⌝ }
+        ensures { λ r. ⌜ tokens-left (now (tokens .entry)) (r .s) ≤ tokens-left (now (tokens .entry)) (self .s) ⌝ }
     {
         let codes = self.codes;
         let s = self.s.emit(&codes, tokens, events, reports, pool, message, hint, label);

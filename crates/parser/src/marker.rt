@@ -15,7 +15,7 @@ ghost use mathlib.Core.List.{List};
 ghost use Prim.Native.Nat.{ℕ, _≤_};
 ghost use Rattle.definitions.specs.Layout.{PLACEHOLDER as PLACEHOLDER-TAG, START-NODE as START-TAG, LINKED-START-NODE as LINKED-TAG};
 ghost use Rattle.machine.specs.Machine.{put-start, put-link, push, complete as complete-machine, precede as precede-machine};
-ghost use Rattle.parser.specs.View.{left, marker-of, writes-events};
+ghost use Rattle.parser.specs.View.{tokens-left, marker-of, writes-events};
 
 pub struct Marker(pub usize, pub u32);
 
@@ -62,7 +62,7 @@ impl Marker {
 impl State {
     pub fn start(self, events: &mut [u32]) -> State
         ensures { λ r. ⌜ writes-events (push PLACEHOLDER-TAG 0) self r events ⌝ }
-        ensures { λ r. ⌜ ((tokens : List ℕ) → left tokens r ≤ left tokens self) ⌝ }
+        ensures { λ r. ⌜ ((tokens : List ℕ) → tokens-left tokens r ≤ tokens-left tokens self) ⌝ }
     {
         self.push_event(events, PLACEHOLDER, 0)
     }
@@ -70,10 +70,10 @@ impl State {
     // `m.complete(p, kind)`
     pub fn complete(self, events: &mut [u32], m: Marker, kind: u32) -> State
         ensures { λ r. ⌜ writes-events (complete-machine (marker-of m) kind) self r events ⌝ }
-        ensures { λ r. ⌜ ((tokens : List ℕ) → left tokens r ≤ left tokens self) ⌝ }
+        ensures { λ r. ⌜ ((tokens : List ℕ) → tokens-left tokens r ≤ tokens-left tokens self) ⌝ }
     {
-        let on = self.refusal == 0;
-        if on {
+        let unrefused = self.refusal == 0;
+        if unrefused {
             put_start(events, m.0, m.1, kind);
             self.push_row(events, FINISH_NODE, 0)
         } else {
@@ -84,7 +84,7 @@ impl State {
     // `m.ignore(p)`: the placeholder stays, and a second one is pushed.
     pub fn ignore(self, events: &mut [u32]) -> State
         ensures { λ r. ⌜ writes-events (push PLACEHOLDER-TAG 0) self r events ⌝ }
-        ensures { λ r. ⌜ ((tokens : List ℕ) → left tokens r ≤ left tokens self) ⌝ }
+        ensures { λ r. ⌜ ((tokens : List ℕ) → tokens-left tokens r ≤ tokens-left tokens self) ⌝ }
     {
         self.push_event(events, PLACEHOLDER, 0)
     }
@@ -92,12 +92,12 @@ impl State {
     // `completed.precede(p)`: a new marker, to which the completed node is linked forward.
     pub fn precede(self, events: &mut [u32], m: Marker) -> State
         ensures { λ r. ⌜ writes-events (precede-machine (marker-of m)) self r events ⌝ }
-        ensures { λ r. ⌜ ((tokens : List ℕ) → left tokens r ≤ left tokens self) ⌝ }
+        ensures { λ r. ⌜ ((tokens : List ℕ) → tokens-left tokens r ≤ tokens-left tokens self) ⌝ }
     {
         let to = self.events_written;
         let started = self.push_event(events, PLACEHOLDER, 0);
-        let on = started.refusal == 0;
-        if on {
+        let unrefused = started.refusal == 0;
+        if unrefused {
             put_link(events, m.0, to);
             started
         } else {

@@ -1,7 +1,6 @@
 // `TokenMatcher` of parser/mod.rs, as an enum: which kinds match, what is pushed where they do not, how they are taken.
 // The grammar's own matchers (a name that may be a macro, a unit address, a reference) stand with the grammar.
 use crate::State;
-use crate::event;
 use layout::expected;
 use layout::limit::Codes;
 use layout::set::LABEL_NAME_SET;
@@ -13,7 +12,7 @@ ghost use mathlib.Core.List.{List};
 ghost use Prim.Native.Nat.{ℕ, _≤_, _-_};
 ghost use Rattle.definitions.specs.Token.{one-of};
 ghost use Rattle.definitions.specs.Prog.{yes};
-ghost use Rattle.parser.specs.View.{left, first-code, matcher-of, kinds-of, moves, says, expects};
+ghost use Rattle.parser.specs.View.{tokens-left, first-code, matcher-of, kinds-of, moves, says, expects};
 
 pub enum Matcher {
     Kind(u8),
@@ -52,7 +51,7 @@ impl Matcher {
 
     pub fn push_expected(self, s: State, codes: &mut Codes) -> State
         ensures { λ r. ⌜ expects (matcher-of self .push-expected) s (says yes r) codes ⌝ }
-        ensures { λ r. ⌜ ((tokens : List ℕ) → left tokens r ≤ left tokens s) ⌝ }
+        ensures { λ r. ⌜ ((tokens : List ℕ) → tokens-left tokens r ≤ tokens-left tokens s) ⌝ }
     {
         let code = self.first_code();
         let q = s.add_expected(codes, code);
@@ -67,7 +66,7 @@ impl Matcher {
     // The matcher has matched.
     pub fn consume(self, s: State, tokens: &[u32], events: &mut [u32]) -> State
         ensures { λ r. ⌜ moves (matcher-of self .consume) s (says yes r) tokens events ⌝ }
-        ensures { λ r. ⌜ left (now (tokens .entry)) r ≤ left (now (tokens .entry)) s - 1 ⌝ }
+        ensures { λ r. ⌜ tokens-left (now (tokens .entry)) r ≤ tokens-left (now (tokens .entry)) s - 1 ⌝ }
     {
         match self {
             Matcher::Kind(_) => s.bump(tokens, events),

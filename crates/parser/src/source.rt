@@ -23,15 +23,15 @@ ghost use Rattle.definitions.specs.Token.{tokens-of, first-in};
 ghost use Rattle.definitions.specs.Prog.{silent-at, at-end};
 ghost use Rattle.definitions.specs.Grammar.{silent-at-macro-invocation-with-args};
 ghost use Rattle.machine.specs.Machine.{peek as peek-machine, range-at};
-ghost use Rattle.parser.specs.View.{view, left, state-tested, kinds-of, take-first, span-of, becomes, sees, tests};
+ghost use Rattle.parser.specs.View.{view, tokens-left, state-tested, kinds-of, take-first, span-of, becomes, sees, tests};
 
 // Whether the matcher matches the row.
 pub fn is_matched_at(tokens: &[u32], at: usize, m: Matcher) -> bool
     ensures { λ r. ⌜ r ≡ first-in (kinds-of m) (drop at (tokens-of (now (tokens .entry)))) ⌝ }
     ensures { λ r. ⌜ (r ≡ true → at < length (now (tokens .entry)) / TOKEN-ROW) ⌝ }
 {
-    let inside = at < tokens.len() / TOKEN_ROW;
-    if inside {
+    let exists = at < tokens.len() / TOKEN_ROW;
+    if exists {
         let here = kind_at(tokens, at);
         m.matches(here)
     } else {
@@ -43,7 +43,7 @@ impl State {
     // `skip_trivia`: the cursor stops at a token, or at the end.
     pub fn peek(self, tokens: &[u32]) -> State
         ensures { λ r. ⌜ becomes (peek-machine (tokens-of (now (tokens .entry)))) self r ⌝ }
-        ensures { λ r. ⌜ left (now (tokens .entry)) r ≤ left (now (tokens .entry)) self ⌝ }
+        ensures { λ r. ⌜ tokens-left (now (tokens .entry)) r ≤ tokens-left (now (tokens .entry)) self ⌝ }
     {
         let seat = skip_trivia(tokens, self.cursor.0, self.byte.0);
         let cursor = TokenIndex(seat.at);
@@ -56,14 +56,14 @@ impl State {
 
     pub fn at_end(self, tokens: &[u32]) -> StateTested
         ensures { λ r. ⌜ tests at-end self (state-tested r) tokens ⌝ }
-        ensures { λ r. ⌜ left (now (tokens .entry)) (r .s) ≤ left (now (tokens .entry)) self ⌝ }
-        ensures { λ r. ⌜ (r .yes ≡ false → 0 < left (now (tokens .entry)) (r .s)) ⌝ }
-        ensures { λ r. ⌜ (r .yes ≡ true → left (now (tokens .entry)) (r .s) ≡ 0) ⌝ }
+        ensures { λ r. ⌜ tokens-left (now (tokens .entry)) (r .s) ≤ tokens-left (now (tokens .entry)) self ⌝ }
+        ensures { λ r. ⌜ (r .yes ≡ false → 0 < tokens-left (now (tokens .entry)) (r .s)) ⌝ }
+        ensures { λ r. ⌜ (r .yes ≡ true → tokens-left (now (tokens .entry)) (r .s) ≡ 0) ⌝ }
     {
         let q = self.peek(tokens);
         let at = q.cursor.0;
-        let inside = at < tokens.len() / TOKEN_ROW;
-        if inside {
+        let exists = at < tokens.len() / TOKEN_ROW;
+        if exists {
             StateTested { s: q, yes: false }
         } else {
             StateTested { s: q, yes: true }
@@ -73,8 +73,8 @@ impl State {
     // `check(kind).silent().at()`
     pub fn silent_at(self, tokens: &[u32], k: u8) -> StateTested
         ensures { λ r. ⌜ tests (silent-at (k ∷ [])) self (state-tested r) tokens ⌝ }
-        ensures { λ r. ⌜ left (now (tokens .entry)) (r .s) ≤ left (now (tokens .entry)) self ⌝ }
-        ensures { λ r. ⌜ (r .yes ≡ true → 0 < left (now (tokens .entry)) (r .s)) ⌝ }
+        ensures { λ r. ⌜ tokens-left (now (tokens .entry)) (r .s) ≤ tokens-left (now (tokens .entry)) self ⌝ }
+        ensures { λ r. ⌜ (r .yes ≡ true → 0 < tokens-left (now (tokens .entry)) (r .s)) ⌝ }
     {
         let q = self.peek(tokens);
         let yes = is_at(tokens, q.cursor.0, k);
@@ -84,8 +84,8 @@ impl State {
     // `check(set).silent().at()`
     pub fn silent_at_set(self, tokens: &[u32], set: &[u8]) -> StateTested
         ensures { λ r. ⌜ tests (silent-at (now (set .entry))) self (state-tested r) tokens ⌝ }
-        ensures { λ r. ⌜ left (now (tokens .entry)) (r .s) ≤ left (now (tokens .entry)) self ⌝ }
-        ensures { λ r. ⌜ (r .yes ≡ true → 0 < left (now (tokens .entry)) (r .s)) ⌝ }
+        ensures { λ r. ⌜ tokens-left (now (tokens .entry)) (r .s) ≤ tokens-left (now (tokens .entry)) self ⌝ }
+        ensures { λ r. ⌜ (r .yes ≡ true → 0 < tokens-left (now (tokens .entry)) (r .s)) ⌝ }
     {
         let q = self.peek(tokens);
         let yes = is_one_of_at(tokens, q.cursor.0, set);
@@ -94,8 +94,8 @@ impl State {
 
     pub fn silent_at_macro_invocation_with_args(self, tokens: &[u32]) -> StateTested
         ensures { λ r. ⌜ sees silent-at-macro-invocation-with-args self (state-tested r) tokens ⌝ }
-        ensures { λ r. ⌜ left (now (tokens .entry)) (r .s) ≤ left (now (tokens .entry)) self ⌝ }
-        ensures { λ r. ⌜ (r .yes ≡ true → 0 < left (now (tokens .entry)) (r .s)) ⌝ }
+        ensures { λ r. ⌜ tokens-left (now (tokens .entry)) (r .s) ≤ tokens-left (now (tokens .entry)) self ⌝ }
+        ensures { λ r. ⌜ (r .yes ≡ true → 0 < tokens-left (now (tokens .entry)) (r .s)) ⌝ }
     {
         let ident = self.silent_at(tokens, token_kind::IDENT);
         if ident.yes {
@@ -124,11 +124,11 @@ impl State {
     // `next_token`, and the expectations cleared: takes the row at the cursor, whatever it is.
     pub fn next_token(self, tokens: &[u32]) -> State
         ensures { λ r. ⌜ becomes (take-first (drop (self .cursor .0) (tokens-of (now (tokens .entry))))) self r ⌝ }
-        ensures { λ r. ⌜ left (now (tokens .entry)) r ≤ left (now (tokens .entry)) self - 1 ⌝ }
+        ensures { λ r. ⌜ tokens-left (now (tokens .entry)) r ≤ tokens-left (now (tokens .entry)) self - 1 ⌝ }
     {
         let at = self.cursor.0;
-        let inside = at < tokens.len() / TOKEN_ROW;
-        if inside {
+        let exists = at < tokens.len() / TOKEN_ROW;
+        if exists {
             let next = TokenIndex(at + 1);
             let end = ByteOffset(end_at(tokens, at, self.byte.0));
             let mut q = self;

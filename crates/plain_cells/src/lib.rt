@@ -8,7 +8,7 @@ ghost use mathlib.Core.Path.{_≡_};
 ghost use mathlib.Core.Bool.{true};
 ghost use Prim.Native.Nat.{_≤_, _<_};
 ghost use Rattle.definitions.specs.Prog.{yes};
-ghost use Rattle.parser.specs.View.{parser-tested, left, walks-of};
+ghost use Rattle.parser.specs.View.{parser-tested, tokens-left, parser-walks};
 ghost use Rattle.plain_cells.specs.Subprograms.{plain-cell};
 
 pub fn eat_plain_cell(
@@ -18,9 +18,9 @@ pub fn eat_plain_cell(
     reports: &mut [u32],
     pool: &mut [u32],
 ) -> ParserTested
-    ensures { λ r. ⌜ walks-of plain-cell p (parser-tested r) tokens events reports pool ⌝ }
-    ensures { λ r. ⌜ left (now (tokens .entry)) (r .p .s) ≤ left (now (tokens .entry)) (p .s) ⌝ }
-    ensures { λ r. ⌜ (r .yes ≡ true → left (now (tokens .entry)) (r .p .s) < left (now (tokens .entry)) (p .s)) ⌝ }
+    ensures { λ r. ⌜ parser-walks plain-cell p (parser-tested r) tokens events reports pool ⌝ }
+    ensures { λ r. ⌜ tokens-left (now (tokens .entry)) (r .p .s) ≤ tokens-left (now (tokens .entry)) (p .s) ⌝ }
+    ensures { λ r. ⌜ (r .yes ≡ true → tokens-left (now (tokens .entry)) (r .p .s) < tokens-left (now (tokens .entry)) (p .s)) ⌝ }
 {
     let mut codes = p.codes;
     let e = plain_cell::eat(p.s, &mut codes, tokens, events, reports, pool);

@@ -11,7 +11,7 @@ ghost use mathlib.Core.Path.{_≡_};
 ghost use mathlib.Core.Bool.{true};
 ghost use Prim.Native.Nat.{_≤_, _<_};
 ghost use Rattle.definitions.specs.Prog.{yes};
-ghost use Rattle.parser.specs.View.{left, state-tested, walks};
+ghost use Rattle.parser.specs.View.{tokens-left, state-tested, walks};
 ghost use Rattle.plain_cells.specs.Subprograms.{plain-cell};
 
 pub fn eat(
@@ -23,8 +23,8 @@ pub fn eat(
     pool: &mut [u32],
 ) -> StateTested
     ensures { λ r. ⌜ walks plain-cell s (state-tested r) codes tokens events reports pool ⌝ }
-    ensures { λ r. ⌜ left (now (tokens .entry)) (r .s) ≤ left (now (tokens .entry)) s ⌝ }
-    ensures { λ r. ⌜ (r .yes ≡ true → left (now (tokens .entry)) (r .s) < left (now (tokens .entry)) s) ⌝ }
+    ensures { λ r. ⌜ tokens-left (now (tokens .entry)) (r .s) ≤ tokens-left (now (tokens .entry)) s ⌝ }
+    ensures { λ r. ⌜ (r .yes ≡ true → tokens-left (now (tokens .entry)) (r .s) < tokens-left (now (tokens .entry)) s) ⌝ }
 {
     let pushed = s.add_expected(codes, expected::CELL);
     let literal = pushed.silent_eat(

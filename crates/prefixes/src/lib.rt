@@ -6,8 +6,8 @@ use parser::Parser;
 use parser::ParserAnswered;
 ghost use Prim.Native.Nat.{_-_, _≤_};
 ghost use Rattle.definitions.specs.Grammar.{eat-node-or-prop-prefix};
-ghost use Rattle.parser.specs.View.{left, walks-of};
-ghost use Rattle.steps.specs.View.{parser-answered, found};
+ghost use Rattle.parser.specs.View.{tokens-left, parser-walks};
+ghost use Rattle.steps.specs.View.{parser-answered, took-unless-no};
 
 pub fn eat_node_or_prop_prefix(
     p: Parser,
@@ -16,8 +16,8 @@ pub fn eat_node_or_prop_prefix(
     reports: &mut [u32],
     pool: &mut [u32],
 ) -> ParserAnswered
-    ensures { λ r. ⌜ walks-of eat-node-or-prop-prefix p (parser-answered r) tokens events reports pool ⌝ }
-    ensures { λ r. ⌜ left (now (tokens .entry)) (r .p .s) ≤ left (now (tokens .entry)) (p .s) - found (r .ans) ⌝ }
+    ensures { λ r. ⌜ parser-walks eat-node-or-prop-prefix p (parser-answered r) tokens events reports pool ⌝ }
+    ensures { λ r. ⌜ tokens-left (now (tokens .entry)) (r .p .s) ≤ tokens-left (now (tokens .entry)) (p .s) - took-unless-no (r .ans) ⌝ }
 {
     let mut codes = p.codes;
     let e = node_or_prop_prefix::eat_node_or_prop_prefix(

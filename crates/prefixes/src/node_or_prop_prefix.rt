@@ -17,8 +17,8 @@ use parser::matcher::Matcher;
 ghost use mathlib.Core.Path.{_≡_};
 ghost use Prim.Native.Nat.{_+_, _-_, _≤_};
 ghost use Rattle.definitions.specs.Grammar.{prefix-turn, eat-node-or-prop-prefix};
-ghost use Rattle.parser.specs.View.{left, state-tested, ans-of, walks};
-ghost use Rattle.steps.specs.View.{state-answered, own-name, goes, found};
+ghost use Rattle.parser.specs.View.{tokens-left, state-tested, ans-of, walks};
+ghost use Rattle.steps.specs.View.{state-answered, own-name, took-if-again, took-unless-no};
 ghost use Rattle.prefixes.specs.Subprograms.{unit-address-and-colon, label-or-name, labels-and-name};
 
 // `Some(allow_prop)`
@@ -48,7 +48,7 @@ fn eat_unit_address_and_at_colon(
     pool: &mut [u32],
 ) -> StateTested
     ensures { λ r. ⌜ walks unit-address-and-colon s (state-tested r) codes tokens events reports pool ⌝ }
-    ensures { λ r. ⌜ left (now (tokens .entry)) (r .s) ≤ left (now (tokens .entry)) s ⌝ }
+    ensures { λ r. ⌜ tokens-left (now (tokens .entry)) (r .s) ≤ tokens-left (now (tokens .entry)) s ⌝ }
 {
     let unit = unit_address::eat(s, codes, tokens, events, reports, pool);
     if unit.yes {
@@ -70,7 +70,7 @@ fn label_or_name(
 ) -> StateAnswered
     ensures { λ r. ⌜ walks (label-or-name (own-name «allow_prop»)) s (state-answered r)
         codes tokens events reports pool ⌝ }
-    ensures { λ r. ⌜ left (now (tokens .entry)) (r .s) ≤ left (now (tokens .entry)) s - 1 ⌝ }
+    ensures { λ r. ⌜ tokens-left (now (tokens .entry)) (r .s) ≤ tokens-left (now (tokens .entry)) s - 1 ⌝ }
 {
     let m_label = Marker::new(s);
     let started = s.start(events);
@@ -116,8 +116,8 @@ fn turn(
 ) -> StateAnswered
     ensures { λ r. ⌜ walks (prefix-turn (own-name «allow_prop»)) s (state-answered r)
         codes tokens events reports pool ⌝ }
-    ensures { λ r. ⌜ left (now (tokens .entry)) (r .s) + goes (r .ans) ≤ left (now (tokens .entry)) s ⌝ }
-    ensures { λ r. ⌜ left (now (tokens .entry)) (r .s) ≤ left (now (tokens .entry)) s - found (r .ans) ⌝ }
+    ensures { λ r. ⌜ tokens-left (now (tokens .entry)) (r .s) + took-if-again (r .ans) ≤ tokens-left (now (tokens .entry)) s ⌝ }
+    ensures { λ r. ⌜ tokens-left (now (tokens .entry)) (r .s) ≤ tokens-left (now (tokens .entry)) s - took-unless-no (r .ans) ⌝ }
 {
     let name = macro_substitutable_name::at(s, codes, tokens);
     if name.yes {
@@ -156,7 +156,7 @@ fn labels_and_name(
 ) -> StateAnswered
     ensures { λ r. ⌜ walks (labels-and-name (own-name «allow_prop»)) s (state-answered r)
         codes tokens events reports pool ⌝ }
-    ensures { λ r. ⌜ left (now (tokens .entry)) (r .s) ≤ left (now (tokens .entry)) s - found (r .ans) ⌝ }
+    ensures { λ r. ⌜ tokens-left (now (tokens .entry)) (r .s) ≤ tokens-left (now (tokens .entry)) s - took-unless-no (r .ans) ⌝ }
 {
     let mut q = s;
     loop {
@@ -183,7 +183,7 @@ pub fn eat_node_or_prop_prefix(
     pool: &mut [u32],
 ) -> StateAnswered
     ensures { λ r. ⌜ walks eat-node-or-prop-prefix s (state-answered r) codes tokens events reports pool ⌝ }
-    ensures { λ r. ⌜ left (now (tokens .entry)) (r .s) ≤ left (now (tokens .entry)) s - found (r .ans) ⌝ }
+    ensures { λ r. ⌜ tokens-left (now (tokens .entry)) (r .s) ≤ tokens-left (now (tokens .entry)) s - took-unless-no (r .ans) ⌝ }
 {
     let omit = s.eat(
         codes,

@@ -16,7 +16,7 @@ use Rattle.definitions.specs.Place.{root, rows, lexical-errors}
 use Rattle.definitions.specs.Report.{Fit, fits, stops, scan, pushes, reports, report-numbers, pool}
 use Rattle.definitions.specs.Refusal.{Refusal, unknown-entry, too-long, bad-row, bad-text, too-deep, no-event-room, no-report-room, no-tree-room, number-of, place-of, accepted, check-input}
 use Rattle.definitions.specs.Grammar.{Entry, root-kind}
-use Rattle.definitions.specs.Call.{Buffers, Answer, Result, refusal, cleared, Sheets, sheets, kept, finish, forward-mark, outcome, room-of, run-entry, parse}
+use Rattle.definitions.specs.Call.{Buffers, Answer, Result, refusal, cleared, Sheets, sheets, kept, delivered, forward-mark, outcome, room-of, run-entry, parse}
 use Rattle.laws.proofs.Input.{Checked, checked-input}
 use Rattle.basics.proofs.Tests.{and-left, and-right}
 use Rattle.laws.proofs.Decode.{rows-length}
@@ -111,7 +111,7 @@ module _ (e : Entry) (bytes tokens : List ℕ) (b : Buffers) (m : Machine) (ok :
 
   -- ---------------------------------------------------------------- nothing refused
 
-  accepted-by : (f : Fit) → scan (pushes o) (room-of b) ≡ f → m .refusal ≡ 0 → Accepted ts o (b .events) (b .reports) (b .pool) m × (parse e ts b ≡ finish (sheets e ts o) b)
+  accepted-by : (f : Fit) → scan (pushes o) (room-of b) ≡ f → m .refusal ≡ 0 → Accepted ts o (b .events) (b .reports) (b .pool) m × (parse e ts b ≡ delivered (sheets e ts o) b)
   unfolding outcome
   accepted-by (fits z) h q = (ends-by (fits z) h, parse-by (fits z) h)
   accepted-by (stops r) h q = let a : Refused ts r m = ends-by (stops r) h in absurd (omega (arith, a .some))
@@ -171,8 +171,8 @@ module _ (e : Entry) (bytes tokens : List ℕ) (b : Buffers) (m : Machine) (ok :
         pool = held-length (pool (reports (pushes o))) (b .pool) (m .pool) (a .pool-holds);
       })
 
-  finish-by : finish (sheets e ts o) b ≡ cond (enough R L (b .trees) (b .errors)) (kept (sheets e ts o) b) (cleared no-tree-room b)
-  unfolding finish sheets
+  finish-by : delivered (sheets e ts o) b ≡ cond (enough R L (b .trees) (b .errors)) (kept (sheets e ts o) b) (cleared no-tree-room b)
+  unfolding delivered sheets
   finish-by = refl
 
 -- THE CALL'S END

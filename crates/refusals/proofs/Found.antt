@@ -11,7 +11,7 @@ use Rattle.definitions.specs.Grammar.{Entry}
 use Rattle.definitions.specs.Report.{Room, Fit, fits, pushes, scan}
 use Rattle.definitions.specs.Refusal.{Refusal, too-long, bad-text, too-deep, number-of, place-of, Verdict, _or-else_, unless, check-sizes, check-rows, check-texts, check-input}
 use Rattle.definitions.specs.Refusal as R
-use Rattle.definitions.specs.Call.{Buffers, Result, untouched, cleared, kept, finish, forward-mark, outcome, room-of, run-entry, parse, Asked, entry-of, checked, asked, call}
+use Rattle.definitions.specs.Call.{Buffers, Result, untouched, cleared, kept, delivered, forward-mark, outcome, room-of, run-entry, parse, Asked, entry-of, checked, asked, call}
 use Rattle.refusals.specs.First.{Each, First}
 use Rattle.refusals.specs.Trace.{Happening, call-opened, expectation-pushed, event-pushed, report-written}
 use Rattle.refusals.specs.Refusals.{Past-1, Sizes, Past-2, Past-3, Past-4, Allowed, happens, from-start, to-write, Tree-fits, First-met, Cause, unknown-entry, over-size, bad-row, odd-or-short, wrong-text, call-too-many, expectation-too-many, no-event-room, no-report-room, no-tree-room, none}
@@ -55,7 +55,7 @@ module _ (n : ℕ) (bytes tokens : List ℕ) (b : Buffers) where
   tree-found e p z q h t (not-so g) = zero-found R.no-tree-room (omega arith) (no-tree-room e p h g)
 
   run-found : (e : Entry) → Past-4 n bytes tokens e → (f : Fit) → scan (pushes (run-entry e (tokens-of tokens))) (room-of b) ≡ f → Ends b (happens e tokens) f → Found (outcome f e (tokens-of tokens) (run-entry e (tokens-of tokens)) b)
-  unfolding outcome finish
+  unfolding outcome delivered
   run-found e p f q (all-fits z h) = tree-found e p z q h _ (tree-decides tokens b e)
   run-found e p f q (first-stops before x h) = first-found e p before x h
 

@@ -9,7 +9,7 @@ use Rattle.definitions.specs.Grammar.{Entry}
 use Rattle.definitions.specs.Report.{Room, Fit, fits, stops, pushes, scan}
 use Rattle.definitions.specs.Refusal.{Refusal, too-long, bad-text, number-of, place-of, Verdict, accepted, refused, _or-else_, unless, check-sizes, check-rows, check-texts, check-input}
 use Rattle.definitions.specs.Refusal as R
-use Rattle.definitions.specs.Call.{Buffers, Result, untouched, cleared, kept, finish, forward-mark, outcome, room-of, run-entry, parse, Asked, checked, asked, call}
+use Rattle.definitions.specs.Call.{Buffers, Result, untouched, cleared, kept, delivered, forward-mark, outcome, room-of, run-entry, parse, Asked, checked, asked, call}
 use Rattle.refusals.specs.First.{Each, First}
 use Rattle.refusals.specs.Trace.{Happening, call-opened, expectation-pushed, event-pushed, report-written}
 use Rattle.refusals.specs.Refusals.{MAX-OPEN, MAX-PENDING, Past-1, Sizes, Past-2, Good-row, Covers, Past-3, Right-text, Past-4, Allowed, happens, to-write, Cause, unknown-entry, over-size, bad-row, odd-or-short, wrong-text, call-too-many, expectation-too-many, no-event-room, no-report-room, no-tree-room, none, Refusals}
@@ -119,12 +119,12 @@ module _ (n : ℕ) (bytes tokens : List ℕ) (b : Buffers) where
   stops-at e p before x f =
       returned (cleared (forward-mark (length (tokens-of tokens)) (refusal-for x)) b) (runs e p (stops (refusal-for x)) (run-stops b (happens e tokens) before x f _ (run-ends b e tokens)))
 
-  finishes : (e : Entry) → Past-4 n bytes tokens e → Each (Allowed b) (happens e tokens) → call n bytes tokens b ≡ finish (to-write e tokens) b
+  finishes : (e : Entry) → Past-4 n bytes tokens e → Each (Allowed b) (happens e tokens) → call n bytes tokens b ≡ delivered (to-write e tokens) b
   unfolding outcome
   finishes e p h = let g : (z : Room) × (scan (pushes (run-entry e (tokens-of tokens))) (room-of b) ≡ fits z) = run-fits b (happens e tokens) h _ (run-ends b e tokens) in runs e p (fits (g .0)) (g .1)
 
   returns : (k p : ℕ) → Cause n bytes tokens b k p → Returned k p
-  unfolding number-of place-of forward-mark finish asked call
+  unfolding number-of place-of forward-mark delivered asked call
   returns k p (unknown-entry h) = returned (untouched R.unknown-entry b) (ap (λ (x : Asked). asked x bytes tokens b) (unknown-eq n h))
   returns k p (over-size e q h) = refuses e q too-long (input-sizes bytes tokens (sizes-broken bytes tokens h))
   returns k p (bad-row e q before t f) = input-3 e q (R.bad-row (length before)) (rows-fail bytes tokens before t f)

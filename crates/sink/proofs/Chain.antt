@@ -9,13 +9,13 @@ use lib.Seq.{drop-drop, getD-drop, drop-at, length-take-le}
 use lib.Dec.{ltb, eqb}
 use borrow.Author.Tests.{ltb-true, eqb-true, lt-ltb, eq-eqb, ne-eqb}
 use Rattle.basics.specs.Word.{low}
-use Rattle.definitions.specs.Layout.{TREE-ROW, EVENT-ROW, EVENT-ARGUMENT, EVENT-DISTANCE, FINISH-NODE, LINKED-START-NODE, TWO-TO-32}
+use Rattle.definitions.specs.Layout.{TREE-ROW, EVENT-ROW, EVENT-TAG, EVENT-ARGUMENT, EVENT-DISTANCE, FINISH-NODE, LINKED-START-NODE, TWO-TO-32}
 use Rattle.definitions.specs.Skeleton.{Skeleton, done, token, name, node, ignored, report, over}
 use Rattle.definitions.specs.Event.{forward, events as events-of}
 use Rattle.definitions.specs.Place.{tree-row}
 use Rattle.machine.specs.Encode.{start-tag, encode}
 use Rattle.sink.specs.Encode.{Alone, Chained}
-use Rattle.sink_rows.specs.Rows.{TAG, put, field, link, linksN, links, open-rows}
+use Rattle.sink_rows.specs.Rows.{put, field, link, linksN, links, open-rows}
 use Rattle.sink.specs.Machine.{on, start-on}
 use Rattle.sink_rows.proofs.Chains.{links-end}
 use Rattle.sink.proofs.Encode.{event-count, events-length, encode-count}
@@ -144,11 +144,11 @@ module _ (events : List ℕ) where
   ev-field i j x e h = rw (lt-ltb i (length events / EVENT-ROW) (ev-inside i x e h)) (sym (getD-drop (i * EVENT-ROW) events j 0) ∙ ap (λ l. getD l j 0) e)
 
   -- an event that is not a linked start
-  pub ev-other : (i : ℕ) (x : List ℕ) → drop (i * EVENT-ROW) events ≡ x → (getD x 0 0 ≡ LINKED-START-NODE → ⊥) → field events i TAG ≡ LINKED-START-NODE → ⊥
+  pub ev-other : (i : ℕ) (x : List ℕ) → drop (i * EVENT-ROW) events ≡ x → (getD x 0 0 ≡ LINKED-START-NODE → ⊥) → field events i EVENT-TAG ≡ LINKED-START-NODE → ⊥
   unfolding field
   ev-other i x e h = go (ltb i (length events / EVENT-ROW))
     where
-      go : (b : Bool) → cond b (getD events (i * EVENT-ROW + TAG) 0) 0 ≡ LINKED-START-NODE → ⊥
+      go : (b : Bool) → cond b (getD events (i * EVENT-ROW + EVENT-TAG) 0) 0 ≡ LINKED-START-NODE → ⊥
       go true g = h (sym (ap (λ l. getD l 0 0) e) ∙ getD-drop (i * EVENT-ROW) events 0 0 ∙ g)
       go false g = let z : _≡_ {A = ℕ} 0 LINKED-START-NODE = g in omega arith
 
@@ -161,24 +161,24 @@ module _ (events : List ℕ) where
 
   -- what a start, linked or not, finds at its link's end
   abbrev Rest : Bool → ℕ → List ℕ → Type 0
-  Rest l j [] = l ≡ true → field events j TAG ≡ LINKED-START-NODE → ⊥
-  Rest l j (k ∷ ks) = (l ≡ true) × ((field events j TAG ≡ LINKED-START-NODE) × Chain j k ks)
+  Rest l j [] = l ≡ true → field events j EVENT-TAG ≡ LINKED-START-NODE → ⊥
+  Rest l j (k ∷ ks) = (l ≡ true) × ((field events j EVENT-TAG ≡ LINKED-START-NODE) × Chain j k ks)
 
-  field-inside : (m : ℕ) → field events m TAG ≡ LINKED-START-NODE → m < length events / EVENT-ROW
+  field-inside : (m : ℕ) → field events m EVENT-TAG ≡ LINKED-START-NODE → m < length events / EVENT-ROW
   unfolding field
   field-inside m h = go (ltb m (length events / EVENT-ROW)) refl h
     where
-      go : (b : Bool) → ltb m (length events / EVENT-ROW) ≡ b → cond b (getD events (m * EVENT-ROW + TAG) 0) 0 ≡ LINKED-START-NODE → m < length events / EVENT-ROW
+      go : (b : Bool) → ltb m (length events / EVENT-ROW) ≡ b → cond b (getD events (m * EVENT-ROW + EVENT-TAG) 0) 0 ≡ LINKED-START-NODE → m < length events / EVENT-ROW
       go true p g = ltb-true m (length events / EVENT-ROW) p
       go false p g = absurd (let z : _≡_ {A = ℕ} 0 LINKED-START-NODE = g in omega arith)
 
   link-inside : (j : ℕ) → 0 < link events j → j + link events j < length events / EVENT-ROW
   unfolding link
-  link-inside j h = go (ltb j (length events / EVENT-ROW)) (eqb (field events (j + getD events (j * EVENT-ROW + EVENT-DISTANCE) 0) TAG) LINKED-START-NODE) refl refl h
+  link-inside j h = go (ltb j (length events / EVENT-ROW)) (eqb (field events (j + getD events (j * EVENT-ROW + EVENT-DISTANCE) 0) EVENT-TAG) LINKED-START-NODE) refl refl h
     where
-      go : (b y : Bool) → ltb j (length events / EVENT-ROW) ≡ b → eqb (field events (j + getD events (j * EVENT-ROW + EVENT-DISTANCE) 0) TAG) LINKED-START-NODE ≡ y
+      go : (b y : Bool) → ltb j (length events / EVENT-ROW) ≡ b → eqb (field events (j + getD events (j * EVENT-ROW + EVENT-DISTANCE) 0) EVENT-TAG) LINKED-START-NODE ≡ y
           → 0 < cond b (cond y (getD events (j * EVENT-ROW + EVENT-DISTANCE) 0) 0) 0 → j + cond b (cond y (getD events (j * EVENT-ROW + EVENT-DISTANCE) 0) 0) 0 < length events / EVENT-ROW
-      go true true p q h = field-inside (j + getD events (j * EVENT-ROW + EVENT-DISTANCE) 0) (eqb-true (field events (j + getD events (j * EVENT-ROW + EVENT-DISTANCE) 0) TAG) LINKED-START-NODE q)
+      go true true p q h = field-inside (j + getD events (j * EVENT-ROW + EVENT-DISTANCE) 0) (eqb-true (field events (j + getD events (j * EVENT-ROW + EVENT-DISTANCE) 0) EVENT-TAG) LINKED-START-NODE q)
       go true false p q h = absurd (omega arith)
       go false y p q h = absurd (omega arith)
 
@@ -194,7 +194,7 @@ module _ (events : List ℕ) where
 
   -- ---------------------------------------------------------------- the links of encoded events
 
-  link-of : (j a k d : ℕ) (x : List ℕ) → drop (j * EVENT-ROW) events ≡ a ∷ k ∷ d ∷ x → link events j ≡ cond (eqb (field events (j + d) TAG) LINKED-START-NODE) d 0
+  link-of : (j a k d : ℕ) (x : List ℕ) → drop (j * EVENT-ROW) events ≡ a ∷ k ∷ d ∷ x → link events j ≡ cond (eqb (field events (j + d) EVENT-TAG) LINKED-START-NODE) d 0
   unfolding link
   link-of j a k d x e =
       let f : getD events (j * EVENT-ROW + EVENT-DISTANCE) 0 ≡ d = sym (getD-drop (j * EVENT-ROW) events 2 0) ∙ ap (λ l. getD l 2 0) e in
@@ -206,10 +206,10 @@ module _ (events : List ℕ) where
 
   -- a start that is linked over n events and its own two
   row-chain : (j a k n : ℕ) (l : Bool) (x ks : List ℕ) → drop (j * EVENT-ROW) events ≡ a ∷ k ∷ forward l (suc (suc n)) ∷ x → Rest l (j + suc (suc n)) ks → Chain j k ks
-  row-chain j a k n true x [] e r = (ev-field j EVENT-ARGUMENT _ e (omega arith), link-of j a k (suc (suc n)) x e ∙ rw (ne-eqb (field events (j + suc (suc n)) TAG) LINKED-START-NODE (r refl)))
-  row-chain j a k n false x [] e r = (ev-field j EVENT-ARGUMENT _ e (omega arith), link-of j a k 0 x e ∙ cond-same (eqb (field events (j + 0) TAG) LINKED-START-NODE) 0)
+  row-chain j a k n true x [] e r = (ev-field j EVENT-ARGUMENT _ e (omega arith), link-of j a k (suc (suc n)) x e ∙ rw (ne-eqb (field events (j + suc (suc n)) EVENT-TAG) LINKED-START-NODE (r refl)))
+  row-chain j a k n false x [] e r = (ev-field j EVENT-ARGUMENT _ e (omega arith), link-of j a k 0 x e ∙ cond-same (eqb (field events (j + 0) EVENT-TAG) LINKED-START-NODE) 0)
   row-chain j a k n true x (y ∷ ks) e r =
-      let g : link events j ≡ suc (suc n) = link-of j a k (suc (suc n)) x e ∙ rw (eq-eqb (field events (j + suc (suc n)) TAG) LINKED-START-NODE (r .1 .0)) in
+      let g : link events j ≡ suc (suc n) = link-of j a k (suc (suc n)) x e ∙ rw (eq-eqb (field events (j + suc (suc n)) EVENT-TAG) LINKED-START-NODE (r .1 .0)) in
       (ev-field j EVENT-ARGUMENT _ e (omega arith), (omega arith, rw g (r .1 .1)))
   row-chain j a k n false x (y ∷ ks) e r = absurd (false≢true (r .0))
 
@@ -226,7 +226,7 @@ module _ (events : List ℕ) where
       let g : drop ((j + event-count p) * EVENT-ROW) events ≡ R = ev-past j (event-count p) (encode true p) R e (encode-count true p) in
       let z : j + event-count p ≡ j + event-count a + suc (suc w) = omega (arith, events-length false i, ap event-count h) in
       chain-of a q w true ((encode false i ++ (FINISH-NODE ∷ 0 ∷ 0 ∷ [])) ++ R) (k ∷ ks) j (c .0) (c .1 .0) e′
-      (subst (λ y. Rest true y (k ∷ ks)) z (refl, (ev-field (j + event-count p) TAG R g (omega arith), row-chain (j + event-count p) 6 k n l x ks g r)))
+      (subst (λ y. Rest true y (k ∷ ks)) z (refl, (ev-field (j + event-count p) EVENT-TAG R g (omega arith), row-chain (j + event-count p) 6 k n l x ks g r)))
   chain-of (token t m o) k n l x ks j h c e r = absurd h
   chain-of (name ts m o) k n l x ks j h c e r = absurd h
   chain-of (ignored m m′ a i o) k n l x ks j h c e r = absurd h
@@ -288,7 +288,7 @@ module _ (events : List ℕ) where
 
   -- the nodes of a
   pub start-runs : (a : Skeleton) (k n : ℕ) (l : Bool) (x : List ℕ) (j : ℕ) (s : Filled) → Alone a → Chained a
-      → drop (j * EVENT-ROW) events ≡ encode true a ++ (start-tag a ∷ k ∷ forward l (suc (suc n)) ∷ x) → (l ≡ true → field events (j + event-count a + suc (suc n)) TAG ≡ LINKED-START-NODE → ⊥)
+      → drop (j * EVENT-ROW) events ≡ encode true a ++ (start-tag a ∷ k ∷ forward l (suc (suc n)) ∷ x) → (l ≡ true → field events (j + event-count a + suc (suc n)) EVENT-TAG ≡ LINKED-START-NODE → ⊥)
       → length (s .written) ≡ s .rows * TREE-ROW → (depth a + 1) * TREE-ROW ≤ length (s .free) → s .rows + depth a + 1 < TWO-TO-32
       → start-on events j (state s) ≡ state (opened a (inside k s))
   start-runs a k n l x j s h c e r w f sm =

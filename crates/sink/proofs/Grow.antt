@@ -12,7 +12,7 @@ use Rattle.definitions.specs.Layout.{TREE-ROW, LEAF, TWO-TO-32}
 use Rattle.definitions.specs.Token.{Token, byte-count}
 use Rattle.definitions.specs.Place.{Tree, nil, leaf, _⊕_, width, count, rows, tree-row}
 use Rattle.laws.proofs.Tree.{rows-beside, width-beside, count-beside}
-use Rattle.sink_rows.specs.Rows.{put, number}
+use Rattle.sink_rows.specs.Rows.{put, tree-field}
 use Rattle.sink.specs.Machine.{On, on, moved, leaf-on}
 use Rattle.laws.proofs.Decode.{row-count, rows-length}
 use Rattle.sink.proofs.Trees.{raw, raw-beside, row-count-beside, rows-add}
@@ -70,7 +70,7 @@ grow-nil s =
     let r : s .children + 0 ≡ s .children = omega arith in
     rw (p, q, n, r, append-nil (s .written))
 
--- A forest fits, and no number in it is too large. What is written are whole rows.
+-- A forest fits, and no tree-field in it is too large. What is written are whole rows.
 pub record Fits (f : Tree) (s : Filled) : Type 0 where
   pub free : length (rows f) ≤ length (s .free)
   pub whole : length (s .written) ≡ s .rows * TREE-ROW
@@ -113,9 +113,9 @@ put-seam row t r x e n h =
     rw (le-leb (at + TREE-ROW) (length (t ++ x)) fits)
     (sets-eq r (t ++ x) at (rw n fits) ∙ rw (n, rest, take-at t x at e, append-assoc t r (drop TREE-ROW x)))
 
-pub number-seam : (row j : ℕ) (t x : List ℕ) → length t ≡ row * TREE-ROW → TREE-ROW ≤ length x → number row j (t ++ x) ≡ getD x j 0
-unfolding number
-number-seam row j t x e h =
+pub field-seam : (row j : ℕ) (t x : List ℕ) → length t ≡ row * TREE-ROW → TREE-ROW ≤ length x → tree-field row j (t ++ x) ≡ getD x j 0
+unfolding tree-field
+field-seam row j t x e h =
     let fits : row * TREE-ROW + TREE-ROW ≤ length (t ++ x) = omega (arith, length-append t x) in
     rw (le-leb (row * TREE-ROW + TREE-ROW) (length (t ++ x)) fits) (rw (← e) (getD-append-add t x j 0))
 

@@ -9,7 +9,7 @@ use lib.Seq.{drop-drop, drop-length, length-take-le, take-all}
 use lib.Dec.{leb}
 use borrow.Author.Tests.{leb-true}
 use Rattle.basics.proofs.Flags.{flags}
-use Rattle.definitions.specs.Layout.{TREE-ROW, EVENT-ROW, EVENT-ARGUMENT, PLACEHOLDER, ADD-TOKEN, ADD-COMBINED-TOKEN, FINISH-NODE, ERROR, LINKED-START-NODE, TWO-TO-32}
+use Rattle.definitions.specs.Layout.{TREE-ROW, EVENT-ROW, EVENT-TAG, EVENT-ARGUMENT, PLACEHOLDER, ADD-TOKEN, ADD-COMBINED-TOKEN, FINISH-NODE, ERROR, LINKED-START-NODE, TWO-TO-32}
 use Rattle.definitions.specs.TokenKind as K
 use Rattle.definitions.specs.Token.{Token, trivia, drop-trivia, past}
 use Rattle.definitions.specs.Skeleton.{Skeleton, done, token, name, node, ignored, report, over}
@@ -18,7 +18,7 @@ use Rattle.definitions.specs.Place.{Tree, nil, leaf, subtree, _⊕_, lead, fron
 use Rattle.laws.proofs.Trivia.{Solid, dropped-solid, drop-twice}
 use Rattle.machine.specs.Encode.{start-tag, encode}
 use Rattle.sink.specs.Encode.{event-row, Alone, Chained}
-use Rattle.sink_rows.specs.Rows.{TAG, field}
+use Rattle.sink_rows.specs.Rows.{field}
 use Rattle.sink.specs.Machine.{On, on, token-on, trivia-on, combined-on, start-on, finish-on, event-on, eventsN}
 use Rattle.sink.proofs.Encode.{event-count, events-length, encode-count}
 use Rattle.laws.proofs.Decode.{row-count, rows-length}
@@ -126,8 +126,8 @@ module _ (tokens events : List ℕ) (small : length tokens < TWO-TO-32) where
   -- ---------------------------------------------------------------- what each event does
 
   module _ (i tag a b : ℕ) (x : List ℕ) (e : drop (i * EVENT-ROW) events ≡ tag ∷ a ∷ b ∷ x) where
-    tag-is : field events i TAG ≡ tag
-    tag-is = ev-field events i TAG (tag ∷ a ∷ b ∷ x) e (omega arith)
+    tag-is : field events i EVENT-TAG ≡ tag
+    tag-is = ev-field events i EVENT-TAG (tag ∷ a ∷ b ∷ x) e (omega arith)
 
     arg-is : field events i EVENT-ARGUMENT ≡ a
     arg-is = ev-field events i EVENT-ARGUMENT (tag ∷ a ∷ b ∷ x) e (omega arith)
@@ -159,7 +159,7 @@ module _ (tokens events : List ℕ) (small : length tokens < TWO-TO-32) where
     ev-next : drop ((i + 1) * EVENT-ROW) events ≡ x
     ev-next = ev-past events i 1 (tag ∷ a ∷ b ∷ []) x e refl
 
-  ev-start : (i : ℕ) (q : On) → field events i TAG ≡ 1 → event-on tokens events i q ≡ start-on events i (trivia-on tokens q)
+  ev-start : (i : ℕ) (q : On) → field events i EVENT-TAG ≡ 1 → event-on tokens events i q ≡ start-on events i (trivia-on tokens q)
   unfolding event-on
   ev-start i q t = rw t
 
@@ -281,7 +281,7 @@ module _ (tokens events : List ℕ) (small : length tokens < TWO-TO-32) where
       let w = length (events-of false i) in
       let y : List ℕ = start-tag a ∷ k ∷ far l i ∷ (encode false i ++ (FINISH-NODE ∷ 0 ∷ 0 ∷ x)) in
       let ly : length (encode true a ++ y) ≡ length (encode true a) + length y = length-append (encode true a) y in
-      let t : field events j TAG ≡ 1 = ev-field events j TAG (encode true a ++ y) e (omega arith) ∙ chain-first a k (far l i) (encode false i ++ (FINISH-NODE ∷ 0 ∷ 0 ∷ x)) al ca in
+      let t : field events j EVENT-TAG ≡ 1 = ev-field events j EVENT-TAG (encode true a ++ y) e (omega arith) ∙ chain-first a k (far l i) (encode false i ++ (FINISH-NODE ∷ 0 ∷ 0 ∷ x)) al ca in
       let z : List ℕ = start-tag a ∷ k ∷ far l i ∷ (encode false i ++ (FINISH-NODE ∷ 0 ∷ 0 ∷ [])) in
       let ye : y ≡ z ++ x = ap (λ q. start-tag a ∷ k ∷ far l i ∷ q) (sym (append-assoc (encode false i) (FINISH-NODE ∷ 0 ∷ 0 ∷ []) x)) in
       let e1 : drop ((j + event-count a) * EVENT-ROW) events ≡ z ++ x = ev-past events j (event-count a) (encode true a) y e (encode-count true a) ∙ ye in

@@ -6,8 +6,8 @@ use mathlib.Core.Bool.{Bool, true, false, cond}
 use lib.ListN.{length}
 use lib.Dec.{ltb, eqb}
 use Rattle.basics.specs.Word.{low}
-use Rattle.definitions.specs.Layout.{TOKEN-ROW, EVENT-ROW, EVENT-ARGUMENT, START-NODE, ADD-TOKEN, ADD-COMBINED-TOKEN, FINISH-NODE}
-use Rattle.sink_rows.specs.Rows.{TAG, field, links}
+use Rattle.definitions.specs.Layout.{TOKEN-ROW, EVENT-ROW, EVENT-TAG, EVENT-ARGUMENT, START-NODE, ADD-TOKEN, ADD-COMBINED-TOKEN, FINISH-NODE}
+use Rattle.sink_rows.specs.Rows.{field, links}
 use Rattle.sink_tokens.specs.Tokens.{at-most, trivia-here}
 use Rattle.sink.specs.Machine.{On, on, sink-of, moved, leaf-on, token-on, triviaN, trivia-on, combined-on, start-on, finish-on, event-on, eventsN, root-on, events-on}
 
@@ -67,10 +67,10 @@ module _ (tokens : List ℕ) where
   unfolding event-on
   like-event events i x y h =
       let t : Like (trivia-on tokens x) (trivia-on tokens y) = like-trivia x y h in
-      like-cond (eqb (field events i TAG) START-NODE) _ _ _ _ (like-start events i (trivia-on tokens x) (trivia-on tokens y) t)
-      (like-cond (eqb (field events i TAG) ADD-TOKEN) _ _ _ _ (like-token (trivia-on tokens x) (trivia-on tokens y) t)
-      (like-cond (eqb (field events i TAG) ADD-COMBINED-TOKEN) _ _ _ _ (like-combined (field events i EVENT-ARGUMENT) (trivia-on tokens x) (trivia-on tokens y) t)
-      (like-cond (eqb (field events i TAG) FINISH-NODE) _ _ _ _ (like-finish x y h) h)))
+      like-cond (eqb (field events i EVENT-TAG) START-NODE) _ _ _ _ (like-start events i (trivia-on tokens x) (trivia-on tokens y) t)
+      (like-cond (eqb (field events i EVENT-TAG) ADD-TOKEN) _ _ _ _ (like-token (trivia-on tokens x) (trivia-on tokens y) t)
+      (like-cond (eqb (field events i EVENT-TAG) ADD-COMBINED-TOKEN) _ _ _ _ (like-combined (field events i EVENT-ARGUMENT) (trivia-on tokens x) (trivia-on tokens y) t)
+      (like-cond (eqb (field events i EVENT-TAG) FINISH-NODE) _ _ _ _ (like-finish x y h) h)))
 
   like-events : (n : ℕ) (events : List ℕ) (i : ℕ) (x y : On) → Like x y → Like (eventsN n tokens events i x) (eventsN n tokens events i y)
   unfolding eventsN

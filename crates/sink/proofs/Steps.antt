@@ -22,7 +22,7 @@ use Rattle.sink.specs.Machine.{on, sink-of, trivia-on, token-on, combine
 use Rattle.sink.proofs.Loops.{trivia-more, trivia-done}
 use Rattle.laws.proofs.Decode.{row-count}
 use Rattle.sink.proofs.Trees.{raw}
-use Rattle.sink.proofs.Grow.{Filled, state, grow, grow-grow, grow-nil, Fits, fits-front, fits-back, low-small, put-seam, number-seam, leaf-runs}
+use Rattle.sink.proofs.Grow.{Filled, state, grow, grow-grow, grow-nil, Fits, fits-front, fits-back, low-small, put-seam, field-seam, leaf-runs}
 
 -- ---------------------------------------------------------------- token rows
 
@@ -220,10 +220,10 @@ finish-runs k f s r =
     let m : s .rows + 1 + row-count f ≡ s .rows + suc (row-count f + 0) = omega arith in
     rw (
       t,
-      number-seam (s .rows) PARENT T (o ++ Z) (r .whole) (omega arith),
-      number-seam (s .rows) KIND T (o ++ Z) (r .whole) (omega arith),
-      number-seam (s .rows) FIRST-BYTE T (o ++ Z) (r .whole) (omega arith),
-      number-seam (s .rows) CHILDREN-BEFORE T (o ++ Z) (r .whole) (omega arith),
+      field-seam (s .rows) PARENT T (o ++ Z) (r .whole) (omega arith),
+      field-seam (s .rows) KIND T (o ++ Z) (r .whole) (omega arith),
+      field-seam (s .rows) FIRST-BYTE T (o ++ Z) (r .whole) (omega arith),
+      field-seam (s .rows) CHILDREN-BEFORE T (o ++ Z) (r .whole) (omega arith),
       w,
       n,
       put-seam (s .rows) T c (o ++ Z) (r .whole) refl (omega arith),

@@ -6,10 +6,10 @@ use mathlib.Core.List.{List, []}
 use lib.ListN.{length, getD}
 use lib.Dec.{ltb, leb, eqb}
 use Rattle.basics.specs.Word.{low}
-use Rattle.definitions.specs.Layout.{TOKEN-ROW, TOKEN-LENGTH, TREE-ROW, NODE, LEAF, EVENT-ROW, EVENT-ARGUMENT, ERROR-ROW, START-NODE, ADD-TOKEN, ADD-COMBINED-TOKEN, FINISH-NODE}
+use Rattle.definitions.specs.Layout.{TOKEN-ROW, TOKEN-LENGTH, TREE-ROW, NODE, LEAF, EVENT-ROW, EVENT-TAG, EVENT-ARGUMENT, ERROR-ROW, START-NODE, ADD-TOKEN, ADD-COMBINED-TOKEN, FINISH-NODE}
 use Rattle.definitions.specs.Place.{tree-row}
 use Rattle.definitions.specs.TokenKind as K
-use Rattle.sink_rows.specs.Rows.{PARENT, KIND, FIRST-BYTE, CHILDREN-BEFORE, put, number, TAG, field, links, open-rows}
+use Rattle.sink_rows.specs.Rows.{PARENT, KIND, FIRST-BYTE, CHILDREN-BEFORE, put, tree-field, field, links, open-rows}
 use Rattle.sink_tokens.specs.Tokens.{kind-seen, trivia-here, at-most, widthN, Log, log, errors-on}
 use Rattle.sink.specs.declared.Sink.{Sink}
 use Rattle.sink.specs.declared.Sunk.{Sunk}
@@ -63,15 +63,15 @@ start-on events i (on s t) =
     (open-rows n events i (s .rows) (s .byte) (s .node) (s .children) t)
 
 unfoldable pub finish-on : On → On
-unfolding put number
+unfolding put tree-field
 finish-on (on s t) =
-    on (record { cursor = s .cursor; byte = s .byte; rows = s .rows; node = number (s .node) PARENT t; children = low (number (s .node) CHILDREN-BEFORE t + 1) })
-    (put (s .node) (tree-row NODE (number (s .node) KIND t) (s .byte - number (s .node) FIRST-BYTE t) (s .children) []) t)
+    on (record { cursor = s .cursor; byte = s .byte; rows = s .rows; node = tree-field (s .node) PARENT t; children = low (tree-field (s .node) CHILDREN-BEFORE t + 1) })
+    (put (s .node) (tree-row NODE (tree-field (s .node) KIND t) (s .byte - tree-field (s .node) FIRST-BYTE t) (s .children) []) t)
 
 unfoldable pub event-on : List ℕ → List ℕ → ℕ → On → On
 unfolding field trivia-on start-on token-on combined-on finish-on
 event-on tokens events i x =
-    let tag = field events i TAG in
+    let tag = field events i EVENT-TAG in
     cond (eqb tag START-NODE) (start-on events i (trivia-on tokens x))
     (cond (eqb tag ADD-TOKEN) (token-on tokens (trivia-on tokens x))
     (cond (eqb tag ADD-COMBINED-TOKEN) (combined-on tokens (field events i EVENT-ARGUMENT) (trivia-on tokens x))

@@ -53,8 +53,8 @@ fn token(s: Sink, tokens: &[u32], trees: &mut [u32]) -> Sink
     ensures { λ r. ⌜ length (now (tokens .entry)) / TOKEN-ROW - r .cursor ≤ length (now (tokens .entry)) / TOKEN-ROW - s .cursor - 1 ⌝ }
 {
     let at = s.cursor;
-    let inside = at < tokens.len() / row::TOKEN_ROW;
-    if inside {
+    let exists = at < tokens.len() / row::TOKEN_ROW;
+    if exists {
         let kind = token_row::leaf_kind(tokens[at * row::TOKEN_ROW]);
         let width = tokens[at * row::TOKEN_ROW + row::TOKEN_LENGTH];
         let mut q = s;
@@ -111,16 +111,16 @@ fn finish_node(s: Sink, trees: &mut [u32]) -> Sink
         ≡ finish-on (on s (now (trees .entry))) ⌝ }
 {
     let node = s.node;
-    let parent = tree_row::number(trees, node, tree_row::PARENT);
-    let kind = tree_row::number(trees, node, tree_row::KIND);
-    let first = tree_row::number(trees, node, tree_row::FIRST_BYTE);
-    let children = tree_row::number(trees, node, tree_row::CHILDREN_BEFORE);
+    let parent = tree_row::field(trees, node, tree_row::PARENT);
+    let kind = tree_row::field(trees, node, tree_row::KIND);
+    let first = tree_row::field(trees, node, tree_row::FIRST_BYTE);
+    let children = tree_row::field(trees, node, tree_row::CHILDREN_BEFORE);
     tree_row::write_row(
         trees,
         node,
         row::NODE,
         kind,
-        word::less(s.byte, first),
+        word::minus(s.byte, first),
         s.children,
     );
     let mut q = s;
@@ -134,7 +134,7 @@ fn one_event(s: Sink, tokens: &[u32], events: &[u32], trees: &mut [u32], i: usiz
     ensures { λ r. ⌜ on r (now (trees .exit))
         ≡ event-on (now (tokens .entry)) (now (events .entry)) i (on s (now (trees .entry))) ⌝ }
 {
-    let tag = event_row::field(events, i, event_row::TAG);
+    let tag = event_row::field(events, i, row::EVENT_TAG);
     let starts = tag == event_tag::START_NODE;
     if starts {
         let q = eat_trivia(s, tokens, trees);

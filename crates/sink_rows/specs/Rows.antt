@@ -7,7 +7,7 @@ use lib.ListN.{length, getD}
 use lib.Seq.{sets}
 use lib.Dec.{ltb, leb, eqb}
 use Rattle.basics.specs.Word.{low}
-use Rattle.definitions.specs.Layout.{TREE-ROW, TREE-KIND, TREE-WIDTH, TREE-COUNT, EVENT-ROW, EVENT-ARGUMENT, EVENT-DISTANCE, LINKED-START-NODE}
+use Rattle.definitions.specs.Layout.{TREE-ROW, TREE-KIND, TREE-WIDTH, TREE-COUNT, EVENT-ROW, EVENT-TAG, EVENT-ARGUMENT, EVENT-DISTANCE, LINKED-START-NODE}
 use Rattle.definitions.specs.Place.{tree-row}
 
 -- ---------------------------------------------------------------- tree rows
@@ -17,8 +17,8 @@ unfoldable pub put : ℕ → List ℕ → List ℕ → List ℕ
 put row r trees = cond (leb (row * TREE-ROW + TREE-ROW) (length trees)) (sets trees (row * TREE-ROW) r) trees
 
 -- a number of a row; 0 where the row does not fit
-unfoldable pub number : ℕ → ℕ → List ℕ → ℕ
-number row j trees = cond (leb (row * TREE-ROW + TREE-ROW) (length trees)) (getD trees (row * TREE-ROW + j) 0) 0
+unfoldable pub tree-field : ℕ → ℕ → List ℕ → ℕ
+tree-field row j trees = cond (leb (row * TREE-ROW + TREE-ROW) (length trees)) (getD trees (row * TREE-ROW + j) 0) 0
 
 -- the numbers of an open row: its parent's row, its kind, its first byte, and how many children its parent had before it.
 -- Those of the finished row take their places.
@@ -36,10 +36,6 @@ CHILDREN-BEFORE = TREE-COUNT
 
 -- ---------------------------------------------------------------- event rows
 
--- the number that a row starts with
-abbrev pub TAG : ℕ
-TAG = 0
-
 unfoldable pub field : List ℕ → ℕ → ℕ → ℕ
 field events j k = cond (ltb j (length events / EVENT-ROW)) (getD events (j * EVENT-ROW + k) 0) 0
 
@@ -47,7 +43,7 @@ unfoldable pub link : List ℕ → ℕ → ℕ
 unfolding field
 link events j =
     let d = getD events (j * EVENT-ROW + EVENT-DISTANCE) 0 in
-    cond (ltb j (length events / EVENT-ROW)) (cond (eqb (field events (j + d) TAG) LINKED-START-NODE) d 0) 0
+    cond (ltb j (length events / EVENT-ROW)) (cond (eqb (field events (j + d) EVENT-TAG) LINKED-START-NODE) d 0) 0
 
 -- at most n links
 unfoldable pub linksN : ℕ → List ℕ → ℕ → ℕ

@@ -2,15 +2,13 @@
 use layout::event_tag::LINKED_START_NODE;
 use layout::row::EVENT_DISTANCE;
 use layout::row::EVENT_ROW;
+use layout::row::EVENT_TAG;
 use layout::word;
 ghost use mathlib.Core.Path.{_≡_};
 ghost use Prim.Native.Nat.{ℕ, _-_, _/_, _≤_, _<_};
 ghost use lib.ListN.{length};
 ghost use Rattle.definitions.specs.Layout.{EVENT-ROW};
 ghost use Rattle.sink_rows.specs.Rows.{field as fieldOf, link as linkOf, links as linksOf};
-
-// The number that a row starts with: its tag.
-pub const TAG: usize = 0;
 
 // A number of an event's row; 0 past the end.
 pub fn field(events: &[u32], j: usize, k: usize) -> u32
@@ -30,7 +28,7 @@ pub fn link(events: &[u32], j: usize) -> usize
     let inside = j < events.len() / EVENT_ROW;
     if inside {
         let d = word::wide(events[j * EVENT_ROW + EVENT_DISTANCE]);
-        let linked = field(events, j + d, TAG) == LINKED_START_NODE;
+        let linked = field(events, j + d, EVENT_TAG) == LINKED_START_NODE;
         if linked { d } else { 0 }
     } else {
         0

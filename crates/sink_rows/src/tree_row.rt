@@ -14,7 +14,7 @@ ghost use lib.Dec.{leb};
 ghost use lib.ListN.{length};
 ghost use Rattle.definitions.specs.Layout.{TREE-ROW};
 ghost use Rattle.definitions.specs.Place.{tree-row};
-ghost use Rattle.sink_rows.specs.Rows.{put, number as numberOf, open-rows};
+ghost use Rattle.sink_rows.specs.Rows.{put, tree-field, open-rows};
 
 // The numbers of an open row. Those of the finished row take their places.
 pub const PARENT: usize = 0;
@@ -46,14 +46,14 @@ pub fn write_row(trees: &mut [u32], row: u32, class: u32, kind: u32, width: u32,
     }
 }
 
-// A number of a row; 0 where the row does not fit. Of a row that fits in part nothing was written, so nothing is read.
-pub fn number(trees: &[u32], row: u32, field: usize) -> u32
-    requires { ⌜ field < TREE-ROW ⌝ }
-    ensures { λ r. ⌜ r ≡ numberOf row field (now (trees .entry)) ⌝ }
+// A number of a row; 0 where the row does not fit whole: then nothing of it was written, and nothing is read.
+pub fn field(trees: &[u32], row: u32, column: usize) -> u32
+    requires { ⌜ column < TREE-ROW ⌝ }
+    ensures { λ r. ⌜ r ≡ tree-field row column (now (trees .entry)) ⌝ }
 {
     let index = word::wide(row) * TREE_ROW;
     let enough = index + TREE_ROW <= trees.len();
-    if enough { trees[index + field] } else { 0 }
+    if enough { trees[index + column] } else { 0 }
 }
 
 // The open rows of a chain of n links whose innermost start is event i. The outermost node's is `first`.

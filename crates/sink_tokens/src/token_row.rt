@@ -22,8 +22,8 @@ pub fn leaf_kind(kind: u32) -> u32
 pub fn trivia_at(tokens: &[u32], at: usize) -> bool
     ensures { λ r. ⌜ r ≡ trivia-here (now (tokens .entry)) at ⌝ }
 {
-    let inside = at < tokens.len() / TOKEN_ROW;
-    if inside {
+    let exists = at < tokens.len() / TOKEN_ROW;
+    if exists {
         row_kind::is_trivia(tokens[at * TOKEN_ROW])
     } else {
         false
@@ -34,8 +34,8 @@ pub fn trivia_at(tokens: &[u32], at: usize) -> bool
 pub fn count_from(tokens: &[u32], at: usize) -> usize
     ensures { λ r. ⌜ r ≡ length (now (tokens .entry)) / TOKEN-ROW - at ⌝ }
 {
-    let inside = at <= tokens.len() / TOKEN_ROW;
-    if inside {
+    let exists = at <= tokens.len() / TOKEN_ROW;
+    if exists {
         tokens.len() / TOKEN_ROW - at
     } else {
         0

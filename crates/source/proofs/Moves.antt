@@ -12,7 +12,7 @@ use Rattle.laws.proofs.Trivia.{drop-trivia-length}
 use Rattle.machine.specs.Machine.{Machine, passed, skip, peek}
 use Rattle.token_rows.specs.Tokens.{kind-of}
 use Rattle.parser.specs.View.{take-first}
-use Rattle.source.specs.Place.{onto, after-trivia, after-token}
+use Rattle.source.specs.Cursor.{start-of, after-trivia, after-token}
 
 past-length : (l : List Token) → length (past l) ≤ length l
 past-length [] = zero-le
@@ -43,7 +43,7 @@ pub left-past-trivia : (ts : List Token) (at : ℕ) → drop (after-trivia ts at
 left-past-trivia ts at = drop-more at (length (drop at ts) - length (drop-trivia (drop at ts))) ts ∙ drop-run (drop at ts)
 
 -- how the two moves add up
-join : (ts l : List Token) (at : ℕ) → l ≡ drop-trivia (drop at ts) → onto ts at l + (length l - length (past l)) ≡ onto ts at (past l)
+join : (ts l : List Token) (at : ℕ) → l ≡ drop-trivia (drop at ts) → start-of ts at l + (length l - length (past l)) ≡ start-of ts at (past l)
 join ts l at e = let h : length l ≤ length (drop at ts) = rw e (drop-trivia-length (drop at ts)) in let g = past-length l in omega (arith, h, g)
 
 pub left-past-token : (ts : List Token) (at : ℕ) → drop (after-token ts at) ts ≡ past (drop-trivia (drop at ts))

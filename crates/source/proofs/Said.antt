@@ -18,7 +18,7 @@ use denote.Triple.Clauses.{ensured, lasts}
 use Rattle.definitions.specs.Token.{tokens-of, drop-trivia}
 use Rattle.layout.specs.declared.TokenIndex.{TokenIndex}
 use Rattle.token_rows.specs.Tokens.{kind-of}
-use Rattle.source.specs.Place.{after-trivia, after-token}
+use Rattle.source.specs.Cursor.{after-trivia, after-token}
 use Rattle.source.specs.declared.Source.{Source}
 use Rattle.source.proofs.Moves.{sees}
 use Rattle.source.proofs.Source.new as new

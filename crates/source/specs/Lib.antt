@@ -1,2 +1,2 @@
--- The places to which a view's cursor moves.
-pub mod Place
+-- Where the cursor of a `Source` moves.
+pub mod Cursor

@@ -1,14 +1,15 @@
-// What a view sees along token rows. Document 01 says: "Trivia are Whitespace, LineComment and BlockComment; an error token
+// What a `Source` sees along token rows. Document 01 says: "Trivia are Whitespace, LineComment and BlockComment; an error token
 // never is. Peeking moves the cursor past trivia; immediate peeking reads at the cursor and moves nothing."
-// So each line of stdout is a place, the kind of its row, the kind of the first row from there on that is not 0, 3 or 1, and
-// the place after that row. Past the last row the kind is 64, and an error token is seen as Unrecognized, 25.
+// So each line of stdout is a token index, the kind of its row, the kind of the first row from there on that is not trivia
+// (0, 1, 3), and the index after that row. Past the last row the kind is 64, and an error token is seen as Unrecognized, 25.
 use cases::show;
 use cases::show::number;
 use layout::TokenIndex;
 use layout::row::TOKEN_ROW;
+use parser::event::PAST_THE_END;
 use source::look;
 
-fn place(tokens: &[u32], at: usize) {
+fn seen_from(tokens: &[u32], at: usize) {
     let s = look(tokens, TokenIndex(at));
     number(at as u64);
     number(s.immediate as u64);
@@ -17,23 +18,23 @@ fn place(tokens: &[u32], at: usize) {
     show::line_end();
 }
 
-fn places(tokens: &[u32], n: usize) {
+fn seen_up_to(tokens: &[u32], n: usize) {
     let mut i: usize = 0;
     while i < n {
-        place(tokens, i);
+        seen_from(tokens, i);
         i += 1;
     }
 }
 
-// Every place, the end with it.
+// From every token index, the end included.
 fn along(name: &[u8], tokens: &[u32]) {
     show::text(name);
     show::line_end();
-    places(tokens, tokens.len() / TOKEN_ROW + 1);
+    seen_up_to(tokens, tokens.len() / TOKEN_ROW + 1);
 }
 
 fn texts() {
-    // At place 1 the test for a colon sees the AtSign, 32, past the blank: no report. An immediate one sees the blank.
+    // At index 1 the test for a colon sees the AtSign, 32, past the blank: no report. An immediate one sees the blank.
     along(
         b"a @1 {};",
         &[27, 1, 0, 1, 32, 1, 35, 1, 0, 1, 37, 1, 38, 1, 29, 1],
@@ -50,7 +51,7 @@ fn edges() {
     along(b"error tokens", &[64, 1, 0, 1, 74, 1]);
     along(b"trivia", &[0, 1, 1, 4, 3, 2]);
     along(b"nothing", &[]);
-    place(&[27, 1], 18446744073709551615);
+    seen_from(&[27, 1], PAST_THE_END);
 }
 
 fn main() {

@@ -29,8 +29,8 @@ use Rattle.parser.specs.declared.ParserAnswered.{ParserAnswered}
 use Rattle.parser.specs.declared.Ans.{Ans as CodeAns}
 use Rattle.parser.specs.declared.Ans.the-variants as A
 use Rattle.parser.proofs.Ans.{the-type}
-use Rattle.parser.specs.View.{view, view-of, parser-tested, ans-of, Starting, by-answer, starting}
-use Rattle.steps.specs.View.{state-answered, parser-answered, goes, found}
+use Rattle.parser.specs.View.{view, parser-view, parser-tested, ans-of, Starting, by-answer, starting}
+use Rattle.steps.specs.View.{state-answered, parser-answered, took-if-again, took-unless-no}
 use Rattle.machine.proofs.Way.{Way, Closes, c-case}
 
 module _ {ask : Rule → Machine → Walked} {ts : List Token} {b : Span} where
@@ -113,10 +113,10 @@ first-some ks (t ∷ l) e = omega arith
 
 -- `answered`
 pub answered-is : (r : ParserAnswered) (k : ParserTested) (events reports pool : List ℕ) → r .p ≡ k .p → ans-of (r .ans) ≡ truth (k .yes) → parser-answered r events reports pool ≡ parser-tested k events reports pool
-answered-is r k events reports pool e f = ap (λ p. said (ans-of (r .ans)) (view-of p events reports pool)) e ∙ ap (λ (a : Ans). said a (view-of (k .p) events reports pool)) f
+answered-is r k events reports pool e f = ap (λ p. said (ans-of (r .ans)) (parser-view p events reports pool)) e ∙ ap (λ (a : Ans). said a (parser-view (k .p) events reports pool)) f
 
-pub answered-yes : (r : ParserAnswered) (k : ParserTested) (events reports pool : List ℕ) → r .p ≡ k .p → ans-of (r .ans) ≡ truth (k .yes) → k .yes ≡ true → parser-answered r events reports pool ≡ said yes (view-of (k .p) events reports pool)
-answered-yes r k events reports pool e f h = answered-is r k events reports pool e f ∙ ap (λ (t : Bool). said (truth t) (view-of (k .p) events reports pool)) h
+pub answered-yes : (r : ParserAnswered) (k : ParserTested) (events reports pool : List ℕ) → r .p ≡ k .p → ans-of (r .ans) ≡ truth (k .yes) → k .yes ≡ true → parser-answered r events reports pool ≡ said yes (parser-view (k .p) events reports pool)
+answered-yes r k events reports pool e f h = answered-is r k events reports pool e f ∙ ap (λ (t : Bool). said (truth t) (parser-view (k .p) events reports pool)) h
 
 -- what the last arm of a match is told where the others are for `Again`
 pub other-ends : (a : CodeAns) → OneOf (0 ∷ 1 ∷ 2 ∷ []) (tagOf the-type a) → is-again (ans-of a) ≡ false
@@ -132,17 +132,17 @@ other-ends A.Again h = absurd (none h)
     none (inr (inr i)) = omega (arith, i)
 
 -- at most one token is sure
-pub goes-one : (a : CodeAns) → goes a ≤ 1
-goes-one A.No = omega arith
-goes-one A.Yes = omega arith
-goes-one A.Also = omega arith
-goes-one A.Again = omega arith
+pub again-one : (a : CodeAns) → took-if-again a ≤ 1
+again-one A.No = omega arith
+again-one A.Yes = omega arith
+again-one A.Also = omega arith
+again-one A.Again = omega arith
 
-pub found-one : (a : CodeAns) → found a ≤ 1
-found-one A.No = omega arith
-found-one A.Yes = omega arith
-found-one A.Also = omega arith
-found-one A.Again = omega arith
+pub unless-no-one : (a : CodeAns) → took-unless-no a ≤ 1
+unless-no-one A.No = omega arith
+unless-no-one A.Yes = omega arith
+unless-no-one A.Also = omega arith
+unless-no-one A.Again = omega arith
 
 -- ---------------------------------------------------------------- a test's own result returned
 

@@ -4,7 +4,7 @@ use mathlib.Core.Bool.{Bool, true, false}
 use mathlib.Core.List.{List}
 use Rattle.definitions.specs.Prog.{Ans, yes, also}
 use Rattle.machine.specs.Walk.{Walked, said}
-use Rattle.parser.specs.View.{view, view-of, ans-of}
+use Rattle.parser.specs.View.{view, parser-view, ans-of}
 use Rattle.parser.specs.declared.StateAnswered.{StateAnswered}
 use Rattle.parser.specs.declared.ParserAnswered.{ParserAnswered}
 use Rattle.parser.specs.declared.Ans.{Ans as CodeAns}
@@ -16,7 +16,7 @@ state-answered r codes events reports pool = said (ans-of (r .ans)) (view (r .s)
 
 -- the same of the whole parser
 abbrev pub parser-answered : ParserAnswered → List ℕ → List ℕ → List ℕ → Walked
-parser-answered r events reports pool = said (ans-of (r .ans)) (view-of (r .p) events reports pool)
+parser-answered r events reports pool = said (ans-of (r .ans)) (parser-view (r .p) events reports pool)
 
 -- the answer at a node's or property's own name, by `allow_prop`
 abbrev pub own-name : Bool → Ans
@@ -24,15 +24,15 @@ own-name true = also
 own-name false = yes
 
 -- how many tokens were surely taken where a function answers so: one for `Again`
-abbrev pub goes : CodeAns → ℕ
-goes No = 0
-goes Yes = 0
-goes Also = 0
-goes Again = 1
+abbrev pub took-if-again : CodeAns → ℕ
+took-if-again No = 0
+took-if-again Yes = 0
+took-if-again Also = 0
+took-if-again Again = 1
 
 -- the same: one for any answer but `No`
-abbrev pub found : CodeAns → ℕ
-found No = 0
-found Yes = 1
-found Also = 1
-found Again = 1
+abbrev pub took-unless-no : CodeAns → ℕ
+took-unless-no No = 0
+took-unless-no Yes = 1
+took-unless-no Also = 1
+took-unless-no Again = 1

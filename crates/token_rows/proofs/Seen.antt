@@ -15,7 +15,7 @@ use Rattle.definitions.specs.TokenKind as K
 use Rattle.definitions.specs.LexError as L
 use Rattle.definitions.specs.Token.{Token, tokens-of, is-error, seen, is-trivia, trivia, past, one-of, first-in}
 use Rattle.machine.specs.Machine.{Machine, passed, with-cursor, skip, range-at}
-use Rattle.token_rows.specs.Tokens.{END, kind-of, trivia-first}
+use Rattle.token_rows.specs.Tokens.{SEEN-AT-END, kind-of, trivia-first}
 
 -- ---------------------------------------------------------------- in and past the rows
 
@@ -23,7 +23,7 @@ pub kind-in : (tokens : List ℕ) (i : ℕ) → i < length tokens / TOKEN-ROW �
 unfolding kind-of
 kind-in tokens i h = ap kind-of (tokens-cons tokens i h)
 
-pub kind-past : (tokens : List ℕ) (i : ℕ) → length tokens / TOKEN-ROW ≤ i → kind-of (drop i (tokens-of tokens)) ≡ END
+pub kind-past : (tokens : List ℕ) (i : ℕ) → length tokens / TOKEN-ROW ≤ i → kind-of (drop i (tokens-of tokens)) ≡ SEEN-AT-END
 unfolding kind-of
 kind-past tokens i h = ap kind-of (tokens-end tokens i h)
 

@@ -13,10 +13,10 @@ ghost use lib.ListN.{length, drop};
 ghost use Rattle.definitions.specs.Layout.{TOKEN-ROW};
 ghost use Rattle.definitions.specs.Token.{tokens-of, one-of, first-in, past};
 ghost use Rattle.machine.specs.Machine.{Machine, with-cursor, skip, range-at};
-ghost use Rattle.token_rows.specs.Tokens.{END as seen-at-end, kind-of, trivia-first};
+ghost use Rattle.token_rows.specs.Tokens.{SEEN-AT-END, kind-of, trivia-first};
 
 // What is seen past the last token. An error token is seen as Unrecognized, so that no token is seen as this.
-pub const END: u8 = FIRST_LEX_ERROR as u8;
+pub const SEEN_AT_END: u8 = FIRST_LEX_ERROR as u8;
 
 // Whether a kind is in the set.
 pub fn one_of(set: &[u8], kind: u8) -> bool
@@ -36,10 +36,10 @@ pub fn one_of(set: &[u8], kind: u8) -> bool
 // The kind of a row as a test sees it: an error token is Unrecognized.
 pub fn kind_at(tokens: &[u32], at: usize) -> u8
     ensures { λ r. ⌜ r ≡ kind-of (drop at (tokens-of (now (tokens .entry)))) ⌝ }
-    ensures { λ r. ⌜ ((r ≡ seen-at-end → ⊥) → at < length (now (tokens .entry)) / TOKEN-ROW) ⌝ }
+    ensures { λ r. ⌜ ((r ≡ SEEN-AT-END → ⊥) → at < length (now (tokens .entry)) / TOKEN-ROW) ⌝ }
 {
-    let inside = at < tokens.len() / TOKEN_ROW;
-    if inside {
+    let exists = at < tokens.len() / TOKEN_ROW;
+    if exists {
         let kind = tokens[at * TOKEN_ROW];
         let plain = kind < FIRST_LEX_ERROR;
         if plain {
@@ -48,7 +48,7 @@ pub fn kind_at(tokens: &[u32], at: usize) -> u8
             token_kind::UNRECOGNIZED
         }
     } else {
-        END
+        SEEN_AT_END
     }
 }
 
@@ -57,8 +57,8 @@ pub fn is_at(tokens: &[u32], at: usize, kind: u8) -> bool
     ensures { λ r. ⌜ r ≡ first-in (kind ∷ []) (drop at (tokens-of (now (tokens .entry)))) ⌝ }
     ensures { λ r. ⌜ (r ≡ true → at < length (now (tokens .entry)) / TOKEN-ROW) ⌝ }
 {
-    let inside = at < tokens.len() / TOKEN_ROW;
-    if inside {
+    let exists = at < tokens.len() / TOKEN_ROW;
+    if exists {
         let here = kind_at(tokens, at);
         kind == here
     } else {
@@ -71,8 +71,8 @@ pub fn is_one_of_at(tokens: &[u32], at: usize, set: &[u8]) -> bool
     ensures { λ r. ⌜ r ≡ first-in (now (set .entry)) (drop at (tokens-of (now (tokens .entry)))) ⌝ }
     ensures { λ r. ⌜ (r ≡ true → at < length (now (tokens .entry)) / TOKEN-ROW) ⌝ }
 {
-    let inside = at < tokens.len() / TOKEN_ROW;
-    if inside {
+    let exists = at < tokens.len() / TOKEN_ROW;
+    if exists {
         let here = kind_at(tokens, at);
         one_of(set, here)
     } else {
@@ -84,8 +84,8 @@ pub fn is_one_of_at(tokens: &[u32], at: usize, set: &[u8]) -> bool
 pub fn is_next_at(tokens: &[u32], at: usize, kind: u8) -> bool
     ensures { λ r. ⌜ r ≡ first-in (kind ∷ []) (past (drop at (tokens-of (now (tokens .entry))))) ⌝ }
 {
-    let inside = at < tokens.len() / TOKEN_ROW;
-    if inside {
+    let exists = at < tokens.len() / TOKEN_ROW;
+    if exists {
         is_at(tokens, at + 1, kind)
     } else {
         false
@@ -96,8 +96,8 @@ pub fn is_next_at(tokens: &[u32], at: usize, kind: u8) -> bool
 pub fn end_at(tokens: &[u32], at: usize, start: u32) -> u32
     ensures { λ r. ⌜ ((m : Machine) → m .byte ≡ start → r ≡ range-at (drop at (tokens-of (now (tokens .entry)))) m .to) ⌝ }
 {
-    let inside = at < tokens.len() / TOKEN_ROW;
-    if inside {
+    let exists = at < tokens.len() / TOKEN_ROW;
+    if exists {
         word::add(start, tokens[at * TOKEN_ROW + TOKEN_LENGTH])
     } else {
         start
@@ -109,8 +109,8 @@ fn is_trivia_at(tokens: &[u32], at: usize) -> bool
     ensures { λ r. ⌜ r ≡ trivia-first (drop at (tokens-of (now (tokens .entry)))) ⌝ }
     ensures { λ r. ⌜ (r ≡ true → at < length (now (tokens .entry)) / TOKEN-ROW) ⌝ }
 {
-    let inside = at < tokens.len() / TOKEN_ROW;
-    if inside {
+    let exists = at < tokens.len() / TOKEN_ROW;
+    if exists {
         is_trivia(tokens[at * TOKEN_ROW])
     } else {
         false

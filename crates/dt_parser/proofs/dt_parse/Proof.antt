@@ -2,10 +2,10 @@
 use mathlib.Core.Path.{sym, ap, _∙_}
 use borrow.Author.Needs.{needs}
 use Rattle.definitions.specs.Refusal.{number-of, place-of}
-use Rattle.grammar.specs.Subprograms.{entry-of as entry-for}
+use Rattle.grammar.specs.Subprograms.{entry-for}
 use Rattle.call.specs.Result.{answer-of, lent, result-of}
 use Rattle.call.proofs.Called.{other-entry, refused-call, sound-call}
-use Rattle.dt_parser.specs.Entry.{asked-of}
+use Rattle.dt_parser.specs.Asked.{asked-of}
 use Rattle.dt_parser.proofs.dt_parse.Statement.{statement}
 use Rattle.dt_parser.proofs.dt_parse.Tie as tie
 
@@ -24,8 +24,8 @@ enum-known-asked c = search needs
 check-requires : tie.Need-check-requires
 check-requires c κs = tt
 
-run-requires : tie.Need-run-requires
-run-requires c κs = record { bytes = c .before .before .before .before .before .before .before .before .before .before .before .before .before .before .before .before .before .before .before .args .bytes .now; checked = c .before .before .before .before .before .before .before .check .ensures .sound (c .before .before .before .before .before .if1 .taken) }
+parse-requires : tie.Need-parse-requires
+parse-requires c κs = record { bytes = c .before .before .before .before .before .before .before .before .before .before .before .before .before .before .before .before .before .before .before .args .bytes .now; checked = c .before .before .before .before .before .before .before .check .ensures .sound (c .before .before .before .before .before .if1 .taken) }
 
 returns : tie.Need-returns
 unfolding number-of place-of
@@ -34,24 +34,24 @@ returns c =
     other-entry (a .bytes .now) (a .tokens .now) (lent (a .events .now) (a .trees .now) (a .errors .now) (a .reports .now) (a .pool .now)) (a .entry) (c .refused .result) (sym (ap asked-of (c .before .enum-told .given .1)) ∙ c .before .before .before .entry-of .ensures) (ap answer-of (c .refused .ensures))
 
 same-length : tie.Need-same-length
-same-length c = c .before .before .before .before .before .before .before .before .before .before .run .kept .1 .1 .0
+same-length c = c .before .before .before .before .before .before .before .before .before .before .parse .kept .1 .1 .0
 
 same-length-2 : tie.Need-same-length-2
-same-length-2 c = c .before .before .before .before .before .before .before .before .before .before .run .kept .1 .1 .1 .0
+same-length-2 c = c .before .before .before .before .before .before .before .before .before .before .parse .kept .1 .1 .1 .0
 
 same-length-3 : tie.Need-same-length-3
-same-length-3 c = c .before .before .before .before .before .before .before .before .before .before .run .kept .1 .1 .1 .1 .0
+same-length-3 c = c .before .before .before .before .before .before .before .before .before .before .parse .kept .1 .1 .1 .1 .0
 
 same-length-4 : tie.Need-same-length-4
-same-length-4 c = c .before .before .before .before .before .before .before .before .before .before .run .kept .1 .1 .1 .1 .1 .0
+same-length-4 c = c .before .before .before .before .before .before .before .before .before .before .parse .kept .1 .1 .1 .1 .1 .0
 
 same-length-5 : tie.Need-same-length-5
-same-length-5 c = c .before .before .before .before .before .before .before .before .before .before .run .kept .1 .1 .1 .1 .1 .1 .0
+same-length-5 c = c .before .before .before .before .before .before .before .before .before .before .parse .kept .1 .1 .1 .1 .1 .1 .0
 
 returns-2 : tie.Need-returns-2
 returns-2 c =
     let a = c .before .before .before .before .before .before .before .before .before .before .before .before .before .before .before .before .before .before .before .before .before .before .before .before .before .before .before .before .before .before .args in
-    let r = c .before .before .before .before .before .before .before .before .before .before .run in
+    let r = c .before .before .before .before .before .before .before .before .before .before .parse in
     sound-call _ (a .bytes .now) (a .tokens .now) (lent (a .events .now) (a .trees .now) (a .errors .now) (a .reports .now) (a .pool .now)) (a .entry) (result-of (r .result) (lent (r .last .1 .1 .0) (r .last .1 .1 .1 .0) (r .last .1 .1 .1 .1 .0) (r .last .1 .1 .1 .1 .1 .0) (r .last .1 .1 .1 .1 .1 .1 .0)))
     (sym (ap asked-of (c .before .before .before .before .before .before .before .before .before .before .before .before .before .before .before .before .before .before .before .before .asked .given .1)) ∙ c .before .before .before .before .before .before .before .before .before .before .before .before .before .before .before .before .before .before .before .before .before .before .entry-of .ensures) (c .before .before .before .before .before .before .before .before .before .before .before .before .before .before .before .before .before .before .check .ensures .sound (c .before .before .before .before .before .before .before .before .before .before .before .before .before .before .before .before .if1 .taken)) (r .ensures)
 
@@ -71,7 +71,7 @@ dt-parse-spec =
     refused-requires
     enum-known-asked
     check-requires
-    run-requires
+    parse-requires
     returns
     same-length
     same-length-2

@@ -4,7 +4,7 @@ use native.Mathlib.Omega.{arith}
 use Rattle.definitions.specs.Token.{tokens-of}
 use Rattle.machine.specs.Machine.{peek}
 use Rattle.machine.specs.Walk.{Walked, perform, unlabelled}
-use Rattle.parser.specs.View.{left}
+use Rattle.parser.specs.View.{tokens-left}
 use Rattle.binding_power.specs.Power.{levels, left-power, right-power, is-binary}
 use Rattle.expr.proofs.Levels.{left-end}
 use borrow.Author.Needs.{needs}
@@ -24,7 +24,7 @@ binding-power-requires : tie.Need-binding-power-requires
 binding-power-requires c κs = search needs
 
 returns : tie.Need-returns
-unfolding perform left
+unfolding perform tokens-left
 returns c =
     let add-expected′ = c .before .before .before .add-expected in
     let peek′ = c .before .before .peek in

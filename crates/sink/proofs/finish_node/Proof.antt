@@ -4,20 +4,20 @@ use Rattle.sink.specs.Machine.{finish-on}
 use Rattle.sink.proofs.finish_node.Statement.{statement}
 use Rattle.sink.proofs.finish_node.Tie as tie
 
-number-requires : tie.Need-number-requires
-number-requires c κs = omega arith
+field-requires : tie.Need-field-requires
+field-requires c κs = omega arith
 
-number-requires-2 : tie.Need-number-requires-2
-number-requires-2 c κs = omega arith
+field-requires-2 : tie.Need-field-requires-2
+field-requires-2 c κs = omega arith
 
-number-requires-3 : tie.Need-number-requires-3
-number-requires-3 c κs = omega arith
+field-requires-3 : tie.Need-field-requires-3
+field-requires-3 c κs = omega arith
 
-number-requires-4 : tie.Need-number-requires-4
-number-requires-4 c κs = omega arith
+field-requires-4 : tie.Need-field-requires-4
+field-requires-4 c κs = omega arith
 
-less-requires : tie.Need-less-requires
-less-requires c κs = tt
+minus-requires : tie.Need-minus-requires
+minus-requires c κs = tt
 
 write-row-requires : tie.Need-write-row-requires
 write-row-requires c κs = tt
@@ -30,17 +30,17 @@ same-length c = omega (arith, c .before .before .before .write-row .kept)
 
 returns : tie.Need-returns
 unfolding finish-on
-returns c = rw (← (c .before .before .before .before .before .before .before .before .before .before .before .before .number .ensures), ← (c .before .before .before .before .before .before .before .before .before .before .number2 .ensures), ← (c .before .before .before .before .before .before .before .before .number3 .ensures), ← (c .before .before .before .before .before .before .number4 .ensures), ← (c .before .before .before .before .less .ensures), ← (c .before .before .before .write-row .ensures), ← (c .add .ensures))
+returns c = rw (← (c .before .before .before .before .before .before .before .before .before .before .before .before .field .ensures), ← (c .before .before .before .before .before .before .before .before .before .before .field2 .ensures), ← (c .before .before .before .before .before .before .before .before .field3 .ensures), ← (c .before .before .before .before .before .before .field4 .ensures), ← (c .before .before .before .before .minus .ensures), ← (c .before .before .before .write-row .ensures), ← (c .add .ensures))
 
 pub finish-node-spec : {M : Type 1} → statement M
 finish-node-spec =
     tie.close
     (tie.spec
-    number-requires
-    number-requires-2
-    number-requires-3
-    number-requires-4
-    less-requires
+    field-requires
+    field-requires-2
+    field-requires-3
+    field-requires-4
+    minus-requires
     write-row-requires
     add-requires
     same-length

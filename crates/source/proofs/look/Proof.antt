@@ -44,7 +44,7 @@ use Rattle.layout.specs.declared.TokenIndex.{TokenIndex}
 use Rattle.layout.proofs.TokenIndex as I
 use Rattle.layout.proofs.TokenIndex.Laws as I′
 use Rattle.token_rows.specs.Tokens.{kind-of}
-use Rattle.source.specs.Place.{after-token}
+use Rattle.source.specs.Cursor.{after-token}
 use Rattle.source.specs.declared.Sight.{Sight}
 use Rattle.source.specs.declared.Source.{Source}
 use Rattle.source.proofs.Said.{Made, Peeked, KindSeen, Taken, seen-here, seen-past, taken-from, New, Peek, Immediate, Next, new-said, peek-said, immediate-said, next-said}

@@ -13,17 +13,17 @@ use Rattle.definitions.specs.Grammar.{left-over-turn}
 use Rattle.machine.specs.Machine.{Machine}
 use Rattle.machine.specs.Walk.{Walked, walk}
 use Rattle.machine.proofs.Way.{c-act, c-ret, c-seq, c-yes, c-no}
-use Rattle.parser.specs.View.{view-of, left}
+use Rattle.parser.specs.View.{parser-view, tokens-left}
 use Rattle.steps.proofs.Left.{ahead-falls}
 use Rattle.steps.proofs.Ways.{turns, stops-yes}
 use Rattle.ends.proofs.nodes.bump_all.Statement.{statement}
 use Rattle.ends.proofs.nodes.bump_all.Tie as tie
 
 abbrev Inv-loop : tie.InvT-loop
-Inv-loop tokens events₀ q₀ events q = ((ask : Rule → Machine → Walked) (b : Span) (reports pool : List ℕ) → walk ask (tokens-of tokens) b (loop left-over-turn) (view-of q events reports pool) ≡ walk ask (tokens-of tokens) b (loop left-over-turn) (view-of q₀ events₀ reports pool)) × ((left tokens (q .s) ≤ left tokens (q₀ .s)) × (length events ≡ length events₀))
+Inv-loop tokens events₀ q₀ events q = ((ask : Rule → Machine → Walked) (b : Span) (reports pool : List ℕ) → walk ask (tokens-of tokens) b (loop left-over-turn) (parser-view q events reports pool) ≡ walk ask (tokens-of tokens) b (loop left-over-turn) (parser-view q₀ events₀ reports pool)) × ((tokens-left tokens (q .s) ≤ tokens-left tokens (q₀ .s)) × (length events ≡ length events₀))
 
 abbrev μ-loop : tie.MeasureT-loop
-μ-loop tokens events₀ q₀ events q = left tokens (q .s)
+μ-loop tokens events₀ q₀ events q = tokens-left tokens (q .s)
 
 loop-holds : tie.Need-loop-holds Inv-loop μ-loop
 loop-holds c = (λ ask b reports pool. refl, (le-refl _, refl))

@@ -11,7 +11,7 @@ use Rattle.definitions.specs.Prog.{loop}
 use Rattle.definitions.specs.Check.{silent}
 use Rattle.definitions.specs.Grammar.{branch-turn, branch}
 use Rattle.machine.specs.Walk.{walk-rule, walk-prog, unlabelled}
-use Rattle.parser.specs.View.{left, view-of}
+use Rattle.parser.specs.View.{tokens-left, parser-view}
 use Rattle.grammar.specs.Subprograms.{inside-of}
 use Rattle.machine.proofs.Way.{c-walk, c-act, c-ret, c-yes, c-no, c-mark, completed, c-fn, way}
 use Rattle.steps.proofs.Left.{ahead-falls}
@@ -23,13 +23,13 @@ use Rattle.grammar.proofs.+bits+branch+cell_rest+cells+cond_branches_an
 -- the loop from here is the loop from the start
 abbrev pub Inv-loop : lts.InvT-loop
 Inv-loop tokens events₀ reports₀ pool₀ allowed inside m q₀ set events reports pool q =
-    (left tokens (q .s) ≤ left tokens (q₀ .s))
+    (tokens-left tokens (q .s) ≤ tokens-left tokens (q₀ .s))
     × ((length events ≡ length events₀)
     × ((length reports ≡ length reports₀)
-    × ((length pool ≡ length pool₀) × (walk-prog allowed (tokens-of tokens) unlabelled (loop (branch-turn (inside-of inside))) (view-of q events reports pool) ≡ walk-prog allowed (tokens-of tokens) unlabelled (loop (branch-turn (inside-of inside))) (view-of q₀ events₀ reports₀ pool₀)))))
+    × ((length pool ≡ length pool₀) × (walk-prog allowed (tokens-of tokens) unlabelled (loop (branch-turn (inside-of inside))) (parser-view q events reports pool) ≡ walk-prog allowed (tokens-of tokens) unlabelled (loop (branch-turn (inside-of inside))) (parser-view q₀ events₀ reports₀ pool₀)))))
 
 abbrev pub μ-loop : lts.MeasureT-loop
-μ-loop tokens events₀ reports₀ pool₀ allowed inside m q₀ set events reports pool q = left tokens (q .s)
+μ-loop tokens events₀ reports₀ pool₀ allowed inside m q₀ set events reports pool q = tokens-left tokens (q .s)
 
 pub new-requires : (t : ℕ) → lts.Need-new-requires (branch-claims t) (branch-at t) reads.Post Inv-loop μ-loop
 new-requires t c κs = tt

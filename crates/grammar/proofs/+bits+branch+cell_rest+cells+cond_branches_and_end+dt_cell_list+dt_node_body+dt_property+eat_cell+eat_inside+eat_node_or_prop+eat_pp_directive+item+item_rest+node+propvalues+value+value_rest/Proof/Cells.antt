@@ -9,7 +9,7 @@ use Rattle.definitions.specs.Prog.{loop}
 use Rattle.definitions.specs.Check.{silent}
 use Rattle.definitions.specs.Grammar.{cells-turn, cells}
 use Rattle.machine.specs.Walk.{walk-rule, walk-prog, unlabelled}
-use Rattle.parser.specs.View.{left, view-of}
+use Rattle.parser.specs.View.{tokens-left, parser-view}
 use Rattle.machine.proofs.Way.{c-walk, c-ret, c-seq, c-yes, c-no, c-call}
 use Rattle.steps.proofs.Left.{ahead-falls}
 use Rattle.grammar.proofs.Ways.{again-prog, last-yes, last-no, as-yes}
@@ -20,13 +20,13 @@ use Rattle.grammar.proofs.+bits+branch+cell_rest+cells+cond_branches_an
 -- the loop from here is the loop from the start
 abbrev pub Inv-loop : lts.InvT-loop
 Inv-loop tokens events₀ reports₀ pool₀ allowed until-end q₀ events reports pool q =
-    (left tokens (q .s) ≤ left tokens (q₀ .s))
+    (tokens-left tokens (q .s) ≤ tokens-left tokens (q₀ .s))
     × ((length events ≡ length events₀)
     × ((length reports ≡ length reports₀)
-    × ((length pool ≡ length pool₀) × (walk-prog allowed (tokens-of tokens) unlabelled (cells until-end) (view-of q events reports pool) ≡ walk-prog allowed (tokens-of tokens) unlabelled (cells until-end) (view-of q₀ events₀ reports₀ pool₀)))))
+    × ((length pool ≡ length pool₀) × (walk-prog allowed (tokens-of tokens) unlabelled (cells until-end) (parser-view q events reports pool) ≡ walk-prog allowed (tokens-of tokens) unlabelled (cells until-end) (parser-view q₀ events₀ reports₀ pool₀)))))
 
 abbrev pub μ-loop : lts.MeasureT-loop
-μ-loop tokens events₀ reports₀ pool₀ allowed until-end q₀ events reports pool q = left tokens (q .s)
+μ-loop tokens events₀ reports₀ pool₀ allowed until-end q₀ events reports pool q = tokens-left tokens (q .s)
 
 pub loop-holds : (t : ℕ) → lts.Need-loop-holds (cells-claims t) (cells-at t) reads.Post Inv-loop μ-loop
 loop-holds t c = (omega arith, (refl, (refl, (refl, refl))))

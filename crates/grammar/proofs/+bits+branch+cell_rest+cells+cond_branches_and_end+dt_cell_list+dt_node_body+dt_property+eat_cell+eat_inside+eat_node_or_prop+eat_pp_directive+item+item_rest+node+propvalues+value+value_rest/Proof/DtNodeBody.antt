@@ -8,7 +8,7 @@ use Rattle.definitions.specs.Token.{tokens-of}
 use Rattle.definitions.specs.Prog.{loop}
 use Rattle.definitions.specs.Grammar.{node-body-turn, dt-node-body}
 use Rattle.machine.specs.Walk.{walk-rule, walk-prog}
-use Rattle.parser.specs.View.{left, view-of, span-of}
+use Rattle.parser.specs.View.{tokens-left, parser-view, span-of}
 use Rattle.machine.proofs.Way.{c-walk, c-act, c-ret, c-seq, c-yes, c-no}
 use Rattle.steps.proofs.Left.{ahead-falls}
 use Rattle.steps.proofs.Steps.{c-brace, c-any, closing}
@@ -20,13 +20,13 @@ use Rattle.grammar.proofs.+bits+branch+cell_rest+cells+cond_branches_an
 -- the loop from here is the loop from the start
 abbrev pub Inv-loop : lts.InvT-loop
 Inv-loop tokens events₀ reports₀ pool₀ allowed m lcurly q₀ events reports pool q =
-    (left tokens (q .s) ≤ left tokens (q₀ .s))
+    (tokens-left tokens (q .s) ≤ tokens-left tokens (q₀ .s))
     × ((length events ≡ length events₀)
     × ((length reports ≡ length reports₀)
-    × ((length pool ≡ length pool₀) × (walk-prog allowed (tokens-of tokens) (span-of lcurly) (loop node-body-turn) (view-of q events reports pool) ≡ walk-prog allowed (tokens-of tokens) (span-of lcurly) (loop node-body-turn) (view-of q₀ events₀ reports₀ pool₀)))))
+    × ((length pool ≡ length pool₀) × (walk-prog allowed (tokens-of tokens) (span-of lcurly) (loop node-body-turn) (parser-view q events reports pool) ≡ walk-prog allowed (tokens-of tokens) (span-of lcurly) (loop node-body-turn) (parser-view q₀ events₀ reports₀ pool₀)))))
 
 abbrev pub μ-loop : lts.MeasureT-loop
-μ-loop tokens events₀ reports₀ pool₀ allowed m lcurly q₀ events reports pool q = left tokens (q .s)
+μ-loop tokens events₀ reports₀ pool₀ allowed m lcurly q₀ events reports pool q = tokens-left tokens (q .s)
 
 pub range-requires : (t : ℕ) → lts.Need-range-requires (dt-node-body-claims t) (dt-node-body-at t) reads.Post Inv-loop μ-loop
 range-requires t c κs = tt

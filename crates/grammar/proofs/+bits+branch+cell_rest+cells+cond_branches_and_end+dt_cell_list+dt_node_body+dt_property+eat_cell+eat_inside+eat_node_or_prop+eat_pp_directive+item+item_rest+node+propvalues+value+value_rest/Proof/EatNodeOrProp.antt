@@ -8,9 +8,9 @@ use Rattle.definitions.specs.Grammar.{eat-node-or-prop}
 use Rattle.machine.specs.Walk.{walk-rule, unlabelled}
 use Rattle.parser.specs.View.{ans-of}
 use Rattle.machine.proofs.Way.{c-walk, c-ret, c-yes, c-no, c-mark, way}
-use Rattle.steps.specs.View.{found}
+use Rattle.steps.specs.View.{took-unless-no}
 use Rattle.steps.proofs.Steps.{c-said-no, c-said-also, closing, ignored}
-use Rattle.grammar.proofs.Ways.{c-same, c-said-other, found-other}
+use Rattle.grammar.proofs.Ways.{c-same, c-said-other, unless-no-other}
 use Rattle.grammar.proofs.eat_node_or_prop.Reads as reads
 use Rattle.grammar.proofs.+bits+branch+cell_rest+cells+cond_branches_and_end+dt_cell_list+dt_node_body+dt_property+eat_cell+eat_inside+eat_node_or_prop+eat_pp_directive+item+item_rest+node+propvalues+value+value_rest.Lts-eat_node_or_prop as lts
 use Rattle.grammar.proofs.+bits+branch+cell_rest+cells+cond_branches_and_end+dt_cell_list+dt_node_body+dt_property+eat_cell+eat_inside+eat_node_or_prop+eat_pp_directive+item+item_rest+node+propvalues+value+value_rest.Proof.Measures.{eat-node-or-prop-at, eat-node-or-prop-claims}
@@ -82,7 +82,7 @@ returns t c =
     let new′ = start′ .before .before in
     let s′ = new′ .before .before .before .before .before in (
       way (s′ .args .allowed) (c-mark (new′ .new .ensures) (start′ .start .ensures .0 _ _) (c-said-also (eat-node-or-prop-prefix′ .eat-node-or-prop-prefix .result .ans) (c-walk (eat-node-or-prop-prefix′ .eat-node-or-prop-prefix .ensures .0 (walk-rule (s′ .args .allowed) (tokens-of (s′ .args .tokens .now))) unlabelled)) (ap ans-of (enum-told2′ .enum-told2 .given .1)) (c-yes (c-walk (at′ .at .ensures .0 (walk-rule (s′ .args .allowed) (tokens-of (s′ .args .tokens .now))) unlabelled _ _ _)) (if1′ .if1 .taken) (c-same (s′ .args .allowed)))) (closing (dt-property′ .dt-property .ensures .0))),
-      (omega (arith, start′ .start .ensures .1 (s′ .args .tokens .now), eat-node-or-prop-prefix′ .eat-node-or-prop-prefix .ensures .1, at′ .at .ensures .1 .0, at′ .at .ensures .1 .1 (if1′ .if1 .taken), dt-property′ .dt-property .ensures .1, ap found (enum-told2′ .enum-told2 .given .1)), λ e. omega (arith, start′ .start .ensures .1 (s′ .args .tokens .now), eat-node-or-prop-prefix′ .eat-node-or-prop-prefix .ensures .1, at′ .at .ensures .1 .0, at′ .at .ensures .1 .1 (if1′ .if1 .taken), dt-property′ .dt-property .ensures .1, ap found (enum-told2′ .enum-told2 .given .1))),
+      (omega (arith, start′ .start .ensures .1 (s′ .args .tokens .now), eat-node-or-prop-prefix′ .eat-node-or-prop-prefix .ensures .1, at′ .at .ensures .1 .0, at′ .at .ensures .1 .1 (if1′ .if1 .taken), dt-property′ .dt-property .ensures .1, ap took-unless-no (enum-told2′ .enum-told2 .given .1)), λ e. omega (arith, start′ .start .ensures .1 (s′ .args .tokens .now), eat-node-or-prop-prefix′ .eat-node-or-prop-prefix .ensures .1, at′ .at .ensures .1 .0, at′ .at .ensures .1 .1 (if1′ .if1 .taken), dt-property′ .dt-property .ensures .1, ap took-unless-no (enum-told2′ .enum-told2 .given .1))),
     )
 
 pub node-requires : (t : ℕ) → lts.Need-node-requires (eat-node-or-prop-claims t) (eat-node-or-prop-at t) reads.Post
@@ -131,7 +131,7 @@ returns-2 t c =
     let new′ = start′ .before .before in
     let s′ = new′ .before .before .before .before .before in (
       way (s′ .args .allowed) (c-mark (new′ .new .ensures) (start′ .start .ensures .0 _ _) (c-said-no (eat-node-or-prop-prefix′ .eat-node-or-prop-prefix .result .ans) (c-walk (eat-node-or-prop-prefix′ .eat-node-or-prop-prefix .ensures .0 (walk-rule (s′ .args .allowed) (tokens-of (s′ .args .tokens .now))) unlabelled)) (ap ans-of (enum-told′ .enum-told .given .1)) c-ret) (ignored (ignore′ .ignore .ensures .0 _ _))),
-      (omega (arith, start′ .start .ensures .1 (s′ .args .tokens .now), eat-node-or-prop-prefix′ .eat-node-or-prop-prefix .ensures .1, ignore′ .ignore .ensures .1 (s′ .args .tokens .now), ap found (enum-told′ .enum-told .given .1)), λ e. absurd (false≢true e)),
+      (omega (arith, start′ .start .ensures .1 (s′ .args .tokens .now), eat-node-or-prop-prefix′ .eat-node-or-prop-prefix .ensures .1, ignore′ .ignore .ensures .1 (s′ .args .tokens .now), ap took-unless-no (enum-told′ .enum-told .given .1)), λ e. absurd (false≢true e)),
     )
 
 pub same-length-7 : (t : ℕ) → lts.Need-same-length-7 (eat-node-or-prop-claims t) (eat-node-or-prop-at t) reads.Post
@@ -167,7 +167,7 @@ returns-3 t c =
     let new′ = start′ .before .before in
     let s′ = new′ .before .before .before .before .before in (
       way (s′ .args .allowed) (c-mark (new′ .new .ensures) (start′ .start .ensures .0 _ _) (c-said-also (eat-node-or-prop-prefix′ .eat-node-or-prop-prefix .result .ans) (c-walk (eat-node-or-prop-prefix′ .eat-node-or-prop-prefix .ensures .0 (walk-rule (s′ .args .allowed) (tokens-of (s′ .args .tokens .now))) unlabelled)) (ap ans-of (enum-told2′ .enum-told2 .given .1)) (c-no (c-walk (at′ .at .ensures .0 (walk-rule (s′ .args .allowed) (tokens-of (s′ .args .tokens .now))) unlabelled _ _ _)) (if1′ .if1 .left) (c-same (s′ .args .allowed)))) (closing (node′ .node .ensures .0))),
-      (omega (arith, start′ .start .ensures .1 (s′ .args .tokens .now), eat-node-or-prop-prefix′ .eat-node-or-prop-prefix .ensures .1, at′ .at .ensures .1 .0, node′ .node .ensures .1, ap found (enum-told2′ .enum-told2 .given .1)), λ e. omega (arith, start′ .start .ensures .1 (s′ .args .tokens .now), eat-node-or-prop-prefix′ .eat-node-or-prop-prefix .ensures .1, at′ .at .ensures .1 .0, node′ .node .ensures .1, ap found (enum-told2′ .enum-told2 .given .1))),
+      (omega (arith, start′ .start .ensures .1 (s′ .args .tokens .now), eat-node-or-prop-prefix′ .eat-node-or-prop-prefix .ensures .1, at′ .at .ensures .1 .0, node′ .node .ensures .1, ap took-unless-no (enum-told2′ .enum-told2 .given .1)), λ e. omega (arith, start′ .start .ensures .1 (s′ .args .tokens .now), eat-node-or-prop-prefix′ .eat-node-or-prop-prefix .ensures .1, at′ .at .ensures .1 .0, node′ .node .ensures .1, ap took-unless-no (enum-told2′ .enum-told2 .given .1))),
     )
 
 pub same-length-10 : (t : ℕ) → lts.Need-same-length-10 (eat-node-or-prop-claims t) (eat-node-or-prop-at t) reads.Post
@@ -201,5 +201,5 @@ returns-4 t c =
     let new′ = start′ .before .before in
     let s′ = new′ .before .before .before .before .before in (
       way (s′ .args .allowed) (c-mark (new′ .new .ensures) (start′ .start .ensures .0 _ _) (c-said-other (eat-node-or-prop-prefix′ .eat-node-or-prop-prefix .result .ans) (c-walk (eat-node-or-prop-prefix′ .eat-node-or-prop-prefix .ensures .0 (walk-rule (s′ .args .allowed) (tokens-of (s′ .args .tokens .now))) unlabelled)) (match0′ .match .keys3) (c-same (s′ .args .allowed))) (closing (node2′ .node2 .ensures .0))),
-      (omega (arith, start′ .start .ensures .1 (s′ .args .tokens .now), eat-node-or-prop-prefix′ .eat-node-or-prop-prefix .ensures .1, node2′ .node2 .ensures .1, found-other (eat-node-or-prop-prefix′ .eat-node-or-prop-prefix .result .ans) (match0′ .match .keys3)), λ e. omega (arith, start′ .start .ensures .1 (s′ .args .tokens .now), eat-node-or-prop-prefix′ .eat-node-or-prop-prefix .ensures .1, node2′ .node2 .ensures .1, found-other (eat-node-or-prop-prefix′ .eat-node-or-prop-prefix .result .ans) (match0′ .match .keys3))),
+      (omega (arith, start′ .start .ensures .1 (s′ .args .tokens .now), eat-node-or-prop-prefix′ .eat-node-or-prop-prefix .ensures .1, node2′ .node2 .ensures .1, unless-no-other (eat-node-or-prop-prefix′ .eat-node-or-prop-prefix .result .ans) (match0′ .match .keys3)), λ e. omega (arith, start′ .start .ensures .1 (s′ .args .tokens .now), eat-node-or-prop-prefix′ .eat-node-or-prop-prefix .ensures .1, node2′ .node2 .ensures .1, unless-no-other (eat-node-or-prop-prefix′ .eat-node-or-prop-prefix .result .ans) (match0′ .match .keys3))),
     )

@@ -2,7 +2,7 @@
 use Prim.Native.Nat.{ℕ, _+_, _*_, _<_}
 use borrow.Fn.Kinds.{In}
 use borrow.Fn.PlainCycle.{Measures, is, falls, and}
-use Rattle.parser.specs.View.{left}
+use Rattle.parser.specs.View.{tokens-left}
 use Rattle.grammar.proofs.bits.Reads as bits
 use Rattle.grammar.proofs.branch.Reads as branch
 use Rattle.grammar.proofs.cell_rest.Reads as cell-rest
@@ -91,7 +91,7 @@ use Rattle.grammar.proofs.+bits+branch+cell_rest+cells+cond_branches_an
 use Rattle.grammar.proofs.+bits+branch+cell_rest+cells+cond_branches_and_end+dt_cell_list+dt_node_body+dt_property+eat_cell+eat_inside+eat_node_or_prop+eat_pp_directive+item+item_rest+node+propvalues+value+value_rest.Lts-value_rest as value-rest-lts
 
 abbrev pub μ-bits : Measures 4 bits-kinds.ps ℕ
-μ-bits κs a = 16 * left (a .1 .0 .now) (a .0 .s) + 5
+μ-bits κs a = 16 * tokens-left (a .1 .0 .now) (a .0 .s) + 5
 
 abbrev pub bits-at : ℕ → In 4 bits-kinds.ps
 bits-at t = and 4 bits-kinds.ps (is 4 bits-kinds.ps μ-bits t) bits.Pre
@@ -100,7 +100,7 @@ abbrev pub bits-below : ℕ → In 4 bits-kinds.ps
 bits-below t = and 4 bits-kinds.ps (falls 4 bits-kinds.ps _<_ μ-bits t) bits.Pre
 
 abbrev pub μ-branch : Measures 4 branch-kinds.ps ℕ
-μ-branch κs a = 16 * left (a .1 .0 .now) (a .0 .s) + 13
+μ-branch κs a = 16 * tokens-left (a .1 .0 .now) (a .0 .s) + 13
 
 abbrev pub branch-at : ℕ → In 4 branch-kinds.ps
 branch-at t = and 4 branch-kinds.ps (is 4 branch-kinds.ps μ-branch t) branch.Pre
@@ -109,7 +109,7 @@ abbrev pub branch-below : ℕ → In 4 branch-kinds.ps
 branch-below t = and 4 branch-kinds.ps (falls 4 branch-kinds.ps _<_ μ-branch t) branch.Pre
 
 abbrev pub μ-cell-rest : Measures 4 cell-rest-kinds.ps ℕ
-μ-cell-rest κs a = 16 * left (a .1 .0 .now) (a .0 .s) + 1
+μ-cell-rest κs a = 16 * tokens-left (a .1 .0 .now) (a .0 .s) + 1
 
 abbrev pub cell-rest-at : ℕ → In 4 cell-rest-kinds.ps
 cell-rest-at t = and 4 cell-rest-kinds.ps (is 4 cell-rest-kinds.ps μ-cell-rest t) cell-rest.Pre
@@ -118,7 +118,7 @@ abbrev pub cell-rest-below : ℕ → In 4 cell-rest-kinds.ps
 cell-rest-below t = and 4 cell-rest-kinds.ps (falls 4 cell-rest-kinds.ps _<_ μ-cell-rest t) cell-rest.Pre
 
 abbrev pub μ-cells : Measures 4 cells-kinds.ps ℕ
-μ-cells κs a = 16 * left (a .1 .0 .now) (a .0 .s) + 3
+μ-cells κs a = 16 * tokens-left (a .1 .0 .now) (a .0 .s) + 3
 
 abbrev pub cells-at : ℕ → In 4 cells-kinds.ps
 cells-at t = and 4 cells-kinds.ps (is 4 cells-kinds.ps μ-cells t) cells.Pre
@@ -127,7 +127,7 @@ abbrev pub cells-below : ℕ → In 4 cells-kinds.ps
 cells-below t = and 4 cells-kinds.ps (falls 4 cells-kinds.ps _<_ μ-cells t) cells.Pre
 
 abbrev pub μ-cond-branches-and-end : Measures 4 cond-branches-and-end-kinds.ps ℕ
-μ-cond-branches-and-end κs a = 16 * left (a .1 .0 .now) (a .0 .s) + 14
+μ-cond-branches-and-end κs a = 16 * tokens-left (a .1 .0 .now) (a .0 .s) + 14
 
 abbrev pub cond-branches-and-end-at : ℕ → In 4 cond-branches-and-end-kinds.ps
 cond-branches-and-end-at t = and 4 cond-branches-and-end-kinds.ps (is 4 cond-branches-and-end-kinds.ps μ-cond-branches-and-end t) cond-branches-and-end.Pre
@@ -136,7 +136,7 @@ abbrev pub cond-branches-and-end-below : ℕ → In 4 cond-branches-and-end-kind
 cond-branches-and-end-below t = and 4 cond-branches-and-end-kinds.ps (falls 4 cond-branches-and-end-kinds.ps _<_ μ-cond-branches-and-end t) cond-branches-and-end.Pre
 
 abbrev pub μ-dt-cell-list : Measures 4 dt-cell-list-kinds.ps ℕ
-μ-dt-cell-list κs a = 16 * left (a .1 .0 .now) (a .0 .s) + 4
+μ-dt-cell-list κs a = 16 * tokens-left (a .1 .0 .now) (a .0 .s) + 4
 
 abbrev pub dt-cell-list-at : ℕ → In 4 dt-cell-list-kinds.ps
 dt-cell-list-at t = and 4 dt-cell-list-kinds.ps (is 4 dt-cell-list-kinds.ps μ-dt-cell-list t) dt-cell-list.Pre
@@ -145,7 +145,7 @@ abbrev pub dt-cell-list-below : ℕ → In 4 dt-cell-list-kinds.ps
 dt-cell-list-below t = and 4 dt-cell-list-kinds.ps (falls 4 dt-cell-list-kinds.ps _<_ μ-dt-cell-list t) dt-cell-list.Pre
 
 abbrev pub μ-dt-node-body : Measures 4 dt-node-body-kinds.ps ℕ
-μ-dt-node-body κs a = 16 * left (a .1 .0 .now) (a .0 .s) + 1
+μ-dt-node-body κs a = 16 * tokens-left (a .1 .0 .now) (a .0 .s) + 1
 
 abbrev pub dt-node-body-at : ℕ → In 4 dt-node-body-kinds.ps
 dt-node-body-at t = and 4 dt-node-body-kinds.ps (is 4 dt-node-body-kinds.ps μ-dt-node-body t) dt-node-body.Pre
@@ -154,7 +154,7 @@ abbrev pub dt-node-body-below : ℕ → In 4 dt-node-body-kinds.ps
 dt-node-body-below t = and 4 dt-node-body-kinds.ps (falls 4 dt-node-body-kinds.ps _<_ μ-dt-node-body t) dt-node-body.Pre
 
 abbrev pub μ-dt-property : Measures 4 dt-property-kinds.ps ℕ
-μ-dt-property κs a = 16 * left (a .1 .0 .now) (a .0 .s) + 8
+μ-dt-property κs a = 16 * tokens-left (a .1 .0 .now) (a .0 .s) + 8
 
 abbrev pub dt-property-at : ℕ → In 4 dt-property-kinds.ps
 dt-property-at t = and 4 dt-property-kinds.ps (is 4 dt-property-kinds.ps μ-dt-property t) dt-property.Pre
@@ -163,7 +163,7 @@ abbrev pub dt-property-below : ℕ → In 4 dt-property-kinds.ps
 dt-property-below t = and 4 dt-property-kinds.ps (falls 4 dt-property-kinds.ps _<_ μ-dt-property t) dt-property.Pre
 
 abbrev pub μ-eat-cell : Measures 4 eat-cell-kinds.ps ℕ
-μ-eat-cell κs a = 16 * left (a .1 .0 .now) (a .0 .s) + 2
+μ-eat-cell κs a = 16 * tokens-left (a .1 .0 .now) (a .0 .s) + 2
 
 abbrev pub eat-cell-at : ℕ → In 4 eat-cell-kinds.ps
 eat-cell-at t = and 4 eat-cell-kinds.ps (is 4 eat-cell-kinds.ps μ-eat-cell t) eat-cell.Pre
@@ -172,7 +172,7 @@ abbrev pub eat-cell-below : ℕ → In 4 eat-cell-kinds.ps
 eat-cell-below t = and 4 eat-cell-kinds.ps (falls 4 eat-cell-kinds.ps _<_ μ-eat-cell t) eat-cell.Pre
 
 abbrev pub μ-eat-inside : Measures 4 eat-inside-kinds.ps ℕ
-μ-eat-inside κs a = 16 * left (a .1 .0 .now) (a .0 .s) + 12
+μ-eat-inside κs a = 16 * tokens-left (a .1 .0 .now) (a .0 .s) + 12
 
 abbrev pub eat-inside-at : ℕ → In 4 eat-inside-kinds.ps
 eat-inside-at t = and 4 eat-inside-kinds.ps (is 4 eat-inside-kinds.ps μ-eat-inside t) eat-inside.Pre
@@ -181,7 +181,7 @@ abbrev pub eat-inside-below : ℕ → In 4 eat-inside-kinds.ps
 eat-inside-below t = and 4 eat-inside-kinds.ps (falls 4 eat-inside-kinds.ps _<_ μ-eat-inside t) eat-inside.Pre
 
 abbrev pub μ-eat-node-or-prop : Measures 4 eat-node-or-prop-kinds.ps ℕ
-μ-eat-node-or-prop κs a = 16 * left (a .1 .0 .now) (a .0 .s) + 10
+μ-eat-node-or-prop κs a = 16 * tokens-left (a .1 .0 .now) (a .0 .s) + 10
 
 abbrev pub eat-node-or-prop-at : ℕ → In 4 eat-node-or-prop-kinds.ps
 eat-node-or-prop-at t = and 4 eat-node-or-prop-kinds.ps (is 4 eat-node-or-prop-kinds.ps μ-eat-node-or-prop t) eat-node-or-prop.Pre
@@ -190,7 +190,7 @@ abbrev pub eat-node-or-prop-below : ℕ → In 4 eat-node-or-prop-kinds.ps
 eat-node-or-prop-below t = and 4 eat-node-or-prop-kinds.ps (falls 4 eat-node-or-prop-kinds.ps _<_ μ-eat-node-or-prop t) eat-node-or-prop.Pre
 
 abbrev pub μ-eat-pp-directive : Measures 4 eat-pp-directive-kinds.ps ℕ
-μ-eat-pp-directive κs a = 16 * left (a .1 .0 .now) (a .0 .s) + 0
+μ-eat-pp-directive κs a = 16 * tokens-left (a .1 .0 .now) (a .0 .s) + 0
 
 abbrev pub eat-pp-directive-at : ℕ → In 4 eat-pp-directive-kinds.ps
 eat-pp-directive-at t = and 4 eat-pp-directive-kinds.ps (is 4 eat-pp-directive-kinds.ps μ-eat-pp-directive t) eat-pp-directive.Pre
@@ -199,7 +199,7 @@ abbrev pub eat-pp-directive-below : ℕ → In 4 eat-pp-directive-kinds.ps
 eat-pp-directive-below t = and 4 eat-pp-directive-kinds.ps (falls 4 eat-pp-directive-kinds.ps _<_ μ-eat-pp-directive t) eat-pp-directive.Pre
 
 abbrev pub μ-item : Measures 4 item-kinds.ps ℕ
-μ-item κs a = 16 * left (a .1 .0 .now) (a .0 .s) + 11
+μ-item κs a = 16 * tokens-left (a .1 .0 .now) (a .0 .s) + 11
 
 abbrev pub item-at : ℕ → In 4 item-kinds.ps
 item-at t = and 4 item-kinds.ps (is 4 item-kinds.ps μ-item t) item.Pre
@@ -208,7 +208,7 @@ abbrev pub item-below : ℕ → In 4 item-kinds.ps
 item-below t = and 4 item-kinds.ps (falls 4 item-kinds.ps _<_ μ-item t) item.Pre
 
 abbrev pub μ-item-rest : Measures 4 item-rest-kinds.ps ℕ
-μ-item-rest κs a = 16 * left (a .1 .0 .now) (a .0 .s) + 1
+μ-item-rest κs a = 16 * tokens-left (a .1 .0 .now) (a .0 .s) + 1
 
 abbrev pub item-rest-at : ℕ → In 4 item-rest-kinds.ps
 item-rest-at t = and 4 item-rest-kinds.ps (is 4 item-rest-kinds.ps μ-item-rest t) item-rest.Pre
@@ -217,7 +217,7 @@ abbrev pub item-rest-below : ℕ → In 4 item-rest-kinds.ps
 item-rest-below t = and 4 item-rest-kinds.ps (falls 4 item-rest-kinds.ps _<_ μ-item-rest t) item-rest.Pre
 
 abbrev pub μ-node : Measures 4 node-kinds.ps ℕ
-μ-node κs a = 16 * left (a .1 .0 .now) (a .0 .s) + 9
+μ-node κs a = 16 * tokens-left (a .1 .0 .now) (a .0 .s) + 9
 
 abbrev pub node-at : ℕ → In 4 node-kinds.ps
 node-at t = and 4 node-kinds.ps (is 4 node-kinds.ps μ-node t) node.Pre
@@ -226,7 +226,7 @@ abbrev pub node-below : ℕ → In 4 node-kinds.ps
 node-below t = and 4 node-kinds.ps (falls 4 node-kinds.ps _<_ μ-node t) node.Pre
 
 abbrev pub μ-propvalues : Measures 4 propvalues-kinds.ps ℕ
-μ-propvalues κs a = 16 * left (a .1 .0 .now) (a .0 .s) + 7
+μ-propvalues κs a = 16 * tokens-left (a .1 .0 .now) (a .0 .s) + 7
 
 abbrev pub propvalues-at : ℕ → In 4 propvalues-kinds.ps
 propvalues-at t = and 4 propvalues-kinds.ps (is 4 propvalues-kinds.ps μ-propvalues t) propvalues.Pre
@@ -235,7 +235,7 @@ abbrev pub propvalues-below : ℕ → In 4 propvalues-kinds.ps
 propvalues-below t = and 4 propvalues-kinds.ps (falls 4 propvalues-kinds.ps _<_ μ-propvalues t) propvalues.Pre
 
 abbrev pub μ-value : Measures 4 value-kinds.ps ℕ
-μ-value κs a = 16 * left (a .1 .0 .now) (a .0 .s) + 6
+μ-value κs a = 16 * tokens-left (a .1 .0 .now) (a .0 .s) + 6
 
 abbrev pub value-at : ℕ → In 4 value-kinds.ps
 value-at t = and 4 value-kinds.ps (is 4 value-kinds.ps μ-value t) value.Pre
@@ -244,7 +244,7 @@ abbrev pub value-below : ℕ → In 4 value-kinds.ps
 value-below t = and 4 value-kinds.ps (falls 4 value-kinds.ps _<_ μ-value t) value.Pre
 
 abbrev pub μ-value-rest : Measures 4 value-rest-kinds.ps ℕ
-μ-value-rest κs a = 16 * left (a .1 .0 .now) (a .0 .s) + 1
+μ-value-rest κs a = 16 * tokens-left (a .1 .0 .now) (a .0 .s) + 1
 
 abbrev pub value-rest-at : ℕ → In 4 value-rest-kinds.ps
 value-rest-at t = and 4 value-rest-kinds.ps (is 4 value-rest-kinds.ps μ-value-rest t) value-rest.Pre

@@ -9,7 +9,7 @@ use Rattle.definitions.specs.Token.{tokens-of}
 use Rattle.definitions.specs.Prog.{no, propvalues, loop}
 use Rattle.definitions.specs.Grammar.{propvalues-turn, propvalues-body, grammar}
 use Rattle.machine.specs.Walk.{said, walk-rule, walk-prog, unlabelled}
-use Rattle.parser.specs.View.{left, view-of, ans-of}
+use Rattle.parser.specs.View.{tokens-left, parser-view, ans-of}
 use Rattle.machine.proofs.Way.{c-walk, c-act, c-ret, c-yes, c-no, c-fn, rule-closed, rule-body}
 use Rattle.steps.proofs.Left.{ahead-falls}
 use Rattle.steps.proofs.Steps.{c-said-no, c-said-also}
@@ -21,13 +21,13 @@ use Rattle.grammar.proofs.+bits+branch+cell_rest+cells+cond_branches_an
 -- the loop from here is the loop from the start
 abbrev pub Inv-loop : lts.InvT-loop
 Inv-loop tokens events₀ reports₀ pool₀ allowed semicolon other q₀ events reports pool q =
-    (left tokens (q .s) ≤ left tokens (q₀ .s))
+    (tokens-left tokens (q .s) ≤ tokens-left tokens (q₀ .s))
     × ((length events ≡ length events₀)
     × ((length reports ≡ length reports₀)
-    × ((length pool ≡ length pool₀) × (walk-prog (allowed - 1) (tokens-of tokens) unlabelled (propvalues-body semicolon) (view-of q events reports pool) ≡ walk-prog (allowed - 1) (tokens-of tokens) unlabelled (propvalues-body semicolon) (view-of q₀ events₀ reports₀ pool₀)))))
+    × ((length pool ≡ length pool₀) × (walk-prog (allowed - 1) (tokens-of tokens) unlabelled (propvalues-body semicolon) (parser-view q events reports pool) ≡ walk-prog (allowed - 1) (tokens-of tokens) unlabelled (propvalues-body semicolon) (parser-view q₀ events₀ reports₀ pool₀)))))
 
 abbrev pub μ-loop : lts.MeasureT-loop
-μ-loop tokens events₀ reports₀ pool₀ allowed semicolon other q₀ events reports pool q = left tokens (q .s)
+μ-loop tokens events₀ reports₀ pool₀ allowed semicolon other q₀ events reports pool q = tokens-left tokens (q .s)
 
 pub refuse-requires : (t : ℕ) → lts.Need-refuse-requires (propvalues-claims t) (propvalues-at t) reads.Post Inv-loop μ-loop
 refuse-requires t c κs = tt

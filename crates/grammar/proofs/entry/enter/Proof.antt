@@ -12,14 +12,14 @@ use Rattle.machine.specs.Walk.{Walked, walk, walk-rule, unlabelled}
 use Rattle.machine.proofs.Way.{Way, c-call, c-fn}
 use Rattle.steps.proofs.Steps.{c-any}
 use Rattle.grammar.specs.declared.entry.Entrypoint.{Entrypoint}
-use Rattle.grammar.specs.Subprograms.{entry-of}
+use Rattle.grammar.specs.Subprograms.{entry-for}
 use Rattle.grammar.proofs.Ways.{prog-on}
 use Rattle.grammar.proofs.entry.enter.Statement.{statement}
 use Rattle.grammar.proofs.entry.enter.Tie as tie
 
 -- by the variant
-entered : {ask : Rule → Machine → Walked} {ts : List Token} {b : Span} {m : Machine} {e f : Entrypoint} {w : Walked} → e ≡ f → Way ask ts b (entry (entry-of f)) m w → Way ask ts b (entry (entry-of e)) m w
-entered {ask = ask} {ts = ts} {b = b} {m = m} h k = record { is = k .is ∙ sym (ap (λ (e : Entrypoint). walk ask ts b (entry (entry-of e)) m) h) }
+entered : {ask : Rule → Machine → Walked} {ts : List Token} {b : Span} {m : Machine} {e f : Entrypoint} {w : Walked} → e ≡ f → Way ask ts b (entry (entry-for f)) m w → Way ask ts b (entry (entry-for e)) m w
+entered {ask = ask} {ts = ts} {b = b} {m = m} h k = record { is = k .is ∙ sym (ap (λ (e : Entrypoint). walk ask ts b (entry (entry-for e)) m) h) }
 
 enum-told : tie.Need-enum-told
 enum-told c =

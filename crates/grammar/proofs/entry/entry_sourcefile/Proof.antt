@@ -10,17 +10,17 @@ use Rattle.definitions.specs.Token.{tokens-of}
 use Rattle.definitions.specs.Grammar.{sourcefile-turn, entry-sourcefile}
 use Rattle.machine.specs.Walk.{walk-prog, unlabelled}
 use Rattle.machine.proofs.Way.{c-act, c-ret, c-yes, c-no}
-use Rattle.parser.specs.View.{left, view-of}
+use Rattle.parser.specs.View.{tokens-left, parser-view}
 use Rattle.steps.proofs.Left.{ahead-falls}
 use Rattle.grammar.proofs.Ways.{c-prog-on, again-prog, last-yes}
 use Rattle.grammar.proofs.entry.entry_sourcefile.Statement.{statement}
 use Rattle.grammar.proofs.entry.entry_sourcefile.Tie as tie
 
 abbrev Inv-loop : tie.InvT-loop
-Inv-loop tokens events₀ reports₀ pool₀ q₀ events reports pool q = (walk-prog MOST-OPEN-CALLS (tokens-of tokens) unlabelled entry-sourcefile (view-of q events reports pool) ≡ walk-prog MOST-OPEN-CALLS (tokens-of tokens) unlabelled entry-sourcefile (view-of q₀ events₀ reports₀ pool₀)) × ((left tokens (q .s) ≤ left tokens (q₀ .s)) × ((length events ≡ length events₀) × ((length reports ≡ length reports₀) × (length pool ≡ length pool₀))))
+Inv-loop tokens events₀ reports₀ pool₀ q₀ events reports pool q = (walk-prog MOST-OPEN-CALLS (tokens-of tokens) unlabelled entry-sourcefile (parser-view q events reports pool) ≡ walk-prog MOST-OPEN-CALLS (tokens-of tokens) unlabelled entry-sourcefile (parser-view q₀ events₀ reports₀ pool₀)) × ((tokens-left tokens (q .s) ≤ tokens-left tokens (q₀ .s)) × ((length events ≡ length events₀) × ((length reports ≡ length reports₀) × (length pool ≡ length pool₀))))
 
 abbrev μ-loop : tie.MeasureT-loop
-μ-loop tokens events₀ reports₀ pool₀ q₀ events reports pool q = left tokens (q .s)
+μ-loop tokens events₀ reports₀ pool₀ q₀ events reports pool q = tokens-left tokens (q .s)
 
 loop-holds : tie.Need-loop-holds Inv-loop μ-loop
 loop-holds c = (refl, (le-refl _, (refl, (refl, refl))))

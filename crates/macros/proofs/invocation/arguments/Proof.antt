@@ -15,7 +15,7 @@ use Rattle.definitions.specs.Grammar.{macro-argument-turn}
 use Rattle.machine.specs.Machine.{Machine}
 use Rattle.machine.specs.Walk.{Walked, walk}
 use Rattle.machine.proofs.Way.{c-act, c-ret, c-seq}
-use Rattle.parser.specs.View.{view, left}
+use Rattle.parser.specs.View.{view, tokens-left}
 use Rattle.steps.proofs.Ways.{opened, if-no, if-yes, completes, turns, stops-yes}
 use Rattle.steps.proofs.Left.{ahead-falls}
 use Rattle.macros.proofs.Opened.{macro-argument-turn-is}
@@ -23,10 +23,10 @@ use Rattle.macros.proofs.invocation.arguments.Statement.{statement}
 use Rattle.macros.proofs.invocation.arguments.Tie as tie
 
 abbrev Inv-loop : tie.InvT-loop
-Inv-loop tokens events₀ q₀ events q = ((ask : Rule → Machine → Walked) (b : Span) (codes reports pool : List ℕ) → walk ask (tokens-of tokens) b (loop macro-argument-turn) (view q codes events reports pool) ≡ walk ask (tokens-of tokens) b (loop macro-argument-turn) (view q₀ codes events₀ reports pool)) × ((left tokens q ≤ left tokens q₀) × (length events ≡ length events₀))
+Inv-loop tokens events₀ q₀ events q = ((ask : Rule → Machine → Walked) (b : Span) (codes reports pool : List ℕ) → walk ask (tokens-of tokens) b (loop macro-argument-turn) (view q codes events reports pool) ≡ walk ask (tokens-of tokens) b (loop macro-argument-turn) (view q₀ codes events₀ reports pool)) × ((tokens-left tokens q ≤ tokens-left tokens q₀) × (length events ≡ length events₀))
 
 abbrev μ-loop : tie.MeasureT-loop
-μ-loop tokens events₀ q₀ events q = left tokens q
+μ-loop tokens events₀ q₀ events q = tokens-left tokens q
 
 loop-holds : tie.Need-loop-holds Inv-loop μ-loop
 loop-holds c = (λ ask b codes reports pool. refl, (le-refl _, refl))

@@ -10,17 +10,17 @@ use Rattle.basics.proofs.Flags.{flags}
 use Rattle.definitions.specs.Token.{tokens-of}
 use Rattle.machine.specs.Walk.{unlabelled}
 use Rattle.machine.proofs.Turns.{argue, few-rows}
-use Rattle.parser.specs.View.{view, left}
+use Rattle.parser.specs.View.{view, tokens-left}
 use Rattle.macros.specs.Role.{role}
 use Rattle.macros.proofs.Arguments.{argue-comma, argue-end, argue-on, argue-whole, comma-some, inside-some, inside-most, row-left, few-left}
 use Rattle.macros.proofs.invocation.bump_argument.Statement.{statement}
 use Rattle.macros.proofs.invocation.bump_argument.Tie as tie
 
 abbrev Inv-loop : tie.InvT-loop
-Inv-loop tokens events₀ q₀ level₀ events q level = ((codes reports pool : List ℕ) → argue (tokens-of tokens) level (view q codes events reports pool) ≡ argue (tokens-of tokens) level₀ (view q₀ codes events₀ reports pool)) × ((level + left tokens q ≤ level₀ + left tokens q₀) × (length events ≡ length events₀))
+Inv-loop tokens events₀ q₀ level₀ events q level = ((codes reports pool : List ℕ) → argue (tokens-of tokens) level (view q codes events reports pool) ≡ argue (tokens-of tokens) level₀ (view q₀ codes events₀ reports pool)) × ((level + tokens-left tokens q ≤ level₀ + tokens-left tokens q₀) × (length events ≡ length events₀))
 
 abbrev μ-loop : tie.MeasureT-loop
-μ-loop tokens events₀ q₀ level₀ events q level = left tokens q
+μ-loop tokens events₀ q₀ level₀ events q level = tokens-left tokens q
 
 loop-holds : tie.Need-loop-holds Inv-loop μ-loop
 loop-holds c = (λ codes reports pool. refl, (le-refl _, refl))

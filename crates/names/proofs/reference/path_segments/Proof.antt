@@ -13,7 +13,7 @@ use Rattle.definitions.specs.Grammar.{path-turn}
 use Rattle.machine.specs.Machine.{Machine}
 use Rattle.machine.specs.Walk.{Walked, walk}
 use Rattle.machine.proofs.Way.{c-walk, c-ret, c-seq}
-use Rattle.parser.specs.View.{view, left}
+use Rattle.parser.specs.View.{view, tokens-left}
 use Rattle.steps.proofs.Ways.{opened, lands, if-no, if-yes, turns, stops-yes}
 use Rattle.steps.proofs.Left.{ahead-falls}
 use Rattle.names.proofs.Opened.{path-turn-is}
@@ -21,10 +21,10 @@ use Rattle.names.proofs.reference.path_segments.Statement.{statement}
 use Rattle.names.proofs.reference.path_segments.Tie as tie
 
 abbrev Inv-loop : tie.InvT-loop
-Inv-loop codes₀ tokens events₀ reports₀ pool₀ q₀ codes events reports pool q = ((ask : Rule → Machine → Walked) (b : Span) → walk ask (tokens-of tokens) b (loop path-turn) (view q codes events reports pool) ≡ walk ask (tokens-of tokens) b (loop path-turn) (view q₀ codes₀ events₀ reports₀ pool₀)) × ((left tokens q ≤ left tokens q₀) × ((length events ≡ length events₀) × ((length reports ≡ length reports₀) × (length pool ≡ length pool₀))))
+Inv-loop codes₀ tokens events₀ reports₀ pool₀ q₀ codes events reports pool q = ((ask : Rule → Machine → Walked) (b : Span) → walk ask (tokens-of tokens) b (loop path-turn) (view q codes events reports pool) ≡ walk ask (tokens-of tokens) b (loop path-turn) (view q₀ codes₀ events₀ reports₀ pool₀)) × ((tokens-left tokens q ≤ tokens-left tokens q₀) × ((length events ≡ length events₀) × ((length reports ≡ length reports₀) × (length pool ≡ length pool₀))))
 
 abbrev μ-loop : tie.MeasureT-loop
-μ-loop codes₀ tokens events₀ reports₀ pool₀ q₀ codes events reports pool q = left tokens q
+μ-loop codes₀ tokens events₀ reports₀ pool₀ q₀ codes events reports pool q = tokens-left tokens q
 
 loop-holds : tie.Need-loop-holds Inv-loop μ-loop
 loop-holds c = (λ ask b. refl, (le-refl _, (refl, (refl, refl))))

@@ -3,7 +3,7 @@ use mathlib.Core.Bool.{true≢false, false≢true}
 use Rattle.basics.proofs.Flags.{flags}
 use mathlib.Core.Path.{sym}
 use Rattle.definitions.specs.Token.{tokens-of}
-use Rattle.parser.specs.View.{view, left}
+use Rattle.parser.specs.View.{view, tokens-left}
 use Rattle.parser.proofs.Moves.{at-end-is, ended-in, ended-past}
 use Rattle.parser.proofs.State.at_end.Statement.{statement}
 use Rattle.parser.proofs.State.at_end.Tie as tie
@@ -12,7 +12,7 @@ peek-requires : tie.Need-peek-requires
 peek-requires c κs = tt
 
 returns : tie.Need-returns
-unfolding left
+unfolding tokens-left
 returns c =
     let args = c .before .before .before .args in
     let self = args .self in
@@ -26,7 +26,7 @@ returns c =
     )
 
 returns-2 : tie.Need-returns-2
-unfolding left
+unfolding tokens-left
 returns-2 c =
     let args = c .before .before .before .args in
     let self = args .self in

@@ -1,7 +1,7 @@
 -- `at_immediate`: the expectation, and the row at the cursor.
 use Rattle.basics.proofs.Flags.{flags}
 use Rattle.definitions.specs.Token.{tokens-of}
-use Rattle.parser.specs.View.{view, left}
+use Rattle.parser.specs.View.{view, tokens-left}
 use Rattle.parser.proofs.Programs.{immediate-is}
 use Rattle.parser.proofs.State.at_immediate.Statement.{statement}
 use Rattle.parser.proofs.State.at_immediate.Tie as tie
@@ -13,7 +13,7 @@ is-at-requires : tie.Need-is-at-requires
 is-at-requires c κs = tt
 
 returns : tie.Need-returns
-unfolding left
+unfolding tokens-left
 returns c =
     let args = c .before .before .before .before .args in
     let self = args .self in

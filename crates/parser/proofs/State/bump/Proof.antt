@@ -1,7 +1,7 @@
 -- `bump`: a peek, a row, its event.
 use Rattle.basics.proofs.Flags.{flags}
 use borrow.Author.Tests.{ltb-true, ltb-false}
-use Rattle.parser.specs.View.{view, left}
+use Rattle.parser.specs.View.{view, tokens-left}
 use Rattle.parser.proofs.Moves.{bump-in, bump-past}
 use borrow.Author.Needs.{needs}
 use Rattle.parser.proofs.State.bump.Statement.{statement}
@@ -37,7 +37,7 @@ returns c =
     )
 
 returns-2 : tie.Need-returns-2
-unfolding left
+unfolding tokens-left
 returns-2 c =
     let args = c .before .before .before .before .args in
     let self = args .self in

@@ -1,7 +1,7 @@
 -- `bump_name`: a peek, a row, those of the set after it, one event.
 use Rattle.basics.proofs.Flags.{flags}
 use borrow.Author.Tests.{ltb-true, ltb-false}
-use Rattle.parser.specs.View.{view, left}
+use Rattle.parser.specs.View.{view, tokens-left}
 use Rattle.parser.proofs.Moves.{name-in, name-past}
 use borrow.Author.Needs.{needs}
 use Rattle.parser.proofs.State.bump_name.Statement.{statement}
@@ -47,7 +47,7 @@ returns c =
     )
 
 returns-2 : tie.Need-returns-2
-unfolding left
+unfolding tokens-left
 returns-2 c =
     let args = c .before .before .before .before .before .args in
     let self = args .self in

@@ -1,6 +1,6 @@
 -- `complete`: the placeholder becomes a start, and a finish is pushed.
 use Rattle.basics.proofs.Flags.{flags}
-use Rattle.parser.specs.View.{view, left, marker-of}
+use Rattle.parser.specs.View.{view, tokens-left, marker-of}
 use Rattle.parser.proofs.Moves.{complete-on, complete-off}
 use borrow.Author.Needs.{needs}
 use Rattle.parser.proofs.State.complete.Statement.{statement}
@@ -30,7 +30,7 @@ returns c =
     )
 
 returns-2 : tie.Need-returns-2
-unfolding left
+unfolding tokens-left
 returns-2 c =
     let args = c .before .before .before .args in
     let self = args .self in

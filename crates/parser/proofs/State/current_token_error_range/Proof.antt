@@ -22,8 +22,8 @@ add-requires c κs = tt
 range-requires : tie.Need-range-requires
 range-requires c κs = tt
 
-less-requires : tie.Need-less-requires
-less-requires c κs = tt
+minus-requires : tie.Need-minus-requires
+minus-requires c κs = tt
 
 returns : tie.Need-returns
 returns c =
@@ -57,10 +57,10 @@ returns-3 c =
     let self = args .self in
     let tokens = args .tokens .now in
     let codes₀ = args .codes .now in
-    let less = c .less in
-    λ events reports pool. range-end tokens (view self codes₀ events reports pool) _ (omega flags) (less .ensures)
+    let minus = c .minus in
+    λ events reports pool. range-end tokens (view self codes₀ events reports pool) _ (omega flags) (minus .ensures)
 
 pub current-token-error-range-spec : {M : Type 1} → statement M
 current-token-error-range-spec =
     tie.close
-    (tie.spec ends-statement-requires add-requires range-requires less-requires returns returns-2 returns-3)
+    (tie.spec ends-statement-requires add-requires range-requires minus-requires returns returns-2 returns-3)

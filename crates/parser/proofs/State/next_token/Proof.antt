@@ -1,6 +1,6 @@
 -- `next_token`: one row, or none at the end.
 use Rattle.basics.proofs.Flags.{flags}
-use Rattle.parser.specs.View.{view, left}
+use Rattle.parser.specs.View.{view, tokens-left}
 use Rattle.parser.proofs.Moves.{took-row, took-nothing}
 use Rattle.parser.proofs.State.next_token.Statement.{statement}
 use Rattle.parser.proofs.State.next_token.Tie as tie
@@ -12,7 +12,7 @@ end-at-requires : tie.Need-end-at-requires
 end-at-requires c κs = tt
 
 returns : tie.Need-returns
-unfolding left
+unfolding tokens-left
 returns c =
     let args = c .before .before .before .args in
     let self = args .self in
@@ -21,7 +21,7 @@ returns c =
     (λ codes events reports pool. took-row tokens _ (view self codes events reports pool) (omega flags) (end-at .ensures), omega flags)
 
 returns-2 : tie.Need-returns-2
-unfolding left
+unfolding tokens-left
 returns-2 c =
     let args = c .before .before .args in
     let self = args .self in

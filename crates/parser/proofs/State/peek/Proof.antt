@@ -2,7 +2,7 @@
 use Rattle.basics.proofs.Flags.{flags}
 use mathlib.Core.Path.{_≡_, refl, sym, _∙_, ap}
 use Rattle.definitions.specs.Token.{tokens-of}
-use Rattle.parser.specs.View.{view, left}
+use Rattle.parser.specs.View.{view, tokens-left}
 use Rattle.parser.proofs.Moves.{peek-is}
 use Rattle.parser.proofs.State.peek.Statement.{statement}
 use Rattle.parser.proofs.State.peek.Tie as tie
@@ -11,7 +11,7 @@ skip-trivia-requires : tie.Need-skip-trivia-requires
 skip-trivia-requires c κs = tt
 
 returns : tie.Need-returns
-unfolding left
+unfolding tokens-left
 returns c =
     let args = c .before .before .args in
     let self = args .self in

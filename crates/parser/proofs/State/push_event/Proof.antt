@@ -1,7 +1,7 @@
 -- `push_event`: a row, unless something was refused.
 use Rattle.basics.proofs.Flags.{flags}
 use mathlib.Core.Path.{_≡_, refl, sym, _∙_, ap}
-use Rattle.parser.specs.View.{left}
+use Rattle.parser.specs.View.{tokens-left}
 use Rattle.parser.proofs.Moves.{push-on, push-off}
 use borrow.Author.Needs.{needs}
 use Rattle.parser.proofs.State.push_event.Statement.{statement}
@@ -20,7 +20,7 @@ returns c =
     (λ codes reports pool. push-row .ensures .0 codes reports pool ∙ push-on _ _ _ (if1 .taken), push-row .ensures .1)
 
 returns-2 : tie.Need-returns-2
-unfolding left
+unfolding tokens-left
 returns-2 c = (λ codes reports pool. push-off _ _ _ (c .if1 .left), λ tokens. omega flags)
 
 pub push-event-spec : {M : Type 1} → statement M

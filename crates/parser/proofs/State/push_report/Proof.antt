@@ -1,6 +1,6 @@
 -- `push_report`: the row and its codes, or refusal 7.
 use Rattle.basics.proofs.Flags.{flags}
-use Rattle.parser.specs.View.{view, left, span-of}
+use Rattle.parser.specs.View.{view, tokens-left, span-of}
 use Rattle.parser.proofs.Reports.{report-fits, report-no-pool, report-no-row}
 use borrow.Author.Needs.{needs}
 use Rattle.parser.proofs.State.push_report.Statement.{statement}
@@ -61,7 +61,7 @@ same-length-2 : tie.Need-same-length-2
 same-length-2 c = search needs
 
 returns : tie.Need-returns
-unfolding left
+unfolding tokens-left
 returns c =
     let args = c .before .before .before .before .before .before .before .before .before .before .before .before .before .before .before .before .before .before .before .before .args in
     let self = args .self in

@@ -2,7 +2,7 @@
 use Rattle.basics.proofs.Flags.{flags}
 use Rattle.parser.proofs.Stores.{sets3}
 use Rattle.machine.specs.Machine as M
-use Rattle.parser.specs.View.{left}
+use Rattle.parser.specs.View.{tokens-left}
 use lib.ListN.{length-set}
 use Rattle.parser.proofs.State.push_row.Statement.{statement}
 use Rattle.parser.proofs.State.push_row.Tie as tie
@@ -44,14 +44,14 @@ same-length : tie.Need-same-length
 same-length c = simp length-set
 
 returns : tie.Need-returns
-unfolding M.push-row left
+unfolding M.push-row tokens-left
 returns c =
     let fits2 = c .before .fits2 in
     let if1 = c .if1 in
     (λ codes reports pool. rw (← (fits2 .ensures .0), if1 .taken) (rw (sets3 _ _ _ _ _)), λ tokens. omega flags)
 
 returns-2 : tie.Need-returns-2
-unfolding M.push-row left
+unfolding M.push-row tokens-left
 returns-2 c =
     let fits2 = c .before .before .fits2 in
     let if1 = c .before .if1 in

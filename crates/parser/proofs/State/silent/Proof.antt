@@ -1,7 +1,7 @@
 -- `silent`: a peek, and the row there.
 use Rattle.basics.proofs.Flags.{flags}
 use Rattle.definitions.specs.Token.{tokens-of}
-use Rattle.parser.specs.View.{view, left, kinds-of}
+use Rattle.parser.specs.View.{view, tokens-left, kinds-of}
 use Rattle.parser.proofs.Moves.{silent-is}
 use Rattle.parser.proofs.State.silent.Statement.{statement}
 use Rattle.parser.proofs.State.silent.Tie as tie
@@ -13,7 +13,7 @@ is-matched-at-requires : tie.Need-is-matched-at-requires
 is-matched-at-requires c κs = tt
 
 returns : tie.Need-returns
-unfolding left
+unfolding tokens-left
 returns c =
     let args = c .before .before .before .args in
     let self = args .self in

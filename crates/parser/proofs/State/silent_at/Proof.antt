@@ -1,7 +1,7 @@
 -- `silent_at`: a peek, and the row there.
 use Rattle.basics.proofs.Flags.{flags}
 use Rattle.definitions.specs.Token.{tokens-of}
-use Rattle.parser.specs.View.{view, left}
+use Rattle.parser.specs.View.{view, tokens-left}
 use Rattle.parser.proofs.Moves.{silent-is}
 use mathlib.Core.List.{[], _∷_}
 use Rattle.parser.proofs.State.silent_at.Statement.{statement}
@@ -14,7 +14,7 @@ is-at-requires : tie.Need-is-at-requires
 is-at-requires c κs = tt
 
 returns : tie.Need-returns
-unfolding left
+unfolding tokens-left
 returns c =
     let args = c .before .before .before .args in
     let self = args .self in

@@ -1,7 +1,7 @@
 -- `silent_at_set`: a peek, and the row there.
 use Rattle.basics.proofs.Flags.{flags}
 use Rattle.definitions.specs.Token.{tokens-of}
-use Rattle.parser.specs.View.{view, left}
+use Rattle.parser.specs.View.{view, tokens-left}
 use Rattle.parser.proofs.Moves.{silent-is}
 use Rattle.parser.proofs.State.silent_at_set.Statement.{statement}
 use Rattle.parser.proofs.State.silent_at_set.Tie as tie
@@ -13,7 +13,7 @@ is-one-of-at-requires : tie.Need-is-one-of-at-requires
 is-one-of-at-requires c κs = tt
 
 returns : tie.Need-returns
-unfolding left
+unfolding tokens-left
 returns c =
     let args = c .before .before .before .before .args in
     let self = args .self in

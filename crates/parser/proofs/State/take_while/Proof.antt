@@ -7,7 +7,7 @@ use mathlib.Core.List.{List}
 use lib.ListN.{drop}
 use Rattle.definitions.specs.Token.{tokens-of}
 use Rattle.machine.specs.Machine.{name-run}
-use Rattle.parser.specs.View.{view, left}
+use Rattle.parser.specs.View.{view, tokens-left}
 use Rattle.parser.proofs.Moves.{name-more, name-done}
 use Rattle.parser.proofs.State.take_while.Statement.{statement}
 use Rattle.parser.proofs.State.take_while.Tie as tie
@@ -15,10 +15,10 @@ use Rattle.parser.proofs.State.take_while.Tie as tie
 abbrev Inv-loop : tie.InvT-loop
 Inv-loop t set q₀ q =
     ((codes events reports pool : List ℕ) → name-run set (drop (q .cursor .0) (tokens-of t)) (view q codes events reports pool) ≡ name-run set (drop (q₀ .cursor .0) (tokens-of t)) (view q₀ codes events reports pool))
-    × (left t q ≤ left t q₀)
+    × (tokens-left t q ≤ tokens-left t q₀)
 
 abbrev μ-loop : tie.MeasureT-loop
-μ-loop t set q₀ q = left t q
+μ-loop t set q₀ q = tokens-left t q
 
 loop-holds : tie.Need-loop-holds Inv-loop μ-loop
 loop-holds c = (λ codes events reports pool. refl, le-refl _)
@@ -30,7 +30,7 @@ next-token-requires : tie.Need-next-token-requires Inv-loop μ-loop
 next-token-requires c κs = tt
 
 loop-less : tie.Need-loop-less Inv-loop μ-loop
-unfolding left
+unfolding tokens-left
 loop-less c =
     let is-one-of-at = c .before .before .is-one-of-at in
     let if1 = c .before .if1 in

@@ -11,18 +11,18 @@ use Rattle.definitions.specs.Grammar.{prefix-turn}
 use Rattle.machine.specs.Machine.{Machine}
 use Rattle.machine.specs.Walk.{Walked, walk}
 use Rattle.machine.proofs.Way.{c-walk}
-use Rattle.parser.specs.View.{view, left, ans-of}
-use Rattle.steps.specs.View.{own-name, goes}
+use Rattle.parser.specs.View.{view, tokens-left, ans-of}
+use Rattle.steps.specs.View.{own-name, took-if-again}
 use Rattle.steps.proofs.Left.{ahead-falls}
 use Rattle.steps.proofs.Steps.{went-told, ended-told, other-ends}
 use Rattle.prefixes.proofs.node_or_prop_prefix.labels_and_name.Statement.{statement}
 use Rattle.prefixes.proofs.node_or_prop_prefix.labels_and_name.Tie as tie
 
 abbrev Inv-loop : tie.InvT-loop
-Inv-loop codes₀ tokens events₀ reports₀ pool₀ allow q₀ codes events reports pool q = ((ask : Rule → Machine → Walked) (b : Span) → walk ask (tokens-of tokens) b (loop (prefix-turn (own-name allow))) (view q codes events reports pool) ≡ walk ask (tokens-of tokens) b (loop (prefix-turn (own-name allow))) (view q₀ codes₀ events₀ reports₀ pool₀)) × ((left tokens q ≤ left tokens q₀) × ((length events ≡ length events₀) × ((length reports ≡ length reports₀) × (length pool ≡ length pool₀))))
+Inv-loop codes₀ tokens events₀ reports₀ pool₀ allow q₀ codes events reports pool q = ((ask : Rule → Machine → Walked) (b : Span) → walk ask (tokens-of tokens) b (loop (prefix-turn (own-name allow))) (view q codes events reports pool) ≡ walk ask (tokens-of tokens) b (loop (prefix-turn (own-name allow))) (view q₀ codes₀ events₀ reports₀ pool₀)) × ((tokens-left tokens q ≤ tokens-left tokens q₀) × ((length events ≡ length events₀) × ((length reports ≡ length reports₀) × (length pool ≡ length pool₀))))
 
 abbrev μ-loop : tie.MeasureT-loop
-μ-loop codes₀ tokens events₀ reports₀ pool₀ allow q₀ codes events reports pool q = left tokens q
+μ-loop codes₀ tokens events₀ reports₀ pool₀ allow q₀ codes events reports pool q = tokens-left tokens q
 
 loop-holds : tie.Need-loop-holds Inv-loop μ-loop
 loop-holds c = (λ ask b. refl, (le-refl _, (refl, (refl, refl))))
@@ -39,7 +39,7 @@ loop-less : tie.Need-loop-less Inv-loop μ-loop
 loop-less c =
     let a = c .before in
     let d = a .before .before .before .before .before .before .before .before in
-    omega (arith, d .turn .ensures .1 .0, ap goes (a .enum-told .given .1))
+    omega (arith, d .turn .ensures .1 .0, ap took-if-again (a .enum-told .given .1))
 
 loop-again : tie.Need-loop-again Inv-loop μ-loop
 loop-again c =
@@ -47,7 +47,7 @@ loop-again c =
     let d = a .before .before .before .before .before .before .before .before in
     let e = d .before .before .before .before .before in
     let s = e .before .before .before .before .before in
-    (λ ask b. went-told (d .turn .result .ans) (c-walk (d .turn .ensures .0 ask b)) (ap ans-of (a .enum-told .given .1)) (ahead-falls (s .args .tokens .now) (e .loop .q) (d .turn .result .s) (omega (arith, d .turn .ensures .1 .0, ap goes (a .enum-told .given .1)))) ∙ e .loop .inv .0 ask b, (omega (arith, d .turn .ensures .1 .0, ap goes (a .enum-told .given .1), e .loop .inv .1 .0), (omega (arith, e .loop .inv .1 .1, d .turn .kept), (omega (arith, e .loop .inv .1 .1, d .turn .kept), omega (arith, e .loop .inv .1 .1, d .turn .kept)))))
+    (λ ask b. went-told (d .turn .result .ans) (c-walk (d .turn .ensures .0 ask b)) (ap ans-of (a .enum-told .given .1)) (ahead-falls (s .args .tokens .now) (e .loop .q) (d .turn .result .s) (omega (arith, d .turn .ensures .1 .0, ap took-if-again (a .enum-told .given .1)))) ∙ e .loop .inv .0 ask b, (omega (arith, d .turn .ensures .1 .0, ap took-if-again (a .enum-told .given .1), e .loop .inv .1 .0), (omega (arith, e .loop .inv .1 .1, d .turn .kept), (omega (arith, e .loop .inv .1 .1, d .turn .kept), omega (arith, e .loop .inv .1 .1, d .turn .kept)))))
 
 same-length : tie.Need-same-length Inv-loop μ-loop
 same-length c =

@@ -3,7 +3,7 @@ use native.Mathlib.Omega.{arith}
 use Rattle.definitions.specs.Check.{eat-starting_inside_else_}
 use Rattle.definitions.specs.Grammar.{prefix-turn}
 use Rattle.machine.proofs.Way.{c-walk, c-ret, c-yes, c-no}
-use Rattle.steps.proofs.Steps.{goes-one, found-one}
+use Rattle.steps.proofs.Steps.{again-one, unless-no-one}
 use Rattle.prefixes.proofs.node_or_prop_prefix.turn.Statement.{statement}
 use Rattle.prefixes.proofs.node_or_prop_prefix.turn.Tie as tie
 
@@ -34,7 +34,7 @@ returns c =
     let a = c .before .before .before .before .before .before in
     let d = a .before .before .before .before .before in
     let e = d .before in
-    (λ ask b. (c-yes (c-walk (e .at .ensures .0 ask b _ _ _)) (d .if1 .taken) (c-walk (a .label-or-name .ensures .0 ask b))) .is, (omega (arith, e .at .ensures .1 .0, e .at .ensures .1 .1 (d .if1 .taken), a .label-or-name .ensures .1, goes-one (a .label-or-name .result .ans), found-one (a .label-or-name .result .ans)), omega (arith, e .at .ensures .1 .0, e .at .ensures .1 .1 (d .if1 .taken), a .label-or-name .ensures .1, goes-one (a .label-or-name .result .ans), found-one (a .label-or-name .result .ans))))
+    (λ ask b. (c-yes (c-walk (e .at .ensures .0 ask b _ _ _)) (d .if1 .taken) (c-walk (a .label-or-name .ensures .0 ask b))) .is, (omega (arith, e .at .ensures .1 .0, e .at .ensures .1 .1 (d .if1 .taken), a .label-or-name .ensures .1, again-one (a .label-or-name .result .ans), unless-no-one (a .label-or-name .result .ans)), omega (arith, e .at .ensures .1 .0, e .at .ensures .1 .1 (d .if1 .taken), a .label-or-name .ensures .1, again-one (a .label-or-name .result .ans), unless-no-one (a .label-or-name .result .ans))))
 
 eat-requires : tie.Need-eat-requires
 eat-requires c κs = tt

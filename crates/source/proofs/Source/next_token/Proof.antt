@@ -39,15 +39,15 @@ use Rattle.definitions.specs.Token.{tokens-of, drop-trivia, past as after-first
 use Rattle.layout.specs.declared.TokenIndex.{TokenIndex}
 use Rattle.layout.proofs.TokenIndex as I
 use Rattle.layout.proofs.TokenIndex.Laws as I′
-use Rattle.source.specs.Place.{after-token}
+use Rattle.source.specs.Cursor.{after-token}
 use Rattle.source.specs.declared.Source.{Source}
 use Rattle.source.proofs.Held.{Own, Fields, tokens-val, moved, opened, moved-on}
 use Rattle.source.proofs.Source as T
 use Rattle.source.proofs.Source.Laws as T′
-use Rattle.source.proofs.place.past_token as past
-use Rattle.source.proofs.place.past_token.Symbol as past-def
-use Rattle.source.proofs.place.past_token.Symbol.{name as #source·past}
-use Rattle.source.proofs.place.past_token.Met as past-thm
+use Rattle.source.proofs.cursor.past_token as past
+use Rattle.source.proofs.cursor.past_token.Symbol as past-def
+use Rattle.source.proofs.cursor.past_token.Symbol.{name as #source·past}
+use Rattle.source.proofs.cursor.past_token.Met as past-thm
 use Rattle.source.proofs.Source.next_token.Key.{name as #source·next-token}
 use Rattle.source.proofs.Source.next_token as next-token
 use Rattle.source.proofs.Source.next_token.Statement as stated

@@ -39,15 +39,15 @@ use Rattle.definitions.specs.Token.{tokens-of, drop-trivia}
 use Rattle.layout.specs.declared.TokenIndex.{TokenIndex}
 use Rattle.layout.proofs.TokenIndex as I
 use Rattle.layout.proofs.TokenIndex.Laws as I′
-use Rattle.source.specs.Place.{after-trivia}
+use Rattle.source.specs.Cursor.{after-trivia}
 use Rattle.source.specs.declared.Source.{Source}
 use Rattle.source.proofs.Held.{Own, Fields, tokens-val, moved, opened, moved-on}
 use Rattle.source.proofs.Source as T
 use Rattle.source.proofs.Source.Laws as T′
-use Rattle.source.proofs.place.past_trivia as past
-use Rattle.source.proofs.place.past_trivia.Symbol as past-def
-use Rattle.source.proofs.place.past_trivia.Symbol.{name as #source·past}
-use Rattle.source.proofs.place.past_trivia.Met as past-thm
+use Rattle.source.proofs.cursor.past_trivia as past
+use Rattle.source.proofs.cursor.past_trivia.Symbol as past-def
+use Rattle.source.proofs.cursor.past_trivia.Symbol.{name as #source·past}
+use Rattle.source.proofs.cursor.past_trivia.Met as past-thm
 use Rattle.source.proofs.Source.peek.Key.{name as #source·peek}
 use Rattle.source.proofs.Source.peek as peek
 use Rattle.source.proofs.Source.peek.Statement as stated

@@ -40,7 +40,7 @@ use denote.Exit.{yes}
 use denote.Triple.Clauses.{ensured, lasts}
 use Rattle.definitions.specs.Layout.{TOKEN-ROW}
 use Rattle.definitions.specs.Token.{tokens-of}
-use Rattle.token_rows.specs.Tokens.{END, kind-of}
+use Rattle.token_rows.specs.Tokens.{SEEN-AT-END, kind-of}
 use Rattle.token_rows.proofs.token.kind_at as kind-at
 use Rattle.token_rows.proofs.token.kind_at.Symbol as kind-at-def
 use Rattle.token_rows.proofs.token.kind_at.Symbol.{name as #token-rows·kind-at}
@@ -101,7 +101,7 @@ module _ {M : Type 1} (𝓤 : URA M) (H : Heap 𝓤) (A : Atoms 𝓤) (W : Given
   -- of the callee's `ensured`, the first clause alone
   said : (r : ℕ) → ent 𝓤 (ensured 𝓤 H A kind-at.ended (kind-at.clauses 𝓤 H A mem run) (κ, tt) (d .tokens, (at, tt)) tt r) (fact 𝓤 (r ≡ found))
   said r =
-      let inside = fact 𝓤 ((r ≡ END → ⊥) → at < length (now (d .tokens)) / TOKEN-ROW) in
+      let inside = fact 𝓤 ((r ≡ SEEN-AT-END → ⊥) → at < length (now (d .tokens)) / TOKEN-ROW) in
       exE 𝓤 _ (λ ws. via 𝓤 (sep 𝓤 (fact 𝓤 (r ≡ found)) inside) (snd∗ 𝓤 (sem 𝓤 H A (lasts kind-at.ended (κ, tt) (d .tokens, (at, tt)) ws)) (sep 𝓤 (fact 𝓤 (r ≡ found)) inside)) (fst∗ 𝓤 (fact 𝓤 (r ≡ found)) inside))
 
   exits : (r : ℕ) (u : Val) → r ≡ found → ent 𝓤 (⋆ 𝓤 H A (‵ (u8 .own r (u ∷ [])) ∷ (‵ (flft κ q) ⊛ ‵ ftrue) ∷ ‵ (Own κ d) ∷ [])) (Post u)
