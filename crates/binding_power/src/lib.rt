@@ -45,7 +45,7 @@ pub const LEFT_POWERS: [u8; 31] = [
     15, // RelationalGtEq
     13, // RelationalEq
     13, // RelationalNeq
-    2, // QuestionMark
+    TERNARY_LEFT, // QuestionMark
 ];
 
 pub const RIGHT_POWERS: [u8; 31] = [
@@ -79,7 +79,7 @@ pub const RIGHT_POWERS: [u8; 31] = [
     16, // RelationalGtEq
     14, // RelationalEq
     14, // RelationalNeq
-    1, // QuestionMark
+    TERNARY_RIGHT, // QuestionMark
 ];
 
 // `PrefixOp::binding_power`.

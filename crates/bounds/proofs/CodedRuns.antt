@@ -14,7 +14,7 @@ use Rattle.definitions.specs.Token.{Token, trivia, drop-trivia}
 use Rattle.definitions.specs.Prog.{Ans, no, yes, Rule, Act, silent-at, at-end, immediate, immediate-next, add-expected, bump, bump-name, bump-argument, emit, emit-unclosed, less, Prog}
 use Rattle.definitions.specs.Grammar.{grammar, Entry, whole}
 use Rattle.definitions.specs.Skeleton.{Label, no-label, Skeleton, done, token, _⧺_}
-use Rattle.definitions.specs.Run.{State, Out, mark-of, peeked, answer, makes, taken, do-bump, do-name, add, at-depth, do-argument, pool-of, do-emit, over-unless, do-expected, perform, closed, marked, unlinked, exec, run}
+use Rattle.definitions.specs.Run.{State, Out, mark-of, peeked, replies, makes, taken, do-bump, do-name, add, at-depth, do-argument, pool-of, do-emit, over-unless, do-expected, perform, closed, marked, unlinked, exec, run}
 use Rattle.definitions.specs.Call.{run-entry}
 use Rattle.laws.proofs.Engine.{Composes, exec-only}
 use Rattle.basics.proofs.Tests.{cond-all, and-left, and-right}
@@ -30,8 +30,8 @@ pub record Makes-codes (o : Out) : Type 0 where
 abbrev Q : State → Out → Type 0
 Q s o = Below CODES (s .pending) → Makes-codes o
 
-quiet : (a : Ans) (s u : State) → u .pending ≡ s .pending → Q s (answer a u)
-unfolding answer Coded
+quiet : (a : Ans) (s u : State) → u .pending ≡ s .pending → Q s (replies a u)
+unfolding replies Coded
 quiet a s u e h = record { shape = omega arith; made = tt; pending = rw e h }
 
 add-codes : (s : State) (o o′ : Out) → Q s o → Q (o .state) o′ → Q s (add o o′)
@@ -62,7 +62,7 @@ unfolding do-argument
 argument-codes n s [] = quiet no s _ refl
 argument-codes n s (t ∷ ts) =
     let go : (m : ℕ) → Q s (add (makes yes (token t (length ts) done) (taken ts)) (do-argument m (taken ts) ts)) = λ m. add-codes s (makes yes (token t (length ts) done) (taken ts)) _ (token-codes s t ts) (unfold makes in (argument-codes m (taken ts) ts)) in
-    let stay : (a : Ans) → Q s (answer a (record { rest = t ∷ ts; since = s .since; pending = s .pending })) = λ a. quiet a s _ refl in
+    let stay : (a : Ans) → Q s (replies a (record { rest = t ∷ ts; since = s .since; pending = s .pending })) = λ a. quiet a s _ refl in
     cond-all (Q s) (trivia t) (argument-codes n s ts)
     (cond-all (Q s) (eqb (t .kind) K.LParen) (go (suc n))
     (cond-all (Q s) (eqb (t .kind) K.RParen) (depth-codes s n _ _ (stay no) go)
@@ -79,7 +79,7 @@ emit-codes m h l s p q k =
     record { shape = omega arith; made = (record { message = p; hint = q; pool = cond-all (Below CODES) (eqb m E.msg-expected) {x = s .pending} {y = []} k tt }, tt); pending = k }
 
 act-codes : (b : Label) (a : Act) → small-act a ≡ true → (s : State) → Q s (perform b a s)
-unfolding perform small-act peeked answer do-expected makes
+unfolding perform small-act peeked replies do-expected makes
 act-codes b (silent-at ks) e s = quiet _ s (peeked s) refl
 act-codes b at-end e s = quiet _ s (peeked s) refl
 act-codes b (immediate k) e s = quiet _ s s refl
@@ -101,7 +101,7 @@ record Chain-codes (a i : Skeleton) (u : State) : Type 0 where
   pending : Below CODES (u .pending)
 
 composed : Composes Q (λ s m a i u. Below CODES (s .pending) → Chain-codes a i u)
-unfolding marked makes unlinked answer Coded closed
+unfolding marked makes unlinked replies Coded closed
 composed =
     record {
       idle = λ a s. quiet a s s refl;

@@ -11,7 +11,7 @@ use Rattle.definitions.specs.TokenKind as K
 use Rattle.definitions.specs.Token.{Token, trivia, drop-trivia, ended, past, first-in}
 use Rattle.definitions.specs.Skeleton.{Label, done, token, _⧺_}
 use Rattle.definitions.specs.Prog.{Ans, no, yes, Rule, Act, silent-at, at-end, immediate, immediate-next, add-expected, bump, bump-name, bump-argument, emit, emit-unclosed, less, act}
-use Rattle.definitions.specs.Run.{State, Out, peeked, truth, answer, makes, taken, do-bump, run-of, do-name, add, at-depth, do-argument, do-emit, over-unless, do-expected, perform}
+use Rattle.definitions.specs.Run.{State, Out, peeked, truth, replies, makes, taken, do-bump, stretch-of, do-name, add, at-depth, do-argument, do-emit, over-unless, do-expected, perform}
 use Rattle.basics.proofs.Tests.{cond-all}
 use Rattle.laws.proofs.Trivia.{drop-twice, drop-trivia-length}
 use Rattle.laws.proofs.Kept.{run-of-split}
@@ -21,7 +21,7 @@ use Rattle.bounds.proofs.Cost.{Price, Bill, here, fee, act-row, bill}
 use Rattle.bounds.proofs.RowLaws.{glue-less}
 use Rattle.bounds.proofs.Paid.{Known, Holds, cost, Paid, Fits, widen, weaken, after, or-left, or-right, fits-at, here-paid, Sound}
 
-run-of-length : (ks : List ℕ) (ts : List Token) → length (run-of ks ts .after) ≤ length ts
+run-of-length : (ks : List ℕ) (ts : List Token) → length (stretch-of ks ts .after) ≤ length ts
 run-of-length ks ts = omega (arith, simp length-append at (ap length (run-of-split ks ts)))
 
 module _ (w : Price) (one : 1 ≤ w .base) (worth : w .leaf ≤ w .credit) where
@@ -59,18 +59,18 @@ module _ (w : Price) (one : 1 ≤ w .base) (worth : w .leaf ≤ w .credit) where
   some s t ts e = subst (λ (u : List Token). length u ≤ length (s .rest)) (sym e) (drop-trivia-length (s .rest))
 
   bump-fits : (d : Bool) (s : State) (l : List Token) → l ≡ drop-trivia (s .rest) → Known d s → Fits w (get (act-row w bump d) (do-bump (peeked s) l .ans)) s (do-bump (peeked s) l .state) (cost w (do-bump (peeked s) l .made))
-  unfolding do-bump answer makes act-row cost
+  unfolding do-bump replies makes act-row cost
   bump-fits false s [] e k = or-left w (at yes still (w .base)) (at yes took (fee w)) yes (fits-at w yes (peek-here false s tt))
   bump-fits true s [] e k = absurd (true≢false (ap ended e ∙ k))
   bump-fits false s (t ∷ ts) e k = or-right w (at yes still (w .base)) (at yes took (fee w)) yes (fits-at w yes (take-paid s ts _ (some s t ts e) (omega arith)))
   bump-fits true s (t ∷ ts) e k = fits-at w yes (take-paid s ts _ (some s t ts e) (omega arith))
 
   name-fits : (ks : List ℕ) (d : Bool) (s : State) (l : List Token) → l ≡ drop-trivia (s .rest) → Known d s → Fits w (get (act-row w (bump-name ks) d) (do-name ks (peeked s) l .ans)) s (do-name ks (peeked s) l .state) (cost w (do-name ks (peeked s) l .made))
-  unfolding do-name answer makes act-row cost
+  unfolding do-name replies makes act-row cost
   name-fits ks false s [] e k = or-left w (at yes still (w .base)) (at yes took (fee w)) yes (fits-at w yes (peek-here false s tt))
   name-fits ks true s [] e k = absurd (true≢false (ap ended e ∙ k))
-  name-fits ks false s (t ∷ ts) e k = or-right w (at yes still (w .base)) (at yes took (fee w)) yes (fits-at w yes (take-paid s (run-of ks ts .after) _ (le-trans (suc-le-suc (run-of-length ks ts)) (some s t ts e)) (omega arith)))
-  name-fits ks true s (t ∷ ts) e k = fits-at w yes (take-paid s (run-of ks ts .after) _ (le-trans (suc-le-suc (run-of-length ks ts)) (some s t ts e)) (omega arith))
+  name-fits ks false s (t ∷ ts) e k = or-right w (at yes still (w .base)) (at yes took (fee w)) yes (fits-at w yes (take-paid s (stretch-of ks ts .after) _ (le-trans (suc-le-suc (run-of-length ks ts)) (some s t ts e)) (omega arith)))
+  name-fits ks true s (t ∷ ts) e k = fits-at w yes (take-paid s (stretch-of ks ts .after) _ (le-trans (suc-le-suc (run-of-length ks ts)) (some s t ts e)) (omega arith))
 
   -- ---------------------------------------------------------------- a macro argument
 
@@ -90,8 +90,8 @@ module _ (w : Price) (one : 1 ≤ w .base) (worth : w .leaf ≤ w .credit) where
   low there = zero-le
   low took = omega arith
 
-  stay-fits : (b : Bool) (s s′ : State) → length (s′ .rest) ≤ length (s .rest) → Argued s (answer (truth b) s′)
-  unfolding answer cost
+  stay-fits : (b : Bool) (s s′ : State) → length (s′ .rest) ≤ length (s .rest) → Argued s (replies (truth b) s′)
+  unfolding replies cost
   stay-fits b s s′ h = record { told = b; says = refl; fits = record { key = still; paid = record { steps = length (s .rest) - length (s′ .rest); left = omega arith; holds = tt; can = one; enough = omega arith } } }
 
   go-fits : (s : State) (t : Token) (ts : List Token) (o : Out) → suc (length ts) ≤ length (s .rest) → Argued (taken ts) o → Argued s (add (makes yes (token t (length ts) done) (taken ts)) o)
@@ -113,7 +113,7 @@ module _ (w : Price) (one : 1 ≤ w .base) (worth : w .leaf ≤ w .credit) where
   argument-fits n s [] e = stay-fits false s (record { rest = []; since = s .since; pending = s .pending }) zero-le
   argument-fits n s (t ∷ ts) e =
       let go : (m : ℕ) → Argued s (add (makes yes (token t (length ts) done) (taken ts)) (do-argument m (taken ts) ts)) = λ m. go-fits s t ts (do-argument m (taken ts) ts) e (argument-fits m (taken ts) ts (le-refl _)) in
-      let stay : (b : Bool) → Argued s (answer (truth b) (record { rest = t ∷ ts; since = s .since; pending = s .pending })) = λ b. stay-fits b s (record { rest = t ∷ ts; since = s .since; pending = s .pending }) e in
+      let stay : (b : Bool) → Argued s (replies (truth b) (record { rest = t ∷ ts; since = s .since; pending = s .pending })) = λ b. stay-fits b s (record { rest = t ∷ ts; since = s .since; pending = s .pending }) e in
       cond-all (Argued s) (trivia t) (argument-fits n s ts (omega arith))
       (cond-all (Argued s) (eqb (t .kind) K.LParen) (go (suc n))
       (cond-all (Argued s) (eqb (t .kind) K.RParen) (depth-fits s n _ _ (stay false) go)
@@ -154,7 +154,7 @@ module _ (w : Price) (one : 1 ≤ w .base) (worth : w .leaf ≤ w .credit) where
   expected-paid true s l k = record { steps = 0; left = omega arith; holds = k; can = one; enough = omega arith }
 
   act-fits : (b : Label) (a : Act) (d : Bool) (s : State) → Known d s → Fits w (get (act-row w a d) (perform b a s .ans)) s (perform b a s .state) (cost w (perform b a s .made))
-  unfolding act-row perform peeked answer makes do-expected do-emit cost
+  unfolding act-row perform peeked replies makes do-expected do-emit cost
   act-fits b (silent-at ks) d s k = asked _ (first-in ks (drop-trivia (s .rest))) (λ _. or-left w (at no (here d) (w .base)) (at yes there (w .base)) no (fits-at w no (peek-here d s k))) (λ e. or-right w (at no (here d) (w .base)) (at yes there (w .base)) yes (fits-at w yes (peek-here true s (first-there ks (drop-trivia (s .rest)) e))))
   act-fits b at-end d s k = end-fits d s k
   act-fits b (immediate x) d s k = idle d (first-in (x ∷ []) (s .rest)) s k

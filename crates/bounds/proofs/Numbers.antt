@@ -8,7 +8,7 @@ use mathlib.Core.List.{List, [], _∷_, _++_, append-nil}
 use lib.Dec.{leb, eqb}
 use lib.ListN.{length, length-append}
 use borrow.Author.Tests.{leb-true}
-use Rattle.definitions.specs.Layout.{TREE-ROW, ERROR-ROW, REPORT-ROW, MOST-TOKENS}
+use Rattle.definitions.specs.Layout.{TWO-TO-32, TREE-ROW, ERROR-ROW, REPORT-ROW, MOST-TOKENS}
 use Rattle.definitions.specs.TokenKind as K
 use Rattle.definitions.specs.Token.{Token, tokens-of, byte-count}
 use Rattle.definitions.specs.Grammar.{Entry}
@@ -20,12 +20,12 @@ use Rattle.definitions.specs.Refusal.{Refusal, unknown-entry, no-tree-room, pla
 use Rattle.definitions.specs.Call.{Buffers, zeros, written, refusal, cleared, Sheets, sheets, kept, delivered, forward-mark, outcome, room-of, run-entry, parse, Asked, for, unknown, entry-of, checked, asked, call}
 use Rattle.basics.proofs.Tests.{cond-all}
 use Rattle.laws.proofs.Skeleton.{event-count-append, events-length, reports-append}
-use Rattle.laws.specs.Pushes.{event-count, Clear}
+use Rattle.laws.specs.Pushes.{event-count, None-exceeded}
 use Rattle.laws.proofs.Scan.{fits-clear}
 use Rattle.laws.proofs.Between.{entry-reads}
 use Rattle.laws.proofs.Decode.{rows-length}
 use Rattle.laws.proofs.Input.{All-good, Checked, checked-input}
-use Rattle.bounds.specs.Numbers.{most-events, most-reports, most-expectations, most-rows, Bounded, Runs-bounded, WORD, Below, Within-limits, So-far, Words-so-far, Words, Answer-fits, Fits, Numbers-fit}
+use Rattle.bounds.specs.Numbers.{most-events, most-reports, most-expectations, most-rows, Bounded, Runs-bounded, Below, Within-limits, So-far, Words-so-far, Words, Answer-fits, Fits, Numbers-fit}
 use Rattle.bounds.proofs.Tables as T
 use Rattle.bounds.proofs.Counts.{counted, events-cost, reports-cost}
 use Rattle.bounds.proofs.Pools.{Small, few-expected, entry-small}
@@ -53,7 +53,7 @@ module _ (e : Entry) (ts : List Token) where
       let j : length (reports (pushes o)) ≡ length (reports l) + length (reports m) = ap (λ (x : List Push). length (reports x)) h ∙ simp (reports-append, length-append) in
       omega (arith, reports-cost o, counted T.reports e ts)
 
-  few-pool : (l m : List Push) → pushes o ≡ l ++ m → Clear l → length (pool (reports l)) ≤ most-expectations (length ts)
+  few-pool : (l m : List Push) → pushes o ≡ l ++ m → None-exceeded l → length (pool (reports l)) ≤ most-expectations (length ts)
   few-pool l m h c = omega (arith, few-expected l m (subst Small h (entry-small e ts)) c, few-reported l m h)
 
   -- A RUN IS BOUNDED
@@ -89,8 +89,8 @@ good-kinded : (ts : List Token) → All-good ts → Kinded ts
 good-kinded [] g = tt
 good-kinded (t ∷ ts) g = (kind-small (t .kind) (g .0 .kind), good-kinded ts (g .1))
 
-below-written : (l b : List ℕ) → Below WORD l → Below WORD (written l b)
-below-written l b h = below-append WORD l _ h (below-zeros WORD (length b - length l) (omega arith))
+below-written : (l b : List ℕ) → Below TWO-TO-32 l → Below TWO-TO-32 (written l b)
+below-written l b h = below-append TWO-TO-32 l _ h (below-zeros TWO-TO-32 (length b - length l) (omega arith))
 
 -- what a run has written, within cause 2's limits
 pub so-far : Words-so-far
@@ -105,12 +105,12 @@ so-far e ts w l m h c =
       events-written = omega arith;
       reports-written = omega arith;
       pool-written = omega arith;
-      report-words = report-numbers-below WORD (length ts) (byte-count ts) (omega arith) (omega arith) (omega arith) 0 (reports l) r (omega arith);
-      pool-words = below-wider CODES WORD (pool (reports l)) (omega arith) (pool-below (reports l) r);
+      report-words = report-numbers-below TWO-TO-32 (length ts) (byte-count ts) (omega arith) (omega arith) (omega arith) 0 (reports l) r (omega arith);
+      pool-words = below-wider CODES TWO-TO-32 (pool (reports l)) (omega arith) (pool-below (reports l) r);
     }
 
 -- what an accepted call writes
-module _ (e : Entry) (ts : List Token) (limits : Within-limits ts) (k : Kinded ts) (c : Clear (pushes (run-entry e ts))) where
+module _ (e : Entry) (ts : List Token) (limits : Within-limits ts) (k : Kinded ts) (c : None-exceeded (pushes (run-entry e ts))) where
   pub sheets-fit : (b : Buffers) → Fits (kept (sheets e ts (run-entry e ts)) b)
   unfolding sheets
   sheets-fit b =
@@ -132,20 +132,20 @@ module _ (e : Entry) (ts : List Token) (limits : Within-limits ts) (k : Kinded t
             };
         buffers =
             record {
-              events = below-zeros WORD (length (b .events)) (omega arith);
-              trees = below-written (rows (tree e ts)) (b .trees) (rows-below WORD (omega arith) e ts k (omega arith) (omega arith) (omega arith));
-              errors = below-written x (b .errors) (errors-below WORD 0 ts (omega arith) k (omega arith));
+              events = below-zeros TWO-TO-32 (length (b .events)) (omega arith);
+              trees = below-written (rows (tree e ts)) (b .trees) (rows-below TWO-TO-32 (omega arith) e ts k (omega arith) (omega arith) (omega arith));
+              errors = below-written x (b .errors) (errors-below TWO-TO-32 0 ts (omega arith) k (omega arith));
               reports = below-written (report-numbers (length ts) (byte-count ts) 0 l) (b .reports) (s .report-words);
               pool = below-written (pool l) (b .pool) (s .pool-words);
             };
       }
 
-refusal-fits : (r : Refusal) → place-of r < WORD → Answer-fits (refusal r)
+refusal-fits : (r : Refusal) → place-of r < TWO-TO-32 → Answer-fits (refusal r)
 refusal-fits r h = record { number = omega (arith, number-small r); place = h; tree-count = omega arith; error-count = omega arith; report-count = omega arith; expectation-count = omega arith }
 
-cleared-fits : (r : Refusal) (b : Buffers) → place-of r < WORD → Fits (cleared r b)
+cleared-fits : (r : Refusal) (b : Buffers) → place-of r < TWO-TO-32 → Fits (cleared r b)
 cleared-fits r b h =
-    let z : (l : List ℕ) → Below WORD (zeros l) = λ l. below-zeros WORD (length l) (omega arith) in
+    let z : (l : List ℕ) → Below TWO-TO-32 (zeros l) = λ l. below-zeros TWO-TO-32 (length l) (omega arith) in
     record { answer = refusal-fits r h; buffers = record { events = z (b .events); trees = z (b .trees); errors = z (b .errors); reports = z (b .reports); pool = z (b .pool) } }
 
 module _ (bytes tokens : List ℕ) (b : Buffers) (w : Words b) where

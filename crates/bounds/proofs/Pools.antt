@@ -16,7 +16,7 @@ use Rattle.definitions.specs.Run.{State, mark-of, pool-of, over-unless, closed}
 use Rattle.definitions.specs.Report.{Push, event, reported, exceeded, pushes, reports, pool}
 use Rattle.definitions.specs.Call.{run-entry}
 use Rattle.basics.proofs.Tests.{cond-all}
-use Rattle.laws.specs.Pushes.{Clear}
+use Rattle.laws.specs.Pushes.{None-exceeded}
 use Rattle.laws.proofs.Skeleton.{pushes-join, pushes-closed}
 use Rattle.laws.proofs.Clear.{clear-append}
 use Rattle.laws.proofs.Kept.{Kept, whole-kept}
@@ -29,14 +29,14 @@ Small (reported r ∷ l) = (length (r .pool) ≤ MOST-PENDING) × Small l
 Small (exceeded m ∷ l) = Unit {0}
 
 -- what follows counts only if nothing before it was refused
-small-append : (l m : List Push) → Small l → (Clear l → Small m) → Small (l ++ m)
+small-append : (l m : List Push) → Small l → (None-exceeded l → Small m) → Small (l ++ m)
 small-append [] m p q = q tt
 small-append (event x ∷ l) m p q = small-append l m p q
 small-append (reported r ∷ l) m p q = (p .0, small-append l m (p .1) q)
 small-append (exceeded x ∷ l) m p q = tt
 
 -- so of the pushes before a refusal
-pub few-expected : (l m : List Push) → Small (l ++ m) → Clear l → length (pool (reports l)) ≤ MOST-PENDING * length (reports l)
+pub few-expected : (l m : List Push) → Small (l ++ m) → None-exceeded l → length (pool (reports l)) ≤ MOST-PENDING * length (reports l)
 unfolding pool reports
 few-expected [] m s c = zero-le
 few-expected (event x ∷ l) m s c = few-expected l m s c
@@ -51,7 +51,7 @@ few-expected (exceeded x ∷ l) m s c = absurd c
 -- from at most 256 pending to at most 256
 pub record Few (s : State) (p : Skeleton) (u : State) : Type 0 where
   pub small : length (s .pending) ≤ MOST-PENDING → Small (pushes p)
-  pub few : length (s .pending) ≤ MOST-PENDING → Clear (pushes p) → length (u .pending) ≤ MOST-PENDING
+  pub few : length (s .pending) ≤ MOST-PENDING → None-exceeded (pushes p) → length (u .pending) ≤ MOST-PENDING
 
 room-few : (s : State) (u : State) (b : Bool) (m : ℕ) → ltb (length (s .pending)) MOST-PENDING ≡ b → length (u .pending) ≡ suc (length (s .pending)) → Few s (over-unless b m) u
 unfolding over-unless pushes
@@ -66,7 +66,7 @@ few-join : (s u v : State) (p q : Skeleton) → Few s p u → Few u q v → Few 
 few-join s u v p q f g =
     record {
       small = λ h. rw pushes-join (small-append (pushes p) (pushes q) (f .small h) (λ c. g .small (f .few h c)));
-      few = λ h c. let d : Clear (pushes p) × Clear (pushes q) = clear-append (pushes p) (pushes q) (subst Clear (pushes-join p q) c) in g .few (f .few h (d .0)) (d .1);
+      few = λ h c. let d : None-exceeded (pushes p) × None-exceeded (pushes q) = clear-append (pushes p) (pushes q) (subst None-exceeded (pushes-join p q) c) in g .few (f .few h (d .0)) (d .1);
     }
 
 few-close : (s u v : State) (k : ℕ) (a i : Skeleton) → Few s a u → Few u i v → Few s (closed k (mark-of u) (mark-of v) a i) v
@@ -74,7 +74,7 @@ few-close s u v k a i f g =
     record {
       small = λ h. rw pushes-closed (small-append (pushes a) _ (f .small h) (λ c. small-append (pushes i) _ (g .small (f .few h c)) (λ _. tt)));
       few = λ h c.
-          let d : Clear (pushes a) × Clear (event (mark-of u) ∷ (pushes i ++ (event (mark-of v) ∷ []))) = clear-append (pushes a) _ (subst Clear (pushes-closed k (mark-of u) (mark-of v) a i) c) in
+          let d : None-exceeded (pushes a) × None-exceeded (event (mark-of u) ∷ (pushes i ++ (event (mark-of v) ∷ []))) = clear-append (pushes a) _ (subst None-exceeded (pushes-closed k (mark-of u) (mark-of v) a i) c) in
           g .few (f .few h (d .0)) (clear-append (pushes i) _ (d .1) .0);
     }
 

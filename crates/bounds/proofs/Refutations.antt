@@ -5,6 +5,7 @@ use native.Mathlib.Omega.{arith}
 use mathlib.Core.Path.{_≡_, refl}
 use mathlib.Core.List.{List, [], _∷_}
 use lib.ListN.{length}
+use Rattle.definitions.specs.Layout.{TWO-TO-32}
 use Rattle.definitions.specs.Token.{Token, byte-count}
 use Rattle.definitions.specs.Skeleton.{no-label}
 use Rattle.definitions.specs.Event.{StartNode, AddCombinedToken}
@@ -13,7 +14,7 @@ use Rattle.definitions.specs.Report.{reported, reports, pool}
 use Rattle.definitions.specs.Call.{Answer, Result}
 use Rattle.bounds.specs.Numbers.{most-events, most-reports, most-expectations, most-rows, Within-limits, So-far, Answer-fits, Fits, All-fit, Counts-within}
 
--- 2^32, by its own number: a larger `WORD` would pass otherwise
+-- 2^32, by its own number: a larger `TWO-TO-32` would pass otherwise
 abbrev large : ℕ
 large = 4294967296
 

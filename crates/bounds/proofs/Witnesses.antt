@@ -5,11 +5,12 @@ use native.Mathlib.Omega.{arith}
 use mathlib.Core.Path.{_≡_, refl}
 use mathlib.Core.List.{List, [], _∷_}
 use lib.ListN.{replicate}
+use Rattle.definitions.specs.Layout.{TWO-TO-32}
 use Rattle.definitions.specs.Token.{byte-count, tokens-of}
 use Rattle.definitions.specs.Grammar.{SourceFile, whole}
 use Rattle.definitions.specs.Report.{Push, pushes}
 use Rattle.definitions.specs.Call.{Buffers, run-entry, call}
-use Rattle.bounds.specs.Numbers.{WORD, Within-limits, So-far, Below, Fits}
+use Rattle.bounds.specs.Numbers.{Within-limits, So-far, Below, Fits}
 use Rattle.bounds.proofs.Numbers.{so-far, numbers-fit}
 
 -- a stray `}`, with buffers of the lengths that it needs
@@ -23,7 +24,7 @@ accepted : call 1 (125 ∷ []) numbers lent .answer .number ≡ 0
 unfolding call
 accepted = refl
 
-sevens : (n : ℕ) → Below WORD (replicate n 7)
+sevens : (n : ℕ) → Below TWO-TO-32 (replicate n 7)
 sevens zero = tt
 sevens (suc n) = (omega arith, sevens n)
 

@@ -13,7 +13,7 @@ use Rattle.definitions.specs.Event.{Event, StartNode, AddToken, AddCombinedToke
 use Rattle.definitions.specs.Place.{Tree, nil, leaf, subtree, root, count, rows}
 use Rattle.definitions.specs.Report.{Push, pushes, reports, report-numbers, pool}
 use Rattle.definitions.specs.Call.{Buffers, Answer, Result, run-entry, call}
-use Rattle.laws.specs.Pushes.{event-count, Clear}
+use Rattle.laws.specs.Pushes.{event-count, None-exceeded}
 
 -- ---------------------------------------------------------------- for n tokens
 
@@ -61,7 +61,7 @@ pub record Bounded (e : Entry) (ts : List Token) : Type 0 where
   pub events-so-far : (l m : List Push) → pushes (run-entry e ts) ≡ l ++ m → event-count l ≤ most-events (length ts)
   pub reports-so-far : (l m : List Push) → pushes (run-entry e ts) ≡ l ++ m → length (reports l) ≤ most-reports (length ts)
   -- as long as there is no refusal 5 among them
-  pub pool-so-far : (l m : List Push) → pushes (run-entry e ts) ≡ l ++ m → Clear l → length (pool (reports l)) ≤ most-expectations (length ts)
+  pub pool-so-far : (l m : List Push) → pushes (run-entry e ts) ≡ l ++ m → None-exceeded l → length (pool (reports l)) ≤ most-expectations (length ts)
   -- the numbers of its tree rows, and the counts in them
   pub tree-rows : length (rows (root (root-kind e) (run-entry e ts) ts)) ≤ TREE-ROW * most-rows (length ts)
   pub counts : Counts-within (most-rows (length ts)) (root (root-kind e) (run-entry e ts) ts)
@@ -71,10 +71,6 @@ abbrev pub Runs-bounded : Type 0
 Runs-bounded = (e : Entry) (ts : List Token) → Bounded e ts
 
 -- ---------------------------------------------------------------- within cause 2's limits
-
--- 2^32
-abbrev pub WORD : ℕ
-WORD = TWO-TO-32
 
 -- every number of a list is below a limit
 abbrev pub Below : ℕ → List ℕ → Type 0
@@ -87,32 +83,32 @@ pub record Within-limits (ts : List Token) : Type 0 where
 
 -- when a run has made the pushes l, without a refusal 5: how many numbers were written, and that they are words themselves
 pub record So-far (ts : List Token) (l : List Push) : Type 0 where
-  pub events-written : EVENT-ROW * event-count l < WORD
-  pub reports-written : REPORT-ROW * length (reports l) < WORD
-  pub pool-written : length (pool (reports l)) < WORD
-  pub report-words : Below WORD (report-numbers (length ts) (byte-count ts) 0 (reports l))
-  pub pool-words : Below WORD (pool (reports l))
+  pub events-written : EVENT-ROW * event-count l < TWO-TO-32
+  pub reports-written : REPORT-ROW * length (reports l) < TWO-TO-32
+  pub pool-written : length (pool (reports l)) < TWO-TO-32
+  pub report-words : Below TWO-TO-32 (report-numbers (length ts) (byte-count ts) 0 (reports l))
+  pub pool-words : Below TWO-TO-32 (pool (reports l))
 
 -- for every entry, and any first pushes l of its run
 abbrev pub Words-so-far : Type 0
-Words-so-far = (e : Entry) (ts : List Token) → Within-limits ts → (l m : List Push) → pushes (run-entry e ts) ≡ l ++ m → Clear l → So-far ts l
+Words-so-far = (e : Entry) (ts : List Token) → Within-limits ts → (l m : List Push) → pushes (run-entry e ts) ≡ l ++ m → None-exceeded l → So-far ts l
 
 -- every number in a call's buffers
 pub record Words (b : Buffers) : Type 0 where
-  pub events : Below WORD (b .events)
-  pub trees : Below WORD (b .trees)
-  pub errors : Below WORD (b .errors)
-  pub reports : Below WORD (b .reports)
-  pub pool : Below WORD (b .pool)
+  pub events : Below TWO-TO-32 (b .events)
+  pub trees : Below TWO-TO-32 (b .trees)
+  pub errors : Below TWO-TO-32 (b .errors)
+  pub reports : Below TWO-TO-32 (b .reports)
+  pub pool : Below TWO-TO-32 (b .pool)
 
 -- every number of a call's answer
 pub record Answer-fits (a : Answer) : Type 0 where
-  pub number : a .number < WORD
-  pub place : a .place < WORD
-  pub tree-count : a .tree-count < WORD
-  pub error-count : a .error-count < WORD
-  pub report-count : a .report-count < WORD
-  pub expectation-count : a .expectation-count < WORD
+  pub number : a .number < TWO-TO-32
+  pub place : a .place < TWO-TO-32
+  pub tree-count : a .tree-count < TWO-TO-32
+  pub error-count : a .error-count < TWO-TO-32
+  pub report-count : a .report-count < TWO-TO-32
+  pub expectation-count : a .expectation-count < TWO-TO-32
 
 pub record Fits (r : Result) : Type 0 where
   pub answer : Answer-fits (r .answer)

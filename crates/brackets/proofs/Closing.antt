@@ -8,7 +8,7 @@ use Rattle.definitions.specs.TokenKind as K
 use Rattle.definitions.specs.NodeKind as N
 use Rattle.definitions.specs.Token.{one-of}
 use Rattle.basics.proofs.Tests.{and-left, and-right}
-use Rattle.brackets.specs.Brackets.{Kinds, end, leaf, node, is-end, first-leaf, opens, begins, has-angle, no-bracket, first-only, after-name, last-only, children-fit, List-of, cells, values, cell-branches, value-branches, expression, elsewhere, inside, node-fits, fits}
+use Rattle.brackets.specs.Brackets.{Outline, end, leaf, node, is-end, first-leaf, starts-open, begins, has-angle, no-bracket, first-only, after-name, last-only, children-proper, List-of, cells, values, cell-branches, value-branches, expression, elsewhere, list-below, node-proper, proper}
 use Rattle.laws.proofs.FactsHold.{or-left, or-right}
 use Rattle.laws.proofs.Leaves.{or-cases}
 use Rattle.brackets.proofs.Bits.{and-both, at, below-nil, below-cons}
@@ -27,8 +27,8 @@ within m elsewhere = true
 
 -- it fits where a node of kind k that stands in x puts it
 unfoldable pub node-in : List-of → ℕ → Sum → Bool
-unfolding inside
-node-in x k m = within m (inside x k false) && (m .angleless || within m (inside x k true))
+unfolding list-below
+node-in x k m = within m (list-below x k false) && (m .angleless || within m (list-below x k true))
 
 unfoldable pub children-ok : ℕ → Sum → Bool
 unfolding one-of
@@ -63,13 +63,13 @@ close k m =
 
 -- ---------------------------------------------------------------- what holds
 
-free-named : (c : Kinds) → no-bracket c ≡ true → after-name c ≡ true
+free-named : (c : Outline) → no-bracket c ≡ true → after-name c ≡ true
 unfolding after-name no-bracket
 free-named end e = refl
 free-named (leaf k f) e = or-right (eqb k K.Ident && first-only f) _ e
 free-named (node k c f) e = e
 
-called-named : (c : Kinds) → named c ≡ true → after-name c ≡ true
+called-named : (c : Outline) → named c ≡ true → after-name c ≡ true
 unfolding after-name named
 called-named end e = absurd (false≢true e)
 called-named (leaf k f) e = or-left _ _ e
@@ -79,11 +79,11 @@ cond-map : (b : Bool) {x y z w : Bool} → (x ≡ true → z ≡ true) → (y �
 cond-map true f g e = f e
 cond-map false f g e = g e
 
-module _ (m : Sum) (c : Kinds) (h : Sums m c) (fit : fits elsewhere c ≡ true) where
+module _ (m : Sum) (c : Outline) (h : Sums m c) (fit : proper elsewhere c ≡ true) where
   abbrev flag : (i : ℕ) → at i (bits m) ≡ true → at i (bits (exact c)) ≡ true
   flag i e = h .flags .holds i e
 
-  pub within-fits : (x : List-of) → within m x ≡ true → fits x c ≡ true
+  pub within-fits : (x : List-of) → within m x ≡ true → proper x c ≡ true
   unfolding exact
   within-fits cells e = flag 10 e
   within-fits values e = flag 11 e
@@ -92,21 +92,21 @@ module _ (m : Sum) (c : Kinds) (h : Sums m c) (fit : fits elsewhere c ≡ true) 
   within-fits expression e = flag 14 e
   within-fits elsewhere e = fit
 
-  node-in-fits : (x : List-of) (k : ℕ) → node-in x k m ≡ true → fits (inside x k (has-angle c)) c ≡ true
+  node-in-fits : (x : List-of) (k : ℕ) → node-in x k m ≡ true → proper (list-below x k (has-angle c)) c ≡ true
   unfolding node-in exact no-angle
   node-in-fits x k e = go (has-angle c) refl
     where
-      none : has-angle c ≡ true → m .angleless ≡ true → fits (inside x k true) c ≡ true
+      none : has-angle c ≡ true → m .angleless ≡ true → proper (list-below x k true) c ≡ true
       none z a = absurd (false≢true (sym (ap not z) ∙ flag 9 a))
 
-      go : (b : Bool) → has-angle c ≡ b → fits (inside x k b) c ≡ true
-      go false z = within-fits (inside x k false) (and-left (within m (inside x k false)) _ e)
+      go : (b : Bool) → has-angle c ≡ b → proper (list-below x k b) c ≡ true
+      go false z = within-fits (list-below x k false) (and-left (within m (list-below x k false)) _ e)
       go true z =
-          or-cases (m .angleless) (within m (inside x k true)) (and-right (within m (inside x k false)) _ e) (none z)
-          (λ a. within-fits (inside x k true) a)
+          or-cases (m .angleless) (within m (list-below x k true)) (and-right (within m (list-below x k false)) _ e) (none z)
+          (λ a. within-fits (list-below x k true) a)
 
-  children-fits : (k : ℕ) → children-ok k m ≡ true → children-fit k c ≡ true
-  unfolding children-ok children-fit exact
+  children-fits : (k : ℕ) → children-ok k m ≡ true → children-proper k c ≡ true
+  unfolding children-ok children-proper exact
   children-fits k e =
       cond-map (one-of (N.DtExpr ∷ N.ParenExpr ∷ []) k) (flag 2)
       (cond-map (eqb k N.MacroInvocation) (λ z. or-cases (m .free) (m .called) z (λ a. free-named c (flag 1 a)) (λ a. called-named c (flag 4 a)))
@@ -114,21 +114,21 @@ module _ (m : Sum) (c : Kinds) (h : Sums m c) (fit : fits elsewhere c ≡ true) 
       e
 
   -- the node, where it stands
-  node-fit : (x : List-of) (k : ℕ) → children-ok k m ≡ true → node-fits x k c ≡ true → node-in x k m ≡ true → fits x (node k c end) ≡ true
-  unfolding fits
+  node-fit : (x : List-of) (k : ℕ) → children-ok k m ≡ true → node-proper x k c ≡ true → node-in x k m ≡ true → proper x (node k c end) ≡ true
+  unfolding proper
   node-fit x k o e g = and-both e (and-both (children-fits k o) (and-both (node-in-fits x k g) refl))
 
-  starts : (k : ℕ) → (m .plain || (eqb k N.DtExpr && m .begun)) ≡ true → node-fits cells k c ≡ true
-  unfolding exact starts-plain opens
+  starts : (k : ℕ) → (m .plain || (eqb k N.DtExpr && m .begun)) ≡ true → node-proper cells k c ≡ true
+  unfolding exact starts-plain starts-open
   starts k e =
       or-cases (m .plain) (eqb k N.DtExpr && m .begun) e (λ a. or-left _ _ (flag 7 a))
-      (λ a. or-right (not (opens c)) _ (and-both (and-left (eqb k N.DtExpr) _ a) (flag 6 (and-right (eqb k N.DtExpr) _ a))))
+      (λ a. or-right (not (starts-open c)) _ (and-both (and-left (eqb k N.DtExpr) _ a) (flag 6 (and-right (eqb k N.DtExpr) _ a))))
 
-  swept : (k : ℕ) → (not (eqb k N.ParseError) || m .free) ≡ true → node-fits expression k c ≡ true
+  swept : (k : ℕ) → (not (eqb k N.ParseError) || m .free) ≡ true → node-proper expression k c ≡ true
   unfolding exact
   swept k e = or-cases (not (eqb k N.ParseError)) (m .free) e (λ a. or-left _ _ a) (λ a. or-right (not (eqb k N.ParseError)) _ (flag 1 a))
 
-  pub closes-fit : (k : ℕ) → closing-ok k m ≡ true → fits elsewhere (node k c end) ≡ true
+  pub closes-fit : (k : ℕ) → closing-ok k m ≡ true → proper elsewhere (node k c end) ≡ true
   unfolding closing-ok
   closes-fit k o = node-fit elsewhere k (and-left (children-ok k m) _ o) refl (and-right (children-ok k m) _ o)
 

@@ -13,8 +13,8 @@ use Rattle.definitions.specs.Token.{Token, tokens-of}
 use Rattle.definitions.specs.Call.{Buffers, Result, call}
 use Rattle.laws.specs.TreeRows.{read}
 use Rattle.precedence.specs.Precedence.{tokens-before, DtExpr-at, Brackets}
-use Rattle.brackets.specs.Brackets.{Kinds, end, leaf, node, kinds, tree-fits}
-use Rattle.brackets.specs.Partner.{No-partner, tokens-first, Told}
+use Rattle.brackets.specs.Brackets.{Outline, end, leaf, node, outline, tree-proper}
+use Rattle.brackets.specs.Partner.{No-partner, tokens-first, Reported}
 use Rattle.laws.proofs.FactsHold.{or-left, or-right}
 use Rattle.brackets.proofs.Partner.{missed}
 
@@ -25,9 +25,9 @@ record Example : Type 0 where
   entry : ℕ
   input : List ℕ
   numbers : List ℕ
-  tree : Kinds
+  tree : Outline
 
-example : ℕ → List ℕ → List ℕ → Kinds → Example
+example : ℕ → List ℕ → List ℕ → Outline → Example
 example n i k t = record { entry = n; input = i; numbers = k; tree = t }
 
 examples : List Example
@@ -66,23 +66,23 @@ examples =
     ∷ []
 
 -- buffers with room enough
-room : Buffers
-room = record { events = replicate 400 7; trees = replicate 200 7; errors = replicate 9 7; reports = replicate 90 7; pool = replicate 200 7 }
+lent : Buffers
+lent = record { events = replicate 400 7; trees = replicate 200 7; errors = replicate 9 7; reports = replicate 90 7; pool = replicate 200 7 }
 
 -- what a call says of its tree
 record Seen : Type 0 where
   number : ℕ
-  tree : Kinds
+  tree : Outline
   fits : Bool
 
 seen-of : Result → Seen
-unfolding kinds read tree-fits
-seen-of r = let t = kinds (read (take (4 * r .answer .tree-count) (r .buffers .trees))) in record { number = r .answer .number; tree = t; fits = tree-fits t }
+unfolding outline read tree-proper
+seen-of r = let t = outline (read (take (4 * r .answer .tree-count) (r .buffers .trees))) in record { number = r .answer .number; tree = t; fits = tree-proper t }
 
 called : List Example → List Seen
-unfolding seen-of call room
+unfolding seen-of call lent
 called [] = []
-called (x ∷ l) = seen-of (call (x .entry) (x .input) (x .numbers) room) ∷ called l
+called (x ∷ l) = seen-of (call (x .entry) (x .input) (x .numbers) lent) ∷ called l
 
 wanted : List Example → List Seen
 wanted [] = []
@@ -95,25 +95,25 @@ examples-hold = refl
 
 -- ---------------------------------------------------------------- trees that do not fit
 
-abbrev only : ℕ → Kinds → Kinds
+abbrev only : ℕ → Outline → Outline
 only k c = node k c end
 
-abbrev number : Kinds → Kinds
+abbrev number : Outline → Outline
 number f = node N.LiteralExpr (leaf K.Number end) f
 
 -- `a=<..>;`
-abbrev listed : (Kinds → Kinds) → Kinds
+abbrev listed : (Outline → Outline) → Outline
 listed c = only N.SourceFile (only N.DtProperty (leaf K.Name (leaf K.Equals (node N.PropValueList (only N.DtCellList (leaf K.LAngle (c (leaf K.RAngle end)))) (leaf K.Semicolon end)))))
 
 -- a cell in entry 4
-abbrev cell : Kinds → Kinds
+abbrev cell : Outline → Outline
 cell c = only N.EntryCells (only N.DtExpr (leaf K.LParen c))
 
 -- `#if .. #endif`
-abbrev branched : Kinds → Kinds
+abbrev branched : Outline → Outline
 branched c = only N.PreprocessorConditional (leaf K.IfDirective (node N.PreprocessorBranch c (leaf K.EndifDirective end)))
 
-wrong : List Kinds
+wrong : List Outline
 wrong =
     -- a bare LParen in a list of cells; a cell that is a ParenExpr, or a ParseError; an LParen that is a DtExpr's first leaf, but not its child
     listed (λ f. leaf K.LParen (leaf K.Number (leaf K.RParen f)))
@@ -142,10 +142,10 @@ wrong =
     ∷ only N.SourceFile (leaf K.LParen end)
     ∷ []
 
-all-fit : List Kinds → List Bool
-unfolding tree-fits
+all-fit : List Outline → List Bool
+unfolding tree-proper
 all-fit [] = []
-all-fit (t ∷ l) = tree-fits t ∷ all-fit l
+all-fit (t ∷ l) = tree-proper t ∷ all-fit l
 
 -- NONE OF THEM FITS
 wrong-refused : all-fit wrong ≡ replicate 18 false
@@ -153,8 +153,8 @@ unfolding all-fit wrong
 wrong-refused = refl
 
 -- nor do the rows of a parser for which a `(` followed by a block comment is a leaf of the list, of `(/**/1)` in entry 4
-bare-leaf : tree-fits (kinds (read (0 ∷ 3 ∷ 7 ∷ 4 ∷ 1 ∷ 41 ∷ 1 ∷ 1 ∷ 1 ∷ 1 ∷ 4 ∷ 1 ∷ 1 ∷ 35 ∷ 1 ∷ 1 ∷ 1 ∷ 42 ∷ 1 ∷ 1 ∷ []))) ≡ false
-unfolding tree-fits kinds read
+bare-leaf : tree-proper (outline (read (0 ∷ 3 ∷ 7 ∷ 4 ∷ 1 ∷ 41 ∷ 1 ∷ 1 ∷ 1 ∷ 1 ∷ 4 ∷ 1 ∷ 1 ∷ 35 ∷ 1 ∷ 1 ∷ 1 ∷ 42 ∷ 1 ∷ 1 ∷ []))) ≡ false
+unfolding tree-proper outline read
 bare-leaf = refl
 
 -- ---------------------------------------------------------------- a bracket without a partner
@@ -164,8 +164,8 @@ abbrev open-numbers : List ℕ
 open-numbers = 41 ∷ 1 ∷ 35 ∷ 1 ∷ []
 
 open-call : Result
-unfolding call room
-open-call = call 4 (40 ∷ 49 ∷ []) open-numbers room
+unfolding call lent
+open-call = call 4 (40 ∷ 49 ∷ []) open-numbers lent
 
 accepted : open-call .answer .number ≡ 0
 unfolding open-call
@@ -205,13 +205,13 @@ unfolding closed-in tokens-of
 no-partner b i = none-closes (tokens-of open-numbers) refl b
 
 -- THE PREMISES ARE MET, and report row 0 is the one
-met : Told 1 open-call 0
+met : Reported 1 open-call 0
 unfolding open-call tokens-before tokens-first read
 met = record { written = lit< tt; above = lit< tt; at-most = omega arith }
 
-met-by-theorem : (q : ℕ) × Told 1 open-call q
+met-by-theorem : (q : ℕ) × Reported 1 open-call q
 unfolding open-call
-met-by-theorem = missed 4 (40 ∷ 49 ∷ []) open-numbers room accepted 1 is-cell no-partner
+met-by-theorem = missed 4 (40 ∷ 49 ∷ []) open-numbers lent accepted 1 is-cell no-partner
 
 -- a call that says nothing, one whose report has its mark at the LParen's index, and one whose report lies after the cell, do not answer it
 abbrev with-reports : ℕ → List ℕ → Result
@@ -221,13 +221,13 @@ with-reports n l =
       buffers = record { events = []; trees = open-call .buffers .trees; errors = []; reports = l; pool = [] };
     }
 
-silent-refused : (q : ℕ) → Told 1 (with-reports 0 []) q → ⊥
+silent-refused : (q : ℕ) → Reported 1 (with-reports 0 []) q → ⊥
 silent-refused q h = omega (arith, h .written)
 
-early-refused : Told 1 (with-reports 1 (1 ∷ 0 ∷ 1 ∷ 0 ∷ 0 ∷ 0 ∷ 0 ∷ 0 ∷ 0 ∷ [])) 0 → ⊥
+early-refused : Reported 1 (with-reports 1 (1 ∷ 0 ∷ 1 ∷ 0 ∷ 0 ∷ 0 ∷ 0 ∷ 0 ∷ 0 ∷ [])) 0 → ⊥
 unfolding open-call tokens-before
 early-refused h = let z : 0 < 0 = h .above in omega arith
 
-late-refused : Told 1 (with-reports 1 (1 ∷ 0 ∷ 1 ∷ 3 ∷ 0 ∷ 0 ∷ 0 ∷ 0 ∷ 0 ∷ [])) 0 → ⊥
+late-refused : Reported 1 (with-reports 1 (1 ∷ 0 ∷ 1 ∷ 3 ∷ 0 ∷ 0 ∷ 0 ∷ 0 ∷ 0 ∷ [])) 0 → ⊥
 unfolding open-call tokens-before tokens-first read
 late-refused h = let z : 3 ≤ 2 = h .at-most in omega arith

@@ -14,24 +14,24 @@ use Rattle.basics.proofs.Tests.{cond-with}
 use Rattle.laws.proofs.Trivia.{Solid, dropped-solid}
 use Rattle.laws.proofs.Between.{Reads}
 use Rattle.laws.proofs.Decode.{shown}
-use Rattle.brackets.specs.Brackets.{Kinds, end, leaf, is-trivia, kinds}
+use Rattle.brackets.specs.Brackets.{Outline, end, leaf, is-trivia, outline}
 use Rattle.brackets.specs.Brackets as B
 
 -- ---------------------------------------------------------------- side by side
 
 infixr 30 _⊞_
-unfoldable pub _⊞_ : Kinds → Kinds → Kinds
+unfoldable pub _⊞_ : Outline → Outline → Outline
 end ⊞ g = g
 leaf k f ⊞ g = leaf k (f ⊞ g)
 B.node k c f ⊞ g = B.node k c (f ⊞ g)
 
-pub beside-end : (f : Kinds) → f ⊞ end ≡ f
+pub beside-end : (f : Outline) → f ⊞ end ≡ f
 unfolding _⊞_
 beside-end end = refl
 beside-end (leaf k f) = ap (leaf k) (beside-end f)
 beside-end (B.node k c f) = ap (B.node k c) (beside-end f)
 
-pub beside-assoc : (f g h : Kinds) → (f ⊞ g) ⊞ h ≡ f ⊞ (g ⊞ h)
+pub beside-assoc : (f g h : Outline) → (f ⊞ g) ⊞ h ≡ f ⊞ (g ⊞ h)
 unfolding _⊞_
 beside-assoc end g h = refl
 beside-assoc (leaf k f) g h = ap (leaf k) (beside-assoc f g h)
@@ -39,7 +39,7 @@ beside-assoc (B.node k c f) g h = ap (B.node k c) (beside-assoc f g h)
 
 -- ---------------------------------------------------------------- what a skeleton makes
 
-unfoldable pub flat : Skeleton → Kinds
+unfoldable pub flat : Skeleton → Outline
 unfolding _⊞_
 flat done = end
 flat (token t m o) = leaf (seen t) (flat o)
@@ -56,14 +56,14 @@ flat-join (token t m p) q = ap (leaf (seen t)) (flat-join p q)
 flat-join (name raw m p) q = ap (leaf K.Name) (flat-join p q)
 flat-join (node k m m′ a i p) q = ap (B.node k (flat a ⊞ flat i)) (flat-join p q)
 flat-join (ignored m m′ a i p) q =
-    ap (λ (x : Kinds). flat a ⊞ (flat i ⊞ x)) (flat-join p q)
+    ap (λ (x : Outline). flat a ⊞ (flat i ⊞ x)) (flat-join p q)
     ∙ ap (flat a ⊞_) (sym (beside-assoc (flat i) (flat p) (flat q)))
     ∙ sym (beside-assoc (flat a) (flat i ⊞ flat p) (flat q))
 flat-join (report r p) q = flat-join p q
 flat-join (over m p) q = flat-join p q
 
 -- what a marker makes of what stands in it: a node of a kind, or nothing if it is ignored
-unfoldable pub shut : ℕ → Kinds → Kinds
+unfoldable pub shut : ℕ → Outline → Outline
 shut zero x = x
 shut (suc k) x = B.node (suc k) x end
 
@@ -74,49 +74,49 @@ flat-closed (suc k) m m′ a i = refl
 
 -- ---------------------------------------------------------------- the placed tree
 
-kinds-beside : (f g : Tree) → kinds (shown (f ⊕ g)) ≡ kinds (shown f) ⊞ kinds (shown g)
-unfolding kinds shown _⊕_ _⊞_
+kinds-beside : (f g : Tree) → outline (shown (f ⊕ g)) ≡ outline (shown f) ⊞ outline (shown g)
+unfolding outline shown _⊕_ _⊞_
 kinds-beside nil g = refl
 kinds-beside (P.leaf k ts f) g = go (is-trivia k) (kinds-beside f g)
   where
-    go : (b : Bool) → kinds (shown (f ⊕ g)) ≡ kinds (shown f) ⊞ kinds (shown g)
-        → cond b (kinds (shown (f ⊕ g))) (leaf k (kinds (shown (f ⊕ g)))) ≡ cond b (kinds (shown f)) (leaf k (kinds (shown f))) ⊞ kinds (shown g)
+    go : (b : Bool) → outline (shown (f ⊕ g)) ≡ outline (shown f) ⊞ outline (shown g)
+        → cond b (outline (shown (f ⊕ g))) (leaf k (outline (shown (f ⊕ g)))) ≡ cond b (outline (shown f)) (leaf k (outline (shown f))) ⊞ outline (shown g)
     go true h = h
     go false h = ap (leaf k) h
-kinds-beside (subtree k c f) g = ap (B.node k (kinds (shown c))) (kinds-beside f g)
+kinds-beside (subtree k c f) g = ap (B.node k (outline (shown c))) (kinds-beside f g)
 
-pub kinds-lead : (ts : List Token) → kinds (shown (lead ts)) ≡ end
-unfolding kinds shown lead trivia is-trivia
+pub kinds-lead : (ts : List Token) → outline (shown (lead ts)) ≡ end
+unfolding outline shown lead trivia is-trivia
 kinds-lead [] = refl
 kinds-lead (t ∷ ts) =
-    cond-with (λ (x : Tree). kinds (shown x) ≡ end) (trivia t) {x = P.leaf (t .kind) (t ∷ []) (lead ts)} {y = nil}
-    (λ e. ap (λ (b : Bool). cond b (kinds (shown (lead ts))) (leaf (t .kind) (kinds (shown (lead ts))))) e ∙ kinds-lead ts) (λ e. refl)
+    cond-with (λ (x : Tree). outline (shown x) ≡ end) (trivia t) {x = P.leaf (t .kind) (t ∷ []) (lead ts)} {y = nil}
+    (λ e. ap (λ (b : Bool). cond b (outline (shown (lead ts))) (leaf (t .kind) (outline (shown (lead ts))))) e ∙ kinds-lead ts) (λ e. refl)
 
 -- a token that is not trivia is seen as none
 pub seen-solid : (t : Token) → trivia t ≡ false → is-trivia (seen t) ≡ false
 unfolding seen is-trivia trivia
 seen-solid t e = cond-with (λ (k : ℕ). is-trivia k ≡ false) (is-error (t .kind)) {x = K.Unrecognized} {y = t .kind} (λ _. refl) (λ _. e)
 
-kinds-front : (ts : List Token) (t : Token) (us : List Token) → ts ≡ t ∷ us → trivia t ≡ false → kinds (shown (front ts)) ≡ leaf (seen t) end
-unfolding kinds shown front
-kinds-front ts t us e s = ap (λ (l : List Token). kinds (shown (front l))) e ∙ ap (λ (b : Bool). cond b end (leaf (seen t) end)) (seen-solid t s)
+kinds-front : (ts : List Token) (t : Token) (us : List Token) → ts ≡ t ∷ us → trivia t ≡ false → outline (shown (front ts)) ≡ leaf (seen t) end
+unfolding outline shown front
+kinds-front ts t us e s = ap (λ (l : List Token). outline (shown (front l))) e ∙ ap (λ (b : Bool). cond b end (leaf (seen t) end)) (seen-solid t s)
 
 first-solid : (ts : List Token) (t : Token) (us : List Token) → drop-trivia ts ≡ t ∷ us → trivia t ≡ false
 first-solid ts t us e = subst Solid e (dropped-solid ts)
 
-beside-lead : (ts : List Token) (f : Tree) → kinds (shown (lead ts ⊕ f)) ≡ kinds (shown f)
+beside-lead : (ts : List Token) (f : Tree) → outline (shown (lead ts ⊕ f)) ≡ outline (shown f)
 unfolding _⊞_
-beside-lead ts f = kinds-beside (lead ts) f ∙ ap (_⊞ kinds (shown f)) (kinds-lead ts)
+beside-lead ts f = kinds-beside (lead ts) f ∙ ap (_⊞ outline (shown f)) (kinds-lead ts)
 
 -- THE KINDS OF A PLACED TREE are those that its skeleton makes
-pub kinds-place : (p : Skeleton) (ts : List Token) → Reads p ts → kinds (shown (place p ts)) ≡ flat p
-unfolding place Reads flat kinds shown _⊕_ _⊞_ is-trivia
+pub kinds-place : (p : Skeleton) (ts : List Token) → Reads p ts → outline (shown (place p ts)) ≡ flat p
+unfolding place Reads flat outline shown _⊕_ _⊞_ is-trivia
 kinds-place done ts r = refl
 kinds-place (token t m o) ts r =
     let u = drop-trivia ts in
     beside-lead ts (front u ⊕ place o (past u))
     ∙ kinds-beside (front u) (place o (past u))
-    ∙ ap (_⊞ kinds (shown (place o (past u)))) (kinds-front u t (past u) (r .0) (first-solid ts t (past u) (r .0)))
+    ∙ ap (_⊞ outline (shown (place o (past u)))) (kinds-front u t (past u) (r .0) (first-solid ts t (past u) (r .0)))
     ∙ ap (leaf (seen t)) (kinds-place o (past u) (r .2))
 kinds-place (name raw m o) ts r =
     let u = drop-trivia ts in
@@ -126,17 +126,17 @@ kinds-place (node k m m′ a i o) ts r =
     let u = drop-trivia ts in
     let v = after a u in
     beside-lead ts (subtree k (place a u ⊕ place i v) (place o (after i v)))
-    ∙ ap (λ (x : Kinds). B.node k x (kinds (shown (place o (after i v))))) (kinds-beside (place a u) (place i v) ∙ ap (_⊞ kinds (shown (place i v))) (kinds-place a u (r .0)) ∙ ap (flat a ⊞_) (kinds-place i v (r .1)))
+    ∙ ap (λ (x : Outline). B.node k x (outline (shown (place o (after i v))))) (kinds-beside (place a u) (place i v) ∙ ap (_⊞ outline (shown (place i v))) (kinds-place a u (r .0)) ∙ ap (flat a ⊞_) (kinds-place i v (r .1)))
     ∙ ap (B.node k (flat a ⊞ flat i)) (kinds-place o (after i v) (r .2))
 kinds-place (ignored m m′ a i o) ts r =
     let v = after a ts in
     kinds-beside (place a ts) (place i v ⊕ place o (after i v))
-    ∙ ap (_⊞ kinds (shown (place i v ⊕ place o (after i v)))) (kinds-place a ts (r .0))
-    ∙ ap (flat a ⊞_) (kinds-beside (place i v) (place o (after i v)) ∙ ap (_⊞ kinds (shown (place o (after i v)))) (kinds-place i v (r .1)) ∙ ap (flat i ⊞_) (kinds-place o (after i v) (r .2)))
+    ∙ ap (_⊞ outline (shown (place i v ⊕ place o (after i v)))) (kinds-place a ts (r .0))
+    ∙ ap (flat a ⊞_) (kinds-beside (place i v) (place o (after i v)) ∙ ap (_⊞ outline (shown (place o (after i v)))) (kinds-place i v (r .1)) ∙ ap (flat i ⊞_) (kinds-place o (after i v) (r .2)))
 kinds-place (report x o) ts r = kinds-place o ts r
 kinds-place (over m o) ts r = kinds-place o ts r
 
 -- with the trivia at the end
-pub kinds-inside : (p : Skeleton) (ts us : List Token) → Reads p ts → kinds (shown (place p ts ⊕ lead us)) ≡ flat p
+pub kinds-inside : (p : Skeleton) (ts us : List Token) → Reads p ts → outline (shown (place p ts ⊕ lead us)) ≡ flat p
 kinds-inside p ts us r =
-    kinds-beside (place p ts) (lead us) ∙ ap (_⊞ kinds (shown (lead us))) (kinds-place p ts r) ∙ ap (flat p ⊞_) (kinds-lead us) ∙ beside-end (flat p)
+    kinds-beside (place p ts) (lead us) ∙ ap (_⊞ outline (shown (lead us))) (kinds-place p ts r) ∙ ap (flat p ⊞_) (kinds-lead us) ∙ beside-end (flat p)

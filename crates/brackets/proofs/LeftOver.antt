@@ -14,16 +14,16 @@ use Rattle.definitions.specs.Prog.{Rule, Prog, _⨟_, loop}
 use Rattle.definitions.specs.Check.{in-node, error! }
 use Rattle.definitions.specs.Grammar.{left-over, left-over-turn}
 use Rattle.definitions.specs.Skeleton.{Label, done, token, _⧺_}
-use Rattle.definitions.specs.Run.{State, Out, mark-of, peeked, answer, makes, taken, do-emit, do-expected, over-unless, perform, add, choose, marked, is-again, goes-on, iter, exec}
+use Rattle.definitions.specs.Run.{State, Out, mark-of, peeked, replies, makes, taken, do-emit, do-expected, over-unless, perform, add, choose, marked, is-again, goes-on, iter, exec}
 use Rattle.laws.proofs.Trivia.{drop-twice, drop-trivia-length}
 use Rattle.laws.proofs.Swept.{turn-ends, turn-takes}
-use Rattle.brackets.specs.Brackets.{Kinds, end, leaves-only, first-leaf}
+use Rattle.brackets.specs.Brackets.{Outline, end, leaves-only, first-leaf}
 use Rattle.brackets.specs.Brackets as B
 use Rattle.brackets.proofs.Flat.{_⊞_, beside-end, flat, flat-join, shut}
 use Rattle.brackets.proofs.Actions.{room-made}
 
 -- leaves, of which the first is k
-pub record Leaves (k : ℕ) (c : Kinds) : Type 0 where
+pub record Leaves (k : ℕ) (c : Outline) : Type 0 where
   pub no-nodes : leaves-only c ≡ true
   pub first-is : first-leaf c 0 ≡ k
 
@@ -43,7 +43,7 @@ module _ (ask : Rule → State → Out) (b : Label) where
   sweep-ends n s e = rw (turn-ends ask b s e) refl
 
   swept : (n : ℕ) (s : State) → leaves-only (flat (sweep n s .made)) ≡ true
-  unfolding iter answer flat leaves-only
+  unfolding iter replies flat leaves-only
   swept zero s = refl
   swept (suc n) s = go (drop-trivia (s .rest)) refl (λ u. swept n u)
     where
@@ -65,17 +65,17 @@ module _ (ask : Rule → State → Out) (b : Label) where
 
   node-flat : (k : ℕ) (p : Prog) (s : State) → flat (exec ask b (in-node (suc k) p) s .made) ≡ B.node (suc k) (flat (exec ask b p s .made)) end
   unfolding exec marked makes add flat shut _⊞_
-  node-flat k p s = ap (λ (x : Kinds). B.node (suc k) x end) (flat-join (exec ask b p s .made) done ∙ beside-end (flat (exec ask b p s .made)))
+  node-flat k p s = ap (λ (x : Outline). B.node (suc k) x end) (flat-join (exec ask b p s .made) done ∙ beside-end (flat (exec ask b p s .made)))
 
   -- nothing is left
   pub none-left-over : (s : State) → drop-trivia (s .rest) ≡ [] → flat (exec ask b left-over s .made) ≡ end
-  unfolding left-over exec perform choose answer peeked add _⧺_ flat
+  unfolding left-over exec perform choose replies peeked add _⧺_ flat
   none-left-over s e = rw e refl
 
   -- something is: one ParseError
   pub some-left-over : (s : State) (t : Token) (ts : List Token) → drop-trivia (s .rest) ≡ t ∷ ts
-      → (c : Kinds) × Leaves (seen t) c × (flat (exec ask b left-over s .made) ≡ B.node N.ParseError c end)
-  unfolding left-over exec perform choose answer peeked add _⧺_ _⊞_ do-expected makes
+      → (c : Outline) × Leaves (seen t) c × (flat (exec ask b left-over s .made) ≡ B.node N.ParseError c end)
+  unfolding left-over exec perform choose replies peeked add _⧺_ _⊞_ do-expected makes
   some-left-over s t ts e =
       let u : State = record { rest = t ∷ ts; since = s .since; pending = s .pending ++ (E.End ∷ []) } in
       let d : drop-trivia (t ∷ ts) ≡ t ∷ ts = ap drop-trivia (sym e) ∙ drop-twice (s .rest) ∙ e in

@@ -17,7 +17,7 @@ use Rattle.laws.proofs.Marks.{stands-within}
 use Rattle.laws.proofs.Onward.{Goes, run-goes}
 use Rattle.laws.proofs.Fuel.{goes-on-shorter, turn-of}
 use Rattle.laws.proofs.Pieces.{linked, closed-pieces, links-pieces}
-use Rattle.laws.proofs.Clear.{Within-room, join-within, closed-within, within-pieces}
+use Rattle.laws.proofs.Clear.{Below-limits, join-within, closed-within, within-pieces}
 use Rattle.laws.proofs.Analysis.{Look, get}
 use Rattle.laws.proofs.Analysis as A
 use Rattle.laws.proofs.Sound.{is-again-eq}
@@ -27,7 +27,7 @@ use Rattle.laws.proofs.Progress as G
 use Rattle.laws.proofs.FactsHold.{There, Case, took-case, there-case, gone-case, taking-means}
 use Rattle.laws.proofs.FactsHold as H
 use Rattle.laws.proofs.Takes.{taking-acts, table-gives, run-takes}
-use Rattle.brackets.specs.Brackets.{Kinds}
+use Rattle.brackets.specs.Brackets.{Outline}
 use Rattle.brackets.proofs.Bits.{both, at-both}
 use Rattle.brackets.proofs.Flat.{_⊞_, beside-end, beside-assoc, flat, flat-join, shut, flat-closed}
 use Rattle.brackets.proofs.Ahead.{class, none-left, allows-ended}
@@ -38,7 +38,7 @@ use Rattle.brackets.proofs.Scopes.{Open, open-add}
 
 module _ (n : ℕ) (b : Label) where
   -- a turn that answers again takes a token, where one is there
-  pub moves : (p : Prog) → goes-on-surely p ≡ true → (s : State) → Stands s → There s → Within-room (exec (run n) b p s .made) → exec (run n) b p s .ans ≡ again
+  pub moves : (p : Prog) → goes-on-surely p ≡ true → (s : State) → Stands s → There s → Below-limits (exec (run n) b p s .made) → exec (run n) b p s .ans ≡ again
       → length (exec (run n) b p s .state .rest) < length (s .rest)
   unfolding goes-on-surely
   moves p e s k t w a =
@@ -58,28 +58,28 @@ module _ (n : ℕ) (b : Label) where
 -- a program, and what is known of its turns
 module _ (f : Fact → Look Fact) (F : State → Out) (sound : Sound f F) (goes : (s : State) → Goes s (F s)) (i : Fact) (stable : within (from i f .if-again) i ≡ true) where
   -- where the loop goes on, the head's fact holds again
-  head-again : (s : State) (x : Kinds) → goes-on s (F s) ≡ true → Holds (get (from i f) (F s .ans)) x (F s .state) → Holds i x (F s .state)
+  head-again : (s : State) (x : Outline) → goes-on s (F s) ≡ true → Holds (get (from i f) (F s .ans)) x (F s .state) → Holds i x (F s .state)
   unfolding goes-on
   head-again s x e h =
       weaken (from i f .if-again) i x (F s .state) stable
       (subst (λ (a : Ans). Holds (get (from i f) a) x (F s .state)) (is-again-eq (F s .ans) (and-left (is-again (F s .ans)) _ e)) h)
 
   module _ (plain : (s : State) → F s .shape ≡ 0) (sure : Bool)
-      (moved : sure ≡ true → (s : State) → Stands s → There s → Within-room (F s .made) → F s .ans ≡ again → length (F s .state .rest) < length (s .rest)) where
+      (moved : sure ≡ true → (s : State) → Stands s → There s → Below-limits (F s .made) → F s .ans ≡ again → length (F s .state .rest) < length (s .rest)) where
     turn-ok : (c : Bool) → turns c i f .ok ≡ true → from i f .ok ≡ true
     unfolding turns
     turn-ok true e = and-left (from i f .ok) _ (and-right (from (at-end-only i) f .ok) _ e)
     turn-ok false e = e
 
     -- a turn that begins at the end
-    end-holds : (d : Fact) (q : Kinds) (s : State) → ended (drop-trivia (s .rest)) ≡ true → Holds d q s → Holds (at-end-only d) q s
+    end-holds : (d : Fact) (q : Outline) (s : State) → ended (drop-trivia (s .rest)) ≡ true → Holds d q s → Holds (at-end-only d) q s
     end-holds never q s e h = h
     end-holds (fact n m) q s e h =
         kept-holds (both n none-left) m q s
         (record { ahead = at-both (class (drop-trivia (s .rest))) n none-left (h .ahead) (allows-ended (drop-trivia (s .rest)) e); sums = h .sums; fit = h .fit })
 
     -- the last turn of a loop
-    stalled : (q : Kinds) (s : State) → turns true i f .ok ≡ true → goes-on s (F s) ≡ false → Stands s → Holds i q s → Within-room (F s .made) → sure ≡ true
+    stalled : (q : Outline) (s : State) → turns true i f .ok ≡ true → goes-on s (F s) ≡ false → Stands s → Holds i q s → Below-limits (F s .made) → sure ≡ true
         → (a : Ans) → F s .ans ≡ a → Holds (get (from i f) a) (q ⊞ flat (F s .made)) (F s .state) → Holds (get (turns true i f) a) (q ⊞ flat (F s .made)) (F s .state)
     unfolding turns goes-on is-again
     stalled q s ok e k h w c no z g = g
@@ -96,19 +96,19 @@ module _ (f : Fact → Look Fact) (F : State → Out) (sound : Sound f F) (goes 
             (true≢false
             (sym (ap (λ (a : Ans). is-again a && ltb (length (F s .state .rest)) (length (s .rest))) z ∙ lt-ltb (length (F s .state .rest)) (length (s .rest)) (moved c s k y w z)) ∙ e))
 
-    last-turn : (c : Bool) → c ≡ sure → (q : Kinds) (s : State) → turns c i f .ok ≡ true → goes-on s (F s) ≡ false → Stands s → Holds i q s → Within-room (F s .made)
+    last-turn : (c : Bool) → c ≡ sure → (q : Outline) (s : State) → turns c i f .ok ≡ true → goes-on s (F s) ≡ false → Stands s → Holds i q s → Below-limits (F s .made)
         → Holds (get (from i f) (F s .ans)) (q ⊞ flat (F s .made)) (F s .state) → Holds (get (turns c i f) (F s .ans)) (q ⊞ flat (F s .made)) (F s .state)
     unfolding turns
     last-turn true c q s ok e k h w g = stalled q s ok e k h w (sym c) (F s .ans) refl g
     last-turn false c q s ok e k h w g = g
 
-    pub iter-gives : (turns sure i f .ok ≡ true) → (j : ℕ) (q : Kinds) (s : State) → length (s .rest) < j → Stands s → Holds i q s → Within-room (iter j F s .made) → Open (turns sure i f) q (iter j F s)
+    pub iter-gives : (turns sure i f .ok ≡ true) → (j : ℕ) (q : Outline) (s : State) → length (s .rest) < j → Stands s → Holds i q s → Below-limits (iter j F s .made) → Open (turns sure i f) q (iter j F s)
     unfolding iter makes add
     iter-gives ok zero q s l k h w = absurd (not-suc-le-zero l)
     iter-gives ok (suc j) q s l k h w =
-        let turn : Within-room (F s .made) → Holds (get (from i f) (F s .ans)) (q ⊞ flat (F s .made)) (F s .state) =
+        let turn : Below-limits (F s .made) → Holds (get (from i f) (F s .ans)) (q ⊞ flat (F s .made)) (F s .state) =
         λ v. open-gives (from i f) q (F s) (plain s) (enter f F sound i q s (turn-ok sure ok) k h v) in
-        cond-with (λ (o : Out). Within-room (o .made) → Open (turns sure i f) q o) (goes-on s (F s)) {x = add (turn-of (F s)) (iter j F (F s .state))} {y = turn-of (F s)}
+        cond-with (λ (o : Out). Below-limits (o .made) → Open (turns sure i f) q o) (goes-on s (F s)) {x = add (turn-of (F s)) (iter j F (F s .state))} {y = turn-of (F s)}
         (λ e v.
         let c = join-within (F s .made) (iter j F (F s .state) .made) v in
         let d : length (F s .state .rest) < length (s .rest) = goes-on-shorter s (F s) e in
@@ -120,7 +120,7 @@ module _ (f : Fact → Look Fact) (F : State → Out) (sound : Sound f F) (goes 
   -- ---------------------------------------------------------------- chains
 
   abbrev Linked : Out → Type 0
-  Linked o = Within-room (o .made) → Holds (get (from i f) (o .ans)) (flat (o .made)) (o .state)
+  Linked o = Below-limits (o .made) → Holds (get (from i f) (o .ans)) (flat (o .made)) (o .state)
 
   linked-shape : (k : ℕ) (x y : Out) → (k ≡ 0 → Linked x) → Linked y → Linked (by-shape k x y)
   unfolding by-shape
@@ -139,18 +139,18 @@ module _ (f : Fact → Look Fact) (F : State → Out) (sound : Sound f F) (goes 
       let o : Out = F s in
       let m′ : ℕ = mark-of (F s .state) in
       let node : Skeleton = linked m a j (F s) in
-      let closes : (c : ℕ) → F s .shape ≡ c → Within-room (closed c m m′ a (j ⧺ F s .made)) → Holds (get (from i f) (F s .ans)) (flat (closed c m m′ a (j ⧺ F s .made))) (F s .state) =
-      λ c e w. subst (λ (x : Kinds). Holds (get (from i f) (F s .ans)) x (F s .state))
+      let closes : (c : ℕ) → F s .shape ≡ c → Below-limits (closed c m m′ a (j ⧺ F s .made)) → Holds (get (from i f) (F s .ans)) (flat (closed c m m′ a (j ⧺ F s .made))) (F s .state) =
+      λ c e w. subst (λ (x : Outline). Holds (get (from i f) (F s .ans)) x (F s .state))
       (ap (λ (d : ℕ). shut d ((flat a ⊞ flat j) ⊞ flat (F s .made))) e ∙ same-closed c m m′ a j (F s .made))
-      (enter f F sound i (flat a ⊞ flat j) s ok h g (closed-pieces Within-room within-pieces c m m′ a j (F s .made) w .2)) in
+      (enter f F sound i (flat a ⊞ flat j) s ok h g (closed-pieces Below-limits within-pieces c m m′ a j (F s .made) w .2)) in
       linked-shape (o .shape) _ _ (λ e. closes 0 e)
       (cond-with Linked (goes-on s o) {x = links k F m′ node done (o .state)} {y = unlinked m′ node done (o .ans) (o .state)}
       (λ e w.
       let d : length (F s .state .rest) < length (s .rest) = goes-on-shorter s (F s) e in
-      let v : Within-room node = links-pieces Within-room within-pieces k F m′ node done (F s .state) w .0 in
+      let v : Below-limits node = links-pieces Below-limits within-pieces k F m′ node done (F s .state) w .0 in
       links-gives ok k m′ node done (F s .state) (omega arith) (goes s h .0)
-      (subst (λ (x : Kinds). Holds i x (F s .state)) (sym (beside-end (flat node))) (head-again s (flat node) e (closes (F s .shape) refl v)))
+      (subst (λ (x : Outline). Holds i x (F s .state)) (sym (beside-end (flat node))) (head-again s (flat node) e (closes (F s .shape) refl v)))
       w)
       (λ e w.
-      let v : Within-room node = closed-within 0 m′ m′ node done w .0 in
-      subst (λ (x : Kinds). Holds (get (from i f) (F s .ans)) x (F s .state)) (sym (flat-closed 0 m′ m′ node done ∙ beside-end (flat node))) (closes (F s .shape) refl v)))
+      let v : Below-limits node = closed-within 0 m′ m′ node done w .0 in
+      subst (λ (x : Outline). Holds (get (from i f) (F s .ans)) x (F s .state)) (sym (flat-closed 0 m′ m′ node done ∙ beside-end (flat node))) (closes (F s .shape) refl v)))

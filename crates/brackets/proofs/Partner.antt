@@ -18,7 +18,7 @@ use Rattle.laws.proofs.Decode.{_⊞_, read-preorder, shown, shown-preorder, sho
 use Rattle.precedence.specs.Precedence.{tokens-before, mark-in, Brackets, opening-index}
 use Rattle.precedence.proofs.Partner.{Partner}
 use Rattle.precedence.proofs.Theorem.{kind-of, Tells, Answered, answered}
-use Rattle.brackets.specs.Partner.{No-partner, tokens-in, tokens-first, Told, Partner-missed}
+use Rattle.brackets.specs.Partner.{No-partner, tokens-in, tokens-first, Reported, Partner-missed}
 
 -- an LParen that is token k, and the RParen that balances it
 brackets-of : (ts : List Token) (k : ℕ) (bracket : Token) (rest : List Token) → drop k ts ≡ bracket ∷ rest → seen bracket ≡ K.LParen → Partner rest
@@ -53,13 +53,13 @@ first-row k c l =
     ∙ ap tokens-first (read-preorder (shown (subtree k c nil)) l (shown-counts (subtree k c nil)))
     ∙ in-rows c
 
-missed-in : (ts : List Token) (p : ℕ) (r : Result) → Answered ts p r → No-partner ts p r → (q : ℕ) × Told p r q
+missed-in : (ts : List Token) (p : ℕ) (r : Result) → Answered ts p r → No-partner ts p r → (q : ℕ) × Reported p r q
 missed-in ts p r a none = go (a .paired)
   where
     cell : tokens-first (read (drop (TREE-ROW * p) (r .buffers .trees))) ≡ length (leaves (a .children))
     cell = ap (λ (l : List ℕ). tokens-first (read l)) (a .rows-are) ∙ first-row N.DtExpr (a .children) (a .more)
 
-    go : Partner (a .behind) ⊎ ((q : ℕ) × Tells r (tokens-before p (r .buffers .trees)) (a .children) q) → (q : ℕ) × Told p r q
+    go : Partner (a .behind) ⊎ ((q : ℕ) × Tells r (tokens-before p (r .buffers .trees)) (a .children) q) → (q : ℕ) × Reported p r q
     go (inl c) = let b = brackets-of ts (tokens-before p (r .buffers .trees)) (a .bracket) (a .behind) (a .starts) (a .is-bracket) c in absurd (none (b .0) (b .1))
     go (inr g) =
         let t = g .1 in

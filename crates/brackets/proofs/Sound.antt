@@ -13,10 +13,10 @@ use Rattle.basics.proofs.Tests.{cond-with, and-left, and-right}
 use Rattle.laws.proofs.Kept.{Stands}
 use Rattle.laws.proofs.Onward.{Goes, run-goes, exec-goes}
 use Rattle.laws.proofs.Pieces.{links-pieces}
-use Rattle.laws.proofs.Clear.{Within-room, join-within, closed-within, within-pieces}
+use Rattle.laws.proofs.Clear.{Below-limits, join-within, closed-within, within-pieces}
 use Rattle.laws.proofs.Sound.{is-again-eq}
 use Rattle.laws.proofs.Analysis.{Look, get}
-use Rattle.brackets.specs.Brackets.{Kinds, end}
+use Rattle.brackets.specs.Brackets.{Outline, end}
 use Rattle.brackets.proofs.Flat.{_⊞_, beside-end, flat, shut, flat-closed}
 use Rattle.brackets.proofs.Summary.{exact}
 use Rattle.brackets.proofs.Ahead.{Allows}
@@ -29,7 +29,7 @@ use Rattle.brackets.proofs.Table.{table}
 use Rattle.brackets.proofs.Scopes.{to-gives, gives-first, gives-second, then-gives, not-again, Inner, scoped-gives, begun}
 use Rattle.brackets.proofs.Loops.{moves, iter-gives, links-gives}
 
-module _ (n : ℕ) (calls : (r : Rule) (s : State) → Stands s → Within-room (run n r s .made) → Inner (table r) s (run n r s)) (plain : (r : Rule) (s : State) → run n r s .shape ≡ 0) where
+module _ (n : ℕ) (calls : (r : Rule) (s : State) → Stands s → Below-limits (run n r s .made) → Inner (table r) s (run n r s)) (plain : (r : Rule) (s : State) → run n r s .shape ≡ 0) where
   goes-all : (b : Label) (p : Prog) (s : State) → Goes s (exec (run n) b p s)
   goes-all b p s = exec-goes (run n) (run-goes n) b p s
 
@@ -47,8 +47,8 @@ module _ (n : ℕ) (calls : (r : Rule) (s : State) → Stands s → Within-room 
     abbrev all-ways : Look Fact
     all-ways = of-two on-no (of-two on-yes on-also)
 
-    ways : (a : Ans) (c : Kinds) (s : State) → all-ways .ok ≡ true → Stands s → Holds (get l a) c s
-        → Within-room (choose a (exec (run n) b x) (exec (run n) b y) (exec (run n) b z) s .made) → Gives all-ways c (choose a (exec (run n) b x) (exec (run n) b y) (exec (run n) b z) s)
+    ways : (a : Ans) (c : Outline) (s : State) → all-ways .ok ≡ true → Stands s → Holds (get l a) c s
+        → Below-limits (choose a (exec (run n) b x) (exec (run n) b y) (exec (run n) b z) s .made) → Gives all-ways c (choose a (exec (run n) b x) (exec (run n) b y) (exec (run n) b z) s)
     unfolding choose
     ways no c s ok k h w = gives-first on-no (of-two on-yes on-also) c (exec (run n) b x s) (enter (look table x) (exec (run n) b x) p (l .if-no) c s (and-left (on-no .ok) _ ok) k h w)
     ways yes c s ok k h w =
@@ -82,7 +82,7 @@ module _ (n : ℕ) (calls : (r : Rule) (s : State) → Stands s → Within-room 
     both-ways = of-two (going l never) (from i (look table q))
 
     abbrev Fine : Out → Type 0
-    Fine r = Within-room (r .made) → Holds (get (then-look checks l both-ways) (r .ans)) (flat (r .made)) (r .state)
+    Fine r = Below-limits (r .made) → Holds (get (then-look checks l both-ways) (r .ans)) (flat (r .made)) (r .state)
 
     module _ (ok : then-look checks l both-ways .ok ≡ true) where
       checked : checks ≡ true
@@ -91,7 +91,7 @@ module _ (n : ℕ) (calls : (r : Rule) (s : State) → Stands s → Within-room 
       heads : headed (l .if-again) i (look table q) ≡ true
       heads = and-right (shapeless p) _ (and-left checks _ ok)
 
-      first : Within-room (o .made) → Holds (get l (o .ans)) (flat (o .made)) (o .state)
+      first : Below-limits (o .made) → Holds (get l (o .ans)) (flat (o .made)) (o .state)
       unfolding _⊞_
       first v =
           open-gives l end o (exec-shape (run n) plain b p s (and-left (shapeless p) _ checked))
@@ -103,7 +103,7 @@ module _ (n : ℕ) (calls : (r : Rule) (s : State) → Stands s → Within-room 
       links-on e v =
           let j = suc (length (o .state .rest)) in
           let r = links j (exec (run n) b q) (mark-of s) done (o .made) (o .state) in
-          let f = first (links-pieces Within-room within-pieces j (exec (run n) b q) (mark-of s) done (o .made) (o .state) v .1) in
+          let f = first (links-pieces Below-limits within-pieces j (exec (run n) b q) (mark-of s) done (o .made) (o .state) v .1) in
           let g : Holds (l .if-again) (flat (o .made)) (o .state) = subst (λ (y : Ans). Holds (get l y) (flat (o .made)) (o .state)) (is-again-eq (o .ans) e) f in
           in-then checks l both-ways (r .ans) (flat (r .made)) (r .state)
           (in-second (going l never) (from i (look table q)) (r .ans) (flat (r .made)) (r .state)
@@ -116,7 +116,7 @@ module _ (n : ℕ) (calls : (r : Rule) (s : State) → Stands s → Within-room 
       unfolding unlinked makes flat _⊞_
       links-off e v =
           let f = first (closed-within 0 (mark-of s) (mark-of (o .state)) done (o .made) v .1) in
-          subst (λ (y : Kinds). Holds (get (then-look checks l both-ways) (o .ans)) y (o .state)) (sym (beside-end (flat (o .made))))
+          subst (λ (y : Outline). Holds (get (then-look checks l both-ways) (o .ans)) y (o .state)) (sym (beside-end (flat (o .made))))
           (in-then checks l both-ways (o .ans) (flat (o .made)) (o .state)
           (in-first (going l never) (from i (look table q)) (o .ans) (flat (o .made)) (o .state) (not-again l (o .ans) (flat (o .made)) (o .state) e f)))
 
@@ -143,7 +143,7 @@ module _ (n : ℕ) (calls : (r : Rule) (s : State) → Stands s → Within-room 
   -- THE ANALYSIS IS SOUND for every program
   pub exec-gives : (b : Label) (p : Prog) → Sound (look table p) (exec (run n) b p)
   unfolding exec look marked makes flat shut
-  exec-gives b (ret k a) d q s ok h g w = subst (λ (x : Kinds). Holds (get (returned k a d) a) (shut k x) s) (sym (beside-end q)) (returned-gives k a d q s ok g)
+  exec-gives b (ret k a) d q s ok h g w = subst (λ (x : Outline). Holds (get (returned k a d) a) (shut k x) s) (sym (beside-end q)) (returned-gives k a d q s ok g)
   exec-gives b (act a) never q s ok h g w = absurd g
   exec-gives b (act a) (fact k m) q s ok h g w = act-gives b a k m q s g
   exec-gives b (p ⨟ p′) d q s ok h g w =
@@ -169,7 +169,7 @@ module _ (n : ℕ) (calls : (r : Rule) (s : State) → Stands s → Within-room 
   exec-gives b (in-marker p) d q s ok h g w =
       let o = exec (run n) b p s in
       scoped-gives (look table p) d q s (marked s o) refl ok g
-      (λ k a e. subst (λ (x : Kinds). Holds (get (look table p (fact k (exact end))) (o .ans)) x (o .state)) (sym (flat-closed (o .shape) (mark-of s) (mark-of (o .state)) done (o .made)))
+      (λ k a e. subst (λ (x : Outline). Holds (get (look table p (fact k (exact end))) (o .ans)) x (o .state)) (sym (flat-closed (o .shape) (mark-of s) (mark-of (o .state)) done (o .made)))
       (exec-gives b p (fact k (exact end)) end s e h (begun k s a) (closed-within (o .shape) (mark-of s) (mark-of (o .state)) done (o .made) w .1)))
   exec-gives b (loop p) d q s ok h g w = loop-gives b p (exec-gives b p) d q s ok h g w
   exec-gives b (chain p p′) d q s ok h g w =

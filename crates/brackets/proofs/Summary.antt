@@ -8,7 +8,7 @@ use mathlib.Core.List.{List, [], _∷_}
 use lib.Dec.{eqb}
 use Rattle.definitions.specs.TokenKind as K
 use Rattle.basics.proofs.Tests.{and-left, and-right}
-use Rattle.brackets.specs.Brackets.{Kinds, end, leaf, node, is-end, first-leaf, begins, has-angle, no-bracket, first-only, last-only, children-fit, List-of, cells, values, cell-branches, value-branches, expression, inside, leaf-fits, node-fits, fits}
+use Rattle.brackets.specs.Brackets.{Outline, end, leaf, node, is-end, first-leaf, begins, has-angle, no-bracket, first-only, last-only, children-proper, List-of, cells, values, cell-branches, value-branches, expression, list-below, leaf-proper, node-proper, proper}
 use Rattle.laws.proofs.FactsHold.{or-right}
 use Rattle.laws.proofs.Leaves.{or-cases}
 use Rattle.brackets.proofs.Bits.{and-both, at, Below, below-nil, below-cons}
@@ -17,24 +17,24 @@ use Rattle.brackets.proofs.Flat.{_⊞_, beside-end}
 -- ---------------------------------------------------------------- flags
 
 -- a single Ident; an Ident first, and then no LParen but the next one
-unfoldable pub lone-name : Kinds → Bool
+unfoldable pub lone-name : Outline → Bool
 unfolding is-end
 lone-name end = false
 lone-name (leaf k f) = eqb k K.Ident && is-end f
 lone-name (node k c f) = false
 
-unfoldable pub named : Kinds → Bool
+unfoldable pub named : Outline → Bool
 unfolding first-only
 named end = false
 named (leaf k f) = eqb k K.Ident && first-only f
 named (node k c f) = false
 
 -- after whatever d is not an LParen, or after anything, the first leaf is not an LParen
-unfoldable pub starts-plain : ℕ → Kinds → Bool
+unfoldable pub starts-plain : ℕ → Outline → Bool
 unfolding first-leaf
 starts-plain d x = not (eqb (first-leaf x d) K.LParen)
 
-unfoldable pub no-angle : Kinds → Bool
+unfoldable pub no-angle : Outline → Bool
 unfolding has-angle
 no-angle x = not (has-angle x)
 
@@ -61,8 +61,8 @@ bits m =
     ∷ m .in-cell-branches ∷ m .in-value-branches ∷ m .in-expression ∷ []
 
 -- all of them, of kinds that are known
-unfoldable pub exact : Kinds → Sum
-unfolding is-end no-bracket first-only lone-name named last-only begins starts-plain no-angle fits
+unfoldable pub exact : Outline → Sum
+unfolding is-end no-bracket first-only lone-name named last-only begins starts-plain no-angle proper
 exact x =
     record {
       empty = is-end x;
@@ -75,39 +75,39 @@ exact x =
       plain = starts-plain K.Whitespace x;
       leads = starts-plain K.LParen x;
       angleless = no-angle x;
-      in-cells = fits cells x;
-      in-values = fits values x;
-      in-cell-branches = fits cell-branches x;
-      in-value-branches = fits value-branches x;
-      in-expression = fits expression x;
+      in-cells = proper cells x;
+      in-values = proper values x;
+      in-cell-branches = proper cell-branches x;
+      in-value-branches = proper value-branches x;
+      in-expression = proper expression x;
     }
 
-pub record Sums (m : Sum) (x : Kinds) : Type 0 where
+pub record Sums (m : Sum) (x : Outline) : Type 0 where
   pub flags : Below (bits m) (bits (exact x))
 
 -- ---------------------------------------------------------------- one piece after another
 
-pub nothing-there : (p : Kinds) → is-end p ≡ true → p ≡ end
+pub nothing-there : (p : Outline) → is-end p ≡ true → p ≡ end
 unfolding is-end
 nothing-there end e = refl
 nothing-there (leaf k f) e = absurd (false≢true e)
 nothing-there (node k c f) e = absurd (false≢true e)
 
 -- where nothing stands before, or after
-before-it : (P : Kinds → Bool) (p q : Kinds) → is-end p ≡ true → P q ≡ true → P (p ⊞ q) ≡ true
+before-it : (P : Outline → Bool) (p q : Outline) → is-end p ≡ true → P q ≡ true → P (p ⊞ q) ≡ true
 unfolding _⊞_
-before-it P p q e h = subst (λ (x : Kinds). P (x ⊞ q) ≡ true) (sym (nothing-there p e)) h
+before-it P p q e h = subst (λ (x : Outline). P (x ⊞ q) ≡ true) (sym (nothing-there p e)) h
 
-after-it : (P : Kinds → Bool) (p q : Kinds) → is-end q ≡ true → P p ≡ true → P (p ⊞ q) ≡ true
-after-it P p q e h = subst (λ (x : Kinds). P (p ⊞ x) ≡ true) (sym (nothing-there q e)) (subst (λ (x : Kinds). P x ≡ true) (sym (beside-end p)) h)
+after-it : (P : Outline → Bool) (p q : Outline) → is-end q ≡ true → P p ≡ true → P (p ⊞ q) ≡ true
+after-it P p q e h = subst (λ (x : Outline). P (p ⊞ x) ≡ true) (sym (nothing-there q e)) (subst (λ (x : Outline). P x ≡ true) (sym (beside-end p)) h)
 
-free-join : (p q : Kinds) → no-bracket p ≡ true → no-bracket q ≡ true → no-bracket (p ⊞ q) ≡ true
+free-join : (p q : Outline) → no-bracket p ≡ true → no-bracket q ≡ true → no-bracket (p ⊞ q) ≡ true
 unfolding no-bracket _⊞_
 free-join end q e f = f
 free-join (leaf k p) q e f = and-both (and-left (not (eqb k K.LParen)) _ e) (free-join p q (and-right (not (eqb k K.LParen)) _ e) f)
 free-join (node k c p) q e f = free-join p q e f
 
-first-join : (p q : Kinds) → first-only p ≡ true → no-bracket q ≡ true → first-only (p ⊞ q) ≡ true
+first-join : (p q : Outline) → first-only p ≡ true → no-bracket q ≡ true → first-only (p ⊞ q) ≡ true
 unfolding first-only no-bracket _⊞_
 first-join end end e f = refl
 first-join end (leaf k q) e f = and-right (not (eqb k K.LParen)) _ f
@@ -115,34 +115,34 @@ first-join end (node k c q) e f = f
 first-join (leaf k p) q e f = free-join p q e f
 first-join (node k c p) q e f = free-join p q e f
 
-named-join : (p q : Kinds) → named p ≡ true → no-bracket q ≡ true → named (p ⊞ q) ≡ true
+named-join : (p q : Outline) → named p ≡ true → no-bracket q ≡ true → named (p ⊞ q) ≡ true
 unfolding named _⊞_
 named-join end q e f = absurd (false≢true e)
 named-join (leaf k p) q e f = and-both (and-left (eqb k K.Ident) _ e) (first-join p q (and-right (eqb k K.Ident) _ e) f)
 named-join (node k c p) q e f = absurd (false≢true e)
 
-lone-join : (p q : Kinds) → lone-name p ≡ true → first-only q ≡ true → named (p ⊞ q) ≡ true
+lone-join : (p q : Outline) → lone-name p ≡ true → first-only q ≡ true → named (p ⊞ q) ≡ true
 unfolding named lone-name _⊞_
 lone-join end q e f = absurd (false≢true e)
 lone-join (leaf k p) q e f = and-both (and-left (eqb k K.Ident) _ e) (before-it first-only p q (and-right (eqb k K.Ident) _ e) f)
 lone-join (node k c p) q e f = absurd (false≢true e)
 
-last-join : (p q : Kinds) → no-bracket p ≡ true → last-only q ≡ true → last-only (p ⊞ q) ≡ true
+last-join : (p q : Outline) → no-bracket p ≡ true → last-only q ≡ true → last-only (p ⊞ q) ≡ true
 unfolding no-bracket last-only _⊞_
 last-join end q e f = f
 last-join (leaf k p) q e f = and-both (or-right (is-end (p ⊞ q)) _ (and-left (not (eqb k K.LParen)) _ e)) (last-join p q (and-right (not (eqb k K.LParen)) _ e) f)
 last-join (node k c p) q e f = last-join p q e f
 
-begins-join : (p q : Kinds) → begins p ≡ true → begins (p ⊞ q) ≡ true
+begins-join : (p q : Outline) → begins p ≡ true → begins (p ⊞ q) ≡ true
 unfolding begins _⊞_
 begins-join end q e = absurd (false≢true e)
 begins-join (leaf k p) q e = e
 begins-join (node k c p) q e = absurd (false≢true e)
 
-empty-join : (p q : Kinds) → is-end p ≡ true → is-end q ≡ true → is-end (p ⊞ q) ≡ true
+empty-join : (p q : Outline) → is-end p ≡ true → is-end q ≡ true → is-end (p ⊞ q) ≡ true
 empty-join p q e f = before-it is-end p q e f
 
-angle-join : (p q : Kinds) → no-angle p ≡ true → no-angle q ≡ true → no-angle (p ⊞ q) ≡ true
+angle-join : (p q : Outline) → no-angle p ≡ true → no-angle q ≡ true → no-angle (p ⊞ q) ≡ true
 unfolding no-angle has-angle _⊞_
 angle-join end q e f = f
 angle-join (leaf k p) q e f = go (eqb k K.LAngle) e (λ h. angle-join p q h f)
@@ -152,27 +152,27 @@ angle-join (leaf k p) q e f = go (eqb k K.LAngle) e (λ h. angle-join p q h f)
     go false h ih = ih h
 angle-join (node k c p) q e f = angle-join p q e f
 
-pub fits-join : (x : List-of) (p q : Kinds) → fits x p ≡ true → fits x q ≡ true → fits x (p ⊞ q) ≡ true
-unfolding fits _⊞_
+pub fits-join : (x : List-of) (p q : Outline) → proper x p ≡ true → proper x q ≡ true → proper x (p ⊞ q) ≡ true
+unfolding proper _⊞_
 fits-join x end q e f = f
-fits-join x (leaf k p) q e f = and-both (and-left (leaf-fits x k) _ e) (fits-join x p q (and-right (leaf-fits x k) _ e) f)
+fits-join x (leaf k p) q e f = and-both (and-left (leaf-proper x k) _ e) (fits-join x p q (and-right (leaf-proper x k) _ e) f)
 fits-join x (node k c p) q e f =
-    let e₁ = and-right (node-fits x k c) _ e in
-    let e₂ = and-right (children-fit k c) _ e₁ in
-    and-both (and-left (node-fits x k c) _ e)
-    (and-both (and-left (children-fit k c) _ e₁)
-    (and-both (and-left (fits (inside x k (has-angle c)) c) _ e₂) (fits-join x p q (and-right (fits (inside x k (has-angle c)) c) _ e₂) f)))
+    let e₁ = and-right (node-proper x k c) _ e in
+    let e₂ = and-right (children-proper k c) _ e₁ in
+    and-both (and-left (node-proper x k c) _ e)
+    (and-both (and-left (children-proper k c) _ e₁)
+    (and-both (and-left (proper (list-below x k (has-angle c)) c) _ e₂) (fits-join x p q (and-right (proper (list-below x k (has-angle c)) c) _ e₂) f)))
 
 -- ---------------------------------------------------------------- the first leaf
 
-leaf-join : (p q : Kinds) (d : ℕ) → first-leaf (p ⊞ q) d ≡ first-leaf p (first-leaf q d)
+leaf-join : (p q : Outline) (d : ℕ) → first-leaf (p ⊞ q) d ≡ first-leaf p (first-leaf q d)
 unfolding first-leaf _⊞_
 leaf-join end q d = refl
 leaf-join (leaf k p) q d = refl
 leaf-join (node k c p) q d = ap (first-leaf c) (leaf-join p q d)
 
 -- there is none, or it is the same whatever follows
-none-or-one : (p : Kinds) → ((d : ℕ) → first-leaf p d ≡ d) ⊎ ((d e : ℕ) → first-leaf p d ≡ first-leaf p e)
+none-or-one : (p : Outline) → ((d : ℕ) → first-leaf p d ≡ d) ⊎ ((d e : ℕ) → first-leaf p d ≡ first-leaf p e)
 unfolding first-leaf
 none-or-one end = inl (λ d. refl)
 none-or-one (leaf k p) = inr (λ d e. refl)
@@ -187,7 +187,7 @@ none-or-one (node k c p) = go (none-or-one c) (none-or-one p)
 abbrev Plain : ℕ → Type 0
 Plain k = not (eqb k K.LParen) ≡ true
 
-plain-after : (p : Kinds) (d : ℕ) → starts-plain K.Whitespace p ≡ true → Plain d → Plain (first-leaf p d)
+plain-after : (p : Outline) (d : ℕ) → starts-plain K.Whitespace p ≡ true → Plain d → Plain (first-leaf p d)
 unfolding starts-plain
 plain-after p d e h = go (none-or-one p)
   where
@@ -195,7 +195,7 @@ plain-after p d e h = go (none-or-one p)
     go (inl f) = subst Plain (sym (f d)) h
     go (inr f) = subst Plain (f K.Whitespace d) e
 
-leads-always : (p : Kinds) (d : ℕ) → starts-plain K.LParen p ≡ true → Plain (first-leaf p d)
+leads-always : (p : Outline) (d : ℕ) → starts-plain K.LParen p ≡ true → Plain (first-leaf p d)
 unfolding starts-plain
 leads-always p d e = go (none-or-one p)
   where
@@ -203,7 +203,7 @@ leads-always p d e = go (none-or-one p)
     go (inl f) = absurd (false≢true (subst Plain (f K.LParen) e))
     go (inr f) = subst Plain (f K.LParen d) e
 
-starts-join : (d : ℕ) (p q : Kinds) → Plain (first-leaf p (first-leaf q d)) → starts-plain d (p ⊞ q) ≡ true
+starts-join : (d : ℕ) (p q : Outline) → Plain (first-leaf p (first-leaf q d)) → starts-plain d (p ⊞ q) ≡ true
 unfolding starts-plain
 starts-join d p q h = subst Plain (sym (leaf-join p q d)) h
 
@@ -232,7 +232,7 @@ concat m n =
 pair : {P : Type 0} (a b : Bool) → (a && b) ≡ true → (a ≡ true → b ≡ true → P) → P
 pair a b e f = f (and-left a b e) (and-right a b e)
 
-module _ (m n : Sum) (p q : Kinds) (h : Sums m p) (g : Sums n q) where
+module _ (m n : Sum) (p q : Outline) (h : Sums m p) (g : Sums n q) where
   abbrev ha : (i : ℕ) → at i (bits m) ≡ true → at i (bits (exact p)) ≡ true
   ha i e = h .flags .holds i e
 

@@ -4,7 +4,7 @@ use mathlib.Core.Path.{_≡_, refl, subst}
 use mathlib.Core.Bool.{Bool, true, false, _&&_, false≢true}
 use mathlib.Core.List.{List}
 use Rattle.definitions.specs.TokenKind as K
-use Rattle.brackets.specs.Brackets.{Kinds, end, leaf, fits, elsewhere, values, cell-branches, value-branches, expression, leaves-only, is-end, no-bracket, first-only, last-only, begins, first-leaf, has-angle}
+use Rattle.brackets.specs.Brackets.{Outline, end, leaf, proper, elsewhere, values, cell-branches, value-branches, expression, leaves-only, is-end, no-bracket, first-only, last-only, begins, first-leaf, has-angle}
 use Rattle.brackets.specs.Brackets as B
 use Rattle.brackets.proofs.Bits.{at, Below, below-then, below-left, below-right, below-same, below-nil, below-cons}
 use Rattle.brackets.proofs.Summary.{Sum, bits, exact, Sums, lone-name, named, starts-plain, no-angle}
@@ -19,7 +19,7 @@ sum-of (suc (suc (suc zero))) = exact (leaf K.Ident end)
 sum-of (suc (suc (suc (suc c)))) = exact (leaf K.Number end)
 
 pub exact-leaf : (k : ℕ) → exact (leaf k end) ≡ sum-of (class-of k)
-unfolding exact is-end no-bracket first-only lone-name named last-only begins starts-plain first-leaf no-angle has-angle fits
+unfolding exact is-end no-bracket first-only lone-name named last-only begins starts-plain first-leaf no-angle has-angle proper
 exact-leaf k = by-class (λ (j c : ℕ). exact (leaf j end) ≡ sum-of c) k refl refl refl (λ e f g. rw (e, f, g) refl)
 
 -- what holds of both
@@ -43,13 +43,13 @@ meet m n =
       in-expression = m .in-expression && n .in-expression;
     }
 
-pub sums-left : (m n : Sum) (x : Kinds) → Sums m x → Sums (meet m n) x
+pub sums-left : (m n : Sum) (x : Outline) → Sums m x → Sums (meet m n) x
 sums-left m n x h = record { flags = below-then (bits (meet m n)) (bits m) (bits (exact x)) (below-left (bits m) (bits n)) (h .flags) }
 
-pub sums-right : (m n : Sum) (x : Kinds) → Sums n x → Sums (meet m n) x
+pub sums-right : (m n : Sum) (x : Outline) → Sums n x → Sums (meet m n) x
 sums-right m n x h = record { flags = below-then (bits (meet m n)) (bits n) (bits (exact x)) (below-right (bits m) (bits n)) (h .flags) }
 
-pub sums-exact : (x : Kinds) → Sums (exact x) x
+pub sums-exact : (x : Outline) → Sums (exact x) x
 sums-exact x = record { flags = below-same (bits (exact x)) }
 
 -- of whichever of two, the second if the test fails
@@ -57,11 +57,11 @@ abbrev pick : Bool → Sum → Sum → Sum
 pick true m n = meet m n
 pick false m n = n
 
-pick-here : (b : Bool) (m n : Sum) (x : Kinds) → b ≡ true → Sums m x → Sums (pick b m n) x
+pick-here : (b : Bool) (m n : Sum) (x : Outline) → b ≡ true → Sums m x → Sums (pick b m n) x
 pick-here true m n x e h = sums-left m n x h
 pick-here false m n x e h = absurd (false≢true e)
 
-pick-later : (b : Bool) (m n : Sum) (x : Kinds) → Sums n x → Sums (pick b m n) x
+pick-later : (b : Bool) (m n : Sum) (x : Outline) → Sums n x → Sums (pick b m n) x
 pick-later true m n x h = sums-right m n x h
 pick-later false m n x h = h
 
@@ -142,9 +142,9 @@ leaves =
       in-expression = true;
     }
 
-pub leaves-fit : (x : Kinds) → leaves-only x ≡ true
-    → (fits elsewhere x ≡ true) × (fits values x ≡ true) × (fits cell-branches x ≡ true) × (fits value-branches x ≡ true) × (fits expression x ≡ true)
-unfolding leaves-only fits
+pub leaves-fit : (x : Outline) → leaves-only x ≡ true
+    → (proper elsewhere x ≡ true) × (proper values x ≡ true) × (proper cell-branches x ≡ true) × (proper value-branches x ≡ true) × (proper expression x ≡ true)
+unfolding leaves-only proper
 leaves-fit end e = (refl, refl, refl, refl, refl)
 leaves-fit (leaf k f) e = leaves-fit f e
 leaves-fit (B.node k c f) e = absurd (false≢true e)
@@ -152,7 +152,7 @@ leaves-fit (B.node k c f) e = absurd (false≢true e)
 off : {b : Bool} → false ≡ true → b ≡ true
 off e = absurd (false≢true e)
 
-pub leaves-sums : (x : Kinds) → leaves-only x ≡ true → Sums leaves x
+pub leaves-sums : (x : Outline) → leaves-only x ≡ true → Sums leaves x
 unfolding exact
 leaves-sums x e =
     let f = leaves-fit x e in

@@ -18,50 +18,50 @@ use Rattle.laws.specs.TreeRows as R
 -- ---------------------------------------------------------------- kinds
 
 -- the kinds of rows side by side, trivia passed over, each with what follows it; a node has its children
-pub data Kinds : Type 0 where
-  end : Kinds
-  leaf : ℕ → Kinds → Kinds
-  node : ℕ → Kinds → Kinds → Kinds
+pub data Outline : Type 0 where
+  end : Outline
+  leaf : ℕ → Outline → Outline
+  node : ℕ → Outline → Outline → Outline
 
 unfoldable pub is-trivia : ℕ → Bool
 is-trivia k = eqb k K.Whitespace || eqb k K.LineComment || eqb k K.BlockComment
 
-unfoldable pub kinds : Rows → Kinds
+unfoldable pub outline : Rows → Outline
 unfolding is-trivia
-kinds R.end = end
-kinds (R.leaf k w n f) = cond (is-trivia k) (kinds f) (leaf k (kinds f))
-kinds (R.node k w n c f) = node k (kinds c) (kinds f)
+outline R.end = end
+outline (R.leaf k w n f) = cond (is-trivia k) (outline f) (leaf k (outline f))
+outline (R.node k w n c f) = node k (outline c) (outline f)
 
-unfoldable pub is-end : Kinds → Bool
+unfoldable pub is-end : Outline → Bool
 is-end end = true
 is-end (leaf k f) = false
 is-end (node k c f) = false
 
 -- the first leaf, at whatever depth; d if there is none
-unfoldable pub first-leaf : Kinds → ℕ → ℕ
+unfoldable pub first-leaf : Outline → ℕ → ℕ
 first-leaf end d = d
 first-leaf (leaf k f) d = k
 first-leaf (node k c f) d = first-leaf c (first-leaf f d)
 
 -- the first leaf is an LParen
-unfoldable pub opens : Kinds → Bool
+unfoldable pub starts-open : Outline → Bool
 unfolding first-leaf
-opens c = eqb (first-leaf c K.Whitespace) K.LParen
+starts-open c = eqb (first-leaf c K.Whitespace) K.LParen
 
 -- the first child is an LParen
-unfoldable pub begins : Kinds → Bool
+unfoldable pub begins : Outline → Bool
 begins end = false
 begins (leaf k f) = eqb k K.LParen
 begins (node k c f) = false
 
 -- an LAngle is among them
-unfoldable pub has-angle : Kinds → Bool
+unfoldable pub has-angle : Outline → Bool
 has-angle end = false
 has-angle (leaf k f) = eqb k K.LAngle || has-angle f
 has-angle (node k c f) = has-angle f
 
 -- none of them is a node
-unfoldable pub leaves-only : Kinds → Bool
+unfoldable pub leaves-only : Outline → Bool
 leaves-only end = true
 leaves-only (leaf k f) = leaves-only f
 leaves-only (node k c f) = false
@@ -69,36 +69,36 @@ leaves-only (node k c f) = false
 -- ---------------------------------------------------------------- the parents of an LParen
 
 -- none of them is an LParen
-unfoldable pub no-bracket : Kinds → Bool
+unfoldable pub no-bracket : Outline → Bool
 no-bracket end = true
 no-bracket (leaf k f) = not (eqb k K.LParen) && no-bracket f
 no-bracket (node k c f) = no-bracket f
 
 -- none but the first is
-unfoldable pub first-only : Kinds → Bool
+unfoldable pub first-only : Outline → Bool
 unfolding no-bracket
 first-only end = true
 first-only (leaf k f) = no-bracket f
 first-only (node k c f) = no-bracket f
 
 -- none is, but the one after an Ident that stands first
-unfoldable pub after-name : Kinds → Bool
+unfoldable pub after-name : Outline → Bool
 unfolding no-bracket first-only
 after-name end = true
 after-name (leaf k f) = (eqb k K.Ident && first-only f) || no-bracket (leaf k f)
 after-name (node k c f) = no-bracket f
 
 -- none but the last is
-unfoldable pub last-only : Kinds → Bool
+unfoldable pub last-only : Outline → Bool
 unfolding is-end
 last-only end = true
 last-only (leaf k f) = (is-end f || not (eqb k K.LParen)) && last-only f
 last-only (node k c f) = last-only f
 
 -- the children c of a node of kind k
-unfoldable pub children-fit : ℕ → Kinds → Bool
+unfoldable pub children-proper : ℕ → Outline → Bool
 unfolding no-bracket first-only after-name last-only one-of
-children-fit k c =
+children-proper k c =
     cond (one-of (N.DtExpr ∷ N.ParenExpr ∷ []) k) (first-only c)
     (cond (eqb k N.MacroInvocation) (after-name c) (cond (eqb k N.MacroArgument) true (cond (eqb k N.ParseError) (last-only c) (no-bracket c))))
 
@@ -119,60 +119,60 @@ inside-other value-branches k angle = cond (eqb k N.PreprocessorBranch) values e
 inside-other expression k angle = expression
 inside-other elsewhere k angle = elsewhere
 
-unfoldable pub inside : List-of → ℕ → Bool → List-of
+unfoldable pub list-below : List-of → ℕ → Bool → List-of
 unfolding one-of
-inside x k angle =
+list-below x k angle =
     cond (one-of (N.DtCellList ∷ N.EntryCells ∷ []) k) cells
     (cond (one-of (N.PropValueList ∷ N.EntryPropValues ∷ []) k) values (cond (eqb k N.DtExpr) expression (inside-other x k angle)))
 
 -- no LParen is itself a child of a list of cells
-abbrev pub leaf-fits : List-of → ℕ → Bool
-leaf-fits cells k = not (eqb k K.LParen)
-leaf-fits values k = true
-leaf-fits cell-branches k = true
-leaf-fits value-branches k = true
-leaf-fits expression k = true
-leaf-fits elsewhere k = true
+abbrev pub leaf-proper : List-of → ℕ → Bool
+leaf-proper cells k = not (eqb k K.LParen)
+leaf-proper values k = true
+leaf-proper cell-branches k = true
+leaf-proper value-branches k = true
+leaf-proper expression k = true
+leaf-proper elsewhere k = true
 
 -- A cell whose first leaf is an LParen is a DtExpr, and the LParen its first child. In a DtExpr no LParen goes into a ParseError.
-abbrev pub node-fits : List-of → ℕ → Kinds → Bool
-node-fits cells k c = not (opens c) || (eqb k N.DtExpr && begins c)
-node-fits values k c = true
-node-fits cell-branches k c = true
-node-fits value-branches k c = true
-node-fits expression k c = not (eqb k N.ParseError) || no-bracket c
-node-fits elsewhere k c = true
+abbrev pub node-proper : List-of → ℕ → Outline → Bool
+node-proper cells k c = not (starts-open c) || (eqb k N.DtExpr && begins c)
+node-proper values k c = true
+node-proper cell-branches k c = true
+node-proper value-branches k c = true
+node-proper expression k c = not (eqb k N.ParseError) || no-bracket c
+node-proper elsewhere k c = true
 
 -- what stands side by side in x, with all that is under it
-unfoldable pub fits : List-of → Kinds → Bool
-unfolding opens begins has-angle no-bracket children-fit inside
-fits x end = true
-fits x (leaf k f) = leaf-fits x k && fits x f
-fits x (node k c f) = node-fits x k c && (children-fit k c && (fits (inside x k (has-angle c)) c && fits x f))
+unfoldable pub proper : List-of → Outline → Bool
+unfolding starts-open begins has-angle no-bracket children-proper list-below
+proper x end = true
+proper x (leaf k f) = leaf-proper x k && proper x f
+proper x (node k c f) = node-proper x k c && (children-proper k c && (proper (list-below x k (has-angle c)) c && proper x f))
 
 -- ---------------------------------------------------------------- the tree
 
 -- What an entry left over goes into one ParseError, the root's last child, that has leaves only: LParens at any place. A source file has
 -- none, and what cells left over does not start with an LParen.
-unfoldable pub left-over : ℕ → ℕ → Kinds → Bool
-unfolding leaves-only opens
-left-over r k c = not (eqb r N.SourceFile) && (eqb k N.ParseError && (leaves-only c && not (eqb r N.EntryCells && opens c)))
+unfoldable pub left-over : ℕ → ℕ → Outline → Bool
+unfolding leaves-only starts-open
+left-over r k c = not (eqb r N.SourceFile) && (eqb k N.ParseError && (leaves-only c && not (eqb r N.EntryCells && starts-open c)))
 
 -- the children of a root of kind r
-unfoldable pub root-fits : ℕ → Kinds → Bool
-unfolding fits is-end left-over inside
-root-fits r end = true
-root-fits r (leaf k f) = not (eqb k K.LParen) && root-fits r f
-root-fits r (node k c f) = ((is-end f && left-over r k c) || fits (inside elsewhere r false) (node k c end)) && root-fits r f
+unfoldable pub root-proper : ℕ → Outline → Bool
+unfolding proper is-end left-over list-below
+root-proper r end = true
+root-proper r (leaf k f) = not (eqb k K.LParen) && root-proper r f
+root-proper r (node k c f) = ((is-end f && left-over r k c) || proper (list-below elsewhere r false) (node k c end)) && root-proper r f
 
-unfoldable pub tree-fits : Kinds → Bool
-unfolding root-fits is-end
-tree-fits end = false
-tree-fits (leaf k f) = false
-tree-fits (node r c f) = is-end f && root-fits r c
+unfoldable pub tree-proper : Outline → Bool
+unfolding root-proper is-end
+tree-proper end = false
+tree-proper (leaf k f) = false
+tree-proper (node r c f) = is-end f && root-proper r c
 
 -- for every accepted call
-abbrev pub Brackets-fit : Type 0
-Brackets-fit =
+abbrev pub Brackets-proper : Type 0
+Brackets-proper =
     (n : ℕ) (bytes tokens : List ℕ) (b : Buffers) → call n bytes tokens b .answer .number ≡ 0
-    → tree-fits (kinds (read (take (TREE-ROW * call n bytes tokens b .answer .tree-count) (call n bytes tokens b .buffers .trees)))) ≡ true
+    → tree-proper (outline (read (take (TREE-ROW * call n bytes tokens b .answer .tree-count) (call n bytes tokens b .buffers .trees)))) ≡ true

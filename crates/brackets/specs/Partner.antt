@@ -29,7 +29,7 @@ tokens-first (leaf k w n f) = n
 tokens-first (node k w n c f) = tokens-in c
 
 -- report row q has its mark above the LParen's token index, which is the number of tokens before the DtExpr, and no further than it reaches
-pub record Told (p : ℕ) (r : Result) (q : ℕ) : Type 0 where
+pub record Reported (p : ℕ) (r : Result) (q : ℕ) : Type 0 where
   pub written : q < r .answer .report-count
   pub above : tokens-before p (r .buffers .trees) < mark-in q (r .buffers .reports)
   pub at-most : mark-in q (r .buffers .reports) ≤ tokens-before p (r .buffers .trees) + tokens-first (read (drop (TREE-ROW * p) (r .buffers .trees)))
@@ -38,4 +38,4 @@ pub record Told (p : ℕ) (r : Result) (q : ℕ) : Type 0 where
 abbrev pub Partner-missed : Type 0
 Partner-missed =
     (n : ℕ) (bytes tokens : List ℕ) (l : Buffers) → call n bytes tokens l .answer .number ≡ 0 → (p : ℕ) → DtExpr-at p (call n bytes tokens l)
-    → No-partner (tokens-of tokens) p (call n bytes tokens l) → (q : ℕ) × Told p (call n bytes tokens l) q
+    → No-partner (tokens-of tokens) p (call n bytes tokens l) → (q : ℕ) × Reported p (call n bytes tokens l) q

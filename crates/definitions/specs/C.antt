@@ -31,23 +31,23 @@ symbols named (t ∷ ts) =
     cond (trivia t) passed more
 
 -- how a symbol changes the number of open brackets
-pub data Turn : Type 0 where
-  opens closes keeps : Turn
+pub data Change : Type 0 where
+  opens closes keeps : Change
 
-abbrev pub turn : Symbol → Turn
-turn (plain k) = cond (eqb k K.LParen) opens (cond (eqb k K.RParen) closes keeps)
-turn arguments = opens
+abbrev pub change : Symbol → Change
+change (plain k) = cond (eqb k K.LParen) opens (cond (eqb k K.RParen) closes keeps)
+change arguments = opens
 
-abbrev pub turned : Turn → (ℕ → Option ℕ) → ℕ → Option ℕ
-turned opens f n = f (suc n)
-turned closes f zero = none
-turned closes f (suc n) = f n
-turned keeps f n = f n
+abbrev pub changed : Change → (ℕ → Option ℕ) → ℕ → Option ℕ
+changed opens f n = f (suc n)
+changed closes f zero = none
+changed closes f (suc n) = f n
+changed keeps f n = f n
 
 -- the brackets open after the symbols, n being open before them; none if one closes that was not opened
 abbrev pub open-after : List Symbol → ℕ → Option ℕ
 open-after [] n = some n
-open-after (x ∷ xs) n = turned (turn x) (open-after xs) n
+open-after (x ∷ xs) n = changed (change x) (open-after xs) n
 
 -- An RParen balances an LParen if what stands between them is balanced.
 abbrev pub Balanced : List Symbol → Type 0
@@ -55,41 +55,41 @@ Balanced xs = open-after xs 0 ≡ some 0
 
 -- ---------------------------------------------------------------- the table
 
--- a row's number, and its operators; a smaller number binds tighter
-pub record Row : Type 0 where
-  pub number : ℕ
+-- the number of a line of the table, and its operators; a smaller number binds tighter
+pub record Line : Type 0 where
+  pub line-number : ℕ
   pub operators : List ℕ
 
-abbrev pub row : ℕ → List ℕ → Row
-row n ks = record { number = n; operators = ks }
+abbrev pub line : ℕ → List ℕ → Line
+line n ks = record { line-number = n; operators = ks }
 
--- the table's row 1 is an operand and row 2 a prefix operator, row 13 the ternary (both from right to left)
+-- the table's line 1 is an operand, line 2 a prefix operator, line 13 the ternary (both from right to left)
 abbrev pub prefix-operators : List ℕ
 prefix-operators = K.Plus ∷ K.Minus ∷ K.BitwiseNot ∷ K.LogicalNot ∷ []
 
--- the binary operators, each row from left to right
-abbrev pub table : List Row
+-- the binary operators, each line from left to right
+abbrev pub table : List Line
 table =
-    row 3 (K.Asterisk ∷ K.Slash ∷ K.Modulo ∷ [])
-    ∷ row 4 (K.Plus ∷ K.Minus ∷ [])
-    ∷ row 5 (K.BitwiseShl ∷ K.BitwiseShr ∷ [])
-    ∷ row 6 (K.LAngle ∷ K.RelationalLtEq ∷ K.RAngle ∷ K.RelationalGtEq ∷ [])
-    ∷ row 7 (K.RelationalEq ∷ K.RelationalNeq ∷ [])
-    ∷ row 8 (K.Ampersand ∷ [])
-    ∷ row 9 (K.BitwiseXor ∷ [])
-    ∷ row 10 (K.BitwiseOr ∷ [])
-    ∷ row 11 (K.LogicalAnd ∷ [])
-    ∷ row 12 (K.LogicalOr ∷ [])
+    line 3 (K.Asterisk ∷ K.Slash ∷ K.Modulo ∷ [])
+    ∷ line 4 (K.Plus ∷ K.Minus ∷ [])
+    ∷ line 5 (K.BitwiseShl ∷ K.BitwiseShr ∷ [])
+    ∷ line 6 (K.LAngle ∷ K.RelationalLtEq ∷ K.RAngle ∷ K.RelationalGtEq ∷ [])
+    ∷ line 7 (K.RelationalEq ∷ K.RelationalNeq ∷ [])
+    ∷ line 8 (K.Ampersand ∷ [])
+    ∷ line 9 (K.BitwiseXor ∷ [])
+    ∷ line 10 (K.BitwiseOr ∷ [])
+    ∷ line 11 (K.LogicalAnd ∷ [])
+    ∷ line 12 (K.LogicalOr ∷ [])
     ∷ []
 
--- the number of the row that has an operator, 0 if none has it
-unfoldable pub number-in : List Row → ℕ → ℕ
+-- the number of the line that has an operator, 0 if none has it
+unfoldable pub line-in : List Line → ℕ → ℕ
 unfolding one-of
-number-in [] k = 0
-number-in (r ∷ rs) k = let n = number-in rs k in cond (one-of (r .operators) k) (r .number) n
+line-in [] k = 0
+line-in (r ∷ rs) k = let n = line-in rs k in cond (one-of (r .operators) k) (r .line-number) n
 
-abbrev pub number-of : ℕ → ℕ
-number-of k = number-in table k
+abbrev pub line-of : ℕ → ℕ
+line-of k = line-in table k
 
 -- ---------------------------------------------------------------- expressions
 
@@ -113,29 +113,29 @@ spelling (prefix k e) = plain k ∷ spelling e
 spelling (binary l k r) = spelling l ++ (plain k ∷ spelling r)
 spelling (ternary c a b) = spelling c ++ (plain K.QuestionMark ∷ (spelling a ++ (plain K.Colon ∷ spelling b)))
 
--- the number of the row that an expression's outermost operator has
+-- the number of the line that an expression's outermost operator has
 abbrev pub precedence : Expr → ℕ
 precedence (literal k) = 1
 precedence name = 1
 precedence (invocation xs) = 1
 precedence (bracketed e) = 1
 precedence (prefix k e) = 2
-precedence (binary l k r) = number-of k
+precedence (binary l k r) = line-of k
 precedence (ternary c a b) = 13
 
--- What the table allows. A prefix operator's operand binds as tight as one; a binary operator's left operand at least as tight as the operator
+-- What the table allows. A prefix operator's operand binds at least as tightly as one; a binary operator's left operand at least as tight as the operator
 -- and its right operand tighter (from left to right); a ternary's condition tighter than a ternary (from right to left), and what stands
 -- between `?` and `:`, or after `:`, is any expression.
-abbrev pub Allowed : Expr → Type 0
-Allowed (literal k) = one-of (K.Number ∷ K.Char ∷ []) k ≡ true
-Allowed name = Unit {0}
-Allowed (invocation xs) = Balanced xs
-Allowed (bracketed e) = Allowed e
-Allowed (prefix k e) = (one-of prefix-operators k ≡ true) × Allowed e × (precedence e ≤ 2)
-Allowed (binary l k r) = (1 ≤ number-of k) × Allowed l × Allowed r × (precedence l ≤ number-of k) × (precedence r < number-of k)
-Allowed (ternary c a b) = Allowed c × Allowed a × Allowed b × (precedence c < 13)
+abbrev pub Well-formed : Expr → Type 0
+Well-formed (literal k) = one-of (K.Number ∷ K.Char ∷ []) k ≡ true
+Well-formed name = Unit {0}
+Well-formed (invocation xs) = Balanced xs
+Well-formed (bracketed e) = Well-formed e
+Well-formed (prefix k e) = (one-of prefix-operators k ≡ true) × Well-formed e × (precedence e ≤ 2)
+Well-formed (binary l k r) = (1 ≤ line-of k) × Well-formed l × Well-formed r × (precedence l ≤ line-of k) × (precedence r < line-of k)
+Well-formed (ternary c a b) = Well-formed c × Well-formed a × Well-formed b × (precedence c < 13)
 
 -- C's table gives the symbols the tree
 pub record Gives (xs : List Symbol) (e : Expr) : Type 0 where
-  pub allowed : Allowed e
+  pub well-formed : Well-formed e
   pub symbols-are : spelling e ≡ xs

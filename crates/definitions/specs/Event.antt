@@ -20,11 +20,11 @@ forward false n = 0
 
 -- linked: a marker that comes after the skeleton was made to precede its node, so that the node's start leads on to that marker's
 unfoldable pub events : Bool → Skeleton → List Event
-events linked done = []
-events linked (token t m o) = AddToken ∷ events linked o
-events linked (name ts m o) = AddCombinedToken (length ts) ∷ events linked o
-events linked (node k m m′ a i o) =
-    events true a ++ (StartNode k (forward linked (suc (suc (length (events false i))))) ∷ (events false i ++ (FinishNode ∷ events linked o)))
-events linked (ignored m m′ a i o) = events true a ++ (Placeholder ∷ (events false i ++ (Placeholder ∷ events linked o)))
-events linked (report r o) = Error ∷ events linked o
-events linked (over m o) = events linked o
+events preceded done = []
+events preceded (token t m o) = AddToken ∷ events preceded o
+events preceded (name ts m o) = AddCombinedToken (length ts) ∷ events preceded o
+events preceded (node k m m′ a i o) =
+    events true a ++ (StartNode k (forward preceded (suc (suc (length (events false i))))) ∷ (events false i ++ (FinishNode ∷ events preceded o)))
+events preceded (ignored m m′ a i o) = events true a ++ (Placeholder ∷ (events false i ++ (Placeholder ∷ events preceded o)))
+events preceded (report r o) = Error ∷ events preceded o
+events preceded (over m o) = events preceded o

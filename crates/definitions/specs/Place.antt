@@ -90,8 +90,8 @@ rows (subtree k c f) = tree-row NODE k (width c) (count c) (rows c ++ rows f)
 -- the lexical errors of tokens that start at a byte: number, start, end of each error token in order
 unfoldable pub lexical-errors : ℕ → List Token → List ℕ
 unfolding is-error
-lexical-errors at [] = []
-lexical-errors at (t ∷ ts) =
-    let r = lexical-errors (at + t .len) ts in
-    let more : List ℕ = t .kind ∷ at ∷ (at + t .len) ∷ r in
+lexical-errors byte [] = []
+lexical-errors byte (t ∷ ts) =
+    let r = lexical-errors (byte + t .len) ts in
+    let more : List ℕ = t .kind ∷ byte ∷ (byte + t .len) ∷ r in
     cond (is-error (t .kind)) more r

@@ -41,8 +41,8 @@ truth true = yes
 truth false = no
 
 -- an answer, and nothing else done
-unfoldable pub answer : Ans → State → Out
-answer a s = record { ans = a; shape = 0; made = done; state = s }
+unfoldable pub replies : Ans → State → Out
+replies a s = record { ans = a; shape = 0; made = done; state = s }
 
 -- something made
 unfoldable pub makes : Ans → Skeleton → State → Out
@@ -54,27 +54,27 @@ taken ts = record { rest = ts; since = ts; pending = [] }
 
 -- `bump`, with the tokens from the current one on. At the end the Rust panics; no program takes there.
 unfoldable pub do-bump : State → List Token → Out
-unfolding answer makes
-do-bump s [] = answer yes s
+unfolding replies makes
+do-bump s [] = replies yes s
 do-bump s (t ∷ ts) = makes yes (token t (length ts) done) (taken ts)
 
 -- a run of tokens of a set, and what follows it
-pub record Run : Type 0 where
+pub record Stretch : Type 0 where
   pub raw : List Token
   pub after : List Token
 
-unfoldable pub run-of : List ℕ → List Token → Run
+unfoldable pub stretch-of : List ℕ → List Token → Stretch
 unfolding seen one-of
-run-of ks [] = record { raw = []; after = [] }
-run-of ks (t ∷ ts) =
-    let r = run-of ks ts in
+stretch-of ks [] = record { raw = []; after = [] }
+stretch-of ks (t ∷ ts) =
+    let r = stretch-of ks ts in
     cond (one-of ks (seen t)) (record { raw = t ∷ r .raw; after = r .after }) (record { raw = []; after = t ∷ ts })
 
 -- `bump_name_generic`: the caller has seen the first token, which the Rust asserts; no program takes a name at the end
 unfoldable pub do-name : List ℕ → State → List Token → Out
-unfolding answer makes run-of
-do-name ks s [] = answer yes s
-do-name ks s (t ∷ ts) = let r = run-of ks ts in makes yes (name (t ∷ r .raw) (length (r .after)) done) (taken (r .after))
+unfolding replies makes stretch-of
+do-name ks s [] = replies yes s
+do-name ks s (t ∷ ts) = let r = stretch-of ks ts in makes yes (name (t ∷ r .raw) (length (r .after)) done) (taken (r .after))
 
 -- one run after another
 unfoldable pub add : Out → Out → Out
@@ -89,10 +89,10 @@ at-depth (suc n) a f = f n
 -- the rest of a macro argument, n brackets being open inside it; ts: the raw tokens from the cursor on. yes: it stops at a comma outside
 -- these brackets. no: it stops at the right bracket of the argument list, or at the end.
 unfoldable pub do-argument : ℕ → State → List Token → Out
-unfolding answer makes add trivia at-depth
-do-argument n s [] = answer no (record { rest = []; since = s .since; pending = s .pending })
+unfolding replies makes add trivia at-depth
+do-argument n s [] = replies no (record { rest = []; since = s .since; pending = s .pending })
 do-argument n s (t ∷ ts) =
-    let stay : Ans → Out = λ a. answer a (record { rest = t ∷ ts; since = s .since; pending = s .pending }) in
+    let stay : Ans → Out = λ a. replies a (record { rest = t ∷ ts; since = s .since; pending = s .pending }) in
     let go : ℕ → Out = λ m. add (makes yes (token t (length ts) done) (taken ts)) (do-argument m (taken ts) ts) in
     let skip = do-argument n s ts in
     let deeper = go (suc n) in
@@ -141,18 +141,18 @@ do-expected k s =
     makes yes (over-unless (ltb (length (s .pending)) MOST-PENDING) (mark-of s)) (record { rest = s .rest; since = s .since; pending = s .pending ++ (k ∷ []) })
 
 unfoldable pub perform : Label → Act → State → Out
-unfolding peeked answer first-in do-expected do-bump do-name do-argument do-emit
-perform b (silent-at ks) s = answer (truth (first-in ks (peeked s .rest))) (peeked s)
-perform b at-end s = answer (truth (ended (peeked s .rest))) (peeked s)
-perform b (immediate k) s = answer (truth (first-in (k ∷ []) (s .rest))) s
-perform b (immediate-next k) s = answer (truth (first-in (k ∷ []) (past (s .rest)))) s
+unfolding peeked replies first-in do-expected do-bump do-name do-argument do-emit
+perform b (silent-at ks) s = replies (truth (first-in ks (peeked s .rest))) (peeked s)
+perform b at-end s = replies (truth (ended (peeked s .rest))) (peeked s)
+perform b (immediate k) s = replies (truth (first-in (k ∷ []) (s .rest))) s
+perform b (immediate-next k) s = replies (truth (first-in (k ∷ []) (past (s .rest)))) s
 perform b (add-expected k) s = do-expected k s
 perform b bump s = do-bump (peeked s) (peeked s .rest)
 perform b (bump-name ks) s = do-name ks (peeked s) (peeked s .rest)
 perform b bump-argument s = do-argument 0 s (s .rest)
 perform b (emit m h) s = do-emit m h no-label (peeked s)
 perform b emit-unclosed s = do-emit E.unclosed-node E.no-hint b (peeked s)
-perform b (less m n) s = answer (truth (ltb m n)) s
+perform b (less m n) s = replies (truth (ltb m n)) s
 
 -- ---------------------------------------------------------------- programs
 
@@ -184,8 +184,8 @@ goes-on s o = is-again (o .ans) && ltb (length (o .state .rest)) (length (s .res
 
 -- a loop of at most so many turns; a turn shapes no marker
 unfoldable pub iter : ℕ → (State → Out) → State → Out
-unfolding answer makes add goes-on
-iter zero f s = answer again s
+unfolding replies makes add goes-on
+iter zero f s = replies again s
 iter (suc n) f s =
     let o = f s in
     let turn = makes (o .ans) (o .made) (o .state) in
@@ -230,7 +230,7 @@ here ts = label (record { from = byte-count ts; to = byte-count (past ts) })
 
 -- ask: what a call does. b: the brace around.
 unfoldable pub exec : (Rule → State → Out) → Label → Prog → State → Out
-unfolding perform answer add choose marked iter chained byte-count
+unfolding perform replies add choose marked iter chained byte-count
 exec ask b (ret k a) s = record { ans = a; shape = k; made = done; state = s }
 exec ask b (act a) s = perform b a s
 exec ask b (p ⨟ q) s = let o = exec ask b p s in add o (exec ask b q (o .state))

@@ -21,7 +21,7 @@ demands =
             nothing-lost = lossless.nothing-lost;
             c-table = precedence.c-table;
             one-tree = precedence.one-tree;
-            brackets-fit = brackets.brackets-fit;
+            brackets-proper = brackets.brackets-proper;
             partner-missed = partner.missed;
           };
       promise-3 = record { stays-local = recovery.stays-local };

@@ -5,7 +5,7 @@ use Rattle.refusals.specs.Answered.{Answered}
 use Rattle.laws.specs.Lossless.{Nothing-lost}
 use Rattle.laws.specs.Limits.{Limits}
 use Rattle.precedence.specs.Precedence.{C-table, One-tree}
-use Rattle.brackets.specs.Brackets.{Brackets-fit}
+use Rattle.brackets.specs.Brackets.{Brackets-proper}
 use Rattle.brackets.specs.Partner.{Partner-missed}
 use Rattle.recovery.specs.Recovery.{Stays-local}
 use Rattle.bounds.specs.Numbers.{Runs-bounded, Words-so-far, Numbers-fit}
@@ -34,7 +34,7 @@ pub record Promise-2 : Type 0 where
   pub one-tree : One-tree
   -- A bracket that starts a cell starts a DtExpr, of which the two lines above speak; and no LParen stands where none can.
   -- brackets/specs/Brackets.antt.
-  pub brackets-fit : Brackets-fit
+  pub brackets-proper : Brackets-proper
   -- Where no RParen balances a cell's bracket, an error is reported. brackets/specs/Partner.antt.
   pub partner-missed : Partner-missed
 

@@ -13,7 +13,7 @@ use Rattle.definitions.specs.Prog.{Ans, no, yes, also, again, Act, silent-at, i
 use Rattle.definitions.specs.Prog as P
 use Rattle.definitions.specs.Token.{Token, is-error, seen, trivia, drop-trivia, past, ended, one-of, first-in}
 use Rattle.definitions.specs.Skeleton.{Label, done, token}
-use Rattle.definitions.specs.Run.{State, Out, mark-of, peeked, truth, answer, makes, taken, do-bump, run-of, do-name, add, at-depth, do-argument, do-emit, do-expected, perform}
+use Rattle.definitions.specs.Run.{State, Out, mark-of, peeked, truth, replies, makes, taken, do-bump, stretch-of, do-name, add, at-depth, do-argument, do-emit, do-expected, perform}
 use Rattle.basics.proofs.Tests.{cond-all, cond-with, and-left, and-right}
 use Rattle.laws.proofs.Trivia.{drop-none, drop-trivium, drop-twice, drop-trivia-length}
 use Rattle.laws.proofs.Kept.{run-of-split}
@@ -118,8 +118,8 @@ name-holds : (ks : List ℕ) (d : Fact) (s₀ s : State) (l : List Token) → dr
 unfolding do-name makes get
 name-holds ks d s₀ s [] e t h = absurd (true≢false t)
 name-holds ks d s₀ s (t ∷ ts) e _ h =
-    let n : length ts ≡ length (run-of ks ts .raw ++ run-of ks ts .after) = ap length (run-of-split ks ts) in
-    holds-taken d s₀ s (run-of ks ts .after) (omega (arith, ap length e, drop-trivia-length (s .rest), length-append (run-of ks ts .raw) (run-of ks ts .after))) h
+    let n : length ts ≡ length (stretch-of ks ts .raw ++ stretch-of ks ts .after) = ap length (run-of-split ks ts) in
+    holds-taken d s₀ s (stretch-of ks ts .after) (omega (arith, ap length e, drop-trivia-length (s .rest), length-append (stretch-of ks ts .raw) (stretch-of ks ts .after))) h
 
 -- ---------------------------------------------------------------- one expectation more
 
@@ -210,12 +210,12 @@ module _ (d : Fact) (s₀ s : State) (l : List Token) (e : drop-trivia (s .rest)
       holds-to d (argued k g d) s₀ s stays refl shorter (right-stays g (d .fresh) p) (λ r. right-right (cleared k) (map g (d .took)) stays (right-stays g (d .took) p r)) h
 
   -- it ends at a comma; at a bracket or at the end
-  stops-comma : first-in (K.Comma ∷ []) l ≡ true → Argument d s₀ (answer yes stays)
-  unfolding act-look get answer
+  stops-comma : first-in (K.Comma ∷ []) l ≡ true → Argument d s₀ (replies yes stays)
+  unfolding act-look get replies
   stops-comma i = holds-stays (known false (some (K.Comma ∷ []))) (seen-in (K.Comma ∷ [])) (λ x. knows-seen (K.Comma ∷ []) x l i)
 
-  stops-bracket : (first-in (K.RParen ∷ []) l || ended l) ≡ true → Argument d s₀ (answer no stays)
-  unfolding act-look get answer
+  stops-bracket : (first-in (K.RParen ∷ []) l || ended l) ≡ true → Argument d s₀ (replies no stays)
+  unfolding act-look get replies
   stops-bracket i = holds-stays (known true (some (K.RParen ∷ []))) (ended-or-in (K.RParen ∷ [])) (λ x. knows-bracket x l i)
 
 -- some of it was taken
@@ -278,7 +278,7 @@ argument-holds n d s₀ s (t ∷ ts) e l h =
 -- ---------------------------------------------------------------- every action
 
 pub act-holds : (b : Label) (a : Act) (d : Fact) (s₀ s : State) → may-act a d ≡ true → Holds d s₀ s → Holds (get (act-look a d) (perform b a s .ans) (perform b a s .shape)) s₀ (perform b a s .state)
-unfolding act-look may-act perform answer makes do-emit do-expected get
+unfolding act-look may-act perform replies makes do-emit do-expected get
 act-holds b (silent-at ks) d s₀ s m h =
     in-tested (over (map (not-in ks)) d) (over (map (seen-in ks)) d) (first-in ks (peeked s .rest)) s₀ (peeked s)
     (λ e. holds-peeked (over (map (not-in ks)) d) s₀ s (holds-map (not-in ks) d s₀ s (λ x. knows-not ks x (drop-trivia (s .rest)) e) h))

@@ -6,7 +6,7 @@ use mathlib.Core.List.{List, [], _∷_}
 use Rattle.definitions.specs.Token.{drop-trivia, ended, first-in}
 use Rattle.definitions.specs.Prog.{Prog, act, bump, bump-name}
 use Rattle.definitions.specs.Run.{State}
-use Rattle.run_steps.specs.Steps.{Step, begun, asked, turned, linked, spent, exceeded, Each}
+use Rattle.run_steps.specs.Steps.{Step, begun, branched, turned, linked, spent, exceeded, Every-step}
 use Rattle.facts.proofs.Known.{some}
 use Rattle.facts.proofs.Facts.{empty, bad, pend-from, Fact}
 use Rattle.facts.proofs.May.{may-act, asserts, may-begin}
@@ -37,10 +37,10 @@ pending-good p s g = go (g .holds .way)
     go (took-way m r) = told-good (pend-from empty (s .pending)) (g .known .took) (drop-trivia (s .rest)) (r .told)
 
 -- what a good step gives, all of them give
-pub each-by : (P Q : Step → Type 0) → ((x : Step) → P x → Q x) → (l : List Step) → Each P l → Each Q l
+pub each-by : (P Q : Step → Type 0) → ((x : Step) → P x → Q x) → (l : List Step) → Every-step P l → Every-step Q l
 each-by P Q f [] h = tt
 each-by P Q f (begun p s ∷ l) h = (f (begun p s) (h .0), each-by P Q f l (h .1))
-each-by P Q f (asked a ∷ l) h = (f (asked a) (h .0), each-by P Q f l (h .1))
+each-by P Q f (branched a ∷ l) h = (f (branched a) (h .0), each-by P Q f l (h .1))
 each-by P Q f (turned s o ∷ l) h = (f (turned s o) (h .0), each-by P Q f l (h .1))
 each-by P Q f (linked s o ∷ l) h = (f (linked s o) (h .0), each-by P Q f l (h .1))
 each-by P Q f (spent ∷ l) h = (f spent (h .0), each-by P Q f l (h .1))

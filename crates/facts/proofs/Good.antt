@@ -6,7 +6,7 @@ use mathlib.Core.List.{List, [], _∷_, _++_}
 use lib.ListN.{length}
 use Rattle.definitions.specs.Prog.{Prog}
 use Rattle.definitions.specs.Run.{State, Out, add, is-again}
-use Rattle.run_steps.specs.Steps.{Step, begun, asked, turned, linked, spent, exceeded, Each}
+use Rattle.run_steps.specs.Steps.{Step, begun, branched, turned, linked, spent, exceeded, Every-step}
 use Rattle.facts.proofs.Facts.{Fact}
 use Rattle.facts.proofs.May.{may-begin}
 use Rattle.facts.proofs.Look.{Look, get}
@@ -23,7 +23,7 @@ pub record Begun (p : Prog) (s : State) : Type 0 where
 -- No loop and no chain runs out of turns.
 abbrev pub Good : Step → Type 0
 Good (begun p s) = Begun p s
-Good (asked a) = is-again a ≡ false
+Good (branched a) = is-again a ≡ false
 Good (turned s o) = is-again (o .ans) ≡ true → length (o .state .rest) < length (s .rest)
 Good (linked s o) = is-again (o .ans) ≡ true → (length (o .state .rest) < length (s .rest)) × (0 < o .shape)
 Good spent = ⊥
@@ -33,16 +33,16 @@ Good exceeded = Unit {0}
 abbrev pub Free : List Step → Type 0
 Free [] = Unit {0}
 Free (begun p s ∷ l) = Free l
-Free (asked a ∷ l) = Free l
+Free (branched a ∷ l) = Free l
 Free (turned s o ∷ l) = Free l
 Free (linked s o ∷ l) = Free l
 Free (spent ∷ l) = Free l
 Free (exceeded ∷ l) = ⊥
 
-pub each-append : (P : Step → Type 0) (l m : List Step) → Each P l → (Free l → Each P m) → Each P (l ++ m)
+pub each-append : (P : Step → Type 0) (l m : List Step) → Every-step P l → (Free l → Every-step P m) → Every-step P (l ++ m)
 each-append P [] m h g = g tt
 each-append P (begun p s ∷ l) m h g = (h .0, each-append P l m (h .1) g)
-each-append P (asked a ∷ l) m h g = (h .0, each-append P l m (h .1) g)
+each-append P (branched a ∷ l) m h g = (h .0, each-append P l m (h .1) g)
 each-append P (turned s o ∷ l) m h g = (h .0, each-append P l m (h .1) g)
 each-append P (linked s o ∷ l) m h g = (h .0, each-append P l m (h .1) g)
 each-append P (spent ∷ l) m h g = (h .0, each-append P l m (h .1) g)
@@ -51,7 +51,7 @@ each-append P (exceeded ∷ l) m h g = tt
 pub free-append : (l m : List Step) → Free (l ++ m) → Free l × Free m
 free-append [] m h = (tt, h)
 free-append (begun p s ∷ l) m h = free-append l m h
-free-append (asked a ∷ l) m h = free-append l m h
+free-append (branched a ∷ l) m h = free-append l m h
 free-append (turned s o ∷ l) m h = free-append l m h
 free-append (linked s o ∷ l) m h = free-append l m h
 free-append (spent ∷ l) m h = free-append l m h
@@ -59,7 +59,7 @@ free-append (exceeded ∷ l) m h = absurd h
 
 -- what a look says of a run's result and of its steps
 pub record Gives (l : Look) (s₀ : State) (o : Out) (ss : List Step) : Type 0 where
-  pub each : Each Good ss
+  pub each : Every-step Good ss
   pub facts : Free ss → Holds (get l (o .ans) (o .shape)) s₀ (o .state)
 
 abbrev pub Sound : (Fact → Look) → (State → Out) → (State → List Step) → Type 0

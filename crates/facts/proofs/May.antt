@@ -50,16 +50,16 @@ fore (chain p q) = chain p q
 fore (brace p) = brace p
 fore (open-call r) = open-call r
 
-unfoldable pub rest : Prog → Prog
-rest (ret k a) = ret k a
-rest (act a) = act a
-rest (p ⨟ q) = q
-rest (case c n y a) = case c n y a
-rest (in-marker p) = in-marker p
-rest (loop p) = loop p
-rest (chain p q) = chain p q
-rest (brace p) = brace p
-rest (open-call r) = open-call r
+unfoldable pub hind : Prog → Prog
+hind (ret k a) = ret k a
+hind (act a) = act a
+hind (p ⨟ q) = q
+hind (case c n y a) = case c n y a
+hind (in-marker p) = in-marker p
+hind (loop p) = loop p
+hind (chain p q) = chain p q
+hind (brace p) = brace p
+hind (open-call r) = open-call r
 
 -- the kind that a program asserts, if it is one of the five that do: told by its form, and of no other form in the grammar
 unfoldable pub seq-needs : Prog → Prog → Kinds
@@ -77,12 +77,12 @@ node-needs p q =
     all
 
 unfoldable pub needs : Prog → Kinds
-unfolding seq-needs node-needs fore rest
+unfolding seq-needs node-needs fore hind
 needs (ret k a) = all
 needs (act a) = all
 needs (p ⨟ q) = seq-needs p q
 needs (case c n y a) = all
-needs (in-marker p) = node-needs (fore (fore p)) (rest (fore p))
+needs (in-marker p) = node-needs (fore (fore p)) (hind (fore p))
 needs (loop p) = all
 needs (chain p q) = all
 needs (brace p) = some (K.LCurly ∷ [])

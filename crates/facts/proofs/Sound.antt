@@ -15,7 +15,7 @@ use Rattle.definitions.specs.Skeleton.{Label, no-label, Skeleton, done}
 use Rattle.definitions.specs.Run.{State, Out, mark-of, makes, add, taken, perform, choose, marked, is-again, iter, unlinked, links, chained, here, exec, run}
 use Rattle.basics.proofs.Tests.{and-left, and-right}
 use Rattle.laws.proofs.Sound.{is-again-eq}
-use Rattle.run_steps.specs.Steps.{Step, asked, Each, iter-steps, links-steps, choose-steps, exceeds, act-steps, steps, run-steps, entry-steps}
+use Rattle.run_steps.specs.Steps.{Step, branched, Every-step, iter-steps, links-steps, choose-steps, exceeds, act-steps, steps, run-steps, entry-steps}
 use Rattle.facts.proofs.Facts.{Fact, pend-from, pick, fact-within, fact-never}
 use Rattle.facts.proofs.May.{may-act, may-begin}
 use Rattle.facts.proofs.Look.{Look, get, only, any-of, and-ok, either, unshaped, stopped, act-look, from, turns, joined, again-of, left-over, moves, settled, looped, look, looks-within}
@@ -37,12 +37,12 @@ gives-first l m s₀ o ss g = gives-by l (either l m) s₀ o ss (in-first s₀ (
 gives-second : (l m : Look) (s₀ : State) (o : Out) (ss : List Step) → Gives m s₀ o ss → Gives (either l m) s₀ o ss
 gives-second l m s₀ o ss g = gives-by m (either l m) s₀ o ss (in-second s₀ (o .state) l m (o .ans) (o .shape)) g
 
-exceeds-each : (b : Bool) → Each Good (exceeds b)
+exceeds-each : (b : Bool) → Every-step Good (exceeds b)
 unfolding exceeds
 exceeds-each true = tt
 exceeds-each false = tt
 
-act-each : (a : Act) (s : State) → Each Good (act-steps a s)
+act-each : (a : Act) (s : State) → Every-step Good (act-steps a s)
 unfolding act-steps
 act-each (silent-at ks) s = tt
 act-each P.at-end s = tt
@@ -89,12 +89,12 @@ module _ (l : Look) (n y a : Fact → Look) (N Y B : State → Out) (TN TY TB : 
 
 -- a condition and what follows it
 gives-case : (l m : Look) (s₀ : State) (o x : Out) (ss us : List Step) → Gives l s₀ o ss
-    → (Holds (get l (o .ans) (o .shape)) s₀ (o .state) → (is-again (o .ans) ≡ false) × Gives m s₀ x us) → Gives m s₀ (add o x) (ss ++ (asked (o .ans) ∷ us))
+    → (Holds (get l (o .ans) (o .shape)) s₀ (o .state) → (is-again (o .ans) ≡ false) × Gives m s₀ x us) → Gives m s₀ (add o x) (ss ++ (branched (o .ans) ∷ us))
 unfolding add
 gives-case l m s₀ o x ss us g k =
     record {
-      each = each-append Good ss (asked (o .ans) ∷ us) (g .each) (λ f. (k (g .facts f) .0, k (g .facts f) .1 .each));
-      facts = λ f. let w : Free ss × Free us = free-append ss (asked (o .ans) ∷ us) f in k (g .facts (w .0)) .1 .facts (w .1);
+      each = each-append Good ss (branched (o .ans) ∷ us) (g .each) (λ f. (k (g .facts f) .0, k (g .facts f) .1 .each));
+      facts = λ f. let w : Free ss × Free us = free-append ss (branched (o .ans) ∷ us) f in k (g .facts (w .0)) .1 .facts (w .1);
     }
 
 -- ---------------------------------------------------------------- loops and chains
@@ -247,6 +247,6 @@ unfolding pick pend-from
 starts ts = record { within = le-refl _; below = le-refl _; way = fresh-way refl (record { told = nothing-knows (drop-trivia ts) }) }
 
 -- EACH STEP OF A RUN is good, for every entry and every list of tokens
-pub entry-good : (e : Entry) (ts : List Token) → Each Good (entry-steps e ts)
+pub entry-good : (e : Entry) (ts : List Token) → Every-step Good (entry-steps e ts)
 unfolding entry-steps
 entry-good e ts = exec-gives (run MOST-OPEN-CALLS) (run-steps MOST-OPEN-CALLS) table (run-gives MOST-OPEN-CALLS) no-label (whole e) start (taken ts) (taken ts) (whole-looks e) (starts ts) .each

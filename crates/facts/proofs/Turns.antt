@@ -14,7 +14,7 @@ use Rattle.definitions.specs.Run.{State, Out, mark-of, makes, add, closed, is-a
 use Rattle.basics.proofs.Tests.{and-left, and-right}
 use Rattle.laws.proofs.Fuel.{turn-of}
 use Rattle.laws.proofs.Sound.{is-again-eq}
-use Rattle.run_steps.specs.Steps.{Step, turned, linked, Each, iter-steps, links-steps}
+use Rattle.run_steps.specs.Steps.{Step, turned, linked, Every-step, iter-steps, links-steps}
 use Rattle.facts.proofs.Facts.{by-never, nowhere, Fact, fact-within, fact-never, if-fresh, if-took}
 use Rattle.facts.proofs.Look.{Look, get, stopped, later, entering, from, Turns, turns, joined, again-of, left-over, moves}
 use Rattle.facts.proofs.Holds.{Right, Way, fresh-way, took-way, Holds, right-left, right-right, right-weaken, right-nowhere, holds-weaken, holds-never, begins-fresh, ends-fresh, begins-took, ends-took}
@@ -59,7 +59,7 @@ shaped-again l s u (suc k) e h = omega arith
 
 -- a turn from s that gave o by the steps ss, in a loop whose head is i
 pub record Turned (i : Fact) (t : Turns) (s₀ s : State) (o : Out) (ss : List Step) : Type 0 where
-  pub each : Each Good ss
+  pub each : Every-step Good ss
   pub facts : Free ss → Holds (get (joined t) (o .ans) (o .shape)) s₀ (o .state)
   pub moved : Free ss → is-again (o .ans) ≡ true → length (o .state .rest) < length (s .rest)
   pub onward : Free ss → is-again (o .ans) ≡ true → Holds i s₀ (o .state)

@@ -9,7 +9,7 @@ use lib.ListN.{length}
 use Rattle.definitions.specs.Prog.{Ans, no, yes, also, again, Rule, Act, Prog, ret, act, _⨟_, case, in-marker, loop, chain, brace, open-call}
 use Rattle.definitions.specs.Grammar.{grammar}
 use Rattle.definitions.specs.Skeleton.{Label, no-label, Skeleton, done, node, over, _⧺_}
-use Rattle.definitions.specs.Run.{State, Out, mark-of, answer, makes, add, perform, choose, closed, marked, is-again, goes-on, iter, unlinked, by-shape, links, chained, here, exec, run}
+use Rattle.definitions.specs.Run.{State, Out, mark-of, replies, makes, add, perform, choose, closed, marked, is-again, goes-on, iter, unlinked, by-shape, links, chained, here, exec, run}
 use Rattle.basics.proofs.Tests.{cond-all, and-left, and-right}
 
 -- ---------------------------------------------------------------- the general form
@@ -50,7 +50,7 @@ module _ (Q : State → Out → Type 0) (C : State → ℕ → Skeleton → Skel
 
   -- every loop
   pub iter-all : (n : ℕ) (f : State → Out) → ((s : State) → Q s (f s)) → (s : State) → Q s (iter n f s)
-  unfolding iter answer
+  unfolding iter replies
   iter-all zero f h s = S .idle again s
   iter-all (suc n) f h s =
       let turn : Q s (makes (f s .ans) (f s .made) (f s .state)) = S .turn s (f s) (h s) in

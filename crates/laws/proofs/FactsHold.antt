@@ -10,12 +10,12 @@ use lib.ListN.{length, length-append}
 use Rattle.definitions.specs.Prog.{Act, silent-at, at-end, immediate, immediate-next, add-expected, bump, bump-name, bump-argument, emit, emit-unclosed, less}
 use Rattle.definitions.specs.Token.{Token, drop-trivia, first-in, past, ended}
 use Rattle.definitions.specs.Skeleton.{Label}
-use Rattle.definitions.specs.Run.{State, mark-of, peeked, truth, answer, makes, taken, do-bump, run-of, do-name, do-emit, do-expected, perform}
+use Rattle.definitions.specs.Run.{State, mark-of, peeked, truth, replies, makes, taken, do-bump, stretch-of, do-name, do-emit, do-expected, perform}
 use Rattle.basics.proofs.Tests.{and-left, and-right}
 use Rattle.laws.proofs.Trivia.{drop-twice, drop-trivia-length}
 use Rattle.laws.proofs.Kept.{Stands, stands-taken, stands-peeked, run-of-split, act-ran}
 use Rattle.laws.proofs.Onward.{Onward, onward-kept}
-use Rattle.laws.proofs.Clear.{Within-room, within-pieces}
+use Rattle.laws.proofs.Clear.{Below-limits, within-pieces}
 use Rattle.laws.proofs.Analysis.{get}
 use Rattle.laws.proofs.Sound.{Meaning, in-same}
 use Rattle.laws.proofs.Progress.{Fact, fact, anything, _∪_, implies, within, tested, done-so, bumped, act-facts, taking-tokens}
@@ -106,7 +106,7 @@ abbrev pub taking-means : Meaning taking-tokens
 taking-means =
     record {
       Holds = Holds;
-      Pre = Within-room;
+      Pre = Below-limits;
       Post = λ p. Unit {0};
       pieces = within-pieces;
       post-done = tt;
@@ -182,19 +182,19 @@ not-taken d s₀ s x h = record { stands = h .stands; below = h .below; case = g
     go (gone-case i t) = gone-case i t
 
 bump-holds : (d : Fact) (s₀ s : State) (l : List Token) → drop-trivia (s .rest) ≡ l → Holds d s₀ s → Holds (get (done-so (bumped d)) (do-bump (peeked s) l .ans)) s₀ (do-bump (peeked s) l .state)
-unfolding do-bump answer makes
+unfolding do-bump replies makes
 bump-holds d s₀ s [] e h = not-taken d s₀ (peeked s) (unfold peeked in (ap ended (drop-twice (s .rest) ∙ e))) (peek-holds d s₀ s h)
 bump-holds d s₀ s (t ∷ ts) e h = now-taken d s₀ s ts (ap ended e) (omega (arith, ap length e, drop-trivia-length (s .rest))) h
 
 name-holds : (d : Fact) (ks : List ℕ) (s₀ s : State) (l : List Token) → drop-trivia (s .rest) ≡ l → Holds d s₀ s → Holds (get (done-so (bumped d)) (do-name ks (peeked s) l .ans)) s₀ (do-name ks (peeked s) l .state)
-unfolding do-name answer makes
+unfolding do-name replies makes
 name-holds d ks s₀ s [] e h = not-taken d s₀ (peeked s) (unfold peeked in (ap ended (drop-twice (s .rest) ∙ e))) (peek-holds d s₀ s h)
 name-holds d ks s₀ s (t ∷ ts) e h =
-    let n : length ts ≡ length (run-of ks ts .raw ++ run-of ks ts .after) = ap length (run-of-split ks ts) in
-    now-taken d s₀ s (run-of ks ts .after) (ap ended e) (omega (arith, ap length e, drop-trivia-length (s .rest), length-append (run-of ks ts .raw) (run-of ks ts .after))) h
+    let n : length ts ≡ length (stretch-of ks ts .raw ++ stretch-of ks ts .after) = ap length (run-of-split ks ts) in
+    now-taken d s₀ s (stretch-of ks ts .after) (ap ended e) (omega (arith, ap length e, drop-trivia-length (s .rest), length-append (stretch-of ks ts .raw) (stretch-of ks ts .after))) h
 
 pub act-holds : (b : Label) (a : Act) (d : Fact) (s₀ s : State) → Holds d s₀ s → Holds (get (act-facts a d) (perform b a s .ans)) s₀ (perform b a s .state)
-unfolding act-facts perform peeked answer makes do-expected do-emit
+unfolding act-facts perform peeked replies makes do-expected do-emit
 act-holds b (silent-at ks) d s₀ s h =
     in-tested d (fact (d .took) (d .there) false) (first-in ks (drop-trivia (s .rest))) s₀ (peeked s) (λ _. peek-holds d s₀ s h)
     (λ e. now-there d s₀ (peeked s) (ap ended (drop-twice (s .rest)) ∙ first-there ks (drop-trivia (s .rest)) e) (peek-holds d s₀ s h))

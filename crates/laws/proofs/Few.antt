@@ -6,19 +6,19 @@ use lib.Dec.{eqb}
 use lib.ListN.{length}
 use Rattle.definitions.specs.TokenKind as K
 use Rattle.definitions.specs.Token.{Token, trivia}
-use Rattle.definitions.specs.Run.{State, Out, answer, makes, taken, do-bump, do-name, add, at-depth, do-argument}
+use Rattle.definitions.specs.Run.{State, Out, replies, makes, taken, do-bump, do-name, add, at-depth, do-argument}
 use Rattle.basics.proofs.Tests.{cond-all}
 
 abbrev pub Few : ℕ → Out → Type 0
 Few q o = length (o .state .pending) ≤ q
 
 pub bump-few : (q : ℕ) (s : State) (l : List Token) → length (s .pending) ≤ q → Few q (do-bump s l)
-unfolding do-bump answer makes
+unfolding do-bump replies makes
 bump-few q s [] h = h
 bump-few q s (t ∷ ts) h = omega arith
 
 pub name-few : (q : ℕ) (ks : List ℕ) (s : State) (l : List Token) → length (s .pending) ≤ q → Few q (do-name ks s l)
-unfolding do-name answer makes
+unfolding do-name replies makes
 name-few q ks s [] h = h
 name-few q ks s (t ∷ ts) h = omega arith
 
@@ -28,7 +28,7 @@ depth-few q zero o f p g = p
 depth-few q (suc n) o f p g = g n
 
 pub argument-few : (q n : ℕ) (s : State) (ts : List Token) → length (s .pending) ≤ q → Few q (do-argument n s ts)
-unfolding do-argument answer makes add
+unfolding do-argument replies makes add
 argument-few q n s [] h = h
 argument-few q n s (t ∷ ts) h =
     cond-all (Few q) (trivia t) (argument-few q n s ts h)

@@ -12,7 +12,7 @@ use Rattle.definitions.specs.Prog.{Ans, no, yes, Rule, Act, silent-at, at-end, 
 use Rattle.definitions.specs.Token.{Token, seen, trivia, drop-trivia, one-of}
 use Rattle.definitions.specs.Grammar.{Entry, whole}
 use Rattle.definitions.specs.Skeleton.{Label, no-label, Report, Skeleton, done, token, name, node, report, over, _⧺_}
-use Rattle.definitions.specs.Run.{State, Out, mark-of, peeked, answer, makes, taken, do-bump, Run, run-of, do-name, add, at-depth, do-argument, error-range, pool-of, do-emit, over-unless, do-expected, perform, closed, marked, unlinked, exec, run}
+use Rattle.definitions.specs.Run.{State, Out, mark-of, peeked, replies, makes, taken, do-bump, Stretch, stretch-of, do-name, add, at-depth, do-argument, error-range, pool-of, do-emit, over-unless, do-expected, perform, closed, marked, unlinked, exec, run}
 use Rattle.definitions.specs.Call.{run-entry}
 use Rattle.basics.proofs.Tests.{cond-all, cond-with}
 use Rattle.laws.proofs.Trivia.{Solid, dropped-solid, Passes, passes-none, passes-one, passes-then, passes-all}
@@ -60,18 +60,18 @@ pub record Kept (R : State → Skeleton → State → Type 0) : Type 0 where
 
 -- ---------------------------------------------------------------- the actions
 
-pub run-of-split : (ks : List ℕ) (ts : List Token) → ts ≡ run-of ks ts .raw ++ run-of ks ts .after
-unfolding run-of
+pub run-of-split : (ks : List ℕ) (ts : List Token) → ts ≡ stretch-of ks ts .raw ++ stretch-of ks ts .after
+unfolding stretch-of
 run-of-split ks [] = refl
 run-of-split ks (t ∷ ts) =
-    cond-all (λ (r : Run). t ∷ ts ≡ r .raw ++ r .after) (one-of ks (seen t)) {x = record { raw = t ∷ run-of ks ts .raw; after = run-of ks ts .after }} {y = record { raw = []; after = t ∷ ts }}
+    cond-all (λ (r : Stretch). t ∷ ts ≡ r .raw ++ r .after) (one-of ks (seen t)) {x = record { raw = t ∷ stretch-of ks ts .raw; after = stretch-of ks ts .after }} {y = record { raw = []; after = t ∷ ts }}
     (ap (t ∷_) (run-of-split ks ts)) refl
 
-pub run-of-in : (ks : List ℕ) (ts : List Token) → All-in ks (run-of ks ts .raw)
-unfolding run-of one-of seen
+pub run-of-in : (ks : List ℕ) (ts : List Token) → All-in ks (stretch-of ks ts .raw)
+unfolding stretch-of one-of seen
 run-of-in ks [] = tt
 run-of-in ks (t ∷ ts) =
-    cond-with (λ (r : Run). All-in ks (r .raw)) (one-of ks (seen t)) {x = record { raw = t ∷ run-of ks ts .raw; after = run-of ks ts .after }} {y = record { raw = []; after = t ∷ ts }}
+    cond-with (λ (r : Stretch). All-in ks (r .raw)) (one-of ks (seen t)) {x = record { raw = t ∷ stretch-of ks ts .raw; after = stretch-of ks ts .after }} {y = record { raw = []; after = t ∷ ts }}
     (λ e. (e, run-of-in ks ts)) (λ e. tt)
 
 pub stands-taken : (ts : List Token) → Stands (taken ts)
@@ -96,22 +96,22 @@ module _ (R : State → Skeleton → State → Type 0) (kept : Kept R) where
       let b : Stands (o′ .state) × R (o .state) (o′ .made) (o′ .state) = q (a .0) in
       (b .0, kept .join s (o .state) (o′ .state) (o .made) (o′ .made) (a .1) (b .1))
 
-  ran-answer : (a : Ans) (s : State) (ts : List Token) → Passes (s .rest) ts → Ran s (answer a (moved s ts))
-  unfolding answer
+  ran-answer : (a : Ans) (s : State) (ts : List Token) → Passes (s .rest) ts → Ran s (replies a (moved s ts))
+  unfolding replies
   ran-answer a s ts p h = (stands-moved s ts h p, kept .pass s ts h p)
 
   -- after a peek that came to ts
   bump-ran : (s : State) (ts : List Token) → Passes (s .rest) ts → Solid ts → Ran s (do-bump (moved s ts) ts)
-  unfolding do-bump answer makes _⧺_
+  unfolding do-bump replies makes _⧺_
   bump-ran s [] p d h = ran-answer yes s [] p h
   bump-ran s (t ∷ ts) p d h =
       (stands-taken ts, kept .join s (moved s (t ∷ ts)) (taken ts) done (token t (length ts) done) (kept .pass s (t ∷ ts) h p) (kept .token (moved s (t ∷ ts)) t ts (stands-moved s (t ∷ ts) h p) refl d))
 
   name-ran : (ks : List ℕ) (s : State) (ts : List Token) → Passes (s .rest) ts → Solid ts → Ran s (do-name ks (moved s ts) ts)
-  unfolding do-name answer makes _⧺_
+  unfolding do-name replies makes _⧺_
   name-ran ks s [] p d h = ran-answer yes s [] p h
   name-ran ks s (t ∷ ts) p d h =
-      let r : Run = run-of ks ts in (
+      let r : Stretch = stretch-of ks ts in (
         stands-taken (r .after),
         kept .join s (moved s (t ∷ ts)) (taken (r .after)) done (name (t ∷ r .raw) (length (r .after)) done) (kept .pass s (t ∷ ts) h p)
             (kept .name (moved s (t ∷ ts)) ks t (r .raw) (r .after) (stands-moved s (t ∷ ts) h p) (ap (t ∷_) (run-of-split ks ts)) d (run-of-in ks ts)),
@@ -131,12 +131,12 @@ module _ (R : State → Skeleton → State → Type 0) (kept : Kept R) where
       (λ e.
       let go : (m : ℕ) → Ran s (add (makes yes (token t (length ts) done) (taken ts)) (do-argument m (taken ts) ts)) =
       λ m. ran-add s (makes yes (token t (length ts) done) (taken ts)) (do-argument m (taken ts) ts) (unfold do-bump makes in bump-ran s (t ∷ ts) p e) (unfold makes in argument-ran m (taken ts) ts (passes-none ts)) in
-      let stay : (a : Ans) → Ran s (answer a (moved s (t ∷ ts))) = λ a. ran-answer a s (t ∷ ts) p in
+      let stay : (a : Ans) → Ran s (replies a (moved s (t ∷ ts))) = λ a. ran-answer a s (t ∷ ts) p in
       cond-all (Ran s) (eqb (t .kind) K.LParen) (go (suc n))
       (cond-all (Ran s) (eqb (t .kind) K.RParen) (depth-ran s n _ _ (stay no) go)
       (cond-all (Ran s) (eqb (t .kind) K.Comma) (depth-ran s n _ _ (stay yes) (λ m. go (suc m))) (go n))))
 
-  peek-ran : (a : Ans) (s : State) → Ran s (answer a (peeked s))
+  peek-ran : (a : Ans) (s : State) → Ran s (replies a (peeked s))
   unfolding peeked
   peek-ran a s = ran-answer a s (drop-trivia (s .rest)) (passes-all (s .rest))
 
@@ -149,7 +149,7 @@ module _ (R : State → Skeleton → State → Type 0) (kept : Kept R) where
 
   -- (the answer is of no account here)
   pub act-ran : (b : Label) (a : Act) (s : State) → Ran s (perform b a s)
-  unfolding perform peeked answer do-expected makes
+  unfolding perform peeked replies do-expected makes
   act-ran b (silent-at ks) s = peek-ran yes s
   act-ran b at-end s = peek-ran yes s
   act-ran b (immediate k) s = ran-answer yes s (s .rest) (passes-none (s .rest))

@@ -12,7 +12,7 @@ use Rattle.definitions.specs.TokenKind as K
 use Rattle.definitions.specs.Token.{Token, is-error, seen, trivia, drop-trivia, past, byte-count}
 use Rattle.definitions.specs.Skeleton.{Skeleton, done, token, name, node, ignored, report, over}
 use Rattle.definitions.specs.Place.{Tree, nil, leaf, subtree, _⊕_, lead, front, after, place, root}
-use Rattle.laws.specs.Lossless.{Leaf, Kind-of, one-token, a-name, Stands-for, Cover}
+use Rattle.laws.specs.Lossless.{Leaf, Kind-of, one-token, a-name, Stands-for, Leaves-are}
 use Rattle.laws.specs.Lossless as L
 use Rattle.basics.proofs.Tests.{cond-with}
 use Rattle.laws.proofs.Tree.{leaves}
@@ -87,20 +87,20 @@ right-root k p ts r n = (right-beside (place p ts) (lead (after p ts)) (right-pl
 
 -- ---------------------------------------------------------------- the leaves' rows
 
-cover-append : (l m : List Leaf) (ts us : List Token) → Cover l ts → Cover m us → Cover (l ++ m) (ts ++ us)
-unfolding Cover
-cover-append [] m ts us h g = subst (λ (x : List Token). Cover m (x ++ us)) (sym h) g
+cover-append : (l m : List Leaf) (ts us : List Token) → Leaves-are l ts → Leaves-are m us → Leaves-are (l ++ m) (ts ++ us)
+unfolding Leaves-are
+cover-append [] m ts us h g = subst (λ (x : List Token). Leaves-are m (x ++ us)) (sym h) g
 cover-append (x ∷ l) m ts us h g =
     let n : ℕ = x .count in
     let c : n ≤ length ts = omega (arith, h .0 .count, length-take n ts) in
-    (subst (Stands-for x) (sym (take-append-le n ts us c)) (h .0), subst (Cover (l ++ m)) (sym (drop-append-le n ts us c)) (cover-append l m (drop n ts) us (h .1) g))
+    (subst (Stands-for x) (sym (take-append-le n ts us c)) (h .0), subst (Leaves-are (l ++ m)) (sym (drop-append-le n ts us c)) (cover-append l m (drop n ts) us (h .1) g))
 
 -- THE LEAVES ARE THE TOKENS, said of their rows
-pub leaves-cover : (t : Tree) → Right t → Cover (L.leaves (shown t)) (leaves t)
-unfolding Cover Right shown leaves L.leaves
+pub leaves-cover : (t : Tree) → Right t → Leaves-are (L.leaves (shown t)) (leaves t)
+unfolding Leaves-are Right shown leaves L.leaves
 leaves-cover nil h = refl
 leaves-cover (leaf k raw f) h = (
   subst (Stands-for (record { kind = k; width = byte-count raw; count = length raw })) (sym (take-append-seam raw (leaves f))) (record { kind = h .0; width = refl; count = refl }),
-  subst (Cover (L.leaves (shown f))) (sym (drop-append-seam raw (leaves f))) (leaves-cover f (h .1)),
+  subst (Leaves-are (L.leaves (shown f))) (sym (drop-append-seam raw (leaves f))) (leaves-cover f (h .1)),
 )
 leaves-cover (subtree k c f) h = cover-append (L.leaves (shown c)) (L.leaves (shown f)) (leaves c) (leaves f) (leaves-cover c (h .0)) (leaves-cover f (h .1))

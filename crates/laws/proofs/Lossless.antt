@@ -12,7 +12,7 @@ use Rattle.definitions.specs.Grammar.{Entry, root-kind}
 use Rattle.definitions.specs.Place.{Tree, lead, after, place, _⊕_, root, width, count, rows}
 use Rattle.definitions.specs.Call.{Buffers, sheets, kept, run-entry}
 use Rattle.laws.specs.TreeRows.{end, node, preorder, read}
-use Rattle.laws.specs.Lossless.{Cover, Lossless, Nothing-lost}
+use Rattle.laws.specs.Lossless.{Leaves-are, Lossless, Nothing-lost}
 use Rattle.laws.specs.Lossless as L
 use Rattle.laws.proofs.Tree.{leaves, width-leaves}
 use Rattle.laws.proofs.Placed.{root-whole}
@@ -30,9 +30,9 @@ pub lossless : (e : Entry) (ts : List Token) → leaves (root (root-kind e) (run
 lossless e ts = root-whole (root-kind e) (run-entry e ts) ts (entry-leaves e ts)
 
 -- and the leaves' rows cover them
-pub root-covers : (e : Entry) (ts : List Token) → Cover (L.leaves (shown (root (root-kind e) (run-entry e ts) ts))) ts
+pub root-covers : (e : Entry) (ts : List Token) → Leaves-are (L.leaves (shown (root (root-kind e) (run-entry e ts) ts))) ts
 root-covers e ts =
-    subst (Cover (L.leaves (shown (root (root-kind e) (run-entry e ts) ts)))) (lossless e ts)
+    subst (Leaves-are (L.leaves (shown (root (root-kind e) (run-entry e ts) ts)))) (lossless e ts)
     (leaves-cover (root (root-kind e) (run-entry e ts) ts) (right-root (root-kind e) (run-entry e ts) ts (entry-reads e ts .reads ts refl) (entry-names e ts)))
 
 -- whole rows at the front of a buffer, found again by their count

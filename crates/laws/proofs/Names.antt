@@ -14,7 +14,7 @@ use Rattle.definitions.specs.Check.{NAME-SET}
 use Rattle.definitions.specs.Token.{Token, seen, trivia, drop-trivia, one-of, first-in, past, ended}
 use Rattle.definitions.specs.Grammar.{grammar, Entry, whole}
 use Rattle.definitions.specs.Skeleton.{Label, no-label, Skeleton, done, token, name, node, ignored, report, over, _⧺_}
-use Rattle.definitions.specs.Run.{State, Out, mark-of, peeked, truth, answer, makes, taken, do-bump, run-of, do-name, add, at-depth, do-argument, do-emit, over-unless, do-expected, perform, closed, run}
+use Rattle.definitions.specs.Run.{State, Out, mark-of, peeked, truth, replies, makes, taken, do-bump, stretch-of, do-name, add, at-depth, do-argument, do-emit, over-unless, do-expected, perform, closed, run}
 use Rattle.definitions.specs.Call.{run-entry}
 use Rattle.laws.specs.Lossless.{Of-name}
 use Rattle.basics.proofs.Tests.{cond-all, and-left, and-right}
@@ -179,25 +179,25 @@ name-first (among js) ks s t ts m h e =
     (inside-of js ks (seen t) (and-left (inside js ks) _ m) (sym (ap (first-in js) e) ∙ h), and-right (inside js ks) _ m)
 
 name-named : (d : Known) (ks : List ℕ) (s : State) (l : List Token) → drop-trivia (s .rest) ≡ l → may-name d ks ≡ true → Holds d s → Named (do-name ks (peeked s) l .made)
-unfolding do-name answer makes Named
+unfolding do-name replies makes Named
 name-named d ks s [] e m h = tt
 name-named d ks s (t ∷ ts) e m h =
     let f : (one-of ks (seen t) ≡ true) × (inside ks NAME-SET ≡ true) = name-first d ks s t ts m h e in
-    (of-name ks (t ∷ run-of ks ts .raw) (f .1) (f .0, run-of-in ks ts), tt)
+    (of-name ks (t ∷ stretch-of ks ts .raw) (f .1) (f .0, run-of-in ks ts), tt)
 
 -- a token or a name was taken, or none was there
 bump-named : (s : State) (l : List Token) → Named (do-bump s l .made)
-unfolding do-bump answer makes Named
+unfolding do-bump replies makes Named
 bump-named s [] = tt
 bump-named s (t ∷ ts) = tt
 
 bump-holds : (d : Known) (s : State) (l : List Token) → Holds (get (done-so true nothing) (do-bump s l .ans)) (do-bump s l .state)
-unfolding do-bump answer makes
+unfolding do-bump replies makes
 bump-holds d s [] = tt
 bump-holds d s (t ∷ ts) = tt
 
 name-holds : (b : Bool) (ks : List ℕ) (s : State) (l : List Token) → Holds (get (done-so b nothing) (do-name ks s l .ans)) (do-name ks s l .state)
-unfolding do-name answer makes
+unfolding do-name replies makes
 name-holds b ks s [] = tt
 name-holds b ks s (t ∷ ts) = tt
 
@@ -207,7 +207,7 @@ depth-named zero o f p q = p
 depth-named (suc n) o f p q = q n
 
 argument-named : (n : ℕ) (s : State) (ts : List Token) → Named (do-argument n s ts .made)
-unfolding do-argument answer makes add Named _⧺_
+unfolding do-argument replies makes add Named _⧺_
 argument-named n s [] = tt
 argument-named n s (t ∷ ts) =
     let go : (m : ℕ) → Named (do-argument m (taken ts) ts .made) = λ m. argument-named m (taken ts) ts in
@@ -222,7 +222,7 @@ room-named true m = tt
 room-named false m = tt
 
 act-gives : (b : Label) (a : Act) → Sound names names-mean (look-act a) (perform b a)
-unfolding look-act perform peeked answer makes do-expected do-emit Named
+unfolding look-act perform peeked replies makes do-expected do-emit Named
 act-gives b (silent-at ks) d s₀ s m h w =
     (tt, in-tested d (among ks) (first-in ks (drop-trivia (s .rest))) (peeked s) (λ _. peek-holds d s h) (λ e. ap (first-in ks) (drop-twice (s .rest)) ∙ e))
 act-gives b at-end d s₀ s m h w = (tt, in-tested d d (ended (drop-trivia (s .rest))) (peeked s) (λ _. peek-holds d s h) (λ _. peek-holds d s h))

@@ -13,8 +13,8 @@ use Rattle.definitions.specs.Token.{Token, is-error, seen, one-of, byte-count}
 use Rattle.definitions.specs.Grammar.{SourceFile, root-kind}
 use Rattle.definitions.specs.Call.{Result}
 use Rattle.laws.specs.TreeRows.{Rows, end, leaf, node, Counts, Widths, preorder, read}
-use Rattle.laws.specs.Lossless.{Leaf, leaves, Of-name, Kind-of, one-token, a-name, Stands-for, Cover, errors-in, Lossless}
-use Rattle.laws.specs.Limits.{Place, Limited}
+use Rattle.laws.specs.Lossless.{Leaf, leaves, Of-name, Kind-of, one-token, a-name, Stands-for, Leaves-are, errors-in, Lossless}
+use Rattle.laws.specs.Limits.{Moment, Limited}
 
 abbrev token : ℕ → ℕ → Token
 token k n = record { kind = k; len = n }
@@ -75,12 +75,12 @@ too-many : Stands-for (a-leaf K.Ident 1 2) (token K.Ident 1 ∷ []) → ⊥
 too-many s = omega (arith, s .count)
 
 -- a token without a leaf, and a leaf without a token
-lost : Cover [] (token K.Ident 1 ∷ []) → ⊥
-unfolding Cover
+lost : Leaves-are [] (token K.Ident 1 ∷ []) → ⊥
+unfolding Leaves-are
 lost e = let n : _≡_ {A = ℕ} 1 0 = ap length e in omega arith
 
-doubled : Cover (a-leaf K.Ident 1 1 ∷ a-leaf K.Ident 1 1 ∷ []) (token K.Ident 1 ∷ []) → ⊥
-unfolding Cover byte-count
+doubled : Leaves-are (a-leaf K.Ident 1 1 ∷ a-leaf K.Ident 1 1 ∷ []) (token K.Ident 1 ∷ []) → ⊥
+unfolding Leaves-are byte-count
 doubled c = let e : _≡_ {A = ℕ} 1 0 = c .1 .0 .width in omega arith
 
 -- ---------------------------------------------------------------- whole answers
@@ -132,8 +132,8 @@ invented-width x = let e : _≡_ {A = ℕ} 2 1 = subst Widths (sym (x .read-back
 
 -- the semicolon lost, its byte given to the name
 lost-token : Lossless SourceFile (97 ∷ 59 ∷ []) tokens (wrote 3 (0 ∷ 0 ∷ 2 ∷ 1 ∷ 0 ∷ 16 ∷ 2 ∷ 1 ∷ 1 ∷ 26 ∷ 2 ∷ 1 ∷ []) 0 []) → ⊥
-unfolding read leaves Cover byte-count
-lost-token x = let e : _≡_ {A = ℕ} 2 1 = subst (λ (t : Rows). Cover (leaves t) tokens) (sym (x .read-back)) (x .covers) .0 .width in omega arith
+unfolding read leaves Leaves-are byte-count
+lost-token x = let e : _≡_ {A = ℕ} 2 1 = subst (λ (t : Rows). Leaves-are (leaves t) tokens) (sym (x .read-back)) (x .covers) .0 .width in omega arith
 
 -- a row that is neither a node nor a leaf
 third-class : Answers (0 ∷ 0 ∷ 2 ∷ 1 ∷ 0 ∷ 16 ∷ 2 ∷ 2 ∷ 1 ∷ 26 ∷ 1 ∷ 1 ∷ 2 ∷ 29 ∷ 1 ∷ 1 ∷ []) → ⊥
@@ -152,7 +152,7 @@ shifted-error x = let e : _≡_ {A = ℕ} 1 2 = ap (λ (l : List ℕ). getD l 1 
 
 -- ---------------------------------------------------------------- limits
 
-abbrev at : ℕ → ℕ → Place
+abbrev at : ℕ → ℕ → Moment
 at n p = record { open-calls = n; state = record { rest = []; since = []; pending = replicate p 0 } }
 
 -- a 65th open call, and a 257th pending expectation

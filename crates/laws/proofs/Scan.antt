@@ -8,7 +8,7 @@ use lib.Dec.{leb}
 use lib.ListN.{length}
 use Rattle.definitions.specs.Refusal.{Refusal, no-event-room, no-report-room, too-deep}
 use Rattle.definitions.specs.Report.{Push, event, reported, exceeded, Room, Fit, fits, stops, one-event, one-report, scan}
-use Rattle.laws.specs.Pushes.{Clear}
+use Rattle.laws.specs.Pushes.{None-exceeded}
 
 -- go on with the room that is left, unless something did not fit
 abbrev pub and-then : Fit → (Room → Fit) → Fit
@@ -62,7 +62,7 @@ report-fits m n e (suc r) p k z h = pick (leb n p) h
     pick false g = absurd (stops-never (no-report-room m) z g)
 
 -- where all fits there is no refusal 5
-pub fits-clear : (l : List Push) (y z : Room) → scan l y ≡ fits z → Clear l
+pub fits-clear : (l : List Push) (y z : Room) → scan l y ≡ fits z → None-exceeded l
 unfolding scan
 fits-clear [] y z h = tt
 fits-clear (event m ∷ l) y z h = let g : (x : Room) × (scan l x ≡ fits z) = event-fits m (y .events) (y .reports) (y .pool) (scan l) z h in fits-clear l (g .0) z (g .1)

@@ -3,13 +3,13 @@ use Prim.Native.Nat.{ℕ, zero, suc}
 use mathlib.Core.Path.{_≡_, refl}
 use lib.ListN.{length}
 use Rattle.definitions.specs.Skeleton.{Skeleton, done}
-use Rattle.definitions.specs.Run.{State, Out, mark-of, answer, makes, add, is-again, goes-on, iter, unlinked, by-shape, links, chained}
+use Rattle.definitions.specs.Run.{State, Out, mark-of, replies, makes, add, is-again, goes-on, iter, unlinked, by-shape, links, chained}
 use Rattle.basics.proofs.Tests.{cond-all}
 use Rattle.laws.proofs.Fuel.{turn-of}
 use Rattle.laws.proofs.Pieces.{linked}
 
 pub iter-shape : (n : ℕ) (f : State → Out) (s : State) → iter n f s .shape ≡ 0
-unfolding iter answer makes add
+unfolding iter replies makes add
 iter-shape zero f s = refl
 iter-shape (suc n) f s = cond-all (λ (o : Out). o .shape ≡ 0) (goes-on s (f s)) {x = add (turn-of (f s)) (iter n f (f s .state))} {y = turn-of (f s)} (iter-shape n f (f s .state)) refl
 

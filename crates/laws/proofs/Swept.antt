@@ -12,7 +12,7 @@ use Rattle.definitions.specs.Token.{Token, drop-trivia}
 use Rattle.definitions.specs.Prog.{yes, again, Rule}
 use Rattle.definitions.specs.Grammar.{Entry, entry, whole, left-over, left-over-turn}
 use Rattle.definitions.specs.Skeleton.{Label, no-label, done, token, _⧺_}
-use Rattle.definitions.specs.Run.{State, Out, peeked, answer, makes, taken, do-bump, do-emit, do-expected, perform, add, choose, marked, is-again, goes-on, iter, exec, run}
+use Rattle.definitions.specs.Run.{State, Out, peeked, replies, makes, taken, do-bump, do-emit, do-expected, perform, add, choose, marked, is-again, goes-on, iter, exec, run}
 use Rattle.definitions.specs.Place.{after}
 use Rattle.definitions.specs.Call.{run-entry}
 use Rattle.laws.proofs.Trivia.{drop-twice, drop-trivia-length, passes-drop}
@@ -25,12 +25,12 @@ Ended o = drop-trivia (o .state .rest) ≡ []
 
 module _ (ask : Rule → State → Out) (b : Label) where
   pub turn-ends : (s : State) → drop-trivia (s .rest) ≡ [] → exec ask b left-over-turn s ≡ record { ans = yes; shape = 0; made = done; state = moved s [] }
-  unfolding left-over-turn exec perform choose answer peeked add _⧺_
+  unfolding left-over-turn exec perform choose replies peeked add _⧺_
   turn-ends s e = rw e refl
 
   pub turn-takes : (s : State) (t : Token) (ts : List Token) → drop-trivia (s .rest) ≡ t ∷ ts
       → exec ask b left-over-turn s ≡ record { ans = again; shape = 0; made = token t (length ts) done; state = taken ts }
-  unfolding left-over-turn exec perform choose answer makes peeked add do-bump _⧺_
+  unfolding left-over-turn exec perform choose replies makes peeked add do-bump _⧺_
   turn-takes s t ts e =
       let e′ : drop-trivia (t ∷ ts) ≡ t ∷ ts = ap drop-trivia (sym e) ∙ drop-twice (s .rest) ∙ e in
       rw (e, e′) refl
@@ -48,7 +48,7 @@ module _ (ask : Rule → State → Out) (b : Label) where
 
   -- `Entrypoint::parse` takes what is left over
   pub left-over-ends : (s : State) → Ended (exec ask b left-over s)
-  unfolding left-over exec perform choose answer makes peeked add marked do-expected do-emit
+  unfolding left-over exec perform choose replies makes peeked add marked do-expected do-emit
   left-over-ends s = go (drop-trivia (s .rest)) refl
     where
       go : (l : List Token) → drop-trivia (s .rest) ≡ l → Ended (exec ask b left-over s)

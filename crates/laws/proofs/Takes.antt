@@ -13,7 +13,7 @@ use Rattle.definitions.specs.Report.{pushes}
 use Rattle.basics.proofs.Tests.{and-left}
 use Rattle.laws.proofs.Kept.{Stands}
 use Rattle.laws.proofs.Onward.{Onward, Goes, run-goes}
-use Rattle.laws.proofs.Clear.{Within-room}
+use Rattle.laws.proofs.Clear.{Below-limits}
 use Rattle.laws.proofs.Analysis.{Look, get, same, look}
 use Rattle.laws.proofs.Sound.{Gives, Sound, Acts, in-same, weaken-look, exec-gives}
 use Rattle.laws.proofs.Progress.{Fact, fact, taking, standing, anything, or-took, or-took-all, fresh, facts-from, taking-tokens, there-table, by-there, table, table-holds, part-facts}
@@ -92,7 +92,7 @@ table-gives r n T d s₀ s m h w = (tt, go (d .there) (d .gone) refl refl (h .ca
     go false false e f (gone-case i t) = absurd (true≢false (sym i ∙ f))
 
 -- THE TABLE HOLDS of every call, with any number of open calls allowed
-pub run-takes : (n : ℕ) (r : Rule) (s₀ s : State) → Holds standing s₀ s → Within-room (run n r s .made) → Holds (get (there-table r) (run n r s .ans)) s₀ (run n r s .state)
+pub run-takes : (n : ℕ) (r : Rule) (s₀ s : State) → Holds standing s₀ s → Below-limits (run n r s .made) → Holds (get (there-table r) (run n r s .ans)) s₀ (run n r s .state)
 unfolding run makes pushes
 run-takes zero r s₀ s h w = absurd (w .clear)
 run-takes (suc n) r s₀ s h w =
@@ -120,15 +120,15 @@ surely-taken a s₀ s h = go (take a h)
 
 -- ONE ITEM TAKES AT LEAST ONE TOKEN at a non-end cursor, unless the run meets refusal 5: fewer tokens are left after the last one taken
 -- than stood at the cursor
-pub item-takes : (n : ℕ) (s : State) → Stands s → There s → Within-room (run n item s .made) → mark-of (run n item s .state) < length (s .rest)
+pub item-takes : (n : ℕ) (s : State) → Stands s → There s → Below-limits (run n item s .made) → mark-of (run n item s .state) < length (s .rest)
 item-takes n s h t w = surely-taken (run n item s .ans) s (run n item s .state) (run-takes n item s s (starts s h t) w)
 
 -- and so do values
-pub propvalues-takes : (n : ℕ) (b : Bool) (s : State) → Stands s → There s → Within-room (run n (propvalues b) s .made) → mark-of (run n (propvalues b) s .state) < length (s .rest)
+pub propvalues-takes : (n : ℕ) (b : Bool) (s : State) → Stands s → There s → Below-limits (run n (propvalues b) s .made) → mark-of (run n (propvalues b) s .state) < length (s .rest)
 propvalues-takes n b s h t w = surely-taken (run n (propvalues b) s .ans) s (run n (propvalues b) s .state) (run-takes n (propvalues b) s s (starts s h t) w)
 
 -- EACH TOP-LEVEL STATEMENT takes at least one token
-pub part-takes : (n : ℕ) (b : Label) (s : State) → Stands s → There s → Within-room (exec (run n) b sourcefile-part s .made)
+pub part-takes : (n : ℕ) (b : Label) (s : State) → Stands s → There s → Below-limits (exec (run n) b sourcefile-part s .made)
     → mark-of (exec (run n) b sourcefile-part s .state) < length (s .rest)
 part-takes n b s h t w =
     let o : Out = exec (run n) b sourcefile-part s in

@@ -11,7 +11,7 @@ use Rattle.definitions.specs.Grammar.{Entry, Cells, whole}
 use Rattle.definitions.specs.Call.{Buffers, for, entry-of, call}
 use Rattle.laws.specs.TreeRows.{Rows, end, leaf, node, preorder, Counts, read}
 use Rattle.laws.specs.Lossless.{Leaf, leaves, errors-in, Lossless}
-use Rattle.laws.specs.Limits.{Place, Limited, entry-places}
+use Rattle.laws.specs.Limits.{Moment, Limited, entry-moments}
 use Rattle.laws.proofs.Lossless.{nothing-lost}
 use Rattle.laws.proofs.Limits.{limits}
 
@@ -80,7 +80,7 @@ all-pending : call 4 (ifs 50) (if-numbers 50) (lent 6936) .answer .number ≡ 0
 unfolding call ifs if-numbers
 all-pending = refl
 
-limited : (e : Entry) × (entry-of 4 ≡ for e) × Limited 64 (entry-places e (tokens-of (if-numbers 50)))
+limited : (e : Entry) × (entry-of 4 ≡ for e) × Limited 64 (entry-moments e (tokens-of (if-numbers 50)))
 limited = limits 4 (ifs 50) (if-numbers 50) (lent 6936) all-pending
 
 -- and with `(1;` after them a 257th is pushed: refusal 5, where 52 tokens are taken
@@ -114,15 +114,15 @@ over-open = refl
 greater : ℕ → ℕ → ℕ
 greater m n = cond (ltb m n) n m
 
-most : (Place → ℕ) → List Place → ℕ
+most : (Moment → ℕ) → List Moment → ℕ
 unfolding greater
 most f [] = 0
 most f (x ∷ l) = let m = most f l in greater (f x) m
 
-figures : List Place → List ℕ
+figures : List Moment → List ℕ
 unfolding most
 figures l = most (λ x. x .open-calls) l ∷ most (λ x. length (x .state .pending)) l ∷ []
 
-places-are : (figures (entry-places Cells (tokens-of (if-numbers 2))) ≡ 3 ∷ 16 ∷ []) × (figures (entry-places Cells (tokens-of (bracket-numbers 3))) ≡ 4 ∷ 5 ∷ [])
-unfolding if-numbers bracket-numbers tokens-of whole entry-places figures
+places-are : (figures (entry-moments Cells (tokens-of (if-numbers 2))) ≡ 3 ∷ 16 ∷ []) × (figures (entry-moments Cells (tokens-of (bracket-numbers 3))) ≡ 4 ∷ 5 ∷ [])
+unfolding if-numbers bracket-numbers tokens-of whole entry-moments figures
 places-are = (refl, refl)

@@ -46,9 +46,9 @@ pub record Stands-for (l : Leaf) (raw : List Token) : Type 0 where
   pub count : l .count ≡ length raw
 
 -- the leaves, in order, stand for all the tokens: each for the next ones, as many as its count says
-unfoldable pub Cover : List Leaf → List Token → Type 0
-Cover [] ts = ts ≡ []
-Cover (l ∷ ls) ts = Stands-for l (take (l .count) ts) × Cover ls (drop (l .count) ts)
+unfoldable pub Leaves-are : List Leaf → List Token → Type 0
+Leaves-are [] ts = ts ≡ []
+Leaves-are (l ∷ ls) ts = Stands-for l (take (l .count) ts) × Leaves-are ls (drop (l .count) ts)
 
 -- ---------------------------------------------------------------- lexical errors
 
@@ -84,7 +84,7 @@ pub record Lossless (e : Entry) (bytes : List ℕ) (ts : List Token) (r : Result
   pub widths : Widths tree
   pub counts : Counts tree
   -- the leaves, in order, are the tokens
-  pub covers : Cover (leaves tree) ts
+  pub covers : Leaves-are (leaves tree) ts
   -- the lexical errors are the error tokens, in order
   pub error-count : r .answer .error-count ≡ errors-in ts
   pub error-rows : Errors-of ts (r .buffers .errors)

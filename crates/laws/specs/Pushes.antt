@@ -11,8 +11,8 @@ event-count (reported r ∷ l) = suc (event-count l)
 event-count (exceeded m ∷ l) = event-count l
 
 -- no 65th open call and no 257th pending expectation among what is pushed
-abbrev pub Clear : List Push → Type 0
-Clear [] = Unit {0}
-Clear (event m ∷ l) = Clear l
-Clear (reported r ∷ l) = Clear l
-Clear (exceeded m ∷ l) = ⊥
+abbrev pub None-exceeded : List Push → Type 0
+None-exceeded [] = Unit {0}
+None-exceeded (event m ∷ l) = None-exceeded l
+None-exceeded (reported r ∷ l) = None-exceeded l
+None-exceeded (exceeded m ∷ l) = ⊥

@@ -12,7 +12,7 @@ use Rattle.definitions.specs.TokenKind as K
 use Rattle.definitions.specs.Token.{Token, is-error, seen, trivia, drop-trivia, ended, one-of, first-in}
 use Rattle.definitions.specs.Skeleton.{done, token}
 use Rattle.definitions.specs.Prog.{Ans, no, yes}
-use Rattle.definitions.specs.Run.{State, Out, answer, makes, taken, peeked, do-bump, add, do-argument}
+use Rattle.definitions.specs.Run.{State, Out, replies, makes, taken, peeked, do-bump, add, do-argument}
 use Rattle.definitions.specs.Run as R
 use Rattle.definitions.specs.Report.{reports}
 use Rattle.basics.proofs.Tests.{cond-all}
@@ -53,7 +53,7 @@ same-test k t l h u = by (leb L.UnexpectedEndIncbin (t .kind)) refl
 
 -- it stays
 abbrev stays : State → Token → List Token → Ans → Out
-stays s t l a = answer a (moved s (t ∷ l))
+stays s t l a = replies a (moved s (t ∷ l))
 
 -- it is taken, and the rest of the argument is in m brackets
 abbrev goes-in : Token → List Token → ℕ → Out
@@ -111,7 +111,7 @@ module _ (g : Ground) (f : ℕ) (again : Argues g f) (c : Sofar) (s : State) (t 
       (λ r h. s-argument (g .tokens) r f k (M.bump (g .tokens) p) h)
 
   stays-sim : (a : Ans) → Sim g c (stays s t l a) (said a p)
-  unfolding answer
+  unfolding replies
   stays-sim a = quiet g c a 0 (moved s (t ∷ l)) (said a p) fit i refl
 
   depth-sim : (n : ℕ) (a : Ans) (h : ℕ → ℕ) → Sim g c (R.at-depth n (stays s t l a) (λ m. goes-in t l (h m))) (at-depth n (said a p) (λ k. go (h k)))
@@ -135,7 +135,7 @@ length-trivia [] = omega arith
 length-trivia (t ∷ l) = cond-all (λ (u : List Token). length u ≤ suc (length l)) (trivia t) {x = drop-trivia l} {y = t ∷ l} (omega (arith, length-trivia l)) (omega arith)
 
 step-sim : (g : Ground) (f n : ℕ) → Argues g f → (c : Sofar) (s : State) (u : List Token) → Fitting g c → Inside g (moved s u) → Solid u → length u < suc f → Sim g c (do-argument n s u) (step g f n (stand g c (moved s u)) u)
-unfolding do-argument answer
+unfolding do-argument replies
 step-sim g f n again c s [] fit i solid short = quiet g c no 0 (moved s []) _ fit i refl
 step-sim g f n again c s (t ∷ l) fit i solid short =
     subst (λ (o : Out). Sim g c o (step g f n (stand g c (moved s (t ∷ l))) (t ∷ l))) (sym (argument-solid n s t l solid)) (token-sim g f again c s t l fit i solid (omega arith) n)

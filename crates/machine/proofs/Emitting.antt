@@ -55,7 +55,7 @@ range-with g e l s (t ∷ ts) i = pick (only-separators (s .pending))
     B = byte-count (g .tokens)
 
     some : 1 ≤ byte-count (s .since)
-    some = let h : 1 ≤ t .len = suffix-filled (g .tokens) (t ∷ ts) (i .rest) (g .limits .filled) .0 in omega (arith, h, i .order)
+    some = let h : 1 ≤ t .len = suffix-filled (g .tokens) (t ∷ ts) (i .rest) (g .limits .none-empty) .0 in omega (arith, h, i .order)
 
     one : low (B - byte-count (s .since) + 1) ≡ B - (byte-count (s .since) - 1)
     one = behind-mark B (byte-count (s .since)) some (suffix-bytes (g .tokens) (s .since) (i .since)) (g .limits .short)

@@ -12,7 +12,7 @@ use Rattle.definitions.specs.Run.{State, taken, peeked}
 use Rattle.definitions.specs.Report.{pool}
 use Rattle.basics.specs.Word.{low}
 use Rattle.machine.specs.Machine.{Buffer, Machine, rest, passed, took}
-use Rattle.machine.specs.Outcome.{Limits, onto}
+use Rattle.machine.specs.Outcome.{Input-limits, onto}
 use Rattle.machine.proofs.Coded.{low-rows}
 use Rattle.machine.proofs.Suffix.{Suffix, suffix-length, suffix-bytes, suffix-drop, suffix-trivia, bytes-trivia}
 
@@ -22,7 +22,7 @@ pub record Ground : Type 0 where
   pub events : List ℕ
   pub reports : List ℕ
   pub pool : List ℕ
-  pub limits : Limits tokens
+  pub limits : Input-limits tokens
 
 -- the buffer b with l written to its front
 abbrev pub written : List ℕ → List ℕ → Buffer

@@ -6,7 +6,7 @@ use mathlib.Core.List.{List, []}
 use lib.Dec.{ltb}
 use lib.ListN.{length}
 use Rattle.definitions.specs.Prog.{again}
-use Rattle.definitions.specs.Run.{State, Out, answer, makes, add, is-again, goes-on, iter}
+use Rattle.definitions.specs.Run.{State, Out, replies, makes, add, is-again, goes-on, iter}
 use Rattle.definitions.specs.Report.{pushes, reports}
 use Rattle.machine.specs.Machine.{Machine, rest}
 use Rattle.machine.specs.Walk.{Walked, said}
@@ -49,7 +49,7 @@ module _ (g : Ground) (f : State → Out) (h : Machine → Walked) (t : Tracks g
   turned n more c o false fit i = goes fit i refl
 
   pub iter-sim : (n : ℕ) → Tracks g (iter n f) (W.iter (g .tokens) n h)
-  unfolding iter W.iter answer
+  unfolding iter W.iter replies
   iter-sim zero c s fit i = quiet g c again 0 s _ fit i refl
   iter-sim (suc n) c s fit i =
       let ts = g .tokens in

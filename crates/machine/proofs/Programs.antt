@@ -8,7 +8,7 @@ use Rattle.definitions.specs.Token.{past, ended, first-in, byte-count}
 use Rattle.definitions.specs.Skeleton.{Span, Label, no-label}
 use Rattle.definitions.specs.Prog.{Rule, Act, silent-at, at-end, immediate, immediate-next, add-expected, bump, bump-name, bump-argument, emit, emit-unclosed, less, Prog, ret, act, _⨟_, case, in-marker, loop, chain, brace, open-call}
 use Rattle.definitions.specs.Grammar.{grammar}
-use Rattle.definitions.specs.Run.{State, Out, answer, truth, here, perform, exec, run}
+use Rattle.definitions.specs.Run.{State, Out, replies, truth, here, perform, exec, run}
 use Rattle.definitions.specs.Report.{reports}
 use Rattle.machine.specs.Machine.{Machine, rest}
 use Rattle.machine.specs.Walk.{Walked, walk, walk-rule}
@@ -29,7 +29,7 @@ abbrev pub lab : Ground → Label → Span
 lab g b = span-of (byte-count (g .tokens)) b
 
 pub act-sim : (g : Ground) (b : Label) (a : Act) → Tracks g (perform b a) (W.perform (g .tokens) (lab g b) a)
-unfolding perform W.perform answer
+unfolding perform W.perform replies
 act-sim g b (silent-at ks) = peek-sim g (λ l. truth (first-in ks l))
 act-sim g b at-end = peek-sim g (λ l. truth (ended l))
 act-sim g b (immediate k) = here-sim g (λ l. truth (first-in (k ∷ []) l))

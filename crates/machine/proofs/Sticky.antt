@@ -17,7 +17,7 @@ use Rattle.definitions.specs.Prog.{Ans, no, yes, also, again, Rule, Act, silent
 use Rattle.definitions.specs.Grammar.{grammar}
 use Rattle.definitions.specs.Run.{is-again, by-shape}
 use Rattle.basics.proofs.Tests.{cond-all}
-use Rattle.machine.specs.Machine.{Machine, Marker, rest, with-pending, with-refusal, passed, skip, peek, took, range-at, refuse, expect-code, push-row, push, complete, precede, bump-first, name-run, name-first, write-report}
+use Rattle.machine.specs.Machine.{Machine, Marker, rest, with-pending, with-refusal, passed, skip, peek, took, range-at, refuse, expect-code, push-row, push, complete, precede, bump-first, name-stretch, name-first, write-report}
 use Rattle.machine.specs.Machine as M
 use Rattle.machine.specs.Walk.{Walked, said, at-depth, argument, unlabelled, perform, choose, next-marker, close, marked, goes-on, iter, link, links, chained, walk, walk-rule}
 use Rattle.machine.specs.Outcome.{Refused}
@@ -87,15 +87,15 @@ module _ (ts : List Token) (r : Refusal) where
   unfolding M.bump
   s-bump m h = s-first (rest ts (peek ts m)) (peek ts m) (s-peek m h)
 
-  s-run : (ks : List ℕ) (l : List Token) (m : Machine) → Refused ts r m → Refused ts r (name-run ks l m)
-  unfolding name-run
+  s-run : (ks : List ℕ) (l : List Token) (m : Machine) → Refused ts r m → Refused ts r (name-stretch ks l m)
+  unfolding name-stretch
   s-run ks [] m h = h
-  s-run ks (t ∷ l) m h = cond-all (Refused ts r) (one-of ks (seen t)) {x = name-run ks l (took t m)} {y = m} (s-run ks l (took t m) (record { refusal = h .refusal; some = h .some; place = h .place })) h
+  s-run ks (t ∷ l) m h = cond-all (Refused ts r) (one-of ks (seen t)) {x = name-stretch ks l (took t m)} {y = m} (s-run ks l (took t m) (record { refusal = h .refusal; some = h .some; place = h .place })) h
 
   s-name : (ks : List ℕ) (l : List Token) (m : Machine) → Refused ts r m → Refused ts r (name-first ks l m)
   unfolding name-first
   s-name ks [] m h = h
-  s-name ks (t ∷ l) m h = s-push ADD-COMBINED-TOKEN _ (name-run ks l (took t m)) (s-run ks l (took t m) (record { refusal = h .refusal; some = h .some; place = h .place }))
+  s-name ks (t ∷ l) m h = s-push ADD-COMBINED-TOKEN _ (name-stretch ks l (took t m)) (s-run ks l (took t m) (record { refusal = h .refusal; some = h .some; place = h .place }))
 
   s-bump-name : (ks : List ℕ) (m : Machine) → Refused ts r m → Refused ts r (M.bump-name ks ts m)
   unfolding M.bump-name

@@ -8,7 +8,7 @@ use lib.Seq.{drop-append-seam}
 use Rattle.definitions.specs.Token.{Token, trivia, drop-trivia, byte-count}
 use Rattle.basics.proofs.Tests.{cond-all}
 use Rattle.laws.proofs.Skeleton.{bytes-append}
-use Rattle.machine.specs.Outcome.{Filled}
+use Rattle.machine.specs.Outcome.{No-empty-token}
 
 pub record Suffix (ts l : List Token) : Type 0 where
   pub front : List Token
@@ -33,12 +33,12 @@ suffix-drop ts l p =
     let n : length ts - length l ≡ length (p .front) = omega arith in
     ap (λ (k : ℕ). drop k ts) n ∙ ap (λ (u : List Token). drop (length (p .front)) u) (sym (p .joins)) ∙ drop-append-seam (p .front) l
 
-filled-after : (f l : List Token) → Filled (f ++ l) → Filled l
+filled-after : (f l : List Token) → No-empty-token (f ++ l) → No-empty-token l
 filled-after [] l h = h
 filled-after (t ∷ f) l h = filled-after f l (h .1)
 
-pub suffix-filled : (ts l : List Token) → Suffix ts l → Filled ts → Filled l
-suffix-filled ts l p h = filled-after (p .front) l (subst Filled (sym (p .joins)) h)
+pub suffix-filled : (ts l : List Token) → Suffix ts l → No-empty-token ts → No-empty-token l
+suffix-filled ts l p h = filled-after (p .front) l (subst No-empty-token (sym (p .joins)) h)
 
 -- past trivia
 pub suffix-trivia : (ts l : List Token) → Suffix ts l → Suffix ts (drop-trivia l)

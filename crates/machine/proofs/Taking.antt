@@ -11,12 +11,12 @@ use Rattle.definitions.specs.Token.{Token, drop-trivia}
 use Rattle.definitions.specs.Skeleton.{Report, done, token, name, over}
 use Rattle.definitions.specs.Refusal.{too-deep, number-of, place-of}
 use Rattle.definitions.specs.Prog.{Ans, no, yes}
-use Rattle.definitions.specs.Run.{State, mark-of, answer, makes, taken, peeked, do-bump, run-of, do-name, over-unless, do-expected}
+use Rattle.definitions.specs.Run.{State, mark-of, replies, makes, taken, peeked, do-bump, stretch-of, do-name, over-unless, do-expected}
 use Rattle.definitions.specs.Report.{exceeded, Fit, stops, scan, pushes, reports}
 use Rattle.definitions.specs.Call.{forward-mark}
 use Rattle.laws.proofs.Scan.{and-then, scan-append}
 use Rattle.basics.specs.Word.{low}
-use Rattle.machine.specs.Machine.{Machine, rest, peek, took, refuse, expect-code, with-pending, push, bump-first, name-run, name-first}
+use Rattle.machine.specs.Machine.{Machine, rest, peek, took, refuse, expect-code, with-pending, push, bump-first, name-stretch, name-first}
 use Rattle.machine.specs.Machine as M
 use Rattle.machine.specs.Walk.{Walked, said}
 use Rattle.machine.specs.Outcome.{Refused}
@@ -33,8 +33,8 @@ quiet g c a k s w f i e = subst (λ (x : Sofar). Meets g x a k s w) (sym (grow-d
 -- ---------------------------------------------------------------- tests
 
 -- a test after a peek
-pub peek-sim : (g : Ground) (h : List Token → Ans) → Tracks g (λ s. answer (h (peeked s .rest)) (peeked s)) (λ m. said (h (rest (g .tokens) (peek (g .tokens) m))) (peek (g .tokens) m))
-unfolding answer
+pub peek-sim : (g : Ground) (h : List Token → Ans) → Tracks g (λ s. replies (h (peeked s .rest)) (peeked s)) (λ m. said (h (rest (g .tokens) (peek (g .tokens) m))) (peek (g .tokens) m))
+unfolding replies
 peek-sim g h c s f i =
     let j : Inside g (peeked s) = inside-peeked g s i in
     quiet g c (h (peeked s .rest)) 0 (peeked s) _ f j
@@ -42,8 +42,8 @@ peek-sim g h c s f i =
     ∙ ap (λ (l : List Token). said (h l) (stand g c (peeked s))) (rest-is g (c .numbers) (reports (c .pushed)) (peeked s) j))
 
 -- a test of the tokens from the cursor on
-pub here-sim : (g : Ground) (h : List Token → Ans) → Tracks g (λ s. answer (h (s .rest)) s) (λ m. said (h (rest (g .tokens) m)) m)
-unfolding answer
+pub here-sim : (g : Ground) (h : List Token → Ans) → Tracks g (λ s. replies (h (s .rest)) s) (λ m. said (h (rest (g .tokens) m)) m)
+unfolding replies
 here-sim g h c s f i = quiet g c (h (s .rest)) 0 s _ f i (ap (λ (l : List Token). said (h l) (stand g c s)) (rest-is g (c .numbers) (reports (c .pushed)) s i))
 
 -- a test of nothing
@@ -80,7 +80,7 @@ expected-sim g k c s f i = by-fit (ltb (length (s .pending)) MOST-PENDING)
 
 -- with the tokens from the current one on
 first-sim : (g : Ground) (c : Sofar) (s : State) (l : List Token) → Fitting g c → Inside g (moved s l) → Sim g c (do-bump (moved s l) l) (said yes (bump-first l (stand g c (moved s l))))
-unfolding do-bump answer makes bump-first coded pushes
+unfolding do-bump replies makes bump-first coded pushes
 first-sim g c s [] f i = quiet g c yes 0 (moved s []) _ f i refl
 first-sim g c s (t ∷ l) f i =
     let p : Suffix (g .tokens) l = suffix-tail (g .tokens) l t (i .rest) in
@@ -88,16 +88,16 @@ first-sim g c s (t ∷ l) f i =
     (push-meets g c f (taken l) ADD-TOKEN 0 yes 0 (inside-taken g l p))
 
 name-sim : (g : Ground) (ks : List ℕ) (c : Sofar) (s : State) (l : List Token) → Fitting g c → Inside g (moved s l) → Sim g c (do-name ks (moved s l) l) (said yes (name-first ks l (stand g c (moved s l))))
-unfolding do-name answer makes name-first coded pushes
+unfolding do-name replies makes name-first coded pushes
 name-sim g ks c s [] f i = quiet g c yes 0 (moved s []) _ f i refl
 name-sim g ks c s (t ∷ l) f i =
     let p : Suffix (g .tokens) l = suffix-tail (g .tokens) l t (i .rest) in
     let e = c .numbers in
     let u = reports (c .pushed) in
-    let r = run-of ks l in
+    let r = stretch-of ks l in
     let o = name (t ∷ r .raw) (length (r .after)) done in
-    let is : name-run ks l (took t (stand g c (moved s (t ∷ l)))) ≡ stand g c (taken (r .after)) =
-    ap (name-run ks l) (took-is g e u s t l (i .rest)) ∙ name-run-is g e u ks l p in
+    let is : name-stretch ks l (took t (stand g c (moved s (t ∷ l)))) ≡ stand g c (taken (r .after)) =
+    ap (name-stretch ks l) (took-is g e u s t l (i .rest)) ∙ name-run-is g e u ks l p in
     subst (λ (m : Machine). Meets g (grow c o) yes 0 (taken (r .after)) (said yes (push ADD-COMBINED-TOKEN (low (m .cursor - stand g c (moved s (t ∷ l)) .cursor)) m))) (sym is)
     (subst (λ (n : ℕ). Meets g (grow c o) yes 0 (taken (r .after)) (said yes (push ADD-COMBINED-TOKEN n (stand g c (taken (r .after)))))) (sym (name-count g e u s ks t l (i .rest)))
     (push-meets g c f (taken (r .after)) ADD-COMBINED-TOKEN (length (t ∷ r .raw)) yes 0 (inside-taken g (r .after) (run-suffix g ks l p))))

@@ -17,7 +17,7 @@ use Rattle.definitions.specs.Call.{run-entry}
 use Rattle.machine.specs.Machine.{Machine}
 use Rattle.machine.specs.Walk.{Walked, unlabelled, walk-prog}
 use Rattle.machine.specs.Encode.{encode}
-use Rattle.machine.specs.Outcome.{Limits, Small, fresh, room-in, Holds, Accepted, Refused, Ends}
+use Rattle.machine.specs.Outcome.{Input-limits, Small, fresh, room-in, Starts-with, Not-refused, Refused, Ends}
 use Rattle.machine.proofs.Coded.{coded, coded-small, low-rows, low-rows-small}
 use Rattle.machine.proofs.Suffix.{suffix-whole}
 use Rattle.machine.proofs.Image.{Ground, image, rows-of, inside-taken}
@@ -44,7 +44,7 @@ fresh-is g =
     rw (n, b)
 
 -- what the definitions' numbers are when nothing is cut
-settled : (g : Ground) (o : Skeleton) (s : State) → Small o → Fitting g (grow none o) → Accepted (g .tokens) o (g .events) (g .reports) (g .pool) (stand g (grow none o) s)
+settled : (g : Ground) (o : Skeleton) (s : State) → Small o → Fitting g (grow none o) → Not-refused (g .tokens) o (g .events) (g .reports) (g .pool) (stand g (grow none o) s)
 unfolding image
 settled g o s h f =
     let e : coded false o ≡ encode false o = coded-small false o (h .events-fit) in
@@ -53,8 +53,8 @@ settled g o s h f =
     low-rows-small (length (g .tokens)) (byte-count (g .tokens)) 0 (reports (pushes o)) (omega (arith, z, h .pool-fits)) in
     record {
       refusal = refl;
-      events-hold = subst (λ (l : List ℕ). Holds l (g .events) (stand g (grow none o) s .events)) e (record { numbers = refl; count = refl; inside = f .events });
-      reports-hold = subst (λ (l : List ℕ). Holds l (g .reports) (stand g (grow none o) s .reports)) r (record { numbers = refl; count = refl; inside = f .rows });
+      events-hold = subst (λ (l : List ℕ). Starts-with l (g .events) (stand g (grow none o) s .events)) e (record { numbers = refl; count = refl; inside = f .events });
+      reports-hold = subst (λ (l : List ℕ). Starts-with l (g .reports) (stand g (grow none o) s .reports)) r (record { numbers = refl; count = refl; inside = f .rows });
       pool-holds = record { numbers = refl; count = refl; inside = f .codes };
     }
 
@@ -66,12 +66,12 @@ meets-ends : (g : Ground) (o : Out) (w : Walked) → ((z : Room) → scan (pushe
     → Ends (g .tokens) (o .made) (g .events) (g .reports) (g .pool) (scan (pushes (o .made)) (room-at-first g)) (w .on)
 meets-ends g o w h (goes f i e) =
     ends-with g (o .made) (fits _) (w .on) (f .room)
-    (subst (λ (v : Walked). Accepted (g .tokens) (o .made) (g .events) (g .reports) (g .pool) (v .on)) (sym e) (settled g (o .made) (o .state) (h _ (f .room)) f))
+    (subst (λ (v : Walked). Not-refused (g .tokens) (o .made) (g .events) (g .reports) (g .pool) (v .on)) (sym e) (settled g (o .made) (o .state) (h _ (f .room)) f))
 meets-ends g o w h (stop r e m) = ends-with g (o .made) (stops r) (w .on) e m
 
 -- THE MACHINE'S END, for every entry, tokens within the limits, and buffers of any lengths and contents. The skeleton has to be small
 -- only where all of it fits the buffers.
-pub machine-ends : (e : Entry) (ts : List Token) (events₀ reports₀ pool₀ : List ℕ) → Limits ts → ((z : Room) → scan (pushes (run-entry e ts)) (room-in events₀ reports₀ pool₀) ≡ fits z → Small (run-entry e ts))
+pub machine-ends : (e : Entry) (ts : List Token) (events₀ reports₀ pool₀ : List ℕ) → Input-limits ts → ((z : Room) → scan (pushes (run-entry e ts)) (room-in events₀ reports₀ pool₀) ≡ fits z → Small (run-entry e ts))
     → Ends ts (run-entry e ts) events₀ reports₀ pool₀ (scan (pushes (run-entry e ts)) (room-in events₀ reports₀ pool₀)) (walk-prog MOST-OPEN-CALLS ts unlabelled (whole e) (fresh events₀ reports₀ pool₀) .on)
 unfolding run-entry
 machine-ends e ts events₀ reports₀ pool₀ l h =
@@ -82,13 +82,13 @@ machine-ends e ts events₀ reports₀ pool₀ l h =
     (prog-sim g MOST-OPEN-CALLS no-label (whole e) none (taken ts) (fitting-none g) (inside-taken g ts (suffix-whole ts))))
 
 -- where all fits
-pub machine-accepts : (e : Entry) (ts : List Token) (events₀ reports₀ pool₀ : List ℕ) (z : Room) → Limits ts → Small (run-entry e ts) → scan (pushes (run-entry e ts)) (room-in events₀ reports₀ pool₀) ≡ fits z
-    → Accepted ts (run-entry e ts) events₀ reports₀ pool₀ (walk-prog MOST-OPEN-CALLS ts unlabelled (whole e) (fresh events₀ reports₀ pool₀) .on)
+pub machine-accepts : (e : Entry) (ts : List Token) (events₀ reports₀ pool₀ : List ℕ) (z : Room) → Input-limits ts → Small (run-entry e ts) → scan (pushes (run-entry e ts)) (room-in events₀ reports₀ pool₀) ≡ fits z
+    → Not-refused ts (run-entry e ts) events₀ reports₀ pool₀ (walk-prog MOST-OPEN-CALLS ts unlabelled (whole e) (fresh events₀ reports₀ pool₀) .on)
 machine-accepts e ts events₀ reports₀ pool₀ z l h q =
     subst (λ (x : Fit). Ends ts (run-entry e ts) events₀ reports₀ pool₀ x (walk-prog MOST-OPEN-CALLS ts unlabelled (whole e) (fresh events₀ reports₀ pool₀) .on)) q (machine-ends e ts events₀ reports₀ pool₀ l (λ y p. h))
 
 -- where something does not, whatever the skeleton's size
-pub machine-refuses : (e : Entry) (ts : List Token) (events₀ reports₀ pool₀ : List ℕ) (r : Refusal) → Limits ts → scan (pushes (run-entry e ts)) (room-in events₀ reports₀ pool₀) ≡ stops r
+pub machine-refuses : (e : Entry) (ts : List Token) (events₀ reports₀ pool₀ : List ℕ) (r : Refusal) → Input-limits ts → scan (pushes (run-entry e ts)) (room-in events₀ reports₀ pool₀) ≡ stops r
     → Refused ts r (walk-prog MOST-OPEN-CALLS ts unlabelled (whole e) (fresh events₀ reports₀ pool₀) .on)
 machine-refuses e ts events₀ reports₀ pool₀ r l q =
     subst (λ (x : Fit). Ends ts (run-entry e ts) events₀ reports₀ pool₀ x (walk-prog MOST-OPEN-CALLS ts unlabelled (whole e) (fresh events₀ reports₀ pool₀) .on)) q

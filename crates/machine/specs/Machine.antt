@@ -144,15 +144,15 @@ unfoldable pub bump : List Token → Machine → Machine
 unfolding peek bump-first
 bump ts m = let p = peek ts m in bump-first (rest ts p) p
 
-unfoldable pub name-run : List ℕ → List Token → Machine → Machine
+unfoldable pub name-stretch : List ℕ → List Token → Machine → Machine
 unfolding seen one-of
-name-run ks [] m = m
-name-run ks (t ∷ ts) m = let r = name-run ks ts (took t m) in cond (one-of ks (seen t)) r m
+name-stretch ks [] m = m
+name-stretch ks (t ∷ ts) m = let r = name-stretch ks ts (took t m) in cond (one-of ks (seen t)) r m
 
 unfoldable pub name-first : List ℕ → List Token → Machine → Machine
-unfolding push name-run
+unfolding push name-stretch
 name-first ks [] m = m
-name-first ks (t ∷ ts) m = let r = name-run ks ts (took t m) in push ADD-COMBINED-TOKEN (low (r .cursor - m .cursor)) r
+name-first ks (t ∷ ts) m = let r = name-stretch ks ts (took t m) in push ADD-COMBINED-TOKEN (low (r .cursor - m .cursor)) r
 
 unfoldable pub bump-name : List ℕ → List Token → Machine → Machine
 unfolding peek name-first

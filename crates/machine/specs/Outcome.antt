@@ -19,17 +19,17 @@ use Rattle.machine.specs.Walk.{unlabelled, walk-prog}
 use Rattle.machine.specs.Encode.{encode}
 
 -- every token has at least one byte
-abbrev pub Filled : List Token → Type 0
-Filled [] = Unit {0}
-Filled (t ∷ ts) = (1 ≤ t .len) × Filled ts
+abbrev pub No-empty-token : List Token → Type 0
+No-empty-token [] = Unit {0}
+No-empty-token (t ∷ ts) = (1 ≤ t .len) × No-empty-token ts
 
--- what is asked of the tokens: causes 2 and 3 leave more
-pub record Limits (ts : List Token) : Type 0 where
+-- what the tokens must satisfy; that they pass causes 2 and 3 says more
+pub record Input-limits (ts : List Token) : Type 0 where
   pub few : length ts ≤ MOST-TOKENS
   pub short : byte-count ts < TWO-TO-32
-  pub filled : Filled ts
+  pub none-empty : No-empty-token ts
 
--- what is asked of a skeleton: its numbers fit 32 bits
+-- what a skeleton must satisfy: its numbers fit 32 bits
 pub record Small (o : Skeleton) : Type 0 where
   pub events-fit : length (Event.events false o) < TWO-TO-32
   pub pool-fits : length (Report.pool (Report.reports (pushes o))) < TWO-TO-32
@@ -52,7 +52,7 @@ abbrev pub onto : List ℕ → List ℕ → List ℕ
 onto l b = l ++ drop (length l) b
 
 -- the buffer b with the numbers l written to its front, no more than it is long
-pub record Holds (l b : List ℕ) (x : Buffer) : Type 0 where
+pub record Starts-with (l b : List ℕ) (x : Buffer) : Type 0 where
   pub numbers : x .numbers ≡ onto l b
   pub count : x .count ≡ length l
   pub inside : length l ≤ length b
@@ -60,11 +60,11 @@ pub record Holds (l b : List ℕ) (x : Buffer) : Type 0 where
 -- events, reports, pool: what the lent buffers hold at first
 
 -- nothing was refused: the events encode the skeleton, reports and pool are the definitions'
-pub record Accepted (ts : List Token) (o : Skeleton) (events reports pool : List ℕ) (m : Machine) : Type 0 where
+pub record Not-refused (ts : List Token) (o : Skeleton) (events reports pool : List ℕ) (m : Machine) : Type 0 where
   pub refusal : m .refusal ≡ 0
-  pub events-hold : Holds (encode false o) events (m .events)
-  pub reports-hold : Holds (report-numbers (length ts) (byte-count ts) 0 (Report.reports (pushes o))) reports (m .reports)
-  pub pool-holds : Holds (Report.pool (Report.reports (pushes o))) pool (m .pool)
+  pub events-hold : Starts-with (encode false o) events (m .events)
+  pub reports-hold : Starts-with (report-numbers (length ts) (byte-count ts) 0 (Report.reports (pushes o))) reports (m .reports)
+  pub pool-holds : Starts-with (Report.pool (Report.reports (pushes o))) pool (m .pool)
 
 -- refused with the number and at the place of r
 pub record Refused (ts : List Token) (r : Refusal) (m : Machine) : Type 0 where
@@ -74,7 +74,7 @@ pub record Refused (ts : List Token) (r : Refusal) (m : Machine) : Type 0 where
 
 -- what the machine has come to, by what `scan` finds in the skeleton's pushes
 abbrev pub Ends : List Token → Skeleton → List ℕ → List ℕ → List ℕ → Fit → Machine → Type 0
-Ends ts o events reports pool (fits z) m = Accepted ts o events reports pool m
+Ends ts o events reports pool (fits z) m = Not-refused ts o events reports pool m
 Ends ts o events reports pool (stops r) m = Refused ts r m
 
 -- THE MACHINE'S END: for every entry, every input that passes causes 2 to 4, and lent buffers of any lengths and contents, the machine

@@ -170,13 +170,13 @@ bump-past tokens b m p e h =
     ∙ ap (λ (x : Machine). said yes (M.bump-first (drop (x .cursor) (tokens-of tokens)) x)) e
 
 pub name-in : (tokens ks : List ℕ) (b : Span) (m p q r x : Machine) (n : ℕ) → p ≡ M.peek (tokens-of tokens) m → p .cursor < length tokens / TOKEN-ROW → q ≡ take-first (drop (p .cursor) (tokens-of tokens)) p
-    → r ≡ M.name-run ks (drop (q .cursor) (tokens-of tokens)) q → n ≡ low (r .cursor - p .cursor) → x ≡ M.push ADD-COMBINED-TOKEN n r → said yes x ≡ perform (tokens-of tokens) b (bump-name ks) m
+    → r ≡ M.name-stretch ks (drop (q .cursor) (tokens-of tokens)) q → n ≡ low (r .cursor - p .cursor) → x ≡ M.push ADD-COMBINED-TOKEN n r → said yes x ≡ perform (tokens-of tokens) b (bump-name ks) m
 unfolding perform M.bump-name M.name-first take-first
 name-in tokens ks b m p q r x n e h f g i j =
     let d = tokens-cons tokens (p .cursor) h in
     let t = token-at tokens (p .cursor) in
-    let z : r ≡ M.name-run ks (drop (p .cursor + 1) (tokens-of tokens)) (took t p) =
-    g ∙ ap (λ (y : Machine). M.name-run ks (drop (y .cursor) (tokens-of tokens)) y) (f ∙ ap (λ (l : List Token). take-first l p) d) in
+    let z : r ≡ M.name-stretch ks (drop (p .cursor + 1) (tokens-of tokens)) (took t p) =
+    g ∙ ap (λ (y : Machine). M.name-stretch ks (drop (y .cursor) (tokens-of tokens)) y) (f ∙ ap (λ (l : List Token). take-first l p) d) in
     ap (λ (y : Machine). said yes y)
     (j ∙ ap (λ (v : ℕ). M.push ADD-COMBINED-TOKEN v r) i ∙ ap (λ (y : Machine). M.push ADD-COMBINED-TOKEN (low (y .cursor - p .cursor)) y) z ∙ sym (ap (λ (l : List Token). M.name-first ks l p) d))
     ∙ ap (λ (y : Machine). said yes (M.name-first ks (drop (y .cursor) (tokens-of tokens)) y)) e
@@ -189,17 +189,17 @@ name-past tokens ks b m p e h =
 
 -- one more row of a name, or none
 pub name-more : (tokens ks : List ℕ) (m q : Machine) → m .cursor < length tokens / TOKEN-ROW → first-in ks (drop (m .cursor) (tokens-of tokens)) ≡ true → q ≡ take-first (drop (m .cursor) (tokens-of tokens)) m
-    → M.name-run ks (drop (q .cursor) (tokens-of tokens)) q ≡ M.name-run ks (drop (m .cursor) (tokens-of tokens)) m
-unfolding M.name-run take-first first-in
+    → M.name-stretch ks (drop (q .cursor) (tokens-of tokens)) q ≡ M.name-stretch ks (drop (m .cursor) (tokens-of tokens)) m
+unfolding M.name-stretch take-first first-in
 name-more tokens ks m q h f g =
     let d = tokens-cons tokens (m .cursor) h in
     let t = token-at tokens (m .cursor) in
     let o : one-of ks (seen t) ≡ true = sym (ap (first-in ks) d) ∙ f in
-    ap (λ (y : Machine). M.name-run ks (drop (y .cursor) (tokens-of tokens)) y) (g ∙ ap (λ (l : List Token). take-first l m) d)
-    ∙ sym (ap (λ (z : Bool). cond z (M.name-run ks (drop (m .cursor + 1) (tokens-of tokens)) (took t m)) m) o)
-    ∙ sym (ap (λ (l : List Token). M.name-run ks l m) d)
+    ap (λ (y : Machine). M.name-stretch ks (drop (y .cursor) (tokens-of tokens)) y) (g ∙ ap (λ (l : List Token). take-first l m) d)
+    ∙ sym (ap (λ (z : Bool). cond z (M.name-stretch ks (drop (m .cursor + 1) (tokens-of tokens)) (took t m)) m) o)
+    ∙ sym (ap (λ (l : List Token). M.name-stretch ks l m) d)
 
-pub name-done : (ks : List ℕ) (l : List Token) (m : Machine) → first-in ks l ≡ false → m ≡ M.name-run ks l m
-unfolding M.name-run first-in
+pub name-done : (ks : List ℕ) (l : List Token) (m : Machine) → first-in ks l ≡ false → m ≡ M.name-stretch ks l m
+unfolding M.name-stretch first-in
 name-done ks [] m f = refl
-name-done ks (t ∷ ts) m f = sym (ap (λ (z : Bool). cond z (M.name-run ks ts (took t m)) m) f)
+name-done ks (t ∷ ts) m f = sym (ap (λ (z : Bool). cond z (M.name-stretch ks ts (took t m)) m) f)

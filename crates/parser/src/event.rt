@@ -20,7 +20,7 @@ ghost use lib.ListN.{drop};
 ghost use Rattle.basics.specs.Word.{low};
 ghost use Rattle.definitions.specs.Token.{tokens-of};
 ghost use Rattle.definitions.specs.Prog.{yes, bump as bump-act, bump-name as bump-name-act};
-ghost use Rattle.machine.specs.Machine.{refuse as refuse-machine, push-row as push-row-machine, push, name-run};
+ghost use Rattle.machine.specs.Machine.{refuse as refuse-machine, push-row as push-row-machine, push, name-stretch};
 ghost use Rattle.parser.specs.View.{tokens-left, becomes, bumps, writes-events, says};
 
 // The cursor after a refusal: past every row, so that every loop ends by itself.
@@ -98,7 +98,7 @@ impl State {
 
     // Takes the rows of the set that follow.
     fn take_while(self, tokens: &[u32], set: &[u8]) -> State
-        ensures { λ r. ⌜ becomes (name-run (now (set .entry)) (drop (self .cursor .0) (tokens-of (now (tokens .entry))))) self r ⌝ }
+        ensures { λ r. ⌜ becomes (name-stretch (now (set .entry)) (drop (self .cursor .0) (tokens-of (now (tokens .entry))))) self r ⌝ }
         ensures { λ r. ⌜ tokens-left (now (tokens .entry)) r ≤ tokens-left (now (tokens .entry)) self ⌝ }
     {
         let mut q = self;

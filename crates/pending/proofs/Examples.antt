@@ -10,7 +10,7 @@ use Rattle.definitions.specs.Prog.{Act, silent-at, at-end, immediate, immediate
 use Rattle.definitions.specs.Grammar.{SourceFile}
 use Rattle.definitions.specs.Run.{State, peeked, only-separators, error-range}
 use Rattle.definitions.specs.Skeleton.{Span}
-use Rattle.run_steps.specs.Steps.{Step, begun, asked, turned, linked, spent, exceeded, entry-steps}
+use Rattle.run_steps.specs.Steps.{Step, begun, branched, turned, linked, spent, exceeded, entry-steps}
 use Rattle.pending.specs.Pending.{once, Thinned, cleared, pushed, dropped, Unmoved, Reported}
 
 -- ---------------------------------------------------------------- what is pending at the reports of a run
@@ -44,7 +44,7 @@ at-reports : List Step → List (List ℕ)
 unfolding program-reports
 at-reports [] = []
 at-reports (begun p s ∷ l) = program-reports p s ++ at-reports l
-at-reports (asked a ∷ l) = at-reports l
+at-reports (branched a ∷ l) = at-reports l
 at-reports (turned s o ∷ l) = at-reports l
 at-reports (linked s o ∷ l) = at-reports l
 at-reports (spent ∷ l) = at-reports l

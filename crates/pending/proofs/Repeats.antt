@@ -6,7 +6,7 @@ use mathlib.Core.List.{List, [], _∷_}
 use Rattle.definitions.specs.Token.{Token, byte-count}
 use Rattle.definitions.specs.Prog.{Act, silent-at, at-end, immediate, immediate-next, add-expected, bump, bump-name, bump-argument, emit, emit-unclosed, less, Prog, ret, act, _⨟_, case, in-marker, loop, chain, brace, open-call}
 use Rattle.definitions.specs.Run.{State, peeked, only-separators, error-range}
-use Rattle.run_steps.specs.Steps.{Step, begun, asked, turned, linked, spent, exceeded, entry-steps}
+use Rattle.run_steps.specs.Steps.{Step, begun, branched, turned, linked, spent, exceeded, entry-steps}
 use Rattle.facts.proofs.Good.{Good}
 use Rattle.facts.proofs.Given.{pending-good, each-by}
 use Rattle.facts.proofs.Sound.{entry-good}
@@ -56,7 +56,7 @@ program-reported (open-call r) s h = tt
 
 reported-good : (x : Step) → Good x → Reported Unmoved x
 reported-good (begun p s) g = program-reported p s (pending-good p s g)
-reported-good (asked a) g = tt
+reported-good (branched a) g = tt
 reported-good (turned s o) g = tt
 reported-good (linked s o) g = tt
 reported-good spent g = tt

@@ -11,7 +11,7 @@ use Rattle.definitions.specs.Token.{Token}
 use Rattle.definitions.specs.Prog.{Act, silent-at, at-end, immediate, immediate-next, add-expected, bump, bump-name, bump-argument, emit, emit-unclosed, less, Prog, ret, act, _⨟_, case, in-marker, loop, chain, brace, open-call}
 use Rattle.definitions.specs.Grammar.{Entry}
 use Rattle.definitions.specs.Run.{State, peeked, only-separators, error-range}
-use Rattle.run_steps.specs.Steps.{Step, begun, asked, turned, linked, spent, exceeded, Each, entry-steps}
+use Rattle.run_steps.specs.Steps.{Step, begun, branched, turned, linked, spent, exceeded, Every-step, entry-steps}
 
 -- a list without one number
 unfoldable pub without : ℕ → List ℕ → List ℕ
@@ -69,7 +69,7 @@ In-program P (open-call r) s = Unit {0}
 
 abbrev pub Reported : (State → Type 0) → Step → Type 0
 Reported P (begun p s) = In-program P p s
-Reported P (asked a) = Unit {0}
+Reported P (branched a) = Unit {0}
 Reported P (turned s o) = Unit {0}
 Reported P (linked s o) = Unit {0}
 Reported P spent = Unit {0}
@@ -78,4 +78,4 @@ Reported P exceeded = Unit {0}
 -- ---------------------------------------------------------------- the statement
 
 abbrev pub Repeats : Type 0
-Repeats = (e : Entry) (ts : List Token) → Each (Reported Unmoved) (entry-steps e ts)
+Repeats = (e : Entry) (ts : List Token) → Every-step (Reported Unmoved) (entry-steps e ts)

@@ -12,12 +12,12 @@ use Rattle.definitions.specs.TokenKind as K
 use Rattle.definitions.specs.Token.{Token, seen, trivia, drop-trivia}
 use Rattle.definitions.specs.Prog.{Ans, no, yes}
 use Rattle.definitions.specs.Skeleton.{done, token, _⧺_}
-use Rattle.definitions.specs.Run.{State, Out, answer, makes, taken, add, at-depth, do-argument}
+use Rattle.definitions.specs.Run.{State, Out, replies, makes, taken, add, at-depth, do-argument}
 use Rattle.definitions.specs.Report.{pushes}
-use Rattle.definitions.specs.C.{Symbol, plain, symbol, symbols, opens, closes, keeps, turn}
+use Rattle.definitions.specs.C.{Symbol, plain, symbol, symbols, opens, closes, keeps, change}
 use Rattle.laws.proofs.Trivia.{drop-none, Passes, passes-none, passes-one, passes-then, passes-drop}
 use Rattle.laws.proofs.Kept.{Stands}
-use Rattle.precedence.specs.Nodes.{one, Split, argument, taking, ended, is-comma, split-turn, split}
+use Rattle.precedence.specs.Nodes.{one, Split, argument, taking, next-argument, is-comma, split-change, split}
 use Rattle.precedence.proofs.Pratt.{Args, closed, unclosed, push, args-turn, args}
 use Rattle.precedence.proofs.Pushed.{Quiet, quiet-join}
 use Rattle.precedence.proofs.Same.{Same, same-refl, same-join, same-one}
@@ -78,7 +78,7 @@ module _ (s : State) (t : Token) (ts : List Token) (first : drop-trivia (s .sinc
   opening-more (at-end p a e) = at-end (stopped-more p) a e
 
   -- x is its symbol, and takes the count from n to m
-  takes-more : (x : Symbol) (n m : ℕ) → ((f : ℕ → Split) → split-turn (turn x) x f n ≡ taking (f m)) → (y : Args) → Takes (taken ts) m y o
+  takes-more : (x : Symbol) (n m : ℕ) → ((f : ℕ → Split) → split-change (change x) x f n ≡ taking (f m)) → (y : Args) → Takes (taken ts) m y o
       → Takes s n (push x y) (add (took t ts) o)
   takes-more x n m e (closed xs vs) h = rw (e (split xs)) (closing-more (split xs m) vs h)
   takes-more x n m e unclosed h = opening-more h
@@ -87,33 +87,33 @@ module _ (s : State) (t : Token) (ts : List Token) (first : drop-trivia (s .sinc
 
 -- nothing taken, and the cursor moved
 abbrev stay : Ans → State → List Token → Out
-stay a s ts = answer a (record { rest = ts; since = s .since; pending = s .pending })
+stay a s ts = replies a (record { rest = ts; since = s .since; pending = s .pending })
 
 stopped-here : (a : Ans) (s : State) (ts : List Token) → Passes (s .since) ts → Stopped s (stay a s ts)
-unfolding answer
+unfolding replies
 stopped-here a s ts p = record { stands = record { passed = p }; tail = tail-refl (s .since); shape-is = refl }
 
 argued-none : (a : Ans) (s : State) (ts : List Token) (sp : Split) → sp .first ≡ done → Argued s sp (stay a s ts)
-unfolding answer pushes
+unfolding replies pushes
 argued-none a s ts sp e = record { same = rw e (same-refl done); quiet = tt }
 
 takes-end : (s : State) (n : ℕ) → Passes (s .since) [] → Takes s n unclosed (stay no s [])
-unfolding answer drop-trivia
+unfolding replies drop-trivia
 takes-end s n p = at-end (stopped-here no s [] p) refl (symbols-end (s .since) (passes-drop (s .since) [] p))
 
 module _ (s : State) (t : Token) (ts : List Token) (p : Passes (s .since) (t ∷ ts)) (first : drop-trivia (s .since) ≡ t ∷ ts) where
   takes-close : seen t ≡ K.RParen → Takes s 0 (closed [] (symbols (eqb (seen t) K.Ident) ts)) (stay no s (t ∷ ts))
-  unfolding answer
+  unfolding replies
   takes-close e =
       at-close (stopped-here no s (t ∷ ts) p) (argued-none no s (t ∷ ts) (split [] 0) refl) refl
       (symbols-next (s .since) t ts first ∙ ap (λ (k : ℕ). plain k ∷ symbols (eqb (seen t) K.Ident) ts) e) refl
 
-  takes-comma : (x : Symbol) → is-comma x ≡ true → turn x ≡ keeps → (y : Args) → args (symbols false ts) 0 ≡ y → Takes s 0 (push x y) (stay yes s (t ∷ ts))
-  unfolding answer
+  takes-comma : (x : Symbol) → is-comma x ≡ true → change x ≡ keeps → (y : Args) → args (symbols false ts) 0 ≡ y → Takes s 0 (push x y) (stay yes s (t ∷ ts))
+  unfolding replies
   takes-comma x c k (closed xs vs) h =
-      let e : split (x ∷ xs) 0 ≡ ended (split xs 0) = rw (k, c) refl in
+      let e : split (x ∷ xs) 0 ≡ next-argument (split xs 0) = rw (k, c) refl in
       rw e
-      (at-comma t ts xs (stopped-here yes s (t ∷ ts) p) (argued-none yes s (t ∷ ts) (ended (split xs 0)) refl) refl first h refl)
+      (at-comma t ts xs (stopped-here yes s (t ∷ ts) p) (argued-none yes s (t ∷ ts) (next-argument (split xs 0)) refl) refl first h refl)
   takes-comma x c k unclosed h = at-comma t ts (stopped-here yes s (t ∷ ts) p) refl first h
 
 -- ---------------------------------------------------------------- all cases
@@ -132,29 +132,29 @@ module _ (s : State) (t : Token) (ts : List Token) (b : Bool) (p : Passes (s .si
   go m = add (took t ts) (do-argument m (taken ts) ts)
 
   abbrev Case : ℕ → Symbol → Out → Type 0
-  Case n x o = Takes s n (args-turn (turn x) x (args us) us n) o
+  Case n x o = Takes s n (args-turn (change x) x (args us) us n) o
 
-  case-opens : (n : ℕ) (x : Symbol) → turn x ≡ opens → Case n x (go (suc n))
+  case-opens : (n : ℕ) (x : Symbol) → change x ≡ opens → Case n x (go (suc n))
   case-opens n x e =
       rw e (takes-more s t ts first (do-argument (suc n) (taken ts) ts) x n (suc n) (λ f. rw e) (args us (suc n)) (later (suc n)))
 
-  case-closes : (n : ℕ) (x : Symbol) → turn x ≡ closes → seen t ≡ K.RParen → Case n x (at-depth n (stay no s (t ∷ ts)) go)
+  case-closes : (n : ℕ) (x : Symbol) → change x ≡ closes → seen t ≡ K.RParen → Case n x (at-depth n (stay no s (t ∷ ts)) go)
   unfolding at-depth
   case-closes zero x e k = rw e (takes-close s t ts p first k)
   case-closes (suc n) x e k =
       rw e (takes-more s t ts first (do-argument n (taken ts) ts) x (suc n) n (λ f. rw e) (args us n) (later n))
 
-  case-keeps : (n : ℕ) (x : Symbol) → turn x ≡ keeps → ((f : ℕ → Split) → split-turn keeps x f n ≡ taking (f n)) → Case n x (go n)
+  case-keeps : (n : ℕ) (x : Symbol) → change x ≡ keeps → ((f : ℕ → Split) → split-change keeps x f n ≡ taking (f n)) → Case n x (go n)
   case-keeps n x e h =
       rw e (takes-more s t ts first (do-argument n (taken ts) ts) x n n (λ f. rw e (h f)) (args us n) (later n))
 
-  case-comma : (n : ℕ) (x : Symbol) → turn x ≡ keeps → is-comma x ≡ true → eqb (seen t) K.Ident ≡ false
+  case-comma : (n : ℕ) (x : Symbol) → change x ≡ keeps → is-comma x ≡ true → eqb (seen t) K.Ident ≡ false
       → Case n x (at-depth n (stay yes s (t ∷ ts)) (λ m. go (suc m)))
   unfolding at-depth
   case-comma zero x e c i = rw (e, i) (takes-comma s t ts p first x c e (args (symbols false ts) 0) refl)
   case-comma (suc n) x e c i = case-keeps (suc n) x e (λ f. refl)
 
-  case-plain : (n : ℕ) (x : Symbol) → turn x ≡ keeps → is-comma x ≡ false → Case n x (go n)
+  case-plain : (n : ℕ) (x : Symbol) → change x ≡ keeps → is-comma x ≡ false → Case n x (go n)
   case-plain zero x e c = case-keeps zero x e (λ f. rw c)
   case-plain (suc n) x e c = case-keeps (suc n) x e (λ f. refl)
 

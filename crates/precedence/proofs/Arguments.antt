@@ -23,7 +23,7 @@ use Rattle.laws.proofs.Skeleton.{join-done, join-assoc}
 use Rattle.laws.proofs.Kept.{Stands, stands-taken}
 use Rattle.precedence.specs.Nodes.{one, nodes, Split, argument, split}
 use Rattle.precedence.proofs.Pratt.{Args, closed, unclosed, args}
-use Rattle.laws.specs.Pushes.{Clear}
+use Rattle.laws.specs.Pushes.{None-exceeded}
 use Rattle.precedence.proofs.Pushed.{Quiet, quiet-done, quiet-join, quiet-closed, clear-first, clear-second}
 use Rattle.precedence.proofs.Same.{Same, same-join, same-one, same-node, same-path}
 use Rattle.precedence.proofs.Symbols.{symbols-drop, Tail, tail-trans, tail-next, ahead-length}
@@ -203,7 +203,7 @@ module _ (ask : Rule → State → Out) (b : Label) where
   looped n s o = cond (goes-on s o) (add (makes (o .ans) (o .made) (o .state)) (iter n turn (o .state))) (makes (o .ans) (o .made) (o .state))
 
   abbrev Later : ℕ → Type 0
-  Later n = (u : State) → Stands u → length (u .rest) < n → Clear (pushes (iter n turn u .made)) → Looped u (args (symbols false (u .since)) 0) (iter n turn u)
+  Later n = (u : State) → Stands u → length (u .rest) < n → None-exceeded (pushes (iter n turn u .made)) → Looped u (args (symbols false (u .since)) 0) (iter n turn u)
 
   round-goes : (s : State) (cs : List Token) (o : Out) → Round s cs o → goes-on s o ≡ true
   unfolding goes-on is-again
@@ -235,19 +235,19 @@ module _ (ask : Rule → State → Out) (b : Label) where
       subst (λ (z : Skeleton). Done s z (C.plain K.RParen ∷ vs) (o .made ⧺ o′ .made) (o′ .state)) e
       (done-join s (taken cs) (o′ .state) (first ⧺ one) (argument (split ys 0)) (symbols false cs) (C.plain K.RParen ∷ vs) (o .made) (o′ .made) a d)
 
-  loop-step : (n : ℕ) (s : State) (y : Args) (o : Out) → Rounds s y o → length (s .rest) < suc n → Later n → Clear (pushes (looped n s o .made))
+  loop-step : (n : ℕ) (s : State) (y : Args) (o : Out) → Rounds s y o → length (s .rest) < suc n → Later n → None-exceeded (pushes (looped n s o .made))
       → Looped s y (looped n s o)
   unfolding add makes
   loop-step n s (closed xs vs) o (more-closed cs ys r p q k l) h later c =
       let e = looped-more n s cs o r in
-      let c′ : Clear (pushes (o .made ⧺ iter n turn (taken cs) .made)) = subst (λ (x : Out). Clear (pushes (x .made))) e c in
+      let c′ : None-exceeded (pushes (o .made ⧺ iter n turn (taken cs) .made)) = subst (λ (x : Out). None-exceeded (pushes (x .made))) e c in
       let d = later (taken cs) (stands-taken cs) (omega (arith, r .moved)) (clear-second (o .made) (iter n turn (taken cs) .made) c′) in
       subst (Looped s (closed xs vs)) (sym e)
       (done-more s cs xs ys vs o (iter n turn (taken cs)) r p q l (subst (λ (z : Args). Looped (taken cs) z (iter n turn (taken cs))) k d))
   loop-step n s (closed xs vs) o (last-closed a d) h later c = subst (Looped s (closed xs vs)) (sym (looped-last n s o a)) d
   loop-step n s unclosed o (more-open cs r k) h later c =
       let e = looped-more n s cs o r in
-      let c′ : Clear (pushes (o .made ⧺ iter n turn (taken cs) .made)) = subst (λ (x : Out). Clear (pushes (x .made))) e c in
+      let c′ : None-exceeded (pushes (o .made ⧺ iter n turn (taken cs) .made)) = subst (λ (x : Out). None-exceeded (pushes (x .made))) e c in
       let d = later (taken cs) (stands-taken cs) (omega (arith, r .moved)) (clear-second (o .made) (iter n turn (taken cs) .made) c′) in
       let z : Ended (taken cs) (iter n turn (taken cs) .state) = subst (λ (z : Args). Looped (taken cs) z (iter n turn (taken cs))) k d in
       subst (Looped s unclosed) (sym e)
@@ -256,7 +256,7 @@ module _ (ask : Rule → State → Out) (b : Label) where
       subst (Looped s unclosed) (sym (looped-last n s o a)) (record { stands = st; left = e; tail = t })
 
   looped-clear : (n : ℕ) (s : State) (o : Out) (x : Bool)
-      → Clear (pushes (cond x (add (makes (o .ans) (o .made) (o .state)) (iter n turn (o .state))) (makes (o .ans) (o .made) (o .state)) .made)) → Clear (pushes (o .made))
+      → None-exceeded (pushes (cond x (add (makes (o .ans) (o .made) (o .state)) (iter n turn (o .state))) (makes (o .ans) (o .made) (o .state)) .made)) → None-exceeded (pushes (o .made))
   unfolding add makes
   looped-clear n s o true c = clear-first (o .made) (iter n turn (o .state) .made) c
   looped-clear n s o false c = c

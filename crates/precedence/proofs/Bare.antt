@@ -7,7 +7,7 @@ use mathlib.Core.Option.{Option, none, some}
 use lib.ListN.{length}
 use Rattle.definitions.specs.TokenKind as K
 use Rattle.definitions.specs.Token.{one-of}
-use Rattle.definitions.specs.C.{Symbol, plain, Turn, opens, closes, keeps, turn, turned, open-after, Balanced, Expr, spelling, Allowed, Gives}
+use Rattle.definitions.specs.C.{Symbol, plain, Change, opens, closes, keeps, change, changed, open-after, Balanced, Expr, spelling, Well-formed, Gives}
 use Rattle.precedence.proofs.Pratt.{operator, is, Res, done, report, refused, spent, expect, closed, args, reader, cell}
 use Rattle.precedence.proofs.Base.{onto, onto-written, open-onto, Before, before-refl, Post, post-bind, post-expect}
 use Rattle.precedence.proofs.Sound.{Read, reader-sound, behind}
@@ -30,7 +30,7 @@ Verdict xs us refused = Unit {0}
 Verdict xs us spent = ⊥
 
 record Cell (us : List Symbol) (e : Expr) (vs : List Symbol) : Type 0 where
-  allowed : Allowed e
+  well-formed : Well-formed e
   symbols-are : us ≡ onto e (plain K.RParen ∷ vs)
 
 cell-sound : (d : ℕ) (us : List Symbol) → Post (Cell us) (Before us) (cell d us)
@@ -38,8 +38,8 @@ cell-sound d us =
     post-bind (Read 0 us) (Before us) (Cell us) (Before us) (reader d 0 us) (λ e vs. expect K.RParen vs (λ ws. done e ws))
     (reader-sound d 0 (omega arith) us) (λ p b. b)
     λ e vs r.
-    post-expect (Cell us) (Before us) K.RParen vs (λ ws. done e ws) (behind e (r .allowed) us vs vs (r .symbols-are) (before-refl vs))
-    λ ws h. let y = r .symbols-are in record { allowed = r .allowed; symbols-are = cc }
+    post-expect (Cell us) (Before us) K.RParen vs (λ ws. done e ws) (behind e (r .well-formed) us vs vs (r .symbols-are) (before-refl vs))
+    λ ws h. let y = r .symbols-are in record { well-formed = r .well-formed; symbols-are = cc }
 
 cell-complete : (d : ℕ) (xs : List Symbol) (e : Expr) → Gives xs e → (us : List Symbol) → Post (Is e us) Never (cell d (xs ++ (plain K.RParen ∷ us)))
 unfolding operator is one-of
@@ -48,7 +48,7 @@ cell-complete d xs e g us =
     onto-written e (plain K.RParen ∷ us) ∙ ap (λ (l : List Symbol). l ++ (plain K.RParen ∷ us)) (g .symbols-are) in
     rw (← h)
     (post-then (Is e us) e (plain K.RParen ∷ us) (reader d 0 (onto e (plain K.RParen ∷ us))) (λ e′ vs. expect K.RParen vs (λ ws. done e′ ws))
-    (reads-exactly e (g .allowed) d (plain K.RParen ∷ us) tt tt) (refl, refl))
+    (reads-exactly e (g .well-formed) d (plain K.RParen ∷ us) tt tt) (refl, refl))
 
 -- ---------------------------------------------------------------- brackets
 
@@ -62,12 +62,12 @@ split-unique xs ys us vs p q h =
     let w : closed xs us ≡ closed ys vs = sym x ∙ z ∙ y in
     (cc, cc)
 
-balanced : (e : Expr) → Allowed e → Balanced (spelling e)
+balanced : (e : Expr) → Well-formed e → Balanced (spelling e)
 balanced e a = ap (λ (l : List Symbol). open-after l 0) (sym (append-nil (spelling e)) ∙ sym (onto-written e [])) ∙ open-onto e a [] 0
 
 -- where brackets balance, what closes none that was not opened stays inside
-within-turn : (t : Turn) (f g : ℕ → Option ℕ) (n : ℕ) (X : Type 0) → ((m : ℕ) → f m ≡ some 0 → (g m ≡ none → ⊥) → X)
-    → turned t f n ≡ some 0 → (turned t g n ≡ none → ⊥) → X
+within-turn : (t : Change) (f g : ℕ → Option ℕ) (n : ℕ) (X : Type 0) → ((m : ℕ) → f m ≡ some 0 → (g m ≡ none → ⊥) → X)
+    → changed t f n ≡ some 0 → (changed t g n ≡ none → ⊥) → X
 within-turn opens f g n X ih h i = ih (suc n) h i
 within-turn closes f g zero X ih h i = absurd (i refl)
 within-turn closes f g (suc n) X ih h i = ih n h i
@@ -85,7 +85,7 @@ within (x ∷ xs) (y ∷ c) us p n h f e =
     let z : y ≡ x = cc in
     let w : xs ++ (plain K.RParen ∷ us) ≡ c ++ p = cc in
     within-cons x xs (plain K.RParen ∷ us) p
-    (within-turn (turn x) (open-after xs) (open-after c) n (Within xs (plain K.RParen ∷ us) p) (λ m a b. within xs c us p m a b w) h
+    (within-turn (change x) (open-after xs) (open-after c) n (Within xs (plain K.RParen ∷ us) p) (λ m a b. within xs c us p m a b w) h
     (λ a. f (rw z a)))
 
 -- ---------------------------------------------------------------- the verdict
@@ -93,8 +93,8 @@ within (x ∷ xs) (y ∷ c) us p n h f e =
 verdict-of : (xs us : List Symbol) → Balanced xs → (x : Res) → Post (Cell (xs ++ (plain K.RParen ∷ us))) (Before (xs ++ (plain K.RParen ∷ us))) x
     → ((e : Expr) → Gives xs e → Post (Is e us) Never x) → (R : Type 0) → Fin (length (xs ++ (plain K.RParen ∷ us))) R x → Verdict xs us x
 verdict-of xs us b (done e vs) s c R f =
-    let q = split-unique xs (spelling e) us vs b (balanced e (s .allowed)) (s .symbols-are ∙ onto-written e (plain K.RParen ∷ vs)) in
-    (record { allowed = s .allowed; symbols-are = sym (q .0) }, sym (q .1))
+    let q = split-unique xs (spelling e) us vs b (balanced e (s .well-formed)) (s .symbols-are ∙ onto-written e (plain K.RParen ∷ vs)) in
+    (record { well-formed = s .well-formed; symbols-are = sym (q .0) }, sym (q .1))
 verdict-of xs us b (report p) s c R f = (c, within xs (s .passed) us p 0 b (s .inside 0) (s .split))
 verdict-of xs us b refused s c R f = tt
 verdict-of xs us b spent s c R f = f
@@ -112,7 +112,7 @@ Reads us refused = Unit {0}
 Reads us spent = ⊥
 
 reads-of : (us : List Symbol) (x : Res) → Post (Cell us) (Before us) x → (a : ℕ) (R : Type 0) → Fin a R x → Reads us x
-reads-of us (done e vs) s a R f = (spelling e, balanced e (s .allowed), s .symbols-are ∙ onto-written e (plain K.RParen ∷ vs))
+reads-of us (done e vs) s a R f = (spelling e, balanced e (s .well-formed), s .symbols-are ∙ onto-written e (plain K.RParen ∷ vs))
 reads-of us (report p) s a R f = tt
 reads-of us refused s a R f = tt
 reads-of us spent s a R f = f

@@ -10,7 +10,7 @@ use mathlib.Core.List.{List, [], _∷_, _++_, append-assoc}
 use mathlib.Core.Option.{Option, none, some}
 use Rattle.definitions.specs.TokenKind as K
 use Rattle.definitions.specs.Token.{one-of}
-use Rattle.definitions.specs.C.{Symbol, plain, arguments, Turn, opens, closes, keeps, turn, turned, open-after, Balanced, prefix-operators, number-in, number-of, Expr, literal, name, invocation, bracketed, prefix, binary, ternary, spelling, Allowed}
+use Rattle.definitions.specs.C.{Symbol, plain, arguments, Change, opens, closes, keeps, change, changed, open-after, Balanced, prefix-operators, line-in, line-of, Expr, literal, name, invocation, bracketed, prefix, binary, ternary, spelling, Well-formed}
 use Rattle.precedence.proofs.Pratt.{Operator, asks, binds, operator, is, Res, done, report, refused, spent, bind, expect-if, expect}
 use Rattle.precedence.proofs.Pratt as P
 use Rattle.precedence.proofs.Tables.{OperatorOf, operator-of, Member, here, there, member, is-kind}
@@ -46,8 +46,8 @@ onto-append e c p = rw (onto-written e (c ++ p), onto-written e c, append-assoc)
 pub not-none : (n : ℕ) → some n ≡ none → ⊥
 not-none n h = let z : _≡_ {A = ℕ} 0 1 = cc in omega arith
 
-up-turn : (t : Turn) (f : ℕ → Option ℕ) (n m : ℕ) → ((a b : ℕ) → f a ≡ some b → f (suc a) ≡ some (suc b))
-    → turned t f n ≡ some m → turned t f (suc n) ≡ some (suc m)
+up-turn : (t : Change) (f : ℕ → Option ℕ) (n m : ℕ) → ((a b : ℕ) → f a ≡ some b → f (suc a) ≡ some (suc b))
+    → changed t f n ≡ some m → changed t f (suc n) ≡ some (suc m)
 up-turn opens f n m ih h = ih (suc n) m h
 up-turn closes f zero m ih h = absurd (not-none m (sym h))
 up-turn closes f (suc n) m ih h = ih n m h
@@ -55,13 +55,13 @@ up-turn keeps f n m ih h = ih n m h
 
 pub open-up : (xs : List Symbol) (n m : ℕ) → open-after xs n ≡ some m → open-after xs (suc n) ≡ some (suc m)
 open-up [] n m h = cc
-open-up (x ∷ xs) n m h = up-turn (turn x) (open-after xs) n m (open-up xs) h
+open-up (x ∷ xs) n m h = up-turn (change x) (open-after xs) n m (open-up xs) h
 
 open-lift : (xs : List Symbol) → Balanced xs → (n : ℕ) → open-after xs n ≡ some n
 open-lift xs h zero = h
 open-lift xs h (suc n) = open-up xs n n (open-lift xs h n)
 
-append-turn : (t : Turn) (f g h : ℕ → Option ℕ) (n m : ℕ) → ((a b : ℕ) → f a ≡ some b → g a ≡ h b) → turned t f n ≡ some m → turned t g n ≡ h m
+append-turn : (t : Change) (f g h : ℕ → Option ℕ) (n m : ℕ) → ((a b : ℕ) → f a ≡ some b → g a ≡ h b) → changed t f n ≡ some m → changed t g n ≡ h m
 append-turn opens f g h n m ih e = ih (suc n) m e
 append-turn closes f g h zero m ih e = absurd (not-none m (sym e))
 append-turn closes f g h (suc n) m ih e = ih n m e
@@ -69,11 +69,11 @@ append-turn keeps f g h n m ih e = ih n m e
 
 open-append : (xs ys : List Symbol) (n m : ℕ) → open-after xs n ≡ some m → open-after (xs ++ ys) n ≡ open-after ys m
 open-append [] ys n m h = cc
-open-append (x ∷ xs) ys n m h = append-turn (turn x) (open-after xs) (open-after (xs ++ ys)) (open-after ys) n m (open-append xs ys) h
+open-append (x ∷ xs) ys n m h = append-turn (change x) (open-after xs) (open-after (xs ++ ys)) (open-after ys) n m (open-append xs ys) h
 
 -- a symbol that is not a bracket
 abbrev pub Flat : Symbol → Type 0
-Flat x = turn x ≡ keeps
+Flat x = change x ≡ keeps
 
 flat-open : (x : Symbol) (xs : List Symbol) (n : ℕ) → Flat x → open-after (x ∷ xs) n ≡ open-after xs n
 flat-open x xs n h = rw h
@@ -85,16 +85,16 @@ flat-prefix (there (there here)) = refl
 flat-prefix (there (there (there here))) = refl
 
 -- no bracket is in C's table
-bracket-not : (k j : ℕ) → number-of j ≡ 0 → 1 ≤ number-of k → k ≡ j → ⊥
-bracket-not k j z h e = let y = ap number-of e in omega arith
+bracket-not : (k j : ℕ) → line-of j ≡ 0 → 1 ≤ line-of k → k ≡ j → ⊥
+bracket-not k j z h e = let y = ap line-of e in omega arith
 
-flat-by : (k : ℕ) → 1 ≤ number-of k → (b c : Bool) → eqb k K.LParen ≡ b → eqb k K.RParen ≡ c → cond b opens (cond c closes keeps) ≡ keeps
-unfolding number-in one-of
+flat-by : (k : ℕ) → 1 ≤ line-of k → (b c : Bool) → eqb k K.LParen ≡ b → eqb k K.RParen ≡ c → cond b opens (cond c closes keeps) ≡ keeps
+unfolding line-in one-of
 flat-by k h true c p q = absurd (bracket-not k K.LParen refl h (eqb-true k K.LParen p))
 flat-by k h false true p q = absurd (bracket-not k K.RParen refl h (eqb-true k K.RParen q))
 flat-by k h false false p q = refl
 
-pub flat-binary : (k : ℕ) → 1 ≤ number-of k → Flat (plain k)
+pub flat-binary : (k : ℕ) → 1 ≤ line-of k → Flat (plain k)
 flat-binary k h = flat-by k h (eqb k K.LParen) (eqb k K.RParen) refl refl
 
 pub flat-prefix-of : (k : ℕ) → one-of prefix-operators k ≡ true → Flat (plain k)
@@ -104,7 +104,7 @@ flat-literal : {k : ℕ} → Member k (K.Number ∷ K.Char ∷ []) → Flat (pla
 flat-literal here = refl
 flat-literal (there here) = refl
 
-pub open-onto : (e : Expr) → Allowed e → (us : List Symbol) (n : ℕ) → open-after (onto e us) n ≡ open-after us n
+pub open-onto : (e : Expr) → Well-formed e → (us : List Symbol) (n : ℕ) → open-after (onto e us) n ≡ open-after us n
 open-onto (literal k) a us n = flat-open (plain k) us n (flat-literal (member (K.Number ∷ K.Char ∷ []) k a))
 open-onto name a us n = refl
 open-onto (invocation xs) a us n = open-append xs (plain K.RParen ∷ us) (suc n) (suc n) (open-lift xs a (suc n))
@@ -133,7 +133,7 @@ before-flat x us p f b =
 pub before-open : (us p : List Symbol) → Before us p → Before (plain K.LParen ∷ us) p
 before-open us p b = record { passed = plain K.LParen ∷ b .passed; split = rw (b .split); inside = λ n h. b .inside (suc n) h }
 
-pub before-onto : (e : Expr) → Allowed e → (us p : List Symbol) → Before us p → Before (onto e us) p
+pub before-onto : (e : Expr) → Well-formed e → (us p : List Symbol) → Before us p → Before (onto e us) p
 before-onto e a us p b =
     record {
       passed = onto e (b .passed);

@@ -12,14 +12,14 @@ use Rattle.definitions.specs.NodeKind as N
 use Rattle.definitions.specs.Token.{Token, trivia, drop-trivia, past}
 use Rattle.definitions.specs.Prog.{Ans, no, yes, Act, silent-at, at-end, immediate, immediate-next, add-expected, bump, bump-name, bump-argument, emit, emit-unclosed, less, act}
 use Rattle.definitions.specs.Skeleton.{Label, Skeleton, done, token, name, node, ignored, report, over, _⧺_}
-use Rattle.definitions.specs.Run.{State, Out, mark-of, peeked, answer, makes, taken, do-bump, do-name, add, at-depth, do-argument, do-emit, over-unless, do-expected, perform, closed, exec, run}
+use Rattle.definitions.specs.Run.{State, Out, mark-of, peeked, replies, makes, taken, do-bump, do-name, add, at-depth, do-argument, do-emit, over-unless, do-expected, perform, closed, exec, run}
 use Rattle.definitions.specs.Place.{after}
 use Rattle.definitions.specs.Report.{pushes}
 use Rattle.basics.proofs.Tests.{cond-all}
 use Rattle.laws.proofs.Trivia.{drop-twice, passes-none}
 use Rattle.laws.proofs.Kept.{Stands, run-kept, exec-kept}
 use Rattle.laws.proofs.Between.{Taking, reads-kept}
-use Rattle.laws.specs.Pushes.{Clear}
+use Rattle.laws.specs.Pushes.{None-exceeded}
 use Rattle.precedence.proofs.Pushed.{clear-first, clear-second, clear-inside, clear-before}
 use Rattle.precedence.proofs.Cell.{CellOf}
 use Rattle.precedence.proofs.Only.{Ran, Holds}
@@ -82,8 +82,8 @@ record Simple (o : Out) : Type 0 where
   shape-is : o .shape ≡ 0
   nodeless : Nodeless (o .made)
 
-simple-answer : (a : Ans) (s : State) → Simple (answer a s)
-unfolding answer
+simple-answer : (a : Ans) (s : State) → Simple (replies a s)
+unfolding replies
 simple-answer a s = record { shape-is = refl; nodeless = tt }
 
 simple-bump : (s : State) (l : List Token) → Simple (do-bump s l)
@@ -136,7 +136,7 @@ simple-act b (less m n) s = simple-answer _ _
 -- p was made from s to u, and if no limit was exceeded every DtExpr in it is a judged cell
 pub record Celled (s : State) (p : Skeleton) (u : State) : Type 0 where
   pub takes : Taking s p u
-  pub cells : Clear (pushes p) → (ts : List Token) → drop-trivia ts ≡ drop-trivia (s .since) → Cells p ts
+  pub cells : None-exceeded (pushes p) → (ts : List Token) → drop-trivia ts ≡ drop-trivia (s .since) → Cells p ts
 
 celled-idle : (s : State) → Stands s → Celled s done s
 unfolding Cells

@@ -10,7 +10,7 @@ use lib.Dec.{ltb}
 use lib.ListN.{length}
 use Rattle.definitions.specs.TokenKind as K
 use Rattle.definitions.specs.Token.{one-of}
-use Rattle.definitions.specs.C.{Symbol, plain, arguments, Turn, opens, closes, keeps, turn, turned, open-after, number-of, Expr, literal, name, invocation, bracketed, prefix, binary, ternary, Allowed}
+use Rattle.definitions.specs.C.{Symbol, plain, arguments, Change, opens, closes, keeps, change, changed, open-after, line-of, Expr, literal, name, invocation, bracketed, prefix, binary, ternary, Well-formed}
 use Rattle.precedence.proofs.Pratt.{Operand, prefixes, brackets, names, literals, operand, Operator, asks, binds, operator, is, Res, done, spent, Reader, bind, expect, Args, closed, push, args-turn, args, named, lhs-by, bind-if, ask-if, step-by, step, loop, reader}
 use Rattle.precedence.proofs.Pratt as P
 use Rattle.precedence.proofs.Tables.{Powers, OperatorOf, operator-of, prefix-operand, literal-operand}
@@ -28,8 +28,8 @@ named-name [] h = refl
 named-name (plain k ∷ us) h = refl
 named-name (arguments ∷ us) h = absurd h
 
-args-push : (t : Turn) (x : Symbol) (f : ℕ → Args) (xs us vs : List Symbol) (n : ℕ) → ((m : ℕ) → open-after xs m ≡ some 0 → f m ≡ closed xs vs)
-    → turned t (open-after xs) n ≡ some 0 → args-turn t x f us n ≡ closed (x ∷ xs) vs
+args-push : (t : Change) (x : Symbol) (f : ℕ → Args) (xs us vs : List Symbol) (n : ℕ) → ((m : ℕ) → open-after xs m ≡ some 0 → f m ≡ closed xs vs)
+    → changed t (open-after xs) n ≡ some 0 → args-turn t x f us n ≡ closed (x ∷ xs) vs
 args-push opens x f xs us vs n ih h = ap (push x) (ih (suc n) h)
 args-push closes x f xs us vs zero ih h = absurd (not-none 0 (sym h))
 args-push closes x f xs us vs (suc n) ih h = ap (push x) (ih n h)
@@ -38,7 +38,7 @@ args-push keeps x f xs us vs n ih h = ap (push x) (ih n h)
 pub args-complete : (xs us : List Symbol) (n : ℕ) → open-after xs n ≡ some 0 → args (xs ++ (plain K.RParen ∷ us)) n ≡ closed xs us
 args-complete [] us zero h = refl
 args-complete [] us (suc n) h = let z : suc n ≡ 0 = cc in absurd (omega arith)
-args-complete (x ∷ xs) us n h = args-push (turn x) x (args (xs ++ (plain K.RParen ∷ us))) xs (xs ++ (plain K.RParen ∷ us)) us n (args-complete xs us) h
+args-complete (x ∷ xs) us n h = args-push (change x) x (args (xs ++ (plain K.RParen ∷ us))) xs (xs ++ (plain K.RParen ∷ us)) us n (args-complete xs us) h
 
 abbrev pub Never : List Symbol → Type 0
 Never p = ⊥
@@ -80,13 +80,13 @@ loop-stop rec (suc n) m e us s = step-stop (loop rec n m) rec m e us s
 -- ---------------------------------------------------------------- once round the loop
 
 -- the operator k of C's table, in the loop
-binds-from : (k : ℕ) (x : Operator) → operator (plain k) ≡ x → OperatorOf k x → 1 ≤ number-of k
-    → (l : ℕ) × (r : ℕ) × (operator (plain k) ≡ binds k l r) × Powers (number-of k) l r
+binds-from : (k : ℕ) (x : Operator) → operator (plain k) ≡ x → OperatorOf k x → 1 ≤ line-of k
+    → (l : ℕ) × (r : ℕ) × (operator (plain k) ≡ binds k l r) × Powers (line-of k) l r
 binds-from k asks o h n = absurd (omega arith)
 binds-from k (binds j l r) o h n = (l, r, rw o (rw (h .0)), h .1)
 binds-from k P.none o h n = absurd (omega arith)
 
-binds-of : (k : ℕ) → 1 ≤ number-of k → (l : ℕ) × (r : ℕ) × (operator (plain k) ≡ binds k l r) × Powers (number-of k) l r
+binds-of : (k : ℕ) → 1 ≤ line-of k → (l : ℕ) × (r : ℕ) × (operator (plain k) ≡ binds k l r) × Powers (line-of k) l r
 binds-of k n = binds-from k (operator (plain k)) refl (operator-of k) n
 
 module _ (D : Expr → List Symbol → Type 0) (rec : Reader) (m : ℕ) (e : Expr) (us vs : List Symbol) where
@@ -124,7 +124,7 @@ Reads e =
     (d m : ℕ) → m ≤ lb e → (us : List Symbol) → Stop (rb e) us → NoCall us → (D : Expr → List Symbol → Type 0)
     → ((n : ℕ) → Post D Never (loop (reader d) n m e us)) → Post D Never (reader (suc d) m (onto e us))
 
-exact : (e : Expr) → Allowed e → Reads e → (d m : ℕ) → m ≤ lb e → (us : List Symbol) → Stop m us → NoCall us
+exact : (e : Expr) → Well-formed e → Reads e → (d m : ℕ) → m ≤ lb e → (us : List Symbol) → Stop m us → NoCall us
     → Post (Is e us) Never (reader d m (onto e us))
 exact e a r zero m h us s c = tt
 exact e a r (suc d) m h us s c = r d m h us (stop-weaken e (powers e a) m h us s) c (Is e us) (λ n. loop-stop (reader d) n m e us s)
@@ -135,7 +135,7 @@ lhs-then : (D : Expr → List Symbol → Type 0) (d m : ℕ) (y : Operand) (x : 
 lhs-then D d m y x us e vs o h g =
     rw o (post-then D e vs (lhs-by y (reader d) x us) (λ e′ ws. loop (reader d) (length ws) m e′ ws) h (g (length vs)))
 
-pub reads : (e : Expr) → Allowed e → Reads e
+pub reads : (e : Expr) → Well-formed e → Reads e
 unfolding operand is one-of operator
 reads (literal k) a d m h us s c D g = lhs-then D d m (literals k) (plain k) us (literal k) us (literal-operand k a) (refl, refl) g
 reads name a d m h us s c D g = lhs-then D d m names (plain K.Ident) us name us refl (rw (named-name us c) (refl, refl)) g
@@ -154,11 +154,11 @@ reads (binary l k r) a d m h us s c D g =
     let lp = o .0 in
     let rp = o .1 in
     let pw = o .3 in
-    let q = as-left′ l (powers l (a .1)) (number-of k) lp rp pw (a .3) in
+    let q = as-left′ l (powers l (a .1)) (line-of k) lp rp pw (a .3) in
     let rb-is : rb (binary l k r) ≡ rp = omega arith in
     reads l (a .1) d m (omega arith) (plain k ∷ onto r us) (rw (o .2) (q .0)) tt D
     (round-binary D (reader d) m l (onto r us) us k lp rp r (o .2) (omega arith)
-    (exact r (a .2) (reads r (a .2)) d rp (as-right′ r (powers r (a .2)) (number-of k) lp rp pw (a .4)) us (rw rb-is at s) c) g)
+    (exact r (a .2) (reads r (a .2)) d rp (as-right′ r (powers r (a .2)) (line-of k) lp rp pw (a .4)) us (rw rb-is at s) c) g)
 reads (ternary x y z) a d m h us s c D g =
     let q = as-condition′ x (powers x (a .0)) (a .3) in
     reads x (a .0) d m (omega arith) (plain K.QuestionMark ∷ onto y (plain K.Colon ∷ onto z us)) (q .0) tt D
@@ -167,5 +167,5 @@ reads (ternary x y z) a d m h us s c D g =
     (exact z (a .2) (reads z (a .2)) d 1 (as-branch z (powers z (a .2))) us s c) g)
 
 -- at the lowest minimum
-pub reads-exactly : (e : Expr) → Allowed e → (d : ℕ) (us : List Symbol) → Stop 0 us → NoCall us → Post (Is e us) Never (reader d 0 (onto e us))
+pub reads-exactly : (e : Expr) → Well-formed e → (d : ℕ) (us : List Symbol) → Stop 0 us → NoCall us → Post (Is e us) Never (reader d 0 (onto e us))
 reads-exactly e a d us s c = exact e a (reads e a) d 0 (omega arith) us s c

@@ -6,7 +6,7 @@ use mathlib.Core.List.{List, [], _∷_}
 use lib.Dec.{ltb}
 use lib.ListN.{length}
 use Rattle.definitions.specs.TokenKind as K
-use Rattle.definitions.specs.C.{Symbol, plain, arguments, Turn, opens, closes, keeps, turn, Expr, prefix, bracketed, binary, ternary}
+use Rattle.definitions.specs.C.{Symbol, plain, arguments, Change, opens, closes, keeps, change, Expr, prefix, bracketed, binary, ternary}
 use Rattle.precedence.proofs.Pratt.{Operand, prefixes, brackets, names, literals, nothing, operand, Operator, asks, binds, operator, is, Res, done, report, refused, spent, Reader, bind, expect-if, expect, Args, closed, unclosed, push, args-turn, args, invoked, named, lhs-by, lhs, bind-if, ask-if, step-by, step, loop, reader, cell}
 use Rattle.precedence.proofs.Pratt as P
 
@@ -49,7 +49,7 @@ short-push : (x : Symbol) (a : ℕ) (y : Args) → Short a y → Short (suc a) (
 short-push x a (closed xs us) h = omega arith
 short-push x a unclosed h = tt
 
-short-turn : (t : Turn) (x : Symbol) (f : ℕ → Args) (us : List Symbol) (n : ℕ) → ((m : ℕ) → Short (length us) (f m))
+short-turn : (t : Change) (x : Symbol) (f : ℕ → Args) (us : List Symbol) (n : ℕ) → ((m : ℕ) → Short (length us) (f m))
     → Short (suc (length us)) (args-turn t x f us n)
 short-turn opens x f us n h = short-push x (length us) (f (suc n)) (h (suc n))
 short-turn closes x f us zero h = omega arith
@@ -58,7 +58,7 @@ short-turn keeps x f us n h = short-push x (length us) (f n) (h n)
 
 short : (us : List Symbol) (n : ℕ) → Short (length us) (args us n)
 short [] n = tt
-short (x ∷ us) n = short-turn (turn x) x (args us) us n (short us)
+short (x ∷ us) n = short-turn (change x) x (args us) us n (short us)
 
 invoked-fin : (a b : ℕ) (R : Type 0) (x : Args) → Short a x → a ≤ b → Fin b R (invoked x)
 invoked-fin a b R (closed xs us) h l = omega arith

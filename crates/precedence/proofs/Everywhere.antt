@@ -13,7 +13,7 @@ use Rattle.definitions.specs.Prog.{no, yes, Rule, item, propvalues, eat-cell, e
 use Rattle.definitions.specs.Check.{tell, if_then_else_, _and_, _or_, not!, bump!, expected, error-wrap, of-kind, set, silent, at, silent-eat, expect}
 use Rattle.definitions.specs.Grammar.{Cell, OPERATORS-SET, Reference, macro-invocation, dt-expr, eat-dts-include, eat-preprocessor-directive, eat-cell-body, grammar, Entry, SourceFile, ReferenceNoamp, PropValues, Cells, whole}
 use Rattle.definitions.specs.Skeleton.{Label, no-label, Skeleton, done, node, over, _⧺_}
-use Rattle.definitions.specs.Run.{State, Out, mark-of, peeked, truth, answer, makes, taken, add, perform, choose, closed, marked, exec, run}
+use Rattle.definitions.specs.Run.{State, Out, mark-of, peeked, truth, replies, makes, taken, add, perform, choose, closed, marked, exec, run}
 use Rattle.definitions.specs.Place.{after}
 use Rattle.definitions.specs.Report.{pushes}
 use Rattle.definitions.specs.Call.{run-entry}
@@ -21,7 +21,7 @@ use Rattle.laws.proofs.Trivia.{drop-twice, drop-trivia-length, passes-drop}
 use Rattle.laws.proofs.Skeleton.{join-done}
 use Rattle.laws.proofs.Kept.{Stands, stands-taken, run-kept, exec-kept}
 use Rattle.laws.proofs.Between.{Taking, reads-kept}
-use Rattle.laws.specs.Pushes.{Clear}
+use Rattle.laws.specs.Pushes.{None-exceeded}
 use Rattle.precedence.proofs.Pushed.{clear-inside, clear-first}
 use Rattle.precedence.proofs.Symbols.{test-one}
 use Rattle.precedence.proofs.Short.{exec-short}
@@ -65,13 +65,13 @@ module _ (n : ℕ) (below : (r : Rule) (s : State) → Made s (run n r s)) (b : 
   inside-is m m′ i j e = let z : j ⧺ done ≡ i = cc in sym (join-done j) ∙ z
 
   cell-celled : (s : State) (t : Token) (ts : List Token) → drop-trivia (s .rest) ≡ t ∷ ts → seen t ≡ K.LParen → Stands s
-      → Clear (pushes (does dt-expr s .made)) → (l : List Token) → drop-trivia l ≡ drop-trivia (s .since) → Cs.Cells (does dt-expr s .made) l
+      → None-exceeded (pushes (does dt-expr s .made)) → (l : List Token) → drop-trivia l ≡ drop-trivia (s .since) → Cs.Cells (does dt-expr s .made) l
   unfolding dt-expr exec marked makes add closed Cs.Cells only
   cell-celled s t ts e k h c l z =
       let ahead : drop-trivia (s .since) ≡ t ∷ ts = passes-drop (s .since) (s .rest) (h .passed) ∙ e in
       let d : CellNode s (does dt-expr s) = cells n b s h t ts ahead k .holds c in
       let i : does inside s .made ≡ d .i = inside-is (mark-of s) (mark-of (does dt-expr s .state)) (d .i) (does inside s .made) (d .made-is) in
-      let g : Clear (pushes (does inside s .made)) =
+      let g : None-exceeded (pushes (does inside s .made)) =
       clear-first (does inside s .made) done (clear-inside N.DtExpr (mark-of s) (mark-of (does dt-expr s .state)) done (does inside s .made ⧺ done) c) in
       let w : Cs.Cells (d .i) (drop-trivia l) = subst (λ (p : Skeleton). Cs.Cells p (drop-trivia l)) i (plain inside refl s .makes-it h .cells g (drop-trivia l) (drop-twice l ∙ z)) in
       subst (λ (p : Skeleton). Cs.Cells p l) (sym (d .made-is)) (
@@ -108,11 +108,11 @@ module _ (n : ℕ) (below : (r : Rule) (s : State) → Made s (run n r s)) (b : 
       (ran-ret no-cell Celled celled 0 yes (does dt-expr s .state) refl)
 
   fine-cell : (p : Prog) → Fine p → Fine (if silent (of-kind K.LParen) then dt-expr ⨟ tell yes else p)
-  unfolding silent exec perform answer peeked only
+  unfolding silent exec perform replies peeked only
   fine-cell p f s =
       let u = peeked s in
       let x = first-in (K.LParen ∷ []) (u .rest) in
-      ran-add no-cell Celled celled s (answer (truth x) u) (choose (truth x) (does p) (does (dt-expr ⨟ tell yes)) (does (dt-expr ⨟ tell yes)) u)
+      ran-add no-cell Celled celled s (replies (truth x) u) (choose (truth x) (does p) (does (dt-expr ⨟ tell yes)) (does (dt-expr ⨟ tell yes)) u)
       (plain (act (silent-at (K.LParen ∷ []))) refl s)
       (seen-by u (u .rest) x (drop-twice (s .rest)) refl p f)
 
@@ -177,6 +177,6 @@ run-celled (suc n) (eat-cell at-end) s = eat-cell-fine n (run-celled n) no-label
 run-celled (suc n) (expr-binding-power m) s = plain n (run-celled n) no-label (grammar (expr-binding-power m)) (plain-expr m) s
 
 -- EVERY DTEXPR of a whole run is a judged cell, if no limit was exceeded
-pub entry-cells : (e : Entry) (ts : List Token) → Clear (pushes (run-entry e ts)) → Cs.Cells (run-entry e ts) ts
+pub entry-cells : (e : Entry) (ts : List Token) → None-exceeded (pushes (run-entry e ts)) → Cs.Cells (run-entry e ts) ts
 unfolding run-entry
 entry-cells e ts c = plain MOST-OPEN-CALLS (run-celled MOST-OPEN-CALLS) no-label (whole e) (plain-whole e) (taken ts) .makes-it (stands-taken ts) .cells c ts refl

@@ -72,13 +72,13 @@ unfolding mark-list tokens-before
 found p size r = tokens-before p (r .buffers .trees) ∷ (mark-list (r .answer .report-count) (r .buffers .reports) ++ take size (drop (4 * p) (r .buffers .trees)))
 
 -- buffers with room enough
-room : Buffers
-room = record { events = replicate 400 7; trees = replicate 200 7; errors = replicate 9 7; reports = replicate 90 7; pool = replicate 200 7 }
+lent : Buffers
+lent = record { events = replicate 400 7; trees = replicate 200 7; errors = replicate 9 7; reports = replicate 90 7; pool = replicate 200 7 }
 
 called : List Example → List (List ℕ)
-unfolding found tree-rows call room
+unfolding found tree-rows call lent
 called [] = []
-called (x ∷ l) = found (x .row) (length (tree-rows (x .tree) (x .numbers) (x .before))) (call (x .entry) (x .input) (x .numbers) room) ∷ called l
+called (x ∷ l) = found (x .row) (length (tree-rows (x .tree) (x .numbers) (x .before))) (call (x .entry) (x .input) (x .numbers) lent) ∷ called l
 
 wanted : List Example → List (List ℕ)
 unfolding tree-rows

@@ -13,7 +13,7 @@ use Rattle.definitions.specs.Prog.{no, yes, Rule, immediate, add-expected, Prog
 use Rattle.definitions.specs.Check.{tell, not!, bump!, of-kind, at, expect}
 use Rattle.definitions.specs.Grammar.{macro-argument-turn, macro-invocation}
 use Rattle.definitions.specs.Skeleton.{Label, Skeleton, done, token, _⧺_}
-use Rattle.definitions.specs.Run.{State, Out, mark-of, truth, answer, makes, taken, add, perform, closed as closed-marker, marked, exec}
+use Rattle.definitions.specs.Run.{State, Out, mark-of, truth, replies, makes, taken, add, perform, closed as closed-marker, marked, exec}
 use Rattle.definitions.specs.C.{Symbol, symbols}
 use Rattle.definitions.specs.C as C
 use Rattle.laws.proofs.Trivia.{drop-none}
@@ -161,16 +161,16 @@ module _ (ask : Rule → State → Out) (b : Label) where
   -- a bracket directly after the name, nothing having been peeked yet
   glued : (ts : List Token) (x : Bool) → first-in (K.LParen ∷ []) ts ≡ x
       → Tests ask b (act (add-expected K.LParen) ⨟ act (immediate K.LParen)) (taken ts) (truth x)
-  unfolding exec add answer perform _⧺_
+  unfolding exec add replies perform _⧺_
   glued ts x g =
       record {
         tells = λ c.
             let u = expecting K.LParen (taken ts) in
             let p = exec ask b (act (add-expected K.LParen)) (taken ts) in
-            let e : p ≡ answer yes u = expected-is ask b K.LParen (taken ts) (clear-first (p .made) (exec ask b (act (immediate K.LParen)) (p .state) .made) c) in
+            let e : p ≡ replies yes u = expected-is ask b K.LParen (taken ts) (clear-first (p .made) (exec ask b (act (immediate K.LParen)) (p .state) .made) c) in
             record {
               to = u;
-              is = ap (λ (o : Out). add o (exec ask b (act (immediate K.LParen)) (o .state))) e ∙ ap (λ (y : Bool). answer (truth y) u) g;
+              is = ap (λ (o : Out). add o (exec ask b (act (immediate K.LParen)) (o .state))) e ∙ ap (λ (y : Bool). replies (truth y) u) g;
               stands = record { passed = stands-taken ts .passed };
               since-is = refl;
             };

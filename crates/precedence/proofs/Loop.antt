@@ -11,10 +11,10 @@ use Rattle.definitions.specs.Prog.{Ans, no, yes, again, Rule, expr-binding-powe
 use Rattle.definitions.specs.Check.{tell, if_then_else_}
 use Rattle.definitions.specs.Grammar.{lhs, infix-turn, expr-binding-power-body, grammar}
 use Rattle.definitions.specs.Skeleton.{Label, no-label, Skeleton, done, node, _⧺_}
-use Rattle.definitions.specs.Run.{State, Out, mark-of, answer, makes, add, closed, is-again, goes-on, unlinked, by-shape, links, chained, exec, run}
+use Rattle.definitions.specs.Run.{State, Out, mark-of, replies, makes, add, closed, is-again, goes-on, unlinked, by-shape, links, chained, exec, run}
 use Rattle.definitions.specs.Report.{Push, event, pushes}
 use Rattle.definitions.specs.C.{Symbol, symbols, Expr}
-use Rattle.laws.specs.Pushes.{Clear}
+use Rattle.laws.specs.Pushes.{None-exceeded}
 use Rattle.laws.proofs.Skeleton.{join-done, join-assoc, pushes-join, pushes-closed}
 use Rattle.laws.proofs.Kept.{Stands}
 use Rattle.precedence.specs.Nodes.{expr-nodes}
@@ -95,10 +95,10 @@ module _ (n : ℕ) (f : State → Out) (m : ℕ) (a i : Skeleton) (s : State) (o
   link-made : (r : List Push) × (pushes (linking n f m a i s o .made) ≡ pushes a ++ (event m ∷ (pushes i ++ (pushes (o .made) ++ r))))
   link-made = pushes-since m a i (o .made) (pushes (linking n f m a i s o .made)) (link-pushes n f m a i s o (links-pushes n f))
 
-  link-clear : Clear (pushes (linking n f m a i s o .made)) → Clear (pushes (o .made))
+  link-clear : None-exceeded (pushes (linking n f m a i s o .made)) → None-exceeded (pushes (o .made))
   link-clear c =
       let r = link-made in
-      let d : Clear (pushes a ++ (event m ∷ (pushes i ++ (pushes (o .made) ++ r .0)))) = subst Clear (r .1) c in
+      let d : None-exceeded (pushes a ++ (event m ∷ (pushes i ++ (pushes (o .made) ++ r .0)))) = subst None-exceeded (r .1) c in
       clear-append (pushes (o .made)) (r .0) (clear-append (pushes i) (pushes (o .made) ++ r .0) (clear-append (pushes a) (event m ∷ (pushes i ++ (pushes (o .made) ++ r .0))) d .1) .1) .0
 
   link-noted : (z : State) (vs : List Symbol) → Noted z vs (o .made) → Noted z vs (linking n f m a i s o .made)
@@ -194,21 +194,21 @@ module _ (ask : Rule → State → Out) (b : Label) (rec : Reader)
   -- what is to be shown of a chain under way
   abbrev Goes : (Expr → List Symbol → Res) → Type 0
   Goes more = (n m : ℕ) (a i : Skeleton) (s : State) (e : Expr) (us : List Symbol) → Holds z e us a i s → length (s .rest) < n
-      → Clear (pushes (links n turn m a i s .made)) → Follows z expr-nodes (more e us) (links n turn m a i s)
+      → None-exceeded (pushes (links n turn m a i s .made)) → Follows z expr-nodes (more e us) (links n turn m a i s)
 
   link-by : (more : Expr → List Symbol → Res) → Goes more → (n m : ℕ) (a i : Skeleton) (s : State) (e : Expr) (us : List Symbol) → Holds z e us a i s
-      → length (s .rest) < suc n → (x : Turned) (o : Out) → Turns s e x o → Clear (pushes (linking n turn m a i s o .made))
+      → length (s .rest) < suc n → (x : Turned) (o : Out) → Turns s e x o → None-exceeded (pushes (linking n turn m a i s o .made))
       → Follows z expr-nodes (then-more x more e us) (linking n turn m a i s o)
-  unfolding by-shape answer closed
+  unfolding by-shape replies closed
   link-by more later n m a i s e us h l stops o t c =
-      let g : Follows z expr-nodes (P.done e us) (linking n turn m a i s (answer yes (t .to))) =
+      let g : Follows z expr-nodes (P.done e us) (linking n turn m a i s (replies yes (t .to))) =
       ends-chain z e us m a (i ⧺ done) (t .to) (still-holds z e us a i s (t .to) (t .stands) (t .since-is) h) in
       subst (λ (o′ : Out). Follows z expr-nodes (P.done e us) (linking n turn m a i s o′)) (sym (t .is)) g
   link-by more later n m a i s e us h l (goes (P.done f vs)) o t c =
       let q = link-is n turn m a i s e f vs o t in
       subst (Follows z expr-nodes (more f vs)) (sym q)
       (later n (mark-of (o .state)) (node N.InfixExpr m (mark-of (o .state)) a (i ⧺ o .made) done) done (o .state) f vs (link-holds z e f us vs m a i s o h t)
-      (omega (arith, t .moved)) (subst (λ (o′ : Out). Clear (pushes (o′ .made))) q c))
+      (omega (arith, t .moved)) (subst (λ (o′ : Out). None-exceeded (pushes (o′ .made))) q c))
   link-by more later n m a i s e us h l (goes (P.report vs)) o t c =
       noted-from z s vs (linking n turn m a i s o .made) (h .tail) (link-noted n turn m a i s o s vs t)
   link-by more later n m a i s e us h l (goes refused) o t c = absurd t
@@ -259,9 +259,9 @@ module _ (ask : Rule → State → Out) (b : Label) (rec : Reader)
   chain-pushes s o true = links-pushes (suc (length (o .state .rest))) (exec ask b (infix-turn min)) (mark-of s) done (o .made) (o .state)
   chain-pushes s o false = unlinked-pushes (mark-of s) done (o .made) (o .ans) (o .state)
 
-  chain-clear : (s : State) (o : Out) (x : Bool) → Clear (pushes (chain-of s o x .made)) → Clear (pushes (o .made))
+  chain-clear : (s : State) (o : Out) (x : Bool) → None-exceeded (pushes (chain-of s o x .made)) → None-exceeded (pushes (o .made))
   unfolding pushes
-  chain-clear s o x c = let p = chain-pushes s o x in clear-append (pushes (o .made)) (p .rest) (subst Clear (p .is) c) .0
+  chain-clear s o x c = let p = chain-pushes s o x in clear-append (pushes (o .made)) (p .rest) (subst None-exceeded (p .is) c) .0
 
   chain-noted : (s : State) (o : Out) (x : Bool) (vs : List Symbol) → Noted s vs (o .made) → Noted s vs (chain-of s o x .made)
   unfolding pushes
@@ -276,7 +276,7 @@ module _ (ask : Rule → State → Out) (b : Label) (rec : Reader)
         tail = n .tail;
       }
 
-  chain-by : (s : State) (x : Res) (o : Out) → Begins s x o → Clear (pushes (chain-of s o (is-again (o .ans)) .made))
+  chain-by : (s : State) (x : Res) (o : Out) → Begins s x o → None-exceeded (pushes (chain-of s o (is-again (o .ans)) .made))
       → Follows s expr-nodes (bind x (λ e vs. loop rec (length vs) min e vs)) (chain-of s o (is-again (o .ans)))
   unfolding is-again pushes _⧺_
   chain-by s (P.done e vs) o d c =
@@ -285,7 +285,7 @@ module _ (ask : Rule → State → Out) (b : Label) (rec : Reader)
       record { same = d .1 .same; quiet-a = tt; quiet-i = d .1 .quiet; stands = d .1 .stands; left = d .1 .left; tail = d .1 .tail } in
       subst (λ (x : Bool). Follows s expr-nodes (loop rec (length vs) min e vs) (chain-of s o x)) (sym q)
       (loops ask b rec below min s (length vs) (suc (length (o .state .rest))) (mark-of s) done (o .made) (o .state) e vs h (omega arith)
-      (subst (λ (x : Bool). Clear (pushes (chain-of s o x .made))) q c))
+      (subst (λ (x : Bool). None-exceeded (pushes (chain-of s o x .made))) q c))
   chain-by s (P.report vs) o n c = chain-noted s o (is-again (o .ans)) vs n
   chain-by s refused o d c = absurd d
   chain-by s spent o d c = tt

@@ -16,7 +16,7 @@ use Rattle.definitions.specs.Report.{Push, event, reported, exceeded, pushes}
 use Rattle.definitions.specs.Call.{run-entry}
 use Rattle.laws.proofs.Marks.{Falls, entry-marks}
 use Rattle.laws.proofs.Placed.{lead-whole, front-whole}
-use Rattle.laws.specs.Pushes.{Clear}
+use Rattle.laws.specs.Pushes.{None-exceeded}
 use Rattle.precedence.proofs.Cell.{CellOf}
 use Rattle.precedence.proofs.Cells.{Cells}
 use Rattle.precedence.proofs.Everywhere.{entry-cells}
@@ -113,7 +113,7 @@ root-other PropValues h = omega arith
 root-other CellsEntry h = omega arith
 
 -- EVERY DTEXPR of a whole tree is settled
-pub entry-settled : (e : Entry) (ts : List Token) → Clear (pushes (run-entry e ts)) → Each (Settled (pushes (run-entry e ts))) ts (root (root-kind e) (run-entry e ts) ts)
+pub entry-settled : (e : Entry) (ts : List Token) → None-exceeded (pushes (run-entry e ts)) → Each (Settled (pushes (run-entry e ts))) ts (root (root-kind e) (run-entry e ts) ts)
 unfolding root Each Part
 entry-settled e ts c =
     let o = run-entry e ts in

@@ -3,7 +3,7 @@ use Prim.Native.Nat.{ℕ, suc, _+_, _*_, _-_, _≤_, _<_}
 use native.Mathlib.Omega.{arith}
 use mathlib.Core.Path.{_≡_, refl}
 use mathlib.Core.Logic.{_⊎_, inl, inr}
-use Rattle.definitions.specs.C.{plain, number-of, Expr, literal, name, invocation, bracketed, prefix, binary, ternary, precedence, Allowed}
+use Rattle.definitions.specs.C.{plain, line-of, Expr, literal, name, invocation, bracketed, prefix, binary, ternary, precedence, Well-formed}
 use Rattle.precedence.proofs.Pratt.{Operator, asks, binds, none, operator}
 use Rattle.precedence.proofs.Tables.{Powers, OperatorOf, operator-of}
 
@@ -14,7 +14,7 @@ lb name = 25
 lb (invocation xs) = 25
 lb (bracketed e) = 25
 lb (prefix k e) = 23
-lb (binary l k r) = 27 - 2 * number-of k
+lb (binary l k r) = 27 - 2 * line-of k
 lb (ternary c a b) = 2
 
 abbrev pub rb : Expr → ℕ
@@ -23,7 +23,7 @@ rb name = 26
 rb (invocation xs) = 26
 rb (bracketed e) = 26
 rb (prefix k e) = 24
-rb (binary l k r) = 28 - 2 * number-of k
+rb (binary l k r) = 28 - 2 * line-of k
 rb (ternary c a b) = 1
 
 -- p: the expression's number
@@ -41,17 +41,17 @@ pub record Asks (p l r : ℕ) : Type 0 where
 abbrev pub Has : Expr → Type 0
 Has e = Plain (precedence e) (lb e) (rb e) ⊎ Asks (precedence e) (lb e) (rb e)
 
-high-from : (k : ℕ) (x : Operator) → OperatorOf k x → number-of k ≤ 12
+high-from : (k : ℕ) (x : Operator) → OperatorOf k x → line-of k ≤ 12
 high-from k asks h = omega arith
 high-from k (binds j l r) h = omega arith
 high-from k none h = omega arith
 
-has-binary : (k : ℕ) → 1 ≤ number-of k → Plain (number-of k) (27 - 2 * number-of k) (28 - 2 * number-of k)
+has-binary : (k : ℕ) → 1 ≤ line-of k → Plain (line-of k) (27 - 2 * line-of k) (28 - 2 * line-of k)
 has-binary k h =
     let z = high-from k (operator (plain k)) (operator-of k) in
     record { left-is = omega arith; right-is = omega arith; low = h; high = z }
 
-pub powers : (e : Expr) → Allowed e → Has e
+pub powers : (e : Expr) → Well-formed e → Has e
 powers (literal k) a = inl (record { left-is = refl; right-is = refl; low = omega arith; high = omega arith })
 powers name a = inl (record { left-is = refl; right-is = refl; low = omega arith; high = omega arith })
 powers (invocation xs) a = inl (record { left-is = refl; right-is = refl; low = omega arith; high = omega arith })

@@ -7,7 +7,7 @@ use lib.ListN.{length}
 use Rattle.definitions.specs.TokenKind as K
 use Rattle.definitions.specs.Token.{one-of}
 use Rattle.definitions.specs.Grammar.{Level, ternary-level, binding-power, prefix-power, PREFIX-OPERATORS-SET}
-use Rattle.definitions.specs.C.{Symbol, plain, arguments, Turn, opens, closes, keeps, turn, Expr, literal, name, invocation, bracketed, prefix, binary, ternary}
+use Rattle.definitions.specs.C.{Symbol, plain, arguments, Change, opens, closes, keeps, change, Expr, literal, name, invocation, bracketed, prefix, binary, ternary}
 
 -- ---------------------------------------------------------------- what a symbol is, where an operand and where an operator is due
 
@@ -88,7 +88,7 @@ abbrev pub push : Symbol → Args → Args
 push x (closed xs us) = closed (x ∷ xs) us
 push x unclosed = unclosed
 
-abbrev pub args-turn : Turn → Symbol → (ℕ → Args) → List Symbol → ℕ → Args
+abbrev pub args-turn : Change → Symbol → (ℕ → Args) → List Symbol → ℕ → Args
 args-turn opens x f us n = push x (f (suc n))
 args-turn closes x f us zero = closed [] us
 args-turn closes x f us (suc n) = push x (f n)
@@ -97,7 +97,7 @@ args-turn keeps x f us n = push x (f n)
 -- n: the brackets open inside the list
 abbrev pub args : List Symbol → ℕ → Args
 args [] n = unclosed
-args (x ∷ us) n = args-turn (turn x) x (args us) us n
+args (x ∷ us) n = args-turn (change x) x (args us) us n
 
 abbrev pub invoked : Args → Res
 invoked (closed xs us) = done (invocation xs) us

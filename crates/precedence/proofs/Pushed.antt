@@ -5,7 +5,7 @@ use mathlib.Core.List.{List, [], _∷_, _++_}
 use Rattle.definitions.specs.Skeleton.{Report, Skeleton, done, _⧺_}
 use Rattle.definitions.specs.Run.{closed}
 use Rattle.definitions.specs.Report.{Push, event, reported, exceeded, pushes}
-use Rattle.laws.specs.Pushes.{Clear}
+use Rattle.laws.specs.Pushes.{None-exceeded}
 use Rattle.laws.proofs.Clear.{clear-append}
 use Rattle.laws.proofs.Skeleton.{pushes-join, pushes-closed}
 
@@ -39,10 +39,10 @@ reported-right (x ∷ k) h = there (reported-right k h)
 
 -- ---------------------------------------------------------------- skeletons
 
-pub clear-first : (p q : Skeleton) → Clear (pushes (p ⧺ q)) → Clear (pushes p)
+pub clear-first : (p q : Skeleton) → None-exceeded (pushes (p ⧺ q)) → None-exceeded (pushes p)
 clear-first p q c = clear-append (pushes p) (pushes q) (rw pushes-join at c) .0
 
-pub clear-second : (p q : Skeleton) → Clear (pushes (p ⧺ q)) → Clear (pushes q)
+pub clear-second : (p q : Skeleton) → None-exceeded (pushes (p ⧺ q)) → None-exceeded (pushes q)
 clear-second p q c = clear-append (pushes p) (pushes q) (rw pushes-join at c) .1
 
 pub quiet-join : (p q : Skeleton) → Quiet (pushes p) → Quiet (pushes q) → Quiet (pushes (p ⧺ q))
@@ -59,11 +59,11 @@ unfolding pushes
 quiet-done = tt
 
 -- a marker around a skeleton i, made to precede a
-pub clear-inside : (k m m′ : ℕ) (a i : Skeleton) → Clear (pushes (closed k m m′ a i)) → Clear (pushes i)
+pub clear-inside : (k m m′ : ℕ) (a i : Skeleton) → None-exceeded (pushes (closed k m m′ a i)) → None-exceeded (pushes i)
 clear-inside k m m′ a i c =
     clear-append (pushes i) (event m′ ∷ []) (clear-append (pushes a) (event m ∷ (pushes i ++ (event m′ ∷ []))) (rw pushes-closed at c) .1) .0
 
-pub clear-before : (k m m′ : ℕ) (a i : Skeleton) → Clear (pushes (closed k m m′ a i)) → Clear (pushes a)
+pub clear-before : (k m m′ : ℕ) (a i : Skeleton) → None-exceeded (pushes (closed k m m′ a i)) → None-exceeded (pushes a)
 clear-before k m m′ a i c = clear-append (pushes a) (event m ∷ (pushes i ++ (event m′ ∷ []))) (rw pushes-closed at c) .0
 
 pub quiet-closed : (k m m′ : ℕ) (a i : Skeleton) → Quiet (pushes a) → Quiet (pushes i) → Quiet (pushes (closed k m m′ a i))

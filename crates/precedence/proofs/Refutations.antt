@@ -10,9 +10,9 @@ use Rattle.definitions.specs.TokenKind as K
 use Rattle.definitions.specs.Token.{Token, tokens-of}
 use Rattle.definitions.specs.Skeleton.{_⧺_}
 use Rattle.definitions.specs.Place.{place, rows}
-use Rattle.definitions.specs.C.{symbols, number-in, Expr, binary, Gives}
+use Rattle.definitions.specs.C.{symbols, line-in, Expr, binary, Gives}
 use Rattle.definitions.specs.Call.{Result}
-use Rattle.precedence.specs.Precedence.{tokens-before, Starts-cell, Between, Holds, Judged}
+use Rattle.precedence.specs.Precedence.{tokens-before, Starts-cell, Between, Holds-tree, Judged}
 use Rattle.precedence.proofs.Witnesses.{token, one, numbers, its-brackets, its-tree, short-numbers, short-brackets, no-tree}
 
 -- what a call wrote of tree rows and of reports
@@ -34,8 +34,8 @@ abbrev sum-first : Expr
 sum-first = binary (binary one K.Plus one) K.Asterisk one
 
 not-given : Gives (symbols false (its-brackets .inner)) sum-first → ⊥
-unfolding number-in
-not-given g = omega (arith, g .allowed .3)
+unfolding line-in
+not-given g = omega (arith, g .well-formed .3)
 
 -- the rows of the right tree, and those of the other
 abbrev right : List ℕ
@@ -44,7 +44,7 @@ right = 0 ∷ 3 ∷ 7 ∷ 1 ∷ 0 ∷ 18 ∷ 7 ∷ 3 ∷ 1 ∷ 41 ∷ 1 ∷ 1 �
 abbrev wrong : List ℕ
 wrong = 0 ∷ 3 ∷ 7 ∷ 1 ∷ 0 ∷ 18 ∷ 7 ∷ 3 ∷ 1 ∷ 41 ∷ 1 ∷ 1 ∷ 0 ∷ 6 ∷ 5 ∷ 3 ∷ 0 ∷ 6 ∷ 3 ∷ 3 ∷ 0 ∷ 9 ∷ 1 ∷ 1 ∷ 1 ∷ 35 ∷ 1 ∷ 1 ∷ 1 ∷ 43 ∷ 1 ∷ 1 ∷ 0 ∷ 9 ∷ 1 ∷ 1 ∷ 1 ∷ 35 ∷ 1 ∷ 1 ∷ 1 ∷ 45 ∷ 1 ∷ 1 ∷ 0 ∷ 9 ∷ 1 ∷ 1 ∷ 1 ∷ 35 ∷ 1 ∷ 1 ∷ 1 ∷ 42 ∷ 1 ∷ 1 ∷ []
 
-not-held : Holds (tokens-of numbers) its-brackets (wrote 14 right 0 []) 1 sum-first → ⊥
+not-held : Holds-tree (tokens-of numbers) its-brackets (wrote 14 right 0 []) 1 sum-first → ⊥
 unfolding its-brackets rows place _⧺_
 not-held h = let n : _≡_ {A = ℕ} 9 6 = ap (λ (l : List ℕ). getD l 13 0) (h .rows-are) in omega arith
 

@@ -10,11 +10,11 @@ use Rattle.definitions.specs.Token.{Token, drop-trivia, first-in}
 use Rattle.definitions.specs.Prog.{Ans, no, yes, also, again, Rule, silent-at, immediate, add-expected, bump, less, Prog, ret, act, _⨟_, case, in-marker}
 use Rattle.definitions.specs.Check.{push-all}
 use Rattle.definitions.specs.Skeleton.{Label, Skeleton, done, token, _⧺_}
-use Rattle.definitions.specs.Run.{State, Out, mark-of, peeked, truth, answer, makes, taken, do-bump, add, over-unless, do-expected, perform, choose, marked, exec}
+use Rattle.definitions.specs.Run.{State, Out, mark-of, peeked, truth, replies, makes, taken, do-bump, add, over-unless, do-expected, perform, choose, marked, exec}
 use Rattle.definitions.specs.Report.{pushes}
 use Rattle.laws.proofs.Trivia.{passes-drop}
 use Rattle.laws.proofs.Kept.{Stands, stands-peeked}
-use Rattle.laws.specs.Pushes.{Clear}
+use Rattle.laws.specs.Pushes.{None-exceeded}
 use Rattle.precedence.proofs.Pushed.{clear-first, clear-second, clear-inside}
 
 -- the branch that an answer takes
@@ -43,7 +43,7 @@ Onward s P = (to : State) → Stands to → to .since ≡ s .since → P to
 module _ (ask : Rule → State → Out) (b : Label) where
   -- what a run satisfies, if it exceeds no limit
   pub record Ends (p : Prog) (s : State) (Q : Out → Type 0) : Type 0 where
-    pub holds : Clear (pushes (exec ask b p s .made)) → Q (exec ask b p s)
+    pub holds : None-exceeded (pushes (exec ask b p s .made)) → Q (exec ask b p s)
 
   choose-pick : (x : Ans) (n y a : Prog) (s : State) → choose x (exec ask b n) (exec ask b y) (exec ask b a) s ≡ exec ask b (pick x n y a) s
   unfolding choose
@@ -81,7 +81,7 @@ module _ (ask : Rule → State → Out) (b : Label) where
       let o′ : Out = exec ask b (pick (o .ans) n y a) (o .state) in
       record {
         holds =
-            subst (λ (x : Out). Clear (pushes (x .made)) → Q x) (sym (exec-case c n y a s))
+            subst (λ (x : Out). None-exceeded (pushes (x .made)) → Q x) (sym (exec-case c n y a s))
             (λ z. g o (h .holds (clear-first (o .made) (o′ .made) z)) .holds (clear-second (o .made) (o′ .made) z));
       }
 
@@ -100,21 +100,21 @@ module _ (ask : Rule → State → Out) (b : Label) where
   -- it answers a, makes nothing and takes nothing
   pub record Test (p : Prog) (s : State) (a : Ans) : Type 0 where
     pub to : State
-    pub is : exec ask b p s ≡ answer a to
+    pub is : exec ask b p s ≡ replies a to
     pub stands : Stands to
     pub since-is : to .since ≡ s .since
 
   pub record Tests (p : Prog) (s : State) (a : Ans) : Type 0 where
-    pub tells : Clear (pushes (exec ask b p s .made)) → Test p s a
+    pub tells : None-exceeded (pushes (exec ask b p s .made)) → Test p s a
 
   pub test-seq : {p q : Prog} {s : State} {a a′ : Ans} → Tests p s a → Onward s (λ to. Tests q to a′) → Tests (p ⨟ q) s a′
-  unfolding exec add answer _⧺_
+  unfolding exec add replies _⧺_
   test-seq {p} {q} {s} {a} {a′} h g =
       record {
         tells = λ c.
             let t : Test p s a = h .tells (clear-first (exec ask b p s .made) (exec ask b q (exec ask b p s .state) .made) c) in
-            let d : Clear (pushes (exec ask b q (t .to) .made)) =
-            subst (λ (o : Out). Clear (pushes (exec ask b q (o .state) .made))) (t .is)
+            let d : None-exceeded (pushes (exec ask b q (t .to) .made)) =
+            subst (λ (o : Out). None-exceeded (pushes (exec ask b q (o .state) .made))) (t .is)
             (clear-second (exec ask b p s .made) (exec ask b q (exec ask b p s .state) .made) c) in
             let u : Test q (t .to) a′ = g (t .to) (t .stands) (t .since-is) .tells d in
             record {
@@ -126,58 +126,58 @@ module _ (ask : Rule → State → Out) (b : Label) where
       }
 
   pub after-test : {p q : Prog} {s : State} {a : Ans} {Q : Out → Type 0} → Tests p s a → Onward s (λ to. Ends q to Q) → Ends (p ⨟ q) s Q
-  unfolding exec add answer _⧺_
+  unfolding exec add replies _⧺_
   after-test {p} {q} {s} {a} {Q} h g =
       record {
         holds = λ c.
             let t : Test p s a = h .tells (clear-first (exec ask b p s .made) (exec ask b q (exec ask b p s .state) .made) c) in
-            let d : Clear (pushes (exec ask b q (t .to) .made)) =
-            subst (λ (o : Out). Clear (pushes (exec ask b q (o .state) .made))) (t .is)
+            let d : None-exceeded (pushes (exec ask b q (t .to) .made)) =
+            subst (λ (o : Out). None-exceeded (pushes (exec ask b q (o .state) .made))) (t .is)
             (clear-second (exec ask b p s .made) (exec ask b q (exec ask b p s .state) .made) c) in
             subst (λ (o : Out). Q (add o (exec ask b q (o .state)))) (sym (t .is)) (g (t .to) (t .stands) (t .since-is) .holds d);
       }
 
   pub on-test : {c n y z : Prog} {s : State} {a : Ans} {Q : Out → Type 0} → Tests c s a → Onward s (λ to. Ends (pick a n y z) to Q) → Ends (case c n y z) s Q
-  unfolding add answer _⧺_
+  unfolding add replies _⧺_
   on-test {c} {n} {y} {z} {s} {a} {Q} h g =
       let f : Out → Out = λ o. add o (exec ask b (pick (o .ans) n y z) (o .state)) in
       record {
         holds =
-            subst (λ (x : Out). Clear (pushes (x .made)) → Q x) (sym (exec-case c n y z s))
+            subst (λ (x : Out). None-exceeded (pushes (x .made)) → Q x) (sym (exec-case c n y z s))
             λ k.
             let o : Out = exec ask b c s in
             let t : Test c s a = h .tells (clear-first (o .made) (exec ask b (pick (o .ans) n y z) (o .state) .made) k) in
             subst (λ (x : Out). Q (f x)) (sym (t .is))
-            (g (t .to) (t .stands) (t .since-is) .holds (subst (λ (x : Out). Clear (pushes (f x .made))) (t .is) k));
+            (g (t .to) (t .stands) (t .since-is) .holds (subst (λ (x : Out). None-exceeded (pushes (f x .made))) (t .is) k));
       }
 
   pub test-case : {c n y z : Prog} {s : State} {a a′ : Ans} → Tests c s a → Onward s (λ to. Tests (pick a n y z) to a′) → Tests (case c n y z) s a′
-  unfolding add answer _⧺_
+  unfolding add replies _⧺_
   test-case {c} {n} {y} {z} {s} {a} {a′} h g =
       let f : Out → Out = λ o. add o (exec ask b (pick (o .ans) n y z) (o .state)) in
       record {
         tells = λ k.
             let o : Out = exec ask b c s in
             let e : exec ask b (case c n y z) s ≡ f o = exec-case c n y z s in
-            let k′ : Clear (pushes (f o .made)) = subst (λ (x : Out). Clear (pushes (x .made))) e k in
+            let k′ : None-exceeded (pushes (f o .made)) = subst (λ (x : Out). None-exceeded (pushes (x .made))) e k in
             let t : Test c s a = h .tells (clear-first (o .made) (exec ask b (pick (o .ans) n y z) (o .state) .made) k′) in
-            let d : Clear (pushes (f (answer a (t .to)) .made)) = subst (λ (x : Out). Clear (pushes (f x .made))) (t .is) k′ in
+            let d : None-exceeded (pushes (f (replies a (t .to)) .made)) = subst (λ (x : Out). None-exceeded (pushes (f x .made))) (t .is) k′ in
             let u : Test (pick a n y z) (t .to) a′ = g (t .to) (t .stands) (t .since-is) .tells d in
             record { to = u .to; is = e ∙ ap f (t .is) ∙ u .is; stands = u .stands; since-is = u .since-is ∙ t .since-is };
       }
 
   pub test-tell : {a : Ans} {s : State} → Stands s → Tests (ret 0 a) s a
-  unfolding exec answer
+  unfolding exec replies
   test-tell {a} {s} h = record { tells = λ c. record { to = s; is = refl; stands = h; since-is = refl } }
 
   pub test-silent : {ks : List ℕ} {s : State} (l : List Token) → Stands s → drop-trivia (s .since) ≡ l → Tests (act (silent-at ks)) s (truth (first-in ks l))
-  unfolding exec perform peeked answer
+  unfolding exec perform peeked replies
   test-silent {ks} {s} l h e =
       record {
         tells = λ c.
             record {
               to = peeked s;
-              is = ap (λ (r : List Token). answer (truth (first-in ks r)) (peeked s)) (ahead s h ∙ e);
+              is = ap (λ (r : List Token). replies (truth (first-in ks r)) (peeked s)) (ahead s h ∙ e);
               stands = stands-peeked s h;
               since-is = refl;
             };
@@ -189,22 +189,22 @@ module _ (ask : Rule → State → Out) (b : Label) where
   silent-is {ks} {s} l x h e g = subst (λ (y : Bool). Tests (act (silent-at ks)) s (truth y)) g (test-silent l h e)
 
   pub test-less : {m n : ℕ} {s : State} → Stands s → Tests (act (less m n)) s (truth (ltb m n))
-  unfolding exec perform answer
+  unfolding exec perform replies
   test-less {s = s} h = record { tells = λ c. record { to = s; is = refl; stands = h; since-is = refl } }
 
   -- the token at the cursor
   pub test-immediate : {k : ℕ} {s : State} → Stands s → Tests (act (immediate k)) s (truth (first-in (k ∷ []) (s .rest)))
-  unfolding exec perform answer
+  unfolding exec perform replies
   test-immediate {s = s} h = record { tells = λ c. record { to = s; is = refl; stands = h; since-is = refl } }
 
-  room-clear : (x : Bool) (m : ℕ) → Clear (pushes (over-unless x m)) → over-unless x m ≡ done
+  room-clear : (x : Bool) (m : ℕ) → None-exceeded (pushes (over-unless x m)) → over-unless x m ≡ done
   unfolding over-unless pushes
   room-clear true m c = refl
   room-clear false m c = absurd c
 
-  pub expected-is : (k : ℕ) (s : State) → Clear (pushes (exec ask b (act (add-expected k)) s .made))
-      → exec ask b (act (add-expected k)) s ≡ answer yes (expecting k s)
-  unfolding exec perform do-expected makes answer
+  pub expected-is : (k : ℕ) (s : State) → None-exceeded (pushes (exec ask b (act (add-expected k)) s .made))
+      → exec ask b (act (add-expected k)) s ≡ replies yes (expecting k s)
+  unfolding exec perform do-expected makes replies
   expected-is k s c =
       ap (λ (p : Skeleton). makes yes p (expecting k s)) (room-clear (ltb (length (s .pending)) MOST-PENDING) (mark-of s) c)
 
@@ -233,6 +233,6 @@ module _ (ask : Rule → State → Out) (b : Label) where
   after-bump {q} {s} {Q} t ts h e g =
       record {
         holds =
-            subst (λ (o : Out). Clear (pushes (add o (exec ask b q (o .state)) .made)) → Q (add o (exec ask b q (o .state)))) (sym (bump-is s t ts h e))
+            subst (λ (o : Out). None-exceeded (pushes (add o (exec ask b q (o .state)) .made)) → Q (add o (exec ask b q (o .state)))) (sym (bump-is s t ts h e))
             (λ c. g .holds (clear-second (token t (length ts) done) (exec ask b q (taken ts) .made) c));
       }

@@ -10,7 +10,7 @@ use lib.ListN.{length, length-append}
 use Rattle.definitions.specs.Layout.{MOST-OPEN-CALLS}
 use Rattle.definitions.specs.TokenKind as K
 use Rattle.definitions.specs.Token.{Token, is-error, seen, trivia, drop-trivia, one-of, first-in}
-use Rattle.definitions.specs.C.{Symbol, plain, arguments, symbol, symbols, opens, turn}
+use Rattle.definitions.specs.C.{Symbol, plain, arguments, symbol, symbols, opens, change}
 use Rattle.laws.proofs.Trivia.{Solid, dropped-solid, drop-trivium, drop-none, drop-trivia-length, Passes, passes-all}
 
 -- ---------------------------------------------------------------- the first symbol
@@ -200,7 +200,7 @@ pub raw-kind : (t : Token) (j : ℕ) → j < 64 → (j ≡ K.Unrecognized → �
 unfolding seen is-error
 raw-kind t j l d = raw-by (t .kind) j l d (leb 64 (t .kind)) refl
 
-pub turn-opens : (b : Bool) (t : Token) → eqb (seen t) K.LParen ≡ true → turn (symbol b t) ≡ opens
+pub turn-opens : (b : Bool) (t : Token) → eqb (seen t) K.LParen ≡ true → change (symbol b t) ≡ opens
 unfolding symbol
 turn-opens true t e = rw e
 turn-opens false t e = rw e

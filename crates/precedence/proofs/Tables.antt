@@ -9,7 +9,7 @@ use borrow.Author.Tests.{ltb-true, ltb-false, leb-true, eqb-true, eqb-false, ne-
 use Rattle.definitions.specs.TokenKind as K
 use Rattle.definitions.specs.Token.{one-of}
 use Rattle.definitions.specs.Grammar.{Level, ternary-level, binding-power, PREFIX-OPERATORS-SET}
-use Rattle.definitions.specs.C.{Symbol, plain, arguments, Row, table, number-in, number-of, prefix-operators}
+use Rattle.definitions.specs.C.{Symbol, plain, arguments, Line, table, line-in, line-of, prefix-operators}
 use Rattle.precedence.specs.Tables.{Levels, None-has, Tables-agree}
 use Rattle.precedence.proofs.Pratt.{Operand, prefixes, brackets, names, literals, nothing, operand, Operator, asks, binds, none, level-of, operator, is}
 
@@ -48,12 +48,12 @@ one-of-large (x ∷ xs) k h l =
 
 -- ---------------------------------------------------------------- numbers and powers
 
-small-rows : List Row → Bool
+small-rows : List Line → Bool
 small-rows [] = true
 small-rows (r ∷ rs) = small (r .operators) && small-rows rs
 
-number-large : (rs : List Row) (k : ℕ) → small-rows rs ≡ true → 60 < k → number-in rs k ≡ 0
-unfolding small-rows number-in
+number-large : (rs : List Line) (k : ℕ) → small-rows rs ≡ true → 60 < k → line-in rs k ≡ 0
+unfolding small-rows line-in
 number-large [] k h l = refl
 number-large (r ∷ rs) k h l =
     let b = both (small (r .operators)) (small-rows rs) h in
@@ -77,10 +77,10 @@ agree k p (binds j l r) = eqb j k && (eqb (l + 2 * p) 27 && (eqb r (suc l) && (l
 agree k p none = eqb p 0
 
 agree-at : ℕ → Bool
-agree-at k = agree k (number-of k) (operator (plain k))
+agree-at k = agree k (line-of k) (operator (plain k))
 
 agree-small : below 61 agree-at ≡ true
-unfolding below one-of level-of number-in agree operator agree-at
+unfolding below one-of level-of line-in agree operator agree-at
 agree-small = refl
 
 agree-large : (k : ℕ) → 60 < k → agree-at k ≡ true
@@ -104,15 +104,15 @@ pub record Powers (p l r : ℕ) : Type 0 where
 
 -- what an operator is, in C's table
 abbrev pub OperatorOf : ℕ → Operator → Type 0
-OperatorOf k asks = (k ≡ K.QuestionMark) × (number-of k ≡ 0)
-OperatorOf k (binds j l r) = (j ≡ k) × Powers (number-of k) l r
-OperatorOf k none = number-of k ≡ 0
+OperatorOf k asks = (k ≡ K.QuestionMark) × (line-of k ≡ 0)
+OperatorOf k (binds j l r) = (j ≡ k) × Powers (line-of k) l r
+OperatorOf k none = line-of k ≡ 0
 
-operator-from : (k : ℕ) (x : Operator) → agree k (number-of k) x ≡ true → OperatorOf k x
+operator-from : (k : ℕ) (x : Operator) → agree k (line-of k) x ≡ true → OperatorOf k x
 unfolding agree
-operator-from k asks h = let b = both (eqb k K.QuestionMark) _ h in (eqb-true k K.QuestionMark (b .0), eqb-true (number-of k) 0 (b .1))
+operator-from k asks h = let b = both (eqb k K.QuestionMark) _ h in (eqb-true k K.QuestionMark (b .0), eqb-true (line-of k) 0 (b .1))
 operator-from k (binds j l r) h =
-    let p = number-of k in
+    let p = line-of k in
     let b = both (eqb j k) _ h in
     let c = both (eqb (l + 2 * p) 27) _ (b .1) in
     let d = both (eqb r (suc l)) _ (c .1) in
@@ -120,7 +120,7 @@ operator-from k (binds j l r) h =
       eqb-true j k (b .0),
       record { left-is = eqb-true (l + 2 * p) 27 (c .0); right-is = eqb-true r (suc l) (d .0); low = leb-true 3 p (e .0); high = leb-true p 12 (e .1) },
     )
-operator-from k none h = eqb-true (number-of k) 0 h
+operator-from k none h = eqb-true (line-of k) 0 h
 
 pub operator-of : (k : ℕ) → OperatorOf k (operator (plain k))
 unfolding agree-at
@@ -205,7 +205,7 @@ is-kind k arguments h = absurd (false≢true h)
 -- ---------------------------------------------------------------- the statement of specs/Tables.antt
 
 rows-agree : Levels binding-power
-unfolding number-in one-of
+unfolding line-in one-of
 rows-agree = (omega arith, (omega arith, (omega arith, (omega arith, (omega arith, (omega arith, (omega arith, (omega arith, (omega arith, (omega arith, tt))))))))))
 
 level-none : (ls : List Level) (k : ℕ) → None-has ls k → level-of ls k ≡ none
@@ -213,11 +213,11 @@ unfolding level-of
 level-none [] k h = refl
 level-none (l ∷ ls) k h = rw (h .0) (level-none ls k (h .1))
 
-none-by : (k : ℕ) (b : Bool) → OperatorOf k (cond b asks none) → number-of k ≡ 0
+none-by : (k : ℕ) (b : Bool) → OperatorOf k (cond b asks none) → line-of k ≡ 0
 none-by k true h = h .1
 none-by k false h = h
 
-unlisted : (k : ℕ) → None-has binding-power k → number-of k ≡ 0
+unlisted : (k : ℕ) → None-has binding-power k → line-of k ≡ 0
 unfolding operator
 unlisted k h =
     none-by k (one-of (ternary-level .kinds) k)
@@ -225,4 +225,4 @@ unlisted k h =
 
 -- THE TWO TABLES AGREE
 pub tables-agree : Tables-agree
-tables-agree = record { rows = rows-agree; all-of-them = unlisted; prefix-row = refl; ternary-lowest = omega arith; ternary-right = refl }
+tables-agree = record { lines = rows-agree; all-of-them = unlisted; prefix-line = refl; ternary-lowest = omega arith; ternary-right = refl }

@@ -23,9 +23,9 @@ use Rattle.laws.proofs.Tree.{leaves}
 use Rattle.laws.proofs.Decode.{row-count, rows-length}
 use Rattle.laws.proofs.Accepted.{accepted-call}
 use Rattle.precedence.specs.Nodes.{one, expr-nodes, cell}
-use Rattle.precedence.specs.Precedence.{tokens-before, mark-in, DtExpr-at, Starts-cell, Brackets, opening-index, Between, Holds, Judged, C-table, One-tree}
+use Rattle.precedence.specs.Precedence.{tokens-before, mark-in, DtExpr-at, Starts-cell, Brackets, opening-index, Between, Holds-tree, Judged, C-table, One-tree}
 use Rattle.precedence.proofs.Bare.{unique}
-use Rattle.laws.specs.Pushes.{Clear}
+use Rattle.laws.specs.Pushes.{None-exceeded}
 use Rattle.precedence.proofs.Pushed.{Reported}
 use Rattle.precedence.proofs.Symbols.{bracket-solid}
 use Rattle.precedence.proofs.Partner.{Partner, Heard-inside}
@@ -78,7 +78,7 @@ cell-rows e t ts k =
 
 -- ---------------------------------------------------------------- what an accepted call leaves
 
-module _ (e : Entry) (ts : List Token) (l : Buffers) (clear : Clear (pushes (run-entry e ts))) where
+module _ (e : Entry) (ts : List Token) (l : Buffers) (clear : None-exceeded (pushes (run-entry e ts))) where
   abbrev all : List Push
   all = pushes (run-entry e ts)
 
@@ -202,7 +202,7 @@ module _ (e : Entry) (ts : List Token) (l : Buffers) (clear : Clear (pushes (run
       behind-is : found p d .fact .behind ≡ b .inner ++ (b .closing ∷ b .after)
       behind-is = let x = found p d .fact .starts in let y = tokens-are in cc
 
-      holds : (f : Expr) → found p d .children ≡ place (one ⧺ (expr-nodes f ⧺ one)) (drop (tokens-before p (r .buffers .trees)) ts) → Holds ts b r p f
+      holds : (f : Expr) → found p d .children ≡ place (one ⧺ (expr-nodes f ⧺ one)) (drop (tokens-before p (r .buffers .trees)) ts) → Holds-tree ts b r p f
       holds f h =
           let c = ap (λ (us : List Token). place (one ⧺ (expr-nodes f ⧺ one)) us) tokens-are in
           let w = cell-rows f (b .opening) (b .inner ++ (b .closing ∷ b .after)) (seen-of (b .opening) K.LParen (b .opens) refl) in
@@ -217,7 +217,7 @@ module _ (e : Entry) (ts : List Token) (l : Buffers) (clear : Clear (pushes (run
           record {
             tree = λ f g. (
               none-between (found p d .fact .behind) behind-is (c .silent),
-              subst (Holds ts b r p) (unique (symbols false (b .inner)) (c .tree) f (c .gives) g) (holds (c .tree) (c .holds)),
+              subst (Holds-tree ts b r p) (unique (symbols false (b .inner)) (c .tree) f (c .gives) g) (holds (c .tree) (c .holds)),
             );
             no-tree = λ h. absurd (h (c .tree) (c .gives));
           }
@@ -239,7 +239,7 @@ pub c-table : C-table
 c-table n bytes tokens l h =
     let a = accepted-call n bytes tokens l h in
     let o = run-entry (a .entry) (tokens-of tokens) in
-    let c : Clear (pushes o) = fits-clear (pushes o) _ (a .left) (a .fitted) in
+    let c : None-exceeded (pushes o) = fits-clear (pushes o) _ (a .left) (a .fitted) in
     subst
     (λ (r : Result). (p : ℕ) → DtExpr-at p r → Starts-cell (tokens-of tokens) p r
     × ((b : Brackets (tokens-of tokens)) → opening-index (tokens-of tokens) b ≡ tokens-before p (r .buffers .trees) → Judged (tokens-of tokens) b r p))
@@ -251,7 +251,7 @@ pub answered : (n : ℕ) (bytes tokens : List ℕ) (l : Buffers) → call n byte
 answered n bytes tokens l h =
     let a = accepted-call n bytes tokens l h in
     let o = run-entry (a .entry) (tokens-of tokens) in
-    let c : Clear (pushes o) = fits-clear (pushes o) _ (a .left) (a .fitted) in
+    let c : None-exceeded (pushes o) = fits-clear (pushes o) _ (a .left) (a .fitted) in
     subst (λ (r : Result). (p : ℕ) → DtExpr-at p r → Answered (tokens-of tokens) p r) (sym (a .returns)) (λ p d. answers (a .entry) (tokens-of tokens) l c p d)
 
 -- C'S TABLE GIVES ONE TREE

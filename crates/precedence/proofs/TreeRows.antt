@@ -14,7 +14,7 @@ use Rattle.definitions.specs.Token.{Token, byte-count}
 use Rattle.definitions.specs.Place.{Tree, nil, leaf, subtree, width, count, rows}
 use Rattle.laws.proofs.Tree.{leaves}
 use Rattle.laws.proofs.Decode.{row-count, rows-length}
-use Rattle.precedence.specs.Precedence.{tree-row, tokens-before}
+use Rattle.precedence.specs.Precedence.{tree-row-at, tokens-before}
 use Rattle.precedence.proofs.Settle.{Each}
 
 four : (q : ℕ) → 4 * suc q ≡ suc (suc (suc (suc (4 * q))))
@@ -54,7 +54,7 @@ pub record Found (Q : List Token → Tree → Type 0) (ts : List Token) (p : ℕ
 
 -- row p of l is a DtExpr's
 abbrev pub Is-cell : ℕ → List ℕ → Type 0
-Is-cell p l = (w : ℕ) × (n : ℕ) × (tree-row p l ≡ 0 ∷ N.DtExpr ∷ w ∷ n ∷ [])
+Is-cell p l = (w : ℕ) × (n : ℕ) × (tree-row-at p l ≡ 0 ∷ N.DtExpr ∷ w ∷ n ∷ [])
 
 module _ (Q : List Token → Tree → Type 0) where
   abbrev Finds : Tree → Type 0

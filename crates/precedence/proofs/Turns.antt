@@ -14,7 +14,7 @@ use Rattle.definitions.specs.Prog.{no, yes, again, Rule, expr-binding-power, le
 use Rattle.definitions.specs.Check.{tell, if_then_else_, _and_, bump!, of-kind, silent, expect}
 use Rattle.definitions.specs.Grammar.{Level, ternary-level, binding-power, rhs, infix-levels, infix-turn}
 use Rattle.definitions.specs.Skeleton.{Label, Skeleton, done, _⧺_}
-use Rattle.definitions.specs.Run.{State, Out, truth, answer, makes, taken, add}
+use Rattle.definitions.specs.Run.{State, Out, truth, replies, makes, taken, add}
 use Rattle.definitions.specs.C.{Symbol, symbols, Expr, binary, ternary}
 use Rattle.definitions.specs.C as C
 use Rattle.laws.proofs.Trivia.{drop-trivia-length, passes-length}
@@ -128,7 +128,7 @@ pub record Linked (s : State) (e f : Expr) (vs : List Symbol) (o : Out) : Type 0
 -- nothing was made and nothing taken
 pub record Stays (s : State) (o : Out) : Type 0 where
   pub to : State
-  pub is : o ≡ answer yes to
+  pub is : o ≡ replies yes to
   pub stands : Stands to
   pub since-is : to .since ≡ s .since
 
@@ -257,7 +257,7 @@ module _ (ask : Rule → State → Out) (b : Label) (rec : Reader)
   -- ---------------------------------------------------------------- the tests, one after the other
 
   stays : (to : State) → Stands to → to .since ≡ s .since → Ends ask b (tell yes) to (Stays s)
-  unfolding answer
+  unfolding replies
   stays to st si = ends-ret ask b (record { to = to; is = refl; stands = st; since-is = si })
 
   -- the minimum keeps the operator out, or not
@@ -320,7 +320,7 @@ module _ (ask : Rule → State → Out) (b : Label) (rec : Reader)
 -- at the end of the input
 module _ (ask : Rule → State → Out) (b : Label) where
   levels-end : (m : ℕ) (ls : List Level) (s to : State) → Stands to → to .since ≡ s .since → drop-trivia (s .since) ≡ [] → Ends ask b (infix-levels m ls) to (Stays s)
-  unfolding infix-levels silent first-in answer
+  unfolding infix-levels silent first-in replies
   levels-end m [] s to st si e = ends-ret ask b (record { to = to; is = refl; stands = st; since-is = si })
   levels-end m (l ∷ ls) s to st si e =
       on-test ask b (silent-is ask b [] false st (ap drop-trivia si ∙ e) refl) (λ u g i. levels-end m ls s u g (i ∙ si) e)

@@ -8,9 +8,9 @@ use mathlib.Core.List.{List, [], _∷_}
 use lib.ListN.{replicate}
 use Rattle.definitions.specs.TokenKind as K
 use Rattle.definitions.specs.Token.{Token, tokens-of, one-of}
-use Rattle.definitions.specs.C.{symbols, Expr, literal, bracketed, binary, Gives, number-in}
+use Rattle.definitions.specs.C.{symbols, Expr, literal, bracketed, binary, Gives, line-in}
 use Rattle.definitions.specs.Call.{Buffers, Result, call}
-use Rattle.precedence.specs.Precedence.{tokens-before, DtExpr-at, Starts-cell, Brackets, Between, Holds, Judged}
+use Rattle.precedence.specs.Precedence.{tokens-before, DtExpr-at, Starts-cell, Brackets, Between, Holds-tree, Judged}
 use Rattle.precedence.proofs.Theorem.{c-table, one-tree}
 
 -- a token of one byte
@@ -18,8 +18,8 @@ abbrev pub token : ℕ → Token
 token k = record { kind = k; len = 1 }
 
 -- buffers with room enough
-abbrev pub room : Buffers
-room = let l : List ℕ = replicate 99 7 in record { events = l; trees = l; errors = l; reports = l; pool = l }
+abbrev pub lent : Buffers
+lent = let l : List ℕ = replicate 99 7 in record { events = l; trees = l; errors = l; reports = l; pool = l }
 
 abbrev pub one : Expr
 one = literal K.Number
@@ -31,7 +31,7 @@ abbrev pub numbers : List ℕ
 numbers = 41 ∷ 1 ∷ 35 ∷ 1 ∷ 43 ∷ 1 ∷ 35 ∷ 1 ∷ 45 ∷ 1 ∷ 35 ∷ 1 ∷ 42 ∷ 1 ∷ []
 
 abbrev pub parsed : Result
-parsed = call 4 (40 ∷ 49 ∷ 43 ∷ 50 ∷ 42 ∷ 51 ∷ 41 ∷ []) numbers room
+parsed = call 4 (40 ∷ 49 ∷ 43 ∷ 50 ∷ 42 ∷ 51 ∷ 41 ∷ []) numbers lent
 
 unfoldable pub its-brackets : Brackets (tokens-of numbers)
 unfolding tokens-of symbols
@@ -54,15 +54,15 @@ its-row = record { written = omega arith; width = 7; count = 3; row = refl }
 
 -- product before sum
 pub its-tree : Gives (symbols false (its-brackets .inner)) (binary one K.Plus (binary one K.Asterisk one))
-unfolding its-brackets symbols number-in
-its-tree = record { allowed = (omega arith, refl, (omega arith, refl, refl, omega arith, omega arith), omega arith, omega arith); symbols-are = refl }
+unfolding its-brackets symbols line-in
+its-tree = record { well-formed = (omega arith, refl, (omega arith, refl, refl, omega arith, omega arith), omega arith, omega arith); symbols-are = refl }
 
 its-judgement : Starts-cell (tokens-of numbers) 1 parsed × Judged (tokens-of numbers) its-brackets parsed 1
 unfolding call its-brackets tokens-before
-its-judgement = let c = c-table 4 (40 ∷ 49 ∷ 43 ∷ 50 ∷ 42 ∷ 51 ∷ 41 ∷ []) numbers room refl 1 its-row in (c .0, c .1 its-brackets refl)
+its-judgement = let c = c-table 4 (40 ∷ 49 ∷ 43 ∷ 50 ∷ 42 ∷ 51 ∷ 41 ∷ []) numbers lent refl 1 its-row in (c .0, c .1 its-brackets refl)
 
 -- no report, and the tree
-its-answer : ((q : ℕ) → Between (tokens-of numbers) its-brackets parsed q → ⊥) × Holds (tokens-of numbers) its-brackets parsed 1 (binary one K.Plus (binary one K.Asterisk one))
+its-answer : ((q : ℕ) → Between (tokens-of numbers) its-brackets parsed q → ⊥) × Holds-tree (tokens-of numbers) its-brackets parsed 1 (binary one K.Plus (binary one K.Asterisk one))
 its-answer = its-judgement .1 .tree _ its-tree
 
 -- and no other tree is given
@@ -93,15 +93,15 @@ inside-a-file =
       balanced = refl;
     }
 
-file-judgement : Judged (tokens-of file-numbers) inside-a-file (call 1 file-input file-numbers room) 7
+file-judgement : Judged (tokens-of file-numbers) inside-a-file (call 1 file-input file-numbers lent) 7
 unfolding call inside-a-file tokens-before
-file-judgement = c-table 1 file-input file-numbers room refl 7 (record { written = omega arith; width = 5; count = 3; row = refl }) .1 inside-a-file refl
+file-judgement = c-table 1 file-input file-numbers lent refl 7 (record { written = omega arith; width = 5; count = 3; row = refl }) .1 inside-a-file refl
 
 bracketed-one : Gives (symbols false (inside-a-file .inner)) (bracketed one)
 unfolding inside-a-file symbols one-of
-bracketed-one = record { allowed = refl; symbols-are = refl }
+bracketed-one = record { well-formed = refl; symbols-are = refl }
 
-file-answer : Holds (tokens-of file-numbers) inside-a-file (call 1 file-input file-numbers room) 7 (bracketed one)
+file-answer : Holds-tree (tokens-of file-numbers) inside-a-file (call 1 file-input file-numbers lent) 7 (bracketed one)
 file-answer = file-judgement .tree _ bracketed-one .1
 
 -- ---------------------------------------------------------------- a cell without a tree
@@ -111,7 +111,7 @@ abbrev pub short-numbers : List ℕ
 short-numbers = 41 ∷ 1 ∷ 35 ∷ 1 ∷ 43 ∷ 1 ∷ 42 ∷ 1 ∷ []
 
 abbrev short-parsed : Result
-short-parsed = call 4 (40 ∷ 49 ∷ 43 ∷ 41 ∷ []) short-numbers room
+short-parsed = call 4 (40 ∷ 49 ∷ 43 ∷ 41 ∷ []) short-numbers lent
 
 unfoldable pub short-brackets : Brackets (tokens-of short-numbers)
 unfolding tokens-of symbols
@@ -130,7 +130,7 @@ short-brackets =
 
 short-judgement : Judged (tokens-of short-numbers) short-brackets short-parsed 1
 unfolding call short-brackets tokens-before
-short-judgement = c-table 4 (40 ∷ 49 ∷ 43 ∷ 41 ∷ []) short-numbers room refl 1 (record { written = omega arith; width = 4; count = 3; row = refl }) .1 short-brackets refl
+short-judgement = c-table 4 (40 ∷ 49 ∷ 43 ∷ 41 ∷ []) short-numbers lent refl 1 (record { written = omega arith; width = 4; count = 3; row = refl }) .1 short-brackets refl
 
 its-report : Between (tokens-of short-numbers) short-brackets short-parsed 0
 unfolding call short-brackets

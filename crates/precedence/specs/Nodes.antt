@@ -7,7 +7,7 @@ use lib.Dec.{eqb}
 use Rattle.definitions.specs.TokenKind as K
 use Rattle.definitions.specs.NodeKind as N
 use Rattle.definitions.specs.Skeleton.{Skeleton, done, token, node, _⧺_}
-use Rattle.definitions.specs.C.{Symbol, plain, arguments, Turn, opens, closes, keeps, turn, Expr, literal, name, invocation, bracketed, prefix, binary, ternary}
+use Rattle.definitions.specs.C.{Symbol, plain, arguments, Change, opens, closes, keeps, change, Expr, literal, name, invocation, bracketed, prefix, binary, ternary}
 
 -- the next token that is not trivia; `place` takes it from the raw tokens, and looks at no mark
 abbrev pub one : Skeleton
@@ -32,24 +32,24 @@ abbrev pub taking : Split → Split
 taking s = record { first = one ⧺ s .first; later = s .later }
 
 -- the comma of an outer argument list
-abbrev pub ended : Split → Split
-ended s = record { first = done; later = one ⧺ argument s }
+abbrev pub next-argument : Split → Split
+next-argument s = record { first = done; later = one ⧺ argument s }
 
 abbrev pub is-comma : Symbol → Bool
 is-comma (plain k) = eqb k K.Comma
 is-comma arguments = Bool.false
 
 -- in so many inner brackets
-abbrev pub split-turn : Turn → Symbol → (ℕ → Split) → ℕ → Split
-split-turn opens x f n = taking (f (suc n))
-split-turn closes x f zero = taking (f zero)
-split-turn closes x f (suc n) = taking (f n)
-split-turn keeps x f zero = let s = f zero in cond (is-comma x) (ended s) (taking s)
-split-turn keeps x f (suc n) = taking (f (suc n))
+abbrev pub split-change : Change → Symbol → (ℕ → Split) → ℕ → Split
+split-change opens x f n = taking (f (suc n))
+split-change closes x f zero = taking (f zero)
+split-change closes x f (suc n) = taking (f n)
+split-change keeps x f zero = let s = f zero in cond (is-comma x) (next-argument s) (taking s)
+split-change keeps x f (suc n) = taking (f (suc n))
 
 abbrev pub split : List Symbol → ℕ → Split
 split [] n = record { first = done; later = done }
-split (x ∷ xs) n = split-turn (turn x) x (split xs) n
+split (x ∷ xs) n = split-change (change x) x (split xs) n
 
 -- no argument between two brackets that stand next to each other
 abbrev pub argument-list : List Symbol → Skeleton

@@ -20,8 +20,8 @@ use Rattle.precedence.specs.Nodes.{cell}
 -- ---------------------------------------------------------------- rows
 
 -- the numbers of tree row p: class, kind, width, count
-abbrev pub tree-row : ℕ → List ℕ → List ℕ
-tree-row p l = take TREE-ROW (drop (TREE-ROW * p) l)
+abbrev pub tree-row-at : ℕ → List ℕ → List ℕ
+tree-row-at p l = take TREE-ROW (drop (TREE-ROW * p) l)
 
 -- how many raw tokens stand before tree row p: the counts of the leaves before it
 unfoldable pub tokens-before : ℕ → List ℕ → ℕ
@@ -43,12 +43,12 @@ pub record DtExpr-at (p : ℕ) (r : Result) : Type 0 where
   pub written : p < r .answer .tree-count
   pub width : ℕ
   pub count : ℕ
-  pub row : tree-row p (r .buffers .trees) ≡ NODE ∷ N.DtExpr ∷ width ∷ count ∷ []
+  pub row : tree-row-at p (r .buffers .trees) ≡ NODE ∷ N.DtExpr ∷ width ∷ count ∷ []
 
 -- "Starts a cell": the DtExpr's first child is the leaf of an LParen, and the index of that LParen is the number of tokens before the DtExpr.
 pub record Starts-cell (ts : List Token) (p : ℕ) (r : Result) : Type 0 where
   pub width : ℕ
-  pub row : tree-row (suc p) (r .buffers .trees) ≡ LEAF ∷ K.LParen ∷ width ∷ 1 ∷ []
+  pub row : tree-row-at (suc p) (r .buffers .trees) ≡ LEAF ∷ K.LParen ∷ width ∷ 1 ∷ []
   pub bracket : Token
   pub after : List Token
   pub token-is : drop (tokens-before p (r .buffers .trees)) ts ≡ bracket ∷ after
@@ -80,14 +80,14 @@ pub record Between (ts : List Token) (b : Brackets ts) (r : Result) (q : ℕ) : 
   pub at-most : mark-in q (r .buffers .reports) ≤ closing-index ts b
 
 -- the rows from p on are those of the DtExpr that holds the tree e, the trivia among the tokens being where the sink puts them
-pub record Holds (ts : List Token) (b : Brackets ts) (r : Result) (p : ℕ) (e : Expr) : Type 0 where
+pub record Holds-tree (ts : List Token) (b : Brackets ts) (r : Result) (p : ℕ) (e : Expr) : Type 0 where
   pub more : List ℕ
   pub rows-are : drop (TREE-ROW * p) (r .buffers .trees) ≡ rows (place (cell e) (b .opening ∷ (b .inner ++ (b .closing ∷ b .after)))) ++ more
 
 -- the judgement of the tokens between the brackets
 pub record Judged (ts : List Token) (b : Brackets ts) (r : Result) (p : ℕ) : Type 0 where
   -- if C's table gives them a tree, no report has such a mark, and the DtExpr holds that tree
-  pub tree : (e : Expr) → Gives (symbols false (b .inner)) e → ((q : ℕ) → Between ts b r q → ⊥) × Holds ts b r p e
+  pub tree : (e : Expr) → Gives (symbols false (b .inner)) e → ((q : ℕ) → Between ts b r q → ⊥) × Holds-tree ts b r p e
   -- otherwise some report has
   pub no-tree : ((e : Expr) → Gives (symbols false (b .inner)) e → ⊥) → (q : ℕ) × Between ts b r q
 

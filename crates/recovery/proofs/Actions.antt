@@ -13,7 +13,7 @@ use Rattle.definitions.specs.Errors as E
 use Rattle.definitions.specs.Token.{Token, seen, trivia, drop-trivia, past, ended, one-of, first-in}
 use Rattle.definitions.specs.Prog.{Ans, no, yes, also, again, Act, silent-at, at-end, immediate, immediate-next, add-expected, bump, bump-name, bump-argument, emit, emit-unclosed, less}
 use Rattle.definitions.specs.Skeleton.{Label, no-label, Skeleton, done, token}
-use Rattle.definitions.specs.Run.{State, Out, mark-of, peeked, truth, answer, makes, taken, do-bump, do-name, add, at-depth, do-argument, do-emit, over-unless, do-expected, perform}
+use Rattle.definitions.specs.Run.{State, Out, mark-of, peeked, truth, replies, makes, taken, do-bump, do-name, add, at-depth, do-argument, do-emit, over-unless, do-expected, perform}
 use Rattle.definitions.specs.Place.{Tree, nil, leaf, _⊕_, lead, front, after, place}
 use Rattle.definitions.specs.Report.{pushes, reports}
 use Rattle.basics.proofs.Tests.{and-left, and-right, cond-all}
@@ -134,12 +134,12 @@ module _ (h : Bool) (s : State) (ts : List Token) (A : At s ts) (x : Head h s) w
   none-holds u = record { still = λ y. absurd (false≢true y); head = λ _. refl; tail = none-tail h _; part = tt }
 
   bump-holds : (us : List Token) → us ≡ drop-trivia (s .rest) → (u : State) → Holds (know true (ends h) low) s ts (do-bump u us .made) (do-bump u us .state)
-  unfolding do-bump answer makes
+  unfolding do-bump replies makes
   bump-holds [] e u = none-holds u
   bump-holds (t ∷ us) e u = token-holds t us e
 
   name-holds : (ks : List ℕ) (us : List Token) (u : State) → Holds (know true low low) s ts (do-name ks u us .made) (do-name ks u us .state)
-  unfolding do-name answer makes place _⊕_ ends-in Quiet
+  unfolding do-name replies makes place _⊕_ ends-in Quiet
   name-holds ks [] u = looks true s u ts done refl (λ _. refl)
   name-holds ks (t ∷ us) u =
       record {
@@ -156,7 +156,7 @@ room-placed false m ts = refl
 
 -- no action shapes a marker
 argument-shape : (n : ℕ) (s : State) (ts : List Token) → do-argument n s ts .shape ≡ 0
-unfolding do-argument answer makes add at-depth
+unfolding do-argument replies makes add at-depth
 argument-shape n s [] = refl
 argument-shape n s (t ∷ ts) =
     let Z : Out → Type 0 = λ (o : Out). o .shape ≡ 0 in
@@ -170,12 +170,12 @@ argument-shape n s (t ∷ ts) =
     deep (suc n) o f p q = q n
 
 bump-yes : (P : Post) (d : Known) (s : State) (us : List Token) → P 0 yes d ≡ true → P (do-bump s us .shape) (do-bump s us .ans) d ≡ true
-unfolding do-bump answer makes
+unfolding do-bump replies makes
 bump-yes P d s [] e = e
 bump-yes P d s (t ∷ us) e = e
 
 name-yes : (P : Post) (d : Known) (ks : List ℕ) (s : State) (us : List Token) → P 0 yes d ≡ true → P (do-name ks s us .shape) (do-name ks s us .ans) d ≡ true
-unfolding do-name answer makes
+unfolding do-name replies makes
 name-yes P d ks s [] e = e
 name-yes P d ks s (t ∷ us) e = e
 
@@ -187,8 +187,8 @@ asked P s u ts n y false e p q = record { known = n; post = and-left (P 0 no n) 
 
 module _ (P : Post) (h : Bool) (s : State) (ts : List Token) (A : At s ts) (x : Head h s) where
   -- a question that moves nothing
-  asked-still : (b : Bool) → P 0 no (idle h) && P 0 yes (idle h) ≡ true → Ending P s ts (answer (truth b) s)
-  unfolding answer
+  asked-still : (b : Bool) → P 0 no (idle h) && P 0 yes (idle h) ≡ true → Ending P s ts (replies (truth b) s)
+  unfolding replies
   asked-still b e = asked P s s ts (idle h) (idle h) b e (λ _. stays h s ts x) (λ _. stays h s ts x)
 
   emit-ends : (m k : ℕ) (l : Label) → P 0 yes (know h low low) ≡ true → Ending P s ts (do-emit m k l (peeked s))
@@ -196,7 +196,7 @@ module _ (P : Post) (h : Bool) (s : State) (ts : List Token) (A : At s ts) (x : 
   emit-ends m k l e = record { known = know h low low; post = e; holds = looks h s (peeked s) ts _ refl (peek-head h s x) }
 
   pub act-ends : (b : Label) (a : Act) → act-surely a P h ≡ true → Ending P s ts (perform b a s)
-  unfolding act-surely perform answer do-expected makes place
+  unfolding act-surely perform replies do-expected makes place
   act-ends b (silent-at ks) e =
       asked P s (peeked s) ts _ _ (first-in ks (peeked s .rest)) e
       (λ z. looks _ s (peeked s) ts done refl (λ y. both h _ (peek-head h s x y) (ap not (sym (first-semicolon ks (peeked s .rest) (at-peeked y)) ∙ z))))

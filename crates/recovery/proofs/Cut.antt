@@ -10,7 +10,7 @@ use Rattle.definitions.specs.Token.{Token, byte-count}
 use Rattle.definitions.specs.Place.{Tree, nil, leaf, subtree, _⊕_, width, count}
 use Rattle.laws.proofs.Skeleton.{bytes-append}
 use Rattle.laws.proofs.Tree.{leaves, count-beside}
-use Rattle.recovery.specs.ResultRows.{Row, class, kind, Parts, over-leaves, raw-tokens, raw-bytes}
+use Rattle.recovery.specs.ResultRows.{Row, class, kind, Subtrees, over-leaves, raw-tokens, raw-bytes}
 use Rattle.recovery.specs.ResultRows as S
 use Rattle.recovery.specs.Recovery.{is-statement, Semicolon}
 use Rattle.recovery.proofs.Written.{rows-of}
@@ -36,7 +36,7 @@ leaf-node r k w n e h = let z : _≡_ {A = ℕ} 0 1 = sym (ap class e) ∙ h in 
 -- ---------------------------------------------------------------- rows of whole parts
 
 -- the rows of all the parts of c are just the parts that they begin with
-pub whole-parts : {n : ℕ} {l : List Row} → Parts n l → (c : Tree) → count c ≡ n → (x y : List Row) → rows-of c ++ x ≡ l ++ y → (rows-of c ≡ l) × (x ≡ y)
+pub whole-parts : {n : ℕ} {l : List Row} → Subtrees n l → (c : Tree) → count c ≡ n → (x y : List Row) → rows-of c ++ x ≡ l ++ y → (rows-of c ≡ l) × (x ≡ y)
 unfolding rows-of count
 whole-parts S.none nil e x y h = (refl, h)
 whole-parts S.none (leaf k ts f) e x y h = absurd (omega arith)
@@ -56,11 +56,11 @@ whole-parts (S.node {r = r} {c = d} {l = l} a p q) (subtree k c f) e x y h =
     ((λ i. first-same h i ∷ (g .0 i ++ g′ .0 i)), g′ .1)
 
 -- one leaf more
-pub one-more : {n : ℕ} {l : List Row} → Parts n l → (r : Row) → class r ≡ 1 → Parts (suc n) (l ++ (r ∷ []))
+pub one-more : {n : ℕ} {l : List Row} → Subtrees n l → (r : Row) → class r ≡ 1 → Subtrees (suc n) (l ++ (r ∷ []))
 one-more S.none r e = S.leaf e S.none
 one-more (S.leaf a p) r e = S.leaf a (one-more p r e)
 one-more (S.node {n = n} {r = x} {c = c} {l = l} a p q) r e =
-    subst (λ (m : List Row). Parts (suc (suc n)) (x ∷ m)) (sym (append-assoc c l (r ∷ []))) (S.node a p (one-more q r e))
+    subst (λ (m : List Row). Subtrees (suc (suc n)) (x ∷ m)) (sym (append-assoc c l (r ∷ []))) (S.node a p (one-more q r e))
 
 -- a tree in two pieces, with the rows of each
 pub record Cut (f : Tree) (l m : List Row) : Type 0 where
@@ -70,7 +70,7 @@ pub record Cut (f : Tree) (l m : List Row) : Type 0 where
   pub rows-one : rows-of one ≡ l
   pub rows-two : rows-of two ≡ m
 
-pub cut : {n : ℕ} {l : List Row} → Parts n l → (f : Tree) (m : List Row) → rows-of f ≡ l ++ m → Cut f l m
+pub cut : {n : ℕ} {l : List Row} → Subtrees n l → (f : Tree) (m : List Row) → rows-of f ≡ l ++ m → Cut f l m
 unfolding rows-of _⊕_
 cut S.none f m h = record { one = nil; two = f; is = refl; rows-one = refl; rows-two = h }
 cut (S.leaf a p) nil m h = absurd (none-some h)
@@ -145,7 +145,7 @@ placed k f {l} s e =
     let h : rows-of f ≡ s .before ++ (s .part ∷ (s .inside ++ (s .leaf ∷ s .later))) = sym (append-nil (rows-of f)) ∙ rest-same (sym e ∙ s .is) in
     let C : Cut f (s .before) (s .part ∷ (s .inside ++ (s .leaf ∷ s .later))) = cut (s .before-whole) f _ h in
     let O : Opened (C .two) (s .part) (s .inside ++ (s .leaf ∷ s .later)) = opened (C .two) (s .part) _ (s .part-node) (C .rows-two) in
-    let n : count (O .inner) ≡ suc (s .parts-inside) = sym (ap S.count (O .row)) ∙ s .leaf-last in
+    let n : count (O .inner) ≡ suc (s .children-inside) = sym (ap S.count (O .row)) ∙ s .leaf-last in
     let g : (rows-of (O .inner) ≡ s .inside ++ (s .leaf ∷ [])) × (rows-of (O .next) ≡ s .later) =
     whole-parts (one-more (s .inside-whole) (s .leaf) (s .leaf-leaf)) (O .inner) n (rows-of (O .next)) (s .later) (O .rows ∙ sym (append-assoc (s .inside) (s .leaf ∷ []) (s .later))) in
     let D : Cut (O .inner) (s .inside) (s .leaf ∷ []) = cut (s .inside-whole) (O .inner) (s .leaf ∷ []) (g .0) in
@@ -201,7 +201,7 @@ rows-beside (leaf k ts f) g = ap ((1 ∷ k ∷ byte-count ts ∷ length ts ∷ [
 rows-beside (subtree k c f) g = ap (λ (l : List Row). (0 ∷ k ∷ width c ∷ count c ∷ []) ∷ (rows-of c ++ l)) (rows-beside f g) ∙ ap ((0 ∷ k ∷ width c ∷ count c ∷ []) ∷_) (sym (append-assoc (rows-of c) (rows-of f) (rows-of g)))
 
 -- the rows of a tree are those of its parts
-rows-parts : (f : Tree) → Parts (count f) (rows-of f)
+rows-parts : (f : Tree) → Subtrees (count f) (rows-of f)
 unfolding rows-of count
 rows-parts nil = S.none
 rows-parts (leaf k ts f) = S.leaf refl (rows-parts f)
@@ -234,7 +234,7 @@ semicolon-in k before j inside raw later e =
       before-whole = rows-parts before;
       part-node = refl;
       part-kind = e;
-      parts-inside = count inside;
+      children-inside = count inside;
       inside-whole = rows-parts inside;
       leaf-last = n;
       leaf-leaf = refl;

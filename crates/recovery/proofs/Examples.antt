@@ -8,7 +8,7 @@ use lib.ListN.{length, replicate}
 use Rattle.definitions.specs.Token.{tokens-of}
 use Rattle.definitions.specs.Call.{Buffers, call}
 use Rattle.recovery.specs.ResultRows.{Row, mark, tree-rows, error-rows, report-rows, expectations, none, leaf, node, over-leaves}
-use Rattle.recovery.specs.Recovery.{File, result, is-statement, Semicolon, token-index, start-byte, Alike, those, later-error, later-report, pool-before, later-errors, later-reports, Each, none as no-more, more, no-label, label, ErrorMoved, ReportMoved, places, Shared}
+use Rattle.recovery.specs.Recovery.{File, result, is-statement, Semicolon, token-index, start-byte, Alike, those, later-error, later-report, pool-before, later-errors, later-reports, Pairwise, none as no-more, more, no-label, label, ErrorMoved, ReportMoved, places, Shared}
 use Rattle.recovery.proofs.Local.{stays-local}
 
 -- buffers of n numbers each, full of sevens
@@ -43,7 +43,7 @@ in-short =
       before-whole = none;
       part-node = refl;
       part-kind = refl;
-      parts-inside = 1;
+      children-inside = 1;
       inside-whole = leaf refl none;
       leaf-last = refl;
       leaf-leaf = refl;
@@ -65,7 +65,7 @@ in-long =
       before-whole = none;
       part-node = refl;
       part-kind = refl;
-      parts-inside = 1;
+      children-inside = 1;
       inside-whole = leaf refl none;
       leaf-last = refl;
       leaf-leaf = refl;
@@ -130,7 +130,7 @@ in-one =
       before-whole = none;
       part-node = refl;
       part-kind = refl;
-      parts-inside = 3;
+      children-inside = 3;
       inside-whole = leaf refl (leaf refl (node refl (leaf refl none) none));
       leaf-last = refl;
       leaf-leaf = refl;
@@ -152,7 +152,7 @@ in-two =
       before-whole = node refl (leaf refl none) none;
       part-node = refl;
       part-kind = refl;
-      parts-inside = 3;
+      children-inside = 3;
       inside-whole = leaf refl (leaf refl (node refl (leaf refl (leaf refl none)) none));
       leaf-last = refl;
       leaf-leaf = refl;
@@ -198,14 +198,14 @@ unfolding those later-error later-report pool-before token-index start-byte over
 later-in-two = (refl, refl, refl, refl)
 
 -- these lists are what the promise says, number by number
-errors-moved : Each (ErrorMoved 14 9) errors-one errors-two
+errors-moved : Pairwise (ErrorMoved 14 9) errors-one errors-two
 errors-moved = more (record { same-number = refl; start-moves = refl; end-moves = refl }) no-more
 
 -- the open node's `{` is at 18..19 in one, at 13..14 in the other
 eighteen : _≡_ {A = ℕ} 18 0 → ⊥
 eighteen e = omega arith
 
-reports-moved : Each (ReportMoved (record { bytes = 14; marks = 3; pool = 1 }) (record { bytes = 9; marks = 5; pool = 13 }) pool-one pool-two) reports-one reports-two
+reports-moved : Pairwise (ReportMoved (record { bytes = 14; marks = 3; pool = 1 }) (record { bytes = 9; marks = 5; pool = 13 }) pool-one pool-two) reports-one reports-two
 reports-moved =
     more (record { same-message = refl; start-moves = refl; end-moves = refl; mark-moves = refl; first-place-moves = refl; same-pool-count = refl; same-hint = refl; label-moves = no-label refl refl refl refl; same-expected = refl })
     (more (record { same-message = refl; start-moves = refl; end-moves = refl; mark-moves = refl; first-place-moves = refl; same-pool-count = refl; same-hint = refl; label-moves = no-label refl refl refl refl; same-expected = refl })

@@ -13,7 +13,7 @@ use Rattle.definitions.specs.Token.{Token, trivia, byte-count}
 use Rattle.definitions.specs.Prog.{Ans, yes, Rule, Act, silent-at, at-end, immediate, immediate-next, add-expected, bump, bump-name, bump-argument, emit, emit-unclosed, less, Prog, ret, act, _⨟_, case, in-marker, loop, chain, brace, open-call}
 use Rattle.definitions.specs.Grammar.{grammar, Entry, whole}
 use Rattle.definitions.specs.Skeleton.{Span, Label, no-label, label, Report, Skeleton, done, token, name, report, over, _⧺_}
-use Rattle.definitions.specs.Run.{State, Out, mark-of, peeked, answer, makes, taken, do-bump, do-name, add, at-depth, do-argument, only-separators, error-range, do-emit, over-unless, do-expected, perform, closed, marked, unlinked, here, exec, run}
+use Rattle.definitions.specs.Run.{State, Out, mark-of, peeked, replies, makes, taken, do-bump, do-name, add, at-depth, do-argument, only-separators, error-range, do-emit, over-unless, do-expected, perform, closed, marked, unlinked, here, exec, run}
 use Rattle.definitions.specs.Report.{pushes, reports}
 use Rattle.definitions.specs.Call.{run-entry}
 use Rattle.basics.proofs.Tests.{cond-all}
@@ -134,7 +134,7 @@ module _ (b : ℕ) where
   depth-told (suc n) o f p q = q n
 
   argument-told : (n : ℕ) (s : State) (ts : List Token) → told (do-argument n s ts .made) ≡ []
-  unfolding do-argument answer makes add pushes reports _⧺_
+  unfolding do-argument replies makes add pushes reports _⧺_
   argument-told n s [] = refl
   argument-told n s (t ∷ ts) =
       let Z : Out → Type 0 = λ (o : Out). told (o .made) ≡ [] in
@@ -144,17 +144,17 @@ module _ (b : ℕ) where
       (cond-all Z (eqb (t .kind) K.RParen) (depth-told n _ _ refl go) (cond-all Z (eqb (t .kind) K.Comma) (depth-told n _ _ refl (λ m. go (suc m))) (go n))))
 
   bump-told : (s : State) (ts : List Token) → told (do-bump s ts .made) ≡ []
-  unfolding do-bump answer makes pushes reports
+  unfolding do-bump replies makes pushes reports
   bump-told s [] = refl
   bump-told s (t ∷ ts) = refl
 
   name-told : (ks : List ℕ) (s : State) (ts : List Token) → told (do-name ks s ts .made) ≡ []
-  unfolding do-name answer makes pushes reports
+  unfolding do-name replies makes pushes reports
   name-told ks s [] = refl
   name-told ks s (t ∷ ts) = refl
 
   act-labels : (l : Label) → Label-in b l → (a : Act) (s : State) → All P (told (perform l a s .made))
-  unfolding perform answer do-expected do-emit makes pushes reports
+  unfolding perform replies do-expected do-emit makes pushes reports
   act-labels l w (silent-at ks) s = tt
   act-labels l w at-end s = tt
   act-labels l w (immediate k) s = tt

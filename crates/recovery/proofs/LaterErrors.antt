@@ -8,7 +8,7 @@ use mathlib.Core.List.{List, [], _∷_, _++_}
 use borrow.Author.Tests.{lt-ltb, le-ltb}
 use Rattle.definitions.specs.Token.{Token, is-error, byte-count}
 use Rattle.recovery.specs.ResultRows.{Row, start}
-use Rattle.recovery.specs.Recovery.{those, later-error, Moved, Each, none, more, ErrorMoved}
+use Rattle.recovery.specs.Recovery.{those, later-error, Moved, Pairwise, none, more, ErrorMoved}
 use Rattle.recovery.proofs.Written.{errors-of}
 
 -- ---------------------------------------------------------------- those of some rows
@@ -76,12 +76,12 @@ errors-later ps t us l n =
     ∙ those-all (later-error p) (errors-of (suc p) us)
     (errors-start (λ r. later-error p r ≡ true) (suc p) (suc p + byte-count us) (suc p) (λ r x y. lt-ltb p (start r) x) us (le-refl _) (le-refl _))
 
-pub errors-moved : (a b x y : ℕ) → Moved a b x y → (ts : List Token) → Each (ErrorMoved a b) (errors-of x ts) (errors-of y ts)
+pub errors-moved : (a b x y : ℕ) → Moved a b x y → (ts : List Token) → Pairwise (ErrorMoved a b) (errors-of x ts) (errors-of y ts)
 unfolding errors-of
 errors-moved a b x y h [] = none
 errors-moved a b x y h (t ∷ ts) = go (is-error (t .kind)) (errors-moved a b (x + t .len) (y + t .len) (omega arith) ts)
   where
-    go : (c : Bool) → Each (ErrorMoved a b) (errors-of (x + t .len) ts) (errors-of (y + t .len) ts)
-        → Each (ErrorMoved a b) (cond c ((t .kind ∷ x ∷ (x + t .len) ∷ []) ∷ errors-of (x + t .len) ts) (errors-of (x + t .len) ts)) (cond c ((t .kind ∷ y ∷ (y + t .len) ∷ []) ∷ errors-of (y + t .len) ts) (errors-of (y + t .len) ts))
+    go : (c : Bool) → Pairwise (ErrorMoved a b) (errors-of (x + t .len) ts) (errors-of (y + t .len) ts)
+        → Pairwise (ErrorMoved a b) (cond c ((t .kind ∷ x ∷ (x + t .len) ∷ []) ∷ errors-of (x + t .len) ts) (errors-of (x + t .len) ts)) (cond c ((t .kind ∷ y ∷ (y + t .len) ∷ []) ∷ errors-of (y + t .len) ts) (errors-of (y + t .len) ts))
     go true e = let stop : Moved a b (x + t .len) (y + t .len) = omega arith in more (record { same-number = refl; start-moves = h; end-moves = stop }) e
     go false e = e

@@ -11,7 +11,7 @@ use Rattle.definitions.specs.Token.{byte-count}
 use Rattle.definitions.specs.Skeleton.{Label, no-label, label, Report}
 use Rattle.definitions.specs.Report.{label-numbers, pool}
 use Rattle.recovery.specs.ResultRows.{Row, mark}
-use Rattle.recovery.specs.Recovery.{those, later-report, pool-counts, pool-before, Moved, Each, none, more, LabelMoved, Places, ReportMoved}
+use Rattle.recovery.specs.Recovery.{those, later-report, pool-counts, pool-before, Moved, Pairwise, none, more, LabelMoved, Places, ReportMoved}
 use Rattle.recovery.specs.Recovery as R
 use Rattle.recovery.proofs.Told.{All, Above}
 use Rattle.recovery.proofs.Inside.{Label-in, Inside}
@@ -123,7 +123,7 @@ module _ (k c : ℕ) (a b : Places) (p q : List ℕ) where
   rows-at d first l = reports-of (d .marks + suc k) (d .bytes + suc c) first l
 
   abbrev All-moved : ℕ → ℕ → List Report → Type 0
-  All-moved i j l = Each (ReportMoved a b p q) (rows-at a i l) (rows-at b j l)
+  All-moved i j l = Pairwise (ReportMoved a b p q) (rows-at a i l) (rows-at b j l)
 
   pub reports-moved : (x y : List ℕ) (l : List Report) → All (Inside k c) l → p ≡ x ++ pool l → q ≡ y ++ pool l → Moved (a .pool) (b .pool) (length x) (length y) → All-moved (length x) (length y) l
   unfolding reports-of pool

@@ -11,7 +11,7 @@ use Rattle.definitions.specs.Report.{pool}
 use Rattle.definitions.specs.Call.{run-entry}
 use Rattle.laws.proofs.Skeleton.{bytes-append, pool-append}
 use Rattle.recovery.specs.ResultRows.{tree-rows, report-rows, expectations, mark}
-use Rattle.recovery.specs.Recovery.{File, result, Accepted, Semicolon, token-index, start-byte, those, later-error, later-report, pool-before, Moved, Each, ErrorMoved, ReportMoved, later-errors, later-reports, places, Stays-local}
+use Rattle.recovery.specs.Recovery.{File, result, Accepted, Semicolon, token-index, start-byte, those, later-error, later-report, pool-before, Moved, Pairwise, ErrorMoved, ReportMoved, later-errors, later-reports, places, Stays-local}
 use Rattle.recovery.proofs.Told.{All, all-map, told}
 use Rattle.recovery.proofs.Inside.{Inside, entry-inside}
 use Rattle.recovery.proofs.Turns.{children}
@@ -77,9 +77,9 @@ stays-local f g hf hg a b A =
     let moved : Moved (places f a .pool) (places g b .pool) (length (X .early)) (length (Y .early)) = omega (arith, X .pool-before, Y .pool-before) in
     record {
       parts = X .parts ∙ sym (Y .parts);
-      errors = subst (λ l. Each (ErrorMoved (start-byte a) (start-byte b)) l (later-errors g b)) (sym (X .errors)) (subst (Each (ErrorMoved (start-byte a) (start-byte b)) (errors-of (suc (start-byte a)) us)) (sym (Y .errors)) (errors-moved (start-byte a) (start-byte b) (suc (start-byte a)) (suc (start-byte b)) (omega arith) us));
+      errors = subst (λ l. Pairwise (ErrorMoved (start-byte a) (start-byte b)) l (later-errors g b)) (sym (X .errors)) (subst (Pairwise (ErrorMoved (start-byte a) (start-byte b)) (errors-of (suc (start-byte a)) us)) (sym (Y .errors)) (errors-moved (start-byte a) (start-byte b) (suc (start-byte a)) (suc (start-byte b)) (omega arith) us));
       reports =
-          subst (λ l. Each (ReportMoved (places f a) (places g b) p q) l (later-reports g b)) (sym (X .reports))
-          (subst (Each (ReportMoved (places f a) (places g b) p q) _) (sym (Y .reports))
+          subst (λ l. Pairwise (ReportMoved (places f a) (places g b) p q) l (later-reports g b)) (sym (X .reports))
+          (subst (Pairwise (ReportMoved (places f a) (places g b) p q) _) (sym (Y .reports))
           (reports-moved (length us) (byte-count us) (places f a) (places g b) p q (X .early) (Y .early) late (entry-inside SourceFile us) (X .pool) (Y .pool) moved));
     }

@@ -10,7 +10,7 @@ use lib.ListN.{length, getD}
 use Rattle.definitions.specs.Token.{one-of}
 use Rattle.definitions.specs.Call.{call}
 use Rattle.recovery.specs.ResultRows.{Row, tree-rows, error-rows, report-rows, leaf, none as none-inside, over-leaves, label-start, label-end}
-use Rattle.recovery.specs.Recovery.{File, result, is-statement, Semicolon, token-index, start-byte, those, later-error, later-report, Shared, Moved, Each, none, more, ErrorMoved, LabelMoved, no-label, label, ReportMoved}
+use Rattle.recovery.specs.Recovery.{File, result, is-statement, Semicolon, token-index, start-byte, those, later-error, later-report, Shared, Moved, Pairwise, none, more, ErrorMoved, LabelMoved, no-label, label, ReportMoved}
 use Rattle.recovery.proofs.Witnesses.{lent, first}
 
 -- ---------------------------------------------------------------- which statements
@@ -27,18 +27,18 @@ three-kinds = refl
 -- ---------------------------------------------------------------- lists
 
 -- as many on both sides: a report lost, and one too many
-as-many : {R : Row → Row → Type 0} {l m : List Row} → Each R l m → length l ≡ length m
+as-many : {R : Row → Row → Type 0} {l m : List Row} → Pairwise R l m → length l ≡ length m
 as-many none = refl
 as-many (more r e) = ap suc (as-many e)
 
-lost : {R : Row → Row → Type 0} {x : Row} {l : List Row} → Each R (x ∷ l) [] → ⊥
+lost : {R : Row → Row → Type 0} {x : Row} {l : List Row} → Pairwise R (x ∷ l) [] → ⊥
 lost e = let n = as-many e in omega arith
 
-invented : {R : Row → Row → Type 0} {y : Row} {m : List Row} → Each R [] (y ∷ m) → ⊥
+invented : {R : Row → Row → Type 0} {y : Row} {m : List Row} → Pairwise R [] (y ∷ m) → ⊥
 invented e = let n = as-many e in omega arith
 
 -- and each to each
-first-of : {R : Row → Row → Type 0} {x y : Row} {l m : List Row} → Each R (x ∷ l) (y ∷ m) → R x y
+first-of : {R : Row → Row → Type 0} {x y : Row} {l m : List Row} → Pairwise R (x ∷ l) (y ∷ m) → R x y
 first-of (more r e) = r
 
 -- ---------------------------------------------------------------- lexical errors

@@ -11,7 +11,7 @@ use Rattle.definitions.specs.Token.{Token, drop-trivia}
 use Rattle.definitions.specs.Prog.{Ans, no, yes, also, again, Rule, item, propvalues, eat-cell, expr-binding-power, Prog, ret, act, _⨟_, case, in-marker, loop, chain, brace, open-call}
 use Rattle.definitions.specs.Grammar.{grammar, sourcefile-turn, left-over}
 use Rattle.definitions.specs.Skeleton.{Label, no-label, Skeleton, done, _⧺_}
-use Rattle.definitions.specs.Run.{State, Out, mark-of, answer, makes, add, choose, closed, marked, is-again, goes-on, iter, chained, here, exec, run}
+use Rattle.definitions.specs.Run.{State, Out, mark-of, replies, makes, add, choose, closed, marked, is-again, goes-on, iter, chained, here, exec, run}
 use Rattle.definitions.specs.Place.{after, place}
 use Rattle.basics.proofs.Tests.{and-left, and-right, cond-with}
 use Rattle.laws.proofs.Shape.{chained-shape}
@@ -72,7 +72,7 @@ module _ (n : ℕ) (b : Label) (q : Prog) (P : Post) (J : Known) (s₀ : State) 
 
   loop-ends : (m : ℕ) (p : Skeleton) (s : State) → Goes s₀ p s → Holds J s₀ ts p s
       → Ends P s₀ ts (iter m (exec (run n) b q) s .shape) (iter m (exec (run n) b q) s .ans) (p ⧺ iter m (exec (run n) b q) s .made) (iter m (exec (run n) b q) s .state)
-  unfolding iter answer makes add
+  unfolding iter replies makes add
   loop-ends zero p s G H = record { known = J; post = PJ; holds = subst (λ (r : Skeleton). Holds J s₀ ts r s) (sym (join-done p)) H }
   loop-ends (suc m) p s G H =
       let o : Out = exec (run n) b q s in

@@ -14,7 +14,7 @@ use Rattle.definitions.specs.Token.{Token, drop-trivia}
 use Rattle.definitions.specs.Prog.{again}
 use Rattle.definitions.specs.Grammar.{SourceFile, whole, entry, entry-sourcefile, sourcefile-turn, left-over}
 use Rattle.definitions.specs.Skeleton.{no-label, Skeleton, done, _⧺_}
-use Rattle.definitions.specs.Run.{State, Out, mark-of, peeked, answer, makes, taken, add, perform, choose, is-again, goes-on, iter, exec, run}
+use Rattle.definitions.specs.Run.{State, Out, mark-of, peeked, replies, makes, taken, add, perform, choose, is-again, goes-on, iter, exec, run}
 use Rattle.definitions.specs.Place.{Tree, nil, leaf, subtree, _⊕_, lead, after, place}
 use Rattle.definitions.specs.Call.{run-entry}
 use Rattle.basics.proofs.Tests.{cond-with}
@@ -89,7 +89,7 @@ onward-fresh n us l = ap (λ (r : Out). r .made ⧺ sweep (r .state) .made) (ite
 
 -- a turn goes on, or it has made nothing
 turn-answer : (s : State) → (turn s .ans ≡ again) ⊎ (turn s .made ≡ done)
-unfolding sourcefile-turn exec perform add choose answer peeked _⧺_
+unfolding sourcefile-turn exec perform add choose replies peeked _⧺_
 turn-answer s = go (drop-trivia (s .rest)) refl
   where
     go : (l : List Token) → drop-trivia (s .rest) ≡ l → (turn s .ans ≡ again) ⊎ (turn s .made ≡ done)

@@ -8,7 +8,7 @@ use lib.ListN.{drop, replicate}
 use Rattle.definitions.specs.NodeKind as N
 use Rattle.definitions.specs.Token.{tokens-of}
 use Rattle.definitions.specs.Call.{Buffers, call}
-use Rattle.recovery.specs.ResultRows.{Row, class, kind, count, tree-rows, Parts, none, leaf, node, over-leaves}
+use Rattle.recovery.specs.ResultRows.{Row, class, kind, count, tree-rows, Subtrees, none, leaf, node, over-leaves}
 use Rattle.recovery.specs.Recovery.{File, result, Accepted, is-statement, Semicolon, token-index, start-byte, Shared}
 use Rattle.recovery.proofs.Local.{stays-local}
 
@@ -46,7 +46,7 @@ shared f g =
 
 -- the semicolon of a statement that stands first, with n parts before it
 abbrev pub first : {l : List Row} (root part : Row) (inside later : List Row) (n : ℕ) → l ≡ root ∷ (part ∷ (inside ++ ((1 ∷ 29 ∷ 1 ∷ 1 ∷ []) ∷ later)))
-    → class part ≡ 0 → is-statement (kind part) ≡ true → Parts n inside → count part ≡ suc n → Semicolon l
+    → class part ≡ 0 → is-statement (kind part) ≡ true → Subtrees n inside → count part ≡ suc n → Semicolon l
 first root part inside later n e c s w k =
     record {
       root = root;
@@ -60,7 +60,7 @@ first root part inside later n e c s w k =
       before-whole = none;
       part-node = c;
       part-kind = s;
-      parts-inside = n;
+      children-inside = n;
       inside-whole = w;
       leaf-last = k;
       leaf-leaf = refl;

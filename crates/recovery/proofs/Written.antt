@@ -17,7 +17,7 @@ use Rattle.definitions.specs.Refusal.{accepted, check-input}
 use Rattle.definitions.specs.Call.{Sheets, sheets, kept, written, run-entry, for, entry-of}
 use Rattle.laws.proofs.Accepted.{accepted-call}
 use Rattle.laws.proofs.Accepted as L
-use Rattle.recovery.specs.ResultRows.{Row, first-rows, tree-rows, error-rows, expectations}
+use Rattle.recovery.specs.ResultRows.{Row, cut-rows, tree-rows, error-rows, expectations}
 use Rattle.recovery.specs.ResultRows as S
 use Rattle.recovery.specs.Recovery.{File, result, Accepted}
 use Rattle.recovery.proofs.Turns.{children}
@@ -50,21 +50,21 @@ flat-length w (r ∷ l) h = length-append r (flat l) ∙ ap (_+ length (flat l))
     step : w + w * length l ≡ w * suc (length l)
     step = native.Mathlib.Nat.add-comm w (w * length l) ∙ sym (native.Mathlib.Nat.mul-suc w (length l))
 
-first-flat : (w : ℕ) (l : List Row) (z : List ℕ) → Wide w l → first-rows (length l) w (flat l ++ z) ≡ l
-unfolding first-rows flat
+first-flat : (w : ℕ) (l : List Row) (z : List ℕ) → Wide w l → cut-rows (length l) w (flat l ++ z) ≡ l
+unfolding cut-rows flat
 first-flat w [] z h = refl
 first-flat w (r ∷ l) z h =
     let e : (r ++ flat l) ++ z ≡ r ++ (flat l ++ z) = append-assoc r (flat l) z in
-    (λ i. take w (e i) ∷ first-rows (length l) w (drop w (e i)))
-    ∙ (λ i. take-at r (flat l ++ z) w (h .0) i ∷ first-rows (length l) w (drop-at r (flat l ++ z) w (h .0) i))
+    (λ i. take w (e i) ∷ cut-rows (length l) w (drop w (e i)))
+    ∙ (λ i. take-at r (flat l ++ z) w (h .0) i ∷ cut-rows (length l) w (drop-at r (flat l ++ z) w (h .0) i))
     ∙ ap (r ∷_) (first-flat w l z (h .1))
 
 -- WRITTEN ROWS are read back from the front of a buffer, whatever stood there
-written-rows : (w : ℕ) (l : List Row) (m b : List ℕ) → 0 < w → Wide w l → m ≡ flat l → first-rows (length m / w) w (written m b) ≡ l
+written-rows : (w : ℕ) (l : List Row) (m b : List ℕ) → 0 < w → Wide w l → m ≡ flat l → cut-rows (length m / w) w (written m b) ≡ l
 written-rows w l m b pos h e =
     let c : length m / w ≡ length l = ap (λ (n : ℕ). n / w) (ap length e ∙ flat-length w l h) ∙ mul-div-cancel-left (length l) pos in
-    ap (λ (n : ℕ). first-rows n w (written m b)) c
-    ∙ ap (λ (x : List ℕ). first-rows (length l) w (x ++ replicate (length b - length m) 0)) e
+    ap (λ (n : ℕ). cut-rows n w (written m b)) c
+    ∙ ap (λ (x : List ℕ). cut-rows (length l) w (x ++ replicate (length b - length m) 0)) e
     ∙ first-flat w l (replicate (length b - length m) 0) h
 
 -- ---------------------------------------------------------------- the rows

@@ -11,7 +11,7 @@ use Rattle.definitions.specs.TokenKind as K
 use Rattle.definitions.specs.NodeKind as N
 use Rattle.definitions.specs.Token.{tokens-of, one-of}
 use Rattle.definitions.specs.Call.{Buffers, Result, call}
-use Rattle.recovery.specs.ResultRows.{Row, tree-rows, error-rows, report-rows, expectations, class, kind, count, number, start, end, message, mark, first-place, pool-count, hint, label-start, label-end, Parts, raw-tokens, raw-bytes}
+use Rattle.recovery.specs.ResultRows.{Row, tree-rows, error-rows, report-rows, expectations, class, kind, count, number, start, end, message, mark, first-place, pool-count, hint, label-start, label-end, Subtrees, raw-tokens, raw-bytes}
 
 -- ---------------------------------------------------------------- two files
 
@@ -48,12 +48,12 @@ pub record Semicolon (l : List Row) : Type 0 where
   pub later : List Row
   pub is : l ≡ root ∷ (before ++ (part ∷ (inside ++ (leaf ∷ later))))
   pub parts-before : ℕ
-  pub before-whole : Parts parts-before before
+  pub before-whole : Subtrees parts-before before
   pub part-node : class part ≡ NODE
   pub part-kind : is-statement (kind part) ≡ true
-  pub parts-inside : ℕ
-  pub inside-whole : Parts parts-inside inside
-  pub leaf-last : count part ≡ suc parts-inside
+  pub children-inside : ℕ
+  pub inside-whole : Subtrees children-inside inside
+  pub leaf-last : count part ≡ suc children-inside
   pub leaf-leaf : class leaf ≡ LEAF
   pub leaf-kind : kind leaf ≡ K.Semicolon
 
@@ -100,9 +100,9 @@ abbrev pub Moved : ℕ → ℕ → ℕ → ℕ → Type 0
 Moved a b x y = x + b ≡ y + a
 
 -- as many, in the same order, and each to each
-pub data Each (R : Row → Row → Type 0) : List Row → List Row → Type 0 where
-  none : Each R [] []
-  more : {x y : Row} {l m : List Row} → R x y → Each R l m → Each R (x ∷ l) (y ∷ m)
+pub data Pairwise (R : Row → Row → Type 0) : List Row → List Row → Type 0 where
+  none : Pairwise R [] []
+  more : {x y : Row} {l m : List Row} → R x y → Pairwise R l m → Pairwise R (x ∷ l) (y ∷ m)
 
 -- a lexical error at bytes moved by b less a
 pub record ErrorMoved (a b : ℕ) (x y : Row) : Type 0 where
@@ -122,8 +122,8 @@ pub record Places : Type 0 where
   pub pool : ℕ
 
 -- the expectations of a report, in a pool
-abbrev pub expected : List ℕ → Row → List ℕ
-expected pool r = take (pool-count r) (drop (first-place r) pool)
+abbrev pub expectations-of : List ℕ → Row → List ℕ
+expectations-of pool r = take (pool-count r) (drop (first-place r) pool)
 
 -- p, q: the pools of the two files
 pub record ReportMoved (a b : Places) (p q : List ℕ) (x y : Row) : Type 0 where
@@ -135,7 +135,7 @@ pub record ReportMoved (a b : Places) (p q : List ℕ) (x y : Row) : Type 0 wher
   pub same-pool-count : pool-count x ≡ pool-count y
   pub same-hint : hint x ≡ hint y
   pub label-moves : LabelMoved (a .bytes) (b .bytes) x y
-  pub same-expected : expected p x ≡ expected q y
+  pub same-expected : expectations-of p x ≡ expectations-of q y
 
 -- ---------------------------------------------------------------- the promise
 
@@ -152,8 +152,8 @@ places f s = record { bytes = start-byte s; marks = token-index s; pool = pool-b
 -- later parts, later lexical errors and later reports
 pub record Shared (f g : File) (a : Semicolon (tree-rows (result f))) (b : Semicolon (tree-rows (result g))) : Type 0 where
   pub parts : a .later ≡ b .later
-  pub errors : Each (ErrorMoved (start-byte a) (start-byte b)) (later-errors f a) (later-errors g b)
-  pub reports : Each (ReportMoved (places f a) (places g b) (expectations (result f)) (expectations (result g))) (later-reports f a) (later-reports g b)
+  pub errors : Pairwise (ErrorMoved (start-byte a) (start-byte b)) (later-errors f a) (later-errors g b)
+  pub reports : Pairwise (ReportMoved (places f a) (places g b) (expectations (result f)) (expectations (result g))) (later-reports f a) (later-reports g b)
 
 -- RECOVERY STAYS LOCAL, for all files, whatever buffers were lent
 abbrev pub Stays-local : Type 0

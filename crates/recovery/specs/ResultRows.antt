@@ -15,23 +15,23 @@ abbrev pub Row : Type 0
 Row = List ℕ
 
 -- so many rows of w numbers each, from the front of a buffer
-unfoldable pub first-rows : ℕ → ℕ → List ℕ → List Row
-first-rows zero w l = []
-first-rows (suc n) w l = take w l ∷ first-rows n w (drop w l)
+unfoldable pub cut-rows : ℕ → ℕ → List ℕ → List Row
+cut-rows zero w l = []
+cut-rows (suc n) w l = take w l ∷ cut-rows n w (drop w l)
 
 -- ---------------------------------------------------------------- what a call wrote, by the counts in its answer
 
 unfoldable pub tree-rows : Result → List Row
-unfolding first-rows
-tree-rows r = first-rows (r .answer .tree-count) TREE-ROW (r .buffers .trees)
+unfolding cut-rows
+tree-rows r = cut-rows (r .answer .tree-count) TREE-ROW (r .buffers .trees)
 
 unfoldable pub error-rows : Result → List Row
-unfolding first-rows
-error-rows r = first-rows (r .answer .error-count) ERROR-ROW (r .buffers .errors)
+unfolding cut-rows
+error-rows r = cut-rows (r .answer .error-count) ERROR-ROW (r .buffers .errors)
 
 unfoldable pub report-rows : Result → List Row
-unfolding first-rows
-report-rows r = first-rows (r .answer .report-count) REPORT-ROW (r .buffers .reports)
+unfolding cut-rows
+report-rows r = cut-rows (r .answer .report-count) REPORT-ROW (r .buffers .reports)
 
 unfoldable pub expectations : Result → List ℕ
 expectations r = take (r .answer .expectation-count) (r .buffers .pool)
@@ -87,10 +87,10 @@ label-end r = getD r REPORT-LABEL-END 0
 -- ---------------------------------------------------------------- parts in tree rows
 
 -- so many parts side by side, in preorder: a leaf is a row, a node its row and then the rows of its children
-pub data Parts : ℕ → List Row → Type 0 where
-  none : Parts 0 []
-  leaf : {n : ℕ} {r : Row} {l : List Row} → class r ≡ LEAF → Parts n l → Parts (suc n) (r ∷ l)
-  node : {n : ℕ} {r : Row} {c l : List Row} → class r ≡ NODE → Parts (count r) c → Parts n l → Parts (suc n) (r ∷ (c ++ l))
+pub data Subtrees : ℕ → List Row → Type 0 where
+  none : Subtrees 0 []
+  leaf : {n : ℕ} {r : Row} {l : List Row} → class r ≡ LEAF → Subtrees n l → Subtrees (suc n) (r ∷ l)
+  node : {n : ℕ} {r : Row} {c l : List Row} → class r ≡ NODE → Subtrees (count r) c → Subtrees n l → Subtrees (suc n) (r ∷ (c ++ l))
 
 -- what the leaves among some rows add up to
 unfoldable pub over-leaves : (Row → ℕ) → List Row → ℕ

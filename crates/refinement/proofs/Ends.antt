@@ -25,7 +25,7 @@ use Rattle.bounds.proofs.Numbers.{bounded}
 use Rattle.bounds.proofs.Written.{report-numbers-length}
 use Rattle.machine.specs.Machine.{Machine, Buffer}
 use Rattle.machine.specs.Encode.{encode}
-use Rattle.machine.specs.Outcome.{onto, Holds, Accepted, Refused, Ends}
+use Rattle.machine.specs.Outcome.{onto, Starts-with, Not-refused, Refused, Ends}
 use Rattle.refinement.proofs.Machine.{entry-ends}
 use Rattle.sink.specs.declared.Sunk.{Sunk}
 use Rattle.sink.specs.declared.Sunk.the-variants.{Written, NoRoom}
@@ -103,7 +103,7 @@ module _ (e : Entry) (bytes tokens : List ℕ) (b : Buffers) (m : Machine) (ok :
 
   refused-ends : (f : Fit) → scan (pushes o) (room-of b) ≡ f → (m .refusal ≡ 0 → ⊥) → (c : Buffers) → Same-lengths b c → swept (refused-at (m .refusal) (m .place)) c ≡ parse e ts b
   unfolding outcome
-  refused-ends (fits z) h n c s = let a : Accepted ts o (b .events) (b .reports) (b .pool) m = ends-by (fits z) h in absurd (n (a .refusal))
+  refused-ends (fits z) h n c s = let a : Not-refused ts o (b .events) (b .reports) (b .pool) m = ends-by (fits z) h in absurd (n (a .refusal))
   refused-ends (stops r) h n c s =
       let a : Refused ts r m = ends-by (stops r) h in
       swept-refused (m .refusal) (m .place) (forward-mark (length ts) r) b c (a .refusal ∙ sym (forward-number (length ts) r)) (a .place) s
@@ -111,13 +111,13 @@ module _ (e : Entry) (bytes tokens : List ℕ) (b : Buffers) (m : Machine) (ok :
 
   -- ---------------------------------------------------------------- nothing refused
 
-  accepted-by : (f : Fit) → scan (pushes o) (room-of b) ≡ f → m .refusal ≡ 0 → Accepted ts o (b .events) (b .reports) (b .pool) m × (parse e ts b ≡ delivered (sheets e ts o) b)
+  accepted-by : (f : Fit) → scan (pushes o) (room-of b) ≡ f → m .refusal ≡ 0 → Not-refused ts o (b .events) (b .reports) (b .pool) m × (parse e ts b ≡ delivered (sheets e ts o) b)
   unfolding outcome
   accepted-by (fits z) h q = (ends-by (fits z) h, parse-by (fits z) h)
   accepted-by (stops r) h q = let a : Refused ts r m = ends-by (stops r) h in absurd (omega (arith, a .some))
 
   -- the events that the sink is given encode the skeleton
-  given-events : Accepted ts o (b .events) (b .reports) (b .pool) m → take (m .events .count) (m .events .numbers) ≡ encode false o
+  given-events : Not-refused ts o (b .events) (b .reports) (b .pool) m → take (m .events .count) (m .events .numbers) ≡ encode false o
   given-events a =
       ap (take (m .events .count)) (a .events-hold .numbers)
       ∙ take-at (encode false o) (drop (length (encode false o)) (b .events)) (m .events .count) (sym (a .events-hold .count))
@@ -141,12 +141,12 @@ module _ (e : Entry) (bytes tokens : List ℕ) (b : Buffers) (m : Machine) (ok :
   abbrev P : List ℕ
   P = report-numbers (length ts) (byte-count ts) 0 (reports (pushes o))
 
-  reports-in : Holds P (b .reports) (m .reports) → Rows-in REPORT-ROW (m .reports .count / REPORT-ROW) P (b .reports) (m .reports .numbers)
+  reports-in : Starts-with P (b .reports) (m .reports) → Rows-in REPORT-ROW (m .reports .count / REPORT-ROW) P (b .reports) (m .reports .numbers)
   reports-in h =
       let n : m .reports .count ≡ length P = h .count in
       record { count = omega arith; whole = omega (arith, report-numbers-length (length ts) (byte-count ts) 0 (reports (pushes o))); numbers = h .numbers; inside = h .inside }
 
-  sunk-ends : Accepted ts o (b .events) (b .reports) (b .pool) m → (s : Sunk) (trees errors : List ℕ) → length trees ≡ length (b .trees) → length errors ≡ length (b .errors)
+  sunk-ends : Not-refused ts o (b .events) (b .reports) (b .pool) m → (s : Sunk) (trees errors : List ℕ) → length trees ≡ length (b .trees) → length errors ≡ length (b .errors)
       → Placed (root-kind e) o tokens (b .trees) (b .errors) s trees errors → (x : Bool) → enough R L (b .trees) (b .errors) ≡ x
       → swept (sunk-answer s m) (after-sink m trees errors) ≡ cond x (kept (sheets e ts o) b) (cleared no-tree-room b)
   unfolding sheets

@@ -14,15 +14,15 @@ use Rattle.laws.proofs.Input.{All-good, Checked, checked-input}
 use Rattle.laws.proofs.Scan.{fits-clear}
 use Rattle.bounds.specs.Numbers.{Bounded}
 use Rattle.bounds.proofs.Numbers.{bounded}
-use Rattle.machine.specs.Outcome.{Filled, Limits, Small, room-in, Machine-ends}
+use Rattle.machine.specs.Outcome.{No-empty-token, Input-limits, Small, room-in, Machine-ends}
 use Rattle.machine.proofs.Whole.{machine-ends}
 
-all-filled : (ts : List Token) → All-good ts → Filled ts
+all-filled : (ts : List Token) → All-good ts → No-empty-token ts
 all-filled [] h = tt
 all-filled (t ∷ ts) h = (h .0 .len, all-filled ts (h .1))
 
-pub limits-hold : (bytes tokens : List ℕ) → Checked bytes tokens → Limits (tokens-of tokens)
-limits-hold bytes tokens h = record { few = omega (arith, h .pairs, h .numbers-limit); short = omega (arith, h .covered, h .bytes-limit); filled = all-filled (tokens-of tokens) (h .good) }
+pub limits-hold : (bytes tokens : List ℕ) → Checked bytes tokens → Input-limits (tokens-of tokens)
+limits-hold bytes tokens h = record { few = omega (arith, h .pairs, h .numbers-limit); short = omega (arith, h .covered, h .bytes-limit); none-empty = all-filled (tokens-of tokens) (h .good) }
 
 pub entry-small : (e : Entry) (ts : List Token) (y z : Room) → length ts ≤ MOST-TOKENS → scan (pushes (run-entry e ts)) y ≡ fits z → Small (run-entry e ts)
 entry-small e ts y z few h =
@@ -33,5 +33,5 @@ entry-small e ts y z few h =
 -- THE MACHINE'S END
 pub entry-ends : Machine-ends
 entry-ends e bytes tokens events₀ reports₀ pool₀ h =
-    let l : Limits (tokens-of tokens) = limits-hold bytes tokens (checked-input bytes tokens h) in
+    let l : Input-limits (tokens-of tokens) = limits-hold bytes tokens (checked-input bytes tokens h) in
     machine-ends e (tokens-of tokens) events₀ reports₀ pool₀ l (λ z q. entry-small e (tokens-of tokens) (room-in events₀ reports₀ pool₀) z (l .few) q)

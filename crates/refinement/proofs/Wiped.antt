@@ -8,7 +8,7 @@ use lib.ListN.{length, take, drop, set, replicate, length-append, length-drop, l
 use lib.Seq.{take-at, take-all, take-suc-set}
 use Rattle.definitions.specs.Call.{zeros, written}
 use Rattle.machine.specs.Machine.{Buffer}
-use Rattle.machine.specs.Outcome.{onto, Holds}
+use Rattle.machine.specs.Outcome.{onto, Starts-with}
 use Rattle.refinement.specs.Ends.{wiped}
 
 -- from the start on: all zero
@@ -33,7 +33,7 @@ onto-length l b c h inside =
     let k : length c ≡ length l + length (drop (length l) b) = ap length h ∙ length-append l (drop (length l) b) in
     omega (arith, k, length-drop (length l) b)
 
-pub held-length : (l b : List ℕ) (x : Buffer) → Holds l b x → length (x .numbers) ≡ length b
+pub held-length : (l b : List ℕ) (x : Buffer) → Starts-with l b x → length (x .numbers) ≡ length b
 held-length l b x h = onto-length l b (x .numbers) (h .numbers) (h .inside)
 
 -- ---------------------------------------------------------------- one number after the other

@@ -9,13 +9,13 @@ use Rattle.definitions.specs.Token.{tokens-of}
 use Rattle.definitions.specs.Prog.{Ans, no, yes, also, again, Rule, Act, silent-at, at-end, immediate, immediate-next, add-expected, bump, bump-name, bump-argument, emit, emit-unclosed, less, Prog, ret, act, _⨟_, case, in-marker, loop, chain, brace, open-call}
 use Rattle.definitions.specs.Grammar.{grammar, Entry, whole}
 use Rattle.definitions.specs.Skeleton.{Label, no-label, Skeleton, done, token, name, node, ignored, report, over, _⧺_}
-use Rattle.definitions.specs.Run.{State, Out, mark-of, peeked, answer, makes, taken, do-bump, do-name, add, do-argument, do-emit, do-expected, perform, choose, marked, is-again, goes-on, iter, unlinked, by-shape, links, chained, here, exec, run}
+use Rattle.definitions.specs.Run.{State, Out, mark-of, peeked, replies, makes, taken, do-bump, do-name, add, do-argument, do-emit, do-expected, perform, choose, marked, is-again, goes-on, iter, unlinked, by-shape, links, chained, here, exec, run}
 use Rattle.definitions.specs.Call.{Buffers}
 use Rattle.laws.proofs.Few.{bump-few, name-few, argument-few}
 use Rattle.laws.proofs.Pieces.{linked}
 use Rattle.refusals.specs.First.{First}
 use Rattle.refusals.specs.Trace.{Happening, call-opened, expectation-pushed, event-pushed, report-written, event-at, made-by, act-trace, iter-trace, links-trace, choose-trace, exec-trace, run-trace, trace}
-use Rattle.refusals.specs.Refusals.{MAX-OPEN, MAX-PENDING, Allowed, happens}
+use Rattle.refusals.specs.Refusals.{MAX-OPEN, MAX-PENDING, Unrefused, happens}
 use Rattle.refusals.proofs.Firsts.{Each-after, each-rest}
 
 -- the most that was pending, from q on
@@ -62,7 +62,7 @@ quiet q (report r o) s h = quiet q o s h
 quiet q (over m o) s h = (tt, h)
 
 act-up : (b : Label) (a : Act) → Climbing (perform b a) (act-trace b a)
-unfolding perform act-trace peeked answer makes do-expected do-emit made-by
+unfolding perform act-trace peeked replies makes do-expected do-emit made-by
 act-up b (silent-at ks) s q h = (tt, h)
 act-up b at-end s q h = (tt, h)
 act-up b (immediate k) s q h = (tt, h)
@@ -88,7 +88,7 @@ turn-up q true o x l m h k = up-append q l m (o .state) (x .state) h k
 turn-up q false o x l m h k = up-append q l [] (o .state) (o .state) h (λ r p. (tt, p))
 
 iter-up : (n : ℕ) (f : State → Out) (g : State → List Happening) → Climbing f g → Climbing (iter n f) (iter-trace n f g)
-unfolding iter iter-trace answer
+unfolding iter iter-trace replies
 iter-up zero f g K s q h = (tt, h)
 iter-up (suc n) f g K s q h = turn-up q (goes-on s (f s)) (f s) (iter n f (f s .state)) (g s) (iter-trace n f g (f s .state)) (K s q h) (iter-up n f g K (f s .state))
 
@@ -171,21 +171,21 @@ climbs-after q (expectation-pushed c x ∷ l) m h = climbs-after (max q c) l m (
 climbs-after q (event-pushed x ∷ l) m h = climbs-after q l m h
 climbs-after q (report-written c x ∷ l) m h = climbs-after q l m h
 
-peak-allowed : (b : Buffers) (q : ℕ) (pre l : List Happening) → q ≤ MAX-PENDING → Each-after (Allowed b) pre l → peak q l ≤ MAX-PENDING
+peak-allowed : (b : Buffers) (q : ℕ) (pre l : List Happening) → q ≤ MAX-PENDING → Each-after (Unrefused b) pre l → peak q l ≤ MAX-PENDING
 peak-allowed b q pre [] h g = h
-peak-allowed b q pre (call-opened c m ∷ l) h g = peak-allowed b q (pre ++ (call-opened c m ∷ [])) l h (each-rest (Allowed b) pre (call-opened c m) l g)
+peak-allowed b q pre (call-opened c m ∷ l) h g = peak-allowed b q (pre ++ (call-opened c m ∷ [])) l h (each-rest (Unrefused b) pre (call-opened c m) l g)
 peak-allowed b q pre (expectation-pushed c m ∷ l) h g =
     let k : c ≤ MAX-PENDING = g [] (expectation-pushed c m) l refl in
-    peak-allowed b (max q c) (pre ++ (expectation-pushed c m ∷ [])) l (omega (arith, h, k)) (each-rest (Allowed b) pre (expectation-pushed c m) l g)
-peak-allowed b q pre (event-pushed m ∷ l) h g = peak-allowed b q (pre ++ (event-pushed m ∷ [])) l h (each-rest (Allowed b) pre (event-pushed m) l g)
-peak-allowed b q pre (report-written c m ∷ l) h g = peak-allowed b q (pre ++ (report-written c m ∷ [])) l h (each-rest (Allowed b) pre (report-written c m) l g)
+    peak-allowed b (max q c) (pre ++ (expectation-pushed c m ∷ [])) l (omega (arith, h, k)) (each-rest (Unrefused b) pre (expectation-pushed c m) l g)
+peak-allowed b q pre (event-pushed m ∷ l) h g = peak-allowed b q (pre ++ (event-pushed m ∷ [])) l h (each-rest (Unrefused b) pre (event-pushed m) l g)
+peak-allowed b q pre (report-written c m ∷ l) h g = peak-allowed b q (pre ++ (report-written c m ∷ [])) l h (each-rest (Unrefused b) pre (report-written c m) l g)
 
-pub the-65th : (b : Buffers) (e : Entry) (tokens : List ℕ) (before : List Happening) (c m : ℕ) → First (Allowed b) (happens e tokens) before (call-opened c m) → c ≡ suc MAX-OPEN
+pub the-65th : (b : Buffers) (e : Entry) (tokens : List ℕ) (before : List Happening) (c m : ℕ) → First (Unrefused b) (happens e tokens) before (call-opened c m) → c ≡ suc MAX-OPEN
 the-65th b e tokens before c m f =
     let k : Climbs (peak 0 before) (call-opened c m ∷ f .after) = climbs-after 0 before (call-opened c m ∷ f .after) (subst (Climbs 0) (f .stands) (entry-climbs e tokens)) in
     omega (arith, k .0, f .fails)
 
-pub the-257th : (b : Buffers) (e : Entry) (tokens : List ℕ) (before : List Happening) (c m : ℕ) → First (Allowed b) (happens e tokens) before (expectation-pushed c m) → c ≡ suc MAX-PENDING
+pub the-257th : (b : Buffers) (e : Entry) (tokens : List ℕ) (before : List Happening) (c m : ℕ) → First (Unrefused b) (happens e tokens) before (expectation-pushed c m) → c ≡ suc MAX-PENDING
 the-257th b e tokens before c m f =
     let k : Climbs (peak 0 before) (expectation-pushed c m ∷ f .after) = climbs-after 0 before (expectation-pushed c m ∷ f .after) (subst (Climbs 0) (f .stands) (entry-climbs e tokens)) in
     let p : peak 0 before ≤ MAX-PENDING = peak-allowed b 0 [] before (omega arith) (f .each-before) in

@@ -6,11 +6,11 @@ use mathlib.Core.Path.{_≡_, refl, sym, subst}
 use mathlib.Core.Bool.{Bool, cond}
 use Rattle.definitions.specs.Grammar.{Entry, SourceFile, ReferenceNoamp, PropValues, Cells}
 use Rattle.definitions.specs.Call.{Asked, for, unknown, entry-of}
-use Rattle.refusals.specs.Refusals.{Past-1}
+use Rattle.refusals.specs.Refusals.{Passes-1}
 use Rattle.refusals.proofs.Tests.{Decides, holds, not-so, eqb-decides}
 
 pub data Asks (n : ℕ) : Asked → Type 0 where
-  known : (e : Entry) → Past-1 n e → Asks n (for e)
+  known : (e : Entry) → Passes-1 n e → Asks n (for e)
   not-known : ¬ ((1 ≤ n) × (n ≤ 4)) → Asks n unknown
 
 past : (n k : ℕ) → k ≤ n → ¬ (n ≡ k) → suc k ≤ n
@@ -31,14 +31,14 @@ asks n = by _ _ _ _ (eqb-decides n 1) (eqb-decides n 2) (eqb-decides n 3) (eqb-d
     by s t u v (not-so h) (not-so i) (not-so j) (holds k) = known Cells (sym k)
     by s t u v (not-so h) (not-so i) (not-so j) (not-so k) = not-known (not-1-to-4 n h i j k)
 
-pub entry-eq : (n : ℕ) (e : Entry) → Past-1 n e → entry-of n ≡ for e
+pub entry-eq : (n : ℕ) (e : Entry) → Passes-1 n e → entry-of n ≡ for e
 unfolding entry-of
 entry-eq n SourceFile h = subst (λ (k : ℕ). entry-of k ≡ for SourceFile) h refl
 entry-eq n ReferenceNoamp h = subst (λ (k : ℕ). entry-of k ≡ for ReferenceNoamp) h refl
 entry-eq n PropValues h = subst (λ (k : ℕ). entry-of k ≡ for PropValues) h refl
 entry-eq n Cells h = subst (λ (k : ℕ). entry-of k ≡ for Cells) h refl
 
-number-1-to-4 : (n : ℕ) (e : Entry) → Past-1 n e → (1 ≤ n) × (n ≤ 4)
+number-1-to-4 : (n : ℕ) (e : Entry) → Passes-1 n e → (1 ≤ n) × (n ≤ 4)
 number-1-to-4 n SourceFile h = (omega (arith, h), omega (arith, h))
 number-1-to-4 n ReferenceNoamp h = (omega (arith, h), omega (arith, h))
 number-1-to-4 n PropValues h = (omega (arith, h), omega (arith, h))

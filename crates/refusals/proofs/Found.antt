@@ -14,7 +14,7 @@ use Rattle.definitions.specs.Refusal as R
 use Rattle.definitions.specs.Call.{Buffers, Result, untouched, cleared, kept, delivered, forward-mark, outcome, room-of, run-entry, parse, Asked, entry-of, checked, asked, call}
 use Rattle.refusals.specs.First.{Each, First}
 use Rattle.refusals.specs.Trace.{Happening, call-opened, expectation-pushed, event-pushed, report-written}
-use Rattle.refusals.specs.Refusals.{Past-1, Sizes, Past-2, Past-3, Past-4, Allowed, happens, from-start, to-write, Tree-fits, First-met, Cause, unknown-entry, over-size, bad-row, odd-or-short, wrong-text, call-too-many, expectation-too-many, no-event-room, no-report-room, no-tree-room, none}
+use Rattle.refusals.specs.Refusals.{Passes-1, Sizes, Passes-2, Passes-3, Passes-4, Unrefused, happens, from-start, to-write, Tree-fits, First-met, Cause, unknown-entry, over-size, bad-row, odd-or-short, wrong-text, call-too-many, expectation-too-many, no-event-room, no-report-room, no-tree-room, none}
 use Rattle.refusals.specs.Answered.{Returns}
 use Rattle.refusals.proofs.Climbs.{the-65th, the-257th}
 use Rattle.refusals.proofs.Judged.{refusal-for, Ends, all-fits, first-stops, run-ends}
@@ -39,7 +39,7 @@ module _ (n : ℕ) (bytes tokens : List ℕ) (b : Buffers) where
   zero-found : (r : Refusal) → 5 ≤ number-of r → Cause n bytes tokens b (number-of r) (place-of r) → Found (cleared r b)
   zero-found r h c = (c, left-zero n tokens b r h)
 
-  first-found : (e : Entry) → Past-4 n bytes tokens e → (before : List Happening) (x : Happening) → First (Allowed b) (happens e tokens) before x → Found (cleared (forward-mark (length (tokens-of tokens)) (refusal-for x)) b)
+  first-found : (e : Entry) → Passes-4 n bytes tokens e → (before : List Happening) (x : Happening) → First (Unrefused b) (happens e tokens) before x → Found (cleared (forward-mark (length (tokens-of tokens)) (refusal-for x)) b)
   unfolding forward-mark number-of place-of
   first-found e p before (call-opened c m) f = zero-found (too-deep (from-start tokens m)) (omega arith)
       (call-too-many e p before m (subst (λ (k : ℕ). First-met e tokens b before (call-opened k m)) (the-65th b e tokens before c m f) f))
@@ -48,29 +48,29 @@ module _ (n : ℕ) (bytes tokens : List ℕ) (b : Buffers) where
   first-found e p before (event-pushed m) f = zero-found (R.no-event-room (from-start tokens m)) (omega arith) (no-event-room e p before m f)
   first-found e p before (report-written c m) f = zero-found (R.no-report-room (from-start tokens m)) (omega arith) (no-report-room e p before c m f)
 
-  tree-found : (e : Entry) → Past-4 n bytes tokens e → (z : Room) → scan (pushes (run-entry e (tokens-of tokens))) (room-of b) ≡ fits z → Each (Allowed b) (happens e tokens) → (t : Bool) → Decides (Tree-fits e tokens b) t
+  tree-found : (e : Entry) → Passes-4 n bytes tokens e → (z : Room) → scan (pushes (run-entry e (tokens-of tokens))) (room-of b) ≡ fits z → Each (Unrefused b) (happens e tokens) → (t : Bool) → Decides (Tree-fits e tokens b) t
       → Found (cond t (kept (to-write e tokens) b) (cleared R.no-tree-room b))
   unfolding number-of place-of
   tree-found e p z q h t (holds g) = (none e p h g, left-written n tokens b e (p .0 .0 .0) z q g)
   tree-found e p z q h t (not-so g) = zero-found R.no-tree-room (omega arith) (no-tree-room e p h g)
 
-  run-found : (e : Entry) → Past-4 n bytes tokens e → (f : Fit) → scan (pushes (run-entry e (tokens-of tokens))) (room-of b) ≡ f → Ends b (happens e tokens) f → Found (outcome f e (tokens-of tokens) (run-entry e (tokens-of tokens)) b)
+  run-found : (e : Entry) → Passes-4 n bytes tokens e → (f : Fit) → scan (pushes (run-entry e (tokens-of tokens))) (room-of b) ≡ f → Ends b (happens e tokens) f → Found (outcome f e (tokens-of tokens) (run-entry e (tokens-of tokens)) b)
   unfolding outcome delivered
   run-found e p f q (all-fits z h) = tree-found e p z q h _ (tree-decides tokens b e)
   run-found e p f q (first-stops before x h) = first-found e p before x h
 
-  texts-found : (e : Entry) → Past-3 n bytes tokens e → (v : Verdict) → Texts bytes (tokens-of tokens) v → Found (checked v e tokens b)
+  texts-found : (e : Entry) → Passes-3 n bytes tokens e → (v : Verdict) → Texts bytes (tokens-of tokens) v → Found (checked v e tokens b)
   unfolding checked parse number-of place-of
   texts-found e p v (right-texts h) = run-found e (p, h) _ refl (run-ends b e tokens)
   texts-found e p v (wrong-one before t f) = refused-found (bad-text (length before)) (omega arith) (wrong-text e p before t f)
 
-  rows-found : (e : Entry) → Past-2 n bytes tokens e → (v : Verdict) → Rows bytes tokens v → Found (checked (v or-else check-texts 0 bytes (tokens-of tokens)) e tokens b)
+  rows-found : (e : Entry) → Passes-2 n bytes tokens e → (v : Verdict) → Rows bytes tokens v → Found (checked (v or-else check-texts 0 bytes (tokens-of tokens)) e tokens b)
   unfolding checked _or-else_ number-of place-of
   rows-found e p v (good-rows h c) = texts-found e (p, h, c) _ (judged-texts bytes (tokens-of tokens))
   rows-found e p v (bad-one before t f) = refused-found (R.bad-row (length before)) (omega arith) (bad-row e p before t f)
   rows-found e p v (no-cover h c) = refused-found (R.bad-row (length (tokens-of tokens))) (omega arith) (odd-or-short e p h c)
 
-  sizes-found : (e : Entry) → Past-1 n e → (t : Bool) → Decides (Sizes bytes tokens) t → Found (checked (unless t too-long or-else (check-rows 0 (length bytes) tokens or-else check-texts 0 bytes (tokens-of tokens))) e tokens b)
+  sizes-found : (e : Entry) → Passes-1 n e → (t : Bool) → Decides (Sizes bytes tokens) t → Found (checked (unless t too-long or-else (check-rows 0 (length bytes) tokens or-else check-texts 0 bytes (tokens-of tokens))) e tokens b)
   unfolding checked _or-else_ number-of place-of
   sizes-found e p t (holds h) = rows-found e (p, h) _ (judged-rows bytes tokens)
   sizes-found e p t (not-so h) = refused-found too-long (omega arith) (over-size e p h)

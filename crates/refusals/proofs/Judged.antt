@@ -16,7 +16,7 @@ use Rattle.definitions.specs.Refusal.{Refusal, too-deep, no-event-room, no-repo
 use Rattle.definitions.specs.Call.{Buffers, room-of, run-entry}
 use Rattle.refusals.specs.First.{Each, First}
 use Rattle.refusals.specs.Trace.{Happening, call-opened, expectation-pushed, event-pushed, report-written}
-use Rattle.refusals.specs.Refusals.{MAX-OPEN, MAX-PENDING, events-in, reports-in, expectations-in, Allowed, happens}
+use Rattle.refusals.specs.Refusals.{MAX-OPEN, MAX-PENDING, events-in, reports-in, expectations-in, Unrefused, happens}
 use Rattle.refusals.proofs.Firsts.{Each-after, First-after, each-nil, each-cons, first-here, first-later, from-nothing}
 use Rattle.refusals.proofs.Steps.{Step, an-event, a-row, too-many, if-broken, told, flat}
 use Rattle.refusals.proofs.Told.{entry-tells}
@@ -82,15 +82,15 @@ refusal-for (event-pushed m) = no-event-room m
 refusal-for (report-written c m) = no-report-room m
 
 data Judged (b : Buffers) (pre l : List Happening) : Fit → Type 0 where
-  all : (z : Room) → Each-after (Allowed b) pre l → Judged b pre l (fits z)
-  first : (before : List Happening) (x : Happening) → First-after (Allowed b) pre l before x → Judged b pre l (stops (refusal-for x))
+  all : (z : Room) → Each-after (Unrefused b) pre l → Judged b pre l (fits z)
+  first : (before : List Happening) (x : Happening) → First-after (Unrefused b) pre l before x → Judged b pre l (stops (refusal-for x))
 
-here : (b : Buffers) (pre l : List Happening) (x : Happening) → ¬ Allowed b pre x → Judged b pre (x ∷ l) (stops (refusal-for x))
-here b pre l x h = first [] x (first-here (Allowed b) pre x l h)
+here : (b : Buffers) (pre l : List Happening) (x : Happening) → ¬ Unrefused b pre x → Judged b pre (x ∷ l) (stops (refusal-for x))
+here b pre l x h = first [] x (first-here (Unrefused b) pre x l h)
 
-later : (b : Buffers) (pre l : List Happening) (x : Happening) (f : Fit) → Allowed b pre x → Judged b (pre ++ (x ∷ [])) l f → Judged b pre (x ∷ l) f
-later b pre l x f h (all z g) = all z (each-cons (Allowed b) pre x l h g)
-later b pre l x f h (first before y g) = first (x ∷ before) y (first-later (Allowed b) pre x l before y h g)
+later : (b : Buffers) (pre l : List Happening) (x : Happening) (f : Fit) → Unrefused b pre x → Judged b (pre ++ (x ∷ [])) l f → Judged b pre (x ∷ l) f
+later b pre l x f h (all z g) = all z (each-cons (Unrefused b) pre x l h g)
+later b pre l x f h (first before y g) = first (x ∷ before) y (first-later (Unrefused b) pre x l before y h g)
 
 -- the room after one more
 left-more : (b : Buffers) (pre : List Happening) (x : Happening) (z y : Room) → Left b pre z → y .events ≡ z .events - events-in (x ∷ []) → y .reports ≡ z .reports - reports-in (x ∷ [])
@@ -104,7 +104,7 @@ left-more b pre x z y w e r p i =
     }
 
 -- a limit, broken or not
-limit-walk : (b : Buffers) (pre l : List Happening) (x : Happening) (m : ℕ) (t : Bool) (z : Room) → refusal-for x ≡ too-deep m → (t ≡ true → Allowed b pre x) → (t ≡ false → ¬ Allowed b pre x)
+limit-walk : (b : Buffers) (pre l : List Happening) (x : Happening) (m : ℕ) (t : Bool) (z : Room) → refusal-for x ≡ too-deep m → (t ≡ true → Unrefused b pre x) → (t ≡ false → ¬ Unrefused b pre x)
     → Judged b (pre ++ (x ∷ [])) l (judge (told l) z) → Judged b pre (x ∷ l) (judge (if-broken t m ++ told l) z)
 unfolding judge
 limit-walk b pre l x m true z e h g j = later b pre l x (judge (told l) z) (h refl) j
@@ -114,7 +114,7 @@ event-walk : (b : Buffers) (pre l : List Happening) (m e : ℕ) (z : Room) → L
     → ((y : Room) → Left b (pre ++ (event-pushed m ∷ [])) y → Judged b (pre ++ (event-pushed m ∷ [])) l (judge (told l) y))
     → Judged b pre (event-pushed m ∷ l) (one-event m e (z .reports) (z .pool) (judge (told l)))
 unfolding one-event events-in reports-in expectations-in
-event-walk b pre l m zero z w h k = here b pre l (event-pushed m) (λ (a : Allowed b pre (event-pushed m)). omega (arith, a, h, w .events))
+event-walk b pre l m zero z w h k = here b pre l (event-pushed m) (λ (a : Unrefused b pre (event-pushed m)). omega (arith, a, h, w .events))
 event-walk b pre l m (suc e) z w h k =
     let y : Room = record { events = e; reports = z .reports; pool = z .pool } in
     later b pre l (event-pushed m) (judge (told l) y) (omega (arith, h, w .events))
@@ -124,7 +124,7 @@ report-walk : (b : Buffers) (pre l : List Happening) (c m r : ℕ) (z : Room) �
     → ((y : Room) → Left b (pre ++ (report-written c m ∷ [])) y → Judged b (pre ++ (report-written c m ∷ [])) l (judge (told l) y))
     → Judged b pre (report-written c m ∷ l) (one-report m c (z .events) r (z .pool) (judge (told l)))
 unfolding one-report events-in reports-in expectations-in
-report-walk b pre l c m zero z w h k = here b pre l (report-written c m) (λ (a : Allowed b pre (report-written c m)). omega (arith, a .0, h, w .reports))
+report-walk b pre l c m zero z w h k = here b pre l (report-written c m) (λ (a : Unrefused b pre (report-written c m)). omega (arith, a .0, h, w .reports))
 report-walk b pre l c m (suc r) z w h k = by (leb c (z .pool)) refl
   where
     y : Room
@@ -139,11 +139,11 @@ report-walk b pre l c m (suc r) z w h k = by (leb c (z .pool)) refl
         (k y (left-more b pre (report-written c m) z y w (omega arith) (omega (arith, h)) (omega arith) (omega (arith, i))))
     by false e =
         let q : z .pool < c = leb-false c (z .pool) e in
-        here b pre l (report-written c m) (λ (a : Allowed b pre (report-written c m)). omega (arith, a .1, q, w .pool))
+        here b pre l (report-written c m) (λ (a : Unrefused b pre (report-written c m)). omega (arith, a .1, q, w .pool))
 
 walk : (b : Buffers) (pre l : List Happening) (z : Room) → Left b pre z → Judged b pre l (judge (told l) z)
 unfolding judge told events-in reports-in expectations-in
-walk b pre [] z w = all z (each-nil (Allowed b) pre)
+walk b pre [] z w = all z (each-nil (Unrefused b) pre)
 walk b pre (call-opened c m ∷ l) z w =
     limit-walk b pre l (call-opened c m) m (leb c MAX-OPEN) z refl (leb-true c MAX-OPEN) (λ e (a : c ≤ MAX-OPEN). let h : MAX-OPEN < c = leb-false c MAX-OPEN e in omega (arith, a, h))
     (walk b (pre ++ (call-opened c m ∷ [])) l z (left-more b pre (call-opened c m) z z w (omega arith) (omega arith) (omega arith) (omega (arith, w .within))))
@@ -156,12 +156,12 @@ walk b pre (report-written c m ∷ l) z w = report-walk b pre l c m (z .reports)
 -- ---------------------------------------------------------------- a file's run
 
 pub data Ends (b : Buffers) (l : List Happening) : Fit → Type 0 where
-  all-fits : (z : Room) → Each (Allowed b) l → Ends b l (fits z)
-  first-stops : (before : List Happening) (x : Happening) → First (Allowed b) l before x → Ends b l (stops (refusal-for x))
+  all-fits : (z : Room) → Each (Unrefused b) l → Ends b l (fits z)
+  first-stops : (before : List Happening) (x : Happening) → First (Unrefused b) l before x → Ends b l (stops (refusal-for x))
 
 ended : (b : Buffers) (l : List Happening) (f : Fit) → Judged b [] l f → Ends b l f
 ended b l f (all z h) = all-fits z h
-ended b l f (first before x h) = first-stops before x (from-nothing (Allowed b) l before x h)
+ended b l f (first before x h) = first-stops before x (from-nothing (Unrefused b) l before x h)
 
 -- WHAT THE RUN MEETS FIRST
 pub run-ends : (b : Buffers) (e : Entry) (tokens : List ℕ) → Ends b (happens e tokens) (scan (pushes (run-entry e (tokens-of tokens))) (room-of b))

@@ -12,7 +12,7 @@ use Rattle.definitions.specs.Refusal as R
 use Rattle.definitions.specs.Call.{Buffers, Result, untouched, cleared, kept, delivered, forward-mark, outcome, room-of, run-entry, parse, Asked, checked, asked, call}
 use Rattle.refusals.specs.First.{Each, First}
 use Rattle.refusals.specs.Trace.{Happening, call-opened, expectation-pushed, event-pushed, report-written}
-use Rattle.refusals.specs.Refusals.{MAX-OPEN, MAX-PENDING, Past-1, Sizes, Past-2, Good-row, Covers, Past-3, Right-text, Past-4, Allowed, happens, to-write, Cause, unknown-entry, over-size, bad-row, odd-or-short, wrong-text, call-too-many, expectation-too-many, no-event-room, no-report-room, no-tree-room, none, Refusals}
+use Rattle.refusals.specs.Refusals.{MAX-OPEN, MAX-PENDING, Passes-1, Sizes, Passes-2, Good-row, Covers, Passes-3, Right-text, Passes-4, Unrefused, happens, to-write, Cause, unknown-entry, over-size, bad-row, odd-or-short, wrong-text, call-too-many, expectation-too-many, no-event-room, no-report-room, no-tree-room, none, Refusals}
 use Rattle.refusals.specs.Answered.{Answered}
 use Rattle.refusals.proofs.Firsts.{only-first, first-each}
 use Rattle.refusals.proofs.Judged.{refusal-for, Ends, all-fits, first-stops, run-ends}
@@ -79,13 +79,13 @@ module _ (bytes tokens : List ℕ) where
 -- ---------------------------------------------------------------- the run
 
 module _ (b : Buffers) (l : List Happening) where
-  run-fits : Each (Allowed b) l → (f : Fit) → Ends b l f → (z : Room) × (f ≡ fits z)
+  run-fits : Each (Unrefused b) l → (f : Fit) → Ends b l f → (z : Room) × (f ≡ fits z)
   run-fits h f (all-fits z g) = (z, refl)
-  run-fits h f (first-stops before x g) = absurd (first-each (Allowed b) l before x g h)
+  run-fits h f (first-stops before x g) = absurd (first-each (Unrefused b) l before x g h)
 
-  run-stops : (before : List Happening) (x : Happening) → First (Allowed b) l before x → (f : Fit) → Ends b l f → f ≡ stops (refusal-for x)
-  run-stops before x h f (all-fits z g) = absurd (first-each (Allowed b) l before x h g)
-  run-stops before x h f (first-stops before′ x′ g) = ap (λ (y : Happening). stops (refusal-for y)) (only-first (Allowed b) l before′ before x′ x g h .1)
+  run-stops : (before : List Happening) (x : Happening) → First (Unrefused b) l before x → (f : Fit) → Ends b l f → f ≡ stops (refusal-for x)
+  run-stops before x h f (all-fits z g) = absurd (first-each (Unrefused b) l before x h g)
+  run-stops before x h f (first-stops before′ x′ g) = ap (λ (y : Happening). stops (refusal-for y)) (only-first (Unrefused b) l before′ before x′ x g h .1)
 
 module _ (n : ℕ) (bytes tokens : List ℕ) (b : Buffers) where
   abbrev Returned : ℕ → ℕ → Type 0
@@ -94,32 +94,32 @@ module _ (n : ℕ) (bytes tokens : List ℕ) (b : Buffers) where
   returned : (x : Result) → call n bytes tokens b ≡ x → Returned (x .answer .number) (x .answer .place)
   returned x h = (ap (λ (y : Result). y .answer .number) h, ap (λ (y : Result). y .answer .place) h)
 
-  checks : (e : Entry) → Past-1 n e → (v : Verdict) → check-input bytes tokens ≡ v → call n bytes tokens b ≡ checked v e tokens b
+  checks : (e : Entry) → Passes-1 n e → (v : Verdict) → check-input bytes tokens ≡ v → call n bytes tokens b ≡ checked v e tokens b
   unfolding call asked
   checks e p v h = ap (λ (x : Asked). asked x bytes tokens b) (entry-eq n e p) ∙ ap (λ (w : Verdict). checked w e tokens b) h
 
-  refuses : (e : Entry) → Past-1 n e → (r : Refusal) → check-input bytes tokens ≡ refused r → Returned (number-of r) (place-of r)
+  refuses : (e : Entry) → Passes-1 n e → (r : Refusal) → check-input bytes tokens ≡ refused r → Returned (number-of r) (place-of r)
   unfolding checked
   refuses e p r h = returned (untouched r b) (checks e p (refused r) h)
 
-  input-3 : (e : Entry) → Past-2 n bytes tokens e → (r : Refusal) → ((v : Verdict) → Rows bytes tokens v → v ≡ refused r) → Returned (number-of r) (place-of r)
+  input-3 : (e : Entry) → Passes-2 n bytes tokens e → (r : Refusal) → ((v : Verdict) → Rows bytes tokens v → v ≡ refused r) → Returned (number-of r) (place-of r)
   input-3 e p r h = refuses e (p .0) r (input-rows bytes tokens r (sizes-kept bytes tokens (p .1)) (h _ (judged-rows bytes tokens)))
 
-  input-4 : (e : Entry) → Past-3 n bytes tokens e → (v : Verdict) → ((w : Verdict) → Texts bytes (tokens-of tokens) w → w ≡ v) → check-input bytes tokens ≡ v
+  input-4 : (e : Entry) → Passes-3 n bytes tokens e → (v : Verdict) → ((w : Verdict) → Texts bytes (tokens-of tokens) w → w ≡ v) → check-input bytes tokens ≡ v
   input-4 e p v h = input-texts bytes tokens v (sizes-kept bytes tokens (p .0 .1)) (rows-pass bytes tokens (p .1) (p .2) _ (judged-rows bytes tokens)) (h _ (judged-texts bytes (tokens-of tokens)))
 
-  runs : (e : Entry) → Past-4 n bytes tokens e → (f : Fit) → scan (pushes (run-entry e (tokens-of tokens))) (room-of b) ≡ f → call n bytes tokens b ≡ outcome f e (tokens-of tokens) (run-entry e (tokens-of tokens)) b
+  runs : (e : Entry) → Passes-4 n bytes tokens e → (f : Fit) → scan (pushes (run-entry e (tokens-of tokens))) (room-of b) ≡ f → call n bytes tokens b ≡ outcome f e (tokens-of tokens) (run-entry e (tokens-of tokens)) b
   unfolding checked parse
   runs e p f h =
       checks e (p .0 .0 .0) accepted (input-4 e (p .0) accepted (texts-pass bytes tokens (p .1))) ∙ ap (λ (g : Fit). outcome g e (tokens-of tokens) (run-entry e (tokens-of tokens)) b) h
 
-  stops-at : (e : Entry) → Past-4 n bytes tokens e → (before : List Happening) (x : Happening) → First (Allowed b) (happens e tokens) before x
+  stops-at : (e : Entry) → Passes-4 n bytes tokens e → (before : List Happening) (x : Happening) → First (Unrefused b) (happens e tokens) before x
       → Returned (number-of (forward-mark (length (tokens-of tokens)) (refusal-for x))) (place-of (forward-mark (length (tokens-of tokens)) (refusal-for x)))
   unfolding outcome
   stops-at e p before x f =
       returned (cleared (forward-mark (length (tokens-of tokens)) (refusal-for x)) b) (runs e p (stops (refusal-for x)) (run-stops b (happens e tokens) before x f _ (run-ends b e tokens)))
 
-  finishes : (e : Entry) → Past-4 n bytes tokens e → Each (Allowed b) (happens e tokens) → call n bytes tokens b ≡ delivered (to-write e tokens) b
+  finishes : (e : Entry) → Passes-4 n bytes tokens e → Each (Unrefused b) (happens e tokens) → call n bytes tokens b ≡ delivered (to-write e tokens) b
   unfolding outcome
   finishes e p h = let g : (z : Room) × (scan (pushes (run-entry e (tokens-of tokens))) (room-of b) ≡ fits z) = run-fits b (happens e tokens) h _ (run-ends b e tokens) in runs e p (fits (g .0)) (g .1)
 

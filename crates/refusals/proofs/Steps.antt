@@ -10,7 +10,7 @@ use Rattle.definitions.specs.TokenKind as K
 use Rattle.definitions.specs.Token.{Token, trivia}
 use Rattle.definitions.specs.Prog.{Act, silent-at, at-end, immediate, immediate-next, add-expected, bump, bump-name, bump-argument, emit, emit-unclosed, less}
 use Rattle.definitions.specs.Skeleton.{Label, Skeleton, done, token, name, node, ignored, report, over, _⧺_}
-use Rattle.definitions.specs.Run.{State, Out, mark-of, peeked, answer, makes, taken, do-bump, do-name, add, at-depth, do-argument, do-emit, over-unless, do-expected, perform, closed}
+use Rattle.definitions.specs.Run.{State, Out, mark-of, peeked, replies, makes, taken, do-bump, do-name, add, at-depth, do-argument, do-emit, over-unless, do-expected, perform, closed}
 use Rattle.definitions.specs.Report.{Push, event, reported, exceeded, pushes}
 use Rattle.laws.proofs.Skeleton.{pushes-join, pushes-closed}
 use Rattle.basics.proofs.Tests.{cond-all}
@@ -92,12 +92,12 @@ plain-told (report r o) h = ap (λ (z : List Step). an-event (r .mark) ∷ a-row
 plain-told (over m o) h = absurd h
 
 bump-plain : (s : State) (l : List Token) → Plain (do-bump s l .made)
-unfolding do-bump answer makes
+unfolding do-bump replies makes
 bump-plain s [] = tt
 bump-plain s (t ∷ ts) = tt
 
 name-plain : (ks : List ℕ) (s : State) (l : List Token) → Plain (do-name ks s l .made)
-unfolding do-name answer makes
+unfolding do-name replies makes
 name-plain ks s [] = tt
 name-plain ks s (t ∷ ts) = tt
 
@@ -110,7 +110,7 @@ depth-plain zero o f p q = p
 depth-plain (suc n) o f p q = q n
 
 argument-plain : (n : ℕ) (s : State) (ts : List Token) → Plain-out (do-argument n s ts)
-unfolding do-argument answer makes add _⧺_
+unfolding do-argument replies makes add _⧺_
 argument-plain n s [] = tt
 argument-plain n s (t ∷ ts) =
     cond-all Plain-out (trivia t) (argument-plain n s ts)
@@ -124,7 +124,7 @@ room-told true m = refl
 room-told false m = refl
 
 pub act-told : (b : Label) (a : Act) (s : State) → steps (perform b a s .made) ≡ told (act-trace b a s)
-unfolding perform act-trace answer makes do-expected do-emit pushes flat told made-by
+unfolding perform act-trace replies makes do-expected do-emit pushes flat told made-by
 act-told b (silent-at ks) s = refl
 act-told b at-end s = refl
 act-told b (immediate k) s = refl

@@ -10,7 +10,7 @@ use Rattle.definitions.specs.Token.{Token}
 use Rattle.definitions.specs.Prog.{Ans, no, yes, also, again, Rule, Prog, ret, act, _⨟_, case, in-marker, loop, chain, brace, open-call}
 use Rattle.definitions.specs.Grammar.{grammar, Entry, whole}
 use Rattle.definitions.specs.Skeleton.{Label, no-label, Skeleton, done, _⧺_}
-use Rattle.definitions.specs.Run.{State, Out, mark-of, answer, makes, taken, add, choose, closed, marked, is-again, goes-on, iter, unlinked, by-shape, links, chained, here, exec, run}
+use Rattle.definitions.specs.Run.{State, Out, mark-of, replies, makes, taken, add, choose, closed, marked, is-again, goes-on, iter, unlinked, by-shape, links, chained, here, exec, run}
 use Rattle.definitions.specs.Report.{pushes}
 use Rattle.definitions.specs.Call.{run-entry}
 use Rattle.laws.proofs.Pieces.{linked}
@@ -32,7 +32,7 @@ turn-tells true o x l m h g = join-tells (o .made) (x .made) l m h g
 turn-tells false o x l m h g = h ∙ ap told (sym (append-nil l))
 
 iter-tells : (n : ℕ) (f : State → Out) (g : State → List Happening) → Tells f g → Tells (iter n f) (iter-trace n f g)
-unfolding iter iter-trace answer pushes flat told
+unfolding iter iter-trace replies pushes flat told
 iter-tells zero f g h s = refl
 iter-tells (suc n) f g h s = turn-tells (goes-on s (f s)) (f s) (iter n f (f s .state)) (g s) (iter-trace n f g (f s .state)) (h s) (iter-tells n f g h (f s .state))
 

@@ -39,15 +39,15 @@ entry-number ReferenceNoamp = 2
 entry-number PropValues = 3
 entry-number Cells = 4
 
-abbrev pub Past-1 : ℕ → Entry → Type 0
-Past-1 n e = entry-number e ≡ n
+abbrev pub Passes-1 : ℕ → Entry → Type 0
+Passes-1 n e = entry-number e ≡ n
 
 -- 2: the sizes
 abbrev pub Sizes : List ℕ → List ℕ → Type 0
 Sizes bytes tokens = (length bytes ≤ MAX-BYTES) × (length tokens ≤ MAX-NUMBERS)
 
-abbrev pub Past-2 : ℕ → List ℕ → List ℕ → Entry → Type 0
-Past-2 n bytes tokens e = Past-1 n e × Sizes bytes tokens
+abbrev pub Passes-2 : ℕ → List ℕ → List ℕ → Entry → Type 0
+Passes-2 n bytes tokens e = Passes-1 n e × Sizes bytes tokens
 
 -- 3: a kind that may be input
 pub data Input-kind (k : ℕ) : Type 0 where
@@ -64,15 +64,15 @@ pub record Good-row (bytes : List ℕ) (before : List Token) (t : Token) : Type 
 abbrev pub Covers : List ℕ → List ℕ → Type 0
 Covers bytes tokens = (length tokens ≡ 2 * length (tokens-of tokens)) × (byte-count (tokens-of tokens) ≡ length bytes)
 
-abbrev pub Past-3 : ℕ → List ℕ → List ℕ → Entry → Type 0
-Past-3 n bytes tokens e = Past-2 n bytes tokens e × Each (Good-row bytes) (tokens-of tokens) × Covers bytes tokens
+abbrev pub Passes-3 : ℕ → List ℕ → List ℕ → Entry → Type 0
+Passes-3 n bytes tokens e = Passes-2 n bytes tokens e × Each (Good-row bytes) (tokens-of tokens) × Covers bytes tokens
 
 -- 4: where the table of static texts has a text for the row's kind, that is what the row's bytes are
 abbrev pub Right-text : List ℕ → List Token → Token → Type 0
 Right-text bytes before t = Each (λ above entry. entry .kind ≡ t .kind → take (t .len) (drop (byte-count before) bytes) ≡ entry .text) static-texts
 
-abbrev pub Past-4 : ℕ → List ℕ → List ℕ → Entry → Type 0
-Past-4 n bytes tokens e = Past-3 n bytes tokens e × Each (Right-text bytes) (tokens-of tokens)
+abbrev pub Passes-4 : ℕ → List ℕ → List ℕ → Entry → Type 0
+Passes-4 n bytes tokens e = Passes-3 n bytes tokens e × Each (Right-text bytes) (tokens-of tokens)
 
 -- ---------------------------------------------------------------- causes 5 to 8: the limits and the room
 
@@ -99,11 +99,11 @@ expectations-in (report-written c m ∷ l) = c + expectations-in l
 
 -- What happens breaks no limit and fits: with this one the open calls are at most 64, the pending expectations at most 256; with those
 -- before it the event rows, the report rows and the expectations written are no more than their buffer holds.
-abbrev pub Allowed : Buffers → List Happening → Happening → Type 0
-Allowed b before (call-opened c m) = c ≤ MAX-OPEN
-Allowed b before (expectation-pushed c m) = c ≤ MAX-PENDING
-Allowed b before (event-pushed m) = EVENT-ROW * suc (events-in before) ≤ length (b .events)
-Allowed b before (report-written c m) = (REPORT-ROW * suc (reports-in before) ≤ length (b .reports)) × (expectations-in before + c ≤ length (b .pool))
+abbrev pub Unrefused : Buffers → List Happening → Happening → Type 0
+Unrefused b before (call-opened c m) = c ≤ MAX-OPEN
+Unrefused b before (expectation-pushed c m) = c ≤ MAX-PENDING
+Unrefused b before (event-pushed m) = EVENT-ROW * suc (events-in before) ≤ length (b .events)
+Unrefused b before (report-written c m) = (REPORT-ROW * suc (reports-in before) ≤ length (b .reports)) × (expectations-in before + c ≤ length (b .pool))
 
 abbrev pub happens : Entry → List ℕ → List Happening
 happens e tokens = trace MAX-OPEN e (tokens-of tokens)
@@ -124,32 +124,32 @@ Tree-fits e tokens b = (length (to-write e tokens .trees) ≤ length (b .trees))
 
 -- the first of what happens that is not allowed
 abbrev pub First-met : Entry → List ℕ → Buffers → List Happening → Happening → Type 0
-First-met e tokens b before x = First (Allowed b) (happens e tokens) before x
+First-met e tokens b before x = First (Unrefused b) (happens e tokens) before x
 
 -- the condition for each number and place, in document 01's order and words
 pub data Cause (n : ℕ) (bytes tokens : List ℕ) (b : Buffers) : ℕ → ℕ → Type 0 where
   -- entry not 1 to 4
   unknown-entry : ¬ ((1 ≤ n) × (n ≤ 4)) → Cause n bytes tokens b 1 0
   -- over 1,048,576 bytes or 131,072 token numbers
-  over-size : (e : Entry) → Past-1 n e → ¬ Sizes bytes tokens → Cause n bytes tokens b 2 0
+  over-size : (e : Entry) → Passes-1 n e → ¬ Sizes bytes tokens → Cause n bytes tokens b 2 0
   -- a row with a bad kind, length 0 or an end past the input: the first bad row
-  bad-row : (e : Entry) → Past-2 n bytes tokens e → (before : List Token) (t : Token) → First (Good-row bytes) (tokens-of tokens) before t → Cause n bytes tokens b 3 (length before)
+  bad-row : (e : Entry) → Passes-2 n bytes tokens e → (before : List Token) (t : Token) → First (Good-row bytes) (tokens-of tokens) before t → Cause n bytes tokens b 3 (length before)
   -- odd numbers or a short total: the count of whole rows
-  odd-or-short : (e : Entry) → Past-2 n bytes tokens e → Each (Good-row bytes) (tokens-of tokens) → ¬ Covers bytes tokens → Cause n bytes tokens b 3 (length (tokens-of tokens))
+  odd-or-short : (e : Entry) → Passes-2 n bytes tokens e → Each (Good-row bytes) (tokens-of tokens) → ¬ Covers bytes tokens → Cause n bytes tokens b 3 (length (tokens-of tokens))
   -- bytes of a kind with a static text differ from it: the first such row
-  wrong-text : (e : Entry) → Past-3 n bytes tokens e → (before : List Token) (t : Token) → First (Right-text bytes) (tokens-of tokens) before t → Cause n bytes tokens b 4 (length before)
+  wrong-text : (e : Entry) → Passes-3 n bytes tokens e → (before : List Token) (t : Token) → First (Right-text bytes) (tokens-of tokens) before t → Cause n bytes tokens b 4 (length before)
   -- a 65th open call
-  call-too-many : (e : Entry) → Past-4 n bytes tokens e → (before : List Happening) (m : ℕ) → First-met e tokens b before (call-opened (suc MAX-OPEN) m) → Cause n bytes tokens b 5 (from-start tokens m)
+  call-too-many : (e : Entry) → Passes-4 n bytes tokens e → (before : List Happening) (m : ℕ) → First-met e tokens b before (call-opened (suc MAX-OPEN) m) → Cause n bytes tokens b 5 (from-start tokens m)
   -- a 257th pending expectation
-  expectation-too-many : (e : Entry) → Past-4 n bytes tokens e → (before : List Happening) (m : ℕ) → First-met e tokens b before (expectation-pushed (suc MAX-PENDING) m) → Cause n bytes tokens b 5 (from-start tokens m)
+  expectation-too-many : (e : Entry) → Passes-4 n bytes tokens e → (before : List Happening) (m : ℕ) → First-met e tokens b before (expectation-pushed (suc MAX-PENDING) m) → Cause n bytes tokens b 5 (from-start tokens m)
   -- the next event does not fit
-  no-event-room : (e : Entry) → Past-4 n bytes tokens e → (before : List Happening) (m : ℕ) → First-met e tokens b before (event-pushed m) → Cause n bytes tokens b 6 (from-start tokens m)
+  no-event-room : (e : Entry) → Passes-4 n bytes tokens e → (before : List Happening) (m : ℕ) → First-met e tokens b before (event-pushed m) → Cause n bytes tokens b 6 (from-start tokens m)
   -- a report row or its expectations do not fit
-  no-report-room : (e : Entry) → Past-4 n bytes tokens e → (before : List Happening) (c m : ℕ) → First-met e tokens b before (report-written c m) → Cause n bytes tokens b 7 (from-start tokens m)
+  no-report-room : (e : Entry) → Passes-4 n bytes tokens e → (before : List Happening) (c m : ℕ) → First-met e tokens b before (report-written c m) → Cause n bytes tokens b 7 (from-start tokens m)
   -- the tree or the lexical errors do not fit
-  no-tree-room : (e : Entry) → Past-4 n bytes tokens e → Each (Allowed b) (happens e tokens) → ¬ Tree-fits e tokens b → Cause n bytes tokens b 8 0
+  no-tree-room : (e : Entry) → Passes-4 n bytes tokens e → Each (Unrefused b) (happens e tokens) → ¬ Tree-fits e tokens b → Cause n bytes tokens b 8 0
   -- accepted
-  none : (e : Entry) → Past-4 n bytes tokens e → Each (Allowed b) (happens e tokens) → Tree-fits e tokens b → Cause n bytes tokens b 0 0
+  none : (e : Entry) → Passes-4 n bytes tokens e → Each (Unrefused b) (happens e tokens) → Tree-fits e tokens b → Cause n bytes tokens b 0 0
 
 -- for every call, each number with each place: returned if and only if its cause is there
 abbrev pub Refusals : Type 0

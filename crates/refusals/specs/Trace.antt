@@ -72,20 +72,20 @@ choose-trace again n y a = y
 -- ask: what a call does. inside: what happens in it.
 unfoldable pub exec-trace : (Rule → State → Out) → (Rule → State → List Happening) → Label → Prog → State → List Happening
 unfolding exec is-again act-trace choose-trace iter-trace links-trace
-exec-trace ask inside b (ret k a) s = []
-exec-trace ask inside b (act a) s = act-trace b a s
-exec-trace ask inside b (p ⨟ q) s = exec-trace ask inside b p s ++ exec-trace ask inside b q (exec ask b p s .state)
-exec-trace ask inside b (case c n y a) s =
+exec-trace ask in-call b (ret k a) s = []
+exec-trace ask in-call b (act a) s = act-trace b a s
+exec-trace ask in-call b (p ⨟ q) s = exec-trace ask in-call b p s ++ exec-trace ask in-call b q (exec ask b p s .state)
+exec-trace ask in-call b (case c n y a) s =
     let o = exec ask b c s in
-    exec-trace ask inside b c s ++ choose-trace (o .ans) (exec-trace ask inside b n) (exec-trace ask inside b y) (exec-trace ask inside b a) (o .state)
-exec-trace ask inside b (in-marker p) s = event-at s ++ (exec-trace ask inside b p s ++ event-at (exec ask b p s .state))
-exec-trace ask inside b (loop p) s = iter-trace (suc (length (s .rest))) (exec ask b p) (exec-trace ask inside b p) s
-exec-trace ask inside b (chain p q) s =
+    exec-trace ask in-call b c s ++ choose-trace (o .ans) (exec-trace ask in-call b n) (exec-trace ask in-call b y) (exec-trace ask in-call b a) (o .state)
+exec-trace ask in-call b (in-marker p) s = event-at s ++ (exec-trace ask in-call b p s ++ event-at (exec ask b p s .state))
+exec-trace ask in-call b (loop p) s = iter-trace (suc (length (s .rest))) (exec ask b p) (exec-trace ask in-call b p) s
+exec-trace ask in-call b (chain p q) s =
     let o = exec ask b p s in
-    let more = links-trace (suc (length (o .state .rest))) (exec ask b q) (exec-trace ask inside b q) (o .state) in
-    event-at s ++ (exec-trace ask inside b p s ++ cond (is-again (o .ans)) more (event-at (o .state)))
-exec-trace ask inside b (brace p) s = exec-trace ask inside (here (s .rest)) p s
-exec-trace ask inside b (open-call r) s = inside r s
+    let more = links-trace (suc (length (o .state .rest))) (exec ask b q) (exec-trace ask in-call b q) (o .state) in
+    event-at s ++ (exec-trace ask in-call b p s ++ cond (is-again (o .ans)) more (event-at (o .state)))
+exec-trace ask in-call b (brace p) s = exec-trace ask in-call (here (s .rest)) p s
+exec-trace ask in-call b (open-call r) s = in-call r s
 
 -- a rule, with so many more open calls allowed and so many open around it; the call that is one too many comes no further
 unfoldable pub run-trace : ℕ → ℕ → Rule → State → List Happening

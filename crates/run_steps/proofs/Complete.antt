@@ -11,13 +11,13 @@ use Rattle.definitions.specs.Token.{Token, trivia}
 use Rattle.definitions.specs.Prog.{Ans, no, yes, also, again, Rule, Act, silent-at, at-end, immediate, immediate-next, add-expected, bump, bump-name, bump-argument, emit, emit-unclosed, less, Prog, ret, act, _⨟_, case, in-marker, loop, chain, brace, open-call}
 use Rattle.definitions.specs.Grammar.{grammar, whole}
 use Rattle.definitions.specs.Skeleton.{Label, no-label, Skeleton, done, token, _⧺_}
-use Rattle.definitions.specs.Run.{State, Out, mark-of, peeked, answer, makes, taken, do-bump, do-name, add, at-depth, do-argument, do-emit, over-unless, do-expected, perform, choose, closed, marked, is-again, goes-on, iter, unlinked, by-shape, links, chained, here, exec, run}
+use Rattle.definitions.specs.Run.{State, Out, mark-of, peeked, replies, makes, taken, do-bump, do-name, add, at-depth, do-argument, do-emit, over-unless, do-expected, perform, choose, closed, marked, is-again, goes-on, iter, unlinked, by-shape, links, chained, here, exec, run}
 use Rattle.definitions.specs.Report.{Push, event, reported, exceeded, pushes}
 use Rattle.definitions.specs.Call.{run-entry}
 use Rattle.basics.proofs.Tests.{cond-all}
 use Rattle.laws.proofs.Skeleton.{pushes-join, pushes-closed}
 use Rattle.laws.proofs.Fuel.{turn-of}
-use Rattle.run_steps.specs.Steps.{Step, begun, asked, turned, linked, spent, iter-steps, links-steps, choose-steps, exceeds, act-steps, steps, run-steps, entry-steps}
+use Rattle.run_steps.specs.Steps.{Step, begun, branched, turned, linked, spent, iter-steps, links-steps, choose-steps, exceeds, act-steps, steps, run-steps, entry-steps}
 use Rattle.run_steps.specs.Steps as Steps
 use Rattle.run_steps.specs.Signs.{Sign, told, refused, signs, program-signs, step-signs, Complete}
 
@@ -34,7 +34,7 @@ steps-append : (l m : List Step) → step-signs (l ++ m) ≡ step-signs l ++ ste
 unfolding step-signs
 steps-append [] m = refl
 steps-append (begun p s ∷ l) m = ap (program-signs p s ++_) (steps-append l m) ∙ sym (append-assoc (program-signs p s) (step-signs l) (step-signs m))
-steps-append (asked a ∷ l) m = steps-append l m
+steps-append (branched a ∷ l) m = steps-append l m
 steps-append (turned s o ∷ l) m = steps-append l m
 steps-append (linked s o ∷ l) m = steps-append l m
 steps-append (spent ∷ l) m = steps-append l m
@@ -78,12 +78,12 @@ abbrev Silent : Out → Type 0
 Silent o = [] ≡ made-signs (o .made)
 
 bump-silent : (s : State) (l : List Token) → Silent (do-bump s l)
-unfolding do-bump answer makes pushes signs
+unfolding do-bump replies makes pushes signs
 bump-silent s [] = refl
 bump-silent s (t ∷ ts) = refl
 
 name-silent : (ks : List ℕ) (s : State) (l : List Token) → Silent (do-name ks s l)
-unfolding do-name answer makes pushes signs
+unfolding do-name replies makes pushes signs
 name-silent ks s [] = refl
 name-silent ks s (t ∷ ts) = refl
 
@@ -93,7 +93,7 @@ depth-silent zero o f p q = p
 depth-silent (suc n) o f p q = q n
 
 argument-silent : (n : ℕ) (s : State) (ts : List Token) → Silent (do-argument n s ts)
-unfolding do-argument answer makes add _⧺_ pushes signs
+unfolding do-argument replies makes add _⧺_ pushes signs
 argument-silent n s [] = refl
 argument-silent n s (t ∷ ts) =
     let go : (m : ℕ) → Silent (add (makes yes (token t (length ts) done) (taken ts)) (do-argument m (taken ts) ts)) = λ m. argument-silent m (taken ts) ts in
@@ -107,7 +107,7 @@ room-tells true m = refl
 room-tells false m = refl
 
 act-tells : (b : Label) (a : Act) (s : State) → Tells (perform b a s) (begun (act a) s ∷ act-steps a s)
-unfolding perform act-steps step-signs program-signs answer makes do-emit do-expected pushes signs
+unfolding perform act-steps step-signs program-signs replies makes do-emit do-expected pushes signs
 act-tells b (silent-at ks) s = record { same = refl }
 act-tells b at-end s = record { same = refl }
 act-tells b (immediate k) s = record { same = refl }
@@ -131,7 +131,7 @@ turn-tells s o x ss us h g false = record { same = steps-append ss (turned s o �
 
 module _ (f : State → Out) (g : State → List Step) (T : (s : State) → Tells (f s) (g s)) where
   iter-tells : (n : ℕ) (s : State) → Tells (iter n f s) (iter-steps n f g s)
-  unfolding iter iter-steps answer makes step-signs pushes signs
+  unfolding iter iter-steps replies makes step-signs pushes signs
   iter-tells zero s = record { same = refl }
   iter-tells (suc n) s = turn-tells s (f s) (iter n f (f s .state)) (g s) (iter-steps n f g (f s .state)) (T s) (iter-tells n (f s .state)) (goes-on s (f s))
 
@@ -205,7 +205,7 @@ choose-tells yes n y a tn ty ta p q r s = q s
 choose-tells also n y a tn ty ta p q r s = r s
 choose-tells again n y a tn ty ta p q r s = q s
 
-asked-tells : (x : Ans) (o : Out) (ss : List Step) → Tells o ss → Tells o (asked x ∷ ss)
+asked-tells : (x : Ans) (o : Out) (ss : List Step) → Tells o ss → Tells o (branched x ∷ ss)
 unfolding step-signs
 asked-tells x o ss h = record { same = h .same }
 
@@ -219,7 +219,7 @@ module _ (ask : Rule → State → Out) (inside : Rule → State → List Step) 
   exec-tells b (case c n y a) s =
       tells-begun (case c n y a) s _ _ refl
       (tells-add (exec ask b c s) (choose (exec ask b c s .ans) (exec ask b n) (exec ask b y) (exec ask b a) (exec ask b c s .state)) (steps ask inside b c s)
-      (asked (exec ask b c s .ans) ∷ choose-steps (exec ask b c s .ans) (steps ask inside b n) (steps ask inside b y) (steps ask inside b a) (exec ask b c s .state)) (exec-tells b c s)
+      (branched (exec ask b c s .ans) ∷ choose-steps (exec ask b c s .ans) (steps ask inside b n) (steps ask inside b y) (steps ask inside b a) (exec ask b c s .state)) (exec-tells b c s)
       (asked-tells (exec ask b c s .ans) _ _
       (choose-tells (exec ask b c s .ans) (exec ask b n) (exec ask b y) (exec ask b a) (steps ask inside b n) (steps ask inside b y) (steps ask inside b a) (exec-tells b n) (exec-tells b y) (exec-tells b a) (exec ask b c s .state))))
   exec-tells b (in-marker p) s = tells-begun (in-marker p) s _ _ refl (tells-marked s (exec ask b p s) (steps ask inside b p s) (exec-tells b p s))

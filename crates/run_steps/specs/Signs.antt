@@ -11,7 +11,7 @@ use Rattle.definitions.specs.Skeleton.{Span}
 use Rattle.definitions.specs.Run.{State, mark-of, peeked, error-range, pool-of}
 use Rattle.definitions.specs.Report.{Push, event, reported, exceeded, pushes}
 use Rattle.definitions.specs.Call.{run-entry}
-use Rattle.run_steps.specs.Steps.{Step, begun, asked, turned, linked, spent, entry-steps}
+use Rattle.run_steps.specs.Steps.{Step, begun, branched, turned, linked, spent, entry-steps}
 use Rattle.run_steps.specs.Steps as Steps
 
 -- a report, but for its label; and refusal 5
@@ -60,7 +60,7 @@ unfoldable pub step-signs : List Step → List Sign
 unfolding program-signs
 step-signs [] = []
 step-signs (begun p s ∷ l) = program-signs p s ++ step-signs l
-step-signs (asked a ∷ l) = step-signs l
+step-signs (branched a ∷ l) = step-signs l
 step-signs (turned s o ∷ l) = step-signs l
 step-signs (linked s o ∷ l) = step-signs l
 step-signs (spent ∷ l) = step-signs l

@@ -18,7 +18,7 @@ use Rattle.definitions.specs.Run.{State, Out, taken, is-again, goes-on, by-shap
 -- exceeded: a 65th open call or a 257th pending expectation. The run is refused here, with number 5.
 pub data Step : Type 0 where
   begun : Prog → State → Step
-  asked : Ans → Step
+  branched : Ans → Step
   turned : State → Out → Step
   linked : State → Out → Step
   spent : Step
@@ -66,21 +66,21 @@ act-steps (less m n) s = []
 -- ask: what a call does. inside: its steps.
 unfoldable pub steps : (Rule → State → Out) → (Rule → State → List Step) → Label → Prog → State → List Step
 unfolding exec is-again choose-steps iter-steps links-steps act-steps
-steps ask inside b (ret k a) s = begun (ret k a) s ∷ []
-steps ask inside b (act a) s = begun (act a) s ∷ act-steps a s
-steps ask inside b (p ⨟ q) s = begun (p ⨟ q) s ∷ (steps ask inside b p s ++ steps ask inside b q (exec ask b p s .state))
-steps ask inside b (case c n y a) s =
+steps ask in-call b (ret k a) s = begun (ret k a) s ∷ []
+steps ask in-call b (act a) s = begun (act a) s ∷ act-steps a s
+steps ask in-call b (p ⨟ q) s = begun (p ⨟ q) s ∷ (steps ask in-call b p s ++ steps ask in-call b q (exec ask b p s .state))
+steps ask in-call b (case c n y a) s =
     let o = exec ask b c s in
     begun (case c n y a) s
-    ∷ (steps ask inside b c s ++ (asked (o .ans) ∷ choose-steps (o .ans) (steps ask inside b n) (steps ask inside b y) (steps ask inside b a) (o .state)))
-steps ask inside b (in-marker p) s = begun (in-marker p) s ∷ steps ask inside b p s
-steps ask inside b (loop p) s = begun (loop p) s ∷ iter-steps (suc (length (s .rest))) (exec ask b p) (steps ask inside b p) s
-steps ask inside b (chain p q) s =
+    ∷ (steps ask in-call b c s ++ (branched (o .ans) ∷ choose-steps (o .ans) (steps ask in-call b n) (steps ask in-call b y) (steps ask in-call b a) (o .state)))
+steps ask in-call b (in-marker p) s = begun (in-marker p) s ∷ steps ask in-call b p s
+steps ask in-call b (loop p) s = begun (loop p) s ∷ iter-steps (suc (length (s .rest))) (exec ask b p) (steps ask in-call b p) s
+steps ask in-call b (chain p q) s =
     let o = exec ask b p s in
     begun (chain p q) s
-    ∷ (steps ask inside b p s ++ (let more = links-steps (suc (length (o .state .rest))) (exec ask b q) (steps ask inside b q) (o .state) in cond (is-again (o .ans)) more []))
-steps ask inside b (brace p) s = begun (brace p) s ∷ steps ask inside (here (s .rest)) p s
-steps ask inside b (open-call r) s = begun (open-call r) s ∷ inside r s
+    ∷ (steps ask in-call b p s ++ (let more = links-steps (suc (length (o .state .rest))) (exec ask b q) (steps ask in-call b q) (o .state) in cond (is-again (o .ans)) more []))
+steps ask in-call b (brace p) s = begun (brace p) s ∷ steps ask in-call (here (s .rest)) p s
+steps ask in-call b (open-call r) s = begun (open-call r) s ∷ in-call r s
 
 unfoldable pub run-steps : ℕ → Rule → State → List Step
 unfolding run steps
@@ -93,11 +93,11 @@ unfolding steps run run-steps whole
 entry-steps e ts = steps (run MOST-OPEN-CALLS) (run-steps MOST-OPEN-CALLS) no-label (whole e) (taken ts)
 
 -- every step that a run makes: up to refusal 5, if it meets it
-abbrev pub Each : (Step → Type 0) → List Step → Type 0
-Each P [] = Unit {0}
-Each P (begun p s ∷ l) = P (begun p s) × Each P l
-Each P (asked a ∷ l) = P (asked a) × Each P l
-Each P (turned s o ∷ l) = P (turned s o) × Each P l
-Each P (linked s o ∷ l) = P (linked s o) × Each P l
-Each P (spent ∷ l) = P spent × Each P l
-Each P (exceeded ∷ l) = Unit {0}
+abbrev pub Every-step : (Step → Type 0) → List Step → Type 0
+Every-step P [] = Unit {0}
+Every-step P (begun p s ∷ l) = P (begun p s) × Every-step P l
+Every-step P (branched a ∷ l) = P (branched a) × Every-step P l
+Every-step P (turned s o ∷ l) = P (turned s o) × Every-step P l
+Every-step P (linked s o ∷ l) = P (linked s o) × Every-step P l
+Every-step P (spent ∷ l) = P spent × Every-step P l
+Every-step P (exceeded ∷ l) = Unit {0}

@@ -10,7 +10,7 @@ use Rattle.definitions.specs.TokenKind as K
 use Rattle.definitions.specs.Token.{Token, trivia}
 use Rattle.definitions.specs.Prog.{yes, Act, silent-at, at-end, immediate, immediate-next, add-expected, bump, bump-name, bump-argument, emit, emit-unclosed, less}
 use Rattle.definitions.specs.Skeleton.{Label, no-label, Skeleton, done, token, _⧺_}
-use Rattle.definitions.specs.Run.{State, Out, mark-of, peeked, answer, makes, taken, do-bump, do-name, add, at-depth, do-argument, do-emit, over-unless, do-expected, perform, closed, marked, unlinked, run}
+use Rattle.definitions.specs.Run.{State, Out, mark-of, peeked, replies, makes, taken, do-bump, do-name, add, at-depth, do-argument, do-emit, over-unless, do-expected, perform, closed, marked, unlinked, run}
 use Rattle.definitions.specs.Grammar.{Entry, whole}
 use Rattle.definitions.specs.Call.{run-entry}
 use Rattle.basics.proofs.Tests.{cond-all}
@@ -21,12 +21,12 @@ use Rattle.sink.proofs.Encode.{chained-join}
 -- ---------------------------------------------------------------- actions make no markers
 
 bump-chained : (s : State) (ts : List Token) → Chained (do-bump s ts .made)
-unfolding do-bump answer makes Chained
+unfolding do-bump replies makes Chained
 bump-chained s [] = tt
 bump-chained s (t ∷ ts) = tt
 
 name-chained : (ks : List ℕ) (s : State) (ts : List Token) → Chained (do-name ks s ts .made)
-unfolding do-name answer makes Chained
+unfolding do-name replies makes Chained
 name-chained ks s [] = tt
 name-chained ks s (t ∷ ts) = tt
 
@@ -36,7 +36,7 @@ depth-chained zero a f h g = h
 depth-chained (suc n) a f h g = g n
 
 argument-chained : (n : ℕ) (s : State) (ts : List Token) → Chained (do-argument n s ts .made)
-unfolding do-argument answer makes add at-depth _⧺_ Chained
+unfolding do-argument replies makes add at-depth _⧺_ Chained
 argument-chained n s [] = tt
 argument-chained n s (t ∷ ts) =
     let go : ℕ → Out = λ m. add (makes yes (token t (length ts) done) (taken ts)) (do-argument m (taken ts) ts) in
@@ -53,7 +53,7 @@ fits-chained true m = tt
 fits-chained false m = tt
 
 act-chained : (b : Label) (a : Act) (s : State) → Chained (perform b a s .made)
-unfolding perform answer makes do-emit do-expected Chained
+unfolding perform replies makes do-emit do-expected Chained
 act-chained b (silent-at ks) s = tt
 act-chained b at-end s = tt
 act-chained b (immediate k) s = tt

@@ -12,7 +12,7 @@ use Rattle.definitions.specs.Check.{if_then_else_, of-kind, eat}
 use Rattle.definitions.specs.Grammar.{SourceFile, PropValues, Cells, macro-invocation, dt-expr, dt-cell-list, dt-node-body, dt-property}
 use Rattle.definitions.specs.Skeleton.{done, no-label}
 use Rattle.definitions.specs.Run.{State, taken, peeked, is-again, run}
-use Rattle.run_steps.specs.Steps.{Step, begun, asked, turned, linked, spent, exceeded, Each, entry-steps, steps, run-steps}
+use Rattle.run_steps.specs.Steps.{Step, begun, branched, turned, linked, spent, exceeded, Every-step, entry-steps, steps, run-steps}
 use Rattle.turns.specs.Turns.{Moves, Answers, Takes, assigned, Asserted}
 
 abbrev tok : ℕ → Token
@@ -28,7 +28,7 @@ on-again false = 0
 turns-again : List Step → ℕ
 turns-again [] = 0
 turns-again (begun p s ∷ l) = turns-again l
-turns-again (asked a ∷ l) = turns-again l
+turns-again (branched a ∷ l) = turns-again l
 turns-again (turned s o ∷ l) = on-again (is-again (o .ans)) + turns-again l
 turns-again (linked s o ∷ l) = turns-again l
 turns-again (spent ∷ l) = turns-again l
@@ -37,7 +37,7 @@ turns-again (exceeded ∷ l) = turns-again l
 links-again : List Step → ℕ
 links-again [] = 0
 links-again (begun p s ∷ l) = links-again l
-links-again (asked a ∷ l) = links-again l
+links-again (branched a ∷ l) = links-again l
 links-again (turned s o ∷ l) = links-again l
 links-again (linked s o ∷ l) = on-again (is-again (o .ans)) + links-again l
 links-again (spent ∷ l) = links-again l
@@ -63,7 +63,7 @@ its-value = refl
 -- the program that a step begins
 program : Step → Prog
 program (begun p s) = p
-program (asked a) = ret 0 no
+program (branched a) = ret 0 no
 program (turned s o) = ret 0 no
 program (linked s o) = ret 0 no
 program spent = ret 0 no
@@ -105,7 +105,7 @@ abbrev at-end : State
 at-end = taken []
 
 -- a program whose loop stalls: it would go round for ever
-stalled : Each Moves (steps (run 64) (run-steps 64) no-label (loop (ret 0 again)) at-number) → ⊥
+stalled : Every-step Moves (steps (run 64) (run-steps 64) no-label (loop (ret 0 again)) at-number) → ⊥
 unfolding steps is-again
 stalled h = not-less (h .1 .1 .0 refl)
   where
@@ -125,21 +125,21 @@ no-marker h = not-less (h refl .1)
     not-less e = omega arith
 
 -- a condition that answers again
-asked-again : Answers (asked again) → ⊥
+asked-again : Answers (branched again) → ⊥
 unfolding is-again
 asked-again e = true≢false e
 
 -- a token, or a name, taken at the end
-taken-at-end : Each Takes (steps (run 64) (run-steps 64) no-label (act bump) at-end) → ⊥
+taken-at-end : Every-step Takes (steps (run 64) (run-steps 64) no-label (act bump) at-end) → ⊥
 unfolding steps peeked drop-trivia
 taken-at-end h = true≢false (h .0)
 
-name-at-end : Each Takes (steps (run 64) (run-steps 64) no-label (act (bump-name (K.Ident ∷ []))) at-end) → ⊥
+name-at-end : Every-step Takes (steps (run 64) (run-steps 64) no-label (act (bump-name (K.Ident ∷ []))) at-end) → ⊥
 unfolding steps peeked drop-trivia first-in
 name-at-end h = false≢true (h .0)
 
 -- a name that begins with another token
-no-name : Each Takes (steps (run 64) (run-steps 64) no-label (act (bump-name (K.Ident ∷ []))) at-number) → ⊥
+no-name : Every-step Takes (steps (run 64) (run-steps 64) no-label (act (bump-name (K.Ident ∷ []))) at-number) → ⊥
 unfolding steps peeked drop-trivia first-in
 no-name h = false≢true (h .0)
 

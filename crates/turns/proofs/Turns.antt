@@ -7,7 +7,7 @@ use Rattle.definitions.specs.TokenKind as K
 use Rattle.definitions.specs.Prog.{Act, silent-at, at-end, immediate, immediate-next, add-expected, bump, bump-name, bump-argument, emit, emit-unclosed, less, Prog, ret, act, _⨟_, case, in-marker, loop, chain, brace, open-call}
 use Rattle.definitions.specs.Grammar.{macro-invocation, dt-expr, dt-cell-list, dt-node-body}
 use Rattle.definitions.specs.Run.{State, peeked}
-use Rattle.run_steps.specs.Steps.{Step, begun, asked, turned, linked, spent, exceeded, entry-steps}
+use Rattle.run_steps.specs.Steps.{Step, begun, branched, turned, linked, spent, exceeded, entry-steps}
 use Rattle.facts.proofs.Known.{some}
 use Rattle.facts.proofs.Facts.{Fact}
 use Rattle.facts.proofs.May.{asserts, may-begin, needs}
@@ -20,7 +20,7 @@ use Rattle.turns.specs.Turns.{Moves, Answers, Taking, Taking-in, Takes, 
 
 moves-good : (x : Step) → Good x → Moves x
 moves-good (begun p s) g = tt
-moves-good (asked a) g = tt
+moves-good (branched a) g = tt
 moves-good (turned s o) g = g
 moves-good (linked s o) g = g
 moves-good spent g = g
@@ -28,7 +28,7 @@ moves-good exceeded g = tt
 
 answers-good : (x : Step) → Good x → Answers x
 answers-good (begun p s) g = tt
-answers-good (asked a) g = g
+answers-good (branched a) g = g
 answers-good (turned s o) g = tt
 answers-good (linked s o) g = tt
 answers-good spent g = tt
@@ -61,7 +61,7 @@ taking-good (open-call r) s g = tt
 
 takes-good : (x : Step) → Good x → Takes x
 takes-good (begun p s) g = taking-good p s g
-takes-good (asked a) g = tt
+takes-good (branched a) g = tt
 takes-good (turned s o) g = tt
 takes-good (linked s o) g = tt
 takes-good spent g = tt
@@ -84,7 +84,7 @@ asserted-good p s g =
 
 asserts-good : (x : Step) → Good x → Asserts x
 asserts-good (begun p s) g = asserted-good p s g
-asserts-good (asked a) g = tt
+asserts-good (branched a) g = tt
 asserts-good (turned s o) g = tt
 asserts-good (linked s o) g = tt
 asserts-good spent g = tt

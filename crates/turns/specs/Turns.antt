@@ -12,7 +12,7 @@ use Rattle.definitions.specs.Prog.{no, yes, Act, silent-at, at-end, immediate, 
 use Rattle.definitions.specs.Check.{if_then_else_, of-kind, assert-eat, expect-recoverable}
 use Rattle.definitions.specs.Grammar.{Entry, ITEM-RECOVERY-SET, macro-invocation, dt-expr, dt-cell-list, dt-node-body}
 use Rattle.definitions.specs.Run.{State, peeked, is-again}
-use Rattle.run_steps.specs.Steps.{Step, begun, asked, turned, linked, spent, exceeded, Each, entry-steps}
+use Rattle.run_steps.specs.Steps.{Step, begun, branched, turned, linked, spent, exceeded, Every-step, entry-steps}
 
 -- ---------------------------------------------------------------- 1. a turn that is to go on has moved
 
@@ -21,7 +21,7 @@ use Rattle.run_steps.specs.Steps.{Step, begun, asked, turned, linked, spent, ex
 -- clause for zero turns left (`Run.iter`, `Run.links`).
 abbrev pub Moves : Step → Type 0
 Moves (begun p s) = Unit {0}
-Moves (asked a) = Unit {0}
+Moves (branched a) = Unit {0}
 Moves (turned s o) = is-again (o .ans) ≡ true → length (o .state .rest) < length (s .rest)
 Moves (linked s o) = is-again (o .ans) ≡ true → (length (o .state .rest) < length (s .rest)) × (0 < o .shape)
 Moves spent = ⊥
@@ -30,7 +30,7 @@ Moves exceeded = Unit {0}
 -- So no loop and no chain answers again, and `Run.choose`, which reads again as yes, is not asked to.
 abbrev pub Answers : Step → Type 0
 Answers (begun p s) = Unit {0}
-Answers (asked a) = is-again a ≡ false
+Answers (branched a) = is-again a ≡ false
 Answers (turned s o) = Unit {0}
 Answers (linked s o) = Unit {0}
 Answers spent = Unit {0}
@@ -66,7 +66,7 @@ Taking-in (open-call r) s = Unit {0}
 
 abbrev pub Takes : Step → Type 0
 Takes (begun p s) = Taking-in p s
-Takes (asked a) = Unit {0}
+Takes (branched a) = Unit {0}
 Takes (turned s o) = Unit {0}
 Takes (linked s o) = Unit {0}
 Takes spent = Unit {0}
@@ -98,7 +98,7 @@ pub record Asserted (p : Prog) (s : State) : Type 0 where
 
 abbrev pub Asserts : Step → Type 0
 Asserts (begun p s) = Asserted p s
-Asserts (asked a) = Unit {0}
+Asserts (branched a) = Unit {0}
 Asserts (turned s o) = Unit {0}
 Asserts (linked s o) = Unit {0}
 Asserts spent = Unit {0}
@@ -107,7 +107,7 @@ Asserts exceeded = Unit {0}
 -- ---------------------------------------------------------------- the statement
 
 pub record Turns : Type 0 where
-  pub moves : (e : Entry) (ts : List Token) → Each Moves (entry-steps e ts)
-  pub answers : (e : Entry) (ts : List Token) → Each Answers (entry-steps e ts)
-  pub takes : (e : Entry) (ts : List Token) → Each Takes (entry-steps e ts)
-  pub asserts : (e : Entry) (ts : List Token) → Each Asserts (entry-steps e ts)
+  pub moves : (e : Entry) (ts : List Token) → Every-step Moves (entry-steps e ts)
+  pub answers : (e : Entry) (ts : List Token) → Every-step Answers (entry-steps e ts)
+  pub takes : (e : Entry) (ts : List Token) → Every-step Takes (entry-steps e ts)
+  pub asserts : (e : Entry) (ts : List Token) → Every-step Asserts (entry-steps e ts)

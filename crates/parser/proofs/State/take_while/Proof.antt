@@ -6,7 +6,7 @@ use native.Mathlib.Nat.{le-refl}
 use mathlib.Core.List.{List}
 use lib.ListN.{drop}
 use Rattle.definitions.specs.Token.{tokens-of}
-use Rattle.machine.specs.Machine.{name-run}
+use Rattle.machine.specs.Machine.{name-stretch}
 use Rattle.parser.specs.View.{view, tokens-left}
 use Rattle.parser.proofs.Moves.{name-more, name-done}
 use Rattle.parser.proofs.State.take_while.Statement.{statement}
@@ -14,7 +14,7 @@ use Rattle.parser.proofs.State.take_while.Tie as tie
 
 abbrev Inv-loop : tie.InvT-loop
 Inv-loop t set q₀ q =
-    ((codes events reports pool : List ℕ) → name-run set (drop (q .cursor .0) (tokens-of t)) (view q codes events reports pool) ≡ name-run set (drop (q₀ .cursor .0) (tokens-of t)) (view q₀ codes events reports pool))
+    ((codes events reports pool : List ℕ) → name-stretch set (drop (q .cursor .0) (tokens-of t)) (view q codes events reports pool) ≡ name-stretch set (drop (q₀ .cursor .0) (tokens-of t)) (view q₀ codes events reports pool))
     × (tokens-left t q ≤ tokens-left t q₀)
 
 abbrev μ-loop : tie.MeasureT-loop
