@@ -8,7 +8,8 @@ use mathlib.Core.List.{List, [], _∷_, _++_, append-nil}
 use lib.Dec.{leb, eqb}
 use lib.ListN.{length, length-append}
 use borrow.Author.Tests.{leb-true}
-use Rattle.definitions.specs.Layout.{TWO-TO-32, TREE-ROW, ERROR-ROW, REPORT-ROW, MOST-TOKENS}
+use Rattle.definitions.specs.LexError as L
+use Rattle.definitions.specs.Layout.{MOST-TOKEN-NUMBERS, MOST-BYTES, TWO-TO-32, TREE-ROW, ERROR-ROW, REPORT-ROW, MOST-TOKENS}
 use Rattle.definitions.specs.TokenKind as K
 use Rattle.definitions.specs.Token.{Token, tokens-of, byte-count}
 use Rattle.definitions.specs.Grammar.{Entry}
@@ -82,8 +83,8 @@ kind-cases false b c false f e p q = absurd (false≢true e)
 kind-small : (k : ℕ) → is-kind k ≡ true → k < CODES
 unfolding is-kind
 kind-small k e =
-    kind-cases (leb k 60) (not (eqb k K.Unrecognized)) (not (eqb k K.Name)) (leb 64 k) (leb k 74) e
-    (λ h. omega (arith, leb-true k 60 h)) (λ h. omega (arith, leb-true k 74 h))
+    kind-cases (leb k K.QuestionMark) (not (eqb k K.Unrecognized)) (not (eqb k K.Name)) (leb L.UnexpectedEndIncbin k) (leb k L.Default) e
+    (λ h. omega (arith, leb-true k K.QuestionMark h)) (λ h. omega (arith, leb-true k L.Default h))
 
 good-kinded : (ts : List Token) → All-good ts → Kinded ts
 good-kinded [] g = tt
@@ -96,7 +97,7 @@ below-written l b h = below-append TWO-TO-32 l _ h (below-zeros TWO-TO-32 (lengt
 pub so-far : Words-so-far
 so-far e ts w l m h c =
     let n : length ts ≤ MOST-TOKENS = w .tokens in
-    let i : byte-count ts ≤ 1048576 = w .input in
+    let i : byte-count ts ≤ MOST-BYTES = w .input in
     let a : event-count l ≤ most-events (length ts) = few-pushed e ts l m h in
     let b : length (reports l) ≤ most-reports (length ts) = few-reported e ts l m h in
     let p : length (pool (reports l)) ≤ most-expectations (length ts) = few-pool e ts l m h c in
@@ -117,7 +118,7 @@ module _ (e : Entry) (ts : List Token) (limits : Within-limits ts) (k : Kinded t
       let l = reports (pushes (run-entry e ts)) in
       let x = lexical-errors 0 ts in
       let n : length ts ≤ MOST-TOKENS = limits .tokens in
-      let i : byte-count ts ≤ 1048576 = limits .input in
+      let i : byte-count ts ≤ MOST-BYTES = limits .input in
       let t : length (rows (tree e ts)) ≤ TREE-ROW * most-rows (length ts) = bounded e ts .tree-rows in
       let s : So-far ts (pushes (run-entry e ts)) = so-far e ts limits (pushes (run-entry e ts)) [] (sym (append-nil (pushes (run-entry e ts)))) c in
       record {
@@ -165,7 +166,7 @@ module _ (bytes tokens : List ℕ) (b : Buffers) (w : Words b) where
   checked-fits : (e : Entry) (v : Verdict) → check-input bytes tokens ≡ v → Fits (checked v e tokens b)
   unfolding checked parse
   checked-fits e accepted a = parse-fits e a _ refl
-  checked-fits e (refused r) a = let p : place-of r ≤ 131072 = subst (Placed 131072) a (input-placed bytes tokens) in record { answer = refusal-fits r (omega arith); buffers = w }
+  checked-fits e (refused r) a = let p : place-of r ≤ MOST-TOKEN-NUMBERS = subst (Placed MOST-TOKEN-NUMBERS) a (input-placed bytes tokens) in record { answer = refusal-fits r (omega arith); buffers = w }
 
   asked-fits : (x : Asked) → Fits (asked x bytes tokens b)
   unfolding asked place-of

@@ -8,6 +8,7 @@ use mathlib.Core.List.{List, [], _∷_}
 use lib.Dec.{leb, eqb}
 use lib.ListN.{length, take, drop}
 use borrow.Author.Tests.{leb-true}
+use Rattle.definitions.specs.Layout.{NO-TREE-ROOM, MOST-TOKEN-NUMBERS, MOST-BYTES}
 use Rattle.definitions.specs.Token.{Token, tokens-of}
 use Rattle.definitions.specs.StaticText.{static-texts, fits-text}
 use Rattle.definitions.specs.Refusal.{Refusal, unknown-entry, too-long, bad-row, bad-text, too-deep, no-event-room, no-report-room, no-tree-room, number-of, place-of, Verdict, accepted, refused, _or-else_, unless, check-sizes, is-kind, check-rows, check-texts, check-input}
@@ -16,7 +17,7 @@ use Rattle.definitions.specs.Call.{forward-mark}
 use Rattle.basics.proofs.Tests.{cond-all, and-right}
 use Rattle.laws.proofs.Input.{unless-holds}
 
-pub number-small : (r : Refusal) → number-of r ≤ 8
+pub number-small : (r : Refusal) → number-of r ≤ NO-TREE-ROOM
 unfolding number-of
 number-small unknown-entry = omega arith
 number-small too-long = omega arith
@@ -67,17 +68,17 @@ tokens-length [] = omega arith
 tokens-length (k ∷ []) = omega arith
 tokens-length (k ∷ n ∷ l) = omega (arith, tokens-length l)
 
-sizes-limit : (bytes tokens : List ℕ) → check-sizes bytes tokens ≡ accepted → length tokens ≤ 131072
+sizes-limit : (bytes tokens : List ℕ) → check-sizes bytes tokens ≡ accepted → length tokens ≤ MOST-TOKEN-NUMBERS
 unfolding check-sizes
-sizes-limit bytes tokens e = leb-true _ _ (and-right (leb (length bytes) 1048576) _ (unless-holds (leb (length bytes) 1048576 && leb (length tokens) 131072) too-long e))
+sizes-limit bytes tokens e = leb-true _ _ (and-right (leb (length bytes) MOST-BYTES) _ (unless-holds (leb (length bytes) MOST-BYTES && leb (length tokens) MOST-TOKEN-NUMBERS) too-long e))
 
-pub input-placed : (bytes tokens : List ℕ) → Placed 131072 (check-input bytes tokens)
+pub input-placed : (bytes tokens : List ℕ) → Placed MOST-TOKEN-NUMBERS (check-input bytes tokens)
 unfolding check-input check-sizes place-of
 input-placed bytes tokens =
-    or-else-placed 131072 (check-sizes bytes tokens) _ (unless-placed _ (leb (length bytes) 1048576 && leb (length tokens) 131072) too-long (omega arith))
+    or-else-placed MOST-TOKEN-NUMBERS (check-sizes bytes tokens) _ (unless-placed _ (leb (length bytes) MOST-BYTES && leb (length tokens) MOST-TOKEN-NUMBERS) too-long (omega arith))
     (λ e.
-    let l : length tokens ≤ 131072 = sizes-limit bytes tokens e in
-    or-else-placed 131072 (check-rows 0 (length bytes) tokens) _ (wider _ _ (check-rows 0 (length bytes) tokens) (omega arith) (rows-placed 0 (length bytes) tokens))
+    let l : length tokens ≤ MOST-TOKEN-NUMBERS = sizes-limit bytes tokens e in
+    or-else-placed MOST-TOKEN-NUMBERS (check-rows 0 (length bytes) tokens) _ (wider _ _ (check-rows 0 (length bytes) tokens) (omega arith) (rows-placed 0 (length bytes) tokens))
     (λ _. wider _ _ (check-texts 0 bytes (tokens-of tokens)) (omega (arith, tokens-length tokens)) (texts-placed 0 bytes (tokens-of tokens))))
 
 -- ---------------------------------------------------------------- causes 5 to 7

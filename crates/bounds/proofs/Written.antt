@@ -4,6 +4,7 @@ use native.Mathlib.Omega.{arith}
 use mathlib.Core.Path.{_≡_, refl}
 use mathlib.Core.List.{List, [], _∷_, _++_}
 use lib.ListN.{length, length-append, replicate}
+use Rattle.definitions.specs.Layout.{ERROR-ROW, REPORT-ROW}
 use Rattle.definitions.specs.Token.{Token, is-error, byte-count}
 use Rattle.definitions.specs.Skeleton.{Label, no-label, label, Report, Skeleton, done, token, name, node, ignored, report, over}
 use Rattle.definitions.specs.Place.{lexical-errors}
@@ -51,12 +52,12 @@ unfolding pool
 pool-below [] c = tt
 pool-below (r ∷ l) c = below-append CODES (r .pool) (pool l) (c .0 .pool) (pool-below l (c .1))
 
-pub report-numbers-length : (n b first : ℕ) (l : List Report) → length (report-numbers n b first l) ≡ 9 * length l
+pub report-numbers-length : (n b first : ℕ) (l : List Report) → length (report-numbers n b first l) ≡ REPORT-ROW * length l
 unfolding report-numbers
 report-numbers-length n b first [] = refl
 report-numbers-length n b first (r ∷ l) = go (r .labelled) (report-numbers-length n b (first + length (r .pool)) l)
   where
-    go : (x : Label) → length (report-numbers n b (first + length (r .pool)) l) ≡ 9 * length l → suc (suc (suc (suc (suc (suc (suc (length (label-numbers b x (report-numbers n b (first + length (r .pool)) l))))))))) ≡ 9 * suc (length l)
+    go : (x : Label) → length (report-numbers n b (first + length (r .pool)) l) ≡ REPORT-ROW * length l → suc (suc (suc (suc (suc (suc (suc (length (label-numbers b x (report-numbers n b (first + length (r .pool)) l))))))))) ≡ REPORT-ROW * suc (length l)
     go no-label h = omega arith
     go (label s) h = omega arith
 
@@ -78,12 +79,12 @@ module _ (m n b : ℕ) (most : CODES ≤ m) (tokens : n < m) (input : b < m) whe
 
 -- ---------------------------------------------------------------- lexical errors
 
-pub errors-most : (at : ℕ) (ts : List Token) → length (lexical-errors at ts) ≤ 3 * length ts
+pub errors-most : (at : ℕ) (ts : List Token) → length (lexical-errors at ts) ≤ ERROR-ROW * length ts
 unfolding lexical-errors
 errors-most at [] = omega arith
 errors-most at (t ∷ ts) =
-    let h : length (lexical-errors (at + t .len) ts) ≤ 3 * length ts = errors-most (at + t .len) ts in
-    cond-all (λ (l : List ℕ). length l ≤ 3 * suc (length ts)) (is-error (t .kind)) {x = t .kind ∷ at ∷ (at + t .len) ∷ lexical-errors (at + t .len) ts} {y = lexical-errors (at + t .len) ts} (omega arith) (omega arith)
+    let h : length (lexical-errors (at + t .len) ts) ≤ ERROR-ROW * length ts = errors-most (at + t .len) ts in
+    cond-all (λ (l : List ℕ). length l ≤ ERROR-ROW * suc (length ts)) (is-error (t .kind)) {x = t .kind ∷ at ∷ (at + t .len) ∷ lexical-errors (at + t .len) ts} {y = lexical-errors (at + t .len) ts} (omega arith) (omega arith)
 
 -- EVERY NUMBER IN THE LEXICAL ERRORS
 pub errors-below : (m at : ℕ) (ts : List Token) → CODES ≤ m → Kinded ts → at + byte-count ts < m → Below m (lexical-errors at ts)

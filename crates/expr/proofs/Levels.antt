@@ -17,7 +17,7 @@ use Rattle.definitions.specs.Grammar.{INFIX-BUT-TERNARY, Level, ternary-level, 
 use Rattle.definitions.specs.Run.{truth}
 use Rattle.machine.specs.Machine.{Machine, rest, passed, skip, peek, expect-code}
 use Rattle.machine.specs.Walk.{Walked, said, perform, choose, walk}
-use Rattle.token_rows.specs.Tokens.{kind-of}
+use Rattle.token_rows.specs.Tokens.{SEEN-AT-END, kind-of}
 use Rattle.binding_power.specs.Power.{levels, left-power, right-power, is-binary}
 use Rattle.basics.proofs.Tests.{and-left, and-right}
 use Rattle.expr.specs.Subprograms.{ternary-rhs}
@@ -70,7 +70,7 @@ high-power (l ∷ ls) k h d = by (one-of (l .kinds) k) d (high-power ls k (and-r
     by false d r = r d
 
 -- past the last token there is no operator
-pub left-end : left-power levels 64 ≡ 0
+pub left-end : left-power levels SEEN-AT-END ≡ 0
 unfolding left-power one-of
 left-end = refl
 

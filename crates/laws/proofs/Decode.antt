@@ -4,7 +4,7 @@ use native.Mathlib.Omega.{arith}
 use mathlib.Core.Path.{_≡_, refl, ap, sym, _∙_}
 use mathlib.Core.List.{List, [], _++_, append-assoc, append-nil}
 use lib.ListN.{length, length-append}
-use Rattle.definitions.specs.Layout.{TREE-ROW}
+use Rattle.definitions.specs.Layout.{NODE, LEAF, TREE-ROW}
 use Rattle.definitions.specs.Token.{byte-count}
 use Rattle.definitions.specs.Place.{Tree, nil, leaf, subtree, width, count, rows, tree-row}
 use Rattle.laws.specs.TreeRows.{Rows, end, node, preorder, siblings, widths, Counts, Widths, first-rows, later-rows, read-row, read}
@@ -69,9 +69,9 @@ shown (subtree k c f) = node k (width c) (count c) (shown c) (shown f)
 pub shown-preorder : (t : Tree) → preorder (shown t) ≡ rows t
 unfolding shown preorder rows
 shown-preorder nil = refl
-shown-preorder (leaf k ts f) = ap (tree-row 1 k (byte-count ts) (length ts)) (shown-preorder f)
+shown-preorder (leaf k ts f) = ap (tree-row LEAF k (byte-count ts) (length ts)) (shown-preorder f)
 shown-preorder (subtree k c f) =
-    ap (λ (l : List ℕ). tree-row 0 k (width c) (count c) (l ++ preorder (shown f))) (shown-preorder c) ∙ ap (λ (l : List ℕ). tree-row 0 k (width c) (count c) (rows c ++ l)) (shown-preorder f)
+    ap (λ (l : List ℕ). tree-row NODE k (width c) (count c) (l ++ preorder (shown f))) (shown-preorder c) ∙ ap (λ (l : List ℕ). tree-row NODE k (width c) (count c) (rows c ++ l)) (shown-preorder f)
 
 count-number : (t : Tree) → count t ≡ siblings (shown t)
 unfolding shown count siblings

@@ -7,6 +7,7 @@ use mathlib.Core.List.{List, [], _∷_}
 use lib.Dec.{leb, eqb}
 use lib.ListN.{length, take, drop}
 use borrow.Author.Tests.{leb-true, eqb-true}
+use Rattle.definitions.specs.Layout.{TOKEN-ROW, MOST-TOKEN-NUMBERS, MOST-BYTES}
 use Rattle.definitions.specs.Token.{Token, tokens-of, byte-count}
 use Rattle.definitions.specs.StaticText.{static-texts, fits-text}
 use Rattle.definitions.specs.Refusal.{Refusal, too-long, bad-row, bad-text, Verdict, accepted, refused, _or-else_, unless, check-sizes, is-kind, check-rows, check-texts, check-input}
@@ -42,17 +43,17 @@ Texts-fit bytes (t ∷ ts) = (fits-text static-texts (t .kind) (take (t .len) by
 
 -- what causes 2 to 4 leave
 pub record Checked (bytes tokens : List ℕ) : Type 0 where
-  pub bytes-limit : length bytes ≤ 1048576
-  pub numbers-limit : length tokens ≤ 131072
+  pub bytes-limit : length bytes ≤ MOST-BYTES
+  pub numbers-limit : length tokens ≤ MOST-TOKEN-NUMBERS
   -- rows come in pairs, and cover the input exactly
-  pub pairs : length tokens ≡ 2 * length (tokens-of tokens)
+  pub pairs : length tokens ≡ TOKEN-ROW * length (tokens-of tokens)
   pub covered : byte-count (tokens-of tokens) ≡ length bytes
   pub good : All-good (tokens-of tokens)
   pub texts : Texts-fit bytes (tokens-of tokens)
 
 -- cause 3, from any row on
 pub record Rows-good (left : ℕ) (tokens : List ℕ) : Type 0 where
-  pub pairs : length tokens ≡ 2 * length (tokens-of tokens)
+  pub pairs : length tokens ≡ TOKEN-ROW * length (tokens-of tokens)
   pub covered : byte-count (tokens-of tokens) ≡ left
   pub good : All-good (tokens-of tokens)
 
@@ -92,12 +93,12 @@ texts-fit i bytes (t ∷ ts) e =
 pub checked-input : (bytes tokens : List ℕ) → check-input bytes tokens ≡ accepted → Checked bytes tokens
 unfolding check-input check-sizes
 checked-input bytes tokens e =
-    let sizes : (leb (length bytes) 1048576 && leb (length tokens) 131072) ≡ true = unless-holds _ too-long (or-else-left (check-sizes bytes tokens) _ e) in
+    let sizes : (leb (length bytes) MOST-BYTES && leb (length tokens) MOST-TOKEN-NUMBERS) ≡ true = unless-holds _ too-long (or-else-left (check-sizes bytes tokens) _ e) in
     let rest : (check-rows 0 (length bytes) tokens or-else check-texts 0 bytes (tokens-of tokens)) ≡ accepted = or-else-right (check-sizes bytes tokens) _ e in
     let g : Rows-good (length bytes) tokens = rows-good 0 (length bytes) tokens (or-else-left (check-rows 0 (length bytes) tokens) _ rest) in
     record {
       bytes-limit = leb-true _ _ (and-left _ _ sizes);
-      numbers-limit = leb-true _ _ (and-right (leb (length bytes) 1048576) _ sizes);
+      numbers-limit = leb-true _ _ (and-right (leb (length bytes) MOST-BYTES) _ sizes);
       pairs = g .pairs;
       covered = g .covered;
       good = g .good;

@@ -8,6 +8,7 @@ use lib.Dec.{eqb, leb, lit<}
 use lib.ListN.{length, take, drop, length-take}
 use lib.Seq.{take-append-seam, drop-append-seam, take-append-le, drop-append-le}
 use borrow.Author.Tests.{eqb-true, lt-leb}
+use Rattle.definitions.specs.LexError.{UnexpectedEndIncbin}
 use Rattle.definitions.specs.TokenKind as K
 use Rattle.definitions.specs.Token.{Token, is-error, seen, trivia, drop-trivia, past, byte-count}
 use Rattle.definitions.specs.Skeleton.{Skeleton, done, token, name, node, ignored, report, over}
@@ -35,8 +36,8 @@ right-beside (leaf k raw f) g h i = (h .0, right-beside f g (h .1) i)
 right-beside (subtree k c f) g h i = (h .0, right-beside f g (h .1) i)
 
 -- trivia are not errors
-small-kind : (k n : ℕ) → n < 64 → eqb k n ≡ true → leb 64 k ≡ false
-small-kind k n h e = let q : k ≡ n = eqb-true k n e in lt-leb 64 k (omega arith)
+small-kind : (k n : ℕ) → n < UnexpectedEndIncbin → eqb k n ≡ true → leb UnexpectedEndIncbin k ≡ false
+small-kind k n h e = let q : k ≡ n = eqb-true k n e in lt-leb UnexpectedEndIncbin k (omega arith)
 
 pub or-cases : {P : Type 0} (a b : Bool) → (a || b) ≡ true → (a ≡ true → P) → (b ≡ true → P) → P
 or-cases true b e f g = f refl
@@ -45,7 +46,7 @@ or-cases false b e f g = g e
 trivia-seen : (t : Token) → trivia t ≡ true → t .kind ≡ seen t
 unfolding trivia seen is-error
 trivia-seen t e =
-    let e64 : leb 64 (t .kind) ≡ false =
+    let e64 : leb UnexpectedEndIncbin (t .kind) ≡ false =
     or-cases (eqb (t .kind) K.Whitespace || eqb (t .kind) K.LineComment) (eqb (t .kind) K.BlockComment) e
     (λ f. or-cases (eqb (t .kind) K.Whitespace) (eqb (t .kind) K.LineComment) f (small-kind (t .kind) K.Whitespace (lit< tt)) (small-kind (t .kind) K.LineComment (lit< tt)))
     (small-kind (t .kind) K.BlockComment (lit< tt)) in

@@ -7,18 +7,19 @@ use mathlib.Core.Bool.{Bool, true, false, cond}
 use mathlib.Core.List.{List, [], _∷_, _++_, append-assoc}
 use lib.ListN.{length, take, drop}
 use lib.Seq.{drop-at}
+use Rattle.definitions.specs.Layout.{ERROR-ROW}
 use Rattle.definitions.specs.Token.{Token, is-error, byte-count}
 use Rattle.definitions.specs.Place.{lexical-errors}
 use Rattle.laws.specs.Lossless.{errors-in, Errors-of}
 
 -- three numbers for each
-pub errors-length : (at : ℕ) (ts : List Token) → length (lexical-errors at ts) ≡ 3 * errors-in ts
+pub errors-length : (at : ℕ) (ts : List Token) → length (lexical-errors at ts) ≡ ERROR-ROW * errors-in ts
 unfolding lexical-errors errors-in
 errors-length at [] = refl
 errors-length at (t ∷ ts) = go (is-error (t .kind)) (errors-length (at + t .len) ts)
   where
-    go : (b : Bool) → length (lexical-errors (at + t .len) ts) ≡ 3 * errors-in ts
-        → length (cond b (t .kind ∷ at ∷ (at + t .len) ∷ lexical-errors (at + t .len) ts) (lexical-errors (at + t .len) ts)) ≡ 3 * cond b (suc (errors-in ts)) (errors-in ts)
+    go : (b : Bool) → length (lexical-errors (at + t .len) ts) ≡ ERROR-ROW * errors-in ts
+        → length (cond b (t .kind ∷ at ∷ (at + t .len) ∷ lexical-errors (at + t .len) ts) (lexical-errors (at + t .len) ts)) ≡ ERROR-ROW * cond b (suc (errors-in ts)) (errors-in ts)
     go true h = omega arith
     go false h = h
 
@@ -47,5 +48,5 @@ errors-of ts l before after t e f =
     let z : lexical-errors 0 ts ++ l ≡ a ++ (t .kind ∷ byte-count before ∷ (byte-count before + t .len) ∷ (lexical-errors (byte-count before + t .len) after ++ l)) =
     ap (_++ l) (ap (lexical-errors 0) e ∙ errors-append 0 before (t ∷ after) ∙ ap (λ (n : ℕ). a ++ lexical-errors n (t ∷ after)) (zero-add (byte-count before)) ∙ ap (a ++_) (first-error (byte-count before) t after f))
     ∙ append-assoc a _ l in
-    ap (λ (x : List ℕ). take 3 (drop (3 * errors-in before) x)) z
-    ∙ ap (take 3) (drop-at a _ (3 * errors-in before) (errors-length 0 before))
+    ap (λ (x : List ℕ). take ERROR-ROW (drop (ERROR-ROW * errors-in before) x)) z
+    ∙ ap (take ERROR-ROW) (drop-at a _ (ERROR-ROW * errors-in before) (errors-length 0 before))

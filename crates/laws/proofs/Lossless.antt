@@ -7,6 +7,7 @@ use mathlib.Core.List.{List, _++_}
 use lib.Dec.{lit<}
 use lib.ListN.{length, take, replicate}
 use lib.Seq.{take-at}
+use Rattle.definitions.specs.Layout.{TREE-ROW}
 use Rattle.definitions.specs.Token.{Token, tokens-of, byte-count}
 use Rattle.definitions.specs.Grammar.{Entry, root-kind}
 use Rattle.definitions.specs.Place.{Tree, lead, after, place, _⊕_, root, width, count, rows}
@@ -47,7 +48,7 @@ module _ (e : Entry) (bytes : List ℕ) (ts : List Token) (b : Buffers) (full : 
   abbrev t : Tree
   t = root (root-kind e) (run-entry e ts) ts
 
-  pub in-front : take (4 * (length (rows t) / 4)) (rows t ++ replicate (length (b .trees) - length (rows t)) 0) ≡ preorder (shown t)
+  pub in-front : take (TREE-ROW * (length (rows t) / TREE-ROW)) (rows t ++ replicate (length (b .trees) - length (rows t)) 0) ≡ preorder (shown t)
   in-front = rows-in-front 3 (row-count t) (rows t) _ (rows-length t) ∙ sym (shown-preorder t)
 
   -- the root's width is the length of the input

@@ -5,6 +5,7 @@ use native.Mathlib.Omega.{arith}
 use mathlib.Core.Path.{_≡_, refl, ap, sym, _∙_}
 use mathlib.Core.List.{List, [], _++_, append-assoc}
 use lib.ListN.{length, take, drop}
+use Rattle.definitions.specs.Layout.{NODE, LEAF}
 use Rattle.definitions.specs.TokenKind as K
 use Rattle.definitions.specs.Token.{Token, drop-trivia, past, byte-count}
 use Rattle.definitions.specs.Skeleton.{Skeleton, done, token, name, node, ignored, report, over, _⧺_}
@@ -38,8 +39,8 @@ count-beside (subtree k c f) g = let h : count (f ⊕ g) ≡ count f + count g =
 pub rows-beside : (f g : Tree) → rows (f ⊕ g) ≡ rows f ++ rows g
 unfolding _⊕_ rows
 rows-beside nil g = refl
-rows-beside (leaf k ts f) g = ap (tree-row 1 k (byte-count ts) (length ts)) (rows-beside f g)
-rows-beside (subtree k c f) g = ap (λ (l : List ℕ). tree-row 0 k (width c) (count c) (rows c ++ l)) (rows-beside f g) ∙ ap (tree-row 0 k (width c) (count c)) (sym (append-assoc (rows c) (rows f) (rows g)))
+rows-beside (leaf k ts f) g = ap (tree-row LEAF k (byte-count ts) (length ts)) (rows-beside f g)
+rows-beside (subtree k c f) g = ap (λ (l : List ℕ). tree-row NODE k (width c) (count c) (rows c ++ l)) (rows-beside f g) ∙ ap (tree-row NODE k (width c) (count c)) (sym (append-assoc (rows c) (rows f) (rows g)))
 
 -- the raw tokens of a tree's leaves, in order
 unfoldable pub leaves : Tree → List Token

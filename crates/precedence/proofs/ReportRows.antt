@@ -4,6 +4,7 @@ use native.Mathlib.Omega.{arith}
 use mathlib.Core.Path.{_≡_, refl, _∙_, ap}
 use mathlib.Core.List.{List, [], _∷_, _++_}
 use lib.ListN.{length, getD, drop}
+use Rattle.definitions.specs.Layout.{REPORT-MARK, REPORT-ROW}
 use Rattle.definitions.specs.Skeleton.{Label, no-label, label, Report}
 use Rattle.definitions.specs.Report.{Push, event, reported, exceeded, reports, label-numbers, report-numbers}
 use Rattle.precedence.specs.Precedence.{mark-in}
@@ -42,32 +43,32 @@ nth-reported q (exceeded m ∷ l) h = there (nth-reported q l h)
 
 -- ---------------------------------------------------------------- rows
 
-nine : (q : ℕ) → 9 * suc q ≡ suc (suc (suc (suc (suc (suc (suc (suc (suc (9 * q)))))))))
-nine q = omega arith
+next-row : (q : ℕ) → REPORT-ROW * suc q ≡ suc (suc (suc (suc (suc (suc (suc (suc (suc (REPORT-ROW * q)))))))))
+next-row q = omega arith
 
 label-drop : (b : ℕ) (x : Label) (k : ℕ) (l z : List ℕ) → drop (suc (suc k)) (label-numbers b x l ++ z) ≡ drop k (l ++ z)
 label-drop b no-label k l z = refl
 label-drop b (label s) k l z = refl
 
 row-drop : (n b f q : ℕ) (r : Report) (l : List Report) (z : List ℕ)
-    → drop (9 * suc q) (report-numbers n b f (r ∷ l) ++ z) ≡ drop (9 * q) (report-numbers n b (f + length (r .pool)) l ++ z)
+    → drop (REPORT-ROW * suc q) (report-numbers n b f (r ∷ l) ++ z) ≡ drop (REPORT-ROW * q) (report-numbers n b (f + length (r .pool)) l ++ z)
 unfolding report-numbers
 row-drop n b f q r l z =
-    ap (λ (k : ℕ). drop k (report-numbers n b f (r ∷ l) ++ z)) (nine q)
-    ∙ label-drop b (r .labelled) (9 * q) (report-numbers n b (f + length (r .pool)) l) z
+    ap (λ (k : ℕ). drop k (report-numbers n b f (r ∷ l) ++ z)) (next-row q)
+    ∙ label-drop b (r .labelled) (REPORT-ROW * q) (report-numbers n b (f + length (r .pool)) l) z
 
 -- in a file of n tokens
 pub nth-mark : {r : Report} (n b f q : ℕ) (l : List Report) (z : List ℕ) → Nth r q l → mark-in q (report-numbers n b f l ++ z) ≡ n - r .mark
 unfolding report-numbers
 nth-mark n b f zero (r ∷ l) z first = refl
 nth-mark n b f (suc q) (x ∷ l) z (later h) =
-    ap (λ (y : List ℕ). getD y 3 0) (row-drop n b f q x l z) ∙ nth-mark n b (f + length (x .pool)) q l z h
+    ap (λ (y : List ℕ). getD y REPORT-MARK 0) (row-drop n b f q x l z) ∙ nth-mark n b (f + length (x .pool)) q l z h
 
 label-length : (b : ℕ) (x : Label) (l : List ℕ) → length (label-numbers b x l) ≡ suc (suc (length l))
 label-length b no-label l = refl
 label-length b (label s) l = refl
 
-pub reports-length : (n b f : ℕ) (l : List Report) → length (report-numbers n b f l) ≡ 9 * length l
+pub reports-length : (n b f : ℕ) (l : List Report) → length (report-numbers n b f l) ≡ REPORT-ROW * length l
 unfolding report-numbers
 reports-length n b f [] = refl
 reports-length n b f (r ∷ l) =

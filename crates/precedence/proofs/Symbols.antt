@@ -7,6 +7,7 @@ use mathlib.Core.List.{List, [], _∷_, _++_, append-assoc}
 use borrow.Author.Tests.{eqb-true, eqb-false, ne-eqb, leb-true, leb-false}
 use lib.Dec.{eqb, leb}
 use lib.ListN.{length, length-append}
+use Rattle.definitions.specs.LexError as L
 use Rattle.definitions.specs.Layout.{MOST-OPEN-CALLS}
 use Rattle.definitions.specs.TokenKind as K
 use Rattle.definitions.specs.Token.{Token, is-error, seen, trivia, drop-trivia, one-of, first-in}
@@ -61,7 +62,7 @@ symbols-past r t ts h e = symbols-next r t ts h ∙ ap (λ (b : Bool). plain (se
 
 -- what is seen of a kind
 abbrev seen-kind : ℕ → ℕ
-seen-kind k = cond (leb 64 k) K.Unrecognized k
+seen-kind k = cond (leb L.UnexpectedEndIncbin k) K.Unrecognized k
 
 kind-not : (k j n : ℕ) → seen-kind j ≡ j → (j ≡ n → ⊥) → seen-kind k ≡ n → eqb k j ≡ false
 kind-not k j n e d h = ne-eqb k j (λ z. d (sym e ∙ sym (ap seen-kind z) ∙ h))
@@ -190,15 +191,15 @@ ahead-length us ts p = rw (p .split) (go (p .front))
 -- ---------------------------------------------------------------- brackets and commas by the raw kind
 
 -- a kind that no error token is seen as
-raw-by : (k j : ℕ) → j < 64 → (j ≡ K.Unrecognized → ⊥) → (b : Bool) → leb 64 k ≡ b → eqb k j ≡ eqb (cond b K.Unrecognized k) j
+raw-by : (k j : ℕ) → j < L.UnexpectedEndIncbin → (j ≡ K.Unrecognized → ⊥) → (b : Bool) → leb L.UnexpectedEndIncbin k ≡ b → eqb k j ≡ eqb (cond b K.Unrecognized k) j
 raw-by k j l d true e =
     let h = leb-true MOST-OPEN-CALLS k e in
     ne-eqb k j (λ z. omega arith) ∙ sym (ne-eqb K.Unrecognized j (λ z. d (sym z)))
 raw-by k j l d false e = refl
 
-pub raw-kind : (t : Token) (j : ℕ) → j < 64 → (j ≡ K.Unrecognized → ⊥) → eqb (t .kind) j ≡ eqb (seen t) j
+pub raw-kind : (t : Token) (j : ℕ) → j < L.UnexpectedEndIncbin → (j ≡ K.Unrecognized → ⊥) → eqb (t .kind) j ≡ eqb (seen t) j
 unfolding seen is-error
-raw-kind t j l d = raw-by (t .kind) j l d (leb 64 (t .kind)) refl
+raw-kind t j l d = raw-by (t .kind) j l d (leb L.UnexpectedEndIncbin (t .kind)) refl
 
 pub turn-opens : (b : Bool) (t : Token) → eqb (seen t) K.LParen ≡ true → change (symbol b t) ≡ opens
 unfolding symbol

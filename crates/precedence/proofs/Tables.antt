@@ -36,14 +36,14 @@ below-all (suc n) f h k l = go (eqb k n) refl (below-all n f (both (f n) (below 
 -- every kind of a set is at most 60
 small : List ℕ → Bool
 small [] = true
-small (x ∷ xs) = leb x 60 && small xs
+small (x ∷ xs) = leb x K.QuestionMark && small xs
 
-one-of-large : (ks : List ℕ) (k : ℕ) → small ks ≡ true → 60 < k → one-of ks k ≡ false
+one-of-large : (ks : List ℕ) (k : ℕ) → small ks ≡ true → K.QuestionMark < k → one-of ks k ≡ false
 unfolding small one-of
 one-of-large [] k h l = refl
 one-of-large (x ∷ xs) k h l =
-    let b = both (leb x 60) (small xs) h in
-    let x-small = leb-true x 60 (b .0) in
+    let b = both (leb x K.QuestionMark) (small xs) h in
+    let x-small = leb-true x K.QuestionMark (b .0) in
     rw (ne-eqb x k (λ e. omega arith)) (one-of-large xs k (b .1) l)
 
 -- ---------------------------------------------------------------- numbers and powers
@@ -52,7 +52,7 @@ small-rows : List Line → Bool
 small-rows [] = true
 small-rows (r ∷ rs) = small (r .operators) && small-rows rs
 
-number-large : (rs : List Line) (k : ℕ) → small-rows rs ≡ true → 60 < k → line-in rs k ≡ 0
+number-large : (rs : List Line) (k : ℕ) → small-rows rs ≡ true → K.QuestionMark < k → line-in rs k ≡ 0
 unfolding small-rows line-in
 number-large [] k h l = refl
 number-large (r ∷ rs) k h l =
@@ -63,7 +63,7 @@ small-levels : List Level → Bool
 small-levels [] = true
 small-levels (l ∷ ls) = small (l .kinds) && small-levels ls
 
-level-large : (ls : List Level) (k : ℕ) → small-levels ls ≡ true → 60 < k → level-of ls k ≡ none
+level-large : (ls : List Level) (k : ℕ) → small-levels ls ≡ true → K.QuestionMark < k → level-of ls k ≡ none
 unfolding small-levels level-of
 level-large [] k h l = refl
 level-large (x ∷ xs) k h l =
@@ -79,21 +79,21 @@ agree k p none = eqb p 0
 agree-at : ℕ → Bool
 agree-at k = agree k (line-of k) (operator (plain k))
 
-agree-small : below 61 agree-at ≡ true
+agree-small : below (suc K.QuestionMark) agree-at ≡ true
 unfolding below one-of level-of line-in agree operator agree-at
 agree-small = refl
 
-agree-large : (k : ℕ) → 60 < k → agree-at k ≡ true
+agree-large : (k : ℕ) → K.QuestionMark < k → agree-at k ≡ true
 unfolding agree-at agree operator small small-rows small-levels
 agree-large k l =
     rw (one-of-large (ternary-level .kinds) k refl l, level-large binding-power k refl l, number-large table k refl l)
 
 agrees : (k : ℕ) → agree-at k ≡ true
-agrees k = go (ltb k 61) refl
+agrees k = go (ltb k (suc K.QuestionMark)) refl
   where
-    go : (b : Bool) → ltb k 61 ≡ b → agree-at k ≡ true
-    go true e = below-all 61 agree-at agree-small k (ltb-true k 61 e)
-    go false e = agree-large k (ltb-false k 61 e)
+    go : (b : Bool) → ltb k (suc K.QuestionMark) ≡ b → agree-at k ≡ true
+    go true e = below-all (suc K.QuestionMark) agree-at agree-small k (ltb-true k (suc K.QuestionMark) e)
+    go false e = agree-large k (ltb-false k (suc K.QuestionMark) e)
 
 -- a binary operator's powers by its number
 pub record Powers (p l r : ℕ) : Type 0 where

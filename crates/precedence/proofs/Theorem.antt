@@ -9,6 +9,8 @@ use mathlib.Core.List.{List, [], _∷_, _++_, append-nil}
 use lib.Dec.{leb}
 use lib.ListN.{length, take, drop, replicate, length-append, length-drop}
 use lib.Seq.{drop-drop, drop-append-seam}
+use Rattle.definitions.specs.LexError as L
+use Rattle.definitions.specs.Layout.{TREE-ROW}
 use Rattle.definitions.specs.TokenKind as K
 use Rattle.definitions.specs.NodeKind as N
 use Rattle.definitions.specs.Token.{Token, tokens-of, is-error, seen, byte-count}
@@ -36,15 +38,15 @@ use Rattle.precedence.proofs.TreeRows.{Found, find}
 
 -- ---------------------------------------------------------------- tokens by kind
 
-seen-by : (k j : ℕ) (b : Bool) → leb 64 k ≡ b → cond b K.Unrecognized k ≡ j → (j ≡ K.Unrecognized → ⊥) → k ≡ j
+seen-by : (k j : ℕ) (b : Bool) → leb L.UnexpectedEndIncbin k ≡ b → cond b K.Unrecognized k ≡ j → (j ≡ K.Unrecognized → ⊥) → k ≡ j
 seen-by k j true e h d = absurd (d (sym h))
 seen-by k j false e h d = h
 
 pub kind-of : (t : Token) (j : ℕ) → seen t ≡ j → (j ≡ K.Unrecognized → ⊥) → t .kind ≡ j
 unfolding seen is-error
-kind-of t j h d = seen-by (t .kind) j (leb 64 (t .kind)) refl h d
+kind-of t j h d = seen-by (t .kind) j (leb L.UnexpectedEndIncbin (t .kind)) refl h d
 
-seen-of : (t : Token) (j : ℕ) → t .kind ≡ j → leb 64 j ≡ false → seen t ≡ j
+seen-of : (t : Token) (j : ℕ) → t .kind ≡ j → leb L.UnexpectedEndIncbin j ≡ false → seen t ≡ j
 unfolding seen is-error
 seen-of t j e f = rw e (rw f refl)
 
@@ -64,7 +66,7 @@ pub record Answered (ts : List Token) (p : ℕ) (r : Result) : Type 0 where
   pub is-bracket : seen bracket ≡ K.LParen
   pub children : Tree
   pub more : List ℕ
-  pub rows-are : drop (4 * p) (r .buffers .trees) ≡ rows (subtree N.DtExpr children nil) ++ more
+  pub rows-are : drop (TREE-ROW * p) (r .buffers .trees) ≡ rows (subtree N.DtExpr children nil) ++ more
   pub paired : Partner behind ⊎ ((q : ℕ) × Tells r (tokens-before p (r .buffers .trees)) children q)
 
 -- ---------------------------------------------------------------- a cell's rows
@@ -123,12 +125,12 @@ module _ (e : Entry) (ts : List Token) (l : Buffers) (clear : None-exceeded (pus
       let f = found p d in
       let s = f .fact in
       let l = r .buffers .trees in
-      let next : drop (4 * suc p) l ≡ drop 4 (drop (4 * p) l) =
-      ap (λ (n : ℕ). drop n l) (let z : 4 * suc p ≡ 4 * p + 4 = omega arith in z) ∙ sym (drop-drop 4 (4 * p) l) in
-      let there : drop 4 (drop (4 * p) l) ≡ rows (f .children) ++ f .more = ap (drop 4) (f .rows-are) ∙ rw (append-nil (rows (f .children))) in
+      let next : drop (TREE-ROW * suc p) l ≡ drop TREE-ROW (drop (TREE-ROW * p) l) =
+      ap (λ (n : ℕ). drop n l) (let z : TREE-ROW * suc p ≡ TREE-ROW * p + TREE-ROW = omega arith in z) ∙ sym (drop-drop TREE-ROW (TREE-ROW * p) l) in
+      let there : drop TREE-ROW (drop (TREE-ROW * p) l) ≡ rows (f .children) ++ f .more = ap (drop TREE-ROW) (f .rows-are) ∙ rw (append-nil (rows (f .children))) in
       record {
         width = byte-count (s .bracket ∷ []);
-        row = ap (take 4) (next ∙ there ∙ ap (λ (c : Tree). rows c ++ f .more) (s .begins));
+        row = ap (take TREE-ROW) (next ∙ there ∙ ap (λ (c : Tree). rows c ++ f .more) (s .begins));
         bracket = s .bracket;
         after = s .behind;
         token-is = s .starts;

@@ -9,6 +9,7 @@ use borrow.Author.Tests.{ltb-true, ltb-false}
 use lib.Dec.{ltb}
 use lib.ListN.{length, take, drop, length-append}
 use lib.Seq.{drop-drop, drop-append-add}
+use Rattle.definitions.specs.Layout.{TREE-ROW}
 use Rattle.definitions.specs.NodeKind as N
 use Rattle.definitions.specs.Token.{Token, byte-count}
 use Rattle.definitions.specs.Place.{Tree, nil, leaf, subtree, width, count, rows}
@@ -17,18 +18,18 @@ use Rattle.laws.proofs.Decode.{row-count, rows-length}
 use Rattle.precedence.specs.Precedence.{tree-row-at, tokens-before}
 use Rattle.precedence.proofs.Settle.{Each}
 
-four : (q : ℕ) → 4 * suc q ≡ suc (suc (suc (suc (4 * q))))
-four q = omega arith
+next-row : (q : ℕ) → TREE-ROW * suc q ≡ suc (suc (suc (suc (TREE-ROW * q))))
+next-row q = omega arith
 
 -- past one row
-drop-row : (c k w n q : ℕ) (l : List ℕ) → drop (4 * suc q) (c ∷ k ∷ w ∷ n ∷ l) ≡ drop (4 * q) l
-drop-row c k w n q l = ap (λ (m : ℕ). drop m (c ∷ k ∷ w ∷ n ∷ l)) (four q)
+drop-row : (c k w n q : ℕ) (l : List ℕ) → drop (TREE-ROW * suc q) (c ∷ k ∷ w ∷ n ∷ l) ≡ drop (TREE-ROW * q) l
+drop-row c k w n q l = ap (λ (m : ℕ). drop m (c ∷ k ∷ w ∷ n ∷ l)) (next-row q)
 
 -- past the rows of a whole tree
-drop-rows : (f : Tree) (l : List ℕ) (q : ℕ) → drop (4 * (row-count f + q)) (rows f ++ l) ≡ drop (4 * q) l
+drop-rows : (f : Tree) (l : List ℕ) (q : ℕ) → drop (TREE-ROW * (row-count f + q)) (rows f ++ l) ≡ drop (TREE-ROW * q) l
 drop-rows f l q =
-    ap (λ (n : ℕ). drop n (rows f ++ l)) (let e : 4 * (row-count f + q) ≡ length (rows f) + 4 * q = omega (arith, rows-length f) in e)
-    ∙ drop-append-add (rows f) l (4 * q)
+    ap (λ (n : ℕ). drop n (rows f ++ l)) (let e : TREE-ROW * (row-count f + q) ≡ length (rows f) + TREE-ROW * q = omega (arith, rows-length f) in e)
+    ∙ drop-append-add (rows f) l (TREE-ROW * q)
 
 tokens-after : (f : Tree) (l : List ℕ) (q : ℕ) → tokens-before (row-count f + q) (rows f ++ l) ≡ length (leaves f) + tokens-before q l
 unfolding rows row-count leaves tokens-before
@@ -50,7 +51,7 @@ pub record Found (Q : List Token → Tree → Type 0) (ts : List Token) (p : ℕ
   pub children : Tree
   pub fact : Q (drop (tokens-before p l) ts) children
   pub more : List ℕ
-  pub rows-are : drop (4 * p) l ≡ rows (subtree N.DtExpr children nil) ++ more
+  pub rows-are : drop (TREE-ROW * p) l ≡ rows (subtree N.DtExpr children nil) ++ more
 
 -- row p of l is a DtExpr's
 abbrev pub Is-cell : ℕ → List ℕ → Type 0
@@ -72,7 +73,7 @@ module _ (Q : List Token → Tree → Type 0) where
       }
 
   cell-next : (c k w n q : ℕ) (l : List ℕ) → Is-cell (suc q) (c ∷ k ∷ w ∷ n ∷ l) → Is-cell q l
-  cell-next c k w n q l h = (h .0, h .1, ap (take 4) (sym (drop-row c k w n q l)) ∙ h .2)
+  cell-next c k w n q l h = (h .0, h .1, ap (take TREE-ROW) (sym (drop-row c k w n q l)) ∙ h .2)
 
   -- rows of a tree earlier
   found-past : (f : Tree) (l : List ℕ) (ts us : List Token) (q : ℕ) → us ≡ drop (length (leaves f)) ts → Found Q us q l → Found Q ts (row-count f + q) (rows f ++ l)
@@ -90,7 +91,7 @@ module _ (Q : List Token → Tree → Type 0) where
       }
 
   cell-past : (f : Tree) (l : List ℕ) (q : ℕ) → Is-cell (row-count f + q) (rows f ++ l) → Is-cell q l
-  cell-past f l q h = (h .0, h .1, ap (take 4) (sym (drop-rows f l q)) ∙ h .2)
+  cell-past f l q h = (h .0, h .1, ap (take TREE-ROW) (sym (drop-rows f l q)) ∙ h .2)
 
   -- among the children, or after them
   find-both : (c f : Tree) (l : List ℕ) (ts : List Token) (q : ℕ) → Each Q ts c → Each Q (drop (length (leaves c)) ts) f → q < row-count c + row-count f

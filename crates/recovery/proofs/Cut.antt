@@ -5,6 +5,7 @@ use mathlib.Core.Path.{_≡_, refl, ap, sym, _∙_, subst}
 use mathlib.Core.Bool.{true}
 use mathlib.Core.List.{List, [], _∷_, _++_, append-assoc, append-nil}
 use lib.ListN.{length, length-append}
+use Rattle.definitions.specs.Layout.{NODE, LEAF}
 use Rattle.definitions.specs.TokenKind as K
 use Rattle.definitions.specs.Token.{Token, byte-count}
 use Rattle.definitions.specs.Place.{Tree, nil, leaf, subtree, _⊕_, width, count}
@@ -27,10 +28,10 @@ none-some : {A : Type 0} {x : A} {l : List A} → [] ≡ x ∷ l → ⊥
 none-some e = let z : _≡_ {A = ℕ} 0 1 = cc in omega arith
 
 -- a node's row is not a leaf's
-node-leaf : (r : Row) (k w n : ℕ) → r ≡ 1 ∷ k ∷ w ∷ n ∷ [] → class r ≡ 0 → ⊥
+node-leaf : (r : Row) (k w n : ℕ) → r ≡ LEAF ∷ k ∷ w ∷ n ∷ [] → class r ≡ NODE → ⊥
 node-leaf r k w n e h = let z : _≡_ {A = ℕ} 1 0 = sym (ap class e) ∙ h in omega arith
 
-leaf-node : (r : Row) (k w n : ℕ) → r ≡ 0 ∷ k ∷ w ∷ n ∷ [] → class r ≡ 1 → ⊥
+leaf-node : (r : Row) (k w n : ℕ) → r ≡ NODE ∷ k ∷ w ∷ n ∷ [] → class r ≡ LEAF → ⊥
 leaf-node r k w n e h = let z : _≡_ {A = ℕ} 0 1 = sym (ap class e) ∙ h in omega arith
 
 -- ---------------------------------------------------------------- rows of whole parts
@@ -56,7 +57,7 @@ whole-parts (S.node {r = r} {c = d} {l = l} a p q) (subtree k c f) e x y h =
     ((λ i. first-same h i ∷ (g .0 i ++ g′ .0 i)), g′ .1)
 
 -- one leaf more
-pub one-more : {n : ℕ} {l : List Row} → Subtrees n l → (r : Row) → class r ≡ 1 → Subtrees (suc n) (l ++ (r ∷ []))
+pub one-more : {n : ℕ} {l : List Row} → Subtrees n l → (r : Row) → class r ≡ LEAF → Subtrees (suc n) (l ++ (r ∷ []))
 one-more S.none r e = S.leaf e S.none
 one-more (S.leaf a p) r e = S.leaf a (one-more p r e)
 one-more (S.node {n = n} {r = x} {c = c} {l = l} a p q) r e =
@@ -112,10 +113,10 @@ pub record Opened (f : Tree) (r : Row) (l : List Row) : Type 0 where
   pub inner : Tree
   pub next : Tree
   pub is : f ≡ subtree kind inner next
-  pub row : r ≡ 0 ∷ kind ∷ width inner ∷ count inner ∷ []
+  pub row : r ≡ NODE ∷ kind ∷ width inner ∷ count inner ∷ []
   pub rows : rows-of inner ++ rows-of next ≡ l
 
-opened : (f : Tree) (r : Row) (l : List Row) → class r ≡ 0 → rows-of f ≡ r ∷ l → Opened f r l
+opened : (f : Tree) (r : Row) (l : List Row) → class r ≡ NODE → rows-of f ≡ r ∷ l → Opened f r l
 unfolding rows-of
 opened nil r l e h = absurd (none-some h)
 opened (leaf k ts f) r l e h = absurd (node-leaf r k (byte-count ts) (length ts) (sym (first-same h)) e)
@@ -132,7 +133,7 @@ no-rows nil h = refl
 no-rows (leaf k ts f) h = absurd (none-some (sym h))
 no-rows (subtree k c f) h = absurd (none-some (sym h))
 
-single : (f : Tree) (r : Row) → class r ≡ 1 → rows-of f ≡ r ∷ [] → Single f r
+single : (f : Tree) (r : Row) → class r ≡ LEAF → rows-of f ≡ r ∷ [] → Single f r
 unfolding rows-of
 single nil r e h = absurd (none-some h)
 single (leaf k ts f) r e h = record { raw = ts; is = (λ i. leaf (ap kind (first-same h) i) ts (no-rows f (rest-same h) i)) }
@@ -214,7 +215,7 @@ unfolding rows-of count
 semicolon-in k before j inside raw later e =
     let i : Tree = inside ⊕ leaf K.Semicolon raw nil in
     let f : Tree = before ⊕ subtree j i later in
-    let part : Row = 0 ∷ j ∷ width i ∷ count i ∷ [] in
+    let part : Row = NODE ∷ j ∷ width i ∷ count i ∷ [] in
     let own : Row = 1 ∷ K.Semicolon ∷ byte-count raw ∷ length raw ∷ [] in
     let n : count i ≡ suc (count inside) = let z : count i ≡ count inside + 1 = count-beside inside (leaf K.Semicolon raw nil) in omega arith in
     record {

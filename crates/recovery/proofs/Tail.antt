@@ -8,6 +8,7 @@ use mathlib.Core.List.{List, [], _∷_, _++_, append-assoc, append-nil}
 use lib.Dec.{eqb, leb}
 use lib.ListN.{length, take, drop, length-append, length-drop}
 use lib.Seq.{drop-drop, length-take-le}
+use Rattle.definitions.specs.LexError as L
 use Rattle.definitions.specs.TokenKind as K
 use Rattle.definitions.specs.NodeKind as N
 use Rattle.definitions.specs.StaticText.{static-texts, same, fits-text}
@@ -157,7 +158,7 @@ tail f h s =
       rest = F .rest;
       file = e;
       one-byte-long = semicolon-length f (leaves (P .before) ++ leaves (P .inside)) (O .token) (F .rest) (checked-input (f .input) (f .rows) (W .input)) e (O .kind);
-      no-error = ap (leb 64) (O .kind);
+      no-error = ap (leb L.UnexpectedEndIncbin) (O .kind);
       at-index =
           counted (λ (x : Tree). length (leaves x)) raw-tokens tokens-counted (P .before) (P .inside) (s .before) (s .inside) (P .rows-before) (P .rows-inside)
           ∙ sym (length-append (leaves (P .before)) (leaves (P .inside)));

@@ -7,6 +7,7 @@ use mathlib.Core.Bool.{Bool, true, false, cond}
 use mathlib.Core.List.{List, [], _∷_, _++_, append-assoc}
 use lib.ListN.{length, take, drop, replicate, length-append}
 use lib.Seq.{take-at, drop-at, take-append-seam}
+use Rattle.definitions.specs.Layout.{REPORT-ROW, ERROR-ROW, TREE-ROW}
 use Rattle.definitions.specs.NodeKind as N
 use Rattle.definitions.specs.Token.{Token, tokens-of, is-error, byte-count}
 use Rattle.definitions.specs.Grammar.{Entry, SourceFile, root-kind}
@@ -75,11 +76,11 @@ rows-of nil = []
 rows-of (leaf k ts f) = (1 ∷ k ∷ byte-count ts ∷ length ts ∷ []) ∷ rows-of f
 rows-of (subtree k c f) = (0 ∷ k ∷ width c ∷ count c ∷ []) ∷ (rows-of c ++ rows-of f)
 
-rows-wide : (f : Tree) → Wide 4 (rows-of f)
+rows-wide : (f : Tree) → Wide TREE-ROW (rows-of f)
 unfolding rows-of
 rows-wide nil = tt
 rows-wide (leaf k ts f) = (refl, rows-wide f)
-rows-wide (subtree k c f) = (refl, wide-append 4 (rows-of c) (rows-of f) (rows-wide c) (rows-wide f))
+rows-wide (subtree k c f) = (refl, wide-append TREE-ROW (rows-of c) (rows-of f) (rows-wide c) (rows-wide f))
 
 rows-flat : (f : Tree) → rows f ≡ flat (rows-of f)
 unfolding rows-of rows flat
@@ -93,12 +94,12 @@ unfolding is-error
 errors-of at [] = []
 errors-of at (t ∷ ts) = cond (is-error (t .kind)) ((t .kind ∷ at ∷ (at + t .len) ∷ []) ∷ errors-of (at + t .len) ts) (errors-of (at + t .len) ts)
 
-errors-wide : (at : ℕ) (ts : List Token) → Wide 3 (errors-of at ts)
+errors-wide : (at : ℕ) (ts : List Token) → Wide ERROR-ROW (errors-of at ts)
 unfolding errors-of
 errors-wide at [] = tt
 errors-wide at (t ∷ ts) = go (is-error (t .kind)) (errors-wide (at + t .len) ts)
   where
-    go : (b : Bool) → Wide 3 (errors-of (at + t .len) ts) → Wide 3 (cond b ((t .kind ∷ at ∷ (at + t .len) ∷ []) ∷ errors-of (at + t .len) ts) (errors-of (at + t .len) ts))
+    go : (b : Bool) → Wide ERROR-ROW (errors-of (at + t .len) ts) → Wide ERROR-ROW (cond b ((t .kind ∷ at ∷ (at + t .len) ∷ []) ∷ errors-of (at + t .len) ts) (errors-of (at + t .len) ts))
     go true h = (refl, h)
     go false h = h
 
@@ -124,7 +125,7 @@ label-wide : (b : ℕ) (x : Label) → length (label-numbers b x []) ≡ 2
 label-wide b no-label = refl
 label-wide b (label s) = refl
 
-reports-wide : (n b first : ℕ) (l : List Report) → Wide 9 (reports-of n b first l)
+reports-wide : (n b first : ℕ) (l : List Report) → Wide REPORT-ROW (reports-of n b first l)
 unfolding reports-of
 reports-wide n b first [] = tt
 reports-wide n b first (r ∷ l) = (ap (λ (x : ℕ). suc (suc (suc (suc (suc (suc (suc x))))))) (label-wide b (r .labelled)), reports-wide n b (first + length (r .pool)) l)
@@ -174,11 +175,11 @@ wrote f h =
     let t : Tree = subtree N.SourceFile (children o ts) nil in
     record {
       input = A .input;
-      trees = ap tree-rows is ∙ written-rows 4 (rows-of t) (z .trees) (f .lent .trees) (omega arith) (rows-wide t) (rows-flat t);
-      errors = ap error-rows is ∙ written-rows 3 (errors-of 0 ts) (z .errors) (f .lent .errors) (omega arith) (errors-wide 0 ts) (errors-flat 0 ts);
+      trees = ap tree-rows is ∙ written-rows TREE-ROW (rows-of t) (z .trees) (f .lent .trees) (omega arith) (rows-wide t) (rows-flat t);
+      errors = ap error-rows is ∙ written-rows ERROR-ROW (errors-of 0 ts) (z .errors) (f .lent .errors) (omega arith) (errors-wide 0 ts) (errors-flat 0 ts);
       reports =
           ap S.report-rows is
-          ∙ written-rows 9 (reports-of (length ts) (byte-count ts) 0 (told-of f)) (z .reports) (f .lent .reports) (omega arith) (reports-wide (length ts) (byte-count ts) 0 (told-of f))
+          ∙ written-rows REPORT-ROW (reports-of (length ts) (byte-count ts) 0 (told-of f)) (z .reports) (f .lent .reports) (omega arith) (reports-wide (length ts) (byte-count ts) 0 (told-of f))
           (reports-flat (length ts) (byte-count ts) 0 (told-of f));
       pool = ap expectations is ∙ take-append-seam (z .pool) (replicate (length (f .lent .pool) - length (z .pool)) 0);
     }

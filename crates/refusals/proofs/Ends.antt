@@ -7,7 +7,7 @@ use mathlib.Core.List.{List, [], _∷_, _++_}
 use lib.Dec.{leb}
 use lib.ListN.{length, length-append, replicate, length-replicate}
 use borrow.Author.Tests.{leb-true}
-use Rattle.definitions.specs.Layout.{TREE-ROW, ERROR-ROW, REPORT-ROW}
+use Rattle.definitions.specs.Layout.{TOO-DEEP, BAD-TEXT, NO-REPORT-ROOM, BAD-ROW, NO-TREE-ROOM, TREE-ROW, ERROR-ROW, REPORT-ROW}
 use Rattle.definitions.specs.Token.{tokens-of, byte-count}
 use Rattle.definitions.specs.Grammar.{Entry, root-kind}
 use Rattle.definitions.specs.Place.{root}
@@ -23,7 +23,7 @@ use Rattle.refusals.specs.Answered.{Filled, Written, Returns}
 
 -- ---------------------------------------------------------------- refusals
 
-bounds : (r : Refusal) → (1 ≤ number-of r) × (number-of r ≤ 8)
+bounds : (r : Refusal) → (1 ≤ number-of r) × (number-of r ≤ NO-TREE-ROOM)
 unfolding number-of
 bounds unknown-entry = (omega arith, omega arith)
 bounds too-long = (omega arith, omega arith)
@@ -34,7 +34,7 @@ bounds (no-event-room m) = (omega arith, omega arith)
 bounds (no-report-room m) = (omega arith, omega arith)
 bounds no-tree-room = (omega arith, omega arith)
 
-no-place : (r : Refusal) → ¬ ((3 ≤ number-of r) × (number-of r ≤ 7)) → place-of r ≡ 0
+no-place : (r : Refusal) → ¬ ((BAD-ROW ≤ number-of r) × (number-of r ≤ NO-REPORT-ROOM)) → place-of r ≡ 0
 unfolding number-of place-of
 no-place unknown-entry h = refl
 no-place too-long h = refl
@@ -46,7 +46,7 @@ no-place (no-report-room m) h = absurd (h (omega arith, omega arith))
 no-place no-tree-room h = refl
 
 module _ (n : ℕ) (tokens : List ℕ) (b : Buffers) where
-  pub left-as-it-was : (r : Refusal) → number-of r ≤ 4 → Returns n tokens b (untouched r b)
+  pub left-as-it-was : (r : Refusal) → number-of r ≤ BAD-TEXT → Returns n tokens b (untouched r b)
   left-as-it-was r h =
       record {
         at-most-8 = bounds r .1;
@@ -58,7 +58,7 @@ module _ (n : ℕ) (tokens : List ℕ) (b : Buffers) where
         lengths = record { events = refl; trees = refl; errors = refl; reports = refl; pool = refl };
       }
 
-  pub left-zero : (r : Refusal) → 5 ≤ number-of r → Returns n tokens b (cleared r b)
+  pub left-zero : (r : Refusal) → TOO-DEEP ≤ number-of r → Returns n tokens b (cleared r b)
   left-zero r h =
       record {
         at-most-8 = bounds r .1;

@@ -6,6 +6,7 @@ use mathlib.Core.Bool.{Bool, cond, _&&_}
 use mathlib.Core.List.{List}
 use lib.Dec.{leb}
 use lib.ListN.{length}
+use Rattle.definitions.specs.Layout.{TOO-DEEP, BAD-TEXT}
 use Rattle.definitions.specs.Token.{tokens-of}
 use Rattle.definitions.specs.Grammar.{Entry}
 use Rattle.definitions.specs.Report.{Room, Fit, fits, pushes, scan}
@@ -33,10 +34,10 @@ module _ (n : ℕ) (bytes tokens : List ℕ) (b : Buffers) where
   Found x = Cause n bytes tokens b (x .answer .number) (x .answer .place) × Returns n tokens b x
 
   -- a refusal whose cause is there, before the parse and in it
-  refused-found : (r : Refusal) → number-of r ≤ 4 → Cause n bytes tokens b (number-of r) (place-of r) → Found (untouched r b)
+  refused-found : (r : Refusal) → number-of r ≤ BAD-TEXT → Cause n bytes tokens b (number-of r) (place-of r) → Found (untouched r b)
   refused-found r h c = (c, left-as-it-was n tokens b r h)
 
-  zero-found : (r : Refusal) → 5 ≤ number-of r → Cause n bytes tokens b (number-of r) (place-of r) → Found (cleared r b)
+  zero-found : (r : Refusal) → TOO-DEEP ≤ number-of r → Cause n bytes tokens b (number-of r) (place-of r) → Found (cleared r b)
   zero-found r h c = (c, left-zero n tokens b r h)
 
   first-found : (e : Entry) → Passes-4 n bytes tokens e → (before : List Happening) (x : Happening) → First (Unrefused b) (happens e tokens) before x → Found (cleared (forward-mark (length (tokens-of tokens)) (refusal-for x)) b)

@@ -6,6 +6,8 @@ use mathlib.Core.Bool.{Bool, cond, _&&_, _||_}
 use mathlib.Core.List.{List, [], _∷_, _++_}
 use lib.Dec.{leb, eqb}
 use lib.ListN.{length, length-append}
+use Rattle.definitions.specs.Layout.{TOKEN-ROW, MOST-TOKEN-NUMBERS, MOST-BYTES}
+use Rattle.definitions.specs.LexError as L
 use Rattle.definitions.specs.TokenKind as K
 use Rattle.definitions.specs.Token.{Token, tokens-of, byte-count}
 use Rattle.definitions.specs.Refusal.{bad-row, Verdict, accepted, refused, unless, is-kind, check-rows}
@@ -18,10 +20,10 @@ kind-decides : (k : ℕ) → Decides (Input-kind k) (is-kind k)
 unfolding is-kind
 kind-decides k =
     by _ _
-    (both _ _ (both _ _ (leb-decides k 60) (not-decides _ (eqb-decides k K.Unrecognized))) (not-decides _ (eqb-decides k K.Name)))
-    (both _ _ (leb-decides 64 k) (leb-decides k 74))
+    (both _ _ (both _ _ (leb-decides k K.QuestionMark) (not-decides _ (eqb-decides k K.Unrecognized))) (not-decides _ (eqb-decides k K.Name)))
+    (both _ _ (leb-decides L.UnexpectedEndIncbin k) (leb-decides k L.Default))
   where
-    by : (s t : Bool) → Decides (((k ≤ 60) × ¬ (k ≡ K.Unrecognized)) × ¬ (k ≡ K.Name)) s → Decides ((64 ≤ k) × (k ≤ 74)) t → Decides (Input-kind k) (s || t)
+    by : (s t : Bool) → Decides (((k ≤ K.QuestionMark) × ¬ (k ≡ K.Unrecognized)) × ¬ (k ≡ K.Name)) s → Decides ((L.UnexpectedEndIncbin ≤ k) × (k ≤ L.Default)) t → Decides (Input-kind k) (s || t)
     by s t (holds a) d = holds (a-token (a .0 .0) (a .0 .1) (a .1))
     by s t (not-so a) (holds b) = holds (a-lexical-error (b .0) (b .1))
     by s t (not-so a) (not-so b) = not-so neither
@@ -32,7 +34,7 @@ kind-decides k =
 
 -- ---------------------------------------------------------------- cause 2
 
-pub sizes-decides : (bytes tokens : List ℕ) → Decides (Sizes bytes tokens) (leb (length bytes) 1048576 && leb (length tokens) 131072)
+pub sizes-decides : (bytes tokens : List ℕ) → Decides (Sizes bytes tokens) (leb (length bytes) MOST-BYTES && leb (length tokens) MOST-TOKEN-NUMBERS)
 sizes-decides bytes tokens = both _ _ (leb-decides (length bytes) MAX-BYTES) (leb-decides (length tokens) MAX-NUMBERS)
 
 -- ---------------------------------------------------------------- cause 3
@@ -52,9 +54,9 @@ row-decides bytes pre k n left e = by _ (both _ _ (both _ _ (kind-decides k) (le
 
 -- the rows after others
 data Judged (bytes : List ℕ) (pre : List Token) (tokens : List ℕ) : Verdict → Type 0 where
-  good : Each-after (Good-row bytes) pre (tokens-of tokens) → length tokens ≡ 2 * length (tokens-of tokens) → byte-count pre + byte-count (tokens-of tokens) ≡ length bytes → Judged bytes pre tokens accepted
+  good : Each-after (Good-row bytes) pre (tokens-of tokens) → length tokens ≡ TOKEN-ROW * length (tokens-of tokens) → byte-count pre + byte-count (tokens-of tokens) ≡ length bytes → Judged bytes pre tokens accepted
   bad : (before : List Token) (t : Token) (i : ℕ) → First-after (Good-row bytes) pre (tokens-of tokens) before t → i ≡ length pre + length before → Judged bytes pre tokens (refused (bad-row i))
-  ends : Each-after (Good-row bytes) pre (tokens-of tokens) → ¬ ((length tokens ≡ 2 * length (tokens-of tokens)) × (byte-count pre + byte-count (tokens-of tokens) ≡ length bytes)) → (i : ℕ)
+  ends : Each-after (Good-row bytes) pre (tokens-of tokens) → ¬ ((length tokens ≡ TOKEN-ROW * length (tokens-of tokens)) × (byte-count pre + byte-count (tokens-of tokens) ≡ length bytes)) → (i : ℕ)
       → i ≡ length pre + length (tokens-of tokens) → Judged bytes pre tokens (refused (bad-row i))
 
 rows-end : (bytes : List ℕ) (pre : List Token) (i left : ℕ) (t : Bool) → i ≡ length pre → byte-count pre + left ≡ length bytes → Decides (left ≡ 0) t → Judged bytes pre [] (unless t (bad-row i))

@@ -9,7 +9,7 @@ use lib.Seq.{drop-drop, drop-length, length-take-le, take-all}
 use lib.Dec.{leb}
 use borrow.Author.Tests.{leb-true}
 use Rattle.basics.proofs.Flags.{flags}
-use Rattle.definitions.specs.Layout.{TREE-ROW, EVENT-ROW, EVENT-TAG, EVENT-ARGUMENT, PLACEHOLDER, ADD-TOKEN, ADD-COMBINED-TOKEN, FINISH-NODE, ERROR, LINKED-START-NODE, TWO-TO-32}
+use Rattle.definitions.specs.Layout.{START-NODE, TREE-ROW, EVENT-ROW, EVENT-TAG, EVENT-ARGUMENT, PLACEHOLDER, ADD-TOKEN, ADD-COMBINED-TOKEN, FINISH-NODE, ERROR, LINKED-START-NODE, TWO-TO-32}
 use Rattle.definitions.specs.TokenKind as K
 use Rattle.definitions.specs.Token.{Token, trivia, drop-trivia, past}
 use Rattle.definitions.specs.Skeleton.{Skeleton, done, token, name, node, ignored, report, over}
@@ -132,23 +132,23 @@ module _ (tokens events : List ℕ) (small : length tokens < TWO-TO-32) where
     arg-is : field events i EVENT-ARGUMENT ≡ a
     arg-is = ev-field events i EVENT-ARGUMENT (tag ∷ a ∷ b ∷ x) e (omega arith)
 
-    ev-take : (q : On) → tag ≡ 2 → event-on tokens events i q ≡ token-on tokens (trivia-on tokens q)
+    ev-take : (q : On) → tag ≡ ADD-TOKEN → event-on tokens events i q ≡ token-on tokens (trivia-on tokens q)
     unfolding event-on
     ev-take q h = rw (tag-is, h)
 
-    ev-name : (q : On) → tag ≡ 3 → event-on tokens events i q ≡ combined-on tokens a (trivia-on tokens q)
+    ev-name : (q : On) → tag ≡ ADD-COMBINED-TOKEN → event-on tokens events i q ≡ combined-on tokens a (trivia-on tokens q)
     unfolding event-on
     ev-name q h = rw (tag-is, arg-is, h)
 
-    ev-finish : (q : On) → tag ≡ 4 → event-on tokens events i q ≡ finish-on q
+    ev-finish : (q : On) → tag ≡ FINISH-NODE → event-on tokens events i q ≡ finish-on q
     unfolding event-on
     ev-finish q h = rw (tag-is, h)
 
-    ev-hole : (q : On) → tag ≡ 0 → event-on tokens events i q ≡ q
+    ev-hole : (q : On) → tag ≡ PLACEHOLDER → event-on tokens events i q ≡ q
     unfolding event-on
     ev-hole q h = rw (tag-is, h)
 
-    ev-error : (q : On) → tag ≡ 5 → event-on tokens events i q ≡ q
+    ev-error : (q : On) → tag ≡ ERROR → event-on tokens events i q ≡ q
     unfolding event-on
     ev-error q h = rw (tag-is, h)
 
@@ -180,14 +180,14 @@ module _ (tokens events : List ℕ) (small : length tokens < TWO-TO-32) where
   first-other : (l : Bool) (o : Skeleton) (e : List ℕ) → Chained o → (getD e 0 0 ≡ LINKED-START-NODE → ⊥) → getD (encode l o ++ e) 0 0 ≡ LINKED-START-NODE → ⊥
   unfolding encode Chained
   first-other l done e c h g = h g
-  first-other l (token t m o) e c h g = let z : _≡_ {A = ℕ} 2 6 = g in omega arith
-  first-other l (name ts m o) e c h g = let z : _≡_ {A = ℕ} 3 6 = g in omega arith
+  first-other l (token t m o) e c h g = let z : _≡_ {A = ℕ} ADD-TOKEN LINKED-START-NODE = g in omega arith
+  first-other l (name ts m o) e c h g = let z : _≡_ {A = ℕ} ADD-COMBINED-TOKEN LINKED-START-NODE = g in omega arith
   first-other l (node k m m′ a i o) e c h g =
-      let z : _≡_ {A = ℕ} 1 6 = sym (ap (λ q. getD q 0 0) (append-assoc (encode true a) _ e) ∙ chain-first a k _ _ (c .0) (c .1 .0)) ∙ g in omega arith
+      let z : _≡_ {A = ℕ} START-NODE LINKED-START-NODE = sym (ap (λ q. getD q 0 0) (append-assoc (encode true a) _ e) ∙ chain-first a k _ _ (c .0) (c .1 .0)) ∙ g in omega arith
   first-other l (ignored m m′ a i o) e c h g =
       let y : List ℕ = event-row PLACEHOLDER 0 0 ((encode false i ++ event-row PLACEHOLDER 0 0 (encode l o)) ++ e) in
       first-other true a y (c .1 .0) (λ z. omega arith) (sym (ap (λ q. getD q 0 0) (append-assoc (encode true a) _ e)) ∙ g)
-  first-other l (report r o) e c h g = let z : _≡_ {A = ℕ} 5 6 = g in omega arith
+  first-other l (report r o) e c h g = let z : _≡_ {A = ℕ} ERROR LINKED-START-NODE = g in omega arith
   first-other l (over m o) e c h g = first-other l o e c h g
 
   -- ---------------------------------------------------------------- the statements of the induction

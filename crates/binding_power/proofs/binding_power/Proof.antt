@@ -4,6 +4,7 @@ use mathlib.Core.Bool.{true, false}
 use native.Mathlib.Omega.{arith}
 use lib.Dec.{leb}
 use borrow.Author.Tests.{leb-true}
+use Rattle.definitions.specs.TokenKind as K
 use Rattle.binding_power.proofs.Powers.{lefts-at, rights-at, binary-at}
 use borrow.Author.Needs.{needs}
 use Rattle.binding_power.proofs.binding_power.Statement.{statement}
@@ -37,7 +38,7 @@ returns-3 : tie.Need-returns-3
 returns-3 c =
     let k = c .before .args .k in
     let h = c .before .fits .k .fits in
-    (lefts-at k h false (leb k 60) (c .if1 .left) refl, (rights-at k h false (leb k 60) (c .if1 .left) refl, binary-at k h false (leb k 60) (c .if1 .left) refl))
+    (lefts-at k h false (leb k K.QuestionMark) (c .if1 .left) refl, (rights-at k h false (leb k K.QuestionMark) (c .if1 .left) refl, binary-at k h false (leb k K.QuestionMark) (c .if1 .left) refl))
 
 pub binding-power-spec : {M : Type 1} → statement M
 binding-power-spec =
