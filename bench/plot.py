@@ -30,7 +30,7 @@ def axes(ax, title, unit, scale="linear"):
 
 def board_instructions(ax, board):
     ratio = next(c.port / c.rust for c in board if c.name == HEADLINE)
-    axes(ax, f"Board files: instructions, port / Rust = {ratio:.2f}", "instructions a token")
+    axes(ax, f"Board files: instructions, port / Rust = {ratio:.2f}", "instructions per token")
     tokens = [c.tokens for c in board]
     for label, colour, of in ("port", PORT, "port"), ("Rust", RUST, "rust"):
         ax.plot(tokens, [getattr(c, of) / c.tokens for c in board], "o-", color=colour, label=label)
@@ -39,7 +39,7 @@ def board_instructions(ax, board):
 
 
 def board_times(ax, board, times):
-    axes(ax, f"Board files: time in {times.runs} runs on one machine", "nanoseconds a token")
+    axes(ax, f"Board files: time in {times.runs} runs on one machine", "nanoseconds per token")
     tokens = [c.tokens for c in board]
     for label, colour, column in ("port", PORT, "port_ns"), ("Rust", RUST, "rust_ns"):
         spreads = [[x / c.tokens for x in times.spread(c.name, column)] for c in board]
@@ -51,7 +51,7 @@ def board_times(ax, board, times):
 
 
 def worst_cases(ax, title, families, of):
-    axes(ax, title, "instructions a token (logarithmic)", "log")
+    axes(ax, title, "instructions per token (logarithmic)", "log")
     for family, mark in MARKS.items():
         rows = families[family]
         ax.plot([c.tokens for c in rows], [getattr(c, of) / c.tokens for c in rows], mark + "-", label=family)
@@ -66,7 +66,7 @@ def main():
     # the same figures give the same files
     pyplot.rcParams.update({"svg.hashsalt": "benchmark", "font.size": 10, "axes.titlesize": 11})
     figure, ((a, b), (c, d)) = pyplot.subplots(2, 2, figsize=(12, 8.5), layout="constrained")
-    figure.suptitle("Cost of a token as the file grows: a level line is a cost in proportion to the input")
+    figure.suptitle("Cost per token as the file grows: a level line is a cost in proportion to the input")
     board_instructions(a, families["board"])
     board_times(b, families["board"], Times(f"{RESULTS}/times.csv"))
     worst_cases(c, "Inputs that might cost more: port", families, "port")

@@ -30,9 +30,9 @@ def summary():
     best, worst = min(float(m["best"]) for m in MACHINES), max(float(m["worst"]) for m in MACHINES)
     ours, heap = c.each("port_buffer_bytes"), c.each("rust_peak_heap_bytes")
     return table([f"A board file of {n:,} tokens", "Port", "Rust", "Port / Rust"], [
-        ["instructions a token", f"{c.port / n:,.0f}", f"{c.rust / n:,.0f}", f"{c.port / c.rust:.2f}"],
+        ["instructions per token", f"{c.port / n:,.0f}", f"{c.rust / n:,.0f}", f"{c.port / c.rust:.2f}"],
         [f"time, {plural(runs, 'run')} on {plural(len(MACHINES), 'machine')}", "", "", f"{best:.2f} to {worst:.2f}"],
-        ["bytes of memory a token", f"{ours:,.0f} lent", f"{heap:,.0f} of heap", f"{ours / heap:.2f}"],
+        ["bytes of memory per token", f"{ours:,.0f} lent", f"{heap:,.0f} of heap", f"{ours / heap:.2f}"],
     ])
 
 
@@ -46,8 +46,8 @@ def ratios(name, column):
 
 
 def cost(rows):
-    head = ["Input", "Tokens", "Reports", "Port, instructions a token", "Rust", "Port / Rust", "By time: best", "median",
-            "worst", "median with freeing"]
+    head = ["Input", "Tokens", "Reports", "Port, instructions per token", "Rust", "Port / Rust", "By time: best",
+            "median", "worst", "median with freeing"]
     out = []
     for c in rows:
         each = [f"{c.port / c.tokens:,.0f}", f"{c.rust / c.tokens:,.0f}", f"{c.port / c.rust:.2f}"]
@@ -64,7 +64,7 @@ def memory(rows):
 
 
 def clearing(rows):
-    head = ["Input", "Port, instructions a token", "as callgrind counts `rep stosb`",
+    head = ["Input", "Port, instructions per token", "as callgrind counts `rep stosb`",
             "Time in buffers by the bound / time in buffers that just suffice"]
     out = []
     for c in rows:
