@@ -64,9 +64,9 @@ struct dt_answer dt_parse(uint32_t entry, const uint8_t *bytes, size_t bytes_len
         damage_refusal(&a, trees, trees_len, pool, pool_len);
     if (fault() == 17 && a.number == 0 && events_len)
         events[events_len - 1] = 1; /* events not cleared */
-    if (fault() == 18 && a.number == 0 && a.reports > 2)
+    if (fault() == 18 && a.number == 0 && a.report_count > 2)
         reports[reports_len] = 0; /* one number past the buffer */
-    if (fault() == 19 && a.number == 0 && pool_len > a.expectations + 3)
-        pool[a.expectations + 3] = 7; /* the rest not zero */
+    if (fault() == 19 && a.number == 0 && pool_len > a.expectation_count + 3)
+        pool[a.expectation_count + 3] = 7; /* the rest not zero */
     return a;
 }

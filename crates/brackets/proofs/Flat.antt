@@ -5,7 +5,7 @@ use mathlib.Core.Bool.{Bool, true, false, cond}
 use mathlib.Core.List.{List, [], _∷_}
 use lib.ListN.{length, drop, take}
 use Rattle.definitions.specs.TokenKind as K
-use Rattle.definitions.specs.Token.{Token, is-error, seen, trivia, drop-trivia, past}
+use Rattle.definitions.specs.Token.{is-trivia, Token, is-error, seen, trivia, drop-trivia, past}
 use Rattle.definitions.specs.Skeleton.{Skeleton, done, token, name, node, ignored, report, over, _⧺_}
 use Rattle.definitions.specs.Place.{Tree, nil, subtree, _⊕_, lead, front, after, place}
 use Rattle.definitions.specs.Place as P
@@ -14,7 +14,7 @@ use Rattle.basics.proofs.Tests.{cond-with}
 use Rattle.laws.proofs.Trivia.{Solid, dropped-solid}
 use Rattle.laws.proofs.Between.{Reads}
 use Rattle.laws.proofs.Decode.{shown}
-use Rattle.brackets.specs.Brackets.{Outline, end, leaf, is-trivia, outline}
+use Rattle.brackets.specs.Brackets.{Outline, end, leaf, outline}
 use Rattle.brackets.specs.Brackets as B
 
 -- ---------------------------------------------------------------- side by side
@@ -86,7 +86,7 @@ kinds-beside (P.leaf k ts f) g = go (is-trivia k) (kinds-beside f g)
 kinds-beside (subtree k c f) g = ap (B.node k (outline (shown c))) (kinds-beside f g)
 
 pub kinds-lead : (ts : List Token) → outline (shown (lead ts)) ≡ end
-unfolding outline shown lead trivia is-trivia
+unfolding outline shown lead trivia
 kinds-lead [] = refl
 kinds-lead (t ∷ ts) =
     cond-with (λ (x : Tree). outline (shown x) ≡ end) (trivia t) {x = P.leaf (t .kind) (t ∷ []) (lead ts)} {y = nil}
@@ -94,7 +94,7 @@ kinds-lead (t ∷ ts) =
 
 -- a token that is not trivia is seen as none
 pub seen-solid : (t : Token) → trivia t ≡ false → is-trivia (seen t) ≡ false
-unfolding seen is-trivia trivia
+unfolding seen trivia
 seen-solid t e = cond-with (λ (k : ℕ). is-trivia k ≡ false) (is-error (t .kind)) {x = K.Unrecognized} {y = t .kind} (λ _. refl) (λ _. e)
 
 kinds-front : (ts : List Token) (t : Token) (us : List Token) → ts ≡ t ∷ us → trivia t ≡ false → outline (shown (front ts)) ≡ leaf (seen t) end
@@ -110,7 +110,7 @@ beside-lead ts f = kinds-beside (lead ts) f ∙ ap (_⊞ outline (shown f)) (kin
 
 -- THE KINDS OF A PLACED TREE are those that its skeleton makes
 pub kinds-place : (p : Skeleton) (ts : List Token) → Reads p ts → outline (shown (place p ts)) ≡ flat p
-unfolding place Reads flat outline shown _⊕_ _⊞_ is-trivia
+unfolding place Reads flat outline shown _⊕_ _⊞_
 kinds-place done ts r = refl
 kinds-place (token t m o) ts r =
     let u = drop-trivia ts in

@@ -10,7 +10,7 @@ use lib.ListN.{take}
 use Rattle.definitions.specs.Layout.{TREE-ROW}
 use Rattle.definitions.specs.TokenKind as K
 use Rattle.definitions.specs.NodeKind as N
-use Rattle.definitions.specs.Token.{one-of}
+use Rattle.definitions.specs.Token.{one-of, is-trivia}
 use Rattle.definitions.specs.Call.{Buffers, call}
 use Rattle.laws.specs.TreeRows.{Rows, read}
 use Rattle.laws.specs.TreeRows as R
@@ -23,11 +23,7 @@ pub data Outline : Type 0 where
   leaf : ℕ → Outline → Outline
   node : ℕ → Outline → Outline → Outline
 
-unfoldable pub is-trivia : ℕ → Bool
-is-trivia k = eqb k K.Whitespace || eqb k K.LineComment || eqb k K.BlockComment
-
 unfoldable pub outline : Rows → Outline
-unfolding is-trivia
 outline R.end = end
 outline (R.leaf k w n f) = cond (is-trivia k) (outline f) (leaf k (outline f))
 outline (R.node k w n c f) = node k (outline c) (outline f)

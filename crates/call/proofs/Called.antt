@@ -18,7 +18,7 @@ use Rattle.sink.specs.Promise.{Promise}
 use Rattle.refinement.specs.Ends.{swept, sunk-answer, after-sink, Parsed, Call-ends}
 use Rattle.refinement.proofs.Ends.{calls-end}
 use Rattle.call.specs.declared.Answer.{Answer}
-use Rattle.call.specs.Result.{answer-of, lent, result-of}
+use Rattle.call.specs.Result.{answer-of, buffers-of, result-of}
 use Rattle.call.specs.Ended.{sunk-with, Sinks, Ended}
 
 -- ---------------------------------------------------------------- the parse

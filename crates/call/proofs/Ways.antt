@@ -15,7 +15,7 @@ use Rattle.sink.specs.declared.Sunk.the-variants.{Written, NoRoom}
 use Rattle.sink.specs.Promise.{Promise}
 use Rattle.refinement.specs.Ends.{wiped, swept}
 use Rattle.call.specs.declared.Answer.{Answer}
-use Rattle.call.specs.Result.{answer-of, lent, result-of}
+use Rattle.call.specs.Result.{answer-of, buffers-of, result-of}
 use Rattle.call.specs.Checked.{Input}
 use Rattle.call.specs.Ended.{refused-with, accepted-with, Answer-of-parse, Ended}
 
@@ -85,7 +85,7 @@ module _ (number place k n r p : ℕ) (tokens events trees errors trees′ error
 -- each buffer cleared after what is written
 pub all-cleared : (number place k n r p : ℕ) (tokens events trees errors reports pool : List ℕ) (a : Answer) (trees′ errors′ : List ℕ) → length trees′ ≡ length trees → length errors′ ≡ length errors → Answer-of-parse number place k n r p tokens events trees errors a trees′ errors′
     → (events″ trees″ errors″ reports″ pool″ : List ℕ) → events″ ≡ wiped 0 events → trees″ ≡ wiped (a .«tree_count» * TREE-ROW) trees′ → errors″ ≡ wiped (a .«error_count» * ERROR-ROW) errors′ → reports″ ≡ wiped (a .«report_count» * REPORT-ROW) reports → pool″ ≡ wiped (a .«expectation_count») pool
-    → Ended number place k n r p tokens (lent events trees errors reports pool) (result-of a (lent events″ trees″ errors″ reports″ pool″))
+    → Ended number place k n r p tokens (buffers-of events trees errors reports pool) (result-of a (buffers-of events″ trees″ errors″ reports″ pool″))
 all-cleared number place k n r p tokens events trees errors reports pool a trees′ errors′ lt le h events″ trees″ errors″ reports″ pool″ v t e w q =
-    let z : result-of a (lent events″ trees″ errors″ reports″ pool″) ≡ swept (answer-of a) (lent events trees′ errors′ reports pool) = rw (v, t, e, w, q) in
+    let z : result-of a (buffers-of events″ trees″ errors″ reports″ pool″) ≡ swept (answer-of a) (buffers-of events trees′ errors′ reports pool) = rw (v, t, e, w, q) in
     record { answer = a; trees = trees′; errors = errors′; trees-length = lt; errors-length = le; of-parse = h; once-cleared = sym z }

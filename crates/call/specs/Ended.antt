@@ -13,7 +13,7 @@ use Rattle.sink.specs.declared.Sunk.the-variants.{Written, NoRoom}
 use Rattle.sink.specs.Promise.{Promise}
 use Rattle.refinement.specs.Ends.{swept}
 use Rattle.call.specs.declared.Answer.{Answer}
-use Rattle.call.specs.Result.{Slice, answer-of, lent}
+use Rattle.call.specs.Result.{Lent, answer-of, buffers-of}
 
 -- a refused answer, and an accepted one
 abbrev pub refused-with : ℕ → ℕ → Answer
@@ -46,7 +46,7 @@ pub record Answer-of-parse (number place root-kind events-written reports-writte
   pub reports-fit : a .«report_count» * REPORT-ROW < TWO-TO-64
 
 -- the same of lent buffers, as a contract has them
-abbrev pub answers-parse : ℕ → ℕ → ℕ → ℕ → ℕ → ℕ → Slice → Slice → Slice → Slice → Answer → Type 0
+abbrev pub answers-parse : ℕ → ℕ → ℕ → ℕ → ℕ → ℕ → Lent → Lent → Lent → Lent → Answer → Type 0
 answers-parse number place root-kind events-written reports-written pool-written tokens events trees errors a =
     Answer-of-parse number place root-kind events-written reports-written pool-written
     (now (tokens .entry)) (now (events .entry)) (now (trees .entry)) (now (errors .entry)) a (now (trees .exit)) (now (errors .exit))
@@ -61,4 +61,4 @@ pub record Ended (number place root-kind events-written reports-written pool-wri
   pub errors-length : length errors ≡ length (b .errors)
   pub of-parse : Answer-of-parse number place root-kind events-written reports-written pool-written
       tokens (b .events) (b .trees) (b .errors) answer trees errors
-  pub once-cleared : swept (answer-of answer) (lent (b .events) trees errors (b .reports) (b .pool)) ≡ x
+  pub once-cleared : swept (answer-of answer) (buffers-of (b .events) trees errors (b .reports) (b .pool)) ≡ x

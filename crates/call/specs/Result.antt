@@ -12,19 +12,19 @@ abbrev pub answer-of : Answer → Call.Answer
 answer-of a = record { number = a .number; place = a .place; tree-count = a .«tree_count»; error-count = a .«error_count»; report-count = a .«report_count»; expectation-count = a .«expectation_count» }
 
 -- a lent slice of numbers, as a contract has it
-abbrev pub Slice : Type 0
-Slice = Both (RefT (List ℕ)) (RefT (List ℕ))
+abbrev pub Lent : Type 0
+Lent = Both (RefT (List ℕ)) (RefT (List ℕ))
 
 -- what the lent buffers hold: events, tree rows, lexical errors, reports, expectations
-abbrev pub lent : List ℕ → List ℕ → List ℕ → List ℕ → List ℕ → Buffers
-lent events trees errors reports pool = record { events = events; trees = trees; errors = errors; reports = reports; pool = pool }
+abbrev pub buffers-of : List ℕ → List ℕ → List ℕ → List ℕ → List ℕ → Buffers
+buffers-of events trees errors reports pool = record { events = events; trees = trees; errors = errors; reports = reports; pool = pool }
 
 -- the same of the buffers that a function was lent, at its entry and at its exit
-abbrev pub at-entry : Slice → Slice → Slice → Slice → Slice → Buffers
-at-entry events trees errors reports pool = lent (now (events .entry)) (now (trees .entry)) (now (errors .entry)) (now (reports .entry)) (now (pool .entry))
+abbrev pub at-entry : Lent → Lent → Lent → Lent → Lent → Buffers
+at-entry events trees errors reports pool = buffers-of (now (events .entry)) (now (trees .entry)) (now (errors .entry)) (now (reports .entry)) (now (pool .entry))
 
-abbrev pub at-exit : Slice → Slice → Slice → Slice → Slice → Buffers
-at-exit events trees errors reports pool = lent (now (events .exit)) (now (trees .exit)) (now (errors .exit)) (now (reports .exit)) (now (pool .exit))
+abbrev pub at-exit : Lent → Lent → Lent → Lent → Lent → Buffers
+at-exit events trees errors reports pool = buffers-of (now (events .exit)) (now (trees .exit)) (now (errors .exit)) (now (reports .exit)) (now (pool .exit))
 
 -- an answer, and what the buffers hold with it
 abbrev pub result-of : Answer → Buffers → Result

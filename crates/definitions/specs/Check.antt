@@ -9,7 +9,7 @@ use Rattle.definitions.specs.Errors as E
 -- ---------------------------------------------------------------- control
 
 abbrev pub tell : Ans → Prog
-tell a = ret 0 a
+tell a = ret N.NO-NODE a
 
 -- `else` and `⨟` bind alike and to the right: what follows `else`, sequences and further branches included, belongs to it up to the
 -- bracket that closes around the whole. A branch inside `then`, and one that something follows, stands in brackets.

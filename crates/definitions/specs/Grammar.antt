@@ -377,7 +377,7 @@ prefix-turn own-name =
     eat-starting MacroSubstitutableName inside
     (if eat (of-kind K.Colon) then ret N.DtLabel again
     else if eat UnitAddress and silent (of-kind K.Colon) then error-bump E.at-sign-in-label E.no-hint ⨟ ret N.ParseError again
-    else ret 0 own-name)
+    else ret N.NO-NODE own-name)
     else if eat Reference then tell yes
     else if eat (of-kind K.Slash) then tell yes
     else tell no
@@ -406,7 +406,7 @@ unfolding at eat-node-or-prop-prefix no-property dt-property
 eat-node-or-prop =
     in-marker
     (case eat-node-or-prop-prefix
-    (ret 0 no)
+    (ret N.NO-NODE no)
     (no-property false)
     (if at (set (K.Equals ∷ K.Semicolon ∷ [])) then dt-property else no-property true))
 

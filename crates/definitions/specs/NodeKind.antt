@@ -1,5 +1,9 @@
--- cst.rs: `NodeKind`, in its order. No marker makes a SourceFile, so that 0 can stand for "ignore the marker" in a program's answer.
+-- cst.rs: `NodeKind`, in its order.
 use Prim.Native.Nat.{ℕ}
+
+-- in a program's answer: ignore the marker. It is the number of SourceFile, which no marker makes.
+abbrev pub NO-NODE : ℕ
+NO-NODE = 0
 
 abbrev pub SourceFile : ℕ
 SourceFile = 0

@@ -4,6 +4,7 @@ use mathlib.Core.Bool.{Bool, true, false, cond, _&&_, _||_}
 use mathlib.Core.List.{List, [], _∷_, _++_}
 use lib.Dec.{ltb, eqb}
 use lib.ListN.{length}
+use Rattle.definitions.specs.NodeKind.{NO-NODE}
 use Rattle.definitions.specs.Layout.{MOST-PENDING}
 use Rattle.definitions.specs.TokenKind as K
 use Rattle.definitions.specs.Errors as E
@@ -42,11 +43,11 @@ truth false = no
 
 -- an answer, and nothing else done
 unfoldable pub replies : Ans → State → Out
-replies a s = record { ans = a; shape = 0; made = done; state = s }
+replies a s = record { ans = a; shape = NO-NODE; made = done; state = s }
 
 -- something made
 unfoldable pub makes : Ans → Skeleton → State → Out
-makes a p s = record { ans = a; shape = 0; made = p; state = s }
+makes a p s = record { ans = a; shape = NO-NODE; made = p; state = s }
 
 -- after a token or a name was taken: pending is cleared here and nowhere else
 abbrev pub taken : List Token → State

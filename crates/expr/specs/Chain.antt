@@ -13,7 +13,7 @@ use Rattle.expr.specs.declared.Turn.{Turn}
 
 -- what a turn does: whether it took an operator, and whether its right side was parsed
 abbrev pub stepped : Bool → Bool → Machine → Walked
-stepped operator again? m = record { ans = cond operator (cond again? again yes) yes; shape = cond operator N.InfixExpr 0; on = m }
+stepped operator again? m = record { ans = cond operator (cond again? again yes) yes; shape = cond operator N.InfixExpr N.NO-NODE; on = m }
 
 abbrev pub turn-as : Turn → List ℕ → List ℕ → List ℕ → Walked
 turn-as r events reports pool = stepped (r .operator) (r .again) (parser-view (r .p) events reports pool)

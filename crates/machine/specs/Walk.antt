@@ -4,6 +4,7 @@ use mathlib.Core.Bool.{Bool, true, false, cond, _&&_}
 use mathlib.Core.List.{List, [], _∷_}
 use lib.Dec.{ltb, eqb}
 use lib.ListN.{length}
+use Rattle.definitions.specs.NodeKind.{NO-NODE}
 use Rattle.definitions.specs.Layout.{PLACEHOLDER, START-NODE, LINKED-START-NODE, TOO-DEEP}
 use Rattle.definitions.specs.TokenKind as K
 use Rattle.definitions.specs.Errors as E
@@ -22,7 +23,7 @@ pub record Walked : Type 0 where
   pub on : Machine
 
 abbrev pub said : Ans → Machine → Walked
-said a m = record { ans = a; shape = 0; on = m }
+said a m = record { ans = a; shape = NO-NODE; on = m }
 
 -- ---------------------------------------------------------------- actions
 

@@ -17,7 +17,7 @@ label-or-name own-name =
     (MacroSubstitutableName .consume
     ⨟ if eat (of-kind K.Colon) then ret N.DtLabel again
     else if unit-address-and-colon then error-bump E.at-sign-in-label E.no-hint ⨟ ret N.ParseError again
-    else ret 0 own-name)
+    else ret N.NO-NODE own-name)
 
 -- the loop of `eat-node-or-prop-prefix`
 abbrev pub labels-and-name : Ans → Prog

@@ -19,11 +19,11 @@ lent n = let l : List ℕ = replicate n 7 in record { events = l; trees = l; err
 
 -- `a;}`
 abbrev short : File
-short = record { input = 97 ∷ 59 ∷ 125 ∷ []; rows = 27 ∷ 1 ∷ 29 ∷ 1 ∷ 38 ∷ 1 ∷ []; lent = lent 60 }
+short = record { bytes = 97 ∷ 59 ∷ 125 ∷ []; tokens = 27 ∷ 1 ∷ 29 ∷ 1 ∷ 38 ∷ 1 ∷ []; buffers = lent 60 }
 
 -- `b,c;}`
 abbrev long : File
-long = record { input = 98 ∷ 44 ∷ 99 ∷ 59 ∷ 125 ∷ []; rows = 27 ∷ 1 ∷ 2 ∷ 1 ∷ 27 ∷ 1 ∷ 29 ∷ 1 ∷ 38 ∷ 1 ∷ []; lent = lent 80 }
+long = record { bytes = 98 ∷ 44 ∷ 99 ∷ 59 ∷ 125 ∷ []; tokens = 27 ∷ 1 ∷ 2 ∷ 1 ∷ 27 ∷ 1 ∷ 29 ∷ 1 ∷ 38 ∷ 1 ∷ []; buffers = lent 80 }
 
 abbrev stray : List Row
 stray = (0 ∷ 10 ∷ 1 ∷ 1 ∷ []) ∷ (1 ∷ 38 ∷ 1 ∷ 1 ∷ []) ∷ []
@@ -98,18 +98,18 @@ tail-rows = 0 ∷ 1 ∷ 74 ∷ 1 ∷ 46 ∷ 1 ∷ 37 ∷ 1 ∷ 27 ∷ 1 ∷ 28 �
 abbrev one : File
 one =
     record {
-      input = 47 ∷ 109 ∷ 101 ∷ 109 ∷ 114 ∷ 101 ∷ 115 ∷ 101 ∷ 114 ∷ 118 ∷ 101 ∷ 47 ∷ 32 ∷ 49 ∷ 59 ∷ tail-bytes;
-      rows = 20 ∷ 12 ∷ 0 ∷ 1 ∷ 35 ∷ 1 ∷ 29 ∷ 1 ∷ tail-rows;
-      lent = lent 200;
+      bytes = 47 ∷ 109 ∷ 101 ∷ 109 ∷ 114 ∷ 101 ∷ 115 ∷ 101 ∷ 114 ∷ 118 ∷ 101 ∷ 47 ∷ 32 ∷ 49 ∷ 59 ∷ tail-bytes;
+      tokens = 20 ∷ 12 ∷ 0 ∷ 1 ∷ 35 ∷ 1 ∷ 29 ∷ 1 ∷ tail-rows;
+      buffers = lent 200;
     }
 
 -- "`b="s""t";": two reports, and a lexical error
 abbrev two : File
 two =
     record {
-      input = 96 ∷ 98 ∷ 61 ∷ 34 ∷ 115 ∷ 34 ∷ 34 ∷ 116 ∷ 34 ∷ 59 ∷ tail-bytes;
-      rows = 74 ∷ 1 ∷ 27 ∷ 1 ∷ 28 ∷ 1 ∷ 33 ∷ 3 ∷ 33 ∷ 3 ∷ 29 ∷ 1 ∷ tail-rows;
-      lent = lent 220;
+      bytes = 96 ∷ 98 ∷ 61 ∷ 34 ∷ 115 ∷ 34 ∷ 34 ∷ 116 ∷ 34 ∷ 59 ∷ tail-bytes;
+      tokens = 74 ∷ 1 ∷ 27 ∷ 1 ∷ 28 ∷ 1 ∷ 33 ∷ 3 ∷ 33 ∷ 3 ∷ 29 ∷ 1 ∷ tail-rows;
+      buffers = lent 220;
     }
 
 abbrev rest : List Row
@@ -189,11 +189,11 @@ pool-one = 35 ∷ 18 ∷ 26 ∷ 30 ∷ 46 ∷ 23 ∷ 24 ∷ 19 ∷ 20 ∷ 21 ∷
 abbrev pool-two : List ℕ
 pool-two = 18 ∷ 26 ∷ 30 ∷ 46 ∷ 23 ∷ 24 ∷ 19 ∷ 20 ∷ 21 ∷ 22 ∷ 101 ∷ 2 ∷ 29 ∷ 18 ∷ 26 ∷ 30 ∷ 46 ∷ 23 ∷ 24 ∷ 19 ∷ 20 ∷ 21 ∷ 22 ∷ 101 ∷ 103 ∷ 19 ∷ 101 ∷ 29 ∷ []
 
-later-in-one : (later-errors one in-one ≡ errors-one) × (later-reports one in-one ≡ reports-one) × (expectations (result one) ≡ pool-one) × (places one in-one ≡ record { bytes = 14; marks = 3; pool = 1 })
+later-in-one : (later-errors one in-one ≡ errors-one) × (later-reports one in-one ≡ reports-one) × (expectations (result one) ≡ pool-one) × (places one in-one ≡ record { byte = 14; index = 3; pool-place = 1 })
 unfolding those later-error later-report pool-before token-index start-byte over-leaves error-rows report-rows expectations call in-one
 later-in-one = (refl, refl, refl, refl)
 
-later-in-two : (later-errors two in-two ≡ errors-two) × (later-reports two in-two ≡ reports-two) × (expectations (result two) ≡ pool-two) × (places two in-two ≡ record { bytes = 9; marks = 5; pool = 13 })
+later-in-two : (later-errors two in-two ≡ errors-two) × (later-reports two in-two ≡ reports-two) × (expectations (result two) ≡ pool-two) × (places two in-two ≡ record { byte = 9; index = 5; pool-place = 13 })
 unfolding those later-error later-report pool-before token-index start-byte over-leaves error-rows report-rows expectations call in-two
 later-in-two = (refl, refl, refl, refl)
 
@@ -205,7 +205,7 @@ errors-moved = more (record { same-number = refl; start-moves = refl; end-moves 
 eighteen : _≡_ {A = ℕ} 18 0 → ⊥
 eighteen e = omega arith
 
-reports-moved : Pairwise (ReportMoved (record { bytes = 14; marks = 3; pool = 1 }) (record { bytes = 9; marks = 5; pool = 13 }) pool-one pool-two) reports-one reports-two
+reports-moved : Pairwise (ReportMoved (record { byte = 14; index = 3; pool-place = 1 }) (record { byte = 9; index = 5; pool-place = 13 }) pool-one pool-two) reports-one reports-two
 reports-moved =
     more (record { same-message = refl; start-moves = refl; end-moves = refl; mark-moves = refl; first-place-moves = refl; same-pool-count = refl; same-hint = refl; label-moves = no-label refl refl refl refl; same-expected = refl })
     (more (record { same-message = refl; start-moves = refl; end-moves = refl; mark-moves = refl; first-place-moves = refl; same-pool-count = refl; same-hint = refl; label-moves = no-label refl refl refl refl; same-expected = refl })
@@ -226,10 +226,10 @@ not-at-least = (refl, refl)
 
 -- Pending expectations do not end with a statement that lacks its semicolon: after `/{}` the missing one is reported, and after `a;` nothing is.
 abbrev unfinished : File
-unfinished = record { input = 47 ∷ 123 ∷ 125 ∷ 98 ∷ 59 ∷ []; rows = 46 ∷ 1 ∷ 37 ∷ 1 ∷ 38 ∷ 1 ∷ 27 ∷ 1 ∷ 29 ∷ 1 ∷ []; lent = lent 100 }
+unfinished = record { bytes = 47 ∷ 123 ∷ 125 ∷ 98 ∷ 59 ∷ []; tokens = 46 ∷ 1 ∷ 37 ∷ 1 ∷ 38 ∷ 1 ∷ 27 ∷ 1 ∷ 29 ∷ 1 ∷ []; buffers = lent 100 }
 
 abbrev finished : File
-finished = record { input = 97 ∷ 59 ∷ 98 ∷ 59 ∷ []; rows = 27 ∷ 1 ∷ 29 ∷ 1 ∷ 27 ∷ 1 ∷ 29 ∷ 1 ∷ []; lent = lent 100 }
+finished = record { bytes = 97 ∷ 59 ∷ 98 ∷ 59 ∷ []; tokens = 27 ∷ 1 ∷ 29 ∷ 1 ∷ 27 ∷ 1 ∷ 29 ∷ 1 ∷ []; buffers = lent 100 }
 
 not-without : (report-rows (result unfinished) ≡ (1 ∷ 3 ∷ 4 ∷ 3 ∷ 0 ∷ 1 ∷ 0 ∷ 0 ∷ 0 ∷ []) ∷ []) × (report-rows (result finished) ≡ [])
 unfolding report-rows call

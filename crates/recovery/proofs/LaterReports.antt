@@ -83,11 +83,11 @@ module _ (i k b : ℕ) (early late : List Report) (e : All (Above k) early) (l :
 module _ (k c : ℕ) (a b : Places) (p q : List ℕ) where
   -- the row in a file with the semicolon at d
   abbrev row-at : Places → ℕ → Report → Row
-  row-at d first r = report-row (d .marks + suc k) (d .bytes + suc c) first r
+  row-at d first r = report-row (d .index + suc k) (d .byte + suc c) first r
 
   label-moved : {u₀ u₁ u₂ u₃ u₄ u₅ u₆ v₀ v₁ v₂ v₃ v₄ v₅ v₆ : ℕ} (x : Label) → Label-in c x
-      → LabelMoved (a .bytes) (b .bytes) (u₀ ∷ u₁ ∷ u₂ ∷ u₃ ∷ u₄ ∷ u₅ ∷ u₆ ∷ label-numbers (a .bytes + suc c) x [])
-      (v₀ ∷ v₁ ∷ v₂ ∷ v₃ ∷ v₄ ∷ v₅ ∷ v₆ ∷ label-numbers (b .bytes + suc c) x [])
+      → LabelMoved (a .byte) (b .byte) (u₀ ∷ u₁ ∷ u₂ ∷ u₃ ∷ u₄ ∷ u₅ ∷ u₆ ∷ label-numbers (a .byte + suc c) x [])
+      (v₀ ∷ v₁ ∷ v₂ ∷ v₃ ∷ v₄ ∷ v₅ ∷ v₆ ∷ label-numbers (b .byte + suc c) x [])
   label-moved no-label h = R.no-label refl refl refl refl
   label-moved (label s) h =
       let f : s .from ≤ c = h .0 in
@@ -98,7 +98,7 @@ module _ (k c : ℕ) (a b : Places) (p q : List ℕ) where
   slice x m l = ap (take (length m)) (drop-append-seam x (m ++ l)) ∙ take-append-seam m l
 
   -- one report, after the expectations x in one file and y in the other
-  report-moved : (x y l : List ℕ) (r : Report) → Inside k c r → p ≡ x ++ (r .pool ++ l) → q ≡ y ++ (r .pool ++ l) → Moved (a .pool) (b .pool) (length x) (length y)
+  report-moved : (x y l : List ℕ) (r : Report) → Inside k c r → p ≡ x ++ (r .pool ++ l) → q ≡ y ++ (r .pool ++ l) → Moved (a .pool-place) (b .pool-place) (length x) (length y)
       → ReportMoved a b p q (row-at a (length x) r) (row-at b (length y) r)
   report-moved x y l r I e f h =
       let from : r .range .from ≤ suc c = I .ranged .0 in
@@ -120,12 +120,12 @@ module _ (k c : ℕ) (a b : Places) (p q : List ℕ) where
       }
 
   abbrev rows-at : Places → ℕ → List Report → List Row
-  rows-at d first l = reports-of (d .marks + suc k) (d .bytes + suc c) first l
+  rows-at d first l = reports-of (d .index + suc k) (d .byte + suc c) first l
 
   abbrev All-moved : ℕ → ℕ → List Report → Type 0
   All-moved i j l = Pairwise (ReportMoved a b p q) (rows-at a i l) (rows-at b j l)
 
-  pub reports-moved : (x y : List ℕ) (l : List Report) → All (Inside k c) l → p ≡ x ++ pool l → q ≡ y ++ pool l → Moved (a .pool) (b .pool) (length x) (length y) → All-moved (length x) (length y) l
+  pub reports-moved : (x y : List ℕ) (l : List Report) → All (Inside k c) l → p ≡ x ++ pool l → q ≡ y ++ pool l → Moved (a .pool-place) (b .pool-place) (length x) (length y) → All-moved (length x) (length y) l
   unfolding reports-of pool
   reports-moved x y [] I e f h = none
   reports-moved x y (r ∷ l) I e f h =

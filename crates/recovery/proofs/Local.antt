@@ -31,7 +31,7 @@ pub record Later (f : File) (s : Semicolon (tree-rows (result f))) (rest : List 
   pub errors : later-errors f s ≡ errors-of (suc (start-byte s)) rest
   pub early : List ℕ
   pub reports : later-reports f s ≡ reports-of (token-index s + suc (length rest)) (start-byte s + suc (byte-count rest)) (length early) (told (run-entry SourceFile rest))
-  pub pool-before : places f s .pool ≡ length early
+  pub pool-before : places f s .pool-place ≡ length early
   pub pool : expectations (result f) ≡ early ++ pool (told (run-entry SourceFile rest))
 
 later : (f : File) → Accepted f → (s : Semicolon (tree-rows (result f))) → (rest : List Token) × Later f s rest
@@ -74,7 +74,7 @@ stays-local f g hf hg a b A =
     let late : List Report = told (run-entry SourceFile us) in
     let p : List ℕ = expectations (result f) in
     let q : List ℕ = expectations (result g) in
-    let moved : Moved (places f a .pool) (places g b .pool) (length (X .early)) (length (Y .early)) = omega (arith, X .pool-before, Y .pool-before) in
+    let moved : Moved (places f a .pool-place) (places g b .pool-place) (length (X .early)) (length (Y .early)) = omega (arith, X .pool-before, Y .pool-before) in
     record {
       parts = X .parts ∙ sym (Y .parts);
       errors = subst (λ l. Pairwise (ErrorMoved (start-byte a) (start-byte b)) l (later-errors g b)) (sym (X .errors)) (subst (Pairwise (ErrorMoved (start-byte a) (start-byte b)) (errors-of (suc (start-byte a)) us)) (sym (Y .errors)) (errors-moved (start-byte a) (start-byte b) (suc (start-byte a)) (suc (start-byte b)) (omega arith) us));

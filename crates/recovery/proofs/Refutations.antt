@@ -112,7 +112,7 @@ label-invented l = go (two-labels l) where
 -- a report of one expectation, as it must be in another file; each other row differs from the right one in one number
 abbrev Report-is : Row → Type 0
 Report-is =
-    ReportMoved (record { bytes = 14; marks = 3; pool = 1 }) (record { bytes = 9; marks = 5; pool = 2 }) (35 ∷ 29 ∷ []) (2 ∷ 29 ∷ 29 ∷ 30 ∷ [])
+    ReportMoved (record { byte = 14; index = 3; pool-place = 1 }) (record { byte = 9; index = 5; pool-place = 2 }) (35 ∷ 29 ∷ []) (2 ∷ 29 ∷ 29 ∷ 30 ∷ [])
     (1 ∷ 21 ∷ 22 ∷ 11 ∷ 1 ∷ 1 ∷ 0 ∷ 0 ∷ 0 ∷ [])
 
 right-report : Report-is (1 ∷ 16 ∷ 17 ∷ 13 ∷ 2 ∷ 1 ∷ 0 ∷ 0 ∷ 0 ∷ [])
@@ -148,14 +148,14 @@ another-label r = go (two-labels (r .label-moves)) where
   go (inr m) = m .0 refl refl
 
 -- the right row, where the pool has another expectation at its place
-another-expectation : ReportMoved (record { bytes = 14; marks = 3; pool = 1 }) (record { bytes = 9; marks = 5; pool = 2 }) (35 ∷ 29 ∷ []) (2 ∷ 29 ∷ 30 ∷ []) (1 ∷ 21 ∷ 22 ∷ 11 ∷ 1 ∷ 1 ∷ 0 ∷ 0 ∷ 0 ∷ []) (1 ∷ 16 ∷ 17 ∷ 13 ∷ 2 ∷ 1 ∷ 0 ∷ 0 ∷ 0 ∷ []) → ⊥
+another-expectation : ReportMoved (record { byte = 14; index = 3; pool-place = 1 }) (record { byte = 9; index = 5; pool-place = 2 }) (35 ∷ 29 ∷ []) (2 ∷ 29 ∷ 30 ∷ []) (1 ∷ 21 ∷ 22 ∷ 11 ∷ 1 ∷ 1 ∷ 0 ∷ 0 ∷ 0 ∷ []) (1 ∷ 16 ∷ 17 ∷ 13 ∷ 2 ∷ 1 ∷ 0 ∷ 0 ∷ 0 ∷ []) → ⊥
 another-expectation r = let n : _≡_ {A = ℕ} 29 30 = ap (λ (l : List ℕ). getD l 0 0) (r .same-expected) in omega arith
 
 -- ---------------------------------------------------------------- whole files
 
 -- `a;` with some token of one byte after it; each pair of files here differs in that token alone
 abbrev with-last : ℕ → ℕ → File
-with-last b k = record { input = 97 ∷ 59 ∷ b ∷ []; rows = 27 ∷ 1 ∷ 29 ∷ 1 ∷ k ∷ 1 ∷ []; lent = lent 60 }
+with-last b k = record { bytes = 97 ∷ 59 ∷ b ∷ []; tokens = 27 ∷ 1 ∷ 29 ∷ 1 ∷ k ∷ 1 ∷ []; buffers = lent 60 }
 
 abbrev its-semicolon : (f : File) (later : List Row) → tree-rows (result f) ≡ (0 ∷ 0 ∷ 3 ∷ 2 ∷ []) ∷ (0 ∷ 16 ∷ 2 ∷ 2 ∷ []) ∷ (1 ∷ 26 ∷ 1 ∷ 1 ∷ []) ∷ (1 ∷ 29 ∷ 1 ∷ 1 ∷ []) ∷ later → Semicolon (tree-rows (result f))
 unfolding is-statement

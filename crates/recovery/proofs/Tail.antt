@@ -52,10 +52,10 @@ one-byte (x ∷ y ∷ l) e = absurd (go (eqb 59 x) e)
     go true e = false≢true e
     go false e = false≢true e
 
-semicolon-length : (f : File) (ps : List Token) (t : Token) (us : List Token) → Checked (f .input) (f .rows) → file-tokens f ≡ ps ++ (t ∷ us) → t .kind ≡ K.Semicolon → t .len ≡ 1
+semicolon-length : (f : File) (ps : List Token) (t : Token) (us : List Token) → Checked (f .bytes) (f .tokens) → file-tokens f ≡ ps ++ (t ∷ us) → t .kind ≡ K.Semicolon → t .len ≡ 1
 unfolding byte-count
 semicolon-length f ps t us c e k =
-    let bytes : List ℕ = f .input in
+    let bytes : List ℕ = f .bytes in
     let a : byte-count ps + (t .len + byte-count us) ≡ length bytes = sym (bytes-append ps (t ∷ us)) ∙ ap byte-count (sym e) ∙ c .covered in
     let d : t .len ≤ length (drop (byte-count ps) bytes) = omega (arith, length-drop (byte-count ps) bytes) in
     let g : fits-text static-texts K.Semicolon (take (t .len) (drop (byte-count ps) bytes)) ≡ true =
@@ -157,7 +157,7 @@ tail f h s =
       semicolon = O .token;
       rest = F .rest;
       file = e;
-      one-byte-long = semicolon-length f (leaves (P .before) ++ leaves (P .inside)) (O .token) (F .rest) (checked-input (f .input) (f .rows) (W .input)) e (O .kind);
+      one-byte-long = semicolon-length f (leaves (P .before) ++ leaves (P .inside)) (O .token) (F .rest) (checked-input (f .bytes) (f .tokens) (W .input)) e (O .kind);
       no-error = ap (leb L.UnexpectedEndIncbin) (O .kind);
       at-index =
           counted (λ (x : Tree). length (leaves x)) raw-tokens tokens-counted (P .before) (P .inside) (s .before) (s .inside) (P .rows-before) (P .rows-inside)

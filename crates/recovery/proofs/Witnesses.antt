@@ -18,7 +18,7 @@ lent n = let l : List ℕ = replicate n 7 in record { events = l; trees = l; err
 
 -- a statement's bytes and token numbers, and after them `}`
 abbrev file : ℕ → List ℕ → List ℕ → File
-file n i k = record { input = i ++ (125 ∷ []); rows = k ++ (38 ∷ 1 ∷ []); lent = lent n }
+file n i k = record { bytes = i ++ (125 ∷ []); tokens = k ++ (38 ∷ 1 ∷ []); buffers = lent n }
 
 abbrev stray : List Row
 stray = (0 ∷ 10 ∷ 1 ∷ 1 ∷ []) ∷ (1 ∷ 38 ∷ 1 ∷ 1 ∷ []) ∷ []
@@ -29,8 +29,8 @@ record Case (k : ℕ) : Type 0 where
   is-accepted : Accepted source
   semicolon : Semicolon (tree-rows (result source))
   part-is : kind (semicolon .part) ≡ k
-  later-tokens : drop (suc (token-index semicolon)) (tokens-of (source .rows)) ≡ record { kind = 38; len = 1 } ∷ []
-  later-bytes : drop (suc (start-byte semicolon)) (source .input) ≡ 125 ∷ []
+  later-tokens : drop (suc (token-index semicolon)) (tokens-of (source .tokens)) ≡ record { kind = 38; len = 1 } ∷ []
+  later-bytes : drop (suc (start-byte semicolon)) (source .bytes) ≡ 125 ∷ []
   later-parts : semicolon .later ≡ stray
 
 -- any two of them, by the theorem

@@ -144,7 +144,7 @@ reports-flat n b first (r ∷ l) =
 -- ---------------------------------------------------------------- an accepted source file
 
 abbrev pub file-tokens : File → List Token
-file-tokens f = tokens-of (f .rows)
+file-tokens f = tokens-of (f .tokens)
 
 abbrev pub made-of : File → Skeleton
 made-of f = run-entry SourceFile (file-tokens f)
@@ -153,7 +153,7 @@ abbrev pub told-of : File → List Report
 told-of f = reports (pushes (made-of f))
 
 pub record Wrote (f : File) : Type 0 where
-  pub input : check-input (f .input) (f .rows) ≡ accepted
+  pub input : check-input (f .bytes) (f .tokens) ≡ accepted
   pub trees : tree-rows (result f) ≡ rows-of (subtree N.SourceFile (children (made-of f) (file-tokens f)) nil)
   pub errors : error-rows (result f) ≡ errors-of 0 (file-tokens f)
   pub reports : S.report-rows (result f) ≡ reports-of (length (file-tokens f)) (byte-count (file-tokens f)) 0 (told-of f)
@@ -167,19 +167,19 @@ entry-one e h = cc
 pub wrote : (f : File) → Accepted f → Wrote f
 unfolding tree-rows error-rows S.report-rows expectations sheets root children root-kind
 wrote f h =
-    let A : L.Accepted 1 (f .input) (f .rows) (f .lent) = accepted-call 1 (f .input) (f .rows) (f .lent) h in
+    let A : L.Accepted 1 (f .bytes) (f .tokens) (f .buffers) = accepted-call 1 (f .bytes) (f .tokens) (f .buffers) h in
     let ts : List Token = file-tokens f in
     let o : Skeleton = made-of f in
     let z : Sheets = sheets SourceFile ts o in
-    let is : result f ≡ kept z (f .lent) = A .returns ∙ ap (λ (e : Entry). kept (sheets e ts (run-entry e ts)) (f .lent)) (entry-one (A .entry) (A .asked-for)) in
+    let is : result f ≡ kept z (f .buffers) = A .returns ∙ ap (λ (e : Entry). kept (sheets e ts (run-entry e ts)) (f .buffers)) (entry-one (A .entry) (A .asked-for)) in
     let t : Tree = subtree N.SourceFile (children o ts) nil in
     record {
       input = A .input;
-      trees = ap tree-rows is ∙ written-rows TREE-ROW (rows-of t) (z .trees) (f .lent .trees) (omega arith) (rows-wide t) (rows-flat t);
-      errors = ap error-rows is ∙ written-rows ERROR-ROW (errors-of 0 ts) (z .errors) (f .lent .errors) (omega arith) (errors-wide 0 ts) (errors-flat 0 ts);
+      trees = ap tree-rows is ∙ written-rows TREE-ROW (rows-of t) (z .trees) (f .buffers .trees) (omega arith) (rows-wide t) (rows-flat t);
+      errors = ap error-rows is ∙ written-rows ERROR-ROW (errors-of 0 ts) (z .errors) (f .buffers .errors) (omega arith) (errors-wide 0 ts) (errors-flat 0 ts);
       reports =
           ap S.report-rows is
-          ∙ written-rows REPORT-ROW (reports-of (length ts) (byte-count ts) 0 (told-of f)) (z .reports) (f .lent .reports) (omega arith) (reports-wide (length ts) (byte-count ts) 0 (told-of f))
+          ∙ written-rows REPORT-ROW (reports-of (length ts) (byte-count ts) 0 (told-of f)) (z .reports) (f .buffers .reports) (omega arith) (reports-wide (length ts) (byte-count ts) 0 (told-of f))
           (reports-flat (length ts) (byte-count ts) 0 (told-of f));
-      pool = ap expectations is ∙ take-append-seam (z .pool) (replicate (length (f .lent .pool) - length (z .pool)) 0);
+      pool = ap expectations is ∙ take-append-seam (z .pool) (replicate (length (f .buffers .pool) - length (z .pool)) 0);
     }

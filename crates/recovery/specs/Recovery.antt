@@ -17,12 +17,12 @@ use Rattle.recovery.specs.ResultRows.{Row, tree-rows, error-rows, report
 
 -- what a call of entry 1 is given: input bytes, token numbers, lent buffers
 pub record File : Type 0 where
-  pub input : List ℕ
-  pub rows : List ℕ
-  pub lent : Buffers
+  pub bytes : List ℕ
+  pub tokens : List ℕ
+  pub buffers : Buffers
 
 abbrev pub result : File → Result
-result f = call 1 (f .input) (f .rows) (f .lent)
+result f = call 1 (f .bytes) (f .tokens) (f .buffers)
 
 -- document 01: an accepted source file is a call of entry 1 that returns number 0
 abbrev pub Accepted : File → Type 0
@@ -67,8 +67,8 @@ start-byte s = raw-bytes (s .before) + raw-bytes (s .inside)
 
 -- document 01: tokens and bytes after two semicolons are alike (a semicolon is one byte long)
 pub record Alike (f g : File) (a : Semicolon (tree-rows (result f))) (b : Semicolon (tree-rows (result g))) : Type 0 where
-  pub same-tokens : drop (suc (token-index a)) (tokens-of (f .rows)) ≡ drop (suc (token-index b)) (tokens-of (g .rows))
-  pub same-bytes : drop (suc (start-byte a)) (f .input) ≡ drop (suc (start-byte b)) (g .input)
+  pub same-tokens : drop (suc (token-index a)) (tokens-of (f .tokens)) ≡ drop (suc (token-index b)) (tokens-of (g .tokens))
+  pub same-bytes : drop (suc (start-byte a)) (f .bytes) ≡ drop (suc (start-byte b)) (g .bytes)
 
 -- ---------------------------------------------------------------- what is later
 
@@ -115,11 +115,11 @@ pub data LabelMoved (a b : ℕ) (x y : Row) : Type 0 where
   no-label : label-start x ≡ 0 → label-end x ≡ 0 → label-start y ≡ 0 → label-end y ≡ 0 → LabelMoved a b x y
   label : (label-start x ≡ 0 → label-end x ≡ 0 → ⊥) → Moved a b (label-start x) (label-start y) → Moved a b (label-end x) (label-end y) → LabelMoved a b x y
 
--- Places in one file: a byte, a token index, a place in the pool.
+-- Places in one file: a byte offset, a token index, a first pool place.
 pub record Places : Type 0 where
-  pub bytes : ℕ
-  pub marks : ℕ
-  pub pool : ℕ
+  pub byte : ℕ
+  pub index : ℕ
+  pub pool-place : ℕ
 
 -- the expectations of a report, in a pool
 abbrev pub expectations-of : List ℕ → Row → List ℕ
@@ -128,13 +128,13 @@ expectations-of pool r = take (pool-count r) (drop (first-place r) pool)
 -- p, q: the pools of the two files
 pub record ReportMoved (a b : Places) (p q : List ℕ) (x y : Row) : Type 0 where
   pub same-message : message x ≡ message y
-  pub start-moves : Moved (a .bytes) (b .bytes) (start x) (start y)
-  pub end-moves : Moved (a .bytes) (b .bytes) (end x) (end y)
-  pub mark-moves : Moved (a .marks) (b .marks) (mark x) (mark y)
-  pub first-place-moves : Moved (a .pool) (b .pool) (first-place x) (first-place y)
+  pub start-moves : Moved (a .byte) (b .byte) (start x) (start y)
+  pub end-moves : Moved (a .byte) (b .byte) (end x) (end y)
+  pub mark-moves : Moved (a .index) (b .index) (mark x) (mark y)
+  pub first-place-moves : Moved (a .pool-place) (b .pool-place) (first-place x) (first-place y)
   pub same-pool-count : pool-count x ≡ pool-count y
   pub same-hint : hint x ≡ hint y
-  pub label-moves : LabelMoved (a .bytes) (b .bytes) x y
+  pub label-moves : LabelMoved (a .byte) (b .byte) x y
   pub same-expected : expectations-of p x ≡ expectations-of q y
 
 -- ---------------------------------------------------------------- the promise
@@ -147,7 +147,7 @@ later-reports f s = those (later-report (token-index s)) (report-rows (result f)
 
 -- the places that a difference is taken of: bytes, marks and first pool places move, each by the second file's place less the first's
 abbrev pub places : (f : File) → Semicolon (tree-rows (result f)) → Places
-places f s = record { bytes = start-byte s; marks = token-index s; pool = pool-before (token-index s) (report-rows (result f)) }
+places f s = record { byte = start-byte s; index = token-index s; pool-place = pool-before (token-index s) (report-rows (result f)) }
 
 -- later parts, later lexical errors and later reports
 pub record Shared (f g : File) (a : Semicolon (tree-rows (result f))) (b : Semicolon (tree-rows (result g))) : Type 0 where

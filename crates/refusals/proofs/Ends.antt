@@ -116,11 +116,11 @@ scan-room (reported r ∷ l) z y h =
 scan-room (exceeded m ∷ l) z y h = absurd (stops-never (too-deep m) y h)
 
 filled : (size count : ℕ) (l was : List ℕ) → length l ≡ size * count → length l ≤ length was → Filled size count l was (written l was)
-filled size count l was h g = record { whole-rows = h; room = g; then-zeros = refl }
+filled size count l was h g = record { whole-rows = h; fits = g; then-zeros = refl }
 
 filled-length : (size count : ℕ) (l was is : List ℕ) → Filled size count l was is → length is ≡ length was
 filled-length size count l was is f =
-    ap length (f .then-zeros) ∙ length-append l (replicate (length was - length l) 0) ∙ omega (arith, length-replicate {A = ℕ} (length was - length l) 0, f .room)
+    ap length (f .then-zeros) ∙ length-append l (replicate (length was - length l) 0) ∙ omega (arith, length-replicate {A = ℕ} (length was - length l) 0, f .fits)
 
 module _ (n : ℕ) (tokens : List ℕ) (b : Buffers) where
   pub left-written : (e : Entry) → entry-number e ≡ n → (z : Room) → scan (pushes (run-entry e (tokens-of tokens))) (room-of b) ≡ fits z → Tree-fits e tokens b → Returns n tokens b (kept (to-write e tokens) b)

@@ -6,17 +6,14 @@ use mathlib.Core.List.{List, _++_}
 use lib.ListN.{length, replicate}
 use Rattle.definitions.specs.Layout.{TREE-ROW, ERROR-ROW, REPORT-ROW}
 use Rattle.definitions.specs.Grammar.{Entry}
-use Rattle.definitions.specs.Call.{Buffers, Result, Sheets}
+use Rattle.definitions.specs.Call.{Buffers, Result, Sheets, zeros}
 use Rattle.definitions.specs.Call as Call
 use Rattle.refusals.specs.Refusals.{entry-number, to-write}
-
-abbrev pub zeros : List ℕ → List ℕ
-zeros l = replicate (length l) 0
 
 -- a buffer that holds these numbers and then zeros: whole rows of a size, as many as the answer says
 pub record Filled (size count : ℕ) (numbers was is : List ℕ) : Type 0 where
   pub whole-rows : length numbers ≡ size * count
-  pub room : length numbers ≤ length was
+  pub fits : length numbers ≤ length was
   pub then-zeros : is ≡ numbers ++ replicate (length was - length numbers) 0
 
 -- what an accepted call leaves, where s is to be written

@@ -13,7 +13,7 @@ use Rattle.definitions.specs.Token.{Token, byte-count}
 use Rattle.definitions.specs.Place.{Tree, nil, leaf, _⊕_, width, count, rows, tree-row}
 use Rattle.laws.proofs.Tree.{rows-beside, width-beside, count-beside}
 use Rattle.sink_rows.specs.Rows.{put, tree-field}
-use Rattle.sink.specs.Machine.{On, on, moved, leaf-on}
+use Rattle.sink.specs.Model.{On, on, moved, leaf-on}
 use Rattle.laws.proofs.Decode.{row-count, rows-length}
 use Rattle.sink.proofs.Trees.{raw, raw-beside, row-count-beside, rows-add}
 

@@ -1,4 +1,4 @@
--- How the proof goes. The code is proved equal, function by function, to the model of specs/Machine, whatever numbers the buffers hold;
+-- How the proof goes. The code is proved equal, function by function, to the model of specs/Model, whatever numbers the buffers hold;
 -- what is left is about that model and a skeleton's events, and ends in `kept-promise`.
 -- 1. Loops: the turns of the code's loops over trivia and over events.
 -- 2. Encode: the event rows of a skeleton say its events, and there are as many as `event-count`. Runs: in the skeleton of an entry

@@ -10,7 +10,7 @@ use borrow.Author.Tests.{ltb-true}
 use Rattle.basics.proofs.Flags.{flags}
 use Rattle.definitions.specs.Layout.{TOKEN-ROW}
 use Rattle.sink_tokens.specs.Tokens.{trivia-here}
-use Rattle.sink.specs.Machine.{On, on, sink-of, moved, leaf-on, token-on, triviaN, trivia-on, event-on, eventsN}
+use Rattle.sink.specs.Model.{On, on, sink-of, moved, leaf-on, token-on, triviaN, trivia-on, event-on, eventsN}
 
 -- ---------------------------------------------------------------- trivia
 

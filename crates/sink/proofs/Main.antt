@@ -19,7 +19,7 @@ use Rattle.laws.proofs.Trivia.{Solid, dropped-solid, drop-twice}
 use Rattle.machine.specs.Encode.{start-tag, encode}
 use Rattle.sink.specs.Encode.{event-row, Alone, Chained}
 use Rattle.sink_rows.specs.Rows.{field}
-use Rattle.sink.specs.Machine.{On, on, token-on, trivia-on, combined-on, start-on, finish-on, event-on, eventsN}
+use Rattle.sink.specs.Model.{On, on, token-on, trivia-on, combined-on, start-on, finish-on, event-on, eventsN}
 use Rattle.sink.proofs.Encode.{event-count, events-length, encode-count}
 use Rattle.laws.proofs.Decode.{row-count, rows-length}
 use Rattle.sink.proofs.Trees.{raw, raw-beside, row-count-beside, count-rows, raw-lead, raw-place}

@@ -9,7 +9,7 @@ use Rattle.basics.specs.Word.{low}
 use Rattle.definitions.specs.Layout.{TOKEN-ROW, EVENT-ROW, EVENT-TAG, EVENT-ARGUMENT, START-NODE, ADD-TOKEN, ADD-COMBINED-TOKEN, FINISH-NODE}
 use Rattle.sink_rows.specs.Rows.{field, links}
 use Rattle.sink_tokens.specs.Tokens.{at-most, trivia-here}
-use Rattle.sink.specs.Machine.{On, on, sink-of, moved, leaf-on, token-on, triviaN, trivia-on, combined-on, start-on, finish-on, event-on, eventsN, root-on, events-on}
+use Rattle.sink.specs.Model.{On, on, sink-of, moved, leaf-on, token-on, triviaN, trivia-on, combined-on, start-on, finish-on, event-on, eventsN, root-on, events-on}
 
 -- the cursor and the number of rows are alike
 pub record Like (x y : On) : Type 0 where

@@ -18,7 +18,7 @@ use Rattle.definitions.specs.Token.{Token, tokens-of, is-error, seen, trivia, b
 use Rattle.definitions.specs.Place.{Tree, nil, leaf, subtree, _⊕_, lead, front, width, count, rows, tree-row}
 use Rattle.sink_rows.specs.Rows.{PARENT, KIND, FIRST-BYTE, CHILDREN-BEFORE}
 use Rattle.sink_tokens.specs.Tokens.{kind-seen, trivia-here, at-most, widthN}
-use Rattle.sink.specs.Machine.{on, sink-of, trivia-on, token-on, combined-on, finish-on}
+use Rattle.sink.specs.Model.{on, sink-of, trivia-on, token-on, combined-on, finish-on}
 use Rattle.sink.proofs.Loops.{trivia-more, trivia-done}
 use Rattle.laws.proofs.Decode.{row-count}
 use Rattle.sink.proofs.Trees.{raw}

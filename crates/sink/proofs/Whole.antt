@@ -19,7 +19,7 @@ use Rattle.sink.specs.declared.Sunk.the-variants.{Written, NoRoom}
 use Rattle.machine.specs.Encode.{encode}
 use Rattle.sink.specs.Encode.{Chained}
 use Rattle.sink_tokens.specs.Tokens.{Log, log, errors-on}
-use Rattle.sink.specs.Machine.{On, on, sink-of, trivia-on, finish-on, eventsN, root-on, events-on, Finished, finished, finished-in, finish-all}
+use Rattle.sink.specs.Model.{On, on, sink-of, trivia-on, finish-on, eventsN, root-on, events-on, Finished, finished, finished-in, finish-all}
 use Rattle.sink.specs.Promise.{number, Small, enough, Placed, Promise}
 use Rattle.sink.proofs.Encode.{event-count, events-length, encode-count}
 use Rattle.laws.proofs.Decode.{row-count, rows-length}

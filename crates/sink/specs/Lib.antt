@@ -1,4 +1,4 @@
--- What the sink's contracts cite. A reviewer reads the first two; Machine is the model that the code is proved against.
+-- What the sink's contracts cite. A reviewer reads the first two; Model is what the code is proved equal to.
 pub mod Encode
 pub mod Promise
-pub mod Machine
+pub mod Model

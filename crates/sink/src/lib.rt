@@ -13,7 +13,7 @@ ghost use Prim.Native.Nat.{ℕ, _-_, _/_, _≤_};
 ghost use lib.ListN.{length};
 ghost use Rattle.definitions.specs.Layout.{TOKEN-ROW};
 ghost use Rattle.sink.specs.Promise.{Promise};
-ghost use Rattle.sink.specs.Machine.{On, on, leaf-on, token-on, trivia-on, combined-on, start-on, finish-on, event-on, events-on, root-on, finished, finish-all};
+ghost use Rattle.sink.specs.Model.{On, on, leaf-on, token-on, trivia-on, combined-on, start-on, finish-on, event-on, events-on, root-on, finished, finish-all};
 
 pub struct Sink {
     // The raw token that is read next, and its first byte.

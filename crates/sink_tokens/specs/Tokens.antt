@@ -32,11 +32,13 @@ pub data Log : Type 0 where
   log : ℕ → List ℕ → Log
 
 unfoldable pub put-error : ℕ → List ℕ → List ℕ → List ℕ
-put-error row r e = cond (leb (row * ERROR-ROW + ERROR-ROW) (length e)) (sets e (row * ERROR-ROW) r) e
+put-error row r errors =
+    cond (leb (row * ERROR-ROW + ERROR-ROW) (length errors)) (sets errors (row * ERROR-ROW) r) errors
 
 unfoldable pub logged : ℕ → ℕ → ℕ → Log → Log
 unfolding put-error is-error
-logged k from to (log n e) = cond (is-error k) (log (low (n + 1)) (put-error n (k ∷ from ∷ to ∷ []) e)) (log n e)
+logged k from to (log n errors) =
+    cond (is-error k) (log (low (n + 1)) (put-error n (k ∷ from ∷ to ∷ []) errors)) (log n errors)
 
 -- n tokens from an index on
 unfoldable pub errorsN : ℕ → List ℕ → ℕ → ℕ → Log → Log
@@ -48,4 +50,4 @@ errorsN (suc n) tokens at byte x =
 
 unfoldable pub errors-on : List ℕ → List ℕ → Log
 unfolding errorsN
-errors-on tokens e = errorsN (length tokens / TOKEN-ROW) tokens 0 0 (log 0 e)
+errors-on tokens errors = errorsN (length tokens / TOKEN-ROW) tokens 0 0 (log 0 errors)

@@ -3,7 +3,7 @@ use mathlib.Core.Path.{sym, ap, _∙_}
 use borrow.Author.Needs.{needs}
 use Rattle.definitions.specs.Refusal.{number-of, place-of}
 use Rattle.grammar.specs.Subprograms.{entry-for}
-use Rattle.call.specs.Result.{answer-of, lent, result-of}
+use Rattle.call.specs.Result.{answer-of, buffers-of, result-of}
 use Rattle.call.proofs.Called.{other-entry, refused-call, sound-call}
 use Rattle.dt_parser.specs.Asked.{asked-of}
 use Rattle.dt_parser.proofs.dt_parse.Statement.{statement}
@@ -31,7 +31,7 @@ returns : tie.Need-returns
 unfolding number-of place-of
 returns c =
     let a = c .before .before .before .before .before .before .before .before .before .before .before .args in
-    other-entry (a .bytes .now) (a .tokens .now) (lent (a .events .now) (a .trees .now) (a .errors .now) (a .reports .now) (a .pool .now)) (a .entry) (c .refused .result) (sym (ap asked-of (c .before .enum-told .given .1)) ∙ c .before .before .before .entry-of .ensures) (ap answer-of (c .refused .ensures))
+    other-entry (a .bytes .now) (a .tokens .now) (buffers-of (a .events .now) (a .trees .now) (a .errors .now) (a .reports .now) (a .pool .now)) (a .entry) (c .refused .result) (sym (ap asked-of (c .before .enum-told .given .1)) ∙ c .before .before .before .entry-of .ensures) (ap answer-of (c .refused .ensures))
 
 same-length : tie.Need-same-length
 same-length c = c .before .before .before .before .before .before .before .before .before .before .parse .kept .1 .1 .0
@@ -52,15 +52,15 @@ returns-2 : tie.Need-returns-2
 returns-2 c =
     let a = c .before .before .before .before .before .before .before .before .before .before .before .before .before .before .before .before .before .before .before .before .before .before .before .before .before .before .before .before .before .before .args in
     let r = c .before .before .before .before .before .before .before .before .before .before .parse in
-    sound-call _ (a .bytes .now) (a .tokens .now) (lent (a .events .now) (a .trees .now) (a .errors .now) (a .reports .now) (a .pool .now)) (a .entry) (result-of (r .result) (lent (r .last .1 .1 .0) (r .last .1 .1 .1 .0) (r .last .1 .1 .1 .1 .0) (r .last .1 .1 .1 .1 .1 .0) (r .last .1 .1 .1 .1 .1 .1 .0)))
+    sound-call _ (a .bytes .now) (a .tokens .now) (buffers-of (a .events .now) (a .trees .now) (a .errors .now) (a .reports .now) (a .pool .now)) (a .entry) (result-of (r .result) (buffers-of (r .last .1 .1 .0) (r .last .1 .1 .1 .0) (r .last .1 .1 .1 .1 .0) (r .last .1 .1 .1 .1 .1 .0) (r .last .1 .1 .1 .1 .1 .1 .0)))
     (sym (ap asked-of (c .before .before .before .before .before .before .before .before .before .before .before .before .before .before .before .before .before .before .before .before .asked .given .1)) ∙ c .before .before .before .before .before .before .before .before .before .before .before .before .before .before .before .before .before .before .before .before .before .before .entry-of .ensures) (c .before .before .before .before .before .before .before .before .before .before .before .before .before .before .before .before .before .before .check .ensures .sound (c .before .before .before .before .before .before .before .before .before .before .before .before .before .before .before .before .if1 .taken)) (r .ensures)
 
 returns-3 : tie.Need-returns-3
 returns-3 c =
     let a = c .before .before .before .before .before .before .before .before .before .before .before .before .before .before .args in
     let k = c .before .before .check in
-    refused-call _ (a .bytes .now) (a .tokens .now) (lent (a .events .now) (a .trees .now) (a .errors .now) (a .reports .now) (a .pool .now)) (a .entry) (result-of (k .result) (lent (a .events .now) (a .trees .now) (a .errors .now) (a .reports .now) (a .pool .now)))
-    (sym (ap asked-of (c .before .before .before .before .asked .given .1)) ∙ c .before .before .before .before .before .before .entry-of .ensures) (k .ensures .refused (c .if1 .left) _ (lent (a .events .now) (a .trees .now) (a .errors .now) (a .reports .now) (a .pool .now)))
+    refused-call _ (a .bytes .now) (a .tokens .now) (buffers-of (a .events .now) (a .trees .now) (a .errors .now) (a .reports .now) (a .pool .now)) (a .entry) (result-of (k .result) (buffers-of (a .events .now) (a .trees .now) (a .errors .now) (a .reports .now) (a .pool .now)))
+    (sym (ap asked-of (c .before .before .before .before .asked .given .1)) ∙ c .before .before .before .before .before .before .entry-of .ensures) (k .ensures .refused (c .if1 .left) _ (buffers-of (a .events .now) (a .trees .now) (a .errors .now) (a .reports .now) (a .pool .now)))
 
 pub dt-parse-spec : {M : Type 1} → statement M
 dt-parse-spec =

@@ -2,7 +2,7 @@
 use mathlib.Core.Path.{_∙_}
 use Rattle.parser.specs.View.{parser-view}
 use Rattle.grammar.specs.Subprograms.{entry-for}
-use Rattle.call.specs.Result.{lent, result-of}
+use Rattle.call.specs.Result.{buffers-of, result-of}
 use Rattle.call.proofs.Called.{events-inside, finished}
 use Rattle.dt_parser.proofs.parse.Statement.{statement}
 use Rattle.dt_parser.proofs.parse.Tie as tie
@@ -18,7 +18,7 @@ outcome-requires c κs =
     let s = c .before .before .before .before .before .before .before .before .before .before .before .before .before .before .before .before .before .before .before .before .before .before .before in
     let a = s .args in
     let p = c .before .before .before .before .before .before .before .before .before .before .before .before .before .run-entry in
-    events-inside (entry-for (a .e)) (s .pre .bytes) (a .tokens .now) (lent (a .events .now) (a .trees .now) (a .errors .now) (a .reports .now) (a .pool .now)) (parser-view (p .result) (p .last .1 .0) (p .last .1 .1 .0) (p .last .1 .1 .1 .0)) (s .pre .checked) (p .ensures) (p .kept .1 .0)
+    events-inside (entry-for (a .e)) (s .pre .bytes) (a .tokens .now) (buffers-of (a .events .now) (a .trees .now) (a .errors .now) (a .reports .now) (a .pool .now)) (parser-view (p .result) (p .last .1 .0) (p .last .1 .1 .0) (p .last .1 .1 .1 .0)) (s .pre .checked) (p .ensures) (p .kept .1 .0)
 
 same-length : tie.Need-same-length
 same-length c = c .before .before .before .before .before .before .before .before .before .before .outcome .kept .1 .1 .1 .1 .0 ∙ c .before .before .before .before .before .before .before .before .before .before .before .before .before .before .before .before .before .before .before .before .before .before .before .before .run-entry .kept .1 .0
@@ -42,8 +42,8 @@ returns c =
     let p = c .before .before .before .before .before .before .before .before .before .before .before .before .before .before .before .before .before .before .before .before .before .before .before .before .run-entry in
     let k = c .before .before .before .before .before .before .before .before .before .before .before .before .before .before .before .before .before .root-kind in
     let f = c .before .before .before .before .before .before .before .before .before .before .outcome in
-    finished (entry-for (a .e)) (s .pre .bytes) (a .tokens .now) (lent (a .events .now) (a .trees .now) (a .errors .now) (a .reports .now) (a .pool .now)) (parser-view (p .result) (p .last .1 .0) (p .last .1 .1 .0) (p .last .1 .1 .1 .0)) (s .pre .checked) (p .ensures) (p .kept .1 .0)
-    (p .kept .1 .1 .0) (p .kept .1 .1 .1 .0) (k .result) (k .ensures) (result-of (f .result) (lent (f .last .1 .1 .1 .1 .0) (f .last .1 .1 .1 .1 .1 .1 .0) (f .last .1 .1 .1 .1 .1 .1 .1 .0) (f .last .1 .1 .1 .1 .1 .1 .1 .1 .0) (f .last .1 .1 .1 .1 .1 .1 .1 .1 .1 .1 .0))) (f .ensures)
+    finished (entry-for (a .e)) (s .pre .bytes) (a .tokens .now) (buffers-of (a .events .now) (a .trees .now) (a .errors .now) (a .reports .now) (a .pool .now)) (parser-view (p .result) (p .last .1 .0) (p .last .1 .1 .0) (p .last .1 .1 .1 .0)) (s .pre .checked) (p .ensures) (p .kept .1 .0)
+    (p .kept .1 .1 .0) (p .kept .1 .1 .1 .0) (k .result) (k .ensures) (result-of (f .result) (buffers-of (f .last .1 .1 .1 .1 .0) (f .last .1 .1 .1 .1 .1 .1 .0) (f .last .1 .1 .1 .1 .1 .1 .1 .0) (f .last .1 .1 .1 .1 .1 .1 .1 .1 .0) (f .last .1 .1 .1 .1 .1 .1 .1 .1 .1 .1 .0))) (f .ensures)
 
 pub parse-spec : {M : Type 1} → statement M
 parse-spec =

@@ -5,7 +5,7 @@ use lib.ListN.{length}
 use Rattle.basics.proofs.Flags.{flags}
 use Rattle.sink.proofs.Loops.{events-begin, events-again, events-end}
 use Rattle.definitions.specs.Layout.{EVENT-ROW}
-use Rattle.sink.specs.Machine.{on, eventsN, events-on}
+use Rattle.sink.specs.Model.{on, eventsN, events-on}
 use Rattle.sink.proofs.all_events.Statement.{statement}
 use Rattle.sink.proofs.all_events.Tie as tie
 

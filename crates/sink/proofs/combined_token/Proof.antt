@@ -1,6 +1,6 @@
 -- `combined_token`: a leaf of the tokens that are there.
 use native.Mathlib.Omega.{arith}
-use Rattle.sink.specs.Machine.{combined-on}
+use Rattle.sink.specs.Model.{combined-on}
 use Rattle.sink.proofs.combined_token.Statement.{statement}
 use Rattle.sink.proofs.combined_token.Tie as tie
 

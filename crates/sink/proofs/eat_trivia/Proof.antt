@@ -5,7 +5,7 @@ use lib.ListN.{length}
 use Rattle.basics.proofs.Flags.{flags}
 use Rattle.sink.proofs.Loops.{trivia-lt, trivia-again, trivia-done}
 use Rattle.definitions.specs.Layout.{TOKEN-ROW}
-use Rattle.sink.specs.Machine.{on, trivia-on}
+use Rattle.sink.specs.Model.{on, trivia-on}
 use Rattle.sink.proofs.eat_trivia.Statement.{statement}
 use Rattle.sink.proofs.eat_trivia.Tie as tie
 

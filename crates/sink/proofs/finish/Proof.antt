@@ -1,7 +1,7 @@
 -- `finish`: both parts, and whether they fit; the machine keeps the promise.
 use native.Mathlib.Omega.{arith}
 use Rattle.sink.proofs.Whole.{with-promise}
-use Rattle.sink.specs.Machine.{finish-all, finished-in}
+use Rattle.sink.specs.Model.{finish-all, finished-in}
 use Rattle.sink.proofs.finish.Statement.{statement}
 use Rattle.sink.proofs.finish.Tie as tie
 

@@ -1,6 +1,6 @@
 -- `finish_node`: the row read, and written as a closed one.
 use native.Mathlib.Omega.{arith}
-use Rattle.sink.specs.Machine.{finish-on}
+use Rattle.sink.specs.Model.{finish-on}
 use Rattle.sink.proofs.finish_node.Statement.{statement}
 use Rattle.sink.proofs.finish_node.Tie as tie
 

@@ -1,7 +1,7 @@
 -- `leaf`: a row, and three counters.
 use native.Mathlib.Omega.{arith}
 use mathlib.Core.Path.{refl}
-use Rattle.sink.specs.Machine.{leaf-on}
+use Rattle.sink.specs.Model.{leaf-on}
 use Rattle.sink.proofs.leaf.Statement.{statement}
 use Rattle.sink.proofs.leaf.Tie as tie
 

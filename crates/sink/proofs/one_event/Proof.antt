@@ -1,6 +1,6 @@
 -- `one_event`: a case for each tag.
 use native.Mathlib.Omega.{arith}
-use Rattle.sink.specs.Machine.{event-on}
+use Rattle.sink.specs.Model.{event-on}
 use Rattle.sink.proofs.one_event.Statement.{statement}
 use Rattle.sink.proofs.one_event.Tie as tie
 

@@ -1,6 +1,6 @@
 -- `root_node`: the first row.
 use native.Mathlib.Omega.{arith}
-use Rattle.sink.specs.Machine.{root-on}
+use Rattle.sink.specs.Model.{root-on}
 use Rattle.sink.proofs.root_node.Statement.{statement}
 use Rattle.sink.proofs.root_node.Tie as tie
 

@@ -1,6 +1,6 @@
 -- `start_node`: the rows of the chain, and three counters.
 use native.Mathlib.Omega.{arith}
-use Rattle.sink.specs.Machine.{start-on}
+use Rattle.sink.specs.Model.{start-on}
 use Rattle.sink.proofs.start_node.Statement.{statement}
 use Rattle.sink.proofs.start_node.Tie as tie
 

@@ -1,7 +1,7 @@
 -- `token`: a leaf of the token at the cursor, and one token less is left.
 use native.Mathlib.Omega.{arith}
 use Rattle.basics.proofs.Flags.{flags}
-use Rattle.sink.specs.Machine.{token-on}
+use Rattle.sink.specs.Model.{token-on}
 use Rattle.sink.proofs.token.Statement.{statement}
 use Rattle.sink.proofs.token.Tie as tie
 

@@ -146,4 +146,4 @@ peek-spec 𝓤 H 𝓜 𝓖 𝓡 =
     entered 𝓤 H (tripleOf 𝓤 H (𝓖 .A) peek.signature (peek.spec 𝓤 H (𝓖 .A) (𝓜 .mem) (𝓡 .run)))
     (tables 𝓤 H 𝓜 𝓡 code.env .C) (tables 𝓤 H 𝓜 𝓡 code.env .Λ) #source·peek code.function (code.unfolded 𝓤 H 𝓜 𝓡)
     (peek-meets 𝓤 H (𝓖 .A) (givenOf 𝓤 H 𝓜 𝓖) (𝓜 .mem) (𝓡 .run) (tablesOf 𝓤 H 𝓜 (tables 𝓤 H 𝓜 𝓡 code.env))
-    (cited 𝓤 H (Past 𝓤 H (𝓖 .A) (𝓜 .mem) (𝓡 .run)) 𝓜 𝓡 code.env #source·past past-def.routine code.calls-source·place·past-trivia (past-thm.met 𝓤 H 𝓜 𝓖 𝓡)))
+    (cited 𝓤 H (Past 𝓤 H (𝓖 .A) (𝓜 .mem) (𝓡 .run)) 𝓜 𝓡 code.env #source·past past-def.routine code.calls-source·cursor·past-trivia (past-thm.met 𝓤 H 𝓜 𝓖 𝓡)))

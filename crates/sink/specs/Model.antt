@@ -21,16 +21,16 @@ pub data On : Type 0 where
   on : Sink → List ℕ → On
 
 abbrev pub sink-of : On → Sink
-sink-of (on s t) = s
+sink-of (on s trees) = s
 
 abbrev pub moved : ℕ → On → On
-moved at (on s t) = on (record { cursor = at; byte = s .byte; rows = s .rows; node = s .node; children = s .children }) t
+moved at (on s trees) = on (record { cursor = at; byte = s .byte; rows = s .rows; node = s .node; children = s .children }) trees
 
 unfoldable pub leaf-on : ℕ → ℕ → ℕ → On → On
 unfolding put
-leaf-on k w n (on s t) =
+leaf-on k w n (on s trees) =
     on (record { cursor = s .cursor; byte = low (s .byte + w); rows = low (s .rows + 1); node = s .node; children = low (s .children + 1) })
-    (put (s .rows) (tree-row LEAF k w n []) t)
+    (put (s .rows) (tree-row LEAF k w n []) trees)
 
 unfoldable pub token-on : List ℕ → On → On
 unfolding kind-seen leaf-on
@@ -57,16 +57,16 @@ combined-on tokens n x =
 
 unfoldable pub start-on : List ℕ → ℕ → On → On
 unfolding links open-rows
-start-on events i (on s t) =
+start-on events i (on s trees) =
     let n = low (links events i) in
     on (record { cursor = s .cursor; byte = s .byte; rows = low (low (s .rows + n) + 1); node = low (s .rows + n); children = 0 })
-    (open-rows n events i (s .rows) (s .byte) (s .node) (s .children) t)
+    (open-rows n events i (s .rows) (s .byte) (s .node) (s .children) trees)
 
 unfoldable pub finish-on : On → On
 unfolding put tree-field
-finish-on (on s t) =
-    on (record { cursor = s .cursor; byte = s .byte; rows = s .rows; node = tree-field (s .node) PARENT t; children = low (tree-field (s .node) CHILDREN-BEFORE t + 1) })
-    (put (s .node) (tree-row NODE (tree-field (s .node) KIND t) (s .byte - tree-field (s .node) FIRST-BYTE t) (s .children) []) t)
+finish-on (on s trees) =
+    on (record { cursor = s .cursor; byte = s .byte; rows = s .rows; node = tree-field (s .node) PARENT trees; children = low (tree-field (s .node) CHILDREN-BEFORE trees + 1) })
+    (put (s .node) (tree-row NODE (tree-field (s .node) KIND trees) (s .byte - tree-field (s .node) FIRST-BYTE trees) (s .children) []) trees)
 
 unfoldable pub event-on : List ℕ → List ℕ → ℕ → On → On
 unfolding field trivia-on start-on token-on combined-on finish-on
@@ -85,11 +85,11 @@ eventsN (suc n) tokens events i x = eventsN n tokens events (i + 1) (event-on to
 
 unfoldable pub root-on : ℕ → List ℕ → On
 unfolding put
-root-on k t = on (record { cursor = 0; byte = 0; rows = 1; node = 0; children = 0 }) (put 0 (tree-row 0 k 0 0 []) t)
+root-on k trees = on (record { cursor = 0; byte = 0; rows = 1; node = 0; children = 0 }) (put 0 (tree-row 0 k 0 0 []) trees)
 
 unfoldable pub events-on : ℕ → List ℕ → List ℕ → List ℕ → On
 unfolding finish-on trivia-on eventsN root-on
-events-on k tokens events t = finish-on (trivia-on tokens (eventsN (length events / EVENT-ROW) tokens events 0 (root-on k t)))
+events-on k tokens events trees = finish-on (trivia-on tokens (eventsN (length events / EVENT-ROW) tokens events 0 (root-on k trees)))
 
 -- ---------------------------------------------------------------- the whole
 
@@ -99,8 +99,10 @@ pub data Finished : Type 0 where
 
 -- in buffers of so many numbers
 unfoldable pub finished-in : ℕ → ℕ → On → Log → Finished
-finished-in trees errors (on s t) (log n e) = finished (cond (leb (s .rows * TREE-ROW) trees && leb (n * ERROR-ROW) errors) (Written (s .rows) n) NoRoom) t e
+finished-in tree-numbers error-numbers (on s trees) (log n errors) =
+    finished (cond (leb (s .rows * TREE-ROW) tree-numbers && leb (n * ERROR-ROW) error-numbers) (Written (s .rows) n) NoRoom) trees errors
 
 unfoldable pub finish-all : ℕ → List ℕ → List ℕ → List ℕ → List ℕ → Finished
 unfolding finished-in events-on errors-on
-finish-all k tokens events t e = finished-in (length t) (length e) (events-on k tokens events t) (errors-on tokens e)
+finish-all k tokens events trees errors =
+    finished-in (length trees) (length errors) (events-on k tokens events trees) (errors-on tokens errors)
