@@ -9,7 +9,7 @@ import sys
 
 sys.path.insert(0, os.path.dirname(__file__))
 from code_proofs import Crate, parse, way_to
-from program_ways import AGAIN, NO, SAME_NO, SAME_YES, YES, Walk, both, by, call, close, flag, ignore, mark, name_places, negated, node_kinds, seq, starting, when
+from program_ways import AGAIN, NO, SAME_NO, SAME_YES, YES, Walk, both, by, call, close, flag, ignore, mark, name_places, negated, seq, starting, when
 
 # What a call ensures of what is left. le: no more. all: the same, for every list. yes: no more, and something of the
 # answer yes.
@@ -84,7 +84,7 @@ class Below(Crate):
             if not need.startswith("returns"):
                 continue
             steps, _ = way_to(records, place)
-            walk = Walk(steps, self.node_kinds, TELLS, {"directive-end"})
+            walk = Walk(steps, TELLS, {"directive-end"})
             term, answer = walk.emit(program)
             equation = f"closes-to {term} {walk.closes}" if closing else f"{term} .is"
             if before and before[0] in [s[0] for s in steps]:
@@ -230,13 +230,13 @@ def node_end(c):
     # nothing is needed of the test that failed
     left = "omega (arith, @at-end .ensures .1 .0, @expect .ensures .1 .0, @expect-recoverable .ensures .1, @complete2 .ensures .1 (@@ .args .tokens .now))"
     c.proof("nodes/node_end", {
-        "returns": f"(λ ask. closes-to (c-yes {end} (@if1 .taken) (c-seq (c-unclosed (@emit .ensures .0)) c-ret)) (completed 14 (@complete .ensures .0 _ _)),\n    {LEFT})",
-        "returns-2": f"(λ ask. closes-to (c-no {end} (@if1 .left) ({brackets})) (completed 14 (@complete2 .ensures .0 _ _)),\n    {left})",
+        "returns": f"(λ ask. closes-to (c-yes {end} (@if1 .taken) (c-seq (c-unclosed (@emit .ensures .0)) c-ret)) (completed (@complete .ensures .0 _ _)),\n    {LEFT})",
+        "returns-2": f"(λ ask. closes-to (c-no {end} (@if1 .left) ({brackets})) (completed (@complete2 .ensures .0 _ _)),\n    {left})",
     }, "`node_end`: the end of a node's body.", uses=NODE_END.split("\n"))
 
 
 def unmatched_rcurly(c):
-    marked = "c-mark (@new .ensures) (@start .ensures .0 _ _) (c-seq (c-act (@bump .ensures .0 b _ _)) c-ret) (completed 9 (@complete .ensures .0 _ _))"
+    marked = "c-mark (@new .ensures) (@start .ensures .0 _ _) (c-seq (c-act (@bump .ensures .0 b _ _)) c-ret) (completed (@complete .ensures .0 _ _))"
     c.proof("nodes/unmatched_rcurly", {
         "returns": f"(λ ask b. c-seq (c-walk (@error .ensures .0 ask b)) ({marked}) .is, {LEFT})",
     }, "`unmatched_rcurly`: a report, and the bracket in a node of its own.")
@@ -255,7 +255,7 @@ def left_over(c):
              f"((ask : Rule → Machine → Walked) (b : Span) (reports pool : List ℕ) → {whole} (parser-view q events reports pool) ≡ {whole} (parser-view q₀ events₀ reports pool)) × ((tokens-left tokens (q .s) ≤ tokens-left tokens (q₀ .s)) × (length events ≡ length events₀))"),
         measure="tokens-left tokens (q .s)")
     end = "(c-act (@at-end .ensures .0 b _ _ _))"
-    wrapped = "c-mark (@new .ensures) (@start .ensures .0 _ _) (c-seq (c-seq (c-walk (@error .ensures .0 ask b)) (c-walk (@bump-all .ensures .0 ask b _ _))) c-ret) (completed 9 (@complete .ensures .0 _ _))"
+    wrapped = "c-mark (@new .ensures) (@start .ensures .0 _ _) (c-seq (c-seq (c-walk (@error .ensures .0 ask b)) (c-walk (@bump-all .ensures .0 ask b _ _))) c-ret) (completed (@complete .ensures .0 _ _))"
     c.proof("nodes/left_over", {
         "returns": ("left-over", f"(λ ask b. c-yes {end} (@if1 .taken) c-ret .is, {LEFT})"),
         "returns-2": ("left-over", f"(λ ask b. c-no {end} (@if1 .left) (c-seq (c-act (@add-expected .ensures .0 (tokens-of {T}) b _ _ _)) ({wrapped})) .is, {LEFT})"),
@@ -274,7 +274,6 @@ def covers(c, functions):
 def main(name, generated):
     crate = os.path.join("crates", name)
     c = Below(name, generated, crate, CALLS, LOOKS)
-    c.node_kinds = node_kinds()
     if name == "directives":
         directives(c)
         covers(c, "eat_dts_include eat_dts_directive")

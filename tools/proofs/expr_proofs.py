@@ -83,9 +83,9 @@ WAYS = {
     ('lhs', 'returns-3'): ('lhs-prog', failed(2, held('at2', 3, f'(c-seq ({walked("macro-invocation")}) c-ret)'))),
     ('lhs', 'returns-4'): ('lhs-prog', failed(3, held('at3', 4, f'({walked("literal-expr", " _ _")})'))),
     ('lhs', 'returns-5'): ('lhs-prog', failed(4, member('no-lhs'))),
-    ('prefix-expr', 'returns'): ('', f'({MARK} (c-seq {BUMP} (c-told {YES} {CALL})) (completed 6 {DONE}))'),
-    ('paren-expr', 'returns'): ('', f'({MARK} (c-seq {BUMP} (c-told-past {YES} {CALL} ({walked("expect")}))) (completed 7 {DONE}))'),
-    ('missing-lhs', 'returns'): ('', f'(c-seq ({walked("error")}) (c-seq ({MARK} (c-seq (c-seq {BUMP} {CALL}) c-ret) (completed 9 {DONE})) c-ret))'),
+    ('prefix-expr', 'returns'): ('', f'({MARK} (c-seq {BUMP} (c-told {YES} {CALL})) (completed {DONE}))'),
+    ('paren-expr', 'returns'): ('', f'({MARK} (c-seq {BUMP} (c-told-past {YES} {CALL} ({walked("expect")}))) (completed {DONE}))'),
+    ('missing-lhs', 'returns'): ('', f'(c-seq ({walked("error")}) (c-seq ({MARK} (c-seq (c-seq {BUMP} {CALL}) c-ret) (completed {DONE})) c-ret))'),
     ('no-lhs', 'returns'): ('silent', f'(c-yes {BINARY} («if1» .taken) {member("missing-lhs")})'),
     ('no-lhs', 'returns-2'): ('silent', f'(c-no {BINARY} («if1» .left) (c-yes {RPAREN} («if2» .taken) (c-seq ({walked("error")}) c-ret)))'),
     ('no-lhs', 'returns-3'): ('silent', f'(c-no {BINARY} («if1» .left) (c-no {RPAREN} («if2» .left) (c-seq ({walked("error2")}) c-ret)))'),
@@ -365,7 +365,7 @@ def dt_expr(generated):
     asked = f'(walk-rule {allowed} (tokens-of (@@ .args .tokens .now))) unlabelled'
     inside = f'c-seq (c-seq (c-act (@bump .ensures .0 unlabelled _ _)) (c-seq (c-call {allowed} (@expr .ensures .0)) (c-walk (@expect .ensures .0 {asked})))) c-ret'
     Crate('expr', generated, 'crates/expr', calls, ['new']).proof('dt_expr', {
-        'returns': ('dt-expr', f'(way {allowed} (c-mark (@new .ensures) (@start .ensures .0 _ _) ({inside}) (completed 17 (@complete .ensures .0 _ _))), omega (arith, PROGRESS))'),
+        'returns': ('dt-expr', f'(way {allowed} (c-mark (@new .ensures) (@start .ensures .0 _ _) ({inside}) (completed (@complete .ensures .0 _ _))), omega (arith, PROGRESS))'),
     }, '`dt_expr`: a marker around an expression in brackets.', uses=DT_EXPR.split('\n'))
 
 

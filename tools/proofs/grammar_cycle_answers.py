@@ -60,8 +60,8 @@ def on(equation):
 class Answers:
     """The answers of one function along one way."""
 
-    def __init__(self, function, way, node_kinds):
-        self.function, self.way, self.node_kinds = function, way, node_kinds
+    def __init__(self, function, way):
+        self.function, self.way = function, way
         self.rule = RULES.get(function)
         self.allowed = f"({ALLOWED} - 1)" if self.rule else f"({ALLOWED})"
         self.ask = f"(walk-rule {self.allowed} {TOKENS})"
@@ -134,7 +134,7 @@ class Answers:
             way = way[things.index("loop") + 1:]
         elif self.rule:
             way = [step for step in way if step[0] != "if1"]
-        walk = CycleWalk(way, self.node_kinds, self.allowed, self.ask, BRACE if self.function == "dt-node-body" else "unlabelled")
+        walk = CycleWalk(way, self.allowed, self.ask, BRACE if self.function == "dt-node-body" else "unlabelled")
         return walk, *walk.emit(PROGRAMS[self.function][1])
 
     def turn(self):
@@ -234,7 +234,7 @@ class Answers:
         """A marker around the loop."""
         step = "c-yes {t = true}" if answer == "yes" else "c-no {t = false}"
         loop = f"(c-prog {self.allowed} ({self.last_turn(walk, term, answer)}))"
-        return f"way {self.allowed} (c-mark (@new .ensures) (@start .ensures .0 _ _) ({step} {loop} refl c-ret) {walk.completed('PreprocessorBranch')})"
+        return f"way {self.allowed} (c-mark (@new .ensures) (@start .ensures .0 _ _) ({step} {loop} refl c-ret) {walk.completed()})"
 
     def of_cond_branches_and_end(self, walk, term, answer):
         """The loop, and the directive that ends the conditional."""

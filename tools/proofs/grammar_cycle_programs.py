@@ -139,8 +139,8 @@ class CycleWalk(Walk):
     acts = {"at-end": 3, "silent-at": 3, "silent-at-set": 3, "bump": 2}
     walks = {"at": 3, "silent-eat": 2, "eat": 2, "expect": 0, "expect-recoverable": 0, "error": 0}
 
-    def __init__(self, way, node_kinds, allowed, ask, span):
-        super().__init__(way, node_kinds, TELLS, {"unfinished"})
+    def __init__(self, way, allowed, ask, span):
+        super().__init__(way, TELLS, {"unfinished"})
         self.allowed, self.ask, self.span = allowed, ask, span
         # the test whose own result is returned: where it held, and where it failed
         self.returned_yes = self.returned_no = None
@@ -187,7 +187,7 @@ class CycleWalk(Walk):
 
     def of_closed_before_test(self, test, kind):
         term, _ = self.emit(test)
-        self.closes = self.completed(kind)
+        self.closes = self.completed()
         return f"(c-told (@{self.last} .result .yes) {term})", None
 
     def arm(self, names):

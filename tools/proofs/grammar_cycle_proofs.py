@@ -11,7 +11,7 @@ import sys
 sys.path.insert(0, os.path.dirname(__file__))
 from code_proofs import parse, way_to
 from grammar_cycle_answers import RULES, Answers
-from program_ways import name_places, node_kinds
+from program_ways import name_places
 
 # Each call within the cycle is made with fewer tokens left, or with as many and to a lower rank. All ranks are below 16.
 RANK = {
@@ -99,7 +99,6 @@ class Cycle:
         self.module = f"{PROOFS}.{self.name}"
         self.out = os.path.join(crate, "proofs", self.name)
         self.lts = {f: parse(os.path.join(proofs, self.name, f"Lts-{f}.antt")) for f in self.functions}
-        self.node_kinds = node_kinds()
 
     def write(self, path, lines):
         path = os.path.join(self.out, path)
@@ -188,7 +187,7 @@ class Cycle:
         """One need with its answer."""
         name = spelled(function)
         way, start = way_to(self.lts[function][0], place)
-        unfolds, text = Answers(name, way, self.node_kinds).answer(need)
+        unfolds, text = Answers(name, way).answer(need)
         lets, text = name_places(text, way, start)
         loop = " Inv-loop μ-loop" if name in LOOPS else ""
         lines = [f"pub {need} : (t : ℕ) → lts.Need-{need} ({name}-claims t) ({name}-at t) reads.Post{loop}"]

@@ -85,7 +85,7 @@ def directive(c):
     allowed = "(@@ .args .allowed)"
     endif = "(c-act (@silent-at .ensures .0 unlabelled _ _ _))"
     branch = "(c-act (@silent-at-set .ensures .0 unlabelled _ _ _))"
-    wrapped = f"c-mark (@new .ensures) (@start .ensures .0 _ _) (c-assoc (c-seq (c-act (@bump .ensures .0 unlabelled _ _)) (c-prog-on {allowed} (@cond-branches-and-end .ensures .0) c-ret))) (completed 9 (@complete .ensures .0 _ _))"
+    wrapped = f"c-mark (@new .ensures) (@start .ensures .0 _ _) (c-assoc (c-seq (c-act (@bump .ensures .0 unlabelled _ _)) (c-prog-on {allowed} (@cond-branches-and-end .ensures .0) c-ret))) (completed (@complete .ensures .0 _ _))"
     opened = "catch-unmatched-pp-directive silent"
     c.proof("preprocessor_directive/catch_unmatched_pp_directive", {
         "returns": (opened, f"(way {allowed} (c-yes {endif} (@if1 .taken) (c-seq (c-walk (@error .ensures .0 {asked(allowed)})) c-ret)), ({LEFT}, λ h. {LEFT}))"),

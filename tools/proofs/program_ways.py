@@ -2,14 +2,7 @@
 # machine/proofs/Way.antt, steps/proofs/Ways.antt and steps/proofs/Steps.antt. A program is a tree: its leaves are the
 # calls in the code's order, a test takes the outcome that follows it, and a marker takes the calls of Marker::new,
 # start and complete. A term names a call or a test by @NAME, and the entry by @@ (see code_proofs.py).
-import os
 import re
-
-
-def node_kinds():
-    """The numbers of the node kinds, as the definitions have them."""
-    text = open(os.path.join("crates", "definitions", "specs", "NodeKind.antt"), encoding="utf8").read()
-    return {k: int(v) for k, v in re.findall(r"^(\w+) = (\d+)", text, flags=re.M)}
 
 
 def call(name, more=None):
@@ -86,9 +79,9 @@ class Walk:
     ask, span, marker = "ask", "b", " _ _ _"
     acts, walks = ACTS, WALKS
 
-    def __init__(self, way, node_kinds, tells, closing):
+    def __init__(self, way, tells, closing):
         self.facts = [(thing, fields) for thing, _, fields in way if self.counts(thing, fields)]
-        self.node_kinds, self.tells, self.closing = node_kinds, tells, closing
+        self.tells, self.closing = tells, closing
         # how the open marker is closed, the last test with its outcome, and the last call
         self.closes = self.test = self.last = None
 
@@ -140,12 +133,12 @@ class Walk:
         thing, how = self.test
         return f"(c-ret-{answer} (@{thing} .{how}))", answer
 
-    def completed(self, kind):
+    def completed(self):
         thing, _ = self.next("complete")
-        return f"(completed {self.node_kinds[kind] - 1} (@{thing} .ensures .0{self.marker}))"
+        return f"(completed (@{thing} .ensures .0{self.marker}))"
 
     def of_close(self, kind, answer):
-        self.closes = self.completed(kind)
+        self.closes = self.completed()
         return "c-ret", answer
 
     def of_ignore(self, answer):

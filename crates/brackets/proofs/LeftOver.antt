@@ -1,5 +1,5 @@
 -- What an entry left over becomes: nothing, or one ParseError of leaves whose first is the token that stood ahead.
-use Prim.Native.Nat.{ℕ, zero, suc, _≤_}
+use Prim.Native.Nat.{ℕ, zero, suc, _≤_, _-_}
 use mathlib.Core.Path.{_≡_, refl, ap, sym, _∙_, subst}
 use mathlib.Core.Bool.{true}
 use mathlib.Core.List.{List, [], _∷_, _++_}
@@ -83,5 +83,5 @@ module _ (ask : Rule → State → Out) (b : Label) where
       let r = over-unless (ltb (length (s .pending)) MOST-PENDING) (mark-of s) in (
         flat (exec ask b inner u .made),
         inner-leaves u t ts d,
-        rw e (flat-join r made ∙ ap (_⊞ flat made) (room-made (ltb (length (s .pending)) MOST-PENDING) (mark-of s)) ∙ node-flat 9 inner u),
+        rw e (flat-join r made ∙ ap (_⊞ flat made) (room-made (ltb (length (s .pending)) MOST-PENDING) (mark-of s)) ∙ node-flat (N.ParseError - 1) inner u),
       )

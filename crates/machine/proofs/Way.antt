@@ -75,10 +75,10 @@ module _ {ask : Rule → Machine → Walked} {ts : List Token} {b : Span} where
   c-mark {p = p} {k = k} {m = m} {v = v} i e f g =
       record { is = g .is ∙ ap (λ (k : Marker). marked k v) i ∙ ap (marked (next-marker START-NODE m)) (f .is ∙ ap (walk ask ts b p) e) }
 
--- completed as a node of kind suc s
-pub completed : (s : ℕ) {k : Marker} {a : Ans} {m x : Machine} → x ≡ complete k (suc s) m → Closes k (record { ans = a; shape = suc s; on = m }) (said a x)
+-- completed as a node: its kind is not NO-NODE
+pub completed : {s : ℕ} {k : Marker} {a : Ans} {m x : Machine} → x ≡ complete k (suc s) m → Closes k (record { ans = a; shape = suc s; on = m }) (said a x)
 unfolding marked close
-completed s {a = a} e = record { is = ap (said a) e }
+completed {a = a} e = record { is = ap (said a) e }
 
 module _ (n : ℕ) {ts : List Token} where
   pub c-call : {b : Span} {r : Rule} {m : Machine} {w : Walked} → w ≡ walk-rule n ts r m → Way (walk-rule n ts) ts b (open-call r) m w

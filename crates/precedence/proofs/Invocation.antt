@@ -1,5 +1,5 @@
 -- A macro invocation: its name, its brackets, and the arguments between them.
-use Prim.Native.Nat.{ℕ}
+use Prim.Native.Nat.{ℕ, _-_}
 use native.Mathlib.Omega.{arith}
 use mathlib.Core.Path.{_≡_, refl, sym, _∙_, ap, subst}
 use mathlib.Core.Bool.{Bool, true, false, not, true≢false, false≢true}
@@ -276,7 +276,7 @@ module _ (ask : Rule → State → Out) (b : Label) where
   unfolding add marked makes closed-marker _⧺_
   node-of s (P.done e vs) o d =
       let c : Done s (nodes N.MacroInvocation (d .0)) vs (closed-marker N.MacroInvocation (mark-of s) (mark-of (o .state)) done (o .made)) (o .state) =
-      done-closed 22 (mark-of s) (mark-of (o .state)) s (o .state) (d .0) vs (o .made) (d .2) in
+      done-closed (N.MacroInvocation - 1) (mark-of s) (mark-of (o .state)) s (o .state) (d .0) vs (o .made) (d .2) in
       (refl, rw (d .1, join-done (o .made)) c)
   node-of s (P.report vs) o n = rw (join-done (o .made)) (noted-inside s vs N.MacroInvocation (mark-of s) (mark-of (o .state)) done (o .made) n)
   node-of s P.refused o d = d

@@ -1,5 +1,5 @@
 -- `lhs`: an operand is read as the reader reads it.
-use Prim.Native.Nat.{ℕ}
+use Prim.Native.Nat.{ℕ, _-_}
 use mathlib.Core.Path.{_≡_, refl, sym, _∙_, ap, subst}
 use mathlib.Core.Bool.{Bool, true, false, cond, true≢false}
 use mathlib.Core.List.{List, [], _∷_}
@@ -54,7 +54,7 @@ module _ (ask : Rule → State → Out) (b : Label) (rec : Reader)
         (λ o′. Follows s expr-nodes (bind x (λ e vs. P.done (prefix k e) vs)) (marked s (add (took t ts) (add o o′))))
     unfolding marked makes add _⧺_ closed
     prefix-by k (P.done e vs) o d =
-        let c = done-closed 6 (mark-of s) (mark-of (o .state)) s (o .state) (one ⧺ expr-nodes e) vs (token t (length ts) done ⧺ o .made)
+        let c = done-closed (N.PrefixExpr - 1) (mark-of s) (mark-of (o .state)) s (o .state) (one ⧺ expr-nodes e) vs (token t (length ts) done ⧺ o .made)
         (done-behind s t ts ahead (expr-nodes e) vs (o .made) (o .state) (d .1)) in
         rw (d .0) (ends-ret ask b (refl, rw (join-done (o .made)) c))
     prefix-by k (P.report vs) o n =
@@ -84,7 +84,7 @@ module _ (ask : Rule → State → Out) (b : Label) (rec : Reader)
         let q : Done (o .state) one (symbols false ts′) (o′ .made) (o′ .state) = rw p (done-token (o .state) t′ ts′ z) in
         let r = done-behind s t ts ahead (expr-nodes e ⧺ one) (symbols false ts′) (o .made ⧺ o′ .made) (o′ .state)
         (done-join (taken ts) (o .state) (o′ .state) (expr-nodes e) one vs (symbols false ts′) (o .made) (o′ .made) d q) in
-        let c = done-closed 7 (mark-of s) (mark-of (o′ .state)) s (o′ .state) (one ⧺ expr-nodes e ⧺ one) (symbols false ts′) (token t (length ts) done ⧺ (o .made ⧺ o′ .made)) r in
+        let c = done-closed (N.ParenExpr - 1) (mark-of s) (mark-of (o′ .state)) s (o′ .state) (one ⧺ expr-nodes e ⧺ one) (symbols false ts′) (token t (length ts) done ⧺ (o .made ⧺ o′ .made)) r in
         let g : P.expect K.RParen vs (λ ws. P.done (bracketed e) ws) ≡ P.done (bracketed e) (symbols false ts′) =
         ap (λ (l : List Symbol). P.expect K.RParen l (λ ws. P.done (bracketed e) ws)) (sym (d .left)) ∙ f (λ ws. P.done (bracketed e) ws) in
         rw g (y, rw (join-done (o′ .made)) c)
@@ -127,7 +127,7 @@ module _ (ask : Rule → State → Out) (b : Label) (rec : Reader)
     literal-follows k =
         inside ask b
         (after-bump ask b t ts h ahead
-        (ends-ret ask b (refl, done-closed 8 (mark-of s) (mark-of (taken ts)) s (taken ts) one (symbols false ts) (token t (length ts) done) (done-token s t ts ahead))))
+        (ends-ret ask b (refl, done-closed (N.LiteralExpr - 1) (mark-of s) (mark-of (taken ts)) s (taken ts) one (symbols false ts) (token t (length ts) done) (done-token s t ts ahead))))
 
   -- ---------------------------------------------------------------- no operand
 

@@ -62,7 +62,7 @@ returns c =
     let g = f .before .before .before .before in
     let i = g .before .before in
     let s = i .before .before .before .before .before in
-    (way (s .args .allowed) (c-mark (i .new .ensures) (g .start .ensures .0 _ _) (c-seq (c-seq (c-act (f .bump .ensures .0 unlabelled _ _)) (c-seq (c-call (s .args .allowed) (e .expr .ensures .0)) (c-walk (d .expect .ensures .0 (walk-rule (s .args .allowed) (tokens-of (s .args .tokens .now))) unlabelled)))) c-ret) (completed 17 (a .complete .ensures .0 _ _))), omega (arith, g .start .ensures .1 (s .args .tokens .now), f .bump .ensures .1, e .expr .ensures .1 .0, d .expect .ensures .1 .0, a .complete .ensures .1 (s .args .tokens .now)))
+    (way (s .args .allowed) (c-mark (i .new .ensures) (g .start .ensures .0 _ _) (c-seq (c-seq (c-act (f .bump .ensures .0 unlabelled _ _)) (c-seq (c-call (s .args .allowed) (e .expr .ensures .0)) (c-walk (d .expect .ensures .0 (walk-rule (s .args .allowed) (tokens-of (s .args .tokens .now))) unlabelled)))) c-ret) (completed (a .complete .ensures .0 _ _))), omega (arith, g .start .ensures .1 (s .args .tokens .now), f .bump .ensures .1, e .expr .ensures .1 .0, d .expect .ensures .1 .0, a .complete .ensures .1 (s .args .tokens .now)))
 
 pub dt-expr-spec : {M : Type 1} → statement M
 dt-expr-spec = tie.close (tie.spec new-requires start-requires bump-requires expr-requires expect-requires complete-requires same-length same-length-2 same-length-3 returns)

@@ -27,7 +27,7 @@ returns c =
     let bump′ = c .before .before .before .before .before .before .bump in
     let complete′ = c .before .before .complete in
     let s′ = c .before .before .before .before .before .before .before .before .before .before .before .before .before .before .before in (
-      λ ask b reports pool. c-mark (new′ .ensures) (start′ .ensures .0 reports pool) (c-seq (c-act (bump′ .ensures .0 b reports pool)) c-ret) (completed 8 (complete′ .ensures .0 reports pool)) .is,
+      λ ask b reports pool. c-mark (new′ .ensures) (start′ .ensures .0 reports pool) (c-seq (c-act (bump′ .ensures .0 b reports pool)) c-ret) (completed (complete′ .ensures .0 reports pool)) .is,
       omega (arith, start′ .ensures .1 (s′ .args .tokens .now), bump′ .ensures .1, complete′ .ensures .1 (s′ .args .tokens .now)),
     )
 

@@ -44,7 +44,7 @@ returns c =
     let e = d .before .before .before .before .before .before .before in
     let f = e .before .before in
     let s = f .before .before .before .before .before in
-    (λ ask b. (c-mark (f .new .ensures) (e .start .ensures .0 _ _ _) (c-seq (c-walk (d .eat-deleted .ensures .0 ask b)) c-ret) (completed 11 (a .complete .ensures .0 _ _ _))) .is, omega (arith, e .start .ensures .1 (s .args .tokens .now), d .eat-deleted .ensures .1, a .complete .ensures .1 (s .args .tokens .now)))
+    (λ ask b. (c-mark (f .new .ensures) (e .start .ensures .0 _ _ _) (c-seq (c-walk (d .eat-deleted .ensures .0 ask b)) c-ret) (completed (a .complete .ensures .0 _ _ _))) .is, omega (arith, e .start .ensures .1 (s .args .tokens .now), d .eat-deleted .ensures .1, a .complete .ensures .1 (s .args .tokens .now)))
 
 pub delete-arguments-spec : {M : Type 1} → statement M
 delete-arguments-spec = tie.close (tie.spec new-requires start-requires eat-deleted-requires complete-requires same-length same-length-2 same-length-3 returns)

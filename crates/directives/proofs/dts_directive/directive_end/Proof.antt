@@ -38,7 +38,7 @@ returns c =
     let a = c .before .before in
     let d = a .before .before .before .before .before .before .before .before in
     let s = d .before .before .before .before .before .before .before .before .before .before in
-    (λ ask b. closes-to (c-seq (c-walk (d .expect-recoverable .ensures .0 ask b)) c-ret) (completed 10 (a .complete .ensures .0 _ _ _)), omega (arith, d .expect-recoverable .ensures .1, a .complete .ensures .1 (s .args .tokens .now)))
+    (λ ask b. closes-to (c-seq (c-walk (d .expect-recoverable .ensures .0 ask b)) c-ret) (completed (a .complete .ensures .0 _ _ _)), omega (arith, d .expect-recoverable .ensures .1, a .complete .ensures .1 (s .args .tokens .now)))
 
 pub directive-end-spec : {M : Type 1} → statement M
 directive-end-spec = tie.close (tie.spec slice-aggregate-expect-recoverable expect-recoverable-requires complete-requires same-length same-length-2 same-length-3 returns)

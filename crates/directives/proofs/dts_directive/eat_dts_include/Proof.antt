@@ -54,7 +54,7 @@ returns c =
     let e = d .before .before .before .before .before in
     let f = e .before .before .before in
     let s = f .before .before .before .before .before .before .before in
-    (λ ask b. (c-started (of-kind K.DtIncludeDirective) (f .eat-starting .ensures .0 ask b _ _) (e .if1 .taken) (c-seq (c-walk (d .expect .ensures .0 ask b)) c-ret) (completed 10 (a .complete .ensures .0 _ _ _))) .is, (omega (arith, f .eat-starting .ensures .1 .0, f .eat-starting .ensures .1 .1 (e .if1 .taken), d .expect .ensures .1 .0, a .complete .ensures .1 (s .args .tokens .now)), λ h. omega (arith, f .eat-starting .ensures .1 .0, f .eat-starting .ensures .1 .1 (e .if1 .taken), d .expect .ensures .1 .0, a .complete .ensures .1 (s .args .tokens .now), some-left (s .args .tokens .now) (s .args .s) (starting-some (λ (r : Rule) (m : Machine). said no m) (tokens-of (s .args .tokens .now)) unlabelled K.DtIncludeDirective _ _ _ (f .eat-starting .result .yes) (few-rows (s .args .tokens .now) (omega arith)) (f .eat-starting .ensures .0 (λ (r : Rule) (m : Machine). said no m) unlabelled [] []) (e .if1 .taken)))))
+    (λ ask b. (c-started (of-kind K.DtIncludeDirective) (f .eat-starting .ensures .0 ask b _ _) (e .if1 .taken) (c-seq (c-walk (d .expect .ensures .0 ask b)) c-ret) (completed (a .complete .ensures .0 _ _ _))) .is, (omega (arith, f .eat-starting .ensures .1 .0, f .eat-starting .ensures .1 .1 (e .if1 .taken), d .expect .ensures .1 .0, a .complete .ensures .1 (s .args .tokens .now)), λ h. omega (arith, f .eat-starting .ensures .1 .0, f .eat-starting .ensures .1 .1 (e .if1 .taken), d .expect .ensures .1 .0, a .complete .ensures .1 (s .args .tokens .now), some-left (s .args .tokens .now) (s .args .s) (starting-some (λ (r : Rule) (m : Machine). said no m) (tokens-of (s .args .tokens .now)) unlabelled K.DtIncludeDirective _ _ _ (f .eat-starting .result .yes) (few-rows (s .args .tokens .now) (omega arith)) (f .eat-starting .ensures .0 (λ (r : Rule) (m : Machine). said no m) unlabelled [] []) (e .if1 .taken)))))
 
 same-length-4 : tie.Need-same-length-4
 same-length-4 c =

@@ -53,7 +53,7 @@ returns c =
     let if1′ = emit′ .before .before .before .before in
     let at-end′ = if1′ .before in
     let s′ = at-end′ .before .before .before .before .before in (
-      λ ask. closes-to (c-yes (c-act (at-end′ .at-end .ensures .0 (span-of (s′ .args .lcurly-span)) _ _ _)) (if1′ .if1 .taken) (c-seq (c-unclosed (emit′ .emit .ensures .0)) c-ret)) (completed 14 (complete′ .complete .ensures .0 _ _)),
+      λ ask. closes-to (c-yes (c-act (at-end′ .at-end .ensures .0 (span-of (s′ .args .lcurly-span)) _ _ _)) (if1′ .if1 .taken) (c-seq (c-unclosed (emit′ .emit .ensures .0)) c-ret)) (completed (complete′ .complete .ensures .0 _ _)),
       omega (arith, at-end′ .at-end .ensures .1 .0, emit′ .emit .ensures .1, complete′ .complete .ensures .1 (s′ .args .tokens .now)),
     )
 
@@ -86,7 +86,7 @@ returns-2 c =
     let if1′ = expect′ .before .before .before .before in
     let at-end′ = if1′ .before in
     let s′ = at-end′ .before .before .before .before .before in (
-      λ ask. closes-to (c-no (c-act (at-end′ .at-end .ensures .0 (span-of (s′ .args .lcurly-span)) _ _ _)) (if1′ .if1 .left) (c-seq (c-walk (expect′ .expect .ensures .0 ask (span-of (s′ .args .lcurly-span)))) (c-seq (c-walk (expect-recoverable′ .expect-recoverable .ensures .0 ask (span-of (s′ .args .lcurly-span)))) c-ret))) (completed 14 (complete2′ .complete2 .ensures .0 _ _)),
+      λ ask. closes-to (c-no (c-act (at-end′ .at-end .ensures .0 (span-of (s′ .args .lcurly-span)) _ _ _)) (if1′ .if1 .left) (c-seq (c-walk (expect′ .expect .ensures .0 ask (span-of (s′ .args .lcurly-span)))) (c-seq (c-walk (expect-recoverable′ .expect-recoverable .ensures .0 ask (span-of (s′ .args .lcurly-span)))) c-ret))) (completed (complete2′ .complete2 .ensures .0 _ _)),
       omega (arith, at-end′ .at-end .ensures .1 .0, expect′ .expect .ensures .1 .0, expect-recoverable′ .expect-recoverable .ensures .1, complete2′ .complete2 .ensures .1 (s′ .args .tokens .now)),
     )
 

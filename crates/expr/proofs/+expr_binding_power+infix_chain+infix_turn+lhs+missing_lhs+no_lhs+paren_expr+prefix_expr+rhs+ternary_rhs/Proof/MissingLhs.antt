@@ -64,6 +64,6 @@ returns t c =
     let new′ = start′ .before .before in
     let error′ = new′ .before .before .before .before .before .before .before in
     let s′ = error′ .before .before .before .before .before .before .before .before in (
-      way (s′ .args .allowed) (c-seq (c-walk (error′ .error .ensures .0 (walk-rule (s′ .args .allowed) (tokens-of (s′ .args .tokens .now))) unlabelled)) (c-seq (c-mark (new′ .new .ensures) (start′ .start .ensures .0 _ _) (c-seq (c-seq (c-act (bump′ .bump .ensures .0 unlabelled _ _)) (c-call (s′ .args .allowed) (expr-binding-power′ .expr-binding-power .ensures .0))) c-ret) (completed 9 (complete′ .complete .ensures .0 _ _))) c-ret)),
+      way (s′ .args .allowed) (c-seq (c-walk (error′ .error .ensures .0 (walk-rule (s′ .args .allowed) (tokens-of (s′ .args .tokens .now))) unlabelled)) (c-seq (c-mark (new′ .new .ensures) (start′ .start .ensures .0 _ _) (c-seq (c-seq (c-act (bump′ .bump .ensures .0 unlabelled _ _)) (c-call (s′ .args .allowed) (expr-binding-power′ .expr-binding-power .ensures .0))) c-ret) (completed (complete′ .complete .ensures .0 _ _))) c-ret)),
       omega (arith, error′ .error .ensures .1, start′ .start .ensures .1 (s′ .args .tokens .now), bump′ .bump .ensures .1, expr-binding-power′ .expr-binding-power .ensures .1 .0, complete′ .complete .ensures .1 (s′ .args .tokens .now)),
     )

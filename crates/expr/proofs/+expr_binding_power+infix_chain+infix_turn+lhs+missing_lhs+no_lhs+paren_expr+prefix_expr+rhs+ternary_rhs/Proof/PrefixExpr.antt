@@ -56,6 +56,6 @@ returns t c =
     let start′ = bump′ .before .before .before .before in
     let new′ = start′ .before .before in
     let s′ = new′ .before .before .before .before .before in (
-      way (s′ .args .allowed) (c-mark (new′ .new .ensures) (start′ .start .ensures .0 _ _) (c-seq (c-act (bump′ .bump .ensures .0 unlabelled _ _)) (c-told (expr-binding-power′ .expr-binding-power .result .yes) (c-call (s′ .args .allowed) (expr-binding-power′ .expr-binding-power .ensures .0)))) (completed 6 (complete′ .complete .ensures .0 _ _))),
+      way (s′ .args .allowed) (c-mark (new′ .new .ensures) (start′ .start .ensures .0 _ _) (c-seq (c-act (bump′ .bump .ensures .0 unlabelled _ _)) (c-told (expr-binding-power′ .expr-binding-power .result .yes) (c-call (s′ .args .allowed) (expr-binding-power′ .expr-binding-power .ensures .0)))) (completed (complete′ .complete .ensures .0 _ _))),
       omega (arith, start′ .start .ensures .1 (s′ .args .tokens .now), bump′ .bump .ensures .1, expr-binding-power′ .expr-binding-power .ensures .1 .0, complete′ .complete .ensures .1 (s′ .args .tokens .now)),
     )

@@ -97,7 +97,7 @@ returns t c =
     let start′ = new2′ .before .before .before in
     let new′ = start′ .before .before in
     let s′ = new′ .before .before .before .before .before in (
-      way (s′ .args .allowed) (c-mark (new′ .new .ensures) (start′ .start .ensures .0 _ _) (c-seq (c-mark (new2′ .new2 .ensures) (start2′ .start2 .ensures .0 _ _) (c-seq (c-seq (c-act (bump′ .bump .ensures .0 unlabelled _ _)) (c-walk (expect′ .expect .ensures .0 (walk-rule (s′ .args .allowed) (tokens-of (s′ .args .tokens .now))) unlabelled))) c-ret) (completed 10 (complete′ .complete .ensures .0 _ _))) (c-yes (c-walk (at′ .at .ensures .0 (walk-rule (s′ .args .allowed) (tokens-of (s′ .args .tokens .now))) unlabelled _ _ _)) (if1′ .if1 .taken) (c-same (s′ .args .allowed)))) (closing (dt-cell-list′ .dt-cell-list .ensures .0))),
+      way (s′ .args .allowed) (c-mark (new′ .new .ensures) (start′ .start .ensures .0 _ _) (c-seq (c-mark (new2′ .new2 .ensures) (start2′ .start2 .ensures .0 _ _) (c-seq (c-seq (c-act (bump′ .bump .ensures .0 unlabelled _ _)) (c-walk (expect′ .expect .ensures .0 (walk-rule (s′ .args .allowed) (tokens-of (s′ .args .tokens .now))) unlabelled))) c-ret) (completed (complete′ .complete .ensures .0 _ _))) (c-yes (c-walk (at′ .at .ensures .0 (walk-rule (s′ .args .allowed) (tokens-of (s′ .args .tokens .now))) unlabelled _ _ _)) (if1′ .if1 .taken) (c-same (s′ .args .allowed)))) (closing (dt-cell-list′ .dt-cell-list .ensures .0))),
       omega (arith, start′ .start .ensures .1 (s′ .args .tokens .now), start2′ .start2 .ensures .1 (s′ .args .tokens .now), bump′ .bump .ensures .1, expect′ .expect .ensures .1 .0, complete′ .complete .ensures .1 (s′ .args .tokens .now), at′ .at .ensures .1 .0, at′ .at .ensures .1 .1 (if1′ .if1 .taken), dt-cell-list′ .dt-cell-list .ensures .1),
     )
 
@@ -149,6 +149,6 @@ returns-2 t c =
     let start′ = new2′ .before .before .before in
     let new′ = start′ .before .before in
     let s′ = new′ .before .before .before .before .before in (
-      way (s′ .args .allowed) (c-mark (new′ .new .ensures) (start′ .start .ensures .0 _ _) (c-seq (c-mark (new2′ .new2 .ensures) (start2′ .start2 .ensures .0 _ _) (c-seq (c-seq (c-act (bump′ .bump .ensures .0 unlabelled _ _)) (c-walk (expect′ .expect .ensures .0 (walk-rule (s′ .args .allowed) (tokens-of (s′ .args .tokens .now))) unlabelled))) c-ret) (completed 10 (complete′ .complete .ensures .0 _ _))) (c-no (c-walk (at′ .at .ensures .0 (walk-rule (s′ .args .allowed) (tokens-of (s′ .args .tokens .now))) unlabelled _ _ _)) (if1′ .if1 .left) (c-seq (c-walk (error′ .error .ensures .0 (walk-rule (s′ .args .allowed) (tokens-of (s′ .args .tokens .now))) unlabelled)) c-ret))) (completed 9 (complete2′ .complete2 .ensures .0 _ _))),
+      way (s′ .args .allowed) (c-mark (new′ .new .ensures) (start′ .start .ensures .0 _ _) (c-seq (c-mark (new2′ .new2 .ensures) (start2′ .start2 .ensures .0 _ _) (c-seq (c-seq (c-act (bump′ .bump .ensures .0 unlabelled _ _)) (c-walk (expect′ .expect .ensures .0 (walk-rule (s′ .args .allowed) (tokens-of (s′ .args .tokens .now))) unlabelled))) c-ret) (completed (complete′ .complete .ensures .0 _ _))) (c-no (c-walk (at′ .at .ensures .0 (walk-rule (s′ .args .allowed) (tokens-of (s′ .args .tokens .now))) unlabelled _ _ _)) (if1′ .if1 .left) (c-seq (c-walk (error′ .error .ensures .0 (walk-rule (s′ .args .allowed) (tokens-of (s′ .args .tokens .now))) unlabelled)) c-ret))) (completed (complete2′ .complete2 .ensures .0 _ _))),
       omega (arith, start′ .start .ensures .1 (s′ .args .tokens .now), start2′ .start2 .ensures .1 (s′ .args .tokens .now), bump′ .bump .ensures .1, expect′ .expect .ensures .1 .0, complete′ .complete .ensures .1 (s′ .args .tokens .now), at′ .at .ensures .1 .0, error′ .error .ensures .1, complete2′ .complete2 .ensures .1 (s′ .args .tokens .now)),
     )

@@ -77,7 +77,7 @@ returns t c =
     let start′ = loop′ .before .before .before in
     let new′ = start′ .before .before in
     let s′ = new′ .before .before .before .before .before in (
-      way (s′ .args .allowed) (c-mark (new′ .new .ensures) (start′ .start .ensures .0 _ _) (c-no {t = false} (c-prog (s′ .args .allowed) (last-no (s′ .args .allowed) (c-yes {t = true} (c-yes (c-walk (at′ .at .ensures .0 (walk-rule (s′ .args .allowed) (tokens-of (s′ .args .tokens .now))) unlabelled _ _ _)) (if1′ .if1 .taken) c-ret) refl c-ret) ∙ loop′ .loop .inv .1 .1 .1 .1)) refl c-ret) (completed 13 (complete′ .complete .ensures .0 _ _))),
+      way (s′ .args .allowed) (c-mark (new′ .new .ensures) (start′ .start .ensures .0 _ _) (c-no {t = false} (c-prog (s′ .args .allowed) (last-no (s′ .args .allowed) (c-yes {t = true} (c-yes (c-walk (at′ .at .ensures .0 (walk-rule (s′ .args .allowed) (tokens-of (s′ .args .tokens .now))) unlabelled _ _ _)) (if1′ .if1 .taken) c-ret) refl c-ret) ∙ loop′ .loop .inv .1 .1 .1 .1)) refl c-ret) (completed (complete′ .complete .ensures .0 _ _))),
       (omega (arith, start′ .start .ensures .1 (s′ .args .tokens .now), loop′ .loop .inv .0, at′ .at .ensures .1 .0, at′ .at .ensures .1 .1 (if1′ .if1 .taken), complete′ .complete .ensures .1 (s′ .args .tokens .now)), λ e. absurd (false≢true e)),
     )
 
@@ -120,7 +120,7 @@ returns-2 t c =
     let start′ = loop′ .before .before .before in
     let new′ = start′ .before .before in
     let s′ = new′ .before .before .before .before .before in (
-      way (s′ .args .allowed) (c-mark (new′ .new .ensures) (start′ .start .ensures .0 _ _) (c-no {t = false} (c-prog (s′ .args .allowed) (last-no (s′ .args .allowed) (c-yes (c-no (c-walk (at′ .at .ensures .0 (walk-rule (s′ .args .allowed) (tokens-of (s′ .args .tokens .now))) unlabelled _ _ _)) (if1′ .if1 .left) (c-act (at-end′ .at-end .ensures .0 unlabelled _ _ _))) (if2′ .if2 .taken) c-ret) ∙ loop′ .loop .inv .1 .1 .1 .1)) refl c-ret) (completed 13 (complete2′ .complete2 .ensures .0 _ _))),
+      way (s′ .args .allowed) (c-mark (new′ .new .ensures) (start′ .start .ensures .0 _ _) (c-no {t = false} (c-prog (s′ .args .allowed) (last-no (s′ .args .allowed) (c-yes (c-no (c-walk (at′ .at .ensures .0 (walk-rule (s′ .args .allowed) (tokens-of (s′ .args .tokens .now))) unlabelled _ _ _)) (if1′ .if1 .left) (c-act (at-end′ .at-end .ensures .0 unlabelled _ _ _))) (if2′ .if2 .taken) c-ret) ∙ loop′ .loop .inv .1 .1 .1 .1)) refl c-ret) (completed (complete2′ .complete2 .ensures .0 _ _))),
       (omega (arith, start′ .start .ensures .1 (s′ .args .tokens .now), loop′ .loop .inv .0, at′ .at .ensures .1 .0, at-end′ .at-end .ensures .1 .0, at-end′ .at-end .ensures .1 .1 .1 (if2′ .if2 .taken), complete2′ .complete2 .ensures .1 (s′ .args .tokens .now)), λ e. absurd (false≢true e)),
     )
 
@@ -168,7 +168,7 @@ returns-3 t c =
     let start′ = loop′ .before .before .before in
     let new′ = start′ .before .before in
     let s′ = new′ .before .before .before .before .before in (
-      way (s′ .args .allowed) (c-mark (new′ .new .ensures) (start′ .start .ensures .0 _ _) (c-yes {t = true} (c-prog (s′ .args .allowed) (last-yes (s′ .args .allowed) (c-no (c-no (c-walk (at′ .at .ensures .0 (walk-rule (s′ .args .allowed) (tokens-of (s′ .args .tokens .now))) unlabelled _ _ _)) (if1′ .if1 .left) (c-act (at-end′ .at-end .ensures .0 unlabelled _ _ _))) (if2′ .if2 .left) (c-yes (c-act (silent-at-set′ .silent-at-set .ensures .0 unlabelled _ _ _)) (if3′ .if3 .taken) c-ret)) ∙ loop′ .loop .inv .1 .1 .1 .1)) refl c-ret) (completed 13 (complete3′ .complete3 .ensures .0 _ _))),
+      way (s′ .args .allowed) (c-mark (new′ .new .ensures) (start′ .start .ensures .0 _ _) (c-yes {t = true} (c-prog (s′ .args .allowed) (last-yes (s′ .args .allowed) (c-no (c-no (c-walk (at′ .at .ensures .0 (walk-rule (s′ .args .allowed) (tokens-of (s′ .args .tokens .now))) unlabelled _ _ _)) (if1′ .if1 .left) (c-act (at-end′ .at-end .ensures .0 unlabelled _ _ _))) (if2′ .if2 .left) (c-yes (c-act (silent-at-set′ .silent-at-set .ensures .0 unlabelled _ _ _)) (if3′ .if3 .taken) c-ret)) ∙ loop′ .loop .inv .1 .1 .1 .1)) refl c-ret) (completed (complete3′ .complete3 .ensures .0 _ _))),
       (omega (arith, start′ .start .ensures .1 (s′ .args .tokens .now), loop′ .loop .inv .0, at′ .at .ensures .1 .0, at-end′ .at-end .ensures .1 .0, at-end′ .at-end .ensures .1 .1 .0 (if2′ .if2 .left), silent-at-set′ .silent-at-set .ensures .1 .0, silent-at-set′ .silent-at-set .ensures .1 .1 (if3′ .if3 .taken), complete3′ .complete3 .ensures .1 (s′ .args .tokens .now)), λ e. omega (arith, start′ .start .ensures .1 (s′ .args .tokens .now), loop′ .loop .inv .0, at′ .at .ensures .1 .0, at-end′ .at-end .ensures .1 .0, at-end′ .at-end .ensures .1 .1 .0 (if2′ .if2 .left), silent-at-set′ .silent-at-set .ensures .1 .0, silent-at-set′ .silent-at-set .ensures .1 .1 (if3′ .if3 .taken), complete3′ .complete3 .ensures .1 (s′ .args .tokens .now))),
     )
 
@@ -266,6 +266,6 @@ returns-4 t c =
     let start′ = loop′ .before .before .before in
     let new′ = start′ .before .before in
     let s′ = new′ .before .before .before .before .before in (
-      way (s′ .args .allowed) (c-mark (new′ .new .ensures) (start′ .start .ensures .0 _ _) (c-no {t = false} (c-prog (s′ .args .allowed) (last-no (s′ .args .allowed) (c-no (c-no (c-walk (at′ .at .ensures .0 (walk-rule (s′ .args .allowed) (tokens-of (s′ .args .tokens .now))) unlabelled _ _ _)) (if1′ .if1 .left) (c-act (at-end′ .at-end .ensures .0 unlabelled _ _ _))) (if2′ .if2 .left) (c-no (c-act (silent-at-set′ .silent-at-set .ensures .0 unlabelled _ _ _)) (if3′ .if3 .left) (c-no (c-fn (s′ .args .allowed) (eat-inside′ .eat-inside .ensures .0)) (if4′ .if4 .left) c-ret))) ∙ loop′ .loop .inv .1 .1 .1 .1)) refl c-ret) (completed 13 (complete4′ .complete4 .ensures .0 _ _))),
+      way (s′ .args .allowed) (c-mark (new′ .new .ensures) (start′ .start .ensures .0 _ _) (c-no {t = false} (c-prog (s′ .args .allowed) (last-no (s′ .args .allowed) (c-no (c-no (c-walk (at′ .at .ensures .0 (walk-rule (s′ .args .allowed) (tokens-of (s′ .args .tokens .now))) unlabelled _ _ _)) (if1′ .if1 .left) (c-act (at-end′ .at-end .ensures .0 unlabelled _ _ _))) (if2′ .if2 .left) (c-no (c-act (silent-at-set′ .silent-at-set .ensures .0 unlabelled _ _ _)) (if3′ .if3 .left) (c-no (c-fn (s′ .args .allowed) (eat-inside′ .eat-inside .ensures .0)) (if4′ .if4 .left) c-ret))) ∙ loop′ .loop .inv .1 .1 .1 .1)) refl c-ret) (completed (complete4′ .complete4 .ensures .0 _ _))),
       (omega (arith, start′ .start .ensures .1 (s′ .args .tokens .now), loop′ .loop .inv .0, at′ .at .ensures .1 .0, at-end′ .at-end .ensures .1 .0, at-end′ .at-end .ensures .1 .1 .0 (if2′ .if2 .left), silent-at-set′ .silent-at-set .ensures .1 .0, eat-inside′ .eat-inside .ensures .1 .0, complete4′ .complete4 .ensures .1 (s′ .args .tokens .now)), λ e. absurd (false≢true e)),
     )

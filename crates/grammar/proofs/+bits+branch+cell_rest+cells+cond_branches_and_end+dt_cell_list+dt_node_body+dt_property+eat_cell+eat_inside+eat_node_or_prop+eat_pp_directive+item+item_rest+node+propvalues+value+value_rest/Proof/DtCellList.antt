@@ -61,7 +61,7 @@ returns t c =
     let cells′ = if1′ .before .before .before .before .before .before .before in
     let bump′ = cells′ .before .before .before .before .before .before in
     let s′ = bump′ .before .before .before .before .before .before in (
-      closes (s′ .args .allowed) (c-seq (c-act (bump′ .bump .ensures .0 unlabelled _ _)) (c-yes (c-fn (s′ .args .allowed) (cells′ .cells .ensures .0)) (if1′ .if1 .taken) (c-seq (c-walk (expect′ .expect .ensures .0 (walk-rule (s′ .args .allowed) (tokens-of (s′ .args .tokens .now))) unlabelled)) c-ret))) (completed 16 (complete′ .complete .ensures .0 _ _)),
+      closes (s′ .args .allowed) (c-seq (c-act (bump′ .bump .ensures .0 unlabelled _ _)) (c-yes (c-fn (s′ .args .allowed) (cells′ .cells .ensures .0)) (if1′ .if1 .taken) (c-seq (c-walk (expect′ .expect .ensures .0 (walk-rule (s′ .args .allowed) (tokens-of (s′ .args .tokens .now))) unlabelled)) c-ret))) (completed (complete′ .complete .ensures .0 _ _)),
       omega (arith, bump′ .bump .ensures .1, cells′ .cells .ensures .1, expect′ .expect .ensures .1 .0, complete′ .complete .ensures .1 (s′ .args .tokens .now)),
     )
 
@@ -94,6 +94,6 @@ returns-2 t c =
     let cells′ = if1′ .before .before .before .before .before .before .before in
     let bump′ = cells′ .before .before .before .before .before .before in
     let s′ = bump′ .before .before .before .before .before .before in (
-      closes (s′ .args .allowed) (c-seq (c-act (bump′ .bump .ensures .0 unlabelled _ _)) (c-no (c-fn (s′ .args .allowed) (cells′ .cells .ensures .0)) (if1′ .if1 .left) c-ret)) (completed 9 (complete2′ .complete2 .ensures .0 _ _)),
+      closes (s′ .args .allowed) (c-seq (c-act (bump′ .bump .ensures .0 unlabelled _ _)) (c-no (c-fn (s′ .args .allowed) (cells′ .cells .ensures .0)) (if1′ .if1 .left) c-ret)) (completed (complete2′ .complete2 .ensures .0 _ _)),
       omega (arith, bump′ .bump .ensures .1, cells′ .cells .ensures .1, complete2′ .complete2 .ensures .1 (s′ .args .tokens .now)),
     )

@@ -30,7 +30,7 @@ returns t c =
     let if1′ = complete′ .before .before in
     let eat′ = if1′ .before .before .before in
     let s′ = eat′ .before .before .before .before .before .before in (
-      closes (s′ .args .allowed) (c-yes (c-walk (eat′ .eat .ensures .0 (walk-rule (s′ .args .allowed) (tokens-of (s′ .args .tokens .now))) unlabelled _ _)) (if1′ .if1 .taken) c-ret) (completed 15 (complete′ .complete .ensures .0 _ _)),
+      closes (s′ .args .allowed) (c-yes (c-walk (eat′ .eat .ensures .0 (walk-rule (s′ .args .allowed) (tokens-of (s′ .args .tokens .now))) unlabelled _ _)) (if1′ .if1 .taken) c-ret) (completed (complete′ .complete .ensures .0 _ _)),
       omega (arith, eat′ .eat .ensures .1 .0, eat′ .eat .ensures .1 .1 (if1′ .if1 .taken), complete′ .complete .ensures .1 (s′ .args .tokens .now)),
     )
 
@@ -113,7 +113,7 @@ returns-2 t c =
     let if1′ = bump′ .before .before in
     let eat′ = if1′ .before .before .before in
     let s′ = eat′ .before .before .before .before .before .before in (
-      closes (s′ .args .allowed) (c-no (c-walk (eat′ .eat .ensures .0 (walk-rule (s′ .args .allowed) (tokens-of (s′ .args .tokens .now))) unlabelled _ _)) (if1′ .if1 .left) (c-seq (c-act (bump′ .bump .ensures .0 unlabelled _ _)) (c-yes (c-mark (new′ .new .ensures) (start′ .start .ensures .0 _ _) (c-told (propvalues′ .propvalues .result .yes) (c-call (s′ .args .allowed) (propvalues′ .propvalues .ensures .0))) (completed 19 (complete2′ .complete2 .ensures .0 _ _))) (if2′ .if2 .taken) (c-seq (c-walk (expect-recoverable′ .expect-recoverable .ensures .0 (walk-rule (s′ .args .allowed) (tokens-of (s′ .args .tokens .now))) unlabelled)) c-ret)))) (completed 15 (complete3′ .complete3 .ensures .0 _ _)),
+      closes (s′ .args .allowed) (c-no (c-walk (eat′ .eat .ensures .0 (walk-rule (s′ .args .allowed) (tokens-of (s′ .args .tokens .now))) unlabelled _ _)) (if1′ .if1 .left) (c-seq (c-act (bump′ .bump .ensures .0 unlabelled _ _)) (c-yes (c-mark (new′ .new .ensures) (start′ .start .ensures .0 _ _) (c-told (propvalues′ .propvalues .result .yes) (c-call (s′ .args .allowed) (propvalues′ .propvalues .ensures .0))) (completed (complete2′ .complete2 .ensures .0 _ _))) (if2′ .if2 .taken) (c-seq (c-walk (expect-recoverable′ .expect-recoverable .ensures .0 (walk-rule (s′ .args .allowed) (tokens-of (s′ .args .tokens .now))) unlabelled)) c-ret)))) (completed (complete3′ .complete3 .ensures .0 _ _)),
       omega (arith, eat′ .eat .ensures .1 .0, bump′ .bump .ensures .1, start′ .start .ensures .1 (s′ .args .tokens .now), propvalues′ .propvalues .ensures .1, complete2′ .complete2 .ensures .1 (s′ .args .tokens .now), expect-recoverable′ .expect-recoverable .ensures .1, complete3′ .complete3 .ensures .1 (s′ .args .tokens .now)),
     )
 
@@ -160,6 +160,6 @@ returns-3 t c =
     let if1′ = bump′ .before .before in
     let eat′ = if1′ .before .before .before in
     let s′ = eat′ .before .before .before .before .before .before in (
-      closes (s′ .args .allowed) (c-no (c-walk (eat′ .eat .ensures .0 (walk-rule (s′ .args .allowed) (tokens-of (s′ .args .tokens .now))) unlabelled _ _)) (if1′ .if1 .left) (c-seq (c-act (bump′ .bump .ensures .0 unlabelled _ _)) (c-no (c-mark (new′ .new .ensures) (start′ .start .ensures .0 _ _) (c-told (propvalues′ .propvalues .result .yes) (c-call (s′ .args .allowed) (propvalues′ .propvalues .ensures .0))) (completed 19 (complete2′ .complete2 .ensures .0 _ _))) (if2′ .if2 .left) c-ret))) (completed 9 (complete4′ .complete4 .ensures .0 _ _)),
+      closes (s′ .args .allowed) (c-no (c-walk (eat′ .eat .ensures .0 (walk-rule (s′ .args .allowed) (tokens-of (s′ .args .tokens .now))) unlabelled _ _)) (if1′ .if1 .left) (c-seq (c-act (bump′ .bump .ensures .0 unlabelled _ _)) (c-no (c-mark (new′ .new .ensures) (start′ .start .ensures .0 _ _) (c-told (propvalues′ .propvalues .result .yes) (c-call (s′ .args .allowed) (propvalues′ .propvalues .ensures .0))) (completed (complete2′ .complete2 .ensures .0 _ _))) (if2′ .if2 .left) c-ret))) (completed (complete4′ .complete4 .ensures .0 _ _)),
       omega (arith, eat′ .eat .ensures .1 .0, bump′ .bump .ensures .1, start′ .start .ensures .1 (s′ .args .tokens .now), propvalues′ .propvalues .ensures .1, complete2′ .complete2 .ensures .1 (s′ .args .tokens .now), complete4′ .complete4 .ensures .1 (s′ .args .tokens .now)),
     )

@@ -92,7 +92,7 @@ returns t c =
     let silent-at-set′ = if1′ .before in
     let add-expected′ = silent-at-set′ .before .before in
     let s′ = add-expected′ .before .before .before .before .before in (
-      way (s′ .args .allowed) (c-seq (c-act (add-expected′ .add-expected .ensures .0 (tokens-of (s′ .args .tokens .now)) unlabelled _ _ _)) (c-no {t = false} (c-yes (c-act (silent-at-set′ .silent-at-set .ensures .0 unlabelled _ _ _)) (if1′ .if1 .taken) c-ret) refl (c-yes (c-act (silent-at-set2′ .silent-at-set2 .ensures .0 unlabelled _ _ _)) (if2′ .if2 .taken) (c-seq (c-mark (new′ .new .ensures) (start′ .start .ensures .0 _ _) (c-assoc (c-seq (c-act (bump′ .bump .ensures .0 unlabelled _ _)) (c-prog-on (s′ .args .allowed) (cond-branches-and-end′ .cond-branches-and-end .ensures .0) c-ret))) (completed 12 (complete′ .complete .ensures .0 _ _))) c-ret)))),
+      way (s′ .args .allowed) (c-seq (c-act (add-expected′ .add-expected .ensures .0 (tokens-of (s′ .args .tokens .now)) unlabelled _ _ _)) (c-no {t = false} (c-yes (c-act (silent-at-set′ .silent-at-set .ensures .0 unlabelled _ _ _)) (if1′ .if1 .taken) c-ret) refl (c-yes (c-act (silent-at-set2′ .silent-at-set2 .ensures .0 unlabelled _ _ _)) (if2′ .if2 .taken) (c-seq (c-mark (new′ .new .ensures) (start′ .start .ensures .0 _ _) (c-assoc (c-seq (c-act (bump′ .bump .ensures .0 unlabelled _ _)) (c-prog-on (s′ .args .allowed) (cond-branches-and-end′ .cond-branches-and-end .ensures .0) c-ret))) (completed (complete′ .complete .ensures .0 _ _))) c-ret)))),
       (omega (arith, add-expected′ .add-expected .ensures .1 (s′ .args .tokens .now), silent-at-set′ .silent-at-set .ensures .1 .0, silent-at-set′ .silent-at-set .ensures .1 .1 (if1′ .if1 .taken), silent-at-set2′ .silent-at-set2 .ensures .1 .0, silent-at-set2′ .silent-at-set2 .ensures .1 .1 (if2′ .if2 .taken), start′ .start .ensures .1 (s′ .args .tokens .now), bump′ .bump .ensures .1, cond-branches-and-end′ .cond-branches-and-end .ensures .1, complete′ .complete .ensures .1 (s′ .args .tokens .now)), λ e. omega (arith, add-expected′ .add-expected .ensures .1 (s′ .args .tokens .now), silent-at-set′ .silent-at-set .ensures .1 .0, silent-at-set′ .silent-at-set .ensures .1 .1 (if1′ .if1 .taken), silent-at-set2′ .silent-at-set2 .ensures .1 .0, silent-at-set2′ .silent-at-set2 .ensures .1 .1 (if2′ .if2 .taken), start′ .start .ensures .1 (s′ .args .tokens .now), bump′ .bump .ensures .1, cond-branches-and-end′ .cond-branches-and-end .ensures .1, complete′ .complete .ensures .1 (s′ .args .tokens .now))),
     )
 

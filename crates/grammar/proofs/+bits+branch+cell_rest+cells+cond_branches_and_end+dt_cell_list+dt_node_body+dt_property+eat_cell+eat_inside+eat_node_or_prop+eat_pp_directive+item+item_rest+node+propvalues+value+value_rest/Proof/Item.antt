@@ -151,7 +151,7 @@ returns-3 t c =
     let eat-node-or-prop′ = if2′ .before .before .before .before .before .before .before in
     let if1′ = eat-node-or-prop′ .before .before .before .before in
     let s′ = if1′ .before .before .before .before .before in (
-      ap (λ (w : Walked). w .on) (way (s′ .args .allowed - 1) (c-no (c-fn (s′ .args .allowed - 1) (eat-node-or-prop′ .eat-node-or-prop .ensures .0)) (if2′ .if2 .left) (c-yes (c-act (silent-at′ .silent-at .ensures .0 unlabelled _ _ _)) (if3′ .if3 .taken) (c-mark (new′ .new .ensures) (start′ .start .ensures .0 _ _) (c-seq (c-seq (c-walk (error′ .error .ensures .0 (walk-rule (s′ .args .allowed - 1) (tokens-of (s′ .args .tokens .now))) unlabelled)) (c-mark (new2′ .new2 .ensures) (start2′ .start2 .ensures .0 _ _) (c-same (s′ .args .allowed - 1)) (closing (dt-property′ .dt-property .ensures .0)))) c-ret) (completed 9 (complete′ .complete .ensures .0 _ _))))) ∙ rule-body (s′ .args .allowed) (tokens-of (s′ .args .tokens .now)) item _ (omega (arith, eqb-false (s′ .args .allowed) 0 (if1′ .if1 .left)))),
+      ap (λ (w : Walked). w .on) (way (s′ .args .allowed - 1) (c-no (c-fn (s′ .args .allowed - 1) (eat-node-or-prop′ .eat-node-or-prop .ensures .0)) (if2′ .if2 .left) (c-yes (c-act (silent-at′ .silent-at .ensures .0 unlabelled _ _ _)) (if3′ .if3 .taken) (c-mark (new′ .new .ensures) (start′ .start .ensures .0 _ _) (c-seq (c-seq (c-walk (error′ .error .ensures .0 (walk-rule (s′ .args .allowed - 1) (tokens-of (s′ .args .tokens .now))) unlabelled)) (c-mark (new2′ .new2 .ensures) (start2′ .start2 .ensures .0 _ _) (c-same (s′ .args .allowed - 1)) (closing (dt-property′ .dt-property .ensures .0)))) c-ret) (completed (complete′ .complete .ensures .0 _ _))))) ∙ rule-body (s′ .args .allowed) (tokens-of (s′ .args .tokens .now)) item _ (omega (arith, eqb-false (s′ .args .allowed) 0 (if1′ .if1 .left)))),
       omega (arith, eat-node-or-prop′ .eat-node-or-prop .ensures .1 .0, silent-at′ .silent-at .ensures .1 .0, silent-at′ .silent-at .ensures .1 .1 (if3′ .if3 .taken), start′ .start .ensures .1 (s′ .args .tokens .now), error′ .error .ensures .1, start2′ .start2 .ensures .1 (s′ .args .tokens .now), dt-property′ .dt-property .ensures .1, complete′ .complete .ensures .1 (s′ .args .tokens .now), eqb-false (s′ .args .allowed) 0 (if1′ .if1 .left)),
     )
 
@@ -243,7 +243,7 @@ returns-4 t c =
     let eat-node-or-prop′ = if2′ .before .before .before .before .before .before .before in
     let if1′ = eat-node-or-prop′ .before .before .before .before in
     let s′ = if1′ .before .before .before .before .before in (
-      ap (λ (w : Walked). w .on) (way (s′ .args .allowed - 1) (c-no (c-fn (s′ .args .allowed - 1) (eat-node-or-prop′ .eat-node-or-prop .ensures .0)) (if2′ .if2 .left) (c-no (c-act (silent-at′ .silent-at .ensures .0 unlabelled _ _ _)) (if3′ .if3 .left) (c-yes (c-act (silent-at2′ .silent-at2 .ensures .0 unlabelled _ _ _)) (if4′ .if4 .taken) (c-mark (new3′ .new3 .ensures) (start3′ .start3 .ensures .0 _ _) (c-seq (c-seq (c-walk (error2′ .error2 .ensures .0 (walk-rule (s′ .args .allowed - 1) (tokens-of (s′ .args .tokens .now))) unlabelled)) (c-mark (new4′ .new4 .ensures) (start4′ .start4 .ensures .0 _ _) (c-same (s′ .args .allowed - 1)) (closing (dt-node-body′ .dt-node-body .ensures .0)))) c-ret) (completed 9 (complete2′ .complete2 .ensures .0 _ _)))))) ∙ rule-body (s′ .args .allowed) (tokens-of (s′ .args .tokens .now)) item _ (omega (arith, eqb-false (s′ .args .allowed) 0 (if1′ .if1 .left)))),
+      ap (λ (w : Walked). w .on) (way (s′ .args .allowed - 1) (c-no (c-fn (s′ .args .allowed - 1) (eat-node-or-prop′ .eat-node-or-prop .ensures .0)) (if2′ .if2 .left) (c-no (c-act (silent-at′ .silent-at .ensures .0 unlabelled _ _ _)) (if3′ .if3 .left) (c-yes (c-act (silent-at2′ .silent-at2 .ensures .0 unlabelled _ _ _)) (if4′ .if4 .taken) (c-mark (new3′ .new3 .ensures) (start3′ .start3 .ensures .0 _ _) (c-seq (c-seq (c-walk (error2′ .error2 .ensures .0 (walk-rule (s′ .args .allowed - 1) (tokens-of (s′ .args .tokens .now))) unlabelled)) (c-mark (new4′ .new4 .ensures) (start4′ .start4 .ensures .0 _ _) (c-same (s′ .args .allowed - 1)) (closing (dt-node-body′ .dt-node-body .ensures .0)))) c-ret) (completed (complete2′ .complete2 .ensures .0 _ _)))))) ∙ rule-body (s′ .args .allowed) (tokens-of (s′ .args .tokens .now)) item _ (omega (arith, eqb-false (s′ .args .allowed) 0 (if1′ .if1 .left)))),
       omega (arith, eat-node-or-prop′ .eat-node-or-prop .ensures .1 .0, silent-at′ .silent-at .ensures .1 .0, silent-at2′ .silent-at2 .ensures .1 .0, silent-at2′ .silent-at2 .ensures .1 .1 (if4′ .if4 .taken), start3′ .start3 .ensures .1 (s′ .args .tokens .now), error2′ .error2 .ensures .1, start4′ .start4 .ensures .1 (s′ .args .tokens .now), dt-node-body′ .dt-node-body .ensures .1, complete2′ .complete2 .ensures .1 (s′ .args .tokens .now), eqb-false (s′ .args .allowed) 0 (if1′ .if1 .left)),
     )
 

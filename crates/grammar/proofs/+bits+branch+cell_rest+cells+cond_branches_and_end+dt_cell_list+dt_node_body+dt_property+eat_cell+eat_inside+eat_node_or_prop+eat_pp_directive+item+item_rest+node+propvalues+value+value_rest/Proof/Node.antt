@@ -85,7 +85,7 @@ returns-2 t c =
     let if1′ = silent-at′ .before in
     let at′ = if1′ .before in
     let s′ = at′ .before .before .before .before .before in (
-      closes (s′ .args .allowed) (c-no (c-walk (at′ .at .ensures .0 (walk-rule (s′ .args .allowed) (tokens-of (s′ .args .tokens .now))) unlabelled _ _ _)) (if1′ .if1 .left) (c-yes (c-act (silent-at′ .silent-at .ensures .0 unlabelled _ _ _)) (if2′ .if2 .taken) (c-seq (c-walk (error′ .error .ensures .0 (walk-rule (s′ .args .allowed) (tokens-of (s′ .args .tokens .now))) unlabelled)) c-ret))) (completed 9 (complete′ .complete .ensures .0 _ _)),
+      closes (s′ .args .allowed) (c-no (c-walk (at′ .at .ensures .0 (walk-rule (s′ .args .allowed) (tokens-of (s′ .args .tokens .now))) unlabelled _ _ _)) (if1′ .if1 .left) (c-yes (c-act (silent-at′ .silent-at .ensures .0 unlabelled _ _ _)) (if2′ .if2 .taken) (c-seq (c-walk (error′ .error .ensures .0 (walk-rule (s′ .args .allowed) (tokens-of (s′ .args .tokens .now))) unlabelled)) c-ret))) (completed (complete′ .complete .ensures .0 _ _)),
       omega (arith, at′ .at .ensures .1 .0, silent-at′ .silent-at .ensures .1 .0, silent-at′ .silent-at .ensures .1 .1 (if2′ .if2 .taken), error′ .error .ensures .1, complete′ .complete .ensures .1 (s′ .args .tokens .now)),
     )
 
@@ -153,7 +153,7 @@ returns-3 t c =
     let if1′ = silent-at′ .before in
     let at′ = if1′ .before in
     let s′ = at′ .before .before .before .before .before in (
-      closes (s′ .args .allowed) (c-no (c-walk (at′ .at .ensures .0 (walk-rule (s′ .args .allowed) (tokens-of (s′ .args .tokens .now))) unlabelled _ _ _)) (if1′ .if1 .left) (c-no (c-act (silent-at′ .silent-at .ensures .0 unlabelled _ _ _)) (if2′ .if2 .left) (c-yes (c-walk (forbidden-property′ .forbidden-property .ensures .0 (walk-rule (s′ .args .allowed) (tokens-of (s′ .args .tokens .now))) unlabelled _ _ _)) (if3′ .if3 .taken) (c-seq (c-walk (error2′ .error2 .ensures .0 (walk-rule (s′ .args .allowed) (tokens-of (s′ .args .tokens .now))) unlabelled)) (c-seq (c-mark (new′ .new .ensures) (start′ .start .ensures .0 _ _) (c-same (s′ .args .allowed)) (closing (dt-property′ .dt-property .ensures .0))) c-ret))))) (completed 9 (complete2′ .complete2 .ensures .0 _ _)),
+      closes (s′ .args .allowed) (c-no (c-walk (at′ .at .ensures .0 (walk-rule (s′ .args .allowed) (tokens-of (s′ .args .tokens .now))) unlabelled _ _ _)) (if1′ .if1 .left) (c-no (c-act (silent-at′ .silent-at .ensures .0 unlabelled _ _ _)) (if2′ .if2 .left) (c-yes (c-walk (forbidden-property′ .forbidden-property .ensures .0 (walk-rule (s′ .args .allowed) (tokens-of (s′ .args .tokens .now))) unlabelled _ _ _)) (if3′ .if3 .taken) (c-seq (c-walk (error2′ .error2 .ensures .0 (walk-rule (s′ .args .allowed) (tokens-of (s′ .args .tokens .now))) unlabelled)) (c-seq (c-mark (new′ .new .ensures) (start′ .start .ensures .0 _ _) (c-same (s′ .args .allowed)) (closing (dt-property′ .dt-property .ensures .0))) c-ret))))) (completed (complete2′ .complete2 .ensures .0 _ _)),
       omega (arith, at′ .at .ensures .1 .0, silent-at′ .silent-at .ensures .1 .0, forbidden-property′ .forbidden-property .ensures .1, error2′ .error2 .ensures .1, start′ .start .ensures .1 (s′ .args .tokens .now), dt-property′ .dt-property .ensures .1, complete2′ .complete2 .ensures .1 (s′ .args .tokens .now)),
     )
 

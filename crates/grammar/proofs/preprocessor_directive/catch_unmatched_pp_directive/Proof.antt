@@ -108,7 +108,7 @@ returns-2 c =
     let m = l .before .before in
     let n = m .before in
     let s = n .before .before .before .before .before in
-    (way (s .args .allowed) (c-no (c-act (n .silent-at .ensures .0 unlabelled _ _ _)) (m .if1 .left) (c-yes (c-act (l .silent-at-set .ensures .0 unlabelled _ _ _)) (j .if2 .taken) (c-seq (c-walk (i .error2 .ensures .0 (walk-rule (s .args .allowed) (tokens-of (s .args .tokens .now))) unlabelled)) (c-seq (c-mark (g .new .ensures) (f .start .ensures .0 _ _) (c-assoc (c-seq (c-act (e .bump .ensures .0 unlabelled _ _)) (c-prog-on (s .args .allowed) (d .cond-branches-and-end .ensures .0) c-ret))) (completed 9 (a .complete .ensures .0 _ _))) c-ret)))), (omega (arith, n .silent-at .ensures .1 .0, l .silent-at-set .ensures .1 .0, l .silent-at-set .ensures .1 .1 (j .if2 .taken), i .error2 .ensures .1, f .start .ensures .1 (s .args .tokens .now), e .bump .ensures .1, d .cond-branches-and-end .ensures .1, a .complete .ensures .1 (s .args .tokens .now)), λ h. omega (arith, n .silent-at .ensures .1 .0, l .silent-at-set .ensures .1 .0, l .silent-at-set .ensures .1 .1 (j .if2 .taken), i .error2 .ensures .1, f .start .ensures .1 (s .args .tokens .now), e .bump .ensures .1, d .cond-branches-and-end .ensures .1, a .complete .ensures .1 (s .args .tokens .now))))
+    (way (s .args .allowed) (c-no (c-act (n .silent-at .ensures .0 unlabelled _ _ _)) (m .if1 .left) (c-yes (c-act (l .silent-at-set .ensures .0 unlabelled _ _ _)) (j .if2 .taken) (c-seq (c-walk (i .error2 .ensures .0 (walk-rule (s .args .allowed) (tokens-of (s .args .tokens .now))) unlabelled)) (c-seq (c-mark (g .new .ensures) (f .start .ensures .0 _ _) (c-assoc (c-seq (c-act (e .bump .ensures .0 unlabelled _ _)) (c-prog-on (s .args .allowed) (d .cond-branches-and-end .ensures .0) c-ret))) (completed (a .complete .ensures .0 _ _))) c-ret)))), (omega (arith, n .silent-at .ensures .1 .0, l .silent-at-set .ensures .1 .0, l .silent-at-set .ensures .1 .1 (j .if2 .taken), i .error2 .ensures .1, f .start .ensures .1 (s .args .tokens .now), e .bump .ensures .1, d .cond-branches-and-end .ensures .1, a .complete .ensures .1 (s .args .tokens .now)), λ h. omega (arith, n .silent-at .ensures .1 .0, l .silent-at-set .ensures .1 .0, l .silent-at-set .ensures .1 .1 (j .if2 .taken), i .error2 .ensures .1, f .start .ensures .1 (s .args .tokens .now), e .bump .ensures .1, d .cond-branches-and-end .ensures .1, a .complete .ensures .1 (s .args .tokens .now))))
 
 returns-3 : tie.Need-returns-3
 unfolding catch-unmatched-pp-directive silent

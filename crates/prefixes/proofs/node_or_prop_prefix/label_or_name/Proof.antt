@@ -57,7 +57,7 @@ returns c =
     let g = f .before .before .before .before .before .before .before in
     let i = g .before .before in
     let s = i .before .before .before .before .before in
-    (λ ask b. (c-mark (i .new .ensures) (g .start .ensures .0 _ _ _) (c-seq (c-walk (f .consume .ensures .0 ask b)) (c-yes (c-walk (e .eat .ensures .0 ask b _ _)) (d .if1 .taken) c-ret)) (completed 18 (a .complete .ensures .0 _ _ _))) .is, omega (arith, g .start .ensures .1 (s .args .tokens .now), f .consume .ensures .1, e .eat .ensures .1 .0, e .eat .ensures .1 .1 (d .if1 .taken), a .complete .ensures .1 (s .args .tokens .now)))
+    (λ ask b. (c-mark (i .new .ensures) (g .start .ensures .0 _ _ _) (c-seq (c-walk (f .consume .ensures .0 ask b)) (c-yes (c-walk (e .eat .ensures .0 ask b _ _)) (d .if1 .taken) c-ret)) (completed (a .complete .ensures .0 _ _ _))) .is, omega (arith, g .start .ensures .1 (s .args .tokens .now), f .consume .ensures .1, e .eat .ensures .1 .0, e .eat .ensures .1 .1 (d .if1 .taken), a .complete .ensures .1 (s .args .tokens .now)))
 
 eat-unit-address-and-at-colon-requires : tie.Need-eat-unit-address-and-at-colon-requires
 eat-unit-address-and-at-colon-requires c κs = tt
@@ -111,7 +111,7 @@ returns-2 c =
     let l = j .before .before .before .before .before .before .before in
     let m = l .before .before in
     let s = m .before .before .before .before .before in
-    (λ ask b. (c-mark (m .new .ensures) (l .start .ensures .0 _ _ _) (c-seq (c-walk (j .consume .ensures .0 ask b)) (c-no (c-walk (i .eat .ensures .0 ask b _ _)) (g .if1 .left) (c-yes (c-walk (f .eat-unit-address-and-at-colon .ensures .0 ask b)) (e .if2 .taken) (c-seq (c-walk (d .error .ensures .0 ask b)) c-ret)))) (completed 9 (a .complete2 .ensures .0 _ _ _))) .is, omega (arith, l .start .ensures .1 (s .args .tokens .now), j .consume .ensures .1, i .eat .ensures .1 .0, f .eat-unit-address-and-at-colon .ensures .1, d .error .ensures .1, a .complete2 .ensures .1 (s .args .tokens .now)))
+    (λ ask b. (c-mark (m .new .ensures) (l .start .ensures .0 _ _ _) (c-seq (c-walk (j .consume .ensures .0 ask b)) (c-no (c-walk (i .eat .ensures .0 ask b _ _)) (g .if1 .left) (c-yes (c-walk (f .eat-unit-address-and-at-colon .ensures .0 ask b)) (e .if2 .taken) (c-seq (c-walk (d .error .ensures .0 ask b)) c-ret)))) (completed (a .complete2 .ensures .0 _ _ _))) .is, omega (arith, l .start .ensures .1 (s .args .tokens .now), j .consume .ensures .1, i .eat .ensures .1 .0, f .eat-unit-address-and-at-colon .ensures .1, d .error .ensures .1, a .complete2 .ensures .1 (s .args .tokens .now)))
 
 ignore-requires : tie.Need-ignore-requires
 ignore-requires c κs = tt
