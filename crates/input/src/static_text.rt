@@ -75,10 +75,11 @@ pub const TEXT_STARTS: [u8; 62] = [
     127,
 ];
 
-fn wide(x: u8) -> usize
-    ensures { λ r. ⌜ r ≡ x ⌝ }
+// A number of TEXT_STARTS as an index of TEXTS.
+fn text_index(start: u8) -> usize
+    ensures { λ r. ⌜ r ≡ start ⌝ }
 {
-    x as usize
+    start as usize
 }
 
 // Whether a token of this kind may have these bytes.
@@ -89,8 +90,8 @@ pub fn is_spelled(kind: u32, text: &[u8]) -> bool
     if known {
         let k = kind as usize;
         let starts = TEXT_STARTS;
-        let start = wide(starts[k]);
-        let end = wide(starts[k + 1]);
+        let start = text_index(starts[k]);
+        let end = text_index(starts[k + 1]);
         let free = start == end;
         if free {
             true

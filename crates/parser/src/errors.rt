@@ -56,10 +56,11 @@ pub fn no_label() -> TextRange
     }
 }
 
-fn wide(x: u8) -> u32
-    ensures { λ r. ⌜ r ≡ x ⌝ }
+// A code as a number of the pool.
+fn pool_number(code: u8) -> u32
+    ensures { λ r. ⌜ r ≡ code ⌝ }
 {
-    x as u32
+    code as u32
 }
 
 // Whether the first n codes are exactly [Semicolon], [Comma] or [Comma, Semicolon].
@@ -108,7 +109,7 @@ fn put_codes(codes: &[u8], pool: &mut [u32], first: usize, n: usize)
 {
     let mut i: usize = 0;
     while i < n {
-        pool[first + i] = wide(codes[i]);
+        pool[first + i] = pool_number(codes[i]);
         i += 1;
     }
 }

@@ -9,40 +9,40 @@ use Rattle.input.proofs.static_text.is_spelled.Tie as tie
 use Rattle.input.proofs.static_text.is_spelled.Reads as reads
 use Rattle.input.proofs.static_text.is_spelled.Lts as lts
 use Rattle.check.proofs.same.Reads as same-reads
-use Rattle.input.proofs.static_text.wide.Reads as wide-reads
+use Rattle.input.proofs.static_text.text_index.Reads as text-index-reads
 
-array-read-wide : tie.Need-array-read-wide
-array-read-wide c = omega flags
+array-read-text-index : tie.Need-array-read-text-index
+array-read-text-index c = omega flags
 
-wide-requires : tie.Need-wide-requires
-wide-requires c κs = search needs
+text-index-requires : tie.Need-text-index-requires
+text-index-requires c κs = search needs
 
-add-wide : tie.Need-add-wide
-add-wide c = search needs
+add-text-index : tie.Need-add-text-index
+add-text-index c = search needs
 
-array-read-wide-2 : tie.Need-array-read-wide-2
-array-read-wide-2 c = omega flags
+array-read-text-index-2 : tie.Need-array-read-text-index-2
+array-read-text-index-2 c = omega flags
 
-wide-requires-2 : tie.Need-wide-requires-2
-wide-requires-2 c κs = search needs
+text-index-requires-2 : tie.Need-text-index-requires-2
+text-index-requires-2 c κs = search needs
 
 sub-same : tie.Need-sub-same
-sub-same c = omega (arith, rule (c .before .before .before .before .before .args .kind) (omega flags) .ordered, c .before .before .wide .ensures, c .before .wide2 .ensures)
+sub-same c = omega (arith, rule (c .before .before .before .before .before .args .kind) (omega flags) .ordered, c .before .before .text-index .ensures, c .before .text-index2 .ensures)
 
 part-same-start : tie.Need-part-same-start
-part-same-start c = omega (arith, rule (c .before .before .before .before .before .before .args .kind) (omega flags) .ordered, c .before .before .before .wide .ensures, c .before .before .wide2 .ensures)
+part-same-start c = omega (arith, rule (c .before .before .before .before .before .before .args .kind) (omega flags) .ordered, c .before .before .before .text-index .ensures, c .before .before .text-index2 .ensures)
 
 part-same-end : tie.Need-part-same-end
-part-same-end c = omega (arith, rule (c .before .before .before .before .before .before .args .kind) (omega flags) .inside, c .before .before .before .wide .ensures, c .before .before .wide2 .ensures)
+part-same-end c = omega (arith, rule (c .before .before .before .before .before .before .args .kind) (omega flags) .inside, c .before .before .before .text-index .ensures, c .before .before .text-index2 .ensures)
 
 same-requires : tie.Need-same-requires
 same-requires c κs = search needs
 
 returns : tie.Need-returns
-returns c = spelled-free _ _ _ _ (omega flags) (c .before .before .wide .ensures) (c .before .wide2 .ensures) (c .if2 .taken)
+returns c = spelled-free _ _ _ _ (omega flags) (c .before .before .text-index .ensures) (c .before .text-index2 .ensures) (c .if2 .taken)
 
 returns-2 : tie.Need-returns-2
-returns-2 c = spelled-same _ _ _ _ _ (omega flags) (c .before .before .before .before .before .wide .ensures) (c .before .before .before .before .wide2 .ensures) (c .before .before .before .if2 .left) (c .same .ensures)
+returns-2 c = spelled-same _ _ _ _ _ (omega flags) (c .before .before .before .before .before .text-index .ensures) (c .before .before .before .before .text-index2 .ensures) (c .before .before .before .if2 .left) (c .same .ensures)
 
 returns-3 : tie.Need-returns-3
 returns-3 c = sym (above _ _ (omega flags))
@@ -51,11 +51,11 @@ pub is-spelled-spec : {M : Type 1} → statement M
 is-spelled-spec =
     tie.close
     (tie.spec
-    array-read-wide
-    wide-requires
-    add-wide
-    array-read-wide-2
-    wide-requires-2
+    array-read-text-index
+    text-index-requires
+    add-text-index
+    array-read-text-index-2
+    text-index-requires-2
     sub-same
     part-same-start
     part-same-end

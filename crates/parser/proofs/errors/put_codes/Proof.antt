@@ -18,13 +18,13 @@ abbrev μ-loop : tie.MeasureT-loop
 loop-holds : tie.Need-loop-holds Inv-loop μ-loop
 loop-holds c = (refl, omega flags)
 
-shared-slice-read-wide : tie.Need-shared-slice-read-wide Inv-loop μ-loop
-shared-slice-read-wide c =
+shared-slice-read-pool-number : tie.Need-shared-slice-read-pool-number Inv-loop μ-loop
+shared-slice-read-pool-number c =
     let start = c .before .before .before .before .before in
     omega (flags, start .pre, start .good)
 
-wide-requires : tie.Need-wide-requires Inv-loop μ-loop
-wide-requires c κs = tt
+pool-number-requires : tie.Need-pool-number-requires Inv-loop μ-loop
+pool-number-requires c κs = tt
 
 add-pool : tie.Need-add-pool Inv-loop μ-loop
 add-pool c =
@@ -62,9 +62,9 @@ loop-again c =
     let pool₀ = args .pool .now in
     let codes₀ = args .codes .now in
     let loop = c .before .before .before .loop in
-    let wide = c .wide in (
-      ap (λ (l : List ℕ). set l ((args .first) + loop .i) (wide .result)) (loop .inv .0)
-          ∙ ap (λ (v : ℕ). set (sets pool₀ (args .first) (take (loop .i) codes₀)) ((args .first) + loop .i) v) (wide .ensures)
+    let number = c .pool-number in (
+      ap (λ (l : List ℕ). set l ((args .first) + loop .i) (number .result)) (loop .inv .0)
+          ∙ ap (λ (v : ℕ). set (sets pool₀ (args .first) (take (loop .i) codes₀)) ((args .first) + loop .i) v) (number .ensures)
           ∙ codes-more pool₀ codes₀ (args .first) (loop .i) (omega (flags, start .pre .0)),
       omega flags,
     )
@@ -88,5 +88,5 @@ returns c =
 pub put-codes-spec : {M : Type 1} → statement M
 put-codes-spec =
     tie.close
-    (tie.spec Inv-loop μ-loop loop-holds shared-slice-read-wide wide-requires add-pool mul-pool slice-write-pool add-i
+    (tie.spec Inv-loop μ-loop loop-holds shared-slice-read-pool-number pool-number-requires add-pool mul-pool slice-write-pool add-i
     loop-less loop-again same-length returns)
