@@ -1,4 +1,5 @@
--- Tests: what holds of both branches, and two tests that both hold. That `true` is not `false` is mathlib's `true≢false`, `false≢true`.
+-- Tests: what holds of both branches, and two tests that both hold. That `true` is not `false` is mathlib's
+-- `true≢false`, `false≢true`.
 use mathlib.Core.Path.{_≡_, refl}
 use mathlib.Core.Bool.{Bool, true, false, cond, _&&_, false≢true}
 

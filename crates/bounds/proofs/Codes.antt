@@ -1,5 +1,5 @@
--- Every code that the grammar names is below 256: node kinds, messages, hints, expectations. And what it is for a skeleton to have such
--- codes only.
+-- Every code that the grammar names is below 256: node kinds, messages, hints, expectations. And what it is for a
+-- skeleton to have such codes only.
 use Prim.Native.Nat.{ℕ, zero, suc, _<_}
 use mathlib.Core.Path.{_≡_, refl}
 use mathlib.Core.Bool.{Bool, true, false, _&&_}

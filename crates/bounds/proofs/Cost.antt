@@ -1,15 +1,16 @@
--- How much a program makes, computed on the program itself. Each token that the cursor passes brings credit; each event, each report
--- costs. A program's bill says for each answer at most how much more it costs than its tokens bring. A loop goes on only if the
--- cursor moved: where such a turn costs no more than the tokens that it passed bring, a loop costs no more than its last turn. A call
--- has its bill from a table, and the table is right if each function's program keeps to it (Tables).
+-- How much a program makes, computed on the program itself. Each token that the cursor passes brings credit; each
+-- event, each report costs. A program's bill says for each answer at most how much more it costs than its tokens bring.
+-- A loop goes on only if the cursor moved: where such a turn costs no more than the tokens that it passed bring, a loop
+-- costs no more than its last turn. A call has its bill from a table, and the table is right if each function's program
+-- keeps to it (Tables).
 use Prim.Native.Nat.{ℕ, suc, _+_, _-_, max}
 use mathlib.Core.Bool.{Bool, true, false, cond, _&&_}
 use lib.Dec.{leb}
 use Rattle.definitions.specs.Prog.{Ans, no, yes, also, again, Rule, Act, silent-at, at-end, immediate, immediate-next, add-expected, bump, bump-name, bump-argument, emit, emit-unclosed, less, Prog, ret, act, _⨟_, case, in-marker, loop, chain, brace, open-call}
 use Rattle.bounds.proofs.Row.{Key, still, there, took, Row, get, moved, any, at, _⊔_, raise, then, stopped, turns}
 
--- what a token or a name costs, what a marker (its two events), what a report; what a token that the cursor passes brings;
--- and the number that stands for cost 0
+-- what a token or a name costs, what a marker (its two events), what a report; what a token that the cursor passes
+-- brings; and the number that stands for cost 0
 pub record Price : Type 0 where
   pub leaf : ℕ
   pub marker : ℕ

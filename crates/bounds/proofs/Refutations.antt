@@ -1,5 +1,6 @@
--- Numbers that are too large are refused by the crate's statements: 2^32 in any place of an answer, of a buffer or of a report's pool, and
--- counts past their bounds. A statement that says less, or has other bounds, under the same name is refused by this file.
+-- Numbers that are too large are refused by the crate's statements: 2^32 in any place of an answer, of a buffer or of a
+-- report's pool, and counts past their bounds. A statement that says less, or has other bounds, under the same name is
+-- refused by this file.
 use Prim.Native.Nat.{ℕ}
 use native.Mathlib.Omega.{arith}
 use mathlib.Core.Path.{_≡_, refl}
@@ -43,7 +44,8 @@ not-the-pool : So-far [] (reported (record { message = 1; range = record { from 
 unfolding pool reports
 not-the-pool s = omega (arith, s .pool-words .0)
 
--- a node kind of more than a byte, a distance past all events, a name of more tokens than there are, and more children than rows
+-- a node kind of more than a byte, a distance past all events, a name of more tokens than there are, and more children
+-- than rows
 not-the-events : (All-fit 14 1 (StartNode 256 0 ∷ []) → ⊥) × (All-fit 14 1 (StartNode 0 15 ∷ []) → ⊥) × (All-fit 14 1 (AddCombinedToken 2 ∷ []) → ⊥)
 not-the-events = (λ a. omega (arith, a .0 .0), λ a. omega (arith, a .0 .1), λ a. omega (arith, a .0))
 

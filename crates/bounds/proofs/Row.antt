@@ -1,4 +1,5 @@
--- Rows: for each answer of a run and what is then known, at most how much it costs. Numbers only; Paid says what they mean.
+-- Rows: for each answer of a run and what is then known, at most how much it costs. Numbers only; Paid says what they
+-- mean.
 use Prim.Native.Nat.{ℕ, zero, suc, _+_, _-_, max}
 use mathlib.Core.Bool.{cond}
 use lib.Dec.{eqb}
@@ -6,7 +7,8 @@ use Rattle.definitions.specs.Run.{is-again}
 use Rattle.definitions.specs.Prog.{Ans, no, yes, also, again}
 
 -- What is known after a run. still: nothing. there: a token that is not trivia stands ahead. took: the cursor moved.
--- The first token that the cursor passed brings no credit under still and there; a loop that goes on gives it back (`moved`).
+-- The first token that the cursor passed brings no credit under still and there; a loop that goes on gives it back
+-- (`moved`).
 pub data Key : Type 0 where
   still there took : Key
 
@@ -115,7 +117,8 @@ unfoldable pub raise : ℕ → Row → Row
 unfolding tab lift
 raise n f = tab (λ a κ. lift n (get f a κ))
 
--- a run with the numbers a, b, c at the three keys, and then u (entered with nothing known) or k (entered with a token there)
+-- a run with the numbers a, b, c at the three keys, and then u (entered with nothing known) or k (entered with a token
+-- there)
 abbrev pub then-entry : ℕ → ℕ → ℕ → ℕ → Row → Row → Ans → Key → ℕ
 then-entry m a b c u k x still = max (glue m a (get u x still)) (glue m b (get k x still))
 then-entry m a b c u k x there = max (glue m a (get u x there)) (glue m b (get k x there))

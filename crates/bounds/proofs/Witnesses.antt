@@ -1,5 +1,5 @@
--- The premises of the crate's statements can be met: a call whose buffers hold words, and all that its run pushes. A statement that asks for
--- more under the same name is refused by this file.
+-- The premises of the crate's statements can be met: a call whose buffers hold words, and all that its run pushes. A
+-- statement that asks for more under the same name is refused by this file.
 use Prim.Native.Nat.{ℕ, zero, suc}
 use native.Mathlib.Omega.{arith}
 use mathlib.Core.Path.{_≡_, refl}

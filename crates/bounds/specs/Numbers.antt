@@ -1,6 +1,6 @@
--- NUMBERS FIT. A run makes at most a small multiple of its tokens, of anything: events, reports, expectations, tree rows, and with
--- them child counts, first pool places and distances between events. Within cause 2's limits (65,536 tokens, 1,048,576 bytes)
--- every number that a call writes is therefore below 2^32, however long the lent buffers are.
+-- NUMBERS FIT. A run makes at most a small multiple of its tokens, of anything: events, reports, expectations, tree
+-- rows, and with them child counts, first pool places and distances between events. Within cause 2's limits (65,536
+-- tokens, 1,048,576 bytes) every number that a call writes is therefore below 2^32, however long the lent buffers are.
 use Prim.Native.Nat.{ℕ, _+_, _*_, _≤_, _<_}
 use mathlib.Core.Path.{_≡_}
 use mathlib.Core.Bool.{false}
@@ -81,7 +81,8 @@ pub record Within-limits (ts : List Token) : Type 0 where
   pub tokens : length ts ≤ MOST-TOKENS
   pub input : byte-count ts ≤ MOST-BYTES
 
--- when a run has made the pushes l, without a refusal 5: how many numbers were written, and that they are words themselves
+-- when a run has made the pushes l, without a refusal 5: how many numbers were written, and that they are words
+-- themselves
 pub record So-far (ts : List Token) (l : List Push) : Type 0 where
   pub events-written : EVENT-ROW * event-count l < TWO-TO-32
   pub reports-written : REPORT-ROW * length (reports l) < TWO-TO-32

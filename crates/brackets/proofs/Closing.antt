@@ -1,4 +1,5 @@
--- A marker completed: from the flags of what stands in it, whether it may become a node of a kind, and the flags of that node.
+-- A marker completed: from the flags of what stands in it, whether it may become a node of a kind, and the flags of
+-- that node.
 use Prim.Native.Nat.{ℕ}
 use mathlib.Core.Path.{_≡_, refl, ap, sym, _∙_}
 use mathlib.Core.Bool.{Bool, true, false, cond, not, _&&_, _||_, false≢true}

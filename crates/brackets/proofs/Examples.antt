@@ -115,7 +115,8 @@ branched c = only N.PreprocessorConditional (leaf K.IfDirective (node N.Preproce
 
 wrong : List Outline
 wrong =
-    -- a bare LParen in a list of cells; a cell that is a ParenExpr, or a ParseError; an LParen that is a DtExpr's first leaf, but not its child
+    -- a bare LParen in a list of cells; a cell that is a ParenExpr, or a ParseError; an LParen that is a DtExpr's first
+    -- leaf, but not its child
     listed (λ f. leaf K.LParen (leaf K.Number (leaf K.RParen f)))
     ∷ listed (λ f. node N.ParenExpr (leaf K.LParen (number (leaf K.RParen end))) f)
     ∷ listed (λ f. node N.ParseError (leaf K.LParen end) f)
@@ -134,7 +135,8 @@ wrong =
     -- a MacroInvocation without its Ident, and one with its LParen after an argument
     ∷ only N.DtPhandle (only N.MacroInvocation (leaf K.LParen (leaf K.RParen end)))
     ∷ only N.DtPhandle (only N.MacroInvocation (leaf K.Ident (node N.MacroArgument end (leaf K.LParen end))))
-    -- an LParen that is neither the last child of a ParseError nor left over: in a source file, and where something follows
+    -- an LParen that is neither the last child of a ParseError nor left over: in a source file, and where something
+    -- follows
     ∷ only N.SourceFile (only N.ParseError (leaf K.LParen (leaf K.Number end)))
     ∷ only N.DtPhandle (node N.ParseError (leaf K.LParen (leaf K.Number end)) (leaf K.Number end))
     -- cells that left over an LParen; an LParen straight under the root
@@ -152,7 +154,8 @@ wrong-refused : all-fit wrong ≡ replicate 18 false
 unfolding all-fit wrong
 wrong-refused = refl
 
--- nor do the rows of a parser for which a `(` followed by a block comment is a leaf of the list, of `(/**/1)` in entry 4
+-- nor do the rows of a parser for which a `(` followed by a block comment is a leaf of the list, of `(/**/1)` in entry
+-- 4
 bare-leaf : tree-proper (outline (read (0 ∷ 3 ∷ 7 ∷ 4 ∷ 1 ∷ 41 ∷ 1 ∷ 1 ∷ 1 ∷ 1 ∷ 4 ∷ 1 ∷ 1 ∷ 35 ∷ 1 ∷ 1 ∷ 1 ∷ 42 ∷ 1 ∷ 1 ∷ []))) ≡ false
 unfolding tree-proper outline read
 bare-leaf = refl
@@ -213,7 +216,8 @@ met-by-theorem : (q : ℕ) × Reported 1 open-call q
 unfolding open-call
 met-by-theorem = missed 4 (40 ∷ 49 ∷ []) open-numbers lent accepted 1 is-cell no-partner
 
--- a call that says nothing, one whose report has its mark at the LParen's index, and one whose report lies after the cell, do not answer it
+-- a call that says nothing, one whose report has its mark at the LParen's index, and one whose report lies after the
+-- cell, do not answer it
 abbrev with-reports : ℕ → List ℕ → Result
 with-reports n l =
     record {

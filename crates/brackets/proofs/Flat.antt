@@ -1,4 +1,5 @@
--- Kinds side by side, and what a skeleton makes: the kinds of its placed tree, trivia passed over, are read off it without the tokens.
+-- Kinds side by side, and what a skeleton makes: the kinds of its placed tree, trivia passed over, are read off it
+-- without the tokens.
 use Prim.Native.Nat.{ℕ, zero, suc}
 use mathlib.Core.Path.{_≡_, refl, ap, sym, _∙_, subst}
 use mathlib.Core.Bool.{Bool, true, false, cond}

@@ -1,14 +1,14 @@
--- How the proof goes, in reading order.
--- The kinds of a run's tree, trivia passed over, are read off its skeleton: Flat. Of kinds side by side some flags are kept (no LParen among
--- them, none but the first, fit for a list of cells, ..): Summary has the flags, and those of a whole from those of its parts; Closing says
--- whether a marker may be completed as a kind, and has the flags of the node; Ahead and Taken have the token ahead and the flags of what
--- taking it makes. (Bits: lists of truth values.)
--- Look is an analysis that computes on programs: at each place the token that may stand ahead and the flags of what was made since the marker
--- around was pushed. Table says what it finds of each counted function and of each entry; that it does is computed by the checker, and a
--- grammar that puts an LParen elsewhere is refused there.
--- That the analysis is sound is one induction over programs: Meaning (what facts mean), Actions, Shapes, Scopes (markers), Loops, Sound.
--- Runs has every call, by induction on the open calls, and every entry; LeftOver what an entry left over; Theorem goes from the rows to the
--- tree by the laws and proves the statement. Partner is a corollary of precedence/proofs/Partner. Examples: computed cases, wrong trees.
+-- How the proof goes, in reading order. The kinds of a run's tree, trivia passed over, are read off its skeleton: Flat.
+-- Of kinds side by side some flags are kept (no LParen among them, none but the first, fit for a list of cells, ..):
+-- Summary has the flags, and those of a whole from those of its parts; Closing says whether a marker may be completed
+-- as a kind, and has the flags of the node; Ahead and Taken have the token ahead and the flags of what taking it makes.
+-- (Bits: lists of truth values.) Look is an analysis that computes on programs: at each place the token that may stand
+-- ahead and the flags of what was made since the marker around was pushed. Table says what it finds of each counted
+-- function and of each entry; that it does is computed by the checker, and a grammar that puts an LParen elsewhere is
+-- refused there. That the analysis is sound is one induction over programs: Meaning (what facts mean), Actions, Shapes,
+-- Scopes (markers), Loops, Sound. Runs has every call, by induction on the open calls, and every entry; LeftOver what
+-- an entry left over; Theorem goes from the rows to the tree by the laws and proves the statement. Partner is a
+-- corollary of precedence/proofs/Partner. Examples: computed cases, wrong trees.
 pub mod Bits
 pub mod Flat
 pub mod Summary

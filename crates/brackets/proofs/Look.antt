@@ -1,5 +1,5 @@
--- An analysis that computes on programs: at each place that a program comes to, which token may stand ahead, and the flags of all that was
--- made since the marker around was pushed. A marker is closed where the flags allow it.
+-- An analysis that computes on programs: at each place that a program comes to, which token may stand ahead, and the
+-- flags of all that was made since the marker around was pushed. A marker is closed where the flags allow it.
 use Prim.Native.Nat.{ℕ, zero, suc}
 use mathlib.Core.Bool.{Bool, true, false, cond, _&&_}
 use mathlib.Core.List.{List}
@@ -146,7 +146,8 @@ abbrev pub at-end-only : Fact → Fact
 at-end-only never = never
 at-end-only (fact n m) = kept (both n none-left) m
 
--- A loop's result, from what holds at its head. Where a turn goes on surely, one that answers again and does not move has begun at the end.
+-- A loop's result, from what holds at its head. Where a turn goes on surely, one that answers again and does not move
+-- has begun at the end.
 unfoldable pub turns : Bool → Fact → (Fact → Look Fact) → Look Fact
 unfolding from kept
 turns true i f = let l = from (at-end-only i) f in then-look (l .ok) (from i f) (going (from i f) (l .if-again))

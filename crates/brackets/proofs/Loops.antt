@@ -1,4 +1,5 @@
--- Loops and chains: what holds at the head holds before each turn, and where turns surely go on, a loop that stops has seen the end.
+-- Loops and chains: what holds at the head holds before each turn, and where turns surely go on, a loop that stops has
+-- seen the end.
 use Prim.Native.Nat.{ℕ, zero, suc, _<_}
 use native.Mathlib.Nat.{le-refl, not-suc-le-zero}
 use native.Mathlib.Omega.{arith}

@@ -1,5 +1,5 @@
--- A bracket without a partner: the statement of specs/Partner.antt. What C's table is proved by says that a cell's LParen has its RParen or a
--- report above it; where it has its RParen, the two are `Brackets` of the statement.
+-- A bracket without a partner: the statement of specs/Partner.antt. What C's table is proved by says that a cell's
+-- LParen has its RParen or a report above it; where it has its RParen, the two are `Brackets` of the statement.
 use Prim.Native.Nat.{ℕ, suc, _+_, _*_, _≤_}
 use native.Mathlib.Omega.{arith}
 use mathlib.Core.Path.{_≡_, refl, sym, _∙_, ap, subst}

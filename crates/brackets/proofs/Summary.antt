@@ -1,5 +1,5 @@
--- What is known of kinds side by side: flags, each of which, if it is set, holds of them. The flags of two pieces give those of the whole,
--- and the flags of children give those of their node, if the node may be closed.
+-- What is known of kinds side by side: flags, each of which, if it is set, holds of them. The flags of two pieces give
+-- those of the whole, and the flags of children give those of their node, if the node may be closed.
 use Prim.Native.Nat.{ℕ}
 use mathlib.Core.Path.{_≡_, refl, ap, sym, _∙_, subst}
 use mathlib.Core.Logic.{_⊎_, inl, inr}

@@ -1,6 +1,7 @@
--- WHERE AN LPAREN STANDS. For every accepted call of each of the four entries, of the tree that its rows are read as, trivia passed over:
--- which parents an LParen can have, and that an LParen which a cell starts with is the first child of a DtExpr. It shuts out a parser that
--- leaves a bracket as a bare leaf of a list, or that reads a bracketed cell as anything but a DtExpr, so that C's table says nothing of it.
+-- WHERE AN LPAREN STANDS. For every accepted call of each of the four entries, of the tree that its rows are read as,
+-- trivia passed over: which parents an LParen can have, and that an LParen which a cell starts with is the first child
+-- of a DtExpr. It shuts out a parser that leaves a bracket as a bare leaf of a list, or that reads a bracketed cell as
+-- anything but a DtExpr, so that C's table says nothing of it.
 use Prim.Native.Nat.{ℕ, _*_}
 use mathlib.Core.Path.{_≡_}
 use mathlib.Core.Bool.{Bool, true, false, cond, not, _&&_, _||_}
@@ -100,13 +101,13 @@ children-proper k c =
 
 -- ---------------------------------------------------------------- lists of cells
 
--- where rows stand side by side: in a list of cells, in a list of values, among the branches of a conditional in one of these, in a DtExpr at
--- whatever depth, or elsewhere
+-- where rows stand side by side: in a list of cells, in a list of values, among the branches of a conditional in one of
+-- these, in a DtExpr at whatever depth, or elsewhere
 pub data List-of : Type 0 where
   cells values cell-branches value-branches expression elsewhere : List-of
 
--- A node of kind k stands in x; where do its children stand? angle: an LAngle is among them. A list of cells that was cut off is a
--- ParseError in a list of values, and has its LAngle as a child, as no other ParseError there does.
+-- A node of kind k stands in x; where do its children stand? angle: an LAngle is among them. A list of cells that was
+-- cut off is a ParseError in a list of values, and has its LAngle as a child, as no other ParseError there does.
 abbrev pub inside-other : List-of → ℕ → Bool → List-of
 inside-other cells k angle = cond (eqb k N.PreprocessorConditional) cell-branches elsewhere
 inside-other values k angle = cond (eqb k N.PreprocessorConditional) value-branches (cond (eqb k N.ParseError && angle) cells elsewhere)
@@ -130,7 +131,8 @@ leaf-proper value-branches k = true
 leaf-proper expression k = true
 leaf-proper elsewhere k = true
 
--- A cell whose first leaf is an LParen is a DtExpr, and the LParen its first child. In a DtExpr no LParen goes into a ParseError.
+-- A cell whose first leaf is an LParen is a DtExpr, and the LParen its first child. In a DtExpr no LParen goes into a
+-- ParseError.
 abbrev pub node-proper : List-of → ℕ → Outline → Bool
 node-proper cells k c = not (starts-open c) || (eqb k N.DtExpr && begins c)
 node-proper values k c = true
@@ -148,8 +150,8 @@ proper x (node k c f) = node-proper x k c && (children-proper k c && (proper (li
 
 -- ---------------------------------------------------------------- the tree
 
--- What an entry left over goes into one ParseError, the root's last child, that has leaves only: LParens at any place. A source file has
--- none, and what cells left over does not start with an LParen.
+-- What an entry left over goes into one ParseError, the root's last child, that has leaves only: LParens at any place.
+-- A source file has none, and what cells left over does not start with an LParen.
 unfoldable pub left-over : ℕ → ℕ → Outline → Bool
 unfolding leaves-only starts-open
 left-over r k c = not (eqb r N.SourceFile) && (eqb k N.ParseError && (leaves-only c && not (eqb r N.EntryCells && starts-open c)))

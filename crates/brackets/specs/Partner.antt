@@ -1,6 +1,7 @@
--- A BRACKET WITHOUT A PARTNER. C's table judges the tokens between a cell's LParen and the RParen that balances it; where no RParen does, the
--- call says so in that cell: some report's mark is above the LParen's token index, and at most the index just past the cell's last token. It
--- shuts out a parser that takes an open cell in silence, whatever it says of other places.
+-- A BRACKET WITHOUT A PARTNER. C's table judges the tokens between a cell's LParen and the RParen that balances it;
+-- where no RParen does, the call says so in that cell: some report's mark is above the LParen's token index, and at
+-- most the index just past the cell's last token. It shuts out a parser that takes an open cell in silence, whatever it
+-- says of other places.
 use Prim.Native.Nat.{ℕ, _+_, _*_, _≤_, _<_}
 use mathlib.Core.Path.{_≡_}
 use mathlib.Core.List.{List}
@@ -28,7 +29,8 @@ tokens-first end = 0
 tokens-first (leaf k w n f) = n
 tokens-first (node k w n c f) = tokens-in c
 
--- report row q has its mark above the LParen's token index, which is the number of tokens before the DtExpr, and no further than it reaches
+-- report row q has its mark above the LParen's token index, which is the number of tokens before the DtExpr, and no
+-- further than it reaches
 pub record Reported (p : ℕ) (r : Result) (q : ℕ) : Type 0 where
   pub written : q < r .answer .report-count
   pub above : tokens-before p (r .buffers .trees) < mark-in q (r .buffers .reports)

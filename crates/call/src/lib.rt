@@ -6,8 +6,8 @@ pub mod outcome;
 ghost use mathlib.Core.Path.{_≡_};
 ghost use Rattle.call.specs.Ended.{refused-with, accepted-with};
 
-// The cause, or 0 for an accepted call; its place; and how many tree rows, lexical errors, reports and expectations were
-// written.
+// The cause, or 0 for an accepted call; its place; and how many tree rows, lexical errors, reports and expectations
+// were written.
 #[repr(C)]
 pub struct Answer {
     pub number: u32,

@@ -1,5 +1,5 @@
-// Arrays that no case of the lists needs more of. Each is made by a function of its own: what is proved of a function that calls it
-// then costs no more for a long array than for a short one.
+// Arrays that no case of the lists needs more of. Each is made by a function of its own: what is proved of a function
+// that calls it then costs no more for a long array than for a short one.
 use crate::lend::LENT;
 
 pub const TEXT: usize = 524288;

@@ -1,4 +1,5 @@
-// Blanks of one byte each, one more than a call takes, their token rows, and an array for the tree of as many as it takes.
+// Blanks of one byte each, one more than a call takes, their token rows, and an array for the tree of as many as it
+// takes.
 use crate::lend::LENT;
 use crate::show;
 use layout::limit::MOST_TOKEN_NUMBERS;

@@ -1,4 +1,5 @@
--- Document 01's readings that are marked P: one table, and one proof over it. Whole answers and all buffers are compared.
+-- Document 01's readings that are marked P: one table, and one proof over it. Whole answers and all buffers are
+-- compared.
 use mathlib.Core.Path.{_≡_, refl}
 use Prim.Native.Nat.{ℕ}
 use mathlib.Core.List.{List, [], _∷_}

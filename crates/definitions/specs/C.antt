@@ -1,5 +1,5 @@
--- C's expressions, from the public precedence table (cppreference, "C operator precedence"), over document 01's operands and operators.
--- Nothing here knows of a parser or of a binding power.
+-- C's expressions, from the public precedence table (cppreference, "C operator precedence"), over document 01's
+-- operands and operators. Nothing here knows of a parser or of a binding power.
 use Prim.Native.Nat.{ℕ, zero, suc, _≤_, _<_}
 use mathlib.Core.Path.{_≡_}
 use mathlib.Core.Bool.{Bool, true, false, cond, _&&_}
@@ -93,7 +93,8 @@ line-of k = line-in table k
 
 -- ---------------------------------------------------------------- expressions
 
--- operands: a Number or a Char by its kind, an Ident, an Ident with its arguments, a bracketed expression; operators by their kinds
+-- operands: a Number or a Char by its kind, an Ident, an Ident with its arguments, a bracketed expression; operators by
+-- their kinds
 pub data Expr : Type 0 where
   literal : ℕ → Expr
   name : Expr
@@ -123,9 +124,9 @@ precedence (prefix k e) = 2
 precedence (binary l k r) = line-of k
 precedence (ternary c a b) = 13
 
--- What the table allows. A prefix operator's operand binds at least as tightly as one; a binary operator's left operand at least as tight as the operator
--- and its right operand tighter (from left to right); a ternary's condition tighter than a ternary (from right to left), and what stands
--- between `?` and `:`, or after `:`, is any expression.
+-- What the table allows. A prefix operator's operand binds at least as tightly as one; a binary operator's left operand
+-- at least as tight as the operator and its right operand tighter (from left to right); a ternary's condition tighter
+-- than a ternary (from right to left), and what stands between `?` and `:`, or after `:`, is any expression.
 abbrev pub Well-formed : Expr → Type 0
 Well-formed (literal k) = one-of (K.Number ∷ K.Char ∷ []) k ≡ true
 Well-formed name = Unit {0}

@@ -1,4 +1,5 @@
--- parser/mod.rs and errors.rs as programs: the forms that the grammar is made of, `TokenMatcher`, `Check` and `ErrorBuilder`.
+-- parser/mod.rs and errors.rs as programs: the forms that the grammar is made of, `TokenMatcher`, `Check` and
+-- `ErrorBuilder`.
 use Prim.Native.Nat.{ℕ}
 use mathlib.Core.List.{List, [], _∷_}
 use Rattle.definitions.specs.Prog.{Ans, no, yes, again, silent-at, at-end, add-expected, bump, bump-name, emit, Prog, ret, act, _⨟_, case, in-marker}
@@ -11,8 +12,9 @@ use Rattle.definitions.specs.Errors as E
 abbrev pub tell : Ans → Prog
 tell a = ret N.NO-NODE a
 
--- `else` and `⨟` bind alike and to the right: what follows `else`, sequences and further branches included, belongs to it up to the
--- bracket that closes around the whole. A branch inside `then`, and one that something follows, stands in brackets.
+-- `else` and `⨟` bind alike and to the right: what follows `else`, sequences and further branches included, belongs to
+-- it up to the bracket that closes around the whole. A branch inside `then`, and one that something follows, stands in
+-- brackets.
 infixr 20 if_then_else_
 abbrev pub if_then_else_ : Prog → Prog → Prog → Prog
 if c then p else q = case c q p p
@@ -127,7 +129,8 @@ unfoldable pub expect-recoverable : Matcher → List ℕ → Prog
 unfolding eat
 expect-recoverable m recovery = if eat m then tell yes else (if act (silent-at recovery) then error! else error-wrap!) ⨟ tell no
 
--- `if let Some(m) = p.eat_starting(M) { inside } else { rest }`: the marker is made only on a match, and `inside` says what it becomes
+-- `if let Some(m) = p.eat_starting(M) { inside } else { rest }`: the marker is made only on a match, and `inside` says
+-- what it becomes
 infixr 20 eat-starting_inside_else_
 unfoldable pub eat-starting_inside_else_ : Matcher → Prog → Prog → Prog
 unfolding at

@@ -18,7 +18,8 @@ abbrev pub forward : Bool → ℕ → ℕ
 forward true n = n
 forward false n = 0
 
--- linked: a marker that comes after the skeleton was made to precede its node, so that the node's start leads on to that marker's
+-- linked: a marker that comes after the skeleton was made to precede its node, so that the node's start leads on to
+-- that marker's
 unfoldable pub events : Bool → Skeleton → List Event
 events preceded done = []
 events preceded (token t m o) = AddToken ∷ events preceded o

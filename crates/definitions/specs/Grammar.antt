@@ -1,7 +1,8 @@
--- grammar.rs, grammar/expr.rs and grammar/preprocessor_directive.rs as programs, in the Rust's order inside each part: each function
--- under its Rust name, a counted one as NAME-body. What the Rust has inside a function and what is named here for itself: the turn of a
--- loop (NAME-turn), one branch of a conditional, one value and what follows it, a path's rest, an operator's right side, a node without
--- a property, one top-level statement. A function that completes its caller's marker is a program whose ret says what the marker becomes.
+-- grammar.rs, grammar/expr.rs and grammar/preprocessor_directive.rs as programs, in the Rust's order inside each part:
+-- each function under its Rust name, a counted one as NAME-body. What the Rust has inside a function and what is named
+-- here for itself: the turn of a loop (NAME-turn), one branch of a conditional, one value and what follows it, a path's
+-- rest, an operator's right side, a node without a property, one top-level statement. A function that completes its
+-- caller's marker is a program whose ret says what the marker becomes.
 use Prim.Native.Nat.{ℕ}
 use mathlib.Core.Bool.{Bool, true, false}
 use mathlib.Core.List.{List, [], _∷_, _++_}
@@ -36,8 +37,8 @@ eat-inside Item = open-call item ⨟ tell yes
 eat-inside (Values semicolon) = open-call (propvalues semicolon) ⨟ tell yes
 eat-inside (Cell until-end) = open-call (eat-cell until-end)
 
--- a turn of one branch's loop. The branch stops at `#endif`, at the end of input, and where nothing is there to eat (no), or at a
--- continuation (yes).
+-- a turn of one branch's loop. The branch stops at `#endif`, at the end of input, and where nothing is there to eat
+-- (no), or at a continuation (yes).
 unfoldable pub branch-turn : Inside → Prog
 unfolding at silent eat-inside
 branch-turn inner =
@@ -370,7 +371,8 @@ dt-node-body =
     ⨟ if end? then act emit-unclosed ⨟ ret N.DtNode yes
     else expect (of-kind K.RCurly) ⨟ expect-recoverable (of-kind K.Semicolon) ITEM-RECOVERY-SET ⨟ ret N.DtNode yes)
 
--- no: None. yes: Some(false). also: Some(true). `own-name`: the answer at a node's or property's own name, by `allow_prop`.
+-- no: None. yes: Some(false). also: Some(true). `own-name`: the answer at a node's or property's own name, by
+-- `allow_prop`.
 unfoldable pub prefix-turn : Ans → Prog
 unfolding eat silent eat-starting_inside_else_ MacroSubstitutableName UnitAddress Reference
 prefix-turn own-name =

@@ -1,4 +1,5 @@
--- The numbers of the layout, each once: how many numbers a row has, the tags of event rows, the refusals, and the limits of a call.
+-- The numbers of the layout, each once: how many numbers a row has, the tags of event rows, the refusals, and the
+-- limits of a call.
 use Prim.Native.Nat.{ℕ, _/_}
 
 -- ---------------------------------------------------------------- how many numbers a row has
@@ -23,7 +24,7 @@ ERROR-ROW = 3
 abbrev pub REPORT-ROW : ℕ
 REPORT-ROW = 9
 
--- ---------------------------------------------------------------- where a number stands in its row; the first stands where the row starts
+-- --------------------------------------------- where a number stands in its row; the first stands where the row starts
 
 abbrev pub TOKEN-LENGTH : ℕ
 TOKEN-LENGTH = 1

@@ -1,4 +1,5 @@
--- sink.rs: the tree of a skeleton and the raw tokens. Trivia go in before each start, each token and each name, and at the end.
+-- sink.rs: the tree of a skeleton and the raw tokens. Trivia go in before each start, each token and each name, and at
+-- the end.
 use Prim.Native.Nat.{ℕ, suc, _+_}
 use mathlib.Core.Bool.{cond}
 use mathlib.Core.List.{List, [], _∷_, _++_}
@@ -8,7 +9,8 @@ use Rattle.definitions.specs.TokenKind as K
 use Rattle.definitions.specs.Token.{Token, is-error, seen, trivia, drop-trivia, byte-count, past}
 use Rattle.definitions.specs.Skeleton.{Skeleton, done, token, name, node, ignored, report, over}
 
--- leaves and nodes side by side, each with what follows it. A leaf has a kind and its raw tokens, a node a kind and its children.
+-- leaves and nodes side by side, each with what follows it. A leaf has a kind and its raw tokens, a node a kind and its
+-- children.
 pub data Tree : Type 0 where
   nil : Tree
   leaf : ℕ → List Token → Tree → Tree
@@ -43,7 +45,8 @@ after (ignored m m′ a i o) ts = after o (after i (after a ts))
 after (report r o) ts = after o ts
 after (over m o) ts = after o ts
 
--- the tree of a skeleton. A chain's nodes start together, outermost first, so a node's children are those before it and those inside.
+-- the tree of a skeleton. A chain's nodes start together, outermost first, so a node's children are those before it and
+-- those inside.
 unfoldable pub place : Skeleton → List Token → Tree
 unfolding _⊕_ lead front after drop-trivia
 place done ts = nil

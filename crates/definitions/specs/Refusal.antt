@@ -59,7 +59,8 @@ unless false r = refused r
 unfoldable pub check-sizes : List ℕ → List ℕ → Verdict
 check-sizes bytes tokens = unless (leb (length bytes) MOST-BYTES && leb (length tokens) MOST-TOKEN-NUMBERS) too-long
 
--- the kinds of a token row: those of `TokenKind` but for Unrecognized and Name, which the parser makes, and those of `LexError`
+-- the kinds of a token row: those of `TokenKind` but for Unrecognized and Name, which the parser makes, and those of
+-- `LexError`
 unfoldable pub is-kind : ℕ → Bool
 is-kind k = (leb k K.QuestionMark && not (eqb k K.Unrecognized) && not (eqb k K.Name)) || (leb L.UnexpectedEndIncbin k && leb k L.Default)
 

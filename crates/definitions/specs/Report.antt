@@ -7,7 +7,8 @@ use lib.ListN.{length}
 use Rattle.definitions.specs.Skeleton.{Label, no-label, label, Report, Skeleton, done, token, name, node, ignored, report, over}
 use Rattle.definitions.specs.Refusal.{Refusal, too-deep, no-event-room, no-report-room}
 
--- an event, at a mark; a report (`emit_parse_error`: its event, then its row); a 65th open call or a 257th expectation, at a mark
+-- an event, at a mark; a report (`emit_parse_error`: its event, then its row); a 65th open call or a 257th expectation,
+-- at a mark
 pub data Push : Type 0 where
   event : ℕ → Push
   reported : Report → Push
@@ -67,8 +68,9 @@ abbrev pub label-numbers : ℕ → Label → List ℕ → List ℕ
 label-numbers b no-label l = 0 ∷ 0 ∷ l
 label-numbers b (label s) l = (b - s .from) ∷ (b - s .to) ∷ l
 
--- The rows of some reports in a file of n tokens and b bytes, `first` expectations having been written before them: message, start, end,
--- mark, first pool place, pool count, hint, label start, label end. Places are turned here into numbers from the start of the file.
+-- The rows of some reports in a file of n tokens and b bytes, `first` expectations having been written before them:
+-- message, start, end, mark, first pool place, pool count, hint, label start, label end. Places are turned here into
+-- numbers from the start of the file.
 unfoldable pub report-numbers : ℕ → ℕ → ℕ → List Report → List ℕ
 report-numbers n b first [] = []
 report-numbers n b first (r ∷ l) =

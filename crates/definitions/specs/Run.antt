@@ -13,7 +13,8 @@ use Rattle.definitions.specs.Skeleton.{Span, Label, no-label, label, Ske
 use Rattle.definitions.specs.Prog.{Ans, no, yes, also, again, Rule, Act, silent-at, at-end, immediate, immediate-next, add-expected, bump, bump-name, bump-argument, emit, emit-unclosed, less, Prog, ret, act, _⨟_, case, in-marker, loop, chain, brace, open-call}
 use Rattle.definitions.specs.Grammar.{grammar}
 
--- rest: the raw tokens from the cursor on. since: those after the last one taken (`prev_next_cursor`). pending: `expected`.
+-- rest: the raw tokens from the cursor on. since: those after the last one taken (`prev_next_cursor`). pending:
+-- `expected`.
 pub record State : Type 0 where
   pub rest : List Token
   pub since : List Token
@@ -87,8 +88,8 @@ unfoldable pub at-depth : ℕ → Out → (ℕ → Out) → Out
 at-depth zero a f = a
 at-depth (suc n) a f = f n
 
--- the rest of a macro argument, n brackets being open inside it; ts: the raw tokens from the cursor on. yes: it stops at a comma outside
--- these brackets. no: it stops at the right bracket of the argument list, or at the end.
+-- the rest of a macro argument, n brackets being open inside it; ts: the raw tokens from the cursor on. yes: it stops
+-- at a comma outside these brackets. no: it stops at the right bracket of the argument list, or at the end.
 unfoldable pub do-argument : ℕ → State → List Token → Out
 unfolding replies makes add trivia at-depth
 do-argument n s [] = replies no (record { rest = []; since = s .since; pending = s .pending })
@@ -110,7 +111,8 @@ only-separators (a ∷ []) = eqb a K.Semicolon || eqb a K.Comma
 only-separators (a ∷ b ∷ []) = eqb a K.Comma && eqb b K.Semicolon
 only-separators (a ∷ b ∷ c ∷ l) = false
 
--- `current_token_error_range`; ts: the tokens from the current one on. At the end it is the last token's final byte, or 0..0.
+-- `current_token_error_range`; ts: the tokens from the current one on. At the end it is the last token's final byte, or
+-- 0..0.
 unfoldable pub error-range : State → List Token → Span
 unfolding only-separators byte-count
 error-range s [] = record { from = 1; to = 0 }
@@ -178,7 +180,8 @@ is-again yes = false
 is-again also = false
 is-again again = true
 
--- A loop goes on if it is told to and the cursor moved: o, after a turn from s. In the grammar each turn that answers again has moved.
+-- A loop goes on if it is told to and the cursor moved: o, after a turn from s. In the grammar each turn that answers
+-- again has moved.
 unfoldable pub goes-on : State → Out → Bool
 unfolding is-again
 goes-on s o = is-again (o .ans) && ltb (length (o .state .rest)) (length (s .rest))
@@ -193,8 +196,8 @@ iter (suc n) f s =
     let more = add turn (iter n f (o .state)) in
     cond (goes-on s o) more turn
 
--- A chain ends: its open marker, pushed at mark m, is ignored. a: the chain's node so far, which that marker precedes, or nothing.
--- i: what was made since that marker. x: the answer.
+-- A chain ends: its open marker, pushed at mark m, is ignored. a: the chain's node so far, which that marker precedes,
+-- or nothing. i: what was made since that marker. x: the answer.
 unfoldable pub unlinked : ℕ → Skeleton → Skeleton → Ans → State → Out
 unfolding makes closed
 unlinked m a i x s = makes x (closed 0 m (mark-of s) a i) s

@@ -1,5 +1,5 @@
--- What a run makes: one skeleton. Events, reports and the tree are all read off it.
--- Places are counted from the end of the file: a mark is the number of raw tokens left, a byte place the number of bytes left.
+-- What a run makes: one skeleton. Events, reports and the tree are all read off it. Places are counted from the end of
+-- the file: a mark is the number of raw tokens left, a byte place the number of bytes left.
 use Prim.Native.Nat.{ℕ}
 use mathlib.Core.List.{List}
 use Rattle.definitions.specs.Token.{Token}
@@ -23,11 +23,11 @@ pub record Report : Type 0 where
   pub labelled : Label
   pub pool : List ℕ
 
--- Each piece with what follows it.
--- token: `AddToken`, with the mark after it. name: `AddCombinedToken`, its raw tokens and the mark after it.
--- node k m m′ before inside: a completed marker, pushed at mark m and finished at mark m′; `before` is the node that it was made to
--- precede (none, but in a chain), and its children are what `before` and `inside` hold. ignored: the same, for an ignored marker.
--- report: `Error`. over: a 65th open call or a 257th pending expectation; what follows it is of no account.
+-- Each piece with what follows it. token: `AddToken`, with the mark after it. name: `AddCombinedToken`, its raw tokens
+-- and the mark after it. node k m m′ before inside: a completed marker, pushed at mark m and finished at mark m′;
+-- `before` is the node that it was made to precede (none, but in a chain), and its children are what `before` and
+-- `inside` hold. ignored: the same, for an ignored marker. report: `Error`. over: a 65th open call or a 257th pending
+-- expectation; what follows it is of no account.
 pub data Skeleton : Type 0 where
   done : Skeleton
   token : Token → ℕ → Skeleton → Skeleton

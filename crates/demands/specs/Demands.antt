@@ -1,5 +1,6 @@
--- THE DEMANDS: the three promises, of every call of the definitions, and what holds beside them. Each line names the file that words it. The
--- exported routine answers as the definitions do (crates/dt_parser/src/lib.rt), so all of this holds of it too.
+-- THE DEMANDS: the three promises, of every call of the definitions, and what holds beside them. Each line names the
+-- file that words it. The exported routine answers as the definitions do (crates/dt_parser/src/lib.rt), so all of this
+-- holds of it too.
 use Rattle.refusals.specs.Refusals.{Refusals}
 use Rattle.refusals.specs.Answered.{Answered}
 use Rattle.laws.specs.Lossless.{Nothing-lost}
@@ -13,48 +14,54 @@ use Rattle.run_steps.specs.Signs.{Complete}
 use Rattle.turns.specs.Turns.{Turns}
 use Rattle.pending.specs.Pending.{Repeats}
 
--- PROMISE 1. Whoever calls, with any bytes and numbers, gets a tree with its reports or one of the listed refusals, each under its listed
--- condition only, and every lent buffer then holds what document 01 says.
+-- PROMISE 1. Whoever calls, with any bytes and numbers, gets a tree with its reports or one of the listed refusals,
+-- each under its listed condition only, and every lent buffer then holds what document 01 says.
 pub record Promise-1 : Type 0 where
-  -- By the number, which is at most 8: the buffers are written and then zero, as they were, or all zero; a refusal's counts are 0.
-  -- refusals/specs/Answered.antt.
+  -- By the number, which is at most 8: the buffers are written and then zero, as they were, or all zero; a refusal's
+  -- counts are 0. refusals/specs/Answered.antt.
   pub answered : Answered
-  -- Each of 0 to 8 with its place, if and only if its line of document 01's table applies. refusals/specs/Refusals.antt, over Trace.antt.
+  -- Each of 0 to 8 with its place, if and only if its line of document 01's table applies.
+  -- refusals/specs/Refusals.antt, over Trace.antt.
   pub refusals : Refusals
 
--- PROMISE 2. What a theorem can say of it: that the definitions do what the Rust does is read and tested (docs/READING.md).
+-- PROMISE 2. What a theorem can say of it: that the definitions do what the Rust does is read and tested
+-- (docs/READING.md).
 pub record Promise-2 : Type 0 where
-  -- The leaves in order are the tokens, each width is the sum below it, the lexical errors are the error tokens in order.
-  -- laws/specs/Lossless.antt, over TreeRows.antt.
+  -- The leaves in order are the tokens, each width is the sum below it, the lexical errors are the error tokens in
+  -- order. laws/specs/Lossless.antt, over TreeRows.antt.
   pub nothing-lost : Nothing-lost
-  -- The tokens between a cell's bracket and its partner are read as the tree that C's table gives, or an error is reported.
-  -- precedence/specs/Precedence.antt, over definitions/specs/C.antt.
+  -- The tokens between a cell's bracket and its partner are read as the tree that C's table gives, or an error is
+  -- reported. precedence/specs/Precedence.antt, over definitions/specs/C.antt.
   pub c-table : C-table
   -- C's table gives one tree only.
   pub one-tree : One-tree
-  -- A bracket that starts a cell starts a DtExpr, of which the two lines above speak; and no LParen stands where none can.
-  -- brackets/specs/Brackets.antt.
+  -- A bracket that starts a cell starts a DtExpr, of which the two lines above speak; and no LParen stands where none
+  -- can. brackets/specs/Brackets.antt.
   pub brackets-proper : Brackets-proper
   -- Where no RParen balances a cell's bracket, an error is reported. brackets/specs/Partner.antt.
   pub partner-missed : Partner-missed
 
--- PROMISE 3. Two accepted source files that agree after a semicolon ending a top-level property, node or directive agree in all later
--- parts, lexical errors and reports, once places are moved. recovery/specs/Recovery.antt, over ResultRows.antt.
+-- PROMISE 3. Two accepted source files that agree after a semicolon ending a top-level property, node or directive
+-- agree in all later parts, lexical errors and reports, once places are moved. recovery/specs/Recovery.antt, over
+-- ResultRows.antt.
 pub record Promise-3 : Type 0 where
   pub stays-local : Stays-local
 
 -- What holds beside the promises, of the definitions and of all that the code can meet.
 pub record Beside : Type 0 where
-  -- In an accepted call at most 64 calls are open and at most 256 expectations are pending, at every place. laws/specs/Limits.antt.
+  -- In an accepted call at most 64 calls are open and at most 256 expectations are pending, at every place.
+  -- laws/specs/Limits.antt.
   pub limits : Limits
-  -- A run makes at most a small multiple of its tokens, of anything, and no number of a call passes 32 bits. bounds/specs/Numbers.antt.
+  -- A run makes at most a small multiple of its tokens, of anything, and no number of a call passes 32 bits.
+  -- bounds/specs/Numbers.antt.
   pub runs-bounded : Runs-bounded
   pub words-so-far : Words-so-far
   pub numbers-fit : Numbers-fit
-  -- The definitions' clauses for a turn that does not move, a take at the end of input and a failed assertion are never used.
-  -- turns/specs/Turns.antt, over run_steps/specs/Steps.antt.
+  -- The definitions' clauses for a turn that does not move, a take at the end of input and a failed assertion are never
+  -- used. turns/specs/Turns.antt, over run_steps/specs/Steps.antt.
   pub turns : Turns
-  -- The steps of which the line above and the one below speak leave out no report and no refusal 5. run_steps/specs/Signs.antt.
+  -- The steps of which the line above and the one below speak leave out no report and no refusal 5.
+  -- run_steps/specs/Signs.antt.
   pub steps-complete : Complete
   -- Repeats among the pending expectations move no report's range. pending/specs/Pending.antt.
   pub repeats : Repeats

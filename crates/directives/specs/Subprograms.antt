@@ -1,4 +1,5 @@
--- What of the definitions' programs has a function of its own here. proofs/Laws.antt shows each to stand in the definitions' term.
+-- What of the definitions' programs has a function of its own here. proofs/Laws.antt shows each to stand in the
+-- definitions' term.
 use mathlib.Core.List.{[], _∷_}
 use Rattle.definitions.specs.TokenKind as K
 use Rattle.definitions.specs.NodeKind as N

@@ -1,6 +1,6 @@
-// The functions of grammar.rs that stand beside its cycle of calls and call nothing of it: the end of a node's body, a test
-// before a property, an unmatched bracket, and what an entry leaves. They hold the whole parser by value, as the cycle
-// does.
+// The functions of grammar.rs that stand beside its cycle of calls and call nothing of it: the end of a node's body, a
+// test before a property, an unmatched bracket, and what an entry leaves. They hold the whole parser by value, as the
+// cycle does.
 use layout::expected;
 use layout::hint::NO_HINT;
 use layout::message::EXPECTED;

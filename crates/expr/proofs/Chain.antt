@@ -1,4 +1,5 @@
--- A chain as the code makes it: a marker, a first program, and link by link a completed node that the next marker precedes.
+-- A chain as the code makes it: a marker, a first program, and link by link a completed node that the next marker
+-- precedes.
 use Prim.Native.Nat.{ℕ, suc, _-_, _<_}
 use mathlib.Core.Path.{_≡_, refl, sym, ap, _∙_}
 use mathlib.Core.Bool.{Bool, true, false}

@@ -1,5 +1,5 @@
--- The definitions' levels by kind. A turn over infix operators tries one level after the other; which one it takes is decided by the kind
--- at the cursor alone.
+-- The definitions' levels by kind. A turn over infix operators tries one level after the other; which one it takes is
+-- decided by the kind at the cursor alone.
 use Prim.Native.Nat.{ℕ, zero, suc, _+_, _<_}
 use mathlib.Core.Path.{_≡_, refl, sym, ap, _∙_}
 use mathlib.Core.Bool.{Bool, true, false, true≢false, cond, _&&_}

@@ -42,8 +42,8 @@ pub struct InfixOp {
     pub binary: bool,
 }
 
-// What one turn of `expr_binding_power` did: whether it took an operator and so makes an InfixExpr of all before it, and
-// whether its right side was parsed.
+// What one turn of `expr_binding_power` did: whether it took an operator and so makes an InfixExpr of all before it,
+// and whether its right side was parsed.
 pub struct Turn {
     pub p: Parser,
     pub operator: bool,

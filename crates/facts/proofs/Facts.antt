@@ -1,5 +1,5 @@
--- What an analysis knows at a place that a program comes to: by what is pending there, and by whether a token was taken since the turn
--- began, what is known of the token that a peek comes to.
+-- What an analysis knows at a place that a program comes to: by what is pending there, and by whether a token was taken
+-- since the turn began, what is known of the token that a peek comes to.
 use Prim.Native.Nat.{ℕ}
 use mathlib.Core.Bool.{Bool, true, false, cond, _&&_}
 use mathlib.Core.List.{List, [], _∷_}
@@ -9,7 +9,8 @@ use Rattle.facts.proofs.Known.{Known, never, _∪_, within, is-never}
 
 -- ---------------------------------------------------------------- what is pending
 
--- nothing; [Semicolon]; [Comma]; [Comma, Semicolon]; a list that will not be one of these whatever is dropped or pushed; any other
+-- nothing; [Semicolon]; [Comma]; [Comma, Semicolon]; a list that will not be one of these whatever is dropped or
+-- pushed; any other
 pub data Pend : Type 0 where
   empty semi comma both other bad : Pend
 

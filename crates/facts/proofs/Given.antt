@@ -1,4 +1,5 @@
--- What is given where a program begins: a token where one is taken, the token that an `assert!` asks for, and what is pending.
+-- What is given where a program begins: a token where one is taken, the token that an `assert!` asks for, and what is
+-- pending.
 use Prim.Native.Nat.{ℕ}
 use mathlib.Core.Path.{_≡_}
 use mathlib.Core.Bool.{true, false}

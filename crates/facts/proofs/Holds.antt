@@ -228,7 +228,7 @@ pub holds-never : (d : Fact) (s₀ s : State) → {A : Type 0} → fact-never d 
 unfolding fact-never by-never fact-within
 holds-never d s₀ s e h = holds-unreached s₀ s (holds-weaken d unreached s₀ s e h)
 
--- ---------------------------------------------------------------- a turn, or a call, that begins at s on the way from s₀
+-- -------------------------------------------------------------- a turn, or a call, that begins at s on the way from s₀
 
 -- where no token was taken
 pub begins-fresh : (d : Fact) (s : State) → length (s .rest) ≤ mark-of s → Right (d .fresh) s → Holds (if-fresh d) s s

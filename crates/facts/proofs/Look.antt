@@ -1,6 +1,7 @@
--- The analysis: what is known after each answer of a program, and whether everything that it begins is begun where it may be.
--- (laws has one too, in Analysis.antt, which tells what holds at a program's end. Here something is asked at every place, a turn is looked
--- at from its own beginning, and an answer again is told apart by whether it shapes the marker.)
+-- The analysis: what is known after each answer of a program, and whether everything that it begins is begun where it
+-- may be. (laws has one too, in Analysis.antt, which tells what holds at a program's end. Here something is asked at
+-- every place, a turn is looked at from its own beginning, and an answer again is told apart by whether it shapes the
+-- marker.)
 use Prim.Native.Nat.{ℕ, zero, suc}
 use mathlib.Core.Bool.{Bool, true, false, _&&_}
 use mathlib.Core.List.{List, [], _∷_}

@@ -1,5 +1,5 @@
--- Where a program may begin, by what is known there: a token is taken where one is there, and a name where one of its set is; a push
--- makes no bad list; and a program that asserts a token begins where that token is next.
+-- Where a program may begin, by what is known there: a token is taken where one is there, and a name where one of its
+-- set is; a push makes no bad list; and a program that asserts a token begins where that token is next.
 use Prim.Native.Nat.{ℕ}
 use mathlib.Core.Bool.{Bool, true, cond, not, _&&_}
 use mathlib.Core.List.{[], _∷_}
@@ -61,7 +61,8 @@ hind (chain p q) = chain p q
 hind (brace p) = brace p
 hind (open-call r) = open-call r
 
--- the kind that a program asserts, if it is one of the five that do: told by its form, and of no other form in the grammar
+-- the kind that a program asserts, if it is one of the five that do: told by its form, and of no other form in the
+-- grammar
 unfoldable pub seq-needs : Prog → Prog → Kinds
 unfolding form fore
 seq-needs p q =

@@ -1,4 +1,5 @@
--- A turn of a loop, a link of a chain and a call begin anew: what is known after them, and that a turn that is to go on has moved.
+-- A turn of a loop, a link of a chain and a call begin anew: what is known after them, and that a turn that is to go on
+-- has moved.
 use Prim.Native.Nat.{ℕ, zero, suc, _≤_, _<_}
 use native.Mathlib.Nat.{le-trans, not-suc-le-zero}
 use native.Mathlib.Omega.{arith}

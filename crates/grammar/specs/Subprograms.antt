@@ -1,5 +1,5 @@
--- What of the definitions' programs has a function of its own here, and the code's enums as the definitions have them. proofs/Laws.antt
--- shows each program to stand in the definitions' term.
+-- What of the definitions' programs has a function of its own here, and the code's enums as the definitions have them.
+-- proofs/Laws.antt shows each program to stand in the definitions' term.
 use mathlib.Core.Bool.{Bool}
 use Rattle.definitions.specs.TokenKind as K
 use Rattle.definitions.specs.Errors as E

@@ -1,5 +1,5 @@
-// Causes 2, 3 and 4 of document 01 at their exact boundaries: each line is a cause and a place, 0 0 where the input is sound.
-// What is tried stands beside each call; the expected lines are in stdout.
+// Causes 2, 3 and 4 of document 01 at their exact boundaries: each line is a cause and a place, 0 0 where the input is
+// sound. What is tried stands beside each call; the expected lines are in stdout.
 use input::causes;
 use input::causes::Checked;
 use layout::refusal;
@@ -21,9 +21,9 @@ fn show(bytes: &[u8], tokens: &[u32]) {
     }
 }
 
-// The most token numbers, 65,536 rows of a comment of one byte, and one number more. (An array of as many bytes as cause 2
-// allows is more than the prover takes: that limit is in the proof of the crate input, `bytes-at-the-limit`.) Each large array is made
-// by a function of its own.
+// The most token numbers, 65,536 rows of a comment of one byte, and one number more. (An array of as many bytes as
+// cause 2 allows is more than the prover takes: that limit is in the proof of the crate input, `bytes-at-the-limit`.)
+// Each large array is made by a function of its own.
 fn bytes_at_the_limit() -> [u8; 65536] {
     [32u8; 65536]
 }

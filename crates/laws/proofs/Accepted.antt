@@ -1,4 +1,5 @@
--- An accepted call, taken apart: which entry it is, that its input passed every check, that all it pushed fitted, and what it returns.
+-- An accepted call, taken apart: which entry it is, that its input passed every check, that all it pushed fitted, and
+-- what it returns.
 use Prim.Native.Nat.{ℕ, _≤_}
 use native.Mathlib.Omega.{arith}
 use mathlib.Core.Path.{_≡_, refl, ap, sym, _∙_}

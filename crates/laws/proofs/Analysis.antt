@@ -1,5 +1,6 @@
--- Analyses that compute on programs: what is known at each place that a program comes to, by the answers given on the way there.
--- A domain says what facts there are and what each action does to them. `Look` below is the analysis; its soundness is in Sound.antt.
+-- Analyses that compute on programs: what is known at each place that a program comes to, by the answers given on the
+-- way there. A domain says what facts there are and what each action does to them. `Look` below is the analysis; its
+-- soundness is in Sound.antt.
 use mathlib.Core.Bool.{Bool, true, cond, _&&_}
 use Rattle.definitions.specs.Prog.{Ans, no, yes, also, again, Rule, Act, Prog, ret, act, _⨟_, case, in-marker, loop, chain, brace, open-call}
 
@@ -63,7 +64,8 @@ module _ (D : Domain) where
   abbrev pub stopped : Look (D .Fact) → Look (D .Fact)
   stopped l = record { ok = l .ok; if-no = l .if-no; if-yes = l .if-yes; if-also = l .if-also; if-again = D .never }
 
-  -- what holds at a loop's head: what held before it and what a turn leaves for another, if that is all, and else nothing is known
+  -- what holds at a loop's head: what held before it and what a turn leaves for another, if that is all, and else
+  -- nothing is known
   unfoldable pub settled : D .Fact → (D .Fact → Look (D .Fact)) → D .Fact
   settled d f =
       let i = D .join d (D .from d f .if-again) in

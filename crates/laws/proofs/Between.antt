@@ -1,4 +1,5 @@
--- A run's skeleton reads its tokens off the file: each token and each name in it stands where the sink will look for it.
+-- A run's skeleton reads its tokens off the file: each token and each name in it stands where the sink will look for
+-- it.
 use Prim.Native.Nat.{ℕ, zero, suc}
 use mathlib.Core.Path.{_≡_, ap, sym, _∙_}
 use mathlib.Core.Bool.{Bool, true, false}
@@ -18,7 +19,8 @@ use Rattle.laws.proofs.Trivia.{drop-twice, drop-none, passes-drop}
 use Rattle.laws.proofs.Skeleton.{after-join}
 use Rattle.laws.proofs.Kept.{Stands, Kept, run-kept, exec-kept, whole-kept}
 
--- each token of p is the first of ts that is not trivia where p comes to it, each name the first ones; each with the mark after it
+-- each token of p is the first of ts that is not trivia where p comes to it, each name the first ones; each with the
+-- mark after it
 unfoldable pub Reads : Skeleton → List Token → Type 0
 unfolding after
 Reads done ts = Unit {0}

@@ -1,7 +1,7 @@
--- One induction over programs, loops, chains and open calls: what holds of each action and is kept by joining and by closing a marker
--- holds of every run. `Composes` is what is asked of joining and closing; `exec-only` gives the property of programs that complete markers
--- only as certain kinds, `Steady` of all programs. `Kept` is the form for a property of
--- what a run makes between two states: its eight cases are all that a user shows.
+-- One induction over programs, loops, chains and open calls: what holds of each action and is kept by joining and by
+-- closing a marker holds of every run. `Composes` is what is asked of joining and closing; `exec-only` gives the
+-- property of programs that complete markers only as certain kinds, `Steady` of all programs. `Kept` is the form for a
+-- property of what a run makes between two states: its eight cases are all that a user shows.
 use Prim.Native.Nat.{ℕ, zero, suc}
 use mathlib.Core.Path.{_≡_, refl, sym, ap, subst, _∙_}
 use mathlib.Core.Bool.{Bool, true, _&&_}
@@ -14,10 +14,9 @@ use Rattle.basics.proofs.Tests.{cond-all, and-left, and-right}
 
 -- ---------------------------------------------------------------- the general form
 
--- Q s o: a property of the result o of a run from the state s.
--- C s m a i u: a property of a chain under way that began at s and has come to u: its open marker was pushed at mark m, a is the
--- chain's node so far, i what was made since that marker.
--- Kept by putting programs together:
+-- Q s o: a property of the result o of a run from the state s. C s m a i u: a property of a chain under way that began
+-- at s and has come to u: its open marker was pushed at mark m, a is the chain's node so far, i what was made since
+-- that marker. Kept by putting programs together:
 pub record Composes (Q : State → Out → Type 0) (C : State → ℕ → Skeleton → Skeleton → State → Type 0) : Type 0 where
   pub idle : (a : Ans) (s : State) → Q s (record { ans = a; shape = 0; made = done; state = s })
   pub add : (s : State) (o o′ : Out) → Q s o → Q (o .state) o′ → Q s (add o o′)

@@ -1,4 +1,5 @@
--- More fuel changes nothing: a loop or a chain does the same with any number of turns allowed above the tokens left. And a loop turn by turn.
+-- More fuel changes nothing: a loop or a chain does the same with any number of turns allowed above the tokens left.
+-- And a loop turn by turn.
 use Prim.Native.Nat.{ℕ, zero, suc, _<_}
 use native.Mathlib.Nat.{not-suc-le-zero}
 use native.Mathlib.Omega.{arith}

@@ -1,4 +1,5 @@
--- What the checks of a call's input say, causes 2 to 4: limits, kinds, lengths, that the rows cover the input exactly, and fixed texts.
+-- What the checks of a call's input say, causes 2 to 4: limits, kinds, lengths, that the rows cover the input exactly,
+-- and fixed texts.
 use Prim.Native.Nat.{ℕ, suc, _-_, _*_, _≤_}
 use native.Mathlib.Omega.{arith}
 use mathlib.Core.Path.{_≡_, refl, sym}

@@ -1,5 +1,5 @@
--- At most 64 open calls and at most 256 pending expectations: the statement of specs/Limits.antt, proved for every run without refusal 5,
--- and so for every accepted call.
+-- At most 64 open calls and at most 256 pending expectations: the statement of specs/Limits.antt, proved for every run
+-- without refusal 5, and so for every accepted call.
 use Prim.Native.Nat.{ℕ, zero, suc, _≤_, _<_, zero-le, suc-le-suc}
 use native.Mathlib.Omega.{arith}
 use mathlib.Core.Path.{_≡_, refl}

@@ -1,5 +1,5 @@
--- Marks never fall. Counted from the end of the file, as the definitions count them: what is pushed, in order, has marks that only go
--- down, from the mark at the start of a run to the mark at its end.
+-- Marks never fall. Counted from the end of the file, as the definitions count them: what is pushed, in order, has
+-- marks that only go down, from the mark at the start of a run to the mark at its end.
 use Prim.Native.Nat.{ℕ, _≤_}
 use native.Mathlib.Nat.{le-trans, le-refl}
 use native.Mathlib.Omega.{arith}

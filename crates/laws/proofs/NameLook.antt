@@ -1,5 +1,5 @@
--- Where the grammar takes a name: an analysis of what is known of the token that a peek comes to. A name may be taken only where a token of
--- its set was just seen; that the grammar does so is computed.
+-- Where the grammar takes a name: an analysis of what is known of the token that a peek comes to. A name may be taken
+-- only where a token of its set was just seen; that the grammar does so is computed.
 use Prim.Native.Nat.{ℕ}
 use mathlib.Core.Path.{_≡_, refl}
 use mathlib.Core.Bool.{Bool, true, false, _&&_}

@@ -1,5 +1,5 @@
--- A name consists of Ident, Number, Comma and Minus, its first token too: the grammar takes a name only where it has just seen a token of
--- the name's set.
+-- A name consists of Ident, Number, Comma and Minus, its first token too: the grammar takes a name only where it has
+-- just seen a token of the name's set.
 use Prim.Native.Nat.{ℕ, zero, suc}
 use mathlib.Core.Path.{_≡_, refl, ap, sym, _∙_, subst}
 use mathlib.Core.Bool.{Bool, true, false, cond, false≢true}

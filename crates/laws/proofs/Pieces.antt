@@ -1,4 +1,5 @@
--- A property of skeletons that a whole hands on to its pieces: from what a loop, a chain or a branch made to what its turns made.
+-- A property of skeletons that a whole hands on to its pieces: from what a loop, a chain or a branch made to what its
+-- turns made.
 use Prim.Native.Nat.{ℕ, zero, suc}
 use mathlib.Core.Path.{_≡_, refl}
 use mathlib.Core.Bool.{Bool, true, false, cond}

@@ -1,13 +1,13 @@
--- Whether a program takes a token: an analysis of what it surely does before it takes its first. Its table says, for each counted
--- function, that it takes a token where it must; that the table holds of the grammar is computed.
+-- Whether a program takes a token: an analysis of what it surely does before it takes its first. Its table says, for
+-- each counted function, that it takes a token where it must; that the table holds of the grammar is computed.
 use mathlib.Core.Path.{_≡_, refl}
 use mathlib.Core.Bool.{Bool, true, false, _&&_, _||_}
 use Rattle.definitions.specs.Prog.{Rule, item, propvalues, eat-cell, expr-binding-power, Act, silent-at, at-end, immediate, immediate-next, add-expected, bump, bump-name, bump-argument, emit, emit-unclosed, less}
 use Rattle.definitions.specs.Grammar.{grammar, sourcefile-part}
 use Rattle.laws.proofs.Analysis.{Look, same, Domain, look, looks-within}
 
--- What may be, at a place that a program comes to: a token was taken since it began; none was, and one is there to take; none was, and
--- none is left. Where none of the three may be, the place is not reached.
+-- What may be, at a place that a program comes to: a token was taken since it began; none was, and one is there to
+-- take; none was, and none is left. Where none of the three may be, the place is not reached.
 pub record Fact : Type 0 where
   pub took : Bool
   pub there : Bool
@@ -66,8 +66,8 @@ act-facts (emit m h) d = done-so d
 act-facts emit-unclosed d = done-so d
 act-facts (less m n) d = tested d d
 
--- A token may have been taken before, and then it stays so: what follows is looked at only for where none was, and not at all where
--- it is not reached.
+-- A token may have been taken before, and then it stays so: what follows is looked at only for where none was, and not
+-- at all where it is not reached.
 abbrev pub or-took : Bool → Fact → Fact
 or-took t d = fact (t || d .took) (d .there) (d .gone)
 

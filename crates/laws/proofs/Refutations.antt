@@ -1,5 +1,5 @@
--- Wrong answers are refused by the crate's statements: for each sentence a case in which it does not hold, computed. A statement that allows
--- more under the same name is refused by this file.
+-- Wrong answers are refused by the crate's statements: for each sentence a case in which it does not hold, computed. A
+-- statement that allows more under the same name is refused by this file.
 use Prim.Native.Nat.{ℕ}
 use native.Mathlib.Omega.{arith}
 use mathlib.Core.Path.{_≡_, refl, ap, sym, _∙_, subst}

@@ -1,4 +1,5 @@
--- What `scan` finds in a joined sequence: the first misfit of the first piece, else what it finds in the second with the room that is left.
+-- What `scan` finds in a joined sequence: the first misfit of the first piece, else what it finds in the second with
+-- the room that is left.
 use Prim.Native.Nat.{ℕ, zero, suc, _-_}
 use native.Mathlib.Omega.{arith}
 use mathlib.Core.Path.{_≡_, refl}

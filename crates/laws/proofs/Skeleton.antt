@@ -1,5 +1,5 @@
--- Skeletons side by side: joining is associative with `done` as its unit, and what is read off a join (pushes, events, reports, what it
--- leaves) is read off its pieces in turn.
+-- Skeletons side by side: joining is associative with `done` as its unit, and what is read off a join (pushes, events,
+-- reports, what it leaves) is read off its pieces in turn.
 use Prim.Native.Nat.{ℕ, zero, suc, _+_, _-_}
 use native.Mathlib.Nat.{zero-add, add-zero}
 use native.Mathlib.Omega.{arith}
@@ -120,7 +120,8 @@ pub label-append : (b : ℕ) (x : Label) (l m : List ℕ) → label-numbers b x 
 label-append b no-label l m = refl
 label-append b (label s) l m = refl
 
--- the rows of the later reports stand after those of the earlier, their first pool places after the earlier expectations
+-- the rows of the later reports stand after those of the earlier, their first pool places after the earlier
+-- expectations
 pub report-numbers-append : (n b first : ℕ) (l m : List Report) → report-numbers n b first (l ++ m) ≡ report-numbers n b first l ++ report-numbers n b (first + length (pool l)) m
 unfolding report-numbers pool
 report-numbers-append n b first [] m = ap (λ (x : ℕ). report-numbers n b x m) (sym (add-zero first))

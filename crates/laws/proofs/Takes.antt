@@ -1,4 +1,5 @@
--- At a non-end cursor one item takes at least one token, unless the run meets refusal 5: the analysis of Progress.antt is sound.
+-- At a non-end cursor one item takes at least one token, unless the run meets refusal 5: the analysis of Progress.antt
+-- is sound.
 use Prim.Native.Nat.{ℕ, zero, suc, _≤_, _<_}
 use native.Mathlib.Nat.{le-trans, le-refl}
 use native.Mathlib.Omega.{arith}
@@ -118,8 +119,8 @@ surely-taken a s₀ s h = go (take a h)
     go (there-case i t) = absurd (false≢true i)
     go (gone-case i t) = absurd (false≢true i)
 
--- ONE ITEM TAKES AT LEAST ONE TOKEN at a non-end cursor, unless the run meets refusal 5: fewer tokens are left after the last one taken
--- than stood at the cursor
+-- ONE ITEM TAKES AT LEAST ONE TOKEN at a non-end cursor, unless the run meets refusal 5: fewer tokens are left after
+-- the last one taken than stood at the cursor
 pub item-takes : (n : ℕ) (s : State) → Stands s → There s → Below-limits (run n item s .made) → mark-of (run n item s .state) < length (s .rest)
 item-takes n s h t w = surely-taken (run n item s .ans) s (run n item s .state) (run-takes n item s s (starts s h t) w)
 

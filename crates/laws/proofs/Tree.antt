@@ -1,4 +1,5 @@
--- Trees side by side: width, number, rows and leaves of a join are those of its pieces in turn, and a join is placed piece by piece.
+-- Trees side by side: width, number, rows and leaves of a join are those of its pieces in turn, and a join is placed
+-- piece by piece.
 use Prim.Native.Nat.{ℕ, _+_}
 use native.Mathlib.Nat.{zero-add}
 use native.Mathlib.Omega.{arith}

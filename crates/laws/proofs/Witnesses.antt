@@ -1,5 +1,5 @@
--- The premises of the crate's statements can be met: accepted calls, computed, and what the statements then say of them. A statement whose
--- premise no call meets, or that has lost a conclusion named here, is refused by this file.
+-- The premises of the crate's statements can be met: accepted calls, computed, and what the statements then say of
+-- them. A statement whose premise no call meets, or that has lost a conclusion named here, is refused by this file.
 use Prim.Native.Nat.{ℕ, zero, suc}
 use mathlib.Core.Path.{_≡_, refl, ap, sym, _∙_}
 use mathlib.Core.Bool.{cond}
@@ -109,8 +109,8 @@ over-open : call 4 (brackets 64) (bracket-numbers 64) (lent 1143) .answer ≡ re
 unfolding call brackets bracket-numbers
 over-open = refl
 
--- The places that a run comes to are those that it is at: of smaller files, the most open calls and the most pending expectations at any
--- of them. (For the files above they take the checker too long.)
+-- The places that a run comes to are those that it is at: of smaller files, the most open calls and the most pending
+-- expectations at any of them. (For the files above they take the checker too long.)
 greater : ℕ → ℕ → ℕ
 greater m n = cond (ltb m n) n m
 

@@ -1,5 +1,5 @@
--- LIMITS: in every accepted run at most 64 calls are open and at most 256 expectations are pending, at every place that it comes to.
--- It shuts out a parser that goes deeper or keeps more than document 01 allows and still answers 0.
+-- LIMITS: in every accepted run at most 64 calls are open and at most 256 expectations are pending, at every place that
+-- it comes to. It shuts out a parser that goes deeper or keeps more than document 01 allows and still answers 0.
 use Prim.Native.Nat.{ℕ, zero, suc, _≤_}
 use mathlib.Core.Path.{_≡_}
 use mathlib.Core.Bool.{cond}

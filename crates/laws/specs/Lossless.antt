@@ -1,6 +1,7 @@
--- NOTHING LOST. For every accepted call of each of the four entries, what holds of the numbers that it leaves in the buffers.
--- It is a claim about the rows, not about a tree inside the definitions: the tree here is the one that a reader of the rows finds.
--- It shuts out a parser that drops or doubles a token or trivia, invents a width or a child count, or loses or shifts a lexical error.
+-- NOTHING LOST. For every accepted call of each of the four entries, what holds of the numbers that it leaves in the
+-- buffers. It is a claim about the rows, not about a tree inside the definitions: the tree here is the one that a
+-- reader of the rows finds. It shuts out a parser that drops or doubles a token or trivia, invents a width or a child
+-- count, or loses or shifts a lexical error.
 use Prim.Native.Nat.{ℕ, suc, _+_, _*_}
 use mathlib.Core.Path.{_≡_}
 use mathlib.Core.Bool.{true, cond}
@@ -33,8 +34,8 @@ abbrev pub Of-name : List Token → Type 0
 Of-name [] = Unit {0}
 Of-name (t ∷ ts) = (one-of NAME-SET (seen t) ≡ true) × Of-name ts
 
--- the kind of a leaf that stands for some raw tokens: the kind of its one token, which is 25 (Unrecognized) for an error token;
--- or 26 (Name), for the raw tokens of a name
+-- the kind of a leaf that stands for some raw tokens: the kind of its one token, which is 25 (Unrecognized) for an
+-- error token; or 26 (Name), for the raw tokens of a name
 pub data Kind-of (k : ℕ) : List Token → Type 0 where
   one-token : (t : Token) → k ≡ seen t → Kind-of k (t ∷ [])
   a-name : (t : Token) (ts : List Token) → k ≡ K.Name → Of-name (t ∷ ts) → Kind-of k (t ∷ ts)
@@ -58,8 +59,8 @@ unfolding is-error
 errors-in [] = 0
 errors-in (t ∷ ts) = cond (is-error (t .kind)) (suc (errors-in ts)) (errors-in ts)
 
--- Each error token among ts has the row whose index is the number of error tokens before it: its number, and its byte range, which
--- starts at the sum of the lengths of the tokens before it.
+-- Each error token among ts has the row whose index is the number of error tokens before it: its number, and its byte
+-- range, which starts at the sum of the lengths of the tokens before it.
 abbrev pub Errors-of : List Token → List ℕ → Type 0
 Errors-of ts l =
     (before after : List Token) (t : Token) → ts ≡ before ++ (t ∷ after) → is-error (t .kind) ≡ true

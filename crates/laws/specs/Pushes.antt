@@ -1,4 +1,5 @@
--- What a run pushes, counted: its events, and whether refusal 5 is among what it pushes. Statements of other crates cite these.
+-- What a run pushes, counted: its events, and whether refusal 5 is among what it pushes. Statements of other crates
+-- cite these.
 use Prim.Native.Nat.{ℕ, suc}
 use mathlib.Core.List.{List, [], _∷_}
 use Rattle.definitions.specs.Report.{Push, event, reported, exceeded}

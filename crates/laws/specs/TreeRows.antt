@@ -6,7 +6,8 @@ use mathlib.Core.List.{List, [], _∷_, _++_}
 use lib.Dec.{eqb}
 use Rattle.definitions.specs.Layout.{NODE, LEAF}
 
--- rows side by side, each with what follows it. A leaf has kind, width and count; a node has them too, and its children.
+-- rows side by side, each with what follows it. A leaf has kind, width and count; a node has them too, and its
+-- children.
 pub data Rows : Type 0 where
   end : Rows
   leaf : ℕ → ℕ → ℕ → Rows → Rows

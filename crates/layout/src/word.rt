@@ -1,4 +1,5 @@
-// Numbers of 32 bits. Sums wrap, so that no numbers in the lent buffers are unsafe; none wraps on what the parser writes.
+// Numbers of 32 bits. Sums wrap, so that no numbers in the lent buffers are unsafe; none wraps on what the parser
+// writes.
 ghost use mathlib.Core.Path.{_≡_};
 ghost use Prim.Native.Nat.{_+_, _-_, _<_};
 ghost use Rattle.definitions.specs.Layout.{TWO-TO-32};

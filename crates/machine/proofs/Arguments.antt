@@ -36,7 +36,8 @@ eqb-flip a b = by (eqb b a) refl
     by true e = eq-eqb a b (sym (eqb-true b a e))
     by false e = ne-eqb a b (λ h. eqb-false b a e (sym h))
 
--- the machine looks at the kind that is seen, the definitions at the row's: the same, for a kind that no error token is seen as
+-- the machine looks at the kind that is seen, the definitions at the row's: the same, for a kind that no error token is
+-- seen as
 pub same-test : (k : ℕ) (t : Token) (l : List Token) → k < L.UnexpectedEndIncbin → eqb k K.Unrecognized ≡ false → first-in (k ∷ []) (t ∷ l) ≡ eqb (t .kind) k
 unfolding first-in one-of seen is-error
 same-test k t l h u = by (leb L.UnexpectedEndIncbin (t .kind)) refl

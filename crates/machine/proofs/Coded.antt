@@ -1,5 +1,6 @@
--- Event rows and report rows as the machine writes them, with every number cut to 32 bits; and that nothing is cut where the skeleton is
--- small. So the walk is held to the definitions without a word on sizes, and sizes are looked at once, in the end.
+-- Event rows and report rows as the machine writes them, with every number cut to 32 bits; and that nothing is cut
+-- where the skeleton is small. So the walk is held to the definitions without a word on sizes, and sizes are looked at
+-- once, in the end.
 use Prim.Native.Nat.{ℕ, suc, _+_, _-_, _*_, _<_}
 use native.Mathlib.Nat.{add-zero, mod-eq-of-lt}
 use native.Mathlib.Omega.{arith}

@@ -1,4 +1,5 @@
--- Chains, link by link: what a proof of code that completes and precedes in a loop cites. One link of the code is one link of the machine.
+-- Chains, link by link: what a proof of code that completes and precedes in a loop cites. One link of the code is one
+-- link of the machine.
 use Prim.Native.Nat.{ℕ, zero, suc, _≤_, _<_}
 use mathlib.Core.Path.{_≡_, refl, sym, ap, _∙_}
 use mathlib.Core.Bool.{Bool, true, false, cond, _&&_}

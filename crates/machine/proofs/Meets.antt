@@ -1,5 +1,6 @@
--- What is to be shown of every walk: the machine stops where the definitions say, or it was refused as `scan` says of what is
--- pushed. `Sofar` is what was written and pushed so far; the open markers' placeholders are in it as they stand.
+-- What is to be shown of every walk: the machine stops where the definitions say, or it was refused as `scan` says of
+-- what is pushed. `Sofar` is what was written and pushed so far; the open markers' placeholders are in it as they
+-- stand.
 use Prim.Native.Nat.{ℕ, suc, _+_, _-_, _/_, _≤_, _<_}
 use native.Mathlib.Omega.{arith}
 use mathlib.Core.Path.{_≡_, refl, sym, ap, _∙_, subst}

@@ -1,5 +1,5 @@
--- Rows written: what pushing an event, completing a marker, preceding one and writing a report make of the machine, where they fit and
--- where they do not.
+-- Rows written: what pushing an event, completing a marker, preceding one and writing a report make of the machine,
+-- where they fit and where they do not.
 use Prim.Native.Nat.{ℕ, suc, _+_, _-_, _/_, _≤_, _<_}
 use native.Mathlib.Omega.{arith}
 use mathlib.Core.Path.{_≡_, refl, sym, ap, _∙_}

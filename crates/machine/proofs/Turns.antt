@@ -1,5 +1,5 @@
--- Loops and macro arguments, turn by turn: what a proof of code with a loop cites. Fuel above the tokens left does not matter, so a
--- loop is the same loop from wherever a turn has brought it.
+-- Loops and macro arguments, turn by turn: what a proof of code with a loop cites. Fuel above the tokens left does not
+-- matter, so a loop is the same loop from wherever a turn has brought it.
 use Prim.Native.Nat.{ℕ, zero, suc, _-_, _/_, _≤_, _<_}
 use mathlib.Core.Path.{_≡_, refl, sym, ap, _∙_}
 use mathlib.Core.Bool.{Bool, true, false, cond, _&&_}

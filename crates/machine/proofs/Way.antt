@@ -1,4 +1,5 @@
--- A way through a program, step by step, as the code goes it: each step is a call's contract, a test's outcome or a return.
+-- A way through a program, step by step, as the code goes it: each step is a call's contract, a test's outcome or a
+-- return.
 use Prim.Native.Nat.{ℕ, zero, suc, _-_, _<_}
 use mathlib.Core.Path.{_≡_, refl, sym, ap, _∙_}
 use mathlib.Core.Bool.{Bool, true, false, cond}

@@ -69,8 +69,8 @@ meets-ends g o w h (goes f i e) =
     (subst (λ (v : Walked). Not-refused (g .tokens) (o .made) (g .events) (g .reports) (g .pool) (v .on)) (sym e) (settled g (o .made) (o .state) (h _ (f .room)) f))
 meets-ends g o w h (stop r e m) = ends-with g (o .made) (stops r) (w .on) e m
 
--- THE MACHINE'S END, for every entry, tokens within the limits, and buffers of any lengths and contents. The skeleton has to be small
--- only where all of it fits the buffers.
+-- THE MACHINE'S END, for every entry, tokens within the limits, and buffers of any lengths and contents. The skeleton
+-- has to be small only where all of it fits the buffers.
 pub machine-ends : (e : Entry) (ts : List Token) (events₀ reports₀ pool₀ : List ℕ) → Input-limits ts → ((z : Room) → scan (pushes (run-entry e ts)) (room-in events₀ reports₀ pool₀) ≡ fits z → Small (run-entry e ts))
     → Ends ts (run-entry e ts) events₀ reports₀ pool₀ (scan (pushes (run-entry e ts)) (room-in events₀ reports₀ pool₀)) (walk-prog MOST-OPEN-CALLS ts unlabelled (whole e) (fresh events₀ reports₀ pool₀) .on)
 unfolding run-entry

@@ -1,5 +1,6 @@
--- Event rows: how the events of a skeleton stand in the lent buffer. A row is a tag of definitions/specs/Layout.antt and two numbers: a
--- start's kind and distance, a name's count of raw tokens and 0, else 0 and 0. A start that another one leads to precedes a completed node.
+-- Event rows: how the events of a skeleton stand in the lent buffer. A row is a tag of definitions/specs/Layout.antt
+-- and two numbers: a start's kind and distance, a name's count of raw tokens and 0, else 0 and 0. A start that another
+-- one leads to precedes a completed node.
 use Prim.Native.Nat.{ℕ, suc}
 use mathlib.Core.Bool.{Bool, true, false}
 use mathlib.Core.List.{List, [], _∷_, _++_}

@@ -1,5 +1,6 @@
--- The literal machine: the code's state in numbers, the lent buffers whole, and what each primitive of the crate `parser` does to them.
--- It is a device of the proofs: code is held to it function by function, and one theorem holds it to `definitions`.
+-- The literal machine: the code's state in numbers, the lent buffers whole, and what each primitive of the crate
+-- `parser` does to them. It is a device of the proofs: code is held to it function by function, and one theorem holds
+-- it to `definitions`.
 use Prim.Native.Nat.{ℕ, zero, suc, _+_, _-_, _/_}
 use mathlib.Core.Bool.{Bool, true, false, cond, _&&_}
 use mathlib.Core.List.{List, [], _∷_, _++_}
@@ -17,8 +18,8 @@ pub record Buffer : Type 0 where
   pub count : ℕ
   pub numbers : List ℕ
 
--- cursor and mark: token indexes. byte: the first byte of the token at the cursor. mark-byte: the end of the last token taken.
--- refusal: the first of 5 to 7, or 0, and place: the mark at that moment.
+-- cursor and mark: token indexes. byte: the first byte of the token at the cursor. mark-byte: the end of the last token
+-- taken. refusal: the first of 5 to 7, or 0, and place: the mark at that moment.
 pub record Machine : Type 0 where
   pub cursor : ℕ
   pub byte : ℕ

@@ -1,5 +1,5 @@
--- What a whole walk of the machine comes to: for any tokens within the limits and any lent buffers, what `definitions` says of the same
--- entry and tokens. The exported routine's proof cites this.
+-- What a whole walk of the machine comes to: for any tokens within the limits and any lent buffers, what `definitions`
+-- says of the same entry and tokens. The exported routine's proof cites this.
 use Prim.Native.Nat.{ℕ, _/_, _≤_, _<_}
 use mathlib.Core.Path.{_≡_}
 use mathlib.Core.Bool.{false}
@@ -77,10 +77,11 @@ abbrev pub Ends : List Token → Skeleton → List ℕ → List ℕ → List ℕ
 Ends ts o events reports pool (fits z) m = Not-refused ts o events reports pool m
 Ends ts o events reports pool (stops r) m = Refused ts r m
 
--- THE MACHINE'S END: for every entry, every input that passes causes 2 to 4, and lent buffers of any lengths and contents, the machine
--- that starts fresh comes to what `scan` says of the skeleton that `definitions` gives. If all of it fits the buffers, nothing is
--- refused, the events encode the skeleton, reports and pool are the definitions', and after them each buffer is as it was. If not, the
--- refusal's number and place are those of the first push that does not fit.
+-- THE MACHINE'S END: for every entry, every input that passes causes 2 to 4, and lent buffers of any lengths and
+-- contents, the machine that starts fresh comes to what `scan` says of the skeleton that `definitions` gives. If all of
+-- it fits the buffers, nothing is refused, the events encode the skeleton, reports and pool are the definitions', and
+-- after them each buffer is as it was. If not, the refusal's number and place are those of the first push that does not
+-- fit.
 abbrev pub Machine-ends : Type 0
 Machine-ends =
     (e : Entry) (bytes tokens events reports pool : List ℕ) → check-input bytes tokens ≡ accepted

@@ -1,4 +1,5 @@
--- What the names of the programs of a macro invocation stand for: each line of Grammar.antt that a proof here looks into.
+-- What the names of the programs of a macro invocation stand for: each line of Grammar.antt that a proof here looks
+-- into.
 use mathlib.Core.Path.{_≡_, refl}
 use Rattle.definitions.specs.TokenKind as K
 use Rattle.definitions.specs.NodeKind as N

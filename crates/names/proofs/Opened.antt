@@ -1,4 +1,5 @@
--- What the names of the grammar's programs stand for: each line of Grammar.antt and Check.antt that a proof here looks into.
+-- What the names of the grammar's programs stand for: each line of Grammar.antt and Check.antt that a proof here looks
+-- into.
 use mathlib.Core.Path.{_≡_, refl}
 use mathlib.Core.List.{[], _∷_}
 use Rattle.definitions.specs.TokenKind as K

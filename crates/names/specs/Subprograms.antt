@@ -1,5 +1,5 @@
--- Programs that are parts of programs of Grammar.antt in the crate `definitions`, in its words: those that have a function of their own
--- here. Devices of the proofs; no exported promise names them.
+-- Programs that are parts of programs of Grammar.antt in the crate `definitions`, in its words: those that have a
+-- function of their own here. Devices of the proofs; no exported promise names them.
 use mathlib.Core.List.{List, [], _∷_}
 use Rattle.definitions.specs.TokenKind as K
 use Rattle.definitions.specs.Prog.{yes, silent-at, Prog, _⨟_}

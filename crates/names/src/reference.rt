@@ -1,5 +1,5 @@
-// The matcher Reference: an Ampersand and what `reference_noamp` of grammar.rs parses: a path in curly brackets, a macro
-// invocation with arguments, or a label.
+// The matcher Reference: an Ampersand and what `reference_noamp` of grammar.rs parses: a path in curly brackets, a
+// macro invocation with arguments, or a label.
 use crate::unit_address;
 use layout::hint::NO_HINT;
 use layout::limit::Codes;

@@ -1,4 +1,5 @@
--- Laws of plain lists that the proofs share: membership by index, stores one after the other, the codes that a report names.
+-- Laws of plain lists that the proofs share: membership by index, stores one after the other, the codes that a report
+-- names.
 use Prim.Native.Nat.{ℕ, zero, suc, _+_, _≤_, _<_}
 use mathlib.Core.Path.{_≡_, refl, sym, _∙_, ap}
 use mathlib.Core.Bool.{Bool, true, false, cond, _&&_, _||_}

@@ -1,5 +1,5 @@
--- What the walk of a program comes to, step by step, and of the programs of parser/mod.rs. Each law leaves the walks of its parts
--- shut: a need of the code hands over what its calls ensure of them.
+-- What the walk of a program comes to, step by step, and of the programs of parser/mod.rs. Each law leaves the walks of
+-- its parts shut: a need of the code hands over what its calls ensure of them.
 use Prim.Native.Nat.{ℕ, zero, suc, _<_}
 use mathlib.Core.Path.{_≡_, refl, sym, _∙_, ap}
 use mathlib.Core.Bool.{Bool, true, false}
@@ -121,7 +121,7 @@ module _ (ask : Rule → Machine → Walked) (ts : List Token) (b : Span) where
   pub take-label : (s : Matcher) (m : Machine) (w : Walked) → s ≡ Of.LabelName → w ≡ perform ts b (bump-name C.LABEL-NAME-SET) m → w ≡ walk ask ts b (matcher-of s .consume) m
   take-label s m w e f = f ∙ walk-act (bump-name C.LABEL-NAME-SET) m ∙ ap (λ (x : Matcher). walk ask ts b (matcher-of x .consume) m) (sym e)
 
-  -- ---------------------------------------------------------------- `Check`: p, after the test; q, after what follows it
+  -- -------------------------------------------------------------- `Check`: p, after the test; q, after what follows it
 
   pub silent-eat-yes : (k : C.Matcher) (m p q : Machine) → walk ask ts b (k .matches) m ≡ said yes p → said yes q ≡ walk ask ts b (k .consume) p → said yes q ≡ walk ask ts b (C.silent-eat k) m
   unfolding C.silent-eat

@@ -173,7 +173,7 @@ emits message hint label s r codes tokens events reports pool =
     ≡ M.emit (tokens-of (now (tokens .entry))) message hint (span-of label)
     (view s (now (codes .entry)) (now (events .entry)) (now (reports .entry)) (now (pool .entry)))
 
--- ---------------------------------------------------------------- an action, from the state before a call to the state after it
+-- ------------------------------------------------------- an action, from the state before a call to the state after it
 
 -- it writes nothing
 abbrev pub tests : Act → State → (List ℕ → List ℕ → List ℕ → List ℕ → Walked) → Lent → Type 0
@@ -194,7 +194,7 @@ adds a s r codes =
     (ts : List Token) (b : Span) (events reports pool : List ℕ)
     → r (now (codes .exit)) events reports pool ≡ perform ts b a (view s (now (codes .entry)) events reports pool)
 
--- ---------------------------------------------------------------- the walk of a term, from the state before a call to the state after it
+-- ---------------------------------------------- the walk of a term, from the state before a call to the state after it
 
 -- p walked from s comes to r, whatever an open call does and wherever the brace is
 abbrev pub walks : Prog → State → (List ℕ → List ℕ → List ℕ → List ℕ → Walked) → Lent → Lent → Lent → Lent → Lent → Type 0
@@ -337,7 +337,7 @@ parser-closes-at range m q p r tokens events reports pool =
     ≡ marked (marker-of m)
     (walk ask (tokens-of (now (tokens .entry))) (span-of range) q (entering (parser-view p) events reports pool))
 
--- ---------------------------------------------------------------- the same with n open calls allowed: a program, a rule, a program whose marker m its caller made
+-- --------------------- the same with n open calls allowed: a program, a rule, a program whose marker m its caller made
 
 abbrev pub walks-within : ℕ → Prog → Parser → (List ℕ → List ℕ → List ℕ → Walked) → Lent → Lent → Lent → Lent → Type 0
 walks-within n q p r tokens events reports pool =

@@ -1,6 +1,6 @@
-// event.rs, and what parser/mod.rs pushes. The first number of an event row is its tag (layout::event_tag). The second is
-// a node's kind or a name's count of raw tokens; the third, of a start that `precede` linked forward, how many events
-// further on the new marker is.
+// event.rs, and what parser/mod.rs pushes. The first number of an event row is its tag (layout::event_tag). The second
+// is a node's kind or a name's count of raw tokens; the third, of a start that `precede` linked forward, how many
+// events further on the new marker is.
 use crate::State;
 use layout::TokenIndex;
 use layout::event_tag::ADD_COMBINED_TOKEN;

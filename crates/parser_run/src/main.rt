@@ -1,5 +1,5 @@
-// The parser's refusals at their exact boundary: what just fits, and one number fewer. (A 65th open call, the other way to
-// refusal 5, is the grammar's.)
+// The parser's refusals at their exact boundary: what just fits, and one number fewer. (A 65th open call, the other way
+// to refusal 5, is the grammar's.)
 use cases::scan::least;
 use cases::show;
 use layout::token_kind;

@@ -1,4 +1,5 @@
--- The statement of specs/Pending.antt, from what crate facts shows of each step: nothing bad is pending where a program begins.
+-- The statement of specs/Pending.antt, from what crate facts shows of each step: nothing bad is pending where a program
+-- begins.
 use Prim.Native.Nat.{ℕ, _-_}
 use mathlib.Core.Path.{_≡_, refl, sym, ap, subst, _∙_}
 use mathlib.Core.Bool.{Bool, cond}

@@ -1,4 +1,5 @@
--- The Rust's list is what is pending here with the repeats of a first part dropped: dropping them twice is dropping them the second time.
+-- The Rust's list is what is pending here with the repeats of a first part dropped: dropping them twice is dropping
+-- them the second time.
 use Prim.Native.Nat.{ℕ}
 use mathlib.Core.Path.{_≡_, refl, sym, ap, _∙_}
 use mathlib.Core.Bool.{Bool, true, false, cond}

@@ -1,7 +1,8 @@
--- REPEATS MOVE NO RANGE. Here an expectation that is pushed again stays in the pending list twice. The Rust drops repeats from its list
--- whenever it writes message 1 (`fmt_expected_message`: each expectation stays at its first arrival), and then tests the list that is
--- left for the range (`current_token_error_range`). At each report of every run, up to refusal 5 where it meets it, the test comes out
--- the same, so the range is the same. It shuts out a grammar in which a Semicolon or a Comma is expected twice before a report.
+-- REPEATS MOVE NO RANGE. Here an expectation that is pushed again stays in the pending list twice. The Rust drops
+-- repeats from its list whenever it writes message 1 (`fmt_expected_message`: each expectation stays at its first
+-- arrival), and then tests the list that is left for the range (`current_token_error_range`). At each report of every
+-- run, up to refusal 5 where it meets it, the test comes out the same, so the range is the same. It shuts out a grammar
+-- in which a Semicolon or a Comma is expected twice before a report.
 use Prim.Native.Nat.{ℕ}
 use mathlib.Core.Path.{_≡_}
 use mathlib.Core.Bool.{cond}
@@ -24,8 +25,8 @@ unfolding without
 once [] = []
 once (k ∷ ks) = k ∷ without k (once ks)
 
--- The Rust's list u, where l is pending here. Both are empty after a token is taken; an expectation is pushed to both; and repeats are
--- dropped from the Rust's, at any time and as often as it writes message 1.
+-- The Rust's list u, where l is pending here. Both are empty after a token is taken; an expectation is pushed to both;
+-- and repeats are dropped from the Rust's, at any time and as often as it writes message 1.
 pub data Thinned : List ℕ → List ℕ → Type 0 where
   cleared : Thinned [] []
   pushed : {l u : List ℕ} (k : ℕ) → Thinned l u → Thinned (l ++ (k ∷ [])) (u ++ (k ∷ []))

@@ -1,5 +1,5 @@
--- One macro argument: `bump-argument` takes the raw tokens whose symbols the reader passes over, up to a comma outside inner brackets, to the
--- bracket that closes the list, or to the end.
+-- One macro argument: `bump-argument` takes the raw tokens whose symbols the reader passes over, up to a comma outside
+-- inner brackets, to the bracket that closes the list, or to the end.
 use Prim.Native.Nat.{ℕ, zero, suc}
 use native.Mathlib.Omega.{arith}
 use mathlib.Core.Path.{_≡_, refl, _∙_, ap}

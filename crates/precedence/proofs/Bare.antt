@@ -21,8 +21,8 @@ pub record Within (xs after p : List Symbol) : Type 0 where
   pub symbols-are : xs ≡ passed ++ left
   pub here : p ≡ left ++ after
 
--- xs stands between the brackets, and us after the closing one: xs is read to its tree; or it has none and a report is made before
--- the bracket is taken; or a call is refused
+-- xs stands between the brackets, and us after the closing one: xs is read to its tree; or it has none and a report is
+-- made before the bracket is taken; or a call is refused
 abbrev pub Verdict : List Symbol → List Symbol → Res → Type 0
 Verdict xs us (done e vs) = Gives xs e × (vs ≡ us)
 Verdict xs us (report p) = ((e : Expr) → Gives xs e → ⊥) × Within xs (plain K.RParen ∷ us) p

@@ -36,7 +36,8 @@ use Rattle.precedence.proofs.Loop.{calls}
 
 -- ---------------------------------------------------------------- the run
 
--- after the opening bracket: p was made of an expression and the closing bracket, or a report was made where vs was left
+-- after the opening bracket: p was made of an expression and the closing bracket, or a report was made where vs was
+-- left
 abbrev CellRun : State → Res → Out → Type 0
 CellRun s (P.done e vs) o = Done s (expr-nodes e ⧺ one) vs (o .made) (o .state)
 CellRun s (P.report vs) o = Noted s vs (o .made)
@@ -73,8 +74,8 @@ module _ (n : ℕ) (b : Label) where
 
 -- ---------------------------------------------------------------- the judgement
 
--- Between the bracket and `close` stands `inner`; m is the mark at the end, and i what was made from the bracket on. C's table gives a tree:
--- no report was made, and i is that tree between its brackets.
+-- Between the bracket and `close` stands `inner`; m is the mark at the end, and i what was made from the bracket on.
+-- C's table gives a tree: no report was made, and i is that tree between its brackets.
 pub record Good (inner : List Token) (close : Token) (after : List Token) (m : ℕ) (i : Skeleton) : Type 0 where
   pub tree : Expr
   pub gives : Gives (symbols false inner) tree
@@ -136,7 +137,8 @@ pair-by t ts spent o d r = absurd r
 
 -- ---------------------------------------------------------------- the node
 
--- A DtExpr whose marker was pushed at mark m before the tokens u and completed at mark m′: it begins with its LParen, and it is judged.
+-- A DtExpr whose marker was pushed at mark m before the tokens u and completed at mark m′: it begins with its LParen,
+-- and it is judged.
 pub record CellOf (m m′ : ℕ) (i : Skeleton) (u : List Token) : Type 0 where
   pub bracket : Token
   pub behind : List Token

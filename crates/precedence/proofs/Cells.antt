@@ -1,4 +1,5 @@
--- Every DtExpr of a skeleton, where it is placed, is a judged cell. It is so of what any program makes that completes no marker as a DtExpr.
+-- Every DtExpr of a skeleton, where it is placed, is a judged cell. It is so of what any program makes that completes
+-- no marker as a DtExpr.
 use Prim.Native.Nat.{ℕ, zero, suc, _≤_}
 use mathlib.Core.Path.{_≡_, refl, sym, _∙_, ap}
 use mathlib.Core.Bool.{Bool, true, false, not, true≢false}

@@ -1,4 +1,5 @@
--- Every DtExpr that a run makes is a judged cell: the grammar completes a marker as a DtExpr in `dt_expr` alone, where an LParen was seen.
+-- Every DtExpr that a run makes is a judged cell: the grammar completes a marker as a DtExpr in `dt_expr` alone, where
+-- an LParen was seen.
 use Prim.Native.Nat.{ℕ, zero, suc, _≤_}
 use mathlib.Core.Path.{_≡_, refl, sym, _∙_, subst}
 use mathlib.Core.Bool.{Bool, true, false, false≢true}

@@ -1,4 +1,5 @@
--- The definitions of the claim, computed on small calls: where a cell starts, which marks the reports have, and the rows of its tree.
+-- The definitions of the claim, computed on small calls: where a cell starts, which marks the reports have, and the
+-- rows of its tree.
 use Prim.Native.Nat.{ℕ, zero, suc, _*_}
 use mathlib.Core.Path.{_≡_, refl}
 use mathlib.Core.Bool.{Bool, true, false, _&&_}
@@ -19,7 +20,8 @@ data Tree : Type 0 where
   holds : Expr → Tree
   nothing : Tree
 
--- entry, input bytes, token numbers, and the number of a DtExpr's row; its tree, the tokens before it, and the marks of all reports
+-- entry, input bytes, token numbers, and the number of a DtExpr's row; its tree, the tokens before it, and the marks of
+-- all reports
 record Example : Type 0 where
   entry : ℕ
   input : List ℕ
@@ -50,7 +52,8 @@ examples =
     ∷ example 1 (97 ∷ 61 ∷ 60 ∷ 40 ∷ 102 ∷ 32 ∷ 40 ∷ 49 ∷ 41 ∷ 41 ∷ 62 ∷ 59 ∷ []) (27 ∷ 1 ∷ 28 ∷ 1 ∷ 39 ∷ 1 ∷ 41 ∷ 1 ∷ 27 ∷ 1 ∷ 0 ∷ 1 ∷ 41 ∷ 1 ∷ 35 ∷ 1 ∷ 42 ∷ 1 ∷ 42 ∷ 1 ∷ 40 ∷ 1 ∷ 29 ∷ 1 ∷ []) 7 nothing 3 (5 ∷ 9 ∷ [])
     -- entry 4, `#if (1+1) #endif` without the blanks: a cell in a conditional
     ∷ example 4 (35 ∷ 105 ∷ 102 ∷ 40 ∷ 49 ∷ 43 ∷ 49 ∷ 41 ∷ 35 ∷ 101 ∷ 110 ∷ 100 ∷ 105 ∷ 102 ∷ []) (4 ∷ 3 ∷ 41 ∷ 1 ∷ 35 ∷ 1 ∷ 43 ∷ 1 ∷ 35 ∷ 1 ∷ 42 ∷ 1 ∷ 11 ∷ 6 ∷ []) 4 (holds (binary one K.Plus one)) 1 []
-    -- entry 4, `(1(1)`: the second cell is sound, and the report for the first has its mark at the second's LParen, not above
+    -- entry 4, `(1(1)`: the second cell is sound, and the report for the first has its mark at the second's LParen, not
+    -- above
     ∷ example 4 (40 ∷ 49 ∷ 40 ∷ 49 ∷ 41 ∷ []) (41 ∷ 1 ∷ 35 ∷ 1 ∷ 41 ∷ 1 ∷ 35 ∷ 1 ∷ 42 ∷ 1 ∷ []) 5 (holds one) 2 (2 ∷ [])
     -- entry 4, `(1+)`: the report's mark is the RParen's index
     ∷ example 4 (40 ∷ 49 ∷ 43 ∷ 41 ∷ []) (41 ∷ 1 ∷ 35 ∷ 1 ∷ 43 ∷ 1 ∷ 42 ∷ 1 ∷ []) 1 nothing 0 (3 ∷ [])

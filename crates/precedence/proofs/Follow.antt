@@ -1,4 +1,5 @@
--- What it means that a run does what the reader does: it makes the same tree without a report, or it reports where the reader does.
+-- What it means that a run does what the reader does: it makes the same tree without a report, or it reports where the
+-- reader does.
 use Prim.Native.Nat.{ℕ, suc}
 use mathlib.Core.Path.{_≡_, refl, _∙_, ap, subst}
 use mathlib.Core.Bool.{Bool, true, false, false≢true}

@@ -1,5 +1,5 @@
--- The engine for programs that complete a marker only as certain kinds: what holds of each action and is kept by joining and by closing a
--- marker as such a kind holds of every run of such a program.
+-- The engine for programs that complete a marker only as certain kinds: what holds of each action and is kept by
+-- joining and by closing a marker as such a kind holds of every run of such a program.
 use Prim.Native.Nat.{ℕ, suc}
 use mathlib.Core.Path.{_≡_, refl, sym, subst}
 use mathlib.Core.Bool.{Bool, true}

@@ -1,4 +1,5 @@
--- A cell that is read without a report has an RParen that balances its LParen; so where none does, a report was made after the LParen.
+-- A cell that is read without a report has an RParen that balances its LParen; so where none does, a report was made
+-- after the LParen.
 use Prim.Native.Nat.{ℕ, _≤_}
 use native.Mathlib.Omega.{arith}
 use mathlib.Core.Path.{_≡_, refl, sym, _∙_, ap}

@@ -1,4 +1,5 @@
--- The powers of an expression's outermost operator, and what a place in an expression asks, by powers and by C's numbers.
+-- The powers of an expression's outermost operator, and what a place in an expression asks, by powers and by C's
+-- numbers.
 use Prim.Native.Nat.{ℕ, suc, _+_, _*_, _-_, _≤_, _<_}
 use native.Mathlib.Omega.{arith}
 use mathlib.Core.Path.{_≡_, refl}

@@ -9,7 +9,7 @@ use Rattle.definitions.specs.Token.{one-of}
 use Rattle.definitions.specs.Grammar.{Level, ternary-level, binding-power, prefix-power, PREFIX-OPERATORS-SET}
 use Rattle.definitions.specs.C.{Symbol, plain, arguments, Change, opens, closes, keeps, change, Expr, literal, name, invocation, bracketed, prefix, binary, ternary}
 
--- ---------------------------------------------------------------- what a symbol is, where an operand and where an operator is due
+-- ----------------------------------------------------- what a symbol is, where an operand and where an operator is due
 
 pub data Operand : Type 0 where
   prefixes : ℕ → Operand
@@ -51,8 +51,8 @@ is k arguments = false
 
 -- ---------------------------------------------------------------- results
 
--- done: a tree and the symbols after it. report: the first report, with the symbols not taken when it is made. refused: a 65th open call.
--- spent: the loop's bound is reached, which never happens.
+-- done: a tree and the symbols after it. report: the first report, with the symbols not taken when it is made. refused:
+-- a 65th open call. spent: the loop's bound is reached, which never happens.
 pub data Res : Type 0 where
   done : Expr → List Symbol → Res
   report : List Symbol → Res

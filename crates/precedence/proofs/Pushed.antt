@@ -1,5 +1,5 @@
--- What a run pushes: no limit exceeded (`Clear` of the laws), nothing reported, or a certain report. Each is read off a join's parts and a
--- marker's insides.
+-- What a run pushes: no limit exceeded (`Clear` of the laws), nothing reported, or a certain report. Each is read off a
+-- join's parts and a marker's insides.
 use Prim.Native.Nat.{ℕ}
 use mathlib.Core.List.{List, [], _∷_, _++_}
 use Rattle.definitions.specs.Skeleton.{Report, Skeleton, done, _⧺_}

@@ -1,5 +1,6 @@
--- Wrong answers are refused by `C-table`: a cell that does not start with its bracket, a sound cell that is reported or holds another tree, a
--- malformed one that is not reported. A statement that lets one of them pass under the same name is refused by this file.
+-- Wrong answers are refused by `C-table`: a cell that does not start with its bracket, a sound cell that is reported or
+-- holds another tree, a malformed one that is not reported. A statement that lets one of them pass under the same name
+-- is refused by this file.
 use Prim.Native.Nat.{ℕ, zero, suc}
 use native.Mathlib.Omega.{arith}
 use mathlib.Core.Path.{_≡_, ap}

@@ -1,4 +1,5 @@
--- Programs step by step, as long as no limit is exceeded: tests that make nothing, a token taken, a sequence, a branch, a marker.
+-- Programs step by step, as long as no limit is exceeded: tests that make nothing, a token taken, a sequence, a branch,
+-- a marker.
 use Prim.Native.Nat.{ℕ}
 use mathlib.Core.Path.{_≡_, refl, sym, _∙_, ap, subst}
 use mathlib.Core.Bool.{Bool, true, false}

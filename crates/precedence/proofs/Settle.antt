@@ -1,4 +1,5 @@
--- A judged cell in a whole run: no report made before or after it has a mark between its brackets, since marks never fall.
+-- A judged cell in a whole run: no report made before or after it has a mark between its brackets, since marks never
+-- fall.
 use Prim.Native.Nat.{ℕ, suc, _+_, _≤_, _<_}
 use native.Mathlib.Nat.{le-trans}
 use native.Mathlib.Omega.{arith}
@@ -62,7 +63,8 @@ falls-under a b (y ∷ l) f (there h) = le-trans (falls-under (push-mark y) b l 
 
 -- ---------------------------------------------------------------- a cell in the whole
 
--- C's table gives the tokens between the brackets a tree: no report of the whole has a mark between them, and c is that tree
+-- C's table gives the tokens between the brackets a tree: no report of the whole has a mark between them, and c is that
+-- tree
 pub record Clean (whole : List Push) (inner : List Token) (close : Token) (after : List Token) (behind u : List Token) (c : Tree) : Type 0 where
   pub tree : Expr
   pub gives : Gives (symbols false inner) tree

@@ -1,5 +1,5 @@
--- Where a run's skeleton leaves off among the raw tokens, no more of them are left than the run's mark says: what was taken is placed, and
--- trivia besides.
+-- Where a run's skeleton leaves off among the raw tokens, no more of them are left than the run's mark says: what was
+-- taken is placed, and trivia besides.
 use Prim.Native.Nat.{ℕ, zero, suc, _≤_}
 use native.Mathlib.Nat.{le-trans, le-refl}
 use mathlib.Core.Path.{_≡_, sym, _∙_, ap, subst}

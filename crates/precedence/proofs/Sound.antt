@@ -1,5 +1,5 @@
--- What the reader reads without a report is an expression that C's table allows, and its symbols; a report comes before any bracket is
--- closed that was not opened.
+-- What the reader reads without a report is an expression that C's table allows, and its symbols; a report comes before
+-- any bracket is closed that was not opened.
 use Prim.Native.Nat.{ℕ, zero, suc, _≤_, _<_}
 use native.Mathlib.Omega.{arith}
 use mathlib.Core.Path.{_≡_, refl, sym, _∙_, ap}

@@ -1,4 +1,5 @@
--- The symbols of raw tokens, seen from the cursor: trivia in front make no difference, and an Ident does only to a bracket directly after it.
+-- The symbols of raw tokens, seen from the cursor: trivia in front make no difference, and an Ident does only to a
+-- bracket directly after it.
 use Prim.Native.Nat.{ℕ, _≤_, _<_}
 use native.Mathlib.Omega.{arith}
 use mathlib.Core.Path.{_≡_, refl, sym, _∙_, ap, subst}
@@ -162,7 +163,8 @@ symbols-fewer b c (x ∷ xs) us = go (trivia x) refl (λ d. symbols-fewer b d xs
     go true e h = rw (symbols-blank c x (xs ++ us) e) (h false)
     go false e h = rw (symbols-solid c x (xs ++ us) e) (omega (arith, h (eqb (seen x) K.Ident)))
 
--- What is left of the tokens still has the bracket that balances, if its symbols do: `behind` are the tokens after the bracket t.
+-- What is left of the tokens still has the bracket that balances, if its symbols do: `behind` are the tokens after the
+-- bracket t.
 pub still-there : (r raw inner behind : List Token) (t : Token) (xs : List Symbol) → Tail raw r → r ≡ inner ++ (t ∷ behind)
     → symbols false raw ≡ xs ++ (plain K.RParen ∷ symbols false behind) → length (t ∷ behind) ≤ length raw
 still-there r raw inner behind t xs p e h = go (leb (length raw) (length behind)) refl

@@ -70,7 +70,8 @@ level-large (x ∷ xs) k h l =
     let b = both (small (x .kinds)) (small-levels xs) h in
     rw (one-of-large (x .kinds) k (b .0) l) (level-large xs k (b .1) l)
 
--- a kind k, its number p in C's table, and its place among the operators: left is 27 less twice the number, right is one more
+-- a kind k, its number p in C's table, and its place among the operators: left is 27 less twice the number, right is
+-- one more
 agree : ℕ → ℕ → Operator → Bool
 agree k p asks = eqb k K.QuestionMark && eqb p 0
 agree k p (binds j l r) = eqb j k && (eqb (l + 2 * p) 27 && (eqb r (suc l) && (leb 3 p && leb p 12)))

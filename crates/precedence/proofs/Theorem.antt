@@ -52,7 +52,8 @@ seen-of t j e f = rw e (rw f refl)
 
 -- ---------------------------------------------------------------- a bracket and its partner
 
--- report row q has its mark above the LParen's token index k, and at most the index just past the last of the tokens in c
+-- report row q has its mark above the LParen's token index k, and at most the index just past the last of the tokens in
+-- c
 pub record Tells (r : Result) (k : ℕ) (c : Tree) (q : ℕ) : Type 0 where
   pub written : q < r .answer .report-count
   pub above : k < mark-in q (r .buffers .reports)
@@ -137,7 +138,7 @@ module _ (e : Entry) (ts : List Token) (l : Buffers) (clear : None-exceeded (pus
         kind-is = kind-of (s .bracket) K.LParen (s .is-bracket) (λ z. omega arith);
       }
 
-  -- ---------------------------------------------------------------- it has a partner, or a report says that it has none
+  -- --------------------------------------------------------------- it has a partner, or a report says that it has none
 
   tells : (k : ℕ) (u behind : List Token) (c : Tree) → length ts ≡ k + suc (length behind) → length u ≡ suc (length behind)
       → Partner behind ⊎ ((end : ℕ) × (length u ≤ end + length (leaves c)) × Heard-inside all behind end) → Partner behind ⊎ ((q : ℕ) × Tells r k c q)

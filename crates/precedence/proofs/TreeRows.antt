@@ -1,4 +1,5 @@
--- A DtExpr's row leads to the DtExpr: from a row number to a node of the tree, the tokens before it, and the rows from it on.
+-- A DtExpr's row leads to the DtExpr: from a row number to a node of the tree, the tokens before it, and the rows from
+-- it on.
 use Prim.Native.Nat.{ℕ, zero, suc, _+_, _*_, _-_, _<_}
 use native.Mathlib.Nat.{zero-add}
 use native.Mathlib.Omega.{arith}

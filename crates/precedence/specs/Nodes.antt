@@ -1,5 +1,5 @@
--- The nodes that the parser has for an expression of C's table. They are written as a skeleton, and the definitions' `place` puts the raw
--- tokens in, trivia where the sink puts them.
+-- The nodes that the parser has for an expression of C's table. They are written as a skeleton, and the definitions'
+-- `place` puts the raw tokens in, trivia where the sink puts them.
 use Prim.Native.Nat.{ℕ, zero, suc}
 use mathlib.Core.Bool.{Bool, cond}
 use mathlib.Core.List.{List, [], _∷_}
@@ -19,7 +19,8 @@ nodes k p = node k 0 0 done p done
 
 -- ---------------------------------------------------------------- macro arguments
 
--- some symbols from inside an argument list: the tokens up to the first comma outside inner brackets, and the comma with what follows it
+-- some symbols from inside an argument list: the tokens up to the first comma outside inner brackets, and the comma
+-- with what follows it
 pub record Split : Type 0 where
   pub first : Skeleton
   pub later : Skeleton

@@ -1,7 +1,7 @@
--- C'S TABLE. For every accepted call and every DtExpr among the rows that it leaves in the buffers, whether the cell is a property's value,
--- stands in a conditional or comes from entries 3 and 4: the tokens between its LParen and the RParen that balances it are judged as C's
--- precedence table judges them. It shuts out a parser that groups an operator the wrong way round, that takes a malformed expression
--- without a report, or that reports a sound one.
+-- C'S TABLE. For every accepted call and every DtExpr among the rows that it leaves in the buffers, whether the cell is
+-- a property's value, stands in a conditional or comes from entries 3 and 4: the tokens between its LParen and the
+-- RParen that balances it are judged as C's precedence table judges them. It shuts out a parser that groups an operator
+-- the wrong way round, that takes a malformed expression without a report, or that reports a sound one.
 use Prim.Native.Nat.{ℕ, zero, suc, _+_, _*_, _≤_, _<_}
 use mathlib.Core.Path.{_≡_}
 use mathlib.Core.Bool.{false, cond}
@@ -45,7 +45,8 @@ pub record DtExpr-at (p : ℕ) (r : Result) : Type 0 where
   pub count : ℕ
   pub row : tree-row-at p (r .buffers .trees) ≡ NODE ∷ N.DtExpr ∷ width ∷ count ∷ []
 
--- "Starts a cell": the DtExpr's first child is the leaf of an LParen, and the index of that LParen is the number of tokens before the DtExpr.
+-- "Starts a cell": the DtExpr's first child is the leaf of an LParen, and the index of that LParen is the number of
+-- tokens before the DtExpr.
 pub record Starts-cell (ts : List Token) (p : ℕ) (r : Result) : Type 0 where
   pub width : ℕ
   pub row : tree-row-at (suc p) (r .buffers .trees) ≡ LEAF ∷ K.LParen ∷ width ∷ 1 ∷ []
@@ -79,7 +80,8 @@ pub record Between (ts : List Token) (b : Brackets ts) (r : Result) (q : ℕ) : 
   pub above : opening-index ts b < mark-in q (r .buffers .reports)
   pub at-most : mark-in q (r .buffers .reports) ≤ closing-index ts b
 
--- the rows from p on are those of the DtExpr that holds the tree e, the trivia among the tokens being where the sink puts them
+-- the rows from p on are those of the DtExpr that holds the tree e, the trivia among the tokens being where the sink
+-- puts them
 pub record Holds-tree (ts : List Token) (b : Brackets ts) (r : Result) (p : ℕ) (e : Expr) : Type 0 where
   pub more : List ℕ
   pub rows-are : drop (TREE-ROW * p) (r .buffers .trees) ≡ rows (place (cell e) (b .opening ∷ (b .inner ++ (b .closing ∷ b .after)))) ++ more

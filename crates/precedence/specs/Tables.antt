@@ -1,5 +1,5 @@
--- THE TWO TABLES BESIDE EACH OTHER: the binding powers of expr.rs, which the definitions hold, and the lines of C's table.
--- It excludes an operator at the wrong level, or one that groups the wrong way round.
+-- THE TWO TABLES BESIDE EACH OTHER: the binding powers of expr.rs, which the definitions hold, and the lines of C's
+-- table. It excludes an operator at the wrong level, or one that groups the wrong way round.
 use Prim.Native.Nat.{ℕ, suc, _+_, _*_, _≤_, _<_}
 use mathlib.Core.Path.{_≡_}
 use mathlib.Core.Bool.{false}
@@ -8,8 +8,8 @@ use Rattle.definitions.specs.Token.{one-of}
 use Rattle.definitions.specs.Grammar.{Level, ternary-level, binding-power, prefix-power}
 use Rattle.definitions.specs.C.{line-of}
 
--- each of these kinds is an operator of C's table, and the tighter its line binds, the higher its powers; the right power
--- is the higher of the two, so that the operator groups from left to right
+-- each of these kinds is an operator of C's table, and the tighter its line binds, the higher its powers; the right
+-- power is the higher of the two, so that the operator groups from left to right
 abbrev pub By-lines : List ℕ → ℕ → ℕ → Type 0
 By-lines [] left right = Unit {0}
 By-lines (k ∷ ks) left right = (left + 2 * line-of k ≡ 27) × (right ≡ suc left) × (1 ≤ line-of k) × By-lines ks left right
@@ -24,9 +24,9 @@ abbrev pub None-has : List Level → ℕ → Type 0
 None-has [] k = Unit {0}
 None-has (l ∷ ls) k = (one-of (l .kinds) k ≡ false) × None-has ls k
 
--- Every level of binding powers is a line of C's table, and every operator of the table has a level. A prefix operator has
--- the power of line 2. The ternary, line 13, is lower than all of line 12, and its left power is the higher of the two, so
--- that it groups from right to left.
+-- Every level of binding powers is a line of C's table, and every operator of the table has a level. A prefix operator
+-- has the power of line 2. The ternary, line 13, is lower than all of line 12, and its left power is the higher of the
+-- two, so that it groups from right to left.
 pub record Tables-agree : Type 0 where
   pub lines : Levels binding-power
   pub all-of-them : (k : ℕ) → None-has binding-power k → line-of k ≡ 0

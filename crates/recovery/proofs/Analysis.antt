@@ -1,4 +1,5 @@
--- An analysis that computes on a program: what it surely does about semicolons that end its parts. Sound.antt proves it right.
+-- An analysis that computes on a program: what it surely does about semicolons that end its parts. Sound.antt proves it
+-- right.
 use mathlib.Core.Path.{_≡_, refl}
 use Prim.Native.Nat.{ℕ, zero, suc}
 use mathlib.Core.Bool.{Bool, true, false, cond, _&&_, _||_, not}
@@ -13,12 +14,10 @@ use Rattle.recovery.specs.Recovery.{is-statement}
 pub data Rank : Type 0 where
   low mid high : Rank
 
--- What is known of a run, from the state in which it began.
--- still: it made nothing and changed nothing.
--- head: the current token may be a semicolon now.
--- tail: of the last thing made. low: it is not a semicolon's leaf; mid: if it is, the run stands right after it; high: unknown.
--- part: of the parts made. low: no statement among them ends in a semicolon of its own; mid: only the last may, and then the run stands
--- right after it; high: unknown.
+-- What is known of a run, from the state in which it began. still: it made nothing and changed nothing. head: the
+-- current token may be a semicolon now. tail: of the last thing made. low: it is not a semicolon's leaf; mid: if it is,
+-- the run stands right after it; high: unknown. part: of the parts made. low: no statement among them ends in a
+-- semicolon of its own; mid: only the last may, and then the run stands right after it; high: unknown.
 pub record Known : Type 0 where
   pub still : Bool
   pub head : Bool

@@ -219,12 +219,14 @@ shared = stays-local one two refl refl in-one in-two alike
 
 -- ---------------------------------------------------------------- what is not promised
 
--- By "at least" in place of "greater", the first file would have a later report more: the one that is made when the semicolon comes too soon.
+-- By "at least" in place of "greater", the first file would have a later report more: the one that is made when the
+-- semicolon comes too soon.
 not-at-least : (length (those (λ r. leb (token-index in-one) (mark r)) (report-rows (result one))) ≡ 5) × (length (those (λ r. leb (token-index in-two) (mark r)) (report-rows (result two))) ≡ 4)
 unfolding those token-index over-leaves report-rows call in-one in-two
 not-at-least = (refl, refl)
 
--- Pending expectations do not end with a statement that lacks its semicolon: after `/{}` the missing one is reported, and after `a;` nothing is.
+-- Pending expectations do not end with a statement that lacks its semicolon: after `/{}` the missing one is reported,
+-- and after `a;` nothing is.
 abbrev unfinished : File
 unfinished = record { bytes = 47 ∷ 123 ∷ 125 ∷ 98 ∷ 59 ∷ []; tokens = 46 ∷ 1 ∷ 37 ∷ 1 ∷ 38 ∷ 1 ∷ 27 ∷ 1 ∷ 29 ∷ 1 ∷ []; buffers = lent 100 }
 

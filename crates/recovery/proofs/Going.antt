@@ -1,4 +1,5 @@
--- What holds of every run: where it stands, that marks fall, what it takes, and that it goes onward only. And where placing stands.
+-- What holds of every run: where it stands, that marks fall, what it takes, and that it goes onward only. And where
+-- placing stands.
 use Prim.Native.Nat.{ℕ}
 use mathlib.Core.Path.{_≡_}
 use mathlib.Core.List.{List}

@@ -1,4 +1,5 @@
--- What the analysis speaks of, said of runs: a run from the state s makes p, placed from the raw tokens ts on, and comes to u.
+-- What the analysis speaks of, said of runs: a run from the state s makes p, placed from the raw tokens ts on, and
+-- comes to u.
 use Prim.Native.Nat.{ℕ, _≤_, _<_}
 use native.Mathlib.Omega.{arith}
 use mathlib.Core.Logic.{_⊎_, inl, inr}
@@ -63,8 +64,8 @@ quiet-beside (subtree k c f) g p q = (p .0, quiet-beside f g (p .1) q)
 
 -- ---------------------------------------------------------------- what is known of a run
 
--- the run stands right after the last token that it took: nothing is pending, nothing was passed over or reported since, and placing
--- goes on there too
+-- the run stands right after the last token that it took: nothing is pending, nothing was passed over or reported
+-- since, and placing goes on there too
 pub record Sealed (s : State) (ts : List Token) (p : Skeleton) (u : State) : Type 0 where
   pub rest : List Token
   pub is : u ≡ taken rest

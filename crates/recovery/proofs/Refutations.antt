@@ -1,5 +1,5 @@
--- Wrong answers are refused by `Stays-local`: for each thing that two files share a pair of rows that do not share it. A promise that lets
--- one of them pass under the same name is refused by this file.
+-- Wrong answers are refused by `Stays-local`: for each thing that two files share a pair of rows that do not share it.
+-- A promise that lets one of them pass under the same name is refused by this file.
 use mathlib.Core.Path.{_≡_, refl, ap}
 use Prim.Native.Nat.{ℕ, zero, suc}
 use native.Mathlib.Omega.{arith}
@@ -75,7 +75,8 @@ two-labels (label h p q) = inr (h, p, q)
 abbrev labelled : ℕ → ℕ → Row
 labelled s e = 7 ∷ 0 ∷ 0 ∷ 0 ∷ 0 ∷ 0 ∷ 0 ∷ s ∷ e ∷ []
 
--- 18..19 is 13..14 in the other file: not itself, not what the difference gives the wrong way round, not an end alone, not absent
+-- 18..19 is 13..14 in the other file: not itself, not what the difference gives the wrong way round, not an end alone,
+-- not absent
 label-stays : LabelMoved 14 9 (labelled 18 19) (labelled 18 19) → ⊥
 label-stays l = go (two-labels l) where
   go : Two-labels 14 9 (labelled 18 19) (labelled 18 19) → ⊥

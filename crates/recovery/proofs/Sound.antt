@@ -230,8 +230,8 @@ run-claimed (suc n) r s ts A =
     let E = program-ends n (λ q u us B. run-claimed n q u us B) no-label (grammar r) (claim r) (grammar-surely r) s ts A in
     record { shape = E .0; holds = E .1 }
 
--- A TURN of the source file's loop: no statement in it ends in a semicolon of its own, or only its last part does and the run stands
--- right after it
+-- A TURN of the source file's loop: no statement in it ends in a semicolon of its own, or only its last part does and
+-- the run stands right after it
 pub turn-holds : (s : State) (ts : List Token) → At s ts
     → Holds (know true low mid) s ts (exec (run MOST-OPEN-CALLS) no-label sourcefile-turn s .made) (exec (run MOST-OPEN-CALLS) no-label sourcefile-turn s .state)
 turn-holds s ts A = program-ends MOST-OPEN-CALLS (run-claimed MOST-OPEN-CALLS) no-label sourcefile-turn (know true low mid) turn-surely s ts A .1

@@ -1,5 +1,5 @@
--- One file, taken apart at the semicolon: the tokens before and after it, and that what is written of those after it is what they make
--- by themselves.
+-- One file, taken apart at the semicolon: the tokens before and after it, and that what is written of those after it is
+-- what they make by themselves.
 use Prim.Native.Nat.{ℕ, _+_, _≤_}
 use native.Mathlib.Omega.{arith}
 use mathlib.Core.Path.{_≡_, refl, ap, sym, _∙_, subst}

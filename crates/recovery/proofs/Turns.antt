@@ -1,5 +1,5 @@
--- The source file's loop, turn by turn: what comes after a statement that ends in a semicolon of its own is what the tokens after that
--- semicolon make by themselves.
+-- The source file's loop, turn by turn: what comes after a statement that ends in a semicolon of its own is what the
+-- tokens after that semicolon make by themselves.
 use Prim.Native.Nat.{ℕ, zero, suc, _≤_, _<_}
 use native.Mathlib.Nat.{le-refl, not-suc-le-zero}
 use native.Mathlib.Omega.{arith}

@@ -1,5 +1,6 @@
--- The premises of `Stays-local` can be met by every kind of statement on either side: properties, nodes and directives of different lengths,
--- in different places, with different buffers, and after each the same `}`. A statement that leaves one of these pairs out is refused here.
+-- The premises of `Stays-local` can be met by every kind of statement on either side: properties, nodes and directives
+-- of different lengths, in different places, with different buffers, and after each the same `}`. A statement that
+-- leaves one of these pairs out is refused here.
 use mathlib.Core.Path.{_≡_, refl, sym, _∙_}
 use Prim.Native.Nat.{ℕ, suc}
 use mathlib.Core.Bool.{true}

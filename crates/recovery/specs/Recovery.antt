@@ -1,5 +1,6 @@
--- The third promise: recovery stays local. Two accepted source files that are alike after a semicolon, where it ends a top-level
--- property, node or directive in both, have the same parts, lexical errors and reports after it; only places are moved.
+-- The third promise: recovery stays local. Two accepted source files that are alike after a semicolon, where it ends a
+-- top-level property, node or directive in both, have the same parts, lexical errors and reports after it; only places
+-- are moved.
 use mathlib.Core.Path.{_≡_}
 use Prim.Native.Nat.{ℕ, suc, _+_}
 use mathlib.Core.Bool.{Bool, true, cond, not}
@@ -35,10 +36,11 @@ unfoldable pub is-statement : ℕ → Bool
 unfolding one-of
 is-statement = one-of (N.DtProperty ∷ N.DtNode ∷ N.DtsDirective ∷ [])
 
--- A semicolon in tree rows that is the own last leaf of a top-level property, node or directive.
--- document 01: a top-level part is a child of the root; a part's own last leaf is a direct child of it and its last.
--- before: the rows of the root's children before the part. inside: those of the part's children before the semicolon.
--- later: document 01's later parts, the root's children after the part, with every tree row under them. All rows that follow are theirs.
+-- A semicolon in tree rows that is the own last leaf of a top-level property, node or directive. document 01: a
+-- top-level part is a child of the root; a part's own last leaf is a direct child of it and its last. before: the rows
+-- of the root's children before the part. inside: those of the part's children before the semicolon. later: document
+-- 01's later parts, the root's children after the part, with every tree row under them. All rows that follow are
+-- theirs.
 pub record Semicolon (l : List Row) : Type 0 where
   pub root : Row
   pub before : List Row
@@ -145,7 +147,8 @@ later-errors f s = those (later-error (start-byte s)) (error-rows (result f))
 abbrev pub later-reports : (f : File) → Semicolon (tree-rows (result f)) → List Row
 later-reports f s = those (later-report (token-index s)) (report-rows (result f))
 
--- the places that a difference is taken of: bytes, marks and first pool places move, each by the second file's place less the first's
+-- the places that a difference is taken of: bytes, marks and first pool places move, each by the second file's place
+-- less the first's
 abbrev pub places : (f : File) → Semicolon (tree-rows (result f)) → Places
 places f s = record { byte = start-byte s; index = token-index s; pool-place = pool-before (token-index s) (report-rows (result f)) }
 

@@ -1,5 +1,6 @@
--- The last step before the exported contract: the machine's end and the sink's promise, joined. What they leave in the lent buffers,
--- cleared after what is written, is the result of `parse` in `definitions`. A device of the proofs, and not a part of any exported promise.
+-- The last step before the exported contract: the machine's end and the sink's promise, joined. What they leave in the
+-- lent buffers, cleared after what is written, is the result of `parse` in `definitions`. A device of the proofs, and
+-- not a part of any exported promise.
 use Prim.Native.Nat.{ℕ, _-_, _*_, _/_, _≤_}
 use mathlib.Core.Path.{_≡_}
 use mathlib.Core.List.{List, _++_}

@@ -1,5 +1,5 @@
--- Calls on both sides of every limit, computed: each has the cause that is listed and no other. The sizes of the lent buffers are given as
--- events, tree rows, lexical errors, reports, expectations, in numbers.
+-- Calls on both sides of every limit, computed: each has the cause that is listed and no other. The sizes of the lent
+-- buffers are given as events, tree rows, lexical errors, reports, expectations, in numbers.
 use Prim.Native.Nat.{ℕ, zero, suc}
 use native.Mathlib.Omega.{arith}
 use mathlib.Core.Path.{_≡_, refl, sym, _∙_}
@@ -39,7 +39,8 @@ enough = room 6000 3000 9 9000 9000
 abbrev on : ℕ → List ℕ → List ℕ → Buffers → ℕ → ℕ → Case
 on e bytes tokens b n p = record { entry = e; bytes = bytes; rows = tokens; lent = b; number = n; place = p }
 
--- #if fifty times, and then: conditionals, each inside the one before. Where they end each pushes expectations, and nothing is taken
+-- #if fifty times, and then: conditionals, each inside the one before. Where they end each pushes expectations, and
+-- nothing is taken
 abbrev directives : List ℕ → List ℕ
 directives = times 50 (35 ∷ 105 ∷ 102 ∷ [])
 
@@ -64,7 +65,8 @@ cases =
     -- 2: one number too many; with one fewer the first row is bad
     ∷ on 1 [] (replicate 131073 0) enough 2 0
     ∷ on 1 [] (replicate 131072 0) enough 3 0
-    -- 3: kinds 25, 61 and 75; length 0; an end past the input; odd numbers; a short total; no row for one byte; 3 in a later row before 4
+    -- 3: kinds 25, 61 and 75; length 0; an end past the input; odd numbers; a short total; no row for one byte; 3 in a
+    -- later row before 4
     ∷ on 1 (97 ∷ []) (25 ∷ 1 ∷ []) enough 3 0
     ∷ on 1 (97 ∷ 98 ∷ []) (27 ∷ 1 ∷ 61 ∷ 1 ∷ []) enough 3 1
     ∷ on 1 (97 ∷ []) (75 ∷ 1 ∷ []) enough 3 0
@@ -146,7 +148,8 @@ all-only (c ∷ l) h = (only c (and-left (right c) _ h), all-only l (and-right (
 pub cases-hold : All-only cases
 cases-hold = all-only cases computed
 
--- both sides of the limit on bytes, which are too many to compute with: one too many; and none too many, where no row covers them
+-- both sides of the limit on bytes, which are too many to compute with: one too many; and none too many, where no row
+-- covers them
 pub bytes-over : (bytes : List ℕ) (b : Buffers) → length bytes ≡ 1048577 → call 1 bytes [] b .answer .number ≡ 2
 bytes-over bytes b h = refusals 1 bytes [] b 2 0 .1 (over-size SourceFile refl (λ s. omega (arith, h, s .0))) .0
 
@@ -157,7 +160,8 @@ bytes-kept bytes b h =
 
 -- ---------------------------------------------------------------- what happens in a run, written out
 
--- cells, `;`: the call of `eat_cell` leaves four expectations and reports; the end of input is expected, and what is left over is reported
+-- cells, `;`: the call of `eat_cell` leaves four expectations and reports; the end of input is expected, and what is
+-- left over is reported
 pub semicolon-in-cells :
     happens Cells (29 ∷ 1 ∷ [])
     ≡ call-opened 1 1 ∷ expectation-pushed 1 1 ∷ expectation-pushed 2 1 ∷ expectation-pushed 3 1 ∷ expectation-pushed 4 1 ∷ event-pushed 1 ∷ report-written 4 1

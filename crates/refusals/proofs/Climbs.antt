@@ -1,4 +1,5 @@
--- Open calls and pending expectations grow one by one, so that the first too many is the 65th or the 257th: one more induction over programs.
+-- Open calls and pending expectations grow one by one, so that the first too many is the 65th or the 257th: one more
+-- induction over programs.
 use Prim.Native.Nat.{ℕ, zero, suc, _+_, _≤_, max}
 use native.Mathlib.Omega.{arith}
 use mathlib.Core.Path.{_≡_, refl, subst}

@@ -1,4 +1,5 @@
--- Walking along a list in search of the first member of which a property does not hold; and that there is only one first.
+-- Walking along a list in search of the first member of which a property does not hold; and that there is only one
+-- first.
 use native.Mathlib.Omega.{arith}
 use mathlib.Core.Path.{_≡_, refl, sym, ap, subst, subst₂, _∙_}
 use mathlib.Core.List.{List, [], _∷_, _++_, append-nil, append-assoc}

@@ -1,4 +1,5 @@
--- What `scan` finds is what the statement says: all that happens is allowed, or the refusal is that of the first that is not.
+-- What `scan` finds is what the statement says: all that happens is allowed, or the refusal is that of the first that
+-- is not.
 use Prim.Native.Nat.{ℕ, zero, suc, _+_, _-_, _/_, _≤_, _<_}
 use native.Mathlib.Nat.{zero-add}
 use native.Mathlib.Omega.{arith}

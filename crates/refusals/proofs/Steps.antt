@@ -1,5 +1,6 @@
--- What a run makes and what happens in it, both brought to steps, in which a call or an expectation that breaks its limit stands as the
--- definitions mark it, and one that breaks none does not stand at all. For each action the two are the same.
+-- What a run makes and what happens in it, both brought to steps, in which a call or an expectation that breaks its
+-- limit stands as the definitions mark it, and one that breaks none does not stand at all. For each action the two are
+-- the same.
 use Prim.Native.Nat.{ℕ, zero, suc}
 use mathlib.Core.Path.{_≡_, refl, sym, ap, _∙_}
 use mathlib.Core.Bool.{Bool, true, false}

@@ -1,4 +1,5 @@
--- What a run makes and what happens in it have the same steps: one induction over programs, loops, chains and open calls.
+-- What a run makes and what happens in it have the same steps: one induction over programs, loops, chains and open
+-- calls.
 use Prim.Native.Nat.{ℕ, zero, suc, _+_}
 use native.Mathlib.Omega.{arith}
 use mathlib.Core.Path.{_≡_, refl, sym, ap, ap₂, _∙_}
@@ -57,7 +58,8 @@ link-tells k m n a i x =
     ap (_++ (an-event n ∷ x)) (steps-closed k m n a i) ∙ append-assoc (steps a) (an-event m ∷ (steps i ++ (an-event n ∷ []))) (an-event n ∷ x)
     ∙ ap (λ (z : List Step). steps a ++ (an-event m ∷ z)) (append-assoc (steps i) (an-event n ∷ []) (an-event n ∷ x))
 
--- one link, whether it shapes the marker or not, and whether the chain goes on or not; x and q: the rest of a chain that goes on
+-- one link, whether it shapes the marker or not, and whether the chain goes on or not; x and q: the rest of a chain
+-- that goes on
 one-link-tells : (k m : ℕ) (b : Bool) (a i : Skeleton) (o x : Out) (l q : List Happening) → steps (o .made) ≡ told l
     → steps (x .made) ≡ Open (mark-of (o .state)) (linked m a i o) done (told q)
     → steps (by-shape k (unlinked m a (i ⧺ o .made) (o .ans) (o .state)) (cond b x (unlinked (mark-of (o .state)) (linked m a i o) done (o .ans) (o .state))) .made)

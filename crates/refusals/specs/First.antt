@@ -1,4 +1,5 @@
--- What holds of each member of a list, and the first of which it does not hold. A member is judged by what stands before it.
+-- What holds of each member of a list, and the first of which it does not hold. A member is judged by what stands
+-- before it.
 use mathlib.Core.Path.{_≡_}
 use mathlib.Core.List.{List, _∷_, _++_}
 

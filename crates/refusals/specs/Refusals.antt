@@ -1,5 +1,6 @@
--- REFUSALS: document 01's table of causes. Each of the numbers 0 to 8 is returned, with its place, if and only if its condition holds.
--- It shuts out refusing everything, a limit that is one off, "does not fit" before a buffer is used up, and causes tried in another order.
+-- REFUSALS: document 01's table of causes. Each of the numbers 0 to 8 is returned, with its place, if and only if its
+-- condition holds. It shuts out refusing everything, a limit that is one off, "does not fit" before a buffer is used
+-- up, and causes tried in another order.
 use Prim.Native.Nat.{ℕ, suc, _+_, _-_, _*_, _≤_}
 use mathlib.Core.Path.{_≡_}
 use mathlib.Core.Logic.{_↔_}
@@ -97,8 +98,9 @@ expectations-in (expectation-pushed c m ∷ l) = expectations-in l
 expectations-in (event-pushed m ∷ l) = expectations-in l
 expectations-in (report-written c m ∷ l) = c + expectations-in l
 
--- What happens breaks no limit and fits: with this one the open calls are at most 64, the pending expectations at most 256; with those
--- before it the event rows, the report rows and the expectations written are no more than their buffer holds.
+-- What happens breaks no limit and fits: with this one the open calls are at most 64, the pending expectations at most
+-- 256; with those before it the event rows, the report rows and the expectations written are no more than their buffer
+-- holds.
 abbrev pub Unrefused : Buffers → List Happening → Happening → Type 0
 Unrefused b before (call-opened c m) = c ≤ MAX-OPEN
 Unrefused b before (expectation-pushed c m) = c ≤ MAX-PENDING

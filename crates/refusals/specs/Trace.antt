@@ -1,6 +1,6 @@
--- What happens in a run, in order: calls are opened, expectations and events are pushed, report rows are written. It follows `exec`,
--- `iter`, `links`, `chained` and `run` of the definitions, step by step, and says nothing of limits and buffers, by which
--- specs/Refusals.antt judges it.
+-- What happens in a run, in order: calls are opened, expectations and events are pushed, report rows are written. It
+-- follows `exec`, `iter`, `links`, `chained` and `run` of the definitions, step by step, and says nothing of limits and
+-- buffers, by which specs/Refusals.antt judges it.
 use Prim.Native.Nat.{ℕ, zero, suc}
 use mathlib.Core.Bool.{cond}
 use mathlib.Core.List.{List, [], _∷_, _++_}
@@ -11,8 +11,9 @@ use Rattle.definitions.specs.Grammar.{grammar, Entry, whole}
 use Rattle.definitions.specs.Skeleton.{Label, no-label, Skeleton, done, token, name, node, ignored, report, over}
 use Rattle.definitions.specs.Run.{State, Out, mark-of, taken, perform, is-again, goes-on, by-shape, here, exec, run}
 
--- Each with the mark at which it happens, counted from the end of the file as the definitions count it. call-opened: with how many calls
--- are open then. expectation-pushed: with how many are pending then. report-written: a report's row, with its number of expectations.
+-- Each with the mark at which it happens, counted from the end of the file as the definitions count it. call-opened:
+-- with how many calls are open then. expectation-pushed: with how many are pending then. report-written: a report's
+-- row, with its number of expectations.
 pub data Happening : Type 0 where
   call-opened : ℕ → ℕ → Happening
   expectation-pushed : ℕ → ℕ → Happening
@@ -23,7 +24,8 @@ pub data Happening : Type 0 where
 abbrev pub event-at : State → List Happening
 event-at s = event-pushed (mark-of s) ∷ []
 
--- What an action makes: tokens and names, an event each; or a report, whose event is pushed before its row. No action makes a node.
+-- What an action makes: tokens and names, an event each; or a report, whose event is pushed before its row. No action
+-- makes a node.
 unfoldable pub made-by : Skeleton → List Happening
 made-by done = []
 made-by (token t m o) = event-pushed m ∷ made-by o
@@ -53,7 +55,8 @@ unfolding goes-on
 iter-trace zero f g s = []
 iter-trace (suc n) f g s = g s ++ (let more = iter-trace n f g (f s .state) in cond (goes-on s (f s)) more [])
 
--- A chain's marker stands open. A link that shapes it completes it, and pushes the next marker; the last marker is ignored.
+-- A chain's marker stands open. A link that shapes it completes it, and pushes the next marker; the last marker is
+-- ignored.
 unfoldable pub links-trace : ℕ → (State → Out) → (State → List Happening) → State → List Happening
 unfolding goes-on by-shape
 links-trace zero f g s = event-at s
@@ -87,7 +90,8 @@ exec-trace ask in-call b (chain p q) s =
 exec-trace ask in-call b (brace p) s = exec-trace ask in-call (here (s .rest)) p s
 exec-trace ask in-call b (open-call r) s = in-call r s
 
--- a rule, with so many more open calls allowed and so many open around it; the call that is one too many comes no further
+-- a rule, with so many more open calls allowed and so many open around it; the call that is one too many comes no
+-- further
 unfoldable pub run-trace : ℕ → ℕ → Rule → State → List Happening
 unfolding run grammar exec-trace
 run-trace zero open-calls r s = call-opened (suc open-calls) (mark-of s) ∷ []

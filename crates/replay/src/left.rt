@@ -1,6 +1,6 @@
-// What a case's call answers and leaves, as text: a line with its name, number, place and four counts, and what each buffer holds
-// after the counted rows (`lend::tail`); then the rows, a line for each buffer that has some: t trees, x lexical errors, r reports,
-// e expectations.
+// What a case's call answers and leaves, as text: a line with its name, number, place and four counts, and what each
+// buffer holds after the counted rows (`lend::tail`); then the rows, a line for each buffer that has some: t trees, x
+// lexical errors, r reports, e expectations.
 use call::Answer;
 use cases::lend::tail;
 use cases::scan::least;

@@ -1,8 +1,7 @@
 // Cases of the exported call, run one after the other; what each answers and leaves is printed (left.rt).
-//
-// A case is a line and then its bytes as they are, with a line end after each. The line has a name, eight numbers (how many token
-// numbers, how many bytes, the entry, and how many numbers of each buffer are lent: events, trees, errors, reports, pool), and the
-// token numbers.
+//  A case is a line and then its bytes as they are, with a line end after each. The line has a name, eight numbers (how
+// many token numbers, how many bytes, the entry, and how many numbers of each buffer are lent: events, trees, errors,
+// reports, pool), and the token numbers.
 mod left;
 
 use cases::arrays;

@@ -1,5 +1,5 @@
--- THE STEPS LEAVE NOTHING OUT: each report of a run, and each refusal 5, is one of its steps, in order. So a statement about every step
--- (specs/Steps.antt) speaks of every report, at the state at which it is made.
+-- THE STEPS LEAVE NOTHING OUT: each report of a run, and each refusal 5, is one of its steps, in order. So a statement
+-- about every step (specs/Steps.antt) speaks of every report, at the state at which it is made.
 use mathlib.Core.Path.{_≡_}
 use mathlib.Core.List.{List, [], _∷_, _++_}
 use Prim.Native.Nat.{ℕ}

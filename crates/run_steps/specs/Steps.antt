@@ -1,5 +1,6 @@
--- WHAT A RUN DOES, STEP BY STEP: each program that it begins and where, each answer that it branches on, each turn of a loop and each
--- link of a chain. So that a statement can speak of every place at which the definitions have a clause that no run is to use.
+-- WHAT A RUN DOES, STEP BY STEP: each program that it begins and where, each answer that it branches on, each turn of a
+-- loop and each link of a chain. So that a statement can speak of every place at which the definitions have a clause
+-- that no run is to use.
 use Prim.Native.Nat.{ℕ, zero, suc}
 use mathlib.Core.Bool.{Bool, true, false, cond}
 use mathlib.Core.List.{List, [], _∷_, _++_}
@@ -12,10 +13,10 @@ use Rattle.definitions.specs.Grammar.{grammar, Entry, whole}
 use Rattle.definitions.specs.Skeleton.{Label, no-label}
 use Rattle.definitions.specs.Run.{State, Out, taken, is-again, goes-on, by-shape, here, exec, run}
 
--- begun: a program begins at a state. asked: the condition of a `case` gave this answer.
--- turned: a turn of a loop, begun at the state, gave this. linked: the same of a link of a chain.
--- spent: a loop or a chain is to go on, and no turn is left of those that it may make (one more than tokens are left when it begins).
--- exceeded: a 65th open call or a 257th pending expectation. The run is refused here, with number 5.
+-- begun: a program begins at a state. asked: the condition of a `case` gave this answer. turned: a turn of a loop,
+-- begun at the state, gave this. linked: the same of a link of a chain. spent: a loop or a chain is to go on, and no
+-- turn is left of those that it may make (one more than tokens are left when it begins). exceeded: a 65th open call or
+-- a 257th pending expectation. The run is refused here, with number 5.
 pub data Step : Type 0 where
   begun : Prog → State → Step
   branched : Ans → Step

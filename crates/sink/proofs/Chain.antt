@@ -22,7 +22,7 @@ use Rattle.sink.proofs.Encode.{event-count, events-length, encode-count
 use Rattle.sink.proofs.Grow.{Filled, state, low-small, put-seam}
 use Rattle.sink.proofs.Steps.{inside}
 
--- ---------------------------------------------------------------- the chain that ends in a node of kind k before which a stands
+-- ------------------------------------------------------- the chain that ends in a node of kind k before which a stands
 
 -- the kind of its innermost node
 abbrev pub inner : Skeleton → ℕ → ℕ

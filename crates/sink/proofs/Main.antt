@@ -198,7 +198,8 @@ module _ (tokens events : List ℕ) (small : length tokens < TWO-TO-32) where
       (l : Bool) (e : List ℕ) (i : ℕ) (ts : List Token) (s : Filled) → Chained o → drop (i * EVENT-ROW) events ≡ encode l o ++ e → (getD e 0 0 ≡ LINKED-START-NODE → ⊥) → From tokens (s .cursor) ts
       → Fits (place o ts) s → Runs (event-count o) i (state s) (state (grow (place o ts) s))
 
-  -- the same of what stands before a marker: its first start has opened its nodes, and the marker's own start is passed over
+  -- the same of what stands before a marker: its first start has opened its nodes, and the marker's own start is passed
+  -- over
   unfoldable pub Befores : Skeleton → Type 0
   Befores a =
       (k d : ℕ) (x : List ℕ) (i : ℕ) (ts : List Token) (s : Filled) → Alone a → Chained a → drop (i * EVENT-ROW) events ≡ encode true a ++ (start-tag a ∷ k ∷ d ∷ x)

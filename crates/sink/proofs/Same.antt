@@ -1,4 +1,5 @@
--- How many rows there are does not depend on the lent buffer, nor on what it holds: those that do not fit are counted too.
+-- How many rows there are does not depend on the lent buffer, nor on what it holds: those that do not fit are counted
+-- too.
 use Prim.Native.Nat.{ℕ, zero, suc, _+_, _-_, _/_}
 use mathlib.Core.List.{List}
 use mathlib.Core.Path.{_≡_, refl, ap, subst}

@@ -1,4 +1,5 @@
--- Event rows as the sink reads them: three numbers each, a tag and what goes with it. `encode` (crates/machine) gives those of a skeleton.
+-- Event rows as the sink reads them: three numbers each, a tag and what goes with it. `encode` (crates/machine) gives
+-- those of a skeleton.
 use Prim.Native.Nat.{ℕ}
 use mathlib.Core.Path.{_≡_}
 use mathlib.Core.Bool.{cond}
@@ -31,7 +32,8 @@ decode (tag ∷ a ∷ b ∷ l) = event-of tag a b ∷ decode l
 
 -- ---------------------------------------------------------------- chains
 
--- What a marker is made to precede is one node: `before` holds that node alone, or nothing. Every run's skeleton is such.
+-- What a marker is made to precede is one node: `before` holds that node alone, or nothing. Every run's skeleton is
+-- such.
 abbrev pub Alone : Skeleton → Type 0
 Alone done = Unit {0}
 Alone (token t m o) = ⊥

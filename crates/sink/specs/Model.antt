@@ -1,5 +1,5 @@
--- What the code does, step by step, over the numbers of the lent buffers, whatever they are. Each definition is the model of the
--- function whose contract cites it. Those of the rows are in the crates `sink_rows` and `sink_tokens`.
+-- What the code does, step by step, over the numbers of the lent buffers, whatever they are. Each definition is the
+-- model of the function whose contract cites it. Those of the rows are in the crates `sink_rows` and `sink_tokens`.
 use Prim.Native.Nat.{ℕ, zero, suc, _+_, _-_, _*_, _/_}
 use mathlib.Core.Bool.{cond, _&&_}
 use mathlib.Core.List.{List, []}

@@ -1,5 +1,5 @@
--- What the sink promises of events that encode a skeleton: its rows are those of the definitions' tree, its lexical errors those of
--- the definitions, or it says that they do not fit.
+-- What the sink promises of events that encode a skeleton: its rows are those of the definitions' tree, its lexical
+-- errors those of the definitions, or it says that they do not fit.
 use Prim.Native.Nat.{ℕ, suc, _+_, _/_, _<_}
 use mathlib.Core.Path.{_≡_}
 use mathlib.Core.Bool.{Bool, true, false, cond, _&&_}
@@ -17,8 +17,8 @@ use Rattle.sink.specs.declared.Sunk.the-variants.{Written, NoRoom}
 use Rattle.machine.specs.Encode.{encode}
 use Rattle.sink.specs.Encode.{Chained}
 
--- no number is too large for 32 bits: the tokens', their bytes', and that of the tree's rows, which are no more than the tokens, the
--- events and one
+-- no number is too large for 32 bits: the tokens', their bytes', and that of the tree's rows, which are no more than
+-- the tokens, the events and one
 pub record Small (o : Skeleton) (tokens : List ℕ) : Type 0 where
   pub numbers : length tokens < TWO-TO-32
   pub bytes : byte-count (tokens-of tokens) < TWO-TO-32
@@ -28,7 +28,8 @@ pub record Small (o : Skeleton) (tokens : List ℕ) : Type 0 where
 abbrev pub enough : List ℕ → List ℕ → List ℕ → List ℕ → Bool
 enough r l trees errors = leb (length r) (length trees) && leb (length l) (length errors)
 
--- r, l: the rows and the lexical errors to write. trees, errors: the buffers before. Then what the sink answers, and the buffers after.
+-- r, l: the rows and the lexical errors to write. trees, errors: the buffers before. Then what the sink answers, and
+-- the buffers after.
 pub record Written-out (r l trees errors : List ℕ) (sunk : Sunk) (trees′ errors′ : List ℕ) : Type 0 where
   pub counts : sunk ≡ Written (length r / TREE-ROW) (length l / ERROR-ROW)
   pub rows : trees′ ≡ r ++ drop (length r) trees

@@ -1,5 +1,5 @@
-// sink.rs: the `Sink` turns events and tokens into tree rows and lexical errors. There is no heap and no stack beside the
-// rows: while a node is open, its row holds what the sink returns to when the node is finished.
+// sink.rs: the `Sink` turns events and tokens into tree rows and lexical errors. There is no heap and no stack beside
+// the rows: while a node is open, its row holds what the sink returns to when the node is finished.
 use layout::event_tag;
 use layout::row;
 use layout::row_kind;
@@ -89,8 +89,8 @@ fn combined_token(s: Sink, tokens: &[u32], trees: &mut [u32], n: usize) -> Sink
     leaf(q, trees, row_kind::NAME, width, word::low32(k))
 }
 
-// `StartNode`: opens the nodes of the chain that starts at event i, outermost first. Its links are counted first, and the
-// rows are then written from the innermost node's up.
+// `StartNode`: opens the nodes of the chain that starts at event i, outermost first. Its links are counted first, and
+// the rows are then written from the innermost node's up.
 fn start_node(s: Sink, events: &[u32], trees: &mut [u32], i: usize) -> Sink
     ensures { λ r. ⌜ on r (now (trees .exit))
         ≡ start-on (now (events .entry)) i (on s (now (trees .entry))) ⌝ }
@@ -129,7 +129,8 @@ fn finish_node(s: Sink, trees: &mut [u32]) -> Sink
     q
 }
 
-// One event. A start that a link leads to was opened with its chain, so it is passed over, as placeholders and errors are.
+// One event. A start that a link leads to was opened with its chain, so it is passed over, as placeholders and errors
+// are.
 fn one_event(s: Sink, tokens: &[u32], events: &[u32], trees: &mut [u32], i: usize) -> Sink
     ensures { λ r. ⌜ on r (now (trees .exit))
         ≡ event-on (now (tokens .entry)) (now (events .entry)) i (on s (now (trees .entry))) ⌝ }

@@ -1,5 +1,5 @@
--- What the code does over the numbers of event rows and tree rows, whatever they are. Each definition is the model of the function
--- whose contract cites it.
+-- What the code does over the numbers of event rows and tree rows, whatever they are. Each definition is the model of
+-- the function whose contract cites it.
 use Prim.Native.Nat.{ℕ, zero, suc, _+_, _*_, _/_}
 use mathlib.Core.Bool.{cond}
 use mathlib.Core.List.{List, []}
@@ -20,8 +20,8 @@ put row r trees = cond (leb (row * TREE-ROW + TREE-ROW) (length trees)) (sets tr
 unfoldable pub tree-field : ℕ → ℕ → List ℕ → ℕ
 tree-field row j trees = cond (leb (row * TREE-ROW + TREE-ROW) (length trees)) (getD trees (row * TREE-ROW + j) 0) 0
 
--- the numbers of an open row: its parent's row, its kind, its first byte, and how many children its parent had before it.
--- Those of the finished row take their places.
+-- the numbers of an open row: its parent's row, its kind, its first byte, and how many children its parent had before
+-- it. Those of the finished row take their places.
 abbrev pub PARENT : ℕ
 PARENT = 0
 

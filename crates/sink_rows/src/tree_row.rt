@@ -1,5 +1,5 @@
-// Tree rows. A finished row: class, kind, width, count. The row of an open node holds what its end needs: its parent's row,
-// its kind, its first byte, and how many children its parent had before it.
+// Tree rows. A finished row: class, kind, width, count. The row of an open node holds what its end needs: its parent's
+// row, its kind, its first byte, and how many children its parent had before it.
 use crate::event_row;
 use layout::row::EVENT_ARGUMENT;
 use layout::row::TREE_COUNT;

@@ -1,4 +1,5 @@
-// `1+1+1+..` with 20,000 operators: one forward chain of as many nodes. Each large array is made by a function of its own.
+// `1+1+1+..` with 20,000 operators: one forward chain of as many nodes. Each large array is made by a function of its
+// own.
 use crate::print;
 
 // Number, Plus, each of one byte.
@@ -7,8 +8,8 @@ const OPERATION: [u32; 4] = [35, 1, 43, 1];
 // The first rows of the first InfixExpr, the chain's innermost node, and the end of its left LiteralExpr.
 const FIRST: [u32; 12] = [1, 6, 11, 1, 9, 0, 2, 0, 0, 4, 0, 0];
 
-// An InfixExpr around all before it: eight rows, with a LiteralExpr of one token inside. From its start to that of the LiteralExpr, and
-// from there to its end. The placeholders of the operand's own marker are zeros.
+// An InfixExpr around all before it: eight rows, with a LiteralExpr of one token inside. From its start to that of the
+// LiteralExpr, and from there to its end. The placeholders of the operand's own marker are zeros.
 const LINK: [u32; 12] = [6, 6, 8, 2, 0, 0, 0, 0, 0, 1, 9, 0];
 
 const LINK_END: [u32; 12] = [2, 0, 0, 4, 0, 0, 0, 0, 0, 4, 0, 0];

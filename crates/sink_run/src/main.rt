@@ -1,7 +1,7 @@
-// Runs the sink and prints what it answers and leaves. Each line of standard input is a case: a name; the root's kind, the lengths of
-// the two lent buffers, and how many token numbers and event numbers follow; token rows; event rows. The first twelve are document
-// 01's readings that are marked P, then come buffers that just fit or are too short, and last rows that no parser writes. After them:
-// `1+1+1+..` with 20,000 operators.
+// Runs the sink and prints what it answers and leaves. Each line of standard input is a case: a name; the root's kind,
+// the lengths of the two lent buffers, and how many token numbers and event numbers follow; token rows; event rows. The
+// first twelve are document 01's readings that are marked P, then come buffers that just fit or are too short, and last
+// rows that no parser writes. After them: `1+1+1+..` with 20,000 operators.
 mod deep;
 mod print;
 

@@ -1,5 +1,5 @@
--- What the code does over the numbers of token rows, whatever they are. Each definition is the model of the function whose contract
--- cites it.
+-- What the code does over the numbers of token rows, whatever they are. Each definition is the model of the function
+-- whose contract cites it.
 use Prim.Native.Nat.{ℕ, zero, suc, _+_, _*_, _/_}
 use mathlib.Core.Bool.{Bool, false, cond}
 use mathlib.Core.List.{List, [], _∷_}

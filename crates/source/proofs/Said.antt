@@ -1,4 +1,5 @@
--- What a caller of the view's functions knows of their results: the contracts, and of what each ensures the clause alone.
+-- What a caller of the view's functions knows of their results: the contracts, and of what each ensures the clause
+-- alone.
 use mathlib.Core.Path.{_≡_, ap, _∙_}
 use Prim.Native.Nat.{ℕ}
 use mathlib.Core.List.{List}

@@ -1,7 +1,7 @@
 // source.rs as the Rust has it: one value, `Source`, that holds the lent token rows and a cursor. The functions over it
-// are few and short, since each is proved by hand: it takes the value apart and calls a function on token rows and a token
-// index. `look` has these two as its parameters, so that its callers' proofs do not have to know `Source`.
-// The parser's own cursor is a field of its state, beside the mark and the byte offsets, which a `Source` does not have.
+// are few and short, since each is proved by hand: it takes the value apart and calls a function on token rows and a
+// token index. `look` has these two as its parameters, so that its callers' proofs do not have to know `Source`. The
+// parser's own cursor is a field of its state, beside the mark and the byte offsets, which a `Source` does not have.
 pub mod cursor;
 
 use crate::cursor::past_token;

@@ -1,7 +1,8 @@
-// What a `Source` sees along token rows. Document 01 says: "Trivia are Whitespace, LineComment and BlockComment; an error token
-// never is. Peeking moves the cursor past trivia; immediate peeking reads at the cursor and moves nothing."
-// So each line of stdout is a token index, the kind of its row, the kind of the first row from there on that is not trivia
-// (0, 1, 3), and the index after that row. Past the last row the kind is 64, and an error token is seen as Unrecognized, 25.
+// What a `Source` sees along token rows. Document 01 says: "Trivia are Whitespace, LineComment and BlockComment; an
+// error token never is. Peeking moves the cursor past trivia; immediate peeking reads at the cursor and moves nothing."
+// So each line of stdout is a token index, the kind of its row, the kind of the first row from there on that is not
+// trivia (0, 1, 3), and the index after that row. Past the last row the kind is 64, and an error token is seen as
+// Unrecognized, 25.
 use cases::show;
 use cases::show::number;
 use layout::TokenIndex;

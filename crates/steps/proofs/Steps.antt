@@ -1,5 +1,6 @@
--- Steps of a way for functions that answer more than yes and no: a subprogram whose answer does not matter, `eat_starting`, a brace, an
--- answer that a match has told, a loop's turn with such an answer, and what a test that held says of the tokens left.
+-- Steps of a way for functions that answer more than yes and no: a subprogram whose answer does not matter,
+-- `eat_starting`, a brace, an answer that a match has told, a loop's turn with such an answer, and what a test that
+-- held says of the tokens left.
 use Prim.Native.Nat.{ℕ, _≤_, _<_}
 use mathlib.Core.Path.{_≡_, refl, sym, ap, _∙_}
 use mathlib.Core.Bool.{Bool, true, false, true≢false, false≢true}

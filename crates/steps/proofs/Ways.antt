@@ -1,5 +1,5 @@
--- More steps of a way through a program (machine/proofs/Way.antt): what each call ensures of its subprogram gives what the whole comes
--- to, and the walks of the subprograms stay shut.
+-- More steps of a way through a program (machine/proofs/Way.antt): what each call ensures of its subprogram gives what
+-- the whole comes to, and the walks of the subprograms stay shut.
 use Prim.Native.Nat.{ℕ, zero, suc, _<_}
 use mathlib.Core.Path.{_≡_, refl, sym, ap, _∙_}
 use mathlib.Core.Bool.{Bool}
@@ -52,7 +52,7 @@ module _ {ask : Rule → Machine → Walked} {ts : List Token} {b : Span} where
   if-yes {n = n} {y = y} {a = a} {v = v} e i f =
       record { is = f .is ∙ sym (ap (λ (x : Ans). choose x (walk ask ts b n) (walk ask ts b y) (walk ask ts b a) (v .on)) i) ∙ ap (λ (x : Walked). choose (x .ans) (walk ask ts b n) (walk ask ts b y) (walk ask ts b a) (x .on)) (e .is) }
 
-  -- ---------------------------------------------------------------- markers: k, the marker; s, after its start; r, after its end
+  -- ------------------------------------------------------ markers: k, the marker; s, after its start; r, after its end
 
   pub completes : {p : Prog} {m s x r : Machine} {k : Marker} {kind : ℕ} {a : Ans} → 0 < kind → k ≡ next-marker START-NODE m → s ≡ push PLACEHOLDER 0 m
       → Way ask ts b p s (record { ans = a; shape = kind; on = x }) → r ≡ complete k kind x → Way ask ts b (in-marker p) m (said a r)

@@ -1,5 +1,5 @@
--- CLAUSES THAT NO RUN USES. The definitions must say what happens everywhere, so they have clauses for what the Rust cannot come to.
--- Here: no run comes to them, with any entry and any list of tokens, up to refusal 5 where it meets it.
+-- CLAUSES THAT NO RUN USES. The definitions must say what happens everywhere, so they have clauses for what the Rust
+-- cannot come to. Here: no run comes to them, with any entry and any list of tokens, up to refusal 5 where it meets it.
 use Prim.Native.Nat.{ℕ, _<_}
 use mathlib.Core.Path.{_≡_}
 use mathlib.Core.Bool.{true, false}
@@ -16,9 +16,9 @@ use Rattle.run_steps.specs.Steps.{Step, begun, branched, turned, linked, spent,
 
 -- ---------------------------------------------------------------- 1. a turn that is to go on has moved
 
--- `Run.goes-on` asks two things: that the turn answers again, and that the cursor moved. The second never decides: the Rust's loops
--- have no such test. A link of a chain (`Run.links`) that answers again has also completed its marker. And no loop or chain comes to its
--- clause for zero turns left (`Run.iter`, `Run.links`).
+-- `Run.goes-on` asks two things: that the turn answers again, and that the cursor moved. The second never decides: the
+-- Rust's loops have no such test. A link of a chain (`Run.links`) that answers again has also completed its marker. And
+-- no loop or chain comes to its clause for zero turns left (`Run.iter`, `Run.links`).
 abbrev pub Moves : Step → Type 0
 Moves (begun p s) = Unit {0}
 Moves (branched a) = Unit {0}
@@ -38,8 +38,8 @@ Answers exceeded = Unit {0}
 
 -- ---------------------------------------------------------------- 2. a token is taken where one is
 
--- The first clauses of `Run.do-bump` and `Run.do-name` are for the end of input: there `bump` of the Rust panics. `bump_name_generic`
--- asserts besides that the first token is one of its set, and `Run.do-name` does not look at it.
+-- The first clauses of `Run.do-bump` and `Run.do-name` are for the end of input: there `bump` of the Rust panics.
+-- `bump_name_generic` asserts besides that the first token is one of its set, and `Run.do-name` does not look at it.
 abbrev pub Taking : Act → State → Type 0
 Taking (silent-at ks) s = Unit {0}
 Taking at-end s = Unit {0}
@@ -87,8 +87,8 @@ assigned =
 abbrev pub Next : ℕ → State → Type 0
 Next k s = first-in (k ∷ []) (peeked s .rest) ≡ true
 
--- `Check.assert-eat k` takes a token and does not look at its kind. Each of the five programs that begin with it begins before a token
--- of that kind.
+-- `Check.assert-eat k` takes a token and does not look at its kind. Each of the five programs that begin with it begins
+-- before a token of that kind.
 pub record Asserted (p : Prog) (s : State) : Type 0 where
   pub macro : p ≡ macro-invocation → Next K.Ident s
   pub bracket : p ≡ dt-expr → Next K.LParen s

@@ -1,6 +1,8 @@
--- `look` meets its contract: a walk of its MIR, by hand. The view that `new` returns is passed to the other functions of the view, a copy to each. All that the proof knows of them is that each meets its contract.
--- The machine value of a view is stored and passed on as it is. In a local MIR erases the lifetime of the struct's type, so the value is shown to have the type at `erased`: what the struct owns does not say the lifetime's name.
--- Before the locals stand the things owned; with e of them, local i stands at 2 · (11 − i) + e.
+-- `look` meets its contract: a walk of its MIR, by hand. The view that `new` returns is passed to the other functions
+-- of the view, a copy to each. All that the proof knows of them is that each meets its contract. The machine value of a
+-- view is stored and passed on as it is. In a local MIR erases the lifetime of the struct's type, so the value is shown
+-- to have the type at `erased`: what the struct owns does not say the lifetime's name. Before the locals stand the
+-- things owned; with e of them, local i stands at 2 · (11 − i) + e.
 use mathlib.Core.Path.{_≡_, refl, ap}
 use Prim.Native.Nat.{ℕ, _<_, _^_}
 use mathlib.Core.List.{List, [], _∷_}
@@ -151,7 +153,8 @@ module _ {M : Type 1} (𝓤 : URA M) (H : Heap 𝓤) (A : Atoms 𝓤) (W : Given
         qed W (raw (onEntry 𝓤 H A looks.signature (κ, tt) (q, tt) (s, (i, tt)) passed) ∷ []) ∵ enter ! C Λ code.function (v ∷ I′.lowered i ∷ []) _ $
         alloc1 ! (λ l₀. alloc1 ! (λ l₁. alloc1 ! (λ l₂. alloc1 ! (λ l₃. alloc1 ! (λ l₄. alloc1 ! (λ l₅. alloc1 ! (λ l₆. alloc1 ! (λ l₇. alloc1 ! (λ l₈. alloc1 ! (λ l₉. alloc1 ! (λ l₁₀. alloc1 ! (λ l₁₁. alloc0 ! $ params1 ! $
         pass1 ! (init ! 20 refl (shr-slice-lawful 𝓤 H A W (named 0) κ u32 .typed s (v ∷ []) g .0)) $ pass1 ! (init ! 18 refl (LL.lawful I.the-type I′.the-laws 𝓤 H A W .typed i (I′.lowered i ∷ []) ok .0)) $ pass0 ! $
-        -- `new`, into _3. Before the locals then stand: [what the view owns, three times; the lifetime's token; what s owns]
+        -- `new`, into _3. Before the locals then stand: [what the view owns, three times; the lifetime's token; what s
+        -- owns]
         move ! (24 ∷ []) $ use1 W (raw (New 𝓤 H A mem run .pre to-new) ⊛ ‵ Own) goes-new $ split ! $
         calls-at ! fm (New 𝓤 H A mem run) known-new to-new (and-then ! (load ! (from ! (stop !)) (look ! 22 refl)) (and-then ! (load ! (from ! (stop !)) (look ! 20 refl)) (no-more !))) (λ u.
         use1 W (later (some (λ (r : Source). ((‵ (flft κ q) ⊛ ‵ ftrue) ⊛ ‵ (B .own r (u ∷ []))) ⊛ raw (ensured 𝓤 H A new.ended (new.clauses 𝓤 H A mem run) (κ, tt) (s, (i, tt)) tt r)))) (id⊢ 𝓤 _) $ await ! tt $ pick ! (λ r.
