@@ -61,7 +61,8 @@ pub record Bounded (e : Entry) (ts : List Token) : Type 0 where
   pub events-so-far : (l m : List Push) → pushes (run-entry e ts) ≡ l ++ m → event-count l ≤ most-events (length ts)
   pub reports-so-far : (l m : List Push) → pushes (run-entry e ts) ≡ l ++ m → length (reports l) ≤ most-reports (length ts)
   -- as long as there is no refusal 5 among them
-  pub pool-so-far : (l m : List Push) → pushes (run-entry e ts) ≡ l ++ m → None-exceeded l → length (pool (reports l)) ≤ most-expectations (length ts)
+  pub pool-so-far : (l m : List Push) → pushes (run-entry e ts) ≡ l ++ m → None-exceeded l
+      → length (pool (reports l)) ≤ most-expectations (length ts)
   -- the numbers of its tree rows, and the counts in them
   pub tree-rows : length (rows (root (root-kind e) (run-entry e ts) ts)) ≤ TREE-ROW * most-rows (length ts)
   pub counts : Counts-within (most-rows (length ts)) (root (root-kind e) (run-entry e ts) ts)
@@ -92,7 +93,9 @@ pub record So-far (ts : List Token) (l : List Push) : Type 0 where
 
 -- for every entry, and any first pushes l of its run
 abbrev pub Words-so-far : Type 0
-Words-so-far = (e : Entry) (ts : List Token) → Within-limits ts → (l m : List Push) → pushes (run-entry e ts) ≡ l ++ m → None-exceeded l → So-far ts l
+Words-so-far =
+    (e : Entry) (ts : List Token) → Within-limits ts → (l m : List Push) → pushes (run-entry e ts) ≡ l ++ m
+    → None-exceeded l → So-far ts l
 
 -- every number in a call's buffers
 pub record Words (b : Buffers) : Type 0 where

@@ -97,7 +97,8 @@ unfoldable pub children-proper : ℕ → Outline → Bool
 unfolding no-bracket first-only after-name last-only one-of
 children-proper k c =
     cond (one-of (N.DtExpr ∷ N.ParenExpr ∷ []) k) (first-only c)
-    (cond (eqb k N.MacroInvocation) (after-name c) (cond (eqb k N.MacroArgument) true (cond (eqb k N.ParseError) (last-only c) (no-bracket c))))
+    (cond (eqb k N.MacroInvocation) (after-name c) (cond (eqb k N.MacroArgument) true
+    (cond (eqb k N.ParseError) (last-only c) (no-bracket c))))
 
 -- ---------------------------------------------------------------- lists of cells
 
@@ -173,4 +174,5 @@ tree-proper (node r c f) = is-end f && root-proper r c
 abbrev pub Brackets-proper : Type 0
 Brackets-proper =
     (n : ℕ) (bytes tokens : List ℕ) (b : Buffers) → call n bytes tokens b .answer .number ≡ 0
-    → tree-proper (outline (read (take (TREE-ROW * call n bytes tokens b .answer .tree-count) (call n bytes tokens b .buffers .trees)))) ≡ true
+    → tree-proper (outline (read (take (TREE-ROW * call n bytes tokens b .answer .tree-count)
+    (call n bytes tokens b .buffers .trees)))) ≡ true

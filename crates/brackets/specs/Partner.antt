@@ -34,10 +34,12 @@ tokens-first (node k w n c f) = tokens-in c
 pub record Reported (p : ℕ) (r : Result) (q : ℕ) : Type 0 where
   pub written : q < r .answer .report-count
   pub above : tokens-before p (r .buffers .trees) < mark-in q (r .buffers .reports)
-  pub at-most : mark-in q (r .buffers .reports) ≤ tokens-before p (r .buffers .trees) + tokens-first (read (drop (TREE-ROW * p) (r .buffers .trees)))
+  pub at-most : mark-in q (r .buffers .reports) ≤ tokens-before p (r .buffers .trees) + tokens-first
+      (read (drop (TREE-ROW * p) (r .buffers .trees)))
 
 -- for every DtExpr of an accepted call
 abbrev pub Partner-missed : Type 0
 Partner-missed =
-    (n : ℕ) (bytes tokens : List ℕ) (l : Buffers) → call n bytes tokens l .answer .number ≡ 0 → (p : ℕ) → DtExpr-at p (call n bytes tokens l)
+    (n : ℕ) (bytes tokens : List ℕ) (l : Buffers) → call n bytes tokens l .answer .number ≡ 0 → (p : ℕ)
+    → DtExpr-at p (call n bytes tokens l)
     → No-partner (tokens-of tokens) p (call n bytes tokens l) → (q : ℕ) × Reported p (call n bytes tokens l) q

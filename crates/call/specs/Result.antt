@@ -9,7 +9,15 @@ use Rattle.call.specs.declared.Answer.{Answer}
 
 -- the numbers of an answer
 abbrev pub answer-of : Answer → Call.Answer
-answer-of a = record { number = a .number; place = a .place; tree-count = a .«tree_count»; error-count = a .«error_count»; report-count = a .«report_count»; expectation-count = a .«expectation_count» }
+answer-of a =
+    record {
+      number = a .number;
+      place = a .place;
+      tree-count = a .«tree_count»;
+      error-count = a .«error_count»;
+      report-count = a .«report_count»;
+      expectation-count = a .«expectation_count»;
+    }
 
 -- a lent slice of numbers, as a contract has it
 abbrev pub Lent : Type 0
@@ -21,10 +29,13 @@ buffers-of events trees errors reports pool = record { events = events; trees = 
 
 -- the same of the buffers that a function was lent, at its entry and at its exit
 abbrev pub at-entry : Lent → Lent → Lent → Lent → Lent → Buffers
-at-entry events trees errors reports pool = buffers-of (now (events .entry)) (now (trees .entry)) (now (errors .entry)) (now (reports .entry)) (now (pool .entry))
+at-entry events trees errors reports pool =
+    buffers-of (now (events .entry)) (now (trees .entry)) (now (errors .entry)) (now (reports .entry))
+    (now (pool .entry))
 
 abbrev pub at-exit : Lent → Lent → Lent → Lent → Lent → Buffers
-at-exit events trees errors reports pool = buffers-of (now (events .exit)) (now (trees .exit)) (now (errors .exit)) (now (reports .exit)) (now (pool .exit))
+at-exit events trees errors reports pool =
+    buffers-of (now (events .exit)) (now (trees .exit)) (now (errors .exit)) (now (reports .exit)) (now (pool .exit))
 
 -- an answer, and what the buffers hold with it
 abbrev pub result-of : Answer → Buffers → Result

@@ -51,7 +51,13 @@ abbrev pub cleared : Refusal → Buffers → Result
 cleared r b =
     record {
       answer = refusal r;
-      buffers = record { events = zeros (b .events); trees = zeros (b .trees); errors = zeros (b .errors); reports = zeros (b .reports); pool = zeros (b .pool) };
+      buffers = record {
+        events = zeros (b .events);
+        trees = zeros (b .trees);
+        errors = zeros (b .errors);
+        reports = zeros (b .reports);
+        pool = zeros (b .pool);
+      };
     }
 
 -- ---------------------------------------------------------------- parsed
@@ -72,7 +78,12 @@ unfoldable pub sheets : Entry → List Token → Skeleton → Sheets
 unfolding root rows lexical-errors reports report-numbers pool root-kind byte-count
 sheets e ts o =
     let l = reports (pushes o) in
-    record { trees = rows (root (root-kind e) o ts); errors = lexical-errors 0 ts; reports = report-numbers (length ts) (byte-count ts) 0 l; pool = pool l }
+    record {
+      trees = rows (root (root-kind e) o ts);
+      errors = lexical-errors 0 ts;
+      reports = report-numbers (length ts) (byte-count ts) 0 l;
+      pool = pool l;
+    }
 
 -- written to the front of a buffer; the rest is zero
 abbrev pub written : List ℕ → List ℕ → List ℕ
@@ -137,7 +148,9 @@ pub data Asked : Type 0 where
   unknown : Asked
 
 unfoldable pub entry-of : ℕ → Asked
-entry-of n = cond (eqb n 1) (for SourceFile) (cond (eqb n 2) (for ReferenceNoamp) (cond (eqb n 3) (for PropValues) (cond (eqb n 4) (for Cells) unknown)))
+entry-of n =
+    cond (eqb n 1) (for SourceFile) (cond (eqb n 2) (for ReferenceNoamp)
+    (cond (eqb n 3) (for PropValues) (cond (eqb n 4) (for Cells) unknown)))
 
 unfoldable pub checked : Verdict → Entry → List ℕ → Buffers → Result
 unfolding parse tokens-of number-of place-of

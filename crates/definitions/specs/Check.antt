@@ -99,7 +99,12 @@ abbrev pub Name : Matcher
 Name = record { matches = act (silent-at NAME-SET); push-expected = expected K.Name; consume = act (bump-name NAME-SET) }
 
 abbrev pub LabelName : Matcher
-LabelName = record { matches = act (silent-at LABEL-NAME-SET); push-expected = expected E.LabelName; consume = act (bump-name LABEL-NAME-SET) }
+LabelName =
+    record {
+      matches = act (silent-at LABEL-NAME-SET);
+      push-expected = expected E.LabelName;
+      consume = act (bump-name LABEL-NAME-SET);
+    }
 
 -- ---------------------------------------------------------------- `Check`
 

@@ -25,7 +25,8 @@ events preceded done = []
 events preceded (token t m o) = AddToken ∷ events preceded o
 events preceded (name ts m o) = AddCombinedToken (length ts) ∷ events preceded o
 events preceded (node k m m′ a i o) =
-    events true a ++ (StartNode k (forward preceded (suc (suc (length (events false i))))) ∷ (events false i ++ (FinishNode ∷ events preceded o)))
+    events true a ++ (StartNode k (forward preceded (suc (suc (length (events false i)))))
+    ∷ (events false i ++ (FinishNode ∷ events preceded o)))
 events preceded (ignored m m′ a i o) = events true a ++ (Placeholder ∷ (events false i ++ (Placeholder ∷ events preceded o)))
 events preceded (report r o) = Error ∷ events preceded o
 events preceded (over m o) = events preceded o

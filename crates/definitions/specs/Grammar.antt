@@ -216,7 +216,8 @@ infix-turn min-bp =
     expected E.InfixOperator
     ⨟ if silent (set (ternary-level .kinds)) then
     (if act (less (ternary-level .left) min-bp) then tell yes
-    else (bump! ⨟ if open-call (expr-binding-power 0) and expect (of-kind K.Colon) then rhs (ternary-level .right) else ret N.InfixExpr yes))
+    else (bump! ⨟ if open-call (expr-binding-power 0) and expect (of-kind K.Colon) then
+    rhs (ternary-level .right) else ret N.InfixExpr yes))
     else infix-levels min-bp binding-power
 
 unfoldable pub lhs : Prog
@@ -272,7 +273,8 @@ unfolding silent cells-end
 cells-turn until-end =
     if open-call (eat-cell until-end) then tell again
     else if cells-end until-end then tell yes
-    else if silent (set (K.Semicolon ∷ K.LCurly ∷ K.RCurly ∷ [])) or end? or silent (set CONTINUE-COND-SET) or silent (of-kind K.EndifDirective) then
+    else if silent (set (K.Semicolon ∷ K.LCurly ∷ K.RCurly ∷ [])) or end?
+    or silent (set CONTINUE-COND-SET) or silent (of-kind K.EndifDirective) then
     error! ⨟ tell no
     else error-wrap E.msg-expected E.in-cells ⨟ tell again
 

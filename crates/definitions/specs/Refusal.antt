@@ -84,4 +84,5 @@ check-texts i bytes (t ∷ ts) =
 -- causes 2 to 4, in that order
 unfoldable pub check-input : List ℕ → List ℕ → Verdict
 unfolding _or-else_ check-sizes check-rows check-texts tokens-of
-check-input bytes tokens = check-sizes bytes tokens or-else check-rows 0 (length bytes) tokens or-else check-texts 0 bytes (tokens-of tokens)
+check-input bytes tokens =
+    check-sizes bytes tokens or-else check-rows 0 (length bytes) tokens or-else check-texts 0 bytes (tokens-of tokens)

@@ -52,7 +52,8 @@ unfolding one-event one-report
 scan [] z = fits z
 scan (event m ∷ l) z = one-event m (z .events) (z .reports) (z .pool) (scan l)
 scan (reported r ∷ l) z =
-    one-event (r .mark) (z .events) (z .reports) (z .pool) (λ y. one-report (r .mark) (length (r .pool)) (y .events) (y .reports) (y .pool) (scan l))
+    one-event (r .mark) (z .events) (z .reports) (z .pool)
+    (λ y. one-report (r .mark) (length (r .pool)) (y .events) (y .reports) (y .pool) (scan l))
 scan (exceeded m ∷ l) z = stops (too-deep m)
 
 -- ---------------------------------------------------------------- report rows and pool

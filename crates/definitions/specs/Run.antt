@@ -129,7 +129,14 @@ unfoldable pub do-emit : ℕ → ℕ → Label → State → Out
 unfolding makes error-range pool-of
 do-emit m h l s =
     makes yes
-    (report (record { message = m; range = error-range s (s .rest); mark = mark-of s; hint = h; labelled = l; pool = pool-of m (s .pending) }) done)
+    (report (record {
+      message = m;
+      range = error-range s (s .rest);
+      mark = mark-of s;
+      hint = h;
+      labelled = l;
+      pool = pool-of m (s .pending);
+    }) done)
     s
 
 -- nothing, or refusal 5
@@ -141,7 +148,8 @@ over-unless false m = over m done
 unfoldable pub do-expected : ℕ → State → Out
 unfolding makes over-unless
 do-expected k s =
-    makes yes (over-unless (ltb (length (s .pending)) MOST-PENDING) (mark-of s)) (record { rest = s .rest; since = s .since; pending = s .pending ++ (k ∷ []) })
+    makes yes (over-unless (ltb (length (s .pending)) MOST-PENDING) (mark-of s))
+    (record { rest = s .rest; since = s .since; pending = s .pending ++ (k ∷ []) })
 
 unfoldable pub perform : Label → Act → State → Out
 unfolding peeked replies first-in do-expected do-bump do-name do-argument do-emit

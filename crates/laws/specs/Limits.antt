@@ -37,7 +37,8 @@ iter-moments (suc n) f g s = g s ++ (let more = iter-moments n f g (f s .state) 
 unfoldable pub links-moments : ℕ → (State → Out) → (State → List Moment) → State → List Moment
 unfolding goes-on by-shape
 links-moments zero f g s = []
-links-moments (suc n) f g s = g s ++ (let more = links-moments n f g (f s .state) in by-shape (f s .shape) [] (cond (goes-on s (f s)) more []))
+links-moments (suc n) f g s =
+    g s ++ (let more = links-moments n f g (f s .state) in by-shape (f s .shape) [] (cond (goes-on s (f s)) more []))
 
 unfoldable pub choose-moments : Ans → (State → List Moment) → (State → List Moment) → (State → List Moment) → State → List Moment
 choose-moments no n y a = n
@@ -53,12 +54,15 @@ moments ask in-call b (act a) s = moment s ++ moment (exec ask b (act a) s .stat
 moments ask in-call b (p ⨟ q) s = moments ask in-call b p s ++ moments ask in-call b q (exec ask b p s .state)
 moments ask in-call b (case c n y a) s =
     let o = exec ask b c s in
-    moments ask in-call b c s ++ choose-moments (o .ans) (moments ask in-call b n) (moments ask in-call b y) (moments ask in-call b a) (o .state)
+    moments ask in-call b c s
+    ++ choose-moments (o .ans) (moments ask in-call b n) (moments ask in-call b y) (moments ask in-call b a)
+    (o .state)
 moments ask in-call b (in-marker p) s = moments ask in-call b p s
 moments ask in-call b (loop p) s = iter-moments (suc (length (s .rest))) (exec ask b p) (moments ask in-call b p) s
 moments ask in-call b (chain p q) s =
     let o = exec ask b p s in
-    moments ask in-call b p s ++ (let more = links-moments (suc (length (o .state .rest))) (exec ask b q) (moments ask in-call b q) (o .state) in cond (is-again (o .ans)) more [])
+    moments ask in-call b p s ++ (let more = links-moments (suc (length (o .state .rest))) (exec ask b q)
+    (moments ask in-call b q) (o .state) in cond (is-again (o .ans)) more [])
 moments ask in-call b (brace p) s = moments ask in-call (here (s .rest)) p s
 moments ask in-call b (open-call r) s = in-call r s
 

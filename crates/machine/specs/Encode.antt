@@ -25,7 +25,9 @@ encode preceded done = []
 encode preceded (token t m o) = ADD-TOKEN ∷ 0 ∷ 0 ∷ encode preceded o
 encode preceded (name ts m o) = ADD-COMBINED-TOKEN ∷ length ts ∷ 0 ∷ encode preceded o
 encode preceded (node k m m′ a i o) =
-    encode true a ++ (start-tag a ∷ k ∷ forward preceded (suc (suc (length (events false i)))) ∷ (encode false i ++ (FINISH-NODE ∷ 0 ∷ 0 ∷ encode preceded o)))
-encode preceded (ignored m m′ a i o) = encode true a ++ (PLACEHOLDER ∷ 0 ∷ 0 ∷ (encode false i ++ (PLACEHOLDER ∷ 0 ∷ 0 ∷ encode preceded o)))
+    encode true a ++ (start-tag a ∷ k ∷ forward preceded (suc (suc (length (events false i))))
+    ∷ (encode false i ++ (FINISH-NODE ∷ 0 ∷ 0 ∷ encode preceded o)))
+encode preceded (ignored m m′ a i o) =
+    encode true a ++ (PLACEHOLDER ∷ 0 ∷ 0 ∷ (encode false i ++ (PLACEHOLDER ∷ 0 ∷ 0 ∷ encode preceded o)))
 encode preceded (report r o) = ERROR ∷ 0 ∷ 0 ∷ encode preceded o
 encode preceded (over m o) = encode preceded o

@@ -39,22 +39,94 @@ rest ts m = drop (m .cursor) ts
 -- ---------------------------------------------------------------- one field changed
 
 abbrev pub with-cursor : ℕ → ℕ → Machine → Machine
-with-cursor c b m = record { cursor = c; byte = b; mark = m .mark; mark-byte = m .mark-byte; pending = m .pending; events = m .events; reports = m .reports; pool = m .pool; refusal = m .refusal; place = m .place }
+with-cursor c b m =
+    record {
+      cursor = c;
+      byte = b;
+      mark = m .mark;
+      mark-byte = m .mark-byte;
+      pending = m .pending;
+      events = m .events;
+      reports = m .reports;
+      pool = m .pool;
+      refusal = m .refusal;
+      place = m .place;
+    }
 
 abbrev pub with-taken : ℕ → ℕ → Machine → Machine
-with-taken c b m = record { cursor = c; byte = b; mark = c; mark-byte = b; pending = []; events = m .events; reports = m .reports; pool = m .pool; refusal = m .refusal; place = m .place }
+with-taken c b m =
+    record {
+      cursor = c;
+      byte = b;
+      mark = c;
+      mark-byte = b;
+      pending = [];
+      events = m .events;
+      reports = m .reports;
+      pool = m .pool;
+      refusal = m .refusal;
+      place = m .place;
+    }
 
 abbrev pub with-pending : List ℕ → Machine → Machine
-with-pending l m = record { cursor = m .cursor; byte = m .byte; mark = m .mark; mark-byte = m .mark-byte; pending = l; events = m .events; reports = m .reports; pool = m .pool; refusal = m .refusal; place = m .place }
+with-pending l m =
+    record {
+      cursor = m .cursor;
+      byte = m .byte;
+      mark = m .mark;
+      mark-byte = m .mark-byte;
+      pending = l;
+      events = m .events;
+      reports = m .reports;
+      pool = m .pool;
+      refusal = m .refusal;
+      place = m .place;
+    }
 
 abbrev pub with-events : Buffer → Machine → Machine
-with-events e m = record { cursor = m .cursor; byte = m .byte; mark = m .mark; mark-byte = m .mark-byte; pending = m .pending; events = e; reports = m .reports; pool = m .pool; refusal = m .refusal; place = m .place }
+with-events e m =
+    record {
+      cursor = m .cursor;
+      byte = m .byte;
+      mark = m .mark;
+      mark-byte = m .mark-byte;
+      pending = m .pending;
+      events = e;
+      reports = m .reports;
+      pool = m .pool;
+      refusal = m .refusal;
+      place = m .place;
+    }
 
 abbrev pub with-reports : Buffer → Buffer → Machine → Machine
-with-reports r p m = record { cursor = m .cursor; byte = m .byte; mark = m .mark; mark-byte = m .mark-byte; pending = m .pending; events = m .events; reports = r; pool = p; refusal = m .refusal; place = m .place }
+with-reports r p m =
+    record {
+      cursor = m .cursor;
+      byte = m .byte;
+      mark = m .mark;
+      mark-byte = m .mark-byte;
+      pending = m .pending;
+      events = m .events;
+      reports = r;
+      pool = p;
+      refusal = m .refusal;
+      place = m .place;
+    }
 
 abbrev pub with-refusal : ℕ → ℕ → Machine → Machine
-with-refusal n p m = record { cursor = m .cursor; byte = m .byte; mark = m .mark; mark-byte = m .mark-byte; pending = m .pending; events = m .events; reports = m .reports; pool = m .pool; refusal = n; place = p }
+with-refusal n p m =
+    record {
+      cursor = m .cursor;
+      byte = m .byte;
+      mark = m .mark;
+      mark-byte = m .mark-byte;
+      pending = m .pending;
+      events = m .events;
+      reports = m .reports;
+      pool = m .pool;
+      refusal = n;
+      place = p;
+    }
 
 -- ---------------------------------------------------------------- source.rs
 
@@ -102,7 +174,10 @@ unfoldable pub push-row : ℕ → ℕ → Machine → Machine
 unfolding refuse
 push-row tag argument m =
     cond (fits (length (m .events .numbers)) (m .events .count) EVENT-ROW)
-    (with-events (record { count = m .events .count + EVENT-ROW; numbers = sets (m .events .numbers) (m .events .count) (tag ∷ argument ∷ 0 ∷ []) }) m)
+    (with-events (record {
+      count = m .events .count + EVENT-ROW;
+      numbers = sets (m .events .numbers) (m .events .count) (tag ∷ argument ∷ 0 ∷ []);
+    }) m)
     (refuse NO-EVENT-ROOM m)
 
 -- nothing is pushed once something was refused
@@ -121,18 +196,24 @@ put-start k kind l = cond (fits (length l) (k .index) EVENT-ROW) (sets l (k .ind
 unfoldable pub complete : Marker → ℕ → Machine → Machine
 unfolding push-row
 complete k kind m =
-    cond (eqb (m .refusal) 0) (push-row FINISH-NODE 0 (with-events (record { count = m .events .count; numbers = put-start k kind (m .events .numbers) }) m)) m
+    cond (eqb (m .refusal) 0) (push-row FINISH-NODE 0 (with-events
+    (record { count = m .events .count; numbers = put-start k kind (m .events .numbers) }) m)) m
 
 -- the forward distance of the start at an index to the event at another
 abbrev pub put-link : ℕ → ℕ → List ℕ → List ℕ
-put-link from to l = cond (fits (length l) from EVENT-ROW && leb from to) (sets l (from + EVENT-DISTANCE) (low ((to - from) / EVENT-ROW) ∷ [])) l
+put-link from to l =
+    cond (fits (length l) from EVENT-ROW && leb from to)
+    (sets l (from + EVENT-DISTANCE) (low ((to - from) / EVENT-ROW) ∷ [])) l
 
 -- links the completed node forward to a placeholder, which is pushed
 unfoldable pub precede : Marker → Machine → Machine
 unfolding push
 precede k m =
     let p = push PLACEHOLDER 0 m in
-    cond (eqb (p .refusal) 0) (with-events (record { count = p .events .count; numbers = put-link (k .index) (m .events .count) (p .events .numbers) }) p) p
+    cond (eqb (p .refusal) 0) (with-events (record {
+      count = p .events .count;
+      numbers = put-link (k .index) (m .events .count) (p .events .numbers);
+    }) p) p
 
 -- ---------------------------------------------------------------- tokens and names taken
 
@@ -182,7 +263,11 @@ write-report message hint range lab m =
     cond (eqb (m .refusal) 0)
     (cond (fits (length (m .reports .numbers)) (m .reports .count) REPORT-ROW && fits (length (m .pool .numbers)) (m .pool .count) n)
     (with-reports
-    (record { count = m .reports .count + REPORT-ROW; numbers = sets (m .reports .numbers) (m .reports .count) (report-row message hint range lab (m .mark) (m .pool .count) n) })
+    (record {
+      count = m .reports .count + REPORT-ROW;
+      numbers = sets (m .reports .numbers) (m .reports .count)
+          (report-row message hint range lab (m .mark) (m .pool .count) n);
+    })
     (record { count = m .pool .count + n; numbers = sets (m .pool .numbers) (m .pool .count) codes })
     m)
     (refuse NO-REPORT-ROOM m))

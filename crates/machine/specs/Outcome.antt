@@ -41,7 +41,18 @@ unwritten l = record { count = 0; numbers = l }
 -- nothing taken, nothing pending, nothing written, nothing refused
 abbrev pub fresh : List ℕ → List ℕ → List ℕ → Machine
 fresh events reports pool =
-    record { cursor = 0; byte = 0; mark = 0; mark-byte = 0; pending = []; events = unwritten events; reports = unwritten reports; pool = unwritten pool; refusal = 0; place = 0 }
+    record {
+      cursor = 0;
+      byte = 0;
+      mark = 0;
+      mark-byte = 0;
+      pending = [];
+      events = unwritten events;
+      reports = unwritten reports;
+      pool = unwritten pool;
+      refusal = 0;
+      place = 0;
+    }
 
 -- the room of the three buffers, as `room-of` counts it
 abbrev pub room-in : List ℕ → List ℕ → List ℕ → Room
@@ -85,4 +96,6 @@ Ends ts o events reports pool (stops r) m = Refused ts r m
 abbrev pub Machine-ends : Type 0
 Machine-ends =
     (e : Entry) (bytes tokens events reports pool : List ℕ) → check-input bytes tokens ≡ accepted
-    → Ends (tokens-of tokens) (run-entry e (tokens-of tokens)) events reports pool (scan (pushes (run-entry e (tokens-of tokens))) (room-in events reports pool)) (walk-prog MOST-OPEN-CALLS (tokens-of tokens) unlabelled (whole e) (fresh events reports pool) .on)
+    → Ends (tokens-of tokens) (run-entry e (tokens-of tokens)) events reports pool
+    (scan (pushes (run-entry e (tokens-of tokens))) (room-in events reports pool))
+    (walk-prog MOST-OPEN-CALLS (tokens-of tokens) unlabelled (whole e) (fresh events reports pool) .on)

@@ -9,7 +9,9 @@ use Rattle.definitions.specs.Grammar.{CONTINUE-COND-SET, path-segment, path-res
 -- whether a path goes on: the test of `path-turn`
 unfoldable pub at-segment : Prog
 unfolding at silent
-at-segment = not! (at (of-kind K.RCurly)) and not! end? and not! (silent (set CONTINUE-COND-SET)) and not! (silent (of-kind K.EndifDirective))
+at-segment =
+    not! (at (of-kind K.RCurly)) and not! end? and not! (silent (set CONTINUE-COND-SET)) and not!
+    (silent (of-kind K.EndifDirective))
 
 -- `reference_noamp`: after the LCurly
 unfoldable pub path : Prog

@@ -84,7 +84,8 @@ pub record Between (ts : List Token) (b : Brackets ts) (r : Result) (q : ℕ) : 
 -- puts them
 pub record Holds-tree (ts : List Token) (b : Brackets ts) (r : Result) (p : ℕ) (e : Expr) : Type 0 where
   pub more : List ℕ
-  pub rows-are : drop (TREE-ROW * p) (r .buffers .trees) ≡ rows (place (cell e) (b .opening ∷ (b .inner ++ (b .closing ∷ b .after)))) ++ more
+  pub rows-are : drop (TREE-ROW * p) (r .buffers .trees)
+      ≡ rows (place (cell e) (b .opening ∷ (b .inner ++ (b .closing ∷ b .after)))) ++ more
 
 -- the judgement of the tokens between the brackets
 pub record Judged (ts : List Token) (b : Brackets ts) (r : Result) (p : ℕ) : Type 0 where
@@ -98,9 +99,12 @@ pub record Judged (ts : List Token) (b : Brackets ts) (r : Result) (p : ℕ) : T
 -- every DtExpr of an accepted call starts a cell, and is judged
 abbrev pub C-table : Type 0
 C-table =
-    (n : ℕ) (bytes tokens : List ℕ) (l : Buffers) → call n bytes tokens l .answer .number ≡ 0 → (p : ℕ) → DtExpr-at p (call n bytes tokens l)
+    (n : ℕ) (bytes tokens : List ℕ) (l : Buffers) → call n bytes tokens l .answer .number ≡ 0 → (p : ℕ)
+    → DtExpr-at p (call n bytes tokens l)
     → Starts-cell (tokens-of tokens) p (call n bytes tokens l)
-    × ((b : Brackets (tokens-of tokens)) → opening-index (tokens-of tokens) b ≡ tokens-before p (call n bytes tokens l .buffers .trees) → Judged (tokens-of tokens) b (call n bytes tokens l) p)
+    × ((b : Brackets (tokens-of tokens))
+    → opening-index (tokens-of tokens) b ≡ tokens-before p (call n bytes tokens l .buffers .trees)
+    → Judged (tokens-of tokens) b (call n bytes tokens l) p)
 
 -- the tree that C's table gives is unique
 abbrev pub One-tree : Type 0

@@ -115,7 +115,8 @@ pub record ErrorMoved (a b : ℕ) (x y : Row) : Type 0 where
 -- a label moves unless it is 0, 0
 pub data LabelMoved (a b : ℕ) (x y : Row) : Type 0 where
   no-label : label-start x ≡ 0 → label-end x ≡ 0 → label-start y ≡ 0 → label-end y ≡ 0 → LabelMoved a b x y
-  label : (label-start x ≡ 0 → label-end x ≡ 0 → ⊥) → Moved a b (label-start x) (label-start y) → Moved a b (label-end x) (label-end y) → LabelMoved a b x y
+  label : (label-start x ≡ 0 → label-end x ≡ 0 → ⊥) → Moved a b (label-start x) (label-start y)
+      → Moved a b (label-end x) (label-end y) → LabelMoved a b x y
 
 -- Places in one file: a byte offset, a token index, a first pool place.
 pub record Places : Type 0 where
@@ -156,7 +157,8 @@ places f s = record { byte = start-byte s; index = token-index s; pool-place = p
 pub record Shared (f g : File) (a : Semicolon (tree-rows (result f))) (b : Semicolon (tree-rows (result g))) : Type 0 where
   pub parts : a .later ≡ b .later
   pub errors : Pairwise (ErrorMoved (start-byte a) (start-byte b)) (later-errors f a) (later-errors g b)
-  pub reports : Pairwise (ReportMoved (places f a) (places g b) (expectations (result f)) (expectations (result g))) (later-reports f a) (later-reports g b)
+  pub reports : Pairwise (ReportMoved (places f a) (places g b) (expectations (result f)) (expectations (result g)))
+      (later-reports f a) (later-reports g b)
 
 -- RECOVERY STAYS LOCAL, for all files, whatever buffers were lent
 abbrev pub Stays-local : Type 0

@@ -43,12 +43,26 @@ refused-at n p = record { number = n; place = p; tree-count = 0; error-count = 0
 -- the answer after the parser, which refused nothing, and the sink
 abbrev pub sunk-answer : Sunk → Machine → Answer
 sunk-answer (Written t e) m =
-    record { number = 0; place = 0; tree-count = t; error-count = e; report-count = m .reports .count / REPORT-ROW; expectation-count = m .pool .count }
+    record {
+      number = 0;
+      place = 0;
+      tree-count = t;
+      error-count = e;
+      report-count = m .reports .count / REPORT-ROW;
+      expectation-count = m .pool .count;
+    }
 sunk-answer NoRoom m = refused-at (number-of no-tree-room) (place-of no-tree-room)
 
 -- the buffers after both
 abbrev pub after-sink : Machine → List ℕ → List ℕ → Buffers
-after-sink m trees errors = record { events = m .events .numbers; trees = trees; errors = errors; reports = m .reports .numbers; pool = m .pool .numbers }
+after-sink m trees errors =
+    record {
+      events = m .events .numbers;
+      trees = trees;
+      errors = errors;
+      reports = m .reports .numbers;
+      pool = m .pool .numbers;
+    }
 
 -- buffers of the same lengths
 pub record Same-lengths (b c : Buffers) : Type 0 where
@@ -65,7 +79,8 @@ Parsed e tokens b m = m ≡ walk-prog MOST-OPEN-CALLS (tokens-of tokens) unlabel
 -- THE CALL'S END, for every entry, every input that passes causes 2 to 4, and lent buffers of any lengths and contents
 pub record Call-ends (e : Entry) (tokens : List ℕ) (b : Buffers) (m : Machine) : Type 0 where
   -- causes 5 to 7: whatever the buffers hold by then
-  pub refused : (m .refusal ≡ 0 → ⊥) → (c : Buffers) → Same-lengths b c → swept (refused-at (m .refusal) (m .place)) c ≡ parse e (tokens-of tokens) b
+  pub refused : (m .refusal ≡ 0 → ⊥) → (c : Buffers) → Same-lengths b c
+      → swept (refused-at (m .refusal) (m .place)) c ≡ parse e (tokens-of tokens) b
   -- no refusal: the events lie within their buffer
   pub events-inside : m .refusal ≡ 0 → m .events .count ≤ length (b .events)
   -- and after the sink over these events all is as `parse` says, cause 8 or accepted
@@ -74,4 +89,6 @@ pub record Call-ends (e : Entry) (tokens : List ℕ) (b : Buffers) (m : Machine)
       → swept (sunk-answer s m) (after-sink m trees errors) ≡ parse e (tokens-of tokens) b
 
 abbrev pub Calls-end : Type 0
-Calls-end = (e : Entry) (bytes tokens : List ℕ) (b : Buffers) (m : Machine) → check-input bytes tokens ≡ accepted → Parsed e tokens b m → Call-ends e tokens b m
+Calls-end =
+    (e : Entry) (bytes tokens : List ℕ) (b : Buffers) (m : Machine) → check-input bytes tokens ≡ accepted
+    → Parsed e tokens b m → Call-ends e tokens b m

@@ -70,7 +70,8 @@ Passes-3 n bytes tokens e = Passes-2 n bytes tokens e × Each (Good-row bytes) (
 
 -- 4: where the table of static texts has a text for the row's kind, that is what the row's bytes are
 abbrev pub Right-text : List ℕ → List Token → Token → Type 0
-Right-text bytes before t = Each (λ above entry. entry .kind ≡ t .kind → take (t .len) (drop (byte-count before) bytes) ≡ entry .text) static-texts
+Right-text bytes before t =
+    Each (λ above line. line .kind ≡ t .kind → take (t .len) (drop (byte-count before) bytes) ≡ line .text) static-texts
 
 abbrev pub Passes-4 : ℕ → List ℕ → List ℕ → Entry → Type 0
 Passes-4 n bytes tokens e = Passes-3 n bytes tokens e × Each (Right-text bytes) (tokens-of tokens)
@@ -105,7 +106,8 @@ abbrev pub Unrefused : Buffers → List Happening → Happening → Type 0
 Unrefused b before (call-opened c m) = c ≤ MAX-OPEN
 Unrefused b before (expectation-pushed c m) = c ≤ MAX-PENDING
 Unrefused b before (event-pushed m) = EVENT-ROW * suc (events-in before) ≤ length (b .events)
-Unrefused b before (report-written c m) = (REPORT-ROW * suc (reports-in before) ≤ length (b .reports)) × (expectations-in before + c ≤ length (b .pool))
+Unrefused b before (report-written c m) =
+    (REPORT-ROW * suc (reports-in before) ≤ length (b .reports)) × (expectations-in before + c ≤ length (b .pool))
 
 abbrev pub happens : Entry → List ℕ → List Happening
 happens e tokens = trace MAX-OPEN e (tokens-of tokens)
@@ -135,21 +137,30 @@ pub data Cause (n : ℕ) (bytes tokens : List ℕ) (b : Buffers) : ℕ → ℕ �
   -- over 1,048,576 bytes or 131,072 token numbers
   over-size : (e : Entry) → Passes-1 n e → ¬ Sizes bytes tokens → Cause n bytes tokens b 2 0
   -- a row with a bad kind, length 0 or an end past the input: the first bad row
-  bad-row : (e : Entry) → Passes-2 n bytes tokens e → (before : List Token) (t : Token) → First (Good-row bytes) (tokens-of tokens) before t → Cause n bytes tokens b 3 (length before)
+  bad-row : (e : Entry) → Passes-2 n bytes tokens e → (before : List Token) (t : Token)
+      → First (Good-row bytes) (tokens-of tokens) before t → Cause n bytes tokens b 3 (length before)
   -- odd numbers or a short total: the count of whole rows
-  odd-or-short : (e : Entry) → Passes-2 n bytes tokens e → Each (Good-row bytes) (tokens-of tokens) → ¬ Covers bytes tokens → Cause n bytes tokens b 3 (length (tokens-of tokens))
+  odd-or-short : (e : Entry) → Passes-2 n bytes tokens e → Each (Good-row bytes) (tokens-of tokens)
+      → ¬ Covers bytes tokens → Cause n bytes tokens b 3 (length (tokens-of tokens))
   -- bytes of a kind with a static text differ from it: the first such row
-  wrong-text : (e : Entry) → Passes-3 n bytes tokens e → (before : List Token) (t : Token) → First (Right-text bytes) (tokens-of tokens) before t → Cause n bytes tokens b 4 (length before)
+  wrong-text : (e : Entry) → Passes-3 n bytes tokens e → (before : List Token) (t : Token)
+      → First (Right-text bytes) (tokens-of tokens) before t → Cause n bytes tokens b 4 (length before)
   -- a 65th open call
-  call-too-many : (e : Entry) → Passes-4 n bytes tokens e → (before : List Happening) (m : ℕ) → First-met e tokens b before (call-opened (suc MAX-OPEN) m) → Cause n bytes tokens b 5 (from-start tokens m)
+  call-too-many : (e : Entry) → Passes-4 n bytes tokens e → (before : List Happening) (m : ℕ)
+      → First-met e tokens b before (call-opened (suc MAX-OPEN) m) → Cause n bytes tokens b 5 (from-start tokens m)
   -- a 257th pending expectation
-  expectation-too-many : (e : Entry) → Passes-4 n bytes tokens e → (before : List Happening) (m : ℕ) → First-met e tokens b before (expectation-pushed (suc MAX-PENDING) m) → Cause n bytes tokens b 5 (from-start tokens m)
+  expectation-too-many : (e : Entry) → Passes-4 n bytes tokens e → (before : List Happening) (m : ℕ)
+      → First-met e tokens b before (expectation-pushed (suc MAX-PENDING) m)
+      → Cause n bytes tokens b 5 (from-start tokens m)
   -- the next event does not fit
-  no-event-room : (e : Entry) → Passes-4 n bytes tokens e → (before : List Happening) (m : ℕ) → First-met e tokens b before (event-pushed m) → Cause n bytes tokens b 6 (from-start tokens m)
+  no-event-room : (e : Entry) → Passes-4 n bytes tokens e → (before : List Happening) (m : ℕ)
+      → First-met e tokens b before (event-pushed m) → Cause n bytes tokens b 6 (from-start tokens m)
   -- a report row or its expectations do not fit
-  no-report-room : (e : Entry) → Passes-4 n bytes tokens e → (before : List Happening) (c m : ℕ) → First-met e tokens b before (report-written c m) → Cause n bytes tokens b 7 (from-start tokens m)
+  no-report-room : (e : Entry) → Passes-4 n bytes tokens e → (before : List Happening) (c m : ℕ)
+      → First-met e tokens b before (report-written c m) → Cause n bytes tokens b 7 (from-start tokens m)
   -- the tree or the lexical errors do not fit
-  no-tree-room : (e : Entry) → Passes-4 n bytes tokens e → Each (Unrefused b) (happens e tokens) → ¬ Tree-fits e tokens b → Cause n bytes tokens b 8 0
+  no-tree-room : (e : Entry) → Passes-4 n bytes tokens e → Each (Unrefused b) (happens e tokens)
+      → ¬ Tree-fits e tokens b → Cause n bytes tokens b 8 0
   -- accepted
   none : (e : Entry) → Passes-4 n bytes tokens e → Each (Unrefused b) (happens e tokens) → Tree-fits e tokens b → Cause n bytes tokens b 0 0
 
@@ -157,4 +168,5 @@ pub data Cause (n : ℕ) (bytes tokens : List ℕ) (b : Buffers) : ℕ → ℕ �
 abbrev pub Refusals : Type 0
 Refusals =
     (n : ℕ) (bytes tokens : List ℕ) (b : Buffers) (number place : ℕ)
-    → ((Call.call n bytes tokens b .answer .number ≡ number) × (Call.call n bytes tokens b .answer .place ≡ place)) ↔ Cause n bytes tokens b number place
+    → ((Call.call n bytes tokens b .answer .number ≡ number)
+    × (Call.call n bytes tokens b .answer .place ≡ place)) ↔ Cause n bytes tokens b number place

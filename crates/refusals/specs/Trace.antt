@@ -80,7 +80,9 @@ exec-trace ask in-call b (act a) s = act-trace b a s
 exec-trace ask in-call b (p ⨟ q) s = exec-trace ask in-call b p s ++ exec-trace ask in-call b q (exec ask b p s .state)
 exec-trace ask in-call b (case c n y a) s =
     let o = exec ask b c s in
-    exec-trace ask in-call b c s ++ choose-trace (o .ans) (exec-trace ask in-call b n) (exec-trace ask in-call b y) (exec-trace ask in-call b a) (o .state)
+    exec-trace ask in-call b c s
+    ++ choose-trace (o .ans) (exec-trace ask in-call b n) (exec-trace ask in-call b y) (exec-trace ask in-call b a)
+    (o .state)
 exec-trace ask in-call b (in-marker p) s = event-at s ++ (exec-trace ask in-call b p s ++ event-at (exec ask b p s .state))
 exec-trace ask in-call b (loop p) s = iter-trace (suc (length (s .rest))) (exec ask b p) (exec-trace ask in-call b p) s
 exec-trace ask in-call b (chain p q) s =
@@ -95,7 +97,8 @@ exec-trace ask in-call b (open-call r) s = in-call r s
 unfoldable pub run-trace : ℕ → ℕ → Rule → State → List Happening
 unfolding run grammar exec-trace
 run-trace zero open-calls r s = call-opened (suc open-calls) (mark-of s) ∷ []
-run-trace (suc n) open-calls r s = call-opened (suc open-calls) (mark-of s) ∷ exec-trace (run n) (run-trace n (suc open-calls)) no-label (grammar r) s
+run-trace (suc n) open-calls r s =
+    call-opened (suc open-calls) (mark-of s) ∷ exec-trace (run n) (run-trace n (suc open-calls)) no-label (grammar r) s
 
 -- what happens in a file's run, with at most so many open calls
 unfoldable pub trace : ℕ → Entry → List Token → List Happening

@@ -36,7 +36,9 @@ iter-steps (suc n) f g s = g s ++ (turned s (f s) ∷ (let more = iter-steps n f
 unfoldable pub links-steps : ℕ → (State → Out) → (State → List Step) → State → List Step
 unfolding goes-on by-shape
 links-steps zero f g s = spent ∷ []
-links-steps (suc n) f g s = g s ++ (linked s (f s) ∷ (let more = links-steps n f g (f s .state) in by-shape (f s .shape) [] (cond (goes-on s (f s)) more [])))
+links-steps (suc n) f g s =
+    g s ++ (linked s (f s) ∷ (let more = links-steps n f g (f s .state) in by-shape (f s .shape) []
+    (cond (goes-on s (f s)) more [])))
 
 unfoldable pub choose-steps : Ans → (State → List Step) → (State → List Step) → (State → List Step) → State → List Step
 choose-steps no n y a = n
@@ -73,13 +75,16 @@ steps ask in-call b (p ⨟ q) s = begun (p ⨟ q) s ∷ (steps ask in-call b p s
 steps ask in-call b (case c n y a) s =
     let o = exec ask b c s in
     begun (case c n y a) s
-    ∷ (steps ask in-call b c s ++ (branched (o .ans) ∷ choose-steps (o .ans) (steps ask in-call b n) (steps ask in-call b y) (steps ask in-call b a) (o .state)))
+    ∷ (steps ask in-call b c s
+    ++ (branched (o .ans)
+    ∷ choose-steps (o .ans) (steps ask in-call b n) (steps ask in-call b y) (steps ask in-call b a) (o .state)))
 steps ask in-call b (in-marker p) s = begun (in-marker p) s ∷ steps ask in-call b p s
 steps ask in-call b (loop p) s = begun (loop p) s ∷ iter-steps (suc (length (s .rest))) (exec ask b p) (steps ask in-call b p) s
 steps ask in-call b (chain p q) s =
     let o = exec ask b p s in
     begun (chain p q) s
-    ∷ (steps ask in-call b p s ++ (let more = links-steps (suc (length (o .state .rest))) (exec ask b q) (steps ask in-call b q) (o .state) in cond (is-again (o .ans)) more []))
+    ∷ (steps ask in-call b p s ++ (let more = links-steps (suc (length (o .state .rest))) (exec ask b q)
+    (steps ask in-call b q) (o .state) in cond (is-again (o .ans)) more []))
 steps ask in-call b (brace p) s = begun (brace p) s ∷ steps ask in-call (here (s .rest)) p s
 steps ask in-call b (open-call r) s = begun (open-call r) s ∷ in-call r s
 

@@ -20,7 +20,8 @@ event-of tag a b =
     cond (eqb tag START-NODE) (StartNode a b)
     (cond (eqb tag LINKED-START-NODE) (StartNode a b)
     (cond (eqb tag ADD-TOKEN) AddToken
-    (cond (eqb tag ADD-COMBINED-TOKEN) (AddCombinedToken a) (cond (eqb tag FINISH-NODE) FinishNode (cond (eqb tag ERROR) Error Placeholder)))))
+    (cond (eqb tag ADD-COMBINED-TOKEN) (AddCombinedToken a)
+    (cond (eqb tag FINISH-NODE) FinishNode (cond (eqb tag ERROR) Error Placeholder)))))
 
 -- the events that rows say; numbers that make no whole row say none
 unfoldable pub decode : List ℕ → List Event

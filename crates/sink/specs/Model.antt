@@ -65,8 +65,15 @@ start-on events i (on s trees) =
 unfoldable pub finish-on : On → On
 unfolding put tree-field
 finish-on (on s trees) =
-    on (record { cursor = s .cursor; byte = s .byte; rows = s .rows; node = tree-field (s .node) PARENT trees; children = low (tree-field (s .node) CHILDREN-BEFORE trees + 1) })
-    (put (s .node) (tree-row NODE (tree-field (s .node) KIND trees) (s .byte - tree-field (s .node) FIRST-BYTE trees) (s .children) []) trees)
+    on (record {
+      cursor = s .cursor;
+      byte = s .byte;
+      rows = s .rows;
+      node = tree-field (s .node) PARENT trees;
+      children = low (tree-field (s .node) CHILDREN-BEFORE trees + 1);
+    })
+    (put (s .node) (tree-row NODE (tree-field (s .node) KIND trees) (s .byte - tree-field (s .node) FIRST-BYTE trees)
+    (s .children) []) trees)
 
 unfoldable pub event-on : List ℕ → List ℕ → ℕ → On → On
 unfolding field trivia-on start-on token-on combined-on finish-on

@@ -46,7 +46,8 @@ pub record Placed (k : ℕ) (o : Skeleton) (tokens trees errors : List ℕ) (sun
   pub fits : enough (rows (root k o (tokens-of tokens))) (lexical-errors 0 (tokens-of tokens)) trees errors ≡ true
       → Written-out (rows (root k o (tokens-of tokens))) (lexical-errors 0 (tokens-of tokens)) trees errors sunk trees′ errors′
   pub lacks : enough (rows (root k o (tokens-of tokens))) (lexical-errors 0 (tokens-of tokens)) trees errors ≡ false → sunk ≡ NoRoom
-  pub refusal : number sunk ≡ cond (enough (rows (root k o (tokens-of tokens))) (lexical-errors 0 (tokens-of tokens)) trees errors) 0 (number-of no-tree-room)
+  pub refusal : number sunk ≡ cond (enough (rows (root k o (tokens-of tokens)))
+      (lexical-errors 0 (tokens-of tokens)) trees errors) 0 (number-of no-tree-room)
 
 -- for every skeleton that the events encode
 abbrev pub Promise : ℕ → List ℕ → List ℕ → List ℕ → List ℕ → Sunk → List ℕ → List ℕ → Type 0

@@ -58,7 +58,9 @@ links events j = linksN (length events / EVENT-ROW) events j
 -- the open rows of a chain of n links, the innermost written first
 unfoldable pub open-rows : ℕ → List ℕ → ℕ → ℕ → ℕ → ℕ → ℕ → List ℕ → List ℕ
 unfolding put field link
-open-rows zero events j first byte parent children trees = put first (tree-row parent (field events j EVENT-ARGUMENT) byte children []) trees
+open-rows zero events j first byte parent children trees =
+    put first (tree-row parent (field events j EVENT-ARGUMENT) byte children []) trees
 open-rows (suc n) events j first byte parent children trees =
     let up = low (first + n) in
-    open-rows n events (j + link events j) first byte parent children (put (low (up + 1)) (tree-row up (field events j EVENT-ARGUMENT) byte 0 []) trees)
+    open-rows n events (j + link events j) first byte parent children
+    (put (low (up + 1)) (tree-row up (field events j EVENT-ARGUMENT) byte 0 []) trees)
