@@ -1,18 +1,18 @@
--- Numbers fit, in reading order. How the proof goes:
+-- HOW THE PROOFS GO.
 -- 1. What is counted has a price: a token or name, a marker, a report; each token that the cursor passes brings credit
 --    (Cost, `Price`). An analysis that the checker computes gives a program's bill: for each answer and what is then
 --    known, at most how much it costs beyond what its tokens bring. Row and RowLaws: the numbers of a bill, put
 --    together. Cost: the bill of each action and program.
 -- 2. The analysis is sound, once for all programs: Paid says what a bill's number means of a run; Turns and Chains, for
---    loops and chains, whose turns pay for themselves; CostActs, each action; CostSound, every program; CostRuns, every
---    counted call and every entry.
+--    loops and chains, whose turns pay for themselves; CostSound, every program, over CostActs, each action;
+--    CostRuns, every counted call and every entry.
 -- 3. Tables: the bills of the four counted functions, and that the grammar keeps to them, by `refl`, for events,
 --    reports and nodes. Counts draws from them: at most so many events, reports and nodes a token.
 -- 4. Beside the counts: Pools, at most 256 expectations in a report; Codes and CodedRuns, every code that a run makes
 --    is below 256.
 -- 5. What is written: Events, the numbers of event rows; TreeRows, how many tree rows and what is in them; Written,
 --    reports, pool and lexical errors; Places, the place of a refusal. Numbers joins them to the statements of
---    specs/Numbers.antt.
+--    specs/Numbers.antt. Witnesses: its premises can be met. Refutations: wrong answers do not pass.
 pub mod Row
 pub mod RowLaws
 pub mod Cost

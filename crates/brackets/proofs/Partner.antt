@@ -59,8 +59,8 @@ missed-in ts p r a none = go (a .paired)
     cell : tokens-first (read (drop (TREE-ROW * p) (r .buffers .trees))) ≡ length (leaves (a .children))
     cell = ap (λ (l : List ℕ). tokens-first (read l)) (a .rows-are) ∙ first-row N.DtExpr (a .children) (a .more)
 
-    go : Partner (a .behind) ⊎ ((q : ℕ) × Tells r (tokens-before p (r .buffers .trees)) (a .children) q) → (q : ℕ) × Reported p r q
-    go (inl c) = let b = brackets-of ts (tokens-before p (r .buffers .trees)) (a .bracket) (a .behind) (a .starts) (a .is-bracket) c in absurd (none (b .0) (b .1))
+    go : Partner (a .beyond) ⊎ ((q : ℕ) × Tells r (tokens-before p (r .buffers .trees)) (a .children) q) → (q : ℕ) × Reported p r q
+    go (inl c) = let b = brackets-of ts (tokens-before p (r .buffers .trees)) (a .bracket) (a .beyond) (a .starts) (a .is-bracket) c in absurd (none (b .0) (b .1))
     go (inr g) =
         let t = g .1 in
         (g .0, record { written = t .written; above = t .above; at-most = subst (λ (n : ℕ). mark-in (g .0) (r .buffers .reports) ≤ tokens-before p (r .buffers .trees) + n) (sym cell) (t .at-most) })

@@ -1,9 +1,8 @@
 -- Programs that are parts of the definitions' `lhs` and `infix-turn`: those that have a function of their own here.
-use mathlib.Core.List.{List, [], _∷_}
 use Rattle.definitions.specs.TokenKind as K
 use Rattle.definitions.specs.NodeKind as N
 use Rattle.definitions.specs.Errors as E
-use Rattle.definitions.specs.Prog.{no, yes, expr-binding-power, Prog, ret, _⨟_, case, in-marker, open-call}
+use Rattle.definitions.specs.Prog.{no, yes, expr-binding-power, Prog, ret, _⨟_, in-marker, open-call}
 use Rattle.definitions.specs.Check.{tell, if_then_else_, _and_, in-node, bump!, expected, error, error!, error-wrap!, set, of-kind, silent, expect}
 use Rattle.definitions.specs.Grammar.{INFIX-BUT-TERNARY, PREFIX-OPERATORS-SET, prefix-power, ternary-level, rhs}
 

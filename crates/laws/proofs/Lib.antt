@@ -1,20 +1,20 @@
 -- HOW THE PROOFS GO. One induction over programs, loops, chains and open calls serves every law of runs: a law shows
--- what holds of each action and is kept by joining and by closing a marker. Each statement of specs/ is then read off
--- an accepted call.
---   Trivia, Skeleton, Tree            lists of tokens, skeletons and trees side by side
---   Engine, Kept                      the induction (`Steady`), and its form with eight cases for what a run makes
---                                     between two states
---   Marks, Onward, Between, Swept     its instances: marks fall, cursors go on, tokens are read off the file, all are
---                                     taken
---   Fuel, Pieces, Clear, Allowance, Scan   turns and open calls allowed, runs without refusal 5, what is pushed scanned
---                                          piece by piece
---   Analysis, Sound                   analyses that the checker computes on programs, sound for every domain; two
---                                     instances: which names
---   NameLook, Names; Progress, FactsHold, Takes      are taken; that items, values and top-level statements take a
---   token Placed, Leaves, LexicalErrors     placing loses no token; the rows of leaves and of lexical errors Input,
---   Accepted                   what an accepted call passed, and what it returns Decode, Lossless, Limits          rows
---   give back their tree; the statements of specs/ (`nothing-lost`, `limits`)
--- The modules, in reading order:
+-- what holds of each action and is kept by joining and by closing a marker. Each statement of specs/ is then read off an
+-- accepted call. The modules, in reading order:
+--   Trivia, Skeleton, Tree   lists of tokens, skeletons and trees side by side
+--   Engine, Kept             the induction (`Steady`), and its form with eight cases for what a run makes between two
+--                            states
+--   Marks, Onward            two instances: marks never decrease, the cursor goes on
+--   Fuel, Pieces, Shape      turns allowed; a property that a whole hands on to its pieces; the marker's shape
+--   Clear, Allowance, Scan   runs without refusal 5; open calls allowed; what is pushed scanned piece by piece
+--   Analysis, Sound          analyses that the checker computes on programs, sound for every domain
+--   Placed, Between, Swept   placing loses no token; tokens are read off the file; all are taken
+--   Decode, Input, Accepted  rows give back their tree; what an accepted call passed, and what it returns
+--   NameLook, Names          an instance of the analysis: which names are taken
+--   Leaves, LexicalErrors    the rows of leaves and of lexical errors
+--   Lossless, Few, Limits    the statements `nothing-lost` and `limits`; how many expectations are pending
+--   Progress, FactsHold, Takes   an instance of the analysis: items, values and top-level parts take a token
+--   Witnesses, Refutations   computed cases that meet the premises; wrong answers that do not meet the conclusions
 pub mod Trivia
 pub mod Skeleton
 pub mod Tree

@@ -46,8 +46,8 @@ pushes-closed zero m m′ a i = refl
 pushes-closed (suc k) m m′ a i = refl
 
 -- a list after the last piece of a list in three pieces
-behind : {A : Type 0} (a : List A) (x y : A) (i o l : List A) → a ++ (x ∷ (i ++ (y ∷ (o ++ l)))) ≡ (a ++ (x ∷ (i ++ (y ∷ o)))) ++ l
-behind a x y i o l = sym (append-assoc a _ l ∙ ap (λ (z : _). a ++ (x ∷ z)) (append-assoc i (y ∷ o) l))
+after-three : {A : Type 0} (a : List A) (x y : A) (i o l : List A) → a ++ (x ∷ (i ++ (y ∷ (o ++ l)))) ≡ (a ++ (x ∷ (i ++ (y ∷ o)))) ++ l
+after-three a x y i o l = sym (append-assoc a _ l ∙ ap (λ (z : _). a ++ (x ∷ z)) (append-assoc i (y ∷ o) l))
 
 pub pushes-join : (p q : Skeleton) → pushes (p ⧺ q) ≡ pushes p ++ pushes q
 unfolding _⧺_ pushes
@@ -55,9 +55,9 @@ pushes-join done q = refl
 pushes-join (token t m p) q = ap (event m ∷_) (pushes-join p q)
 pushes-join (name ts m p) q = ap (event m ∷_) (pushes-join p q)
 pushes-join (node k m m′ a i p) q =
-    ap (λ (l : List Push). pushes a ++ (event m ∷ (pushes i ++ (event m′ ∷ l)))) (pushes-join p q) ∙ behind (pushes a) (event m) (event m′) (pushes i) (pushes p) (pushes q)
+    ap (λ (l : List Push). pushes a ++ (event m ∷ (pushes i ++ (event m′ ∷ l)))) (pushes-join p q) ∙ after-three (pushes a) (event m) (event m′) (pushes i) (pushes p) (pushes q)
 pushes-join (ignored m m′ a i p) q =
-    ap (λ (l : List Push). pushes a ++ (event m ∷ (pushes i ++ (event m′ ∷ l)))) (pushes-join p q) ∙ behind (pushes a) (event m) (event m′) (pushes i) (pushes p) (pushes q)
+    ap (λ (l : List Push). pushes a ++ (event m ∷ (pushes i ++ (event m′ ∷ l)))) (pushes-join p q) ∙ after-three (pushes a) (event m) (event m′) (pushes i) (pushes p) (pushes q)
 pushes-join (report r p) q = ap (reported r ∷_) (pushes-join p q)
 pushes-join (over m p) q = ap (exceeded m ∷_) (pushes-join p q)
 
@@ -69,10 +69,10 @@ events-join b (name ts m p) q = ap (AddCombinedToken (length ts) ∷_) (events-j
 events-join b (node k m m′ a i p) q =
     let s : Event = StartNode k (forward b (suc (suc (length (events Bool.false i))))) in
     ap (λ (l : List Event). events Bool.true a ++ (s ∷ (events Bool.false i ++ (FinishNode ∷ l)))) (events-join b p q)
-    ∙ behind (events Bool.true a) s FinishNode (events Bool.false i) (events b p) (events b q)
+    ∙ after-three (events Bool.true a) s FinishNode (events Bool.false i) (events b p) (events b q)
 events-join b (ignored m m′ a i p) q =
     ap (λ (l : List Event). events Bool.true a ++ (Placeholder ∷ (events Bool.false i ++ (Placeholder ∷ l)))) (events-join b p q)
-    ∙ behind (events Bool.true a) Placeholder Placeholder (events Bool.false i) (events b p) (events b q)
+    ∙ after-three (events Bool.true a) Placeholder Placeholder (events Bool.false i) (events b p) (events b q)
 events-join b (report r p) q = ap (Error ∷_) (events-join b p q)
 events-join b (over m p) q = events-join b p q
 

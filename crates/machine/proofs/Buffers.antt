@@ -11,8 +11,8 @@ pub length-onto : (l b : List ℕ) → length l ≤ length b → length (onto l 
 length-onto l b h = simp (length-append, length-drop) (omega arith)
 
 -- stored right after what is written
-pub sets-behind : (l vs b : List ℕ) → length l + length vs ≤ length b → sets (onto l b) (length l) vs ≡ onto (l ++ vs) b
-sets-behind l vs b h =
+pub sets-after : (l vs b : List ℕ) → length l + length vs ≤ length b → sets (onto l b) (length l) vs ≡ onto (l ++ vs) b
+sets-after l vs b h =
     let n : length l + length vs ≤ length (onto l b) = rw (length-onto l b (omega arith)) h in
     sets-eq vs (onto l b) (length l) n
     ∙ ap (λ (x : List ℕ). x ++ vs ++ drop (length l + length vs) (onto l b)) (take-append-seam l (drop (length l) b))

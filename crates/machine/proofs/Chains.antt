@@ -20,7 +20,7 @@ use Rattle.machine.specs.Outcome.{Refused}
 use Rattle.machine.proofs.Coded.{coded}
 use Rattle.machine.proofs.Image.{Ground, image, Inside}
 use Rattle.machine.proofs.Sticky.{Sticks, either, s-push, s-precede, s-links, s-turn, s-chained}
-use Rattle.machine.proofs.Meets.{Sofar, Fitting, stand, Meets, grow, Sim, Tracks, Begins, begins-with, begins-then, begins-behind, push-meets, meets-then}
+use Rattle.machine.proofs.Meets.{Sofar, Fitting, stand, Meets, grow, Sim, Tracks, Begins, begins-with, begins-then, begins-after, push-meets, meets-then}
 use Rattle.machine.proofs.Markers.{opened, opened-grow, ignore-sim, complete-sim, begins-closed, start-index, linked-length, precede-sim}
 use Rattle.machine.proofs.Loops.{left-is, goes-on-is}
 
@@ -113,8 +113,8 @@ module _ (g : Ground) (f : State → Out) (h : Machine → Walked) (st : Sticks 
       let c₂ = opened c N m′ done in
       let v = complete k kind (stand g (opened c a m i) s) in
       let K = next-marker LINKED-START-NODE (stand g c₁ s) in
-      let b₂ : Begins (c₂ .pushed) (end .pushed) = begins-behind (c .pushed) (pushes N ++ (event m′ ∷ [])) (pushes (D .made)) (begins-onward f n (begins-links f n) b m′ N x s) in
-      let b₁ : Begins (c₁ .pushed) (c₂ .pushed) = begins-behind (c .pushed) (pushes N) (pushes N ++ (event m′ ∷ [])) (begins-with (pushes N) (event m′ ∷ [])) in
+      let b₂ : Begins (c₂ .pushed) (end .pushed) = begins-after (c .pushed) (pushes N ++ (event m′ ∷ [])) (pushes (D .made)) (begins-onward f n (begins-links f n) b m′ N x s) in
+      let b₁ : Begins (c₁ .pushed) (c₂ .pushed) = begins-after (c .pushed) (pushes N) (pushes N ++ (event m′ ∷ [])) (begins-with (pushes N) (event m′ ∷ [])) in
       meets-then g c₁ end x (D .ans) 0 (D .shape) s (D .state) (said x v) (next n b k x v) (begins-then (c₁ .pushed) (c₂ .pushed) (end .pushed) b₁ b₂)
       (complete-sim g c a m i s fit j x k kind e t)
       (λ fit₁ j₁ e₁.
@@ -155,7 +155,7 @@ module _ (g : Ground) (f : State → Out) (h : Machine → Walked) (st : Sticks 
       let out : Bool → Walked → Walked = λ x v. by-shape (v .shape) (said (v .ans) (push PLACEHOLDER 0 (v .on))) (next n x k (v .ans) (complete k (v .shape) (v .on))) in
       let v : Walked = record { ans = o .ans; shape = o .shape; on = stand g mid (o .state) } in
       meets-then g mid end (o .ans) (D .ans) (o .shape) (D .shape) (o .state) (D .state) w (out (W.goes-on ts M w) w)
-      (begins-behind (c .pushed) (pushes a ++ (event m ∷ pushes I)) (pushes (D .made)) (begins-turned f n (begins-links f n) s m a I o))
+      (begins-after (c .pushed) (pushes a ++ (event m ∷ pushes I)) (pushes (D .made)) (begins-turned f n (begins-links f n) s m a I o))
       (subst (λ (y : Sofar). Meets g y (o .ans) (o .shape) (o .state) w) (opened-grow c a m i (o .made)) (tr (opened c a m i) s fit j))
       (λ fit₁ j₁ e₁.
       subst (λ (y : Walked). Meets g end (D .ans) (D .shape) (D .state) (out (W.goes-on ts M y) y)) (sym e₁)
@@ -197,8 +197,8 @@ module _ (g : Ground) (f f₀ : State → Out) (h h₀ : Machine → Walked) (tr
       let out : ℕ → Walked → Walked = λ n v. cond (is-again (v .ans)) (W.links (g .tokens) (suc n) h k (v .on)) (said (v .ans) (push PLACEHOLDER 0 (v .on))) in
       let v : Walked = record { ans = o .ans; shape = o .shape; on = stand g mid (o .state) } in
       let z = out (length (rest (g .tokens) (w .on))) w in
-      let b₂ : Begins (mid .pushed) (end .pushed) = begins-behind (c .pushed) (event m ∷ pushes (o .made)) (pushes (D .made)) (begins-chain f (is-again (o .ans)) m (o .made) (o .ans) (o .state)) in
-      let b₁ : Begins (one .pushed) (mid .pushed) = begins-behind (c .pushed) (event m ∷ []) (event m ∷ pushes (o .made)) (begins-with (event m ∷ []) (pushes (o .made))) in
+      let b₂ : Begins (mid .pushed) (end .pushed) = begins-after (c .pushed) (event m ∷ pushes (o .made)) (pushes (D .made)) (begins-chain f (is-again (o .ans)) m (o .made) (o .ans) (o .state)) in
+      let b₁ : Begins (one .pushed) (mid .pushed) = begins-after (c .pushed) (event m ∷ []) (event m ∷ pushes (o .made)) (begins-with (event m ∷ []) (pushes (o .made))) in
       meets-then g one end yes (D .ans) 0 (D .shape) s (D .state) (said yes p) z (begins-then (one .pushed) (mid .pushed) (end .pushed) b₁ b₂)
       (push-meets g c fit s PLACEHOLDER 0 yes 0 j)
       (λ fit₁ j₁ e₁.

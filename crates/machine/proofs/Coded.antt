@@ -31,9 +31,9 @@ coded linked (report r o) = ERROR ∷ 0 ∷ 0 ∷ coded linked o
 coded linked (over m o) = coded linked o
 
 -- a list after the last of three pieces, with rows between them
-behind : (a : List ℕ) (x y z : ℕ) (i : List ℕ) (u v w : ℕ) (o l : List ℕ)
+after-three : (a : List ℕ) (x y z : ℕ) (i : List ℕ) (u v w : ℕ) (o l : List ℕ)
     → a ++ (x ∷ y ∷ z ∷ (i ++ (u ∷ v ∷ w ∷ (o ++ l)))) ≡ (a ++ (x ∷ y ∷ z ∷ (i ++ (u ∷ v ∷ w ∷ o)))) ++ l
-behind a x y z i u v w o l = sym (append-assoc a _ l ∙ ap (λ (t : List ℕ). a ++ (x ∷ y ∷ z ∷ t)) (append-assoc i (u ∷ v ∷ w ∷ o) l))
+after-three a x y z i u v w o l = sym (append-assoc a _ l ∙ ap (λ (t : List ℕ). a ++ (x ∷ y ∷ z ∷ t)) (append-assoc i (u ∷ v ∷ w ∷ o) l))
 
 pub coded-join : (b : Bool) (p q : Skeleton) → coded b (p ⧺ q) ≡ coded b p ++ coded b q
 unfolding coded _⧺_
@@ -43,10 +43,10 @@ coded-join b (name ts m p) q = ap (λ (l : List ℕ). ADD-COMBINED-TOKEN ∷ len
 coded-join b (node k m m′ a i p) q =
     let d : ℕ = forward b (low (suc (suc (length (events false i))))) in
     ap (λ (l : List ℕ). coded true a ++ (start-tag a ∷ k ∷ d ∷ (coded false i ++ (FINISH-NODE ∷ 0 ∷ 0 ∷ l)))) (coded-join b p q)
-    ∙ behind (coded true a) (start-tag a) k d (coded false i) FINISH-NODE 0 0 (coded b p) (coded b q)
+    ∙ after-three (coded true a) (start-tag a) k d (coded false i) FINISH-NODE 0 0 (coded b p) (coded b q)
 coded-join b (ignored m m′ a i p) q =
     ap (λ (l : List ℕ). coded true a ++ (PLACEHOLDER ∷ 0 ∷ 0 ∷ (coded false i ++ (PLACEHOLDER ∷ 0 ∷ 0 ∷ l)))) (coded-join b p q)
-    ∙ behind (coded true a) PLACEHOLDER 0 0 (coded false i) PLACEHOLDER 0 0 (coded b p) (coded b q)
+    ∙ after-three (coded true a) PLACEHOLDER 0 0 (coded false i) PLACEHOLDER 0 0 (coded b p) (coded b q)
 coded-join b (report r p) q = ap (λ (l : List ℕ). ERROR ∷ 0 ∷ 0 ∷ l) (coded-join b p q)
 coded-join b (over m p) q = coded-join b p q
 

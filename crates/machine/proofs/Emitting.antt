@@ -42,8 +42,8 @@ span-of b no-label = record { from = 0; to = 0 }
 span-of b (label x) = forward-span b x
 
 -- the byte after the last token taken
-behind-mark : (b k : ℕ) → 1 ≤ k → k ≤ b → b < TWO-TO-32 → low (b - k + 1) ≡ b - (k - 1)
-behind-mark b k h i l = let e : b - k + 1 ≡ b - (k - 1) = omega arith in ap low e ∙ mod-eq-of-lt (omega arith)
+after-mark : (b k : ℕ) → 1 ≤ k → k ≤ b → b < TWO-TO-32 → low (b - k + 1) ≡ b - (k - 1)
+after-mark b k h i l = let e : b - k + 1 ≡ b - (k - 1) = omega arith in ap low e ∙ mod-eq-of-lt (omega arith)
 
 range-with : (g : Ground) (e : List ℕ) (l : List Report) (s : State) (ts : List Token) → Inside g (moved s ts)
     → M.error-range ts (image g e l (moved s ts)) ≡ forward-span (byte-count (g .tokens)) (error-range (moved s ts) ts)
@@ -58,7 +58,7 @@ range-with g e l s (t ∷ ts) i = pick (only-separators (s .pending))
     some = let h : 1 ≤ t .len = suffix-filled (g .tokens) (t ∷ ts) (i .rest) (g .limits .none-empty) .0 in omega (arith, h, i .order)
 
     one : low (B - byte-count (s .since) + 1) ≡ B - (byte-count (s .since) - 1)
-    one = behind-mark B (byte-count (s .since)) some (suffix-bytes (g .tokens) (s .since) (i .since)) (g .limits .short)
+    one = after-mark B (byte-count (s .since)) some (suffix-bytes (g .tokens) (s .since) (i .since)) (g .limits .short)
 
     pick : (c : Bool)
         → cond {A = Span} c (record { from = B - byte-count (s .since); to = low (B - byte-count (s .since) + 1) }) (record { from = B - (t .len + byte-count ts); to = low (B - (t .len + byte-count ts) + t .len) })

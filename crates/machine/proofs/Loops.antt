@@ -13,7 +13,7 @@ use Rattle.machine.specs.Walk.{Walked, said}
 use Rattle.machine.specs.Walk as W
 use Rattle.machine.proofs.Image.{Ground, Inside, rest-is}
 use Rattle.machine.proofs.Sticky.{Sticks, either, s-iter}
-use Rattle.machine.proofs.Meets.{Sofar, Fitting, stand, Meets, goes, grow, grow-join, Sim, Tracks, Begins, begins-behind, meets-then}
+use Rattle.machine.proofs.Meets.{Sofar, Fitting, stand, Meets, goes, grow, grow-join, Sim, Tracks, Begins, begins-after, meets-then}
 use Rattle.machine.proofs.Taking.{quiet}
 use Rattle.machine.proofs.Sequences.{begins-join}
 
@@ -62,7 +62,7 @@ module _ (g : Ground) (f : State → Out) (h : Machine → Walked) (t : Tracks g
       let end = grow c (D .made) in
       let out : Bool → Walked → Walked = λ x v. cond x (W.iter ts n h (v .on)) (said (v .ans) (v .on)) in
       meets-then g (grow c (o .made)) end (o .ans) (D .ans) (o .shape) (D .shape) (o .state) (D .state) w (out (W.goes-on ts M w) w)
-      (begins-behind (c .pushed) (pushes (o .made)) (pushes (D .made)) (begins-more b o u))
+      (begins-after (c .pushed) (pushes (o .made)) (pushes (D .made)) (begins-more b o u))
       (t c s fit i)
       (λ fit₁ i₁ e. subst (λ (v : Walked). Meets g end (D .ans) (D .shape) (D .state) (out (W.goes-on ts M v) v)) (sym e)
       (subst (λ (x : Bool). Meets g end (D .ans) (D .shape) (D .state) (out x (record { ans = o .ans; shape = o .shape; on = stand g (grow c (o .made)) (o .state) }))) (sym (goes-on-is g c (grow c (o .made)) s o i i₁))

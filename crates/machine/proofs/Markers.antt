@@ -25,7 +25,7 @@ use Rattle.machine.proofs.Coded.{coded, coded-join, coded-length}
 use Rattle.machine.proofs.Image.{Ground, image, rows-of, Inside}
 use Rattle.machine.proofs.Stores.{complete-is, precede-fits, precede-full}
 use Rattle.machine.proofs.Sticky.{Sticks, s-closed}
-use Rattle.machine.proofs.Meets.{Sofar, Fitting, stand, Meets, goes, stop, grow, Tracks, room-at-first, Begins, begins-with, begins-then, begins-behind, put, same-sofar, no-report, refused-event, event-full, event-fits, push-meets, meets-then}
+use Rattle.machine.proofs.Meets.{Sofar, Fitting, stand, Meets, goes, stop, grow, Tracks, room-at-first, Begins, begins-with, begins-then, begins-after, put, same-sofar, no-report, refused-event, event-full, event-fits, push-meets, meets-then}
 
 -- ---------------------------------------------------------------- an open marker
 
@@ -126,8 +126,8 @@ mark-sim g f h t st c s fit i =
     let end = grow c (closed (o .shape) m m′ done (o .made)) in
     let w = W.marked k (h (push PLACEHOLDER 0 M)) in
     let mid = opened c done m (o .made) in
-    let b₂ : Begins (mid .pushed) (end .pushed) = begins-behind (c .pushed) (event m ∷ pushes (o .made)) (pushes (closed (o .shape) m m′ done (o .made))) (begins-closed (o .shape) m m′ done (o .made)) in
-    let b₁ : Begins (opened c done m done .pushed) (mid .pushed) = begins-behind (c .pushed) (event m ∷ []) (event m ∷ pushes (o .made)) (begins-with (event m ∷ []) (pushes (o .made))) in
+    let b₂ : Begins (mid .pushed) (end .pushed) = begins-after (c .pushed) (event m ∷ pushes (o .made)) (pushes (closed (o .shape) m m′ done (o .made))) (begins-closed (o .shape) m m′ done (o .made)) in
+    let b₁ : Begins (opened c done m done .pushed) (mid .pushed) = begins-after (c .pushed) (event m ∷ []) (event m ∷ pushes (o .made)) (begins-with (event m ∷ []) (pushes (o .made))) in
     meets-then g (opened c done m done) end yes (o .ans) 0 0 s (o .state) (said yes (push PLACEHOLDER 0 M)) w
     (begins-then (opened c done m done .pushed) (mid .pushed) (end .pushed) b₁ b₂)
     (push-meets g c fit s PLACEHOLDER 0 yes 0 i)

@@ -75,8 +75,8 @@ begins-with p u = record { more = u; joins = refl }
 pub begins-then : (p q r : List Push) → Begins p q → Begins q r → Begins p r
 begins-then p q r a b = record { more = a .more ++ b .more; joins = sym (append-assoc p (a .more) (b .more)) ∙ ap (λ (l : List Push). l ++ b .more) (a .joins) ∙ b .joins }
 
-pub begins-behind : (l p q : List Push) → Begins p q → Begins (l ++ p) (l ++ q)
-begins-behind l p q a = record { more = a .more; joins = append-assoc l p (a .more) ∙ ap (λ (u : List Push). l ++ u) (a .joins) }
+pub begins-after : (l p q : List Push) → Begins p q → Begins (l ++ p) (l ++ q)
+begins-after l p q a = record { more = a .more; joins = append-assoc l p (a .more) ∙ ap (λ (u : List Push). l ++ u) (a .joins) }
 
 -- the first misfit stays the first
 pub still-stops : (p q : List Push) (z : Room) (r : Refusal) → Begins p q → scan p z ≡ stops r → scan q z ≡ stops r

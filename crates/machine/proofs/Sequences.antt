@@ -14,7 +14,7 @@ use Rattle.machine.specs.Walk as W
 use Rattle.machine.specs.Outcome.{Refused}
 use Rattle.machine.proofs.Image.{Ground, Inside}
 use Rattle.machine.proofs.Sticky.{Sticks}
-use Rattle.machine.proofs.Meets.{Sofar, Fitting, stand, Meets, grow, grow-join, Sim, Tracks, Begins, begins-behind, meets-then}
+use Rattle.machine.proofs.Meets.{Sofar, Fitting, stand, Meets, grow, grow-join, Sim, Tracks, Begins, begins-after, meets-then}
 
 -- what is pushed first stays first
 pub begins-join : (p q : Skeleton) → Begins (pushes p) (pushes (p ⧺ q))
@@ -30,7 +30,7 @@ seq-with g c o o′ w h m k n =
     let c₁ = grow c (o .made) in
     let c₂ = grow c (o .made ⧺ o′ .made) in
     meets-then g c₁ c₂ (o .ans) (o′ .ans) (o .shape) (o′ .shape) (o .state) (o′ .state) w (h w)
-    (begins-behind (c .pushed) (pushes (o .made)) (pushes (o .made ⧺ o′ .made)) (begins-join (o .made) (o′ .made)))
+    (begins-after (c .pushed) (pushes (o .made)) (pushes (o .made ⧺ o′ .made)) (begins-join (o .made) (o′ .made)))
     m
     (λ f i e. subst (λ (v : Walked). Meets g c₂ (o′ .ans) (o′ .shape) (o′ .state) (h v)) (sym e)
     (subst (λ (x : Sofar). Meets g x (o′ .ans) (o′ .shape) (o′ .state) (h (record { ans = o .ans; shape = o .shape; on = stand g c₁ (o .state) }))) (grow-join c (o .made) (o′ .made)) (k f i)))

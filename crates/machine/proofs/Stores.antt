@@ -18,7 +18,7 @@ use Rattle.laws.proofs.Skeleton.{pool-append}
 use Rattle.basics.specs.Word.{low}
 use Rattle.machine.specs.Machine.{Buffer, Machine, Marker, with-events, with-reports, refuse, fits, push-row, push, put-start, complete, put-link, precede, report-row, write-report}
 use Rattle.machine.specs.Outcome.{onto}
-use Rattle.machine.proofs.Buffers.{length-onto, sets-behind, sets-onto}
+use Rattle.machine.proofs.Buffers.{length-onto, sets-after, sets-onto}
 use Rattle.machine.proofs.Coded.{low-rows, low-rows-append}
 use Rattle.machine.proofs.Image.{Ground, image, written, rows-of}
 
@@ -31,11 +31,11 @@ fits-false : (len at n : ℕ) → at ≤ len → len < at + n → fits len at n 
 fits-false len at n k h = rw (le-leb at len k, lt-leb n (len - at) (omega arith))
 
 -- a row right after what is written
-row-behind : (l vs b : List ℕ) (n : ℕ) → length vs ≡ n → length l + n ≤ length b → _≡_ {A = Buffer} (record { count = length l + n; numbers = sets (onto l b) (length l) vs }) (written (l ++ vs) b)
-row-behind l vs b n e h =
+row-after : (l vs b : List ℕ) (n : ℕ) → length vs ≡ n → length l + n ≤ length b → _≡_ {A = Buffer} (record { count = length l + n; numbers = sets (onto l b) (length l) vs }) (written (l ++ vs) b)
+row-after l vs b n e h =
     let c : length l + n ≡ length (l ++ vs) = simp length-append (omega arith) in
     ap (λ (k : ℕ). record { count = k; numbers = sets (onto l b) (length l) vs }) c
-    ∙ ap (λ (x : List ℕ). record { count = length (l ++ vs); numbers = x }) (sets-behind l vs b (omega arith))
+    ∙ ap (λ (x : List ℕ). record { count = length (l ++ vs); numbers = x }) (sets-after l vs b (omega arith))
 
 module _ (g : Ground) (l : List Report) (s : State) where
   -- ---------------------------------------------------------------- an event pushed
@@ -45,7 +45,7 @@ module _ (g : Ground) (l : List Report) (s : State) where
   push-fits e tag v h =
       let t : fits (length (onto e (g .events))) (length e) EVENT-ROW ≡ true = fits-true (length (onto e (g .events))) (length e) EVENT-ROW (rw (length-onto e (g .events) (omega arith)) h) in
       ap (λ (b : Bool). cond b (with-events (record { count = length e + EVENT-ROW; numbers = sets (onto e (g .events)) (length e) (tag ∷ v ∷ 0 ∷ []) }) (image g e l s)) (refuse NO-EVENT-ROOM (image g e l s))) t
-      ∙ ap (λ (x : Buffer). with-events x (image g e l s)) (row-behind e (tag ∷ v ∷ 0 ∷ []) (g .events) EVENT-ROW refl h)
+      ∙ ap (λ (x : Buffer). with-events x (image g e l s)) (row-after e (tag ∷ v ∷ 0 ∷ []) (g .events) EVENT-ROW refl h)
 
   pub push-full : (e : List ℕ) (tag v : ℕ) → length e ≤ length (g .events) → length (g .events) < length e + EVENT-ROW → push tag v (image g e l s) ≡ refuse NO-EVENT-ROOM (image g e l s)
   unfolding image push push-row
@@ -147,8 +147,8 @@ module _ (g : Ground) (l : List Report) (s : State) where
       let u : rows ++ line ≡ rows-of g (l ++ (r ∷ [])) = ap (λ (x : List ℕ). rows ++ x) row ∙ sym (low-rows-append n (byte-count (g .tokens)) 0 l (r ∷ [])) in
       let v : pool l ++ codes ≡ pool (l ++ (r ∷ [])) = ap (λ (x : List ℕ). pool l ++ x) (sym same ∙ sym (append-nil (r .pool))) ∙ sym (pool-append l (r ∷ [])) in
       ap (λ (b : Bool). cond b (with-reports R P m) (refuse NO-REPORT-ROOM m)) t
-      ∙ ap (λ (x : Buffer). with-reports x P m) (row-behind rows line (g .reports) REPORT-ROW refl h)
-      ∙ ap (λ (x : Buffer). with-reports (written (rows ++ line) (g .reports)) x m) (row-behind (pool l) codes (g .pool) (length codes) refl k)
+      ∙ ap (λ (x : Buffer). with-reports x P m) (row-after rows line (g .reports) REPORT-ROW refl h)
+      ∙ ap (λ (x : Buffer). with-reports (written (rows ++ line) (g .reports)) x m) (row-after (pool l) codes (g .pool) (length codes) refl k)
       ∙ ap (λ (x : List ℕ). with-reports (written x (g .reports)) (written (pool l ++ codes) (g .pool)) m) u
       ∙ ap (λ (x : List ℕ). with-reports (written (rows-of g (l ++ (r ∷ []))) (g .reports)) (written x (g .pool)) m) v
 

@@ -1,8 +1,8 @@
 -- The literal machine: the code's state in numbers, the lent buffers whole, and what each primitive of the crate
 -- `parser` does to them. It is a device of the proofs: code is held to it function by function, and one theorem holds
 -- it to `definitions`.
-use Prim.Native.Nat.{ℕ, zero, suc, _+_, _-_, _/_}
-use mathlib.Core.Bool.{Bool, true, false, cond, _&&_}
+use Prim.Native.Nat.{ℕ, _+_, _-_, _/_}
+use mathlib.Core.Bool.{Bool, cond, _&&_}
 use mathlib.Core.List.{List, [], _∷_, _++_}
 use lib.Dec.{ltb, leb, eqb}
 use lib.ListN.{length, drop}

@@ -1,8 +1,8 @@
 -- The machine's interpreter: the same programs as `exec` and `run` of `definitions`, over the machine.
-use Prim.Native.Nat.{ℕ, zero, suc, _+_, _-_}
-use mathlib.Core.Bool.{Bool, true, false, cond, _&&_}
+use Prim.Native.Nat.{ℕ, zero, suc, _-_}
+use mathlib.Core.Bool.{Bool, cond, _&&_}
 use mathlib.Core.List.{List, [], _∷_}
-use lib.Dec.{ltb, eqb}
+use lib.Dec.{ltb}
 use lib.ListN.{length}
 use Rattle.definitions.specs.NodeKind.{NO-NODE}
 use Rattle.definitions.specs.Layout.{PLACEHOLDER, START-NODE, LINKED-START-NODE, TOO-DEEP}
@@ -13,7 +13,7 @@ use Rattle.definitions.specs.Skeleton.{Span}
 use Rattle.definitions.specs.Prog.{Ans, no, yes, also, again, Rule, Act, silent-at, at-end, immediate, immediate-next, add-expected, bump, bump-name, bump-argument, emit, emit-unclosed, less, Prog, ret, act, _⨟_, case, in-marker, loop, chain, brace, open-call}
 use Rattle.definitions.specs.Grammar.{grammar}
 use Rattle.definitions.specs.Run.{truth, is-again, by-shape}
-use Rattle.machine.specs.Machine.{Machine, Marker, Buffer, rest, peek, range-at, refuse, expect-code, push, complete, precede}
+use Rattle.machine.specs.Machine.{Machine, Marker, rest, peek, range-at, refuse, expect-code, push, complete, precede}
 use Rattle.machine.specs.Machine as M
 
 -- what a walk answers, the shape of the marker around it, and the machine after it

@@ -1,6 +1,6 @@
 -- What a token is to the macro argument that it is read in: the answer of `role_of`.
 use Prim.Native.Nat.{ℕ, zero, suc}
-use mathlib.Core.Bool.{Bool, cond}
+use mathlib.Core.Bool.{cond}
 use lib.Dec.{eqb}
 use Rattle.definitions.specs.TokenKind as K
 use Rattle.token_rows.specs.Tokens.{SEEN-AT-END}

@@ -1,8 +1,7 @@
 -- Programs that are parts of programs of Grammar.antt in the crate `definitions`, in its words: those that have a
 -- function of their own here. Devices of the proofs; no exported promise names them.
-use mathlib.Core.List.{List, [], _∷_}
 use Rattle.definitions.specs.TokenKind as K
-use Rattle.definitions.specs.Prog.{yes, silent-at, Prog, _⨟_}
+use Rattle.definitions.specs.Prog.{yes, Prog, _⨟_}
 use Rattle.definitions.specs.Check.{tell, if_then_else_, _and_, not!, end?, error-wrap!, set, of-kind, Name, silent, at, eat}
 use Rattle.definitions.specs.Grammar.{CONTINUE-COND-SET, path-segment, path-rest}
 

@@ -1,7 +1,7 @@
 -- HOW THE PROOFS GO. Crate facts knows five kinds of pending list (`Pend` of its Facts.antt): empty, [Semicolon],
 -- [Comma], [Comma, Semicolon], and lists that cannot become one of these. Any other is bad, and is nowhere pending
 -- (`pending-good`).
---   Thinned     the Rust's list: what is pending here with the repeats of a first part dropped, however often they were
+--   Thinned     the Rust's list: what is pending here with the repeats of its front dropped, however often they were
 --               dropped
 --   Separators  for a list that is not bad the test for separators does not see whether they were
 --   Repeats     the statement: at each report the list is not bad, so the test and the range are the same

@@ -10,7 +10,7 @@ use Rattle.definitions.specs.Token.{one-of}
 use Rattle.definitions.specs.C.{Symbol, plain, Change, opens, closes, keeps, change, changed, open-after, Balanced, Expr, spelling, Well-formed, Gives}
 use Rattle.precedence.proofs.Pratt.{operator, is, Res, done, report, refused, spent, expect, closed, args, reader, cell}
 use Rattle.precedence.proofs.Base.{onto, onto-written, open-onto, Before, before-refl, Post, post-bind, post-expect}
-use Rattle.precedence.proofs.Sound.{Read, reader-sound, behind}
+use Rattle.precedence.proofs.Sound.{Read, reader-sound, beyond}
 use Rattle.precedence.proofs.Complete.{Never, Is, post-then, reads-exactly, args-complete}
 use Rattle.precedence.proofs.Enough.{Fin, cell-fin}
 
@@ -38,7 +38,7 @@ cell-sound d us =
     post-bind (Read 0 us) (Before us) (Cell us) (Before us) (reader d 0 us) (λ e vs. expect K.RParen vs (λ ws. done e ws))
     (reader-sound d 0 (omega arith) us) (λ p b. b)
     λ e vs r.
-    post-expect (Cell us) (Before us) K.RParen vs (λ ws. done e ws) (behind e (r .well-formed) us vs vs (r .symbols-are) (before-refl vs))
+    post-expect (Cell us) (Before us) K.RParen vs (λ ws. done e ws) (beyond e (r .well-formed) us vs vs (r .symbols-are) (before-refl vs))
     λ ws h. let y = r .symbols-are in record { well-formed = r .well-formed; symbols-are = cc }
 
 cell-complete : (d : ℕ) (xs : List Symbol) (e : Expr) → Gives xs e → (us : List Symbol) → Post (Is e us) Never (cell d (xs ++ (plain K.RParen ∷ us)))

@@ -31,7 +31,7 @@ use Rattle.precedence.proofs.Same.{Same}
 use Rattle.precedence.proofs.Symbols.{symbols-split, tail-length, still-there, gone-by}
 use Rattle.precedence.proofs.Rules.{Ends, ends-map, ends-any, seq, inside, ends-ret, after-bump}
 use Rattle.precedence.proofs.Follow.{Done, Noted, Follows, done-join, done-token, noted-first, noted-second, noted-from, Expected, found, missing, expects}
-use Rattle.precedence.proofs.Operands.{done-behind}
+use Rattle.precedence.proofs.Operands.{done-after}
 use Rattle.precedence.proofs.Loop.{calls}
 
 -- ---------------------------------------------------------------- the run
@@ -84,25 +84,25 @@ pub record Good (inner : List Token) (close : Token) (after : List Token) (m : �
   pub past : m ≤ length after
 
 -- C's table gives none: a report was made, and the closing bracket not yet taken.
-pub record Bad (inner : List Token) (close : Token) (after : List Token) (behind : List Token) (i : Skeleton) : Type 0 where
+pub record Bad (inner : List Token) (close : Token) (after : List Token) (beyond : List Token) (i : Skeleton) : Type 0 where
   pub no-tree : (e : Expr) → Gives (symbols false inner) e → ⊥
   pub rep : Report
   pub among : Reported rep (pushes i)
-  pub low : rep .mark ≤ length behind
+  pub low : rep .mark ≤ length beyond
   pub high : length (close ∷ after) ≤ rep .mark
 
 -- of the tokens after the opening bracket
 abbrev pub Judged : List Token → ℕ → Skeleton → Type 0
-Judged behind m i =
-    (inner : List Token) (close : Token) (after : List Token) → behind ≡ inner ++ (close ∷ after) → seen close ≡ K.RParen → Balanced (symbols false inner)
-    → Good inner close after m i ⊎ Bad inner close after behind i
+Judged beyond m i =
+    (inner : List Token) (close : Token) (after : List Token) → beyond ≡ inner ++ (close ∷ after) → seen close ≡ K.RParen → Balanced (symbols false inner)
+    → Good inner close after m i ⊎ Bad inner close after beyond i
 
 judge-by : (s : State) (t : Token) (ts : List Token) → drop-trivia (s .since) ≡ t ∷ ts → (inner : List Token) (close : Token) (after : List Token)
     → ts ≡ inner ++ (close ∷ after) → seen close ≡ K.RParen → (R : Type 0) (x : Res) (o : Out) → CellRun (taken ts) x o
     → Verdict (symbols false inner) (symbols false after) x → (a : ℕ) → Fin a R x
     → Good inner close after (mark-of (o .state)) (token t (length ts) done ⧺ o .made) ⊎ Bad inner close after ts (token t (length ts) done ⧺ o .made)
 judge-by s t ts ahead inner close after e k R (P.done f vs) o d v a g =
-    let r = done-behind s t ts ahead (expr-nodes f ⧺ one) vs (o .made) (o .state) d in
+    let r = done-after s t ts ahead (expr-nodes f ⧺ one) vs (o .made) (o .state) d in
     inl (record {
       tree = f;
       gives = v .0;
@@ -141,14 +141,14 @@ pair-by t ts spent o d r = absurd r
 -- and it is judged.
 pub record CellOf (m m′ : ℕ) (i : Skeleton) (u : List Token) : Type 0 where
   pub bracket : Token
-  pub behind : List Token
-  pub starts : u ≡ bracket ∷ behind
+  pub beyond : List Token
+  pub starts : u ≡ bracket ∷ beyond
   pub is-bracket : seen bracket ≡ K.LParen
   pub marked-at : length u ≤ m
   pub rest : Skeleton
-  pub begins : i ≡ token bracket (length behind) rest
-  pub judged : Judged behind m′ i
-  pub paired : Paired (pushes i) behind
+  pub begins : i ≡ token bracket (length beyond) rest
+  pub judged : Judged beyond m′ i
+  pub paired : Paired (pushes i) beyond
 
 pub record CellNode (s : State) (o : Out) : Type 0 where
   pub i : Skeleton
@@ -171,7 +171,7 @@ module _ (n : ℕ) (b : Label) where
   cell-of s t ts ahead k o r =
       record {
         bracket = t;
-        behind = ts;
+        beyond = ts;
         starts = ahead;
         is-bracket = k;
         marked-at = drop-trivia-length (s .since);
@@ -186,9 +186,9 @@ module _ (n : ℕ) (b : Label) where
       → Ends (run n) b dt-expr s (CellNode s)
   unfolding dt-expr marked makes add closed
   cells s h t ts ahead k =
-      let behind : Ends (run n) b (bump! ⨟ open-call (expr-binding-power 0) ⨟ expect (of-kind K.RParen)) s
+      let beyond : Ends (run n) b (bump! ⨟ open-call (expr-binding-power 0) ⨟ expect (of-kind K.RParen)) s
       (λ o. CellOf (mark-of s) (mark-of (o .state)) (o .made) (drop-trivia (s .since))) =
       after-bump (run n) b t ts h ahead (ends-map (run n) b (cell-runs n b (taken ts) (stands-taken ts)) (cell-of s t ts ahead k)) in
       inside (run n) b
-      (seq (run n) b behind
+      (seq (run n) b beyond
       (λ o c. ends-ret (run n) b (record { i = o .made; made-is = rw (join-done (o .made)); cell = c })))

@@ -190,10 +190,10 @@ module _ (ask : Rule → State → Out) (b : Label) where
       go [] e = rw (symbols-end ts e)
       go (t ∷ us) e = rw (symbols-next ts t us e)
 
-  behind-alone : (ts : List Token) → first-in (K.LParen ∷ []) ts ≡ false → (to : State) → Stands to → to .since ≡ ts
+  after-alone : (ts : List Token) → first-in (K.LParen ∷ []) ts ≡ false → (to : State) → Stands to → to .since ≡ ts
       → Behind (taken ts) (named (symbols true ts)) (record { ans = yes; shape = 0; made = done; state = to })
   unfolding _⧺_
-  behind-alone ts g to st si =
+  after-alone ts g to st si =
       rw (symbols-apart ts g, name-alone ts) (
         done,
         refl,
@@ -207,22 +207,22 @@ module _ (ask : Rule → State → Out) (b : Label) where
       )
 
   -- the brackets, after the opening one
-  behind-args : (t : Token) (ts : List Token) (s : State) → drop-trivia (s .since) ≡ t ∷ ts → (y : Args) (o : Out) → Bracketed (taken ts) y o
+  after-args : (t : Token) (ts : List Token) (s : State) → drop-trivia (s .since) ≡ t ∷ ts → (y : Args) (o : Out) → Bracketed (taken ts) y o
       → Behind s (invoked y) (add (took t ts) o)
   unfolding add makes _⧺_
-  behind-args t ts s e (closed xs vs) o d = (
+  after-args t ts s e (closed xs vs) o d = (
     one ⧺ (argument-list xs ⧺ one),
     refl,
     done-join s (taken ts) (o .state) one (argument-list xs ⧺ one) (symbols false ts) vs (token t (length ts) done) (o .made) (done-token s t ts e) d,
   )
-  behind-args t ts s e unclosed o n =
+  after-args t ts s e unclosed o n =
       noted-second s [] (token t (length ts) done) (o .made) (noted-from s (taken ts) [] (o .made) (tail-next (s .since) t ts e) n)
 
-  behind-from : (s to : State) → to .since ≡ s .since → (x : Res) (o : Out) → Behind to x o → Behind s x o
-  behind-from s to e (P.done f vs) o d = (d .0, d .1, done-from s to (o .state) (d .0) vs (o .made) e (d .2))
-  behind-from s to e (P.report vs) o n = noted-from s to vs (o .made) (rw e (tail-refl (s .since))) n
-  behind-from s to e P.refused o d = d
-  behind-from s to e P.spent o d = tt
+  after-from : (s to : State) → to .since ≡ s .since → (x : Res) (o : Out) → Behind to x o → Behind s x o
+  after-from s to e (P.done f vs) o d = (d .0, d .1, done-from s to (o .state) (d .0) vs (o .made) e (d .2))
+  after-from s to e (P.report vs) o n = noted-from s to vs (o .made) (rw e (tail-refl (s .since))) n
+  after-from s to e P.refused o d = d
+  after-from s to e P.spent o d = tt
 
   -- what stands after a name
   abbrev after-name : Prog
@@ -231,11 +231,11 @@ module _ (ask : Rule → State → Out) (b : Label) where
       (bump! ⨟ (case (not! (at (of-kind K.RParen))) (tell yes) (loop macro-argument-turn) (loop macro-argument-turn) ⨟ expect (of-kind K.RParen)))
       (bump! ⨟ (case (not! (at (of-kind K.RParen))) (tell yes) (loop macro-argument-turn) (loop macro-argument-turn) ⨟ expect (of-kind K.RParen)))
 
-  behind-by : (ts : List Token) (x : Bool) → first-in (K.LParen ∷ []) ts ≡ x → Ends ask b after-name (taken ts) (Behind (taken ts) (named (symbols true ts)))
+  after-by : (ts : List Token) (x : Bool) → first-in (K.LParen ∷ []) ts ≡ x → Ends ask b after-name (taken ts) (Behind (taken ts) (named (symbols true ts)))
   unfolding first-in
-  behind-by ts false g = on-test ask b (glued ts false g) (λ to st si. ends-ret ask b (behind-alone ts g to st si))
-  behind-by [] true g = absurd (false≢true g)
-  behind-by (t ∷ ts) true g =
+  after-by ts false g = on-test ask b (glued ts false g) (λ to st si. ends-ret ask b (after-alone ts g to st si))
+  after-by [] true g = absurd (false≢true g)
+  after-by (t ∷ ts) true g =
       let solid : drop-trivia (t ∷ ts) ≡ t ∷ ts = drop-none t ts (bracket-solid t (test-one K.LParen (seen t) g)) in
       on-test ask b (glued (t ∷ ts) true g)
       λ to st si.
@@ -243,8 +243,8 @@ module _ (ask : Rule → State → Out) (b : Label) where
       after-bump ask b t ts st e
       (ends-map ask b (bracketed (taken ts) (stands-taken ts))
       λ o d.
-      behind-from (taken (t ∷ ts)) to si (named (symbols true (t ∷ ts))) (add (took t ts) o)
-      (rw (symbols-arguments t ts g) (behind-args t ts to e (args (symbols false ts) 0) o d)))
+      after-from (taken (t ∷ ts)) to si (named (symbols true (t ∷ ts))) (add (took t ts) o)
+      (rw (symbols-arguments t ts g) (after-args t ts to e (args (symbols false ts) 0) o d)))
 
   -- the name and what stands after it: e's node has the children p
   abbrev Named : State → Res → Out → Type 0
@@ -288,7 +288,7 @@ module _ (ask : Rule → State → Out) (b : Label) where
   node-follows s h t ts e =
       let x = named (symbols true ts) in
       let name : Ends ask b (bump! ⨟ after-name) s (Named s x) =
-      after-bump ask b t ts h e (ends-map ask b (behind-by ts (first-in (K.LParen ∷ []) ts) refl) (named-by s t ts e x)) in
+      after-bump ask b t ts h e (ends-map ask b (after-by ts (first-in (K.LParen ∷ []) ts) refl) (named-by s t ts e x)) in
       inside ask b (seq ask b name (λ o d. ends-ret ask b (node-of s x o d)))
 
   -- an Ident where an operand is due

@@ -36,12 +36,12 @@ not-ident ks k m z = go (eqb k K.Ident) refl
 
 -- what is made after the token t, together with it
 module _ (s : State) (t : Token) (ts : List Token) (ahead : drop-trivia (s .since) ≡ t ∷ ts) where
-  pub done-behind : (p : Skeleton) (vs : List Symbol) (made : Skeleton) (u : State) → Done (taken ts) p vs made u
+  pub done-after : (p : Skeleton) (vs : List Symbol) (made : Skeleton) (u : State) → Done (taken ts) p vs made u
       → Done s (one ⧺ p) vs (token t (length ts) done ⧺ made) u
-  done-behind p vs made u d = done-join s (taken ts) u one p (symbols false ts) vs (token t (length ts) done) made (done-token s t ts ahead) d
+  done-after p vs made u d = done-join s (taken ts) u one p (symbols false ts) vs (token t (length ts) done) made (done-token s t ts ahead) d
 
-  pub noted-behind : (vs : List Symbol) (made : Skeleton) → Noted (taken ts) vs made → Noted s vs (token t (length ts) done ⧺ made)
-  noted-behind vs made n =
+  pub noted-after : (vs : List Symbol) (made : Skeleton) → Noted (taken ts) vs made → Noted s vs (token t (length ts) done ⧺ made)
+  noted-after vs made n =
       noted-second s vs (token t (length ts) done) made (noted-from s (taken ts) vs made (tail-next (s .since) t ts ahead) n)
 
 module _ (ask : Rule → State → Out) (b : Label) (rec : Reader)
@@ -55,13 +55,13 @@ module _ (ask : Rule → State → Out) (b : Label) (rec : Reader)
     unfolding marked makes add _⧺_ closed
     prefix-by k (P.done e vs) o d =
         let c = done-closed (N.PrefixExpr - 1) (mark-of s) (mark-of (o .state)) s (o .state) (one ⧺ expr-nodes e) vs (token t (length ts) done ⧺ o .made)
-        (done-behind s t ts ahead (expr-nodes e) vs (o .made) (o .state) (d .1)) in
+        (done-after s t ts ahead (expr-nodes e) vs (o .made) (o .state) (d .1)) in
         rw (d .0) (ends-ret ask b (refl, rw (join-done (o .made)) c))
     prefix-by k (P.report vs) o n =
         ends-any ask b
         λ o′.
         noted-inside s vs (o′ .shape) (mark-of s) (mark-of (o′ .state)) done (token t (length ts) done ⧺ (o .made ⧺ o′ .made))
-        (noted-behind s t ts ahead vs (o .made ⧺ o′ .made) (noted-first (taken ts) vs (o .made) (o′ .made) n))
+        (noted-after s t ts ahead vs (o .made ⧺ o′ .made) (noted-first (taken ts) vs (o .made) (o′ .made) n))
     prefix-by k refused o d = absurd d
     prefix-by k spent o d = ends-any ask b (λ o′. tt)
 
@@ -82,7 +82,7 @@ module _ (ask : Rule → State → Out) (b : Label) (rec : Reader)
     unfolding marked makes add _⧺_ closed
     close-by e vs o d a y o′ (found t′ ts′ z p f) =
         let q : Done (o .state) one (symbols false ts′) (o′ .made) (o′ .state) = rw p (done-token (o .state) t′ ts′ z) in
-        let r = done-behind s t ts ahead (expr-nodes e ⧺ one) (symbols false ts′) (o .made ⧺ o′ .made) (o′ .state)
+        let r = done-after s t ts ahead (expr-nodes e ⧺ one) (symbols false ts′) (o .made ⧺ o′ .made) (o′ .state)
         (done-join (taken ts) (o .state) (o′ .state) (expr-nodes e) one vs (symbols false ts′) (o .made) (o′ .made) d q) in
         let c = done-closed (N.ParenExpr - 1) (mark-of s) (mark-of (o′ .state)) s (o′ .state) (one ⧺ expr-nodes e ⧺ one) (symbols false ts′) (token t (length ts) done ⧺ (o .made ⧺ o′ .made)) r in
         let g : P.expect K.RParen vs (λ ws. P.done (bracketed e) ws) ≡ P.done (bracketed e) (symbols false ts′) =
@@ -95,7 +95,7 @@ module _ (ask : Rule → State → Out) (b : Label) (rec : Reader)
         noted-from (taken ts) (o .state) vs (o′ .made) (d .tail) (subst (λ (l : List Symbol). Noted (o .state) l (o′ .made)) (d .left) n) in
         rw g
         (noted-inside s vs N.ParenExpr (mark-of s) (mark-of (o′ .state)) done (token t (length ts) done ⧺ (o .made ⧺ (o′ .made ⧺ done)))
-        (noted-behind s t ts ahead vs (o .made ⧺ (o′ .made ⧺ done))
+        (noted-after s t ts ahead vs (o .made ⧺ (o′ .made ⧺ done))
         (noted-second (taken ts) vs (o .made) (o′ .made ⧺ done) (noted-first (taken ts) vs (o′ .made) done m))))
 
     abbrev close : Ans → Prog
@@ -111,7 +111,7 @@ module _ (ask : Rule → State → Out) (b : Label) (rec : Reader)
         ends-any ask b
         λ o′.
         noted-inside s vs (o′ .shape) (mark-of s) (mark-of (o′ .state)) done (token t (length ts) done ⧺ (o .made ⧺ o′ .made))
-        (noted-behind s t ts ahead vs (o .made ⧺ o′ .made) (noted-first (taken ts) vs (o .made) (o′ .made) n))
+        (noted-after s t ts ahead vs (o .made ⧺ o′ .made) (noted-first (taken ts) vs (o .made) (o′ .made) n))
     bracket-by refused o d = absurd d
     bracket-by spent o d = ends-any ask b (λ o′. tt)
 

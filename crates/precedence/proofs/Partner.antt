@@ -16,31 +16,31 @@ use Rattle.definitions.specs.C.{Symbol, plain, arguments, symbol, symbols, Bala
 use Rattle.precedence.proofs.Pushed.{Reported}
 use Rattle.precedence.proofs.Symbols.{symbols-solid, symbols-blank}
 
--- an RParen balances the LParen, `behind` being the tokens after it
-pub record Partner (behind : List Token) : Type 0 where
+-- an RParen balances the LParen, `beyond` being the tokens after it
+pub record Partner (beyond : List Token) : Type 0 where
   pub inner : List Token
   pub close : Token
   pub after : List Token
-  pub split : behind ≡ inner ++ (close ∷ after)
+  pub split : beyond ≡ inner ++ (close ∷ after)
   pub closes : seen close ≡ K.RParen
   pub balanced : Balanced (symbols false inner)
 
 -- among the pushes is a report with a mark above the LParen's index, counted from the end
-pub record Heard (whole : List Push) (behind : List Token) : Type 0 where
+pub record Heard (whole : List Push) (beyond : List Token) : Type 0 where
   pub rep : Report
   pub among : Reported rep whole
-  pub low : rep .mark ≤ length behind
+  pub low : rep .mark ≤ length beyond
 
 -- and it is at most the index just past the cell's last token, where `end` tokens are left
-pub record Heard-inside (whole : List Push) (behind : List Token) (end : ℕ) : Type 0 where
+pub record Heard-inside (whole : List Push) (beyond : List Token) (end : ℕ) : Type 0 where
   pub rep : Report
   pub among : Reported rep whole
-  pub low : rep .mark ≤ length behind
+  pub low : rep .mark ≤ length beyond
   pub high : end ≤ rep .mark
 
 -- one of the two
 abbrev pub Paired : List Push → List Token → Type 0
-Paired whole behind = Partner behind ⊎ Heard whole behind
+Paired whole beyond = Partner beyond ⊎ Heard whole beyond
 
 -- ---------------------------------------------------------------- from symbols to tokens
 

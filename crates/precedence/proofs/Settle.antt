@@ -65,31 +65,31 @@ falls-under a b (y ∷ l) f (there h) = le-trans (falls-under (push-mark y) b l 
 
 -- C's table gives the tokens between the brackets a tree: no report of the whole has a mark between them, and c is that
 -- tree
-pub record Clean (whole : List Push) (inner : List Token) (close : Token) (after : List Token) (behind u : List Token) (c : Tree) : Type 0 where
+pub record Clean (whole : List Push) (inner : List Token) (close : Token) (after : List Token) (beyond u : List Token) (c : Tree) : Type 0 where
   pub tree : Expr
   pub gives : Gives (symbols false inner) tree
-  pub silent : (rep : Report) → Reported rep whole → length (close ∷ after) ≤ rep .mark → rep .mark ≤ length behind → ⊥
+  pub silent : (rep : Report) → Reported rep whole → length (close ∷ after) ≤ rep .mark → rep .mark ≤ length beyond → ⊥
   pub holds : c ≡ place (one ⧺ (expr-nodes tree ⧺ one)) u
 
 -- it gives none: some report has
-pub record Faulty (whole : List Push) (inner : List Token) (close : Token) (after : List Token) (behind : List Token) : Type 0 where
+pub record Faulty (whole : List Push) (inner : List Token) (close : Token) (after : List Token) (beyond : List Token) : Type 0 where
   pub no-tree : (e : Expr) → Gives (symbols false inner) e → ⊥
   pub rep : Report
   pub among : Reported rep whole
   pub high : length (close ∷ after) ≤ rep .mark
-  pub low : rep .mark ≤ length behind
+  pub low : rep .mark ≤ length beyond
 
 -- a DtExpr with the children c, placed from u on
 pub record Settled (whole : List Push) (u : List Token) (c : Tree) : Type 0 where
   pub bracket : Token
-  pub behind : List Token
-  pub starts : u ≡ bracket ∷ behind
+  pub beyond : List Token
+  pub starts : u ≡ bracket ∷ beyond
   pub is-bracket : seen bracket ≡ K.LParen
   pub rest : Tree
   pub begins : c ≡ leaf K.LParen (bracket ∷ []) rest
-  pub judged : (inner : List Token) (close : Token) (after : List Token) → behind ≡ inner ++ (close ∷ after) → seen close ≡ K.RParen
-      → Balanced (symbols false inner) → Clean whole inner close after behind u c ⊎ Faulty whole inner close after behind
-  pub paired : Partner behind ⊎ ((end : ℕ) × (length u ≤ end + length (leaves c)) × Heard-inside whole behind end)
+  pub judged : (inner : List Token) (close : Token) (after : List Token) → beyond ≡ inner ++ (close ∷ after) → seen close ≡ K.RParen
+      → Balanced (symbols false inner) → Clean whole inner close after beyond u c ⊎ Faulty whole inner close after beyond
+  pub paired : Partner beyond ⊎ ((end : ℕ) × (length u ≤ end + length (leaves c)) × Heard-inside whole beyond end)
 
 first-child : (t : Token) (ts : List Token) (m : ℕ) (p : Skeleton) → seen t ≡ K.LParen → place (token t m p) (t ∷ ts) ≡ leaf K.LParen (t ∷ []) (place p ts)
 unfolding place lead front drop-trivia _⊕_
@@ -117,14 +117,14 @@ module _ (whole : List Push) (from to : ℕ) (falls : Falls from whole to) where
 
   settle-by : (m m′ : ℕ) (i : Skeleton) (pre post : List Push) → whole ≡ pre ++ (event m ∷ (pushes i ++ (event m′ ∷ post))) → (v : List Token) → (d : CellOf m m′ i v)
       → (inner : List Token) (close : Token) (after : List Token)
-      → Good inner close after m′ i ⊎ Bad inner close after (d .behind) i
-      → Clean whole inner close after (d .behind) v (place i v) ⊎ Faulty whole inner close after (d .behind)
+      → Good inner close after m′ i ⊎ Bad inner close after (d .beyond) i
+      → Clean whole inner close after (d .beyond) v (place i v) ⊎ Faulty whole inner close after (d .beyond)
   settle-by m m′ i pre post e v d inner close after (inl g) =
-      let z : length v ≡ suc (length (d .behind)) = ap length (d .starts) in
+      let z : length v ≡ suc (length (d .beyond)) = ap length (d .starts) in
       inl (record {
         tree = g .tree;
         gives = g .gives;
-        silent = outside m m′ i pre post e (g .quiet) (length (close ∷ after)) (length (d .behind)) (omega (arith, d .marked-at)) (omega (arith, g .past));
+        silent = outside m m′ i pre post e (g .quiet) (length (close ∷ after)) (length (d .beyond)) (omega (arith, d .marked-at)) (omega (arith, g .past));
         holds = g .same .placed v;
       })
   settle-by m m′ i pre post e v d inner close after (inr b) =
@@ -137,10 +137,10 @@ module _ (whole : List Push) (from to : ℕ) (falls : Falls from whole to) where
       })
 
   -- a report of the cell is one of the whole
-  pair-in : (m m′ : ℕ) (i : Skeleton) (pre post : List Push) → whole ≡ pre ++ (event m ∷ (pushes i ++ (event m′ ∷ post))) → (behind : List Token)
-      → Paired (pushes i) behind → Partner behind ⊎ Heard-inside whole behind m′
-  pair-in m m′ i pre post e behind (inl p) = inl p
-  pair-in m m′ i pre post e behind (inr h) =
+  pair-in : (m m′ : ℕ) (i : Skeleton) (pre post : List Push) → whole ≡ pre ++ (event m ∷ (pushes i ++ (event m′ ∷ post))) → (beyond : List Token)
+      → Paired (pushes i) beyond → Partner beyond ⊎ Heard-inside whole beyond m′
+  pair-in m m′ i pre post e beyond (inl p) = inl p
+  pair-in m m′ i pre post e beyond (inr h) =
       let f : Falls from (pre ++ (event m ∷ (pushes i ++ (event m′ ∷ post)))) to = subst (λ (l : List Push). Falls from l to) e falls in
       inr (record {
         rep = h .rep;
@@ -150,10 +150,10 @@ module _ (whole : List Push) (from to : ℕ) (falls : Falls from whole to) where
       })
 
   -- the tokens that are left after the cell, by its tree
-  left-by : (m′ : ℕ) (i : Skeleton) (u behind : List Token) → length (after i u) ≤ m′ → Partner behind ⊎ Heard-inside whole behind m′
-      → Partner behind ⊎ ((end : ℕ) × (length u ≤ end + length (leaves (place i u))) × Heard-inside whole behind end)
-  left-by m′ i u behind l (inl p) = inl p
-  left-by m′ i u behind l (inr w) =
+  left-by : (m′ : ℕ) (i : Skeleton) (u beyond : List Token) → length (after i u) ≤ m′ → Partner beyond ⊎ Heard-inside whole beyond m′
+      → Partner beyond ⊎ ((end : ℕ) × (length u ≤ end + length (leaves (place i u))) × Heard-inside whole beyond end)
+  left-by m′ i u beyond l (inl p) = inl p
+  left-by m′ i u beyond l (inr w) =
       inr (m′, omega (arith, l, ap length (place-whole i u), length-append (leaves (place i u)) (after i u)), w)
 
   pub settle-cell : (m m′ : ℕ) (i : Skeleton) (pre post : List Push) → whole ≡ pre ++ (event m ∷ (pushes i ++ (event m′ ∷ post))) → (u : List Token) → CellOf m m′ i u
@@ -161,16 +161,16 @@ module _ (whole : List Push) (from to : ℕ) (falls : Falls from whole to) where
   settle-cell m m′ i pre post e u d l =
       record {
         bracket = d .bracket;
-        behind = d .behind;
+        beyond = d .beyond;
         starts = d .starts;
         is-bracket = d .is-bracket;
-        rest = place (d .rest) (d .behind);
+        rest = place (d .rest) (d .beyond);
         begins =
             ap (λ (p : Skeleton). place p u) (d .begins)
-            ∙ ap (place (token (d .bracket) (length (d .behind)) (d .rest))) (d .starts)
-            ∙ first-child (d .bracket) (d .behind) (length (d .behind)) (d .rest) (d .is-bracket);
+            ∙ ap (place (token (d .bracket) (length (d .beyond)) (d .rest))) (d .starts)
+            ∙ first-child (d .bracket) (d .beyond) (length (d .beyond)) (d .rest) (d .is-bracket);
         judged = λ inner close after b k l. settle-by m m′ i pre post e u d inner close after (d .judged inner close after b k l);
-        paired = left-by m′ i u (d .behind) l (pair-in m m′ i pre post e (d .behind) (d .paired));
+        paired = left-by m′ i u (d .beyond) l (pair-in m m′ i pre post e (d .beyond) (d .paired));
       }
 
 -- ---------------------------------------------------------------- every DtExpr of a placed tree

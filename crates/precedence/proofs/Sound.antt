@@ -35,8 +35,8 @@ abbrev Sound : Reader → Type 0
 Sound rec = (m : ℕ) → m ≤ 23 → (us : List Symbol) → Post (Read m us) (Before us) (rec m us)
 
 -- after an expression
-pub behind : (e : Expr) → Well-formed e → (us vs p : List Symbol) → us ≡ onto e vs → Before vs p → Before us p
-behind e a us vs p h b = rw h (before-onto e a vs p b)
+pub beyond : (e : Expr) → Well-formed e → (us vs p : List Symbol) → us ≡ onto e vs → Before vs p → Before us p
+beyond e a us vs p h b = rw h (before-onto e a vs p b)
 
 -- ---------------------------------------------------------------- argument lists
 
@@ -112,7 +112,7 @@ module _ (rec : Reader) (sound : Sound rec) where
       (λ e vs. expect K.RParen vs (λ ws. done (bracketed e) ws)) (sound 0 (omega arith) us) (λ q b. before-open us q b)
       λ e vs r.
       post-expect (First (plain K.LParen ∷ us)) (Before (plain K.LParen ∷ us)) K.RParen vs (λ ws. done (bracketed e) ws)
-      (before-open us vs (behind e (r .well-formed) us vs vs (r .symbols-are) (before-refl vs)))
+      (before-open us vs (beyond e (r .well-formed) us vs vs (r .symbols-are) (before-refl vs)))
       λ ws h.
       let y = r .symbols-are in
       record { well-formed = r .well-formed; tight = omega arith; tight′ = omega arith; symbols-are = cc }
@@ -161,12 +161,12 @@ module _ (rec : Reader) (sound : Sound rec) where
         λ x ws d.
         post-expect D Q K.Colon ws (λ xs. bind (rec 1 xs) (λ b ys. more (ternary e x b) ys))
         (before-onto e a (plain K.QuestionMark ∷ us) ws
-        (before-flat (plain K.QuestionMark) us ws refl (behind x (d .well-formed) us ws ws (d .symbols-are) (before-refl ws))))
+        (before-flat (plain K.QuestionMark) us ws refl (beyond x (d .well-formed) us ws ws (d .symbols-are) (before-refl ws))))
         λ xs z.
         post-bind (Read 1 xs) (Before xs) D Q (rec 1 xs) (λ b ys. more (ternary e x b) ys) (sound 1 (omega arith) xs)
         (λ q b. before-onto e a (plain K.QuestionMark ∷ us) q
         (before-flat (plain K.QuestionMark) us q refl
-        (behind x (d .well-formed) us ws q (d .symbols-are) (rw z (before-flat (plain K.Colon) xs q refl b)))))
+        (beyond x (d .well-formed) us ws q (d .symbols-are) (rw z (before-flat (plain K.Colon) xs q refl b)))))
         λ b ys g.
         rw (d .symbols-are, z, g .symbols-are)
         (goes (ternary e x b) ys (a, d .well-formed, g .well-formed, as-condition e (powers e a) s) (ltb-false 2 m t) (g .stops))

@@ -163,19 +163,19 @@ symbols-fewer b c (x ∷ xs) us = go (trivia x) refl (λ d. symbols-fewer b d xs
     go true e h = rw (symbols-blank c x (xs ++ us) e) (h false)
     go false e h = rw (symbols-solid c x (xs ++ us) e) (omega (arith, h (eqb (seen x) K.Ident)))
 
--- What is left of the tokens still has the bracket that balances, if its symbols do: `behind` are the tokens after the
+-- What is left of the tokens still has the bracket that balances, if its symbols do: `beyond` are the tokens after the
 -- bracket t.
-pub still-there : (r raw inner behind : List Token) (t : Token) (xs : List Symbol) → Tail raw r → r ≡ inner ++ (t ∷ behind)
-    → symbols false raw ≡ xs ++ (plain K.RParen ∷ symbols false behind) → length (t ∷ behind) ≤ length raw
-still-there r raw inner behind t xs p e h = go (leb (length raw) (length behind)) refl
+pub still-there : (r raw inner beyond : List Token) (t : Token) (xs : List Symbol) → Tail raw r → r ≡ inner ++ (t ∷ beyond)
+    → symbols false raw ≡ xs ++ (plain K.RParen ∷ symbols false beyond) → length (t ∷ beyond) ≤ length raw
+still-there r raw inner beyond t xs p e h = go (leb (length raw) (length beyond)) refl
   where
-    go : (b : Bool) → leb (length raw) (length behind) ≡ b → length (t ∷ behind) ≤ length raw
+    go : (b : Bool) → leb (length raw) (length beyond) ≡ b → length (t ∷ beyond) ≤ length raw
     go true l =
-        let z : Tail raw behind = tail-shorter (p .front) (inner ++ (t ∷ [])) raw behind (sym (p .split) ∙ e ∙ sym (append-assoc inner (t ∷ []) behind)) (leb-true (length raw) (length behind) l) in
+        let z : Tail raw beyond = tail-shorter (p .front) (inner ++ (t ∷ [])) raw beyond (sym (p .split) ∙ e ∙ sym (append-assoc inner (t ∷ []) beyond)) (leb-true (length raw) (length beyond) l) in
         let f : length (symbols false raw) ≤ length (symbols false (z .front ++ raw)) = symbols-fewer false false (z .front) raw in
-        let g : length (symbols false raw) ≤ length (symbols false behind) = rw (← (z .split)) at f in
+        let g : length (symbols false raw) ≤ length (symbols false beyond) = rw (← (z .split)) at f in
         absurd (omega (arith, simp length-append at (ap length h)))
-    go false l = leb-false (length raw) (length behind) l
+    go false l = leb-false (length raw) (length beyond) l
 
 -- what a peek comes to is no longer further on
 pub ahead-length : (us ts : List Token) → Tail us ts → length (drop-trivia us) ≤ length (drop-trivia ts)
@@ -233,14 +233,14 @@ symbols-split b (x ∷ xs) t ts e = go (trivia x) (λ c. symbols-split c xs t ts
     go false h = ap (symbol b x ∷_) (h (eqb (seen x) K.Ident))
 
 -- What is left of the tokens has lost the bracket, if its symbols have.
-pub gone-by : (r raw inner behind : List Token) (t : Token) → Tail raw r → r ≡ inner ++ (t ∷ behind) → seen t ≡ K.RParen
-    → symbols false raw ≡ symbols false behind → length raw ≤ length behind
-gone-by r raw inner behind t p e k h = go (leb (length raw) (length behind)) refl
+pub gone-by : (r raw inner beyond : List Token) (t : Token) → Tail raw r → r ≡ inner ++ (t ∷ beyond) → seen t ≡ K.RParen
+    → symbols false raw ≡ symbols false beyond → length raw ≤ length beyond
+gone-by r raw inner beyond t p e k h = go (leb (length raw) (length beyond)) refl
   where
-    go : (b : Bool) → leb (length raw) (length behind) ≡ b → length raw ≤ length behind
-    go true l = leb-true (length raw) (length behind) l
+    go : (b : Bool) → leb (length raw) (length beyond) ≡ b → length raw ≤ length beyond
+    go true l = leb-true (length raw) (length beyond) l
     go false l =
-        let z : Tail (t ∷ behind) raw = tail-shorter inner (p .front) (t ∷ behind) raw (sym e ∙ p .split) (leb-false (length raw) (length behind) l) in
-        let f : length (symbols false (t ∷ behind)) ≤ length (symbols false (z .front ++ (t ∷ behind))) = symbols-fewer false false (z .front) (t ∷ behind) in
-        let g : length (symbols false (t ∷ behind)) ≤ length (symbols false raw) = rw (← (z .split)) at f in
-        absurd (omega (arith, ap length h, ap length (close-apart false t behind k (close-solid t k))))
+        let z : Tail (t ∷ beyond) raw = tail-shorter inner (p .front) (t ∷ beyond) raw (sym e ∙ p .split) (leb-false (length raw) (length beyond) l) in
+        let f : length (symbols false (t ∷ beyond)) ≤ length (symbols false (z .front ++ (t ∷ beyond))) = symbols-fewer false false (z .front) (t ∷ beyond) in
+        let g : length (symbols false (t ∷ beyond)) ≤ length (symbols false raw) = rw (← (z .split)) at f in
+        absurd (omega (arith, ap length h, ap length (close-apart false t beyond k (close-solid t k))))

@@ -62,13 +62,13 @@ pub record Tells (r : Result) (k : ℕ) (c : Tree) (q : ℕ) : Type 0 where
 -- the LParen of the DtExpr in row p: an RParen balances it, or some report tells that none does
 pub record Answered (ts : List Token) (p : ℕ) (r : Result) : Type 0 where
   pub bracket : Token
-  pub behind : List Token
-  pub starts : drop (tokens-before p (r .buffers .trees)) ts ≡ bracket ∷ behind
+  pub beyond : List Token
+  pub starts : drop (tokens-before p (r .buffers .trees)) ts ≡ bracket ∷ beyond
   pub is-bracket : seen bracket ≡ K.LParen
   pub children : Tree
   pub more : List ℕ
   pub rows-are : drop (TREE-ROW * p) (r .buffers .trees) ≡ rows (subtree N.DtExpr children nil) ++ more
-  pub paired : Partner behind ⊎ ((q : ℕ) × Tells r (tokens-before p (r .buffers .trees)) children q)
+  pub paired : Partner beyond ⊎ ((q : ℕ) × Tells r (tokens-before p (r .buffers .trees)) children q)
 
 -- ---------------------------------------------------------------- a cell's rows
 
@@ -133,17 +133,17 @@ module _ (e : Entry) (ts : List Token) (l : Buffers) (clear : None-exceeded (pus
         width = byte-count (s .bracket ∷ []);
         row = ap (take TREE-ROW) (next ∙ there ∙ ap (λ (c : Tree). rows c ++ f .more) (s .begins));
         bracket = s .bracket;
-        after = s .behind;
+        after = s .beyond;
         token-is = s .starts;
         kind-is = kind-of (s .bracket) K.LParen (s .is-bracket) (λ z. omega arith);
       }
 
   -- --------------------------------------------------------------- it has a partner, or a report says that it has none
 
-  tells : (k : ℕ) (u behind : List Token) (c : Tree) → length ts ≡ k + suc (length behind) → length u ≡ suc (length behind)
-      → Partner behind ⊎ ((end : ℕ) × (length u ≤ end + length (leaves c)) × Heard-inside all behind end) → Partner behind ⊎ ((q : ℕ) × Tells r k c q)
-  tells k u behind c e f (inl p) = inl p
-  tells k u behind c e f (inr h) =
+  tells : (k : ℕ) (u beyond : List Token) (c : Tree) → length ts ≡ k + suc (length beyond) → length u ≡ suc (length beyond)
+      → Partner beyond ⊎ ((end : ℕ) × (length u ≤ end + length (leaves c)) × Heard-inside all beyond end) → Partner beyond ⊎ ((q : ℕ) × Tells r k c q)
+  tells k u beyond c e f (inl p) = inl p
+  tells k u beyond c e f (inr h) =
       let w = h .2 in
       let g = report-row (w .rep) (w .among) in
       inr (g .0, record { written = g .1; above = omega (arith, e, g .2, w .low); at-most = omega (arith, e, f, g .2, h .1, w .high) })
@@ -153,16 +153,16 @@ module _ (e : Entry) (ts : List Token) (l : Buffers) (clear : None-exceeded (pus
       let f = found p d in
       let s = f .fact in
       let k = tokens-before p (r .buffers .trees) in
-      let total : length ts ≡ k + suc (length (s .behind)) = omega (arith, ap length (s .starts), length-drop k ts) in
+      let total : length ts ≡ k + suc (length (s .beyond)) = omega (arith, ap length (s .starts), length-drop k ts) in
       record {
         bracket = s .bracket;
-        behind = s .behind;
+        beyond = s .beyond;
         starts = s .starts;
         is-bracket = s .is-bracket;
         children = f .children;
         more = f .more;
         rows-are = f .rows-are;
-        paired = tells k (drop k ts) (s .behind) (f .children) total (ap length (s .starts)) (s .paired);
+        paired = tells k (drop k ts) (s .beyond) (f .children) total (ap length (s .starts)) (s .paired);
       }
 
   -- ---------------------------------------------------------------- it is judged
@@ -175,25 +175,25 @@ module _ (e : Entry) (ts : List Token) (l : Buffers) (clear : None-exceeded (pus
     total : length ts ≡ length (b .before) + suc (length (b .inner) + suc (length (b .after)))
     total = ap length (b .tokens-are) ∙ simp length-append
 
-    behind-length : (behind : List Token) → behind ≡ b .inner ++ (b .closing ∷ b .after) → length behind ≡ length (b .inner) + suc (length (b .after))
-    behind-length behind e = ap length e ∙ simp length-append
+    after-length : (beyond : List Token) → beyond ≡ b .inner ++ (b .closing ∷ b .after) → length beyond ≡ length (b .inner) + suc (length (b .after))
+    after-length beyond e = ap length e ∙ simp length-append
 
     -- no report row between the brackets
-    none-between : (behind : List Token) → behind ≡ b .inner ++ (b .closing ∷ b .after)
-        → ((rep : Report) → Reported rep all → length (b .closing ∷ b .after) ≤ rep .mark → rep .mark ≤ length behind → ⊥) → (q : ℕ) → Between ts b r q → ⊥
-    none-between behind e h q x =
+    none-between : (beyond : List Token) → beyond ≡ b .inner ++ (b .closing ∷ b .after)
+        → ((rep : Report) → Reported rep all → length (b .closing ∷ b .after) ≤ rep .mark → rep .mark ≤ length beyond → ⊥) → (q : ℕ) → Between ts b r q → ⊥
+    none-between beyond e h q x =
         let g = row-report q (x .written) in
-        h (g .0) (g .1) (omega (arith, total, g .2, x .above, x .at-most)) (omega (arith, total, behind-length behind e, g .2, x .above, x .at-most))
+        h (g .0) (g .1) (omega (arith, total, g .2, x .above, x .at-most)) (omega (arith, total, after-length beyond e, g .2, x .above, x .at-most))
 
-    some-between : (behind : List Token) → behind ≡ b .inner ++ (b .closing ∷ b .after) → (rep : Report) → Reported rep all
-        → length (b .closing ∷ b .after) ≤ rep .mark → rep .mark ≤ length behind → (q : ℕ) × Between ts b r q
-    some-between behind e rep h low high =
+    some-between : (beyond : List Token) → beyond ≡ b .inner ++ (b .closing ∷ b .after) → (rep : Report) → Reported rep all
+        → length (b .closing ∷ b .after) ≤ rep .mark → rep .mark ≤ length beyond → (q : ℕ) × Between ts b r q
+    some-between beyond e rep h low high =
         let g = report-row rep h in (
           g .0,
           record {
             written = g .1;
-            above = omega (arith, total, behind-length behind e, g .2);
-            at-most = omega (arith, total, behind-length behind e, g .2);
+            above = omega (arith, total, after-length beyond e, g .2);
+            at-most = omega (arith, total, after-length beyond e, g .2);
           },
         )
 
@@ -202,8 +202,8 @@ module _ (e : Entry) (ts : List Token) (l : Buffers) (clear : None-exceeded (pus
       tokens-are : drop (tokens-before p (r .buffers .trees)) ts ≡ from-opening
       tokens-are = ap (λ (n : ℕ). drop n ts) (sym index) ∙ ap (drop (length (b .before))) (b .tokens-are) ∙ drop-append-seam (b .before) from-opening
 
-      behind-is : found p d .fact .behind ≡ b .inner ++ (b .closing ∷ b .after)
-      behind-is = let x = found p d .fact .starts in let y = tokens-are in cc
+      after-is : found p d .fact .beyond ≡ b .inner ++ (b .closing ∷ b .after)
+      after-is = let x = found p d .fact .starts in let y = tokens-are in cc
 
       holds : (f : Expr) → found p d .children ≡ place (one ⧺ (expr-nodes f ⧺ one)) (drop (tokens-before p (r .buffers .trees)) ts) → Holds-tree ts b r p f
       holds f h =
@@ -214,12 +214,12 @@ module _ (e : Entry) (ts : List Token) (l : Buffers) (clear : None-exceeded (pus
             rows-are = found p d .rows-are ∙ ap (λ (x : Tree). rows x ++ found p d .more) (ap (λ (y : Tree). subtree N.DtExpr y nil) (h ∙ c) ∙ sym w);
           }
 
-      by-verdict : Clean all (b .inner) (b .closing) (b .after) (found p d .fact .behind) (drop (tokens-before p (r .buffers .trees)) ts) (found p d .children)
-          ⊎ Faulty all (b .inner) (b .closing) (b .after) (found p d .fact .behind) → Judged ts b r p
+      by-verdict : Clean all (b .inner) (b .closing) (b .after) (found p d .fact .beyond) (drop (tokens-before p (r .buffers .trees)) ts) (found p d .children)
+          ⊎ Faulty all (b .inner) (b .closing) (b .after) (found p d .fact .beyond) → Judged ts b r p
       by-verdict (inl c) =
           record {
             tree = λ f g. (
-              none-between (found p d .fact .behind) behind-is (c .silent),
+              none-between (found p d .fact .beyond) after-is (c .silent),
               subst (Holds-tree ts b r p) (unique (symbols false (b .inner)) (c .tree) f (c .gives) g) (holds (c .tree) (c .holds)),
             );
             no-tree = λ h. absurd (h (c .tree) (c .gives));
@@ -227,13 +227,13 @@ module _ (e : Entry) (ts : List Token) (l : Buffers) (clear : None-exceeded (pus
       by-verdict (inr c) =
           record {
             tree = λ f g. absurd (c .no-tree f g);
-            no-tree = λ h. some-between (found p d .fact .behind) behind-is (c .rep) (c .among) (c .high) (c .low);
+            no-tree = λ h. some-between (found p d .fact .beyond) after-is (c .rep) (c .among) (c .high) (c .low);
           }
 
       judges : Judged ts b r p
       judges =
           by-verdict
-          (found p d .fact .judged (b .inner) (b .closing) (b .after) behind-is (seen-of (b .closing) K.RParen (b .closes) refl) (b .balanced))
+          (found p d .fact .judged (b .inner) (b .closing) (b .after) after-is (seen-of (b .closing) K.RParen (b .closes) refl) (b .balanced))
 
 -- ---------------------------------------------------------------- the theorems
 

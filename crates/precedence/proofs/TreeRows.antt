@@ -99,15 +99,15 @@ module _ (Q : List Token → Tree → Type 0) where
       → Is-cell q (rows c ++ (rows f ++ l)) → Finds c → Finds f → Found Q ts q (rows c ++ (rows f ++ l))
   find-both c f l ts q x y h i find-c find-f = go (ltb q (row-count c)) refl
     where
-      behind : (k : ℕ) → q ≡ row-count c + k → k < row-count f → Found Q ts q (rows c ++ (rows f ++ l))
-      behind k e g =
+      beyond : (k : ℕ) → q ≡ row-count c + k → k < row-count f → Found Q ts q (rows c ++ (rows f ++ l))
+      beyond k e g =
           subst (λ (m : ℕ). Found Q ts m (rows c ++ (rows f ++ l))) (sym e)
           (found-past c (rows f ++ l) ts (drop (length (leaves c)) ts) k refl
           (find-f l (drop (length (leaves c)) ts) k y g (cell-past c (rows f ++ l) k (subst (λ (m : ℕ). Is-cell m (rows c ++ (rows f ++ l))) e i))))
 
       go : (b : Bool) → ltb q (row-count c) ≡ b → Found Q ts q (rows c ++ (rows f ++ l))
       go true e = find-c (rows f ++ l) ts q x (ltb-true q (row-count c) e) i
-      go false e = let g = ltb-false q (row-count c) e in behind (q - row-count c) (omega arith) (omega arith)
+      go false e = let g = ltb-false q (row-count c) e in beyond (q - row-count c) (omega arith) (omega arith)
 
   pub find : (f : Tree) → Finds f
   unfolding Each rows row-count tokens-before

@@ -26,7 +26,7 @@ use Rattle.precedence.proofs.Pratt as P
 use Rattle.precedence.proofs.Symbols.{symbols-end, symbols-next, Tail, tail-length}
 use Rattle.precedence.proofs.Rules.{pick, ahead, took, Onward, Ends, ends-map, ends-any, branch, ends-ret, on-test, after-test, silent-is, test-less, test-expected, after-bump}
 use Rattle.precedence.proofs.Follow.{Done, Noted, Follows, done-join, done-token, noted-first, noted-second, noted-from, Expected, found, missing, expects}
-use Rattle.precedence.proofs.Operands.{done-behind, noted-behind}
+use Rattle.precedence.proofs.Operands.{done-after, noted-after}
 
 -- ---------------------------------------------------------------- the reader's turn
 
@@ -162,11 +162,11 @@ module _ (ask : Rule → State → Out) (b : Label) (rec : Reader)
         becomes = refl;
         answers = refl;
         shape-is = refl;
-        made = rw (join-done (o .made)) (done-behind s t ts next (expr-nodes f) vs (o .made) (o .state) (d .1));
+        made = rw (join-done (o .made)) (done-after s t ts next (expr-nodes f) vs (o .made) (o .state) (d .1));
         moved = shrinks s (o .state) t ts h next (d .1 .stands) (d .1 .tail);
       }))
   bind-by k (P.report vs) o n =
-      ends-any ask b (λ o′. noted-behind s t ts next vs (o .made ⧺ o′ .made) (noted-first (taken ts) vs (o .made) (o′ .made) n))
+      ends-any ask b (λ o′. noted-after s t ts next vs (o .made ⧺ o′ .made) (noted-first (taken ts) vs (o .made) (o′ .made) n))
   bind-by k refused o d = absurd d
   bind-by k spent o d = ends-any ask b (λ o′. tt)
 
@@ -223,13 +223,13 @@ module _ (ask : Rule → State → Out) (b : Label) (rec : Reader)
         becomes = refl;
         answers = refl;
         shape-is = refl;
-        made = rw (join-done (o′ .made)) (done-behind s t ts next (expr-nodes a ⧺ (one ⧺ expr-nodes c)) ys (o .made ⧺ o′ .made) (o′ .state) r);
+        made = rw (join-done (o′ .made)) (done-after s t ts next (expr-nodes a ⧺ (one ⧺ expr-nodes c)) ys (o .made ⧺ o′ .made) (o′ .state) r);
         moved = shrinks s (o′ .state) t ts h next (r .stands) (r .tail);
       }))
   last-by a xs o d (P.report vs) o′ n =
       ends-any ask b
       λ o″.
-      noted-behind s t ts next vs (o .made ⧺ (o′ .made ⧺ o″ .made))
+      noted-after s t ts next vs (o .made ⧺ (o′ .made ⧺ o″ .made))
       (noted-second (taken ts) vs (o .made) (o′ .made ⧺ o″ .made)
       (noted-first (taken ts) vs (o′ .made) (o″ .made) (noted-from (taken ts) (o .state) vs (o′ .made) (d .tail) n)))
   last-by a xs o d refused o′ g = absurd g
@@ -244,7 +244,7 @@ module _ (ask : Rule → State → Out) (b : Label) (rec : Reader)
       (branch ask b (subst (λ (l : List Symbol). Ends ask b (open-call (expr-binding-power 1)) (o .state) (Follows (o .state) expr-nodes (rec 1 l))) (d .1 .left) (below 1 (o .state) (d .1 .stands)))
       (last-by a xs o (d .1) (rec 1 xs)))
   ask-by (P.report vs) o n =
-      ends-any ask b (λ o′. noted-behind s t ts next vs (o .made ⧺ o′ .made) (noted-first (taken ts) vs (o .made) (o′ .made) n))
+      ends-any ask b (λ o′. noted-after s t ts next vs (o .made ⧺ o′ .made) (noted-first (taken ts) vs (o .made) (o′ .made) n))
   ask-by refused o d = absurd d
   ask-by spent o d = ends-any ask b (λ o′. tt)
 

@@ -81,15 +81,15 @@ one-of-kind : (raw : List Token) → Kind-of K.Semicolon raw → One raw
 one-of-kind raw (one-token t e) = record { token = t; is = refl; kind = seen-semicolon t e }
 one-of-kind raw (a-name t ts e h) = absurd (omega arith)
 
-right-behind : (f g : Tree) → Right (f ⊕ g) → Right g
+right-after : (f g : Tree) → Right (f ⊕ g) → Right g
 unfolding Right _⊕_
-right-behind nil g h = h
-right-behind (leaf k us f) g h = right-behind f g (h .1)
-right-behind (subtree k c f) g h = right-behind f g (h .1)
+right-after nil g h = h
+right-after (leaf k us f) g h = right-after f g (h .1)
+right-after (subtree k c f) g h = right-after f g (h .1)
 
 right-last : (f : Tree) (k : ℕ) (i : Tree) (raw : List Token) (v : Tree) → Right (f ⊕ subtree k (i ⊕ leaf K.Semicolon raw nil) v) → One raw
 unfolding Right
-right-last f k i raw v h = one-of-kind raw (right-behind i (leaf K.Semicolon raw nil) (right-behind f _ h .0) .0)
+right-last f k i raw v h = one-of-kind raw (right-after i (leaf K.Semicolon raw nil) (right-after f _ h .0) .0)
 
 -- ---------------------------------------------------------------- a file's children
 
@@ -145,7 +145,7 @@ tail f h s =
     let F : Found (taken ts) (made-of f) (P .later) =
     find-in (P .kind) i (P .later) (statement-closes (P .kind) (P .inside) (P .raw) (P .statement)) ts
     (subst (λ (x : Tree). Part x (P .kind) i (P .later)) (sym (P .is)) (part-here (P .before) (P .kind) i (P .later))) in
-    let u : leaves (P .later) ≡ F .rest = ap leaves (F .behind) ∙ children-leaves (F .rest) in
+    let u : leaves (P .later) ≡ F .rest = ap leaves (F .beyond) ∙ children-leaves (F .rest) in
     let e : ts ≡ (leaves (P .before) ++ leaves (P .inside)) ++ (O .token ∷ F .rest) =
     sym (children-leaves ts)
     ∙ ap leaves (P .is)
@@ -165,7 +165,7 @@ tail f h s =
       at-byte =
           counted (λ (x : Tree). byte-count (leaves x)) raw-bytes bytes-counted (P .before) (P .inside) (s .before) (s .inside) (P .rows-before) (P .rows-inside)
           ∙ sym (bytes-append (leaves (P .before)) (leaves (P .inside)));
-      parts = sym (P .rows-later) ∙ ap rows-of (F .behind);
+      parts = sym (P .rows-later) ∙ ap rows-of (F .beyond);
       early = told (F .first);
       reports = ap told (F .is) ∙ told-join (F .first) (run-entry SourceFile (F .rest));
       above = F .above;

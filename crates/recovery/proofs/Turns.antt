@@ -113,7 +113,7 @@ pub record Found (s : State) (p : Skeleton) (v : Tree) : Type 0 where
   pub is : p ≡ first ⧺ run-entry SourceFile rest
   pub above : All (Above (length rest)) (told first)
   pub less : length rest < length (s .rest)
-  pub behind : v ≡ children (run-entry SourceFile rest) rest
+  pub beyond : v ≡ children (run-entry SourceFile rest) rest
 
 found-later : (s u : State) (p q : Skeleton) (v : Tree) → Goes s p u → Found u q v → Found s (p ⧺ q) v
 found-later s u p q v G F =
@@ -126,7 +126,7 @@ found-later s u p q v G F =
       is = ap (p ⧺_) (F .is) ∙ sym (join-assoc p (F .first) _);
       above = told-all (Above (length (F .rest))) p (F .first) (falls-above _ (mark-of s) (mark-of u) p (omega arith) (G .down .falls)) (F .above);
       less = omega arith;
-      behind = F .behind;
+      beyond = F .beyond;
     }
 
 module _ (k : ℕ) (i v : Tree) (C : closes k i ≡ true) where
@@ -180,7 +180,7 @@ module _ (k : ℕ) (i v : Tree) (C : closes k i ≡ true) where
         is = ap (p ⧺_) fresh;
         above = S .above;
         less = S .less;
-        behind = sym e ∙ ap (children q) (S .exact) ∙ ap (λ (r : Skeleton). children r (S .rest)) fresh;
+        beyond = sym e ∙ ap (children q) (S .exact) ∙ ap (λ (r : Skeleton). children r (S .rest)) fresh;
       })
       on (last-part (place p ts) _ (x .0) h′))
       (parts-of s ts T)

@@ -1,4 +1,4 @@
--- HOW THE PROOFS GO. Steps (specs/Steps.antt) are told off a run as `Run.exec` goes through a program, so what a run
+-- HOW THE PROOFS GO. Steps (specs/Steps.antt) are read off a run as `Run.exec` goes through a program, so what a run
 -- makes and its steps are compared piece by piece: one induction over programs, loops, chains and open calls.
 --   Complete  the steps leave out no report and no refusal 5. `Tells`: the signs of some steps are those of what was
 --             made. Kept by joining (`tells-add`) and by closing a marker (`closed-signs`), and true of each action

@@ -7,7 +7,7 @@ use mathlib.Core.List.{List, _++_}
 use lib.Dec.{leb}
 use lib.ListN.{length, drop}
 use Rattle.definitions.specs.Layout.{TREE-ROW, ERROR-ROW, TWO-TO-32}
-use Rattle.definitions.specs.Token.{Token, tokens-of, byte-count}
+use Rattle.definitions.specs.Token.{tokens-of, byte-count}
 use Rattle.definitions.specs.Skeleton.{Skeleton}
 use Rattle.definitions.specs.Event.{events}
 use Rattle.definitions.specs.Refusal.{no-tree-room, number-of}

@@ -9,11 +9,11 @@ use sink_rows::tree_row;
 use sink_tokens::lexical;
 use sink_tokens::token_row;
 ghost use mathlib.Core.Path.{_≡_};
-ghost use Prim.Native.Nat.{ℕ, _-_, _/_, _≤_};
+ghost use Prim.Native.Nat.{_-_, _/_, _≤_};
 ghost use lib.ListN.{length};
 ghost use Rattle.definitions.specs.Layout.{TOKEN-ROW};
 ghost use Rattle.sink.specs.Promise.{Promise};
-ghost use Rattle.sink.specs.Model.{On, on, leaf-on, token-on, trivia-on, combined-on, start-on, finish-on, event-on, events-on, root-on, finished, finish-all};
+ghost use Rattle.sink.specs.Model.{on, leaf-on, token-on, trivia-on, combined-on, start-on, finish-on, event-on, events-on, root-on, finished, finish-all};
 
 pub struct Sink {
     // The raw token that is read next, and its first byte.

@@ -5,7 +5,7 @@ use layout::row::EVENT_ROW;
 use layout::row::EVENT_TAG;
 use layout::word;
 ghost use mathlib.Core.Path.{_≡_};
-ghost use Prim.Native.Nat.{ℕ, _-_, _/_, _≤_, _<_};
+ghost use Prim.Native.Nat.{_-_, _/_, _≤_, _<_};
 ghost use lib.ListN.{length};
 ghost use Rattle.definitions.specs.Layout.{EVENT-ROW};
 ghost use Rattle.sink_rows.specs.Rows.{field as fieldOf, link as linkOf, links as linksOf};

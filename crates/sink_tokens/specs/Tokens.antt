@@ -5,7 +5,7 @@ use mathlib.Core.Bool.{Bool, false, cond}
 use mathlib.Core.List.{List, [], _∷_}
 use lib.ListN.{length, getD}
 use lib.Seq.{sets}
-use lib.Dec.{ltb, leb, eqb}
+use lib.Dec.{ltb, leb}
 use Rattle.basics.specs.Word.{low}
 use Rattle.definitions.specs.Layout.{TOKEN-ROW, TOKEN-LENGTH, ERROR-ROW}
 use Rattle.definitions.specs.TokenKind as K

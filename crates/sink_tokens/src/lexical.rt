@@ -9,10 +9,10 @@ use layout::token_kind::FIRST_LEX_ERROR;
 use layout::word;
 ghost use mathlib.Core.Path.{_≡_};
 ghost use mathlib.Core.List.{_∷_, []};
-ghost use Prim.Native.Nat.{ℕ, _*_, _+_};
+ghost use Prim.Native.Nat.{_*_, _+_};
 ghost use lib.Dec.{leb};
 ghost use Rattle.definitions.specs.Layout.{ERROR-ROW};
-ghost use Rattle.sink_tokens.specs.Tokens.{put-error, Log, log, logged, errors-on};
+ghost use Rattle.sink_tokens.specs.Tokens.{put-error, log, logged, errors-on};
 
 // Whether so many rows fit.
 pub fn errors_fit(len: usize, rows: u32) -> bool

@@ -5,7 +5,7 @@ use layout::row_kind;
 use layout::token_kind::FIRST_LEX_ERROR;
 use layout::word;
 ghost use mathlib.Core.Path.{_≡_};
-ghost use Prim.Native.Nat.{ℕ, _-_, _/_, _≤_};
+ghost use Prim.Native.Nat.{_-_, _/_, _≤_};
 ghost use lib.ListN.{length};
 ghost use Rattle.definitions.specs.Layout.{TOKEN-ROW};
 ghost use Rattle.sink_tokens.specs.Tokens.{kind-seen, trivia-here, widthN, at-most};

@@ -10,7 +10,7 @@ use layout::TokenIndex;
 use token_rows::token::kind_at;
 ghost use mathlib.Core.Path.{_≡_};
 ghost use lib.ListN.{drop};
-ghost use Rattle.definitions.specs.Token.{tokens-of, drop-trivia};
+ghost use Rattle.definitions.specs.Token.{tokens-of};
 ghost use Rattle.token_rows.specs.Tokens.{kind-of};
 ghost use Rattle.source.specs.Cursor.{after-trivia, after-token, Seen};
 
