@@ -1,6 +1,6 @@
 -- WHERE AN LPAREN STANDS. For every accepted call of each of the four entries, of the tree that its rows are read as,
 -- trivia passed over: which parents an LParen can have, and that an LParen which a cell starts with is the first child
--- of a DtExpr. It shuts out a parser that leaves a bracket as a bare leaf of a list, or that reads a bracketed cell as
+-- of a DtExpr. It excludes a parser that leaves a bracket as a bare leaf of a list, or that reads a bracketed cell as
 -- anything but a DtExpr, so that C's table says nothing of it.
 use Prim.Native.Nat.{ℕ, _*_}
 use mathlib.Core.Path.{_≡_}

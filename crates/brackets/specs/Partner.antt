@@ -1,6 +1,6 @@
 -- A BRACKET WITHOUT A PARTNER. C's table judges the tokens between a cell's LParen and the RParen that balances it;
 -- where no RParen does, the call says so in that cell: some report's mark is above the LParen's token index, and at
--- most the index just past the cell's last token. It shuts out a parser that takes an open cell in silence, whatever it
+-- most the index just past the cell's last token. It excludes a parser that takes an open cell in silence, whatever it
 -- says of other places.
 use Prim.Native.Nat.{ℕ, _+_, _*_, _≤_, _<_}
 use mathlib.Core.Path.{_≡_}

@@ -2,7 +2,7 @@
 ghost use mathlib.Core.Path.{_≡_};
 ghost use Rattle.refinement.specs.Ends.{wiped};
 
-// Zero from a place on.
+// Zero from an index on.
 pub fn clear(buffer: &mut [u32], from: usize)
     ensures { λ _. ⌜ now (buffer .exit) ≡ wiped from (now (buffer .entry)) ⌝ }
 {

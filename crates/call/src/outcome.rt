@@ -16,7 +16,7 @@ ghost use lib.ListN.{length};
 ghost use Rattle.call.specs.Result.{at-entry, at-exit, result-of};
 ghost use Rattle.call.specs.Ended.{answers-parse, Ended};
 
-// A parse that was refused keeps its number and place. Of another the events go to the sink. events_written,
+// A parse that was refused keeps its number and place. Otherwise the sink reads the events. events_written,
 // reports_written, pool_written: how many numbers the parse wrote to these buffers. They are not cleared yet.
 fn answer_of_parse(
     number: u32,

@@ -14,7 +14,7 @@ fn all(buffer: &[u32], from: usize, n: u32) -> bool {
     true
 }
 
-// What a buffer holds from a place on: 0 zeros or nothing, 1 only what was lent, 2 anything else.
+// What a buffer holds from an index on: 0 zeros or nothing, 1 only what was lent, 2 anything else.
 pub fn tail(buffer: &[u32], from: usize) -> u64 {
     if all(buffer, from, 0) {
         return 0;

@@ -16,7 +16,7 @@ pub fn at_most(n: u32, most: usize) -> usize
     least(n as usize, most)
 }
 
-// Where a byte stands first from a place on, or the text's length.
+// The first index from one on at which the byte stands, or the text's length.
 pub fn find(text: &[u8], from: usize, b: u8) -> usize
     requires { ⌜ from ≤ length (now text) ⌝ }
     ensures { λ r. ⌜ from ≤ r ⌝ }
@@ -36,7 +36,7 @@ fn is_digit(b: u8) -> bool {
     if b < b'0' { false } else { b <= b'9' }
 }
 
-// Where the digits end that stand at a place, or where there are none, what is not a digit.
+// The index after the digits that start at one; the same index where there are none.
 fn run_end(text: &[u8], from: usize, digits: bool) -> usize
     requires { ⌜ from ≤ length (now text) ⌝ }
     ensures { λ r. ⌜ from ≤ r ⌝ }
@@ -52,7 +52,7 @@ fn run_end(text: &[u8], from: usize, digits: bool) -> usize
     i
 }
 
-// The place after the next number.
+// The index after the next number.
 fn number_end(text: &[u8], from: usize) -> usize
     requires { ⌜ from ≤ length (now text) ⌝ }
     ensures { λ r. ⌜ from ≤ r ⌝ }
@@ -79,7 +79,7 @@ fn value(digits: &[u8]) -> u32 {
     n
 }
 
-// The next so many numbers, where `out` has as many places. Answers the place after the last.
+// The next numbers, as many as `out` holds. Answers the index after the last.
 pub fn numbers(text: &[u8], from: usize, count: u32, out: &mut [u32]) -> usize
     requires { ⌜ from ≤ length (now text) ⌝ }
     ensures { λ r. ⌜ from ≤ r ⌝ }

@@ -14,7 +14,7 @@ use Rattle.run_steps.specs.Signs.{Complete}
 use Rattle.turns.specs.Turns.{Turns}
 use Rattle.pending.specs.Pending.{Repeats}
 
--- PROMISE 1. Whoever calls, with any bytes and numbers, gets a tree with its reports or one of the listed refusals,
+-- PROMISE 1. Every call, with any bytes and numbers, gets a tree with its reports or one of the listed refusals,
 -- each under its listed condition only, and every lent buffer then holds what document 01 says.
 pub record Promise-1 : Type 0 where
   -- By the number, which is at most 8: the buffers are written and then zero, as they were, or all zero; a refusal's
@@ -30,8 +30,8 @@ pub record Promise-2 : Type 0 where
   -- The leaves in order are the tokens, each width is the sum below it, the lexical errors are the error tokens in
   -- order. laws/specs/Lossless.antt, over TreeRows.antt.
   pub nothing-lost : Nothing-lost
-  -- The tokens between a cell's bracket and its partner are read as the tree that C's table gives, or an error is
-  -- reported. precedence/specs/Precedence.antt, over definitions/specs/C.antt.
+  -- The tokens between a cell's bracket and its partner are read as the tree that C's table gives, or there is a
+  -- report. precedence/specs/Precedence.antt, over definitions/specs/C.antt.
   pub c-table : C-table
   -- C's table gives one tree only.
   pub one-tree : One-tree
@@ -49,10 +49,11 @@ pub record Promise-3 : Type 0 where
 
 -- What holds beside the promises, of the definitions and of all that the code can meet.
 pub record Beside : Type 0 where
-  -- In an accepted call at most 64 calls are open and at most 256 expectations are pending, at every place.
+  -- In an accepted call at most 64 calls are open and at most 256 expectations are pending, at every moment of a run.
   -- laws/specs/Limits.antt.
   pub limits : Limits
-  -- A run makes at most a small multiple of its tokens, of anything, and no number of a call passes 32 bits.
+  -- A run makes at most a fixed multiple of the number of its tokens, of events, reports, expectations and tree rows,
+  -- and no number of a call passes 32 bits.
   -- bounds/specs/Numbers.antt.
   pub runs-bounded : Runs-bounded
   pub words-so-far : Words-so-far

@@ -1,6 +1,6 @@
 // The devicetree's own directives, of grammar.rs: `/dts-v1/`, `/plugin/`, `/include/`, `/memreserve/`, `/delete-node/`,
 // `/delete-property/`. The functions here are for the cycle of calls, which holds the whole parser by value; the module
-// has the work.
+// does the work.
 pub mod dts_directive;
 
 use parser::Parser;

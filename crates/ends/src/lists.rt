@@ -142,8 +142,8 @@ pub fn after_propvalue(
     StateAnswered { s: q, ans: Ans::No }
 }
 
-// After a prefix that neither a node nor a property follows: a token that no item starts with is taken. The caller's
-// marker.
+// After a prefix that neither a node nor a property follows: a token that no item starts with is taken. Completes m,
+// which the caller made.
 pub fn unfinished(
     s: State,
     codes: &Codes,

@@ -53,7 +53,7 @@ pub fn forbidden_property(p: Parser, tokens: &[u32], allow_prop: bool) -> Parser
     }
 }
 
-// The end of a node's body. The caller's marker, and the place of its LCurly.
+// The end of a node's body. Completes m, which the caller made; lcurly_span is the range of the node's LCurly.
 pub fn node_end(
     p: Parser,
     tokens: &[u32],

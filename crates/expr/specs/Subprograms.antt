@@ -1,4 +1,4 @@
--- Programs that are parts of the definitions' `lhs` and `infix-turn`: those that have a function of their own here.
+-- The subprograms of the definitions' `lhs` and `infix-turn` that are functions here.
 use Rattle.definitions.specs.TokenKind as K
 use Rattle.definitions.specs.NodeKind as N
 use Rattle.definitions.specs.Errors as E

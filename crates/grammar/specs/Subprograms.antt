@@ -1,5 +1,5 @@
--- What of the definitions' programs has a function of its own here, and the code's enums as the definitions have them.
--- proofs/Laws.antt shows each program to stand in the definitions' term.
+-- The subprograms of the definitions' programs that are functions here, and the code's enums as the definitions have
+-- them. proofs/Laws.antt shows that each subprogram stands in its program.
 use mathlib.Core.Bool.{Bool}
 use Rattle.definitions.specs.TokenKind as K
 use Rattle.definitions.specs.Errors as E

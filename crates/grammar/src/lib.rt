@@ -190,7 +190,7 @@ fn cell_rest(
     operator
 }
 
-// The caller's marker. yes: Ok; no: the cells were cut off.
+// Completes m, which the caller made. yes: Ok; no: the cells were cut off.
 fn dt_cell_list(
     p: Parser,
     tokens: &[u32],
@@ -413,7 +413,7 @@ fn value_rest(
 
 // ---- properties and nodes
 
-// The caller's marker. The cursor stands at a Semicolon or an Equals.
+// Completes m, which the caller made. The cursor is at a Semicolon or an Equals.
 fn dt_property(
     p: Parser,
     tokens: &[u32],
@@ -453,7 +453,7 @@ fn dt_property(
     }
 }
 
-// The caller's marker. The cursor stands at the LCurly.
+// Completes m, which the caller made. The cursor is at the LCurly.
 fn dt_node_body(
     p: Parser,
     tokens: &[u32],
@@ -621,7 +621,7 @@ fn eat_node_or_prop(
     }
 }
 
-// What follows the prefix, a property apart: the definitions' `no-property`. The caller's marker.
+// What follows the prefix, unless it is a property: the definitions' `no-property`. Completes m, which the caller made.
 fn node(
     p: Parser,
     tokens: &[u32],

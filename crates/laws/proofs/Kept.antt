@@ -147,7 +147,7 @@ module _ (R : State → Skeleton → State → Type 0) (kept : Kept R) where
       let g : Stands (peeked s) = stands-peeked s h in
       (g, kept .join s (peeked s) (peeked s) done _ (kept .pass s (drop-trivia (s .rest)) h p) (kept .report (peeked s) m k l g (dropped-solid (s .rest))))
 
-  -- (the answer is of no account here)
+  -- (the answer is not used here)
   pub act-ran : (b : Label) (a : Act) (s : State) → Ran s (perform b a s)
   unfolding perform peeked replies do-expected makes
   act-ran b (silent-at ks) s = peek-ran yes s

@@ -1,5 +1,5 @@
--- LIMITS: in every accepted run at most 64 calls are open and at most 256 expectations are pending, at every place that
--- it comes to. It shuts out a parser that goes deeper or keeps more than document 01 allows and still answers 0.
+-- LIMITS: in every accepted call at most 64 calls are open and at most 256 expectations are pending, at every moment of
+-- its run. It excludes a parser that goes deeper or keeps more than document 01 allows and still answers 0.
 use Prim.Native.Nat.{ℕ, zero, suc, _≤_}
 use mathlib.Core.Path.{_≡_}
 use mathlib.Core.Bool.{cond}
@@ -14,7 +14,7 @@ use Rattle.definitions.specs.Run.{State, Out, taken, is-again, goes-on, by-shap
 use Rattle.definitions.specs.Call.{Buffers, for, entry-of}
 use Rattle.definitions.specs.Call as Call
 
--- a place that a run comes to: how many calls are open there, and the parser's state
+-- a moment of a run: how many calls are open then, and the parser's state
 pub record Moment : Type 0 where
   pub open-calls : ℕ
   pub state : State
@@ -27,8 +27,8 @@ unfoldable pub deeper : List Moment → List Moment
 deeper [] = []
 deeper (x ∷ l) = record { open-calls = suc (x .open-calls); state = x .state } ∷ deeper l
 
--- The places that a program comes to, in order, after `Run.exec`, `Run.iter`, `Run.links` and `Run.run`.
--- f: what a turn does. g: the places that it comes to.
+-- The moments of a program's run, in order, clause by clause as `Run.exec`, `Run.iter`, `Run.links` and `Run.run`.
+-- f: what a turn does. g: its moments.
 unfoldable pub iter-moments : ℕ → (State → Out) → (State → List Moment) → State → List Moment
 unfolding goes-on
 iter-moments zero f g s = []
@@ -46,7 +46,7 @@ choose-moments yes n y a = y
 choose-moments also n y a = a
 choose-moments again n y a = y
 
--- ask: what a call does. inside: the places that it comes to.
+-- ask: what a call does. in-call: its moments.
 unfoldable pub moments : (Rule → State → Out) → (Rule → State → List Moment) → Label → Prog → State → List Moment
 unfolding exec is-again choose-moments iter-moments links-moments
 moments ask in-call b (ret k a) s = moment s
@@ -66,13 +66,13 @@ moments ask in-call b (chain p q) s =
 moments ask in-call b (brace p) s = moments ask in-call (here (s .rest)) p s
 moments ask in-call b (open-call r) s = in-call r s
 
--- a call is open from where it begins; the one that is too many comes no further
+-- a call is open from where it begins; the one that is too many does nothing more
 unfoldable pub run-moments : ℕ → Rule → State → List Moment
 unfolding deeper run moments
 run-moments zero r s = deeper (moment s)
 run-moments (suc n) r s = deeper (moment s ++ moments (run n) (run-moments n) no-label (grammar r) s)
 
--- the places that a file's run comes to
+-- the moments of an entry's run
 unfoldable pub entry-moments : Entry → List Token → List Moment
 unfolding moments run run-moments
 entry-moments e ts = moments (run MOST-OPEN-CALLS) (run-moments MOST-OPEN-CALLS) no-label (whole e) (taken ts)

@@ -14,8 +14,8 @@ pub mod set;
 pub mod token_kind;
 pub mod word;
 
-// A place in the input, in bytes. It never stands for a token index.
+// A byte offset in the input. It never stands for a token index.
 pub struct ByteOffset(pub u32);
 
-// A place in the token rows. It never stands for a byte offset.
+// An index among the token rows. It never stands for a byte offset.
 pub struct TokenIndex(pub usize);

@@ -1,4 +1,4 @@
--- The literal machine: what the code does, in numbers. A device of the proofs, and not a part of any exported promise.
+-- The literal machine: what the code does, in numbers. Used in proofs only.
 pub mod Machine
 pub mod Walk
 pub mod Encode

@@ -1,5 +1,5 @@
 -- The literal machine: the code's state in numbers, the lent buffers whole, and what each primitive of the crate
--- `parser` does to them. It is a device of the proofs: code is held to it function by function, and one theorem holds
+-- `parser` does to them. It is used in proofs only: code is held to it function by function, and one theorem holds
 -- it to `definitions`.
 use Prim.Native.Nat.{ℕ, _+_, _-_, _/_}
 use mathlib.Core.Bool.{Bool, cond, _&&_}

@@ -1,5 +1,4 @@
--- The program that is a part of `macro-invocation` of the crate `definitions` and has a function of its own here, in
--- the words of Grammar.antt. A device of the proofs; no exported promise names it.
+-- The subprogram of the definitions' `macro-invocation` that is a function here. Used in proofs only.
 use Rattle.definitions.specs.TokenKind as K
 use Rattle.definitions.specs.Prog.{yes, Prog, _⨟_, loop}
 use Rattle.definitions.specs.Check.{tell, if_then_else_, not!, bump!, of-kind, at, expect}

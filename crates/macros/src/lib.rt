@@ -1,5 +1,5 @@
 // Macro invocations of grammar.rs. No open call can be under one. The function here is for the cycle of calls, which
-// holds the whole parser by value; the module has the work.
+// holds the whole parser by value; the work is done in the module.
 pub mod invocation;
 
 use parser::Parser;

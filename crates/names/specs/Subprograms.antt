@@ -1,5 +1,4 @@
--- Programs that are parts of programs of Grammar.antt in the crate `definitions`, in its words: those that have a
--- function of their own here. Devices of the proofs; no exported promise names them.
+-- The subprograms of the definitions' programs that are functions here. Used in proofs only.
 use Rattle.definitions.specs.TokenKind as K
 use Rattle.definitions.specs.Prog.{yes, Prog, _⨟_}
 use Rattle.definitions.specs.Check.{tell, if_then_else_, _and_, not!, end?, error-wrap!, set, of-kind, Name, silent, at, eat}

@@ -28,7 +28,7 @@ pub struct Started {
     pub yes: bool,
 }
 
-// Stores a code at a place. Whether there is such a place.
+// Stores a code at an index, if there is such an index; whether there is.
 fn put_code(codes: &mut [u8], index: usize, code: u8) -> bool
     ensures { λ r. ⌜ r ≡ ltb index (length (now (codes .entry))) ⌝ }
     ensures { λ r. ⌜ now (codes .exit) ≡ set (now (codes .entry)) index code ⌝ }

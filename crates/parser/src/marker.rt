@@ -1,4 +1,4 @@
-// marker.rs: a marker is the place of the placeholder that was pushed for it, and the first number of the start that it
+// marker.rs: a marker is the index of the placeholder that was pushed for it, and the first number of the start that it
 // becomes when it is completed.
 use crate::State;
 use layout::event_tag::FINISH_NODE;
@@ -19,7 +19,7 @@ ghost use Rattle.parser.specs.View.{tokens-left, marker-of, writes-event
 
 pub struct Marker(pub usize, pub u32);
 
-// The placeholder at this place becomes a start.
+// The placeholder at this index becomes a start.
 fn put_start(events: &mut [u32], index: usize, tag: u32, kind: u32)
     ensures { λ _. ⌜ now (events .exit) ≡ put-start (record { index = index; tag = tag }) kind (now (events .entry)) ⌝ }
 {
@@ -30,7 +30,7 @@ fn put_start(events: &mut [u32], index: usize, tag: u32, kind: u32)
     }
 }
 
-// The start at this place is linked forward to the event at another.
+// The start at this index is linked forward to the event at another.
 fn put_link(events: &mut [u32], index: usize, to: usize)
     ensures { λ _. ⌜ now (events .exit) ≡ put-link index to (now (events .entry)) ⌝ }
 {

@@ -1,7 +1,7 @@
 -- REPEATS MOVE NO RANGE. Here an expectation that is pushed again stays in the pending list twice. The Rust drops
 -- repeats from its list whenever it writes message 1 (`fmt_expected_message`: each expectation stays at its first
 -- arrival), and then tests the list that is left for the range (`current_token_error_range`). At each report of every
--- run, up to refusal 5 where it meets it, the test comes out the same, so the range is the same. It shuts out a grammar
+-- run, up to refusal 5 where it meets it, the test comes out the same, so the range is the same. It excludes a grammar
 -- in which a Semicolon or a Comma is expected twice before a report.
 use Prim.Native.Nat.{ℕ}
 use mathlib.Core.Path.{_≡_}

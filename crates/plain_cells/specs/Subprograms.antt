@@ -1,5 +1,5 @@
--- What of the definitions' programs has a function of its own here. proofs/Laws.antt shows each to stand in the
--- definitions' term.
+-- The subprograms of the definitions' programs that are functions here. proofs/Laws.antt shows that each stands in its
+-- program.
 use mathlib.Core.List.{[], _∷_}
 use Rattle.definitions.specs.TokenKind as K
 use Rattle.definitions.specs.Errors as E

@@ -1,5 +1,5 @@
 // The cells that no call is opened for, of grammar.rs: numbers, characters, macro invocations and references. The
-// function here is for the cycle of calls, which holds the whole parser by value; the module has the work.
+// function here is for the cycle of calls, which holds the whole parser by value; the work is done in the module.
 pub mod plain_cell;
 
 use parser::Parser;

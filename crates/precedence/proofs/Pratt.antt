@@ -1,4 +1,4 @@
--- expr.rs up to its first report, on symbols: a device of the proofs. It reads the definitions' own tables and sets.
+-- expr.rs up to its first report, on symbols; used in proofs only. It reads the definitions' own tables and sets.
 use Prim.Native.Nat.{ℕ, zero, suc}
 use mathlib.Core.Bool.{Bool, true, false, cond}
 use mathlib.Core.List.{List, [], _∷_}

@@ -300,7 +300,7 @@ module _ (ask : Rule → State → Out) (b : Label) (rec : Reader)
       checked (bump! ⨟ if open-call (expr-binding-power 0) and expect (of-kind K.Colon) then rhs (ternary-level .right) else ret N.InfixExpr yes) (ask-turn rec e (symbols false ts)) (ternary-level .left) m ask-turns u g i
   ternary-turn m false u g i = levels-turn m binding-power u g i
 
-  -- an Ident is not an operator, so that what stands directly after it is of no account
+  -- an Ident is not an operator, so that what stands directly after it is not looked at
   apart : (m : ℕ) (x : Bool) → eqb (seen t) K.Ident ≡ x
       → turn-by (operator (C.plain (seen t))) rec m e (symbols x ts) ≡ turn-by (operator (C.plain (seen t))) rec m e (symbols false ts)
   unfolding operator one-of level-of

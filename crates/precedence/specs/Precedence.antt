@@ -1,6 +1,6 @@
 -- C'S TABLE. For every accepted call and every DtExpr among the rows that it leaves in the buffers, whether the cell is
 -- a property's value, stands in a conditional or comes from entries 3 and 4: the tokens between its LParen and the
--- RParen that balances it are judged as C's precedence table judges them. It shuts out a parser that groups an operator
+-- RParen that balances it are judged as C's precedence table judges them. It excludes a parser that groups an operator
 -- the wrong way round, that takes a malformed expression without a report, or that reports a sound one.
 use Prim.Native.Nat.{ℕ, zero, suc, _+_, _*_, _≤_, _<_}
 use mathlib.Core.Path.{_≡_}

@@ -1,5 +1,5 @@
 // What stands before a node's body or a property's value, of grammar.rs: labels, names with unit addresses, references.
-// The function here is for the cycle of calls, which holds the whole parser by value; the module has the work.
+// The function here is for the cycle of calls, which holds the whole parser by value; the work is done in the module.
 pub mod node_or_prop_prefix;
 
 use parser::Parser;

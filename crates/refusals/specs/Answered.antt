@@ -1,4 +1,4 @@
--- ANSWERED: what any call returns, by its number, and what every lent buffer then holds. It shuts out a number above 8,
+-- ANSWERED: what any call returns, by its number, and what every lent buffer then holds. It excludes a number above 8,
 -- buffers left unwritten or half written, a refusal that leaves something in them, and counts that differ from the rows
 -- written.
 use Prim.Native.Nat.{ℕ, _-_, _*_, _≤_}

@@ -1,5 +1,5 @@
 -- REFUSALS: document 01's table of causes. Each of the numbers 0 to 8 is returned, with its place, if and only if its
--- condition holds. It shuts out refusing everything, a limit that is one off, "does not fit" before a buffer is used
+-- condition holds. It excludes refusing everything, a limit that is one off, "does not fit" before a buffer is used
 -- up, and causes tried in another order.
 use Prim.Native.Nat.{ℕ, suc, _+_, _-_, _*_, _≤_}
 use mathlib.Core.Path.{_≡_}
@@ -116,7 +116,7 @@ happens e tokens = trace MAX-OPEN e (tokens-of tokens)
 abbrev pub from-start : List ℕ → ℕ → ℕ
 from-start tokens m = length (tokens-of tokens) - m
 
--- what a file's run gives to write
+-- what an entry's run gives to write
 abbrev pub to-write : Entry → List ℕ → Sheets
 to-write e tokens = sheets e (tokens-of tokens) (run-entry e (tokens-of tokens))
 

@@ -100,7 +100,7 @@ run-trace zero open-calls r s = call-opened (suc open-calls) (mark-of s) ∷ []
 run-trace (suc n) open-calls r s =
     call-opened (suc open-calls) (mark-of s) ∷ exec-trace (run n) (run-trace n (suc open-calls)) no-label (grammar r) s
 
--- what happens in a file's run, with at most so many open calls
+-- what happens in an entry's run, with at most so many open calls
 unfoldable pub trace : ℕ → Entry → List Token → List Happening
 unfolding run whole exec-trace run-trace
 trace n e ts = exec-trace (run n) (run-trace n 0) no-label (whole e) (taken ts)

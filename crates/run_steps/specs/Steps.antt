@@ -1,5 +1,5 @@
 -- WHAT A RUN DOES, STEP BY STEP: each program that it begins and where, each answer that it branches on, each turn of a
--- loop and each link of a chain. So that a statement can speak of every place at which the definitions have a clause
+-- loop and each link of a chain. With these a statement can speak of every step at which the definitions have a clause
 -- that no run is to use.
 use Prim.Native.Nat.{ℕ, zero, suc}
 use mathlib.Core.Bool.{Bool, true, false, cond}
@@ -13,7 +13,7 @@ use Rattle.definitions.specs.Grammar.{grammar, Entry, whole}
 use Rattle.definitions.specs.Skeleton.{Label, no-label}
 use Rattle.definitions.specs.Run.{State, Out, taken, is-again, goes-on, by-shape, here, exec, run}
 
--- begun: a program begins at a state. asked: the condition of a `case` gave this answer. turned: a turn of a loop,
+-- begun: a program begins at a state. branched: the condition of a `case` gave this answer. turned: a turn of a loop,
 -- begun at the state, gave this. linked: the same of a link of a chain. spent: a loop or a chain is to go on, and no
 -- turn is left of those that it may make (one more than tokens are left when it begins). exceeded: a 65th open call or
 -- a 257th pending expectation. The run is refused here, with number 5.
@@ -27,7 +27,7 @@ pub data Step : Type 0 where
 
 -- ---------------------------------------------------------------- the steps of a run
 
--- After `Run.exec`, `Run.iter`, `Run.links` and `Run.run`. f: what a turn does. g: its steps.
+-- Clause by clause as `Run.exec`, `Run.iter`, `Run.links` and `Run.run`. f: what a turn does. g: its steps.
 unfoldable pub iter-steps : ℕ → (State → Out) → (State → List Step) → State → List Step
 unfolding goes-on
 iter-steps zero f g s = spent ∷ []
@@ -93,7 +93,7 @@ unfolding run steps
 run-steps zero r s = exceeded ∷ []
 run-steps (suc n) r s = steps (run n) (run-steps n) no-label (grammar r) s
 
--- the steps of a file's run (`Call.run-entry`)
+-- the steps of an entry's run (`Call.run-entry`)
 unfoldable pub entry-steps : Entry → List Token → List Step
 unfolding steps run run-steps whole
 entry-steps e ts = steps (run MOST-OPEN-CALLS) (run-steps MOST-OPEN-CALLS) no-label (whole e) (taken ts)

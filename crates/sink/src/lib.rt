@@ -19,7 +19,7 @@ pub struct Sink {
     // The raw token that is read next, and its first byte.
     pub cursor: usize,
     pub byte: u32,
-    // The tree rows so far, those that did not fit among them.
+    // The tree rows so far, including those that did not fit.
     pub rows: u32,
     // The row of the open node, and its children so far.
     pub node: u32,

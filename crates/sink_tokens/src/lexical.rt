@@ -48,7 +48,7 @@ fn log_token(errors: &mut [u32], found: u32, kind: u32, start: u32, end: u32) ->
     }
 }
 
-// How many lexical errors there are, those that did not fit among them.
+// How many lexical errors there are, including those that did not fit.
 pub fn lexical_errors(tokens: &[u32], errors: &mut [u32]) -> u32
     ensures { λ r. ⌜ log r (now (errors .exit))
         ≡ errors-on (now (tokens .entry)) (now (errors .entry)) ⌝ }
