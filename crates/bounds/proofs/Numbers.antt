@@ -34,8 +34,9 @@ use Rattle.bounds.proofs.Codes.{CODES, below-append}
 use Rattle.bounds.proofs.CodedRuns.{entry-coded}
 use Rattle.bounds.proofs.Events.{events-fit}
 use Rattle.bounds.proofs.TreeRows.{Kinded, tree, few-rows, few-children, rows-below}
-use Rattle.bounds.proofs.Written.{below-wider, below-zeros, All-coded, coded-left, reports-coded, pool-below, report-numbers-length, report-numbers-below, errors-most, errors-below}
+use Rattle.bounds.proofs.Written.{below-wider, below-zeros, All-coded, coded-left, reports-coded, pool-below, report-numbers-below, errors-most, errors-below}
 use Rattle.bounds.proofs.Places.{number-small, Placed, input-placed, Stopped, scan-stopped}
+use Rattle.laws.proofs.ReportNumbers.{report-numbers-length}
 
 -- ---------------------------------------------------------------- a run
 

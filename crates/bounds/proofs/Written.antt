@@ -1,10 +1,9 @@
 -- The numbers that an accepted call writes besides its tree rows: report rows, pool, lexical errors.
 use Prim.Native.Nat.{ℕ, suc, _+_, _*_, _≤_, _<_}
 use native.Mathlib.Omega.{arith}
-use mathlib.Core.Path.{_≡_, refl}
 use mathlib.Core.List.{List, [], _∷_, _++_}
 use lib.ListN.{length, length-append, replicate}
-use Rattle.definitions.specs.Layout.{ERROR-ROW, REPORT-ROW}
+use Rattle.definitions.specs.Layout.{ERROR-ROW}
 use Rattle.definitions.specs.Token.{Token, is-error, byte-count}
 use Rattle.definitions.specs.Skeleton.{Label, no-label, label, Report, Skeleton, done, token, name, node, ignored, report, over}
 use Rattle.definitions.specs.Place.{lexical-errors}
@@ -51,15 +50,6 @@ pub pool-below : (l : List Report) → All-coded l → Below CODES (pool l)
 unfolding pool
 pool-below [] c = tt
 pool-below (r ∷ l) c = below-append CODES (r .pool) (pool l) (c .0 .pool) (pool-below l (c .1))
-
-pub report-numbers-length : (n b first : ℕ) (l : List Report) → length (report-numbers n b first l) ≡ REPORT-ROW * length l
-unfolding report-numbers
-report-numbers-length n b first [] = refl
-report-numbers-length n b first (r ∷ l) = go (r .labelled) (report-numbers-length n b (first + length (r .pool)) l)
-  where
-    go : (x : Label) → length (report-numbers n b (first + length (r .pool)) l) ≡ REPORT-ROW * length l → suc (suc (suc (suc (suc (suc (suc (length (label-numbers b x (report-numbers n b (first + length (r .pool)) l))))))))) ≡ REPORT-ROW * suc (length l)
-    go no-label h = omega arith
-    go (label s) h = omega arith
 
 -- m: a bound on the tokens, the bytes and the expectations
 module _ (m n b : ℕ) (most : CODES ≤ m) (tokens : n < m) (input : b < m) where

@@ -6,10 +6,7 @@ use mathlib.Core.List.{List, [], _∷_}
 use Rattle.basics.proofs.Tests.{and-left, and-right}
 use Rattle.laws.proofs.Progress.{implies}
 use Rattle.laws.proofs.FactsHold.{or-left, or-right, implied}
-
-pub and-both : {a b : Bool} → a ≡ true → b ≡ true → (a && b) ≡ true
-and-both {a = true} {b = b} e f = f
-and-both {a = false} {b = b} e f = absurd (false≢true e)
+use Rattle.basics.proofs.Tests.{and-both}
 
 -- number i of the list; false where it has none
 abbrev pub at : ℕ → List Bool → Bool

@@ -8,11 +8,11 @@ use lib.Dec.{eqb}
 use Rattle.definitions.specs.TokenKind as K
 use Rattle.definitions.specs.NodeKind as N
 use Rattle.definitions.specs.Token.{one-of}
-use Rattle.basics.proofs.Tests.{and-left, and-right}
+use Rattle.basics.proofs.Tests.{and-left, and-right, and-both}
 use Rattle.brackets.specs.Brackets.{Outline, end, leaf, node, is-end, first-leaf, starts-open, begins, has-angle, no-bracket, first-only, after-name, last-only, children-proper, List-of, cells, values, cell-branches, value-branches, expression, elsewhere, list-below, node-proper, proper}
 use Rattle.laws.proofs.FactsHold.{or-left, or-right}
 use Rattle.laws.proofs.Leaves.{or-cases}
-use Rattle.brackets.proofs.Bits.{and-both, at, below-nil, below-cons}
+use Rattle.brackets.proofs.Bits.{at, below-nil, below-cons}
 use Rattle.brackets.proofs.Summary.{lone-name, named, starts-plain, no-angle, Sum, bits, exact, Sums}
 
 -- ---------------------------------------------------------------- what is asked

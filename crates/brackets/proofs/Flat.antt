@@ -1,7 +1,7 @@
 -- Kinds side by side, and what a skeleton makes: the kinds of its placed tree, trivia passed over, are read off it
 -- without the tokens.
 use Prim.Native.Nat.{ℕ, zero, suc}
-use mathlib.Core.Path.{_≡_, refl, ap, sym, _∙_, subst}
+use mathlib.Core.Path.{_≡_, refl, ap, sym, _∙_}
 use mathlib.Core.Bool.{Bool, true, false, cond}
 use mathlib.Core.List.{List, [], _∷_}
 use lib.ListN.{length, drop, take}
@@ -12,11 +12,11 @@ use Rattle.definitions.specs.Place.{Tree, nil, subtree, _⊕_, lead, front, aft
 use Rattle.definitions.specs.Place as P
 use Rattle.definitions.specs.Run.{closed}
 use Rattle.basics.proofs.Tests.{cond-with}
-use Rattle.laws.proofs.Trivia.{Solid, dropped-solid}
 use Rattle.laws.proofs.Between.{Reads}
 use Rattle.laws.proofs.Decode.{shown}
 use Rattle.brackets.specs.Brackets.{Outline, end, leaf, outline}
 use Rattle.brackets.specs.Brackets as B
+use Rattle.precedence.proofs.Symbols.{solid-first}
 
 -- ---------------------------------------------------------------- side by side
 
@@ -102,9 +102,6 @@ kinds-front : (ts : List Token) (t : Token) (us : List Token) → ts ≡ t ∷ u
 unfolding outline shown front
 kinds-front ts t us e s = ap (λ (l : List Token). outline (shown (front l))) e ∙ ap (λ (b : Bool). cond b end (leaf (seen t) end)) (seen-solid t s)
 
-first-solid : (ts : List Token) (t : Token) (us : List Token) → drop-trivia ts ≡ t ∷ us → trivia t ≡ false
-first-solid ts t us e = subst Solid e (dropped-solid ts)
-
 beside-lead : (ts : List Token) (f : Tree) → outline (shown (lead ts ⊕ f)) ≡ outline (shown f)
 unfolding _⊞_
 beside-lead ts f = kinds-beside (lead ts) f ∙ ap (_⊞ outline (shown f)) (kinds-lead ts)
@@ -117,7 +114,7 @@ kinds-place (token t m o) ts r =
     let u = drop-trivia ts in
     beside-lead ts (front u ⊕ place o (past u))
     ∙ kinds-beside (front u) (place o (past u))
-    ∙ ap (_⊞ outline (shown (place o (past u)))) (kinds-front u t (past u) (r .0) (first-solid ts t (past u) (r .0)))
+    ∙ ap (_⊞ outline (shown (place o (past u)))) (kinds-front u t (past u) (r .0) (solid-first ts t (past u) (r .0)))
     ∙ ap (leaf (seen t)) (kinds-place o (past u) (r .2))
 kinds-place (name raw m o) ts r =
     let u = drop-trivia ts in

@@ -7,11 +7,11 @@ use mathlib.Core.Bool.{Bool, true, false, not, _&&_, _||_, false≢true}
 use mathlib.Core.List.{List, [], _∷_}
 use lib.Dec.{eqb}
 use Rattle.definitions.specs.TokenKind as K
-use Rattle.basics.proofs.Tests.{and-left, and-right}
+use Rattle.basics.proofs.Tests.{and-left, and-right, and-both}
 use Rattle.brackets.specs.Brackets.{Outline, end, leaf, node, is-end, first-leaf, begins, has-angle, no-bracket, first-only, last-only, children-proper, List-of, cells, values, cell-branches, value-branches, expression, list-below, leaf-proper, node-proper, proper}
 use Rattle.laws.proofs.FactsHold.{or-right}
 use Rattle.laws.proofs.Leaves.{or-cases}
-use Rattle.brackets.proofs.Bits.{and-both, at, Below, below-nil, below-cons}
+use Rattle.brackets.proofs.Bits.{at, Below, below-nil, below-cons}
 use Rattle.brackets.proofs.Flat.{_⊞_, beside-end}
 
 -- ---------------------------------------------------------------- flags

@@ -16,7 +16,7 @@ use Rattle.definitions.specs.Place.{after, root}
 use Rattle.definitions.specs.Report.{pushes}
 use Rattle.definitions.specs.Call.{Result, sheets, run-entry}
 use Rattle.laws.specs.TreeRows.{read}
-use Rattle.basics.proofs.Tests.{and-left, and-right}
+use Rattle.basics.proofs.Tests.{and-left, and-right, and-both}
 use Rattle.laws.proofs.Scan.{fits-clear}
 use Rattle.laws.proofs.Clear.{Below-limits, join-within}
 use Rattle.laws.proofs.Between.{entry-reads}
@@ -27,7 +27,7 @@ use Rattle.laws.proofs.Accepted.{accepted-call}
 use Rattle.brackets.specs.Brackets.{Outline, end, leaf, node, outline, is-end, starts-open, has-angle, no-bracket, children-proper, elsewhere, list-below, leaf-proper, node-proper, proper, root-proper, tree-proper, Brackets-proper}
 use Rattle.brackets.specs.Brackets as B
 use Rattle.laws.proofs.FactsHold.{or-left, or-right}
-use Rattle.brackets.proofs.Bits.{and-both, at}
+use Rattle.brackets.proofs.Bits.{at}
 use Rattle.brackets.proofs.Flat.{_⊞_, flat, flat-join, kinds-inside}
 use Rattle.brackets.proofs.Summary.{exact}
 use Rattle.brackets.proofs.Ahead.{by-class, class-of, class, none-left, Allows}

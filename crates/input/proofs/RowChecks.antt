@@ -1,7 +1,7 @@
 -- Laws of the row checks: one row more, and the end of the rows.
-use Prim.Native.Nat.{ℕ, zero, suc, _+_, _-_, _*_, _/_, _%_, _≤_, _<_}
+use Prim.Native.Nat.{ℕ, suc, _+_, _-_, _*_, _/_, _%_, _≤_, _<_}
 use mathlib.Core.Path.{_≡_, refl, sym, _∙_, ap}
-use mathlib.Core.Bool.{Bool, true, false, cond, _&&_, false≢true}
+use mathlib.Core.Bool.{Bool, true, false, cond, _&&_}
 use mathlib.Core.List.{List, [], _∷_}
 use native.Mathlib.Omega.{arith}
 use lib.Dec.{leb, eqb}
@@ -13,8 +13,9 @@ use Rattle.basics.proofs.TokenRows.{row-cons, token-at}
 use Rattle.definitions.specs.Layout.{TOKEN-ROW, TOKEN-LENGTH, MOST-BYTES, MOST-TOKEN-NUMBERS}
 use Rattle.definitions.specs.Token.{tokens-of}
 use Rattle.definitions.specs.StaticText.{static-texts, fits-text}
-use Rattle.definitions.specs.Refusal.{Refusal, bad-row, bad-text, Verdict, accepted, refused, unless, is-kind, too-long, check-sizes, check-rows, check-texts}
+use Rattle.definitions.specs.Refusal.{bad-row, bad-text, Verdict, accepted, refused, unless, is-kind, too-long, check-sizes, check-rows, check-texts}
 use Rattle.input.specs.Checks.{is-row, is-text}
+use Rattle.basics.proofs.Verdicts.{cond-accepted}
 
 abbrev is-accepted : Verdict → Bool
 is-accepted accepted = true
@@ -47,10 +48,6 @@ rows-even tokens left h =
     rw (drop-of-length-le tokens b)
 
 -- ---------------------------------------------------------------- cause 4
-
-cond-accepted : (b : Bool) (v : Verdict) (r : Refusal) → cond b v (refused r) ≡ accepted → (b ≡ true) × (v ≡ accepted)
-cond-accepted true v r e = (refl, e)
-cond-accepted false v r e = absurd (false≢true (ap is-accepted e))
 
 -- an accepted row: its length fits, and the rows after it are accepted
 pub row-accepted : (tokens : List ℕ) (i left : ℕ) → i < length tokens / TOKEN-ROW → check-rows i left (drop (i * TOKEN-ROW) tokens) ≡ accepted

@@ -6,10 +6,11 @@ use mathlib.Core.List.{List, [], _∷_}
 use native.Mathlib.Omega.{arith}
 use lib.Dec.{leb, eqb}
 use lib.ListN.{length, getD, take, drop, length-drop}
-use borrow.Author.Tests.{leb-true, eqb-true, eqb-false, ne-eqb, eq-eqb}
+use borrow.Author.Tests.{leb-true, eqb-true, eqb-false, ne-eqb}
 use Rattle.basics.proofs.Tests.{and-left, and-right}
 use Rattle.definitions.specs.TokenKind as K
 use Rattle.definitions.specs.StaticText.{Text, static-texts, same, fits-text}
+use Rattle.basics.proofs.Texts.{same-true, same-refl}
 
 abbrev pub texts : List ℕ
 texts =
@@ -94,21 +95,6 @@ right-at (suc n) k h l = go (eqb k n) refl (right-at n k (and-right (right n) (a
     go : (b : Bool) → eqb k n ≡ b → (k < n → right k ≡ true) → right k ≡ true
     go true e r = rw (eqb-true k n e) (and-left (right n) (all-below n) h)
     go false e r = r (omega (arith, l, eqb-false k n e))
-
-pub same-true : (a b : List ℕ) → same a b ≡ true → a ≡ b
-unfolding same
-same-true [] [] h = refl
-same-true [] (y ∷ ys) h = absurd (false≢true h)
-same-true (x ∷ xs) [] h = absurd (false≢true h)
-same-true (x ∷ xs) (y ∷ ys) h =
-    let a = eqb-true x y (and-left (eqb x y) (same xs ys) h) in
-    let b = same-true xs ys (and-right (eqb x y) (same xs ys) h) in
-    ap (λ (z : ℕ). z ∷ xs) a ∙ ap (λ (l : List ℕ). y ∷ l) b
-
-pub same-refl : (a : List ℕ) → same a a ≡ true
-unfolding same
-same-refl [] = refl
-same-refl (x ∷ xs) = rw (eq-eqb x x refl) (same-refl xs)
 
 -- a kind's bytes in TEXTS: where they lie, and what they say
 pub record Rule (k : ℕ) : Type 0 where

@@ -3,14 +3,14 @@
 -- property of programs that complete markers only as certain kinds, `Steady` of all programs. `Kept` is the form for a
 -- property of what a run makes between two states: its eight cases are all that a user shows.
 use Prim.Native.Nat.{ℕ, zero, suc}
-use mathlib.Core.Path.{_≡_, refl, sym, ap, subst, _∙_}
+use mathlib.Core.Path.{_≡_, refl, sym, subst}
 use mathlib.Core.Bool.{Bool, true, _&&_}
 use lib.ListN.{length}
 use Rattle.definitions.specs.Prog.{Ans, no, yes, also, again, Rule, Act, Prog, ret, act, _⨟_, case, in-marker, loop, chain, brace, open-call}
 use Rattle.definitions.specs.Grammar.{grammar}
 use Rattle.definitions.specs.Skeleton.{Label, no-label, Skeleton, done, node, over, _⧺_}
 use Rattle.definitions.specs.Run.{State, Out, mark-of, replies, makes, add, perform, choose, closed, marked, is-again, goes-on, iter, unlinked, by-shape, links, chained, here, exec, run}
-use Rattle.basics.proofs.Tests.{cond-all, and-left, and-right}
+use Rattle.basics.proofs.Tests.{cond-all, and-left, and-right, and-both}
 
 -- ---------------------------------------------------------------- the general form
 
@@ -123,18 +123,15 @@ module _ (Q : State → Out → Type 0) (C : State → ℕ → Skeleton → Skel
 any-kind : ℕ → Bool
 any-kind k = true
 
-both : {a b : Bool} → a ≡ true → b ≡ true → (a && b) ≡ true
-both {b = b} e h = ap (_&& b) e ∙ h
-
 only-any : (p : Prog) → only any-kind any-act p ≡ true
 unfolding only any-kind
 only-any (ret k a) = refl
 only-any (act a) = refl
-only-any (p ⨟ q) = both (only-any p) (only-any q)
-only-any (case c n y a) = both (only-any c) (both (only-any n) (both (only-any y) (only-any a)))
+only-any (p ⨟ q) = and-both (only-any p) (only-any q)
+only-any (case c n y a) = and-both (only-any c) (and-both (only-any n) (and-both (only-any y) (only-any a)))
 only-any (in-marker p) = only-any p
 only-any (loop p) = only-any p
-only-any (chain p q) = both (only-any p) (only-any q)
+only-any (chain p q) = and-both (only-any p) (only-any q)
 only-any (brace p) = only-any p
 only-any (open-call r) = refl
 

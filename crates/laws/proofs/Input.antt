@@ -3,7 +3,7 @@
 use Prim.Native.Nat.{ℕ, suc, _-_, _*_, _≤_}
 use native.Mathlib.Omega.{arith}
 use mathlib.Core.Path.{_≡_, refl, sym}
-use mathlib.Core.Bool.{Bool, true, false, cond, _&&_}
+use mathlib.Core.Bool.{Bool, true, false, _&&_}
 use mathlib.Core.List.{List, [], _∷_}
 use lib.Dec.{leb, eqb}
 use lib.ListN.{length, take, drop}
@@ -13,6 +13,7 @@ use Rattle.definitions.specs.Token.{Token, tokens-of, byte-count}
 use Rattle.definitions.specs.StaticText.{static-texts, fits-text}
 use Rattle.definitions.specs.Refusal.{Refusal, too-long, bad-row, bad-text, Verdict, accepted, refused, _or-else_, unless, check-sizes, is-kind, check-rows, check-texts, check-input}
 use Rattle.basics.proofs.Tests.{and-left, and-right}
+use Rattle.basics.proofs.Verdicts.{cond-accepted}
 
 pub or-else-left : (v w : Verdict) → (v or-else w) ≡ accepted → v ≡ accepted
 unfolding _or-else_
@@ -57,10 +58,6 @@ pub record Rows-good (left : ℕ) (tokens : List ℕ) : Type 0 where
   pub pairs : length tokens ≡ TOKEN-ROW * length (tokens-of tokens)
   pub covered : byte-count (tokens-of tokens) ≡ left
   pub good : All-good (tokens-of tokens)
-
-cond-accepted : (c : Bool) (v : Verdict) (r : Refusal) → cond c v (refused r) ≡ accepted → (c ≡ true) × (v ≡ accepted)
-cond-accepted true v r e = (refl, e)
-cond-accepted false v r e = let x : _≡_ {A = ℕ} 0 1 = cc in absurd (omega arith)
 
 rows-good : (i left : ℕ) (tokens : List ℕ) → check-rows i left tokens ≡ accepted → Rows-good left tokens
 unfolding check-rows tokens-of byte-count

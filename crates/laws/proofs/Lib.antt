@@ -11,7 +11,7 @@
 --   Placed, Between, Swept   placing loses no token; tokens are read off the file; all are taken
 --   Decode, Input, Accepted  rows give back their tree; what an accepted call passed, and what it returns
 --   NameLook, Names          an instance of the analysis: which names are taken
---   Leaves, LexicalErrors    the rows of leaves and of lexical errors
+--   Leaves, LexicalErrors, ReportNumbers   the rows of leaves, of lexical errors and of reports
 --   Lossless, Few, Limits    the statements `nothing-lost` and `limits`; how many expectations are pending
 --   Progress, FactsHold, Takes   an instance of the analysis: items, values and top-level parts take a token
 --   Witnesses, Refutations   computed cases that meet the premises; wrong answers that do not meet the conclusions
@@ -40,6 +40,7 @@ pub mod NameLook
 pub mod Names
 pub mod Leaves
 pub mod LexicalErrors
+pub mod ReportNumbers
 pub mod Lossless
 pub mod Few
 pub mod Limits

@@ -45,7 +45,7 @@ scan-append (exceeded x ∷ l) m z = refl
 
 -- ---------------------------------------------------------------- all fits
 
-stops-never : (r : Refusal) (z : Room) → stops r ≡ fits z → ⊥
+pub stops-never : (r : Refusal) (z : Room) → stops r ≡ fits z → ⊥
 stops-never r z e = let x : _≡_ {A = ℕ} 0 1 = cc in omega arith
 
 event-fits : (m e r p : ℕ) (k : Room → Fit) (z : Room) → one-event m e r p k ≡ fits z → (y : Room) × (k y ≡ fits z)

@@ -6,7 +6,7 @@ use mathlib.Core.Bool.{Bool, true, false, cond}
 use mathlib.Core.List.{List, [], _∷_}
 use lib.Dec.{leb, eqb}
 use lib.ListN.{length}
-use borrow.Author.Tests.{leb-true, ne-eqb, eq-eqb, eqb-true, eqb-false}
+use borrow.Author.Tests.{leb-true, ne-eqb}
 use Rattle.definitions.specs.LexError as L
 use Rattle.definitions.specs.TokenKind as K
 use Rattle.definitions.specs.Token.{Token, is-error, seen, trivia, drop-trivia, ended, one-of, first-in}
@@ -15,7 +15,7 @@ use Rattle.definitions.specs.Prog.{Ans, no, yes}
 use Rattle.definitions.specs.Run.{State, Out, replies, makes, taken, peeked, do-bump, add, do-argument}
 use Rattle.definitions.specs.Run as R
 use Rattle.definitions.specs.Report.{reports}
-use Rattle.basics.proofs.Tests.{cond-all}
+use Rattle.basics.proofs.Tests.{eqb-swap}
 use Rattle.laws.proofs.Trivia.{Solid, drop-none, dropped-solid}
 use Rattle.machine.specs.Machine.{Machine, rest}
 use Rattle.machine.specs.Machine as M
@@ -26,15 +26,9 @@ use Rattle.machine.proofs.Sticky.{s-argument}
 use Rattle.machine.proofs.Meets.{Sofar, Fitting, stand, grow, Sim, Tracks}
 use Rattle.machine.proofs.Taking.{quiet, bump-sim}
 use Rattle.machine.proofs.Sequences.{seq-with}
+use Rattle.laws.proofs.Trivia.{drop-trivia-length}
 
 -- ---------------------------------------------------------------- tests
-
-eqb-flip : (a b : ℕ) → eqb a b ≡ eqb b a
-eqb-flip a b = by (eqb b a) refl
-  where
-    by : (x : Bool) → eqb b a ≡ x → eqb a b ≡ x
-    by true e = eq-eqb a b (sym (eqb-true b a e))
-    by false e = ne-eqb a b (λ h. eqb-false b a e (sym h))
 
 -- the machine looks at the kind that is seen, the definitions at the row's: the same, for a kind that no error token is
 -- seen as
@@ -48,7 +42,7 @@ same-test k t l h u = by (leb L.UnexpectedEndIncbin (t .kind)) refl
 
     by : (b : Bool) → leb L.UnexpectedEndIncbin (t .kind) ≡ b → cond (eqb k (cond b K.Unrecognized (t .kind))) true false ≡ eqb (t .kind) k
     by true e = rw u (sym (ne-eqb (t .kind) k (λ q. let w : L.UnexpectedEndIncbin ≤ t .kind = leb-true _ _ e in absurd (omega arith))))
-    by false e = plain (eqb k (t .kind)) ∙ eqb-flip k (t .kind)
+    by false e = plain (eqb k (t .kind)) ∙ eqb-swap k (t .kind)
 
 -- ---------------------------------------------------------------- the argument's next token
 
@@ -130,11 +124,6 @@ module _ (g : Ground) (f : ℕ) (again : Argues g f) (c : Sofar) (s : State) (t 
       (either-sim (eqb (t .kind) K.LParen) _ _ _ _ (goes-sim (suc n))
       (either-sim (eqb (t .kind) K.RParen) _ _ _ _ (depth-sim n no (λ k. k)) (either-sim (eqb (t .kind) K.Comma) _ _ _ _ (depth-sim n yes suc) (goes-sim n))))
 
-length-trivia : (l : List Token) → length (drop-trivia l) ≤ length l
-unfolding drop-trivia
-length-trivia [] = omega arith
-length-trivia (t ∷ l) = cond-all (λ (u : List Token). length u ≤ suc (length l)) (trivia t) {x = drop-trivia l} {y = t ∷ l} (omega (arith, length-trivia l)) (omega arith)
-
 step-sim : (g : Ground) (f n : ℕ) → Argues g f → (c : Sofar) (s : State) (u : List Token) → Fitting g c → Inside g (moved s u) → Solid u → length u < suc f → Sim g c (do-argument n s u) (step g f n (stand g c (moved s u)) u)
 unfolding do-argument replies
 step-sim g f n again c s [] fit i solid short = quiet g c no 0 (moved s []) _ fit i refl
@@ -152,7 +141,7 @@ argues g (suc f) n c s l fit i short =
     subst (λ (o : Out). Sim g c o (argument (suc f) (g .tokens) n (stand g c (moved s l)))) (sym (argument-peeked n s l))
     (subst (λ (m : Machine). Sim g c (do-argument n s u) (step g f n m (rest (g .tokens) m))) (sym (peek-is g e x (moved s l) i))
     (subst (λ (v : List Token). Sim g c (do-argument n s u) (step g f n (stand g c (moved s u)) v)) (sym (rest-is g e x (moved s u) j))
-    (step-sim g f n (argues g f) c s u fit j (dropped-solid l) (omega (arith, length-trivia l)))))
+    (step-sim g f n (argues g f) c s u fit j (dropped-solid l) (omega (arith, drop-trivia-length l)))))
 
 pub argument-sim : (g : Ground) → Tracks g (λ s. do-argument 0 s (s .rest)) (λ m. argument (suc (length (rest (g .tokens) m))) (g .tokens) 0 m)
 argument-sim g c s fit i =

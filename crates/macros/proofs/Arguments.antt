@@ -6,7 +6,7 @@ use mathlib.Core.List.{List, [], _∷_}
 use native.Mathlib.Omega.{arith}
 use native.Mathlib.Numerals.{add-one}
 use lib.Dec.{eqb, leb}
-use borrow.Author.Tests.{leb-true, leb-false, eqb-true, eqb-false, eq-eqb, ne-eqb}
+use borrow.Author.Tests.{leb-false, eqb-true, eqb-false, ne-eqb}
 use lib.ListN.{length}
 use Rattle.definitions.specs.Layout.{TOKEN-ROW, TWO-TO-64}
 use Rattle.definitions.specs.TokenKind as K
@@ -25,6 +25,7 @@ use Rattle.parser.specs.declared.State.{State}
 use Rattle.macros.specs.declared.invocation.Role.{Role}
 use Rattle.macros.specs.declared.invocation.Role.the-variants.{Comma, End, Inside}
 use Rattle.macros.specs.Role.{within, one-less, role}
+use Rattle.basics.proofs.Tests.{eqb-swap}
 
 -- ---------------------------------------------------------------- `role_of`
 
@@ -84,13 +85,6 @@ as-machine false true d (suc n) p go = refl
 as-machine false false true zero p go = refl
 as-machine false false true (suc n) p go = refl
 as-machine false false false n p go = refl
-
-eqb-swap : (a b : ℕ) → eqb a b ≡ eqb b a
-eqb-swap a b = go (eqb a b) refl
-  where
-    go : (x : Bool) → eqb a b ≡ x → x ≡ eqb b a
-    go true e = sym (eq-eqb b a (sym (eqb-true a b e)))
-    go false e = sym (ne-eqb b a (λ h. eqb-false a b e (sym h)))
 
 -- a token is seen as one of these
 first-is : (k : ℕ) (t : Token) (l : List Token) → eqb (seen t) k ≡ first-in (k ∷ []) (t ∷ l)

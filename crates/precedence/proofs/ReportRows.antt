@@ -63,15 +63,3 @@ unfolding report-numbers
 nth-mark n b f zero (r ∷ l) z first = refl
 nth-mark n b f (suc q) (x ∷ l) z (later h) =
     ap (λ (y : List ℕ). getD y REPORT-MARK 0) (row-drop n b f q x l z) ∙ nth-mark n b (f + length (x .pool)) q l z h
-
-label-length : (b : ℕ) (x : Label) (l : List ℕ) → length (label-numbers b x l) ≡ suc (suc (length l))
-label-length b no-label l = refl
-label-length b (label s) l = refl
-
-pub reports-length : (n b f : ℕ) (l : List Report) → length (report-numbers n b f l) ≡ REPORT-ROW * length l
-unfolding report-numbers
-reports-length n b f [] = refl
-reports-length n b f (r ∷ l) =
-    let h = reports-length n b (f + length (r .pool)) l in
-    let g = label-length b (r .labelled) (report-numbers n b (f + length (r .pool)) l) in
-    omega arith

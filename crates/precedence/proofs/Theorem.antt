@@ -33,8 +33,9 @@ use Rattle.precedence.proofs.Symbols.{bracket-solid}
 use Rattle.precedence.proofs.Partner.{Partner, Heard-inside}
 use Rattle.precedence.proofs.Settle.{Clean, Faulty, Settled}
 use Rattle.precedence.proofs.Placed.{entry-settled}
-use Rattle.precedence.proofs.ReportRows.{nth-less, nth-there, reported-nth, nth-reported, nth-mark, reports-length}
+use Rattle.precedence.proofs.ReportRows.{nth-less, nth-there, reported-nth, nth-reported, nth-mark}
 use Rattle.precedence.proofs.TreeRows.{Found, find}
+use Rattle.laws.proofs.ReportNumbers.{report-numbers-length}
 
 -- ---------------------------------------------------------------- tokens by kind
 
@@ -97,7 +98,7 @@ module _ (e : Entry) (ts : List Token) (l : Buffers) (clear : None-exceeded (pus
 
   reports-count : r .answer .report-count ≡ length (reports all)
   unfolding sheets
-  reports-count = div-eq-of-eq-mul-right (omega arith) (reports-length (length ts) (byte-count ts) 0 (reports all))
+  reports-count = div-eq-of-eq-mul-right (omega arith) (report-numbers-length (length ts) (byte-count ts) 0 (reports all))
 
   -- report row q is a report's
   row-report : (q : ℕ) → q < r .answer .report-count → (rep : Report) × Reported rep all × (mark-in q (r .buffers .reports) ≡ length ts - rep .mark)

@@ -15,17 +15,7 @@ use Rattle.recovery.specs.ResultRows.{Row, class, kind, Subtrees, over-l
 use Rattle.recovery.specs.ResultRows as S
 use Rattle.recovery.specs.Recovery.{is-statement, Semicolon}
 use Rattle.recovery.proofs.Written.{rows-of}
-
--- ---------------------------------------------------------------- lists
-
-first-same : {A : Type 0} {x y : A} {l m : List A} → x ∷ l ≡ y ∷ m → x ≡ y
-first-same e = cc
-
-rest-same : {A : Type 0} {x y : A} {l m : List A} → x ∷ l ≡ y ∷ m → l ≡ m
-rest-same e = cc
-
-none-some : {A : Type 0} {x : A} {l : List A} → [] ≡ x ∷ l → ⊥
-none-some e = let z : _≡_ {A = ℕ} 0 1 = cc in omega arith
+use Rattle.basics.proofs.Lists.{first-same, rest-same, none-some}
 
 -- a node's row is not a leaf's
 node-leaf : (r : Row) (k w n : ℕ) → r ≡ LEAF ∷ k ∷ w ∷ n ∷ [] → class r ≡ NODE → ⊥

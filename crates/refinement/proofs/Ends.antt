@@ -1,9 +1,9 @@
 -- THE CALL'S END: the machine's end, the sink's promise and what is cleared, joined.
-use Prim.Native.Nat.{ℕ, suc, _+_, _-_, _*_, _/_, _≤_, _<_}
+use Prim.Native.Nat.{ℕ, _-_, _*_, _/_, _≤_}
 use native.Mathlib.Omega.{arith}
 use mathlib.Core.Path.{_≡_, refl, sym, ap, _∙_, subst}
-use mathlib.Core.Bool.{Bool, true, false, cond, _&&_}
-use mathlib.Core.List.{List, _++_}
+use mathlib.Core.Bool.{Bool, true, false, cond}
+use mathlib.Core.List.{List}
 use lib.Dec.{leb}
 use lib.ListN.{length, take, drop}
 use lib.Seq.{take-at}
@@ -16,23 +16,22 @@ use Rattle.definitions.specs.Place.{root, rows, lexical-errors}
 use Rattle.definitions.specs.Report.{Fit, fits, stops, scan, pushes, reports, report-numbers, pool}
 use Rattle.definitions.specs.Refusal.{Refusal, unknown-entry, too-long, bad-row, bad-text, too-deep, no-event-room, no-report-room, no-tree-room, number-of, place-of, accepted, check-input}
 use Rattle.definitions.specs.Grammar.{Entry, root-kind}
-use Rattle.definitions.specs.Call.{Buffers, Answer, Result, refusal, cleared, Sheets, sheets, kept, delivered, forward-mark, outcome, room-of, run-entry, parse}
+use Rattle.definitions.specs.Call.{Buffers, refusal, cleared, Sheets, sheets, kept, delivered, forward-mark, outcome, room-of, run-entry, parse}
 use Rattle.laws.proofs.Input.{Checked, checked-input}
 use Rattle.basics.proofs.Tests.{and-left, and-right}
 use Rattle.laws.proofs.Decode.{rows-length}
 use Rattle.laws.proofs.LexicalErrors.{errors-length}
 use Rattle.bounds.proofs.Numbers.{bounded}
-use Rattle.bounds.proofs.Written.{report-numbers-length}
-use Rattle.machine.specs.Machine.{Machine, Buffer}
+use Rattle.machine.specs.Machine.{Machine}
 use Rattle.machine.specs.Encode.{encode}
 use Rattle.machine.specs.Outcome.{onto, Starts-with, Not-refused, Refused, Ends}
 use Rattle.refinement.proofs.Machine.{entry-ends}
 use Rattle.sink.specs.declared.Sunk.{Sunk}
-use Rattle.sink.specs.declared.Sunk.the-variants.{Written, NoRoom}
-use Rattle.sink.specs.Promise.{Small, enough, Written-out, Placed, Promise}
+use Rattle.sink.specs.Promise.{Small, enough, Written-out, Placed}
 use Rattle.sink.proofs.Runs.{entry-chained}
-use Rattle.refinement.specs.Ends.{wiped, swept, refused-at, sunk-answer, after-sink, Same-lengths, Parsed, Call-ends, Calls-end}
+use Rattle.refinement.specs.Ends.{wiped, swept, refused-at, sunk-answer, after-sink, Same-lengths, Parsed, Calls-end}
 use Rattle.refinement.proofs.Wiped.{wiped-whole, wiped-written, held-length}
+use Rattle.laws.proofs.ReportNumbers.{report-numbers-length}
 
 -- a mark counted from the start leaves the cause as it is
 forward-number : (n : ℕ) (r : Refusal) → number-of (forward-mark n r) ≡ number-of r

@@ -17,9 +17,10 @@ use Rattle.definitions.specs.Refusal.{Refusal, unknown-entry, too-long, bad-row
 use Rattle.definitions.specs.Call.{Buffers, untouched, cleared, sheets, written, kept, room-of, run-entry}
 use Rattle.laws.proofs.Decode.{rows-length}
 use Rattle.laws.proofs.LexicalErrors.{errors-length}
-use Rattle.bounds.proofs.Written.{report-numbers-length}
 use Rattle.refusals.specs.Refusals.{entry-number, to-write, Tree-fits}
 use Rattle.refusals.specs.Answered.{Filled, Written, Returns}
+use Rattle.laws.proofs.ReportNumbers.{report-numbers-length}
+use Rattle.laws.proofs.Scan.{stops-never}
 
 -- ---------------------------------------------------------------- refusals
 
@@ -82,9 +83,6 @@ module _ (n : ℕ) (tokens : List ℕ) (b : Buffers) where
 -- the reports of what is pushed, and their expectations, are no more than there is room for
 abbrev In-room : List Push → ℕ → ℕ → Type 0
 In-room l r p = (length (reports l) ≤ r) × (length (pool (reports l)) ≤ p)
-
-stops-never : (r : Refusal) (y : Room) → stops r ≡ fits y → ⊥
-stops-never r y e = let x : _≡_ {A = ℕ} 0 1 = cc in omega arith
 
 event-room : (l : List Push) (m e r p : ℕ) (k : Room → Fit) (y : Room) → ((z : Room) → k z ≡ fits y → In-room l (z .reports) (z .pool)) → one-event m e r p k ≡ fits y → In-room l r p
 unfolding one-event

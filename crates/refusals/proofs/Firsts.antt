@@ -1,27 +1,9 @@
 -- Walking along a list in search of the first member of which a property does not hold; and that there is only one
 -- first.
-use native.Mathlib.Omega.{arith}
 use mathlib.Core.Path.{_≡_, refl, sym, ap, subst, subst₂, _∙_}
 use mathlib.Core.List.{List, [], _∷_, _++_, append-nil, append-assoc}
-use lib.ListN.{length}
+use Rattle.basics.proofs.Lists.{first-same, rest-same, none-some}
 use Rattle.refusals.specs.First.{Each, First}
-
-nil-cons : {A : Type 0} (x : A) (l : List A) → [] ≡ x ∷ l → ⊥
-nil-cons x l e = let h : 0 ≡ length (x ∷ l) = ap length e in omega (arith, h)
-
-abbrev first-of : {A : Type 0} → A → List A → A
-first-of d [] = d
-first-of d (x ∷ l) = x
-
-abbrev rest-of : {A : Type 0} → List A → List A
-rest-of [] = []
-rest-of (x ∷ l) = l
-
-same-first : {A : Type 0} (x y : A) (l m : List A) → x ∷ l ≡ y ∷ m → x ≡ y
-same-first x y l m e = ap (first-of x) e
-
-same-rest : {A : Type 0} (x y : A) (l m : List A) → x ∷ l ≡ y ∷ m → l ≡ m
-same-rest x y l m e = ap rest-of e
 
 module _ {A : Type 0} (P : List A → A → Type 0) where
   -- the same two, of a list after other members
@@ -35,14 +17,14 @@ module _ {A : Type 0} (P : List A → A → Type 0) where
     pub fails : ¬ P (pre ++ before) x
 
   pub each-nil : (pre : List A) → Each-after pre []
-  each-nil pre [] x after e = absurd (nil-cons x after e)
-  each-nil pre (y ∷ before) x after e = absurd (nil-cons y (before ++ (x ∷ after)) e)
+  each-nil pre [] x after e = absurd (none-some e)
+  each-nil pre (y ∷ before) x after e = absurd (none-some e)
 
   pub each-cons : (pre : List A) (x : A) (l : List A) → P pre x → Each-after (pre ++ (x ∷ [])) l → Each-after pre (x ∷ l)
-  each-cons pre x l h g [] y after e = subst₂ P (sym (append-nil pre)) (same-first x y l after e) h
+  each-cons pre x l h g [] y after e = subst₂ P (sym (append-nil pre)) (first-same e) h
   each-cons pre x l h g (z ∷ before) y after e =
-      subst (λ (w : List A). P w y) (append-assoc pre (x ∷ []) before ∙ ap (λ (w : A). pre ++ (w ∷ before)) (same-first x z l (before ++ (y ∷ after)) e))
-      (g before y after (same-rest x z l (before ++ (y ∷ after)) e))
+      subst (λ (w : List A). P w y) (append-assoc pre (x ∷ []) before ∙ ap (λ (w : A). pre ++ (w ∷ before)) (first-same e))
+      (g before y after (rest-same e))
 
   pub each-rest : (pre : List A) (x : A) (l : List A) → Each-after pre (x ∷ l) → Each-after (pre ++ (x ∷ [])) l
   each-rest pre x l h before y after e = subst (λ (w : List A). P w y) (sym (append-assoc pre (x ∷ []) before)) (h (x ∷ before) y after (ap (x ∷_) e))
@@ -70,12 +52,12 @@ data Cuts {A : Type 0} (before before′ : List A) (x x′ : A) : Type 0 where
   later : (rest : List A) → before ≡ before′ ++ (x′ ∷ rest) → Cuts before before′ x x′
 
 cuts : {A : Type 0} (before before′ after after′ : List A) (x x′ : A) → before ++ (x ∷ after) ≡ before′ ++ (x′ ∷ after′) → Cuts before before′ x x′
-cuts [] [] after after′ x x′ e = same refl (same-first x x′ after after′ e)
-cuts [] (y ∷ before′) after after′ x x′ e = earlier before′ (ap (_∷ before′) (sym (same-first x y after (before′ ++ (x′ ∷ after′)) e)))
-cuts (y ∷ before) [] after after′ x x′ e = later before (ap (_∷ before) (same-first y x′ (before ++ (x ∷ after)) after′ e))
+cuts [] [] after after′ x x′ e = same refl (first-same e)
+cuts [] (y ∷ before′) after after′ x x′ e = earlier before′ (ap (_∷ before′) (sym (first-same e)))
+cuts (y ∷ before) [] after after′ x x′ e = later before (ap (_∷ before) (first-same e))
 cuts {A} (y ∷ before) (y′ ∷ before′) after after′ x x′ e =
-    longer (same-first y y′ (before ++ (x ∷ after)) (before′ ++ (x′ ∷ after′)) e)
-    (cuts before before′ after after′ x x′ (same-rest y y′ (before ++ (x ∷ after)) (before′ ++ (x′ ∷ after′)) e))
+    longer (first-same e)
+    (cuts before before′ after after′ x x′ (rest-same e))
   where
     longer : y ≡ y′ → Cuts before before′ x x′ → Cuts (y ∷ before) (y′ ∷ before′) x x′
     longer h (same p q) = same (ap (y ∷_) p ∙ ap (_∷ before′) h) q

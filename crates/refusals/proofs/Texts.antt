@@ -1,13 +1,13 @@
 -- What the check of cause 4 finds, in the words of the statement.
 use Prim.Native.Nat.{ℕ, suc, _+_}
 use native.Mathlib.Omega.{arith}
-use mathlib.Core.Path.{_≡_, refl, sym, ap, ap₂, subst, _∙_}
+use mathlib.Core.Path.{_≡_, refl, sym, ap, subst, _∙_}
 use mathlib.Core.Bool.{Bool, true, false, cond, not, _&&_, false≢true}
 use mathlib.Core.List.{List, [], _∷_, _++_}
 use lib.Dec.{eqb}
 use lib.ListN.{length, take, drop, length-append}
 use lib.Seq.{drop-drop}
-use borrow.Author.Tests.{eqb-true, eqb-false, eq-eqb, not-true}
+use borrow.Author.Tests.{eqb-false, not-true}
 use Rattle.definitions.specs.Token.{Token, byte-count}
 use Rattle.definitions.specs.StaticText.{Text, static-texts, same, fits-text}
 use Rattle.definitions.specs.Refusal.{bad-text, Verdict, accepted, refused, check-texts}
@@ -17,6 +17,7 @@ use Rattle.refusals.specs.Refusals.{Right-text}
 use Rattle.refusals.proofs.Firsts.{Each-after, First-after, each-nil, each-cons, each-rest, first-here, first-later, from-nothing}
 use Rattle.refusals.proofs.Tests.{Decides, holds, not-so, eqb-decides}
 use Rattle.refusals.proofs.Rows.{bytes-more}
+use Rattle.basics.proofs.Texts.{same-true, same-refl}
 
 -- whether a kind is not in a table, and whether no kind of a table is in it twice
 unfoldable absent : ℕ → List Text → Bool
@@ -32,23 +33,11 @@ static-once : once static-texts ≡ true
 unfolding once
 static-once = refl
 
-same-equal : (xs ys : List ℕ) → same xs ys ≡ true → ys ≡ xs
-unfolding same
-same-equal [] [] e = refl
-same-equal [] (y ∷ ys) e = absurd (false≢true e)
-same-equal (x ∷ xs) [] e = absurd (false≢true e)
-same-equal (x ∷ xs) (y ∷ ys) e = ap₂ _∷_ (sym (eqb-true x y (and-left (eqb x y) _ e))) (same-equal xs ys (and-right (eqb x y) _ e))
-
-same-refl : (xs : List ℕ) → same xs xs ≡ true
-unfolding same
-same-refl [] = refl
-same-refl (x ∷ xs) = rw (eq-eqb x x refl) (same-refl xs)
-
 same-decides : (xs ys : List ℕ) → Decides (ys ≡ xs) (same xs ys)
 same-decides xs ys = by (same xs ys) refl
   where
     by : (t : Bool) → same xs ys ≡ t → Decides (ys ≡ xs) t
-    by true e = holds (same-equal xs ys e)
+    by true e = holds (sym (same-true xs ys e))
     by false e = not-so (λ (h : ys ≡ xs). false≢true (sym e ∙ ap (same xs) h ∙ same-refl xs))
 
 -- an entry of the table for this kind has these bytes

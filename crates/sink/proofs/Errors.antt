@@ -20,16 +20,6 @@ use Rattle.sink.proofs.Steps.{From, from-kind, from-len, from-past}
 abbrev pub found : Log → ℕ
 found (log n e) = n
 
-pub errors-length : (b : ℕ) (ts : List Token) → length (lexical-errors b ts) ≡ errors-in ts * ERROR-ROW
-unfolding lexical-errors errors-in
-errors-length b [] = refl
-errors-length b (t ∷ ts) = go (errors-length (b + t .len) ts) (is-error (t .kind))
-  where
-    go : length (lexical-errors (b + t .len) ts) ≡ errors-in ts * ERROR-ROW → (x : Bool)
-        → length (cond x (t .kind ∷ b ∷ (b + t .len) ∷ lexical-errors (b + t .len) ts) (lexical-errors (b + t .len) ts)) ≡ cond x (suc (errors-in ts)) (errors-in ts) * ERROR-ROW
-    go h true = omega arith
-    go h false = h
-
 pub errors-few : (ts : List Token) → errors-in ts ≤ length ts
 unfolding errors-in
 errors-few [] = omega arith

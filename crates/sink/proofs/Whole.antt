@@ -8,7 +8,7 @@ use lib.ListN.{length, drop, replicate, length-replicate}
 use lib.Dec.{leb}
 use borrow.Author.Tests.{leb-true}
 use Rattle.definitions.specs.Layout.{TREE-ROW, EVENT-ROW, ERROR-ROW}
-use Rattle.definitions.specs.Token.{Token, tokens-of, byte-count}
+use Rattle.definitions.specs.Token.{Token, tokens-of}
 use Rattle.definitions.specs.Skeleton.{Skeleton}
 use Rattle.definitions.specs.Refusal.{no-tree-room, number-of}
 use Rattle.definitions.specs.Place.{nil, subtree, _⊕_, lead, after, place, root, count, rows, tree-row, lexical-errors}
@@ -28,7 +28,8 @@ use Rattle.sink.proofs.Grow.{Filled, state, grow, grow-grow, Fits, fits
 use Rattle.sink.proofs.Steps.{From, from-grown, trivia-runs, inside, finish-runs}
 use Rattle.sink.proofs.Main.{Runs, Sinks, sinks, fits-inside}
 use Rattle.sink.proofs.Same.{rows-alike}
-use Rattle.sink.proofs.Errors.{found, errors-length, errors-count, errors-written}
+use Rattle.sink.proofs.Errors.{found, errors-count, errors-written}
+use Rattle.laws.proofs.LexicalErrors.{errors-length}
 
 -- nothing written yet
 abbrev pub begin : List ℕ → Filled
@@ -127,7 +128,8 @@ module _ (k : ℕ) (o : Skeleton) (tokens : List ℕ) (c : Chained o) (small : S
   answer-is t e =
       answered-is (length t) (length e) (events-on k tokens (encode false o) t) (errors-on tokens e) (row-count (root k o (tokens-of tokens))) (errors-in (tokens-of tokens)) (tree-count t) (errors-count tokens e (small .numbers))
       ∙ (let z : row-count (root k o (tokens-of tokens)) * TREE-ROW ≡ length (rows (root k o (tokens-of tokens))) = omega (arith, rows-length (root k o (tokens-of tokens))) in
-      rw (z, sym (errors-length 0 (tokens-of tokens))))
+      let y : errors-in (tokens-of tokens) * ERROR-ROW ≡ length (lexical-errors 0 (tokens-of tokens)) = omega (arith, errors-length 0 (tokens-of tokens)) in
+      rw (z, y))
 
   -- where both fit
   whole-written : (t e : List ℕ) → length (rows (root k o (tokens-of tokens))) ≤ length t → length (lexical-errors 0 (tokens-of tokens)) ≤ length e
