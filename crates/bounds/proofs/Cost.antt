@@ -10,7 +10,8 @@ use Rattle.definitions.specs.Prog.{Ans, no, yes, also, again, Rule, Act, silent
 use Rattle.bounds.proofs.Row.{Key, still, there, took, Row, get, moved, any, at, _⊔_, raise, then, stopped, turns}
 
 -- what a token or a name costs, what a marker (its two events), what a report; what a token that the cursor passes
--- brings; and the number that stands for cost 0
+-- brings;
+-- and the number that stands for cost 0
 pub record Price : Type 0 where
   pub leaf : ℕ
   pub marker : ℕ

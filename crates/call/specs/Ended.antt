@@ -28,7 +28,8 @@ sunk-with (Written t e) r n = accepted-with t e (r / REPORT-ROW) n
 sunk-with NoRoom r n = refused-with NO-TREE-ROOM 0
 
 -- root-kind: that of the root's node. events-written, reports-written, pool-written: how many numbers the parse wrote
--- to these buffers. trees, errors: these buffers before the sink, and after it.
+-- to these buffers.
+-- trees, errors: these buffers before the sink, and after it.
 pub record Sinks (root-kind events-written reports-written pool-written : ℕ) (tokens events trees errors : List ℕ) (a : Answer)
     (trees′ errors′ : List ℕ) : Type 0 where
   pub sunk : Sunk

@@ -1,5 +1,6 @@
 -- C's expressions, from the public precedence table (cppreference, "C operator precedence"), over document 01's
--- operands and operators. Nothing here knows of a parser or of a binding power.
+-- operands and operators.
+-- Nothing here knows of a parser or of a binding power.
 use Prim.Native.Nat.{ℕ, zero, suc, _≤_, _<_}
 use mathlib.Core.Path.{_≡_}
 use mathlib.Core.Bool.{Bool, true, false, cond, _&&_}

@@ -205,7 +205,8 @@ iter (suc n) f s =
     cond (goes-on s o) more turn
 
 -- A chain ends: its open marker, pushed at mark m, is ignored. a: the chain's node so far, which that marker precedes,
--- or nothing. i: what was made since that marker. x: the answer.
+-- or nothing.
+-- i: what was made since that marker. x: the answer.
 unfoldable pub unlinked : ℕ → Skeleton → Skeleton → Ans → State → Out
 unfolding makes closed
 unlinked m a i x s = makes x (closed 0 m (mark-of s) a i) s

@@ -1,5 +1,6 @@
--- What a run makes: one skeleton. Events, reports and the tree are all read off it. Places are counted from the end of
--- the file: a mark is the number of raw tokens left, a byte place the number of bytes left.
+-- What a run makes: one skeleton. Events, reports and the tree are all read off it.
+-- Places are counted from the end of the file: a mark is the number of raw tokens left, a byte place the number of
+-- bytes left.
 use Prim.Native.Nat.{ℕ}
 use mathlib.Core.List.{List}
 use Rattle.definitions.specs.Token.{Token}

@@ -18,7 +18,8 @@ use Rattle.pending.specs.Pending.{Repeats}
 -- each under its listed condition only, and every lent buffer then holds what document 01 says.
 pub record Promise-1 : Type 0 where
   -- By the number, which is at most 8: the buffers are written and then zero, as they were, or all zero; a refusal's
-  -- counts are 0. refusals/specs/Answered.antt.
+  -- counts are 0.
+  -- refusals/specs/Answered.antt.
   pub answered : Answered
   -- Each of 0 to 8 with its place, if and only if its line of document 01's table applies.
   -- refusals/specs/Refusals.antt, over Trace.antt.
@@ -28,7 +29,8 @@ pub record Promise-1 : Type 0 where
 -- (docs/READING.md).
 pub record Promise-2 : Type 0 where
   -- The leaves in order are the tokens, each width is the sum below it, the lexical errors are the error tokens in
-  -- order. laws/specs/Lossless.antt, over TreeRows.antt.
+  -- order.
+  -- laws/specs/Lossless.antt, over TreeRows.antt.
   pub nothing-lost : Nothing-lost
   -- The tokens between a cell's bracket and its partner are read as the tree that C's table gives, or there is a
   -- report. precedence/specs/Precedence.antt, over definitions/specs/C.antt.
@@ -36,7 +38,8 @@ pub record Promise-2 : Type 0 where
   -- C's table gives one tree only.
   pub one-tree : One-tree
   -- A bracket that starts a cell starts a DtExpr, of which the two lines above speak; and no LParen stands where none
-  -- can. brackets/specs/Brackets.antt.
+  -- can.
+  -- brackets/specs/Brackets.antt.
   pub brackets-proper : Brackets-proper
   -- Where no RParen balances a cell's bracket, an error is reported. brackets/specs/Partner.antt.
   pub partner-missed : Partner-missed
@@ -59,7 +62,8 @@ pub record Beside : Type 0 where
   pub words-so-far : Words-so-far
   pub numbers-fit : Numbers-fit
   -- The definitions' clauses for a turn that does not move, a take at the end of input and a failed assertion are never
-  -- used. turns/specs/Turns.antt, over run_steps/specs/Steps.antt.
+  -- used.
+  -- turns/specs/Turns.antt, over run_steps/specs/Steps.antt.
   pub turns : Turns
   -- The steps of which the line above and the one below speak leave out no report and no refusal 5.
   -- run_steps/specs/Signs.antt.

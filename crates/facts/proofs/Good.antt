@@ -20,7 +20,8 @@ pub record Begun (p : Prog) (s : State) : Type 0 where
   pub holds : Holds known turn s
 
 -- A condition does not answer again. A turn that answers again has moved the cursor, and a link that does has shaped
--- its marker. No loop and no chain runs out of turns.
+-- its marker.
+-- No loop and no chain runs out of turns.
 abbrev pub Good : Step → Type 0
 Good (begun p s) = Begun p s
 Good (branched a) = is-again a ≡ false

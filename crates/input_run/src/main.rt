@@ -1,5 +1,6 @@
 // Causes 2, 3 and 4 of document 01 at their exact boundaries: each line is a cause and a place, 0 0 where the input is
-// sound. What is tried stands beside each call; the expected lines are in stdout.
+// sound.
+// What is tried stands beside each call; the expected lines are in stdout.
 use input::causes;
 use input::causes::Checked;
 use layout::refusal;

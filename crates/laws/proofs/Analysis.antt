@@ -1,6 +1,7 @@
 -- Analyses that compute on programs: what is known at each place that a program comes to, by the answers given on the
--- way there. A domain says what facts there are and what each action does to them. `Look` below is the analysis; its
--- soundness is in Sound.antt.
+-- way there.
+-- A domain says what facts there are and what each action does to them. `Look` below is the analysis; its soundness is
+-- in Sound.antt.
 use mathlib.Core.Bool.{Bool, true, cond, _&&_}
 use Rattle.definitions.specs.Prog.{Ans, no, yes, also, again, Rule, Act, Prog, ret, act, _⨟_, case, in-marker, loop, chain, brace, open-call}
 

@@ -14,9 +14,9 @@ use Rattle.basics.proofs.Tests.{cond-all, and-left, and-right, and-both}
 
 -- ---------------------------------------------------------------- the general form
 
--- Q s o: a property of the result o of a run from the state s. C s m a i u: a property of a chain under way that began
--- at s and has come to u: its open marker was pushed at mark m, a is the chain's node so far, i what was made since
--- that marker. Kept by putting programs together:
+-- Q s o: a property of the result o of a run from the state s.
+-- C s m a i u: a property of a chain under way that began at s and has come to u: its open marker was pushed at mark m,
+-- a is the chain's node so far, i what was made since that marker. Kept by putting programs together:
 pub record Composes (Q : State → Out → Type 0) (C : State → ℕ → Skeleton → Skeleton → State → Type 0) : Type 0 where
   pub idle : (a : Ans) (s : State) → Q s (record { ans = a; shape = 0; made = done; state = s })
   pub add : (s : State) (o o′ : Out) → Q s o → Q (o .state) o′ → Q s (add o o′)

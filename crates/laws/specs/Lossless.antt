@@ -35,7 +35,8 @@ Of-name [] = Unit {0}
 Of-name (t ∷ ts) = (one-of NAME-SET (seen t) ≡ true) × Of-name ts
 
 -- the kind of a leaf that stands for some raw tokens: the kind of its one token, which is 25 (Unrecognized) for an
--- error token; or 26 (Name), for the raw tokens of a name
+-- error token;
+-- or 26 (Name), for the raw tokens of a name
 pub data Kind-of (k : ℕ) : List Token → Type 0 where
   one-token : (t : Token) → k ≡ seen t → Kind-of k (t ∷ [])
   a-name : (t : Token) (ts : List Token) → k ≡ K.Name → Of-name (t ∷ ts) → Kind-of k (t ∷ ts)

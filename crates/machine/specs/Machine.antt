@@ -19,7 +19,8 @@ pub record Buffer : Type 0 where
   pub numbers : List ℕ
 
 -- cursor and mark: token indexes. byte: the first byte of the token at the cursor. mark-byte: the end of the last token
--- taken. refusal: the first of 5 to 7, or 0, and place: the mark at that moment.
+-- taken.
+-- refusal: the first of 5 to 7, or 0, and place: the mark at that moment.
 pub record Machine : Type 0 where
   pub cursor : ℕ
   pub byte : ℕ

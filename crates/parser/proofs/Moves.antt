@@ -1,5 +1,6 @@
 -- What each step of the literal machine comes to, in plain variables: the cursor's moves, refusals, events, tokens and
--- names taken. A need of the code cites one of these.
+-- names taken.
+-- A need of the code cites one of these.
 use Prim.Native.Nat.{ℕ, _+_, _-_, _*_, _/_, _≤_, _<_}
 use mathlib.Core.Path.{_≡_, refl, sym, _∙_, ap}
 use mathlib.Core.Bool.{Bool, true, false, cond, _&&_}

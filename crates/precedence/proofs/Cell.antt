@@ -75,7 +75,8 @@ module _ (n : ℕ) (b : Label) where
 -- ---------------------------------------------------------------- the judgement
 
 -- Between the bracket and `close` stands `inner`; m is the mark at the end, and i what was made from the bracket on.
--- C's table gives a tree: no report was made, and i is that tree between its brackets.
+-- C's table gives a tree:
+-- no report was made, and i is that tree between its brackets.
 pub record Good (inner : List Token) (close : Token) (after : List Token) (m : ℕ) (i : Skeleton) : Type 0 where
   pub tree : Expr
   pub gives : Gives (symbols false inner) tree

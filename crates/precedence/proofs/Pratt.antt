@@ -52,7 +52,8 @@ is k arguments = false
 -- ---------------------------------------------------------------- results
 
 -- done: a tree and the symbols after it. report: the first report, with the symbols not taken when it is made. refused:
--- a 65th open call. spent: the loop's bound is reached, which never happens.
+-- a 65th open call.
+-- spent: the loop's bound is reached, which never happens.
 pub data Res : Type 0 where
   done : Expr → List Symbol → Res
   report : List Symbol → Res

@@ -1,5 +1,6 @@
 -- THE TWO TABLES BESIDE EACH OTHER: the binding powers of expr.rs, which the definitions hold, and the lines of C's
--- table. It excludes an operator at the wrong level, or one that groups the wrong way round.
+-- table.
+-- It excludes an operator at the wrong level, or one that groups the wrong way round.
 use Prim.Native.Nat.{ℕ, suc, _+_, _*_, _≤_, _<_}
 use mathlib.Core.Path.{_≡_}
 use mathlib.Core.Bool.{false}

@@ -14,10 +14,13 @@ use Rattle.recovery.specs.Recovery.{is-statement}
 pub data Rank : Type 0 where
   low mid high : Rank
 
--- What is known of a run, from the state in which it began. still: it made nothing and changed nothing. head: the
--- current token may be a semicolon now. tail: of the last thing made. low: it is not a semicolon's leaf; mid: if it is,
--- the run stands right after it; high: unknown. part: of the parts made. low: no statement among them ends in a
--- semicolon of its own; mid: only the last may, and then the run stands right after it; high: unknown.
+-- What is known of a run, from the state in which it began.
+-- still: it made nothing and changed nothing.
+-- head: the current token may be a semicolon now.
+-- tail: of the last thing made. low: it is not a semicolon's leaf; mid: if it is, the run stands right after it; high:
+-- unknown.
+-- part: of the parts made. low: no statement among them ends in a semicolon of its own; mid: only the last may, and
+-- then the run stands right after it; high: unknown.
 pub record Known : Type 0 where
   pub still : Bool
   pub head : Bool

@@ -36,11 +36,11 @@ unfoldable pub is-statement : ℕ → Bool
 unfolding one-of
 is-statement = one-of (N.DtProperty ∷ N.DtNode ∷ N.DtsDirective ∷ [])
 
--- A semicolon in tree rows that is the own last leaf of a top-level property, node or directive. document 01: a
--- top-level part is a child of the root; a part's own last leaf is a direct child of it and its last. before: the rows
--- of the root's children before the part. inside: those of the part's children before the semicolon. later: document
--- 01's later parts, the root's children after the part, with every tree row under them. All rows that follow are
--- theirs.
+-- A semicolon in tree rows that is the own last leaf of a top-level property, node or directive.
+-- document 01: a top-level part is a child of the root; a part's own last leaf is a direct child of it and its last.
+-- before: the rows of the root's children before the part. inside: those of the part's children before the semicolon.
+-- later: document 01's later parts, the root's children after the part, with every tree row under them. All rows that
+-- follow are theirs.
 pub record Semicolon (l : List Row) : Type 0 where
   pub root : Row
   pub before : List Row

@@ -13,10 +13,11 @@ use Rattle.definitions.specs.Grammar.{grammar, Entry, whole}
 use Rattle.definitions.specs.Skeleton.{Label, no-label}
 use Rattle.definitions.specs.Run.{State, Out, taken, is-again, goes-on, by-shape, here, exec, run}
 
--- begun: a program begins at a state. branched: the condition of a `case` gave this answer. turned: a turn of a loop,
--- begun at the state, gave this. linked: the same of a link of a chain. spent: a loop or a chain is to go on, and no
--- turn is left of those that it may make (one more than tokens are left when it begins). exceeded: a 65th open call or
--- a 257th pending expectation. The run is refused here, with number 5.
+-- begun: a program begins at a state. branched: the condition of a `case` gave this answer.
+-- turned: a turn of a loop, begun at the state, gave this. linked: the same of a link of a chain.
+-- spent: a loop or a chain is to go on, and no turn is left of those that it may make (one more than tokens are left
+-- when it begins).
+-- exceeded: one open call or one pending expectation too many. The run is refused here, with number 5.
 pub data Step : Type 0 where
   begun : Prog → State → Step
   branched : Ans → Step

@@ -21,7 +21,8 @@ unfoldable pub tree-field : ℕ → ℕ → List ℕ → ℕ
 tree-field row j trees = cond (leb (row * TREE-ROW + TREE-ROW) (length trees)) (getD trees (row * TREE-ROW + j) 0) 0
 
 -- the numbers of an open row: its parent's row, its kind, its first byte, and how many children its parent had before
--- it. Those of the finished row take their places.
+-- it.
+-- Those of the finished row take their places.
 abbrev pub PARENT : ℕ
 PARENT = 0
 

@@ -1,5 +1,6 @@
 -- CLAUSES THAT NO RUN USES. The definitions must say what happens everywhere, so they have clauses for what the Rust
--- cannot come to. Here: no run comes to them, with any entry and any list of tokens, up to refusal 5 where it meets it.
+-- cannot come to.
+-- Here: no run comes to them, with any entry and any list of tokens, up to refusal 5 where it meets it.
 use Prim.Native.Nat.{ℕ, _<_}
 use mathlib.Core.Path.{_≡_}
 use mathlib.Core.Bool.{true, false}

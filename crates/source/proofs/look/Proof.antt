@@ -1,8 +1,8 @@
 -- `look` meets its contract: a walk of its MIR, by hand. The view that `new` returns is passed to the other functions
--- of the view, a copy to each. All that the proof knows of them is that each meets its contract. The machine value of a
--- view is stored and passed on as it is. In a local MIR erases the lifetime of the struct's type, so the value is shown
--- to have the type at `erased`: what the struct owns does not say the lifetime's name. Before the locals stand the
--- things owned; with e of them, local i stands at 2 · (11 − i) + e.
+-- of the view, a copy to each. All that the proof knows of them is that each meets its contract.
+-- The machine value of a view is stored and passed on as it is. In a local MIR erases the lifetime of the struct's
+-- type, so the value is shown to have the type at `erased`: what the struct owns does not say the lifetime's name.
+-- Before the locals stand the things owned; with e of them, local i stands at 2 · (11 − i) + e.
 use mathlib.Core.Path.{_≡_, refl, ap}
 use Prim.Native.Nat.{ℕ, _<_, _^_}
 use mathlib.Core.List.{List, [], _∷_}

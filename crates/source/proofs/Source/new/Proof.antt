@@ -1,6 +1,7 @@
 -- `Source::new` meets its contract: a walk of its MIR, by hand. A view is made of the rows and the place passed, in the
--- result's local. A `&[u32]` is Copy, so what it owns is had twice: once for tokens at exit, and once inside the
--- result, beside the facts of cursor.
+-- result's local.
+-- A `&[u32]` is Copy, so what it owns is had twice: once for tokens at exit, and once inside the result, beside the
+-- facts of cursor.
 use mathlib.Core.Path.{refl}
 use Prim.Native.Nat.{ℕ}
 use mathlib.Core.List.{List, [], _∷_}

@@ -1,7 +1,8 @@
 -- `Source::next_token` meets its contract: a walk of its MIR, by hand. The view is taken apart, `past_token` is called
 -- on the rows and the place, and a view is made of the rows and the place that it returns. All that the proof knows of
--- `past_token` is that it meets its contract. The view is Copy: what it owns is had once for the callee, once for the
--- exit, and once, with the new place's facts, for the result (`Held`).
+-- `past_token` is that it meets its contract.
+-- The view is Copy: what it owns is had once for the callee, once for the exit, and once, with the new place's facts,
+-- for the result (`Held`).
 use mathlib.Core.Path.{_≡_, refl, ap, subst}
 use mathlib.Core.List.{List, [], _∷_}
 use lib.Dec.{T as Holds}

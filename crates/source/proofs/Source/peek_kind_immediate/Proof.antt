@@ -1,7 +1,8 @@
 -- `Source::peek_kind_immediate` meets its contract: a walk of its MIR, by hand. The view is taken apart, and the
 -- parser's `kind_at` is called on the rows and the place. All that the proof knows of `kind_at` is that it meets its
--- contract. The view is Copy: it is kept whole for the exit, and what tokens owns goes to the callee, beside the
--- lifetime's token, which comes back (`Held`).
+-- contract.
+-- The view is Copy: it is kept whole for the exit, and what tokens owns goes to the callee, beside the lifetime's
+-- token, which comes back (`Held`).
 use mathlib.Core.Path.{_≡_, refl}
 use Prim.Native.Nat.{ℕ, _<_, _/_, _^_}
 use mathlib.Core.List.{[], _∷_}
