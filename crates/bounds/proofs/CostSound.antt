@@ -7,8 +7,8 @@ use mathlib.Core.Bool.{Bool, true, false, cond, _&&_}
 use lib.ListN.{length}
 use borrow.Author.Tests.{leb-false}
 use Rattle.definitions.specs.Skeleton.{Label, done}
-use Rattle.definitions.specs.Prog.{Ans, no, yes, also, again, Rule, Act, Prog, ret, act, _⨟_, case, in-marker, loop, chain, brace, open-call}
-use Rattle.definitions.specs.Run.{State, Out, mark-of, makes, add, choose, marked, iter, chained, here as here-label, perform, exec}
+use Rattle.definitions.specs.Prog.{choose, Ans, no, yes, also, again, Rule, Act, Prog, ret, act, _⨟_, case, in-marker, loop, chain, brace, open-call}
+use Rattle.definitions.specs.Run.{State, Out, mark-of, makes, add, marked, iter, chained, here as here-label, perform, exec}
 use Rattle.basics.proofs.Tests.{cond-with, and-left, and-right}
 use Rattle.bounds.proofs.Row.{Key, still, there, took, Row, get, any}
 use Rattle.bounds.proofs.Cost.{Price, Bill, side, seq-row, case-row, seq-bill, case-bill, answers-also, never, raise-bill, pays, loop-bill, chain-bill, bill}

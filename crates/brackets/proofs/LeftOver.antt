@@ -10,11 +10,11 @@ use Rattle.definitions.specs.Layout.{MOST-PENDING}
 use Rattle.definitions.specs.Errors as E
 use Rattle.definitions.specs.NodeKind as N
 use Rattle.definitions.specs.Token.{Token, seen, drop-trivia}
-use Rattle.definitions.specs.Prog.{Rule, Prog, _⨟_, loop}
+use Rattle.definitions.specs.Prog.{choose, Rule, Prog, _⨟_, loop}
 use Rattle.definitions.specs.Check.{in-node, error! }
 use Rattle.definitions.specs.Grammar.{left-over, left-over-turn}
 use Rattle.definitions.specs.Skeleton.{Label, done, token, _⧺_}
-use Rattle.definitions.specs.Run.{State, Out, mark-of, peeked, replies, makes, taken, do-emit, do-expected, over-unless, perform, add, choose, marked, is-again, goes-on, iter, exec}
+use Rattle.definitions.specs.Run.{State, Out, mark-of, peeked, replies, makes, taken, do-emit, do-expected, over-unless, perform, add, marked, is-again, goes-on, iter, exec}
 use Rattle.laws.proofs.Trivia.{drop-twice, drop-trivia-length}
 use Rattle.laws.proofs.Swept.{turn-ends, turn-takes}
 use Rattle.brackets.specs.Brackets.{Outline, end, leaves-only, first-leaf}

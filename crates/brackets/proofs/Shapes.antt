@@ -3,9 +3,9 @@ use Prim.Native.Nat.{zero, suc}
 use mathlib.Core.Path.{_≡_, refl}
 use mathlib.Core.Bool.{true, false≢true}
 use lib.ListN.{length}
-use Rattle.definitions.specs.Prog.{Ans, no, yes, also, again, Rule, Prog, ret, act, _⨟_, case, in-marker, loop, chain, brace, open-call}
+use Rattle.definitions.specs.Prog.{choose, Ans, no, yes, also, again, Rule, Prog, ret, act, _⨟_, case, in-marker, loop, chain, brace, open-call}
 use Rattle.definitions.specs.Skeleton.{Label}
-use Rattle.definitions.specs.Run.{State, Out, makes, add, choose, marked, here, exec}
+use Rattle.definitions.specs.Run.{State, Out, makes, add, marked, here, exec}
 use Rattle.basics.proofs.Tests.{and-left, and-right}
 use Rattle.laws.proofs.Shape.{iter-shape, chained-shape}
 use Rattle.brackets.proofs.Look.{shapeless}

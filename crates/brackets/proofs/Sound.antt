@@ -5,10 +5,10 @@ use mathlib.Core.Path.{_≡_, refl, sym, subst}
 use mathlib.Core.Bool.{Bool, true, false, _&&_}
 use mathlib.Core.List.{List}
 use lib.ListN.{length}
-use Rattle.definitions.specs.Prog.{Ans, no, yes, also, again, Rule, Prog, ret, act, _⨟_, case, in-marker, loop, chain, brace, open-call}
+use Rattle.definitions.specs.Prog.{choose, Ans, no, yes, also, again, Rule, Prog, ret, act, _⨟_, case, in-marker, loop, chain, brace, open-call}
 use Rattle.definitions.specs.Token.{drop-trivia}
 use Rattle.definitions.specs.Skeleton.{Label, done}
-use Rattle.definitions.specs.Run.{State, Out, mark-of, makes, add, choose, marked, is-again, iter, unlinked, links, chained, here, exec, run}
+use Rattle.definitions.specs.Run.{State, Out, mark-of, makes, add, marked, is-again, iter, unlinked, links, chained, here, exec, run}
 use Rattle.basics.proofs.Tests.{cond-with, and-left, and-right}
 use Rattle.laws.proofs.Kept.{Stands}
 use Rattle.laws.proofs.Onward.{Goes, run-goes, exec-goes}

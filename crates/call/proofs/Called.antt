@@ -8,7 +8,7 @@ use lib.Dec.{eqb}
 use lib.ListN.{length, take}
 use borrow.Author.Tests.{eqb-true, eqb-false}
 use Rattle.definitions.specs.Token.{tokens-of}
-use Rattle.definitions.specs.Refusal.{unknown-entry, no-tree-room, Verdict, accepted, check-input, number-of, place-of}
+use Rattle.definitions.specs.Refusal.{unknown-entry, Verdict, accepted, check-input, number-of, place-of}
 use Rattle.definitions.specs.Grammar.{Entry, root-kind}
 use Rattle.definitions.specs.Call.{Buffers, Result, refusal, parse, Asked, for, unknown, entry-of, checked, asked, call}
 use Rattle.machine.specs.Machine.{Machine}
@@ -18,7 +18,7 @@ use Rattle.sink.specs.Promise.{Promise}
 use Rattle.refinement.specs.Ends.{swept, sunk-answer, after-sink, Parsed, Call-ends}
 use Rattle.refinement.proofs.Ends.{calls-end}
 use Rattle.call.specs.declared.Answer.{Answer}
-use Rattle.call.specs.Result.{answer-of, buffers-of, result-of}
+use Rattle.call.specs.Result.{answer-of, result-of}
 use Rattle.call.specs.Ended.{sunk-with, Sinks, Ended}
 
 -- ---------------------------------------------------------------- the parse

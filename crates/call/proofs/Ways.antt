@@ -9,7 +9,7 @@ use lib.ListN.{length, take}
 use borrow.Author.Tests.{eqb-true, eqb-false}
 use Rattle.definitions.specs.Layout.{TREE-ROW, ERROR-ROW, REPORT-ROW, NO-TREE-ROOM, TWO-TO-32, TWO-TO-64}
 use Rattle.definitions.specs.Refusal.{Refusal, Verdict, accepted, refused, check-input}
-use Rattle.definitions.specs.Call.{Buffers, Result, refusal, checked}
+use Rattle.definitions.specs.Call.{refusal, checked}
 use Rattle.sink.specs.declared.Sunk.{Sunk}
 use Rattle.sink.specs.declared.Sunk.the-variants.{Written, NoRoom}
 use Rattle.sink.specs.Promise.{Promise}

@@ -19,6 +19,13 @@ use mathlib.Core.List.{List}
 pub data Ans : Type 0 where
   no yes also again : Ans
 
+-- by an answer: n for no, y for yes and again, a for also
+unfoldable pub choose : {A : Type 0} → Ans → A → A → A → A
+choose no n y a = n
+choose yes n y a = y
+choose also n y a = a
+choose again n y a = y
+
 -- The functions that document 01 counts while they are open. They call each other in a cycle.
 -- propvalues: whether a semicolon ends them (`ending_kinds`). eat-cell: `AT_END`. expr-binding-power: `min_bp`.
 pub data Rule : Type 0 where

@@ -10,7 +10,7 @@ use Rattle.definitions.specs.TokenKind as K
 use Rattle.definitions.specs.Errors as E
 use Rattle.definitions.specs.Token.{Token, seen, trivia, drop-trivia, byte-count, past, ended, one-of, first-in}
 use Rattle.definitions.specs.Skeleton.{Span, Label, no-label, label, Skeleton, done, token, name, node, ignored, report, over, _⧺_}
-use Rattle.definitions.specs.Prog.{Ans, no, yes, also, again, Rule, Act, silent-at, at-end, immediate, immediate-next, add-expected, bump, bump-name, bump-argument, emit, emit-unclosed, less, Prog, ret, act, _⨟_, case, in-marker, loop, chain, brace, open-call}
+use Rattle.definitions.specs.Prog.{Ans, no, yes, also, again, choose, Rule, Act, silent-at, at-end, immediate, immediate-next, add-expected, bump, bump-name, bump-argument, emit, emit-unclosed, less, Prog, ret, act, _⨟_, case, in-marker, loop, chain, brace, open-call}
 use Rattle.definitions.specs.Grammar.{grammar}
 
 -- rest: the raw tokens from the cursor on. since: those after the last one taken (`prev_next_cursor`). pending:
@@ -166,12 +166,6 @@ perform b emit-unclosed s = do-emit E.unclosed-node E.no-hint b (peeked s)
 perform b (less m n) s = replies (truth (ltb m n)) s
 
 -- ---------------------------------------------------------------- programs
-
-unfoldable pub choose : Ans → (State → Out) → (State → Out) → (State → Out) → State → Out
-choose no n y a = n
-choose yes n y a = y
-choose also n y a = a
-choose again n y a = y
 
 -- a marker pushed at mark m and completed or ignored at mark m′
 unfoldable pub closed : ℕ → ℕ → ℕ → Skeleton → Skeleton → Skeleton

@@ -11,12 +11,12 @@ use borrow.Author.Tests.{ltb-true, ne-eqb}
 use Rattle.definitions.specs.Errors as E
 use Rattle.definitions.specs.Token.{Token, seen, trivia, past, one-of, first-in}
 use Rattle.definitions.specs.Skeleton.{Span}
-use Rattle.definitions.specs.Prog.{yes, Rule, less, Prog, act, _⨟_, case}
+use Rattle.definitions.specs.Prog.{choose, yes, Rule, less, Prog, act, _⨟_, case}
 use Rattle.definitions.specs.Check.{tell, if_then_else_, bump!, expected, set, silent}
 use Rattle.definitions.specs.Grammar.{INFIX-BUT-TERNARY, Level, ternary-level, binding-power, rhs, infix-levels, infix-turn}
 use Rattle.definitions.specs.Run.{truth}
 use Rattle.machine.specs.Machine.{Machine, rest, passed, skip, peek, expect-code}
-use Rattle.machine.specs.Walk.{Walked, said, perform, choose, walk}
+use Rattle.machine.specs.Walk.{Walked, said, perform, walk}
 use Rattle.token_rows.specs.Tokens.{SEEN-AT-END, kind-of}
 use Rattle.binding_power.specs.Power.{levels, left-power, right-power, is-binary}
 use Rattle.basics.proofs.Tests.{and-left, and-right}

@@ -8,14 +8,14 @@ use lib.Dec.{ltb}
 use lib.ListN.{length}
 use Rattle.definitions.specs.Layout.{MOST-OPEN-CALLS, MOST-PENDING}
 use Rattle.definitions.specs.Token.{Token, drop-trivia}
-use Rattle.definitions.specs.Prog.{Ans, no, yes, also, again, Rule, Act, silent-at, immediate, immediate-next, add-expected, bump, bump-name, bump-argument, emit, emit-unclosed, less, Prog, ret, act, _⨟_, case, in-marker, loop, chain, brace, open-call}
+use Rattle.definitions.specs.Prog.{choose, Ans, no, yes, also, again, Rule, Act, silent-at, immediate, immediate-next, add-expected, bump, bump-name, bump-argument, emit, emit-unclosed, less, Prog, ret, act, _⨟_, case, in-marker, loop, chain, brace, open-call}
 use Rattle.definitions.specs.Prog as P
 use Rattle.definitions.specs.Grammar.{grammar, Entry, whole}
 use Rattle.definitions.specs.Skeleton.{Label, no-label, Skeleton, done}
-use Rattle.definitions.specs.Run.{State, Out, mark-of, makes, add, taken, perform, choose, marked, is-again, iter, unlinked, links, chained, here, exec, run}
+use Rattle.definitions.specs.Run.{State, Out, mark-of, makes, add, taken, perform, marked, is-again, iter, unlinked, links, chained, here, exec, run}
 use Rattle.basics.proofs.Tests.{and-left, and-right}
 use Rattle.laws.proofs.Sound.{is-again-eq}
-use Rattle.run_steps.specs.Steps.{Step, branched, Every-step, iter-steps, links-steps, choose-steps, exceeds, act-steps, steps, run-steps, entry-steps}
+use Rattle.run_steps.specs.Steps.{Step, branched, Every-step, iter-steps, links-steps, exceeds, act-steps, steps, run-steps, entry-steps}
 use Rattle.facts.proofs.Facts.{Fact, pend-from, pick, fact-within, fact-never}
 use Rattle.facts.proofs.May.{may-act, may-begin}
 use Rattle.facts.proofs.Look.{Look, get, only, any-of, and-ok, either, unshaped, stopped, act-look, from, turns, joined, again-of, left-over, moves, settled, looped, look, looks-within}
@@ -72,8 +72,8 @@ module _ (l : Look) (n y a : Fact → Look) (N Y B : State → Out) (TN TY TB : 
   on-also = from (l .if-also) a
 
   ways : (x : Ans) (k : ℕ) (s₀ s : State) → either on-no (either on-yes on-also) .ok ≡ true → fact-never (again-of l) ≡ true → Holds (get l x k) s₀ s
-      → (is-again x ≡ false) × Gives (either on-no (either on-yes on-also)) s₀ (choose x N Y B s) (choose-steps x TN TY TB s)
-  unfolding choose choose-steps get is-again
+      → (is-again x ≡ false) × Gives (either on-no (either on-yes on-also)) s₀ (choose x N Y B s) (choose x TN TY TB s)
+  unfolding choose get is-again
   ways no k s₀ s m e h = (refl, gives-first on-no (either on-yes on-also) s₀ (N s) (TN s) (from-sound n N TN p (l .if-no) s₀ s (and-left (on-no .ok) _ m) h))
   ways yes k s₀ s m e h = (
     refl,

@@ -21,9 +21,9 @@ use Rattle.definitions.specs.Skeleton.{Span}
 use Rattle.definitions.specs.Grammar.{eat-inside}
 use Rattle.grammar.specs.declared.preprocessor_directive.Inside.{Inside}
 use Rattle.grammar.specs.Subprograms.{inside-of}
-use Rattle.definitions.specs.Prog.{Ans, no, yes, also, again, Rule, Prog, _⨟_, case, loop, open-call}
+use Rattle.definitions.specs.Prog.{choose, Ans, no, yes, also, again, Rule, Prog, _⨟_, case, loop, open-call}
 use Rattle.machine.specs.Machine.{Machine, Marker}
-use Rattle.machine.specs.Walk.{Walked, said, choose, marked, walk, walk-rule, walk-prog, unlabelled}
+use Rattle.machine.specs.Walk.{Walked, said, marked, walk, walk-rule, walk-prog, unlabelled}
 use Rattle.machine.proofs.Turns.{ahead}
 use Rattle.machine.proofs.Way.{Way, Closes, c-case}
 use Rattle.steps.proofs.Ways.{turns, stops-yes, stops-no}

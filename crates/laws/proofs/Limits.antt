@@ -10,14 +10,14 @@ use lib.ListN.{length, length-append}
 use borrow.Author.Tests.{ltb-true}
 use Rattle.definitions.specs.Layout.{MOST-OPEN-CALLS, MOST-PENDING}
 use Rattle.definitions.specs.Token.{Token, tokens-of, drop-trivia}
-use Rattle.definitions.specs.Prog.{Ans, no, yes, also, again, Rule, Act, silent-at, at-end, immediate, immediate-next, add-expected, bump, bump-name, bump-argument, emit, emit-unclosed, less, Prog, ret, act, _⨟_, case, in-marker, loop, chain, brace, open-call}
+use Rattle.definitions.specs.Prog.{choose, Ans, no, yes, also, again, Rule, Act, silent-at, at-end, immediate, immediate-next, add-expected, bump, bump-name, bump-argument, emit, emit-unclosed, less, Prog, ret, act, _⨟_, case, in-marker, loop, chain, brace, open-call}
 use Rattle.definitions.specs.Grammar.{grammar, Entry, whole}
 use Rattle.definitions.specs.Skeleton.{Label, no-label, Skeleton, done, _⧺_}
-use Rattle.definitions.specs.Run.{State, Out, mark-of, peeked, replies, makes, taken, add, do-emit, over-unless, do-expected, perform, choose, marked, is-again, goes-on, iter, unlinked, by-shape, links, chained, here, exec, run}
+use Rattle.definitions.specs.Run.{State, Out, mark-of, peeked, replies, makes, taken, add, do-emit, over-unless, do-expected, perform, marked, is-again, goes-on, iter, unlinked, by-shape, links, chained, here, exec, run}
 use Rattle.definitions.specs.Report.{pushes}
 use Rattle.definitions.specs.Call.{Buffers, run-entry}
 use Rattle.laws.specs.Pushes.{None-exceeded}
-use Rattle.laws.specs.Limits.{Moment, moment, deeper, iter-moments, links-moments, choose-moments, moments, run-moments, entry-moments, Limited, Limits}
+use Rattle.laws.specs.Limits.{Moment, moment, deeper, iter-moments, links-moments, moments, run-moments, entry-moments, Limited, Limits}
 use Rattle.laws.proofs.Few.{bump-few, name-few, argument-few}
 use Rattle.laws.proofs.Fuel.{turn-of}
 use Rattle.laws.proofs.Pieces.{linked, closed-pieces, links-pieces}
@@ -127,8 +127,8 @@ chained-keeps n f g K s o l p = go (is-again (o .ans))
         (r .0, limited-append n l (links-moments (suc (length (o .state .rest))) f g (o .state)) (q .1) (r .1))
     go false w = let q : Fewer o × Limited n l = p (closed-within 0 (mark-of s) (mark-of (o .state)) done (o .made) w .1) in (q .0, limited-append n l [] (q .1) tt)
 
-choose-keeps : (n : ℕ) (x : Ans) (N Y A : State → Out) (p q r : State → List Moment) → Keeps n N p → Keeps n Y q → Keeps n A r → Keeps n (choose x N Y A) (choose-moments x p q r)
-unfolding choose choose-moments
+choose-keeps : (n : ℕ) (x : Ans) (N Y A : State → Out) (p q r : State → List Moment) → Keeps n N p → Keeps n Y q → Keeps n A r → Keeps n (choose x N Y A) (choose x p q r)
+unfolding choose
 choose-keeps n no N Y A p q r f g h s = f s
 choose-keeps n yes N Y A p q r f g h s = g s
 choose-keeps n also N Y A p q r f g h s = h s
@@ -158,7 +158,7 @@ exec-keeps n ask inside K b (p ⨟ q) s h w =
     (exec-keeps n ask inside K b q (exec ask b p s .state)) w
 exec-keeps n ask inside K b (case t x y a) s h w =
     add-keeps n (exec ask b t s) (choose (exec ask b t s .ans) (exec ask b x) (exec ask b y) (exec ask b a) (exec ask b t s .state)) (moments ask inside b t s)
-    (choose-moments (exec ask b t s .ans) (moments ask inside b x) (moments ask inside b y) (moments ask inside b a) (exec ask b t s .state)) (exec-keeps n ask inside K b t s h)
+    (choose (exec ask b t s .ans) (moments ask inside b x) (moments ask inside b y) (moments ask inside b a) (exec ask b t s .state)) (exec-keeps n ask inside K b t s h)
     (choose-keeps n (exec ask b t s .ans) (exec ask b x) (exec ask b y) (exec ask b a) (moments ask inside b x) (moments ask inside b y) (moments ask inside b a) (exec-keeps n ask inside K b x)
     (exec-keeps n ask inside K b y) (exec-keeps n ask inside K b a) (exec ask b t s .state))
     w

@@ -5,9 +5,9 @@ use native.Mathlib.Omega.{arith}
 use mathlib.Core.Path.{_≡_, refl, subst}
 use mathlib.Core.Bool.{Bool, true, false, _&&_, false≢true, true≢false}
 use lib.ListN.{length}
-use Rattle.definitions.specs.Prog.{Ans, no, yes, also, again, Rule, Act, Prog, ret, act, _⨟_, case, in-marker, loop, chain, brace, open-call}
+use Rattle.definitions.specs.Prog.{choose, Ans, no, yes, also, again, Rule, Act, Prog, ret, act, _⨟_, case, in-marker, loop, chain, brace, open-call}
 use Rattle.definitions.specs.Skeleton.{Label, Skeleton, done, _⧺_}
-use Rattle.definitions.specs.Run.{State, Out, mark-of, makes, add, perform, choose, closed, marked, is-again, goes-on, iter, unlinked, by-shape, links, chained, here, exec}
+use Rattle.definitions.specs.Run.{State, Out, mark-of, makes, add, perform, closed, marked, is-again, goes-on, iter, unlinked, by-shape, links, chained, here, exec}
 use Rattle.basics.proofs.Tests.{cond-with, and-left, and-right}
 use Rattle.laws.proofs.Onward.{Goes, exec-goes}
 use Rattle.laws.proofs.Fuel.{goes-on-shorter, turn-of}

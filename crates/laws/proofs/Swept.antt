@@ -9,10 +9,10 @@ use borrow.Author.Tests.{lt-ltb}
 use Rattle.definitions.specs.Layout.{MOST-OPEN-CALLS}
 use Rattle.definitions.specs.Errors as E
 use Rattle.definitions.specs.Token.{Token, drop-trivia}
-use Rattle.definitions.specs.Prog.{yes, again, Rule}
+use Rattle.definitions.specs.Prog.{choose, yes, again, Rule}
 use Rattle.definitions.specs.Grammar.{Entry, entry, whole, left-over, left-over-turn}
 use Rattle.definitions.specs.Skeleton.{Label, no-label, done, token, _⧺_}
-use Rattle.definitions.specs.Run.{State, Out, peeked, replies, makes, taken, do-bump, do-emit, do-expected, perform, add, choose, marked, is-again, goes-on, iter, exec, run}
+use Rattle.definitions.specs.Run.{State, Out, peeked, replies, makes, taken, do-bump, do-emit, do-expected, perform, add, marked, is-again, goes-on, iter, exec, run}
 use Rattle.definitions.specs.Place.{after}
 use Rattle.definitions.specs.Call.{run-entry}
 use Rattle.laws.proofs.Trivia.{drop-twice, drop-trivia-length, passes-drop}

@@ -7,7 +7,7 @@ use mathlib.Core.List.{List, [], _∷_, _++_}
 use lib.ListN.{length}
 use Rattle.definitions.specs.Layout.{MOST-OPEN-CALLS, MOST-PENDING}
 use Rattle.definitions.specs.Token.{Token, tokens-of}
-use Rattle.definitions.specs.Prog.{Ans, no, yes, also, again, Rule, Prog, ret, act, _⨟_, case, in-marker, loop, chain, brace, open-call}
+use Rattle.definitions.specs.Prog.{Ans, no, yes, also, again, choose, Rule, Prog, ret, act, _⨟_, case, in-marker, loop, chain, brace, open-call}
 use Rattle.definitions.specs.Grammar.{grammar, Entry, whole}
 use Rattle.definitions.specs.Skeleton.{Label, no-label}
 use Rattle.definitions.specs.Run.{State, Out, taken, is-again, goes-on, by-shape, here, exec, run}
@@ -40,22 +40,16 @@ links-moments zero f g s = []
 links-moments (suc n) f g s =
     g s ++ (let more = links-moments n f g (f s .state) in by-shape (f s .shape) [] (cond (goes-on s (f s)) more []))
 
-unfoldable pub choose-moments : Ans → (State → List Moment) → (State → List Moment) → (State → List Moment) → State → List Moment
-choose-moments no n y a = n
-choose-moments yes n y a = y
-choose-moments also n y a = a
-choose-moments again n y a = y
-
 -- ask: what a call does. in-call: its moments.
 unfoldable pub moments : (Rule → State → Out) → (Rule → State → List Moment) → Label → Prog → State → List Moment
-unfolding exec is-again choose-moments iter-moments links-moments
+unfolding exec is-again choose iter-moments links-moments
 moments ask in-call b (ret k a) s = moment s
 moments ask in-call b (act a) s = moment s ++ moment (exec ask b (act a) s .state)
 moments ask in-call b (p ⨟ q) s = moments ask in-call b p s ++ moments ask in-call b q (exec ask b p s .state)
 moments ask in-call b (case c n y a) s =
     let o = exec ask b c s in
     moments ask in-call b c s
-    ++ choose-moments (o .ans) (moments ask in-call b n) (moments ask in-call b y) (moments ask in-call b a)
+    ++ choose (o .ans) (moments ask in-call b n) (moments ask in-call b y) (moments ask in-call b a)
     (o .state)
 moments ask in-call b (in-marker p) s = moments ask in-call b p s
 moments ask in-call b (loop p) s = iter-moments (suc (length (s .rest))) (exec ask b p) (moments ask in-call b p) s

@@ -4,8 +4,8 @@ use mathlib.Core.List.{List}
 use Rattle.definitions.specs.Token.{Token}
 use Rattle.definitions.specs.Skeleton.{Skeleton, _⧺_}
 use Rattle.definitions.specs.Refusal.{Refusal}
-use Rattle.definitions.specs.Prog.{Ans, no, yes, also, again}
-use Rattle.definitions.specs.Run.{State, Out, add, choose}
+use Rattle.definitions.specs.Prog.{choose, Ans, no, yes, also, again}
+use Rattle.definitions.specs.Run.{State, Out, add}
 use Rattle.definitions.specs.Report.{pushes}
 use Rattle.laws.proofs.Skeleton.{pushes-join}
 use Rattle.machine.specs.Machine.{Machine}
@@ -39,15 +39,15 @@ seq-with g c o o′ w h m k n =
 pub seq-sim : (g : Ground) (c : Sofar) (o : Out) (w : Walked) (f : State → Out) (h : Machine → Walked) → Sim g c o w → Tracks g f h → Sticks (g .tokens) h → Sim g c (add o (f (o .state))) (h (w .on))
 seq-sim g c o w f h m t k = seq-with g c o (f (o .state)) w (λ v. h (v .on)) m (t (grow c (o .made)) (o .state)) (λ r q. k r (w .on) q)
 
-choose-tracks : (g : Ground) (a : Ans) (n y z : State → Out) (n′ y′ z′ : Machine → Walked) → Tracks g n n′ → Tracks g y y′ → Tracks g z z′ → Tracks g (choose a n y z) (W.choose a n′ y′ z′)
-unfolding choose W.choose
+choose-tracks : (g : Ground) (a : Ans) (n y z : State → Out) (n′ y′ z′ : Machine → Walked) → Tracks g n n′ → Tracks g y y′ → Tracks g z z′ → Tracks g (choose a n y z) (choose a n′ y′ z′)
+unfolding choose
 choose-tracks g no n y z n′ y′ z′ p q r = p
 choose-tracks g yes n y z n′ y′ z′ p q r = q
 choose-tracks g also n y z n′ y′ z′ p q r = r
 choose-tracks g again n y z n′ y′ z′ p q r = q
 
-choose-sticks : (ts : List Token) (a : Ans) (n y z : Machine → Walked) → Sticks ts n → Sticks ts y → Sticks ts z → Sticks ts (W.choose a n y z)
-unfolding W.choose
+choose-sticks : (ts : List Token) (a : Ans) (n y z : Machine → Walked) → Sticks ts n → Sticks ts y → Sticks ts z → Sticks ts (choose a n y z)
+unfolding choose
 choose-sticks ts no n y z p q r = p
 choose-sticks ts yes n y z p q r = q
 choose-sticks ts also n y z p q r = r
@@ -55,8 +55,8 @@ choose-sticks ts again n y z p q r = q
 
 pub case-sim : (g : Ground) (c : Sofar) (o : Out) (w : Walked) (n y z : State → Out) (n′ y′ z′ : Machine → Walked) → Sim g c o w
     → Tracks g n n′ → Tracks g y y′ → Tracks g z z′ → Sticks (g .tokens) n′ → Sticks (g .tokens) y′ → Sticks (g .tokens) z′
-    → Sim g c (add o (choose (o .ans) n y z (o .state))) (W.choose (w .ans) n′ y′ z′ (w .on))
+    → Sim g c (add o (choose (o .ans) n y z (o .state))) (choose (w .ans) n′ y′ z′ (w .on))
 case-sim g c o w n y z n′ y′ z′ m p q r p′ q′ r′ =
-    seq-with g c o (choose (o .ans) n y z (o .state)) w (λ v. W.choose (v .ans) n′ y′ z′ (v .on)) m
+    seq-with g c o (choose (o .ans) n y z (o .state)) w (λ v. choose (v .ans) n′ y′ z′ (v .on)) m
     (choose-tracks g (o .ans) n y z n′ y′ z′ p q r (grow c (o .made)) (o .state))
     (λ x h. choose-sticks (g .tokens) (w .ans) n′ y′ z′ p′ q′ r′ x (w .on) h)

@@ -13,13 +13,13 @@ use Rattle.definitions.specs.Errors as E
 use Rattle.definitions.specs.Token.{Token, seen, trivia, ended, one-of, first-in}
 use Rattle.definitions.specs.Skeleton.{Span}
 use Rattle.definitions.specs.Refusal.{Refusal}
-use Rattle.definitions.specs.Prog.{Ans, no, yes, also, again, Rule, Act, silent-at, at-end, immediate, immediate-next, add-expected, bump, bump-name, bump-argument, emit, emit-unclosed, less, Prog, ret, act, _⨟_, case, in-marker, loop, chain, brace, open-call}
+use Rattle.definitions.specs.Prog.{choose, Ans, no, yes, also, again, Rule, Act, silent-at, at-end, immediate, immediate-next, add-expected, bump, bump-name, bump-argument, emit, emit-unclosed, less, Prog, ret, act, _⨟_, case, in-marker, loop, chain, brace, open-call}
 use Rattle.definitions.specs.Grammar.{grammar}
 use Rattle.definitions.specs.Run.{is-again, by-shape}
 use Rattle.basics.proofs.Tests.{cond-all}
 use Rattle.machine.specs.Machine.{Machine, Marker, rest, with-pending, with-refusal, passed, skip, peek, took, range-at, refuse, expect-code, push-row, push, complete, precede, bump-first, name-stretch, name-first, write-report}
 use Rattle.machine.specs.Machine as M
-use Rattle.machine.specs.Walk.{Walked, said, at-depth, argument, unlabelled, perform, choose, next-marker, close, marked, goes-on, iter, link, links, chained, walk, walk-rule}
+use Rattle.machine.specs.Walk.{Walked, said, at-depth, argument, unlabelled, perform, next-marker, close, marked, goes-on, iter, link, links, chained, walk, walk-rule}
 use Rattle.machine.specs.Outcome.{Refused}
 
 -- whatever is refused stays so

@@ -1,12 +1,12 @@
 -- Loops and macro arguments, turn by turn: what a proof of code with a loop cites. Fuel above the tokens left does not
 -- matter, so a loop is the same loop from wherever a turn has brought it.
 use Prim.Native.Nat.{ℕ, zero, suc, _-_, _/_, _≤_, _<_}
-use mathlib.Core.Path.{_≡_, refl, sym, ap, _∙_}
+use mathlib.Core.Path.{_≡_, refl, ap, _∙_}
 use mathlib.Core.Bool.{Bool, true, false, cond, _&&_}
 use mathlib.Core.List.{List, [], _∷_}
 use native.Mathlib.Omega.{arith}
 use lib.Dec.{ltb, eqb}
-use lib.ListN.{length, drop, length-drop}
+use lib.ListN.{length, length-drop}
 use borrow.Author.Tests.{ltb-true, lt-ltb}
 use Rattle.basics.proofs.Tests.{cond-all}
 use Rattle.basics.proofs.TokenRows.{tokens-length}

@@ -8,11 +8,11 @@ use native.Mathlib.Omega.{arith}
 use Rattle.definitions.specs.Layout.{PLACEHOLDER, START-NODE, TOO-DEEP}
 use Rattle.definitions.specs.Token.{Token}
 use Rattle.definitions.specs.Skeleton.{Span}
-use Rattle.definitions.specs.Prog.{Ans, no, yes, also, again, Rule, Act, Prog, ret, act, _⨟_, case, in-marker, open-call}
+use Rattle.definitions.specs.Prog.{choose, Ans, no, yes, again, Rule, Act, Prog, ret, act, _⨟_, case, in-marker, open-call}
 use Rattle.definitions.specs.Grammar.{grammar}
 use Rattle.definitions.specs.Run.{truth}
 use Rattle.machine.specs.Machine.{Machine, Marker, push, complete, refuse}
-use Rattle.machine.specs.Walk.{Walked, said, perform, choose, next-marker, close, marked, walk, walk-rule, walk-prog, unlabelled}
+use Rattle.machine.specs.Walk.{Walked, said, perform, next-marker, close, marked, walk, walk-rule, walk-prog, unlabelled}
 
 -- p, walked from m, comes to w
 pub record Way (ask : Rule → Machine → Walked) (ts : List Token) (b : Span) (p : Prog) (m : Machine) (w : Walked) : Type 0 where

@@ -10,7 +10,7 @@ use Rattle.definitions.specs.TokenKind as K
 use Rattle.definitions.specs.Errors as E
 use Rattle.definitions.specs.Token.{Token, past, ended, first-in}
 use Rattle.definitions.specs.Skeleton.{Span}
-use Rattle.definitions.specs.Prog.{Ans, no, yes, also, again, Rule, Act, silent-at, at-end, immediate, immediate-next, add-expected, bump, bump-name, bump-argument, emit, emit-unclosed, less, Prog, ret, act, _⨟_, case, in-marker, loop, chain, brace, open-call}
+use Rattle.definitions.specs.Prog.{Ans, no, yes, also, again, choose, Rule, Act, silent-at, at-end, immediate, immediate-next, add-expected, bump, bump-name, bump-argument, emit, emit-unclosed, less, Prog, ret, act, _⨟_, case, in-marker, loop, chain, brace, open-call}
 use Rattle.definitions.specs.Grammar.{grammar}
 use Rattle.definitions.specs.Run.{truth, is-again, by-shape}
 use Rattle.machine.specs.Machine.{Machine, Marker, rest, peek, range-at, refuse, expect-code, push, complete, precede}
@@ -66,12 +66,6 @@ perform ts b emit-unclosed m = said yes (M.emit ts E.unclosed-node E.no-hint b m
 perform ts b (less l n) m = said (truth (ltb l n)) m
 
 -- ---------------------------------------------------------------- programs
-
-unfoldable pub choose : Ans → (Machine → Walked) → (Machine → Walked) → (Machine → Walked) → Machine → Walked
-choose no n y a = n
-choose yes n y a = y
-choose also n y a = a
-choose again n y a = y
 
 -- the marker that is pushed next
 abbrev pub next-marker : ℕ → Machine → Marker

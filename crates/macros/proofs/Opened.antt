@@ -3,7 +3,7 @@
 use mathlib.Core.Path.{_≡_, refl}
 use Rattle.definitions.specs.TokenKind as K
 use Rattle.definitions.specs.NodeKind as N
-use Rattle.definitions.specs.Prog.{no, yes, again, immediate, bump-argument, Prog, ret, act, _⨟_, in-marker, loop}
+use Rattle.definitions.specs.Prog.{no, yes, again, immediate, bump-argument, ret, act, _⨟_, in-marker, loop}
 use Rattle.definitions.specs.Check.{tell, if_then_else_, not!, in-node, bump!, expected, of-kind, at, assert-eat, expect}
 use Rattle.definitions.specs.Grammar.{macro-argument-turn, macro-invocation}
 use Rattle.macros.specs.Subprograms.{argument-list}

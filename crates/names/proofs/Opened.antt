@@ -4,8 +4,8 @@ use mathlib.Core.Path.{_≡_, refl}
 use mathlib.Core.List.{[], _∷_}
 use Rattle.definitions.specs.TokenKind as K
 use Rattle.definitions.specs.NodeKind as N
-use Rattle.definitions.specs.Prog.{no, yes, silent-at, bump-name, Prog, act, _⨟_, loop}
-use Rattle.definitions.specs.Check.{tell, if_then_else_, _and_, not!, while_run_, in-node, end?, bump!, expected, error!, error-wrap!, Matcher, set, of-kind, NAME-SET, Name, LabelName, silent, at, silent-eat, eat, expect}
+use Rattle.definitions.specs.Prog.{no, yes, silent-at, bump-name, act, _⨟_, loop}
+use Rattle.definitions.specs.Check.{tell, if_then_else_, _and_, not!, while_run_, in-node, end?, bump!, expected, error!, error-wrap!, Matcher, of-kind, NAME-SET, Name, LabelName, silent, at, silent-eat, eat, expect}
 use Rattle.definitions.specs.Grammar.{CONTINUE-COND-SET, macro-invocation, silent-at-macro-invocation-with-args, MacroSubstitutableName, UnitAddress, path-segment, path-turn, path-rest, reference-noamp, Reference}
 use Rattle.names.specs.Subprograms.{at-segment, path}
 

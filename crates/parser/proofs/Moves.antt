@@ -1,21 +1,21 @@
 -- What each step of the literal machine comes to, in plain variables: the cursor's moves, refusals, events, tokens and
 -- names taken.
 -- A need of the code cites one of these.
-use Prim.Native.Nat.{ℕ, _+_, _-_, _*_, _/_, _≤_, _<_}
+use Prim.Native.Nat.{ℕ, _+_, _-_, _/_, _≤_, _<_}
 use mathlib.Core.Path.{_≡_, refl, sym, _∙_, ap}
 use mathlib.Core.Bool.{Bool, true, false, cond, _&&_}
 use mathlib.Core.List.{List, [], _∷_, _++_}
 use native.Mathlib.Omega.{arith}
 use lib.Dec.{ltb, leb, eqb}
-use lib.ListN.{length, getD, set, take, drop}
+use lib.ListN.{length, set, take, drop}
 use lib.Seq.{sets, set-out}
 use Rattle.definitions.specs.Layout.{TOKEN-ROW, EVENT-ROW, EVENT-ARGUMENT, EVENT-DISTANCE, PLACEHOLDER, ADD-TOKEN, ADD-COMBINED-TOKEN, FINISH-NODE, TOO-DEEP, MOST-PENDING}
-use Rattle.definitions.specs.Token.{Token, tokens-of, past, ended, one-of, first-in, seen}
+use Rattle.definitions.specs.Token.{Token, tokens-of, ended, one-of, first-in, seen}
 use Rattle.definitions.specs.Skeleton.{Span}
 use Rattle.definitions.specs.Prog.{Ans, yes, silent-at, at-end, add-expected, bump, bump-name}
 use Rattle.definitions.specs.Run.{truth}
 use Rattle.basics.specs.Word.{low}
-use Rattle.machine.specs.Machine.{Machine, Marker, with-cursor, with-taken, with-pending, with-events, took, range-at, fits, put-start, put-link}
+use Rattle.machine.specs.Machine.{Machine, Marker, with-taken, with-pending, with-events, took, range-at, fits, put-start, put-link}
 use Rattle.machine.specs.Machine as M
 use Rattle.machine.specs.Walk.{Walked, said, perform}
 use Rattle.parser.specs.View.{view, parser-view, tokens-left, take-first}

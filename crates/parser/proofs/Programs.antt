@@ -10,7 +10,7 @@ use Rattle.definitions.specs.Layout.{START-NODE}
 use Rattle.definitions.specs.TokenKind as K
 use Rattle.definitions.specs.Token.{Token, past, first-in}
 use Rattle.definitions.specs.Skeleton.{Span}
-use Rattle.definitions.specs.Prog.{Ans, no, yes, Rule, Act, silent-at, at-end, immediate, immediate-next, add-expected, bump, bump-name, emit, emit-unclosed, Prog, ret, act, _⨟_, case, in-marker}
+use Rattle.definitions.specs.Prog.{choose, Ans, no, yes, Rule, Act, silent-at, at-end, immediate, immediate-next, add-expected, bump, bump-name, emit, Prog, act, _⨟_, case}
 use Rattle.definitions.specs.Check.{tell, if_then_else_, in-node, end?, expected}
 use Rattle.definitions.specs.Check as C
 use Rattle.definitions.specs.Errors as E
@@ -19,7 +19,7 @@ use Rattle.definitions.specs.Grammar.{silent-at-macro-invocation-with-args}
 use Rattle.definitions.specs.Run.{truth}
 use Rattle.machine.specs.Machine.{Machine, Marker}
 use Rattle.machine.specs.Machine as M
-use Rattle.machine.specs.Walk.{Walked, said, perform, walk, choose, close, marked, next-marker, unlabelled}
+use Rattle.machine.specs.Walk.{Walked, said, perform, walk, close, marked, next-marker, unlabelled}
 use Rattle.parser.specs.View.{Starting, starting, by-answer, matcher-of, kinds-of, error-prog}
 use Rattle.parser.specs.declared.matcher.Matcher.{Matcher}
 use Rattle.parser.specs.declared.matcher.Matcher.the-variants as Of

@@ -11,7 +11,7 @@ use Rattle.definitions.specs.Token.{Token, tokens-of}
 use Rattle.definitions.specs.Skeleton.{Span}
 use Rattle.definitions.specs.Run.{only-separators, pool-of}
 use Rattle.basics.specs.Word.{low}
-use Rattle.machine.specs.Machine.{Machine, Buffer, with-reports, range-at, error-range, report-row, write-report, fits}
+use Rattle.machine.specs.Machine.{Machine, with-reports, range-at, error-range, report-row, write-report, fits}
 use Rattle.machine.specs.Machine as M
 use Rattle.parser.specs.View.{stored}
 use Rattle.basics.proofs.TokenRows.{token-at, tokens-cons, tokens-end}

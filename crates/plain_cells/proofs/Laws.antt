@@ -3,10 +3,10 @@ use mathlib.Core.Path.{_≡_, refl}
 use mathlib.Core.List.{List}
 use Rattle.definitions.specs.Token.{Token}
 use Rattle.definitions.specs.Skeleton.{Span}
-use Rattle.definitions.specs.Prog.{Ans, no, yes, also, again, Rule, Prog, _⨟_}
+use Rattle.definitions.specs.Prog.{choose, Ans, no, yes, also, again, Rule, Prog, _⨟_}
 use Rattle.definitions.specs.Check.{tell, if_then_else_}
 use Rattle.machine.specs.Machine.{Machine}
-use Rattle.machine.specs.Walk.{Walked, choose, walk}
+use Rattle.machine.specs.Walk.{Walked, walk}
 
 -- the first cases of a program apart from the others: whether one of them held is the test
 pub cases-first : (ask : Rule → Machine → Walked) (ts : List Token) (b : Span) (e a c w r t : Prog) (m : Machine)

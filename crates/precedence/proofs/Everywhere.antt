@@ -10,11 +10,11 @@ use Rattle.definitions.specs.TokenKind as K
 use Rattle.definitions.specs.NodeKind as N
 use Rattle.definitions.specs.Errors as E
 use Rattle.definitions.specs.Token.{Token, seen, drop-trivia, first-in}
-use Rattle.definitions.specs.Prog.{no, yes, Rule, item, propvalues, eat-cell, expr-binding-power, silent-at, Prog, act, _⨟_, case, open-call}
+use Rattle.definitions.specs.Prog.{choose, no, yes, Rule, item, propvalues, eat-cell, expr-binding-power, silent-at, Prog, act, _⨟_, case, open-call}
 use Rattle.definitions.specs.Check.{tell, if_then_else_, _and_, _or_, not!, bump!, expected, error-wrap, of-kind, set, silent, at, silent-eat, expect}
 use Rattle.definitions.specs.Grammar.{Cell, OPERATORS-SET, Reference, macro-invocation, dt-expr, eat-dts-include, eat-preprocessor-directive, eat-cell-body, grammar, Entry, SourceFile, ReferenceNoamp, PropValues, Cells, whole}
 use Rattle.definitions.specs.Skeleton.{Label, no-label, Skeleton, done, node, over, _⧺_}
-use Rattle.definitions.specs.Run.{State, Out, mark-of, peeked, truth, replies, makes, taken, add, perform, choose, closed, marked, exec, run}
+use Rattle.definitions.specs.Run.{State, Out, mark-of, peeked, truth, replies, makes, taken, add, perform, closed, marked, exec, run}
 use Rattle.definitions.specs.Place.{after}
 use Rattle.definitions.specs.Report.{pushes}
 use Rattle.definitions.specs.Call.{run-entry}

@@ -3,9 +3,9 @@
 use Prim.Native.Nat.{ℕ, suc}
 use mathlib.Core.Path.{_≡_, refl, sym, subst}
 use mathlib.Core.Bool.{Bool, true}
-use Rattle.definitions.specs.Prog.{Ans, no, yes, also, again, Rule, Act, Prog, act}
+use Rattle.definitions.specs.Prog.{choose, Ans, no, yes, also, again, Rule, Act, Prog, act}
 use Rattle.definitions.specs.Skeleton.{Label, Skeleton, done, _⧺_}
-use Rattle.definitions.specs.Run.{State, Out, mark-of, makes, add, perform, choose, closed, marked, unlinked, exec}
+use Rattle.definitions.specs.Run.{State, Out, mark-of, makes, add, perform, closed, marked, unlinked, exec}
 use Rattle.laws.proofs.Engine.{Composes, only, any-act, exec-only}
 use Rattle.laws.proofs.Kept.{Stands}
 

@@ -8,10 +8,10 @@ use lib.Dec.{ltb}
 use lib.ListN.{length}
 use Rattle.definitions.specs.Layout.{MOST-PENDING}
 use Rattle.definitions.specs.Token.{Token, drop-trivia, first-in}
-use Rattle.definitions.specs.Prog.{Ans, no, yes, also, again, Rule, silent-at, immediate, add-expected, bump, less, Prog, ret, act, _⨟_, case, in-marker}
+use Rattle.definitions.specs.Prog.{choose, Ans, no, yes, also, again, Rule, silent-at, immediate, add-expected, bump, less, Prog, ret, act, _⨟_, case, in-marker}
 use Rattle.definitions.specs.Check.{push-all}
 use Rattle.definitions.specs.Skeleton.{Label, Skeleton, done, token, _⧺_}
-use Rattle.definitions.specs.Run.{State, Out, mark-of, peeked, truth, replies, makes, taken, do-bump, add, over-unless, do-expected, perform, choose, marked, exec}
+use Rattle.definitions.specs.Run.{State, Out, mark-of, peeked, truth, replies, makes, taken, do-bump, add, over-unless, do-expected, perform, marked, exec}
 use Rattle.definitions.specs.Report.{pushes}
 use Rattle.laws.proofs.Trivia.{passes-drop}
 use Rattle.laws.proofs.Kept.{Stands, stands-peeked}

@@ -7,7 +7,6 @@ use mathlib.Core.List.{List, [], _∷_, _++_, append-assoc, append-nil}
 use lib.ListN.{length, take, drop, length-append}
 use lib.Seq.{take-append-seam, drop-append-seam}
 use borrow.Author.Tests.{lt-ltb, le-ltb}
-use Rattle.definitions.specs.Token.{byte-count}
 use Rattle.definitions.specs.Skeleton.{Label, no-label, label, Report}
 use Rattle.definitions.specs.Report.{label-numbers, pool}
 use Rattle.recovery.specs.ResultRows.{Row, mark}

@@ -8,10 +8,10 @@ use lib.ListN.{length}
 use borrow.Author.Tests.{eqb-true}
 use Rattle.definitions.specs.Layout.{MOST-OPEN-CALLS}
 use Rattle.definitions.specs.Token.{Token, drop-trivia}
-use Rattle.definitions.specs.Prog.{Ans, no, yes, also, again, Rule, item, propvalues, eat-cell, expr-binding-power, Prog, ret, act, _⨟_, case, in-marker, loop, chain, brace, open-call}
+use Rattle.definitions.specs.Prog.{choose, Ans, no, yes, also, again, Rule, item, propvalues, eat-cell, expr-binding-power, Prog, ret, act, _⨟_, case, in-marker, loop, chain, brace, open-call}
 use Rattle.definitions.specs.Grammar.{grammar, sourcefile-turn, left-over}
 use Rattle.definitions.specs.Skeleton.{Label, no-label, Skeleton, done, _⧺_}
-use Rattle.definitions.specs.Run.{State, Out, mark-of, replies, makes, add, choose, closed, marked, is-again, goes-on, iter, chained, here, exec, run}
+use Rattle.definitions.specs.Run.{State, Out, mark-of, replies, makes, add, closed, marked, is-again, goes-on, iter, chained, here, exec, run}
 use Rattle.definitions.specs.Place.{after, place}
 use Rattle.basics.proofs.Tests.{and-left, and-right, cond-with}
 use Rattle.laws.proofs.Shape.{chained-shape}

@@ -11,10 +11,10 @@ use lib.ListN.{length}
 use borrow.Author.Tests.{lt-ltb}
 use Rattle.definitions.specs.Layout.{MOST-OPEN-CALLS}
 use Rattle.definitions.specs.Token.{Token, drop-trivia}
-use Rattle.definitions.specs.Prog.{again}
+use Rattle.definitions.specs.Prog.{choose, again}
 use Rattle.definitions.specs.Grammar.{SourceFile, whole, entry, entry-sourcefile, sourcefile-turn, left-over}
 use Rattle.definitions.specs.Skeleton.{no-label, Skeleton, done, _⧺_}
-use Rattle.definitions.specs.Run.{State, Out, mark-of, peeked, replies, makes, taken, add, perform, choose, is-again, goes-on, iter, exec, run}
+use Rattle.definitions.specs.Run.{State, Out, mark-of, peeked, replies, makes, taken, add, perform, is-again, goes-on, iter, exec, run}
 use Rattle.definitions.specs.Place.{Tree, nil, leaf, subtree, _⊕_, lead, after, place}
 use Rattle.definitions.specs.Call.{run-entry}
 use Rattle.basics.proofs.Tests.{cond-with}

@@ -7,15 +7,15 @@ use mathlib.Core.Bool.{Bool, true, false, cond}
 use mathlib.Core.List.{List, [], _∷_, _++_}
 use lib.ListN.{length, length-append}
 use Rattle.definitions.specs.Token.{tokens-of}
-use Rattle.definitions.specs.Prog.{Ans, no, yes, also, again, Rule, Act, silent-at, at-end, immediate, immediate-next, add-expected, bump, bump-name, bump-argument, emit, emit-unclosed, less, Prog, ret, act, _⨟_, case, in-marker, loop, chain, brace, open-call}
+use Rattle.definitions.specs.Prog.{choose, Ans, no, yes, also, again, Rule, Act, silent-at, at-end, immediate, immediate-next, add-expected, bump, bump-name, bump-argument, emit, emit-unclosed, less, Prog, ret, act, _⨟_, case, in-marker, loop, chain, brace, open-call}
 use Rattle.definitions.specs.Grammar.{grammar, Entry, whole}
 use Rattle.definitions.specs.Skeleton.{Label, no-label, Skeleton, done, token, name, node, ignored, report, over, _⧺_}
-use Rattle.definitions.specs.Run.{State, Out, mark-of, peeked, replies, makes, taken, do-bump, do-name, add, do-argument, do-emit, do-expected, perform, choose, marked, is-again, goes-on, iter, unlinked, by-shape, links, chained, here, exec, run}
+use Rattle.definitions.specs.Run.{State, Out, mark-of, peeked, replies, makes, taken, do-bump, do-name, add, do-argument, do-emit, do-expected, perform, marked, is-again, goes-on, iter, unlinked, by-shape, links, chained, here, exec, run}
 use Rattle.definitions.specs.Call.{Buffers}
 use Rattle.laws.proofs.Few.{bump-few, name-few, argument-few}
 use Rattle.laws.proofs.Pieces.{linked}
 use Rattle.refusals.specs.First.{First}
-use Rattle.refusals.specs.Trace.{Happening, call-opened, expectation-pushed, event-pushed, report-written, event-at, made-by, act-trace, iter-trace, links-trace, choose-trace, exec-trace, run-trace, trace}
+use Rattle.refusals.specs.Trace.{Happening, call-opened, expectation-pushed, event-pushed, report-written, event-at, made-by, act-trace, iter-trace, links-trace, exec-trace, run-trace, trace}
 use Rattle.refusals.specs.Refusals.{MAX-OPEN, MAX-PENDING, Unrefused, happens}
 use Rattle.refusals.proofs.Firsts.{Each-after, each-rest}
 
@@ -122,8 +122,8 @@ chained-up f g K s o l q h = by (is-again (o .ans))
 
 -- ---------------------------------------------------------------- every program, every call
 
-choose-up : (x : Ans) (n y a : State → Out) (f g k : State → List Happening) → Climbing n f → Climbing y g → Climbing a k → Climbing (choose x n y a) (choose-trace x f g k)
-unfolding choose choose-trace
+choose-up : (x : Ans) (n y a : State → Out) (f g k : State → List Happening) → Climbing n f → Climbing y g → Climbing a k → Climbing (choose x n y a) (choose x f g k)
+unfolding choose
 choose-up no n y a f g k p q r s = p s
 choose-up yes n y a f g k p q r s = q s
 choose-up also n y a f g k p q r s = r s
@@ -138,7 +138,7 @@ exec-up ask inside K b (p ⨟ r) s q h =
     up-append q (exec-trace ask inside b p s) (exec-trace ask inside b r u) u (exec ask b r u .state) (exec-up ask inside K b p s q h) (exec-up ask inside K b r u)
 exec-up ask inside K b (case c n y a) s q h =
     let o : Out = exec ask b c s in
-    up-append q (exec-trace ask inside b c s) (choose-trace (o .ans) (exec-trace ask inside b n) (exec-trace ask inside b y) (exec-trace ask inside b a) (o .state)) (o .state)
+    up-append q (exec-trace ask inside b c s) (choose (o .ans) (exec-trace ask inside b n) (exec-trace ask inside b y) (exec-trace ask inside b a) (o .state)) (o .state)
     (choose (o .ans) (exec ask b n) (exec ask b y) (exec ask b a) (o .state) .state) (exec-up ask inside K b c s q h)
     (choose-up (o .ans) (exec ask b n) (exec ask b y) (exec ask b a) (exec-trace ask inside b n) (exec-trace ask inside b y) (exec-trace ask inside b a) (exec-up ask inside K b n)
     (exec-up ask inside K b y) (exec-up ask inside K b a) (o .state))

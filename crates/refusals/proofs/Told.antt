@@ -8,14 +8,14 @@ use mathlib.Core.List.{List, [], _∷_, _++_, append-nil, append-assoc}
 use lib.ListN.{length}
 use borrow.Author.Tests.{le-leb, lt-leb}
 use Rattle.definitions.specs.Token.{Token}
-use Rattle.definitions.specs.Prog.{Ans, no, yes, also, again, Rule, Prog, ret, act, _⨟_, case, in-marker, loop, chain, brace, open-call}
+use Rattle.definitions.specs.Prog.{choose, Ans, no, yes, also, again, Rule, Prog, ret, act, _⨟_, case, in-marker, loop, chain, brace, open-call}
 use Rattle.definitions.specs.Grammar.{grammar, Entry, whole}
 use Rattle.definitions.specs.Skeleton.{Label, no-label, Skeleton, done, _⧺_}
-use Rattle.definitions.specs.Run.{State, Out, mark-of, replies, makes, taken, add, choose, closed, marked, is-again, goes-on, iter, unlinked, by-shape, links, chained, here, exec, run}
+use Rattle.definitions.specs.Run.{State, Out, mark-of, replies, makes, taken, add, closed, marked, is-again, goes-on, iter, unlinked, by-shape, links, chained, here, exec, run}
 use Rattle.definitions.specs.Report.{pushes}
 use Rattle.definitions.specs.Call.{run-entry}
 use Rattle.laws.proofs.Pieces.{linked}
-use Rattle.refusals.specs.Trace.{Happening, event-at, iter-trace, links-trace, choose-trace, exec-trace, run-trace, trace}
+use Rattle.refusals.specs.Trace.{Happening, event-at, iter-trace, links-trace, exec-trace, run-trace, trace}
 use Rattle.refusals.specs.Refusals.{MAX-OPEN}
 use Rattle.refusals.proofs.Steps.{Step, an-event, told, flat, told-append, steps, steps-join, steps-closed, act-told}
 
@@ -106,8 +106,8 @@ chained-tells f g h s o l p = by (is-again (o .ans))
 
 -- ---------------------------------------------------------------- every program, every call
 
-choose-tells : (x : Ans) (n y a : State → Out) (p q r : State → List Happening) → Tells n p → Tells y q → Tells a r → Tells (choose x n y a) (choose-trace x p q r)
-unfolding choose choose-trace
+choose-tells : (x : Ans) (n y a : State → Out) (p q r : State → List Happening) → Tells n p → Tells y q → Tells a r → Tells (choose x n y a) (choose x p q r)
+unfolding choose
 choose-tells no n y a p q r f g h s = f s
 choose-tells yes n y a p q r f g h s = g s
 choose-tells also n y a p q r f g h s = h s
@@ -129,7 +129,7 @@ exec-tells ask inside h b (p ⨟ q) s =
 exec-tells ask inside h b (case c n y a) s =
     let o : Out = exec ask b c s in
     join-tells (o .made) (choose (o .ans) (exec ask b n) (exec ask b y) (exec ask b a) (o .state) .made) (exec-trace ask inside b c s)
-    (choose-trace (o .ans) (exec-trace ask inside b n) (exec-trace ask inside b y) (exec-trace ask inside b a) (o .state)) (exec-tells ask inside h b c s)
+    (choose (o .ans) (exec-trace ask inside b n) (exec-trace ask inside b y) (exec-trace ask inside b a) (o .state)) (exec-tells ask inside h b c s)
     (choose-tells (o .ans) (exec ask b n) (exec ask b y) (exec ask b a) (exec-trace ask inside b n) (exec-trace ask inside b y) (exec-trace ask inside b a)
     (exec-tells ask inside h b n) (exec-tells ask inside h b y) (exec-tells ask inside h b a) (o .state))
 exec-tells ask inside h b (in-marker p) s = mark-tells s (exec ask b p s) (exec-trace ask inside b p s) (exec-tells ask inside h b p s)

@@ -6,7 +6,7 @@ use mathlib.Core.Bool.{cond}
 use mathlib.Core.List.{List, [], _∷_, _++_}
 use lib.ListN.{length}
 use Rattle.definitions.specs.Token.{Token}
-use Rattle.definitions.specs.Prog.{Ans, no, yes, also, again, Rule, Act, silent-at, at-end, immediate, immediate-next, add-expected, bump, bump-name, bump-argument, emit, emit-unclosed, less, Prog, ret, act, _⨟_, case, in-marker, loop, chain, brace, open-call}
+use Rattle.definitions.specs.Prog.{Ans, no, yes, also, again, choose, Rule, Act, silent-at, at-end, immediate, immediate-next, add-expected, bump, bump-name, bump-argument, emit, emit-unclosed, less, Prog, ret, act, _⨟_, case, in-marker, loop, chain, brace, open-call}
 use Rattle.definitions.specs.Grammar.{grammar, Entry, whole}
 use Rattle.definitions.specs.Skeleton.{Label, no-label, Skeleton, done, token, name, node, ignored, report, over}
 use Rattle.definitions.specs.Run.{State, Out, mark-of, taken, perform, is-again, goes-on, by-shape, here, exec, run}
@@ -66,22 +66,16 @@ links-trace (suc n) f g s =
     let on = event-at u ++ cond (goes-on s (f s)) more (event-at u) in
     g s ++ (event-at u ++ by-shape (f s .shape) [] on)
 
-unfoldable pub choose-trace : Ans → (State → List Happening) → (State → List Happening) → (State → List Happening) → State → List Happening
-choose-trace no n y a = n
-choose-trace yes n y a = y
-choose-trace also n y a = a
-choose-trace again n y a = y
-
 -- ask: what a call does. inside: what happens in it.
 unfoldable pub exec-trace : (Rule → State → Out) → (Rule → State → List Happening) → Label → Prog → State → List Happening
-unfolding exec is-again act-trace choose-trace iter-trace links-trace
+unfolding exec is-again act-trace choose iter-trace links-trace
 exec-trace ask in-call b (ret k a) s = []
 exec-trace ask in-call b (act a) s = act-trace b a s
 exec-trace ask in-call b (p ⨟ q) s = exec-trace ask in-call b p s ++ exec-trace ask in-call b q (exec ask b p s .state)
 exec-trace ask in-call b (case c n y a) s =
     let o = exec ask b c s in
     exec-trace ask in-call b c s
-    ++ choose-trace (o .ans) (exec-trace ask in-call b n) (exec-trace ask in-call b y) (exec-trace ask in-call b a)
+    ++ choose (o .ans) (exec-trace ask in-call b n) (exec-trace ask in-call b y) (exec-trace ask in-call b a)
     (o .state)
 exec-trace ask in-call b (in-marker p) s = event-at s ++ (exec-trace ask in-call b p s ++ event-at (exec ask b p s .state))
 exec-trace ask in-call b (loop p) s = iter-trace (suc (length (s .rest))) (exec ask b p) (exec-trace ask in-call b p) s

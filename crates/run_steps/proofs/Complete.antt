@@ -8,16 +8,16 @@ use lib.ListN.{length}
 use Rattle.definitions.specs.Layout.{MOST-OPEN-CALLS, MOST-PENDING}
 use Rattle.definitions.specs.TokenKind as K
 use Rattle.definitions.specs.Token.{Token, trivia}
-use Rattle.definitions.specs.Prog.{Ans, no, yes, also, again, Rule, Act, silent-at, at-end, immediate, immediate-next, add-expected, bump, bump-name, bump-argument, emit, emit-unclosed, less, Prog, ret, act, _⨟_, case, in-marker, loop, chain, brace, open-call}
+use Rattle.definitions.specs.Prog.{choose, Ans, no, yes, also, again, Rule, Act, silent-at, at-end, immediate, immediate-next, add-expected, bump, bump-name, bump-argument, emit, emit-unclosed, less, Prog, ret, act, _⨟_, case, in-marker, loop, chain, brace, open-call}
 use Rattle.definitions.specs.Grammar.{grammar, whole}
 use Rattle.definitions.specs.Skeleton.{Label, no-label, Skeleton, done, token, _⧺_}
-use Rattle.definitions.specs.Run.{State, Out, mark-of, peeked, replies, makes, taken, do-bump, do-name, add, at-depth, do-argument, do-emit, over-unless, do-expected, perform, choose, closed, marked, is-again, goes-on, iter, unlinked, by-shape, links, chained, here, exec, run}
+use Rattle.definitions.specs.Run.{State, Out, mark-of, peeked, replies, makes, taken, do-bump, do-name, add, at-depth, do-argument, do-emit, over-unless, do-expected, perform, closed, marked, is-again, goes-on, iter, unlinked, by-shape, links, chained, here, exec, run}
 use Rattle.definitions.specs.Report.{Push, event, reported, exceeded, pushes}
 use Rattle.definitions.specs.Call.{run-entry}
 use Rattle.basics.proofs.Tests.{cond-all}
 use Rattle.laws.proofs.Skeleton.{pushes-join, pushes-closed}
 use Rattle.laws.proofs.Fuel.{turn-of}
-use Rattle.run_steps.specs.Steps.{Step, begun, branched, turned, linked, spent, iter-steps, links-steps, choose-steps, exceeds, act-steps, steps, run-steps, entry-steps}
+use Rattle.run_steps.specs.Steps.{Step, begun, branched, turned, linked, spent, iter-steps, links-steps, exceeds, act-steps, steps, run-steps, entry-steps}
 use Rattle.run_steps.specs.Steps as Steps
 use Rattle.run_steps.specs.Signs.{Sign, told, refused, signs, program-signs, step-signs, Complete}
 
@@ -198,8 +198,8 @@ module _ (f : State → Out) (g : State → List Step) (T : (s : State) → Tell
 -- ---------------------------------------------------------------- every program
 
 choose-tells : (x : Ans) (n y a : State → Out) (tn ty ta : State → List Step) → ((s : State) → Tells (n s) (tn s)) → ((s : State) → Tells (y s) (ty s)) → ((s : State) → Tells (a s) (ta s))
-    → (s : State) → Tells (choose x n y a s) (choose-steps x tn ty ta s)
-unfolding choose choose-steps
+    → (s : State) → Tells (choose x n y a s) (choose x tn ty ta s)
+unfolding choose
 choose-tells no n y a tn ty ta p q r s = p s
 choose-tells yes n y a tn ty ta p q r s = q s
 choose-tells also n y a tn ty ta p q r s = r s
@@ -219,7 +219,7 @@ module _ (ask : Rule → State → Out) (inside : Rule → State → List Step) 
   exec-tells b (case c n y a) s =
       tells-begun (case c n y a) s _ _ refl
       (tells-add (exec ask b c s) (choose (exec ask b c s .ans) (exec ask b n) (exec ask b y) (exec ask b a) (exec ask b c s .state)) (steps ask inside b c s)
-      (branched (exec ask b c s .ans) ∷ choose-steps (exec ask b c s .ans) (steps ask inside b n) (steps ask inside b y) (steps ask inside b a) (exec ask b c s .state)) (exec-tells b c s)
+      (branched (exec ask b c s .ans) ∷ choose (exec ask b c s .ans) (steps ask inside b n) (steps ask inside b y) (steps ask inside b a) (exec ask b c s .state)) (exec-tells b c s)
       (asked-tells (exec ask b c s .ans) _ _
       (choose-tells (exec ask b c s .ans) (exec ask b n) (exec ask b y) (exec ask b a) (steps ask inside b n) (steps ask inside b y) (steps ask inside b a) (exec-tells b n) (exec-tells b y) (exec-tells b a) (exec ask b c s .state))))
   exec-tells b (in-marker p) s = tells-begun (in-marker p) s _ _ refl (tells-marked s (exec ask b p s) (steps ask inside b p s) (exec-tells b p s))

@@ -8,7 +8,7 @@ use lib.Dec.{ltb}
 use lib.ListN.{length}
 use Rattle.definitions.specs.Layout.{MOST-OPEN-CALLS, MOST-PENDING}
 use Rattle.definitions.specs.Token.{Token}
-use Rattle.definitions.specs.Prog.{Ans, no, yes, also, again, Rule, Act, silent-at, at-end, immediate, immediate-next, add-expected, bump, bump-name, bump-argument, emit, emit-unclosed, less, Prog, ret, act, _⨟_, case, in-marker, loop, chain, brace, open-call}
+use Rattle.definitions.specs.Prog.{Ans, no, yes, also, again, choose, Rule, Act, silent-at, at-end, immediate, immediate-next, add-expected, bump, bump-name, bump-argument, emit, emit-unclosed, less, Prog, ret, act, _⨟_, case, in-marker, loop, chain, brace, open-call}
 use Rattle.definitions.specs.Grammar.{grammar, Entry, whole}
 use Rattle.definitions.specs.Skeleton.{Label, no-label}
 use Rattle.definitions.specs.Run.{State, Out, taken, is-again, goes-on, by-shape, here, exec, run}
@@ -41,12 +41,6 @@ links-steps (suc n) f g s =
     g s ++ (linked s (f s) ∷ (let more = links-steps n f g (f s .state) in by-shape (f s .shape) []
     (cond (goes-on s (f s)) more [])))
 
-unfoldable pub choose-steps : Ans → (State → List Step) → (State → List Step) → (State → List Step) → State → List Step
-choose-steps no n y a = n
-choose-steps yes n y a = y
-choose-steps also n y a = a
-choose-steps again n y a = y
-
 -- whether there is room
 unfoldable pub exceeds : Bool → List Step
 exceeds true = []
@@ -69,7 +63,7 @@ act-steps (less m n) s = []
 
 -- ask: what a call does. inside: its steps.
 unfoldable pub steps : (Rule → State → Out) → (Rule → State → List Step) → Label → Prog → State → List Step
-unfolding exec is-again choose-steps iter-steps links-steps act-steps
+unfolding exec is-again choose iter-steps links-steps act-steps
 steps ask in-call b (ret k a) s = begun (ret k a) s ∷ []
 steps ask in-call b (act a) s = begun (act a) s ∷ act-steps a s
 steps ask in-call b (p ⨟ q) s = begun (p ⨟ q) s ∷ (steps ask in-call b p s ++ steps ask in-call b q (exec ask b p s .state))
@@ -78,7 +72,7 @@ steps ask in-call b (case c n y a) s =
     begun (case c n y a) s
     ∷ (steps ask in-call b c s
     ++ (branched (o .ans)
-    ∷ choose-steps (o .ans) (steps ask in-call b n) (steps ask in-call b y) (steps ask in-call b a) (o .state)))
+    ∷ choose (o .ans) (steps ask in-call b n) (steps ask in-call b y) (steps ask in-call b a) (o .state)))
 steps ask in-call b (in-marker p) s = begun (in-marker p) s ∷ steps ask in-call b p s
 steps ask in-call b (loop p) s = begun (loop p) s ∷ iter-steps (suc (length (s .rest))) (exec ask b p) (steps ask in-call b p) s
 steps ask in-call b (chain p q) s =

@@ -16,7 +16,7 @@ use Rattle.definitions.specs.Place.{tree-row}
 use Rattle.machine.specs.Encode.{start-tag, encode}
 use Rattle.sink.specs.Encode.{Alone, Chained}
 use Rattle.sink_rows.specs.Rows.{put, field, link, linksN, links, open-rows}
-use Rattle.sink.specs.Model.{on, start-on}
+use Rattle.sink.specs.Model.{start-on}
 use Rattle.sink_rows.proofs.Chains.{links-end}
 use Rattle.sink.proofs.Encode.{event-count, events-length, encode-count}
 use Rattle.sink.proofs.Grow.{Filled, state, low-small, put-seam}

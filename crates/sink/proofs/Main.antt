@@ -11,7 +11,7 @@ use borrow.Author.Tests.{leb-true}
 use Rattle.basics.proofs.Flags.{flags}
 use Rattle.definitions.specs.Layout.{START-NODE, TREE-ROW, EVENT-ROW, EVENT-TAG, EVENT-ARGUMENT, PLACEHOLDER, ADD-TOKEN, ADD-COMBINED-TOKEN, FINISH-NODE, ERROR, LINKED-START-NODE, TWO-TO-32}
 use Rattle.definitions.specs.TokenKind as K
-use Rattle.definitions.specs.Token.{Token, trivia, drop-trivia, past}
+use Rattle.definitions.specs.Token.{Token, drop-trivia, past}
 use Rattle.definitions.specs.Skeleton.{Skeleton, done, token, name, node, ignored, report, over}
 use Rattle.definitions.specs.Event.{events as events-of}
 use Rattle.definitions.specs.Place.{Tree, nil, leaf, subtree, _⊕_, lead, front, after, place, width, rows}
@@ -19,7 +19,7 @@ use Rattle.laws.proofs.Trivia.{Solid, dropped-solid, drop-twice}
 use Rattle.machine.specs.Encode.{start-tag, encode}
 use Rattle.sink.specs.Encode.{event-row, Alone, Chained}
 use Rattle.sink_rows.specs.Rows.{field}
-use Rattle.sink.specs.Model.{On, on, token-on, trivia-on, combined-on, start-on, finish-on, event-on, eventsN}
+use Rattle.sink.specs.Model.{On, token-on, trivia-on, combined-on, start-on, finish-on, event-on, eventsN}
 use Rattle.sink.proofs.Encode.{event-count, events-length, encode-count}
 use Rattle.laws.proofs.Decode.{row-count, rows-length}
 use Rattle.sink.proofs.Trees.{raw, raw-beside, row-count-beside, count-rows, raw-lead, raw-place}

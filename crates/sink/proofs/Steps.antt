@@ -5,7 +5,7 @@ use mathlib.Core.List.{List, [], _∷_, _++_, append-assoc, append-nil}
 use mathlib.Core.Path.{_≡_, refl, sym, _∙_, ap, subst}
 use mathlib.Core.Bool.{Bool, true, false, cond, _||_}
 use lib.ListN.{length, getD, take, drop, length-append, length-drop}
-use lib.Seq.{drop-drop, getD-drop, drop-nil, take-length, take-all, length-take-le}
+use lib.Seq.{drop-drop, getD-drop, take-length, take-all, length-take-le}
 use lib.Dec.{leb, eqb}
 use borrow.Author.Tests.{leb-true, lt-ltb, le-ltb, lt-leb}
 use Rattle.basics.specs.Word.{low}
@@ -18,7 +18,7 @@ use Rattle.definitions.specs.Token.{Token, tokens-of, is-error, seen, trivia, b
 use Rattle.definitions.specs.Place.{Tree, nil, leaf, subtree, _⊕_, lead, front, width, count, rows, tree-row}
 use Rattle.sink_rows.specs.Rows.{PARENT, KIND, FIRST-BYTE, CHILDREN-BEFORE}
 use Rattle.sink_tokens.specs.Tokens.{kind-seen, trivia-here, at-most, widthN}
-use Rattle.sink.specs.Model.{on, sink-of, trivia-on, token-on, combined-on, finish-on}
+use Rattle.sink.specs.Model.{sink-of, trivia-on, token-on, combined-on, finish-on}
 use Rattle.sink.proofs.Loops.{trivia-more, trivia-done}
 use Rattle.laws.proofs.Decode.{row-count}
 use Rattle.sink.proofs.Trees.{raw}

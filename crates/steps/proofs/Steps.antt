@@ -14,13 +14,13 @@ use Rattle.basics.proofs.Tests.{cond-all}
 use Rattle.definitions.specs.Layout.{PLACEHOLDER, START-NODE, TOO-DEEP, MOST-PENDING}
 use Rattle.definitions.specs.Token.{Token, first-in}
 use Rattle.definitions.specs.Skeleton.{Span}
-use Rattle.definitions.specs.Prog.{Ans, no, yes, also, again, Rule, silent-at, Prog, ret, act, _⨟_, case, in-marker, loop, brace}
+use Rattle.definitions.specs.Prog.{choose, Ans, no, yes, also, again, Rule, silent-at, Prog, ret, act, _⨟_, case, in-marker, loop, brace}
 use Rattle.definitions.specs.Check.{at}
 use Rattle.definitions.specs.Check as C
 use Rattle.definitions.specs.Run.{truth, is-again}
 use Rattle.machine.specs.Machine.{Machine, rest, peek, push, range-at}
 use Rattle.machine.specs.Machine as M
-use Rattle.machine.specs.Walk.{Walked, said, perform, choose, next-marker, close, marked, walk}
+use Rattle.machine.specs.Walk.{Walked, said, perform, next-marker, close, marked, walk}
 use lib.Dec.{ltb}
 use Rattle.machine.proofs.Turns.{ahead, Few, peek-ahead, refuse-ahead, turn-again, turn-last}
 use Rattle.parser.specs.declared.StateAnswered.{StateAnswered}

@@ -9,10 +9,10 @@ use Rattle.definitions.specs.Layout.{START-NODE, PLACEHOLDER}
 use Rattle.definitions.specs.Token.{Token}
 use Rattle.definitions.specs.Skeleton.{Span}
 use Rattle.definitions.specs.Errors as E
-use Rattle.definitions.specs.Prog.{Ans, no, yes, again, Rule, emit-unclosed, Prog, act, case, in-marker, loop}
+use Rattle.definitions.specs.Prog.{choose, Ans, no, yes, again, Rule, emit-unclosed, Prog, act, case, in-marker, loop}
 use Rattle.definitions.specs.Run.{truth, is-again}
 use Rattle.machine.specs.Machine.{Machine, Marker, push, complete, emit}
-use Rattle.machine.specs.Walk.{Walked, said, perform, choose, next-marker, close, marked, walk}
+use Rattle.machine.specs.Walk.{Walked, said, perform, next-marker, close, marked, walk}
 use Rattle.machine.proofs.Turns.{ahead, turn-again, turn-last}
 use Rattle.machine.proofs.Way.{Way, Closes}
 

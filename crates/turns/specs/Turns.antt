@@ -9,7 +9,7 @@ use lib.ListN.{length}
 use Rattle.definitions.specs.TokenKind as K
 use Rattle.definitions.specs.NodeKind as N
 use Rattle.definitions.specs.Token.{Token, ended, first-in}
-use Rattle.definitions.specs.Prog.{no, yes, Act, silent-at, at-end, immediate, immediate-next, add-expected, bump, bump-name, bump-argument, emit, emit-unclosed, less, Prog, ret, act, _⨟_, case, in-marker, loop, chain, brace, open-call, propvalues}
+use Rattle.definitions.specs.Prog.{choose, no, yes, Act, silent-at, at-end, immediate, immediate-next, add-expected, bump, bump-name, bump-argument, emit, emit-unclosed, less, Prog, ret, act, _⨟_, case, in-marker, loop, chain, brace, open-call, propvalues}
 use Rattle.definitions.specs.Check.{if_then_else_, of-kind, assert-eat, expect-recoverable}
 use Rattle.definitions.specs.Grammar.{Entry, ITEM-RECOVERY-SET, macro-invocation, dt-expr, dt-cell-list, dt-node-body}
 use Rattle.definitions.specs.Run.{State, peeked, is-again}
@@ -28,7 +28,7 @@ Moves (linked s o) = is-again (o .ans) ≡ true → (length (o .state .rest) < l
 Moves spent = ⊥
 Moves exceeded = Unit {0}
 
--- So no loop and no chain answers again, and `Run.choose`, which reads again as yes, is not asked to.
+-- So no loop and no chain answers again, and `choose`, which reads again as yes, is not asked to.
 abbrev pub Answers : Step → Type 0
 Answers (begun p s) = Unit {0}
 Answers (branched a) = is-again a ≡ false

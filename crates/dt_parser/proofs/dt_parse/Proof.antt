@@ -2,7 +2,6 @@
 use mathlib.Core.Path.{sym, ap, _∙_}
 use borrow.Author.Needs.{needs}
 use Rattle.definitions.specs.Refusal.{number-of, place-of}
-use Rattle.grammar.specs.Subprograms.{entry-for}
 use Rattle.call.specs.Result.{answer-of, buffers-of, result-of}
 use Rattle.call.proofs.Called.{other-entry, refused-call, sound-call}
 use Rattle.dt_parser.specs.Asked.{asked-of}

@@ -1,7 +1,7 @@
 -- `clear`: whatever is zero from i on is what was to be made zero.
 use Prim.Native.Nat.{_-_}
 use native.Mathlib.Omega.{arith}
-use mathlib.Core.Path.{_≡_, refl, sym, _∙_, ap}
+use mathlib.Core.Path.{_≡_, refl, sym, _∙_}
 use lib.ListN.{length, length-set}
 use Rattle.refinement.specs.Ends.{wiped}
 use Rattle.refinement.proofs.Wiped.{wiped-step, wiped-past}

@@ -1,8 +1,6 @@
 -- `root_kind`: one line for each entry.
-use mathlib.Core.Path.{sym, ap}
 use borrow.Author.Needs.{needs}
 use Rattle.definitions.specs.Grammar.{root-kind}
-use Rattle.grammar.specs.Subprograms.{entry-for}
 use Rattle.dt_parser.proofs.entrypoint.root_kind.Statement.{statement}
 use Rattle.dt_parser.proofs.entrypoint.root_kind.Tie as tie
 

@@ -3,7 +3,7 @@ use Rattle.basics.proofs.Flags.{flags}
 use Rattle.input.proofs.RowChecks.{row-good-n, row-bad-n, rows-odd-at, rows-even-at}
 use Rattle.definitions.specs.Layout.{TOKEN-ROW}
 use Rattle.definitions.specs.Refusal.{check-rows}
-use Prim.Native.Nat.{ℕ, _*_, _/_, _-_, _≤_}
+use Prim.Native.Nat.{_*_, _/_, _-_, _≤_}
 use mathlib.Core.Path.{_≡_, refl, sym, _∙_}
 use borrow.Author.Tests.{eqb-true, eqb-false}
 use lib.ListN.{length, drop}

@@ -4,7 +4,7 @@ use Rattle.input.proofs.RowChecks.{texts-start, texts-again, texts-bad,
 use Rattle.definitions.specs.Layout.{TOKEN-ROW}
 use Rattle.definitions.specs.Token.{tokens-of}
 use Rattle.definitions.specs.Refusal.{accepted, check-rows, check-texts}
-use Prim.Native.Nat.{ℕ, _*_, _/_, _-_, _≤_}
+use Prim.Native.Nat.{_*_, _/_, _-_, _≤_}
 use mathlib.Core.Path.{_≡_, refl, sym, _∙_}
 use lib.ListN.{length, drop}
 use Rattle.input.proofs.causes.find_bad_text.Statement.{statement}

@@ -1,8 +1,6 @@
 -- `is_good_row` is `is-row`.
-use Rattle.basics.proofs.Flags.{flags}
 use mathlib.Core.Bool.{false≢true}
 use borrow.Author.Tests.{leb-true}
-use mathlib.Core.Path.{sym}
 use Rattle.input.specs.Checks.{is-row}
 use borrow.Author.Needs.{needs}
 use Rattle.input.proofs.causes.is_good_row.Statement.{statement}

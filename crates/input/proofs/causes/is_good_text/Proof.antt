@@ -2,7 +2,7 @@
 use Rattle.basics.proofs.Flags.{flags}
 use mathlib.Core.Bool.{false≢true}
 use Rattle.input.proofs.RowChecks.{slice-text}
-use mathlib.Core.Path.{sym, _∙_}
+use mathlib.Core.Path.{_∙_}
 use Rattle.input.specs.Checks.{is-text}
 use borrow.Author.Needs.{needs}
 use Rattle.input.proofs.causes.is_good_text.Statement.{statement}

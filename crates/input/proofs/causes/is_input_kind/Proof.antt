@@ -1,6 +1,6 @@
 -- `is_input_kind` is the definitions' `is-kind`: one line for each way through.
 use Rattle.basics.proofs.Flags.{flags}
-use borrow.Author.Tests.{lt-leb, le-leb, eq-eqb}
+use borrow.Author.Tests.{lt-leb}
 use Rattle.definitions.specs.LexError as L
 use Rattle.definitions.specs.Refusal.{is-kind}
 use Rattle.input.proofs.causes.is_input_kind.Statement.{statement}

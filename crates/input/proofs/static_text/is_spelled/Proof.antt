@@ -1,6 +1,6 @@
 -- `is_spelled`: the table's rule at one kind.
 use Rattle.basics.proofs.Flags.{flags}
-use Rattle.input.proofs.Texts.{Rule, rule, above, spelled-free, spelled-same}
+use Rattle.input.proofs.Texts.{rule, above, spelled-free, spelled-same}
 use native.Mathlib.Omega.{arith}
 use mathlib.Core.Path.{sym}
 use borrow.Author.Needs.{needs}

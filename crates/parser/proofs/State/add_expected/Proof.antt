@@ -2,7 +2,7 @@
 use Rattle.definitions.specs.Layout.{MOST-PENDING}
 use Rattle.basics.proofs.Flags.{flags}
 use Prim.Native.Nat.{_≤_, _<_}
-use mathlib.Core.Path.{_≡_, refl, sym, _∙_, ap}
+use mathlib.Core.Path.{_≡_, refl, sym, _∙_}
 use native.Mathlib.Omega.{arith}
 use borrow.Author.Tests.{ltb-true, ltb-false}
 use lib.ListN.{length}

@@ -1,6 +1,6 @@
 -- `at`: the expectations, and then the test.
 use Rattle.basics.proofs.Flags.{flags}
-use mathlib.Core.Path.{_≡_, refl, sym, _∙_, ap}
+use mathlib.Core.Path.{_∙_}
 use Rattle.definitions.specs.Token.{tokens-of}
 use Rattle.parser.specs.View.{view, matcher-of}
 use Rattle.parser.proofs.Programs.{matches-is, at-is}

@@ -1,7 +1,6 @@
 -- `at_end`: whether a row is left after the trivia.
 use mathlib.Core.Bool.{true≢false, false≢true}
 use Rattle.basics.proofs.Flags.{flags}
-use mathlib.Core.Path.{sym}
 use Rattle.definitions.specs.Token.{tokens-of}
 use Rattle.parser.specs.View.{view, tokens-left}
 use Rattle.parser.proofs.Moves.{at-end-is, ended-in, ended-past}

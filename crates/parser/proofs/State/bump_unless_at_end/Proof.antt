@@ -1,6 +1,6 @@
 -- `bump_unless_at_end`: a token, if there is one.
 use Rattle.basics.proofs.Flags.{flags}
-use mathlib.Core.Path.{_≡_, refl, sym, _∙_, ap}
+use mathlib.Core.Path.{_∙_}
 use mathlib.Core.Bool.{true, false}
 use Rattle.definitions.specs.Token.{tokens-of}
 use Rattle.definitions.specs.Prog.{bump}

@@ -1,6 +1,6 @@
 -- `eat`: the test, and the token or name, or else the expectations.
 use Rattle.basics.proofs.Flags.{flags}
-use mathlib.Core.Path.{_≡_, refl, sym, _∙_, ap}
+use mathlib.Core.Path.{sym, _∙_}
 use mathlib.Core.Bool.{true, false, false≢true}
 use Rattle.definitions.specs.Token.{tokens-of}
 use Rattle.parser.specs.View.{view, matcher-of}

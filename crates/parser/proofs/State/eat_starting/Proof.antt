@@ -1,6 +1,5 @@
 -- `eat_starting`: the test, and on a match the marker and the token or name.
 use Rattle.basics.proofs.Flags.{flags}
-use mathlib.Core.Path.{sym}
 use mathlib.Core.Bool.{true, false, false≢true}
 use Rattle.definitions.specs.Token.{tokens-of}
 use Rattle.parser.specs.View.{view, matcher-of, marker-of}

@@ -1,6 +1,5 @@
 -- `expect`: what `eat` takes, or a report.
 use Rattle.basics.proofs.Flags.{flags}
-use mathlib.Core.Path.{sym}
 use mathlib.Core.Bool.{false, false≢true}
 use Rattle.definitions.specs.Token.{tokens-of}
 use Rattle.parser.specs.View.{view, matcher-of}

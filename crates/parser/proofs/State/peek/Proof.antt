@@ -1,6 +1,6 @@
 -- `peek`: the trivia at the cursor passed.
 use Rattle.basics.proofs.Flags.{flags}
-use mathlib.Core.Path.{_≡_, refl, sym, _∙_, ap}
+use mathlib.Core.Path.{sym, _∙_}
 use Rattle.definitions.specs.Token.{tokens-of}
 use Rattle.parser.specs.View.{view, tokens-left}
 use Rattle.parser.proofs.Moves.{peek-is}

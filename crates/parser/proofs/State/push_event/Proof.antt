@@ -1,6 +1,6 @@
 -- `push_event`: a row, unless something was refused.
 use Rattle.basics.proofs.Flags.{flags}
-use mathlib.Core.Path.{_≡_, refl, sym, _∙_, ap}
+use mathlib.Core.Path.{_∙_}
 use Rattle.parser.specs.View.{tokens-left}
 use Rattle.parser.proofs.Moves.{push-on, push-off}
 use borrow.Author.Needs.{needs}

@@ -1,5 +1,4 @@
 -- `silent_at_macro_invocation_with_args`: an Ident, and an LParen right after it.
-use mathlib.Core.Path.{sym}
 use mathlib.Core.Bool.{true, false, false≢true}
 use Rattle.definitions.specs.Token.{tokens-of}
 use Rattle.parser.specs.View.{view}

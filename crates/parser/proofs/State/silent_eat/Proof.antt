@@ -1,6 +1,6 @@
 -- `silent_eat`: the test, and the token or name.
 use Rattle.basics.proofs.Flags.{flags}
-use mathlib.Core.Path.{_≡_, refl, sym, _∙_, ap}
+use mathlib.Core.Path.{sym, _∙_, ap}
 use mathlib.Core.Bool.{Bool, true, false, true≢false}
 use Rattle.definitions.specs.Token.{tokens-of}
 use Rattle.definitions.specs.Run.{truth}

@@ -1,7 +1,7 @@
 -- `take_while`: the name's rest from here is the name's rest from the start.
 use Rattle.basics.proofs.Flags.{flags}
 use Prim.Native.Nat.{ℕ, _≤_}
-use mathlib.Core.Path.{_≡_, refl, sym, _∙_, ap}
+use mathlib.Core.Path.{_≡_, refl, sym, _∙_}
 use native.Mathlib.Nat.{le-refl}
 use mathlib.Core.List.{List}
 use lib.ListN.{drop}

@@ -1,6 +1,6 @@
 -- `ends_statement`: one code, two codes, or neither.
 use Rattle.basics.proofs.Flags.{flags}
-use mathlib.Core.Path.{_≡_, refl, sym, _∙_, ap}
+use mathlib.Core.Path.{sym, _∙_}
 use borrow.Author.Tests.{eqb-true, eqb-false}
 use Rattle.parser.proofs.Lists.{only-one, only-two, only-other}
 use Rattle.parser.proofs.errors.ends_statement.Statement.{statement}

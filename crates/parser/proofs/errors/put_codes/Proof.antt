@@ -1,7 +1,7 @@
 -- `put_codes`: the first codes are written.
 use Rattle.basics.proofs.Flags.{flags}
 use Prim.Native.Nat.{ℕ, _+_, _-_, _≤_}
-use mathlib.Core.Path.{_≡_, refl, sym, _∙_, ap}
+use mathlib.Core.Path.{_≡_, refl, _∙_, ap}
 use mathlib.Core.List.{List}
 use lib.ListN.{length, set, take}
 use lib.Seq.{sets, length-sets}

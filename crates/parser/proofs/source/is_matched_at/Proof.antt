@@ -2,7 +2,6 @@
 use mathlib.Core.Bool.{false≢true}
 use Rattle.basics.proofs.Flags.{flags}
 use Rattle.token_rows.proofs.Seen.{is-one-of-rows, first-past-rows}
-use mathlib.Core.Path.{sym}
 use Rattle.parser.specs.View.{kinds-of}
 use Rattle.parser.proofs.source.is_matched_at.Statement.{statement}
 use Rattle.parser.proofs.source.is_matched_at.Tie as tie

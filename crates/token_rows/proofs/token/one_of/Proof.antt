@@ -1,7 +1,7 @@
 -- `one_of`: what is in the set is in what is left of it.
 use Rattle.basics.proofs.Flags.{flags}
 use Prim.Native.Nat.{_-_, _≤_}
-use mathlib.Core.Path.{_≡_, refl, sym, _∙_, ap}
+use mathlib.Core.Path.{_≡_, refl, sym, _∙_}
 use lib.ListN.{length, drop}
 use Rattle.definitions.specs.Token.{one-of}
 use Rattle.token_rows.proofs.Seen.{one-of-found, one-of-next, one-of-none}

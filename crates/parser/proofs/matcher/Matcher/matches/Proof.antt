@@ -1,5 +1,5 @@
 -- `matches`: each matcher's kinds.
-use mathlib.Core.Path.{_≡_, refl, sym, _∙_, ap}
+use mathlib.Core.Path.{sym, _∙_, ap}
 use Rattle.definitions.specs.Token.{one-of}
 use Rattle.parser.specs.View.{kinds-of}
 use Rattle.parser.specs.declared.matcher.Matcher.{Matcher}

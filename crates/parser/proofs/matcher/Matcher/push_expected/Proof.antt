@@ -1,9 +1,9 @@
 -- `push_expected`: each matcher's codes, the first for all matchers alike.
 use Prim.Native.Nat.{ℕ}
-use mathlib.Core.Path.{_≡_, sym, _∙_, ap}
+use mathlib.Core.Path.{_∙_, ap}
 use Rattle.basics.proofs.Flags.{flags}
 use Rattle.definitions.specs.Prog.{add-expected}
-use Rattle.machine.specs.Walk.{Walked, perform}
+use Rattle.machine.specs.Walk.{perform}
 use Rattle.parser.specs.View.{view, first-code}
 use Rattle.parser.proofs.Programs.{push-kind, push-either, push-name, push-label}
 use Rattle.parser.proofs.matcher.Matcher.push_expected.Statement.{statement}
