@@ -18,7 +18,8 @@ use Rattle.refusals.specs.Trace.{Happening, call-opened, expectation-pus
 
 -- ---------------------------------------------------------------- document 01's limits
 
--- Written out, and not cited from the definitions: another number there would otherwise change the statement with it.
+-- Written out here and below, as are entries, kinds and refusals, and not cited from the definitions: another number
+-- there would otherwise change the statement with it.
 abbrev pub MAX-BYTES : ℕ
 MAX-BYTES = 1048576
 
