@@ -6,7 +6,7 @@ use bench::clock::{median, ns};
 use bench::input::Input;
 use bench::port::Port;
 use bench::rust;
-use dt_parser_ffi::bound;
+use dt_parser_layout::bound;
 use oracle::parsers::on_large_stack;
 use std::hint::black_box;
 
