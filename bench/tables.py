@@ -24,21 +24,22 @@ def plural(n, word):
 
 
 def summary():
-    """Instructions first; times as their range over all runs on all machines."""
+    """Instructions first; times as their range over all runs of all sets on all machines."""
     c = next(c for c in COUNTS if c.name == HEADLINE)
-    n, runs = c.tokens, sum(int(m["runs"]) for m in MACHINES)
+    n, runs, names = c.tokens, sum(int(m["runs"]) for m in MACHINES), {m["machine"] for m in MACHINES}
     best, worst = min(float(m["best"]) for m in MACHINES), max(float(m["worst"]) for m in MACHINES)
     ours, heap = c.each("port_buffer_bytes"), c.each("rust_peak_heap_bytes")
     return table([f"A board file of {n:,} tokens", "Port", "Rust", "Port / Rust"], [
         ["instructions a token", f"{c.port / n:,.0f}", f"{c.rust / n:,.0f}", f"{c.port / c.rust:.2f}"],
-        [f"time, {plural(runs, 'run')} on {plural(len(MACHINES), 'machine')}", "", "", f"{best:.2f} to {worst:.2f}"],
+        [f"time, {plural(runs, 'run')} on {plural(len(names), 'machine')}", "", "", f"{best:.2f} to {worst:.2f}"],
         ["bytes of memory a token", f"{ours:,.0f} lent", f"{heap:,.0f} of heap", f"{ours / heap:.2f}"],
     ])
 
 
 def machines():
-    rows = [[m["machine"], m["runs"], m["best"], m["median"], m["worst"], m["load"] or "not noted"] for m in MACHINES]
-    return table(["Machine", "Runs", "Port / Rust by time: best", "median", "worst", "Load at the start"], rows)
+    columns = "machine date runs best median worst load".split()
+    rows = [[m[c] or "not noted" for c in columns] for m in MACHINES]
+    return table(["Machine", "Date", "Runs", "Port / Rust by time: best", "median", "worst", "Load at the start"], rows)
 
 
 def ratios(name, column):
