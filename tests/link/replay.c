@@ -94,9 +94,9 @@ static void at_the_edge(const struct one *c, struct dt_answer a, const struct bu
     }
 }
 
-int main(int n, char **words)
+int main(int argc, char **argv)
 {
-    FILE *f = n == 2 ? fopen(words[1], "rb") : NULL;
+    FILE *f = argc == 2 ? fopen(argv[1], "rb") : NULL;
     if (!f)
         fail("usage", "replay LIST");
     struct one c;

@@ -88,7 +88,7 @@ fn once(what: &str, name: &str, lengths: &str) {
     let lengths: Vec<usize> = lengths.split(',').map(|n| n.parse().expect("a length")).collect();
     let mut port = Port::with(lengths.try_into().expect("five lengths"));
     rust::ready(&input);
-    drop(rust::copy(&input)); // builds the lexer's tables, whoever lexes first
+    drop(rust::copy(&input)); // the first lexer builds its tables, which are not part of a parse
     let number = match what {
         "copy" => 1,
         "rust" => 2,

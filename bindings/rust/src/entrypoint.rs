@@ -18,7 +18,7 @@ numbered! {
 }
 
 impl Entrypoint {
-    /// Parses the input. Whoever parses often keeps a [`Parser`], whose buffers are used again.
+    /// Parses the input. To parse often, keep a [`Parser`], whose buffers are used again.
     ///
     /// ```
     /// use dt_parser::{Entrypoint, Input, Token, TokenKind};

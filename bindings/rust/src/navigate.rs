@@ -1,4 +1,4 @@
-//! Steps from a place in the tree to others: siblings, first and last leaf, what lies at an offset or around a range.
+//! Steps from an item of the tree to others: siblings, first and last leaf, what lies at an offset or around a range.
 
 use crate::tree::RowKind;
 use crate::{Item, Leaf, Node, TextRange, Tree};
@@ -24,7 +24,7 @@ macro_rules! steps {
             #[must_use]
             pub fn next_sibling(self) -> Option<Item<'t>> {
                 let (parent, next) = (self.parent()?, self.data().next);
-                (next < parent.data().next).then(|| self.tree().at(next))
+                (next < parent.data().next).then(|| self.tree().item_at_row(next))
             }
 
             /// The child of the same parent before it; none for the first and for the root.
@@ -39,7 +39,7 @@ macro_rules! steps {
                 while tree.rows[row].parent != parent {
                     row = tree.rows[row].parent;
                 }
-                Some(tree.at(row))
+                Some(tree.item_at_row(row))
             }
         }
     };
@@ -140,6 +140,3 @@ impl Tree<'_> {
         }
     }
 }
-
-#[cfg(test)]
-mod tests;
