@@ -101,9 +101,9 @@ fn room(judge: &mut Judge, call: &mut Call) {
     if tried.any(|lengths| take(judge, call, Call { lengths, ..call.clone() })) {
         return;
     }
-    for i in 0..BUFFERS {
+    for (i, need) in needs.into_iter().enumerate() {
         let mut smaller = call.clone();
-        smaller.lengths[i] = needs[i];
+        smaller.lengths[i] = need;
         take(judge, call, smaller);
     }
 }

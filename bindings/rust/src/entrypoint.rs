@@ -22,7 +22,8 @@ impl Entrypoint {
     ///
     /// ```
     /// use dt_parser::{Entrypoint, Input, Token, TokenKind};
-    /// let input = Input { text: b"a;", tokens: vec![Token::new(TokenKind::Ident, 1), Token::new(TokenKind::Semicolon, 1)] };
+    /// let tokens = vec![Token::new(TokenKind::Ident, 1), Token::new(TokenKind::Semicolon, 1)];
+    /// let input = Input { text: b"a;", tokens };
     /// let parse = Entrypoint::SourceFile.parse(&input)?;
     /// assert!(parse.is_clean());
     /// # Ok::<(), dt_parser::Error>(())

@@ -10,7 +10,8 @@ use std::ops::Range;
 ///
 /// ```
 /// # use dt_parser::{Entrypoint, Input, NodeKind, Token, TokenKind};
-/// # let kinds = [TokenKind::Ident, TokenKind::LCurly, TokenKind::Ident, TokenKind::Semicolon, TokenKind::RCurly, TokenKind::Semicolon];
+/// # use TokenKind::{Ident, LCurly, RCurly, Semicolon};
+/// # let kinds = [Ident, LCurly, Ident, Semicolon, RCurly, Semicolon];
 /// # let input = Input::new(b"a{b;};", kinds.map(|kind| Token::new(kind, 1)).to_vec());
 /// let parse = Entrypoint::SourceFile.parse(&input)?; // of `a{b;};`
 /// let node = parse.tree.root().child(NodeKind::DtNode).expect("there is one");
