@@ -143,7 +143,7 @@ def read_line(line):
     return case_of(int(entry), numbers, unescaped(text[0] if text else ""))
 
 
-def case_line(case, caps):
+def case_line(case, lengths):
     """The case as a line for the oracle, with these buffer lengths ("-" is room enough)."""
     rows = ",".join("%d:%d" % (row.kind, row.length) for row in case.rows)
-    return "%d caps %s toks %s %s" % (case.entry, ",".join(map(str, caps)), rows, escaped(case.data()))
+    return "%d caps %s toks %s %s" % (case.entry, ",".join(map(str, lengths)), rows, escaped(case.data()))

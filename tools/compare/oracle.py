@@ -46,9 +46,9 @@ class Parsed:
 
 
 class Oracle(Program):
-    def ask(self, cases, caps=ROOM):
+    def ask(self, cases, lengths=ROOM):
         """The oracle's answers, with the same buffer lengths for all or (None) with each case's own."""
-        blocks = self.blocks(["doc01", "any"], [case_line(c, caps or c.lengths) for c in cases])
+        blocks = self.blocks(["doc01", "any"], [case_line(c, lengths or c.lengths) for c in cases])
         assert len(blocks) == len(cases)
         return [Parsed(lines) for lines in blocks]
 

@@ -54,6 +54,7 @@ fn entry(r: &mut Rng) -> u32 {
     r.pick(&[0, 5, 6, 255, 256, 257, 260, 65537, u32::MAX, u32::MAX - 3, other])
 }
 
+/// Another kind: of leaves alone, a number beside those of kinds and errors, one far from them, or a good one.
 fn kind(r: &mut Rng, call: &mut Call) {
     let rows = call.tokens.len() / ROW_TOKEN;
     if rows > 0 {
