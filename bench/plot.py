@@ -6,11 +6,12 @@ import matplotlib
 matplotlib.use("Agg")
 from matplotlib import pyplot, ticker
 
+from inputs import FAMILIES
 from results import HEADLINE, Times, counts
 
 RESULTS, NAME = sys.argv[1:]
 PORT, RUST = "tab:red", "tab:blue"
-MARKS = dict(zip(["chain", "braces", "errors", "novalue", "name", "blanks"], "os^Dv*"))
+MARKS = dict(zip(FAMILIES, "os^Dv*"))
 
 
 def axes(ax, title, unit, scale="linear"):

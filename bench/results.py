@@ -16,12 +16,13 @@ def read(path):
 
 
 class Times:
-    """The times of all runs on one machine."""
+    """The times of the last set of runs."""
 
     def __init__(self, path):
         self.by_input = {}
-        for row in read(path):
-            numbers = {k: float(v) for k, v in row.items() if k != "input"}
+        rows = read(path)
+        for row in (row for row in rows if row["date"] == rows[-1]["date"]):
+            numbers = {k: float(v) for k, v in row.items() if k not in ("date", "input")}
             numbers["rust_ns"] = numbers["rust_with_copy_ns"] - numbers["rust_copy_ns"]
             self.by_input.setdefault(row["input"], []).append(numbers)
         self.runs = max(map(len, self.by_input.values()))

@@ -1,7 +1,8 @@
 #!/bin/sh
 # Measures both parsers and writes bench/results, the plot (docs/benchmark.svg, docs/benchmark.png) and the tables of
 # docs/BENCHMARK.md, docs/FIGURES.md and README.md. Some minutes, most of them under callgrind.
-#   bench/run.sh [RUNS] [ROUNDS] [MACHINE]    timed runs (5) of so many interleaved rounds each (31); the machine's name
+#   bench/run.sh [RUNS] [ROUNDS] [MACHINE]    so many timed runs (5) of so many interleaved rounds each (31), added to
+#                                             those in bench/results; the machine's name
 #   bench/run.sh tables                       tables and plot again, from bench/results
 # For times that say something nothing else should run. Instructions do not vary.
 set -eu

@@ -8,7 +8,8 @@ from results import HEADLINE, Times, counts, read
 RESULTS, ROOT = sys.argv[1:]
 COUNTS = counts(f"{RESULTS}/counts.csv")
 TIMES = Times(f"{RESULTS}/times.csv")
-MACHINES = read(f"{RESULTS}/machines.csv")
+SETS = read(f"{RESULTS}/machines.csv")  # of runs, several on one machine
+MACHINES = {s["machine"] for s in SETS}
 BOARD = [c for c in COUNTS if c.family == "board"]
 WORST = [c for c in COUNTS if c.family != "board"]
 LARGEST = [c for c in COUNTS if c.tokens > 40000]
@@ -24,10 +25,10 @@ def plural(n, word):
 
 
 def summary():
-    """Instructions first; times as their range over all runs on all machines."""
+    """Instructions first; times as their range over all runs of all sets."""
     c = next(c for c in COUNTS if c.name == HEADLINE)
-    n, runs = c.tokens, sum(int(m["runs"]) for m in MACHINES)
-    best, worst = min(float(m["best"]) for m in MACHINES), max(float(m["worst"]) for m in MACHINES)
+    n, runs = c.tokens, sum(int(s["runs"]) for s in SETS)
+    best, worst = min(float(s["best"]) for s in SETS), max(float(s["worst"]) for s in SETS)
     ours, heap = c.each("port_buffer_bytes"), c.each("rust_peak_heap_bytes")
     return table([f"A board file of {n:,} tokens", "Port", "Rust", "Port / Rust"], [
         ["instructions per token", f"{c.port / n:,.0f}", f"{c.rust / n:,.0f}", f"{c.port / c.rust:.2f}"],
@@ -37,8 +38,9 @@ def summary():
 
 
 def machines():
-    rows = [[m["machine"], m["runs"], m["best"], m["median"], m["worst"], m["load"] or "not noted"] for m in MACHINES]
-    return table(["Machine", "Runs", "Port / Rust by time: best", "median", "worst", "Load at the start"], rows)
+    columns = "machine date runs best median worst load".split()
+    rows = [[s[c] or "not noted" for c in columns] for s in SETS]
+    return table(["Machine", "Date", "Runs", "Port / Rust by time: best", "median", "worst", "Load at the start"], rows)
 
 
 def ratios(name, column):

@@ -1,17 +1,20 @@
 """times.py FOLDER RUNS ROUNDS MACHINE RESULTS: times both parsers in so many runs, each a process of its own.
 
-Writes a line for each run and input to RESULTS/times.csv, and this machine's line to RESULTS/machines.csv, where lines of
-other machines stay. MACHINE names the machine; without a name it is its processor."""
+Adds a line for each run and input to RESULTS/times.csv, and one for the whole set of runs to RESULTS/machines.csv, with
+the machine and the date. Earlier sets stay, those of the same machine too: what was measured once is part of the range.
+MACHINE names the machine; without a name it is its processor."""
 import csv
+import datetime
 import os
 import sys
 
 from inputs import GROUPS, output
-from results import HEADLINE, Times, read
+from results import HEADLINE, Times
 
 FOLDER, RUNS, ROUNDS, MACHINE, RESULTS = sys.argv[1:]
-COLUMNS = """run input port_ns rust_copy_ns rust_with_copy_ns rust_with_copy_and_free_ns time_ratio time_ratio_with_freeing
-    port_in_bound_buffers_ns""".split()
+COLUMNS = """date run input port_ns rust_copy_ns rust_with_copy_ns rust_with_copy_and_free_ns time_ratio
+    time_ratio_with_freeing port_in_bound_buffers_ns""".split()
+MACHINE_COLUMNS = "machine date runs best median worst load".split()
 
 
 def processor():
@@ -20,34 +23,29 @@ def processor():
     return f"{names[0]}, {len(names)} processors"
 
 
-def write(path, lines):
-    with open(path, "w", newline="") as file:
-        csv.writer(file, lineterminator="\n").writerows(lines)
+def add(path, columns, lines):
+    """Adds lines to a table."""
+    head = [] if os.path.exists(path) else [columns]
+    with open(path, "a", newline="") as file:
+        csv.writer(file, lineterminator="\n").writerows(head + lines)
 
 
-def timed():
+def timed(date):
     for run in range(1, int(RUNS) + 1):
         print(f"times, run {run} of {RUNS}", file=sys.stderr)
         for group in GROUPS:
             for line in output(f"{FOLDER}/bench", "times", ROUNDS, *group).splitlines():
-                yield [run, *line.split(",")]
-
-
-def add_machine(name, load):
-    """The ratio of the headline's input on this machine, instead of what stood there of it."""
-    path = f"{RESULTS}/machines.csv"
-    best, median, worst = Times(f"{RESULTS}/times.csv").spread(HEADLINE, "time_ratio")
-    old = [list(r.values()) for r in read(path) if r["machine"] != name]
-    ratios = [f"{x:.2f}" for x in (best, median, worst)]
-    write(path, [["machine", "runs", "best", "median", "worst", "load"], *old, [name, RUNS, *ratios, f"{load:.1f}"]])
+                yield [date, run, *line.split(",")]
 
 
 def main():
-    load = os.getloadavg()[0]
+    load, date = os.getloadavg()[0], datetime.datetime.now(datetime.timezone.utc).strftime("%Y-%m-%d %H:%M")
     if load > 0.3:
         print(f"note: the load is {load:.1f}: other programs run, and times will vary more", file=sys.stderr)
-    write(f"{RESULTS}/times.csv", [COLUMNS, *timed()])
-    add_machine(MACHINE or processor(), load)
+    # added at once, so that an interrupted set leaves no lines
+    add(f"{RESULTS}/times.csv", COLUMNS, [*timed(date)])
+    ratios = [f"{x:.2f}" for x in Times(f"{RESULTS}/times.csv").spread(HEADLINE, "time_ratio")]
+    add(f"{RESULTS}/machines.csv", MACHINE_COLUMNS, [[MACHINE or processor(), date, RUNS, *ratios, f"{load:.1f}"]])
 
 
 main()

@@ -89,13 +89,13 @@ enum dt_class { DT_CLASS_NODE = 0, DT_CLASS_LEAF = 1 };
 /* The numbers of a lexical error. */
 enum dt_error_column { DT_COL_ERROR_NUMBER = 0, DT_COL_ERROR_START = 1, DT_COL_ERROR_END = 2 };
 
-/* The numbers of a report. Places are byte offsets, an end is excluded. */
+/* The numbers of a report. Start and end are byte offsets; the end is excluded. */
 enum dt_report_column {
     DT_COL_REPORT_MESSAGE = 0,     /* enum dt_message */
     DT_COL_REPORT_START = 1,
     DT_COL_REPORT_END = 2,
     DT_COL_REPORT_MARK = 3,        /* the index just past the last token taken */
-    DT_COL_REPORT_POOL_FIRST = 4,  /* place of its first expectation in the pool */
+    DT_COL_REPORT_POOL_FIRST = 4,  /* index of its first expectation in the pool */
     DT_COL_REPORT_POOL_COUNT = 5,  /* how many it has; 0 unless the message is 1 */
     DT_COL_REPORT_HINT = 6,        /* enum dt_hint */
     DT_COL_REPORT_LABEL_START = 7, /* 0, 0: no label */
@@ -147,9 +147,9 @@ DT_ASSERT_ROW(dt_report_row, DT_ROW_REPORT);
 
 /*
  * The row after a subtree: that of the next sibling if there is one, else of what follows the parent's subtree;
- * tree_count at the end. trees are the rows of an accepted call, tree_count how many they are (dt_answer.tree_count), row
- * is that of the subtree's root. Rows that are not a tree lead no further than tree_count. The time is in the subtree's
- * size.
+ * tree_count at the end. trees are the rows of an accepted call, tree_count how many they are (dt_answer.tree_count),
+ * row is that of the subtree's root. Rows that are not a tree lead no further than tree_count. The time is in the
+ * subtree's size.
  *
  * The children of a node, in order:
  *
@@ -343,7 +343,7 @@ struct dt_answer {
  * Whose memory: all seven stay the caller's. They are lent for the time of the call; nothing points into them
  * afterwards, and the call frees nothing.
  *
- * Before the call the five lent buffers may hold anything; nobody has to clear them. Afterwards:
+ * Before the call the five lent buffers may hold anything; they need not be cleared. Afterwards:
  *   accepted          the rows that the answer counts at the front of trees, errors, reports and pool; the rest of
  *                     each, and all of events, is zero
  *   refused, 1 to 4   every buffer is as it was

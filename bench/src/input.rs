@@ -1,9 +1,11 @@
 //! The inputs: a realistic file in many sizes, and inputs that might cost more than others.
+use dt_parser_layout::{ENTRY_CELLS, ENTRY_SOURCE_FILE, MAX_TOKENS};
 use oracle::case::{Case, Rows};
-use oracle::{generate, token};
-
-/// A token list is at most this long.
-pub const MOST: usize = 65_536;
+use oracle::generate;
+use oracle::token::TokenKind::{
+    self, Comma, Equals, Ident, LParen, Number, Plus, RCurly, RParen, Semicolon, Whitespace,
+};
+use oracle::token::{self, LexError};
 
 pub struct Input {
     /// `FAMILY-TOKENS`, as the command line has it.
@@ -15,21 +17,29 @@ pub struct Input {
     pub tokens: Vec<u32>,
 }
 
-/// The pattern is repeated to n tokens between a head and a tail, as kinds with their texts.
-type Tokens = &'static [(u32, &'static str)];
+/// Kinds, as the Rust's lexer gives them, with texts.
+type Tokens = &'static [(Result<TokenKind, LexError>, &'static str)];
+
+/// Name, entry, head, pattern and tail: the pattern is repeated to n tokens between the other two.
 const PATTERNS: &[(&str, u32, Tokens, Tokens, Tokens)] = &[
     // one expression, nested n / 2 deep to the left
-    ("chain", 4, &[(41, "(")], &[(35, "1"), (43, "+")], &[(35, "1"), (42, ")")]),
+    (
+        "chain",
+        ENTRY_CELLS,
+        &[(Ok(LParen), "(")],
+        &[(Ok(Number), "1"), (Ok(Plus), "+")],
+        &[(Ok(Number), "1"), (Ok(RParen), ")")],
+    ),
     // a report for each token
-    ("braces", 1, &[], &[(38, "}")], &[]),
+    ("braces", ENTRY_SOURCE_FILE, &[], &[(Ok(RCurly), "}")], &[]),
     // a report of eleven expectations and a lexical error for each token
-    ("errors", 1, &[], &[(74, "\\")], &[]),
+    ("errors", ENTRY_SOURCE_FILE, &[], &[(Err(LexError::Default), "\\")], &[]),
     // two reports for three tokens
-    ("novalue", 1, &[], &[(27, "a"), (28, "="), (29, ";")], &[]),
+    ("novalue", ENTRY_SOURCE_FILE, &[], &[(Ok(Ident), "a"), (Ok(Equals), "="), (Ok(Semicolon), ";")], &[]),
     // one name
-    ("name", 1, &[], &[(27, "a"), (2, ",")], &[(29, ";")]),
+    ("name", ENTRY_SOURCE_FILE, &[], &[(Ok(Ident), "a"), (Ok(Comma), ",")], &[(Ok(Semicolon), ";")]),
     // trivia alone
-    ("blanks", 1, &[], &[(0, " ")], &[]),
+    ("blanks", ENTRY_SOURCE_FILE, &[], &[(Ok(Whitespace), " ")], &[]),
 ];
 
 impl Input {
@@ -44,7 +54,7 @@ impl Input {
         let times = (n - head.len() - tail.len()) / pattern.len();
         let body = (0..times).flat_map(|_| pattern);
         let list: Vec<_> = head.iter().chain(body).chain(tail).collect();
-        let rows = list.iter().map(|t| (t.0, t.1.len())).collect();
+        let rows = list.iter().map(|t| (token::code(&t.0), t.1.len())).collect();
         Input::from(name, entry, rows, list.iter().map(|t| t.1).collect())
     }
 
@@ -53,10 +63,10 @@ impl Input {
         let mut less = 0;
         loop {
             let (rows, text) = token::rows(&Case::Text(generate::big(n - less)));
-            if rows.len() <= MOST {
-                return Input::from(name, 1, rows, text);
+            if rows.len() <= MAX_TOKENS {
+                return Input::from(name, ENTRY_SOURCE_FILE, rows, text);
             }
-            less += rows.len() - MOST
+            less += rows.len() - MAX_TOKENS
         }
     }
 

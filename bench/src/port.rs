@@ -1,9 +1,13 @@
 //! The static library, with lent buffers that just suffice.
 use crate::input::Input;
-use dt_parser_ffi::{Answer, Lengths, ROW};
+use dt_parser_ffi::Answer;
+use dt_parser_layout::{
+    ACCEPTED, BUFFERS, ERRORS, EVENTS, Lengths, POOL, REFUSAL_NO_EVENT_ROOM, REFUSAL_NO_REPORT_ROOM,
+    REFUSAL_NO_TREE_ROOM, REPORTS, ROW_EVENT, TREES,
+};
 
 pub struct Port {
-    buffers: [Vec<u32>; 5],
+    buffers: [Vec<u32>; BUFFERS],
 }
 
 impl Port {
@@ -13,28 +17,31 @@ impl Port {
 
     /// The fewest numbers of each buffer with which the input is accepted.
     pub fn fitting(input: &Input) -> Port {
-        let mut lengths = [64; 5];
+        let mut lengths = [64; BUFFERS];
         let answer = loop {
             let answer = Port::with(lengths).parse(input);
-            match answer.number {
-                0 => break answer,
-                6 => lengths[0] *= 2,
-                7 => (lengths[3], lengths[4]) = (2 * lengths[3], 2 * lengths[4]),
-                8 => (lengths[1], lengths[2]) = (2 * lengths[1], 2 * lengths[2]),
+            let short: &[usize] = match answer.number {
+                ACCEPTED => break answer,
+                REFUSAL_NO_EVENT_ROOM => &[EVENTS],
+                REFUSAL_NO_REPORT_ROOM => &[REPORTS, POOL],
+                REFUSAL_NO_TREE_ROOM => &[TREES, ERRORS],
                 _ => panic!("{}: {answer:?}", input.name),
-            }
+            };
+            short.iter().for_each(|&i| lengths[i] *= 2)
         };
-        lengths[1..].copy_from_slice(&answer.used()[1..]);
-        let (mut refused, mut accepted) = (0, lengths[0] / ROW[0]);
+        // an answer does not say how many events there were
+        let most = lengths[EVENTS] / ROW_EVENT;
+        lengths = answer.used();
+        let (mut refused, mut accepted) = (0, most);
         while refused < accepted {
             let events = (refused + accepted) / 2;
-            lengths[0] = ROW[0] * events;
+            lengths[EVENTS] = ROW_EVENT * events;
             match Port::with(lengths).parse(input).number {
-                0 => accepted = events,
+                ACCEPTED => accepted = events,
                 _ => refused = events + 1,
             }
         }
-        lengths[0] = ROW[0] * accepted;
+        lengths[EVENTS] = ROW_EVENT * accepted;
         Port::with(lengths)
     }
 

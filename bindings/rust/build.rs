@@ -1,8 +1,8 @@
 //! Finds the static library that the proved crate `dt_parser` is made into, and has it linked.
 //!
-//! `DT_PARSER_LIB` names a library that is there already, as it does for the project's other tools. Without it,
-//! `rt staticlib dt_parser` is run at the repository's root, two levels up: it proves what has changed since the last
-//! time, and writes the library. A copy is linked, so that the build stays good when the library is removed.
+//! tools/static-library of the repository, two levels up, prints its path: that of `DT_PARSER_LIB`, or of the library
+//! that the kit makes after it has proved what changed since the last time. A copy is linked, so that the build stays
+//! good when the library is removed.
 
 use std::env;
 use std::path::{Path, PathBuf};
@@ -39,22 +39,43 @@ fn check_target() -> Result<(), String> {
     }
 }
 
+/// The library that the script names. A copy of this package outside its repository has no script: there the variable
+/// must name the library.
 fn library() -> Result<PathBuf, String> {
+    let root = root();
+    let script = root.join("tools/static-library");
     match env::var_os(VARIABLE) {
-        Some(file) => given(PathBuf::from(file)),
-        None => made_by_rt(),
+        Some(file) if !script.is_file() => Ok(PathBuf::from(file)),
+        None if !script.is_file() => Err(format!(
+            "no tools/static-library in {}: this package stands outside its repository.\n{}",
+            root.display(),
+            help()
+        )),
+        given => {
+            let made_from = if given.is_none() { ["crates", "crates.txt"].as_slice() } else { &[] };
+            for file in made_from {
+                println!("cargo::rerun-if-changed={}", root.join(file).display());
+            }
+            println!("cargo::rerun-if-changed={}", script.display());
+            printed_by(&script)
+        }
     }
 }
 
-/// The file that the variable names. A relative path is taken from the repository's root.
-fn given(file: PathBuf) -> Result<PathBuf, String> {
-    let file = root().join(file);
-    println!("cargo::rerun-if-changed={}", file.display());
-    if file.is_file() { Ok(file) } else { Err(format!("{VARIABLE} names {}, which is not a file", file.display())) }
+fn printed_by(script: &Path) -> Result<PathBuf, String> {
+    let name = script.display();
+    let said =
+        Command::new(script).output().map_err(|why| format!("{name} could not be started: {why}\n{}", help()))?;
+    if said.status.success() {
+        return Ok(PathBuf::from(String::from_utf8_lossy(&said.stdout).trim_end()));
+    }
+    let text = last_lines(&String::from_utf8_lossy(&said.stderr));
+    Err(format!("{name} found no library ({}):\n{text}\n{}", said.status, help()))
 }
 
 /// Copies the library to cargo's folder, under the name that the linker looks for. Gives the folder.
 fn copied(library: &Path) -> Result<PathBuf, String> {
+    println!("cargo::rerun-if-changed={}", library.display());
     let folder = PathBuf::from(env::var_os("OUT_DIR").unwrap_or_default());
     match std::fs::copy(library, folder.join(ARCHIVE)) {
         Ok(_) => Ok(folder),
@@ -62,39 +83,10 @@ fn copied(library: &Path) -> Result<PathBuf, String> {
     }
 }
 
-/// Has the kit prove the crate and write its library.
-fn made_by_rt() -> Result<PathBuf, String> {
-    let root = root();
-    for file in ["crates", "crates.txt"] {
-        println!("cargo::rerun-if-changed={}", root.join(file).display());
-    }
-    if !root.join("crates.txt").is_file() {
-        return Err(format!(
-            "no crates.txt in {}: this package stands outside its repository.\n{}",
-            root.display(),
-            help()
-        ));
-    }
-    run_rt(&root)?;
-    Ok(root.join("target/staticlib").join(ARCHIVE))
-}
-
-fn run_rt(root: &Path) -> Result<(), String> {
-    let said = Command::new("rt").args(["staticlib", "dt_parser"]).current_dir(root).output().map_err(|why| {
-        format!("`rt staticlib dt_parser` could not be started ({why}): is the Rattle kit's rt on PATH?\n{}", help())
-    })?;
-    if said.status.success() {
-        return Ok(());
-    }
-    let text = [said.stdout, said.stderr].concat();
-    let text = last_lines(&String::from_utf8_lossy(&text));
-    Err(format!("`rt staticlib dt_parser` in {} failed ({}):\n{text}\n{}", root.display(), said.status, help()))
-}
-
 fn root() -> PathBuf {
     let here = env::var_os("CARGO_MANIFEST_DIR").map_or_else(PathBuf::new, PathBuf::from);
     let root = here.join("../..");
-    root.canonicalize().unwrap_or_else(|_| Path::new(&root).to_path_buf())
+    root.canonicalize().unwrap_or(root)
 }
 
 fn last_lines(text: &str) -> String {

@@ -4,28 +4,28 @@
 
 enum { EVENTS, TREES, ERRORS, REPORTS, POOL };
 
-static int grow(struct numbers *n)
+static int grow(struct buffer *b)
 {
-    size_t len = 2 * n->len + 64;
-    uint32_t *at = (uint32_t *)realloc(n->at, len * sizeof *at);
-    if (!at)
+    size_t len = 2 * b->len + 64;
+    uint32_t *numbers = (uint32_t *)realloc(b->numbers, len * sizeof *numbers);
+    if (!numbers)
         return 0;
-    n->at = at;
-    n->len = len;
+    b->numbers = numbers;
+    b->len = len;
     return 1;
 }
 
-static struct dt_answer call(const struct input *in, const struct numbers *b)
+static struct dt_answer call(const struct input *in, const struct buffer *b)
 {
     return dt_parse(in->entry, in->bytes, in->bytes_len, (const uint32_t *)in->tokens, DT_ROW_TOKEN * in->tokens_count,
-                    b[EVENTS].at, b[EVENTS].len, b[TREES].at, b[TREES].len, b[ERRORS].at, b[ERRORS].len, b[REPORTS].at,
-                    b[REPORTS].len, b[POOL].at, b[POOL].len);
+                    b[EVENTS].numbers, b[EVENTS].len, b[TREES].numbers, b[TREES].len, b[ERRORS].numbers, b[ERRORS].len,
+                    b[REPORTS].numbers, b[REPORTS].len, b[POOL].numbers, b[POOL].len);
 }
 
 /* Starts with no room at all, and grows what a refusal names. The bounds DT_..._FOR end this for every input. */
 int parse(const struct input *in, struct parsed *out)
 {
-    struct numbers *b = out->buffers;
+    struct buffer *b = out->buffers;
     int room = 1;
     memset(out, 0, sizeof *out);
     while (room) {
@@ -41,10 +41,10 @@ int parse(const struct input *in, struct parsed *out)
             room = grow(&b[TREES]) && grow(&b[ERRORS]);
             break;
         default:
-            out->trees = (const struct dt_tree_row *)b[TREES].at;
-            out->errors = (const struct dt_error_row *)b[ERRORS].at;
-            out->reports = (const struct dt_report_row *)b[REPORTS].at;
-            out->pool = b[POOL].at;
+            out->trees = (const struct dt_tree_row *)b[TREES].numbers;
+            out->errors = (const struct dt_error_row *)b[ERRORS].numbers;
+            out->reports = (const struct dt_report_row *)b[REPORTS].numbers;
+            out->pool = b[POOL].numbers;
             return 1;
         }
     }
@@ -55,6 +55,6 @@ void free_parsed(struct parsed *out)
 {
     size_t i;
     for (i = 0; i < sizeof out->buffers / sizeof *out->buffers; i++)
-        free(out->buffers[i].at);
+        free(out->buffers[i].numbers);
     memset(out, 0, sizeof *out);
 }

@@ -12,9 +12,9 @@ struct input {
     size_t tokens_count;
 };
 
-/* `len` numbers at `at`. */
-struct numbers {
-    uint32_t *at;
+/* A buffer to lend: so many numbers. */
+struct buffer {
+    uint32_t *numbers;
     size_t len;
 };
 
@@ -25,10 +25,10 @@ struct parsed {
     const struct dt_error_row *errors;
     const struct dt_report_row *reports;
     const uint32_t *pool;
-    struct numbers buffers[5];
+    struct buffer buffers[5];
 };
 
-/* 0 if there was no memory. free_parsed is due in every case. */
+/* 0 if there was no memory. free_parsed must be called in every case. */
 int parse(const struct input *in, struct parsed *out);
 void free_parsed(struct parsed *out);
 

@@ -27,15 +27,15 @@ static void indent(size_t depth)
 }
 
 /* Prints a row that starts at this byte, and gives the byte that the next row starts at. */
-static size_t print_row(const struct input *in, const struct dt_tree_row *row, size_t at)
+static size_t print_row(const struct input *in, const struct dt_tree_row *row, size_t start)
 {
-    size_t end = at + row->width;
+    size_t end = start + row->width;
     if (row->class_ == DT_CLASS_NODE) {
-        printf("%s@%zu..%zu\n", dt_node_name(row->kind), at, end);
-        return at;
+        printf("%s@%zu..%zu\n", dt_node_name(row->kind), start, end);
+        return start;
     }
-    printf("%s@%zu..%zu \"", dt_token_name(row->kind), at, end);
-    print_text(in->bytes, at, end);
+    printf("%s@%zu..%zu \"", dt_token_name(row->kind), start, end);
+    print_text(in->bytes, start, end);
     puts("\"");
     return end;
 }
@@ -43,14 +43,14 @@ static size_t print_row(const struct input *in, const struct dt_tree_row *row, s
 /* A tree can be as deep as it has rows, so this does not call itself. left[d]: children still to come at depth d. */
 int print_tree(const struct input *in, const struct parsed *p)
 {
-    size_t depth = 0, at = 0, i;
+    size_t depth = 0, start = 0, i;
     uint32_t *left = (uint32_t *)malloc((p->answer.tree_count + 1) * sizeof *left);
     if (!left)
         return 0;
     for (i = 0; i < p->answer.tree_count; i++) {
         const struct dt_tree_row *row = &p->trees[i];
         indent(depth);
-        at = print_row(in, row, at);
+        start = print_row(in, row, start);
         if (row->class_ == DT_CLASS_NODE)
             left[depth++] = row->count;
         else if (depth > 0)
@@ -66,26 +66,26 @@ int print_tree(const struct input *in, const struct parsed *p)
     return 1;
 }
 
-/* Where the bytes before a node's brace end, without the blanks before it. The node starts at byte `at`. */
-static size_t head_end(const struct input *in, const struct parsed *p, size_t node, size_t at)
+/* Where the bytes before a node's brace end, without the blanks before it. The node starts at byte `start`. */
+static size_t head_end(const struct input *in, const struct parsed *p, size_t node, size_t start)
 {
-    size_t child = node + 1, start = at;
+    size_t child = node + 1, end = start;
     uint32_t i;
     for (i = 0; i < p->trees[node].count; i++) {
         const struct dt_tree_row *row = &p->trees[child];
         if (row->class_ == DT_CLASS_LEAF && row->kind == DT_TOKEN_LCURLY)
             break;
-        at += row->width;
+        end += row->width;
         child = dt_after_subtree(p->trees, p->answer.tree_count, child);
     }
-    while (at > start && strchr(" \t\r\n", in->bytes[at - 1]))
-        at--;
-    return at;
+    while (end > start && strchr(" \t\r\n", in->bytes[end - 1]))
+        end--;
+    return end;
 }
 
 /* The children of a row that starts at this byte. It calls itself for a node in a node, which is at most
    DT_MAX_OPEN_CALLS deep. */
-static void print_children(const struct input *in, const struct parsed *p, size_t parent, size_t at, size_t depth)
+static void print_children(const struct input *in, const struct parsed *p, size_t parent, size_t start, size_t depth)
 {
     size_t child = parent + 1;
     uint32_t i;
@@ -93,11 +93,11 @@ static void print_children(const struct input *in, const struct parsed *p, size_
         const struct dt_tree_row *row = &p->trees[child];
         if (row->class_ == DT_CLASS_NODE && row->kind == DT_NODE_DT_NODE) {
             indent(depth + 1);
-            print_text(in->bytes, at, head_end(in, p, child, at));
+            print_text(in->bytes, start, head_end(in, p, child, start));
             putchar('\n');
-            print_children(in, p, child, at, depth + 1);
+            print_children(in, p, child, start, depth + 1);
         }
-        at += row->width;
+        start += row->width;
         child = dt_after_subtree(p->trees, p->answer.tree_count, child);
     }
 }
@@ -125,12 +125,12 @@ static const char *found_text(const struct input *in, size_t token)
     return NULL;
 }
 
-/* Whether the code at this place of a list stands in it before. */
-static int is_repeat(const uint32_t *codes, uint32_t at)
+/* Whether the code with this index in a list stands in it before. */
+static int is_repeat(const uint32_t *codes, uint32_t index)
 {
     uint32_t i;
-    for (i = 0; i < at; i++)
-        if (codes[i] == codes[at])
+    for (i = 0; i < index; i++)
+        if (codes[i] == codes[index])
             return 1;
     return 0;
 }

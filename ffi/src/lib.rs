@@ -1,17 +1,7 @@
 //! The exported call `dt_parse` as ../../include/dt_parser.h declares it, over slices that need not be Rust's own.
 //! For the programs that try the static library; bindings/rust is for callers.
 
-/// Lengths of the five lent buffers in numbers: events, tree, lexical errors, reports, pool.
-pub type Lengths = [usize; 5];
-
-/// Numbers in a row of each buffer.
-pub const ROW: Lengths = [3, 4, 3, 9, 1];
-
-/// What crates/bounds proves to be enough for n tokens, whatever they are.
-pub fn bound(n: usize) -> Lengths {
-    let rows = [13 * n + 1, 6 * n + 1, n, 3 * n + 1, 768 * n + 256];
-    std::array::from_fn(|i| ROW[i] * rows[i])
-}
+use dt_parser_layout::{ACCEPTED, BUFFERS, Lengths, ROW};
 
 #[repr(C)]
 #[derive(Clone, Copy, Debug, PartialEq, Eq, Default)]
@@ -28,7 +18,7 @@ impl Answer {
     /// The answer to an accepted call that wrote so many numbers to each buffer.
     pub fn accepted(used: Lengths) -> Answer {
         let [_, tree_count, error_count, report_count, expectation_count] = std::array::from_fn(|i| used[i] / ROW[i]);
-        Answer { number: 0, place: 0, tree_count, error_count, report_count, expectation_count }
+        Answer { number: ACCEPTED, place: 0, tree_count, error_count, report_count, expectation_count }
     }
 
     /// How many numbers of each buffer hold the answer's rows; events are work only.
@@ -41,7 +31,7 @@ impl Answer {
 /// A slice as C passes it.
 #[derive(Clone, Copy)]
 pub struct Lent {
-    pub at: *mut u32,
+    pub numbers: *mut u32,
     pub len: usize,
 }
 
@@ -70,17 +60,33 @@ unsafe extern "C" {
 /// # Safety
 /// Each buffer is as long as it says, and none lies over another or over the input.
 #[inline]
-pub unsafe fn parse_lent(entry: u32, bytes: &[u8], tokens: &[u32], lent: [Lent; 5]) -> Answer {
-    let [e, t, x, r, p] = lent;
-    let (b, k) = (bytes.as_ptr(), tokens.as_ptr());
-    let (b_len, k_len) = (bytes.len(), tokens.len());
-    unsafe { dt_parse(entry, b, b_len, k, k_len, e.at, e.len, t.at, t.len, x.at, x.len, r.at, r.len, p.at, p.len) }
+pub unsafe fn parse_lent(entry: u32, bytes: &[u8], tokens: &[u32], lent: [Lent; BUFFERS]) -> Answer {
+    let [events, trees, errors, reports, pool] = lent;
+    unsafe {
+        dt_parse(
+            entry,
+            bytes.as_ptr(),
+            bytes.len(),
+            tokens.as_ptr(),
+            tokens.len(),
+            events.numbers,
+            events.len,
+            trees.numbers,
+            trees.len,
+            errors.numbers,
+            errors.len,
+            reports.numbers,
+            reports.len,
+            pool.numbers,
+            pool.len,
+        )
+    }
 }
 
 /// One call over five vectors, each as long as what is lent.
 #[inline]
-pub fn parse(entry: u32, bytes: &[u8], tokens: &[u32], buffers: &mut [Vec<u32>; 5]) -> Answer {
-    let lent = buffers.each_mut().map(|b| Lent { at: b.as_mut_ptr(), len: b.len() });
+pub fn parse(entry: u32, bytes: &[u8], tokens: &[u32], buffers: &mut [Vec<u32>; BUFFERS]) -> Answer {
+    let lent = buffers.each_mut().map(|b| Lent { numbers: b.as_mut_ptr(), len: b.len() });
     // Safety: five vectors of those lengths, borrowed alone
     unsafe { parse_lent(entry, bytes, tokens, lent) }
 }

@@ -1,11 +1,12 @@
 //! The lent buffers: filled with garbage before a call, guarded on both sides, and looked at whole afterwards.
-use dt_parser_ffi::{Lengths, Lent};
+use dt_parser_ffi::Lent;
+use dt_parser_layout::{BUFFERS, Lengths};
 
 const GUARD: usize = 16;
 
 #[derive(Default)]
 pub struct Buffers {
-    store: [Vec<u32>; 5],
+    store: [Vec<u32>; BUFFERS],
     lengths: Lengths,
     garbage: u32,
 }
@@ -15,9 +16,9 @@ pub struct Buffers {
 pub enum Held<'a> {
     /// Causes 1 to 4.
     AsItWas,
-    /// All zero, or these rows (tree, lexical errors, reports, pool) and then zero.
+    /// All zero, or its rows and then zero.
     Zero,
-    Rows(&'a [Vec<u32>; 4]),
+    Rows(&'a [Vec<u32>; BUFFERS]),
 }
 
 /// The number that stands at a place before the call: never zero, and another one at each place.
@@ -44,11 +45,11 @@ impl Buffers {
     }
 
     /// A buffer of length 0 has no address if `null` is set.
-    pub fn lent(&mut self, null: bool) -> [Lent; 5] {
+    pub fn lent(&mut self, null: bool) -> [Lent; BUFFERS] {
         let lengths = self.lengths;
         std::array::from_fn(|i| {
-            let (at, len) = (&mut self.store[i][GUARD], lengths[i]);
-            Lent { at: if null && len == 0 { std::ptr::null_mut() } else { at }, len }
+            let (numbers, len) = (&mut self.store[i][GUARD], lengths[i]);
+            Lent { numbers: if null && len == 0 { std::ptr::null_mut() } else { numbers }, len }
         })
     }
 
@@ -58,7 +59,7 @@ impl Buffers {
 
     /// The first buffer that is not as it should be, or whose guards are not.
     pub fn wrong(&self, held: Held) -> Option<usize> {
-        (0..5).find(|&i| !self.guarded(i) || !self.holds(i, held))
+        (0..BUFFERS).find(|&i| !self.guarded(i) || !self.holds(i, held))
     }
 
     fn guarded(&self, i: usize) -> bool {
@@ -71,11 +72,11 @@ impl Buffers {
         let all = self.get(i);
         let rest = match held {
             Held::AsItWas => return is_garbage(self.garbage, GUARD, all),
-            Held::Rows(rows) if i > 0 => match all.strip_prefix(&rows[i - 1][..]) {
+            Held::Rows(rows) => match all.strip_prefix(&rows[i][..]) {
                 Some(rest) => rest,
                 None => return false,
             },
-            _ => all,
+            Held::Zero => all,
         };
         rest.iter().fold(0, |any, x| any | x) == 0
     }

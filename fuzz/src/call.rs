@@ -1,5 +1,5 @@
 //! One call: its input as a line of text and back.
-use dt_parser_ffi::Lengths;
+use dt_parser_layout::{COL_TOKEN_KIND, COL_TOKEN_LENGTH, Lengths, ROW_TOKEN};
 use oracle::case::{Rows, esc, parse_rows, rows_words, unesc};
 
 #[derive(Clone, Default, PartialEq)]
@@ -24,18 +24,19 @@ impl Call {
     /// `ENTRY caps N,N,N,N,N toks KIND[:LENGTH],.. BYTES`, as the oracle reads it too; with an odd count of token
     /// numbers `.. nums N,.. BYTES`.
     pub fn line(&self) -> String {
-        let caps: Vec<_> = self.lengths.iter().map(usize::to_string).collect();
-        let (word, rows) = if self.tokens.len().is_multiple_of(2) {
+        let lengths: Vec<_> = self.lengths.iter().map(usize::to_string).collect();
+        let (word, rows) = if self.tokens.len().is_multiple_of(ROW_TOKEN) {
             ("toks", rows_words(&self.rows()))
         } else {
             ("nums", self.tokens.iter().map(u32::to_string).collect::<Vec<_>>().join(","))
         };
-        format!("{} caps {} {word} {rows} {}", self.entry, caps.join(","), esc(&self.bytes))
+        format!("{} caps {} {word} {rows} {}", self.entry, lengths.join(","), esc(&self.bytes))
     }
 
     /// The whole rows, as the oracle takes them.
     pub fn rows(&self) -> Rows {
-        self.tokens.chunks_exact(2).map(|x| (x[0], x[1] as usize)).collect()
+        let row = |x: &[u32]| (x[COL_TOKEN_KIND], x[COL_TOKEN_LENGTH] as usize);
+        self.tokens.chunks_exact(ROW_TOKEN).map(row).collect()
     }
 
     pub fn read(line: &str) -> Option<Call> {

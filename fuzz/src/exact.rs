@@ -1,17 +1,18 @@
 //! For valgrind: each buffer is allocated for itself, exactly as long as it says, and was never written before the
 //! call.
 use crate::call::Call;
-use crate::judge::{Input, Judge};
+use crate::judge::{Input, Judge, is_early};
 use crate::make::Maker;
 use crate::rng::Rng;
 use crate::run::chosen;
 use dt_parser_ffi::{self as ffi, Lent};
+use dt_parser_layout::{ACCEPTED, ANSWERS, BUFFERS};
 
 /// True if each answer and each written buffer was right; valgrind says whether memory was used rightly.
 pub fn run(seed: u64, cases: u64) -> bool {
     let (mut maker, mut judge) = (Maker::new(), Judge::default());
     let mut call = Call::default();
-    let mut by_number = [0u64; 9];
+    let mut by_number = [0u64; ANSWERS];
     for i in 0..cases {
         let mut r = Rng::of_case(seed, i);
         maker.call(&mut r, &mut call);
@@ -34,24 +35,23 @@ fn wrong(call: &Call) -> bool {
 fn one(judge: &Judge, call: &Call, input: Input) -> bool {
     let expected = judge.expected(input, call.lengths);
     let (tokens, bytes) = (call.tokens.clone().into_boxed_slice(), call.bytes.clone().into_boxed_slice());
-    let mut store: [Vec<u32>; 5] = call.lengths.map(Vec::with_capacity);
-    let at = store.each_mut().map(|v| v.as_mut_ptr());
-    let lent = std::array::from_fn(|i| Lent { at: at[i], len: call.lengths[i] });
+    let mut store: [Vec<u32>; BUFFERS] = call.lengths.map(Vec::with_capacity);
+    let numbers = store.each_mut().map(|v| v.as_mut_ptr());
+    let lent = std::array::from_fn(|i| Lent { numbers: numbers[i], len: call.lengths[i] });
     // Safety: five allocations of those lengths
     let given = unsafe { ffi::parse_lent(call.entry, &bytes, &tokens, lent) };
     if given != expected {
         return false;
     }
-    if (1..=4).contains(&given.number) {
+    if is_early(given.number) {
         return true; // every buffer as it was: not written
     }
     for (v, n) in store.iter_mut().zip(call.lengths) {
         // Safety: the call wrote every number of each buffer; valgrind sees here if it did not
         unsafe { v.set_len(n) }
     }
-    let rows = &judge.run.rows;
-    store.iter().enumerate().all(|(i, all)| {
-        let written = if i > 0 && given.number == 0 { &rows[i - 1][..] } else { &[] };
+    store.iter().zip(&judge.run.rows).all(|(all, rows)| {
+        let written = if given.number == ACCEPTED { &rows[..] } else { &[] };
         all.strip_prefix(written).is_some_and(|rest| rest.iter().all(|&x| x == 0))
     })
 }

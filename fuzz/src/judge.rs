@@ -2,7 +2,8 @@
 use crate::buffers::{Buffers, Held};
 use crate::call::Call;
 use crate::unchanged::Unchanged;
-use dt_parser_ffi::{self as ffi, Answer, Lengths};
+use dt_parser_ffi::{self as ffi, Answer};
+use dt_parser_layout::{ACCEPTED, Lengths, REFUSAL_BAD_TEXT, REFUSAL_UNKNOWN_ENTRY};
 use oracle::checks::refusal;
 use oracle::doc01::Run;
 use oracle::token::ascii;
@@ -38,6 +39,11 @@ pub enum Wrong {
     Panic(String),
 }
 
+/// Causes 1 to 4, which are met before a parse.
+pub fn is_early(number: u32) -> bool {
+    (REFUSAL_UNKNOWN_ENTRY..=REFUSAL_BAD_TEXT).contains(&number)
+}
+
 pub struct Verdict {
     pub expected: Answer,
     pub given: Answer,
@@ -62,18 +68,17 @@ impl Judge {
             Input::Bad(number, place) => Some((number, place)),
             Input::Parsed => self.run.refusal(lengths),
         };
-        let [trees, errors, reports, pool] = self.run.rows.each_ref().map(Vec::len);
         match refused {
             Some((number, place)) => Answer { number, place, ..Answer::default() },
-            None => Answer::accepted([0, trees, errors, reports, pool]),
+            None => Answer::accepted(self.run.rows.each_ref().map(Vec::len)),
         }
     }
 
     /// What the buffers must hold beside that answer.
     pub fn held(&self, expected: Answer) -> Held<'_> {
         match expected.number {
-            0 => Held::Rows(&self.run.rows),
-            1..=4 => Held::AsItWas,
+            ACCEPTED => Held::Rows(&self.run.rows),
+            n if is_early(n) => Held::AsItWas,
             _ => Held::Zero,
         }
     }

@@ -5,6 +5,7 @@ use crate::make::{Maker, lengths};
 use crate::rng::Rng;
 use crate::tally::Tally;
 use crate::{show, shrink};
+use dt_parser_layout::{ACCEPTED, Lengths, ROW_TOKEN};
 
 pub struct Plan {
     pub seed: u64,
@@ -28,7 +29,7 @@ pub fn run(plan: &Plan) -> bool {
             call.lengths = chosen(&mut r, &judge, input, &call);
             let verdict = judge.call(&call, input, r.next() as u32);
             tally.case(way, &call, verdict.expected, unchanged);
-            if verdict.expected.number == 0 {
+            if verdict.expected.number == ACCEPTED {
                 tally.seen.add(&judge.run.rows)
             }
             verdict.wrong.is_none()
@@ -43,15 +44,15 @@ pub fn run(plan: &Plan) -> bool {
     true
 }
 
-pub fn chosen(r: &mut Rng, judge: &Judge, input: Input, call: &Call) -> [usize; 5] {
+pub fn chosen(r: &mut Rng, judge: &Judge, input: Input, call: &Call) -> Lengths {
     match input {
         Input::Bad(..) => lengths::small(r),
-        Input::Parsed => lengths::around(r, judge.run.needs(), call.tokens.len() / 2),
+        Input::Parsed => lengths::around(r, judge.run.needs(), call.tokens.len() / ROW_TOKEN),
     }
 }
 
 fn differs(plan: &Plan, number: u64, judge: &mut Judge, call: Call) -> bool {
-    let rows = call.tokens.len() / 2;
+    let rows = call.tokens.len() / ROW_TOKEN;
     println!("case {number} of seed {} differs ({rows} token rows)", plan.seed);
     let small = shrink::shrink(judge, call);
     show::both(judge, &small);

@@ -1,5 +1,6 @@
 //! Which codes the accepted calls of a run gave: a run that never gives one says nothing of it.
-use dt_parser_ffi::ROW;
+use dt_parser_layout::{BUFFERS, CLASS_NODE, ERRORS, POOL, REPORTS, ROW_ERROR, ROW_REPORT, ROW_TREE, TREES};
+use dt_parser_layout::{COL_ERROR_NUMBER, COL_REPORT_HINT, COL_REPORT_MESSAGE, COL_TREE_CLASS, COL_TREE_KIND};
 
 /// A bit for each code.
 #[derive(Default)]
@@ -22,18 +23,18 @@ fn list(set: u128) -> String {
 }
 
 impl Seen {
-    /// Tree, lexical errors, reports, pool.
-    pub fn add(&mut self, rows: &[Vec<u32>; 4]) {
-        for row in rows[0].chunks_exact(ROW[1]) {
-            let set = if row[0] == 0 { &mut self.nodes } else { &mut self.leaves };
-            *set |= 1 << row[1]
+    /// The rows of each buffer.
+    pub fn add(&mut self, rows: &[Vec<u32>; BUFFERS]) {
+        for row in rows[TREES].chunks_exact(ROW_TREE) {
+            let set = if row[COL_TREE_CLASS] == CLASS_NODE { &mut self.nodes } else { &mut self.leaves };
+            *set |= 1 << row[COL_TREE_KIND]
         }
-        rows[1].chunks_exact(ROW[2]).for_each(|row| self.lexical |= 1 << row[0]);
-        for row in rows[2].chunks_exact(ROW[3]) {
-            self.messages |= 1 << row[0];
-            self.hints |= 1 << row[6]
+        rows[ERRORS].chunks_exact(ROW_ERROR).for_each(|row| self.lexical |= 1 << row[COL_ERROR_NUMBER]);
+        for row in rows[REPORTS].chunks_exact(ROW_REPORT) {
+            self.messages |= 1 << row[COL_REPORT_MESSAGE];
+            self.hints |= 1 << row[COL_REPORT_HINT]
         }
-        rows[3].iter().for_each(|code| self.expectations |= 1 << code)
+        rows[POOL].iter().for_each(|code| self.expectations |= 1 << code)
     }
 
     pub fn write(&self) {

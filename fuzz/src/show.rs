@@ -2,9 +2,10 @@
 use crate::buffers::Held;
 use crate::call::Call;
 use crate::judge::{Judge, Verdict, Wrong};
-use dt_parser_ffi::{Answer, ROW};
+use dt_parser_ffi::Answer;
+use dt_parser_layout::{BUFFERS, EVENTS, POOL, ROW};
 
-const BUFFERS: [&str; 5] = ["events", "tree", "lexical errors", "reports", "pool"];
+const NAMES: [&str; BUFFERS] = ["events", "tree", "lexical errors", "reports", "pool"];
 /// A line of the pool has so many numbers.
 const POOL_LINE: usize = 16;
 
@@ -21,19 +22,19 @@ fn answer(a: &Answer) -> String {
 }
 
 fn rows(i: usize, numbers: &[u32]) {
-    println!("  {}: {} numbers", BUFFERS[i], numbers.len());
-    let row = if ROW[i] == 1 { POOL_LINE } else { ROW[i] };
-    for (at, r) in numbers.chunks(row).enumerate() {
+    println!("  {}: {} numbers", NAMES[i], numbers.len());
+    let size = if i == POOL { POOL_LINE } else { ROW[i] };
+    for (row, r) in numbers.chunks(size).enumerate() {
         let line: Vec<_> = r.iter().map(u32::to_string).collect();
-        println!("    {at}: {}", line.join(" "))
+        println!("    {row}: {}", line.join(" "))
     }
 }
 
 fn expected_buffer(judge: &Judge, v: &Verdict, i: usize) {
     match judge.held(v.expected) {
-        Held::AsItWas => println!("  {}: as it was", BUFFERS[i]),
-        Held::Rows(all) if i > 0 => rows(i, &all[i - 1]),
-        _ => println!("  {}: all zero", BUFFERS[i]),
+        Held::AsItWas => println!("  {}: as it was", NAMES[i]),
+        Held::Rows(all) if i != EVENTS => rows(i, &all[i]),
+        _ => println!("  {}: all zero", NAMES[i]),
     }
 }
 
@@ -48,14 +49,14 @@ pub fn both(judge: &mut Judge, call: &Call) -> bool {
         Some(w) => {
             println!("expected: {}\nlibrary:  {}", answer(&v.expected), answer(&v.given));
             match w {
-                Wrong::Buffer(i) => println!("the buffer that differs, or a number around it: {}", BUFFERS[*i]),
+                Wrong::Buffer(i) => println!("the buffer that differs, or a number around it: {}", NAMES[*i]),
                 Wrong::Input => println!("the library wrote to its input"),
                 _ => {}
             }
             println!("expected buffers:");
-            (0..5).for_each(|i| expected_buffer(judge, &v, i));
+            (0..BUFFERS).for_each(|i| expected_buffer(judge, &v, i));
             println!("the library's buffers, whole:");
-            (0..5).for_each(|i| rows(i, judge.buffers.get(i)))
+            (0..BUFFERS).for_each(|i| rows(i, judge.buffers.get(i)))
         }
     }
     v.wrong.is_none()

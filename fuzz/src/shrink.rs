@@ -1,6 +1,8 @@
 //! Makes a call that differs small, as long as it differs.
 use crate::call::Call;
 use crate::judge::{Input, Judge};
+use dt_parser_layout::{BUFFERS, COL_TOKEN_KIND, COL_TOKEN_LENGTH, ROW_TOKEN};
+use oracle::token::TokenKind::{Ident, Number, Semicolon};
 
 /// Tokens left out, then simpler tokens, shorter texts, and buffers with room or exactly fitting.
 pub fn shrink(judge: &mut Judge, mut call: Call) -> Call {
@@ -34,7 +36,8 @@ fn take(judge: &mut Judge, call: &mut Call, smaller: Call) -> bool {
 
 /// The bytes of rows `from` to `to`, as far as the lengths go.
 fn bytes_of(call: &Call, from: usize, to: usize) -> std::ops::Range<usize> {
-    let sum = |n: usize| call.tokens.chunks(2).take(n).map(|r| *r.get(1).unwrap_or(&0) as usize).sum::<usize>();
+    let length = |row: &[u32]| *row.get(COL_TOKEN_LENGTH).unwrap_or(&0) as usize;
+    let sum = |n: usize| call.tokens.chunks(ROW_TOKEN).take(n).map(length).sum::<usize>();
     let end = call.bytes.len();
     sum(from).min(end)..sum(to).min(end)
 }
@@ -44,11 +47,11 @@ fn shorter(judge: &mut Judge, call: &mut Call) {
     let mut width = (call.tokens.len() / 4).max(1);
     loop {
         let mut at = 0;
-        while at < call.tokens.len() / 2 {
-            let to = (at + width).min(call.tokens.len() / 2);
+        while at < call.tokens.len() / ROW_TOKEN {
+            let to = (at + width).min(call.tokens.len() / ROW_TOKEN);
             let mut smaller = call.clone();
             smaller.bytes.drain(bytes_of(call, at, to));
-            smaller.tokens.drain(2 * at..2 * to);
+            smaller.tokens.drain(ROW_TOKEN * at..ROW_TOKEN * to);
             if !take(judge, call, smaller) {
                 at = to
             }
@@ -59,7 +62,7 @@ fn shorter(judge: &mut Judge, call: &mut Call) {
         width /= 2
     }
     let mut odd = call.clone();
-    if odd.tokens.len() % 2 == 1 && odd.tokens.pop().is_some() {
+    if !odd.tokens.len().is_multiple_of(ROW_TOKEN) && odd.tokens.pop().is_some() {
         take(judge, call, odd);
     }
     let mut shorter = call.clone();
@@ -69,16 +72,17 @@ fn shorter(judge: &mut Judge, call: &mut Call) {
 
 /// Each token as a semicolon, an Ident or a Number of one byte; else its text shorter.
 fn simpler(judge: &mut Judge, call: &mut Call) {
-    for at in 0..call.tokens.len() / 2 {
+    let plain = [(Semicolon as u32, b';'), (Ident as u32, b'a'), (Number as u32, b'1')];
+    for at in 0..call.tokens.len() / ROW_TOKEN {
         let bytes = bytes_of(call, at, at + 1);
-        let plain = [(29, b';'), (27, b'a'), (35, b'1')];
-        let done = call.tokens[2 * at + 1] == 1 && plain.iter().any(|p| p.0 == call.tokens[2 * at]);
-        let same = call.tokens[2 * at];
+        let (kind_index, length_index) = (ROW_TOKEN * at + COL_TOKEN_KIND, ROW_TOKEN * at + COL_TOKEN_LENGTH);
+        let same = call.tokens[kind_index];
+        let done = call.tokens[length_index] == 1 && plain.iter().any(|p| p.0 == same);
         for (kind, byte) in plain.into_iter().chain([(same, b'a')]) {
             let mut smaller = call.clone();
             smaller.bytes.splice(bytes.clone(), [byte]);
-            smaller.tokens[2 * at] = kind;
-            smaller.tokens[2 * at + 1] = 1;
+            smaller.tokens[kind_index] = kind;
+            smaller.tokens[length_index] = 1;
             if done || take(judge, call, smaller) {
                 break;
             }
@@ -90,16 +94,16 @@ fn simpler(judge: &mut Judge, call: &mut Call) {
 fn room(judge: &mut Judge, call: &mut Call) {
     let needs = match judge.input(call, false) {
         Ok((Input::Parsed, _)) => judge.run.needs(),
-        Ok((Input::Bad(..), _)) => [0; 5],
+        Ok((Input::Bad(..), _)) => [0; BUFFERS],
         Err(_) => return,
     };
     let mut tried = [needs.map(|n| n + 9), needs].into_iter();
     if tried.any(|lengths| take(judge, call, Call { lengths, ..call.clone() })) {
         return;
     }
-    for i in 0..5 {
+    for (i, need) in needs.into_iter().enumerate() {
         let mut smaller = call.clone();
-        smaller.lengths[i] = needs[i];
+        smaller.lengths[i] = need;
         take(judge, call, smaller);
     }
 }

@@ -4,6 +4,7 @@ use crate::make;
 use crate::seen::Seen;
 use crate::unchanged::Unchanged;
 use dt_parser_ffi::Answer;
+use dt_parser_layout::{ANSWERS, ENTRY_CELLS, ROW_TOKEN};
 use std::time::Instant;
 
 pub struct Tally {
@@ -11,8 +12,9 @@ pub struct Tally {
     said: Instant,
     pub cases: u64,
     tokens: u64,
-    by_number: [u64; 9],
-    by_entry: [u64; 5],
+    by_number: [u64; ANSWERS],
+    /// At 0 those with an unknown entry.
+    by_entry: [u64; ENTRY_CELLS as usize + 1],
     by_way: Vec<u64>,
     reports: u64,
     unchanged: u64,
@@ -28,8 +30,8 @@ impl Tally {
             said: now,
             cases: 0,
             tokens: 0,
-            by_number: [0; 9],
-            by_entry: [0; 5],
+            by_number: Default::default(),
+            by_entry: Default::default(),
             by_way: vec![0; make::ways().count()],
             reports: 0,
             unchanged: 0,
@@ -40,9 +42,9 @@ impl Tally {
 
     pub fn case(&mut self, way: usize, call: &Call, answer: Answer, unchanged: Option<Unchanged>) {
         self.cases += 1;
-        self.tokens += call.tokens.len() as u64 / 2;
+        self.tokens += (call.tokens.len() / ROW_TOKEN) as u64;
         self.by_number[answer.number as usize] += 1;
-        self.by_entry[if call.entry <= 4 { call.entry as usize } else { 0 }] += 1;
+        self.by_entry[if call.entry <= ENTRY_CELLS { call.entry as usize } else { 0 }] += 1;
         self.by_way[way] += 1;
         self.reports += answer.report_count as u64;
         self.unchanged += (unchanged == Some(Unchanged::Same)) as u64;

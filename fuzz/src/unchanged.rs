@@ -1,4 +1,5 @@
 //! The unchanged Rust against the patched copy.
+use dt_parser_layout::TREES;
 use oracle::case::Rows;
 use oracle::doc01::Run;
 use oracle::parsed::Parsed;
@@ -16,9 +17,9 @@ impl Unchanged {
     /// Tree, lexical errors, texts, ranges and labels against those of the patched copy's run, which gave `parsed`.
     pub fn of(run: &Run, parsed: &Parsed, entry: u32, toks: &Rows, text: &str) -> Unchanged {
         let Ok(q) = rust::parse(entry, toks, text) else { return Unchanged::Panics };
-        let mut tree = Vec::with_capacity(run.rows[0].len());
+        let mut tree = Vec::with_capacity(run.rows[TREES].len());
         q.tree_rows(toks, &mut tree);
-        let same = tree == run.rows[0] && q.lexical == parsed.lexical && q.reports == parsed.reports;
+        let same = tree == run.rows[TREES] && q.lexical == parsed.lexical && q.reports == parsed.reports;
         if same { Unchanged::Same } else { Unchanged::Differs }
     }
 }

@@ -1,21 +1,26 @@
 #!/usr/bin/env python3
-"""Demand 2's claim on expressions by running: C's table by levels (no binding powers), against the Rust's tree rows for
-entry 4, and: a report with a mark above the LParen's index and at most the RParen's exists exactly if C gives no tree.
+"""Promise 2 on expressions, by running: C's table by levels (no binding powers), against the Rust's tree rows for entry
+4, and: a report with a mark above the LParen's index and at most the RParen's exists exactly if C gives no tree.
     exprcheck.py SEED COUNT"""
 import random
 import sys
 
 sys.dont_write_bytecode = True
-from run import blocks, oracle
+from run import ORACLE, numbers
+
+from compare.case import LAST_ERROR, ReportRow
 
 # cppreference's levels, loosest first; the conditional operator and the prefix operators stand outside them
-LEVELS = [["||"], ["&&"], ["|"], ["^"], ["&"], ["==", "!="], ["<", ">", "<=", ">="], ["<<", ">>"], ["+", "-"], ["*", "/", "%"]]
-KINDS = {
-    "||": 54, "&&": 53, "|": 48, "^": 49, "&": 30, "==": 58, "!=": 59, "<": 39, ">": 40, "<=": 56, ">=": 57, "<<": 51, ">>": 52,
-    "+": 43, "-": 44, "*": 45, "/": 46, "%": 47, "~": 50, "!": 55, "?": 60, ":": 31, "(": 41, ")": 42, "1": 35, "'c'": 34, "a": 27,
-    ",": 2, ";": 29, " ": 0, "f": 27, "{": 37, '"s"': 33, "=": 28, "@": 32, "\\": 74,
-}  # fmt: skip
-INFIX, PREFIX, PAREN, LITERAL, INVOCATION, ARGUMENT, CELLS, EXPR = 6, 7, 8, 9, 23, 24, 3, 18
+LEVELS = [l.split() for l in ("||", "&&", "|", "^", "&", "== !=", "< > <= >=", "<< >>", "+ -", "* / %")]
+OPERATORS = sum(LEVELS, [])
+# the tokens: those without a fixed text by their kinds' names, and a byte that is none
+TOKENS = [*OPERATORS, *"~ ! ? : ( ) 1 'c' a , ;".split(), " ", *"f { \"s\" = @ \\".split()]
+NAMES = {"1": "Number", "'c'": "Char", "a": "Ident", "f": "Ident", " ": "Whitespace", '"s"': "String"}
+FIXED = {text.decode(): kind for kind, text in ORACLE.texts.items()}
+KINDS = {t: ORACLE.kinds[NAMES[t]] if t in NAMES else FIXED.get(t, LAST_ERROR) for t in TOKENS}
+INFIX, PREFIX, PAREN, LITERAL = (ORACLE.nodes[n + "Expr"] for n in ("Infix", "Prefix", "Paren", "Literal"))
+INVOCATION, ARGUMENT = ORACLE.nodes["MacroInvocation"], ORACLE.nodes["MacroArgument"]
+CELLS, EXPR = ORACLE.nodes["EntryCells"], ORACLE.nodes["DtExpr"]
 
 
 class NoTree(Exception):
@@ -115,7 +120,8 @@ def width(tree):
 
 def rows(tree):
     if isinstance(tree, str):
-        return [f"R 1 {25 if KINDS[tree] == 74 else KINDS[tree]} {len(tree)} 1"]
+        kind = ORACLE.kinds["Unrecognized"] if KINDS[tree] == LAST_ERROR else KINDS[tree]
+        return [f"R 1 {kind} {len(tree)} 1"]
     kind, children = tree
     return [f"R 0 {kind} {width(tree)} {len(children)}"] + [r for c in children for r in rows(c)]
 
@@ -144,7 +150,7 @@ def draw(depth):
         return ["("] + draw(depth - 1) + [")"]
     if r < 0.68:
         return draw(depth - 1) + ["?"] + draw(depth - 1) + [":"] + draw(depth - 1)
-    return draw(depth - 1) + [random.choice(sum(LEVELS, []))] + draw(depth - 1)
+    return draw(depth - 1) + [random.choice(OPERATORS)] + draw(depth - 1)
 
 
 def damage(tokens):
@@ -186,7 +192,7 @@ def line_of(tokens):
 def verdict(tokens, rust, doc01):
     """What is wrong, if anything, and whether C has a tree."""
     want = expected(tokens)
-    marks = [int(l.split()[4]) for l in doc01 if l.startswith("P ")]
+    marks = [ReportRow(*row).mark for row in numbers([l.split(" |")[0] for l in doc01], "P")]
     reported = any(0 < m <= len(tokens) - 1 for m in marks)
     if want is None:
         return (None if reported else "no report though C has no tree"), False
@@ -198,8 +204,8 @@ def verdict(tokens, rust, doc01):
 def main():
     random.seed(int(sys.argv[1]))
     cases = [case() for _ in range(int(sys.argv[2]))]
-    given = "".join(line_of(t) + "\n" for t in cases)
-    rust, doc01 = (blocks(oracle(mode, "any", "--no-tokens", given=given)) for mode in ("rows", "doc01"))
+    lines = [line_of(t) for t in cases]
+    rust, doc01 = (ORACLE.blocks([mode, "any", "--no-tokens"], lines) for mode in ("rows", "doc01"))
     trees = refused = 0
     fails = []
     for tokens, a, b in zip(cases, rust, doc01):
@@ -210,7 +216,8 @@ def main():
         trees += tree
         if wrong:
             fails.append((len(tokens), wrong, "".join(tokens)))
-    print(f"{len(cases)} cases, {trees} with a C tree, {len(cases) - trees - refused} without, {refused} refused; {len(fails)} failures")
+    without = len(cases) - trees - refused
+    print(f"{len(cases)} cases, {trees} with a C tree, {without} without, {refused} refused; {len(fails)} failures")
     for fail in sorted(fails)[:6]:
         print(*fail)
     sys.exit(1 if fails else 0)

@@ -1,19 +1,12 @@
-"""Runs the oracle of this folder for the checks beside this file."""
+"""What the checks beside this file share: the oracle's program, run as tools/ runs it."""
 import os
-import subprocess
+import sys
 
-PROGRAM = os.path.join(os.path.dirname(os.path.abspath(__file__)), "..", "target", "release", "oracle")
+ROOT = os.path.join(os.path.dirname(os.path.abspath(__file__)), "..", "..")
+sys.path.insert(0, os.path.join(ROOT, "tools"))
+from oracle_program import Program
 
-
-def oracle(*words, given=""):
-    """What the oracle writes, given these words and this standard input."""
-    done = subprocess.run([PROGRAM, *words], input=given, stdout=subprocess.PIPE, text=True, check=True)
-    return done.stdout
-
-
-def blocks(text):
-    """The lines of each case's answer."""
-    return [b.split("\n") for b in text.split("END\n")[:-1]]
+ORACLE = Program(ROOT)
 
 
 def numbers(lines, word):

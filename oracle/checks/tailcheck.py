@@ -1,46 +1,28 @@
 #!/usr/bin/env python3
-"""Demand 3 by running: two source files with the same tail after a top-level ending semicolon. Later parts, lexical
+"""Promise 3 by running: two source files with the same tail after a top-level ending semicolon. Later parts, lexical
 errors and reports are those of document 01 (`oracle doc01`), and must move alike.    tailcheck.py SEED COUNT"""
 import random
 import sys
 
 sys.dont_write_bytecode = True
-from run import blocks, oracle
+from run import ORACLE
 
-SEMICOLON = 29
-# DtsDirective, DtNode, DtProperty
-ENDING_PARTS = (11, 15, 16)
+from compare.case import LEAF, NODE, Case, ErrorRow, ReportRow, TreeRow, case_line, read_line
+from compare.oracle import ROOM
 
-
-def unescaped(text):
-    return text.encode().decode("unicode_escape").encode("latin-1")
-
-
-def escaped(data):
-    plain = {10: "\\n", 9: "\\t", 13: "\\r", 92: "\\\\"}
-    return "".join(plain.get(c) or (chr(c) if 32 <= c < 127 else f"\\x{c:02x}") for c in data)
-
-
-def read(line):
-    """Tokens of a toks line, as (kind, bytes)."""
-    _, _, rows, *text = line.split(" ", 3)
-    data, at, out = unescaped(text[0] if text else ""), 0, []
-    for kind, length in ((x + ":1").split(":")[:2] for x in rows.split(",") if x):
-        out.append((int(kind), data[at : at + int(length)]))
-        at += int(length)
-    return out
+SEMICOLON = ORACLE.kinds["Semicolon"]
+ENDING_PARTS = [ORACLE.nodes[name] for name in ("DtsDirective", "DtNode", "DtProperty")]
 
 
 def line_of(tokens):
-    rows = ",".join(f"{kind}:{len(text)}" for kind, text in tokens)
-    return f"1 toks {rows} {escaped(b''.join(text for _, text in tokens))}"
+    return case_line(Case(1, tokens), ROOM)
 
 
 def pairs(seed, count):
     """Two heads that end in a semicolon, and a tail."""
-    cases = oracle("totoks", given=oracle("gen", seed, str(count), "1")).splitlines()
-    files = [t for t in map(read, cases) if len(t) < 80]
-    ends = [(t, [i for i, x in enumerate(t) if x[0] == SEMICOLON]) for t in files]
+    cases = ORACLE.run(["totoks"], ORACLE.run(["gen", seed, str(count), "1"])).splitlines()
+    files = [t for t in (read_line(case).rows for case in cases) if len(t) < 80]
+    ends = [(t, [i for i, x in enumerate(t) if x.kind == SEMICOLON]) for t in files]
     heads = [t[: random.choice(at) + 1] for t, at in ends if at]
     out = []
     for _ in range(count):
@@ -58,38 +40,36 @@ def load(lines):
         if word in ("REFUSED", "PANIC"):
             return None
         if word == "R":
-            rows.append(tuple(map(int, rest)))
+            rows.append(TreeRow(*map(int, rest)))
         elif word == "X":
-            lexical.append(tuple(map(int, rest)))
+            lexical.append(ErrorRow(*map(int, rest)))
         elif word == "P":
             bar = rest.index("|")
-            reports.append((tuple(map(int, rest[:bar])), tuple(rest[bar + 1 :])))
+            reports.append((ReportRow(*map(int, rest[:bar])), tuple(rest[bar + 1 :])))
     return rows, lexical, reports
 
 
 def part_end(rows, i):
     """Past the part at row i: the next row, the raw tokens in it, and its last direct child."""
-    cls, _, _, count = rows[i]
-    if cls == 1:
-        return i + 1, count, None
-    at, tokens, last = i + 1, 0, None
-    for _ in range(count):
-        last = rows[at]
-        at, n, _ = part_end(rows, at)
+    if rows[i].class_ == LEAF:
+        return i + 1, rows[i].count, None
+    child, tokens, last = i + 1, 0, None
+    for _ in range(rows[i].count):
+        last = rows[child]
+        child, n, _ = part_end(rows, child)
         tokens += n
-    return at, tokens, last
+    return child, tokens, last
 
 
 def boundary(rows, tokens):
     """Parts and rows up to the part that ends in its own semicolon as the file's token of that count, or None."""
-    at = parts = taken = 0
-    at = 1
-    while taken < tokens and parts < rows[0][3]:
-        kind = rows[at][:2]
-        at, n, last = part_end(rows, at)
+    parts, taken, row = 0, 0, 1
+    while taken < tokens and parts < rows[0].count:
+        part = rows[row]
+        row, n, last = part_end(rows, row)
         taken, parts = taken + n, parts + 1
-    ends = taken == tokens and kind[0] == 0 and kind[1] in ENDING_PARTS and last and last[:2] == (1, SEMICOLON)
-    return (parts, at) if ends else None
+    ends = taken == tokens and part.class_ == NODE and part.kind in ENDING_PARTS
+    return (parts, row) if ends and last and (last.class_, last.kind) == (LEAF, SEMICOLON) else None
 
 
 def later(answer, head):
@@ -98,24 +78,25 @@ def later(answer, head):
     found = boundary(rows, len(head))
     if not found:
         return None
-    parts, at = found
-    start = sum(len(text) for _, text in head)
-    early = [r for r, _ in reports if r[3] <= len(head) - 1]
-    pool = sum(r[5] for r in early)
+    parts, row = found
+    start = sum(token.length for token in head)
+    early = [r for r, _ in reports if r.mark <= len(head) - 1]
+    pool = sum(r.pool_count for r in early)
     moved = []
     for (message, a, b, mark, first, count, hint, la, lb), codes in reports[len(early) :]:
         label = None if (la, lb) == (0, 0) else (la - start, lb - start)
         moved.append((message, a - start, b - start, mark - len(head), first - pool, count, hint, label, codes))
+    errors = [(number, a - start, b - start) for number, a, b in lexical if a >= start]
     in_order = early == [r for r, _ in reports[: len(early)]]
-    return rows[0][3] - parts, rows[at:], [(k, a - start, b - start) for k, a, b in lexical if a >= start], moved, in_order
+    return rows[0].count - parts, rows[row:], errors, moved, in_order
 
 
 def main():
     seed, count = sys.argv[1], int(sys.argv[2])
     random.seed(int(seed))
     drawn = pairs(seed, count)
-    given = "".join(line_of(head + tail) + "\n" for a, b, tail in drawn for head in (a, b))
-    answers = [load(lines[1:]) for lines in blocks(oracle("doc01", "any", given=given))]
+    given = [line_of(head + tail) for a, b, tail in drawn for head in (a, b)]
+    answers = [load(lines) for lines in ORACLE.blocks(["doc01", "any"], given)]
     assert len(answers) == 2 * count
     used = with_reports = 0
     fails = []

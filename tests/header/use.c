@@ -1,5 +1,6 @@
 /* What a caller in C or C++ relies on, without the library: the structs lie over the rows, the names are there, and
    dt_after_subtree goes from sibling to sibling. Compiled as C and as C++. */
+#include "../random.h"
 #include "dt_names.h"
 #include <stdio.h>
 #include <stdlib.h>
@@ -36,7 +37,6 @@ enum { ROWS = 400 };
 static struct dt_tree_row rows[ROWS];
 static size_t ends[ROWS]; /* of each row, the row after its subtree, noted while the tree is made */
 static size_t made;
-static uint64_t state = 88172645463325252u;
 
 static void expect(int holds, const char *what)
 {
@@ -46,49 +46,41 @@ static void expect(int holds, const char *what)
     }
 }
 
-static uint32_t below(uint32_t n)
-{
-    state ^= state << 13;
-    state ^= state >> 7;
-    state ^= state << 17;
-    return (uint32_t)(state >> 32) % n;
-}
-
 /* A random subtree. A leaf's count is of tokens, and must not be taken for children. */
 static void make_subtree(uint32_t depth)
 {
-    size_t at = made++;
+    size_t row = made++;
     uint32_t i;
     if (depth == 0 || made > ROWS / 2 || below(3) == 0) {
-        rows[at].class_ = DT_CLASS_LEAF;
-        rows[at].count = 1 + below(4);
+        rows[row].class_ = DT_CLASS_LEAF;
+        rows[row].count = 1 + below(4);
     } else {
-        rows[at].class_ = DT_CLASS_NODE;
-        rows[at].count = below(5);
-        for (i = 0; i < rows[at].count; i++)
+        rows[row].class_ = DT_CLASS_NODE;
+        rows[row].count = below(5);
+        for (i = 0; i < rows[row].count; i++)
             make_subtree(depth - 1);
     }
-    ends[at] = made;
+    ends[row] = made;
 }
 
 static void check_trees(void)
 {
     int turn;
-    size_t at;
+    size_t row;
     for (turn = 0; turn < 20000; turn++) {
         made = 0;
         make_subtree(1 + below(8));
-        for (at = 0; at < made; at++)
-            expect(dt_after_subtree(rows, made, at) == ends[at], "dt_after_subtree: not the row after the subtree");
+        for (row = 0; row < made; row++)
+            expect(dt_after_subtree(rows, made, row) == ends[row], "dt_after_subtree: not the row after the subtree");
     }
     for (turn = 0; turn < 20000; turn++) {
         size_t count = below(20);
-        for (at = 0; at < count; at++) {
-            rows[at].class_ = below(3);
-            rows[at].count = below(2) ? below(4) : 4294967295u;
+        for (row = 0; row < count; row++) {
+            rows[row].class_ = below(3);
+            rows[row].count = below(2) ? below(4) : 4294967295u;
         }
-        for (at = 0; at <= count; at++)
-            expect(dt_after_subtree(rows, count, at) <= count, "dt_after_subtree: past the rows");
+        for (row = 0; row <= count; row++)
+            expect(dt_after_subtree(rows, count, row) <= count, "dt_after_subtree: past the rows");
     }
 }
 

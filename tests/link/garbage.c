@@ -1,42 +1,35 @@
 /* Calls with random numbers in place of entry, bytes, token rows and buffer lengths, and calls at the limits of size.
    Causes 1 to 3 are worked out here again; of every call it is checked what the buffers hold afterwards. */
+#include "../random.h"
 #include "lent.h"
 
-#define MOST_BYTES 1048576
-#define MOST_NUMBERS 131072
-
-static uint64_t state = 88172645463325252u;
-
-static uint32_t below(uint32_t n)
-{
-    state ^= state << 13;
-    state ^= state >> 7;
-    state ^= state << 17;
-    return (uint32_t)(state >> 32) % n;
-}
+/* Numbers that an answer can have. */
+enum { ANSWERS = DT_REFUSAL_NO_TREE_ROOM + 1 };
 
 static int bad_kind(uint32_t kind)
 {
-    return kind == 25 || kind == 26 || (kind > 60 && kind < 64) || kind > 74;
+    return kind == DT_TOKEN_UNRECOGNIZED || kind == DT_TOKEN_NAME ||
+           (kind > DT_TOKEN_QUESTION_MARK && kind < DT_TOKEN_FIRST_LEX_ERROR) || kind > DT_TOKEN_LAST_LEX_ERROR;
 }
 
-/* Causes 1 to 3: the number and its place, or 0 where none of them is met. */
+/* Causes 1 to 3: the number and its place, or DT_ACCEPTED where none of them is met. */
 static uint32_t early(uint32_t entry, size_t n, const uint32_t *tokens, size_t t, size_t *place)
 {
-    uint64_t at = 0;
+    const struct dt_token_row *rows = (const struct dt_token_row *)tokens;
+    uint64_t end = 0;
     *place = 0;
-    if (entry < 1 || entry > 4)
-        return 1;
-    if (n > MOST_BYTES || t > MOST_NUMBERS)
-        return 2;
-    for (size_t i = 0; i < t / 2; i++) {
-        at += tokens[2 * i + 1];
+    if (entry < DT_ENTRY_SOURCE_FILE || entry > DT_ENTRY_CELLS)
+        return DT_REFUSAL_UNKNOWN_ENTRY;
+    if (n > DT_MAX_BYTES || t > DT_MAX_TOKEN_NUMBERS)
+        return DT_REFUSAL_TOO_LONG;
+    for (size_t i = 0; i < t / DT_ROW_TOKEN; i++) {
+        end += rows[i].length;
         *place = i;
-        if (bad_kind(tokens[2 * i]) || tokens[2 * i + 1] == 0 || at > n)
-            return 3;
+        if (bad_kind(rows[i].kind) || rows[i].length == 0 || end > n)
+            return DT_REFUSAL_BAD_ROW;
     }
-    *place = t / 2;
-    return t % 2 || at != n ? 3 : 0;
+    *place = t / DT_ROW_TOKEN;
+    return t % DT_ROW_TOKEN || end != n ? DT_REFUSAL_BAD_ROW : DT_ACCEPTED;
 }
 
 /* The rows, read as a caller reads them, are one tree over all of the input. */
@@ -56,23 +49,23 @@ static void check_root(const char *name, const struct dt_tree_row *trees, size_t
 }
 
 /* Number, place, counts and buffers agree with one another and with causes 1 to 3. Gives the number. */
-static uint32_t checked(const char *name, uint32_t entry, const uint8_t *bytes, size_t n, const uint32_t *tokens, size_t t,
-                        struct buffer *b)
+static uint32_t checked(const char *name, uint32_t entry, const uint8_t *bytes, size_t n, const uint32_t *tokens,
+                        size_t t, struct buffer *b)
 {
     size_t place, used[BUFFERS];
     uint32_t number = early(entry, n, tokens, t, &place);
     struct dt_answer a = call(entry, bytes, n, tokens, t, b);
     counted(a, used);
-    if (number ? a.number != number || a.place != place : a.number > 0 && a.number < 4)
+    if (number ? a.number != number || a.place != place : a.number && a.number <= DT_REFUSAL_BAD_ROW)
         fail(name, "not the refusal of causes 1 to 3");
-    if (a.number > 8 || (a.number == 0 && a.place != 0))
+    if (a.number >= ANSWERS || (a.number == DT_ACCEPTED && a.place != 0))
         fail(name, "a number or a place that there is not");
     if (a.number && (a.tree_count || a.error_count || a.report_count || a.expectation_count))
         fail(name, "a refused call that counts something");
-    if (a.number == 0)
-        check_root(name, (const struct dt_tree_row *)b[TREES].at, a.tree_count, n);
+    if (a.number == DT_ACCEPTED)
+        check_root(name, (const struct dt_tree_row *)b[TREES].numbers, a.tree_count, n);
     for (int i = 0; i < BUFFERS; i++) {
-        int left = b[i].length > used[i] && a.number > 0 && a.number < 5;
+        int left = b[i].length > used[i] && a.number && a.number <= DT_REFUSAL_BAD_TEXT;
         if (used[i] > b[i].length || rest(b[i], used[i]) != left)
             fail(name, "a buffer does not hold what it should");
         give_back(name, b[i]);
@@ -84,8 +77,19 @@ static uint32_t checked(const char *name, uint32_t entry, const uint8_t *bytes, 
 static uint32_t random_kind(uint8_t *byte)
 {
     static const char TEXTS[] = ",=;&:@{}<>()+-*/%|^~!?";
-    static const uint8_t KINDS[] = {2, 28, 29, 30, 31, 32, 37, 38, 39, 40, 41, 42, 43, 44, 45, 46, 47, 48, 49, 50, 55, 60};
-    static const uint8_t FREE[] = {0, 1, 3, 4, 5, 7, 10, 11, 13, 27, 27, 27, 33, 34, 35, 35, 36, 64, 74};
+    static const uint8_t KINDS[] = {
+        DT_TOKEN_COMMA, DT_TOKEN_EQUALS, DT_TOKEN_SEMICOLON, DT_TOKEN_AMPERSAND, DT_TOKEN_COLON, DT_TOKEN_AT_SIGN,
+        DT_TOKEN_LCURLY, DT_TOKEN_RCURLY, DT_TOKEN_LANGLE, DT_TOKEN_RANGLE, DT_TOKEN_LPAREN, DT_TOKEN_RPAREN,
+        DT_TOKEN_PLUS, DT_TOKEN_MINUS, DT_TOKEN_ASTERISK, DT_TOKEN_SLASH, DT_TOKEN_MODULO, DT_TOKEN_BITWISE_OR,
+        DT_TOKEN_BITWISE_XOR, DT_TOKEN_BITWISE_NOT, DT_TOKEN_LOGICAL_NOT, DT_TOKEN_QUESTION_MARK,
+    };
+    /* names and numbers more often than the others */
+    static const uint8_t FREE[] = {
+        DT_TOKEN_WHITESPACE, DT_TOKEN_BLOCK_COMMENT, DT_TOKEN_LINE_COMMENT, DT_TOKEN_IF_DIRECTIVE,
+        DT_TOKEN_IFDEF_DIRECTIVE, DT_TOKEN_ELIF_DIRECTIVE, DT_TOKEN_ELSE_DIRECTIVE, DT_TOKEN_ENDIF_DIRECTIVE,
+        DT_TOKEN_DEFINE_DIRECTIVE, DT_TOKEN_IDENT, DT_TOKEN_IDENT, DT_TOKEN_IDENT, DT_TOKEN_STRING, DT_TOKEN_CHAR,
+        DT_TOKEN_NUMBER, DT_TOKEN_NUMBER, DT_TOKEN_DT_BYTESTRING, DT_TOKEN_FIRST_LEX_ERROR, DT_TOKEN_LAST_LEX_ERROR,
+    };
     if (below(3) == 0)
         return FREE[below(sizeof FREE)];
     uint32_t i = below(sizeof KINDS);
@@ -97,22 +101,24 @@ static uint32_t random_kind(uint8_t *byte)
    bytes. */
 static void random_call(size_t *met)
 {
-    uint8_t bytes[64];
-    uint32_t tokens[129], entry = 1 + below(4);
+    enum { MOST = 64 };
+    uint8_t bytes[MOST];
+    struct dt_token_row rows[MOST];
+    uint32_t *tokens = (uint32_t *)rows, entry = DT_ENTRY_SOURCE_FILE + below(DT_ENTRY_CELLS);
     struct buffer b[BUFFERS];
-    size_t n = below(65), t = 2 * n;
-    for (size_t i = 0; i < 64; i++)
+    size_t n = below(MOST + 1), t = DT_ROW_TOKEN * n;
+    for (size_t i = 0; i < MOST; i++)
         bytes[i] = (uint8_t)below(256);
     for (size_t i = 0; i < n; i++) {
-        tokens[2 * i] = random_kind(&bytes[i]);
-        tokens[2 * i + 1] = 1;
+        rows[i].kind = random_kind(&bytes[i]);
+        rows[i].length = 1;
     }
     if (below(3) == 0 && t > 0)
         tokens[below((uint32_t)t)] = below(2) ? below(80) : below(4294967295u);
     if (below(20) == 0)
         entry = below(7);
     if (below(20) == 0)
-        n = below(65);
+        n = below(MOST + 1);
     for (int i = 0; i < BUFFERS; i++)
         b[i] = lend(below(8) ? 700 + below(4000) : below(200));
     met[checked("garbage", entry, bytes, n, tokens, t, b)]++;
@@ -134,42 +140,48 @@ static void expect(const char *name, uint32_t found, uint32_t number)
 /* One comment of as many bytes as a call may have, and of one more. */
 static void byte_limit(void)
 {
-    uint8_t *bytes = calloc(MOST_BYTES + 1, 1);
+    enum { OVER = DT_MAX_BYTES + 1 };
+    const uint32_t most[DT_ROW_TOKEN] = {DT_TOKEN_BLOCK_COMMENT, DT_MAX_BYTES};
+    const uint32_t over[DT_ROW_TOKEN] = {DT_TOKEN_BLOCK_COMMENT, OVER}, entry = DT_ENTRY_SOURCE_FILE;
+    uint8_t *bytes = calloc(OVER, 1);
     struct buffer b[BUFFERS];
-    lend_little(b, 8);
-    expect("1,048,576 bytes", checked("bytes", 1, bytes, MOST_BYTES, (uint32_t[]){1, MOST_BYTES}, 2, b), 0);
-    lend_little(b, 8);
-    expect("1,048,577 bytes", checked("bytes", 1, bytes, MOST_BYTES + 1, (uint32_t[]){1, MOST_BYTES + 1}, 2, b), 2);
+    lend_little(b, 2 * DT_ROW_TREE);
+    expect("1,048,576 bytes", checked("bytes", entry, bytes, DT_MAX_BYTES, most, DT_ROW_TOKEN, b), DT_ACCEPTED);
+    lend_little(b, 2 * DT_ROW_TREE);
+    expect("1,048,577 bytes", checked("bytes", entry, bytes, OVER, over, DT_ROW_TOKEN, b), DT_REFUSAL_TOO_LONG);
     free(bytes);
 }
 
 /* Blanks of one byte each: as many rows as a call may have, and one more. */
 static void row_limit(void)
 {
-    uint8_t *bytes = calloc(65537, 1);
-    uint32_t *tokens = calloc(131074, sizeof *tokens);
+    enum { MOST = DT_MAX_TOKEN_NUMBERS / DT_ROW_TOKEN, OVER = MOST + 1, TREE = DT_ROW_TREE * (MOST + 1) };
+    uint8_t *bytes = calloc(OVER, 1);
+    struct dt_token_row *rows = calloc(OVER, sizeof *rows);
+    const uint32_t *tokens = (const uint32_t *)rows, entry = DT_ENTRY_SOURCE_FILE;
     struct buffer b[BUFFERS];
-    for (size_t i = 1; i < 131074; i += 2)
-        tokens[i] = 1;
-    lend_little(b, 262148);
-    expect("65,536 blanks", checked("rows", 1, bytes, 65536, tokens, 131072, b), 0);
-    lend_little(b, 262147);
-    expect("65,536 blanks, one number of the tree fewer", checked("rows", 1, bytes, 65536, tokens, 131072, b), 8);
-    lend_little(b, 262148);
-    expect("65,537 blanks", checked("rows", 1, bytes, 65537, tokens, 131074, b), 2);
-    free(tokens);
+    for (size_t i = 0; i < OVER; i++)
+        rows[i] = (struct dt_token_row){DT_TOKEN_WHITESPACE, 1};
+    lend_little(b, TREE);
+    expect("65,536 blanks", checked("rows", entry, bytes, MOST, tokens, DT_ROW_TOKEN * MOST, b), DT_ACCEPTED);
+    lend_little(b, TREE - 1);
+    expect("65,536 blanks, one number of the tree fewer",
+           checked("rows", entry, bytes, MOST, tokens, DT_ROW_TOKEN * MOST, b), DT_REFUSAL_NO_TREE_ROOM);
+    lend_little(b, TREE);
+    expect("65,537 blanks", checked("rows", entry, bytes, OVER, tokens, DT_ROW_TOKEN * OVER, b), DT_REFUSAL_TOO_LONG);
+    free(rows);
     free(bytes);
 }
 
 int main(void)
 {
-    size_t met[9] = {0};
+    size_t met[ANSWERS] = {0};
     byte_limit();
     row_limit();
     for (int i = 0; i < 200000; i++)
         random_call(met);
     printf("200000 calls with random numbers:");
-    for (int i = 0; i < 9; i++)
+    for (int i = 0; i < ANSWERS; i++)
         printf(" %d: %zu", i, met[i]);
     printf("\n");
     return 0;

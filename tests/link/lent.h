@@ -8,7 +8,7 @@
 enum { EVENTS, TREES, ERRORS, REPORTS, POOL, BUFFERS };
 
 struct buffer {
-    uint32_t *at;
+    uint32_t *numbers;
     size_t length;
 };
 
@@ -31,7 +31,7 @@ static struct buffer lend(size_t length)
 static int all(struct buffer b, size_t from, uint32_t n)
 {
     for (size_t i = from; i < b.length; i++)
-        if (b.at[i] != n)
+        if (b.numbers[i] != n)
             return 0;
     return 1;
 }
@@ -44,15 +44,17 @@ static int rest(struct buffer b, size_t from)
 
 static void give_back(const char *name, struct buffer b)
 {
-    if (b.at[-1] != LENT || b.at[b.length] != LENT)
+    if (b.numbers[-1] != LENT || b.numbers[b.length] != LENT)
         fail(name, "a number beside a lent buffer was changed");
-    free(b.at - 1);
+    free(b.numbers - 1);
 }
 
-static struct dt_answer call(uint32_t entry, const uint8_t *bytes, size_t n, const uint32_t *tokens, size_t t, struct buffer *b)
+static struct dt_answer call(uint32_t entry, const uint8_t *bytes, size_t n, const uint32_t *tokens, size_t t,
+                             struct buffer *b)
 {
-    return dt_parse(entry, bytes, n, tokens, t, b[EVENTS].at, b[EVENTS].length, b[TREES].at, b[TREES].length,
-                    b[ERRORS].at, b[ERRORS].length, b[REPORTS].at, b[REPORTS].length, b[POOL].at, b[POOL].length);
+    return dt_parse(entry, bytes, n, tokens, t, b[EVENTS].numbers, b[EVENTS].length, b[TREES].numbers, b[TREES].length,
+                    b[ERRORS].numbers, b[ERRORS].length, b[REPORTS].numbers, b[REPORTS].length, b[POOL].numbers,
+                    b[POOL].length);
 }
 
 /* How many numbers of each buffer an answer counts. */

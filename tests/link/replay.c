@@ -41,7 +41,8 @@ static void print(const struct one *c, struct dt_answer a, struct buffer *b)
 {
     size_t used[BUFFERS];
     counted(a, used);
-    printf("%s %u %zu %zu %zu %zu %zu", c->name, a.number, a.place, a.tree_count, a.error_count, a.report_count, a.expectation_count);
+    printf("%s %u %zu %zu %zu %zu %zu", c->name, a.number, a.place, a.tree_count, a.error_count, a.report_count,
+           a.expectation_count);
     for (int i = 0; i < BUFFERS; i++)
         printf(" %d", rest(b[i], used[i]));
     printf("\n");
@@ -49,23 +50,25 @@ static void print(const struct one *c, struct dt_answer a, struct buffer *b)
         if (used[i])
             printf("%c", LETTERS[i]);
         for (size_t k = 0; k < used[i]; k++)
-            printf(" %u", b[i].at[k]);
+            printf(" %u", b[i].numbers[k]);
         if (used[i])
             printf("\n");
     }
 }
 
 /* The same call with these lengths answers with this number, and with the same rows where it is 0. */
-static void again(const struct one *c, const size_t *lengths, uint32_t number, const size_t *used, const struct buffer *first)
+static void again(const struct one *c, const size_t *lengths, uint32_t number, const size_t *used,
+                  const struct buffer *first)
 {
     struct buffer b[BUFFERS];
     struct dt_answer a = call_one(c, lengths, b);
+    int accepted = number == DT_ACCEPTED;
     if (a.number != number)
         fail(c->name, "another answer in buffers that just fit or are one number short");
     for (int i = 0; i < BUFFERS; i++) {
-        if (number == 0 && memcmp(b[i].at, first[i].at, used[i] * sizeof(uint32_t)))
+        if (accepted && memcmp(b[i].numbers, first[i].numbers, used[i] * sizeof(uint32_t)))
             fail(c->name, "other rows in buffers that just fit");
-        if (rest(b[i], number == 0 ? used[i] : 0) != 0)
+        if (rest(b[i], accepted ? used[i] : 0) != 0)
             fail(c->name, "a buffer is not zero after its rows");
         give_back(c->name, b[i]);
     }
@@ -73,12 +76,15 @@ static void again(const struct one *c, const size_t *lengths, uint32_t number, c
 
 static void at_the_edge(const struct one *c, struct dt_answer a, const struct buffer *first)
 {
-    static const uint32_t SHORT[BUFFERS] = {6, 8, 8, 7, 7};
+    static const uint32_t SHORT[BUFFERS] = {
+        DT_REFUSAL_NO_EVENT_ROOM,  DT_REFUSAL_NO_TREE_ROOM,   DT_REFUSAL_NO_TREE_ROOM,
+        DT_REFUSAL_NO_REPORT_ROOM, DT_REFUSAL_NO_REPORT_ROOM,
+    };
     size_t used[BUFFERS], lengths[BUFFERS];
     counted(a, used);
     memcpy(lengths, used, sizeof used);
     lengths[EVENTS] = c->head[3];
-    again(c, lengths, 0, used, first);
+    again(c, lengths, DT_ACCEPTED, used, first);
     for (int i = TREES; i < BUFFERS; i++) {
         if (used[i] == 0)
             continue;
@@ -88,9 +94,9 @@ static void at_the_edge(const struct one *c, struct dt_answer a, const struct bu
     }
 }
 
-int main(int n, char **words)
+int main(int argc, char **argv)
 {
-    FILE *f = n == 2 ? fopen(words[1], "rb") : NULL;
+    FILE *f = argc == 2 ? fopen(argv[1], "rb") : NULL;
     if (!f)
         fail("usage", "replay LIST");
     struct one c;
@@ -98,7 +104,7 @@ int main(int n, char **words)
         struct buffer b[BUFFERS];
         struct dt_answer a = call_one(&c, c.head + 3, b);
         print(&c, a, b);
-        if (a.number == 0)
+        if (a.number == DT_ACCEPTED)
             at_the_edge(&c, a, b);
         for (int i = 0; i < BUFFERS; i++)
             give_back(c.name, b[i]);

@@ -1,14 +1,14 @@
 //! Runs the cases of a list, in the form that crates/replay says, over the static library and prints what the gate's
 //! program prints.
 use dt_parser_ffi::{Answer, parse};
+use dt_parser_layout::BUFFERS;
 use std::io::Write;
 
 /// What each number of a buffer is before a call. No row holds it.
 const LENT: u32 = 4042322160;
-const LETTERS: [&str; 5] = ["-", "t", "x", "r", "e"];
+const LETTERS: [&str; BUFFERS] = ["-", "t", "x", "r", "e"];
 
-/// Events, trees, errors, reports, pool.
-type Buffers = [Vec<u32>; 5];
+type Buffers = [Vec<u32>; BUFFERS];
 
 /// What stands after the counted rows: 0 zeros or nothing, 1 only what was lent, 2 anything else.
 fn rest(after: &[u32]) -> u32 {
@@ -21,7 +21,8 @@ fn rest(after: &[u32]) -> u32 {
 
 fn print(out: &mut impl Write, name: &str, a: Answer, buffers: &Buffers) -> std::io::Result<()> {
     let used = a.used();
-    write!(out, "{name} {} {} {} {} {} {}", a.number, a.place, a.tree_count, a.error_count, a.report_count, a.expectation_count)?;
+    write!(out, "{name} {} {} {} ", a.number, a.place, a.tree_count)?;
+    write!(out, "{} {} {}", a.error_count, a.report_count, a.expectation_count)?;
     for (b, n) in buffers.iter().zip(used) {
         write!(out, " {}", rest(&b[n..]))?
     }
@@ -36,10 +37,10 @@ fn print(out: &mut impl Write, name: &str, a: Answer, buffers: &Buffers) -> std:
 fn main() -> std::io::Result<()> {
     let list = std::fs::read(std::env::args().nth(1).expect("usage: replay LIST"))?;
     let mut out = std::io::BufWriter::new(std::io::stdout().lock());
-    let mut at = 0;
-    while at < list.len() {
-        let end = at + list[at..].iter().position(|&b| b == b'\n').expect("a line");
-        let line = std::str::from_utf8(&list[at..end]).expect("a line of text");
+    let mut start = 0;
+    while start < list.len() {
+        let end = start + list[start..].iter().position(|&b| b == b'\n').expect("a line");
+        let line = std::str::from_utf8(&list[start..end]).expect("a line of text");
         let (name, numbers) = line.split_once(' ').expect("a name");
         let numbers: Vec<u32> = numbers.split(' ').map(|n| n.parse().expect("a number")).collect();
         let (head, tokens) = numbers.split_at(8);
@@ -47,7 +48,7 @@ fn main() -> std::io::Result<()> {
         let mut buffers: Buffers = std::array::from_fn(|i| vec![LENT; head[3 + i] as usize]);
         let a = parse(head[2], bytes, tokens, &mut buffers);
         print(&mut out, name, a, &buffers)?;
-        at = end + 1 + bytes.len() + 1;
+        start = end + 1 + bytes.len() + 1;
     }
     out.flush()
 }

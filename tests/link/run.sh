@@ -3,7 +3,7 @@
 # answers, in buffers full of garbage; from C also with guards beside each buffer, each accepted call again in buffers
 # that just fit and with one number fewer, random numbers in place of the input, and the limits of size. Not part of the
 # gate. Needs gcc, cargo, and `rt` where DT_PARSER_LIB does not name a library.
-#   tests/link/run.sh                          over `rt staticlib dt_parser`
+#   tests/link/run.sh                          over the library that the kit makes (tools/static-library)
 #   DT_PARSER_LIB=FILE tests/link/run.sh       over another archive
 #   tests/link/run.sh --memcheck               the lists under valgrind
 set -eu

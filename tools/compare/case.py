@@ -1,9 +1,7 @@
-"""A call of the parser: entry, token rows over their bytes, and the lengths of the lent buffers."""
+"""A call of the parser: entry, token rows over their bytes, and the lengths of the lent buffers; and document 01's
+numbers. They are written out here once, and not read from the definitions or the header: an answer that is expected
+must not follow these where they are changed."""
 from typing import NamedTuple, Optional
-
-# The lent buffers and the numbers in a row of each.
-BUFFERS = ("events", "trees", "errors", "reports", "pool")
-ROW = (3, 4, 3, 9, 1)
 
 
 class Row(NamedTuple):
@@ -13,6 +11,47 @@ class Row(NamedTuple):
     kind: int
     length: int
     text: bytes
+
+
+class TreeRow(NamedTuple):
+    class_: int
+    kind: int
+    width: int
+    count: int
+
+
+class ErrorRow(NamedTuple):
+    number: int
+    start: int
+    end: int
+
+
+class ReportRow(NamedTuple):
+    message: int
+    start: int
+    end: int
+    mark: int
+    pool_first: int
+    pool_count: int
+    hint: int
+    label_start: int
+    label_end: int
+
+
+# the lent buffers and the numbers in a row of each
+BUFFERS = ("events", "trees", "errors", "reports", "pool")
+EVENT_ROW, TREE_ROW, ERROR_ROW, REPORT_ROW = 3, len(TreeRow._fields), len(ErrorRow._fields), len(ReportRow._fields)
+ROW = (EVENT_ROW, TREE_ROW, ERROR_ROW, REPORT_ROW, 1)
+TOKEN_ROW = 2
+# the class of a tree row
+NODE, LEAF = 0, 1
+# limits of causes 2 and 5
+MOST_BYTES, MOST_NUMBERS = 1048576, 131072
+MOST_ROWS = MOST_NUMBERS // TOKEN_ROW
+MOST_OPEN, MOST_PENDING = 64, 256
+# lexical errors, which are kinds of token rows too
+FIRST_ERROR, LAST_ERROR = 64, 74
+ERRORS = range(FIRST_ERROR, LAST_ERROR + 1)
 
 
 class Case(NamedTuple):
@@ -51,8 +90,14 @@ class Result(NamedTuple):
 
 
 def rows_of(tokens):
-    """Rows from (kind, text) pairs."""
+    """Token rows from (kind, text) pairs."""
     return tuple(Row(kind, len(text), text) for kind, text in tokens)
+
+
+def rows(row, numbers):
+    """The rows that stand in a buffer: TreeRow, ErrorRow or ReportRow."""
+    size = len(row._fields)
+    return [row(*numbers[i : i + size]) for i in range(0, len(numbers), size)]
 
 
 def runs(numbers):
@@ -77,7 +122,28 @@ def escaped(data):
     return "".join(plain.get(c) or (chr(c) if 32 <= c < 127 else "\\x%02x" % c) for c in data)
 
 
-def case_line(case, caps):
+def unescaped(text):
+    return text.encode().decode("unicode_escape").encode("latin-1")
+
+
+def case_of(entry, numbers, data, lengths=(0, 0, 0, 0, 0)):
+    """The case with these token numbers; where lengths and bytes disagree, rows have what bytes there are."""
+    rows, start = [], 0
+    for kind, length in zip(numbers[::2], numbers[1::2]):
+        rows.append(Row(kind, length, data[start : start + length]))
+        start = min(start + length, len(data))
+    odd = numbers[-1] if len(numbers) % TOKEN_ROW else None
+    return Case(entry, tuple(rows), tuple(lengths), odd, data[start:])
+
+
+def read_line(line):
+    """A toks line of the oracle as a case that is lent nothing; bytes after the rows' stay."""
+    entry, _, rows, *text = line.split(" ", 3)
+    numbers = [int(n) for row in rows.split(",") if row for n in (row + ":1").split(":")[:2]]
+    return case_of(int(entry), numbers, unescaped(text[0] if text else ""))
+
+
+def case_line(case, lengths):
     """The case as a line for the oracle, with these buffer lengths ("-" is room enough)."""
     rows = ",".join("%d:%d" % (row.kind, row.length) for row in case.rows)
-    return "%d caps %s toks %s %s" % (case.entry, ",".join(map(str, caps)), rows, escaped(case.data()))
+    return "%d caps %s toks %s %s" % (case.entry, ",".join(map(str, lengths)), rows, escaped(case.data()))

@@ -1,7 +1,8 @@
 """Random cases from a seed."""
 import random
 
-from compare.case import ROW, Case, Row, rows_of
+from compare.case import ERRORS, FIRST_ERROR, LAST_ERROR, MOST_OPEN, MOST_PENDING, MOST_ROWS, ROW
+from compare.case import Case, Row, read_line, rows_of
 from compare.oracle import NO_TREE
 from compare.tables import BAD_ENTRIES, BAD_KINDS, CONDITIONAL_HEADS, CONDITIONALS, ENTRIES, FULL_HEADS, FULL_TAILS, HEADS, LEVELS
 from compare.tables import NESTS, OVER_TAIL, PIECES, PREFIX, STATEMENTS, STOPS, TAILS, TRIVIA, UNITS
@@ -12,7 +13,7 @@ MOST_DEEP_ROWS = 160
 class Drawer:
     def __init__(self, oracle, seed):
         self.oracle, self.seed, self.random = oracle, seed, random.Random(seed)
-        self.kinds = [n for n in oracle.kinds.values() if n not in (25, 26)]
+        self.kinds, self.blank, self.ident = oracle.inputs, oracle.kinds["Whitespace"], oracle.kinds["Ident"]
 
     # ------------------------------------------------------------ token lists
 
@@ -40,7 +41,7 @@ class Drawer:
             if r.random() < 0.2:
                 out.append(self.oracle.kinds[r.choice(TRIVIA)])
             if r.random() < 0.04:
-                out.append(r.randint(64, 74))
+                out.append(r.randint(FIRST_ERROR, LAST_ERROR))
         return self.tokens(out[: length + 2])
 
     def statements(self):
@@ -49,7 +50,7 @@ class Drawer:
         kinds = self.named(" ".join(sum((r.choice(STATEMENTS[entry]) for _ in range(r.choice((1, 1, 2)))), [])))
         for _ in range(r.choice((0, 0, 1, 1, 2))):
             i, how = r.randrange(len(kinds)), r.randrange(4)
-            other = r.choice(self.kinds + [64, 74]) if r.random() < 0.4 else self.oracle.kinds[r.choice(STOPS)]
+            other = r.choice(self.kinds + [FIRST_ERROR, LAST_ERROR]) if r.random() < 0.4 else self.oracle.kinds[r.choice(STOPS)]
             if how == 0:
                 kinds = kinds[:i] + kinds[i + 1 :] or kinds
             elif how == 1:
@@ -59,12 +60,12 @@ class Drawer:
             else:
                 kinds = kinds[: i + 1]
         blanks = r.choice((0, 0.1, 0.3))
-        kinds = [x for k in kinds for x in ([0, k] if r.random() < blanks else [k])]
+        kinds = [x for k in kinds for x in ([self.blank, k] if r.random() < blanks else [k])]
         return Case(entry, self.tokens(kinds))
 
     def random_tokens(self, length):
         """Kinds from a small alphabet, or from all, lexical errors among them."""
-        every = self.kinds + list(range(64, 75))
+        every = self.kinds + list(ERRORS)
         if self.random.random() < 0.7:
             every = [self.random.choice(every) for _ in range(self.random.randint(2, 6))]
         return self.tokens(self.random.choice(every) for _ in range(length))
@@ -108,7 +109,7 @@ class Drawer:
             if r.random() < 0.35:
                 kinds[r.randrange(len(kinds))] = r.choice(self.kinds)
             if r.random() < 0.3:
-                kinds.insert(r.randrange(len(kinds)), 0)
+                kinds.insert(r.randrange(len(kinds)), self.blank)
             out.append(Case(entry, self.tokens(kinds)))
         return out
 
@@ -132,7 +133,7 @@ class Drawer:
         unit = " ".join(r.choice(UNITS) for _ in range(r.choice((1, 1, 1, 2))))
         if r.random() < 0.4:
             (entry, head), unit = r.choice(CONDITIONAL_HEADS), r.choice(CONDITIONALS)
-        blank = [0] if r.random() < 0.2 else []
+        blank = [self.blank] if r.random() < 0.2 else []
         return [self.nested(entry, head, self.named(unit) + blank, k, tail) for k in range(1, 67)]
 
     def nested(self, entry, head, unit, k, tail):
@@ -162,7 +163,7 @@ class Drawer:
             lists = [self.nested(entry, head, unit, 50, tail) for tail in (r.choice(FULL_TAILS), OVER_TAIL)]
         said = self.oracle.ask(lists, NO_TREE)
         at = next(i for i, p in enumerate(said) if p.number == 5)
-        assert at and (said[at - 1].most_open == 64 or said[at - 1].most_pending == 256)
+        assert at and (said[at - 1].most_open == MOST_OPEN or said[at - 1].most_pending == MOST_PENDING)
         return lists[at - 1 : at + 1]
 
     # ------------------------------------------------------------ bad input: causes 1 to 4
@@ -182,7 +183,7 @@ class Drawer:
         if what == 1:
             return case._replace(odd=r.choice((0, 27, 25, 99)))
         if what == 2:
-            return case._replace(extra=case.extra + self.text(27))
+            return case._replace(extra=case.extra + self.text(self.ident))
         row = rows[i]
         if what == 3:
             row = row._replace(kind=r.choice(BAD_KINDS))
@@ -256,15 +257,5 @@ class Drawer:
 
     def largest(self):
         """Cause 2 by its count of token numbers, and the largest count that is not refused by it (but by row 0)."""
-        return [Case(1, (Row(0, 0, b""),) * 65536, odd=0), Case(1, (Row(0, 0, b""),) * 65536)]
-
-
-def read_line(line):
-    """A toks line of the oracle."""
-    entry, _, rows, *text = line.split(" ", 3)
-    data = (text[0] if text else "").encode().decode("unicode_escape").encode("latin-1")
-    out, at = [], 0
-    for kind, length in ((x + ":1").split(":")[:2] for x in rows.split(",") if x):
-        out.append(Row(int(kind), int(length), data[at : at + int(length)]))
-        at += int(length)
-    return Case(int(entry), tuple(out))
+        most = (Row(self.blank, 0, b""),) * MOST_ROWS
+        return [Case(1, most, odd=0), Case(1, most)]

@@ -1,11 +1,9 @@
 """The expected result of a case. Causes 1 to 4 and the buffers' final contents are document 01's table, written here in
 a few lines; everything else is the answer of oracle/ (`oracle doc01 any`: the patched copy of the Rust)."""
-import os
-import subprocess
-
+from compare.case import ERROR_ROW, ERRORS, EVENT_ROW, MOST_BYTES, MOST_NUMBERS, REPORT_ROW, TOKEN_ROW, TREE_ROW
 from compare.case import Result, case_line
+from oracle_program import Program
 
-MOST_BYTES, MOST_NUMBERS = 1048576, 131072
 # room enough for all; the same except for the tree, so that the answer is short
 ROOM, NO_TREE = "-----", "-0---"
 
@@ -38,36 +36,21 @@ class Parsed:
             raise SystemExit("the oracle gave no answer: " + " / ".join(lines))
 
     def needs(self):
-        """Buffer lengths that just suffice for what is pushed, and for the rows if they are told."""
+        """Buffer lengths that just suffice for what is pushed, and for the rows if the answer has them."""
         events, reports, pool = self.pushed
-        return 3 * events, len(self.rows), len(self.lexical), 9 * reports, pool
+        return EVENT_ROW * events, len(self.rows), len(self.lexical), REPORT_ROW * reports, pool
 
     def counts(self):
-        return len(self.rows) // 4, len(self.lexical) // 3, len(self.reports) // 9, len(self.pool)
+        trees, errors = len(self.rows) // TREE_ROW, len(self.lexical) // ERROR_ROW
+        return trees, errors, len(self.reports) // REPORT_ROW, len(self.pool)
 
 
-class Oracle:
-    def __init__(self, root):
-        self.program = os.path.join(root, "oracle", "target", "release", "oracle")
-        build = os.path.join(root, "oracle", "build.sh")
-        subprocess.run([build], check=True, stdout=subprocess.DEVNULL)
-        self.kinds, self.texts = {}, {}
-        for line in self.run(["kinds"]).splitlines():
-            number, name, text = line.split(" ", 2)
-            self.kinds[name] = int(number)
-            if text:
-                self.texts[int(number)] = text.encode()
-
-    def run(self, words, given=""):
-        done = subprocess.run([self.program] + words, input=given, stdout=subprocess.PIPE, text=True, check=True)
-        return done.stdout
-
-    def ask(self, cases, caps=ROOM):
+class Oracle(Program):
+    def ask(self, cases, lengths=ROOM):
         """The oracle's answers, with the same buffer lengths for all or (None) with each case's own."""
-        given = "".join(case_line(c, caps or c.lengths) + "\n" for c in cases)
-        blocks = self.run(["doc01", "any"], given).split("END\n")[:-1]
+        blocks = self.blocks(["doc01", "any"], [case_line(c, lengths or c.lengths) for c in cases])
         assert len(blocks) == len(cases)
-        return [Parsed(b.splitlines()[1:]) for b in blocks]
+        return [Parsed(lines) for lines in blocks]
 
     def rust(self, case):
         """The unchanged Rust's own answer, to be read."""
@@ -80,18 +63,18 @@ class Oracle:
             return 1, 0
         if len(data) > MOST_BYTES or len(numbers) > MOST_NUMBERS:
             return 2, 0
-        at, starts = 0, []
-        for i in range(len(numbers) // 2):
-            kind, length = numbers[2 * i : 2 * i + 2]
-            known = kind <= 60 and kind not in (25, 26) or 64 <= kind <= 74
-            if not known or length == 0 or at + length > len(data):
+        start, tokens = 0, []
+        for i in range(len(numbers) // TOKEN_ROW):
+            kind, length = numbers[TOKEN_ROW * i : TOKEN_ROW * (i + 1)]
+            known = kind in self.inputs or kind in ERRORS
+            if not known or length == 0 or start + length > len(data):
                 return 3, i
-            starts.append((at, kind, length))
-            at += length
-        if len(numbers) % 2 or at != len(data):
-            return 3, len(numbers) // 2
-        for i, (at, kind, length) in enumerate(starts):
-            if data[at : at + length] != self.texts.get(kind, data[at : at + length]):
+            tokens.append((kind, data[start : start + length]))
+            start += length
+        if len(numbers) % TOKEN_ROW or start != len(data):
+            return 3, len(tokens)
+        for i, (kind, text) in enumerate(tokens):
+            if text != self.texts.get(kind, text):
                 return 4, i
         return None
 

@@ -112,5 +112,6 @@ FULL_HEADS = [(4, ""), (4, "Number"), (3, "LAngle")]
 FULL_TAILS = [first + last for first in ("Ident ", "DtIncludeDirective ") for last in ("Semicolon", "LCurly", "RCurly")]
 OVER_TAIL = "LParen Number Semicolon"
 
+# kinds of leaves alone, and numbers of no kind
 BAD_KINDS = (25, 26, 61, 62, 63, 75, 76, 100, 128, 4294967295)
 BAD_ENTRIES = (0, 5, 6, 7, 255, 4294967295)

@@ -23,6 +23,7 @@ HINTS = {
     "property-not-allowed": (GRAMMAR, "eat_node_or_prop", 0),
     "missing-left-side": (EXPR, "lhs", 0),
 }
+LABEL = GRAMMAR, "dt_node_body", 0
 # The two codes of Errors.antt that the Rust has no text for.
 EXPECTED = "msg-expected"
 NO_HINT = "no-hint"
@@ -103,6 +104,30 @@ def all_said(repo, method, places):
     return {name: said(repo, method, place) for name, place in places.items()}
 
 
+def message_texts(repo):
+    """The messages that are one text each, by their names in Errors.antt."""
+    return all_said(repo, "msg_custom", MESSAGES)
+
+
+def hint_texts(repo):
+    return all_said(repo, "add_hint", HINTS)
+
+
+def label_text(repo):
+    """What the message of an open node says at its brace."""
+    return said(repo, "add_span_label", LABEL)
+
+
+def token_words(repo):
+    """The words for a token's kind in a message, by the Rust's names."""
+    return arms(repo, LEXER, "impl core::fmt::Display for TokenKind", "TokenKind")
+
+
+def expectation_words(repo):
+    """The words for the other expectations."""
+    return arms(repo, ERRORS, "impl core::fmt::Display for Expected", "Expected")
+
+
 def chosen(codes, names):
     missing = [name for name in names if name not in codes]
     if missing:
@@ -168,42 +193,37 @@ class Names:
 
     def kinds(self):
         repo = self.repo
-        tokens, errors = repo.rust_enum(LEXER, "TokenKind", 0), repo.rust_enum(LEXER, "LexError", 64)
-        words = arms(repo, LEXER, "impl core::fmt::Display for TokenKind", "TokenKind")
+        tokens, errors = repo.token_kinds(), repo.lex_errors()
         yield function("dt_token_name", "kind", "A token's kind, of enum dt_token.", self.cases("DT_TOKEN_", tokens))
         yield function("dt_token_text", "kind", "The words for it in a message, with quotes where dt-tools has them.",
-                       self.cases("DT_TOKEN_", tokens, words))
+                       self.cases("DT_TOKEN_", tokens, token_words(repo)))
         yield function("dt_lex_error_name", "number", "A lexical error, of enum dt_lex_error.",
                        self.cases("DT_LEX_ERROR_", errors))
         yield function("dt_lex_error_text", "number", "The message for it.",
                        self.cases("DT_LEX_ERROR_", errors, doc_comments(repo, LEXER, "LexError")))
         yield function("dt_node_name", "kind", "A node's kind, of enum dt_node.",
-                       self.cases("DT_NODE_", repo.rust_enum(RUST + "cst.rs", "NodeKind", 0)))
+                       self.cases("DT_NODE_", repo.node_kinds()))
 
     def reports(self):
         codes = self.repo.spec(SPECS + "Errors.antt")
-        texts = all_said(self.repo, "msg_custom", MESSAGES)
-        texts["expected"] = first_word(self.repo)
+        texts = {"expected": first_word(self.repo), **message_texts(self.repo)}
         messages = {"expected": chosen(codes, [EXPECTED])[EXPECTED], **chosen(codes, MESSAGES)}
         hints = {"none": chosen(codes, [NO_HINT])[NO_HINT], **chosen(codes, HINTS)}
-        label = said(self.repo, "add_span_label", (GRAMMAR, "dt_node_body", 0))
         yield function("dt_message_name", "message", "A report's message, of enum dt_message.",
                        self.cases("DT_MESSAGE_", messages))
         yield function("dt_message_text", "message", MESSAGE_COMMENT, self.cases("DT_MESSAGE_", messages, texts))
         yield function("dt_label_text", "message", "What a message says at its label; empty for one that has no label.",
-                       [("DT_MESSAGE_UNCLOSED_NODE", label)], '""')
+                       [("DT_MESSAGE_UNCLOSED_NODE", label_text(self.repo))], '""')
         yield function("dt_hint_name", "hint", "A report's hint, of enum dt_hint.", self.cases("DT_HINT_", hints))
         yield function("dt_hint_text", "hint", "What it adds to the message; empty for DT_HINT_NONE.",
-                       self.cases("DT_HINT_", hints, {"none": "", **all_said(self.repo, "add_hint", HINTS)}))
+                       self.cases("DT_HINT_", hints, {"none": "", **hint_texts(self.repo)}))
 
     def expectations(self):
-        expected = self.repo.rust_enum(ERRORS, "Expected", 100)
-        del expected["Kind"]
-        words = arms(self.repo, ERRORS, "impl core::fmt::Display for Expected", "Expected")
+        expected = self.repo.expectations()
         yield function("dt_expected_name", "code", "An expectation: of enum dt_expected, or a token's kind.",
                        self.cases("DT_EXPECTED_", expected), "dt_token_name(code)")
         yield function("dt_expected_text", "code", "The words for it in a message.",
-                       self.cases("DT_EXPECTED_", expected, words), "dt_token_text(code)")
+                       self.cases("DT_EXPECTED_", expected, expectation_words(self.repo)), "dt_token_text(code)")
 
     def header(self):
         return TOP + "".join([*self.calls(), *self.kinds(), *self.reports(), *self.expectations()]) + END

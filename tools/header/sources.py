@@ -31,14 +31,28 @@ class Repository:
         return {n: int(v) for n, v in re.findall(r"^([\w-]+) = (\d+)$", self.text(path), re.M)}
 
     def code(self, path):
-        """The constants of a file of code."""
-        return {n: int(v) for n, v in re.findall(r"\bconst (\w+): u\w+ = (\d+);", self.text(path))}
+        """The constants of a file of code, in Rattle or in Rust."""
+        return {n: int(v) for n, v in re.findall(r"\bconst (\w+): u\w+ = ([\d_]+);", self.text(path))}
 
     def rust_enum(self, path, name, first):
         """The cases of one of the Rust's enums, numbered in their order."""
         body = re.search(r"\benum %s \{\n(.*?)\n\}" % name, self.text(path), re.S)[1]
         cases = re.findall(r"^    ([A-Z]\w*)(?:\([^)]*\))?,", body, re.M)
         return {n: first + i for i, n in enumerate(cases)}
+
+    def token_kinds(self):
+        return self.rust_enum(RUST + "lexer.rs", "TokenKind", 0)
+
+    def lex_errors(self):
+        return self.rust_enum(RUST + "lexer.rs", "LexError", 64)
+
+    def node_kinds(self):
+        return self.rust_enum(RUST + "cst.rs", "NodeKind", 0)
+
+    def expectations(self):
+        """Those that are not a token's kind."""
+        cases = self.rust_enum(RUST + "parser/errors.rs", "Expected", 100)
+        return {n: v for n, v in cases.items() if n != "Kind"}
 
     def entries(self):
         """The entries of a call, by name."""

@@ -3,14 +3,19 @@ end there, and whether it is at the end of input or at a token. Two roots are kn
 import re
 from collections import Counter
 
-CELL_LISTS, VALUE_LISTS, BRACKETS = (17, 3), (20, 2), (18, 8)
-CONDITIONAL, NODE, PARSE_ERROR = 13, 15, 10
-LANGLE, TRIVIA = 39, (0, 1, 3)
+from compare.case import NODE
+from compare.tables import TRIVIA
+
+# kinds of nodes
+CELL_LISTS, VALUE_LISTS = ("DtCellList", "EntryCells"), ("PropValueList", "EntryPropValues")
+BRACKETS = ("DtExpr", "ParenExpr")
 
 
 class Ends:
     def __init__(self, oracle):
         self.oracle, self.waiting, self.count = oracle, [], 0
+        self.node_names = {number: name for name, number in oracle.nodes.items()}
+        self.token_names = {number: name for name, number in oracle.kinds.items()}
         self.classes, self.others = {}, []
 
     def add(self, line):
@@ -27,8 +32,15 @@ class Ends:
                 raise SystemExit("the Rust does not panic: " + line)
             at_end = "at byte None" in rust[0]
             byte = None if at_end else int(rust[0].split("Some(")[1].split(")")[0])
-            levels = ending([tuple(map(int, l.split()[1:])) for l in tree if l.startswith("R ")], byte)
-            self.put(line, at_end, levels)
+            self.put(line, at_end, ending(self.rows(tree), byte))
+
+    def rows(self, lines):
+        """The tree rows of an answer as (whether it is a node, kind by name, width, count)."""
+        for line in lines:
+            if line.startswith("R "):
+                class_, kind, width, count = map(int, line.split()[1:])
+                names = self.node_names if class_ == NODE else self.token_names
+                yield class_ == NODE, names[kind], width, count
 
     def put(self, line, at_end, levels):
         """Root A: conditionals in cells at a token. Root B: conditionals in values at the end."""
@@ -61,34 +73,34 @@ def short(line):
 
 
 def ending(rows, byte):
-    """How many nodes of each sort end where only trivia stand before the place (None: the end of input)."""
-    nodes, stack, at, last = [], [], 0, 0
-    for cls, kind, width, count in rows:
+    """How many nodes of each sort end where only trivia stand before the byte (None: the end of input)."""
+    nodes, stack, start, last = [], [], 0, 0
+    for is_node, kind, width, count in rows:
         while stack and stack[-1][1] == 0:
             stack.pop()
         if stack:
             stack[-1][1] -= 1
-        if cls == 0:
+        if is_node:
             inside = [name for name, _, _ in stack if name]
-            nodes.append((sort(kind, inside[-1] if inside else None), at + width))
-            stack.append([place(kind), count, kind])
+            nodes.append((sort(kind, inside[-1] if inside else None), start + width))
+            stack.append([list_of(kind), count, kind])
             continue
-        at += width
+        start += width
         # a list of cells that is not closed is a ParseError
-        if kind == LANGLE and stack[-1][2] == PARSE_ERROR:
+        if kind == "LAngle" and stack[-1][2] == "ParseError":
             stack[-1][0] = "cells"
-        if kind not in TRIVIA and (byte is None or at <= byte):
-            last = at
-    stop = at if byte is None else byte
+        if kind not in TRIVIA and (byte is None or start <= byte):
+            last = start
+    stop = start if byte is None else byte
     return Counter(name for name, end in nodes if name and last <= end <= stop)
 
 
-def place(kind):
+def list_of(kind):
     """What a conditional directly inside a node of this kind stands in."""
-    return "cells" if kind in CELL_LISTS else "values" if kind in VALUE_LISTS else "items" if kind == NODE else None
+    return "cells" if kind in CELL_LISTS else "values" if kind in VALUE_LISTS else "items" if kind == "DtNode" else None
 
 
 def sort(kind, inside):
-    if kind == CONDITIONAL:
+    if kind == "PreprocessorConditional":
         return inside or "items"
-    return "brackets" if kind in BRACKETS else "nodes" if kind == NODE else None
+    return "brackets" if kind in BRACKETS else "nodes" if kind == "DtNode" else None

@@ -1,22 +1,19 @@
 """What a run of document 01's copy of the Rust reaches: steps without progress, open calls, pending expectations."""
-import os
-import subprocess
+from compare.case import MOST_OPEN, MOST_PENDING
+from oracle_program import Program
 
-MOST_STEPS, MOST_OPEN, MOST_PENDING = 1000, 64, 256
+# of the unchanged Rust
+MOST_STEPS = 1000
 
 
-class Oracle:
-    def __init__(self, root):
-        folder = os.path.join(root, "oracle")
-        subprocess.run([os.path.join(folder, "build.sh")], check=True, stdout=subprocess.DEVNULL)
-        self.program = os.path.join(folder, "target", "release", "oracle")
-        self.runs = 0
+class Oracle(Program):
+    """Counts the runs."""
+
+    runs = 0
 
     def blocks(self, words, lines):
         self.runs += len(lines)
-        given = "".join(l + "\n" for l in lines)
-        said = subprocess.run([self.program] + words, input=given, stdout=subprocess.PIPE, text=True, check=True).stdout
-        return [b.splitlines()[1:] for b in said.split("END\n")[:-1]]
+        return super().blocks(words, lines)
 
     def reached(self, lines):
         """(open calls, pending expectations, steps) of each; no tree is asked for."""

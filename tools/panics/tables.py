@@ -28,7 +28,7 @@ VALUES = [
     *((1, front, "&", 61, 61) for front in ("/{a=", "a{a=", IF + "a=")),
 ]
 
-# the last accepted k is not told
+# the last accepted k is not given
 MIXTURES = [
     *((4, "", "(" * 37 + "1" + back, 26, None) for back in (";", ",", "}", '"s"', "\\\\")),
     (1, "a=<", "(" * 35 + "1;", 26, None),

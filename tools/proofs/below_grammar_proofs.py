@@ -1,6 +1,7 @@
 # Writes the proofs of a crate below `grammar`: ends, directives, prefixes or plain_cells. Run in the repository, NAME
 # being the crate:
-#   rt dev NAME --generated target/generated/NAME; python3 tools/proofs/below_grammar_proofs.py NAME target/generated/NAME; rt fmt
+#   rt dev NAME --generated target/generated/NAME
+#   python3 tools/proofs/below_grammar_proofs.py NAME target/generated/NAME; rt fmt
 # The first command writes what the check generates for each function; it may fail, and writes all the same. Where a
 # function has no proof file yet, give it one with a hole first, or the check searches for each need.
 import os

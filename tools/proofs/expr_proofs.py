@@ -4,13 +4,13 @@ crates/expr/proofs/+expr_binding_power+..+ternary_rhs/, and that of `dt_expr`.
 
     rt dev expr --generated target/generated/expr; python3 tools/proofs/expr_proofs.py target/generated/expr; rt fmt
 
-The first command writes what the check generates for each function; it may fail, and writes all the same. Where the cycle has no proof
-file yet, give it one with a hole first, or the check searches for each need.
+The first command writes what the check generates for each function; it may fail, and writes all the same. Where the
+cycle has no proof file yet, give it one with a hole first, or the check searches for each need.
 
-What a need's answer says stands here, in WAYS, RULE and LOOP: for each return the way through the function's program, as steps
-of crates/machine/proofs/Way.antt, in the order of the code; «x» is the call or the test x on the way. The script puts in the paths
-to these, and the facts for `omega`: what each call on the way ensures of the tokens left, and that it keeps the buffers' lengths.
-Nothing is believed of it: the check reads what it wrote."""
+What a need's answer says stands here, in WAYS, RULE and LOOP: for each return the way through the function's program,
+as steps of crates/machine/proofs/Way.antt, in the order of the code; «x» is the call or the test x on the way. The
+script puts in the paths to these, and the facts for `omega`: what each call on the way ensures of the tokens left, and
+that it keeps the buffers' lengths. Nothing is believed of it: the check reads what it wrote."""
 import os
 import re
 import sys

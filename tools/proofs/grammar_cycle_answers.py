@@ -1,5 +1,6 @@
 # The answers to the needs of the functions in the cycle of calls of crate `grammar`. Read by grammar_cycle_proofs.py.
-# An answer is antt with @NAME for the call or the test of that name on the way to the need, and @@ for the entry (see code_proofs.py).
+# An answer is antt with @NAME for the call or the test of that name on the way to the need, and @@ for the entry (see
+# code_proofs.py).
 import re
 
 from grammar_cycle_programs import PROGRAMS, CycleWalk, plain
@@ -138,7 +139,7 @@ class Answers:
         return walk, *walk.emit(PROGRAMS[self.function][1])
 
     def turn(self):
-        """A turn that goes on: less is left, the lengths are kept, and the loop from here is the loop from the start."""
+        """A turn that goes on: less is left, the lengths are kept, the loop from here is the loop from the start."""
         _, term, _ = self.walked()
         last = self.calls()[-1]
         result = f"@{last} .result" if plain(last) in PARSERS else f"@{last} .result .p"

@@ -1,5 +1,6 @@
-# The programs of the functions in the cycle of calls of crate `grammar`, as trees (see program_ways.py), and the way through one as a term of
-# the steps of machine/proofs/Way.antt, steps/proofs/Steps.antt and grammar/proofs/Ways.antt. Read by grammar_cycle_answers.py.
+# The programs of the functions in the cycle of calls of crate `grammar`, as trees (see program_ways.py), and the way
+# through one as a term of the steps of machine/proofs/Way.antt, steps/proofs/Steps.antt and grammar/proofs/Ways.antt.
+# Read by grammar_cycle_answers.py.
 import re
 
 from program_ways import AGAIN, NO, SAME_NO, SAME_YES, YES, Walk, both, call, close, either, ignore, mark, negated, ret, seq, when

@@ -1,9 +1,11 @@
-# Writes the proof of the cycle of calls in crate `grammar`: a file for each function, what falls in the cycle, and the whole. Run in the
-# repository:
-#   rt dev grammar --generated target/generated/grammar; python3 tools/proofs/grammar_cycle_proofs.py target/generated/grammar; rt fmt
-# The first command writes what the check generates for each function; it may fail, and writes all the same. Where the cycle has no proof
-# file yet, give it one with a hole first, or the check searches for each need. The folder of the proof has the cycle's name, which is the
-# names of all its functions: it is read off the generated folder. Functions outside the cycle: grammar_entry_proofs.py.
+# Writes the proof of the cycle of calls in crate `grammar`: a file for each function, what falls in the cycle, and the
+# whole. Run in the repository:
+#   rt dev grammar --generated target/generated/grammar
+#   python3 tools/proofs/grammar_cycle_proofs.py target/generated/grammar; rt fmt
+# The first command writes what the check generates for each function; it may fail, and writes all the same. Where the
+# cycle has no proof file yet, give it one with a hole first, or the check searches for each need. The folder of the
+# proof has the cycle's name, which is the names of all its functions: it is read off the generated folder. Functions
+# outside the cycle: grammar_entry_proofs.py.
 import os
 import re
 import sys
@@ -13,14 +15,16 @@ from code_proofs import parse, way_to
 from grammar_cycle_answers import RULES, Answers
 from program_ways import name_places
 
-# Each call within the cycle is made with fewer tokens left, or with as many and to a lower rank. All ranks are below 16.
+# Each call within the cycle is made with fewer tokens left, or with as many and to a lower rank. All ranks are below
+# 16.
 RANK = {
     "eat-pp-directive": 0, "cell-rest": 1, "value-rest": 1, "item-rest": 1, "dt-node-body": 1, "eat-cell": 2, "cells": 3, "dt-cell-list": 4,
     "bits": 5, "value": 6, "propvalues": 7, "dt-property": 8, "node": 9, "eat-node-or-prop": 10, "item": 11, "eat-inside": 12, "branch": 13,
     "cond-branches-and-end": 14,
 }
 
-# Of a function with a loop: what its invariant is told between the entry's buffers and those of the turn, and the loop's program.
+# Of a function with a loop: what its invariant is told between the entry's buffers and those of the turn, and the
+# loop's program.
 LOOPS = {
     "cells": ("allowed until-end q₀", "cells until-end"),
     "propvalues": ("allowed semicolon other q₀", "propvalues-body semicolon"),

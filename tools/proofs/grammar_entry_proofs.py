@@ -1,8 +1,10 @@
 # Writes the proofs of the functions of crate `grammar` that are not in its cycle of calls: the entries, and
 # `catch_unmatched_pp_directive`. Run in the repository:
-#   rt dev grammar --generated target/generated/grammar; python3 tools/proofs/grammar_entry_proofs.py target/generated/grammar; rt fmt
-# The first command writes what the check generates for each function; it may fail, and writes all the same. Where a function has no proof
-# file yet, give it one with a hole first, or the check searches for each need. The cycle: grammar_cycle_proofs.py.
+#   rt dev grammar --generated target/generated/grammar
+#   python3 tools/proofs/grammar_entry_proofs.py target/generated/grammar; rt fmt
+# The first command writes what the check generates for each function; it may fail, and writes all the same. Where a
+# function has no proof file yet, give it one with a hole first, or the check searches for each need. The cycle:
+# grammar_cycle_proofs.py.
 import os
 import re
 import sys
@@ -10,7 +12,8 @@ import sys
 sys.path.insert(0, os.path.dirname(__file__))
 from code_proofs import Crate
 
-# What a call ensures of what is left. le: no more. all: the same, for every list. yes: no more, and something of the answer yes.
+# What a call ensures of what is left. le: no more. all: the same, for every list. yes: no more, and something of the
+# answer yes.
 CALLS = {
     **dict.fromkeys("bump error cond-branches-and-end unmatched-rcurly item sourcefile-part entry-sourcefile reference-noamp propvalues cells enter left-over".split(), "le"),
     **dict.fromkeys("start complete".split(), "all"),

@@ -1,5 +1,6 @@
 # Writes the proofs of the crate `macros`. Run in the repository:
-#   rt dev macros --generated target/generated/macros; python3 tools/proofs/macros_proofs.py target/generated/macros; rt fmt
+#   rt dev macros --generated target/generated/macros
+#   python3 tools/proofs/macros_proofs.py target/generated/macros; rt fmt
 import os
 import sys
 

@@ -1,5 +1,6 @@
 # Writes the proofs of the crate `names`. Run in the repository:
-#   rt dev names --generated target/generated/names; python3 tools/proofs/names_proofs.py target/generated/names; rt fmt
+#   rt dev names --generated target/generated/names
+#   python3 tools/proofs/names_proofs.py target/generated/names; rt fmt
 # The first command writes what the check generates for each function; it may fail, and writes all the same.
 # macros_proofs.py does the same for the crate `macros`.
 import os

@@ -24,9 +24,9 @@ class Answer:
 def ask(oracle, named):
     """Document 01's answers."""
     early = [oracle.refused_early(case) for _, case in named]
-    given = "".join(case_line(case, case.lengths) + "\n" for (_, case), e in zip(named, early) if not e)
-    blocks = iter(oracle.run(["doc01", "any"], given).split("END\n")[:-1])
-    return [Answer(name, case, e, [] if e else next(blocks).splitlines()[1:]) for (name, case), e in zip(named, early)]
+    given = [case_line(case, case.lengths) for (_, case), e in zip(named, early) if not e]
+    blocks = iter(oracle.blocks(["doc01", "any"], given))
+    return [Answer(name, case, e, [] if e else next(blocks)) for (name, case), e in zip(named, early)]
 
 
 def against_the_rust(root, oracle, answers):
@@ -34,15 +34,14 @@ def against_the_rust(root, oracle, answers):
     which the Rust panics at its step limit."""
     words = Words(root, oracle.kinds)
     accepted = [a for a in answers if a.number == 0]
-    given = "".join(case_line(a.case, ROOM) + "\n" for a in accepted)
-    blocks = oracle.run(["rows", "any", "--no-tokens"], given).split("END\n")[:-1]
+    blocks = oracle.blocks(["rows", "any", "--no-tokens"], [case_line(a.case, ROOM) for a in accepted])
     assert len(blocks) == len(accepted)
     panics = []
-    for a, said in zip(accepted, blocks):
-        lines = said.splitlines()[1:]
+    for a, lines in zip(accepted, blocks):
         if lines[0].startswith("PANIC"):
             assert "the parser seems stuck" in lines[0], "%s: another panic: %s" % (a.name, lines[0])
             panics.append(a.name)
         elif lines != words.lines(a.parsed, a.case):
-            raise SystemExit("%s: the Rust says otherwise\n%s\n%s" % (a.name, said, "\n".join(words.lines(a.parsed, a.case))))
+            ours = words.lines(a.parsed, a.case)
+            raise SystemExit("%s: the Rust says otherwise\n%s" % (a.name, "\n".join(lines + ["ours:"] + ours)))
     return len(accepted) - len(panics), panics

@@ -1,11 +1,10 @@
 """The list of cases: written ones, every kind in many places, deep ones, boards, and random ones from a seed."""
 import os
 
-from compare.case import ROW, escaped
+from compare.case import ROW, escaped, read_line
 from compare.draw import Drawer
 
 from replay import deep, kinds
-from replay.record import of_line
 
 MOST = 4294967295
 # drawn lists are short, so that the file of answers stays small
@@ -25,7 +24,7 @@ class Chooser:
         """Cases from the oracle's lines, each lent what its line says or just what it needs."""
         caps = [line.split(" ")[2].split(",") if line.split(" ")[1] == "caps" else None for line in lines]
         plain = [line if c is None else line.replace("caps " + ",".join(c) + " ", "") for line, c in zip(lines, caps)]
-        cases = [of_line(l) for l in self.oracle.run(["totoks"], "\n".join(plain) + "\n").splitlines()]
+        cases = [read_line(l) for l in self.oracle.run(["totoks"], "\n".join(plain) + "\n").splitlines()]
         fitted = self.fitted(cases)
         return [f if c is None else sized(f, [int(n) for n in c]) for f, c in zip(fitted, caps)]
 

@@ -1,19 +1,19 @@
 """What a list of answers has in it, as a table."""
 from collections import Counter
 
-from replay.texts import rows
+from compare.case import LEAF, NODE, ErrorRow, ReportRow, TreeRow, rows
 
 
 def depth(numbers):
     """The most nodes around a row of the tree, the root among them."""
     most, open_ = 0, []
-    for kind, count in ((row[0], row[3]) for row in rows(numbers, 4)):
+    for row in rows(TreeRow, numbers):
         while open_ and open_[-1] == 0:
             open_.pop()
         if open_:
             open_[-1] -= 1
-        if kind == 0:
-            open_.append(count)
+        if row.class_ == NODE:
+            open_.append(row.count)
             most = max(most, len(open_))
     return most
 
@@ -30,16 +30,17 @@ def table(answers):
         number = Counter(a.number for a in of)
         lines.append("| %s | %d | %s |" % (entry, len(of), " | ".join(str(number[n]) for n in range(9))))
     good = [a for a in answers if a.number == 0]
-    reports = [r for a in good for r in rows(a.parsed.reports, 9)]
-    tree = [r for a in good for r in rows(a.parsed.rows, 4)]
+    reports = [r for a in good for r in rows(ReportRow, a.parsed.reports)]
+    errors = [r for a in good for r in rows(ErrorRow, a.parsed.lexical)]
+    tree = [r for a in good for r in rows(TreeRow, a.parsed.rows)]
     lines += [
         "",
-        counted("messages", Counter(r[0] for r in reports)),
-        counted("hints", Counter(r[6] for r in reports if r[6])),
+        counted("messages", Counter(r.message for r in reports)),
+        counted("hints", Counter(r.hint for r in reports if r.hint)),
         counted("expectations", Counter(c for a in good for c in a.parsed.pool)),
-        counted("lexical errors", Counter(r[0] for a in good for r in rows(a.parsed.lexical, 3))),
-        counted("node kinds", Counter(r[1] for r in tree if r[0] == 0)),
-        counted("leaf kinds", Counter(r[1] for r in tree if r[0] == 1)),
+        counted("lexical errors", Counter(r.number for r in errors)),
+        counted("node kinds", Counter(r.kind for r in tree if r.class_ == NODE)),
+        counted("leaf kinds", Counter(r.kind for r in tree if r.class_ == LEAF)),
         "deepest nesting: %d nodes" % max(depth(a.parsed.rows) for a in good),
         "most open calls: %d, most pending: %d" % tuple(max(a.reached[w] for a in good) for w in ("open", "pending")),
         "most tokens: %d, tree rows: %d, reports: %d" % (max(len(a.case.rows) for a in answers), len(tree), len(reports)),

@@ -1,20 +1,22 @@
 """Document 01's readings as cases, each with what the document says of its answer: its claims, which the oracle's
-answer must meet, so that neither stands alone. A reading is a name, the entry, its input as in the oracle's case lines,
-the lent lengths (ROOM: what is needed and some more), and its claims."""
+answer must meet, so that neither stands alone. A reading is a name, the entry, its input as in the oracle's case lines
+(but kinds by name, where they have one), the lent lengths (ROOM: what is needed and some more), and its claims."""
+from compare.case import LAST_ERROR
 
-IF = 4
+IF = "IfDirective"
 ROOM = None
 
 
-def rows(kinds, text):
-    return "toks %s %s" % (",".join(map(str, kinds)), text)
+def toks(kinds, text):
+    return "toks %s %s" % (",".join(kinds), text)
 
 
 def accepted(reports=None, pool=None, nodes=(), branches=None, pending=None, calls=None):
-    """Claims of an accepted call: each report's message and range; all expectations; kind and width of nodes that are
-    there; how many nodes are branches of a conditional; how many expectations were pending, and how many calls open, at
-    most. None: nothing is claimed."""
-    return dict(number=0, place=0, reports=reports, pool=pool, nodes=nodes, branches=branches, pending=pending, calls=calls)
+    """Claims of an accepted call: each report's message and range; all expectations by name; kind and width of nodes
+    that are there; how many nodes are branches of a conditional; how many expectations were pending, and how many calls
+    open, at most. None: nothing is claimed."""
+    claims = dict(reports=reports, pool=pool, nodes=nodes, branches=branches, pending=pending, calls=calls)
+    return dict(number=0, place=0, **claims)
 
 
 def refused(number, place):
@@ -27,73 +29,75 @@ LIMITS = [
     # a cell, and an expression for each bracket: 64 calls
     ("63-brackets", 4, "text " + "(" * 63 + "1" + ")" * 63, ROOM, accepted(reports=[], calls=64)),
     ("64-brackets", 4, "text " + "(" * 64 + "1" + ")" * 64, ROOM, refused(5, 64)),
-    ("50-conditionals", 4, rows([IF] * 50 + [29], "x" * 50 + ";"), ROOM, accepted(pending=255)),
-    ("51-conditionals", 4, rows([IF] * 51 + [29], "x" * 51 + ";"), ROOM, refused(5, 51)),
+    ("50-conditionals", 4, toks([IF] * 50 + ["Semicolon"], "x" * 50 + ";"), ROOM, accepted(pending=255)),
+    ("51-conditionals", 4, toks([IF] * 51 + ["Semicolon"], "x" * 51 + ";"), ROOM, refused(5, 51)),
     # conditionals leave five at a time; a name after them makes one more, and an expression that ends too soon a 257th
-    ("256-pending", 4, rows([IF] * 50 + [27, 29], "x" * 50 + "a;"), ROOM, accepted(pending=256)),
-    ("257-pending", 4, rows([IF] * 50 + [41, 35, 29], "x" * 50 + "(1;"), ROOM, refused(5, 52)),
+    ("256-pending", 4, toks([IF] * 50 + ["Ident", "Semicolon"], "x" * 50 + "a;"), ROOM, accepted(pending=256)),
+    ("257-pending", 4, toks([IF] * 50 + ["LParen", "Number", "Semicolon"], "x" * 50 + "(1;"), ROOM, refused(5, 52)),
     # item alone: a node inside a node, and a conditional inside a conditional
     ("64-nodes", 1, "text " + "/{" * 64 + "};" * 64, ROOM, accepted(reports=[], calls=64)),
     ("65-nodes", 1, "text " + "/{" * 65 + "};" * 65, ROOM, refused(5, 128)),
-    ("64-conditional-items", 1, rows([IF] * 64, "x" * 64), ROOM, accepted(calls=64)),
-    ("65-conditional-items", 1, rows([IF] * 65, "x" * 65), ROOM, refused(5, 64)),
+    ("64-conditional-items", 1, toks([IF] * 64, "x" * 64), ROOM, accepted(calls=64)),
+    ("65-conditional-items", 1, toks([IF] * 65, "x" * 65), ROOM, refused(5, 64)),
     # propvalues alone
-    ("64-conditional-values", 3, rows([IF] * 64, "x" * 64), ROOM, accepted(calls=64)),
-    ("65-conditional-values", 3, rows([IF] * 65, "x" * 65), ROOM, refused(5, 64)),
+    ("64-conditional-values", 3, toks([IF] * 64, "x" * 64), ROOM, accepted(calls=64)),
+    ("65-conditional-values", 3, toks([IF] * 65, "x" * 65), ROOM, refused(5, 64)),
     # eat_cell alone
-    ("64-conditional-cells", 4, rows([IF] * 64, "x" * 64), ROOM, accepted(calls=64)),
-    ("65-conditional-cells", 4, rows([IF] * 65, "x" * 65), ROOM, refused(5, 64)),
+    ("64-conditional-cells", 4, toks([IF] * 64, "x" * 64), ROOM, accepted(calls=64)),
+    ("65-conditional-cells", 4, toks([IF] * 65, "x" * 65), ROOM, refused(5, 64)),
     # a cell, and expr_binding_power for its bracket and for each prefix
     ("62-prefixes", 4, "text (" + "-" * 62 + "1)", ROOM, accepted(reports=[], calls=64)),
     ("63-prefixes", 4, "text (" + "-" * 63 + "1)", ROOM, refused(5, 64)),
 ]
 
 SHARED_TAIL = [
-    ("a;}", 1, "text a;}", ROOM, accepted(reports=[(2, 2, 3)], nodes=[(10, 1)])),
-    ("b,c;}", 1, "text b,c;}", ROOM, accepted(reports=[(2, 4, 5)], nodes=[(10, 1)])),
+    ("a;}", 1, "text a;}", ROOM, accepted(reports=[(2, 2, 3)], nodes=[("ParseError", 1)])),
+    ("b,c;}", 1, "text b,c;}", ROOM, accepted(reports=[(2, 4, 5)], nodes=[("ParseError", 1)])),
 ]
 
 # A ParseError without a report; pending expectations that outlive a statement; `#else` after a comma; the semicolon of
 # `a=;`.
 BELIEFS = [
-    ("error-without-report", 1, 'text a="s" }', ROOM, accepted(reports=[(2, 5, 6)], nodes=[(10, 5), (10, 1)])),
+    ("error-without-report", 1, 'text a="s" }', ROOM,
+     accepted(reports=[(2, 5, 6)], nodes=[("ParseError", 5), ("ParseError", 1)])),
     ("pending-goes-on", 1, "text /dts-v1/ }", ROOM, accepted(reports=[(1, 8, 9), (2, 8, 9)])),
     ("else-after-comma", 1, 'text a=#if A\\n"x",\\n#else\\n"y"\\n#endif\\n;', ROOM, accepted(branches=1)),
     ("else-without-comma", 1, 'text a=#if A\\n"x"\\n#else\\n"y"\\n#endif\\n;', ROOM, accepted(reports=[], branches=2)),
-    ("semicolon-lost", 1, "text a=;b;", ROOM, accepted(reports=[(1, 2, 3), (1, 3, 4)], nodes=[(16, 3), (20, 1), (16, 2)])),
+    ("semicolon-lost", 1, "text a=;b;", ROOM,
+     accepted(reports=[(1, 2, 3), (1, 3, 4)], nodes=[("DtProperty", 3), ("PropValueList", 1), ("DtProperty", 2)])),
 ]
 
 SENTENCES = [
     # "So `a @1 {};` is a node without a report"
-    ("a-@1-{};", 1, "text a @1 {};", ROOM, accepted(reports=[], nodes=[(15, 8)])),
+    ("a-@1-{};", 1, "text a @1 {};", ROOM, accepted(reports=[], nodes=[("DtNode", 8)])),
     # ranges: the end of input, no tokens at all, one byte for [Semicolon], [Comma] and [Comma, Semicolon], else the
     # current token
-    ("range-at-the-end", 1, "text /dts-v1/  ", ROOM, accepted(reports=[(1, 9, 10)], pool=[29])),
+    ("range-at-the-end", 1, "text /dts-v1/  ", ROOM, accepted(reports=[(1, 9, 10)], pool="Semicolon")),
     ("range-of-nothing", 2, "text ", ROOM, accepted(reports=[(1, 0, 0)])),
-    ("range-semicolon", 1, "text /dts-v1/ /plugin/;", ROOM, accepted(reports=[(1, 8, 9)], pool=[29])),
-    ("range-comma", 3, 'text "a" "b"', ROOM, accepted(reports=[(1, 3, 4)], pool=[2])),
-    ("range-comma-semicolon", 1, 'text a="s" <1>;', ROOM, accepted(reports=[(1, 5, 6)], pool=[2, 29])),
+    ("range-semicolon", 1, "text /dts-v1/ /plugin/;", ROOM, accepted(reports=[(1, 8, 9)], pool="Semicolon")),
+    ("range-comma", 3, 'text "a" "b"', ROOM, accepted(reports=[(1, 3, 4)], pool="Comma")),
+    ("range-comma-semicolon", 1, 'text a="s" <1>;', ROOM, accepted(reports=[(1, 5, 6)], pool="Comma Semicolon")),
     ("range-current-token", 1, "text a=  ;", ROOM, accepted(reports=[(1, 4, 5), (1, 4, 5)])),
     # "a ternary is one InfixExpr of five parts"
-    ("ternary", 4, "text (1?2:3)", ROOM, accepted(reports=[], nodes=[(6, 5)])),
+    ("ternary", 4, "text (1?2:3)", ROOM, accepted(reports=[], nodes=[("InfixExpr", 5)])),
     # "a label reference allows Ident and Number only": the comma is left over
-    ("label-reference", 2, "text a,b", ROOM, accepted(reports=[(1, 1, 2)], pool=[108], nodes=[(10, 2)])),
+    ("label-reference", 2, "text a,b", ROOM, accepted(reports=[(1, 1, 2)], pool="End", nodes=[("ParseError", 2)])),
     # trivia: "an error token never is"
-    ("error-token", 1, "toks 27,74,29 a`;", ROOM, accepted()),
+    ("error-token", 1, f"toks Ident,{LAST_ERROR},Semicolon a`;", ROOM, accepted()),
 ]
 
 CAUSES = [
-    ("cause-1-entry-0", 0, "toks 27 a", (9, 9, 9, 9, 9), refused(1, 0)),
-    ("cause-1-entry-5", 5, "toks 25 a", (9, 9, 9, 9, 9), refused(1, 0)),
-    ("cause-3-kind-25", 1, "toks 27,25 ab", (9, 9, 9, 9, 9), refused(3, 1)),
-    ("cause-3-kind-26", 1, "toks 26 a", (9, 9, 9, 9, 9), refused(3, 0)),
+    ("cause-1-entry-0", 0, "toks Ident a", (9, 9, 9, 9, 9), refused(1, 0)),
+    ("cause-1-entry-5", 5, "toks Unrecognized a", (9, 9, 9, 9, 9), refused(1, 0)),
+    ("cause-3-kind-25", 1, "toks Ident,Unrecognized ab", (9, 9, 9, 9, 9), refused(3, 1)),
+    ("cause-3-kind-26", 1, "toks Name a", (9, 9, 9, 9, 9), refused(3, 0)),
     ("cause-3-kind-61", 1, "toks 61 a", (9, 9, 9, 9, 9), refused(3, 0)),
     ("cause-3-kind-75", 1, "toks 75 a", (9, 9, 9, 9, 9), refused(3, 0)),
-    ("cause-3-length-0", 1, "toks 27,27:0 a", (9, 9, 9, 9, 9), refused(3, 1)),
-    ("cause-3-end", 1, "toks 27,27:2 ab", (9, 9, 9, 9, 9), refused(3, 1)),
-    ("cause-3-total", 1, "toks 27 ab", (9, 9, 9, 9, 9), refused(3, 1)),
-    ("cause-3-before-4", 1, "toks 29,61 ,a", (9, 9, 9, 9, 9), refused(3, 1)),
-    ("cause-4", 1, "toks 27,29 a:", (9, 9, 9, 9, 9), refused(4, 1)),
+    ("cause-3-length-0", 1, "toks Ident,Ident:0 a", (9, 9, 9, 9, 9), refused(3, 1)),
+    ("cause-3-end", 1, "toks Ident,Ident:2 ab", (9, 9, 9, 9, 9), refused(3, 1)),
+    ("cause-3-total", 1, "toks Ident ab", (9, 9, 9, 9, 9), refused(3, 1)),
+    ("cause-3-before-4", 1, "toks Semicolon,61 ,a", (9, 9, 9, 9, 9), refused(3, 1)),
+    ("cause-4", 1, "toks Ident,Semicolon a:", (9, 9, 9, 9, 9), refused(4, 1)),
     # an error's event is pushed before its report row; a row and its expectations
     ("cause-6-event-first", 1, "text }", (0, 20, 0, 0, 0), refused(6, 0)),
     ("cause-7-row", 1, "text }", (3, 20, 0, 8, 0), refused(7, 0)),
@@ -101,12 +105,13 @@ CAUSES = [
     ("cause-6-last-event", 1, "text }", (11, 20, 0, 9, 0), refused(6, 1)),
     ("exact-fit", 1, "text }", (12, 12, 0, 9, 0), accepted(reports=[(2, 0, 1)])),
     ("cause-7-pool", 1, "text a=;", (60, 60, 0, 18, 3), refused(7, 3)),
-    ("exact-pool", 1, "text a=;", (60, 60, 0, 18, 4), accepted(reports=[(1, 2, 3), (1, 2, 3)], pool=[103, 19, 101, 29])),
+    ("exact-pool", 1, "text a=;", (60, 60, 0, 18, 4),
+     accepted(reports=[(1, 2, 3), (1, 2, 3)], pool="Value DtIncludeDirective PreprocessorDirective Semicolon")),
     # 8 comes last: 7 is met first though the tree does not fit either
     ("cause-7-before-8", 1, "text }", (12, 0, 0, 8, 0), refused(7, 0)),
     ("cause-8-tree", 1, "text }", (12, 11, 0, 9, 0), refused(8, 0)),
-    ("cause-8-lexical", 1, "toks 74 ?", (18, 12, 2, 9, 11), refused(8, 0)),
-    ("exact-lexical", 1, "toks 74 ?", (18, 12, 3, 9, 11), accepted(reports=[(1, 0, 1)])),
+    ("cause-8-lexical", 1, f"toks {LAST_ERROR} ?", (18, 12, 2, 9, 11), refused(8, 0)),
+    ("exact-lexical", 1, f"toks {LAST_ERROR} ?", (18, 12, 3, 9, 11), accepted(reports=[(1, 0, 1)])),
 ]
 
 READINGS = LIMITS + SHARED_TAIL + BELIEFS + SENTENCES + CAUSES

@@ -1,7 +1,6 @@
 """Every kind of token in many places of the grammar, so that each set of kinds that the grammar asks for is met by each
 of its kinds and by each that is not in it."""
-from compare.case import rows_of
-from replay.record import of_line
+from compare.case import FIRST_ERROR, LAST_ERROR, read_line, rows_of
 
 # entry, what stands in front; the kind, and `BACK` follow
 PLACES = [
@@ -13,18 +12,15 @@ PLACES = [
     *((4, front) for front in ("", "1 ", "(", "(1 ", "(1+", "(-", "(1?1 ", "#if\\n", "#if\\n1 ", "a", "M(1")),
 ]
 BACK = "b;"
-SAMPLES = {0: b" ", 27: b"c", 33: b'"t"', 34: b"'c'", 35: b"2", 36: b"[0]"}
-
-
-def sample(oracle, kind):
-    return oracle.texts.get(kind) or SAMPLES.get(kind, b"x")
+SAMPLES = {"Whitespace": b" ", "Ident": b"c", "String": b'"t"', "Char": b"'c'", "Number": b"2", "DtBytestring": b"[0]"}
 
 
 def cases(oracle):
     """Cases that are lent nothing yet."""
-    kinds = sorted(n for n in oracle.kinds.values() if n not in (25, 26)) + [64, 74]
-    lines = oracle.run(["totoks"], "".join("%d text %s\n" % place for place in PLACES) + "1 text %s\n" % BACK).splitlines()
-    *fronts, back = (of_line(line) for line in lines)
+    kinds = sorted(oracle.inputs) + [FIRST_ERROR, LAST_ERROR]
+    texts = {**{oracle.kinds[name]: text for name, text in SAMPLES.items()}, **oracle.texts}
+    given = "".join("%d text %s\n" % place for place in [*PLACES, (1, BACK)])
+    *fronts, back = (read_line(line) for line in oracle.run(["totoks"], given).splitlines())
     for front in fronts:
         for kind in kinds:
-            yield front._replace(rows=front.rows + rows_of([(kind, sample(oracle, kind))]) + back.rows)
+            yield front._replace(rows=front.rows + rows_of([(kind, texts.get(kind, b"x"))]) + back.rows)

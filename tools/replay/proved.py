@@ -3,7 +3,7 @@ answers."""
 import os
 import re
 
-from replay.record import case_of
+from compare.case import case_of
 
 LIST = r"\(([\d∷ \[\]]+)\)|(\[\])"
 
@@ -24,6 +24,6 @@ def proved(root):
         lists = [numbers(a) for a, _ in re.findall(LIST, part.split(None, 1)[1])][:6]
         data, tokens, *buffers = lists
         buffers = [[0] * 100] + buffers
-        head = [len(tokens), len(data), entry] + [len(b) for b in buffers]
-        out.append((case_of(head, tokens, bytes(data)), (0, 0, *counts), buffers))
+        case = case_of(entry, tokens, bytes(data), [len(b) for b in buffers])
+        out.append((case, (0, 0, *counts), buffers))
     return out

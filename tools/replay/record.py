@@ -1,8 +1,6 @@
 """Cases and answers in the form that crates/replay reads and writes (its lib.rt says which)."""
-from compare.case import Case, Row
+from compare.case import case_of
 
-# numbers in a row of the tree, a lexical error, a report; an expectation is one number
-ROWS = (4, 3, 9, 1)
 LETTERS = "txre"
 
 
@@ -13,34 +11,16 @@ def record(name, case):
     return " ".join([name] + [str(n) for n in head + numbers]).encode() + b"\n" + data + b"\n"
 
 
-def case_of(head, numbers, data):
-    """The case with these numbers; where lengths and bytes disagree, rows have what bytes there are."""
-    rows, at = [], 0
-    for kind, length in zip(numbers[::2], numbers[1::2]):
-        rows.append(Row(kind, length, data[at : at + length]))
-        at = min(at + length, len(data))
-    odd = numbers[-1] if len(numbers) % 2 else None
-    return Case(head[2], tuple(rows), tuple(head[3:8]), odd, data[at:])
-
-
-def of_line(line):
-    """A toks line of the oracle as a case that is lent nothing; bytes after the rows' stay."""
-    entry, _, rows, *text = line.split(" ", 3)
-    data = (text[0] if text else "").encode().decode("unicode_escape").encode("latin-1")
-    numbers = [int(n) for row in rows.split(",") if row for n in (row + ":1").split(":")[:2]]
-    return case_of([len(numbers), len(data), int(entry), 0, 0, 0, 0, 0], numbers, data)
-
-
 def read(text):
     """The names and cases of a list."""
-    out, at = [], 0
-    while at < len(text):
-        end = text.index(b"\n", at)
-        name, *numbers = text[at:end].decode().split(" ")
-        numbers = [int(n) for n in numbers]
-        data = text[end + 1 : end + 1 + numbers[1]]
-        out.append((name, case_of(numbers[:8], numbers[8:], data)))
-        at = end + 1 + len(data) + 1
+    out, start = [], 0
+    while start < len(text):
+        end = text.index(b"\n", start)
+        name, *numbers = text[start:end].decode().split(" ")
+        _, length, entry, *rest = [int(n) for n in numbers]
+        data = text[end + 1 : end + 1 + length]
+        out.append((name, case_of(entry, rest[5:], data, rest[:5])))
+        start = end + 1 + length + 1
     return out
 
 

@@ -6,7 +6,7 @@ use bench::clock::{median, ns};
 use bench::input::Input;
 use bench::port::Port;
 use bench::rust;
-use dt_parser_ffi::bound;
+use dt_parser_layout::bound;
 use oracle::parsers::on_large_stack;
 use std::hint::black_box;
 
@@ -88,7 +88,7 @@ fn once(what: &str, name: &str, lengths: &str) {
     let lengths: Vec<usize> = lengths.split(',').map(|n| n.parse().expect("a length")).collect();
     let mut port = Port::with(lengths.try_into().expect("five lengths"));
     rust::ready(&input);
-    drop(rust::copy(&input)); // builds the lexer's tables, whoever lexes first
+    drop(rust::copy(&input)); // the first lexer builds its tables, which are not part of a parse
     let number = match what {
         "copy" => 1,
         "rust" => 2,

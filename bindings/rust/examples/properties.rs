@@ -12,21 +12,21 @@ fn main() -> Result<(), Box<dyn Error>> {
     let file = RowsFile::read(&bytes)?;
     let parse = file.entry.parse(&file.input)?;
     let lines = LineIndex::new(file.input.text);
-    let place = |range: TextRange| lines.position(range.start, Columns::Characters).expect("a range of the text");
+    let position = |range: TextRange| lines.position(range.start, Columns::Characters).expect("a range of the text");
 
     for property in parse.tree.root().nodes_below().filter(|node| node.kind() == NodeKind::DtProperty) {
         let nodes = property.nodes_above().filter(|node| node.kind() == NodeKind::DtNode);
         let values = property.child(NodeKind::PropValueList).map(|values| format!(" = {}", values.text_lossy()));
         println!(
             "{}: {}{} in {}",
-            place(property.range()),
+            position(property.range()),
             name(property),
             values.unwrap_or_default(),
             nodes.map(name).collect::<Vec<_>>().join(" in ")
         );
     }
     for report in &parse.reports {
-        println!("{}: {report}", place(report.range));
+        println!("{}: {report}", position(report.range));
     }
     Ok(())
 }

@@ -18,11 +18,12 @@ numbered! {
 }
 
 impl Entrypoint {
-    /// Parses the input. Whoever parses often keeps a [`Parser`], whose buffers are used again.
+    /// Parses the input. To parse often, keep a [`Parser`], whose buffers are used again.
     ///
     /// ```
     /// use dt_parser::{Entrypoint, Input, Token, TokenKind};
-    /// let input = Input { text: b"a;", tokens: vec![Token::new(TokenKind::Ident, 1), Token::new(TokenKind::Semicolon, 1)] };
+    /// let tokens = vec![Token::new(TokenKind::Ident, 1), Token::new(TokenKind::Semicolon, 1)];
+    /// let input = Input { text: b"a;", tokens };
     /// let parse = Entrypoint::SourceFile.parse(&input)?;
     /// assert!(parse.is_clean());
     /// # Ok::<(), dt_parser::Error>(())

@@ -1,5 +1,6 @@
 //! Why there is no answer: the refusals of document 01, and what must not happen.
 
+use crate::Input;
 use std::fmt;
 
 /// A refused call: document 01's causes 1 to 8.
@@ -8,14 +9,15 @@ use std::fmt;
 pub enum Refusal {
     /// 1: the entry is none of 1 to 4.
     UnknownEntry,
-    /// 2: over 1,048,576 bytes or over 65,536 tokens.
+    /// 2: over [`Input::MAX_BYTES`] bytes or over [`Input::MAX_TOKENS`] tokens.
     TooLong,
     /// 3: this token's kind may not be input, its length is 0 or its end is past the text; or, with the number of
     /// tokens, the tokens end before the text does.
     BadRow(usize),
     /// 4: this token's bytes are not the one text of its kind.
     BadText(usize),
-    /// 5: a 65th open call or a 257th pending expectation, after so many tokens.
+    /// 5: over [`Input::MAX_OPEN_CALLS`] open calls or over [`Input::MAX_EXPECTATIONS`] pending expectations, after so
+    /// many tokens.
     TooDeep(usize),
     /// 6: no room for the next event, after so many tokens.
     NoEventRoom(usize),
@@ -92,20 +94,29 @@ impl fmt::Display for Refusal {
     fn fmt(&self, f: &mut fmt::Formatter<'_>) -> fmt::Result {
         match self {
             Self::UnknownEntry => f.write_str("the entry is none of 1 to 4"),
-            Self::TooLong => f.write_str("the input is over 1,048,576 bytes or over 65,536 tokens"),
+            Self::TooLong => {
+                let (bytes, tokens) = (grouped(Input::MAX_BYTES), grouped(Input::MAX_TOKENS));
+                write!(f, "the input is over {bytes} bytes or over {tokens} tokens")
+            }
             Self::BadRow(row) => write!(
                 f,
                 "token {row}, counted from 0, has a kind that may not be input, no length or an end past the text, or is missing"
             ),
             Self::BadText(row) => write!(f, "token {row}, counted from 0, has other bytes than its kind always has"),
             Self::TooDeep(mark) => {
-                write!(f, "over 64 calls are open or over 256 expectations pending after {mark} tokens")
+                let (calls, expectations) = (Input::MAX_OPEN_CALLS, Input::MAX_EXPECTATIONS);
+                write!(f, "over {calls} calls are open or over {expectations} expectations pending after {mark} tokens")
             }
             Self::NoEventRoom(mark) => write!(f, "no room for an event after {mark} tokens"),
             Self::NoReportRoom(mark) => write!(f, "no room for a report or its expectations after {mark} tokens"),
             Self::NoTreeRoom => f.write_str("no room for the tree or the lexical errors"),
         }
     }
+}
+
+/// A number with its digits in groups of three: 1,048,576.
+fn grouped(n: usize) -> String {
+    if n < 1000 { n.to_string() } else { format!("{},{:03}", grouped(n / 1000), n % 1000) }
 }
 
 impl std::error::Error for Refusal {}
@@ -124,12 +135,14 @@ pub enum Error {
         /// The number of tokens.
         tokens: usize,
     },
-    /// The answer has a number that the call's contract shuts out. So the linked library is not the proved one.
+    /// The answer has a number that the call's contract excludes. So the linked library is not the proved one.
     BadAnswer {
+        /// Where the number stands: a `tree row`, a `report row`, a `count`.
+        what: &'static str,
+        /// Which of these rows, counted from 0; none where it is not about one row.
+        row: Option<usize>,
         /// What was expected.
         expected: &'static str,
-        /// The row that has the number, counted from 0.
-        row: usize,
     },
 }
 
@@ -153,8 +166,12 @@ impl fmt::Display for Error {
                 "refusal {}: {refusal}, with room for all that {tokens} tokens can give: the linked library is not the proved one",
                 refusal.number()
             ),
-            Self::BadAnswer { expected, row } => {
-                write!(f, "row {row} of the answer is not {expected}: the linked library is not the proved one")
+            Self::BadAnswer { what, row, expected } => {
+                match row {
+                    Some(row) => write!(f, "{what} {row} of the answer")?,
+                    None => write!(f, "the {what} of the answer")?,
+                }
+                write!(f, " is not {expected}: the linked library is not the proved one")
             }
         }
     }
@@ -166,5 +183,18 @@ impl std::error::Error for Error {}
 impl From<Refusal> for Error {
     fn from(refusal: Refusal) -> Self {
         Self::Refused(refusal)
+    }
+}
+
+#[cfg(test)]
+mod tests {
+    use super::*;
+
+    #[test]
+    fn limits_stand_in_the_texts() {
+        assert_eq!(Refusal::TooLong.to_string(), "the input is over 1,048,576 bytes or over 65,536 tokens");
+        let deep = "over 64 calls are open or over 256 expectations pending after 7 tokens";
+        assert_eq!(Refusal::TooDeep(7).to_string(), deep);
+        assert_eq!([0, 999, 1000, 1_000_007].map(grouped), ["0", "999", "1,000", "1,000,007"]);
     }
 }

@@ -67,6 +67,10 @@ impl<'i> Input<'i> {
     pub const MAX_BYTES: usize = 1_048_576;
     /// The most tokens that are accepted.
     pub const MAX_TOKENS: usize = 65_536;
+    /// The most items, values, cells and expressions that may be nested.
+    pub const MAX_OPEN_CALLS: usize = 64;
+    /// The most expectations that may be pending at once.
+    pub const MAX_EXPECTATIONS: usize = 256;
 
     /// A text with its tokens.
     #[must_use]
@@ -83,10 +87,10 @@ impl<'i> Input<'i> {
     /// assert_eq!(ranges, [0..2, 2..3]);
     /// ```
     pub fn ranges(&self) -> impl Iterator<Item = TextRange> {
-        self.tokens.iter().scan(0usize, |at, token| {
-            let start = *at;
-            *at = start.saturating_add(token.length as usize);
-            Some(TextRange { start, end: *at })
+        self.tokens.iter().scan(0usize, |end, token| {
+            let start = *end;
+            *end = start.saturating_add(token.length as usize);
+            Some(TextRange { start, end: *end })
         })
     }
 

@@ -25,7 +25,8 @@ impl std::error::Error for LexicalError {}
 pub(crate) fn read(rows: &[[u32; ErrorRow::SIZE]]) -> Result<Vec<LexicalError>, Error> {
     let one = |(row, numbers): (usize, &[u32; ErrorRow::SIZE])| {
         let ErrorRow { number, start, end } = (*numbers).into();
-        let error = LexError::from_number(number).ok_or(Error::BadAnswer { expected: "a lexical error", row })?;
+        let bad = Error::BadAnswer { what: "error row", row: Some(row), expected: "a lexical error" };
+        let error = LexError::from_number(number).ok_or(bad)?;
         Ok(LexicalError { error, range: TextRange { start: start as usize, end: end as usize } })
     };
     rows.iter().enumerate().map(one).collect()

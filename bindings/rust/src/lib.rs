@@ -26,7 +26,7 @@
 //! # Ok::<(), Box<dyn std::error::Error>>(())
 //! ```
 //!
-//! # Places, and trees to keep
+//! # Lines and columns, and trees to keep
 //!
 //! A range is in bytes. [`LineIndex`] turns an offset into a line and a column, counted in bytes, in characters or, as
 //! editors want it, in units of UTF-16; and back. A [`Parse`] borrows the text that it was made from;
@@ -42,8 +42,8 @@
 //! let index = LineIndex::new(kept.tree.text());
 //!
 //! let range = kept.reports[0].range; // of the `}` that closes nothing
-//! let place = index.position(range.start, Columns::Characters).expect("it lies in the text");
-//! assert_eq!(format!("{place}: {}", kept.reports[0]), "2:1: Unmatched `}`");
+//! let position = index.position(range.start, Columns::Characters).expect("it lies in the text");
+//! assert_eq!(format!("{position}: {}", kept.reports[0]), "2:1: Unmatched `}`");
 //! # Ok::<(), Box<dyn std::error::Error>>(())
 //! ```
 //!
@@ -56,10 +56,6 @@
 #![deny(unsafe_op_in_unsafe_fn)]
 #![deny(unsafe_code)]
 #![deny(missing_docs)]
-
-// For the tests that are also used from outside (tests/common).
-#[cfg(test)]
-extern crate self as dt_parser;
 
 mod buffers;
 mod entrypoint;

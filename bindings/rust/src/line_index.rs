@@ -96,16 +96,16 @@ impl LineIndex {
     pub fn with_ends(text: &[u8], ends: LineEnds) -> Self {
         let mut lines = Vec::new();
         let mut start = 0;
-        for (at, byte) in text.iter().enumerate() {
-            let before_lf = text.get(at + 1) == Some(&b'\n');
+        for (offset, byte) in text.iter().enumerate() {
+            let before_lf = text.get(offset + 1) == Some(&b'\n');
             let end = match byte {
-                b'\n' if at > start && text[at - 1] == b'\r' => 2,
+                b'\n' if offset > start && text[offset - 1] == b'\r' => 2,
                 b'\n' => 1,
                 b'\r' if ends == LineEnds::LfOrCr && !before_lf => 1,
                 _ => continue,
             };
             lines.push((start, end));
-            start = at + 1;
+            start = offset + 1;
         }
         lines.push((start, 0));
         Self { length: text.len(), lines, wide: wide(text) }
@@ -148,8 +148,8 @@ impl LineIndex {
     }
 
     /// The offset of a line and a column. A column inside a character gives the character's start. None past the last
-    /// line, and none past the line with its end: for an editor's line that is shorter than it thinks, the end of
-    /// [`LineIndex::line_range`] is the place to take.
+    /// line, and none past the line with its end. A caller whose column may lie past the line should use the end of
+    /// [`LineIndex::line_range`] instead.
     ///
     /// ```
     /// # use dt_parser::{Columns, LineIndex, Position};
@@ -214,17 +214,17 @@ const fn spare_of(columns: Columns) -> Option<usize> {
 /// The characters of more than one byte. A byte that belongs to no character stands for one.
 fn wide(text: &[u8]) -> Vec<Wide> {
     let mut found: Vec<Wide> = Vec::new();
-    let (mut at, mut spare) = (0, [0, 0]);
+    let (mut end, mut spare) = (0, [0, 0]);
     for chunk in text.utf8_chunks() {
         for character in chunk.valid().chars() {
-            let (start, bytes, utf16) = (at, character.len_utf8(), character.len_utf16());
-            at += bytes;
+            let (start, bytes, utf16) = (end, character.len_utf8(), character.len_utf16());
+            end += bytes;
             if bytes > 1 {
                 found.push(Wide { start, bytes, utf16, spare });
                 spare = [spare[0] + bytes - 1, spare[1] + bytes - utf16];
             }
         }
-        at += chunk.invalid().len();
+        end += chunk.invalid().len();
     }
     found
 }

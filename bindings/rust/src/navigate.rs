@@ -1,4 +1,4 @@
-//! Steps from a place in the tree to others: siblings, first and last leaf, what lies at an offset or around a range.
+//! Steps from an item of the tree to others: siblings, first and last leaf, what lies at an offset or around a range.
 
 use crate::tree::RowKind;
 use crate::{Item, Leaf, Node, TextRange, Tree};
@@ -24,7 +24,7 @@ macro_rules! steps {
             #[must_use]
             pub fn next_sibling(self) -> Option<Item<'t>> {
                 let (parent, next) = (self.parent()?, self.data().next);
-                (next < parent.data().next).then(|| self.tree().at(next))
+                (next < parent.data().next).then(|| self.tree().item_at_row(next))
             }
 
             /// The child of the same parent before it; none for the first and for the root.
@@ -39,7 +39,7 @@ macro_rules! steps {
                 while tree.rows[row].parent != parent {
                     row = tree.rows[row].parent;
                 }
-                Some(tree.at(row))
+                Some(tree.item_at_row(row))
             }
         }
     };
@@ -117,7 +117,8 @@ impl Tree<'_> {
     ///
     /// ```
     /// # use dt_parser::{Entrypoint, Input, NodeKind, Token, TokenKind};
-    /// # let kinds = [TokenKind::Ident, TokenKind::LCurly, TokenKind::Ident, TokenKind::Semicolon, TokenKind::RCurly, TokenKind::Semicolon];
+    /// # use TokenKind::{Ident, LCurly, RCurly, Semicolon};
+    /// # let kinds = [Ident, LCurly, Ident, Semicolon, RCurly, Semicolon];
     /// # let input = Input::new(b"a{b;};", kinds.map(|kind| Token::new(kind, 1)).to_vec());
     /// let parse = Entrypoint::SourceFile.parse(&input)?; // of `a{b;};`
     /// let kind = |range: std::ops::Range<usize>| parse.tree.covering_node(range.into()).map(|node| node.kind());
@@ -140,6 +141,3 @@ impl Tree<'_> {
         }
     }
 }
-
-#[cfg(test)]
-mod tests;

@@ -85,8 +85,11 @@ impl Parser {
             if answer.number == 0 {
                 return self.read(&answer, input);
             }
-            let refusal = Refusal::from_number(answer.number, answer.place)
-                .ok_or(Error::BadAnswer { expected: "a refusal from 1 to 8", row: 0 })?;
+            let refusal = Refusal::from_number(answer.number, answer.place).ok_or(Error::BadAnswer {
+                what: "number",
+                row: None,
+                expected: "0 or a refusal from 1 to 8",
+            })?;
             match room.after(refusal, most) {
                 Some(more) => room = more,
                 None if !refusal.is_about_room() => return Err(Error::Refused(refusal)),
@@ -100,17 +103,20 @@ impl Parser {
     /// The rows of an accepted call as values.
     fn read<'i>(&self, answer: &Answer, input: &Input<'i>) -> Result<Parse<'i>, Error> {
         let Buffers { trees, errors, reports, pool, .. } = &self.buffers;
-        let pool = pool.get(..answer.expectation_count).ok_or(short("expectations"))?;
+        let pool = pool.get(..answer.expectation_count).ok_or(bad_count("count of expectations"))?;
+        let trees = rows::front(trees, answer.tree_count).ok_or(bad_count("count of tree rows"))?;
+        let errors = rows::front(errors, answer.error_count).ok_or(bad_count("count of lexical errors"))?;
+        let reports = rows::front(reports, answer.report_count).ok_or(bad_count("count of reports"))?;
         Ok(Parse {
-            tree: Tree::read(rows::front(trees, answer.tree_count).ok_or(short("tree rows"))?, input)?,
-            lexical_errors: lexical::read(rows::front(errors, answer.error_count).ok_or(short("lexical errors"))?)?,
-            reports: report::read(rows::front(reports, answer.report_count).ok_or(short("reports"))?, pool, input)?,
+            tree: Tree::read(trees, input)?,
+            lexical_errors: lexical::read(errors)?,
+            reports: report::read(reports, pool, input)?,
         })
     }
 }
 
-fn short(expected: &'static str) -> Error {
-    Error::BadAnswer { expected, row: 0 }
+fn bad_count(what: &'static str) -> Error {
+    Error::BadAnswer { what, row: None, expected: "at most what fits the lent buffer" }
 }
 
 #[cfg(test)]
@@ -138,7 +144,7 @@ mod tests {
     }
 
     #[test]
-    fn room_is_tried_up_to_the_limit_and_then_told() {
+    fn room_is_tried_up_to_the_limit_and_then_reported() {
         for number in 6..=8 {
             let (error, calls) = parse_by(number, 0);
             let refusal = Refusal::from_number(number, 0).unwrap();
@@ -153,7 +159,7 @@ mod tests {
     }
 
     #[test]
-    fn other_refusals_are_told_at_once() {
+    fn other_refusals_are_reported_at_once() {
         for number in 1..=5 {
             let refusal = Refusal::from_number(number, 0).unwrap();
             assert_eq!(parse_by(number, 0), (Error::Refused(refusal), 1));
@@ -162,10 +168,18 @@ mod tests {
     }
 
     #[test]
-    fn an_answer_that_cannot_be_is_told() {
-        for (number, trees) in [(9, 0), (0, 0), (0, 1), (0, 1 << 40)] {
+    fn an_answer_that_cannot_be_is_reported() {
+        let is_not = |what: &str| format!("{what}: the linked library is not the proved one");
+        for (number, trees, text) in [
+            (9, 0, "the number of the answer is not 0 or a refusal from 1 to 8"),
+            (0, 0, "the tree of the answer is not one over all tokens"),
+            // rows of zeros: a file without text, and another after it
+            (0, 1, "the tree of the answer is not one over all tokens"),
+            (0, 2, "tree row 1 of the answer is not under the root"),
+            (0, 1 << 40, "the count of tree rows of the answer is not at most what fits the lent buffer"),
+        ] {
             let (error, calls) = parse_by(number, trees);
-            assert!(matches!(error, Error::BadAnswer { .. }), "{error}");
+            assert_eq!(error.to_string(), is_not(text));
             assert_eq!(calls, 1);
         }
     }

@@ -115,7 +115,7 @@ pub(crate) fn read(rows: &[[u32; ReportRow::SIZE]], pool: &[u32], input: &Input<
 }
 
 fn read_one(i: usize, numbers: &[u32; ReportRow::SIZE], pool: &[u32], input: &Input<'_>) -> Result<Report, Error> {
-    let bad = |expected| Error::BadAnswer { expected, row: i };
+    let bad = |expected| Error::BadAnswer { what: "report row", row: Some(i), expected };
     let row = ReportRow::from(*numbers);
     let (first, count) = (row.pool_first as usize, row.pool_count as usize);
     let codes = pool.get(first..first.saturating_add(count)).ok_or(bad("a part of the pool"))?;

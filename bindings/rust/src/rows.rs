@@ -101,8 +101,13 @@ mod tests {
     #[test]
     fn the_limits_are_those_of_the_c_header() {
         use crate::Input;
-        assert!(header("DT_MAX_").contains(&("bytes".to_string(), Input::MAX_BYTES)));
-        assert!(header("DT_MAX_").contains(&("token_numbers".to_string(), TokenRow::SIZE * Input::MAX_TOKENS)));
+        let ours = [
+            ("bytes", Input::MAX_BYTES),
+            ("token_numbers", TokenRow::SIZE * Input::MAX_TOKENS),
+            ("open_calls", Input::MAX_OPEN_CALLS),
+            ("expectations", Input::MAX_EXPECTATIONS),
+        ];
+        assert_eq!(header("DT_MAX_"), ours.map(|(name, number)| (name.to_string(), number)));
     }
 
     #[test]

@@ -183,7 +183,7 @@ impl<'i> Lines<'i> {
 /// The word up to the first blank, and what follows the blank.
 fn split(line: &[u8]) -> (&[u8], &[u8]) {
     match line.iter().position(|byte| *byte == b' ') {
-        Some(at) => (&line[..at], &line[at + 1..]),
+        Some(end) => (&line[..end], &line[end + 1..]),
         None => (line, b""),
     }
 }

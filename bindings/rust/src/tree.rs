@@ -12,7 +12,7 @@ pub(crate) enum RowKind {
     Leaf(TokenKind),
 }
 
-/// A row with its place. Rows and tokens are counted from 0.
+/// A row with where it stands. Rows and tokens are counted from 0.
 #[derive(Debug, Clone, Copy)]
 pub(crate) struct Row {
     pub kind: RowKind,
@@ -106,27 +106,33 @@ impl<'i> Tree<'i> {
     }
 
     /// The item of a row that is there.
-    pub(crate) fn at(&self, row: usize) -> Item<'_> {
+    pub(crate) fn item_at_row(&self, row: usize) -> Item<'_> {
         self.item(row).unwrap_or_else(|| unreachable!("row {row} of {}", self.rows.len()))
     }
 
     /// Reads the rows of a call. They are checked to be one tree over the input, so that no walk can leave it.
-    pub(crate) fn read(rows: &[[u32; TreeRow::SIZE]], input: &Input<'i>) -> Result<Self, Error> {
-        let mut reader = Reader { input, rows: Vec::with_capacity(rows.len()), open: Vec::new(), at: 0, token: 0 };
+    ///
+    /// Not part of the interface: public for tests/navigate.rs alone, which reads trees that no text has.
+    #[doc(hidden)]
+    pub fn read(rows: &[[u32; TreeRow::SIZE]], input: &Input<'i>) -> Result<Self, Error> {
+        let mut reader = Reader { input, rows: Vec::with_capacity(rows.len()), open: Vec::new(), byte: 0, token: 0 };
         for (i, numbers) in rows.iter().enumerate() {
             if i > 0 && reader.open.is_empty() {
-                return Err(Error::BadAnswer { expected: "under the root", row: i });
+                return Err(Error::BadAnswer { what: TREE_ROW, row: Some(i), expected: "under the root" });
             }
             reader.add(numbers)?;
         }
         let whole = !rows.is_empty() && reader.open.is_empty();
-        if whole && reader.at == input.text.len() && reader.token == input.tokens.len() {
+        if whole && reader.byte == input.text.len() && reader.token == input.tokens.len() {
             Ok(Self { text: Cow::Borrowed(input.text), rows: reader.rows })
         } else {
-            Err(Error::BadAnswer { expected: "the last of a tree of all tokens", row: rows.len() })
+            Err(Error::BadAnswer { what: "tree", row: None, expected: "one over all tokens" })
         }
     }
 }
+
+/// Where a number stands that cannot be.
+const TREE_ROW: &str = "tree row";
 
 /// A tree that is being read.
 struct Reader<'r, 'i> {
@@ -135,14 +141,14 @@ struct Reader<'r, 'i> {
     /// The nodes around the next row, and how many children each still gets.
     open: Vec<(usize, usize)>,
     /// The bytes and raw tokens so far.
-    at: usize,
+    byte: usize,
     token: usize,
 }
 
 impl Reader<'_, '_> {
     fn add(&mut self, numbers: &[u32; TreeRow::SIZE]) -> Result<(), Error> {
         let row = self.rows.len();
-        let bad = |expected| Error::BadAnswer { expected, row };
+        let bad = |expected| Error::BadAnswer { what: TREE_ROW, row: Some(row), expected };
         let TreeRow { class, kind, width, count } = (*numbers).into();
         let parent = self.open.last_mut().map_or(row, |(parent, left)| {
             *left -= 1;
@@ -153,7 +159,7 @@ impl Reader<'_, '_> {
             rows::LEAF => (RowKind::Leaf(TokenKind::from_number(kind).ok_or(bad("a token kind"))?), count as usize),
             _ => return Err(bad("a node or a leaf")),
         };
-        let (start, token, width) = (self.at, self.token, width as usize);
+        let (start, token, width) = (self.byte, self.token, width as usize);
         self.rows.push(Row { kind, start, width, parent, next: row + 1, token, tokens });
         match class {
             rows::NODE => self.open.push((row, count as usize)),
@@ -167,7 +173,7 @@ impl Reader<'_, '_> {
         let taken = self.input.tokens.get(self.token..self.token.checked_add(tokens)?)?;
         let sum: usize = taken.iter().map(|token| token.length as usize).sum();
         self.token += tokens;
-        self.at += width;
+        self.byte += width;
         (sum == width && tokens > 0).then_some(())
     }
 
@@ -179,8 +185,9 @@ impl Reader<'_, '_> {
             let node = &mut self.rows[row];
             node.next = next;
             node.tokens = self.token - node.token;
-            if node.width != self.at - node.start {
-                return Err(Error::BadAnswer { expected: "a node as wide as what is under it", row });
+            if node.width != self.byte - node.start {
+                let expected = "a node as wide as what is under it";
+                return Err(Error::BadAnswer { what: TREE_ROW, row: Some(row), expected });
             }
         }
         Ok(())
@@ -227,7 +234,7 @@ mod tests {
     }
 
     #[test]
-    fn rows_of_no_tree_are_refused() {
+    fn rows_that_are_not_a_tree_are_refused() {
         assert!(Tree::read(&[], &input()).is_err());
         assert!(Tree::read(&ROWS[..3], &input()).is_err());
         assert!(Tree::read(&[ROWS.as_slice(), &ROWS[3..]].concat(), &input()).is_err());

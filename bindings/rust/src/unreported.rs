@@ -8,13 +8,13 @@ impl Parse<'_> {
     /// and nothing is reported.
     #[must_use]
     pub fn unreported(&self) -> Vec<Node<'_>> {
-        let mut places: Vec<TextRange> = self.reports.iter().map(|report| report.range).collect();
-        places.extend(self.lexical_errors.iter().map(|error| error.range));
-        places.sort();
+        let mut ranges: Vec<TextRange> = self.reports.iter().map(|report| report.range).collect();
+        ranges.extend(self.lexical_errors.iter().map(|error| error.range));
+        ranges.sort();
         let spoken_of = |node: &Node<'_>| {
-            let range = node.range();
-            let first = places.partition_point(|place| place.start < range.start);
-            places.get(first).is_some_and(|place| place.start <= range.end)
+            let own = node.range();
+            let first = ranges.partition_point(|range| range.start < own.start);
+            ranges.get(first).is_some_and(|range| range.start <= own.end)
         };
         let mut silent = self.outermost_errors();
         silent.retain(|node| !spoken_of(node));

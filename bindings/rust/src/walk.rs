@@ -10,7 +10,8 @@ use std::ops::Range;
 ///
 /// ```
 /// # use dt_parser::{Entrypoint, Input, NodeKind, Token, TokenKind};
-/// # let kinds = [TokenKind::Ident, TokenKind::LCurly, TokenKind::Ident, TokenKind::Semicolon, TokenKind::RCurly, TokenKind::Semicolon];
+/// # use TokenKind::{Ident, LCurly, RCurly, Semicolon};
+/// # let kinds = [Ident, LCurly, Ident, Semicolon, RCurly, Semicolon];
 /// # let input = Input::new(b"a{b;};", kinds.map(|kind| Token::new(kind, 1)).to_vec());
 /// let parse = Entrypoint::SourceFile.parse(&input)?; // of `a{b;};`
 /// let node = parse.tree.root().child(NodeKind::DtNode).expect("there is one");
@@ -60,7 +61,7 @@ macro_rules! placed {
                 &self.tree().text[self.range().byte_range()]
             }
 
-            /// Its text for people: bytes that are no UTF-8 are shown as U+FFFD.
+            /// Its text for people: bytes that are not UTF-8 are shown as U+FFFD.
             #[must_use]
             pub fn text_lossy(self) -> Cow<'t, str> {
                 String::from_utf8_lossy(self.text())
@@ -85,14 +86,14 @@ macro_rules! placed {
                 std::iter::successors(self.parent(), |node| node.parent())
             }
 
-            /// Its row: its place in the tree's preorder, where the root is 0. [`Tree::item`] is the way back.
+            /// Its row: its index in the tree's preorder, where the root is 0. [`Tree::item`] is the way back.
             #[must_use]
             pub const fn row(self) -> usize {
-                self.place().1
+                self.tree_and_row().1
             }
 
             pub(crate) const fn tree(self) -> &'t Tree<'t> {
-                self.place().0
+                self.tree_and_row().0
             }
 
             pub(crate) fn data(self) -> &'t Row {
@@ -120,7 +121,8 @@ impl<'t> Node<'t> {
     pub fn children(self) -> impl Iterator<Item = Item<'t>> + use<'t> {
         let (tree, end) = (self.tree, self.data().next);
         let within = move |row: usize| (row < end).then_some(row);
-        std::iter::successors(within(self.row + 1), move |row| within(tree.rows[*row].next)).map(|row| tree.at(row))
+        std::iter::successors(within(self.row + 1), move |row| within(tree.rows[*row].next))
+            .map(|row| tree.item_at_row(row))
     }
 
     /// Its children that are nodes.
@@ -160,7 +162,7 @@ impl<'t> Node<'t> {
     /// ```
     pub fn items_below(self) -> impl Iterator<Item = Item<'t>> + use<'t> {
         let tree = self.tree;
-        (self.row + 1..self.data().next).map(|row| tree.at(row))
+        (self.row + 1..self.data().next).map(|row| tree.item_at_row(row))
     }
 
     /// The nodes below it, without itself, in the order of [`Node::items_below`].
@@ -184,11 +186,11 @@ impl<'t> Node<'t> {
             }
             let depth = ends.len();
             ends.push(tree.rows[row].next);
-            (tree.at(row), depth)
+            (tree.item_at_row(row), depth)
         })
     }
 
-    const fn place(self) -> (&'t Tree<'t>, usize) {
+    const fn tree_and_row(self) -> (&'t Tree<'t>, usize) {
         (self.tree, self.row)
     }
 }
@@ -209,7 +211,7 @@ impl<'t> Leaf<'t> {
         self.kind().is_trivia()
     }
 
-    const fn place(self) -> (&'t Tree<'t>, usize) {
+    const fn tree_and_row(self) -> (&'t Tree<'t>, usize) {
         (self.tree, self.row)
     }
 }
@@ -233,16 +235,16 @@ impl<'t> Item<'t> {
         }
     }
 
-    const fn place(self) -> (&'t Tree<'t>, usize) {
+    const fn tree_and_row(self) -> (&'t Tree<'t>, usize) {
         match self {
-            Self::Node(node) => node.place(),
-            Self::Leaf(leaf) => leaf.place(),
+            Self::Node(node) => node.tree_and_row(),
+            Self::Leaf(leaf) => leaf.tree_and_row(),
         }
     }
 }
 
-/// Equal are those that stand in the same place of the same tree.
-macro_rules! same_place {
+/// Equal are those that have the same row of the same tree.
+macro_rules! same_row {
     ($name:ident) => {
         impl PartialEq for $name<'_> {
             fn eq(&self, other: &Self) -> bool {
@@ -260,8 +262,8 @@ macro_rules! same_place {
     };
 }
 
-same_place!(Node);
-same_place!(Leaf);
+same_row!(Node);
+same_row!(Leaf);
 
 /// Kind and range, as `DtNode@0..5`.
 impl fmt::Display for Node<'_> {
@@ -270,7 +272,7 @@ impl fmt::Display for Node<'_> {
     }
 }
 
-/// Kind, range and text, as `Semicolon@4..5 ";"`. Bytes that are no UTF-8 are shown as U+FFFD.
+/// Kind, range and text, as `Semicolon@4..5 ";"`. Bytes that are not UTF-8 are shown as U+FFFD.
 impl fmt::Display for Leaf<'_> {
     fn fmt(&self, f: &mut fmt::Formatter<'_>) -> fmt::Result {
         write!(f, "{:?}@{} {:?}", self.kind(), self.range(), self.text_lossy())

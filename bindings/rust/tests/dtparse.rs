@@ -11,28 +11,29 @@ fn root() -> PathBuf {
 }
 
 /// dtparse at the repository's root, with nothing in its surroundings that speaks of colours.
-fn dtparse(words: &[&str]) -> Command {
+fn dtparse(arguments: &[&str]) -> Command {
     let mut command = Command::new(env!("CARGO_BIN_EXE_dtparse"));
-    command.args(words).current_dir(root()).env_remove("NO_COLOR");
+    command.args(arguments).current_dir(root()).env_remove("NO_COLOR");
     command
 }
 
-fn run(words: &[&str]) -> (Option<i32>, String, String) {
-    told(dtparse(words).output().unwrap())
+fn run(arguments: &[&str]) -> (Option<i32>, String, String) {
+    printed(dtparse(arguments).output().unwrap())
 }
 
-fn told(output: Output) -> (Option<i32>, String, String) {
+/// Exit status, standard output and standard error.
+fn printed(output: Output) -> (Option<i32>, String, String) {
     let text = |bytes| String::from_utf8(bytes).unwrap();
     (output.status.code(), text(output.stdout), text(output.stderr))
 }
 
 /// dtparse on a file that it reads from the standard input.
-fn run_on(file: &[u8], words: &[&str]) -> (Option<i32>, String, String) {
-    let mut command = dtparse(words);
+fn run_on(file: &[u8], arguments: &[&str]) -> (Option<i32>, String, String) {
+    let mut command = dtparse(arguments);
     command.arg("-").stdin(Stdio::piped()).stdout(Stdio::piped()).stderr(Stdio::piped());
     let mut child = command.spawn().unwrap();
     child.stdin.take().unwrap().write_all(file).unwrap();
-    told(child.wait_with_output().unwrap())
+    printed(child.wait_with_output().unwrap())
 }
 
 fn rows(entry: Entrypoint, text: &[u8], tokens: &[Token]) -> Vec<u8> {
@@ -115,7 +116,7 @@ a.dts: 1 error; 1 node and 1 property read
 }
 
 #[test]
-fn an_error_is_told_at_the_node_that_it_lies_in() {
+fn an_error_is_reported_at_the_node_that_it_lies_in() {
     use TokenKind::{Ident, LCurly, RCurly, Semicolon, Slash};
     let inner: [(TokenKind, &[u8]); 4] = [(Ident, b"a"), (LCurly, b"{"), (RCurly, b"}"), (Semicolon, b";")];
     let before: [(TokenKind, &[u8]); 2] = [(Slash, b"/"), (LCurly, b"{")];
@@ -133,7 +134,7 @@ a.dts: 2 errors; 2 nodes and 0 properties read; 2 of 10 bytes not understood
 }
 
 #[test]
-fn a_hint_stands_after_its_mark() {
+fn a_hint_stands_after_its_underline() {
     use TokenKind::{Equals, Number, Semicolon};
     let (status, out, _) = run_on(&source(&[(Equals, b"="), (Number, b"1"), (Semicolon, b";")]), &["--reports"]);
     assert_eq!(status, Some(1));
@@ -141,7 +142,7 @@ fn a_hint_stands_after_its_mark() {
 }
 
 #[test]
-fn crlf_and_bytes_that_are_no_utf8_are_shown() {
+fn crlf_and_bytes_that_are_not_utf8_are_shown() {
     use TokenKind::{LineComment, RCurly, Whitespace};
     let tokens: [(TokenKind, &[u8]); 4] =
         [(LineComment, b"// \xff\x1b[31m"), (Whitespace, b"\r\n\t"), (RCurly, b"}"), (Whitespace, b"\r\n")];
@@ -184,7 +185,7 @@ fn a_part_without_a_report_is_a_note() {
 }
 
 #[test]
-fn an_empty_text_has_a_place_too() {
+fn an_empty_text_has_a_position_too() {
     let (status, out, _) = run_on(&rows(Entrypoint::ReferenceNoamp, b"", &[]), &["--reports"]);
     assert_eq!(status, Some(1));
     assert!(out.contains("--> a.dts:1:1\n  |\n1 |\n  | ^\n"), "{out}");
@@ -210,7 +211,8 @@ fn colours_are_for_terminals_unless_asked_for() {
     let coloured = run(&["--color", "always", "examples/board.rows"]).1;
     assert!(coloured.contains(escape));
     assert_eq!(run(&["--color=never", "examples/board.rows"]).1, plain);
-    let (_, out, _) = told(dtparse(&["--color=always", "examples/board.rows"]).env("NO_COLOR", "1").output().unwrap());
+    let mut command = dtparse(&["--color=always", "examples/board.rows"]);
+    let (_, out, _) = printed(command.env("NO_COLOR", "1").output().unwrap());
     assert_eq!(out, coloured, "what is asked for goes before NO_COLOR");
 }
 
@@ -221,7 +223,7 @@ fn no_answer((status, out, err): (Option<i32>, String, String)) -> String {
 }
 
 #[test]
-fn bad_words_have_status_2() {
+fn invalid_arguments_have_status_2() {
     assert_eq!(no_answer(run(&[])), "dtparse: which file?\nTry `dtparse --help`.\n");
     assert_eq!(no_answer(run(&["--all", "x"])), "dtparse: --all is not an option\nTry `dtparse --help`.\n");
     assert!(no_answer(run(&["no/such.rows"])).starts_with("dtparse: no/such.rows: No such file"));
@@ -230,7 +232,7 @@ fn bad_words_have_status_2() {
 }
 
 #[test]
-fn a_bad_file_has_status_2_and_its_line_is_told() {
+fn a_bad_file_has_status_2_and_its_line_is_reported() {
     let bad = |file: &str| no_answer(run_on(file.as_bytes(), &[]));
     assert_eq!(bad(""), "dtparse: -: line 1: expected `devicetree tokens 1`, found the end of the file\n");
     assert_eq!(
@@ -248,7 +250,7 @@ fn a_bad_file_has_status_2_and_its_line_is_told() {
 }
 
 #[test]
-fn a_refusal_has_status_2_and_its_reason_is_told() {
+fn a_refusal_has_status_2_and_its_reason_is_reported() {
     let refused = |file: &str| no_answer(run_on(format!("devicetree tokens 1\n{file}").as_bytes(), &[]));
     let start = "dtparse: -: refusal";
     assert_eq!(refused("rows 1\nIdent 0\ntext 1\na"), format!("{start} 3: line 3: a token of no bytes\n"));

@@ -1,12 +1,13 @@
-//! Steps and walks in the trees of files: the oracle's snippets and cases, the examples, the seeds of fuzz/. What is
-//! expected is read off the tree rows that the Rust gave (tests/oracle/answers.txt).
+//! Steps and walks against a plain reading of the tree rows (common/model.rs): in the trees of files, which are the
+//! oracle's snippets and cases, the examples and the seeds of fuzz/, with the rows that the Rust gave
+//! (tests/oracle/answers.txt); and in random trees.
 
 #[path = "common/answers.rs"]
 mod answers;
 #[path = "common/model.rs"]
 mod model;
 
-use dt_parser::{Input, OwnedParse, Parser, TextRange};
+use dt_parser::{Input, NodeKind, OwnedParse, Parser, TextRange, Token, TokenKind, Tree};
 use model::Random;
 
 /// The rows of an answer: its lines `R class kind width count`.
@@ -41,7 +42,7 @@ fn every_source_of_the_project_is_among_the_cases() {
 }
 
 #[test]
-fn every_item_has_the_places_that_the_rows_give() {
+fn every_item_stands_where_the_rows_say() {
     let parses = parses();
     assert!(parses.len() > 100);
     for (parse, rows) in &parses {
@@ -61,6 +62,70 @@ fn the_innermost_node_is_found() {
             model::check_covering(&parse.tree, &known, TextRange { start, end });
         }
     }
+}
+
+/// Class, kind, width, count.
+type Row = [u32; 4];
+
+fn node(width: u32, count: u32) -> Row {
+    [0, NodeKind::DtNode.number(), width, count]
+}
+
+fn leaf(width: u32) -> Row {
+    [1, TokenKind::Ident.number(), width, 1]
+}
+
+/// A random subtree, added to the rows. Nodes may be empty; leaves have one to three bytes. Gives its width.
+fn add_subtree(random: &mut Random, depth: usize, rows: &mut Vec<Row>) -> u32 {
+    if depth == 0 || (depth < 6 && random.below(3) == 0) {
+        let width = 1 + random.below(3) as u32;
+        rows.push(leaf(width));
+        return width;
+    }
+    let count = if random.below(6) == 0 { 0 } else { 1 + random.below(4) as u32 };
+    let row = rows.len();
+    rows.push(node(0, count));
+    let width = (0..count).map(|_| add_subtree(random, depth - 1, rows)).sum();
+    rows[row] = node(width, count);
+    width
+}
+
+/// Checks the tree of these rows at every item, offset and range. Gives how many items it has.
+fn check(rows: &[Row]) -> usize {
+    let known = model::read(rows);
+    let text = vec![b'x'; known[0].range.end];
+    let leaves = known.iter().filter(|known| known.is_leaf);
+    let tokens = leaves.map(|leaf| Token::new(TokenKind::Ident, leaf.range.len() as u32)).collect();
+    let tree = Tree::read(rows, &Input::new(&text, tokens)).unwrap().into_owned();
+    drop(text);
+    model::check_items(&tree, &known);
+    let most = tree.text().len() + 2;
+    for range in (0..most).flat_map(|start| (0..most).map(move |end| TextRange { start, end })) {
+        model::check_covering(&tree, &known, range);
+    }
+    known.len()
+}
+
+#[test]
+fn random_trees_are_walked_as_the_model_says() {
+    let mut random = Random(88_172_645_463_325_252);
+    let mut items = 0;
+    for turn in 0..300 {
+        let mut rows = Vec::new();
+        while rows.first().is_none_or(|root: &Row| root[0] == 1) {
+            rows.clear();
+            add_subtree(&mut random, 1 + turn % 5, &mut rows);
+        }
+        items += check(&rows);
+    }
+    assert!(items > 3000, "{items}");
+}
+
+#[test]
+fn nodes_without_text_are_passed_by() {
+    check(&[node(0, 0)]);
+    check(&[node(0, 2), node(0, 0), node(0, 1), node(0, 0)]);
+    check(&[node(3, 5), node(0, 0), leaf(1), node(0, 0), node(2, 2), leaf(2), node(0, 0), node(0, 0)]);
 }
 
 #[test]

@@ -33,13 +33,13 @@ fn the_leaves_are_the_text() {
 fn children_lie_side_by_side_in_their_parent() {
     on_examples(|root, _| {
         for node in std::iter::once(root).chain(root.nodes_below()) {
-            let mut at = node.range().start;
+            let mut end = node.range().start;
             for child in node.children() {
                 assert_eq!(child.parent(), Some(node));
-                assert_eq!(child.range().start, at);
-                at = child.range().end;
+                assert_eq!(child.range().start, end);
+                end = child.range().end;
             }
-            assert_eq!(at, node.range().end);
+            assert_eq!(end, node.range().end);
             let count = node.child_nodes().count() + node.child_leaves().count();
             assert_eq!(count, node.children().count());
         }

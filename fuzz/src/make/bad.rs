@@ -1,7 +1,10 @@
 //! Input for causes 1 to 4.
 use crate::call::Call;
 use crate::rng::Rng;
-use oracle::token::fixed_text;
+use dt_parser_layout::{COL_TOKEN_KIND, COL_TOKEN_LENGTH, EXPECTED_END, EXPECTED_PREPROCESSOR_DIRECTIVE, ROW_TOKEN};
+use dt_parser_layout::{TOKEN_FIRST_LEX_ERROR, TOKEN_LAST_LEX_ERROR};
+use oracle::token::TokenKind::{Name, QuestionMark, RCurly, Semicolon, Unrecognized};
+use oracle::token::{fixed_text, kinds};
 
 pub fn damage(r: &mut Rng, call: &mut Call) {
     for _ in 0..1 + r.n(2) {
@@ -25,23 +28,23 @@ pub fn damage(r: &mut Rng, call: &mut Call) {
 
 /// Another byte in a fixed text, or another kind whose fixed text is as long.
 fn text(r: &mut Rng, call: &mut Call) {
-    let mut at = 0;
+    let mut start = 0;
     let mut fixed = vec![];
-    for (i, row) in call.tokens.chunks_exact(2).enumerate() {
-        let end = at + row[1] as usize;
-        let right = fixed_text(row[0]).is_some_and(|t| t.len() == row[1] as usize);
-        if right && end <= call.bytes.len() {
-            fixed.push((i, at, end))
+    for (i, row) in call.tokens.chunks_exact(ROW_TOKEN).enumerate() {
+        let (kind, length) = (row[COL_TOKEN_KIND], row[COL_TOKEN_LENGTH] as usize);
+        let end = start + length;
+        if fixed_text(kind).is_some_and(|t| t.len() == length) && end <= call.bytes.len() {
+            fixed.push((i, start, end))
         }
-        at = end
+        start = end
     }
     if let Some(&(row, start, end)) = fixed.get(r.n(fixed.len())) {
         if r.p(50) {
             call.bytes[start + r.n(end - start)] ^= 1 << r.n(8)
         } else {
             let as_long = |k: &u32| fixed_text(*k).is_some_and(|t| t.len() == end - start);
-            let kinds: Vec<u32> = (0..61).filter(as_long).collect();
-            call.tokens[2 * row] = r.pick(&kinds)
+            let kinds: Vec<u32> = kinds().iter().map(|&k| k as u32).filter(as_long).collect();
+            call.tokens[ROW_TOKEN * row + COL_TOKEN_KIND] = r.pick(&kinds)
         }
     }
 }
@@ -51,42 +54,48 @@ fn entry(r: &mut Rng) -> u32 {
     r.pick(&[0, 5, 6, 255, 256, 257, 260, 65537, u32::MAX, u32::MAX - 3, other])
 }
 
+/// Another kind: of leaves alone, a number beside those of kinds and errors, one far from them, or a good one.
 fn kind(r: &mut Rng, call: &mut Call) {
-    let rows = call.tokens.len() / 2;
+    let rows = call.tokens.len() / ROW_TOKEN;
     if rows > 0 {
-        let at = 2 * r.n(rows);
+        let index = ROW_TOKEN * r.n(rows) + COL_TOKEN_KIND;
         let other = r.next() as u32;
         // numbers that are a good kind in their low byte, word or half
-        let low = call.tokens[at].wrapping_add(r.pick(&[128, 256, 512, 65536, 1 << 31]));
-        call.tokens[at] = r.pick(&[25, 26, 61, 62, 63, 75, 76, 99, 101, 108, u32::MAX, low, low, other, 29, 38, 60, 64])
+        let low = call.tokens[index].wrapping_add(r.pick(&[128, 256, 512, 65536, 1 << 31]));
+        let (last, error, last_error) = (QuestionMark as u32, TOKEN_FIRST_LEX_ERROR, TOKEN_LAST_LEX_ERROR);
+        let never = [Unrecognized as u32, Name as u32, last + 1, last + 2, error - 1, last_error + 1, last_error + 2];
+        let far = [99, EXPECTED_PREPROCESSOR_DIRECTIVE, EXPECTED_END, u32::MAX, low, low, other];
+        let good = [Semicolon as u32, RCurly as u32, last, error];
+        call.tokens[index] = r.pick(&[&never[..], &far, &good].concat())
     }
 }
 
 fn length(r: &mut Rng, call: &mut Call) {
-    let rows = call.tokens.len() / 2;
+    let rows = call.tokens.len() / ROW_TOKEN;
     if rows > 0 {
-        let (at, next) = (2 * r.n(rows) + 1, 2 * r.n(rows) + 1);
-        let n = call.tokens[at];
+        let mut index = || ROW_TOKEN * r.n(rows) + COL_TOKEN_LENGTH;
+        let (one, other) = (index(), index());
+        let n = call.tokens[one];
         match r.n(8) {
-            0 => call.tokens[at] = 0,
-            1 => call.tokens[at] = n.wrapping_add(1),
-            2 => call.tokens[at] = n.wrapping_sub(1),
-            3 => call.tokens[at] = u32::MAX - r.n(4) as u32,
-            4 => call.tokens[at] = 1 << 31 | n,
+            0 => call.tokens[one] = 0,
+            1 => call.tokens[one] = n.wrapping_add(1),
+            2 => call.tokens[one] = n.wrapping_sub(1),
+            3 => call.tokens[one] = u32::MAX - r.n(4) as u32,
+            4 => call.tokens[one] = 1 << 31 | n,
             5 => {
                 // two lengths whose sum is the old one once it passes 32 bits
-                call.tokens[next] = call.tokens[next].wrapping_add(n).wrapping_add(1);
-                call.tokens[at] = u32::MAX
+                call.tokens[other] = call.tokens[other].wrapping_add(n).wrapping_add(1);
+                call.tokens[one] = u32::MAX
             }
-            6 => call.tokens.swap(at, next),
-            _ => call.tokens[at] = call.bytes.len() as u32 + r.n(3) as u32,
+            6 => call.tokens.swap(one, other),
+            _ => call.tokens[one] = call.bytes.len() as u32 + r.n(3) as u32,
         }
     }
 }
 
 fn byte(r: &mut Rng, call: &mut Call) {
     if !call.bytes.is_empty() {
-        let at = r.n(call.bytes.len());
-        call.bytes[at] ^= 1 << r.n(8)
+        let i = r.n(call.bytes.len());
+        call.bytes[i] ^= 1 << r.n(8)
     }
 }

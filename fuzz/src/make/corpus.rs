@@ -1,12 +1,25 @@
 //! What random token lists are made of: lexed files, their values, cells and references, and single tokens.
 use crate::rng::Rng;
+use dt_parser_layout::{ENTRY_CELLS, ENTRY_PROP_VALUES, ENTRY_REFERENCE_NOAMP, ENTRY_SOURCE_FILE};
+use dt_parser_layout::{TOKEN_FIRST_LEX_ERROR, TOKEN_LAST_LEX_ERROR};
 use oracle::generate::{SAMPLES, SNIPPETS};
-use oracle::token::{code, lexed};
+use oracle::token::TokenKind::{self, Ampersand, Comma, Equals, LAngle, RAngle, Semicolon, Whitespace};
+use oracle::token::{self, code, fixed_text, lexed};
 
 #[derive(Clone, Copy)]
 pub struct Tok {
     pub kind: u32,
     pub text: &'static [u8],
+}
+
+impl Tok {
+    fn is(&self, kind: TokenKind) -> bool {
+        self.kind == kind as u32
+    }
+
+    fn is_trivia(&self) -> bool {
+        token::kind(self.kind).is_ok_and(TokenKind::is_trivia)
+    }
 }
 
 /// Realistic files beside the oracle's small ones.
@@ -37,13 +50,18 @@ fn lex(text: &'static str) -> Vec<Tok> {
     lexed(text).iter().map(|t| Tok { kind: code(&t.kind), text: t.text.as_bytes() }).collect()
 }
 
+/// A random lexical error's number.
+pub fn lexical_error(r: &mut Rng) -> u32 {
+    TOKEN_FIRST_LEX_ERROR + r.n((TOKEN_LAST_LEX_ERROR - TOKEN_FIRST_LEX_ERROR + 1) as usize) as u32
+}
+
 /// The parts of files that follow a token of kind `from`, up to one of `to` or 24 tokens.
-fn parts(files: &[Vec<Tok>], from: u32, to: &[u32]) -> Vec<Vec<Tok>> {
+fn parts(files: &[Vec<Tok>], from: TokenKind, to: &[TokenKind]) -> Vec<Vec<Tok>> {
     let mut out = vec![];
     for file in files {
-        for i in (0..file.len()).filter(|&i| file[i].kind == from) {
+        for i in (0..file.len()).filter(|&i| file[i].is(from)) {
             let rest = &file[i + 1..];
-            let end = rest.iter().position(|t| to.contains(&t.kind)).unwrap_or(rest.len());
+            let end = rest.iter().position(|t| to.iter().any(|&k| t.is(k))).unwrap_or(rest.len());
             out.push(rest[..end.min(24)].to_vec())
         }
     }
@@ -54,10 +72,11 @@ impl Corpus {
     pub fn load() -> Self {
         let texts: Vec<&'static str> = SEEDS.iter().chain(SNIPPETS).copied().collect();
         let files: Vec<_> = texts.iter().map(|t| lex(t)).collect();
-        let (values, cells) = (parts(&files, 28, &[29]), parts(&files, 39, &[40]));
-        let references = parts(&files, 30, &[0, 29, 40, 2]);
+        let (values, cells) = (parts(&files, Equals, &[Semicolon]), parts(&files, LAngle, &[RAngle]));
+        let references = parts(&files, Ampersand, &[Whitespace, Semicolon, RAngle, Comma]);
         let mut samples: Vec<Tok> = SAMPLES.iter().map(|&(kind, s)| Tok { kind, text: s.as_bytes() }).collect();
-        samples.extend((64..75).map(|kind| Tok { kind, text: &FILL[..1 + kind as usize % 3] }));
+        let errors = TOKEN_FIRST_LEX_ERROR..=TOKEN_LAST_LEX_ERROR;
+        samples.extend(errors.map(|kind| Tok { kind, text: &FILL[..1 + kind as usize % 3] }));
         Corpus { texts, files, values, cells, references, samples }
     }
 
@@ -66,17 +85,17 @@ impl Corpus {
     }
 
     /// One token of that kind.
-    pub fn kind(&self, r: &mut Rng, kind: u32) -> Tok {
+    pub fn kind(&self, r: &mut Rng, kind: TokenKind) -> Tok {
         let start = r.n(self.samples.len());
         let (after, before) = (&self.samples[start..], &self.samples[..start]);
-        *after.iter().chain(before).find(|t| t.kind == kind).expect("a sample of each kind")
+        *after.iter().chain(before).find(|t| t.is(kind)).expect("a sample of each kind")
     }
 
     fn list(&self, r: &mut Rng, entry: u32) -> &[Tok] {
         let from = match if r.p(15) { 1 + r.n(4) as u32 } else { entry } {
-            2 => &self.references,
-            3 => &self.values,
-            4 => &self.cells,
+            ENTRY_REFERENCE_NOAMP => &self.references,
+            ENTRY_PROP_VALUES => &self.values,
+            ENTRY_CELLS => &self.cells,
             _ => &self.files,
         };
         &from[r.n(from.len())]
@@ -94,7 +113,7 @@ impl Corpus {
         let rest = &list[start..];
         out.extend_from_slice(&rest[..length.min(rest.len())]);
         if r.p(25) {
-            out.retain(|t| !matches!(t.kind, 0 | 1 | 3))
+            out.retain(|t| !t.is_trivia())
         }
     }
 
@@ -116,9 +135,9 @@ impl Corpus {
         for _ in 0..r.n(16) {
             let mut t = self.sample(r);
             if r.p(20) {
-                t.kind = 64 + r.n(11) as u32
+                t.kind = lexical_error(r)
             }
-            if t.kind >= 64 || matches!(t.kind, 0 | 1 | 3..17 | 27 | 33..37) {
+            if fixed_text(t.kind).is_none() {
                 let start = r.n(FILL.len() - 1);
                 let length = 1 + r.n((FILL.len() - start).min(5));
                 t.text = &FILL[start..start + length.min(FILL.len() - start)]
@@ -127,7 +146,7 @@ impl Corpus {
         }
     }
 
-    /// Some lines of a file, or what they assign if the entry is not 1.
+    /// Some lines of a file, or what they assign if the entry is not that of a file.
     pub fn lines(&self, r: &mut Rng, entry: u32) -> &'static str {
         let text: &'static str = self.texts[r.n(self.texts.len())];
         let starts: Vec<usize> = std::iter::once(0).chain(text.match_indices('\n').map(|x| x.0 + 1)).collect();
@@ -136,7 +155,7 @@ impl Corpus {
         let end = starts.get(last).copied().unwrap_or(text.len());
         let lines = &text[starts[first]..end];
         match lines.split_once('=') {
-            Some((_, value)) if entry > 1 && r.p(70) => value.split(';').next().unwrap_or(""),
+            Some((_, value)) if entry > ENTRY_SOURCE_FILE && r.p(70) => value.split(';').next().unwrap_or(""),
             _ => lines,
         }
     }

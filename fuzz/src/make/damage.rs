@@ -1,5 +1,5 @@
 //! Random damage to a token list or a text.
-use super::corpus::{Corpus, Tok};
+use super::corpus::{Corpus, Tok, lexical_error};
 use crate::rng::Rng;
 
 pub fn tokens(r: &mut Rng, c: &Corpus, t: &mut Vec<Tok>, times: usize) {
@@ -21,7 +21,7 @@ pub fn tokens(r: &mut Rng, c: &Corpus, t: &mut Vec<Tok>, times: usize) {
             6 if n > 0 => {
                 t.drain(i..(i + 1 + r.n(5)).min(n));
             }
-            7 if n > 0 => t[i] = Tok { kind: 64 + r.n(11) as u32, ..t[i] },
+            7 if n > 0 => t[i] = Tok { kind: lexical_error(r), ..t[i] },
             _ => t.insert(j, c.sample(r)),
         }
     }
@@ -34,7 +34,7 @@ fn copy_part(t: &mut Vec<Tok>, part: std::ops::Range<usize>, to: usize) {
     t[to..].rotate_right(n)
 }
 
-/// One damage to a text; it may be no UTF-8 afterwards.
+/// Damages a text once; the result may not be UTF-8.
 pub fn bytes(r: &mut Rng, s: &mut Vec<u8>) {
     let n = s.len();
     if n == 0 {
@@ -47,8 +47,8 @@ pub fn bytes(r: &mut Rng, s: &mut Vec<u8>) {
         }
         1 => {
             let part = s[i..(i + r.n(20)).min(n)].to_vec();
-            let at = r.n(n);
-            s.splice(at..at, part);
+            let to = r.n(n);
+            s.splice(to..to, part);
         }
         2 if r.p(30) => s.truncate(i),
         3 => s.insert(i, r.pick(b"\"'[]/*\\#\xc3\x00")),

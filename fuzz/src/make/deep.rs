@@ -1,26 +1,27 @@
 //! Nesting around the limit of 64 open calls, and runs of one pattern around the limit of 256 expectations.
 use super::corpus::{Corpus, Tok};
 use crate::rng::Rng;
+use oracle::token::TokenKind::{self, *};
 
 /// What opens and what closes a level, as kinds; the first figure is the entry it suits.
-const LEVELS: &[(u32, &[u32], &[u32])] = &[
-    (4, &[41], &[42]),
-    (4, &[41, 44], &[42]),
-    (4, &[41, 35, 43], &[42]),
-    (4, &[41, 35, 60], &[31, 35, 42]),
-    (4, &[27, 41], &[42]),
-    (4, &[4, 0], &[11]),
-    (4, &[6, 35], &[10, 35, 11]),
-    (3, &[4, 0], &[11]),
-    (3, &[5, 33, 2], &[11]),
-    (3, &[39, 41], &[42, 40]),
-    (1, &[27, 37], &[38, 29]),
-    (1, &[27, 31, 27, 32, 35, 37], &[38, 29]),
-    (1, &[27, 28, 39, 41], &[42, 40, 29]),
-    (1, &[4], &[7, 11]),
-    (1, &[27, 28, 4], &[11, 29]),
-    (1, &[37], &[38]),
-    (1, &[30, 37, 46, 27], &[38]),
+const LEVELS: &[(u32, &[TokenKind], &[TokenKind])] = &[
+    (4, &[LParen], &[RParen]),
+    (4, &[LParen, Minus], &[RParen]),
+    (4, &[LParen, Number, Plus], &[RParen]),
+    (4, &[LParen, Number, QuestionMark], &[Colon, Number, RParen]),
+    (4, &[Ident, LParen], &[RParen]),
+    (4, &[IfDirective, Whitespace], &[EndifDirective]),
+    (4, &[IfndefDirective, Number], &[ElseDirective, Number, EndifDirective]),
+    (3, &[IfDirective, Whitespace], &[EndifDirective]),
+    (3, &[IfdefDirective, String, Comma], &[EndifDirective]),
+    (3, &[LAngle, LParen], &[RParen, RAngle]),
+    (1, &[Ident, LCurly], &[RCurly, Semicolon]),
+    (1, &[Ident, Colon, Ident, AtSign, Number, LCurly], &[RCurly, Semicolon]),
+    (1, &[Ident, Equals, LAngle, LParen], &[RParen, RAngle, Semicolon]),
+    (1, &[IfDirective], &[ElifDirective, EndifDirective]),
+    (1, &[Ident, Equals, IfDirective], &[EndifDirective, Semicolon]),
+    (1, &[LCurly], &[RCurly]),
+    (1, &[Ampersand, LCurly, Slash, Ident], &[RCurly]),
 ];
 
 fn depth(r: &mut Rng) -> usize {
@@ -41,7 +42,7 @@ pub fn tokens(r: &mut Rng, c: &Corpus, entry: u32, out: &mut Vec<Tok>) {
         l.1.iter().for_each(|&k| out.push(c.kind(r, k)))
     }
     if r.p(70) {
-        out.push(c.kind(r, 35))
+        out.push(c.kind(r, Number))
     }
     let kept = if r.p(60) { levels.len() } else { r.n(levels.len() + 1) };
     for l in levels.iter().rev().take(kept) {
@@ -49,9 +50,9 @@ pub fn tokens(r: &mut Rng, c: &Corpus, entry: u32, out: &mut Vec<Tok>) {
     }
 }
 
-/// One or two tokens again and again, then another.
+/// One to three tokens again and again, then up to two others.
 pub fn run(r: &mut Rng, c: &Corpus, out: &mut Vec<Tok>) {
-    let unit: Vec<Tok> = (0..1 + r.n(3)).map(|_| if r.p(30) { c.kind(r, 4) } else { c.sample(r) }).collect();
+    let unit: Vec<Tok> = (0..1 + r.n(3)).map(|_| if r.p(30) { c.kind(r, IfDirective) } else { c.sample(r) }).collect();
     let times = if r.p(70) { 1 + r.n(20) } else { 36 + r.n(20) };
     for _ in 0..times {
         out.extend_from_slice(&unit)

@@ -1,9 +1,15 @@
 //! Random expressions and cells, mostly right.
 use super::corpus::{Corpus, Tok};
 use crate::rng::Rng;
+use dt_parser_layout::{ENTRY_PROP_VALUES, ENTRY_SOURCE_FILE};
+use oracle::token::TokenKind::{self, *};
 
-const INFIX: &[u32] = &[43, 44, 45, 46, 47, 30, 48, 49, 51, 52, 53, 54, 39, 40, 56, 57, 58, 59, 60];
-const PREFIX: &[u32] = &[43, 44, 50, 55];
+#[rustfmt::skip]
+const INFIX: &[TokenKind] = &[
+    Plus, Minus, Asterisk, Slash, Modulo, Ampersand, BitwiseOr, BitwiseXor, BitwiseShl, BitwiseShr, LogicalAnd,
+    LogicalOr, LAngle, RAngle, RelationalLtEq, RelationalGtEq, RelationalEq, RelationalNeq, QuestionMark,
+];
+const PREFIX: &[TokenKind] = &[Plus, Minus, BitwiseNot, LogicalNot];
 
 struct Writer<'a> {
     r: &'a mut Rng,
@@ -13,25 +19,25 @@ struct Writer<'a> {
 
 /// Cells in the form that the entry takes.
 pub fn tokens(r: &mut Rng, c: &Corpus, entry: u32, out: &mut Vec<Tok>) {
-    let (open, close): (&[u32], &[u32]) = match entry {
-        1 => (&[27, 28, 39], &[40, 29]),
-        3 => (&[39], &[40]),
+    let (open, close): (&[TokenKind], &[TokenKind]) = match entry {
+        ENTRY_SOURCE_FILE => (&[Ident, Equals, LAngle], &[RAngle, Semicolon]),
+        ENTRY_PROP_VALUES => (&[LAngle], &[RAngle]),
         _ => (&[], &[]),
     };
     let mut w = Writer { r, c, out };
     w.all(open);
     for _ in 0..1 + w.r.n(3) {
-        w.put(41);
+        w.put(LParen);
         let depth = w.r.n(6);
         w.expr(depth);
-        w.put(42);
+        w.put(RParen);
         w.blank();
     }
     w.all(close)
 }
 
 impl Writer<'_> {
-    fn put(&mut self, kind: u32) {
+    fn put(&mut self, kind: TokenKind) {
         // now and then a token is forgotten or another stands in its place
         match self.r.n(120) {
             0 => {}
@@ -39,12 +45,12 @@ impl Writer<'_> {
             _ => self.out.push(self.c.kind(self.r, kind)),
         }
     }
-    fn all(&mut self, kinds: &[u32]) {
+    fn all(&mut self, kinds: &[TokenKind]) {
         kinds.iter().for_each(|&k| self.put(k))
     }
     fn blank(&mut self) {
         if self.r.p(20) {
-            self.put(0)
+            self.put(Whitespace)
         }
     }
 
@@ -56,8 +62,8 @@ impl Writer<'_> {
             self.put(op);
             self.blank();
             self.operand(depth);
-            if op == 60 {
-                self.put(31);
+            if op == QuestionMark {
+                self.put(Colon);
                 self.operand(depth)
             }
         }
@@ -69,22 +75,22 @@ impl Writer<'_> {
             self.put(op)
         }
         match self.r.n(if depth == 0 { 4 } else { 6 }) {
-            0..2 => self.put(35),
-            2 => self.put(27),
-            3 => self.put(34),
+            0..2 => self.put(Number),
+            2 => self.put(Ident),
+            3 => self.put(Char),
             4 => {
-                self.put(27);
-                self.put(41);
+                self.put(Ident);
+                self.put(LParen);
                 for _ in 0..self.r.n(3) {
                     self.expr(depth - 1);
-                    self.put(2)
+                    self.put(Comma)
                 }
-                self.put(42)
+                self.put(RParen)
             }
             _ => {
-                self.put(41);
+                self.put(LParen);
                 self.expr(depth - 1);
-                self.put(42)
+                self.put(RParen)
             }
         }
     }

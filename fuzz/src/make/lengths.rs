@@ -1,6 +1,6 @@
 //! Lengths of the lent buffers, around what a run needs.
 use crate::rng::Rng;
-use dt_parser_ffi::{Lengths, ROW, bound};
+use dt_parser_layout::{BUFFERS, Lengths, ROW, bound};
 
 /// For a call that is refused before it is parsed.
 pub fn small(r: &mut Rng) -> Lengths {
@@ -26,16 +26,16 @@ pub fn around(r: &mut Rng, needs: Lengths, tokens: usize) -> Lengths {
     let mut l = needs;
     match r.n(20) {
         0..6 => {}
-        6..10 => (0..5).for_each(|i| l[i] += slack(r, ROW[i])),
+        6..10 => (0..BUFFERS).for_each(|i| l[i] += slack(r, ROW[i])),
         10..16 => {
             // one of the five is short; one that is needed, if the first draw is not
-            let drawn = r.n(5);
-            let i = (0..5).map(|k| (drawn + k) % 5).find(|&k| needs[k] > 0).unwrap_or(drawn);
-            (0..5).filter(|&k| k != i).for_each(|k| l[k] += slack(r, ROW[k]));
+            let drawn = r.n(BUFFERS);
+            let i = (0..BUFFERS).map(|k| (drawn + k) % BUFFERS).find(|&k| needs[k] > 0).unwrap_or(drawn);
+            (0..BUFFERS).filter(|&k| k != i).for_each(|k| l[k] += slack(r, ROW[k]));
             l[i] = short(r, needs[i], ROW[i])
         }
         16..18 => {
-            for i in 0..5 {
+            for i in 0..BUFFERS {
                 l[i] = if r.p(30) { short(r, needs[i], ROW[i]) } else { needs[i] + slack(r, ROW[i]) }
             }
         }

@@ -30,6 +30,18 @@ pub fn ways() -> impl Iterator<Item = &'static str> {
     WAYS.iter().map(|w| w.0)
 }
 
+/// The number of a random way.
+fn way(r: &mut Rng) -> usize {
+    let mut draw = r.n(1000);
+    for (i, (_, share)) in WAYS.iter().enumerate() {
+        if draw < *share {
+            return i;
+        }
+        draw -= share
+    }
+    0
+}
+
 pub struct Maker {
     corpus: Corpus,
     toks: Vec<Tok>,
@@ -44,16 +56,7 @@ impl Maker {
     pub fn call(&mut self, r: &mut Rng, call: &mut Call) -> usize {
         call.entry = r.pick(&[1, 1, 1, 1, 2, 3, 3, 4, 4]);
         self.toks.clear();
-        let mut at = r.n(1000);
-        let way = WAYS
-            .iter()
-            .position(|w| {
-                at < w.1 || {
-                    at -= w.1;
-                    false
-                }
-            })
-            .unwrap_or(0);
+        let way = way(r);
         match way {
             2 => self.generated(r, call),
             5 => self.lexed(r, call),

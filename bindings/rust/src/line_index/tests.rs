@@ -6,8 +6,8 @@ use super::*;
 fn lines_by_walking(text: &[u8], ends: LineEnds) -> Vec<usize> {
     let mut line = 0;
     let mut lines = vec![0];
-    for (at, byte) in text.iter().enumerate() {
-        let lone_cr = *byte == b'\r' && text.get(at + 1) != Some(&b'\n');
+    for (offset, byte) in text.iter().enumerate() {
+        let lone_cr = *byte == b'\r' && text.get(offset + 1) != Some(&b'\n');
         if *byte == b'\n' || (lone_cr && ends == LineEnds::LfOrCr) {
             line += 1;
         }
@@ -16,18 +16,18 @@ fn lines_by_walking(text: &[u8], ends: LineEnds) -> Vec<usize> {
     lines
 }
 
-/// The characters of a text with their places, as `from_utf8` takes them one by one; a bad byte is one of one byte.
+/// The characters of a text with their offsets, as `from_utf8` takes them one by one; a bad byte is one of one byte.
 fn characters_by_trying(text: &[u8]) -> Vec<(usize, usize, usize)> {
     let mut found = Vec::new();
-    let mut at = 0;
-    while at < text.len() {
+    let mut start = 0;
+    while start < text.len() {
         let good = (1..=4).find_map(|n| {
-            let one = std::str::from_utf8(text.get(at..at + n)?).ok()?;
+            let one = std::str::from_utf8(text.get(start..start + n)?).ok()?;
             Some((n, one.encode_utf16().count()))
         });
         let (bytes, utf16) = good.unwrap_or((1, 1));
-        found.push((at, bytes, utf16));
-        at += bytes;
+        found.push((start, bytes, utf16));
+        start += bytes;
     }
     found
 }
@@ -40,14 +40,15 @@ fn check(text: &[u8], ends: LineEnds) {
     for offset in 0..=text.len() {
         let line = lines[offset];
         assert_eq!(index.line_of(offset), Some(line), "{offset} of {text:?}");
-        let start = lines.iter().position(|other| *other == line).unwrap();
+        let line_start = lines.iter().position(|other| *other == line).unwrap();
         // the characters that begin in the line and end at the offset or before it
-        let before: Vec<_> = characters.iter().filter(|(at, bytes, _)| *at >= start && at + bytes <= offset).collect();
+        let is_before = |start: usize, bytes: usize| start >= line_start && start + bytes <= offset;
+        let before: Vec<_> = characters.iter().filter(|(start, bytes, _)| is_before(*start, *bytes)).collect();
         // an offset inside a character stands for the character's start
-        let inside = characters.iter().find(|(at, bytes, _)| *at < offset && offset < at + bytes);
-        let back = inside.map_or(offset, |(at, ..)| *at);
+        let inside = characters.iter().find(|(start, bytes, _)| *start < offset && offset < start + bytes);
+        let back = inside.map_or(offset, |(start, ..)| *start);
         let units = [
-            (Columns::Bytes, offset - start, offset),
+            (Columns::Bytes, offset - line_start, offset),
             (Columns::Characters, before.len(), back),
             (Columns::Utf16, before.iter().map(|(_, _, utf16)| utf16).sum(), back),
         ];
@@ -62,20 +63,20 @@ fn check(text: &[u8], ends: LineEnds) {
 
 /// The lines side by side are the text, and no line without its end has a line end at its end.
 fn check_ranges(text: &[u8], index: &LineIndex, lines: &[usize]) {
-    let mut at = 0;
+    let mut start = 0;
     for line in 0..index.line_count() {
         let (whole, range) = (index.whole_line_range(line).unwrap(), index.line_range(line).unwrap());
-        assert_eq!((whole.start, range.start), (at, at));
+        assert_eq!((whole.start, range.start), (start, start));
         let end = &text[range.end..whole.end];
         let ends: [&[u8]; 3] = [b"\n", b"\r\n", b"\r"];
         assert_eq!(ends.contains(&end), line + 1 < index.line_count(), "{end:?} of {text:?}");
         assert!(!(end == b"\n" && text[range.byte_range()].ends_with(b"\r")), "{text:?}");
         assert!(whole.byte_range().all(|offset| lines[offset] == line));
-        at = whole.end;
+        start = whole.end;
         let past = |columns| index.offset(Position { line, column: whole.len() + 1 }, columns);
         assert_eq!([Columns::Bytes, Columns::Characters, Columns::Utf16].map(past), [None; 3], "{line} of {text:?}");
     }
-    assert_eq!(at, text.len());
+    assert_eq!(start, text.len());
     assert_eq!(index.line_range(index.line_count()), None);
     assert_eq!(index.line_of(text.len() + 1), None);
     assert_eq!(index.position(usize::MAX, Columns::Utf16), None);
@@ -117,7 +118,7 @@ fn the_project_s_sources_are_read_as_they_stand() {
 }
 
 #[test]
-fn places_are_shown_from_one() {
+fn positions_are_shown_from_one() {
     assert_eq!(LineIndex::new(b"").position(0, Columns::Bytes).unwrap().to_string(), "1:1");
     assert_eq!(LineIndex::new(b"a\nb").position(2, Columns::Bytes).unwrap().to_string(), "2:1");
 }

@@ -29,7 +29,7 @@ fn kinds_are_names_or_numbers() {
 }
 
 #[test]
-fn a_bad_header_is_told_with_its_line() {
+fn a_bad_header_is_reported_with_its_line() {
     assert_eq!(complaint(b""), "line 1: expected `devicetree tokens 1`, found the end of the file");
     assert_eq!(complaint(b"/dts-v1/;\n"), "line 1: expected `devicetree tokens 1`, found `/dts-v1/;`");
     assert_eq!(complaint(&after_first("")), "line 2: expected `entry`, `file` or `rows`, found the end of the file");
@@ -44,7 +44,7 @@ fn a_bad_header_is_told_with_its_line() {
 }
 
 #[test]
-fn a_bad_row_is_told_with_its_line() {
+fn a_bad_row_is_reported_with_its_line() {
     assert_eq!(
         complaint(&after_first("rows 2\nIdent 1\n")),
         "line 4: expected row 2 of 2, a kind and a length, found the end of the file"
@@ -63,7 +63,7 @@ fn a_bad_row_is_told_with_its_line() {
 }
 
 #[test]
-fn the_text_has_the_length_that_is_told() {
+fn the_text_has_the_length_that_is_given() {
     let expected = "line 3: expected 3 bytes after this line, up to the end of the file, found ";
     assert_eq!(complaint(&after_first("rows 0\ntext 3\na;")), format!("{expected}2"));
     assert_eq!(complaint(&after_first("rows 0\ntext 3\na;b\n")), format!("{expected}4"));

@@ -1,5 +1,5 @@
 //! A plain reading of tree rows, in which every answer is found by looking at all there is; and the crate's steps and
-//! walks against it. Used on random trees (src/navigate/tests.rs) and on files (tests/navigate.rs).
+//! walks against it.
 
 use dt_parser::{Item, Leaf, Node, TextRange, Tree};
 
@@ -35,10 +35,10 @@ fn read_subtree(
     let range = TextRange { start, end: start + width };
     known.push(Known { parent, children: Vec::new(), after: row + 1, range, depth, is_leaf: class == 1 });
     if class == 0 {
-        let mut at = start;
+        let mut end = start;
         for _ in 0..count {
-            let child = read_subtree(rows, Some(row), depth + 1, at, known);
-            at = known[child].range.end;
+            let child = read_subtree(rows, Some(row), depth + 1, end, known);
+            end = known[child].range.end;
             known[row].children.push(child);
         }
         known[row].after = known.len();
@@ -67,27 +67,27 @@ fn check_item(tree: &Tree<'_>, known: &[Known], row: usize) {
     assert_eq!(row_of(item.next_sibling()), sibling(known, row, 1));
     assert_eq!(row_of(item.prev_sibling()), sibling(known, row, -1));
     let within = |row: usize, above: usize| above <= row && row < known[above].after;
-    let leaves: Vec<usize> = (0..known.len()).filter(|at| known[*at].is_leaf && within(*at, row)).collect();
+    let leaves: Vec<usize> = (0..known.len()).filter(|other| known[*other].is_leaf && within(*other, row)).collect();
     assert_eq!(item.first_leaf().map(Leaf::row), leaves.first().copied());
     assert_eq!(item.last_leaf().map(Leaf::row), leaves.last().copied());
-    let above = (0..known.len()).rev().filter(|at| *at != row && within(row, *at));
+    let above = (0..known.len()).rev().filter(|other| *other != row && within(row, *other));
     assert!(item.nodes_above().map(Node::row).eq(above));
     if let Some(node) = item.as_node() {
-        let below = || (0..known.len()).filter(|at| *at != row && within(*at, row));
+        let below = || (0..known.len()).filter(|other| *other != row && within(*other, row));
         assert!(node.items_below().map(Item::row).eq(below()));
-        assert!(node.nodes_below().map(Node::row).eq(below().filter(|at| !known[*at].is_leaf)));
+        assert!(node.nodes_below().map(Node::row).eq(below().filter(|other| !known[*other].is_leaf)));
         assert!(node.children().map(Item::row).eq(known[row].children.iter().copied()));
         assert!(node.leaves().map(Leaf::row).eq(leaves));
-        let depths = (0..known.len()).filter(|at| within(*at, row)).map(|at| known[at].depth - known[row].depth);
-        assert!(node.walk().map(|(_, depth)| depth).eq(depths));
+        let all = (0..known.len()).filter(|other| within(*other, row));
+        assert!(node.walk().map(|(_, depth)| depth).eq(all.map(|other| known[other].depth - known[row].depth)));
     }
 }
 
 /// The nearest sibling before (-1) or after (+1), by the parent's list.
 fn sibling(known: &[Known], row: usize, step: isize) -> Option<usize> {
     let siblings = &known[known[row].parent?].children;
-    let at = siblings.iter().position(|child| *child == row).unwrap();
-    siblings.get(at.checked_add_signed(step)?).copied()
+    let index = siblings.iter().position(|child| *child == row).unwrap();
+    siblings.get(index.checked_add_signed(step)?).copied()
 }
 
 /// The node that covers a range.

@@ -1,4 +1,5 @@
 //! Cases as lines of text: `ENTRY [caps N,N,N,N,N] (text ESCAPED | toks K[:LEN],.. ESCAPED | file PATH)`.
+use dt_parser_layout::{BUFFERS, Lengths};
 
 /// Token rows: kind and length in bytes.
 pub type Rows = Vec<(u32, usize)>;
@@ -11,12 +12,13 @@ pub enum Case {
     Toks(Rows, Vec<u8>),
 }
 
-/// Lengths of the lent buffers in numbers: events, tree, lexical errors, reports, pool.
-pub type Caps = [usize; 5];
+/// Lent buffers that hold any answer.
+pub const ROOM: Lengths = [usize::MAX; BUFFERS];
 
 pub struct Line {
     pub entry: u32,
-    pub caps: Option<Caps>,
+    /// What stands after `caps`.
+    pub lengths: Option<Lengths>,
     pub case: Case,
 }
 
@@ -68,12 +70,13 @@ pub fn case_line(entry: u32, case: &Case) -> String {
     }
 }
 
-pub fn parse_caps(s: &str) -> Caps {
-    let mut caps = [usize::MAX; 5];
-    for (c, x) in caps.iter_mut().zip(s.split(',')) {
-        *c = x.parse().unwrap_or(usize::MAX)
+/// Lengths of the lent buffers; room enough where no number stands.
+pub fn parse_lengths(s: &str) -> Lengths {
+    let mut lengths = ROOM;
+    for (n, x) in lengths.iter_mut().zip(s.split(',')) {
+        *n = x.parse().unwrap_or(usize::MAX)
     }
-    caps
+    lengths
 }
 
 /// `KIND:LENGTH,..`, a length of 1 left out.
@@ -107,10 +110,10 @@ pub fn parse_line(line: &str, entry: Option<u32>) -> Option<Line> {
             (e.parse().expect("a case starts with its entry"), rest)
         }
     };
-    let mut caps = None;
+    let mut lengths = None;
     if let Some(r) = rest.strip_prefix("caps ") {
-        let (c, r) = word(r);
-        caps = Some(parse_caps(c));
+        let (numbers, r) = word(r);
+        lengths = Some(parse_lengths(numbers));
         rest = r;
     }
     let (what, rest) = word(rest);
@@ -123,5 +126,5 @@ pub fn parse_line(line: &str, entry: Option<u32>) -> Option<Line> {
         }
         _ => panic!("text, toks or file: {line}"),
     };
-    Some(Line { entry, caps, case })
+    Some(Line { entry, lengths, case })
 }

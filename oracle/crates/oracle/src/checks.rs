@@ -1,33 +1,37 @@
-//! Causes 1 to 4, read off document 01's table. Only the fixed texts are taken from the Rust.
-use crate::token::fixed_text;
-
-pub const MAX_BYTES: usize = 1_048_576;
-pub const MAX_TOKEN_NUMBERS: usize = 131_072;
+//! Causes 1 to 4, read off document 01's table. Only the kinds' numbers and fixed texts are taken from the Rust.
+use crate::token::{TokenKind, fixed_text};
+use dt_parser_layout::{self as layout, COL_TOKEN_KIND, COL_TOKEN_LENGTH, ROW_TOKEN};
 
 /// The first of causes 1 to 4 that a call meets, with its place.
 pub fn refusal(entry: u32, bytes: &[u8], tokens: &[u32]) -> Option<(u32, usize)> {
-    if !(1..=4).contains(&entry) {
-        return Some((1, 0));
+    if !(layout::ENTRY_SOURCE_FILE..=layout::ENTRY_CELLS).contains(&entry) {
+        return Some((layout::REFUSAL_UNKNOWN_ENTRY, 0));
     }
-    if bytes.len() > MAX_BYTES || tokens.len() > MAX_TOKEN_NUMBERS {
-        return Some((2, 0));
+    if bytes.len() > layout::MAX_BYTES || tokens.len() > layout::MAX_TOKEN_NUMBERS {
+        return Some((layout::REFUSAL_TOO_LONG, 0));
     }
-    let rows = tokens.chunks_exact(2).map(|row| (row[0], row[1] as usize));
-    bad_input(rows, tokens.len() % 2 == 1, bytes)
+    let rows = tokens.chunks_exact(ROW_TOKEN).map(|row| (row[COL_TOKEN_KIND], row[COL_TOKEN_LENGTH] as usize));
+    bad_input(rows, !tokens.len().is_multiple_of(ROW_TOKEN), bytes)
 }
 
 /// Cause 3 over all rows, else cause 4. `odd`: a number is left over after the last row.
 pub fn bad_input(rows: impl Iterator<Item = (u32, usize)> + Clone, odd: bool, bytes: &[u8]) -> Option<(u32, usize)> {
-    let bad = bad_row(rows.clone(), odd, bytes.len()).map(|i| (3, i));
-    bad.or_else(|| bad_text(rows, bytes).map(|i| (4, i)))
+    let bad = bad_row(rows.clone(), odd, bytes.len()).map(|i| (layout::REFUSAL_BAD_ROW, i));
+    bad.or_else(|| bad_text(rows, bytes).map(|i| (layout::REFUSAL_BAD_TEXT, i)))
+}
+
+/// A token's kind, but for the two that only leaves have; or a lexical error.
+fn is_input(kind: u32) -> bool {
+    let only_of_leaves = [TokenKind::Unrecognized, TokenKind::Name].map(|k| k as u32).contains(&kind);
+    let is_error = (layout::TOKEN_FIRST_LEX_ERROR..=layout::TOKEN_LAST_LEX_ERROR).contains(&kind);
+    kind <= TokenKind::QuestionMark as u32 && !only_of_leaves || is_error
 }
 
 /// A row with a bad kind, length 0 or an end past the input; else an odd count or a short total.
 fn bad_row(rows: impl Iterator<Item = (u32, usize)>, odd: bool, length: usize) -> Option<usize> {
     let (mut count, mut left) = (0, length);
     for (kind, width) in rows {
-        let good_kind = kind <= 60 && kind != 25 && kind != 26 || (64..=74).contains(&kind);
-        if !good_kind || width == 0 || width > left {
+        if !is_input(kind) || width == 0 || width > left {
             return Some(count);
         }
         count += 1;

@@ -1,19 +1,19 @@
 //! A run of the patched copy as document 01's numbers, and what becomes of it in buffers of given lengths.
 //! Entry, bytes and tokens were found good before (`checks`).
-use crate::case::{Caps, Rows};
+use crate::case::Rows;
 use crate::parsed::{Parsed, Report};
 use crate::parsers::patched::{self, Added};
+use dt_parser_layout::{
+    self as layout, BUFFERS, ERRORS, EVENTS, Lengths, POOL, REPORTS, ROW, ROW_EVENT, ROW_REPORT, TREES,
+};
 use parser_doc01::record::{self, Step};
-
-/// Numbers in a row of each buffer: events, tree, lexical errors, reports, pool.
-pub const ROW: Caps = [3, 4, 3, 9, 1];
 
 #[derive(Default)]
 pub struct Run {
-    /// Tree, lexical errors, reports, pool.
-    pub rows: [Vec<u32>; 4],
-    /// Rows of events, reports and pool that were pushed before a limit of refusal 5.
-    pub pushed: [usize; 3],
+    /// What an accepted call writes to each buffer; no events, which are work only.
+    pub rows: [Vec<u32>; BUFFERS],
+    /// Rows of events, reports and pool that were pushed before a limit of refusal 5, by buffer.
+    pub pushed: [usize; BUFFERS],
 }
 
 impl Run {
@@ -24,9 +24,9 @@ impl Run {
         self.pushed = pushed();
         let (parsed, added) = answer?;
         self.rows.iter_mut().for_each(Vec::clear);
-        let [tree, lexical, reports, pool] = &mut self.rows;
-        parsed.tree_rows(toks, tree);
-        lexical.extend_from_slice(&parsed.lexical);
+        let [_, trees, errors, reports, pool] = &mut self.rows;
+        parsed.tree_rows(toks, trees);
+        errors.extend_from_slice(&parsed.lexical);
         for (r, a) in parsed.reports.iter().zip(&added) {
             reports.extend(report_row(r, a, pool.len()));
             pool.extend_from_slice(a.pool.as_deref().unwrap_or(&[]))
@@ -35,21 +35,24 @@ impl Run {
     }
 
     /// Numbers that the run needs of each buffer, up to a limit of refusal 5 if it meets one.
-    pub fn needs(&self) -> Caps {
-        let [events, reports, pool] = self.pushed;
-        [ROW[0] * events, self.rows[0].len(), self.rows[1].len(), ROW[3] * reports, pool]
+    pub fn needs(&self) -> Lengths {
+        let mut needs = std::array::from_fn(|i| ROW[i] * self.pushed[i]);
+        needs[TREES] = self.rows[TREES].len();
+        needs[ERRORS] = self.rows[ERRORS].len();
+        needs
     }
 
     /// Refusal and place in buffers of these lengths; None if the call is accepted.
-    pub fn refusal(&self, caps: Caps) -> Option<(u32, usize)> {
-        let tree_fits = self.rows[0].len() <= caps[1] && self.rows[1].len() <= caps[2];
-        first_misfit(caps).or((!tree_fits).then_some((8, 0)))
+    pub fn refusal(&self, lengths: Lengths) -> Option<(u32, usize)> {
+        let fits = |i: usize| self.rows[i].len() <= lengths[i];
+        let tree_fits = fits(TREES) && fits(ERRORS);
+        first_misfit(lengths).or((!tree_fits).then_some((layout::REFUSAL_NO_TREE_ROOM, 0)))
     }
 }
 
-fn report_row(r: &Report, a: &Added, first: usize) -> [u32; 9] {
-    let message = if a.pool.is_some() { 1 } else { message_number(&r.message) };
-    let (mut hint, mut label) = (0, (0, 0));
+fn report_row(r: &Report, a: &Added, first: usize) -> [u32; ROW_REPORT] {
+    let message = if a.pool.is_some() { layout::MESSAGE_EXPECTED } else { message_number(&r.message) };
+    let (mut hint, mut label) = (layout::HINT_NONE, (0, 0));
     for (range, text) in &r.labels {
         match hint_number(text) {
             Some(n) => hint = n,
@@ -61,16 +64,16 @@ fn report_row(r: &Report, a: &Added, first: usize) -> [u32; 9] {
     [message, start, end, a.mark as u32, first as u32, count as u32, hint, label.0, label.1]
 }
 
-fn pushed() -> [usize; 3] {
-    let mut n = [0; 3];
+fn pushed() -> [usize; BUFFERS] {
+    let mut n = [0; BUFFERS];
     record::with_log(|log| {
         for step in log {
             match step {
                 Step::Limit(_) => break,
-                Step::Event(_) => n[0] += 1,
+                Step::Event(_) => n[EVENTS] += 1,
                 Step::Report(_, count) => {
-                    n[1] += 1;
-                    n[2] += count
+                    n[REPORTS] += 1;
+                    n[POOL] += count
                 }
             }
         }
@@ -79,20 +82,20 @@ fn pushed() -> [usize; 3] {
 }
 
 /// The first of refusals 5 to 7 that the recorded run meets in buffers of these lengths.
-pub fn first_misfit(caps: Caps) -> Option<(u32, usize)> {
-    let [event_len, _, _, report_len, pool_len] = caps;
+pub fn first_misfit(lengths: Lengths) -> Option<(u32, usize)> {
+    let [event_len, _, _, report_len, pool_len] = lengths;
     let (mut events, mut reports, mut pool) = (0, 0, 0);
     record::with_log(|log| {
         log.iter().find_map(|s| match s {
-            Step::Limit(mark) => Some((5, *mark)),
+            Step::Limit(mark) => Some((layout::REFUSAL_TOO_DEEP, *mark)),
             Step::Event(mark) => {
-                events += ROW[0];
-                (events > event_len).then_some((6, *mark))
+                events += ROW_EVENT;
+                (events > event_len).then_some((layout::REFUSAL_NO_EVENT_ROOM, *mark))
             }
             Step::Report(mark, count) => {
-                reports += ROW[3];
+                reports += ROW_REPORT;
                 pool += count;
-                (reports > report_len || pool > pool_len).then_some((7, *mark))
+                (reports > report_len || pool > pool_len).then_some((layout::REFUSAL_NO_REPORT_ROOM, *mark))
             }
         })
     })
@@ -100,12 +103,14 @@ pub fn first_misfit(caps: Caps) -> Option<(u32, usize)> {
 
 fn message_number(text: &str) -> u32 {
     match text {
-        "Unmatched `}`" => 2,
-        "Unmatched `;`" => 3,
-        "Unmatched `#endif`" => 4,
-        "Preprocessor conditional continuation without preceding `#if` or equivalent." => 5,
-        "Label names can't contain an `@`" => 6,
-        "Expected `}`, but reached end of input" => 7,
+        "Unmatched `}`" => layout::MESSAGE_UNMATCHED_RCURLY,
+        "Unmatched `;`" => layout::MESSAGE_UNMATCHED_SEMICOLON,
+        "Unmatched `#endif`" => layout::MESSAGE_UNMATCHED_ENDIF,
+        "Preprocessor conditional continuation without preceding `#if` or equivalent." => {
+            layout::MESSAGE_STRAY_CONTINUATION
+        }
+        "Label names can't contain an `@`" => layout::MESSAGE_AT_SIGN_IN_LABEL,
+        "Expected `}`, but reached end of input" => layout::MESSAGE_UNCLOSED_NODE,
         x => panic!("unknown message: {x}"),
     }
 }
@@ -114,12 +119,12 @@ fn message_number(text: &str) -> u32 {
 fn hint_number(text: &str) -> Option<u32> {
     Some(match text {
         "Unclosed delimiter" => return None,
-        "Recovered as unnamed property" => 1,
-        "Recovered as unnamed node" => 2,
-        "Wrap expressions in parenthesis" => 3,
-        "in cells()" => 4,
-        "Property not allowed" => 5,
-        "Recovered as expression with missing left-hand-side expression" => 6,
+        "Recovered as unnamed property" => layout::HINT_UNNAMED_PROPERTY,
+        "Recovered as unnamed node" => layout::HINT_UNNAMED_NODE,
+        "Wrap expressions in parenthesis" => layout::HINT_MISSING_PARENTHESES,
+        "in cells()" => layout::HINT_IN_CELLS,
+        "Property not allowed" => layout::HINT_PROPERTY_NOT_ALLOWED,
+        "Recovered as expression with missing left-hand-side expression" => layout::HINT_MISSING_LEFT_SIDE,
         x => panic!("unknown hint: {x}"),
     })
 }

@@ -1,9 +1,11 @@
 //! Answers as lines of text; ../../../README.md has their form.
-use crate::case::{Caps, Rows, esc};
+use crate::case::{Rows, esc};
 use crate::checks::bad_input;
-use crate::doc01::{ROW, Run, first_misfit};
+use crate::doc01::{Run, first_misfit};
 use crate::parsed::Parsed;
 use crate::parsers::{patched, rust};
+use dt_parser_layout::{COL_REPORT_POOL_COUNT, COL_REPORT_POOL_FIRST, EVENTS, Lengths, POOL, REPORTS};
+use dt_parser_layout::{ROW_ERROR, ROW_REPORT, ROW_TREE};
 use parser_doc01::record;
 use std::fmt::Write;
 
@@ -39,7 +41,7 @@ fn answer(parsed: Result<Parsed, String>, toks: &Rows, opts: &Opts, out: &mut St
     if opts.tree {
         let mut tree = vec![];
         let taken = p.tree_rows(toks, &mut tree);
-        write_rows('R', ROW[1], &tree, out);
+        write_rows('R', ROW_TREE, &tree, out);
         if taken != toks.len() {
             writeln!(out, "NOT LOSSLESS: {taken} of {} tokens", toks.len()).unwrap()
         }
@@ -47,7 +49,7 @@ fn answer(parsed: Result<Parsed, String>, toks: &Rows, opts: &Opts, out: &mut St
     if opts.pretty {
         out.push_str(&p.green.print_tree())
     }
-    write_rows('X', ROW[2], &p.lexical, out);
+    write_rows('X', ROW_ERROR, &p.lexical, out);
     for r in &p.reports {
         writeln!(out, "E {} {} {}", r.range.start, r.range.end, r.message).unwrap();
         for (t, m) in &r.labels {
@@ -76,24 +78,32 @@ fn write_rows(letter: char, size: usize, rows: &[u32], out: &mut String) {
 
 /// Line S: the most that the run reached, and what it pushed before a limit of refusal 5 stopped it.
 fn write_stats(run: &Run, out: &mut String) {
-    let (most, [events, reports, pool]) = (record::most(), run.pushed);
+    let (most, n) = (record::most(), run.pushed);
     write!(out, "S open {} pending {} steps {} ", most.open, most.pending, most.steps).unwrap();
-    writeln!(out, "events {events} reports {reports} pool {pool}").unwrap()
+    writeln!(out, "events {} reports {} pool {}", n[EVENTS], n[REPORTS], n[POOL]).unwrap()
 }
 
 /// Document 01's answer by the patched copy: REFUSED, or OK with all rows. The entry and the lengths of input and token
 /// list (causes 1 and 2) are not looked at.
-pub fn of_doc01(entry: u32, toks: &Rows, bytes: &[u8], text: &str, unit_immediate: bool, caps: Caps, out: &mut String) {
+pub fn of_doc01(
+    entry: u32,
+    toks: &Rows,
+    bytes: &[u8],
+    text: &str,
+    unit_immediate: bool,
+    lengths: Lengths,
+    out: &mut String,
+) {
     if let Some(bad) = bad_input(toks.iter().copied(), false, bytes) {
         return refused(bad, out);
     }
     let mut run = Run::default();
     let parsed = run.of(entry, toks, text, unit_immediate);
     write_stats(&run, out);
-    match (first_misfit(caps), parsed) {
+    match (first_misfit(lengths), parsed) {
         (Some(misfit), _) => refused(misfit, out),
         (None, Err(text)) => panicked(&text, out),
-        (None, Ok(_)) => match run.refusal(caps) {
+        (None, Ok(_)) => match run.refusal(lengths) {
             Some(misfit) => refused(misfit, out),
             None => accepted(&run, out),
         },
@@ -102,14 +112,14 @@ pub fn of_doc01(entry: u32, toks: &Rows, bytes: &[u8], text: &str, unit_immediat
 
 /// Lines OK, R, X and P; a report's expectations stand after a bar.
 fn accepted(run: &Run, out: &mut String) {
-    let [tree, lexical, reports, pool] = &run.rows;
-    let (trees, errors, count) = (tree.len() / ROW[1], lexical.len() / ROW[2], reports.len() / ROW[3]);
-    writeln!(out, "OK 0 0 tree {trees} lexical {errors} reports {count} pool {}", pool.len()).unwrap();
-    write_rows('R', ROW[1], tree, out);
-    write_rows('X', ROW[2], lexical, out);
-    for row in reports.chunks_exact(ROW[3]) {
-        let first = row[4] as usize;
-        let codes = &pool[first..first + row[5] as usize];
+    let [_, trees, errors, reports, pool] = &run.rows;
+    write!(out, "OK 0 0 tree {} lexical {} ", trees.len() / ROW_TREE, errors.len() / ROW_ERROR).unwrap();
+    writeln!(out, "reports {} pool {}", reports.len() / ROW_REPORT, pool.len()).unwrap();
+    write_rows('R', ROW_TREE, trees, out);
+    write_rows('X', ROW_ERROR, errors, out);
+    for row in reports.chunks_exact(ROW_REPORT) {
+        let first = row[COL_REPORT_POOL_FIRST] as usize;
+        let codes = &pool[first..first + row[COL_REPORT_POOL_COUNT] as usize];
         writeln!(out, "P{} |{}", numbers(row), numbers(codes)).unwrap()
     }
 }

@@ -1,5 +1,6 @@
 //! What a parse gave, in types that the Rust and its patched copy share.
 use crate::case::Rows;
+use dt_parser_layout::{CLASS_LEAF, CLASS_NODE};
 use dt_tools_parser::TextRange;
 use dt_tools_parser::cst::{GreenItem, GreenNode};
 use dt_tools_parser::lexer::TokenKind;
@@ -33,7 +34,7 @@ impl Parsed {
 
 /// In preorder: class, kind, width, count. A leaf's count of raw tokens is read off `toks` by its width.
 fn node_rows(n: &GreenNode, toks: &Rows, at: &mut usize, out: &mut Vec<u32>) {
-    out.extend([0, n.kind as u32, n.width as u32, n.children.len() as u32]);
+    out.extend([CLASS_NODE, n.kind as u32, n.width as u32, n.children.len() as u32]);
     for child in &n.children {
         match child {
             GreenItem::Node(n) => node_rows(n, toks, at, out),
@@ -45,7 +46,7 @@ fn node_rows(n: &GreenNode, toks: &Rows, at: &mut usize, out: &mut Vec<u32>) {
                     *at += 1;
                     count += 1
                 }
-                out.extend([1, t.kind as u32, width as u32, count])
+                out.extend([CLASS_LEAF, t.kind as u32, width as u32, count])
             }
         }
     }

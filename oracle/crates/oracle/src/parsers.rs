@@ -32,15 +32,16 @@ fn over<T>(toks: &Rows, parse: impl FnOnce() -> T + UnwindSafe) -> Result<T, Str
 macro_rules! parser {
     ($parser:ident) => {
         use crate::parsed::{Parsed, Report};
+        use dt_parser_layout::{ENTRY_CELLS, ENTRY_PROP_VALUES, ENTRY_REFERENCE_NOAMP, ENTRY_SOURCE_FILE};
         use $parser::parser::{Entrypoint, Parse};
 
         /// The entry with that number, 1 to 4.
         pub fn entrypoint(entry: u32) -> Entrypoint {
             match entry {
-                1 => Entrypoint::SourceFile,
-                2 => Entrypoint::ReferenceNoamp,
-                3 => Entrypoint::PropValues,
-                4 => Entrypoint::Cells,
+                ENTRY_SOURCE_FILE => Entrypoint::SourceFile,
+                ENTRY_REFERENCE_NOAMP => Entrypoint::ReferenceNoamp,
+                ENTRY_PROP_VALUES => Entrypoint::PropValues,
+                ENTRY_CELLS => Entrypoint::Cells,
                 _ => panic!("entry 1 to 4"),
             }
         }

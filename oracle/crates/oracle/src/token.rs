@@ -1,6 +1,8 @@
 //! Tokens as document 01 numbers them, from the Rust and back. Both parsers have the same tokens.
 use crate::case::{Case, Rows};
-use dt_tools_parser::lexer::{LexError, Token, TokenKind, lex};
+use dt_parser_layout::TOKEN_FIRST_LEX_ERROR;
+pub use dt_tools_parser::lexer::{LexError, TokenKind};
+use dt_tools_parser::lexer::{Token, lex};
 use logos::Logos;
 use std::rc::Rc;
 
@@ -18,16 +20,13 @@ const LEX_ERRORS: [LexError; 11] = [
     LexError::Default,
 ];
 
-/// The number of the first lexical error; lower ones are kinds.
-const FIRST_LEX_ERROR: u32 = 64;
-
 /// Every token kind; its number is its place.
 pub fn kinds() -> &'static [TokenKind] {
     TokenKind::variants()
 }
 
-pub fn lexical_code(e: LexError) -> u32 {
-    FIRST_LEX_ERROR + e as u32
+pub const fn lexical_code(e: LexError) -> u32 {
+    TOKEN_FIRST_LEX_ERROR + e as u32
 }
 
 pub fn code(k: &Result<TokenKind, LexError>) -> u32 {
@@ -38,7 +37,10 @@ pub fn code(k: &Result<TokenKind, LexError>) -> u32 {
 }
 
 pub fn kind(c: u32) -> Result<TokenKind, LexError> {
-    if c >= FIRST_LEX_ERROR { Err(LEX_ERRORS[(c - FIRST_LEX_ERROR) as usize]) } else { Ok(kinds()[c as usize]) }
+    match c.checked_sub(TOKEN_FIRST_LEX_ERROR) {
+        Some(error) => Err(LEX_ERRORS[error as usize]),
+        None => Ok(kinds()[c as usize]),
+    }
 }
 
 /// The text that every token of a kind has, if the Rust fixes it.
@@ -68,10 +70,10 @@ pub fn rows(c: &Case) -> (Rows, String) {
 }
 
 fn cuts_no_character(rows: &Rows, text: &str) -> bool {
-    let mut at = 0;
+    let mut end = 0;
     rows.iter().all(|x| {
-        at += x.1;
-        text.is_char_boundary(at)
+        end += x.1;
+        text.is_char_boundary(end)
     })
 }
 

@@ -1,5 +1,6 @@
 //! Hand-written stand-in for ast.rs, with only what parser/mod.rs names (`Parse::source_file`).
-//! The real one needs crates that are not available here, and no parse goes through it.
+//! The real one needs crates which are not in the repository: the build reaches no registry (docs/DECISIONS.md,
+//! section 7). No parse goes through it.
 use crate::cst::{NodeKind, RedNode};
 use std::sync::Arc;
 

@@ -1,10 +1,7 @@
 //! What document 01 adds to the Rust, recorded while the patched parser runs. Hand-written.
 use crate::parser::{Event, Expected};
+use dt_parser_layout::{self as layout, MAX_EXPECTATIONS, MAX_OPEN_CALLS};
 use std::cell::{Cell, RefCell};
-
-/// Open calls and pending expectations that document 01 allows (refusal 5).
-const MOST_OPEN: usize = 64;
-const MOST_PENDING: usize = 256;
 
 /// What the run does, in order. Refusals 5 to 7 under given buffer sizes follow from it.
 pub enum Step {
@@ -85,7 +82,7 @@ impl Open {
         let n = OPEN.get() + 1;
         OPEN.set(n);
         MOST.with_borrow_mut(|m| m.open = m.open.max(n));
-        if n > MOST_OPEN {
+        if n > MAX_OPEN_CALLS {
             log(Step::Limit(MARK.get()))
         }
         Open
@@ -130,7 +127,7 @@ impl Pending {
     pub(crate) fn push(&mut self, e: Expected) {
         self.0.push(e);
         MOST.with_borrow_mut(|m| m.pending = m.pending.max(self.0.len()));
-        if self.0.len() > MOST_PENDING {
+        if self.0.len() > MAX_EXPECTATIONS {
             log(Step::Limit(MARK.get()))
         }
     }
@@ -154,13 +151,13 @@ impl Pending {
 fn code(e: &Expected) -> u32 {
     match e {
         Expected::Kind(k) => *k as u32,
-        Expected::PreprocessorDirective => 101,
-        Expected::PreprocessorDefinedOperator => 102,
-        Expected::Value => 103,
-        Expected::Cell => 104,
-        Expected::LabelName => 105,
-        Expected::InfixOperator => 106,
-        Expected::PrefixOperator => 107,
-        Expected::End => 108,
+        Expected::PreprocessorDirective => layout::EXPECTED_PREPROCESSOR_DIRECTIVE,
+        Expected::PreprocessorDefinedOperator => layout::EXPECTED_PREPROCESSOR_DEFINED_OPERATOR,
+        Expected::Value => layout::EXPECTED_VALUE,
+        Expected::Cell => layout::EXPECTED_CELL,
+        Expected::LabelName => layout::EXPECTED_LABEL_NAME,
+        Expected::InfixOperator => layout::EXPECTED_INFIX_OPERATOR,
+        Expected::PrefixOperator => layout::EXPECTED_PREFIX_OPERATOR,
+        Expected::End => layout::EXPECTED_END,
     }
 }

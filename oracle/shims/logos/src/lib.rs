@@ -1,5 +1,5 @@
-//! Shim of logos (hand-written). The longest match over the rules of the derive, ties by logos' priority. A place where no rule
-//! matches is one error token of one character with `Error::default()`.
+//! Shim of logos (hand-written). The longest match over the rules of the derive, ties by logos' priority. A character
+//! at which no rule matches is one error token with `Error::default()`.
 //! For the oracle, `inject` makes the next lexers give a fixed token list in place of lexing.
 pub use automaton::Dfa;
 pub use logos_derive::Logos;

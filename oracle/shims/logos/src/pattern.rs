@@ -1,5 +1,6 @@
-//! The patterns that lexer.rs has, read as they are written: classes, sequences, alternations, `*`, `+`, `?` and groups.
-//! Over bytes: those of 128 and above belong to every negated class, which is exact for the patterns of lexer.rs.
+//! The patterns that lexer.rs has, read as they are written: classes, sequences, alternations, `*`, `+`, `?` and
+//! groups. Over bytes: those of 128 and above belong to every negated class, which is exact for the patterns of
+//! lexer.rs.
 
 pub type Class = [bool; 256];
 

@@ -1,5 +1,5 @@
-//! Shim of logos' derive (hand-written): collects the `#[token]` and `#[regex]` attributes with their callbacks, in order, and
-//! hands the patterns as they are written in lexer.rs to the automaton of the logos shim.
+//! Shim of logos' derive (hand-written): collects the `#[token]` and `#[regex]` attributes with their callbacks, in
+//! order, and hands the patterns as they are written in lexer.rs to the automaton of the logos shim.
 use proc_macro::{Group, TokenStream, TokenTree};
 
 /// An attribute of a variant: literal or not, its pattern, its callback.

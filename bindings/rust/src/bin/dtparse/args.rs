@@ -1,4 +1,4 @@
-//! The command's words.
+//! The command's arguments.
 
 use dt_parser::Entrypoint;
 use std::ffi::OsString;
@@ -22,8 +22,8 @@ Without any of them: --reports --nodes for a source file, --reports --tree for a
   --help         this text
 
 Exit status: 0 no report and no lexical error; 1 there are some; 2 the call was refused, or the
-file or the words are bad. A note tells of a part that was not understood and that the parser
-makes no report for; it does not change the status.
+file or an argument is invalid. A note shows a part that was not understood and for which the
+parser makes no report; it does not change the status.
 ";
 
 /// A part of the output.
@@ -49,28 +49,28 @@ pub enum Asked {
     Show(Args),
 }
 
-pub fn read(words: &[OsString]) -> Result<Asked, String> {
+pub fn read(given: &[OsString]) -> Result<Asked, String> {
     let mut args = Args { file: String::new(), views: Vec::new(), entry: None, color: None };
     let mut file = None;
-    let mut rest = words.iter().map(|word| word.to_str().ok_or_else(|| format!("{word:?} is no UTF-8")));
+    let mut rest = given.iter().map(|one| one.to_str().ok_or_else(|| format!("{one:?} is not UTF-8")));
     let mut options = true;
-    while let Some(word) = rest.next() {
-        let word = word?;
-        let (option, mut value) = match word.split_once('=') {
+    while let Some(argument) = rest.next() {
+        let argument = argument?;
+        let (option, mut value) = match argument.split_once('=') {
             Some((option, value)) if options && option.starts_with("--") => (option, Some(value)),
-            _ => (word, None),
+            _ => (argument, None),
         };
         let mut value = || match value.take() {
             Some(value) => Ok(value),
-            None => rest.next().unwrap_or_else(|| Err(format!("{option} needs a word after it"))),
+            None => rest.next().unwrap_or_else(|| Err(format!("{option} needs a value after it"))),
         };
         match option {
-            _ if !options || option == "-" || !option.starts_with('-') => set(&mut file, word)?,
+            _ if !options || option == "-" || !option.starts_with('-') => set(&mut file, argument)?,
             "--" => options = false,
             "--help" | "-h" => return Ok(Asked::Help),
             "--entry" => args.entry = Some(entry(value()?)?),
             "--color" => args.color = color(value()?)?,
-            _ if word != option => return Err(format!("{word} is not an option")),
+            _ if argument != option => return Err(format!("{argument} is not an option")),
             _ => args.views.push(view(option)?),
         }
     }
@@ -78,9 +78,9 @@ pub fn read(words: &[OsString]) -> Result<Asked, String> {
     Ok(Asked::Show(args))
 }
 
-fn set(file: &mut Option<String>, word: &str) -> Result<(), String> {
-    match file.replace(word.to_string()) {
-        Some(first) => Err(format!("one file at a time, not {first} and {word}")),
+fn set(file: &mut Option<String>, name: &str) -> Result<(), String> {
+    match file.replace(name.to_string()) {
+        Some(first) => Err(format!("one file at a time, not {first} and {name}")),
         None => Ok(()),
     }
 }
@@ -112,13 +112,13 @@ fn color(when: &str) -> Result<Option<bool>, String> {
 mod tests {
     use super::*;
 
-    fn asked(words: &str) -> Result<Asked, String> {
-        let words: Vec<OsString> = words.split_whitespace().map(OsString::from).collect();
-        read(&words)
+    fn asked(line: &str) -> Result<Asked, String> {
+        let given: Vec<OsString> = line.split_whitespace().map(OsString::from).collect();
+        read(&given)
     }
 
-    fn args(words: &str) -> Args {
-        match asked(words) {
+    fn args(line: &str) -> Args {
+        match asked(line) {
             Ok(Asked::Show(args)) => args,
             other => panic!("{other:?}"),
         }
@@ -137,17 +137,17 @@ mod tests {
     }
 
     #[test]
-    fn bad_words_are_told() {
-        for (words, why) in [
+    fn invalid_arguments_are_reported() {
+        for (line, why) in [
             ("", "which file?"),
             ("a b", "one file at a time, not a and b"),
             ("a --trees", "--trees is not an option"),
             ("a --tree=1", "--tree=1 is not an option"),
-            ("a --entry", "--entry needs a word after it"),
+            ("a --entry", "--entry needs a value after it"),
             ("a --entry Name", "--entry is SourceFile, ReferenceNoamp, PropValues or Cells, not Name"),
             ("a --color blue", "--color is auto, always or never, not blue"),
         ] {
-            assert_eq!(asked(words), Err(why.to_string()));
+            assert_eq!(asked(line), Err(why.to_string()));
         }
     }
 }

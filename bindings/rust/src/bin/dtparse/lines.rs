@@ -46,7 +46,7 @@ mod tests {
     }
 
     #[test]
-    fn the_end_of_a_text_has_a_place() {
+    fn the_end_of_a_text_has_a_position() {
         let position = |text: &[u8], offset| Lines::new(text).position(offset).to_string();
         assert_eq!(position(b"", 0), "1:1");
         assert_eq!(position(b"a\n", 1), "1:2");
@@ -59,7 +59,7 @@ mod tests {
         assert_eq!(Lines::new("é\tx".as_bytes()).position(3).to_string(), "1:3");
         assert_eq!(Lines::new(b"\xff\xfex").position(2).to_string(), "1:3");
         let lines = Lines::new("éé\néé".as_bytes());
-        let places = [2, 4, 0, 7, 9].map(|offset| lines.position(offset).to_string());
-        assert_eq!(places, ["1:2", "1:3", "1:1", "2:2", "2:3"]);
+        let positions = [2, 4, 0, 7, 9].map(|offset| lines.position(offset).to_string());
+        assert_eq!(positions, ["1:2", "1:3", "1:1", "2:2", "2:3"]);
     }
 }

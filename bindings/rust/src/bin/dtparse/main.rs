@@ -20,12 +20,12 @@ use style::Style;
 
 /// There is a report or a lexical error.
 const STATUS_REPORTS: u8 = 1;
-/// There is no answer: the call is refused, the file is bad, or the words are.
+/// There is no answer: the call is refused, or the file or an argument is invalid.
 const STATUS_NO_ANSWER: u8 = 2;
 
 fn main() -> ExitCode {
-    let words: Vec<_> = std::env::args_os().skip(1).collect();
-    match args::read(&words) {
+    let given: Vec<_> = std::env::args_os().skip(1).collect();
+    match args::read(&given) {
         Ok(Asked::Help) => print(args::HELP, ExitCode::SUCCESS),
         Ok(Asked::Show(args)) => match show(&args) {
             Ok((text, clean)) => print(&text, ExitCode::from(if clean { 0 } else { STATUS_REPORTS })),
@@ -49,7 +49,7 @@ fn show(args: &Args) -> Result<(String, bool), String> {
 
 /// What the parts of the output are made from.
 struct Page<'p> {
-    /// The text's name, for places.
+    /// The text's name, for positions.
     name: String,
     lines: Lines<'p>,
     parse: &'p Parse<'p>,

@@ -25,8 +25,8 @@ pub fn print(page: &Page) -> String {
         if errors == 0 {
             out += &format!("{number} {name}\n");
         } else {
-            let told = page.style.paint(Ink::Error, &format!("<- {}", plural(errors, "error", "errors")));
-            out += &format!("{number} {name:widest$}  {told}\n");
+            let count = page.style.paint(Ink::Error, &format!("<- {}", plural(errors, "error", "errors")));
+            out += &format!("{number} {name:widest$}  {count}\n");
         }
     }
     out
@@ -48,7 +48,7 @@ fn errors_inside(page: &Page, nodes: &[Node]) -> Vec<usize> {
     let index: HashMap<Node, usize> = nodes.iter().copied().zip(0..).collect();
     let mut counts = vec![0; nodes.len()];
     for offset in reports.chain(lexical) {
-        // The last node that starts before the place, or the nearest one around it that has the place.
+        // The last node that starts before the offset, or the nearest one around it that has the offset.
         let before = nodes.partition_point(|node| node.range().start <= offset);
         let last = nodes[..before].last().copied();
         let mut around = last.into_iter().chain(last.into_iter().flat_map(Node::nodes_above));

@@ -1,36 +1,37 @@
 //! Reports, lexical errors and what has no report, each with its source lines; and the summary.
 
 use crate::Page;
-use crate::snippet::{Mark, snippet};
+use crate::snippet::{Underline, snippet};
 use crate::style::Ink;
 use dt_parser::{LexicalError, Node, NodeKind, Report, TextRange};
 
 const UNREPORTED: &str = "Not understood. The parser makes no report for this part; often a `;` is missing after it";
 
-/// Something to tell: its heading, and the places with what is said there. The first place is its own.
+/// A problem to print: its heading, and the ranges with what is said there. The first range is its own.
 struct Problem {
     ink: Ink,
     text: String,
-    marks: Vec<Mark>,
+    underlines: Vec<Underline>,
 }
 
 impl Problem {
     fn new(ink: Ink, text: String, range: TextRange) -> Self {
-        Self { ink, text, marks: vec![Mark { range, text: String::new(), ink }] }
+        Self { ink, text, underlines: vec![Underline { range, text: String::new(), ink }] }
     }
 
     fn of_lexical_error(error: &LexicalError) -> Self {
         Self::new(Ink::Error, error.to_string(), error.range)
     }
 
-    /// A hint stands after the report's own mark, the unclosed brace is marked apart.
+    /// A hint stands after the report's own underline; the unclosed brace has one of its own.
     fn of_report(report: &Report) -> Self {
         let mut problem = Self::new(Ink::Error, report.text(), report.range);
         for label in report.labels() {
             if label.range == report.range && report.hint.is_some() {
-                problem.marks[0].text = label.text.to_string();
+                problem.underlines[0].text = label.text.to_string();
             } else {
-                problem.marks.push(Mark { range: label.range, text: label.text.to_string(), ink: Ink::Frame });
+                let (range, text) = (label.range, label.text.to_string());
+                problem.underlines.push(Underline { range, text, ink: Ink::Frame });
             }
         }
         problem
@@ -47,15 +48,15 @@ pub fn print(page: &Page) -> String {
     let mut problems: Vec<Problem> = parse.lexical_errors.iter().map(Problem::of_lexical_error).collect();
     problems.extend(parse.reports.iter().map(Problem::of_report));
     problems.extend(parse.unreported().iter().map(Problem::of_unreported));
-    problems.sort_by_key(|problem| problem.marks[0].range.start);
-    let told: Vec<String> = problems.iter().map(|problem| print_one(problem, page)).collect();
-    told.join("\n")
+    problems.sort_by_key(|problem| problem.underlines[0].range.start);
+    let printed: Vec<String> = problems.iter().map(|problem| print_one(problem, page)).collect();
+    printed.join("\n")
 }
 
 fn print_one(problem: &Problem, page: &Page) -> String {
     let word = if problem.ink == Ink::Note { "note" } else { "error" };
     let heading = page.style.paint(Ink::Strong, &format!(": {}", problem.text));
-    let lines = snippet(&page.name, &page.lines, &problem.marks, page.style);
+    let lines = snippet(&page.name, &page.lines, &problem.underlines, page.style);
     format!("{}{heading}\n{lines}", page.style.paint(problem.ink, word))
 }
 

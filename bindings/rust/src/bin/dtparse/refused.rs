@@ -4,7 +4,7 @@ use crate::lines::Lines;
 use dt_parser::rowsfile::RowsFile;
 use dt_parser::{Error, Input, Refusal, Token};
 
-/// What is wrong with the file, where a refusal tells it.
+/// What is wrong with the file, where a refusal says it.
 pub fn explain(path: &str, file: &RowsFile, why: Error) -> String {
     match why {
         Error::Refused(refusal) => format!("{path}: refusal {}: {}", refusal.number(), reason(file, refusal)),
@@ -38,8 +38,9 @@ fn reason(file: &RowsFile, refusal: Refusal) -> String {
         },
         Refusal::TooDeep(mark) => {
             let lines = Lines::new(input.text);
-            let at = mark.checked_sub(1).and_then(|last| input.ranges().nth(last)).map_or(0, |range| range.start);
-            format!("{refusal}, the last of them at {} of the text", lines.position(at))
+            let last = mark.checked_sub(1).and_then(|last| input.ranges().nth(last));
+            let position = lines.position(last.map_or(0, |range| range.start));
+            format!("{refusal}, the last of them at {position} of the text")
         }
         _ => refusal.to_string(),
     }

@@ -31,7 +31,7 @@ pub fn plain(text: &str) -> String {
     shown(text.as_bytes()).text
 }
 
-/// Adds a character and tells its width.
+/// Adds a character and returns its width.
 fn push(out: &mut String, character: char, column: usize) -> usize {
     let (character, width) = match character {
         '\t' => {
@@ -75,7 +75,7 @@ mod tests {
     }
 
     #[test]
-    fn bytes_that_are_no_text_are_seen() {
+    fn bytes_that_are_not_text_are_seen() {
         let line = shown(b"\xff\xfe\xe9\x80;");
         assert_eq!(line.text, "\u{fffd}\u{fffd}\u{fffd}\u{fffd};");
         assert_eq!(line.columns, [0, 1, 2, 3, 4, 5]);

@@ -1,40 +1,40 @@
-//! Source lines with marks under them.
+//! Source lines with ranges underlined.
 
 use crate::lines::Lines;
 use crate::shown::shown;
 use crate::style::{Ink, Style};
 use dt_parser::TextRange;
 
-/// Lines of more bytes than this are shown in part: so many bytes before a mark, and so many from it on.
+/// Lines of more bytes than this are shown in part: so many bytes before an underline, and so many from it on.
 const LONG: usize = 240;
 const BEFORE: usize = 60;
 const AFTER: usize = 100;
 
-/// A range to mark, and what to say there.
-pub struct Mark {
+/// A range to underline, and what to say there.
+pub struct Underline {
     pub range: TextRange,
     pub text: String,
     pub ink: Ink,
 }
 
-/// A mark's part on one line: bytes of that line.
-struct Piece<'m> {
+/// An underline's part on one line: bytes of that line.
+struct Piece<'u> {
     line: usize,
     from: usize,
     to: usize,
-    text: &'m str,
+    text: &'u str,
     ink: Ink,
 }
 
-/// The lines that the marks lie on, with the place of the first mark above them.
-pub fn snippet(name: &str, lines: &Lines, marks: &[Mark], style: Style) -> String {
-    let mut pieces: Vec<Piece> = marks.iter().flat_map(|mark| pieces(mark, lines)).collect();
+/// The lines that have underlines, with the position of the first underline above them.
+pub fn snippet(name: &str, lines: &Lines, underlines: &[Underline], style: Style) -> String {
+    let mut pieces: Vec<Piece> = underlines.iter().flat_map(|underline| pieces(underline, lines)).collect();
     pieces.sort_by_key(|piece| piece.line);
     let last = pieces.last().map_or(0, |piece| piece.line);
     let gutter = (last + 1).to_string().len();
-    let place = lines.position(marks.first().map_or(0, |mark| mark.range.start));
+    let position = lines.position(underlines.first().map_or(0, |first| first.range.start));
     let frame = |text: String| style.paint(Ink::Frame, &text);
-    let mut out = format!("{} {name}:{place}\n", frame(format!("{:gutter$}-->", "")));
+    let mut out = format!("{} {name}:{position}\n", frame(format!("{:gutter$}-->", "")));
     out += &format!("{}\n", frame(format!("{:gutter$} |", "")));
     let mut before = None;
     for group in pieces.chunk_by(|a, b| a.line == b.line && lines.line(a.line).len() <= LONG) {
@@ -44,19 +44,19 @@ pub fn snippet(name: &str, lines: &Lines, marks: &[Mark], style: Style) -> Strin
         }
         before = Some(line);
         let number = frame(format!("{:>gutter$} |", line + 1));
-        out += &marked(group, lines.line(line), &number, &frame(format!("{:gutter$} |", "")), style);
+        out += &underlined(group, lines.line(line), &number, &frame(format!("{:gutter$} |", "")), style);
     }
     out
 }
 
-/// One line with the marks under it.
-fn marked(group: &[Piece], bytes: &[u8], number: &str, frame: &str, style: Style) -> String {
+/// One line with the signs under it.
+fn underlined(group: &[Piece], bytes: &[u8], number: &str, frame: &str, style: Style) -> String {
     let part = part(bytes, group[0].from);
     let line = shown(&bytes[part.start..part.end]);
     let (left, right) = (if part.start > 0 { "…" } else { "" }, if part.end < bytes.len() { "…" } else { "" });
     let mut out = format!("{number} {left}{}{right}\n", line.text).replace(" \n", "\n");
     for piece in group {
-        let column = |at: usize| line.columns[at.clamp(part.start, part.end) - part.start];
+        let column = |byte: usize| line.columns[byte.clamp(part.start, part.end) - part.start];
         let (from, to) = (column(piece.from), column(piece.to));
         let sign = if piece.ink == Ink::Frame { "-" } else { "^" };
         let signs = sign.repeat((to.saturating_sub(from)).max(1));
@@ -67,29 +67,30 @@ fn marked(group: &[Piece], bytes: &[u8], number: &str, frame: &str, style: Style
     out
 }
 
-/// The bytes of a line that are shown: all, or some around a mark, cut between characters.
-fn part(bytes: &[u8], mark: usize) -> TextRange {
+/// The bytes of a line that are shown: all, or some around where an underline starts, cut between characters.
+fn part(bytes: &[u8], from: usize) -> TextRange {
     if bytes.len() <= LONG {
         return TextRange { start: 0, end: bytes.len() };
     }
-    let boundary = |at: usize| (at..bytes.len()).find(|at| bytes[*at] & 0xc0 != 0x80).unwrap_or(bytes.len());
-    TextRange { start: boundary(mark.saturating_sub(BEFORE)), end: boundary((mark + AFTER).min(bytes.len())) }
+    let is_first = |byte: &usize| bytes[*byte] & 0xc0 != 0x80;
+    let boundary = |byte: usize| (byte..bytes.len()).find(is_first).unwrap_or(bytes.len());
+    TextRange { start: boundary(from.saturating_sub(BEFORE)), end: boundary((from + AFTER).min(bytes.len())) }
 }
 
-/// A mark over several lines is its first line's part and its last one's.
-fn pieces<'m>(mark: &'m Mark, lines: &Lines) -> Vec<Piece<'m>> {
-    let TextRange { start, end } = mark.range;
+/// An underline over several lines is its first line's part and its last one's.
+fn pieces<'u>(underline: &'u Underline, lines: &Lines) -> Vec<Piece<'u>> {
+    let TextRange { start, end } = underline.range;
     let (first, last) = (lines.line_of(start), lines.line_of(end.saturating_sub(1).max(start)));
     let within = |line: usize, offset: usize| (offset - lines.start(line)).min(lines.line(line).len());
-    let piece = |line, from, to, text| Piece { line, from, to, text, ink: mark.ink };
+    let piece = |line, from, to, text| Piece { line, from, to, text, ink: underline.ink };
     if first == last {
-        return vec![piece(first, within(first, start), within(first, end), mark.text.as_str())];
+        return vec![piece(first, within(first, start), within(first, end), underline.text.as_str())];
     }
     let indent = lines.line(last).iter().take_while(|byte| byte.is_ascii_whitespace()).count();
     let to = within(last, end);
     vec![
         piece(first, within(first, start), lines.line(first).len(), ""),
-        piece(last, indent.min(to), to, mark.text.as_str()),
+        piece(last, indent.min(to), to, underline.text.as_str()),
     ]
 }
 
@@ -98,12 +99,12 @@ mod tests {
     use super::*;
 
     fn one(text: &[u8], start: usize, end: usize) -> String {
-        let mark = Mark { range: TextRange { start, end }, text: "here".into(), ink: Ink::Error };
-        snippet("x", &Lines::new(text), &[mark], Style::new(false))
+        let underline = Underline { range: TextRange { start, end }, text: "here".into(), ink: Ink::Error };
+        snippet("x", &Lines::new(text), &[underline], Style::new(false))
     }
 
     #[test]
-    fn marks_stand_under_what_they_mark() {
+    fn signs_stand_under_their_range() {
         assert_eq!(one(b"a\n\tbc;\n", 3, 5), " --> x:2:2\n  |\n2 |     bc;\n  |     ^^ here\n");
         assert_eq!(one(b"", 0, 0), " --> x:1:1\n  |\n1 |\n  | ^ here\n");
         assert_eq!(one(b"ab\r\nc", 2, 4), " --> x:1:3\n  |\n1 | ab\n  |   ^ here\n");
@@ -127,9 +128,9 @@ mod tests {
 
     #[test]
     fn a_label_has_its_own_line() {
-        let mark = |start, end, ink| Mark { range: TextRange { start, end }, text: "t".into(), ink };
-        let marks = [mark(5, 6, Ink::Error), mark(1, 2, Ink::Frame)];
-        let said = snippet("x", &Lines::new(b"/{\na;\n"), &marks, Style::new(false));
+        let underline = |start, end, ink| Underline { range: TextRange { start, end }, text: "t".into(), ink };
+        let both = [underline(5, 6, Ink::Error), underline(1, 2, Ink::Frame)];
+        let said = snippet("x", &Lines::new(b"/{\na;\n"), &both, Style::new(false));
         assert_eq!(said, " --> x:2:3\n  |\n1 | /{\n  |  - t\n2 | a;\n  |   ^ t\n");
     }
 }

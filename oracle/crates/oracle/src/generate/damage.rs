@@ -36,7 +36,7 @@ pub fn tokens(r: &mut Rng, t: &mut Toks, times: usize) {
     }
 }
 
-/// One damage to an ASCII text.
+/// Damages an ASCII text at one place.
 pub fn bytes(r: &mut Rng, s: &mut Vec<u8>) {
     let n = s.len();
     if n == 0 {
@@ -54,8 +54,8 @@ pub fn bytes(r: &mut Rng, s: &mut Vec<u8>) {
         }
         2 => {
             let cut = s[i..(i + r.n(30)).min(n)].to_vec();
-            let at = r.n(n);
-            s.splice(at..at, cut);
+            let to = r.n(n);
+            s.splice(to..to, cut);
         }
         3 if r.p(30) => s.truncate(i),
         4 => {

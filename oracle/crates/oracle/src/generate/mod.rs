@@ -2,13 +2,14 @@
 use crate::case::Case;
 use crate::rng::{STEP, SplitMix64};
 use crate::token::fixed_text;
+use dt_parser_layout::{ENTRY_CELLS, ENTRY_SOURCE_FILE, TOKEN_FIRST_LEX_ERROR, TOKEN_LAST_LEX_ERROR};
 
 mod big;
 mod damage;
 mod grammar;
 mod samples;
 pub use big::big;
-pub use samples::{SAMPLES, SNIPPETS};
+pub use samples::{ERROR_SAMPLE, SAMPLES, SNIPPETS};
 
 /// What the cases are drawn from.
 pub struct Rng(SplitMix64);
@@ -46,7 +47,7 @@ fn toks(t: &Toks) -> Case {
     Case::Toks(t.iter().map(|x| (x.0, x.1.len())).collect(), text(t).into_bytes())
 }
 
-/// What the grammar would give, with up to `most` damages.
+/// What the grammar would give, damaged at up to `most` places.
 fn damaged(r: &mut Rng, entry: u32, most: usize) -> Toks {
     let mut t = grammar::tokens(r, entry);
     let times = 1 + r.n(most);
@@ -61,14 +62,20 @@ fn random_tokens(r: &mut Rng) -> Case {
     if r.p(50) { toks(&t) } else { Case::Text(text(&t)) }
 }
 
+/// A random lexical error's number.
+fn lexical_error(r: &mut Rng) -> u32 {
+    TOKEN_FIRST_LEX_ERROR + r.n((TOKEN_LAST_LEX_ERROR - TOKEN_FIRST_LEX_ERROR + 1) as usize) as u32
+}
+
 /// Rows that no lexer gives: any kind with any length, error kinds 64 to 74, runs of trivia. Fixed texts stay right.
 fn unlexable(r: &mut Rng) -> Case {
     let (mut rows, mut bytes) = (vec![], vec![]);
     for _ in 0..r.n(16) {
+        // none but the last is an error
         let (kind, text) = r.pick(&SAMPLES[..SAMPLES.len() - 1]);
         if r.p(25) {
             let n = 1 + r.n(4);
-            rows.push((64 + r.n(11) as u32, n));
+            rows.push((lexical_error(r), n));
             bytes.extend((0..n).map(|_| r.pick(b"?x ;")))
         } else if fixed_text(kind).is_some() {
             rows.push((kind, text.len()));
@@ -87,7 +94,7 @@ fn fragment(r: &mut Rng, file: &str, entry: u32) -> Vec<u8> {
     let value = |l| str::split_once(l, '=').map(|x| x.1.trim());
     let values: Vec<&str> = file.split([';', '\n']).filter_map(value).collect();
     let mut s = if values.is_empty() { b"<1 2>, \"x\"".to_vec() } else { r.pick(&values).as_bytes().to_vec() };
-    if entry == 4 {
+    if entry == ENTRY_CELLS {
         s.retain(|c| !b"<>".contains(c))
     }
     s
@@ -96,7 +103,7 @@ fn fragment(r: &mut Rng, file: &str, entry: u32) -> Vec<u8> {
 /// A damaged realistic text.
 fn realistic(r: &mut Rng, entry: u32) -> Case {
     let file = r.pick(SNIPPETS);
-    let mut s = if entry != 1 && r.p(70) { fragment(r, file, entry) } else { file.as_bytes().to_vec() };
+    let mut s = if entry != ENTRY_SOURCE_FILE && r.p(70) { fragment(r, file, entry) } else { file.as_bytes().to_vec() };
     for _ in 0..r.n(5) {
         damage::bytes(r, &mut s)
     }

@@ -1,18 +1,39 @@
 //! Texts that random cases are made of.
+use crate::token::{LexError, TokenKind, TokenKind::*, lexical_code};
 
-/// (kind, text) of a token as the lexer would give it on its own.
+/// Tokens as the lexer would give them on their own: each kind with one text or several.
 #[rustfmt::skip]
-pub const SAMPLES: &[(u32, &str)] = &[
-    (0, " "), (0, "\n"), (0, "\t"), (0, "\\\n"), (1, "/* c */"), (2, ","), (3, "// x"), (4, "#if A"), (5, "#ifdef A"),
-    (6, "#ifndef A"), (7, "#elif B"), (8, "#elifdef B"), (9, "#elifndef B"), (10, "#else"), (11, "#endif"),
-    (12, "#pragma p"), (13, "#define X 1"), (14, "#undef X"), (15, "#include <a.h>"), (16, "#error e"),
-    (17, "/bits/"), (18, "/omit-if-no-ref/"), (19, "/include/"), (20, "/memreserve/"), (21, "/delete-node/"),
-    (22, "/delete-property/"), (23, "/dts-v1/"), (24, "/plugin/"), (27, "a"), (27, "foo"), (27, "#cells"), (28, "="),
-    (29, ";"), (30, "&"), (31, ":"), (32, "@"), (33, "\"s\""), (34, "'c'"), (35, "1"), (35, "0x10"), (36, "[00 ff]"),
-    (37, "{"), (38, "}"), (39, "<"), (40, ">"), (41, "("), (42, ")"), (43, "+"), (44, "-"), (45, "*"), (46, "/"),
-    (47, "%"), (48, "|"), (49, "^"), (50, "~"), (51, "<<"), (52, ">>"), (53, "&&"), (54, "||"), (55, "!"), (56, "<="),
-    (57, ">="), (58, "=="), (59, "!="), (60, "?"), (74, "\\"),
+const OF_KINDS: [(TokenKind, &str); 65] = [
+    (Whitespace, " "), (Whitespace, "\n"), (Whitespace, "\t"), (Whitespace, "\\\n"), (BlockComment, "/* c */"),
+    (Comma, ","), (LineComment, "// x"), (IfDirective, "#if A"), (IfdefDirective, "#ifdef A"),
+    (IfndefDirective, "#ifndef A"), (ElifDirective, "#elif B"), (ElifdefDirective, "#elifdef B"),
+    (ElifndefDirective, "#elifndef B"), (ElseDirective, "#else"), (EndifDirective, "#endif"),
+    (PragmaDirective, "#pragma p"), (DefineDirective, "#define X 1"), (UndefDirective, "#undef X"),
+    (IncludeDirective, "#include <a.h>"), (ErrorDirective, "#error e"), (BitsDirective, "/bits/"),
+    (OmitIfNoRefDirective, "/omit-if-no-ref/"), (DtIncludeDirective, "/include/"),
+    (MemreserveDirective, "/memreserve/"), (DeleteNodeDirective, "/delete-node/"),
+    (DeletePropertyDirective, "/delete-property/"), (V1Directive, "/dts-v1/"), (PluginDirective, "/plugin/"),
+    (Ident, "a"), (Ident, "foo"), (Ident, "#cells"), (Equals, "="), (Semicolon, ";"), (Ampersand, "&"), (Colon, ":"),
+    (AtSign, "@"), (String, "\"s\""), (Char, "'c'"), (Number, "1"), (Number, "0x10"), (DtBytestring, "[00 ff]"),
+    (LCurly, "{"), (RCurly, "}"), (LAngle, "<"), (RAngle, ">"), (LParen, "("), (RParen, ")"), (Plus, "+"), (Minus, "-"),
+    (Asterisk, "*"), (Slash, "/"), (Modulo, "%"), (BitwiseOr, "|"), (BitwiseXor, "^"), (BitwiseNot, "~"),
+    (BitwiseShl, "<<"), (BitwiseShr, ">>"), (LogicalAnd, "&&"), (LogicalOr, "||"), (LogicalNot, "!"),
+    (RelationalLtEq, "<="), (RelationalGtEq, ">="), (RelationalEq, "=="), (RelationalNeq, "!="), (QuestionMark, "?"),
 ];
+
+/// A byte that the lexer does not take.
+pub const ERROR_SAMPLE: (u32, &str) = (lexical_code(LexError::Default), "\\");
+
+/// All of these by the kinds' numbers, the error last.
+pub const SAMPLES: &[(u32, &str)] = &{
+    let mut all = [ERROR_SAMPLE; OF_KINDS.len() + 1];
+    let mut i = 0;
+    while i < OF_KINDS.len() {
+        all[i] = (OF_KINDS[i].0 as u32, OF_KINDS[i].1);
+        i += 1
+    }
+    all
+};
 
 /// Small realistic files.
 pub const SNIPPETS: &[&str] = &[

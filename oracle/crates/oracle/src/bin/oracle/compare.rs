@@ -2,6 +2,7 @@
 use crate::{Args, Out, cases};
 use oracle::case::{Case, Rows, case_line, esc};
 use oracle::lines::{self, Opts};
+use oracle::token::TokenKind;
 use oracle::{generate, token};
 use parser_doc01::record;
 use std::io::Write;
@@ -114,16 +115,23 @@ pub fn cmp(a: &Args, out: &mut Out) {
     tally.write(usize::MAX, out)
 }
 
-/// The kinds that `exhaust` uses, each by its first sample.
-const ALPHABET: [u32; 30] = [
-    0, 2, 4, 10, 11, 13, 17, 18, 19, 20, 21, 23, 27, 28, 29, 30, 31, 32, 33, 35, 37, 38, 39, 40, 41, 42, 43, 46, 60, 74,
-];
+/// The kinds that `exhaust` uses beside the error token, each by its first sample.
+#[rustfmt::skip]
+const ALPHABET: [TokenKind; 29] = {
+    use TokenKind::*;
+    [
+        Whitespace, Comma, IfDirective, ElseDirective, EndifDirective, DefineDirective, BitsDirective,
+        OmitIfNoRefDirective, DtIncludeDirective, MemreserveDirective, DeleteNodeDirective, V1Directive, Ident, Equals,
+        Semicolon, Ampersand, Colon, AtSign, String, Number, LCurly, RCurly, LAngle, RAngle, LParen, RParen, Plus,
+        Slash, QuestionMark,
+    ]
+};
 
 /// oracle exhaust LEN [--unit-immediate]: every token list up to that length over 30 tokens, for all entries.
 pub fn exhaust(a: &Args, out: &mut Out) {
     let longest: u32 = a.number(1);
-    let sample = |k: &u32| *generate::SAMPLES.iter().find(|x| x.0 == *k).unwrap();
-    let alphabet: Vec<(u32, &str)> = ALPHABET.iter().map(sample).collect();
+    let sample = |k: &TokenKind| *generate::SAMPLES.iter().find(|x| x.0 == *k as u32).unwrap();
+    let alphabet: Vec<(u32, &str)> = ALPHABET.iter().map(sample).chain([generate::ERROR_SAMPLE]).collect();
     let mut tally = Tally::default();
     for len in 0..=longest {
         for code in 0..alphabet.len().pow(len) {

@@ -1,6 +1,6 @@
 //! The oracle: answers of the Rust parser (`rows`) and of its patched copy (`doc01`) to cases, and comparisons of the
 //! two. ../../../../../README.md has the commands, the form of a case and the lines that come out.
-use oracle::case::{Case, Line, case_line, esc, parse_caps, parse_line};
+use oracle::case::{Case, Line, ROOM, case_line, esc, parse_lengths, parse_line};
 use oracle::lines::{self, Opts};
 use oracle::parsers::on_large_stack;
 use oracle::{generate, token};
@@ -9,12 +9,12 @@ use std::io::{BufRead, Read, StdoutLock, Write};
 mod compare;
 mod rowsfile;
 
-/// The program's words.
+/// The program's arguments.
 pub struct Args(Vec<String>);
 
 impl Args {
     pub fn word(&self, i: usize) -> &str {
-        self.0.get(i).unwrap_or_else(|| panic!("too few words: see README.md"))
+        self.0.get(i).unwrap_or_else(|| panic!("too few arguments: see README.md"))
     }
     pub fn number<T: std::str::FromStr>(&self, i: usize) -> T {
         let w = self.word(i);
@@ -57,7 +57,7 @@ fn rows(a: &Args, out: &mut Out) {
 }
 
 fn doc01(a: &Args, out: &mut Out) {
-    let all = a.value("--caps").map_or([usize::MAX; 5], parse_caps);
+    let all = a.value("--caps").map_or(ROOM, parse_lengths);
     let unit_immediate = a.has("--unit-immediate");
     for (n, l) in cases(a.word(1)) {
         let (t, s) = token::rows(&l.case);
@@ -66,7 +66,7 @@ fn doc01(a: &Args, out: &mut Out) {
             Case::Toks(_, b) => b,
         };
         let mut o = format!("CASE {n} entry {} tokens {} bytes {}\n", l.entry, t.len(), bytes.len());
-        lines::of_doc01(l.entry, &t, bytes, &s, unit_immediate, l.caps.unwrap_or(all), &mut o);
+        lines::of_doc01(l.entry, &t, bytes, &s, unit_immediate, l.lengths.unwrap_or(all), &mut o);
         writeln!(out, "{o}END").unwrap();
     }
 }
