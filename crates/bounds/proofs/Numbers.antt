@@ -142,10 +142,10 @@ module _ (e : Entry) (ts : List Token) (limits : Within-limits ts) (k : Kinded t
             };
       }
 
-refusal-fits : (r : Refusal) → place-of r < TWO-TO-32 → Answer-fits (refusal r)
-refusal-fits r h = record { number = omega (arith, number-small r); place = h; tree-count = omega arith; error-count = omega arith; report-count = omega arith; expectation-count = omega arith }
+refusal-fits : (r : Refusal) → place-of r ≤ MOST-TOKEN-NUMBERS → Answer-fits (refusal r)
+refusal-fits r h = record { number = omega (arith, number-small r); place = omega (arith, h); tree-count = omega arith; error-count = omega arith; report-count = omega arith; expectation-count = omega arith }
 
-cleared-fits : (r : Refusal) (b : Buffers) → place-of r < TWO-TO-32 → Fits (cleared r b)
+cleared-fits : (r : Refusal) (b : Buffers) → place-of r ≤ MOST-TOKEN-NUMBERS → Fits (cleared r b)
 cleared-fits r b h =
     let z : (l : List ℕ) → Below TWO-TO-32 (zeros l) = λ l. below-zeros TWO-TO-32 (length l) (omega arith) in
     record { answer = refusal-fits r h; buffers = record { events = z (b .events); trees = z (b .trees); errors = z (b .errors); reports = z (b .reports); pool = z (b .pool) } }
