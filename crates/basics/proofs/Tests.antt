@@ -1,5 +1,5 @@
--- Tests: what holds of both branches, two tests that both hold, an equality either way round. That `true` is not `false` is mathlib's
--- `true≢false`, `false≢true`.
+-- Tests: what holds of both branches, two tests that both hold, an equality either way round. That `true` is not
+-- `false` is mathlib's `true≢false`, `false≢true`.
 use Prim.Native.Nat.{ℕ}
 use mathlib.Core.Path.{_≡_, refl, sym}
 use lib.Dec.{eqb}

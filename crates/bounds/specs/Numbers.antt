@@ -1,6 +1,7 @@
--- NUMBERS FIT. A run makes at most a fixed multiple of the number of its tokens: of events, reports, expectations
--- and tree rows, and with them child counts, first pool places and distances between events. Within cause 2's limits (65,536
--- tokens, 1,048,576 bytes) every number that a call writes is therefore below 2^32, however long the lent buffers are.
+-- NUMBERS FIT. A run makes at most a fixed multiple of the number of its tokens: of events, reports, expectations and
+-- tree rows, and with them child counts, first pool places and distances between events. Within cause 2's limits
+-- (65,536 tokens, 1,048,576 bytes) every number that a call writes is therefore below 2^32, however long the lent
+-- buffers are.
 use Prim.Native.Nat.{ℕ, _+_, _*_, _≤_, _<_}
 use mathlib.Core.Path.{_≡_}
 use mathlib.Core.Bool.{false}

@@ -1,5 +1,6 @@
 // Where things end, of grammar.rs: lists of cells and values, items, nodes, and the tokens that an entry leaves over.
-// The functions here are for the cycle of calls, which holds the whole parser by value; the work is done in the modules.
+// The functions here are for the cycle of calls, which holds the whole parser by value; the work is done in the
+// modules.
 pub mod lists;
 pub mod nodes;
 

@@ -174,7 +174,8 @@ fn infix_chain(
     first: Marker,
 ) -> ParserTested
     ensures { λ r. ⌜ leaving (parser-tested r) events reports pool
-        ≡ links-from allowed (tokens-of (now (tokens .entry))) (infix-turn «min_bp») (marker-of first) (entering (parser-view p) events reports pool) ⌝ }
+        ≡ links-from allowed (tokens-of (now (tokens .entry))) (infix-turn «min_bp») (marker-of first)
+        (entering (parser-view p) events reports pool) ⌝ }
     ensures { λ r. ⌜ tokens-left (now (tokens .entry)) (r .p .s) ≤ tokens-left (now (tokens .entry)) (p .s) ⌝ }
 {
     let mut m = first;

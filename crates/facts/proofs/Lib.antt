@@ -1,6 +1,6 @@
--- HOW THE PROOFS GO. An analysis computes, for each program of the grammar, what is known at every step of a run: by what
--- is pending and by whether the turn took a token, which token a peek comes to. Its answers are checked by `refl`; that
--- it is sound is proved once, for every program.
+-- HOW THE PROOFS GO. An analysis computes, for each program of the grammar, what is known at every step of a run: by
+-- what is pending and by whether the turn took a token, which token a peek comes to. Its answers are checked by `refl`;
+-- that it is sound is proved once, for every program.
 --   Known, Facts     what is known: of one token; at a step
 --   May              where a program may begin, by what is known
 --   Look, Table      the analysis; what is said of each counted function, and that the grammar does so: computed

@@ -1,6 +1,6 @@
 -- HOW THE PROOFS GO. One induction over programs, loops, chains and open calls serves every law of runs: a law shows
--- what holds of each action and is kept by joining and by closing a marker. Each statement of specs/ is then read off an
--- accepted call. The modules, in reading order:
+-- what holds of each action and is kept by joining and by closing a marker. Each statement of specs/ is then read off
+-- an accepted call. The modules, in reading order:
 --   Trivia, Skeleton, Tree   lists of tokens, skeletons and trees side by side
 --   Engine, Kept             the induction (`Steady`), and its form with eight cases for what a run makes between two
 --                            states

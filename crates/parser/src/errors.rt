@@ -127,7 +127,9 @@ fn put_report(
     count: u32,
 )
     ensures { λ _. ⌜ now (reports .exit)
-        ≡ stored index (message ∷ range .start .0 ∷ range .end .0 ∷ mark ∷ first ∷ count ∷ hint ∷ label .start .0 ∷ label .end .0 ∷ []) (now (reports .entry)) ⌝ }
+        ≡ stored index
+        (message ∷ range .start .0 ∷ range .end .0 ∷ mark ∷ first ∷ count ∷ hint ∷ label .start .0 ∷ label .end .0 ∷ [])
+        (now (reports .entry)) ⌝ }
 {
     let enough = fits(reports.len(), index, REPORT_ROW);
     if enough {
@@ -147,7 +149,8 @@ impl State {
     // The cursor stands at a token, or at the end.
     fn current_token_error_range(self, codes: &Codes, tokens: &[u32]) -> TextRange
         ensures { λ r. ⌜ ((events reports pool : List ℕ) → span-of r
-            ≡ error-range (drop (self .cursor .0) (tokens-of (now (tokens .entry)))) (view self (now (codes .entry)) events reports pool)) ⌝ }
+            ≡ error-range (drop (self .cursor .0) (tokens-of (now (tokens .entry))))
+            (view self (now (codes .entry)) events reports pool)) ⌝ }
     {
         let at = self.cursor.0;
         let exists = at < tokens.len() / TOKEN_ROW;

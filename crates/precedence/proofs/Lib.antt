@@ -1,16 +1,17 @@
 -- How the proof goes, in reading order.
--- 1. Pratt is expr.rs up to its first report, as a reader of symbols; it uses the definitions' tables. On symbols alone:
---    Tables and Powers lay the lines of C's table beside the binding powers, Base counts brackets over an expression;
---    what is read is well formed by C's table (Sound), what is well formed is read (Complete), and the calls suffice
---    (Enough). Bare joins these: the verdict on the symbols between two brackets, and that the tree is one.
+-- 1. Pratt is expr.rs up to its first report, as a reader of symbols; it uses the definitions' tables. On symbols
+--    alone: Tables and Powers lay the lines of C's table beside the binding powers, Base counts brackets over an
+--    expression; what is read is well formed by C's table (Sound), what is well formed is read (Complete), and the
+--    calls suffice (Enough). Bare joins these: the verdict on the symbols between two brackets, and that the tree is
+--    one.
 -- 2. From symbols to tokens and skeletons: Pushed, Same, Symbols; Partner finds the RParen that balances, or a report;
 --    Short says how many tokens a skeleton leaves.
--- 3. The definitions' programs do what the reader does: Rules (steps of a program), Follow (what "does" means), Argument,
---    Arguments and Invocation (macro invocations), Operands, Turns, Loop (the chain of operators). Cell: so `dt_expr`
---    judges its tokens as C's table does.
+-- 3. The definitions' programs do what the reader does: Rules (steps of a program), Follow (what "does" means),
+--    Argument, Arguments and Invocation (macro invocations), Operands, Turns, Loop (the chain of operators). Cell: so
+--    `dt_expr` judges its tokens as C's table does.
 -- 4. Only, Cells, Everywhere: every DtExpr that a run makes comes from `dt_expr`. Settle, Placed: in the whole run no
---    other report has a mark between the cell's brackets, since marks never decrease. ReportRows, TreeRows: from rows to
---    reports and nodes. Theorem: the statements, and a bracket without a partner.
+--    other report has a mark between the cell's brackets, since marks never decrease. ReportRows, TreeRows: from rows
+--    to reports and nodes. Theorem: the statements, and a bracket without a partner.
 -- 5. What guards the statements: Examples (computed), Witnesses (their premises can be met), Refutations (wrong answers
 --    do not pass).
 pub mod Pratt

@@ -46,8 +46,8 @@ pub record No-counts (r : Result) : Type 0 where
   pub report-count : r .answer .report-count ≡ 0
   pub expectation-count : r .answer .expectation-count ≡ 0
 
--- n, tokens, b: a call's entry, token numbers and buffers. r: what it returns. Refusals by document 01's numbers, written
--- out as in Refusals.antt.
+-- n, tokens, b: a call's entry, token numbers and buffers. r: what it returns. Refusals by document 01's numbers,
+-- written out as in Refusals.antt.
 pub record Returns (n : ℕ) (tokens : List ℕ) (b : Buffers) (r : Result) : Type 0 where
   pub at-most-8 : r .answer .number ≤ 8
   pub accepted : r .answer .number ≡ 0 → (e : Entry) × (entry-number e ≡ n) × Written (to-write e tokens) b r
