@@ -291,7 +291,8 @@ def readings(needs):
 
 
 def measures(needs, uses):
-    text = '''-- What falls in the cycle of calls, the open calls left and then the members' order, and what is known of each member's calls.
+    text = '''-- What falls in the cycle of calls, the open calls left and then the members' order, and what is known of each member's
+-- calls.
 use Prim.Native.Nat.{ℕ, _+_, _*_, _<_}
 use borrow.Fn.Kinds.{In}
 use borrow.Fn.PlainCycle.{Measures, is, falls, and}

@@ -129,7 +129,8 @@ class Cycle:
 
     def measures(self):
         lines = [
-            "-- What falls in the cycle of calls, the tokens left and then a rank of the member, and what is known of each member's calls.",
+            "-- What falls in the cycle of calls, the tokens left and then a rank of the member, and what is known of each member's",
+            "-- calls.",
             "use Prim.Native.Nat.{ℕ, _+_, _*_, _<_}",
             "use borrow.Fn.Kinds.{In}",
             "use borrow.Fn.PlainCycle.{Measures, is, falls, and}",
