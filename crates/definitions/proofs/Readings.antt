@@ -88,7 +88,7 @@ readings =
 pub called : List Reading → List Result
 unfolding call
 called [] = []
-called (r ∷ rs) = call (r .entry) (r .input) (r .rows) (lent (r .result .buffers)) ∷ called rs
+called (r ∷ rs) = call (r .entry) 0 (r .input) (r .rows) (lent (r .result .buffers)) ∷ called rs
 
 pub wanted : List Reading → List Result
 wanted [] = []

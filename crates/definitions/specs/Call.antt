@@ -11,6 +11,7 @@ use Rattle.definitions.specs.Skeleton.{no-label, Skeleton}
 use Rattle.definitions.specs.Run.{taken, exec, run}
 use Rattle.definitions.specs.Place.{root, rows, lexical-errors}
 use Rattle.definitions.specs.Report.{Room, Fit, fits, stops, pushes, scan, reports, report-numbers, pool}
+use Rattle.definitions.specs.Strict.{Name-at, reported-names, name-numbers, names-fit}
 use Rattle.definitions.specs.Refusal.{Refusal, unknown-entry, too-long, bad-row, bad-text, too-deep, no-event-room, no-report-room, no-tree-room, number-of, place-of, Verdict, accepted, refused, check-input}
 
 -- the lent buffers: events (work only), tree rows, lexical errors, reports, expectations
@@ -74,15 +75,16 @@ pub record Sheets : Type 0 where
   pub reports : List ℕ
   pub pool : List ℕ
 
-unfoldable pub sheets : Entry → List Token → Skeleton → Sheets
-unfolding root rows lexical-errors reports report-numbers pool root-kind byte-count
-sheets e ts o =
-    let l = reports (pushes o) in
+-- l: the Names that the setting reports; their reports follow all others
+unfoldable pub sheets : Entry → List Token → Skeleton → List Name-at → Sheets
+unfolding root rows lexical-errors reports report-numbers name-numbers pool root-kind byte-count
+sheets e ts o l =
+    let r = reports (pushes o) in
     record {
       trees = rows (root (root-kind e) o ts);
       errors = lexical-errors 0 ts;
-      reports = report-numbers (length ts) (byte-count ts) 0 l;
-      pool = pool l;
+      reports = report-numbers (length ts) (byte-count ts) 0 r ++ name-numbers (length (pool r)) l;
+      pool = pool r;
     }
 
 -- written to the front of a buffer; the rest is zero
@@ -128,18 +130,31 @@ forward-mark n (no-event-room m) = no-event-room (n - m)
 forward-mark n (no-report-room m) = no-report-room (n - m)
 forward-mark n no-tree-room = no-tree-room
 
--- causes 5 to 7, whichever the run meets first, and then 8
-unfoldable pub outcome : Fit → Entry → List Token → Skeleton → Buffers → Result
-unfolding sheets delivered forward-mark number-of place-of
-outcome (stops r) e ts o b = cleared (forward-mark (length ts) r) b
-outcome (fits z) e ts o b = delivered (sheets e ts o) b
+-- a Name's report that does not fit is cause 7, and comes before 8
+unfoldable pub unless-refused : Verdict → Sheets → Buffers → Result
+unfolding delivered number-of place-of
+unless-refused (refused r) s b = cleared r b
+unless-refused accepted s b = delivered s b
+
+-- causes 5 to 7, whichever the run meets first; then those Names; and then 8
+unfoldable pub outcome : Fit → Entry → List Token → Skeleton → List Name-at → Buffers → Result
+unfolding sheets names-fit unless-refused forward-mark number-of place-of
+outcome (stops r) e ts o l b = cleared (forward-mark (length ts) r) b
+outcome (fits z) e ts o l b = unless-refused (names-fit (z .reports) l) (sheets e ts o l) b
 
 abbrev pub room-of : Buffers → Room
 room-of b = record { events = length (b .events) / EVENT-ROW; reports = length (b .reports) / REPORT-ROW; pool = length (b .pool) }
 
-unfoldable pub parse : Entry → List Token → Buffers → Result
-unfolding run-entry pushes scan outcome
-parse e ts b = let o = run-entry e ts in outcome (scan (pushes o) (room-of b)) e ts o b
+-- the Names that a setting reports, of an entry's tree
+abbrev pub names-of : ℕ → Entry → List ℕ → List Token → List Name-at
+names-of setting e bytes ts = reported-names setting bytes (root (root-kind e) (run-entry e ts) ts)
+
+unfoldable pub parse : Entry → ℕ → List ℕ → List Token → Buffers → Result
+unfolding run-entry root root-kind reported-names pushes scan outcome
+parse e setting bytes ts b =
+    let o = run-entry e ts in
+    let l = reported-names setting bytes (root (root-kind e) o ts) in
+    outcome (scan (pushes o) (room-of b)) e ts o l b
 
 -- ---------------------------------------------------------------- the call
 
@@ -152,17 +167,17 @@ entry-of n =
     cond (eqb n 1) (for SourceFile) (cond (eqb n 2) (for ReferenceNoamp)
     (cond (eqb n 3) (for PropValues) (cond (eqb n 4) (for Cells) unknown)))
 
-unfoldable pub checked : Verdict → Entry → List ℕ → Buffers → Result
+unfoldable pub checked : Verdict → Entry → ℕ → List ℕ → List ℕ → Buffers → Result
 unfolding parse tokens-of number-of place-of
-checked (refused r) e tokens b = untouched r b
-checked accepted e tokens b = parse e (tokens-of tokens) b
+checked (refused r) e setting bytes tokens b = untouched r b
+checked accepted e setting bytes tokens b = parse e setting bytes (tokens-of tokens) b
 
-unfoldable pub asked : Asked → List ℕ → List ℕ → Buffers → Result
+unfoldable pub asked : Asked → ℕ → List ℕ → List ℕ → Buffers → Result
 unfolding checked check-input number-of place-of
-asked unknown bytes tokens b = untouched unknown-entry b
-asked (for e) bytes tokens b = checked (check-input bytes tokens) e tokens b
+asked unknown setting bytes tokens b = untouched unknown-entry b
+asked (for e) setting bytes tokens b = checked (check-input bytes tokens) e setting bytes tokens b
 
--- entry, input bytes, token numbers, and the lent buffers as they are at entry
-unfoldable pub call : ℕ → List ℕ → List ℕ → Buffers → Result
+-- entry, setting, input bytes, token numbers, and the lent buffers as they are at entry
+unfoldable pub call : ℕ → ℕ → List ℕ → List ℕ → Buffers → Result
 unfolding asked entry-of
-call n bytes tokens b = asked (entry-of n) bytes tokens b
+call n setting bytes tokens b = asked (entry-of n) setting bytes tokens b

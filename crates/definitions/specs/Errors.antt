@@ -24,7 +24,7 @@ PrefixOperator = 107
 abbrev pub End : ℕ
 End = 108
 
--- messages 1 to 7
+-- messages 1 to 7, and 8 in the strict setting
 abbrev pub msg-expected : ℕ
 msg-expected = 1
 
@@ -45,6 +45,9 @@ at-sign-in-label = 6
 
 abbrev pub unclosed-node : ℕ
 unclosed-node = 7
+
+abbrev pub not-a-label : ℕ
+not-a-label = 8
 
 -- hints 0 to 6
 abbrev pub no-hint : ℕ

@@ -169,3 +169,9 @@ MOST-OPEN-CALLS = 64
 
 abbrev pub MOST-PENDING : ℕ
 MOST-PENDING = 256
+
+-- ---------------------------------------------------------------- a call's setting
+
+-- the old one; any other number is the strict one
+abbrev pub OLD-SETTING : ℕ
+OLD-SETTING = 0

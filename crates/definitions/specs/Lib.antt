@@ -16,4 +16,5 @@ pub mod Event
 pub mod Place
 pub mod Refusal
 pub mod Report
+pub mod Strict
 pub mod Call

@@ -182,11 +182,11 @@ unfolding run-entry entry-moments
 clear-limited e ts w = exec-keeps MOST-OPEN-CALLS (run MOST-OPEN-CALLS) (run-moments MOST-OPEN-CALLS) (run-keeps MOST-OPEN-CALLS) no-label (whole e) (taken ts) zero-le (record { clear = w }) .1
 
 -- an accepted call's run meets no refusal 5
-pub accepted-clear : (n : ℕ) (bytes tokens : List ℕ) (b : Buffers) (a : Accepted n bytes tokens b) → None-exceeded (pushes (run-entry (a .entry) (tokens-of tokens)))
-accepted-clear n bytes tokens b a = fits-clear (pushes (run-entry (a .entry) (tokens-of tokens))) _ (a .left) (a .fitted)
+pub accepted-clear : (n setting : ℕ) (bytes tokens : List ℕ) (b : Buffers) (a : Accepted n setting bytes tokens b) → None-exceeded (pushes (run-entry (a .entry) (tokens-of tokens)))
+accepted-clear n setting bytes tokens b a = fits-clear (pushes (run-entry (a .entry) (tokens-of tokens))) _ (a .left) (a .fitted)
 
 -- LIMITS
 pub limits : Limits
-limits n bytes tokens b h =
-    let a : Accepted n bytes tokens b = accepted-call n bytes tokens b h in
-    (a .entry, a .asked-for, clear-limited (a .entry) (tokens-of tokens) (accepted-clear n bytes tokens b a))
+limits n setting bytes tokens b h =
+    let a : Accepted n setting bytes tokens b = accepted-call n setting bytes tokens b h in
+    (a .entry, a .asked-for, clear-limited (a .entry) (tokens-of tokens) (accepted-clear n setting bytes tokens b a))

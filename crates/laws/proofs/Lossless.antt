@@ -11,7 +11,8 @@ use Rattle.definitions.specs.Layout.{TREE-ROW}
 use Rattle.definitions.specs.Token.{Token, tokens-of, byte-count}
 use Rattle.definitions.specs.Grammar.{Entry, root-kind}
 use Rattle.definitions.specs.Place.{Tree, lead, after, place, _⊕_, root, width, count, rows}
-use Rattle.definitions.specs.Call.{Buffers, sheets, kept, run-entry}
+use Rattle.definitions.specs.Strict.{Name-at}
+use Rattle.definitions.specs.Call.{Buffers, sheets, kept, run-entry, names-of}
 use Rattle.laws.specs.TreeRows.{end, node, preorder, read}
 use Rattle.laws.specs.Lossless.{Leaves-are, Lossless, Nothing-lost}
 use Rattle.laws.specs.Lossless as L
@@ -62,9 +63,10 @@ module _ (e : Entry) (bytes : List ℕ) (ts : List Token) (b : Buffers) (full : 
   unfolding shown root width
   root-shown = ap (λ (w : ℕ). node (root-kind e) w (count inside) (shown inside) end) (sym (add-zero (width inside)) ∙ root-width)
 
-  pub writes-lossless : Lossless e bytes ts (kept (sheets e ts (run-entry e ts)) b)
+  -- whatever Names are reported
+  pub writes-lossless : (l : List Name-at) → Lossless e bytes ts (kept (sheets e ts (run-entry e ts) l) b)
   unfolding sheets
-  writes-lossless =
+  writes-lossless l =
       record {
         tree = shown t;
         written = in-front;
@@ -82,7 +84,7 @@ module _ (e : Entry) (bytes : List ℕ) (ts : List Token) (b : Buffers) (full : 
 
 -- NOTHING LOST
 pub nothing-lost : Nothing-lost
-nothing-lost n bytes tokens b h =
-    let a : Accepted n bytes tokens b = accepted-call n bytes tokens b h in
+nothing-lost n setting bytes tokens b h =
+    let a : Accepted n setting bytes tokens b = accepted-call n setting bytes tokens b h in
     let c : Checked bytes tokens = checked-input bytes tokens (a .input) in
-    (a .entry, a .asked-for, subst (Lossless (a .entry) bytes (tokens-of tokens)) (sym (a .returns)) (writes-lossless (a .entry) bytes (tokens-of tokens) b (c .covered)))
+    (a .entry, a .asked-for, subst (Lossless (a .entry) bytes (tokens-of tokens)) (sym (a .returns)) (writes-lossless (a .entry) bytes (tokens-of tokens) b (c .covered) (names-of setting (a .entry) bytes (tokens-of tokens))))

@@ -29,13 +29,13 @@ abbrev numbers : List ℕ
 numbers = 0 ∷ 1 ∷ 27 ∷ 1 ∷ 2 ∷ 1 ∷ 27 ∷ 1 ∷ 29 ∷ 1 ∷ 74 ∷ 1 ∷ []
 
 -- every entry accepts them
-four : (call 1 input numbers (lent 100) .answer .number ≡ 0) × (call 2 input numbers (lent 100) .answer .number ≡ 0) × (call 3 input numbers (lent 100) .answer .number ≡ 0) × (call 4 input numbers (lent 100) .answer .number ≡ 0)
+four : (call 1 0 input numbers (lent 100) .answer .number ≡ 0) × (call 2 0 input numbers (lent 100) .answer .number ≡ 0) × (call 3 0 input numbers (lent 100) .answer .number ≡ 0) × (call 4 0 input numbers (lent 100) .answer .number ≡ 0)
 unfolding call
 four = (refl, refl, refl, refl)
 
-said : (e : Entry) × (entry-of 1 ≡ for e) × Lossless e input (tokens-of numbers) (call 1 input numbers (lent 100))
+said : (e : Entry) × (entry-of 1 ≡ for e) × Lossless e input (tokens-of numbers) (call 1 0 input numbers (lent 100))
 unfolding call
-said = nothing-lost 1 input numbers (lent 100) refl
+said = nothing-lost 1 0 input numbers (lent 100) refl
 
 -- the tree that the statement speaks of, its leaves, and the row of the lexical error
 abbrev tree : Rows
@@ -55,7 +55,7 @@ leaves-are : leaves tree ≡ a-leaf 0 1 1 ∷ a-leaf 26 3 3 ∷ a-leaf 29 1 1 �
 unfolding leaves
 leaves-are = refl
 
-errors-are : (take 3 (call 1 input numbers (lent 100) .buffers .errors) ≡ 74 ∷ 5 ∷ 6 ∷ []) × (errors-in (tokens-of numbers) ≡ 1)
+errors-are : (take 3 (call 1 0 input numbers (lent 100) .buffers .errors) ≡ 74 ∷ 5 ∷ 6 ∷ []) × (errors-in (tokens-of numbers) ≡ 1)
 unfolding call errors-in tokens-of
 errors-are = (refl, refl)
 
@@ -76,16 +76,16 @@ unfolding times
 if-numbers n = times n (4 ∷ 3 ∷ []) (27 ∷ 1 ∷ 29 ∷ 1 ∷ [])
 
 -- 50 are accepted: at the `;` 256 expectations come to be pending
-all-pending : call 4 (ifs 50) (if-numbers 50) (lent 6936) .answer .number ≡ 0
+all-pending : call 4 0 (ifs 50) (if-numbers 50) (lent 6936) .answer .number ≡ 0
 unfolding call ifs if-numbers
 all-pending = refl
 
 limited : (e : Entry) × (entry-of 4 ≡ for e) × Limited 64 (entry-moments e (tokens-of (if-numbers 50)))
-limited = limits 4 (ifs 50) (if-numbers 50) (lent 6936) all-pending
+limited = limits 4 0 (ifs 50) (if-numbers 50) (lent 6936) all-pending
 
 -- and with `(1;` after them a 257th is pushed: refusal 5, where 52 tokens are taken
 over-pending :
-    call 4 (times 50 (35 ∷ 105 ∷ 102 ∷ []) (40 ∷ 49 ∷ 59 ∷ [])) (times 50 (4 ∷ 3 ∷ []) (41 ∷ 1 ∷ 35 ∷ 1 ∷ 29 ∷ 1 ∷ [])) (lent 6936) .answer
+    call 4 0 (times 50 (35 ∷ 105 ∷ 102 ∷ []) (40 ∷ 49 ∷ 59 ∷ [])) (times 50 (4 ∷ 3 ∷ []) (41 ∷ 1 ∷ 35 ∷ 1 ∷ 29 ∷ 1 ∷ [])) (lent 6936) .answer
     ≡ record { number = 5; place = 52; tree-count = 0; error-count = 0; report-count = 0; expectation-count = 0 }
 unfolding call times
 over-pending = refl
@@ -100,12 +100,12 @@ unfolding times
 bracket-numbers n = times n (41 ∷ 1 ∷ []) (35 ∷ 1 ∷ times n (42 ∷ 1 ∷ []) [])
 
 -- 63 are accepted: 64 calls are open in the innermost
-all-open : call 4 (brackets 63) (bracket-numbers 63) (lent 1143) .answer .number ≡ 0
+all-open : call 4 0 (brackets 63) (bracket-numbers 63) (lent 1143) .answer .number ≡ 0
 unfolding call brackets bracket-numbers
 all-open = refl
 
 -- and the 64th bracket is a 65th call
-over-open : call 4 (brackets 64) (bracket-numbers 64) (lent 1143) .answer ≡ record { number = 5; place = 64; tree-count = 0; error-count = 0; report-count = 0; expectation-count = 0 }
+over-open : call 4 0 (brackets 64) (bracket-numbers 64) (lent 1143) .answer ≡ record { number = 5; place = 64; tree-count = 0; error-count = 0; report-count = 0; expectation-count = 0 }
 unfolding call brackets bracket-numbers
 over-open = refl
 

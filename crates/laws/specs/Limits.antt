@@ -79,5 +79,5 @@ Limited n (x ∷ l) = (x .open-calls ≤ n) × (length (x .state .pending) ≤ M
 -- for every accepted call
 abbrev pub Limits : Type 0
 Limits =
-    (n : ℕ) (bytes tokens : List ℕ) (b : Buffers) → Call.call n bytes tokens b .answer .number ≡ 0
+    (n setting : ℕ) (bytes tokens : List ℕ) (b : Buffers) → Call.call n setting bytes tokens b .answer .number ≡ 0
     → (e : Entry) × (entry-of n ≡ for e) × Limited MOST-OPEN-CALLS (entry-moments e (tokens-of tokens))

@@ -1,7 +1,7 @@
--- NOTHING LOST. For every accepted call of each of the four entries, what holds of the numbers that it leaves in the
--- buffers. It is a claim about the rows, not about a tree inside the definitions: the tree here is the one that a
--- reader of the rows finds. It excludes a parser that drops or doubles a token or trivia, invents a width or a child
--- count, or loses or shifts a lexical error.
+-- NOTHING LOST. For every accepted call of each of the four entries, in either setting, what holds of the numbers that it
+-- leaves in the buffers. It is a claim about the rows, not about a tree inside the definitions: the tree here is the one
+-- that a reader of the rows finds. It excludes a parser that drops or doubles a token or trivia, invents a width or a
+-- child count, or loses or shifts a lexical error.
 use Prim.Native.Nat.{ℕ, suc, _+_, _*_}
 use mathlib.Core.Path.{_≡_}
 use mathlib.Core.Bool.{true, cond}
@@ -91,8 +91,8 @@ pub record Lossless (e : Entry) (bytes : List ℕ) (ts : List Token) (r : Result
   pub error-count : r .answer .error-count ≡ errors-in ts
   pub error-rows : Errors-of ts (r .buffers .errors)
 
--- for every accepted call
+-- for every accepted call, in either setting
 abbrev pub Nothing-lost : Type 0
 Nothing-lost =
-    (n : ℕ) (bytes tokens : List ℕ) (b : Buffers) → call n bytes tokens b .answer .number ≡ 0
-    → (e : Entry) × (entry-of n ≡ for e) × Lossless e bytes (tokens-of tokens) (call n bytes tokens b)
+    (n setting : ℕ) (bytes tokens : List ℕ) (b : Buffers) → call n setting bytes tokens b .answer .number ≡ 0
+    → (e : Entry) × (entry-of n ≡ for e) × Lossless e bytes (tokens-of tokens) (call n setting bytes tokens b)
