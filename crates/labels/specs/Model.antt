@@ -102,17 +102,20 @@ abbrev pub name-row : ℕ → ℕ → ℕ → ℕ → List ℕ
 name-row start end mark first = E.not-a-label ∷ start ∷ end ∷ mark ∷ first ∷ 0 ∷ E.no-hint ∷ 0 ∷ 0 ∷ []
 
 unfoldable pub put-row : ℕ → ℕ → ℕ → ℕ → ℕ → List ℕ → List ℕ
-unfolding fits
 put-row index start end mark first reports =
     cond (fits (length reports) index REPORT-ROW) (sets reports index (name-row start end mark first)) reports
 
+-- so many numbers written, and the refusal so far
+abbrev pub with-written : ℕ → ℕ → ℕ → Sweep → Sweep
+with-written written refusal place s =
+    record { at = s .at; byte = s .byte; node = s .node; kind = s .kind; written = written; refusal = refusal; place = place }
+
 unfoldable pub reported : ℕ → ℕ → ℕ → ℕ → Out → Out
-unfolding fits put-row
+unfolding put-row
 reported start end at first (out s reports) =
-    let more = record { at = s .at; byte = s .byte; node = s .node; kind = s .kind; written = s .written + REPORT-ROW; refusal = 0; place = s .place } in
-    let none = record { at = s .at; byte = s .byte; node = s .node; kind = s .kind; written = s .written; refusal = NO-REPORT-ROOM; place = at } in
-    cond (eqb (s .refusal) 0) (cond (fits (length reports) (s .written) REPORT-ROW)
-    (out more (put-row (s .written) start end (low at) first reports)) (out none reports)) (out s reports)
+    let more = out (with-written (s .written + REPORT-ROW) (s .refusal) (s .place) s) (put-row (s .written) start end (low at) first reports) in
+    let none = out (with-written (s .written) NO-REPORT-ROOM at s) reports in
+    cond (eqb (s .refusal) 0) (cond (fits (length reports) (s .written) REPORT-ROW) more none) (out s reports)
 
 unfoldable pub name-on : Bool → List ℕ → List Token → ℕ → ℕ → Out → Out
 unfolding first-solid passed breaks reported
