@@ -16,7 +16,7 @@ use Rattle.definitions.specs.Strict.{names-fit}
 use Rattle.definitions.specs.Call.{Buffers, Result, untouched, cleared, kept, delivered, forward-mark, unless-refused, outcome, room-of, run-entry, parse, Asked, entry-of, checked, asked, call}
 use Rattle.refusals.specs.First.{Each, First}
 use Rattle.refusals.specs.Trace.{Happening, call-opened, expectation-pushed, event-pushed, report-written}
-use Rattle.refusals.specs.Refusals.{Passes-1, Sizes, Passes-2, Passes-3, Passes-4, Unrefused, happens, from-start, named, to-write, Tree-fits, First-met, All-fit, Cause, unknown-entry, over-size, bad-row, odd-or-short, wrong-text, call-too-many, expectation-too-many, no-event-room, no-report-room, no-name-room, no-tree-room, none}
+use Rattle.refusals.specs.Refusals.{Passes-1, Sizes, Passes-2, Passes-3, Passes-4, Unrefused, happens, from-start, named, to-write, Tree-fits, First-met, Passes-7, Cause, unknown-entry, over-size, bad-row, odd-or-short, wrong-text, call-too-many, expectation-too-many, no-event-room, no-report-room, no-name-room, no-tree-room, none}
 use Rattle.refusals.specs.Answered.{Returns}
 use Rattle.refusals.proofs.Climbs.{the-65th, the-257th}
 use Rattle.refusals.proofs.Judged.{refusal-for, Ends, all-fits, first-stops, run-ends}
@@ -51,17 +51,17 @@ module _ (n setting : ℕ) (bytes tokens : List ℕ) (b : Buffers) where
   first-found e p before (event-pushed m) f = zero-found (R.no-event-room (from-start tokens m)) (omega arith) (no-event-room e p before m f)
   first-found e p before (report-written c m) f = zero-found (R.no-report-room (from-start tokens m)) (omega arith) (no-report-room e p before c m f)
 
-  tree-found : (e : Entry) → Passes-4 n bytes tokens e → (z : Room) → scan (pushes (run-entry e (tokens-of tokens))) (room-of b) ≡ fits z → names-fit (z .reports) (named setting e bytes tokens) ≡ accepted
-      → All-fit setting e bytes tokens b → (t : Bool) → Decides (Tree-fits setting e bytes tokens b) t
+  tree-found : (e : Entry) → Passes-7 n setting bytes tokens b e → (z : Room) → scan (pushes (run-entry e (tokens-of tokens))) (room-of b) ≡ fits z → names-fit (z .reports) (named setting e bytes tokens) ≡ accepted
+      → (t : Bool) → Decides (Tree-fits setting e bytes tokens b) t
       → Found (cond t (kept (to-write setting e bytes tokens) b) (cleared R.no-tree-room b))
   unfolding number-of place-of
-  tree-found e p z q v h t (holds g) = (none e p h g, left-written n setting bytes tokens b e (p .0 .0 .0) z q v g)
-  tree-found e p z q v h t (not-so g) = zero-found R.no-tree-room (omega arith) (no-tree-room e p h g)
+  tree-found e p z q v t (holds g) = (none e p g, left-written n setting bytes tokens b e (p .0 .0 .0 .0) z q v g)
+  tree-found e p z q v t (not-so g) = zero-found R.no-tree-room (omega arith) (no-tree-room e p g)
 
   names-found : (e : Entry) → Passes-4 n bytes tokens e → (z : Room) → scan (pushes (run-entry e (tokens-of tokens))) (room-of b) ≡ fits z → Each (Unrefused b) (happens e tokens)
       → (v : Verdict) → names-fit (z .reports) (named setting e bytes tokens) ≡ v → Names e tokens b (named setting e bytes tokens) v → Found (unless-refused v (to-write setting e bytes tokens) b)
   unfolding unless-refused delivered number-of place-of
-  names-found e p z q h v w (all-reported g) = tree-found e p z q w (h, g) _ (tree-decides setting bytes tokens b e)
+  names-found e p z q h v w (all-reported g) = tree-found e (p, h, g) z q w _ (tree-decides setting bytes tokens b e)
   names-found e p z q h v w (first-left before x f) = zero-found (R.no-report-room (x .first-token)) (omega arith) (no-name-room e p h before x f)
 
   run-found : (e : Entry) → Passes-4 n bytes tokens e → (f : Fit) → scan (pushes (run-entry e (tokens-of tokens))) (room-of b) ≡ f → Ends b (happens e tokens) f

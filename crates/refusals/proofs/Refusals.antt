@@ -12,7 +12,7 @@ use Rattle.definitions.specs.Refusal as R
 use Rattle.definitions.specs.Call.{Buffers, Result, untouched, cleared, kept, delivered, forward-mark, unless-refused, outcome, room-of, run-entry, parse, Asked, checked, asked, call}
 use Rattle.refusals.specs.First.{Each, First}
 use Rattle.refusals.specs.Trace.{Happening, call-opened, expectation-pushed, event-pushed, report-written}
-use Rattle.refusals.specs.Refusals.{MAX-OPEN, MAX-PENDING, Passes-1, Sizes, Passes-2, Good-row, Covers, Passes-3, Right-text, Passes-4, Unrefused, happens, named, to-write, All-fit, Cause, unknown-entry, over-size, bad-row, odd-or-short, wrong-text, call-too-many, expectation-too-many, no-event-room, no-report-room, no-name-room, no-tree-room, none, Refusals}
+use Rattle.refusals.specs.Refusals.{MAX-OPEN, MAX-PENDING, Passes-1, Sizes, Passes-2, Good-row, Covers, Passes-3, Right-text, Passes-4, Unrefused, happens, named, to-write, Passes-7, Cause, unknown-entry, over-size, bad-row, odd-or-short, wrong-text, call-too-many, expectation-too-many, no-event-room, no-report-room, no-name-room, no-tree-room, none, Refusals}
 use Rattle.refusals.specs.Answered.{Answered}
 use Rattle.refusals.proofs.Firsts.{only-first, first-each}
 use Rattle.refusals.proofs.Named.{Names, judged-names, names-pass, names-fail}
@@ -129,9 +129,9 @@ module _ (n setting : ℕ) (bytes tokens : List ℕ) (b : Buffers) where
       runs e p (fits (g .0)) (g .1)
       ∙ ap (λ (w : Verdict). unless-refused w (to-write setting e bytes tokens) b) (k _ (judged-names e tokens b (g .0) (g .2) (named setting e bytes tokens)))
 
-  finishes : (e : Entry) → Passes-4 n bytes tokens e → All-fit setting e bytes tokens b → call n setting bytes tokens b ≡ delivered (to-write setting e bytes tokens) b
+  finishes : (e : Entry) → Passes-7 n setting bytes tokens b e → call n setting bytes tokens b ≡ delivered (to-write setting e bytes tokens) b
   unfolding unless-refused
-  finishes e p h = passes e p (h .0) accepted (names-pass e tokens b (named setting e bytes tokens) (h .1))
+  finishes e p = passes e (p .0) (p .1) accepted (names-pass e tokens b (named setting e bytes tokens) (p .2))
 
   returns : (k p : ℕ) → Cause n setting bytes tokens b k p → Returned k p
   unfolding number-of place-of forward-mark unless-refused delivered asked call
@@ -147,12 +147,12 @@ module _ (n setting : ℕ) (bytes tokens : List ℕ) (b : Buffers) where
   returns k p (no-name-room e q h before x f) =
       returned (cleared (R.no-report-room (x .first-token)) b)
       (passes e q h (refused (R.no-report-room (x .first-token))) (names-fail e tokens b (named setting e bytes tokens) before x f))
-  returns k p (no-tree-room e q h g) =
+  returns k p (no-tree-room e q g) =
       returned (cleared R.no-tree-room b)
-      (finishes e q h ∙ ap (λ (t : Bool). cond t (kept (to-write setting e bytes tokens) b) (cleared R.no-tree-room b)) (refuted _ (tree-decides setting bytes tokens b e) g))
-  returns k p (none e q h g) =
+      (finishes e q ∙ ap (λ (t : Bool). cond t (kept (to-write setting e bytes tokens) b) (cleared R.no-tree-room b)) (refuted _ (tree-decides setting bytes tokens b e) g))
+  returns k p (none e q g) =
       returned (kept (to-write setting e bytes tokens) b)
-      (finishes e q h ∙ ap (λ (t : Bool). cond t (kept (to-write setting e bytes tokens) b) (cleared R.no-tree-room b)) (decided _ (tree-decides setting bytes tokens b e) g))
+      (finishes e q ∙ ap (λ (t : Bool). cond t (kept (to-write setting e bytes tokens) b) (cleared R.no-tree-room b)) (decided _ (tree-decides setting bytes tokens b e) g))
 
 -- REFUSALS
 pub refusals : Refusals

@@ -126,6 +126,12 @@ named setting e bytes tokens = names-of setting e bytes (tokens-of tokens)
 abbrev pub Name-fits : Entry → List ℕ → Buffers → List Name-at → Name-at → Type 0
 Name-fits e tokens b before x = REPORT-ROW * suc (reports-in (happens e tokens) + length before) ≤ length (b .reports)
 
+-- 5 to 7: nothing that happens is refused, and every Name's report fits
+abbrev pub Passes-7 : ℕ → ℕ → List ℕ → List ℕ → Buffers → Entry → Type 0
+Passes-7 n setting bytes tokens b e =
+    Passes-4 n bytes tokens e × Each (Unrefused b) (happens e tokens)
+    × Each (Name-fits e tokens b) (named setting e bytes tokens)
+
 -- what an entry's run gives to write, the reports of those Names last
 abbrev pub to-write : ℕ → Entry → List ℕ → List ℕ → Sheets
 to-write setting e bytes tokens = sheets e (tokens-of tokens) (run-entry e (tokens-of tokens)) (named setting e bytes tokens)
@@ -141,11 +147,6 @@ Tree-fits setting e bytes tokens b =
 -- the first of what happens that is not allowed
 abbrev pub First-met : Entry → List ℕ → Buffers → List Happening → Happening → Type 0
 First-met e tokens b before x = First (Unrefused b) (happens e tokens) before x
-
--- nothing that happens is refused, and every Name's report fits
-abbrev pub All-fit : ℕ → Entry → List ℕ → List ℕ → Buffers → Type 0
-All-fit setting e bytes tokens b =
-    Each (Unrefused b) (happens e tokens) × Each (Name-fits e tokens b) (named setting e bytes tokens)
 
 -- the condition for each number and place, in the documents' order and words
 pub data Cause (n setting : ℕ) (bytes tokens : List ℕ) (b : Buffers) : ℕ → ℕ → Type 0 where
@@ -175,15 +176,16 @@ pub data Cause (n setting : ℕ) (bytes tokens : List ℕ) (b : Buffers) : ℕ �
   -- a report row or its expectations do not fit
   no-report-room : (e : Entry) → Passes-4 n bytes tokens e → (before : List Happening) (c m : ℕ)
       → First-met e tokens b before (report-written c m) → Cause n setting bytes tokens b 7 (from-start tokens m)
-  -- the report of a Name that the setting reports does not fit: the index of its first token
+  -- document 02, 1/14: the report of a Name does not fit; "refusal 7 with that mark, before 8", the mark being the
+  -- index of the Name's first token
   no-name-room : (e : Entry) → Passes-4 n bytes tokens e → Each (Unrefused b) (happens e tokens)
       → (before : List Name-at) (x : Name-at) → First (Name-fits e tokens b) (named setting e bytes tokens) before x
       → Cause n setting bytes tokens b 7 (x .first-token)
   -- the tree or the lexical errors do not fit
-  no-tree-room : (e : Entry) → Passes-4 n bytes tokens e → All-fit setting e bytes tokens b
+  no-tree-room : (e : Entry) → Passes-7 n setting bytes tokens b e
       → ¬ Tree-fits setting e bytes tokens b → Cause n setting bytes tokens b 8 0
   -- accepted
-  none : (e : Entry) → Passes-4 n bytes tokens e → All-fit setting e bytes tokens b
+  none : (e : Entry) → Passes-7 n setting bytes tokens b e
       → Tree-fits setting e bytes tokens b → Cause n setting bytes tokens b 0 0
 
 -- for every call, each number with each place: returned if and only if its cause is there
