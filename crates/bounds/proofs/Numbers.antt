@@ -17,7 +17,7 @@ use Rattle.definitions.specs.Skeleton.{Skeleton}
 use Rattle.definitions.specs.Event.{events}
 use Rattle.definitions.specs.Place.{rows, lexical-errors}
 use Rattle.definitions.specs.Report.{Push, pushes, reports, report-numbers, pool, Fit, fits, stops, scan}
-use Rattle.definitions.specs.Strict.{Name-at, name-numbers, names-fit}
+use Rattle.definitions.specs.Strict.{name-numbers, names-fit}
 use Rattle.definitions.specs.Refusal.{Refusal, unknown-entry, no-tree-room, place-of, Verdict, accepted, refused, is-kind, check-input}
 use Rattle.definitions.specs.Call.{Buffers, zeros, written, refusal, cleared, Sheets, sheets, kept, delivered, forward-mark, unless-refused, outcome, room-of, run-entry, names-of, parse, Asked, for, unknown, entry-of, checked, asked, call}
 use Rattle.basics.proofs.Tests.{cond-all}
@@ -117,15 +117,16 @@ so-far e ts w l m h c =
 
 -- what an accepted call writes
 module _ (setting : ℕ) (e : Entry) (bytes : List ℕ) (ts : List Token) (limits : Within-limits ts) (k : Kinded ts) (c : None-exceeded (pushes (run-entry e ts))) where
+  -- the report rows of the run, and those of the Names
   abbrev reported : List ℕ
   reported = report-numbers (length ts) (byte-count ts) 0 (reports (pushes (run-entry e ts)))
 
   abbrev judged : List ℕ
   judged = name-numbers (length (pool (reports (pushes (run-entry e ts))))) (names-of setting e bytes ts)
 
-  -- how many report rows
-  few-rows-reported : length (reported ++ judged) < TWO-TO-32
-  few-rows-reported =
+  -- how many numbers they are
+  few-report-numbers : length (reported ++ judged) < TWO-TO-32
+  few-report-numbers =
       let n : length ts ≤ MOST-TOKENS = limits .tokens in
       omega (
         arith,
@@ -152,7 +153,7 @@ module _ (setting : ℕ) (e : Entry) (bytes : List ℕ) (ts : List Token) (limit
               place = omega arith;
               tree-count = omega (arith, div-le-self (length (rows (tree e ts))) TREE-ROW);
               error-count = omega (arith, errors-most 0 ts, div-le-self (length x) ERROR-ROW);
-              report-count = omega (arith, few-rows-reported, div-le-self (length (reported ++ judged)) REPORT-ROW);
+              report-count = omega (arith, few-report-numbers, div-le-self (length (reported ++ judged)) REPORT-ROW);
               expectation-count = s .pool-written;
             };
         buffers =

@@ -1,5 +1,6 @@
 -- The premises of the crate's statements can be met: a call whose buffers hold words, in either setting, all that its
--- run pushes, and Names that the strict setting reports. A statement that asks for more under the same name is refused by this file.
+-- run pushes, and Names that the strict setting reports. A statement that asks for more under the same name is refused
+-- by this file.
 use Prim.Native.Nat.{ℕ, zero, suc, _≤_}
 use native.Mathlib.Omega.{arith}
 use mathlib.Core.Path.{_≡_, refl}

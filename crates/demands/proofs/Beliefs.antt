@@ -1,5 +1,5 @@
--- Document 01's four false beliefs, each refuted by one computed call in the old setting: whole answers and all buffers,
--- as the definitions give them.
+-- Document 01's four false beliefs, each refuted by one computed call in the old setting: whole answers and all
+-- buffers, as the definitions give them.
 use mathlib.Core.Path.{_≡_, refl}
 use Prim.Native.Nat.{ℕ}
 use mathlib.Core.List.{List, [], _∷_}

@@ -73,8 +73,9 @@ abbrev after-report : ℕ → Buffers → ℕ → ℕ → Case
 after-report s =
     in-setting s 1 (49 ∷ 58 ∷ 99 ∷ 123 ∷ 125 ∷ 59 ∷ 125 ∷ []) (35 ∷ 1 ∷ 31 ∷ 1 ∷ 27 ∷ 1 ∷ 37 ∷ 1 ∷ 38 ∷ 1 ∷ 29 ∷ 1 ∷ 38 ∷ 1 ∷ [])
 
-abbrev cases : List Case
-cases =
+-- without a Name that breaks the rule
+abbrev unlabelled : List Case
+unlabelled =
     -- 1: entry 0 and entry 5, whatever else is wrong
     on 0 [] [] enough 1 0
     ∷ on 5 [] (27 ∷ []) enough 1 0
@@ -111,9 +112,14 @@ cases =
     ∷ with-error (room 27 24 3 0 0) 7 2
     ∷ with-error (room 36 0 0 9 10) 7 2
     ∷ with-error (room 2 0 0 0 0) 6 0
-    -- the strict setting: 7 for the first Name whose report does not fit, with its first token and not with its `&`,
-    -- before 8; with room for both 8, or none
-    ∷ labelled 1 (room 99 3 0 17 0) 7 4
+    ∷ []
+
+-- with such Names
+abbrev labels : List Case
+labels =
+    -- 7 for the first Name whose report does not fit, with its first token and not with its `&`, before 8; with room
+    -- for both 8, or none
+    labelled 1 (room 99 3 0 17 0) 7 4
     ∷ labelled 1 (room 99 3 0 9 0) 7 4
     ∷ labelled 1 (room 99 3 0 8 0) 7 0
     ∷ labelled 1 (room 99 3 0 18 0) 8 0
@@ -136,6 +142,14 @@ cases =
     ∷ in-setting 1 2 (49 ∷ 97 ∷ []) (27 ∷ 2 ∷ []) (room 99 99 0 8 0) 7 0
     ∷ in-setting 1 2 (49 ∷ 97 ∷ []) (27 ∷ 2 ∷ []) (room 99 99 0 9 0) 0 0
     ∷ []
+
+-- the same in the strict setting
+abbrev strictly : List Case → List Case
+strictly [] = []
+strictly (c ∷ l) = record { entry = c .entry; setting = 1; bytes = c .bytes; rows = c .rows; lent = c .lent; number = c .number; place = c .place } ∷ strictly l
+
+abbrev cases : List Case
+cases = unlabelled ++ (strictly unlabelled ++ labels)
 
 abbrev said : Answer → ℕ → ℕ → Bool
 said a n p = eqb (a .number) n && eqb (a .place) p
