@@ -17,6 +17,7 @@ use Rattle.precedence.specs.Precedence.{tokens-before, DtExpr-at, Brackets}
 use Rattle.brackets.specs.Brackets.{Outline, end, leaf, node, outline, tree-proper}
 use Rattle.brackets.specs.Partner.{No-partner, tokens-first, Reported}
 use Rattle.laws.proofs.FactsHold.{or-left, or-right}
+use Rattle.brackets.proofs.Theorem.{brackets-proper}
 use Rattle.brackets.proofs.Partner.{missed}
 
 -- ---------------------------------------------------------------- calls
@@ -261,6 +262,11 @@ unfolding strict-call closed-in tokens-of
 strict-by-theorem =
     missed 4 1 (38 ∷ 49 ∷ 98 ∷ 40 ∷ 49 ∷ []) strict-numbers lent refl 4 (record { written = lit< tt; width = 2; count = 2; row = refl })
     (λ b i. none-closes (tokens-of strict-numbers) refl b)
+
+-- its tree by the other theorem
+strict-proper : tree-proper (outline (read (take (4 * strict-call .answer .tree-count) (strict-call .buffers .trees)))) ≡ true
+unfolding strict-call
+strict-proper = brackets-proper 4 1 (38 ∷ 49 ∷ 98 ∷ 40 ∷ 49 ∷ []) strict-numbers lent refl
 
 -- there are two report rows, and the name's is not one that answers
 two-rows : strict-call .answer .report-count ≡ 2
