@@ -263,10 +263,13 @@ strict-by-theorem =
     missed 4 1 (38 ∷ 49 ∷ 98 ∷ 40 ∷ 49 ∷ []) strict-numbers lent refl 4 (record { written = lit< tt; width = 2; count = 2; row = refl })
     (λ b i. none-closes (tokens-of strict-numbers) refl b)
 
--- its tree by the other theorem
-strict-proper : tree-proper (outline (read (take (4 * strict-call .answer .tree-count) (strict-call .buffers .trees)))) ≡ true
-unfolding strict-call
-strict-proper = brackets-proper 4 1 (38 ∷ 49 ∷ 98 ∷ 40 ∷ 49 ∷ []) strict-numbers lent refl
+-- the other theorem, of this call in any setting
+abbrev in-setting : ℕ → Result
+in-setting setting = call 4 setting (38 ∷ 49 ∷ 98 ∷ 40 ∷ 49 ∷ []) strict-numbers lent
+
+proper-in-any : (setting : ℕ) → in-setting setting .answer .number ≡ 0
+    → tree-proper (outline (read (take (4 * in-setting setting .answer .tree-count) (in-setting setting .buffers .trees)))) ≡ true
+proper-in-any setting = brackets-proper 4 setting (38 ∷ 49 ∷ 98 ∷ 40 ∷ 49 ∷ []) strict-numbers lent
 
 -- there are two report rows, and the name's is not one that answers
 two-rows : strict-call .answer .report-count ≡ 2

@@ -191,6 +191,13 @@ pub its-mark : mark-in 0 (strict-parsed .buffers .reports) ≡ 6
 unfolding call
 its-mark = refl
 
+-- the theorem of this call, whatever the setting
+abbrev in-setting : ℕ → Result
+in-setting setting = call 4 setting strict-input strict-numbers lent
+
+starts-in-any : (setting p : ℕ) → in-setting setting .answer .number ≡ 0 → DtExpr-at p (in-setting setting) → Starts-cell (tokens-of strict-numbers) p (in-setting setting)
+starts-in-any setting p h d = c-table 4 setting strict-input strict-numbers lent h p d .0
+
 -- ---------------------------------------------------------------- the strict setting: a cell without a tree
 
 -- entry 4, `&1b(1+)`: the name's row comes second, its mark before the bracket
