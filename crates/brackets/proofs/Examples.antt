@@ -1,5 +1,5 @@
--- The statements, computed: calls that meet the premises in both settings, with the kinds of their trees; and trees that
--- do not fit.
+-- The statements, computed: calls that meet the premises in both settings, with the kinds of their trees; and trees
+-- that do not fit.
 use Prim.Native.Nat.{ℕ, _*_, _≤_, _<_}
 use native.Mathlib.Omega.{arith}
 use mathlib.Core.Path.{_≡_, refl, ap, sym, _∙_}

@@ -58,8 +58,8 @@ examples =
     ∷ example 4 (40 ∷ 49 ∷ 40 ∷ 49 ∷ 41 ∷ []) (41 ∷ 1 ∷ 35 ∷ 1 ∷ 41 ∷ 1 ∷ 35 ∷ 1 ∷ 42 ∷ 1 ∷ []) 5 (holds one) 2 (2 ∷ []) []
     -- entry 4, `(1+)`: the report's mark is the RParen's index
     ∷ example 4 (40 ∷ 49 ∷ 43 ∷ 41 ∷ []) (41 ∷ 1 ∷ 35 ∷ 1 ∷ 43 ∷ 1 ∷ 42 ∷ 1 ∷ []) 1 nothing 0 (3 ∷ []) []
-    -- entry 1, `/{1a:b=<(1+2)>;};`: a label that starts with a digit, before a sound cell; in the strict setting a report,
-    -- with its mark at the label
+    -- entry 1, `/{1a:b=<(1+2)>;};`: a label that starts with a digit, before a sound cell; in the strict setting a
+    -- report, with its mark at the label
     ∷ example 1 (47 ∷ 123 ∷ 49 ∷ 97 ∷ 58 ∷ 98 ∷ 61 ∷ 60 ∷ 40 ∷ 49 ∷ 43 ∷ 50 ∷ 41 ∷ 62 ∷ 59 ∷ 125 ∷ 59 ∷ []) (46 ∷ 1 ∷ 37 ∷ 1 ∷ 35 ∷ 1 ∷ 27 ∷ 1 ∷ 31 ∷ 1 ∷ 27 ∷ 1 ∷ 28 ∷ 1 ∷ 39 ∷ 1 ∷ 41 ∷ 1 ∷ 35 ∷ 1 ∷ 43 ∷ 1 ∷ 35 ∷ 1 ∷ 42 ∷ 1 ∷ 40 ∷ 1 ∷ 29 ∷ 1 ∷ 38 ∷ 1 ∷ 29 ∷ 1 ∷ []) 13 (holds (binary one K.Plus one)) 8 [] (2 ∷ [])
     -- entry 1, `a=<(1+2) &1b>;`: a reference, after it; the mark is the name's, not that of `&`
     ∷ example 1 (97 ∷ 61 ∷ 60 ∷ 40 ∷ 49 ∷ 43 ∷ 50 ∷ 41 ∷ 32 ∷ 38 ∷ 49 ∷ 98 ∷ 62 ∷ 59 ∷ []) (27 ∷ 1 ∷ 28 ∷ 1 ∷ 39 ∷ 1 ∷ 41 ∷ 1 ∷ 35 ∷ 1 ∷ 43 ∷ 1 ∷ 35 ∷ 1 ∷ 42 ∷ 1 ∷ 0 ∷ 1 ∷ 30 ∷ 1 ∷ 35 ∷ 1 ∷ 27 ∷ 1 ∷ 40 ∷ 1 ∷ 29 ∷ 1 ∷ []) 7 (holds (binary one K.Plus one)) 3 [] (10 ∷ [])

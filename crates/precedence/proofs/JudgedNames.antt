@@ -119,8 +119,8 @@ module _ (names : List Name-at) where
             (h .side n a);
       }
 
-  -- Of a DtExpr with the children c, in a file of so many tokens, ts being those from the DtExpr on: where no Name under
-  -- it is judged, none has its first token in it, the DtExpr's own first token apart.
+  -- Of a DtExpr with the children c, in a file of so many tokens, ts being those from the DtExpr on: where no Name
+  -- under it is judged, none of these has its first token in it, the DtExpr's own first token apart.
   abbrev pub Apart : ℕ → List Token → Tree → Type 0
   Apart total ts c =
       ((at byte : ℕ) → judged false at byte c ≡ []) → (n : Name-at) → Among n names → total < n .first-token + length ts

@@ -1,5 +1,5 @@
--- Reports and their rows: a report of a run has a row whose mark is its own, and each row is a report's; the rows of the
--- Names that a setting reports follow, each with the Name's first token as its mark.
+-- Reports and their rows: a report of a run has a row whose mark is its own, and each row is a report's; the rows of
+-- the Names that a setting reports follow, each with the Name's first token as its mark.
 use Prim.Native.Nat.{ℕ, zero, suc, _+_, _*_, _-_, _<_}
 use native.Mathlib.Omega.{arith}
 use mathlib.Core.Path.{_≡_, refl, _∙_, ap}

@@ -63,8 +63,8 @@ falls-under a b (y ∷ l) f (there h) = le-trans (falls-under (push-mark y) b l 
 
 -- ---------------------------------------------------------------- a cell in the whole
 
--- C's table gives the tokens between the brackets a tree: no report of the whole has a mark between them, c is that tree
--- and reaches to the RParen
+-- C's table gives the tokens between the brackets a tree: no report of the whole has a mark between them, and c is that
+-- tree and reaches to the RParen
 pub record Clean (whole : List Push) (inner : List Token) (close : Token) (after : List Token) (beyond u : List Token) (c : Tree) : Type 0 where
   pub tree : Expr
   pub gives : Gives (symbols false inner) tree
@@ -116,7 +116,7 @@ module _ (whole : List Push) (from to : ℕ) (falls : Falls from whole to) where
       by-side f (inl g) = omega (arith, falls-before from to pre (event m) (pushes i ++ (event m′ ∷ post)) f g)
       by-side f (inr (there g)) = by-inside f (reported-parts (pushes i) (event m′ ∷ post) g)
 
-  -- the tokens from u on are those of the cell's tree, and at most as many as are left at its end
+  -- the tokens from u on are those of the cell's tree, and those that are left after it
   reached : (m′ : ℕ) (i : Skeleton) (u : List Token) → length (after i u) ≤ m′ → length u ≤ m′ + length (leaves (place i u))
   reached m′ i u l = omega (arith, l, ap length (place-whole i u), length-append (leaves (place i u)) (after i u))
 

@@ -266,8 +266,8 @@ module _ (setting : ℕ) (e : Entry) (bytes : List ℕ) (ts : List Token) (l : B
             rows-are = found p d .rows-are ∙ ap (λ (x : Tree). rows x ++ found p d .more) (ap (λ (y : Tree). subtree N.DtExpr y nil) (h ∙ c) ∙ sym w);
           }
 
-      -- MESSAGE 8 IN NO BRACKETS that C's table gives a tree: nothing in the tree judges a Name, and the tree reaches to the
-      -- RParen
+      -- MESSAGE 8 IN NO BRACKETS that C's table gives a tree: no node of the tree judges a Name, and the tree reaches
+      -- to the RParen
       names-outside : Clean all (b .inner) (b .closing) (b .after) (found p d .fact .0 .beyond) (drop (tokens-before p (r .buffers .trees)) ts) (found p d .children) → Names-outside
       names-outside c n a low high =
           let us = drop (tokens-before p (r .buffers .trees)) ts in

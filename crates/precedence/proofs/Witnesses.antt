@@ -1,6 +1,6 @@
 -- The premises of `C-table` can be met, in both settings, with a tree and without one: accepted calls with a DtExpr and
--- the RParen that balances its LParen. A statement that leaves one of these cells out, or has lost a conclusion named here, is refused
--- by this file.
+-- the RParen that balances its LParen. A statement that leaves one of these cells or the strict setting out, or has
+-- lost a conclusion named here, is refused by this file.
 use Prim.Native.Nat.{ℕ}
 use native.Mathlib.Omega.{arith}
 use mathlib.Core.Path.{_≡_, refl}
