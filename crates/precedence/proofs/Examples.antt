@@ -38,8 +38,22 @@ example n i k p t b m s = record { entry = n; input = i; numbers = k; row = p; t
 one : Expr
 one = literal K.Number
 
+-- `/{1a:b=<(1+2)>;};`
+labelled-bytes : List ℕ
+labelled-bytes = 47 ∷ 123 ∷ 49 ∷ 97 ∷ 58 ∷ 98 ∷ 61 ∷ 60 ∷ 40 ∷ 49 ∷ 43 ∷ 50 ∷ 41 ∷ 62 ∷ 59 ∷ 125 ∷ 59 ∷ []
+
+labelled-numbers : List ℕ
+labelled-numbers = 46 ∷ 1 ∷ 37 ∷ 1 ∷ 35 ∷ 1 ∷ 27 ∷ 1 ∷ 31 ∷ 1 ∷ 27 ∷ 1 ∷ 28 ∷ 1 ∷ 39 ∷ 1 ∷ 41 ∷ 1 ∷ 35 ∷ 1 ∷ 43 ∷ 1 ∷ 35 ∷ 1 ∷ 42 ∷ 1 ∷ 40 ∷ 1 ∷ 29 ∷ 1 ∷ 38 ∷ 1 ∷ 29 ∷ 1 ∷ []
+
+-- `a=<(1+2) &1b>;`
+referring-bytes : List ℕ
+referring-bytes = 97 ∷ 61 ∷ 60 ∷ 40 ∷ 49 ∷ 43 ∷ 50 ∷ 41 ∷ 32 ∷ 38 ∷ 49 ∷ 98 ∷ 62 ∷ 59 ∷ []
+
+referring-numbers : List ℕ
+referring-numbers = 27 ∷ 1 ∷ 28 ∷ 1 ∷ 39 ∷ 1 ∷ 41 ∷ 1 ∷ 35 ∷ 1 ∷ 43 ∷ 1 ∷ 35 ∷ 1 ∷ 42 ∷ 1 ∷ 0 ∷ 1 ∷ 30 ∷ 1 ∷ 35 ∷ 1 ∷ 27 ∷ 1 ∷ 40 ∷ 1 ∷ 29 ∷ 1 ∷ []
+
 examples : List Example
-unfolding example one
+unfolding example one labelled-bytes labelled-numbers referring-bytes referring-numbers
 examples =
     -- entry 4, `(1?1:1?1:1)`: the ternary groups from right to left, and is one InfixExpr of five parts
     example 4 (40 ∷ 49 ∷ 63 ∷ 49 ∷ 58 ∷ 49 ∷ 63 ∷ 49 ∷ 58 ∷ 49 ∷ 41 ∷ []) (41 ∷ 1 ∷ 35 ∷ 1 ∷ 60 ∷ 1 ∷ 35 ∷ 1 ∷ 31 ∷ 1 ∷ 35 ∷ 1 ∷ 60 ∷ 1 ∷ 35 ∷ 1 ∷ 31 ∷ 1 ∷ 35 ∷ 1 ∷ 42 ∷ 1 ∷ []) 1 (holds (ternary one one (ternary one one one))) 0 [] []
@@ -60,9 +74,9 @@ examples =
     ∷ example 4 (40 ∷ 49 ∷ 43 ∷ 41 ∷ []) (41 ∷ 1 ∷ 35 ∷ 1 ∷ 43 ∷ 1 ∷ 42 ∷ 1 ∷ []) 1 nothing 0 (3 ∷ []) []
     -- entry 1, `/{1a:b=<(1+2)>;};`: a label that starts with a digit, before a sound cell; in the strict setting a
     -- report, with its mark at the label
-    ∷ example 1 (47 ∷ 123 ∷ 49 ∷ 97 ∷ 58 ∷ 98 ∷ 61 ∷ 60 ∷ 40 ∷ 49 ∷ 43 ∷ 50 ∷ 41 ∷ 62 ∷ 59 ∷ 125 ∷ 59 ∷ []) (46 ∷ 1 ∷ 37 ∷ 1 ∷ 35 ∷ 1 ∷ 27 ∷ 1 ∷ 31 ∷ 1 ∷ 27 ∷ 1 ∷ 28 ∷ 1 ∷ 39 ∷ 1 ∷ 41 ∷ 1 ∷ 35 ∷ 1 ∷ 43 ∷ 1 ∷ 35 ∷ 1 ∷ 42 ∷ 1 ∷ 40 ∷ 1 ∷ 29 ∷ 1 ∷ 38 ∷ 1 ∷ 29 ∷ 1 ∷ []) 13 (holds (binary one K.Plus one)) 8 [] (2 ∷ [])
+    ∷ example 1 labelled-bytes labelled-numbers 13 (holds (binary one K.Plus one)) 8 [] (2 ∷ [])
     -- entry 1, `a=<(1+2) &1b>;`: a reference, after it; the mark is the name's, not that of `&`
-    ∷ example 1 (97 ∷ 61 ∷ 60 ∷ 40 ∷ 49 ∷ 43 ∷ 50 ∷ 41 ∷ 32 ∷ 38 ∷ 49 ∷ 98 ∷ 62 ∷ 59 ∷ []) (27 ∷ 1 ∷ 28 ∷ 1 ∷ 39 ∷ 1 ∷ 41 ∷ 1 ∷ 35 ∷ 1 ∷ 43 ∷ 1 ∷ 35 ∷ 1 ∷ 42 ∷ 1 ∷ 0 ∷ 1 ∷ 30 ∷ 1 ∷ 35 ∷ 1 ∷ 27 ∷ 1 ∷ 40 ∷ 1 ∷ 29 ∷ 1 ∷ []) 7 (holds (binary one K.Plus one)) 3 [] (10 ∷ [])
+    ∷ example 1 referring-bytes referring-numbers 7 (holds (binary one K.Plus one)) 3 [] (10 ∷ [])
     -- entry 4, `&1a(1)&2b`: on both sides, and no blank between
     ∷ example 4 (38 ∷ 49 ∷ 97 ∷ 40 ∷ 49 ∷ 41 ∷ 38 ∷ 50 ∷ 98 ∷ []) (30 ∷ 1 ∷ 35 ∷ 1 ∷ 27 ∷ 1 ∷ 41 ∷ 1 ∷ 35 ∷ 1 ∷ 42 ∷ 1 ∷ 30 ∷ 1 ∷ 35 ∷ 1 ∷ 27 ∷ 1 ∷ []) 4 (holds one) 3 [] (1 ∷ 7 ∷ [])
     -- entry 4, `(1+)&1b`: no tree; the report between the brackets is there in both settings, and comes first
@@ -119,3 +133,13 @@ agree (x ∷ l) (y ∷ m) = same x y && agree l m
 examples-hold : agree (called examples) (wanted examples) ≡ true
 unfolding agree called wanted examples
 examples-hold = refl
+
+-- the reports that the strict setting adds are of message 8, each over its name's bytes, with no expectation, hint or
+-- label
+label-row : same (take 9 (call 1 1 labelled-bytes labelled-numbers lent .buffers .reports)) (8 ∷ 2 ∷ 4 ∷ 2 ∷ 0 ∷ 0 ∷ 0 ∷ 0 ∷ 0 ∷ []) ≡ true
+unfolding same call lent labelled-bytes labelled-numbers
+label-row = refl
+
+reference-row : same (take 9 (call 1 1 referring-bytes referring-numbers lent .buffers .reports)) (8 ∷ 10 ∷ 12 ∷ 10 ∷ 0 ∷ 0 ∷ 0 ∷ 0 ∷ 0 ∷ []) ≡ true
+unfolding same call lent referring-bytes referring-numbers
+reference-row = refl
