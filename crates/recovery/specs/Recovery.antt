@@ -89,7 +89,7 @@ unfoldable pub later-error : ℕ → Row → Bool
 later-error p r = ltb p (start r)
 
 -- document 01: the later reports are those whose mark is greater than the semicolon's token index. In the strict
--- setting they need not stand together: those on Names follow all others, so marks fall once.
+-- setting they need not stand together: those on Names follow all others, so marks may fall once.
 unfoldable pub later-report : ℕ → Row → Bool
 later-report i r = ltb i (mark r)
 
