@@ -162,27 +162,27 @@ in-cond true x l n j h = (suc j, later h)
 in-cond false x l n j h = (j, h)
 
 -- a Name further on, past so many tokens and bytes
-abbrev Past : (ℕ → ℕ → Type 0) → ℕ → ℕ → ℕ → ℕ → Type 0
+abbrev pub Past : (ℕ → ℕ → Type 0) → ℕ → ℕ → ℕ → ℕ → Type 0
 Past P n w a y = (a′ : ℕ) × (y′ : ℕ) × (a ≡ n + a′) × (y ≡ w + y′) × P a′ y′
 
 -- the ways in which a Name can stand among rows
-abbrev Ways : ℕ → ℕ → ℕ → Rows → Type 0
+abbrev pub Ways : ℕ → ℕ → ℕ → Rows → Type 0
 Ways v a y end = ⊥
 Ways v a y (R.leaf k w n f) = ((k ≡ K.Name) × (v ≡ w) × (a ≡ 0) × (y ≡ 0)) ⊎ Past (λ a′ y′. Name-among v a′ y′ f) n w a y
 Ways v a y (node k w n c f) = Past (λ a′ y′. Name-among v a′ y′ f) (raw-tokens c) w a y
 
-ways : {v a y : ℕ} {r : Rows} → Name-among v a y r → Ways v a y r
+pub ways : {v a y : ℕ} {r : Rows} → Name-among v a y r → Ways v a y r
 ways here = inl (refl, refl, refl, refl)
 ways (past-leaf {at} {byte} h) = inr (at, byte, refl, refl, h)
 ways (past-node {at} {byte} h) = (at, byte, refl, refl, h)
 
-abbrev Judged-ways : ℕ → ℕ → ℕ → Rows → Type 0
+abbrev pub Judged-ways : ℕ → ℕ → ℕ → Rows → Type 0
 Judged-ways v a y end = ⊥
 Judged-ways v a y (R.leaf k w n f) = Past (λ a′ y′. Judged v a′ y′ f) n w a y
 Judged-ways v a y (node k w n c f) =
     (((k ≡ N.DtLabel) ⊎ ((k ≡ N.DtPhandle) × Unbraced c)) × Name-among v a y c) ⊎ (Judged v a y c ⊎ Past (λ a′ y′. Judged v a′ y′ f) (raw-tokens c) w a y)
 
-judged-ways : {v a y : ℕ} {r : Rows} → Judged v a y r → Judged-ways v a y r
+pub judged-ways : {v a y : ℕ} {r : Rows} → Judged v a y r → Judged-ways v a y r
 judged-ways (in-label h) = inl (inl refl, h)
 judged-ways (in-phandle h g) = inl (inr (refl, g), h)
 judged-ways (deeper h) = inr (inl h)

@@ -19,3 +19,5 @@ pub mod Listed
 pub mod Judged
 pub mod Breaking
 pub mod Exactly
+pub mod Witnesses
+pub mod Refutations
