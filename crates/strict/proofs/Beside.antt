@@ -17,8 +17,11 @@ use Rattle.definitions.specs.Call.{Buffers, cleared, Sheets, sheets, kept, deli
 use Rattle.laws.proofs.Accepted.{written-by}
 
 pub data Beside (n s : ℕ) (bytes tokens : List ℕ) (b : Buffers) : Type 0 where
+  -- answer and every buffer
   same : call n s bytes tokens b ≡ call n 0 bytes tokens b → Beside n s bytes tokens b
+  -- cause 7 of a Name; the old setting accepts, or it is 8
   no-room : (m : ℕ) (z : Sheets) → call n s bytes tokens b ≡ cleared (no-report-room m) b → call n 0 bytes tokens b ≡ delivered z b → Beside n s bytes tokens b
+  -- both accept
   both : (e : Entry) → call n s bytes tokens b ≡ kept (written-by s e bytes (tokens-of tokens)) b → call n 0 bytes tokens b ≡ kept (written-by 0 e bytes (tokens-of tokens)) b → Beside n s bytes tokens b
 
 -- Names that do not fit are cause 7

@@ -46,16 +46,16 @@ unfolding sheets reported-names name-numbers
 old-rows e bytes ts = append-nil (run-rows e ts)
 
 -- how many rows a list of whole rows has
-pub row-count : (l : List ℕ) (n : ℕ) → length l ≡ REPORT-ROW * n → length l / REPORT-ROW ≡ n
-row-count l n e = div-eq-of-eq-mul-right (lit< tt) e
+whole-rows : (l : List ℕ) (n : ℕ) → length l ≡ REPORT-ROW * n → length l / REPORT-ROW ≡ n
+whole-rows l n e = div-eq-of-eq-mul-right (lit< tt) e
 
 pub old-count : (e : Entry) (bytes : List ℕ) (ts : List Token) → length (written-by 0 e bytes ts .reports) / REPORT-ROW ≡ length (run-reports e ts)
-old-count e bytes ts = row-count (written-by 0 e bytes ts .reports) (length (run-reports e ts)) (ap length (old-rows e bytes ts) ∙ run-rows-length e ts)
+old-count e bytes ts = whole-rows (written-by 0 e bytes ts .reports) (length (run-reports e ts)) (ap length (old-rows e bytes ts) ∙ run-rows-length e ts)
 
 pub all-count : (s : ℕ) (e : Entry) (bytes : List ℕ) (ts : List Token)
     → length (written-by s e bytes ts .reports) / REPORT-ROW ≡ length (run-reports e ts) + length (names-of s e bytes ts)
 all-count s e bytes ts =
-    row-count (written-by s e bytes ts .reports) (length (run-reports e ts) + length (names-of s e bytes ts))
+    whole-rows (written-by s e bytes ts .reports) (length (run-reports e ts) + length (names-of s e bytes ts))
     (ap length (in-rows s e bytes ts) ∙ length-append (run-rows e ts) (name-rows s e bytes ts) ∙ sum)
   where
     sum : length (run-rows e ts) + length (name-rows s e bytes ts) ≡ REPORT-ROW * (length (run-reports e ts) + length (names-of s e bytes ts))
