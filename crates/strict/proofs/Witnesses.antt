@@ -94,7 +94,7 @@ same-eight : call 1 0 two two-rows (room 43 18) ≡ call 1 1 two two-rows (room 
 unfolding call
 same-eight = same-refusals 1 1 two two-rows (room 43 18) (λ e. omega arith) (λ e. omega arith)
 
--- of the old setting's 8 and 7 here only the second alternative is left, of its 7 only the first
+-- the old setting's 8, which is a 7 here: it is the second alternative that holds
 eight-or-seven : (call 1 1 two two-rows (room 3 17) ≡ call 1 0 two two-rows (room 3 17)) ⊎ ((call 1 0 two two-rows (room 3 17) .answer .number ≡ 8) × (call 1 1 two two-rows (room 3 17) .answer .number ≡ 7))
 unfolding call
 eight-or-seven = old-refusals 1 1 two two-rows (room 3 17) (λ e. omega arith)
