@@ -28,7 +28,12 @@ parse-requires c κs = c .before .before .before .before .before .before .before
 
 returns : tie.Need-returns
 unfolding number-of place-of
-returns c = other-entry (c .before .before .before .before .before .before .before .before .before .before .before .args .setting) (c .before .before .before .before .before .before .before .before .before .before .before .args .bytes .now) (c .before .before .before .before .before .before .before .before .before .before .before .args .tokens .now) (buffers-of (c .before .before .before .before .before .before .before .before .before .before .before .args .events .now) (c .before .before .before .before .before .before .before .before .before .before .before .args .trees .now) (c .before .before .before .before .before .before .before .before .before .before .before .args .errors .now) (c .before .before .before .before .before .before .before .before .before .before .before .args .reports .now) (c .before .before .before .before .before .before .before .before .before .before .before .args .pool .now)) (c .before .before .before .before .before .before .before .before .before .before .before .args .entry) (c .refused .result) (sym (ap asked-of (c .before .enum-told .given .1)) ∙ c .before .before .before .entry-of .ensures) (ap answer-of (c .refused .ensures))
+returns c =
+    let a = c .before .before .before .before .before .before .before .before .before .before .before .args in
+    let entry-of = c .before .before .before .entry-of in
+    let enum-told = c .before .enum-told in
+    let refused = c .refused in
+    other-entry (a .setting) (a .bytes .now) (a .tokens .now) (buffers-of (a .events .now) (a .trees .now) (a .errors .now) (a .reports .now) (a .pool .now)) (a .entry) (refused .result) (sym (ap asked-of (enum-told .given .1)) ∙ entry-of .ensures) (ap answer-of (refused .ensures))
 
 same-length : tie.Need-same-length
 same-length c = c .before .before .before .before .before .before .before .before .before .before .parse .kept .1 .1 .1 .1 .0
@@ -46,10 +51,23 @@ same-length-5 : tie.Need-same-length-5
 same-length-5 c = c .before .before .before .before .before .before .before .before .before .before .parse .kept .1 .1 .1 .1 .1 .1 .1 .1 .0
 
 returns-2 : tie.Need-returns-2
-returns-2 c = sound-call _ (c .before .before .before .before .before .before .before .before .before .before .before .before .before .before .before .before .before .before .before .before .before .before .before .before .before .before .before .before .before .before .args .setting) (c .before .before .before .before .before .before .before .before .before .before .before .before .before .before .before .before .before .before .before .before .before .before .before .before .before .before .before .before .before .before .args .bytes .now) (c .before .before .before .before .before .before .before .before .before .before .before .before .before .before .before .before .before .before .before .before .before .before .before .before .before .before .before .before .before .before .args .tokens .now) (buffers-of (c .before .before .before .before .before .before .before .before .before .before .before .before .before .before .before .before .before .before .before .before .before .before .before .before .before .before .before .before .before .before .args .events .now) (c .before .before .before .before .before .before .before .before .before .before .before .before .before .before .before .before .before .before .before .before .before .before .before .before .before .before .before .before .before .before .args .trees .now) (c .before .before .before .before .before .before .before .before .before .before .before .before .before .before .before .before .before .before .before .before .before .before .before .before .before .before .before .before .before .before .args .errors .now) (c .before .before .before .before .before .before .before .before .before .before .before .before .before .before .before .before .before .before .before .before .before .before .before .before .before .before .before .before .before .before .args .reports .now) (c .before .before .before .before .before .before .before .before .before .before .before .before .before .before .before .before .before .before .before .before .before .before .before .before .before .before .before .before .before .before .args .pool .now)) (c .before .before .before .before .before .before .before .before .before .before .before .before .before .before .before .before .before .before .before .before .before .before .before .before .before .before .before .before .before .before .args .entry) (result-of (c .before .before .before .before .before .before .before .before .before .before .parse .result) (buffers-of (c .before .before .before .before .before .before .before .before .before .before .parse .last .1 .1 .1 .1 .0) (c .before .before .before .before .before .before .before .before .before .before .parse .last .1 .1 .1 .1 .1 .0) (c .before .before .before .before .before .before .before .before .before .before .parse .last .1 .1 .1 .1 .1 .1 .0) (c .before .before .before .before .before .before .before .before .before .before .parse .last .1 .1 .1 .1 .1 .1 .1 .0) (c .before .before .before .before .before .before .before .before .before .before .parse .last .1 .1 .1 .1 .1 .1 .1 .1 .0))) (sym (ap asked-of (c .before .before .before .before .before .before .before .before .before .before .before .before .before .before .before .before .before .before .before .before .asked .given .1)) ∙ c .before .before .before .before .before .before .before .before .before .before .before .before .before .before .before .before .before .before .before .before .before .before .entry-of .ensures) (c .before .before .before .before .before .before .before .before .before .before .before .before .before .before .before .before .before .before .check .ensures .sound (c .before .before .before .before .before .before .before .before .before .before .before .before .before .before .before .before .if1 .taken)) (c .before .before .before .before .before .before .before .before .before .before .parse .ensures)
+returns-2 c =
+    let a = c .before .before .before .before .before .before .before .before .before .before .before .before .before .before .before .before .before .before .before .before .before .before .before .before .before .before .before .before .before .before .args in
+    let entry-of = c .before .before .before .before .before .before .before .before .before .before .before .before .before .before .before .before .before .before .before .before .before .before .entry-of in
+    let asked = c .before .before .before .before .before .before .before .before .before .before .before .before .before .before .before .before .before .before .before .before .asked in
+    let check = c .before .before .before .before .before .before .before .before .before .before .before .before .before .before .before .before .before .before .check in
+    let test = c .before .before .before .before .before .before .before .before .before .before .before .before .before .before .before .before .if1 in
+    let parse = c .before .before .before .before .before .before .before .before .before .before .parse in
+    sound-call _ (a .setting) (a .bytes .now) (a .tokens .now) (buffers-of (a .events .now) (a .trees .now) (a .errors .now) (a .reports .now) (a .pool .now)) (a .entry) (result-of (parse .result) (buffers-of (parse .last .1 .1 .1 .1 .0) (parse .last .1 .1 .1 .1 .1 .0) (parse .last .1 .1 .1 .1 .1 .1 .0) (parse .last .1 .1 .1 .1 .1 .1 .1 .0) (parse .last .1 .1 .1 .1 .1 .1 .1 .1 .0))) (sym (ap asked-of (asked .given .1)) ∙ entry-of .ensures) (check .ensures .sound (test .taken)) (parse .ensures)
 
 returns-3 : tie.Need-returns-3
-returns-3 c = refused-call _ (c .before .before .before .before .before .before .before .before .before .before .before .before .before .before .args .setting) (c .before .before .before .before .before .before .before .before .before .before .before .before .before .before .args .bytes .now) (c .before .before .before .before .before .before .before .before .before .before .before .before .before .before .args .tokens .now) (buffers-of (c .before .before .before .before .before .before .before .before .before .before .before .before .before .before .args .events .now) (c .before .before .before .before .before .before .before .before .before .before .before .before .before .before .args .trees .now) (c .before .before .before .before .before .before .before .before .before .before .before .before .before .before .args .errors .now) (c .before .before .before .before .before .before .before .before .before .before .before .before .before .before .args .reports .now) (c .before .before .before .before .before .before .before .before .before .before .before .before .before .before .args .pool .now)) (c .before .before .before .before .before .before .before .before .before .before .before .before .before .before .args .entry) (result-of (c .before .before .check .result) (buffers-of (c .before .before .before .before .before .before .before .before .before .before .before .before .before .before .args .events .now) (c .before .before .before .before .before .before .before .before .before .before .before .before .before .before .args .trees .now) (c .before .before .before .before .before .before .before .before .before .before .before .before .before .before .args .errors .now) (c .before .before .before .before .before .before .before .before .before .before .before .before .before .before .args .reports .now) (c .before .before .before .before .before .before .before .before .before .before .before .before .before .before .args .pool .now))) (sym (ap asked-of (c .before .before .before .before .asked .given .1)) ∙ c .before .before .before .before .before .before .entry-of .ensures) (c .before .before .check .ensures .refused (c .if1 .left) _ (c .before .before .before .before .before .before .before .before .before .before .before .before .before .before .args .setting) (buffers-of (c .before .before .before .before .before .before .before .before .before .before .before .before .before .before .args .events .now) (c .before .before .before .before .before .before .before .before .before .before .before .before .before .before .args .trees .now) (c .before .before .before .before .before .before .before .before .before .before .before .before .before .before .args .errors .now) (c .before .before .before .before .before .before .before .before .before .before .before .before .before .before .args .reports .now) (c .before .before .before .before .before .before .before .before .before .before .before .before .before .before .args .pool .now)))
+returns-3 c =
+    let a = c .before .before .before .before .before .before .before .before .before .before .before .before .before .before .args in
+    let entry-of = c .before .before .before .before .before .before .entry-of in
+    let asked = c .before .before .before .before .asked in
+    let check = c .before .before .check in
+    let test = c .if1 in
+    refused-call _ (a .setting) (a .bytes .now) (a .tokens .now) (buffers-of (a .events .now) (a .trees .now) (a .errors .now) (a .reports .now) (a .pool .now)) (a .entry) (result-of (check .result) (buffers-of (a .events .now) (a .trees .now) (a .errors .now) (a .reports .now) (a .pool .now))) (sym (ap asked-of (asked .given .1)) ∙ entry-of .ensures) (check .ensures .refused (test .left) _ (a .setting) (buffers-of (a .events .now) (a .trees .now) (a .errors .now) (a .reports .now) (a .pool .now)))
 
 pub dt-parse-spec : {M : Type 1} → statement M
 dt-parse-spec =

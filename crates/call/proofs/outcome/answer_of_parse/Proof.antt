@@ -23,10 +23,18 @@ same-length-4 : tie.Need-same-length-4
 same-length-4 c = search needs
 
 returns : tie.Need-returns
-returns c = ran (c .before .before .before .before .before .before .before .before .before .before .before .before .before .before .before .before .before .before .before .before .args .number) (c .before .before .before .before .before .before .before .before .before .before .before .before .before .before .before .before .before .before .before .before .args .place) (c .before .before .before .before .before .before .before .before .before .before .before .before .before .before .before .before .before .before .before .before .args .root-kind) (c .before .before .before .before .before .before .before .before .before .before .before .before .before .before .before .before .before .before .before .before .args .setting) (c .before .before .before .before .before .before .before .before .before .before .before .before .before .before .before .before .before .before .before .before .args .events-written) (c .before .before .before .before .before .before .before .before .before .before .before .before .before .before .before .before .before .before .before .before .args .reports-written) (c .before .before .before .before .before .before .before .before .before .before .before .before .before .before .before .before .before .before .before .before .args .pool-written) (c .before .before .before .before .before .before .before .before .before .before .before .before .before .before .before .before .before .before .before .before .args .bytes .now) (c .before .before .before .before .before .before .before .before .before .before .before .before .before .before .before .before .before .before .before .before .args .tokens .now) (c .before .before .before .before .before .before .before .before .before .before .before .before .before .before .before .before .before .before .before .before .args .events .now) (c .before .before .before .before .before .before .before .before .before .before .before .before .before .before .before .before .before .before .before .before .args .trees .now) (c .before .before .before .before .before .before .before .before .before .before .before .before .before .before .before .before .before .before .before .before .args .errors .now) (c .before .before .before .before .before .before .before .before .before .before .before .before .before .before .before .before .before .before .before .before .args .reports .now) (c .before .before .before .before .before .before .before .before .answer-of-run .last .1 .1 .1 .1 .1 .1 .0) (c .before .before .before .before .before .before .before .before .answer-of-run .last .1 .1 .1 .1 .1 .1 .1 .0) (c .before .before .before .before .before .before .before .before .answer-of-run .last .1 .1 .1 .1 .1 .1 .1 .1 .0) (c .before .before .before .before .before .before .before .before .answer-of-run .result) (c .before .before .before .before .before .before .before .before .before .before .before .before .before .if1 .taken) (c .before .before .before .before .before .before .before .before .answer-of-run .ensures)
+returns c =
+    let a = c .before .before .before .before .before .before .before .before .before .before .before .before .before .before .before .before .before .before .before .before .args in
+    let test = c .before .before .before .before .before .before .before .before .before .before .before .before .before .if1 in
+    let run = c .before .before .before .before .before .before .before .before .answer-of-run in
+    ran (a .number) (a .place) (a .root-kind) (a .setting) (a .events-written) (a .reports-written) (a .pool-written) (a .bytes .now) (a .tokens .now) (a .events .now) (a .trees .now) (a .errors .now) (a .reports .now) (run .last .1 .1 .1 .1 .1 .1 .0) (run .last .1 .1 .1 .1 .1 .1 .1 .0) (run .last .1 .1 .1 .1 .1 .1 .1 .1 .0) (run .result) (test .taken) (run .ensures)
 
 returns-2 : tie.Need-returns-2
-returns-2 c = stopped (c .before .before .before .before .before .before .before .before .args .number) (c .before .before .before .before .before .before .before .before .args .place) (c .before .before .before .before .before .before .before .before .args .root-kind) (c .before .before .before .before .before .before .before .before .args .setting) (c .before .before .before .before .before .before .before .before .args .events-written) (c .before .before .before .before .before .before .before .before .args .reports-written) (c .before .before .before .before .before .before .before .before .args .pool-written) (c .before .before .before .before .before .before .before .before .args .bytes .now) (c .before .before .before .before .before .before .before .before .args .tokens .now) (c .before .before .before .before .before .before .before .before .args .events .now) (c .before .before .before .before .before .before .before .before .args .trees .now) (c .before .before .before .before .before .before .before .before .args .errors .now) (c .before .before .before .before .before .before .before .before .args .reports .now) (c .before .before .before .before .before .before .before .before .args .trees .now) (c .before .before .before .before .before .before .before .before .args .errors .now) (c .before .before .before .before .before .before .before .before .args .reports .now) (c .refused .result) (c .before .if1 .left) (c .refused .ensures)
+returns-2 c =
+    let a = c .before .before .before .before .before .before .before .before .args in
+    let test = c .before .if1 in
+    let refused = c .refused in
+    stopped (a .number) (a .place) (a .root-kind) (a .setting) (a .events-written) (a .reports-written) (a .pool-written) (a .bytes .now) (a .tokens .now) (a .events .now) (a .trees .now) (a .errors .now) (a .reports .now) (a .trees .now) (a .errors .now) (a .reports .now) (refused .result) (test .left) (refused .ensures)
 
 pub answer-of-parse-spec : {M : Type 1} → statement M
 answer-of-parse-spec =

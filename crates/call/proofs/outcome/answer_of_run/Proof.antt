@@ -40,7 +40,14 @@ same-length-4 : tie.Need-same-length-4
 same-length-4 c = search needs
 
 returns : tie.Need-returns
-returns c = fitted (c .before .before .before .before .before .before .before .before .before .before .before .before .before .before .before .before .before .before .before .before .before .before .before .before .before .args .root-kind) (c .before .before .before .before .before .before .before .before .before .before .before .before .before .before .before .before .before .before .before .before .before .before .before .before .before .args .setting) (c .before .before .before .before .before .before .before .before .before .before .before .before .before .before .before .before .before .before .before .before .before .before .before .before .before .args .events-written) (c .before .before .before .before .before .before .before .before .before .before .before .before .before .before .before .before .before .before .before .before .before .before .before .before .before .args .reports-written) (c .before .before .before .before .before .before .before .before .before .before .before .before .before .before .before .before .before .before .before .before .before .before .before .before .before .args .pool-written) (c .before .before .before .before .before .before .before .before .before .before .before .before .before .before .before .before .before .before .before .before .before .before .before .before .before .args .bytes .now) (c .before .before .before .before .before .before .before .before .before .before .before .before .before .before .before .before .before .before .before .before .before .before .before .before .before .args .tokens .now) (c .before .before .before .before .before .before .before .before .before .before .before .before .before .before .before .before .before .before .before .before .before .before .before .before .before .args .events .now) (c .before .before .before .before .before .before .before .before .before .before .before .before .before .before .before .before .before .before .before .before .before .before .before .before .before .args .trees .now) (c .before .before .before .before .before .before .before .before .before .before .before .before .before .before .before .before .before .before .before .before .before .before .before .before .before .args .errors .now) (c .before .before .before .before .before .before .before .before .before .before .before .before .before .before .before .before .before .before .before .before .before .before .before .before .before .args .reports .now) (c .before .before .before .before .before .before .before .before .before .before .before .before .before .before .before .finish .last .1 .1 .1 .0) (c .before .before .before .before .before .before .before .before .before .before .before .before .before .before .before .finish .last .1 .1 .1 .1 .0) (c .before .before .before .before .before .before .before .report-names .last .1 .1 .1 .1 .1 .1 .0) (c .before .before .before .before .before .before .before .before .before .before .before .before .before .before .before .finish .result) (c .before .before .before .before .before .before .before .before .before .before .before .before .before .before .before .finish .ensures .1) (c .before .before .before .before .before .before .before .report-names .result) (c .before .before .before .before .before .before .before .before .low32 .result) (c .before .before .before .before .before .before .before .before .low32 .ensures) (c .before .before .before .before .before .before .before .report-names .ensures .1) (c .answer-of-sink .result) (c .before .if1 .taken) (c .answer-of-sink .ensures .0) (c .answer-of-sink .ensures .1)
+returns c =
+    let a = c .before .before .before .before .before .before .before .before .before .before .before .before .before .before .before .before .before .before .before .before .before .before .before .before .before .args in
+    let sunk = c .before .before .before .before .before .before .before .before .before .before .before .before .before .before .before .finish in
+    let first = c .before .before .before .before .before .before .before .before .low32 in
+    let names = c .before .before .before .before .before .before .before .report-names in
+    let answer = c .answer-of-sink in
+    let test = c .before .if1 in
+    fitted (a .root-kind) (a .setting) (a .events-written) (a .reports-written) (a .pool-written) (a .bytes .now) (a .tokens .now) (a .events .now) (a .trees .now) (a .errors .now) (a .reports .now) (sunk .last .1 .1 .1 .0) (sunk .last .1 .1 .1 .1 .0) (names .last .1 .1 .1 .1 .1 .1 .0) (sunk .result) (sunk .ensures .1) (names .result) (first .result) (first .ensures) (names .ensures .1) (answer .result) (test .taken) (answer .ensures .0) (answer .ensures .1)
 
 same-length-5 : tie.Need-same-length-5
 same-length-5 c = search needs
@@ -55,7 +62,14 @@ same-length-8 : tie.Need-same-length-8
 same-length-8 c = search needs
 
 returns-2 : tie.Need-returns-2
-returns-2 c = not-fitted (c .before .before .before .before .before .before .before .before .before .before .before .before .before .before .before .before .before .before .before .before .before .before .before .before .before .args .root-kind) (c .before .before .before .before .before .before .before .before .before .before .before .before .before .before .before .before .before .before .before .before .before .before .before .before .before .args .setting) (c .before .before .before .before .before .before .before .before .before .before .before .before .before .before .before .before .before .before .before .before .before .before .before .before .before .args .events-written) (c .before .before .before .before .before .before .before .before .before .before .before .before .before .before .before .before .before .before .before .before .before .before .before .before .before .args .reports-written) (c .before .before .before .before .before .before .before .before .before .before .before .before .before .before .before .before .before .before .before .before .before .before .before .before .before .args .pool-written) (c .before .before .before .before .before .before .before .before .before .before .before .before .before .before .before .before .before .before .before .before .before .before .before .before .before .args .bytes .now) (c .before .before .before .before .before .before .before .before .before .before .before .before .before .before .before .before .before .before .before .before .before .before .before .before .before .args .tokens .now) (c .before .before .before .before .before .before .before .before .before .before .before .before .before .before .before .before .before .before .before .before .before .before .before .before .before .args .events .now) (c .before .before .before .before .before .before .before .before .before .before .before .before .before .before .before .before .before .before .before .before .before .before .before .before .before .args .trees .now) (c .before .before .before .before .before .before .before .before .before .before .before .before .before .before .before .before .before .before .before .before .before .before .before .before .before .args .errors .now) (c .before .before .before .before .before .before .before .before .before .before .before .before .before .before .before .before .before .before .before .before .before .before .before .before .before .args .reports .now) (c .before .before .before .before .before .before .before .before .before .before .before .before .before .before .before .finish .last .1 .1 .1 .0) (c .before .before .before .before .before .before .before .before .before .before .before .before .before .before .before .finish .last .1 .1 .1 .1 .0) (c .before .before .before .before .before .before .before .report-names .last .1 .1 .1 .1 .1 .1 .0) (c .before .before .before .before .before .before .before .before .before .before .before .before .before .before .before .finish .result) (c .before .before .before .before .before .before .before .before .before .before .before .before .before .before .before .finish .ensures .1) (c .before .before .before .before .before .before .before .report-names .result) (c .before .before .before .before .before .before .before .before .low32 .result) (c .before .before .before .before .before .before .before .before .low32 .ensures) (c .before .before .before .before .before .before .before .report-names .ensures .1) (c .refused .result) (c .before .if1 .left) (c .refused .ensures)
+returns-2 c =
+    let a = c .before .before .before .before .before .before .before .before .before .before .before .before .before .before .before .before .before .before .before .before .before .before .before .before .before .args in
+    let sunk = c .before .before .before .before .before .before .before .before .before .before .before .before .before .before .before .finish in
+    let first = c .before .before .before .before .before .before .before .before .low32 in
+    let names = c .before .before .before .before .before .before .before .report-names in
+    let test = c .before .if1 in
+    let refused = c .refused in
+    not-fitted (a .root-kind) (a .setting) (a .events-written) (a .reports-written) (a .pool-written) (a .bytes .now) (a .tokens .now) (a .events .now) (a .trees .now) (a .errors .now) (a .reports .now) (sunk .last .1 .1 .1 .0) (sunk .last .1 .1 .1 .1 .0) (names .last .1 .1 .1 .1 .1 .1 .0) (sunk .result) (sunk .ensures .1) (names .result) (first .result) (first .ensures) (names .ensures .1) (refused .result) (test .left) (refused .ensures)
 
 pub answer-of-run-spec : {M : Type 1} → statement M
 answer-of-run-spec =
