@@ -18,7 +18,8 @@ numbered! {
 }
 
 impl Entrypoint {
-    /// Parses the input in the [old setting](Setting::Old). To parse often, keep a [`Parser`], whose buffers are used again.
+    /// Parses the input in the [old setting](Setting::Old). To parse often, keep a [`Parser`], whose buffers are used
+    /// again.
     ///
     /// ```
     /// use dt_parser::{Entrypoint, Input, Token, TokenKind};

@@ -26,8 +26,8 @@ numbered! {
 }
 
 impl Message {
-    /// The message's text, as in dt-tools where it has one. None for [`Message::Expected`], whose text depends on the report:
-    /// [`Report::text`](crate::Report::text).
+    /// The message's text, as in dt-tools where it has one. None for [`Message::Expected`], whose text depends on the
+    /// report: [`Report::text`](crate::Report::text).
     #[must_use]
     pub const fn fixed_text(self) -> Option<&'static str> {
         Some(match self {

@@ -60,8 +60,8 @@ impl Parser {
         Self::default()
     }
 
-    /// Parses the input in the old setting. Where a buffer is too small (refusals 6 to 8) the call is made again with a larger one, up to
-    /// what every run fits by the theorem of crates/bounds.
+    /// Parses the input in the old setting. Where a buffer is too small (refusals 6 to 8) the call is made again with a
+    /// larger one, up to what every run fits by the theorem of crates/bounds.
     ///
     /// # Errors
     ///

@@ -96,9 +96,9 @@ fn a_reported_label_does_not_hide_what_has_no_report() {
     let input = input(&rows, &mut text);
     let ranges = |setting| {
         let parse = Entrypoint::SourceFile.parse_in(setting, &input).unwrap();
-        let silent: Vec<_> = parse.unreported().iter().map(|node| node.range().byte_range()).collect();
-        (silent, parse.reports.len())
+        let silent: Vec<_> = parse.unreported().iter().map(|node| node.range().to_string()).collect();
+        (silent.join(" "), parse.reports.len())
     };
-    assert_eq!(ranges(Setting::Old), (vec![0..7], 0));
-    assert_eq!(ranges(Setting::Strict), (vec![0..7], 1));
+    assert_eq!(ranges(Setting::Old), ("0..7".to_string(), 0));
+    assert_eq!(ranges(Setting::Strict), ("0..7".to_string(), 1));
 }
