@@ -1,5 +1,5 @@
 // The numbers of the layout, each once: token kinds and sets of them, node kinds, event tags, row sizes, messages,
-// hints, expectations, refusals and limits. In the definitions they stand in specs/Layout, TokenKind, LexError,
+// hints, expectations, refusals, limits and settings. In the definitions they stand in specs/Layout, TokenKind, LexError,
 // NodeKind and Errors, the sets in Check and Grammar. Beside them: what is trivia, and sums of 32 bits.
 pub mod event_tag;
 pub mod expected;
@@ -11,6 +11,7 @@ pub mod refusal;
 pub mod row;
 pub mod row_kind;
 pub mod set;
+pub mod setting;
 pub mod token_kind;
 pub mod word;
 

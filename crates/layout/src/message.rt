@@ -12,3 +12,6 @@ pub const STRAY_CONTINUATION: u32 = 5;
 pub const AT_SIGN_IN_LABEL: u32 = 6;
 
 pub const UNCLOSED_NODE: u32 = 7;
+
+// In the strict setting alone.
+pub const NOT_A_LABEL: u32 = 8;
