@@ -1,4 +1,5 @@
-//! The static library against the Rust, in one process. ../docs/FUZZING.md says what is compared and how it is run.
+//! The static library against the Rust, and in the strict setting against a plain reading of its request, in one
+//! process. ../docs/FUZZING.md says what is compared and how it is run.
 mod buffers;
 mod call;
 mod exact;
@@ -9,6 +10,7 @@ mod run;
 mod seen;
 mod show;
 mod shrink;
+mod strict;
 mod tally;
 mod unchanged;
 
