@@ -11,8 +11,9 @@
 -- 4. Beside the counts: Pools, at most 256 expectations in a report; Codes and CodedRuns, every code that a run makes
 --    is below 256.
 -- 5. What is written: Events, the numbers of event rows; TreeRows, how many tree rows and what is in them; Written,
---    reports, pool and lexical errors; Places, the place of a refusal. Numbers joins them to the statements of
---    specs/Numbers.antt. Witnesses: its premises can be met. Refutations: wrong answers do not pass.
+--    reports, pool and lexical errors; Places, the place of a refusal; StrictNames, what the strict setting adds to the
+--    reports. Numbers joins them to the statements of specs/Numbers.antt. Witnesses: its premises can be met.
+--    Refutations: wrong answers do not pass.
 pub mod Row
 pub mod RowLaws
 pub mod Cost
@@ -31,6 +32,7 @@ pub mod Events
 pub mod TreeRows
 pub mod Written
 pub mod Places
+pub mod StrictNames
 pub mod Numbers
 pub mod Witnesses
 pub mod Refutations

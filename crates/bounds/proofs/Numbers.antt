@@ -17,8 +17,9 @@ use Rattle.definitions.specs.Skeleton.{Skeleton}
 use Rattle.definitions.specs.Event.{events}
 use Rattle.definitions.specs.Place.{rows, lexical-errors}
 use Rattle.definitions.specs.Report.{Push, pushes, reports, report-numbers, pool, Fit, fits, stops, scan}
+use Rattle.definitions.specs.Strict.{name-numbers, names-fit}
 use Rattle.definitions.specs.Refusal.{Refusal, unknown-entry, no-tree-room, place-of, Verdict, accepted, refused, is-kind, check-input}
-use Rattle.definitions.specs.Call.{Buffers, zeros, written, refusal, cleared, Sheets, sheets, kept, delivered, forward-mark, outcome, room-of, run-entry, parse, Asked, for, unknown, entry-of, checked, asked, call}
+use Rattle.definitions.specs.Call.{Buffers, zeros, written, refusal, cleared, Sheets, sheets, kept, delivered, forward-mark, unless-refused, outcome, room-of, run-entry, names-of, parse, Asked, for, unknown, entry-of, checked, asked, call}
 use Rattle.basics.proofs.Tests.{cond-all}
 use Rattle.laws.proofs.Skeleton.{event-count-append, events-length, reports-append}
 use Rattle.laws.specs.Pushes.{event-count, None-exceeded}
@@ -36,6 +37,7 @@ use Rattle.bounds.proofs.Events.{events-fit}
 use Rattle.bounds.proofs.TreeRows.{Kinded, tree, few-rows, few-children, rows-below}
 use Rattle.bounds.proofs.Written.{below-wider, below-zeros, All-coded, coded-left, reports-coded, pool-below, report-numbers-below, errors-most, errors-below}
 use Rattle.bounds.proofs.Places.{number-small, Placed, input-placed, Stopped, scan-stopped}
+use Rattle.bounds.proofs.StrictNames.{few-names, names-within, name-numbers-length, name-numbers-below, names-placed}
 use Rattle.laws.proofs.ReportNumbers.{report-numbers-length}
 
 -- ---------------------------------------------------------------- a run
@@ -69,6 +71,8 @@ module _ (e : Entry) (ts : List Token) where
         pool-so-far = few-pool;
         tree-rows = omega (arith, rows-length (tree e ts), few-rows e ts);
         counts = few-children e ts;
+        names = λ setting bytes. omega (arith, few-names setting e bytes ts);
+        names-inside = λ setting bytes. names-within setting e bytes ts;
       }
 
 pub runs-bounded : Runs-bounded
@@ -112,8 +116,28 @@ so-far e ts w l m h c =
     }
 
 -- what an accepted call writes
-module _ (e : Entry) (ts : List Token) (limits : Within-limits ts) (k : Kinded ts) (c : None-exceeded (pushes (run-entry e ts))) where
-  pub sheets-fit : (b : Buffers) → Fits (kept (sheets e ts (run-entry e ts)) b)
+module _ (setting : ℕ) (e : Entry) (bytes : List ℕ) (ts : List Token) (limits : Within-limits ts) (k : Kinded ts) (c : None-exceeded (pushes (run-entry e ts))) where
+  -- the report rows of the run, and those of the Names
+  abbrev reported : List ℕ
+  reported = report-numbers (length ts) (byte-count ts) 0 (reports (pushes (run-entry e ts)))
+
+  abbrev judged : List ℕ
+  judged = name-numbers (length (pool (reports (pushes (run-entry e ts))))) (names-of setting e bytes ts)
+
+  -- how many numbers they are
+  few-report-numbers : length (reported ++ judged) < TWO-TO-32
+  few-report-numbers =
+      let n : length ts ≤ MOST-TOKENS = limits .tokens in
+      omega (
+        arith,
+        length-append reported judged,
+        report-numbers-length (length ts) (byte-count ts) 0 (reports (pushes (run-entry e ts))),
+        few-reported e ts (pushes (run-entry e ts)) [] (sym (append-nil (pushes (run-entry e ts)))),
+        name-numbers-length (length (pool (reports (pushes (run-entry e ts))))) (names-of setting e bytes ts),
+        few-names setting e bytes ts,
+      )
+
+  pub sheets-fit : (b : Buffers) → Fits (kept (sheets e ts (run-entry e ts) (names-of setting e bytes ts)) b)
   unfolding sheets
   sheets-fit b =
       let l = reports (pushes (run-entry e ts)) in
@@ -129,7 +153,7 @@ module _ (e : Entry) (ts : List Token) (limits : Within-limits ts) (k : Kinded t
               place = omega arith;
               tree-count = omega (arith, div-le-self (length (rows (tree e ts))) TREE-ROW);
               error-count = omega (arith, errors-most 0 ts, div-le-self (length x) ERROR-ROW);
-              report-count = omega (arith, s .reports-written, report-numbers-length (length ts) (byte-count ts) 0 l, div-le-self (length (report-numbers (length ts) (byte-count ts) 0 l)) REPORT-ROW);
+              report-count = omega (arith, few-report-numbers, div-le-self (length (reported ++ judged)) REPORT-ROW);
               expectation-count = s .pool-written;
             };
         buffers =
@@ -137,7 +161,9 @@ module _ (e : Entry) (ts : List Token) (limits : Within-limits ts) (k : Kinded t
               events = below-zeros TWO-TO-32 (length (b .events)) (omega arith);
               trees = below-written (rows (tree e ts)) (b .trees) (rows-below TWO-TO-32 (omega arith) e ts k (omega arith) (omega arith) (omega arith));
               errors = below-written x (b .errors) (errors-below TWO-TO-32 0 ts (omega arith) k (omega arith));
-              reports = below-written (report-numbers (length ts) (byte-count ts) 0 l) (b .reports) (s .report-words);
+              reports =
+                  below-written (reported ++ judged) (b .reports)
+                  (below-append TWO-TO-32 reported judged (s .report-words) (name-numbers-below TWO-TO-32 (length ts) (byte-count ts) (length (pool l)) (names-of setting e bytes ts) (omega arith) (omega arith) (omega arith) (s .pool-written) (names-within setting e bytes ts)));
               pool = below-written (pool l) (b .pool) (s .pool-words);
             };
       }
@@ -150,26 +176,36 @@ cleared-fits r b h =
     let z : (l : List ℕ) → Below TWO-TO-32 (zeros l) = λ l. below-zeros TWO-TO-32 (length l) (omega arith) in
     record { answer = refusal-fits r h; buffers = record { events = z (b .events); trees = z (b .trees); errors = z (b .errors); reports = z (b .reports); pool = z (b .pool) } }
 
-module _ (bytes tokens : List ℕ) (b : Buffers) (w : Words b) where
-  parse-fits : (e : Entry) → check-input bytes tokens ≡ accepted → (f : Fit) → scan (pushes (run-entry e (tokens-of tokens))) (room-of b) ≡ f → Fits (outcome f e (tokens-of tokens) (run-entry e (tokens-of tokens)) b)
-  unfolding outcome delivered place-of
+module _ (setting : ℕ) (bytes tokens : List ℕ) (b : Buffers) (w : Words b) where
+  -- after the run: whether the Names fit, and then the tree
+  names-fitted : (e : Entry) → check-input bytes tokens ≡ accepted → None-exceeded (pushes (run-entry e (tokens-of tokens)))
+      → (v : Verdict) → Placed (length (tokens-of tokens)) v → Fits (unless-refused v (sheets e (tokens-of tokens) (run-entry e (tokens-of tokens)) (names-of setting e bytes (tokens-of tokens))) b)
+  unfolding unless-refused delivered place-of
+  names-fitted e a c (refused r) p = let i : Checked bytes tokens = checked-input bytes tokens a in cleared-fits r b (omega (arith, p, i .pairs, i .numbers-limit))
+  names-fitted e a c accepted p =
+      let i : Checked bytes tokens = checked-input bytes tokens a in
+      let s : Sheets = sheets e (tokens-of tokens) (run-entry e (tokens-of tokens)) (names-of setting e bytes (tokens-of tokens)) in
+      cond-all Fits (leb (length (s .trees)) (length (b .trees)) && leb (length (s .errors)) (length (b .errors)))
+      (sheets-fit setting e bytes (tokens-of tokens) (record { tokens = omega (arith, i .pairs, i .numbers-limit); input = omega (arith, i .covered, i .bytes-limit) }) (good-kinded (tokens-of tokens) (i .good)) c b)
+      (cleared-fits no-tree-room b (omega arith))
+
+  parse-fits : (e : Entry) → check-input bytes tokens ≡ accepted → (f : Fit) → scan (pushes (run-entry e (tokens-of tokens))) (room-of b) ≡ f
+      → Fits (outcome f e (tokens-of tokens) (run-entry e (tokens-of tokens)) (names-of setting e bytes (tokens-of tokens)) b)
+  unfolding outcome place-of
   parse-fits e a (stops r) q =
       let i : Checked bytes tokens = checked-input bytes tokens a in
       let s : place-of (forward-mark (length (tokens-of tokens)) r) ≤ length (tokens-of tokens) = subst (Stopped (length (tokens-of tokens))) q (scan-stopped (length (tokens-of tokens)) (pushes (run-entry e (tokens-of tokens))) (room-of b)) in
       cleared-fits (forward-mark (length (tokens-of tokens)) r) b (omega (arith, i .pairs, i .numbers-limit))
   parse-fits e a (fits z) q =
-      let i : Checked bytes tokens = checked-input bytes tokens a in
-      let s : Sheets = sheets e (tokens-of tokens) (run-entry e (tokens-of tokens)) in
-      cond-all Fits (leb (length (s .trees)) (length (b .trees)) && leb (length (s .errors)) (length (b .errors)))
-      (sheets-fit e (tokens-of tokens) (record { tokens = omega (arith, i .pairs, i .numbers-limit); input = omega (arith, i .covered, i .bytes-limit) }) (good-kinded (tokens-of tokens) (i .good)) (fits-clear (pushes (run-entry e (tokens-of tokens))) (room-of b) z q) b)
-      (cleared-fits no-tree-room b (omega arith))
+      names-fitted e a (fits-clear (pushes (run-entry e (tokens-of tokens))) (room-of b) z q) (names-fit (z .reports) (names-of setting e bytes (tokens-of tokens)))
+      (names-placed (length (tokens-of tokens)) (byte-count (tokens-of tokens)) (z .reports) (names-of setting e bytes (tokens-of tokens)) (names-within setting e bytes (tokens-of tokens)))
 
-  checked-fits : (e : Entry) (v : Verdict) → check-input bytes tokens ≡ v → Fits (checked v e tokens b)
+  checked-fits : (e : Entry) (v : Verdict) → check-input bytes tokens ≡ v → Fits (checked v e setting bytes tokens b)
   unfolding checked parse
   checked-fits e accepted a = parse-fits e a _ refl
   checked-fits e (refused r) a = let p : place-of r ≤ MOST-TOKEN-NUMBERS = subst (Placed MOST-TOKEN-NUMBERS) a (input-placed bytes tokens) in record { answer = refusal-fits r (omega arith); buffers = w }
 
-  asked-fits : (x : Asked) → Fits (asked x bytes tokens b)
+  asked-fits : (x : Asked) → Fits (asked x setting bytes tokens b)
   unfolding asked place-of
   asked-fits unknown = record { answer = refusal-fits unknown-entry (omega arith); buffers = w }
   asked-fits (for e) = checked-fits e (check-input bytes tokens) refl
@@ -177,4 +213,4 @@ module _ (bytes tokens : List ℕ) (b : Buffers) (w : Words b) where
 -- NUMBERS FIT
 pub numbers-fit : Numbers-fit
 unfolding call
-numbers-fit n bytes tokens b w = asked-fits bytes tokens b w (entry-of n)
+numbers-fit n setting bytes tokens b w = asked-fits setting bytes tokens b w (entry-of n)

@@ -11,8 +11,10 @@ use Rattle.definitions.specs.Skeleton.{no-label}
 use Rattle.definitions.specs.Event.{StartNode, AddCombinedToken}
 use Rattle.definitions.specs.Place.{leaf, subtree, nil, count}
 use Rattle.definitions.specs.Report.{reported, reports, pool}
-use Rattle.definitions.specs.Call.{Answer, Result}
-use Rattle.bounds.specs.Numbers.{most-events, most-reports, most-expectations, most-rows, Within-limits, So-far, Answer-fits, Fits, All-fit, Counts-within}
+use Rattle.definitions.specs.Grammar.{Entry}
+use Rattle.definitions.specs.Strict.{Name-at}
+use Rattle.definitions.specs.Call.{Answer, Result, names-of}
+use Rattle.bounds.specs.Numbers.{most-events, most-reports, most-expectations, most-rows, Within-limits, So-far, Answer-fits, Fits, All-fit, Counts-within, Names-within, Bounded}
 
 -- 2^32, by its own number: a larger `TWO-TO-32` would pass otherwise
 abbrev large : ℕ
@@ -51,6 +53,16 @@ not-the-events = (λ a. omega (arith, a .0 .0), λ a. omega (arith, a .0 .1), λ
 not-the-children : Counts-within 1 (subtree 0 (leaf 27 [] (leaf 29 [] nil)) nil) → ⊥
 unfolding count
 not-the-children c = omega (arith, c .0)
+
+-- two Names for one token; and a Name past the tokens, one past the bytes, one that ends before it starts
+not-the-names : (e : Entry) (ts : List Token) → Bounded e ts → length ts ≡ 1 → (setting : ℕ) (bytes : List ℕ) → length (names-of setting e bytes ts) ≡ 2 → ⊥
+not-the-names e ts b t setting bytes h = omega (arith, b .names setting bytes, t, h)
+
+abbrev a-name : ℕ → ℕ → ℕ → List Name-at
+a-name t s e = record { first-token = t; start = s; end = e } ∷ []
+
+not-inside : (Names-within 1 2 (a-name 1 0 2) → ⊥) × (Names-within 1 2 (a-name 0 2 3) → ⊥) × (Names-within 1 2 (a-name 0 2 1) → ⊥)
+not-inside = (λ n. omega (arith, n .0), λ n. omega (arith, n .2), λ n. omega (arith, n .1))
 
 -- ---------------------------------------------------------------- the bounds themselves
 

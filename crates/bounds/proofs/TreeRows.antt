@@ -66,7 +66,7 @@ branches-place (ignored m m′ a i o) ts =
 branches-place (report r o) ts = omega (arith, branches-place o ts)
 branches-place (over m o) ts = branches-place o ts
 
-some-token : (k : ℕ) (raw : List Token) → Kind-of k raw → 1 ≤ length raw
+pub some-token : (k : ℕ) (raw : List Token) → Kind-of k raw → 1 ≤ length raw
 some-token k _ (one-token t e) = omega arith
 some-token k _ (a-name t ts e n) = omega arith
 
@@ -80,7 +80,7 @@ row-count-le (subtree k c f) r = simp length-append (omega (arith, row-count-le 
 abbrev pub tree : Entry → List Token → Tree
 tree e ts = root (root-kind e) (run-entry e ts) ts
 
-tree-right : (e : Entry) (ts : List Token) → Right (tree e ts)
+pub tree-right : (e : Entry) (ts : List Token) → Right (tree e ts)
 tree-right e ts = right-root (root-kind e) (run-entry e ts) ts (entry-reads e ts .reads ts refl) (entry-names e ts)
 
 -- HOW MANY ROWS

@@ -1,5 +1,6 @@
 -- NUMBERS FIT. A run makes at most a fixed multiple of the number of its tokens: of events, reports, expectations and
--- tree rows, and with them child counts, first pool places and distances between events. Within cause 2's limits
+-- tree rows, and with them child counts, first pool places and distances between events; and a setting reports at most
+-- one Name for each token. Within cause 2's limits
 -- (65,536 tokens, 1,048,576 bytes) every number that a call writes is therefore below 2^32, however long the lent
 -- buffers are.
 use Prim.Native.Nat.{ℕ, _+_, _*_, _≤_, _<_}
@@ -13,7 +14,8 @@ use Rattle.definitions.specs.Grammar.{Entry, root-kind}
 use Rattle.definitions.specs.Event.{Event, StartNode, AddToken, AddCombinedToken, FinishNode, Placeholder, Error, events}
 use Rattle.definitions.specs.Place.{Tree, nil, leaf, subtree, root, count, rows}
 use Rattle.definitions.specs.Report.{Push, pushes, reports, report-numbers, pool}
-use Rattle.definitions.specs.Call.{Buffers, Answer, Result, run-entry, call}
+use Rattle.definitions.specs.Strict.{Name-at}
+use Rattle.definitions.specs.Call.{Buffers, Answer, Result, run-entry, names-of, call}
 use Rattle.laws.specs.Pushes.{event-count, None-exceeded}
 
 -- ---------------------------------------------------------------- for n tokens
@@ -51,6 +53,12 @@ Counts-within m nil = Unit {0}
 Counts-within m (leaf k ts f) = (length ts ≤ m) × Counts-within m f
 Counts-within m (subtree k c f) = (count c ≤ m) × Counts-within m c × Counts-within m f
 
+-- Names that a setting reports, in a file of n tokens and b bytes: each begins with one of the tokens and ends within
+-- the bytes
+abbrev pub Names-within : ℕ → ℕ → List Name-at → Type 0
+Names-within n b [] = Unit {0}
+Names-within n b (x ∷ l) = (x .first-token < n) × (x .start ≤ x .end) × (x .end ≤ b) × Names-within n b l
+
 -- ---------------------------------------------------------------- a run
 
 -- for the entry e and the tokens ts, whether the run is refused or not
@@ -67,6 +75,10 @@ pub record Bounded (e : Entry) (ts : List Token) : Type 0 where
   -- the numbers of its tree rows, and the counts in them
   pub tree-rows : length (rows (root (root-kind e) (run-entry e ts) ts)) ≤ TREE-ROW * most-rows (length ts)
   pub counts : Counts-within (most-rows (length ts)) (root (root-kind e) (run-entry e ts) ts)
+  -- the Names that a setting reports: at most one for each token
+  pub names : (setting : ℕ) (bytes : List ℕ) → length (names-of setting e bytes ts) ≤ length ts
+  pub names-inside : (setting : ℕ) (bytes : List ℕ)
+      → Names-within (length ts) (byte-count ts) (names-of setting e bytes ts)
 
 -- every run
 abbrev pub Runs-bounded : Type 0
@@ -119,6 +131,6 @@ pub record Fits (r : Result) : Type 0 where
   pub answer : Answer-fits (r .answer)
   pub buffers : Words (r .buffers)
 
--- for any entry, input and buffers that hold words: of any length, and whatever the call answers
+-- for any entry, setting, input and buffers that hold words: of any length, and whatever the call answers
 abbrev pub Numbers-fit : Type 0
-Numbers-fit = (n : ℕ) (bytes tokens : List ℕ) (b : Buffers) → Words b → Fits (call n bytes tokens b)
+Numbers-fit = (n setting : ℕ) (bytes tokens : List ℕ) (b : Buffers) → Words b → Fits (call n setting bytes tokens b)

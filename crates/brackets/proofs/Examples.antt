@@ -1,4 +1,5 @@
--- The statements, computed: calls that meet the premises, with the kinds of their trees; and trees that do not fit.
+-- The statements, computed: calls that meet the premises in both settings, with the kinds of their trees; and trees
+-- that do not fit.
 use Prim.Native.Nat.{ℕ, _*_, _≤_, _<_}
 use native.Mathlib.Omega.{arith}
 use mathlib.Core.Path.{_≡_, refl, ap, sym, _∙_}
@@ -16,6 +17,7 @@ use Rattle.precedence.specs.Precedence.{tokens-before, DtExpr-at, Brackets}
 use Rattle.brackets.specs.Brackets.{Outline, end, leaf, node, outline, tree-proper}
 use Rattle.brackets.specs.Partner.{No-partner, tokens-first, Reported}
 use Rattle.laws.proofs.FactsHold.{or-left, or-right}
+use Rattle.brackets.proofs.Theorem.{brackets-proper}
 use Rattle.brackets.proofs.Partner.{missed}
 
 -- ---------------------------------------------------------------- calls
@@ -63,6 +65,11 @@ examples =
     -- entry 1, `a=/bits/8(;`: the bracket is the last child of a ParseError
     ∷ example 1 (97 ∷ 61 ∷ 47 ∷ 98 ∷ 105 ∷ 116 ∷ 115 ∷ 47 ∷ 56 ∷ 40 ∷ 59 ∷ []) (27 ∷ 1 ∷ 28 ∷ 1 ∷ 17 ∷ 6 ∷ 35 ∷ 1 ∷ 41 ∷ 1 ∷ 29 ∷ 1 ∷ [])
     (node N.SourceFile (node N.DtProperty (leaf K.Name (leaf K.Equals (node N.PropValueList (node N.ParseError (node N.DtsDirective (leaf K.BitsDirective (leaf K.Number end)) (leaf K.LParen end)) end) (leaf K.Semicolon end)))) end) end)
+    -- entry 1, `/{1a:b=<(1)>;};` and `a=<(1)&1b>;`: names that the strict setting reports leave the tree as it is
+    ∷ example 1 (47 ∷ 123 ∷ 49 ∷ 97 ∷ 58 ∷ 98 ∷ 61 ∷ 60 ∷ 40 ∷ 49 ∷ 41 ∷ 62 ∷ 59 ∷ 125 ∷ 59 ∷ []) (46 ∷ 1 ∷ 37 ∷ 1 ∷ 35 ∷ 1 ∷ 27 ∷ 1 ∷ 31 ∷ 1 ∷ 27 ∷ 1 ∷ 28 ∷ 1 ∷ 39 ∷ 1 ∷ 41 ∷ 1 ∷ 35 ∷ 1 ∷ 42 ∷ 1 ∷ 40 ∷ 1 ∷ 29 ∷ 1 ∷ 38 ∷ 1 ∷ 29 ∷ 1 ∷ [])
+    (node N.SourceFile (node N.DtNode (leaf K.Slash (leaf K.LCurly (node N.DtProperty (node N.DtLabel (leaf K.Name (leaf K.Colon end)) (leaf K.Name (leaf K.Equals (node N.PropValueList (node N.DtCellList (leaf K.LAngle (node N.DtExpr (leaf K.LParen (node N.LiteralExpr (leaf K.Number end) (leaf K.RParen end))) (leaf K.RAngle end))) end) (leaf K.Semicolon end))))) (leaf K.RCurly (leaf K.Semicolon end))))) end) end)
+    ∷ example 1 (97 ∷ 61 ∷ 60 ∷ 40 ∷ 49 ∷ 41 ∷ 38 ∷ 49 ∷ 98 ∷ 62 ∷ 59 ∷ []) (27 ∷ 1 ∷ 28 ∷ 1 ∷ 39 ∷ 1 ∷ 41 ∷ 1 ∷ 35 ∷ 1 ∷ 42 ∷ 1 ∷ 30 ∷ 1 ∷ 35 ∷ 1 ∷ 27 ∷ 1 ∷ 40 ∷ 1 ∷ 29 ∷ 1 ∷ [])
+    (node N.SourceFile (node N.DtProperty (leaf K.Name (leaf K.Equals (node N.PropValueList (node N.DtCellList (leaf K.LAngle (node N.DtExpr (leaf K.LParen (node N.LiteralExpr (leaf K.Number end) (leaf K.RParen end))) (node N.DtPhandle (leaf K.Ampersand (leaf K.Name end)) (leaf K.RAngle end)))) end) (leaf K.Semicolon end)))) end) end)
     ∷ []
 
 -- buffers with room enough
@@ -82,13 +89,13 @@ seen-of r = let t = outline (read (take (4 * r .answer .tree-count) (r .buffers 
 called : List Example → List Seen
 unfolding seen-of call lent
 called [] = []
-called (x ∷ l) = seen-of (call (x .entry) (x .input) (x .numbers) lent) ∷ called l
+called (x ∷ l) = seen-of (call (x .entry) 0 (x .input) (x .numbers) lent) ∷ seen-of (call (x .entry) 1 (x .input) (x .numbers) lent) ∷ called l
 
 wanted : List Example → List Seen
 wanted [] = []
-wanted (x ∷ l) = record { number = 0; tree = x .tree; fits = true } ∷ wanted l
+wanted (x ∷ l) = let one : Seen = record { number = 0; tree = x .tree; fits = true } in one ∷ one ∷ wanted l
 
--- EACH IS ACCEPTED, has this tree, and the tree fits
+-- EACH IS ACCEPTED in both settings, has this tree, and the tree fits
 examples-hold : called examples ≡ wanted examples
 unfolding called wanted examples
 examples-hold = refl
@@ -168,7 +175,7 @@ open-numbers = 41 ∷ 1 ∷ 35 ∷ 1 ∷ []
 
 open-call : Result
 unfolding call lent
-open-call = call 4 (40 ∷ 49 ∷ []) open-numbers lent
+open-call = call 4 0 (40 ∷ 49 ∷ []) open-numbers lent
 
 accepted : open-call .answer .number ≡ 0
 unfolding open-call
@@ -214,7 +221,7 @@ met = record { written = lit< tt; above = lit< tt; at-most = omega arith }
 
 met-by-theorem : (q : ℕ) × Reported 1 open-call q
 unfolding open-call
-met-by-theorem = missed 4 (40 ∷ 49 ∷ []) open-numbers lent accepted 1 is-cell no-partner
+met-by-theorem = missed 4 0 (40 ∷ 49 ∷ []) open-numbers lent accepted 1 is-cell no-partner
 
 -- a call that says nothing, one whose report has its mark at the LParen's index, and one whose report lies after the
 -- cell, do not answer it
@@ -235,3 +242,40 @@ early-refused h = let z : 0 < 0 = h .above in omega arith
 late-refused : Reported 1 (with-reports 1 (1 ∷ 0 ∷ 1 ∷ 3 ∷ 0 ∷ 0 ∷ 0 ∷ 0 ∷ 0 ∷ [])) 0 → ⊥
 unfolding open-call tokens-before tokens-first read
 late-refused h = let z : 3 ≤ 2 = h .at-most in omega arith
+
+-- ---------------------------------------------------------------- the same in the strict setting
+
+-- entry 4, `&1b(1`: the cell's report comes first, and the name's second
+abbrev strict-numbers : List ℕ
+strict-numbers = 30 ∷ 1 ∷ 35 ∷ 1 ∷ 27 ∷ 1 ∷ 41 ∷ 1 ∷ 35 ∷ 1 ∷ []
+
+strict-call : Result
+unfolding call lent
+strict-call = call 4 1 (38 ∷ 49 ∷ 98 ∷ 40 ∷ 49 ∷ []) strict-numbers lent
+
+strict-met : Reported 4 strict-call 0
+unfolding strict-call tokens-before tokens-first read
+strict-met = record { written = lit< tt; above = lit< tt; at-most = omega arith }
+
+strict-by-theorem : (q : ℕ) × Reported 4 strict-call q
+unfolding strict-call closed-in tokens-of
+strict-by-theorem =
+    missed 4 1 (38 ∷ 49 ∷ 98 ∷ 40 ∷ 49 ∷ []) strict-numbers lent refl 4 (record { written = lit< tt; width = 2; count = 2; row = refl })
+    (λ b i. none-closes (tokens-of strict-numbers) refl b)
+
+-- the other theorem, of this call in any setting
+abbrev in-setting : ℕ → Result
+in-setting setting = call 4 setting (38 ∷ 49 ∷ 98 ∷ 40 ∷ 49 ∷ []) strict-numbers lent
+
+proper-in-any : (setting : ℕ) → in-setting setting .answer .number ≡ 0
+    → tree-proper (outline (read (take (4 * in-setting setting .answer .tree-count) (in-setting setting .buffers .trees)))) ≡ true
+proper-in-any setting = brackets-proper 4 setting (38 ∷ 49 ∷ 98 ∷ 40 ∷ 49 ∷ []) strict-numbers lent
+
+-- there are two report rows, and the name's is not one that answers
+two-rows : strict-call .answer .report-count ≡ 2
+unfolding strict-call
+two-rows = refl
+
+name-refused : Reported 4 strict-call 1 → ⊥
+unfolding strict-call tokens-before
+name-refused h = let z : 3 < 1 = h .above in omega arith

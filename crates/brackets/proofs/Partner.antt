@@ -67,4 +67,4 @@ missed-in ts p r a none = go (a .paired)
 
 -- A BRACKET WITHOUT A PARTNER has a report above it
 pub missed : Partner-missed
-missed n bytes tokens l h p d none = missed-in (tokens-of tokens) p (call n bytes tokens l) (answered n bytes tokens l h p d) none
+missed n setting bytes tokens l h p d none = missed-in (tokens-of tokens) p (call n setting bytes tokens l) (answered n setting bytes tokens l h p d) none

@@ -128,8 +128,8 @@ module _ (e : Entry) (ts : List Token) where
 
 -- WHERE AN LPAREN STANDS
 pub brackets-proper : Brackets-proper
-brackets-proper n bytes tokens b h =
-    let a = accepted-call n bytes tokens b h in
+brackets-proper n setting bytes tokens b h =
+    let a = accepted-call n setting bytes tokens b h in
     let c = checked-input bytes tokens (a .input) in
     let o = run-entry (a .entry) (tokens-of tokens) in
     let t = root (root-kind (a .entry)) o (tokens-of tokens) in

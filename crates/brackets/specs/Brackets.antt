@@ -170,9 +170,9 @@ tree-proper end = false
 tree-proper (leaf k f) = false
 tree-proper (node r c f) = is-end f && root-proper r c
 
--- for every accepted call
+-- for every accepted call, in either setting
 abbrev pub Brackets-proper : Type 0
 Brackets-proper =
-    (n : ℕ) (bytes tokens : List ℕ) (b : Buffers) → call n bytes tokens b .answer .number ≡ 0
-    → tree-proper (outline (read (take (TREE-ROW * call n bytes tokens b .answer .tree-count)
-    (call n bytes tokens b .buffers .trees)))) ≡ true
+    (n setting : ℕ) (bytes tokens : List ℕ) (b : Buffers) → call n setting bytes tokens b .answer .number ≡ 0
+    → tree-proper (outline (read (take (TREE-ROW * call n setting bytes tokens b .answer .tree-count)
+    (call n setting bytes tokens b .buffers .trees)))) ≡ true

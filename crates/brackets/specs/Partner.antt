@@ -37,9 +37,10 @@ pub record Reported (p : ℕ) (r : Result) (q : ℕ) : Type 0 where
   pub at-most : mark-in q (r .buffers .reports) ≤ tokens-before p (r .buffers .trees) + tokens-first
       (read (drop (TREE-ROW * p) (r .buffers .trees)))
 
--- for every DtExpr of an accepted call
+-- for every DtExpr of an accepted call, in either setting
 abbrev pub Partner-missed : Type 0
 Partner-missed =
-    (n : ℕ) (bytes tokens : List ℕ) (l : Buffers) → call n bytes tokens l .answer .number ≡ 0 → (p : ℕ)
-    → DtExpr-at p (call n bytes tokens l)
-    → No-partner (tokens-of tokens) p (call n bytes tokens l) → (q : ℕ) × Reported p (call n bytes tokens l) q
+    (n setting : ℕ) (bytes tokens : List ℕ) (l : Buffers) → call n setting bytes tokens l .answer .number ≡ 0 → (p : ℕ)
+    → DtExpr-at p (call n setting bytes tokens l)
+    → No-partner (tokens-of tokens) p (call n setting bytes tokens l)
+    → (q : ℕ) × Reported p (call n setting bytes tokens l) q

@@ -10,8 +10,10 @@
 --    Argument, Arguments and Invocation (macro invocations), Operands, Turns, Loop (the chain of operators). Cell: so
 --    `dt_expr` judges its tokens as C's table does.
 -- 4. Only, Cells, Everywhere: every DtExpr that a run makes comes from `dt_expr`. Settle, Placed: in the whole run no
---    other report has a mark between the cell's brackets, since marks never decrease. ReportRows, TreeRows: from rows
---    to reports and nodes. Theorem: the statements, and a bracket without a partner.
+--    other report has a mark between the cell's brackets, since marks never decrease. JudgedNames, Unjudged: nor has
+--    one of the strict setting, whose mark is a Name's first token: the Name stands before the cell or after it, or a
+--    node of the cell judges it, and no node of an expression does. ReportRows, TreeRows: from rows to reports, Names
+--    and nodes. Theorem: the statements, and a bracket without a partner.
 -- 5. What guards the statements: Examples (computed), Witnesses (their premises can be met), Refutations (wrong answers
 --    do not pass).
 pub mod Pratt
@@ -41,6 +43,8 @@ pub mod Cells
 pub mod Everywhere
 pub mod Settle
 pub mod Placed
+pub mod JudgedNames
+pub mod Unjudged
 pub mod ReportRows
 pub mod TreeRows
 pub mod Theorem

@@ -13,8 +13,8 @@ use Rattle.definitions.specs.Skeleton.{_⧺_}
 use Rattle.definitions.specs.Place.{place, rows}
 use Rattle.definitions.specs.C.{symbols, line-in, Expr, binary, Gives}
 use Rattle.definitions.specs.Call.{Result}
-use Rattle.precedence.specs.Precedence.{tokens-before, Starts-cell, Between, Holds-tree, Judged}
-use Rattle.precedence.proofs.Witnesses.{token, one, numbers, its-brackets, its-tree, short-numbers, short-brackets, no-tree}
+use Rattle.precedence.specs.Precedence.{tokens-before, mark-in, Starts-cell, Between, Holds-tree, Judged}
+use Rattle.precedence.proofs.Witnesses.{token, one, numbers, its-brackets, its-tree, short-numbers, short-brackets, no-tree, strict-numbers, strict-parsed, strict-brackets, strict-tree, its-row-8, its-mark}
 
 -- what a call wrote of tree rows and of reports
 abbrev wrote : ℕ → List ℕ → ℕ → List ℕ → Result
@@ -82,6 +82,31 @@ unfolding short-brackets
 too-early j = go (j .no-tree no-tree .0) (j .no-tree no-tree .1) where
   go : (q : ℕ) → Between (tokens-of short-numbers) short-brackets (wrote 0 [] 1 (marked 0)) q → ⊥
   go zero b = omega (arith, b .above)
+  go (suc q) b = omega (arith, b .written)
+
+-- ---------------------------------------------------------------- the strict setting
+
+-- of `(1+2)&1b` it is not true that nothing is reported, nor that the mark is that of `&`
+nothing-reported : strict-parsed .answer .report-count ≡ 0 → ⊥
+nothing-reported h = omega (arith, h, its-row-8 .0)
+
+marked-at-ampersand : mark-in 0 (strict-parsed .buffers .reports) ≡ 5 → ⊥
+marked-at-ampersand h = omega (arith, h, its-mark)
+
+-- a row of message 8 is a report row as any other: one that has its mark at the RParen refutes a sound cell
+abbrev name-row : ℕ → List ℕ
+name-row m = 8 ∷ 6 ∷ 8 ∷ m ∷ 0 ∷ 0 ∷ 0 ∷ 0 ∷ 0 ∷ []
+
+name-inside : Judged (tokens-of strict-numbers) strict-brackets (wrote 0 [] 1 (name-row 4)) 1 → ⊥
+unfolding strict-brackets
+name-inside j = j .tree _ strict-tree .0 0 (record { written = omega arith; above = omega arith; at-most = omega arith })
+
+-- and one beside a malformed cell does not stand for the report that the cell needs
+name-beside : Judged (tokens-of short-numbers) short-brackets (wrote 0 [] 1 (name-row 4)) 1 → ⊥
+unfolding short-brackets
+name-beside j = go (j .no-tree no-tree .0) (j .no-tree no-tree .1) where
+  go : (q : ℕ) → Between (tokens-of short-numbers) short-brackets (wrote 0 [] 1 (name-row 4)) q → ⊥
+  go zero b = omega (arith, b .at-most)
   go (suc q) b = omega (arith, b .written)
 
 -- ---------------------------------------------------------------- cells

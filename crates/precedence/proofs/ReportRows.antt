@@ -1,14 +1,20 @@
--- Reports and their rows: a report of a run has a row whose mark is its own, and each row is a report's.
+-- Reports and their rows: a report of a run has a row whose mark is its own, and each row is a report's; the rows of
+-- the Names that a setting reports follow, each with the Name's first token as its mark.
 use Prim.Native.Nat.{ℕ, zero, suc, _+_, _*_, _-_, _<_}
 use native.Mathlib.Omega.{arith}
 use mathlib.Core.Path.{_≡_, refl, _∙_, ap}
+use mathlib.Core.Logic.{inl, inr}
 use mathlib.Core.List.{List, [], _∷_, _++_}
 use lib.ListN.{length, getD, drop}
+use lib.Seq.{drop-append-add}
 use Rattle.definitions.specs.Layout.{REPORT-MARK, REPORT-ROW}
 use Rattle.definitions.specs.Skeleton.{Label, no-label, label, Report}
 use Rattle.definitions.specs.Report.{Push, event, reported, exceeded, reports, label-numbers, report-numbers}
+use Rattle.definitions.specs.Strict.{Name-at, name-numbers}
+use Rattle.laws.proofs.ReportNumbers.{report-numbers-length}
 use Rattle.precedence.specs.Precedence.{mark-in}
 use Rattle.precedence.proofs.Pushed.{Reported, here, there}
+use Rattle.precedence.proofs.JudgedNames.{Among}
 
 -- r is report q of the list
 pub data Nth (r : Report) : ℕ → List Report → Type 0 where
@@ -63,3 +69,26 @@ unfolding report-numbers
 nth-mark n b f zero (r ∷ l) z first = refl
 nth-mark n b f (suc q) (x ∷ l) z (later h) =
     ap (λ (y : List ℕ). getD y REPORT-MARK 0) (row-drop n b f q x l z) ∙ nth-mark n b (f + length (x .pool)) q l z h
+
+-- ---------------------------------------------------------------- the rows of Names
+
+pub name-numbers-length : (f : ℕ) (l : List Name-at) → length (name-numbers f l) ≡ REPORT-ROW * length l
+unfolding name-numbers
+name-numbers-length f [] = refl
+name-numbers-length f (n ∷ l) = let h = name-numbers-length f l in omega arith
+
+-- past the rows of all reports
+pub mark-past : (n b f q : ℕ) (l : List Report) (z : List ℕ) → mark-in (length l + q) (report-numbers n b f l ++ z) ≡ mark-in q z
+mark-past n b f q l z =
+    let e : REPORT-ROW * (length l + q) ≡ length (report-numbers n b f l) + REPORT-ROW * q = omega (arith, report-numbers-length n b f l) in
+    ap (λ (k : ℕ). getD (drop k (report-numbers n b f l ++ z)) REPORT-MARK 0) e
+    ∙ ap (λ (y : List ℕ). getD y REPORT-MARK 0) (drop-append-add (report-numbers n b f l) z (REPORT-ROW * q))
+
+-- row q is a Name's, and its mark the Name's first token
+pub name-mark : (f q : ℕ) (l : List Name-at) (z : List ℕ) → q < length l → (n : Name-at) × Among n l × (mark-in q (name-numbers f l ++ z) ≡ n .first-token)
+unfolding name-numbers
+name-mark f q [] z h = absurd (omega arith)
+name-mark f zero (n ∷ l) z h = (n, inl refl, refl)
+name-mark f (suc q) (n ∷ l) z h =
+    let g = name-mark f q l z (omega arith) in
+    (g .0, inr (g .1), ap (λ (k : ℕ). getD (drop k (name-numbers f (n ∷ l) ++ z)) REPORT-MARK 0) (next-row q) ∙ g .2)

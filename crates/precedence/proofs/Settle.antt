@@ -64,12 +64,13 @@ falls-under a b (y ∷ l) f (there h) = le-trans (falls-under (push-mark y) b l 
 -- ---------------------------------------------------------------- a cell in the whole
 
 -- C's table gives the tokens between the brackets a tree: no report of the whole has a mark between them, and c is that
--- tree
+-- tree and reaches to the RParen
 pub record Clean (whole : List Push) (inner : List Token) (close : Token) (after : List Token) (beyond u : List Token) (c : Tree) : Type 0 where
   pub tree : Expr
   pub gives : Gives (symbols false inner) tree
   pub silent : (rep : Report) → Reported rep whole → length (close ∷ after) ≤ rep .mark → rep .mark ≤ length beyond → ⊥
   pub holds : c ≡ place (one ⧺ (expr-nodes tree ⧺ one)) u
+  pub reaches : length u ≤ length after + length (leaves c)
 
 -- it gives none: some report has
 pub record Faulty (whole : List Push) (inner : List Token) (close : Token) (after : List Token) (beyond : List Token) : Type 0 where
@@ -115,19 +116,24 @@ module _ (whole : List Push) (from to : ℕ) (falls : Falls from whole to) where
       by-side f (inl g) = omega (arith, falls-before from to pre (event m) (pushes i ++ (event m′ ∷ post)) f g)
       by-side f (inr (there g)) = by-inside f (reported-parts (pushes i) (event m′ ∷ post) g)
 
+  -- the tokens from u on are those of the cell's tree, and those that are left after it
+  reached : (m′ : ℕ) (i : Skeleton) (u : List Token) → length (after i u) ≤ m′ → length u ≤ m′ + length (leaves (place i u))
+  reached m′ i u l = omega (arith, l, ap length (place-whole i u), length-append (leaves (place i u)) (after i u))
+
   settle-by : (m m′ : ℕ) (i : Skeleton) (pre post : List Push) → whole ≡ pre ++ (event m ∷ (pushes i ++ (event m′ ∷ post))) → (v : List Token) → (d : CellOf m m′ i v)
-      → (inner : List Token) (close : Token) (after : List Token)
+      → length v ≤ m′ + length (leaves (place i v)) → (inner : List Token) (close : Token) (after : List Token)
       → Good inner close after m′ i ⊎ Bad inner close after (d .beyond) i
       → Clean whole inner close after (d .beyond) v (place i v) ⊎ Faulty whole inner close after (d .beyond)
-  settle-by m m′ i pre post e v d inner close after (inl g) =
+  settle-by m m′ i pre post e v d l inner close after (inl g) =
       let z : length v ≡ suc (length (d .beyond)) = ap length (d .starts) in
       inl (record {
         tree = g .tree;
         gives = g .gives;
         silent = outside m m′ i pre post e (g .quiet) (length (close ∷ after)) (length (d .beyond)) (omega (arith, d .marked-at)) (omega (arith, g .past));
         holds = g .same .placed v;
+        reaches = omega (arith, l, g .past);
       })
-  settle-by m m′ i pre post e v d inner close after (inr b) =
+  settle-by m m′ i pre post e v d l inner close after (inr b) =
       inr (record {
         no-tree = b .no-tree;
         rep = b .rep;
@@ -149,12 +155,10 @@ module _ (whole : List Push) (from to : ℕ) (falls : Falls from whole to) where
         high = falls-before m to (pushes i) (event m′) post (falls-from from to pre (event m) (pushes i ++ (event m′ ∷ post)) f) (h .among);
       })
 
-  -- the tokens that are left after the cell, by its tree
-  left-by : (m′ : ℕ) (i : Skeleton) (u beyond : List Token) → length (after i u) ≤ m′ → Partner beyond ⊎ Heard-inside whole beyond m′
-      → Partner beyond ⊎ ((end : ℕ) × (length u ≤ end + length (leaves (place i u))) × Heard-inside whole beyond end)
-  left-by m′ i u beyond l (inl p) = inl p
-  left-by m′ i u beyond l (inr w) =
-      inr (m′, omega (arith, l, ap length (place-whole i u), length-append (leaves (place i u)) (after i u)), w)
+  reported-by : (m′ : ℕ) (u beyond : List Token) (c : Tree) → length u ≤ m′ + length (leaves c) → Partner beyond ⊎ Heard-inside whole beyond m′
+      → Partner beyond ⊎ ((end : ℕ) × (length u ≤ end + length (leaves c)) × Heard-inside whole beyond end)
+  reported-by m′ u beyond c l (inl p) = inl p
+  reported-by m′ u beyond c l (inr w) = inr (m′, l, w)
 
   pub settle-cell : (m m′ : ℕ) (i : Skeleton) (pre post : List Push) → whole ≡ pre ++ (event m ∷ (pushes i ++ (event m′ ∷ post))) → (u : List Token) → CellOf m m′ i u
       → length (after i u) ≤ m′ → Settled whole u (place i u)
@@ -169,8 +173,8 @@ module _ (whole : List Push) (from to : ℕ) (falls : Falls from whole to) where
             ap (λ (p : Skeleton). place p u) (d .begins)
             ∙ ap (place (token (d .bracket) (length (d .beyond)) (d .rest))) (d .starts)
             ∙ first-child (d .bracket) (d .beyond) (length (d .beyond)) (d .rest) (d .is-bracket);
-        judged = λ inner close after b k l. settle-by m m′ i pre post e u d inner close after (d .judged inner close after b k l);
-        paired = left-by m′ i u (d .beyond) l (pair-in m m′ i pre post e (d .beyond) (d .paired));
+        judged = λ inner close after b k h. settle-by m m′ i pre post e u d (reached m′ i u l) inner close after (d .judged inner close after b k h);
+        paired = reported-by m′ u (d .beyond) (place i u) (reached m′ i u l) (pair-in m m′ i pre post e (d .beyond) (d .paired));
       }
 
 -- ---------------------------------------------------------------- every DtExpr of a placed tree
@@ -181,6 +185,13 @@ unfolding leaves
 Each Q ts nil = Unit {0}
 Each Q ts (leaf k raw f) = Each Q (drop (length raw) ts) f
 Each Q ts (subtree k c f) = (k ≡ N.DtExpr → Q ts c) × Each Q ts c × Each Q (drop (length (leaves c)) ts) f
+
+-- two such facts at once
+pub each-both : (Q R : List Token → Tree → Type 0) (f : Tree) (ts : List Token) → Each Q ts f → Each R ts f → Each (λ us c. Q us c × R us c) ts f
+unfolding Each
+each-both Q R nil ts h i = tt
+each-both Q R (leaf k raw f) ts h i = each-both Q R f (drop (length raw) ts) h i
+each-both Q R (subtree k c f) ts h i = (λ e. (h .0 e, i .0 e), each-both Q R c ts (h .1) (i .1), each-both Q R f (drop (length (leaves c)) ts) (h .2) (i .2))
 
 module _ (Q : List Token → Tree → Type 0) where
   each-beside : (f g : Tree) (ts : List Token) → Each Q ts f → Each Q (drop (length (leaves f)) ts) g → Each Q ts (f ⊕ g)

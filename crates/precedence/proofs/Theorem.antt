@@ -3,10 +3,11 @@ use Prim.Native.Nat.{ℕ, suc, _+_, _*_, _-_, _≤_, _<_}
 use native.Mathlib.Nat.{div-eq-of-eq-mul-right}
 use native.Mathlib.Omega.{arith}
 use mathlib.Core.Path.{_≡_, refl, sym, _∙_, ap, subst}
-use mathlib.Core.Logic.{_⊎_, inl, inr}
+use mathlib.Core.Logic.{_⊎_, inl, inr, ⊎-elim}
 use mathlib.Core.Bool.{Bool, true, false, cond}
-use mathlib.Core.List.{List, [], _∷_, _++_, append-nil}
-use lib.Dec.{leb}
+use mathlib.Core.List.{List, [], _∷_, _++_, append-nil, append-assoc}
+use lib.Dec.{leb, ltb}
+use borrow.Author.Tests.{ltb-true, ltb-false}
 use lib.ListN.{length, take, drop, replicate, length-append, length-drop}
 use lib.Seq.{drop-drop, drop-append-seam}
 use Rattle.definitions.specs.LexError as L
@@ -17,23 +18,27 @@ use Rattle.definitions.specs.Token.{Token, tokens-of, is-error, seen, byte-coun
 use Rattle.definitions.specs.Grammar.{Entry, root-kind}
 use Rattle.definitions.specs.Skeleton.{Report, _⧺_}
 use Rattle.definitions.specs.Place.{Tree, nil, subtree, _⊕_, lead, after, place, root, rows}
-use Rattle.definitions.specs.Report.{Push, pushes, reports}
+use Rattle.definitions.specs.Report.{Push, pushes, reports, report-numbers, pool}
+use Rattle.definitions.specs.Strict.{Name-at, judged, name-numbers}
 use Rattle.definitions.specs.C.{symbols, Expr}
-use Rattle.definitions.specs.Call.{Buffers, Result, sheets, kept, run-entry, call}
+use Rattle.definitions.specs.Call.{Buffers, Result, sheets, kept, run-entry, names-of, call}
 use Rattle.laws.proofs.Scan.{fits-clear}
 use Rattle.laws.proofs.Tree.{leaves}
 use Rattle.laws.proofs.Decode.{row-count, rows-length}
+use Rattle.laws.proofs.Lossless.{lossless}
 use Rattle.laws.proofs.Accepted.{accepted-call}
 use Rattle.precedence.specs.Nodes.{one, expr-nodes, cell}
-use Rattle.precedence.specs.Precedence.{tokens-before, mark-in, DtExpr-at, Starts-cell, Brackets, opening-index, Between, Holds-tree, Judged, C-table, One-tree}
+use Rattle.precedence.specs.Precedence.{tokens-before, mark-in, DtExpr-at, Starts-cell, Brackets, opening-index, closing-index, Between, Holds-tree, Judged, C-table, One-tree}
 use Rattle.precedence.proofs.Bare.{unique}
 use Rattle.laws.specs.Pushes.{None-exceeded}
 use Rattle.precedence.proofs.Pushed.{Reported}
 use Rattle.precedence.proofs.Symbols.{bracket-solid}
 use Rattle.precedence.proofs.Partner.{Partner, Heard-inside}
-use Rattle.precedence.proofs.Settle.{Clean, Faulty, Settled}
+use Rattle.precedence.proofs.Settle.{Clean, Faulty, Settled, each-both}
 use Rattle.precedence.proofs.Placed.{entry-settled}
-use Rattle.precedence.proofs.ReportRows.{nth-less, nth-there, reported-nth, nth-reported, nth-mark}
+use Rattle.precedence.proofs.JudgedNames.{Among, Apart, reported-apart}
+use Rattle.precedence.proofs.Unjudged.{none-judged, bare-between, bare-expr}
+use Rattle.precedence.proofs.ReportRows.{nth-less, nth-there, reported-nth, nth-reported, nth-mark, name-numbers-length, mark-past, name-mark}
 use Rattle.precedence.proofs.TreeRows.{Found, find}
 use Rattle.laws.proofs.ReportNumbers.{report-numbers-length}
 
@@ -82,42 +87,82 @@ cell-rows e t ts k =
 
 -- ---------------------------------------------------------------- what an accepted call leaves
 
-module _ (e : Entry) (ts : List Token) (l : Buffers) (clear : None-exceeded (pushes (run-entry e ts))) where
+module _ (setting : ℕ) (e : Entry) (bytes : List ℕ) (ts : List Token) (l : Buffers) (clear : None-exceeded (pushes (run-entry e ts))) where
   abbrev all : List Push
   all = pushes (run-entry e ts)
 
   abbrev tree : Tree
   tree = root (root-kind e) (run-entry e ts) ts
 
+  -- the Names that the setting reports
+  abbrev names : List Name-at
+  names = names-of setting e bytes ts
+
   abbrev r : Result
-  r = kept (sheets e ts (run-entry e ts)) l
+  r = kept (sheets e ts (run-entry e ts) names) l
 
   trees-count : r .answer .tree-count ≡ row-count tree
   unfolding sheets
   trees-count = div-eq-of-eq-mul-right (omega arith) (rows-length tree)
 
-  reports-count : r .answer .report-count ≡ length (reports all)
-  unfolding sheets
-  reports-count = div-eq-of-eq-mul-right (omega arith) (report-numbers-length (length ts) (byte-count ts) 0 (reports all))
+  -- the rows of the run's reports, and those of the Names
+  abbrev run-rows : List ℕ
+  run-rows = report-numbers (length ts) (byte-count ts) 0 (reports all)
 
-  -- report row q is a report's
-  row-report : (q : ℕ) → q < r .answer .report-count → (rep : Report) × Reported rep all × (mark-in q (r .buffers .reports) ≡ length ts - rep .mark)
+  abbrev name-rows : List ℕ
+  name-rows = name-numbers (length (pool (reports all))) names
+
+  reports-count : r .answer .report-count ≡ length (reports all) + length names
   unfolding sheets
-  row-report q h =
-      let g = nth-there q (reports all) (omega (arith, reports-count)) in
-      (g .0, nth-reported q all (g .1), nth-mark (length ts) (byte-count ts) 0 q (reports all) _ (g .1))
+  reports-count =
+      div-eq-of-eq-mul-right (omega arith)
+      (length-append run-rows name-rows
+      ∙ omega (arith, report-numbers-length (length ts) (byte-count ts) 0 (reports all), name-numbers-length (length (pool (reports all))) names))
+
+  -- the Names' rows follow, and then zeros
+  abbrev after-run : List ℕ
+  after-run = name-rows ++ replicate (length (l .reports) - length (run-rows ++ name-rows)) 0
+
+  row-mark : (q : ℕ) → mark-in q (r .buffers .reports) ≡ mark-in q (run-rows ++ after-run)
+  unfolding sheets
+  row-mark q = ap (mark-in q) (append-assoc run-rows name-rows _)
+
+  -- report row q is a report's, or a Name's
+  abbrev By-report : ℕ → Type 0
+  By-report q = (rep : Report) × Reported rep all × (mark-in q (r .buffers .reports) ≡ length ts - rep .mark)
+
+  abbrev By-name : ℕ → Type 0
+  By-name q = (n : Name-at) × Among n names × (mark-in q (r .buffers .reports) ≡ n .first-token)
+
+  row-report : (q : ℕ) → q < r .answer .report-count → By-report q ⊎ By-name q
+  row-report q h = go (ltb q (length (reports all))) refl
+    where
+      go : (b : Bool) → ltb q (length (reports all)) ≡ b → By-report q ⊎ By-name q
+      go true f =
+          let g = nth-there q (reports all) (ltb-true q (length (reports all)) f) in
+          inl (g .0, nth-reported q all (g .1), row-mark q ∙ nth-mark (length ts) (byte-count ts) 0 q (reports all) after-run (g .1))
+      go false f =
+          let k = q - length (reports all) in
+          let e : q ≡ length (reports all) + k = omega (arith, ltb-false q (length (reports all)) f) in
+          let g = name-mark (length (pool (reports all))) k names (replicate (length (l .reports) - length (run-rows ++ name-rows)) 0) (omega (arith, reports-count)) in
+          inr (g .0, g .1, row-mark q ∙ ap (λ (j : ℕ). mark-in j (run-rows ++ after-run)) e ∙ mark-past (length ts) (byte-count ts) 0 k (reports all) after-run ∙ g .2)
 
   -- and each report has a row
   report-row : (rep : Report) → Reported rep all → (q : ℕ) × (q < r .answer .report-count) × (mark-in q (r .buffers .reports) ≡ length ts - rep .mark)
-  unfolding sheets
   report-row rep h =
       let g = reported-nth all h in
-      (g .0, omega (arith, reports-count, nth-less (g .0) (reports all) (g .1)), nth-mark (length ts) (byte-count ts) 0 (g .0) (reports all) _ (g .1))
+      (g .0, omega (arith, reports-count, nth-less (g .0) (reports all) (g .1)), row-mark (g .0) ∙ nth-mark (length ts) (byte-count ts) 0 (g .0) (reports all) _ (g .1))
 
-  found : (p : ℕ) → DtExpr-at p r → Found (Settled all) ts p (r .buffers .trees)
+  -- what holds of each DtExpr: it is settled, and the Names stand apart
+  abbrev Fact : List Token → Tree → Type 0
+  Fact us c = Settled all us c × Apart names (length ts) us c
+
+  found : (p : ℕ) → DtExpr-at p r → Found Fact ts p (r .buffers .trees)
   unfolding sheets
   found p d =
-      find (Settled all) tree (replicate (length (l .trees) - length (rows tree)) 0) ts p (entry-settled e ts clear) (omega (arith, trees-count, d .written)) (d .width, d .count, d .row)
+      find Fact tree (replicate (length (l .trees) - length (rows tree)) 0) ts p
+      (each-both (Settled all) (Apart names (length ts)) tree ts (entry-settled e ts clear) (reported-apart setting bytes tree ts (lossless e ts)))
+      (omega (arith, trees-count, d .written)) (d .width, d .count, d .row)
 
   -- ---------------------------------------------------------------- it starts a cell
 
@@ -125,7 +170,7 @@ module _ (e : Entry) (ts : List Token) (l : Buffers) (clear : None-exceeded (pus
   unfolding rows byte-count
   starts p d =
       let f = found p d in
-      let s = f .fact in
+      let s = f .fact .0 in
       let l = r .buffers .trees in
       let next : drop (TREE-ROW * suc p) l ≡ drop TREE-ROW (drop (TREE-ROW * p) l) =
       ap (λ (n : ℕ). drop n l) (let z : TREE-ROW * suc p ≡ TREE-ROW * p + TREE-ROW = omega arith in z) ∙ sym (drop-drop TREE-ROW (TREE-ROW * p) l) in
@@ -152,7 +197,7 @@ module _ (e : Entry) (ts : List Token) (l : Buffers) (clear : None-exceeded (pus
   answers : (p : ℕ) → DtExpr-at p r → Answered ts p r
   answers p d =
       let f = found p d in
-      let s = f .fact in
+      let s = f .fact .0 in
       let k = tokens-before p (r .buffers .trees) in
       let total : length ts ≡ k + suc (length (s .beyond)) = omega (arith, ap length (s .starts), length-drop k ts) in
       record {
@@ -179,12 +224,18 @@ module _ (e : Entry) (ts : List Token) (l : Buffers) (clear : None-exceeded (pus
     after-length : (beyond : List Token) → beyond ≡ b .inner ++ (b .closing ∷ b .after) → length beyond ≡ length (b .inner) + suc (length (b .after))
     after-length beyond e = ap length e ∙ simp length-append
 
+    -- the first token of no Name that the setting reports is after the LParen and up to the RParen
+    abbrev Names-outside : Type 0
+    Names-outside = (n : Name-at) → Among n names → opening-index ts b < n .first-token → n .first-token ≤ closing-index ts b → ⊥
+
     -- no report row between the brackets
     none-between : (beyond : List Token) → beyond ≡ b .inner ++ (b .closing ∷ b .after)
-        → ((rep : Report) → Reported rep all → length (b .closing ∷ b .after) ≤ rep .mark → rep .mark ≤ length beyond → ⊥) → (q : ℕ) → Between ts b r q → ⊥
-    none-between beyond e h q x =
-        let g = row-report q (x .written) in
-        h (g .0) (g .1) (omega (arith, total, g .2, x .above, x .at-most)) (omega (arith, total, after-length beyond e, g .2, x .above, x .at-most))
+        → ((rep : Report) → Reported rep all → length (b .closing ∷ b .after) ≤ rep .mark → rep .mark ≤ length beyond → ⊥) → Names-outside → (q : ℕ) → Between ts b r q → ⊥
+    none-between beyond e h o q x =
+        ⊎-elim
+        (λ g. h (g .0) (g .1) (omega (arith, total, g .2, x .above, x .at-most)) (omega (arith, total, after-length beyond e, g .2, x .above, x .at-most)))
+        (λ g. o (g .0) (g .1) (omega (arith, g .2, x .above)) (omega (arith, g .2, x .at-most)))
+        (row-report q (x .written))
 
     some-between : (beyond : List Token) → beyond ≡ b .inner ++ (b .closing ∷ b .after) → (rep : Report) → Reported rep all
         → length (b .closing ∷ b .after) ≤ rep .mark → rep .mark ≤ length beyond → (q : ℕ) × Between ts b r q
@@ -203,8 +254,8 @@ module _ (e : Entry) (ts : List Token) (l : Buffers) (clear : None-exceeded (pus
       tokens-are : drop (tokens-before p (r .buffers .trees)) ts ≡ from-opening
       tokens-are = ap (λ (n : ℕ). drop n ts) (sym index) ∙ ap (drop (length (b .before))) (b .tokens-are) ∙ drop-append-seam (b .before) from-opening
 
-      after-is : found p d .fact .beyond ≡ b .inner ++ (b .closing ∷ b .after)
-      after-is = let x = found p d .fact .starts in let y = tokens-are in cc
+      after-is : found p d .fact .0 .beyond ≡ b .inner ++ (b .closing ∷ b .after)
+      after-is = let x = found p d .fact .0 .starts in let y = tokens-are in cc
 
       holds : (f : Expr) → found p d .children ≡ place (one ⧺ (expr-nodes f ⧺ one)) (drop (tokens-before p (r .buffers .trees)) ts) → Holds-tree ts b r p f
       holds f h =
@@ -215,12 +266,22 @@ module _ (e : Entry) (ts : List Token) (l : Buffers) (clear : None-exceeded (pus
             rows-are = found p d .rows-are ∙ ap (λ (x : Tree). rows x ++ found p d .more) (ap (λ (y : Tree). subtree N.DtExpr y nil) (h ∙ c) ∙ sym w);
           }
 
-      by-verdict : Clean all (b .inner) (b .closing) (b .after) (found p d .fact .beyond) (drop (tokens-before p (r .buffers .trees)) ts) (found p d .children)
-          ⊎ Faulty all (b .inner) (b .closing) (b .after) (found p d .fact .beyond) → Judged ts b r p
+      -- MESSAGE 8 IN NO BRACKETS that C's table gives a tree: no node of the tree judges a Name, and the tree reaches
+      -- to the RParen
+      names-outside : Clean all (b .inner) (b .closing) (b .after) (found p d .fact .0 .beyond) (drop (tokens-before p (r .buffers .trees)) ts) (found p d .children) → Names-outside
+      names-outside c n a low high =
+          let us = drop (tokens-before p (r .buffers .trees)) ts in
+          let z : length us ≡ suc (length (b .inner) + suc (length (b .after))) = ap length tokens-are ∙ simp length-append in
+          found p d .fact .1
+          (λ at byte. ap (judged false at byte) (c .holds) ∙ none-judged (place (one ⧺ (expr-nodes (c .tree) ⧺ one)) us) (bare-between (expr-nodes (c .tree)) (bare-expr (c .tree)) .placed us) at byte)
+          n a (omega (arith, total)) (omega (arith, total, c .reaches))
+
+      by-verdict : Clean all (b .inner) (b .closing) (b .after) (found p d .fact .0 .beyond) (drop (tokens-before p (r .buffers .trees)) ts) (found p d .children)
+          ⊎ Faulty all (b .inner) (b .closing) (b .after) (found p d .fact .0 .beyond) → Judged ts b r p
       by-verdict (inl c) =
           record {
             tree = λ f g. (
-              none-between (found p d .fact .beyond) after-is (c .silent),
+              none-between (found p d .fact .0 .beyond) after-is (c .silent) (names-outside c),
               subst (Holds-tree ts b r p) (unique (symbols false (b .inner)) (c .tree) f (c .gives) g) (holds (c .tree) (c .holds)),
             );
             no-tree = λ h. absurd (h (c .tree) (c .gives));
@@ -228,35 +289,36 @@ module _ (e : Entry) (ts : List Token) (l : Buffers) (clear : None-exceeded (pus
       by-verdict (inr c) =
           record {
             tree = λ f g. absurd (c .no-tree f g);
-            no-tree = λ h. some-between (found p d .fact .beyond) after-is (c .rep) (c .among) (c .high) (c .low);
+            no-tree = λ h. some-between (found p d .fact .0 .beyond) after-is (c .rep) (c .among) (c .high) (c .low);
           }
 
       judges : Judged ts b r p
       judges =
           by-verdict
-          (found p d .fact .judged (b .inner) (b .closing) (b .after) after-is (seen-of (b .closing) K.RParen (b .closes) refl) (b .balanced))
+          (found p d .fact .0 .judged (b .inner) (b .closing) (b .after) after-is (seen-of (b .closing) K.RParen (b .closes) refl) (b .balanced))
 
 -- ---------------------------------------------------------------- the theorems
 
 -- C'S TABLE
 pub c-table : C-table
-c-table n bytes tokens l h =
-    let a = accepted-call n bytes tokens l h in
+c-table n setting bytes tokens l h =
+    let a = accepted-call n setting bytes tokens l h in
     let o = run-entry (a .entry) (tokens-of tokens) in
     let c : None-exceeded (pushes o) = fits-clear (pushes o) _ (a .left) (a .fitted) in
     subst
     (λ (r : Result). (p : ℕ) → DtExpr-at p r → Starts-cell (tokens-of tokens) p r
     × ((b : Brackets (tokens-of tokens)) → opening-index (tokens-of tokens) b ≡ tokens-before p (r .buffers .trees) → Judged (tokens-of tokens) b r p))
     (sym (a .returns))
-    (λ p d. (starts (a .entry) (tokens-of tokens) l c p d, λ b i. judges (a .entry) (tokens-of tokens) l c b p d i))
+    (λ p d. (starts setting (a .entry) bytes (tokens-of tokens) l c p d, λ b i. judges setting (a .entry) bytes (tokens-of tokens) l c b p d i))
 
 -- EVERY CELL'S LPAREN has a partner, or a report above it
-pub answered : (n : ℕ) (bytes tokens : List ℕ) (l : Buffers) → call n bytes tokens l .answer .number ≡ 0 → (p : ℕ) → DtExpr-at p (call n bytes tokens l) → Answered (tokens-of tokens) p (call n bytes tokens l)
-answered n bytes tokens l h =
-    let a = accepted-call n bytes tokens l h in
+pub answered : (n setting : ℕ) (bytes tokens : List ℕ) (l : Buffers) → call n setting bytes tokens l .answer .number ≡ 0
+    → (p : ℕ) → DtExpr-at p (call n setting bytes tokens l) → Answered (tokens-of tokens) p (call n setting bytes tokens l)
+answered n setting bytes tokens l h =
+    let a = accepted-call n setting bytes tokens l h in
     let o = run-entry (a .entry) (tokens-of tokens) in
     let c : None-exceeded (pushes o) = fits-clear (pushes o) _ (a .left) (a .fitted) in
-    subst (λ (r : Result). (p : ℕ) → DtExpr-at p r → Answered (tokens-of tokens) p r) (sym (a .returns)) (λ p d. answers (a .entry) (tokens-of tokens) l c p d)
+    subst (λ (r : Result). (p : ℕ) → DtExpr-at p r → Answered (tokens-of tokens) p r) (sym (a .returns)) (λ p d. answers setting (a .entry) bytes (tokens-of tokens) l c p d)
 
 -- C'S TABLE GIVES ONE TREE
 pub one-tree : One-tree

@@ -96,15 +96,16 @@ pub record Judged (ts : List Token) (b : Brackets ts) (r : Result) (p : ℕ) : T
 
 -- ---------------------------------------------------------------- the claims
 
--- every DtExpr of an accepted call starts a cell, and is judged
+-- Every DtExpr of an accepted call starts a cell, and is judged, in the old setting and in the strict one: a report row
+-- is any of the call's, message 8 of document 02 included.
 abbrev pub C-table : Type 0
 C-table =
-    (n : ℕ) (bytes tokens : List ℕ) (l : Buffers) → call n bytes tokens l .answer .number ≡ 0 → (p : ℕ)
-    → DtExpr-at p (call n bytes tokens l)
-    → Starts-cell (tokens-of tokens) p (call n bytes tokens l)
+    (n setting : ℕ) (bytes tokens : List ℕ) (l : Buffers) → call n setting bytes tokens l .answer .number ≡ 0 → (p : ℕ)
+    → DtExpr-at p (call n setting bytes tokens l)
+    → Starts-cell (tokens-of tokens) p (call n setting bytes tokens l)
     × ((b : Brackets (tokens-of tokens))
-    → opening-index (tokens-of tokens) b ≡ tokens-before p (call n bytes tokens l .buffers .trees)
-    → Judged (tokens-of tokens) b (call n bytes tokens l) p)
+    → opening-index (tokens-of tokens) b ≡ tokens-before p (call n setting bytes tokens l .buffers .trees)
+    → Judged (tokens-of tokens) b (call n setting bytes tokens l) p)
 
 -- the tree that C's table gives is unique
 abbrev pub One-tree : Type 0

@@ -1,4 +1,5 @@
--- The statement's definitions, computed: on document 01's reading of `a;}` and `b,c;}`, and on a richer pair of files.
+-- The statement's definitions, computed: on document 01's reading of `a;}` and `b,c;}`, on a richer pair of files, and
+-- on a pair in the strict setting.
 use mathlib.Core.Path.{_≡_, refl}
 use Prim.Native.Nat.{ℕ}
 use native.Mathlib.Omega.{arith}
@@ -10,6 +11,7 @@ use Rattle.definitions.specs.Call.{Buffers, call}
 use Rattle.recovery.specs.ResultRows.{Row, mark, tree-rows, error-rows, report-rows, expectations, none, leaf, node, over-leaves}
 use Rattle.recovery.specs.Recovery.{File, result, is-statement, Semicolon, token-index, start-byte, Alike, those, later-error, later-report, pool-before, later-errors, later-reports, Pairwise, none as no-more, more, no-label, label, ErrorMoved, ReportMoved, places, Shared}
 use Rattle.recovery.proofs.Local.{stays-local}
+use Rattle.recovery.proofs.Witnesses.{first}
 
 -- buffers of n numbers each, full of sevens
 abbrev lent : ℕ → Buffers
@@ -19,11 +21,11 @@ lent n = let l : List ℕ = replicate n 7 in record { events = l; trees = l; err
 
 -- `a;}`
 abbrev short : File
-short = record { bytes = 97 ∷ 59 ∷ 125 ∷ []; tokens = 27 ∷ 1 ∷ 29 ∷ 1 ∷ 38 ∷ 1 ∷ []; buffers = lent 60 }
+short = record { setting = 0; bytes = 97 ∷ 59 ∷ 125 ∷ []; tokens = 27 ∷ 1 ∷ 29 ∷ 1 ∷ 38 ∷ 1 ∷ []; buffers = lent 60 }
 
 -- `b,c;}`
 abbrev long : File
-long = record { bytes = 98 ∷ 44 ∷ 99 ∷ 59 ∷ 125 ∷ []; tokens = 27 ∷ 1 ∷ 2 ∷ 1 ∷ 27 ∷ 1 ∷ 29 ∷ 1 ∷ 38 ∷ 1 ∷ []; buffers = lent 80 }
+long = record { setting = 0; bytes = 98 ∷ 44 ∷ 99 ∷ 59 ∷ 125 ∷ []; tokens = 27 ∷ 1 ∷ 2 ∷ 1 ∷ 27 ∷ 1 ∷ 29 ∷ 1 ∷ 38 ∷ 1 ∷ []; buffers = lent 80 }
 
 abbrev stray : List Row
 stray = (0 ∷ 10 ∷ 1 ∷ 1 ∷ []) ∷ (1 ∷ 38 ∷ 1 ∷ 1 ∷ []) ∷ []
@@ -98,6 +100,7 @@ tail-rows = 0 ∷ 1 ∷ 74 ∷ 1 ∷ 46 ∷ 1 ∷ 37 ∷ 1 ∷ 27 ∷ 1 ∷ 28 �
 abbrev one : File
 one =
     record {
+      setting = 0;
       bytes = 47 ∷ 109 ∷ 101 ∷ 109 ∷ 114 ∷ 101 ∷ 115 ∷ 101 ∷ 114 ∷ 118 ∷ 101 ∷ 47 ∷ 32 ∷ 49 ∷ 59 ∷ tail-bytes;
       tokens = 20 ∷ 12 ∷ 0 ∷ 1 ∷ 35 ∷ 1 ∷ 29 ∷ 1 ∷ tail-rows;
       buffers = lent 200;
@@ -107,6 +110,7 @@ one =
 abbrev two : File
 two =
     record {
+      setting = 0;
       bytes = 96 ∷ 98 ∷ 61 ∷ 34 ∷ 115 ∷ 34 ∷ 34 ∷ 116 ∷ 34 ∷ 59 ∷ tail-bytes;
       tokens = 74 ∷ 1 ∷ 27 ∷ 1 ∷ 28 ∷ 1 ∷ 33 ∷ 3 ∷ 33 ∷ 3 ∷ 29 ∷ 1 ∷ tail-rows;
       buffers = lent 220;
@@ -215,7 +219,7 @@ reports-moved =
 -- and so says the theorem
 shared : Shared one two in-one in-two
 unfolding call
-shared = stays-local one two refl refl in-one in-two alike
+shared = stays-local one two refl refl refl in-one in-two alike
 
 -- ---------------------------------------------------------------- what is not promised
 
@@ -228,11 +232,78 @@ not-at-least = (refl, refl)
 -- Pending expectations do not end with a statement that lacks its semicolon: after `/{}` the missing one is reported,
 -- and after `a;` nothing is.
 abbrev unfinished : File
-unfinished = record { bytes = 47 ∷ 123 ∷ 125 ∷ 98 ∷ 59 ∷ []; tokens = 46 ∷ 1 ∷ 37 ∷ 1 ∷ 38 ∷ 1 ∷ 27 ∷ 1 ∷ 29 ∷ 1 ∷ []; buffers = lent 100 }
+unfinished = record { setting = 0; bytes = 47 ∷ 123 ∷ 125 ∷ 98 ∷ 59 ∷ []; tokens = 46 ∷ 1 ∷ 37 ∷ 1 ∷ 38 ∷ 1 ∷ 27 ∷ 1 ∷ 29 ∷ 1 ∷ []; buffers = lent 100 }
 
 abbrev finished : File
-finished = record { bytes = 97 ∷ 59 ∷ 98 ∷ 59 ∷ []; tokens = 27 ∷ 1 ∷ 29 ∷ 1 ∷ 27 ∷ 1 ∷ 29 ∷ 1 ∷ []; buffers = lent 100 }
+finished = record { setting = 0; bytes = 97 ∷ 59 ∷ 98 ∷ 59 ∷ []; tokens = 27 ∷ 1 ∷ 29 ∷ 1 ∷ 27 ∷ 1 ∷ 29 ∷ 1 ∷ []; buffers = lent 100 }
 
 not-without : (report-rows (result unfinished) ≡ (1 ∷ 3 ∷ 4 ∷ 3 ∷ 0 ∷ 1 ∷ 0 ∷ 0 ∷ 0 ∷ []) ∷ []) × (report-rows (result finished) ≡ [])
 unfolding report-rows call
 not-without = (refl, refl)
+
+-- ---------------------------------------------------------------- the strict setting
+
+-- what both end with, `1a:b{c="s""t";};`: a label that starts with a digit, and after it a report with expectations
+abbrev strict-bytes : List ℕ
+strict-bytes = 49 ∷ 97 ∷ 58 ∷ 98 ∷ 123 ∷ 99 ∷ 61 ∷ 34 ∷ 115 ∷ 34 ∷ 34 ∷ 116 ∷ 34 ∷ 59 ∷ 125 ∷ 59 ∷ []
+
+abbrev strict-rows : List ℕ
+strict-rows = 35 ∷ 1 ∷ 27 ∷ 1 ∷ 31 ∷ 1 ∷ 27 ∷ 1 ∷ 37 ∷ 1 ∷ 27 ∷ 1 ∷ 28 ∷ 1 ∷ 33 ∷ 3 ∷ 33 ∷ 3 ∷ 29 ∷ 1 ∷ 38 ∷ 1 ∷ 29 ∷ 1 ∷ []
+
+-- `/{};`
+abbrev plain : File
+plain = record { setting = 1; bytes = 47 ∷ 123 ∷ 125 ∷ 59 ∷ strict-bytes; tokens = 46 ∷ 1 ∷ 37 ∷ 1 ∷ 38 ∷ 1 ∷ 29 ∷ 1 ∷ strict-rows; buffers = lent 160 }
+
+-- `2c:x="s""t";`, with such a label and such a report of its own; another number for the same setting
+abbrev mistaken : File
+mistaken =
+    record {
+      setting = 2;
+      bytes = 50 ∷ 99 ∷ 58 ∷ 120 ∷ 61 ∷ 34 ∷ 115 ∷ 34 ∷ 34 ∷ 116 ∷ 34 ∷ 59 ∷ strict-bytes;
+      tokens = 35 ∷ 1 ∷ 27 ∷ 1 ∷ 31 ∷ 1 ∷ 27 ∷ 1 ∷ 28 ∷ 1 ∷ 33 ∷ 3 ∷ 33 ∷ 3 ∷ 29 ∷ 1 ∷ strict-rows;
+      buffers = lent 200;
+    }
+
+abbrev labelled-node : List Row
+labelled-node = (0 ∷ 15 ∷ 16 ∷ 6 ∷ []) ∷ (0 ∷ 19 ∷ 3 ∷ 2 ∷ []) ∷ (1 ∷ 26 ∷ 2 ∷ 2 ∷ []) ∷ (1 ∷ 31 ∷ 1 ∷ 1 ∷ []) ∷ (1 ∷ 26 ∷ 1 ∷ 1 ∷ []) ∷ (1 ∷ 37 ∷ 1 ∷ 1 ∷ []) ∷ (0 ∷ 16 ∷ 9 ∷ 4 ∷ []) ∷ (1 ∷ 26 ∷ 1 ∷ 1 ∷ []) ∷ (1 ∷ 28 ∷ 1 ∷ 1 ∷ []) ∷ (0 ∷ 20 ∷ 6 ∷ 2 ∷ []) ∷ (1 ∷ 33 ∷ 3 ∷ 1 ∷ []) ∷ (1 ∷ 33 ∷ 3 ∷ 1 ∷ []) ∷ (1 ∷ 29 ∷ 1 ∷ 1 ∷ []) ∷ (1 ∷ 38 ∷ 1 ∷ 1 ∷ []) ∷ (1 ∷ 29 ∷ 1 ∷ 1 ∷ []) ∷ []
+
+unfoldable in-plain : Semicolon (tree-rows (result plain))
+unfolding tree-rows call is-statement
+in-plain = first (0 ∷ 0 ∷ 20 ∷ 2 ∷ []) (0 ∷ 15 ∷ 4 ∷ 4 ∷ []) ((1 ∷ 46 ∷ 1 ∷ 1 ∷ []) ∷ (1 ∷ 37 ∷ 1 ∷ 1 ∷ []) ∷ (1 ∷ 38 ∷ 1 ∷ 1 ∷ []) ∷ []) labelled-node 3 refl refl refl (leaf refl (leaf refl (leaf refl none))) refl
+
+unfoldable in-mistaken : Semicolon (tree-rows (result mistaken))
+unfolding tree-rows call is-statement
+in-mistaken = first (0 ∷ 0 ∷ 28 ∷ 2 ∷ []) (0 ∷ 16 ∷ 12 ∷ 5 ∷ []) ((0 ∷ 19 ∷ 3 ∷ 2 ∷ []) ∷ (1 ∷ 26 ∷ 2 ∷ 2 ∷ []) ∷ (1 ∷ 31 ∷ 1 ∷ 1 ∷ []) ∷ (1 ∷ 26 ∷ 1 ∷ 1 ∷ []) ∷ (1 ∷ 28 ∷ 1 ∷ 1 ∷ []) ∷ (0 ∷ 20 ∷ 6 ∷ 2 ∷ []) ∷ (1 ∷ 33 ∷ 3 ∷ 1 ∷ []) ∷ (1 ∷ 33 ∷ 3 ∷ 1 ∷ []) ∷ []) labelled-node 4 refl refl refl (node refl (leaf refl (leaf refl none)) (leaf refl (leaf refl (node refl (leaf refl (leaf refl none)) none)))) refl
+
+strict-alike : Alike plain mistaken in-plain in-mistaken
+unfolding token-index start-byte over-leaves tokens-of in-plain in-mistaken
+strict-alike = record { same-tokens = refl; same-bytes = refl }
+
+-- the missing comma, and then `1a` at 4..6 and 12..14: marks fall once
+abbrev reports-plain : List Row
+reports-plain = (1 ∷ 14 ∷ 15 ∷ 12 ∷ 0 ∷ 2 ∷ 0 ∷ 0 ∷ 0 ∷ []) ∷ (8 ∷ 4 ∷ 6 ∷ 4 ∷ 2 ∷ 0 ∷ 0 ∷ 0 ∷ 0 ∷ []) ∷ []
+
+abbrev reports-mistaken : List Row
+reports-mistaken = (1 ∷ 22 ∷ 23 ∷ 16 ∷ 2 ∷ 2 ∷ 0 ∷ 0 ∷ 0 ∷ []) ∷ (8 ∷ 12 ∷ 14 ∷ 8 ∷ 4 ∷ 0 ∷ 0 ∷ 0 ∷ 0 ∷ []) ∷ []
+
+later-in-plain : (later-reports plain in-plain ≡ reports-plain) × (expectations (result plain) ≡ 2 ∷ 29 ∷ []) × (places plain in-plain ≡ record { byte = 3; index = 3; pool-place = 0 })
+unfolding those later-report pool-before token-index start-byte over-leaves report-rows expectations call in-plain
+later-in-plain = (refl, refl, refl)
+
+later-in-mistaken : (later-reports mistaken in-mistaken ≡ reports-mistaken) × (expectations (result mistaken) ≡ 2 ∷ 29 ∷ 2 ∷ 29 ∷ []) × (places mistaken in-mistaken ≡ record { byte = 11; index = 7; pool-place = 2 })
+unfolding those later-report pool-before token-index start-byte over-leaves report-rows expectations call in-mistaken
+later-in-mistaken = (refl, refl, refl)
+
+strict-moved : Pairwise (ReportMoved (record { byte = 3; index = 3; pool-place = 0 }) (record { byte = 11; index = 7; pool-place = 2 }) (2 ∷ 29 ∷ []) (2 ∷ 29 ∷ 2 ∷ 29 ∷ [])) reports-plain reports-mistaken
+strict-moved =
+    more (record { same-message = refl; start-moves = refl; end-moves = refl; mark-moves = refl; first-place-moves = refl; same-pool-count = refl; same-hint = refl; label-moves = no-label refl refl refl refl; same-expected = refl })
+    (more (record { same-message = refl; start-moves = refl; end-moves = refl; mark-moves = refl; first-place-moves = refl; same-pool-count = refl; same-hint = refl; label-moves = no-label refl refl refl refl; same-expected = refl }) no-more)
+
+strict-shared : Shared plain mistaken in-plain in-mistaken
+unfolding call
+strict-shared = stays-local plain mistaken refl refl refl in-plain in-mistaken strict-alike
+
+-- The later reports are not the end of the list: `2c` is reported between the two.
+not-at-the-end : report-rows (result mistaken) ≡ (1 ∷ 8 ∷ 9 ∷ 6 ∷ 0 ∷ 2 ∷ 0 ∷ 0 ∷ 0 ∷ []) ∷ (1 ∷ 22 ∷ 23 ∷ 16 ∷ 2 ∷ 2 ∷ 0 ∷ 0 ∷ 0 ∷ []) ∷ (8 ∷ 0 ∷ 2 ∷ 0 ∷ 4 ∷ 0 ∷ 0 ∷ 0 ∷ 0 ∷ []) ∷ (8 ∷ 12 ∷ 14 ∷ 8 ∷ 4 ∷ 0 ∷ 0 ∷ 0 ∷ 0 ∷ []) ∷ []
+unfolding report-rows call
+not-at-the-end = refl

@@ -7,10 +7,11 @@
 --    tokens make by themselves (`Turns`).
 -- 3. From rows to trees: what an accepted file wrote (`Written`), and that a semicolon found in its rows is one of its
 --    tree (`Cut`).
--- 4. Reports have places inside the file, counted from the end (`Inside`), so one file can be taken apart at the
---    semicolon (`Tail`, `tail`).
--- 5. Two files: which errors and reports are later, and how they move (`LaterErrors`, `LaterReports`); all joined:
---    `Local`, `stays-local`.
+-- 4. Reports have places inside the file, counted from the end (`Inside`), and the Names that the strict setting
+--    reports after the semicolon are those that the later tokens have by themselves, moved (`NamesApart`). So one file
+--    can be taken apart at the semicolon (`Tail`, `tail`).
+-- 5. Two files: which errors and reports are later, and how they move (`LaterErrors`, `LaterReports`, `LaterNames`);
+--    all joined: `Local`, `stays-local`.
 -- 6. What guards the statement: `Examples` (computed), `Witnesses` (its premises can be met), `Refutations` (wrong rows
 --    do not pass).
 pub mod Analysis
@@ -23,10 +24,12 @@ pub mod Sound
 pub mod Turns
 pub mod Written
 pub mod Cut
+pub mod NamesApart
 pub mod Inside
 pub mod Tail
 pub mod LaterErrors
 pub mod LaterReports
+pub mod LaterNames
 pub mod Local
 pub mod Examples
 pub mod Witnesses

@@ -152,11 +152,43 @@ another-label r = go (two-labels (r .label-moves)) where
 another-expectation : ReportMoved (record { byte = 14; index = 3; pool-place = 1 }) (record { byte = 9; index = 5; pool-place = 2 }) (35 ∷ 29 ∷ []) (2 ∷ 29 ∷ 30 ∷ []) (1 ∷ 21 ∷ 22 ∷ 11 ∷ 1 ∷ 1 ∷ 0 ∷ 0 ∷ 0 ∷ []) (1 ∷ 16 ∷ 17 ∷ 13 ∷ 2 ∷ 1 ∷ 0 ∷ 0 ∷ 0 ∷ []) → ⊥
 another-expectation r = let n : _≡_ {A = ℕ} 29 30 = ap (λ (l : List ℕ). getD l 0 0) (r .same-expected) in omega arith
 
+-- ---------------------------------------------------------------- reports of the strict setting
+
+-- message 8 at 4..6, as it must be in another file
+abbrev Name-is : Row → Type 0
+Name-is =
+    ReportMoved (record { byte = 3; index = 3; pool-place = 0 }) (record { byte = 11; index = 7; pool-place = 2 }) (2 ∷ 29 ∷ []) (2 ∷ 29 ∷ 2 ∷ 29 ∷ [])
+    (8 ∷ 4 ∷ 6 ∷ 4 ∷ 2 ∷ 0 ∷ 0 ∷ 0 ∷ 0 ∷ [])
+
+right-name : Name-is (8 ∷ 12 ∷ 14 ∷ 8 ∷ 4 ∷ 0 ∷ 0 ∷ 0 ∷ 0 ∷ [])
+right-name =
+    record { same-message = refl; start-moves = refl; end-moves = refl; mark-moves = refl; first-place-moves = refl; same-pool-count = refl; same-hint = refl; label-moves = no-label refl refl refl refl; same-expected = refl }
+
+name-stays : Name-is (8 ∷ 4 ∷ 6 ∷ 4 ∷ 4 ∷ 0 ∷ 0 ∷ 0 ∷ 0 ∷ []) → ⊥
+name-stays r = omega (arith, r .start-moves)
+
+-- not the end of the Name, where the parser's own marks would be
+mark-past-the-name : Name-is (8 ∷ 12 ∷ 14 ∷ 9 ∷ 4 ∷ 0 ∷ 0 ∷ 0 ∷ 0 ∷ []) → ⊥
+mark-past-the-name r = omega (arith, r .mark-moves)
+
+-- not the expectations before its place in the file, but all of them
+expectations-up-to-it : Name-is (8 ∷ 12 ∷ 14 ∷ 8 ∷ 2 ∷ 0 ∷ 0 ∷ 0 ∷ 0 ∷ []) → ⊥
+expectations-up-to-it r = omega (arith, r .first-place-moves)
+
+-- by position, from the end of the list, the second file's report on a Name before the semicolon is compared too
+-- (Examples, `not-at-the-end`)
+by-position :
+    Pairwise (ReportMoved (record { byte = 3; index = 3; pool-place = 0 }) (record { byte = 11; index = 7; pool-place = 2 }) (2 ∷ 29 ∷ []) (2 ∷ 29 ∷ 2 ∷ 29 ∷ []))
+    ((1 ∷ 14 ∷ 15 ∷ 12 ∷ 0 ∷ 2 ∷ 0 ∷ 0 ∷ 0 ∷ []) ∷ (8 ∷ 4 ∷ 6 ∷ 4 ∷ 2 ∷ 0 ∷ 0 ∷ 0 ∷ 0 ∷ []) ∷ [])
+    ((8 ∷ 0 ∷ 2 ∷ 0 ∷ 4 ∷ 0 ∷ 0 ∷ 0 ∷ 0 ∷ []) ∷ (8 ∷ 12 ∷ 14 ∷ 8 ∷ 4 ∷ 0 ∷ 0 ∷ 0 ∷ 0 ∷ []) ∷ [])
+    → ⊥
+by-position e = omega (arith, first-of e .same-message)
+
 -- ---------------------------------------------------------------- whole files
 
 -- `a;` with some token of one byte after it; each pair of files here differs in that token alone
 abbrev with-last : ℕ → ℕ → File
-with-last b k = record { bytes = 97 ∷ 59 ∷ b ∷ []; tokens = 27 ∷ 1 ∷ 29 ∷ 1 ∷ k ∷ 1 ∷ []; buffers = lent 60 }
+with-last b k = record { setting = 0; bytes = 97 ∷ 59 ∷ b ∷ []; tokens = 27 ∷ 1 ∷ 29 ∷ 1 ∷ k ∷ 1 ∷ []; buffers = lent 60 }
 
 abbrev its-semicolon : (f : File) (later : List Row) → tree-rows (result f) ≡ (0 ∷ 0 ∷ 3 ∷ 2 ∷ []) ∷ (0 ∷ 16 ∷ 2 ∷ 2 ∷ []) ∷ (1 ∷ 26 ∷ 1 ∷ 1 ∷ []) ∷ (1 ∷ 29 ∷ 1 ∷ 1 ∷ []) ∷ later → Semicolon (tree-rows (result f))
 unfolding is-statement
@@ -199,3 +231,37 @@ other-errors s = omega (arith, first-of (s .errors) .same-number)
 other-reports : Shared (with-last 125 38) (with-last 32 0) brace blank → ⊥
 unfolding its-semicolon brace blank those later-report token-index over-leaves report-rows call
 other-reports s = lost (s .reports)
+
+-- `a;` and a labelled node, `?a:b{};` with some byte as the label's first
+abbrev with-label : ℕ → ℕ → File
+with-label s b =
+    record { setting = s; bytes = 97 ∷ 59 ∷ b ∷ 97 ∷ 58 ∷ 98 ∷ 123 ∷ 125 ∷ 59 ∷ []; tokens = 27 ∷ 1 ∷ 29 ∷ 1 ∷ 27 ∷ 2 ∷ 31 ∷ 1 ∷ 27 ∷ 1 ∷ 37 ∷ 1 ∷ 38 ∷ 1 ∷ 29 ∷ 1 ∷ []; buffers = lent 80 }
+
+abbrev its-node : List Row
+its-node = (0 ∷ 15 ∷ 7 ∷ 5 ∷ []) ∷ (0 ∷ 19 ∷ 3 ∷ 2 ∷ []) ∷ (1 ∷ 26 ∷ 2 ∷ 1 ∷ []) ∷ (1 ∷ 31 ∷ 1 ∷ 1 ∷ []) ∷ (1 ∷ 26 ∷ 1 ∷ 1 ∷ []) ∷ (1 ∷ 37 ∷ 1 ∷ 1 ∷ []) ∷ (1 ∷ 38 ∷ 1 ∷ 1 ∷ []) ∷ (1 ∷ 29 ∷ 1 ∷ 1 ∷ []) ∷ []
+
+abbrev before-label : (f : File) → tree-rows (result f) ≡ (0 ∷ 0 ∷ 9 ∷ 2 ∷ []) ∷ (0 ∷ 16 ∷ 2 ∷ 2 ∷ []) ∷ (1 ∷ 26 ∷ 1 ∷ 1 ∷ []) ∷ (1 ∷ 29 ∷ 1 ∷ 1 ∷ []) ∷ its-node → Semicolon (tree-rows (result f))
+unfolding is-statement
+before-label f e = first (0 ∷ 0 ∷ 9 ∷ 2 ∷ []) (0 ∷ 16 ∷ 2 ∷ 2 ∷ []) ((1 ∷ 26 ∷ 1 ∷ 1 ∷ []) ∷ []) its-node 1 e refl refl (leaf refl none-inside) refl
+
+strict-1a : Semicolon (tree-rows (result (with-label 1 49)))
+unfolding tree-rows call
+strict-1a = before-label (with-label 1 49) refl
+
+strict-aa : Semicolon (tree-rows (result (with-label 1 97)))
+unfolding tree-rows call
+strict-aa = before-label (with-label 1 97) refl
+
+old-1a : Semicolon (tree-rows (result (with-label 0 49)))
+unfolding tree-rows call
+old-1a = before-label (with-label 0 49) refl
+
+-- `1a` is reported and `aa` is not, though tokens and parts are the same
+other-bytes : Shared (with-label 1 49) (with-label 1 97) strict-1a strict-aa → ⊥
+unfolding before-label strict-1a strict-aa those later-report token-index over-leaves report-rows call
+other-bytes s = lost (s .reports)
+
+-- nor do a strict call and an old one share their reports
+other-setting : (Shared (with-label 1 49) (with-label 0 49) strict-1a old-1a → ⊥) × (Shared (with-label 0 49) (with-label 1 49) old-1a strict-1a → ⊥)
+unfolding before-label strict-1a old-1a those later-report token-index over-leaves report-rows call
+other-setting = (λ s. lost (s .reports), λ s. invented (s .reports))

@@ -34,6 +34,7 @@ use Rattle.recovery.proofs.Meaning.{ends-in, closes, ends-beside}
 use Rattle.recovery.proofs.Turns.{children, Part, part-here, Found, find-in}
 use Rattle.recovery.proofs.Written.{rows-of, file-tokens, made-of, told-of, Wrote, wrote}
 use Rattle.recovery.proofs.Cut.{Placed, placed, tokens-counted, bytes-counted}
+use Rattle.recovery.proofs.NamesApart.{Names-apart, names-apart}
 
 -- ---------------------------------------------------------------- a semicolon is one byte long
 
@@ -128,6 +129,7 @@ pub record Tail (f : File) (s : Semicolon (tree-rows (result f))) : Type 0 where
   pub early : List Report
   pub reports : told-of f ≡ early ++ told (run-entry SourceFile rest)
   pub above : All (Above (length rest)) early
+  pub names : Names-apart (f .setting) (f .bytes) (file-tokens f) rest (length head) (byte-count head)
 
 counted : (m : Tree → ℕ) (g : List Row → ℕ) → ((x : Tree) → g (rows-of x) ≡ m x) → (f i : Tree) (l n : List Row) → rows-of f ≡ l → rows-of i ≡ n → g l + g n ≡ m f + m i
 counted m g e f i l n p q = rw (← p, ← q, e f, e i) refl
@@ -145,19 +147,21 @@ tail f h s =
     let F : Found (taken ts) (made-of f) (P .later) =
     find-in (P .kind) i (P .later) (statement-closes (P .kind) (P .inside) (P .raw) (P .statement)) ts
     (subst (λ (x : Tree). Part x (P .kind) i (P .later)) (sym (P .is)) (part-here (P .before) (P .kind) i (P .later))) in
+    let t : X ≡ P .before ⊕ subtree (P .kind) (P .inside ⊕ leaf K.Semicolon (O .token ∷ []) nil) (P .later) =
+    P .is ∙ ap (λ (r : List Token). P .before ⊕ subtree (P .kind) (P .inside ⊕ leaf K.Semicolon r nil) (P .later)) (O .is) in
     let u : leaves (P .later) ≡ F .rest = ap leaves (F .beyond) ∙ children-leaves (F .rest) in
     let e : ts ≡ (leaves (P .before) ++ leaves (P .inside)) ++ (O .token ∷ F .rest) =
     sym (children-leaves ts)
-    ∙ ap leaves (P .is)
-    ∙ ap (λ (r : List Token). leaves (P .before ⊕ subtree (P .kind) (P .inside ⊕ leaf K.Semicolon r nil) (P .later))) (O .is)
+    ∙ ap leaves t
     ∙ leaves-around (P .before) (P .kind) (P .inside) (O .token) (P .later)
     ∙ ap (λ (l : List Token). (leaves (P .before) ++ leaves (P .inside)) ++ (O .token ∷ l)) u in
+    let w : O .token .len ≡ 1 = semicolon-length f (leaves (P .before) ++ leaves (P .inside)) (O .token) (F .rest) (checked-input (f .bytes) (f .tokens) (W .input)) e (O .kind) in
     record {
       head = leaves (P .before) ++ leaves (P .inside);
       semicolon = O .token;
       rest = F .rest;
       file = e;
-      one-byte-long = semicolon-length f (leaves (P .before) ++ leaves (P .inside)) (O .token) (F .rest) (checked-input (f .bytes) (f .tokens) (W .input)) e (O .kind);
+      one-byte-long = w;
       no-error = ap (leb L.UnexpectedEndIncbin) (O .kind);
       at-index =
           counted (λ (x : Tree). length (leaves x)) raw-tokens tokens-counted (P .before) (P .inside) (s .before) (s .inside) (P .rows-before) (P .rows-inside)
@@ -169,4 +173,5 @@ tail f h s =
       early = told (F .first);
       reports = ap told (F .is) ∙ told-join (F .first) (run-entry SourceFile (F .rest));
       above = F .above;
+      names = names-apart (P .before) (P .kind) (P .inside) (O .token) (P .later) w (f .setting) (f .bytes) ts (F .rest) t (F .beyond);
     }

@@ -9,11 +9,12 @@ use Rattle.definitions.specs.Report.{Push, event, reported, exceeded, pushes, r
 use Rattle.laws.proofs.Skeleton.{pushes-join, pushes-closed, reports-append}
 use Rattle.laws.proofs.Marks.{Falls, Within, falls-within}
 
-abbrev pub All : (Report → Type 0) → List Report → Type 0
+-- a fact of each
+abbrev pub All : {A : Type 0} → (A → Type 0) → List A → Type 0
 All P [] = Unit {0}
 All P (r ∷ l) = P r × All P l
 
-pub all-append : (P : Report → Type 0) (l m : List Report) → All P l → All P m → All P (l ++ m)
+pub all-append : {A : Type 0} (P : A → Type 0) (l m : List A) → All P l → All P m → All P (l ++ m)
 all-append P [] m h g = g
 all-append P (r ∷ l) m h g = (h .0, all-append P l m (h .1) g)
 

@@ -1,22 +1,25 @@
--- What an accepted source file wrote, row by row: the rows of its tree, of its error tokens and of its reports.
+-- What an accepted source file wrote, row by row: the rows of its tree, of its error tokens and of its reports, those
+-- of its setting too.
 use Prim.Native.Nat.{ℕ, suc, _+_, _-_, _*_, _/_, _<_}
 use native.Mathlib.Nat.{mul-div-cancel-left}
 use native.Mathlib.Omega.{arith}
 use mathlib.Core.Path.{_≡_, refl, ap, sym, _∙_}
 use mathlib.Core.Bool.{Bool, true, false, cond}
-use mathlib.Core.List.{List, [], _∷_, _++_, append-assoc}
+use mathlib.Core.List.{List, [], _∷_, _++_, append-assoc, map}
 use lib.ListN.{length, take, drop, replicate, length-append}
 use lib.Seq.{take-at, drop-at, take-append-seam}
 use Rattle.definitions.specs.Layout.{REPORT-ROW, ERROR-ROW, TREE-ROW}
 use Rattle.definitions.specs.NodeKind as N
+use Rattle.definitions.specs.Errors as E
 use Rattle.definitions.specs.Token.{Token, tokens-of, is-error, byte-count}
 use Rattle.definitions.specs.Grammar.{Entry, SourceFile, root-kind}
 use Rattle.definitions.specs.Skeleton.{Label, no-label, label, Report, Skeleton}
 use Rattle.definitions.specs.Place.{Tree, nil, leaf, subtree, root, width, count, rows, lexical-errors}
 use Rattle.definitions.specs.Report.{pushes, reports, label-numbers, report-numbers, pool}
+use Rattle.definitions.specs.Strict.{Name-at, name-numbers}
 use Rattle.definitions.specs.Refusal.{accepted, check-input}
-use Rattle.definitions.specs.Call.{Sheets, sheets, kept, written, run-entry, for, entry-of}
-use Rattle.laws.proofs.Accepted.{accepted-call}
+use Rattle.definitions.specs.Call.{Sheets, sheets, kept, written, run-entry, names-of, for, entry-of}
+use Rattle.laws.proofs.Accepted.{accepted-call, written-by}
 use Rattle.laws.proofs.Accepted as L
 use Rattle.recovery.specs.ResultRows.{Row, cut-rows, tree-rows, error-rows, expectations}
 use Rattle.recovery.specs.ResultRows as S
@@ -141,6 +144,22 @@ reports-flat n b first (r ∷ l) =
     ap (λ (x : List ℕ). r .message ∷ (b - r .range .from) ∷ (b - r .range .to) ∷ (n - r .mark) ∷ first ∷ length (r .pool) ∷ r .hint ∷ x)
     (ap (label-numbers b (r .labelled)) (reports-flat n b (first + length (r .pool)) l) ∙ label-flat b (r .labelled) (flat (reports-of n b (first + length (r .pool)) l)))
 
+-- the row of a Name's report, after `first` expectations
+abbrev pub name-row : ℕ → Name-at → Row
+name-row first n = E.not-a-label ∷ n .start ∷ n .end ∷ n .first-token ∷ first ∷ 0 ∷ E.no-hint ∷ 0 ∷ 0 ∷ []
+
+abbrev pub name-rows : ℕ → List Name-at → List Row
+name-rows first l = map (name-row first) l
+
+names-wide : (first : ℕ) (l : List Name-at) → Wide REPORT-ROW (name-rows first l)
+names-wide first [] = tt
+names-wide first (n ∷ l) = (refl, names-wide first l)
+
+names-flat : (first : ℕ) (l : List Name-at) → name-numbers first l ≡ flat (name-rows first l)
+unfolding name-numbers flat
+names-flat first [] = refl
+names-flat first (n ∷ l) = ap (name-row first n ++_) (names-flat first l)
+
 -- ---------------------------------------------------------------- an accepted source file
 
 abbrev pub file-tokens : File → List Token
@@ -152,34 +171,48 @@ made-of f = run-entry SourceFile (file-tokens f)
 abbrev pub told-of : File → List Report
 told-of f = reports (pushes (made-of f))
 
+-- the Names that its setting reports
+abbrev pub names-in : File → List Name-at
+names-in f = names-of (f .setting) SourceFile (f .bytes) (file-tokens f)
+
+-- the rows of all its reports
+abbrev pub reports-in : File → List Row
+reports-in f = reports-of (length (file-tokens f)) (byte-count (file-tokens f)) 0 (told-of f) ++ name-rows (length (pool (told-of f))) (names-in f)
+
 pub record Wrote (f : File) : Type 0 where
   pub input : check-input (f .bytes) (f .tokens) ≡ accepted
   pub trees : tree-rows (result f) ≡ rows-of (subtree N.SourceFile (children (made-of f) (file-tokens f)) nil)
   pub errors : error-rows (result f) ≡ errors-of 0 (file-tokens f)
-  pub reports : S.report-rows (result f) ≡ reports-of (length (file-tokens f)) (byte-count (file-tokens f)) 0 (told-of f)
+  pub reports : S.report-rows (result f) ≡ reports-in f
   pub pool : expectations (result f) ≡ pool (told-of f)
 
 entry-one : (e : Entry) → entry-of 1 ≡ for e → e ≡ SourceFile
 unfolding entry-of
 entry-one e h = cc
 
+reports-written : (f : File) → Wide REPORT-ROW (reports-in f) × (written-by (f .setting) SourceFile (f .bytes) (file-tokens f) .reports ≡ flat (reports-in f))
+unfolding sheets
+reports-written f =
+    let n : ℕ = length (file-tokens f) in
+    let b : ℕ = byte-count (file-tokens f) in
+    let first : ℕ = length (pool (told-of f)) in (
+      wide-append REPORT-ROW (reports-of n b 0 (told-of f)) _ (reports-wide n b 0 (told-of f)) (names-wide first (names-in f)),
+      (λ i. reports-flat n b 0 (told-of f) i ++ names-flat first (names-in f) i) ∙ sym (flat-append (reports-of n b 0 (told-of f)) _),
+    )
+
 -- WHAT IT WROTE
 pub wrote : (f : File) → Accepted f → Wrote f
 unfolding tree-rows error-rows S.report-rows expectations sheets root children root-kind
 wrote f h =
-    let A : L.Accepted 1 (f .bytes) (f .tokens) (f .buffers) = accepted-call 1 (f .bytes) (f .tokens) (f .buffers) h in
+    let A : L.Accepted 1 (f .setting) (f .bytes) (f .tokens) (f .buffers) = accepted-call 1 (f .setting) (f .bytes) (f .tokens) (f .buffers) h in
     let ts : List Token = file-tokens f in
-    let o : Skeleton = made-of f in
-    let z : Sheets = sheets SourceFile ts o in
-    let is : result f ≡ kept z (f .buffers) = A .returns ∙ ap (λ (e : Entry). kept (sheets e ts (run-entry e ts)) (f .buffers)) (entry-one (A .entry) (A .asked-for)) in
-    let t : Tree = subtree N.SourceFile (children o ts) nil in
+    let z : Sheets = written-by (f .setting) SourceFile (f .bytes) ts in
+    let is : result f ≡ kept z (f .buffers) = A .returns ∙ ap (λ (e : Entry). kept (written-by (f .setting) e (f .bytes) ts) (f .buffers)) (entry-one (A .entry) (A .asked-for)) in
+    let t : Tree = subtree N.SourceFile (children (made-of f) ts) nil in
     record {
       input = A .input;
       trees = ap tree-rows is ∙ written-rows TREE-ROW (rows-of t) (z .trees) (f .buffers .trees) (omega arith) (rows-wide t) (rows-flat t);
       errors = ap error-rows is ∙ written-rows ERROR-ROW (errors-of 0 ts) (z .errors) (f .buffers .errors) (omega arith) (errors-wide 0 ts) (errors-flat 0 ts);
-      reports =
-          ap S.report-rows is
-          ∙ written-rows REPORT-ROW (reports-of (length ts) (byte-count ts) 0 (told-of f)) (z .reports) (f .buffers .reports) (omega arith) (reports-wide (length ts) (byte-count ts) 0 (told-of f))
-          (reports-flat (length ts) (byte-count ts) 0 (told-of f));
+      reports = ap S.report-rows is ∙ written-rows REPORT-ROW (reports-in f) (z .reports) (f .buffers .reports) (omega arith) (reports-written f .0) (reports-written f .1);
       pool = ap expectations is ∙ take-append-seam (z .pool) (replicate (length (f .buffers .pool) - length (z .pool)) 0);
     }

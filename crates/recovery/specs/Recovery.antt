@@ -1,13 +1,14 @@
 -- The third promise: recovery stays local. Two accepted source files that are alike after a semicolon, where it ends a
 -- top-level property, node or directive in both, have the same parts, lexical errors and reports after it; only places
--- are moved.
+-- are moved. Document 02, 1/14: "Demand 3 compares two calls in the same setting; in strict setting two files with the
+-- same tail also share these reports, shifted."
 use mathlib.Core.Path.{_≡_}
 use Prim.Native.Nat.{ℕ, suc, _+_}
 use mathlib.Core.Bool.{Bool, true, cond, not}
 use mathlib.Core.List.{List, [], _∷_, _++_}
-use lib.Dec.{ltb}
+use lib.Dec.{ltb, eqb}
 use lib.ListN.{take, drop}
-use Rattle.definitions.specs.Layout.{NODE, LEAF}
+use Rattle.definitions.specs.Layout.{NODE, LEAF, OLD-SETTING}
 use Rattle.definitions.specs.TokenKind as K
 use Rattle.definitions.specs.NodeKind as N
 use Rattle.definitions.specs.Token.{tokens-of, one-of}
@@ -16,18 +17,23 @@ use Rattle.recovery.specs.ResultRows.{Row, tree-rows, error-rows, report
 
 -- ---------------------------------------------------------------- two files
 
--- what a call of entry 1 is given: input bytes, token numbers, lent buffers
+-- what a call of entry 1 is given: setting, input bytes, token numbers, lent buffers
 pub record File : Type 0 where
+  pub setting : ℕ
   pub bytes : List ℕ
   pub tokens : List ℕ
   pub buffers : Buffers
 
 abbrev pub result : File → Result
-result f = call 1 (f .bytes) (f .tokens) (f .buffers)
+result f = call 1 (f .setting) (f .bytes) (f .tokens) (f .buffers)
 
 -- document 01: an accepted source file is a call of entry 1 that returns number 0
 abbrev pub Accepted : File → Type 0
 Accepted f = result f .answer .number ≡ 0
+
+-- document 02: 0 is the old setting, and any other number the strict one, so that two of those are the same setting
+abbrev pub Same-setting : File → File → Type 0
+Same-setting f g = eqb (f .setting) OLD-SETTING ≡ eqb (g .setting) OLD-SETTING
 
 -- ---------------------------------------------------------------- the semicolon
 
@@ -82,7 +88,8 @@ those f (r ∷ l) = let m = those f l in cond (f r) (r ∷ m) m
 unfoldable pub later-error : ℕ → Row → Bool
 later-error p r = ltb p (start r)
 
--- document 01: the later reports are those whose mark is greater than the semicolon's token index
+-- document 01: the later reports are those whose mark is greater than the semicolon's token index. In the strict
+-- setting they need not stand together: those on Names follow all others, so marks may fall once.
 unfoldable pub later-report : ℕ → Row → Bool
 later-report i r = ltb i (mark r)
 
@@ -160,8 +167,8 @@ pub record Shared (f g : File) (a : Semicolon (tree-rows (result f))) (b : Semic
   pub reports : Pairwise (ReportMoved (places f a) (places g b) (expectations (result f)) (expectations (result g)))
       (later-reports f a) (later-reports g b)
 
--- RECOVERY STAYS LOCAL, for all files, whatever buffers were lent
+-- RECOVERY STAYS LOCAL, for all files in either setting, whatever buffers were lent
 abbrev pub Stays-local : Type 0
 Stays-local =
-    (f g : File) → Accepted f → Accepted g → (a : Semicolon (tree-rows (result f))) (b : Semicolon (tree-rows (result g)))
-    → Alike f g a b → Shared f g a b
+    (f g : File) → Same-setting f g → Accepted f → Accepted g
+    → (a : Semicolon (tree-rows (result f))) (b : Semicolon (tree-rows (result g))) → Alike f g a b → Shared f g a b

@@ -19,6 +19,7 @@ use Rattle.refusals.proofs.Refusals.{refusals}
 
 record Case : Type 0 where
   entry : ℕ
+  setting : ℕ
   bytes : List ℕ
   rows : List ℕ
   lent : Buffers
@@ -36,8 +37,12 @@ room e t x r p = record { events = replicate e 7; trees = replicate t 7; errors 
 abbrev enough : Buffers
 enough = room 6000 3000 9 9000 9000
 
+abbrev in-setting : ℕ → ℕ → List ℕ → List ℕ → Buffers → ℕ → ℕ → Case
+in-setting s e bytes tokens b n p = record { entry = e; setting = s; bytes = bytes; rows = tokens; lent = b; number = n; place = p }
+
+-- in the old setting
 abbrev on : ℕ → List ℕ → List ℕ → Buffers → ℕ → ℕ → Case
-on e bytes tokens b n p = record { entry = e; bytes = bytes; rows = tokens; lent = b; number = n; place = p }
+on = in-setting 0
 
 -- #if fifty times, and then: conditionals, each inside the one before. Where they end each pushes expectations, and
 -- nothing is taken
@@ -57,8 +62,20 @@ bracket-rows n = times n (41 ∷ 1 ∷ []) (35 ∷ 1 ∷ times n (42 ∷ 1 ∷ [
 abbrev with-error : Buffers → ℕ → ℕ → Case
 with-error = on 1 (97 ∷ 59 ∷ 97 ∷ []) (27 ∷ 1 ∷ 29 ∷ 1 ∷ 74 ∷ 1 ∷ [])
 
-abbrev cases : List Case
-cases =
+-- `1a:&2b{};`, whose two Names break the rule, in a setting
+abbrev labelled : ℕ → Buffers → ℕ → ℕ → Case
+labelled s =
+    in-setting s 1 (49 ∷ 97 ∷ 58 ∷ 38 ∷ 50 ∷ 98 ∷ 123 ∷ 125 ∷ 59 ∷ [])
+    (35 ∷ 1 ∷ 27 ∷ 1 ∷ 31 ∷ 1 ∷ 30 ∷ 1 ∷ 35 ∷ 1 ∷ 27 ∷ 1 ∷ 37 ∷ 1 ∷ 38 ∷ 1 ∷ 29 ∷ 1 ∷ [])
+
+-- `1:c{};}`: the run reports the last brace, and then the label is reported
+abbrev after-report : ℕ → Buffers → ℕ → ℕ → Case
+after-report s =
+    in-setting s 1 (49 ∷ 58 ∷ 99 ∷ 123 ∷ 125 ∷ 59 ∷ 125 ∷ []) (35 ∷ 1 ∷ 31 ∷ 1 ∷ 27 ∷ 1 ∷ 37 ∷ 1 ∷ 38 ∷ 1 ∷ 29 ∷ 1 ∷ 38 ∷ 1 ∷ [])
+
+-- without a Name that breaks the rule
+abbrev unlabelled : List Case
+unlabelled =
     -- 1: entry 0 and entry 5, whatever else is wrong
     on 0 [] [] enough 1 0
     ∷ on 5 [] (27 ∷ []) enough 1 0
@@ -97,12 +114,49 @@ cases =
     ∷ with-error (room 2 0 0 0 0) 6 0
     ∷ []
 
+-- with such Names
+abbrev labels : List Case
+labels =
+    -- 7 for the first Name whose report does not fit, with its first token and not with its `&`, before 8; with room
+    -- for both 8, or none
+    labelled 1 (room 99 3 0 17 0) 7 4
+    ∷ labelled 1 (room 99 3 0 9 0) 7 4
+    ∷ labelled 1 (room 99 3 0 8 0) 7 0
+    ∷ labelled 1 (room 99 3 0 18 0) 8 0
+    ∷ labelled 1 (room 99 43 0 18 0) 8 0
+    ∷ labelled 1 (room 99 44 0 18 0) 0 0
+    -- 6 before it
+    ∷ labelled 1 (room 2 3 0 17 0) 6 0
+    -- any number but 0 is that setting, and 0 reports no Name
+    ∷ labelled 4294967295 (room 99 3 0 17 0) 7 4
+    ∷ labelled 4294967295 (room 99 44 0 18 0) 0 0
+    ∷ labelled 0 (room 99 3 0 17 0) 8 0
+    ∷ labelled 0 (room 99 44 0 0 0) 0 0
+    -- the run's own report comes first, and its row takes room
+    ∷ after-report 1 (room 99 3 0 8 0) 7 6
+    ∷ after-report 1 (room 99 3 0 17 0) 7 0
+    ∷ after-report 1 (room 99 99 0 18 0) 0 0
+    ∷ after-report 0 (room 99 99 0 9 0) 0 0
+    -- `_a1:c{};` keeps the rule, and needs no report; entry 2, `1a`
+    ∷ in-setting 1 1 (95 ∷ 97 ∷ 49 ∷ 58 ∷ 99 ∷ 123 ∷ 125 ∷ 59 ∷ []) (27 ∷ 3 ∷ 31 ∷ 1 ∷ 27 ∷ 1 ∷ 37 ∷ 1 ∷ 38 ∷ 1 ∷ 29 ∷ 1 ∷ []) (room 99 99 0 0 0) 0 0
+    ∷ in-setting 1 2 (49 ∷ 97 ∷ []) (27 ∷ 2 ∷ []) (room 99 99 0 8 0) 7 0
+    ∷ in-setting 1 2 (49 ∷ 97 ∷ []) (27 ∷ 2 ∷ []) (room 99 99 0 9 0) 0 0
+    ∷ []
+
+-- the same in the strict setting
+abbrev strictly : List Case → List Case
+strictly [] = []
+strictly (c ∷ l) = record { entry = c .entry; setting = 1; bytes = c .bytes; rows = c .rows; lent = c .lent; number = c .number; place = c .place } ∷ strictly l
+
+abbrev cases : List Case
+cases = unlabelled ++ (strictly unlabelled ++ labels)
+
 abbrev said : Answer → ℕ → ℕ → Bool
 said a n p = eqb (a .number) n && eqb (a .place) p
 
 right : Case → Bool
 unfolding call
-right c = said (call (c .entry) (c .bytes) (c .rows) (c .lent) .answer) (c .number) (c .place)
+right c = said (call (c .entry) (c .setting) (c .bytes) (c .rows) (c .lent) .answer) (c .number) (c .place)
 
 all-right : List Case → Bool
 unfolding right
@@ -116,8 +170,8 @@ computed = refl
 -- its cause holds, and no other
 abbrev Only : Case → Type 0
 Only c =
-    Cause (c .entry) (c .bytes) (c .rows) (c .lent) (c .number) (c .place)
-    × ((number place : ℕ) → Cause (c .entry) (c .bytes) (c .rows) (c .lent) number place → (number ≡ c .number) × (place ≡ c .place))
+    Cause (c .entry) (c .setting) (c .bytes) (c .rows) (c .lent) (c .number) (c .place)
+    × ((number place : ℕ) → Cause (c .entry) (c .setting) (c .bytes) (c .rows) (c .lent) number place → (number ≡ c .number) × (place ≡ c .place))
 
 abbrev All-only : List Case → Type 0
 All-only [] = Unit {0}
@@ -125,18 +179,18 @@ All-only (c ∷ l) = Only c × All-only l
 
 only : (c : Case) → right c ≡ true → Only c
 unfolding right
-only c h = (refusals (c .entry) (c .bytes) (c .rows) (c .lent) (c .number) (c .place) .0 (n, p), others)
+only c h = (refusals (c .entry) (c .setting) (c .bytes) (c .rows) (c .lent) (c .number) (c .place) .0 (n, p), others)
   where
-    n : call (c .entry) (c .bytes) (c .rows) (c .lent) .answer .number ≡ c .number
+    n : call (c .entry) (c .setting) (c .bytes) (c .rows) (c .lent) .answer .number ≡ c .number
     n = eqb-true _ _ (and-left _ _ h)
 
-    p : call (c .entry) (c .bytes) (c .rows) (c .lent) .answer .place ≡ c .place
-    p = eqb-true _ _ (and-right (eqb (call (c .entry) (c .bytes) (c .rows) (c .lent) .answer .number) (c .number)) _ h)
+    p : call (c .entry) (c .setting) (c .bytes) (c .rows) (c .lent) .answer .place ≡ c .place
+    p = eqb-true _ _ (and-right (eqb (call (c .entry) (c .setting) (c .bytes) (c .rows) (c .lent) .answer .number) (c .number)) _ h)
 
-    others : (number place : ℕ) → Cause (c .entry) (c .bytes) (c .rows) (c .lent) number place → (number ≡ c .number) × (place ≡ c .place)
+    others : (number place : ℕ) → Cause (c .entry) (c .setting) (c .bytes) (c .rows) (c .lent) number place → (number ≡ c .number) × (place ≡ c .place)
     others number place q =
-        let r : (call (c .entry) (c .bytes) (c .rows) (c .lent) .answer .number ≡ number) × (call (c .entry) (c .bytes) (c .rows) (c .lent) .answer .place ≡ place) =
-        refusals (c .entry) (c .bytes) (c .rows) (c .lent) number place .1 q in
+        let r : (call (c .entry) (c .setting) (c .bytes) (c .rows) (c .lent) .answer .number ≡ number) × (call (c .entry) (c .setting) (c .bytes) (c .rows) (c .lent) .answer .place ≡ place) =
+        refusals (c .entry) (c .setting) (c .bytes) (c .rows) (c .lent) number place .1 q in
         (sym (r .0) ∙ n, sym (r .1) ∙ p)
 
 all-only : (l : List Case) → all-right l ≡ true → All-only l
@@ -150,13 +204,13 @@ cases-hold = all-only cases computed
 
 -- both sides of the limit on bytes, which are too many to compute with: one too many; and none too many, where no row
 -- covers them
-pub bytes-over : (bytes : List ℕ) (b : Buffers) → length bytes ≡ 1048577 → call 1 bytes [] b .answer .number ≡ 2
-bytes-over bytes b h = refusals 1 bytes [] b 2 0 .1 (over-size SourceFile refl (λ s. omega (arith, h, s .0))) .0
+pub bytes-over : (setting : ℕ) (bytes : List ℕ) (b : Buffers) → length bytes ≡ 1048577 → call 1 setting bytes [] b .answer .number ≡ 2
+bytes-over setting bytes b h = refusals 1 setting bytes [] b 2 0 .1 (over-size SourceFile refl (λ s. omega (arith, h, s .0))) .0
 
-pub bytes-kept : (bytes : List ℕ) (b : Buffers) → length bytes ≡ 1048576 → call 1 bytes [] b .answer .number ≡ 3
+pub bytes-kept : (setting : ℕ) (bytes : List ℕ) (b : Buffers) → length bytes ≡ 1048576 → call 1 setting bytes [] b .answer .number ≡ 3
 unfolding tokens-of byte-count
-bytes-kept bytes b h =
-    refusals 1 bytes [] b 3 0 .1 (odd-or-short SourceFile (refl, (omega (arith, h), omega arith)) (each-nil (Good-row bytes) []) (λ c. omega (arith, h, c .1))) .0
+bytes-kept setting bytes b h =
+    refusals 1 setting bytes [] b 3 0 .1 (odd-or-short SourceFile (refl, (omega (arith, h), omega arith)) (each-nil (Good-row bytes) []) (λ c. omega (arith, h, c .1))) .0
 
 -- ---------------------------------------------------------------- what happens in a run, written out
 

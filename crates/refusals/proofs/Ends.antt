@@ -1,5 +1,5 @@
 -- What is returned at each end of a call: a refusal before the parse, one in it, and an accepted call.
-use Prim.Native.Nat.{ℕ, zero, suc, _-_, _*_, _/_, _≤_}
+use Prim.Native.Nat.{ℕ, zero, suc, _+_, _-_, _*_, _/_, _≤_}
 use native.Mathlib.Omega.{arith}
 use mathlib.Core.Path.{_≡_, refl, ap, _∙_}
 use mathlib.Core.Bool.{Bool, true, false, cond}
@@ -12,12 +12,14 @@ use Rattle.definitions.specs.Token.{tokens-of, byte-count}
 use Rattle.definitions.specs.Grammar.{Entry, root-kind}
 use Rattle.definitions.specs.Place.{root}
 use Rattle.definitions.specs.Skeleton.{Report}
-use Rattle.definitions.specs.Report.{Push, event, reported, exceeded, pushes, Room, Fit, fits, stops, one-event, one-report, scan, reports, pool}
-use Rattle.definitions.specs.Refusal.{Refusal, unknown-entry, too-long, bad-row, bad-text, too-deep, no-event-room, no-report-room, no-tree-room, number-of, place-of}
+use Rattle.definitions.specs.Report.{Push, event, reported, exceeded, pushes, Room, Fit, fits, stops, one-event, one-report, scan, reports, report-numbers, pool}
+use Rattle.definitions.specs.Refusal.{Refusal, unknown-entry, too-long, bad-row, bad-text, too-deep, no-event-room, no-report-room, no-tree-room, number-of, place-of, accepted}
+use Rattle.definitions.specs.Strict.{Name-at, name-numbers, names-fit}
 use Rattle.definitions.specs.Call.{Buffers, untouched, cleared, sheets, written, kept, room-of, run-entry}
 use Rattle.laws.proofs.Decode.{rows-length}
 use Rattle.laws.proofs.LexicalErrors.{errors-length}
-use Rattle.refusals.specs.Refusals.{entry-number, to-write, Tree-fits}
+use Rattle.bounds.proofs.StrictNames.{name-numbers-length}
+use Rattle.refusals.specs.Refusals.{entry-number, named, to-write, Tree-fits}
 use Rattle.refusals.specs.Answered.{Filled, Written, Returns}
 use Rattle.laws.proofs.ReportNumbers.{report-numbers-length}
 use Rattle.laws.proofs.Scan.{stops-never}
@@ -46,8 +48,8 @@ no-place (no-event-room m) h = absurd (h (omega arith, omega arith))
 no-place (no-report-room m) h = absurd (h (omega arith, omega arith))
 no-place no-tree-room h = refl
 
-module _ (n : ℕ) (tokens : List ℕ) (b : Buffers) where
-  pub left-as-it-was : (r : Refusal) → number-of r ≤ BAD-TEXT → Returns n tokens b (untouched r b)
+module _ (n setting : ℕ) (bytes tokens : List ℕ) (b : Buffers) where
+  pub left-as-it-was : (r : Refusal) → number-of r ≤ BAD-TEXT → Returns n setting bytes tokens b (untouched r b)
   left-as-it-was r h =
       record {
         at-most-8 = bounds r .1;
@@ -59,7 +61,7 @@ module _ (n : ℕ) (tokens : List ℕ) (b : Buffers) where
         lengths = record { events = refl; trees = refl; errors = refl; reports = refl; pool = refl };
       }
 
-  pub left-zero : (r : Refusal) → TOO-DEEP ≤ number-of r → Returns n tokens b (cleared r b)
+  pub left-zero : (r : Refusal) → TOO-DEEP ≤ number-of r → Returns n setting bytes tokens b (cleared r b)
   left-zero r h =
       record {
         at-most-8 = bounds r .1;
@@ -80,33 +82,33 @@ module _ (n : ℕ) (tokens : List ℕ) (b : Buffers) where
 
 -- ---------------------------------------------------------------- an accepted call
 
--- the reports of what is pushed, and their expectations, are no more than there is room for
-abbrev In-room : List Push → ℕ → ℕ → Type 0
-In-room l r p = (length (reports l) ≤ r) × (length (pool (reports l)) ≤ p)
+-- the reports of what is pushed and those that fit after it, and the expectations, are no more than there is room for
+abbrev In-room : List Push → Room → ℕ → ℕ → Type 0
+In-room l y r p = (length (reports l) + y .reports ≤ r) × (length (pool (reports l)) ≤ p)
 
-event-room : (l : List Push) (m e r p : ℕ) (k : Room → Fit) (y : Room) → ((z : Room) → k z ≡ fits y → In-room l (z .reports) (z .pool)) → one-event m e r p k ≡ fits y → In-room l r p
+event-room : (l : List Push) (m e r p : ℕ) (k : Room → Fit) (y : Room) → ((z : Room) → k z ≡ fits y → In-room l y (z .reports) (z .pool)) → one-event m e r p k ≡ fits y → In-room l y r p
 unfolding one-event
 event-room l m zero r p k y h e = absurd (stops-never (no-event-room m) y e)
 event-room l m (suc n) r p k y h e = h (record { events = n; reports = r; pool = p }) e
 
 -- x: the report
-report-room : (x : Report) (l : List Push) (m e r p : ℕ) (k : Room → Fit) (y : Room) → ((z : Room) → k z ≡ fits y → In-room l (z .reports) (z .pool))
-    → one-report m (length (x .pool)) e r p k ≡ fits y → In-room (reported x ∷ l) r p
+report-room : (x : Report) (l : List Push) (m e r p : ℕ) (k : Room → Fit) (y : Room) → ((z : Room) → k z ≡ fits y → In-room l y (z .reports) (z .pool))
+    → one-report m (length (x .pool)) e r p k ≡ fits y → In-room (reported x ∷ l) y r p
 unfolding one-report reports pool
 report-room x l m e zero p k y h q = absurd (stops-never (no-report-room m) y q)
 report-room x l m e (suc r) p k y h q = by (leb (length (x .pool)) p) refl q
   where
     by : (t : Bool) → leb (length (x .pool)) p ≡ t → cond t (k (record { events = e; reports = r; pool = p - length (x .pool) })) (stops (no-report-room m)) ≡ fits y
-        → (suc (length (reports l)) ≤ suc r) × (length (x .pool ++ pool (reports l)) ≤ p)
+        → (suc (length (reports l)) + y .reports ≤ suc r) × (length (x .pool ++ pool (reports l)) ≤ p)
     by true w f =
         let c : length (x .pool) ≤ p = leb-true (length (x .pool)) p w in
-        let g : In-room l r (p - length (x .pool)) = h (record { events = e; reports = r; pool = p - length (x .pool) }) f in
+        let g : In-room l y r (p - length (x .pool)) = h (record { events = e; reports = r; pool = p - length (x .pool) }) f in
         (omega (arith, g .0), omega (arith, g .1, c, length-append (x .pool) (pool (reports l))))
     by false w f = absurd (stops-never (no-report-room m) y f)
 
-scan-room : (l : List Push) (z y : Room) → scan l z ≡ fits y → In-room l (z .reports) (z .pool)
+scan-room : (l : List Push) (z y : Room) → scan l z ≡ fits y → In-room l y (z .reports) (z .pool)
 unfolding scan reports pool
-scan-room [] z y h = (omega arith, omega arith)
+scan-room [] z y h = let e : z ≡ y = cc in (rw e (omega arith), omega arith)
 scan-room (event m ∷ l) z y h = event-room l m (z .events) (z .reports) (z .pool) (scan l) y (λ x. scan-room l x y) h
 scan-room (reported r ∷ l) z y h =
     event-room (reported r ∷ l) (r .mark) (z .events) (z .reports) (z .pool) (λ x. one-report (r .mark) (length (r .pool)) (x .events) (x .reports) (x .pool) (scan l)) y
@@ -120,10 +122,18 @@ filled-length : (size count : ℕ) (l was is : List ℕ) → Filled size count l
 filled-length size count l was is f =
     ap length (f .then-zeros) ∙ length-append l (replicate (length was - length l) 0) ∙ omega (arith, length-replicate {A = ℕ} (length was - length l) 0, f .fits)
 
-module _ (n : ℕ) (tokens : List ℕ) (b : Buffers) where
-  pub left-written : (e : Entry) → entry-number e ≡ n → (z : Room) → scan (pushes (run-entry e (tokens-of tokens))) (room-of b) ≡ fits z → Tree-fits e tokens b → Returns n tokens b (kept (to-write e tokens) b)
+-- Names whose reports fit are no more than there is room for
+names-room : (room : ℕ) (l : List Name-at) → names-fit room l ≡ accepted → length l ≤ room
+unfolding names-fit
+names-room room [] h = omega arith
+names-room zero (x ∷ l) h = let q : _≡_ {A = ℕ} 0 1 = cc in absurd (omega arith)
+names-room (suc room) (x ∷ l) h = omega (arith, names-room room l h)
+
+module _ (n setting : ℕ) (bytes tokens : List ℕ) (b : Buffers) where
+  pub left-written : (e : Entry) → entry-number e ≡ n → (z : Room) → scan (pushes (run-entry e (tokens-of tokens))) (room-of b) ≡ fits z → names-fit (z .reports) (named setting e bytes tokens) ≡ accepted
+      → Tree-fits setting e bytes tokens b → Returns n setting bytes tokens b (kept (to-write setting e bytes tokens) b)
   unfolding sheets
-  left-written e h z f t =
+  left-written e h z f v t =
       record {
         at-most-8 = omega arith;
         accepted = λ q. (e, h, w);
@@ -144,17 +154,33 @@ module _ (n : ℕ) (tokens : List ℕ) (b : Buffers) where
       l : List Report
       l = reports (pushes (run-entry e (tokens-of tokens)))
 
-      g : In-room (pushes (run-entry e (tokens-of tokens))) (length (b .reports) / REPORT-ROW) (length (b .pool))
+      x : List ℕ
+      x = report-numbers (length (tokens-of tokens)) (byte-count (tokens-of tokens)) 0 l
+
+      y : List ℕ
+      y = name-numbers (length (pool l)) (named setting e bytes tokens)
+
+      g : In-room (pushes (run-entry e (tokens-of tokens))) z (length (b .reports) / REPORT-ROW) (length (b .pool))
       g = scan-room (pushes (run-entry e (tokens-of tokens))) (room-of b) z f
 
-      w : Written (to-write e tokens) b (kept (to-write e tokens) b)
+      -- as many report rows as the run and the Names have
+      s : length (x ++ y) ≡ REPORT-ROW * (length l + length (named setting e bytes tokens))
+      s =
+          omega (
+            arith,
+            length-append x y,
+            report-numbers-length (length (tokens-of tokens)) (byte-count (tokens-of tokens)) 0 l,
+            name-numbers-length (length (pool l)) (named setting e bytes tokens),
+          )
+
+      w : Written (to-write setting e bytes tokens) b (kept (to-write setting e bytes tokens) b)
       w =
           record {
-            trees = filled TREE-ROW _ (to-write e tokens .trees) (b .trees) (omega (arith, rows-length (root (root-kind e) (run-entry e (tokens-of tokens)) (tokens-of tokens)))) (t .0);
-            errors = filled ERROR-ROW _ (to-write e tokens .errors) (b .errors) (omega (arith, errors-length 0 (tokens-of tokens))) (t .1);
+            trees = filled TREE-ROW _ (to-write setting e bytes tokens .trees) (b .trees) (omega (arith, rows-length (root (root-kind e) (run-entry e (tokens-of tokens)) (tokens-of tokens)))) (t .0);
+            errors = filled ERROR-ROW _ (to-write setting e bytes tokens .errors) (b .errors) (omega (arith, errors-length 0 (tokens-of tokens))) (t .1);
             reports =
-                filled REPORT-ROW _ (to-write e tokens .reports) (b .reports) (omega (arith, report-numbers-length (length (tokens-of tokens)) (byte-count (tokens-of tokens)) 0 l))
-                (omega (arith, report-numbers-length (length (tokens-of tokens)) (byte-count (tokens-of tokens)) 0 l, g .0));
-            pool = filled 1 _ (to-write e tokens .pool) (b .pool) (omega arith) (g .1);
+                filled REPORT-ROW _ (to-write setting e bytes tokens .reports) (b .reports) (omega (arith, s))
+                (omega (arith, s, g .0, names-room (z .reports) (named setting e bytes tokens) v));
+            pool = filled 1 _ (to-write setting e bytes tokens .pool) (b .pool) (omega arith) (g .1);
             events = refl;
           }

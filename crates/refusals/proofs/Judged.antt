@@ -5,7 +5,7 @@ use native.Mathlib.Nat.{zero-add}
 use native.Mathlib.Omega.{arith}
 use mathlib.Core.Path.{_≡_, refl, sym, ap, subst, fun-ext, _∙_}
 use mathlib.Core.Bool.{Bool, true, false, cond}
-use mathlib.Core.List.{List, [], _∷_, _++_}
+use mathlib.Core.List.{List, [], _∷_, _++_, append-nil, append-assoc}
 use lib.Dec.{leb}
 use lib.ListN.{length}
 use borrow.Author.Tests.{leb-true, leb-false}
@@ -82,15 +82,19 @@ refusal-for (expectation-pushed c m) = too-deep m
 refusal-for (event-pushed m) = no-event-room m
 refusal-for (report-written c m) = no-report-room m
 
+-- the report rows that still fit after what happened
+abbrev pub Rows-left : Buffers → List Happening → Room → Type 0
+Rows-left b l z = z .reports ≡ length (b .reports) / REPORT-ROW - reports-in l
+
 data Judged (b : Buffers) (pre l : List Happening) : Fit → Type 0 where
-  all : (z : Room) → Each-after (Unrefused b) pre l → Judged b pre l (fits z)
+  all : (z : Room) → Rows-left b (pre ++ l) z → Each-after (Unrefused b) pre l → Judged b pre l (fits z)
   first : (before : List Happening) (x : Happening) → First-after (Unrefused b) pre l before x → Judged b pre l (stops (refusal-for x))
 
 here : (b : Buffers) (pre l : List Happening) (x : Happening) → ¬ Unrefused b pre x → Judged b pre (x ∷ l) (stops (refusal-for x))
 here b pre l x h = first [] x (first-here (Unrefused b) pre x l h)
 
 later : (b : Buffers) (pre l : List Happening) (x : Happening) (f : Fit) → Unrefused b pre x → Judged b (pre ++ (x ∷ [])) l f → Judged b pre (x ∷ l) f
-later b pre l x f h (all z g) = all z (each-cons (Unrefused b) pre x l h g)
+later b pre l x f h (all z r g) = all z (subst (λ (w : List Happening). Rows-left b w z) (append-assoc pre (x ∷ []) l) r) (each-cons (Unrefused b) pre x l h g)
 later b pre l x f h (first before y g) = first (x ∷ before) y (first-later (Unrefused b) pre x l before y h g)
 
 -- the room after one more
@@ -144,7 +148,7 @@ report-walk b pre l c m (suc r) z w h k = by (leb c (z .pool)) refl
 
 walk : (b : Buffers) (pre l : List Happening) (z : Room) → Left b pre z → Judged b pre l (judge (told l) z)
 unfolding judge told events-in reports-in expectations-in
-walk b pre [] z w = all z (each-nil (Unrefused b) pre)
+walk b pre [] z w = all z (subst (λ (l : List Happening). Rows-left b l z) (sym (append-nil pre)) (w .reports)) (each-nil (Unrefused b) pre)
 walk b pre (call-opened c m ∷ l) z w =
     limit-walk b pre l (call-opened c m) m (leb c MAX-OPEN) z refl (leb-true c MAX-OPEN) (λ e (a : c ≤ MAX-OPEN). let h : MAX-OPEN < c = leb-false c MAX-OPEN e in omega (arith, a, h))
     (walk b (pre ++ (call-opened c m ∷ [])) l z (left-more b pre (call-opened c m) z z w (omega arith) (omega arith) (omega arith) (omega (arith, w .within))))
@@ -157,11 +161,11 @@ walk b pre (report-written c m ∷ l) z w = report-walk b pre l c m (z .reports)
 -- ---------------------------------------------------------------- a file's run
 
 pub data Ends (b : Buffers) (l : List Happening) : Fit → Type 0 where
-  all-fits : (z : Room) → Each (Unrefused b) l → Ends b l (fits z)
+  all-fits : (z : Room) → Rows-left b l z → Each (Unrefused b) l → Ends b l (fits z)
   first-stops : (before : List Happening) (x : Happening) → First (Unrefused b) l before x → Ends b l (stops (refusal-for x))
 
 ended : (b : Buffers) (l : List Happening) (f : Fit) → Judged b [] l f → Ends b l f
-ended b l f (all z h) = all-fits z h
+ended b l f (all z r h) = all-fits z r h
 ended b l f (first before x h) = first-stops before x (from-nothing (Unrefused b) l before x h)
 
 -- WHAT THE RUN MEETS FIRST

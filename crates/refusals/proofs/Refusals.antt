@@ -9,13 +9,14 @@ use Rattle.definitions.specs.Grammar.{Entry}
 use Rattle.definitions.specs.Report.{Room, Fit, fits, stops, pushes, scan}
 use Rattle.definitions.specs.Refusal.{Refusal, too-long, bad-text, number-of, place-of, Verdict, accepted, refused, _or-else_, unless, check-sizes, check-rows, check-texts, check-input}
 use Rattle.definitions.specs.Refusal as R
-use Rattle.definitions.specs.Call.{Buffers, Result, untouched, cleared, kept, delivered, forward-mark, outcome, room-of, run-entry, parse, Asked, checked, asked, call}
+use Rattle.definitions.specs.Call.{Buffers, Result, untouched, cleared, kept, delivered, forward-mark, unless-refused, outcome, room-of, run-entry, parse, Asked, checked, asked, call}
 use Rattle.refusals.specs.First.{Each, First}
 use Rattle.refusals.specs.Trace.{Happening, call-opened, expectation-pushed, event-pushed, report-written}
-use Rattle.refusals.specs.Refusals.{MAX-OPEN, MAX-PENDING, Passes-1, Sizes, Passes-2, Good-row, Covers, Passes-3, Right-text, Passes-4, Unrefused, happens, to-write, Cause, unknown-entry, over-size, bad-row, odd-or-short, wrong-text, call-too-many, expectation-too-many, no-event-room, no-report-room, no-tree-room, none, Refusals}
+use Rattle.refusals.specs.Refusals.{MAX-OPEN, MAX-PENDING, Passes-1, Sizes, Passes-2, Good-row, Covers, Passes-3, Right-text, Passes-4, Unrefused, happens, named, to-write, Passes-7, Cause, unknown-entry, over-size, bad-row, odd-or-short, wrong-text, call-too-many, expectation-too-many, no-event-room, no-report-room, no-name-room, no-tree-room, none, Refusals}
 use Rattle.refusals.specs.Answered.{Answered}
 use Rattle.refusals.proofs.Firsts.{only-first, first-each}
-use Rattle.refusals.proofs.Judged.{refusal-for, Ends, all-fits, first-stops, run-ends}
+use Rattle.refusals.proofs.Named.{Names, judged-names, names-pass, names-fail}
+use Rattle.refusals.proofs.Judged.{refusal-for, Rows-left, Ends, all-fits, first-stops, run-ends}
 use Rattle.refusals.proofs.Tests.{Decides, holds, not-so}
 use Rattle.refusals.proofs.Rows.{sizes-decides, Rows, good-rows, bad-one, no-cover, judged-rows}
 use Rattle.refusals.proofs.Texts.{Texts, right-texts, wrong-one, judged-texts}
@@ -79,24 +80,24 @@ module _ (bytes tokens : List ℕ) where
 -- ---------------------------------------------------------------- the run
 
 module _ (b : Buffers) (l : List Happening) where
-  run-fits : Each (Unrefused b) l → (f : Fit) → Ends b l f → (z : Room) × (f ≡ fits z)
-  run-fits h f (all-fits z g) = (z, refl)
+  run-fits : Each (Unrefused b) l → (f : Fit) → Ends b l f → (z : Room) × (f ≡ fits z) × Rows-left b l z
+  run-fits h f (all-fits z r g) = (z, refl, r)
   run-fits h f (first-stops before x g) = absurd (first-each (Unrefused b) l before x g h)
 
   run-stops : (before : List Happening) (x : Happening) → First (Unrefused b) l before x → (f : Fit) → Ends b l f → f ≡ stops (refusal-for x)
-  run-stops before x h f (all-fits z g) = absurd (first-each (Unrefused b) l before x h g)
+  run-stops before x h f (all-fits z r g) = absurd (first-each (Unrefused b) l before x h g)
   run-stops before x h f (first-stops before′ x′ g) = ap (λ (y : Happening). stops (refusal-for y)) (only-first (Unrefused b) l before′ before x′ x g h .1)
 
-module _ (n : ℕ) (bytes tokens : List ℕ) (b : Buffers) where
+module _ (n setting : ℕ) (bytes tokens : List ℕ) (b : Buffers) where
   abbrev Returned : ℕ → ℕ → Type 0
-  Returned k p = (call n bytes tokens b .answer .number ≡ k) × (call n bytes tokens b .answer .place ≡ p)
+  Returned k p = (call n setting bytes tokens b .answer .number ≡ k) × (call n setting bytes tokens b .answer .place ≡ p)
 
-  returned : (x : Result) → call n bytes tokens b ≡ x → Returned (x .answer .number) (x .answer .place)
+  returned : (x : Result) → call n setting bytes tokens b ≡ x → Returned (x .answer .number) (x .answer .place)
   returned x h = (ap (λ (y : Result). y .answer .number) h, ap (λ (y : Result). y .answer .place) h)
 
-  checks : (e : Entry) → Passes-1 n e → (v : Verdict) → check-input bytes tokens ≡ v → call n bytes tokens b ≡ checked v e tokens b
+  checks : (e : Entry) → Passes-1 n e → (v : Verdict) → check-input bytes tokens ≡ v → call n setting bytes tokens b ≡ checked v e setting bytes tokens b
   unfolding call asked
-  checks e p v h = ap (λ (x : Asked). asked x bytes tokens b) (entry-eq n e p) ∙ ap (λ (w : Verdict). checked w e tokens b) h
+  checks e p v h = ap (λ (x : Asked). asked x setting bytes tokens b) (entry-eq n e p) ∙ ap (λ (w : Verdict). checked w e setting bytes tokens b) h
 
   refuses : (e : Entry) → Passes-1 n e → (r : Refusal) → check-input bytes tokens ≡ refused r → Returned (number-of r) (place-of r)
   unfolding checked
@@ -108,10 +109,10 @@ module _ (n : ℕ) (bytes tokens : List ℕ) (b : Buffers) where
   input-4 : (e : Entry) → Passes-3 n bytes tokens e → (v : Verdict) → ((w : Verdict) → Texts bytes (tokens-of tokens) w → w ≡ v) → check-input bytes tokens ≡ v
   input-4 e p v h = input-texts bytes tokens v (sizes-kept bytes tokens (p .0 .1)) (rows-pass bytes tokens (p .1) (p .2) _ (judged-rows bytes tokens)) (h _ (judged-texts bytes (tokens-of tokens)))
 
-  runs : (e : Entry) → Passes-4 n bytes tokens e → (f : Fit) → scan (pushes (run-entry e (tokens-of tokens))) (room-of b) ≡ f → call n bytes tokens b ≡ outcome f e (tokens-of tokens) (run-entry e (tokens-of tokens)) b
+  runs : (e : Entry) → Passes-4 n bytes tokens e → (f : Fit) → scan (pushes (run-entry e (tokens-of tokens))) (room-of b) ≡ f → call n setting bytes tokens b ≡ outcome f e (tokens-of tokens) (run-entry e (tokens-of tokens)) (named setting e bytes tokens) b
   unfolding checked parse
   runs e p f h =
-      checks e (p .0 .0 .0) accepted (input-4 e (p .0) accepted (texts-pass bytes tokens (p .1))) ∙ ap (λ (g : Fit). outcome g e (tokens-of tokens) (run-entry e (tokens-of tokens)) b) h
+      checks e (p .0 .0 .0) accepted (input-4 e (p .0) accepted (texts-pass bytes tokens (p .1))) ∙ ap (λ (g : Fit). outcome g e (tokens-of tokens) (run-entry e (tokens-of tokens)) (named setting e bytes tokens) b) h
 
   stops-at : (e : Entry) → Passes-4 n bytes tokens e → (before : List Happening) (x : Happening) → First (Unrefused b) (happens e tokens) before x
       → Returned (number-of (forward-mark (length (tokens-of tokens)) (refusal-for x))) (place-of (forward-mark (length (tokens-of tokens)) (refusal-for x)))
@@ -119,13 +120,22 @@ module _ (n : ℕ) (bytes tokens : List ℕ) (b : Buffers) where
   stops-at e p before x f =
       returned (cleared (forward-mark (length (tokens-of tokens)) (refusal-for x)) b) (runs e p (stops (refusal-for x)) (run-stops b (happens e tokens) before x f _ (run-ends b e tokens)))
 
-  finishes : (e : Entry) → Passes-4 n bytes tokens e → Each (Unrefused b) (happens e tokens) → call n bytes tokens b ≡ delivered (to-write e tokens) b
+  -- after the run
+  passes : (e : Entry) → Passes-4 n bytes tokens e → Each (Unrefused b) (happens e tokens) → (v : Verdict) → ((w : Verdict) → Names e tokens b (named setting e bytes tokens) w → w ≡ v)
+      → call n setting bytes tokens b ≡ unless-refused v (to-write setting e bytes tokens) b
   unfolding outcome
-  finishes e p h = let g : (z : Room) × (scan (pushes (run-entry e (tokens-of tokens))) (room-of b) ≡ fits z) = run-fits b (happens e tokens) h _ (run-ends b e tokens) in runs e p (fits (g .0)) (g .1)
+  passes e p h v k =
+      let g : (z : Room) × (scan (pushes (run-entry e (tokens-of tokens))) (room-of b) ≡ fits z) × Rows-left b (happens e tokens) z = run-fits b (happens e tokens) h _ (run-ends b e tokens) in
+      runs e p (fits (g .0)) (g .1)
+      ∙ ap (λ (w : Verdict). unless-refused w (to-write setting e bytes tokens) b) (k _ (judged-names e tokens b (g .0) (g .2) (named setting e bytes tokens)))
 
-  returns : (k p : ℕ) → Cause n bytes tokens b k p → Returned k p
-  unfolding number-of place-of forward-mark delivered asked call
-  returns k p (unknown-entry h) = returned (untouched R.unknown-entry b) (ap (λ (x : Asked). asked x bytes tokens b) (unknown-eq n h))
+  finishes : (e : Entry) → Passes-7 n setting bytes tokens b e → call n setting bytes tokens b ≡ delivered (to-write setting e bytes tokens) b
+  unfolding unless-refused
+  finishes e p = passes e (p .0) (p .1) accepted (names-pass e tokens b (named setting e bytes tokens) (p .2))
+
+  returns : (k p : ℕ) → Cause n setting bytes tokens b k p → Returned k p
+  unfolding number-of place-of forward-mark unless-refused delivered asked call
+  returns k p (unknown-entry h) = returned (untouched R.unknown-entry b) (ap (λ (x : Asked). asked x setting bytes tokens b) (unknown-eq n h))
   returns k p (over-size e q h) = refuses e q too-long (input-sizes bytes tokens (sizes-broken bytes tokens h))
   returns k p (bad-row e q before t f) = input-3 e q (R.bad-row (length before)) (rows-fail bytes tokens before t f)
   returns k p (odd-or-short e q h c) = input-3 e q (R.bad-row (length (tokens-of tokens))) (rows-short bytes tokens h c)
@@ -134,17 +144,20 @@ module _ (n : ℕ) (bytes tokens : List ℕ) (b : Buffers) where
   returns k p (expectation-too-many e q before m f) = stops-at e q before (expectation-pushed (suc MAX-PENDING) m) f
   returns k p (no-event-room e q before m f) = stops-at e q before (event-pushed m) f
   returns k p (no-report-room e q before c m f) = stops-at e q before (report-written c m) f
-  returns k p (no-tree-room e q h g) =
+  returns k p (no-name-room e q h before x f) =
+      returned (cleared (R.no-report-room (x .first-token)) b)
+      (passes e q h (refused (R.no-report-room (x .first-token))) (names-fail e tokens b (named setting e bytes tokens) before x f))
+  returns k p (no-tree-room e q g) =
       returned (cleared R.no-tree-room b)
-      (finishes e q h ∙ ap (λ (t : Bool). cond t (kept (to-write e tokens) b) (cleared R.no-tree-room b)) (refuted _ (tree-decides tokens b e) g))
-  returns k p (none e q h g) =
-      returned (kept (to-write e tokens) b)
-      (finishes e q h ∙ ap (λ (t : Bool). cond t (kept (to-write e tokens) b) (cleared R.no-tree-room b)) (decided _ (tree-decides tokens b e) g))
+      (finishes e q ∙ ap (λ (t : Bool). cond t (kept (to-write setting e bytes tokens) b) (cleared R.no-tree-room b)) (refuted _ (tree-decides setting bytes tokens b e) g))
+  returns k p (none e q g) =
+      returned (kept (to-write setting e bytes tokens) b)
+      (finishes e q ∙ ap (λ (t : Bool). cond t (kept (to-write setting e bytes tokens) b) (cleared R.no-tree-room b)) (decided _ (tree-decides setting bytes tokens b e) g))
 
 -- REFUSALS
 pub refusals : Refusals
-refusals n bytes tokens b k p = (λ h. subst₂ (Cause n bytes tokens b) (h .0) (h .1) (found n bytes tokens b .0), returns n bytes tokens b k p)
+refusals n setting bytes tokens b k p = (λ h. subst₂ (Cause n setting bytes tokens b) (h .0) (h .1) (found n setting bytes tokens b .0), returns n setting bytes tokens b k p)
 
 -- ANSWERED
 pub answered : Answered
-answered n bytes tokens b = found n bytes tokens b .1
+answered n setting bytes tokens b = found n setting bytes tokens b .1

@@ -46,11 +46,11 @@ pub record No-counts (r : Result) : Type 0 where
   pub report-count : r .answer .report-count ≡ 0
   pub expectation-count : r .answer .expectation-count ≡ 0
 
--- n, tokens, b: a call's entry, token numbers and buffers. r: what it returns. Refusals by document 01's numbers,
--- written out as in Refusals.antt.
-pub record Returns (n : ℕ) (tokens : List ℕ) (b : Buffers) (r : Result) : Type 0 where
+-- n, setting, bytes, tokens, b: what a call is given. r: what it returns. Refusals by document 01's numbers, written
+-- out as in Refusals.antt.
+pub record Returns (n setting : ℕ) (bytes tokens : List ℕ) (b : Buffers) (r : Result) : Type 0 where
   pub at-most-8 : r .answer .number ≤ 8
-  pub accepted : r .answer .number ≡ 0 → (e : Entry) × (entry-number e ≡ n) × Written (to-write e tokens) b r
+  pub accepted : r .answer .number ≡ 0 → (e : Entry) × (entry-number e ≡ n) × Written (to-write setting e bytes tokens) b r
   pub as-it-was : 1 ≤ r .answer .number → r .answer .number ≤ 4 → r .buffers ≡ b
   pub all-zero : 5 ≤ r .answer .number → All-zero b r
   pub no-counts : 1 ≤ r .answer .number → No-counts r
@@ -59,4 +59,6 @@ pub record Returns (n : ℕ) (tokens : List ℕ) (b : Buffers) (r : Result) : Ty
   pub lengths : Same-lengths b r
 
 abbrev pub Answered : Type 0
-Answered = (n : ℕ) (bytes tokens : List ℕ) (b : Buffers) → Returns n tokens b (Call.call n bytes tokens b)
+Answered =
+    (n setting : ℕ) (bytes tokens : List ℕ) (b : Buffers)
+    → Returns n setting bytes tokens b (Call.call n setting bytes tokens b)

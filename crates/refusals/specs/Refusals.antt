@@ -1,6 +1,6 @@
--- REFUSALS: document 01's table of causes. Each of the numbers 0 to 8 is returned, with its place, if and only if its
--- condition holds. It excludes refusing everything, a limit that is one off, "does not fit" before a buffer is used
--- up, and causes tried in another order.
+-- REFUSALS: document 01's table of causes, with document 02's one of the strict setting. Each of the numbers 0 to 8 is
+-- returned, with its place, if and only if its condition holds. It excludes refusing everything, a limit that is one
+-- off, "does not fit" before a buffer is used up, and causes tried in another order.
 use Prim.Native.Nat.{ℕ, suc, _+_, _-_, _*_, _≤_}
 use mathlib.Core.Path.{_≡_}
 use mathlib.Core.Logic.{_↔_}
@@ -11,7 +11,8 @@ use Rattle.definitions.specs.TokenKind as K
 use Rattle.definitions.specs.Token.{Token, tokens-of, byte-count}
 use Rattle.definitions.specs.StaticText.{static-texts}
 use Rattle.definitions.specs.Grammar.{Entry, SourceFile, ReferenceNoamp, PropValues, Cells}
-use Rattle.definitions.specs.Call.{Buffers, Sheets, sheets, run-entry}
+use Rattle.definitions.specs.Strict.{Name-at}
+use Rattle.definitions.specs.Call.{Buffers, Sheets, sheets, run-entry, names-of}
 use Rattle.definitions.specs.Call as Call
 use Rattle.refusals.specs.First.{Each, First}
 use Rattle.refusals.specs.Trace.{Happening, call-opened, expectation-pushed, event-pushed, report-written, trace}
@@ -117,13 +118,29 @@ happens e tokens = trace MAX-OPEN e (tokens-of tokens)
 abbrev pub from-start : List ℕ → ℕ → ℕ
 from-start tokens m = length (tokens-of tokens) - m
 
--- what an entry's run gives to write
-abbrev pub to-write : Entry → List ℕ → Sheets
-to-write e tokens = sheets e (tokens-of tokens) (run-entry e (tokens-of tokens))
+-- the Names that a setting reports after its run, in leaf order
+abbrev pub named : ℕ → Entry → List ℕ → List ℕ → List Name-at
+named setting e bytes tokens = names-of setting e bytes (tokens-of tokens)
+
+-- the report rows of the run, those of the Names before this one, and its own are no more than the buffer holds
+abbrev pub Name-fits : Entry → List ℕ → Buffers → List Name-at → Name-at → Type 0
+Name-fits e tokens b before x = REPORT-ROW * suc (reports-in (happens e tokens) + length before) ≤ length (b .reports)
+
+-- 5 to 7: nothing that happens is refused, and every Name's report fits
+abbrev pub Passes-7 : ℕ → ℕ → List ℕ → List ℕ → Buffers → Entry → Type 0
+Passes-7 n setting bytes tokens b e =
+    Passes-4 n bytes tokens e × Each (Unrefused b) (happens e tokens)
+    × Each (Name-fits e tokens b) (named setting e bytes tokens)
+
+-- what an entry's run gives to write, the reports of those Names last
+abbrev pub to-write : ℕ → Entry → List ℕ → List ℕ → Sheets
+to-write setting e bytes tokens = sheets e (tokens-of tokens) (run-entry e (tokens-of tokens)) (named setting e bytes tokens)
 
 -- the tree rows and the lexical errors fit
-abbrev pub Tree-fits : Entry → List ℕ → Buffers → Type 0
-Tree-fits e tokens b = (length (to-write e tokens .trees) ≤ length (b .trees)) × (length (to-write e tokens .errors) ≤ length (b .errors))
+abbrev pub Tree-fits : ℕ → Entry → List ℕ → List ℕ → Buffers → Type 0
+Tree-fits setting e bytes tokens b =
+    (length (to-write setting e bytes tokens .trees) ≤ length (b .trees))
+    × (length (to-write setting e bytes tokens .errors) ≤ length (b .errors))
 
 -- ---------------------------------------------------------------- the table
 
@@ -131,43 +148,49 @@ Tree-fits e tokens b = (length (to-write e tokens .trees) ≤ length (b .trees))
 abbrev pub First-met : Entry → List ℕ → Buffers → List Happening → Happening → Type 0
 First-met e tokens b before x = First (Unrefused b) (happens e tokens) before x
 
--- the condition for each number and place, in document 01's order and words
-pub data Cause (n : ℕ) (bytes tokens : List ℕ) (b : Buffers) : ℕ → ℕ → Type 0 where
+-- the condition for each number and place, in the documents' order and words
+pub data Cause (n setting : ℕ) (bytes tokens : List ℕ) (b : Buffers) : ℕ → ℕ → Type 0 where
   -- entry not 1 to 4
-  unknown-entry : ¬ ((1 ≤ n) × (n ≤ 4)) → Cause n bytes tokens b 1 0
+  unknown-entry : ¬ ((1 ≤ n) × (n ≤ 4)) → Cause n setting bytes tokens b 1 0
   -- over 1,048,576 bytes or 131,072 token numbers
-  over-size : (e : Entry) → Passes-1 n e → ¬ Sizes bytes tokens → Cause n bytes tokens b 2 0
+  over-size : (e : Entry) → Passes-1 n e → ¬ Sizes bytes tokens → Cause n setting bytes tokens b 2 0
   -- a row with a bad kind, length 0 or an end past the input: the first bad row
   bad-row : (e : Entry) → Passes-2 n bytes tokens e → (before : List Token) (t : Token)
-      → First (Good-row bytes) (tokens-of tokens) before t → Cause n bytes tokens b 3 (length before)
+      → First (Good-row bytes) (tokens-of tokens) before t → Cause n setting bytes tokens b 3 (length before)
   -- odd numbers or a short total: the count of whole rows
   odd-or-short : (e : Entry) → Passes-2 n bytes tokens e → Each (Good-row bytes) (tokens-of tokens)
-      → ¬ Covers bytes tokens → Cause n bytes tokens b 3 (length (tokens-of tokens))
+      → ¬ Covers bytes tokens → Cause n setting bytes tokens b 3 (length (tokens-of tokens))
   -- bytes of a kind with a static text differ from it: the first such row
   wrong-text : (e : Entry) → Passes-3 n bytes tokens e → (before : List Token) (t : Token)
-      → First (Right-text bytes) (tokens-of tokens) before t → Cause n bytes tokens b 4 (length before)
+      → First (Right-text bytes) (tokens-of tokens) before t → Cause n setting bytes tokens b 4 (length before)
   -- a 65th open call
   call-too-many : (e : Entry) → Passes-4 n bytes tokens e → (before : List Happening) (m : ℕ)
-      → First-met e tokens b before (call-opened (suc MAX-OPEN) m) → Cause n bytes tokens b 5 (from-start tokens m)
+      → First-met e tokens b before (call-opened (suc MAX-OPEN) m) → Cause n setting bytes tokens b 5 (from-start tokens m)
   -- a 257th pending expectation
   expectation-too-many : (e : Entry) → Passes-4 n bytes tokens e → (before : List Happening) (m : ℕ)
       → First-met e tokens b before (expectation-pushed (suc MAX-PENDING) m)
-      → Cause n bytes tokens b 5 (from-start tokens m)
+      → Cause n setting bytes tokens b 5 (from-start tokens m)
   -- the next event does not fit
   no-event-room : (e : Entry) → Passes-4 n bytes tokens e → (before : List Happening) (m : ℕ)
-      → First-met e tokens b before (event-pushed m) → Cause n bytes tokens b 6 (from-start tokens m)
+      → First-met e tokens b before (event-pushed m) → Cause n setting bytes tokens b 6 (from-start tokens m)
   -- a report row or its expectations do not fit
   no-report-room : (e : Entry) → Passes-4 n bytes tokens e → (before : List Happening) (c m : ℕ)
-      → First-met e tokens b before (report-written c m) → Cause n bytes tokens b 7 (from-start tokens m)
+      → First-met e tokens b before (report-written c m) → Cause n setting bytes tokens b 7 (from-start tokens m)
+  -- document 02, 1/14: the report of a Name does not fit; "refusal 7 with that mark, before 8", the mark being the
+  -- index of the Name's first token
+  no-name-room : (e : Entry) → Passes-4 n bytes tokens e → Each (Unrefused b) (happens e tokens)
+      → (before : List Name-at) (x : Name-at) → First (Name-fits e tokens b) (named setting e bytes tokens) before x
+      → Cause n setting bytes tokens b 7 (x .first-token)
   -- the tree or the lexical errors do not fit
-  no-tree-room : (e : Entry) → Passes-4 n bytes tokens e → Each (Unrefused b) (happens e tokens)
-      → ¬ Tree-fits e tokens b → Cause n bytes tokens b 8 0
+  no-tree-room : (e : Entry) → Passes-7 n setting bytes tokens b e
+      → ¬ Tree-fits setting e bytes tokens b → Cause n setting bytes tokens b 8 0
   -- accepted
-  none : (e : Entry) → Passes-4 n bytes tokens e → Each (Unrefused b) (happens e tokens) → Tree-fits e tokens b → Cause n bytes tokens b 0 0
+  none : (e : Entry) → Passes-7 n setting bytes tokens b e
+      → Tree-fits setting e bytes tokens b → Cause n setting bytes tokens b 0 0
 
 -- for every call, each number with each place: returned if and only if its cause is there
 abbrev pub Refusals : Type 0
 Refusals =
-    (n : ℕ) (bytes tokens : List ℕ) (b : Buffers) (number place : ℕ)
-    → ((Call.call n bytes tokens b .answer .number ≡ number)
-    × (Call.call n bytes tokens b .answer .place ≡ place)) ↔ Cause n bytes tokens b number place
+    (n setting : ℕ) (bytes tokens : List ℕ) (b : Buffers) (number place : ℕ)
+    → ((Call.call n setting bytes tokens b .answer .number ≡ number)
+    × (Call.call n setting bytes tokens b .answer .place ≡ place)) ↔ Cause n setting bytes tokens b number place
