@@ -25,7 +25,17 @@ fn called(
     pool: &mut [u32],
     most: usize,
 ) -> u32 {
-    let a = dt_parser::dt_parse(entry, setting, bytes, tokens, events, trees, errors, reports, pool);
+    let a = dt_parser::dt_parse(
+        entry,
+        setting,
+        bytes,
+        tokens,
+        events,
+        trees,
+        errors,
+        reports,
+        pool,
+    );
     left::show(name, a, most, events, trees, errors, reports, pool);
     a.number
 }
