@@ -15,7 +15,7 @@ def numbers(text):
 def proved(root):
     """Pairs of a case and its answer: number, place, counts, and the five buffers."""
     with open(os.path.join(root, "crates", "definitions", "proofs", "Readings.antt"), encoding="utf-8") as f:
-        table = f.read().split("\nreadings =\n")[1].split("\npub called")[0]
+        table = f.read().split("\nreadings =\n")[1].split("\nunfoldable pub called")[0]
     out = []
     for part in re.split(r"(?:∷ )?\breading ", table)[1:]:
         part = re.sub(r"--.*", "", part)

@@ -1,2 +1,3 @@
--- What is proved of the definitions alone, without a theorem: document 01's readings.
+-- What is proved of the definitions alone, without a theorem: document 01's readings, and those of document 02's 1/14.
 pub mod Readings
+pub mod StrictReadings

@@ -85,16 +85,16 @@ readings =
     (0 ∷ []) (0 ∷ []) (0 ∷ [])
     ∷ []
 
-pub called : List Reading → List Result
+unfoldable pub called : ℕ → List Reading → List Result
 unfolding call
-called [] = []
-called (r ∷ rs) = call (r .entry) 0 (r .input) (r .rows) (lent (r .result .buffers)) ∷ called rs
+called setting [] = []
+called setting (r ∷ rs) = call (r .entry) setting (r .input) (r .rows) (lent (r .result .buffers)) ∷ called setting rs
 
-pub wanted : List Reading → List Result
+unfoldable pub wanted : List Reading → List Result
 wanted [] = []
 wanted (r ∷ rs) = r .result ∷ wanted rs
 
--- the twelve readings hold
-pub readings-hold : called readings ≡ wanted readings
+-- the twelve readings hold in the old setting
+pub readings-hold : called 0 readings ≡ wanted readings
 unfolding called wanted
 readings-hold = refl

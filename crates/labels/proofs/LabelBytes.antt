@@ -45,7 +45,8 @@ unfolding keeps-rule
 first-keeps [] b h e = absurd (omega (arith, h))
 first-keeps (x ∷ l) b h e = ap (λ (y : Bool). y && in-label l) (sym e)
 
-pub letter-keeps : (l : List ℕ) (b g : Bool) → 0 < length l → b ≡ is-letter (getD l 0 0) → b ≡ true → g ≡ in-label (drop 1 l) → g ≡ keeps-rule l
+pub letter-keeps : (l : List ℕ) (b g : Bool) → 0 < length l → b ≡ is-letter (getD l 0 0) → b ≡ true
+    → g ≡ in-label (drop 1 l) → g ≡ keeps-rule l
 letter-keeps l b g h e t p = p ∙ sym (first-keeps l b h e ∙ ap (λ (y : Bool). y && in-label (drop 1 l)) t)
 
 pub other-breaks : (l : List ℕ) (b : Bool) → 0 < length l → b ≡ is-letter (getD l 0 0) → b ≡ false → false ≡ keeps-rule l

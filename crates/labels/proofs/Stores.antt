@@ -7,7 +7,8 @@ use lib.ListN.{set}
 use lib.Seq.{sets}
 
 pub sets9 : (l : List ℕ) (i a b d e f g h j k : ℕ)
-    → set (set (set (set (set (set (set (set (set l i a) (i + 1) b) (i + 2) d) (i + 3) e) (i + 4) f) (i + 5) g) (i + 6) h) (i + 7) j) (i + 8) k
+    → set (set (set (set (set (set (set (set (set l i a) (i + 1) b) (i + 2) d) (i + 3) e) (i + 4) f) (i + 5) g) (i + 6) h) (i + 7) j)
+    (i + 8) k
     ≡ sets l i (a ∷ b ∷ d ∷ e ∷ f ∷ g ∷ h ∷ j ∷ k ∷ [])
 sets9 l i a b d e f g h j k =
     let p1 : i + 1 ≡ suc i = omega arith in

@@ -1,2 +1,3 @@
--- What the contracts cite.
+-- What the contracts cite. Model is what the code is proved equal to; Promise is what it comes to.
 pub mod Model
+pub mod Promise

@@ -113,7 +113,8 @@ with-written written refusal place s =
 unfoldable pub reported : ℕ → ℕ → ℕ → ℕ → Out → Out
 unfolding put-row
 reported start end at first (out s reports) =
-    let more = out (with-written (s .written + REPORT-ROW) (s .refusal) (s .place) s) (put-row (s .written) start end (low at) first reports) in
+    let row = put-row (s .written) start end (low at) first reports in
+    let more = out (with-written (s .written + REPORT-ROW) (s .refusal) (s .place) s) row in
     let none = out (with-written (s .written) NO-REPORT-ROOM at s) reports in
     cond (eqb (s .refusal) 0) (cond (fits (length reports) (s .written) REPORT-ROW) more none) (out s reports)
 

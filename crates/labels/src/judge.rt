@@ -14,6 +14,7 @@ ghost use mathlib.Core.Path.{_≡_};
 ghost use Prim.Native.Nat.{_≤_};
 ghost use Rattle.definitions.specs.Token.{tokens-of};
 ghost use Rattle.labels.specs.Model.{on, event-on, eventsN, begun, judged-on, names-on};
+ghost use Rattle.labels.specs.Promise.{Promise};
 
 fn one_event(
     s: Sweep,
@@ -130,7 +131,8 @@ fn judge_names(
     )
 }
 
-// The reports that a setting adds to a run that broke no limit. n: how many events it pushed. written: how many report
+// The reports that a setting adds to a run that broke no limit. The first clause says what becomes of any buffers; the
+// second, that for events that encode a skeleton it is what the definitions say. n: how many events the run pushed. written: how many report
 // numbers it wrote; theirs follow. first: how many expectations it wrote.
 pub fn report_names(
     setting: u32,
@@ -146,6 +148,8 @@ pub fn report_names(
     ensures { λ r. ⌜ on r (now (events .exit)) (now (reports .exit))
         ≡ names-on setting «root_kind» (now (bytes .entry)) (tokens-of (now (tokens .entry))) n written first
         (now (events .entry)) (now (reports .entry)) ⌝ }
+    ensures { λ r. ⌜ Promise setting «root_kind» (now (bytes .entry)) (now (tokens .entry)) n written first
+        (now (events .entry)) (now (reports .entry)) r (now (reports .exit)) ⌝ }
 {
     let old = setting == setting::OLD;
     if old {

@@ -20,7 +20,7 @@ use Rattle.definitions.specs.Place.{Tree, nil, leaf, subtree, _⊕_, lead, fron
 use Rattle.definitions.specs.Strict.{Name-at, has-lcurly, judges, token-count, judged}
 use Rattle.laws.proofs.Trivia.{drop-twice}
 use Rattle.laws.proofs.Skeleton.{bytes-append, after-join}
-use Rattle.laws.proofs.Tree.{leaves, leaves-beside, width-leaves}
+use Rattle.laws.proofs.Tree.{leaves, leaves-beside, width-leaves, tokens-leaves}
 use Rattle.laws.proofs.Placed.{lead-whole, front-whole, place-whole}
 use Rattle.laws.proofs.Leaves.{or-cases}
 use Rattle.laws.proofs.Input.{Good, All-good}
@@ -244,12 +244,6 @@ pub children-curly : (a i : Skeleton) (ts : List Token) → has-lcurly (place a 
 children-curly a i ts = lcurly-beside (place a ts) (place i (after a ts)) ∙ rw (place-curly a ts, place-curly i (after a ts)) refl
 
 -- ---------------------------------------------------------------- the Names of the tree
-
-pub tokens-leaves : (f : Tree) → token-count f ≡ length (leaves f)
-unfolding token-count leaves
-tokens-leaves nil = refl
-tokens-leaves (leaf k ts f) = ap (length ts +_) (tokens-leaves f) ∙ sym (length-append ts (leaves f))
-tokens-leaves (subtree k c f) = rw (tokens-leaves c, tokens-leaves f) (sym (length-append (leaves c) (leaves f)))
 
 pub judged-beside : (u : Bool) (at byte : ℕ) (f g : Tree) → judged u at byte (f ⊕ g) ≡ judged u at byte f ++ judged u (at + token-count f) (byte + width f) g
 unfolding judged _⊕_ token-count width

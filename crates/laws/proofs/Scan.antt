@@ -1,14 +1,14 @@
 -- What `scan` finds in a joined sequence: the first misfit of the first piece, else what it finds in the second with
 -- the room that is left.
-use Prim.Native.Nat.{ℕ, zero, suc, _-_}
+use Prim.Native.Nat.{ℕ, zero, suc, _+_, _-_}
 use native.Mathlib.Omega.{arith}
-use mathlib.Core.Path.{_≡_, refl}
+use mathlib.Core.Path.{_≡_, refl, ap}
 use mathlib.Core.Bool.{Bool, true, false, cond}
 use mathlib.Core.List.{List, [], _∷_, _++_}
 use lib.Dec.{leb}
 use lib.ListN.{length}
 use Rattle.definitions.specs.Refusal.{Refusal, no-event-room, no-report-room, too-deep}
-use Rattle.definitions.specs.Report.{Push, event, reported, exceeded, Room, Fit, fits, stops, one-event, one-report, scan}
+use Rattle.definitions.specs.Report.{Push, event, reported, exceeded, Room, Fit, fits, stops, one-event, one-report, scan, reports}
 use Rattle.laws.specs.Pushes.{None-exceeded}
 
 -- go on with the room that is left, unless something did not fit
@@ -73,3 +73,34 @@ fits-clear (reported r ∷ l) y z h =
     let f : (x : Room) × (scan l x ≡ fits z) = report-fits (r .mark) (length (r .pool)) (g .0 .events) (g .0 .reports) (g .0 .pool) (scan l) z (g .1) in
     fits-clear l (f .0) z (f .1)
 fits-clear (exceeded m ∷ l) y z h = absurd (stops-never (too-deep m) z h)
+
+-- ---------------------------------------------------------------- the report rows that are left
+
+room-in : Fit → ℕ
+room-in (fits z) = z .reports
+room-in (stops r) = 0
+
+event-keeps : (m e r p n : ℕ) (k : Room → Fit) (z : Room) → ((y : Room) → k y ≡ fits z → y .reports ≡ z .reports + n) → one-event m e r p k ≡ fits z → r ≡ z .reports + n
+unfolding one-event
+event-keeps m zero r p n k z f h = absurd (stops-never (no-event-room m) z h)
+event-keeps m (suc e) r p n k z f h = f (record { events = e; reports = r; pool = p }) h
+
+report-takes : (m q e r p n : ℕ) (k : Room → Fit) (z : Room) → ((y : Room) → k y ≡ fits z → y .reports ≡ z .reports + n) → one-report m q e r p k ≡ fits z → r ≡ z .reports + suc n
+unfolding one-report
+report-takes m q e zero p n k z f h = absurd (stops-never (no-report-room m) z h)
+report-takes m q e (suc r) p n k z f h = pick (leb q p) h
+  where
+    pick : (b : Bool) → cond b (k (record { events = e; reports = r; pool = p - q })) (stops (no-report-room m)) ≡ fits z → suc r ≡ z .reports + suc n
+    pick true g = let x : r ≡ z .reports + n = f (record { events = e; reports = r; pool = p - q }) g in omega arith
+    pick false g = absurd (stops-never (no-report-room m) z g)
+
+-- each report takes one
+pub fits-left : (l : List Push) (y z : Room) → scan l y ≡ fits z → y .reports ≡ z .reports + length (reports l)
+unfolding scan reports room-in
+fits-left [] y z h = let x : y .reports ≡ z .reports = ap room-in h in omega arith
+fits-left (event m ∷ l) y z h = event-keeps m (y .events) (y .reports) (y .pool) (length (reports l)) (scan l) z (λ x. fits-left l x z) h
+fits-left (reported r ∷ l) y z h =
+    event-keeps (r .mark) (y .events) (y .reports) (y .pool) (suc (length (reports l)))
+    (λ x. one-report (r .mark) (length (r .pool)) (x .events) (x .reports) (x .pool) (scan l)) z
+    (λ x. report-takes (r .mark) (length (r .pool)) (x .events) (x .reports) (x .pool) (length (reports l)) (scan l) z (λ v. fits-left l v z)) h
+fits-left (exceeded m ∷ l) y z h = absurd (stops-never (too-deep m) z h)

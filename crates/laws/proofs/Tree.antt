@@ -5,12 +5,13 @@ use native.Mathlib.Nat.{zero-add}
 use native.Mathlib.Omega.{arith}
 use mathlib.Core.Path.{_≡_, refl, ap, sym, _∙_}
 use mathlib.Core.List.{List, [], _++_, append-assoc}
-use lib.ListN.{length, take, drop}
+use lib.ListN.{length, take, drop, length-append}
 use Rattle.definitions.specs.Layout.{NODE, LEAF}
 use Rattle.definitions.specs.TokenKind as K
 use Rattle.definitions.specs.Token.{Token, drop-trivia, past, byte-count}
 use Rattle.definitions.specs.Skeleton.{Skeleton, done, token, name, node, ignored, report, over, _⧺_}
 use Rattle.laws.proofs.Skeleton.{bytes-append}
+use Rattle.definitions.specs.Strict.{token-count}
 use Rattle.definitions.specs.Place.{Tree, nil, leaf, subtree, _⊕_, lead, front, after, place, width, count, rows, tree-row}
 
 pub beside-nil : (f : Tree) → f ⊕ nil ≡ f
@@ -64,6 +65,13 @@ width-leaves (subtree k c f) = ap2 (width-leaves c) (width-leaves f) ∙ sym (by
   where
     ap2 : {a b x y : ℕ} → a ≡ x → b ≡ y → a + b ≡ x + y
     ap2 p q = rw (p, q)
+
+-- its leaves stand for as many raw tokens
+pub tokens-leaves : (f : Tree) → token-count f ≡ length (leaves f)
+unfolding token-count leaves
+tokens-leaves nil = refl
+tokens-leaves (leaf k ts f) = ap (length ts +_) (tokens-leaves f) ∙ sym (length-append ts (leaves f))
+tokens-leaves (subtree k c f) = rw (tokens-leaves c, tokens-leaves f) (sym (length-append (leaves c) (leaves f)))
 
 -- the second piece is placed where the first one leaves off
 pub place-join : (p q : Skeleton) (ts : List Token) → place (p ⧺ q) ts ≡ place p ts ⊕ place q (after p ts)

@@ -1,6 +1,5 @@
 -- `push_report`: the row, if it fits and none before it did not.
 use Rattle.basics.proofs.Flags.{flags}
-use borrow.Author.Tests.{eqb-true}
 use Rattle.labels.specs.Model.{reported}
 use Rattle.labels.proofs.report.push_report.Statement.{statement}
 use Rattle.labels.proofs.report.push_report.Tie as tie
@@ -22,7 +21,7 @@ same-length c = omega (flags, c .before .before .before .put-report .kept)
 
 returns : tie.Need-returns
 unfolding reported
-returns c = rw (eqb-true (c .before .before .before .before .before .before .before .before .before .before .before .args .s .refusal) 0 (c .before .before .before .before .before .before .before .before .if1 .taken), ← (c .before .before .before .before .low32 .ensures), ← (c .before .before .before .put-report .ensures), ← (c .before .before .before .before .before .before .before .fits2 .ensures .0), c .before .before .before .before .before .before .if2 .taken)
+returns c = rw (c .before .before .before .before .before .before .before .before .if1 .taken, ← (c .before .before .before .before .low32 .ensures), ← (c .before .before .before .put-report .ensures), ← (c .before .before .before .before .before .before .before .fits2 .ensures .0), c .before .before .before .before .before .before .if2 .taken)
 
 returns-2 : tie.Need-returns-2
 unfolding reported
