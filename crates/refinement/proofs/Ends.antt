@@ -1,23 +1,27 @@
--- THE CALL'S END: the machine's end, the sink's promise and what is cleared, joined.
-use Prim.Native.Nat.{ℕ, _-_, _*_, _/_, _≤_}
+-- THE CALL'S END: the machine's end, the promises of the sink and of the Names' reports, and what is cleared, joined.
+use Prim.Native.Nat.{ℕ, zero, suc, _+_, _-_, _*_, _/_, _≤_, _<_}
+use native.Mathlib.Nat.{mod-eq-of-lt}
 use native.Mathlib.Omega.{arith}
 use mathlib.Core.Path.{_≡_, refl, sym, ap, _∙_, subst}
 use mathlib.Core.Bool.{Bool, true, false, cond}
-use mathlib.Core.List.{List}
-use lib.Dec.{leb}
-use lib.ListN.{length, take, drop}
-use lib.Seq.{take-at}
+use mathlib.Core.List.{List, [], _∷_, _++_, append-assoc, append-nil}
+use lib.Dec.{leb, eqb}
+use lib.ListN.{length, take, drop, length-append}
+use lib.Seq.{take-at, drop-append-add, drop-drop}
 use borrow.Author.Tests.{leb-true}
-use Rattle.definitions.specs.Layout.{TREE-ROW, ERROR-ROW, REPORT-ROW}
+use Rattle.basics.specs.Word.{low}
+use Rattle.definitions.specs.Layout.{EVENT-ROW, TREE-ROW, ERROR-ROW, REPORT-ROW, TWO-TO-32}
 use Rattle.definitions.specs.Token.{Token, tokens-of, byte-count}
 use Rattle.definitions.specs.Skeleton.{Skeleton}
 use Rattle.definitions.specs.Event.{events}
 use Rattle.definitions.specs.Place.{root, rows, lexical-errors}
-use Rattle.definitions.specs.Report.{Fit, fits, stops, scan, pushes, reports, report-numbers, pool}
-use Rattle.definitions.specs.Refusal.{Refusal, unknown-entry, too-long, bad-row, bad-text, too-deep, no-event-room, no-report-room, no-tree-room, number-of, place-of, accepted, check-input}
+use Rattle.definitions.specs.Strict.{Name-at, name-numbers, names-fit}
+use Rattle.definitions.specs.Report.{Room, Fit, fits, stops, scan, pushes, reports, report-numbers, pool}
+use Rattle.definitions.specs.Refusal.{Refusal, unknown-entry, too-long, bad-row, bad-text, too-deep, no-event-room, no-report-room, no-tree-room, number-of, place-of, Verdict, accepted, refused, check-input}
 use Rattle.definitions.specs.Grammar.{Entry, root-kind}
-use Rattle.definitions.specs.Call.{Buffers, refusal, cleared, Sheets, sheets, kept, delivered, forward-mark, outcome, room-of, run-entry, parse}
+use Rattle.definitions.specs.Call.{Buffers, refusal, cleared, Sheets, sheets, kept, delivered, forward-mark, unless-refused, outcome, room-of, run-entry, names-of, parse}
 use Rattle.laws.proofs.Input.{Checked, checked-input}
+use Rattle.laws.proofs.Scan.{fits-clear, fits-left}
 use Rattle.basics.proofs.Tests.{and-left, and-right}
 use Rattle.laws.proofs.Decode.{rows-length}
 use Rattle.laws.proofs.LexicalErrors.{errors-length}
@@ -28,10 +32,13 @@ use Rattle.machine.specs.Outcome.{onto, Starts-with, Not-refused, Refused, Ends
 use Rattle.refinement.proofs.Machine.{entry-ends}
 use Rattle.sink.specs.declared.Sunk.{Sunk}
 use Rattle.sink.specs.Promise.{Small, enough, Written-out, Placed}
+use Rattle.sink.proofs.Encode.{encode-length}
 use Rattle.sink.proofs.Runs.{entry-chained}
-use Rattle.refinement.specs.Ends.{wiped, swept, refused-at, sunk-answer, after-sink, Same-lengths, Parsed, Calls-end}
+use Rattle.labels.specs.declared.sweep.Sweep.{Sweep}
+use Rattle.labels.specs.Promise.{Swept-events, Leaves, Follow, Stop, Named}
+use Rattle.refinement.specs.Ends.{wiped, swept, refused-at, sunk-answer, last-answer, after-all, Same-lengths, Parsed, After-run, Calls-end}
 use Rattle.refinement.proofs.Wiped.{wiped-whole, wiped-written, held-length}
-use Rattle.laws.proofs.ReportNumbers.{report-numbers-length}
+use Rattle.laws.proofs.ReportNumbers.{report-numbers-length, name-numbers-length}
 
 -- a mark counted from the start leaves the cause as it is
 forward-number : (n : ℕ) (r : Refusal) → number-of (forward-mark n r) ≡ number-of r
@@ -74,12 +81,42 @@ swept-kept z b c t e r k ft fe fr n q h inside =
     let pool₀ : wiped n (c .pool) ≡ _ = wiped-written (z .pool) (b .pool) (c .pool) n h inside q in
     rw (events₀, trees₀, errors₀, reports₀, pool₀, ft .count, fe .count, fr .count, q)
 
-module _ (e : Entry) (bytes tokens : List ℕ) (b : Buffers) (m : Machine) (ok : check-input bytes tokens ≡ accepted) (parsed : Parsed e tokens b m) where
+-- a Name's report that does not fit is the only refusal among them
+name-refused : (room : ℕ) (l : List Name-at) (r : Refusal) → names-fit room l ≡ refused r → (m : ℕ) × (r ≡ no-report-room m)
+unfolding names-fit
+name-refused room [] r e = absurd (differ e)
+  where
+    differ : accepted ≡ refused r → ⊥
+    differ e = let x : _≡_ {A = ℕ} 0 1 = cc in omega arith
+name-refused zero (n ∷ l) r e = (n .first-token, sym (ap inside e))
+  where
+    inside : Verdict → Refusal
+    inside accepted = no-tree-room
+    inside (refused q) = q
+name-refused (suc room) (n ∷ l) r e = name-refused room l r e
+
+-- where all fit there are no more of them than there is room
+names-within : (room : ℕ) (k : List Name-at) → names-fit room k ≡ accepted → length k ≤ room
+unfolding names-fit
+names-within room [] q = omega arith
+names-within zero (x ∷ k) q = absurd (differ q)
+  where
+    differ : refused (no-report-room (x .first-token)) ≡ accepted → ⊥
+    differ e = let y : _≡_ {A = ℕ} 0 1 = cc in omega arith
+names-within (suc room) (x ∷ k) q = let y : length k ≤ room = names-within room k q in omega arith
+
+module _ (setting : ℕ) (e : Entry) (bytes tokens : List ℕ) (b : Buffers) (m : Machine) (ok : check-input bytes tokens ≡ accepted) (parsed : Parsed e tokens b m) where
   abbrev ts : List Token
   ts = tokens-of tokens
 
   abbrev o : Skeleton
   o = run-entry e ts
+
+  abbrev l : List Name-at
+  l = names-of setting e bytes ts
+
+  abbrev z : Sheets
+  z = sheets e ts o l
 
   abbrev R : List ℕ
   R = rows (root (root-kind e) o ts)
@@ -91,18 +128,19 @@ module _ (e : Entry) (bytes tokens : List ℕ) (b : Buffers) (m : Machine) (ok :
   ends : Ends ts o (b .events) (b .reports) (b .pool) (scan (pushes o) (room-of b)) m
   ends = subst (λ (x : Machine). Ends ts o (b .events) (b .reports) (b .pool) (scan (pushes o) (room-of b)) x) (sym parsed) (entry-ends e bytes tokens (b .events) (b .reports) (b .pool) ok)
 
-  parse-by : (f : Fit) → scan (pushes o) (room-of b) ≡ f → parse e ts b ≡ outcome f e ts o b
+  parse-by : (f : Fit) → scan (pushes o) (room-of b) ≡ f → parse e setting bytes ts b ≡ outcome f e ts o l b
   unfolding parse
-  parse-by f h = ap (λ (x : Fit). outcome x e ts o b) h
+  parse-by f h = ap (λ (x : Fit). outcome x e ts o l b) h
 
   ends-by : (f : Fit) → scan (pushes o) (room-of b) ≡ f → Ends ts o (b .events) (b .reports) (b .pool) f m
   ends-by f h = subst (λ (x : Fit). Ends ts o (b .events) (b .reports) (b .pool) x m) h ends
 
   -- ---------------------------------------------------------------- causes 5 to 7
 
-  refused-ends : (f : Fit) → scan (pushes o) (room-of b) ≡ f → (m .refusal ≡ 0 → ⊥) → (c : Buffers) → Same-lengths b c → swept (refused-at (m .refusal) (m .place)) c ≡ parse e ts b
+  refused-ends : (f : Fit) → scan (pushes o) (room-of b) ≡ f → (m .refusal ≡ 0 → ⊥) → (c : Buffers) → Same-lengths b c
+      → swept (refused-at (m .refusal) (m .place)) c ≡ parse e setting bytes ts b
   unfolding outcome
-  refused-ends (fits z) h n c s = let a : Not-refused ts o (b .events) (b .reports) (b .pool) m = ends-by (fits z) h in absurd (n (a .refusal))
+  refused-ends (fits x) h n c s = let a : Not-refused ts o (b .events) (b .reports) (b .pool) m = ends-by (fits x) h in absurd (n (a .refusal))
   refused-ends (stops r) h n c s =
       let a : Refused ts r m = ends-by (stops r) h in
       swept-refused (m .refusal) (m .place) (forward-mark (length ts) r) b c (a .refusal ∙ sym (forward-number (length ts) r)) (a .place) s
@@ -110,10 +148,17 @@ module _ (e : Entry) (bytes tokens : List ℕ) (b : Buffers) (m : Machine) (ok :
 
   -- ---------------------------------------------------------------- nothing refused
 
-  accepted-by : (f : Fit) → scan (pushes o) (room-of b) ≡ f → m .refusal ≡ 0 → Not-refused ts o (b .events) (b .reports) (b .pool) m × (parse e ts b ≡ delivered (sheets e ts o) b)
+  -- what the run left, and what comes of it
+  pub record Went : Type 0 where
+    pub left : Room
+    pub fitted : scan (pushes o) (room-of b) ≡ fits left
+    pub whole : Not-refused ts o (b .events) (b .reports) (b .pool) m
+    pub parses : parse e setting bytes ts b ≡ unless-refused (names-fit (left .reports) l) z b
+
+  went : (f : Fit) → scan (pushes o) (room-of b) ≡ f → m .refusal ≡ 0 → Went
   unfolding outcome
-  accepted-by (fits z) h q = (ends-by (fits z) h, parse-by (fits z) h)
-  accepted-by (stops r) h q = let a : Refused ts r m = ends-by (stops r) h in absurd (omega (arith, a .some))
+  went (fits x) h q = record { left = x; fitted = h; whole = ends-by (fits x) h; parses = parse-by (fits x) h }
+  went (stops r) h q = let a : Refused ts r m = ends-by (stops r) h in absurd (omega (arith, a .some))
 
   -- the events that the sink is given encode the skeleton
   given-events : Not-refused ts o (b .events) (b .reports) (b .pool) m → take (m .events .count) (m .events .numbers) ≡ encode false o
@@ -130,6 +175,21 @@ module _ (e : Entry) (bytes tokens : List ℕ) (b : Buffers) (m : Machine) (ok :
         rows = omega (arith, c .pairs, c .numbers-limit, bounded e ts .all-events);
       }
 
+  -- so are those that the sweeps are given
+  swept-events : Not-refused ts o (b .events) (b .reports) (b .pool) m → Swept-events o bytes tokens (m .events .numbers) (m .events .count / EVENT-ROW)
+  swept-events a =
+      let c : Checked bytes tokens = checked-input bytes tokens ok in
+      let n : length (encode false o) ≡ length (events false o) * EVENT-ROW = encode-length false o in
+      let k : m .events .count ≡ length (encode false o) = a .events-hold .count in
+      record {
+        input = ok;
+        chained = entry-chained e ts;
+        more = drop (length (encode false o)) (b .events);
+        rows = a .events-hold .numbers;
+        count = omega arith;
+        small = omega (arith, c .pairs, c .numbers-limit, bounded e ts .all-events);
+      }
+
   -- the rows of a tree, of lexical errors and of reports are whole
   trees-in : (c : List ℕ) → length R ≤ length (b .trees) → c ≡ onto R (b .trees) → Rows-in TREE-ROW (length R / TREE-ROW) R (b .trees) c
   trees-in c inside h = record { count = refl; whole = omega (arith, rows-length (root (root-kind e) o ts)); numbers = h; inside = inside }
@@ -140,51 +200,128 @@ module _ (e : Entry) (bytes tokens : List ℕ) (b : Buffers) (m : Machine) (ok :
   abbrev P : List ℕ
   P = report-numbers (length ts) (byte-count ts) 0 (reports (pushes o))
 
-  reports-in : Starts-with P (b .reports) (m .reports) → Rows-in REPORT-ROW (m .reports .count / REPORT-ROW) P (b .reports) (m .reports .numbers)
-  reports-in h =
-      let n : m .reports .count ≡ length P = h .count in
-      record { count = omega arith; whole = omega (arith, report-numbers-length (length ts) (byte-count ts) 0 (reports (pushes o))); numbers = h .numbers; inside = h .inside }
+  abbrev expectations : ℕ
+  expectations = length (pool (reports (pushes o)))
 
-  sunk-ends : Not-refused ts o (b .events) (b .reports) (b .pool) m → (s : Sunk) (trees errors : List ℕ) → length trees ≡ length (b .trees) → length errors ≡ length (b .errors)
-      → Placed (root-kind e) o tokens (b .trees) (b .errors) s trees errors → (x : Bool) → enough R L (b .trees) (b .errors) ≡ x
-      → swept (sunk-answer s m) (after-sink m trees errors) ≡ cond x (kept (sheets e ts o) b) (cleared no-tree-room b)
-  unfolding sheets
-  sunk-ends a s trees errors lt le p true h =
-      let w : Written-out R L (b .trees) (b .errors) s trees errors = p .fits h in
-      let rt : length R ≤ length (b .trees) = leb-true _ _ (and-left _ _ h) in
-      let re : length L ≤ length (b .errors) = leb-true _ _ (and-right (leb (length R) (length (b .trees))) _ h) in
-      let q = a .pool-holds in
-      ap (λ (x : Sunk). swept (sunk-answer x m) (after-sink m trees errors)) (w .counts)
-      ∙ swept-kept (sheets e ts o) b (after-sink m trees errors) (length R / TREE-ROW) (length L / ERROR-ROW) (m .reports .count / REPORT-ROW)
-      (held-length (encode false o) (b .events) (m .events) (a .events-hold))
-      (trees-in trees rt (w .rows)) (errors-in errors re (w .lexical)) (reports-in (a .reports-hold))
-      (m .pool .count) (q .count) (q .numbers) (q .inside)
-  sunk-ends a s trees errors lt le p false h =
-      ap (λ (x : Sunk). swept (sunk-answer x m) (after-sink m trees errors)) (p .lacks h)
-      ∙ swept-refused (number-of no-tree-room) (place-of no-tree-room) no-tree-room b (after-sink m trees errors) refl refl
-      (record {
-        events = held-length (encode false o) (b .events) (m .events) (a .events-hold);
-        trees = lt;
-        errors = le;
-        reports = held-length P (b .reports) (m .reports) (a .reports-hold);
-        pool = held-length (pool (reports (pushes o))) (b .pool) (m .pool) (a .pool-holds);
-      })
+  abbrev Q : List ℕ
+  Q = name-numbers expectations l
 
-  finish-by : delivered (sheets e ts o) b ≡ cond (enough R L (b .trees) (b .errors)) (kept (sheets e ts o) b) (cleared no-tree-room b)
-  unfolding delivered sheets
-  finish-by = refl
+  P-length : length P ≡ REPORT-ROW * length (reports (pushes o))
+  P-length = report-numbers-length (length ts) (byte-count ts) 0 (reports (pushes o))
+
+  Q-length : length Q ≡ REPORT-ROW * length l
+  Q-length = name-numbers-length expectations l
+
+  -- the report rows that the run left are those that still fit
+  rows-left : (g : Went) → Leaves (m .reports .count) (g .left .reports) (m .reports .numbers)
+  rows-left g =
+      let h : Starts-with P (b .reports) (m .reports) = g .whole .reports-hold in
+      let f : length (b .reports) / REPORT-ROW ≡ g .left .reports + length (reports (pushes o)) = fits-left (pushes o) (room-of b) (g .left) (g .fitted) in
+      let n : length (m .reports .numbers) ≡ length (b .reports) = held-length P (b .reports) (m .reports) h in
+      record { enough = omega (arith, h .count, P-length); no-more = omega (arith, h .count, P-length) }
+
+  -- the first pool place of the Names' reports is no large number
+  pool-low : (g : Went) → low (m .pool .count) ≡ expectations
+  pool-low g =
+      let c : Checked bytes tokens = checked-input bytes tokens ok in
+      let k : m .pool .count ≡ expectations = g .whole .pool-holds .count in
+      let n : expectations ≤ _ = bounded e ts .pool-so-far (pushes o) [] (sym (append-nil (pushes o))) (fits-clear (pushes o) (room-of b) (g .left) (g .fitted)) in
+      ap low k ∙ mod-eq-of-lt (omega (arith, c .pairs, c .numbers-limit))
+
+  module _ (g : Went) (s : Sunk) (w : Sweep) (events′ trees errors reports′ : List ℕ) (after : After-run setting e bytes tokens b m s w events′ trees errors reports′) where
+    abbrev c : Buffers
+    c = after-all events′ trees errors reports′ m
+
+    same-lengths : Same-lengths b c
+    same-lengths =
+        record {
+          events = after .events-length;
+          trees = after .trees-length;
+          errors = after .errors-length;
+          reports = after .reports-length;
+          pool = held-length (pool (reports (pushes o))) (b .pool) (m .pool) (g .whole .pool-holds);
+        }
+
+    named : Named l expectations (m .reports .count) (m .reports .numbers) w reports′
+    named = subst (λ (n : ℕ). Named l n (m .reports .count) (m .reports .numbers) w reports′) (pool-low g) (after .named o (swept-events (g .whole)))
+
+    placed : Placed (root-kind e) o tokens (b .trees) (b .errors) s trees errors
+    placed = after .sunk o (given-events (g .whole)) (entry-chained e ts) small
+
+    -- all reports fit, and follow those of the run
+    module _ (f : Follow l expectations (m .reports .count) (m .reports .numbers) w reports′) where
+      abbrev h : Starts-with P (b .reports) (m .reports)
+      h = g .whole .reports-hold
+
+      both-rows : reports′ ≡ onto (P ++ Q) (b .reports)
+      both-rows =
+          let k : m .reports .count ≡ length P = h .count in
+          let n : m .reports .count + length l * REPORT-ROW ≡ length P + length Q = omega (arith, Q-length) in
+          let t : take (m .reports .count) (m .reports .numbers) ≡ P = ap (take (m .reports .count)) (h .numbers) ∙ take-at P (drop (length P) (b .reports)) (m .reports .count) (sym k) in
+          let d : drop (m .reports .count + length l * REPORT-ROW) (m .reports .numbers) ≡ drop (length (P ++ Q)) (b .reports) =
+          ap (λ (q : ℕ). drop q (m .reports .numbers)) n
+          ∙ ap (drop (length P + length Q)) (h .numbers)
+          ∙ drop-append-add P (drop (length P) (b .reports)) (length Q)
+          ∙ drop-drop (length Q) (length P) (b .reports)
+          ∙ ap (λ (q : ℕ). drop q (b .reports)) (sym (length-append P Q)) in
+          f .rows
+          ∙ ap (λ (x : List ℕ). x ++ (Q ++ drop (m .reports .count + length l * REPORT-ROW) (m .reports .numbers))) t
+          ∙ ap (λ (x : List ℕ). P ++ (Q ++ x)) d
+          ∙ sym (append-assoc P Q (drop (length (P ++ Q)) (b .reports)))
+
+      rows-inside : names-fit (g .left .reports) l ≡ accepted → length (P ++ Q) ≤ length (b .reports)
+      rows-inside v =
+          let n : length (P ++ Q) ≡ length P + length Q = length-append P Q in
+          let x : length l ≤ g .left .reports = names-within (g .left .reports) l v in
+          omega (arith, Q-length, h .count, rows-left g .enough, held-length P (b .reports) (m .reports) h)
+
+      reports-in : names-fit (g .left .reports) l ≡ accepted → Rows-in REPORT-ROW (w .written / REPORT-ROW) (P ++ Q) (b .reports) reports′
+      reports-in v =
+          let n : length (P ++ Q) ≡ length P + length Q = length-append P Q in
+          let k : w .written ≡ length (P ++ Q) = omega (arith, f .count, h .count, Q-length) in
+          record { count = omega arith; whole = omega (arith, P-length, Q-length); numbers = both-rows; inside = rows-inside v }
+
+      sunk-ends : names-fit (g .left .reports) l ≡ accepted → (x : Bool) → enough R L (b .trees) (b .errors) ≡ x
+          → swept (sunk-answer s (w .written) (m .pool .count)) c ≡ cond x (kept z b) (cleared no-tree-room b)
+      unfolding sheets
+      sunk-ends v true k =
+          let out : Written-out R L (b .trees) (b .errors) s trees errors = placed .fits k in
+          let rt : length R ≤ length (b .trees) = leb-true _ _ (and-left _ _ k) in
+          let re : length L ≤ length (b .errors) = leb-true _ _ (and-right (leb (length R) (length (b .trees))) _ k) in
+          let q = g .whole .pool-holds in
+          ap (λ (y : Sunk). swept (sunk-answer y (w .written) (m .pool .count)) c) (out .counts)
+          ∙ swept-kept z b c (length R / TREE-ROW) (length L / ERROR-ROW) (w .written / REPORT-ROW) (after .events-length)
+          (trees-in trees rt (out .rows)) (errors-in errors re (out .lexical)) (reports-in v)
+          (m .pool .count) (q .count) (q .numbers) (q .inside)
+      sunk-ends v false k =
+          ap (λ (y : Sunk). swept (sunk-answer y (w .written) (m .pool .count)) c) (placed .lacks k)
+          ∙ swept-refused (number-of no-tree-room) (place-of no-tree-room) no-tree-room b c refl refl same-lengths
+
+      delivered-ends : names-fit (g .left .reports) l ≡ accepted → swept (last-answer s w m) c ≡ delivered z b
+      unfolding delivered sheets
+      delivered-ends v =
+          ap (λ (n : ℕ). swept (cond (eqb n 0) (sunk-answer s (w .written) (m .pool .count)) (refused-at n (w .place))) c) (f .refusal)
+          ∙ sunk-ends v (enough R L (b .trees) (b .errors)) refl
+
+    by-names : (v : Verdict) → names-fit (g .left .reports) l ≡ v → swept (last-answer s w m) c ≡ unless-refused v z b
+    unfolding unless-refused
+    by-names accepted v = delivered-ends (named .fits (g .left .reports) (rows-left g) v) v
+    by-names (refused r) v =
+        let q : (k : ℕ) × (r ≡ no-report-room k) = name-refused (g .left .reports) l r v in
+        let t : Stop (q .0) w = named .lacks (g .left .reports) (q .0) (rows-left g) (v ∙ ap refused (q .1)) in
+        ap (λ (n : ℕ). swept (cond (eqb n 0) (sunk-answer s (w .written) (m .pool .count)) (refused-at n (w .place))) c) (t .refusal)
+        ∙ (unfold number-of place-of in swept-refused (number-of (no-report-room (q .0))) (w .place) (no-report-room (q .0)) b c refl (t .place) same-lengths)
+        ∙ ap (λ (y : Refusal). cleared y b) (sym (q .1))
+
+    all-ended : swept (last-answer s w m) c ≡ parse e setting bytes ts b
+    all-ended = by-names (names-fit (g .left .reports) l) refl ∙ sym (g .parses)
 
 -- THE CALL'S END
 pub calls-end : Calls-end
-calls-end e bytes tokens b m ok parsed =
-    let went = accepted-by e bytes tokens b m ok parsed (scan (pushes (run-entry e (tokens-of tokens))) (room-of b)) refl in
+calls-end setting e bytes tokens b m ok parsed =
+    let gone = went setting e bytes tokens b m ok parsed (scan (pushes (run-entry e (tokens-of tokens))) (room-of b)) refl in
     record {
-      refused = refused-ends e bytes tokens b m ok parsed (scan (pushes (run-entry e (tokens-of tokens))) (room-of b)) refl;
-      events-inside = λ q. let h = went q .0 .events-hold in omega (arith, h .count, h .inside);
-      sunk =
-          λ q s trees errors lt le p.
-          let a = went q .0 in
-          let placed = p (run-entry e (tokens-of tokens)) (given-events e bytes tokens b m ok parsed a) (entry-chained e (tokens-of tokens)) (small e bytes tokens b m ok parsed) in
-          sunk-ends e bytes tokens b m ok parsed a s trees errors lt le placed _ refl
-          ∙ sym (went q .1 ∙ finish-by e bytes tokens b m ok parsed);
+      refused = refused-ends setting e bytes tokens b m ok parsed (scan (pushes (run-entry e (tokens-of tokens))) (room-of b)) refl;
+      events-inside = λ q. let h = gone q .whole .events-hold in omega (arith, h .count, h .inside);
+      ended = λ q. all-ended setting e bytes tokens b m ok parsed (gone q);
     }
