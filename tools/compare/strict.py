@@ -1,10 +1,10 @@
 """The strict setting of request 1/14 (document 02), as a plain reading of its words over the tree rows that the oracle
 gives. The Rust has no such setting. fuzz/src/strict.rs reads the same words in Rust."""
-from compare.case import LEAF, NODE, REPORT_ROW, TREE_ROW, TreeRow, rows
+from compare.case import LEAF, NODE, REPORT_ROW, TreeRow, rows, rows_of
 
 # by document 01's order of NodeKind and TokenKind; message 8 is document 02's
 DT_LABEL, DT_PHANDLE = 19, 21
-NAME, IDENT, LCURLY, NUMBER = 26, 27, 37, 35
+DELETE_NODE, NAME, IDENT, AMPERSAND, COLON, NUMBER, LCURLY = 21, 26, 27, 30, 31, 35, 37
 NOT_A_LABEL = 8
 NO_REPORT_ROOM, NO_TREE_ROOM = 7, 8
 LETTERS = b"abcdefghijklmnopqrstuvwxyzABCDEFGHIJKLMNOPQRSTUVWXYZ"
@@ -67,15 +67,37 @@ def with_labels(case, own, full):
 
 
 def drawn(cases, oracle, rng):
-    """The cases in the strict setting, with odd bytes in their names and a report buffer that ends somewhere among the
-    labels' reports, each with how many Names break the rule."""
-    cases = [odd_names(case, rng) for case in cases]
-    parsed = iter(oracle.ask([case for case in cases if not oracle.refused_early(case)]))
-    for case in cases:
-        count = 0 if oracle.refused_early(case) else len(reported(case.data(), next(parsed).rows))
-        events, trees, errors, reports, pool = case.lengths
-        reports += REPORT_ROW * rng.choice((0, count, count, rng.randint(0, count))) - rng.choice((0, 0, 0, 1))
-        yield case._replace(lengths=(events, trees, errors, max(reports, 0), pool)), count
+    """The cases in the strict setting, most with a label or a reference more and with odd bytes in their names, in
+    buffers that just fit or nearly do; each with how many Names break the rule."""
+    cases = [odd_names(with_label(case, rng), rng) for case in cases]
+    early = [oracle.refused_early(case) for case in cases]
+    parsed = iter(oracle.ask([case for case, e in zip(cases, early) if not e]))
+    for case, e in zip(cases, early):
+        if e:
+            yield case, 0
+            continue
+        full = next(parsed)
+        count = len(reported(case.data(), full.rows))
+        yield case._replace(lengths=near(full.needs(), count, rng)), count
+
+
+def near(needs, count, rng):
+    """Lengths around what is needed with so many reports of labels: the report buffer ends somewhere among them, and
+    the tree's is short too, now and then."""
+    events, trees, errors, reports, pool = [n + rng.choice((0, 0, 0, 1, 5)) for n in needs]
+    reports += REPORT_ROW * rng.choice((count, count, count, rng.randint(0, count))) - rng.choice((0, 0, 0, 1))
+    trees = rng.choice((trees, trees, trees, trees, needs[1] - 1, 3))
+    return events, max(trees, 0), errors, max(reports, 0), pool
+
+
+def with_label(case, rng):
+    """The case with a label, a reference or both at a random place."""
+    if len(case.rows) > 100:
+        return case
+    label, reference = [(NUMBER, b"1"), (COLON, b":")], [(AMPERSAND, b"&"), (IDENT, b"a"), (NUMBER, b"2")]
+    more = rng.choice(([], label, reference, label + reference, [(DELETE_NODE, b"/delete-node/")] + reference))
+    at = rng.randint(0, len(case.rows))
+    return case._replace(rows=case.rows[:at] + rows_of(more) + case.rows[at:])
 
 
 def odd_names(case, rng):
