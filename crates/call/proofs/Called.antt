@@ -1,12 +1,14 @@
 -- What the exported call's proof cites: the parse with what is done after it, and the ways around it.
-use Prim.Native.Nat.{ℕ, _≤_}
+use Prim.Native.Nat.{ℕ, _/_, _≤_}
 use native.Mathlib.Omega.{arith}
 use mathlib.Core.Path.{_≡_, refl, ap, sym, _∙_, subst}
 use mathlib.Core.List.{List}
-use mathlib.Core.Bool.{Bool, true, false}
+use mathlib.Core.Bool.{Bool, true, false, cond}
 use lib.Dec.{eqb}
 use lib.ListN.{length, take}
 use borrow.Author.Tests.{eqb-true, eqb-false}
+use Rattle.basics.specs.Word.{low}
+use Rattle.definitions.specs.Layout.{EVENT-ROW}
 use Rattle.definitions.specs.Token.{tokens-of}
 use Rattle.definitions.specs.Refusal.{unknown-entry, Verdict, accepted, check-input, number-of, place-of}
 use Rattle.definitions.specs.Grammar.{Entry, root-kind}
@@ -14,61 +16,89 @@ use Rattle.definitions.specs.Call.{Buffers, Result, refusal, parse, Asked, for,
 use Rattle.machine.specs.Machine.{Machine}
 use Rattle.sink.specs.declared.Sunk.{Sunk}
 use Rattle.sink.specs.declared.Sunk.the-variants.{Written, NoRoom}
-use Rattle.sink.specs.Promise.{Promise}
-use Rattle.refinement.specs.Ends.{swept, sunk-answer, after-sink, Parsed, Call-ends}
+use Rattle.sink.specs.Promise as Sink
+use Rattle.labels.specs.declared.sweep.Sweep.{Sweep}
+use Rattle.labels.specs.Promise as Names
+use Rattle.refinement.specs.Ends.{swept, refused-at, sunk-answer, last-answer, after-all, Same-lengths, Parsed, Call-ends}
 use Rattle.refinement.proofs.Ends.{calls-end}
 use Rattle.call.specs.declared.Answer.{Answer}
 use Rattle.call.specs.Result.{answer-of, result-of}
-use Rattle.call.specs.Ended.{sunk-with, Sinks, Ended}
+use Rattle.call.specs.Ended.{refused-with, sunk-with, named-with, Answer-of-run, Ended}
 
 -- ---------------------------------------------------------------- the parse
 
-same-answer : (s : Sunk) (m : Machine) → answer-of (sunk-with s (m .reports .count) (m .pool .count)) ≡ sunk-answer s m
+same-sunk : (s : Sunk) (r p : ℕ) → answer-of (sunk-with s r p) ≡ sunk-answer s r p
 unfolding number-of place-of
-same-answer (Written t f) m = refl
-same-answer NoRoom m = refl
+same-sunk (Written t f) r p = refl
+same-sunk NoRoom r p = refl
+
+same-answer : (s : Sunk) (w : Sweep) (m : Machine) → answer-of (named-with s w (m .pool .count)) ≡ last-answer s w m
+same-answer s w m = go (eqb (w .refusal) 0)
+  where
+    go : (b : Bool) → answer-of (cond b (sunk-with s (w .written) (m .pool .count)) (refused-with (w .refusal) (w .place)))
+        ≡ cond b (sunk-answer s (w .written) (m .pool .count)) (refused-at (w .refusal) (w .place))
+    go true = same-sunk s (w .written) (m .pool .count)
+    go false = refl
 
 -- e: the entry. b: the buffers at first. m: the parser's machine after its run.
-module _ (e : Entry) (bytes tokens : List ℕ) (b : Buffers) (m : Machine) (ok : check-input bytes tokens ≡ accepted) (parsed : Parsed e tokens b m) (le : length (m .events .numbers) ≡ length (b .events)) where
-  ends : Call-ends e tokens b m
-  ends = calls-end e bytes tokens b m ok parsed
+module _ (setting : ℕ) (e : Entry) (bytes tokens : List ℕ) (b : Buffers) (m : Machine) (ok : check-input bytes tokens ≡ accepted) (parsed : Parsed e tokens b m)
+    (le : length (m .events .numbers) ≡ length (b .events)) where
+  ends : Call-ends setting e bytes tokens b m
+  ends = calls-end setting e bytes tokens b m ok parsed
 
   -- the events that the sink is given
   pub events-inside : eqb (m .refusal) 0 ≡ true → m .events .count ≤ length (m .events .numbers)
   events-inside q = omega (arith, ends .events-inside (eqb-true (m .refusal) 0 q))
 
-  module _ (lr : length (m .reports .numbers) ≡ length (b .reports)) (lp : length (m .pool .numbers) ≡ length (b .pool)) (k : ℕ) (root : k ≡ root-kind e) (x : Result)
-      (h : Ended (m .refusal) (m .place) k (m .events .count) (m .reports .count) (m .pool .count) tokens (after-sink m (b .trees) (b .errors)) x) where
-    by-refusal : (c : Bool) → eqb (m .refusal) 0 ≡ c → swept (answer-of (h .answer)) (after-sink m (h .trees) (h .errors)) ≡ parse e (tokens-of tokens) b
-    by-refusal false q =
-        ap (λ (y : Answer). swept (answer-of y) (after-sink m (h .trees) (h .errors))) (h .of-parse .stopped q)
-        ∙ ends .refused (eqb-false (m .refusal) 0 q) (after-sink m (h .trees) (h .errors)) (record { events = le; trees = h .trees-length; errors = h .errors-length; reports = lr; pool = lp })
-    by-refusal true q =
-        let s : Sinks k (m .events .count) (m .reports .count) (m .pool .count) tokens (m .events .numbers) (b .trees) (b .errors) (h .answer) (h .trees) (h .errors) = h .of-parse .sunk q in
-        ap (λ (y : Answer). swept (answer-of y) (after-sink m (h .trees) (h .errors))) (s .answer)
-        ∙ ap (λ (y : _). swept y (after-sink m (h .trees) (h .errors))) (same-answer (s .sunk) m)
-        ∙ ends .sunk (eqb-true (m .refusal) 0 q) (s .sunk) (h .trees) (h .errors) (h .trees-length) (h .errors-length)
-        (subst (λ (r : ℕ). Promise r tokens (take (m .events .count) (m .events .numbers)) (b .trees) (b .errors) (s .sunk) (h .trees) (h .errors)) root (s .promise))
+  -- the buffers after the run
+  abbrev run-buffers : Buffers
+  run-buffers = after-all (m .events .numbers) (b .trees) (b .errors) (m .reports .numbers) m
 
-    pub finished : x ≡ parse e (tokens-of tokens) b
+  module _ (lr : length (m .reports .numbers) ≡ length (b .reports)) (lp : length (m .pool .numbers) ≡ length (b .pool)) (k : ℕ) (root : k ≡ root-kind e) (x : Result)
+      (h : Ended (m .refusal) (m .place) k setting (m .events .count) (m .reports .count) (m .pool .count) bytes tokens run-buffers x) where
+    abbrev c : Buffers
+    c = after-all (h .events) (h .trees) (h .errors) (h .reports) m
+
+    same-lengths : Same-lengths b c
+    same-lengths = record { events = h .events-length ∙ le; trees = h .trees-length; errors = h .errors-length; reports = h .reports-length ∙ lr; pool = lp }
+
+    by-refusal : (q : Bool) → eqb (m .refusal) 0 ≡ q → swept (answer-of (h .answer)) c ≡ parse e setting bytes (tokens-of tokens) b
+    by-refusal false q =
+        ap (λ (y : Answer). swept (answer-of y) c) (h .of-parse .stopped q)
+        ∙ ends .refused (eqb-false (m .refusal) 0 q) c same-lengths
+    by-refusal true q =
+        let s : Answer-of-run k setting (m .events .count) (m .reports .count) (m .pool .count) bytes tokens (m .events .numbers) (b .trees) (b .errors) (m .reports .numbers) (h .answer) (h .trees) (h .errors) (h .reports) = h .of-parse .ran q in
+        ap (λ (y : Answer). swept (answer-of y) c) (s .answer)
+        ∙ ap (λ (y : _). swept y c) (same-answer (s .sunk) (s .names) m)
+        ∙ ends .ended (eqb-true (m .refusal) 0 q) (s .sunk) (s .names) (h .events) (h .trees) (h .errors) (h .reports)
+        (record {
+          events-length = h .events-length ∙ le;
+          trees-length = h .trees-length;
+          errors-length = h .errors-length;
+          reports-length = h .reports-length ∙ lr;
+          sunk = subst (λ (r : ℕ). Sink.Promise r tokens (take (m .events .count) (m .events .numbers)) (b .trees) (b .errors) (s .sunk) (h .trees) (h .errors)) root (s .placed);
+          named = subst (λ (r : ℕ). Names.Promise setting r bytes tokens (m .events .count / EVENT-ROW) (m .reports .count) (low (m .pool .count)) (m .events .numbers) (m .reports .numbers) (s .names) (h .reports)) root (s .named);
+        })
+
+    pub finished : x ≡ parse e setting bytes (tokens-of tokens) b
     finished = sym (h .once-cleared) ∙ by-refusal (eqb (m .refusal) 0) refl
 
 -- ---------------------------------------------------------------- around it
 
-module _ (e : Entry) (bytes tokens : List ℕ) (b : Buffers) (n : ℕ) (x : Result) (k : for e ≡ entry-of n) where
-  known-entry : x ≡ checked (check-input bytes tokens) e tokens b → x ≡ call n bytes tokens b
+module _ (e : Entry) (setting : ℕ) (bytes tokens : List ℕ) (b : Buffers) (n : ℕ) (x : Result) (k : for e ≡ entry-of n) where
+  known-entry : x ≡ checked (check-input bytes tokens) e setting bytes tokens b → x ≡ call n setting bytes tokens b
   unfolding call asked
-  known-entry h = h ∙ ap (λ (w : Asked). asked w bytes tokens b) k
+  known-entry h = h ∙ ap (λ (w : Asked). asked w setting bytes tokens b) k
 
   -- entries 1 to 4: causes 2 to 4, and the parse
-  pub refused-call : x ≡ checked (check-input bytes tokens) e tokens b → x ≡ call n bytes tokens b
+  pub refused-call : x ≡ checked (check-input bytes tokens) e setting bytes tokens b → x ≡ call n setting bytes tokens b
   refused-call h = known-entry h
 
-  pub sound-call : check-input bytes tokens ≡ accepted → x ≡ parse e (tokens-of tokens) b → x ≡ call n bytes tokens b
+  pub sound-call : check-input bytes tokens ≡ accepted → x ≡ parse e setting bytes (tokens-of tokens) b → x ≡ call n setting bytes tokens b
   unfolding checked
-  sound-call v h = known-entry (h ∙ sym (ap (λ (w : Verdict). checked w e tokens b) v))
+  sound-call v h = known-entry (h ∙ sym (ap (λ (w : Verdict). checked w e setting bytes tokens b) v))
 
 -- cause 1
-pub other-entry : (bytes tokens : List ℕ) (b : Buffers) (n : ℕ) (a : Answer) → unknown ≡ entry-of n → answer-of a ≡ refusal unknown-entry → result-of a b ≡ call n bytes tokens b
+pub other-entry : (setting : ℕ) (bytes tokens : List ℕ) (b : Buffers) (n : ℕ) (a : Answer) → unknown ≡ entry-of n → answer-of a ≡ refusal unknown-entry → result-of a b ≡ call n setting bytes tokens b
 unfolding call asked
-other-entry bytes tokens b n a k h = ap (λ (z : _). record { answer = z; buffers = b }) h ∙ ap (λ (w : Asked). asked w bytes tokens b) k
+other-entry setting bytes tokens b n a k h = ap (λ (z : _). record { answer = z; buffers = b }) h ∙ ap (λ (w : Asked). asked w setting bytes tokens b) k

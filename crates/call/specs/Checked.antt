@@ -14,4 +14,5 @@ use Rattle.call.specs.Result.{result-of}
 -- number 0 of an input that passes causes 2 to 4. Else the answer is the call's, and every buffer is left as it was.
 pub record Input (a : Answer) (bytes tokens : List ℕ) : Type 0 where
   pub sound : eqb (a .number) 0 ≡ true → check-input bytes tokens ≡ accepted
-  pub refused : eqb (a .number) 0 ≡ false → (e : Entry) (b : Buffers) → result-of a b ≡ Call.checked (check-input bytes tokens) e tokens b
+  pub refused : eqb (a .number) 0 ≡ false → (e : Entry) (setting : ℕ) (b : Buffers)
+      → result-of a b ≡ Call.checked (check-input bytes tokens) e setting bytes tokens b
