@@ -37,8 +37,8 @@ use Rattle.bounds.proofs.Events.{events-fit}
 use Rattle.bounds.proofs.TreeRows.{Kinded, tree, few-rows, few-children, rows-below}
 use Rattle.bounds.proofs.Written.{below-wider, below-zeros, All-coded, coded-left, reports-coded, pool-below, report-numbers-below, errors-most, errors-below}
 use Rattle.bounds.proofs.Places.{number-small, Placed, input-placed, Stopped, scan-stopped}
-use Rattle.bounds.proofs.StrictNames.{few-names, names-within, name-numbers-length, name-numbers-below, names-placed}
-use Rattle.laws.proofs.ReportNumbers.{report-numbers-length}
+use Rattle.bounds.proofs.StrictNames.{few-names, names-within, name-numbers-below, names-placed}
+use Rattle.laws.proofs.ReportNumbers.{report-numbers-length, name-numbers-length}
 
 -- ---------------------------------------------------------------- a run
 

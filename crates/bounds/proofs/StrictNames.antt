@@ -15,7 +15,7 @@ use Rattle.definitions.specs.Strict.{Name-at, keeps-rule, judges, token-count, 
 use Rattle.definitions.specs.Refusal.{place-of}
 use Rattle.definitions.specs.Call.{names-of}
 use Rattle.basics.proofs.Tests.{cond-all}
-use Rattle.laws.proofs.Tree.{leaves, width-leaves}
+use Rattle.laws.proofs.Tree.{width-leaves, tokens-leaves}
 use Rattle.laws.proofs.Leaves.{Right}
 use Rattle.laws.proofs.Lossless.{lossless}
 use Rattle.bounds.specs.Numbers.{Names-within, Below}
@@ -24,12 +24,6 @@ use Rattle.bounds.proofs.TreeRows.{some-token, tree, tree-right}
 use Rattle.bounds.proofs.Places.{Placed}
 
 -- ---------------------------------------------------------------- those of a tree
-
-pub tokens-leaves : (t : Tree) → token-count t ≡ length (leaves t)
-unfolding token-count leaves
-tokens-leaves nil = refl
-tokens-leaves (leaf k raw f) = simp length-append (omega (arith, tokens-leaves f))
-tokens-leaves (subtree k c f) = simp length-append (omega (arith, tokens-leaves c, tokens-leaves f))
 
 -- at most one for each token, since no leaf is without one
 judged-few : (under : Bool) (at byte : ℕ) (t : Tree) → Right t → length (judged under at byte t) ≤ token-count t
@@ -103,11 +97,6 @@ module _ (setting : ℕ) (e : Entry) (bytes : List ℕ) (ts : List Token) where
       (judged-within (length ts) (byte-count ts) false 0 0 (tree e ts) (tree-right e ts) (omega (arith, tree-tokens)) (omega (arith, tree-width))))
 
 -- ---------------------------------------------------------------- their report rows
-
-pub name-numbers-length : (first : ℕ) (l : List Name-at) → length (name-numbers first l) ≡ REPORT-ROW * length l
-unfolding name-numbers
-name-numbers-length first [] = refl
-name-numbers-length first (x ∷ l) = omega (arith, name-numbers-length first l)
 
 -- EVERY NUMBER IN THEM; m: a bound on the tokens, the bytes and the expectations
 pub name-numbers-below : (m n b first : ℕ) (l : List Name-at) → CODES ≤ m → n < m → b < m → first < m → Names-within n b l → Below m (name-numbers first l)

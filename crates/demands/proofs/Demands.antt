@@ -8,6 +8,9 @@ use Rattle.brackets.proofs.Theorem as brackets
 use Rattle.brackets.proofs.Partner as partner
 use Rattle.recovery.proofs.Local as recovery
 use Rattle.bounds.proofs.Numbers as bounds
+use Rattle.strict.proofs.AsItWas as old
+use Rattle.strict.proofs.Settings as settings
+use Rattle.strict.proofs.Exactly as exactly
 use Rattle.run_steps.proofs.Complete as complete
 use Rattle.turns.proofs.Turns as turns
 use Rattle.pending.proofs.Repeats as pending
@@ -25,6 +28,15 @@ demands =
             partner-missed = partner.missed;
           };
       promise-3 = record { stays-local = recovery.stays-local };
+      strict =
+          record {
+            as-it-was = old.as-it-was;
+            one-strict-setting = settings.one-strict-setting;
+            leaves-tree-alone = settings.leaves-tree-alone;
+            same-refusals = settings.same-refusals;
+            old-refusals = settings.old-refusals;
+            exactly = exactly.exactly;
+          };
       beside =
           record {
             limits = limits.limits;

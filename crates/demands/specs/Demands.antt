@@ -1,5 +1,5 @@
--- THE DEMANDS: the three promises, of every call of the definitions, and what holds beside them. Each line names the
--- file that words it. The exported routine answers as the definitions do (crates/dt_parser/src/lib.rt), so all of this
+-- THE DEMANDS: the three promises, of every call of the definitions in either setting, what the strict setting promises,
+-- and what holds beside them. Each line names the file that words it. The exported routine answers as the definitions do (crates/dt_parser/src/lib.rt), so all of this
 -- holds of it too.
 use Rattle.refusals.specs.Refusals.{Refusals}
 use Rattle.refusals.specs.Answered.{Answered}
@@ -10,6 +10,9 @@ use Rattle.brackets.specs.Brackets.{Brackets-proper}
 use Rattle.brackets.specs.Partner.{Partner-missed}
 use Rattle.recovery.specs.Recovery.{Stays-local}
 use Rattle.bounds.specs.Numbers.{Runs-bounded, Words-so-far, Numbers-fit}
+use Rattle.strict.specs.AsItWas.{As-it-was}
+use Rattle.strict.specs.Settings.{One-strict-setting, Leaves-tree-alone, Same-refusals, Old-refusals}
+use Rattle.strict.specs.Exactly.{Exactly}
 use Rattle.run_steps.specs.Signs.{Complete}
 use Rattle.turns.specs.Turns.{Turns}
 use Rattle.pending.specs.Pending.{Repeats}
@@ -21,7 +24,8 @@ pub record Promise-1 : Type 0 where
   -- counts are 0.
   -- refusals/specs/Answered.antt.
   pub answered : Answered
-  -- Each of 0 to 8 with its place, if and only if its line of document 01's table applies.
+  -- Each of 0 to 8 with its place, if and only if its line of document 01's table, or document 02's line on Names,
+  -- applies.
   -- refusals/specs/Refusals.antt, over Trace.antt.
   pub refusals : Refusals
 
@@ -45,18 +49,32 @@ pub record Promise-2 : Type 0 where
   pub partner-missed : Partner-missed
 
 -- PROMISE 3. Two accepted source files that agree after a semicolon ending a top-level property, node or directive
--- agree in all later parts, lexical errors and reports, once places are moved. recovery/specs/Recovery.antt, over
--- ResultRows.antt.
+-- agree in all later parts, lexical errors and reports, once places are moved: two calls in the same setting.
+-- recovery/specs/Recovery.antt, over ResultRows.antt.
 pub record Promise-3 : Type 0 where
   pub stays-local : Stays-local
+
+-- THE STRICT SETTING, document 02's request 1/14.
+pub record Strict : Type 0 where
+  -- Setting 0 is the call as it was before. strict/specs/AsItWas.antt.
+  pub as-it-was : As-it-was
+  -- Every other number is one setting. It leaves tree, lexical errors and the other reports alone; a refusal other than
+  -- 7 is the old setting's, and of the old setting's only 8 may become 7. strict/specs/Settings.antt.
+  pub one-strict-setting : One-strict-setting
+  pub leaves-tree-alone : Leaves-tree-alone
+  pub same-refusals : Same-refusals
+  pub old-refusals : Old-refusals
+  -- The reports that it adds are exactly those of the judged Names that break the rule, in leaf order, once each.
+  -- strict/specs/Exactly.antt.
+  pub exactly : Exactly
 
 -- What holds beside the promises, of the definitions and of all that the code can meet.
 pub record Beside : Type 0 where
   -- In an accepted call at most 64 calls are open and at most 256 expectations are pending, at every moment of a run.
   -- laws/specs/Limits.antt.
   pub limits : Limits
-  -- A run makes at most a fixed multiple of the number of its tokens, of events, reports, expectations and tree rows,
-  -- and no number of a call passes 32 bits.
+  -- A run makes at most a fixed multiple of the number of its tokens, of events, reports, expectations and tree rows; a
+  -- setting reports at most one Name for each token; and no number of a call passes 32 bits.
   -- bounds/specs/Numbers.antt.
   pub runs-bounded : Runs-bounded
   pub words-so-far : Words-so-far
@@ -75,4 +93,5 @@ pub record Demands : Type 0 where
   pub promise-1 : Promise-1
   pub promise-2 : Promise-2
   pub promise-3 : Promise-3
+  pub strict : Strict
   pub beside : Beside

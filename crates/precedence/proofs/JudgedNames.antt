@@ -12,7 +12,7 @@ use Rattle.definitions.specs.TokenKind as K
 use Rattle.definitions.specs.Token.{Token, byte-count}
 use Rattle.definitions.specs.Place.{Tree, nil, leaf, subtree, width}
 use Rattle.definitions.specs.Strict.{Name-at, keeps-rule, judges, token-count, judged, breaking, reported-names}
-use Rattle.laws.proofs.Tree.{leaves}
+use Rattle.laws.proofs.Tree.{leaves, tokens-leaves}
 use Rattle.precedence.proofs.Settle.{Each}
 
 -- this Name is among them
@@ -81,12 +81,6 @@ within n under at byte (subtree k c f) h =
 
 -- ---------------------------------------------------------------- inside a DtExpr
 
-counted : (t : Tree) → token-count t ≡ length (leaves t)
-unfolding token-count leaves
-counted nil = refl
-counted (leaf k ts f) = let h = counted f in omega (arith, length-append ts (leaves f))
-counted (subtree k c f) = let h = counted c in let g = counted f in omega (arith, length-append (leaves c) (leaves f))
-
 module _ (names : List Name-at) where
   -- each stands before the tree, is one of the tree's, or stands after it
   record Known (under : Bool) (at byte : ℕ) (t : Tree) : Type 0 where
@@ -128,7 +122,7 @@ module _ (names : List Name-at) where
 
   apart-cell : (at byte : ℕ) (c : Tree) (total : ℕ) (ts : List Token) → total ≡ at + length ts → Known false at byte c → Apart total ts c
   apart-cell at byte c total ts e h none n a low high =
-      ⊎-elim (λ g. omega arith) (⊎-elim (λ g. subst (Among n) (none at byte) g) (λ g. omega (arith, counted c))) (h .side n a)
+      ⊎-elim (λ g. omega arith) (⊎-elim (λ g. subst (Among n) (none at byte) g) (λ g. omega (arith, tokens-leaves c))) (h .side n a)
 
   apart : (under : Bool) (at byte : ℕ) (t : Tree) (total : ℕ) (ts : List Token) → total ≡ at + length ts → length (leaves t) ≤ length ts → Known under at byte t → Each (Apart total) ts t
   unfolding Each leaves judges
@@ -140,7 +134,7 @@ module _ (names : List Name-at) where
   apart under at byte (subtree k c f) total ts e g h =
       let x = length-append (leaves c) (leaves f) in
       let y = length-drop (length (leaves c)) ts in
-      let z = counted c in (
+      let z = tokens-leaves c in (
         λ d. apart-cell at byte c total ts e (subst (λ (j : ℕ). Known (judges j c) at byte c) d (in-children under at byte k c f h)),
         apart (judges k c) at byte c total ts e (omega arith) (in-children under at byte k c f h),
         apart under (at + token-count c) (byte + width c) f total (drop (length (leaves c)) ts) (omega arith) (omega arith) (past-node under at byte k c f h),

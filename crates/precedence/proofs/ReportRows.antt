@@ -72,11 +72,6 @@ nth-mark n b f (suc q) (x ∷ l) z (later h) =
 
 -- ---------------------------------------------------------------- the rows of Names
 
-pub name-numbers-length : (f : ℕ) (l : List Name-at) → length (name-numbers f l) ≡ REPORT-ROW * length l
-unfolding name-numbers
-name-numbers-length f [] = refl
-name-numbers-length f (n ∷ l) = let h = name-numbers-length f l in omega arith
-
 -- past the rows of all reports
 pub mark-past : (n b f q : ℕ) (l : List Report) (z : List ℕ) → mark-in (length l + q) (report-numbers n b f l ++ z) ≡ mark-in q z
 mark-past n b f q l z =

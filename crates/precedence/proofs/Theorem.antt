@@ -38,9 +38,9 @@ use Rattle.precedence.proofs.Settle.{Clean, Faulty, Settled, each-both}
 use Rattle.precedence.proofs.Placed.{entry-settled}
 use Rattle.precedence.proofs.JudgedNames.{Among, Apart, reported-apart}
 use Rattle.precedence.proofs.Unjudged.{none-judged, bare-between, bare-expr}
-use Rattle.precedence.proofs.ReportRows.{nth-less, nth-there, reported-nth, nth-reported, nth-mark, name-numbers-length, mark-past, name-mark}
+use Rattle.precedence.proofs.ReportRows.{nth-less, nth-there, reported-nth, nth-reported, nth-mark, mark-past, name-mark}
 use Rattle.precedence.proofs.TreeRows.{Found, find}
-use Rattle.laws.proofs.ReportNumbers.{report-numbers-length}
+use Rattle.laws.proofs.ReportNumbers.{report-numbers-length, name-numbers-length}
 
 -- ---------------------------------------------------------------- tokens by kind
 

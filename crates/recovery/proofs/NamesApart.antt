@@ -18,8 +18,8 @@ use Rattle.definitions.specs.Strict.{Name-at, keeps-rule, judges, token-count, 
 use Rattle.definitions.specs.Call.{run-entry, names-of}
 use Rattle.basics.proofs.Tests.{cond-all}
 use Rattle.laws.proofs.Skeleton.{bytes-append}
-use Rattle.laws.proofs.Tree.{leaves, leaves-beside, width-leaves}
-use Rattle.laws.proofs.NamesFound.{tokens-leaves, judged-beside}
+use Rattle.laws.proofs.Tree.{leaves, leaves-beside, width-leaves, tokens-leaves}
+use Rattle.laws.proofs.NamesFound.{judged-beside}
 use Rattle.recovery.proofs.Told.{All, all-append}
 use Rattle.recovery.proofs.Turns.{children}
 

@@ -18,10 +18,9 @@ use Rattle.definitions.specs.Strict.{Name-at, name-numbers, names-fit}
 use Rattle.definitions.specs.Call.{Buffers, untouched, cleared, sheets, written, kept, room-of, run-entry}
 use Rattle.laws.proofs.Decode.{rows-length}
 use Rattle.laws.proofs.LexicalErrors.{errors-length}
-use Rattle.bounds.proofs.StrictNames.{name-numbers-length}
 use Rattle.refusals.specs.Refusals.{entry-number, named, to-write, Tree-fits}
 use Rattle.refusals.specs.Answered.{Filled, Written, Returns}
-use Rattle.laws.proofs.ReportNumbers.{report-numbers-length}
+use Rattle.laws.proofs.ReportNumbers.{report-numbers-length, name-numbers-length}
 use Rattle.laws.proofs.Scan.{stops-never}
 
 -- ---------------------------------------------------------------- refusals

@@ -14,13 +14,8 @@ use Rattle.definitions.specs.Skeleton.{Report}
 use Rattle.definitions.specs.Report.{pushes, reports, report-numbers, pool}
 use Rattle.definitions.specs.Strict.{Name-at, reported-names, name-numbers}
 use Rattle.definitions.specs.Call.{sheets, run-entry, names-of}
-use Rattle.laws.proofs.ReportNumbers.{report-numbers-length}
+use Rattle.laws.proofs.ReportNumbers.{report-numbers-length, name-numbers-length}
 use Rattle.laws.proofs.Accepted.{written-by}
-
-pub name-numbers-length : (first : ℕ) (l : List Name-at) → length (name-numbers first l) ≡ REPORT-ROW * length l
-unfolding name-numbers
-name-numbers-length first [] = refl
-name-numbers-length first (n ∷ l) = let h = name-numbers-length first l in omega arith
 
 -- what a run reports, and its rows
 abbrev pub run-reports : Entry → List Token → List Report
