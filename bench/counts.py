@@ -11,7 +11,8 @@ FOLDER, CSV = sys.argv[1:]
 TUNABLES = "glibc.cpu.x86_rep_stosb_threshold=4000000000:glibc.cpu.x86_non_temporal_threshold=4000000000"
 FACTS = """input tokens bytes tree_rows lexical_errors reports expectations port_buffer_bytes
     bound_buffer_bytes""".split()
-COUNTED = ["port_instructions", "rust_copy_instructions", "rust_with_copy_instructions", "port_instructions_with_rep"]
+COUNTED = """port_instructions rust_copy_instructions rust_with_copy_instructions port_instructions_with_rep
+    strict_instructions""".split()
 HEAP = ["rust_peak_heap_bytes", "rust_kept_heap_bytes"]
 
 
@@ -26,9 +27,10 @@ def instructions(what, name, lengths, tunables=TUNABLES):
 
 def line(name):
     print(f"counts, {name}", file=sys.stderr)
-    lengths = output(f"{FOLDER}/bench", "lengths", name)
+    lengths = output(f"{FOLDER}/bench", "lengths", "port", name)
     counts = [instructions(what, name, lengths) for what in ("port", "copy", "rust")]
     counts.append(instructions("port", name, lengths, ""))
+    counts.append(instructions("strict", name, output(f"{FOLDER}/bench", "lengths", "strict", name)))
     heap = output(f"{FOLDER}/memory", name).split(",")[1:]
     return ",".join([output(f"{FOLDER}/bench", "facts", name), *counts, *heap])
 

@@ -33,8 +33,10 @@ class Times:
         return min(values), statistics.median(values), max(values)
 
     def comparable(self, name):
-        """False where the Rust's time is lost in that of the copy of its tokens, which is taken off."""
-        return all(run["rust_ns"] > run["rust_copy_ns"] / 2 for run in self.by_input[name])
+        """False where the Rust's time is lost in that of the copy of its tokens, which is taken off, and where there is
+        no time yet."""
+        runs = self.by_input.get(name, [])
+        return bool(runs) and all(run["rust_ns"] > run["rust_copy_ns"] / 2 for run in runs)
 
 
 class Counts:
@@ -46,6 +48,7 @@ class Counts:
         self.tokens = self["tokens"]
         self.family = self.name.split("-")[0]
         self.port = self["port_instructions"]
+        self.strict = self["strict_instructions"]
         self.rust = self["rust_with_copy_instructions"] - self["rust_copy_instructions"]
 
     def __getitem__(self, column):

@@ -1,5 +1,6 @@
 /*
- * How much stack a call takes: deeply nested inputs, parsed in a thread whose stack was filled with a pattern before.
+ * How much stack a call takes: deeply nested inputs, parsed in the strict setting, which does all that the old one
+ * does, in a thread whose stack was filled with a pattern before.
  * Prints a line for each input: its name, levels, the answer's number, bytes of stack.
  */
 #define _POSIX_C_SOURCE 200809L
@@ -63,9 +64,9 @@ static uint32_t entry;
 
 static void *parse(void *number)
 {
-    struct dt_answer a = dt_parse(entry, bytes, used, tokens, 2 * used, events, DT_EVENTS_FOR(used), trees,
-                                  DT_TREES_FOR(used), errors, DT_ERRORS_FOR(used), reports, DT_REPORTS_FOR(used), pool,
-                                  DT_POOL_FOR(used));
+    struct dt_answer a = dt_parse(entry, DT_SETTING_STRICT, bytes, used, tokens, 2 * used, events, DT_EVENTS_FOR(used),
+                                  trees, DT_TREES_FOR(used), errors, DT_ERRORS_FOR(used), reports, DT_REPORTS_FOR(used),
+                                  pool, DT_POOL_FOR(used));
     *(uint32_t *)number = a.number;
     return NULL;
 }

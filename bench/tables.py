@@ -32,6 +32,7 @@ def summary():
     ours, heap = c.each("port_buffer_bytes"), c.each("rust_peak_heap_bytes")
     return table([f"A board file of {n:,} tokens", "Port", "Rust", "Port / Rust"], [
         ["instructions per token", f"{c.port / n:,.0f}", f"{c.rust / n:,.0f}", f"{c.port / c.rust:.2f}"],
+        ["in the strict setting, which the Rust lacks", f"{c.strict / n:,.0f}", "", f"{c.strict / c.rust:.2f}"],
         [f"time, {plural(runs, 'run')} on {plural(len(MACHINES), 'machine')}", "", "", f"{best:.2f} to {worst:.2f}"],
         ["bytes of memory per token", f"{ours:,.0f} lent", f"{heap:,.0f} of heap", f"{ours / heap:.2f}"],
     ])
@@ -48,11 +49,11 @@ def ratios(name, column):
 
 
 def cost(rows):
-    head = ["Input", "Tokens", "Reports", "Port, instructions per token", "Rust", "Port / Rust", "By time: best",
-            "median", "worst", "median with freeing"]
+    head = ["Input", "Tokens", "Reports", "Port, instructions per token", "strict setting", "Rust", "Port / Rust",
+            "By time: best", "median", "worst", "median with freeing"]
     out = []
     for c in rows:
-        each = [f"{c.port / c.tokens:,.0f}", f"{c.rust / c.tokens:,.0f}", f"{c.port / c.rust:.2f}"]
+        each = [f"{x / c.tokens:,.0f}" for x in (c.port, c.strict, c.rust)] + [f"{c.port / c.rust:.2f}"]
         freed = ratios(c.name, "time_ratio_with_freeing")[1]
         out.append([c.name, f"{c.tokens:,}", f"{c['reports']:,}", *each, *ratios(c.name, "time_ratio"), freed])
     return table(head, out)

@@ -6,12 +6,12 @@ good=$("$here/../tools/static-library")
 work=$(mktemp -d)
 trap 'rm -rf "$work"' EXIT
 objcopy --redefine-sym dt_parse=dt_parse_good "$good" "$work/libdt_parser.a"
-gcc -std=c11 -O2 -fPIE -Wall -Wextra -c -o "$work/faults.o" "$here/faults/faults.c"
+gcc -std=c11 -O2 -fPIE -Wall -Wextra -Werror -c -o "$work/faults.o" "$here/faults/faults.c"
 ar r "$work/libdt_parser.a" "$work/faults.o"
 program=$(DT_PARSER_LIB=$work/libdt_parser.a "$here/build.sh")
 
 missed=0
-for fault in 0 $(seq 1 19); do
+for fault in 0 $(seq 1 30); do
     if DT_FAULT=$fault "$program" run --seed 7 --cases 300000 >"$work/out"; then found=no; else found=yes; fi
     case $fault-$found in
     0-no) echo "no fault: no difference in 300000 cases" ;;

@@ -1,5 +1,6 @@
 /*
- * The numbers of dt_parser.h as text: their names, and the texts that dt-tools has for them.
+ * The numbers of dt_parser.h as text: their names, and the texts that dt-tools has for them. The one message that
+ * dt-tools lacks, DT_MESSAGE_NOT_A_LABEL, has a text of the same style.
  *
  * Written by tools/make-names from docs/src, docs/01-scope.md and crates/definitions: change those, not this file.
  * tools/check-header compares.
@@ -282,6 +283,7 @@ static inline const char *dt_message_name(uint32_t message)
     case DT_MESSAGE_STRAY_CONTINUATION: return "stray-continuation";
     case DT_MESSAGE_AT_SIGN_IN_LABEL: return "at-sign-in-label";
     case DT_MESSAGE_UNCLOSED_NODE: return "unclosed-node";
+    case DT_MESSAGE_NOT_A_LABEL: return "not-a-label";
     default: return "?";
     }
 }
@@ -298,6 +300,7 @@ static inline const char *dt_message_text(uint32_t message)
     case DT_MESSAGE_STRAY_CONTINUATION: return "Preprocessor conditional continuation without preceding `#if` or equivalent.";
     case DT_MESSAGE_AT_SIGN_IN_LABEL: return "Label names can't contain an `@`";
     case DT_MESSAGE_UNCLOSED_NODE: return "Expected `}`, but reached end of input";
+    case DT_MESSAGE_NOT_A_LABEL: return "Label names can only hold letters, digits and underscores, and can't start with a digit";
     default: return "?";
     }
 }

@@ -1,9 +1,9 @@
 /*
  * The devicetree parser: one call that turns token rows into tree rows, lexical errors and reports.
  *
- * "Document 01" is docs/01-scope.md. What the call answers and what each buffer holds afterwards is
- * crates/definitions/specs/Call.antt. tools/check-header compares every number below with the definitions and the code.
- * The names and message texts of the numbers are in dt_names.h.
+ * "Document 01" is docs/01-scope.md; the strict setting is document 02's request 1/14. What the call answers and what
+ * each buffer holds afterwards is crates/definitions/specs/Call.antt. tools/check-header compares every number below
+ * with the definitions and the code. The names and message texts of the numbers are in dt_names.h.
  *
  * Link: libdt_parser.a (`rt staticlib dt_parser` writes target/staticlib/libdt_parser.a), x86-64 Linux. It needs the C
  * library (memcpy, memmove, memset) and nothing else. `tools/install-library PREFIX` puts library, headers and a file
@@ -26,9 +26,9 @@
  * new minor number says that something a caller relies on has changed, for instance how many numbers a row has.
  */
 #define DT_PARSER_VERSION_MAJOR 0
-#define DT_PARSER_VERSION_MINOR 2
+#define DT_PARSER_VERSION_MINOR 3
 #define DT_PARSER_VERSION_PATCH 0
-/* As one number, to compare in an #if: 0.2.0 is 200, 1.2.3 is 10203. */
+/* As one number, to compare in an #if: 0.3.0 is 300, 1.2.3 is 10203. */
 #define DT_PARSER_VERSION (10000 * DT_PARSER_VERSION_MAJOR + 100 * DT_PARSER_VERSION_MINOR + DT_PARSER_VERSION_PATCH)
 
 #ifdef __cplusplus
@@ -43,6 +43,12 @@ enum dt_entry {
     DT_ENTRY_CELLS = 4            /* the cells between < and > */
 };
 
+/*
+ * What is reported: the second argument of dt_parse. 0 is the old setting, and any other number the strict one, which
+ * adds the reports of DT_MESSAGE_NOT_A_LABEL and changes nothing else of an accepted call.
+ */
+enum dt_setting { DT_SETTING_OLD = 0, DT_SETTING_STRICT = 1 };
+
 /* The answer's number: 0, or why the call was refused. Tried in this order; of 5 to 7 the first that a run meets. */
 enum dt_refusal {
     DT_ACCEPTED = 0,
@@ -52,7 +58,8 @@ enum dt_refusal {
     DT_REFUSAL_BAD_TEXT = 4,       /* a fixed text is not there; place: that row */
     DT_REFUSAL_TOO_DEEP = 5,       /* a 65th open call or a 257th expectation; place: the mark */
     DT_REFUSAL_NO_EVENT_ROOM = 6,  /* the next event does not fit; place: the mark */
-    DT_REFUSAL_NO_REPORT_ROOM = 7, /* a report or its expectations do not fit; place: the mark */
+    DT_REFUSAL_NO_REPORT_ROOM = 7, /* a report or its expectations do not fit; place: the mark. A report of the strict
+                                      setting is tried after the run, whether the tree fits or not: so before 8 */
     DT_REFUSAL_NO_TREE_ROOM = 8    /* the tree or the lexical errors do not fit; place 0 */
 };
 
@@ -94,7 +101,8 @@ enum dt_report_column {
     DT_COL_REPORT_MESSAGE = 0,     /* enum dt_message */
     DT_COL_REPORT_START = 1,
     DT_COL_REPORT_END = 2,
-    DT_COL_REPORT_MARK = 3,        /* the index just past the last token taken */
+    DT_COL_REPORT_MARK = 3,        /* the index just past the last token taken; of DT_MESSAGE_NOT_A_LABEL that of the
+                                      name's first token */
     DT_COL_REPORT_POOL_FIRST = 4,  /* index of its first expectation in the pool */
     DT_COL_REPORT_POOL_COUNT = 5,  /* how many it has; 0 unless the message is 1 */
     DT_COL_REPORT_HINT = 6,        /* enum dt_hint */
@@ -286,7 +294,9 @@ enum dt_message {
     DT_MESSAGE_UNMATCHED_ENDIF = 4,     /* an #endif without its #if */
     DT_MESSAGE_STRAY_CONTINUATION = 5,  /* an #elif or #else without its #if */
     DT_MESSAGE_AT_SIGN_IN_LABEL = 6,    /* an @ in a label */
-    DT_MESSAGE_UNCLOSED_NODE = 7        /* end of input in an open node; the label is its { */
+    DT_MESSAGE_UNCLOSED_NODE = 7,       /* end of input in an open node; the label is its { */
+    DT_MESSAGE_NOT_A_LABEL = 8          /* strict setting only: a label that is not of letters, digits and underscores,
+                                           or starts with a digit. After all other reports, in the order of the text */
 };
 
 enum dt_hint {
@@ -312,14 +322,15 @@ enum dt_expected {
 };
 
 /*
- * Lengths that suffice for n token rows (crates/bounds has the proof), so that 6, 7 and 8 cannot be met. Files without
- * errors need far less; a caller may start small and grow what refusal 6 (events), 7 (reports, pool) or 8 (trees,
- * errors) names, as examples/c/parse.c does.
+ * Lengths that suffice for n token rows in either setting (crates/bounds has the proof), so that 6, 7 and 8 cannot be
+ * met: 3 n + 1 reports of the run, and in the strict setting at most n more. Files without errors need far less; a
+ * caller may start small and grow what refusal 6 (events), 7 (reports, pool) or 8 (trees, errors) names, as
+ * examples/c/parse.c does.
  */
 #define DT_EVENTS_FOR(n) (DT_ROW_EVENT * (13 * (size_t)(n) + 1))
 #define DT_TREES_FOR(n) (DT_ROW_TREE * (6 * (size_t)(n) + 1))
 #define DT_ERRORS_FOR(n) (DT_ROW_ERROR * (size_t)(n))
-#define DT_REPORTS_FOR(n) (DT_ROW_REPORT * (3 * (size_t)(n) + 1))
+#define DT_REPORTS_FOR(n) (DT_ROW_REPORT * (4 * (size_t)(n) + 1))
 #define DT_POOL_FOR(n) (768 * (size_t)(n) + 256)
 
 /* Counts are 0 unless number is DT_ACCEPTED. */
@@ -333,6 +344,8 @@ struct dt_answer {
 };
 
 /*
+ * entry           what is parsed, of enum dt_entry
+ * setting         of enum dt_setting: 0, or any other number for the strict setting
  * bytes, tokens   the input and its token rows (kind, length): each length at least 1, their sum bytes_len. Only read.
  * events          work space
  * trees           tree rows
@@ -354,7 +367,7 @@ struct dt_answer {
  * neither is written. Pointers to numbers must be aligned as uint32_t is. Where a length is 0 the pointer is not used
  * and may be NULL.
  */
-struct dt_answer dt_parse(uint32_t entry,
+struct dt_answer dt_parse(uint32_t entry, uint32_t setting,
                           const uint8_t *bytes, size_t bytes_len,
                           const uint32_t *tokens, size_t tokens_len,
                           uint32_t *events, size_t events_len,

@@ -3,7 +3,7 @@ use dt_parser_layout::{ENTRY_CELLS, ENTRY_SOURCE_FILE, MAX_TOKENS};
 use oracle::case::{Case, Rows};
 use oracle::generate;
 use oracle::token::TokenKind::{
-    self, Comma, Equals, Ident, LParen, Number, Plus, RCurly, RParen, Semicolon, Whitespace,
+    self, Colon, Comma, Equals, Ident, LParen, Number, Plus, RCurly, RParen, Semicolon, Whitespace,
 };
 use oracle::token::{self, LexError};
 
@@ -38,6 +38,14 @@ const PATTERNS: &[(&str, u32, Tokens, Tokens, Tokens)] = &[
     ("novalue", ENTRY_SOURCE_FILE, &[], &[(Ok(Ident), "a"), (Ok(Equals), "="), (Ok(Semicolon), ";")], &[]),
     // one name
     ("name", ENTRY_SOURCE_FILE, &[], &[(Ok(Ident), "a"), (Ok(Comma), ",")], &[(Ok(Semicolon), ";")]),
+    // a label that the strict setting reports for every fourth token
+    (
+        "labels",
+        ENTRY_SOURCE_FILE,
+        &[],
+        &[(Ok(Number), "1"), (Ok(Colon), ":"), (Ok(Ident), "a"), (Ok(Semicolon), ";")],
+        &[],
+    ),
     // trivia alone
     ("blanks", ENTRY_SOURCE_FILE, &[], &[(Ok(Whitespace), " ")], &[]),
 ];

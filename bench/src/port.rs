@@ -1,4 +1,4 @@
-//! The static library, with lent buffers that just suffice.
+//! The static library in one of its settings, with lent buffers that just suffice.
 use crate::input::Input;
 use dt_parser_ffi::Answer;
 use dt_parser_layout::{
@@ -7,19 +7,20 @@ use dt_parser_layout::{
 };
 
 pub struct Port {
+    setting: u32,
     buffers: [Vec<u32>; BUFFERS],
 }
 
 impl Port {
-    pub fn with(lengths: Lengths) -> Port {
-        Port { buffers: lengths.map(|n| vec![0x5A5A5A5A; n]) }
+    pub fn with(setting: u32, lengths: Lengths) -> Port {
+        Port { setting, buffers: lengths.map(|n| vec![0x5A5A5A5A; n]) }
     }
 
     /// The fewest numbers of each buffer with which the input is accepted.
-    pub fn fitting(input: &Input) -> Port {
+    pub fn fitting(setting: u32, input: &Input) -> Port {
         let mut lengths = [64; BUFFERS];
         let answer = loop {
-            let answer = Port::with(lengths).parse(input);
+            let answer = Port::with(setting, lengths).parse(input);
             let short: &[usize] = match answer.number {
                 ACCEPTED => break answer,
                 REFUSAL_NO_EVENT_ROOM => &[EVENTS],
@@ -36,13 +37,13 @@ impl Port {
         while refused < accepted {
             let events = (refused + accepted) / 2;
             lengths[EVENTS] = ROW_EVENT * events;
-            match Port::with(lengths).parse(input).number {
+            match Port::with(setting, lengths).parse(input).number {
                 ACCEPTED => accepted = events,
                 _ => refused = events + 1,
             }
         }
         lengths[EVENTS] = ROW_EVENT * accepted;
-        Port::with(lengths)
+        Port::with(setting, lengths)
     }
 
     pub fn lengths(&self) -> Lengths {
@@ -54,6 +55,6 @@ impl Port {
     }
 
     pub fn parse(&mut self, input: &Input) -> Answer {
-        dt_parser_ffi::parse(input.entry, input.text.as_bytes(), &input.tokens, &mut self.buffers)
+        dt_parser_ffi::parse(input.entry, self.setting, input.text.as_bytes(), &input.tokens, &mut self.buffers)
     }
 }

@@ -17,9 +17,9 @@ static int grow(struct buffer *b)
 
 static struct dt_answer call(const struct input *in, const struct buffer *b)
 {
-    return dt_parse(in->entry, in->bytes, in->bytes_len, (const uint32_t *)in->tokens, DT_ROW_TOKEN * in->tokens_count,
-                    b[EVENTS].numbers, b[EVENTS].len, b[TREES].numbers, b[TREES].len, b[ERRORS].numbers, b[ERRORS].len,
-                    b[REPORTS].numbers, b[REPORTS].len, b[POOL].numbers, b[POOL].len);
+    return dt_parse(in->entry, in->setting, in->bytes, in->bytes_len, (const uint32_t *)in->tokens,
+                    DT_ROW_TOKEN * in->tokens_count, b[EVENTS].numbers, b[EVENTS].len, b[TREES].numbers, b[TREES].len,
+                    b[ERRORS].numbers, b[ERRORS].len, b[REPORTS].numbers, b[REPORTS].len, b[POOL].numbers, b[POOL].len);
 }
 
 /* Starts with no room at all, and grows what a refusal names. The bounds DT_..._FOR end this for every input. */

@@ -6,6 +6,7 @@
 
 struct input {
     uint32_t entry;
+    uint32_t setting;
     const uint8_t *bytes;
     size_t bytes_len;
     const struct dt_token_row *tokens;

@@ -1,13 +1,15 @@
 /*
  * Parses token rows and prints the tree, the devicetree nodes, the lexical errors and the reports.
  *
- *   print_tree              a small input of its own
- *   print_tree FILE.rows    a file of token rows (docs/TOKENS.md), as ../board.rows
+ *   print_tree                       a small input of its own
+ *   print_tree [--strict] FILE.rows  a file of token rows (docs/TOKENS.md), as ../board.rows; --strict: in the setting
+ *                                    that also reports labels which the Devicetree Specification does not allow
  */
 #include "dt_names.h"
 #include "print.h"
 #include "rowsfile.h"
 #include <stdlib.h>
+#include <string.h>
 
 static int fail(const char *what)
 {
@@ -44,11 +46,12 @@ static int run_example(void)
         {DT_TOKEN_LANGLE, 1}, {DT_TOKEN_LPAREN, 1}, {DT_TOKEN_NUMBER, 1}, {DT_TOKEN_MINUS, 1},
         {DT_TOKEN_NUMBER, 1}, {DT_TOKEN_RPAREN, 1}, {DT_TOKEN_RANGLE, 1},
     };
-    struct input in = {DT_ENTRY_SOURCE_FILE, bytes, sizeof bytes, tokens, sizeof tokens / sizeof *tokens};
+    struct input in = {DT_ENTRY_SOURCE_FILE, DT_SETTING_OLD, bytes, sizeof bytes, tokens,
+                       sizeof tokens / sizeof *tokens};
     return run(&in);
 }
 
-static int run_file(const char *name)
+static int run_file(const char *name, uint32_t setting)
 {
     struct rowsfile file;
     const char *wrong;
@@ -61,7 +64,7 @@ static int run_file(const char *name)
     if (wrong) {
         status = fail(wrong);
     } else {
-        struct input in = {file.entry, file.bytes, file.bytes_len, file.tokens, file.tokens_count};
+        struct input in = {file.entry, setting, file.bytes, file.bytes_len, file.tokens, file.tokens_count};
         status = run(&in);
     }
     free(file.tokens);
@@ -71,7 +74,8 @@ static int run_file(const char *name)
 
 int main(int argc, char **argv)
 {
-    if (argc > 2)
-        return fail("usage: print_tree [FILE.rows]");
-    return argc == 1 ? run_example() : run_file(argv[1]);
+    int strict = argc == 3 && strcmp(argv[1], "--strict") == 0;
+    if (argc > 2 + strict)
+        return fail("usage: print_tree [[--strict] FILE.rows]");
+    return argc == 1 ? run_example() : run_file(argv[argc - 1], strict ? DT_SETTING_STRICT : DT_SETTING_OLD);
 }

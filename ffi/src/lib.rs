@@ -38,6 +38,7 @@ pub struct Lent {
 unsafe extern "C" {
     fn dt_parse(
         entry: u32,
+        setting: u32,
         bytes: *const u8,
         bytes_len: usize,
         tokens: *const u32,
@@ -60,11 +61,12 @@ unsafe extern "C" {
 /// # Safety
 /// Each buffer is as long as it says, and none lies over another or over the input.
 #[inline]
-pub unsafe fn parse_lent(entry: u32, bytes: &[u8], tokens: &[u32], lent: [Lent; BUFFERS]) -> Answer {
+pub unsafe fn parse_lent(entry: u32, setting: u32, bytes: &[u8], tokens: &[u32], lent: [Lent; BUFFERS]) -> Answer {
     let [events, trees, errors, reports, pool] = lent;
     unsafe {
         dt_parse(
             entry,
+            setting,
             bytes.as_ptr(),
             bytes.len(),
             tokens.as_ptr(),
@@ -85,8 +87,8 @@ pub unsafe fn parse_lent(entry: u32, bytes: &[u8], tokens: &[u32], lent: [Lent; 
 
 /// One call over five vectors, each as long as what is lent.
 #[inline]
-pub fn parse(entry: u32, bytes: &[u8], tokens: &[u32], buffers: &mut [Vec<u32>; BUFFERS]) -> Answer {
+pub fn parse(entry: u32, setting: u32, bytes: &[u8], tokens: &[u32], buffers: &mut [Vec<u32>; BUFFERS]) -> Answer {
     let lent = buffers.each_mut().map(|b| Lent { numbers: b.as_mut_ptr(), len: b.len() });
     // Safety: five vectors of those lengths, borrowed alone
-    unsafe { parse_lent(entry, bytes, tokens, lent) }
+    unsafe { parse_lent(entry, setting, bytes, tokens, lent) }
 }

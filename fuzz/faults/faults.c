@@ -58,6 +58,68 @@ static void damage_rows(struct dt_answer *a, struct dt_tree_row *trees, struct d
     }
 }
 
+static void swap_reports(struct dt_report_row *a, struct dt_report_row *b)
+{
+    struct dt_report_row first = *a;
+    *a = *b;
+    *b = first;
+}
+
+/* Whether the rows have an outermost ParseError around these bytes. */
+static int in_parse_error(const struct dt_tree_row *trees, size_t tree_count, uint32_t start, uint32_t end)
+{
+    size_t row = 1, byte = 0;
+    while (row < tree_count) {
+        int error = trees[row].class_ == DT_CLASS_NODE && trees[row].kind == DT_NODE_PARSE_ERROR;
+        size_t after = byte + trees[row].width;
+        if (error && byte <= start && end <= after)
+            return 1;
+        if (error || trees[row].class_ == DT_CLASS_LEAF) {
+            byte = after;
+            row = dt_after_subtree(trees, tree_count, row);
+        } else {
+            row++;
+        }
+    }
+    return 0;
+}
+
+/* Faults of the reports that the strict setting adds. */
+static void damage_labels(struct dt_answer *a, const struct dt_tree_row *trees, struct dt_report_row *reports,
+                          const uint8_t *bytes)
+{
+    struct dt_report_row *last = reports + a->report_count - 1;
+    static const struct dt_report_row none;
+    int drop = 0;
+    switch (fault()) {
+    case 20: /* the mark is the &'s */
+        if (last->mark > 2)
+            last->mark--;
+        break;
+    case 21: /* the first pool place is 0 */
+        last->pool_first = 0;
+        break;
+    case 22: /* not in leaf order */
+        if (a->report_count > 1 && last[-1].message == DT_MESSAGE_NOT_A_LABEL)
+            swap_reports(last - 1, last);
+        break;
+    case 23: /* only the first byte is judged */
+        drop = bytes[last->start] < '0' || bytes[last->start] > '9';
+        break;
+    case 24: /* not under a ParseError */
+        drop = in_parse_error(trees, a->tree_count, last->start, last->end);
+        break;
+    case 25: /* before the others */
+        if (a->report_count > 1)
+            swap_reports(reports, last);
+        break;
+    }
+    if (drop) {
+        *last = none;
+        a->report_count--;
+    }
+}
+
 /* Faults of a refusal. */
 static void damage_refusal(struct dt_answer *a, uint32_t *trees, size_t trees_len, uint32_t *pool, size_t pool_len)
 {
@@ -109,23 +171,49 @@ static void damage_rest(const struct dt_answer *a, uint32_t *events, size_t even
     }
 }
 
-struct dt_answer dt_parse(uint32_t entry, const uint8_t *bytes, size_t bytes_len, const uint32_t *tokens,
-                          size_t tokens_len, uint32_t *events, size_t events_len, uint32_t *trees, size_t trees_len,
-                          uint32_t *errors, size_t errors_len, uint32_t *reports, size_t reports_len, uint32_t *pool,
-                          size_t pool_len)
+/* Faults of the setting. */
+static uint32_t damaged_setting(uint32_t setting)
 {
-    struct dt_answer a;
+    switch (fault()) {
+    case 26: /* cut to a byte */
+        return setting & 255;
+    case 27: /* only 1 is strict */
+        return setting == DT_SETTING_STRICT;
+    case 28: /* always strict */
+        return DT_SETTING_STRICT;
+    default:
+        return setting;
+    }
+}
+
+struct dt_answer dt_parse(uint32_t entry, uint32_t setting, const uint8_t *bytes, size_t bytes_len,
+                          const uint32_t *tokens, size_t tokens_len, uint32_t *events, size_t events_len,
+                          uint32_t *trees, size_t trees_len, uint32_t *errors, size_t errors_len, uint32_t *reports,
+                          size_t reports_len, uint32_t *pool, size_t pool_len)
+{
+    struct dt_answer a, old;
+    setting = damaged_setting(setting);
     if (fault() == 15)
         entry &= 255; /* a cut number */
     if (fault() == 16 && tokens_len > 1 && tokens[DT_COL_TOKEN_KIND] > 255)
         ((uint32_t *)tokens)[DT_COL_TOKEN_KIND] &= 255; /* a cut kind */
-    a = dt_parse_good(entry, bytes, bytes_len, tokens, tokens_len, events, events_len, trees, trees_len, errors,
-                      errors_len, reports, reports_len, pool, pool_len);
+    a = dt_parse_good(entry, setting, bytes, bytes_len, tokens, tokens_len, events, events_len, trees, trees_len,
+                      errors, errors_len, reports, reports_len, pool, pool_len);
+    if ((fault() == 29 || fault() == 30) && setting && a.number == DT_REFUSAL_NO_REPORT_ROOM) {
+        old = dt_parse_good(entry, DT_SETTING_OLD, bytes, bytes_len, tokens, tokens_len, events, events_len, trees,
+                            trees_len, errors, errors_len, reports, reports_len, pool, pool_len);
+        if (fault() == 29 && old.number == DT_REFUSAL_NO_TREE_ROOM)
+            return old; /* 8 before a label's 7 */
+        if (fault() == 30 && old.number == DT_ACCEPTED)
+            return old; /* a label's report that does not fit is left out */
+    }
     if (a.number != DT_ACCEPTED) {
         damage_refusal(&a, trees, trees_len, pool, pool_len);
         return a;
     }
-    if (a.report_count)
+    if (a.report_count && ((struct dt_report_row *)reports)[a.report_count - 1].message == DT_MESSAGE_NOT_A_LABEL)
+        damage_labels(&a, (struct dt_tree_row *)trees, (struct dt_report_row *)reports, bytes);
+    else if (a.report_count)
         damage_report((struct dt_report_row *)reports + a.report_count - 1);
     damage_rest(&a, events, events_len, reports, reports_len, pool, pool_len);
     damage_rows(&a, (struct dt_tree_row *)trees, (struct dt_error_row *)errors, pool);

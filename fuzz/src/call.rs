@@ -1,10 +1,12 @@
 //! One call: its input as a line of text and back.
-use dt_parser_layout::{COL_TOKEN_KIND, COL_TOKEN_LENGTH, Lengths, ROW_TOKEN};
+use crate::strict::is_strict;
+use dt_parser_layout::{COL_TOKEN_KIND, COL_TOKEN_LENGTH, Lengths, ROW_TOKEN, SETTING_OLD};
 use oracle::case::{Rows, esc, parse_rows, rows_words, unesc};
 
 #[derive(Clone, Default, PartialEq)]
 pub struct Call {
     pub entry: u32,
+    pub setting: u32,
     /// Kind and length of each token, as the call takes them; the count may be odd.
     pub tokens: Vec<u32>,
     pub bytes: Vec<u8>,
@@ -22,7 +24,7 @@ pub fn flat(rows: &Rows) -> Vec<u32> {
 
 impl Call {
     /// `ENTRY caps N,N,N,N,N toks KIND[:LENGTH],.. BYTES`, as the oracle reads it too; with an odd count of token
-    /// numbers `.. nums N,.. BYTES`.
+    /// numbers `.. nums N,.. BYTES`. In the strict setting `ENTRY setting N caps ..`, which the oracle does not have.
     pub fn line(&self) -> String {
         let lengths: Vec<_> = self.lengths.iter().map(usize::to_string).collect();
         let (word, rows) = if self.tokens.len().is_multiple_of(ROW_TOKEN) {
@@ -30,7 +32,8 @@ impl Call {
         } else {
             ("nums", self.tokens.iter().map(u32::to_string).collect::<Vec<_>>().join(","))
         };
-        format!("{} caps {} {word} {rows} {}", self.entry, lengths.join(","), esc(&self.bytes))
+        let setting = if is_strict(self.setting) { format!(" setting {}", self.setting) } else { String::new() };
+        format!("{}{setting} caps {} {word} {rows} {}", self.entry, lengths.join(","), esc(&self.bytes))
     }
 
     /// The whole rows, as the oracle takes them.
@@ -40,8 +43,13 @@ impl Call {
     }
 
     pub fn read(line: &str) -> Option<Call> {
-        let mut words = line.splitn(6, ' ');
-        let entry = words.next()?.parse().ok()?;
+        let (entry, rest) = line.split_once(' ')?;
+        let entry = entry.parse().ok()?;
+        let (setting, rest) = match rest.strip_prefix("setting ") {
+            Some(rest) => rest.split_once(' ').and_then(|(n, rest)| Some((n.parse().ok()?, rest)))?,
+            None => (SETTING_OLD, rest),
+        };
+        let mut words = rest.splitn(5, ' ');
         if words.next()? != "caps" {
             return None;
         }
@@ -53,6 +61,6 @@ impl Call {
             "toks" => flat(&parse_rows(rows).filter(|r| r.iter().all(|x| x.1 <= u32::MAX as usize))?),
             _ => return None,
         };
-        Some(Call { entry, tokens, bytes, lengths })
+        Some(Call { entry, setting, tokens, bytes, lengths })
     }
 }

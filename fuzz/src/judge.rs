@@ -1,16 +1,22 @@
-//! One call against the Rust: the answer and every buffer whole.
+//! One call against the Rust, in the strict setting with the reports that it lacks: the answer and every buffer whole.
 use crate::buffers::{Buffers, Held};
 use crate::call::Call;
+use crate::strict::{self, Broken, is_strict};
 use crate::unchanged::Unchanged;
 use dt_parser_ffi::{self as ffi, Answer};
-use dt_parser_layout::{ACCEPTED, Lengths, REFUSAL_BAD_TEXT, REFUSAL_UNKNOWN_ENTRY};
+use dt_parser_layout::{
+    ACCEPTED, BUFFERS, Lengths, POOL, REFUSAL_BAD_TEXT, REFUSAL_UNKNOWN_ENTRY, REPORTS, ROW_REPORT, TREES,
+};
 use oracle::checks::refusal;
-use oracle::doc01::Run;
+use oracle::doc01::{Run, first_misfit};
 use oracle::token::ascii;
 
 #[derive(Default)]
 pub struct Judge {
-    pub run: Run,
+    run: Run,
+    /// The labels of the run that the strict setting reports, and what an accepted call then writes.
+    pub broken: Vec<Broken>,
+    strict_rows: [Vec<u32>; BUFFERS],
     pub buffers: Buffers,
     tokens: Vec<u32>,
     bytes: Vec<u8>,
@@ -59,25 +65,55 @@ impl Judge {
         // the Rust takes text, and a row may cut a character
         let (entry, rows, text) = (call.entry, &call.rows(), &ascii(&call.bytes));
         let parsed = self.run.of(entry, rows, text, false).map_err(Wrong::Panic)?;
+        self.add_labels(&call.bytes);
         let unchanged = also.then(|| Unchanged::of(&self.run, &parsed, entry, rows, text));
         if unchanged == Some(Unchanged::Differs) { Err(Wrong::Oracle) } else { Ok((Input::Parsed, unchanged)) }
     }
 
-    pub fn expected(&self, input: Input, lengths: Lengths) -> Answer {
+    fn add_labels(&mut self, bytes: &[u8]) {
+        let rows = &self.run.rows;
+        self.broken = strict::broken(bytes, &rows[TREES]);
+        self.strict_rows.clone_from(rows);
+        let reports = self.broken.iter().flat_map(|name| name.report(rows[POOL].len()));
+        self.strict_rows[REPORTS].extend(reports)
+    }
+
+    /// What an accepted call writes to each buffer.
+    pub fn rows(&self, setting: u32) -> &[Vec<u32>; BUFFERS] {
+        if is_strict(setting) { &self.strict_rows } else { &self.run.rows }
+    }
+
+    /// Numbers that a call needs of each buffer.
+    pub fn needs(&self, setting: u32) -> Lengths {
+        let mut needs = self.run.needs();
+        if is_strict(setting) {
+            needs[REPORTS] += ROW_REPORT * self.broken.len()
+        }
+        needs
+    }
+
+    /// Causes 5 to 8: the first that the run meets, then a label's report that does not fit, then the tree.
+    fn misfit(&self, setting: u32, lengths: Lengths) -> Option<(u32, usize)> {
+        let others = self.run.rows[REPORTS].len();
+        let label = || strict::misfit(&self.broken, others, lengths[REPORTS]).filter(|_| is_strict(setting));
+        first_misfit(lengths).or_else(label).or_else(|| self.run.refusal(lengths))
+    }
+
+    pub fn expected(&self, input: Input, call: &Call) -> Answer {
         let refused = match input {
             Input::Bad(number, place) => Some((number, place)),
-            Input::Parsed => self.run.refusal(lengths),
+            Input::Parsed => self.misfit(call.setting, call.lengths),
         };
         match refused {
             Some((number, place)) => Answer { number, place, ..Answer::default() },
-            None => Answer::accepted(self.run.rows.each_ref().map(Vec::len)),
+            None => Answer::accepted(self.rows(call.setting).each_ref().map(Vec::len)),
         }
     }
 
     /// What the buffers must hold beside that answer.
-    pub fn held(&self, expected: Answer) -> Held<'_> {
+    pub fn held(&self, setting: u32, expected: Answer) -> Held<'_> {
         match expected.number {
-            ACCEPTED => Held::Rows(&self.run.rows),
+            ACCEPTED => Held::Rows(self.rows(setting)),
             n if is_early(n) => Held::AsItWas,
             _ => Held::Zero,
         }
@@ -85,19 +121,19 @@ impl Judge {
 
     /// Calls the library over garbage that starts with that number, and compares.
     pub fn call(&mut self, call: &Call, input: Input, garbage: u32) -> Verdict {
-        let expected = self.expected(input, call.lengths);
+        let expected = self.expected(input, call);
         self.buffers.fill(call.lengths, garbage);
         self.tokens.clone_from(&call.tokens);
         self.bytes.clone_from(&call.bytes);
         let lent = self.buffers.lent(garbage & 2 == 0);
         // Safety: each lent buffer has its length, and they are five vectors
-        let given = unsafe { ffi::parse_lent(call.entry, &self.bytes, &self.tokens, lent) };
+        let given = unsafe { ffi::parse_lent(call.entry, call.setting, &self.bytes, &self.tokens, lent) };
         let wrong = if given != expected {
             Some(Wrong::Answer)
         } else if self.tokens != call.tokens || self.bytes != call.bytes {
             Some(Wrong::Input)
         } else {
-            self.buffers.wrong(self.held(expected)).map(Wrong::Buffer)
+            self.buffers.wrong(self.held(call.setting, expected)).map(Wrong::Buffer)
         };
         Verdict { expected, given, wrong }
     }

@@ -1,4 +1,5 @@
-//! The static library against the Rust, in one process. ../docs/FUZZING.md says what is compared and how it is run.
+//! The static library against the Rust, and in the strict setting against a plain reading of its request, in one
+//! process. ../docs/FUZZING.md says what is compared and how it is run.
 mod buffers;
 mod call;
 mod exact;
@@ -9,6 +10,8 @@ mod run;
 mod seen;
 mod show;
 mod shrink;
+mod small;
+mod strict;
 mod tally;
 mod unchanged;
 
@@ -18,6 +21,8 @@ const USAGE: &str = "fuzz run [--seed N] [--cases N] [--first N] [--unchanged N]
     compares; --unchanged N: in one of N cases with the unchanged Rust too (default 1, 0: never)
 fuzz repeat 'LINE'
     one call, as a difference prints it
+fuzz small [--tokens N]
+    every list of up to N tokens (default 4) that labels and references are made of
 fuzz exact [--seed N] [--cases N]
     calls over memory that was never written, each buffer as long as it says: for valgrind";
 
@@ -39,6 +44,7 @@ fn command(args: &[String]) -> bool {
             unchanged: number("--unchanged", 1),
         }),
         Some("exact") => exact::run(seed, number("--cases", 2_000)),
+        Some("small") => small::run(number("--tokens", 4) as u32),
         Some("repeat") if args.len() == 2 => run::repeat(&args[1]),
         _ => {
             eprintln!("{USAGE}");

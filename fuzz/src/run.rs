@@ -1,11 +1,12 @@
 //! The loop over random calls, and one call again.
 use crate::call::Call;
 use crate::judge::{Input, Judge};
-use crate::make::{Maker, lengths};
+use crate::make::{self, Maker, lengths};
 use crate::rng::Rng;
+use crate::strict::is_strict;
 use crate::tally::Tally;
 use crate::{show, shrink};
-use dt_parser_layout::{ACCEPTED, Lengths, ROW_TOKEN};
+use dt_parser_layout::{ACCEPTED, Lengths, ROW_TOKEN, SETTING_OLD};
 
 pub struct Plan {
     pub seed: u64,
@@ -25,14 +26,13 @@ pub fn run(plan: &Plan) -> bool {
         let mut r = Rng::of_case(plan.seed, i);
         let way = maker.call(&mut r, &mut call);
         let also = plan.unchanged > 0 && i % plan.unchanged == 0;
+        call.setting = SETTING_OLD;
         let good = judge.input(&call, also).is_ok_and(|(input, unchanged)| {
-            call.lengths = chosen(&mut r, &judge, input, &call);
-            let verdict = judge.call(&call, input, r.next() as u32);
-            tally.case(way, &call, verdict.expected, unchanged);
-            if verdict.expected.number == ACCEPTED {
-                tally.seen.add(&judge.run.rows)
-            }
-            verdict.wrong.is_none()
+            tally.case(way, &call, unchanged);
+            [SETTING_OLD, make::strict_setting(&mut r)].into_iter().all(|setting| {
+                call.setting = setting;
+                one(&mut r, &mut judge, &mut tally, input, &mut call)
+            })
         });
         if !good {
             return differs(plan, i, &mut judge, call);
@@ -44,10 +44,29 @@ pub fn run(plan: &Plan) -> bool {
     true
 }
 
+/// The call in its setting, over buffers that are drawn for it.
+fn one(r: &mut Rng, judge: &mut Judge, tally: &mut Tally, input: Input, call: &mut Call) -> bool {
+    call.lengths = chosen(r, judge, input, call);
+    let verdict = judge.call(call, input, r.next() as u32);
+    tally.call(call, verdict.expected, judge.broken.len());
+    if verdict.expected.number == ACCEPTED {
+        tally.seen.add(judge.rows(call.setting))
+    }
+    verdict.wrong.is_none()
+}
+
 pub fn chosen(r: &mut Rng, judge: &Judge, input: Input, call: &Call) -> Lengths {
     match input {
         Input::Bad(..) => lengths::small(r),
-        Input::Parsed => lengths::around(r, judge.run.needs(), call.tokens.len() / ROW_TOKEN),
+        Input::Parsed => {
+            let labels = if is_strict(call.setting) { judge.broken.len() } else { 0 };
+            let needs = judge.needs(call.setting);
+            if labels > 0 && r.p(40) {
+                lengths::short_of_labels(r, needs, labels)
+            } else {
+                lengths::around(r, needs, call.tokens.len() / ROW_TOKEN)
+            }
+        }
     }
 }
 

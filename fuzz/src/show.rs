@@ -30,8 +30,8 @@ fn rows(i: usize, numbers: &[u32]) {
     }
 }
 
-fn expected_buffer(judge: &Judge, v: &Verdict, i: usize) {
-    match judge.held(v.expected) {
+fn expected_buffer(judge: &Judge, setting: u32, v: &Verdict, i: usize) {
+    match judge.held(setting, v.expected) {
         Held::AsItWas => println!("  {}: as it was", NAMES[i]),
         Held::Rows(all) if i != EVENTS => rows(i, &all[i]),
         _ => println!("  {}: all zero", NAMES[i]),
@@ -54,7 +54,7 @@ pub fn both(judge: &mut Judge, call: &Call) -> bool {
                 _ => {}
             }
             println!("expected buffers:");
-            (0..BUFFERS).for_each(|i| expected_buffer(judge, &v, i));
+            (0..BUFFERS).for_each(|i| expected_buffer(judge, call.setting, &v, i));
             println!("the library's buffers, whole:");
             (0..BUFFERS).for_each(|i| rows(i, judge.buffers.get(i)))
         }

@@ -93,7 +93,7 @@ fn simpler(judge: &mut Judge, call: &mut Call) {
 /// Buffers with room, or that fit exactly; else each buffer alone that can be so.
 fn room(judge: &mut Judge, call: &mut Call) {
     let needs = match judge.input(call, false) {
-        Ok((Input::Parsed, _)) => judge.run.needs(),
+        Ok((Input::Parsed, _)) => judge.needs(call.setting),
         Ok((Input::Bad(..), _)) => [0; BUFFERS],
         Err(_) => return,
     };

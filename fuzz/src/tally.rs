@@ -2,6 +2,7 @@
 use crate::call::Call;
 use crate::make;
 use crate::seen::Seen;
+use crate::strict::is_strict;
 use crate::unchanged::Unchanged;
 use dt_parser_ffi::Answer;
 use dt_parser_layout::{ANSWERS, ENTRY_CELLS, ROW_TOKEN};
@@ -12,11 +13,14 @@ pub struct Tally {
     said: Instant,
     pub cases: u64,
     tokens: u64,
-    by_number: [u64; ANSWERS],
+    /// In the old setting, and in the strict one.
+    by_number: [[u64; ANSWERS]; 2],
     /// At 0 those with an unknown entry.
     by_entry: [u64; ENTRY_CELLS as usize + 1],
     by_way: Vec<u64>,
-    reports: u64,
+    reports: [u64; 2],
+    /// Calls of the strict setting in which it has something to report.
+    with_labels: u64,
     unchanged: u64,
     panics: u64,
     pub seen: Seen,
@@ -33,20 +37,27 @@ impl Tally {
             by_number: Default::default(),
             by_entry: Default::default(),
             by_way: vec![0; make::ways().count()],
-            reports: 0,
+            reports: Default::default(),
+            with_labels: 0,
             unchanged: 0,
             panics: 0,
             seen: Seen::default(),
         }
     }
 
-    pub fn case(&mut self, way: usize, call: &Call, answer: Answer, unchanged: Option<Unchanged>) {
+    /// A call, its answer, and how many labels break the rule.
+    pub fn call(&mut self, call: &Call, answer: Answer, labels: usize) {
+        let strict = is_strict(call.setting);
+        self.by_number[strict as usize][answer.number as usize] += 1;
+        self.reports[strict as usize] += answer.report_count as u64;
+        self.with_labels += (strict && labels > 0) as u64
+    }
+
+    pub fn case(&mut self, way: usize, call: &Call, unchanged: Option<Unchanged>) {
         self.cases += 1;
         self.tokens += (call.tokens.len() / ROW_TOKEN) as u64;
-        self.by_number[answer.number as usize] += 1;
         self.by_entry[if call.entry <= ENTRY_CELLS { call.entry as usize } else { 0 }] += 1;
         self.by_way[way] += 1;
-        self.reports += answer.report_count as u64;
         self.unchanged += (unchanged == Some(Unchanged::Same)) as u64;
         self.panics += (unchanged == Some(Unchanged::Panics)) as u64
     }
@@ -66,15 +77,14 @@ impl Tally {
 
     pub fn write(&self) {
         let seconds = self.start.elapsed().as_secs_f64();
-        println!("{} cases in {seconds:.0} s, {:.0} cases/s", self.cases, self.rate());
-        println!(
-            "tokens: {} ({:.1} a case); reports: {}",
-            self.tokens,
-            self.tokens as f64 / self.cases as f64,
-            self.reports
-        );
+        let [old, strict] = self.reports;
+        println!("{} cases in {seconds:.0} s, {:.0} cases/s, each in both settings", self.cases, self.rate());
+        println!("tokens: {} ({:.1} a case)", self.tokens, self.tokens as f64 / self.cases as f64);
+        println!("reports: {old} in the old setting, {strict} in the strict one");
+        println!("with labels to report: {}", self.with_labels);
         let list = |v: &[u64]| v.iter().enumerate().map(|(i, n)| format!(" {i}: {n}")).collect::<Vec<_>>().join(",");
-        println!("answers by number:{}", list(&self.by_number));
+        println!("answers by number, old setting:{}", list(&self.by_number[0]));
+        println!("answers by number, strict setting:{}", list(&self.by_number[1]));
         println!("by entry (0: none):{}", list(&self.by_entry));
         for (name, n) in make::ways().zip(&self.by_way) {
             println!("  {name}: {n}")

@@ -24,13 +24,13 @@ pub const ROW_REPORT: usize = 9;
 /// Numbers in a row of each buffer. An expectation in the pool is one number.
 pub const ROW: Lengths = [ROW_EVENT, ROW_TREE, ROW_ERROR, ROW_REPORT, 1];
 
-/// What crates/bounds proves to be enough for n tokens, whatever they are.
+/// What crates/bounds proves to be enough for n tokens, whatever they are, in either setting.
 pub fn bound(n: usize) -> Lengths {
     let mut rows = [0; BUFFERS];
     rows[EVENTS] = 13 * n + 1;
     rows[TREES] = 6 * n + 1;
     rows[ERRORS] = n;
-    rows[REPORTS] = 3 * n + 1;
+    rows[REPORTS] = 4 * n + 1;
     rows[POOL] = 768 * n + 256;
     std::array::from_fn(|i| ROW[i] * rows[i])
 }
@@ -65,6 +65,10 @@ pub const ENTRY_REFERENCE_NOAMP: u32 = 2;
 pub const ENTRY_PROP_VALUES: u32 = 3;
 pub const ENTRY_CELLS: u32 = 4;
 
+/// What is reported; any other number is the strict setting too.
+pub const SETTING_OLD: u32 = 0;
+pub const SETTING_STRICT: u32 = 1;
+
 /// Limits of a call: over the first two it is refused with 2, over the others with 5.
 pub const MAX_BYTES: usize = 1_048_576;
 pub const MAX_TOKEN_NUMBERS: usize = 131_072;
@@ -98,6 +102,8 @@ pub const MESSAGE_UNMATCHED_ENDIF: u32 = 4;
 pub const MESSAGE_STRAY_CONTINUATION: u32 = 5;
 pub const MESSAGE_AT_SIGN_IN_LABEL: u32 = 6;
 pub const MESSAGE_UNCLOSED_NODE: u32 = 7;
+/// Of the strict setting alone.
+pub const MESSAGE_NOT_A_LABEL: u32 = 8;
 
 /// A report's hint.
 pub const HINT_NONE: u32 = 0;

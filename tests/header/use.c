@@ -106,8 +106,8 @@ static void check_all_names(void)
     check_names(dt_lex_error_name, DT_TOKEN_FIRST_LEX_ERROR, DT_TOKEN_LAST_LEX_ERROR, "dt_lex_error_name");
     check_names(dt_lex_error_text, DT_TOKEN_FIRST_LEX_ERROR, DT_TOKEN_LAST_LEX_ERROR, "dt_lex_error_text");
     check_names(dt_node_name, DT_NODE_SOURCE_FILE, DT_NODE_MACRO_ARGUMENT, "dt_node_name");
-    check_names(dt_message_name, DT_MESSAGE_EXPECTED, DT_MESSAGE_UNCLOSED_NODE, "dt_message_name");
-    check_names(dt_message_text, DT_MESSAGE_EXPECTED, DT_MESSAGE_UNCLOSED_NODE, "dt_message_text");
+    check_names(dt_message_name, DT_MESSAGE_EXPECTED, DT_MESSAGE_NOT_A_LABEL, "dt_message_name");
+    check_names(dt_message_text, DT_MESSAGE_EXPECTED, DT_MESSAGE_NOT_A_LABEL, "dt_message_text");
     check_names(dt_hint_name, DT_HINT_NONE, DT_HINT_MISSING_LEFT_SIDE, "dt_hint_name");
     check_names(dt_hint_text, DT_HINT_NONE, DT_HINT_MISSING_LEFT_SIDE, "dt_hint_text");
     expect(strcmp(dt_expected_name(DT_EXPECTED_END), "End") == 0, "dt_expected_name");
@@ -115,6 +115,7 @@ static void check_all_names(void)
     expect(strcmp(dt_expected_text(100), "?") == 0 && strcmp(dt_expected_text(109), "?") == 0, "dt_expected_text");
     expect(strcmp(dt_label_text(DT_MESSAGE_UNCLOSED_NODE), "") != 0, "dt_label_text");
     expect(strcmp(dt_label_text(DT_MESSAGE_EXPECTED), "") == 0, "dt_label_text");
+    expect(strcmp(dt_label_text(DT_MESSAGE_NOT_A_LABEL), "") == 0, "dt_label_text");
 }
 
 int main(void)

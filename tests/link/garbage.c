@@ -1,4 +1,5 @@
-/* Calls with random numbers in place of entry, bytes, token rows and buffer lengths, and calls at the limits of size.
+/* Calls with random numbers in place of entry, setting, bytes, token rows and buffer lengths, and calls at the limits
+   of size.
    Causes 1 to 3 are worked out here again; of every call it is checked what the buffers hold afterwards. */
 #include "../random.h"
 #include "lent.h"
@@ -48,13 +49,45 @@ static void check_root(const char *name, const struct dt_tree_row *trees, size_t
         fail(name, "the root's children are not side by side");
 }
 
+static int is_digit(uint8_t byte)
+{
+    return byte >= '0' && byte <= '9';
+}
+
+/* Letters, digits and underscores, and no digit first. */
+static int keeps_rule(const uint8_t *bytes, size_t start, size_t end)
+{
+    for (size_t i = start; i < end; i++)
+        if (bytes[i] != '_' && !is_digit(bytes[i]) && ((bytes[i] | 32) < 'a' || (bytes[i] | 32) > 'z'))
+            return 0;
+    return !is_digit(bytes[start]);
+}
+
+/* Reports of labels are in the strict setting alone, after all others, of bytes that are no label. */
+static void check_labels(const char *name, uint32_t setting, const struct dt_report_row *reports, struct dt_answer a,
+                         const uint8_t *bytes, size_t n)
+{
+    for (size_t i = 0; i < a.report_count; i++) {
+        const struct dt_report_row *r = &reports[i];
+        int is_label = r->message == DT_MESSAGE_NOT_A_LABEL;
+        if (is_label && (setting == DT_SETTING_OLD || r->start >= r->end || r->end > n || r->pool_count != 0 ||
+                         r->pool_first != a.expectation_count || r->hint != DT_HINT_NONE || r->label_end != 0))
+            fail(name, "a report of a label that cannot be");
+        if (is_label && i + 1 < a.report_count && (r[1].message != r->message || r[1].mark <= r->mark))
+            fail(name, "the reports of labels are not the last ones, in order");
+        if (is_label && keeps_rule(bytes, r->start, r->end))
+            fail(name, "a report of a label that keeps the rule");
+    }
+}
+
 /* Number, place, counts and buffers agree with one another and with causes 1 to 3. Gives the number. */
 static uint32_t checked(const char *name, uint32_t entry, const uint8_t *bytes, size_t n, const uint32_t *tokens,
                         size_t t, struct buffer *b)
 {
     size_t place, used[BUFFERS];
     uint32_t number = early(entry, n, tokens, t, &place);
-    struct dt_answer a = call(entry, bytes, n, tokens, t, b);
+    uint32_t setting = below(2) ? DT_SETTING_OLD : below(2) ? DT_SETTING_STRICT : below(4294967295u);
+    struct dt_answer a = call(entry, setting, bytes, n, tokens, t, b);
     counted(a, used);
     if (number ? a.number != number || a.place != place : a.number && a.number <= DT_REFUSAL_BAD_ROW)
         fail(name, "not the refusal of causes 1 to 3");
@@ -62,6 +95,8 @@ static uint32_t checked(const char *name, uint32_t entry, const uint8_t *bytes, 
         fail(name, "a number or a place that there is not");
     if (a.number && (a.tree_count || a.error_count || a.report_count || a.expectation_count))
         fail(name, "a refused call that counts something");
+    if (a.number == DT_ACCEPTED)
+        check_labels(name, setting, (const struct dt_report_row *)b[REPORTS].numbers, a, bytes, n);
     if (a.number == DT_ACCEPTED)
         check_root(name, (const struct dt_tree_row *)b[TREES].numbers, a.tree_count, n);
     for (int i = 0; i < BUFFERS; i++) {

@@ -49,12 +49,12 @@ static void give_back(const char *name, struct buffer b)
     free(b.numbers - 1);
 }
 
-static struct dt_answer call(uint32_t entry, const uint8_t *bytes, size_t n, const uint32_t *tokens, size_t t,
-                             struct buffer *b)
+static struct dt_answer call(uint32_t entry, uint32_t setting, const uint8_t *bytes, size_t n, const uint32_t *tokens,
+                             size_t t, struct buffer *b)
 {
-    return dt_parse(entry, bytes, n, tokens, t, b[EVENTS].numbers, b[EVENTS].length, b[TREES].numbers, b[TREES].length,
-                    b[ERRORS].numbers, b[ERRORS].length, b[REPORTS].numbers, b[REPORTS].length, b[POOL].numbers,
-                    b[POOL].length);
+    return dt_parse(entry, setting, bytes, n, tokens, t, b[EVENTS].numbers, b[EVENTS].length, b[TREES].numbers,
+                    b[TREES].length, b[ERRORS].numbers, b[ERRORS].length, b[REPORTS].numbers, b[REPORTS].length,
+                    b[POOL].numbers, b[POOL].length);
 }
 
 /* How many numbers of each buffer an answer counts. */

@@ -5,10 +5,12 @@
 
 static const char LETTERS[] = "-txre";
 
-/* One case: its head (token numbers, bytes, entry, five lengths), token numbers and bytes. */
+/* One case: its head (token numbers, bytes, entry, setting, five lengths), token numbers and bytes. */
+enum { HEAD = 4 + BUFFERS };
+
 struct one {
     char name[64];
-    size_t head[8];
+    size_t head[HEAD];
     uint32_t *tokens;
     uint8_t *bytes;
 };
@@ -17,7 +19,7 @@ static int read_one(FILE *f, struct one *c)
 {
     if (fscanf(f, "%63s", c->name) != 1)
         return 0;
-    for (int i = 0; i < 8; i++)
+    for (int i = 0; i < HEAD; i++)
         if (fscanf(f, "%zu", &c->head[i]) != 1)
             fail(c->name, "a number is missing");
     c->tokens = malloc((c->head[0] + 1) * sizeof *c->tokens);
@@ -34,7 +36,7 @@ static struct dt_answer call_one(const struct one *c, const size_t *lengths, str
 {
     for (int i = 0; i < BUFFERS; i++)
         b[i] = lend(lengths[i]);
-    return call(c->head[2], c->bytes, c->head[1], c->tokens, c->head[0], b);
+    return call((uint32_t)c->head[2], (uint32_t)c->head[3], c->bytes, c->head[1], c->tokens, c->head[0], b);
 }
 
 static void print(const struct one *c, struct dt_answer a, struct buffer *b)
@@ -83,7 +85,7 @@ static void at_the_edge(const struct one *c, struct dt_answer a, const struct bu
     size_t used[BUFFERS], lengths[BUFFERS];
     counted(a, used);
     memcpy(lengths, used, sizeof used);
-    lengths[EVENTS] = c->head[3];
+    lengths[EVENTS] = c->head[4];
     again(c, lengths, DT_ACCEPTED, used, first);
     for (int i = TREES; i < BUFFERS; i++) {
         if (used[i] == 0)
@@ -102,7 +104,7 @@ int main(int argc, char **argv)
     struct one c;
     while (read_one(f, &c)) {
         struct buffer b[BUFFERS];
-        struct dt_answer a = call_one(&c, c.head + 3, b);
+        struct dt_answer a = call_one(&c, c.head + 4, b);
         print(&c, a, b);
         if (a.number == DT_ACCEPTED)
             at_the_edge(&c, a, b);

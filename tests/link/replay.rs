@@ -43,10 +43,10 @@ fn main() -> std::io::Result<()> {
         let line = std::str::from_utf8(&list[start..end]).expect("a line of text");
         let (name, numbers) = line.split_once(' ').expect("a name");
         let numbers: Vec<u32> = numbers.split(' ').map(|n| n.parse().expect("a number")).collect();
-        let (head, tokens) = numbers.split_at(8);
+        let (head, tokens) = numbers.split_at(4 + BUFFERS);
         let bytes = &list[end + 1..end + 1 + head[1] as usize];
-        let mut buffers: Buffers = std::array::from_fn(|i| vec![LENT; head[3 + i] as usize]);
-        let a = parse(head[2], bytes, tokens, &mut buffers);
+        let mut buffers: Buffers = std::array::from_fn(|i| vec![LENT; head[4 + i] as usize]);
+        let a = parse(head[2], head[3], bytes, tokens, &mut buffers);
         print(&mut out, name, a, &buffers)?;
         start = end + 1 + bytes.len() + 1;
     }

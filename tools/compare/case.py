@@ -1,5 +1,5 @@
-"""A call of the parser: entry, token rows over their bytes, and the lengths of the lent buffers; and document 01's
-numbers. They are written out here once, and not read from the definitions or the header: an answer that is expected
+"""A call of the parser: entry, setting, token rows over their bytes, and the lengths of the lent buffers; and document
+01's numbers. They are written out here once, and not read from the definitions or the header: an answer that is expected
 must not follow these where they are changed."""
 from typing import NamedTuple, Optional
 
@@ -63,6 +63,8 @@ class Case(NamedTuple):
     odd: Optional[int] = None
     # bytes after the last row's
     extra: bytes = b""
+    # 0 is the old setting, any other number the strict one
+    setting: int = 0
 
     def numbers(self):
         flat = [n for row in self.rows for n in (row.kind, row.length)]
@@ -126,14 +128,14 @@ def unescaped(text):
     return text.encode().decode("unicode_escape").encode("latin-1")
 
 
-def case_of(entry, numbers, data, lengths=(0, 0, 0, 0, 0)):
+def case_of(entry, numbers, data, lengths=(0, 0, 0, 0, 0), setting=0):
     """The case with these token numbers; where lengths and bytes disagree, rows have what bytes there are."""
     rows, start = [], 0
     for kind, length in zip(numbers[::2], numbers[1::2]):
         rows.append(Row(kind, length, data[start : start + length]))
         start = min(start + length, len(data))
     odd = numbers[-1] if len(numbers) % TOKEN_ROW else None
-    return Case(entry, tuple(rows), tuple(lengths), odd, data[start:])
+    return Case(entry, tuple(rows), tuple(lengths), odd, data[start:], setting)
 
 
 def read_line(line):
@@ -144,6 +146,6 @@ def read_line(line):
 
 
 def case_line(case, lengths):
-    """The case as a line for the oracle, with these buffer lengths ("-" is room enough)."""
+    """The case as a line for the oracle, with these buffer lengths ("-" is room enough). The oracle has no setting."""
     rows = ",".join("%d:%d" % (row.kind, row.length) for row in case.rows)
     return "%d caps %s toks %s %s" % (case.entry, ",".join(map(str, lengths)), rows, escaped(case.data()))

@@ -40,7 +40,7 @@ def antt_list(numbers):
 
 def statement(name, case, result, proof):
     lists = [antt_list(l) for l in [list(case.data()), case.numbers()] + case.lent()]
-    call = "call %d %s %s (lent %s)" % (case.entry, lists[0], lists[1], " ".join(lists[2:]))
+    call = "call %d %d %s %s (lent %s)" % (case.entry, case.setting, lists[0], lists[1], " ".join(lists[2:]))
     after = " ".join(antt_list(b) for b in result.buffers)
     answer = "result %s (lent %s)" % (" ".join(map(str, result.answer)), after)
     return "%s : %s ≡ %s\nunfolding call\n%s = %s\n\n" % (name, call, answer, name, proof)

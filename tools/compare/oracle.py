@@ -1,7 +1,9 @@
 """The expected result of a case. Causes 1 to 4 and the buffers' final contents are document 01's table, written here in
-a few lines; everything else is the answer of oracle/ (`oracle doc01 any`: the patched copy of the Rust)."""
+a few lines; everything else is the answer of oracle/ (`oracle doc01 any`: the patched copy of the Rust), in the strict
+setting with the reports that strict.py adds."""
 from compare.case import ERROR_ROW, ERRORS, EVENT_ROW, MOST_BYTES, MOST_NUMBERS, REPORT_ROW, TOKEN_ROW, TREE_ROW
 from compare.case import Result, case_line
+from compare.strict import with_labels
 from oracle_program import Program
 
 # room enough for all; the same except for the tree, so that the answer is short
@@ -81,7 +83,10 @@ class Oracle(Program):
     def results(self, cases):
         """The expected results."""
         early = [self.refused_early(c) for c in cases]
-        parsed = iter(self.ask([c for c, e in zip(cases, early) if e is None], None))
+        good = [c for c, e in zip(cases, early) if e is None]
+        strict = [c for c in good if c.setting]
+        full = dict(zip(strict, self.ask(strict)))
+        parsed = iter([with_labels(c, own, full.get(c)) for c, own in zip(good, self.ask(good, None))])
         return [result(c, e, None if e else next(parsed)) for c, e in zip(cases, early)]
 
 

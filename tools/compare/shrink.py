@@ -24,10 +24,12 @@ def plainer(case):
         yield case._replace(odd=None)
     if case.extra:
         yield case._replace(extra=b"")
+    if case.setting > 1:
+        yield case._replace(setting=1)
 
 
 def size(case):
-    return len(case.rows), len(case.numbers()), len(case.data()), sum(case.lengths)
+    return len(case.rows), len(case.numbers()), len(case.data()), sum(case.lengths), case.setting
 
 
 def with_room(cases, oracle):

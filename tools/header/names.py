@@ -15,6 +15,10 @@ MESSAGES = {
     "at-sign-in-label": (GRAMMAR, "eat_node_or_prop_prefix", 0),
     "unclosed-node": (GRAMMAR, "dt_node_body", 0),
 }
+# Messages that the Rust lacks, with a text in the style of its own.
+ADDED_MESSAGES = {
+    "not-a-label": "Label names can only hold letters, digits and underscores, and can't start with a digit",
+}
 HINTS = {
     "unnamed-property": (GRAMMAR, "item", 0),
     "unnamed-node": (GRAMMAR, "item", 1),
@@ -29,7 +33,8 @@ EXPECTED = "msg-expected"
 NO_HINT = "no-hint"
 
 TOP = """/*
- * The numbers of dt_parser.h as text: their names, and the texts that dt-tools has for them.
+ * The numbers of dt_parser.h as text: their names, and the texts that dt-tools has for them. The one message that
+ * dt-tools lacks, DT_MESSAGE_NOT_A_LABEL, has a text of the same style.
  *
  * Written by tools/make-names from docs/src, docs/01-scope.md and crates/definitions: change those, not this file.
  * tools/check-header compares.
@@ -206,8 +211,8 @@ class Names:
 
     def reports(self):
         codes = self.repo.spec(SPECS + "Errors.antt")
-        texts = {"expected": first_word(self.repo), **message_texts(self.repo)}
-        messages = {"expected": chosen(codes, [EXPECTED])[EXPECTED], **chosen(codes, MESSAGES)}
+        texts = {"expected": first_word(self.repo), **message_texts(self.repo), **ADDED_MESSAGES}
+        messages = {"expected": chosen(codes, [EXPECTED])[EXPECTED], **chosen(codes, [*MESSAGES, *ADDED_MESSAGES])}
         hints = {"none": chosen(codes, [NO_HINT])[NO_HINT], **chosen(codes, HINTS)}
         yield function("dt_message_name", "message", "A report's message, of enum dt_message.",
                        self.cases("DT_MESSAGE_", messages))

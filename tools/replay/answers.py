@@ -1,6 +1,8 @@
-"""The oracle's answers to named cases: document 01's, and the unchanged Rust's beside them."""
+"""The oracle's answers to named cases: document 01's, and the unchanged Rust's beside them. In the strict setting they
+have the reports of labels by a plain reading (compare/strict.py)."""
 from compare.case import case_line
 from compare.oracle import ROOM, Parsed
+from compare.strict import with_labels
 
 from replay.record import answer
 from replay.texts import Words
@@ -26,7 +28,12 @@ def ask(oracle, named):
     early = [oracle.refused_early(case) for _, case in named]
     given = [case_line(case, case.lengths) for (_, case), e in zip(named, early) if not e]
     blocks = iter(oracle.blocks(["doc01", "any"], given))
-    return [Answer(name, case, e, [] if e else next(blocks)) for (name, case), e in zip(named, early)]
+    answers = [Answer(name, case, e, [] if e else next(blocks)) for (name, case), e in zip(named, early)]
+    strict = [a for a in answers if a.case.setting and not a.early]
+    for a, full in zip(strict, oracle.ask([a.case for a in strict])):
+        a.parsed = with_labels(a.case, a.parsed, full)
+        a.number = a.parsed.number
+    return answers
 
 
 def against_the_rust(root, oracle, answers):

@@ -1,8 +1,11 @@
-"""The list of cases: written ones, every kind in many places, deep ones, boards, and random ones from a seed."""
+"""The list of cases: written ones, every kind in many places, deep ones, boards, random ones from a seed, and random
+ones in the strict setting."""
 import os
+import random
 
 from compare.case import ROW, escaped, read_line
 from compare.draw import Drawer
+from compare.strict import drawn
 
 from replay import deep, kinds
 
@@ -18,7 +21,7 @@ def sized(case, lengths):
 class Chooser:
     def __init__(self, oracle, folder, seed):
         self.oracle, self.folder = oracle, folder
-        self.drawer = Drawer(oracle, seed)
+        self.drawer, self.seed = Drawer(oracle, seed), seed
 
     def lines(self, lines):
         """Cases from the oracle's lines, each lent what its line says or just what it needs."""
@@ -67,6 +70,11 @@ class Chooser:
         largest, and with numbers that a u32 holds."""
         cases = self.drawer.cases(count + 2)[2:]
         return [fits(c) for c in cases if len(c.rows) <= LONGEST or self.oracle.refused_early(c)]
+
+    def labels(self, cases, count):
+        """The first of these, in the strict setting with odd names, that have labels to report."""
+        strict = drawn(cases, self.oracle, random.Random(self.seed))
+        return [case for case, labels in strict if labels][:count]
 
 
 def fits(case):

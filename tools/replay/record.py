@@ -7,7 +7,7 @@ LETTERS = "txre"
 def record(name, case):
     """The case as a line of numbers and its bytes."""
     numbers, data = case.numbers(), case.data()
-    head = [len(numbers), len(data), case.entry, *case.lengths]
+    head = [len(numbers), len(data), case.entry, case.setting, *case.lengths]
     return " ".join([name] + [str(n) for n in head + numbers]).encode() + b"\n" + data + b"\n"
 
 
@@ -17,9 +17,9 @@ def read(text):
     while start < len(text):
         end = text.index(b"\n", start)
         name, *numbers = text[start:end].decode().split(" ")
-        _, length, entry, *rest = [int(n) for n in numbers]
+        _, length, entry, setting, *rest = [int(n) for n in numbers]
         data = text[end + 1 : end + 1 + length]
-        out.append((name, case_of(entry, rest[5:], data, rest[:5])))
+        out.append((name, case_of(entry, rest[5:], data, rest[:5], setting)))
         start = end + 1 + length + 1
     return out
 

@@ -1,6 +1,7 @@
 """Each answer of document 01 compared with the unchanged Rust's: tree, lexical errors, and every report turned into the
 Rust's own message text and labels. The words are read out of docs/src, as tools/header/names.py has them."""
 from compare.case import FIRST_ERROR, ErrorRow, ReportRow, TreeRow, rows
+from compare.strict import NOT_A_LABEL
 from compare.tables import TRIVIA
 from header.names import EXPECTED, expectation_words, first_word, hint_texts, label_text, message_texts, token_words
 from header.sources import SPECS, Repository
@@ -34,10 +35,10 @@ class Words:
         return text + ", but found " + self.words[rest[0] if rest[0] < FIRST_ERROR else self.unrecognized]
 
     def lines(self, parsed, case):
-        """The Rust's lines for an accepted call."""
+        """The Rust's lines for an accepted call. It has no reports of labels."""
         out = ["R %d %d %d %d" % row for row in rows(TreeRow, parsed.rows)]
         out += ["X %d %d %d" % row for row in rows(ErrorRow, parsed.lexical)]
-        for row in rows(ReportRow, parsed.reports):
+        for row in (r for r in rows(ReportRow, parsed.reports) if r.message != NOT_A_LABEL):
             pool = parsed.pool[row.pool_first : row.pool_first + row.pool_count]
             out.append("E %d %d %s" % (row.start, row.end, self.message(row, pool, case)))
             if (row.label_start, row.label_end) != (0, 0):

@@ -1,12 +1,13 @@
 //! bench facts INPUT                 its tokens and bytes, the rows of its answer, bytes of the lent buffers
 //! bench times ROUNDS INPUT..        a line for each input: medians of so many interleaved rounds
-//! bench lengths INPUT               lengths of the lent buffers that just suffice
+//! bench lengths WHAT INPUT          lengths of the lent buffers that just suffice
 //! bench once WHAT INPUT LENGTHS     one run inside `measured`, for callgrind --toggle-collect
+//! WHAT is port (the old setting, which all else is in too), strict, copy or rust
 use bench::clock::{median, ns};
 use bench::input::Input;
 use bench::port::Port;
 use bench::rust;
-use dt_parser_layout::bound;
+use dt_parser_layout::{SETTING_OLD, SETTING_STRICT, bound};
 use oracle::parsers::on_large_stack;
 use std::hint::black_box;
 
@@ -14,7 +15,7 @@ use std::hint::black_box;
 /// the bound.
 fn facts(name: &str) {
     let input: Input = name.parse().expect("an input");
-    let mut port = Port::fitting(&input);
+    let mut port = Port::fitting(SETTING_OLD, &input);
     let (n, a) = (input.rows.len(), port.parse(&input));
     let bound_bytes = 4 * bound(n).iter().sum::<usize>();
     print!("{name},{n},{},{},{},{},", input.text.len(), a.tree_count, a.error_count, a.report_count);
@@ -34,7 +35,7 @@ struct Timed {
 impl Timed {
     fn new(name: &str) -> Timed {
         let input: Input = name.parse().expect("an input");
-        let port = Port::fitting(&input);
+        let port = Port::fitting(SETTING_OLD, &input);
         Timed { input, port, ours: vec![], copy: vec![], whole: vec![], freed: vec![] }
     }
 
@@ -55,7 +56,7 @@ impl Timed {
     /// the ratios to the last two; the port's ns in buffers as long as the bound says.
     fn write(self) {
         let ratios = [&self.whole, &self.freed].map(|v| format!("{:.3}", self.ratio(v)));
-        let mut large = Port::with(bound(self.input.rows.len()));
+        let mut large = Port::with(SETTING_OLD, bound(self.input.rows.len()));
         let in_bound = (0..7).map(|_| ns(|| large.parse(&self.input))).collect();
         let times = [self.ours, self.copy, self.whole, self.freed].map(|v| format!("{:.0}", median(v)));
         println!("{},{},{},{:.0}", self.input.name, times.join(","), ratios.join(","), median(in_bound))
@@ -83,10 +84,14 @@ extern "C" fn measured(what: u32, input: &Input, port: &mut Port) {
     }
 }
 
+fn setting(what: &str) -> u32 {
+    if what == "strict" { SETTING_STRICT } else { SETTING_OLD }
+}
+
 fn once(what: &str, name: &str, lengths: &str) {
     let input: Input = name.parse().expect("an input");
     let lengths: Vec<usize> = lengths.split(',').map(|n| n.parse().expect("a length")).collect();
-    let mut port = Port::with(lengths.try_into().expect("five lengths"));
+    let mut port = Port::with(setting(what), lengths.try_into().expect("five lengths"));
     rust::ready(&input);
     drop(rust::copy(&input)); // the first lexer builds its tables, which are not part of a parse
     let number = match what {
@@ -98,8 +103,8 @@ fn once(what: &str, name: &str, lengths: &str) {
     black_box(port.lengths());
 }
 
-fn lengths(name: &str) {
-    let list = Port::fitting(&name.parse().expect("an input")).lengths();
+fn lengths(what: &str, name: &str) {
+    let list = Port::fitting(setting(what), &name.parse().expect("an input")).lengths();
     println!("{}", list.map(|n| n.to_string()).join(","))
 }
 
@@ -111,10 +116,10 @@ fn run() {
             times(rounds, &args[2..])
         }
         Some("facts") if args.len() == 2 => facts(&args[1]),
-        Some("lengths") if args.len() == 2 => lengths(&args[1]),
+        Some("lengths") if args.len() == 3 => lengths(&args[1], &args[2]),
         Some("once") if args.len() == 4 => once(&args[1], &args[2], &args[3]),
         _ => {
-            panic!("bench facts INPUT | times ROUNDS INPUT.. | lengths INPUT | once port|copy|rust INPUT LENGTHS")
+            panic!("bench facts INPUT | times ROUNDS INPUT.. | lengths WHAT INPUT | once WHAT INPUT LENGTHS")
         }
     }
 }

@@ -44,14 +44,15 @@ impl Room {
     }
 
     /// What suffices for every run on so many tokens: the theorem of crates/bounds, 13 n + 1 events, 6 n + 1 tree rows,
-    /// 3 n + 1 reports and 768 n + 256 expectations. There are as many lexical errors as error tokens.
+    /// 3 n + 1 reports, n more in the strict setting, and 768 n + 256 expectations. There are as many lexical errors as
+    /// error tokens.
     pub fn most(input: &Input<'_>) -> Self {
         let n = input.tokens.len().min(Input::MAX_TOKENS);
         Self {
             events: 13 * n + 1,
             trees: 6 * n + 1,
             errors: input.tokens.iter().filter(|token| token.kind.is_err()).take(n).count(),
-            reports: 3 * n + 1,
+            reports: 4 * n + 1,
             pool: 768 * n + 256,
         }
     }
@@ -97,7 +98,7 @@ mod tests {
     fn room_grows_up_to_the_theorem_and_no_further() {
         let most = Room::most(&blanks(100));
         assert_eq!((most.events, most.trees, most.errors), (1301, 601, 0));
-        assert_eq!((most.reports, most.pool), (301, 77056));
+        assert_eq!((most.reports, most.pool), (401, 77056));
         for refusal in [Refusal::NoEventRoom(0), Refusal::NoReportRoom(0), Refusal::NoTreeRoom] {
             let mut room = Room::first(&blanks(100));
             let mut turns = 0;

@@ -21,7 +21,8 @@ pub enum Refusal {
     TooDeep(usize),
     /// 6: no room for the next event, after so many tokens.
     NoEventRoom(usize),
-    /// 7: no room for a report or its expectations, after so many tokens.
+    /// 7: no room for a report or its expectations, after so many tokens; or for the report of a label whose name
+    /// starts there.
     NoReportRoom(usize),
     /// 8: no room for the tree or the lexical errors.
     NoTreeRoom,

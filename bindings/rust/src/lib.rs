@@ -26,6 +26,25 @@
 //! # Ok::<(), Box<dyn std::error::Error>>(())
 //! ```
 //!
+//! # Labels
+//!
+//! dt-tools takes any name for a label. In the [strict setting](Setting::Strict) a label that the Devicetree
+//! Specification does not allow is reported too, and nothing else changes:
+//!
+//! ```
+//! use dt_parser::{Message, Setting, rowsfile::RowsFile};
+//!
+//! let rows = b"devicetree tokens 1\nrows 3\nNumber 1\nColon 1\nSemicolon 1\ntext 3\n1:;";
+//! let file = RowsFile::read(rows)?;
+//! let old = file.entry.parse(&file.input)?;
+//! let strict = file.entry.parse_in(Setting::Strict, &file.input)?;
+//!
+//! let (last, others) = strict.reports.split_last().expect("the label's");
+//! assert_eq!(others, old.reports);
+//! assert_eq!((last.message, last.range.byte_range()), (Message::NotALabel, 0..1));
+//! # Ok::<(), Box<dyn std::error::Error>>(())
+//! ```
+//!
 //! # Lines and columns, and trees to keep
 //!
 //! A range is in bytes. [`LineIndex`] turns an offset into a line and a column, counted in bytes, in characters or, as
@@ -74,6 +93,7 @@ mod range;
 mod report;
 mod rows;
 pub mod rowsfile;
+mod setting;
 mod sys;
 mod token_kind;
 mod tree;
@@ -92,6 +112,7 @@ pub use node_kind::NodeKind;
 pub use parser::{OwnedParse, Parse, Parser};
 pub use range::TextRange;
 pub use report::{Label, Report};
+pub use setting::Setting;
 pub use token_kind::TokenKind;
 pub use tree::{OwnedTree, Tree};
 pub use walk::{Item, Leaf, Node};

@@ -1,9 +1,9 @@
-//! What a report says: messages and hints, with the texts of dt-tools' grammar.
+//! What a report says: messages and hints, with the texts of dt-tools' grammar, and one that it lacks.
 
 use crate::numbered::numbered;
 
 numbered! {
-    /// What a report says, 1 to 7 in rows.
+    /// What a report says, 1 to 8 in rows.
     Message {
         /// Something else was expected; the report has the list.
         Expected = 1,
@@ -19,12 +19,15 @@ numbered! {
         AtSignInLabel = 6,
         /// The input ends inside a node; the report has a label on the node's `{`.
         UnclosedNode = 7,
+        /// A label that is not of letters, digits and underscores, or starts with a digit. Only in the
+        /// [strict setting](crate::Setting::Strict); dt-tools has no such report.
+        NotALabel = 8,
     }
 }
 
 impl Message {
-    /// The message's text, as in dt-tools. None for [`Message::Expected`], whose text depends on the report:
-    /// [`Report::text`](crate::Report::text).
+    /// The message's text, as in dt-tools where it has one. None for [`Message::Expected`], whose text depends on the
+    /// report: [`Report::text`](crate::Report::text).
     #[must_use]
     pub const fn fixed_text(self) -> Option<&'static str> {
         Some(match self {
@@ -35,6 +38,9 @@ impl Message {
             Self::StrayContinuation => "Preprocessor conditional continuation without preceding `#if` or equivalent.",
             Self::AtSignInLabel => "Label names can't contain an `@`",
             Self::UnclosedNode => "Expected `}`, but reached end of input",
+            Self::NotALabel => {
+                "Label names can only hold letters, digits and underscores, and can't start with a digit"
+            }
         })
     }
 }

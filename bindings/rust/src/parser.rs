@@ -3,7 +3,7 @@
 use crate::buffers::{Buffers, Room};
 use crate::rows;
 use crate::sys::{self, Answer};
-use crate::{Entrypoint, Error, Input, LexicalError, Refusal, Report, Tree};
+use crate::{Entrypoint, Error, Input, LexicalError, Refusal, Report, Setting, Tree};
 use crate::{lexical, report};
 
 /// Parses, and keeps its buffers for the next time.
@@ -29,7 +29,8 @@ pub struct Parse<'i> {
     pub tree: Tree<'i>,
     /// The error tokens, in order.
     pub lexical_errors: Vec<LexicalError>,
-    /// The parser's reports, in the order in which it made them.
+    /// The parser's reports, in the order in which it made them; those of labels, which the
+    /// [strict setting](Setting::Strict) adds, stand last.
     pub reports: Vec<Report>,
 }
 
@@ -59,20 +60,30 @@ impl Parser {
         Self::default()
     }
 
-    /// Parses the input. Where a buffer is too small (refusals 6 to 8) the call is made again with a larger one, up to
-    /// what every run fits by the theorem of crates/bounds.
+    /// Parses the input in the old setting. Where a buffer is too small (refusals 6 to 8) the call is made again with a
+    /// larger one, up to what every run fits by the theorem of crates/bounds.
     ///
     /// # Errors
     ///
     /// If the call is refused for its input: see [`Error`].
     pub fn parse<'i>(&mut self, entry: Entrypoint, input: &Input<'i>) -> Result<Parse<'i>, Error> {
-        self.parse_by(sys::call, entry, input)
+        self.parse_in(Setting::Old, entry, input)
+    }
+
+    /// The same in a setting: [`Entrypoint::parse_in`] has an example.
+    ///
+    /// # Errors
+    ///
+    /// If the call is refused for its input: see [`Error`].
+    pub fn parse_in<'i>(&mut self, setting: Setting, entry: Entrypoint, input: &Input<'i>) -> Result<Parse<'i>, Error> {
+        self.parse_by(sys::call, setting, entry, input)
     }
 
     /// The same by any call of that form.
     fn parse_by<'i>(
         &mut self,
-        mut call: impl FnMut(u32, &[u8], &[u32], &mut Buffers) -> Answer,
+        mut call: impl FnMut(u32, u32, &[u8], &[u32], &mut Buffers) -> Answer,
+        setting: Setting,
         entry: Entrypoint,
         input: &Input<'i>,
     ) -> Result<Parse<'i>, Error> {
@@ -81,7 +92,7 @@ impl Parser {
         let mut room = Room::first(input);
         loop {
             self.buffers.set_room(room);
-            let answer = call(entry.number(), input.text, &rows, &mut self.buffers);
+            let answer = call(entry.number(), setting.number(), input.text, &rows, &mut self.buffers);
             if answer.number == 0 {
                 return self.read(&answer, input);
             }
@@ -135,11 +146,11 @@ mod tests {
     /// What comes of a library that always gives this answer, and how often it is called.
     fn parse_by(number: u32, tree_count: usize) -> (Error, usize) {
         let mut calls = 0;
-        let call = |_: u32, _: &[u8], _: &[u32], _: &mut Buffers| {
+        let call = |_: u32, _: u32, _: &[u8], _: &[u32], _: &mut Buffers| {
             calls += 1;
             answer(number, tree_count)
         };
-        let error = Parser::new().parse_by(call, Entrypoint::SourceFile, &blank()).unwrap_err();
+        let error = Parser::new().parse_by(call, Setting::Strict, Entrypoint::SourceFile, &blank()).unwrap_err();
         (error, calls)
     }
 

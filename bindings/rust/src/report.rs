@@ -12,11 +12,12 @@ pub struct Report {
     pub message: Message,
     /// The bytes that it is about.
     pub range: TextRange,
-    /// The index just past the last token that had been taken.
+    /// The index just past the last token that had been taken; for [`Message::NotALabel`] that of the name's first
+    /// token.
     pub mark: usize,
     /// What would have been taken, in order, with repeats. Empty except for [`Message::Expected`].
     pub expected: Vec<Expected>,
-    /// What stood there instead; none at the end of the input.
+    /// What stands at the mark, blanks and comments passed over; none at the end of the input.
     pub found: Option<TokenKind>,
     /// What it adds to the message.
     pub hint: Option<Hint>,

@@ -18,6 +18,7 @@ unsafe extern "C" {
     /// A slice is a pointer and a length in elements.
     fn dt_parse(
         entry: u32,
+        setting: u32,
         bytes: *const u8,
         bytes_len: usize,
         tokens: *const u32,
@@ -35,9 +36,9 @@ unsafe extern "C" {
     ) -> Answer;
 }
 
-/// One call over lent buffers. Any entry, bytes and numbers may be passed.
+/// One call over lent buffers. Any entry, setting, bytes and numbers may be passed.
 #[allow(unsafe_code)]
-pub(crate) fn call(entry: u32, bytes: &[u8], tokens: &[u32], lent: &mut Buffers) -> Answer {
+pub(crate) fn call(entry: u32, setting: u32, bytes: &[u8], tokens: &[u32], lent: &mut Buffers) -> Answer {
     let Buffers { events, trees, errors, reports, pool } = lent;
     // SAFETY: each pointer and length is that of a live slice of the element type that the call names. The two slices
     // that it reads are borrowed for the time of the call and hold initialized elements. The five that it writes are
@@ -48,6 +49,7 @@ pub(crate) fn call(entry: u32, bytes: &[u8], tokens: &[u32], lent: &mut Buffers)
     unsafe {
         dt_parse(
             entry,
+            setting,
             bytes.as_ptr(),
             bytes.len(),
             tokens.as_ptr(),

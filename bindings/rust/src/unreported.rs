@@ -1,14 +1,15 @@
 //! Parts that were not understood and that no report speaks of.
 
-use crate::{Node, NodeKind, Parse, TextRange};
+use crate::{Message, Node, NodeKind, Parse, TextRange};
 
 impl Parse<'_> {
     /// The outermost [`ParseError`](NodeKind::ParseError) nodes without a report or a lexical error inside them or just
     /// after them. dt-tools' grammar makes such nodes: `a=<1> b;` lacks a semicolon, `a=<1>` becomes a `ParseError`,
-    /// and nothing is reported.
+    /// and nothing is reported. A report of a label's name says nothing of what stands around it and does not count.
     #[must_use]
     pub fn unreported(&self) -> Vec<Node<'_>> {
-        let mut ranges: Vec<TextRange> = self.reports.iter().map(|report| report.range).collect();
+        let of_syntax = self.reports.iter().filter(|report| report.message != Message::NotALabel);
+        let mut ranges: Vec<TextRange> = of_syntax.map(|report| report.range).collect();
         ranges.extend(self.lexical_errors.iter().map(|error| error.range));
         ranges.sort();
         let spoken_of = |node: &Node<'_>| {

@@ -80,8 +80,19 @@ fn the_tree_is_printed_whole() {
 }
 
 #[test]
+fn labels_are_reported_in_the_strict_setting_alone() {
+    let (status, out, err) = run(&["--strict", "examples/labels.rows"]);
+    golden("labels.txt", &out);
+    assert_eq!((status, err.as_str()), (Some(1), ""));
+    let (status, old, _) = run(&["examples/labels.rows"]);
+    assert_eq!(status, Some(0));
+    assert!(old.ends_with("examples/labels.dts: no errors; 5 nodes and 1 property read\n"), "{old}");
+    assert_eq!(run(&["--strict", "--tree", "examples/labels.rows"]).1, run(&["--tree", "examples/labels.rows"]).1);
+}
+
+#[test]
 fn the_examples_rows_are_those_of_their_sources() {
-    for name in ["board", "overlay"] {
+    for name in ["board", "labels", "overlay"] {
         let bytes = std::fs::read(root().join(format!("examples/{name}.rows"))).unwrap();
         let file = RowsFile::read(&bytes).unwrap();
         assert_eq!(file.input.text, std::fs::read(root().join(format!("examples/{name}.dts"))).unwrap());

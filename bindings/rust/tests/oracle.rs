@@ -6,7 +6,7 @@
 #[path = "common/answers.rs"]
 mod answers;
 
-use dt_parser::{Input, Item, Parse, Parser};
+use dt_parser::{Input, Item, Message, Parse, Parser, Report, Setting};
 use std::fmt::Write;
 
 #[test]
@@ -19,6 +19,26 @@ fn every_line_is_the_rusts() {
         assert_eq!(lines(&parse), case.answer, "{}", case.line);
     }
     println!("{} cases alike", cases.len());
+}
+
+/// The strict setting adds reports of labels at the end, in the order of the text, and changes nothing else.
+#[test]
+fn the_strict_setting_only_adds_reports_of_labels() {
+    let mut parser = Parser::new();
+    let mut found = 0;
+    for case in answers::all() {
+        let input = Input::new(&case.text, case.tokens.clone());
+        let mut parse = parser.parse_in(Setting::Strict, case.entry, &input).unwrap();
+        let is_label = |report: &Report| report.message == Message::NotALabel;
+        let first = parse.reports.iter().position(is_label).unwrap_or(parse.reports.len());
+        let labels = parse.reports.split_off(first);
+        assert_eq!(lines(&parse), case.answer, "{}", case.line);
+        assert!(labels.iter().all(is_label), "{}", case.line);
+        assert!(labels.is_sorted_by(|a, b| a.mark < b.mark && a.range.end <= b.range.start), "{}", case.line);
+        assert!(labels.iter().all(|report| report.expected.is_empty() && report.labels().is_empty()), "{}", case.line);
+        found += labels.len();
+    }
+    assert!(found > 0 || std::env::var_os("DT_ORACLE_ANSWERS").is_some(), "no case has such a label");
 }
 
 /// The answer in the oracle's lines.

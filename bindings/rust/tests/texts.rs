@@ -86,7 +86,8 @@ fn the_words_of_expectations_are_the_rusts() {
 fn messages_and_hints_stand_in_the_rusts_grammar() {
     let grammar = ["grammar.rs", "grammar/expr.rs", "grammar/preprocessor_directive.rs"].map(rust).concat();
     for message in Message::ALL {
-        assert!(message.fixed_text().is_none_or(|text| grammar.contains(&format!("\"{text}\""))), "{message:?}");
+        let said = message.fixed_text().is_none_or(|text| grammar.contains(&format!("\"{text}\"")));
+        assert_eq!(said, *message != Message::NotALabel, "{message:?}");
     }
     for hint in Hint::ALL {
         assert!(grammar.contains(&format!("\"{}\"", hint.text())), "{hint:?}");

@@ -1,11 +1,11 @@
-// Document 01's readings on the code. Those of a few tokens are cases on standard input, in the form that crates/replay
-// says; tools/replay/readings makes them and what must be printed, from the document and the oracle. Those of 65,536
-// blanks are here: a source file of 65,536 rows of one blank each is accepted, one of 65,537 is refused; an entry that
+// Document 01's readings on the code, and those of the strict setting. Those of a few tokens are cases on standard
+// input, in the form that crates/replay says; tools/replay/readings makes them and what must be printed, from the
+// documents and the oracle. Those of 65,536 blanks are here: a source file of 65,536 rows of one blank each is accepted, one of 65,537 is refused; an entry that
 // there is not comes before that.
 use cases::blanks;
 
 // A case's numbers on so many blanks: the answer, the root's row, and how many rows of one blank follow it.
-fn called(name: &[u8], head: [u32; 8]) {
+fn called(name: &[u8], head: [u32; 9]) {
     let bytes = blanks::bytes();
     let tokens = blanks::tokens();
     let mut trees = blanks::tree();
@@ -18,14 +18,14 @@ fn called(name: &[u8], head: [u32; 8]) {
 fn main() {
     replay::run();
     // A tree of 65,537 rows just fits; one number fewer does not do.
-    called(b"65536-blanks", [131072, 65536, 1, 3, 262148, 3, 9, 1]);
+    called(b"65536-blanks", [131072, 65536, 1, 0, 3, 262148, 3, 9, 1]);
     called(
         b"65536-blanks-small-tree",
-        [131072, 65536, 1, 3, 262147, 3, 9, 1],
+        [131072, 65536, 1, 0, 3, 262147, 3, 9, 1],
     );
-    called(b"65537-blanks", [131074, 65537, 1, 3, 262148, 3, 9, 1]);
+    called(b"65537-blanks", [131074, 65537, 1, 0, 3, 262148, 3, 9, 1]);
     called(
         b"65537-blanks-entry-5",
-        [131074, 65537, 5, 3, 262148, 3, 9, 1],
+        [131074, 65537, 5, 0, 3, 262148, 3, 9, 1],
     );
 }

@@ -1,7 +1,7 @@
 // Cases of the exported call, run one after the other; what each answers and leaves is printed (left.rt).
-//  A case is a line and then its bytes as they are, with a line end after each. The line has a name, eight numbers (how
-// many token numbers, how many bytes, the entry, and how many numbers of each buffer are lent: events, trees, errors,
-// reports, pool), and the token numbers.
+//  A case is a line and then its bytes as they are, with a line end after each. The line has a name, nine numbers (how
+// many token numbers, how many bytes, the entry, the setting, and how many numbers of each buffer are lent: events,
+// trees, errors, reports, pool), and the token numbers.
 mod left;
 
 use cases::arrays;
@@ -15,6 +15,7 @@ ghost use lib.ListN.{length};
 fn called(
     name: &[u8],
     entry: u32,
+    setting: u32,
     bytes: &[u8],
     tokens: &[u32],
     events: &mut [u32],
@@ -24,7 +25,17 @@ fn called(
     pool: &mut [u32],
     most: usize,
 ) -> u32 {
-    let a = dt_parser::dt_parse(entry, bytes, tokens, events, trees, errors, reports, pool);
+    let a = dt_parser::dt_parse(
+        entry,
+        setting,
+        bytes,
+        tokens,
+        events,
+        trees,
+        errors,
+        reports,
+        pool,
+    );
     left::show(name, a, most, events, trees, errors, reports, pool);
     a.number
 }
@@ -32,7 +43,7 @@ fn called(
 // A call on as much of the input and of each buffer as a case's numbers say.
 pub fn lent(
     name: &[u8],
-    head: [u32; 8],
+    head: [u32; 9],
     bytes: &[u8],
     tokens: &[u32],
     trees: &mut [u32],
@@ -44,14 +55,15 @@ pub fn lent(
     let mut pool = arrays::pool();
     let n = at_most(head[0], tokens.len());
     let b = at_most(head[1], bytes.len());
-    let e = at_most(head[3], arrays::EVENTS);
-    let t = at_most(head[4], trees.len());
-    let x = at_most(head[5], arrays::ERRORS);
-    let r = at_most(head[6], arrays::REPORTS);
-    let p = at_most(head[7], arrays::POOL);
+    let e = at_most(head[4], arrays::EVENTS);
+    let t = at_most(head[5], trees.len());
+    let x = at_most(head[6], arrays::ERRORS);
+    let r = at_most(head[7], arrays::REPORTS);
+    let p = at_most(head[8], arrays::POOL);
     called(
         name,
         head[2],
+        head[3],
         &bytes[..b],
         &tokens[..n],
         &mut events[..e],
@@ -69,11 +81,11 @@ fn case(text: &[u8], from: usize) -> usize
     ensures { λ r. ⌜ from ≤ r ⌝ }
     ensures { λ r. ⌜ r ≤ length (now (text .entry)) ⌝ }
 {
-    let mut head = [0u32; 8];
+    let mut head = [0u32; 9];
     let mut tokens = arrays::tokens();
     let mut trees = arrays::trees();
     let name_end = scan::find(text, from, b' ');
-    let head_end = scan::numbers(text, name_end, 8, &mut head);
+    let head_end = scan::numbers(text, name_end, 9, &mut head);
     let line_end = scan::numbers(text, head_end, head[0], &mut tokens);
     let start = scan::further(text, line_end, 1);
     lent(

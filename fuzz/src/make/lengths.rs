@@ -1,6 +1,6 @@
 //! Lengths of the lent buffers, around what a run needs.
 use crate::rng::Rng;
-use dt_parser_layout::{BUFFERS, Lengths, ROW, bound};
+use dt_parser_layout::{BUFFERS, ERRORS, Lengths, REPORTS, ROW, ROW_ERROR, ROW_REPORT, ROW_TREE, TREES, bound};
 
 /// For a call that is refused before it is parsed.
 pub fn small(r: &mut Rng) -> Lengths {
@@ -20,6 +20,24 @@ fn short(r: &mut Rng, need: usize, row: usize) -> usize {
 
 fn slack(r: &mut Rng, row: usize) -> usize {
     r.pick(&[0, 1, row - 1, row, row + 1, 2 * row, 20])
+}
+
+/// The report buffer ends at one of so many reports of labels, the last that the run needs; in half of the draws the
+/// tree does not fit either, or there is no room for an event or an expectation more.
+pub fn short_of_labels(r: &mut Rng, needs: Lengths, labels: usize) -> Lengths {
+    let mut l = needs;
+    let fitting = needs[REPORTS] / ROW_REPORT - labels + r.n(labels);
+    l[REPORTS] = ROW_REPORT * fitting + r.pick(&[0, 1, ROW_REPORT - 1]);
+    match r.n(4) {
+        0 => l[TREES] = short(r, needs[TREES], ROW_TREE),
+        1 => (0..BUFFERS).filter(|&i| i != REPORTS).for_each(|i| l[i] += slack(r, ROW[i])),
+        2 => {
+            l[TREES] = r.n(5);
+            l[ERRORS] = short(r, needs[ERRORS], ROW_ERROR)
+        }
+        _ => {}
+    }
+    l
 }
 
 pub fn around(r: &mut Rng, needs: Lengths, tokens: usize) -> Lengths {

@@ -2,6 +2,7 @@
 use crate::call::{Call, flat};
 use crate::rng::Rng;
 use corpus::{Corpus, Tok};
+use dt_parser_layout::SETTING_STRICT;
 use oracle::case::Case;
 use oracle::{generate, token};
 
@@ -10,13 +11,14 @@ mod corpus;
 mod damage;
 mod deep;
 mod expr;
+mod labels;
 pub mod lengths;
 mod limits;
 
 /// The ways of making an input, with how many of a thousand cases are made so.
 const WAYS: &[(&str, usize)] = &[
-    ("pieces of files, damaged", 380),
-    ("random lists of a few tokens", 160),
+    ("pieces of files, damaged", 270),
+    ("random lists of a few tokens", 120),
     ("the oracle's generator", 110),
     ("expressions", 110),
     ("rows that no lexer gives", 80),
@@ -24,7 +26,14 @@ const WAYS: &[(&str, usize)] = &[
     ("deep nesting", 50),
     ("runs of one pattern", 48),
     ("whole files, damaged", 2),
+    ("labels and references", 150),
 ];
+
+/// A number of the strict setting: mostly the usual one, else such as is 0 in its low byte or half, or any.
+pub fn strict_setting(r: &mut Rng) -> u32 {
+    let any = (r.next() as u32).max(1);
+    r.pick(&[SETTING_STRICT, SETTING_STRICT, 2, 256, 1 << 16, 1 << 31, u32::MAX, any])
+}
 
 pub fn ways() -> impl Iterator<Item = &'static str> {
     WAYS.iter().map(|w| w.0)
@@ -83,15 +92,20 @@ impl Maker {
             4 => c.unlexable(r, t),
             6 => deep::tokens(r, c, entry, t),
             7 => deep::run(r, c, t),
+            9 => labels::tokens(r, c, entry, t),
             _ => c.file(r, t),
         }
         let times = match way {
             0 | 3 if r.p(75) => r.n(4),
+            9 if r.p(40) => r.n(4),
             8 => r.n(6),
             _ if r.p(20) => 1,
             _ => 0,
         };
-        damage::tokens(r, c, t, times)
+        damage::tokens(r, c, t, times);
+        if r.p(25) {
+            labels::odd_names(r, t)
+        }
     }
 
     /// From the oracle's own generator.

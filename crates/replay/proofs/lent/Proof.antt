@@ -62,6 +62,9 @@ at-most-requires-7 c κs = tt
 array-read-called : tie.Need-array-read-called
 array-read-called c = search needs
 
+array-read-called-2 : tie.Need-array-read-called-2
+array-read-called-2 c = search needs
+
 slice-aggregate-called : tie.Need-slice-aggregate-called
 slice-aggregate-called c = sym (length-take-le _ _ (search needs))
 
@@ -130,6 +133,7 @@ lent-spec =
     array-read-at-most-7
     at-most-requires-7
     array-read-called
+    array-read-called-2
     slice-aggregate-called
     slice-aggregate-called-2
     array-borrow-prefix-events

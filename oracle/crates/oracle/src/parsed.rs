@@ -2,6 +2,7 @@
 use crate::case::Rows;
 use dt_parser_layout::{CLASS_LEAF, CLASS_NODE};
 use dt_tools_parser::TextRange;
+pub use dt_tools_parser::cst::NodeKind;
 use dt_tools_parser::cst::{GreenItem, GreenNode};
 use dt_tools_parser::lexer::TokenKind;
 use std::borrow::Cow;

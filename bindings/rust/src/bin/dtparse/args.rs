@@ -1,6 +1,6 @@
 //! The command's arguments.
 
-use dt_parser::Entrypoint;
+use dt_parser::{Entrypoint, Setting};
 use std::ffi::OsString;
 
 pub const HELP: &str = "\
@@ -16,6 +16,8 @@ What is shown, one or more of:
   --tree         the whole tree, a line for each node and token
 Without any of them: --reports --nodes for a source file, --reports --tree for another entry.
 
+  --strict       also report labels that the Devicetree Specification does not allow: others than
+                 letters, digits and underscores, or a digit first
   --entry NAME   what the text is read as: SourceFile, ReferenceNoamp, PropValues or Cells;
                  without it the file decides
   --color WHEN   auto (on a terminal, unless NO_COLOR is set), always or never
@@ -39,6 +41,7 @@ pub struct Args {
     pub file: String,
     pub views: Vec<View>,
     pub entry: Option<Entrypoint>,
+    pub setting: Setting,
     /// Colours or none; not said, the output decides.
     pub color: Option<bool>,
 }
@@ -50,7 +53,7 @@ pub enum Asked {
 }
 
 pub fn read(given: &[OsString]) -> Result<Asked, String> {
-    let mut args = Args { file: String::new(), views: Vec::new(), entry: None, color: None };
+    let mut args = Args { file: String::new(), views: Vec::new(), entry: None, setting: Setting::Old, color: None };
     let mut file = None;
     let mut rest = given.iter().map(|one| one.to_str().ok_or_else(|| format!("{one:?} is not UTF-8")));
     let mut options = true;
@@ -70,6 +73,7 @@ pub fn read(given: &[OsString]) -> Result<Asked, String> {
             "--help" | "-h" => return Ok(Asked::Help),
             "--entry" => args.entry = Some(entry(value()?)?),
             "--color" => args.color = color(value()?)?,
+            "--strict" if argument == option => args.setting = Setting::Strict,
             _ if argument != option => return Err(format!("{argument} is not an option")),
             _ => args.views.push(view(option)?),
         }
@@ -130,6 +134,7 @@ mod tests {
         assert_eq!(all.file, "a.rows");
         assert_eq!(all.views, [View::Tree, View::Reports]);
         assert_eq!((all.entry, all.color), (Some(Entrypoint::Cells), Some(true)));
+        assert_eq!((all.setting, args("a --strict").setting), (Setting::Old, Setting::Strict));
         assert_eq!(args("-").file, "-");
         assert_eq!(args("-- --tree").file, "--tree");
         assert_eq!(args("--color auto x").color, None);
@@ -143,6 +148,7 @@ mod tests {
             ("a b", "one file at a time, not a and b"),
             ("a --trees", "--trees is not an option"),
             ("a --tree=1", "--tree=1 is not an option"),
+            ("a --strict=0", "--strict=0 is not an option"),
             ("a --entry", "--entry needs a value after it"),
             ("a --entry Name", "--entry is SourceFile, ReferenceNoamp, PropValues or Cells, not Name"),
             ("a --color blue", "--color is auto, always or never, not blue"),

@@ -40,7 +40,7 @@ fn show(args: &Args) -> Result<(String, bool), String> {
     let bytes = read(&args.file).map_err(|why| format!("{}: {why}", args.file))?;
     let file = RowsFile::read(&bytes).map_err(|why| format!("{}: {why}", args.file))?;
     let entry = args.entry.unwrap_or(file.entry);
-    let parse = entry.parse(&file.input).map_err(|why| refused::explain(&args.file, &file, why))?;
+    let parse = entry.parse_in(args.setting, &file.input).map_err(|why| refused::explain(&args.file, &file, why))?;
     let name = file.name.clone().filter(|name| !name.is_empty()).unwrap_or_else(|| format!("(text of {})", args.file));
     let page =
         Page { name: shown::plain(&name), lines: Lines::new(file.input.text), parse: &parse, style: style(args) };
