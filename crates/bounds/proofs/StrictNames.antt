@@ -1,12 +1,12 @@
 -- The Names that a setting reports: how many there are, where they stand, and the numbers of their report rows.
-use Prim.Native.Nat.{ℕ, zero, suc, _+_, _-_, _*_, _≤_, _<_}
+use Prim.Native.Nat.{ℕ, zero, suc, _+_, _-_, _≤_, _<_}
 use native.Mathlib.Omega.{arith}
-use mathlib.Core.Path.{_≡_, refl}
+use mathlib.Core.Path.{_≡_}
 use mathlib.Core.Bool.{Bool, false, _&&_}
 use mathlib.Core.List.{List, [], _∷_, _++_}
 use lib.Dec.{eqb}
 use lib.ListN.{length, length-append, take, drop}
-use Rattle.definitions.specs.Layout.{OLD-SETTING, REPORT-ROW}
+use Rattle.definitions.specs.Layout.{OLD-SETTING}
 use Rattle.definitions.specs.TokenKind as K
 use Rattle.definitions.specs.Token.{Token, byte-count}
 use Rattle.definitions.specs.Grammar.{Entry}

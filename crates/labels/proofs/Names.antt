@@ -1,9 +1,9 @@
 -- The two sweeps over the events of a skeleton: what they promise.
-use Prim.Native.Nat.{ℕ, zero, suc, _+_, _-_, _*_, _/_, _≤_, _<_}
+use Prim.Native.Nat.{ℕ, _+_, _-_, _*_, _<_}
 use native.Mathlib.Omega.{arith}
 use mathlib.Core.Path.{_≡_, refl, ap, sym, _∙_, subst}
-use mathlib.Core.Bool.{Bool, true, false, cond, _&&_}
-use mathlib.Core.List.{List, [], _∷_, _++_}
+use mathlib.Core.Bool.{Bool, true, false, cond}
+use mathlib.Core.List.{List, [], _++_}
 use lib.Dec.{eqb}
 use lib.ListN.{length, take, drop, take-append-drop}
 use Rattle.definitions.specs.Layout.{EVENT-ROW, REPORT-ROW, OLD-SETTING, TWO-TO-32}
@@ -11,15 +11,15 @@ use Rattle.definitions.specs.NodeKind as N
 use Rattle.definitions.specs.Token.{Token, tokens-of, byte-count}
 use Rattle.definitions.specs.Skeleton.{Skeleton}
 use Rattle.definitions.specs.Place.{root}
-use Rattle.definitions.specs.Refusal.{Refusal, no-report-room, Verdict, accepted, refused}
+use Rattle.definitions.specs.Refusal.{no-report-room}
 use Rattle.definitions.specs.Strict.{Name-at, judged, breaking, reported-names, name-numbers, names-fit}
 use Rattle.laws.proofs.Input.{Checked, checked-input}
 use Rattle.laws.proofs.NamesFound.{Back, forwards, curly, under, found, Unnamed, unnamed-input, root-found}
 use Rattle.machine.specs.Encode.{encode}
 use Rattle.labels.specs.declared.sweep.Sweep.{Sweep}
 use Rattle.labels.specs.Model.{braced-if, judged-kind, On, on, eventsN, begun, again, judged-on, names-on}
-use Rattle.labels.specs.Promise.{Swept-events, Leaves, Follow, Stop, Named, Promise}
-use Rattle.labels.proofs.Rows.{judged-under, size, kind-in, Coded, encode-coded, coded-length, reach}
+use Rattle.labels.specs.Promise.{Swept-events, Named, Promise}
+use Rattle.labels.proofs.Rows.{judged-under, size, Coded, encode-coded, coded-length, reach}
 use Rattle.labels.proofs.Standing.{Rep, Part, there, emits}
 use Rattle.labels.proofs.Sweeps as S
 use Rattle.labels.proofs.Fitting as F

@@ -1,15 +1,15 @@
 -- The event rows of a skeleton as a sweep meets them and as it leaves them: the row of a node's start has the node's
 -- kind, or, once a sweep has passed, the kind by which its Names are judged.
-use Prim.Native.Nat.{ℕ, zero, suc, _+_, _*_, _/_, _≤_, _<_}
+use Prim.Native.Nat.{ℕ, suc, _+_, _*_, _/_}
 use native.Mathlib.Omega.{arith}
 use mathlib.Core.Path.{_≡_, refl, ap, sym, _∙_}
-use mathlib.Core.Bool.{Bool, true, false, cond, not, _&&_, _||_}
+use mathlib.Core.Bool.{Bool, true, false, cond, _&&_, _||_}
 use mathlib.Core.List.{List, [], _∷_, _++_, append-assoc, append-nil}
 use lib.Dec.{ltb, eqb}
 use lib.ListN.{length, getD, drop, length-append}
 use lib.Seq.{sets, getD-append-add}
 use borrow.Author.Tests.{lt-ltb}
-use Rattle.definitions.specs.Layout.{EVENT-ROW, EVENT-TAG, EVENT-ARGUMENT, EVENT-DISTANCE, PLACEHOLDER, START-NODE, ADD-TOKEN, ADD-COMBINED-TOKEN, FINISH-NODE, ERROR, LINKED-START-NODE}
+use Rattle.definitions.specs.Layout.{EVENT-ROW, EVENT-ARGUMENT, EVENT-DISTANCE, PLACEHOLDER, START-NODE, ADD-TOKEN, ADD-COMBINED-TOKEN, FINISH-NODE, ERROR, LINKED-START-NODE}
 use Rattle.definitions.specs.NodeKind as N
 use Rattle.definitions.specs.Token.{Token, drop-trivia, past}
 use Rattle.definitions.specs.Skeleton.{Skeleton, done, token, name, node, ignored, report, over}
@@ -19,7 +19,6 @@ use Rattle.laws.proofs.Trivia.{drop-twice}
 use Rattle.laws.proofs.NamesFound.{curly, under, after-same}
 use Rattle.machine.specs.Encode.{start-tag, encode}
 use Rattle.machine.proofs.Buffers.{sets-among}
-use Rattle.sink.specs.Encode.{Alone, Chained}
 use Rattle.sink_rows.specs.Rows.{field}
 use Rattle.labels.specs.Model.{BRACED, braced-if, judged-kind}
 

@@ -18,7 +18,7 @@ use Rattle.laws.proofs.NamesFound.{Back, back, first-curly}
 use Rattle.machine.specs.Machine.{fits}
 use Rattle.token_rows.specs.declared.token.Seat.{Seat}
 use Rattle.labels.specs.declared.sweep.Sweep.{Sweep}
-use Rattle.labels.specs.Model.{breaks, next-seat, passed, first-solid, judged-kind, Out, out, at-seat, braced-if, token-on, put-row, with-written, reported, name-on}
+use Rattle.labels.specs.Model.{breaks, next-seat, passed, first-solid, judged-kind, out, braced-if, token-on, put-row, with-written, reported, name-on}
 
 -- what a sweep has reported: how many numbers, its refusal, and the buffer
 pub record Rep : Type 0 where

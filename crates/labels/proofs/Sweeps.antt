@@ -1,6 +1,6 @@
 -- A sweep over the rows of a skeleton: one induction. It comes back to the node that it started in, leaves the rows with
 -- the kinds by which Names are judged, and, if it writes, reports the Names that the skeleton holds.
-use Prim.Native.Nat.{ℕ, zero, suc, _+_, _-_, _*_, _/_, _≤_, _<_}
+use Prim.Native.Nat.{ℕ, suc, _+_, _-_, _*_, _≤_, _<_}
 use native.Mathlib.Omega.{arith}
 use native.Mathlib.Nat.{mod-eq-of-lt}
 use mathlib.Core.Path.{_≡_, refl, ap, sym, _∙_, subst}
@@ -19,7 +19,7 @@ use Rattle.laws.proofs.Trivia.{drop-twice}
 use Rattle.laws.proofs.NamesFound.{Back, back, first-curly, curly, under, found, after-same, curly-same, found-same}
 use Rattle.sink.specs.Encode.{Alone, Chained}
 use Rattle.labels.specs.declared.sweep.Sweep.{Sweep}
-use Rattle.labels.specs.Model.{BRACED, braced-if, judged-kind, Out, out, On, on, at-node, token-on, open-on, close-on, name-on, with-events, with-reports, event-on, eventsN}
+use Rattle.labels.specs.Model.{BRACED, braced-if, judged-kind, out, On, on, at-node, token-on, open-on, close-on, name-on, with-events, with-reports, event-on, eventsN}
 use Rattle.labels.proofs.Rows.{braced-join, judged-under, braced-not, reach, reach-after, size, Is-start, first-start, linked-start, kind-in, Parts, node-rows, ignored-rows, Coded, coded-length, row-inside, row-field, row-argument, row-distance, row-saved, row-kinded}
 use Rattle.labels.proofs.Standing.{Rep, Part, part-drop, part-past, part-solid, there, token-there, name-there, emitted, emitted-append, emitted-none}
 

@@ -1,12 +1,12 @@
 -- The turns of the loops over raw tokens and over events.
 use native.Mathlib.Omega.{arith}
 use Prim.Native.Nat.{ℕ, zero, suc, _+_, _-_, _*_, _/_, _≤_, _<_}
-use mathlib.Core.List.{List, [], _∷_}
+use mathlib.Core.List.{List, []}
 use mathlib.Core.Path.{_≡_, refl, sym, _∙_, ap}
 use mathlib.Core.Bool.{Bool}
 use lib.ListN.{length, getD, drop}
 use Rattle.basics.specs.Word.{low}
-use Rattle.basics.proofs.TokenRows.{token-at, tokens-cons, tokens-end}
+use Rattle.basics.proofs.TokenRows.{tokens-cons, tokens-end}
 use Rattle.definitions.specs.Layout.{TOKEN-ROW, TOKEN-LENGTH}
 use Rattle.definitions.specs.Token.{Token, tokens-of}
 use Rattle.token_rows.specs.declared.token.Seat.{Seat}

@@ -6,7 +6,7 @@ use mathlib.Core.Bool.{false}
 use mathlib.Core.List.{List, _++_}
 use lib.ListN.{length, take, drop}
 use Rattle.definitions.specs.Layout.{EVENT-ROW, REPORT-ROW, NO-REPORT-ROOM, TWO-TO-32}
-use Rattle.definitions.specs.Token.{tokens-of, byte-count}
+use Rattle.definitions.specs.Token.{tokens-of}
 use Rattle.definitions.specs.Skeleton.{Skeleton}
 use Rattle.definitions.specs.Place.{root}
 use Rattle.definitions.specs.Refusal.{no-report-room, accepted, refused, check-input}

@@ -17,8 +17,6 @@ use layout::row::REPORT_START;
 use layout::word;
 use token_rows::fit::fits;
 ghost use mathlib.Core.Path.{_≡_};
-ghost use mathlib.Core.Bool.{true};
-ghost use mathlib.Core.List.{_∷_, []};
 ghost use Rattle.definitions.specs.Token.{tokens-of};
 ghost use Rattle.labels.specs.Model.{out, put-row, reported, name-on};
 

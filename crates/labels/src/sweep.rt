@@ -1,6 +1,5 @@
 // Where a sweep over the events stands, and what an event does to it. There is no stack beside the event rows: while a
 // node is open, its start's row holds its parent's kind and its parent, and gets its own kind back when it is finished.
-use layout::event_tag;
 use layout::node_kind;
 use layout::row::EVENT_ARGUMENT;
 use layout::row::EVENT_DISTANCE;

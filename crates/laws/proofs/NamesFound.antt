@@ -4,7 +4,6 @@
 -- them too.
 use Prim.Native.Nat.{ℕ, _+_, _-_, _≤_}
 use native.Mathlib.Omega.{arith}
-use native.Mathlib.Nat.{add-zero}
 use mathlib.Core.Path.{_≡_, refl, ap, sym, _∙_, subst}
 use mathlib.Core.Bool.{Bool, true, false, cond, not, _&&_, _||_}
 use mathlib.Core.List.{List, [], _∷_, _++_, append-assoc}
@@ -18,12 +17,11 @@ use Rattle.definitions.specs.Token.{Token, is-error, seen, is-trivia, trivia, d
 use Rattle.definitions.specs.Skeleton.{Skeleton, done, token, name, node, ignored, report, over, _⧺_}
 use Rattle.definitions.specs.Place.{Tree, nil, leaf, subtree, _⊕_, lead, front, after, place, root, width}
 use Rattle.definitions.specs.Strict.{Name-at, has-lcurly, judges, token-count, judged}
-use Rattle.laws.proofs.Trivia.{drop-twice}
-use Rattle.laws.proofs.Skeleton.{bytes-append, after-join}
+use Rattle.laws.proofs.Skeleton.{bytes-append}
 use Rattle.laws.proofs.Tree.{leaves, leaves-beside, width-leaves, tokens-leaves}
 use Rattle.laws.proofs.Placed.{lead-whole, front-whole, place-whole}
 use Rattle.laws.proofs.Leaves.{or-cases}
-use Rattle.laws.proofs.Input.{Good, All-good}
+use Rattle.laws.proofs.Input.{All-good}
 
 -- ---------------------------------------------------------------- a Name counted from the end
 

@@ -1,6 +1,6 @@
 -- Wrong answers are refused by the crate's statements: for each sentence a case in which it does not hold, computed. A
 -- statement that allows more under the same name is refused by this file.
-use Prim.Native.Nat.{ℕ, _+_, _*_, _≤_, _<_}
+use Prim.Native.Nat.{ℕ, _+_, _*_, _<_}
 use native.Mathlib.Omega.{arith}
 use mathlib.Core.Path.{_≡_, refl, ap, sym, _∙_, subst}
 use mathlib.Core.List.{List, [], _∷_, _++_}
@@ -10,7 +10,7 @@ use Rattle.definitions.specs.Call.{Result, call}
 use Rattle.laws.specs.TreeRows.{Rows, end, leaf, node, read}
 use Rattle.strict.specs.AsItWas as W
 use Rattle.strict.specs.Settings.{Same-tree}
-use Rattle.strict.specs.Exactly.{Letter, lower, upper, underscore, Digit, In-label, Leading-digit, Keeps-rule, Unbraced, Judged, Breaks, tree-of, Exact}
+use Rattle.strict.specs.Exactly.{Letter, lower, upper, underscore, Digit, In-label, Leading-digit, Keeps-rule, Unbraced, Judged, Exact}
 use Rattle.strict.proofs.Judged.{Judged-ways, judged-ways}
 use Rattle.strict.proofs.Witnesses.{room, two, two-rows, reference-breaks}
 

@@ -4,7 +4,7 @@ use Prim.Native.Nat.{ℕ, _+_, _*_, _/_}
 use native.Mathlib.Nat.{div-eq-of-eq-mul-right}
 use native.Mathlib.Omega.{arith}
 use mathlib.Core.Path.{_≡_, refl, ap, _∙_}
-use mathlib.Core.List.{List, [], _∷_, _++_, append-nil}
+use mathlib.Core.List.{List, _++_, append-nil}
 use lib.Dec.{lit<}
 use lib.ListN.{length, length-append}
 use Rattle.definitions.specs.Layout.{REPORT-ROW}
@@ -12,7 +12,7 @@ use Rattle.definitions.specs.Token.{Token, byte-count}
 use Rattle.definitions.specs.Grammar.{Entry}
 use Rattle.definitions.specs.Skeleton.{Report}
 use Rattle.definitions.specs.Report.{pushes, reports, report-numbers, pool}
-use Rattle.definitions.specs.Strict.{Name-at, reported-names, name-numbers}
+use Rattle.definitions.specs.Strict.{reported-names, name-numbers}
 use Rattle.definitions.specs.Call.{sheets, run-entry, names-of}
 use Rattle.laws.proofs.ReportNumbers.{report-numbers-length, name-numbers-length}
 use Rattle.laws.proofs.Accepted.{written-by}

@@ -5,12 +5,12 @@ use native.Mathlib.Omega.{arith}
 use mathlib.Core.Path.{_≡_, refl, sym, subst}
 use mathlib.Core.List.{List, [], _∷_}
 use mathlib.Core.Logic.{_⊎_, inl}
-use lib.ListN.{take, drop, replicate}
+use lib.ListN.{take, replicate}
 use Rattle.definitions.specs.Call.{Buffers, Answer, Result, call}
 use Rattle.laws.specs.TreeRows.{Rows, end, leaf, node, read}
 use Rattle.strict.specs.AsItWas as W
 use Rattle.strict.specs.Settings.{Same-tree}
-use Rattle.strict.specs.Exactly.{Letter, underscore, In-label, Leading-digit, Keeps-rule, raw-tokens, Unbraced, here, Judged, in-label, in-phandle, deeper, past-leaf, past-node, Breaks, tree-of, report-row, mark, Exact}
+use Rattle.strict.specs.Exactly.{underscore, In-label, Leading-digit, Keeps-rule, raw-tokens, Unbraced, here, Judged, in-label, in-phandle, deeper, past-leaf, past-node, Breaks, tree-of, report-row, mark, Exact}
 use Rattle.strict.proofs.AsItWas.{as-it-was}
 use Rattle.strict.proofs.Settings.{one-strict-setting, leaves-tree-alone, same-refusals, old-refusals}
 use Rattle.strict.proofs.Exactly.{exactly}
