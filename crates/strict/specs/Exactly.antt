@@ -12,7 +12,6 @@ use lib.ListN.{take, drop, getD}
 use Rattle.definitions.specs.Layout.{TREE-ROW, REPORT-ROW, REPORT-MARK}
 use Rattle.definitions.specs.TokenKind as K
 use Rattle.definitions.specs.NodeKind as N
-use Rattle.definitions.specs.Errors as E
 use Rattle.definitions.specs.Call.{Buffers, Result, call}
 use Rattle.laws.specs.TreeRows.{Rows, end, leaf, node, read}
 
@@ -95,7 +94,7 @@ mark r q = getD (r .buffers .reports) (REPORT-ROW * q + REPORT-MARK) 0
 -- all; hint 0 and no label.
 abbrev pub Reports : Result → ℕ → ℕ → ℕ → ℕ → Type 0
 Reports r q at byte width =
-    report-row r q ≡ E.not-a-label ∷ byte ∷ (byte + width) ∷ at ∷ r .answer .expectation-count ∷ 0 ∷ E.no-hint ∷ 0 ∷ 0 ∷ []
+    report-row r q ≡ 8 ∷ byte ∷ (byte + width) ∷ at ∷ r .answer .expectation-count ∷ 0 ∷ 0 ∷ 0 ∷ 0 ∷ []
 
 -- of a result r: its reports from row c on are those of the Names that break the rule
 pub record Exact (bytes : List ℕ) (c : ℕ) (r : Result) : Type 0 where

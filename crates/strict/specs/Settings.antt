@@ -8,7 +8,7 @@ use mathlib.Core.Path.{_≡_}
 use mathlib.Core.List.{List}
 use mathlib.Core.Logic.{_⊎_}
 use lib.ListN.{take}
-use Rattle.definitions.specs.Layout.{REPORT-ROW, NO-REPORT-ROOM, NO-TREE-ROOM}
+use Rattle.definitions.specs.Layout.{REPORT-ROW}
 use Rattle.definitions.specs.Call.{Buffers, Result, call}
 
 -- every number but 0 is the strict setting
@@ -52,7 +52,7 @@ Leaves-tree-alone =
 abbrev pub Same-refusals : Type 0
 Same-refusals =
     (n s : ℕ) (bytes tokens : List ℕ) (b : Buffers) → (call n s bytes tokens b .answer .number ≡ 0 → ⊥)
-    → (call n s bytes tokens b .answer .number ≡ NO-REPORT-ROOM → ⊥)
+    → (call n s bytes tokens b .answer .number ≡ 7 → ⊥)
     → call n 0 bytes tokens b ≡ call n s bytes tokens b
 
 -- where the old setting refuses, so does any, with the same answer and buffers; but where it gives 8, another may
@@ -61,4 +61,4 @@ abbrev pub Old-refusals : Type 0
 Old-refusals =
     (n s : ℕ) (bytes tokens : List ℕ) (b : Buffers) → (call n 0 bytes tokens b .answer .number ≡ 0 → ⊥)
     → (call n s bytes tokens b ≡ call n 0 bytes tokens b)
-    ⊎ ((call n 0 bytes tokens b .answer .number ≡ NO-TREE-ROOM) × (call n s bytes tokens b .answer .number ≡ NO-REPORT-ROOM))
+    ⊎ ((call n 0 bytes tokens b .answer .number ≡ 8) × (call n s bytes tokens b .answer .number ≡ 7))
