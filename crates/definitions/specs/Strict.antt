@@ -1,9 +1,9 @@
--- Document 02, 1/14: labels that start with a digit. "The Devicetree Specification lets a label hold letters, digits and
--- underscores and forbids a leading digit. Partners want a strict setting beside the old one. It leaves the tree alone
--- and adds message 8 for each Name directly under a DtLabel, or directly under an unbraced DtPhandle, that breaks the
--- rule. These reports, which the Rust lacks, follow all others, in leaf order, with hint 0 and no label. Each covers the
--- name, and its mark is the index of the name's first token. Length isn't judged. One that doesn't fit is refusal 7 with
--- that mark, before 8."
+-- Document 02, 1/14: labels that start with a digit. "The Devicetree Specification lets a label hold letters, digits
+-- and underscores and forbids a leading digit. Partners want a strict setting beside the old one. It leaves the tree
+-- alone and adds message 8 for each Name directly under a DtLabel, or directly under an unbraced DtPhandle, that
+-- breaks the rule. These reports, which the Rust lacks, follow all others, in leaf order, with hint 0 and no label.
+-- Each covers the name, and its mark is the index of the name's first token. Length isn't judged. One that doesn't fit
+-- is refusal 7 with that mark, before 8."
 use Prim.Native.Nat.{ℕ, zero, suc, _+_, _-_}
 use mathlib.Core.Bool.{Bool, true, false, cond, not, _&&_, _||_}
 use mathlib.Core.List.{List, [], _∷_, _++_}

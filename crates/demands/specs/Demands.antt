@@ -1,6 +1,6 @@
--- THE DEMANDS: the three promises, of every call of the definitions in either setting, what the strict setting promises,
--- and what holds beside them. Each line names the file that words it. The exported routine answers as the definitions do (crates/dt_parser/src/lib.rt), so all of this
--- holds of it too.
+-- THE DEMANDS: the three promises, of every call of the definitions in either setting, what the strict setting
+-- promises, and what holds beside them. Each line names the file that words it. The exported routine answers as the
+-- definitions do (crates/dt_parser/src/lib.rt), so all of this holds of it too.
 use Rattle.refusals.specs.Refusals.{Refusals}
 use Rattle.refusals.specs.Answered.{Answered}
 use Rattle.laws.specs.Lossless.{Nothing-lost}

@@ -1,5 +1,5 @@
--- The reports of some Names, pushed one after the other: all fit, and stand in the buffer as the definitions say, or the
--- first that does not fit is refusal 7.
+-- The reports of some Names, pushed one after the other: all fit, and stand in the buffer as the definitions say, or
+-- the first that does not fit is refusal 7.
 use Prim.Native.Nat.{ℕ, zero, suc, _+_, _-_, _*_, _≤_, _<_}
 use native.Mathlib.Omega.{arith}
 use native.Mathlib.Nat.{mod-eq-of-lt}

@@ -5,8 +5,8 @@
 --    row.
 -- 2. Rows: the event rows of a skeleton before a sweep and after it; a row read and written.
 -- 3. Standing: where a sweep stands among a file's tokens, and what a token and a name do there.
--- 4. Sweeps: one induction over the skeleton; its events leave the kinds by which Names are judged, and report the Names
---    that the skeleton holds (laws/proofs/NamesFound).
+-- 4. Sweeps: one induction over the skeleton; its events leave the kinds by which Names are judged, and report the
+--    Names that the skeleton holds (laws/proofs/NamesFound).
 -- 5. Fitting: the reports of these Names, one after the other: all fit, or the first that does not is refusal 7.
 -- 6. Names: both sweeps, the promise.
 pub mod LabelBytes

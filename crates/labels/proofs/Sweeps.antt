@@ -1,5 +1,5 @@
--- A sweep over the rows of a skeleton: one induction. It comes back to the node that it started in, leaves the rows with
--- the kinds by which Names are judged, and, if it writes, reports the Names that the skeleton holds.
+-- A sweep over the rows of a skeleton: one induction. It comes back to the node that it started in, leaves the rows
+-- with the kinds by which Names are judged, and, if it writes, reports the Names that the skeleton holds.
 use Prim.Native.Nat.{ℕ, suc, _+_, _-_, _*_, _≤_, _<_}
 use native.Mathlib.Omega.{arith}
 use native.Mathlib.Nat.{mod-eq-of-lt}

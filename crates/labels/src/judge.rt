@@ -130,8 +130,8 @@ fn judge_names(
 }
 
 // The reports that a setting adds to a run that broke no limit. The first clause says what becomes of any buffers; the
-// second, that for events that encode a skeleton it is what the definitions say. n: how many events the run pushed. written: how many report
-// numbers it wrote; theirs follow. first: how many expectations it wrote.
+// second, that for events that encode a skeleton it is what the definitions say. n: how many events the run pushed.
+// written: how many report numbers it wrote; theirs follow. first: how many expectations it wrote.
 pub fn report_names(
     setting: u32,
     root_kind: u32,

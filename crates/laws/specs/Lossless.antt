@@ -1,7 +1,7 @@
--- NOTHING LOST. For every accepted call of each of the four entries, in either setting, what holds of the numbers that it
--- leaves in the buffers. It is a claim about the rows, not about a tree inside the definitions: the tree here is the one
--- that a reader of the rows finds. It excludes a parser that drops or doubles a token or trivia, invents a width or a
--- child count, or loses or shifts a lexical error.
+-- NOTHING LOST. For every accepted call of each of the four entries, in either setting, what holds of the numbers that
+-- it leaves in the buffers. It is a claim about the rows, not about a tree inside the definitions: the tree here is
+-- the one that a reader of the rows finds. It excludes a parser that drops or doubles a token or trivia, invents a
+-- width or a child count, or loses or shifts a lexical error.
 use Prim.Native.Nat.{ℕ, suc, _+_, _*_}
 use mathlib.Core.Path.{_≡_}
 use mathlib.Core.Bool.{true, cond}

@@ -58,7 +58,8 @@ last-answer s w m = cond (eqb (w .refusal) 0) (sunk-answer s (w .written) (m .po
 
 -- the buffers after all of them
 abbrev pub after-all : List ℕ → List ℕ → List ℕ → List ℕ → Machine → Buffers
-after-all events trees errors reports m = record { events = events; trees = trees; errors = errors; reports = reports; pool = m .pool .numbers }
+after-all events trees errors reports m =
+    record { events = events; trees = trees; errors = errors; reports = reports; pool = m .pool .numbers }
 
 -- buffers of the same lengths
 pub record Same-lengths (b c : Buffers) : Type 0 where
@@ -83,8 +84,8 @@ pub record After-run (setting : ℕ) (e : Entry) (bytes tokens : List ℕ) (b : 
   pub named : Names.Promise setting (root-kind e) bytes tokens (m .events .count / EVENT-ROW) (m .reports .count) (low (m .pool .count))
       (m .events .numbers) (m .reports .numbers) w reports
 
--- THE CALL'S END, for every entry and setting, every input that passes causes 2 to 4, and lent buffers of any lengths and
--- contents
+-- THE CALL'S END, for every entry and setting, every input that passes causes 2 to 4, and lent buffers of any lengths
+-- and contents
 pub record Call-ends (setting : ℕ) (e : Entry) (bytes tokens : List ℕ) (b : Buffers) (m : Machine) : Type 0 where
   -- causes 5 to 7: whatever the buffers hold by then
   pub refused : (m .refusal ≡ 0 → ⊥) → (c : Buffers) → Same-lengths b c
