@@ -20,7 +20,7 @@ use Rattle.laws.proofs.NamesFound.{Back, forward, forwards}
 use Rattle.machine.specs.Machine.{fits}
 use Rattle.labels.specs.Model.{breaks, name-row, put-row}
 use Rattle.labels.specs.Promise.{Leaves}
-use Rattle.labels.proofs.Standing.{Rep, pushed, emit, emits}
+use Rattle.labels.proofs.Standing.{Rep, Sweeping, pushed, emit, emits}
 
 -- a range that ends within the input
 pub breaks-rule : (bytes : List ℕ) (start end : ℕ) → end ≤ length bytes → breaks bytes start end ≡ not (keeps-rule (take (end - start) (drop start bytes)))
@@ -53,7 +53,16 @@ pub refused-not : (q : Refusal) → refused q ≡ accepted → ⊥
 unfolding verdict-number
 refused-not q e = let y : _≡_ {A = ℕ} 1 0 = ap verdict-number e in omega arith
 
-module _ (bytes : List ℕ) (all : List Token) (first : ℕ) (few : byte-count all < TWO-TO-32) (many : length all < TWO-TO-32) (covered : byte-count all ≡ length bytes) where
+module _ (F : Sweeping) (many : length (F .all) < TWO-TO-32) (covered : byte-count (F .all) ≡ length (F .bytes)) where
+  abbrev bytes : List ℕ
+  bytes = F .bytes
+
+  abbrev all : List Token
+  all = F .all
+
+  abbrev first : ℕ
+  first = F .first
+
   -- the Names, in the file
   abbrev pub named : List Back → List Name-at
   named l = breaking bytes (forwards (length all) (byte-count all) l)
@@ -69,15 +78,15 @@ module _ (bytes : List ℕ) (all : List Token) (first : ℕ) (few : byte-count a
     pub place : q .place ≡ m
 
   -- once refused, nothing changes
-  emits-stopped : (l : List Back) (m : ℕ) (q : Rep) → Stopped m q → Stopped m (emits bytes all first few l q)
+  emits-stopped : (l : List Back) (m : ℕ) (q : Rep) → Stopped m q → Stopped m (emits F l q)
   unfolding emits emit pushed
   emits-stopped [] m q h = h
-  emits-stopped (x ∷ l) m q h = emits-stopped l m (emit bytes all first few x q) (subst (Stopped m) (sym (same (breaks bytes (byte-count all - x .bytes-left) (byte-count all - x .bytes-after)))) h)
+  emits-stopped (x ∷ l) m q h = emits-stopped l m (emit F x q) (subst (Stopped m) (sym (same (breaks bytes (byte-count all - x .bytes-left) (byte-count all - x .bytes-after)))) h)
     where
       no : eqb (q .refusal) 0 ≡ false
       no = ap (λ n. eqb n 0) (h .refusal)
 
-      same : (b : Bool) → cond b (pushed bytes all first few (byte-count all - x .bytes-left) (byte-count all - x .bytes-after) (length all - x .tokens-left) q) q ≡ q
+      same : (b : Bool) → cond b (pushed F (byte-count all - x .bytes-left) (byte-count all - x .bytes-after) (length all - x .tokens-left) q) q ≡ q
       same true = rw no refl
       same false = refl
 
@@ -139,7 +148,7 @@ module _ (bytes : List ℕ) (all : List Token) (first : ℕ) (few : byte-count a
   name-of x = forward (length all) (byte-count all) x
 
   push-fits : (x : Back) (r : Rep) (room : ℕ) → r .refusal ≡ 0 → Leaves (r .written) (suc room) (r .reports)
-      → pushed bytes all first few (name-of x .start) (name-of x .end) (name-of x .first-token) r ≡ fitted (name-of x) r
+      → pushed F (name-of x .start) (name-of x .end) (name-of x .first-token) r ≡ fitted (name-of x) r
   unfolding pushed
   push-fits x r room z h =
       let e : leb (r .written) (length (r .reports)) ≡ true = le-leb (r .written) (length (r .reports)) (omega (arith, h .enough)) in
@@ -149,7 +158,7 @@ module _ (bytes : List ℕ) (all : List Token) (first : ℕ) (few : byte-count a
       rw (y, e, f, g) refl
 
   push-stops : (x : Back) (r : Rep) → r .refusal ≡ 0 → Leaves (r .written) 0 (r .reports)
-      → Stopped (name-of x .first-token) (pushed bytes all first few (name-of x .start) (name-of x .end) (name-of x .first-token) r)
+      → Stopped (name-of x .first-token) (pushed F (name-of x .start) (name-of x .end) (name-of x .first-token) r)
   unfolding pushed
   push-stops x r z h =
       let e : leb (r .written) (length (r .reports)) ≡ true = le-leb (r .written) (length (r .reports)) (omega (arith, h .enough)) in
@@ -166,15 +175,15 @@ module _ (bytes : List ℕ) (all : List Token) (first : ℕ) (few : byte-count a
   named-cons x l c e = breaks-or bytes (name-of x) (forwards (length all) (byte-count all) l) c (sym (breaks-rule bytes (name-of x .start) (name-of x .end) (omega (arith, covered))) ∙ e)
 
   abbrev one : Back → Rep → Rep
-  one x r = pushed bytes all first few (name-of x .start) (name-of x .end) (name-of x .first-token) r
+  one x r = pushed F (name-of x .start) (name-of x .end) (name-of x .first-token) r
 
-  emits-cons : (x : Back) (l : List Back) (r : Rep) (c : Bool) → test x ≡ c → emits bytes all first few (x ∷ l) r ≡ emits bytes all first few l (cond c (one x r) r)
+  emits-cons : (x : Back) (l : List Back) (r : Rep) (c : Bool) → test x ≡ c → emits F (x ∷ l) r ≡ emits F l (cond c (one x r) r)
   unfolding emits emit
-  emits-cons x l r c e = ap (λ (b : Bool). emits bytes all first few l (cond b (one x r) r)) e
+  emits-cons x l r c e = ap (λ (b : Bool). emits F l (cond b (one x r) r)) e
 
   -- ALL FIT
   pub all-follow : (l : List Back) (room : ℕ) (r : Rep) → r .refusal ≡ 0 → Leaves (r .written) room (r .reports) → names-fit room (named l) ≡ accepted
-      → Followed r (named l) (emits bytes all first few l r)
+      → Followed r (named l) (emits F l r)
   unfolding names-fit emits forwards breaking name-numbers
   all-follow [] room r z h f =
       let w : r .written + 0 * REPORT-ROW ≡ r .written = omega arith in
@@ -186,23 +195,23 @@ module _ (bytes : List ℕ) (all : List Token) (first : ℕ) (few : byte-count a
   all-follow (x ∷ l) room r z h f = go (test x) refl room h f (λ s m g e. all-follow l m s g e)
     where
       go : (c : Bool) → test x ≡ c → (room : ℕ) → Leaves (r .written) room (r .reports) → names-fit room (named (x ∷ l)) ≡ accepted
-          → ((s : Rep) (m : ℕ) → s .refusal ≡ 0 → Leaves (s .written) m (s .reports) → names-fit m (named l) ≡ accepted → Followed s (named l) (emits bytes all first few l s))
-          → Followed r (named (x ∷ l)) (emits bytes all first few (x ∷ l) r)
+          → ((s : Rep) (m : ℕ) → s .refusal ≡ 0 → Leaves (s .written) m (s .reports) → names-fit m (named l) ≡ accepted → Followed s (named l) (emits F l s))
+          → Followed r (named (x ∷ l)) (emits F (x ∷ l) r)
       go false e room h f k =
-          subst (λ (v : List Name-at). Followed r v (emits bytes all first few (x ∷ l) r)) (sym (named-cons x l false e))
+          subst (λ (v : List Name-at). Followed r v (emits F (x ∷ l) r)) (sym (named-cons x l false e))
           (subst (Followed r (named l)) (sym (emits-cons x l r false e)) (k r room z h (ap (names-fit room) (sym (named-cons x l false e)) ∙ f)))
       go true e zero h f k =
           let y : refused (no-report-room (name-of x .first-token)) ≡ accepted = ap (names-fit 0) (sym (named-cons x l true e)) ∙ f in
           absurd (refused-not _ y)
       go true e (suc room) h f k =
-          subst (λ (v : List Name-at). Followed r v (emits bytes all first few (x ∷ l) r)) (sym (named-cons x l true e))
-          (subst (Followed r (name-of x ∷ named l)) (sym (emits-cons x l r true e ∙ ap (emits bytes all first few l) (push-fits x r room z h)))
+          subst (λ (v : List Name-at). Followed r v (emits F (x ∷ l) r)) (sym (named-cons x l true e))
+          (subst (Followed r (name-of x ∷ named l)) (sym (emits-cons x l r true e ∙ ap (emits F l) (push-fits x r room z h)))
           (followed-one (name-of x) (named l) r _ (omega (arith, h .enough))
           (k (fitted (name-of x) r) room z (leaves-less (name-of x) r room h) (ap (names-fit (suc room)) (sym (named-cons x l true e)) ∙ f))))
 
   -- THE FIRST THAT DOES NOT FIT
   pub first-stops : (l : List Back) (room : ℕ) (r : Rep) (m : ℕ) → r .refusal ≡ 0 → Leaves (r .written) room (r .reports) → names-fit room (named l) ≡ refused (no-report-room m)
-      → Stopped m (emits bytes all first few l r)
+      → Stopped m (emits F l r)
   unfolding names-fit emits forwards breaking place-of
   first-stops [] room r m z h f = absurd (refused-not _ (sym f))
   first-stops (x ∷ l) room r m z h f = go (test x) refl room h f (λ s n g e. first-stops l n s m g e)
@@ -212,12 +221,12 @@ module _ (bytes : List ℕ) (all : List Token) (first : ℕ) (few : byte-count a
       place-in (refused q) = place-of q
 
       go : (c : Bool) → test x ≡ c → (room : ℕ) → Leaves (r .written) room (r .reports) → names-fit room (named (x ∷ l)) ≡ refused (no-report-room m)
-          → ((s : Rep) (n : ℕ) → s .refusal ≡ 0 → Leaves (s .written) n (s .reports) → names-fit n (named l) ≡ refused (no-report-room m) → Stopped m (emits bytes all first few l s))
-          → Stopped m (emits bytes all first few (x ∷ l) r)
+          → ((s : Rep) (n : ℕ) → s .refusal ≡ 0 → Leaves (s .written) n (s .reports) → names-fit n (named l) ≡ refused (no-report-room m) → Stopped m (emits F l s))
+          → Stopped m (emits F (x ∷ l) r)
       go false e room h f k = subst (Stopped m) (sym (emits-cons x l r false e)) (k r room z h (ap (names-fit room) (sym (named-cons x l false e)) ∙ f))
       go true e zero h f k =
           let y : name-of x .first-token ≡ m = ap place-in (ap (names-fit 0) (sym (named-cons x l true e)) ∙ f) in
           subst (Stopped m) (sym (emits-cons x l r true e)) (emits-stopped l m (one x r) (subst (λ k. Stopped k (one x r)) y (push-stops x r z h)))
       go true e (suc room) h f k =
-          subst (Stopped m) (sym (emits-cons x l r true e ∙ ap (emits bytes all first few l) (push-fits x r room z h)))
+          subst (Stopped m) (sym (emits-cons x l r true e ∙ ap (emits F l) (push-fits x r room z h)))
           (k (fitted (name-of x) r) room z (leaves-less (name-of x) r room h) (ap (names-fit (suc room)) (sym (named-cons x l true e)) ∙ f))

@@ -19,10 +19,12 @@ use Rattle.machine.specs.Encode.{encode}
 use Rattle.labels.specs.declared.sweep.Sweep.{Sweep}
 use Rattle.labels.specs.Model.{braced-if, judged-kind, On, on, eventsN, begun, again, judged-on, names-on}
 use Rattle.labels.specs.Promise.{Swept-events, Named, Promise}
-use Rattle.labels.proofs.Rows.{judged-under, size, Coded, encode-coded, coded-length, reach}
-use Rattle.labels.proofs.Standing.{Rep, Part, there, emits}
-use Rattle.labels.proofs.Sweeps as S
-use Rattle.labels.proofs.Fitting as F
+use Rattle.labels.proofs.Rows.{judged-under, size, Coded, encode-coded, coded-length, reach, unbraced}
+use Rattle.labels.proofs.Standing.{Rep, Sweeping, Part, there, emits}
+use Rattle.labels.proofs.Events.{Runs}
+use Rattle.labels.proofs.Pieces.{state, wrote, Swept, Agrees}
+use Rattle.labels.proofs.Sweeps.{sweep}
+use Rattle.labels.proofs.Fitting as Fit
 use Rattle.labels.proofs.Fitting.{Followed, Stopped, all-follow, first-stops}
 
 module _ (k : ℕ) (bytes tokens : List ℕ) (n written first : ℕ) (events reports : List ℕ) (o : Skeleton) (h : Swept-events o bytes tokens events n) where
@@ -41,11 +43,15 @@ module _ (k : ℕ) (bytes tokens : List ℕ) (n written first : ℕ) (events rep
   unnamed : Unnamed ts
   unnamed = unnamed-input ts (passed-input .good)
 
-  whole : Part bytes ts first few ts
-  whole = record { before = []; split = refl }
-
   abbrev R : List ℕ
   R = encode false o
+
+  -- the sweep over this file
+  abbrev F : Bool → Sweeping
+  F w = record { writes = w; bytes = bytes; all = ts; few = few; first = first; most = length R; small = h .small }
+
+  whole : (w : Bool) → Part (F w) ts
+  whole w = record { before = []; split = refl }
 
   abbrev start : Rep
   start = record { written = written; refusal = 0; place = 0; reports = reports }
@@ -56,56 +62,56 @@ module _ (k : ℕ) (bytes tokens : List ℕ) (n written first : ℕ) (events rep
       let c : length R ≡ n * EVENT-ROW = h .count in
       omega arith
 
-  begun-there : (j : ℕ) → begun j written ≡ there bytes ts first few ts 0 j start
+  begun-there : (j : ℕ) → begun j written ≡ there (F true) ts 0 j start
   begun-there j =
       let a : length ts - length ts ≡ 0 = omega arith in
       let b : byte-count ts - byte-count ts ≡ 0 = omega arith in
       rw (a, b) refl
 
   -- all events of a sweep
-  swept-all : (w : Bool) (b : Bool) (Q : List ℕ) (j : ℕ) → Coded b o ts Q → length Q ≡ length R → S.Agrees w bytes ts first few (length R) (h .small) b j (curly o ts)
-      → S.Swept w bytes ts first few (length R) (h .small) o ts Q [] (h .more) 0 0 j start
-  swept-all w b Q j c l g = S.sweep w bytes ts first few (length R) (h .small) b o ts Q [] (h .more) 0 0 j start (h .chained) whole c refl (omega arith) g
+  swept-all : (w : Bool) (b : Bool) (Q : List ℕ) (j : ℕ) → Coded b o ts Q → length Q ≡ length R → Agrees (F w) b j (curly o ts)
+      → Swept (F w) o ts Q [] (h .more) 0 0 j start
+  swept-all w b Q j c l g = sweep (F w) b o ts Q [] (h .more) 0 0 j start (h .chained) (whole w) c refl (omega arith) g
 
-  ends-in : (w : Bool) (b : Bool) (Q : List ℕ) (j : ℕ) (x : S.Swept w bytes ts first few (length R) (h .small) o ts Q [] (h .more) 0 0 j start)
+  ends-in : (w : Bool) (Q : List ℕ) (j : ℕ) (x : Swept (F w) o ts Q [] (h .more) 0 0 j start)
       → eventsN n w bytes ts first 0 (on (begun j written) (Q ++ h .more) reports)
-      ≡ S.state w bytes ts first few (length R) (h .small) (reach o ts) 0 (braced-if (curly o ts) j) (S.wrote w bytes ts first few (length R) (h .small) (found (judged-kind j) o ts) start) (x .rows ++ h .more)
-  unfolding S.Runs eventsN
-  ends-in w b Q j x =
+      ≡ state (F w) (reach o ts) 0 (braced-if (curly o ts) j) (wrote (F w) (found (judged-kind j) o ts) start) (x .rows ++ h .more)
+  unfolding Runs eventsN
+  ends-in w Q j x =
       let m : n ≡ size o + 0 = (let e : n ≡ size o = size-is in omega arith) in
       ap (λ q. eventsN q w bytes ts first 0 (on (begun j written) (Q ++ h .more) reports)) m
       ∙ ap (λ (s : Sweep). eventsN (size o + 0) w bytes ts first 0 (on s (Q ++ h .more) reports)) (begun-there j)
       ∙ x .runs 0
 
   -- the first sweep, which writes nothing
-  first-sweep : S.Swept false bytes ts first few (length R) (h .small) o ts R [] (h .more) 0 0 k start
+  first-sweep : Swept (F false) o ts R [] (h .more) 0 0 k start
   first-sweep = swept-all false false R k (encode-coded false o ts) refl (λ e. absurd (mathlib.Core.Bool.false≢true e))
 
   abbrev judged-as : ℕ
   judged-as = braced-if (curly o ts) k
 
   -- the second one, over the rows that the first one left
-  second-sweep : S.Swept true bytes ts first few (length R) (h .small) o ts (first-sweep .rows) [] (h .more) 0 0 judged-as start
+  second-sweep : Swept (F true) o ts (first-sweep .rows) [] (h .more) 0 0 judged-as start
   second-sweep =
       swept-all true true (first-sweep .rows) judged-as (first-sweep .coded)
       (coded-length true o ts (first-sweep .rows) (first-sweep .coded) ∙ sym (coded-length false o ts R (encode-coded false o ts)))
-      (λ e. (refl, S.unbraced true bytes ts first few (length R) (h .small) true (curly o ts) k refl))
+      (λ e. (refl, unbraced true (curly o ts) k refl))
 
   -- the Names that they find
   abbrev names : List Back
   names = found (under k (curly o ts)) o ts
 
   abbrev last : Rep
-  last = emits bytes ts first few names start
+  last = emits (F true) names start
 
   both : judged-on k bytes ts n written first events reports
-      ≡ on (there bytes ts first few (reach o ts) 0 (braced-if (curly o ts) judged-as) last) (second-sweep .rows ++ h .more) (last .reports)
+      ≡ on (there (F true) (reach o ts) 0 (braced-if (curly o ts) judged-as) last) (second-sweep .rows ++ h .more) (last .reports)
   unfolding judged-on
   both =
       ap (λ (x : List ℕ). again true bytes ts first n written (eventsN n false bytes ts first 0 (on (begun k written) x reports))) (h .rows)
-      ∙ ap (again true bytes ts first n written) (ends-in false false R k first-sweep)
-      ∙ ends-in true true (first-sweep .rows) judged-as second-sweep
-      ∙ ap (λ (u : Bool). S.state true bytes ts first few (length R) (h .small) (reach o ts) 0 (braced-if (curly o ts) judged-as) (emits bytes ts first few (found u o ts) start) (second-sweep .rows ++ h .more)) (judged-under (curly o ts) k)
+      ∙ ap (again true bytes ts first n written) (ends-in false R k first-sweep)
+      ∙ ends-in true (first-sweep .rows) judged-as second-sweep
+      ∙ ap (λ (u : Bool). state (F true) (reach o ts) 0 (braced-if (curly o ts) judged-as) (emits (F true) (found u o ts) start) (second-sweep .rows ++ h .more)) (judged-under (curly o ts) k)
 
   strict-names : (setting : ℕ) → eqb setting OLD-SETTING ≡ false → reported-names setting bytes (root k o ts) ≡ breaking bytes (forwards (length ts) (byte-count ts) names)
   unfolding reported-names
@@ -113,19 +119,19 @@ module _ (k : ℕ) (bytes tokens : List ℕ) (n written first : ℕ) (events rep
 
   -- what the strict setting reports
   strict-named : Named (breaking bytes (forwards (length ts) (byte-count ts) names)) first written reports
-      (there bytes ts first few (reach o ts) 0 (braced-if (curly o ts) judged-as) last) (last .reports)
+      (there (F true) (reach o ts) 0 (braced-if (curly o ts) judged-as) last) (last .reports)
   strict-named =
       record {
-        fits = λ room l f. (let a : Followed bytes ts first few many (passed-input .covered) start (F.named bytes ts first few many (passed-input .covered) names) last = all-follow bytes ts first few many (passed-input .covered) names room start refl l f in
+        fits = λ room l f. (let a : Followed (F true) many (passed-input .covered) start (Fit.named (F true) many (passed-input .covered) names) last = all-follow (F true) many (passed-input .covered) names room start refl l f in
             record { refusal = a .refusal; count = a .written; rows = a .reports });
-        lacks = λ room m l f. (let a : Stopped bytes ts first few many (passed-input .covered) m last = first-stops bytes ts first few many (passed-input .covered) names room start m refl l f in
+        lacks = λ room m l f. (let a : Stopped (F true) many (passed-input .covered) m last = first-stops (F true) many (passed-input .covered) names room start m refl l f in
             record { refusal = a .refusal; place = a .place });
       }
 
   strict-reported : (setting : ℕ) → eqb setting OLD-SETTING ≡ false → Named (reported-names setting bytes (root k o ts)) first written reports
-      (there bytes ts first few (reach o ts) 0 (braced-if (curly o ts) judged-as) last) (last .reports)
+      (there (F true) (reach o ts) 0 (braced-if (curly o ts) judged-as) last) (last .reports)
   strict-reported setting e =
-      subst (λ (l : List Name-at). Named l first written reports (there bytes ts first few (reach o ts) 0 (braced-if (curly o ts) judged-as) last) (last .reports))
+      subst (λ (l : List Name-at). Named l first written reports (there (F true) (reach o ts) 0 (braced-if (curly o ts) judged-as) last) (last .reports))
       (sym (strict-names setting e)) strict-named
 
   -- what the old one does: nothing
@@ -136,7 +142,7 @@ module _ (k : ℕ) (bytes tokens : List ℕ) (n written first : ℕ) (events rep
       rw e
       (record {
         fits = λ room l f. record { refusal = refl; count = sym z; rows = sym (take-append-drop written reports) ∙ ap (λ q. take written reports ++ drop q reports) (sym z) };
-        lacks = λ room m l f. absurd (F.refused-not (no-report-room m) (sym f));
+        lacks = λ room m l f. absurd (Fit.refused-not (no-report-room m) (sym f));
       })
 
 -- THE NAMES' REPORTS

@@ -115,6 +115,16 @@ abbrev pub kind-in : Bool → Bool → ℕ → ℕ
 kind-in false c k = k
 kind-in true c k = braced-if c k
 
+-- a kind that a sweep has left is braced where an LCurly stands
+pub unbraced : (b c : Bool) (k : ℕ) → b ≡ true → (c && eqb (kind-in b c k) N.DtPhandle) ≡ false
+unbraced false c k e = absurd (mathlib.Core.Bool.false≢true e)
+unbraced true false k e = refl
+unbraced true true k e = go (eqb k N.DtPhandle) refl
+  where
+    go : (q : Bool) → eqb k N.DtPhandle ≡ q → eqb (cond q BRACED k) N.DtPhandle ≡ false
+    go true h = refl
+    go false h = h
+
 -- four parts: the rows of what stands before, those inside, those after, and the whole
 pub record Parts : Type 0 where
   pub before : List ℕ

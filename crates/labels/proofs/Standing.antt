@@ -40,8 +40,30 @@ pub past-drop : (ts : List Token) → drop 1 ts ≡ past ts
 past-drop [] = refl
 past-drop (t ∷ ts) = refl
 
--- all: the tokens of the file. first: how many expectations were written.
-module _ (bytes : List ℕ) (all : List Token) (first : ℕ) (few : byte-count all < TWO-TO-32) where
+-- A sweep over a file: whether it writes; the file's bytes and tokens; how many expectations were written before it;
+-- the most event numbers that it goes over.
+pub record Sweeping : Type 0 where
+  pub writes : Bool
+  pub bytes : List ℕ
+  pub all : List Token
+  pub few : byte-count all < TWO-TO-32
+  pub first : ℕ
+  pub most : ℕ
+  pub small : most < TWO-TO-32
+
+module _ (F : Sweeping) where
+  abbrev bytes : List ℕ
+  bytes = F .bytes
+
+  abbrev all : List Token
+  all = F .all
+
+  abbrev first : ℕ
+  first = F .first
+
+  few : byte-count all < TWO-TO-32
+  few = F .few
+
   -- what is left of them at some place
   pub record Part (ts : List Token) : Type 0 where
     pub before : List Token
