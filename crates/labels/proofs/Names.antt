@@ -14,7 +14,8 @@ use Rattle.definitions.specs.Place.{root}
 use Rattle.definitions.specs.Refusal.{no-report-room}
 use Rattle.definitions.specs.Strict.{Name-at, judged, breaking, reported-names, name-numbers, names-fit}
 use Rattle.laws.proofs.Input.{Checked, checked-input}
-use Rattle.laws.proofs.NamesFound.{Back, forwards, curly, under, found, Unnamed, unnamed-input, root-found}
+use Rattle.laws.proofs.NamesFound.{Back, forwards, curly, under, found}
+use Rattle.laws.proofs.NamesPlaced.{Unnamed, unnamed-input, root-found}
 use Rattle.machine.specs.Encode.{encode}
 use Rattle.labels.specs.declared.sweep.Sweep.{Sweep}
 use Rattle.labels.specs.Model.{braced-if, judged-kind, On, on, eventsN, begun, again, judged-on, names-on}

@@ -12,7 +12,7 @@
 --   Decode, Input, Accepted  rows give back their tree; what an accepted call passed, and what it returns
 --   NameLook, Names          an instance of the analysis: which names are taken
 --   Leaves, LexicalErrors, ReportNumbers   the rows of leaves, of lexical errors and of reports
---   NamesFound               the Names that the strict setting judges, read off a skeleton
+--   NamesFound, NamesPlaced  the Names that the strict setting judges, read off a skeleton; they are those of its tree
 --   Lossless, Few, Limits    the statements `nothing-lost` and `limits`; how many expectations are pending
 --   Progress, FactsHold, Takes   an instance of the analysis: items, values and top-level parts take a token
 --   Witnesses, Refutations   computed cases that meet the premises; wrong answers that do not meet the conclusions
@@ -43,6 +43,7 @@ pub mod Leaves
 pub mod LexicalErrors
 pub mod ReportNumbers
 pub mod NamesFound
+pub mod NamesPlaced
 pub mod Lossless
 pub mod Few
 pub mod Limits

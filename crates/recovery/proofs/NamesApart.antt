@@ -19,7 +19,7 @@ use Rattle.definitions.specs.Call.{run-entry, names-of}
 use Rattle.basics.proofs.Tests.{cond-all}
 use Rattle.laws.proofs.Skeleton.{bytes-append}
 use Rattle.laws.proofs.Tree.{leaves, leaves-beside, width-leaves, tokens-leaves}
-use Rattle.laws.proofs.NamesFound.{judged-beside}
+use Rattle.laws.proofs.NamesPlaced.{judged-beside}
 use Rattle.recovery.proofs.Told.{All, all-append}
 use Rattle.recovery.proofs.Turns.{children}
 
