@@ -1,5 +1,5 @@
 -- What the exported call's proof cites: the parse with what is done after it, and the ways around it.
-use Prim.Native.Nat.{ℕ, _/_, _≤_}
+use Prim.Native.Nat.{ℕ, _≤_}
 use native.Mathlib.Omega.{arith}
 use mathlib.Core.Path.{_≡_, refl, ap, sym, _∙_, subst}
 use mathlib.Core.List.{List}
@@ -8,7 +8,6 @@ use lib.Dec.{eqb}
 use lib.ListN.{length, take}
 use borrow.Author.Tests.{eqb-true, eqb-false}
 use Rattle.basics.specs.Word.{low}
-use Rattle.definitions.specs.Layout.{EVENT-ROW}
 use Rattle.definitions.specs.Token.{tokens-of}
 use Rattle.definitions.specs.Refusal.{unknown-entry, Verdict, accepted, check-input, number-of, place-of}
 use Rattle.definitions.specs.Grammar.{Entry, root-kind}
@@ -17,8 +16,8 @@ use Rattle.machine.specs.Machine.{Machine}
 use Rattle.sink.specs.declared.Sunk.{Sunk}
 use Rattle.sink.specs.declared.Sunk.the-variants.{Written, NoRoom}
 use Rattle.sink.specs.Promise as Sink
-use Rattle.labels.specs.declared.sweep.Sweep.{Sweep}
-use Rattle.labels.specs.Promise as Names
+use Rattle.labels.specs.declared.report.Names.{Names}
+use Rattle.labels.specs.Promise as Labels
 use Rattle.refinement.specs.Ends.{swept, refused-at, sunk-answer, last-answer, after-all, Same-lengths, Parsed, Call-ends}
 use Rattle.refinement.proofs.Ends.{calls-end}
 use Rattle.call.specs.declared.Answer.{Answer}
@@ -32,7 +31,7 @@ unfolding number-of place-of
 same-sunk (Written t f) r p = refl
 same-sunk NoRoom r p = refl
 
-same-answer : (s : Sunk) (w : Sweep) (m : Machine) → answer-of (named-with s w (m .pool .count)) ≡ last-answer s w m
+same-answer : (s : Sunk) (w : Names) (m : Machine) → answer-of (named-with s w (m .pool .count)) ≡ last-answer s w m
 same-answer s w m = go (eqb (w .refusal) 0)
   where
     go : (b : Bool) → answer-of (cond b (sunk-with s (w .written) (m .pool .count)) (refused-with (w .refusal) (w .place)))
@@ -52,15 +51,15 @@ module _ (setting : ℕ) (e : Entry) (bytes tokens : List ℕ) (b : Buffers) (m 
 
   -- the buffers after the run
   abbrev run-buffers : Buffers
-  run-buffers = after-all (m .events .numbers) (b .trees) (b .errors) (m .reports .numbers) m
+  run-buffers = after-all (b .trees) (b .errors) (m .reports .numbers) m
 
   module _ (lr : length (m .reports .numbers) ≡ length (b .reports)) (lp : length (m .pool .numbers) ≡ length (b .pool)) (k : ℕ) (root : k ≡ root-kind e) (x : Result)
       (h : Ended (m .refusal) (m .place) k setting (m .events .count) (m .reports .count) (m .pool .count) bytes tokens run-buffers x) where
     abbrev c : Buffers
-    c = after-all (h .events) (h .trees) (h .errors) (h .reports) m
+    c = after-all (h .trees) (h .errors) (h .reports) m
 
     same-lengths : Same-lengths b c
-    same-lengths = record { events = h .events-length ∙ le; trees = h .trees-length; errors = h .errors-length; reports = h .reports-length ∙ lr; pool = lp }
+    same-lengths = record { events = le; trees = h .trees-length; errors = h .errors-length; reports = h .reports-length ∙ lr; pool = lp }
 
     by-refusal : (q : Bool) → eqb (m .refusal) 0 ≡ q → swept (answer-of (h .answer)) c ≡ parse e setting bytes (tokens-of tokens) b
     by-refusal false q =
@@ -70,14 +69,13 @@ module _ (setting : ℕ) (e : Entry) (bytes tokens : List ℕ) (b : Buffers) (m 
         let s : Answer-of-run k setting (m .events .count) (m .reports .count) (m .pool .count) bytes tokens (m .events .numbers) (b .trees) (b .errors) (m .reports .numbers) (h .answer) (h .trees) (h .errors) (h .reports) = h .of-parse .ran q in
         ap (λ (y : Answer). swept (answer-of y) c) (s .answer)
         ∙ ap (λ (y : _). swept y c) (same-answer (s .sunk) (s .names) m)
-        ∙ ends .ended (eqb-true (m .refusal) 0 q) (s .sunk) (s .names) (h .events) (h .trees) (h .errors) (h .reports)
+        ∙ ends .ended (eqb-true (m .refusal) 0 q) (s .sunk) (s .names) (h .trees) (h .errors) (h .reports)
         (record {
-          events-length = h .events-length ∙ le;
           trees-length = h .trees-length;
           errors-length = h .errors-length;
           reports-length = h .reports-length ∙ lr;
           sunk = subst (λ (r : ℕ). Sink.Promise r tokens (take (m .events .count) (m .events .numbers)) (b .trees) (b .errors) (s .sunk) (h .trees) (h .errors)) root (s .placed);
-          named = subst (λ (r : ℕ). Names.Promise setting r bytes tokens (m .events .count / EVENT-ROW) (m .reports .count) (low (m .pool .count)) (m .events .numbers) (m .reports .numbers) (s .names) (h .reports)) root (s .named);
+          named = subst (λ (r : ℕ). Labels.Promise setting r bytes tokens (m .reports .count) (low (m .pool .count)) (take (m .events .count) (m .events .numbers)) (m .reports .numbers) (s .names) (h .reports)) root (s .named);
         })
 
     pub finished : x ≡ parse e setting bytes (tokens-of tokens) b

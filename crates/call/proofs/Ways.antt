@@ -8,14 +8,14 @@ use lib.Dec.{eqb}
 use lib.ListN.{length, take}
 use borrow.Author.Tests.{eqb-true, eqb-false}
 use Rattle.basics.specs.Word.{low}
-use Rattle.definitions.specs.Layout.{EVENT-ROW, TREE-ROW, ERROR-ROW, REPORT-ROW, NO-TREE-ROOM, TWO-TO-32, TWO-TO-64}
+use Rattle.definitions.specs.Layout.{TREE-ROW, ERROR-ROW, REPORT-ROW, NO-TREE-ROOM, TWO-TO-32, TWO-TO-64}
 use Rattle.definitions.specs.Refusal.{Refusal, Verdict, accepted, refused, check-input}
 use Rattle.definitions.specs.Call.{refusal, checked}
 use Rattle.sink.specs.declared.Sunk.{Sunk}
 use Rattle.sink.specs.declared.Sunk.the-variants.{Written, NoRoom}
 use Rattle.sink.specs.Promise as Sink
-use Rattle.labels.specs.declared.sweep.Sweep.{Sweep}
-use Rattle.labels.specs.Promise as Names
+use Rattle.labels.specs.declared.report.Names.{Names}
+use Rattle.labels.specs.Promise as Labels
 use Rattle.refinement.specs.Ends.{wiped, swept}
 use Rattle.call.specs.declared.Answer.{Answer}
 use Rattle.call.specs.Result.{answer-of, buffers-of, result-of}
@@ -59,15 +59,15 @@ unwritten-answer s r n a w e = (e ∙ ap (λ (x : Sunk). sunk-with x r n) (sym w
 -- ---------------------------------------------------------------- answer_of_run
 
 module _ (k setting n r p : ℕ) (bytes tokens events trees errors reports trees′ errors′ reports′ : List ℕ) (s : Sunk)
-    (placed : Sink.Promise k tokens (take n events) trees errors s trees′ errors′) (w : Sweep) (first : ℕ) (low-is : first ≡ low p)
-    (named : Names.Promise setting k bytes tokens (n / EVENT-ROW) r first events reports w reports′) (a : Answer) where
+    (placed : Sink.Promise k tokens (take n events) trees errors s trees′ errors′) (w : Names) (first : ℕ) (low-is : first ≡ low p)
+    (named : Labels.Promise setting k bytes tokens r first (take n events) reports w reports′) (a : Answer) where
   answered : a ≡ named-with s w p → Counts-fit a → Answer-of-run k setting n r p bytes tokens events trees errors reports a trees′ errors′ reports′
   answered e f =
       record {
         sunk = s;
         names = w;
         placed = placed;
-        named = subst (λ (q : ℕ). Names.Promise setting k bytes tokens (n / EVENT-ROW) r q events reports w reports′) low-is named;
+        named = subst (λ (q : ℕ). Labels.Promise setting k bytes tokens r q (take n events) reports w reports′) low-is named;
         answer = e;
         counts-fit = f;
       }
@@ -104,21 +104,19 @@ module _ (number place k setting n r p : ℕ) (bytes tokens events trees errors 
 -- ---------------------------------------------------------------- outcome
 
 -- each buffer cleared after what is written
-pub all-cleared : (number place k setting n r p : ℕ) (bytes tokens events trees errors reports pool : List ℕ) (a : Answer) (events′ trees′ errors′ reports′ : List ℕ)
-    → length events′ ≡ length events → length trees′ ≡ length trees → length errors′ ≡ length errors → length reports′ ≡ length reports
+pub all-cleared : (number place k setting n r p : ℕ) (bytes tokens events trees errors reports pool : List ℕ) (a : Answer) (trees′ errors′ reports′ : List ℕ)
+    → length trees′ ≡ length trees → length errors′ ≡ length errors → length reports′ ≡ length reports
     → Answer-of-parse number place k setting n r p bytes tokens events trees errors reports a trees′ errors′ reports′
-    → (events″ trees″ errors″ reports″ pool″ : List ℕ) → events″ ≡ wiped 0 events′ → trees″ ≡ wiped (a .«tree_count» * TREE-ROW) trees′
+    → (events″ trees″ errors″ reports″ pool″ : List ℕ) → events″ ≡ wiped 0 events → trees″ ≡ wiped (a .«tree_count» * TREE-ROW) trees′
     → errors″ ≡ wiped (a .«error_count» * ERROR-ROW) errors′ → reports″ ≡ wiped (a .«report_count» * REPORT-ROW) reports′ → pool″ ≡ wiped (a .«expectation_count») pool
     → Ended number place k setting n r p bytes tokens (buffers-of events trees errors reports pool) (result-of a (buffers-of events″ trees″ errors″ reports″ pool″))
-all-cleared number place k setting n r p bytes tokens events trees errors reports pool a events′ trees′ errors′ reports′ lv lt le lr h events″ trees″ errors″ reports″ pool″ v t e w q =
-    let z : result-of a (buffers-of events″ trees″ errors″ reports″ pool″) ≡ swept (answer-of a) (buffers-of events′ trees′ errors′ reports′ pool) = rw (v, t, e, w, q) in
+all-cleared number place k setting n r p bytes tokens events trees errors reports pool a trees′ errors′ reports′ lt le lr h events″ trees″ errors″ reports″ pool″ v t e w q =
+    let z : result-of a (buffers-of events″ trees″ errors″ reports″ pool″) ≡ swept (answer-of a) (buffers-of events trees′ errors′ reports′ pool) = rw (v, t, e, w, q) in
     record {
       answer = a;
-      events = events′;
       trees = trees′;
       errors = errors′;
       reports = reports′;
-      events-length = lv;
       trees-length = lt;
       errors-length = le;
       reports-length = lr;

@@ -7,13 +7,13 @@ use lib.Dec.{eqb}
 use lib.ListN.{length, take}
 use denote.Ref.{now}
 use Rattle.basics.specs.Word.{low}
-use Rattle.definitions.specs.Layout.{EVENT-ROW, TREE-ROW, ERROR-ROW, REPORT-ROW, NO-TREE-ROOM, TWO-TO-64}
+use Rattle.definitions.specs.Layout.{TREE-ROW, ERROR-ROW, REPORT-ROW, NO-TREE-ROOM, TWO-TO-64}
 use Rattle.definitions.specs.Call.{Buffers, Result}
 use Rattle.sink.specs.declared.Sunk.{Sunk}
 use Rattle.sink.specs.declared.Sunk.the-variants.{Written, NoRoom}
 use Rattle.sink.specs.Promise as Sink
-use Rattle.labels.specs.declared.sweep.Sweep.{Sweep}
-use Rattle.labels.specs.Promise as Names
+use Rattle.labels.specs.declared.report.Names.{Names}
+use Rattle.labels.specs.Promise as Labels
 use Rattle.refinement.specs.Ends.{swept}
 use Rattle.call.specs.declared.Answer.{Answer}
 use Rattle.call.specs.Result.{Lent, answer-of, buffers-of}
@@ -30,8 +30,8 @@ abbrev pub sunk-with : Sunk → ℕ → ℕ → Answer
 sunk-with (Written t e) r n = accepted-with t e (r / REPORT-ROW) n
 sunk-with NoRoom r n = refused-with NO-TREE-ROOM 0
 
--- and by what the sweeps for the strict setting say: 7 comes before 8
-abbrev pub named-with : Sunk → Sweep → ℕ → Answer
+-- and by what the reports of the setting's Names come to: 7 comes before 8
+abbrev pub named-with : Sunk → Names → ℕ → Answer
 named-with s w n = cond (eqb (w .refusal) 0) (sunk-with s (w .written) n) (refused-with (w .refusal) (w .place))
 
 -- the answer's counts are not large numbers
@@ -46,14 +46,14 @@ pub record Counts-fit (a : Answer) : Type 0 where
 pub record Answer-of-run (root-kind setting events-written reports-written pool-written : ℕ)
     (bytes tokens events trees errors reports : List ℕ) (a : Answer) (trees′ errors′ reports′ : List ℕ) : Type 0 where
   pub sunk : Sunk
-  pub names : Sweep
+  pub names : Names
   pub placed : Sink.Promise root-kind tokens (take events-written events) trees errors sunk trees′ errors′
-  pub named : Names.Promise setting root-kind bytes tokens (events-written / EVENT-ROW) reports-written (low pool-written)
-      events reports names reports′
+  pub named : Labels.Promise setting root-kind bytes tokens reports-written (low pool-written) (take events-written events)
+      reports names reports′
   pub answer : a ≡ named-with sunk names pool-written
   pub counts-fit : Counts-fit a
 
--- the parse was refused with a number at a place, or the sink and the sweeps follow it
+-- the parse was refused with a number at a place, or the sink and the Names' reports follow it
 pub record Answer-of-parse (number place root-kind setting events-written reports-written pool-written : ℕ)
     (bytes tokens events trees errors reports : List ℕ) (a : Answer) (trees′ errors′ reports′ : List ℕ) : Type 0 where
   pub stopped : eqb number 0 ≡ false → a ≡ refused-with number place
@@ -79,14 +79,12 @@ answers-parse number place root-kind setting events-written reports-written pool
 pub record Ended (number place root-kind setting events-written reports-written pool-written : ℕ) (bytes tokens : List ℕ) (b : Buffers)
     (x : Result) : Type 0 where
   pub answer : Answer
-  pub events : List ℕ
   pub trees : List ℕ
   pub errors : List ℕ
   pub reports : List ℕ
-  pub events-length : length events ≡ length (b .events)
   pub trees-length : length trees ≡ length (b .trees)
   pub errors-length : length errors ≡ length (b .errors)
   pub reports-length : length reports ≡ length (b .reports)
   pub of-parse : Answer-of-parse number place root-kind setting events-written reports-written pool-written
       bytes tokens (b .events) (b .trees) (b .errors) (b .reports) answer trees errors reports
-  pub once-cleared : swept (answer-of answer) (buffers-of events trees errors reports (b .pool)) ≡ x
+  pub once-cleared : swept (answer-of answer) (buffers-of (b .events) trees errors reports (b .pool)) ≡ x

@@ -6,7 +6,6 @@ use crate::refused;
 use labels::judge::report_names;
 use layout::refusal::NO_TREE_ROOM;
 use layout::row::ERROR_ROW;
-use layout::row::EVENT_ROW;
 use layout::row::REPORT_ROW;
 use layout::row::TREE_ROW;
 use layout::word::low32;
@@ -35,14 +34,14 @@ fn answer_of_sink(sunk: Sunk, reports_written: usize, pool_written: usize) -> An
     }
 }
 
-// A run that was not refused: the sink reads its events, and then the sweeps for the strict setting use them up. A
-// report of theirs that does not fit comes before a tree that does not.
+// A run that was not refused: the sink reads its events, and so does what reports the Names of the strict setting. A
+// report of a Name that does not fit comes before a tree that does not.
 fn answer_of_run(
     root_kind: u32,
     setting: u32,
     bytes: &[u8],
     tokens: &[u32],
-    events: &mut [u32],
+    events: &[u32],
     events_written: usize,
     trees: &mut [u32],
     errors: &mut [u32],
@@ -60,8 +59,7 @@ fn answer_of_run(
         root_kind,
         bytes,
         tokens,
-        events,
-        events_written / EVENT_ROW,
+        &events[..events_written],
         reports,
         reports_written,
         low32(pool_written),
@@ -83,7 +81,7 @@ fn answer_of_parse(
     setting: u32,
     bytes: &[u8],
     tokens: &[u32],
-    events: &mut [u32],
+    events: &[u32],
     events_written: usize,
     trees: &mut [u32],
     errors: &mut [u32],

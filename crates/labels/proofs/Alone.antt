@@ -1,7 +1,6 @@
--- What a marker was made to precede, and tests of pieces.
-use Prim.Native.Nat.{_-_}
+-- What a marker was made to precede.
 use mathlib.Core.Path.{_≡_, refl}
-use mathlib.Core.Bool.{Bool, true, false, _&&_, _||_}
+use mathlib.Core.Bool.{Bool, false}
 use mathlib.Core.List.{List}
 use Rattle.definitions.specs.Token.{Token}
 use Rattle.definitions.specs.Skeleton.{Skeleton, done, token, name, node, ignored, report, over}
@@ -28,13 +27,3 @@ alone-found u v (node k m m′ a i o) ts h = rw h refl
 alone-found u v (ignored m m′ a i o) ts h = absurd h
 alone-found u v (report r o) ts h = absurd h
 alone-found u v (over m o) ts h = absurd h
-
--- a test that fails for the whole fails for its pieces
-pub or-left : (a b q : Bool) → ((a || b) && q) ≡ false → (a && q) ≡ false
-or-left true b q h = h
-or-left false b q h = refl
-
-pub or-right : (a b q : Bool) → ((a || b) && q) ≡ false → (b && q) ≡ false
-or-right true true q h = h
-or-right true false q h = refl
-or-right false b q h = h

@@ -1,6 +1,6 @@
 -- The reports of some Names, pushed one after the other: all fit, and stand in the buffer as the definitions say, or
 -- the first that does not fit is refusal 7.
-use Prim.Native.Nat.{ℕ, zero, suc, _+_, _-_, _*_, _≤_, _<_}
+use Prim.Native.Nat.{ℕ, zero, suc, _+_, _-_, _*_, _≤_}
 use native.Mathlib.Omega.{arith}
 use native.Mathlib.Nat.{mod-eq-of-lt}
 use mathlib.Core.Path.{_≡_, refl, ap, sym, _∙_, subst}
@@ -8,19 +8,19 @@ use mathlib.Core.Bool.{Bool, true, false, cond, not}
 use mathlib.Core.List.{List, [], _∷_, _++_, append-assoc}
 use lib.Dec.{leb, eqb}
 use lib.ListN.{length, take, drop, length-append}
-use lib.Seq.{sets, sets-eq, take-at, drop-drop, drop-append-add}
+use lib.Seq.{sets-eq, take-at, drop-drop, drop-append-add}
 use borrow.Author.Tests.{le-leb, lt-leb}
 use Rattle.basics.specs.Word.{low}
 use Rattle.basics.proofs.Flags.{flags}
-use Rattle.definitions.specs.Layout.{REPORT-ROW, NO-REPORT-ROOM, TWO-TO-32}
+use Rattle.definitions.specs.Layout.{REPORT-ROW, NO-REPORT-ROOM}
 use Rattle.definitions.specs.Token.{Token, byte-count}
 use Rattle.definitions.specs.Refusal.{Refusal, no-report-room, Verdict, accepted, refused, place-of}
 use Rattle.definitions.specs.Strict.{Name-at, keeps-rule, breaking, name-numbers, names-fit}
 use Rattle.laws.proofs.NamesFound.{Back, forward, forwards}
-use Rattle.machine.specs.Machine.{fits}
 use Rattle.labels.specs.Model.{breaks, name-row, put-row}
 use Rattle.labels.specs.Promise.{Leaves}
-use Rattle.labels.proofs.Standing.{Rep, Sweeping, pushed, emit, emits}
+use Rattle.labels.proofs.Standing.{Rep, File, pushed, emit, emits}
+use Rattle.labels.proofs.Alike.{put-size}
 
 -- a range that ends within the input
 pub breaks-rule : (bytes : List ℕ) (start end : ℕ) → end ≤ length bytes → breaks bytes start end ≡ not (keeps-rule (take (end - start) (drop start bytes)))
@@ -53,7 +53,7 @@ pub refused-not : (q : Refusal) → refused q ≡ accepted → ⊥
 unfolding verdict-number
 refused-not q e = let y : _≡_ {A = ℕ} 1 0 = ap verdict-number e in omega arith
 
-module _ (F : Sweeping) (many : length (F .all) < TWO-TO-32) (covered : byte-count (F .all) ≡ length (F .bytes)) where
+module _ (F : File) (covered : byte-count (F .all) ≡ length (F .bytes)) where
   abbrev bytes : List ℕ
   bytes = F .bytes
 
@@ -130,17 +130,9 @@ module _ (F : Sweeping) (many : length (F .all) < TWO-TO-32) (covered : byte-cou
             ∙ append-assoc (take w R) row (name-numbers first l ++ drop (w + suc (length l) * REPORT-ROW) R);
       }
 
-  put-length : (n : Name-at) (r : Rep) → length (put-row (r .written) (n .start) (n .end) (n .first-token) first (r .reports)) ≡ length (r .reports)
-  unfolding put-row
-  put-length n r = go (fits (length (r .reports)) (r .written) REPORT-ROW)
-    where
-      go : (b : Bool) → length (cond b (sets (r .reports) (r .written) (name-row (n .start) (n .end) (n .first-token) first)) (r .reports)) ≡ length (r .reports)
-      go true = lib.Seq.length-sets (r .reports) (r .written) (name-row (n .start) (n .end) (n .first-token) first)
-      go false = refl
-
   leaves-less : (n : Name-at) (r : Rep) (room : ℕ) → Leaves (r .written) (suc room) (r .reports) → Leaves (fitted n r .written) room (fitted n r .reports)
   leaves-less n r room h =
-      let e : length (fitted n r .reports) ≡ length (r .reports) = put-length n r in
+      let e : length (fitted n r .reports) ≡ length (r .reports) = put-size (r .written) (n .start) (n .end) (n .first-token) first (r .reports) in
       record { enough = omega (arith, h .enough); no-more = omega (arith, h .no-more) }
 
   -- one that is pushed
@@ -153,7 +145,7 @@ module _ (F : Sweeping) (many : length (F .all) < TWO-TO-32) (covered : byte-cou
   push-fits x r room z h =
       let e : leb (r .written) (length (r .reports)) ≡ true = le-leb (r .written) (length (r .reports)) (omega (arith, h .enough)) in
       let f : leb REPORT-ROW (length (r .reports) - r .written) ≡ true = le-leb REPORT-ROW (length (r .reports) - r .written) (omega (arith, h .enough)) in
-      let g : low (length all - x .tokens-left) ≡ length all - x .tokens-left = mod-eq-of-lt (omega (arith, many)) in
+      let g : low (length all - x .tokens-left) ≡ length all - x .tokens-left = mod-eq-of-lt (omega (arith, F .many)) in
       let y : eqb (r .refusal) 0 ≡ true = ap (λ n. eqb n 0) z in
       rw (y, e, f, g) refl
 

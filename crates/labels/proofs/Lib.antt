@@ -1,26 +1,30 @@
 -- How the proof goes. Each function is proved equal to its term of specs/Model, whatever numbers the buffers hold; what
--- is left is about that model and a skeleton's events, and ends in `kept-promise`.
--- 1. LabelBytes: the rule over the bytes of a name. Turns: the turns of the loops over raw tokens and over events.
---    Seats: past trivia, a seat is where the machine's cursor is. Stores: the stores of a report row and of an event
---    row.
--- 2. Rows: the event rows of a skeleton before a sweep and after it; a row read and written.
--- 3. Standing: where a sweep stands among a file's tokens, and what a token and a name do there. Events: what each
---    event makes of it.
--- 4. Pieces, Nodes, Ignored (with Alone): a case for each piece of a skeleton. Sweeps: one induction over it; its
---    events leave the kinds by which Names are judged, and report the Names that it holds (laws/proofs/NamesFound).
--- 5. Fitting: the reports of these Names, one after the other: all fit, or the first that does not is refusal 7.
--- 6. Names: both sweeps, the promise.
+-- is left is about that model and the events of a run, and ends in `kept-promise`.
+-- 1. LabelBytes: the rule over the bytes of a name. Turns, Seats: loops over raw tokens; past trivia, a seat is where
+--    the machine's cursor is. Stores: a report row. EventRows: events from a row on. Inside, NextJudged, NodeToNode:
+--    the loops over events.
+-- 2. JudgedNodes, Taken: what is true of every run: no judged node lies inside another; each token and each raw token
+--    of a Name is there, and none is trivia.
+-- 3. Told: the events of a skeleton. Standing: places among the tokens, by what is left of them; reports pushed.
+--    Alike: what stands past the numbers written does not count. Alone: what a marker was made to precede.
+-- 4. Walks: the events inside a node, deep in it and directly. Scans: from judged node to judged node, one induction
+--    over the skeleton: the Names reported are those that it holds (laws/proofs/NamesFound).
+-- 5. Fitting: reports one after the other: all fit, or the first that does not is refusal 7. Names: the promise.
 pub mod LabelBytes
 pub mod Turns
 pub mod Seats
 pub mod Stores
-pub mod Rows
+pub mod EventRows
+pub mod Inside
+pub mod NextJudged
+pub mod NodeToNode
+pub mod JudgedNodes
+pub mod Taken
+pub mod Told
 pub mod Standing
+pub mod Alike
 pub mod Alone
-pub mod Events
-pub mod Pieces
-pub mod Nodes
-pub mod Ignored
-pub mod Sweeps
+pub mod Walks
+pub mod Scans
 pub mod Fitting
 pub mod Names

@@ -1,4 +1,4 @@
--- The stores of a report row and of an open node's event row.
+-- The stores of a report row.
 use native.Mathlib.Omega.{arith}
 use Prim.Native.Nat.{ℕ, suc, _+_}
 use mathlib.Core.List.{List, [], _∷_}
@@ -20,6 +20,3 @@ sets9 l i a b d e f g h j k =
     let p7 : i + 7 ≡ suc (suc (suc (suc (suc (suc (suc i)))))) = omega arith in
     let p8 : i + 8 ≡ suc (suc (suc (suc (suc (suc (suc (suc i))))))) = omega arith in
     rw (p1, p2, p3, p4, p5, p6, p7, p8)
-
-pub sets2 : (l : List ℕ) (i a b : ℕ) → set (set l (i + 1) a) (i + 2) b ≡ sets l (i + 1) (a ∷ b ∷ [])
-sets2 l i a b = let p : i + 2 ≡ suc (i + 1) = omega arith in rw p

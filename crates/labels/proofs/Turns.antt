@@ -1,21 +1,18 @@
--- The turns of the loops over raw tokens and over events.
+-- The turns of the loops over raw tokens.
 use native.Mathlib.Omega.{arith}
 use Prim.Native.Nat.{ℕ, zero, suc, _+_, _-_, _*_, _/_, _≤_, _<_}
 use mathlib.Core.List.{List, []}
 use mathlib.Core.Path.{_≡_, refl, sym, _∙_, ap}
-use mathlib.Core.Bool.{Bool}
+use mathlib.Core.Bool.{Bool, true, false, cond}
 use lib.ListN.{length, getD, drop}
 use Rattle.basics.specs.Word.{low}
 use Rattle.basics.proofs.TokenRows.{tokens-cons, tokens-end}
 use Rattle.definitions.specs.Layout.{TOKEN-ROW, TOKEN-LENGTH}
-use Rattle.definitions.specs.Token.{Token, tokens-of}
+use Rattle.definitions.specs.Token.{Token, tokens-of, trivia, is-trivia}
 use Rattle.token_rows.specs.declared.token.Seat.{Seat}
-use Rattle.labels.specs.Model.{On, passed, event-on, eventsN}
+use Rattle.labels.specs.Model.{seat, passed, past-solid}
 
--- ---------------------------------------------------------------- raw tokens
-
-abbrev pub seat : ℕ → ℕ → Seat
-seat at byte = record { at = at; byte = byte }
+-- ---------------------------------------------------------------- past so many
 
 -- e: where the token ends
 pub passed-again : (tokens : List ℕ) (n at byte e : ℕ) (g : Seat) → 0 < n → at < length tokens / TOKEN-ROW
@@ -47,24 +44,56 @@ unfolding passed
 passed-done ts zero p g h e = e
 passed-done ts (suc n) p g h e = absurd (omega arith)
 
--- ---------------------------------------------------------------- events
+-- ---------------------------------------------------------------- past so many that are not trivia
 
-pub events-again : (n : ℕ) (writes : Bool) (bytes : List ℕ) (ts : List Token) (first i : ℕ) (x y g : On)
-    → y ≡ event-on writes bytes ts first i x → i < n → eventsN (n - i) writes bytes ts first i x ≡ g
-    → eventsN (n - (i + 1)) writes bytes ts first (i + 1) y ≡ g
-unfolding eventsN
-events-again n writes bytes ts first i x y g e h p =
-    let l : n - i ≡ suc (n - (i + 1)) = omega arith in
-    ap (λ (v : On). eventsN (n - (i + 1)) writes bytes ts first (i + 1) v) e
-    ∙ sym (ap (λ (k : ℕ). eventsN k writes bytes ts first i x) l) ∙ p
+-- b: whether the token is trivia. e: where it ends.
+solid-turn : (tokens : List ℕ) (n at byte e : ℕ) (b : Bool) (g : Seat) → 0 < n → at < length tokens / TOKEN-ROW
+    → b ≡ is-trivia (getD tokens (at * TOKEN-ROW) 0) → e ≡ low (byte + getD tokens (at * TOKEN-ROW + TOKEN-LENGTH) 0)
+    → past-solid n (drop at (tokens-of tokens)) (seat at byte) ≡ g
+    → cond b (past-solid n (drop (at + 1) (tokens-of tokens)) (seat (at + 1) e))
+    (past-solid (n - 1) (drop (at + 1) (tokens-of tokens)) (seat (at + 1) e))
+    ≡ g
+unfolding past-solid trivia
+solid-turn tokens n at byte e b g some h t q p =
+    let l : n ≡ suc (n - 1) = omega arith in
+    let ts = tokens-of tokens in
+    let f = low (byte + getD tokens (at * TOKEN-ROW + TOKEN-LENGTH) 0) in
+    let to : ℕ → ℕ → Seat = λ k a. past-solid k (drop (at + 1) ts) (seat (at + 1) a) in
+    ap (λ (a : ℕ). cond b (to n a) (to (n - 1) a)) q
+    ∙ ap (λ (x : Bool). cond x (to n f) (to (n - 1) f)) t
+    ∙ ap (λ (k : ℕ). cond (is-trivia (getD tokens (at * TOKEN-ROW) 0)) (to k f) (to (n - 1) f)) l
+    ∙ sym (ap (λ (x : List Token). past-solid (suc (n - 1)) x (seat at byte)) (tokens-cons tokens at h))
+    ∙ sym (ap (λ (k : ℕ). past-solid k (drop at ts) (seat at byte)) l)
+    ∙ p
 
-pub events-end : (n : ℕ) (writes : Bool) (bytes : List ℕ) (ts : List Token) (first i : ℕ) (x g : On) → n ≤ i
-    → eventsN (n - i) writes bytes ts first i x ≡ g → x ≡ g
-unfolding eventsN
-events-end n writes bytes ts first i x g h p =
-    let l : n - i ≡ 0 = omega arith in sym (ap (λ (k : ℕ). eventsN k writes bytes ts first i x) l) ∙ p
+-- m: how many are left
+pub solid-trivia : (tokens : List ℕ) (n m at byte e : ℕ) (b : Bool) (g : Seat) → 0 < n → at < length tokens / TOKEN-ROW
+    → b ≡ is-trivia (getD tokens (at * TOKEN-ROW) 0) → e ≡ low (byte + getD tokens (at * TOKEN-ROW + TOKEN-LENGTH) 0)
+    → b ≡ true → m ≡ n → past-solid n (drop at (tokens-of tokens)) (seat at byte) ≡ g
+    → past-solid m (drop (at + 1) (tokens-of tokens)) (seat (at + 1) e) ≡ g
+solid-trivia tokens n m at byte e b g some h t q y l p = rw l (sym (rw y) ∙ solid-turn tokens n at byte e b g some h t q p)
 
-pub events-begin : (n : ℕ) (writes : Bool) (bytes : List ℕ) (ts : List Token) (first : ℕ) (x : On)
-    → eventsN (n - 0) writes bytes ts first 0 x ≡ eventsN n writes bytes ts first 0 x
-events-begin n writes bytes ts first x =
-    let l : n - 0 ≡ n = omega arith in ap (λ (k : ℕ). eventsN k writes bytes ts first 0 x) l
+pub solid-token : (tokens : List ℕ) (n m at byte e : ℕ) (b : Bool) (g : Seat) → 0 < n → at < length tokens / TOKEN-ROW
+    → b ≡ is-trivia (getD tokens (at * TOKEN-ROW) 0) → e ≡ low (byte + getD tokens (at * TOKEN-ROW + TOKEN-LENGTH) 0)
+    → b ≡ false → m ≡ n - 1 → past-solid n (drop at (tokens-of tokens)) (seat at byte) ≡ g
+    → past-solid m (drop (at + 1) (tokens-of tokens)) (seat (at + 1) e) ≡ g
+solid-token tokens n m at byte e b g some h t q y l p = rw l (sym (rw y) ∙ solid-turn tokens n at byte e b g some h t q p)
+
+solid-none : (n : ℕ) (p : Seat) → past-solid n [] p ≡ p
+unfolding past-solid
+solid-none zero p = refl
+solid-none (suc n) p = refl
+
+pub solid-past : (tokens : List ℕ) (n at byte : ℕ) (g : Seat) → length tokens / TOKEN-ROW ≤ at
+    → past-solid n (drop at (tokens-of tokens)) (seat at byte) ≡ g
+    → past-solid 0 (drop at (tokens-of tokens)) (seat at byte) ≡ g
+unfolding past-solid
+solid-past tokens n at byte g h p =
+    sym (solid-none n (seat at byte))
+    ∙ sym (ap (λ (x : List Token). past-solid n x (seat at byte)) (tokens-end tokens at h))
+    ∙ p
+
+pub solid-done : (ts : List Token) (n : ℕ) (p g : Seat) → n ≤ 0 → past-solid n ts p ≡ g → p ≡ g
+unfolding past-solid
+solid-done ts zero p g h e = e
+solid-done ts (suc n) p g h e = absurd (omega arith)

@@ -1,7 +1,4 @@
 // A Name's report: message 8, over the Name, with its first token as the mark. Hint, label and expectations are none.
-use crate::rule;
-use crate::sweep;
-use crate::sweep::Sweep;
 use layout::hint::NO_HINT;
 use layout::message::NOT_A_LABEL;
 use layout::refusal::NO_REPORT_ROOM;
@@ -17,8 +14,16 @@ use layout::row::REPORT_START;
 use layout::word;
 use token_rows::fit::fits;
 ghost use mathlib.Core.Path.{_≡_};
-ghost use Rattle.definitions.specs.Token.{tokens-of};
-ghost use Rattle.labels.specs.Model.{out, put-row, reported, name-on};
+ghost use Rattle.labels.specs.Model.{out, put-row, reported};
+
+// What has become of the reports so far.
+pub struct Names {
+    // How many report numbers are written.
+    pub written: usize,
+    // Refusal 7 and its place once a report did not fit; before that 0.
+    pub refusal: u32,
+    pub place: usize,
+}
 
 // Nothing is written where the row does not fit.
 fn put_report(reports: &mut [u32], index: usize, start: u32, end: u32, mark: u32, first: u32)
@@ -39,7 +44,14 @@ fn put_report(reports: &mut [u32], index: usize, start: u32, end: u32, mark: u32
 }
 
 // The first report that does not fit is refusal 7, and nothing is written after it.
-fn push_report(s: Sweep, reports: &mut [u32], start: u32, end: u32, at: usize, first: u32) -> Sweep
+pub fn push_report(
+    s: Names,
+    reports: &mut [u32],
+    start: u32,
+    end: u32,
+    at: usize,
+    first: u32,
+) -> Names
     ensures { λ r. ⌜ out r (now (reports .exit)) ≡ reported start end at first (out s (now (reports .entry))) ⌝ }
 {
     let clear = s.refusal == 0;
@@ -57,34 +69,4 @@ fn push_report(s: Sweep, reports: &mut [u32], start: u32, end: u32, at: usize, f
     } else {
         s
     }
-}
-
-// `AddCombinedToken`: a Name of n raw tokens. It is judged where the sweep writes.
-pub fn add_name(
-    s: Sweep,
-    writes: bool,
-    bytes: &[u8],
-    tokens: &[u32],
-    reports: &mut [u32],
-    first: u32,
-    n: usize,
-) -> Sweep
-    ensures { λ r. ⌜ out r (now (reports .exit))
-        ≡ name-on writes (now (bytes .entry)) (tokens-of (now (tokens .entry))) first n (out s (now (reports .entry))) ⌝ }
-{
-    let here = sweep::solid(s, tokens);
-    let next = sweep::pass(tokens, here, n);
-    let mut q = s;
-    q.at = next.at;
-    q.byte = next.byte;
-    if writes {
-        let judged = sweep::is_judged(s.kind);
-        if judged {
-            let breaks = rule::breaks_rule(bytes, here.byte, next.byte);
-            if breaks {
-                return push_report(q, reports, here.byte, next.byte, here.at, first);
-            }
-        }
-    }
-    q
 }

@@ -1,19 +1,16 @@
 -- THE CALL'S END: the machine's end, the promises of the sink and of the Names' reports, and what is cleared, joined.
-use Prim.Native.Nat.{ℕ, zero, suc, _+_, _-_, _*_, _/_, _≤_}
+use Prim.Native.Nat.{ℕ, zero, suc, _+_, _*_, _/_, _≤_}
 use native.Mathlib.Nat.{mod-eq-of-lt}
 use native.Mathlib.Omega.{arith}
 use mathlib.Core.Path.{_≡_, refl, sym, ap, _∙_, subst}
 use mathlib.Core.Bool.{Bool, true, false, cond}
-use mathlib.Core.List.{List, [], _∷_, _++_, append-assoc, append-nil}
-use lib.Dec.{leb, eqb}
-use lib.ListN.{length, take, drop, length-append}
-use lib.Seq.{take-at, drop-append-add, drop-drop}
-use borrow.Author.Tests.{leb-true}
+use mathlib.Core.List.{List, [], _∷_, _++_, append-nil}
+use lib.Dec.{eqb}
+use lib.ListN.{length, take, length-append}
 use Rattle.basics.specs.Word.{low}
-use Rattle.definitions.specs.Layout.{EVENT-ROW, TREE-ROW, ERROR-ROW, REPORT-ROW}
+use Rattle.definitions.specs.Layout.{TREE-ROW, ERROR-ROW, REPORT-ROW}
 use Rattle.definitions.specs.Token.{Token, tokens-of, byte-count}
 use Rattle.definitions.specs.Skeleton.{Skeleton}
-use Rattle.definitions.specs.Event.{events}
 use Rattle.definitions.specs.Place.{root, rows, lexical-errors}
 use Rattle.definitions.specs.Strict.{Name-at, name-numbers, names-fit}
 use Rattle.definitions.specs.Report.{Room, Fit, fits, stops, scan, pushes, reports, report-numbers, pool}
@@ -22,7 +19,6 @@ use Rattle.definitions.specs.Grammar.{Entry, root-kind}
 use Rattle.definitions.specs.Call.{Buffers, refusal, cleared, Sheets, sheets, kept, delivered, forward-mark, unless-refused, outcome, room-of, run-entry, names-of, parse}
 use Rattle.laws.proofs.Input.{Checked, checked-input}
 use Rattle.laws.proofs.Scan.{fits-clear, fits-left}
-use Rattle.basics.proofs.Tests.{and-left, and-right}
 use Rattle.laws.proofs.Decode.{rows-length}
 use Rattle.laws.proofs.LexicalErrors.{errors-length}
 use Rattle.bounds.proofs.Numbers.{bounded}
@@ -32,12 +28,11 @@ use Rattle.machine.specs.Outcome.{onto, Starts-with, Not-refused, Refused, Ends
 use Rattle.refinement.proofs.Machine.{entry-ends}
 use Rattle.sink.specs.declared.Sunk.{Sunk}
 use Rattle.sink.specs.Promise.{Small, enough, Written-out, Placed}
-use Rattle.sink.proofs.Encode.{encode-length}
 use Rattle.sink.proofs.Runs.{entry-chained}
-use Rattle.labels.specs.declared.sweep.Sweep.{Sweep}
-use Rattle.labels.specs.Promise.{Swept-events, Leaves, Follow, Stop, Named}
+use Rattle.labels.specs.declared.report.Names.{Names}
+use Rattle.labels.specs.Promise.{Leaves, Follow, Stop, Named}
 use Rattle.refinement.specs.Ends.{wiped, swept, refused-at, sunk-answer, last-answer, after-all, Same-lengths, Parsed, After-run, Calls-end}
-use Rattle.refinement.proofs.Wiped.{wiped-whole, wiped-written, held-length}
+use Rattle.refinement.proofs.Wiped.{wiped-whole, wiped-written, onto-front, held-front, held-length}
 use Rattle.laws.proofs.ReportNumbers.{report-numbers-length, name-numbers-length}
 
 -- a mark counted from the start leaves the cause as it is
@@ -62,23 +57,22 @@ swept-refused n p r b c e h s =
     let pool₀ : wiped 0 (c .pool) ≡ _ = wiped-whole (b .pool) (c .pool) (s .pool) in
     rw (e, h, events₀, trees₀, errors₀, reports₀, pool₀)
 
--- l: the numbers to write. b, c: the buffer before and after. n: how many rows of so many numbers are answered.
-pub record Rows-in (size n : ℕ) (l b c : List ℕ) : Type 0 where
+-- l: the numbers to write. c: the buffer afterwards. n: how many rows of so many numbers are answered.
+pub record Rows-in (size n : ℕ) (l c : List ℕ) : Type 0 where
   pub count : n ≡ length l / size
   pub whole : n * size ≡ length l
-  pub numbers : c ≡ onto l b
-  pub inside : length l ≤ length b
+  pub numbers : take (n * size) c ≡ l
 
 -- an accepted call's buffers hold what was written, and then zeros
-swept-kept : (z : Sheets) (b c : Buffers) (t e r : ℕ) → length (c .events) ≡ length (b .events) → Rows-in TREE-ROW t (z .trees) (b .trees) (c .trees) → Rows-in ERROR-ROW e (z .errors) (b .errors) (c .errors)
-    → Rows-in REPORT-ROW r (z .reports) (b .reports) (c .reports) → (n : ℕ) → n ≡ length (z .pool) → c .pool ≡ onto (z .pool) (b .pool) → length (z .pool) ≤ length (b .pool)
+swept-kept : (z : Sheets) (b c : Buffers) (t e r n : ℕ) → Same-lengths b c → Rows-in TREE-ROW t (z .trees) (c .trees) → Rows-in ERROR-ROW e (z .errors) (c .errors)
+    → Rows-in REPORT-ROW r (z .reports) (c .reports) → n ≡ length (z .pool) → take n (c .pool) ≡ z .pool
     → swept (record { number = 0; place = 0; tree-count = t; error-count = e; report-count = r; expectation-count = n }) c ≡ kept z b
-swept-kept z b c t e r k ft fe fr n q h inside =
-    let events₀ : wiped 0 (c .events) ≡ _ = wiped-whole (b .events) (c .events) k in
-    let trees₀ : wiped (t * TREE-ROW) (c .trees) ≡ _ = wiped-written (z .trees) (b .trees) (c .trees) (t * TREE-ROW) (ft .numbers) (ft .inside) (ft .whole) in
-    let errors₀ : wiped (e * ERROR-ROW) (c .errors) ≡ _ = wiped-written (z .errors) (b .errors) (c .errors) (e * ERROR-ROW) (fe .numbers) (fe .inside) (fe .whole) in
-    let reports₀ : wiped (r * REPORT-ROW) (c .reports) ≡ _ = wiped-written (z .reports) (b .reports) (c .reports) (r * REPORT-ROW) (fr .numbers) (fr .inside) (fr .whole) in
-    let pool₀ : wiped n (c .pool) ≡ _ = wiped-written (z .pool) (b .pool) (c .pool) n h inside q in
+swept-kept z b c t e r n k ft fe fr q h =
+    let events₀ : wiped 0 (c .events) ≡ _ = wiped-whole (b .events) (c .events) (k .events) in
+    let trees₀ : wiped (t * TREE-ROW) (c .trees) ≡ _ = wiped-written (z .trees) (b .trees) (c .trees) (t * TREE-ROW) (k .trees) (ft .whole) (ft .numbers) in
+    let errors₀ : wiped (e * ERROR-ROW) (c .errors) ≡ _ = wiped-written (z .errors) (b .errors) (c .errors) (e * ERROR-ROW) (k .errors) (fe .whole) (fe .numbers) in
+    let reports₀ : wiped (r * REPORT-ROW) (c .reports) ≡ _ = wiped-written (z .reports) (b .reports) (c .reports) (r * REPORT-ROW) (k .reports) (fr .whole) (fr .numbers) in
+    let pool₀ : wiped n (c .pool) ≡ _ = wiped-written (z .pool) (b .pool) (c .pool) n (k .pool) q h in
     rw (events₀, trees₀, errors₀, reports₀, pool₀, ft .count, fe .count, fr .count, q)
 
 -- a Name's report that does not fit is the only refusal among them
@@ -94,16 +88,6 @@ name-refused zero (n ∷ l) r e = (n .first-token, sym (ap inside e))
     inside accepted = no-tree-room
     inside (refused q) = q
 name-refused (suc room) (n ∷ l) r e = name-refused room l r e
-
--- where all fit there are no more of them than there is room
-names-within : (room : ℕ) (k : List Name-at) → names-fit room k ≡ accepted → length k ≤ room
-unfolding names-fit
-names-within room [] q = omega arith
-names-within zero (x ∷ k) q = absurd (differ q)
-  where
-    differ : refused (no-report-room (x .first-token)) ≡ accepted → ⊥
-    differ e = let y : _≡_ {A = ℕ} 0 1 = cc in omega arith
-names-within (suc room) (x ∷ k) q = let y : length k ≤ room = names-within room k q in omega arith
 
 module _ (setting : ℕ) (e : Entry) (bytes tokens : List ℕ) (b : Buffers) (m : Machine) (ok : check-input bytes tokens ≡ accepted) (parsed : Parsed e tokens b m) where
   abbrev ts : List Token
@@ -160,11 +144,9 @@ module _ (setting : ℕ) (e : Entry) (bytes tokens : List ℕ) (b : Buffers) (m 
   went (fits x) h q = record { left = x; fitted = h; whole = ends-by (fits x) h; parses = parse-by (fits x) h }
   went (stops r) h q = let a : Refused ts r m = ends-by (stops r) h in absurd (omega (arith, a .some))
 
-  -- the events that the sink is given encode the skeleton
+  -- the events that the sink and the Names' reports are given encode the skeleton
   given-events : Not-refused ts o (b .events) (b .reports) (b .pool) m → take (m .events .count) (m .events .numbers) ≡ encode false o
-  given-events a =
-      ap (take (m .events .count)) (a .events-hold .numbers)
-      ∙ take-at (encode false o) (drop (length (encode false o)) (b .events)) (m .events .count) (sym (a .events-hold .count))
+  given-events a = held-front (encode false o) (b .events) (m .events) (a .events-hold)
 
   small : Small o tokens
   small =
@@ -175,27 +157,16 @@ module _ (setting : ℕ) (e : Entry) (bytes tokens : List ℕ) (b : Buffers) (m 
         rows = omega (arith, c .pairs, c .numbers-limit, bounded e ts .all-events);
       }
 
-  -- so are those that the sweeps are given
-  swept-events : Not-refused ts o (b .events) (b .reports) (b .pool) m → Swept-events o bytes tokens (m .events .numbers) (m .events .count / EVENT-ROW)
-  swept-events a =
-      let c : Checked bytes tokens = checked-input bytes tokens ok in
-      let n : length (encode false o) ≡ length (events false o) * EVENT-ROW = encode-length false o in
-      let k : m .events .count ≡ length (encode false o) = a .events-hold .count in
-      record {
-        input = ok;
-        chained = entry-chained e ts;
-        more = drop (length (encode false o)) (b .events);
-        rows = a .events-hold .numbers;
-        count = omega arith;
-        small = omega (arith, c .pairs, c .numbers-limit, bounded e ts .all-events);
-      }
-
   -- the rows of a tree, of lexical errors and of reports are whole
-  trees-in : (c : List ℕ) → length R ≤ length (b .trees) → c ≡ onto R (b .trees) → Rows-in TREE-ROW (length R / TREE-ROW) R (b .trees) c
-  trees-in c inside h = record { count = refl; whole = omega (arith, rows-length (root (root-kind e) o ts)); numbers = h; inside = inside }
+  trees-in : (c : List ℕ) → c ≡ onto R (b .trees) → Rows-in TREE-ROW (length R / TREE-ROW) R c
+  trees-in c h =
+      let w : length R / TREE-ROW * TREE-ROW ≡ length R = omega (arith, rows-length (root (root-kind e) o ts)) in
+      record { count = refl; whole = w; numbers = onto-front R (b .trees) c _ h w }
 
-  errors-in : (c : List ℕ) → length L ≤ length (b .errors) → c ≡ onto L (b .errors) → Rows-in ERROR-ROW (length L / ERROR-ROW) L (b .errors) c
-  errors-in c inside h = record { count = refl; whole = omega (arith, errors-length 0 ts); numbers = h; inside = inside }
+  errors-in : (c : List ℕ) → c ≡ onto L (b .errors) → Rows-in ERROR-ROW (length L / ERROR-ROW) L c
+  errors-in c h =
+      let w : length L / ERROR-ROW * ERROR-ROW ≡ length L = omega (arith, errors-length 0 ts) in
+      record { count = refl; whole = w; numbers = onto-front L (b .errors) c _ h w }
 
   abbrev P : List ℕ
   P = report-numbers (length ts) (byte-count ts) 0 (reports (pushes o))
@@ -228,14 +199,14 @@ module _ (setting : ℕ) (e : Entry) (bytes tokens : List ℕ) (b : Buffers) (m 
       let n : expectations ≤ _ = bounded e ts .pool-so-far (pushes o) [] (sym (append-nil (pushes o))) (fits-clear (pushes o) (room-of b) (g .left) (g .fitted)) in
       ap low k ∙ mod-eq-of-lt (omega (arith, c .pairs, c .numbers-limit))
 
-  module _ (g : Went) (s : Sunk) (w : Sweep) (events′ trees errors reports′ : List ℕ) (after : After-run setting e bytes tokens b m s w events′ trees errors reports′) where
+  module _ (g : Went) (s : Sunk) (w : Names) (trees errors reports′ : List ℕ) (after : After-run setting e bytes tokens b m s w trees errors reports′) where
     abbrev c : Buffers
-    c = after-all events′ trees errors reports′ m
+    c = after-all trees errors reports′ m
 
     same-lengths : Same-lengths b c
     same-lengths =
         record {
-          events = after .events-length;
+          events = held-length (encode false o) (b .events) (m .events) (g .whole .events-hold);
           trees = after .trees-length;
           errors = after .errors-length;
           reports = after .reports-length;
@@ -243,7 +214,7 @@ module _ (setting : ℕ) (e : Entry) (bytes tokens : List ℕ) (b : Buffers) (m 
         }
 
     named : Named l expectations (m .reports .count) (m .reports .numbers) w reports′
-    named = subst (λ (n : ℕ). Named l n (m .reports .count) (m .reports .numbers) w reports′) (pool-low g) (after .named o (swept-events (g .whole)))
+    named = subst (λ (n : ℕ). Named l n (m .reports .count) (m .reports .numbers) w reports′) (pool-low g) (after .named e refl ok (given-events (g .whole)))
 
     placed : Placed (root-kind e) o tokens (b .trees) (b .errors) s trees errors
     placed = after .sunk o (given-events (g .whole)) (entry-chained e ts) small
@@ -253,59 +224,40 @@ module _ (setting : ℕ) (e : Entry) (bytes tokens : List ℕ) (b : Buffers) (m 
       abbrev h : Starts-with P (b .reports) (m .reports)
       h = g .whole .reports-hold
 
-      both-rows : reports′ ≡ onto (P ++ Q) (b .reports)
-      both-rows =
-          let k : m .reports .count ≡ length P = h .count in
-          let n : m .reports .count + length l * REPORT-ROW ≡ length P + length Q = omega (arith, Q-length) in
-          let t : take (m .reports .count) (m .reports .numbers) ≡ P = ap (take (m .reports .count)) (h .numbers) ∙ take-at P (drop (length P) (b .reports)) (m .reports .count) (sym k) in
-          let d : drop (m .reports .count + length l * REPORT-ROW) (m .reports .numbers) ≡ drop (length (P ++ Q)) (b .reports) =
-          ap (λ (q : ℕ). drop q (m .reports .numbers)) n
-          ∙ ap (drop (length P + length Q)) (h .numbers)
-          ∙ drop-append-add P (drop (length P) (b .reports)) (length Q)
-          ∙ drop-drop (length Q) (length P) (b .reports)
-          ∙ ap (λ (q : ℕ). drop q (b .reports)) (sym (length-append P Q)) in
-          f .rows
-          ∙ ap (λ (x : List ℕ). x ++ (Q ++ drop (m .reports .count + length l * REPORT-ROW) (m .reports .numbers))) t
-          ∙ ap (λ (x : List ℕ). P ++ (Q ++ x)) d
-          ∙ sym (append-assoc P Q (drop (length (P ++ Q)) (b .reports)))
-
-      rows-inside : names-fit (g .left .reports) l ≡ accepted → length (P ++ Q) ≤ length (b .reports)
-      rows-inside v =
-          let n : length (P ++ Q) ≡ length P + length Q = length-append P Q in
-          let x : length l ≤ g .left .reports = names-within (g .left .reports) l v in
-          omega (arith, Q-length, h .count, rows-left g .enough, held-length P (b .reports) (m .reports) h)
-
-      reports-in : names-fit (g .left .reports) l ≡ accepted → Rows-in REPORT-ROW (w .written / REPORT-ROW) (P ++ Q) (b .reports) reports′
-      reports-in v =
+      reports-in : Rows-in REPORT-ROW (w .written / REPORT-ROW) (P ++ Q) reports′
+      reports-in =
           let n : length (P ++ Q) ≡ length P + length Q = length-append P Q in
           let k : w .written ≡ length (P ++ Q) = omega (arith, f .count, h .count, Q-length) in
-          record { count = omega arith; whole = omega (arith, P-length, Q-length); numbers = both-rows; inside = rows-inside v }
+          let whole : w .written / REPORT-ROW * REPORT-ROW ≡ w .written = omega (arith, P-length, Q-length) in
+          record {
+            count = omega arith;
+            whole = whole ∙ k;
+            numbers = ap (λ (x : ℕ). take x reports′) whole ∙ f .rows ∙ ap (λ (x : List ℕ). x ++ Q) (held-front P (b .reports) (m .reports) h);
+          }
 
-      sunk-ends : names-fit (g .left .reports) l ≡ accepted → (x : Bool) → enough R L (b .trees) (b .errors) ≡ x
+      sunk-ends : (x : Bool) → enough R L (b .trees) (b .errors) ≡ x
           → swept (sunk-answer s (w .written) (m .pool .count)) c ≡ cond x (kept z b) (cleared no-tree-room b)
       unfolding sheets
-      sunk-ends v true k =
+      sunk-ends true k =
           let out : Written-out R L (b .trees) (b .errors) s trees errors = placed .fits k in
-          let rt : length R ≤ length (b .trees) = leb-true _ _ (and-left _ _ k) in
-          let re : length L ≤ length (b .errors) = leb-true _ _ (and-right (leb (length R) (length (b .trees))) _ k) in
           let q = g .whole .pool-holds in
           ap (λ (y : Sunk). swept (sunk-answer y (w .written) (m .pool .count)) c) (out .counts)
-          ∙ swept-kept z b c (length R / TREE-ROW) (length L / ERROR-ROW) (w .written / REPORT-ROW) (after .events-length)
-          (trees-in trees rt (out .rows)) (errors-in errors re (out .lexical)) (reports-in v)
-          (m .pool .count) (q .count) (q .numbers) (q .inside)
-      sunk-ends v false k =
+          ∙ swept-kept z b c (length R / TREE-ROW) (length L / ERROR-ROW) (w .written / REPORT-ROW) (m .pool .count) same-lengths
+          (trees-in trees (out .rows)) (errors-in errors (out .lexical)) reports-in
+          (q .count) (held-front (pool (reports (pushes o))) (b .pool) (m .pool) q)
+      sunk-ends false k =
           ap (λ (y : Sunk). swept (sunk-answer y (w .written) (m .pool .count)) c) (placed .lacks k)
           ∙ swept-refused (number-of no-tree-room) (place-of no-tree-room) no-tree-room b c refl refl same-lengths
 
-      delivered-ends : names-fit (g .left .reports) l ≡ accepted → swept (last-answer s w m) c ≡ delivered z b
+      delivered-ends : swept (last-answer s w m) c ≡ delivered z b
       unfolding delivered sheets
-      delivered-ends v =
+      delivered-ends =
           ap (λ (n : ℕ). swept (cond (eqb n 0) (sunk-answer s (w .written) (m .pool .count)) (refused-at n (w .place))) c) (f .refusal)
-          ∙ sunk-ends v (enough R L (b .trees) (b .errors)) refl
+          ∙ sunk-ends (enough R L (b .trees) (b .errors)) refl
 
     by-names : (v : Verdict) → names-fit (g .left .reports) l ≡ v → swept (last-answer s w m) c ≡ unless-refused v z b
     unfolding unless-refused
-    by-names accepted v = delivered-ends (named .fits (g .left .reports) (rows-left g) v) v
+    by-names accepted v = delivered-ends (named .fits (g .left .reports) (rows-left g) v)
     by-names (refused r) v =
         let q : (k : ℕ) × (r ≡ no-report-room k) = name-refused (g .left .reports) l r v in
         let t : Stop (q .0) w = named .lacks (g .left .reports) (q .0) (rows-left g) (v ∙ ap refused (q .1)) in

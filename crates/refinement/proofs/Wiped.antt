@@ -18,23 +18,25 @@ wiped-whole b c h =
     let e : length c - 0 ≡ length b = omega arith in
     ap (λ (n : ℕ). replicate n 0) e
 
--- after the numbers l that were written to its front
-pub wiped-written : (l b c : List ℕ) (n : ℕ) → c ≡ onto l b → length l ≤ length b → n ≡ length l → wiped n c ≡ written l b
+-- after the numbers l that it starts with
+pub wiped-written : (l b c : List ℕ) (n : ℕ) → length c ≡ length b → n ≡ length l → take n c ≡ l → wiped n c ≡ written l b
 unfolding wiped
-wiped-written l b c n h inside e =
-    let t : take n c ≡ l = ap (take n) h ∙ take-at l (drop (length l) b) n (sym e) in
-    let k : length c ≡ length l + length (drop (length l) b) = ap length h ∙ length-append l (drop (length l) b) in
-    let d : length c - n ≡ length b - length l = omega (arith, k, length-drop (length l) b) in
+wiped-written l b c n k e t =
+    let d : length c - n ≡ length b - length l = omega arith in
     rw (t, d)
 
--- numbers written to the front leave the length as it is
-pub onto-length : (l b c : List ℕ) → c ≡ onto l b → length l ≤ length b → length c ≡ length b
-onto-length l b c h inside =
-    let k : length c ≡ length l + length (drop (length l) b) = ap length h ∙ length-append l (drop (length l) b) in
-    omega (arith, k, length-drop (length l) b)
+-- numbers written to the front stand there
+pub onto-front : (l b c : List ℕ) (n : ℕ) → c ≡ onto l b → n ≡ length l → take n c ≡ l
+onto-front l b c n h e = ap (take n) h ∙ take-at l (drop (length l) b) n (sym e)
 
+pub held-front : (l b : List ℕ) (x : Buffer) → Starts-with l b x → take (x .count) (x .numbers) ≡ l
+held-front l b x h = onto-front l b (x .numbers) (x .count) (h .numbers) (h .count)
+
+-- and leave the length as it is
 pub held-length : (l b : List ℕ) (x : Buffer) → Starts-with l b x → length (x .numbers) ≡ length b
-held-length l b x h = onto-length l b (x .numbers) (h .numbers) (h .inside)
+held-length l b x h =
+    let k : length (x .numbers) ≡ length l + length (drop (length l) b) = ap length (h .numbers) ∙ length-append l (drop (length l) b) in
+    omega (arith, k, h .inside, length-drop (length l) b)
 
 -- ---------------------------------------------------------------- one number after the other
 

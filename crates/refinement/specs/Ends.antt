@@ -1,7 +1,6 @@
 -- The last step before the exported contract: the machine's end, the sink's promise and that of the Names' reports,
 -- joined. What they leave in the lent buffers, cleared after what is written, is the result of `parse` in
--- `definitions`. A device of the proofs, and
--- not a part of any exported promise.
+-- `definitions`. A device of the proofs, and not a part of any exported promise.
 use Prim.Native.Nat.{ℕ, _-_, _*_, _/_, _≤_}
 use mathlib.Core.Path.{_≡_}
 use mathlib.Core.Bool.{cond}
@@ -9,7 +8,7 @@ use mathlib.Core.List.{List, _++_}
 use lib.Dec.{eqb}
 use lib.ListN.{length, take, replicate}
 use Rattle.basics.specs.Word.{low}
-use Rattle.definitions.specs.Layout.{EVENT-ROW, TREE-ROW, ERROR-ROW, REPORT-ROW, MOST-OPEN-CALLS}
+use Rattle.definitions.specs.Layout.{TREE-ROW, ERROR-ROW, REPORT-ROW, MOST-OPEN-CALLS}
 use Rattle.definitions.specs.Token.{tokens-of}
 use Rattle.definitions.specs.Refusal.{no-tree-room, number-of, place-of, accepted, check-input}
 use Rattle.definitions.specs.Grammar.{Entry, whole, root-kind}
@@ -20,8 +19,8 @@ use Rattle.machine.specs.Outcome.{fresh}
 use Rattle.sink.specs.declared.Sunk.{Sunk}
 use Rattle.sink.specs.declared.Sunk.the-variants.{Written, NoRoom}
 use Rattle.sink.specs.Promise as Sink
-use Rattle.labels.specs.declared.sweep.Sweep.{Sweep}
-use Rattle.labels.specs.Promise as Names
+use Rattle.labels.specs.declared.report.Names.{Names}
+use Rattle.labels.specs.Promise as Labels
 
 -- zero from the number n on
 unfoldable pub wiped : ℕ → List ℕ → List ℕ
@@ -53,13 +52,13 @@ sunk-answer (Written t e) r p =
 sunk-answer NoRoom r p = refused-at (number-of no-tree-room) (place-of no-tree-room)
 
 -- the answer after the parser, which refused nothing, the sink, and the Names' reports: 7 comes before 8
-abbrev pub last-answer : Sunk → Sweep → Machine → Answer
+abbrev pub last-answer : Sunk → Names → Machine → Answer
 last-answer s w m = cond (eqb (w .refusal) 0) (sunk-answer s (w .written) (m .pool .count)) (refused-at (w .refusal) (w .place))
 
--- the buffers after all of them
-abbrev pub after-all : List ℕ → List ℕ → List ℕ → List ℕ → Machine → Buffers
-after-all events trees errors reports m =
-    record { events = events; trees = trees; errors = errors; reports = reports; pool = m .pool .numbers }
+-- the buffers after all of them; events and pool are as the parser left them
+abbrev pub after-all : List ℕ → List ℕ → List ℕ → Machine → Buffers
+after-all trees errors reports m =
+    record { events = m .events .numbers; trees = trees; errors = errors; reports = reports; pool = m .pool .numbers }
 
 -- buffers of the same lengths
 pub record Same-lengths (b c : Buffers) : Type 0 where
@@ -74,15 +73,14 @@ abbrev pub Parsed : Entry → List ℕ → Buffers → Machine → Type 0
 Parsed e tokens b m = m ≡ walk-prog MOST-OPEN-CALLS (tokens-of tokens) unlabelled (whole e) (fresh (b .events) (b .reports) (b .pool)) .on
 
 -- what the sink and the Names' reports promise, after such a run; b: the buffers at first
-pub record After-run (setting : ℕ) (e : Entry) (bytes tokens : List ℕ) (b : Buffers) (m : Machine) (s : Sunk) (w : Sweep)
-    (events trees errors reports : List ℕ) : Type 0 where
-  pub events-length : length events ≡ length (b .events)
+pub record After-run (setting : ℕ) (e : Entry) (bytes tokens : List ℕ) (b : Buffers) (m : Machine) (s : Sunk) (w : Names)
+    (trees errors reports : List ℕ) : Type 0 where
   pub trees-length : length trees ≡ length (b .trees)
   pub errors-length : length errors ≡ length (b .errors)
   pub reports-length : length reports ≡ length (b .reports)
   pub sunk : Sink.Promise (root-kind e) tokens (take (m .events .count) (m .events .numbers)) (b .trees) (b .errors) s trees errors
-  pub named : Names.Promise setting (root-kind e) bytes tokens (m .events .count / EVENT-ROW) (m .reports .count) (low (m .pool .count))
-      (m .events .numbers) (m .reports .numbers) w reports
+  pub named : Labels.Promise setting (root-kind e) bytes tokens (m .reports .count) (low (m .pool .count))
+      (take (m .events .count) (m .events .numbers)) (m .reports .numbers) w reports
 
 -- THE CALL'S END, for every entry and setting, every input that passes causes 2 to 4, and lent buffers of any lengths
 -- and contents
@@ -92,10 +90,10 @@ pub record Call-ends (setting : ℕ) (e : Entry) (bytes tokens : List ℕ) (b : 
       → swept (refused-at (m .refusal) (m .place)) c ≡ parse e setting bytes (tokens-of tokens) b
   -- no refusal: the events lie within their buffer
   pub events-inside : m .refusal ≡ 0 → m .events .count ≤ length (b .events)
-  -- and after the sink over these events, and the Names' reports, all is as `parse` says: cause 7 or 8, or accepted
-  pub ended : m .refusal ≡ 0 → (s : Sunk) (w : Sweep) (events trees errors reports : List ℕ)
-      → After-run setting e bytes tokens b m s w events trees errors reports
-      → swept (last-answer s w m) (after-all events trees errors reports m) ≡ parse e setting bytes (tokens-of tokens) b
+  -- and after the sink and the Names' reports over these events, all is as `parse` says: cause 7 or 8, or accepted
+  pub ended : m .refusal ≡ 0 → (s : Sunk) (w : Names) (trees errors reports : List ℕ)
+      → After-run setting e bytes tokens b m s w trees errors reports
+      → swept (last-answer s w m) (after-all trees errors reports m) ≡ parse e setting bytes (tokens-of tokens) b
 
 abbrev pub Calls-end : Type 0
 Calls-end =

@@ -12,19 +12,19 @@ clear-requires : tie.Need-clear-requires
 clear-requires c κs = search needs
 
 mul-clear : tie.Need-mul-clear
-mul-clear c = omega (arith, c .before .before .before .before .before .before .before .before .before .before .before .before .before .before .answer-of-parse .ensures .counts-fit .trees)
+mul-clear c = omega (arith, c .before .before .before .before .before .before .before .before .before .before .before .before .answer-of-parse .ensures .counts-fit .trees)
 
 clear-requires-2 : tie.Need-clear-requires-2
 clear-requires-2 c κs = search needs
 
 mul-clear-2 : tie.Need-mul-clear-2
-mul-clear-2 c = omega (arith, c .before .before .before .before .before .before .before .before .before .before .before .before .before .before .before .before .before .before .before .answer-of-parse .ensures .counts-fit .errors)
+mul-clear-2 c = omega (arith, c .before .before .before .before .before .before .before .before .before .before .before .before .before .before .before .before .before .answer-of-parse .ensures .counts-fit .errors)
 
 clear-requires-3 : tie.Need-clear-requires-3
 clear-requires-3 c κs = search needs
 
 mul-clear-3 : tie.Need-mul-clear-3
-mul-clear-3 c = omega (arith, c .before .before .before .before .before .before .before .before .before .before .before .before .before .before .before .before .before .before .before .before .before .before .before .before .answer-of-parse .ensures .counts-fit .reports)
+mul-clear-3 c = omega (arith, c .before .before .before .before .before .before .before .before .before .before .before .before .before .before .before .before .before .before .before .before .before .before .answer-of-parse .ensures .counts-fit .reports)
 
 clear-requires-4 : tie.Need-clear-requires-4
 clear-requires-4 c κs = search needs
@@ -49,14 +49,14 @@ same-length-5 c = search needs
 
 returns : tie.Need-returns
 returns c =
-    let a = c .before .before .before .before .before .before .before .before .before .before .before .before .before .before .before .before .before .before .before .before .before .before .before .before .before .before .before .before .before .before .before .before .before .before .before .before .before .before .before .before .before .before .before .args in
-    let parsed = c .before .before .before .before .before .before .before .before .before .before .before .before .before .before .before .before .before .before .before .before .before .before .before .before .before .before .before .before .before .before .before .answer-of-parse in
+    let a = c .before .before .before .before .before .before .before .before .before .before .before .before .before .before .before .before .before .before .before .before .before .before .before .before .before .before .before .before .before .before .before .before .before .before .before .before .before .before .before .before .before .args in
+    let parsed = c .before .before .before .before .before .before .before .before .before .before .before .before .before .before .before .before .before .before .before .before .before .before .before .before .before .before .before .before .before .answer-of-parse in
     let clear = c .before .before .before .before .before .before .before .before .before .before .before .before .before .before .before .before .before .before .before .before .before .clear in
     let clear2 = c .before .before .before .before .before .before .before .before .before .before .before .before .before .before .before .before .clear2 in
     let clear3 = c .before .before .before .before .before .before .before .before .before .before .before .clear3 in
     let clear4 = c .before .before .before .before .before .before .clear4 in
     let clear5 = c .before .before .clear5 in
-    all-cleared (a .number) (a .place) (a .root-kind) (a .setting) (a .events-written) (a .reports-written) (a .pool-written) (a .bytes .now) (a .tokens .now) (a .events .now) (a .trees .now) (a .errors .now) (a .reports .now) (a .pool .now) (parsed .result) (parsed .last .1 .1 .1 .1 .1 .1 .0) (parsed .last .1 .1 .1 .1 .1 .1 .1 .1 .0) (parsed .last .1 .1 .1 .1 .1 .1 .1 .1 .1 .0) (parsed .last .1 .1 .1 .1 .1 .1 .1 .1 .1 .1 .0) (parsed .kept .1 .1 .1 .1 .1 .1 .0) (parsed .kept .1 .1 .1 .1 .1 .1 .1 .1 .0) (parsed .kept .1 .1 .1 .1 .1 .1 .1 .1 .1 .0) (parsed .kept .1 .1 .1 .1 .1 .1 .1 .1 .1 .1 .0) (parsed .ensures) (clear .last .0) (clear2 .last .0) (clear3 .last .0) (clear4 .last .0) (clear5 .last .0) (clear .ensures) (clear2 .ensures) (clear3 .ensures) (clear4 .ensures) (clear5 .ensures)
+    all-cleared (a .number) (a .place) (a .root-kind) (a .setting) (a .events-written) (a .reports-written) (a .pool-written) (a .bytes .now) (a .tokens .now) (a .events .now) (a .trees .now) (a .errors .now) (a .reports .now) (a .pool .now) (parsed .result) (parsed .last .1 .1 .1 .1 .1 .1 .1 .1 .0) (parsed .last .1 .1 .1 .1 .1 .1 .1 .1 .1 .0) (parsed .last .1 .1 .1 .1 .1 .1 .1 .1 .1 .1 .0) (parsed .kept .1 .1 .1 .1 .1 .1 .1 .1 .0) (parsed .kept .1 .1 .1 .1 .1 .1 .1 .1 .1 .0) (parsed .kept .1 .1 .1 .1 .1 .1 .1 .1 .1 .1 .0) (parsed .ensures) (clear .last .0) (clear2 .last .0) (clear3 .last .0) (clear4 .last .0) (clear5 .last .0) (clear .ensures) (clear2 .ensures) (clear3 .ensures) (clear4 .ensures) (clear5 .ensures)
 
 pub outcome-spec : {M : Type 1} → statement M
 outcome-spec =

@@ -1,31 +1,27 @@
--- `report_names`: nothing in the old setting, else both sweeps.
+-- `report_names`: nothing in the old setting, else what the root's kind asks for.
 use Rattle.basics.proofs.Flags.{flags}
 use Rattle.labels.specs.Model.{names-on}
 use Rattle.labels.proofs.Names.{with-promise}
 use Rattle.labels.proofs.judge.report_names.Statement.{statement}
 use Rattle.labels.proofs.judge.report_names.Tie as tie
 
-begin-requires : tie.Need-begin-requires
-begin-requires c κs = tt
-
-judge-names-requires : tie.Need-judge-names-requires
-judge-names-requires c κs = tt
+judge-root-requires : tie.Need-judge-root-requires
+judge-root-requires c κs = tt
 
 returns : tie.Need-returns
 unfolding names-on
-returns c = with-promise _ _ _ _ _ _ _ _ _ _ _ _ (rw (c .before .if1 .taken, ← (c .begin .ensures)))
+returns c = with-promise _ _ _ _ _ _ _ _ _ _ (rw (c .if1 .taken))
 
 same-length : tie.Need-same-length
-same-length c = omega (flags, c .before .before .before .before .judge-names .kept)
-
-same-length-2 : tie.Need-same-length-2
-same-length-2 c = omega (flags, c .before .before .before .before .judge-names .kept)
+same-length c = omega (flags, c .before .before .judge-root .kept)
 
 returns-2 : tie.Need-returns-2
 unfolding names-on
-returns-2 c = with-promise _ _ _ _ _ _ _ _ _ _ _ _ (rw (c .before .before .before .before .before .before .before .if1 .left, ← (c .before .before .before .before .judge-names .ensures)))
+returns-2 c =
+    let if1 = c .before .before .before .before .if1 in
+    let judge-root = c .before .before .judge-root in
+    with-promise _ _ _ _ _ _ _ _ _ _ (rw (if1 .left, ← (judge-root .ensures)))
 
 pub report-names-spec : {M : Type 1} → statement M
 report-names-spec =
-    tie.close
-    (tie.spec begin-requires judge-names-requires returns same-length same-length-2 returns-2)
+    tie.close (tie.spec judge-root-requires returns same-length returns-2)
