@@ -142,6 +142,13 @@ NO-REPORT-ROOM = 7
 abbrev pub NO-TREE-ROOM : ℕ
 NO-TREE-ROOM = 8
 
+-- document 02's: of a text that is to be lexed
+abbrev pub HIGH-BYTE : ℕ
+HIGH-BYTE = 9
+
+abbrev pub DIRECTIVE : ℕ
+DIRECTIVE = 10
+
 -- ---------------------------------------------------------------- how many numbers 32 bits hold, and 64
 
 abbrev pub TWO-TO-32 : ℕ

@@ -18,3 +18,7 @@ pub mod Refusal
 pub mod Report
 pub mod Strict
 pub mod Call
+pub mod Pattern
+pub mod Rules
+pub mod Lex
+pub mod Text
