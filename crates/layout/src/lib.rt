@@ -4,6 +4,7 @@
 pub mod event_tag;
 pub mod expected;
 pub mod hint;
+pub mod lex_error;
 pub mod limit;
 pub mod message;
 pub mod node_kind;

@@ -14,3 +14,8 @@ pub const NO_EVENT_ROOM: u32 = 6;
 pub const NO_REPORT_ROOM: u32 = 7;
 
 pub const NO_TREE_ROOM: u32 = 8;
+
+// Document 02's, of a text that is to be lexed.
+pub const HIGH_BYTE: u32 = 9;
+
+pub const DIRECTIVE: u32 = 10;

@@ -1,0 +1,1 @@
+// Theorems about lexing: see specs/ for the statements and proofs/ for the rest. There is no code here.
