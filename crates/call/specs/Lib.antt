@@ -2,3 +2,4 @@
 pub mod Result
 pub mod Checked
 pub mod Ended
+pub mod Text

@@ -5,7 +5,9 @@ use denote.Ref.{RefT, now}
 use denote.Triple.Both.{Both}
 use Rattle.definitions.specs.Call.{Buffers, Result}
 use Rattle.definitions.specs.Call as Call
+use Rattle.definitions.specs.Text.{Text-result}
 use Rattle.call.specs.declared.Answer.{Answer}
+use Rattle.call.specs.declared.text.TextAnswer.{TextAnswer}
 
 -- the numbers of an answer
 abbrev pub answer-of : Answer → Call.Answer
@@ -40,3 +42,8 @@ at-exit events trees errors reports pool =
 -- an answer, and what the buffers hold with it
 abbrev pub result-of : Answer → Buffers → Result
 result-of a b = record { answer = answer-of a; buffers = b }
+
+-- the same of a call over a text: its answer, what the buffer of token rows holds, and the others
+abbrev pub text-result-of : TextAnswer → List ℕ → Buffers → Text-result
+text-result-of a tokens b =
+    record { answer = answer-of (a .answer); token-count = a .«token_count»; tokens = tokens; buffers = b }

@@ -1,7 +1,9 @@
-// A call's answer, in document 01's numbers. Beside it: what is checked before the parse, and what is done after it.
+// A call's answer, in the documents' numbers. Beside it: what is checked before the parse, and what is done after it;
+// the answer to a call over a text.
 mod buffer;
 pub mod check_input;
 pub mod outcome;
+pub mod text;
 
 ghost use mathlib.Core.Path.{_≡_};
 ghost use Rattle.call.specs.Ended.{refused-with, accepted-with};

@@ -1,3 +1,5 @@
--- What is proved of the definitions alone, without a theorem: document 01's readings, and those of document 02's 1/14.
+-- What is proved of the definitions alone, without a theorem: document 01's readings, and those of document 02's 1/14
+-- and 2/14.
 pub mod Readings
 pub mod StrictReadings
+pub mod TextReadings

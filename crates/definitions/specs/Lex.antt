@@ -1,6 +1,6 @@
 -- lexer.rs: `lex`, over the rules of specs/Rules.antt, and its callbacks.
 use Prim.Native.Nat.{ℕ, zero, suc, pred, _+_}
-use mathlib.Core.Bool.{Bool, true, false, cond, not, _&&_}
+use mathlib.Core.Bool.{Bool, false, cond, not, _&&_}
 use mathlib.Core.List.{List, [], _∷_}
 use lib.Dec.{eqb}
 use lib.ListN.{length, take, drop}
@@ -36,7 +36,7 @@ longest (suc n) s =
     let fewer = longest n s in
     else (first-rule (suc n) rules (take (suc n) s)) fewer
 
--- ---------------------------------------------------------------- callbacks: how many bytes there are up to the token's end
+-- ------------------------------------------------- callbacks: how many bytes there are up to the token's end
 
 pub data End : Type 0 where
   ended : ℕ → End

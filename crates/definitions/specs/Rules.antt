@@ -1,5 +1,5 @@
--- lexer.rs: the rules of `TokenKind`, one line for each `#[token]` and `#[regex]`, in its order and under its names. The
--- thirteen directives of the preprocessor are not here: a text with one is refused (cause 10, specs/Text.antt).
+-- lexer.rs: the rules of `TokenKind`, one line for each `#[token]` and `#[regex]`, in its order and under its names.
+-- The thirteen directives of the preprocessor are not here: a text with one is refused (cause 10, specs/Text.antt).
 use Prim.Native.Nat.{ℕ}
 use Prim.Native.Char.{Char, code}
 use Prim.Native.String.{String, [] as []ₛ, _∷_ as _∷ₛ_}

@@ -1,8 +1,8 @@
 -- Document 02, 2/14: raw text without a preprocessor. "Add a text entry for plain ASCII sources, by the rules of
 -- `lexer.rs`. .. Token rows go into a lent buffer, its rest zero, all of it zero at refusals 5 to 8. .. After 1,
--- refusal 2 for bytes comes first; for token numbers, over the limit or the buffer, it comes after 9 and 10; these leave
--- every buffer unchanged."
-use Prim.Native.Nat.{ℕ, zero, suc, _+_, _/_}
+-- refusal 2 for bytes comes first; for token numbers, over the limit or the buffer, it comes after 9 and 10; these
+-- leave every buffer unchanged."
+use Prim.Native.Nat.{ℕ, suc, _+_, _/_}
 use mathlib.Core.Bool.{Bool, true, false, cond, _&&_, _||_}
 use mathlib.Core.List.{List, [], _∷_}
 use lib.Dec.{leb, eqb}

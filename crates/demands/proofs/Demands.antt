@@ -11,6 +11,15 @@ use Rattle.bounds.proofs.Numbers as bounds
 use Rattle.strict.proofs.AsItWas as old
 use Rattle.strict.proofs.Settings as settings
 use Rattle.strict.proofs.Exactly as exactly
+use Rattle.patterns.proofs.Textbook as patterns
+use Rattle.lexing.proofs.ByRules as by-rules
+use Rattle.lexing.proofs.Joined as joined
+use Rattle.lexing.proofs.RowsPass as rows-pass
+use Rattle.lex_table.proofs.Ties as ties
+use Rattle.texts.proofs.Plain as plain
+use Rattle.texts.proofs.TextRefusals as text-refusals
+use Rattle.texts.proofs.TextAnswered as text-answered
+use Rattle.texts.proofs.TextsLocal as texts-local
 use Rattle.run_steps.proofs.Complete as complete
 use Rattle.turns.proofs.Turns as turns
 use Rattle.pending.proofs.Repeats as pending
@@ -36,6 +45,18 @@ demands =
             same-refusals = settings.same-refusals;
             old-refusals = settings.old-refusals;
             exactly = exactly.exactly;
+          };
+      texts =
+          record {
+            textbook = patterns.textbook;
+            by-rules = by-rules.by-rules;
+            one-rule = ties.one-rule;
+            joined = joined.joined;
+            rows-pass = rows-pass.rows-pass;
+            text-refusals = text-refusals.text-refusals;
+            text-answered = text-answered.text-answered;
+            accepted-is-plain = plain.accepted-is-plain;
+            texts-stay-local = texts-local.texts-stay-local;
           };
       beside =
           record {

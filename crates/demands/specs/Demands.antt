@@ -1,6 +1,7 @@
 -- THE DEMANDS: the three promises, of every call of the definitions in either setting, what the strict setting
--- promises, and what holds beside them. Each line names the file that words it. The exported routine answers as the
--- definitions do (crates/dt_parser/src/lib.rt), so all of this holds of it too.
+-- promises, what calls over texts promise, and what holds beside them. Each line names the file that words it. The
+-- exported routines answer as the definitions do (crates/dt_parser/src/lib.rt, text.rt), so all of this holds of them
+-- too.
 use Rattle.refusals.specs.Refusals.{Refusals}
 use Rattle.refusals.specs.Answered.{Answered}
 use Rattle.laws.specs.Lossless.{Nothing-lost}
@@ -13,6 +14,15 @@ use Rattle.bounds.specs.Numbers.{Runs-bounded, Words-so-far, Numbers-fit}
 use Rattle.strict.specs.AsItWas.{As-it-was}
 use Rattle.strict.specs.Settings.{One-strict-setting, Leaves-tree-alone, Same-refusals, Old-refusals}
 use Rattle.strict.specs.Exactly.{Exactly}
+use Rattle.patterns.specs.Textbook.{Textbook}
+use Rattle.lexing.specs.ByRules.{By-rules}
+use Rattle.lex_table.specs.Ties.{One-rule}
+use Rattle.lexing.specs.Joined.{Joined}
+use Rattle.lexing.specs.RowsPass.{Rows-pass}
+use Rattle.texts.specs.Plain.{Accepted-is-plain}
+use Rattle.texts.specs.TextRefusals.{Text-refusals}
+use Rattle.texts.specs.TextAnswered.{Text-answered}
+use Rattle.texts.specs.TextsLocal.{Texts-stay-local}
 use Rattle.run_steps.specs.Signs.{Complete}
 use Rattle.turns.specs.Turns.{Turns}
 use Rattle.pending.specs.Pending.{Repeats}
@@ -68,6 +78,30 @@ pub record Strict : Type 0 where
   -- strict/specs/Exactly.antt.
   pub exactly : Exactly
 
+-- TEXTS, document 02's request 2/14.
+pub record Texts : Type 0 where
+  -- Which texts fit a pattern is what a textbook says. patterns/specs/Textbook.antt.
+  pub textbook : Textbook
+  -- The tokens of a text are what lexer.rs' rules give, by the longest match, and no other list is.
+  -- lexing/specs/ByRules.antt.
+  pub by-rules : By-rules
+  -- No text fits two rules, so their order decides nothing. lex_table/specs/Ties.antt.
+  pub one-rule : One-rule
+  -- Joined, the tokens give back the input. lexing/specs/Joined.antt.
+  pub joined : Joined
+  -- Their rows pass the checks of a call's input. lexing/specs/RowsPass.antt.
+  pub rows-pass : Rows-pass
+  -- Promise 1: each refusal of a call over a text, with its place, if and only if its cause applies; never 3 or 4. By
+  -- the number, every buffer is as it was, all zero, or written and then zero; all else is the call over the tokens.
+  -- texts/specs/TextRefusals.antt, TextAnswered.antt.
+  pub text-refusals : Text-refusals
+  pub text-answered : Text-answered
+  -- An accepted text has no byte above 127 and no directive at a token start. texts/specs/Plain.antt.
+  pub accepted-is-plain : Accepted-is-plain
+  -- Promise 3: two accepted texts whose bytes agree after such a semicolon; nothing is asked of their tokens.
+  -- texts/specs/TextsLocal.antt.
+  pub texts-stay-local : Texts-stay-local
+
 -- What holds beside the promises, of the definitions and of all that the code can meet.
 pub record Beside : Type 0 where
   -- In an accepted call at most 64 calls are open and at most 256 expectations are pending, at every moment of a run.
@@ -94,4 +128,5 @@ pub record Demands : Type 0 where
   pub promise-2 : Promise-2
   pub promise-3 : Promise-3
   pub strict : Strict
+  pub texts : Texts
   pub beside : Beside

@@ -1,5 +1,5 @@
--- `by-rules`: the definitions' search finds a winner or shows that there is none (Best); and no text has two winners, so
--- no two lists of tokens.
+-- `by-rules`: the definitions' search finds a winner or shows that there is none (Best); and no text has two winners,
+-- so no two lists of tokens.
 use Prim.Native.Nat.{ℕ, _≤_}
 use native.Mathlib.Omega.{arith}
 use mathlib.Core.Path.{_≡_, refl, sym, ap, _∙_, subst}

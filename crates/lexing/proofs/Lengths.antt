@@ -1,4 +1,5 @@
--- Each token has a byte at least and ends inside the text; the tokens of a text are its first and those of what follows.
+-- Each token has a byte at least and ends inside the text; the tokens of a text are its first and those of what
+-- follows.
 use Prim.Native.Nat.{ℕ, zero, suc, pred, _+_, _-_, _<_, _≤_}
 use native.Mathlib.Omega.{arith}
 use mathlib.Core.Path.{_≡_, refl, sym, _∙_, ap, subst}

@@ -1,6 +1,6 @@
 -- BY RULES: the tokens are what the rules give, and no other list is. Said with `Fits`, the textbook's meaning of a
--- pattern, and without the definitions' search. It excludes a shorter match, a later rule where an earlier one matches as
--- much, an error token where a rule matches, tokens after the end, and a text that has no tokens at all.
+-- pattern, and without the definitions' search. It excludes a shorter match, a later rule where an earlier one
+-- matches as much, an error token where a rule matches, tokens after the end, and a text that has no tokens at all.
 use Prim.Native.Nat.{ℕ, _≤_, _<_}
 use mathlib.Core.Path.{_≡_}
 use mathlib.Core.List.{List, [], _∷_, _++_}
@@ -38,7 +38,8 @@ pub data Starts (s : List ℕ) : Token → Type 0 where
 -- the tokens of a text
 pub data Lexing : List ℕ → List Token → Type 0 where
   at-end : Lexing [] []
-  at-token : (b : ℕ) (s : List ℕ) (t : Token) (ts : List Token) → Starts (b ∷ s) t → Lexing (drop (t .len) (b ∷ s)) ts → Lexing (b ∷ s) (t ∷ ts)
+  at-token : (b : ℕ) (s : List ℕ) (t : Token) (ts : List Token) → Starts (b ∷ s) t → Lexing (drop (t .len) (b ∷ s)) ts
+      → Lexing (b ∷ s) (t ∷ ts)
 
 pub record By-rules : Type 0 where
   pub they-are : (s : List ℕ) → Lexing s (lex s)
