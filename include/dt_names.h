@@ -42,11 +42,13 @@ static inline const char *dt_refusal_name(uint32_t number)
     case DT_REFUSAL_NO_EVENT_ROOM: return "no-event-room";
     case DT_REFUSAL_NO_REPORT_ROOM: return "no-report-room";
     case DT_REFUSAL_NO_TREE_ROOM: return "no-tree-room";
+    case DT_REFUSAL_HIGH_BYTE: return "high-byte";
+    case DT_REFUSAL_DIRECTIVE: return "directive";
     default: return "?";
     }
 }
 
-/* The cause as document 01 has it. */
+/* The cause as documents 01 and 02 have it. */
 static inline const char *dt_refusal_text(uint32_t number)
 {
     switch (number) {
@@ -59,6 +61,8 @@ static inline const char *dt_refusal_text(uint32_t number)
     case DT_REFUSAL_NO_EVENT_ROOM: return "next event doesn't fit";
     case DT_REFUSAL_NO_REPORT_ROOM: return "report row or its expectations don't fit";
     case DT_REFUSAL_NO_TREE_ROOM: return "tree or lexical errors don't fit";
+    case DT_REFUSAL_HIGH_BYTE: return "byte of 128 or more";
+    case DT_REFUSAL_DIRECTIVE: return "preprocessor directive at a token start";
     default: return "?";
     }
 }

@@ -1,14 +1,16 @@
 /*
- * The devicetree parser: one call that turns token rows into tree rows, lexical errors and reports.
+ * The devicetree parser: a call that turns token rows into tree rows, lexical errors and reports (dt_parse), and one
+ * that does so with a text (dt_parse_text).
  *
- * "Document 01" is docs/01-scope.md; the strict setting is document 02's request 1/14. What the call answers and what
- * each buffer holds afterwards is crates/definitions/specs/Call.antt. tools/check-header compares every number below
- * with the definitions and the code. The names and message texts of the numbers are in dt_names.h.
+ * "Document 01" is docs/01-scope.md; the strict setting and the text call are document 02's requests 1/14 and 2/14.
+ * What a call answers and what each buffer holds afterwards is in crates/definitions/specs, Call.antt and Text.antt.
+ * tools/check-header compares every number below with the definitions and the code. The names and message texts of the
+ * numbers are in dt_names.h.
  *
  * Link: libdt_parser.a (`rt staticlib dt_parser` writes target/staticlib/libdt_parser.a), x86-64 Linux. It needs the C
  * library (memcpy, memmove, memset) and nothing else. `tools/install-library PREFIX` puts library, headers and a file
- * for pkg-config in their places. The call allocates nothing, keeps nothing and has no state: calls in several threads
- * at once are safe if each has its own lent buffers. The deepest inputs take 0.8 MiB of stack (bench/stack.c): a thread
+ * for pkg-config in their places. A call allocates nothing, keeps nothing and has no state: calls in several threads at
+ * once are safe if each has its own lent buffers. The deepest inputs take 0.8 MiB of stack (bench/stack.c): a thread
  * that calls should have 2 MiB.
  *
  * All rows are of uint32_t numbers. A length is a count of elements (bytes or numbers), never of rows.
@@ -26,16 +28,16 @@
  * new minor number says that something a caller relies on has changed, for instance how many numbers a row has.
  */
 #define DT_PARSER_VERSION_MAJOR 0
-#define DT_PARSER_VERSION_MINOR 3
+#define DT_PARSER_VERSION_MINOR 4
 #define DT_PARSER_VERSION_PATCH 0
-/* As one number, to compare in an #if: 0.3.0 is 300, 1.2.3 is 10203. */
+/* As one number, to compare in an #if: 0.4.0 is 400, 1.2.3 is 10203. */
 #define DT_PARSER_VERSION (10000 * DT_PARSER_VERSION_MAJOR + 100 * DT_PARSER_VERSION_MINOR + DT_PARSER_VERSION_PATCH)
 
 #ifdef __cplusplus
 extern "C" {
 #endif
 
-/* What is parsed: the first argument of dt_parse. */
+/* What is parsed: the first argument of a call. */
 enum dt_entry {
     DT_ENTRY_SOURCE_FILE = 1,     /* a whole file */
     DT_ENTRY_REFERENCE_NOAMP = 2, /* a reference after its & */
@@ -44,23 +46,32 @@ enum dt_entry {
 };
 
 /*
- * What is reported: the second argument of dt_parse. 0 is the old setting, and any other number the strict one, which
+ * What is reported: the second argument of a call. 0 is the old setting, and any other number the strict one, which
  * adds the reports of DT_MESSAGE_NOT_A_LABEL and changes nothing else of an accepted call.
  */
 enum dt_setting { DT_SETTING_OLD = 0, DT_SETTING_STRICT = 1 };
 
-/* The answer's number: 0, or why the call was refused. Tried in this order; of 5 to 7 the first that a run meets. */
+/*
+ * The answer's number: 0, or why the call was refused. dt_parse tries 1 to 8, in this order; of 5 to 7 it gives the
+ * first that a run meets. dt_parse_text tries 1; 2 for bytes; 9 and 10, of which the one at the lower offset is given;
+ * 2 for token numbers; then 5 to 8. It never gives 3 or 4.
+ */
 enum dt_refusal {
     DT_ACCEPTED = 0,
     DT_REFUSAL_UNKNOWN_ENTRY = 1,  /* entry not 1 to 4; place 0 */
-    DT_REFUSAL_TOO_LONG = 2,       /* over DT_MAX_BYTES or DT_MAX_TOKEN_NUMBERS; place 0 */
+    DT_REFUSAL_TOO_LONG = 2,       /* over DT_MAX_BYTES or DT_MAX_TOKEN_NUMBERS, or a text has more token rows than fit
+                                      the buffer lent for them; place 0 */
     DT_REFUSAL_BAD_ROW = 3,        /* place: the first bad row, else the count of whole rows */
     DT_REFUSAL_BAD_TEXT = 4,       /* a fixed text is not there; place: that row */
     DT_REFUSAL_TOO_DEEP = 5,       /* a 65th open call or a 257th expectation; place: the mark */
     DT_REFUSAL_NO_EVENT_ROOM = 6,  /* the next event does not fit; place: the mark */
     DT_REFUSAL_NO_REPORT_ROOM = 7, /* a report or its expectations do not fit; place: the mark. A report of the strict
                                       setting is tried after the run, whether the tree fits or not: so before 8 */
-    DT_REFUSAL_NO_TREE_ROOM = 8    /* the tree or the lexical errors do not fit; place 0 */
+    DT_REFUSAL_NO_TREE_ROOM = 8,   /* the tree or the lexical errors do not fit; place 0 */
+    DT_REFUSAL_HIGH_BYTE = 9,      /* of a text: a byte of 128 or more, wherever it stands; place: its offset */
+    DT_REFUSAL_DIRECTIVE = 10      /* of a text: # where a token starts, any spaces or tabs, then what begins with if,
+                                      elif, else, endif, pragma, define, undef, include or error, as #ifdef and the
+                                      name #iface-cells do; place: the offset of the # */
 };
 
 /* Limits. Above the first two a call is refused with 2, above the others with 5. */
@@ -333,6 +344,16 @@ enum dt_expected {
 #define DT_REPORTS_FOR(n) (DT_ROW_REPORT * (4 * (size_t)(n) + 1))
 #define DT_POOL_FOR(n) (768 * (size_t)(n) + 256)
 
+/*
+ * Of dt_parse_text: a length of tokens that suffices for so many bytes, so that 2 is met only for a text that is too
+ * long. Each token has a byte at least (crates/lexing has the proof), and more than DT_MAX_TOKEN_NUMBERS are refused
+ * whatever is lent. The n above is then at most DT_TOKENS_FOR(bytes) / DT_ROW_TOKEN.
+ */
+#define DT_TOKENS_FOR(bytes)                                       \
+    ((size_t)(bytes) < (size_t)DT_MAX_TOKEN_NUMBERS / DT_ROW_TOKEN \
+         ? DT_ROW_TOKEN * (size_t)(bytes)                          \
+         : (size_t)DT_MAX_TOKEN_NUMBERS)
+
 /* Counts are 0 unless number is DT_ACCEPTED. */
 struct dt_answer {
     uint32_t number;          /* enum dt_refusal */
@@ -341,6 +362,12 @@ struct dt_answer {
     size_t error_count;       /* lexical errors written */
     size_t report_count;      /* reports written */
     size_t expectation_count; /* expectations written, each a number of the pool */
+};
+
+/* The answer to a text. The count is 0 unless answer.number is DT_ACCEPTED. */
+struct dt_text_answer {
+    struct dt_answer answer;
+    size_t token_count; /* token rows written */
 };
 
 /*
@@ -375,6 +402,37 @@ struct dt_answer dt_parse(uint32_t entry, uint32_t setting,
                           uint32_t *errors, size_t errors_len,
                           uint32_t *reports, size_t reports_len,
                           uint32_t *pool, size_t pool_len);
+
+/*
+ * The same for a text without its tokens. They are read by the rules of docs/src's lexer.rs, of which the longest match
+ * wins, and written to a lent buffer: joined, they are the text, and a byte that no rule takes is a token of length 1
+ * and kind DT_LEX_ERROR_DEFAULT. All else is what dt_parse gives for these tokens.
+ *
+ * A text is plain ASCII, and has been through the preprocessor if it needs one: see refusals 9 and 10. The usual way is
+ * `cpp -P -nostdinc -undef -x assembler-with-cpp FILE.dts`, with -I for the folders of what FILE.dts includes.
+ *
+ * bytes           the text. Only read.
+ * tokens          token rows (kind, length)
+ * All other arguments are those of dt_parse.
+ *
+ * Before the call the six lent buffers may hold anything. Afterwards:
+ *   accepted               what dt_parse leaves in its five; the token rows that the answer counts at the front of
+ *                          tokens, the rest of it zero
+ *   refused, 1, 2, 9, 10   every buffer is as it was, tokens too
+ *   refused, 5 to 8        every number of every buffer is zero, tokens too; so a mark counts tokens that are not there
+ * An odd length of tokens: the number over counts as rest.
+ *
+ * Memory, overlap, alignment and NULL are as for dt_parse, with tokens as a sixth lent buffer: it must not overlap any
+ * other, nor bytes.
+ */
+struct dt_text_answer dt_parse_text(uint32_t entry, uint32_t setting,
+                                    const uint8_t *bytes, size_t bytes_len,
+                                    uint32_t *tokens, size_t tokens_len,
+                                    uint32_t *events, size_t events_len,
+                                    uint32_t *trees, size_t trees_len,
+                                    uint32_t *errors, size_t errors_len,
+                                    uint32_t *reports, size_t reports_len,
+                                    uint32_t *pool, size_t pool_len);
 
 #ifdef __cplusplus
 }

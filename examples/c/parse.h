@@ -4,12 +4,13 @@
 
 #include "dt_parser.h"
 
+/* What is parsed: a text, or a text and its tokens. */
 struct input {
     uint32_t entry;
     uint32_t setting;
     const uint8_t *bytes;
     size_t bytes_len;
-    const struct dt_token_row *tokens;
+    const struct dt_token_row *tokens; /* NULL: dt_parse_text reads them */
     size_t tokens_count;
 };
 
@@ -19,14 +20,17 @@ struct buffer {
     size_t len;
 };
 
-/* What a call gave. The rows are those that the answer counts, and lie in the buffers. */
+/* What a call gave. The rows are those that the answer counts, and lie in the buffers; the tokens are the input's own
+   if it has them. */
 struct parsed {
     struct dt_answer answer;
+    const struct dt_token_row *tokens;
+    size_t tokens_count;
     const struct dt_tree_row *trees;
     const struct dt_error_row *errors;
     const struct dt_report_row *reports;
     const uint32_t *pool;
-    struct buffer buffers[5];
+    struct buffer buffers[6];
 };
 
 /* 0 if there was no memory. free_parsed must be called in every case. */

@@ -109,18 +109,18 @@ void print_nodes(const struct input *in, const struct parsed *p)
 }
 
 /* The words for the first token from this index on that is not trivia; NULL at the end of the input. */
-static const char *found_text(const struct input *in, size_t token)
+static const char *found_text(const struct parsed *p, size_t token)
 {
-    for (; token < in->tokens_count; token++)
-        switch (in->tokens[token].kind) {
+    for (; token < p->tokens_count; token++)
+        switch (p->tokens[token].kind) {
         case DT_TOKEN_WHITESPACE:
         case DT_TOKEN_BLOCK_COMMENT:
         case DT_TOKEN_LINE_COMMENT:
             break;
         default:
-            if (in->tokens[token].kind >= DT_TOKEN_FIRST_LEX_ERROR)
+            if (p->tokens[token].kind >= DT_TOKEN_FIRST_LEX_ERROR)
                 return dt_token_text(DT_TOKEN_UNRECOGNIZED);
-            return dt_token_text(in->tokens[token].kind);
+            return dt_token_text(p->tokens[token].kind);
         }
     return NULL;
 }
@@ -136,10 +136,10 @@ static int is_repeat(const uint32_t *codes, uint32_t index)
 }
 
 /* ` A, B or C, but found D`, each expectation once. */
-static void print_expected(const struct input *in, const struct parsed *p, const struct dt_report_row *report)
+static void print_expected(const struct parsed *p, const struct dt_report_row *report)
 {
     const uint32_t *codes = p->pool + report->pool_first;
-    const char *found = found_text(in, report->mark);
+    const char *found = found_text(p, report->mark);
     uint32_t i, last = 0;
     for (i = 0; i < report->pool_count; i++)
         if (!is_repeat(codes, i))
@@ -153,7 +153,7 @@ static void print_expected(const struct input *in, const struct parsed *p, const
         printf(", but reached end of input");
 }
 
-void print_messages(const struct input *in, const struct parsed *p)
+void print_messages(const struct parsed *p)
 {
     size_t i;
     for (i = 0; i < p->answer.error_count; i++) {
@@ -164,11 +164,38 @@ void print_messages(const struct input *in, const struct parsed *p)
         const struct dt_report_row *report = &p->reports[i];
         printf("%u..%u: %s", report->start, report->end, dt_message_text(report->message));
         if (report->message == DT_MESSAGE_EXPECTED)
-            print_expected(in, p, report);
+            print_expected(p, report);
         putchar('\n');
         if (report->label_end != 0)
             printf("  %u..%u: %s\n", report->label_start, report->label_end, dt_label_text(report->message));
         if (report->hint != DT_HINT_NONE)
             printf("  hint: %s\n", dt_hint_text(report->hint));
     }
+}
+
+/* The line that has a byte of the text, up to its end, and the byte's column, both counted from 1. */
+static void print_line(const struct input *in, size_t offset)
+{
+    size_t line = 1, start = 0, end = offset, i;
+    for (i = 0; i < offset; i++)
+        if (in->bytes[i] == '\n') {
+            line++;
+            start = i + 1;
+        }
+    while (end < in->bytes_len && in->bytes[end] != '\n')
+        end++;
+    printf("  line %zu, column %zu: ", line, offset - start + 1);
+    print_text(in->bytes, start, end);
+    putchar('\n');
+}
+
+void print_refusal(const struct input *in, const struct parsed *p)
+{
+    uint32_t number = p->answer.number;
+    size_t place = p->answer.place;
+    printf("refused: %u (%s), place %zu: %s\n", number, dt_refusal_name(number), place, dt_refusal_text(number));
+    if (number == DT_REFUSAL_HIGH_BYTE || number == DT_REFUSAL_DIRECTIVE)
+        print_line(in, place);
+    if (number == DT_REFUSAL_DIRECTIVE)
+        puts("  run the preprocessor first: cpp -P -nostdinc -undef -x assembler-with-cpp FILE.dts");
 }

@@ -1,4 +1,4 @@
-/* Prints what an accepted call gave. */
+/* Prints what a call gave. */
 #ifndef PRINT_H
 #define PRINT_H
 
@@ -11,6 +11,9 @@ int print_tree(const struct input *in, const struct parsed *p);
 void print_nodes(const struct input *in, const struct parsed *p);
 
 /* Lexical errors and reports, in the words of dt-tools. */
-void print_messages(const struct input *in, const struct parsed *p);
+void print_messages(const struct parsed *p);
+
+/* Why a call was refused; of a text with the line that has the byte. */
+void print_refusal(const struct input *in, const struct parsed *p);
 
 #endif

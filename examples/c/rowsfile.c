@@ -94,6 +94,15 @@ static const char *read_text(FILE *file, struct rowsfile *out)
     return fread(out->bytes, 1, n, file) == n && fgetc(file) == EOF ? NULL : "the text's length is wrong";
 }
 
+int is_rowsfile(FILE *file)
+{
+    static const char words[] = "devicetree tokens";
+    char found[sizeof words - 1];
+    int is_one = fread(found, 1, sizeof found, file) == sizeof found && memcmp(found, words, sizeof found) == 0;
+    rewind(file);
+    return is_one;
+}
+
 const char *read_rowsfile(FILE *file, struct rowsfile *out)
 {
     char line[LINE];

@@ -13,6 +13,9 @@ struct rowsfile {
     size_t bytes_len;
 };
 
+/* Whether a file is one of token rows, by its first words; it is then read from its start again. */
+int is_rowsfile(FILE *file);
+
 /* NULL, or what is wrong. Whether rows and bytes fit is the parser's to say. The arrays are the caller's to free. */
 const char *read_rowsfile(FILE *file, struct rowsfile *out);
 

@@ -1,5 +1,5 @@
-//! The exported call `dt_parse` as ../../include/dt_parser.h declares it, over slices that need not be Rust's own.
-//! For the programs that try the static library; bindings/rust is for callers.
+//! The exported calls `dt_parse` and `dt_parse_text` as ../../include/dt_parser.h declares them, over slices that need
+//! not be Rust's own. For the programs that try the static library; bindings/rust is for callers.
 
 use dt_parser_layout::{ACCEPTED, BUFFERS, Lengths, ROW};
 
@@ -28,6 +28,14 @@ impl Answer {
     }
 }
 
+/// The answer to a call over a text.
+#[repr(C)]
+#[derive(Clone, Copy, Debug, PartialEq, Eq, Default)]
+pub struct TextAnswer {
+    pub answer: Answer,
+    pub token_count: usize,
+}
+
 /// A slice as C passes it.
 #[derive(Clone, Copy)]
 pub struct Lent {
@@ -54,6 +62,25 @@ unsafe extern "C" {
         pool: *mut u32,
         pool_len: usize,
     ) -> Answer;
+
+    fn dt_parse_text(
+        entry: u32,
+        setting: u32,
+        bytes: *const u8,
+        bytes_len: usize,
+        tokens: *mut u32,
+        tokens_len: usize,
+        events: *mut u32,
+        events_len: usize,
+        trees: *mut u32,
+        trees_len: usize,
+        errors: *mut u32,
+        errors_len: usize,
+        reports: *mut u32,
+        reports_len: usize,
+        pool: *mut u32,
+        pool_len: usize,
+    ) -> TextAnswer;
 }
 
 /// One call over memory of any kind, also such as was never written.
@@ -71,6 +98,41 @@ pub unsafe fn parse_lent(entry: u32, setting: u32, bytes: &[u8], tokens: &[u32],
             bytes.len(),
             tokens.as_ptr(),
             tokens.len(),
+            events.numbers,
+            events.len,
+            trees.numbers,
+            trees.len,
+            errors.numbers,
+            errors.len,
+            reports.numbers,
+            reports.len,
+            pool.numbers,
+            pool.len,
+        )
+    }
+}
+
+/// One call over a text, whose tokens are read into a buffer of their own; memory as that of `parse_lent`.
+///
+/// # Safety
+/// As that of `parse_lent`, for the buffer of the tokens too.
+#[inline]
+pub unsafe fn parse_text_lent(
+    entry: u32,
+    setting: u32,
+    bytes: &[u8],
+    tokens: Lent,
+    lent: [Lent; BUFFERS],
+) -> TextAnswer {
+    let [events, trees, errors, reports, pool] = lent;
+    unsafe {
+        dt_parse_text(
+            entry,
+            setting,
+            bytes.as_ptr(),
+            bytes.len(),
+            tokens.numbers,
+            tokens.len,
             events.numbers,
             events.len,
             trees.numbers,

@@ -87,8 +87,11 @@ pub const REFUSAL_TOO_DEEP: u32 = 5;
 pub const REFUSAL_NO_EVENT_ROOM: u32 = 6;
 pub const REFUSAL_NO_REPORT_ROOM: u32 = 7;
 pub const REFUSAL_NO_TREE_ROOM: u32 = 8;
+/// Of a text alone.
+pub const REFUSAL_HIGH_BYTE: u32 = 9;
+pub const REFUSAL_DIRECTIVE: u32 = 10;
 /// How many numbers an answer can have.
-pub const ANSWERS: usize = REFUSAL_NO_TREE_ROOM as usize + 1;
+pub const ANSWERS: usize = REFUSAL_DIRECTIVE as usize + 1;
 
 /// A token row's kind is that of a token below the first, and one of the lexical errors from there to the last.
 pub const TOKEN_FIRST_LEX_ERROR: u32 = 64;

@@ -1,5 +1,6 @@
-/* What a caller in C or C++ relies on, without the library: the structs lie over the rows, the names are there, and
-   dt_after_subtree goes from sibling to sibling. Compiled as C and as C++. */
+/* What a caller in C or C++ relies on, without the library: the structs lie over the rows, the calls are declared, the
+   names are there, dt_after_subtree goes from sibling to sibling, and a token buffer's length is enough. Compiled as C
+   and as C++. */
 #include "../random.h"
 #include "dt_names.h"
 #include <stdio.h>
@@ -27,6 +28,14 @@ COLUMN(dt_report_row, pool_count, DT_COL_REPORT_POOL_COUNT);
 COLUMN(dt_report_row, hint, DT_COL_REPORT_HINT);
 COLUMN(dt_report_row, label_start, DT_COL_REPORT_LABEL_START);
 COLUMN(dt_report_row, label_end, DT_COL_REPORT_LABEL_END);
+
+/* What the calls take and give, without calling them: the same but for tokens, which dt_parse_text writes. */
+#define BUFFER ((uint32_t *)0), 0
+#define GIVES(call, answer) typedef char gives_##answer[sizeof(call) == sizeof(struct answer) ? 1 : -1]
+GIVES(dt_parse(1, 0, (const uint8_t *)0, 0, (const uint32_t *)0, 0, BUFFER, BUFFER, BUFFER, BUFFER, BUFFER), dt_answer);
+GIVES(dt_parse_text(1, 0, (const uint8_t *)0, 0, BUFFER, BUFFER, BUFFER, BUFFER, BUFFER, BUFFER), dt_text_answer);
+typedef char answer_first[offsetof(struct dt_text_answer, answer) == 0 ? 1 : -1];
+typedef char count_last[offsetof(struct dt_text_answer, token_count) == sizeof(struct dt_answer) ? 1 : -1];
 
 #if DT_PARSER_VERSION < 100
 #error "the version cannot be compared"
@@ -84,6 +93,21 @@ static void check_trees(void)
     }
 }
 
+/* Two numbers a byte up to the limit, for any count of bytes; and a constant, so that an array can have that length. */
+static void check_token_room(void)
+{
+    static uint32_t tokens[DT_TOKENS_FOR(100)];
+    const size_t most = DT_MAX_TOKEN_NUMBERS / 2;
+    size_t bytes;
+    expect(sizeof tokens == 200 * sizeof *tokens, "DT_TOKENS_FOR: an array's length");
+    for (bytes = 0; bytes < most + 9; bytes++)
+        expect(DT_TOKENS_FOR(bytes) == (bytes < most ? 2 * bytes : 2 * most), "DT_TOKENS_FOR");
+    expect(DT_TOKENS_FOR(DT_MAX_BYTES) == 2 * most, "DT_TOKENS_FOR: the longest text");
+    expect(DT_TOKENS_FOR(SIZE_MAX) == 2 * most, "DT_TOKENS_FOR: a text that is too long");
+    expect(DT_TOKENS_FOR(SIZE_MAX / 2 + 2) == 2 * most, "DT_TOKENS_FOR: a text that is too long");
+    expect(DT_TOKENS_FOR(1 ? 3 : 4) == 6, "DT_TOKENS_FOR: an expression");
+}
+
 /* The numbers from first to last have names that differ from each other, and no other number has one. */
 static void check_names(const char *(*name)(uint32_t), uint32_t first, uint32_t last, const char *what)
 {
@@ -99,8 +123,8 @@ static void check_names(const char *(*name)(uint32_t), uint32_t first, uint32_t 
 static void check_all_names(void)
 {
     check_names(dt_entry_name, DT_ENTRY_SOURCE_FILE, DT_ENTRY_CELLS, "dt_entry_name");
-    check_names(dt_refusal_name, DT_ACCEPTED, DT_REFUSAL_NO_TREE_ROOM, "dt_refusal_name");
-    check_names(dt_refusal_text, DT_ACCEPTED, DT_REFUSAL_NO_TREE_ROOM, "dt_refusal_text");
+    check_names(dt_refusal_name, DT_ACCEPTED, DT_REFUSAL_DIRECTIVE, "dt_refusal_name");
+    check_names(dt_refusal_text, DT_ACCEPTED, DT_REFUSAL_DIRECTIVE, "dt_refusal_text");
     check_names(dt_token_name, DT_TOKEN_WHITESPACE, DT_TOKEN_QUESTION_MARK, "dt_token_name");
     check_names(dt_token_text, DT_TOKEN_WHITESPACE, DT_TOKEN_QUESTION_MARK, "dt_token_text");
     check_names(dt_lex_error_name, DT_TOKEN_FIRST_LEX_ERROR, DT_TOKEN_LAST_LEX_ERROR, "dt_lex_error_name");
@@ -121,6 +145,7 @@ static void check_all_names(void)
 int main(void)
 {
     check_trees();
+    check_token_room();
     check_all_names();
     return 0;
 }

@@ -1,11 +1,12 @@
-/* Calls with random numbers in place of entry, setting, bytes, token rows and buffer lengths, and calls at the limits
-   of size.
-   Causes 1 to 3 are worked out here again; of every call it is checked what the buffers hold afterwards. */
+/* Calls with random numbers in place of entry, setting, bytes, token rows and buffer lengths, calls with random texts,
+   and calls at the limits of size.
+   Causes 1 to 3 are worked out here again, those of a text in text.h; of every call it is checked what the buffers hold
+   afterwards. */
 #include "../random.h"
-#include "lent.h"
+#include "text.h"
 
-/* Numbers that an answer can have. */
-enum { ANSWERS = DT_REFUSAL_NO_TREE_ROOM + 1 };
+/* Numbers that an answer can have, of dt_parse and of dt_parse_text. */
+enum { ANSWERS = DT_REFUSAL_NO_TREE_ROOM + 1, TEXT_ANSWERS = DT_REFUSAL_DIRECTIVE + 1 };
 
 static int bad_kind(uint32_t kind)
 {
@@ -80,13 +81,17 @@ static void check_labels(const char *name, uint32_t setting, const struct dt_rep
     }
 }
 
+static uint32_t random_setting(void)
+{
+    return below(2) ? DT_SETTING_OLD : below(2) ? DT_SETTING_STRICT : below(4294967295u);
+}
+
 /* Number, place, counts and buffers agree with one another and with causes 1 to 3. Gives the number. */
 static uint32_t checked(const char *name, uint32_t entry, const uint8_t *bytes, size_t n, const uint32_t *tokens,
                         size_t t, struct buffer *b)
 {
     size_t place, used[BUFFERS];
-    uint32_t number = early(entry, n, tokens, t, &place);
-    uint32_t setting = below(2) ? DT_SETTING_OLD : below(2) ? DT_SETTING_STRICT : below(4294967295u);
+    uint32_t number = early(entry, n, tokens, t, &place), setting = random_setting();
     struct dt_answer a = call(entry, setting, bytes, n, tokens, t, b);
     counted(a, used);
     if (number ? a.number != number || a.place != place : a.number && a.number <= DT_REFUSAL_BAD_ROW)
@@ -159,6 +164,50 @@ static void random_call(size_t *met)
     met[checked("garbage", entry, bytes, n, tokens, t, b)]++;
 }
 
+/* Adds a piece of a text: what tokens and directives are made of, or bytes. */
+static size_t add_piece(uint8_t *bytes, size_t n, size_t most)
+{
+    static const char *const PIECES[] = {
+        "#", "if", "elif", "endif", "include", "#define", "#undef", " ", "\t", "\n", "\r\n", "\r", "\\", "\\\n",
+        "\"", "'", "/*", "*/", "//", "/", "*", "[", "]", "a", "ab-c", "a,b", "_", "&", "&&", "0", "0x", "0b1", "1u",
+        "1ul8", "7_", "<", "<<", ">=", "(", ")", "{", "}", "{ };", ";", "=", "a = <1 2>;", "\"s\"", ":", "@", "!", "?",
+        "/dts-v1/", "/dts-v1", "/bits/ 8", "/delete-node/", "/include/", "/plugin/;", "b { c; };", "#a-cells = <1>;",
+    };
+    if (below(4) == 0) {
+        bytes[n] = (uint8_t)below(below(30) ? 128 : 256);
+        return n + 1;
+    }
+    const char *piece = PIECES[below(sizeof PIECES / sizeof *PIECES)];
+    size_t length = strlen(piece);
+    if (length > most - n)
+        length = most - n;
+    memcpy(bytes + n, piece, length);
+    return n + length;
+}
+
+/* A text in buffers of random lengths; that of the tokens is often just enough, or one number less or more. */
+static void random_text(size_t *met)
+{
+    enum { MOST = 64 };
+    uint8_t bytes[MOST];
+    struct text t = {"random text", DT_ENTRY_SOURCE_FILE + below(DT_ENTRY_CELLS), random_setting(), bytes, 0};
+    size_t most = below(MOST + 1), lengths[TEXT_BUFFERS];
+    while (t.n < most)
+        t.n = add_piece(bytes, t.n, most);
+    if (below(20) == 0)
+        t.entry = below(7);
+    for (int i = 0; i < BUFFERS; i++)
+        lengths[i] = below(8) ? 700 + below(4000) : below(200);
+    lengths[TOKENS] = DT_TOKENS_FOR(t.n) + below(3);
+    struct dt_text_answer a = checked_text(&t, lengths);
+    met[a.answer.number]++;
+    if (a.answer.number == DT_ACCEPTED && below(4) == 0) {
+        size_t numbers = DT_ROW_TOKEN * a.token_count;
+        lengths[TOKENS] = below(2) && numbers > 0 ? below((uint32_t)numbers) : numbers + below(3);
+        met[checked_text(&t, lengths).answer.number]++;
+    }
+}
+
 static void lend_little(struct buffer *b, size_t trees)
 {
     for (int i = 0; i < BUFFERS; i++)
@@ -208,16 +257,60 @@ static void row_limit(void)
     free(bytes);
 }
 
-int main(void)
+/* A piece so often, its last byte exchanged for another unless that is 0; with so much room for tokens and the tree. */
+static void expect_text(const char *name, const char *piece, size_t times, uint8_t last, size_t tokens, size_t trees,
+                        uint32_t number)
 {
-    size_t met[ANSWERS] = {0};
-    byte_limit();
-    row_limit();
-    for (int i = 0; i < 200000; i++)
-        random_call(met);
-    printf("200000 calls with random numbers:");
-    for (int i = 0; i < ANSWERS; i++)
+    size_t size = strlen(piece), n = size * times;
+    uint8_t *bytes = malloc(n);
+    struct text t = {name, DT_ENTRY_SOURCE_FILE, DT_SETTING_OLD, bytes, n};
+    const size_t lengths[TEXT_BUFFERS] = {1024, trees, 12, 12, 1024, tokens};
+    for (size_t i = 0; i < n; i++)
+        bytes[i] = (uint8_t)piece[i % size];
+    if (last)
+        bytes[n - 1] = last;
+    expect(name, checked_text(&t, lengths).answer.number, number);
+    free(bytes);
+}
+
+/* Blanks are one token, and comments one each: as many bytes and tokens as a text may have, and one more. 2 for bytes
+   comes before 9, and 9 before 2 for token numbers. Cells in brackets nest: the tokens are known, and yet cleared. */
+static void text_limits(void)
+{
+    enum { ONE = DT_ROW_TOKEN, BYTES = DT_MAX_BYTES, NUMBERS = DT_MAX_TOKEN_NUMBERS, ROWS = NUMBERS / DT_ROW_TOKEN };
+    enum { SMALL = 2 * DT_ROW_TREE, TREE = DT_ROW_TREE * (ROWS + 1), HIGH = 128 };
+    expect_text("a text of 1,048,576 blanks", " ", BYTES, 0, ONE, SMALL, DT_ACCEPTED);
+    expect_text("a text of 1,048,577 blanks", " ", BYTES + 1, 0, ONE, SMALL, DT_REFUSAL_TOO_LONG);
+    expect_text("the same, the last a byte of 128", " ", BYTES + 1, HIGH, ONE, SMALL, DT_REFUSAL_TOO_LONG);
+    expect_text("a text of 1,048,576 bytes, the last of 128", " ", BYTES, HIGH, ONE, SMALL, DT_REFUSAL_HIGH_BYTE);
+    expect_text("a text of 65,536 comments", "/**/", ROWS, 0, NUMBERS, TREE, DT_ACCEPTED);
+    expect_text("the same, one token number fewer", "/**/", ROWS, 0, NUMBERS - 1, TREE, DT_REFUSAL_TOO_LONG);
+    expect_text("the same, one number of the tree fewer", "/**/", ROWS, 0, NUMBERS, TREE - 1, DT_REFUSAL_NO_TREE_ROOM);
+    expect_text("a text of 65,537 comments", "/**/", ROWS + 1, 0, NUMBERS + 2, TREE + 4, DT_REFUSAL_TOO_LONG);
+    expect_text("the same, the last a byte of 128", "/**/", ROWS + 1, HIGH, NUMBERS + 2, TREE, DT_REFUSAL_HIGH_BYTE);
+    expect_text("a token without room for it", ",", 1, 0, 0, SMALL, DT_REFUSAL_TOO_LONG);
+    expect_text("a text of 65 open nodes", "a{", 65, 0, NUMBERS, TREE, DT_REFUSAL_TOO_DEEP);
+}
+
+static void print_met(const char *what, const size_t *met, int count)
+{
+    printf("%s:", what);
+    for (int i = 0; i < count; i++)
         printf(" %d: %zu", i, met[i]);
     printf("\n");
+}
+
+int main(void)
+{
+    size_t met[ANSWERS] = {0}, met_by_text[TEXT_ANSWERS] = {0};
+    byte_limit();
+    row_limit();
+    text_limits();
+    for (int i = 0; i < 200000; i++)
+        random_call(met);
+    print_met("200000 calls with random numbers", met, ANSWERS);
+    for (int i = 0; i < 200000; i++)
+        random_text(met_by_text);
+    print_met("200000 random texts, some in several lengths of the token buffer", met_by_text, TEXT_ANSWERS);
     return 0;
 }

@@ -5,7 +5,8 @@
 
 #define LENT 4042322160u
 
-enum { EVENTS, TREES, ERRORS, REPORTS, POOL, BUFFERS };
+/* What a call writes; a call with a text writes tokens too. */
+enum { EVENTS, TREES, ERRORS, REPORTS, POOL, BUFFERS, TOKENS = BUFFERS, TEXT_BUFFERS };
 
 struct buffer {
     uint32_t *numbers;

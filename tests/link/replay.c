@@ -1,7 +1,8 @@
 /* Runs the cases of a list, in the form that crates/replay says, and prints what the gate's program prints. Each
-   accepted call is made again with buffers that just hold its answer, and with one number fewer of each. */
-#include "lent.h"
-#include <string.h>
+   accepted call is made again with buffers that just hold its answer, and with one number fewer of each.
+   With --text: takes the bytes of each case as a text, checks the call as text.h says, in token buffers that just fit,
+   that are one number short and one too long, and prints how often each answer was given. */
+#include "text.h"
 
 static const char LETTERS[] = "-txre";
 
@@ -96,23 +97,61 @@ static void at_the_edge(const struct one *c, struct dt_answer a, const struct bu
     }
 }
 
+static void run_case(const struct one *c)
+{
+    struct buffer b[BUFFERS];
+    struct dt_answer a = call_one(c, c->head + 4, b);
+    print(c, a, b);
+    if (a.number == DT_ACCEPTED)
+        at_the_edge(c, a, b);
+    for (int i = 0; i < BUFFERS; i++)
+        give_back(c->name, b[i]);
+}
+
+/* Answers to texts, by number. */
+static size_t met[DT_REFUSAL_DIRECTIVE + 1];
+
+static uint32_t run_text(const struct one *c, size_t tokens)
+{
+    struct text t = {c->name, (uint32_t)c->head[2], (uint32_t)c->head[3], c->bytes, c->head[1]};
+    size_t lengths[TEXT_BUFFERS];
+    memcpy(lengths, c->head + 4, BUFFERS * sizeof *lengths);
+    lengths[TOKENS] = tokens;
+    struct dt_text_answer a = checked_text(&t, lengths);
+    met[a.answer.number]++;
+    return (uint32_t)a.token_count;
+}
+
+static void run_texts(const struct one *c)
+{
+    size_t count = run_text(c, DT_TOKENS_FOR(c->head[1])), numbers = DT_ROW_TOKEN * count;
+    if (count == 0)
+        return;
+    size_t accepted = met[DT_ACCEPTED], refused = met[DT_REFUSAL_TOO_LONG];
+    run_text(c, numbers);
+    run_text(c, numbers + 1);
+    run_text(c, numbers - 1);
+    if (met[DT_ACCEPTED] != accepted + 2 || met[DT_REFUSAL_TOO_LONG] != refused + 1)
+        fail(c->name, "another answer in a token buffer that just fits, is one longer or one short");
+}
+
 int main(int argc, char **argv)
 {
-    FILE *f = argc == 2 ? fopen(argv[1], "rb") : NULL;
+    int is_text = argc == 3 && strcmp(argv[1], "--text") == 0;
+    FILE *f = argc == 2 + is_text ? fopen(argv[argc - 1], "rb") : NULL;
     if (!f)
-        fail("usage", "replay LIST");
+        fail("usage", "replay [--text] LIST");
     struct one c;
     while (read_one(f, &c)) {
-        struct buffer b[BUFFERS];
-        struct dt_answer a = call_one(&c, c.head + 4, b);
-        print(&c, a, b);
-        if (a.number == DT_ACCEPTED)
-            at_the_edge(&c, a, b);
-        for (int i = 0; i < BUFFERS; i++)
-            give_back(c.name, b[i]);
+        if (is_text)
+            run_texts(&c);
+        else
+            run_case(&c);
         free(c.tokens);
         free(c.bytes);
     }
     fclose(f);
+    for (uint32_t i = 0; is_text && i <= DT_REFUSAL_DIRECTIVE; i++)
+        printf(" %u: %zu", i, met[i]);
     return 0;
 }

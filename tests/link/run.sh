@@ -1,8 +1,9 @@
 #!/bin/sh
 # Links the static library from C and from Rust, and runs every case of the gate's two lists through both: whole
 # answers, in buffers full of garbage; from C also with guards beside each buffer, each accepted call again in buffers
-# that just fit and with one number fewer, random numbers in place of the input, and the limits of size. Not part of the
-# gate. Needs gcc, cargo, and `rt` where DT_PARSER_LIB does not name a library.
+# that just fit and with one number fewer, the bytes of each case as a text, random numbers and texts in place of the
+# input, and the limits of size. Not part of the gate. Needs gcc, cargo, and `rt` where DT_PARSER_LIB does not name a
+# library.
 #   tests/link/run.sh                          over the library that the kit makes (tools/static-library)
 #   DT_PARSER_LIB=FILE tests/link/run.sh       over another archive
 #   tests/link/run.sh --memcheck               the lists under valgrind
@@ -31,6 +32,8 @@ for list in replay_run readings_run; do
         if [ "$program" = "$work/replay" ]; then language=C; else language=Rust; fi
         echo "$list from $language: $(grep -vc '^[txre] ' "$work/wrote") cases, every number as expected"
     done
+    answers=$($check "$work/replay" --text "$root/crates/$list/stdin")
+    echo "$list as texts from C, answers by number:$answers"
 done
 "$work/garbage"
 echo "linked from C and from Rust: all as expected"

@@ -19,6 +19,11 @@ MESSAGES = {
 ADDED_MESSAGES = {
     "not-a-label": "Label names can only hold letters, digits and underscores, and can't start with a digit",
 }
+# Causes of document 02, after those of document 01's table.
+ADDED_CAUSES = {
+    "high-byte": "byte of 128 or more",
+    "directive": "preprocessor directive at a token start",
+}
 HINTS = {
     "unnamed-property": (GRAMMAR, "item", 0),
     "unnamed-node": (GRAMMAR, "item", 1),
@@ -189,11 +194,11 @@ class Names:
     def calls(self):
         entries, refusals, cause = self.repo.entries(), self.repo.refusals(), causes(self.repo)
         accepted = [("DT_ACCEPTED", "accepted")]
-        texts = {name: cause.get(number, "?") for name, number in refusals.items()}
+        texts = {name: cause[number] for name, number in refusals.items() if number in cause} | ADDED_CAUSES
         yield function("dt_entry_name", "entry", "What is parsed, of enum dt_entry.", self.cases("DT_ENTRY_", entries))
         yield function("dt_refusal_name", "number", "Why a call was refused, of enum dt_refusal.",
                        [*accepted, *self.cases("DT_REFUSAL_", refusals)])
-        yield function("dt_refusal_text", "number", "The cause as document 01 has it.",
+        yield function("dt_refusal_text", "number", "The cause as documents 01 and 02 have it.",
                        [*accepted, *self.cases("DT_REFUSAL_", refusals, texts)])
 
     def kinds(self):

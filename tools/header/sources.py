@@ -61,6 +61,19 @@ class Repository:
 
     def refusals(self):
         """The numbers of the refusals, by their names in the definitions."""
-        found = re.findall(r"^number-of \(?([\w-]+).*= ([A-Z-]+)$", self.text(SPECS + "Refusal.antt"), re.M)
+        return {**self.numbered(SPECS + "Refusal.antt", "number-of"), **self.text_refusals()}
+
+    def text_refusals(self):
+        """Those of a text; what it is refused for is said there as `has-..`."""
+        return self.numbered(SPECS + "Text.antt", "text-number")
+
+    def numbered(self, path, function):
+        """The cases of a function from refusals to the numbers of Layout.antt."""
+        found = re.findall(r"^%s \(?(?:has-)?([\w-]+).*= ([A-Z-]+)$" % function, self.text(path), re.M)
         numbers = self.spec(SPECS + "Layout.antt")
         return {n: numbers[v] for n, v in found}
+
+    def directive_words(self):
+        """The words after a # that a text is refused for."""
+        body = re.search(r"^directive-words =\n(.*?)\[\]", self.text(SPECS + "Text.antt"), re.M | re.S)
+        return re.findall(r'ascii "(\w+)"', body[1] if body else "")

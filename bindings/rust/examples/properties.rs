@@ -1,17 +1,19 @@
-//! Lists the properties of a file of token rows, each with its line and the nodes that it stands in, whatever is wrong
-//! with the file.
+//! Lists the properties of a source, each with its line and the nodes that it stands in, whatever is wrong with it. A
+//! source that the parser does not take is refused with what to do about it.
 //!
-//! `cargo run --example properties -- ../../examples/board.rows`
+//! `cargo run --example properties -- ../../examples/board.dts`
 
-use dt_parser::{Columns, Leaf, LineIndex, Node, NodeKind, TextRange, TokenKind, rowsfile::RowsFile};
+use dt_parser::{Columns, Entrypoint, Leaf, LineIndex, Node, NodeKind, TextRange, TokenKind};
 use std::error::Error;
 
 fn main() -> Result<(), Box<dyn Error>> {
     let path = std::env::args().nth(1).ok_or("which file?")?;
-    let bytes = std::fs::read(path)?;
-    let file = RowsFile::read(&bytes)?;
-    let parse = file.entry.parse(&file.input)?;
-    let lines = LineIndex::new(file.input.text);
+    let text = std::fs::read(path)?;
+    let parse = match Entrypoint::SourceFile.parse_text(&text) {
+        Ok(read) => read.parse,
+        Err(why) => return Err(format!("{why}; {}", why.help().unwrap_or_default()).into()),
+    };
+    let lines = LineIndex::new(&text);
     let position = |range: TextRange| lines.position(range.start, Columns::Characters).expect("a range of the text");
 
     for property in parse.tree.root().nodes_below().filter(|node| node.kind() == NodeKind::DtProperty) {

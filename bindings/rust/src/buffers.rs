@@ -1,11 +1,12 @@
 //! The lent buffers, and how much room is tried.
 
-use crate::rows::{EVENT_ROW, ErrorRow, ReportRow, TreeRow};
+use crate::rows::{EVENT_ROW, ErrorRow, ReportRow, TokenRow, TreeRow};
 use crate::{Input, Refusal};
 
-/// The five buffers that a call writes.
+/// The buffers that a call writes. Token rows are written by a call with a text alone.
 #[derive(Debug, Default)]
 pub(crate) struct Buffers {
+    pub tokens: Vec<u32>,
     pub events: Vec<u32>,
     pub trees: Vec<u32>,
     pub errors: Vec<u32>,
@@ -16,6 +17,7 @@ pub(crate) struct Buffers {
 impl Buffers {
     /// Gives each buffer the length that the room asks for. What they hold does not matter: no answer depends on it.
     pub fn set_room(&mut self, room: Room) {
+        self.tokens.resize(TokenRow::SIZE * room.tokens, 0);
         self.events.resize(EVENT_ROW * room.events, 0);
         self.trees.resize(TreeRow::SIZE * room.trees, 0);
         self.errors.resize(ErrorRow::SIZE * room.errors, 0);
@@ -27,6 +29,7 @@ impl Buffers {
 /// How many rows, or expectations in the pool, fit each buffer.
 #[derive(Debug, Clone, Copy, PartialEq, Eq)]
 pub(crate) struct Room {
+    pub tokens: usize,
     pub events: usize,
     pub trees: usize,
     pub errors: usize,
@@ -35,30 +38,46 @@ pub(crate) struct Room {
 }
 
 impl Room {
-    /// What suffices for nearly every file: sources without mistakes have about 1.4 events and 1.3 tree rows to a
-    /// token.
+    /// What suffices for nearly every file.
     pub fn first(input: &Input<'_>) -> Self {
-        let n = input.tokens.len().min(Input::MAX_TOKENS);
-        let guess = Self { events: 2 * n + 16, trees: 2 * n + 8, errors: n, reports: n / 8 + 8, pool: n / 2 + 64 };
-        guess.at_most(Self::most(input))
+        Self::usual(input.tokens.len().min(Input::MAX_TOKENS)).at_most(Self::most(input))
     }
 
-    /// What suffices for every run on so many tokens: the theorem of crates/bounds, 13 n + 1 events, 6 n + 1 tree rows,
-    /// 3 n + 1 reports, n more in the strict setting, and 768 n + 256 expectations. There are as many lexical errors as
-    /// error tokens.
+    /// What suffices for every run on these tokens. There are as many lexical errors as error tokens.
     pub fn most(input: &Input<'_>) -> Self {
         let n = input.tokens.len().min(Input::MAX_TOKENS);
-        Self {
-            events: 13 * n + 1,
-            trees: 6 * n + 1,
-            errors: input.tokens.iter().filter(|token| token.kind.is_err()).take(n).count(),
-            reports: 4 * n + 1,
-            pool: 768 * n + 256,
-        }
+        let errors = input.tokens.iter().filter(|token| token.kind.is_err()).take(n).count();
+        Self { errors, ..Self::bound(n) }
+    }
+
+    /// What suffices for nearly every text: sources have about three bytes to a token.
+    pub fn first_for_text(text: &[u8]) -> Self {
+        let most = Self::most_for_text(text);
+        let n = most.tokens / 2 + 16;
+        Self { tokens: n, ..Self::usual(n) }.at_most(most)
+    }
+
+    /// What suffices for every text of that length: a token has at least one byte (crates/lexing). A text that is too
+    /// long needs none, since no room helps it.
+    pub fn most_for_text(text: &[u8]) -> Self {
+        let n = if text.len() > Input::MAX_BYTES { 0 } else { text.len().min(Input::MAX_TOKENS) };
+        Self { tokens: n, ..Self::bound(n) }
+    }
+
+    /// What so many tokens usually need: sources without mistakes have about 1.4 events and 1.3 tree rows to a token.
+    const fn usual(n: usize) -> Self {
+        Self { tokens: 0, events: 2 * n + 16, trees: 2 * n + 8, errors: n, reports: n / 8 + 8, pool: n / 2 + 64 }
+    }
+
+    /// What so many tokens can need: the theorem of crates/bounds, 13 n + 1 events, 6 n + 1 tree rows, 3 n + 1 reports,
+    /// n more in the strict setting, and 768 n + 256 expectations.
+    const fn bound(n: usize) -> Self {
+        Self { tokens: 0, events: 13 * n + 1, trees: 6 * n + 1, errors: n, reports: 4 * n + 1, pool: 768 * n + 256 }
     }
 
     fn at_most(self, most: Self) -> Self {
         Self {
+            tokens: self.tokens.min(most.tokens),
             events: self.events.min(most.events),
             trees: self.trees.min(most.trees),
             errors: self.errors.min(most.errors),
@@ -67,17 +86,21 @@ impl Room {
         }
     }
 
-    /// The next room to try after this refusal. None where more room would not help: the refusal is about something
-    /// else, or the room is the most already.
+    /// The next room to try after this refusal; 2 can be about a text's token rows. None where more room would not help:
+    /// the refusal is about something else, or the room is the most already.
     pub fn after(self, refusal: Refusal, most: Self) -> Option<Self> {
         let mut next = self;
         match refusal {
+            Refusal::TooLong => next.tokens = 2 * self.tokens + 1,
             Refusal::NoEventRoom(_) => next.events = 2 * self.events + 1,
             Refusal::NoReportRoom(_) => {
                 next.reports = 2 * self.reports + 1;
                 next.pool = 2 * self.pool + 1;
             }
-            Refusal::NoTreeRoom => next.trees = 2 * self.trees + 1,
+            Refusal::NoTreeRoom => {
+                next.trees = 2 * self.trees + 1;
+                next.errors = 2 * self.errors + 1;
+            }
             _ => return None,
         }
         let next = next.at_most(most);
@@ -132,12 +155,32 @@ mod tests {
 
     #[test]
     fn more_room_is_no_help_against_bad_input() {
-        let room = Room { events: 0, trees: 0, errors: 0, reports: 0, pool: 0 };
+        let room = Room { tokens: 0, events: 0, trees: 0, errors: 0, reports: 0, pool: 0 };
         let most = Room::most(&blanks(1));
-        for number in 1..=5 {
+        for number in [1, 2, 3, 4, 5, 9, 10] {
             let refusal = Refusal::from_number(number, 0).unwrap();
             assert_eq!(room.after(refusal, most), None);
         }
+    }
+
+    #[test]
+    fn room_for_a_text_grows_up_to_a_token_a_byte() {
+        let text = b" ".repeat(1000);
+        let most = Room::most_for_text(&text);
+        assert_eq!(most, Room { tokens: 1000, errors: 1000, ..Room::most(&blanks(1000)) });
+        for refusal in [Refusal::TooLong, Refusal::NoTreeRoom] {
+            let first = Room::first_for_text(&text);
+            assert!(first.tokens < 1000 && first.errors < 1000);
+            let last = std::iter::successors(Some(first), |room| room.after(refusal, most)).last().unwrap();
+            let grown = if refusal == Refusal::TooLong { last.tokens } else { last.errors };
+            assert_eq!(grown, 1000, "{refusal}");
+        }
+        for short in [b"".as_slice(), b"a", b"ab"] {
+            assert_eq!(Room::first_for_text(short).tokens, short.len());
+        }
+        let (longest, longer) = (b" ".repeat(Input::MAX_BYTES), b" ".repeat(Input::MAX_BYTES + 1));
+        assert_eq!(Room::most_for_text(&longest).tokens, Input::MAX_TOKENS);
+        assert_eq!(Room::most_for_text(&longer).tokens, 0);
     }
 
     #[test]

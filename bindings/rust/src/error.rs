@@ -1,9 +1,10 @@
-//! Why there is no answer: the refusals of document 01, and what must not happen.
+//! Why there is no answer: the refusals of documents 01 and 02, and what must not happen.
 
 use crate::Input;
 use std::fmt;
 
-/// A refused call: document 01's causes 1 to 8.
+/// A refused call: document 01's causes 1 to 8, and 9 and 10, of a text alone ([`TextError`](crate::TextError) says more
+/// of these).
 #[derive(Debug, Clone, Copy, PartialEq, Eq, Hash)]
 #[non_exhaustive]
 pub enum Refusal {
@@ -26,6 +27,10 @@ pub enum Refusal {
     NoReportRoom(usize),
     /// 8: no room for the tree or the lexical errors.
     NoTreeRoom,
+    /// 9: the byte of a text at this offset is 128 or more.
+    HighByte(usize),
+    /// 10: a token of a text begins like a preprocessor directive; its `#` is at this offset.
+    Directive(usize),
 }
 
 impl Refusal {
@@ -44,7 +49,7 @@ impl Refusal {
     }
 
     /// Every refusal, with this place where it has one.
-    const fn all_at(place: usize) -> [Self; 8] {
+    const fn all_at(place: usize) -> [Self; 10] {
         [
             Self::UnknownEntry,
             Self::TooLong,
@@ -54,7 +59,14 @@ impl Refusal {
             Self::NoEventRoom(place),
             Self::NoReportRoom(place),
             Self::NoTreeRoom,
+            Self::HighByte(place),
+            Self::Directive(place),
         ]
+    }
+
+    /// Whether it is about what stands in a text, so that no call with tokens is refused with it.
+    pub(crate) const fn is_of_text_alone(self) -> bool {
+        matches!(self, Self::HighByte(_) | Self::Directive(_))
     }
 
     /// Whether a buffer was too small, and not the input refused.
@@ -62,7 +74,7 @@ impl Refusal {
         matches!(self, Self::NoEventRoom(_) | Self::NoReportRoom(_) | Self::NoTreeRoom)
     }
 
-    /// Its number, 1 to 8.
+    /// Its number, 1 to 10.
     #[must_use]
     pub const fn number(self) -> u32 {
         match self {
@@ -74,10 +86,12 @@ impl Refusal {
             Self::NoEventRoom(_) => 6,
             Self::NoReportRoom(_) => 7,
             Self::NoTreeRoom => 8,
+            Self::HighByte(_) => 9,
+            Self::Directive(_) => 10,
         }
     }
 
-    /// Its place: a token's index, or how many tokens had been passed; 0 where it has none.
+    /// Its place: a token's index, or how many tokens had been passed, of 9 and 10 a byte's offset; 0 where it has none.
     #[must_use]
     pub const fn place(self) -> usize {
         match self {
@@ -86,7 +100,9 @@ impl Refusal {
             | Self::BadText(place)
             | Self::TooDeep(place)
             | Self::NoEventRoom(place)
-            | Self::NoReportRoom(place) => place,
+            | Self::NoReportRoom(place)
+            | Self::HighByte(place)
+            | Self::Directive(place) => place,
         }
     }
 }
@@ -111,6 +127,8 @@ impl fmt::Display for Refusal {
             Self::NoEventRoom(mark) => write!(f, "no room for an event after {mark} tokens"),
             Self::NoReportRoom(mark) => write!(f, "no room for a report or its expectations after {mark} tokens"),
             Self::NoTreeRoom => f.write_str("no room for the tree or the lexical errors"),
+            Self::HighByte(offset) => write!(f, "the byte at offset {offset} is not ASCII"),
+            Self::Directive(offset) => write!(f, "a preprocessor directive starts at offset {offset}"),
         }
     }
 }

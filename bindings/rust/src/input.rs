@@ -1,7 +1,7 @@
 //! What is parsed: a text and the tokens over it.
 
 use crate::rows::TokenRow;
-use crate::{LexError, TextRange, TokenKind};
+use crate::{Error, LexError, TextRange, TokenKind};
 
 /// A token: what it is, and how many bytes of the text it takes.
 #[derive(Debug, Clone, Copy, PartialEq, Eq, Hash)]
@@ -52,8 +52,8 @@ impl Token {
 
 /// A text with its tokens, which cover it from the first byte to the last.
 ///
-/// The tokens come from a lexer. This crate has none yet: they are given, for instance by a
-/// [file of token rows](crate::rowsfile).
+/// The tokens come from a lexer of the caller's, from a [file of token rows](crate::rowsfile), or from the parser itself:
+/// [`Entrypoint::parse_text`](crate::Entrypoint::parse_text) takes a text alone and gives the tokens too.
 #[derive(Debug, Clone, PartialEq, Eq, Hash)]
 pub struct Input<'i> {
     /// The bytes, whatever they are.
@@ -105,4 +105,16 @@ impl<'i> Input<'i> {
         let rest = self.tokens.get(token..).unwrap_or_default();
         rest.iter().find(|token| !token.is_trivia()).map(|token| token.seen_kind())
     }
+}
+
+/// Token rows that a call wrote.
+pub(crate) fn read(rows: &[[u32; TokenRow::SIZE]]) -> Result<Vec<Token>, Error> {
+    let one = |(row, numbers): (usize, &[u32; TokenRow::SIZE])| {
+        let TokenRow { kind: number, length } = (*numbers).into();
+        let kind = TokenKind::from_number(number).filter(|kind| kind.is_input()).map(Ok);
+        let kind = kind.or_else(|| LexError::from_number(number).map(Err));
+        let bad = Error::BadAnswer { what: "token row", row: Some(row), expected: "a token" };
+        kind.map(|kind| Token { kind, length }).ok_or(bad)
+    };
+    rows.iter().enumerate().map(one).collect()
 }

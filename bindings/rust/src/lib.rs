@@ -1,18 +1,17 @@
 //! The proved devicetree parser of Butrezsan, for Rust.
 //!
-//! A text and its tokens go in; a lossless tree comes out, with reports that do not stop the parser. The parser is the
-//! static library of the crate `dt_parser` of this repository, which is proved; this crate gives it types, buffers that
-//! grow, a tree to walk and the texts of dt-tools' messages.
+//! A text goes in, with or without its tokens; a lossless tree comes out, with reports that do not stop the parser. The
+//! parser is the static library of the crate `dt_parser` of this repository, which is proved; this crate gives it types,
+//! buffers that grow, a tree to walk and the texts of dt-tools' messages.
 //!
 //! # Example
 //!
-//! A file of token rows ([`rowsfile`]) with a property that lacks its value:
+//! A source with a property that lacks its value:
 //!
 //! ```
-//! use dt_parser::{NodeKind, rowsfile::RowsFile};
+//! use dt_parser::{Entrypoint, NodeKind};
 //!
-//! let file = RowsFile::read(b"devicetree tokens 1\nrows 3\nIdent 1\nEquals 1\nSemicolon 1\ntext 3\na=;")?;
-//! let parse = file.entry.parse(&file.input)?;
+//! let parse = Entrypoint::SourceFile.parse_text(b"a=;")?.parse;
 //!
 //! let first = &parse.reports[0];
 //! assert_eq!(first.range.byte_range(), 2..3);
@@ -23,6 +22,24 @@
 //! for (item, depth) in parse.tree.root().walk() {
 //!     println!("{:depth$}{item}", "");
 //! }
+//! # Ok::<(), dt_parser::TextError>(())
+//! ```
+//!
+//! # Texts and tokens
+//!
+//! [`Entrypoint::parse_text`] reads the tokens itself, by the rules of dt-tools' lexer. The text must be plain ASCII, and
+//! directives of the preprocessor are not read: such a source goes through `cpp -P` first. [`TextError`] says which byte
+//! is refused, where it stands and what to do. [`Entrypoint::parse`] takes the tokens of another lexer, those of
+//! directives too, for instance from a file of token rows ([`rowsfile`]):
+//!
+//! ```
+//! use dt_parser::{Entrypoint, rowsfile::RowsFile};
+//!
+//! let file = RowsFile::read(b"devicetree tokens 1\nrows 2\nIdent 1\nSemicolon 1\ntext 2\na;")?;
+//! let parse = file.entry.parse(&file.input)?;
+//! let read = Entrypoint::SourceFile.parse_text(file.input.text)?;
+//! assert_eq!(read.input, file.input);
+//! assert_eq!(read.parse.tree.to_string(), parse.tree.to_string());
 //! # Ok::<(), Box<dyn std::error::Error>>(())
 //! ```
 //!
@@ -32,17 +49,15 @@
 //! Specification does not allow is reported too, and nothing else changes:
 //!
 //! ```
-//! use dt_parser::{Message, Setting, rowsfile::RowsFile};
+//! use dt_parser::{Entrypoint, Message, Setting};
 //!
-//! let rows = b"devicetree tokens 1\nrows 3\nNumber 1\nColon 1\nSemicolon 1\ntext 3\n1:;";
-//! let file = RowsFile::read(rows)?;
-//! let old = file.entry.parse(&file.input)?;
-//! let strict = file.entry.parse_in(Setting::Strict, &file.input)?;
+//! let old = Entrypoint::SourceFile.parse_text(b"1:;")?.parse;
+//! let strict = Entrypoint::SourceFile.parse_text_in(Setting::Strict, b"1:;")?.parse;
 //!
 //! let (last, others) = strict.reports.split_last().expect("the label's");
 //! assert_eq!(others, old.reports);
 //! assert_eq!((last.message, last.range.byte_range()), (Message::NotALabel, 0..1));
-//! # Ok::<(), Box<dyn std::error::Error>>(())
+//! # Ok::<(), dt_parser::TextError>(())
 //! ```
 //!
 //! # Lines and columns, and trees to keep
@@ -53,24 +68,22 @@
 //! [node at a range](Tree::covering_node) or the [leaf at an offset](Tree::leaf_at) later.
 //!
 //! ```
-//! use dt_parser::{Columns, LineIndex, OwnedParse, rowsfile::RowsFile};
+//! use dt_parser::{Columns, Entrypoint, LineIndex, OwnedParse};
 //!
-//! let rows = b"devicetree tokens 1\nrows 4\nIdent 1\nSemicolon 1\nWhitespace 1\nRCurly 1\ntext 4\na;\n}";
-//! let file = RowsFile::read(rows)?;
-//! let kept: OwnedParse = file.entry.parse(&file.input)?.into_owned();
+//! let kept: OwnedParse = Entrypoint::SourceFile.parse_text(b"a;\n}")?.parse.into_owned();
 //! let index = LineIndex::new(kept.tree.text());
 //!
 //! let range = kept.reports[0].range; // of the `}` that closes nothing
 //! let position = index.position(range.start, Columns::Characters).expect("it lies in the text");
 //! assert_eq!(format!("{position}: {}", kept.reports[0]), "2:1: Unmatched `}`");
-//! # Ok::<(), Box<dyn std::error::Error>>(())
+//! # Ok::<(), dt_parser::TextError>(())
 //! ```
 //!
 //! # What is proved and what is not
 //!
-//! The call that this crate makes is proved to answer every input as the definitions say (docs/READING.md). Not proved
+//! The calls that this crate makes are proved to answer every input as the definitions say (docs/READING.md). Not proved
 //! is what is written here in Rust: it passes slices, gives names to numbers and checks that the rows are one tree. The
-//! one `unsafe` block is in src/sys.rs.
+//! two `unsafe` blocks are in src/sys.rs.
 
 #![deny(unsafe_op_in_unsafe_fn)]
 #![deny(unsafe_code)]
@@ -95,6 +108,7 @@ mod rows;
 pub mod rowsfile;
 mod setting;
 mod sys;
+mod text;
 mod token_kind;
 mod tree;
 mod unreported;
@@ -113,6 +127,7 @@ pub use parser::{OwnedParse, Parse, Parser};
 pub use range::TextRange;
 pub use report::{Label, Report};
 pub use setting::Setting;
+pub use text::{TextError, TextParse};
 pub use token_kind::TokenKind;
 pub use tree::{OwnedTree, Tree};
 pub use walk::{Item, Leaf, Node};

@@ -1,10 +1,9 @@
 //! A call with owned buffers.
 
 use crate::buffers::{Buffers, Room};
-use crate::rows;
-use crate::sys::{self, Answer};
-use crate::{Entrypoint, Error, Input, LexicalError, Refusal, Report, Setting, Tree};
-use crate::{lexical, report};
+use crate::sys::{self, Answer, TextAnswer};
+use crate::{Entrypoint, Error, Input, LexicalError, Refusal, Report, Setting, TextError, TextParse, Tree};
+use crate::{input, lexical, report, rows, text};
 
 /// Parses, and keeps its buffers for the next time.
 ///
@@ -79,6 +78,37 @@ impl Parser {
         self.parse_by(sys::call, setting, entry, input)
     }
 
+    /// Parses a text in the old setting: its tokens are read by the rules of dt-tools' lexer. The buffers grow as for
+    /// [`Parser::parse`], that of the tokens too. [`Entrypoint::parse_text`] has an example.
+    ///
+    /// # Errors
+    ///
+    /// If the text is refused: see [`TextError`].
+    pub fn parse_text<'i>(&mut self, entry: Entrypoint, text: &'i [u8]) -> Result<TextParse<'i>, TextError> {
+        self.parse_text_in(Setting::Old, entry, text)
+    }
+
+    /// The same in a setting.
+    ///
+    /// # Errors
+    ///
+    /// If the text is refused: see [`TextError`].
+    pub fn parse_text_in<'i>(
+        &mut self,
+        setting: Setting,
+        entry: Entrypoint,
+        text: &'i [u8],
+    ) -> Result<TextParse<'i>, TextError> {
+        self.parse_text_by(sys::call_text, setting, entry, text).map_err(|why| match why {
+            // its tokens are gone: those of an entry that nests nothing are the same
+            Error::Refused(Refusal::TooDeep(mark)) => {
+                let read = self.parse_text_by(sys::call_text, Setting::Old, Entrypoint::ReferenceNoamp, text);
+                text::too_deep(mark, read.ok().map(|read| read.input))
+            }
+            why => text::explain(why, text),
+        })
+    }
+
     /// The same by any call of that form.
     fn parse_by<'i>(
         &mut self,
@@ -88,27 +118,39 @@ impl Parser {
         input: &Input<'i>,
     ) -> Result<Parse<'i>, Error> {
         let rows = input.rows();
-        let most = Room::most(input);
-        let mut room = Room::first(input);
-        loop {
-            self.buffers.set_room(room);
-            let answer = call(entry.number(), setting.number(), input.text, &rows, &mut self.buffers);
-            if answer.number == 0 {
-                return self.read(&answer, input);
-            }
-            let refusal = Refusal::from_number(answer.number, answer.place).ok_or(Error::BadAnswer {
-                what: "number",
-                row: None,
-                expected: "0 or a refusal from 1 to 8",
-            })?;
-            match room.after(refusal, most) {
-                Some(more) => room = more,
-                None if !refusal.is_about_room() => return Err(Error::Refused(refusal)),
-                None => {
-                    return Err(Error::LimitPassed { refusal, tokens: input.tokens.len() });
-                }
-            }
+        let growing = Growing { first: Room::first(input), most: Room::most(input), tokens: input.tokens.len() };
+        let answer = growing.answer(&mut self.buffers, |lent| {
+            let answer = call(entry.number(), setting.number(), input.text, &rows, lent);
+            TextAnswer { answer, token_count: 0 }
+        });
+        match answer {
+            Err(Error::Refused(refusal)) if refusal.is_of_text_alone() => Err(bad_number("0 or a refusal from 1 to 8")),
+            Err(why) => Err(why),
+            Ok(answer) => self.read(&answer.answer, input),
         }
+    }
+
+    /// The same for a text.
+    fn parse_text_by<'i>(
+        &mut self,
+        mut call: impl FnMut(u32, u32, &[u8], &mut Buffers) -> TextAnswer,
+        setting: Setting,
+        entry: Entrypoint,
+        text: &'i [u8],
+    ) -> Result<TextParse<'i>, Error> {
+        let (first, most) = (Room::first_for_text(text), Room::most_for_text(text));
+        let growing = Growing { first, most, tokens: most.tokens };
+        let answer = growing.answer(&mut self.buffers, |lent| call(entry.number(), setting.number(), text, lent));
+        let answer = answer.map_err(|why| match why {
+            Error::Refused(Refusal::UnknownEntry | Refusal::BadRow(_) | Refusal::BadText(_)) => {
+                bad_number("0 or a refusal of a text")
+            }
+            why => why,
+        })?;
+        let tokens = rows::front(&self.buffers.tokens, answer.token_count).ok_or(bad_count("count of token rows"))?;
+        let input = Input::new(text, input::read(tokens)?);
+        let parse = self.read(&answer.answer, &input)?;
+        Ok(TextParse { input, parse })
     }
 
     /// The rows of an accepted call as values.
@@ -124,6 +166,43 @@ impl Parser {
             reports: report::read(reports, pool, input)?,
         })
     }
+}
+
+/// Calls that are made again with more room where that helps.
+struct Growing {
+    first: Room,
+    most: Room,
+    /// How many tokens the most room is for.
+    tokens: usize,
+}
+
+impl Growing {
+    /// The first answer that is not a refusal.
+    fn answer(
+        self,
+        buffers: &mut Buffers,
+        mut call: impl FnMut(&mut Buffers) -> TextAnswer,
+    ) -> Result<TextAnswer, Error> {
+        let mut room = self.first;
+        loop {
+            buffers.set_room(room);
+            let answer = call(buffers);
+            let Answer { number, place, .. } = answer.answer;
+            if number == 0 {
+                return Ok(answer);
+            }
+            let refusal = Refusal::from_number(number, place).ok_or(bad_number("0 or a refusal from 1 to 10"))?;
+            match room.after(refusal, self.most) {
+                Some(more) => room = more,
+                None if !refusal.is_about_room() => return Err(Error::Refused(refusal)),
+                None => return Err(Error::LimitPassed { refusal, tokens: self.tokens }),
+            }
+        }
+    }
+}
+
+fn bad_number(expected: &'static str) -> Error {
+    Error::BadAnswer { what: "number", row: None, expected }
 }
 
 fn bad_count(what: &'static str) -> Error {
@@ -191,6 +270,52 @@ mod tests {
         ] {
             let (error, calls) = parse_by(number, trees);
             assert_eq!(error.to_string(), is_not(text));
+            assert_eq!(calls, 1);
+        }
+    }
+
+    /// What comes of a library that always gives this answer to a text of 100 bytes, and how often it is called.
+    fn parse_text_by(number: u32, tree_count: usize, token_count: usize) -> (Error, usize) {
+        let mut calls = 0;
+        let call = |_: u32, _: u32, _: &[u8], _: &mut Buffers| {
+            calls += 1;
+            TextAnswer { answer: answer(number, tree_count), token_count }
+        };
+        let text = b" ".repeat(100);
+        let error = Parser::new().parse_text_by(call, Setting::Old, Entrypoint::Cells, &text).unwrap_err();
+        (error, calls)
+    }
+
+    #[test]
+    fn room_for_a_text_is_tried_up_to_the_limit_and_then_reported() {
+        for number in 6..=8 {
+            let (error, calls) = parse_text_by(number, 0, 0);
+            let refusal = Refusal::from_number(number, 0).unwrap();
+            assert_eq!(error, Error::LimitPassed { refusal, tokens: 100 });
+            assert!(calls < 20, "{calls}");
+        }
+        let (error, calls) = parse_text_by(2, 0, 0);
+        assert_eq!(error, Error::Refused(Refusal::TooLong));
+        assert_eq!(calls, 2, "with room for 66 tokens, and for a token a byte");
+        for number in [5, 9, 10] {
+            let refusal = Refusal::from_number(number, 0).unwrap();
+            assert_eq!(parse_text_by(number, 0, 0), (Error::Refused(refusal), 1));
+        }
+    }
+
+    #[test]
+    fn an_answer_that_a_text_cannot_have_is_reported() {
+        for (number, trees, tokens, text) in [
+            (1, 0, 0, "the number of the answer is not 0 or a refusal of a text"),
+            (3, 0, 0, "the number of the answer is not 0 or a refusal of a text"),
+            (4, 0, 0, "the number of the answer is not 0 or a refusal of a text"),
+            (11, 0, 0, "the number of the answer is not 0 or a refusal from 1 to 10"),
+            (0, 1, 1 << 40, "the count of token rows of the answer is not at most what fits the lent buffer"),
+            // rows of zeros: a blank of no bytes, and a tree without it
+            (0, 1, 1, "the tree of the answer is not one over all tokens"),
+        ] {
+            let (error, calls) = parse_text_by(number, trees, tokens);
+            assert_eq!(error.to_string(), format!("{text}: the linked library is not the proved one"));
             assert_eq!(calls, 1);
         }
     }

@@ -1,4 +1,4 @@
-//! Files of token rows: a text with its tokens, written down. docs/TOKENS.md describes the form.
+//! Files of token rows: a text with its tokens, written down. docs/TOKENS.md says when to use them, and their form.
 //!
 //! ```text
 //! devicetree tokens 1
@@ -16,6 +16,21 @@ use std::fmt;
 
 /// The first line of every such file.
 pub const FIRST_LINE: &str = "devicetree tokens 1";
+
+/// What the first line begins with in every version of the form.
+const FIRST_WORDS: &[u8] = b"devicetree tokens";
+
+/// Whether a file means to be one of token rows, and is no devicetree source: by its first words.
+///
+/// ```
+/// use dt_parser::rowsfile::is_rows;
+/// assert!(is_rows(b"devicetree tokens 2\n"));
+/// assert!(!is_rows(b"/dts-v1/;\n"));
+/// ```
+#[must_use]
+pub fn is_rows(bytes: &[u8]) -> bool {
+    bytes.starts_with(FIRST_WORDS)
+}
 
 /// A file of token rows that has been read.
 #[derive(Debug, Clone, PartialEq, Eq)]

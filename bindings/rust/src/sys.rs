@@ -1,4 +1,4 @@
-//! The exported call, and all that is unsafe in this crate.
+//! The exported calls, and all that is unsafe in this crate.
 
 use crate::buffers::Buffers;
 
@@ -11,6 +11,13 @@ pub(crate) struct Answer {
     pub error_count: usize,
     pub report_count: usize,
     pub expectation_count: usize,
+}
+
+/// What the call with a text returns: the answer to its tokens, and how many token rows it wrote.
+#[repr(C)]
+pub(crate) struct TextAnswer {
+    pub answer: Answer,
+    pub token_count: usize,
 }
 
 #[allow(unsafe_code)]
@@ -34,12 +41,32 @@ unsafe extern "C" {
         pool: *mut u32,
         pool_len: usize,
     ) -> Answer;
+
+    /// The same but for `tokens`, which it writes.
+    fn dt_parse_text(
+        entry: u32,
+        setting: u32,
+        bytes: *const u8,
+        bytes_len: usize,
+        tokens: *mut u32,
+        tokens_len: usize,
+        events: *mut u32,
+        events_len: usize,
+        trees: *mut u32,
+        trees_len: usize,
+        errors: *mut u32,
+        errors_len: usize,
+        reports: *mut u32,
+        reports_len: usize,
+        pool: *mut u32,
+        pool_len: usize,
+    ) -> TextAnswer;
 }
 
-/// One call over lent buffers. Any entry, setting, bytes and numbers may be passed.
+/// One call with tokens, over lent buffers. Any entry, setting, bytes and numbers may be passed.
 #[allow(unsafe_code)]
 pub(crate) fn call(entry: u32, setting: u32, bytes: &[u8], tokens: &[u32], lent: &mut Buffers) -> Answer {
-    let Buffers { events, trees, errors, reports, pool } = lent;
+    let Buffers { events, trees, errors, reports, pool, .. } = lent;
     // SAFETY: each pointer and length is that of a live slice of the element type that the call names. The two slices
     // that it reads are borrowed for the time of the call and hold initialized elements. The five that it writes are
     // five vectors, borrowed mutably, so that none overlaps another or what is read, and hold initialized elements too.
@@ -67,3 +94,33 @@ pub(crate) fn call(entry: u32, setting: u32, bytes: &[u8], tokens: &[u32], lent:
         )
     }
 }
+
+/// One call with a text, over lent buffers. Any entry, setting and bytes may be passed.
+#[allow(unsafe_code)]
+pub(crate) fn call_text(entry: u32, setting: u32, text: &[u8], lent: &mut Buffers) -> TextAnswer {
+    let Buffers { tokens, events, trees, errors, reports, pool } = lent;
+    // SAFETY: as above, with one slice that is read and six vectors that are written. `TextAnswer` is laid out as there.
+    unsafe {
+        dt_parse_text(
+            entry,
+            setting,
+            text.as_ptr(),
+            text.len(),
+            tokens.as_mut_ptr(),
+            tokens.len(),
+            events.as_mut_ptr(),
+            events.len(),
+            trees.as_mut_ptr(),
+            trees.len(),
+            errors.as_mut_ptr(),
+            errors.len(),
+            reports.as_mut_ptr(),
+            reports.len(),
+            pool.as_mut_ptr(),
+            pool.len(),
+        )
+    }
+}
+
+#[cfg(test)]
+mod tests;

@@ -1,7 +1,7 @@
 //! The command dtparse: what it prints and its exit status.
 
 use dt_parser::rowsfile::RowsFile;
-use dt_parser::{Entrypoint, Input, LexError, Token, TokenKind};
+use dt_parser::{Entrypoint, Input, LexError, TextError, Token, TokenKind};
 use std::io::Write;
 use std::path::PathBuf;
 use std::process::{Command, Output, Stdio};
@@ -29,10 +29,13 @@ fn printed(output: Output) -> (Option<i32>, String, String) {
 
 /// dtparse on a file that it reads from the standard input.
 fn run_on(file: &[u8], arguments: &[&str]) -> (Option<i32>, String, String) {
-    let mut command = dtparse(arguments);
-    command.arg("-").stdin(Stdio::piped()).stdout(Stdio::piped()).stderr(Stdio::piped());
-    let mut child = command.spawn().unwrap();
-    child.stdin.take().unwrap().write_all(file).unwrap();
+    piped(&mut dtparse(&[arguments, &["-"]].concat()), file)
+}
+
+/// A command with this standard input.
+fn piped(command: &mut Command, input: &[u8]) -> (Option<i32>, String, String) {
+    let mut child = command.stdin(Stdio::piped()).stdout(Stdio::piped()).stderr(Stdio::piped()).spawn().unwrap();
+    child.stdin.take().unwrap().write_all(input).unwrap();
     printed(child.wait_with_output().unwrap())
 }
 
@@ -59,10 +62,11 @@ fn golden(name: &str, text: &str) {
 
 #[test]
 fn the_board_is_shown_with_its_mistake_and_all_its_nodes() {
-    let (status, out, err) = run(&["examples/board.rows"]);
+    let (status, out, err) = run(&["examples/board.dts"]);
     golden("board.txt", &out);
     assert_eq!((status, err.as_str()), (Some(1), ""));
     assert!(out.contains("vcc_3v3: regulator-3v3\n"));
+    assert_eq!(run(&["examples/board.rows"]), (status, out, err), "its rows are read as it is");
 }
 
 #[test]
@@ -81,13 +85,181 @@ fn the_tree_is_printed_whole() {
 
 #[test]
 fn labels_are_reported_in_the_strict_setting_alone() {
-    let (status, out, err) = run(&["--strict", "examples/labels.rows"]);
+    let (status, out, err) = run(&["--strict", "examples/labels.dts"]);
     golden("labels.txt", &out);
     assert_eq!((status, err.as_str()), (Some(1), ""));
-    let (status, old, _) = run(&["examples/labels.rows"]);
+    assert_eq!(run(&["--strict", "examples/labels.rows"]), (status, out, err));
+    let (status, old, _) = run(&["examples/labels.dts"]);
     assert_eq!(status, Some(0));
     assert!(old.ends_with("examples/labels.dts: no errors; 5 nodes and 1 property read\n"), "{old}");
-    assert_eq!(run(&["--strict", "--tree", "examples/labels.rows"]).1, run(&["--tree", "examples/labels.rows"]).1);
+    assert_eq!(run(&["--strict", "--tree", "examples/labels.dts"]).1, run(&["--tree", "examples/labels.dts"]).1);
+}
+
+#[test]
+fn a_source_is_read_from_the_standard_input_too() {
+    let text = std::fs::read(root().join("examples/board.dts")).unwrap();
+    let rows = std::fs::read(root().join("examples/board.rows")).unwrap();
+    let (status, of_file, _) = run(&["examples/board.dts"]);
+    let named = of_file.replace("examples/board.dts", "(standard input)");
+    assert_eq!(run_on(&text, &[]), (status, named.clone(), String::new()));
+    assert_eq!(piped(&mut dtparse(&[]), &text), (status, named, String::new()), "no file is `-`");
+    assert_eq!(run_on(&rows, &[]), (status, of_file.clone(), String::new()), "rows are told by their first line");
+    assert_eq!(piped(&mut dtparse(&[]), &rows), (status, of_file, String::new()));
+}
+
+#[test]
+fn the_first_line_tells_rows_from_a_source_and_then_the_ending() {
+    let file = |name: &str, text: &[u8]| {
+        let path = format!("{}/{name}", env!("CARGO_TARGET_TMPDIR"));
+        std::fs::write(&path, text).unwrap();
+        path
+    };
+    let rows = source(&[(TokenKind::Ident, b"a"), (TokenKind::Semicolon, b";")]);
+    let summary = "no errors; 0 nodes and 1 property read\n";
+    assert_eq!(run(&[&file("rows.dts", &rows)]).1, format!("a.dts: {summary}"));
+    let text = file("text", b"a;");
+    assert_eq!(run(&[&text]).1, format!("{text}: {summary}"));
+    let bad = file("text.rows", b"a;");
+    let first = "line 1: expected `devicetree tokens 1`, found";
+    assert_eq!(no_answer(run(&[&bad])), format!("dtparse: {bad}: {first} `a;`\n"));
+    let empty = file("empty.rows", b"");
+    assert_eq!(no_answer(run(&[&empty])), format!("dtparse: {empty}: {first} the end of the file\n"));
+    assert_eq!(
+        no_answer(run_on(b"devicetree tokens 2\n", &[])),
+        format!("dtparse: -: {first} `devicetree tokens 2`\n")
+    );
+}
+
+#[test]
+fn a_directive_is_refused_with_its_line_and_the_usual_way() {
+    let expected = "\
+dtparse: examples/overlay.dts: refusal 10: `#define` is a preprocessor directive
+ --> examples/overlay.dts:6:1
+  |
+6 | #define FAN_PWM_PERIOD 40000
+  | ^
+Directives are for the preprocessor, which goes first. The usual way, with -I for each folder
+that the source includes from:
+    cpp -P -nostdinc -undef -x assembler-with-cpp examples/overlay.dts | ./dtparse -
+";
+    assert_eq!(no_answer(run(&["examples/overlay.dts"])), expected);
+    let of_text = no_answer(run_on(b"/ {\n\ta;\t#  if A\n", &["--tree"]));
+    assert!(of_text.contains("\n --> (standard input):2:5\n  |\n2 |     a;  #  if A\n  |         ^\n"), "{of_text}");
+    assert!(of_text.ends_with("cpp FILE.dts | ./dtparse -\n"), "{of_text}");
+}
+
+#[test]
+fn a_name_that_begins_like_a_directive_is_refused_and_the_preprocessor_not_named() {
+    let said = no_answer(run_on(b"#iface-cells = <1>;", &[]));
+    assert!(
+        said.starts_with("dtparse: -: refusal 10: `#iface-cells` begins like a preprocessor directive\n"),
+        "{said}"
+    );
+    assert!(said.contains("\n1 | #iface-cells = <1>;\n  | ^\n") && !said.contains("cpp"), "{said}");
+    let minus = Token::new(TokenKind::Minus, 1);
+    let names = [Token::new(TokenKind::Ident, 6), minus, Token::new(TokenKind::Ident, 5)];
+    let tokens = [names.as_slice(), &[Token::new(TokenKind::Semicolon, 1)]].concat();
+    let file = rows(Entrypoint::SourceFile, b"#iface-cells;", &tokens);
+    assert_eq!(run_on(&file, &[]).0, Some(0), "rows can have it");
+}
+
+#[test]
+fn a_byte_that_is_not_ascii_is_refused_with_its_line() {
+    let expected = "\
+dtparse: -: refusal 9: byte 0xc3, the first of `ë` (U+00EB), is not ASCII
+ --> (standard input):2:6
+  |
+2 | // Zoë
+  |      ^
+A source is plain ASCII, in comments and strings too. In a string it can be written as `\\xc3\\xab`.
+Comments are taken out by the preprocessor:
+    cpp -P -nostdinc -undef -x assembler-with-cpp FILE.dts | ./dtparse -
+";
+    assert_eq!(no_answer(run_on("/dts-v1/;\n// Zoë\n".as_bytes(), &[])), expected);
+    let said = no_answer(run_on(b"a = \"\xb5\";\r\n", &[]));
+    assert!(said.starts_with("dtparse: -: refusal 9: byte 0xb5 is not ASCII\n --> (standard input):1:6\n"), "{said}");
+    assert!(said.contains("\n1 | a = \"\u{fffd}\";\n  |      ^\n"), "{said}");
+    let mark = no_answer(run_on("\u{feff}/dts-v1/;\n".as_bytes(), &[]));
+    assert!(mark.ends_with("\nSave the file without a byte order mark.\n"), "{mark}");
+    let compiled = no_answer(run_on(b"\xd0\x0d\xfe\xed\0\0", &[]));
+    assert!(compiled.contains("\nThis is a compiled devicetree; `dtc -I dtb -O dts FILE.dts` makes "), "{compiled}");
+}
+
+#[test]
+fn a_long_line_is_cut_around_the_byte() {
+    let text = [b"a".repeat(3000), b" #if ".to_vec(), b"b".repeat(3000)].concat();
+    let said = no_answer(run_on(&text, &[]));
+    let lines: Vec<&str> = said.lines().collect();
+    let (line, caret) = (lines[3].chars().collect::<Vec<_>>(), lines[4].chars().count());
+    assert!(line.len() < 200 && line[caret - 1] == '#' && lines[4].ends_with('^'), "{said}");
+}
+
+#[test]
+fn a_text_that_is_too_long_or_too_deep_has_status_2() {
+    let start = "dtparse: -: refusal";
+    let said = no_answer(run_on(&b" ".repeat(1_048_577), &[]));
+    assert!(
+        said.starts_with(&format!("{start} 2: the text has 1048577 bytes, and at most 1048576 are taken\n")),
+        "{said}"
+    );
+    let said = no_answer(run_on(&b",".repeat(65_537), &[]));
+    assert!(said.starts_with(&format!("{start} 2: the text has more than 65536 tokens\n")), "{said}");
+    let said = no_answer(run_on(&b"(".repeat(64), &["--entry", "Cells"]));
+    assert!(said.starts_with(&format!("{start} 5: over 64 calls are open ")), "{said}");
+    assert!(said.contains("\n --> (standard input):1:64\n"), "{said}");
+}
+
+#[test]
+fn the_preprocessors_marks_of_lines_are_a_reason_for_reports() {
+    let (status, out, _) = run_on(b"# 1 \"board.dts\"\n/dts-v1/;\n", &["--reports"]);
+    assert_eq!(status, Some(1));
+    assert!(out.ends_with("are the preprocessor's own; `cpp -P` leaves them out\n"), "{out}");
+    assert!(!run_on(b"}\n", &["--reports"]).1.contains("cpp"));
+}
+
+/// A made-up board that includes headers and uses macros and conditions, as boards do.
+const LANTERN: &str = "examples/cpp/kestrel-lantern";
+
+#[test]
+fn a_board_that_went_through_the_preprocessor_is_read_without_a_report() {
+    let (status, out, err) = run(&[&format!("{LANTERN}.plain.dts")]);
+    golden("lantern.txt", &out);
+    assert_eq!((status, err.as_str()), (Some(0), ""));
+    assert!(out.ends_with(": no errors; 49 nodes and 160 properties read\n"), "nothing is left over: {out}");
+    assert_eq!(run(&["--strict", &format!("{LANTERN}.plain.dts")]).1, out, "its labels are good");
+    assert!(no_answer(run(&[&format!("{LANTERN}.dts")])).contains("refusal 10: `#define` is a preprocessor directive"));
+}
+
+/// A board of Linux (examples/cpp says which), as the preprocessor leaves it.
+#[test]
+fn a_real_board_is_read_without_a_report() {
+    let (status, out, err) = run(&["examples/cpp/rk3328-rock64.plain.dts"]);
+    assert_eq!((status, err.as_str()), (Some(0), ""));
+    assert!(out.ends_with(": no errors; 352 nodes and 994 properties read\n"), "{}", out.lines().last().unwrap_or_default());
+}
+
+/// Tokens that are not blanks or comments, with their texts.
+fn said(text: &[u8]) -> Vec<(TokenKind, Vec<u8>)> {
+    let input = Entrypoint::SourceFile.parse_text(text).unwrap().input;
+    let tokens = input.tokens.iter().zip(input.ranges()).filter(|(token, _)| !token.is_trivia());
+    tokens.map(|(token, range)| (token.seen_kind(), text[range.byte_range()].to_vec())).collect()
+}
+
+/// The command that a refusal names, where there is a preprocessor: what it writes may differ in blanks.
+#[test]
+fn the_usual_way_is_one() {
+    let words: Vec<&str> = TextError::PREPROCESSOR.split(' ').collect();
+    let mut command = Command::new(words[0]);
+    command.args(&words[1..]).args(["-I", "examples/cpp/include", &format!("{LANTERN}.dts")]).current_dir(root());
+    let Ok(output) = command.output() else {
+        println!("no {}", words[0]);
+        return;
+    };
+    assert!(output.status.success(), "{}", String::from_utf8_lossy(&output.stderr));
+    let (status, out, _) = run_on(&output.stdout, &[]);
+    assert_eq!(status, Some(0));
+    assert!(out.ends_with("(standard input): no errors; 49 nodes and 160 properties read\n"), "{out}");
+    assert_eq!(said(&output.stdout), said(&std::fs::read(root().join(format!("{LANTERN}.plain.dts"))).unwrap()));
 }
 
 #[test]
@@ -202,6 +374,8 @@ fn an_empty_text_has_a_position_too() {
     assert!(out.contains("--> a.dts:1:1\n  |\n1 |\n  | ^\n"), "{out}");
     let (status, out, _) = run_on(&rows(Entrypoint::SourceFile, b"", &[]), &[]);
     assert_eq!((status, out.as_str()), (Some(0), "a.dts: no errors; 0 nodes and 0 properties read\n"));
+    let (status, out, _) = run_on(b"", &[]);
+    assert_eq!((status, out.as_str()), (Some(0), "(standard input): no errors; 0 nodes and 0 properties read\n"));
 }
 
 #[test]
@@ -212,19 +386,24 @@ fn the_entry_can_be_chosen() {
     assert_eq!(status, Some(0));
     assert!(out.starts_with("EntryCells@0..1\n  Number@0..1 \"1\"\n"), "{out}");
     assert_eq!(run_on(&file, &["--entry", "PropValues"]).0, Some(1));
+    assert_eq!(run_on(b"1", &[]).0, Some(1));
+    let of_text = run_on(b"1", &["--entry", "Cells"]);
+    assert_eq!(of_text, (status, out.replace("a.dts", "(standard input)"), String::new()));
 }
 
 #[test]
 fn colours_are_for_terminals_unless_asked_for() {
     let escape = "\x1b[";
-    let plain = run(&["examples/board.rows"]).1;
+    let plain = run(&["examples/board.dts"]).1;
     assert!(!plain.contains(escape));
-    let coloured = run(&["--color", "always", "examples/board.rows"]).1;
+    let coloured = run(&["--color", "always", "examples/board.dts"]).1;
     assert!(coloured.contains(escape));
-    assert_eq!(run(&["--color=never", "examples/board.rows"]).1, plain);
-    let mut command = dtparse(&["--color=always", "examples/board.rows"]);
+    assert_eq!(run(&["--color=never", "examples/board.dts"]).1, plain);
+    let mut command = dtparse(&["--color=always", "examples/board.dts"]);
     let (_, out, _) = printed(command.env("NO_COLOR", "1").output().unwrap());
     assert_eq!(out, coloured, "what is asked for goes before NO_COLOR");
+    assert!(!no_answer(run_on(b"#if", &[])).contains(escape));
+    assert!(no_answer(run_on(b"#if", &["--color=always"])).contains(escape));
 }
 
 /// Status 2, nothing on standard output, and the complaint.
@@ -235,21 +414,18 @@ fn no_answer((status, out, err): (Option<i32>, String, String)) -> String {
 
 #[test]
 fn invalid_arguments_have_status_2() {
-    assert_eq!(no_answer(run(&[])), "dtparse: which file?\nTry `dtparse --help`.\n");
     assert_eq!(no_answer(run(&["--all", "x"])), "dtparse: --all is not an option\nTry `dtparse --help`.\n");
     assert!(no_answer(run(&["no/such.rows"])).starts_with("dtparse: no/such.rows: No such file"));
+    assert!(no_answer(run(&["no/such.dts"])).starts_with("dtparse: no/such.dts: No such file"));
+    assert!(no_answer(run(&["examples"])).starts_with("dtparse: examples: Is a directory"));
     assert_eq!(run(&["--help"]).0, Some(0));
     assert!(run(&["--help"]).1.starts_with("dtparse shows"));
+    assert!(run(&["--help"]).1.contains(&format!("{} FILE.dts | ./dtparse -", TextError::PREPROCESSOR)));
 }
 
 #[test]
 fn a_bad_file_has_status_2_and_its_line_is_reported() {
     let bad = |file: &str| no_answer(run_on(file.as_bytes(), &[]));
-    assert_eq!(bad(""), "dtparse: -: line 1: expected `devicetree tokens 1`, found the end of the file\n");
-    assert_eq!(
-        no_answer(run(&["examples/board.dts"])),
-        "dtparse: examples/board.dts: line 1: expected `devicetree tokens 1`, found `// SPDX-License-Identifier: MIT OR Apach`..\n"
-    );
     assert_eq!(
         bad("devicetree tokens 1\nrows 2\nIdent 1\nSemi 1\n"),
         "dtparse: -: line 4: expected a token's kind, by name or number, found `Semi`\n"
@@ -295,7 +471,7 @@ fn a_refusal_has_status_2_and_its_reason_is_reported() {
 #[test]
 fn a_reader_may_go_away() {
     let mut child =
-        dtparse(&["--tree", "examples/board.rows"]).stdout(Stdio::piped()).stderr(Stdio::piped()).spawn().unwrap();
+        dtparse(&["--tree", "examples/board.dts"]).stdout(Stdio::piped()).stderr(Stdio::piped()).spawn().unwrap();
     drop(child.stdout.take());
     let output = child.wait_with_output().unwrap();
     assert_eq!((output.status.code(), output.stderr.as_slice()), (Some(1), b"".as_slice()));

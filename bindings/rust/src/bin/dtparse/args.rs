@@ -4,11 +4,16 @@ use dt_parser::{Entrypoint, Setting};
 use std::ffi::OsString;
 
 pub const HELP: &str = "\
-dtparse shows what the proved devicetree parser makes of a text and its tokens.
+dtparse shows what the proved devicetree parser makes of a source.
 
-usage: dtparse [OPTION..] FILE
+usage: dtparse [OPTION..] [FILE]
 
-FILE is a file of token rows (docs/TOKENS.md), `-` the standard input.
+FILE is a devicetree source in plain ASCII, or a file of token rows (docs/TOKENS.md), which is told
+by its first line or the ending .rows. `-` or no FILE is the standard input, in either form.
+
+A source with preprocessor directives, as #include or #define, goes through the preprocessor first,
+with -I for each folder that it includes from:
+  cpp -P -nostdinc -undef -x assembler-with-cpp FILE.dts | ./dtparse -
 
 What is shown, one or more of:
   --reports      each report and lexical error with its source line
@@ -19,7 +24,7 @@ Without any of them: --reports --nodes for a source file, --reports --tree for a
   --strict       also report labels that the Devicetree Specification does not allow: others than
                  letters, digits and underscores, or a digit first
   --entry NAME   what the text is read as: SourceFile, ReferenceNoamp, PropValues or Cells;
-                 without it the file decides
+                 without it a file of token rows decides, and a source is a SourceFile
   --color WHEN   auto (on a terminal, unless NO_COLOR is set), always or never
   --help         this text
 
@@ -35,6 +40,9 @@ pub enum View {
     Nodes,
     Tree,
 }
+
+/// The name of the standard input.
+pub const STANDARD_INPUT: &str = "-";
 
 #[derive(Debug, PartialEq, Eq)]
 pub struct Args {
@@ -68,7 +76,7 @@ pub fn read(given: &[OsString]) -> Result<Asked, String> {
             None => rest.next().unwrap_or_else(|| Err(format!("{option} needs a value after it"))),
         };
         match option {
-            _ if !options || option == "-" || !option.starts_with('-') => set(&mut file, argument)?,
+            _ if !options || option == STANDARD_INPUT || !option.starts_with('-') => set(&mut file, argument)?,
             "--" => options = false,
             "--help" | "-h" => return Ok(Asked::Help),
             "--entry" => args.entry = Some(entry(value()?)?),
@@ -78,7 +86,7 @@ pub fn read(given: &[OsString]) -> Result<Asked, String> {
             _ => args.views.push(view(option)?),
         }
     }
-    args.file = file.ok_or("which file?")?;
+    args.file = file.unwrap_or_else(|| STANDARD_INPUT.to_string());
     Ok(Asked::Show(args))
 }
 
@@ -135,7 +143,7 @@ mod tests {
         assert_eq!(all.views, [View::Tree, View::Reports]);
         assert_eq!((all.entry, all.color), (Some(Entrypoint::Cells), Some(true)));
         assert_eq!((all.setting, args("a --strict").setting), (Setting::Old, Setting::Strict));
-        assert_eq!(args("-").file, "-");
+        assert_eq!((args("-").file, args("--strict").file), ("-".to_string(), "-".to_string()));
         assert_eq!(args("-- --tree").file, "--tree");
         assert_eq!(args("--color auto x").color, None);
         assert_eq!(asked("a --help b c"), Ok(Asked::Help));
@@ -144,7 +152,6 @@ mod tests {
     #[test]
     fn invalid_arguments_are_reported() {
         for (line, why) in [
-            ("", "which file?"),
             ("a b", "one file at a time, not a and b"),
             ("a --trees", "--trees is not an option"),
             ("a --tree=1", "--tree=1 is not an option"),

@@ -1,4 +1,4 @@
-//! dtparse: shows what the parser makes of a file of token rows. `dtparse --help` says how.
+//! dtparse: shows what the parser makes of a source or of a file of token rows. `dtparse --help` says how.
 
 mod args;
 mod lines;
@@ -10,8 +10,8 @@ mod snippet;
 mod style;
 mod tree;
 
-use args::{Args, Asked, View};
-use dt_parser::rowsfile::RowsFile;
+use args::{Args, Asked, STANDARD_INPUT, View};
+use dt_parser::rowsfile::{RowsFile, is_rows};
 use dt_parser::{Entrypoint, Parse};
 use lines::Lines;
 use std::io::{self, IsTerminal, Read, Write};
@@ -38,13 +38,39 @@ fn main() -> ExitCode {
 /// All that is to be printed, and whether the file is without report and lexical error.
 fn show(args: &Args) -> Result<(String, bool), String> {
     let bytes = read(&args.file).map_err(|why| format!("{}: {why}", args.file))?;
-    let file = RowsFile::read(&bytes).map_err(|why| format!("{}: {why}", args.file))?;
+    // The content decides. A file of that name with another first line is a bad one of token rows.
+    if is_rows(&bytes) || args.file.ends_with(".rows") { show_rows(args, &bytes) } else { show_text(args, &bytes) }
+}
+
+fn show_rows(args: &Args, bytes: &[u8]) -> Result<(String, bool), String> {
+    let file = RowsFile::read(bytes).map_err(|why| format!("{}: {why}", args.file))?;
     let entry = args.entry.unwrap_or(file.entry);
     let parse = entry.parse_in(args.setting, &file.input).map_err(|why| refused::explain(&args.file, &file, why))?;
-    let name = file.name.clone().filter(|name| !name.is_empty()).unwrap_or_else(|| format!("(text of {})", args.file));
-    let page =
-        Page { name: shown::plain(&name), lines: Lines::new(file.input.text), parse: &parse, style: style(args) };
-    Ok((page.print(&args.views, entry), parse.is_clean()))
+    let name = file.name.filter(|name| !name.is_empty()).unwrap_or_else(|| format!("(text of {})", args.file));
+    Ok((page(args, &name, file.input.text, &parse).print(&args.views, entry), parse.is_clean()))
+}
+
+fn show_text(args: &Args, text: &[u8]) -> Result<(String, bool), String> {
+    let entry = args.entry.unwrap_or(Entrypoint::SourceFile);
+    let name = if args.file == STANDARD_INPUT { "(standard input)" } else { &args.file };
+    let parse = match entry.parse_text_in(args.setting, text) {
+        Ok(read) => read.parse,
+        Err(why) => {
+            let style = style(args, io::stderr().is_terminal());
+            return Err(refused::explain_text(&args.file, &shown::plain(name), text, &why, style));
+        }
+    };
+    let clean = parse.is_clean();
+    let mut out = page(args, name, text, &parse).print(&args.views, entry);
+    if !clean && refused::has_line_marks(text) {
+        out += refused::LINE_MARKS;
+    }
+    Ok((out, clean))
+}
+
+fn page<'p>(args: &Args, name: &str, text: &'p [u8], parse: &'p Parse<'p>) -> Page<'p> {
+    let style = style(args, io::stdout().is_terminal());
+    Page { name: shown::plain(name), lines: Lines::new(text), parse, style }
 }
 
 /// What the parts of the output are made from.
@@ -85,16 +111,19 @@ impl Page<'_> {
     }
 }
 
-fn style(args: &Args) -> Style {
+fn style(args: &Args, is_terminal: bool) -> Style {
     let set = |name| std::env::var_os(name).unwrap_or_default();
     let wanted = set("NO_COLOR").is_empty() && set("TERM") != "dumb";
-    Style::new(args.color.unwrap_or_else(|| wanted && io::stdout().is_terminal()))
+    Style::new(args.color.unwrap_or(wanted && is_terminal))
 }
 
-/// The bytes of a file; `-` is the standard input.
+/// The bytes of a file; `-` is the standard input. Someone who waits before a terminal is told what for.
 fn read(file: &str) -> io::Result<Vec<u8>> {
-    if file != "-" {
+    if file != STANDARD_INPUT {
         return std::fs::read(file);
+    }
+    if io::stdin().is_terminal() {
+        eprintln!("dtparse: a source is read from the standard input; `dtparse --help` says more");
     }
     let mut bytes = Vec::new();
     io::stdin().lock().read_to_end(&mut bytes)?;
