@@ -1,16 +1,8 @@
-/* A library with a fault, to see that the fuzzer finds it. DT_FAULT says which. The real call is dt_parse_good. */
+/* A library with a fault, to see that the fuzzer finds it: 1 to 30, of dt_parse. The real call is dt_parse_good. */
 #include "../../include/dt_parser.h"
-#include <stdlib.h>
+#include "fault.h"
 
 extern __typeof__(dt_parse) dt_parse_good;
-
-static int fault(void)
-{
-    static int number = -1;
-    if (number < 0)
-        number = getenv("DT_FAULT") ? atoi(getenv("DT_FAULT")) : 0;
-    return number;
-}
 
 /* Faults of the last report of an accepted call. */
 static void damage_report(struct dt_report_row *report)

@@ -4,21 +4,22 @@ use dt_parser_layout::{BUFFERS, Lengths};
 
 const GUARD: usize = 16;
 
+/// One of them.
 #[derive(Default)]
-pub struct Buffers {
-    store: [Vec<u32>; BUFFERS],
-    lengths: Lengths,
+pub struct Buffer {
+    store: Vec<u32>,
+    length: usize,
     garbage: u32,
 }
 
-/// What each buffer must hold after a call.
+/// What a buffer, or each of five, must hold after a call.
 #[derive(Clone, Copy)]
-pub enum Held<'a> {
-    /// Causes 1 to 4.
+pub enum Held<T> {
+    /// A cause that is met before a parse.
     AsItWas,
     /// All zero, or its rows and then zero.
     Zero,
-    Rows(&'a [Vec<u32>; BUFFERS]),
+    Rows(T),
 }
 
 /// The number that stands at a place before the call: never zero, and another one at each place.
@@ -30,54 +31,84 @@ fn is_garbage(first: u32, from: usize, part: &[u32]) -> bool {
     part.iter().enumerate().fold(0, |bad, (i, &x)| bad | (x ^ garbage(first, from + i))) == 0
 }
 
-impl Buffers {
-    pub fn fill(&mut self, lengths: Lengths, first: u32) {
-        (self.lengths, self.garbage) = (lengths, first);
-        for (buffer, length) in self.store.iter_mut().zip(lengths) {
-            let whole = length + 2 * GUARD;
-            if buffer.len() < whole {
-                buffer.resize(whole, 0)
-            }
-            for (i, x) in buffer[..whole].iter_mut().enumerate() {
-                *x = garbage(first, i)
-            }
+impl Buffer {
+    pub fn fill(&mut self, length: usize, first: u32) {
+        (self.length, self.garbage) = (length, first);
+        let whole = length + 2 * GUARD;
+        if self.store.len() < whole {
+            self.store.resize(whole, 0)
+        }
+        for (i, x) in self.store[..whole].iter_mut().enumerate() {
+            *x = garbage(first, i)
         }
     }
 
     /// A buffer of length 0 has no address if `null` is set.
-    pub fn lent(&mut self, null: bool) -> [Lent; BUFFERS] {
-        let lengths = self.lengths;
-        std::array::from_fn(|i| {
-            let (numbers, len) = (&mut self.store[i][GUARD], lengths[i]);
-            Lent { numbers: if null && len == 0 { std::ptr::null_mut() } else { numbers }, len }
-        })
+    pub fn lent(&mut self, null: bool) -> Lent {
+        let (numbers, len) = (&mut self.store[GUARD], self.length);
+        Lent { numbers: if null && len == 0 { std::ptr::null_mut() } else { numbers }, len }
     }
 
-    pub fn get(&self, i: usize) -> &[u32] {
-        &self.store[i][GUARD..GUARD + self.lengths[i]]
+    pub fn get(&self) -> &[u32] {
+        &self.store[GUARD..GUARD + self.length]
     }
 
-    /// The first buffer that is not as it should be, or whose guards are not.
-    pub fn wrong(&self, held: Held) -> Option<usize> {
-        (0..BUFFERS).find(|&i| !self.guarded(i) || !self.holds(i, held))
+    /// It is as it should be, and so are its guards.
+    pub fn is_right(&self, held: Held<&[u32]>) -> bool {
+        self.is_guarded() && self.holds(held)
     }
 
-    fn guarded(&self, i: usize) -> bool {
-        let after = GUARD + self.lengths[i];
-        let (front, back) = (&self.store[i][..GUARD], &self.store[i][after..after + GUARD]);
+    fn is_guarded(&self) -> bool {
+        let after = GUARD + self.length;
+        let (front, back) = (&self.store[..GUARD], &self.store[after..after + GUARD]);
         is_garbage(self.garbage, 0, front) && is_garbage(self.garbage, after, back)
     }
 
-    fn holds(&self, i: usize, held: Held) -> bool {
-        let all = self.get(i);
+    fn holds(&self, held: Held<&[u32]>) -> bool {
+        let all = self.get();
         let rest = match held {
             Held::AsItWas => return is_garbage(self.garbage, GUARD, all),
-            Held::Rows(rows) => match all.strip_prefix(&rows[i][..]) {
+            Held::Rows(rows) => match all.strip_prefix(rows) {
                 Some(rest) => rest,
                 None => return false,
             },
             Held::Zero => all,
         };
         rest.iter().fold(0, |any, x| any | x) == 0
+    }
+}
+
+impl<'a> Held<&'a [Vec<u32>; BUFFERS]> {
+    /// What one of the five must hold.
+    pub fn of(self, i: usize) -> Held<&'a [u32]> {
+        match self {
+            Held::AsItWas => Held::AsItWas,
+            Held::Zero => Held::Zero,
+            Held::Rows(rows) => Held::Rows(&rows[i]),
+        }
+    }
+}
+
+/// The five of a parse.
+#[derive(Default)]
+pub struct Buffers([Buffer; BUFFERS]);
+
+impl Buffers {
+    pub fn fill(&mut self, lengths: Lengths, first: u32) {
+        self.0.iter_mut().zip(lengths).for_each(|(buffer, length)| buffer.fill(length, first))
+    }
+
+    /// As `Buffer::lent`.
+    pub fn lent(&mut self, null: bool) -> [Lent; BUFFERS] {
+        self.0.each_mut().map(|buffer| buffer.lent(null))
+    }
+
+    pub fn get(&self, i: usize) -> &[u32] {
+        self.0[i].get()
+    }
+
+    /// The first buffer that is not as it should be, or whose guards are not.
+    pub fn wrong(&self, held: Held<&[Vec<u32>; BUFFERS]>) -> Option<usize> {
+        (0..BUFFERS).find(|&i| !self.0[i].is_right(held.of(i)))
     }
 }

@@ -13,7 +13,7 @@ pub struct Call {
     pub lengths: Lengths,
 }
 
-fn numbers<T: std::str::FromStr>(s: &str) -> Option<Vec<T>> {
+pub fn numbers<T: std::str::FromStr>(s: &str) -> Option<Vec<T>> {
     s.split(',').filter(|x| !x.is_empty()).map(|x| x.parse().ok()).collect()
 }
 

@@ -5,7 +5,7 @@ use crate::strict::{self, Broken, is_strict};
 use crate::unchanged::Unchanged;
 use dt_parser_ffi::{self as ffi, Answer};
 use dt_parser_layout::{
-    ACCEPTED, BUFFERS, Lengths, POOL, REFUSAL_BAD_TEXT, REFUSAL_UNKNOWN_ENTRY, REPORTS, ROW_REPORT, TREES,
+    ACCEPTED, BUFFERS, Lengths, POOL, REFUSAL_NO_TREE_ROOM, REFUSAL_TOO_DEEP, REPORTS, ROW_REPORT, TREES,
 };
 use oracle::checks::refusal;
 use oracle::doc01::{Run, first_misfit};
@@ -37,6 +37,8 @@ pub enum Wrong {
     Answer,
     /// Which buffer.
     Buffer(usize),
+    /// The buffer of a text's tokens.
+    Tokens,
     /// The bytes or the tokens were written to.
     Input,
     /// The unchanged Rust and the patched copy differ.
@@ -45,9 +47,9 @@ pub enum Wrong {
     Panic(String),
 }
 
-/// Causes 1 to 4, which are met before a parse.
+/// A cause that is met before a parse and leaves every buffer as it was: each but 5 to 8.
 pub fn is_early(number: u32) -> bool {
-    (REFUSAL_UNKNOWN_ENTRY..=REFUSAL_BAD_TEXT).contains(&number)
+    number != ACCEPTED && !(REFUSAL_TOO_DEEP..=REFUSAL_NO_TREE_ROOM).contains(&number)
 }
 
 pub struct Verdict {
@@ -111,7 +113,7 @@ impl Judge {
     }
 
     /// What the buffers must hold beside that answer.
-    pub fn held(&self, setting: u32, expected: Answer) -> Held<'_> {
+    pub fn held(&self, setting: u32, expected: Answer) -> Held<&[Vec<u32>; BUFFERS]> {
         match expected.number {
             ACCEPTED => Held::Rows(self.rows(setting)),
             n if is_early(n) => Held::AsItWas,

@@ -1,5 +1,5 @@
-//! The static library against the Rust, and in the strict setting against a plain reading of its request, in one
-//! process. ../docs/FUZZING.md says what is compared and how it is run.
+//! The static library against the Rust, and in the strict setting and over texts against a plain reading of their
+//! requests, in one process. ../docs/FUZZING.md says what is compared and how it is run.
 mod buffers;
 mod call;
 mod exact;
@@ -13,16 +13,23 @@ mod shrink;
 mod small;
 mod strict;
 mod tally;
+mod text;
+mod texts;
 mod unchanged;
 
+use oracle::case::unesc;
 use oracle::parsers::on_large_stack;
 
 const USAGE: &str = "fuzz run [--seed N] [--cases N] [--first N] [--unchanged N]
     compares; --unchanged N: in one of N cases with the unchanged Rust too (default 1, 0: never)
+fuzz text [--seed N] [--cases N] [--first N] [--unchanged N]
+    the same over random texts
 fuzz repeat 'LINE'
     one call, as a difference prints it
 fuzz small [--tokens N]
     every list of up to N tokens (default 4) that labels and references are made of
+fuzz texts [--bytes N] [--of BYTES]
+    every text of up to N bytes (default 4) over an alphabet of telling bytes, or over these
 fuzz exact [--seed N] [--cases N]
     calls over memory that was never written, each buffer as long as it says: for valgrind";
 
@@ -33,19 +40,37 @@ fn flag(args: &[String], name: &str, other: u64) -> u64 {
     number.unwrap_or_else(|| panic!("{name} takes a number"))
 }
 
+/// The bytes after a flag.
+fn bytes_of(args: &[String], name: &str) -> Option<Vec<u8>> {
+    let i = args.iter().position(|a| a == name)?;
+    Some(unesc(args.get(i + 1).unwrap_or_else(|| panic!("{name} takes bytes"))))
+}
+
 fn command(args: &[String]) -> bool {
     let number = |name, other| flag(args, name, other);
     let seed = number("--seed", 1);
+    let plan = || run::Plan {
+        seed,
+        cases: number("--cases", 100_000),
+        first: number("--first", 0),
+        unchanged: number("--unchanged", 1),
+    };
     match args.first().map(String::as_str) {
-        Some("run") => run::run(&run::Plan {
-            seed,
-            cases: number("--cases", 100_000),
-            first: number("--first", 0),
-            unchanged: number("--unchanged", 1),
-        }),
-        Some("exact") => exact::run(seed, number("--cases", 2_000)),
+        Some("run") => run::run(&plan()),
+        Some("text") => texts::run::run(&plan()),
+        Some("exact") => {
+            let cases = number("--cases", 2_000);
+            exact::run(seed, cases) && texts::exact::run(seed, cases)
+        }
         Some("small") => small::run(number("--tokens", 4) as u32),
-        Some("repeat") if args.len() == 2 => run::repeat(&args[1]),
+        Some("texts") => texts::every::run(number("--bytes", 4) as u32, bytes_of(args, "--of").as_deref()),
+        Some("repeat") if args.len() == 2 => {
+            let again = run::repeat(&args[1]).or_else(|| texts::run::repeat(&args[1]));
+            again.unwrap_or_else(|| {
+                eprintln!("not a call: {}", args[1]);
+                false
+            })
+        }
         _ => {
             eprintln!("{USAGE}");
             false

@@ -20,7 +20,8 @@ pub struct Plan {
 /// True if no call differed. The first difference is made small and printed.
 pub fn run(plan: &Plan) -> bool {
     println!("seed {}, {} cases from number {}", plan.seed, plan.cases, plan.first);
-    let (mut maker, mut judge, mut tally) = (Maker::new(), Judge::default(), Tally::new());
+    let (mut maker, mut judge) = (Maker::new(), Judge::default());
+    let mut tally = Tally::new("cases", make::ways().collect());
     let mut call = Call::default();
     for i in plan.first..plan.first + plan.cases {
         let mut r = Rng::of_case(plan.seed, i);
@@ -80,11 +81,8 @@ fn differs(plan: &Plan, number: u64, judge: &mut Judge, call: Call) -> bool {
     false
 }
 
-pub fn repeat(line: &str) -> bool {
-    let Some(call) = Call::read(line) else {
-        eprintln!("not a call: {line}");
-        return false;
-    };
-    let mut judge = Judge::default();
-    show::both(&mut judge, &call)
+/// None if the line is not a call over token rows.
+pub fn repeat(line: &str) -> Option<bool> {
+    let call = Call::read(line)?;
+    Some(show::both(&mut Judge::default(), &call))
 }

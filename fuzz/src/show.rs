@@ -1,7 +1,7 @@
 //! Both answers to a call, for a reader.
 use crate::buffers::Held;
 use crate::call::Call;
-use crate::judge::{Judge, Verdict, Wrong};
+use crate::judge::{Judge, Wrong};
 use dt_parser_ffi::Answer;
 use dt_parser_layout::{BUFFERS, EVENTS, POOL, ROW};
 
@@ -13,7 +13,7 @@ pub fn quoted(line: &str) -> String {
     format!("'{}'", line.replace('\'', r"'\''"))
 }
 
-fn answer(a: &Answer) -> String {
+pub fn answer(a: &Answer) -> String {
     let Answer { number, place, tree_count, error_count, report_count, expectation_count } = a;
     format!(
         "number {number}, place {place}, tree rows {tree_count}, lexical errors {error_count}, \
@@ -21,17 +21,25 @@ fn answer(a: &Answer) -> String {
     )
 }
 
-fn rows(i: usize, numbers: &[u32]) {
-    println!("  {}: {} numbers", NAMES[i], numbers.len());
-    let size = if i == POOL { POOL_LINE } else { ROW[i] };
-    for (row, r) in numbers.chunks(size).enumerate() {
+pub fn buffer_name(i: usize) -> &'static str {
+    NAMES[i]
+}
+
+/// A buffer's numbers, so many on a line.
+pub fn numbers(name: &str, all: &[u32], size: usize) {
+    println!("  {name}: {} numbers", all.len());
+    for (row, r) in all.chunks(size).enumerate() {
         let line: Vec<_> = r.iter().map(u32::to_string).collect();
         println!("    {row}: {}", line.join(" "))
     }
 }
 
-fn expected_buffer(judge: &Judge, setting: u32, v: &Verdict, i: usize) {
-    match judge.held(setting, v.expected) {
+pub fn rows(i: usize, all: &[u32]) {
+    numbers(NAMES[i], all, if i == POOL { POOL_LINE } else { ROW[i] })
+}
+
+pub fn expected_buffer(judge: &Judge, setting: u32, expected: Answer, i: usize) {
+    match judge.held(setting, expected) {
         Held::AsItWas => println!("  {}: as it was", NAMES[i]),
         Held::Rows(all) if i != EVENTS => rows(i, &all[i]),
         _ => println!("  {}: all zero", NAMES[i]),
@@ -49,12 +57,12 @@ pub fn both(judge: &mut Judge, call: &Call) -> bool {
         Some(w) => {
             println!("expected: {}\nlibrary:  {}", answer(&v.expected), answer(&v.given));
             match w {
-                Wrong::Buffer(i) => println!("the buffer that differs, or a number around it: {}", NAMES[*i]),
+                Wrong::Buffer(i) => println!("the buffer that differs, or a number around it: {}", buffer_name(*i)),
                 Wrong::Input => println!("the library wrote to its input"),
                 _ => {}
             }
             println!("expected buffers:");
-            (0..BUFFERS).for_each(|i| expected_buffer(judge, call.setting, &v, i));
+            (0..BUFFERS).for_each(|i| expected_buffer(judge, call.setting, v.expected, i));
             println!("the library's buffers, whole:");
             (0..BUFFERS).for_each(|i| rows(i, judge.buffers.get(i)))
         }

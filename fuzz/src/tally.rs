@@ -1,6 +1,5 @@
 //! Figures of a run.
 use crate::call::Call;
-use crate::make;
 use crate::seen::Seen;
 use crate::strict::is_strict;
 use crate::unchanged::Unchanged;
@@ -9,10 +8,14 @@ use dt_parser_layout::{ANSWERS, ENTRY_CELLS, ROW_TOKEN};
 use std::time::Instant;
 
 pub struct Tally {
+    /// What the cases are called.
+    name: &'static str,
+    ways: Vec<&'static str>,
     start: Instant,
     said: Instant,
     pub cases: u64,
     tokens: u64,
+    bytes: u64,
     /// In the old setting, and in the strict one.
     by_number: [[u64; ANSWERS]; 2],
     /// At 0 those with an unknown entry.
@@ -27,16 +30,19 @@ pub struct Tally {
 }
 
 impl Tally {
-    pub fn new() -> Self {
+    pub fn new(name: &'static str, ways: Vec<&'static str>) -> Self {
         let now = Instant::now();
         Tally {
+            by_way: vec![0; ways.len()],
+            name,
+            ways,
             start: now,
             said: now,
             cases: 0,
             tokens: 0,
+            bytes: 0,
             by_number: Default::default(),
             by_entry: Default::default(),
-            by_way: vec![0; make::ways().count()],
             reports: Default::default(),
             with_labels: 0,
             unchanged: 0,
@@ -56,6 +62,7 @@ impl Tally {
     pub fn case(&mut self, way: usize, call: &Call, unchanged: Option<Unchanged>) {
         self.cases += 1;
         self.tokens += (call.tokens.len() / ROW_TOKEN) as u64;
+        self.bytes += call.bytes.len() as u64;
         self.by_entry[if call.entry <= ENTRY_CELLS { call.entry as usize } else { 0 }] += 1;
         self.by_way[way] += 1;
         self.unchanged += (unchanged == Some(Unchanged::Same)) as u64;
@@ -71,22 +78,32 @@ impl Tally {
         if self.said.elapsed().as_secs() >= 10 {
             self.said = Instant::now();
             let percent = 100 * self.cases / of;
-            eprintln!("{} of {of} cases ({percent}%), {:.0} cases/s, no difference", self.cases, self.rate())
+            eprintln!("{} of {of} {1} ({percent}%), {2:.0} {1}/s, no difference", self.cases, self.name, self.rate())
         }
     }
 
     pub fn write(&self) {
         let seconds = self.start.elapsed().as_secs_f64();
         let [old, strict] = self.reports;
-        println!("{} cases in {seconds:.0} s, {:.0} cases/s, each in both settings", self.cases, self.rate());
-        println!("tokens: {} ({:.1} a case)", self.tokens, self.tokens as f64 / self.cases as f64);
+        let (name, mean) = (self.name, |n: u64| n as f64 / self.cases as f64);
+        println!("{} {name} in {seconds:.0} s, {:.0} {name}/s, each in both settings", self.cases, self.rate());
+        println!(
+            "tokens: {} ({:.1} on average), bytes: {} ({:.1})",
+            self.tokens,
+            mean(self.tokens),
+            self.bytes,
+            mean(self.bytes)
+        );
         println!("reports: {old} in the old setting, {strict} in the strict one");
         println!("with labels to report: {}", self.with_labels);
-        let list = |v: &[u64]| v.iter().enumerate().map(|(i, n)| format!(" {i}: {n}")).collect::<Vec<_>>().join(",");
+        let list = |v: &[u64]| {
+            let seen = v.iter().enumerate().filter(|(_, n)| **n > 0);
+            seen.map(|(i, n)| format!(" {i}: {n}")).collect::<Vec<_>>().join(",")
+        };
         println!("answers by number, old setting:{}", list(&self.by_number[0]));
         println!("answers by number, strict setting:{}", list(&self.by_number[1]));
         println!("by entry (0: none):{}", list(&self.by_entry));
-        for (name, n) in make::ways().zip(&self.by_way) {
+        for (name, n) in self.ways.iter().zip(&self.by_way) {
             println!("  {name}: {n}")
         }
         self.seen.write();

@@ -74,8 +74,8 @@ class Case(NamedTuple):
         return b"".join(row.text for row in self.rows) + self.extra
 
     def lent(self):
-        """The buffers at entry: never zero, so that what is left unwritten shows."""
-        return [[1 + (5 * i + 3) % 9 for i in range(n)] if n <= 12 else [7] * n for n in self.lengths]
+        """The buffers at entry."""
+        return [garbage(n) for n in self.lengths]
 
 
 class Result(NamedTuple):
@@ -89,6 +89,11 @@ class Result(NamedTuple):
         for name, numbers in zip(BUFFERS, self.buffers):
             lines.append("  %-7s %s" % (name, short(numbers)))
         return "\n".join(lines)
+
+
+def garbage(n):
+    """A buffer of n numbers at entry: never zero, so that what is left unwritten shows."""
+    return [1 + (5 * i + 3) % 9 for i in range(n)] if n <= 12 else [7] * n
 
 
 def rows_of(tokens):

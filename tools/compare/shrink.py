@@ -1,5 +1,5 @@
-"""Makes a case on which the two answers differ small: fewer rows, shorter texts, and buffers with room if that will
-do."""
+"""Makes a case on which the two answers differ small: fewer rows or bytes, shorter texts, and buffers with room if that
+will do."""
 
 
 def without_rows(case):
@@ -60,3 +60,46 @@ def smallest(case, oracle, differs, say):
             return case
         case = min(found, key=size)
         say("  smaller: %d rows, %d bytes, buffers %s" % (len(case.rows), len(case.data()), case.lengths))
+
+
+def without_bytes(case):
+    """The case with one part of its text left out, large parts first; and with a plain byte in place of one."""
+    n = len(case.data)
+    size = n
+    while size:
+        for at in range(0, n - size + 1, size):
+            yield case._replace(data=case.data[:at] + case.data[at + size :])
+        size //= 2
+    for at in range(n):
+        if case.data[at] not in b";a":
+            yield case._replace(data=case.data[:at] + b"a" + case.data[at + 1 :])
+
+
+def text_size(case):
+    plain = sum(b not in b";a" for b in case.data)
+    return len(case.data), plain, case.entry != 1, case.setting, sum(case.lengths) + case.room
+
+
+def text_with_room(cases, texts):
+    """Those that get as far as a parse, with ample buffers, and the others."""
+    parses = texts.parses(cases)
+    needs = iter(texts.oracle.ask([p for p in parses if p]))
+    for case, parse in zip(cases, parses):
+        lengths = tuple(2 * n + 60 for n in next(needs).needs()) if parse else (9, 9, 9, 9, 9)
+        yield case._replace(lengths=lengths, room=2 * len(case.data) + 3)
+
+
+def smallest_text(case, texts, differs, say):
+    """As `smallest`, of a text."""
+    roomy = differs(list(text_with_room([case], texts)))
+    if roomy:
+        case = roomy[0]
+    while True:
+        tries = list(without_bytes(case)) + [case._replace(entry=1), case._replace(setting=0)]
+        tries = list(text_with_room(tries, texts)) if roomy else tries
+        tries = sorted({c for c in tries if text_size(c) < text_size(case)}, key=text_size)
+        found = differs(tries)
+        if not found:
+            return case
+        case = min(found, key=text_size)
+        say("  smaller: %d bytes" % len(case.data))

@@ -49,7 +49,7 @@ fn text(r: &mut Rng, call: &mut Call) {
     }
 }
 
-fn entry(r: &mut Rng) -> u32 {
+pub fn entry(r: &mut Rng) -> u32 {
     let other = r.next() as u32;
     r.pick(&[0, 5, 6, 255, 256, 257, 260, 65537, u32::MAX, u32::MAX - 3, other])
 }

@@ -33,6 +33,18 @@ const SEEDS: &[&str] = &[
     include_str!("../../seeds/broken.dts"),
 ];
 
+/// What a source looks like that a user has.
+const EXAMPLES: &[&str] = &[
+    include_str!("../../../examples/board.dts"),
+    include_str!("../../../examples/overlay.dts"),
+    include_str!("../../../examples/labels.dts"),
+];
+
+/// Every source as it is.
+pub fn sources() -> Vec<&'static str> {
+    [SEEDS, EXAMPLES, SNIPPETS].concat()
+}
+
 /// Bytes of tokens that have no fixed text.
 const FILL: &[u8] = b"ab1 ;\n{\xff\x80x\"0";
 

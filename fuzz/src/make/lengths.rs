@@ -1,10 +1,24 @@
 //! Lengths of the lent buffers, around what a run needs.
 use crate::rng::Rng;
-use dt_parser_layout::{BUFFERS, ERRORS, Lengths, REPORTS, ROW, ROW_ERROR, ROW_REPORT, ROW_TREE, TREES, bound};
+use dt_parser_layout::{
+    BUFFERS, ERRORS, Lengths, REPORTS, ROW, ROW_ERROR, ROW_REPORT, ROW_TOKEN, ROW_TREE, TREES, bound,
+};
 
 /// For a call that is refused before it is parsed.
 pub fn small(r: &mut Rng) -> Lengths {
     std::array::from_fn(|_| if r.p(20) { 0 } else { r.n(40) })
+}
+
+/// Of the buffer for a text's tokens, where so many numbers are needed: mostly that, or with room, an odd number too;
+/// else too short.
+pub fn room(r: &mut Rng, need: usize) -> usize {
+    match r.n(20) {
+        0..8 => need,
+        8..17 => need + slack(r, ROW_TOKEN),
+        17 => need.saturating_sub(1),
+        18 => need.saturating_sub(ROW_TOKEN),
+        _ => r.n(need),
+    }
 }
 
 /// A length below `need`, or `need` if that is 0: one number less, one row less, none, or any.

@@ -1,4 +1,4 @@
-//! Calls just below, at and above the limits of cause 2.
+//! Calls and texts just below, at and above the limits of cause 2.
 use crate::call::Call;
 use crate::rng::Rng;
 use dt_parser_layout::{MAX_BYTES, MAX_TOKENS};
@@ -22,4 +22,23 @@ pub fn huge(r: &mut Rng, call: &mut Call) {
             call.tokens.pop();
         }
     }
+}
+
+/// One token of so many bytes, or so many tokens of one byte; in half of the draws with a byte or a directive to be
+/// refused for, at the start or at the end.
+pub fn huge_text(r: &mut Rng, text: &mut Vec<u8>) {
+    text.clear();
+    let over = r.n(3);
+    if r.p(50) {
+        let (first, byte) = r.pick(&[("/*", b'c'), ("\"", b's'), ("//", b'c'), ("", b' '), ("", b'a'), ("", b'1')]);
+        text.extend_from_slice(first.as_bytes());
+        text.resize(MAX_BYTES + over - 1, byte)
+    } else {
+        // none that nests: the Rust has no limit of open calls, and its memory would not suffice
+        let byte = r.pick(b";,?\\:@})");
+        text.resize(MAX_TOKENS + over - 1, byte)
+    }
+    let refused = r.pick(&[&b""[..], b"", b"\x80", b"#if"]);
+    let at = if r.p(50) { 0 } else { text.len() - refused.len() };
+    text[at..at + refused.len()].copy_from_slice(refused)
 }

@@ -14,6 +14,7 @@ mod expr;
 mod labels;
 pub mod lengths;
 mod limits;
+pub mod texts;
 
 /// The ways of making an input, with how many of a thousand cases are made so.
 const WAYS: &[(&str, usize)] = &[
@@ -40,9 +41,9 @@ pub fn ways() -> impl Iterator<Item = &'static str> {
 }
 
 /// The number of a random way.
-fn way(r: &mut Rng) -> usize {
+fn drawn_way(r: &mut Rng, ways: &[(&str, usize)]) -> usize {
     let mut draw = r.n(1000);
-    for (i, (_, share)) in WAYS.iter().enumerate() {
+    for (i, (_, share)) in ways.iter().enumerate() {
         if draw < *share {
             return i;
         }
@@ -63,9 +64,22 @@ impl Maker {
 
     /// Entry, tokens and bytes of a call, and the number of the way that made them.
     pub fn call(&mut self, r: &mut Rng, call: &mut Call) -> usize {
-        call.entry = r.pick(&[1, 1, 1, 1, 2, 3, 3, 4, 4]);
+        let entry = r.pick(&[1, 1, 1, 1, 2, 3, 3, 4, 4]);
+        let way = self.call_of(r, entry, call);
+        if r.p(10) {
+            bad::damage(r, call)
+        }
+        if r.n(40_000) == 0 {
+            limits::huge(r, call)
+        }
+        way
+    }
+
+    /// Good rows that suit an entry; the oracle's generator has its own.
+    fn call_of(&mut self, r: &mut Rng, entry: u32, call: &mut Call) -> usize {
+        call.entry = entry;
         self.toks.clear();
-        let way = way(r);
+        let way = drawn_way(r, WAYS);
         match way {
             2 => self.generated(r, call),
             5 => self.lexed(r, call),
@@ -73,12 +87,6 @@ impl Maker {
                 self.tokens(r, way, call.entry);
                 assemble(&self.toks, call)
             }
-        }
-        if r.p(10) {
-            bad::damage(r, call)
-        }
-        if r.n(40_000) == 0 {
-            limits::huge(r, call)
         }
         way
     }
