@@ -3,8 +3,9 @@ import csv
 import os
 import statistics
 
-# the input that the summary is about
+# the input that the summary is about, and its text
 HEADLINE = "board-50000"
+HEADLINE_TEXT = "text-50000"
 
 
 def read(path):
@@ -16,16 +17,17 @@ def read(path):
 
 
 class Times:
-    """The times of the last set of runs."""
+    """The times of the last set of runs; none if there is no such file."""
 
     def __init__(self, path):
         self.by_input = {}
         rows = read(path)
         for row in (row for row in rows if row["date"] == rows[-1]["date"]):
             numbers = {k: float(v) for k, v in row.items() if k not in ("date", "input")}
-            numbers["rust_ns"] = numbers["rust_with_copy_ns"] - numbers["rust_copy_ns"]
+            if "rust_copy_ns" in numbers:
+                numbers["rust_ns"] = numbers["rust_with_copy_ns"] - numbers["rust_copy_ns"]
             self.by_input.setdefault(row["input"], []).append(numbers)
-        self.runs = max(map(len, self.by_input.values()))
+        self.runs = max(map(len, self.by_input.values()), default=0)
 
     def spread(self, name, column):
         """Least, median and most over the runs."""
@@ -61,3 +63,25 @@ class Counts:
 
 def counts(path):
     return [Counts(row) for row in read(path)]
+
+
+class Text:
+    """What one text has and costs: instructions of the first pass of lexing, of both passes, of the whole call, and of
+    the call over ready tokens; None where it was not counted."""
+
+    def __init__(self, row):
+        self.name = row["input"]
+        self.family = self.name.split("-")[0]
+        self.bytes, self.tokens = int(row["bytes"]), int(row["tokens"])
+        counted = ("first_pass", "lexing", "text", "rows")
+        self.first_pass, self.lexing, self.text, self.rows = (
+            int(row[f"{k}_instructions"]) if row[f"{k}_instructions"] else None for k in counted)
+
+
+def texts(path):
+    """By family; of a family the texts that a call takes, and then one that it refuses for its tokens, if there is."""
+    families = {}
+    for row in read(path):
+        text = Text(row)
+        families.setdefault(text.family, []).append(text)
+    return families

@@ -1,7 +1,8 @@
 /*
  * How much stack a call takes: deeply nested inputs, parsed in the strict setting, which does all that the old one
  * does, in a thread whose stack was filled with a pattern before.
- * Prints a line for each input: its name, levels, the answer's number, bytes of stack.
+ * Prints a line for each input: its name, levels, the answer's number, bytes of stack; and those of the call that reads
+ * the tokens itself, where the input is a text without directives.
  */
 #define _POSIX_C_SOURCE 200809L
 #include "../include/dt_parser.h"
@@ -46,7 +47,7 @@ static uint32_t kind_of(char c)
 }
 
 static uint8_t bytes[MOST_TOKENS];
-static uint32_t tokens[2 * MOST_TOKENS];
+static uint32_t tokens[2 * MOST_TOKENS], text_tokens[2 * MOST_TOKENS];
 static uint32_t events[DT_EVENTS_FOR(MOST_TOKENS)], trees[DT_TREES_FOR(MOST_TOKENS)], errors[DT_ERRORS_FOR(MOST_TOKENS)];
 static uint32_t reports[DT_REPORTS_FOR(MOST_TOKENS)], pool[DT_POOL_FOR(MOST_TOKENS)];
 static size_t used;
@@ -68,6 +69,16 @@ static void *parse(void *number)
                                   trees, DT_TREES_FOR(used), errors, DT_ERRORS_FOR(used), reports, DT_REPORTS_FOR(used),
                                   pool, DT_POOL_FOR(used));
     *(uint32_t *)number = a.number;
+    return NULL;
+}
+
+static void *parse_text(void *number)
+{
+    struct dt_text_answer a = dt_parse_text(entry, DT_SETTING_STRICT, bytes, used, text_tokens, DT_TOKENS_FOR(used),
+                                            events, DT_EVENTS_FOR(used), trees, DT_TREES_FOR(used), errors,
+                                            DT_ERRORS_FOR(used), reports, DT_REPORTS_FOR(used), pool,
+                                            DT_POOL_FOR(used));
+    *(uint32_t *)number = a.answer.number;
     return NULL;
 }
 
@@ -94,9 +105,9 @@ static size_t stack_of(void *(*work)(void *), uint32_t *number)
 
 int main(void)
 {
-    uint32_t number = 0;
+    uint32_t number = 0, text_number = 0;
     size_t thread = stack_of(nothing, &number), taken, i;
-    puts("nesting,levels,number,bytes");
+    puts("nesting,levels,number,bytes,text_bytes");
     for (i = 0; i < sizeof inputs / sizeof *inputs; i++) {
         int level;
         used = 0;
@@ -107,7 +118,14 @@ int main(void)
         for (level = 0; level < inputs[i].levels; level++)
             put(inputs[i].close);
         taken = stack_of(parse, &number) - thread;
-        printf("%s,%d,%u,%zu\n", inputs[i].name, inputs[i].levels, number, taken);
+        printf("%s,%d,%u,%zu,", inputs[i].name, inputs[i].levels, number, taken);
+        if (strchr(inputs[i].open, 'I') == NULL) {
+            taken = stack_of(parse_text, &text_number) - thread;
+            if (text_number != number)
+                return 2;
+            printf("%zu", taken);
+        }
+        putchar('\n');
     }
     return 0;
 }

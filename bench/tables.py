@@ -3,11 +3,14 @@
 import re
 import sys
 
-from results import HEADLINE, Times, counts, read
+from inputs import COSTLY
+from results import HEADLINE, HEADLINE_TEXT, Times, counts, read, texts
 
 RESULTS, ROOT = sys.argv[1:]
 COUNTS = counts(f"{RESULTS}/counts.csv")
 TIMES = Times(f"{RESULTS}/times.csv")
+TEXTS = texts(f"{RESULTS}/text_counts.csv")
+TEXT_TIMES = Times(f"{RESULTS}/text_times.csv")
 SETS = read(f"{RESULTS}/machines.csv")  # of runs, several on one machine
 MACHINES = {s["machine"] for s in SETS}
 BOARD = [c for c in COUNTS if c.family == "board"]
@@ -30,10 +33,12 @@ def summary():
     n, runs = c.tokens, sum(int(s["runs"]) for s in SETS)
     best, worst = min(float(s["best"]) for s in SETS), max(float(s["worst"]) for s in SETS)
     ours, heap = c.each("port_buffer_bytes"), c.each("rust_peak_heap_bytes")
+    text = next(t for t in TEXTS["text"] if t.name == HEADLINE_TEXT)
     return table([f"A board file of {n:,} tokens", "Port", "Rust", "Port / Rust"], [
         ["instructions per token", f"{c.port / n:,.0f}", f"{c.rust / n:,.0f}", f"{c.port / c.rust:.2f}"],
         ["in the strict setting, which the Rust lacks", f"{c.strict / n:,.0f}", "", f"{c.strict / c.rust:.2f}"],
         [f"time, {plural(runs, 'run')} on {plural(len(MACHINES), 'machine')}", "", "", f"{best:.2f} to {worst:.2f}"],
+        ["lexing its text, instructions per byte", f"{text.lexing / text.bytes:.1f}", "", ""],
         ["bytes of memory per token", f"{ours:,.0f} lent", f"{heap:,.0f} of heap", f"{ours / heap:.2f}"],
     ])
 
@@ -59,6 +64,36 @@ def cost(rows):
     return table(head, out)
 
 
+def board_texts(rows):
+    head = ["Text", "Bytes", "Tokens", "Lexing, instructions per byte", "its first pass",
+            "Text, instructions per token", "the same tokens, ready", "Text / tokens", "Lexing, ns per byte",
+            "Text / tokens by time: best", "median", "worst"]
+    out = []
+    for t in rows:
+        each = [f"{n / t.bytes:.1f}" for n in (t.lexing, t.first_pass)]
+        each += [f"{n / t.tokens:,.0f}" for n in (t.text, t.rows)]
+        times = ["-"] * 4
+        if t.name in TEXT_TIMES.by_input:
+            times = [f"{TEXT_TIMES.spread(t.name, 'lexing_ns')[1] / t.bytes:.1f}"]
+            times += [f"{x:.2f}" for x in TEXT_TIMES.spread(t.name, "time_ratio")]
+        out.append([t.name, f"{t.bytes:,}", f"{t.tokens:,}", *each, f"{t.text / t.rows:.2f}", *times])
+    return table(head, out)
+
+
+def worst_texts():
+    """A line for each family: of three sizes, and of the most bytes."""
+    head = ["Text", "Bytes", "Tokens", "Lexing, instructions per byte", "a quarter of the text", "a 16th", "First pass",
+            "of 1,048,576 bytes"]
+    out = []
+    for family in COSTLY:
+        small, middle, t, *refused = TEXTS[family]
+        most = refused[0] if refused else t
+        sizes = [f"{x.lexing / x.bytes:.1f}" for x in (t, middle, small)]
+        first = [f"{x.first_pass / x.bytes:.1f}" for x in (t, most)]
+        out.append([family, f"{t.bytes:,}", f"{t.tokens:,}", *sizes, *first])
+    return table(head, out)
+
+
 def memory(rows):
     head = ["Input", "Tokens", "Port: buffers that just suffice", "buffers by the bound", "Rust: most heap at once",
             "heap that its answer keeps"]
@@ -78,8 +113,11 @@ def clearing(rows):
 
 
 def stack():
-    return table(["Nesting", "Levels", "Answer's number", "Bytes of stack"],
-                 [[r["nesting"], r["levels"], r["number"], f"{int(r['bytes']):,}"] for r in read(f"{RESULTS}/stack.csv")])
+    rows = []
+    for r in read(f"{RESULTS}/stack.csv"):
+        text = f"{int(r['text_bytes']):,}" if r.get("text_bytes") else "-"
+        rows.append([r["nesting"], r["levels"], r["number"], f"{int(r['bytes']):,}", text])
+    return table(["Nesting", "Levels", "Answer's number", "Bytes of stack", "as a text"], rows)
 
 
 def put(path, tables):
@@ -100,8 +138,9 @@ def main():
     put("docs/FIGURES.md", short)
     put("docs/BENCHMARK.md", short | {
         "machines": machines(), "board": cost(BOARD), "worst": cost(WORST), "memory": memory(LARGEST),
-        "clearing": clearing(BOARD), "stack": stack()})
-    print("\n\n".join([summary(), machines(), cost(COUNTS)]))
+        "texts": board_texts(TEXTS["text"]), "worst texts": worst_texts(), "clearing": clearing(BOARD),
+        "stack": stack()})
+    print("\n\n".join([summary(), machines(), cost(COUNTS), board_texts(TEXTS["text"]), worst_texts()]))
 
 
 main()

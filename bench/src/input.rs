@@ -1,4 +1,5 @@
 //! The inputs: a realistic file in many sizes, and inputs that might cost more than others.
+use crate::text;
 use dt_parser_layout::{ENTRY_CELLS, ENTRY_SOURCE_FILE, MAX_TOKENS};
 use oracle::case::{Case, Rows};
 use oracle::generate;
@@ -8,7 +9,7 @@ use oracle::token::TokenKind::{
 use oracle::token::{self, LexError};
 
 pub struct Input {
-    /// `FAMILY-TOKENS`, as the command line has it.
+    /// `FAMILY-TOKENS`, or `FAMILY-BYTES` of a text, as the command line has it.
     pub name: String,
     pub entry: u32,
     pub rows: Rows,
@@ -51,11 +52,18 @@ const PATTERNS: &[(&str, u32, Tokens, Tokens, Tokens)] = &[
 ];
 
 impl Input {
-    /// A realistic file (`board`) or one of the patterns, of about n tokens.
+    /// A realistic file (`board`) or one of the patterns, of about n tokens; the file as a text (`text`); or a text of
+    /// at most n bytes.
     pub fn new(family: &str, n: usize) -> Input {
         let name = format!("{family}-{n}");
         if family == "board" {
             return Input::board(name, n);
+        }
+        if family == "text" {
+            return Input::read(name, text::without_directives(&Input::board(String::new(), n).text));
+        }
+        if let Some(text) = text::costly(family, n) {
+            return Input::read(name, text);
         }
         let found = PATTERNS.iter().find(|p| p.0 == family);
         let &(_, entry, head, pattern, tail) = found.unwrap_or_else(|| panic!("no input {family}"));
@@ -78,6 +86,12 @@ impl Input {
         }
     }
 
+    /// A text with the tokens that the Rust's lexer gives.
+    pub fn read(name: String, text: String) -> Input {
+        let (rows, text) = token::rows(&Case::Text(text));
+        Input::from(name, ENTRY_SOURCE_FILE, rows, text)
+    }
+
     fn from(name: String, entry: u32, rows: Rows, text: String) -> Input {
         let tokens = rows.iter().flat_map(|&(k, n)| [k, n as u32]).collect();
         Input { name, entry, rows, text, tokens }
@@ -87,7 +101,7 @@ impl Input {
 impl std::str::FromStr for Input {
     type Err = String;
     fn from_str(s: &str) -> Result<Self, String> {
-        let (family, n) = s.split_once('-').ok_or("FAMILY-TOKENS")?;
-        Ok(Input::new(family, n.parse().map_err(|_| "a number of tokens")?))
+        let (family, n) = s.split_once('-').ok_or("FAMILY-NUMBER")?;
+        Ok(Input::new(family, n.parse().map_err(|_| "a number of tokens or bytes")?))
     }
 }

@@ -3,3 +3,4 @@ pub mod clock;
 pub mod input;
 pub mod port;
 pub mod rust;
+pub mod text;

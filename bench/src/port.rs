@@ -1,9 +1,9 @@
 //! The static library in one of its settings, with lent buffers that just suffice.
 use crate::input::Input;
-use dt_parser_ffi::Answer;
+use dt_parser_ffi::{Answer, Lent, TextAnswer};
 use dt_parser_layout::{
     ACCEPTED, BUFFERS, ERRORS, EVENTS, Lengths, POOL, REFUSAL_NO_EVENT_ROOM, REFUSAL_NO_REPORT_ROOM,
-    REFUSAL_NO_TREE_ROOM, REPORTS, ROW_EVENT, TREES,
+    REFUSAL_NO_TREE_ROOM, REPORTS, ROW_EVENT, SETTING_OLD, TREES,
 };
 
 pub struct Port {
@@ -56,5 +56,45 @@ impl Port {
 
     pub fn parse(&mut self, input: &Input) -> Answer {
         dt_parser_ffi::parse(input.entry, self.setting, input.text.as_bytes(), &input.tokens, &mut self.buffers)
+    }
+}
+
+/// The call that reads the tokens itself.
+pub struct TextPort {
+    tokens: Vec<u32>,
+    port: Port,
+}
+
+impl TextPort {
+    /// So many numbers for the tokens, and the buffers of their parse.
+    pub fn with(tokens: usize, lengths: Lengths) -> TextPort {
+        TextPort { tokens: vec![0x5A5A5A5A; tokens], port: Port::with(SETTING_OLD, lengths) }
+    }
+
+    /// Ends after the first pass of lexing, which only counts: there is no room for a token.
+    pub fn first_pass() -> TextPort {
+        TextPort::with(0, [0; BUFFERS])
+    }
+
+    /// Ends after both passes of lexing: there is just room for the tokens, and none for their parse.
+    pub fn lexing(input: &Input) -> TextPort {
+        TextPort::with(input.tokens.len(), [0; BUFFERS])
+    }
+
+    /// Accepts the text, in the fewest numbers.
+    pub fn fitting(input: &Input) -> TextPort {
+        let port = Port::fitting(SETTING_OLD, input);
+        TextPort { tokens: vec![0x5A5A5A5A; input.tokens.len()], port }
+    }
+
+    pub fn tokens(&self) -> &[u32] {
+        &self.tokens
+    }
+
+    pub fn parse(&mut self, input: &Input) -> TextAnswer {
+        let lent = |b: &mut Vec<u32>| Lent { numbers: b.as_mut_ptr(), len: b.len() };
+        let (tokens, buffers) = (lent(&mut self.tokens), self.port.buffers.each_mut().map(lent));
+        // Safety: six vectors of those lengths, borrowed alone
+        unsafe { dt_parser_ffi::parse_text_lent(input.entry, SETTING_OLD, input.text.as_bytes(), tokens, buffers) }
     }
 }
