@@ -1,3 +1,3 @@
--- The table of powers, and what is proved of it number by number.
+-- The table of levels, what is proved of it number by number, and the powers of a level.
 pub mod Below
 pub mod Powers

@@ -1,59 +1,95 @@
--- The table of binding powers, LEFT_POWERS and RIGHT_POWERS of the code: its rule, proved once over the whole table.
-use Prim.Native.Nat.{ℕ, _-_, _<_}
+-- LEVELS of the code is the definitions' list, proved once over the whole table; and the powers of a level.
+use Prim.Native.Nat.{ℕ, _-_, _≤_, _<_}
 use mathlib.Core.Path.{_≡_, refl, sym, ap, _∙_}
-use mathlib.Core.Bool.{Bool, true, cond, _&&_}
+use mathlib.Core.Bool.{Bool, true, false, cond, _&&_}
 use mathlib.Core.List.{List, [], _∷_}
-use lib.Dec.{ltb, leb, eqb}
+use native.Mathlib.Omega.{arith}
+use lib.Dec.{leb, eqb}
 use lib.ListN.{getD}
-use borrow.Author.Tests.{eqb-true}
-use Rattle.basics.proofs.Tests.{and-left, and-right}
+use borrow.Author.Tests.{leb-true, eqb-true, eqb-false, ne-eqb}
 use Rattle.definitions.specs.TokenKind as K
 use Rattle.definitions.specs.Token.{one-of}
-use Rattle.binding_power.specs.Power.{levels, left-power, right-power, is-binary}
+use Rattle.definitions.specs.BindingPower.{binary-levels, left-power, right-power}
+use Rattle.binding_power.specs.Power.{level-in, worked-out, left-of, right-of, is-binary}
 use Rattle.binding_power.proofs.Below.{same, same-true, all-below, at-below}
 
-abbrev pub lefts : List ℕ
-lefts =
-    11 ∷ 0 ∷ 0 ∷ 0 ∷ 0 ∷ 0 ∷ 0 ∷ 0 ∷ 0 ∷ 15 ∷ 15 ∷ 0 ∷ 0 ∷ 19 ∷ 19 ∷ 21 ∷ 21 ∷ 21 ∷ 7 ∷ 9 ∷ 0 ∷ 17 ∷ 17 ∷ 5 ∷ 3 ∷ 0 ∷ 15 ∷ 15 ∷ 13 ∷ 13 ∷ 2 ∷ []
+-- ---------------------------------------------------------------- levels
 
-abbrev pub rights : List ℕ
-rights =
-    12 ∷ 0 ∷ 0 ∷ 0 ∷ 0 ∷ 0 ∷ 0 ∷ 0 ∷ 0 ∷ 16 ∷ 16 ∷ 0 ∷ 0 ∷ 20 ∷ 20 ∷ 22 ∷ 22 ∷ 22 ∷ 8 ∷ 10 ∷ 0 ∷ 18 ∷ 18 ∷ 6 ∷ 4 ∷ 0 ∷ 16 ∷ 16 ∷ 14 ∷ 14 ∷ 1 ∷ []
+abbrev pub table : List ℕ
+table =
+    5 ∷ 0 ∷ 0 ∷ 0 ∷ 0 ∷ 0 ∷ 0 ∷ 0 ∷ 0 ∷ 7 ∷ 7 ∷ 0 ∷ 0 ∷ 9 ∷ 9 ∷ 10 ∷ 10 ∷ 10 ∷ 3 ∷ 4 ∷ 0 ∷ 8 ∷ 8 ∷ 2 ∷ 1 ∷ 0 ∷ 7 ∷ 7 ∷ 6 ∷ 6 ∷ []
 
--- what the code gives for a kind
-abbrev look : List ℕ → Bool → Bool → ℕ → ℕ
-look table low high k = cond low (cond high (getD table (k - K.Ampersand) 0) 0) 0
+-- what the code gives for a kind, by its two tests
+abbrev look : Bool → Bool → ℕ → ℕ
+look low high k = cond low (cond high (getD table (k - K.Ampersand) 0) 0) 0
 
+-- the table has the definitions' level; a level is at most 10; and a kind with a level is a binary operator
 right : ℕ → Bool
-right k = eqb (look lefts (leb K.Ampersand k) (leb k K.QuestionMark) k) (left-power levels k) && eqb (look rights (leb K.Ampersand k) (leb k K.QuestionMark) k) (right-power levels k)
+right k = eqb (look (leb K.Ampersand k) (leb k K.RelationalNeq) k) (level-in binary-levels k)
 
-table-right : all-below right 256 ≡ true
-unfolding all-below right left-power right-power one-of
-table-right = refl
+bounded : ℕ → Bool
+bounded k = leb (level-in binary-levels k) 10
+
+binary : ℕ → Bool
+binary k = same (is-binary k) (cond (eqb (level-in binary-levels k) 0) false true)
+
+all-right : all-below right 256 ≡ true
+unfolding all-below right level-in one-of
+all-right = refl
+
+all-bounded : all-below bounded 256 ≡ true
+unfolding all-below bounded level-in one-of
+all-bounded = refl
+
+all-binary : all-below binary 256 ≡ true
+unfolding all-below binary same level-in is-binary one-of
+all-binary = refl
 
 -- by the outcome of the two tests
-pub lefts-at : (k : ℕ) → k < 256 → (low high : Bool) → leb K.Ampersand k ≡ low → leb k K.QuestionMark ≡ high → look lefts low high k ≡ left-power levels k
+pub level-at : (k : ℕ) → k < 256 → (low high : Bool) → leb K.Ampersand k ≡ low → leb k K.RelationalNeq ≡ high → look low high k ≡ level-in binary-levels k
 unfolding right
-lefts-at k h low high e f =
-    ap (λ (c : Bool). look lefts c high k) (sym e)
-    ∙ ap (λ (c : Bool). look lefts (leb K.Ampersand k) c k) (sym f)
-    ∙ eqb-true (look lefts (leb K.Ampersand k) (leb k K.QuestionMark) k) (left-power levels k) (and-left _ (eqb (look rights (leb K.Ampersand k) (leb k K.QuestionMark) k) (right-power levels k)) (at-below right 256 k table-right h))
+level-at k h low high e f =
+    ap (λ (c : Bool). look c high k) (sym e)
+    ∙ ap (λ (c : Bool). look (leb K.Ampersand k) c k) (sym f)
+    ∙ eqb-true (look (leb K.Ampersand k) (leb k K.RelationalNeq) k) (level-in binary-levels k) (at-below right 256 k all-right h)
 
-pub rights-at : (k : ℕ) → k < 256 → (low high : Bool) → leb K.Ampersand k ≡ low → leb k K.QuestionMark ≡ high → look rights low high k ≡ right-power levels k
-unfolding right
-rights-at k h low high e f =
-    ap (λ (c : Bool). look rights c high k) (sym e)
-    ∙ ap (λ (c : Bool). look rights (leb K.Ampersand k) c k) (sym f)
-    ∙ eqb-true (look rights (leb K.Ampersand k) (leb k K.QuestionMark) k) (right-power levels k) (and-right (eqb (look lefts (leb K.Ampersand k) (leb k K.QuestionMark) k) (left-power levels k)) _ (at-below right 256 k table-right h))
+pub level-small : (k n : ℕ) → k < 256 → n ≡ level-in binary-levels k → n ≤ 10
+unfolding bounded
+level-small k n h e = let z = leb-true (level-in binary-levels k) 10 (at-below bounded 256 k all-bounded h) in omega (arith, z, e)
 
--- every infix operator but the ternary binds by more than 2, and nothing else does
-above-two : ℕ → Bool
-above-two k = same (ltb 2 (left-power levels k)) (is-binary k)
+-- ---------------------------------------------------------------- powers, for any level
 
-table-above-two : all-below above-two 256 ≡ true
-unfolding all-below above-two same left-power is-binary one-of
-table-above-two = refl
+-- the two powers, and whether the operator is binary
+abbrev Powers-are : ℕ → ℕ → ℕ → Bool → Type 0
+Powers-are k l r b = (l ≡ left-of k) × ((r ≡ right-of k) × (b ≡ is-binary k))
 
-pub binary-at : (k : ℕ) → k < 256 → (low high : Bool) → leb K.Ampersand k ≡ low → leb k K.QuestionMark ≡ high → ltb 2 (look lefts low high k) ≡ is-binary k
-unfolding above-two
-binary-at k h low high e f = ap (ltb 2) (lefts-at k h low high e f) ∙ same-true (ltb 2 (left-power levels k)) (is-binary k) (at-below above-two 256 k table-above-two h)
+pub ternary-powers : (k : ℕ) → eqb k K.QuestionMark ≡ true → Powers-are k 2 1 false
+unfolding left-of right-of is-binary one-of level-in
+ternary-powers k e = let i = sym (eqb-true k K.QuestionMark e) in (ap left-of i, (ap right-of i, ap is-binary i))
+
+-- a kind that is not the ternary's, and its level
+module _ (k n : ℕ) (small : k < 256) (other : eqb k K.QuestionMark ≡ false) (e : n ≡ level-in binary-levels k) where
+  not-ternary : one-of (K.QuestionMark ∷ []) k ≡ false
+  unfolding one-of
+  not-ternary = ap (λ (b : Bool). cond b true false) (ne-eqb K.QuestionMark k (λ i. eqb-false k K.QuestionMark other (sym i)))
+
+  from-level : (t : ℕ) (power : ℕ → ℕ) → worked-out power n ≡ cond (one-of (K.QuestionMark ∷ []) k) t (worked-out power (level-in binary-levels k))
+  from-level t power =
+      ap (worked-out power) e ∙ ap (λ (b : Bool). cond b t (worked-out power (level-in binary-levels k))) (sym not-ternary)
+
+  binary-level : cond (eqb n 0) false true ≡ is-binary k
+  unfolding binary
+  binary-level =
+      ap (λ (n : ℕ). cond (eqb n 0) false true) e
+      ∙ sym (same-true (is-binary k) (cond (eqb (level-in binary-levels k) 0) false true) (at-below binary 256 k all-binary small))
+
+  -- by the outcome of the test for 0
+  pub level-powers : (none : Bool) → eqb n 0 ≡ none → Powers-are k (cond none 0 (left-power n)) (cond none 0 (right-power n)) (cond none false true)
+  unfolding left-of right-of
+  level-powers none z = (
+        ap (λ (b : Bool). cond b 0 (left-power n)) (sym z) ∙ from-level 2 left-power,
+        (
+          ap (λ (b : Bool). cond b 0 (right-power n)) (sym z) ∙ from-level 1 right-power,
+          ap (λ (b : Bool). cond b false true) (sym z) ∙ binary-level,
+        ),
+      )

@@ -1,5 +1,6 @@
--- What is proved of the definitions alone, without a theorem: document 01's readings, and those of document 02's 1/14
--- and 2/14.
+-- What is proved of the definitions alone, without a theorem: document 01's readings, and those of document 02's 1/14,
+-- 2/14 and 3/14.
 pub mod Readings
 pub mod StrictReadings
 pub mod TextReadings
+pub mod PowerReadings

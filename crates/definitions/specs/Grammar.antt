@@ -8,6 +8,7 @@ use mathlib.Core.Bool.{Bool, true, false}
 use mathlib.Core.List.{List, [], _∷_, _++_}
 use Rattle.definitions.specs.Prog.{Ans, no, yes, also, again, Rule, item, propvalues, eat-cell, expr-binding-power, silent-at, immediate, immediate-next, bump-argument, emit-unclosed, less, Prog, ret, act, _⨟_, case, in-marker, loop, chain, brace, open-call}
 use Rattle.definitions.specs.Check.{tell, if_then_else_, _and_, _or_, not!, while_run_, in-node, end?, bump!, expected, error, error-bump, error-wrap, error!, error-bump!, error-wrap!, Matcher, set, of-kind, NAME-SET, Name, LabelName, silent, at, silent-eat, eat, assert-eat, expect, expect-recoverable, eat-starting_inside_else_}
+use Rattle.definitions.specs.BindingPower.{Level, binary-levels, left-power, right-power, ternary-left, ternary-right, prefix-power}
 use Rattle.definitions.specs.TokenKind as K
 use Rattle.definitions.specs.NodeKind as N
 use Rattle.definitions.specs.Errors as E
@@ -166,36 +167,6 @@ PREFIX-OPERATORS-SET = K.Plus ∷ K.Minus ∷ K.BitwiseNot ∷ K.LogicalNot ∷ 
 abbrev pub OPERATORS-SET : List ℕ
 OPERATORS-SET = INFIX-OPERATORS-SET ++ (PREFIX-OPERATORS-SET ++ (K.Colon ∷ []))
 
--- `InfixOp::binding_power`: some kinds with their left and right power
-pub record Level : Type 0 where
-  pub kinds : List ℕ
-  pub left : ℕ
-  pub right : ℕ
-
-abbrev pub level : List ℕ → ℕ → ℕ → Level
-level ks l r = record { kinds = ks; left = l; right = r }
-
-abbrev pub ternary-level : Level
-ternary-level = level (K.QuestionMark ∷ []) 2 1
-
-abbrev pub binding-power : List Level
-binding-power =
-    level (K.LogicalOr ∷ []) 3 4
-    ∷ level (K.LogicalAnd ∷ []) 5 6
-    ∷ level (K.BitwiseOr ∷ []) 7 8
-    ∷ level (K.BitwiseXor ∷ []) 9 10
-    ∷ level (K.Ampersand ∷ []) 11 12
-    ∷ level (K.RelationalEq ∷ K.RelationalNeq ∷ []) 13 14
-    ∷ level (K.LAngle ∷ K.RAngle ∷ K.RelationalLtEq ∷ K.RelationalGtEq ∷ []) 15 16
-    ∷ level (K.BitwiseShl ∷ K.BitwiseShr ∷ []) 17 18
-    ∷ level (K.Plus ∷ K.Minus ∷ []) 19 20
-    ∷ level (K.Asterisk ∷ K.Slash ∷ K.Modulo ∷ []) 21 22
-    ∷ []
-
--- `PrefixOp::binding_power`
-abbrev pub prefix-power : ℕ
-prefix-power = 23
-
 -- the right side, and the InfixExpr that it completes
 unfoldable pub rhs : ℕ → Prog
 rhs right = if open-call (expr-binding-power right) then ret N.InfixExpr again else ret N.InfixExpr yes
@@ -206,7 +177,7 @@ unfolding silent rhs
 infix-levels min-bp [] = tell yes
 infix-levels min-bp (l ∷ ls) =
     if silent (set (l .kinds)) then
-    (if act (less (l .left) min-bp) then tell yes else bump! ⨟ rhs (l .right))
+    (if act (less (left-power (l .number)) min-bp) then tell yes else bump! ⨟ rhs (right-power (l .number)))
     else infix-levels min-bp ls
 
 -- one turn of the loop over infix operators
@@ -214,11 +185,11 @@ unfoldable pub infix-turn : ℕ → Prog
 unfolding silent expect rhs infix-levels
 infix-turn min-bp =
     expected E.InfixOperator
-    ⨟ if silent (set (ternary-level .kinds)) then
-    (if act (less (ternary-level .left) min-bp) then tell yes
+    ⨟ if silent (of-kind K.QuestionMark) then
+    (if act (less ternary-left min-bp) then tell yes
     else (bump! ⨟ if open-call (expr-binding-power 0) and expect (of-kind K.Colon) then
-    rhs (ternary-level .right) else ret N.InfixExpr yes))
-    else infix-levels min-bp binding-power
+    rhs ternary-right else ret N.InfixExpr yes))
+    else infix-levels min-bp binary-levels
 
 unfoldable pub lhs : Prog
 unfolding silent at expect macro-invocation

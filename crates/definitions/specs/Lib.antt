@@ -8,6 +8,7 @@ pub mod Errors
 pub mod Token
 pub mod Prog
 pub mod Check
+pub mod BindingPower
 pub mod Grammar
 pub mod C
 pub mod Skeleton

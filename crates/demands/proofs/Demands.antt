@@ -4,6 +4,7 @@ use Rattle.refusals.proofs.Refusals as refusals
 use Rattle.laws.proofs.Lossless as lossless
 use Rattle.laws.proofs.Limits as limits
 use Rattle.precedence.proofs.Theorem as precedence
+use Rattle.precedence.proofs.Listed as listed
 use Rattle.brackets.proofs.Theorem as brackets
 use Rattle.brackets.proofs.Partner as partner
 use Rattle.recovery.proofs.Local as recovery
@@ -67,5 +68,6 @@ demands =
             turns = turns.turns;
             steps-complete = complete.complete;
             repeats = pending.repeats;
+            as-listed = listed.as-listed;
           };
     }

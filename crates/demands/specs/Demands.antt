@@ -7,6 +7,7 @@ use Rattle.refusals.specs.Answered.{Answered}
 use Rattle.laws.specs.Lossless.{Nothing-lost}
 use Rattle.laws.specs.Limits.{Limits}
 use Rattle.precedence.specs.Precedence.{C-table, One-tree}
+use Rattle.precedence.specs.Listed.{As-listed}
 use Rattle.brackets.specs.Brackets.{Brackets-proper}
 use Rattle.brackets.specs.Partner.{Partner-missed}
 use Rattle.recovery.specs.Recovery.{Stays-local}
@@ -122,6 +123,9 @@ pub record Beside : Type 0 where
   pub steps-complete : Complete
   -- Repeats among the pending expectations move no report's range. pending/specs/Pending.antt.
   pub repeats : Repeats
+  -- Document 02's request 3/14 changes no answer: the binding powers that are worked out are those of document 01's
+  -- list, and every call's run is what it is with the list. precedence/specs/Listed.antt.
+  pub as-listed : As-listed
 
 pub record Demands : Type 0 where
   pub promise-1 : Promise-1

@@ -8,17 +8,19 @@ use native.Mathlib.Omega.{arith}
 use lib.Dec.{ltb, eqb}
 use lib.ListN.{drop}
 use borrow.Author.Tests.{ltb-true, ne-eqb}
+use Rattle.definitions.specs.TokenKind as K
 use Rattle.definitions.specs.Errors as E
 use Rattle.definitions.specs.Token.{Token, seen, trivia, past, one-of, first-in}
 use Rattle.definitions.specs.Skeleton.{Span}
 use Rattle.definitions.specs.Prog.{choose, yes, Rule, less, Prog, act, _⨟_, case}
-use Rattle.definitions.specs.Check.{tell, if_then_else_, bump!, expected, set, silent}
-use Rattle.definitions.specs.Grammar.{INFIX-BUT-TERNARY, Level, ternary-level, binding-power, rhs, infix-levels, infix-turn}
+use Rattle.definitions.specs.Check.{tell, if_then_else_, bump!, expected, set, of-kind, silent}
+use Rattle.definitions.specs.BindingPower.{Level, binary-levels, left-power, right-power, ternary-left, ternary-right}
+use Rattle.definitions.specs.Grammar.{INFIX-BUT-TERNARY, rhs, infix-levels, infix-turn}
 use Rattle.definitions.specs.Run.{truth}
 use Rattle.machine.specs.Machine.{Machine, rest, passed, skip, peek, expect-code}
 use Rattle.machine.specs.Walk.{Walked, said, perform, walk}
 use Rattle.token_rows.specs.Tokens.{SEEN-AT-END, kind-of}
-use Rattle.binding_power.specs.Power.{levels, left-power, right-power, is-binary}
+use Rattle.binding_power.specs.Power.{level-in, worked-out, left-of, right-of, is-binary}
 use Rattle.basics.proofs.Tests.{and-left, and-right}
 use Rattle.expr.specs.Subprograms.{ternary-rhs}
 use Rattle.machine.proofs.Way.{Way, c-walk, c-act, c-ret, c-yes, c-no}
@@ -50,28 +52,18 @@ peek-peek ts m = skipped ts (rest ts m) m refl
 
 -- ---------------------------------------------------------------- a level of a kind
 
--- every left power is above 2
-unfoldable high : List Level → Bool
-high [] = true
-high (l ∷ ls) = ltb 2 (l .left) && high ls
+-- every level has a number above 0
+unfoldable numbered : List Level → Bool
+numbered [] = true
+numbered (l ∷ ls) = ltb 0 (l .number) && numbered ls
 
-binding-power-high : high binding-power ≡ true
-unfolding high
-binding-power-high = refl
-
--- a kind of no level has power 0, and any other more than 2
-high-power : (ls : List Level) (k : ℕ) → high ls ≡ true → eqb (left-power ls k) 0 ≡ false → 2 < left-power ls k
-unfolding high left-power
-high-power [] k h d = absurd (true≢false d)
-high-power (l ∷ ls) k h d = by (one-of (l .kinds) k) d (high-power ls k (and-right (ltb 2 (l .left)) (high ls) h))
-  where
-    by : (b : Bool) → eqb (cond b (l .left) (left-power ls k)) 0 ≡ false → (eqb (left-power ls k) 0 ≡ false → 2 < left-power ls k) → 2 < cond b (l .left) (left-power ls k)
-    by true d r = ltb-true _ _ (and-left (ltb 2 (l .left)) (high ls) h)
-    by false d r = r d
+binary-levels-numbered : numbered binary-levels ≡ true
+unfolding numbered
+binary-levels-numbered = refl
 
 -- past the last token there is no operator
-pub left-end : left-power levels SEEN-AT-END ≡ 0
-unfolding left-power one-of
+pub left-end : left-of SEEN-AT-END ≡ 0
+unfolding left-of one-of level-in
 left-end = refl
 
 -- ---------------------------------------------------------------- a turn, from a machine that has peeked
@@ -79,14 +71,15 @@ left-end = refl
 -- what follows the pushed expectation in a turn over infix operators
 abbrev pub infix-choice : ℕ → Prog
 infix-choice min =
-    if silent (set (ternary-level .kinds)) then (if act (less (ternary-level .left) min) then tell yes else bump! ⨟ ternary-rhs)
-    else infix-levels min binding-power
+    if silent (of-kind K.QuestionMark) then (if act (less ternary-left min) then tell yes else bump! ⨟ ternary-rhs)
+    else infix-levels min binary-levels
 
 module _ (ask : Rule → Machine → Walked) (ts : List Token) (b : Span) (min : ℕ) (m : Machine) where
-  -- an operator with these powers, of a level or the ternary
-  abbrev level-arm : ℕ → ℕ → Walked
-  level-arm l r = cond (eqb l 0) (said yes m) (cond (ltb l min) (said yes m) (walk ask ts b (bump! ⨟ rhs r) m))
+  -- an operator of this level
+  abbrev level-arm : ℕ → Walked
+  level-arm n = cond (eqb n 0) (said yes m) (cond (ltb (left-power n) min) (said yes m) (walk ask ts b (bump! ⨟ rhs (right-power n)) m))
 
+  -- an operator with these powers, of a level or the ternary
   abbrev pub arm : ℕ → ℕ → Walked
   arm l r = cond (eqb l 0) (said yes m) (cond (ltb l min) (said yes m) (cond (eqb l 2) (walk ask ts b (bump! ⨟ ternary-rhs) m) (walk ask ts b (bump! ⨟ rhs r) m)))
 
@@ -111,51 +104,55 @@ module _ (ask : Rule → Machine → Walked) (ts : List Token) (b : Span) (min :
   no-level still e (l ∷ ls) = c-no (looks still (l .kinds) false (ap (first-in (l .kinds)) e)) refl (no-level still e ls)
 
   -- at a token, its level does, or none
-  some-level : peek ts m ≡ m → (t : Token) (l : List Token) → rest ts m ≡ t ∷ l → (ls : List Level) → high ls ≡ true
-      → Way ask ts b (infix-levels min ls) m (level-arm (left-power ls (seen t)) (right-power ls (seen t)))
-  unfolding infix-levels first-in left-power right-power high
+  some-level : peek ts m ≡ m → (t : Token) (l : List Token) → rest ts m ≡ t ∷ l → (ls : List Level) → numbered ls ≡ true
+      → Way ask ts b (infix-levels min ls) m (level-arm (level-in ls (seen t)))
+  unfolding infix-levels first-in level-in numbered
   some-level still t l e [] h = c-ret
-  some-level still t l e (x ∷ ls) h = by (one-of (x .kinds) (seen t)) refl (some-level still t l e ls (and-right (ltb 2 (x .left)) (high ls) h))
+  some-level still t l e (x ∷ ls) h = by (one-of (x .kinds) (seen t)) refl (some-level still t l e ls (and-right (ltb 0 (x .number)) (numbered ls) h))
     where
-      positive : eqb (x .left) 0 ≡ false
-      positive = let q = ltb-true 2 (x .left) (and-left (ltb 2 (x .left)) (high ls) h) in ne-eqb (x .left) 0 (λ z. absurd (omega (arith, q, z)))
+      positive : eqb (x .number) 0 ≡ false
+      positive = let q = ltb-true 0 (x .number) (and-left (ltb 0 (x .number)) (numbered ls) h) in ne-eqb (x .number) 0 (λ z. absurd (omega (arith, q, z)))
 
-      by : (c : Bool) → one-of (x .kinds) (seen t) ≡ c → Way ask ts b (infix-levels min ls) m (level-arm (left-power ls (seen t)) (right-power ls (seen t)))
-          → Way ask ts b (infix-levels min (x ∷ ls)) m (level-arm (cond c (x .left) (left-power ls (seen t))) (cond c (x .right) (right-power ls (seen t))))
+      by : (c : Bool) → one-of (x .kinds) (seen t) ≡ c → Way ask ts b (infix-levels min ls) m (level-arm (level-in ls (seen t)))
+          → Way ask ts b (infix-levels min (x ∷ ls)) m (level-arm (cond c (x .number) (level-in ls (seen t))))
       by true f r =
+          let n = x .number in
           c-yes (looks still (x .kinds) true (ap (first-in (x .kinds)) e ∙ f)) refl
-          (c-walk (ap (λ (c : Bool). cond c (said yes m) (cond (ltb (x .left) min) (said yes m) (walk ask ts b (bump! ⨟ rhs (x .right)) m))) positive ∙ stronger (x .left) (bump! ⨟ rhs (x .right)) .is))
+          (c-walk (ap (λ (c : Bool). cond c (said yes m) (cond (ltb (left-power n) min) (said yes m) (walk ask ts b (bump! ⨟ rhs (right-power n)) m))) positive
+          ∙ stronger (left-power n) (bump! ⨟ rhs (right-power n)) .is))
       by false f r = c-no (looks still (x .kinds) false (ap (first-in (x .kinds)) e ∙ f)) refl r
 
-  -- the ternary has power 2, and no level has
-  apart : (l r : ℕ) → (eqb l 0 ≡ false → 2 < l) → arm l r ≡ level-arm l r
-  apart l r h = by (eqb l 0) refl
+  -- a level's left power is odd, so it is neither 0, which means no operator, nor 2, the ternary's
+  apart : (n : ℕ) → arm (worked-out left-power n) (worked-out right-power n) ≡ level-arm n
+  apart n = by (eqb n 0)
     where
-      by : (c : Bool) → eqb l 0 ≡ c
-          → cond c (said yes m) (cond (ltb l min) (said yes m) (cond (eqb l 2) (walk ask ts b (bump! ⨟ ternary-rhs) m) (walk ask ts b (bump! ⨟ rhs r) m)))
-          ≡ cond c (said yes m) (cond (ltb l min) (said yes m) (walk ask ts b (bump! ⨟ rhs r) m))
-      by true e = refl
-      by false e =
-          let q = h e in
-          ap (λ (c : Bool). cond (ltb l min) (said yes m) (cond c (walk ask ts b (bump! ⨟ ternary-rhs) m) (walk ask ts b (bump! ⨟ rhs r) m))) (ne-eqb l 2 (λ z. absurd (omega (arith, q, z))))
+      by : (c : Bool) → arm (cond c 0 (left-power n)) (cond c 0 (right-power n))
+          ≡ cond c (said yes m) (cond (ltb (left-power n) min) (said yes m) (walk ask ts b (bump! ⨟ rhs (right-power n)) m))
+      by true = refl
+      by false =
+          let tern = walk ask ts b (bump! ⨟ ternary-rhs) m in
+          let other = walk ask ts b (bump! ⨟ rhs (right-power n)) m in
+          let inner = λ (c : Bool). cond (ltb (left-power n) min) (said yes m) (cond c tern other) in
+          ap (λ (c : Bool). cond c (said yes m) (inner (eqb (left-power n) 2))) (ne-eqb (left-power n) 0 (λ z. absurd (omega (arith, z))))
+          ∙ ap inner (ne-eqb (left-power n) 2 (λ z. absurd (omega (arith, z))))
 
   -- at a token: the ternary, or its level
-  choice-token : peek ts m ≡ m → (t : Token) (l : List Token) → rest ts m ≡ t ∷ l → (c : Bool) → one-of (ternary-level .kinds) (seen t) ≡ c
-      → Way ask ts b (infix-choice min) m (arm (cond c (ternary-level .left) (left-power binding-power (seen t))) (cond c (ternary-level .right) (right-power binding-power (seen t))))
-  unfolding first-in
-  choice-token still t l e true f = c-yes (looks still (ternary-level .kinds) true (ap (first-in (ternary-level .kinds)) e ∙ f)) refl (stronger (ternary-level .left) (bump! ⨟ ternary-rhs))
+  choice-token : peek ts m ≡ m → (t : Token) (l : List Token) → rest ts m ≡ t ∷ l → (c : Bool) → one-of (K.QuestionMark ∷ []) (seen t) ≡ c
+      → Way ask ts b (infix-choice min) m
+      (arm (cond c ternary-left (worked-out left-power (level-in binary-levels (seen t)))) (cond c ternary-right (worked-out right-power (level-in binary-levels (seen t)))))
+  unfolding first-in silent
+  choice-token still t l e true f = c-yes (looks still (K.QuestionMark ∷ []) true (ap (first-in (K.QuestionMark ∷ [])) e ∙ f)) refl (stronger ternary-left (bump! ⨟ ternary-rhs))
   choice-token still t l e false f =
-      let k = seen t in
-      c-no (looks still (ternary-level .kinds) false (ap (first-in (ternary-level .kinds)) e ∙ f)) refl
-      (c-walk (apart (left-power binding-power k) (right-power binding-power k) (high-power binding-power k binding-power-high) ∙ some-level still t l e binding-power binding-power-high .is))
+      c-no (looks still (K.QuestionMark ∷ []) false (ap (first-in (K.QuestionMark ∷ [])) e ∙ f)) refl
+      (c-walk (apart (level-in binary-levels (seen t)) ∙ some-level still t l e binary-levels binary-levels-numbered .is))
 
-  choice-at : peek ts m ≡ m → (l : List Token) → rest ts m ≡ l → Way ask ts b (infix-choice min) m (arm (left-power levels (kind-of l)) (right-power levels (kind-of l)))
-  unfolding left-power right-power kind-of first-in one-of
-  choice-at still [] e = c-no (looks still (ternary-level .kinds) false (ap (first-in (ternary-level .kinds)) e)) refl (no-level still e binding-power)
-  choice-at still (t ∷ l) e = choice-token still t l e (one-of (ternary-level .kinds) (seen t)) refl
+  choice-at : peek ts m ≡ m → (l : List Token) → rest ts m ≡ l → Way ask ts b (infix-choice min) m (arm (left-of (kind-of l)) (right-of (kind-of l)))
+  unfolding left-of right-of level-in kind-of first-in one-of silent
+  choice-at still [] e = c-no (looks still (K.QuestionMark ∷ []) false (ap (first-in (K.QuestionMark ∷ [])) e)) refl (no-level still e binary-levels)
+  choice-at still (t ∷ l) e = choice-token still t l e (one-of (K.QuestionMark ∷ []) (seen t)) refl
 
   -- which arm a turn takes
-  pub choice : peek ts m ≡ m → Way ask ts b (infix-choice min) m (arm (left-power levels (kind-of (rest ts m))) (right-power levels (kind-of (rest ts m))))
+  pub choice : peek ts m ≡ m → Way ask ts b (infix-choice min) m (arm (left-of (kind-of (rest ts m))) (right-of (kind-of (rest ts m))))
   choice still = choice-at still (rest ts m) refl
 
 -- ---------------------------------------------------------------- a turn, as the code finds the operator
@@ -170,18 +167,18 @@ still : (ts : List Token) (m x : Machine) → x ≡ peek ts m → peek ts x ≡ 
 still ts m x e = ap (peek ts) e ∙ peek-peek ts m ∙ sym e
 
 module _ {ask : Rule → Machine → Walked} {ts : List Token} {b : Span} {m x : Machine} (min l r : ℕ)
-    (ex : x ≡ peek ts (expect-code E.InfixOperator m)) (el : l ≡ left-power levels (kind-of (rest ts x))) (er : r ≡ right-power levels (kind-of (rest ts x))) where
+    (ex : x ≡ peek ts (expect-code E.InfixOperator m)) (el : l ≡ left-of (kind-of (rest ts x))) (er : r ≡ right-of (kind-of (rest ts x))) where
   turn : Way ask ts b (infix-turn min) m (arm ask ts b min x l r)
   unfolding infix-turn walk perform
   turn =
-      let none = if act (less (ternary-level .left) min) then tell yes else bump! ⨟ ternary-rhs in
+      let none = if act (less ternary-left min) then tell yes else bump! ⨟ ternary-rhs in
       record {
         is =
             ap (λ (k : ℕ). arm ask ts b min x k r) el
-            ∙ ap (arm ask ts b min x (left-power levels (kind-of (rest ts x)))) er
+            ∙ ap (arm ask ts b min x (left-of (kind-of (rest ts x)))) er
             ∙ choice ask ts b min x (still ts (expect-code E.InfixOperator m) x ex) .is
             ∙ ap (walk ask ts b (infix-choice min)) ex
-            ∙ silent-peeked ask ts b (ternary-level .kinds) (infix-levels min binding-power) none none (expect-code E.InfixOperator m);
+            ∙ silent-peeked ask ts b (K.QuestionMark ∷ []) (infix-levels min binary-levels) none none (expect-code E.InfixOperator m);
       }
 
   -- no operator; one that binds too weakly; the ternary; any other

@@ -4,7 +4,8 @@ use Rattle.definitions.specs.NodeKind as N
 use Rattle.definitions.specs.Errors as E
 use Rattle.definitions.specs.Prog.{no, yes, expr-binding-power, Prog, ret, _⨟_, in-marker, open-call}
 use Rattle.definitions.specs.Check.{tell, if_then_else_, _and_, in-node, bump!, expected, error, error!, error-wrap!, set, of-kind, silent, expect}
-use Rattle.definitions.specs.Grammar.{INFIX-BUT-TERNARY, PREFIX-OPERATORS-SET, prefix-power, ternary-level, rhs}
+use Rattle.definitions.specs.BindingPower.{ternary-right, prefix-power}
+use Rattle.definitions.specs.Grammar.{INFIX-BUT-TERNARY, PREFIX-OPERATORS-SET, rhs}
 
 -- `PrefixOp::at`
 abbrev pub at-prefix-op : Prog
@@ -34,4 +35,4 @@ no-lhs =
 
 -- after the question mark
 abbrev pub ternary-rhs : Prog
-ternary-rhs = if open-call (expr-binding-power 0) and expect (of-kind K.Colon) then rhs (ternary-level .right) else ret N.InfixExpr yes
+ternary-rhs = if open-call (expr-binding-power 0) and expect (of-kind K.Colon) then rhs ternary-right else ret N.InfixExpr yes

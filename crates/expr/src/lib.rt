@@ -30,7 +30,7 @@ ghost use Rattle.definitions.specs.Grammar.{lhs as lhs-prog, rhs as rhs-prog, i
 ghost use Rattle.machine.specs.Machine.{expect-code, peek};
 ghost use Rattle.token_rows.specs.Tokens.{kind-of};
 ghost use Rattle.parser.specs.View.{tokens-left, parser-view, parser-tested, marker-of, opens-within, parser-looks, parser-moves, walks-within, parser-says, leaving, entering};
-ghost use Rattle.binding_power.specs.Power.{levels, left-power, right-power, is-binary};
+ghost use Rattle.binding_power.specs.Power.{left-of, right-of, is-binary};
 ghost use Rattle.expr.specs.Subprograms.{at-prefix-op, prefix-expr, paren-expr, literal-expr, missing-lhs, no-lhs, ternary-rhs};
 ghost use Rattle.expr.specs.Chain.{turn-as, links-from};
 
@@ -55,9 +55,9 @@ fn infix_op_at(p: Parser, tokens: &[u32]) -> InfixOp
     ensures { λ r. ⌜ ((events reports pool : List ℕ) → parser-view (r .p) events reports pool
         ≡ peek (tokens-of (now (tokens .entry))) (expect-code E.InfixOperator (parser-view p events reports pool))) ⌝ }
     ensures { λ r. ⌜ r .left
-        ≡ left-power levels (kind-of (drop (r .p .s .cursor .0) (tokens-of (now (tokens .entry))))) ⌝ }
+        ≡ left-of (kind-of (drop (r .p .s .cursor .0) (tokens-of (now (tokens .entry))))) ⌝ }
     ensures { λ r. ⌜ r .right
-        ≡ right-power levels (kind-of (drop (r .p .s .cursor .0) (tokens-of (now (tokens .entry))))) ⌝ }
+        ≡ right-of (kind-of (drop (r .p .s .cursor .0) (tokens-of (now (tokens .entry))))) ⌝ }
     ensures { λ r. ⌜ r .binary ≡ is-binary (kind-of (drop (r .p .s .cursor .0) (tokens-of (now (tokens .entry))))) ⌝ }
     ensures { λ r. ⌜ tokens-left (now (tokens .entry)) (r .p .s) ≤ tokens-left (now (tokens .entry)) (p .s) ⌝ }
     ensures { λ r. ⌜ ((r .left ≡ 0 → ⊥) → 0 < tokens-left (now (tokens .entry)) (r .p .s)) ⌝ }

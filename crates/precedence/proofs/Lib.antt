@@ -14,7 +14,8 @@
 --    one of the strict setting, whose mark is a Name's first token: the Name stands before the cell or after it, or a
 --    node of the cell judges it, and no node of an expression does. ReportRows, TreeRows: from rows to reports, Names
 --    and nodes. Theorem: the statements, and a bracket without a partner.
--- 5. What guards the statements: Examples (computed), Witnesses (their premises can be met), Refutations (wrong answers
+-- 5. Listed, for itself: the powers are those of document 01's list.
+-- 6. What guards the statements: Examples (computed), Witnesses (their premises can be met), Refutations (wrong answers
 --    do not pass).
 pub mod Pratt
 pub mod Tables
@@ -48,6 +49,7 @@ pub mod Unjudged
 pub mod ReportRows
 pub mod TreeRows
 pub mod Theorem
+pub mod Listed
 pub mod Examples
 pub mod Witnesses
 pub mod Refutations

@@ -12,7 +12,8 @@ use Rattle.definitions.specs.Errors as E
 use Rattle.definitions.specs.Token.{Token, seen, drop-trivia, one-of, first-in}
 use Rattle.definitions.specs.Prog.{Ans, no, yes, Rule, expr-binding-power, Prog, ret, _⨟_, in-marker, open-call}
 use Rattle.definitions.specs.Check.{tell, if_then_else_, in-node, bump!, expected, error, error!, error-wrap!, of-kind, set, silent, at, expect}
-use Rattle.definitions.specs.Grammar.{macro-invocation, prefix-power, PREFIX-OPERATORS-SET, INFIX-BUT-TERNARY, lhs}
+use Rattle.definitions.specs.BindingPower.{prefix-power}
+use Rattle.definitions.specs.Grammar.{macro-invocation, PREFIX-OPERATORS-SET, INFIX-BUT-TERNARY, lhs}
 use Rattle.definitions.specs.Skeleton.{Label, Skeleton, done, token, _⧺_}
 use Rattle.definitions.specs.Run.{State, Out, mark-of, truth, makes, taken, add, closed, marked}
 use Rattle.definitions.specs.C.{Symbol, symbols, Expr, bracketed, prefix}

@@ -6,7 +6,8 @@ use lib.Dec.{ltb}
 use lib.ListN.{length}
 use Rattle.definitions.specs.TokenKind as K
 use Rattle.definitions.specs.Token.{one-of}
-use Rattle.definitions.specs.Grammar.{Level, ternary-level, binding-power, prefix-power, PREFIX-OPERATORS-SET}
+use Rattle.definitions.specs.BindingPower.{Level, binary-levels, left-power, right-power, ternary-left, ternary-right, prefix-power}
+use Rattle.definitions.specs.Grammar.{PREFIX-OPERATORS-SET}
 use Rattle.definitions.specs.C.{Symbol, plain, arguments, Change, opens, closes, keeps, change, Expr, literal, name, invocation, bracketed, prefix, binary, ternary}
 
 -- ----------------------------------------------------- what a symbol is, where an operand and where an operator is due
@@ -36,12 +37,12 @@ pub data Operator : Type 0 where
 unfoldable pub level-of : List Level → ℕ → Operator
 unfolding one-of
 level-of [] k = none
-level-of (l ∷ ls) k = let r = level-of ls k in cond (one-of (l .kinds) k) (binds k (l .left) (l .right)) r
+level-of (l ∷ ls) k = let r = level-of ls k in cond (one-of (l .kinds) k) (binds k (left-power (l .number)) (right-power (l .number))) r
 
 -- the tests of `infix-turn`, in its order
 unfoldable pub operator : Symbol → Operator
 unfolding one-of level-of
-operator (plain k) = cond (one-of (ternary-level .kinds) k) asks (level-of binding-power k)
+operator (plain k) = cond (one-of (K.QuestionMark ∷ []) k) asks (level-of binary-levels k)
 operator arguments = none
 
 unfoldable pub is : ℕ → Symbol → Bool
@@ -131,10 +132,10 @@ bind-if false more rec e k r vs us = bind (rec r us) (λ f ws. more (binary e k 
 abbrev pub ask-if : Bool → (Expr → List Symbol → Res) → Reader → Expr → List Symbol → List Symbol → Res
 ask-if true more rec e vs us = done e vs
 ask-if false more rec e vs us =
-    bind (rec 0 us) (λ a ws. expect K.Colon ws (λ xs. bind (rec (ternary-level .right) xs) (λ b ys. more (ternary e a b) ys)))
+    bind (rec 0 us) (λ a ws. expect K.Colon ws (λ xs. bind (rec ternary-right xs) (λ b ys. more (ternary e a b) ys)))
 
 abbrev pub step-by : Operator → (Expr → List Symbol → Res) → Reader → ℕ → Expr → Symbol → List Symbol → Res
-step-by asks more rec m e x us = ask-if (ltb (ternary-level .left) m) more rec e (x ∷ us) us
+step-by asks more rec m e x us = ask-if (ltb ternary-left m) more rec e (x ∷ us) us
 step-by (binds k l r) more rec m e x us = bind-if (ltb l m) more rec e k r (x ∷ us) us
 step-by none more rec m e x us = done e (x ∷ us)
 

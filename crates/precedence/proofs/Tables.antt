@@ -8,7 +8,8 @@ use lib.Dec.{leb, eqb, ltb}
 use borrow.Author.Tests.{ltb-true, ltb-false, leb-true, eqb-true, eqb-false, ne-eqb}
 use Rattle.definitions.specs.TokenKind as K
 use Rattle.definitions.specs.Token.{one-of}
-use Rattle.definitions.specs.Grammar.{Level, ternary-level, binding-power, PREFIX-OPERATORS-SET}
+use Rattle.definitions.specs.BindingPower.{Level, binary-levels}
+use Rattle.definitions.specs.Grammar.{PREFIX-OPERATORS-SET}
 use Rattle.definitions.specs.C.{Symbol, plain, arguments, Line, table, line-in, line-of, prefix-operators}
 use Rattle.precedence.specs.Tables.{Levels, None-has, Tables-agree}
 use Rattle.precedence.proofs.Pratt.{Operand, prefixes, brackets, names, literals, nothing, operand, Operator, asks, binds, none, level-of, operator, is}
@@ -87,7 +88,7 @@ agree-small = refl
 agree-large : (k : ℕ) → K.QuestionMark < k → agree-at k ≡ true
 unfolding agree-at agree operator small small-rows small-levels
 agree-large k l =
-    rw (one-of-large (ternary-level .kinds) k refl l, level-large binding-power k refl l, number-large table k refl l)
+    rw (one-of-large (K.QuestionMark ∷ []) k refl l, level-large binary-levels k refl l, number-large table k refl l)
 
 agrees : (k : ℕ) → agree-at k ≡ true
 agrees k = go (ltb k (suc K.QuestionMark)) refl
@@ -205,7 +206,7 @@ is-kind k arguments h = absurd (false≢true h)
 
 -- ---------------------------------------------------------------- the statement of specs/Tables.antt
 
-rows-agree : Levels binding-power
+rows-agree : Levels binary-levels
 unfolding line-in one-of
 rows-agree = (omega arith, (omega arith, (omega arith, (omega arith, (omega arith, (omega arith, (omega arith, (omega arith, (omega arith, (omega arith, tt))))))))))
 
@@ -218,11 +219,11 @@ none-by : (k : ℕ) (b : Bool) → OperatorOf k (cond b asks none) → line-of k
 none-by k true h = h .1
 none-by k false h = h
 
-unlisted : (k : ℕ) → None-has binding-power k → line-of k ≡ 0
+unlisted : (k : ℕ) → None-has binary-levels k → line-of k ≡ 0
 unfolding operator
 unlisted k h =
-    none-by k (one-of (ternary-level .kinds) k)
-    (subst (λ (x : Operator). OperatorOf k (cond (one-of (ternary-level .kinds) k) asks x)) (level-none binding-power k h) (operator-of k))
+    none-by k (one-of (K.QuestionMark ∷ []) k)
+    (subst (λ (x : Operator). OperatorOf k (cond (one-of (K.QuestionMark ∷ []) k) asks x)) (level-none binary-levels k h) (operator-of k))
 
 -- THE TWO TABLES AGREE
 pub tables-agree : Tables-agree

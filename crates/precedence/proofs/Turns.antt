@@ -12,7 +12,8 @@ use Rattle.definitions.specs.NodeKind as N
 use Rattle.definitions.specs.Token.{Token, seen, drop-trivia, one-of, first-in}
 use Rattle.definitions.specs.Prog.{no, yes, again, Rule, expr-binding-power, less, Prog, ret, act, _⨟_, open-call}
 use Rattle.definitions.specs.Check.{tell, if_then_else_, _and_, bump!, of-kind, silent, expect}
-use Rattle.definitions.specs.Grammar.{Level, ternary-level, binding-power, rhs, infix-levels, infix-turn}
+use Rattle.definitions.specs.BindingPower.{Level, binary-levels, left-power, right-power, ternary-left, ternary-right}
+use Rattle.definitions.specs.Grammar.{rhs, infix-levels, infix-turn}
 use Rattle.definitions.specs.Skeleton.{Label, Skeleton, done, _⧺_}
 use Rattle.definitions.specs.Run.{State, Out, truth, replies, makes, taken, add}
 use Rattle.definitions.specs.C.{Symbol, symbols, Expr, binary, ternary}
@@ -43,14 +44,14 @@ abbrev pub middle : Res → Res
 middle x = bind x (λ a ws. P.expect K.Colon ws (λ xs. P.done a xs))
 
 abbrev pub ask-turn : Reader → Expr → List Symbol → Res
-ask-turn rec e us = bind (middle (rec 0 us)) (λ a xs. bind (rec (ternary-level .right) xs) (λ b ys. P.done (ternary e a b) ys))
+ask-turn rec e us = bind (middle (rec 0 us)) (λ a xs. bind (rec ternary-right xs) (λ b ys. P.done (ternary e a b) ys))
 
 abbrev pub kept-out : Bool → Res → Turned
 kept-out true x = stops
 kept-out false x = goes x
 
 abbrev pub turn-by : Operator → Reader → ℕ → Expr → List Symbol → Turned
-turn-by asks rec m e us = kept-out (ltb (ternary-level .left) m) (ask-turn rec e us)
+turn-by asks rec m e us = kept-out (ltb ternary-left m) (ask-turn rec e us)
 turn-by (binds k l r) rec m e us = kept-out (ltb l m) (bind-turn rec e k r us)
 turn-by none rec m e us = stops
 
@@ -249,7 +250,7 @@ module _ (ask : Rule → State → Out) (b : Label) (rec : Reader)
   ask-by spent o d = ends-any ask b (λ o′. tt)
 
   ask-turns : (to : State) → Stands to → to .since ≡ s .since
-      → Ends ask b (bump! ⨟ if open-call (expr-binding-power 0) and expect (of-kind K.Colon) then rhs (ternary-level .right) else ret N.InfixExpr yes) to
+      → Ends ask b (bump! ⨟ if open-call (expr-binding-power 0) and expect (of-kind K.Colon) then rhs ternary-right else ret N.InfixExpr yes) to
       (Turns s e (goes (ask-turn rec e (symbols false ts))))
   ask-turns to st si =
       after-bump ask b t ts st (ap drop-trivia si ∙ next) (branch ask b middle-follows (ask-by (middle (rec 0 (symbols false ts)))))
@@ -282,23 +283,23 @@ module _ (ask : Rule → State → Out) (b : Label) (rec : Reader)
       by : (x : Bool)
           → ((u : State) → Stands u → u .since ≡ s .since → Ends ask b (infix-levels m ls) u (Turns s e (turn-by (level-of ls (seen t)) rec m e (symbols false ts))))
           → Onward to (λ u.
-          Ends ask b (pick (truth x) (infix-levels m ls) (if act (less (l .left) m) then tell yes else bump! ⨟ rhs (l .right)) (if act (less (l .left) m) then tell yes else bump! ⨟ rhs (l .right))) u
-          (Turns s e (turn-by (cond x (binds (seen t) (l .left) (l .right)) (level-of ls (seen t))) rec m e (symbols false ts))))
+          Ends ask b (pick (truth x) (infix-levels m ls) (if act (less (left-power (l .number)) m) then tell yes else bump! ⨟ rhs (right-power (l .number))) (if act (less (left-power (l .number)) m) then tell yes else bump! ⨟ rhs (right-power (l .number)))) u
+          (Turns s e (turn-by (cond x (binds (seen t) (left-power (l .number)) (right-power (l .number))) (level-of ls (seen t))) rec m e (symbols false ts))))
       by true f u g i =
-          checked (bump! ⨟ rhs (l .right)) (bind-turn rec e (seen t) (l .right) (symbols false ts)) (l .left) m
-          (λ v j k. bind-turns v j k (seen t) (l .right)) u g (i ∙ si)
+          checked (bump! ⨟ rhs (right-power (l .number))) (bind-turn rec e (seen t) (right-power (l .number)) (symbols false ts)) (left-power (l .number)) m
+          (λ v j k. bind-turns v j k (seen t) (right-power (l .number))) u g (i ∙ si)
       by false f u g i = f u g (i ∙ si)
 
   -- what `infix-turn` does after its expectation
   ternary-turn : (m : ℕ) (x : Bool) → Onward s (λ u.
       Ends ask b
-      (pick (truth x) (infix-levels m binding-power)
-      (if act (less (ternary-level .left) m) then tell yes else bump! ⨟ if open-call (expr-binding-power 0) and expect (of-kind K.Colon) then rhs (ternary-level .right) else ret N.InfixExpr yes)
-      (if act (less (ternary-level .left) m) then tell yes else bump! ⨟ if open-call (expr-binding-power 0) and expect (of-kind K.Colon) then rhs (ternary-level .right) else ret N.InfixExpr yes)) u
-      (Turns s e (turn-by (cond x asks (level-of binding-power (seen t))) rec m e (symbols false ts))))
+      (pick (truth x) (infix-levels m binary-levels)
+      (if act (less ternary-left m) then tell yes else bump! ⨟ if open-call (expr-binding-power 0) and expect (of-kind K.Colon) then rhs ternary-right else ret N.InfixExpr yes)
+      (if act (less ternary-left m) then tell yes else bump! ⨟ if open-call (expr-binding-power 0) and expect (of-kind K.Colon) then rhs ternary-right else ret N.InfixExpr yes)) u
+      (Turns s e (turn-by (cond x asks (level-of binary-levels (seen t))) rec m e (symbols false ts))))
   ternary-turn m true u g i =
-      checked (bump! ⨟ if open-call (expr-binding-power 0) and expect (of-kind K.Colon) then rhs (ternary-level .right) else ret N.InfixExpr yes) (ask-turn rec e (symbols false ts)) (ternary-level .left) m ask-turns u g i
-  ternary-turn m false u g i = levels-turn m binding-power u g i
+      checked (bump! ⨟ if open-call (expr-binding-power 0) and expect (of-kind K.Colon) then rhs ternary-right else ret N.InfixExpr yes) (ask-turn rec e (symbols false ts)) ternary-left m ask-turns u g i
+  ternary-turn m false u g i = levels-turn m binary-levels u g i
 
   -- an Ident is not an operator, so that what stands directly after it is not looked at
   apart : (m : ℕ) (x : Bool) → eqb (seen t) K.Ident ≡ x
@@ -314,8 +315,8 @@ module _ (ask : Rule → State → Out) (b : Label) (rec : Reader)
       (rw (apart m (eqb (seen t) K.Ident) refl)
       (after-test ask b (test-expected ask b h)
       λ to st si.
-      on-test ask b (silent-is ask b (t ∷ ts) (one-of (ternary-level .kinds) (seen t)) st (ap drop-trivia si ∙ next) refl)
-      (λ to′ st′ si′. ternary-turn m (one-of (ternary-level .kinds) (seen t)) to′ st′ (si′ ∙ si))))
+      on-test ask b (silent-is ask b (t ∷ ts) (one-of (K.QuestionMark ∷ []) (seen t)) st (ap drop-trivia si ∙ next) refl)
+      (λ to′ st′ si′. ternary-turn m (one-of (K.QuestionMark ∷ []) (seen t)) to′ st′ (si′ ∙ si))))
 
 -- at the end of the input
 module _ (ask : Rule → State → Out) (b : Label) where
@@ -330,7 +331,7 @@ module _ (ask : Rule → State → Out) (b : Label) where
   end-turns m s h e =
       after-test ask b (test-expected ask b h)
       λ to st si.
-      on-test ask b (silent-is ask b [] false st (ap drop-trivia si ∙ e) refl) (λ u g i. levels-end m binding-power s u g (i ∙ si) e)
+      on-test ask b (silent-is ask b [] false st (ap drop-trivia si ∙ e) refl) (λ u g i. levels-end m binary-levels s u g (i ∙ si) e)
 
   -- `infix-turn` does what the reader's turn does
   pub turns : (rec : Reader)

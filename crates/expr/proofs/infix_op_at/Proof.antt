@@ -1,11 +1,11 @@
--- `infix_op_at` pushes the expectation and peeks, and reads the powers of the kind that it sees off the table.
+-- `infix_op_at` pushes the expectation and peeks, and reads the powers of the kind that it sees by it.
 use mathlib.Core.Path.{_∙_, ap}
 use native.Mathlib.Omega.{arith}
 use Rattle.definitions.specs.Token.{tokens-of}
 use Rattle.machine.specs.Machine.{peek}
 use Rattle.machine.specs.Walk.{Walked, perform, unlabelled}
 use Rattle.parser.specs.View.{tokens-left}
-use Rattle.binding_power.specs.Power.{levels, left-power, right-power, is-binary}
+use Rattle.binding_power.specs.Power.{left-of, right-of, is-binary}
 use Rattle.expr.proofs.Levels.{left-end}
 use borrow.Author.Needs.{needs}
 use Rattle.expr.proofs.infix_op_at.Statement.{statement}
@@ -34,14 +34,14 @@ returns c =
     let tokens = s′ .args .tokens .now in (
       λ events reports pool. peek′ .ensures .0 events reports pool ∙ ap (λ (w : Walked). peek (tokens-of tokens) (w .on)) (add-expected′ .ensures .0 (tokens-of tokens) unlabelled events reports pool),
       (
-        binding-power′ .ensures .0 ∙ ap (left-power levels) (kind-at′ .ensures .0),
+        binding-power′ .ensures .0 ∙ ap left-of (kind-at′ .ensures .0),
         (
-          binding-power′ .ensures .1 .0 ∙ ap (right-power levels) (kind-at′ .ensures .0),
+          binding-power′ .ensures .1 .0 ∙ ap right-of (kind-at′ .ensures .0),
           (
             binding-power′ .ensures .1 .1 ∙ ap is-binary (kind-at′ .ensures .0),
             (
               omega (arith, add-expected′ .ensures .1 tokens, peek′ .ensures .1),
-              λ some. let h = kind-at′ .ensures .1 (λ e. some (binding-power′ .ensures .0 ∙ ap (left-power levels) e ∙ left-end)) in omega (arith, h),
+              λ some. let h = kind-at′ .ensures .1 (λ e. some (binding-power′ .ensures .0 ∙ ap left-of e ∙ left-end)) in omega (arith, h),
             ),
           ),
         ),
