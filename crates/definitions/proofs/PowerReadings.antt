@@ -2,34 +2,37 @@
 -- the words and, since "no answer changes", from C's table; the reason stands above each.
 use Prim.Native.Nat.{ℕ}
 use mathlib.Core.Path.{_≡_, refl}
+use mathlib.Core.Bool.{cond}
 use mathlib.Core.List.{List, [], _∷_, _++_}
+use lib.Dec.{eqb}
 use lib.ListN.{replicate}
+use Rattle.definitions.specs.Layout.{NODE, LEAF}
 use Rattle.definitions.specs.TokenKind as K
 use Rattle.definitions.specs.NodeKind as N
 use Rattle.definitions.specs.Rules.{ascii}
-use Rattle.definitions.specs.Text.{text-call}
+use Rattle.definitions.specs.Call.{call}
 use Rattle.definitions.proofs.Readings.{sevens}
 
 -- ---------------------------------------------------------------- rows
 
 -- kind and width
 abbrev pub leaf : ℕ → ℕ → List ℕ
-leaf k w = 1 ∷ k ∷ w ∷ 1 ∷ []
+leaf k w = LEAF ∷ k ∷ w ∷ 1 ∷ []
 
 -- an operand of one digit
 abbrev pub digit : List ℕ
-digit = 0 ∷ N.LiteralExpr ∷ 1 ∷ 1 ∷ leaf K.Number 1
+digit = NODE ∷ N.LiteralExpr ∷ 1 ∷ 1 ∷ leaf K.Number 1
 
 -- the row of an operator's node, by its width: two operands, or three
 abbrev pub binary : ℕ → List ℕ
-binary w = 0 ∷ N.InfixExpr ∷ w ∷ 3 ∷ []
+binary w = NODE ∷ N.InfixExpr ∷ w ∷ 3 ∷ []
 
 abbrev pub ternary : ℕ → List ℕ
-ternary w = 0 ∷ N.InfixExpr ∷ w ∷ 5 ∷ []
+ternary w = NODE ∷ N.InfixExpr ∷ w ∷ 5 ∷ []
 
 -- a cell of this width with its brackets, under the root of entry 4
 abbrev pub cell : ℕ → List ℕ → List ℕ
-cell w rows = 0 ∷ N.EntryCells ∷ w ∷ 1 ∷ 0 ∷ N.DtExpr ∷ w ∷ 3 ∷ leaf K.LParen 1 ++ rows ++ leaf K.RParen 1
+cell w rows = NODE ∷ N.EntryCells ∷ w ∷ 1 ∷ NODE ∷ N.DtExpr ∷ w ∷ 3 ∷ leaf K.LParen 1 ++ rows ++ leaf K.RParen 1
 
 -- ---------------------------------------------------------------- readings
 
@@ -85,15 +88,23 @@ power-readings =
     ++ binary 4 ++ digit ++ leaf K.LogicalOr 2 ++ digit)
     -- a prefix, 23, is above level 10
     ∷ ascii "(-1*2)"
-    has cell 6 (binary 4 ++ 0 ∷ N.PrefixExpr ∷ 2 ∷ 2 ∷ leaf K.Minus 1 ++ digit ++ leaf K.Asterisk 1 ++ digit)
+    has cell 6 (binary 4 ++ NODE ∷ N.PrefixExpr ∷ 2 ∷ 2 ∷ leaf K.Minus 1 ++ digit ++ leaf K.Asterisk 1 ++ digit)
     ∷ []
+
+-- the tokens: nothing is lost, so they are the leaves in order
+abbrev pub token-rows : List ℕ → List ℕ
+token-rows [] = []
+token-rows (c ∷ []) = []
+token-rows (c ∷ k ∷ []) = []
+token-rows (c ∷ k ∷ w ∷ []) = []
+token-rows (c ∷ k ∷ w ∷ n ∷ l) = let r = token-rows l in cond (eqb c LEAF) (k ∷ w ∷ r) r
 
 -- what the tree buffer holds in the end, if it has room for these rows and there is none for a report
 unfoldable pub tree-buffers : List Power-reading → List (List ℕ)
-unfolding text-call
+unfolding call
 tree-buffers [] = []
 tree-buffers (r ∷ rs) =
-    text-call 4 0 (r .text) (replicate 50 7) (record { events = replicate 300 7; trees = sevens (r .rows); errors = []; reports = []; pool = [] }) .buffers .trees
+    call 4 0 (r .text) (token-rows (r .rows)) (record { events = replicate 300 7; trees = sevens (r .rows); errors = []; reports = []; pool = [] }) .buffers .trees
     ∷ tree-buffers rs
 
 unfoldable pub tree-rows : List Power-reading → List (List ℕ)

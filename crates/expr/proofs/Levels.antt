@@ -132,7 +132,7 @@ module _ (ask : Rule → Machine → Walked) (ts : List Token) (b : Span) (min :
       by false =
           let tern = walk ask ts b (bump! ⨟ ternary-rhs) m in
           let other = walk ask ts b (bump! ⨟ rhs (right-power n)) m in
-          let inner = λ (c : Bool). cond (ltb (left-power n) min) (said yes m) (cond c tern other) in
+          let inner : Bool → Walked = λ c. cond (ltb (left-power n) min) (said yes m) (cond c tern other) in
           ap (λ (c : Bool). cond c (said yes m) (inner (eqb (left-power n) 2))) (ne-eqb (left-power n) 0 (λ z. absurd (omega (arith, z))))
           ∙ ap inner (ne-eqb (left-power n) 2 (λ z. absurd (omega (arith, z))))
 
