@@ -87,9 +87,9 @@ module _ (k n : ℕ) (small : k < 256) (other : eqb k K.QuestionMark ≡ false) 
   pub level-powers : (none : Bool) → eqb n 0 ≡ none → Powers-are k (cond none 0 (left-power n)) (cond none 0 (right-power n)) (cond none false true)
   unfolding left-of right-of
   level-powers none z = (
-        ap (λ (b : Bool). cond b 0 (left-power n)) (sym z) ∙ from-level 2 left-power,
-        (
-          ap (λ (b : Bool). cond b 0 (right-power n)) (sym z) ∙ from-level 1 right-power,
-          ap (λ (b : Bool). cond b false true) (sym z) ∙ binary-level,
-        ),
-      )
+    ap (λ (b : Bool). cond b 0 (left-power n)) (sym z) ∙ from-level 2 left-power,
+    (
+      ap (λ (b : Bool). cond b 0 (right-power n)) (sym z) ∙ from-level 1 right-power,
+      ap (λ (b : Bool). cond b false true) (sym z) ∙ binary-level,
+    ),
+  )
