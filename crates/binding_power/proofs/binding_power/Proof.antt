@@ -1,5 +1,6 @@
 -- `binding_power` works the powers out from the level.
 use mathlib.Core.Bool.{true, false}
+use native.Mathlib.Omega.{arith}
 use Rattle.binding_power.proofs.Powers.{level-small, ternary-powers, level-powers}
 use borrow.Author.Needs.{needs}
 use Rattle.binding_power.proofs.binding_power.Statement.{statement}
@@ -41,7 +42,8 @@ returns-3 : tie.Need-returns-3
 returns-3 c =
     let s = c .before .before .before in
     let level′ = c .before .level in
-    level-powers (s .args .k) (level′ .result) (s .fits .k .fits) (c .before .before .if1 .left) (level′ .ensures) false (c .if2 .left)
+    let powers = level-powers (s .args .k) (level′ .result) (s .fits .k .fits) (c .before .before .if1 .left) (level′ .ensures) false (c .if2 .left) in
+    (omega (arith, powers .0), (omega (arith, powers .1 .0), powers .1 .1))
 
 pub binding-power-spec : {M : Type 1} → statement M
 binding-power-spec =
