@@ -1,6 +1,6 @@
 #!/bin/sh
 # Puts one fault after another into the library (faults/) and sees that the fuzzer finds it: 1 to 30 in calls over token
-# rows, 31 to 60 in calls over texts. With numbers as arguments those faults alone.
+# rows, 31 to 60 in calls over texts, 61 to 63 in expressions. With numbers as arguments those faults alone.
 set -eu
 here=$(cd "$(dirname "$0")" && pwd)
 good=$("$here/../tools/static-library")
@@ -19,7 +19,7 @@ missed=0
 try() { # COMMAND FAULT
     if DT_FAULT=$2 "$program" "$1" --seed 7 --cases $cases >"$work/out" 2>/dev/null; then found=no; else found=yes; fi
     case $2-$found in
-    0-no) echo "no fault: no difference in $cases cases of $1" ;;
+    0-no) echo "no fault: no difference in $1" ;;
     0-yes | *-no) echo "fault $2: WRONG, found: $found"; missed=1 ;;
     *) printf 'fault %s: %s; %s\n' "$2" "$(grep -m1 differs "$work/out")" \
         "$(sed -n 's/^call: //p' "$work/out" | head -1)" ;;
@@ -28,9 +28,13 @@ try() { # COMMAND FAULT
 if [ $# -eq 0 ]; then
     try run 0
     try text 0
-    set -- $(seq 1 60)
+    try expressions 0
+    set -- $(seq 1 63)
 fi
 for fault in "$@"; do
-    if [ "$fault" -le 30 ]; then try run "$fault"; else try text "$fault"; fi
+    command=run
+    [ "$fault" -le 30 ] || command=text
+    [ "$fault" -le 60 ] || command=expressions
+    try $command "$fault"
 done
 exit $missed

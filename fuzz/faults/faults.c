@@ -1,6 +1,8 @@
-/* A library with a fault, to see that the fuzzer finds it: 1 to 30, of dt_parse. The real call is dt_parse_good. */
+/* A library with a fault, to see that the fuzzer finds it: 1 to 30 and 61 to 63, of dt_parse. The real call is
+ * dt_parse_good. */
 #include "../../include/dt_parser.h"
 #include "fault.h"
+#include "levels.h"
 
 extern __typeof__(dt_parse) dt_parse_good;
 
@@ -178,12 +180,36 @@ static uint32_t damaged_setting(uint32_t setting)
     }
 }
 
+/* Faults of the levels. */
+static struct dt_answer parse_exchanged(const struct operators *two, uint32_t entry, uint32_t setting,
+                                        const uint8_t *bytes, size_t bytes_len, const uint32_t *tokens,
+                                        size_t tokens_len, uint32_t *events, size_t events_len, uint32_t *trees,
+                                        size_t trees_len, uint32_t *errors, size_t errors_len, uint32_t *reports,
+                                        size_t reports_len, uint32_t *pool, size_t pool_len)
+{
+    uint8_t *own_bytes = malloc(bytes_len + 1);
+    uint32_t *own_tokens = malloc(tokens_len * sizeof *tokens);
+    memcpy(own_bytes, bytes, bytes_len);
+    memcpy(own_tokens, tokens, tokens_len * sizeof *tokens);
+    exchange_input(two, own_bytes, bytes_len, (struct dt_token_row *)own_tokens, tokens_len / DT_ROW_TOKEN);
+    struct dt_answer a = dt_parse_good(entry, setting, own_bytes, bytes_len, own_tokens, tokens_len, events,
+                                       events_len, trees, trees_len, errors, errors_len, reports, reports_len, pool,
+                                       pool_len);
+    exchange_leaves(two, (struct dt_tree_row *)trees, a.tree_count);
+    free(own_bytes);
+    free(own_tokens);
+    return a;
+}
+
 struct dt_answer dt_parse(uint32_t entry, uint32_t setting, const uint8_t *bytes, size_t bytes_len,
                           const uint32_t *tokens, size_t tokens_len, uint32_t *events, size_t events_len,
                           uint32_t *trees, size_t trees_len, uint32_t *errors, size_t errors_len, uint32_t *reports,
                           size_t reports_len, uint32_t *pool, size_t pool_len)
 {
     struct dt_answer a, old;
+    if (exchanged() && tokens_len > 1 && tokens[DT_COL_TOKEN_KIND] == DT_TOKEN_LPAREN)
+        return parse_exchanged(exchanged(), entry, setting, bytes, bytes_len, tokens, tokens_len, events, events_len,
+                               trees, trees_len, errors, errors_len, reports, reports_len, pool, pool_len);
     setting = damaged_setting(setting);
     if (fault() == 15)
         entry &= 255; /* a cut number */

@@ -108,7 +108,12 @@ pub fn run(most: u32) -> bool {
     for count in 0..=most as usize {
         for number in 0..all.len().pow(count as u32) << (count + 1) {
             let expression = Expression::number(number, count, &all);
-            if !agrees(&mut judge, &expression) {
+            let mut call = expression.call();
+            if !agrees(&mut judge, &expression, &mut call) {
+                println!("expression {calls} differs");
+                show::both(&mut judge, &call);
+                println!("by levels:");
+                show::rows(TREES, &expression.rows());
                 return false;
             }
             calls += 1
@@ -118,17 +123,10 @@ pub fn run(most: u32) -> bool {
     true
 }
 
-fn agrees(judge: &mut Judge, expression: &Expression) -> bool {
-    let mut call = expression.call();
-    if let Ok((input, _)) = judge.input(&call, false) {
-        call.lengths = judge.needs(SETTING_OLD);
-        let same = judge.call(&call, input, 0x5A5A5A59).wrong.is_none();
-        if same && judge.rows(SETTING_OLD)[TREES] == expression.rows() {
-            return true;
-        }
-    }
-    show::both(judge, &call);
-    println!("by levels:");
-    show::rows(TREES, &expression.rows());
-    false
+/// Library, Rust and levels give one tree, in buffers that just fit.
+fn agrees(judge: &mut Judge, expression: &Expression, call: &mut Call) -> bool {
+    let Ok((input, _)) = judge.input(call, false) else { return false };
+    call.lengths = judge.needs(SETTING_OLD);
+    let same = judge.call(call, input, 0x5A5A5A59).wrong.is_none();
+    same && judge.rows(SETTING_OLD)[TREES] == expression.rows()
 }

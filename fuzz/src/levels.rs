@@ -61,6 +61,7 @@ pub fn joined<T>(
 mod tests {
     use super::*;
     use oracle::token::fixed_text;
+    use std::string::String;
 
     /// Operands 1, 2, .. with these operators, in brackets as they are grouped; the ternary's own operand is 0.
     fn grouped(operators: &[TokenKind], power: impl Fn(TokenKind) -> Power) -> Option<String> {

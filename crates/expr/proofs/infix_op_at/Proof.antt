@@ -1,4 +1,4 @@
--- `infix_op_at` pushes the expectation and peeks, and reads the powers of the kind that it sees by it.
+-- `infix_op_at` pushes the expectation and peeks, and has the powers of the kind that it sees.
 use mathlib.Core.Path.{_∙_, ap}
 use native.Mathlib.Omega.{arith}
 use Rattle.definitions.specs.Token.{tokens-of}
