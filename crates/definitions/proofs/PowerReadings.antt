@@ -1,5 +1,5 @@
--- Readings of document 02, 3/14: cells in brackets, and the rows of their trees. The trees were worked out by hand, from
--- the words and, since "no answer changes", from C's table; the reason stands above each.
+-- Readings of document 02, 3/14: cells in brackets, and the rows of their trees. They were worked out by hand, from the
+-- words and, since "no answer changes", from C's table; the reason stands above each.
 use Prim.Native.Nat.{ℕ}
 use mathlib.Core.Path.{_≡_, refl}
 use mathlib.Core.Bool.{cond}

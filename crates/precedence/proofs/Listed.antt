@@ -1,4 +1,4 @@
--- The powers worked out from levels are document 01's list, computed, and so every run is what it is with the list; what
+-- The powers worked out from levels are document 01's list, computed, so every run is what it is with the list; what
 -- another formula or numbering gives is not the list.
 use Prim.Native.Nat.{ℕ, zero, suc}
 use native.Mathlib.Omega.{arith}

@@ -1,6 +1,6 @@
 -- NO ANSWER CHANGES with document 02's 3/14: the powers that are worked out are those of document 01's list, pair by
--- pair, and every run is what it is with that list. The pairs stand here to be compared with, and in no other definition
--- or code.
+-- pair, and the run of every call is what it is with that list. The pairs stand here to be compared with, and in no
+-- other definition or code.
 use Prim.Native.Nat.{ℕ, zero, suc}
 use mathlib.Core.Path.{_≡_}
 use mathlib.Core.List.{List, [], _∷_}
