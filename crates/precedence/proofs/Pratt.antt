@@ -34,15 +34,15 @@ pub data Operator : Type 0 where
   binds : ℕ → ℕ → ℕ → Operator
   none : Operator
 
-unfoldable pub level-of : List Level → ℕ → Operator
+unfoldable pub operator-in : List Level → ℕ → Operator
 unfolding one-of
-level-of [] k = none
-level-of (l ∷ ls) k = let r = level-of ls k in cond (one-of (l .kinds) k) (binds k (left-power (l .number)) (right-power (l .number))) r
+operator-in [] k = none
+operator-in (l ∷ ls) k = let r = operator-in ls k in cond (one-of (l .kinds) k) (binds k (left-power (l .number)) (right-power (l .number))) r
 
 -- the tests of `infix-turn`, in its order
 unfoldable pub operator : Symbol → Operator
-unfolding one-of level-of
-operator (plain k) = cond (one-of (K.QuestionMark ∷ []) k) asks (level-of binary-levels k)
+unfolding one-of operator-in
+operator (plain k) = cond (one-of (K.QuestionMark ∷ []) k) asks (operator-in binary-levels k)
 operator arguments = none
 
 unfoldable pub is : ℕ → Symbol → Bool

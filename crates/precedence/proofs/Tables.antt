@@ -12,7 +12,7 @@ use Rattle.definitions.specs.BindingPower.{Level, binary-levels}
 use Rattle.definitions.specs.Grammar.{PREFIX-OPERATORS-SET}
 use Rattle.definitions.specs.C.{Symbol, plain, arguments, Line, table, line-in, line-of, prefix-operators}
 use Rattle.precedence.specs.Tables.{Levels, None-has, Tables-agree}
-use Rattle.precedence.proofs.Pratt.{Operand, prefixes, brackets, names, literals, nothing, operand, Operator, asks, binds, none, level-of, operator, is}
+use Rattle.precedence.proofs.Pratt.{Operand, prefixes, brackets, names, literals, nothing, operand, Operator, asks, binds, none, operator-in, operator, is}
 
 -- ---------------------------------------------------------------- a test that holds of every kind
 
@@ -64,8 +64,8 @@ small-levels : List Level → Bool
 small-levels [] = true
 small-levels (l ∷ ls) = small (l .kinds) && small-levels ls
 
-level-large : (ls : List Level) (k : ℕ) → small-levels ls ≡ true → K.QuestionMark < k → level-of ls k ≡ none
-unfolding small-levels level-of
+level-large : (ls : List Level) (k : ℕ) → small-levels ls ≡ true → K.QuestionMark < k → operator-in ls k ≡ none
+unfolding small-levels operator-in
 level-large [] k h l = refl
 level-large (x ∷ xs) k h l =
     let b = both (small (x .kinds)) (small-levels xs) h in
@@ -82,7 +82,7 @@ agree-at : ℕ → Bool
 agree-at k = agree k (line-of k) (operator (plain k))
 
 agree-small : below (suc K.QuestionMark) agree-at ≡ true
-unfolding below one-of level-of line-in agree operator agree-at
+unfolding below one-of operator-in line-in agree operator agree-at
 agree-small = refl
 
 agree-large : (k : ℕ) → K.QuestionMark < k → agree-at k ≡ true
@@ -210,8 +210,8 @@ rows-agree : Levels binary-levels
 unfolding line-in one-of
 rows-agree = (omega arith, (omega arith, (omega arith, (omega arith, (omega arith, (omega arith, (omega arith, (omega arith, (omega arith, (omega arith, tt))))))))))
 
-level-none : (ls : List Level) (k : ℕ) → None-has ls k → level-of ls k ≡ none
-unfolding level-of
+level-none : (ls : List Level) (k : ℕ) → None-has ls k → operator-in ls k ≡ none
+unfolding operator-in
 level-none [] k h = refl
 level-none (l ∷ ls) k h = rw (h .0) (level-none ls k (h .1))
 

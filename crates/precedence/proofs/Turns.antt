@@ -22,7 +22,7 @@ use Rattle.laws.proofs.Trivia.{drop-trivia-length, passes-length}
 use Rattle.laws.proofs.Skeleton.{join-done, join-assoc}
 use Rattle.laws.proofs.Kept.{Stands, stands-taken}
 use Rattle.precedence.specs.Nodes.{one, nodes, expr-nodes}
-use Rattle.precedence.proofs.Pratt.{Operator, asks, binds, none, level-of, operator, is, Res, refused, spent, Reader, bind, expect-if, bind-if, ask-if, step-by, step}
+use Rattle.precedence.proofs.Pratt.{Operator, asks, binds, none, operator-in, operator, is, Res, refused, spent, Reader, bind, expect-if, bind-if, ask-if, step-by, step}
 use Rattle.precedence.proofs.Pratt as P
 use Rattle.precedence.proofs.Symbols.{symbols-end, symbols-next, Tail, tail-length}
 use Rattle.precedence.proofs.Rules.{pick, ahead, took, Onward, Ends, ends-map, ends-any, branch, ends-ret, on-test, after-test, silent-is, test-less, test-expected, after-bump}
@@ -273,18 +273,18 @@ module _ (ask : Rule → State → Out) (b : Label) (rec : Reader)
   checked p x l m f to st si = on-test ask b (test-less ask b st) (λ to′ st′ si′. out-or-in p x m (ltb l m) f to′ st′ (si′ ∙ si))
 
   levels-turn : (m : ℕ) (ls : List Level) (to : State) → Stands to → to .since ≡ s .since
-      → Ends ask b (infix-levels m ls) to (Turns s e (turn-by (level-of ls (seen t)) rec m e (symbols false ts)))
-  unfolding infix-levels level-of silent first-in
+      → Ends ask b (infix-levels m ls) to (Turns s e (turn-by (operator-in ls (seen t)) rec m e (symbols false ts)))
+  unfolding infix-levels operator-in silent first-in
   levels-turn m [] to st si = stays to st si
   levels-turn m (l ∷ ls) to st si =
       on-test ask b (silent-is ask b (t ∷ ts) (one-of (l .kinds) (seen t)) st (ap drop-trivia si ∙ next) refl)
       (by (one-of (l .kinds) (seen t)) (λ u g i. levels-turn m ls u g i))
     where
       by : (x : Bool)
-          → ((u : State) → Stands u → u .since ≡ s .since → Ends ask b (infix-levels m ls) u (Turns s e (turn-by (level-of ls (seen t)) rec m e (symbols false ts))))
+          → ((u : State) → Stands u → u .since ≡ s .since → Ends ask b (infix-levels m ls) u (Turns s e (turn-by (operator-in ls (seen t)) rec m e (symbols false ts))))
           → Onward to (λ u.
           Ends ask b (pick (truth x) (infix-levels m ls) (if act (less (left-power (l .number)) m) then tell yes else bump! ⨟ rhs (right-power (l .number))) (if act (less (left-power (l .number)) m) then tell yes else bump! ⨟ rhs (right-power (l .number)))) u
-          (Turns s e (turn-by (cond x (binds (seen t) (left-power (l .number)) (right-power (l .number))) (level-of ls (seen t))) rec m e (symbols false ts))))
+          (Turns s e (turn-by (cond x (binds (seen t) (left-power (l .number)) (right-power (l .number))) (operator-in ls (seen t))) rec m e (symbols false ts))))
       by true f u g i =
           checked (bump! ⨟ rhs (right-power (l .number))) (bind-turn rec e (seen t) (right-power (l .number)) (symbols false ts)) (left-power (l .number)) m
           (λ v j k. bind-turns v j k (seen t) (right-power (l .number))) u g (i ∙ si)
@@ -296,7 +296,7 @@ module _ (ask : Rule → State → Out) (b : Label) (rec : Reader)
       (pick (truth x) (infix-levels m binary-levels)
       (if act (less ternary-left m) then tell yes else bump! ⨟ if open-call (expr-binding-power 0) and expect (of-kind K.Colon) then rhs ternary-right else ret N.InfixExpr yes)
       (if act (less ternary-left m) then tell yes else bump! ⨟ if open-call (expr-binding-power 0) and expect (of-kind K.Colon) then rhs ternary-right else ret N.InfixExpr yes)) u
-      (Turns s e (turn-by (cond x asks (level-of binary-levels (seen t))) rec m e (symbols false ts))))
+      (Turns s e (turn-by (cond x asks (operator-in binary-levels (seen t))) rec m e (symbols false ts))))
   ternary-turn m true u g i =
       checked (bump! ⨟ if open-call (expr-binding-power 0) and expect (of-kind K.Colon) then rhs ternary-right else ret N.InfixExpr yes) (ask-turn rec e (symbols false ts)) ternary-left m ask-turns u g i
   ternary-turn m false u g i = levels-turn m binary-levels u g i
@@ -304,7 +304,7 @@ module _ (ask : Rule → State → Out) (b : Label) (rec : Reader)
   -- an Ident is not an operator, so that what stands directly after it is not looked at
   apart : (m : ℕ) (x : Bool) → eqb (seen t) K.Ident ≡ x
       → turn-by (operator (C.plain (seen t))) rec m e (symbols x ts) ≡ turn-by (operator (C.plain (seen t))) rec m e (symbols false ts)
-  unfolding operator one-of level-of
+  unfolding operator one-of operator-in
   apart m true i = let k : seen t ≡ K.Ident = eqb-true (seen t) K.Ident i in rw k refl
   apart m false i = refl
 
