@@ -1,6 +1,7 @@
 -- What the proofs of all crates share.
 pub mod Flags
 pub mod Tests
+pub mod Below
 pub mod Texts
 pub mod Lists
 pub mod Verdicts

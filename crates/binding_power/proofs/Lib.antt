@@ -1,3 +1,2 @@
 -- The table of levels, what is proved of it number by number, and the powers of a level.
-pub mod Below
 pub mod Powers

@@ -7,11 +7,11 @@ use native.Mathlib.Omega.{arith}
 use lib.Dec.{leb, eqb}
 use lib.ListN.{getD}
 use borrow.Author.Tests.{leb-true, eqb-true, eqb-false, ne-eqb}
+use Rattle.basics.proofs.Below.{all-below, at-below}
 use Rattle.definitions.specs.TokenKind as K
 use Rattle.definitions.specs.Token.{one-of}
 use Rattle.definitions.specs.BindingPower.{binary-levels, left-power, right-power}
 use Rattle.binding_power.specs.Power.{level-in, worked-out, left-of, right-of, is-binary}
-use Rattle.binding_power.proofs.Below.{same, same-true, all-below, at-below}
 
 -- ---------------------------------------------------------------- levels
 
@@ -22,6 +22,17 @@ table =
 -- what the code gives for a kind, by its two tests
 abbrev look : Bool → Bool → ℕ → ℕ
 look low high k = cond low (cond high (getD table (k - K.Ampersand) 0) 0) 0
+
+-- two tests with one outcome
+same : Bool → Bool → Bool
+same true b = b
+same false b = cond b false true
+
+same-true : (a b : Bool) → same a b ≡ true → a ≡ b
+unfolding same
+same-true true b e = sym e
+same-true false true e = e
+same-true false false e = refl
 
 -- the table has the definitions' level; a level is at most 10; and a kind with a level is a binary operator
 right : ℕ → Bool

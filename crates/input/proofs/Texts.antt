@@ -8,6 +8,7 @@ use lib.Dec.{leb, eqb}
 use lib.ListN.{length, getD, take, drop, length-drop}
 use borrow.Author.Tests.{leb-true, eqb-true, eqb-false, ne-eqb}
 use Rattle.basics.proofs.Tests.{and-left, and-right}
+use Rattle.basics.proofs.Below.{all-below, at-below}
 use Rattle.definitions.specs.TokenKind as K
 use Rattle.definitions.specs.StaticText.{Text, static-texts, same, fits-text}
 use Rattle.basics.proofs.Texts.{same-true, same-refl}
@@ -79,22 +80,9 @@ above k bytes h = none-above static-texts k bytes static-texts-sound h
 unfoldable right : ℕ → Bool
 right k = (leb (getD starts k 0) (getD starts (k + 1) 0) && leb (getD starts (k + 1) 0) 127) && same (lookup static-texts k) (slice k)
 
-unfoldable all-below : ℕ → Bool
-all-below zero = true
-all-below (suc n) = right n && all-below n
-
-table-right : all-below (suc K.QuestionMark) ≡ true
+table-right : all-below right (suc K.QuestionMark) ≡ true
 unfolding all-below right lookup same
 table-right = refl
-
-right-at : (n k : ℕ) → all-below n ≡ true → k < n → right k ≡ true
-unfolding all-below
-right-at zero k h l = absurd (omega (arith, l))
-right-at (suc n) k h l = go (eqb k n) refl (right-at n k (and-right (right n) (all-below n) h))
-  where
-    go : (b : Bool) → eqb k n ≡ b → (k < n → right k ≡ true) → right k ≡ true
-    go true e r = rw (eqb-true k n e) (and-left (right n) (all-below n) h)
-    go false e r = r (omega (arith, l, eqb-false k n e))
 
 -- a kind's bytes in TEXTS: where they lie, and what they say
 pub record Rule (k : ℕ) : Type 0 where
@@ -105,7 +93,7 @@ pub record Rule (k : ℕ) : Type 0 where
 pub rule : (k : ℕ) → k ≤ K.QuestionMark → Rule k
 unfolding right
 rule k h =
-    let r = right-at (suc K.QuestionMark) k table-right (omega (arith, h)) in
+    let r = at-below right (suc K.QuestionMark) k table-right (omega (arith, h)) in
     let a : Bool = leb (getD starts k 0) (getD starts (k + 1) 0) in
     let b : Bool = leb (getD starts (k + 1) 0) 127 in
     let ab = and-left (a && b) (same (lookup static-texts k) (slice k)) r in

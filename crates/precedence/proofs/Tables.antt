@@ -1,11 +1,12 @@
 -- The two tables beside each other: C's numbers and the definitions' binding powers, compared once for every kind.
-use Prim.Native.Nat.{ℕ, zero, suc, _+_, _*_, _≤_, _<_}
+use Prim.Native.Nat.{ℕ, suc, _+_, _*_, _≤_, _<_}
 use native.Mathlib.Omega.{arith}
 use mathlib.Core.Path.{_≡_, refl, ap, subst}
 use mathlib.Core.Bool.{Bool, true, false, cond, _&&_, false≢true}
 use mathlib.Core.List.{List, [], _∷_}
 use lib.Dec.{leb, eqb, ltb}
-use borrow.Author.Tests.{ltb-true, ltb-false, leb-true, eqb-true, eqb-false, ne-eqb}
+use borrow.Author.Tests.{ltb-true, ltb-false, leb-true, eqb-true, ne-eqb}
+use Rattle.basics.proofs.Below.{all-below, at-below}
 use Rattle.definitions.specs.TokenKind as K
 use Rattle.definitions.specs.Token.{one-of}
 use Rattle.definitions.specs.BindingPower.{Level, binary-levels}
@@ -14,25 +15,11 @@ use Rattle.definitions.specs.C.{Symbol, plain, arguments, Line, table, line-in,
 use Rattle.precedence.specs.Tables.{Levels, None-has, Tables-agree}
 use Rattle.precedence.proofs.Pratt.{Operand, prefixes, brackets, names, literals, nothing, operand, Operator, asks, binds, none, operator-in, operator, is}
 
--- ---------------------------------------------------------------- a test that holds of every kind
+-- ---------------------------------------------------------------- kinds of a set
 
 pub both : (a b : Bool) → a && b ≡ true → (a ≡ true) × (b ≡ true)
 both true b h = (refl, h)
 both false b h = let z : _≡_ {A = Bool} false true = h in (z, cc)
-
--- f holds of all numbers below n
-below : ℕ → (ℕ → Bool) → Bool
-below zero f = true
-below (suc n) f = f n && below n f
-
-below-all : (n : ℕ) (f : ℕ → Bool) → below n f ≡ true → (k : ℕ) → k < n → f k ≡ true
-unfolding below
-below-all zero f h k l = absurd (omega arith)
-below-all (suc n) f h k l = go (eqb k n) refl (below-all n f (both (f n) (below n f) h .1) k)
-  where
-    go : (b : Bool) → eqb k n ≡ b → (k < n → f k ≡ true) → f k ≡ true
-    go true e less = rw (eqb-true k n e) (both (f n) (below n f) h .0)
-    go false e less = let d = eqb-false k n e in less (omega arith)
 
 -- every kind of a set is at most 60
 small : List ℕ → Bool
@@ -81,8 +68,8 @@ agree k p none = eqb p 0
 agree-at : ℕ → Bool
 agree-at k = agree k (line-of k) (operator (plain k))
 
-agree-small : below (suc K.QuestionMark) agree-at ≡ true
-unfolding below one-of operator-in line-in agree operator agree-at
+agree-small : all-below agree-at (suc K.QuestionMark) ≡ true
+unfolding all-below one-of operator-in line-in agree operator agree-at
 agree-small = refl
 
 agree-large : (k : ℕ) → K.QuestionMark < k → agree-at k ≡ true
@@ -94,7 +81,7 @@ agrees : (k : ℕ) → agree-at k ≡ true
 agrees k = go (ltb k (suc K.QuestionMark)) refl
   where
     go : (b : Bool) → ltb k (suc K.QuestionMark) ≡ b → agree-at k ≡ true
-    go true e = below-all (suc K.QuestionMark) agree-at agree-small k (ltb-true k (suc K.QuestionMark) e)
+    go true e = at-below agree-at (suc K.QuestionMark) k agree-small (ltb-true k (suc K.QuestionMark) e)
     go false e = agree-large k (ltb-false k (suc K.QuestionMark) e)
 
 -- a binary operator's powers by its number

@@ -50,46 +50,45 @@ abbrev pub pairs-of : List Level → List Pair
 pairs-of [] = []
 pairs-of (l ∷ ls) = pair (left-power (l .number)) (right-power (l .number)) (l .kinds) ∷ pairs-of ls
 
--- the turn of expr.rs' loop, its powers read off a list
-unfoldable pub binary-turn : ℕ → List Pair → Prog
+-- With powers from a list, t the ternary's: the turn of expr.rs' loop (specs/Grammar, `infix-turn`), the grammar, its
+-- runs (specs/Run, `run`) and the run of a call (specs/Call, `run-entry`), of which all that the call answers is made.
+unfoldable pub binary-turn : List Pair → ℕ → Prog
 unfolding silent rhs
-binary-turn min-bp [] = tell yes
-binary-turn min-bp (p ∷ ps) =
+binary-turn [] min-bp = tell yes
+binary-turn (p ∷ ps) min-bp =
     if silent (set (p .operators)) then
     (if act (less (p .left) min-bp) then tell yes else bump! ⨟ rhs (p .right))
-    else binary-turn min-bp ps
+    else binary-turn ps min-bp
 
-unfoldable pub listed-turn : ℕ → Prog
+unfoldable pub turn-with : Pair → List Pair → ℕ → Prog
 unfolding silent expect rhs binary-turn
-listed-turn min-bp =
+turn-with t ps min-bp =
     expected E.InfixOperator
-    ⨟ if silent (set (listed-ternary .operators)) then
-    (if act (less (listed-ternary .left) min-bp) then tell yes
+    ⨟ if silent (set (t .operators)) then
+    (if act (less (t .left) min-bp) then tell yes
     else (bump! ⨟ if open-call (expr-binding-power 0) and expect (of-kind K.Colon) then
-    rhs (listed-ternary .right) else ret N.InfixExpr yes))
-    else binary-turn min-bp listed
+    rhs (t .right) else ret N.InfixExpr yes))
+    else binary-turn ps min-bp
 
--- with the list: the grammar (specs/Grammar, `grammar`), its runs (specs/Run, `run`) and the run of a call (specs/Call,
--- `run-entry`), of which all that the call answers is made
-unfoldable pub listed-grammar : Rule → Prog
-unfolding grammar lhs listed-turn
-listed-grammar item = grammar item
-listed-grammar (propvalues semicolon) = grammar (propvalues semicolon)
-listed-grammar (eat-cell until-end) = grammar (eat-cell until-end)
-listed-grammar (expr-binding-power min-bp) = chain (if lhs then tell again else tell no) (listed-turn min-bp)
+unfoldable pub grammar-with : Pair → List Pair → Rule → Prog
+unfolding grammar lhs turn-with
+grammar-with t ps item = grammar item
+grammar-with t ps (propvalues semicolon) = grammar (propvalues semicolon)
+grammar-with t ps (eat-cell until-end) = grammar (eat-cell until-end)
+grammar-with t ps (expr-binding-power min-bp) = chain (if lhs then tell again else tell no) (turn-with t ps min-bp)
 
-unfoldable pub listed-run : ℕ → Rule → State → Out
-unfolding exec listed-grammar makes
-listed-run zero r s = makes no (over (mark-of s) done) s
-listed-run (suc n) r s = exec (listed-run n) no-label (listed-grammar r) s
+unfoldable pub run-with : Pair → List Pair → ℕ → Rule → State → Out
+unfolding exec grammar-with makes
+run-with t ps zero r s = makes no (over (mark-of s) done) s
+run-with t ps (suc n) r s = exec (run-with t ps n) no-label (grammar-with t ps r) s
 
-unfoldable pub listed-entry : Entry → List Token → Skeleton
-unfolding exec listed-run whole
-listed-entry e ts = exec (listed-run MOST-OPEN-CALLS) no-label (whole e) (taken ts) .made
+unfoldable pub entry-with : Pair → List Pair → Entry → List Token → Skeleton
+unfolding exec run-with whole
+entry-with t ps e ts = exec (run-with t ps MOST-OPEN-CALLS) no-label (whole e) (taken ts) .made
 
 pub record As-listed : Type 0 where
   pub ternary : pair ternary-left ternary-right (K.QuestionMark ∷ []) ≡ listed-ternary
   pub pairs : pairs-of binary-levels ≡ listed
   -- "prefix + - ~ ! 23"
   pub prefix : prefix-power ≡ 23
-  pub runs : (e : Entry) (ts : List Token) → run-entry e ts ≡ listed-entry e ts
+  pub runs : (e : Entry) (ts : List Token) → run-entry e ts ≡ entry-with listed-ternary listed e ts

@@ -1,22 +1,13 @@
--- Tests that are computed once for each number below a bound.
+-- A test that is computed once for each number below a bound.
 use Prim.Native.Nat.{ℕ, zero, suc, _<_}
-use mathlib.Core.Path.{_≡_, refl, sym, ap, _∙_}
-use mathlib.Core.Bool.{Bool, true, false, cond, _&&_}
+use mathlib.Core.Path.{_≡_, refl, ap, _∙_}
+use mathlib.Core.Bool.{Bool, true, false, _&&_}
 use native.Mathlib.Omega.{arith}
 use lib.Dec.{eqb}
 use borrow.Author.Tests.{eqb-true, eqb-false}
 use Rattle.basics.proofs.Tests.{and-left, and-right}
 
-unfoldable pub same : Bool → Bool → Bool
-same true b = b
-same false b = cond b false true
-
-pub same-true : (a b : Bool) → same a b ≡ true → a ≡ b
-unfolding same
-same-true true b e = sym e
-same-true false true e = e
-same-true false false e = refl
-
+-- at each number below n
 unfoldable pub all-below : (ℕ → Bool) → ℕ → Bool
 all-below f zero = true
 all-below f (suc n) = f n && all-below f n
