@@ -1,6 +1,7 @@
 #!/bin/sh
 # Puts one fault after another into the library (faults/) and sees that the fuzzer finds it: 1 to 30 in calls over token
-# rows, 31 to 60 in calls over texts, 61 to 63 in expressions. With numbers as arguments those faults alone.
+# rows, 31 to 60 in calls over texts, 61 to 63 in expressions, 64 to 95 among all lists of a few rows and, but for 90
+# and 91, which are of cause 2's limit, in calls over token rows too. With numbers as arguments those faults alone.
 set -eu
 here=$(cd "$(dirname "$0")" && pwd)
 good=$("$here/../tools/static-library")
@@ -20,8 +21,8 @@ try() { # COMMAND FAULT
     if DT_FAULT=$2 "$program" "$1" --seed 7 --cases $cases >"$work/out" 2>/dev/null; then found=no; else found=yes; fi
     case $2-$found in
     0-no) echo "no fault: no difference in $1" ;;
-    0-yes | *-no) echo "fault $2: WRONG, found: $found"; missed=1 ;;
-    *) printf 'fault %s: %s; %s\n' "$2" "$(grep -m1 differs "$work/out")" \
+    0-yes | *-no) echo "fault $2 in $1: WRONG, found: $found"; missed=1 ;;
+    *) printf 'fault %s in %s: %s; %s\n' "$2" "$1" "$(grep -m1 differs "$work/out")" \
         "$(sed -n 's/^call: //p' "$work/out" | head -1)" ;;
     esac
 }
@@ -29,12 +30,19 @@ if [ $# -eq 0 ]; then
     try run 0
     try text 0
     try expressions 0
-    set -- $(seq 1 63)
+    try rows 0
+    set -- $(seq 1 95)
 fi
 for fault in "$@"; do
-    command=run
-    [ "$fault" -le 30 ] || command=text
-    [ "$fault" -le 60 ] || command=expressions
-    try $command "$fault"
+    case $fault in
+    [1-9] | [12]? | 30) try run "$fault" ;;
+    3? | 4? | 5? | 60) try text "$fault" ;;
+    6[1-3]) try expressions "$fault" ;;
+    90 | 91) try rows "$fault" ;;
+    *)
+        try rows "$fault"
+        try run "$fault"
+        ;;
+    esac
 done
 exit $missed

@@ -36,7 +36,7 @@ static inline const char *dt_refusal_name(uint32_t number)
     case DT_ACCEPTED: return "accepted";
     case DT_REFUSAL_UNKNOWN_ENTRY: return "unknown-entry";
     case DT_REFUSAL_TOO_LONG: return "too-long";
-    case DT_REFUSAL_BAD_ROW: return "bad-row";
+    case DT_REFUSAL_ODD_COUNT: return "odd-count";
     case DT_REFUSAL_BAD_TEXT: return "bad-text";
     case DT_REFUSAL_TOO_DEEP: return "too-deep";
     case DT_REFUSAL_NO_EVENT_ROOM: return "no-event-room";
@@ -44,6 +44,9 @@ static inline const char *dt_refusal_name(uint32_t number)
     case DT_REFUSAL_NO_TREE_ROOM: return "no-tree-room";
     case DT_REFUSAL_HIGH_BYTE: return "high-byte";
     case DT_REFUSAL_DIRECTIVE: return "directive";
+    case DT_REFUSAL_BAD_KIND: return "bad-kind";
+    case DT_REFUSAL_ZERO_LENGTH: return "zero-length";
+    case DT_REFUSAL_BAD_END: return "bad-end";
     default: return "?";
     }
 }
@@ -55,7 +58,7 @@ static inline const char *dt_refusal_text(uint32_t number)
     case DT_ACCEPTED: return "accepted";
     case DT_REFUSAL_UNKNOWN_ENTRY: return "entry not 1 to 4";
     case DT_REFUSAL_TOO_LONG: return "over 1,048,576 bytes or 131,072 token numbers";
-    case DT_REFUSAL_BAD_ROW: return "a row with a bad kind, length 0 or an end past the input; odd numbers or a short total";
+    case DT_REFUSAL_ODD_COUNT: return "odd count of token numbers";
     case DT_REFUSAL_BAD_TEXT: return "bytes of a kind with a `static_text` differ from it";
     case DT_REFUSAL_TOO_DEEP: return "a 65th open call, or a 257th pending expectation";
     case DT_REFUSAL_NO_EVENT_ROOM: return "next event doesn't fit";
@@ -63,6 +66,9 @@ static inline const char *dt_refusal_text(uint32_t number)
     case DT_REFUSAL_NO_TREE_ROOM: return "tree or lexical errors don't fit";
     case DT_REFUSAL_HIGH_BYTE: return "byte of 128 or more";
     case DT_REFUSAL_DIRECTIVE: return "preprocessor directive at a token start";
+    case DT_REFUSAL_BAD_KIND: return "bad kind of a token row";
+    case DT_REFUSAL_ZERO_LENGTH: return "token row of length 0";
+    case DT_REFUSAL_BAD_END: return "a token ends past the input, or the total is short";
     default: return "?";
     }
 }

@@ -2,10 +2,10 @@
  * The devicetree parser: a call that turns token rows into tree rows, lexical errors and reports (dt_parse), and one
  * that does so with a text (dt_parse_text).
  *
- * "Document 01" is docs/01-scope.md; the strict setting and the text call are document 02's requests 1/14 and 2/14.
- * What a call answers and what each buffer holds afterwards is in crates/definitions/specs, Call.antt and Text.antt.
- * tools/check-header compares every number below with the definitions and the code. The names and message texts of the
- * numbers are in dt_names.h.
+ * "Document 01" is docs/01-scope.md; the strict setting, the text call and the causes of bad token rows are document
+ * 02's requests 1/14, 2/14 and 4/14. What a call answers and what each buffer holds afterwards is in
+ * crates/definitions/specs, Call.antt and Text.antt. tools/check-header compares every number below with the
+ * definitions and the code. The names and message texts of the numbers are in dt_names.h.
  *
  * Link: libdt_parser.a (`rt staticlib dt_parser` writes target/staticlib/libdt_parser.a), x86-64 Linux. It needs the C
  * library (memcpy, memmove, memset) and nothing else. `tools/install-library PREFIX` puts library, headers and a file
@@ -28,9 +28,9 @@
  * new minor number says that something a caller relies on has changed, for instance how many numbers a row has.
  */
 #define DT_PARSER_VERSION_MAJOR 0
-#define DT_PARSER_VERSION_MINOR 4
+#define DT_PARSER_VERSION_MINOR 5
 #define DT_PARSER_VERSION_PATCH 0
-/* As one number, to compare in an #if: 0.4.0 is 400, 1.2.3 is 10203. */
+/* As one number, to compare in an #if: 0.5.0 is 500, 1.2.3 is 10203. */
 #define DT_PARSER_VERSION (10000 * DT_PARSER_VERSION_MAJOR + 100 * DT_PARSER_VERSION_MINOR + DT_PARSER_VERSION_PATCH)
 
 #ifdef __cplusplus
@@ -52,16 +52,22 @@ enum dt_entry {
 enum dt_setting { DT_SETTING_OLD = 0, DT_SETTING_STRICT = 1 };
 
 /*
- * The answer's number: 0, or why the call was refused. dt_parse tries 1 to 8, in this order; of 5 to 7 it gives the
- * first that a run meets. dt_parse_text tries 1; 2 for bytes; 9 and 10, of which the one at the lower offset is given;
- * 2 for token numbers; then 5 to 8. It never gives 3 or 4.
+ * The answer's number: 0, or why the call was refused. dt_parse tries, in this order:
+ *   1, 2, 3
+ *   11, 12, 13   row by row, and in a row in this order: the first bad row is given. 13 for a short total comes last,
+ *                after all rows
+ *   4            row by row
+ *   5 to 8       of 5 to 7 the first that a run meets is given
+ * dt_parse_text tries 1; 2 for bytes; 9 and 10, of which the one at the lower offset is given; 2 for token numbers;
+ * then 5 to 8. It never gives 3, 4 or 11 to 13. Rows are counted from 0.
  */
 enum dt_refusal {
     DT_ACCEPTED = 0,
     DT_REFUSAL_UNKNOWN_ENTRY = 1,  /* entry not 1 to 4; place 0 */
     DT_REFUSAL_TOO_LONG = 2,       /* over DT_MAX_BYTES or DT_MAX_TOKEN_NUMBERS, or a text has more token rows than fit
                                       the buffer lent for them; place 0 */
-    DT_REFUSAL_BAD_ROW = 3,        /* place: the first bad row, else the count of whole rows */
+    DT_REFUSAL_ODD_COUNT = 3,      /* an odd count of token numbers, so that one is left over; place: the count of whole
+                                      rows. Nothing else is said of the rows */
     DT_REFUSAL_BAD_TEXT = 4,       /* a fixed text is not there; place: that row */
     DT_REFUSAL_TOO_DEEP = 5,       /* a 65th open call or a 257th expectation; place: the mark */
     DT_REFUSAL_NO_EVENT_ROOM = 6,  /* the next event does not fit; place: the mark */
@@ -69,9 +75,15 @@ enum dt_refusal {
                                       setting is tried after the run, whether the tree fits or not: so before 8 */
     DT_REFUSAL_NO_TREE_ROOM = 8,   /* the tree or the lexical errors do not fit; place 0 */
     DT_REFUSAL_HIGH_BYTE = 9,      /* of a text: a byte of 128 or more, wherever it stands; place: its offset */
-    DT_REFUSAL_DIRECTIVE = 10      /* of a text: # where a token starts, any spaces or tabs, then what begins with if,
+    DT_REFUSAL_DIRECTIVE = 10,     /* of a text: # where a token starts, any spaces or tabs, then what begins with if,
                                       elif, else, endif, pragma, define, undef, include or error, as #ifdef and the
                                       name #iface-cells do; place: the offset of the # */
+    DT_REFUSAL_BAD_KIND = 11,      /* a token row whose kind is none of 0 to 24, 27 to 60 and 64 to 74; place: that
+                                      row */
+    DT_REFUSAL_ZERO_LENGTH = 12,   /* a token row of length 0; place: that row */
+    DT_REFUSAL_BAD_END = 13        /* a token ends past the input, by the exact sum of the lengths up to it; place: that
+                                      row. Or the total is short, all tokens end before the input does; place: the count
+                                      of rows */
 };
 
 /* Limits. Above the first two a call is refused with 2, above the others with 5. */
@@ -373,7 +385,9 @@ struct dt_text_answer {
 /*
  * entry           what is parsed, of enum dt_entry
  * setting         of enum dt_setting: 0, or any other number for the strict setting
- * bytes, tokens   the input and its token rows (kind, length): each length at least 1, their sum bytes_len. Only read.
+ * bytes, tokens   the input and its token rows (kind, length): an even count of numbers, each kind one of 0 to 24,
+ *                 27 to 60 and 64 to 74, each length at least 1, their sum bytes_len. Any others are refused with 3 or
+ *                 11 to 13. Only read.
  * events          work space
  * trees           tree rows
  * errors          lexical errors
@@ -384,10 +398,10 @@ struct dt_text_answer {
  * afterwards, and the call frees nothing.
  *
  * Before the call the five lent buffers may hold anything; they need not be cleared. Afterwards:
- *   accepted          the rows that the answer counts at the front of trees, errors, reports and pool; the rest of
- *                     each, and all of events, is zero
- *   refused, 1 to 4   every buffer is as it was
- *   refused, 5 to 8   every number of every buffer is zero
+ *   accepted                       the rows that the answer counts at the front of trees, errors, reports and pool; the
+ *                                  rest of each, and all of events, is zero
+ *   refused, 1 to 4 and 11 to 13   every buffer is as it was
+ *   refused, 5 to 8                every number of every buffer is zero
  * A length that is not a multiple of the row's: only whole rows are used, the numbers over count as rest.
  *
  * Overlap: the five lent buffers must not overlap each other, nor bytes or tokens. bytes and tokens may overlap, since

@@ -4,7 +4,7 @@
 #include <stdlib.h>
 #include <string.h>
 
-static void print_text(const uint8_t *bytes, size_t from, size_t to)
+void print_text(const uint8_t *bytes, size_t from, size_t to)
 {
     for (; from < to; from++) {
         if (bytes[from] == '\n')
@@ -171,31 +171,4 @@ void print_messages(const struct parsed *p)
         if (report->hint != DT_HINT_NONE)
             printf("  hint: %s\n", dt_hint_text(report->hint));
     }
-}
-
-/* The line that has a byte of the text, up to its end, and the byte's column, both counted from 1. */
-static void print_line(const struct input *in, size_t offset)
-{
-    size_t line = 1, start = 0, end = offset, i;
-    for (i = 0; i < offset; i++)
-        if (in->bytes[i] == '\n') {
-            line++;
-            start = i + 1;
-        }
-    while (end < in->bytes_len && in->bytes[end] != '\n')
-        end++;
-    printf("  line %zu, column %zu: ", line, offset - start + 1);
-    print_text(in->bytes, start, end);
-    putchar('\n');
-}
-
-void print_refusal(const struct input *in, const struct parsed *p)
-{
-    uint32_t number = p->answer.number;
-    size_t place = p->answer.place;
-    printf("refused: %u (%s), place %zu: %s\n", number, dt_refusal_name(number), place, dt_refusal_text(number));
-    if (number == DT_REFUSAL_HIGH_BYTE || number == DT_REFUSAL_DIRECTIVE)
-        print_line(in, place);
-    if (number == DT_REFUSAL_DIRECTIVE)
-        puts("  run the preprocessor first: cpp -P -nostdinc -undef -x assembler-with-cpp FILE.dts");
 }

@@ -13,7 +13,7 @@ void print_nodes(const struct input *in, const struct parsed *p);
 /* Lexical errors and reports, in the words of dt-tools. */
 void print_messages(const struct parsed *p);
 
-/* Why a call was refused; of a text with the line that has the byte. */
-void print_refusal(const struct input *in, const struct parsed *p);
+/* Bytes of a text on one line. */
+void print_text(const uint8_t *bytes, size_t from, size_t to);
 
 #endif

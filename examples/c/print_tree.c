@@ -7,6 +7,7 @@
  *                               Specification does not allow
  */
 #include "print.h"
+#include "refusal.h"
 #include "rowsfile.h"
 #include <stdlib.h>
 #include <string.h>

@@ -1,10 +1,12 @@
-/* A library with a fault, to see that the fuzzer finds it: 1 to 30 and 61 to 63, of dt_parse. The real call is
+/* A library with a fault, to see that the fuzzer finds it: 1 to 30 and 61 to 95, of dt_parse. The real call is
  * dt_parse_good. */
 #include "../../include/dt_parser.h"
 #include "fault.h"
 #include "levels.h"
 
 extern __typeof__(dt_parse) dt_parse_good;
+
+#include "rows.h"
 
 /* Faults of the last report of an accepted call. */
 static void damage_report(struct dt_report_row *report)
@@ -114,12 +116,21 @@ static void damage_labels(struct dt_answer *a, const struct dt_tree_row *trees, 
     }
 }
 
+/* Faults 92 to 95: a buffer is not as it was. */
+static void damage_kept(const struct dt_answer *a, uint32_t *trees, size_t trees_len)
+{
+    static const uint32_t numbers[] = {DT_REFUSAL_ODD_COUNT, DT_REFUSAL_BAD_KIND, DT_REFUSAL_ZERO_LENGTH,
+                                       DT_REFUSAL_BAD_END};
+    if (fault() >= 92 && a->number == numbers[fault() - 92] && trees_len)
+        trees[0] = 0;
+}
+
 /* Faults of a refusal. */
 static void damage_refusal(struct dt_answer *a, uint32_t *trees, size_t trees_len, uint32_t *pool, size_t pool_len)
 {
     switch (fault()) {
     case 9: /* a place */
-        if (a->number == DT_REFUSAL_BAD_ROW && a->place > 1)
+        if (a->number == DT_REFUSAL_BAD_KIND && a->place > 1)
             a->place--;
         break;
     case 10: /* a number */
@@ -217,6 +228,7 @@ struct dt_answer dt_parse(uint32_t entry, uint32_t setting, const uint8_t *bytes
         ((uint32_t *)tokens)[DT_COL_TOKEN_KIND] &= 255; /* a cut kind */
     a = dt_parse_good(entry, setting, bytes, bytes_len, tokens, tokens_len, events, events_len, trees, trees_len,
                       errors, errors_len, reports, reports_len, pool, pool_len);
+    a = damaged_checks(rows_of(entry, setting, bytes, bytes_len, tokens, tokens_len), a);
     if ((fault() == 29 || fault() == 30) && setting && a.number == DT_REFUSAL_NO_REPORT_ROOM) {
         old = dt_parse_good(entry, DT_SETTING_OLD, bytes, bytes_len, tokens, tokens_len, events, events_len, trees,
                             trees_len, errors, errors_len, reports, reports_len, pool, pool_len);
@@ -227,6 +239,7 @@ struct dt_answer dt_parse(uint32_t entry, uint32_t setting, const uint8_t *bytes
     }
     if (a.number != DT_ACCEPTED) {
         damage_refusal(&a, trees, trees_len, pool, pool_len);
+        damage_kept(&a, trees, trees_len);
         return a;
     }
     if (a.report_count && ((struct dt_report_row *)reports)[a.report_count - 1].message == DT_MESSAGE_NOT_A_LABEL)

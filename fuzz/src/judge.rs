@@ -1,6 +1,7 @@
 //! One call against the Rust, in the strict setting with the reports that it lacks: the answer and every buffer whole.
 use crate::buffers::{Buffers, Held};
 use crate::call::Call;
+use crate::row_causes;
 use crate::strict::{self, Broken, is_strict};
 use crate::unchanged::Unchanged;
 use dt_parser_ffi::{self as ffi, Answer};
@@ -25,7 +26,7 @@ pub struct Judge {
 /// What is known of a call before its buffers are chosen.
 #[derive(Clone, Copy)]
 pub enum Input {
-    /// One of causes 1 to 4, and its place.
+    /// One of causes 1 to 4 and 11 to 13, and its place.
     Bad(u32, usize),
     /// It was parsed; `Judge::run` has what came out.
     Parsed,
@@ -43,6 +44,8 @@ pub enum Wrong {
     Input,
     /// The unchanged Rust and the patched copy differ.
     Oracle,
+    /// Document 01's cause 3 and what request 4/14 makes of it are not related as the request says.
+    Readings,
     /// The patched copy panicked.
     Panic(String),
 }
@@ -59,9 +62,14 @@ pub struct Verdict {
 }
 
 impl Judge {
-    /// Causes 1 to 4, else the Rust's run; `also`: the unchanged Rust too.
+    /// Causes 1 to 4 and 11 to 13, else the Rust's run; `also`: the unchanged Rust too.
     pub fn input(&mut self, call: &Call, also: bool) -> Result<(Input, Option<Unchanged>), Wrong> {
-        if let Some((number, place)) = refusal(call.entry, &call.bytes, &call.tokens) {
+        let refused = refusal(call.entry, &call.bytes, &call.tokens);
+        let before = row_causes::before(call.entry, &call.bytes, &call.tokens);
+        if !row_causes::are_related(&call.tokens, before, refused) {
+            return Err(Wrong::Readings);
+        }
+        if let Some((number, place)) = refused {
             return Ok((Input::Bad(number, place), None));
         }
         // the Rust takes text, and a row may cut a character

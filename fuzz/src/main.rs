@@ -1,5 +1,5 @@
-//! The static library against the Rust, and in the strict setting, over texts and for binding powers against a plain
-//! reading of their requests, in one process. ../docs/FUZZING.md says what is compared and how it is run.
+//! The static library against the Rust, and in the strict setting, over texts, for binding powers and for bad rows
+//! against a plain reading of their requests, in one process. ../docs/FUZZING.md says what is compared and how it is run.
 mod buffers;
 mod call;
 mod exact;
@@ -8,6 +8,8 @@ mod judge;
 mod levels;
 mod make;
 mod rng;
+mod row_causes;
+mod rows;
 mod run;
 mod seen;
 mod show;
@@ -32,6 +34,8 @@ fuzz small [--tokens N]
     every list of up to N tokens (default 4) that labels and references are made of
 fuzz expressions [--operators N]
     every expression of up to N operators (default 3)
+fuzz rows [--rows N]
+    every list of up to N rows (default 3) over telling kinds and lengths, good and bad
 fuzz texts [--bytes N] [--of BYTES]
     every text of up to N bytes (default 4) over an alphabet of telling bytes, or over these
 fuzz exact [--seed N] [--cases N]
@@ -68,6 +72,7 @@ fn command(args: &[String]) -> bool {
         }
         Some("small") => small::run(number("--tokens", 4) as u32),
         Some("expressions") => expressions::run(number("--operators", 3) as u32),
+        Some("rows") => rows::run(number("--rows", 3) as u32),
         Some("texts") => texts::every::run(number("--bytes", 4) as u32, bytes_of(args, "--of").as_deref()),
         Some("repeat") if args.len() == 2 => {
             let again = run::repeat(&args[1]).or_else(|| texts::run::repeat(&args[1]));

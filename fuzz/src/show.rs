@@ -54,6 +54,7 @@ pub fn both(judge: &mut Judge, call: &Call) -> bool {
         None => println!("both: {}", answer(&v.given)),
         Some(Wrong::Panic(text)) => println!("the patched Rust panics: {text}"),
         Some(Wrong::Oracle) => println!("the patched and the unchanged Rust differ"),
+        Some(Wrong::Readings) => println!("the readings of bad rows by document 01 and by request 4/14 do not agree"),
         Some(w) => {
             println!("expected: {}\nlibrary:  {}", answer(&v.expected), answer(&v.given));
             match w {

@@ -81,7 +81,7 @@ pub const MAX_TOKENS: usize = MAX_TOKEN_NUMBERS / ROW_TOKEN;
 pub const ACCEPTED: u32 = 0;
 pub const REFUSAL_UNKNOWN_ENTRY: u32 = 1;
 pub const REFUSAL_TOO_LONG: u32 = 2;
-pub const REFUSAL_BAD_ROW: u32 = 3;
+pub const REFUSAL_ODD_COUNT: u32 = 3;
 pub const REFUSAL_BAD_TEXT: u32 = 4;
 pub const REFUSAL_TOO_DEEP: u32 = 5;
 pub const REFUSAL_NO_EVENT_ROOM: u32 = 6;
@@ -90,8 +90,12 @@ pub const REFUSAL_NO_TREE_ROOM: u32 = 8;
 /// Of a text alone.
 pub const REFUSAL_HIGH_BYTE: u32 = 9;
 pub const REFUSAL_DIRECTIVE: u32 = 10;
+/// Of token rows alone.
+pub const REFUSAL_BAD_KIND: u32 = 11;
+pub const REFUSAL_ZERO_LENGTH: u32 = 12;
+pub const REFUSAL_BAD_END: u32 = 13;
 /// How many numbers an answer can have.
-pub const ANSWERS: usize = REFUSAL_DIRECTIVE as usize + 1;
+pub const ANSWERS: usize = REFUSAL_BAD_END as usize + 1;
 
 /// A token row's kind is that of a token below the first, and one of the lexical errors from there to the last.
 pub const TOKEN_FIRST_LEX_ERROR: u32 = 64;

@@ -123,8 +123,8 @@ static void check_names(const char *(*name)(uint32_t), uint32_t first, uint32_t 
 static void check_all_names(void)
 {
     check_names(dt_entry_name, DT_ENTRY_SOURCE_FILE, DT_ENTRY_CELLS, "dt_entry_name");
-    check_names(dt_refusal_name, DT_ACCEPTED, DT_REFUSAL_DIRECTIVE, "dt_refusal_name");
-    check_names(dt_refusal_text, DT_ACCEPTED, DT_REFUSAL_DIRECTIVE, "dt_refusal_text");
+    check_names(dt_refusal_name, DT_ACCEPTED, DT_REFUSAL_BAD_END, "dt_refusal_name");
+    check_names(dt_refusal_text, DT_ACCEPTED, DT_REFUSAL_BAD_END, "dt_refusal_text");
     check_names(dt_token_name, DT_TOKEN_WHITESPACE, DT_TOKEN_QUESTION_MARK, "dt_token_name");
     check_names(dt_token_text, DT_TOKEN_WHITESPACE, DT_TOKEN_QUESTION_MARK, "dt_token_text");
     check_names(dt_lex_error_name, DT_TOKEN_FIRST_LEX_ERROR, DT_TOKEN_LAST_LEX_ERROR, "dt_lex_error_name");
@@ -134,6 +134,9 @@ static void check_all_names(void)
     check_names(dt_message_text, DT_MESSAGE_EXPECTED, DT_MESSAGE_NOT_A_LABEL, "dt_message_text");
     check_names(dt_hint_name, DT_HINT_NONE, DT_HINT_MISSING_LEFT_SIDE, "dt_hint_name");
     check_names(dt_hint_text, DT_HINT_NONE, DT_HINT_MISSING_LEFT_SIDE, "dt_hint_text");
+    expect(strcmp(dt_refusal_name(3), "odd-count") == 0, "dt_refusal_name");
+    expect(strcmp(dt_refusal_name(13), "bad-end") == 0, "dt_refusal_name");
+    expect(strcmp(dt_refusal_text(3), "odd count of token numbers") == 0, "dt_refusal_text");
     expect(strcmp(dt_expected_name(DT_EXPECTED_END), "End") == 0, "dt_expected_name");
     expect(strcmp(dt_expected_text(DT_TOKEN_COMMA), dt_token_text(DT_TOKEN_COMMA)) == 0, "dt_expected_text");
     expect(strcmp(dt_expected_text(100), "?") == 0 && strcmp(dt_expected_text(109), "?") == 0, "dt_expected_text");

@@ -1,38 +1,13 @@
 /* Calls with random numbers in place of entry, setting, bytes, token rows and buffer lengths, calls with random texts,
    and calls at the limits of size.
-   Causes 1 to 3 are worked out here again, those of a text in text.h; of every call it is checked what the buffers hold
-   afterwards. */
+   The causes that come before a parse are worked out again, those of rows in rows.h and those of a text in text.h; of
+   every call it is checked what the buffers hold afterwards. */
 #include "../random.h"
+#include "rows.h"
 #include "text.h"
 
 /* Numbers that an answer can have, of dt_parse and of dt_parse_text. */
-enum { ANSWERS = DT_REFUSAL_NO_TREE_ROOM + 1, TEXT_ANSWERS = DT_REFUSAL_DIRECTIVE + 1 };
-
-static int bad_kind(uint32_t kind)
-{
-    return kind == DT_TOKEN_UNRECOGNIZED || kind == DT_TOKEN_NAME ||
-           (kind > DT_TOKEN_QUESTION_MARK && kind < DT_TOKEN_FIRST_LEX_ERROR) || kind > DT_TOKEN_LAST_LEX_ERROR;
-}
-
-/* Causes 1 to 3: the number and its place, or DT_ACCEPTED where none of them is met. */
-static uint32_t early(uint32_t entry, size_t n, const uint32_t *tokens, size_t t, size_t *place)
-{
-    const struct dt_token_row *rows = (const struct dt_token_row *)tokens;
-    uint64_t end = 0;
-    *place = 0;
-    if (entry < DT_ENTRY_SOURCE_FILE || entry > DT_ENTRY_CELLS)
-        return DT_REFUSAL_UNKNOWN_ENTRY;
-    if (n > DT_MAX_BYTES || t > DT_MAX_TOKEN_NUMBERS)
-        return DT_REFUSAL_TOO_LONG;
-    for (size_t i = 0; i < t / DT_ROW_TOKEN; i++) {
-        end += rows[i].length;
-        *place = i;
-        if (bad_kind(rows[i].kind) || rows[i].length == 0 || end > n)
-            return DT_REFUSAL_BAD_ROW;
-    }
-    *place = t / DT_ROW_TOKEN;
-    return t % DT_ROW_TOKEN || end != n ? DT_REFUSAL_BAD_ROW : DT_ACCEPTED;
-}
+enum { ANSWERS = DT_REFUSAL_BAD_END + 1, TEXT_ANSWERS = DT_REFUSAL_DIRECTIVE + 1 };
 
 /* The rows, read as a caller reads them, are one tree over all of the input. */
 static void check_root(const char *name, const struct dt_tree_row *trees, size_t count, size_t n)
@@ -86,17 +61,18 @@ static uint32_t random_setting(void)
     return below(2) ? DT_SETTING_OLD : below(2) ? DT_SETTING_STRICT : below(4294967295u);
 }
 
-/* Number, place, counts and buffers agree with one another and with causes 1 to 3. Gives the number. */
-static uint32_t checked(const char *name, uint32_t entry, const uint8_t *bytes, size_t n, const uint32_t *tokens,
-                        size_t t, struct buffer *b)
+/* Number, place, counts and buffers agree with one another and with the early causes. Gives the answer. */
+static struct dt_answer checked(const char *name, uint32_t entry, const uint8_t *bytes, size_t n,
+                                const uint32_t *tokens, size_t t, struct buffer *b)
 {
     size_t place, used[BUFFERS];
     uint32_t number = early(entry, n, tokens, t, &place), setting = random_setting();
     struct dt_answer a = call(entry, setting, bytes, n, tokens, t, b);
     counted(a, used);
-    if (number ? a.number != number || a.place != place : a.number && a.number <= DT_REFUSAL_BAD_ROW)
-        fail(name, "not the refusal of causes 1 to 3");
-    if (a.number >= ANSWERS || (a.number == DT_ACCEPTED && a.place != 0))
+    if (number ? a.number != number || a.place != place : is_early(a.number))
+        fail(name, "not the refusal of causes 1 to 3 and 11 to 13");
+    if (a.number >= ANSWERS || a.number == DT_REFUSAL_HIGH_BYTE || a.number == DT_REFUSAL_DIRECTIVE ||
+        (a.number == DT_ACCEPTED && a.place != 0))
         fail(name, "a number or a place that there is not");
     if (a.number && (a.tree_count || a.error_count || a.report_count || a.expectation_count))
         fail(name, "a refused call that counts something");
@@ -105,12 +81,12 @@ static uint32_t checked(const char *name, uint32_t entry, const uint8_t *bytes, 
     if (a.number == DT_ACCEPTED)
         check_root(name, (const struct dt_tree_row *)b[TREES].numbers, a.tree_count, n);
     for (int i = 0; i < BUFFERS; i++) {
-        int left = b[i].length > used[i] && a.number && a.number <= DT_REFUSAL_BAD_TEXT;
+        int left = b[i].length > used[i] && (is_early(a.number) || a.number == DT_REFUSAL_BAD_TEXT);
         if (used[i] > b[i].length || rest(b[i], used[i]) != left)
             fail(name, "a buffer does not hold what it should");
         give_back(name, b[i]);
     }
-    return a.number;
+    return a;
 }
 
 /* A row of one byte: a kind whose text is that byte, or a kind of any text. */
@@ -137,13 +113,22 @@ static uint32_t random_kind(uint8_t *byte)
     return KINDS[i];
 }
 
-/* Rows that could be right, except for a random number in one call of three, in the rows, the entry or the count of
-   bytes. */
-static void random_call(size_t *met)
+/* A kind or a length that is often wrong. Added to others, some lengths wrap in 32 bits to one that would be right. */
+static uint32_t random_number(void)
+{
+    static const uint32_t EDGES[] = {
+        0, 1, 2, 24, 25, 26, 27, 60, 61, 63, 64, 74, 75, 2147483647, 2147483648u, 4294967294u, 4294967295u,
+    };
+    return below(3) == 0 ? EDGES[below(sizeof EDGES / sizeof *EDGES)] : below(2) ? below(80) : below(4294967295u);
+}
+
+/* Rows that could be right, except in one call of three for up to three random numbers in them; sometimes with another
+   entry, another count of bytes, a number left out or one left over. */
+static void random_call(size_t *met, size_t *short_totals)
 {
     enum { MOST = 64 };
     uint8_t bytes[MOST];
-    struct dt_token_row rows[MOST];
+    struct dt_token_row rows[MOST + 1];
     uint32_t *tokens = (uint32_t *)rows, entry = DT_ENTRY_SOURCE_FILE + below(DT_ENTRY_CELLS);
     struct buffer b[BUFFERS];
     size_t n = below(MOST + 1), t = DT_ROW_TOKEN * n;
@@ -153,15 +138,20 @@ static void random_call(size_t *met)
         rows[i].kind = random_kind(&bytes[i]);
         rows[i].length = 1;
     }
-    if (below(3) == 0 && t > 0)
-        tokens[below((uint32_t)t)] = below(2) ? below(80) : below(4294967295u);
+    for (uint32_t i = below(3) ? 0 : 1 + below(3); i > 0 && t > 0; i--)
+        tokens[below((uint32_t)t)] = random_number();
     if (below(20) == 0)
         entry = below(7);
     if (below(20) == 0)
         n = below(MOST + 1);
+    tokens[t] = random_number();
+    if (below(20) == 0)
+        t = below(2) && t > 0 ? t - 1 : t + 1;
     for (int i = 0; i < BUFFERS; i++)
         b[i] = lend(below(8) ? 700 + below(4000) : below(200));
-    met[checked("garbage", entry, bytes, n, tokens, t, b)]++;
+    struct dt_answer a = checked("garbage", entry, bytes, n, tokens, t, b);
+    met[a.number]++;
+    *short_totals += a.number == DT_REFUSAL_BAD_END && a.place == t / DT_ROW_TOKEN;
 }
 
 /* Adds a piece of a text: what tokens and directives are made of, or bytes. */
@@ -221,40 +211,71 @@ static void expect(const char *name, uint32_t found, uint32_t number)
     printf("%s: %u\n", name, number);
 }
 
-/* One comment of as many bytes as a call may have, and of one more. */
+/* One call of a source file with little room. */
+static void expect_call(const char *name, const uint8_t *bytes, size_t n, const uint32_t *tokens, size_t t,
+                        size_t trees, uint32_t number, size_t place)
+{
+    struct buffer b[BUFFERS];
+    lend_little(b, trees);
+    struct dt_answer a = checked(name, DT_ENTRY_SOURCE_FILE, bytes, n, tokens, t, b);
+    if (a.place != place)
+        fail(name, "another place");
+    expect(name, a.number, number);
+}
+
+/* One comment of as many bytes as a call may have, of one more, and of more than there are. */
 static void byte_limit(void)
 {
-    enum { OVER = DT_MAX_BYTES + 1 };
-    const uint32_t most[DT_ROW_TOKEN] = {DT_TOKEN_BLOCK_COMMENT, DT_MAX_BYTES};
-    const uint32_t over[DT_ROW_TOKEN] = {DT_TOKEN_BLOCK_COMMENT, OVER}, entry = DT_ENTRY_SOURCE_FILE;
+    enum { OVER = DT_MAX_BYTES + 1, ONE = DT_ROW_TOKEN, TREE = 2 * DT_ROW_TREE };
+    const uint32_t most[ONE] = {DT_TOKEN_BLOCK_COMMENT, DT_MAX_BYTES}, over[ONE] = {DT_TOKEN_BLOCK_COMMENT, OVER};
     uint8_t *bytes = calloc(OVER, 1);
-    struct buffer b[BUFFERS];
-    lend_little(b, 2 * DT_ROW_TREE);
-    expect("1,048,576 bytes", checked("bytes", entry, bytes, DT_MAX_BYTES, most, DT_ROW_TOKEN, b), DT_ACCEPTED);
-    lend_little(b, 2 * DT_ROW_TREE);
-    expect("1,048,577 bytes", checked("bytes", entry, bytes, OVER, over, DT_ROW_TOKEN, b), DT_REFUSAL_TOO_LONG);
+    expect_call("1,048,576 bytes", bytes, DT_MAX_BYTES, most, ONE, TREE, DT_ACCEPTED, 0);
+    expect_call("1,048,577 bytes", bytes, OVER, over, ONE, TREE, DT_REFUSAL_TOO_LONG, 0);
+    expect_call("1,048,576 bytes, a token of one more", bytes, DT_MAX_BYTES, over, ONE, TREE, DT_REFUSAL_BAD_END, 0);
     free(bytes);
 }
 
-/* Blanks of one byte each: as many rows as a call may have, and one more. */
+/* Blanks of one byte each: as many rows as a call may have, and one more; then the last of them or the count of numbers
+   wrong. */
 static void row_limit(void)
 {
     enum { MOST = DT_MAX_TOKEN_NUMBERS / DT_ROW_TOKEN, OVER = MOST + 1, TREE = DT_ROW_TREE * (MOST + 1) };
+    enum { NUMBERS = DT_ROW_TOKEN * MOST, LAST = MOST - 1 };
     uint8_t *bytes = calloc(OVER, 1);
     struct dt_token_row *rows = calloc(OVER, sizeof *rows);
-    const uint32_t *tokens = (const uint32_t *)rows, entry = DT_ENTRY_SOURCE_FILE;
-    struct buffer b[BUFFERS];
+    const uint32_t *tokens = (const uint32_t *)rows;
     for (size_t i = 0; i < OVER; i++)
         rows[i] = (struct dt_token_row){DT_TOKEN_WHITESPACE, 1};
-    lend_little(b, TREE);
-    expect("65,536 blanks", checked("rows", entry, bytes, MOST, tokens, DT_ROW_TOKEN * MOST, b), DT_ACCEPTED);
-    lend_little(b, TREE - 1);
-    expect("65,536 blanks, one number of the tree fewer",
-           checked("rows", entry, bytes, MOST, tokens, DT_ROW_TOKEN * MOST, b), DT_REFUSAL_NO_TREE_ROOM);
-    lend_little(b, TREE);
-    expect("65,537 blanks", checked("rows", entry, bytes, OVER, tokens, DT_ROW_TOKEN * OVER, b), DT_REFUSAL_TOO_LONG);
+    expect_call("65,536 blanks", bytes, MOST, tokens, NUMBERS, TREE, DT_ACCEPTED, 0);
+    expect_call("65,536 blanks, one number of the tree fewer", bytes, MOST, tokens, NUMBERS, TREE - 1,
+                DT_REFUSAL_NO_TREE_ROOM, 0);
+    expect_call("65,537 blanks", bytes, OVER, tokens, DT_ROW_TOKEN * OVER, TREE, DT_REFUSAL_TOO_LONG, 0);
+    expect_call("131,073 numbers", bytes, MOST, tokens, NUMBERS + 1, TREE, DT_REFUSAL_TOO_LONG, 0);
+    expect_call("131,071 numbers", bytes, MOST, tokens, NUMBERS - 1, TREE, DT_REFUSAL_ODD_COUNT, LAST);
+    expect_call("65,536 blanks over one byte more", bytes, OVER, tokens, NUMBERS, TREE, DT_REFUSAL_BAD_END, MOST);
+    expect_call("65,536 blanks over one byte fewer", bytes, LAST, tokens, NUMBERS, TREE, DT_REFUSAL_BAD_END, LAST);
+    rows[LAST].length = 0;
+    expect_call("the last of no bytes", bytes, LAST, tokens, NUMBERS, TREE, DT_REFUSAL_ZERO_LENGTH, LAST);
+    rows[LAST].kind = DT_TOKEN_NAME;
+    expect_call("and a Name", bytes, LAST, tokens, NUMBERS, TREE, DT_REFUSAL_BAD_KIND, LAST);
     free(rows);
     free(bytes);
+}
+
+/* The order of causes, and sums that are exact where 32 bits would wrap. */
+static void row_causes(void)
+{
+    enum { TREE = 3 * DT_ROW_TREE };
+    static const uint8_t bytes[] = "ab";
+    const uint32_t odd[] = {99, 0, 27}, kind[] = {27, 1, 26, 0}, zero[] = {27, 2, 27, 0, 26, 1};
+    const uint32_t wraps[] = {27, 1, 27, 4294967295u, 27, 2}, shorter[] = {29, 1}, text[] = {29, 1, 27, 1};
+    expect_call("99, 0, 27 over one byte", bytes, 1, odd, 3, TREE, DT_REFUSAL_ODD_COUNT, 1);
+    expect_call("a bad kind of length 0", bytes, 1, kind, 4, TREE, DT_REFUSAL_BAD_KIND, 1);
+    expect_call("length 0 before a bad kind", bytes, 2, zero, 6, TREE, DT_REFUSAL_ZERO_LENGTH, 1);
+    expect_call("lengths 1, 2^32 - 1, 2 over two bytes", bytes, 2, wraps, 6, TREE, DT_REFUSAL_BAD_END, 1);
+    expect_call("a short total, and another text", bytes, 2, shorter, 2, TREE, DT_REFUSAL_BAD_END, 1);
+    expect_call("no rows over one byte", bytes, 1, NULL, 0, TREE, DT_REFUSAL_BAD_END, 0);
+    expect_call("another text", bytes, 2, text, 4, TREE, DT_REFUSAL_BAD_TEXT, 0);
 }
 
 /* A piece so often, its last byte exchanged for another unless that is 0; with so much room for tokens and the tree. */
@@ -302,13 +323,20 @@ static void print_met(const char *what, const size_t *met, int count)
 
 int main(void)
 {
-    size_t met[ANSWERS] = {0}, met_by_text[TEXT_ANSWERS] = {0};
+    size_t met[ANSWERS] = {0}, met_by_text[TEXT_ANSWERS] = {0}, short_totals = 0;
     byte_limit();
     row_limit();
+    row_causes();
     text_limits();
     for (int i = 0; i < 200000; i++)
-        random_call(met);
+        random_call(met, &short_totals);
     print_met("200000 calls with random numbers", met, ANSWERS);
+    printf("of 13 for a short total: %zu\n", short_totals);
+    for (uint32_t i = 0; i < ANSWERS; i++)
+        if (is_early(i) && i != DT_REFUSAL_TOO_LONG && met[i] == 0)
+            fail("random numbers", "a cause was never met");
+    if (short_totals == 0 || short_totals == met[DT_REFUSAL_BAD_END])
+        fail("random numbers", "only one of the two causes of 13 was met");
     for (int i = 0; i < 200000; i++)
         random_text(met_by_text);
     print_met("200000 random texts, some in several lengths of the token buffer", met_by_text, TEXT_ANSWERS);

@@ -179,7 +179,7 @@ static struct dt_text_answer checked_text(const struct text *t, const size_t *le
     uint32_t number = a.answer.number, early = early_of_text(t);
     if (early ? number != early : number == DT_REFUSAL_UNKNOWN_ENTRY)
         fail(t->name, "not the refusal 1, or 2 for bytes");
-    if (number > DT_REFUSAL_DIRECTIVE || number == DT_REFUSAL_BAD_ROW || number == DT_REFUSAL_BAD_TEXT)
+    if (number > DT_REFUSAL_DIRECTIVE || number == DT_REFUSAL_ODD_COUNT || number == DT_REFUSAL_BAD_TEXT)
         fail(t->name, "a number that a text cannot have");
     if (number <= DT_REFUSAL_TOO_LONG && a.answer.place != 0)
         fail(t->name, "a place that there is not");

@@ -166,7 +166,7 @@ class Drawer:
         assert at and (said[at - 1].most_open == MOST_OPEN or said[at - 1].most_pending == MOST_PENDING)
         return lists[at - 1 : at + 1]
 
-    # ------------------------------------------------------------ bad input: causes 1 to 4
+    # ------------------------------------------------------------ bad input: causes 1 to 4 and 11 to 13
 
     def damage(self, case):
         """One thing wrong, now and then two."""

@@ -1,8 +1,10 @@
-"""The expected result of a case. Causes 1 to 4 and the buffers' final contents are document 01's table, written here in
-a few lines; everything else is the answer of oracle/ (`oracle doc01 any`: the patched copy of the Rust), in the strict
-setting with the reports that strict.py adds."""
-from compare.case import ERROR_ROW, ERRORS, EVENT_ROW, MOST_BYTES, MOST_NUMBERS, REPORT_ROW, TOKEN_ROW, TREE_ROW
+"""The expected result of a case. Causes 1, 2 and 4 and the buffers' final contents are document 01's table, written
+here in a few lines; what is wrong with the rows, between 2 and 4, is row_causes.py; everything else is the answer of
+oracle/ (`oracle doc01 any`: the patched copy of the Rust), in the strict setting with the reports that strict.py
+adds."""
+from compare.case import ERROR_ROW, ERRORS, EVENT_ROW, MOST_BYTES, MOST_NUMBERS, REPORT_ROW, TREE_ROW
 from compare.case import Result, case_line
+from compare.row_causes import bad_rows
 from compare.strict import with_labels
 from oracle_program import Program
 
@@ -59,25 +61,25 @@ class Oracle(Program):
         return self.run(["rows", "any", "--no-tokens"], case_line(case, ROOM) + "\n")
 
     def refused_early(self, case):
-        """Number and place of causes 1 to 4, or None."""
+        """Number and place of the causes before a parse, 1 to 4 and 11 to 13, or None."""
         data, numbers = case.data(), case.numbers()
         if not 1 <= case.entry <= 4:
             return 1, 0
         if len(data) > MOST_BYTES or len(numbers) > MOST_NUMBERS:
             return 2, 0
-        start, tokens = 0, []
-        for i in range(len(numbers) // TOKEN_ROW):
-            kind, length = numbers[TOKEN_ROW * i : TOKEN_ROW * (i + 1)]
-            known = kind in self.inputs or kind in ERRORS
-            if not known or length == 0 or start + length > len(data):
-                return 3, i
-            tokens.append((kind, data[start : start + length]))
-            start += length
-        if len(numbers) % TOKEN_ROW or start != len(data):
-            return 3, len(tokens)
-        for i, (kind, text) in enumerate(tokens):
-            if text != self.texts.get(kind, text):
+        return bad_rows(numbers, len(data), self.is_input) or self.wrong_text(case.rows, data)
+
+    def is_input(self, kind):
+        return kind in self.inputs or kind in ERRORS
+
+    def wrong_text(self, rows, data):
+        """Cause 4 of good rows, or None."""
+        start = 0
+        for i, row in enumerate(rows):
+            text = data[start : start + row.length]
+            if text != self.texts.get(row.kind, text):
                 return 4, i
+            start += row.length
         return None
 
     def results(self, cases):

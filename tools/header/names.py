@@ -19,10 +19,16 @@ MESSAGES = {
 ADDED_MESSAGES = {
     "not-a-label": "Label names can only hold letters, digits and underscores, and can't start with a digit",
 }
-# Causes of document 02, after those of document 01's table.
+# Causes of document 02: those that it adds to document 01's table, and what it leaves of cause 3 there.
 ADDED_CAUSES = {
     "high-byte": "byte of 128 or more",
     "directive": "preprocessor directive at a token start",
+    "bad-kind": "bad kind of a token row",
+    "zero-length": "token row of length 0",
+    "bad-end": "a token ends past the input, or the total is short",
+}
+CHANGED_CAUSES = {
+    "odd-count": "odd count of token numbers",
 }
 HINTS = {
     "unnamed-property": (GRAMMAR, "item", 0),
@@ -194,7 +200,8 @@ class Names:
     def calls(self):
         entries, refusals, cause = self.repo.entries(), self.repo.refusals(), causes(self.repo)
         accepted = [("DT_ACCEPTED", "accepted")]
-        texts = {name: cause[number] for name, number in refusals.items() if number in cause} | ADDED_CAUSES
+        texts = {name: cause[number] for name, number in refusals.items() if number in cause}
+        texts |= CHANGED_CAUSES | ADDED_CAUSES
         yield function("dt_entry_name", "entry", "What is parsed, of enum dt_entry.", self.cases("DT_ENTRY_", entries))
         yield function("dt_refusal_name", "number", "Why a call was refused, of enum dt_refusal.",
                        [*accepted, *self.cases("DT_REFUSAL_", refusals)])

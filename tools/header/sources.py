@@ -1,4 +1,5 @@
 """What the definitions, the code and the Rust say: tables from names to numbers, in their files' own spelling."""
+import collections
 import pathlib
 import re
 
@@ -68,10 +69,23 @@ class Repository:
         return self.numbered(SPECS + "Text.antt", "text-number")
 
     def numbered(self, path, function):
-        """The cases of a function from refusals to the numbers of Layout.antt."""
+        """The cases of a function from refusals to the numbers of Layout.antt. Cases that share a number are one cause,
+        by the number's own name there."""
         found = re.findall(r"^%s \(?(?:has-)?([\w-]+).*= ([A-Z-]+)$" % function, self.text(path), re.M)
-        numbers = self.spec(SPECS + "Layout.antt")
-        return {n: numbers[v] for n, v in found}
+        numbers, cases = self.spec(SPECS + "Layout.antt"), collections.Counter(v for _, v in found)
+        return {n if cases[v] == 1 else v.lower(): numbers[v] for n, v in found}
+
+    def row_kinds(self):
+        """The kinds that a token row may have, as ranges of numbers."""
+        said = re.search(r"^is-kind k = \(leb k K\.(\w+)(.*)\) \|\| \(leb L\.(\w+) k && leb k L\.(\w+)\)$",
+                         self.text(SPECS + "RowCauses.antt"), re.M)
+        if not said:
+            return []
+        kinds, errors = self.spec(SPECS + "TokenKind.antt"), self.spec(SPECS + "LexError.antt")
+        left_out = {kinds[n] for n in re.findall(r" && not \(eqb k K\.(\w+)\)", said[2])}
+        allowed = sorted({*range(kinds[said[1]] + 1)} - left_out | {*range(errors[said[3]], errors[said[4]] + 1)})
+        first = [k for k in allowed if k - 1 not in allowed]
+        return [*zip(first, [k for k in allowed if k + 1 not in allowed])]
 
     def directive_words(self):
         """The words after a # that a text is refused for."""

@@ -22,13 +22,18 @@ def counted(title, counter):
     return "%s: %s" % (title, ", ".join("%s: %d" % (k, counter[k]) for k in sorted(counter)))
 
 
+# of a call over token rows
+REFUSALS = 1, 2, 3, 4, 5, 6, 7, 8, 11, 12, 13
+
+
 def table(answers):
     """Lines: by entry, and then what appears how often, number: times."""
-    lines = ["| Entry | Cases | Accepted | " + " | ".join("Refused %d" % n for n in range(1, 9)) + " |", "|---" * 11 + "|"]
+    titles = ["Entry", "Cases", "Accepted", *("Refused %d" % n for n in REFUSALS)]
+    lines = ["| %s |" % " | ".join(titles), "|---" * len(titles) + "|"]
     for entry in (1, 2, 3, 4, "others"):
         of = [a for a in answers if (a.case.entry if 1 <= a.case.entry <= 4 else "others") == entry]
         number = Counter(a.number for a in of)
-        lines.append("| %s | %d | %s |" % (entry, len(of), " | ".join(str(number[n]) for n in range(9))))
+        lines.append("| %s | %d | %s |" % (entry, len(of), " | ".join(str(number[n]) for n in (0, *REFUSALS))))
     good = [a for a in answers if a.number == 0]
     reports = [r for a in good for r in rows(ReportRow, a.parsed.reports)]
     errors = [r for a in good for r in rows(ErrorRow, a.parsed.lexical)]

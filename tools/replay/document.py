@@ -86,17 +86,10 @@ SENTENCES = [
     ("error-token", 1, f"toks Ident,{LAST_ERROR},Semicolon a`;", ROOM, accepted()),
 ]
 
+# those of rows that are bad, cause 3 once, are in row_causes.py
 CAUSES = [
     ("cause-1-entry-0", 0, "toks Ident a", (9, 9, 9, 9, 9), refused(1, 0)),
     ("cause-1-entry-5", 5, "toks Unrecognized a", (9, 9, 9, 9, 9), refused(1, 0)),
-    ("cause-3-kind-25", 1, "toks Ident,Unrecognized ab", (9, 9, 9, 9, 9), refused(3, 1)),
-    ("cause-3-kind-26", 1, "toks Name a", (9, 9, 9, 9, 9), refused(3, 0)),
-    ("cause-3-kind-61", 1, "toks 61 a", (9, 9, 9, 9, 9), refused(3, 0)),
-    ("cause-3-kind-75", 1, "toks 75 a", (9, 9, 9, 9, 9), refused(3, 0)),
-    ("cause-3-length-0", 1, "toks Ident,Ident:0 a", (9, 9, 9, 9, 9), refused(3, 1)),
-    ("cause-3-end", 1, "toks Ident,Ident:2 ab", (9, 9, 9, 9, 9), refused(3, 1)),
-    ("cause-3-total", 1, "toks Ident ab", (9, 9, 9, 9, 9), refused(3, 1)),
-    ("cause-3-before-4", 1, "toks Semicolon,61 ,a", (9, 9, 9, 9, 9), refused(3, 1)),
     ("cause-4", 1, "toks Ident,Semicolon a:", (9, 9, 9, 9, 9), refused(4, 1)),
     # an error's event is pushed before its report row; a row and its expectations
     ("cause-6-event-first", 1, "text }", (0, 20, 0, 0, 0), refused(6, 0)),

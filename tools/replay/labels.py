@@ -107,9 +107,9 @@ REFUSED = [
     ("label-after-own-report", 1, 1, "text 1a:c{};}", dict(reports=9), refused(7, 0)),
     ("lexical-errors-do-not-fit", 1, 1, ERROR_TOKEN, dict(errors=2, reports=18), refused(8, 0)),
     ("label-before-lexical-errors", 1, 1, ERROR_TOKEN, dict(errors=2, reports=17), refused(7, 0)),
-    # causes 1 to 4 come first in either setting
+    # the causes before a parse come first in either setting
     ("strict-entry-5", 5, 1, "toks Number 1", (9, 9, 9, 9, 9), refused(1, 0)),
-    ("strict-bad-row", 2, 1, "toks Number,Name 1a", (9, 9, 9, 9, 9), refused(3, 1)),
+    ("strict-bad-row", 2, 1, "toks Number,Name 1a", (9, 9, 9, 9, 9), refused(11, 1)),
     ("strict-bad-text", 2, 1, "toks Number,Semicolon 1:", (9, 9, 9, 9, 9), refused(4, 1)),
 ]
 

@@ -1,7 +1,7 @@
 //! The lent buffers, and how much room is tried.
 
 use crate::rows::{EVENT_ROW, ErrorRow, ReportRow, TokenRow, TreeRow};
-use crate::{Input, Refusal};
+use crate::{Input, LexError, Refusal};
 
 /// The buffers that a call writes. Token rows are written by a call with a text alone.
 #[derive(Debug, Default)]
@@ -38,15 +38,17 @@ pub(crate) struct Room {
 }
 
 impl Room {
-    /// What suffices for nearly every file.
-    pub fn first(input: &Input<'_>) -> Self {
-        Self::usual(input.tokens.len().min(Input::MAX_TOKENS)).at_most(Self::most(input))
+    /// What suffices for nearly every file with these token rows.
+    pub fn first(rows: &[u32]) -> Self {
+        let most = Self::most(rows);
+        Self::usual(token_count(rows)).at_most(most)
     }
 
-    /// What suffices for every run on these tokens. There are as many lexical errors as error tokens.
-    pub fn most(input: &Input<'_>) -> Self {
-        let n = input.tokens.len().min(Input::MAX_TOKENS);
-        let errors = input.tokens.iter().filter(|token| token.kind.is_err()).take(n).count();
+    /// What suffices for every run on these token rows. There are as many lexical errors as error tokens.
+    pub fn most(rows: &[u32]) -> Self {
+        let n = token_count(rows);
+        let is_error = |row: &&[u32; TokenRow::SIZE]| LexError::from_number(TokenRow::from(**row).kind).is_some();
+        let errors = rows.as_chunks().0.iter().take(n).filter(is_error).count();
         Self { errors, ..Self::bound(n) }
     }
 
@@ -108,13 +110,18 @@ impl Room {
     }
 }
 
+/// How many whole rows there are; rows that are too many are refused, and need no room.
+fn token_count(rows: &[u32]) -> usize {
+    (rows.len() / TokenRow::SIZE).min(Input::MAX_TOKENS)
+}
+
 #[cfg(test)]
 mod tests {
     use super::*;
-    use crate::{Token, TokenKind};
+    use crate::TokenKind;
 
-    fn blanks(n: usize) -> Input<'static> {
-        Input::new(b"", vec![Token::new(TokenKind::Whitespace, 1); n])
+    fn blanks(n: usize) -> Vec<u32> {
+        [TokenKind::Whitespace.number(), 1].repeat(n)
     }
 
     #[test]
@@ -157,7 +164,7 @@ mod tests {
     fn more_room_is_no_help_against_bad_input() {
         let room = Room { tokens: 0, events: 0, trees: 0, errors: 0, reports: 0, pool: 0 };
         let most = Room::most(&blanks(1));
-        for number in [1, 2, 3, 4, 5, 9, 10] {
+        for number in [1, 2, 3, 4, 5, 9, 10, 11, 12, 13] {
             let refusal = Refusal::from_number(number, 0).unwrap();
             assert_eq!(room.after(refusal, most), None);
         }
@@ -181,6 +188,13 @@ mod tests {
         let (longest, longer) = (b" ".repeat(Input::MAX_BYTES), b" ".repeat(Input::MAX_BYTES + 1));
         assert_eq!(Room::most_for_text(&longest).tokens, Input::MAX_TOKENS);
         assert_eq!(Room::most_for_text(&longer).tokens, 0);
+    }
+
+    #[test]
+    fn there_is_room_for_each_error_token_and_none_for_half_a_row() {
+        let rows = [64, 1, 0, 1, 74, 1, 75, 1, 64];
+        assert_eq!(Room::most(&rows), Room { errors: 2, ..Room::most(&blanks(4)) });
+        assert_eq!(Room::first(&rows).errors, 2);
     }
 
     #[test]

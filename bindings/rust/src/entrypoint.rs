@@ -56,6 +56,50 @@ impl Entrypoint {
         Parser::new().parse_in(setting, self, input)
     }
 
+    /// Parses a text with its tokens as plain numbers, in the [old setting](Setting::Old): a kind and a length for each
+    /// token, one after the other, as a lexer outside of Rust writes them. Any numbers may be passed. What is wrong with
+    /// rows is said by [`RowError`](crate::RowError), and by the call itself: nothing is looked at before it.
+    ///
+    /// ```
+    /// use dt_parser::{Entrypoint, Error, RowErrorKind, Token, TokenKind};
+    /// let read = Entrypoint::SourceFile.parse_rows(b"a;", &[27, 1, 29, 1])?;
+    /// assert!(read.parse.is_clean());
+    /// assert_eq!(read.input.tokens[1], Token::new(TokenKind::Semicolon, 1));
+    ///
+    /// match Entrypoint::SourceFile.parse_rows(b"a;", &[27, 1, 26, 1]) {
+    ///     Err(Error::BadRows(why)) => {
+    ///         assert_eq!((why.row(), why.kind()), (1, RowErrorKind::BadKind { kind: 26 }));
+    ///         assert_eq!(why.message(), "row 1, counted from 0, has kind 26 (Name), which only the parser makes");
+    ///         assert_eq!(why.allowed(), "a row's kind is 0 to 24, 27 to 60 or 64 to 74");
+    ///     }
+    ///     other => panic!("{other:?}"),
+    /// }
+    /// # Ok::<(), Error>(())
+    /// ```
+    ///
+    /// # Errors
+    ///
+    /// If the call is refused: see [`Error`].
+    pub fn parse_rows<'i>(self, text: &'i [u8], rows: &[u32]) -> Result<TextParse<'i>, Error> {
+        Parser::new().parse_rows(self, text, rows)
+    }
+
+    /// The same in a setting.
+    ///
+    /// ```
+    /// use dt_parser::{Entrypoint, Message, Setting};
+    /// let read = Entrypoint::ReferenceNoamp.parse_rows_in(Setting::Strict, b"1a", &[35, 1, 27, 1])?;
+    /// assert_eq!(read.parse.reports[0].message, Message::NotALabel);
+    /// # Ok::<(), dt_parser::Error>(())
+    /// ```
+    ///
+    /// # Errors
+    ///
+    /// If the call is refused: see [`Error`].
+    pub fn parse_rows_in<'i>(self, setting: Setting, text: &'i [u8], rows: &[u32]) -> Result<TextParse<'i>, Error> {
+        Parser::new().parse_rows_in(setting, self, text, rows)
+    }
+
     /// Parses a text in the [old setting](Setting::Old). Its tokens are read by the rules of dt-tools' lexer. It must be
     /// plain ASCII, without directives of the preprocessor.
     ///

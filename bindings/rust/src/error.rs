@@ -1,10 +1,10 @@
 //! Why there is no answer: the refusals of documents 01 and 02, and what must not happen.
 
-use crate::Input;
+use crate::{Input, RowError};
 use std::fmt;
 
-/// A refused call: document 01's causes 1 to 8, and 9 and 10, of a text alone ([`TextError`](crate::TextError) says more
-/// of these).
+/// A refused call: document 01's causes 1 to 8; 9 and 10, of a text alone ([`TextError`](crate::TextError) says more of
+/// these); 3 and 11 to 13, of token rows ([`RowError`] says more of these).
 #[derive(Debug, Clone, Copy, PartialEq, Eq, Hash)]
 #[non_exhaustive]
 pub enum Refusal {
@@ -12,9 +12,8 @@ pub enum Refusal {
     UnknownEntry,
     /// 2: over [`Input::MAX_BYTES`] bytes or over [`Input::MAX_TOKENS`] tokens.
     TooLong,
-    /// 3: this token's kind may not be input, its length is 0 or its end is past the text; or, with the number of
-    /// tokens, the tokens end before the text does.
-    BadRow(usize),
+    /// 3: the count of token numbers is odd, so that this row, which follows so many whole ones, has no length.
+    OddCount(usize),
     /// 4: this token's bytes are not the one text of its kind.
     BadText(usize),
     /// 5: over [`Input::MAX_OPEN_CALLS`] open calls or over [`Input::MAX_EXPECTATIONS`] pending expectations, after so
@@ -31,6 +30,12 @@ pub enum Refusal {
     HighByte(usize),
     /// 10: a token of a text begins like a preprocessor directive; its `#` is at this offset.
     Directive(usize),
+    /// 11: this row's kind is none that a row may have.
+    BadKind(usize),
+    /// 12: this row's length is 0.
+    ZeroLength(usize),
+    /// 13: this row's token ends past the input; or, with the count of rows, the tokens end before the input does.
+    BadEnd(usize),
 }
 
 impl Refusal {
@@ -49,11 +54,11 @@ impl Refusal {
     }
 
     /// Every refusal, with this place where it has one.
-    const fn all_at(place: usize) -> [Self; 10] {
+    const fn all_at(place: usize) -> [Self; 13] {
         [
             Self::UnknownEntry,
             Self::TooLong,
-            Self::BadRow(place),
+            Self::OddCount(place),
             Self::BadText(place),
             Self::TooDeep(place),
             Self::NoEventRoom(place),
@@ -61,6 +66,9 @@ impl Refusal {
             Self::NoTreeRoom,
             Self::HighByte(place),
             Self::Directive(place),
+            Self::BadKind(place),
+            Self::ZeroLength(place),
+            Self::BadEnd(place),
         ]
     }
 
@@ -69,18 +77,23 @@ impl Refusal {
         matches!(self, Self::HighByte(_) | Self::Directive(_))
     }
 
+    /// Whether it is about the numbers of token rows: [`RowError`] has it with what is wrong there.
+    pub(crate) const fn is_of_row_numbers(self) -> bool {
+        matches!(self, Self::OddCount(_) | Self::BadKind(_) | Self::ZeroLength(_) | Self::BadEnd(_))
+    }
+
     /// Whether a buffer was too small, and not the input refused.
     pub(crate) const fn is_about_room(self) -> bool {
         matches!(self, Self::NoEventRoom(_) | Self::NoReportRoom(_) | Self::NoTreeRoom)
     }
 
-    /// Its number, 1 to 10.
+    /// Its number, 1 to 13.
     #[must_use]
     pub const fn number(self) -> u32 {
         match self {
             Self::UnknownEntry => 1,
             Self::TooLong => 2,
-            Self::BadRow(_) => 3,
+            Self::OddCount(_) => 3,
             Self::BadText(_) => 4,
             Self::TooDeep(_) => 5,
             Self::NoEventRoom(_) => 6,
@@ -88,21 +101,27 @@ impl Refusal {
             Self::NoTreeRoom => 8,
             Self::HighByte(_) => 9,
             Self::Directive(_) => 10,
+            Self::BadKind(_) => 11,
+            Self::ZeroLength(_) => 12,
+            Self::BadEnd(_) => 13,
         }
     }
 
-    /// Its place: a token's index, or how many tokens had been passed, of 9 and 10 a byte's offset; 0 where it has none.
+    /// Its place: a row's index, or how many tokens had been passed, of 9 and 10 a byte's offset; 0 where it has none.
     #[must_use]
     pub const fn place(self) -> usize {
         match self {
             Self::UnknownEntry | Self::TooLong | Self::NoTreeRoom => 0,
-            Self::BadRow(place)
+            Self::OddCount(place)
             | Self::BadText(place)
             | Self::TooDeep(place)
             | Self::NoEventRoom(place)
             | Self::NoReportRoom(place)
             | Self::HighByte(place)
-            | Self::Directive(place) => place,
+            | Self::Directive(place)
+            | Self::BadKind(place)
+            | Self::ZeroLength(place)
+            | Self::BadEnd(place) => place,
         }
     }
 }
@@ -115,10 +134,7 @@ impl fmt::Display for Refusal {
                 let (bytes, tokens) = (grouped(Input::MAX_BYTES), grouped(Input::MAX_TOKENS));
                 write!(f, "the input is over {bytes} bytes or over {tokens} tokens")
             }
-            Self::BadRow(row) => write!(
-                f,
-                "token {row}, counted from 0, has a kind that may not be input, no length or an end past the text, or is missing"
-            ),
+            Self::OddCount(row) => write!(f, "row {row}, counted from 0, has a kind and no length"),
             Self::BadText(row) => write!(f, "token {row}, counted from 0, has other bytes than its kind always has"),
             Self::TooDeep(mark) => {
                 let (calls, expectations) = (Input::MAX_OPEN_CALLS, Input::MAX_EXPECTATIONS);
@@ -129,6 +145,11 @@ impl fmt::Display for Refusal {
             Self::NoTreeRoom => f.write_str("no room for the tree or the lexical errors"),
             Self::HighByte(offset) => write!(f, "the byte at offset {offset} is not ASCII"),
             Self::Directive(offset) => write!(f, "a preprocessor directive starts at offset {offset}"),
+            Self::BadKind(row) => write!(f, "row {row}, counted from 0, has a kind that no row may have"),
+            Self::ZeroLength(row) => write!(f, "row {row}, counted from 0, has length 0"),
+            Self::BadEnd(row) => {
+                write!(f, "row {row}, counted from 0, ends past the input, or is missing, and the input goes on")
+            }
         }
     }
 }
@@ -144,8 +165,11 @@ impl std::error::Error for Refusal {}
 #[derive(Debug, Clone, Copy, PartialEq, Eq, Hash)]
 #[non_exhaustive]
 pub enum Error {
-    /// The call was refused for its input: one of the refusals 1 to 5. (6 to 8 are met with larger buffers.)
+    /// The call was refused for its input: refusal 1, 2, 4 or 5. (6 to 8 are met with larger buffers, and 3 and 11 to 13
+    /// are [`Error::BadRows`].)
     Refused(Refusal),
+    /// The numbers of the token rows are refused: refusal 3, 11, 12 or 13.
+    BadRows(RowError),
     /// Refused for lack of room with buffers that every run on so many tokens fits, by a theorem (crates/bounds).
     /// So the linked library is not the proved one.
     LimitPassed {
@@ -171,6 +195,7 @@ impl Error {
     pub const fn refusal(self) -> Option<Refusal> {
         match self {
             Self::Refused(refusal) | Self::LimitPassed { refusal, .. } => Some(refusal),
+            Self::BadRows(why) => Some(why.refusal()),
             Self::BadAnswer { .. } => None,
         }
     }
@@ -180,6 +205,7 @@ impl fmt::Display for Error {
     fn fmt(&self, f: &mut fmt::Formatter<'_>) -> fmt::Result {
         match self {
             Self::Refused(refusal) => write!(f, "refusal {}: {refusal}", refusal.number()),
+            Self::BadRows(why) => why.fmt(f),
             Self::LimitPassed { refusal, tokens } => write!(
                 f,
                 "refusal {}: {refusal}, with room for all that {tokens} tokens can give: the linked library is not the proved one",
@@ -205,6 +231,12 @@ impl From<Refusal> for Error {
     }
 }
 
+impl From<RowError> for Error {
+    fn from(why: RowError) -> Self {
+        Self::BadRows(why)
+    }
+}
+
 #[cfg(test)]
 mod tests {
     use super::*;
@@ -215,5 +247,19 @@ mod tests {
         let deep = "over 64 calls are open or over 256 expectations pending after 7 tokens";
         assert_eq!(Refusal::TooDeep(7).to_string(), deep);
         assert_eq!([0, 999, 1000, 1_000_007].map(grouped), ["0", "999", "1,000", "1,000,007"]);
+    }
+
+    #[test]
+    fn numbers_and_places_are_read_as_they_are_given() {
+        for number in 1..=13 {
+            let refusal = Refusal::from_number(number, 7).unwrap();
+            let place = if matches!(number, 1 | 2 | 8) { 0 } else { 7 };
+            assert_eq!((refusal.number(), refusal.place()), (number, place));
+            assert_eq!(refusal.is_of_row_numbers(), matches!(number, 3 | 11..=13), "{number}");
+            assert_eq!(refusal.is_of_text_alone(), matches!(number, 9 | 10), "{number}");
+        }
+        for number in [0, 14, u32::MAX] {
+            assert_eq!(Refusal::from_number(number, 0), None);
+        }
     }
 }

@@ -25,6 +25,13 @@ impl Token {
         Self { kind: Err(error), length }
     }
 
+    /// The token that a row stands for; none where its kind is one that no row may have.
+    pub(crate) fn from_row(row: TokenRow) -> Option<Self> {
+        let kind = TokenKind::from_number(row.kind).filter(|kind| kind.is_input()).map(Ok);
+        let kind = kind.or_else(|| LexError::from_number(row.kind).map(Err))?;
+        Some(Self { kind, length: row.length })
+    }
+
     /// The number of its kind or error in a row.
     #[must_use]
     pub const fn number(self) -> u32 {
@@ -78,6 +85,24 @@ impl<'i> Input<'i> {
         Self { text, tokens }
     }
 
+    /// A text with the tokens that plain numbers stand for, a kind and a length each. None where a kind is one that no
+    /// row may have, or where the last row has no length. Whether the tokens fit the text is not looked at:
+    /// [`Entrypoint::parse_rows`](crate::Entrypoint::parse_rows) does that, and says what is wrong.
+    ///
+    /// ```
+    /// use dt_parser::{Input, Token, TokenKind};
+    /// let input = Input::from_rows(b"a;", &[27, 1, 29, 1]).expect("these are tokens");
+    /// assert_eq!(input.tokens[1], Token::new(TokenKind::Semicolon, 1));
+    /// assert_eq!(input.rows(), [27, 1, 29, 1]);
+    /// assert_eq!(Input::from_rows(b"a;", &[26, 1, 29, 1]), None);
+    /// ```
+    #[must_use]
+    pub fn from_rows(text: &'i [u8], rows: &[u32]) -> Option<Self> {
+        let (rows, over) = rows.as_chunks::<{ TokenRow::SIZE }>();
+        let tokens: Option<Vec<Token>> = rows.iter().map(|row| Token::from_row((*row).into())).collect();
+        tokens.filter(|_| over.is_empty()).map(|tokens| Self { text, tokens })
+    }
+
     /// The tokens' byte ranges. A range may lie past the text where the tokens do not fit it.
     ///
     /// ```
@@ -94,8 +119,9 @@ impl<'i> Input<'i> {
         })
     }
 
-    /// The rows that a call takes, one after the other.
-    pub(crate) fn rows(&self) -> Vec<u32> {
+    /// The tokens as plain numbers, a kind and a length each: the rows that a call takes.
+    #[must_use]
+    pub fn rows(&self) -> Vec<u32> {
         let row = |token: &Token| TokenRow { kind: token.number(), length: token.length };
         self.tokens.iter().flat_map(|token| <[u32; TokenRow::SIZE]>::from(row(token))).collect()
     }
@@ -110,11 +136,8 @@ impl<'i> Input<'i> {
 /// Token rows that a call wrote.
 pub(crate) fn read(rows: &[[u32; TokenRow::SIZE]]) -> Result<Vec<Token>, Error> {
     let one = |(row, numbers): (usize, &[u32; TokenRow::SIZE])| {
-        let TokenRow { kind: number, length } = (*numbers).into();
-        let kind = TokenKind::from_number(number).filter(|kind| kind.is_input()).map(Ok);
-        let kind = kind.or_else(|| LexError::from_number(number).map(Err));
         let bad = Error::BadAnswer { what: "token row", row: Some(row), expected: "a token" };
-        kind.map(|kind| Token { kind, length }).ok_or(bad)
+        Token::from_row((*numbers).into()).ok_or(bad)
     };
     rows.iter().enumerate().map(one).collect()
 }

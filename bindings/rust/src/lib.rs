@@ -30,18 +30,22 @@
 //! [`Entrypoint::parse_text`] reads the tokens itself, by the rules of dt-tools' lexer. The text must be plain ASCII, and
 //! directives of the preprocessor are not read: such a source goes through `cpp -P` first. [`TextError`] says which byte
 //! is refused, where it stands and what to do. [`Entrypoint::parse`] takes the tokens of another lexer, those of
-//! directives too, for instance from a file of token rows ([`rowsfile`]):
+//! directives too, and [`Entrypoint::parse_rows`] takes them as plain numbers, for instance from a file of token rows
+//! ([`rowsfile`]):
 //!
 //! ```
 //! use dt_parser::{Entrypoint, rowsfile::RowsFile};
 //!
 //! let file = RowsFile::read(b"devicetree tokens 1\nrows 2\nIdent 1\nSemicolon 1\ntext 2\na;")?;
-//! let parse = file.entry.parse(&file.input)?;
-//! let read = Entrypoint::SourceFile.parse_text(file.input.text)?;
-//! assert_eq!(read.input, file.input);
-//! assert_eq!(read.parse.tree.to_string(), parse.tree.to_string());
+//! let of_rows = file.entry.parse_rows(file.text, &file.rows)?;
+//! let of_text = Entrypoint::SourceFile.parse_text(file.text)?;
+//! assert_eq!(of_rows.input, of_text.input);
+//! assert_eq!(of_rows.parse.tree.to_string(), of_text.parse.tree.to_string());
 //! # Ok::<(), Box<dyn std::error::Error>>(())
 //! ```
+//!
+//! Rows that are not tokens over the whole text are refused. [`RowError`] says which row it is, which number of it is
+//! wrong and what is allowed.
 //!
 //! # Labels
 //!
@@ -104,6 +108,7 @@ mod numbered;
 mod parser;
 mod range;
 mod report;
+mod row_error;
 mod rows;
 pub mod rowsfile;
 mod setting;
@@ -126,6 +131,7 @@ pub use node_kind::NodeKind;
 pub use parser::{OwnedParse, Parse, Parser};
 pub use range::TextRange;
 pub use report::{Label, Report};
+pub use row_error::{RowError, RowErrorKind};
 pub use setting::Setting;
 pub use text::{TextError, TextParse};
 pub use token_kind::TokenKind;

@@ -1,8 +1,9 @@
 //! A call with owned buffers.
 
 use crate::buffers::{Buffers, Room};
+use crate::rows::TokenRow;
 use crate::sys::{self, Answer, TextAnswer};
-use crate::{Entrypoint, Error, Input, LexicalError, Refusal, Report, Setting, TextError, TextParse, Tree};
+use crate::{Entrypoint, Error, Input, LexicalError, Refusal, Report, RowError, Setting, TextError, TextParse, Tree};
 use crate::{input, lexical, report, rows, text};
 
 /// Parses, and keeps its buffers for the next time.
@@ -78,6 +79,31 @@ impl Parser {
         self.parse_by(sys::call, setting, entry, input)
     }
 
+    /// Parses a text with its tokens as plain numbers, a kind and a length each, in the old setting. The buffers grow as
+    /// for [`Parser::parse`]. [`Entrypoint::parse_rows`] has an example.
+    ///
+    /// # Errors
+    ///
+    /// If the call is refused for its input: see [`Error`], and of bad rows [`RowError`].
+    pub fn parse_rows<'i>(&mut self, entry: Entrypoint, text: &'i [u8], rows: &[u32]) -> Result<TextParse<'i>, Error> {
+        self.parse_rows_in(Setting::Old, entry, text, rows)
+    }
+
+    /// The same in a setting.
+    ///
+    /// # Errors
+    ///
+    /// If the call is refused for its input: see [`Error`], and of bad rows [`RowError`].
+    pub fn parse_rows_in<'i>(
+        &mut self,
+        setting: Setting,
+        entry: Entrypoint,
+        text: &'i [u8],
+        rows: &[u32],
+    ) -> Result<TextParse<'i>, Error> {
+        self.parse_rows_by(sys::call, setting, entry, text, rows)
+    }
+
     /// Parses a text in the old setting: its tokens are read by the rules of dt-tools' lexer. The buffers grow as for
     /// [`Parser::parse`], that of the tokens too. [`Entrypoint::parse_text`] has an example.
     ///
@@ -109,28 +135,62 @@ impl Parser {
         })
     }
 
-    /// The same by any call of that form.
+    /// Parses typed tokens by any call of that form.
     fn parse_by<'i>(
         &mut self,
-        mut call: impl FnMut(u32, u32, &[u8], &[u32], &mut Buffers) -> Answer,
+        call: impl FnMut(u32, u32, &[u8], &[u32], &mut Buffers) -> Answer,
         setting: Setting,
         entry: Entrypoint,
         input: &Input<'i>,
     ) -> Result<Parse<'i>, Error> {
-        let rows = input.rows();
-        let growing = Growing { first: Room::first(input), most: Room::most(input), tokens: input.tokens.len() };
+        let answer = self.answer_by(call, setting, entry, input.text, &input.rows())?;
+        self.read(&answer, input)
+    }
+
+    /// The same for plain numbers. Those of an accepted call are tokens.
+    fn parse_rows_by<'i>(
+        &mut self,
+        call: impl FnMut(u32, u32, &[u8], &[u32], &mut Buffers) -> Answer,
+        setting: Setting,
+        entry: Entrypoint,
+        text: &'i [u8],
+        rows: &[u32],
+    ) -> Result<TextParse<'i>, Error> {
+        let answer = self.answer_by(call, setting, entry, text, rows)?;
+        let input = Input::from_rows(text, rows).ok_or(bad_number("a refusal of these rows"))?;
+        let parse = self.read(&answer, &input)?;
+        Ok(TextParse { input, parse })
+    }
+
+    /// The answer to token rows, if they are accepted.
+    fn answer_by(
+        &mut self,
+        mut call: impl FnMut(u32, u32, &[u8], &[u32], &mut Buffers) -> Answer,
+        setting: Setting,
+        entry: Entrypoint,
+        text: &[u8],
+        rows: &[u32],
+    ) -> Result<Answer, Error> {
+        let tokens = rows.len() / TokenRow::SIZE;
+        let growing = Growing { first: Room::first(rows), most: Room::most(rows), tokens };
         let answer = growing.answer(&mut self.buffers, |lent| {
-            let answer = call(entry.number(), setting.number(), input.text, &rows, lent);
+            let answer = call(entry.number(), setting.number(), text, rows, lent);
             TextAnswer { answer, token_count: 0 }
         });
         match answer {
-            Err(Error::Refused(refusal)) if refusal.is_of_text_alone() => Err(bad_number("0 or a refusal from 1 to 8")),
+            Err(Error::Refused(refusal)) if refusal.is_of_text_alone() => {
+                Err(bad_number("0 or a refusal of token rows"))
+            }
+            Err(Error::Refused(refusal)) if refusal.is_of_row_numbers() => {
+                let why = RowError::read(refusal, text.len(), rows);
+                Err(why.map_or(bad_place(), Error::BadRows))
+            }
             Err(why) => Err(why),
-            Ok(answer) => self.read(&answer.answer, input),
+            Ok(answer) => Ok(answer.answer),
         }
     }
 
-    /// The same for a text.
+    /// Parses a text by any call of that form.
     fn parse_text_by<'i>(
         &mut self,
         mut call: impl FnMut(u32, u32, &[u8], &mut Buffers) -> TextAnswer,
@@ -142,9 +202,8 @@ impl Parser {
         let growing = Growing { first, most, tokens: most.tokens };
         let answer = growing.answer(&mut self.buffers, |lent| call(entry.number(), setting.number(), text, lent));
         let answer = answer.map_err(|why| match why {
-            Error::Refused(Refusal::UnknownEntry | Refusal::BadRow(_) | Refusal::BadText(_)) => {
-                bad_number("0 or a refusal of a text")
-            }
+            Error::Refused(Refusal::UnknownEntry | Refusal::BadText(_)) => bad_number("0 or a refusal of a text"),
+            Error::Refused(refusal) if refusal.is_of_row_numbers() => bad_number("0 or a refusal of a text"),
             why => why,
         })?;
         let tokens = rows::front(&self.buffers.tokens, answer.token_count).ok_or(bad_count("count of token rows"))?;
@@ -191,7 +250,7 @@ impl Growing {
             if number == 0 {
                 return Ok(answer);
             }
-            let refusal = Refusal::from_number(number, place).ok_or(bad_number("0 or a refusal from 1 to 10"))?;
+            let refusal = Refusal::from_number(number, place).ok_or(bad_number("0 or a refusal from 1 to 13"))?;
             match room.after(refusal, self.most) {
                 Some(more) => room = more,
                 None if !refusal.is_about_room() => return Err(Error::Refused(refusal)),
@@ -205,118 +264,13 @@ fn bad_number(expected: &'static str) -> Error {
     Error::BadAnswer { what: "number", row: None, expected }
 }
 
+fn bad_place() -> Error {
+    Error::BadAnswer { what: "place", row: None, expected: "that of what is refused" }
+}
+
 fn bad_count(what: &'static str) -> Error {
     Error::BadAnswer { what, row: None, expected: "at most what fits the lent buffer" }
 }
 
 #[cfg(test)]
-mod tests {
-    use super::*;
-    use crate::{Token, TokenKind};
-
-    fn blank() -> Input<'static> {
-        Input::new(b" ", vec![Token::new(TokenKind::Whitespace, 1)])
-    }
-
-    fn answer(number: u32, tree_count: usize) -> Answer {
-        Answer { number, place: 0, tree_count, error_count: 0, report_count: 0, expectation_count: 0 }
-    }
-
-    /// What comes of a library that always gives this answer, and how often it is called.
-    fn parse_by(number: u32, tree_count: usize) -> (Error, usize) {
-        let mut calls = 0;
-        let call = |_: u32, _: u32, _: &[u8], _: &[u32], _: &mut Buffers| {
-            calls += 1;
-            answer(number, tree_count)
-        };
-        let error = Parser::new().parse_by(call, Setting::Strict, Entrypoint::SourceFile, &blank()).unwrap_err();
-        (error, calls)
-    }
-
-    #[test]
-    fn room_is_tried_up_to_the_limit_and_then_reported() {
-        for number in 6..=8 {
-            let (error, calls) = parse_by(number, 0);
-            let refusal = Refusal::from_number(number, 0).unwrap();
-            assert_eq!(error, Error::LimitPassed { refusal, tokens: 1 });
-            assert!(calls < 20, "{calls}");
-            assert!(
-                error
-                    .to_string()
-                    .ends_with("with room for all that 1 tokens can give: the linked library is not the proved one")
-            );
-        }
-    }
-
-    #[test]
-    fn other_refusals_are_reported_at_once() {
-        for number in 1..=5 {
-            let refusal = Refusal::from_number(number, 0).unwrap();
-            assert_eq!(parse_by(number, 0), (Error::Refused(refusal), 1));
-            assert_eq!((refusal.number(), refusal.place()), (number, 0));
-        }
-    }
-
-    #[test]
-    fn an_answer_that_cannot_be_is_reported() {
-        let is_not = |what: &str| format!("{what}: the linked library is not the proved one");
-        for (number, trees, text) in [
-            (9, 0, "the number of the answer is not 0 or a refusal from 1 to 8"),
-            (0, 0, "the tree of the answer is not one over all tokens"),
-            // rows of zeros: a file without text, and another after it
-            (0, 1, "the tree of the answer is not one over all tokens"),
-            (0, 2, "tree row 1 of the answer is not under the root"),
-            (0, 1 << 40, "the count of tree rows of the answer is not at most what fits the lent buffer"),
-        ] {
-            let (error, calls) = parse_by(number, trees);
-            assert_eq!(error.to_string(), is_not(text));
-            assert_eq!(calls, 1);
-        }
-    }
-
-    /// What comes of a library that always gives this answer to a text of 100 bytes, and how often it is called.
-    fn parse_text_by(number: u32, tree_count: usize, token_count: usize) -> (Error, usize) {
-        let mut calls = 0;
-        let call = |_: u32, _: u32, _: &[u8], _: &mut Buffers| {
-            calls += 1;
-            TextAnswer { answer: answer(number, tree_count), token_count }
-        };
-        let text = b" ".repeat(100);
-        let error = Parser::new().parse_text_by(call, Setting::Old, Entrypoint::Cells, &text).unwrap_err();
-        (error, calls)
-    }
-
-    #[test]
-    fn room_for_a_text_is_tried_up_to_the_limit_and_then_reported() {
-        for number in 6..=8 {
-            let (error, calls) = parse_text_by(number, 0, 0);
-            let refusal = Refusal::from_number(number, 0).unwrap();
-            assert_eq!(error, Error::LimitPassed { refusal, tokens: 100 });
-            assert!(calls < 20, "{calls}");
-        }
-        let (error, calls) = parse_text_by(2, 0, 0);
-        assert_eq!(error, Error::Refused(Refusal::TooLong));
-        assert_eq!(calls, 2, "with room for 66 tokens, and for a token a byte");
-        for number in [5, 9, 10] {
-            let refusal = Refusal::from_number(number, 0).unwrap();
-            assert_eq!(parse_text_by(number, 0, 0), (Error::Refused(refusal), 1));
-        }
-    }
-
-    #[test]
-    fn an_answer_that_a_text_cannot_have_is_reported() {
-        for (number, trees, tokens, text) in [
-            (1, 0, 0, "the number of the answer is not 0 or a refusal of a text"),
-            (3, 0, 0, "the number of the answer is not 0 or a refusal of a text"),
-            (4, 0, 0, "the number of the answer is not 0 or a refusal of a text"),
-            (11, 0, 0, "the number of the answer is not 0 or a refusal from 1 to 10"),
-            (0, 1, 1 << 40, "the count of token rows of the answer is not at most what fits the lent buffer"),
-            // rows of zeros: a blank of no bytes, and a tree without it
-            (0, 1, 1, "the tree of the answer is not one over all tokens"),
-        ] {
-            let (error, calls) = parse_text_by(number, trees, tokens);
-            assert_eq!(error.to_string(), format!("{text}: the linked library is not the proved one"));
-            assert_eq!(calls, 1);
-        }
-    }
-}
+mod tests;

@@ -11,7 +11,8 @@
 //! a;
 //! ```
 
-use crate::{Entrypoint, Input, LexError, Token, TokenKind};
+use crate::rows::TokenRow;
+use crate::{Entrypoint, Input, LexError, TokenKind};
 use std::fmt;
 
 /// The first line of every such file.
@@ -39,9 +40,13 @@ pub struct RowsFile<'i> {
     pub entry: Entrypoint,
     /// The name of the file that the text comes from.
     pub name: Option<String>,
-    /// The text and its tokens.
-    pub input: Input<'i>,
-    /// The number of the line that has the first row, counted from 1.
+    /// The text.
+    pub text: &'i [u8],
+    /// Its token rows as plain numbers, a kind and a length each, as
+    /// [`Entrypoint::parse_rows`](crate::Entrypoint::parse_rows) takes them.
+    pub rows: Vec<u32>,
+    /// The number of the line that has the first row, counted from 1. The line after the last row is that of the text's
+    /// length.
     pub first_row_line: usize,
 }
 
@@ -65,12 +70,18 @@ impl fmt::Display for BadFile {
 impl std::error::Error for BadFile {}
 
 impl<'i> RowsFile<'i> {
-    /// Reads a file. Whether the rows fit the text is not looked at: that is the parser's, refusals 2 to 4.
+    /// Reads a file. Whether the rows are tokens and fit the text is not looked at: that is the parser's, refusals 2, 4
+    /// and 11 to 13. (3 cannot be met: a line has both numbers of its row.)
     ///
     /// ```
     /// use dt_parser::rowsfile::RowsFile;
     /// let bad = RowsFile::read(b"devicetree tokens 1\nrows two\n").unwrap_err();
     /// assert_eq!(bad.to_string(), "line 2: expected a decimal number after `rows`, found `two`");
+    ///
+    /// let file = RowsFile::read(b"devicetree tokens 1\nrows 1\nIdent 2\ntext 1\na")?;
+    /// let refused = file.entry.parse_rows(file.text, &file.rows).unwrap_err();
+    /// assert_eq!(refused.refusal().map(|refusal| refusal.number()), Some(13));
+    /// # Ok::<(), dt_parser::rowsfile::BadFile>(())
     /// ```
     ///
     /// # Errors
@@ -81,30 +92,36 @@ impl<'i> RowsFile<'i> {
         lines.first()?;
         let (entry, name, count) = lines.header()?;
         let first_row_line = lines.line + 1;
-        let mut tokens = Vec::with_capacity(count.min(Input::MAX_TOKENS));
+        let mut rows = Vec::with_capacity(TokenRow::SIZE * count.min(Input::MAX_TOKENS));
         for i in 0..count {
-            tokens.push(lines.row(i, count)?);
+            rows.extend(<[u32; TokenRow::SIZE]>::from(lines.row(i, count)?));
         }
         let text = lines.text()?;
-        Ok(Self { entry, name, input: Input { text, tokens }, first_row_line })
+        Ok(Self { entry, name, text, rows, first_row_line })
     }
 
-    /// Writes the file; what [`RowsFile::read`] reads is the same again.
+    /// How many whole rows there are.
+    #[must_use]
+    pub fn row_count(&self) -> usize {
+        self.rows.len() / TokenRow::SIZE
+    }
+
+    /// Writes the file; what [`RowsFile::read`] reads is the same again. A number that is left over after the last whole
+    /// row is not written.
     #[must_use]
     pub fn write(&self) -> Vec<u8> {
         let mut out = format!("{FIRST_LINE}\nentry {}\n", self.entry.name());
         if let Some(name) = &self.name {
             out += &format!("file {}\n", name.replace('\n', " "));
         }
-        out += &format!("rows {}\n", self.input.tokens.len());
-        for token in &self.input.tokens {
-            out += &match token.kind {
-                Ok(kind) => format!("{} {}\n", kind.name(), token.length),
-                Err(error) => format!("LexError::{} {}\n", error.name(), token.length),
-            };
+        let (rows, _) = self.rows.as_chunks::<{ TokenRow::SIZE }>();
+        out += &format!("rows {}\n", rows.len());
+        for row in rows {
+            let TokenRow { kind, length } = (*row).into();
+            out += &format!("{} {length}\n", kind_word(kind));
         }
-        out += &format!("text {}\n", self.input.text.len());
-        [out.as_bytes(), self.input.text].concat()
+        out += &format!("text {}\n", self.text.len());
+        [out.as_bytes(), self.text].concat()
     }
 }
 
@@ -166,14 +183,14 @@ impl<'i> Lines<'i> {
     }
 
     /// A kind and a length.
-    fn row(&mut self, i: usize, count: usize) -> Result<Token, BadFile> {
+    fn row(&mut self, i: usize, count: usize) -> Result<TokenRow, BadFile> {
         let expected = format!("row {} of {count}, a kind and a length", i + 1);
         let line = self.next(&expected)?;
         let (kind, length) = split(line);
         let number = kind_number(kind);
         let length = decimal(length).and_then(|n| u32::try_from(n).ok());
         match (number, length) {
-            (Some(kind), Some(length)) => Ok(Token { kind, length }),
+            (Some(kind), Some(length)) => Ok(TokenRow { kind, length }),
             (None, Some(_)) => Err(self.bad("a token's kind, by name or number", quoted(kind))),
             _ => Err(self.bad(expected, quoted(line))),
         }
@@ -209,19 +226,26 @@ fn decimal(digits: &[u8]) -> Option<usize> {
     text.bytes().all(|byte| byte.is_ascii_digit()).then(|| text.parse().ok())?
 }
 
-/// A kind or a lexical error, by name or by number.
-fn kind_number(word: &[u8]) -> Option<Result<TokenKind, LexError>> {
+/// What an error token's name begins with.
+const LEX_ERROR: &str = "LexError::";
+
+/// The number of a kind or a lexical error, by name; or any number.
+fn kind_number(word: &[u8]) -> Option<u32> {
     let name = std::str::from_utf8(word).ok()?;
-    let kind = if let Some(error) = name.strip_prefix("LexError::") {
-        Err(LexError::from_name(error)?)
-    } else if let Some(number) = decimal(word) {
-        let number = u32::try_from(number).ok()?;
-        TokenKind::from_number(number).map(Ok).or_else(|| LexError::from_number(number).map(Err))?
-    } else {
-        Ok(TokenKind::from_name(name)?)
-    };
-    let is_input = kind.map_or(true, TokenKind::is_input);
-    is_input.then_some(kind)
+    if let Some(error) = name.strip_prefix(LEX_ERROR) {
+        return LexError::from_name(error).map(LexError::number);
+    }
+    let number = decimal(word).and_then(|number| u32::try_from(number).ok());
+    number.or_else(|| TokenKind::from_name(name).map(TokenKind::number))
+}
+
+/// The name of a kind or a lexical error, or the number where it has none.
+fn kind_word(number: u32) -> String {
+    match (TokenKind::from_number(number), LexError::from_number(number)) {
+        (Some(kind), _) => kind.name().to_string(),
+        (None, Some(error)) => format!("{LEX_ERROR}{}", error.name()),
+        (None, None) => number.to_string(),
+    }
 }
 
 /// What was found, short and on one line.

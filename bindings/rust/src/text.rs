@@ -1,9 +1,10 @@
-//! A text without its tokens: what its parse gives, and why it is refused.
+//! A text without its tokens, or with rows of numbers for them: what its parse gives. Why a text alone is refused.
 
 use crate::{Columns, Error, Input, LineIndex, Parse, Position, Refusal};
 use std::fmt;
 
-/// What the parse of a text gives.
+/// What the parse of a text gives whose tokens were not known before: those that the parser
+/// [read itself](crate::Entrypoint::parse_text), or those that [plain numbers](crate::Entrypoint::parse_rows) stand for.
 #[derive(Debug, Clone)]
 #[non_exhaustive]
 pub struct TextParse<'i> {

@@ -40,8 +40,8 @@ fn piped(command: &mut Command, input: &[u8]) -> (Option<i32>, String, String) {
 }
 
 fn rows(entry: Entrypoint, text: &[u8], tokens: &[Token]) -> Vec<u8> {
-    let input = Input::new(text, tokens.to_vec());
-    RowsFile { entry, name: Some("a.dts".into()), input, first_row_line: 0 }.write()
+    let rows = Input::new(text, tokens.to_vec()).rows();
+    RowsFile { entry, name: Some("a.dts".into()), text, rows, first_row_line: 0 }.write()
 }
 
 /// A source file of tokens whose texts follow one another.
@@ -235,7 +235,11 @@ fn a_board_that_went_through_the_preprocessor_is_read_without_a_report() {
 fn a_real_board_is_read_without_a_report() {
     let (status, out, err) = run(&["examples/cpp/rk3328-rock64.plain.dts"]);
     assert_eq!((status, err.as_str()), (Some(0), ""));
-    assert!(out.ends_with(": no errors; 352 nodes and 994 properties read\n"), "{}", out.lines().last().unwrap_or_default());
+    assert!(
+        out.ends_with(": no errors; 352 nodes and 994 properties read\n"),
+        "{}",
+        out.lines().last().unwrap_or_default()
+    );
 }
 
 /// Tokens that are not blanks or comments, with their texts.
@@ -267,7 +271,7 @@ fn the_examples_rows_are_those_of_their_sources() {
     for name in ["board", "labels", "overlay"] {
         let bytes = std::fs::read(root().join(format!("examples/{name}.rows"))).unwrap();
         let file = RowsFile::read(&bytes).unwrap();
-        assert_eq!(file.input.text, std::fs::read(root().join(format!("examples/{name}.dts"))).unwrap());
+        assert_eq!(file.text, std::fs::read(root().join(format!("examples/{name}.dts"))).unwrap());
         assert_eq!(file.name, Some(format!("examples/{name}.dts")));
     }
 }
@@ -436,23 +440,106 @@ fn a_bad_file_has_status_2_and_its_line_is_reported() {
     );
 }
 
+/// What is said of a file of token rows whose lines after the first are these.
+fn refused_rows(lines: &str) -> String {
+    no_answer(run_on(format!("devicetree tokens 1\n{lines}").as_bytes(), &[]))
+}
+
+#[test]
+fn a_bad_kind_is_shown_with_its_line() {
+    let expected = "\
+dtparse: -: refusal 11: row 1, counted from 0, has kind 26 (Name), which only the parser makes
+ --> (standard input):4:1
+  |
+4 | Name 1
+  | ^^^^
+A row's kind is 0 to 24, 27 to 60 or 64 to 74, or the name of one (docs/TOKENS.md).
+";
+    assert_eq!(refused_rows("rows 2\nIdent 1\nName 1\ntext 2\nab"), expected);
+    let said = refused_rows("entry Cells\nfile a.dts\nrows 1\n61 1\ntext 1\na");
+    assert!(
+        said.starts_with("dtparse: -: refusal 11: row 0, counted from 0, has kind 61, which no token has\n"),
+        "{said}"
+    );
+    assert!(said.contains("\n --> (standard input):5:1\n  |\n5 | 61 1\n  | ^^\n"), "{said}");
+    let said = refused_rows("rows 1\n4294967295 0\ntext 0\n");
+    assert!(said.contains(" refusal 11: row 0, counted from 0, has kind 4294967295, "), "before 12: {said}");
+}
+
+#[test]
+fn a_length_of_0_is_shown_with_its_line() {
+    let expected = "\
+dtparse: -: refusal 12: row 0, counted from 0, has length 0
+ --> (standard input):3:7
+  |
+3 | Ident 0
+  |       ^
+A row's length is at least 1.
+";
+    assert_eq!(refused_rows("rows 2\nIdent 0\nName 1\ntext 1\na"), expected);
+}
+
+#[test]
+fn a_token_past_the_input_is_shown_with_its_line() {
+    let expected = "\
+dtparse: -: refusal 13: row 1, counted from 0, starts at byte 1 and has length 4294967295, and the input has 2 bytes
+ --> (standard input):4:7
+  |
+4 | Ident 4294967295
+  |       ^^^^^^^^^^
+Its length is at most 1.
+";
+    assert_eq!(refused_rows("rows 3\nIdent 1\nIdent 4294967295\nIdent 2\ntext 2\nab"), expected);
+    let said = refused_rows("rows 2\nIdent 2\nIdent 1\ntext 2\nab");
+    assert!(said.ends_with("\nNo row may follow those before it, which are the whole input.\n"), "{said}");
+}
+
+#[test]
+fn a_short_total_is_shown_with_the_line_of_the_texts_length() {
+    let expected = "\
+dtparse: -: refusal 13: the total is short: the lengths of 2 rows add up to 2, and the input has 3 bytes
+ --> (standard input):5:6
+  |
+5 | text 3
+  |      ^
+All rows together are the whole input.
+";
+    assert_eq!(refused_rows("rows 2\nIdent 1\nIdent 1\ntext 3\nabc"), expected);
+    let said = refused_rows("rows 0\ntext 12\nrows 1\nIdent");
+    assert!(said.contains("\n --> (standard input):3:6\n  |\n3 | text 12\n  |      ^^\n"), "{said}");
+}
+
+#[test]
+fn another_text_than_the_fixed_one_is_shown_with_the_line_of_its_row() {
+    let expected = "\
+dtparse: -: refusal 4: row 1, counted from 0: Semicolon is always `;`, and the text has `,`
+ --> (standard input):4:1
+  |
+4 | Semicolon 1
+  | ^^^^^^^^^
+";
+    assert_eq!(refused_rows("rows 2\nIdent 1\nSemicolon 1\ntext 2\na,"), expected);
+}
+
+#[test]
+fn a_bad_row_is_shown_with_the_files_name_and_in_colours_if_asked_for() {
+    let path = format!("{}/bad.rows", env!("CARGO_TARGET_TMPDIR"));
+    let row = |i: usize| if i == 9 { "Name 1\n" } else { "Ident 1\n" };
+    let rows: String = (0..12).map(row).collect();
+    std::fs::write(&path, format!("devicetree tokens 1\nfile a.dts\nrows 12\n{rows}text 12\nabcdefghijkl")).unwrap();
+    let said = no_answer(run(&[&path]));
+    assert!(said.starts_with(&format!("dtparse: {path}: refusal 11: row 9, counted from 0, ")), "{said}");
+    assert!(said.contains(&format!("\n  --> {path}:13:1\n   |\n13 | Name 1\n   | ^^^^\n")), "{said}");
+    assert!(!said.contains("a.dts") && !said.contains('\x1b'), "{said}");
+    assert!(no_answer(run(&["--color=always", &path])).contains("\x1b["));
+    let strict = no_answer(run(&["--strict", "--tree", "--entry", "Cells", &path]));
+    assert_eq!(strict, said, "whatever is asked for");
+}
+
 #[test]
 fn a_refusal_has_status_2_and_its_reason_is_reported() {
     let refused = |file: &str| no_answer(run_on(format!("devicetree tokens 1\n{file}").as_bytes(), &[]));
     let start = "dtparse: -: refusal";
-    assert_eq!(refused("rows 1\nIdent 0\ntext 1\na"), format!("{start} 3: line 3: a token of no bytes\n"));
-    assert_eq!(
-        refused("rows 2\nIdent 1\nIdent 2\ntext 2\nab"),
-        format!("{start} 3: line 4: this token ends at byte 3, and the text has 2\n")
-    );
-    assert_eq!(
-        refused("rows 1\nIdent 1\ntext 2\nab"),
-        format!("{start} 3: line 4: the rows end before the text, which has 2 bytes\n")
-    );
-    assert_eq!(
-        refused("rows 2\nIdent 1\nSemicolon 1\ntext 2\na,"),
-        format!("{start} 4: line 4: Semicolon is always `;`, and the text has `,`\n")
-    );
     let (open, many) = ("(".repeat(64), "LParen 1\n".repeat(64));
     assert_eq!(
         refused(&format!("entry Cells\nrows 64\n{many}text 64\n{open}")),

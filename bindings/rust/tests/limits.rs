@@ -53,19 +53,6 @@ fn the_longest_input_is_taken() {
 }
 
 #[test]
-fn bad_rows_are_refused_with_their_place() {
-    let refused =
-        |text: &[u8], tokens: Vec<Token>| Entrypoint::SourceFile.parse(&Input::new(text, tokens)).unwrap_err();
-    let token = Token::new;
-    let ident = token(TokenKind::Ident, 1);
-    assert_eq!(refused(b"ab", vec![ident]), Refusal::BadRow(1).into());
-    assert_eq!(refused(b"ab", vec![ident, token(TokenKind::Ident, 2)]), Refusal::BadRow(1).into());
-    assert_eq!(refused(b"ab", vec![token(TokenKind::Ident, 0)]), Refusal::BadRow(0).into());
-    assert_eq!(refused(b"ab", vec![token(TokenKind::Name, 2)]), Refusal::BadRow(0).into());
-    assert_eq!(refused(b"a,", vec![ident, token(TokenKind::Semicolon, 1)]), Refusal::BadText(1).into());
-}
-
-#[test]
 fn buffers_grow_for_many_reports_and_are_used_again() {
     let mut parser = Parser::new();
     for count in [20_000, 3, 65_536, 0, 7] {

@@ -301,7 +301,8 @@ fn the_tokens_of_a_text_are_its_file_of_rows() {
         let text = std::fs::read(format!("{path}.dts")).unwrap();
         let input = Entrypoint::SourceFile.parse_text(&text).unwrap().input;
         let name = Some(format!("examples/{name}.dts"));
-        let file = RowsFile { entry: Entrypoint::SourceFile, name, input, first_row_line: 5 };
+        let (text, rows) = (input.text, input.rows());
+        let file = RowsFile { entry: Entrypoint::SourceFile, name, text, rows, first_row_line: 5 };
         assert_eq!(file.write(), std::fs::read(format!("{path}.rows")).unwrap());
     }
 }

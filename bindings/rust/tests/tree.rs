@@ -12,8 +12,8 @@ fn on_examples(test: impl Fn(Node<'_>, &Input<'_>)) {
     for name in ["board.rows", "overlay.rows"] {
         let bytes = example(name);
         let file = RowsFile::read(&bytes).unwrap();
-        let parse = file.entry.parse(&file.input).unwrap();
-        test(parse.tree.root(), &file.input);
+        let read = file.entry.parse_rows(file.text, &file.rows).unwrap();
+        test(read.parse.tree.root(), &read.input);
     }
 }
 
@@ -69,20 +69,20 @@ fn a_walk_is_in_preorder_with_depths() {
 fn every_byte_has_its_leaf() {
     let bytes = example("board.rows");
     let file = RowsFile::read(&bytes).unwrap();
-    let parse = file.entry.parse(&file.input).unwrap();
+    let parse = file.entry.parse_rows(file.text, &file.rows).unwrap().parse;
     for leaf in parse.tree.root().leaves() {
         for offset in leaf.range().byte_range() {
             assert_eq!(parse.tree.leaf_at(offset), Some(leaf));
         }
     }
-    assert_eq!(parse.tree.leaf_at(file.input.text.len()), None);
+    assert_eq!(parse.tree.leaf_at(file.text.len()), None);
 }
 
 #[test]
 fn the_node_after_the_mistake_is_whole() {
     let bytes = example("board.rows");
     let file = RowsFile::read(&bytes).unwrap();
-    let parse = file.entry.parse(&file.input).unwrap();
+    let parse = file.entry.parse_rows(file.text, &file.rows).unwrap().parse;
     let mistake = parse.reports[0].range.start;
     let name = |node: Node<'_>| node.child_leaf(TokenKind::Name).map(|leaf| leaf.text().to_vec());
     let is_regulator = |node: &Node<'_>| name(*node).is_some_and(|name| name == b"regulator-3v3");
@@ -99,7 +99,7 @@ fn a_part_without_a_report_is_found() {
     // a="s" b;
     let rows = b"devicetree tokens 1\nrows 6\n27 1\n28 1\n33 3\n0 1\n27 1\n29 1\ntext 8\na=\"s\" b;";
     let file = RowsFile::read(rows).unwrap();
-    let parse = file.entry.parse(&file.input).unwrap();
+    let parse = file.entry.parse_rows(file.text, &file.rows).unwrap().parse;
     assert!(parse.is_clean());
     let silent: Vec<TextRange> = parse.unreported().iter().map(|node| node.range()).collect();
     assert_eq!(silent, [TextRange { start: 0, end: 5 }]);

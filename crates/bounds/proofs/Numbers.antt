@@ -18,7 +18,8 @@ use Rattle.definitions.specs.Event.{events}
 use Rattle.definitions.specs.Place.{rows, lexical-errors}
 use Rattle.definitions.specs.Report.{Push, pushes, reports, report-numbers, pool, Fit, fits, stops, scan}
 use Rattle.definitions.specs.Strict.{name-numbers, names-fit}
-use Rattle.definitions.specs.Refusal.{Refusal, unknown-entry, no-tree-room, place-of, Verdict, accepted, refused, is-kind, check-input}
+use Rattle.definitions.specs.Refusal.{Refusal, unknown-entry, no-tree-room, place-of, Verdict, accepted, refused}
+use Rattle.definitions.specs.RowCauses.{is-kind, check-input}
 use Rattle.definitions.specs.Call.{Buffers, zeros, written, refusal, cleared, Sheets, sheets, kept, delivered, forward-mark, unless-refused, outcome, room-of, run-entry, names-of, parse, Asked, for, unknown, entry-of, checked, asked, call}
 use Rattle.basics.proofs.Tests.{cond-all}
 use Rattle.laws.proofs.Skeleton.{event-count-append, events-length, reports-append}

@@ -9,7 +9,8 @@ use lib.ListN.{length, take}
 use borrow.Author.Tests.{eqb-true, eqb-false}
 use Rattle.basics.specs.Word.{low}
 use Rattle.definitions.specs.Token.{tokens-of}
-use Rattle.definitions.specs.Refusal.{unknown-entry, Verdict, accepted, check-input, number-of, place-of}
+use Rattle.definitions.specs.Refusal.{unknown-entry, Verdict, accepted, number-of, place-of}
+use Rattle.definitions.specs.RowCauses.{check-input}
 use Rattle.definitions.specs.Grammar.{Entry, root-kind}
 use Rattle.definitions.specs.Call.{Buffers, Result, refusal, parse, Asked, for, unknown, entry-of, checked, asked, call}
 use Rattle.machine.specs.Machine.{Machine}

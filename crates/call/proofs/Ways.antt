@@ -9,7 +9,8 @@ use lib.ListN.{length, take}
 use borrow.Author.Tests.{eqb-true, eqb-false}
 use Rattle.basics.specs.Word.{low}
 use Rattle.definitions.specs.Layout.{TREE-ROW, ERROR-ROW, REPORT-ROW, NO-TREE-ROOM, TWO-TO-32, TWO-TO-64}
-use Rattle.definitions.specs.Refusal.{Refusal, Verdict, accepted, refused, check-input}
+use Rattle.definitions.specs.Refusal.{Refusal, Verdict, accepted, refused}
+use Rattle.definitions.specs.RowCauses.{check-input}
 use Rattle.definitions.specs.Call.{refusal, checked}
 use Rattle.sink.specs.declared.Sunk.{Sunk}
 use Rattle.sink.specs.declared.Sunk.the-variants.{Written, NoRoom}

@@ -4,7 +4,8 @@ use mathlib.Core.Path.{_≡_}
 use mathlib.Core.Bool.{true, false}
 use mathlib.Core.List.{List}
 use lib.Dec.{eqb}
-use Rattle.definitions.specs.Refusal.{accepted, check-input}
+use Rattle.definitions.specs.Refusal.{accepted}
+use Rattle.definitions.specs.RowCauses.{check-input}
 use Rattle.definitions.specs.Grammar.{Entry}
 use Rattle.definitions.specs.Call.{Buffers}
 use Rattle.definitions.specs.Call as Call

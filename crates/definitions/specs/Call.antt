@@ -12,7 +12,8 @@ use Rattle.definitions.specs.Run.{taken, exec, run}
 use Rattle.definitions.specs.Place.{root, rows, lexical-errors}
 use Rattle.definitions.specs.Report.{Room, Fit, fits, stops, pushes, scan, reports, report-numbers, pool}
 use Rattle.definitions.specs.Strict.{Name-at, reported-names, name-numbers, names-fit}
-use Rattle.definitions.specs.Refusal.{Refusal, unknown-entry, too-long, bad-row, bad-text, too-deep, no-event-room, no-report-room, no-tree-room, number-of, place-of, Verdict, accepted, refused, check-input}
+use Rattle.definitions.specs.Refusal.{Refusal, unknown-entry, too-long, odd-count, bad-kind, zero-length, past-input, short-total, bad-text, too-deep, no-event-room, no-report-room, no-tree-room, number-of, place-of, Verdict, accepted, refused}
+use Rattle.definitions.specs.RowCauses.{check-input}
 
 -- the lent buffers: events (work only), tree rows, lexical errors, reports, expectations
 pub record Buffers : Type 0 where
@@ -40,7 +41,7 @@ pub record Result : Type 0 where
 abbrev pub refusal : Refusal → Answer
 refusal r = record { number = number-of r; place = place-of r; tree-count = 0; error-count = 0; report-count = 0; expectation-count = 0 }
 
--- causes 1 to 4: every buffer is left as it was
+-- causes 1 to 4 and 11 to 13: every buffer is left as it was
 abbrev pub untouched : Refusal → Buffers → Result
 untouched r b = record { answer = refusal r; buffers = b }
 
@@ -123,7 +124,11 @@ delivered s b =
 unfoldable pub forward-mark : ℕ → Refusal → Refusal
 forward-mark n unknown-entry = unknown-entry
 forward-mark n too-long = too-long
-forward-mark n (bad-row i) = bad-row i
+forward-mark n (odd-count i) = odd-count i
+forward-mark n (bad-kind i) = bad-kind i
+forward-mark n (zero-length i) = zero-length i
+forward-mark n (past-input i) = past-input i
+forward-mark n (short-total i) = short-total i
 forward-mark n (bad-text i) = bad-text i
 forward-mark n (too-deep m) = too-deep (n - m)
 forward-mark n (no-event-room m) = no-event-room (n - m)

@@ -124,8 +124,8 @@ UNKNOWN-ENTRY = 1
 abbrev pub TOO-LONG : ℕ
 TOO-LONG = 2
 
-abbrev pub BAD-ROW : ℕ
-BAD-ROW = 3
+abbrev pub ODD-COUNT : ℕ
+ODD-COUNT = 3
 
 abbrev pub BAD-TEXT : ℕ
 BAD-TEXT = 4
@@ -148,6 +148,16 @@ HIGH-BYTE = 9
 
 abbrev pub DIRECTIVE : ℕ
 DIRECTIVE = 10
+
+-- document 02's: of a token row, the last also of all rows together
+abbrev pub BAD-KIND : ℕ
+BAD-KIND = 11
+
+abbrev pub ZERO-LENGTH : ℕ
+ZERO-LENGTH = 12
+
+abbrev pub BAD-END : ℕ
+BAD-END = 13
 
 -- ---------------------------------------------------------------- how many numbers 32 bits hold, and 64
 

@@ -16,6 +16,7 @@ pub mod Run
 pub mod Event
 pub mod Place
 pub mod Refusal
+pub mod RowCauses
 pub mod Report
 pub mod Strict
 pub mod Call

@@ -21,6 +21,7 @@ use Rattle.texts.proofs.Plain as plain
 use Rattle.texts.proofs.TextRefusals as text-refusals
 use Rattle.texts.proofs.TextAnswered as text-answered
 use Rattle.texts.proofs.TextsLocal as texts-local
+use Rattle.row_causes.proofs.ToldApart as row-causes
 use Rattle.run_steps.proofs.Complete as complete
 use Rattle.turns.proofs.Turns as turns
 use Rattle.pending.proofs.Repeats as pending
@@ -59,6 +60,7 @@ demands =
             accepted-is-plain = plain.accepted-is-plain;
             texts-stay-local = texts-local.texts-stay-local;
           };
+      row-causes = record { told-apart = row-causes.told-apart };
       beside =
           record {
             limits = limits.limits;

@@ -1,5 +1,5 @@
 -- THE DEMANDS: the three promises, of every call of the definitions in either setting, what the strict setting
--- promises, what calls over texts promise, and what holds beside them. Each line names the file that words it. The
+-- promises, what calls over texts promise, what was refusal 3, and what holds beside them. Each line names the file that words it. The
 -- exported routines answer as the definitions do (crates/dt_parser/src/lib.rt, text.rt), so all of this holds of them
 -- too.
 use Rattle.refusals.specs.Refusals.{Refusals}
@@ -24,6 +24,7 @@ use Rattle.texts.specs.Plain.{Accepted-is-plain}
 use Rattle.texts.specs.TextRefusals.{Text-refusals}
 use Rattle.texts.specs.TextAnswered.{Text-answered}
 use Rattle.texts.specs.TextsLocal.{Texts-stay-local}
+use Rattle.row_causes.specs.ToldApart.{Told-apart}
 use Rattle.run_steps.specs.Signs.{Complete}
 use Rattle.turns.specs.Turns.{Turns}
 use Rattle.pending.specs.Pending.{Repeats}
@@ -31,12 +32,12 @@ use Rattle.pending.specs.Pending.{Repeats}
 -- PROMISE 1. Every call, with any bytes and numbers, gets a tree with its reports or one of the listed refusals,
 -- each under its listed condition only, and every lent buffer then holds what document 01 says.
 pub record Promise-1 : Type 0 where
-  -- By the number, which is at most 8: the buffers are written and then zero, as they were, or all zero; a refusal's
-  -- counts are 0.
+  -- By the number, which is 0 to 8 or 11 to 13: the buffers are written and then zero, as they were, or all zero; a
+  -- refusal's counts are 0.
   -- refusals/specs/Answered.antt.
   pub answered : Answered
-  -- Each of 0 to 8 with its place, if and only if its line of document 01's table, or document 02's line on Names,
-  -- applies.
+  -- Each of 0 to 8 and 11 to 13 with its place, if and only if its line of document 01's table, or document 02's line on
+  -- Names or on rows, applies.
   -- refusals/specs/Refusals.antt, over Trace.antt.
   pub refusals : Refusals
 
@@ -92,8 +93,8 @@ pub record Texts : Type 0 where
   pub joined : Joined
   -- Their rows pass the checks of a call's input. lexing/specs/RowsPass.antt.
   pub rows-pass : Rows-pass
-  -- Promise 1: each refusal of a call over a text, with its place, if and only if its cause applies; never 3 or 4. By
-  -- the number, every buffer is as it was, all zero, or written and then zero; all else is the call over the tokens.
+  -- Promise 1: each refusal of a call over a text, with its place, if and only if its cause applies; never 3, 4 or 11
+  -- to 13. By the number, every buffer is as it was, all zero, or written and then zero; all else is the call over the tokens.
   -- texts/specs/TextRefusals.antt, TextAnswered.antt.
   pub text-refusals : Text-refusals
   pub text-answered : Text-answered
@@ -102,6 +103,12 @@ pub record Texts : Type 0 where
   -- Promise 3: two accepted texts whose bytes agree after such a semicolon; nothing is asked of their tokens.
   -- texts/specs/TextsLocal.antt.
   pub texts-stay-local : Texts-stay-local
+
+-- ROW CAUSES, document 02's request 4/14. Each cause with its number and place is in promise 1.
+pub record Row-causes : Type 0 where
+  -- A call is refused with 3, 11, 12 or 13 exactly if it was refused with 3 before, at the same place but for an odd
+  -- count after a bad row; every other call is answered as it was. row_causes/specs/ToldApart.antt, over Before.antt.
+  pub told-apart : Told-apart
 
 -- What holds beside the promises, of the definitions and of all that the code can meet.
 pub record Beside : Type 0 where
@@ -133,4 +140,5 @@ pub record Demands : Type 0 where
   pub promise-3 : Promise-3
   pub strict : Strict
   pub texts : Texts
+  pub row-causes : Row-causes
   pub beside : Beside

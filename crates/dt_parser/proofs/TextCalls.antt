@@ -9,7 +9,8 @@ use lib.ListN.{length, take, drop}
 use lib.Seq.{take-at}
 use Rattle.definitions.specs.Layout.{TOKEN-ROW}
 use Rattle.definitions.specs.Token.{tokens-of}
-use Rattle.definitions.specs.Refusal.{accepted, check-input}
+use Rattle.definitions.specs.Refusal.{accepted}
+use Rattle.definitions.specs.RowCauses.{check-input}
 use Rattle.definitions.specs.Lex.{lex}
 use Rattle.definitions.specs.Call.{Buffers, Asked, for, unknown, entry-of, written}
 use Rattle.definitions.specs.Call as Call

@@ -1,143 +1,162 @@
 -- Laws of the row checks: one row more, and the end of the rows.
-use Prim.Native.Nat.{ℕ, suc, _+_, _-_, _*_, _/_, _%_, _≤_, _<_}
+use Prim.Native.Nat.{ℕ, suc, _+_, _-_, _*_, _/_, _≤_, _<_}
 use mathlib.Core.Path.{_≡_, refl, sym, _∙_, ap}
 use mathlib.Core.Bool.{Bool, true, false, cond, _&&_}
 use mathlib.Core.List.{List, [], _∷_}
 use native.Mathlib.Omega.{arith}
 use lib.Dec.{leb, eqb}
-use lib.ListN.{length, getD, take, drop, drop-of-length-le, length-drop}
-use lib.Seq.{drop-cons, drop-drop}
-use borrow.Author.Tests.{leb-true, le-leb}
+use lib.ListN.{length, getD, take, drop}
+use lib.Seq.{drop-drop}
+use borrow.Author.Tests.{le-leb}
 use Rattle.basics.proofs.Tests.{and-right}
-use Rattle.basics.proofs.TokenRows.{row-cons, token-at}
+use Rattle.basics.proofs.TokenRows.{token-at, tokens-cons, tokens-end}
+use Rattle.basics.proofs.Verdicts.{rows-good, same-end, same-cover}
 use Rattle.definitions.specs.Layout.{TOKEN-ROW, TOKEN-LENGTH, MOST-BYTES, MOST-TOKEN-NUMBERS}
-use Rattle.definitions.specs.Token.{tokens-of}
+use Rattle.definitions.specs.Token.{Token, tokens-of}
 use Rattle.definitions.specs.StaticText.{static-texts, fits-text}
-use Rattle.definitions.specs.Refusal.{bad-row, bad-text, Verdict, accepted, refused, unless, is-kind, too-long, check-sizes, check-rows, check-texts}
-use Rattle.input.specs.Checks.{is-row, is-text}
-use Rattle.basics.proofs.Verdicts.{cond-accepted}
+use Rattle.definitions.specs.Refusal.{Refusal, bad-kind, zero-length, past-input, short-total, bad-text, Verdict, accepted, refused, unless, _or-else_, too-long, check-sizes, check-texts}
+use Rattle.definitions.specs.RowCauses.{is-kind, check-row, check-rows}
+use Rattle.input.specs.Checks.{is-row, row-cause, is-text}
 
-abbrev is-accepted : Verdict → Bool
-is-accepted accepted = true
-is-accepted (refused r) = false
+-- the tokens from row i on
+abbrev pub from-row : List ℕ → ℕ → List Token
+from-row tokens i = drop i (tokens-of tokens)
 
--- ---------------------------------------------------------------- cause 3
+-- its two numbers
+abbrev kind-at : List ℕ → ℕ → ℕ
+kind-at tokens i = getD tokens (i * TOKEN-ROW) 0
 
-pub row-good : (tokens : List ℕ) (i left : ℕ) → i < length tokens / TOKEN-ROW → is-row (getD tokens (i * TOKEN-ROW) 0) (getD tokens (i * TOKEN-ROW + TOKEN-LENGTH) 0) left ≡ true
-    → check-rows (i + 1) (left - getD tokens (i * TOKEN-ROW + TOKEN-LENGTH) 0) (drop ((i + 1) * TOKEN-ROW) tokens) ≡ check-rows i left (drop (i * TOKEN-ROW) tokens)
-unfolding check-rows is-row
-row-good tokens i left h e = let s : suc i ≡ i + 1 = omega arith in rw (row-cons tokens i h) (rw (e) (rw (s)))
+abbrev length-at : List ℕ → ℕ → ℕ
+length-at tokens i = getD tokens (i * TOKEN-ROW + TOKEN-LENGTH) 0
 
-pub row-bad : (tokens : List ℕ) (i left : ℕ) → i < length tokens / TOKEN-ROW → is-row (getD tokens (i * TOKEN-ROW) 0) (getD tokens (i * TOKEN-ROW + TOKEN-LENGTH) 0) left ≡ false
-    → refused (bad-row i) ≡ check-rows i left (drop (i * TOKEN-ROW) tokens)
-unfolding check-rows is-row
-row-bad tokens i left h e = rw (row-cons tokens i h) (rw (e))
+-- ---------------------------------------------------------------- causes 11 to 13
 
--- after the last whole row: a number is left over, or none
-pub rows-odd : (tokens : List ℕ) (left : ℕ) → (length tokens % TOKEN-ROW ≡ 0 → ⊥) → refused (bad-row (length tokens / TOKEN-ROW)) ≡ check-rows (length tokens / TOKEN-ROW) left (drop (length tokens / TOKEN-ROW * TOKEN-ROW) tokens)
+-- one row: its verdict by the two tests of the code
+one-row : (i start left size k n : ℕ) (b : Bool) → start + left ≡ size → is-row k n left ≡ b
+    → check-row i start size (record { kind = k; len = n }) ≡ cond b accepted (refused (row-cause i k n))
+unfolding check-row is-row row-cause _or-else_
+one-row i start left size k n b h e = rw (same-end start n left size h) (rw (← e) (by (is-kind k) (leb 1 n) (leb n left)))
+  where
+    by : (x y z : Bool) → (unless x (bad-kind i) or-else unless y (zero-length i) or-else unless z (past-input i))
+        ≡ cond (x && y && z) accepted (refused (cond x (cond y (past-input i) (zero-length i)) (bad-kind i)))
+    by false y z = refl
+    by true false z = refl
+    by true true false = refl
+    by true true true = refl
+
+-- the rows from i on: row i and the rest
+from-here : (tokens : List ℕ) (i start size : ℕ) → i < length tokens / TOKEN-ROW
+    → check-rows i start size (from-row tokens i) ≡ (check-row i start size (token-at tokens i) or-else check-rows (suc i) (start + length-at tokens i) size (from-row tokens (i + 1)))
 unfolding check-rows
-rows-odd tokens left h =
-    let a : length tokens / TOKEN-ROW * TOKEN-ROW < length tokens = omega (arith, h) in
-    let b : length tokens ≤ suc (length tokens / TOKEN-ROW * TOKEN-ROW) = omega (arith, h) in
-    rw (drop-cons tokens (length tokens / TOKEN-ROW * TOKEN-ROW) 0 a, drop-of-length-le tokens b)
+from-here tokens i start size h = ap (check-rows i start size) (tokens-cons tokens i h)
 
-pub rows-even : (tokens : List ℕ) (left : ℕ) → length tokens % TOKEN-ROW ≡ 0 → unless (eqb left 0) (bad-row (length tokens / TOKEN-ROW)) ≡ check-rows (length tokens / TOKEN-ROW) left (drop (length tokens / TOKEN-ROW * TOKEN-ROW) tokens)
+-- what the loop knows at row i, where `left` of so many bytes are not yet covered
+pub record At-row (tokens : List ℕ) (size i left : ℕ) : Type 0 where
+  pub inside : left ≤ size
+  pub as-all : check-rows i (size - left) size (from-row tokens i) ≡ check-rows 0 0 size (tokens-of tokens)
+
+pub at-first : (tokens : List ℕ) (size : ℕ) → At-row tokens size 0 size
+at-first tokens size =
+    let s : size - size ≡ 0 = omega arith in
+    record { inside = omega arith; as-all = ap (λ (start : ℕ). check-rows 0 start size (tokens-of tokens)) s }
+
+-- k, n: the row's numbers, as read
+pub at-next : (tokens : List ℕ) (size i left k n : ℕ) → i < length tokens / TOKEN-ROW → k ≡ kind-at tokens i → n ≡ length-at tokens i
+    → is-row k n left ≡ true → n ≤ left → At-row tokens size i left → At-row tokens size (i + 1) (left - n)
+unfolding _or-else_
+at-next tokens size i left k n h e f g q a =
+    let s : suc i ≡ i + 1 = omega arith in
+    let t : size - left + length-at tokens i ≡ size - (left - n) = omega (arith, a .inside, q, f) in
+    let r : check-row i (size - left) size (token-at tokens i) ≡ accepted =
+    ap (λ (x : ℕ). check-row i (size - left) size (record { kind = x; len = length-at tokens i })) (sym e)
+    ∙ ap (λ (x : ℕ). check-row i (size - left) size (record { kind = k; len = x })) (sym f)
+    ∙ one-row i (size - left) left size k n true (omega (arith, a .inside)) g in
+    record {
+      inside = omega (arith, a .inside);
+      as-all =
+          ap (λ (start : ℕ). check-rows (i + 1) start size (from-row tokens (i + 1))) (sym t)
+          ∙ ap (λ (j : ℕ). check-rows j (size - left + length-at tokens i) size (from-row tokens (i + 1))) (sym s)
+          ∙ sym (from-here tokens i (size - left) size h ∙ ap (λ (v : Verdict). v or-else check-rows (suc i) (size - left + length-at tokens i) size (from-row tokens (i + 1))) r)
+          ∙ a .as-all;
+    }
+
+pub at-bad : (tokens : List ℕ) (size i left k n : ℕ) → i < length tokens / TOKEN-ROW → k ≡ kind-at tokens i → n ≡ length-at tokens i
+    → is-row k n left ≡ false → At-row tokens size i left → refused (row-cause i k n) ≡ check-rows 0 0 size (tokens-of tokens)
+unfolding _or-else_
+at-bad tokens size i left k n h e f g a =
+    let r : check-row i (size - left) size (token-at tokens i) ≡ refused (row-cause i k n) =
+    ap (λ (x : ℕ). check-row i (size - left) size (record { kind = x; len = length-at tokens i })) (sym e)
+    ∙ ap (λ (x : ℕ). check-row i (size - left) size (record { kind = k; len = x })) (sym f)
+    ∙ one-row i (size - left) left size k n false (omega (arith, a .inside)) g in
+    sym (from-here tokens i (size - left) size h ∙ ap (λ (v : Verdict). v or-else check-rows (suc i) (size - left + length-at tokens i) size (from-row tokens (i + 1))) r)
+    ∙ a .as-all
+
+-- after the last row, r: the count of rows
+pub at-end : (tokens : List ℕ) (size i left r : ℕ) (b : Bool) → i ≡ r → r ≡ length tokens / TOKEN-ROW → eqb left 0 ≡ b → At-row tokens size i left
+    → unless b (short-total r) ≡ check-rows 0 0 size (tokens-of tokens)
 unfolding check-rows
-rows-even tokens left h =
-    let b : length tokens ≤ length tokens / TOKEN-ROW * TOKEN-ROW = omega (arith, h) in
-    rw (drop-of-length-le tokens b)
+at-end tokens size i left r b e f g a =
+    ap (λ (x : Bool). unless x (short-total r)) (sym (same-cover (size - left) left size (omega (arith, a .inside)) ∙ g))
+    ∙ ap (λ (j : ℕ). unless (eqb (size - left) size) (short-total j)) (sym e)
+    ∙ sym (ap (check-rows i (size - left) size) (tokens-end tokens i (omega (arith, e, f))))
+    ∙ a .as-all
+
+-- a refusal stays the first; after what passes the next check decides
+pub refused-first : (r : Refusal) (v w : Verdict) → refused r ≡ v → refused r ≡ (v or-else w)
+unfolding _or-else_
+refused-first r v w e = ap (λ (x : Verdict). x or-else w) e
+
+pub passed-first : (u v w : Verdict) → accepted ≡ v → u ≡ w → u ≡ (v or-else w)
+unfolding _or-else_
+passed-first u v w e f = f ∙ ap (λ (x : Verdict). x or-else w) e
 
 -- ---------------------------------------------------------------- cause 4
 
--- an accepted row: its length fits, and the rows after it are accepted
-pub row-accepted : (tokens : List ℕ) (i left : ℕ) → i < length tokens / TOKEN-ROW → check-rows i left (drop (i * TOKEN-ROW) tokens) ≡ accepted
-    → (getD tokens (i * TOKEN-ROW + TOKEN-LENGTH) 0 ≤ left) × (check-rows (i + 1) (left - getD tokens (i * TOKEN-ROW + TOKEN-LENGTH) 0) (drop ((i + 1) * TOKEN-ROW) tokens) ≡ accepted)
-unfolding check-rows
-row-accepted tokens i left h e =
+-- row i of rows that pass ends inside the input, and the rows after it pass
+row-passed : (tokens : List ℕ) (i start size : ℕ) → i < length tokens / TOKEN-ROW → check-rows i start size (from-row tokens i) ≡ accepted
+    → (start + length-at tokens i ≤ size) × (check-rows (i + 1) (start + length-at tokens i) size (from-row tokens (i + 1)) ≡ accepted)
+row-passed tokens i start size h e =
     let s : suc i ≡ i + 1 = omega arith in
-    let n : ℕ = getD tokens (i * TOKEN-ROW + TOKEN-LENGTH) 0 in
-    let f : cond (is-kind (getD tokens (i * TOKEN-ROW) 0) && leb 1 n && leb n left) (check-rows (suc i) (left - n) (drop ((i + 1) * TOKEN-ROW) tokens)) (refused (bad-row i)) ≡ accepted =
-    sym (ap (check-rows i left) (row-cons tokens i h)) ∙ e in
-    let g = cond-accepted (is-kind (getD tokens (i * TOKEN-ROW) 0) && leb 1 n && leb n left) (check-rows (suc i) (left - n) (drop ((i + 1) * TOKEN-ROW) tokens)) (bad-row i) f in
-    let b = and-right (is-kind (getD tokens (i * TOKEN-ROW) 0) && leb 1 n) (leb n left) (g .0) in
-    (leb-true n left b, ap (λ (j : ℕ). check-rows j (left - n) (drop ((i + 1) * TOKEN-ROW) tokens)) (sym s) ∙ g .1)
-
--- the tokens from row i on
-from-row : (tokens : List ℕ) (i : ℕ) → i < length tokens / TOKEN-ROW → tokens-of (drop (i * TOKEN-ROW) tokens) ≡ token-at tokens i ∷ tokens-of (drop ((i + 1) * TOKEN-ROW) tokens)
-unfolding tokens-of
-from-row tokens i h = ap tokens-of (row-cons tokens i h)
-
--- at the end no token is left
-pub texts-end : (tokens : List ℕ) (bytes : List ℕ) (i : ℕ) → length tokens / TOKEN-ROW ≤ i → accepted ≡ check-texts i bytes (tokens-of (drop (i * TOKEN-ROW) tokens))
-unfolding tokens-of check-texts
-texts-end tokens bytes i h = go (drop (i * TOKEN-ROW) tokens) (rw (length-drop (i * TOKEN-ROW) tokens) (omega (arith, h)))
-  where
-    go : (l : List ℕ) → length l < TOKEN-ROW → accepted ≡ check-texts i bytes (tokens-of l)
-    go [] e = refl
-    go (a ∷ []) e = refl
-    go (a ∷ b ∷ l) e = absurd (omega (arith, e))
-
-pub text-good : (tokens bytes : List ℕ) (i byte : ℕ) → i < length tokens / TOKEN-ROW → is-text bytes byte (getD tokens (i * TOKEN-ROW) 0) (getD tokens (i * TOKEN-ROW + TOKEN-LENGTH) 0) ≡ true
-    → check-texts (i + 1) (drop (byte + getD tokens (i * TOKEN-ROW + TOKEN-LENGTH) 0) bytes) (tokens-of (drop ((i + 1) * TOKEN-ROW) tokens)) ≡ check-texts i (drop byte bytes) (tokens-of (drop (i * TOKEN-ROW) tokens))
-unfolding check-texts is-text
-text-good tokens bytes i byte h e =
-    let s : suc i ≡ i + 1 = omega arith in
-    let n : ℕ = getD tokens (i * TOKEN-ROW + TOKEN-LENGTH) 0 in
-    let t = fits-text static-texts (getD tokens (i * TOKEN-ROW) 0) (take n (drop byte bytes)) in
-    let f = and-right (leb byte (length bytes) && leb n (length bytes - byte)) t e in
-    rw (from-row tokens i h) (rw (f) (rw (drop-drop n byte bytes, s)))
-
-pub text-bad : (tokens bytes : List ℕ) (i byte : ℕ) → i < length tokens / TOKEN-ROW → byte ≤ length bytes → getD tokens (i * TOKEN-ROW + TOKEN-LENGTH) 0 ≤ length bytes - byte
-    → is-text bytes byte (getD tokens (i * TOKEN-ROW) 0) (getD tokens (i * TOKEN-ROW + TOKEN-LENGTH) 0) ≡ false
-    → refused (bad-text i) ≡ check-texts i (drop byte bytes) (tokens-of (drop (i * TOKEN-ROW) tokens))
-unfolding check-texts is-text
-text-bad tokens bytes i byte h a b e =
-    let n : ℕ = getD tokens (i * TOKEN-ROW + TOKEN-LENGTH) 0 in
-    let t : Bool = fits-text static-texts (getD tokens (i * TOKEN-ROW) 0) (take n (drop byte bytes)) in
-    let f : t ≡ false = sym (ap (λ (x : Bool). x && leb n (length bytes - byte) && t) (le-leb _ _ a) ∙ ap (λ (x : Bool). x && t) (le-leb _ _ b)) ∙ e in
-    rw (from-row tokens i h) (rw (f))
-
--- ---------------------------------------------------------------- the same, as the loops hold them
-
--- n: the row's length, as read
-pub row-good-n : (tokens : List ℕ) (i left n : ℕ) → i < length tokens / TOKEN-ROW → n ≡ getD tokens (i * TOKEN-ROW + TOKEN-LENGTH) 0 → is-row (getD tokens (i * TOKEN-ROW) 0) n left ≡ true
-    → check-rows (i + 1) (left - n) (drop ((i + 1) * TOKEN-ROW) tokens) ≡ check-rows i left (drop (i * TOKEN-ROW) tokens)
-row-good-n tokens i left n h e f = rw e (row-good tokens i left h (ap (λ (m : ℕ). is-row (getD tokens (i * TOKEN-ROW) 0) m left) (sym e) ∙ f))
-
-pub row-bad-n : (tokens : List ℕ) (i left n : ℕ) → i < length tokens / TOKEN-ROW → n ≡ getD tokens (i * TOKEN-ROW + TOKEN-LENGTH) 0 → is-row (getD tokens (i * TOKEN-ROW) 0) n left ≡ false
-    → refused (bad-row i) ≡ check-rows i left (drop (i * TOKEN-ROW) tokens)
-row-bad-n tokens i left n h e f = row-bad tokens i left h (ap (λ (m : ℕ). is-row (getD tokens (i * TOKEN-ROW) 0) m left) (sym e) ∙ f)
-
--- i: the row after the last; r: the count of rows
-pub rows-odd-at : (tokens : List ℕ) (i left r : ℕ) → i ≡ r → r ≡ length tokens / TOKEN-ROW → (length tokens % TOKEN-ROW ≡ 0 → ⊥) → refused (bad-row r) ≡ check-rows i left (drop (i * TOKEN-ROW) tokens)
-rows-odd-at tokens i left r e f h = rw (e) (rw (f) (rows-odd tokens left h))
-
-pub rows-even-at : (tokens : List ℕ) (i left r : ℕ) {b : Bool} → i ≡ r → r ≡ length tokens / TOKEN-ROW → length tokens % TOKEN-ROW ≡ 0 → eqb left 0 ≡ b
-    → unless b (bad-row r) ≡ check-rows i left (drop (i * TOKEN-ROW) tokens)
-rows-even-at tokens i left r e f h g = rw (e) (rw (f) (rw (← g) (rows-even tokens left h)))
+    let g = rows-good i start size (token-at tokens i) (from-row tokens (i + 1)) (sym (ap (check-rows i start size) (tokens-cons tokens i h)) ∙ e) in
+    (g .0 .inside, ap (λ (j : ℕ). check-rows j (start + length-at tokens i) size (from-row tokens (i + 1))) (sym s) ∙ g .1)
 
 -- what the loop over texts knows of row i, whose token starts at a byte
-abbrev pub Texts : List ℕ → List ℕ → ℕ → ℕ → Type 0
-Texts tokens bytes i byte = (check-rows i (length bytes - byte) (drop (i * TOKEN-ROW) tokens) ≡ accepted) × (check-texts i (drop byte bytes) (tokens-of (drop (i * TOKEN-ROW) tokens)) ≡ check-texts 0 bytes (tokens-of tokens))
+pub record At-text (tokens bytes : List ℕ) (i byte : ℕ) : Type 0 where
+  pub passes : check-rows i byte (length bytes) (from-row tokens i) ≡ accepted
+  pub as-all : check-texts i (drop byte bytes) (from-row tokens i) ≡ check-texts 0 bytes (tokens-of tokens)
 
-pub texts-again : (tokens bytes : List ℕ) (i byte n : ℕ) → i < length tokens / TOKEN-ROW → n ≡ getD tokens (i * TOKEN-ROW + TOKEN-LENGTH) 0 → byte ≤ length bytes → is-text bytes byte (getD tokens (i * TOKEN-ROW) 0) n ≡ true
-    → Texts tokens bytes i byte → Texts tokens bytes (i + 1) (byte + n)
-texts-again tokens bytes i byte n h e a f t =
-    let m : ℕ = getD tokens (i * TOKEN-ROW + TOKEN-LENGTH) 0 in
-    let r = row-accepted tokens i (length bytes - byte) h (t .0) in
-    let s : length bytes - byte - m ≡ length bytes - (byte + n) = omega (arith, e) in (
-      ap (λ (l : ℕ). check-rows (i + 1) l (drop ((i + 1) * TOKEN-ROW) tokens)) (sym s) ∙ r .1,
-      ap (λ (l : ℕ). check-texts (i + 1) (drop (byte + l) bytes) (tokens-of (drop ((i + 1) * TOKEN-ROW) tokens))) e
-          ∙ text-good tokens bytes i byte h (ap (λ (l : ℕ). is-text bytes byte (getD tokens (i * TOKEN-ROW) 0) l) (sym e) ∙ f) ∙ t .1,
-    )
+pub text-first : (tokens bytes : List ℕ) → check-rows 0 0 (length bytes) (tokens-of tokens) ≡ accepted → At-text tokens bytes 0 0
+text-first tokens bytes h = record { passes = h; as-all = refl }
 
-pub texts-bad : (tokens bytes : List ℕ) (i byte n : ℕ) → i < length tokens / TOKEN-ROW → n ≡ getD tokens (i * TOKEN-ROW + TOKEN-LENGTH) 0 → byte ≤ length bytes → is-text bytes byte (getD tokens (i * TOKEN-ROW) 0) n ≡ false
-    → Texts tokens bytes i byte → refused (bad-text i) ≡ check-texts 0 bytes (tokens-of tokens)
-texts-bad tokens bytes i byte n h e a f t =
-    text-bad tokens bytes i byte h a (row-accepted tokens i (length bytes - byte) h (t .0) .0) (ap (λ (l : ℕ). is-text bytes byte (getD tokens (i * TOKEN-ROW) 0) l) (sym e) ∙ f) ∙ t .1
+-- n: the row's length, as read
+pub text-next : (tokens bytes : List ℕ) (i byte n : ℕ) → i < length tokens / TOKEN-ROW → n ≡ length-at tokens i → is-text bytes byte (kind-at tokens i) n ≡ true
+    → At-text tokens bytes i byte → At-text tokens bytes (i + 1) (byte + n)
+unfolding check-texts is-text
+text-next tokens bytes i byte n h e f a =
+    let s : suc i ≡ i + 1 = omega arith in
+    let g : fits-text static-texts (kind-at tokens i) (take n (drop byte bytes)) ≡ true = and-right (leb byte (length bytes) && leb n (length bytes - byte)) _ f in
+    record {
+      passes = rw e (row-passed tokens i byte (length bytes) h (a .passes) .1);
+      as-all =
+          ap (λ (l : List ℕ). check-texts (i + 1) l (from-row tokens (i + 1))) (sym (drop-drop n byte bytes))
+          ∙ sym (ap (check-texts i (drop byte bytes)) (tokens-cons tokens i h) ∙ rw (← e) (rw g (rw s)))
+          ∙ a .as-all;
+    }
 
-pub texts-start : (tokens bytes : List ℕ) → check-rows 0 (length bytes) tokens ≡ accepted → Texts tokens bytes 0 0
-texts-start tokens bytes h = let s : length bytes - 0 ≡ length bytes = omega arith in (ap (λ (l : ℕ). check-rows 0 l tokens) s ∙ h, refl)
+pub text-bad : (tokens bytes : List ℕ) (i byte n : ℕ) → i < length tokens / TOKEN-ROW → n ≡ length-at tokens i → is-text bytes byte (kind-at tokens i) n ≡ false
+    → At-text tokens bytes i byte → refused (bad-text i) ≡ check-texts 0 bytes (tokens-of tokens)
+unfolding check-texts is-text
+text-bad tokens bytes i byte n h e f a =
+    let p : byte + length-at tokens i ≤ length bytes = row-passed tokens i byte (length bytes) h (a .passes) .0 in
+    let t : Bool = fits-text static-texts (kind-at tokens i) (take n (drop byte bytes)) in
+    let x : byte ≤ length bytes = omega (arith, p) in
+    let y : n ≤ length bytes - byte = omega (arith, p, e) in
+    let g : t ≡ false = sym (ap (λ (b : Bool). b && leb n (length bytes - byte) && t) (le-leb _ _ x) ∙ ap (λ (b : Bool). b && t) (le-leb _ _ y)) ∙ f in
+    sym (ap (check-texts i (drop byte bytes)) (tokens-cons tokens i h) ∙ rw (← e) (rw g)) ∙ a .as-all
+
+pub text-end : (tokens bytes : List ℕ) (i byte : ℕ) → length tokens / TOKEN-ROW ≤ i → At-text tokens bytes i byte → accepted ≡ check-texts 0 bytes (tokens-of tokens)
+unfolding check-texts
+text-end tokens bytes i byte h a = sym (ap (check-texts i (drop byte bytes)) (tokens-end tokens i h)) ∙ a .as-all
 
 -- a slice's length
 pub slice-text : (bytes : List ℕ) (byte k n : ℕ) → fits-text static-texts k (take (byte + n - byte) (drop byte bytes)) ≡ fits-text static-texts k (take n (drop byte bytes))

@@ -1,4 +1,4 @@
-// The checks of a call's input: causes 2, 3 and 4 of document 01, in that order, 3 over all rows before 4.
+// The checks of a call's input: causes 2, 3, 11 to 13 and 4, in that order, 11 to 13 over all rows before 4.
 use crate::static_text;
 use layout::TokenIndex;
 use layout::limit::MOST_BYTES;
@@ -16,16 +16,25 @@ ghost use lib.Dec.{leb};
 ghost use lib.ListN.{length};
 ghost use Rattle.definitions.specs.Layout.{MOST-BYTES, MOST-TOKEN-NUMBERS};
 ghost use Rattle.definitions.specs.Token.{tokens-of};
-ghost use Rattle.definitions.specs.Refusal.{bad-row, bad-text, accepted, is-kind, check-rows, check-texts, check-input};
-ghost use Rattle.input.specs.Checks.{verdict-of, found, is-row, is-text};
+ghost use Rattle.definitions.specs.Refusal.{bad-text, accepted, refused, _or-else_, check-texts};
+ghost use Rattle.definitions.specs.RowCauses.{is-kind, check-rows, check-input};
+ghost use Rattle.input.specs.Checks.{verdict-of, found, is-row, row-cause, is-text};
 
-// What the checks find. A row's place is its index; where the rows end too early, the count of whole rows.
+// What the checks find. A row's place is its index.
 pub enum Checked {
     Sound,
     // Cause 2.
     TooLong,
-    // Cause 3: a bad kind, a length of 0, an end past the input, odd numbers or a short total.
-    BadRow(TokenIndex),
+    // Cause 3: a number is left over after so many whole rows.
+    OddCount(TokenIndex),
+    // Cause 11.
+    BadKind(TokenIndex),
+    // Cause 12.
+    ZeroLength(TokenIndex),
+    // Cause 13: the row's token ends past the input.
+    PastInput(TokenIndex),
+    // Cause 13, with the count of rows: they end before the input does.
+    ShortTotal(TokenIndex),
     // Cause 4: other bytes than the kind's fixed spelling.
     BadText(TokenIndex),
 }
@@ -55,7 +64,7 @@ fn is_input_kind(kind: u32) -> bool
     }
 }
 
-// Cause 3 of one row, where `left` bytes of the input are not yet covered.
+// Whether a row has none of 11 to 13, where `left` bytes of the input are not yet covered.
 fn is_good_row(kind: u32, n: usize, left: usize) -> bool
     ensures { λ r. ⌜ r ≡ is-row kind n left ⌝ }
     ensures { λ r. ⌜ (r ≡ true → n ≤ left) ⌝ }
@@ -69,33 +78,20 @@ fn is_good_row(kind: u32, n: usize, left: usize) -> bool
     }
 }
 
-// Cause 3.
-fn find_bad_row(tokens: &[u32], byte_count: usize) -> Found
-    ensures { λ r. ⌜ found bad-row r ≡ check-rows 0 «byte_count» (now (tokens .entry)) ⌝ }
+// Which of 11 to 13 a row has that is not good: in this order, so that 13 is what remains.
+fn row_cause(kind: u32, n: usize, at: usize) -> Checked
+    ensures { λ r. ⌜ verdict-of r ≡ refused (row-cause at kind n) ⌝ }
 {
-    let count = tokens.len() / TOKEN_ROW;
-    let mut left = byte_count;
-    let mut at: usize = 0;
-    while at < count {
-        let n = wide(tokens[at * TOKEN_ROW + TOKEN_LENGTH]);
-        let good = is_good_row(tokens[at * TOKEN_ROW], n, left);
-        if good {
-            left -= n;
-            at += 1;
+    let known = is_input_kind(kind);
+    if known {
+        let some = 1 <= n;
+        if some {
+            Checked::PastInput(TokenIndex(at))
         } else {
-            return Found::At(at);
-        }
-    }
-    let whole = tokens.len() % TOKEN_ROW == 0;
-    if whole {
-        let covered = left == 0;
-        if covered {
-            Found::Nothing
-        } else {
-            Found::At(count)
+            Checked::ZeroLength(TokenIndex(at))
         }
     } else {
-        Found::At(count)
+        Checked::BadKind(TokenIndex(at))
     }
 }
 
@@ -120,7 +116,7 @@ fn is_good_text(bytes: &[u8], byte: usize, kind: u32, n: usize) -> bool
 
 // Cause 4.
 fn find_bad_text(bytes: &[u8], tokens: &[u32]) -> Found
-    ensures { λ r. ⌜ (check-rows 0 (length (now (bytes .entry))) (now (tokens .entry)) ≡ accepted
+    ensures { λ r. ⌜ (check-rows 0 0 (length (now (bytes .entry))) (tokens-of (now (tokens .entry))) ≡ accepted
         → found bad-text r ≡ check-texts 0 (now (bytes .entry)) (tokens-of (now (tokens .entry)))) ⌝ }
 {
     let count = tokens.len() / TOKEN_ROW;
@@ -159,16 +155,45 @@ pub fn check(bytes: &[u8], tokens: &[u32]) -> Checked
     if long {
         return Checked::TooLong;
     }
-    let row = find_bad_row(tokens, bytes.len());
-    match row {
-        Found::At(at) => Checked::BadRow(TokenIndex(at)),
-        Found::Nothing => check_texts(bytes, tokens),
+    let whole = tokens.len() % TOKEN_ROW == 0;
+    if whole {
+        check_rows(bytes, tokens)
+    } else {
+        Checked::OddCount(TokenIndex(tokens.len() / TOKEN_ROW))
     }
 }
 
-// Cause 4, after cause 3.
+// Causes 11 to 13 over all rows, then 4. What is left of the input is compared with a row's length: no sum is made that
+// could pass a number's width.
+fn check_rows(bytes: &[u8], tokens: &[u32]) -> Checked
+    ensures { λ r. ⌜ verdict-of r ≡ (check-rows 0 0 (length (now (bytes .entry))) (tokens-of (now (tokens .entry)))
+        or-else check-texts 0 (now (bytes .entry)) (tokens-of (now (tokens .entry)))) ⌝ }
+{
+    let count = tokens.len() / TOKEN_ROW;
+    let mut left = bytes.len();
+    let mut at: usize = 0;
+    while at < count {
+        let kind = tokens[at * TOKEN_ROW];
+        let n = wide(tokens[at * TOKEN_ROW + TOKEN_LENGTH]);
+        let good = is_good_row(kind, n, left);
+        if good {
+            left -= n;
+            at += 1;
+        } else {
+            return row_cause(kind, n, at);
+        }
+    }
+    let covered = left == 0;
+    if covered {
+        check_texts(bytes, tokens)
+    } else {
+        Checked::ShortTotal(TokenIndex(count))
+    }
+}
+
+// Cause 4, after 11 to 13.
 fn check_texts(bytes: &[u8], tokens: &[u32]) -> Checked
-    ensures { λ r. ⌜ (check-rows 0 (length (now (bytes .entry))) (now (tokens .entry)) ≡ accepted
+    ensures { λ r. ⌜ (check-rows 0 0 (length (now (bytes .entry))) (tokens-of (now (tokens .entry))) ≡ accepted
         → verdict-of r ≡ check-texts 0 (now (bytes .entry)) (tokens-of (now (tokens .entry)))) ⌝ }
 {
     let text = find_bad_text(bytes, tokens);

@@ -1,5 +1,4 @@
-// Causes 2, 3 and 4 of document 01 at their exact boundaries: each line is a cause and a place, 0 0 where the input is
-// sound.
+// Causes 2, 3, 11 to 13 and 4 at their exact boundaries: each line is a cause and a place, 0 0 where the input is sound.
 // What is tried stands beside each call; the expected lines are in stdout.
 use input::causes;
 use input::causes::Checked;
@@ -17,7 +16,11 @@ fn show(bytes: &[u8], tokens: &[u32]) {
     match checked {
         Checked::Sound => line(0, 0),
         Checked::TooLong => line(refusal::TOO_LONG as u64, 0),
-        Checked::BadRow(i) => line(refusal::BAD_ROW as u64, i.0),
+        Checked::OddCount(i) => line(refusal::ODD_COUNT as u64, i.0),
+        Checked::BadKind(i) => line(refusal::BAD_KIND as u64, i.0),
+        Checked::ZeroLength(i) => line(refusal::ZERO_LENGTH as u64, i.0),
+        Checked::PastInput(i) => line(refusal::BAD_END as u64, i.0),
+        Checked::ShortTotal(i) => line(refusal::BAD_END as u64, i.0),
         Checked::BadText(i) => line(refusal::BAD_TEXT as u64, i.0),
     }
 }
@@ -62,23 +65,34 @@ fn kinds() {
     byte_of_kind(27);
 }
 
-// Two names of these lengths over two bytes.
-fn names(first: u32, second: u32) {
-    show(b"ab", &[27, first, 27, second]);
+// Rows over the two bytes `ab`. Kind 27 is Ident, 26 Name, 29 Semicolon.
+fn one(kind: u32, n: u32) {
+    show(b"ab", &[kind, n]);
 }
 
-fn lengths() {
-    // A length of 0, in the second row.
-    show(b"a", &[27, 1, 27, 0]);
-    // Two rows that end with the input, and one byte past it.
-    names(1, 1);
-    names(1, 2);
-    // A sum past 32 bits.
-    names(4294967295, 3);
-    names(1, 4294967295);
-    // A number without a partner; a total that is one byte short; nothing at all.
-    show(b"a", &[27, 1, 27]);
-    show(b"ab", &[27, 1]);
+fn two(kind: u32, n: u32, next: u32, m: u32) {
+    show(b"ab", &[kind, n, next, m]);
+}
+
+fn rows() {
+    // Two rows that end with the input; a length of 0, first and last; an end one byte past the input, likewise.
+    two(27, 1, 27, 1);
+    two(27, 0, 27, 2);
+    two(27, 2, 27, 0);
+    one(27, 3);
+    two(27, 1, 27, 2);
+    // A total that is one byte short; a bad kind with a length of 0, and with an end past the input.
+    one(27, 1);
+    two(26, 0, 27, 2);
+    one(26, 3);
+    // Sums past 32 bits, in which they are what the input is long.
+    two(27, 4294967295, 27, 3);
+    two(27, 1, 27, 4294967295);
+    // Cause 4 comes after a later bad row, and after a short total.
+    two(29, 1, 26, 1);
+    one(29, 1);
+    // A number without a partner, after a bad row; nothing at all.
+    show(b"ab", &[26, 2, 27]);
     show(b"", &[]);
 }
 
@@ -91,13 +105,11 @@ fn texts() {
     directive(b"/plugin/;", 8);
     directive(b"/plugin;", 7);
     directive(b"/plugin/:", 8);
-    // Cause 3 over all rows comes before cause 4.
-    show(b"::", &[29, 1, 26, 1]);
 }
 
 fn main() {
     limits();
     kinds();
-    lengths();
+    rows();
     texts();
 }

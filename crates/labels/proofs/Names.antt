@@ -13,7 +13,8 @@ use Rattle.definitions.specs.Skeleton.{Skeleton}
 use Rattle.definitions.specs.Place.{root}
 use Rattle.definitions.specs.Grammar.{Entry, root-kind}
 use Rattle.definitions.specs.Call.{run-entry}
-use Rattle.definitions.specs.Refusal.{no-report-room, accepted, refused, check-input}
+use Rattle.definitions.specs.Refusal.{no-report-room, accepted, refused}
+use Rattle.definitions.specs.RowCauses.{check-input}
 use Rattle.definitions.specs.Strict.{Name-at, judged, breaking, reported-names, name-numbers, names-fit}
 use Rattle.laws.proofs.Input.{Checked, checked-input}
 use Rattle.laws.proofs.NamesFound.{Back, forwards, curly, under, found}

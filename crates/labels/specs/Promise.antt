@@ -8,7 +8,8 @@ use lib.ListN.{length, take}
 use Rattle.definitions.specs.Layout.{REPORT-ROW, NO-REPORT-ROOM}
 use Rattle.definitions.specs.Token.{tokens-of}
 use Rattle.definitions.specs.Place.{root}
-use Rattle.definitions.specs.Refusal.{no-report-room, accepted, refused, check-input}
+use Rattle.definitions.specs.Refusal.{no-report-room, accepted, refused}
+use Rattle.definitions.specs.RowCauses.{check-input}
 use Rattle.definitions.specs.Strict.{Name-at, reported-names, name-numbers, names-fit}
 use Rattle.definitions.specs.Grammar.{Entry, root-kind}
 use Rattle.definitions.specs.Call.{run-entry}

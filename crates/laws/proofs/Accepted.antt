@@ -13,7 +13,8 @@ use Rattle.definitions.specs.Grammar.{Entry}
 use Rattle.definitions.specs.Skeleton.{Skeleton}
 use Rattle.definitions.specs.Strict.{Name-at, names-fit}
 use Rattle.definitions.specs.Report.{Room, Fit, fits, stops, pushes, scan}
-use Rattle.definitions.specs.Refusal.{Refusal, unknown-entry, too-long, bad-row, bad-text, too-deep, no-event-room, no-report-room, no-tree-room, number-of, Verdict, accepted, refused, check-input}
+use Rattle.definitions.specs.Refusal.{Refusal, unknown-entry, too-long, odd-count, bad-kind, zero-length, past-input, short-total, bad-text, too-deep, no-event-room, no-report-room, no-tree-room, number-of, Verdict, accepted, refused}
+use Rattle.definitions.specs.RowCauses.{check-input}
 use Rattle.definitions.specs.Call.{Buffers, Result, cleared, Sheets, sheets, kept, delivered, forward-mark, unless-refused, outcome, room-of, run-entry, names-of, parse, Asked, for, unknown, entry-of, checked, asked, call}
 use Rattle.basics.proofs.Tests.{and-left, and-right}
 
@@ -42,7 +43,11 @@ pub refusal-number : (r : Refusal) → number-of r ≡ 0 → ⊥
 unfolding number-of
 refusal-number unknown-entry e = omega arith
 refusal-number too-long e = omega arith
-refusal-number (bad-row i) e = omega arith
+refusal-number (odd-count i) e = omega arith
+refusal-number (bad-kind i) e = omega arith
+refusal-number (zero-length i) e = omega arith
+refusal-number (past-input i) e = omega arith
+refusal-number (short-total i) e = omega arith
 refusal-number (bad-text i) e = omega arith
 refusal-number (too-deep m) e = omega arith
 refusal-number (no-event-room m) e = omega arith

@@ -1,9 +1,9 @@
--- What the checks of a call's input say, causes 2 to 4: limits, kinds, lengths, that the rows cover the input exactly,
+-- What the checks of a call's input say, causes 2 to 4 and 11 to 13: limits, kinds, lengths, that the rows cover the input exactly,
 -- and fixed texts.
-use Prim.Native.Nat.{ℕ, suc, _-_, _*_, _≤_}
+use Prim.Native.Nat.{ℕ, suc, _+_, _*_, _%_, _≤_}
 use native.Mathlib.Omega.{arith}
-use mathlib.Core.Path.{_≡_, refl, sym}
-use mathlib.Core.Bool.{Bool, true, false, _&&_}
+use mathlib.Core.Path.{_≡_}
+use mathlib.Core.Bool.{true, _&&_}
 use mathlib.Core.List.{List, [], _∷_}
 use lib.Dec.{leb, eqb}
 use lib.ListN.{length, take, drop}
@@ -11,23 +11,11 @@ use borrow.Author.Tests.{leb-true, eqb-true}
 use Rattle.definitions.specs.Layout.{TOKEN-ROW, MOST-TOKEN-NUMBERS, MOST-BYTES}
 use Rattle.definitions.specs.Token.{Token, tokens-of, byte-count}
 use Rattle.definitions.specs.StaticText.{static-texts, fits-text}
-use Rattle.definitions.specs.Refusal.{Refusal, too-long, bad-row, bad-text, Verdict, accepted, refused, _or-else_, unless, check-sizes, is-kind, check-rows, check-texts, check-input}
+use Rattle.definitions.specs.Refusal.{too-long, short-total, bad-text, accepted, check-sizes, check-texts}
+use Rattle.definitions.specs.RowCauses.{check-count, is-kind, check-rows, check-input}
 use Rattle.basics.proofs.Tests.{and-left, and-right}
-use Rattle.basics.proofs.Verdicts.{cond-accepted}
-
-pub or-else-left : (v w : Verdict) → (v or-else w) ≡ accepted → v ≡ accepted
-unfolding _or-else_
-or-else-left accepted w e = refl
-or-else-left (refused r) w e = e
-
-pub or-else-right : (v w : Verdict) → (v or-else w) ≡ accepted → w ≡ accepted
-unfolding _or-else_
-or-else-right accepted w e = e
-or-else-right (refused r) w e = let x : _≡_ {A = ℕ} 0 1 = cc in absurd (omega arith)
-
-pub unless-holds : (c : Bool) (r : Refusal) → unless c r ≡ accepted → c ≡ true
-unless-holds true r e = refl
-unless-holds false r e = let x : _≡_ {A = ℕ} 0 1 = cc in absurd (omega arith)
+use Rattle.basics.proofs.TokenRows.{tokens-length}
+use Rattle.basics.proofs.Verdicts.{cond-accepted, or-else-left, or-else-right, unless-holds, rows-good}
 
 -- a token of a kind that may be input, at least one byte long
 pub record Good (t : Token) : Type 0 where
@@ -43,7 +31,7 @@ abbrev pub Texts-fit : List ℕ → List Token → Type 0
 Texts-fit bytes [] = Unit {0}
 Texts-fit bytes (t ∷ ts) = (fits-text static-texts (t .kind) (take (t .len) bytes) ≡ true) × Texts-fit (drop (t .len) bytes) ts
 
--- what causes 2 to 4 leave
+-- what they leave
 pub record Checked (bytes tokens : List ℕ) : Type 0 where
   pub bytes-limit : length bytes ≤ MOST-BYTES
   pub numbers-limit : length tokens ≤ MOST-TOKEN-NUMBERS
@@ -53,31 +41,18 @@ pub record Checked (bytes tokens : List ℕ) : Type 0 where
   pub good : All-good (tokens-of tokens)
   pub texts : Texts-fit bytes (tokens-of tokens)
 
--- cause 3, from any row on
-pub record Rows-good (left : ℕ) (tokens : List ℕ) : Type 0 where
-  pub pairs : length tokens ≡ TOKEN-ROW * length (tokens-of tokens)
-  pub covered : byte-count (tokens-of tokens) ≡ left
-  pub good : All-good (tokens-of tokens)
+-- causes 11 to 13, from any row on
+record Rows-pass (start size : ℕ) (ts : List Token) : Type 0 where
+  covered : start + byte-count ts ≡ size
+  good : All-good ts
 
-rows-good : (i left : ℕ) (tokens : List ℕ) → check-rows i left tokens ≡ accepted → Rows-good left tokens
-unfolding check-rows tokens-of byte-count
-rows-good i left [] e = let z : left ≡ 0 = eqb-true left 0 (unless-holds (eqb left 0) (bad-row i) e) in record { pairs = omega arith; covered = sym z; good = tt }
-rows-good i left (k ∷ []) e = let x : _≡_ {A = ℕ} 0 1 = cc in absurd (omega arith)
-rows-good i left (k ∷ n ∷ l) e =
-    let h : ((is-kind k && leb 1 n && leb n left) ≡ true) × (check-rows (suc i) (left - n) l ≡ accepted) = cond-accepted (is-kind k && leb 1 n && leb n left) (check-rows (suc i) (left - n) l) (bad-row i) e in
-    let g : Rows-good (left - n) l = rows-good (suc i) (left - n) l (h .1) in
-    let x : n ≤ left = leb-true n left (and-right (is-kind k && leb 1 n) _ (h .0)) in
-    record {
-      pairs = omega (arith, g .pairs);
-      covered = omega (arith, g .covered);
-      good = (
-        record {
-          kind = and-left (is-kind k) (leb 1 n) (and-left (is-kind k && leb 1 n) _ (h .0));
-          len = leb-true 1 n (and-right (is-kind k) (leb 1 n) (and-left (is-kind k && leb 1 n) _ (h .0)));
-        },
-        g .good,
-      );
-    }
+rows-pass : (i start size : ℕ) (ts : List Token) → check-rows i start size ts ≡ accepted → Rows-pass start size ts
+unfolding check-rows byte-count
+rows-pass i start size [] e = let z : start ≡ size = eqb-true start size (unless-holds (eqb start size) (short-total i) e) in record { covered = omega (arith, z); good = tt }
+rows-pass i start size (t ∷ ts) e =
+    let h = rows-good i start size t ts e in
+    let g : Rows-pass (start + t .len) size ts = rows-pass (suc i) (start + t .len) size ts (h .1) in
+    record { covered = omega (arith, g .covered); good = (record { kind = h .0 .kind; len = h .0 .not-empty }, g .good) }
 
 texts-fit : (i : ℕ) (bytes : List ℕ) (ts : List Token) → check-texts i bytes ts ≡ accepted → Texts-fit bytes ts
 unfolding check-texts
@@ -87,18 +62,20 @@ texts-fit i bytes (t ∷ ts) e =
     cond-accepted (fits-text static-texts (t .kind) (take (t .len) bytes)) (check-texts (suc i) (drop (t .len) bytes) ts) (bad-text i) e in
     (h .0, texts-fit (suc i) (drop (t .len) bytes) ts (h .1))
 
--- INPUT THAT PASSED causes 2 to 4
+-- INPUT THAT PASSED causes 2 to 4, and 11 to 13
 pub checked-input : (bytes tokens : List ℕ) → check-input bytes tokens ≡ accepted → Checked bytes tokens
-unfolding check-input check-sizes
+unfolding check-input check-sizes check-count
 checked-input bytes tokens e =
     let sizes : (leb (length bytes) MOST-BYTES && leb (length tokens) MOST-TOKEN-NUMBERS) ≡ true = unless-holds _ too-long (or-else-left (check-sizes bytes tokens) _ e) in
-    let rest : (check-rows 0 (length bytes) tokens or-else check-texts 0 bytes (tokens-of tokens)) ≡ accepted = or-else-right (check-sizes bytes tokens) _ e in
-    let g : Rows-good (length bytes) tokens = rows-good 0 (length bytes) tokens (or-else-left (check-rows 0 (length bytes) tokens) _ rest) in
+    let after-2 = or-else-right (check-sizes bytes tokens) _ e in
+    let even : length tokens % TOKEN-ROW ≡ 0 = eqb-true _ _ (unless-holds (eqb (length tokens % TOKEN-ROW) 0) _ (or-else-left (check-count tokens) _ after-2)) in
+    let after-3 = or-else-right (check-count tokens) _ after-2 in
+    let g : Rows-pass 0 (length bytes) (tokens-of tokens) = rows-pass 0 0 (length bytes) (tokens-of tokens) (or-else-left (check-rows 0 0 (length bytes) (tokens-of tokens)) _ after-3) in
     record {
       bytes-limit = leb-true _ _ (and-left _ _ sizes);
       numbers-limit = leb-true _ _ (and-right (leb (length bytes) MOST-BYTES) _ sizes);
-      pairs = g .pairs;
-      covered = g .covered;
+      pairs = omega (arith, even, tokens-length tokens);
+      covered = omega (arith, g .covered);
       good = g .good;
-      texts = texts-fit 0 bytes (tokens-of tokens) (or-else-right (check-rows 0 (length bytes) tokens) _ rest);
+      texts = texts-fit 0 bytes (tokens-of tokens) (or-else-right (check-rows 0 0 (length bytes) (tokens-of tokens)) _ after-3);
     }

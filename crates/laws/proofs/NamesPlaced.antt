@@ -9,7 +9,7 @@ use lib.Dec.{eqb}
 use lib.ListN.{length, take, drop, length-append, take-append-drop}
 use borrow.Author.Tests.{eqb-true}
 use Rattle.definitions.specs.TokenKind as K
-use Rattle.definitions.specs.Refusal.{is-kind}
+use Rattle.definitions.specs.RowCauses.{is-kind}
 use Rattle.definitions.specs.Token.{Token, is-error, seen, is-trivia, trivia, drop-trivia, byte-count, past}
 use Rattle.definitions.specs.Skeleton.{Skeleton, done, token, name, node, ignored, report, over}
 use Rattle.definitions.specs.Place.{Tree, nil, leaf, subtree, _⊕_, lead, front, after, place, root, width}

@@ -3,7 +3,7 @@ pub const UNKNOWN_ENTRY: u32 = 1;
 
 pub const TOO_LONG: u32 = 2;
 
-pub const BAD_ROW: u32 = 3;
+pub const ODD_COUNT: u32 = 3;
 
 pub const BAD_TEXT: u32 = 4;
 
@@ -19,3 +19,10 @@ pub const NO_TREE_ROOM: u32 = 8;
 pub const HIGH_BYTE: u32 = 9;
 
 pub const DIRECTIVE: u32 = 10;
+
+// Document 02's, of a token row; the last also of all rows together.
+pub const BAD_KIND: u32 = 11;
+
+pub const ZERO_LENGTH: u32 = 12;
+
+pub const BAD_END: u32 = 13;

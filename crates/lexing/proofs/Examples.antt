@@ -14,9 +14,11 @@ use Rattle.definitions.specs.Pattern.{within}
 use Rattle.definitions.specs.Rules.{Rule, rules, token, ascii}
 use Rattle.definitions.specs.Lex.{a-token, lex-after, lex}
 use Rattle.definitions.specs.Text.{numbers-of}
-use Rattle.definitions.specs.Refusal.{too-long, bad-row, bad-text, Verdict, accepted, refused, _or-else_, unless, check-sizes, check-rows, check-texts, check-input}
+use Rattle.definitions.specs.Refusal.{too-long, odd-count, bad-kind, zero-length, past-input, short-total, bad-text, accepted, refused, check-sizes}
+use Rattle.definitions.specs.RowCauses.{check-input}
 use Rattle.patterns.specs.Textbook.{Fits}
 use Rattle.basics.proofs.Tests.{and-left, and-right}
+use Rattle.basics.proofs.Verdicts.{or-else-left, unless-holds}
 use Rattle.lexing.specs.ByRules.{Member, Matches, Wins, Lexing}
 use Rattle.lexing.specs.Joined.{texts, join}
 use Rattle.lexing.proofs.ByRules.{by-rules}
@@ -172,25 +174,24 @@ they-pass : check-input (ascii "a=<1>;\n") (numbers-of (lex (ascii "a=<1>;\n")))
 unfolding lex-after numbers-of
 they-pass = rows-pass (ascii "a=<1>;\n") (omega arith) (omega arith)
 
--- rows of a kind that no token has, one that is short, and one with another kind's text do not
-refusals : (check-input (ascii ",") (25 ∷ 1 ∷ []) ≡ refused (bad-row 0))
-    × (check-input (ascii ",,") (2 ∷ 1 ∷ []) ≡ refused (bad-row 1))
+-- a number left over, a row of a kind that no token has, one of no bytes, one that ends past the text, rows that end
+-- before it, and one with another kind's text do not
+refusals : (check-input (ascii ",") (2 ∷ 1 ∷ 2 ∷ []) ≡ refused (odd-count 1))
+    × (check-input (ascii ",") (25 ∷ 1 ∷ []) ≡ refused (bad-kind 0))
+    × (check-input (ascii ",") (2 ∷ 0 ∷ []) ≡ refused (zero-length 0))
+    × (check-input (ascii ",") (2 ∷ 2 ∷ []) ≡ refused (past-input 0))
+    × (check-input (ascii ",,") (2 ∷ 1 ∷ []) ≡ refused (short-total 1))
     × (check-input (ascii ",") (28 ∷ 1 ∷ []) ≡ refused (bad-text 0))
 unfolding check-input
-refusals = (refl, refl, refl)
+refusals = (refl, refl, refl, refl, refl, refl)
 
 -- nor does a text of one byte more than the limit, or rows of one number more
-sizes-fit : (f : Bool) (v : Verdict) → (unless f too-long or-else v) ≡ accepted → f ≡ true
-unfolding _or-else_
-sizes-fit true v e = refl
-sizes-fit false v e = let n : _≡_ {A = ℕ} 0 1 = cc in absurd (omega arith)
-
 a-long-text : (s tokens : List ℕ) → length s ≡ 1048577 → check-input s tokens ≡ accepted → ⊥
 unfolding check-input check-sizes
 a-long-text s tokens h e =
     let text = leb (length s) 1048576 in
     let rows = leb (length tokens) 131072 in
-    let f = sizes-fit (text && rows) (check-rows 0 (length s) tokens or-else check-texts 0 s (tokens-of tokens)) e in
+    let f = unless-holds (text && rows) too-long (or-else-left (check-sizes s tokens) _ e) in
     omega (arith, h, leb-true (length s) 1048576 (and-left text rows f))
 
 many-tokens : (s tokens : List ℕ) → length tokens ≡ 131073 → check-input s tokens ≡ accepted → ⊥
@@ -198,5 +199,5 @@ unfolding check-input check-sizes
 many-tokens s tokens h e =
     let text = leb (length s) 1048576 in
     let rows = leb (length tokens) 131072 in
-    let f = sizes-fit (text && rows) (check-rows 0 (length s) tokens or-else check-texts 0 s (tokens-of tokens)) e in
+    let f = unless-holds (text && rows) too-long (or-else-left (check-sizes s tokens) _ e) in
     omega (arith, h, leb-true (length tokens) 131072 (and-right text rows f))

@@ -12,7 +12,7 @@ use borrow.Author.Tests.{leb-true, eqb-true, not-true}
 use Rattle.definitions.specs.LexError as L
 use Rattle.definitions.specs.Token.{Token}
 use Rattle.definitions.specs.StaticText.{Text, static-texts, fits-text}
-use Rattle.definitions.specs.Refusal.{is-kind}
+use Rattle.definitions.specs.RowCauses.{is-kind}
 use Rattle.definitions.specs.Pattern.{Pattern, nothing, empty, one, other, _then_, _or_, many, within}
 use Rattle.definitions.specs.Rules.{Callback, no-callback, lex-block-comment, lex-string, lex-char, lex-bytestring, Rule, rules}
 use Rattle.definitions.specs.Lex.{End, ended, unexpected-end, comment-end, quote-end, bracket-end, close, finish}

@@ -9,7 +9,8 @@ use Rattle.definitions.specs.Layout.{EVENT-ROW, REPORT-ROW, MOST-OPEN-CALLS, MO
 use Rattle.definitions.specs.Token.{Token, tokens-of, byte-count}
 use Rattle.definitions.specs.Skeleton.{Skeleton}
 use Rattle.definitions.specs.Event as Event
-use Rattle.definitions.specs.Refusal.{Refusal, number-of, place-of, accepted, check-input}
+use Rattle.definitions.specs.Refusal.{Refusal, number-of, place-of, accepted}
+use Rattle.definitions.specs.RowCauses.{check-input}
 use Rattle.definitions.specs.Report.{Room, Fit, fits, stops, scan, pushes, report-numbers}
 use Rattle.definitions.specs.Report as Report
 use Rattle.definitions.specs.Grammar.{Entry, whole}

@@ -1,7 +1,8 @@
-// Document 01's readings on the code, and those of the strict setting. Those of a few tokens are cases on standard
-// input, in the form that crates/replay says; tools/replay/readings makes them and what must be printed, from the
-// documents and the oracle. Those of 65,536 blanks are here: a source file of 65,536 rows of one blank each is
-// accepted, one of 65,537 is refused; an entry that there is not comes before that.
+// Document 01's readings on the code, those of the strict setting, and those of row causes. Those of a few tokens are
+// cases on standard input, in the form that crates/replay says; tools/replay/readings makes them and what must be
+// printed, from the documents and the oracle. Those of 65,536 blanks are here: a source file of 65,536 rows of one blank
+// each is accepted, one of 65,537 is refused; an entry that there is not comes before that; and an odd count of numbers
+// comes after it.
 use cases::blanks;
 
 // A case's numbers on so many blanks: the answer, the root's row, and how many rows of one blank follow it.
@@ -27,5 +28,13 @@ fn main() {
     called(
         b"65537-blanks-entry-5",
         [131074, 65537, 5, 0, 3, 262148, 3, 9, 1],
+    );
+    called(
+        b"65535-blanks-and-a-number",
+        [131071, 65536, 1, 0, 3, 262148, 3, 9, 1],
+    );
+    called(
+        b"65536-blanks-and-a-number",
+        [131073, 65537, 1, 0, 3, 262148, 3, 9, 1],
     );
 }

@@ -17,7 +17,8 @@ use Rattle.definitions.specs.Skeleton.{Label, no-label, label, Report, Skeleton
 use Rattle.definitions.specs.Place.{Tree, nil, leaf, subtree, root, width, count, rows, lexical-errors}
 use Rattle.definitions.specs.Report.{pushes, reports, label-numbers, report-numbers, pool}
 use Rattle.definitions.specs.Strict.{Name-at, name-numbers}
-use Rattle.definitions.specs.Refusal.{accepted, check-input}
+use Rattle.definitions.specs.Refusal.{accepted}
+use Rattle.definitions.specs.RowCauses.{check-input}
 use Rattle.definitions.specs.Call.{Sheets, sheets, kept, written, run-entry, names-of, for, entry-of}
 use Rattle.laws.proofs.Accepted.{accepted-call, written-by}
 use Rattle.laws.proofs.Accepted as L

@@ -14,7 +14,8 @@ use Rattle.definitions.specs.Skeleton.{Skeleton}
 use Rattle.definitions.specs.Place.{root, rows, lexical-errors}
 use Rattle.definitions.specs.Strict.{Name-at, name-numbers, names-fit}
 use Rattle.definitions.specs.Report.{Room, Fit, fits, stops, scan, pushes, reports, report-numbers, pool}
-use Rattle.definitions.specs.Refusal.{Refusal, unknown-entry, too-long, bad-row, bad-text, too-deep, no-event-room, no-report-room, no-tree-room, number-of, place-of, Verdict, accepted, refused, check-input}
+use Rattle.definitions.specs.Refusal.{Refusal, unknown-entry, too-long, odd-count, bad-kind, zero-length, past-input, short-total, bad-text, too-deep, no-event-room, no-report-room, no-tree-room, number-of, place-of, Verdict, accepted, refused}
+use Rattle.definitions.specs.RowCauses.{check-input}
 use Rattle.definitions.specs.Grammar.{Entry, root-kind}
 use Rattle.definitions.specs.Call.{Buffers, refusal, cleared, Sheets, sheets, kept, delivered, forward-mark, unless-refused, outcome, room-of, run-entry, names-of, parse}
 use Rattle.laws.proofs.Input.{Checked, checked-input}
@@ -40,7 +41,11 @@ forward-number : (n : ℕ) (r : Refusal) → number-of (forward-mark n r) ≡ nu
 unfolding number-of forward-mark
 forward-number n unknown-entry = refl
 forward-number n too-long = refl
-forward-number n (bad-row i) = refl
+forward-number n (odd-count i) = refl
+forward-number n (bad-kind i) = refl
+forward-number n (zero-length i) = refl
+forward-number n (past-input i) = refl
+forward-number n (short-total i) = refl
 forward-number n (bad-text i) = refl
 forward-number n (too-deep m) = refl
 forward-number n (no-event-room m) = refl

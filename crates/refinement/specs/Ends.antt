@@ -10,7 +10,8 @@ use lib.ListN.{length, take, replicate}
 use Rattle.basics.specs.Word.{low}
 use Rattle.definitions.specs.Layout.{TREE-ROW, ERROR-ROW, REPORT-ROW, MOST-OPEN-CALLS}
 use Rattle.definitions.specs.Token.{tokens-of}
-use Rattle.definitions.specs.Refusal.{no-tree-room, number-of, place-of, accepted, check-input}
+use Rattle.definitions.specs.Refusal.{no-tree-room, number-of, place-of, accepted}
+use Rattle.definitions.specs.RowCauses.{check-input}
 use Rattle.definitions.specs.Grammar.{Entry, whole, root-kind}
 use Rattle.definitions.specs.Call.{Buffers, Answer, Result, parse}
 use Rattle.machine.specs.Machine.{Machine}

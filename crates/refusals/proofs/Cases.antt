@@ -13,7 +13,7 @@ use Rattle.definitions.specs.Grammar.{SourceFile, Cells}
 use Rattle.definitions.specs.Call.{Buffers, Answer, call}
 use Rattle.basics.proofs.Tests.{and-left, and-right}
 use Rattle.refusals.specs.Trace.{call-opened, expectation-pushed, event-pushed, report-written, trace}
-use Rattle.refusals.specs.Refusals.{Good-row, happens, Cause, over-size, odd-or-short}
+use Rattle.refusals.specs.Refusals.{Good-row, happens, Cause, over-size, short-total}
 use Rattle.refusals.proofs.Firsts.{each-nil}
 use Rattle.refusals.proofs.Refusals.{refusals}
 
@@ -79,20 +79,35 @@ unlabelled =
     -- 1: entry 0 and entry 5, whatever else is wrong
     on 0 [] [] enough 1 0
     ∷ on 5 [] (27 ∷ []) enough 1 0
-    -- 2: one number too many; with one fewer the first row is bad
+    -- 2: one number too many, an odd count too; at the limit the first row is judged; one below it the count is odd
     ∷ on 1 [] (replicate 131073 0) enough 2 0
-    ∷ on 1 [] (replicate 131072 0) enough 3 0
-    -- 3: kinds 25, 61 and 75; length 0; an end past the input; odd numbers; a short total; no row for one byte; 3 in a
-    -- later row before 4
-    ∷ on 1 (97 ∷ []) (25 ∷ 1 ∷ []) enough 3 0
-    ∷ on 1 (97 ∷ 98 ∷ []) (27 ∷ 1 ∷ 61 ∷ 1 ∷ []) enough 3 1
-    ∷ on 1 (97 ∷ []) (75 ∷ 1 ∷ []) enough 3 0
-    ∷ on 1 (97 ∷ []) (27 ∷ 0 ∷ []) enough 3 0
-    ∷ on 1 (97 ∷ []) (27 ∷ 1 ∷ 27 ∷ 1 ∷ []) enough 3 1
+    ∷ on 1 [] (replicate 131072 0) enough 12 0
+    ∷ on 1 [] (replicate 131071 0) enough 3 65535
+    -- 3: an odd count, whatever the rows before it are
     ∷ on 1 (97 ∷ []) (27 ∷ 1 ∷ 27 ∷ []) enough 3 1
-    ∷ on 1 (97 ∷ 98 ∷ []) (27 ∷ 1 ∷ []) enough 3 1
-    ∷ on 1 (97 ∷ []) [] enough 3 0
-    ∷ on 1 (97 ∷ 98 ∷ []) (29 ∷ 1 ∷ 26 ∷ 1 ∷ []) enough 3 1
+    ∷ on 1 (97 ∷ []) (99 ∷ 0 ∷ 27 ∷ []) enough 3 1
+    ∷ on 1 [] (99 ∷ []) enough 3 0
+    -- 11: kinds 25, 26, 61 and 75, also with a length of 0 or an end past the input
+    ∷ on 1 (97 ∷ []) (25 ∷ 1 ∷ []) enough 11 0
+    ∷ on 1 (97 ∷ []) (26 ∷ 0 ∷ []) enough 11 0
+    ∷ on 1 (97 ∷ 98 ∷ []) (27 ∷ 1 ∷ 61 ∷ 2 ∷ []) enough 11 1
+    ∷ on 1 (97 ∷ []) (75 ∷ 1 ∷ []) enough 11 0
+    -- 12: length 0, also where the input is at its end
+    ∷ on 1 (97 ∷ []) (27 ∷ 0 ∷ []) enough 12 0
+    ∷ on 1 (97 ∷ []) (27 ∷ 1 ∷ 27 ∷ 0 ∷ []) enough 12 1
+    -- 13: an end past the input, by one byte; and by a sum that is the input's length in 32 bits
+    ∷ on 1 (97 ∷ []) (27 ∷ 1 ∷ 27 ∷ 1 ∷ []) enough 13 1
+    ∷ on 1 (97 ∷ 98 ∷ []) (27 ∷ 1 ∷ 27 ∷ 4294967295 ∷ 27 ∷ 2 ∷ []) enough 13 1
+    -- the first bad row, whatever is wrong with it
+    ∷ on 1 (97 ∷ []) (27 ∷ 2 ∷ 27 ∷ 0 ∷ 26 ∷ 1 ∷ []) enough 13 0
+    ∷ on 1 (97 ∷ []) (27 ∷ 0 ∷ 27 ∷ 2 ∷ 26 ∷ 1 ∷ []) enough 12 0
+    -- 13, last: a short total, also without a row; a bad row comes before it, though the total is short
+    ∷ on 1 (97 ∷ 98 ∷ []) (27 ∷ 1 ∷ []) enough 13 1
+    ∷ on 1 (97 ∷ []) [] enough 13 0
+    ∷ on 1 (97 ∷ 98 ∷ 99 ∷ []) (27 ∷ 1 ∷ 26 ∷ 1 ∷ []) enough 11 1
+    -- all of these before 4: a later row, and a short total
+    ∷ on 1 (97 ∷ 98 ∷ []) (29 ∷ 1 ∷ 26 ∷ 1 ∷ []) enough 11 1
+    ∷ on 1 (97 ∷ 98 ∷ []) (29 ∷ 1 ∷ []) enough 13 1
     -- 4: a row of kind Semicolon whose byte is not `;`
     ∷ on 1 (97 ∷ 98 ∷ []) (27 ∷ 1 ∷ 29 ∷ 1 ∷ []) enough 4 1
     -- 5: 256 and 257 pending; 64 and 65 open calls
@@ -207,10 +222,10 @@ cases-hold = all-only cases computed
 pub bytes-over : (setting : ℕ) (bytes : List ℕ) (b : Buffers) → length bytes ≡ 1048577 → call 1 setting bytes [] b .answer .number ≡ 2
 bytes-over setting bytes b h = refusals 1 setting bytes [] b 2 0 .1 (over-size SourceFile refl (λ s. omega (arith, h, s .0))) .0
 
-pub bytes-kept : (setting : ℕ) (bytes : List ℕ) (b : Buffers) → length bytes ≡ 1048576 → call 1 setting bytes [] b .answer .number ≡ 3
+pub bytes-kept : (setting : ℕ) (bytes : List ℕ) (b : Buffers) → length bytes ≡ 1048576 → call 1 setting bytes [] b .answer .number ≡ 13
 unfolding tokens-of byte-count
 bytes-kept setting bytes b h =
-    refusals 1 setting bytes [] b 3 0 .1 (odd-or-short SourceFile (refl, (omega (arith, h), omega arith)) (each-nil (Good-row bytes) []) (λ c. omega (arith, h, c .1))) .0
+    refusals 1 setting bytes [] b 13 0 .1 (short-total SourceFile ((refl, (omega (arith, h), omega arith)), omega arith) (each-nil (Good-row bytes) []) (omega (arith, h))) .0
 
 -- ---------------------------------------------------------------- what happens in a run, written out
 

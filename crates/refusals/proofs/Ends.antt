@@ -2,70 +2,73 @@
 use Prim.Native.Nat.{ℕ, zero, suc, _+_, _-_, _*_, _/_, _≤_}
 use native.Mathlib.Omega.{arith}
 use mathlib.Core.Path.{_≡_, refl, ap, _∙_}
+use mathlib.Core.Logic.{inl, inr}
 use mathlib.Core.Bool.{Bool, true, false, cond}
 use mathlib.Core.List.{List, [], _∷_, _++_}
 use lib.Dec.{leb}
 use lib.ListN.{length, length-append, replicate, length-replicate}
 use borrow.Author.Tests.{leb-true}
-use Rattle.definitions.specs.Layout.{TOO-DEEP, BAD-TEXT, NO-REPORT-ROOM, BAD-ROW, NO-TREE-ROOM, TREE-ROW, ERROR-ROW, REPORT-ROW}
+use Rattle.definitions.specs.Layout.{TREE-ROW, ERROR-ROW, REPORT-ROW}
 use Rattle.definitions.specs.Token.{tokens-of, byte-count}
 use Rattle.definitions.specs.Grammar.{Entry, root-kind}
 use Rattle.definitions.specs.Place.{root}
 use Rattle.definitions.specs.Skeleton.{Report}
 use Rattle.definitions.specs.Report.{Push, event, reported, exceeded, pushes, Room, Fit, fits, stops, one-event, one-report, scan, reports, report-numbers, pool}
-use Rattle.definitions.specs.Refusal.{Refusal, unknown-entry, too-long, bad-row, bad-text, too-deep, no-event-room, no-report-room, no-tree-room, number-of, place-of, accepted}
+use Rattle.definitions.specs.Refusal.{Refusal, unknown-entry, too-long, odd-count, bad-kind, zero-length, past-input, short-total, bad-text, too-deep, no-event-room, no-report-room, no-tree-room, number-of, place-of, accepted}
 use Rattle.definitions.specs.Strict.{Name-at, name-numbers, names-fit}
 use Rattle.definitions.specs.Call.{Buffers, untouched, cleared, sheets, written, kept, room-of, run-entry}
 use Rattle.laws.proofs.Decode.{rows-length}
 use Rattle.laws.proofs.LexicalErrors.{errors-length}
 use Rattle.refusals.specs.Refusals.{entry-number, named, to-write, Tree-fits}
-use Rattle.refusals.specs.Answered.{Filled, Written, Returns}
+use Rattle.refusals.specs.Answered.{Filled, Written, Before-the-parse, In-the-parse, Returns}
 use Rattle.laws.proofs.ReportNumbers.{report-numbers-length, name-numbers-length}
 use Rattle.laws.proofs.Scan.{stops-never}
 
 -- ---------------------------------------------------------------- refusals
 
-bounds : (r : Refusal) → (1 ≤ number-of r) × (number-of r ≤ NO-TREE-ROOM)
-unfolding number-of
-bounds unknown-entry = (omega arith, omega arith)
-bounds too-long = (omega arith, omega arith)
-bounds (bad-row i) = (omega arith, omega arith)
-bounds (bad-text i) = (omega arith, omega arith)
-bounds (too-deep m) = (omega arith, omega arith)
-bounds (no-event-room m) = (omega arith, omega arith)
-bounds (no-report-room m) = (omega arith, omega arith)
-bounds no-tree-room = (omega arith, omega arith)
-
-no-place : (r : Refusal) → ¬ ((BAD-ROW ≤ number-of r) × (number-of r ≤ NO-REPORT-ROOM)) → place-of r ≡ 0
+no-place : (r : Refusal) → (number-of r ≤ 2 → place-of r ≡ 0) × (number-of r ≡ 8 → place-of r ≡ 0)
 unfolding number-of place-of
-no-place unknown-entry h = refl
-no-place too-long h = refl
-no-place (bad-row i) h = absurd (h (omega arith, omega arith))
-no-place (bad-text i) h = absurd (h (omega arith, omega arith))
-no-place (too-deep m) h = absurd (h (omega arith, omega arith))
-no-place (no-event-room m) h = absurd (h (omega arith, omega arith))
-no-place (no-report-room m) h = absurd (h (omega arith, omega arith))
-no-place no-tree-room h = refl
+no-place unknown-entry = (λ h. refl, λ h. refl)
+no-place too-long = (λ h. refl, λ h. refl)
+no-place (odd-count i) = (λ h. absurd (omega (arith, h)), λ h. absurd (omega (arith, h)))
+no-place (bad-kind i) = (λ h. absurd (omega (arith, h)), λ h. absurd (omega (arith, h)))
+no-place (zero-length i) = (λ h. absurd (omega (arith, h)), λ h. absurd (omega (arith, h)))
+no-place (past-input i) = (λ h. absurd (omega (arith, h)), λ h. absurd (omega (arith, h)))
+no-place (short-total i) = (λ h. absurd (omega (arith, h)), λ h. absurd (omega (arith, h)))
+no-place (bad-text i) = (λ h. absurd (omega (arith, h)), λ h. absurd (omega (arith, h)))
+no-place (too-deep i) = (λ h. absurd (omega (arith, h)), λ h. absurd (omega (arith, h)))
+no-place (no-event-room i) = (λ h. absurd (omega (arith, h)), λ h. absurd (omega (arith, h)))
+no-place (no-report-room i) = (λ h. absurd (omega (arith, h)), λ h. absurd (omega (arith, h)))
+no-place no-tree-room = (λ h. refl, λ h. refl)
+
+-- the two are apart, and neither is 0
+apart : (k : ℕ) → Before-the-parse k → In-the-parse k → ⊥
+apart k (inl h) g = omega (arith, h .1, g .0)
+apart k (inr h) g = omega (arith, h .0, g .1)
+
+not-0 : (k : ℕ) → Before-the-parse k → 1 ≤ k
+not-0 k (inl h) = h .0
+not-0 k (inr h) = omega (arith, h .0)
 
 module _ (n setting : ℕ) (bytes tokens : List ℕ) (b : Buffers) where
-  pub left-as-it-was : (r : Refusal) → number-of r ≤ BAD-TEXT → Returns n setting bytes tokens b (untouched r b)
+  pub left-as-it-was : (r : Refusal) → Before-the-parse (number-of r) → Returns n setting bytes tokens b (untouched r b)
   left-as-it-was r h =
       record {
-        at-most-8 = bounds r .1;
-        accepted = λ e. absurd (omega (arith, e, bounds r .0));
-        as-it-was = λ p q. refl;
-        all-zero = λ p. absurd (omega (arith, p, h));
+        listed = inr (inl h);
+        accepted = λ e. absurd (omega (arith, e, not-0 (number-of r) h));
+        as-it-was = λ p. refl;
+        all-zero = λ p. absurd (apart (number-of r) h p);
         no-counts = λ p. record { tree-count = refl; error-count = refl; report-count = refl; expectation-count = refl };
         no-place = no-place r;
         lengths = record { events = refl; trees = refl; errors = refl; reports = refl; pool = refl };
       }
 
-  pub left-zero : (r : Refusal) → TOO-DEEP ≤ number-of r → Returns n setting bytes tokens b (cleared r b)
+  pub left-zero : (r : Refusal) → In-the-parse (number-of r) → Returns n setting bytes tokens b (cleared r b)
   left-zero r h =
       record {
-        at-most-8 = bounds r .1;
-        accepted = λ e. absurd (omega (arith, e, h));
-        as-it-was = λ p q. absurd (omega (arith, q, h));
+        listed = inr (inr h);
+        accepted = λ e. absurd (omega (arith, e, h .0));
+        as-it-was = λ p. absurd (apart (number-of r) p h);
         all-zero = λ p. record { events = refl; trees = refl; errors = refl; reports = refl; pool = refl };
         no-counts = λ p. record { tree-count = refl; error-count = refl; report-count = refl; expectation-count = refl };
         no-place = no-place r;
@@ -134,12 +137,12 @@ module _ (n setting : ℕ) (bytes tokens : List ℕ) (b : Buffers) where
   unfolding sheets
   left-written e h z f v t =
       record {
-        at-most-8 = omega arith;
+        listed = inl refl;
         accepted = λ q. (e, h, w);
-        as-it-was = λ p q. absurd (omega (arith, p));
-        all-zero = λ p. absurd (omega (arith, p));
+        as-it-was = λ p. absurd (omega (arith, not-0 0 p));
+        all-zero = λ p. absurd (omega (arith, p .0));
         no-counts = λ p. absurd (omega (arith, p));
-        no-place = λ p. refl;
+        no-place = (λ p. refl, λ p. refl);
         lengths =
             record {
               events = length-replicate (length (b .events)) 0;

@@ -38,7 +38,7 @@ entry-eq n ReferenceNoamp h = subst (λ (k : ℕ). entry-of k ≡ for ReferenceN
 entry-eq n PropValues h = subst (λ (k : ℕ). entry-of k ≡ for PropValues) h refl
 entry-eq n Cells h = subst (λ (k : ℕ). entry-of k ≡ for Cells) h refl
 
-number-1-to-4 : (n : ℕ) (e : Entry) → Passes-1 n e → (1 ≤ n) × (n ≤ 4)
+pub number-1-to-4 : (n : ℕ) (e : Entry) → Passes-1 n e → (1 ≤ n) × (n ≤ 4)
 number-1-to-4 n SourceFile h = (omega (arith, h), omega (arith, h))
 number-1-to-4 n ReferenceNoamp h = (omega (arith, h), omega (arith, h))
 number-1-to-4 n PropValues h = (omega (arith, h), omega (arith, h))

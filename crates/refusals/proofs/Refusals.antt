@@ -1,37 +1,33 @@
 -- From a cause to what is returned; and the statements of specs/Refusals.antt and specs/Answered.antt.
-use Prim.Native.Nat.{ℕ, suc}
-use mathlib.Core.Path.{_≡_, refl, ap, subst₂, _∙_}
+use Prim.Native.Nat.{ℕ, suc, _/_, _<_}
+use native.Mathlib.Omega.{arith}
+use mathlib.Core.Path.{_≡_, refl, sym, ap, subst₂, _∙_}
 use mathlib.Core.Bool.{Bool, true, false, cond}
 use mathlib.Core.List.{List}
 use lib.ListN.{length}
-use Rattle.definitions.specs.Token.{Token, tokens-of}
+use Rattle.definitions.specs.Layout.{TOKEN-ROW}
+use Rattle.definitions.specs.Token.{Token, tokens-of, byte-count}
 use Rattle.definitions.specs.Grammar.{Entry}
 use Rattle.definitions.specs.Report.{Room, Fit, fits, stops, pushes, scan}
-use Rattle.definitions.specs.Refusal.{Refusal, too-long, bad-text, number-of, place-of, Verdict, accepted, refused, _or-else_, unless, check-sizes, check-rows, check-texts, check-input}
+use Rattle.definitions.specs.Refusal.{Refusal, too-long, bad-text, number-of, place-of, Verdict, accepted, refused, _or-else_, unless, check-sizes, check-texts}
+use Rattle.definitions.specs.RowCauses.{check-count, check-rows, check-input}
 use Rattle.definitions.specs.Refusal as R
 use Rattle.definitions.specs.Call.{Buffers, Result, untouched, cleared, kept, delivered, forward-mark, unless-refused, outcome, room-of, run-entry, parse, Asked, checked, asked, call}
+use Rattle.basics.proofs.TokenRows.{tokens-length}
 use Rattle.refusals.specs.First.{Each, First}
 use Rattle.refusals.specs.Trace.{Happening, call-opened, expectation-pushed, event-pushed, report-written}
-use Rattle.refusals.specs.Refusals.{MAX-OPEN, MAX-PENDING, Passes-1, Sizes, Passes-2, Good-row, Covers, Passes-3, Right-text, Passes-4, Unrefused, happens, named, to-write, Passes-7, Cause, unknown-entry, over-size, bad-row, odd-or-short, wrong-text, call-too-many, expectation-too-many, no-event-room, no-report-room, no-name-room, no-tree-room, none, Refusals}
+use Rattle.refusals.specs.Refusals.{MAX-OPEN, MAX-PENDING, Passes-1, Sizes, Passes-2, Whole-rows, Passes-3, Good-row, Covers, Passes-13, Right-text, Passes-4, Unrefused, happens, named, to-write, Passes-7, Cause, unknown-entry, over-size, odd-count, bad-kind, zero-length, past-input, short-total, wrong-text, call-too-many, expectation-too-many, no-event-room, no-report-room, no-name-room, no-tree-room, none, Refusals}
 use Rattle.refusals.specs.Answered.{Answered}
 use Rattle.refusals.proofs.Firsts.{only-first, first-each}
 use Rattle.refusals.proofs.Named.{Names, judged-names, names-pass, names-fail}
 use Rattle.refusals.proofs.Judged.{refusal-for, Rows-left, Ends, all-fits, first-stops, run-ends}
-use Rattle.refusals.proofs.Tests.{Decides, holds, not-so}
-use Rattle.refusals.proofs.Rows.{sizes-decides, Rows, good-rows, bad-one, no-cover, judged-rows}
+use Rattle.refusals.proofs.Tests.{decided, refuted}
+use Rattle.refusals.proofs.Rows.{sizes-decides, whole-decides, Wrong, its-kind, its-length, its-end, only-wrong, Rows, good-rows, bad-one, too-short, judged-rows}
 use Rattle.refusals.proofs.Texts.{Texts, right-texts, wrong-one, judged-texts}
 use Rattle.refusals.proofs.Entries.{entry-eq, unknown-eq}
 use Rattle.refusals.proofs.Found.{tree-decides, found}
 
 -- ---------------------------------------------------------------- the checks
-
-decided : {A : Type 0} (t : Bool) → Decides A t → A → t ≡ true
-decided t (holds a) h = refl
-decided t (not-so a) h = absurd (a h)
-
-refuted : {A : Type 0} (t : Bool) → Decides A t → ¬ A → t ≡ false
-refuted t (holds a) h = absurd (h a)
-refuted t (not-so a) h = refl
 
 module _ (bytes tokens : List ℕ) where
   sizes-kept : Sizes bytes tokens → check-sizes bytes tokens ≡ accepted
@@ -42,20 +38,32 @@ module _ (bytes tokens : List ℕ) where
   unfolding check-sizes
   sizes-broken h = ap (λ (t : Bool). unless t too-long) (refuted _ (sizes-decides bytes tokens) h)
 
-  rows-pass : Each (Good-row bytes) (tokens-of tokens) → Covers bytes tokens → (v : Verdict) → Rows bytes tokens v → v ≡ accepted
+  count-kept : Whole-rows tokens → check-count tokens ≡ accepted
+  unfolding check-count
+  count-kept h = ap (λ (t : Bool). unless t (R.odd-count (length tokens / TOKEN-ROW))) (decided _ (whole-decides tokens) h)
+
+  count-broken : ¬ Whole-rows tokens → check-count tokens ≡ refused (R.odd-count (length (tokens-of tokens)))
+  unfolding check-count
+  count-broken h =
+      ap (λ (t : Bool). unless t (R.odd-count (length tokens / TOKEN-ROW))) (refuted _ (whole-decides tokens) h)
+      ∙ ap (λ (i : ℕ). refused (R.odd-count i)) (sym (tokens-length tokens))
+
+  rows-pass : Each (Good-row bytes) (tokens-of tokens) → Covers bytes tokens → (v : Verdict) → Rows bytes (tokens-of tokens) v → v ≡ accepted
   rows-pass h c v (good-rows g d) = refl
-  rows-pass h c v (bad-one before t f) = absurd (first-each (Good-row bytes) (tokens-of tokens) before t f h)
-  rows-pass h c v (no-cover g d) = absurd (d c)
+  rows-pass h c v (bad-one before t r f w) = absurd (first-each (Good-row bytes) (tokens-of tokens) before t f h)
+  rows-pass h c v (too-short g d) = absurd (omega (arith, c, d))
 
-  rows-fail : (before : List Token) (t : Token) → First (Good-row bytes) (tokens-of tokens) before t → (v : Verdict) → Rows bytes tokens v → v ≡ refused (R.bad-row (length before))
-  rows-fail before t f v (good-rows g d) = absurd (first-each (Good-row bytes) (tokens-of tokens) before t f g)
-  rows-fail before t f v (bad-one before′ t′ f′) = ap (λ (l : List Token). refused (R.bad-row (length l))) (only-first (Good-row bytes) (tokens-of tokens) before′ before t′ t f′ f .0)
-  rows-fail before t f v (no-cover g d) = absurd (first-each (Good-row bytes) (tokens-of tokens) before t f g)
+  rows-fail : (before : List Token) (t : Token) (r : Refusal) → First (Good-row bytes) (tokens-of tokens) before t → Wrong bytes before t r → (v : Verdict) → Rows bytes (tokens-of tokens) v → v ≡ refused r
+  rows-fail before t r f w v (good-rows g d) = absurd (first-each (Good-row bytes) (tokens-of tokens) before t f g)
+  rows-fail before t r f w v (bad-one before′ t′ r′ f′ w′) =
+      let e = only-first (Good-row bytes) (tokens-of tokens) before′ before t′ t f′ f in
+      ap refused (only-wrong bytes before t r′ r (subst₂ (λ (l : List Token) (x : Token). Wrong bytes l x r′) (e .0) (e .1) w′) w)
+  rows-fail before t r f w v (too-short g d) = absurd (first-each (Good-row bytes) (tokens-of tokens) before t f g)
 
-  rows-short : Each (Good-row bytes) (tokens-of tokens) → ¬ Covers bytes tokens → (v : Verdict) → Rows bytes tokens v → v ≡ refused (R.bad-row (length (tokens-of tokens)))
-  rows-short h c v (good-rows g d) = absurd (c d)
-  rows-short h c v (bad-one before t f) = absurd (first-each (Good-row bytes) (tokens-of tokens) before t f h)
-  rows-short h c v (no-cover g d) = refl
+  rows-short : Each (Good-row bytes) (tokens-of tokens) → byte-count (tokens-of tokens) < length bytes → (v : Verdict) → Rows bytes (tokens-of tokens) v → v ≡ refused (R.short-total (length (tokens-of tokens)))
+  rows-short h c v (good-rows g d) = absurd (omega (arith, c, d))
+  rows-short h c v (bad-one before t r f w) = absurd (first-each (Good-row bytes) (tokens-of tokens) before t f h)
+  rows-short h c v (too-short g d) = refl
 
   texts-pass : Each (Right-text bytes) (tokens-of tokens) → (v : Verdict) → Texts bytes (tokens-of tokens) v → v ≡ accepted
   texts-pass h v (right-texts g) = refl
@@ -69,13 +77,17 @@ module _ (bytes tokens : List ℕ) where
   unfolding check-input _or-else_
   input-sizes h = rw h
 
-  input-rows : (r : Refusal) → check-sizes bytes tokens ≡ accepted → check-rows 0 (length bytes) tokens ≡ refused r → check-input bytes tokens ≡ refused r
+  input-count : (r : Refusal) → check-sizes bytes tokens ≡ accepted → check-count tokens ≡ refused r → check-input bytes tokens ≡ refused r
   unfolding check-input _or-else_
-  input-rows r h g = rw (h, g)
+  input-count r h g = rw (h, g)
 
-  input-texts : (v : Verdict) → check-sizes bytes tokens ≡ accepted → check-rows 0 (length bytes) tokens ≡ accepted → check-texts 0 bytes (tokens-of tokens) ≡ v → check-input bytes tokens ≡ v
+  input-rows : (r : Refusal) → check-sizes bytes tokens ≡ accepted → check-count tokens ≡ accepted → check-rows 0 0 (length bytes) (tokens-of tokens) ≡ refused r → check-input bytes tokens ≡ refused r
   unfolding check-input _or-else_
-  input-texts v h g f = rw (h, g, f)
+  input-rows r h k g = rw (h, k, g)
+
+  input-texts : (v : Verdict) → check-sizes bytes tokens ≡ accepted → check-count tokens ≡ accepted → check-rows 0 0 (length bytes) (tokens-of tokens) ≡ accepted → check-texts 0 bytes (tokens-of tokens) ≡ v → check-input bytes tokens ≡ v
+  unfolding check-input _or-else_
+  input-texts v h k g f = rw (h, k, g, f)
 
 -- ---------------------------------------------------------------- the run
 
@@ -103,16 +115,18 @@ module _ (n setting : ℕ) (bytes tokens : List ℕ) (b : Buffers) where
   unfolding checked
   refuses e p r h = returned (untouched r b) (checks e p (refused r) h)
 
-  input-3 : (e : Entry) → Passes-2 n bytes tokens e → (r : Refusal) → ((v : Verdict) → Rows bytes tokens v → v ≡ refused r) → Returned (number-of r) (place-of r)
-  input-3 e p r h = refuses e (p .0) r (input-rows bytes tokens r (sizes-kept bytes tokens (p .1)) (h _ (judged-rows bytes tokens)))
+  input-13 : (e : Entry) → Passes-3 n bytes tokens e → (r : Refusal) → ((v : Verdict) → Rows bytes (tokens-of tokens) v → v ≡ refused r) → Returned (number-of r) (place-of r)
+  input-13 e p r h = refuses e (p .0 .0) r (input-rows bytes tokens r (sizes-kept bytes tokens (p .0 .1)) (count-kept bytes tokens (p .1)) (h _ (judged-rows bytes (tokens-of tokens))))
 
-  input-4 : (e : Entry) → Passes-3 n bytes tokens e → (v : Verdict) → ((w : Verdict) → Texts bytes (tokens-of tokens) w → w ≡ v) → check-input bytes tokens ≡ v
-  input-4 e p v h = input-texts bytes tokens v (sizes-kept bytes tokens (p .0 .1)) (rows-pass bytes tokens (p .1) (p .2) _ (judged-rows bytes tokens)) (h _ (judged-texts bytes (tokens-of tokens)))
+  input-4 : (e : Entry) → Passes-13 n bytes tokens e → (v : Verdict) → ((w : Verdict) → Texts bytes (tokens-of tokens) w → w ≡ v) → check-input bytes tokens ≡ v
+  input-4 e p v h =
+      input-texts bytes tokens v (sizes-kept bytes tokens (p .0 .0 .1)) (count-kept bytes tokens (p .0 .1)) (rows-pass bytes tokens (p .1) (p .2) _ (judged-rows bytes (tokens-of tokens)))
+      (h _ (judged-texts bytes (tokens-of tokens)))
 
   runs : (e : Entry) → Passes-4 n bytes tokens e → (f : Fit) → scan (pushes (run-entry e (tokens-of tokens))) (room-of b) ≡ f → call n setting bytes tokens b ≡ outcome f e (tokens-of tokens) (run-entry e (tokens-of tokens)) (named setting e bytes tokens) b
   unfolding checked parse
   runs e p f h =
-      checks e (p .0 .0 .0) accepted (input-4 e (p .0) accepted (texts-pass bytes tokens (p .1))) ∙ ap (λ (g : Fit). outcome g e (tokens-of tokens) (run-entry e (tokens-of tokens)) (named setting e bytes tokens) b) h
+      checks e (p .0 .0 .0 .0) accepted (input-4 e (p .0) accepted (texts-pass bytes tokens (p .1))) ∙ ap (λ (g : Fit). outcome g e (tokens-of tokens) (run-entry e (tokens-of tokens)) (named setting e bytes tokens) b) h
 
   stops-at : (e : Entry) → Passes-4 n bytes tokens e → (before : List Happening) (x : Happening) → First (Unrefused b) (happens e tokens) before x
       → Returned (number-of (forward-mark (length (tokens-of tokens)) (refusal-for x))) (place-of (forward-mark (length (tokens-of tokens)) (refusal-for x)))
@@ -137,9 +151,12 @@ module _ (n setting : ℕ) (bytes tokens : List ℕ) (b : Buffers) where
   unfolding number-of place-of forward-mark unless-refused delivered asked call
   returns k p (unknown-entry h) = returned (untouched R.unknown-entry b) (ap (λ (x : Asked). asked x setting bytes tokens b) (unknown-eq n h))
   returns k p (over-size e q h) = refuses e q too-long (input-sizes bytes tokens (sizes-broken bytes tokens h))
-  returns k p (bad-row e q before t f) = input-3 e q (R.bad-row (length before)) (rows-fail bytes tokens before t f)
-  returns k p (odd-or-short e q h c) = input-3 e q (R.bad-row (length (tokens-of tokens))) (rows-short bytes tokens h c)
-  returns k p (wrong-text e q before t f) = refuses e (q .0 .0) (bad-text (length before)) (input-4 e q (refused (bad-text (length before))) (texts-fail bytes tokens before t f))
+  returns k p (odd-count e q h) = refuses e (q .0) (R.odd-count (length (tokens-of tokens))) (input-count bytes tokens _ (sizes-kept bytes tokens (q .1)) (count-broken bytes tokens h))
+  returns k p (bad-kind e q before t f h) = input-13 e q (R.bad-kind (length before)) (rows-fail bytes tokens before t _ f (its-kind h))
+  returns k p (zero-length e q before t f h z) = input-13 e q (R.zero-length (length before)) (rows-fail bytes tokens before t _ f (its-length h z))
+  returns k p (past-input e q before t f h o l) = input-13 e q (R.past-input (length before)) (rows-fail bytes tokens before t _ f (its-end h o l))
+  returns k p (short-total e q h c) = input-13 e q (R.short-total (length (tokens-of tokens))) (rows-short bytes tokens h c)
+  returns k p (wrong-text e q before t f) = refuses e (q .0 .0 .0) (bad-text (length before)) (input-4 e q (refused (bad-text (length before))) (texts-fail bytes tokens before t f))
   returns k p (call-too-many e q before m f) = stops-at e q before (call-opened (suc MAX-OPEN) m) f
   returns k p (expectation-too-many e q before m f) = stops-at e q before (expectation-pushed (suc MAX-PENDING) m) f
   returns k p (no-event-room e q before m f) = stops-at e q before (event-pushed m) f

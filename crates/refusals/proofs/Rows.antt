@@ -1,18 +1,20 @@
--- What the checks of causes 2 and 3 find, in the words of the statement.
-use Prim.Native.Nat.{ℕ, suc, _+_, _-_, _*_, _≤_}
+-- What the checks of causes 2, 3 and 11 to 13 find, in the words of the statement.
+use Prim.Native.Nat.{ℕ, suc, _+_, _%_, _≤_, _<_}
 use native.Mathlib.Omega.{arith}
-use mathlib.Core.Path.{_≡_, refl, subst}
-use mathlib.Core.Bool.{Bool, cond, _&&_, _||_}
-use mathlib.Core.List.{List, [], _∷_, _++_}
+use mathlib.Core.Path.{_≡_, refl, sym, _∙_, subst, subst₂}
+use mathlib.Core.Bool.{Bool, _&&_, _||_}
+use mathlib.Core.List.{List, [], _∷_, _++_, append-nil, append-assoc}
 use lib.Dec.{leb, eqb}
 use lib.ListN.{length, length-append}
 use Rattle.definitions.specs.Layout.{TOKEN-ROW, MOST-TOKEN-NUMBERS, MOST-BYTES}
 use Rattle.definitions.specs.LexError as L
 use Rattle.definitions.specs.TokenKind as K
 use Rattle.definitions.specs.Token.{Token, tokens-of, byte-count}
-use Rattle.definitions.specs.Refusal.{bad-row, Verdict, accepted, refused, unless, is-kind, check-rows}
+use Rattle.definitions.specs.Refusal.{Refusal, bad-kind, zero-length, past-input, short-total, Verdict, accepted, refused, unless, _or-else_}
+use Rattle.definitions.specs.RowCauses.{is-kind, check-row, check-rows}
+use Rattle.basics.proofs.TokenRows.{tokens-length}
 use Rattle.refusals.specs.First.{Each, First}
-use Rattle.refusals.specs.Refusals.{MAX-BYTES, MAX-NUMBERS, Sizes, Input-kind, a-token, a-lexical-error, Good-row, Covers}
+use Rattle.refusals.specs.Refusals.{MAX-BYTES, MAX-NUMBERS, Sizes, Whole-rows, Input-kind, a-token, a-lexical-error, Good-row}
 use Rattle.refusals.proofs.Firsts.{Each-after, First-after, each-nil, each-cons, first-here, first-later, from-nothing}
 use Rattle.refusals.proofs.Tests.{Decides, holds, not-so, both, leb-decides, eqb-decides, not-decides}
 
@@ -39,75 +41,102 @@ sizes-decides bytes tokens = both _ _ (leb-decides (length bytes) MAX-BYTES) (le
 
 -- ---------------------------------------------------------------- cause 3
 
+pub whole-decides : (tokens : List ℕ) → Decides (Whole-rows tokens) (eqb (length tokens % TOKEN-ROW) 0)
+whole-decides tokens = by _ (eqb-decides (length tokens % TOKEN-ROW) 0)
+  where
+    by : (t : Bool) → Decides (length tokens % TOKEN-ROW ≡ 0) t → Decides (Whole-rows tokens) t
+    by t (holds h) = holds (omega (arith, h, tokens-length tokens))
+    by t (not-so h) = not-so (λ w. h (omega (arith, w)))
+
+-- ---------------------------------------------------------------- causes 11 to 13 of one row
+
+-- what is wrong with a row after others
+pub data Wrong (bytes : List ℕ) (before : List Token) (t : Token) : Refusal → Type 0 where
+  its-kind : ¬ Input-kind (t .kind) → Wrong bytes before t (bad-kind (length before))
+  its-length : Input-kind (t .kind) → t .len ≡ 0 → Wrong bytes before t (zero-length (length before))
+  its-end : Input-kind (t .kind) → 1 ≤ t .len → length bytes < byte-count before + t .len → Wrong bytes before t (past-input (length before))
+
+-- there is no more than one such thing
+pub only-wrong : (bytes : List ℕ) (before : List Token) (t : Token) (r r′ : Refusal) → Wrong bytes before t r → Wrong bytes before t r′ → r ≡ r′
+only-wrong bytes before t r r′ (its-kind h) (its-kind g) = refl
+only-wrong bytes before t r r′ (its-kind h) (its-length k z) = absurd (h k)
+only-wrong bytes before t r r′ (its-kind h) (its-end k o e) = absurd (h k)
+only-wrong bytes before t r r′ (its-length k z) (its-kind g) = absurd (g k)
+only-wrong bytes before t r r′ (its-length k z) (its-length k′ z′) = refl
+only-wrong bytes before t r r′ (its-length k z) (its-end k′ o e) = absurd (omega (arith, z, o))
+only-wrong bytes before t r r′ (its-end k o e) (its-kind g) = absurd (g k)
+only-wrong bytes before t r r′ (its-end k o e) (its-length k′ z) = absurd (omega (arith, z, o))
+only-wrong bytes before t r r′ (its-end k o e) (its-end k′ o′ e′) = refl
+
+data One (bytes : List ℕ) (before : List Token) (t : Token) : Verdict → Type 0 where
+  right : Good-row bytes before t → One bytes before t accepted
+  wrong : (r : Refusal) → ¬ Good-row bytes before t → Wrong bytes before t r → One bytes before t (refused r)
+
+one-row : (bytes : List ℕ) (before : List Token) (t : Token) → One bytes before t (check-row (length before) (byte-count before) (length bytes) t)
+unfolding check-row _or-else_
+one-row bytes before t = by _ _ _ (kind-decides (t .kind)) (leb-decides 1 (t .len)) (leb-decides (byte-count before + t .len) (length bytes))
+  where
+    by : (x y z : Bool) → Decides (Input-kind (t .kind)) x → Decides (1 ≤ t .len) y → Decides (byte-count before + t .len ≤ length bytes) z
+        → One bytes before t (unless x (bad-kind (length before)) or-else unless y (zero-length (length before)) or-else unless z (past-input (length before)))
+    by x y z (not-so k) e f = wrong (bad-kind (length before)) (λ g. k (g .kind)) (its-kind k)
+    by x y z (holds k) (not-so e) f = wrong (zero-length (length before)) (λ g. e (g .not-empty)) (its-length k (omega (arith, e)))
+    by x y z (holds k) (holds e) (not-so f) = wrong (past-input (length before)) (λ g. f (g .ends-inside)) (its-end k e (omega (arith, f)))
+    by x y z (holds k) (holds e) (holds f) = right (record { kind = k; not-empty = e; ends-inside = f })
+
+-- ---------------------------------------------------------------- of all rows
+
 pub bytes-more : (pre : List Token) (t : Token) → byte-count (pre ++ (t ∷ [])) ≡ byte-count pre + t .len
 unfolding byte-count
 bytes-more [] t = omega arith
 bytes-more (x ∷ pre) t = let h : byte-count (pre ++ (t ∷ [])) ≡ byte-count pre + t .len = bytes-more pre t in omega arith
 
-row-decides : (bytes : List ℕ) (pre : List Token) (k n left : ℕ) → byte-count pre + left ≡ length bytes
-    → Decides (Good-row bytes pre (record { kind = k; len = n })) (is-kind k && leb 1 n && leb n left)
-row-decides bytes pre k n left e = by _ (both _ _ (both _ _ (kind-decides k) (leb-decides 1 n)) (leb-decides n left))
-  where
-    by : (t : Bool) → Decides ((Input-kind k × (1 ≤ n)) × (n ≤ left)) t → Decides (Good-row bytes pre (record { kind = k; len = n })) t
-    by t (holds a) = holds (record { kind = a .0 .0; not-empty = a .0 .1; ends-inside = omega (arith, e, a .1) })
-    by t (not-so h) = not-so (λ g. h ((g .kind, g .not-empty), omega (arith, e, g .ends-inside)))
-
 -- the rows after others
-data Judged (bytes : List ℕ) (pre : List Token) (tokens : List ℕ) : Verdict → Type 0 where
-  good : Each-after (Good-row bytes) pre (tokens-of tokens) → length tokens ≡ TOKEN-ROW * length (tokens-of tokens) → byte-count pre + byte-count (tokens-of tokens) ≡ length bytes → Judged bytes pre tokens accepted
-  bad : (before : List Token) (t : Token) (i : ℕ) → First-after (Good-row bytes) pre (tokens-of tokens) before t → i ≡ length pre + length before → Judged bytes pre tokens (refused (bad-row i))
-  ends : Each-after (Good-row bytes) pre (tokens-of tokens) → ¬ ((length tokens ≡ TOKEN-ROW * length (tokens-of tokens)) × (byte-count pre + byte-count (tokens-of tokens) ≡ length bytes)) → (i : ℕ)
-      → i ≡ length pre + length (tokens-of tokens) → Judged bytes pre tokens (refused (bad-row i))
+data Judged (bytes : List ℕ) (pre ts : List Token) : Verdict → Type 0 where
+  good : Each-after (Good-row bytes) pre ts → byte-count pre + byte-count ts ≡ length bytes → Judged bytes pre ts accepted
+  bad : (before : List Token) (t : Token) (r : Refusal) → First-after (Good-row bytes) pre ts before t → Wrong bytes (pre ++ before) t r → Judged bytes pre ts (refused r)
+  short : Each-after (Good-row bytes) pre ts → byte-count pre + byte-count ts < length bytes → (i : ℕ) → i ≡ length pre + length ts → Judged bytes pre ts (refused (short-total i))
 
-rows-end : (bytes : List ℕ) (pre : List Token) (i left : ℕ) (t : Bool) → i ≡ length pre → byte-count pre + left ≡ length bytes → Decides (left ≡ 0) t → Judged bytes pre [] (unless t (bad-row i))
-unfolding tokens-of byte-count
-rows-end bytes pre i left t p e (holds z) = good (each-nil (Good-row bytes) pre) (omega arith) (omega (arith, e, z))
-rows-end bytes pre i left t p e (not-so h) = ends (each-nil (Good-row bytes) pre) (λ x. h (omega (arith, e, x .1))) i (omega (arith, p))
-
-row-later : (bytes : List ℕ) (pre : List Token) (k n : ℕ) (tokens : List ℕ) (v : Verdict) → Good-row bytes pre (record { kind = k; len = n })
-    → Judged bytes (pre ++ (record { kind = k; len = n } ∷ [])) tokens v → Judged bytes pre (k ∷ n ∷ tokens) v
-unfolding tokens-of byte-count
-row-later bytes pre k n tokens v h (good g p c) =
-    good (each-cons (Good-row bytes) pre (record { kind = k; len = n }) (tokens-of tokens) h g) (omega (arith, p)) (omega (arith, c, bytes-more pre (record { kind = k; len = n })))
-row-later bytes pre k n tokens v h (bad before t i f e) =
-    let x : Token = record { kind = k; len = n } in
-    let l : length (pre ++ (x ∷ [])) ≡ length pre + 1 = length-append pre (x ∷ []) in
-    bad (x ∷ before) t i (first-later (Good-row bytes) pre x (tokens-of tokens) before t h f) (omega (arith, e, l))
-row-later bytes pre k n tokens v h (ends g c i e) =
-    let x : Token = record { kind = k; len = n } in
-    let l : length (pre ++ (x ∷ [])) ≡ length pre + 1 = length-append pre (x ∷ []) in
-    let m : byte-count (pre ++ (x ∷ [])) ≡ byte-count pre + n = bytes-more pre x in
-    ends (each-cons (Good-row bytes) pre x (tokens-of tokens) h g) (λ y. c (omega (arith, y .0), omega (arith, y .1, m))) i (omega (arith, e, l))
-
-one-row : (bytes : List ℕ) (pre : List Token) (i k n : ℕ) (tokens : List ℕ) (t : Bool) (v : Verdict) → i ≡ length pre → Decides (Good-row bytes pre (record { kind = k; len = n })) t
-    → (Good-row bytes pre (record { kind = k; len = n }) → Judged bytes (pre ++ (record { kind = k; len = n } ∷ [])) tokens v) → Judged bytes pre (k ∷ n ∷ tokens) (cond t v (refused (bad-row i)))
-unfolding tokens-of
-one-row bytes pre i k n tokens t v p (holds h) j = row-later bytes pre k n tokens v h (j h)
-one-row bytes pre i k n tokens t v p (not-so h) j = bad [] (record { kind = k; len = n }) i (first-here (Good-row bytes) pre (record { kind = k; len = n }) (tokens-of tokens) h) (omega (arith, p))
-
-rows-walk : (bytes : List ℕ) (pre : List Token) (i left : ℕ) (tokens : List ℕ) → i ≡ length pre → byte-count pre + left ≡ length bytes → Judged bytes pre tokens (check-rows i left tokens)
-unfolding check-rows tokens-of
-rows-walk bytes pre i left [] p e = rows-end bytes pre i left (eqb left 0) p e (eqb-decides left 0)
-rows-walk bytes pre i left (k ∷ []) p e = ends (each-nil (Good-row bytes) pre) (λ x. omega (arith, x .0)) i (omega (arith, p))
-rows-walk bytes pre i left (k ∷ n ∷ tokens) p e =
-    let x : Token = record { kind = k; len = n } in
-    one-row bytes pre i k n tokens (is-kind k && leb 1 n && leb n left) (check-rows (suc i) (left - n) tokens) p (row-decides bytes pre k n left e)
-    (λ (h : Good-row bytes pre x).
-    let l : length (pre ++ (x ∷ [])) ≡ length pre + 1 = length-append pre (x ∷ []) in
-    let m : byte-count (pre ++ (x ∷ [])) ≡ byte-count pre + n = bytes-more pre x in
-    rows-walk bytes (pre ++ (x ∷ [])) (suc i) (left - n) tokens (omega (arith, p, l)) (omega (arith, e, m, h .ends-inside)))
-
--- CAUSE 3
-pub data Rows (bytes tokens : List ℕ) : Verdict → Type 0 where
-  good-rows : Each (Good-row bytes) (tokens-of tokens) → Covers bytes tokens → Rows bytes tokens accepted
-  bad-one : (before : List Token) (t : Token) → First (Good-row bytes) (tokens-of tokens) before t → Rows bytes tokens (refused (bad-row (length before)))
-  no-cover : Each (Good-row bytes) (tokens-of tokens) → ¬ Covers bytes tokens → Rows bytes tokens (refused (bad-row (length (tokens-of tokens))))
-
-pub judged-rows : (bytes tokens : List ℕ) → Rows bytes tokens (check-rows 0 (length bytes) tokens)
+rows-end : (bytes : List ℕ) (pre : List Token) (t : Bool) → byte-count pre ≤ length bytes → Decides (byte-count pre ≡ length bytes) t → Judged bytes pre [] (unless t (short-total (length pre)))
 unfolding byte-count
-judged-rows bytes tokens = by _ (rows-walk bytes [] 0 (length bytes) tokens refl (omega arith))
+rows-end bytes pre t p (holds z) = good (each-nil (Good-row bytes) pre) (omega (arith, z))
+rows-end bytes pre t p (not-so h) = short (each-nil (Good-row bytes) pre) (omega (arith, p, h)) (length pre) (omega arith)
+
+row-later : (bytes : List ℕ) (pre : List Token) (x : Token) (ts : List Token) (v : Verdict) → Good-row bytes pre x
+    → Judged bytes (pre ++ (x ∷ [])) ts v → Judged bytes pre (x ∷ ts) v
+unfolding byte-count
+row-later bytes pre x ts v h (good g c) = good (each-cons (Good-row bytes) pre x ts h g) (omega (arith, c, bytes-more pre x))
+row-later bytes pre x ts v h (bad before t r f w) =
+    bad (x ∷ before) t r (first-later (Good-row bytes) pre x ts before t h f) (subst (λ (l : List Token). Wrong bytes l t r) (append-assoc pre (x ∷ []) before) w)
+row-later bytes pre x ts v h (short g c i e) =
+    short (each-cons (Good-row bytes) pre x ts h g) (omega (arith, c, bytes-more pre x)) i (omega (arith, e, length-append pre (x ∷ [])))
+
+after-row : (bytes : List ℕ) (pre : List Token) (x : Token) (ts : List Token) (v w : Verdict) → One bytes pre x v
+    → (Good-row bytes pre x → Judged bytes (pre ++ (x ∷ [])) ts w) → Judged bytes pre (x ∷ ts) (v or-else w)
+unfolding _or-else_
+after-row bytes pre x ts v w (right h) j = row-later bytes pre x ts w h (j h)
+after-row bytes pre x ts v w (wrong r h d) j = bad [] x r (first-here (Good-row bytes) pre x ts h) (subst (λ (l : List Token). Wrong bytes l x r) (sym (append-nil pre)) d)
+
+rows-walk : (bytes : List ℕ) (pre ts : List Token) → byte-count pre ≤ length bytes → Judged bytes pre ts (check-rows (length pre) (byte-count pre) (length bytes) ts)
+unfolding check-rows
+rows-walk bytes pre [] p = rows-end bytes pre _ p (eqb-decides (byte-count pre) (length bytes))
+rows-walk bytes pre (x ∷ ts) p =
+    after-row bytes pre x ts _ _ (one-row bytes pre x)
+    (λ (h : Good-row bytes pre x).
+    let l : length (pre ++ (x ∷ [])) ≡ suc (length pre) = length-append pre (x ∷ []) ∙ omega arith in
+    subst₂ (λ (i start : ℕ). Judged bytes (pre ++ (x ∷ [])) ts (check-rows i start (length bytes) ts)) l (bytes-more pre x)
+    (rows-walk bytes (pre ++ (x ∷ [])) ts (omega (arith, bytes-more pre x, h .ends-inside))))
+
+-- CAUSES 11 TO 13
+pub data Rows (bytes : List ℕ) (ts : List Token) : Verdict → Type 0 where
+  good-rows : Each (Good-row bytes) ts → byte-count ts ≡ length bytes → Rows bytes ts accepted
+  bad-one : (before : List Token) (t : Token) (r : Refusal) → First (Good-row bytes) ts before t → Wrong bytes before t r → Rows bytes ts (refused r)
+  too-short : Each (Good-row bytes) ts → byte-count ts < length bytes → Rows bytes ts (refused (short-total (length ts)))
+
+pub judged-rows : (bytes : List ℕ) (ts : List Token) → Rows bytes ts (check-rows 0 0 (length bytes) ts)
+unfolding byte-count
+judged-rows bytes ts = by _ (rows-walk bytes [] ts (omega arith))
   where
-    by : (v : Verdict) → Judged bytes [] tokens v → Rows bytes tokens v
-    by v (good g p c) = good-rows g (p, omega (arith, c))
-    by v (bad before t i f e) = subst (λ (n : ℕ). Rows bytes tokens (refused (bad-row n))) (omega (arith, e)) (bad-one before t (from-nothing (Good-row bytes) (tokens-of tokens) before t f))
-    by v (ends g c i e) = subst (λ (n : ℕ). Rows bytes tokens (refused (bad-row n))) (omega (arith, e)) (no-cover g (λ x. c (x .0, omega (arith, x .1))))
+    by : (v : Verdict) → Judged bytes [] ts v → Rows bytes ts v
+    by v (good g c) = good-rows g (omega (arith, c))
+    by v (bad before t r f w) = bad-one before t r (from-nothing (Good-row bytes) ts before t f) w
+    by v (short g c i e) = subst (λ (n : ℕ). Rows bytes ts (refused (short-total n))) (omega (arith, e)) (too-short g (omega (arith, c)))

@@ -11,6 +11,15 @@ pub data Decides (A : Type 0) : Bool → Type 0 where
   holds : A → Decides A true
   not-so : ¬ A → Decides A false
 
+-- what is known of the type is known of the test
+pub decided : {A : Type 0} (t : Bool) → Decides A t → A → t ≡ true
+decided t (holds a) h = refl
+decided t (not-so a) h = absurd (a h)
+
+pub refuted : {A : Type 0} (t : Bool) → Decides A t → ¬ A → t ≡ false
+refuted t (holds a) h = absurd (h a)
+refuted t (not-so a) h = refl
+
 pub both : {A B : Type 0} (s t : Bool) → Decides A s → Decides B t → Decides (A × B) (s && t)
 both s t (holds a) (holds b) = holds (a, b)
 both s t (holds a) (not-so b) = not-so (λ x. b (x .1))

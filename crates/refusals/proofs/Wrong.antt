@@ -1,14 +1,15 @@
 -- Wrong results, each refuted by the part of `Returns` that rules it out.
-use Prim.Native.Nat.{ℕ}
+use Prim.Native.Nat.{ℕ, _≤_}
+use mathlib.Core.Logic.{_⊎_, inl, inr}
 use native.Mathlib.Omega.{arith}
 use mathlib.Core.Path.{_≡_, refl, ap}
 use mathlib.Core.List.{List, [], _∷_}
 use lib.ListN.{getD, replicate}
 use Rattle.definitions.specs.Grammar.{Entry, SourceFile, ReferenceNoamp, PropValues, Cells}
-use Rattle.definitions.specs.Refusal.{unknown-entry, bad-text, too-deep, number-of}
+use Rattle.definitions.specs.Refusal.{unknown-entry, past-input, bad-text, too-deep, number-of}
 use Rattle.definitions.specs.Call.{Buffers, Answer, Result, untouched, cleared, call}
 use Rattle.refusals.specs.Refusals.{entry-number, to-write}
-use Rattle.refusals.specs.Answered.{Written, Returns}
+use Rattle.refusals.specs.Answered.{Written, Before-the-parse, In-the-parse, Returns}
 
 -- an empty source file in buffers that are not zero: one tree row, and one number left over
 abbrev lent : Buffers
@@ -25,34 +26,48 @@ pub right : call 1 0 [] [] lent ≡ gives (answers 0 0 1) (0 ∷ 0 ∷ 0 ∷ 0 �
 unfolding call
 right = refl
 
-pub number-9 : ¬ Returns 1 0 [] [] lent (gives (answers 9 0 0) (0 ∷ 0 ∷ 0 ∷ 0 ∷ 0 ∷ []) (0 ∷ []))
-number-9 h = omega (arith, h .at-most-8)
+-- numbers that are none of the listed
+not-listed : (k : ℕ) → 9 ≤ k → ¬ ((11 ≤ k) × (k ≤ 13)) → ¬ ((k ≡ 0) ⊎ (Before-the-parse k ⊎ In-the-parse k))
+not-listed k l h (inl e) = omega (arith, e, l)
+not-listed k l h (inr (inl (inl g))) = omega (arith, l, g .1)
+not-listed k l h (inr (inl (inr g))) = h g
+not-listed k l h (inr (inr g)) = omega (arith, l, g .1)
 
--- refusals 1 and 4 that clear, and a refusal 5 that does not
+pub number-9 : ¬ Returns 1 0 [] [] lent (gives (answers 9 0 0) (0 ∷ 0 ∷ 0 ∷ 0 ∷ 0 ∷ []) (0 ∷ []))
+number-9 h = not-listed 9 (omega arith) (λ g. omega (arith, g .0)) (h .listed)
+
+pub number-14 : ¬ Returns 1 0 [] [] lent (gives (answers 14 0 0) (0 ∷ 0 ∷ 0 ∷ 0 ∷ 0 ∷ []) (0 ∷ []))
+number-14 h = not-listed 14 (omega arith) (λ g. omega (arith, g .1)) (h .listed)
+
+-- refusals 1, 4 and 13 that clear, and a refusal 5 that does not
 pub cleared-1 : ¬ Returns 1 0 [] [] lent (cleared unknown-entry lent)
 unfolding number-of
-cleared-1 h = let e : _≡_ {A = ℕ} 0 7 = ap (λ (b : Buffers). getD (b .events) 0 0) (h .as-it-was (omega arith) (omega arith)) in omega (arith, e)
+cleared-1 h = let e : _≡_ {A = ℕ} 0 7 = ap (λ (b : Buffers). getD (b .events) 0 0) (h .as-it-was (inl (omega arith, omega arith))) in omega (arith, e)
 
 pub cleared-4 : ¬ Returns 1 0 [] [] lent (cleared (bad-text 0) lent)
 unfolding number-of
-cleared-4 h = let e : _≡_ {A = ℕ} 0 7 = ap (λ (b : Buffers). getD (b .events) 0 0) (h .as-it-was (omega arith) (omega arith)) in omega (arith, e)
+cleared-4 h = let e : _≡_ {A = ℕ} 0 7 = ap (λ (b : Buffers). getD (b .events) 0 0) (h .as-it-was (inl (omega arith, omega arith))) in omega (arith, e)
+
+pub cleared-13 : ¬ Returns 1 0 [] [] lent (cleared (past-input 0) lent)
+unfolding number-of
+cleared-13 h = let e : _≡_ {A = ℕ} 0 7 = ap (λ (b : Buffers). getD (b .events) 0 0) (h .as-it-was (inr (omega arith, omega arith))) in omega (arith, e)
 
 pub untouched-5 : ¬ Returns 1 0 [] [] lent (untouched (too-deep 0) lent)
 unfolding number-of
-untouched-5 h = let e : _≡_ {A = ℕ} 7 0 = ap (λ (l : List ℕ). getD l 0 0) (h .all-zero (omega arith) .pool) in omega (arith, e)
+untouched-5 h = let e : _≡_ {A = ℕ} 7 0 = ap (λ (l : List ℕ). getD l 0 0) (h .all-zero (omega arith, omega arith) .pool) in omega (arith, e)
 
 -- a refusal that counts a row; places with 0, 2 and 8
 pub counted-1 : ¬ Returns 1 0 [] [] lent (gives (answers 1 0 1) (7 ∷ 7 ∷ 7 ∷ 7 ∷ 7 ∷ []) (7 ∷ []))
 counted-1 h = omega (arith, h .no-counts (omega arith) .tree-count)
 
 pub place-0 : ¬ Returns 1 0 [] [] lent (gives (answers 0 1 1) (0 ∷ 0 ∷ 0 ∷ 0 ∷ 0 ∷ []) (0 ∷ []))
-place-0 h = omega (arith, h .no-place (λ x. omega (arith, x .0)))
+place-0 h = omega (arith, h .no-place .0 (omega arith))
 
 pub place-2 : ¬ Returns 1 0 [] [] lent (gives (answers 2 1 0) (7 ∷ 7 ∷ 7 ∷ 7 ∷ 7 ∷ []) (7 ∷ []))
-place-2 h = omega (arith, h .no-place (λ x. omega (arith, x .0)))
+place-2 h = omega (arith, h .no-place .0 (omega arith))
 
 pub place-8 : ¬ Returns 1 0 [] [] lent (gives (answers 8 1 0) (0 ∷ 0 ∷ 0 ∷ 0 ∷ 0 ∷ []) (0 ∷ []))
-place-8 h = omega (arith, h .no-place (λ x. omega (arith, x .1)))
+place-8 h = omega (arith, h .no-place .1 refl)
 
 -- a buffer one number longer
 pub longer : ¬ Returns 1 0 [] [] lent (gives (answers 8 0 0) (0 ∷ 0 ∷ 0 ∷ 0 ∷ 0 ∷ 0 ∷ []) (0 ∷ []))

@@ -1,8 +1,9 @@
--- ANSWERED: what any call returns, by its number, and what every lent buffer then holds. It excludes a number above 8,
--- buffers left unwritten or half written, a refusal that leaves something in them, and counts that differ from the rows
+-- ANSWERED: what any call returns, by its number, and what every lent buffer then holds. It excludes a number that is
+-- not listed, buffers left unwritten or half written, a refusal that leaves something in them, and counts that differ from the rows
 -- written.
 use Prim.Native.Nat.{ℕ, _-_, _*_, _≤_}
 use mathlib.Core.Path.{_≡_}
+use mathlib.Core.Logic.{_⊎_}
 use mathlib.Core.List.{List, _++_}
 use lib.ListN.{length, replicate}
 use Rattle.definitions.specs.Layout.{TREE-ROW, ERROR-ROW, REPORT-ROW}
@@ -46,16 +47,23 @@ pub record No-counts (r : Result) : Type 0 where
   pub report-count : r .answer .report-count ≡ 0
   pub expectation-count : r .answer .expectation-count ≡ 0
 
--- n, setting, bytes, tokens, b: what a call is given. r: what it returns. Refusals by document 01's numbers, written
+-- the numbers of a refusal that comes before the parse begins, and of one that comes in it
+abbrev pub Before-the-parse : ℕ → Type 0
+Before-the-parse number = ((1 ≤ number) × (number ≤ 4)) ⊎ ((11 ≤ number) × (number ≤ 13))
+
+abbrev pub In-the-parse : ℕ → Type 0
+In-the-parse number = (5 ≤ number) × (number ≤ 8)
+
+-- n, setting, bytes, tokens, b: what a call is given. r: what it returns. Refusals by the documents' numbers, written
 -- out as in Refusals.antt.
 pub record Returns (n setting : ℕ) (bytes tokens : List ℕ) (b : Buffers) (r : Result) : Type 0 where
-  pub at-most-8 : r .answer .number ≤ 8
+  pub listed : (r .answer .number ≡ 0) ⊎ (Before-the-parse (r .answer .number) ⊎ In-the-parse (r .answer .number))
   pub accepted : r .answer .number ≡ 0 → (e : Entry) × (entry-number e ≡ n) × Written (to-write setting e bytes tokens) b r
-  pub as-it-was : 1 ≤ r .answer .number → r .answer .number ≤ 4 → r .buffers ≡ b
-  pub all-zero : 5 ≤ r .answer .number → All-zero b r
+  pub as-it-was : Before-the-parse (r .answer .number) → r .buffers ≡ b
+  pub all-zero : In-the-parse (r .answer .number) → All-zero b r
   pub no-counts : 1 ≤ r .answer .number → No-counts r
-  -- a place other than 0 comes with 3 to 7 only
-  pub no-place : ¬ ((3 ≤ r .answer .number) × (r .answer .number ≤ 7)) → r .answer .place ≡ 0
+  -- a place other than 0 comes with 3 to 7 and 11 to 13 only
+  pub no-place : (r .answer .number ≤ 2 → r .answer .place ≡ 0) × (r .answer .number ≡ 8 → r .answer .place ≡ 0)
   pub lengths : Same-lengths b r
 
 abbrev pub Answered : Type 0

@@ -1,7 +1,7 @@
--- REFUSALS: document 01's table of causes, with document 02's one of the strict setting. Each of the numbers 0 to 8 is
--- returned, with its place, if and only if its condition holds. It excludes refusing everything, a limit that is one
--- off, "does not fit" before a buffer is used up, and causes tried in another order.
-use Prim.Native.Nat.{ℕ, suc, _+_, _-_, _*_, _≤_}
+-- REFUSALS: document 01's table of causes, with document 02's of the strict setting and of token rows. Each of the
+-- numbers 0 to 8 and 11 to 13 is returned, with its place, if and only if its condition holds. It excludes refusing
+-- everything, a limit that is one off, "does not fit" before a buffer is used up, and causes tried in another order.
+use Prim.Native.Nat.{ℕ, suc, _+_, _-_, _*_, _≤_, _<_}
 use mathlib.Core.Path.{_≡_}
 use mathlib.Core.Logic.{_↔_}
 use mathlib.Core.List.{List, [], _∷_}
@@ -33,7 +33,7 @@ MAX-OPEN = 64
 abbrev pub MAX-PENDING : ℕ
 MAX-PENDING = 256
 
--- ---------------------------------------------------------------- causes 1 to 4: what passes each of them
+-- ---------------------------------------------------------------- causes 1 to 4 and 11 to 13: what passes each of them
 
 -- 1: the entries by number
 abbrev pub entry-number : Entry → ℕ
@@ -52,23 +52,30 @@ Sizes bytes tokens = (length bytes ≤ MAX-BYTES) × (length tokens ≤ MAX-NUMB
 abbrev pub Passes-2 : ℕ → List ℕ → List ℕ → Entry → Type 0
 Passes-2 n bytes tokens e = Passes-1 n e × Sizes bytes tokens
 
--- 3: a kind that may be input
+-- 3: the numbers are whole rows
+abbrev pub Whole-rows : List ℕ → Type 0
+Whole-rows tokens = length tokens ≡ 2 * length (tokens-of tokens)
+
+abbrev pub Passes-3 : ℕ → List ℕ → List ℕ → Entry → Type 0
+Passes-3 n bytes tokens e = Passes-2 n bytes tokens e × Whole-rows tokens
+
+-- 11: a kind that may be input
 pub data Input-kind (k : ℕ) : Type 0 where
   a-token : k ≤ 60 → ¬ (k ≡ K.Unrecognized) → ¬ (k ≡ K.Name) → Input-kind k
   a-lexical-error : 64 ≤ k → k ≤ 74 → Input-kind k
 
--- a row, after other rows: its kind, its length, and its end within the input
+-- 11 to 13 of a row, after other rows: its kind, its length, and its end within the input
 pub record Good-row (bytes : List ℕ) (before : List Token) (t : Token) : Type 0 where
   pub kind : Input-kind (t .kind)
   pub not-empty : 1 ≤ t .len
   pub ends-inside : byte-count before + t .len ≤ length bytes
 
--- no number is left over, and the rows cover the input
+-- 13, last: the rows cover the input
 abbrev pub Covers : List ℕ → List ℕ → Type 0
-Covers bytes tokens = (length tokens ≡ 2 * length (tokens-of tokens)) × (byte-count (tokens-of tokens) ≡ length bytes)
+Covers bytes tokens = byte-count (tokens-of tokens) ≡ length bytes
 
-abbrev pub Passes-3 : ℕ → List ℕ → List ℕ → Entry → Type 0
-Passes-3 n bytes tokens e = Passes-2 n bytes tokens e × Each (Good-row bytes) (tokens-of tokens) × Covers bytes tokens
+abbrev pub Passes-13 : ℕ → List ℕ → List ℕ → Entry → Type 0
+Passes-13 n bytes tokens e = Passes-3 n bytes tokens e × Each (Good-row bytes) (tokens-of tokens) × Covers bytes tokens
 
 -- 4: where the table of static texts has a text for the row's kind, that is what the row's bytes are
 abbrev pub Right-text : List ℕ → List Token → Token → Type 0
@@ -76,7 +83,7 @@ Right-text bytes before t =
     Each (λ above line. line .kind ≡ t .kind → take (t .len) (drop (byte-count before) bytes) ≡ line .text) static-texts
 
 abbrev pub Passes-4 : ℕ → List ℕ → List ℕ → Entry → Type 0
-Passes-4 n bytes tokens e = Passes-3 n bytes tokens e × Each (Right-text bytes) (tokens-of tokens)
+Passes-4 n bytes tokens e = Passes-13 n bytes tokens e × Each (Right-text bytes) (tokens-of tokens)
 
 -- ---------------------------------------------------------------- causes 5 to 8: the limits and the room
 
@@ -154,14 +161,27 @@ pub data Cause (n setting : ℕ) (bytes tokens : List ℕ) (b : Buffers) : ℕ �
   unknown-entry : ¬ ((1 ≤ n) × (n ≤ 4)) → Cause n setting bytes tokens b 1 0
   -- over 1,048,576 bytes or 131,072 token numbers
   over-size : (e : Entry) → Passes-1 n e → ¬ Sizes bytes tokens → Cause n setting bytes tokens b 2 0
-  -- a row with a bad kind, length 0 or an end past the input: the first bad row
-  bad-row : (e : Entry) → Passes-2 n bytes tokens e → (before : List Token) (t : Token)
-      → First (Good-row bytes) (tokens-of tokens) before t → Cause n setting bytes tokens b 3 (length before)
-  -- odd numbers or a short total: the count of whole rows
-  odd-or-short : (e : Entry) → Passes-2 n bytes tokens e → Each (Good-row bytes) (tokens-of tokens)
-      → ¬ Covers bytes tokens → Cause n setting bytes tokens b 3 (length (tokens-of tokens))
+  -- document 02, 4/14: an odd count of numbers, "tried right after 2": the count of whole rows
+  odd-count : (e : Entry) → Passes-2 n bytes tokens e → ¬ Whole-rows tokens
+      → Cause n setting bytes tokens b 3 (length (tokens-of tokens))
+  -- "its own number at the first bad row, tried within a row in the order given": a bad kind
+  bad-kind : (e : Entry) → Passes-3 n bytes tokens e → (before : List Token) (t : Token)
+      → First (Good-row bytes) (tokens-of tokens) before t
+      → ¬ Input-kind (t .kind) → Cause n setting bytes tokens b 11 (length before)
+  -- length 0
+  zero-length : (e : Entry) → Passes-3 n bytes tokens e → (before : List Token) (t : Token)
+      → First (Good-row bytes) (tokens-of tokens) before t
+      → Input-kind (t .kind) → t .len ≡ 0 → Cause n setting bytes tokens b 12 (length before)
+  -- a token ends past the input; the sum is exact
+  past-input : (e : Entry) → Passes-3 n bytes tokens e → (before : List Token) (t : Token)
+      → First (Good-row bytes) (tokens-of tokens) before t
+      → Input-kind (t .kind) → 1 ≤ t .len → length bytes < byte-count before + t .len
+      → Cause n setting bytes tokens b 13 (length before)
+  -- "or last, with the count of rows as place, the total is short"
+  short-total : (e : Entry) → Passes-3 n bytes tokens e → Each (Good-row bytes) (tokens-of tokens)
+      → byte-count (tokens-of tokens) < length bytes → Cause n setting bytes tokens b 13 (length (tokens-of tokens))
   -- bytes of a kind with a static text differ from it: the first such row
-  wrong-text : (e : Entry) → Passes-3 n bytes tokens e → (before : List Token) (t : Token)
+  wrong-text : (e : Entry) → Passes-13 n bytes tokens e → (before : List Token) (t : Token)
       → First (Right-text bytes) (tokens-of tokens) before t → Cause n setting bytes tokens b 4 (length before)
   -- a 65th open call
   call-too-many : (e : Entry) → Passes-4 n bytes tokens e → (before : List Happening) (m : ℕ)

@@ -9,7 +9,8 @@ use Rattle.definitions.specs.Skeleton.{Skeleton}
 use Rattle.definitions.specs.Place.{root, rows, lexical-errors}
 use Rattle.definitions.specs.Grammar.{root-kind}
 use Rattle.definitions.specs.Report.{Fit, fits, stops, pushes, scan, reports, report-numbers, pool}
-use Rattle.definitions.specs.Refusal.{Verdict, accepted, refused, check-input}
+use Rattle.definitions.specs.Refusal.{Verdict, accepted, refused}
+use Rattle.definitions.specs.RowCauses.{check-input}
 use Rattle.definitions.specs.Strict.{reported-names, names-fit, name-numbers}
 use Rattle.definitions.specs.Call.{Buffers, Sheets, delivered, unless-refused, run-entry, room-of, Asked, for, unknown, entry-of}
 use Rattle.definitions.specs.Call as D

@@ -11,7 +11,8 @@ use Rattle.definitions.specs.Token.{Token, tokens-of}
 use Rattle.definitions.specs.Grammar.{Entry}
 use Rattle.definitions.specs.Skeleton.{Skeleton}
 use Rattle.definitions.specs.Report.{Room, Fit, fits, stops, pushes, scan}
-use Rattle.definitions.specs.Refusal.{Refusal, no-report-room, no-tree-room, Verdict, accepted, refused, check-input}
+use Rattle.definitions.specs.Refusal.{Refusal, no-report-room, no-tree-room, Verdict, accepted, refused}
+use Rattle.definitions.specs.RowCauses.{check-input}
 use Rattle.definitions.specs.Strict.{Name-at, reported-names, names-fit}
 use Rattle.definitions.specs.Call.{Buffers, cleared, Sheets, sheets, kept, delivered, unless-refused, outcome, room-of, run-entry, names-of, parse, Asked, for, unknown, entry-of, checked, asked, call}
 use Rattle.laws.proofs.Accepted.{written-by}

@@ -14,7 +14,8 @@ use Rattle.definitions.specs.Token.{Token, tokens-of}
 use Rattle.definitions.specs.Grammar.{Entry, root-kind}
 use Rattle.definitions.specs.Place.{Tree, root}
 use Rattle.definitions.specs.Report.{pushes, scan, reports, pool}
-use Rattle.definitions.specs.Refusal.{no-report-room, no-tree-room, number-of, Verdict, accepted, refused, check-input}
+use Rattle.definitions.specs.Refusal.{no-report-room, no-tree-room, number-of, Verdict, accepted, refused}
+use Rattle.definitions.specs.RowCauses.{check-input}
 use Rattle.definitions.specs.Strict.{Name-at, judged, breaking, reported-names}
 use Rattle.definitions.specs.Call.{Buffers, Result, cleared, Sheets, sheets, kept, delivered, outcome, room-of, run-entry, parse, Asked, for, unknown, entry-of, checked, asked, call}
 use Rattle.laws.proofs.Accepted.{written-by}

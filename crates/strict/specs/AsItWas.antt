@@ -1,6 +1,7 @@
 -- AS IT WAS. The call as it was before 1/14, and that the old setting is this call, for every entry, input and buffers.
 -- It excludes a setting 0 that answers anything else than callers have had so far.
--- What 1/14 changed of definitions/specs/Call.antt stands here letter by letter as it was; the rest is cited from it.
+-- What 1/14 changed of definitions/specs/Call.antt stands here letter by letter as it was; the rest is cited from it, the
+-- checks of the input too: what 4/14 changed of these is crates/row_causes.
 use Prim.Native.Nat.{ℕ}
 use mathlib.Core.Path.{_≡_}
 use mathlib.Core.List.{List}
@@ -10,7 +11,8 @@ use Rattle.definitions.specs.Grammar.{Entry, root-kind}
 use Rattle.definitions.specs.Skeleton.{Skeleton}
 use Rattle.definitions.specs.Place.{root, rows, lexical-errors}
 use Rattle.definitions.specs.Report.{Fit, fits, stops, pushes, scan, reports, report-numbers, pool}
-use Rattle.definitions.specs.Refusal.{unknown-entry, number-of, place-of, Verdict, accepted, refused, check-input}
+use Rattle.definitions.specs.Refusal.{unknown-entry, number-of, place-of, Verdict, accepted, refused}
+use Rattle.definitions.specs.RowCauses.{check-input}
 use Rattle.definitions.specs.Call.{Buffers, Result, untouched, cleared, run-entry, Sheets, delivered, forward-mark, room-of, Asked, for, unknown, entry-of}
 use Rattle.definitions.specs.Call as D
 

@@ -1,12 +1,11 @@
 -- Every way that a call over a text goes, once; and what `check-text` finds in each.
 use Prim.Native.Nat.{ℕ, _*_, _≤_}
 use native.Mathlib.Omega.{arith}
-use mathlib.Core.Path.{_≡_, refl, sym, subst}
+use mathlib.Core.Path.{sym, subst}
 use mathlib.Core.Bool.{Bool, _&&_}
-use mathlib.Core.List.{List, [], _∷_}
+use mathlib.Core.List.{List}
 use lib.Dec.{leb}
 use lib.ListN.{length}
-use Rattle.definitions.specs.Token.{Token}
 use Rattle.definitions.specs.Grammar.{Entry}
 use Rattle.definitions.specs.Lex.{lex}
 use Rattle.definitions.specs.Call.{Buffers, Asked, call}
@@ -14,17 +13,11 @@ use Rattle.definitions.specs.Text.{Text-refusal, unknown-entry, too-long, has-h
 use Rattle.refusals.specs.Refusals.{Passes-1}
 use Rattle.refusals.proofs.Tests.{Decides, holds, not-so, both, leb-decides}
 use Rattle.refusals.proofs.Entries.{Asks, known, not-known, asks}
-use Rattle.lexing.proofs.RowsPass.{rows-pass}
+use Rattle.lexing.proofs.RowsPass.{numbers-length, rows-pass}
 use Rattle.texts.specs.Plain.{High-at, Directive-at, Plain}
 use Rattle.texts.specs.TextRefusals.{Few-bytes, Room}
 use Rattle.texts.proofs.Judged.{Not-below, Judged, plain, high, directs, judged}
-use Rattle.texts.proofs.Late.{Late, late}
-
--- two numbers a token
-pub numbers-length : (ts : List Token) → length (numbers-of ts) ≡ 2 * length ts
-unfolding numbers-of
-numbers-length [] = refl
-numbers-length (t ∷ ts) = let h = numbers-length ts in omega (arith, h)
+use Rattle.refusals.proofs.Late.{Late, late}
 
 -- ---------------------------------------------------------------- the checks
 

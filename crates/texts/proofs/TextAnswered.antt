@@ -13,10 +13,11 @@ use Rattle.definitions.specs.Call.{Buffers, Result, zeros, written, call}
 use Rattle.definitions.specs.Text.{Text-refusal, unknown-entry, Text-result, unchanged, with-rows}
 use Rattle.refusals.specs.Answered.{Filled, Returns}
 use Rattle.refusals.proofs.Refusals.{answered}
+use Rattle.lexing.proofs.RowsPass.{numbers-length}
 use Rattle.texts.specs.TextRefusals.{Room}
 use Rattle.texts.specs.TextAnswered.{Before-the-parse, Text-returns, Text-answered}
-use Rattle.texts.proofs.Late.{Late}
-use Rattle.texts.proofs.Called.{numbers-length, rows, Called, not-an-entry, refused, parsed, called}
+use Rattle.refusals.proofs.Late.{Late}
+use Rattle.texts.proofs.Called.{rows, Called, not-an-entry, refused, parsed, called}
 use Rattle.texts.proofs.Plain.{by-number, not-0}
 
 -- ---------------------------------------------------------------- a text's own refusal
@@ -49,9 +50,13 @@ own n setting bytes tokens b r =
 -- ---------------------------------------------------------------- the parse
 
 -- one that came to its end, or to a refusal of the run, is none of those
-not-before : (k : ℕ) → k ≤ 8 → Late k → ¬ Before-the-parse k
-not-before k m (inl e) b = not-0 k b e
-not-before k m (inr l) b = not-5-to-8 k b l m
+not-before : (k : ℕ) → Late k → ¬ Before-the-parse k
+not-before k (inl e) b = not-0 k b e
+not-before k (inr l) b = not-5-to-8 k b (l .0) (l .1)
+
+late-at-most : (k : ℕ) → Late k → k ≤ 10
+late-at-most k (inl e) = omega (arith, e)
+late-at-most k (inr l) = omega (arith, l .1)
 
 -- token rows and zeros after them
 filled : (bytes tokens : List ℕ) → Room bytes tokens → Filled 2 (length (rows bytes) / 2) (rows bytes) tokens (written (rows bytes) tokens)
@@ -84,13 +89,13 @@ module _ (n setting : ℕ) (bytes tokens : List ℕ) (b : Buffers) (room : Room 
   as-parsed a l same =
       let zero-rows : 1 ≤ r .answer .number → eqb (r .answer .number) 0 ≡ false = λ h. ne-eqb (r .answer .number) 0 (λ e. omega (arith, h, e)) in
       record {
-        at-most-10 = omega (arith, a .at-most-8);
+        at-most-10 = late-at-most _ l;
         accepted = λ e.
             let w = a .accepted e in
             let g = good true (eq-eqb (r .answer .number) 0 e) in
             (w .0, w .1, w .2, subst₂ (λ c l. Filled 2 c (rows bytes) tokens l) (sym (g .0)) (sym (g .1)) (filled bytes tokens room));
-        as-it-was = λ h. absurd (not-before _ (a .at-most-8) l h);
-        all-zero = λ h m. (a .all-zero h, good false (zero-rows (omega (arith, h))) .1);
+        as-it-was = λ h. absurd (not-before _ l h);
+        all-zero = λ h m. (a .all-zero (h, m), good false (zero-rows (omega (arith, h))) .1);
         no-counts = λ h. (a .no-counts h, good false (zero-rows h) .0);
         lengths = (a .lengths, as-long bytes tokens room (eqb (r .answer .number) 0));
         all-else = λ h. same;

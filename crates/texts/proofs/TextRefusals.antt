@@ -4,7 +4,7 @@ use Prim.Native.Nat.{ℕ, _≤_}
 use native.Mathlib.Omega.{arith}
 use mathlib.Core.Path.{_≡_, refl, ap, _∙_, subst₂}
 use mathlib.Core.Bool.{Bool, true, false}
-use mathlib.Core.Logic.{inl, inr}
+use mathlib.Core.Logic.{_⊎_, inl, inr}
 use mathlib.Core.List.{List}
 use lib.ListN.{length}
 use Rattle.definitions.specs.Grammar.{Entry}
@@ -13,7 +13,7 @@ use Rattle.definitions.specs.Call.{Buffers, Asked, call}
 use Rattle.definitions.specs.Text.{Text-refusal, too-long, has-high-byte, has-directive, text-number, text-place, Text-verdict, sound, unsound, _or-then_, check-text, Text-result, unchanged, with-rows, checked-text, asked-text, text-call}
 use Rattle.definitions.specs.Text as D
 use Rattle.refusals.specs.Refusals.{Passes-1}
-use Rattle.refusals.proofs.Tests.{Decides, holds, not-so, leb-decides}
+use Rattle.refusals.proofs.Tests.{decided, refuted, leb-decides}
 use Rattle.refusals.proofs.Entries.{entry-eq, unknown-eq}
 use Rattle.refusals.proofs.Refusals.{refusals}
 use Rattle.texts.specs.Plain.{Plain}
@@ -34,14 +34,6 @@ has-cause n setting bytes tokens b x (refused e p r (many-numbers h q y)) = too-
 has-cause n setting bytes tokens b x (parsed e p q y l) = as-its-tokens e p q y _ _ (refusals n setting bytes (rows bytes) b _ _ .0 (refl, refl))
 
 -- ---------------------------------------------------------------- a cause gives what is returned
-
-decided : {A : Type 0} (t : Bool) → Decides A t → A → t ≡ true
-decided t (holds a) h = refl
-decided t (not-so a) h = absurd (a h)
-
-refuted : {A : Type 0} (t : Bool) → Decides A t → ¬ A → t ≡ false
-refuted t (holds a) h = absurd (h a)
-refuted t (not-so a) h = refl
 
 module _ (n setting : ℕ) (bytes tokens : List ℕ) (b : Buffers) where
   abbrev Returned : ℕ → ℕ → Type 0
@@ -93,18 +85,22 @@ module _ (n setting : ℕ) (bytes tokens : List ℕ) (b : Buffers) where
       let r = refusals n setting bytes (rows bytes) b i j .1 c in
       (a .0 ∙ r .0, a .1 ∙ r .1)
 
--- ---------------------------------------------------------------- 3 and 4
+-- ---------------------------------------------------------------- 3, 4 and 11 to 13
 
-not-3-or-4 : (n setting : ℕ) (bytes tokens : List ℕ) (b : Buffers) (x : Text-result) → Called n setting bytes tokens b x
-    → ¬ ((3 ≤ x .answer .number) × (x .answer .number ≤ 4))
+by-way : (n setting : ℕ) (bytes tokens : List ℕ) (b : Buffers) (x : Text-result) → Called n setting bytes tokens b x
+    → (x .answer .number ≤ 2) ⊎ ((5 ≤ x .answer .number) × (x .answer .number ≤ 10))
 unfolding text-number with-rows
-not-3-or-4 n setting bytes tokens b x (not-an-entry h) y = omega (arith, y .0)
-not-3-or-4 n setting bytes tokens b x (refused e p too-long c) y = omega (arith, y .0)
-not-3-or-4 n setting bytes tokens b x (refused e p D.unknown-entry c) y = omega (arith, y .0)
-not-3-or-4 n setting bytes tokens b x (refused e p (has-high-byte i) c) y = omega (arith, y .1)
-not-3-or-4 n setting bytes tokens b x (refused e p (has-directive i) c) y = omega (arith, y .1)
-not-3-or-4 n setting bytes tokens b x (parsed e p q r (inl h)) y = omega (arith, h, y .0)
-not-3-or-4 n setting bytes tokens b x (parsed e p q r (inr h)) y = omega (arith, h, y .1)
+by-way n setting bytes tokens b x (not-an-entry h) = inl (omega arith)
+by-way n setting bytes tokens b x (refused e p too-long c) = inl (omega arith)
+by-way n setting bytes tokens b x (refused e p D.unknown-entry c) = inl (omega arith)
+by-way n setting bytes tokens b x (refused e p (has-high-byte i) c) = inr (omega arith, omega arith)
+by-way n setting bytes tokens b x (refused e p (has-directive i) c) = inr (omega arith, omega arith)
+by-way n setting bytes tokens b x (parsed e p q r (inl h)) = inl (omega (arith, h))
+by-way n setting bytes tokens b x (parsed e p q r (inr h)) = inr (h .0, omega (arith, h .1))
+
+others : (k : ℕ) → (k ≤ 2) ⊎ ((5 ≤ k) × (k ≤ 10)) → (¬ (k ≡ 3)) × (¬ (k ≡ 4)) × (¬ ((11 ≤ k) × (k ≤ 13)))
+others k (inl h) = (λ e. omega (arith, h, e), λ e. omega (arith, h, e), λ g. omega (arith, h, g .0))
+others k (inr h) = (λ e. omega (arith, h .0, e), λ e. omega (arith, h .0, e), λ g. omega (arith, h .1, g .0))
 
 pub text-refusals : Text-refusals
 text-refusals =
@@ -113,8 +109,7 @@ text-refusals =
         λ h. subst₂ (Text-cause n setting bytes tokens b) (h .0) (h .1) (has-cause n setting bytes tokens b _ (called n setting bytes tokens b)),
         returns n setting bytes tokens b k p,
       );
-      not-3 = λ n setting bytes tokens b h.
-          not-3-or-4 n setting bytes tokens b _ (called n setting bytes tokens b) (omega (arith, h), omega (arith, h));
-      not-4 = λ n setting bytes tokens b h.
-          not-3-or-4 n setting bytes tokens b _ (called n setting bytes tokens b) (omega (arith, h), omega (arith, h));
+      not-3 = λ n setting bytes tokens b. others _ (by-way n setting bytes tokens b _ (called n setting bytes tokens b)) .0;
+      not-4 = λ n setting bytes tokens b. others _ (by-way n setting bytes tokens b _ (called n setting bytes tokens b)) .1;
+      not-11-to-13 = λ n setting bytes tokens b. others _ (by-way n setting bytes tokens b _ (called n setting bytes tokens b)) .2;
     }

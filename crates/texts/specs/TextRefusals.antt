@@ -1,6 +1,6 @@
 -- TEXT REFUSALS: document 02's causes for a text, in their order. Each number is returned, with its place, if and
 -- only if its condition holds. It excludes 10 before a lower 9, 2 for token numbers before 9 and 10, a buffer that is
--- one row too small, and 3 or 4 for a text.
+-- one row too small, and 3, 4 or 11 to 13 for a text.
 use Prim.Native.Nat.{ℕ, _*_, _≤_, _<_}
 use mathlib.Core.Path.{_≡_}
 use mathlib.Core.Logic.{_↔_}
@@ -38,6 +38,8 @@ pub record Text-refusals : Type 0 where
   pub by-cause : (n setting : ℕ) (bytes tokens : List ℕ) (b : Buffers) (number place : ℕ)
       → ((text-call n setting bytes tokens b .answer .number ≡ number)
       × (text-call n setting bytes tokens b .answer .place ≡ place)) ↔ Text-cause n setting bytes tokens b number place
-  -- "3, 4 never"
+  -- what is wrong with token rows alone: never
   pub not-3 : (n setting : ℕ) (bytes tokens : List ℕ) (b : Buffers) → ¬ (text-call n setting bytes tokens b .answer .number ≡ 3)
   pub not-4 : (n setting : ℕ) (bytes tokens : List ℕ) (b : Buffers) → ¬ (text-call n setting bytes tokens b .answer .number ≡ 4)
+  pub not-11-to-13 : (n setting : ℕ) (bytes tokens : List ℕ) (b : Buffers)
+      → ¬ ((11 ≤ text-call n setting bytes tokens b .answer .number) × (text-call n setting bytes tokens b .answer .number ≤ 13))

@@ -1,4 +1,6 @@
-//! Input for causes 1 to 4.
+//! Input that is refused before a parse: causes 1 to 4 and 11 to 13, one or two at a time. bad_rows.rs has more of them
+//! together.
+use super::bad_rows;
 use crate::call::Call;
 use crate::rng::Rng;
 use dt_parser_layout::{COL_TOKEN_KIND, COL_TOKEN_LENGTH, EXPECTED_END, EXPECTED_PREPROCESSOR_DIRECTIVE, ROW_TOKEN};
@@ -7,6 +9,9 @@ use oracle::token::TokenKind::{Name, QuestionMark, RCurly, Semicolon, Unrecogniz
 use oracle::token::{fixed_text, kinds};
 
 pub fn damage(r: &mut Rng, call: &mut Call) {
+    if r.p(40) {
+        return bad_rows::several(r, call);
+    }
     for _ in 0..1 + r.n(2) {
         match r.n(16) {
             0 => call.entry = entry(r),
@@ -21,13 +26,15 @@ pub fn damage(r: &mut Rng, call: &mut Call) {
                 call.bytes.pop();
             }
             11 => byte(r, call),
-            _ => text(r, call),
+            _ => {
+                text(r, call);
+            }
         }
     }
 }
 
-/// Another byte in a fixed text, or another kind whose fixed text is as long.
-fn text(r: &mut Rng, call: &mut Call) {
+/// Another byte in a fixed text, or another kind whose fixed text is as long. Which row, if any has one.
+pub fn text(r: &mut Rng, call: &mut Call) -> Option<usize> {
     let mut start = 0;
     let mut fixed = vec![];
     for (i, row) in call.tokens.chunks_exact(ROW_TOKEN).enumerate() {
@@ -38,15 +45,15 @@ fn text(r: &mut Rng, call: &mut Call) {
         }
         start = end
     }
-    if let Some(&(row, start, end)) = fixed.get(r.n(fixed.len())) {
-        if r.p(50) {
-            call.bytes[start + r.n(end - start)] ^= 1 << r.n(8)
-        } else {
-            let as_long = |k: &u32| fixed_text(*k).is_some_and(|t| t.len() == end - start);
-            let kinds: Vec<u32> = kinds().iter().map(|&k| k as u32).filter(as_long).collect();
-            call.tokens[ROW_TOKEN * row + COL_TOKEN_KIND] = r.pick(&kinds)
-        }
+    let &(row, start, end) = fixed.get(r.n(fixed.len()))?;
+    if r.p(50) {
+        call.bytes[start + r.n(end - start)] ^= 1 << r.n(8)
+    } else {
+        let as_long = |k: &u32| fixed_text(*k).is_some_and(|t| t.len() == end - start);
+        let kinds: Vec<u32> = kinds().iter().map(|&k| k as u32).filter(as_long).collect();
+        call.tokens[ROW_TOKEN * row + COL_TOKEN_KIND] = r.pick(&kinds)
     }
+    Some(row)
 }
 
 pub fn entry(r: &mut Rng) -> u32 {
@@ -54,19 +61,24 @@ pub fn entry(r: &mut Rng) -> u32 {
     r.pick(&[0, 5, 6, 255, 256, 257, 260, 65537, u32::MAX, u32::MAX - 3, other])
 }
 
-/// Another kind: of leaves alone, a number beside those of kinds and errors, one far from them, or a good one.
+/// A number that is no kind, or hardly ever: of leaves alone, beside those of kinds and errors, or far from them.
+pub fn no_kind(r: &mut Rng, kind: u32) -> u32 {
+    let other = r.next() as u32;
+    // numbers that are a good kind in their low byte, word or half
+    let low = kind.wrapping_add(r.pick(&[128, 256, 512, 65536, 1 << 31]));
+    let (last, error, last_error) = (QuestionMark as u32, TOKEN_FIRST_LEX_ERROR, TOKEN_LAST_LEX_ERROR);
+    let never = [Unrecognized as u32, Name as u32, last + 1, last + 2, error - 1, last_error + 1, last_error + 2];
+    let far = [99, EXPECTED_PREPROCESSOR_DIRECTIVE, EXPECTED_END, u32::MAX, low, low, other];
+    r.pick(&[&never[..], &far].concat())
+}
+
+/// Another kind: no kind at all, or a good one.
 fn kind(r: &mut Rng, call: &mut Call) {
     let rows = call.tokens.len() / ROW_TOKEN;
     if rows > 0 {
         let index = ROW_TOKEN * r.n(rows) + COL_TOKEN_KIND;
-        let other = r.next() as u32;
-        // numbers that are a good kind in their low byte, word or half
-        let low = call.tokens[index].wrapping_add(r.pick(&[128, 256, 512, 65536, 1 << 31]));
-        let (last, error, last_error) = (QuestionMark as u32, TOKEN_FIRST_LEX_ERROR, TOKEN_LAST_LEX_ERROR);
-        let never = [Unrecognized as u32, Name as u32, last + 1, last + 2, error - 1, last_error + 1, last_error + 2];
-        let far = [99, EXPECTED_PREPROCESSOR_DIRECTIVE, EXPECTED_END, u32::MAX, low, low, other];
-        let good = [Semicolon as u32, RCurly as u32, last, error];
-        call.tokens[index] = r.pick(&[&never[..], &far, &good].concat())
+        let good = [Semicolon as u32, RCurly as u32, QuestionMark as u32, TOKEN_FIRST_LEX_ERROR];
+        call.tokens[index] = if r.p(80) { no_kind(r, call.tokens[index]) } else { r.pick(&good) }
     }
 }
 

@@ -1,15 +1,16 @@
 //! Calls and texts just below, at and above the limits of cause 2.
 use crate::call::Call;
 use crate::rng::Rng;
-use dt_parser_layout::{MAX_BYTES, MAX_TOKENS};
+use dt_parser_layout::{COL_TOKEN_KIND, COL_TOKEN_LENGTH, MAX_BYTES, MAX_TOKENS, ROW_TOKEN};
 use oracle::token::TokenKind::{Ident, Number, String, Whitespace};
 
+/// One string of so many bytes, or so many rows of a byte each; in half of the draws an odd count, which is refused after
+/// cause 2, and now and then with a bad row, which is refused after both.
 pub fn huge(r: &mut Rng, call: &mut Call) {
     call.entry = 1 + r.n(4) as u32;
     let over = r.n(3);
     call.tokens.clear();
     if r.p(50) {
-        // one string
         let n = MAX_BYTES + over - 1;
         call.bytes = vec![b's'; n];
         call.tokens.extend([String as u32, n as u32])
@@ -17,10 +18,17 @@ pub fn huge(r: &mut Rng, call: &mut Call) {
         let rows = MAX_TOKENS + over - 1;
         let kind = r.pick(&[Whitespace, Ident, Number]) as u32;
         call.bytes = vec![b'1'; rows];
-        (0..rows).for_each(|_| call.tokens.extend([kind, 1]));
-        if r.p(20) {
-            call.tokens.pop();
-        }
+        (0..rows).for_each(|_| call.tokens.extend([kind, 1]))
+    }
+    match r.n(4) {
+        0 => call.tokens.truncate(call.tokens.len() - 1),
+        1 => call.tokens.push(Ident as u32),
+        _ => {}
+    }
+    if r.p(25) && call.tokens.len() >= ROW_TOKEN {
+        let last = call.tokens.len() / ROW_TOKEN - 1;
+        let column = r.pick(&[COL_TOKEN_KIND, COL_TOKEN_LENGTH]);
+        call.tokens[ROW_TOKEN * r.pick(&[0, last]) + column] = r.pick(&[0, u32::MAX])
     }
 }
 

@@ -7,6 +7,7 @@ use oracle::case::Case;
 use oracle::{generate, token};
 
 mod bad;
+mod bad_rows;
 mod corpus;
 mod damage;
 mod deep;
@@ -69,7 +70,7 @@ impl Maker {
         if r.p(10) {
             bad::damage(r, call)
         }
-        if r.n(40_000) == 0 {
+        if r.n(20_000) == 0 {
             limits::huge(r, call)
         }
         way

@@ -12,19 +12,23 @@ fn after_first(rest: &str) -> Vec<u8> {
 
 #[test]
 fn what_is_written_is_read_again() {
-    let tokens = TokenKind::ALL.iter().filter(|kind| kind.is_input()).map(|kind| Token::new(*kind, 3));
-    let errors = LexError::ALL.iter().map(|error| Token::error(*error, 4_000_000_000));
-    let input = Input::new(b"\0\xff\r\n\n devicetree", tokens.chain(errors).collect());
-    let file = RowsFile { entry: Entrypoint::Cells, name: Some("a b.dts".into()), input, first_row_line: 5 };
-    assert_eq!(RowsFile::read(&file.write()).as_ref(), Ok(&file));
+    // kinds that no row may have are the parser's to refuse
+    let rows: Vec<u32> = (0..100).chain([u32::MAX]).flat_map(|kind| [kind, 4_000_000_000 - kind % 2]).collect();
+    let (text, name) = (b"\0\xff\r\n\n devicetree", Some("a b.dts".into()));
+    let file = RowsFile { entry: Entrypoint::Cells, name, text, rows, first_row_line: 5 };
+    let written = file.write();
+    assert_eq!(RowsFile::read(&written).as_ref(), Ok(&file));
+    let lines = String::from_utf8_lossy(&written);
+    for line in ["Ident 3999999999", "Name 4000000000", "LexError::Default 4000000000", "61 3999999999"] {
+        assert!(lines.contains(&format!("\n{line}\n")), "{line}");
+    }
 }
 
 #[test]
 fn kinds_are_names_or_numbers() {
-    let file = after_first("rows 4\n27 1\nLexError::Default 1\n74 1\nSemicolon 1\ntext 0\n");
+    let file = after_first("rows 6\n27 1\nLexError::Default 1\n74 1\nSemicolon 1\nName 0\n4294967295 2\ntext 0\n");
     let read = RowsFile::read(&file).unwrap();
-    let numbers: Vec<u32> = read.input.tokens.iter().map(|token| token.number()).collect();
-    assert_eq!(numbers, [27, 74, 74, 29]);
+    assert_eq!(read.rows, [27, 1, 74, 1, 74, 1, 29, 1, 26, 0, u32::MAX, 2]);
     assert_eq!((read.entry, read.name, read.first_row_line), (Entrypoint::SourceFile, None, 3));
 }
 
@@ -53,7 +57,7 @@ fn a_bad_row_is_reported_with_its_line() {
         complaint(&after_first("rows 1\nIdent\n")),
         "line 3: expected row 1 of 1, a kind and a length, found `Ident`"
     );
-    for kind in ["Idents", "25", "Name", "61", "75", "LexError::None", "4294967323", "\u{e9}"] {
+    for kind in ["Idents", "name", "LexError::None", "LexError::74", "4294967296", "-1", "\u{e9}"] {
         let said = complaint(&after_first(&format!("rows 1\n{kind} 1\n")));
         assert!(said.starts_with("line 3: expected a token's kind, by name or number, found `"), "{said}");
     }

@@ -1,4 +1,4 @@
-//! The call with a text in token buffers of every length, and what each buffer holds afterwards.
+//! The call with a text in token buffers of every length, and what each buffer holds after it and after refused rows.
 
 use super::*;
 
@@ -83,6 +83,31 @@ fn refusals_before_the_parse_leave_every_buffer() {
         let answer = call_text(entry, OLD, text, &mut buffers);
         assert_eq!((answer.answer.number, answer.answer.place, answer.token_count), (number, place, 0), "{entry}");
         assert!(buffers.all_hold(LENT), "{number}");
+    }
+}
+
+#[test]
+fn refusals_of_token_rows_leave_every_buffer() {
+    let cases: [(u32, &[u32], u32, usize); 9] = [
+        (0, &[99, 0, 27], 1, 0),
+        (SOURCE_FILE, &[99, 0, 27], 3, 1),
+        (SOURCE_FILE, &[27], 3, 0),
+        (SOURCE_FILE, &[27, 1, 26, 0], 11, 1),
+        (SOURCE_FILE, &[27, 1, 27, 0, 26, 1], 12, 1),
+        (SOURCE_FILE, &[27, 1, 27, u32::MAX, 27, 2], 13, 1),
+        (SOURCE_FILE, &[27, 1], 13, 1),
+        (SOURCE_FILE, &[], 13, 0),
+        (SOURCE_FILE, &[29, 1, 27, 1], 4, 0),
+    ];
+    for (entry, rows, number, place) in cases {
+        for room in [0, 1, ROOM] {
+            let mut buffers = lent(9, room);
+            let answer = call(entry, OLD, b"ab", rows, &mut buffers);
+            assert_eq!((answer.number, answer.place), (number, place), "{rows:?}");
+            assert_eq!((answer.tree_count, answer.error_count), (0, 0), "{rows:?}");
+            assert_eq!((answer.report_count, answer.expectation_count), (0, 0), "{rows:?}");
+            assert!(buffers.all_hold(LENT), "{rows:?}");
+        }
     }
 }
 

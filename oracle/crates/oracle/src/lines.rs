@@ -84,7 +84,7 @@ fn write_stats(run: &Run, out: &mut String) {
 }
 
 /// Document 01's answer by the patched copy: REFUSED, or OK with all rows. The entry and the lengths of input and token
-/// list (causes 1 and 2) are not looked at.
+/// list (causes 1 and 2) are not looked at, and a case has whole rows.
 pub fn of_doc01(
     entry: u32,
     toks: &Rows,
@@ -94,7 +94,7 @@ pub fn of_doc01(
     lengths: Lengths,
     out: &mut String,
 ) {
-    if let Some(bad) = bad_input(toks.iter().copied(), false, bytes) {
+    if let Some(bad) = bad_input(toks, bytes) {
         return refused(bad, out);
     }
     let mut run = Run::default();

@@ -5,6 +5,7 @@ mod lines;
 mod nodes;
 mod problems;
 mod refused;
+mod refused_rows;
 mod shown;
 mod snippet;
 mod style;
@@ -14,6 +15,7 @@ use args::{Args, Asked, STANDARD_INPUT, View};
 use dt_parser::rowsfile::{RowsFile, is_rows};
 use dt_parser::{Entrypoint, Parse};
 use lines::Lines;
+use refused_rows::Rows;
 use std::io::{self, IsTerminal, Read, Write};
 use std::process::ExitCode;
 use style::Style;
@@ -45,27 +47,37 @@ fn show(args: &Args) -> Result<(String, bool), String> {
 fn show_rows(args: &Args, bytes: &[u8]) -> Result<(String, bool), String> {
     let file = RowsFile::read(bytes).map_err(|why| format!("{}: {why}", args.file))?;
     let entry = args.entry.unwrap_or(file.entry);
-    let parse = entry.parse_in(args.setting, &file.input).map_err(|why| refused::explain(&args.file, &file, why))?;
+    let parse = match entry.parse_rows_in(args.setting, file.text, &file.rows) {
+        Ok(read) => read.parse,
+        Err(why) => {
+            let rows = Rows { path: &args.file, name: &shown::plain(name(args)), bytes, file: &file };
+            return Err(rows.explain(why, style(args, io::stderr().is_terminal())));
+        }
+    };
     let name = file.name.filter(|name| !name.is_empty()).unwrap_or_else(|| format!("(text of {})", args.file));
-    Ok((page(args, &name, file.input.text, &parse).print(&args.views, entry), parse.is_clean()))
+    Ok((page(args, &name, file.text, &parse).print(&args.views, entry), parse.is_clean()))
 }
 
 fn show_text(args: &Args, text: &[u8]) -> Result<(String, bool), String> {
     let entry = args.entry.unwrap_or(Entrypoint::SourceFile);
-    let name = if args.file == STANDARD_INPUT { "(standard input)" } else { &args.file };
     let parse = match entry.parse_text_in(args.setting, text) {
         Ok(read) => read.parse,
         Err(why) => {
             let style = style(args, io::stderr().is_terminal());
-            return Err(refused::explain_text(&args.file, &shown::plain(name), text, &why, style));
+            return Err(refused::explain_text(&args.file, &shown::plain(name(args)), text, &why, style));
         }
     };
     let clean = parse.is_clean();
-    let mut out = page(args, name, text, &parse).print(&args.views, entry);
+    let mut out = page(args, name(args), text, &parse).print(&args.views, entry);
     if !clean && refused::has_line_marks(text) {
         out += refused::LINE_MARKS;
     }
     Ok((out, clean))
+}
+
+/// The name of the file that is read, for positions in it.
+fn name(args: &Args) -> &str {
+    if args.file == STANDARD_INPUT { "(standard input)" } else { &args.file }
 }
 
 fn page<'p>(args: &Args, name: &str, text: &'p [u8], parse: &'p Parse<'p>) -> Page<'p> {

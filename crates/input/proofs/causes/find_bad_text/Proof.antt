@@ -1,12 +1,13 @@
 -- `find_bad_text`: after cause 3 the texts from here on are judged as all texts are.
 use Rattle.basics.proofs.Flags.{flags}
-use Rattle.input.proofs.RowChecks.{texts-start, texts-again, texts-bad, texts-end}
+use Rattle.input.proofs.RowChecks.{At-text, text-first, text-next, text-bad, text-end}
 use Rattle.definitions.specs.Layout.{TOKEN-ROW}
 use Rattle.definitions.specs.Token.{tokens-of}
-use Rattle.definitions.specs.Refusal.{accepted, check-rows, check-texts}
-use Prim.Native.Nat.{_*_, _/_, _-_, _≤_}
+use Rattle.definitions.specs.Refusal.{accepted}
+use Rattle.definitions.specs.RowCauses.{check-rows}
+use Prim.Native.Nat.{_/_, _-_, _≤_}
 use mathlib.Core.Path.{_≡_, refl, sym, _∙_}
-use lib.ListN.{length, drop}
+use lib.ListN.{length}
 use Rattle.input.proofs.causes.find_bad_text.Statement.{statement}
 use Rattle.input.proofs.causes.find_bad_text.Tie as tie
 use Rattle.input.proofs.causes.find_bad_text.Reads as reads
@@ -15,14 +16,14 @@ use Rattle.input.proofs.causes.is_good_text.Reads as is-good-text-reads
 
 abbrev Inv-loop : tie.InvT-loop
 Inv-loop bytes tokens count byte₀ at₀ byte at =
-    (check-rows 0 (length bytes) tokens ≡ accepted → (check-rows at (length bytes - byte) (drop (at * TOKEN-ROW) tokens) ≡ accepted) × (check-texts at (drop byte bytes) (tokens-of (drop (at * TOKEN-ROW) tokens)) ≡ check-texts 0 bytes (tokens-of tokens)))
+    (check-rows 0 0 (length bytes) (tokens-of tokens) ≡ accepted → At-text tokens bytes at byte)
     × (byte ≤ length bytes) × (at ≤ count) × (count ≡ length tokens / TOKEN-ROW)
 
 abbrev μ-loop : tie.MeasureT-loop
 μ-loop bytes tokens count byte₀ at₀ byte at = count - at
 
 loop-holds : tie.Need-loop-holds Inv-loop μ-loop
-loop-holds c = (λ h. texts-start _ _ h, omega flags, omega flags, refl)
+loop-holds c = (λ h. text-first _ _ h, omega flags, omega flags, refl)
 
 mul-wide : tie.Need-mul-wide Inv-loop μ-loop
 mul-wide c = omega flags
@@ -61,13 +62,13 @@ loop-less : tie.Need-loop-less Inv-loop μ-loop
 loop-less c = omega flags
 
 loop-again : tie.Need-loop-again Inv-loop μ-loop
-loop-again c = (λ h. texts-again _ _ _ _ _ (omega flags) (c .before .before .before .wide .ensures .0) (omega flags) (sym (c .before .is-good-text .ensures .0) ∙ c .if1 .taken) (c .before .before .before .before .before .before .loop .inv .0 h), c .before .is-good-text .ensures .1 (c .if1 .taken), omega flags, c .before .before .before .before .before .before .loop .inv .3)
+loop-again c = (λ h. text-next _ _ _ _ _ (omega flags) (c .before .before .before .wide .ensures .0) (sym (c .before .is-good-text .ensures .0) ∙ c .if1 .taken) (c .before .before .before .before .before .before .loop .inv .0 h), c .before .is-good-text .ensures .1 (c .if1 .taken), omega flags, c .before .before .before .before .before .before .loop .inv .3)
 
 returns : tie.Need-returns Inv-loop μ-loop
-returns c = λ h. texts-bad _ _ _ _ _ (omega flags) (c .before .before .before .wide .ensures .0) (omega flags) (sym (c .before .is-good-text .ensures .0) ∙ c .if1 .left) (c .before .before .before .before .before .before .loop .inv .0 h)
+returns c = λ h. text-bad _ _ _ _ _ (omega flags) (c .before .before .before .wide .ensures .0) (sym (c .before .is-good-text .ensures .0) ∙ c .if1 .left) (c .before .before .before .before .before .before .loop .inv .0 h)
 
 returns-2 : tie.Need-returns-2 Inv-loop μ-loop
-returns-2 c = λ h. texts-end _ _ _ (omega flags) ∙ c .before .loop .inv .0 h .1
+returns-2 c = λ h. text-end _ _ _ _ (omega flags) (c .before .loop .inv .0 h)
 
 pub find-bad-text-spec : {M : Type 1} → statement M
 find-bad-text-spec =

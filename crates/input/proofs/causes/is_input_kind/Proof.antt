@@ -2,7 +2,7 @@
 use Rattle.basics.proofs.Flags.{flags}
 use borrow.Author.Tests.{lt-leb}
 use Rattle.definitions.specs.LexError as L
-use Rattle.definitions.specs.Refusal.{is-kind}
+use Rattle.definitions.specs.RowCauses.{is-kind}
 use Rattle.input.proofs.causes.is_input_kind.Statement.{statement}
 use Rattle.input.proofs.causes.is_input_kind.Tie as tie
 use Rattle.input.proofs.causes.is_input_kind.Reads as reads
