@@ -29,14 +29,14 @@ unless-holds true r e = refl
 unless-holds false r e = let x : _≡_ {A = ℕ} 0 1 = cc in absurd (omega arith)
 
 -- a row with none of 11 to 13
-pub record Good-row (start size : ℕ) (t : Token) : Type 0 where
+pub record Sound-row (start size : ℕ) (t : Token) : Type 0 where
   pub kind : is-kind (t .kind) ≡ true
   pub not-empty : 1 ≤ t .len
   pub inside : start + t .len ≤ size
 
-pub row-good : (i start size : ℕ) (t : Token) → check-row i start size t ≡ accepted → Good-row start size t
+pub row-sound : (i start size : ℕ) (t : Token) → check-row i start size t ≡ accepted → Sound-row start size t
 unfolding check-row
-row-good i start size t e =
+row-sound i start size t e =
     let f = or-else-right (unless (is-kind (t .kind)) (bad-kind i)) _ e in
     record {
       kind = unless-holds _ _ (or-else-left (unless (is-kind (t .kind)) (bad-kind i)) _ e);
@@ -45,10 +45,10 @@ row-good i start size t e =
     }
 
 -- the first of rows that pass, and the others
-pub rows-good : (i start size : ℕ) (t : Token) (ts : List Token) → check-rows i start size (t ∷ ts) ≡ accepted
-    → Good-row start size t × (check-rows (suc i) (start + t .len) size ts ≡ accepted)
+pub rows-sound : (i start size : ℕ) (t : Token) (ts : List Token) → check-rows i start size (t ∷ ts) ≡ accepted
+    → Sound-row start size t × (check-rows (suc i) (start + t .len) size ts ≡ accepted)
 unfolding check-rows
-rows-good i start size t ts e = (row-good i start size t (or-else-left (check-row i start size t) _ e), or-else-right (check-row i start size t) _ e)
+rows-sound i start size t ts e = (row-sound i start size t (or-else-left (check-row i start size t) _ e), or-else-right (check-row i start size t) _ e)
 
 -- a token ends past the input exactly if it is longer than what is left
 pub same-end : (start n left size : ℕ) → start + left ≡ size → leb (start + n) size ≡ leb n left

@@ -89,7 +89,7 @@ module _ (e : Entry) (setting : ℕ) (bytes tokens : List ℕ) (b : Buffers) (n 
   unfolding call asked
   known-entry h = h ∙ ap (λ (w : Asked). asked w setting bytes tokens b) k
 
-  -- entries 1 to 4: causes 2 to 4, and the parse
+  -- entries 1 to 4: the checks of the input, and the parse
   pub refused-call : x ≡ checked (check-input bytes tokens) e setting bytes tokens b → x ≡ call n setting bytes tokens b
   refused-call h = known-entry h
 

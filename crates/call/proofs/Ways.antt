@@ -25,7 +25,7 @@ use Rattle.call.specs.Ended.{refused-with, accepted-with, sunk-with, nam
 
 -- ---------------------------------------------------------------- check
 
--- causes 2 to 4
+-- causes 2 to 4, and 11 to 13
 pub refused-input : (bytes tokens : List ℕ) (r : Refusal) (n p : ℕ) (a : Answer) → a ≡ refused-with n p → answer-of (refused-with n p) ≡ refusal r → eqb n 0 ≡ false → refused r ≡ check-input bytes tokens → Input a bytes tokens
 unfolding checked
 refused-input bytes tokens r n p a h z q v =

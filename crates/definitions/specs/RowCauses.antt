@@ -19,8 +19,8 @@ check-count tokens = unless (eqb (length tokens % TOKEN-ROW) 0) (odd-count (leng
 unfoldable pub is-kind : ℕ → Bool
 is-kind k = (leb k K.QuestionMark && not (eqb k K.Unrecognized) && not (eqb k K.Name)) || (leb L.UnexpectedEndIncbin k && leb k L.Default)
 
--- "11, bad kind; 12, length 0; 13, a token ends past the input", "tried within a row in the order given": row i, whose
--- token starts at a byte of the input's so many
+-- "11, bad kind; 12, length 0; 13, a token ends past the input", "tried within a row in the order given": of row i, whose
+-- token starts at this byte, in an input of so many. Sums have no limit
 unfoldable pub check-row : ℕ → ℕ → ℕ → Token → Verdict
 unfolding is-kind _or-else_
 check-row i start size t =
@@ -28,7 +28,8 @@ check-row i start size t =
     or-else unless (leb 1 (t .len)) (zero-length i)
     or-else unless (leb (start + t .len) size) (past-input i)
 
--- "at the first bad row", from row i on; 13 "or last, with the count of rows as place, the total is short"
+-- "at the first bad row", from row i on; and 13 "or last, with the count of rows as place, the total is short": no row
+-- ends past the input there, so a total that is not the input's length is less
 unfoldable pub check-rows : ℕ → ℕ → ℕ → List Token → Verdict
 unfolding check-row _or-else_
 check-rows i start size [] = unless (eqb start size) (short-total i)
@@ -36,7 +37,7 @@ check-rows i start size (t ∷ ts) =
     let r = check-rows (suc i) (start + t .len) size ts in
     check-row i start size t or-else r
 
--- causes 2 to 4: an odd count "tried right after 2", and "all come before 4"
+-- causes 2 to 4 and 11 to 13, in their order: an odd count is "tried right after 2", and "all come before 4"
 unfoldable pub check-input : List ℕ → List ℕ → Verdict
 unfolding _or-else_ check-sizes check-count check-rows check-texts tokens-of
 check-input bytes tokens =

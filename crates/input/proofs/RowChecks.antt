@@ -10,7 +10,7 @@ use lib.Seq.{drop-drop}
 use borrow.Author.Tests.{le-leb}
 use Rattle.basics.proofs.Tests.{and-right}
 use Rattle.basics.proofs.TokenRows.{token-at, tokens-cons, tokens-end}
-use Rattle.basics.proofs.Verdicts.{rows-good, same-end, same-cover}
+use Rattle.basics.proofs.Verdicts.{rows-sound, same-end, same-cover}
 use Rattle.definitions.specs.Layout.{TOKEN-ROW, TOKEN-LENGTH, MOST-BYTES, MOST-TOKEN-NUMBERS}
 use Rattle.definitions.specs.Token.{Token, tokens-of}
 use Rattle.definitions.specs.StaticText.{static-texts, fits-text}
@@ -117,7 +117,7 @@ row-passed : (tokens : List ℕ) (i start size : ℕ) → i < length tokens / TO
     → (start + length-at tokens i ≤ size) × (check-rows (i + 1) (start + length-at tokens i) size (from-row tokens (i + 1)) ≡ accepted)
 row-passed tokens i start size h e =
     let s : suc i ≡ i + 1 = omega arith in
-    let g = rows-good i start size (token-at tokens i) (from-row tokens (i + 1)) (sym (ap (check-rows i start size) (tokens-cons tokens i h)) ∙ e) in
+    let g = rows-sound i start size (token-at tokens i) (from-row tokens (i + 1)) (sym (ap (check-rows i start size) (tokens-cons tokens i h)) ∙ e) in
     (g .0 .inside, ap (λ (j : ℕ). check-rows j (start + length-at tokens i) size (from-row tokens (i + 1))) (sym s) ∙ g .1)
 
 -- what the loop over texts knows of row i, whose token starts at a byte

@@ -1,3 +1,3 @@
-// The checks of a call's input, by document 01's causes 2 to 4: sizes, token rows, and the fixed spellings of tokens.
+// The checks of a call's input: sizes (cause 2), token rows (3 and 11 to 13), and the fixed spellings of tokens (4).
 pub mod causes;
 pub mod static_text;

@@ -36,7 +36,7 @@ pub record Named (l : List Name-at) (first written : ℕ) (reports : List ℕ) (
   pub fits : (room : ℕ) → Leaves written room reports → names-fit room l ≡ accepted → Follow l first written reports s reports′
   pub lacks : (room mark : ℕ) → Leaves written room reports → names-fit room l ≡ refused (no-report-room mark) → Stop mark s
 
--- for every run over an input that passed causes 2 to 4; k: the root's kind
+-- for every run over an input that passed its checks; k: the root's kind
 abbrev pub Promise : ℕ → ℕ → List ℕ → List ℕ → ℕ → ℕ → List ℕ → List ℕ → Names → List ℕ → Type 0
 Promise setting k bytes tokens written first events reports s reports′ =
     (e : Entry) → k ≡ root-kind e → check-input bytes tokens ≡ accepted → events ≡ encode false (run-entry e (tokens-of tokens))

@@ -25,7 +25,7 @@ written-by setting e bytes ts = sheets e ts (run-entry e ts) (names-of setting e
 pub record Accepted (n setting : ℕ) (bytes tokens : List ℕ) (b : Buffers) : Type 0 where
   pub entry : Entry
   pub asked-for : entry-of n ≡ for entry
-  -- causes 2 to 4 do not hold
+  -- none of causes 2 to 4 and 11 to 13 holds
   pub input : check-input bytes tokens ≡ accepted
   -- nor do causes 5 to 7
   pub left : Room

@@ -1,5 +1,5 @@
--- What the checks of a call's input say, causes 2 to 4 and 11 to 13: limits, kinds, lengths, that the rows cover the input exactly,
--- and fixed texts.
+-- What the checks of a call's input say, causes 2 to 4 and 11 to 13: limits, kinds, lengths, that the rows cover the
+-- input exactly, and fixed texts.
 use Prim.Native.Nat.{ℕ, suc, _+_, _*_, _%_, _≤_}
 use native.Mathlib.Omega.{arith}
 use mathlib.Core.Path.{_≡_}
@@ -15,7 +15,7 @@ use Rattle.definitions.specs.Refusal.{too-long, short-total, bad-text, accepted
 use Rattle.definitions.specs.RowCauses.{check-count, is-kind, check-rows, check-input}
 use Rattle.basics.proofs.Tests.{and-left, and-right}
 use Rattle.basics.proofs.TokenRows.{tokens-length}
-use Rattle.basics.proofs.Verdicts.{cond-accepted, or-else-left, or-else-right, unless-holds, rows-good}
+use Rattle.basics.proofs.Verdicts.{cond-accepted, or-else-left, or-else-right, unless-holds, rows-sound}
 
 -- a token of a kind that may be input, at least one byte long
 pub record Good (t : Token) : Type 0 where
@@ -50,7 +50,7 @@ rows-pass : (i start size : ℕ) (ts : List Token) → check-rows i start size t
 unfolding check-rows byte-count
 rows-pass i start size [] e = let z : start ≡ size = eqb-true start size (unless-holds (eqb start size) (short-total i) e) in record { covered = omega (arith, z); good = tt }
 rows-pass i start size (t ∷ ts) e =
-    let h = rows-good i start size t ts e in
+    let h = rows-sound i start size t ts e in
     let g : Rows-pass (start + t .len) size ts = rows-pass (suc i) (start + t .len) size ts (h .1) in
     record { covered = omega (arith, g .covered); good = (record { kind = h .0 .kind; len = h .0 .not-empty }, g .good) }
 

@@ -125,7 +125,7 @@ abbrev pub Unnamed : List Token → Type 0
 Unnamed [] = Unit {0}
 Unnamed (t ∷ ts) = (eqb (seen t) K.Name ≡ false) × Unnamed ts
 
--- cause 3 lets no other tokens through
+-- the checks of rows let no other tokens through
 input-unnamed : (t : Token) (b : Bool) → is-error (t .kind) ≡ b → (c : Bool) → eqb (t .kind) K.Name ≡ c → is-kind (t .kind) ≡ true → eqb (seen t) K.Name ≡ false
 unfolding seen is-kind
 input-unnamed t true e c f g = ap (λ (q : Bool). eqb (cond q K.Unrecognized (t .kind)) K.Name) e

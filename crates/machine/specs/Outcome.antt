@@ -89,7 +89,7 @@ abbrev pub Ends : List Token → Skeleton → List ℕ → List ℕ → List ℕ
 Ends ts o events reports pool (fits z) m = Not-refused ts o events reports pool m
 Ends ts o events reports pool (stops r) m = Refused ts r m
 
--- THE MACHINE'S END: for every entry, every input that passes causes 2 to 4, and lent buffers of any lengths and
+-- THE MACHINE'S END: for every entry, every input that passes its checks, and lent buffers of any lengths and
 -- contents, the machine that starts fresh comes to what `scan` says of the skeleton that `definitions` gives. If all of
 -- it fits the buffers, nothing is refused, the events encode the skeleton, reports and pool are the definitions', and
 -- after them each buffer is as it was. If not, the refusal's number and place are those of the first push that does not

@@ -1,5 +1,5 @@
 -- A whole entry after the checks of its input: what is asked of tokens and skeleton is met, so the machine's end is the
--- definitions' for every input that passes causes 2 to 4, with buffers of any lengths and contents.
+-- definitions' for every input that passes its checks, with buffers of any lengths and contents.
 use Prim.Native.Nat.{ℕ, _≤_}
 use native.Mathlib.Omega.{arith}
 use mathlib.Core.Path.{_≡_, sym}

@@ -83,7 +83,7 @@ pub record After-run (setting : ℕ) (e : Entry) (bytes tokens : List ℕ) (b : 
   pub named : Labels.Promise setting (root-kind e) bytes tokens (m .reports .count) (low (m .pool .count))
       (take (m .events .count) (m .events .numbers)) (m .reports .numbers) w reports
 
--- THE CALL'S END, for every entry and setting, every input that passes causes 2 to 4, and lent buffers of any lengths
+-- THE CALL'S END, for every entry and setting, every input that passes its checks, and lent buffers of any lengths
 -- and contents
 pub record Call-ends (setting : ℕ) (e : Entry) (bytes tokens : List ℕ) (b : Buffers) (m : Machine) : Type 0 where
   -- causes 5 to 7: whatever the buffers hold by then

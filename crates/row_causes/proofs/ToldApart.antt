@@ -15,6 +15,7 @@ use Rattle.definitions.specs.RowCauses.{check-count, check-rows, check-input}
 use Rattle.definitions.specs.Call.{Buffers, Result, untouched, Asked, entry-of, checked, asked, call}
 use Rattle.basics.proofs.TokenRows.{tokens-length}
 use Rattle.laws.proofs.Input.{checked-input}
+use Rattle.refusals.specs.Refusals.{Whole-rows}
 use Rattle.refusals.proofs.Tests.{Decides, holds, not-so}
 use Rattle.refusals.proofs.Rows.{whole-decides}
 use Rattle.refusals.proofs.Texts.{Texts, right-texts, wrong-one, judged-texts}
@@ -22,7 +23,7 @@ use Rattle.refusals.proofs.Entries.{Asks, known, not-known, asks, entry-eq, unk
 use Rattle.refusals.proofs.Late.{Late, late}
 use Rattle.row_causes.specs.Before.{bad-row}
 use Rattle.row_causes.specs.Before as B
-use Rattle.row_causes.specs.ToldApart.{Of-rows, Whole-rows, Apart, Told-apart}
+use Rattle.row_causes.specs.ToldApart.{Of-rows, Apart, Told-apart}
 use Rattle.row_causes.proofs.Rows.{Both, pass, refuse, both, odd}
 
 -- ---------------------------------------------------------------- the checks

@@ -2,7 +2,7 @@
 -- it was refused with 3 before. Its place is document 01's, but for an odd count with an earlier bad row. Every other
 -- call is answered as it was. It excludes 4 before 13, a bad row that is let through, a sound one that is refused, an
 -- odd count after the rows, and another place.
-use Prim.Native.Nat.{ℕ, _*_, _≤_}
+use Prim.Native.Nat.{ℕ, _≤_}
 use mathlib.Core.Path.{_≡_}
 use mathlib.Core.Logic.{_↔_, _⊎_}
 use mathlib.Core.List.{List}
@@ -10,17 +10,15 @@ use lib.ListN.{length}
 use Rattle.definitions.specs.Token.{tokens-of}
 use Rattle.definitions.specs.Call.{Buffers, Result}
 use Rattle.definitions.specs.Call as Call
+use Rattle.refusals.specs.Refusals.{Whole-rows}
 use Rattle.row_causes.specs.Before as Before
 
 -- 3, 11, 12 or 13
 abbrev pub Of-rows : ℕ → Type 0
 Of-rows number = (number ≡ 3) ⊎ ((11 ≤ number) × (number ≤ 13))
 
--- the numbers are whole rows: none is left over
-abbrev pub Whole-rows : List ℕ → Type 0
-Whole-rows tokens = length tokens ≡ 2 * length (tokens-of tokens)
-
--- tokens, b: the numbers and the buffers that a call is given. was, now: what it returned and what it returns.
+-- tokens, b: the numbers and the buffers that a call is given. was, now: what it returned and what it returns. Numbers
+-- are `Whole-rows` where none is left over (refusals/specs/Refusals.antt).
 pub record Apart (tokens : List ℕ) (b : Buffers) (was now : Result) : Type 0 where
   pub exactly : Of-rows (now .answer .number) ↔ (was .answer .number ≡ 3)
   -- one of 11 to 13, with document 01's place

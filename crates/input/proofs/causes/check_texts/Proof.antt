@@ -1,4 +1,4 @@
--- `check_texts`: cause 4, after cause 3.
+-- `check_texts`: cause 4, where the rows pass.
 use borrow.Author.Needs.{needs}
 use Rattle.input.proofs.causes.check_texts.Statement.{statement}
 use Rattle.input.proofs.causes.check_texts.Tie as tie

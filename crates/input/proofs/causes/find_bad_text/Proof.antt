@@ -1,4 +1,4 @@
--- `find_bad_text`: after cause 3 the texts from here on are judged as all texts are.
+-- `find_bad_text`: where the rows pass, the texts from here on are judged as all texts are.
 use Rattle.basics.proofs.Flags.{flags}
 use Rattle.input.proofs.RowChecks.{At-text, text-first, text-next, text-bad, text-end}
 use Rattle.definitions.specs.Layout.{TOKEN-ROW}
