@@ -1,5 +1,6 @@
 -- Readings of document 02, 4/14: one table, and one proof over it. Whole answers and all buffers are compared, and every
 -- buffer is as it was. The answers were worked out by hand, from the words; the sentence is quoted where one decides.
+-- Counts at the limit of 2 are in refusals/proofs/Cases.antt: here they would be computed again for each edit.
 use Prim.Native.Nat.{ℕ}
 use mathlib.Core.Path.{_≡_, refl}
 use mathlib.Core.List.{List, [], _∷_}
@@ -76,10 +77,6 @@ row-readings =
     ∷ over-ab (27 ∷ 1 ∷ 27 ∷ 4294967295 ∷ 27 ∷ 2 ∷ []) 13 1
     ∷ over-ab (27 ∷ 2 ∷ 27 ∷ 4294967295 ∷ 27 ∷ 1 ∷ []) 13 1
     ∷ over-ab (27 ∷ 4294967295 ∷ 27 ∷ 3 ∷ []) 13 0
-    -- at the limit of 2: one number too many, an odd count too; at it the first row is judged; one below, the count
-    ∷ over-ab (replicate 131073 1) 2 0
-    ∷ over-ab (replicate 131072 0) 12 0
-    ∷ over-ab (replicate 131071 0) 3 65535
     ∷ []
 
 -- a number in each buffer, in two of them not a whole row
