@@ -12,7 +12,8 @@ use Rattle.definitions.specs.Call as Call
 use Rattle.call.specs.declared.Answer.{Answer}
 use Rattle.call.specs.Result.{result-of}
 
--- number 0 of an input that passes causes 2 to 4 and 11 to 13. Else the answer is the call's, and every buffer is left as it was.
+-- number 0 of an input that passes causes 2 to 4 and 11 to 13. Else the answer is the call's, and every buffer is left
+-- as it was.
 pub record Input (a : Answer) (bytes tokens : List ℕ) : Type 0 where
   pub sound : eqb (a .number) 0 ≡ true → check-input bytes tokens ≡ accepted
   pub refused : eqb (a .number) 0 ≡ false → (e : Entry) (setting : ℕ) (b : Buffers)

@@ -1,6 +1,6 @@
--- Readings of document 02, 4/14: one table, and one proof over it. Whole answers and all buffers are compared, and every
--- buffer is as it was. The answers were worked out by hand, from the words; the sentence is quoted where one decides.
--- Counts at the limit of 2 are in refusals/proofs/Cases.antt: here they would be computed again for each edit.
+-- Readings of document 02, 4/14: one table, and one proof over it. Whole answers and all buffers are compared, and
+-- every buffer is as it was. The answers were worked out by hand, from the words; the sentence is quoted where one
+-- decides. Counts at the limit of 2 are in refusals/proofs/Cases.antt: here they would be computed for each edit.
 use Prim.Native.Nat.{ℕ}
 use mathlib.Core.Path.{_≡_, refl}
 use mathlib.Core.List.{List, [], _∷_}

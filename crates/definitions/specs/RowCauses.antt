@@ -19,8 +19,8 @@ check-count tokens = unless (eqb (length tokens % TOKEN-ROW) 0) (odd-count (leng
 unfoldable pub is-kind : ℕ → Bool
 is-kind k = (leb k K.QuestionMark && not (eqb k K.Unrecognized) && not (eqb k K.Name)) || (leb L.UnexpectedEndIncbin k && leb k L.Default)
 
--- "11, bad kind; 12, length 0; 13, a token ends past the input", "tried within a row in the order given": of row i, whose
--- token starts at this byte, in an input of so many. Sums have no limit
+-- "11, bad kind; 12, length 0; 13, a token ends past the input", "tried within a row in the order given": of row i,
+-- whose token starts at this byte, in an input of so many. Sums have no limit
 unfoldable pub check-row : ℕ → ℕ → ℕ → Token → Verdict
 unfolding is-kind _or-else_
 check-row i start size t =

@@ -1,7 +1,7 @@
 -- THE DEMANDS: the three promises, of every call of the definitions in either setting, what the strict setting
--- promises, what calls over texts promise, what was refusal 3, and what holds beside them. Each line names the file that words it. The
--- exported routines answer as the definitions do (crates/dt_parser/src/lib.rt, text.rt), so all of this holds of them
--- too.
+-- promises, what calls over texts promise, what was refusal 3, and what holds beside them. Each line names the file
+-- that words it. The exported routines answer as the definitions do (crates/dt_parser/src/lib.rt, text.rt), so all of
+-- this holds of them too.
 use Rattle.refusals.specs.Refusals.{Refusals}
 use Rattle.refusals.specs.Answered.{Answered}
 use Rattle.laws.specs.Lossless.{Nothing-lost}
@@ -36,8 +36,8 @@ pub record Promise-1 : Type 0 where
   -- refusal's counts are 0.
   -- refusals/specs/Answered.antt.
   pub answered : Answered
-  -- Each of 0 to 8 and 11 to 13 with its place, if and only if its line of document 01's table, or document 02's line on
-  -- Names or on rows, applies.
+  -- Each of 0 to 8 and 11 to 13 with its place, if and only if its line of document 01's table, or document 02's line
+  -- on Names or on rows, applies.
   -- refusals/specs/Refusals.antt, over Trace.antt.
   pub refusals : Refusals
 
@@ -94,7 +94,8 @@ pub record Texts : Type 0 where
   -- Their rows pass the checks of a call's input. lexing/specs/RowsPass.antt.
   pub rows-pass : Rows-pass
   -- Promise 1: each refusal of a call over a text, with its place, if and only if its cause applies; never 3, 4 or 11
-  -- to 13. By the number, every buffer is as it was, all zero, or written and then zero; all else is the call over the tokens.
+  -- to 13. By the number, every buffer is as it was, all zero, or written and then zero; all else is the call over the
+  -- tokens.
   -- texts/specs/TextRefusals.antt, TextAnswered.antt.
   pub text-refusals : Text-refusals
   pub text-answered : Text-answered

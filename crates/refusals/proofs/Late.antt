@@ -1,4 +1,4 @@
--- A call over input that passes causes 1 to 4 and 11 to 13 is accepted, or refused in its parse: with 0, or with 5 to 8.
+-- A call over input that passes causes 1 to 4 and 11 to 13 is accepted, or refused in its parse: 0, or 5 to 8.
 use Prim.Native.Nat.{ℕ, _≤_}
 use native.Mathlib.Omega.{arith}
 use mathlib.Core.Path.{_≡_, refl}

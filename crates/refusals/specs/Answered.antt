@@ -1,6 +1,6 @@
 -- ANSWERED: what any call returns, by its number, and what every lent buffer then holds. It excludes a number that is
--- not listed, buffers left unwritten or half written, a refusal that leaves something in them, and counts that differ from the rows
--- written.
+-- not listed, buffers left unwritten or half written, a refusal that leaves something in them, and counts that differ
+-- from the rows written.
 use Prim.Native.Nat.{ℕ, _-_, _*_, _≤_}
 use mathlib.Core.Path.{_≡_}
 use mathlib.Core.Logic.{_⊎_}

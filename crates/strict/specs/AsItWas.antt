@@ -1,7 +1,7 @@
 -- AS IT WAS. The call as it was before 1/14, and that the old setting is this call, for every entry, input and buffers.
 -- It excludes a setting 0 that answers anything else than callers have had so far.
--- What 1/14 changed of definitions/specs/Call.antt stands here letter by letter as it was; the rest is cited from it, the
--- checks of the input too: what 4/14 changed of these is crates/row_causes.
+-- What 1/14 changed of definitions/specs/Call.antt stands here letter by letter as it was; the rest is cited from it,
+-- the checks of the input too: what 4/14 changed of these is crates/row_causes.
 use Prim.Native.Nat.{ℕ}
 use mathlib.Core.Path.{_≡_}
 use mathlib.Core.List.{List}
