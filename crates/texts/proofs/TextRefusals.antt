@@ -1,6 +1,6 @@
 -- `text-refusals`: a call has the cause of the way that it goes; and a cause gives what is returned, since each check
 -- finds one thing only.
-use Prim.Native.Nat.{ℕ, _≤_}
+use Prim.Native.Nat.{ℕ, _≤_, _<_}
 use native.Mathlib.Omega.{arith}
 use mathlib.Core.Path.{_≡_, refl, ap, _∙_, subst₂}
 use mathlib.Core.Bool.{Bool, true, false}
@@ -98,9 +98,14 @@ by-way n setting bytes tokens b x (refused e p (has-directive i) c) = inr (omega
 by-way n setting bytes tokens b x (parsed e p q r (inl h)) = inl (omega (arith, h))
 by-way n setting bytes tokens b x (parsed e p q r (inr h)) = inr (h .0, omega (arith, h .1))
 
-others : (k : ℕ) → (k ≤ 2) ⊎ ((5 ≤ k) × (k ≤ 10)) → (¬ (k ≡ 3)) × (¬ (k ≡ 4)) × (¬ ((11 ≤ k) × (k ≤ 13)))
-others k (inl h) = (λ e. omega (arith, h, e), λ e. omega (arith, h, e), λ g. omega (arith, h, g .0))
-others k (inr h) = (λ e. omega (arith, h .0, e), λ e. omega (arith, h .0, e), λ g. omega (arith, h .1, g .0))
+-- so none between 2 and 5, and none above 10
+not-between : (k : ℕ) → (k ≤ 2) ⊎ ((5 ≤ k) × (k ≤ 10)) → 2 < k → k < 5 → ⊥
+not-between k (inl h) l m = omega (arith, h, l)
+not-between k (inr h) l m = omega (arith, h .0, m)
+
+not-above : (k : ℕ) → (k ≤ 2) ⊎ ((5 ≤ k) × (k ≤ 10)) → 10 < k → ⊥
+not-above k (inl h) l = omega (arith, h, l)
+not-above k (inr h) l = omega (arith, h .1, l)
 
 pub text-refusals : Text-refusals
 text-refusals =
@@ -109,7 +114,7 @@ text-refusals =
         λ h. subst₂ (Text-cause n setting bytes tokens b) (h .0) (h .1) (has-cause n setting bytes tokens b _ (called n setting bytes tokens b)),
         returns n setting bytes tokens b k p,
       );
-      not-3 = λ n setting bytes tokens b. others _ (by-way n setting bytes tokens b _ (called n setting bytes tokens b)) .0;
-      not-4 = λ n setting bytes tokens b. others _ (by-way n setting bytes tokens b _ (called n setting bytes tokens b)) .1;
-      not-11-to-13 = λ n setting bytes tokens b. others _ (by-way n setting bytes tokens b _ (called n setting bytes tokens b)) .2;
+      not-3 = λ n setting bytes tokens b e. not-between _ (by-way n setting bytes tokens b _ (called n setting bytes tokens b)) (omega (arith, e)) (omega (arith, e));
+      not-4 = λ n setting bytes tokens b e. not-between _ (by-way n setting bytes tokens b _ (called n setting bytes tokens b)) (omega (arith, e)) (omega (arith, e));
+      not-11-to-13 = λ n setting bytes tokens b g. not-above _ (by-way n setting bytes tokens b _ (called n setting bytes tokens b)) (omega (arith, g .0));
     }
