@@ -17,6 +17,12 @@ COSTLY = {
     "returns": 65536,
 }
 
+# Source files that are asked for what is under a caret: the board files, and the largest of those that might cost more.
+# chain is no source file, and sum is the same in one; name has four rows, so that only what a call always costs would
+# show.
+QUERIES = [f"board-{n}" for n in SIZES]
+QUERIES += [f"{f}-65535" for f in ["sum", "braces", "errors", "novalue", "labels", "blanks"]]
+
 
 def costly(family):
     """A text of three sizes."""

@@ -78,6 +78,22 @@ class Text:
             int(row[f"{k}_instructions"]) if row[f"{k}_instructions"] else None for k in counted)
 
 
+class Query:
+    """What one source file has, and what asking costs: instructions of each query less those of the parse."""
+
+    WHAT = "end", "middle", "parts"
+
+    def __init__(self, row):
+        self.name = row["input"]
+        self.tree_rows, self.parse = int(row["tree_rows"]), int(row["parse_instructions"])
+        self.listed = {what: int(row[f"{what}_rows"]) for what in self.WHAT}
+        self.cost = {what: int(row[f"{what}_instructions"]) - self.parse for what in self.WHAT}
+
+
+def queries(path):
+    return [Query(row) for row in read(path)]
+
+
 def texts(path):
     """By family; of a family the texts that a call takes, and then one that it refuses for its tokens, if there is."""
     families = {}

@@ -25,6 +25,7 @@ if [ "${1:-}" != tables ]; then
     "$python" "$here/times.py" "$here/target/release" "${1:-5}" "${2:-31}" "${3:-}" "$results"
     "$python" "$here/counts.py" "$here/target/release" "$results/counts.csv"
     "$python" "$here/text_counts.py" "$here/target/release" "$results/text_counts.csv"
+    "$python" "$here/query_counts.py" "$here/target/release" "$results/query_counts.csv"
 fi
 "$python" "$here/tables.py" "$results" "$root"
 "$python" "$here/plot.py" "$results" "$root/docs/benchmark"

@@ -4,13 +4,14 @@ import re
 import sys
 
 from inputs import COSTLY
-from results import HEADLINE, HEADLINE_TEXT, Times, counts, read, texts
+from results import HEADLINE, HEADLINE_TEXT, Query, Times, counts, queries, read, texts
 
 RESULTS, ROOT = sys.argv[1:]
 COUNTS = counts(f"{RESULTS}/counts.csv")
 TIMES = Times(f"{RESULTS}/times.csv")
 TEXTS = texts(f"{RESULTS}/text_counts.csv")
 TEXT_TIMES = Times(f"{RESULTS}/text_times.csv")
+QUERIES = queries(f"{RESULTS}/query_counts.csv")
 SETS = read(f"{RESULTS}/machines.csv")  # of runs, several on one machine
 MACHINES = {s["machine"] for s in SETS}
 BOARD = [c for c in COUNTS if c.family == "board"]
@@ -94,6 +95,17 @@ def worst_texts():
     return table(head, out)
 
 
+def asked(rows):
+    head = ["Input", "Tree rows", "Rows listed: at the length", "in the middle", "parts",
+            "Instructions per tree row: at the length", "in the middle", "parts", "the parse"]
+    out = []
+    for q in rows:
+        listed = [f"{q.listed[what]:,}" for what in Query.WHAT]
+        each = [f"{q.cost[what] / q.tree_rows:.2f}" for what in Query.WHAT]
+        out.append([q.name, f"{q.tree_rows:,}", *listed, *each, f"{q.parse / q.tree_rows:,.0f}"])
+    return table(head, out)
+
+
 def memory(rows):
     head = ["Input", "Tokens", "Port: buffers that just suffice", "buffers by the bound", "Rust: most heap at once",
             "heap that its answer keeps"]
@@ -138,9 +150,10 @@ def main():
     put("docs/FIGURES.md", short)
     put("docs/BENCHMARK.md", short | {
         "machines": machines(), "board": cost(BOARD), "worst": cost(WORST), "memory": memory(LARGEST),
-        "texts": board_texts(TEXTS["text"]), "worst texts": worst_texts(), "clearing": clearing(BOARD),
-        "stack": stack()})
-    print("\n\n".join([summary(), machines(), cost(COUNTS), board_texts(TEXTS["text"]), worst_texts()]))
+        "texts": board_texts(TEXTS["text"]), "worst texts": worst_texts(), "queries": asked(QUERIES),
+        "clearing": clearing(BOARD), "stack": stack()})
+    print("\n\n".join([summary(), machines(), cost(COUNTS), board_texts(TEXTS["text"]), worst_texts(),
+                       asked(QUERIES)]))
 
 
 main()

@@ -1,5 +1,6 @@
 #!/bin/sh
-# Builds and runs the fuzzer: fuzz/run.sh run|text|repeat|small|expressions|rows|texts|exact .. (docs/FUZZING.md).
+# Builds and runs the fuzzer: fuzz/run.sh run|text|carets|files|repeat|small|expressions|rows|texts|exact ..
+# (docs/FUZZING.md).
 # Without arguments: 10,000,000 cases over token rows.
 set -eu
 program=$("$(dirname "$0")/build.sh")

@@ -63,7 +63,7 @@ static inline const char *dt_refusal_text(uint32_t number)
     case DT_REFUSAL_TOO_DEEP: return "a 65th open call, or a 257th pending expectation";
     case DT_REFUSAL_NO_EVENT_ROOM: return "next event doesn't fit";
     case DT_REFUSAL_NO_REPORT_ROOM: return "report row or its expectations don't fit";
-    case DT_REFUSAL_NO_TREE_ROOM: return "tree or lexical errors don't fit";
+    case DT_REFUSAL_NO_TREE_ROOM: return "tree, lexical errors or the list of a query don't fit";
     case DT_REFUSAL_HIGH_BYTE: return "byte of 128 or more";
     case DT_REFUSAL_DIRECTIVE: return "preprocessor directive at a token start";
     case DT_REFUSAL_BAD_KIND: return "bad kind of a token row";

@@ -1,11 +1,12 @@
 /*
- * The devicetree parser: a call that turns token rows into tree rows, lexical errors and reports (dt_parse), and one
- * that does so with a text (dt_parse_text).
+ * The devicetree parser: a call that turns token rows into tree rows, lexical errors and reports (dt_parse), one that
+ * does so with a text (dt_parse_text), and two queries of a source file, which also list rows of its tree: those under
+ * a caret (dt_caret), and the top-level parts that share a byte with a range (dt_parts_in_range).
  *
- * "Document 01" is docs/01-scope.md; the strict setting, the text call and the causes of bad token rows are document
- * 02's requests 1/14, 2/14 and 4/14. What a call answers and what each buffer holds afterwards is in
- * crates/definitions/specs, Call.antt and Text.antt. tools/check-header compares every number below with the
- * definitions and the code. The names and message texts of the numbers are in dt_names.h.
+ * "Document 01" is docs/01-scope.md; the strict setting, the text call, the causes of bad token rows and the queries
+ * are document 02's requests 1/14, 2/14, 4/14 and 5/14. What a call answers and what each buffer holds afterwards is in
+ * crates/definitions/specs, Call.antt, Text.antt and Caret.antt. tools/check-header compares every number below with
+ * the definitions and the code. The names and message texts of the numbers are in dt_names.h.
  *
  * Link: libdt_parser.a (`rt staticlib dt_parser` writes target/staticlib/libdt_parser.a), x86-64 Linux. It needs the C
  * library (memcpy, memmove, memset) and nothing else. `tools/install-library PREFIX` puts library, headers and a file
@@ -28,16 +29,16 @@
  * new minor number says that something a caller relies on has changed, for instance how many numbers a row has.
  */
 #define DT_PARSER_VERSION_MAJOR 0
-#define DT_PARSER_VERSION_MINOR 5
+#define DT_PARSER_VERSION_MINOR 6
 #define DT_PARSER_VERSION_PATCH 0
-/* As one number, to compare in an #if: 0.5.0 is 500, 1.2.3 is 10203. */
+/* As one number, to compare in an #if: 0.6.0 is 600, 1.2.3 is 10203. */
 #define DT_PARSER_VERSION (10000 * DT_PARSER_VERSION_MAJOR + 100 * DT_PARSER_VERSION_MINOR + DT_PARSER_VERSION_PATCH)
 
 #ifdef __cplusplus
 extern "C" {
 #endif
 
-/* What is parsed: the first argument of a call. */
+/* What is parsed: the first argument of dt_parse and dt_parse_text. A query is of a source file. */
 enum dt_entry {
     DT_ENTRY_SOURCE_FILE = 1,     /* a whole file */
     DT_ENTRY_REFERENCE_NOAMP = 2, /* a reference after its & */
@@ -46,8 +47,8 @@ enum dt_entry {
 };
 
 /*
- * What is reported: the second argument of a call. 0 is the old setting, and any other number the strict one, which
- * adds the reports of DT_MESSAGE_NOT_A_LABEL and changes nothing else of an accepted call.
+ * What is reported: an argument of each call. 0 is the old setting, and any other number the strict one, which adds the
+ * reports of DT_MESSAGE_NOT_A_LABEL and changes nothing else of an accepted call.
  */
 enum dt_setting { DT_SETTING_OLD = 0, DT_SETTING_STRICT = 1 };
 
@@ -59,7 +60,10 @@ enum dt_setting { DT_SETTING_OLD = 0, DT_SETTING_STRICT = 1 };
  *   4            row by row
  *   5 to 8       of 5 to 7 the first that a run meets is given
  * dt_parse_text tries 1; 2 for bytes; 9 and 10, of which the one at the lower offset is given; 2 for token numbers;
- * then 5 to 8. It never gives 3, 4 or 11 to 13. Rows are counted from 0.
+ * then 5 to 8. It never gives 3, 4 or 11 to 13.
+ * dt_caret and dt_parts_in_range try what dt_parse tries for a source file, and then 8 for the list. They never give 1,
+ * 9 or 10.
+ * Rows are counted from 0.
  */
 enum dt_refusal {
     DT_ACCEPTED = 0,
@@ -73,7 +77,7 @@ enum dt_refusal {
     DT_REFUSAL_NO_EVENT_ROOM = 6,  /* the next event does not fit; place: the mark */
     DT_REFUSAL_NO_REPORT_ROOM = 7, /* a report or its expectations do not fit; place: the mark. A report of the strict
                                       setting is tried after the run, whether the tree fits or not: so before 8 */
-    DT_REFUSAL_NO_TREE_ROOM = 8,   /* the tree or the lexical errors do not fit; place 0 */
+    DT_REFUSAL_NO_TREE_ROOM = 8,   /* the tree or the lexical errors do not fit, or the list of a query; place 0 */
     DT_REFUSAL_HIGH_BYTE = 9,      /* of a text: a byte of 128 or more, wherever it stands; place: its offset */
     DT_REFUSAL_DIRECTIVE = 10,     /* of a text: # where a token starts, any spaces or tabs, then what begins with if,
                                       elif, else, endif, pragma, define, undef, include or error, as #ifdef and the
@@ -366,6 +370,13 @@ enum dt_expected {
          ? DT_ROW_TOKEN * (size_t)(bytes)                          \
          : (size_t)DT_MAX_TOKEN_NUMBERS)
 
+/*
+ * Of dt_caret and dt_parts_in_range: a length of list that suffices beside a tree buffer of so many numbers. No row is
+ * in a list twice, so that it fits where the tree does: 8 is then about the tree or the lexical errors, and never about
+ * the list.
+ */
+#define DT_LIST_FOR(trees_len) ((size_t)(trees_len) / DT_ROW_TREE)
+
 /* Counts are 0 unless number is DT_ACCEPTED. */
 struct dt_answer {
     uint32_t number;          /* enum dt_refusal */
@@ -380,6 +391,12 @@ struct dt_answer {
 struct dt_text_answer {
     struct dt_answer answer;
     size_t token_count; /* token rows written */
+};
+
+/* The answer to a query. The count is 0 unless answer.number is DT_ACCEPTED. */
+struct dt_list_answer {
+    struct dt_answer answer;
+    size_t list_count; /* row numbers written to the list */
 };
 
 /*
@@ -447,6 +464,65 @@ struct dt_text_answer dt_parse_text(uint32_t entry, uint32_t setting,
                                     uint32_t *errors, size_t errors_len,
                                     uint32_t *reports, size_t reports_len,
                                     uint32_t *pool, size_t pool_len);
+
+/*
+ * What is under a caret in a source file: the tree rows from the root to the leaf there. The file is parsed first, as
+ * dt_parse does it with DT_ENTRY_SOURCE_FILE; one with reports is answered too.
+ *
+ * The list has numbers of tree rows, the root's, 0, first and the leaf's last. Number i of it is the row
+ * `(const struct dt_tree_row *)trees + list[i]`, whose children and text are found as for any row.
+ *
+ * A leaf owns its first byte and not its end, which is the next leaf's. So, for a file that is not empty:
+ *   offset < bytes_len     the leaf that owns the byte at the offset, and the nodes around it
+ *   offset == bytes_len    the last leaf, and the nodes around it
+ *   offset > bytes_len     no row: accepted, and list_count is 0
+ * In an empty file offset 0 gives the root alone, and any other offset no row. No other row of width 0 is in a list, as
+ * the empty node after a `/delete-node/` that ends the file: the last row, but no leaf.
+ *
+ * setting         as dt_parse has it. The list does not depend on it
+ * offset          in bytes; any number
+ * list            row numbers
+ * All other arguments are those of dt_parse.
+ *
+ * Before the call the six lent buffers may hold anything. Afterwards:
+ *   accepted                       what dt_parse leaves in its five; the row numbers that the answer counts at the
+ *                                  front of list, the rest of it zero
+ *   refused, 2 to 4 and 11 to 13   every buffer is as it was, list too
+ *   refused, 5 to 8                every number of every buffer is zero, list too
+ * A list that does not fit is refused with 8, after all that dt_parse tries. DT_LIST_FOR has a length that suffices.
+ *
+ * Memory, overlap, alignment and NULL are as for dt_parse, with list as a sixth lent buffer: it must not overlap any
+ * other, nor bytes or tokens.
+ */
+struct dt_list_answer dt_caret(uint32_t setting, uint64_t offset,
+                               const uint8_t *bytes, size_t bytes_len,
+                               const uint32_t *tokens, size_t tokens_len,
+                               uint32_t *events, size_t events_len,
+                               uint32_t *trees, size_t trees_len,
+                               uint32_t *errors, size_t errors_len,
+                               uint32_t *reports, size_t reports_len,
+                               uint32_t *pool, size_t pool_len,
+                               uint32_t *list, size_t list_len);
+
+/*
+ * The top-level parts of a source file that share a byte with a range, in order. A part is any child of the root: a
+ * node, and a blank or a comment between two of them.
+ *
+ * start, end      the range in bytes, from start up to end, which it does not hold; any numbers. A part that only ends
+ *                 at start, or starts at end, shares no byte with it. An empty range (start == end) and a reversed one
+ *                 (start > end) share no byte with any part, and neither does a part of width 0 with any range. The
+ *                 range may go past the file
+ * All else is as for dt_caret.
+ */
+struct dt_list_answer dt_parts_in_range(uint32_t setting, uint64_t start, uint64_t end,
+                                        const uint8_t *bytes, size_t bytes_len,
+                                        const uint32_t *tokens, size_t tokens_len,
+                                        uint32_t *events, size_t events_len,
+                                        uint32_t *trees, size_t trees_len,
+                                        uint32_t *errors, size_t errors_len,
+                                        uint32_t *reports, size_t reports_len,
+                                        uint32_t *pool, size_t pool_len,
+                                        uint32_t *list, size_t list_len);
 
 #ifdef __cplusplus
 }

@@ -4,7 +4,7 @@ use dt_parser_layout::{ENTRY_CELLS, ENTRY_SOURCE_FILE, MAX_TOKENS};
 use oracle::case::{Case, Rows};
 use oracle::generate;
 use oracle::token::TokenKind::{
-    self, Colon, Comma, Equals, Ident, LParen, Number, Plus, RCurly, RParen, Semicolon, Whitespace,
+    self, Colon, Comma, Equals, Ident, LAngle, LParen, Number, Plus, RAngle, RCurly, RParen, Semicolon, Whitespace,
 };
 use oracle::token::{self, LexError};
 
@@ -30,6 +30,14 @@ const PATTERNS: &[(&str, u32, Tokens, Tokens, Tokens)] = &[
         &[(Ok(LParen), "(")],
         &[(Ok(Number), "1"), (Ok(Plus), "+")],
         &[(Ok(Number), "1"), (Ok(RParen), ")")],
+    ),
+    // the same in a source file
+    (
+        "sum",
+        ENTRY_SOURCE_FILE,
+        &[(Ok(Ident), "a"), (Ok(Equals), "="), (Ok(LAngle), "<"), (Ok(LParen), "(")],
+        &[(Ok(Number), "1"), (Ok(Plus), "+")],
+        &[(Ok(Number), "1"), (Ok(RParen), ")"), (Ok(RAngle), ">"), (Ok(Semicolon), ";")],
     ),
     // a report for each token
     ("braces", ENTRY_SOURCE_FILE, &[], &[(Ok(RCurly), "}")], &[]),

@@ -1,8 +1,8 @@
 //! The static library in one of its settings, with lent buffers that just suffice.
 use crate::input::Input;
-use dt_parser_ffi::{Answer, Lent, TextAnswer};
+use dt_parser_ffi::{Answer, Lent, ListAnswer, Query, TextAnswer};
 use dt_parser_layout::{
-    ACCEPTED, BUFFERS, ERRORS, EVENTS, Lengths, POOL, REFUSAL_NO_EVENT_ROOM, REFUSAL_NO_REPORT_ROOM,
+    ACCEPTED, BUFFERS, ENTRY_SOURCE_FILE, ERRORS, EVENTS, Lengths, POOL, REFUSAL_NO_EVENT_ROOM, REFUSAL_NO_REPORT_ROOM,
     REFUSAL_NO_TREE_ROOM, REPORTS, ROW_EVENT, SETTING_OLD, TREES,
 };
 
@@ -96,5 +96,27 @@ impl TextPort {
         let (tokens, buffers) = (lent(&mut self.tokens), self.port.buffers.each_mut().map(lent));
         // Safety: six vectors of those lengths, borrowed alone
         unsafe { dt_parser_ffi::parse_text_lent(input.entry, SETTING_OLD, input.text.as_bytes(), tokens, buffers) }
+    }
+}
+
+/// The calls that ask for rows of a source file.
+pub struct QueryPort {
+    list: Vec<u32>,
+    pub port: Port,
+}
+
+impl QueryPort {
+    /// So many numbers for the list, and the buffers of the parse.
+    pub fn with(list: usize, lengths: Lengths) -> QueryPort {
+        QueryPort { list: vec![0x5A5A5A5A; list], port: Port::with(SETTING_OLD, lengths) }
+    }
+
+    pub fn ask(&mut self, query: Query, input: &Input) -> ListAnswer {
+        assert_eq!(input.entry, ENTRY_SOURCE_FILE, "{}: no source file", input.name);
+        let lent = |b: &mut Vec<u32>| Lent { numbers: b.as_mut_ptr(), len: b.len() };
+        let (list, buffers) = (lent(&mut self.list), self.port.buffers.each_mut().map(lent));
+        let bytes = input.text.as_bytes();
+        // Safety: six vectors of those lengths, borrowed alone
+        unsafe { dt_parser_ffi::query_lent(query, SETTING_OLD, bytes, &input.tokens, buffers, list) }
     }
 }

@@ -2,7 +2,7 @@
 #include <stdlib.h>
 #include <string.h>
 
-enum { EVENTS, TREES, ERRORS, REPORTS, POOL, TOKENS };
+enum { EVENTS, TREES, ERRORS, REPORTS, POOL, TOKENS, LIST };
 
 static int resize(struct buffer *b, size_t len)
 {
@@ -33,13 +33,31 @@ static struct dt_text_answer call_text(const struct input *in, const struct buff
                          b[ERRORS].len, b[REPORTS].numbers, b[REPORTS].len, b[POOL].numbers, b[POOL].len);
 }
 
-/* One call, with the input's tokens or with those that it reads. */
-static void call_once(const struct input *in, struct parsed *out)
+static struct dt_list_answer call_query(const struct input *in, const struct query *q, const struct buffer *b)
 {
-    if (in->tokens) {
+    const uint32_t *tokens = (const uint32_t *)in->tokens;
+    const size_t tokens_len = DT_ROW_TOKEN * in->tokens_count;
+    if (q->is_caret)
+        return dt_caret(in->setting, q->start, in->bytes, in->bytes_len, tokens, tokens_len, b[EVENTS].numbers,
+                        b[EVENTS].len, b[TREES].numbers, b[TREES].len, b[ERRORS].numbers, b[ERRORS].len,
+                        b[REPORTS].numbers, b[REPORTS].len, b[POOL].numbers, b[POOL].len, b[LIST].numbers, b[LIST].len);
+    return dt_parts_in_range(in->setting, q->start, q->end, in->bytes, in->bytes_len, tokens, tokens_len,
+                             b[EVENTS].numbers, b[EVENTS].len, b[TREES].numbers, b[TREES].len, b[ERRORS].numbers,
+                             b[ERRORS].len, b[REPORTS].numbers, b[REPORTS].len, b[POOL].numbers, b[POOL].len,
+                             b[LIST].numbers, b[LIST].len);
+}
+
+/* One call: of a query if there is one, else with the input's tokens or with those that it reads. */
+static void call_once(const struct input *in, const struct query *q, struct parsed *out)
+{
+    out->tokens = in->tokens;
+    out->tokens_count = in->tokens_count;
+    if (q) {
+        struct dt_list_answer a = call_query(in, q, out->buffers);
+        out->answer = a.answer;
+        out->list_count = a.list_count;
+    } else if (in->tokens) {
         out->answer = call(in, out->buffers);
-        out->tokens = in->tokens;
-        out->tokens_count = in->tokens_count;
     } else {
         struct dt_text_answer a = call_text(in, out->buffers);
         out->answer = a.answer;
@@ -48,17 +66,24 @@ static void call_once(const struct input *in, struct parsed *out)
     }
 }
 
+/* The list of a query gets a number for each tree row that there is room for, so that it fits where the tree does. 8
+   does not say which buffer is too short; like this it is never the list. */
+static int make_room_for_list(struct buffer *b)
+{
+    return resize(&b[LIST], DT_LIST_FOR(b[TREES].len));
+}
+
 /* Starts with no room at all but for tokens, and grows what a refusal names. The bounds DT_..._FOR end this for every
    input. */
-int parse(const struct input *in, struct parsed *out)
+static int call_growing(const struct input *in, const struct query *q, struct parsed *out)
 {
     struct buffer *b = out->buffers;
     int room = 1;
     memset(out, 0, sizeof *out);
     if (!in->tokens)
         room = resize(&b[TOKENS], DT_TOKENS_FOR(in->bytes_len));
-    while (room) {
-        call_once(in, out);
+    while (room && (!q || make_room_for_list(b))) {
+        call_once(in, q, out);
         switch (out->answer.number) {
         case DT_REFUSAL_NO_EVENT_ROOM:
             room = grow(&b[EVENTS]);
@@ -74,10 +99,21 @@ int parse(const struct input *in, struct parsed *out)
             out->errors = (const struct dt_error_row *)b[ERRORS].numbers;
             out->reports = (const struct dt_report_row *)b[REPORTS].numbers;
             out->pool = b[POOL].numbers;
+            out->list = b[LIST].numbers;
             return 1;
         }
     }
     return 0;
+}
+
+int parse(const struct input *in, struct parsed *out)
+{
+    return call_growing(in, NULL, out);
+}
+
+int query(const struct input *in, const struct query *q, struct parsed *out)
+{
+    return call_growing(in, q, out);
 }
 
 void free_parsed(struct parsed *out)

@@ -14,6 +14,14 @@ struct input {
     size_t tokens_count;
 };
 
+/* What is asked of a source file: what is under a caret at the offset start, or which top-level parts share a byte with
+   the range from start up to end. */
+struct query {
+    int is_caret;
+    uint64_t start;
+    uint64_t end; /* of a range */
+};
+
 /* A buffer to lend: so many numbers. */
 struct buffer {
     uint32_t *numbers;
@@ -21,7 +29,7 @@ struct buffer {
 };
 
 /* What a call gave. The rows are those that the answer counts, and lie in the buffers; the tokens are the input's own
-   if it has them. */
+   if it has them, and the list is a query's. */
 struct parsed {
     struct dt_answer answer;
     const struct dt_token_row *tokens;
@@ -30,11 +38,15 @@ struct parsed {
     const struct dt_error_row *errors;
     const struct dt_report_row *reports;
     const uint32_t *pool;
-    struct buffer buffers[6];
+    const uint32_t *list;
+    size_t list_count;
+    struct buffer buffers[7];
 };
 
-/* 0 if there was no memory. free_parsed must be called in every case. */
+/* 0 if there was no memory. free_parsed must be called in every case. A query needs the input's tokens, and takes them
+   for a source file's. */
 int parse(const struct input *in, struct parsed *out);
+int query(const struct input *in, const struct query *q, struct parsed *out);
 void free_parsed(struct parsed *out);
 
 #endif

@@ -108,6 +108,23 @@ void print_nodes(const struct input *in, const struct parsed *p)
     print_children(in, p, 0, 0, 0);
 }
 
+/* The list's numbers are in the order of the rows, so that one walk over the rows finds where each starts. */
+void print_list(const struct input *in, const struct parsed *p)
+{
+    enum { LONGEST = 40 };
+    size_t start = 0, row = 0, i;
+    for (i = 0; i < p->list_count; i++) {
+        const struct dt_tree_row *listed = p->trees + p->list[i];
+        int is_node = listed->class_ == DT_CLASS_NODE, is_long = listed->width > LONGEST;
+        const char *name = is_node ? dt_node_name(listed->kind) : dt_token_name(listed->kind);
+        for (; row < p->list[i]; row++)
+            start += p->trees[row].class_ == DT_CLASS_LEAF ? p->trees[row].width : 0;
+        printf("row %zu: %s@%zu..%zu \"", row, name, start, start + listed->width);
+        print_text(in->bytes, start, start + (is_long ? (size_t)LONGEST : listed->width));
+        puts(is_long ? "\".." : "\"");
+    }
+}
+
 /* The words for the first token from this index on that is not trivia; NULL at the end of the input. */
 static const char *found_text(const struct parsed *p, size_t token)
 {

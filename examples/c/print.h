@@ -10,6 +10,9 @@ int print_tree(const struct input *in, const struct parsed *p);
 /* The devicetree nodes, each with what stands before its brace. */
 void print_nodes(const struct input *in, const struct parsed *p);
 
+/* The rows of a query's list, each with its number, its range and how its text begins. */
+void print_list(const struct input *in, const struct parsed *p);
+
 /* Lexical errors and reports, in the words of dt-tools. */
 void print_messages(const struct parsed *p);
 

@@ -6,10 +6,10 @@
  *                               ../overlay.rows; --strict: in the setting that also reports labels which the Devicetree
  *                               Specification does not allow
  */
+#include "file.h"
 #include "print.h"
 #include "refusal.h"
-#include "rowsfile.h"
-#include <stdlib.h>
+#include <stdio.h>
 #include <string.h>
 
 static int fail(const char *what)
@@ -37,55 +37,20 @@ static int run(const struct input *in)
     return status;
 }
 
-/* A text, whose tokens dt_parse_text reads. */
-static int run_text(const uint8_t *bytes, size_t len, uint32_t setting)
-{
-    struct input in = {DT_ENTRY_SOURCE_FILE, setting, bytes, len, NULL, 0};
-    return run(&in);
-}
-
-/* A node that is left open. */
+/* A node that is left open. dt_parse_text reads the tokens. */
 static int run_example(void)
 {
     static const uint8_t bytes[] = {'a', '{', 'b', '=', '<', '(', '1', '-', '2', ')', '>'};
-    return run_text(bytes, sizeof bytes, DT_SETTING_OLD);
-}
-
-static int run_rows(FILE *from, uint32_t setting)
-{
-    struct rowsfile file;
-    const char *wrong = read_rowsfile(from, &file);
-    struct input in = {file.entry, setting, file.bytes, file.bytes_len, file.tokens, file.tokens_count};
-    int status = wrong ? fail(wrong) : run(&in);
-    free(file.tokens);
-    free(file.bytes);
-    return status;
-}
-
-/* A source that is longer than a call takes is refused: no more of it is needed than one byte over the limit. */
-static int run_source(FILE *from, uint32_t setting)
-{
-    enum { MOST = DT_MAX_BYTES + 1 };
-    uint8_t *bytes = (uint8_t *)malloc(MOST);
-    int status = 2;
-    if (!bytes) {
-        fail("no memory");
-    } else {
-        size_t len = fread(bytes, 1, MOST, from);
-        status = ferror(from) ? fail("the file cannot be read") : run_text(bytes, len, setting);
-    }
-    free(bytes);
-    return status;
+    const struct input in = {DT_ENTRY_SOURCE_FILE, DT_SETTING_OLD, bytes, sizeof bytes, NULL, 0};
+    return run(&in);
 }
 
 static int run_file(const char *name, uint32_t setting)
 {
-    int status;
-    FILE *from = fopen(name, "rb");
-    if (!from)
-        return fail("no such file");
-    status = is_rowsfile(from) ? run_rows(from, setting) : run_source(from, setting);
-    fclose(from);
+    struct input in;
+    const char *wrong = read_input(name, setting, &in);
+    int status = wrong ? fail(wrong) : run(&in);
+    free_input(&in);
     return status;
 }
 

@@ -1,5 +1,6 @@
-//! The exported calls `dt_parse` and `dt_parse_text` as ../../include/dt_parser.h declares them, over slices that need
-//! not be Rust's own. For the programs that try the static library; bindings/rust is for callers.
+//! The exported calls `dt_parse`, `dt_parse_text`, `dt_caret` and `dt_parts_in_range` as ../../include/dt_parser.h
+//! declares them, over slices that need not be Rust's own. For the programs that try the static library; bindings/rust
+//! is for callers.
 
 use dt_parser_layout::{ACCEPTED, BUFFERS, Lengths, ROW};
 
@@ -34,6 +35,23 @@ impl Answer {
 pub struct TextAnswer {
     pub answer: Answer,
     pub token_count: usize,
+}
+
+/// The answer to a query.
+#[repr(C)]
+#[derive(Clone, Copy, Debug, PartialEq, Eq, Default)]
+pub struct ListAnswer {
+    pub answer: Answer,
+    pub list_count: usize,
+}
+
+/// What is asked of a source file.
+#[derive(Clone, Copy, Debug, PartialEq, Eq)]
+pub enum Query {
+    /// The rows from the root to the leaf at this offset: `dt_caret`.
+    Caret(u64),
+    /// The parts that share a byte with a range, from the first offset up to the second: `dt_parts_in_range`.
+    Parts(u64, u64),
 }
 
 /// A slice as C passes it.
@@ -81,6 +99,49 @@ unsafe extern "C" {
         pool: *mut u32,
         pool_len: usize,
     ) -> TextAnswer;
+
+    fn dt_caret(
+        setting: u32,
+        offset: u64,
+        bytes: *const u8,
+        bytes_len: usize,
+        tokens: *const u32,
+        tokens_len: usize,
+        events: *mut u32,
+        events_len: usize,
+        trees: *mut u32,
+        trees_len: usize,
+        errors: *mut u32,
+        errors_len: usize,
+        reports: *mut u32,
+        reports_len: usize,
+        pool: *mut u32,
+        pool_len: usize,
+        list: *mut u32,
+        list_len: usize,
+    ) -> ListAnswer;
+
+    fn dt_parts_in_range(
+        setting: u32,
+        start: u64,
+        end: u64,
+        bytes: *const u8,
+        bytes_len: usize,
+        tokens: *const u32,
+        tokens_len: usize,
+        events: *mut u32,
+        events_len: usize,
+        trees: *mut u32,
+        trees_len: usize,
+        errors: *mut u32,
+        errors_len: usize,
+        reports: *mut u32,
+        reports_len: usize,
+        pool: *mut u32,
+        pool_len: usize,
+        list: *mut u32,
+        list_len: usize,
+    ) -> ListAnswer;
 }
 
 /// One call over memory of any kind, also such as was never written.
@@ -144,6 +205,53 @@ pub unsafe fn parse_text_lent(
             pool.numbers,
             pool.len,
         )
+    }
+}
+
+/// One query of a source file, whose row numbers are written to a buffer of their own; memory as that of `parse_lent`.
+///
+/// # Safety
+/// As that of `parse_lent`, for the buffer of the list too.
+#[inline]
+pub unsafe fn query_lent(
+    query: Query,
+    setting: u32,
+    bytes: &[u8],
+    tokens: &[u32],
+    lent: [Lent; BUFFERS],
+    list: Lent,
+) -> ListAnswer {
+    let [events, trees, errors, reports, pool] = lent;
+    /// The call with its own arguments first, and then those that both calls have.
+    macro_rules! call {
+        ($call:ident($($own:expr),*)) => {
+            $call(
+                setting,
+                $($own,)*
+                bytes.as_ptr(),
+                bytes.len(),
+                tokens.as_ptr(),
+                tokens.len(),
+                events.numbers,
+                events.len,
+                trees.numbers,
+                trees.len,
+                errors.numbers,
+                errors.len,
+                reports.numbers,
+                reports.len,
+                pool.numbers,
+                pool.len,
+                list.numbers,
+                list.len,
+            )
+        };
+    }
+    unsafe {
+        match query {
+            Query::Caret(offset) => call!(dt_caret(offset)),
+            Query::Parts(start, end) => call!(dt_parts_in_range(start, end)),
+        }
     }
 }
 

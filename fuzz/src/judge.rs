@@ -40,10 +40,14 @@ pub enum Wrong {
     Buffer(usize),
     /// The buffer of a text's tokens.
     Tokens,
+    /// The buffer of a query's list.
+    List,
     /// The bytes or the tokens were written to.
     Input,
     /// The unchanged Rust and the patched copy differ.
     Oracle,
+    /// The Rust's own search for what stands at an offset and the reading of request 5/14 differ.
+    Finder,
     /// Document 01's cause 3 and what request 4/14 makes of it are not related as the request says.
     Readings,
     /// The patched copy panicked.

@@ -1,7 +1,10 @@
-//! The static library against the Rust, and in the strict setting, over texts, for binding powers and for bad rows
-//! against a plain reading of their requests, in one process. ../docs/FUZZING.md says what is compared and how it is run.
+//! The static library against the Rust, and in the strict setting, over texts, for binding powers, for bad rows and for
+//! what is under the caret against a plain reading of their requests, in one process. ../docs/FUZZING.md says what is
+//! compared and how it is run.
 mod buffers;
 mod call;
+mod caret;
+mod carets;
 mod exact;
 mod expressions;
 mod judge;
@@ -38,6 +41,10 @@ fuzz rows [--rows N]
     every list of up to N rows (default 3) over telling kinds and lengths, good and bad
 fuzz texts [--bytes N] [--of BYTES]
     every text of up to N bytes (default 4) over an alphabet of telling bytes, or over these
+fuzz carets [--seed N] [--count N] [--first N] [--unchanged N]
+    every offset of so many random files (default 100000), and ranges
+fuzz files FILE..
+    every offset of these, sources or files of token rows
 fuzz exact [--seed N] [--cases N]
     calls over memory that was never written, each buffer as long as it says: for valgrind";
 
@@ -57,18 +64,20 @@ fn bytes_of(args: &[String], name: &str) -> Option<Vec<u8>> {
 fn command(args: &[String]) -> bool {
     let number = |name, other| flag(args, name, other);
     let seed = number("--seed", 1);
-    let plan = || run::Plan {
+    let plan = |cases| run::Plan {
         seed,
-        cases: number("--cases", 100_000),
+        cases: number(cases, 100_000),
         first: number("--first", 0),
         unchanged: number("--unchanged", 1),
     };
     match args.first().map(String::as_str) {
-        Some("run") => run::run(&plan()),
-        Some("text") => texts::run::run(&plan()),
+        Some("run") => run::run(&plan("--cases")),
+        Some("text") => texts::run::run(&plan("--cases")),
+        Some("carets") => carets::run::run(&plan("--count")),
+        Some("files") => carets::files::run(&args[1..]),
         Some("exact") => {
             let cases = number("--cases", 2_000);
-            exact::run(seed, cases) && texts::exact::run(seed, cases)
+            exact::run(seed, cases) && texts::exact::run(seed, cases) && carets::exact::run(seed, cases)
         }
         Some("small") => small::run(number("--tokens", 4) as u32),
         Some("expressions") => expressions::run(number("--operators", 3) as u32),
@@ -76,6 +85,7 @@ fn command(args: &[String]) -> bool {
         Some("texts") => texts::every::run(number("--bytes", 4) as u32, bytes_of(args, "--of").as_deref()),
         Some("repeat") if args.len() == 2 => {
             let again = run::repeat(&args[1]).or_else(|| texts::run::repeat(&args[1]));
+            let again = again.or_else(|| carets::run::repeat(&args[1]));
             again.unwrap_or_else(|| {
                 eprintln!("not a call: {}", args[1]);
                 false

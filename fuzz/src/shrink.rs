@@ -4,30 +4,46 @@ use crate::judge::{Input, Judge};
 use dt_parser_layout::{BUFFERS, COL_TOKEN_KIND, COL_TOKEN_LENGTH, ROW_TOKEN};
 use oracle::token::TokenKind::{Ident, Number, Semicolon};
 
+/// What tells whether a call differs.
+pub trait Differs {
+    fn judge(&mut self) -> &mut Judge;
+    fn differs(&mut self, call: &Call) -> bool;
+}
+
+impl Differs for Judge {
+    fn judge(&mut self) -> &mut Judge {
+        self
+    }
+
+    fn differs(&mut self, call: &Call) -> bool {
+        self.whole(call, true).wrong.is_some()
+    }
+}
+
 /// Tokens left out, then simpler tokens, shorter texts, and buffers with room or exactly fitting.
-pub fn shrink(judge: &mut Judge, mut call: Call) -> Call {
-    if judge.whole(&call, true).wrong.is_none() {
+pub fn shrink(differing: &mut impl Differs, mut call: Call) -> Call {
+    if !differing.differs(&call) {
         println!("the call alone does not differ: it is printed as it is");
         return call;
     }
-    room(judge, &mut call);
+    room(differing, &mut call);
     loop {
         let before = call.clone();
-        shorter(judge, &mut call);
+        shorter(differing, &mut call);
         if call.tokens.len() < 400 {
-            simpler(judge, &mut call);
+            simpler(differing, &mut call);
         }
         if call == before {
             break;
         }
     }
-    room(judge, &mut call);
+    room(differing, &mut call);
     call
 }
 
 /// Takes the smaller call if it differs still.
-fn take(judge: &mut Judge, call: &mut Call, smaller: Call) -> bool {
-    let differs = smaller != *call && judge.whole(&smaller, true).wrong.is_some();
+fn take(differing: &mut impl Differs, call: &mut Call, smaller: Call) -> bool {
+    let differs = smaller != *call && differing.differs(&smaller);
     if differs {
         *call = smaller
     }
@@ -43,7 +59,7 @@ fn bytes_of(call: &Call, from: usize, to: usize) -> std::ops::Range<usize> {
 }
 
 /// Rows left out, many at a time and then one by one; at last single numbers and bytes.
-fn shorter(judge: &mut Judge, call: &mut Call) {
+fn shorter(differing: &mut impl Differs, call: &mut Call) {
     let mut width = (call.tokens.len() / 4).max(1);
     loop {
         let mut at = 0;
@@ -52,7 +68,7 @@ fn shorter(judge: &mut Judge, call: &mut Call) {
             let mut smaller = call.clone();
             smaller.bytes.drain(bytes_of(call, at, to));
             smaller.tokens.drain(ROW_TOKEN * at..ROW_TOKEN * to);
-            if !take(judge, call, smaller) {
+            if !take(differing, call, smaller) {
                 at = to
             }
         }
@@ -63,15 +79,15 @@ fn shorter(judge: &mut Judge, call: &mut Call) {
     }
     let mut odd = call.clone();
     if !odd.tokens.len().is_multiple_of(ROW_TOKEN) && odd.tokens.pop().is_some() {
-        take(judge, call, odd);
+        take(differing, call, odd);
     }
     let mut shorter = call.clone();
     shorter.bytes.truncate(call.bytes.len() / 2);
-    take(judge, call, shorter);
+    take(differing, call, shorter);
 }
 
 /// Each token as a semicolon, an Ident or a Number of one byte; else its text shorter.
-fn simpler(judge: &mut Judge, call: &mut Call) {
+fn simpler(differing: &mut impl Differs, call: &mut Call) {
     let plain = [(Semicolon as u32, b';'), (Ident as u32, b'a'), (Number as u32, b'1')];
     for at in 0..call.tokens.len() / ROW_TOKEN {
         let bytes = bytes_of(call, at, at + 1);
@@ -83,7 +99,7 @@ fn simpler(judge: &mut Judge, call: &mut Call) {
             smaller.bytes.splice(bytes.clone(), [byte]);
             smaller.tokens[kind_index] = kind;
             smaller.tokens[length_index] = 1;
-            if done || take(judge, call, smaller) {
+            if done || take(differing, call, smaller) {
                 break;
             }
         }
@@ -91,19 +107,20 @@ fn simpler(judge: &mut Judge, call: &mut Call) {
 }
 
 /// Buffers with room, or that fit exactly; else each buffer alone that can be so.
-fn room(judge: &mut Judge, call: &mut Call) {
+fn room(differing: &mut impl Differs, call: &mut Call) {
+    let judge = differing.judge();
     let needs = match judge.input(call, false) {
         Ok((Input::Parsed, _)) => judge.needs(call.setting),
         Ok((Input::Bad(..), _)) => [0; BUFFERS],
         Err(_) => return,
     };
     let mut tried = [needs.map(|n| n + 9), needs].into_iter();
-    if tried.any(|lengths| take(judge, call, Call { lengths, ..call.clone() })) {
+    if tried.any(|lengths| take(differing, call, Call { lengths, ..call.clone() })) {
         return;
     }
     for (i, need) in needs.into_iter().enumerate() {
         let mut smaller = call.clone();
         smaller.lengths[i] = need;
-        take(judge, call, smaller);
+        take(differing, call, smaller);
     }
 }

@@ -1,6 +1,6 @@
 /* What a caller in C or C++ relies on, without the library: the structs lie over the rows, the calls are declared, the
-   names are there, dt_after_subtree goes from sibling to sibling, and a token buffer's length is enough. Compiled as C
-   and as C++. */
+   names are there, dt_after_subtree goes from sibling to sibling, and the lengths of a token buffer and a list are
+   enough. Compiled as C and as C++. */
 #include "../random.h"
 #include "dt_names.h"
 #include <stdio.h>
@@ -29,13 +29,22 @@ COLUMN(dt_report_row, hint, DT_COL_REPORT_HINT);
 COLUMN(dt_report_row, label_start, DT_COL_REPORT_LABEL_START);
 COLUMN(dt_report_row, label_end, DT_COL_REPORT_LABEL_END);
 
-/* What the calls take and give, without calling them: the same but for tokens, which dt_parse_text writes. */
+/* What the calls take and give, without calling them: the same but for tokens, which dt_parse_text writes, and the list
+   of a query, whose offsets have 64 bits. */
+#define BYTES ((const uint8_t *)0), 0
+#define TOKENS ((const uint32_t *)0), 0
 #define BUFFER ((uint32_t *)0), 0
-#define GIVES(call, answer) typedef char gives_##answer[sizeof(call) == sizeof(struct answer) ? 1 : -1]
-GIVES(dt_parse(1, 0, (const uint8_t *)0, 0, (const uint32_t *)0, 0, BUFFER, BUFFER, BUFFER, BUFFER, BUFFER), dt_answer);
-GIVES(dt_parse_text(1, 0, (const uint8_t *)0, 0, BUFFER, BUFFER, BUFFER, BUFFER, BUFFER, BUFFER), dt_text_answer);
+#define FIVE BUFFER, BUFFER, BUFFER, BUFFER, BUFFER
+#define GIVES(call, arguments, answer) \
+    typedef char gives_##call[sizeof(call arguments) == sizeof(struct answer) ? 1 : -1]
+GIVES(dt_parse, (1, 0, BYTES, TOKENS, FIVE), dt_answer);
+GIVES(dt_parse_text, (1, 0, BYTES, BUFFER, FIVE), dt_text_answer);
+GIVES(dt_caret, (0, UINT64_MAX, BYTES, TOKENS, FIVE, BUFFER), dt_list_answer);
+GIVES(dt_parts_in_range, (0, UINT64_MAX, UINT64_MAX, BYTES, TOKENS, FIVE, BUFFER), dt_list_answer);
 typedef char answer_first[offsetof(struct dt_text_answer, answer) == 0 ? 1 : -1];
 typedef char count_last[offsetof(struct dt_text_answer, token_count) == sizeof(struct dt_answer) ? 1 : -1];
+typedef char list_answer_first[offsetof(struct dt_list_answer, answer) == 0 ? 1 : -1];
+typedef char list_count_last[offsetof(struct dt_list_answer, list_count) == sizeof(struct dt_answer) ? 1 : -1];
 
 #if DT_PARSER_VERSION < 100
 #error "the version cannot be compared"
@@ -108,6 +117,18 @@ static void check_token_room(void)
     expect(DT_TOKENS_FOR(1 ? 3 : 4) == 6, "DT_TOKENS_FOR: an expression");
 }
 
+/* A number for each whole row of a tree buffer; and a constant, as above. */
+static void check_list_room(void)
+{
+    static uint32_t list[DT_LIST_FOR(DT_TREES_FOR(100))];
+    size_t numbers;
+    expect(sizeof list == 601 * sizeof *list, "DT_LIST_FOR: an array's length");
+    for (numbers = 0; numbers < 100; numbers++)
+        expect(DT_LIST_FOR(numbers) == numbers / 4, "DT_LIST_FOR");
+    expect(DT_LIST_FOR(SIZE_MAX) == SIZE_MAX / 4, "DT_LIST_FOR: the longest buffer");
+    expect(DT_LIST_FOR(1 ? 8 : 4) == 2, "DT_LIST_FOR: an expression");
+}
+
 /* The numbers from first to last have names that differ from each other, and no other number has one. */
 static void check_names(const char *(*name)(uint32_t), uint32_t first, uint32_t last, const char *what)
 {
@@ -149,6 +170,7 @@ int main(void)
 {
     check_trees();
     check_token_room();
+    check_list_room();
     check_all_names();
     return 0;
 }

@@ -2,7 +2,7 @@
    and calls at the limits of size.
    The causes that come before a parse are worked out again, those of rows in rows.h and those of a text in text.h; of
    every call it is checked what the buffers hold afterwards. */
-#include "../random.h"
+#include "random_rows.h"
 #include "rows.h"
 #include "text.h"
 
@@ -56,11 +56,6 @@ static void check_labels(const char *name, uint32_t setting, const struct dt_rep
     }
 }
 
-static uint32_t random_setting(void)
-{
-    return below(2) ? DT_SETTING_OLD : below(2) ? DT_SETTING_STRICT : below(4294967295u);
-}
-
 /* Number, place, counts and buffers agree with one another and with the early causes. Gives the answer. */
 static struct dt_answer checked(const char *name, uint32_t entry, const uint8_t *bytes, size_t n,
                                 const uint32_t *tokens, size_t t, struct buffer *b)
@@ -89,69 +84,17 @@ static struct dt_answer checked(const char *name, uint32_t entry, const uint8_t 
     return a;
 }
 
-/* A row of one byte: a kind whose text is that byte, or a kind of any text. */
-static uint32_t random_kind(uint8_t *byte)
-{
-    static const char TEXTS[] = ",=;&:@{}<>()+-*/%|^~!?";
-    static const uint8_t KINDS[] = {
-        DT_TOKEN_COMMA, DT_TOKEN_EQUALS, DT_TOKEN_SEMICOLON, DT_TOKEN_AMPERSAND, DT_TOKEN_COLON, DT_TOKEN_AT_SIGN,
-        DT_TOKEN_LCURLY, DT_TOKEN_RCURLY, DT_TOKEN_LANGLE, DT_TOKEN_RANGLE, DT_TOKEN_LPAREN, DT_TOKEN_RPAREN,
-        DT_TOKEN_PLUS, DT_TOKEN_MINUS, DT_TOKEN_ASTERISK, DT_TOKEN_SLASH, DT_TOKEN_MODULO, DT_TOKEN_BITWISE_OR,
-        DT_TOKEN_BITWISE_XOR, DT_TOKEN_BITWISE_NOT, DT_TOKEN_LOGICAL_NOT, DT_TOKEN_QUESTION_MARK,
-    };
-    /* names and numbers more often than the others */
-    static const uint8_t FREE[] = {
-        DT_TOKEN_WHITESPACE, DT_TOKEN_BLOCK_COMMENT, DT_TOKEN_LINE_COMMENT, DT_TOKEN_IF_DIRECTIVE,
-        DT_TOKEN_IFDEF_DIRECTIVE, DT_TOKEN_ELIF_DIRECTIVE, DT_TOKEN_ELSE_DIRECTIVE, DT_TOKEN_ENDIF_DIRECTIVE,
-        DT_TOKEN_DEFINE_DIRECTIVE, DT_TOKEN_IDENT, DT_TOKEN_IDENT, DT_TOKEN_IDENT, DT_TOKEN_STRING, DT_TOKEN_CHAR,
-        DT_TOKEN_NUMBER, DT_TOKEN_NUMBER, DT_TOKEN_DT_BYTESTRING, DT_TOKEN_FIRST_LEX_ERROR, DT_TOKEN_LAST_LEX_ERROR,
-    };
-    if (below(3) == 0)
-        return FREE[below(sizeof FREE)];
-    uint32_t i = below(sizeof KINDS);
-    *byte = (uint8_t)TEXTS[i];
-    return KINDS[i];
-}
-
-/* A kind or a length that is often wrong. Added to others, some lengths wrap in 32 bits to one that would be right. */
-static uint32_t random_number(void)
-{
-    static const uint32_t EDGES[] = {
-        0, 1, 2, 24, 25, 26, 27, 60, 61, 63, 64, 74, 75, 2147483647, 2147483648u, 4294967294u, 4294967295u,
-    };
-    return below(3) == 0 ? EDGES[below(sizeof EDGES / sizeof *EDGES)] : below(2) ? below(80) : below(4294967295u);
-}
-
-/* Rows that could be right, except in one call of three for up to three random numbers in them; sometimes with another
-   entry, another count of bytes, a number left out or one left over. */
+/* Random rows; sometimes another entry. */
 static void random_call(size_t *met, size_t *short_totals)
 {
-    enum { MOST = 64 };
-    uint8_t bytes[MOST];
-    struct dt_token_row rows[MOST + 1];
-    uint32_t *tokens = (uint32_t *)rows, entry = DT_ENTRY_SOURCE_FILE + below(DT_ENTRY_CELLS);
+    struct random_rows in = random_rows();
+    uint32_t entry = below(20) ? DT_ENTRY_SOURCE_FILE + below(DT_ENTRY_CELLS) : below(7);
     struct buffer b[BUFFERS];
-    size_t n = below(MOST + 1), t = DT_ROW_TOKEN * n;
-    for (size_t i = 0; i < MOST; i++)
-        bytes[i] = (uint8_t)below(256);
-    for (size_t i = 0; i < n; i++) {
-        rows[i].kind = random_kind(&bytes[i]);
-        rows[i].length = 1;
-    }
-    for (uint32_t i = below(3) ? 0 : 1 + below(3); i > 0 && t > 0; i--)
-        tokens[below((uint32_t)t)] = random_number();
-    if (below(20) == 0)
-        entry = below(7);
-    if (below(20) == 0)
-        n = below(MOST + 1);
-    tokens[t] = random_number();
-    if (below(20) == 0)
-        t = below(2) && t > 0 ? t - 1 : t + 1;
     for (int i = 0; i < BUFFERS; i++)
-        b[i] = lend(below(8) ? 700 + below(4000) : below(200));
-    struct dt_answer a = checked("garbage", entry, bytes, n, tokens, t, b);
+        b[i] = lend(random_length());
+    struct dt_answer a = checked("garbage", entry, in.bytes, in.n, (const uint32_t *)in.rows, in.t, b);
     met[a.number]++;
-    *short_totals += a.number == DT_REFUSAL_BAD_END && a.place == t / DT_ROW_TOKEN;
+    *short_totals += a.number == DT_REFUSAL_BAD_END && a.place == in.t / DT_ROW_TOKEN;
 }
 
 /* Adds a piece of a text: what tokens and directives are made of, or bytes. */
@@ -187,7 +130,7 @@ static void random_text(size_t *met)
     if (below(20) == 0)
         t.entry = below(7);
     for (int i = 0; i < BUFFERS; i++)
-        lengths[i] = below(8) ? 700 + below(4000) : below(200);
+        lengths[i] = random_length();
     lengths[TOKENS] = DT_TOKENS_FOR(t.n) + below(3);
     struct dt_text_answer a = checked_text(&t, lengths);
     met[a.answer.number]++;

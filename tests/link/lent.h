@@ -1,12 +1,18 @@
 /* Buffers to lend: full of a number that no row holds, with a guard on either side. */
+#ifndef LENT_H
+#define LENT_H
+
 #include "dt_parser.h"
 #include <stdio.h>
 #include <stdlib.h>
+#include <string.h>
 
 #define LENT 4042322160u
 
-/* What a call writes; a call with a text writes tokens too. */
-enum { EVENTS, TREES, ERRORS, REPORTS, POOL, BUFFERS, TOKENS = BUFFERS, TEXT_BUFFERS };
+/* What a call writes; a call with a text writes tokens too, and a query a list. */
+enum { EVENTS, TREES, ERRORS, REPORTS, POOL, BUFFERS };
+enum { TOKENS = BUFFERS, TEXT_BUFFERS };
+enum { LIST = BUFFERS, QUERY_BUFFERS };
 
 struct buffer {
     uint32_t *numbers;
@@ -50,6 +56,36 @@ static void give_back(const char *name, struct buffer b)
     free(b.numbers - 1);
 }
 
+static void lend_all(struct buffer *b, const size_t *lengths, int count)
+{
+    for (int i = 0; i < count; i++)
+        b[i] = lend(lengths[i]);
+}
+
+static void give_all_back(const char *name, struct buffer *b, int count)
+{
+    for (int i = 0; i < count; i++)
+        give_back(name, b[i]);
+}
+
+static int are_same(struct buffer a, struct buffer b)
+{
+    return a.length == b.length && memcmp(a.numbers, b.numbers, a.length * sizeof(uint32_t)) == 0;
+}
+
+static int are_same_answers(struct dt_answer a, struct dt_answer b)
+{
+    return a.number == b.number && a.place == b.place && a.tree_count == b.tree_count &&
+           a.error_count == b.error_count && a.report_count == b.report_count &&
+           a.expectation_count == b.expectation_count;
+}
+
+/* Refused by the parse, or by what comes after it: every buffer is cleared. */
+static int is_cleared(uint32_t number)
+{
+    return number >= DT_REFUSAL_TOO_DEEP && number <= DT_REFUSAL_NO_TREE_ROOM;
+}
+
 static struct dt_answer call(uint32_t entry, uint32_t setting, const uint8_t *bytes, size_t n, const uint32_t *tokens,
                              size_t t, struct buffer *b)
 {
@@ -58,8 +94,8 @@ static struct dt_answer call(uint32_t entry, uint32_t setting, const uint8_t *by
                     b[POOL].numbers, b[POOL].length);
 }
 
-/* How many numbers of each buffer an answer counts. */
-static void counted(struct dt_answer a, size_t *out)
+/* How many numbers of each buffer an answer counts. Inline, since queries.c does not ask. */
+static inline void counted(struct dt_answer a, size_t *out)
 {
     out[EVENTS] = 0;
     out[TREES] = a.tree_count * DT_ROW_TREE;
@@ -67,3 +103,5 @@ static void counted(struct dt_answer a, size_t *out)
     out[REPORTS] = a.report_count * DT_ROW_REPORT;
     out[POOL] = a.expectation_count;
 }
+
+#endif

@@ -1,7 +1,10 @@
 /* Runs the cases of a list, in the form that crates/replay says, and prints what the gate's program prints. Each
    accepted call is made again with buffers that just hold its answer, and with one number fewer of each.
    With --text: takes the bytes of each case as a text, checks the call as text.h says, in token buffers that just fit,
-   that are one number short and one too long, and prints how often each answer was given. */
+   that are one number short and one too long, and prints how often each answer was given.
+   With --queries: asks each case as a source file at every offset, and for ranges from there, checks the query as
+   query.h says, in lists that just fit and that are one number short, and prints how often each answer was given. */
+#include "query.h"
 #include "text.h"
 
 static const char LETTERS[] = "-txre";
@@ -108,8 +111,8 @@ static void run_case(const struct one *c)
         give_back(c->name, b[i]);
 }
 
-/* Answers to texts, by number. */
-static size_t met[DT_REFUSAL_DIRECTIVE + 1];
+/* Answers to texts and queries, by number. */
+static size_t met[DT_REFUSAL_BAD_END + 1];
 
 static uint32_t run_text(const struct one *c, size_t tokens)
 {
@@ -135,23 +138,51 @@ static void run_texts(const struct one *c)
         fail(c->name, "another answer in a token buffer that just fits, is one longer or one short");
 }
 
+/* A query with room for every list, in a list that just fits, and in one that is a number short. */
+static void run_query(const struct one *c, int is_caret, uint64_t start, uint64_t end)
+{
+    struct query q = {c->name, is_caret, (uint32_t)c->head[3], start, end, c->bytes, c->head[1], c->tokens, c->head[0]};
+    size_t lengths[QUERY_BUFFERS], found, same;
+    memcpy(lengths, c->head + 4, BUFFERS * sizeof *lengths);
+    lengths[LIST] = DT_LIST_FOR(lengths[TREES]);
+    met[checked_query(&q, lengths, &found).answer.number]++;
+    for (size_t missing = 0; found > 0 && missing <= 1; missing++) {
+        lengths[LIST] = found - missing;
+        met[checked_query(&q, lengths, &same).answer.number]++;
+    }
+}
+
+static void run_queries(const struct one *c)
+{
+    size_t n = c->head[1];
+    for (size_t offset = 0; offset < n + 2; offset++) {
+        run_query(c, 1, offset, 0);
+        run_query(c, 0, offset, offset + offset % 9);
+    }
+    run_query(c, 1, UINT64_MAX, 0);
+    run_query(c, 0, 0, UINT64_MAX);
+}
+
 int main(int argc, char **argv)
 {
     int is_text = argc == 3 && strcmp(argv[1], "--text") == 0;
-    FILE *f = argc == 2 + is_text ? fopen(argv[argc - 1], "rb") : NULL;
+    int is_query = argc == 3 && strcmp(argv[1], "--queries") == 0;
+    FILE *f = argc == 2 + (is_text || is_query) ? fopen(argv[argc - 1], "rb") : NULL;
     if (!f)
-        fail("usage", "replay [--text] LIST");
+        fail("usage", "replay [--text | --queries] LIST");
     struct one c;
     while (read_one(f, &c)) {
         if (is_text)
             run_texts(&c);
+        else if (is_query)
+            run_queries(&c);
         else
             run_case(&c);
         free(c.tokens);
         free(c.bytes);
     }
     fclose(f);
-    for (uint32_t i = 0; is_text && i <= DT_REFUSAL_DIRECTIVE; i++)
+    for (uint32_t i = 0; (is_text || is_query) && i <= DT_REFUSAL_BAD_END; i++)
         printf(" %u: %zu", i, met[i]);
     return 0;
 }

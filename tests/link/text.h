@@ -1,7 +1,6 @@
 /* Calls with a text: what must hold of each, worked out here from the header's words. Which tokens a text has is not
    known here: they must be the text when joined, and dt_parse must give for them what the text's call gave. */
 #include "lent.h"
-#include <string.h>
 
 /* A call with a text. */
 struct text {
@@ -17,18 +16,6 @@ static struct dt_text_answer call_text(const struct text *t, struct buffer *b)
     return dt_parse_text(t->entry, t->setting, t->bytes, t->n, b[TOKENS].numbers, b[TOKENS].length, b[EVENTS].numbers,
                          b[EVENTS].length, b[TREES].numbers, b[TREES].length, b[ERRORS].numbers, b[ERRORS].length,
                          b[REPORTS].numbers, b[REPORTS].length, b[POOL].numbers, b[POOL].length);
-}
-
-static void lend_all(struct buffer *b, const size_t *lengths, int count)
-{
-    for (int i = 0; i < count; i++)
-        b[i] = lend(lengths[i]);
-}
-
-static void give_all_back(const char *name, struct buffer *b, int count)
-{
-    for (int i = 0; i < count; i++)
-        give_back(name, b[i]);
 }
 
 static size_t first_high_byte(const uint8_t *bytes, size_t n)
@@ -65,7 +52,7 @@ static struct dt_text_answer read_tokens(const struct text *t, size_t room, stru
         struct dt_text_answer a = call_text(&plain, b);
         for (int i = 0; i < BUFFERS; i++)
             give_back(t->name, b[i]);
-        if (a.answer.number < DT_REFUSAL_TOO_DEEP || a.answer.number > DT_REFUSAL_NO_TREE_ROOM)
+        if (!is_cleared(a.answer.number))
             return a;
         if (a.answer.number == DT_REFUSAL_TOO_DEEP)
             fail(t->name, "a reference that nests");
@@ -115,12 +102,10 @@ static void check_parse(const struct text *t, const uint32_t *tokens, size_t num
     for (int i = 0; i < BUFFERS; i++)
         b[i] = lend(left[i].length);
     struct dt_answer of_rows = call(t->entry, t->setting, t->bytes, t->n, tokens, numbers, b);
-    if (of_rows.number != a.number || of_rows.place != a.place || of_rows.tree_count != a.tree_count ||
-        of_rows.error_count != a.error_count || of_rows.report_count != a.report_count ||
-        of_rows.expectation_count != a.expectation_count)
+    if (!are_same_answers(of_rows, a))
         fail(t->name, "the tokens have another answer");
     for (int i = 0; i < BUFFERS; i++)
-        if (memcmp(b[i].numbers, left[i].numbers, left[i].length * sizeof(uint32_t)))
+        if (!are_same(b[i], left[i]))
             fail(t->name, "the tokens leave other numbers in a buffer");
     give_all_back(t->name, b, BUFFERS);
 }
@@ -137,7 +122,7 @@ static uint32_t early_of_text(const struct text *t)
 static void check_buffers(const struct text *t, struct dt_text_answer a, const struct buffer *b)
 {
     uint32_t number = a.answer.number;
-    int is_parsed = number == DT_ACCEPTED || (number >= DT_REFUSAL_TOO_DEEP && number <= DT_REFUSAL_NO_TREE_ROOM);
+    int is_parsed = number == DT_ACCEPTED || is_cleared(number);
     size_t used[TEXT_BUFFERS];
     counted(a.answer, used);
     used[TOKENS] = a.token_count * DT_ROW_TOKEN;

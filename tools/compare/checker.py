@@ -1,6 +1,6 @@
-"""Has the checker compute the definitions. Each case becomes one line of a proof file, `call .. ≡ result` or
-`text-call .. ≡ result`, whose proof is `refl`: the checker accepts it exactly if computing `call` gives the result. A
-longer text is computed with one scan in the place of the search for the longest match (`by-scan` of crates/lexing
+"""Has the checker compute the definitions. Each case becomes one line of a proof file, `call .. ≡ result`, `text-call ..
+≡ result` or `query-call .. ≡ result`, whose proof is `refl`: the checker accepts it exactly if computing `call` gives
+the result. A longer text is computed with one scan in the place of the search for the longest match (`by-scan` of crates/lexing
 proves that it is the same). The files stand in a temporary repository with a copy of crates/definitions (its specs;
 proofs about them are not needed) and of the crates that prove the scan."""
 import os
@@ -9,6 +9,7 @@ import shutil
 import subprocess
 import tempfile
 
+from compare.caret import CARET, QueryCase, QueryResult
 from compare.case import BUFFERS, Result, runs
 from compare.text import DIRECTIVE, HIGH_BYTE, TOO_LONG, UNKNOWN_ENTRY, TextCase, TextResult, unchanged
 
@@ -32,6 +33,7 @@ use mathlib.Core.List.{List, [], _∷_, _++_}
 use lib.ListN.{replicate}
 use Rattle.definitions.specs.Call.{Buffers, Answer, Result, call}
 use Rattle.definitions.specs.Text.{Text-result, text-call}
+use Rattle.definitions.specs.Caret.{Query, caret, range, List-result, query-call}
 use Rattle.lexing.proofs.ByScan.{scan-after, call-of, by-scan}
 
 abbrev lent : List ℕ → List ℕ → List ℕ → List ℕ → List ℕ → Buffers
@@ -45,6 +47,9 @@ result a l = record { answer = a; buffers = l }
 
 abbrev text-result : Answer → ℕ → List ℕ → Buffers → Text-result
 text-result a c t l = record { answer = a; token-count = c; tokens = t; buffers = l }
+
+abbrev list-result : Answer → ℕ → List ℕ → Buffers → List-result
+list-result a c t l = record { answer = a; list-count = c; list = t; buffers = l }
 
 """
 
@@ -93,10 +98,22 @@ def text_statement(name, case, result, proof):
     return "%s : %s ≡ %s\nunfolding %s\n%s = %s\n\n" % (name, call, after, unfolding, name, proof)
 
 
+def query_statement(name, case, result, proof):
+    query, parse = case.query, case.parse
+    asked = "(caret %d)" % query.first if query.what == CARET else "(range %d %d)" % (query.first, query.second)
+    data, numbers = antt_list(list(parse.data())), antt_list(parse.numbers())
+    given = "%s %d %s %s %s %s" % (asked, parse.setting, data, numbers, lent(parse.lent()), antt_list(case.lent()))
+    counted = "%s %d" % (answer(result.answer), result.list_count)
+    after = "list-result %s %s %s" % (counted, antt_list(result.list), lent(result.buffers))
+    return "%s : query-call %s ≡ %s\nunfolding query-call\n%s = %s\n\n" % (name, given, after, name, proof)
+
+
+STATEMENTS = {TextCase: text_statement, QueryCase: query_statement}
+
+
 def statement(name, case, result, proof):
     """The line of a case; proof is refl, or a hole, at which the checker prints what the call computes to."""
-    of = text_statement if isinstance(case, TextCase) else list_statement
-    return of(name, case, result, proof)
+    return STATEMENTS.get(type(case), list_statement)(name, case, result, proof)
 
 
 class Checker:
@@ -174,14 +191,17 @@ class Checker:
         found = re.search(r"⊢ \S*unchanged\s+\(?\S*\b(%s)\b(?: (\d+))?" % "|".join(REFUSALS), said)
         if found:
             return unchanged(case, (REFUSALS[found.group(1)], int(found.group(2) or 0))), said
-        found = re.search(r"unfolded: Path (?:Text-r|R)esult record \{(.*?\})\} record", said)
+        found = re.search(r"unfolded: Path (?:Text-r|List-r|R)esult record \{(.*?\})\} record", said)
         if not found:
             return None, said
         front, back = found.group(1).split("buffers")
         numbers = lambda words: [int(n) for n in re.findall(r"\d+", words)]
         fields = dict(re.findall(r"(\w+) = ([\d∷ \[\]]+)", back))
         buffers = [numbers(fields[b]) for b in BUFFERS]
-        counts = tuple(int(n) for n in re.findall(r"= (\d+)[;} ]", front.split("tokens =")[0]))
-        if isinstance(case, TextCase):
-            return TextResult(counts[:6], counts[6], numbers(front.split("tokens =")[1]), buffers), said
+        # what stands before the token rows, or before the list
+        front, *more = re.split(r"\b(?:tokens|list) =", front)
+        counts = tuple(int(n) for n in re.findall(r"= (\d+)[;} ]", front))
+        if more:
+            of = TextResult if isinstance(case, TextCase) else QueryResult
+            return of(counts[:6], counts[6], numbers(more[0]), buffers), said
         return Result(counts, buffers), said

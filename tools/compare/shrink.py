@@ -1,5 +1,6 @@
 """Makes a case on which the two answers differ small: fewer rows or bytes, shorter texts, and buffers with room if that
 will do."""
+from compare.caret import listed
 
 
 def without_rows(case):
@@ -103,3 +104,49 @@ def smallest_text(case, texts, differs, say):
             return case
         case = min(found, key=text_size)
         say("  smaller: %d bytes" % len(case.data))
+
+
+def query_size(case):
+    query = case.query
+    return size(case.parse), query.first, query.second, case.room
+
+
+def query_with_room(cases, oracle):
+    """Those whose file gets as far as a parse, with ample buffers."""
+    fine = [c for c in cases if oracle.refused_early(c.parse) is None]
+    for case, parse, full in zip(fine, with_room([c.parse for c in fine], oracle), oracle.ask([c.parse for c in fine])):
+        yield case._replace(parse=parse, room=len(listed(case.query, full.rows)) + 3 if full.rows else 3)
+
+
+def nearer(case):
+    """The case with a smaller offset, or a smaller end of a range."""
+    query = case.query
+    for n in {0, query.first // 2, max(query.first - 1, 0)}:
+        yield case._replace(query=query._replace(first=n))
+    for n in {0, query.second // 2, max(query.second - 1, 0)}:
+        yield case._replace(query=query._replace(second=n))
+
+
+def with_parse(case, parse):
+    """The case with a smaller file: what is asked stays, or goes down by as many bytes."""
+    query, less = case.query, len(case.parse.data()) - len(parse.data())
+    moved = query._replace(first=max(query.first - less, 0), second=max(query.second - less, 0))
+    return [case._replace(parse=parse, query=q) for q in (query, moved)]
+
+
+def smallest_query(case, oracle, differs, say):
+    """As `smallest`, of a query."""
+    roomy = differs(list(query_with_room([case], oracle)))
+    if roomy:
+        case = roomy[0]
+    while True:
+        parse = case.parse
+        smaller = [*without_rows(parse), *shorter_texts(parse, oracle.texts), *plainer(parse)]
+        tries = [c for p in smaller for c in with_parse(case, p)] + list(nearer(case))
+        tries = list(query_with_room(tries, oracle)) if roomy else tries
+        tries = sorted({c for c in tries if query_size(c) < query_size(case)}, key=query_size)
+        found = differs(tries)
+        if not found:
+            return case
+        case = min(found, key=query_size)
+        say("  smaller: %d rows, %s" % (len(case.parse.rows), case.query.show()))

@@ -19,7 +19,7 @@ MESSAGES = {
 ADDED_MESSAGES = {
     "not-a-label": "Label names can only hold letters, digits and underscores, and can't start with a digit",
 }
-# Causes of document 02: those that it adds to document 01's table, and what it leaves of cause 3 there.
+# Causes of document 02: those that it adds to document 01's table, and what it makes of causes 3 and 8 there.
 ADDED_CAUSES = {
     "high-byte": "byte of 128 or more",
     "directive": "preprocessor directive at a token start",
@@ -29,6 +29,7 @@ ADDED_CAUSES = {
 }
 CHANGED_CAUSES = {
     "odd-count": "odd count of token numbers",
+    "no-tree-room": "tree, lexical errors or the list of a query don't fit",
 }
 HINTS = {
     "unnamed-property": (GRAMMAR, "item", 0),

@@ -3,7 +3,7 @@
 use crate::rows::{EVENT_ROW, ErrorRow, ReportRow, TokenRow, TreeRow};
 use crate::{Input, LexError, Refusal};
 
-/// The buffers that a call writes. Token rows are written by a call with a text alone.
+/// The buffers that a call writes. Token rows are written by a call with a text alone, and the list by a query.
 #[derive(Debug, Default)]
 pub(crate) struct Buffers {
     pub tokens: Vec<u32>,
@@ -12,6 +12,7 @@ pub(crate) struct Buffers {
     pub errors: Vec<u32>,
     pub reports: Vec<u32>,
     pub pool: Vec<u32>,
+    pub list: Vec<u32>,
 }
 
 impl Buffers {
@@ -23,6 +24,12 @@ impl Buffers {
         self.errors.resize(ErrorRow::SIZE * room.errors, 0);
         self.reports.resize(ReportRow::SIZE * room.reports, 0);
         self.pool.resize(room.pool, 0);
+    }
+
+    /// Gives the list a number for each tree row that there is room for: no row is in it twice, so that it fits where
+    /// the tree does. Refusal 8 is then never about the list.
+    pub fn set_list_room(&mut self) {
+        self.list.resize(self.trees.len() / TreeRow::SIZE, 0);
     }
 }
 

@@ -24,7 +24,7 @@ pub enum Refusal {
     /// 7: no room for a report or its expectations, after so many tokens; or for the report of a label whose name
     /// starts there.
     NoReportRoom(usize),
-    /// 8: no room for the tree or the lexical errors.
+    /// 8: no room for the tree or the lexical errors, or for the list of a query.
     NoTreeRoom,
     /// 9: the byte of a text at this offset is 128 or more.
     HighByte(usize),
@@ -142,7 +142,7 @@ impl fmt::Display for Refusal {
             }
             Self::NoEventRoom(mark) => write!(f, "no room for an event after {mark} tokens"),
             Self::NoReportRoom(mark) => write!(f, "no room for a report or its expectations after {mark} tokens"),
-            Self::NoTreeRoom => f.write_str("no room for the tree or the lexical errors"),
+            Self::NoTreeRoom => f.write_str("no room for the tree, the lexical errors or the list of a query"),
             Self::HighByte(offset) => write!(f, "the byte at offset {offset} is not ASCII"),
             Self::Directive(offset) => write!(f, "a preprocessor directive starts at offset {offset}"),
             Self::BadKind(row) => write!(f, "row {row}, counted from 0, has a kind that no row may have"),

@@ -83,11 +83,30 @@
 //! # Ok::<(), dt_parser::TextError>(())
 //! ```
 //!
+//! # What is under a caret
+//!
+//! [`Tree::at_offset`] has the items from the root to the leaf at an offset, and [`Tree::parts_in`] the top-level parts
+//! that share a byte with a range. Both are proved calls of their own too, which a [`Parser`] makes without a tree in
+//! Rust: [`Parser::query`] gives the same rows, by number.
+//!
+//! ```
+//! use dt_parser::{Entrypoint, Parser, Query};
+//!
+//! let read = Entrypoint::SourceFile.parse_text(b"/dts-v1/;\n/ { a; };\n")?;
+//! let items = read.parse.tree.at_offset(14); // of the `a`
+//! let kinds: Vec<String> = items.iter().map(|item| item.to_string()).collect();
+//! assert_eq!(kinds, ["SourceFile@0..20", "DtNode@10..19", "DtProperty@14..16", "Name@14..15 \"a\""]);
+//!
+//! let rows: Vec<usize> = items.iter().map(|item| item.row()).collect();
+//! assert_eq!(Parser::new().query(Query::Caret(14), &read.input)?, rows);
+//! # Ok::<(), Box<dyn std::error::Error>>(())
+//! ```
+//!
 //! # What is proved and what is not
 //!
 //! The calls that this crate makes are proved to answer every input as the definitions say (docs/READING.md). Not proved
 //! is what is written here in Rust: it passes slices, gives names to numbers and checks that the rows are one tree. The
-//! two `unsafe` blocks are in src/sys.rs.
+//! three `unsafe` blocks are in src/sys.rs.
 
 #![deny(unsafe_op_in_unsafe_fn)]
 #![deny(unsafe_code)]
@@ -106,6 +125,7 @@ mod navigate;
 mod node_kind;
 mod numbered;
 mod parser;
+mod query;
 mod range;
 mod report;
 mod row_error;
@@ -129,6 +149,7 @@ pub use line_index::{Columns, LineEnds, LineIndex, Position};
 pub use message::{Hint, Message};
 pub use node_kind::NodeKind;
 pub use parser::{OwnedParse, Parse, Parser};
+pub use query::Query;
 pub use range::TextRange;
 pub use report::{Label, Report};
 pub use row_error::{RowError, RowErrorKind};

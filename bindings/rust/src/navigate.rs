@@ -1,4 +1,5 @@
-//! Steps from an item of the tree to others: siblings, first and last leaf, what lies at an offset or around a range.
+//! Steps from an item of the tree to others: siblings, first and last leaf, what lies at an offset, in a range or
+//! around it.
 
 use crate::tree::RowKind;
 use crate::{Item, Leaf, Node, TextRange, Tree};
@@ -102,7 +103,60 @@ impl<'t> Item<'t> {
 }
 
 impl Tree<'_> {
-    /// The leaf that has the byte at this offset; none past the text.
+    /// What is under a caret: the items that have the byte at this offset, the root first and the leaf last. At the end
+    /// of the text they are those of the last leaf, and in an empty text the root alone. None past the text.
+    ///
+    /// A leaf owns its first byte and not its end, which is the next leaf's. A node without text is none of the items.
+    /// Of a source file the proved `dt_caret` lists the same rows: [`Query::Caret`](crate::Query::Caret).
+    ///
+    /// ```
+    /// use dt_parser::Entrypoint;
+    ///
+    /// let parse = Entrypoint::SourceFile.parse_text(b"a{b;};")?.parse;
+    /// let at = |offset| -> Vec<String> { parse.tree.at_offset(offset).iter().map(|item| item.to_string()).collect() };
+    /// assert_eq!(at(2), ["SourceFile@0..6", "DtNode@0..6", "DtProperty@2..4", "Name@2..3 \"b\""]);
+    /// assert_eq!(at(3).last().expect("a leaf"), "Semicolon@3..4 \";\"");
+    /// assert_eq!(at(6), ["SourceFile@0..6", "DtNode@0..6", "Semicolon@5..6 \";\""]);
+    /// assert!(at(7).is_empty());
+    /// # Ok::<(), dt_parser::TextError>(())
+    /// ```
+    #[must_use]
+    pub fn at_offset(&self, offset: usize) -> Vec<Item<'_>> {
+        let Some(leaf) = self.leaf_under(offset) else {
+            // an empty text has no leaf
+            return if offset == 0 { vec![Item::Node(self.root())] } else { Vec::new() };
+        };
+        let mut items: Vec<Item> = leaf.nodes_above().map(Item::Node).collect();
+        items.reverse();
+        items.push(Item::Leaf(leaf));
+        items
+    }
+
+    /// The top-level parts that share a byte with a range, in order. A part is a child of the root, and so is a blank
+    /// or a comment between two nodes. An empty or reversed range shares no byte with any part. It may go past the text.
+    ///
+    /// Of a source file the proved `dt_parts_in_range` lists the same rows: [`Query::Parts`](crate::Query::Parts).
+    ///
+    /// ```
+    /// use dt_parser::Entrypoint;
+    ///
+    /// let parse = Entrypoint::SourceFile.parse_text(b"a; b; c;")?.parse;
+    /// let parts = |range: std::ops::Range<usize>| -> Vec<String> {
+    ///     parse.tree.parts_in(range.into()).map(|part| part.text_lossy().into_owned()).collect()
+    /// };
+    /// assert_eq!(parts(1..4), ["a;", " ", "b;"]);
+    /// assert_eq!(parts(2..3), [" "]); // it only touches the properties on either side
+    /// assert_eq!(parts(7..99), ["c;"]);
+    /// assert!(parts(4..4).is_empty());
+    /// # Ok::<(), dt_parser::TextError>(())
+    /// ```
+    pub fn parts_in(&self, range: TextRange) -> impl Iterator<Item = Item<'_>> {
+        let parts = self.root().children();
+        parts.take_while(move |part| part.range().start < range.end).filter(move |part| part.range().overlaps(range))
+    }
+
+    /// The leaf that has the byte at this offset; none past the text. [`Tree::at_offset`] has the nodes around it too,
+    /// and at the end of the text the last leaf.
     #[must_use]
     pub fn leaf_at(&self, offset: usize) -> Option<Leaf<'_>> {
         // Rows after the leaf start past its bytes, and so past the offset: the leaf is the last row that does not.
@@ -134,10 +188,16 @@ impl Tree<'_> {
         if end < start || end > self.text.len() {
             return None;
         }
-        let first = start.min(self.text.len().saturating_sub(1));
-        match self.leaf_at(first) {
+        match self.leaf_under(start) {
             Some(leaf) => leaf.nodes_above().find(|node| node.range().end >= end),
             None => Some(self.root()),
         }
+    }
+
+    /// The leaf under a caret: that of the byte after it, and at the end of the text the last one. None past the text,
+    /// and in an empty text.
+    fn leaf_under(&self, caret: usize) -> Option<Leaf<'_>> {
+        let is_last = caret == self.text.len() && caret > 0;
+        self.leaf_at(if is_last { caret - 1 } else { caret })
     }
 }

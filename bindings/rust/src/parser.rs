@@ -18,7 +18,7 @@ use crate::{input, lexical, report, rows, text};
 /// ```
 #[derive(Debug, Default)]
 pub struct Parser {
-    buffers: Buffers,
+    pub(crate) buffers: Buffers,
 }
 
 /// What a parse gives: the tree, and what is wrong.
@@ -138,56 +138,49 @@ impl Parser {
     /// Parses typed tokens by any call of that form.
     fn parse_by<'i>(
         &mut self,
-        call: impl FnMut(u32, u32, &[u8], &[u32], &mut Buffers) -> Answer,
+        mut call: impl FnMut(u32, u32, &[u8], &[u32], &mut Buffers) -> Answer,
         setting: Setting,
         entry: Entrypoint,
         input: &Input<'i>,
     ) -> Result<Parse<'i>, Error> {
-        let answer = self.answer_by(call, setting, entry, input.text, &input.rows())?;
+        let (text, rows) = (input.text, input.rows());
+        let call = |lent: &mut Buffers| (call(entry.number(), setting.number(), text, &rows, lent), ());
+        let (answer, ()) = self.answer_by(call, text, &rows)?;
         self.read(&answer, input)
     }
 
     /// The same for plain numbers. Those of an accepted call are tokens.
     fn parse_rows_by<'i>(
         &mut self,
-        call: impl FnMut(u32, u32, &[u8], &[u32], &mut Buffers) -> Answer,
+        mut call: impl FnMut(u32, u32, &[u8], &[u32], &mut Buffers) -> Answer,
         setting: Setting,
         entry: Entrypoint,
         text: &'i [u8],
         rows: &[u32],
     ) -> Result<TextParse<'i>, Error> {
-        let answer = self.answer_by(call, setting, entry, text, rows)?;
+        let call = |lent: &mut Buffers| (call(entry.number(), setting.number(), text, rows, lent), ());
+        let (answer, ()) = self.answer_by(call, text, rows)?;
         let input = Input::from_rows(text, rows).ok_or(bad_number("a refusal of these rows"))?;
         let parse = self.read(&answer, &input)?;
         Ok(TextParse { input, parse })
     }
 
-    /// The answer to token rows, if they are accepted.
-    fn answer_by(
+    /// The answer to token rows, if they are accepted, and what the call counts beside it.
+    pub(crate) fn answer_by<C>(
         &mut self,
-        mut call: impl FnMut(u32, u32, &[u8], &[u32], &mut Buffers) -> Answer,
-        setting: Setting,
-        entry: Entrypoint,
+        call: impl FnMut(&mut Buffers) -> (Answer, C),
         text: &[u8],
         rows: &[u32],
-    ) -> Result<Answer, Error> {
+    ) -> Result<(Answer, C), Error> {
         let tokens = rows.len() / TokenRow::SIZE;
         let growing = Growing { first: Room::first(rows), most: Room::most(rows), tokens };
-        let answer = growing.answer(&mut self.buffers, |lent| {
-            let answer = call(entry.number(), setting.number(), text, rows, lent);
-            TextAnswer { answer, token_count: 0 }
-        });
-        match answer {
-            Err(Error::Refused(refusal)) if refusal.is_of_text_alone() => {
-                Err(bad_number("0 or a refusal of token rows"))
+        growing.answer(&mut self.buffers, call).map_err(|why| match why {
+            Error::Refused(refusal) if refusal.is_of_text_alone() => bad_number("0 or a refusal of token rows"),
+            Error::Refused(refusal) if refusal.is_of_row_numbers() => {
+                RowError::read(refusal, text.len(), rows).map_or(bad_place(), Error::BadRows)
             }
-            Err(Error::Refused(refusal)) if refusal.is_of_row_numbers() => {
-                let why = RowError::read(refusal, text.len(), rows);
-                Err(why.map_or(bad_place(), Error::BadRows))
-            }
-            Err(why) => Err(why),
-            Ok(answer) => Ok(answer.answer),
-        }
+            why => why,
+        })
     }
 
     /// Parses a text by any call of that form.
@@ -200,15 +193,18 @@ impl Parser {
     ) -> Result<TextParse<'i>, Error> {
         let (first, most) = (Room::first_for_text(text), Room::most_for_text(text));
         let growing = Growing { first, most, tokens: most.tokens };
-        let answer = growing.answer(&mut self.buffers, |lent| call(entry.number(), setting.number(), text, lent));
-        let answer = answer.map_err(|why| match why {
+        let answer = growing.answer(&mut self.buffers, |lent| {
+            let TextAnswer { answer, token_count } = call(entry.number(), setting.number(), text, lent);
+            (answer, token_count)
+        });
+        let (answer, token_count) = answer.map_err(|why| match why {
             Error::Refused(Refusal::UnknownEntry | Refusal::BadText(_)) => bad_number("0 or a refusal of a text"),
             Error::Refused(refusal) if refusal.is_of_row_numbers() => bad_number("0 or a refusal of a text"),
             why => why,
         })?;
-        let tokens = rows::front(&self.buffers.tokens, answer.token_count).ok_or(bad_count("count of token rows"))?;
+        let tokens = rows::front(&self.buffers.tokens, token_count).ok_or(bad_count("count of token rows"))?;
         let input = Input::new(text, input::read(tokens)?);
-        let parse = self.read(&answer.answer, &input)?;
+        let parse = self.read(&answer, &input)?;
         Ok(TextParse { input, parse })
     }
 
@@ -236,19 +232,19 @@ struct Growing {
 }
 
 impl Growing {
-    /// The first answer that is not a refusal.
-    fn answer(
+    /// The first answer that is not a refusal, with what the call counts beside it.
+    fn answer<C>(
         self,
         buffers: &mut Buffers,
-        mut call: impl FnMut(&mut Buffers) -> TextAnswer,
-    ) -> Result<TextAnswer, Error> {
+        mut call: impl FnMut(&mut Buffers) -> (Answer, C),
+    ) -> Result<(Answer, C), Error> {
         let mut room = self.first;
         loop {
             buffers.set_room(room);
-            let answer = call(buffers);
-            let Answer { number, place, .. } = answer.answer;
+            let (answer, count) = call(buffers);
+            let Answer { number, place, .. } = answer;
             if number == 0 {
-                return Ok(answer);
+                return Ok((answer, count));
             }
             let refusal = Refusal::from_number(number, place).ok_or(bad_number("0 or a refusal from 1 to 13"))?;
             match room.after(refusal, self.most) {
@@ -268,7 +264,7 @@ fn bad_place() -> Error {
     Error::BadAnswer { what: "place", row: None, expected: "that of what is refused" }
 }
 
-fn bad_count(what: &'static str) -> Error {
+pub(crate) fn bad_count(what: &'static str) -> Error {
     Error::BadAnswer { what, row: None, expected: "at most what fits the lent buffer" }
 }
 

@@ -31,6 +31,12 @@ impl TextRange {
         self.start <= offset && offset < self.end
     }
 
+    /// Whether the two share a byte. Ranges that only touch do not, and an empty or reversed one shares none.
+    #[must_use]
+    pub fn overlaps(self, other: Self) -> bool {
+        self.start.max(other.start) < self.end.min(other.end)
+    }
+
     /// The same as a range of the standard library, to index a text with.
     #[must_use]
     pub const fn byte_range(self) -> Range<usize> {

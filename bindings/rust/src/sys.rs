@@ -1,5 +1,6 @@
 //! The exported calls, and all that is unsafe in this crate.
 
+use crate::Query;
 use crate::buffers::Buffers;
 
 /// What the call returns: its number (0, or a refusal's), a place, and the counts of rows that it wrote.
@@ -18,6 +19,13 @@ pub(crate) struct Answer {
 pub(crate) struct TextAnswer {
     pub answer: Answer,
     pub token_count: usize,
+}
+
+/// What a query returns: the answer to its tokens, and how many row numbers it wrote.
+#[repr(C)]
+pub(crate) struct ListAnswer {
+    pub answer: Answer,
+    pub list_count: usize,
 }
 
 #[allow(unsafe_code)]
@@ -61,6 +69,50 @@ unsafe extern "C" {
         pool: *mut u32,
         pool_len: usize,
     ) -> TextAnswer;
+
+    /// The same as `dt_parse` with the entry of a source file, and `list`, which it writes.
+    fn dt_caret(
+        setting: u32,
+        offset: u64,
+        bytes: *const u8,
+        bytes_len: usize,
+        tokens: *const u32,
+        tokens_len: usize,
+        events: *mut u32,
+        events_len: usize,
+        trees: *mut u32,
+        trees_len: usize,
+        errors: *mut u32,
+        errors_len: usize,
+        reports: *mut u32,
+        reports_len: usize,
+        pool: *mut u32,
+        pool_len: usize,
+        list: *mut u32,
+        list_len: usize,
+    ) -> ListAnswer;
+
+    fn dt_parts_in_range(
+        setting: u32,
+        start: u64,
+        end: u64,
+        bytes: *const u8,
+        bytes_len: usize,
+        tokens: *const u32,
+        tokens_len: usize,
+        events: *mut u32,
+        events_len: usize,
+        trees: *mut u32,
+        trees_len: usize,
+        errors: *mut u32,
+        errors_len: usize,
+        reports: *mut u32,
+        reports_len: usize,
+        pool: *mut u32,
+        pool_len: usize,
+        list: *mut u32,
+        list_len: usize,
+    ) -> ListAnswer;
 }
 
 /// One call with tokens, over lent buffers. Any entry, setting, bytes and numbers may be passed.
@@ -98,7 +150,7 @@ pub(crate) fn call(entry: u32, setting: u32, bytes: &[u8], tokens: &[u32], lent:
 /// One call with a text, over lent buffers. Any entry, setting and bytes may be passed.
 #[allow(unsafe_code)]
 pub(crate) fn call_text(entry: u32, setting: u32, text: &[u8], lent: &mut Buffers) -> TextAnswer {
-    let Buffers { tokens, events, trees, errors, reports, pool } = lent;
+    let Buffers { tokens, events, trees, errors, reports, pool, .. } = lent;
     // SAFETY: as above, with one slice that is read and six vectors that are written. `TextAnswer` is laid out as there.
     unsafe {
         dt_parse_text(
@@ -119,6 +171,44 @@ pub(crate) fn call_text(entry: u32, setting: u32, text: &[u8], lent: &mut Buffer
             pool.as_mut_ptr(),
             pool.len(),
         )
+    }
+}
+
+/// One query of a source file, over lent buffers. Any offsets, setting, bytes and numbers may be passed.
+#[allow(unsafe_code)]
+pub(crate) fn call_query(query: Query, setting: u32, bytes: &[u8], tokens: &[u32], lent: &mut Buffers) -> ListAnswer {
+    let Buffers { events, trees, errors, reports, pool, list, .. } = lent;
+    /// A call with the numbers of its query, and the slices that both have.
+    macro_rules! call {
+        ($call:ident, $($number:expr),*) => {
+            $call(
+                setting,
+                $($number as u64,)*
+                bytes.as_ptr(),
+                bytes.len(),
+                tokens.as_ptr(),
+                tokens.len(),
+                events.as_mut_ptr(),
+                events.len(),
+                trees.as_mut_ptr(),
+                trees.len(),
+                errors.as_mut_ptr(),
+                errors.len(),
+                reports.as_mut_ptr(),
+                reports.len(),
+                pool.as_mut_ptr(),
+                pool.len(),
+                list.as_mut_ptr(),
+                list.len(),
+            )
+        };
+    }
+    // SAFETY: as for `call`, with six vectors that are written. `ListAnswer` is laid out as there.
+    unsafe {
+        match query {
+            Query::Caret(offset) => call!(dt_caret, offset),
+            Query::Parts(range) => call!(dt_parts_in_range, range.start, range.end),
+        }
     }
 }
 

@@ -84,6 +84,72 @@ fn the_tree_is_printed_whole() {
 }
 
 #[test]
+fn what_stands_at_a_position_is_shown_from_the_root_to_the_token() {
+    let (status, out, err) = run(&["--at", "49:19", "examples/board.dts"]);
+    golden("board.at.txt", &out);
+    assert_eq!((status, err.as_str()), (Some(1), ""), "the file has reports");
+    assert_eq!(run(&["--at=49:19", "examples/board.rows"]), (status, out.clone(), err));
+    assert_eq!(run(&["--strict", "--at", "49:19", "examples/board.dts"]).1, out);
+    let (status, out, _) = run(&["--at", "29:28", "examples/overlay.rows"]);
+    golden("overlay.at.txt", &out);
+    assert_eq!(status, Some(0));
+}
+
+/// The rows at a position, a line each; all but the heading.
+fn rows_at(text: &[u8], position: &str) -> Vec<String> {
+    let (_, out, _) = run_on(text, &["--at", position]);
+    let (heading, rows) = out.split_once('\n').unwrap();
+    assert_eq!(heading, format!("rows at (standard input):{position}, from the root to the token:"));
+    rows.lines().map(String::from).collect()
+}
+
+#[test]
+fn a_token_owns_its_first_byte_and_the_last_one_the_end_of_the_file() {
+    let (file, property) = (r#"0 | SourceFile  1:1..2:1  "a;\n""#, r#"1 | DtProperty  1:1..1:3  "a;""#);
+    assert_eq!(rows_at(b"a;\n", "1:1"), [file, property, r#"2 | Name        1:1..1:2  "a""#]);
+    assert_eq!(rows_at(b"a;\n", "1:2"), [file, property, r#"3 | Semicolon   1:2..1:3  ";""#]);
+    for end in ["1:3", "2:1"] {
+        assert_eq!(rows_at(b"a;\n", end), [file, r#"4 | Whitespace  1:3..2:1  "\n""#]);
+    }
+    assert_eq!(rows_at(b"a", "1:2").len(), 3, "the last line needs no end");
+    assert_eq!(rows_at(b"", "1:1"), [r#"0 | SourceFile  1:1..1:1  """#]);
+    // a row without bytes is the last one, and not shown
+    let rows = rows_at(b"/delete-node/", "1:14");
+    assert!(rows.len() == 3 && rows[2].starts_with("2 | DeleteNodeDirective  1:1..1:14  "), "{rows:?}");
+}
+
+#[test]
+fn a_position_that_the_text_does_not_have_is_refused() {
+    let why = |position: &str, file: &str| no_answer(run(&["--at", position, file]));
+    let file = "examples/board.dts";
+    let lines = "the text has 73 lines, the last of them empty";
+    assert_eq!(why("99:1", file), format!("dtparse: {file}: --at 99:1: {lines}\n"));
+    let column = "line 49 has 20 characters, so that its end is column 21";
+    assert_eq!(why("49:22", file), format!("dtparse: {file}: --at 49:22: {column}\n"));
+    assert_eq!(run(&["--at", "49:21", file]).0, Some(1), "the line's end is there");
+    assert_eq!(why("99:1", "examples/board.rows"), format!("dtparse: examples/board.rows: --at 99:1: {lines}\n"));
+    assert!(why("0:1", file).starts_with("dtparse: --at is LINE:COLUMN, both counted from 1, as 49:20, not 0:1\n"));
+    assert!(why("99:1", "examples/overlay.dts").contains("refusal 10"), "the parse comes first");
+}
+
+#[test]
+fn positions_are_shown_beside_other_views_and_in_any_entry() {
+    let (status, out, _) = run_on(b"a;", &["--at", "1:2", "--at", "1:1", "--nodes"]);
+    assert_eq!(status, Some(0));
+    let parts: Vec<&str> = out.split("\n\n").collect();
+    assert!(parts.len() == 3 && parts[0].contains("\n3 | Semicolon") && parts[1].contains("\n2 | Name"), "{out}");
+    assert_eq!(parts[2], "(standard input): no errors; 0 nodes and 1 property read\n");
+    let (_, out, _) = run_on(b"<1>", &["--entry", "PropValues", "--at", "1:2"]);
+    assert!(out.contains("\n0 | EntryPropValues ") && out.ends_with("Number           1:2..1:3  \"1\"\n"), "{out}");
+    assert!(run_on(b"a;", &["--at", "1:1", "--color=always"]).1.contains("\x1b["));
+    // columns are characters: the name starts at byte 8
+    let tokens = [Token::new(TokenKind::BlockComment, 8), Token::new(TokenKind::Ident, 1)];
+    let file = rows(Entrypoint::SourceFile, "/*éé*/a".as_bytes(), &tokens);
+    let (_, out, _) = run_on(&file, &["--at", "1:7"]);
+    assert!(out.ends_with("Name        1:7..1:8  \"a\"\n"), "{out}");
+}
+
+#[test]
 fn labels_are_reported_in_the_strict_setting_alone() {
     let (status, out, err) = run(&["--strict", "examples/labels.dts"]);
     golden("labels.txt", &out);

@@ -6,9 +6,11 @@
 mod answers;
 #[path = "common/model.rs"]
 mod model;
+#[path = "common/random.rs"]
+mod random;
 
 use dt_parser::{Input, NodeKind, OwnedParse, Parser, TextRange, Token, TokenKind, Tree};
-use model::Random;
+use random::Random;
 
 /// The rows of an answer: its lines `R class kind width count`.
 fn rows(answer: &str) -> Vec<Vec<u32>> {
@@ -51,7 +53,7 @@ fn every_item_stands_where_the_rows_say() {
 }
 
 #[test]
-fn the_innermost_node_is_found() {
+fn the_innermost_node_and_the_parts_of_a_range_are_found() {
     let mut random = Random(2_463_534_242);
     for (parse, rows) in &parses() {
         let known = model::read(rows);
@@ -60,6 +62,7 @@ fn the_innermost_node_is_found() {
             let start = random.below(most);
             let end = if random.below(2) == 0 { start + random.below(20) } else { random.below(most) };
             model::check_covering(&parse.tree, &known, TextRange { start, end });
+            model::check_parts(&parse.tree, &known, TextRange { start, end });
         }
     }
 }
@@ -102,6 +105,7 @@ fn check(rows: &[Row]) -> usize {
     let most = tree.text().len() + 2;
     for range in (0..most).flat_map(|start| (0..most).map(move |end| TextRange { start, end })) {
         model::check_covering(&tree, &known, range);
+        model::check_parts(&tree, &known, range);
     }
     known.len()
 }

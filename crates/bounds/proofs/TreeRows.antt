@@ -9,14 +9,13 @@ use Rattle.definitions.specs.TokenKind as K
 use Rattle.definitions.specs.Token.{Token, is-error, seen, trivia, drop-trivia, past, byte-count}
 use Rattle.definitions.specs.Skeleton.{Skeleton, done, token, name, node, ignored, report, over}
 use Rattle.definitions.specs.Grammar.{Entry, SourceFile, ReferenceNoamp, PropValues, Cells, root-kind}
-use Rattle.definitions.specs.Place.{Tree, nil, leaf, subtree, _⊕_, lead, front, after, place, root, width, count, rows}
+use Rattle.definitions.specs.Place.{Tree, nil, leaf, subtree, _⊕_, lead, front, after, place, root, width, count, rows, row-count}
 use Rattle.definitions.specs.Call.{run-entry}
 use Rattle.laws.specs.Lossless.{Kind-of, one-token, a-name}
 use Rattle.basics.proofs.Tests.{cond-all}
 use Rattle.laws.proofs.Tree.{leaves, width-leaves}
 use Rattle.laws.proofs.Between.{entry-reads}
 use Rattle.laws.proofs.Names.{entry-names}
-use Rattle.laws.proofs.Decode.{row-count}
 use Rattle.laws.proofs.Leaves.{Right, right-root}
 use Rattle.laws.proofs.Lossless.{lossless}
 use Rattle.bounds.specs.Numbers.{Below, most-rows, Counts-within}

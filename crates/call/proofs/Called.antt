@@ -23,6 +23,7 @@ use Rattle.refinement.specs.Ends.{swept, refused-at, sunk-answer, last-answer, 
 use Rattle.refinement.proofs.Ends.{calls-end}
 use Rattle.call.specs.declared.Answer.{Answer}
 use Rattle.call.specs.Result.{answer-of, result-of}
+use Rattle.call.specs.Checked.{Refused}
 use Rattle.call.specs.Ended.{refused-with, sunk-with, named-with, Answer-of-run, Ended}
 
 -- ---------------------------------------------------------------- the parse
@@ -90,8 +91,13 @@ module _ (e : Entry) (setting : ℕ) (bytes tokens : List ℕ) (b : Buffers) (n 
   known-entry h = h ∙ ap (λ (w : Asked). asked w setting bytes tokens b) k
 
   -- entries 1 to 4: the checks of the input, and the parse
-  pub refused-call : x ≡ checked (check-input bytes tokens) e setting bytes tokens b → x ≡ call n setting bytes tokens b
-  refused-call h = known-entry h
+  pub refused-call : (a : Answer) → x ≡ result-of a b → Refused a bytes tokens → x ≡ call n setting bytes tokens b
+  unfolding checked
+  refused-call a h r =
+      known-entry
+      (h
+      ∙ ap (λ (y : _). record { answer = y; buffers = b }) (r .answer)
+      ∙ sym (ap (λ (w : Verdict). checked w e setting bytes tokens b) (r .verdict)))
 
   pub sound-call : check-input bytes tokens ≡ accepted → x ≡ parse e setting bytes (tokens-of tokens) b → x ≡ call n setting bytes tokens b
   unfolding checked

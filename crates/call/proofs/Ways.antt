@@ -9,9 +9,9 @@ use lib.ListN.{length, take}
 use borrow.Author.Tests.{eqb-true, eqb-false}
 use Rattle.basics.specs.Word.{low}
 use Rattle.definitions.specs.Layout.{TREE-ROW, ERROR-ROW, REPORT-ROW, NO-TREE-ROOM, TWO-TO-32, TWO-TO-64}
-use Rattle.definitions.specs.Refusal.{Refusal, Verdict, accepted, refused}
+use Rattle.definitions.specs.Refusal.{Refusal, accepted, refused}
 use Rattle.definitions.specs.RowCauses.{check-input}
-use Rattle.definitions.specs.Call.{refusal, checked}
+use Rattle.definitions.specs.Call.{refusal}
 use Rattle.sink.specs.declared.Sunk.{Sunk}
 use Rattle.sink.specs.declared.Sunk.the-variants.{Written, NoRoom}
 use Rattle.sink.specs.Promise as Sink
@@ -27,20 +27,15 @@ use Rattle.call.specs.Ended.{refused-with, accepted-with, sunk-with, nam
 
 -- causes 2 to 4, and 11 to 13
 pub refused-input : (bytes tokens : List ℕ) (r : Refusal) (n p : ℕ) (a : Answer) → a ≡ refused-with n p → answer-of (refused-with n p) ≡ refusal r → eqb n 0 ≡ false → refused r ≡ check-input bytes tokens → Input a bytes tokens
-unfolding checked
 refused-input bytes tokens r n p a h z q v =
     record {
       sound = λ s. absurd (eqb-false n 0 q (eqb-true n 0 (sym (ap (λ (x : Answer). eqb (x .number) 0) h) ∙ s)));
-      refused =
-          λ _ e setting b.
-          ap (λ (x : Answer). result-of x b) h
-          ∙ ap (λ (x : _). record { answer = x; buffers = b }) z
-          ∙ ap (λ (w : Verdict). checked w e setting bytes tokens b) v;
+      not-sound = λ _. record { cause = r; verdict = sym v; answer = ap answer-of h ∙ z };
     }
 
 pub sound-input : (bytes tokens : List ℕ) (a : Answer) → a ≡ accepted-with 0 0 0 0 → accepted ≡ check-input bytes tokens → Input a bytes tokens
 sound-input bytes tokens a h v =
-    record { sound = λ _. sym v; refused = λ s e setting b. absurd (eqb-false (a .number) 0 s (ap (λ (x : Answer). x .number) h)) }
+    record { sound = λ _. sym v; not-sound = λ s. absurd (eqb-false (a .number) 0 s (ap (λ (x : Answer). x .number) h)) }
 
 -- ---------------------------------------------------------------- answer_of_sink
 

@@ -6,8 +6,10 @@ use denote.Triple.Both.{Both}
 use Rattle.definitions.specs.Call.{Buffers, Result}
 use Rattle.definitions.specs.Call as Call
 use Rattle.definitions.specs.Text.{Text-result}
+use Rattle.definitions.specs.Caret.{List-result}
 use Rattle.call.specs.declared.Answer.{Answer}
 use Rattle.call.specs.declared.text.TextAnswer.{TextAnswer}
+use Rattle.call.specs.declared.list.ListAnswer.{ListAnswer}
 
 -- the numbers of an answer
 abbrev pub answer-of : Answer → Call.Answer
@@ -47,3 +49,8 @@ result-of a b = record { answer = answer-of a; buffers = b }
 abbrev pub text-result-of : TextAnswer → List ℕ → Buffers → Text-result
 text-result-of a tokens b =
     record { answer = answer-of (a .answer); token-count = a .«token_count»; tokens = tokens; buffers = b }
+
+-- the same of a query: its answer, what the list's buffer holds, and the others
+abbrev pub list-result-of : ListAnswer → List ℕ → Buffers → List-result
+list-result-of a list b =
+    record { answer = answer-of (a .answer); list-count = a .«list_count»; list = list; buffers = b }

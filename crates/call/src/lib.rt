@@ -1,7 +1,8 @@
 // A call's answer, in the documents' numbers. Beside it: what is checked before the parse, and what is done after it;
-// the answer to a call over a text.
-mod buffer;
+// the answers to a call over a text and to a query.
+pub mod buffer;
 pub mod check_input;
+pub mod list;
 pub mod outcome;
 pub mod text;
 

@@ -1,7 +1,8 @@
 -- What is proved of the definitions alone, without a theorem: document 01's readings, and those of document 02's 1/14
--- to 4/14.
+-- to 5/14.
 pub mod Readings
 pub mod StrictReadings
 pub mod TextReadings
 pub mod PowerReadings
 pub mod RowReadings
+pub mod CaretReadings

@@ -24,3 +24,4 @@ pub mod Pattern
 pub mod Rules
 pub mod Lex
 pub mod Text
+pub mod Caret

@@ -90,6 +90,12 @@ rows nil = []
 rows (leaf k ts f) = tree-row LEAF k (byte-count ts) (length ts) (rows f)
 rows (subtree k c f) = tree-row NODE k (width c) (count c) (rows c ++ rows f)
 
+-- how many rows these are: row numbers are counted in preorder, from the root's 0
+unfoldable pub row-count : Tree → ℕ
+row-count nil = 0
+row-count (leaf k ts f) = suc (row-count f)
+row-count (subtree k c f) = suc (row-count c + row-count f)
+
 -- the lexical errors of tokens that start at a byte: number, start, end of each error token in order
 unfoldable pub lexical-errors : ℕ → List Token → List ℕ
 unfolding is-error

@@ -1,5 +1,6 @@
 // The exported call: checks, parse, and what every lent buffer holds afterwards.
 mod entrypoint;
+pub mod query;
 pub mod text;
 
 use crate::entrypoint::Asked;

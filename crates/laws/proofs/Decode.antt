@@ -6,7 +6,7 @@ use mathlib.Core.List.{List, [], _++_, append-assoc, append-nil}
 use lib.ListN.{length, length-append}
 use Rattle.definitions.specs.Layout.{NODE, LEAF, TREE-ROW}
 use Rattle.definitions.specs.Token.{byte-count}
-use Rattle.definitions.specs.Place.{Tree, nil, leaf, subtree, width, count, rows, tree-row}
+use Rattle.definitions.specs.Place.{Tree, nil, leaf, subtree, width, count, rows, row-count, tree-row}
 use Rattle.laws.specs.TreeRows.{Rows, end, node, preorder, siblings, widths, Counts, Widths, first-rows, later-rows, read-row, read}
 use Rattle.laws.specs.TreeRows as R
 
@@ -96,12 +96,6 @@ unfolding shown Widths
 shown-widths nil = tt
 shown-widths (leaf k ts f) = shown-widths f
 shown-widths (subtree k c f) = (width-widths c, shown-widths c, shown-widths f)
-
--- how many rows a tree has, nodes and leaves
-unfoldable pub row-count : Tree → ℕ
-row-count nil = 0
-row-count (leaf k ts f) = suc (row-count f)
-row-count (subtree k c f) = suc (row-count c + row-count f)
 
 pub rows-length : (t : Tree) → length (rows t) ≡ TREE-ROW * row-count t
 unfolding rows row-count

@@ -10,7 +10,7 @@ use lib.Seq.{take-at}
 use Rattle.definitions.specs.Layout.{TREE-ROW}
 use Rattle.definitions.specs.Token.{Token, tokens-of, byte-count}
 use Rattle.definitions.specs.Grammar.{Entry, root-kind}
-use Rattle.definitions.specs.Place.{Tree, lead, after, place, _⊕_, root, width, count, rows}
+use Rattle.definitions.specs.Place.{Tree, lead, after, place, _⊕_, root, width, count, rows, row-count}
 use Rattle.definitions.specs.Strict.{Name-at}
 use Rattle.definitions.specs.Call.{Buffers, sheets, kept, run-entry, names-of}
 use Rattle.laws.specs.TreeRows.{end, node, preorder, read}
@@ -21,7 +21,7 @@ use Rattle.laws.proofs.Placed.{root-whole}
 use Rattle.laws.proofs.Between.{entry-reads}
 use Rattle.laws.proofs.Swept.{entry-leaves}
 use Rattle.laws.proofs.Names.{entry-names}
-use Rattle.laws.proofs.Decode.{read-back, preorder-once, shown, shown-preorder, shown-counts, shown-widths, row-count, rows-length}
+use Rattle.laws.proofs.Decode.{read-back, preorder-once, shown, shown-preorder, shown-counts, shown-widths, rows-length}
 use Rattle.laws.proofs.Leaves.{right-root, leaves-cover}
 use Rattle.laws.proofs.LexicalErrors.{errors-length, errors-of}
 use Rattle.laws.proofs.Input.{Checked, checked-input}

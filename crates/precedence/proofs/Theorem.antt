@@ -17,14 +17,14 @@ use Rattle.definitions.specs.NodeKind as N
 use Rattle.definitions.specs.Token.{Token, tokens-of, is-error, seen, byte-count}
 use Rattle.definitions.specs.Grammar.{Entry, root-kind}
 use Rattle.definitions.specs.Skeleton.{Report, _⧺_}
-use Rattle.definitions.specs.Place.{Tree, nil, subtree, _⊕_, lead, after, place, root, rows}
+use Rattle.definitions.specs.Place.{Tree, nil, subtree, _⊕_, lead, after, place, root, rows, row-count}
 use Rattle.definitions.specs.Report.{Push, pushes, reports, report-numbers, pool}
 use Rattle.definitions.specs.Strict.{Name-at, judged, name-numbers}
 use Rattle.definitions.specs.C.{symbols, Expr}
 use Rattle.definitions.specs.Call.{Buffers, Result, sheets, kept, run-entry, names-of, call}
 use Rattle.laws.proofs.Scan.{fits-clear}
 use Rattle.laws.proofs.Tree.{leaves}
-use Rattle.laws.proofs.Decode.{row-count, rows-length}
+use Rattle.laws.proofs.Decode.{rows-length}
 use Rattle.laws.proofs.Lossless.{lossless}
 use Rattle.laws.proofs.Accepted.{accepted-call}
 use Rattle.precedence.specs.Nodes.{one, expr-nodes, cell}

@@ -13,9 +13,9 @@ use lib.Seq.{drop-drop, drop-append-add}
 use Rattle.definitions.specs.Layout.{TREE-ROW}
 use Rattle.definitions.specs.NodeKind as N
 use Rattle.definitions.specs.Token.{Token, byte-count}
-use Rattle.definitions.specs.Place.{Tree, nil, leaf, subtree, width, count, rows}
+use Rattle.definitions.specs.Place.{Tree, nil, leaf, subtree, width, count, rows, row-count}
 use Rattle.laws.proofs.Tree.{leaves}
-use Rattle.laws.proofs.Decode.{row-count, rows-length}
+use Rattle.laws.proofs.Decode.{rows-length}
 use Rattle.precedence.specs.Precedence.{tree-row-at, tokens-before}
 use Rattle.precedence.proofs.Settle.{Each}
 

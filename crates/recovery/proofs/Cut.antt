@@ -11,10 +11,10 @@ use Rattle.definitions.specs.Token.{Token, byte-count}
 use Rattle.definitions.specs.Place.{Tree, nil, leaf, subtree, _⊕_, width, count}
 use Rattle.laws.proofs.Skeleton.{bytes-append}
 use Rattle.laws.proofs.Tree.{leaves, count-beside}
-use Rattle.recovery.specs.ResultRows.{Row, class, kind, Subtrees, over-leaves, raw-tokens, raw-bytes}
-use Rattle.recovery.specs.ResultRows as S
+use Rattle.rows.specs.ResultRows.{Row, class, kind, Subtrees, over-leaves, raw-tokens, raw-bytes}
+use Rattle.rows.specs.ResultRows as S
 use Rattle.recovery.specs.Recovery.{is-statement, Semicolon}
-use Rattle.recovery.proofs.Written.{rows-of}
+use Rattle.rows.proofs.Written.{rows-of, rows-beside, rows-parts}
 use Rattle.basics.proofs.Lists.{first-same, rest-same, none-some}
 
 -- a node's row is not a leaf's
@@ -157,46 +157,7 @@ placed k f {l} s e =
       rows-later = g .1;
     }
 
--- ---------------------------------------------------------------- raw tokens
-
-over-append : (f : Row → ℕ) (l m : List Row) → over-leaves f (l ++ m) ≡ over-leaves f l + over-leaves f m
-unfolding over-leaves
-over-append f [] m = let e : over-leaves f m ≡ 0 + over-leaves f m = omega arith in e
-over-append f (r ∷ l) m = let e : over-leaves f (l ++ m) ≡ over-leaves f l + over-leaves f m = over-append f l m in omega arith
-
--- the raw tokens and bytes of a tree's rows are those of its leaves
-pub tokens-counted : (f : Tree) → raw-tokens (rows-of f) ≡ length (leaves f)
-unfolding rows-of over-leaves leaves
-tokens-counted nil = refl
-tokens-counted (leaf k ts f) = let e : over-leaves S.count (rows-of f) ≡ length (leaves f) = tokens-counted f in simp length-append (omega arith)
-tokens-counted (subtree k c f) =
-    let d : over-leaves S.count (rows-of c) ≡ length (leaves c) = tokens-counted c in
-    let e : over-leaves S.count (rows-of f) ≡ length (leaves f) = tokens-counted f in
-    simp (length-append, over-append) (omega arith)
-
-pub bytes-counted : (f : Tree) → raw-bytes (rows-of f) ≡ byte-count (leaves f)
-unfolding rows-of over-leaves leaves byte-count
-bytes-counted nil = refl
-bytes-counted (leaf k ts f) = let e : over-leaves S.width (rows-of f) ≡ byte-count (leaves f) = bytes-counted f in simp bytes-append (omega arith)
-bytes-counted (subtree k c f) =
-    let d : over-leaves S.width (rows-of c) ≡ byte-count (leaves c) = bytes-counted c in
-    let e : over-leaves S.width (rows-of f) ≡ byte-count (leaves f) = bytes-counted f in
-    simp (bytes-append, over-append) (omega arith)
-
 -- ---------------------------------------------------------------- none is missed
-
-rows-beside : (f g : Tree) → rows-of (f ⊕ g) ≡ rows-of f ++ rows-of g
-unfolding rows-of _⊕_
-rows-beside nil g = refl
-rows-beside (leaf k ts f) g = ap ((1 ∷ k ∷ byte-count ts ∷ length ts ∷ []) ∷_) (rows-beside f g)
-rows-beside (subtree k c f) g = ap (λ (l : List Row). (0 ∷ k ∷ width c ∷ count c ∷ []) ∷ (rows-of c ++ l)) (rows-beside f g) ∙ ap ((0 ∷ k ∷ width c ∷ count c ∷ []) ∷_) (sym (append-assoc (rows-of c) (rows-of f) (rows-of g)))
-
--- the rows of a tree are those of its parts
-rows-parts : (f : Tree) → Subtrees (count f) (rows-of f)
-unfolding rows-of count
-rows-parts nil = S.none
-rows-parts (leaf k ts f) = S.leaf refl (rows-parts f)
-rows-parts (subtree k c f) = S.node refl (rows-parts c) (rows-parts f)
 
 -- EVERY SEMICOLON that ends a statement among a root's children is found in the rows
 pub semicolon-in : (k : ℕ) (before : Tree) (j : ℕ) (inside : Tree) (raw : List Token) (later : Tree) → is-statement j ≡ true

@@ -8,7 +8,7 @@ use lib.Dec.{leb}
 use lib.ListN.{length, replicate}
 use Rattle.definitions.specs.Token.{tokens-of}
 use Rattle.definitions.specs.Call.{Buffers, call}
-use Rattle.recovery.specs.ResultRows.{Row, mark, tree-rows, error-rows, report-rows, expectations, none, leaf, node, over-leaves}
+use Rattle.rows.specs.ResultRows.{Row, mark, tree-rows, error-rows, report-rows, expectations, none, leaf, node, over-leaves}
 use Rattle.recovery.specs.Recovery.{File, result, is-statement, Semicolon, token-index, start-byte, Alike, those, later-error, later-report, pool-before, later-errors, later-reports, Pairwise, none as no-more, more, no-label, label, ErrorMoved, ReportMoved, places, Shared}
 use Rattle.recovery.proofs.Local.{stays-local}
 use Rattle.recovery.proofs.Witnesses.{first}

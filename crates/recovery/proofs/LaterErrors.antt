@@ -7,7 +7,7 @@ use mathlib.Core.Bool.{Bool, true, false, cond}
 use mathlib.Core.List.{List, [], _∷_, _++_}
 use borrow.Author.Tests.{lt-ltb, le-ltb}
 use Rattle.definitions.specs.Token.{Token, is-error, byte-count}
-use Rattle.recovery.specs.ResultRows.{Row, start}
+use Rattle.rows.specs.ResultRows.{Row, start}
 use Rattle.recovery.specs.Recovery.{those, later-error, Moved, Pairwise, none, more, ErrorMoved}
 use Rattle.recovery.proofs.Written.{errors-of}
 

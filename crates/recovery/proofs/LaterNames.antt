@@ -8,7 +8,7 @@ use mathlib.Core.List.{List, [], _∷_, _++_, map, map-append}
 use borrow.Author.Tests.{lt-ltb, le-ltb}
 use Rattle.definitions.specs.Strict.{Name-at}
 use Rattle.basics.proofs.Tests.{cond-all}
-use Rattle.recovery.specs.ResultRows.{Row}
+use Rattle.rows.specs.ResultRows.{Row}
 use Rattle.recovery.specs.Recovery.{those, later-report, pool-counts, pool-before, Moved, Pairwise, none, more, Places, ReportMoved}
 use Rattle.recovery.specs.Recovery as R
 use Rattle.recovery.proofs.Told.{All}

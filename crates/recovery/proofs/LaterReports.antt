@@ -9,7 +9,7 @@ use lib.Seq.{take-append-seam, drop-append-seam}
 use borrow.Author.Tests.{lt-ltb, le-ltb}
 use Rattle.definitions.specs.Skeleton.{Label, no-label, label, Report}
 use Rattle.definitions.specs.Report.{label-numbers, pool}
-use Rattle.recovery.specs.ResultRows.{Row, mark}
+use Rattle.rows.specs.ResultRows.{Row, mark}
 use Rattle.recovery.specs.Recovery.{those, later-report, pool-counts, pool-before, Moved, Pairwise, none, more, LabelMoved, Places, ReportMoved}
 use Rattle.recovery.specs.Recovery as R
 use Rattle.recovery.proofs.Told.{All, Above}

@@ -11,12 +11,13 @@ use Rattle.definitions.specs.Report.{pool}
 use Rattle.definitions.specs.Strict.{Name-at}
 use Rattle.definitions.specs.Call.{run-entry, names-of}
 use Rattle.laws.proofs.Skeleton.{bytes-append, pool-append}
-use Rattle.recovery.specs.ResultRows.{Row, tree-rows, report-rows, expectations, mark}
+use Rattle.rows.specs.ResultRows.{Row, tree-rows, report-rows, expectations, mark}
 use Rattle.recovery.specs.Recovery.{File, result, Accepted, Semicolon, token-index, start-byte, those, later-error, later-report, pool-before, Moved, Pairwise, ErrorMoved, ReportMoved, later-errors, later-reports, places, Stays-local}
 use Rattle.recovery.proofs.Told.{All, all-map, told}
 use Rattle.recovery.proofs.Inside.{Inside, entry-inside}
 use Rattle.recovery.proofs.Turns.{children}
-use Rattle.recovery.proofs.Written.{rows-of, errors-of, reports-of, name-rows, file-tokens, told-of, Wrote, wrote}
+use Rattle.rows.proofs.Written.{rows-of}
+use Rattle.recovery.proofs.Written.{errors-of, reports-of, name-rows, file-tokens, told-of, Wrote, wrote}
 use Rattle.recovery.proofs.Tail.{Tail, tail}
 use Rattle.recovery.proofs.LaterErrors.{those-append, errors-later, errors-moved}
 use Rattle.recovery.proofs.NamesApart.{shift, names-same, Names-apart}

@@ -9,7 +9,7 @@ use mathlib.Core.Logic.{_⊎_, inl, inr}
 use lib.ListN.{length, getD}
 use Rattle.definitions.specs.Token.{one-of}
 use Rattle.definitions.specs.Call.{call}
-use Rattle.recovery.specs.ResultRows.{Row, tree-rows, error-rows, report-rows, leaf, none as none-inside, over-leaves, label-start, label-end}
+use Rattle.rows.specs.ResultRows.{Row, tree-rows, error-rows, report-rows, leaf, none as none-inside, over-leaves, label-start, label-end}
 use Rattle.recovery.specs.Recovery.{File, result, is-statement, Semicolon, token-index, start-byte, those, later-error, later-report, Shared, Moved, Pairwise, none, more, ErrorMoved, LabelMoved, no-label, label, ReportMoved}
 use Rattle.recovery.proofs.Witnesses.{lent, first}
 

@@ -27,13 +27,14 @@ use Rattle.laws.proofs.Swept.{entry-leaves}
 use Rattle.laws.proofs.Names.{entry-names}
 use Rattle.laws.proofs.Leaves.{Right, right-root}
 use Rattle.laws.proofs.Input.{Texts-fit, Checked, checked-input}
-use Rattle.recovery.specs.ResultRows.{Row, raw-tokens, raw-bytes, tree-rows}
+use Rattle.rows.specs.ResultRows.{Row, raw-tokens, raw-bytes, tree-rows}
 use Rattle.recovery.specs.Recovery.{File, result, Accepted, is-statement, Semicolon, token-index, start-byte}
 use Rattle.recovery.proofs.Told.{All, told, told-join, Above}
 use Rattle.recovery.proofs.Meaning.{ends-in, closes, ends-beside}
 use Rattle.recovery.proofs.Turns.{children, Part, part-here, Found, find-in}
-use Rattle.recovery.proofs.Written.{rows-of, file-tokens, made-of, told-of, Wrote, wrote}
-use Rattle.recovery.proofs.Cut.{Placed, placed, tokens-counted, bytes-counted}
+use Rattle.rows.proofs.Written.{rows-of, tokens-counted, bytes-counted}
+use Rattle.recovery.proofs.Written.{file-tokens, made-of, told-of, Wrote, wrote}
+use Rattle.recovery.proofs.Cut.{Placed, placed}
 use Rattle.recovery.proofs.NamesApart.{Names-apart, names-apart}
 
 -- ---------------------------------------------------------------- a semicolon is one byte long

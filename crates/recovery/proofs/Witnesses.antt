@@ -10,7 +10,7 @@ use lib.ListN.{drop, replicate}
 use Rattle.definitions.specs.NodeKind as N
 use Rattle.definitions.specs.Token.{tokens-of}
 use Rattle.definitions.specs.Call.{Buffers, call}
-use Rattle.recovery.specs.ResultRows.{Row, class, kind, count, tree-rows, Subtrees, none, leaf, node, over-leaves}
+use Rattle.rows.specs.ResultRows.{Row, class, kind, count, tree-rows, Subtrees, none, leaf, node, over-leaves}
 use Rattle.recovery.specs.Recovery.{File, result, Accepted, is-statement, Semicolon, token-index, start-byte, Shared}
 use Rattle.recovery.proofs.Local.{stays-local}
 

@@ -22,76 +22,13 @@ use Rattle.definitions.specs.RowCauses.{check-input}
 use Rattle.definitions.specs.Call.{Sheets, sheets, kept, written, run-entry, names-of, for, entry-of}
 use Rattle.laws.proofs.Accepted.{accepted-call, written-by}
 use Rattle.laws.proofs.Accepted as L
-use Rattle.recovery.specs.ResultRows.{Row, cut-rows, tree-rows, error-rows, expectations}
-use Rattle.recovery.specs.ResultRows as S
+use Rattle.rows.specs.ResultRows.{Row, cut-rows, tree-rows, error-rows, expectations}
+use Rattle.rows.specs.ResultRows as S
+use Rattle.rows.proofs.Written.{flat, Wide, flat-append, wide-append, written-rows, rows-of, rows-wide, rows-flat}
 use Rattle.recovery.specs.Recovery.{File, result, Accepted}
 use Rattle.recovery.proofs.Turns.{children}
 
--- ---------------------------------------------------------------- rows and numbers
-
-unfoldable pub flat : List Row → List ℕ
-flat [] = []
-flat (r ∷ l) = r ++ flat l
-
--- every row has w numbers
-abbrev pub Wide : ℕ → List Row → Type 0
-Wide w [] = Unit {0}
-Wide w (r ∷ l) = (length r ≡ w) × Wide w l
-
-pub flat-append : (l m : List Row) → flat (l ++ m) ≡ flat l ++ flat m
-unfolding flat
-flat-append [] m = refl
-flat-append (r ∷ l) m = ap (r ++_) (flat-append l m) ∙ sym (append-assoc r (flat l) (flat m))
-
-pub wide-append : (w : ℕ) (l m : List Row) → Wide w l → Wide w m → Wide w (l ++ m)
-wide-append w [] m h g = g
-wide-append w (r ∷ l) m h g = (h .0, wide-append w l m (h .1) g)
-
-flat-length : (w : ℕ) (l : List Row) → Wide w l → length (flat l) ≡ w * length l
-unfolding flat
-flat-length w [] h = sym (native.Mathlib.Nat.mul-zero w)
-flat-length w (r ∷ l) h = length-append r (flat l) ∙ ap (_+ length (flat l)) (h .0) ∙ ap (w +_) (flat-length w l (h .1)) ∙ step
-  where
-    step : w + w * length l ≡ w * suc (length l)
-    step = native.Mathlib.Nat.add-comm w (w * length l) ∙ sym (native.Mathlib.Nat.mul-suc w (length l))
-
-first-flat : (w : ℕ) (l : List Row) (z : List ℕ) → Wide w l → cut-rows (length l) w (flat l ++ z) ≡ l
-unfolding cut-rows flat
-first-flat w [] z h = refl
-first-flat w (r ∷ l) z h =
-    let e : (r ++ flat l) ++ z ≡ r ++ (flat l ++ z) = append-assoc r (flat l) z in
-    (λ i. take w (e i) ∷ cut-rows (length l) w (drop w (e i)))
-    ∙ (λ i. take-at r (flat l ++ z) w (h .0) i ∷ cut-rows (length l) w (drop-at r (flat l ++ z) w (h .0) i))
-    ∙ ap (r ∷_) (first-flat w l z (h .1))
-
--- WRITTEN ROWS are read back from the front of a buffer, whatever stood there
-written-rows : (w : ℕ) (l : List Row) (m b : List ℕ) → 0 < w → Wide w l → m ≡ flat l → cut-rows (length m / w) w (written m b) ≡ l
-written-rows w l m b pos h e =
-    let c : length m / w ≡ length l = ap (λ (n : ℕ). n / w) (ap length e ∙ flat-length w l h) ∙ mul-div-cancel-left (length l) pos in
-    ap (λ (n : ℕ). cut-rows n w (written m b)) c
-    ∙ ap (λ (x : List ℕ). cut-rows (length l) w (x ++ replicate (length b - length m) 0)) e
-    ∙ first-flat w l (replicate (length b - length m) 0) h
-
 -- ---------------------------------------------------------------- the rows
-
-unfoldable pub rows-of : Tree → List Row
-unfolding byte-count width count
-rows-of nil = []
-rows-of (leaf k ts f) = (1 ∷ k ∷ byte-count ts ∷ length ts ∷ []) ∷ rows-of f
-rows-of (subtree k c f) = (0 ∷ k ∷ width c ∷ count c ∷ []) ∷ (rows-of c ++ rows-of f)
-
-rows-wide : (f : Tree) → Wide TREE-ROW (rows-of f)
-unfolding rows-of
-rows-wide nil = tt
-rows-wide (leaf k ts f) = (refl, rows-wide f)
-rows-wide (subtree k c f) = (refl, wide-append TREE-ROW (rows-of c) (rows-of f) (rows-wide c) (rows-wide f))
-
-rows-flat : (f : Tree) → rows f ≡ flat (rows-of f)
-unfolding rows-of rows flat
-rows-flat nil = refl
-rows-flat (leaf k ts f) = ap (λ (l : List ℕ). 1 ∷ k ∷ byte-count ts ∷ length ts ∷ l) (rows-flat f)
-rows-flat (subtree k c f) =
-    ap (λ (l : List ℕ). 0 ∷ k ∷ width c ∷ count c ∷ l) ((λ i. rows-flat c i ++ rows-flat f i) ∙ sym (flat-append (rows-of c) (rows-of f)))
 
 unfoldable pub errors-of : ℕ → List Token → List Row
 unfolding is-error

@@ -1,3 +1,2 @@
--- The third promise as a statement: what a call wrote, row by row, and what two source files share past a semicolon.
-pub mod ResultRows
+-- The third promise as a statement: what two source files share past a semicolon.
 pub mod Recovery

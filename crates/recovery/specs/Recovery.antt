@@ -13,7 +13,7 @@ use Rattle.definitions.specs.TokenKind as K
 use Rattle.definitions.specs.NodeKind as N
 use Rattle.definitions.specs.Token.{tokens-of, one-of}
 use Rattle.definitions.specs.Call.{Buffers, Result, call}
-use Rattle.recovery.specs.ResultRows.{Row, tree-rows, error-rows, report-rows, expectations, class, kind, count, number, start, end, message, mark, first-place, pool-count, hint, label-start, label-end, Subtrees, raw-tokens, raw-bytes}
+use Rattle.rows.specs.ResultRows.{Row, tree-rows, error-rows, report-rows, expectations, class, kind, count, number, start, end, message, mark, first-place, pool-count, hint, label-start, label-end, Subtrees, raw-tokens, raw-bytes}
 
 -- ---------------------------------------------------------------- two files
 

@@ -10,11 +10,11 @@ use borrow.Author.Tests.{le-leb}
 use Rattle.basics.specs.Word.{low}
 use Rattle.definitions.specs.Layout.{TREE-ROW, LEAF, TWO-TO-32}
 use Rattle.definitions.specs.Token.{Token, byte-count}
-use Rattle.definitions.specs.Place.{Tree, nil, leaf, _⊕_, width, count, rows, tree-row}
+use Rattle.definitions.specs.Place.{Tree, nil, leaf, _⊕_, width, count, rows, tree-row, row-count}
 use Rattle.laws.proofs.Tree.{rows-beside, width-beside, count-beside}
 use Rattle.sink_rows.specs.Rows.{put, tree-field}
 use Rattle.sink.specs.Model.{On, on, moved, leaf-on}
-use Rattle.laws.proofs.Decode.{row-count, rows-length}
+use Rattle.laws.proofs.Decode.{rows-length}
 use Rattle.sink.proofs.Trees.{raw, raw-beside, row-count-beside, rows-add}
 
 -- written: the numbers written. free: the rest of the buffer. The other fields are the sink's.

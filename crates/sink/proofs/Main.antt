@@ -14,14 +14,14 @@ use Rattle.definitions.specs.TokenKind as K
 use Rattle.definitions.specs.Token.{Token, drop-trivia, past}
 use Rattle.definitions.specs.Skeleton.{Skeleton, done, token, name, node, ignored, report, over}
 use Rattle.definitions.specs.Event.{events as events-of}
-use Rattle.definitions.specs.Place.{Tree, nil, leaf, subtree, _⊕_, lead, front, after, place, width, rows}
+use Rattle.definitions.specs.Place.{Tree, nil, leaf, subtree, _⊕_, lead, front, after, place, width, rows, row-count}
 use Rattle.laws.proofs.Trivia.{Solid, dropped-solid, drop-twice}
 use Rattle.machine.specs.Encode.{start-tag, encode}
 use Rattle.sink.specs.Encode.{event-row, Alone, Chained}
 use Rattle.sink_rows.specs.Rows.{field}
 use Rattle.sink.specs.Model.{On, token-on, trivia-on, combined-on, start-on, finish-on, event-on, eventsN}
 use Rattle.sink.proofs.Encode.{event-count, events-length, encode-count}
-use Rattle.laws.proofs.Decode.{row-count, rows-length}
+use Rattle.laws.proofs.Decode.{rows-length}
 use Rattle.sink.proofs.Trees.{raw, raw-beside, row-count-beside, count-rows, raw-lead, raw-place}
 use Rattle.sink.proofs.Grow.{Filled, state, grow, grow-grow, grow-nil, Fits, fits-front, fits-back}
 use Rattle.sink.proofs.Steps.{From, from-grown, token-runs, trivia-runs, name-runs, inside, finish-runs}

@@ -15,12 +15,11 @@ use Rattle.definitions.specs.Layout.{TOKEN-ROW, TOKEN-LENGTH, TREE-ROW, NODE, T
 use Rattle.definitions.specs.LexError as L
 use Rattle.definitions.specs.TokenKind as K
 use Rattle.definitions.specs.Token.{Token, tokens-of, is-error, seen, trivia, byte-count}
-use Rattle.definitions.specs.Place.{Tree, nil, leaf, subtree, _⊕_, lead, front, width, count, rows, tree-row}
+use Rattle.definitions.specs.Place.{Tree, nil, leaf, subtree, _⊕_, lead, front, width, count, rows, tree-row, row-count}
 use Rattle.sink_rows.specs.Rows.{PARENT, KIND, FIRST-BYTE, CHILDREN-BEFORE}
 use Rattle.sink_tokens.specs.Tokens.{kind-seen, trivia-here, at-most, widthN}
 use Rattle.sink.specs.Model.{sink-of, trivia-on, token-on, combined-on, finish-on}
 use Rattle.sink.proofs.Loops.{trivia-more, trivia-done}
-use Rattle.laws.proofs.Decode.{row-count}
 use Rattle.sink.proofs.Trees.{raw}
 use Rattle.sink.proofs.Grow.{Filled, state, grow, grow-grow, grow-nil, Fits, fits-front, fits-back, low-small, put-seam, field-seam, leaf-runs}
 

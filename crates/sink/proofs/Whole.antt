@@ -11,7 +11,7 @@ use Rattle.definitions.specs.Layout.{TREE-ROW, EVENT-ROW, ERROR-ROW}
 use Rattle.definitions.specs.Token.{Token, tokens-of}
 use Rattle.definitions.specs.Skeleton.{Skeleton}
 use Rattle.definitions.specs.Refusal.{no-tree-room, number-of}
-use Rattle.definitions.specs.Place.{nil, subtree, _⊕_, lead, after, place, root, count, rows, tree-row, lexical-errors}
+use Rattle.definitions.specs.Place.{nil, subtree, _⊕_, lead, after, place, root, count, rows, tree-row, lexical-errors, row-count}
 use Rattle.laws.specs.Lossless.{errors-in}
 use Rattle.basics.proofs.Tests.{and-left, and-right}
 use Rattle.sink.specs.declared.Sunk.{Sunk}
@@ -22,7 +22,7 @@ use Rattle.sink_tokens.specs.Tokens.{Log, log, errors-on}
 use Rattle.sink.specs.Model.{On, on, sink-of, trivia-on, finish-on, eventsN, root-on, events-on, Finished, finished, finished-in, finish-all}
 use Rattle.sink.specs.Promise.{number, Small, enough, Placed, Promise}
 use Rattle.sink.proofs.Encode.{event-count, events-length, encode-count}
-use Rattle.laws.proofs.Decode.{row-count, rows-length}
+use Rattle.laws.proofs.Decode.{rows-length}
 use Rattle.sink.proofs.Trees.{raw-place, root-width, root-rows-most}
 use Rattle.sink.proofs.Grow.{Filled, state, grow, grow-grow, Fits, fits-front, fits-back, put-seam}
 use Rattle.sink.proofs.Steps.{From, from-grown, trivia-runs, inside, finish-runs}

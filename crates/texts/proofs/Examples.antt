@@ -17,7 +17,7 @@ use Rattle.definitions.specs.Call.{Buffers, Result, call}
 use Rattle.definitions.specs.Text.{numbers-of, Text-result, text-call}
 use Rattle.basics.proofs.Tests.{and-left, and-right}
 use Rattle.basics.proofs.Lists.{rest-same, none-some}
-use Rattle.recovery.specs.ResultRows.{Row, tree-rows, none, leaf, over-leaves}
+use Rattle.rows.specs.ResultRows.{Row, tree-rows, none, leaf, over-leaves}
 use Rattle.recovery.specs.Recovery.{result, is-statement, Semicolon, start-byte, Shared}
 use Rattle.recovery.proofs.Witnesses.{lent, first}
 use Rattle.texts.specs.Plain.{none as no-blanks, Directive, Directive-at, Plain}

@@ -13,7 +13,7 @@ use Rattle.definitions.specs.Text.{numbers-of}
 use Rattle.basics.proofs.Lists.{first-same, rest-same, none-some}
 use Rattle.lexing.proofs.Lengths.{past-first, by-tokens}
 use Rattle.lexing.proofs.RowsPass.{read-back}
-use Rattle.recovery.specs.ResultRows.{tree-rows}
+use Rattle.rows.specs.ResultRows.{tree-rows}
 use Rattle.recovery.specs.Recovery.{result, Accepted, Semicolon, token-index, start-byte}
 use Rattle.recovery.proofs.Tail.{tail}
 use Rattle.recovery.proofs.Local.{stays-local}

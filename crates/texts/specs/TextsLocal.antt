@@ -8,7 +8,7 @@ use lib.ListN.{drop}
 use Rattle.definitions.specs.Lex.{lex}
 use Rattle.definitions.specs.Call.{Buffers}
 use Rattle.definitions.specs.Text.{numbers-of, text-call}
-use Rattle.recovery.specs.ResultRows.{tree-rows}
+use Rattle.rows.specs.ResultRows.{tree-rows}
 use Rattle.recovery.specs.Recovery.{File, result, Same-setting, Semicolon, start-byte, Shared}
 
 -- what a call of entry 1 over a text is given: setting, input bytes, lent buffers

@@ -21,6 +21,24 @@ pub fn room(r: &mut Rng, need: usize) -> usize {
     }
 }
 
+/// Of the buffer for a query's list, where so many numbers are needed: exactly that, with room or much of it, or too
+/// short.
+pub fn list(r: &mut Rng, need: usize) -> usize {
+    match r.n(10) {
+        0..3 => need,
+        3..5 => need + 1 + r.n(6),
+        5 => need + 64 + r.n(300),
+        6..8 => need.saturating_sub(1),
+        8 => 0,
+        _ => r.n(need),
+    }
+}
+
+/// Each buffer has what is needed, or some numbers more.
+pub fn fitting(r: &mut Rng, needs: Lengths) -> Lengths {
+    if r.p(60) { needs } else { std::array::from_fn(|i| needs[i] + slack(r, ROW[i])) }
+}
+
 /// A length below `need`, or `need` if that is 0: one number less, one row less, none, or any.
 fn short(r: &mut Rng, need: usize, row: usize) -> usize {
     match r.n(6) {

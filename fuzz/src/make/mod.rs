@@ -2,7 +2,7 @@
 use crate::call::{Call, flat};
 use crate::rng::Rng;
 use corpus::{Corpus, Tok};
-use dt_parser_layout::SETTING_STRICT;
+use dt_parser_layout::{ENTRY_SOURCE_FILE, SETTING_STRICT};
 use oracle::case::Case;
 use oracle::{generate, token};
 
@@ -73,6 +73,23 @@ impl Maker {
         if r.n(20_000) == 0 {
             limits::huge(r, call)
         }
+        way
+    }
+
+    /// Tokens and bytes of a source file, short mostly, since many calls are made of one; and the number of its way.
+    pub fn file(&mut self, r: &mut Rng, call: &mut Call) -> usize {
+        let most = r.pick(&[12, 24, 24, 48, 48, 48, 120, 1000]);
+        let mut way = self.call_of(r, ENTRY_SOURCE_FILE, call);
+        while call.bytes.len() > most {
+            way = self.call_of(r, ENTRY_SOURCE_FILE, call)
+        }
+        if r.p(10) {
+            bad::damage(r, call)
+        }
+        if r.n(20_000) == 0 {
+            limits::huge(r, call)
+        }
+        call.entry = ENTRY_SOURCE_FILE;
         way
     }
 

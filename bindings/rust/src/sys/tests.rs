@@ -1,4 +1,7 @@
 //! The call with a text in token buffers of every length, and what each buffer holds after it and after refused rows.
+//! Queries are in tests/queries.rs.
+
+mod queries;
 
 use super::*;
 
@@ -15,13 +18,14 @@ const ROOM: usize = 4000;
 fn lent(tokens: usize, others: usize) -> Buffers {
     let other = || vec![LENT; others];
     let tokens = vec![LENT; tokens];
-    Buffers { tokens, events: other(), trees: other(), errors: other(), reports: other(), pool: other() }
+    let list = Vec::new();
+    Buffers { tokens, events: other(), trees: other(), errors: other(), reports: other(), pool: other(), list }
 }
 
 impl Buffers {
     fn all_hold(&self, number: u32) -> bool {
-        let Self { tokens, events, trees, errors, reports, pool } = self;
-        [tokens, events, trees, errors, reports, pool].iter().all(|buffer| buffer.iter().all(|n| *n == number))
+        let Self { tokens, events, trees, errors, reports, pool, list } = self;
+        [tokens, events, trees, errors, reports, pool, list].iter().all(|buffer| buffer.iter().all(|n| *n == number))
     }
 }
 

@@ -2,6 +2,7 @@
 //! walks against it.
 
 use dt_parser::{Item, Leaf, Node, TextRange, Tree};
+use std::cmp::Ordering;
 
 /// What the rows say of an item.
 pub struct Known {
@@ -46,7 +47,7 @@ fn read_subtree(
     row
 }
 
-/// Every item of the tree, and the leaf at every offset.
+/// Every item of the tree, and the leaf and the items at every offset.
 pub fn check_items(tree: &Tree<'_>, known: &[Known]) {
     assert_eq!(tree.item_count(), known.len());
     assert_eq!(tree.item(known.len()), None);
@@ -56,7 +57,30 @@ pub fn check_items(tree: &Tree<'_>, known: &[Known]) {
     for offset in 0..known[0].range.end + 2 {
         let leaf = (0..known.len()).find(|row| known[*row].is_leaf && known[*row].range.contains(offset));
         assert_eq!(tree.leaf_at(offset).map(Leaf::row), leaf, "{offset}");
+        let items: Vec<usize> = tree.at_offset(offset).into_iter().map(Item::row).collect();
+        assert_eq!(items, chain(known, offset), "{offset} in\n{tree}");
     }
+}
+
+/// The rows from the root to the leaf at an offset: the leaf that has the byte, or at the end the last leaf.
+fn chain(known: &[Known], offset: usize) -> Vec<usize> {
+    let length = known[0].range.end;
+    let mut leaves = (0..known.len()).filter(|row| known[*row].is_leaf);
+    let leaf = match offset.cmp(&length) {
+        Ordering::Less => leaves.find(|row| known[*row].range.contains(offset)),
+        Ordering::Equal => leaves.next_back(),
+        Ordering::Greater => return Vec::new(),
+    };
+    // without a leaf the text is empty
+    let last = leaf.unwrap_or(0);
+    (0..=last).filter(|row| last < known[*row].after).collect()
+}
+
+/// The top-level parts that share a byte with a range, by looking at each byte of each part.
+pub fn check_parts(tree: &Tree<'_>, known: &[Known], range: TextRange) {
+    let shares = |row: &&usize| known[**row].range.byte_range().any(|byte| range.contains(byte));
+    let parts: Vec<usize> = known[0].children.iter().filter(shares).copied().collect();
+    assert!(tree.parts_in(range).map(Item::row).eq(parts), "{range} in\n{tree}");
 }
 
 fn check_item(tree: &Tree<'_>, known: &[Known], row: usize) {
@@ -112,16 +136,4 @@ fn covering(known: &[Known], range: TextRange) -> Option<usize> {
     }
     let covers = |known: &Known| !known.is_leaf && known.range.start <= start && end <= known.range.end;
     (0..known.len()).filter(|row| covers(&known[*row])).max_by_key(|row| known[*row].depth)
-}
-
-/// Numbers that look random and are the same each time.
-pub struct Random(pub u64);
-
-impl Random {
-    pub fn below(&mut self, n: usize) -> usize {
-        self.0 ^= self.0 << 13;
-        self.0 ^= self.0 >> 7;
-        self.0 ^= self.0 << 17;
-        (self.0 >> 32) as usize % n
-    }
 }

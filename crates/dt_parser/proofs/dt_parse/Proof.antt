@@ -1,5 +1,5 @@
 -- `dt_parse`: any other number, and entries 1 to 4.
-use mathlib.Core.Path.{sym, ap, _∙_}
+use mathlib.Core.Path.{refl, sym, ap, _∙_}
 use borrow.Author.Needs.{needs}
 use Rattle.definitions.specs.Refusal.{number-of, place-of}
 use Rattle.call.specs.Result.{answer-of, buffers-of, result-of}
@@ -67,7 +67,7 @@ returns-3 c =
     let asked = c .before .before .before .before .asked in
     let check = c .before .before .check in
     let test = c .if1 in
-    refused-call _ (a .setting) (a .bytes .now) (a .tokens .now) (buffers-of (a .events .now) (a .trees .now) (a .errors .now) (a .reports .now) (a .pool .now)) (a .entry) (result-of (check .result) (buffers-of (a .events .now) (a .trees .now) (a .errors .now) (a .reports .now) (a .pool .now))) (sym (ap asked-of (asked .given .1)) ∙ entry-of .ensures) (check .ensures .refused (test .left) _ (a .setting) (buffers-of (a .events .now) (a .trees .now) (a .errors .now) (a .reports .now) (a .pool .now)))
+    refused-call _ (a .setting) (a .bytes .now) (a .tokens .now) (buffers-of (a .events .now) (a .trees .now) (a .errors .now) (a .reports .now) (a .pool .now)) (a .entry) (result-of (check .result) (buffers-of (a .events .now) (a .trees .now) (a .errors .now) (a .reports .now) (a .pool .now))) (sym (ap asked-of (asked .given .1)) ∙ entry-of .ensures) (check .result) refl (check .ensures .not-sound (test .left))
 
 pub dt-parse-spec : {M : Type 1} → statement M
 dt-parse-spec =

@@ -5,6 +5,7 @@ pub mod checks;
 pub mod doc01;
 pub mod generate;
 pub mod lines;
+pub mod offset;
 pub mod parsed;
 pub mod parsers;
 pub mod rng;

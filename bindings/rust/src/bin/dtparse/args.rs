@@ -1,6 +1,6 @@
 //! The command's arguments.
 
-use dt_parser::{Entrypoint, Setting};
+use dt_parser::{Entrypoint, Position, Setting};
 use std::ffi::OsString;
 
 pub const HELP: &str = "\
@@ -16,17 +16,20 @@ with -I for each folder that it includes from:
   cpp -P -nostdinc -undef -x assembler-with-cpp FILE.dts | ./dtparse -
 
 What is shown, one or more of:
-  --reports      each report and lexical error with its source line
-  --nodes        the devicetree nodes, each with the line that it starts on
-  --tree         the whole tree, a line for each node and token
+  --reports         each report and lexical error with its source line
+  --nodes           the devicetree nodes, each with the line that it starts on
+  --tree            the whole tree, a line for each node and token
+  --at LINE:COLUMN  what stands there: the rows of the tree from the root to the token, each with
+                    its number. Both are counted from 1, columns in characters, as positions are
+                    shown; the end of the last line has the last token
 Without any of them: --reports --nodes for a source file, --reports --tree for another entry.
 
-  --strict       also report labels that the Devicetree Specification does not allow: others than
-                 letters, digits and underscores, or a digit first
-  --entry NAME   what the text is read as: SourceFile, ReferenceNoamp, PropValues or Cells;
-                 without it a file of token rows decides, and a source is a SourceFile
-  --color WHEN   auto (on a terminal, unless NO_COLOR is set), always or never
-  --help         this text
+  --strict          also report labels that the Devicetree Specification does not allow: others
+                    than letters, digits and underscores, or a digit first
+  --entry NAME      what the text is read as: SourceFile, ReferenceNoamp, PropValues or Cells;
+                    without it a file of token rows decides, and a source is a SourceFile
+  --color WHEN      auto (on a terminal, unless NO_COLOR is set), always or never
+  --help            this text
 
 Exit status: 0 no report and no lexical error; 1 there are some; 2 the call was refused, or the
 file or an argument is invalid. A note shows a part that was not understood and for which the
@@ -39,6 +42,7 @@ pub enum View {
     Reports,
     Nodes,
     Tree,
+    At(Position),
 }
 
 /// The name of the standard input.
@@ -79,6 +83,7 @@ pub fn read(given: &[OsString]) -> Result<Asked, String> {
             _ if !options || option == STANDARD_INPUT || !option.starts_with('-') => set(&mut file, argument)?,
             "--" => options = false,
             "--help" | "-h" => return Ok(Asked::Help),
+            "--at" => args.views.push(View::At(position(value()?)?)),
             "--entry" => args.entry = Some(entry(value()?)?),
             "--color" => args.color = color(value()?)?,
             "--strict" if argument == option => args.setting = Setting::Strict,
@@ -104,6 +109,16 @@ fn view(option: &str) -> Result<View, String> {
         "--tree" => Ok(View::Tree),
         _ => Err(format!("{option} is not an option")),
     }
+}
+
+/// A line and a column, both from 1.
+fn position(given: &str) -> Result<Position, String> {
+    let number = |text: &str| text.parse::<usize>().ok()?.checked_sub(1);
+    let read = |(line, column)| Some(Position { line: number(line)?, column: number(column)? });
+    given
+        .split_once(':')
+        .and_then(read)
+        .ok_or_else(|| format!("--at is LINE:COLUMN, both counted from 1, as 49:20, not {given}"))
 }
 
 fn entry(name: &str) -> Result<Entrypoint, String> {
@@ -146,6 +161,8 @@ mod tests {
         assert_eq!((args("-").file, args("--strict").file), ("-".to_string(), "-".to_string()));
         assert_eq!(args("-- --tree").file, "--tree");
         assert_eq!(args("--color auto x").color, None);
+        let at = |line, column| View::At(Position { line, column });
+        assert_eq!(args("--at 1:1 a --tree --at=49:20").views, [at(0, 0), View::Tree, at(48, 19)]);
         assert_eq!(asked("a --help b c"), Ok(Asked::Help));
     }
 
@@ -156,6 +173,12 @@ mod tests {
             ("a --trees", "--trees is not an option"),
             ("a --tree=1", "--tree=1 is not an option"),
             ("a --strict=0", "--strict=0 is not an option"),
+            ("a --at", "--at needs a value after it"),
+            ("a --at 1", "--at is LINE:COLUMN, both counted from 1, as 49:20, not 1"),
+            ("a --at 0:1", "--at is LINE:COLUMN, both counted from 1, as 49:20, not 0:1"),
+            ("a --at=1:0", "--at is LINE:COLUMN, both counted from 1, as 49:20, not 1:0"),
+            ("a --at 1:-1", "--at is LINE:COLUMN, both counted from 1, as 49:20, not 1:-1"),
+            ("a --at a.dts:1:1", "--at is LINE:COLUMN, both counted from 1, as 49:20, not a.dts:1:1"),
             ("a --entry", "--entry needs a value after it"),
             ("a --entry Name", "--entry is SourceFile, ReferenceNoamp, PropValues or Cells, not Name"),
             ("a --color blue", "--color is auto, always or never, not blue"),

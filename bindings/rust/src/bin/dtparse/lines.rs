@@ -1,5 +1,6 @@
 //! The lines of a text, for people.
 
+use crate::problems::plural;
 use dt_parser::{Columns, LineIndex, Position};
 
 /// A text with its line index. A line ends in LF; a CR before it belongs to the end.
@@ -32,6 +33,23 @@ impl<'t> Lines<'t> {
         let position = self.index.position(offset.min(self.text.len()), Columns::Characters);
         position.unwrap_or(Position { line: 0, column: 0 })
     }
+
+    /// The offset of a position; or why it has none: there is no such line, or the column lies past the line's end,
+    /// which is the column after the last character.
+    pub fn offset(&self, position: Position) -> Result<usize, String> {
+        let Some(line) = self.index.line_range(position.line) else {
+            let count = self.index.line_count();
+            let is_last_empty = count > 1 && self.line(count - 1).is_empty();
+            let last = if is_last_empty { ", the last of them empty" } else { "" };
+            return Err(format!("the text has {}{last}", plural(count, "line", "lines")));
+        };
+        let offset = self.index.offset(position, Columns::Characters);
+        offset.filter(|offset| *offset <= line.end).ok_or_else(|| {
+            let length = self.position(line.end).column;
+            let characters = plural(length, "character", "characters");
+            format!("line {} has {characters}, so that its end is column {}", position.line + 1, length + 1)
+        })
+    }
 }
 
 #[cfg(test)]
@@ -52,6 +70,32 @@ mod tests {
         assert_eq!(position(b"a\n", 1), "1:2");
         assert_eq!(position(b"a\n", 2), "2:1");
         assert_eq!(Lines::new(b"a\n").line(1), b"");
+    }
+
+    #[test]
+    fn every_position_that_is_shown_has_its_offset() {
+        for text in ["ab\n\ncé漢;\n", "a", "", "\n", "é\ré\n𝛼"] {
+            let lines = Lines::new(text.as_bytes());
+            for offset in (0..=text.len()).filter(|offset| text.is_char_boundary(*offset)) {
+                assert_eq!(lines.offset(lines.position(offset)), Ok(offset), "{text:?}");
+            }
+        }
+    }
+
+    #[test]
+    fn a_position_past_a_line_or_the_text_is_none() {
+        let offset = |text: &str, line, column| Lines::new(text.as_bytes()).offset(Position { line, column });
+        let why = |text, line, column| offset(text, line, column).unwrap_err();
+        assert_eq!(why("ab\nc\n", 0, 3), "line 1 has 2 characters, so that its end is column 3");
+        assert_eq!(why("ab\nc\n", 1, usize::MAX), "line 2 has 1 character, so that its end is column 2");
+        assert_eq!(why("ab\nc\n", 2, 1), "line 3 has 0 characters, so that its end is column 1");
+        assert_eq!(why("ab\nc\n", 3, 0), "the text has 3 lines, the last of them empty");
+        assert_eq!(why("é\nc", usize::MAX, 0), "the text has 2 lines");
+        assert_eq!(why("", 1, 0), "the text has 1 line");
+        assert_eq!(why("", 0, 1), "line 1 has 0 characters, so that its end is column 1");
+        // a caret does not stand inside of CR LF
+        assert_eq!(offset("é\r\nc", 0, 1), Ok(2));
+        assert_eq!(why("é\r\nc", 0, 2), "line 1 has 1 character, so that its end is column 2");
     }
 
     #[test]

@@ -1,6 +1,7 @@
 //! dtparse: shows what the parser makes of a source or of a file of token rows. `dtparse --help` says how.
 
 mod args;
+mod at;
 mod lines;
 mod nodes;
 mod problems;
@@ -55,7 +56,7 @@ fn show_rows(args: &Args, bytes: &[u8]) -> Result<(String, bool), String> {
         }
     };
     let name = file.name.filter(|name| !name.is_empty()).unwrap_or_else(|| format!("(text of {})", args.file));
-    Ok((page(args, &name, file.text, &parse).print(&args.views, entry), parse.is_clean()))
+    Ok((page(args, &name, file.text, &parse).print(args, entry)?, parse.is_clean()))
 }
 
 fn show_text(args: &Args, text: &[u8]) -> Result<(String, bool), String> {
@@ -68,7 +69,7 @@ fn show_text(args: &Args, text: &[u8]) -> Result<(String, bool), String> {
         }
     };
     let clean = parse.is_clean();
-    let mut out = page(args, name(args), text, &parse).print(&args.views, entry);
+    let mut out = page(args, name(args), text, &parse).print(args, entry)?;
     if !clean && refused::has_line_marks(text) {
         out += refused::LINE_MARKS;
     }
@@ -95,31 +96,33 @@ struct Page<'p> {
 }
 
 impl Page<'_> {
-    fn print(&self, views: &[View], entry: Entrypoint) -> String {
+    /// What is asked for; or why there is no answer, where it is asked for a position that the text does not have.
+    fn print(&self, args: &Args, entry: Entrypoint) -> Result<String, String> {
         let usual = match entry {
             Entrypoint::SourceFile => [View::Reports, View::Nodes],
             _ => [View::Reports, View::Tree],
         };
-        let views = if views.is_empty() { &usual } else { views };
-        let mut out = String::new();
-        let mut part = |text: String| {
-            let blank = if out.is_empty() || text.is_empty() { "" } else { "\n" };
-            out.push_str(blank);
-            out.push_str(&text);
-        };
+        let views = if args.views.is_empty() { usual.as_slice() } else { &args.views };
+        let mut parts = Vec::new();
         if views.contains(&View::Reports) {
-            part(problems::print(self));
+            parts.push(problems::print(self));
         }
         if views.contains(&View::Nodes) {
-            part(nodes::print(self));
+            parts.push(nodes::print(self));
         }
         if views.contains(&View::Tree) {
-            part(tree::print(self));
+            parts.push(tree::print(self));
         }
-        if views != [View::Tree] {
-            part(problems::summary(self));
+        for view in views {
+            if let View::At(position) = view {
+                parts.push(at::print(self, *position).map_err(|why| format!("{}: {why}", args.file))?);
+            }
         }
-        out
+        if views.contains(&View::Reports) || views.contains(&View::Nodes) {
+            parts.push(problems::summary(self));
+        }
+        parts.retain(|part| !part.is_empty());
+        Ok(parts.join("\n"))
     }
 }
 

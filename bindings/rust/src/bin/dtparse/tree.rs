@@ -23,7 +23,8 @@ pub fn print(page: &Page) -> String {
     out
 }
 
-fn ink(item: Item) -> Option<Ink> {
+/// The colours of an item; none for a token that is neither trivia nor an error.
+pub fn ink(item: Item) -> Option<Ink> {
     match item {
         Item::Node(node) if node.kind() == NodeKind::ParseError => Some(Ink::Error),
         Item::Node(_) => Some(Ink::Frame),

@@ -1,0 +1,63 @@
+// The top-level parts that share a byte with a range. A part ends where its leaves add up to its width; rows of width 0
+// that follow share no byte, whatever they belong to.
+use crate::list::put_if;
+use layout::row::TREE_ROW;
+use layout::row::TREE_WIDTH;
+ghost use mathlib.Core.Path.{_≡_};
+ghost use mathlib.Core.List.{[]};
+ghost use Prim.Native.Nat.{ℕ, _+_, _*_};
+ghost use lib.ListN.{length, drop};
+ghost use Rattle.definitions.specs.Layout.{TREE-ROW};
+ghost use Rattle.definitions.specs.Caret.{range, share};
+ghost use Rattle.rows.specs.OnePass.{tree-rows-of, starting, found, Classes, Adds-up, Sound};
+ghost use Rattle.caret.specs.Walk.{laid, passed};
+
+fn shares(from: u64, to: u64, start: u64, end: u64) -> bool
+    ensures { λ r. ⌜ r ≡ share from to start end ⌝ }
+{
+    let some = from < to;
+    if some {
+        let begins = from < end;
+        if begins {
+            let ends = start < to;
+            if ends { start < end } else { false }
+        } else {
+            false
+        }
+    } else {
+        false
+    }
+}
+
+// The index after the rows, from an index on, whose leaves add up to so many bytes.
+fn past(trees: &[u32], index: usize, inside: u32) -> usize
+    requires { ⌜ Classes (tree-rows-of (drop index (now trees))) × ((room : ℕ) × Adds-up inside room (tree-rows-of (drop index (now trees)))) ⌝ }
+    ensures { λ r. ⌜ r ≡ index + TREE-ROW * passed inside (tree-rows-of (drop index (now (trees .entry)))) ⌝ }
+{
+    let mut i = index;
+    let mut rest = inside;
+    while rest > 0 {
+        rest -= trees[i] * trees[i + TREE_WIDTH];
+        i += TREE_ROW;
+    }
+    i
+}
+
+pub fn sharing(from: u64, to: u64, trees: &[u32], list: &mut [u32]) -> usize
+    requires { ⌜ ((size : ℕ) × Sound size (tree-rows-of (now trees))) ⌝ }
+    ensures { λ r. ⌜ r ≡ length (found (range from to) 0 (tree-rows-of (now (trees .entry)))) ⌝ }
+    ensures { λ r. ⌜ now (list .exit) ≡ laid (found (range from to) 0 (tree-rows-of (now (trees .entry)))) (now (list .entry)) ⌝ }
+{
+    let mut index = TREE_ROW;
+    let mut start: u64 = 0;
+    let mut count: usize = 0;
+    while index + TREE_ROW <= trees.len() {
+        let width = trees[index + TREE_WIDTH];
+        let end = start + width as u64;
+        let listed = shares(from, to, start, end);
+        count = put_if(listed, list, count, (index / TREE_ROW) as u32);
+        index = past(trees, index + TREE_ROW, width - trees[index] * width);
+        start = end;
+    }
+    count
+}

@@ -1,0 +1,70 @@
+//! Both answers to a query, for a reader.
+use super::call::QueryCall;
+use super::judge::QueryJudge;
+use crate::buffers::Held;
+use crate::judge::Wrong;
+use crate::show::{answer, buffer_name, expected_buffer, numbers, rows};
+use dt_parser_ffi::{ListAnswer, Query};
+use dt_parser_layout::BUFFERS;
+
+/// Numbers of the list on a line.
+const LINE: usize = 16;
+/// Of a longer file nothing is printed but the answers.
+const MOST: usize = 2000;
+
+fn list_answer(a: &ListAnswer) -> String {
+    format!("{}, listed {}", answer(&a.answer), a.list_count)
+}
+
+fn list(all: &[u32]) {
+    numbers("list", all, LINE)
+}
+
+/// A call as a line, or only how long its file is.
+pub fn line(call: &QueryCall) -> String {
+    let length = call.parse.bytes.len();
+    if length <= MOST {
+        return call.line();
+    }
+    match call.query {
+        Query::Caret(offset) => format!("at {offset}, a file of {length} bytes"),
+        Query::Parts(start, end) => format!("from {start} to {end}, a file of {length} bytes"),
+    }
+}
+
+/// True if the two are the same.
+pub fn both(judge: &mut QueryJudge, call: &QueryCall) -> bool {
+    println!("call: {}", line(call));
+    let v = judge.whole(call, true);
+    match &v.wrong {
+        None => println!("both: {}", list_answer(&v.given)),
+        Some(Wrong::Panic(text)) => println!("the patched Rust panics: {text}"),
+        Some(Wrong::Oracle) => println!("the patched and the unchanged Rust differ"),
+        Some(Wrong::Readings) => println!("the readings of bad rows by document 01 and by request 4/14 do not agree"),
+        Some(Wrong::Finder) => println!("the Rust's own search finds another leaf at one of the offsets"),
+        Some(w) => {
+            println!("expected: {}\nlibrary:  {}", list_answer(&v.expected.answer), list_answer(&v.given));
+            match w {
+                Wrong::Buffer(i) => println!("the buffer that differs, or a number around it: {}", buffer_name(*i)),
+                Wrong::List => println!("the buffer that differs, or a number around it: list"),
+                Wrong::Input => println!("the library wrote to its input"),
+                _ => {}
+            }
+            if call.parse.bytes.len() > MOST {
+                return false;
+            }
+            println!("expected buffers:");
+            match judge.held_list(&v.expected) {
+                Held::AsItWas => println!("  list: as it was"),
+                Held::Rows(all) => list(all),
+                Held::Zero => println!("  list: all zero"),
+            }
+            let answer = v.expected.answer.answer;
+            (0..BUFFERS).for_each(|i| expected_buffer(&judge.parse, call.parse.setting, answer, i));
+            println!("the library's buffers, whole:");
+            list(judge.list.get());
+            (0..BUFFERS).for_each(|i| rows(i, judge.parse.buffers.get(i)))
+        }
+    }
+    v.wrong.is_none()
+}
