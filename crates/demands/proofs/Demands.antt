@@ -22,6 +22,9 @@ use Rattle.texts.proofs.TextRefusals as text-refusals
 use Rattle.texts.proofs.TextAnswered as text-answered
 use Rattle.texts.proofs.TextsLocal as texts-local
 use Rattle.row_causes.proofs.ToldApart as row-causes
+use Rattle.queries.proofs.Ending as ending
+use Rattle.queries.proofs.Suffice as suffice
+use Rattle.queries.proofs.Answered as answered
 use Rattle.run_steps.proofs.Complete as complete
 use Rattle.turns.proofs.Turns as turns
 use Rattle.pending.proofs.Repeats as pending
@@ -61,6 +64,13 @@ demands =
             texts-stay-local = texts-local.texts-stay-local;
           };
       row-causes = record { told-apart = row-causes.told-apart };
+      queries =
+          record {
+            as-parsed = ending.as-parsed;
+            rows-suffice = suffice.rows-suffice;
+            caret-answered = answered.caret-answered;
+            parts-answered = answered.parts-answered;
+          };
       beside =
           record {
             limits = limits.limits;

@@ -25,6 +25,9 @@ use Rattle.texts.specs.TextRefusals.{Text-refusals}
 use Rattle.texts.specs.TextAnswered.{Text-answered}
 use Rattle.texts.specs.TextsLocal.{Texts-stay-local}
 use Rattle.row_causes.specs.ToldApart.{Told-apart}
+use Rattle.queries.specs.AsParsed.{As-parsed, Rows-suffice}
+use Rattle.queries.specs.UnderCaret.{Caret-answered}
+use Rattle.queries.specs.PartsListed.{Parts-answered}
 use Rattle.run_steps.specs.Signs.{Complete}
 use Rattle.turns.specs.Turns.{Turns}
 use Rattle.pending.specs.Pending.{Repeats}
@@ -111,6 +114,19 @@ pub record Row-causes : Type 0 where
   -- count after a bad row; every other call is answered as it was. row_causes/specs/ToldApart.antt, over Before.antt.
   pub told-apart : Told-apart
 
+-- THE TWO QUERIES, document 02's request 5/14.
+pub record Queries : Type 0 where
+  -- Both parse first: any query is refused as the parse of its file is, or with 8 where its list does not fit; all else
+  -- is what the parse leaves. A list for as many numbers as there are tree rows always fits. queries/specs/AsParsed.antt.
+  pub as-parsed : As-parsed
+  pub rows-suffice : Rows-suffice
+  -- The rows under the caret are the one chain from the root to the leaf that owns the offset, and no other leaf does;
+  -- at the file's end to the last leaf. queries/specs/UnderCaret.antt, over rows/specs/RowTree.antt.
+  pub caret-answered : Caret-answered
+  -- A top-level part is listed exactly if it shares a byte with the range, in order and once.
+  -- queries/specs/PartsListed.antt.
+  pub parts-answered : Parts-answered
+
 -- What holds beside the promises, of the definitions and of all that the code can meet.
 pub record Beside : Type 0 where
   -- In an accepted call at most 64 calls are open and at most 256 expectations are pending, at every moment of a run.
@@ -142,4 +158,5 @@ pub record Demands : Type 0 where
   pub strict : Strict
   pub texts : Texts
   pub row-causes : Row-causes
+  pub queries : Queries
   pub beside : Beside

@@ -83,7 +83,7 @@ module _ (k : ℕ) (c : Tree) (size : ℕ) (e : raw-bytes (rows-of (subtree k c 
           is-leaf = p .is-leaf;
           chain = p .chain;
           only-one = λ other x. one-chain all 0 j (holding 1 byte (rows-of c ++ [])) other (p .chain) x;
-          owns = λ x. subst (Has-byte all j) (inside x) (p .has);
+          owns = λ x. subst (Has-byte all j) (inside (omega (arith, x))) (p .has);
           alone = λ x i y z. one-leaf all i j offset y (p .is-leaf) z (subst (Has-byte all j) (inside x) (p .has));
           last = λ x i y. not-after (end x) i y;
           ends = λ x. (let a = leaf-within all j (p .is-leaf) in omega (arith, a, p .has .1, e, end x));

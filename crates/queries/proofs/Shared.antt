@@ -63,16 +63,18 @@ module _ (all : List Row) (from to i start end : ℕ) (s : first-byte all i ≡ 
       record {
         byte = later from start;
         after-start = x;
-        before-end = later-below from start to a c;
+        before-end = (let z = later-below from start to a c in omega (arith, z));
         has = (omega (arith, y, s), (let z = later-below from start end b d in omega (arith, z, e)));
       }
 
   pub byte-share : Shares all from to i → share from to start end ≡ true
   byte-share h =
-      rw (lt-ltb from to (omega (arith, h .after-start, h .before-end)),
-      lt-ltb from end (omega (arith, h .after-start, h .has .1, e)),
-      lt-ltb start to (omega (arith, h .before-end, h .has .0, s)),
-      lt-ltb start end (omega (arith, h .has .0, h .has .1, s, e)))
+      rw (
+        lt-ltb from to (omega (arith, h .after-start, h .before-end)),
+        lt-ltb from end (omega (arith, h .after-start, h .has .1, e)),
+        lt-ltb start to (omega (arith, h .before-end, h .has .0, s)),
+        lt-ltb start end (omega (arith, h .has .0, h .has .1, s, e)),
+      )
       refl
 
 -- ---------------------------------------------------------------- the parts in turn
@@ -87,7 +89,7 @@ record Lists (all : List Row) (from to s before many : ℕ) (rows : List ℕ) : 
 
 ascending-cons : (x : ℕ) (l : List ℕ) → ((i : ℕ) → On i l → x < i) → Ascending l → Ascending (x ∷ l)
 ascending-cons x [] h a = tt
-ascending-cons x (y ∷ l) h a = (h y (inl refl), a)
+ascending-cons x (y ∷ l) h a = (let z = h y (inl refl) in omega (arith, z), a)
 
 module _ (all : List Row) (from to s next before many start end : ℕ) (c : Child all 0 s) (cb : c .before ≡ before) (fs : first-byte all s ≡ start) (es : end-byte all s ≡ end)
     (sn : s < next) (more : List ℕ) (r : Lists all from to next (suc before) many more) where

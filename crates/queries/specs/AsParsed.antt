@@ -46,3 +46,9 @@ abbrev pub As-parsed : Type 0
 As-parsed =
     (q : Query) (setting : ℕ) (bytes tokens : List ℕ) (b : Buffers) (list : List ℕ)
     → Ends-as-parsed b list (listed q (length bytes) (source-tree (tokens-of tokens))) (call 1 setting bytes tokens b) (query-call q setting bytes tokens b list)
+
+-- A list for as many numbers as the tree has rows is never too short: it fits wherever the tree does.
+abbrev pub Rows-suffice : Type 0
+Rows-suffice =
+    (q : Query) (setting : ℕ) (bytes tokens : List ℕ) (b : Buffers) (list : List ℕ) → call 1 setting bytes tokens b .answer .number ≡ 0
+    → call 1 setting bytes tokens b .answer .tree-count ≤ length list → query-call q setting bytes tokens b list .answer .number ≡ 0

@@ -285,9 +285,10 @@ loop-again c =
     past-row trees (l .i + TREE-ROW) left (p .going) (ltb-false left _ (c .before .before .if1 .left)) in
     let v = there trees (l .i + TREE-ROW + TREE-ROW) _ (q .going) in
     let e : l .i + TREE-ROW + TREE-ROW ≡ l .i + 8 = omega arith in
-    let rest = left - getD trees (l .i + TREE-ROW) 0 * getD trees (l .i + TREE-ROW + TREE-WIDTH) 0 in
-    (ap (λ (j : ℕ). seek-from j rest (rows-from trees j)) (sym e) ∙ sym (q .same) ∙ sym (p .same) ∙ l .inv .0,
-    (subst (λ (j : ℕ). Going trees j rest) e (q .going), (refl, omega (arith, l .inv .1 .1 .1))))
+    let rest = left - getD trees (l .i + TREE-ROW) 0 * getD trees (l .i + TREE-ROW + TREE-WIDTH) 0 in (
+      ap (λ (j : ℕ). seek-from j rest (rows-from trees j)) (sym e) ∙ sym (q .same) ∙ sym (p .same) ∙ l .inv .0,
+      (subst (λ (j : ℕ). Going trees j rest) e (q .going), (refl, omega (arith, l .inv .1 .1 .1))),
+    )
 
 returns-2 : tie.Need-returns-2 Inv-loop μ-loop
 returns-2 c =
