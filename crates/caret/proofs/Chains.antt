@@ -161,7 +161,7 @@ unfolding laid
 walk-starts byte trees list h c =
     record { done = []; row = 0; at = refl; going = record { bytes = h; classes = c }; counted = refl; few = omega arith; on-list = refl; whole = refl }
 
-module _ (byte : ℕ) (trees list₀ list : List ℕ) (index left count : ℕ) (w : Walked byte trees list₀ list index left count) where
+module _ {byte : ℕ} {trees list₀ list : List ℕ} {index left count : ℕ} (w : Walked byte trees list₀ list index left count) where
   abbrev pub spot-here : Spot
   spot-here = seek-from index left (rows-from trees index)
 

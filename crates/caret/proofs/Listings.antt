@@ -97,10 +97,10 @@ no-rows (a ∷ b ∷ []) h = refl
 no-rows (a ∷ b ∷ c ∷ []) h = refl
 no-rows (a ∷ b ∷ c ∷ d ∷ l) h = absurd (omega (arith, h))
 
-pub listing-ends : (fr to : ℕ) (trees list₀ list : List ℕ) (index start count : ℕ) → Listing fr to trees list₀ list index start count → length trees < index + TREE-ROW
+pub listing-ends : {fr to : ℕ} {trees list₀ list : List ℕ} {index start count : ℕ} → Listing fr to trees list₀ list index start count → length trees < index + TREE-ROW
     → (count ≡ length (found (range fr to) 0 (tree-rows-of trees))) × (list ≡ laid (found (range fr to) 0 (tree-rows-of trees)) list₀)
 unfolding starting
-listing-ends fr to trees list₀ list index start count w h =
+listing-ends {fr} {to} {trees} {list₀} {list} {index} {start} {count} w h =
     let none : rows-from trees index ≡ [] = no-rows (drop index trees) (let z = length-drop index trees in omega (arith, z, h)) in
     let all : w .done ≡ found (range fr to) 0 (tree-rows-of trees) = sym (append-nil (w .done)) ∙ ap (λ (l : List Row). w .done ++ starting fr to (w .row) 0 start l) (sym none) ∙ w .whole in
     (w .counted ∙ ap length all, w .on-list ∙ ap (λ (l : List ℕ). laid l list₀) all)
@@ -116,7 +116,7 @@ pub record Turn (trees : List ℕ) (index room : ℕ) : Type 0 where
   pub adds : Adds-up (getD trees (index + TREE-WIDTH) 0 - own (row-from trees index)) (room - getD trees (index + TREE-WIDTH) 0) (rows-from trees (index + TREE-ROW))
   pub is : rows-from trees index ≡ row-from trees index ∷ rows-from trees (index + TREE-ROW)
 
-module _ (fr to : ℕ) (trees list₀ list : List ℕ) (index start count : ℕ) (w : Listing fr to trees list₀ list index start count) (h : index + TREE-ROW ≤ length trees) where
+module _ {fr to : ℕ} {trees list₀ list : List ℕ} {index start count : ℕ} (w : Listing fr to trees list₀ list index start count) (h : index + TREE-ROW ≤ length trees) where
   pub turn-here : Turn trees index (w .room)
   unfolding Classes Adds-up
   turn-here =

@@ -73,9 +73,60 @@ past-row trees i left g h =
           ∙ ap (λ (t : Bool). cond t (spot i left) (seek-from (i + TREE-ROW) (left - own (row-from trees i)) (rows-from trees (i + TREE-ROW)))) (le-ltb left (getD trees (i + TREE-WIDTH) 0) h);
     }
 
--- the same with the width as the walk has read it
-pub past-read : (trees : List ℕ) (i left w : ℕ) → Going trees i left → w ≡ getD trees (i + TREE-WIDTH) 0 → w ≤ left → Past trees i left (getD trees i 0 * w)
-past-read trees i left w g e h = subst (λ (x : ℕ). Past trees i left (getD trees i 0 * x)) (sym e) (past-row trees i left g (subst (λ (x : ℕ). x ≤ left) e h))
+-- what `seek` knows at an index: what is found from here is what is found from the start, the byte is still to come, and
+-- the width of the row here is read
+pub record Seeking (trees : List ℕ) (index left i rest w : ℕ) : Type 0 where
+  pub same : seek-from i rest (rows-from trees i) ≡ seek-from index left (rows-from trees index)
+  pub going : Going trees i rest
+  pub read : w ≡ getD trees (i + TREE-WIDTH) 0
+  pub fewer : rest ≤ left
+
+module _ {trees : List ℕ} {index left i rest w : ℕ} (s : Seeking trees index left i rest w) where
+  pub row-there : i + TREE-ROW ≤ length trees
+  row-there = there trees i rest (s .going)
+
+  pub found-here : rest < w → spot i rest ≡ seek-from index left (rows-from trees index)
+  found-here h = sym (here trees i rest (s .going) (omega (arith, h, s .read))) ∙ s .same
+
+  -- past the first row of a turn
+  module _ (h : w ≤ rest) where
+    abbrev rest-1 : ℕ
+    rest-1 = rest - getD trees i 0 * w
+
+    past-first : Past trees i rest (getD trees i 0 * w)
+    past-first = subst (λ (x : ℕ). Past trees i rest (getD trees i 0 * x)) (sym (s .read)) (past-row trees i rest (s .going) (omega (arith, h, s .read)))
+
+    pub first-less : getD trees i 0 * w ≤ rest
+    first-less = past-first .less
+
+    pub second-there : i + TREE-ROW + TREE-ROW ≤ length trees
+    second-there = there trees (i + TREE-ROW) rest-1 (past-first .going)
+
+    pub found-second : rest-1 < getD trees (i + TREE-ROW + TREE-WIDTH) 0 → spot (i + TREE-ROW) rest-1 ≡ seek-from index left (rows-from trees index)
+    found-second q = sym (here trees (i + TREE-ROW) rest-1 (past-first .going) q) ∙ sym (past-first .same) ∙ s .same
+
+    -- and past the second
+    module _ (q : getD trees (i + TREE-ROW + TREE-WIDTH) 0 ≤ rest-1) where
+      abbrev moved : ℕ
+      moved = getD trees (i + TREE-ROW) 0 * getD trees (i + TREE-ROW + TREE-WIDTH) 0
+
+      past-second : Past trees (i + TREE-ROW) rest-1 moved
+      past-second = past-row trees (i + TREE-ROW) rest-1 (past-first .going) q
+
+      pub second-less : moved ≤ rest-1
+      second-less = past-second .less
+
+      pub third-there : i + TREE-ROW + TREE-ROW + TREE-ROW ≤ length trees
+      third-there = there trees (i + TREE-ROW + TREE-ROW) (rest-1 - moved) (past-second .going)
+
+      pub both-past : (j : ℕ) → j ≡ i + TREE-ROW + TREE-ROW → Seeking trees index left j (rest-1 - moved) (getD trees (j + TREE-WIDTH) 0)
+      both-past j e =
+          record {
+            same = ap (λ (k : ℕ). seek-from k (rest-1 - moved) (rows-from trees k)) e ∙ sym (past-second .same) ∙ sym (past-first .same) ∙ s .same;
+            going = subst (λ (k : ℕ). Going trees k (rest-1 - moved)) (sym e) (past-second .going);
+            read = refl;
+            fewer = omega (arith, s .fewer);
+          }
 
 -- ---------------------------------------------------------------- passing over a part
 
@@ -90,8 +141,8 @@ unfolding Adds-up
 inside-row [] inside room p h = absurd (omega (arith, h))
 inside-row (r ∷ m) inside room p h = (r, m, refl)
 
-pub inside-there : (trees : List ℕ) (i inside : ℕ) → 0 < inside → Inside trees i inside → i + TREE-ROW ≤ length trees
-inside-there trees i inside p g = let s = inside-row (rows-from trees i) inside (g .room) p (g .adds) in rows-some trees i (s .0) (s .1) (s .2)
+pub inside-there : {trees : List ℕ} {i inside : ℕ} → Inside trees i inside → 0 < inside → i + TREE-ROW ≤ length trees
+inside-there {trees} {i} {inside} g p = let s = inside-row (rows-from trees i) inside (g .room) p (g .adds) in rows-some trees i (s .0) (s .1) (s .2)
 
 -- past a row of the part
 pub record Less (trees : List ℕ) (i inside moved : ℕ) : Type 0 where
@@ -99,11 +150,11 @@ pub record Less (trees : List ℕ) (i inside moved : ℕ) : Type 0 where
   pub inside-still : Inside trees (i + TREE-ROW) (inside - moved)
   pub one-more : passed inside (rows-from trees i) ≡ suc (passed (inside - moved) (rows-from trees (i + TREE-ROW)))
 
-pub inside-past : (trees : List ℕ) (i inside : ℕ) → 0 < inside → Inside trees i inside → Less trees i inside (getD trees i 0 * getD trees (i + TREE-WIDTH) 0)
+pub inside-past : {trees : List ℕ} {i inside : ℕ} → Inside trees i inside → 0 < inside → Less trees i inside (getD trees i 0 * getD trees (i + TREE-WIDTH) 0)
 unfolding Classes Adds-up passed
-inside-past trees i zero p g = absurd (omega arith)
-inside-past trees i (suc n) p g =
-    let e : rows-from trees i ≡ row-from trees i ∷ rows-from trees (i + TREE-ROW) = rows-cons trees i (inside-there trees i (suc n) p g) in
+inside-past {trees = trees} {i = i} {inside = zero} g p = absurd (omega arith)
+inside-past {trees = trees} {i = i} {inside = suc n} g p =
+    let e : rows-from trees i ≡ row-from trees i ∷ rows-from trees (i + TREE-ROW) = rows-cons trees i (inside-there g p) in
     let c : Classes (row-from trees i ∷ rows-from trees (i + TREE-ROW)) = subst Classes e (g .classes) in
     let a : Adds-up (suc n) (g .room) (row-from trees i ∷ rows-from trees (i + TREE-ROW)) = subst (Adds-up (suc n) (g .room)) e (g .adds) in
     let q : getD trees i 0 * getD trees (i + TREE-WIDTH) 0 ≡ own (row-from trees i) = own-product (getD trees i 0) (getD trees (i + TREE-WIDTH) 0) (c .0) in

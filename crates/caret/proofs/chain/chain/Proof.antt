@@ -32,7 +32,7 @@ cast-put c =
     let a = c .before .before .before .before .before .args in
     let l = c .before .before .loop in
     let k = c .before .seek in
-    let f = at-hand (a .byte) (a .trees .now) (a .list .now) (l .list) (l .index) (l .left) (l .count) (l .inv) (k .result) (k .ensures) in
+    let f = at-hand (l .inv) (k .result) (k .ensures) in
     omega (arith, f .at, f .few, c .before .before .before .before .before .pre .2)
 
 put-requires : tie.Need-put-requires Inv-loop μ-loop
@@ -44,7 +44,7 @@ add-count c =
     let a = c .before .before .before .before .before .before .before .before .args in
     let l = c .before .before .before .before .before .loop in
     let k = c .before .before .before .before .seek in
-    let f = at-hand (a .byte) (a .trees .now) (a .list .now) (l .list) (l .index) (l .left) (l .count) (l .inv) (k .result) (k .ensures) in
+    let f = at-hand (l .inv) (k .result) (k .ensures) in
     omega (arith, l .inv .few, l .inv .at, f .at, f .later, f .numbers-there)
 
 mul-leaf : tie.Need-mul-leaf Inv-loop μ-loop
@@ -52,7 +52,7 @@ mul-leaf c =
     let a = c .before .before .before .before .before .before .before .before .args in
     let l = c .before .before .before .before .before .loop in
     let k = c .before .before .before .before .seek in
-    let f = at-hand (a .byte) (a .trees .now) (a .list .now) (l .list) (l .index) (l .left) (l .count) (l .inv) (k .result) (k .ensures) in
+    let f = at-hand (l .inv) (k .result) (k .ensures) in
     omega (arith, f .numbers-there)
 
 shared-slice-read-leaf : tie.Need-shared-slice-read-leaf Inv-loop μ-loop
@@ -60,7 +60,7 @@ shared-slice-read-leaf c =
     let a = c .before .before .before .before .before .before .before .before .before .args in
     let l = c .before .before .before .before .before .before .loop in
     let k = c .before .before .before .before .before .seek in
-    let f = at-hand (a .byte) (a .trees .now) (a .list .now) (l .list) (l .index) (l .left) (l .count) (l .inv) (k .result) (k .ensures) in
+    let f = at-hand (l .inv) (k .result) (k .ensures) in
     omega (arith, f .numbers-there)
 
 same-length : tie.Need-same-length Inv-loop μ-loop
@@ -68,7 +68,7 @@ same-length c =
     let a = c .before .before .before .before .before .before .before .before .before .before .args in
     let l = c .before .before .before .before .before .before .before .loop in
     let k = c .before .before .before .before .before .before .seek in
-    let f = at-hand (a .byte) (a .trees .now) (a .list .now) (l .list) (l .index) (l .left) (l .count) (l .inv) (k .result) (k .ensures) in
+    let f = at-hand (l .inv) (k .result) (k .ensures) in
     let n = ap length (l .inv .on-list) ∙ laid-length (l .inv .done) (a .list .now) in
     omega (arith, c .before .before .before .before .put .kept, n)
 
@@ -77,16 +77,16 @@ returns c =
     let a = c .before .before .before .before .before .before .before .before .before .before .args in
     let l = c .before .before .before .before .before .before .before .loop in
     let k = c .before .before .before .before .before .before .seek in
-    let f = at-hand (a .byte) (a .trees .now) (a .list .now) (l .list) (l .index) (l .left) (l .count) (l .inv) (k .result) (k .ensures) in
+    let f = at-hand (l .inv) (k .result) (k .ensures) in
     let p = c .before .before .before .before .put in
-    ends-at (a .byte) (a .trees .now) (a .list .now) (l .list) (l .index) (l .left) (l .count) (l .inv) (k .result) (k .ensures) (p .last .0) (p .ensures) (eqb-true _ _ (c .if1 .taken))
+    ends-at (l .inv) (k .result) (k .ensures) (p .last .0) (p .ensures) (eqb-true _ _ (c .if1 .taken))
 
 add-index : tie.Need-add-index Inv-loop μ-loop
 add-index c =
     let a = c .before .before .before .before .before .before .before .before .before .before .args in
     let l = c .before .before .before .before .before .before .before .loop in
     let k = c .before .before .before .before .before .before .seek in
-    let f = at-hand (a .byte) (a .trees .now) (a .list .now) (l .list) (l .index) (l .left) (l .count) (l .inv) (k .result) (k .ensures) in
+    let f = at-hand (l .inv) (k .result) (k .ensures) in
     omega (arith, f .numbers-there)
 
 loop-less : tie.Need-loop-less Inv-loop μ-loop
@@ -94,7 +94,7 @@ loop-less c =
     let a = c .before .before .before .before .before .before .before .before .before .before .args in
     let l = c .before .before .before .before .before .before .before .loop in
     let k = c .before .before .before .before .before .before .seek in
-    let f = at-hand (a .byte) (a .trees .now) (a .list .now) (l .list) (l .index) (l .left) (l .count) (l .inv) (k .result) (k .ensures) in
+    let f = at-hand (l .inv) (k .result) (k .ensures) in
     omega (arith, f .later, f .numbers-there)
 
 loop-again : tie.Need-loop-again Inv-loop μ-loop
@@ -102,9 +102,9 @@ loop-again c =
     let a = c .before .before .before .before .before .before .before .before .before .before .args in
     let l = c .before .before .before .before .before .before .before .loop in
     let k = c .before .before .before .before .before .before .seek in
-    let f = at-hand (a .byte) (a .trees .now) (a .list .now) (l .list) (l .index) (l .left) (l .count) (l .inv) (k .result) (k .ensures) in
+    let f = at-hand (l .inv) (k .result) (k .ensures) in
     let p = c .before .before .before .before .put in
-    on-from (a .byte) (a .trees .now) (a .list .now) (l .list) (l .index) (l .left) (l .count) (l .inv) (k .result) (k .ensures) (p .last .0) (p .ensures) (eqb-false _ _ (c .if1 .left))
+    on-from (l .inv) (k .result) (k .ensures) (p .last .0) (p .ensures) (eqb-false _ _ (c .if1 .left))
 
 pub chain-spec : {M : Type 1} → statement M
 chain-spec =

@@ -25,80 +25,80 @@ mul-rest : tie.Need-mul-rest Inv-loop μ-loop
 mul-rest c =
     let trees = c .before .before .args .trees .now in
     let l = c .before .loop in
-    let t = inside-there trees (l .i) (l .rest) (c .loop-test .taken) (l .inv .1 .0) in
+    let t = inside-there (l .inv .1 .0) (c .loop-test .taken) in
     omega (arith, t)
 
 shared-slice-read-rest : tie.Need-shared-slice-read-rest Inv-loop μ-loop
 shared-slice-read-rest c =
     let trees = c .before .before .before .args .trees .now in
     let l = c .before .before .loop in
-    let t = inside-there trees (l .i) (l .rest) (c .before .loop-test .taken) (l .inv .1 .0) in
+    let t = inside-there (l .inv .1 .0) (c .before .loop-test .taken) in
     omega (arith, t)
 
 add-rest : tie.Need-add-rest Inv-loop μ-loop
 add-rest c =
     let trees = c .before .before .before .args .trees .now in
     let l = c .before .before .loop in
-    let t = inside-there trees (l .i) (l .rest) (c .before .loop-test .taken) (l .inv .1 .0) in
+    let t = inside-there (l .inv .1 .0) (c .before .loop-test .taken) in
     omega (arith, t)
 
 mul-rest-2 : tie.Need-mul-rest-2 Inv-loop μ-loop
 mul-rest-2 c =
     let trees = c .before .before .before .args .trees .now in
     let l = c .before .before .loop in
-    let t = inside-there trees (l .i) (l .rest) (c .before .loop-test .taken) (l .inv .1 .0) in
+    let t = inside-there (l .inv .1 .0) (c .before .loop-test .taken) in
     omega (arith, t)
 
 shared-slice-read-rest-2 : tie.Need-shared-slice-read-rest-2 Inv-loop μ-loop
 shared-slice-read-rest-2 c =
     let trees = c .before .before .before .before .args .trees .now in
     let l = c .before .before .before .loop in
-    let t = inside-there trees (l .i) (l .rest) (c .before .before .loop-test .taken) (l .inv .1 .0) in
+    let t = inside-there (l .inv .1 .0) (c .before .before .loop-test .taken) in
     omega (arith, t)
 
 mul-rest-3 : tie.Need-mul-rest-3 Inv-loop μ-loop
 mul-rest-3 c =
     let trees = c .before .before .before .before .args .trees .now in
     let l = c .before .before .before .loop in
-    let t = inside-there trees (l .i) (l .rest) (c .before .before .loop-test .taken) (l .inv .1 .0) in
+    let t = inside-there (l .inv .1 .0) (c .before .before .loop-test .taken) in
     let p : Less trees (l .i) (l .rest) (getD trees (l .i) 0 * getD trees (l .i + TREE-WIDTH) 0) =
-    inside-past trees (l .i) (l .rest) (c .before .before .loop-test .taken) (l .inv .1 .0) in
+    inside-past (l .inv .1 .0) (c .before .before .loop-test .taken) in
     omega (arith, p .less, l .inv .1 .1)
 
 sub-rest : tie.Need-sub-rest Inv-loop μ-loop
 sub-rest c =
     let trees = c .before .before .before .before .args .trees .now in
     let l = c .before .before .before .loop in
-    let t = inside-there trees (l .i) (l .rest) (c .before .before .loop-test .taken) (l .inv .1 .0) in
+    let t = inside-there (l .inv .1 .0) (c .before .before .loop-test .taken) in
     let p : Less trees (l .i) (l .rest) (getD trees (l .i) 0 * getD trees (l .i + TREE-WIDTH) 0) =
-    inside-past trees (l .i) (l .rest) (c .before .before .loop-test .taken) (l .inv .1 .0) in
+    inside-past (l .inv .1 .0) (c .before .before .loop-test .taken) in
     p .less
 
 add-i : tie.Need-add-i Inv-loop μ-loop
 add-i c =
     let trees = c .before .before .before .before .args .trees .now in
     let l = c .before .before .before .loop in
-    let t = inside-there trees (l .i) (l .rest) (c .before .before .loop-test .taken) (l .inv .1 .0) in
+    let t = inside-there (l .inv .1 .0) (c .before .before .loop-test .taken) in
     let p : Less trees (l .i) (l .rest) (getD trees (l .i) 0 * getD trees (l .i + TREE-WIDTH) 0) =
-    inside-past trees (l .i) (l .rest) (c .before .before .loop-test .taken) (l .inv .1 .0) in
+    inside-past (l .inv .1 .0) (c .before .before .loop-test .taken) in
     omega (arith, t)
 
 loop-less : tie.Need-loop-less Inv-loop μ-loop
 loop-less c =
     let trees = c .before .before .before .before .args .trees .now in
     let l = c .before .before .before .loop in
-    let t = inside-there trees (l .i) (l .rest) (c .before .before .loop-test .taken) (l .inv .1 .0) in
+    let t = inside-there (l .inv .1 .0) (c .before .before .loop-test .taken) in
     let p : Less trees (l .i) (l .rest) (getD trees (l .i) 0 * getD trees (l .i + TREE-WIDTH) 0) =
-    inside-past trees (l .i) (l .rest) (c .before .before .loop-test .taken) (l .inv .1 .0) in
+    inside-past (l .inv .1 .0) (c .before .before .loop-test .taken) in
     omega (arith, t)
 
 loop-again : tie.Need-loop-again Inv-loop μ-loop
 loop-again c =
     let trees = c .before .before .before .before .args .trees .now in
     let l = c .before .before .before .loop in
-    let t = inside-there trees (l .i) (l .rest) (c .before .before .loop-test .taken) (l .inv .1 .0) in
+    let t = inside-there (l .inv .1 .0) (c .before .before .loop-test .taken) in
     let p : Less trees (l .i) (l .rest) (getD trees (l .i) 0 * getD trees (l .i + TREE-WIDTH) 0) =
-    inside-past trees (l .i) (l .rest) (c .before .before .loop-test .taken) (l .inv .1 .0) in
+    inside-past (l .inv .1 .0) (c .before .before .loop-test .taken) in
     (omega (arith, p .one-more, l .inv .0), (p .inside-still, omega (arith, l .inv .1 .1)))
 
 returns : tie.Need-returns Inv-loop μ-loop

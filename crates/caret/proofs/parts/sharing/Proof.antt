@@ -56,7 +56,7 @@ cast-end c =
     let a = c .before .before .before .before .before .args in
     let l = c .before .before .loop in
     let h = c .before .loop-test .taken in
-    let t = turn-here (a .from) (a .to) (a .trees .now) (a .list .now) (l .list) (l .index) (l .start) (l .count) (l .inv) h in
+    let t = turn-here (l .inv) h in
     omega (arith, t .fits, l .inv .small)
 
 add-end : tie.Need-add-end Inv-loop μ-loop
@@ -64,7 +64,7 @@ add-end c =
     let a = c .before .before .before .before .before .args in
     let l = c .before .before .loop in
     let h = c .before .loop-test .taken in
-    let t = turn-here (a .from) (a .to) (a .trees .now) (a .list .now) (l .list) (l .index) (l .start) (l .count) (l .inv) h in
+    let t = turn-here (l .inv) h in
     omega (arith, t .fits, l .inv .small)
 
 shares-requires : tie.Need-shares-requires Inv-loop μ-loop
@@ -76,7 +76,7 @@ cast-put-if c =
     let a = c .before .before .before .before .before .before .before .args in
     let l = c .before .before .before .before .loop in
     let h = c .before .before .before .loop-test .taken in
-    let n = few-here (a .from) (a .to) (a .trees .now) (a .list .now) (l .list) (l .index) (l .start) (l .count) (l .inv) h in
+    let n = few-here (l .inv) h in
     omega (arith, n, c .before .before .before .before .before .before .before .pre .1 .few)
 
 put-if-requires : tie.Need-put-if-requires Inv-loop μ-loop
@@ -112,7 +112,7 @@ mul-past-2 c =
     let a = c .before .before .before .before .before .before .before .before .before .before .before .args in
     let l = c .before .before .before .before .before .before .before .before .loop in
     let h = c .before .before .before .before .before .before .before .loop-test .taken in
-    let t = turn-here (a .from) (a .to) (a .trees .now) (a .list .now) (l .list) (l .index) (l .start) (l .count) (l .inv) h in
+    let t = turn-here (l .inv) h in
     omega (arith, t .product, t .own-less, t .fits, l .inv .small)
 
 sub-past : tie.Need-sub-past Inv-loop μ-loop
@@ -120,7 +120,7 @@ sub-past c =
     let a = c .before .before .before .before .before .before .before .before .before .before .before .args in
     let l = c .before .before .before .before .before .before .before .before .loop in
     let h = c .before .before .before .before .before .before .before .loop-test .taken in
-    let t = turn-here (a .from) (a .to) (a .trees .now) (a .list .now) (l .list) (l .index) (l .start) (l .count) (l .inv) h in
+    let t = turn-here (l .inv) h in
     omega (arith, t .product, t .own-less)
 
 past-requires : tie.Need-past-requires Inv-loop μ-loop
@@ -128,7 +128,7 @@ past-requires c κs =
     let a = c .before .before .before .before .before .before .before .before .before .before .before .args in
     let l = c .before .before .before .before .before .before .before .before .loop in
     let h = c .before .before .before .before .before .before .before .loop-test .taken in
-    inside-here (a .from) (a .to) (a .trees .now) (a .list .now) (l .list) (l .index) (l .start) (l .count) (l .inv) h
+    inside-here (l .inv) h
 
 loop-less : tie.Need-loop-less Inv-loop μ-loop
 loop-less c =
@@ -143,7 +143,7 @@ loop-again c =
     let l = c .before .before .before .before .before .before .before .before .before .loop in
     let h = c .before .before .before .before .before .before .before .before .loop-test .taken in
     let p = c .before .before .before .before .put-if in
-    listing-on (a .from) (a .to) (a .trees .now) (a .list .now) (l .list) (l .index) (l .start) (l .count) (l .inv) h (c .past .result) (p .result) (p .last .1 .0) (c .past .ensures)
+    listing-on (l .inv) h (c .past .result) (p .result) (p .last .1 .0) (c .past .ensures)
     (p .ensures .0 ∙ ap (λ (b : Bool). cond b (suc (l .count)) (l .count)) (c .before .before .before .before .before .before .shares .ensures))
     (p .ensures .1 ∙ ap (λ (b : Bool). cond b (set (l .list) (l .count) (l .index / TREE-ROW)) (l .list)) (c .before .before .before .before .before .before .shares .ensures))
 
@@ -156,7 +156,7 @@ returns : tie.Need-returns Inv-loop μ-loop
 returns c =
     let a = c .before .before .before .before .args in
     let l = c .before .loop in
-    listing-ends (a .from) (a .to) (a .trees .now) (a .list .now) (l .list) (l .index) (l .start) (l .count) (l .inv) (omega (arith, c .loop-test .left))
+    listing-ends (l .inv) (omega (arith, c .loop-test .left))
 
 pub sharing-spec : {M : Type 1} → statement M
 sharing-spec =
