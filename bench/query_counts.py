@@ -6,8 +6,8 @@ from callgrind import instructions
 from inputs import QUERIES, output
 
 FOLDER, CSV = sys.argv[1:]
-FACTS = "input tokens bytes tree_rows end_rows middle_rows parts_rows".split()
-COUNTED = "parse_instructions end_instructions middle_instructions parts_instructions".split()
+FACTS = "input tokens bytes tree_rows end_rows middle_rows last_rows parts_rows".split()
+COUNTED = "parse_instructions end_instructions middle_instructions last_instructions parts_instructions".split()
 # the list's buffer for a caret, or what is needed if that is more
 CARET = 64
 
@@ -15,9 +15,9 @@ CARET = 64
 def line(name):
     print(f"counts, {name}", file=sys.stderr)
     facts = output(f"{FOLDER}/queries", "facts", name)
-    end, middle, parts = map(int, facts.split(",")[4:])
+    end, middle, last, parts = map(int, facts.split(",")[4:])
     lengths = output(f"{FOLDER}/bench", "lengths", "port", name)
-    rooms = {"parse": 0, "end": max(end, CARET), "middle": max(middle, CARET), "parts": parts}
+    rooms = {"parse": 0, "end": max(end, CARET), "middle": max(middle, CARET), "last": last, "parts": parts}
     once = f"{FOLDER}/queries", "once"
     counts = [instructions(*once, what, name, f"{lengths},{room}") for what, room in rooms.items()]
     return ",".join([facts, *counts])

@@ -81,7 +81,7 @@ class Text:
 class Query:
     """What one source file has, and what asking costs: instructions of each query less those of the parse."""
 
-    WHAT = "end", "middle", "parts"
+    WHAT = "end", "middle", "last", "parts"
 
     def __init__(self, row):
         self.name = row["input"]

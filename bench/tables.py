@@ -96,8 +96,8 @@ def worst_texts():
 
 
 def asked(rows):
-    head = ["Input", "Tree rows", "Rows listed: at the length", "in the middle", "parts",
-            "Instructions per tree row: at the length", "in the middle", "parts", "the parse"]
+    head = ["Input", "Tree rows", "Rows listed: caret at the length", "in the middle", "last part", "all parts",
+            "Instructions per tree row: caret at the length", "in the middle", "last part", "all parts", "the parse"]
     out = []
     for q in rows:
         listed = [f"{q.listed[what]:,}" for what in Query.WHAT]

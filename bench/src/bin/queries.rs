@@ -1,7 +1,8 @@
 //! queries facts INPUT               its tokens, bytes and tree rows, and how many rows each query lists
 //! queries once WHAT INPUT LENGTHS   one run inside `measured`, for callgrind --toggle-collect
-//! WHAT is parse (`dt_parse`), or a query: end (the caret at the file's length), middle (at half of it) or parts (those
-//! of the whole file). LENGTHS are the five by `bench lengths port` and that of the list.
+//! WHAT is parse (`dt_parse`), or a query: end (the caret at the file's length), middle (at half of it), last (the part
+//! of the file's last byte) or parts (those of the whole file). LENGTHS are the five by `bench lengths port` and that of
+//! the list.
 use bench::input::Input;
 use bench::port::{Port, QueryPort};
 use dt_parser_ffi::Query;
@@ -9,7 +10,7 @@ use dt_parser_layout::{ACCEPTED, BUFFERS, SETTING_OLD};
 use oracle::parsers::on_large_stack;
 use std::hint::black_box;
 
-const QUERIES: [&str; 3] = ["end", "middle", "parts"];
+const QUERIES: [&str; 4] = ["end", "middle", "last", "parts"];
 
 fn input(name: &str) -> Input {
     name.parse().expect("an input")
@@ -21,9 +22,10 @@ fn query(what: &str, input: &Input) -> Option<Query> {
     match what {
         "end" => Some(Query::Caret(length)),
         "middle" => Some(Query::Caret(length / 2)),
+        "last" => Some(Query::Parts(length - 1, length)),
         "parts" => Some(Query::Parts(0, length)),
         "parse" => None,
-        _ => panic!("parse, end, middle or parts"),
+        _ => panic!("parse, end, middle, last or parts"),
     }
 }
 

@@ -2,4 +2,5 @@
 pub mod Turns
 pub mod Chains
 pub mod Listings
+pub mod Skips
 pub mod Offsets

@@ -2,16 +2,18 @@
 use Prim.Native.Nat.{ℕ, zero, suc, _+_, _-_, _*_, _/_, _≤_, _<_}
 use native.Mathlib.Omega.{arith}
 use mathlib.Core.Path.{_≡_, refl, ap, sym, _∙_, subst}
-use mathlib.Core.Bool.{Bool, true, false, cond}
+use mathlib.Core.Bool.{Bool, true, false, cond, _&&_}
 use mathlib.Core.List.{List, [], _∷_, _++_, append-assoc, append-nil}
+use lib.Dec.{ltb}
 use lib.ListN.{length, getD, drop, set, length-append, length-drop}
 use lib.Seq.{drop-drop}
+use borrow.Author.Tests.{ltb-true, ltb-false, le-ltb}
 use Rattle.definitions.specs.Layout.{TREE-ROW, TREE-WIDTH, TWO-TO-32}
 use Rattle.definitions.specs.Caret.{range, share}
 use Rattle.rows.specs.ResultRows.{Row, class, width}
 use Rattle.rows.specs.OnePass.{tree-rows-of, own, starting, found, Classes, Adds-up, Sound}
 use Rattle.rows.proofs.Numbers.{row-from, rows-cons, rows-number, rows-drop, own-product}
-use Rattle.caret.specs.Walk.{laid, passed}
+use Rattle.caret.specs.Walk.{laid, passed, Starts}
 use Rattle.caret.proofs.Turns.{rows-from, own-within}
 use Rattle.caret.proofs.Chains.{laid-put}
 
@@ -29,7 +31,7 @@ adds-passed inside room [] h = refl
 adds-passed zero room (r ∷ l) h = h
 adds-passed (suc n) room (r ∷ l) h = adds-passed (suc n - own r) room l (h .1)
 
-classes-drop : (n : ℕ) (l : List Row) → Classes l → Classes (drop n l)
+pub classes-drop : (n : ℕ) (l : List Row) → Classes l → Classes (drop n l)
 unfolding Classes
 classes-drop zero l h = h
 classes-drop (suc n) [] h = tt
@@ -48,14 +50,15 @@ starting-passed fr to i (suc n) start (r ∷ l) =
     starting-passed fr to (suc i) (suc n - own r) start l ∙ ap (λ (j : ℕ). starting fr to j 0 start (drop k l)) e
 
 -- the rows of the range's query are those after the root
-found-range : (fr to size : ℕ) (l : List Row) → found (range fr to) size l ≡ starting fr to 1 0 0 (drop 1 l)
+pub found-range : (fr to size : ℕ) (l : List Row) → found (range fr to) size l ≡ starting fr to 1 0 0 (drop 1 l)
 unfolding found starting
 found-range fr to size [] = refl
 found-range fr to size (r ∷ l) = refl
 
 -- ---------------------------------------------------------------- the walk
 
-pub record Listing (fr to : ℕ) (trees list₀ list : List ℕ) (index start count : ℕ) : Type 0 where
+-- goal: all that is to be on the list
+pub record Listing (fr to : ℕ) (goal trees list₀ list : List ℕ) (index start count : ℕ) : Type 0 where
   pub done : List ℕ
   pub row : ℕ
   pub at : index ≡ TREE-ROW * row
@@ -67,25 +70,26 @@ pub record Listing (fr to : ℕ) (trees list₀ list : List ℕ) (index start co
   pub room : ℕ
   pub small : start + room < TWO-TO-32
   pub adds : Adds-up 0 room (rows-from trees index)
-  pub whole : done ++ starting fr to row 0 start (rows-from trees index) ≡ found (range fr to) 0 (tree-rows-of trees)
+  pub whole : done ++ starting fr to row 0 start (rows-from trees index) ≡ goal
 
-pub listing-starts : (fr to : ℕ) (trees list : List ℕ) (size : ℕ) → Sound size (tree-rows-of trees) → Listing fr to trees list list TREE-ROW 0 0
+pub listing-starts : (fr to : ℕ) (trees list : List ℕ) (index start : ℕ) → Starts trees index start
+    → Listing fr to (starting fr to (index / TREE-ROW) 0 start (rows-from trees index)) trees list list index start 0
 unfolding laid
-listing-starts fr to trees list size s =
-    let e : rows-from trees TREE-ROW ≡ drop 1 (tree-rows-of trees) = rows-drop 1 trees in
+listing-starts fr to trees list index start s =
+    let n : index / TREE-ROW ≡ s .row = omega (arith, s .at) in
     record {
       done = [];
-      row = 1;
-      at = refl;
-      inside = omega arith;
+      row = s .row;
+      at = s .at;
+      inside = s .inside;
       counted = refl;
       few = omega arith;
       on-list = refl;
-      classes = subst Classes (sym e) (classes-drop 1 (tree-rows-of trees) (s .classes));
-      room = size;
-      small = omega (arith, s .small);
-      adds = subst (Adds-up 0 size) (sym e) (s .parts);
-      whole = ap (starting fr to 1 0 0) e ∙ sym (found-range fr to 0 (tree-rows-of trees));
+      classes = s .classes;
+      room = s .room;
+      small = s .small;
+      adds = s .adds;
+      whole = ap (λ (k : ℕ). starting fr to k 0 start (rows-from trees index)) (sym n);
     }
 
 -- fewer numbers than a row has are no row
@@ -97,13 +101,38 @@ no-rows (a ∷ b ∷ []) h = refl
 no-rows (a ∷ b ∷ c ∷ []) h = refl
 no-rows (a ∷ b ∷ c ∷ d ∷ l) h = absurd (omega (arith, h))
 
-pub listing-ends : {fr to : ℕ} {trees list₀ list : List ℕ} {index start count : ℕ} → Listing fr to trees list₀ list index start count → length trees < index + TREE-ROW
-    → (count ≡ length (found (range fr to) 0 (tree-rows-of trees))) × (list ≡ laid (found (range fr to) 0 (tree-rows-of trees)) list₀)
-unfolding starting
-listing-ends {fr} {to} {trees} {list₀} {list} {index} {start} {count} w h =
-    let none : rows-from trees index ≡ [] = no-rows (drop index trees) (let z = length-drop index trees in omega (arith, z, h)) in
-    let all : w .done ≡ found (range fr to) 0 (tree-rows-of trees) = sym (append-nil (w .done)) ∙ ap (λ (l : List Row). w .done ++ starting fr to (w .row) 0 start l) (sym none) ∙ w .whole in
+all-listed : {fr to : ℕ} {goal trees list₀ list : List ℕ} {index start count : ℕ} (w : Listing fr to goal trees list₀ list index start count)
+    → starting fr to (w .row) 0 start (rows-from trees index) ≡ [] → (count ≡ length goal) × (list ≡ laid goal list₀)
+all-listed {list₀ = list₀} w none =
+    let all = sym (append-nil (w .done)) ∙ ap (w .done ++_) (sym none) ∙ w .whole in
     (w .counted ∙ ap length all, w .on-list ∙ ap (λ (l : List ℕ). laid l list₀) all)
+
+-- no row is left
+pub listing-ends : {fr to : ℕ} {goal trees list₀ list : List ℕ} {index start count : ℕ} → Listing fr to goal trees list₀ list index start count → length trees < index + TREE-ROW
+    → (count ≡ length goal) × (list ≡ laid goal list₀)
+unfolding starting
+listing-ends {fr} {to} {goal} {trees} {list₀} {list} {index} {start} {count} w h =
+    all-listed w (ap (starting fr to (w .row) 0 start) (no-rows (drop index trees) (let z = length-drop index trees in omega (arith, z, h))))
+
+-- no part that is left starts before the range ends
+share-late : (fr to start end : ℕ) → to ≤ start → share fr to start end ≡ false
+share-late fr to start end h = rw (le-ltb start to h) (go (ltb fr to) (ltb fr end) (ltb start end))
+  where
+    go : (a b d : Bool) → (a && b && false && d) ≡ false
+    go true true d = refl
+    go true false d = refl
+    go false b d = refl
+
+starting-over : (fr to i inside start : ℕ) (l : List Row) → to ≤ start → starting fr to i inside start l ≡ []
+unfolding starting
+starting-over fr to i inside start [] h = refl
+starting-over fr to i zero start (r ∷ l) h =
+    rw (share-late fr to start (start + width r) h) (starting-over fr to (suc i) (width r - own r) (start + width r) l (omega (arith, h)))
+starting-over fr to i (suc n) start (r ∷ l) h = starting-over fr to (suc i) (suc n - own r) start l h
+
+pub listing-over : {fr to : ℕ} {goal trees list₀ list : List ℕ} {index start count : ℕ} → Listing fr to goal trees list₀ list index start count → to ≤ start
+    → (count ≡ length goal) × (list ≡ laid goal list₀)
+listing-over {fr} {to} {goal} {trees} {list₀} {list} {index} {start} {count} w h = all-listed w (starting-over fr to (w .row) 0 start (rows-from trees index) h)
 
 -- ---------------------------------------------------------------- a turn
 
@@ -116,7 +145,7 @@ pub record Turn (trees : List ℕ) (index room : ℕ) : Type 0 where
   pub adds : Adds-up (getD trees (index + TREE-WIDTH) 0 - own (row-from trees index)) (room - getD trees (index + TREE-WIDTH) 0) (rows-from trees (index + TREE-ROW))
   pub is : rows-from trees index ≡ row-from trees index ∷ rows-from trees (index + TREE-ROW)
 
-module _ {fr to : ℕ} {trees list₀ list : List ℕ} {index start count : ℕ} (w : Listing fr to trees list₀ list index start count) (h : index + TREE-ROW ≤ length trees) where
+module _ {fr to : ℕ} {goal trees list₀ list : List ℕ} {index start count : ℕ} (w : Listing fr to goal trees list₀ list index start count) (h : index + TREE-ROW ≤ length trees) where
   pub turn-here : Turn trees index (w .room)
   unfolding Classes Adds-up
   turn-here =
@@ -189,7 +218,7 @@ module _ {fr to : ℕ} {trees list₀ list : List ℕ} {index start count : ℕ}
       ∙ starting-passed fr to (suc (w .row)) left-inside (start + wide) (rows-from trees (index + TREE-ROW)))
 
   pub listing-on : (index′ count′ : ℕ) (list′ : List ℕ) → index′ ≡ index + TREE-ROW + TREE-ROW * many → count′ ≡ cond listed-here (suc count) count
-      → list′ ≡ cond listed-here (set list count (index / TREE-ROW)) list → Listing fr to trees list₀ list′ index′ (start + wide) count′
+      → list′ ≡ cond listed-here (set list count (index / TREE-ROW)) list → Listing fr to goal trees list₀ list′ index′ (start + wide) count′
   listing-on index′ count′ list′ e f g =
       let t = turn-here in
       let n = passed-within left-inside (rows-from trees (index + TREE-ROW)) in
@@ -219,7 +248,3 @@ module _ {fr to : ℕ} {trees list₀ list : List ℕ} {index start count : ℕ}
   -- what `past` is lent
   pub inside-here : Classes (rows-from trees (index + TREE-ROW)) × ((room : ℕ) × Adds-up left-inside room (rows-from trees (index + TREE-ROW)))
   inside-here = (turn-here .classes, (w .room - wide, subst (λ (x : ℕ). Adds-up x (w .room - wide) (rows-from trees (index + TREE-ROW))) (sym same-inside) (turn-here .adds)))
-
--- the file's length does not matter to a range
-pub any-size : (fr to size : ℕ) (l : List Row) → found (range fr to) size l ≡ found (range fr to) 0 l
-any-size fr to size l = found-range fr to size l ∙ sym (found-range fr to 0 l)

@@ -159,7 +159,7 @@ inside-past {trees = trees} {i = i} {inside = suc n} g p =
     let a : Adds-up (suc n) (g .room) (row-from trees i ∷ rows-from trees (i + TREE-ROW)) = subst (Adds-up (suc n) (g .room)) e (g .adds) in
     let q : getD trees i 0 * getD trees (i + TREE-WIDTH) 0 ≡ own (row-from trees i) = own-product (getD trees i 0) (getD trees (i + TREE-WIDTH) 0) (c .0) in
     rw q record {
-      less = a .0;
+      less = omega (arith, a .0, own-within (row-from trees i));
       inside-still = record { classes = c .1; room = g .room; adds = a .1 };
       one-more = ap (passed (suc n)) e;
     }

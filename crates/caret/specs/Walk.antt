@@ -1,11 +1,13 @@
 -- What the walks over tree rows do. No part of the exported promise.
-use Prim.Native.Nat.{ℕ, zero, suc, _+_, _-_}
+use Prim.Native.Nat.{ℕ, zero, suc, _+_, _-_, _*_, _≤_, _<_}
+use mathlib.Core.Path.{_≡_}
 use mathlib.Core.Bool.{cond}
 use mathlib.Core.List.{List, [], _∷_}
 use lib.Dec.{ltb}
-use Rattle.definitions.specs.Layout.{TREE-ROW}
+use lib.ListN.{length, drop}
+use Rattle.definitions.specs.Layout.{TREE-ROW, TWO-TO-32}
 use Rattle.rows.specs.ResultRows.{Row, width}
-use Rattle.rows.specs.OnePass.{own}
+use Rattle.rows.specs.OnePass.{own, tree-rows-of, Classes, Adds-up}
 use Rattle.caret.specs.declared.chain.Spot.{Spot}
 
 -- numbers laid over the front of a buffer, as many as there is room for
@@ -27,3 +29,13 @@ unfoldable pub passed : ℕ → List Row → ℕ
 passed n [] = 0
 passed zero (r ∷ l) = 0
 passed (suc n) (r ∷ l) = suc (passed (suc n - own r) l)
+
+-- where the walk along the parts may start: at a part
+pub record Starts (trees : List ℕ) (index start : ℕ) : Type 0 where
+  pub row : ℕ
+  pub at : index ≡ TREE-ROW * row
+  pub inside : index ≤ length trees + TREE-ROW
+  pub classes : Classes (tree-rows-of (drop index trees))
+  pub room : ℕ
+  pub small : start + room < TWO-TO-32
+  pub adds : Adds-up 0 room (tree-rows-of (drop index trees))

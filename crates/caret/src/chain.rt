@@ -24,7 +24,7 @@ const PAIR: usize = 2 * TREE_ROW;
 
 // The first row from an index on that has the byte `left` bytes after the start of the row there. There is one, so no
 // end of the rows is looked for. A row's class is 0 for a node and 1 for a leaf, which alone moves the start.
-fn seek(trees: &[u32], index: usize, left: u32) -> Spot
+pub fn seek(trees: &[u32], index: usize, left: u32) -> Spot
     requires { ⌜ (left < raw-bytes (tree-rows-of (drop index (now trees)))) × Classes (tree-rows-of (drop index (now trees))) ⌝ }
     ensures { λ r. ⌜ r ≡ seek-from index left (tree-rows-of (drop index (now (trees .entry)))) ⌝ }
 {

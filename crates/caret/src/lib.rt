@@ -24,6 +24,6 @@ pub fn list_rows(query: Query, size: usize, trees: &[u32], list: &mut [u32]) -> 
 {
     match query {
         Query::Caret(offset) => chain::rows_at(offset, size, trees, list),
-        Query::Range(from, to) => parts::sharing(from, to, trees, list),
+        Query::Range(from, to) => parts::sharing(from, to, size, trees, list),
     }
 }

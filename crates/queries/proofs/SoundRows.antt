@@ -21,7 +21,7 @@ use Rattle.laws.proofs.Leaves.{Right}
 use Rattle.laws.proofs.Input.{Good, All-good, Checked, checked-input}
 use Rattle.laws.proofs.Lossless.{lossless}
 use Rattle.bounds.proofs.TreeRows.{tree-right, few-rows}
-use Rattle.rows.specs.ResultRows.{Row, raw-bytes}
+use Rattle.rows.specs.ResultRows.{Row, over-leaves, raw-bytes}
 use Rattle.rows.specs.OnePass.{tree-rows-of, found, Classes, Adds-up, Sound}
 use Rattle.rows.proofs.Written.{rows-of, rows-wide, rows-flat, bytes-counted}
 use Rattle.rows.proofs.Numbers.{rows-flat-of}
@@ -90,6 +90,11 @@ parts-of : (ts : List Token) (size : ℕ) → width (source-tree ts) ≡ size �
 unfolding source-tree root rows-of
 parts-of ts size e = parts-add (root-kind SourceFile) size (inside ts) e
 
+-- the root's own bytes are none
+under-bytes : (ts : List Token) → raw-bytes (rows-of (source-tree ts)) ≡ raw-bytes (drop 1 (rows-of (source-tree ts)))
+unfolding source-tree root rows-of over-leaves
+under-bytes ts = omega arith
+
 pub record File-rows (bytes : List ℕ) (ts : List Token) : Type 0 where
   pub wide : Leaves-wide (source-tree ts)
   pub size : width (source-tree ts) ≡ length bytes
@@ -117,6 +122,7 @@ file-rows bytes tokens ok =
           record {
             classes = classes-rows t;
             covered = omega (arith, raw);
+            under-root = (let u = under-bytes ts in omega (arith, raw, u));
             parts = parts-of ts (length bytes) size;
             small = omega (arith, c .bytes-limit);
             few = omega (arith, n, few, c .pairs, c .numbers-limit);

@@ -58,17 +58,18 @@ unfoldable pub Classes : List Row → Type 0
 Classes [] = Unit {0}
 Classes (r ∷ l) = (class r ≤ LEAF) × Classes l
 
--- Parts add up: where bytes of a part are still to pass there is a row, no leaf is wider than what is to pass, and no
--- part is wider than the room that is left.
+-- Parts add up: where bytes of a part are still to pass there is a row, none is wider than what is to pass, and no part
+-- is wider than the room that is left.
 unfoldable pub Adds-up : ℕ → ℕ → List Row → Type 0
 Adds-up inside room [] = inside ≡ 0
 Adds-up zero room (r ∷ l) = (width r ≤ room) × Adds-up (width r - own r) (room - width r) l
-Adds-up (suc n) room (r ∷ l) = (own r ≤ suc n) × Adds-up (suc n - own r) room l
+Adds-up (suc n) room (r ∷ l) = (width r ≤ suc n) × Adds-up (suc n - own r) room l
 
 -- the rows of a file of so many bytes
 pub record Sound (size : ℕ) (l : List Row) : Type 0 where
   pub classes : Classes l
   pub covered : size ≤ raw-bytes l
+  pub under-root : size ≤ raw-bytes (drop 1 l)
   pub parts : Adds-up 0 size (drop 1 l)
   pub small : size < TWO-TO-32
   pub few : length l < TWO-TO-32

@@ -1,11 +1,10 @@
 -- `list_rows`: one walk or the other.
-use mathlib.Core.Path.{ap, _∙_}
+use mathlib.Core.Path.{ap}
 use borrow.Author.Needs.{needs}
 use Rattle.rows.specs.OnePass.{tree-rows-of, found}
 use Rattle.caret.specs.declared.Query.{Query}
 use Rattle.caret.specs.Asked.{query-of}
 use Rattle.caret.proofs.Offsets.{as-found}
-use Rattle.caret.proofs.Listings.{any-size}
 use Rattle.caret.proofs.list_rows.Statement.{statement}
 use Rattle.caret.proofs.list_rows.Tie as tie
 use Rattle.caret.proofs.list_rows.Reads as reads
@@ -48,7 +47,7 @@ returns-2 : tie.Need-returns-2
 returns-2 c =
     let a = c .before .before .before .before .before .before .before .before .before .args in
     as-found _ (a .list .now) _
-    (ap (λ (q : Query). found (query-of q) (a .size) (tree-rows-of (a .trees .now))) (c .before .before .before .before .before .query2 .given .1) ∙ any-size _ _ (a .size) (tree-rows-of (a .trees .now)))
+    (ap (λ (q : Query). found (query-of q) (a .size) (tree-rows-of (a .trees .now))) (c .before .before .before .before .before .query2 .given .1))
     (c .before .before .sharing .ensures)
 
 pub list-rows-spec : {M : Type 1} → statement M

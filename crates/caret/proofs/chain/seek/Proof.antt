@@ -15,22 +15,22 @@ abbrev μ-loop : tie.MeasureT-loop
 μ-loop trees index left i₀ rest₀ width₀ i rest width = length trees - i
 
 add-width : tie.Need-add-width Inv-loop μ-loop
-add-width c = 
+add-width c =
     let s = c in
     omega (arith, there (s .args .trees .now) (s .args .index) (s .args .left) (record { bytes = s .pre .0; classes = s .pre .1 }))
 
 mul-width : tie.Need-mul-width Inv-loop μ-loop
-mul-width c = 
+mul-width c =
     let s = c in
     omega (arith, there (s .args .trees .now) (s .args .index) (s .args .left) (record { bytes = s .pre .0; classes = s .pre .1 }))
 
 shared-slice-read-width : tie.Need-shared-slice-read-width Inv-loop μ-loop
-shared-slice-read-width c = 
+shared-slice-read-width c =
     let s = c .before in
     omega (arith, there (s .args .trees .now) (s .args .index) (s .args .left) (record { bytes = s .pre .0; classes = s .pre .1 }))
 
 loop-holds : tie.Need-loop-holds Inv-loop μ-loop
-loop-holds c = 
+loop-holds c =
     let s = c .before in
     record { same = refl; going = record { bytes = s .pre .0; classes = s .pre .1 }; read = refl; fewer = omega arith }
 
