@@ -25,7 +25,8 @@ const PAIR: usize = 2 * TREE_ROW;
 // The first row from an index on that has the byte `left` bytes after the start of the row there. There is one, so no
 // end of the rows is looked for. A row's class is 0 for a node and 1 for a leaf, which alone moves the start.
 pub fn seek(trees: &[u32], index: usize, left: u32) -> Spot
-    requires { ⌜ (left < raw-bytes (tree-rows-of (drop index (now trees)))) × Classes (tree-rows-of (drop index (now trees))) ⌝ }
+    requires { ⌜ (left < raw-bytes (tree-rows-of (drop index (now trees))))
+        × Classes (tree-rows-of (drop index (now trees))) ⌝ }
     ensures { λ r. ⌜ r ≡ seek-from index left (tree-rows-of (drop index (now (trees .entry)))) ⌝ }
 {
     let mut i = index;
@@ -53,9 +54,11 @@ pub fn seek(trees: &[u32], index: usize, left: u32) -> Spot
 
 // The rows that have a byte.
 fn chain(byte: u32, trees: &[u32], list: &mut [u32]) -> usize
-    requires { ⌜ (byte < raw-bytes (tree-rows-of (now trees))) × Classes (tree-rows-of (now trees)) × (length (tree-rows-of (now trees)) < TWO-TO-32) ⌝ }
+    requires { ⌜ (byte < raw-bytes (tree-rows-of (now trees))) × Classes (tree-rows-of (now trees))
+        × (length (tree-rows-of (now trees)) < TWO-TO-32) ⌝ }
     ensures { λ r. ⌜ r ≡ length (holding 0 byte (tree-rows-of (now (trees .entry)))) ⌝ }
-    ensures { λ r. ⌜ now (list .exit) ≡ laid (holding 0 byte (tree-rows-of (now (trees .entry)))) (now (list .entry)) ⌝ }
+    ensures { λ r. ⌜ now (list .exit)
+        ≡ laid (holding 0 byte (tree-rows-of (now (trees .entry)))) (now (list .entry)) ⌝ }
 {
     let mut index: usize = 0;
     let mut left = byte;
@@ -78,7 +81,8 @@ fn chain(byte: u32, trees: &[u32], list: &mut [u32]) -> usize
 pub fn rows_at(offset: u64, size: usize, trees: &[u32], list: &mut [u32]) -> usize
     requires { ⌜ Sound size (tree-rows-of (now trees)) ⌝ }
     ensures { λ r. ⌜ r ≡ length (found (caret offset) size (tree-rows-of (now (trees .entry)))) ⌝ }
-    ensures { λ r. ⌜ now (list .exit) ≡ laid (found (caret offset) size (tree-rows-of (now (trees .entry)))) (now (list .entry)) ⌝ }
+    ensures { λ r. ⌜ now (list .exit)
+        ≡ laid (found (caret offset) size (tree-rows-of (now (trees .entry)))) (now (list .entry)) ⌝ }
 {
     let length = size as u64;
     let inside = offset < length;

@@ -20,7 +20,8 @@ pub enum Query {
 pub fn list_rows(query: Query, size: usize, trees: &[u32], list: &mut [u32]) -> usize
     requires { ⌜ Sound size (tree-rows-of (now trees)) ⌝ }
     ensures { λ r. ⌜ r ≡ length (found (query-of query) size (tree-rows-of (now (trees .entry)))) ⌝ }
-    ensures { λ r. ⌜ now (list .exit) ≡ laid (found (query-of query) size (tree-rows-of (now (trees .entry)))) (now (list .entry)) ⌝ }
+    ensures { λ r. ⌜ now (list .exit)
+        ≡ laid (found (query-of query) size (tree-rows-of (now (trees .entry)))) (now (list .entry)) ⌝ }
 {
     match query {
         Query::Caret(offset) => chain::rows_at(offset, size, trees, list),

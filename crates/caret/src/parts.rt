@@ -32,7 +32,8 @@ fn shares(from: u64, to: u64, start: u64, end: u64) -> bool
 
 // The index after the rows, from an index on, whose leaves add up to so many bytes.
 fn past(trees: &[u32], index: usize, inside: u32) -> usize
-    requires { ⌜ Classes (tree-rows-of (drop index (now trees))) × ((room : ℕ) × Adds-up inside room (tree-rows-of (drop index (now trees)))) ⌝ }
+    requires { ⌜ Classes (tree-rows-of (drop index (now trees)))
+        × ((room : ℕ) × Adds-up inside room (tree-rows-of (drop index (now trees)))) ⌝ }
     ensures { λ r. ⌜ r ≡ index + TREE-ROW * passed inside (tree-rows-of (drop index (now (trees .entry)))) ⌝ }
 {
     let mut i = index;
@@ -54,8 +55,11 @@ fn sharing_from(
     list: &mut [u32],
 ) -> usize
     requires { ⌜ Starts (now trees) first «first_byte» × (length (tree-rows-of (now trees)) < TWO-TO-32) ⌝ }
-    ensures { λ r. ⌜ r ≡ length (starting from to (first / TREE-ROW) 0 «first_byte» (tree-rows-of (drop first (now (trees .entry))))) ⌝ }
-    ensures { λ r. ⌜ now (list .exit) ≡ laid (starting from to (first / TREE-ROW) 0 «first_byte» (tree-rows-of (drop first (now (trees .entry))))) (now (list .entry)) ⌝ }
+    ensures { λ r. ⌜ r
+        ≡ length (starting from to (first / TREE-ROW) 0 «first_byte» (tree-rows-of (drop first (now (trees .entry))))) ⌝ }
+    ensures { λ r. ⌜ now (list .exit)
+        ≡ laid (starting from to (first / TREE-ROW) 0 «first_byte» (tree-rows-of (drop first (now (trees .entry)))))
+        (now (list .entry)) ⌝ }
 {
     let mut index = first;
     let mut start = first_byte;
@@ -79,7 +83,8 @@ fn sharing_from(
 pub fn sharing(from: u64, to: u64, size: usize, trees: &[u32], list: &mut [u32]) -> usize
     requires { ⌜ Sound size (tree-rows-of (now trees)) ⌝ }
     ensures { λ r. ⌜ r ≡ length (found (range from to) size (tree-rows-of (now (trees .entry)))) ⌝ }
-    ensures { λ r. ⌜ now (list .exit) ≡ laid (found (range from to) size (tree-rows-of (now (trees .entry)))) (now (list .entry)) ⌝ }
+    ensures { λ r. ⌜ now (list .exit)
+        ≡ laid (found (range from to) size (tree-rows-of (now (trees .entry)))) (now (list .entry)) ⌝ }
 {
     let length = size as u64;
     let inside = from < length;

@@ -10,7 +10,6 @@ use layout::row::TREE_ROW;
 use listing::finish;
 use listing::without_list;
 ghost use mathlib.Core.Path.{_≡_};
-ghost use mathlib.Core.List.{[]};
 ghost use Prim.Native.Nat.{_*_, _≤_};
 ghost use lib.ListN.{length, take};
 ghost use Rattle.definitions.specs.Layout.{TREE-ROW};
@@ -22,8 +21,8 @@ ghost use Rattle.definitions.specs.Call as Call;
 ghost use Rattle.definitions.specs.Caret.{caret, range, listed, source-tree, with-list, query-call};
 ghost use Rattle.rows.specs.OnePass.{tree-rows-of, Sound};
 ghost use Rattle.caret.specs.Asked.{query-of};
-ghost use Rattle.call.specs.Result.{buffers-of, at-entry, at-exit, list-result-of};
-ghost use Rattle.listing.specs.Listed.{list-ends};
+ghost use Rattle.call.specs.Result.{at-entry, at-exit, list-result-of};
+ghost use Rattle.listing.specs.Listed.{left-at-entry, left-at-exit, list-ends};
 
 // The rows that a query lists, of an accepted parse; the answer is that of the parse.
 fn list_of(
@@ -36,9 +35,10 @@ fn list_of(
     pool: &mut [u32],
     list: &mut [u32],
 ) -> ListAnswer
-    requires { ⌜ (a .«tree_count» * TREE-ROW ≤ length (now trees)) × Sound size (tree-rows-of (take (a .«tree_count» * TREE-ROW) (now trees))) ⌝ }
-    ensures { λ r. ⌜ list-result-of r (now (list .exit)) (buffers-of [] (now (trees .exit)) (now (errors .exit)) (now (reports .exit)) (now (pool .exit)))
-        ≡ list-ends (query-of query) a size (now (list .entry)) (buffers-of [] (now (trees .entry)) (now (errors .entry)) (now (reports .entry)) (now (pool .entry))) ⌝ }
+    requires { ⌜ (a .«tree_count» * TREE-ROW ≤ length (now trees))
+        × Sound size (tree-rows-of (take (a .«tree_count» * TREE-ROW) (now trees))) ⌝ }
+    ensures { λ r. ⌜ list-result-of r (now (list .exit)) (left-at-exit trees errors reports pool)
+        ≡ list-ends (query-of query) a size (now (list .entry)) (left-at-entry trees errors reports pool) ⌝ }
 {
     let numbers = a.tree_count * TREE_ROW;
     let count = list_rows(query, size, &trees[..numbers], list);
@@ -60,9 +60,11 @@ fn parse_and_list(
 ) -> ListAnswer
     requires { ⌜ check-input (now bytes) (now tokens) ≡ accepted ⌝ }
     ensures { λ r. ⌜ list-result-of r (now (list .exit)) (at-exit events trees errors reports pool)
-        ≡ with-list (listed (query-of query) (length (now (bytes .entry))) (source-tree (tokens-of (now (tokens .entry))))) (now (list .entry))
-        (at-entry events trees errors reports pool)
-        (Call.parse SourceFile setting (now (bytes .entry)) (tokens-of (now (tokens .entry))) (at-entry events trees errors reports pool)) ⌝ }
+        ≡ with-list
+        (listed (query-of query) (length (now (bytes .entry))) (source-tree (tokens-of (now (tokens .entry)))))
+        (now (list .entry)) (at-entry events trees errors reports pool)
+        (Call.parse SourceFile setting (now (bytes .entry)) (tokens-of (now (tokens .entry)))
+        (at-entry events trees errors reports pool)) ⌝ }
 {
     let a = parse(
         Entrypoint::SourceFile,
@@ -97,7 +99,8 @@ fn answer_query(
     list: &mut [u32],
 ) -> ListAnswer
     ensures { λ r. ⌜ list-result-of r (now (list .exit)) (at-exit events trees errors reports pool)
-        ≡ query-call (query-of query) setting (now (bytes .entry)) (now (tokens .entry)) (at-entry events trees errors reports pool) (now (list .entry)) ⌝ }
+        ≡ query-call (query-of query) setting (now (bytes .entry)) (now (tokens .entry))
+        (at-entry events trees errors reports pool) (now (list .entry)) ⌝ }
 {
     let checked = call::check_input::check(bytes, tokens);
     let sound = checked.number == 0;
@@ -135,7 +138,8 @@ pub extern "C" fn dt_caret(
     list: &mut [u32],
 ) -> ListAnswer
     ensures { λ r. ⌜ list-result-of r (now (list .exit)) (at-exit events trees errors reports pool)
-        ≡ query-call (caret offset) setting (now (bytes .entry)) (now (tokens .entry)) (at-entry events trees errors reports pool) (now (list .entry)) ⌝ }
+        ≡ query-call (caret offset) setting (now (bytes .entry)) (now (tokens .entry))
+        (at-entry events trees errors reports pool) (now (list .entry)) ⌝ }
 {
     answer_query(
         Query::Caret(offset),
@@ -167,7 +171,8 @@ pub extern "C" fn dt_parts_in_range(
     list: &mut [u32],
 ) -> ListAnswer
     ensures { λ r. ⌜ list-result-of r (now (list .exit)) (at-exit events trees errors reports pool)
-        ≡ query-call (range start end) setting (now (bytes .entry)) (now (tokens .entry)) (at-entry events trees errors reports pool) (now (list .entry)) ⌝ }
+        ≡ query-call (range start end) setting (now (bytes .entry)) (now (tokens .entry))
+        (at-entry events trees errors reports pool) (now (list .entry)) ⌝ }
 {
     answer_query(
         Query::Range(start, end),

@@ -1,9 +1,10 @@
 -- How a query ends. No part of the exported promise.
 use Prim.Native.Nat.{ℕ, _*_}
 use mathlib.Core.Bool.{cond}
-use mathlib.Core.List.{List}
+use mathlib.Core.List.{List, []}
 use lib.Dec.{leb}
 use lib.ListN.{length, take}
+use denote.Ref.{now}
 use Rattle.definitions.specs.Layout.{TREE-ROW, NO-TREE-ROOM}
 use Rattle.definitions.specs.Call.{Buffers}
 use Rattle.definitions.specs.Caret.{Query, List-result}
@@ -13,7 +14,14 @@ use Rattle.refinement.specs.Ends.{wiped}
 use Rattle.call.specs.declared.Answer.{Answer}
 use Rattle.call.specs.declared.list.ListAnswer.{ListAnswer}
 use Rattle.call.specs.Ended.{refused-with}
-use Rattle.call.specs.Result.{buffers-of, list-result-of}
+use Rattle.call.specs.Result.{Lent, buffers-of, list-result-of}
+
+-- the lent buffers that a parse leaves something in; its events are zero, and they are not lent again
+abbrev pub left-at-entry : Lent → Lent → Lent → Lent → Buffers
+left-at-entry trees errors reports pool = buffers-of [] (now (trees .entry)) (now (errors .entry)) (now (reports .entry)) (now (pool .entry))
+
+abbrev pub left-at-exit : Lent → Lent → Lent → Lent → Buffers
+left-at-exit trees errors reports pool = buffers-of [] (now (trees .exit)) (now (errors .exit)) (now (reports .exit)) (now (pool .exit))
 
 abbrev pub counted : Answer → ℕ → ListAnswer
 counted a n = record { answer = a; «list_count» = n }

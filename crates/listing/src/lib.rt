@@ -5,10 +5,9 @@ use call::list::ListAnswer;
 use call::refused;
 use layout::refusal::NO_TREE_ROOM;
 ghost use mathlib.Core.Path.{_≡_};
-ghost use mathlib.Core.List.{[]};
 ghost use Rattle.refinement.specs.Ends.{wiped};
-ghost use Rattle.call.specs.Result.{buffers-of, list-result-of};
-ghost use Rattle.listing.specs.Listed.{counted, ended};
+ghost use Rattle.call.specs.Result.{list-result-of};
+ghost use Rattle.listing.specs.Listed.{left-at-entry, left-at-exit, counted, ended};
 
 // Refused by the parse, or before it.
 pub fn without_list(a: Answer) -> ListAnswer
@@ -52,8 +51,8 @@ pub fn finish(
     pool: &mut [u32],
     list: &mut [u32],
 ) -> ListAnswer
-    ensures { λ r. ⌜ list-result-of r (now (list .exit)) (buffers-of [] (now (trees .exit)) (now (errors .exit)) (now (reports .exit)) (now (pool .exit)))
-        ≡ ended a count (now (list .entry)) (buffers-of [] (now (trees .entry)) (now (errors .entry)) (now (reports .entry)) (now (pool .entry))) ⌝ }
+    ensures { λ r. ⌜ list-result-of r (now (list .exit)) (left-at-exit trees errors reports pool)
+        ≡ ended a count (now (list .entry)) (left-at-entry trees errors reports pool) ⌝ }
 {
     let fits = count <= list.len();
     if fits {

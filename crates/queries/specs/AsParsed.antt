@@ -1,5 +1,5 @@
--- BOTH PARSE FIRST. Document 02, 5/14: "with the parser's refusals; a list that doesn't fit is refusal 8." What any query
--- answers and leaves, by what the parse of the same source file answers and leaves. It excludes a cause of its own, a
+-- BOTH PARSE FIRST. Document 02, 5/14: "with the parser's refusals; a list that doesn't fit is refusal 8." What any
+-- query answers and leaves, by what the parse of the same source file answers and leaves. It excludes a cause of its own, a
 -- list left as it was where it does not fit, counts or buffers that differ from the parse's, and a list that is not
 -- cleared after its numbers.
 use Prim.Native.Nat.{ℕ, _-_, _≤_, _<_}
@@ -31,12 +31,14 @@ pub record All-zero (b c : Buffers) : Type 0 where
 -- returns.
 pub record Ends-as-parsed (b : Buffers) (list l : List ℕ) (r : Result) (x : List-result) : Type 0 where
   -- refused by the parse: the same refusal, and no list; its buffer is as the others are
-  pub refused : (r .answer .number ≡ 0 → ⊥) → (x .answer ≡ r .answer) × ((x .list-count ≡ 0) × (x .buffers ≡ r .buffers))
+  pub refused : (r .answer .number ≡ 0 → ⊥)
+      → (x .answer ≡ r .answer) × ((x .list-count ≡ 0) × (x .buffers ≡ r .buffers))
   pub left-alone : Before-the-parse (r .answer .number) → x .list ≡ list
   pub cleared : In-the-parse (r .answer .number) → x .list ≡ zeros list
   -- accepted, and the list fits: all else is as the parse leaves it, and zeros follow the list
   pub kept : r .answer .number ≡ 0 → length l ≤ length list
-      → (x .answer ≡ r .answer) × ((x .buffers ≡ r .buffers) × ((x .list-count ≡ length l) × (x .list ≡ l ++ replicate (length list - length l) 0)))
+      → (x .answer ≡ r .answer) × ((x .buffers ≡ r .buffers)
+      × ((x .list-count ≡ length l) × (x .list ≡ l ++ replicate (length list - length l) 0)))
   -- accepted, and the list does not fit
   pub full : r .answer .number ≡ 0 → length list < length l
       → No-room (x .answer) × (All-zero b (x .buffers) × ((x .list-count ≡ 0) × (x .list ≡ zeros list)))
@@ -45,10 +47,13 @@ pub record Ends-as-parsed (b : Buffers) (list l : List ℕ) (r : Result) (x : Li
 abbrev pub As-parsed : Type 0
 As-parsed =
     (q : Query) (setting : ℕ) (bytes tokens : List ℕ) (b : Buffers) (list : List ℕ)
-    → Ends-as-parsed b list (listed q (length bytes) (source-tree (tokens-of tokens))) (call 1 setting bytes tokens b) (query-call q setting bytes tokens b list)
+    → Ends-as-parsed b list (listed q (length bytes) (source-tree (tokens-of tokens))) (call 1 setting bytes tokens b)
+    (query-call q setting bytes tokens b list)
 
 -- A list for as many numbers as the tree has rows is never too short: it fits wherever the tree does.
 abbrev pub Rows-suffice : Type 0
 Rows-suffice =
-    (q : Query) (setting : ℕ) (bytes tokens : List ℕ) (b : Buffers) (list : List ℕ) → call 1 setting bytes tokens b .answer .number ≡ 0
-    → call 1 setting bytes tokens b .answer .tree-count ≤ length list → query-call q setting bytes tokens b list .answer .number ≡ 0
+    (q : Query) (setting : ℕ) (bytes tokens : List ℕ) (b : Buffers) (list : List ℕ)
+    → call 1 setting bytes tokens b .answer .number ≡ 0
+    → call 1 setting bytes tokens b .answer .tree-count ≤ length list
+    → query-call q setting bytes tokens b list .answer .number ≡ 0

@@ -41,5 +41,7 @@ pub record Parts-listed (l : List Row) (from to : ℕ) (rows : List ℕ) : Type 
 -- for every accepted query
 abbrev pub Parts-answered : Type 0
 Parts-answered =
-    (from to setting : ℕ) (bytes tokens : List ℕ) (b : Buffers) (list : List ℕ) → query-call (range from to) setting bytes tokens b list .answer .number ≡ 0
-    → Parts-listed (rows-left (query-call (range from to) setting bytes tokens b list)) from to (on-list (query-call (range from to) setting bytes tokens b list))
+    (from to setting : ℕ) (bytes tokens : List ℕ) (b : Buffers) (list : List ℕ)
+    → query-call (range from to) setting bytes tokens b list .answer .number ≡ 0
+    → Parts-listed (rows-left (query-call (range from to) setting bytes tokens b list)) from to
+    (on-list (query-call (range from to) setting bytes tokens b list))

@@ -1,6 +1,6 @@
 -- WHAT IS UNDER THE CARET, said of the rows that the query leaves in its buffers and not of a tree inside the
--- definitions. It excludes a chain that skips a row or leaves the tree, a leaf that ends at the offset, another row than
--- the last leaf at the file's end, and a second answer.
+-- definitions. It excludes a chain that skips a row or leaves the tree, a leaf that ends at the offset, another row
+-- than the last leaf at the file's end, and a second answer.
 use Prim.Native.Nat.{ℕ, suc, _≤_, _<_}
 use mathlib.Core.Path.{_≡_}
 use mathlib.Core.List.{List, [], _∷_}
@@ -44,5 +44,7 @@ pub record Under-caret (l : List Row) (size offset : ℕ) (rows : List ℕ) : Ty
 -- for every accepted query
 abbrev pub Caret-answered : Type 0
 Caret-answered =
-    (offset setting : ℕ) (bytes tokens : List ℕ) (b : Buffers) (list : List ℕ) → query-call (caret offset) setting bytes tokens b list .answer .number ≡ 0
-    → Under-caret (rows-left (query-call (caret offset) setting bytes tokens b list)) (length bytes) offset (on-list (query-call (caret offset) setting bytes tokens b list))
+    (offset setting : ℕ) (bytes tokens : List ℕ) (b : Buffers) (list : List ℕ)
+    → query-call (caret offset) setting bytes tokens b list .answer .number ≡ 0
+    → Under-caret (rows-left (query-call (caret offset) setting bytes tokens b list)) (length bytes) offset
+    (on-list (query-call (caret offset) setting bytes tokens b list))
