@@ -9,13 +9,13 @@ use lib.ListN.{length, getD, drop, set, length-append}
 use lib.Seq.{drop-drop}
 use borrow.Author.Tests.{ltb-true, ltb-false, lt-ltb, eq-eqb, ne-eqb}
 use Rattle.basics.proofs.Lists.{first-same, rest-same}
-use Rattle.definitions.specs.Layout.{TREE-ROW, TREE-WIDTH, LEAF}
+use Rattle.definitions.specs.Layout.{TREE-ROW, LEAF}
 use Rattle.rows.specs.ResultRows.{Row, class, width, over-leaves, raw-bytes}
 use Rattle.rows.specs.OnePass.{tree-rows-of, own, holding, Classes}
 use Rattle.rows.proofs.Numbers.{row-from, rows-cons, rows-some, rows-number, rows-drop}
 use Rattle.caret.specs.declared.chain.Spot.{Spot}
 use Rattle.caret.specs.Walk.{laid, seek-from}
-use Rattle.caret.proofs.Turns.{rows-from, Going, there, own-within}
+use Rattle.caret.proofs.Turns.{rows-from, Going, own-within}
 
 -- ---------------------------------------------------------------- the list
 

@@ -7,11 +7,11 @@ use mathlib.Core.List.{List, [], _∷_, _++_, append-assoc, append-nil}
 use lib.Dec.{ltb}
 use lib.ListN.{length, getD, drop, set, length-append, length-drop}
 use lib.Seq.{drop-drop}
-use borrow.Author.Tests.{ltb-true, ltb-false, le-ltb}
+use borrow.Author.Tests.{le-ltb}
 use Rattle.definitions.specs.Layout.{TREE-ROW, TREE-WIDTH, TWO-TO-32}
 use Rattle.definitions.specs.Caret.{range, share}
-use Rattle.rows.specs.ResultRows.{Row, class, width}
-use Rattle.rows.specs.OnePass.{tree-rows-of, own, starting, found, Classes, Adds-up, Sound}
+use Rattle.rows.specs.ResultRows.{Row, width}
+use Rattle.rows.specs.OnePass.{tree-rows-of, own, starting, found, Classes, Adds-up}
 use Rattle.rows.proofs.Numbers.{row-from, rows-cons, rows-number, rows-drop, own-product}
 use Rattle.caret.specs.Walk.{laid, passed, Starts}
 use Rattle.caret.proofs.Turns.{rows-from, own-within}

@@ -8,8 +8,8 @@ use mathlib.Core.List.{List, [], _∷_}
 use lib.Dec.{ltb}
 use lib.ListN.{length, drop, length-drop}
 use lib.Seq.{drop-drop}
-use borrow.Author.Tests.{ltb-true, ltb-false, le-ltb}
-use Rattle.definitions.specs.Layout.{TREE-ROW, TWO-TO-32}
+use borrow.Author.Tests.{ltb-false, le-ltb}
+use Rattle.definitions.specs.Layout.{TREE-ROW}
 use Rattle.definitions.specs.Caret.{range, share}
 use Rattle.rows.specs.ResultRows.{Row, width, over-leaves, raw-bytes}
 use Rattle.rows.specs.OnePass.{tree-rows-of, own, starting, found, Classes, Adds-up, Sound}

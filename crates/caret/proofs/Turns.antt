@@ -9,7 +9,7 @@ use lib.ListN.{length, getD, drop}
 use borrow.Author.Tests.{le-ltb, lt-ltb}
 use Rattle.definitions.specs.Layout.{TREE-ROW, TREE-WIDTH, LEAF}
 use Rattle.rows.specs.ResultRows.{Row, class, width, over-leaves, raw-bytes}
-use Rattle.rows.specs.OnePass.{tree-rows-of, own, holding, Classes, Adds-up}
+use Rattle.rows.specs.OnePass.{tree-rows-of, own, Classes, Adds-up}
 use Rattle.rows.proofs.Numbers.{row-from, rows-cons, rows-some, own-product}
 use Rattle.caret.specs.declared.chain.Spot.{Spot}
 use Rattle.caret.specs.Walk.{seek-from, passed}

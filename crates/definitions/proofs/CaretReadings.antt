@@ -2,9 +2,9 @@
 -- answers were worked out by hand, from the words; the sentence is quoted where one decides.
 use Prim.Native.Nat.{ℕ}
 use mathlib.Core.Path.{_≡_, refl}
-use mathlib.Core.List.{List, [], _∷_, _++_}
-use lib.ListN.{length, replicate}
-use Rattle.definitions.specs.Token.{Token, tokens-of, byte-count}
+use mathlib.Core.List.{List, [], _∷_}
+use lib.ListN.{replicate}
+use Rattle.definitions.specs.Token.{tokens-of, byte-count}
 use Rattle.definitions.specs.Place.{Tree}
 use Rattle.definitions.specs.Call.{Buffers, Result, call}
 use Rattle.definitions.specs.Caret.{Query, caret, range, listed, source-tree, List-result, query-call}

@@ -10,7 +10,7 @@ use Rattle.definitions.specs.Grammar.{SourceFile, root-kind}
 use Rattle.definitions.specs.Place.{Tree, nil, leaf, subtree, root, width, row-count}
 use Rattle.definitions.specs.Refusal.{Verdict, accepted, refused, no-tree-room, number-of, place-of}
 use Rattle.definitions.specs.RowCauses.{check-input}
-use Rattle.definitions.specs.Call.{Buffers, Answer, Result, refusal, untouched, cleared, zeros, written, run-entry, parse}
+use Rattle.definitions.specs.Call.{Buffers, Answer, Result, untouched, cleared, zeros, written, run-entry, parse}
 
 -- ---------------------------------------------------------------- the chain to a leaf
 

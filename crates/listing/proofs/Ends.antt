@@ -1,18 +1,18 @@
 -- A query, put together as the code does: refused by the parse, or its list found in the rows that the parse left.
-use Prim.Native.Nat.{ℕ, _-_, _*_, _≤_}
+use Prim.Native.Nat.{ℕ, _*_, _≤_}
 use native.Mathlib.Omega.{arith}
 use mathlib.Core.Path.{_≡_, refl, ap, sym, _∙_, subst}
 use mathlib.Core.Bool.{Bool, true, false, cond}
-use mathlib.Core.List.{List, [], _∷_, _++_}
+use mathlib.Core.List.{List, [], _∷_}
 use lib.Dec.{leb, eqb}
-use lib.ListN.{length, take, replicate}
+use lib.ListN.{length, take}
 use borrow.Author.Tests.{eqb-true, leb-true}
 use Rattle.definitions.specs.Layout.{TREE-ROW, NO-TREE-ROOM}
 use Rattle.definitions.specs.Token.{tokens-of}
 use Rattle.definitions.specs.Grammar.{SourceFile}
 use Rattle.definitions.specs.Refusal.{Verdict, accepted, no-tree-room, number-of, place-of}
 use Rattle.definitions.specs.RowCauses.{check-input}
-use Rattle.definitions.specs.Call.{Buffers, Result, refusal, cleared, zeros, written, kept, parse, call}
+use Rattle.definitions.specs.Call.{Buffers, Result, cleared, zeros, written, parse, call}
 use Rattle.definitions.specs.Caret.{Query, listed, source-tree, List-result, listless, with-list, checked-query, query-call}
 use Rattle.rows.specs.OnePass.{tree-rows-of, found, Sound}
 use Rattle.rows.proofs.Written.{rows-of}

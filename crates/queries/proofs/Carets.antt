@@ -1,20 +1,18 @@
 -- Under the caret, of the rows of a file's tree: inside the file, at its end, in an empty file and past the end.
 use Prim.Native.Nat.{ℕ, zero, suc, _+_, _-_, _≤_, _<_}
 use native.Mathlib.Omega.{arith}
-use mathlib.Core.Path.{_≡_, refl, ap, sym, _∙_, subst}
-use mathlib.Core.Bool.{Bool, true, false, cond}
+use mathlib.Core.Path.{_≡_, refl, sym, _∙_, subst}
+use mathlib.Core.Bool.{Bool, true, false}
 use mathlib.Core.List.{List, [], _∷_, _++_}
 use lib.Dec.{ltb}
-use lib.ListN.{length, getD}
 use borrow.Author.Tests.{ltb-true, ltb-false, lt-ltb, le-ltb, eq-eqb, ne-eqb}
-use Rattle.definitions.specs.Layout.{NODE, LEAF}
-use Rattle.definitions.specs.Token.{byte-count}
-use Rattle.definitions.specs.Place.{Tree, nil, leaf, subtree, width, count}
+use Rattle.definitions.specs.Layout.{LEAF}
+use Rattle.definitions.specs.Place.{Tree, nil, leaf, subtree, width}
 use Rattle.definitions.specs.Caret.{caret}
 use Rattle.rows.specs.ResultRows.{Row, class, raw-bytes}
 use Rattle.rows.specs.ResultRows as S
-use Rattle.rows.specs.RowTree.{row, Chain, first-byte, end-byte, Has-byte, Is-leaf}
-use Rattle.rows.specs.OnePass.{own, holding, found}
+use Rattle.rows.specs.RowTree.{row, first-byte, Has-byte, Is-leaf}
+use Rattle.rows.specs.OnePass.{holding, found}
 use Rattle.rows.proofs.Written.{rows-of}
 use Rattle.rows.proofs.Spans.{one-chain}
 use Rattle.rows.proofs.Bytes.{leaf-ends, leaf-within}

@@ -1,28 +1,27 @@
 -- Both parse first: how a query ends, by how the parse ends.
-use Prim.Native.Nat.{ℕ, suc, _+_, _-_, _/_, _%_, _≤_, _<_}
+use Prim.Native.Nat.{ℕ, suc, _+_, _/_, _%_}
 use native.Mathlib.Omega.{arith}
-use mathlib.Core.Path.{_≡_, refl, ap, sym, _∙_, subst}
-use mathlib.Core.Bool.{Bool, true, false, cond, _&&_}
+use mathlib.Core.Path.{_≡_, refl, subst}
+use mathlib.Core.Bool.{Bool, true, false, _&&_}
 use mathlib.Core.Logic.{_⊎_, inl, inr, ⊎-elim}
-use mathlib.Core.List.{List, [], _∷_, _++_}
+use mathlib.Core.List.{List, [], _∷_}
 use lib.Dec.{leb, eqb}
-use lib.ListN.{length, drop, take, replicate}
-use borrow.Author.Tests.{eqb-true, eqb-false, ne-eqb, eq-eqb, le-leb, lt-leb}
+use lib.ListN.{length, drop, take}
+use borrow.Author.Tests.{eqb-true, eqb-false, le-leb, lt-leb}
 use Rattle.basics.proofs.Tests.{cond-all}
 use Rattle.definitions.specs.Layout.{TOKEN-ROW, MOST-BYTES, MOST-TOKEN-NUMBERS}
 use Rattle.definitions.specs.Token.{Token, tokens-of}
 use Rattle.definitions.specs.StaticText.{static-texts, fits-text}
 use Rattle.definitions.specs.Grammar.{SourceFile}
-use Rattle.definitions.specs.Refusal.{Refusal, too-long, odd-count, bad-kind, zero-length, past-input, short-total, bad-text, no-tree-room, number-of, place-of, Verdict, accepted, refused, unless, _or-else_, check-sizes, check-texts}
+use Rattle.definitions.specs.Refusal.{Refusal, too-long, odd-count, bad-kind, zero-length, past-input, short-total, number-of, place-of, Verdict, accepted, refused, unless, _or-else_, check-sizes, check-texts}
 use Rattle.definitions.specs.RowCauses.{check-count, is-kind, check-row, check-rows, check-input}
-use Rattle.definitions.specs.Call.{Buffers, Result, untouched, cleared, zeros, written, parse, call, asked, checked, entry-of}
-use Rattle.definitions.specs.Caret.{Query, listed, source-tree, List-result, listless, with-list, checked-query, query-call}
+use Rattle.definitions.specs.Call.{Buffers, Result, cleared, parse, call, asked, checked, entry-of}
+use Rattle.definitions.specs.Caret.{Query, listed, source-tree, with-list, checked-query, query-call}
 use Rattle.laws.proofs.Accepted.{refusal-number}
 use Rattle.laws.proofs.Input.{checked-input}
 use Rattle.refusals.specs.Answered.{Before-the-parse, In-the-parse}
-use Rattle.refusals.specs.Refusals.{Passes-1, Sizes}
 use Rattle.refusals.proofs.Late.{Late, late}
-use Rattle.queries.specs.AsParsed.{No-room, All-zero, Ends-as-parsed, As-parsed}
+use Rattle.queries.specs.AsParsed.{Ends-as-parsed, As-parsed}
 use Rattle.queries.proofs.Parsed.{parse-is-call}
 
 -- ---------------------------------------------------------------- the causes before the parse

@@ -1,20 +1,19 @@
 -- What guards the statements: queries that meet their premises, computed, and answers that they exclude, each refuted by
 -- the line that rules it out.
-use Prim.Native.Nat.{ℕ, zero, suc, _+_, _-_, _≤_, _<_}
+use Prim.Native.Nat.{ℕ, zero, suc, _+_, _<_}
 use native.Mathlib.Omega.{arith}
-use mathlib.Core.Path.{_≡_, refl, ap, sym, _∙_, subst}
+use mathlib.Core.Path.{_≡_, refl, ap, sym, subst}
 use mathlib.Core.Logic.{_⊎_, inl, inr, ⊎-elim}
 use mathlib.Core.List.{List, [], _∷_}
-use lib.ListN.{length, drop, replicate, getD}
+use lib.ListN.{drop, replicate, getD}
 use Rattle.basics.proofs.Lists.{rest-same}
-use Rattle.definitions.specs.Token.{tokens-of}
 use Rattle.definitions.specs.Call.{Buffers, Answer, Result, call}
 use Rattle.definitions.specs.Caret.{Query, caret, range, List-result, query-call}
 use Rattle.rows.specs.ResultRows.{Row, cut-rows, tree-rows, over-leaves}
-use Rattle.rows.specs.RowTree.{span, Child, Chain, first-byte, end-byte, Has-byte, Is-leaf}
+use Rattle.rows.specs.RowTree.{span, Chain, Has-byte, Is-leaf}
 use Rattle.queries.specs.AsParsed.{Ends-as-parsed}
 use Rattle.queries.specs.UnderCaret.{rows-left, on-list, To-leaf}
-use Rattle.queries.specs.PartsListed.{On, Shares, Parts-listed}
+use Rattle.queries.specs.PartsListed.{Parts-listed}
 
 -- ---------------------------------------------------------------- ` a;`
 

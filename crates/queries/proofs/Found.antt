@@ -1,14 +1,13 @@
 -- One pass over the rows of a file's tree finds what the definitions list.
-use Prim.Native.Nat.{ℕ, suc, _+_, _-_, _≤_, _<_}
+use Prim.Native.Nat.{ℕ, _+_, _-_, _<_}
 use native.Mathlib.Omega.{arith}
 use mathlib.Core.Path.{_≡_, refl, ap, sym, _∙_}
-use mathlib.Core.Bool.{Bool, true, false, cond}
-use mathlib.Core.List.{List, [], _∷_, _++_, append-nil}
+use mathlib.Core.Bool.{Bool, true, false}
+use mathlib.Core.List.{[], _∷_, append-nil}
 use lib.Dec.{ltb, eqb}
-use borrow.Author.Tests.{ltb-true, ltb-false, eqb-true, eqb-false, eq-eqb, ne-eqb}
+use borrow.Author.Tests.{ltb-true, eqb-true, eqb-false}
 use Rattle.definitions.specs.Place.{Tree, nil, subtree, width}
 use Rattle.definitions.specs.Caret.{leaves-at, chain-to, chain-to-last, rows-at, top-level, sharing, Query, caret, range, listed}
-use Rattle.rows.specs.ResultRows.{Row}
 use Rattle.rows.specs.OnePass.{holding, starting, found}
 use Rattle.rows.proofs.Written.{rows-of}
 use Rattle.rows.proofs.Passes.{chain-holding}

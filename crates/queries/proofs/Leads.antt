@@ -8,7 +8,7 @@ use mathlib.Core.List.{List, [], _∷_, _++_, append-assoc}
 use lib.Dec.{ltb}
 use lib.ListN.{length, drop}
 use lib.Seq.{drop-drop}
-use borrow.Author.Tests.{ltb-true, ltb-false, lt-ltb, le-ltb}
+use borrow.Author.Tests.{ltb-true, ltb-false}
 use Rattle.definitions.specs.Layout.{NODE, LEAF}
 use Rattle.definitions.specs.Token.{byte-count}
 use Rattle.definitions.specs.Place.{Tree, nil, leaf, subtree, width, count, row-count}

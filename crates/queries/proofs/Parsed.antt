@@ -1,14 +1,14 @@
 -- The parse of a source file that passed the checks: it is the call of entry 1, and what it leaves once it is accepted.
-use Prim.Native.Nat.{ℕ, suc, _-_, _*_, _/_, _≤_}
+use Prim.Native.Nat.{ℕ, _-_, _*_, _/_, _≤_}
 use native.Mathlib.Omega.{arith}
 use native.Mathlib.Nat.{div-eq-of-eq-mul-right}
 use mathlib.Core.Path.{_≡_, refl, ap, sym, _∙_, subst}
-use mathlib.Core.List.{List, [], _∷_, _++_}
+use mathlib.Core.List.{List}
 use lib.Dec.{lit<}
 use lib.ListN.{length, take, replicate}
 use lib.Seq.{take-at}
 use Rattle.definitions.specs.Layout.{TREE-ROW}
-use Rattle.definitions.specs.Token.{Token, tokens-of}
+use Rattle.definitions.specs.Token.{tokens-of}
 use Rattle.definitions.specs.Grammar.{Entry, SourceFile}
 use Rattle.definitions.specs.Place.{rows, row-count}
 use Rattle.definitions.specs.Refusal.{Verdict, accepted}

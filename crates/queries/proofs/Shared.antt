@@ -1,20 +1,20 @@
 -- The parts that share a byte with a range: by induction over the parts, each of which stands among all rows as a child
 -- of the root.
-use Prim.Native.Nat.{ℕ, suc, _+_, _-_, _≤_, _<_}
+use Prim.Native.Nat.{ℕ, suc, _+_, _≤_, _<_}
 use native.Mathlib.Omega.{arith}
 use mathlib.Core.Path.{_≡_, refl, ap, sym, _∙_, subst}
 use mathlib.Core.Bool.{Bool, true, false, cond, _&&_, false≢true}
 use mathlib.Core.Logic.{_⊎_, inl, inr, ⊎-elim}
-use mathlib.Core.List.{List, [], _∷_, _++_}
+use mathlib.Core.List.{List, [], _∷_}
 use lib.Dec.{ltb, eqb}
-use lib.ListN.{length, drop}
+use lib.ListN.{drop}
 use borrow.Author.Tests.{ltb-true, ltb-false, lt-ltb, eqb-true, eqb-false}
 use Rattle.basics.proofs.Tests.{and-left, and-right}
 use Rattle.definitions.specs.Token.{byte-count}
 use Rattle.definitions.specs.Place.{Tree, nil, leaf, subtree, width, count, row-count}
 use Rattle.definitions.specs.Caret.{share, sharing}
 use Rattle.rows.specs.ResultRows.{Row}
-use Rattle.rows.specs.RowTree.{row, span, Child, first-byte, end-byte, Has-byte}
+use Rattle.rows.specs.RowTree.{span, Child, first-byte, end-byte}
 use Rattle.queries.specs.PartsListed.{On, Ascending, Shares, Parts-listed}
 use Rattle.rows.proofs.Written.{rows-of}
 use Rattle.queries.proofs.Leads.{under-root, first-one, root-count, Placed, leaf-child, leaf-before, leaf-width, after-leaf, leaf-next, node-child, node-before, node-width, after-node, node-next}

@@ -1,16 +1,12 @@
 -- The rows that an accepted source file leaves: those of its tree, sound for one pass, each leaf with a byte.
-use Prim.Native.Nat.{ℕ, suc, _+_, _-_, _*_, _/_, _≤_, _<_}
+use Prim.Native.Nat.{ℕ, suc, _+_, _<_}
 use native.Mathlib.Omega.{arith}
-use native.Mathlib.Nat.{add-zero, div-eq-of-eq-mul-right}
 use mathlib.Core.Path.{_≡_, refl, ap, sym, _∙_, subst}
-use mathlib.Core.List.{List, [], _∷_, _++_, append-nil}
-use lib.Dec.{lit<}
-use lib.ListN.{length, drop, take, replicate, length-append}
-use lib.Seq.{take-at}
-use Rattle.definitions.specs.Layout.{TREE-ROW, TWO-TO-32, MOST-BYTES}
+use mathlib.Core.List.{List, [], _∷_, _++_}
+use lib.ListN.{length, drop, length-append}
 use Rattle.definitions.specs.Token.{Token, tokens-of, byte-count}
 use Rattle.definitions.specs.Grammar.{SourceFile, root-kind}
-use Rattle.definitions.specs.Place.{Tree, nil, leaf, subtree, _⊕_, lead, after, place, root, width, rows, row-count}
+use Rattle.definitions.specs.Place.{Tree, nil, leaf, subtree, _⊕_, lead, after, place, root, width, row-count}
 use Rattle.definitions.specs.Refusal.{accepted}
 use Rattle.definitions.specs.RowCauses.{check-input}
 use Rattle.definitions.specs.Call.{run-entry}
@@ -18,13 +14,12 @@ use Rattle.definitions.specs.Caret.{Query, listed, source-tree}
 use Rattle.laws.specs.Lossless.{Kind-of, one-token, a-name}
 use Rattle.laws.proofs.Tree.{leaves, width-leaves}
 use Rattle.laws.proofs.Leaves.{Right}
-use Rattle.laws.proofs.Input.{Good, All-good, Checked, checked-input}
+use Rattle.laws.proofs.Input.{All-good, Checked, checked-input}
 use Rattle.laws.proofs.Lossless.{lossless}
 use Rattle.bounds.proofs.TreeRows.{tree-right, few-rows}
 use Rattle.rows.specs.ResultRows.{Row, over-leaves, raw-bytes}
-use Rattle.rows.specs.OnePass.{tree-rows-of, found, Classes, Adds-up, Sound}
-use Rattle.rows.proofs.Written.{rows-of, rows-wide, rows-flat, bytes-counted}
-use Rattle.rows.proofs.Numbers.{rows-flat-of}
+use Rattle.rows.specs.OnePass.{found, Classes, Adds-up, Sound}
+use Rattle.rows.proofs.Written.{rows-of, bytes-counted}
 use Rattle.rows.proofs.Last.{Leaves-wide}
 use Rattle.rows.proofs.Parts.{adds-parts}
 use Rattle.queries.proofs.Found.{found-listed}

@@ -1,22 +1,22 @@
 -- A list has no more numbers than there are rows.
 use Prim.Native.Nat.{ℕ, zero, suc, _+_, _-_, _≤_, _<_}
 use native.Mathlib.Omega.{arith}
-use mathlib.Core.Path.{_≡_, refl, ap, sym, _∙_}
-use mathlib.Core.Bool.{Bool, true, false, cond}
+use mathlib.Core.Path.{ap, _∙_}
+use mathlib.Core.Bool.{cond}
 use mathlib.Core.List.{List, [], _∷_}
 use lib.Dec.{ltb, eqb}
 use lib.ListN.{length}
 use Rattle.basics.proofs.Tests.{cond-all}
 use Rattle.definitions.specs.Layout.{LEAF}
 use Rattle.definitions.specs.Token.{Token, tokens-of}
-use Rattle.definitions.specs.Place.{root, row-count}
+use Rattle.definitions.specs.Place.{root}
 use Rattle.definitions.specs.Call.{Answer, call}
-use Rattle.definitions.specs.Caret.{Query, caret, range, share, listed, source-tree, query-call}
+use Rattle.definitions.specs.Caret.{Query, caret, range, share, source-tree}
 use Rattle.rows.specs.ResultRows.{Row, class, width}
 use Rattle.rows.specs.OnePass.{own, holding, starting, found}
 use Rattle.rows.proofs.Written.{rows-of}
 use Rattle.queries.specs.AsParsed.{Rows-suffice}
-use Rattle.queries.proofs.SoundRows.{rows-counted, tree-is, File-rows, file-rows}
+use Rattle.queries.proofs.SoundRows.{rows-counted, File-rows, file-rows}
 use Rattle.queries.proofs.Parsed.{Left, what-is-left, count-is}
 use Rattle.queries.proofs.Ending.{as-parsed}
 

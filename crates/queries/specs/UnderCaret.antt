@@ -1,14 +1,14 @@
 -- WHAT IS UNDER THE CARET, said of the rows that the query leaves in its buffers and not of a tree inside the
 -- definitions. It excludes a chain that skips a row or leaves the tree, a leaf that ends at the offset, another row
 -- than the last leaf at the file's end, and a second answer.
-use Prim.Native.Nat.{ℕ, suc, _≤_, _<_}
+use Prim.Native.Nat.{ℕ, _≤_, _<_}
 use mathlib.Core.Path.{_≡_}
 use mathlib.Core.List.{List, [], _∷_}
 use lib.ListN.{length, take}
-use Rattle.definitions.specs.Call.{Buffers, Result}
-use Rattle.definitions.specs.Caret.{Query, caret, List-result, query-call}
+use Rattle.definitions.specs.Call.{Buffers}
+use Rattle.definitions.specs.Caret.{caret, List-result, query-call}
 use Rattle.rows.specs.ResultRows.{Row, tree-rows}
-use Rattle.rows.specs.RowTree.{Child, Chain, end-byte, Has-byte, Is-leaf}
+use Rattle.rows.specs.RowTree.{Chain, end-byte, Has-byte, Is-leaf}
 
 -- the tree rows that a query left, and the numbers on its list
 abbrev pub rows-left : List-result → List Row

@@ -4,14 +4,13 @@ use native.Mathlib.Omega.{arith}
 use mathlib.Core.Path.{_≡_, refl, ap, sym, _∙_, subst}
 use mathlib.Core.Bool.{true}
 use mathlib.Core.List.{List, [], _∷_, _++_, append-assoc, append-nil}
-use lib.ListN.{length, length-append}
+use lib.ListN.{length}
 use Rattle.definitions.specs.Layout.{NODE, LEAF}
 use Rattle.definitions.specs.TokenKind as K
 use Rattle.definitions.specs.Token.{Token, byte-count}
 use Rattle.definitions.specs.Place.{Tree, nil, leaf, subtree, _⊕_, width, count}
-use Rattle.laws.proofs.Skeleton.{bytes-append}
-use Rattle.laws.proofs.Tree.{leaves, count-beside}
-use Rattle.rows.specs.ResultRows.{Row, class, kind, Subtrees, over-leaves, raw-tokens, raw-bytes}
+use Rattle.laws.proofs.Tree.{count-beside}
+use Rattle.rows.specs.ResultRows.{Row, class, kind, Subtrees}
 use Rattle.rows.specs.ResultRows as S
 use Rattle.recovery.specs.Recovery.{is-statement, Semicolon}
 use Rattle.rows.proofs.Written.{rows-of, rows-beside, rows-parts}

@@ -1,28 +1,27 @@
 -- What an accepted source file wrote, row by row: the rows of its tree, of its error tokens and of its reports, those
 -- of its setting too.
-use Prim.Native.Nat.{ℕ, suc, _+_, _-_, _*_, _/_, _<_}
-use native.Mathlib.Nat.{mul-div-cancel-left}
+use Prim.Native.Nat.{ℕ, suc, _+_, _-_}
 use native.Mathlib.Omega.{arith}
 use mathlib.Core.Path.{_≡_, refl, ap, sym, _∙_}
 use mathlib.Core.Bool.{Bool, true, false, cond}
-use mathlib.Core.List.{List, [], _∷_, _++_, append-assoc, map}
-use lib.ListN.{length, take, drop, replicate, length-append}
-use lib.Seq.{take-at, drop-at, take-append-seam}
+use mathlib.Core.List.{List, [], _∷_, _++_, map}
+use lib.ListN.{length, replicate}
+use lib.Seq.{take-append-seam}
 use Rattle.definitions.specs.Layout.{REPORT-ROW, ERROR-ROW, TREE-ROW}
 use Rattle.definitions.specs.NodeKind as N
 use Rattle.definitions.specs.Errors as E
 use Rattle.definitions.specs.Token.{Token, tokens-of, is-error, byte-count}
 use Rattle.definitions.specs.Grammar.{Entry, SourceFile, root-kind}
 use Rattle.definitions.specs.Skeleton.{Label, no-label, label, Report, Skeleton}
-use Rattle.definitions.specs.Place.{Tree, nil, leaf, subtree, root, width, count, rows, lexical-errors}
+use Rattle.definitions.specs.Place.{Tree, nil, subtree, root, lexical-errors}
 use Rattle.definitions.specs.Report.{pushes, reports, label-numbers, report-numbers, pool}
 use Rattle.definitions.specs.Strict.{Name-at, name-numbers}
 use Rattle.definitions.specs.Refusal.{accepted}
 use Rattle.definitions.specs.RowCauses.{check-input}
-use Rattle.definitions.specs.Call.{Sheets, sheets, kept, written, run-entry, names-of, for, entry-of}
+use Rattle.definitions.specs.Call.{Sheets, sheets, kept, run-entry, names-of, for, entry-of}
 use Rattle.laws.proofs.Accepted.{accepted-call, written-by}
 use Rattle.laws.proofs.Accepted as L
-use Rattle.rows.specs.ResultRows.{Row, cut-rows, tree-rows, error-rows, expectations}
+use Rattle.rows.specs.ResultRows.{Row, tree-rows, error-rows, expectations}
 use Rattle.rows.specs.ResultRows as S
 use Rattle.rows.proofs.Written.{flat, Wide, flat-append, wide-append, written-rows, rows-of, rows-wide, rows-flat}
 use Rattle.recovery.specs.Recovery.{File, result, Accepted}

@@ -1,17 +1,15 @@
 -- The bytes of rows: where a row starts, and that leaves follow one another without a gap.
 use Prim.Native.Nat.{ℕ, suc, _+_, _-_, _≤_, _<_}
 use native.Mathlib.Omega.{arith}
-use mathlib.Core.Path.{_≡_, refl, ap, sym, _∙_, subst}
-use mathlib.Core.Bool.{cond}
+use mathlib.Core.Path.{_≡_, refl, ap, sym, _∙_}
 use mathlib.Core.List.{List, [], _∷_, _++_}
-use lib.Dec.{eqb}
 use lib.ListN.{length, take, drop, getD, length-drop, take-append-drop}
 use lib.Seq.{drop-cons, drop-drop, take-suc, take-add, take-append-seam, drop-append-seam}
 use borrow.Author.Tests.{eq-eqb}
 use Rattle.basics.proofs.Lists.{first-same, rest-same}
 use Rattle.definitions.specs.Layout.{LEAF}
 use Rattle.rows.specs.ResultRows.{Row, class, width, over-leaves, raw-bytes}
-use Rattle.rows.specs.RowTree.{row, first-byte, end-byte, Has-byte, Is-leaf}
+use Rattle.rows.specs.RowTree.{row, first-byte, end-byte, Is-leaf}
 use Rattle.rows.specs.OnePass.{own}
 use Rattle.rows.proofs.Written.{over-append}
 

@@ -1,16 +1,16 @@
 -- Tree rows read from numbers: row by row from an index on, and where there is one.
-use Prim.Native.Nat.{ℕ, zero, suc, _+_, _-_, _*_, _/_, _≤_, _<_}
+use Prim.Native.Nat.{ℕ, zero, suc, _+_, _*_, _/_, _≤_}
 use native.Mathlib.Omega.{arith}
 use native.Mathlib.Nat.{one-mul, zero-mul}
-use mathlib.Core.Path.{_≡_, refl, ap, sym, _∙_}
+use mathlib.Core.Path.{_≡_, refl, ap, _∙_}
 use mathlib.Core.Bool.{cond}
-use mathlib.Core.List.{List, [], _∷_, _++_}
+use mathlib.Core.List.{List, [], _∷_}
 use lib.Dec.{eqb}
 use lib.ListN.{length, getD, drop, length-drop}
 use lib.Seq.{drop-cons, drop-nil}
 use Rattle.definitions.specs.Layout.{TREE-ROW, TREE-KIND, TREE-WIDTH, TREE-COUNT, LEAF}
-use Rattle.rows.specs.ResultRows.{Row, class, width}
-use Rattle.rows.specs.OnePass.{tree-rows-of, own}
+use Rattle.rows.specs.ResultRows.{Row}
+use Rattle.rows.specs.OnePass.{tree-rows-of}
 use Rattle.rows.proofs.Written.{flat, Wide}
 
 -- the row whose first number has an index

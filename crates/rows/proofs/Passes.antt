@@ -1,18 +1,17 @@
 -- One pass over the rows of a tree finds the rows that the definitions list (specs/OnePass.antt): a tree that ends
 -- before the byte is passed over, and one that has it is gone into.
-use Prim.Native.Nat.{ℕ, zero, suc, _+_, _-_, _≤_, _<_}
+use Prim.Native.Nat.{ℕ, suc, _+_, _-_, _≤_, _<_}
 use native.Mathlib.Omega.{arith}
-use mathlib.Core.Path.{_≡_, refl, ap, sym, _∙_, subst}
-use mathlib.Core.Bool.{Bool, true, false, cond, _&&_}
-use mathlib.Core.List.{List, [], _∷_, _++_, append-assoc, append-nil}
-use lib.Dec.{ltb, leb}
-use lib.ListN.{length}
+use mathlib.Core.Path.{_≡_, refl, ap, sym, _∙_}
+use mathlib.Core.Bool.{Bool, true, false}
+use mathlib.Core.List.{List, [], _∷_, _++_, append-assoc}
+use lib.Dec.{ltb}
 use borrow.Author.Tests.{ltb-true, ltb-false, lt-ltb, le-ltb, le-leb}
 use Rattle.definitions.specs.Token.{byte-count}
 use Rattle.definitions.specs.Place.{Tree, nil, leaf, subtree, width, row-count}
-use Rattle.definitions.specs.Caret.{Leaf-at, leaves-at, owns, chain-to, chain-to-last, share, sharing}
+use Rattle.definitions.specs.Caret.{Leaf-at, leaves-at, chain-to}
 use Rattle.rows.specs.ResultRows.{Row}
-use Rattle.rows.specs.OnePass.{holding, starting, Adds-up}
+use Rattle.rows.specs.OnePass.{holding}
 use Rattle.rows.proofs.Written.{rows-of}
 
 -- ---------------------------------------------------------------- the chain

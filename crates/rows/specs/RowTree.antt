@@ -7,7 +7,7 @@ use mathlib.Core.List.{List, [], _∷_}
 use lib.Dec.{eqb}
 use lib.ListN.{length, take, drop, getD}
 use Rattle.definitions.specs.Layout.{NODE, LEAF}
-use Rattle.rows.specs.ResultRows.{Row, class, width, count, over-leaves, raw-bytes}
+use Rattle.rows.specs.ResultRows.{Row, class, width, count, raw-bytes}
 
 -- row i; no numbers past the last row
 abbrev pub row : List Row → ℕ → Row

@@ -1,7 +1,7 @@
 -- `rows_at`: the four places that an offset may have.
 use native.Mathlib.Omega.{arith}
 use mathlib.Core.Path.{refl, _∙_}
-use borrow.Author.Tests.{ltb-true, eqb-true, eqb-false, not-true, not-false}
+use borrow.Author.Tests.{ltb-true, eqb-false, not-true, not-false}
 use borrow.Author.Needs.{needs}
 use Rattle.caret.proofs.Offsets.{at-inside, at-past, at-empty, at-end, as-found, laid-none, laid-one}
 use Rattle.caret.proofs.chain.rows_at.Statement.{statement}

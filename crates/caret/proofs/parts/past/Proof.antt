@@ -1,7 +1,7 @@
 -- `past`: as many rows are passed from here as are left of those from the start.
-use Prim.Native.Nat.{suc, _+_, _-_, _*_, _≤_}
+use Prim.Native.Nat.{_+_, _-_, _*_, _≤_}
 use native.Mathlib.Omega.{arith}
-use mathlib.Core.Path.{_≡_, refl, sym, _∙_, ap}
+use mathlib.Core.Path.{_≡_, refl}
 use lib.ListN.{length, getD}
 use Rattle.definitions.specs.Layout.{TREE-ROW, TREE-WIDTH}
 use Rattle.caret.specs.Walk.{passed}
