@@ -372,8 +372,8 @@ enum dt_expected {
 
 /*
  * Of dt_caret and dt_parts_in_range: a length of list that suffices beside a tree buffer of so many numbers. No row is
- * in a list twice, so that it fits where the tree does: 8 is then about the tree or the lexical errors, and never about
- * the list.
+ * in a list twice, so that it fits where the tree does (crates/queries has the proof): 8 is then about the tree or the
+ * lexical errors, and never about the list.
  */
 #define DT_LIST_FOR(trees_len) ((size_t)(trees_len) / DT_ROW_TREE)
 

@@ -5,7 +5,7 @@ use layout::row::LEAF;
 use layout::row::TREE_ROW;
 use layout::row::TREE_WIDTH;
 ghost use mathlib.Core.Path.{_≡_};
-ghost use Prim.Native.Nat.{_<_, _≤_};
+ghost use Prim.Native.Nat.{_<_};
 ghost use lib.ListN.{length, drop};
 ghost use Rattle.definitions.specs.Layout.{TWO-TO-32};
 ghost use Rattle.definitions.specs.Caret.{caret};

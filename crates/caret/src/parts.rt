@@ -5,7 +5,6 @@ use crate::list::put_if;
 use layout::row::TREE_ROW;
 use layout::row::TREE_WIDTH;
 ghost use mathlib.Core.Path.{_≡_};
-ghost use mathlib.Core.List.{[]};
 ghost use Prim.Native.Nat.{ℕ, _+_, _*_, _/_, _<_};
 ghost use lib.ListN.{length, drop};
 ghost use Rattle.definitions.specs.Layout.{TREE-ROW, TWO-TO-32};
