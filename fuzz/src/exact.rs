@@ -1,13 +1,13 @@
-//! For valgrind: each buffer is allocated for itself, exactly as long as it says, and was never written before the
-//! call.
+//! For valgrind: calls with token rows over exact, unwritten buffers.
 use crate::call::Call;
 use crate::judge::{Input, Judge, is_early};
 use crate::make::{self, Maker};
 use crate::rng::Rng;
 use crate::run::chosen;
 use crate::strict::is_strict;
-use dt_parser_ffi::{self as ffi, Lent};
-use dt_parser_layout::{ACCEPTED, ANSWERS, BUFFERS, SETTING_OLD};
+use crate::unwritten::Unwritten;
+use dt_parser_ffi as ffi;
+use dt_parser_layout::{ACCEPTED, ANSWERS, SETTING_OLD};
 
 /// True if each answer and each written buffer was right; valgrind says whether memory was used rightly.
 pub fn run(seed: u64, cases: u64) -> bool {
@@ -41,9 +41,8 @@ fn wrong(call: &Call) -> bool {
 fn one(judge: &Judge, call: &Call, input: Input) -> bool {
     let expected = judge.expected(input, call);
     let (tokens, bytes) = (call.tokens.clone().into_boxed_slice(), call.bytes.clone().into_boxed_slice());
-    let mut store: [Vec<u32>; BUFFERS] = call.lengths.map(Vec::with_capacity);
-    let numbers = store.each_mut().map(|v| v.as_mut_ptr());
-    let lent = std::array::from_fn(|i| Lent { numbers: numbers[i], len: call.lengths[i] });
+    let mut store = call.lengths.map(Unwritten::new);
+    let lent = store.each_mut().map(Unwritten::lend);
     // Safety: five allocations of those lengths
     let given = unsafe { ffi::parse_lent(call.entry, call.setting, &bytes, &tokens, lent) };
     if given != expected {
@@ -52,12 +51,9 @@ fn one(judge: &Judge, call: &Call, input: Input) -> bool {
     if is_early(given.number) {
         return true; // every buffer as it was: not written
     }
-    for (v, n) in store.iter_mut().zip(call.lengths) {
-        // Safety: the call wrote every number of each buffer; valgrind sees here if it did not
-        unsafe { v.set_len(n) }
-    }
-    store.iter().zip(judge.rows(call.setting)).all(|(all, rows)| {
+    store.iter_mut().zip(judge.rows(call.setting)).all(|(buffer, rows)| {
         let written = if given.number == ACCEPTED { &rows[..] } else { &[] };
-        all.strip_prefix(written).is_some_and(|rest| rest.iter().all(|&x| x == 0))
+        // Safety: the call writes every number of each buffer
+        unsafe { buffer.holds(written) }
     })
 }

@@ -23,6 +23,7 @@ mod tally;
 mod text;
 mod texts;
 mod unchanged;
+mod unwritten;
 
 use oracle::case::unesc;
 use oracle::parsers::on_large_stack;

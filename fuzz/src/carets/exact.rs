@@ -1,5 +1,4 @@
-//! For valgrind: the file and each buffer are allocated for themselves, exactly as long as they say, and the buffers
-//! were never written before the call.
+//! For valgrind: queries of files, allocated for themselves too, over exact, unwritten buffers.
 use super::asked;
 use super::call::QueryCall;
 use super::judge::QueryJudge;
@@ -8,8 +7,9 @@ use crate::make::{self, Maker, lengths};
 use crate::rng::Rng;
 use crate::run::chosen;
 use crate::strict::is_strict;
-use dt_parser_ffi::{self as ffi, Lent, Query};
-use dt_parser_layout::{ACCEPTED, ANSWERS, BUFFERS, SETTING_OLD};
+use crate::unwritten::Unwritten;
+use dt_parser_ffi::{self as ffi, Query};
+use dt_parser_layout::{ACCEPTED, ANSWERS, SETTING_OLD};
 
 /// Queries of a file in each setting.
 const FEW: usize = 2;
@@ -56,34 +56,22 @@ fn lend(r: &mut Rng, judge: &QueryJudge, input: Input, call: &mut QueryCall) {
     }
 }
 
-/// A buffer after the call: its rows and then zero.
-fn holds(all: &[u32], rows: &[u32]) -> bool {
-    all.strip_prefix(rows).is_some_and(|rest| rest.iter().all(|&x| x == 0))
-}
-
 fn one(judge: &QueryJudge, call: &QueryCall, input: Input) -> bool {
     let (expected, parse) = (judge.expected(input, call), &call.parse);
     let (tokens, bytes) = (parse.tokens.clone().into_boxed_slice(), parse.bytes.clone().into_boxed_slice());
-    let mut list: Vec<u32> = Vec::with_capacity(call.room);
-    let mut store: [Vec<u32>; BUFFERS] = parse.lengths.map(Vec::with_capacity);
-    let lend = |v: &mut Vec<u32>, len: usize| Lent { numbers: v.as_mut_ptr(), len };
-    let lent_list = lend(&mut list, call.room);
-    let mut lengths = parse.lengths.into_iter();
-    let lent = store.each_mut().map(|v| lend(v, lengths.next().unwrap_or(0)));
+    let (mut list, mut store) = (Unwritten::new(call.room), parse.lengths.map(Unwritten::new));
+    let lent = store.each_mut().map(Unwritten::lend);
     // Safety: six allocations of those lengths
-    let given = unsafe { ffi::query_lent(call.query, parse.setting, &bytes, &tokens, lent, lent_list) };
+    let given = unsafe { ffi::query_lent(call.query, parse.setting, &bytes, &tokens, lent, list.lend()) };
     if given != expected.answer {
         return false;
     }
     if is_early(given.answer.number) {
         return true; // every buffer as it was: not written
     }
-    for (v, n) in store.iter_mut().zip(parse.lengths).chain([(&mut list, call.room)]) {
-        // Safety: the call wrote every number of each buffer; valgrind sees here if it did not
-        unsafe { v.set_len(n) }
-    }
     let accepted = given.answer.number == ACCEPTED;
+    // Safety: the call writes every number of each buffer
+    let holds = |buffer: &mut Unwritten, rows: &[u32]| unsafe { buffer.holds(if accepted { rows } else { &[] }) };
     let parsed = judge.parse.rows(parse.setting);
-    let rows = |rows: &Vec<u32>| if accepted { rows.clone() } else { vec![] };
-    holds(&list, &expected.rows) && store.iter().zip(parsed).all(|(all, r)| holds(all, &rows(r)))
+    holds(&mut list, &expected.rows) && store.iter_mut().zip(parsed).all(|(buffer, rows)| holds(buffer, rows))
 }

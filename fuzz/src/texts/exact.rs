@@ -1,5 +1,4 @@
-//! For valgrind: the text and each buffer are allocated for themselves, exactly as long as they say, and the buffers
-//! were never written before the call.
+//! For valgrind: calls with texts, allocated for themselves too, over exact, unwritten buffers.
 use super::call::TextCall;
 use super::judge::TextJudge;
 use super::run::lend;
@@ -8,8 +7,9 @@ use crate::make::strict_setting;
 use crate::make::texts::TextMaker;
 use crate::rng::Rng;
 use crate::strict::is_strict;
-use dt_parser_ffi::{self as ffi, Lent};
-use dt_parser_layout::{ACCEPTED, ANSWERS, BUFFERS, SETTING_OLD};
+use crate::unwritten::Unwritten;
+use dt_parser_ffi as ffi;
+use dt_parser_layout::{ACCEPTED, ANSWERS, SETTING_OLD};
 
 /// True if each answer and each written buffer was right; valgrind says whether memory was used rightly.
 pub fn run(seed: u64, cases: u64) -> bool {
@@ -39,34 +39,23 @@ fn wrong(call: &TextCall) -> bool {
     false
 }
 
-/// A buffer after the call: its rows and then zero.
-fn holds(all: &[u32], rows: &[u32]) -> bool {
-    all.strip_prefix(rows).is_some_and(|rest| rest.iter().all(|&x| x == 0))
-}
-
 fn one(judge: &mut TextJudge, call: &TextCall) -> bool {
     let expected = judge.expected(call);
     let bytes = call.bytes.clone().into_boxed_slice();
-    let mut tokens: Vec<u32> = Vec::with_capacity(call.room);
-    let mut store: [Vec<u32>; BUFFERS] = call.lengths.map(Vec::with_capacity);
-    let lend = |v: &mut Vec<u32>, len: usize| Lent { numbers: v.as_mut_ptr(), len };
-    let lent_tokens = lend(&mut tokens, call.room);
-    let mut lengths = call.lengths.into_iter();
-    let lent = store.each_mut().map(|v| lend(v, lengths.next().unwrap_or(0)));
+    let (mut tokens, mut store) = (Unwritten::new(call.room), call.lengths.map(Unwritten::new));
+    let lent = store.each_mut().map(Unwritten::lend);
     // Safety: six allocations of those lengths
-    let given = unsafe { ffi::parse_text_lent(call.entry, call.setting, &bytes, lent_tokens, lent) };
+    let given = unsafe { ffi::parse_text_lent(call.entry, call.setting, &bytes, tokens.lend(), lent) };
     if given != expected {
         return false;
     }
     if is_early(given.answer.number) {
         return true; // every buffer as it was: not written
     }
-    for (v, n) in store.iter_mut().zip(call.lengths).chain([(&mut tokens, call.room)]) {
-        // Safety: the call wrote every number of each buffer; valgrind sees here if it did not
-        unsafe { v.set_len(n) }
-    }
     let accepted = given.answer.number == ACCEPTED;
-    let rows = |rows: &Vec<u32>| if accepted { rows.clone() } else { vec![] };
+    // Safety: the call writes every number of each buffer
+    let holds = |buffer: &mut Unwritten, rows: &[u32]| unsafe { buffer.holds(if accepted { rows } else { &[] }) };
     let parsed = judge.parse.rows(call.setting);
-    holds(&tokens, &rows(&judge.of_tokens.tokens)) && store.iter().zip(parsed).all(|(all, r)| holds(all, &rows(r)))
+    holds(&mut tokens, &judge.of_tokens.tokens)
+        && store.iter_mut().zip(parsed).all(|(buffer, rows)| holds(buffer, rows))
 }
