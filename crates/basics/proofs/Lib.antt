@@ -2,6 +2,7 @@
 pub mod Flags
 pub mod Tests
 pub mod Below
+pub mod WordSet
 pub mod Texts
 pub mod Lists
 pub mod Verdicts

@@ -1,6 +1,6 @@
 -- The numbers of the layout, each once: how many numbers a row has, the tags of event rows, the refusals, and the
 -- limits of a call.
-use Prim.Native.Nat.{ℕ, _/_}
+use Prim.Native.Nat.{ℕ, _+_, _/_}
 
 -- ---------------------------------------------------------------- how many numbers a row has
 
@@ -180,12 +180,25 @@ MOST-TOKEN-NUMBERS = 131072
 abbrev pub MOST-TOKENS : ℕ
 MOST-TOKENS = MOST-TOKEN-NUMBERS / TOKEN-ROW
 
--- cause 5: the most open calls, and the most pending expectations
+-- cause 5: the most open calls
 abbrev pub MOST-OPEN-CALLS : ℕ
 MOST-OPEN-CALLS = 64
 
+-- ---------------------------------------------------------------- expectations
+
+-- kinds are 0 to 60; the other expectations are 101 to 108
+abbrev pub KIND-CODES : ℕ
+KIND-CODES = 61
+
+abbrev pub FIRST-OTHER : ℕ
+FIRST-OTHER = 101
+
+abbrev pub OTHER-CODES : ℕ
+OTHER-CODES = 8
+
+-- No limit of a call: each is pending once (document 02, 6/14), so that there are never more (`Limits` of crates/laws).
 abbrev pub MOST-PENDING : ℕ
-MOST-PENDING = 256
+MOST-PENDING = KIND-CODES + OTHER-CODES
 
 -- ---------------------------------------------------------------- a call's setting
 

@@ -12,6 +12,7 @@ pub mod BindingPower
 pub mod Grammar
 pub mod C
 pub mod Skeleton
+pub mod Once
 pub mod Run
 pub mod Event
 pub mod Place

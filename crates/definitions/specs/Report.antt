@@ -7,8 +7,7 @@ use lib.ListN.{length}
 use Rattle.definitions.specs.Skeleton.{Label, no-label, label, Report, Skeleton, done, token, name, node, ignored, report, over}
 use Rattle.definitions.specs.Refusal.{Refusal, too-deep, no-event-room, no-report-room}
 
--- an event, at a mark; a report (`emit_parse_error`: its event, then its row); a 65th open call or a 257th expectation,
--- at a mark
+-- an event, at a mark; a report (`emit_parse_error`: its event, then its row); a 65th open call, at a mark
 pub data Push : Type 0 where
   event : ℕ → Push
   reported : Report → Push

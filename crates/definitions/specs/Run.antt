@@ -5,13 +5,13 @@ use mathlib.Core.List.{List, [], _∷_, _++_}
 use lib.Dec.{ltb, eqb}
 use lib.ListN.{length}
 use Rattle.definitions.specs.NodeKind.{NO-NODE}
-use Rattle.definitions.specs.Layout.{MOST-PENDING}
 use Rattle.definitions.specs.TokenKind as K
 use Rattle.definitions.specs.Errors as E
 use Rattle.definitions.specs.Token.{Token, seen, trivia, drop-trivia, byte-count, past, ended, one-of, first-in}
 use Rattle.definitions.specs.Skeleton.{Span, Label, no-label, label, Skeleton, done, token, name, node, ignored, report, over, _⧺_}
 use Rattle.definitions.specs.Prog.{Ans, no, yes, also, again, choose, Rule, Act, silent-at, at-end, immediate, immediate-next, add-expected, bump, bump-name, bump-argument, emit, emit-unclosed, less, Prog, ret, act, _⨟_, case, in-marker, loop, chain, brace, open-call}
 use Rattle.definitions.specs.Grammar.{grammar}
+use Rattle.definitions.specs.Once.{pushed-once}
 
 -- rest: the raw tokens from the cursor on. since: those after the last one taken (`prev_next_cursor`). pending:
 -- `expected`.
@@ -139,17 +139,10 @@ do-emit m h l s =
     }) done)
     s
 
--- nothing, or refusal 5
-unfoldable pub over-unless : Bool → ℕ → Skeleton
-over-unless true m = done
-over-unless false m = over m done
-
--- `add_expected`
+-- `add_expected`, each expectation once
 unfoldable pub do-expected : ℕ → State → Out
-unfolding makes over-unless
-do-expected k s =
-    makes yes (over-unless (ltb (length (s .pending)) MOST-PENDING) (mark-of s))
-    (record { rest = s .rest; since = s .since; pending = s .pending ++ (k ∷ []) })
+unfolding replies pushed-once
+do-expected k s = replies yes (record { rest = s .rest; since = s .since; pending = pushed-once k (s .pending) })
 
 unfoldable pub perform : Label → Act → State → Out
 unfolding peeked replies first-in do-expected do-bump do-name do-argument do-emit

@@ -27,8 +27,8 @@ pub record Report : Type 0 where
 -- Each piece with what follows it. token: `AddToken`, with the mark after it. name: `AddCombinedToken`, its raw tokens
 -- and the mark after it. node k m m′ before inside: a completed marker, pushed at mark m and finished at mark m′;
 -- `before` is the node that it was made to precede (none, but in a chain), and its children are what `before` and
--- `inside` hold. ignored: the same, for an ignored marker. report: `Error`. over: a 65th open call or a 257th pending
--- expectation; what follows it is not used.
+-- `inside` hold. ignored: the same, for an ignored marker. report: `Error`. over: a 65th open call; what follows
+-- it is not used.
 pub data Skeleton : Type 0 where
   done : Skeleton
   token : Token → ℕ → Skeleton → Skeleton

@@ -7,12 +7,12 @@ use mathlib.Core.List.{List, _∷_, _++_}
 use lib.Dec.{ltb}
 use lib.ListN.{length, drop}
 use lib.Seq.{drop-append-seam}
-use Rattle.definitions.specs.Layout.{MOST-OPEN-CALLS, MOST-PENDING}
+use Rattle.definitions.specs.Layout.{MOST-OPEN-CALLS}
 use Rattle.definitions.specs.Token.{Token, trivia, drop-trivia, past}
 use Rattle.definitions.specs.Prog.{Rule, Prog}
 use Rattle.definitions.specs.Grammar.{Entry, whole}
 use Rattle.definitions.specs.Skeleton.{Label, no-label, Skeleton, done, token, name, node, ignored, report, over, _⧺_}
-use Rattle.definitions.specs.Run.{State, mark-of, taken, over-unless, closed, exec, run}
+use Rattle.definitions.specs.Run.{State, mark-of, taken, closed, exec, run}
 use Rattle.definitions.specs.Place.{after}
 use Rattle.definitions.specs.Call.{run-entry}
 use Rattle.laws.proofs.Trivia.{drop-twice, drop-none, passes-drop}
@@ -71,11 +71,6 @@ between-none : (a : List Token) → Between done a a
 unfolding Reads after
 between-none a = record { reads = λ ts e. tt; leaves = λ ts e. e }
 
-between-room : (b : Bool) (m : ℕ) (a : List Token) → Between (over-unless b m) a a
-unfolding over-unless Reads after
-between-room true m a = between-none a
-between-room false m a = record { reads = λ ts e. tt; leaves = λ ts e. e }
-
 between-token : (t : Token) (us a : List Token) → drop-trivia a ≡ t ∷ us → Between (token t (length us) done) a us
 unfolding Reads after
 between-token t us a d =
@@ -106,7 +101,7 @@ unfolding Reads after
 reads-kept =
     record {
       pass = λ s ts h p. record { takes = between-none (s .since) };
-      expect = λ s k h. record { takes = between-room (ltb (length (s .pending)) MOST-PENDING) (mark-of s) (s .since) };
+      expect = λ s k h. record { takes = between-none (s .since) };
       token = λ s t ts h e d. record { takes = between-token t ts (s .since) (stands-first s t ts h e d) };
       name = λ s ks t raw ts h e d i. record { takes = between-name (t ∷ raw) ts (s .since) (stands-first s t (raw ++ ts) h e d) };
       report = λ s m k l h d. record { takes = record { reads = λ ts e. tt; leaves = λ ts e. e } };

@@ -1,4 +1,4 @@
--- A run without refusal 5: no 65th open call and no 257th pending expectation in what it makes.
+-- A run without refusal 5: no 65th open call in what it makes.
 use Prim.Native.Nat.{ℕ}
 use mathlib.Core.Path.{subst}
 use mathlib.Core.List.{List, [], _∷_, _++_}

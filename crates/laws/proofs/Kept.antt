@@ -5,14 +5,15 @@ use mathlib.Core.Bool.{true, false}
 use mathlib.Core.List.{List, [], _∷_, _++_}
 use lib.Dec.{ltb, eqb}
 use lib.ListN.{length}
-use Rattle.definitions.specs.Layout.{MOST-OPEN-CALLS, MOST-PENDING}
+use Rattle.definitions.specs.Layout.{MOST-OPEN-CALLS}
 use Rattle.definitions.specs.TokenKind as K
 use Rattle.definitions.specs.Errors as E
 use Rattle.definitions.specs.Prog.{Ans, no, yes, Rule, Act, silent-at, at-end, immediate, immediate-next, add-expected, bump, bump-name, bump-argument, emit, emit-unclosed, less, Prog}
 use Rattle.definitions.specs.Token.{Token, seen, trivia, drop-trivia, one-of}
 use Rattle.definitions.specs.Grammar.{Entry, whole}
+use Rattle.definitions.specs.Once.{pushed-once}
 use Rattle.definitions.specs.Skeleton.{Label, no-label, Report, Skeleton, done, token, name, node, report, over, _⧺_}
-use Rattle.definitions.specs.Run.{State, Out, mark-of, peeked, replies, makes, taken, do-bump, Stretch, stretch-of, do-name, add, at-depth, do-argument, error-range, pool-of, do-emit, over-unless, do-expected, perform, closed, marked, unlinked, exec, run}
+use Rattle.definitions.specs.Run.{State, Out, mark-of, peeked, replies, makes, taken, do-bump, Stretch, stretch-of, do-name, add, at-depth, do-argument, error-range, pool-of, do-emit, do-expected, perform, closed, marked, unlinked, exec, run}
 use Rattle.definitions.specs.Call.{run-entry}
 use Rattle.basics.proofs.Tests.{cond-all, cond-with}
 use Rattle.laws.proofs.Trivia.{Solid, dropped-solid, Passes, passes-none, passes-one, passes-then, passes-all}
@@ -28,9 +29,9 @@ pub record Stands (s : State) : Type 0 where
 abbrev pub moved : State → List Token → State
 moved s ts = record { rest = ts; since = s .since; pending = s .pending }
 
--- the state with one expectation more
+-- the state with an expectation pushed
 abbrev pub expecting : State → ℕ → State
-expecting s k = record { rest = s .rest; since = s .since; pending = s .pending ++ (k ∷ []) }
+expecting s k = record { rest = s .rest; since = s .since; pending = pushed-once k (s .pending) }
 
 -- the report that is made at a state
 abbrev pub report-at : ℕ → ℕ → Label → State → Report
@@ -47,7 +48,7 @@ All-in ks (t ∷ ts) = (one-of ks (seen t) ≡ true) × All-in ks ts
 pub record Kept (R : State → Skeleton → State → Type 0) : Type 0 where
   -- nothing made, the cursor past some trivia or where it was
   pub pass : (s : State) (ts : List Token) → Stands s → Passes (s .rest) ts → R s done (moved s ts)
-  pub expect : (s : State) (k : ℕ) → Stands s → R s (over-unless (ltb (length (s .pending)) MOST-PENDING) (mark-of s)) (expecting s k)
+  pub expect : (s : State) (k : ℕ) → Stands s → R s done (expecting s k)
   pub token : (s : State) (t : Token) (ts : List Token) → Stands s → s .rest ≡ t ∷ ts → trivia t ≡ false → R s (token t (length ts) done) (taken ts)
   pub name : (s : State) (ks : List ℕ) (t : Token) (raw ts : List Token) → Stands s → s .rest ≡ t ∷ (raw ++ ts) → trivia t ≡ false → All-in ks raw
       → R s (name (t ∷ raw) (length ts) done) (taken ts)

@@ -46,6 +46,8 @@ pub mod NamesFound
 pub mod NamesPlaced
 pub mod Lossless
 pub mod Few
+pub mod Listed
+pub mod Once
 pub mod Limits
 pub mod Progress
 pub mod FactsHold

@@ -12,7 +12,7 @@ use Rattle.definitions.specs.Token.{Token}
 use Rattle.definitions.specs.Prog.{Rule, Prog}
 use Rattle.definitions.specs.Grammar.{Entry, whole}
 use Rattle.definitions.specs.Skeleton.{Label, no-label, Skeleton, _⧺_}
-use Rattle.definitions.specs.Run.{State, mark-of, taken, over-unless, closed, exec, run}
+use Rattle.definitions.specs.Run.{State, mark-of, taken, closed, exec, run}
 use Rattle.definitions.specs.Report.{Push, event, reported, exceeded, pushes}
 use Rattle.definitions.specs.Call.{run-entry}
 use Rattle.laws.proofs.Trivia.{passes-length}
@@ -62,11 +62,6 @@ pub record Down (s : State) (p : Skeleton) (u : State) : Type 0 where
 pub stands-within : (s : State) → Stands s → length (s .rest) ≤ mark-of s
 stands-within s h = passes-length (s .since) (s .rest) (h .passed)
 
-room-falls : (b : Bool) (n : ℕ) → Falls n (pushes (over-unless b n)) n
-unfolding over-unless pushes
-room-falls true n = le-refl n
-room-falls false n = (le-refl n, le-refl n)
-
 down-join : (s u v : State) (p q : Skeleton) → Down s p u → Down u q v → Down s (p ⧺ q) v
 down-join s u v p q a b = record { falls = rw pushes-join (falls-append (mark-of s) (mark-of u) (mark-of v) (pushes p) (pushes q) (a .falls) (b .falls)) }
 
@@ -84,7 +79,7 @@ unfolding pushes
 marks-kept =
     record {
       pass = λ s ts h p. record { falls = le-refl _ };
-      expect = λ s k h. record { falls = room-falls _ (mark-of s) };
+      expect = λ s k h. record { falls = le-refl (mark-of s) };
       token = λ s t ts h e d. let w : length (s .rest) ≤ mark-of s = stands-within s h in record { falls = (omega (arith, ap length e), le-refl _) };
       name = λ s ks t raw ts h e d i. let w : length (s .rest) ≤ mark-of s = stands-within s h in record { falls = (omega (arith, simp length-append at (ap length e)), le-refl _) };
       report = λ s m k l h d. record { falls = (le-refl _, le-refl _) };

@@ -7,14 +7,14 @@ use mathlib.Core.List.{List, [], _∷_, _++_}
 use lib.Dec.{ltb, eqb}
 use lib.ListN.{length}
 use borrow.Author.Tests.{eqb-true}
-use Rattle.definitions.specs.Layout.{MOST-OPEN-CALLS, MOST-PENDING}
+use Rattle.definitions.specs.Layout.{MOST-OPEN-CALLS}
 use Rattle.definitions.specs.TokenKind as K
 use Rattle.definitions.specs.Prog.{Rule, Act, silent-at, at-end, immediate, immediate-next, add-expected, bump, bump-name, bump-argument, emit, emit-unclosed, less}
 use Rattle.definitions.specs.Check.{NAME-SET}
 use Rattle.definitions.specs.Token.{Token, seen, trivia, drop-trivia, one-of, first-in, past, ended}
 use Rattle.definitions.specs.Grammar.{grammar, Entry, whole}
 use Rattle.definitions.specs.Skeleton.{Label, no-label, Skeleton, done, token, name, node, ignored, report, over, _⧺_}
-use Rattle.definitions.specs.Run.{State, Out, mark-of, peeked, truth, replies, makes, taken, do-bump, stretch-of, do-name, add, at-depth, do-argument, do-emit, over-unless, do-expected, perform, closed, run}
+use Rattle.definitions.specs.Run.{State, Out, mark-of, peeked, truth, replies, makes, taken, do-bump, stretch-of, do-name, add, at-depth, do-argument, do-emit, do-expected, perform, closed, run}
 use Rattle.definitions.specs.Call.{run-entry}
 use Rattle.laws.specs.Lossless.{Of-name}
 use Rattle.basics.proofs.Tests.{cond-all, and-left, and-right}
@@ -216,11 +216,6 @@ argument-named n s (t ∷ ts) =
     (cond-all (λ (o : Out). Named (o .made)) (eqb (t .kind) K.RParen) (depth-named n _ _ tt go)
     (cond-all (λ (o : Out). Named (o .made)) (eqb (t .kind) K.Comma) (depth-named n _ _ tt (λ m. go (suc m))) (go n))))
 
-room-named : (b : Bool) (m : ℕ) → Named (over-unless b m)
-unfolding over-unless Named
-room-named true m = tt
-room-named false m = tt
-
 act-gives : (b : Label) (a : Act) → Sound names names-mean (look-act a) (perform b a)
 unfolding look-act perform peeked replies makes do-expected do-emit Named
 act-gives b (silent-at ks) d s₀ s m h w =
@@ -228,7 +223,7 @@ act-gives b (silent-at ks) d s₀ s m h w =
 act-gives b at-end d s₀ s m h w = (tt, in-tested d d (ended (drop-trivia (s .rest))) (peeked s) (λ _. peek-holds d s h) (λ _. peek-holds d s h))
 act-gives b (immediate k) d s₀ s m h w = (tt, in-tested d d (first-in (k ∷ []) (s .rest)) s (λ _. h) (λ _. h))
 act-gives b (immediate-next k) d s₀ s m h w = (tt, in-tested d d (first-in (k ∷ []) (past (s .rest))) s (λ _. h) (λ _. h))
-act-gives b (add-expected k) d s₀ s m h w = (room-named (ltb (length (s .pending)) MOST-PENDING) (mark-of s), still-holds d s (perform b (add-expected k) s .state) refl h)
+act-gives b (add-expected k) d s₀ s m h w = (tt, still-holds d s (perform b (add-expected k) s .state) refl h)
 act-gives b bump d s₀ s m h w = (bump-named (peeked s) (drop-trivia (s .rest)), bump-holds d (peeked s) (drop-trivia (s .rest)))
 act-gives b (bump-name ks) d s₀ s m h w = (name-named d ks s (drop-trivia (s .rest)) refl m h, name-holds (may-name d ks) ks (peeked s) (drop-trivia (s .rest)))
 act-gives b bump-argument d s₀ s m h w = (argument-named 0 s (s .rest), in-same names names-mean true nothing (do-argument 0 s (s .rest) .ans) s₀ (do-argument 0 s (s .rest) .state) tt)

@@ -3,7 +3,7 @@
 use Prim.Native.Nat.{ℕ}
 use native.Mathlib.Omega.{arith}
 use mathlib.Core.Path.{_≡_, refl, ap, sym, _∙_, subst}
-use mathlib.Core.Bool.{false≢true}
+use mathlib.Core.Bool.{false≢true, true≢false}
 use mathlib.Core.List.{List, [], _∷_}
 use mathlib.Core.Logic.{_⊎_, inl, inr}
 use lib.ListN.{length, getD, replicate}
@@ -15,6 +15,7 @@ use Rattle.definitions.specs.Call.{Result}
 use Rattle.laws.specs.TreeRows.{Rows, end, leaf, node, Counts, Widths, preorder, read}
 use Rattle.laws.specs.Lossless.{Leaf, leaves, Of-name, Kind-of, one-token, a-name, Stands-for, Leaves-are, errors-in, Lossless}
 use Rattle.laws.specs.Limits.{Moment, Limited}
+use Rattle.laws.specs.Once.{is-expectation, Listed, Listed-at-each}
 
 abbrev token : ℕ → ℕ → Token
 token k n = record { kind = k; len = n }
@@ -155,9 +156,28 @@ shifted-error x = let e : _≡_ {A = ℕ} 1 2 = ap (λ (l : List ℕ). getD l 1 
 abbrev at : ℕ → ℕ → Moment
 at n p = record { open-calls = n; state = record { rest = []; since = []; pending = replicate p 0 } }
 
--- a 65th open call, and a 257th pending expectation
+-- a 65th open call
 too-deep : Limited 64 (at 65 0 ∷ []) → ⊥
 too-deep l = omega (arith, l .0)
 
-too-many-pending : Limited 64 (at 0 257 ∷ []) → ⊥
-too-many-pending l = omega (arith, l .1)
+-- ---------------------------------------------------------------- each expectation once
+
+-- `;` twice; a 70th, whatever it is; a lexical error's number, and 100 and 109, beside the others
+twice : Listed (29 ∷ 2 ∷ 29 ∷ []) → ⊥
+unfolding one-of
+twice l = true≢false (l .different .0)
+
+a-70th : Listed-at-each (at 0 70 ∷ []) → ⊥
+a-70th l = omega (arith, l .0 .few)
+
+error-expected : Listed (64 ∷ []) → ⊥
+unfolding is-expectation
+error-expected l = false≢true (l .expectations .0)
+
+before-the-others : Listed (100 ∷ []) → ⊥
+unfolding is-expectation
+before-the-others l = false≢true (l .expectations .0)
+
+after-the-others : Listed (109 ∷ []) → ⊥
+unfolding is-expectation
+after-the-others l = false≢true (l .expectations .0)

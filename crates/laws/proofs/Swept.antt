@@ -11,6 +11,7 @@ use Rattle.definitions.specs.Errors as E
 use Rattle.definitions.specs.Token.{Token, drop-trivia}
 use Rattle.definitions.specs.Prog.{choose, yes, again, Rule}
 use Rattle.definitions.specs.Grammar.{Entry, entry, whole, left-over, left-over-turn}
+use Rattle.definitions.specs.Once.{pushed-once}
 use Rattle.definitions.specs.Skeleton.{Label, no-label, done, token, _⧺_}
 use Rattle.definitions.specs.Run.{State, Out, peeked, replies, makes, taken, do-bump, do-emit, do-expected, perform, add, marked, is-again, goes-on, iter, exec, run}
 use Rattle.definitions.specs.Place.{after}
@@ -53,7 +54,7 @@ module _ (ask : Rule → State → Out) (b : Label) where
     where
       go : (l : List Token) → drop-trivia (s .rest) ≡ l → Ended (exec ask b left-over s)
       go [] e = rw e refl
-      go (t ∷ ts) e = rw e (sweeps (suc (length (drop-trivia (t ∷ ts)))) (record { rest = drop-trivia (t ∷ ts); since = s .since; pending = s .pending ++ (E.End ∷ []) }) (omega arith))
+      go (t ∷ ts) e = rw e (sweeps (suc (length (drop-trivia (t ∷ ts)))) (record { rest = drop-trivia (t ∷ ts); since = s .since; pending = pushed-once E.End (s .pending) }) (omega arith))
 
 -- A WHOLE RUN ENDS AT THE END
 pub whole-ends : (e : Entry) (ts : List Token) → Ended (exec (run MOST-OPEN-CALLS) no-label (whole e) (taken ts))

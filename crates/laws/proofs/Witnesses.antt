@@ -75,20 +75,18 @@ if-numbers : ℕ → List ℕ
 unfolding times
 if-numbers n = times n (4 ∷ 3 ∷ []) (27 ∷ 1 ∷ 29 ∷ 1 ∷ [])
 
--- 50 are accepted: at the `;` 256 expectations come to be pending
-all-pending : call 4 0 (ifs 50) (if-numbers 50) (lent 6936) .answer .number ≡ 0
+-- 63 are accepted, and 64 calls are open in the innermost
+all-deep : call 4 0 (ifs 63) (if-numbers 63) (lent 6936) .answer .number ≡ 0
 unfolding call ifs if-numbers
-all-pending = refl
+all-deep = refl
 
-limited : (e : Entry) × (entry-of 4 ≡ for e) × Limited 64 (entry-moments e (tokens-of (if-numbers 50)))
-limited = limits 4 0 (ifs 50) (if-numbers 50) (lent 6936) all-pending
+limited : (e : Entry) × (entry-of 4 ≡ for e) × Limited 64 (entry-moments e (tokens-of (if-numbers 63)))
+limited = limits 4 0 (ifs 63) (if-numbers 63) (lent 6936) all-deep
 
--- and with `(1;` after them a 257th is pushed: refusal 5, where 52 tokens are taken
-over-pending :
-    call 4 0 (times 50 (35 ∷ 105 ∷ 102 ∷ []) (40 ∷ 49 ∷ 59 ∷ [])) (times 50 (4 ∷ 3 ∷ []) (41 ∷ 1 ∷ 35 ∷ 1 ∷ 29 ∷ 1 ∷ [])) (lent 6936) .answer
-    ≡ record { number = 5; place = 52; tree-count = 0; error-count = 0; report-count = 0; expectation-count = 0 }
-unfolding call times
-over-pending = refl
+-- and the 64th opens a 65th
+over-deep : call 4 0 (ifs 64) (if-numbers 64) (lent 6936) .answer ≡ record { number = 5; place = 64; tree-count = 0; error-count = 0; report-count = 0; expectation-count = 0 }
+unfolding call ifs if-numbers
+over-deep = refl
 
 -- so many brackets around `1`, as a cell
 brackets : ℕ → List ℕ
@@ -123,6 +121,6 @@ figures : List Moment → List ℕ
 unfolding most
 figures l = most (λ x. x .open-calls) l ∷ most (λ x. length (x .state .pending)) l ∷ []
 
-places-are : (figures (entry-moments Cells (tokens-of (if-numbers 2))) ≡ 3 ∷ 16 ∷ []) × (figures (entry-moments Cells (tokens-of (bracket-numbers 3))) ≡ 4 ∷ 5 ∷ [])
+places-are : (figures (entry-moments Cells (tokens-of (if-numbers 2))) ≡ 3 ∷ 6 ∷ []) × (figures (entry-moments Cells (tokens-of (bracket-numbers 3))) ≡ 4 ∷ 5 ∷ [])
 unfolding if-numbers bracket-numbers tokens-of whole entry-moments figures
 places-are = (refl, refl)

@@ -3,3 +3,4 @@ pub mod Pushes
 pub mod TreeRows
 pub mod Lossless
 pub mod Limits
+pub mod Once

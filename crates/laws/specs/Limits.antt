@@ -1,11 +1,11 @@
--- LIMITS: in every accepted call at most 64 calls are open and at most 256 expectations are pending, at every moment of
--- its run. It excludes a parser that goes deeper or keeps more than document 01 allows and still answers 0.
+-- LIMITS: in every accepted call at most 64 calls are open, at every moment of its run. It excludes a parser that goes
+-- deeper than document 01 allows and still answers 0.
 use Prim.Native.Nat.{ℕ, zero, suc, _≤_}
 use mathlib.Core.Path.{_≡_}
 use mathlib.Core.Bool.{cond}
 use mathlib.Core.List.{List, [], _∷_, _++_}
 use lib.ListN.{length}
-use Rattle.definitions.specs.Layout.{MOST-OPEN-CALLS, MOST-PENDING}
+use Rattle.definitions.specs.Layout.{MOST-OPEN-CALLS}
 use Rattle.definitions.specs.Token.{Token, tokens-of}
 use Rattle.definitions.specs.Prog.{Ans, no, yes, also, again, choose, Rule, Prog, ret, act, _⨟_, case, in-marker, loop, chain, brace, open-call}
 use Rattle.definitions.specs.Grammar.{grammar, Entry, whole}
@@ -71,10 +71,10 @@ unfoldable pub entry-moments : Entry → List Token → List Moment
 unfolding moments run run-moments
 entry-moments e ts = moments (run MOST-OPEN-CALLS) (run-moments MOST-OPEN-CALLS) no-label (whole e) (taken ts)
 
--- at each of them at most n calls are open, and no more expectations are pending than may be
+-- at each of them at most n calls are open
 abbrev pub Limited : ℕ → List Moment → Type 0
 Limited n [] = Unit {0}
-Limited n (x ∷ l) = (x .open-calls ≤ n) × (length (x .state .pending) ≤ MOST-PENDING) × Limited n l
+Limited n (x ∷ l) = (x .open-calls ≤ n) × Limited n l
 
 -- for every accepted call
 abbrev pub Limits : Type 0

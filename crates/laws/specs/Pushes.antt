@@ -11,7 +11,7 @@ event-count (event m ∷ l) = suc (event-count l)
 event-count (reported r ∷ l) = suc (event-count l)
 event-count (exceeded m ∷ l) = event-count l
 
--- no 65th open call and no 257th pending expectation among what is pushed
+-- no 65th open call among what is pushed
 abbrev pub None-exceeded : List Push → Type 0
 None-exceeded [] = Unit {0}
 None-exceeded (event m ∷ l) = None-exceeded l
