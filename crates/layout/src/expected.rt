@@ -14,3 +14,11 @@ pub const INFIX_OPERATOR: u8 = 106;
 pub const PREFIX_OPERATOR: u8 = 107;
 
 pub const END: u8 = 108;
+
+// Kinds are 0 to 60.
+pub const KIND_CODES: u8 = 61;
+
+// The others, from the first on, and past the last.
+pub const FIRST_OTHER: u8 = PREPROCESSOR_DIRECTIVE;
+
+pub const PAST_OTHERS: u8 = 109;

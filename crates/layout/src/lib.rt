@@ -15,6 +15,7 @@ pub mod set;
 pub mod setting;
 pub mod token_kind;
 pub mod word;
+pub mod word_set;
 
 // A byte offset in the input. It never stands for a token index.
 pub struct ByteOffset(pub u32);

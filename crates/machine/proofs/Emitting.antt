@@ -19,14 +19,15 @@ use Rattle.definitions.specs.Call.{forward-mark}
 use Rattle.laws.proofs.Scan.{and-then, scan-append}
 use Rattle.laws.proofs.Skeleton.{reports-append, pool-append}
 use Rattle.basics.specs.Word.{low}
-use Rattle.machine.specs.Machine.{Machine, rest, refuse, push, range-at, report-row, write-report}
+use Rattle.machine.specs.Machine.{Machine, rest, refuse, push, range-at, report-row, pool-count, write-report}
 use Rattle.machine.specs.Machine as M
 use Rattle.machine.specs.Walk.{said}
 use Rattle.machine.specs.Outcome.{Refused}
 use Rattle.machine.proofs.Coded.{coded, low-rows, low-rows-append, low-row-length}
 use Rattle.machine.proofs.Suffix.{suffix-bytes, suffix-filled}
-use Rattle.machine.proofs.Image.{Ground, image, rows-of, Inside, moved, rest-is, inside-peeked, byte}
+use Rattle.machine.proofs.Image.{Ground, held-of, image, rows-of, Inside, moved, rest-is, inside-peeked, byte}
 use Rattle.machine.proofs.Moves.{peek-is}
+use Rattle.machine.proofs.Expecting.{count-is}
 use Rattle.machine.proofs.Stores.{push-fits, push-full, report-fits, report-full, no-row, no-codes}
 use Rattle.machine.proofs.Sticky.{s-write}
 use Rattle.machine.proofs.Meets.{Sofar, Fitting, stand, Meets, goes, stop, grow, Sim, Tracks, room-at-first, room-left, refused-event}
@@ -184,8 +185,9 @@ module _ (g : Ground) (m h : ℕ) (lab : Label) (c : Sofar) (s : State) (f : Fit
       let event-room : room-left g (c .numbers) l .events ≡ suc ((length (g .events) - length e′) / EVENT-ROW) = omega arith in
       let report-room : room-left g (c .numbers) l .reports ≡ suc ((length (g .reports) - length (rows-of g (l ++ (r ∷ [])))) / REPORT-ROW) = omega (arith, rows-grow) in
       let pool-room : room-left g (c .numbers) l .pool - n ≡ length (g .pool) - length (pool (l ++ (r ∷ []))) = omega (arith, pool-grows) in
-      let row : report-row m h range (span-of B lab) (length (g .tokens) - length (s .since)) (length (pool l)) n ≡ low-rows (length (g .tokens)) B (0 + length (pool l)) (r ∷ []) =
-      ap (λ (x : Span). report-row m h x (span-of B lab) (length (g .tokens) - length (s .since)) (length (pool l)) n) (range-is g (c .numbers) l s i)
+      let row : report-row m h range (span-of B lab) (length (g .tokens) - length (s .since)) (length (pool l)) (pool-count m (held-of (s .pending))) ≡ low-rows (length (g .tokens)) B (0 + length (pool l)) (r ∷ []) =
+      ap (λ (j : ℕ). report-row m h range (span-of B lab) (length (g .tokens) - length (s .since)) (length (pool l)) j) (count-is m (s .pending) (i .held))
+      ∙ ap (λ (x : Span). report-row m h x (span-of B lab) (length (g .tokens) - length (s .since)) (length (pool l)) n) (range-is g (c .numbers) l s i)
       ∙ row-is (length (g .tokens)) B (length (pool l)) m h (mark-of s) (error-range s (s .rest)) lab (pool-of m (s .pending)) (g .limits .few) in
       goes
       (record {

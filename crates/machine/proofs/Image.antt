@@ -11,7 +11,8 @@ use Rattle.definitions.specs.Skeleton.{Report}
 use Rattle.definitions.specs.Run.{State, taken, peeked}
 use Rattle.definitions.specs.Report.{pool}
 use Rattle.basics.specs.Word.{low}
-use Rattle.machine.specs.Machine.{Buffer, Machine, rest, passed, took}
+use Rattle.laws.proofs.Listed.{kinds-from, others-from, kinds-of, others-of, Held, held-none}
+use Rattle.machine.specs.Machine.{Buffer, Expected, Machine, rest, passed, took}
 use Rattle.machine.specs.Outcome.{Input-limits, onto}
 use Rattle.machine.proofs.Coded.{low-rows}
 use Rattle.machine.proofs.Suffix.{Suffix, suffix-length, suffix-bytes, suffix-drop, suffix-trivia, bytes-trivia}
@@ -28,8 +29,12 @@ pub record Ground : Type 0 where
 abbrev pub written : List ℕ → List ℕ → Buffer
 written l b = record { count = length l; numbers = onto l b }
 
+-- the pending expectations, with their words
+abbrev pub held-of : List ℕ → Expected
+held-of ks = record { codes = ks; kinds = kinds-of ks; others = others-of ks }
+
 abbrev pub machine-at : ℕ → ℕ → ℕ → ℕ → List ℕ → Buffer → Buffer → Buffer → Machine
-machine-at c a m b ks e r p = record { cursor = c; byte = a; mark = m; mark-byte = b; pending = ks; events = e; reports = r; pool = p; refusal = 0; place = 0 }
+machine-at c a m b ks e r p = record { cursor = c; byte = a; mark = m; mark-byte = b; expected = held-of ks; events = e; reports = r; pool = p; refusal = 0; place = 0 }
 
 -- the report numbers of a list of reports
 abbrev pub rows-of : Ground → List Report → List ℕ
@@ -42,11 +47,12 @@ image g e l s =
     machine-at (length (g .tokens) - length (s .rest)) (byte-count (g .tokens) - byte-count (s .rest)) (length (g .tokens) - length (s .since)) (byte-count (g .tokens) - byte-count (s .since)) (s .pending)
     (written e (g .events)) (written (rows-of g l) (g .reports)) (written (pool l) (g .pool))
 
--- the cursor and the last token taken are places of the file, the cursor no earlier
+-- the cursor and the last token taken are places of the file, the cursor no earlier; each expectation is pending once
 pub record Inside (g : Ground) (s : State) : Type 0 where
   pub rest : Suffix (g .tokens) (s .rest)
   pub since : Suffix (g .tokens) (s .since)
   pub order : byte-count (s .rest) ≤ byte-count (s .since)
+  pub held : Held (s .pending)
 
 abbrev pub moved : State → List Token → State
 moved s l = record { rest = l; since = s .since; pending = s .pending }
@@ -56,12 +62,12 @@ unfolding image
 rest-is g e l s h = suffix-drop (g .tokens) (s .rest) (h .rest)
 
 pub inside-taken : (g : Ground) (l : List Token) → Suffix (g .tokens) l → Inside g (taken l)
-inside-taken g l p = record { rest = p; since = p; order = omega arith }
+inside-taken g l p = record { rest = p; since = p; order = omega arith; held = held-none }
 
 pub inside-peeked : (g : Ground) (s : State) → Inside g s → Inside g (peeked s)
 unfolding peeked
 inside-peeked g s h =
-    record { rest = suffix-trivia (g .tokens) (s .rest) (h .rest); since = h .since; order = omega (arith, h .order, bytes-trivia (s .rest)) }
+    record { rest = suffix-trivia (g .tokens) (s .rest) (h .rest); since = h .since; order = omega (arith, h .order, bytes-trivia (s .rest)); held = h .held }
 
 -- ---------------------------------------------------------------- one token further
 
@@ -85,5 +91,5 @@ module _ (g : Ground) (e : List ℕ) (l : List Report) (s : State) (t : Token) (
   pass-is = rw (index, byte)
 
   pub took-is : took t (image g e l (moved s (t ∷ ts))) ≡ image g e l (taken ts)
-  unfolding image
+  unfolding image kinds-from others-from
   took-is = rw (index, byte)

@@ -5,7 +5,7 @@
 -- 1. Buffers, Coded: lists written from the front; event rows and report rows cut to 32 bits, and that nothing is cut
 --    of a small skeleton. Suffix, Image: the tokens from a place on; the machine while nothing is refused.
 -- 2. Moves, Stores: what a move of the cursor and what a row that is written make of it, where the row fits and where
---    it does not.
+--    it does not. Expecting: what a push makes of the pending list and of its two words.
 -- 3. Sticky: a refusal stays. Meets: what is to be shown of a walk.
 -- 4. The actions: Taking (tests, expectations, tokens, names), Emitting (reports), Arguments (macro arguments),
 --    Markers.
@@ -18,6 +18,7 @@ pub mod Coded
 pub mod Suffix
 pub mod Image
 pub mod Moves
+pub mod Expecting
 pub mod Stores
 pub mod Sticky
 pub mod Meets

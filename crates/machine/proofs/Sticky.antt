@@ -7,7 +7,7 @@ use mathlib.Core.List.{List, [], _∷_, _++_}
 use lib.Dec.{ltb, eqb}
 use lib.ListN.{length}
 use borrow.Author.Tests.{ne-eqb}
-use Rattle.definitions.specs.Layout.{PLACEHOLDER, START-NODE, ADD-TOKEN, ADD-COMBINED-TOKEN, ERROR, LINKED-START-NODE, TOO-DEEP, MOST-PENDING}
+use Rattle.definitions.specs.Layout.{PLACEHOLDER, START-NODE, ADD-TOKEN, ADD-COMBINED-TOKEN, ERROR, LINKED-START-NODE, TOO-DEEP}
 use Rattle.definitions.specs.TokenKind as K
 use Rattle.definitions.specs.Errors as E
 use Rattle.definitions.specs.Token.{Token, seen, trivia, ended, one-of, first-in}
@@ -17,7 +17,7 @@ use Rattle.definitions.specs.Prog.{choose, Ans, no, yes, also, again, Rule, Act
 use Rattle.definitions.specs.Grammar.{grammar}
 use Rattle.definitions.specs.Run.{is-again, by-shape}
 use Rattle.basics.proofs.Tests.{cond-all}
-use Rattle.machine.specs.Machine.{Machine, Marker, rest, with-pending, with-refusal, passed, skip, peek, took, range-at, refuse, expect-code, push-row, push, complete, precede, bump-first, name-stretch, name-first, write-report}
+use Rattle.machine.specs.Machine.{Machine, Marker, rest, with-refusal, passed, skip, peek, took, range-at, refuse, expect-code, push-row, push, complete, precede, bump-first, name-stretch, name-first, write-report}
 use Rattle.machine.specs.Machine as M
 use Rattle.machine.specs.Walk.{Walked, said, at-depth, argument, unlabelled, perform, next-marker, close, marked, goes-on, iter, link, links, chained, walk, walk-rule}
 use Rattle.machine.specs.Outcome.{Refused}
@@ -57,8 +57,7 @@ module _ (ts : List Token) (r : Refusal) where
 
   s-expect : (k : ℕ) (m : Machine) → Refused ts r m → Refused ts r (expect-code k m)
   unfolding expect-code
-  s-expect k m h =
-      cond-all (Refused ts r) (ltb (length (m .pending)) MOST-PENDING) {x = with-pending (m .pending ++ (k ∷ [])) m} {y = refuse TOO-DEEP m} (record { refusal = h .refusal; some = h .some; place = h .place }) (s-refuse TOO-DEEP m h)
+  s-expect k m h = record { refusal = h .refusal; some = h .some; place = h .place }
 
   pub s-push : (tag v : ℕ) (m : Machine) → Refused ts r m → Refused ts r (push tag v m)
   unfolding push

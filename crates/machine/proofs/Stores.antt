@@ -16,11 +16,11 @@ use Rattle.definitions.specs.Run.{State, pool-of}
 use Rattle.definitions.specs.Report.{pool}
 use Rattle.laws.proofs.Skeleton.{pool-append}
 use Rattle.basics.specs.Word.{low}
-use Rattle.machine.specs.Machine.{Buffer, Machine, Marker, with-events, with-reports, refuse, fits, push-row, push, put-start, complete, put-link, precede, report-row, write-report}
+use Rattle.machine.specs.Machine.{Buffer, Machine, Marker, with-events, with-reports, refuse, fits, push-row, push, put-start, complete, put-link, precede, report-row, pool-count, write-report}
 use Rattle.machine.specs.Outcome.{onto}
 use Rattle.machine.proofs.Buffers.{length-onto, sets-after, sets-onto}
 use Rattle.machine.proofs.Coded.{low-rows, low-rows-append}
-use Rattle.machine.proofs.Image.{Ground, image, written, rows-of}
+use Rattle.machine.proofs.Image.{Ground, held-of, image, written, rows-of}
 
 -- ---------------------------------------------------------------- one buffer
 
@@ -129,7 +129,7 @@ module _ (g : Ground) (l : List Report) (s : State) where
 
   -- r: the report; the machine makes the same row of it
   pub report-fits : (e : List ℕ) (message hint : ℕ) (range lab : Span) (r : Report) → r .pool ≡ pool-of message (s .pending)
-      → report-row message hint range lab (length (g .tokens) - length (s .since)) (length (pool l)) (length (pool-of message (s .pending)))
+      → report-row message hint range lab (length (g .tokens) - length (s .since)) (length (pool l)) (pool-count message (held-of (s .pending)))
       ≡ low-rows (length (g .tokens)) (byte-count (g .tokens)) (0 + length (pool l)) (r ∷ [])
       → length (rows-of g l) + REPORT-ROW ≤ length (g .reports) → length (pool l) + length (pool-of message (s .pending)) ≤ length (g .pool)
       → write-report message hint range lab (image g e l s) ≡ image g e (l ++ (r ∷ [])) s
@@ -138,7 +138,7 @@ module _ (g : Ground) (l : List Report) (s : State) where
       let n = length (g .tokens) in
       let codes = pool-of message (s .pending) in
       let m = image g e l s in
-      let line : List ℕ = report-row message hint range lab (n - length (s .since)) (length (pool l)) (length codes) in
+      let line : List ℕ = report-row message hint range lab (n - length (s .since)) (length (pool l)) (pool-count message (held-of (s .pending))) in
       let rows = rows-of g l in
       let R : Buffer = record { count = length rows + REPORT-ROW; numbers = sets (onto rows (g .reports)) (length rows) line } in
       let P : Buffer = record { count = length (pool l) + length codes; numbers = sets (onto (pool l) (g .pool)) (length (pool l)) codes } in
@@ -161,7 +161,7 @@ module _ (g : Ground) (l : List Report) (s : State) where
       let codes = pool-of message (s .pending) in
       let m = image g e l s in
       let rows = rows-of g l in
-      let line : List ℕ = report-row message hint range lab (length (g .tokens) - length (s .since)) (length (pool l)) (length codes) in
+      let line : List ℕ = report-row message hint range lab (length (g .tokens) - length (s .since)) (length (pool l)) (pool-count message (held-of (s .pending))) in
       let R : Buffer = record { count = length rows + REPORT-ROW; numbers = sets (onto rows (g .reports)) (length rows) line } in
       let P : Buffer = record { count = length (pool l) + length codes; numbers = sets (onto (pool l) (g .pool)) (length (pool l)) codes } in
       ap (λ (b : Bool). cond b (with-reports R P m) (refuse NO-REPORT-ROOM m)) c

@@ -6,23 +6,27 @@ use mathlib.Core.Bool.{Bool, true, false, cond}
 use mathlib.Core.List.{List, [], _∷_, _++_}
 use lib.Dec.{ltb}
 use lib.ListN.{length}
-use Rattle.definitions.specs.Layout.{ADD-TOKEN, ADD-COMBINED-TOKEN, TOO-DEEP, MOST-PENDING}
+use Rattle.definitions.specs.Layout.{ADD-TOKEN, ADD-COMBINED-TOKEN, TOO-DEEP}
 use Rattle.definitions.specs.Token.{Token, drop-trivia}
 use Rattle.definitions.specs.Skeleton.{Report, done, token, name, over}
 use Rattle.definitions.specs.Refusal.{too-deep, number-of, place-of}
 use Rattle.definitions.specs.Prog.{Ans, no, yes}
-use Rattle.definitions.specs.Run.{State, mark-of, replies, makes, taken, peeked, do-bump, stretch-of, do-name, over-unless, do-expected}
+use Rattle.definitions.specs.Run.{State, mark-of, replies, makes, taken, peeked, do-bump, stretch-of, do-name, do-expected}
+use Rattle.definitions.specs.Once.{pushed-once}
 use Rattle.definitions.specs.Report.{exceeded, Fit, stops, scan, pushes, reports}
 use Rattle.definitions.specs.Call.{forward-mark}
+use Rattle.laws.specs.Once.{is-expectation}
+use Rattle.laws.proofs.Listed.{held-push}
 use Rattle.laws.proofs.Scan.{and-then, scan-append}
 use Rattle.basics.specs.Word.{low}
-use Rattle.machine.specs.Machine.{Machine, rest, peek, took, refuse, expect-code, with-pending, push, bump-first, name-stretch, name-first}
+use Rattle.machine.specs.Machine.{Machine, Expected, with-expected, rest, peek, took, refuse, expect-code, push, bump-first, name-stretch, name-first}
 use Rattle.machine.specs.Machine as M
 use Rattle.machine.specs.Walk.{Walked, said}
 use Rattle.machine.specs.Outcome.{Refused}
 use Rattle.machine.proofs.Coded.{coded}
 use Rattle.machine.proofs.Suffix.{Suffix, suffix-tail}
 use Rattle.machine.proofs.Image.{Ground, image, Inside, moved, rest-is, inside-taken, inside-peeked, took-is}
+use Rattle.machine.proofs.Expecting.{expect-is}
 use Rattle.machine.proofs.Moves.{peek-is, run-suffix, name-run-is, name-count}
 use Rattle.machine.proofs.Meets.{Sofar, Fitting, stand, Meets, goes, stop, grow, grow-done, Sim, Tracks, room-at-first, push-meets}
 
@@ -65,16 +69,16 @@ pub over-sim : (g : Ground) → Tracks g (λ s. makes no (over (mark-of s) done)
 unfolding makes pushes coded
 over-sim g c s f i = stop (too-deep (mark-of s)) (deep-stops g c (mark-of s) f) (refused-deep g (c .numbers) (reports (c .pushed)) s)
 
-abbrev expecting : State → ℕ → State
-expecting s k = record { rest = s .rest; since = s .since; pending = s .pending ++ (k ∷ []) }
+-- ---------------------------------------------------------------- an expectation
 
-pub expected-sim : (g : Ground) (k : ℕ) → Tracks g (do-expected k) (λ m. said yes (expect-code k m))
-unfolding do-expected makes expect-code image over-unless pushes coded
-expected-sim g k c s f i = by-fit (ltb (length (s .pending)) MOST-PENDING)
-  where
-    by-fit : (b : Bool) → Meets g (grow c (over-unless b (mark-of s))) yes 0 (expecting s k) (said yes (cond b (with-pending (s .pending ++ (k ∷ [])) (stand g c s)) (refuse TOO-DEEP (stand g c s))))
-    by-fit true = quiet g c yes 0 (expecting s k) _ f (record { rest = i .rest; since = i .since; order = i .order }) refl
-    by-fit false = stop (too-deep (mark-of s)) (deep-stops g c (mark-of s) f) (refused-deep g (c .numbers) (reports (c .pushed)) s)
+abbrev expecting : State → ℕ → State
+expecting s k = record { rest = s .rest; since = s .since; pending = pushed-once k (s .pending) }
+
+pub expected-sim : (g : Ground) (k : ℕ) → is-expectation k ≡ true → Tracks g (do-expected k) (λ m. said yes (expect-code k m))
+unfolding do-expected replies expect-code image
+expected-sim g k e c s f i =
+    quiet g c yes 0 (expecting s k) _ f (record { rest = i .rest; since = i .since; order = i .order; held = held-push (s .pending) k (i .held) e })
+    (ap (λ (x : Expected). said yes (with-expected x (stand g c s))) (expect-is (s .pending) k (i .held) e))
 
 -- ---------------------------------------------------------------- a token, a name
 

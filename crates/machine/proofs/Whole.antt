@@ -17,6 +17,8 @@ use Rattle.definitions.specs.Call.{run-entry}
 use Rattle.machine.specs.Machine.{Machine}
 use Rattle.machine.specs.Walk.{Walked, unlabelled, walk-prog}
 use Rattle.machine.specs.Encode.{encode}
+use Rattle.laws.proofs.Listed.{kinds-from, others-from}
+use Rattle.laws.proofs.Once.{whole-expects}
 use Rattle.machine.specs.Outcome.{Input-limits, Small, fresh, room-in, Starts-with, Not-refused, Refused, Ends}
 use Rattle.machine.proofs.Coded.{coded, coded-small, low-rows, low-rows-small}
 use Rattle.machine.proofs.Suffix.{suffix-whole}
@@ -37,7 +39,7 @@ fitting-none g =
     record { events = omega arith; rows = omega arith; codes = omega arith; room = rw (e, r, p) }
 
 fresh-is : (g : Ground) → fresh (g .events) (g .reports) (g .pool) ≡ stand g none (taken (g .tokens))
-unfolding image reports pool low-rows
+unfolding image reports pool low-rows kinds-from others-from
 fresh-is g =
     let n : length (g .tokens) - length (g .tokens) ≡ 0 = omega arith in
     let b : byte-count (g .tokens) - byte-count (g .tokens) ≡ 0 = omega arith in
@@ -79,7 +81,7 @@ machine-ends e ts events₀ reports₀ pool₀ l h =
     let o = exec (run MOST-OPEN-CALLS) no-label (whole e) (taken ts) in
     subst (λ (m : Machine). Ends ts (o .made) events₀ reports₀ pool₀ (scan (pushes (o .made)) (room-in events₀ reports₀ pool₀)) (walk-prog MOST-OPEN-CALLS ts unlabelled (whole e) m .on)) (sym (fresh-is g))
     (meets-ends g o (walk-prog MOST-OPEN-CALLS ts unlabelled (whole e) (stand g none (taken ts))) h
-    (prog-sim g MOST-OPEN-CALLS no-label (whole e) none (taken ts) (fitting-none g) (inside-taken g ts (suffix-whole ts))))
+    (prog-sim g MOST-OPEN-CALLS no-label (whole e) (whole-expects e) none (taken ts) (fitting-none g) (inside-taken g ts (suffix-whole ts))))
 
 -- where all fits
 pub machine-accepts : (e : Entry) (ts : List Token) (events₀ reports₀ pool₀ : List ℕ) (z : Room) → Input-limits ts → Small (run-entry e ts) → scan (pushes (run-entry e ts)) (room-in events₀ reports₀ pool₀) ≡ fits z

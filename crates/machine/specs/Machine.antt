@@ -7,8 +7,11 @@ use mathlib.Core.List.{List, [], _∷_, _++_}
 use lib.Dec.{ltb, leb, eqb}
 use lib.ListN.{length, drop}
 use lib.Seq.{sets}
+use lib.Count.{ones}
 use Rattle.basics.specs.Word.{low}
-use Rattle.definitions.specs.Layout.{EVENT-ROW, EVENT-DISTANCE, REPORT-ROW, PLACEHOLDER, ADD-TOKEN, ADD-COMBINED-TOKEN, FINISH-NODE, ERROR, TOO-DEEP, NO-EVENT-ROOM, NO-REPORT-ROOM, MOST-PENDING, TWO-TO-64}
+use Rattle.basics.specs.WordSet.{in-word, put-in-word}
+use Rattle.definitions.specs.Layout.{EVENT-ROW, EVENT-DISTANCE, REPORT-ROW, PLACEHOLDER, ADD-TOKEN, ADD-COMBINED-TOKEN, FINISH-NODE, ERROR, TOO-DEEP, NO-EVENT-ROOM, NO-REPORT-ROOM, KIND-CODES, FIRST-OTHER, OTHER-CODES, MOST-PENDING, TWO-TO-64}
+use Rattle.definitions.specs.Errors.{msg-expected}
 use Rattle.definitions.specs.Token.{Token, seen, trivia, one-of}
 use Rattle.definitions.specs.Skeleton.{Span}
 use Rattle.definitions.specs.Run.{only-separators, pool-of}
@@ -18,6 +21,16 @@ pub record Buffer : Type 0 where
   pub count : ℕ
   pub numbers : List ℕ
 
+-- The pending expectations. codes: in the order of their arrival. kinds, others: which kinds and which of the other
+-- expectations are among them, each a word (`in-word`).
+pub record Expected : Type 0 where
+  pub codes : List ℕ
+  pub kinds : ℕ
+  pub others : ℕ
+
+abbrev pub none-expected : Expected
+none-expected = record { codes = []; kinds = 0; others = 0 }
+
 -- cursor and mark: token indexes. byte: the first byte of the token at the cursor. mark-byte: the end of the last token
 -- taken.
 -- refusal: the first of 5 to 7, or 0, and place: the mark at that moment.
@@ -26,7 +39,7 @@ pub record Machine : Type 0 where
   pub byte : ℕ
   pub mark : ℕ
   pub mark-byte : ℕ
-  pub pending : List ℕ
+  pub expected : Expected
   pub events : Buffer
   pub reports : Buffer
   pub pool : Buffer
@@ -46,7 +59,7 @@ with-cursor c b m =
       byte = b;
       mark = m .mark;
       mark-byte = m .mark-byte;
-      pending = m .pending;
+      expected = m .expected;
       events = m .events;
       reports = m .reports;
       pool = m .pool;
@@ -61,7 +74,7 @@ with-taken c b m =
       byte = b;
       mark = c;
       mark-byte = b;
-      pending = [];
+      expected = none-expected;
       events = m .events;
       reports = m .reports;
       pool = m .pool;
@@ -69,14 +82,14 @@ with-taken c b m =
       place = m .place;
     }
 
-abbrev pub with-pending : List ℕ → Machine → Machine
-with-pending l m =
+abbrev pub with-expected : Expected → Machine → Machine
+with-expected x m =
     record {
       cursor = m .cursor;
       byte = m .byte;
       mark = m .mark;
       mark-byte = m .mark-byte;
-      pending = l;
+      expected = x;
       events = m .events;
       reports = m .reports;
       pool = m .pool;
@@ -91,7 +104,7 @@ with-events e m =
       byte = m .byte;
       mark = m .mark;
       mark-byte = m .mark-byte;
-      pending = m .pending;
+      expected = m .expected;
       events = e;
       reports = m .reports;
       pool = m .pool;
@@ -106,7 +119,7 @@ with-reports r p m =
       byte = m .byte;
       mark = m .mark;
       mark-byte = m .mark-byte;
-      pending = m .pending;
+      expected = m .expected;
       events = m .events;
       reports = r;
       pool = p;
@@ -121,7 +134,7 @@ with-refusal n p m =
       byte = m .byte;
       mark = m .mark;
       mark-byte = m .mark-byte;
-      pending = m .pending;
+      expected = m .expected;
       events = m .events;
       reports = m .reports;
       pool = m .pool;
@@ -163,9 +176,30 @@ range-at (t ∷ ts) m = record { from = m .byte; to = low (m .byte + t .len) }
 unfoldable pub refuse : ℕ → Machine → Machine
 refuse n m = with-cursor PAST-THE-END (m .byte) (cond (eqb (m .refusal) 0) (with-refusal n (m .mark) m) m)
 
+-- a code that is not there goes to the end of the list, which is never full
+abbrev pub arrived : ℕ → List ℕ → List ℕ
+arrived k l = cond (ltb (length l) MOST-PENDING) (l ++ (k ∷ [])) l
+
+-- a kind, and one of the others: its digit says whether it is there
+abbrev pub expect-kind : ℕ → Expected → Expected
+expect-kind k x =
+    cond (in-word k (x .kinds)) x
+    (record { codes = arrived k (x .codes); kinds = put-in-word k (x .kinds); others = x .others })
+
+abbrev pub expect-other : ℕ → Expected → Expected
+expect-other k x =
+    cond (in-word (k - FIRST-OTHER) (x .others)) x
+    (record { codes = arrived k (x .codes); kinds = x .kinds; others = put-in-word (k - FIRST-OTHER) (x .others) })
+
+-- `add_expected`; a number that is neither is no expectation
+unfoldable pub expect : ℕ → Expected → Expected
+expect k x =
+    cond (ltb k KIND-CODES) (expect-kind k x)
+    (cond (leb FIRST-OTHER k) (cond (ltb k (FIRST-OTHER + OTHER-CODES)) (expect-other k x) x) x)
+
 unfoldable pub expect-code : ℕ → Machine → Machine
-unfolding refuse
-expect-code k m = cond (ltb (length (m .pending)) MOST-PENDING) (with-pending (m .pending ++ (k ∷ [])) m) (refuse TOO-DEEP m)
+unfolding expect
+expect-code k m = with-expected (expect k (m .expected)) m
 
 -- whether n more numbers fit a buffer after those that are written
 abbrev pub fits : ℕ → ℕ → ℕ → Bool
@@ -248,18 +282,25 @@ unfoldable pub error-range : List Token → Machine → Span
 unfolding range-at only-separators
 error-range [] m = record { from = m .byte - 1; to = m .byte }
 error-range (t ∷ ts) m =
-    cond (only-separators (m .pending)) (record { from = m .mark-byte; to = low (m .mark-byte + 1) }) (range-at (t ∷ ts) m)
+    cond (only-separators (m .expected .codes)) (record { from = m .mark-byte; to = low (m .mark-byte + 1) }) (range-at (t ∷ ts) m)
 
 -- a report's row: message, range, mark, first pool place, pool count, hint, label
 abbrev pub report-row : ℕ → ℕ → Span → Span → ℕ → ℕ → ℕ → List ℕ
 report-row message hint range lab mark first n =
     message ∷ range .from ∷ range .to ∷ low mark ∷ low first ∷ low n ∷ hint ∷ lab .from ∷ lab .to ∷ []
 
+-- the row's pool count: the number of different ones, by the digits of the two words
+abbrev pub how-many : Expected → ℕ
+how-many x = ones (x .kinds) + ones (x .others)
+
+unfoldable pub pool-count : ℕ → Expected → ℕ
+pool-count message x = cond (eqb message msg-expected) (how-many x) 0
+
 -- the row and its expectations: both fit, or neither is written
 unfoldable pub write-report : ℕ → ℕ → Span → Span → Machine → Machine
-unfolding refuse pool-of
+unfolding refuse pool-of pool-count
 write-report message hint range lab m =
-    let codes = pool-of message (m .pending) in
+    let codes = pool-of message (m .expected .codes) in
     let n = length codes in
     cond (eqb (m .refusal) 0)
     (cond (fits (length (m .reports .numbers)) (m .reports .count) REPORT-ROW && fits (length (m .pool .numbers)) (m .pool .count) n)
@@ -267,7 +308,7 @@ write-report message hint range lab m =
     (record {
       count = m .reports .count + REPORT-ROW;
       numbers = sets (m .reports .numbers) (m .reports .count)
-          (report-row message hint range lab (m .mark) (m .pool .count) n);
+          (report-row message hint range lab (m .mark) (m .pool .count) (pool-count message (m .expected)));
     })
     (record { count = m .pool .count + n; numbers = sets (m .pool .numbers) (m .pool .count) codes })
     m)

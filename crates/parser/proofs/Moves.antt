@@ -8,14 +8,16 @@ use mathlib.Core.List.{List, [], _∷_, _++_}
 use native.Mathlib.Omega.{arith}
 use lib.Dec.{ltb, leb, eqb}
 use lib.ListN.{length, set, take, drop}
-use lib.Seq.{sets, set-out}
-use Rattle.definitions.specs.Layout.{TOKEN-ROW, EVENT-ROW, EVENT-ARGUMENT, EVENT-DISTANCE, PLACEHOLDER, ADD-TOKEN, ADD-COMBINED-TOKEN, FINISH-NODE, TOO-DEEP, MOST-PENDING}
+use lib.Seq.{sets}
+use borrow.Author.Tests.{ltb-true, ltb-false}
+use Rattle.definitions.specs.Layout.{TOKEN-ROW, EVENT-ROW, EVENT-ARGUMENT, EVENT-DISTANCE, PLACEHOLDER, ADD-TOKEN, ADD-COMBINED-TOKEN, FINISH-NODE, KIND-CODES, FIRST-OTHER, OTHER-CODES, MOST-PENDING}
 use Rattle.definitions.specs.Token.{Token, tokens-of, ended, one-of, first-in, seen}
 use Rattle.definitions.specs.Skeleton.{Span}
 use Rattle.definitions.specs.Prog.{Ans, yes, silent-at, at-end, add-expected, bump, bump-name}
 use Rattle.definitions.specs.Run.{truth}
 use Rattle.basics.specs.Word.{low}
-use Rattle.machine.specs.Machine.{Machine, Marker, with-taken, with-pending, with-events, took, range-at, fits, put-start, put-link}
+use Rattle.basics.specs.WordSet.{in-word, put-in-word}
+use Rattle.machine.specs.Machine.{Machine, Marker, Expected, with-taken, with-expected, with-events, arrived, expect-kind, expect-other, took, range-at, fits, put-start, put-link}
 use Rattle.machine.specs.Machine as M
 use Rattle.machine.specs.Walk.{Walked, said, perform}
 use Rattle.parser.specs.View.{view, parser-view, tokens-left, take-first}
@@ -23,7 +25,7 @@ use Rattle.parser.specs.declared.State.{State}
 use Rattle.parser.specs.declared.Parser.{Parser}
 use Rattle.basics.proofs.TokenRows.{token-at, tokens-cons, tokens-end}
 use Rattle.token_rows.proofs.Seen.{end-row}
-use Rattle.parser.proofs.Stores.{pending-few, pending-full, pending-more, sets2}
+use Rattle.parser.proofs.Stores.{pending-few, pending-full, sets2}
 
 -- ---------------------------------------------------------------- tests
 
@@ -78,25 +80,73 @@ pub took-nothing : (tokens : List ℕ) (m : Machine) → length tokens / TOKEN-R
 unfolding take-first
 took-nothing tokens m h = sym (ap (λ (l : List Token). take-first l m) (tokens-end tokens (m .cursor) h))
 
--- ---------------------------------------------------------------- refusals and expectations
+-- ---------------------------------------------------------------- expectations
 
--- codes′: the codes with k stored at place n, if there is one
-module _ (ts : List Token) (b : Span) (codes codes′ : List ℕ) (n k : ℕ) (m : Machine) (long : length codes ≡ MOST-PENDING) (put : codes′ ≡ set codes n k) (pends : m .pending ≡ take n codes) where
-  pub expected-room : n < length codes → said yes (with-pending (take (n + 1) codes′) m) ≡ perform ts b (add-expected k) m
-  unfolding perform
-  expected-room h =
-      let few : ltb (length (m .pending)) MOST-PENDING ≡ true = ap (λ (l : List ℕ). ltb (length l) MOST-PENDING) pends ∙ pending-few codes n long (omega (arith, long, h)) in
-      ap (λ (l : List ℕ). said yes (with-pending (take (n + 1) l) m)) put
-      ∙ ap (λ (l : List ℕ). said yes (with-pending l m)) (pending-more codes n k h ∙ ap (λ (l : List ℕ). l ++ (k ∷ [])) (sym pends))
-      ∙ sym (ap (λ (z : Bool). said yes (cond z (with-pending (m .pending ++ (k ∷ [])) m) (M.refuse TOO-DEEP m))) few)
+-- the codes after `put_code`: at the end of the list, if it is not full
+pub code-arrives : (codes l : List ℕ) (n k : ℕ) → length codes ≡ MOST-PENDING → l ≡ cond (ltb n (length codes)) (take n codes ++ (k ∷ [])) (take n codes) → l ≡ arrived k (take n codes)
+code-arrives codes l n k long e = e ∙ ap (λ (b : Bool). cond b (take n codes ++ (k ∷ [])) (take n codes)) (by-room (ltb n (length codes)) refl)
+  where
+    by-room : (b : Bool) → ltb n (length codes) ≡ b → b ≡ ltb (length (take n codes)) MOST-PENDING
+    by-room true f = sym (pending-few codes n long (omega (arith, long, ltb-true n (length codes) f)))
+    by-room false f = sym (pending-full codes n long (omega (arith, long, ltb-false n (length codes) f)))
 
-  pub expected-full : (r : Machine) → length codes ≤ n → r ≡ M.refuse TOO-DEEP (with-pending (take n codes′) m) → said yes r ≡ perform ts b (add-expected k) m
-  unfolding perform
-  expected-full r h q =
-      let full : ltb (length (m .pending)) MOST-PENDING ≡ false = ap (λ (l : List ℕ). ltb (length l) MOST-PENDING) pends ∙ pending-full codes n long (omega (arith, long, h)) in
-      let same : take n codes′ ≡ m .pending = ap (take n) (put ∙ set-out codes n k h) ∙ sym pends in
-      ap (λ (x : Machine). said yes x) (q ∙ ap (λ (l : List ℕ). M.refuse TOO-DEEP (with-pending l m)) same)
-      ∙ sym (ap (λ (z : Bool). said yes (cond z (with-pending (m .pending ++ (k ∷ [])) m) (M.refuse TOO-DEEP m))) full)
+-- a kind that is there, and one that arrives
+pub kind-there : (k : ℕ) (m : Machine) → in-word k (m .expected .kinds) ≡ true → m ≡ with-expected (expect-kind k (m .expected)) m
+kind-there k m e =
+    sym (ap (λ (b : Bool). with-expected (cond b (m .expected) (record { codes = arrived k (m .expected .codes); kinds = put-in-word k (m .expected .kinds); others = m .expected .others })) m) e)
+
+pub kind-new : (k : ℕ) (codes : List ℕ) (kinds : ℕ) (m : Machine) → in-word k (m .expected .kinds) ≡ false → codes ≡ arrived k (m .expected .codes) → kinds ≡ put-in-word k (m .expected .kinds)
+    → with-expected (record { codes = codes; kinds = kinds; others = m .expected .others }) m ≡ with-expected (expect-kind k (m .expected)) m
+kind-new k codes kinds m e f g =
+    ap (λ (l : List ℕ). with-expected (record { codes = l; kinds = kinds; others = m .expected .others }) m) f
+    ∙ ap (λ (x : ℕ). with-expected (record { codes = arrived k (m .expected .codes); kinds = x; others = m .expected .others }) m) g
+    ∙ sym (ap (λ (b : Bool). with-expected (cond b (m .expected) (record { codes = arrived k (m .expected .codes); kinds = put-in-word k (m .expected .kinds); others = m .expected .others })) m) e)
+
+-- the same of one of the others
+pub other-there : (k : ℕ) (m : Machine) → in-word (k - FIRST-OTHER) (m .expected .others) ≡ true → m ≡ with-expected (expect-other k (m .expected)) m
+other-there k m e =
+    sym (ap (λ (b : Bool). with-expected (cond b (m .expected) (record { codes = arrived k (m .expected .codes); kinds = m .expected .kinds; others = put-in-word (k - FIRST-OTHER) (m .expected .others) })) m) e)
+
+pub other-new : (k : ℕ) (codes : List ℕ) (others : ℕ) (m : Machine) → in-word (k - FIRST-OTHER) (m .expected .others) ≡ false → codes ≡ arrived k (m .expected .codes)
+    → others ≡ put-in-word (k - FIRST-OTHER) (m .expected .others)
+    → with-expected (record { codes = codes; kinds = m .expected .kinds; others = others }) m ≡ with-expected (expect-other k (m .expected)) m
+other-new k codes others m e f g =
+    ap (λ (l : List ℕ). with-expected (record { codes = l; kinds = m .expected .kinds; others = others }) m) f
+    ∙ ap (λ (x : ℕ). with-expected (record { codes = arrived k (m .expected .codes); kinds = m .expected .kinds; others = x }) m) g
+    ∙ sym (ap (λ (b : Bool). with-expected (cond b (m .expected) (record { codes = arrived k (m .expected .codes); kinds = m .expected .kinds; others = put-in-word (k - FIRST-OTHER) (m .expected .others) })) m) e)
+
+-- which of them a code is
+module _ (ts : List Token) (b : Span) (k : ℕ) (m : Machine) where
+  abbrev other : Expected
+  other = cond (ltb k (FIRST-OTHER + OTHER-CODES)) (expect-other k (m .expected)) (m .expected)
+
+  abbrev else : Expected
+  else = cond (leb FIRST-OTHER k) other (m .expected)
+
+  pub adds-kind : (r : Machine) → ltb k KIND-CODES ≡ true → r ≡ with-expected (expect-kind k (m .expected)) m → said yes r ≡ perform ts b (add-expected k) m
+  unfolding perform M.expect-code M.expect
+  adds-kind r e f = ap (said yes) (f ∙ sym (ap (λ (c : Bool). with-expected (cond c (expect-kind k (m .expected)) else) m) e))
+
+  pub adds-other : (r : Machine) → ltb k KIND-CODES ≡ false → leb FIRST-OTHER k ≡ true → ltb k (FIRST-OTHER + OTHER-CODES) ≡ true → r ≡ with-expected (expect-other k (m .expected)) m
+      → said yes r ≡ perform ts b (add-expected k) m
+  unfolding perform M.expect-code M.expect
+  adds-other r e f g h =
+      ap (said yes)
+      (h ∙ sym (ap (λ (c : Bool). with-expected (cond c (expect-kind k (m .expected)) else) m) e ∙ ap (λ (c : Bool). with-expected (cond c other (m .expected)) m) f
+      ∙ ap (λ (c : Bool). with-expected (cond c (expect-other k (m .expected)) (m .expected)) m) g))
+
+  -- no expectation
+  pub adds-none : ltb k KIND-CODES ≡ false → leb FIRST-OTHER k ≡ false → said yes m ≡ perform ts b (add-expected k) m
+  unfolding perform M.expect-code M.expect
+  adds-none e f =
+      ap (said yes) (sym (ap (λ (c : Bool). with-expected (cond c (expect-kind k (m .expected)) else) m) e ∙ ap (λ (c : Bool). with-expected (cond c other (m .expected)) m) f))
+
+  pub adds-past : ltb k KIND-CODES ≡ false → leb FIRST-OTHER k ≡ true → ltb k (FIRST-OTHER + OTHER-CODES) ≡ false → said yes m ≡ perform ts b (add-expected k) m
+  unfolding perform M.expect-code M.expect
+  adds-past e f g =
+      ap (said yes)
+      (sym (ap (λ (c : Bool). with-expected (cond c (expect-kind k (m .expected)) else) m) e ∙ ap (λ (c : Bool). with-expected (cond c other (m .expected)) m) f
+      ∙ ap (λ (c : Bool). with-expected (cond c (expect-other k (m .expected)) (m .expected)) m) g))
 
 -- ---------------------------------------------------------------- events
 

@@ -13,7 +13,7 @@ use Rattle.definitions.specs.Prog.{Ans, no, yes, also, again, Rule, Act, Prog}
 use Rattle.definitions.specs.Run.{truth}
 use Rattle.definitions.specs.Check.{NAME-SET, LABEL-NAME-SET}
 use Rattle.definitions.specs.Check as C
-use Rattle.machine.specs.Machine.{Machine}
+use Rattle.machine.specs.Machine.{Expected, Machine, with-expected}
 use Rattle.machine.specs.Machine as M
 use Rattle.machine.specs.Walk.{Walked, said, perform, walk, next-marker, marked, unlabelled, walk-prog, walk-rule}
 use lib.Seq.{sets}
@@ -32,6 +32,10 @@ use Rattle.parser.specs.declared.errors.TextRange.{TextRange}
 use Rattle.parser.specs.declared.matcher.Matcher.{Matcher}
 use Rattle.parser.specs.declared.matcher.Matcher.the-variants as Of
 
+-- the pending expectations
+abbrev pub expected-of : State → List ℕ → Expected
+expected-of s codes = record { codes = take (s .pending) codes; kinds = s .kinds; others = s .others }
+
 -- the numbers, the pending codes and the lent buffers
 abbrev pub view : State → List ℕ → List ℕ → List ℕ → List ℕ → Machine
 view s codes events reports pool =
@@ -40,7 +44,7 @@ view s codes events reports pool =
       byte = s .byte .0;
       mark = s .mark .0;
       mark-byte = s .«mark_byte» .0;
-      pending = take (s .pending) codes;
+      expected = expected-of s codes;
       events = record { count = s .«events_written»; numbers = events };
       reports = record { count = s .«reports_written»; numbers = reports };
       pool = record { count = s .«pool_written»; numbers = pool };
@@ -151,6 +155,13 @@ says a s codes events reports pool = said a (view s codes events reports pool)
 -- f of the machine before it, whatever the buffers hold: none is written
 abbrev pub becomes : (Machine → Machine) → State → State → Type 0
 becomes f s r = (codes events reports pool : List ℕ) → view r codes events reports pool ≡ f (view s codes events reports pool)
+
+-- f of the pending expectations, and nothing else
+abbrev pub arrives : (Expected → Expected) → State → State → Lent → Type 0
+arrives f s r codes =
+    (events reports pool : List ℕ)
+    → view r (now (codes .exit)) events reports pool
+    ≡ with-expected (f (expected-of s (now (codes .entry)))) (view s (now (codes .entry)) events reports pool)
 
 -- the same: events are written, and nothing else
 abbrev pub writes-events : (Machine → Machine) → State → State → Lent → Type 0

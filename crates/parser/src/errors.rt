@@ -20,19 +20,21 @@ use layout::row::TOKEN_ROW;
 use layout::token_kind;
 use layout::word;
 use layout::word::low32;
+use layout::word_set;
 use token_rows::fit::fits;
 ghost use mathlib.Core.Path.{_≡_};
 ghost use mathlib.Core.List.{List, [], _∷_};
 ghost use Prim.Native.Nat.{ℕ, _+_, _-_, _≤_, _<_};
 ghost use lib.ListN.{length, take, drop};
+ghost use Rattle.basics.specs.Word.{low};
 ghost use Rattle.definitions.specs.Token.{tokens-of};
 ghost use Rattle.definitions.specs.Prog.{yes};
 ghost use Rattle.definitions.specs.Check.{if_then_else_, end?, bump!, tell, in-node as node-prog};
 ghost use Rattle.definitions.specs.NodeKind as N;
 ghost use Rattle.definitions.specs.Run.{only-separators, pool-of};
-ghost use Rattle.machine.specs.Machine.{error-range};
+ghost use Rattle.machine.specs.Machine.{pool-count, error-range};
 ghost use Rattle.machine.specs.Walk.{unlabelled};
-ghost use Rattle.parser.specs.View.{view, tokens-left, span-of, error-prog, takes, stored, walks, moves, says, emits, writes-report};
+ghost use Rattle.parser.specs.View.{expected-of, view, tokens-left, span-of, error-prog, takes, stored, walks, moves, says, emits, writes-report};
 ghost use lib.Seq.{sets};
 
 pub struct TextRange {
@@ -88,7 +90,7 @@ fn ends_statement(codes: &[u8], n: usize) -> bool
 }
 
 // How many of the pending codes a report with this message has.
-fn pool_count(message: u32, codes: &[u8], pending: usize) -> usize
+fn code_count(message: u32, codes: &[u8], pending: usize) -> usize
     ensures { λ r. ⌜ take r (now (codes .entry)) ≡ pool-of message (take pending (now (codes .entry))) ⌝ }
     ensures { λ r. ⌜ r ≤ length (now (codes .entry)) ⌝ }
 {
@@ -146,6 +148,20 @@ fn put_report(
 }
 
 impl State {
+    // The pool count of a report with this message: the set kinds and the few others.
+    fn pool_count(self, message: u32) -> u32
+        ensures { λ r. ⌜ ((codes : List ℕ) → r ≡ low (pool-count message (expected-of self codes))) ⌝ }
+    {
+        let expectations = message == EXPECTED;
+        if expectations {
+            let kinds = word_set::count(self.kinds);
+            let others = word_set::count(self.others);
+            low32(kinds + others)
+        } else {
+            0
+        }
+    }
+
     // The cursor stands at a token, or at the end.
     fn current_token_error_range(self, codes: &Codes, tokens: &[u32]) -> TextRange
         ensures { λ r. ⌜ ((events reports pool : List ℕ) → span-of r
@@ -192,7 +208,7 @@ impl State {
     {
         let index = self.reports_written;
         let first = self.pool_written;
-        let n = pool_count(message, codes, self.pending);
+        let n = code_count(message, codes, self.pending);
         let enough = fits(reports.len(), index, REPORT_ROW);
         if enough {
             let pool_fits = fits(pool.len(), first, n);
@@ -207,7 +223,7 @@ impl State {
                     label,
                     mark,
                     low32(first),
-                    low32(n),
+                    self.pool_count(message),
                 );
                 put_codes(codes, pool, first, n);
                 let mut q = self;

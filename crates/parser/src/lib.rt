@@ -38,8 +38,12 @@ pub struct State {
     pub mark: TokenIndex,
     // The mark at the first refusal.
     pub place: TokenIndex,
-    // How many expectations are pending: those pushed since the last token or name was taken.
+    // How many expectations are pending: those pushed since the last token or name was taken, each once.
     pub pending: usize,
+    // Which kinds are among them, and which of the others, as words: whether one is there is a digit, and how many
+    // there are the digits that are set.
+    pub kinds: u64,
+    pub others: u64,
     // How many numbers of these buffers are written.
     pub events_written: usize,
     pub reports_written: usize,
@@ -52,7 +56,7 @@ pub struct State {
 }
 
 pub struct Parser {
-    // The pending expectations; past them, codes that no longer count.
+    // The pending expectations in the order of their arrival; past them, codes that no longer count.
     pub codes: Codes,
     pub s: State,
 }
@@ -97,6 +101,8 @@ impl State {
             mark: TokenIndex(0),
             place: TokenIndex(0),
             pending: 0,
+            kinds: 0,
+            others: 0,
             events_written: 0,
             reports_written: 0,
             pool_written: 0,

@@ -137,6 +137,8 @@ impl State {
             q.mark = next;
             q.mark_byte = end;
             q.pending = 0;
+            q.kinds = 0;
+            q.others = 0;
             q
         } else {
             self

@@ -1,64 +1,53 @@
--- `add_expected`: one code more, or refusal 5.
-use Rattle.definitions.specs.Layout.{MOST-PENDING}
+-- `add_expected`: a kind, one of the others, or neither.
 use Rattle.basics.proofs.Flags.{flags}
-use Prim.Native.Nat.{_≤_, _<_}
 use mathlib.Core.Path.{_≡_, refl, sym, _∙_}
-use native.Mathlib.Omega.{arith}
-use borrow.Author.Tests.{ltb-true, ltb-false}
-use lib.ListN.{length}
 use Rattle.parser.specs.View.{view, tokens-left}
-use Rattle.parser.proofs.Moves.{expected-room, expected-full}
-use borrow.Author.Needs.{needs}
+use Rattle.parser.proofs.Moves.{adds-kind, adds-other, adds-none, adds-past}
+use borrow.Author.Tests.{leb-true}
 use Rattle.parser.proofs.State.add_expected.Statement.{statement}
 use Rattle.parser.proofs.State.add_expected.Tie as tie
 
-put-code-requires : tie.Need-put-code-requires
-put-code-requires c κs = tt
+add-kind-requires : tie.Need-add-kind-requires
+add-kind-requires c κs = tt
 
-add-q : tie.Need-add-q
-add-q c =
-    let args = c .before .before .before .args in
-    let codes₀ = args .codes .now in
-    let put-code = c .before .put-code in
-    let if1 = c .if1 in
-    let long : length codes₀ ≡ MOST-PENDING = search needs in
-    let has : (args .self .pending) < length codes₀ = ltb-true (args .self .pending) (length codes₀) (sym (put-code .ensures .0) ∙ if1 .taken) in
-    omega (arith, long, has)
-
-refuse-requires : tie.Need-refuse-requires
-refuse-requires c κs = tt
+add-other-requires : tie.Need-add-other-requires
+add-other-requires c κs = leb-true _ _ (c .before .before .if2 .taken)
 
 returns : tie.Need-returns
-unfolding tokens-left
 returns c =
     let args = c .before .before .before .args in
-    let self = args .self in
-    let codes₀ = args .codes .now in
-    let put-code = c .before .put-code in
-    let if1 = c .if1 in
-    let long : length codes₀ ≡ MOST-PENDING = search needs in
-    let has : (args .self .pending) < length codes₀ = ltb-true (args .self .pending) (length codes₀) (sym (put-code .ensures .0) ∙ if1 .taken) in (
-      λ ts b events reports pool.
-          expected-room ts b codes₀ _ (args .self .pending) (args .code) (view self codes₀ events reports pool) long (put-code .ensures .1)
-          refl has,
-      λ tokens. omega flags,
+    let if1 = c .before .before .if1 in
+    let add-kind = c .add-kind in (
+      λ ts b events reports pool. adds-kind ts b (args .code) (view (args .self) (args .codes .now) events reports pool) _ (if1 .taken) (add-kind .ensures .0 events reports pool),
+      add-kind .ensures .1,
     )
 
 returns-2 : tie.Need-returns-2
 returns-2 c =
-    let args = c .before .before .before .before .args in
-    let self = args .self in
-    let codes₀ = args .codes .now in
-    let put-code = c .before .before .put-code in
-    let if1 = c .before .if1 in
-    let refuse = c .refuse in
-    let long : length codes₀ ≡ MOST-PENDING = search needs in
-    let full : length codes₀ ≤ (args .self .pending) = ltb-false (args .self .pending) (length codes₀) (sym (put-code .ensures .0) ∙ if1 .left) in (
+    let args = c .before .before .before .before .before .args in
+    let if1 = c .before .before .before .before .if1 in
+    let if2 = c .before .before .before .if2 in
+    let if3 = c .before .before .if3 in
+    let add-other = c .add-other in (
       λ ts b events reports pool.
-          expected-full ts b codes₀ _ (args .self .pending) (args .code) (view self codes₀ events reports pool) long (put-code .ensures .1)
-          refl _ full (refuse .ensures .0 _ events reports pool),
-      refuse .ensures .1,
+          adds-other ts b (args .code) (view (args .self) (args .codes .now) events reports pool) _ (if1 .left) (if2 .taken) (if3 .taken) (add-other .ensures .0 events reports pool),
+      add-other .ensures .1,
     )
 
+returns-3 : tie.Need-returns-3
+returns-3 c =
+    let args = c .before .before .before .args in
+    let if1 = c .before .before .if1 in
+    let if2 = c .before .if2 in
+    let if3 = c .if3 in
+    (λ ts b events reports pool. adds-past ts b (args .code) (view (args .self) (args .codes .now) events reports pool) (if1 .left) (if2 .taken) (if3 .left), λ tokens. omega flags)
+
+returns-4 : tie.Need-returns-4
+returns-4 c =
+    let args = c .before .before .args in
+    let if1 = c .before .if1 in
+    let if2 = c .if2 in
+    (λ ts b events reports pool. adds-none ts b (args .code) (view (args .self) (args .codes .now) events reports pool) (if1 .left) (if2 .left), λ tokens. omega flags)
+
 pub add-expected-spec : {M : Type 1} → statement M
-add-expected-spec = tie.close (tie.spec put-code-requires add-q refuse-requires returns returns-2)
+add-expected-spec = tie.close (tie.spec add-kind-requires returns add-other-requires returns-2 returns-3 returns-4)

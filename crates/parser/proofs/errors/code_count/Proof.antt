@@ -1,10 +1,10 @@
--- `pool_count`: all that are pending for message 1, else none.
+-- `code_count`: all that are pending for message 1, else none.
 use Rattle.basics.proofs.Flags.{flags}
 use native.Mathlib.Nat.{le-refl}
 use lib.ListN.{take}
 use Rattle.parser.proofs.Lists.{pool-all, pool-most, pool-none}
-use Rattle.parser.proofs.errors.pool_count.Statement.{statement}
-use Rattle.parser.proofs.errors.pool_count.Tie as tie
+use Rattle.parser.proofs.errors.code_count.Statement.{statement}
+use Rattle.parser.proofs.errors.code_count.Tie as tie
 
 returns : tie.Need-returns
 returns c =
@@ -27,5 +27,5 @@ returns-3 c =
     let if1 = c .if1 in
     (pool-none (args .message) (take (args .pending) codes₀) (if1 .left), omega flags)
 
-pub pool-count-spec : {M : Type 1} → statement M
-pool-count-spec = tie.close (tie.spec returns returns-2 returns-3)
+pub code-count-spec : {M : Type 1} → statement M
+code-count-spec = tie.close (tie.spec returns returns-2 returns-3)
