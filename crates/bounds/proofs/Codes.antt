@@ -1,5 +1,5 @@
--- Every code that the grammar names is below 256: node kinds, messages, hints, expectations. And what it is for a
--- skeleton to have such codes only.
+-- Every node kind, message and hint that the grammar names is below 256 (Pools has it of expectations). And what it is
+-- for a skeleton to have such codes only.
 use Prim.Native.Nat.{ℕ, zero, suc, _<_}
 use mathlib.Core.Path.{_≡_, refl}
 use mathlib.Core.Bool.{Bool, true, false, _&&_}
@@ -22,7 +22,7 @@ small-act (silent-at ks) = true
 small-act at-end = true
 small-act (immediate k) = true
 small-act (immediate-next k) = true
-small-act (add-expected k) = ltb k CODES
+small-act (add-expected k) = true
 small-act bump = true
 small-act (bump-name ks) = true
 small-act bump-argument = true
@@ -57,7 +57,6 @@ whole-small Cells = refl
 pub record Report-coded (r : Report) : Type 0 where
   pub message : r .message < CODES
   pub hint : r .hint < CODES
-  pub pool : Below CODES (r .pool)
 
 unfoldable pub Coded : Skeleton → Type 0
 Coded done = Unit {0}

@@ -4,14 +4,15 @@ use native.Mathlib.Nat.{le-trans, le-refl, mul-le-mul-left}
 use native.Mathlib.Omega.{arith}
 use mathlib.Core.Path.{_≡_, refl, ap, sym, _∙_, subst}
 use mathlib.Core.Bool.{Bool, true, false, true≢false}
-use mathlib.Core.List.{List, [], _∷_, _++_}
+use mathlib.Core.List.{List, [], _∷_}
 use lib.Dec.{ltb, eqb}
 use lib.ListN.{length, length-append}
 use Rattle.definitions.specs.TokenKind as K
 use Rattle.definitions.specs.Token.{Token, trivia, drop-trivia, ended, past, first-in}
 use Rattle.definitions.specs.Skeleton.{Label, done, token, _⧺_}
+use Rattle.definitions.specs.Once.{pushed-once}
 use Rattle.definitions.specs.Prog.{Ans, no, yes, Rule, Act, silent-at, at-end, immediate, immediate-next, add-expected, bump, bump-name, bump-argument, emit, emit-unclosed, less, act}
-use Rattle.definitions.specs.Run.{State, Out, peeked, truth, replies, makes, taken, do-bump, stretch-of, do-name, add, at-depth, do-argument, do-emit, over-unless, do-expected, perform}
+use Rattle.definitions.specs.Run.{State, Out, peeked, truth, replies, makes, taken, do-bump, stretch-of, do-name, add, at-depth, do-argument, do-emit, do-expected, perform}
 use Rattle.basics.proofs.Tests.{cond-all}
 use Rattle.laws.proofs.Trivia.{drop-twice, drop-trivia-length}
 use Rattle.laws.proofs.Kept.{run-of-split}
@@ -138,11 +139,6 @@ module _ (w : Price) (one : 1 ≤ w .base) (worth : w .leaf ≤ w .credit) where
   idle : (d b : Bool) (s : State) → Known d s → Fits w (get (at no (here d) (w .base) ⊔ at yes (here d) (w .base)) (truth b)) s s 0
   idle d b s k = asked _ b (λ _. or-left w _ _ no (fits-at w no (here-paid w d s one k))) (λ _. or-right w _ _ yes (fits-at w yes (here-paid w d s one k)))
 
-  room-cost : (b : Bool) (m : ℕ) → cost w (over-unless b m) ≡ 0
-  unfolding over-unless cost
-  room-cost true m = refl
-  room-cost false m = refl
-
   end-fits : (d : Bool) (s : State) → Known d s → Fits w (get (act-row w at-end d) (truth (ended (peeked s .rest)))) s (peeked s) 0
   unfolding act-row peeked
   end-fits false s k = asked _ (ended (drop-trivia (s .rest))) (λ e. or-left w (at no there (w .base)) (at yes still (w .base)) no (fits-at w no (peek-here true s e))) (λ _. or-right w (at no there (w .base)) (at yes still (w .base)) yes (fits-at w yes (peek-here false s tt)))
@@ -159,7 +155,7 @@ module _ (w : Price) (one : 1 ≤ w .base) (worth : w .leaf ≤ w .credit) where
   act-fits b at-end d s k = end-fits d s k
   act-fits b (immediate x) d s k = idle d (first-in (x ∷ []) (s .rest)) s k
   act-fits b (immediate-next x) d s k = idle d (first-in (x ∷ []) (past (s .rest))) s k
-  act-fits b (add-expected x) d s k = rw room-cost (fits-at w yes (expected-paid d s (s .pending ++ (x ∷ [])) k))
+  act-fits b (add-expected x) d s k = fits-at w yes (expected-paid d s (pushed-once x (s .pending)) k)
   act-fits b bump d s k = bump-fits d s (drop-trivia (s .rest)) refl k
   act-fits b (bump-name ks) d s k = name-fits ks d s (drop-trivia (s .rest)) refl k
   act-fits b bump-argument d s k =

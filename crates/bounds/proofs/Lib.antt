@@ -8,10 +8,10 @@
 --    CostRuns, every counted call and every entry.
 -- 3. Tables: the bills of the four counted functions, and that the grammar keeps to them, by `refl`, for events,
 --    reports and nodes. Counts draws from them: at most so many events, reports and nodes a token.
--- 4. Beside the counts: Pools, at most 256 expectations in a report; Codes and CodedRuns, every code that a run makes
---    is below 256.
+-- 4. Beside the counts: Codes and CodedRuns, every node kind, message and hint that a run makes is below 256; Pools, at
+--    most 69 expectations in a report and each below 256, from crates/laws.
 -- 5. What is written: Events, the numbers of event rows; TreeRows, how many tree rows and what is in them; Written,
---    reports, pool and lexical errors; Places, the place of a refusal; StrictNames, what the strict setting adds to the
+--    reports and lexical errors; Places, the place of a refusal; StrictNames, what the strict setting adds to the
 --    reports. Numbers joins them to the statements of specs/Numbers.antt. Witnesses: its premises can be met.
 --    Refutations: wrong answers do not pass.
 pub mod Row
@@ -25,9 +25,9 @@ pub mod CostActs
 pub mod CostRuns
 pub mod Tables
 pub mod Counts
-pub mod Pools
 pub mod Codes
 pub mod CodedRuns
+pub mod Pools
 pub mod Events
 pub mod TreeRows
 pub mod Written

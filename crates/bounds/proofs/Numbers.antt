@@ -23,20 +23,19 @@ use Rattle.definitions.specs.RowCauses.{is-kind, check-input}
 use Rattle.definitions.specs.Call.{Buffers, zeros, written, refusal, cleared, Sheets, sheets, kept, delivered, forward-mark, unless-refused, outcome, room-of, run-entry, names-of, parse, Asked, for, unknown, entry-of, checked, asked, call}
 use Rattle.basics.proofs.Tests.{cond-all}
 use Rattle.laws.proofs.Skeleton.{event-count-append, events-length, reports-append}
-use Rattle.laws.specs.Pushes.{event-count, None-exceeded}
-use Rattle.laws.proofs.Scan.{fits-clear}
+use Rattle.laws.specs.Pushes.{event-count}
 use Rattle.laws.proofs.Between.{entry-reads}
 use Rattle.laws.proofs.Decode.{rows-length}
 use Rattle.laws.proofs.Input.{All-good, Checked, checked-input}
 use Rattle.bounds.specs.Numbers.{most-events, most-reports, most-expectations, most-rows, Bounded, Runs-bounded, Below, Within-limits, So-far, Words-so-far, Words, Answer-fits, Fits, Numbers-fit}
 use Rattle.bounds.proofs.Tables as T
 use Rattle.bounds.proofs.Counts.{counted, events-cost, reports-cost}
-use Rattle.bounds.proofs.Pools.{Small, few-expected, entry-small}
+use Rattle.bounds.proofs.Pools.{entry-listed, few-expected, pool-below}
 use Rattle.bounds.proofs.Codes.{CODES, below-append}
 use Rattle.bounds.proofs.CodedRuns.{entry-coded}
 use Rattle.bounds.proofs.Events.{events-fit}
 use Rattle.bounds.proofs.TreeRows.{Kinded, tree, few-rows, few-children, rows-below}
-use Rattle.bounds.proofs.Written.{below-wider, below-zeros, All-coded, coded-left, reports-coded, pool-below, report-numbers-below, errors-most, errors-below}
+use Rattle.bounds.proofs.Written.{below-wider, below-zeros, All-coded, coded-left, reports-coded, report-numbers-below, errors-most, errors-below}
 use Rattle.bounds.proofs.Places.{number-small, Placed, input-placed, Stopped, scan-stopped}
 use Rattle.bounds.proofs.StrictNames.{few-names, names-within, name-numbers-below, names-placed}
 use Rattle.laws.proofs.ReportNumbers.{report-numbers-length, name-numbers-length}
@@ -58,8 +57,8 @@ module _ (e : Entry) (ts : List Token) where
       let j : length (reports (pushes o)) ≡ length (reports l) + length (reports m) = ap (λ (x : List Push). length (reports x)) h ∙ simp (reports-append, length-append) in
       omega (arith, reports-cost o, counted T.reports e ts)
 
-  few-pool : (l m : List Push) → pushes o ≡ l ++ m → None-exceeded l → length (pool (reports l)) ≤ most-expectations (length ts)
-  few-pool l m h c = omega (arith, few-expected l m (subst Small h (entry-small e ts)) c, few-reported l m h)
+  few-pool : (l m : List Push) → pushes o ≡ l ++ m → length (pool (reports l)) ≤ most-expectations (length ts)
+  few-pool l m h = omega (arith, few-expected (reports l) (entry-listed e ts l m h), few-reported l m h)
 
   -- A RUN IS BOUNDED
   pub bounded : Bounded e ts
@@ -101,23 +100,23 @@ below-written l b h = below-append TWO-TO-32 l _ h (below-zeros TWO-TO-32 (lengt
 
 -- what a run has written, within cause 2's limits
 pub so-far : Words-so-far
-so-far e ts w l m h c =
+so-far e ts w l m h =
     let n : length ts ≤ MOST-TOKENS = w .tokens in
     let i : byte-count ts ≤ MOST-BYTES = w .input in
     let a : event-count l ≤ most-events (length ts) = few-pushed e ts l m h in
     let b : length (reports l) ≤ most-reports (length ts) = few-reported e ts l m h in
-    let p : length (pool (reports l)) ≤ most-expectations (length ts) = few-pool e ts l m h c in
+    let p : length (pool (reports l)) ≤ most-expectations (length ts) = few-pool e ts l m h in
     let r : All-coded (reports l) = coded-left (reports l) (reports m) (subst All-coded (ap reports h ∙ reports-append l m) (reports-coded (run-entry e ts) (entry-coded e ts))) in
     record {
       events-written = omega arith;
       reports-written = omega arith;
       pool-written = omega arith;
       report-words = report-numbers-below TWO-TO-32 (length ts) (byte-count ts) (omega arith) (omega arith) (omega arith) 0 (reports l) r (omega arith);
-      pool-words = below-wider CODES TWO-TO-32 (pool (reports l)) (omega arith) (pool-below (reports l) r);
+      pool-words = below-wider CODES TWO-TO-32 (pool (reports l)) (omega arith) (pool-below (reports l) (entry-listed e ts l m h));
     }
 
 -- what an accepted call writes
-module _ (setting : ℕ) (e : Entry) (bytes : List ℕ) (ts : List Token) (limits : Within-limits ts) (k : Kinded ts) (c : None-exceeded (pushes (run-entry e ts))) where
+module _ (setting : ℕ) (e : Entry) (bytes : List ℕ) (ts : List Token) (limits : Within-limits ts) (k : Kinded ts) where
   -- the report rows of the run, and those of the Names
   abbrev reported : List ℕ
   reported = report-numbers (length ts) (byte-count ts) 0 (reports (pushes (run-entry e ts)))
@@ -146,7 +145,7 @@ module _ (setting : ℕ) (e : Entry) (bytes : List ℕ) (ts : List Token) (limit
       let n : length ts ≤ MOST-TOKENS = limits .tokens in
       let i : byte-count ts ≤ MOST-BYTES = limits .input in
       let t : length (rows (tree e ts)) ≤ TREE-ROW * most-rows (length ts) = bounded e ts .tree-rows in
-      let s : So-far ts (pushes (run-entry e ts)) = so-far e ts limits (pushes (run-entry e ts)) [] (sym (append-nil (pushes (run-entry e ts)))) c in
+      let s : So-far ts (pushes (run-entry e ts)) = so-far e ts limits (pushes (run-entry e ts)) [] (sym (append-nil (pushes (run-entry e ts)))) in
       record {
         answer =
             record {
@@ -179,15 +178,15 @@ cleared-fits r b h =
 
 module _ (setting : ℕ) (bytes tokens : List ℕ) (b : Buffers) (w : Words b) where
   -- after the run: whether the Names fit, and then the tree
-  names-fitted : (e : Entry) → check-input bytes tokens ≡ accepted → None-exceeded (pushes (run-entry e (tokens-of tokens)))
+  names-fitted : (e : Entry) → check-input bytes tokens ≡ accepted
       → (v : Verdict) → Placed (length (tokens-of tokens)) v → Fits (unless-refused v (sheets e (tokens-of tokens) (run-entry e (tokens-of tokens)) (names-of setting e bytes (tokens-of tokens))) b)
   unfolding unless-refused delivered place-of
-  names-fitted e a c (refused r) p = let i : Checked bytes tokens = checked-input bytes tokens a in cleared-fits r b (omega (arith, p, i .pairs, i .numbers-limit))
-  names-fitted e a c accepted p =
+  names-fitted e a (refused r) p = let i : Checked bytes tokens = checked-input bytes tokens a in cleared-fits r b (omega (arith, p, i .pairs, i .numbers-limit))
+  names-fitted e a accepted p =
       let i : Checked bytes tokens = checked-input bytes tokens a in
       let s : Sheets = sheets e (tokens-of tokens) (run-entry e (tokens-of tokens)) (names-of setting e bytes (tokens-of tokens)) in
       cond-all Fits (leb (length (s .trees)) (length (b .trees)) && leb (length (s .errors)) (length (b .errors)))
-      (sheets-fit setting e bytes (tokens-of tokens) (record { tokens = omega (arith, i .pairs, i .numbers-limit); input = omega (arith, i .covered, i .bytes-limit) }) (good-kinded (tokens-of tokens) (i .good)) c b)
+      (sheets-fit setting e bytes (tokens-of tokens) (record { tokens = omega (arith, i .pairs, i .numbers-limit); input = omega (arith, i .covered, i .bytes-limit) }) (good-kinded (tokens-of tokens) (i .good)) b)
       (cleared-fits no-tree-room b (omega arith))
 
   parse-fits : (e : Entry) → check-input bytes tokens ≡ accepted → (f : Fit) → scan (pushes (run-entry e (tokens-of tokens))) (room-of b) ≡ f
@@ -198,7 +197,7 @@ module _ (setting : ℕ) (bytes tokens : List ℕ) (b : Buffers) (w : Words b) w
       let s : place-of (forward-mark (length (tokens-of tokens)) r) ≤ length (tokens-of tokens) = subst (Stopped (length (tokens-of tokens))) q (scan-stopped (length (tokens-of tokens)) (pushes (run-entry e (tokens-of tokens))) (room-of b)) in
       cleared-fits (forward-mark (length (tokens-of tokens)) r) b (omega (arith, i .pairs, i .numbers-limit))
   parse-fits e a (fits z) q =
-      names-fitted e a (fits-clear (pushes (run-entry e (tokens-of tokens))) (room-of b) z q) (names-fit (z .reports) (names-of setting e bytes (tokens-of tokens)))
+      names-fitted e a (names-fit (z .reports) (names-of setting e bytes (tokens-of tokens)))
       (names-placed (length (tokens-of tokens)) (byte-count (tokens-of tokens)) (z .reports) (names-of setting e bytes (tokens-of tokens)) (names-within setting e bytes (tokens-of tokens)))
 
   checked-fits : (e : Entry) (v : Verdict) → check-input bytes tokens ≡ v → Fits (checked v e setting bytes tokens b)

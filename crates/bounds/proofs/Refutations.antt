@@ -4,16 +4,16 @@
 use Prim.Native.Nat.{ℕ}
 use native.Mathlib.Omega.{arith}
 use mathlib.Core.Path.{_≡_, refl}
-use mathlib.Core.List.{List, [], _∷_}
+use mathlib.Core.List.{List, [], _∷_, _++_}
 use lib.ListN.{length}
 use Rattle.definitions.specs.Token.{Token, byte-count}
 use Rattle.definitions.specs.Skeleton.{no-label}
 use Rattle.definitions.specs.Event.{StartNode, AddCombinedToken}
 use Rattle.definitions.specs.Place.{leaf, subtree, nil, count}
-use Rattle.definitions.specs.Report.{reported, reports, pool}
+use Rattle.definitions.specs.Report.{Push, reported, pushes, reports, pool}
 use Rattle.definitions.specs.Grammar.{Entry}
 use Rattle.definitions.specs.Strict.{Name-at}
-use Rattle.definitions.specs.Call.{Answer, Result, names-of}
+use Rattle.definitions.specs.Call.{Answer, Result, run-entry, names-of}
 use Rattle.bounds.specs.Numbers.{most-events, most-reports, most-expectations, most-rows, Within-limits, So-far, Answer-fits, Fits, All-fit, Counts-within, Names-within, Bounded}
 
 -- 2^32, by its own number: a larger `TWO-TO-32` would pass otherwise
@@ -45,6 +45,10 @@ not-the-pool : So-far [] (reported (record { message = 1; range = record { from 
 unfolding pool reports
 not-the-pool s = omega (arith, s .pool-words .0)
 
+-- 70 expectations of a run without tokens, whatever it is refused for later
+not-the-expectations : (e : Entry) → Bounded e [] → (l m : List Push) → pushes (run-entry e []) ≡ l ++ m → length (pool (reports l)) ≡ 70 → ⊥
+not-the-expectations e b l m h n = omega (arith, b .pool-so-far l m h, n)
+
 -- a node kind of more than a byte, a distance past all events, a name of more tokens than there are, and more children
 -- than rows
 not-the-events : (All-fit 14 1 (StartNode 256 0 ∷ []) → ⊥) × (All-fit 14 1 (StartNode 0 15 ∷ []) → ⊥) × (All-fit 14 1 (AddCombinedToken 2 ∷ []) → ⊥)
@@ -67,10 +71,10 @@ not-inside = (λ n. omega (arith, n .0), λ n. omega (arith, n .2), λ n. omega 
 -- ---------------------------------------------------------------- the bounds themselves
 
 -- for one token, and for none
-bounds : (most-events 1 ≡ 14) × (most-reports 1 ≡ 4) × (most-expectations 1 ≡ 1024) × (most-rows 1 ≡ 7)
+bounds : (most-events 1 ≡ 14) × (most-reports 1 ≡ 4) × (most-expectations 1 ≡ 276) × (most-rows 1 ≡ 7)
 bounds = (refl, refl, refl, refl)
 
-bounds-of-nothing : (most-events 0 ≡ 1) × (most-reports 0 ≡ 1) × (most-expectations 0 ≡ 256) × (most-rows 0 ≡ 1)
+bounds-of-nothing : (most-events 0 ≡ 1) × (most-reports 0 ≡ 1) × (most-expectations 0 ≡ 69) × (most-rows 0 ≡ 1)
 bounds-of-nothing = (refl, refl, refl, refl)
 
 -- files at both limits of cause 2 are spoken of

@@ -44,7 +44,7 @@ all = pushes (run-entry SourceFile (tokens-of numbers))
 
 words : So-far (tokens-of numbers) all
 unfolding tokens-of run-entry whole pushes
-words = so-far SourceFile (tokens-of numbers) within all [] refl tt
+words = so-far SourceFile (tokens-of numbers) within all [] refl
 
 -- ---------------------------------------------------------------- the strict setting
 

@@ -1,4 +1,4 @@
--- The numbers that an accepted call writes besides its tree rows: report rows, pool, lexical errors.
+-- The numbers that an accepted call writes besides its tree rows and its pool: report rows, lexical errors.
 use Prim.Native.Nat.{ℕ, suc, _+_, _*_, _≤_, _<_}
 use native.Mathlib.Omega.{arith}
 use mathlib.Core.List.{List, [], _∷_, _++_}
@@ -11,7 +11,7 @@ use Rattle.definitions.specs.Report.{pushes, reports, label-numbers, report-num
 use Rattle.basics.proofs.Tests.{cond-all}
 use Rattle.laws.proofs.Skeleton.{reports-append}
 use Rattle.bounds.specs.Numbers.{Below}
-use Rattle.bounds.proofs.Codes.{CODES, Report-coded, Coded, below-append}
+use Rattle.bounds.proofs.Codes.{CODES, Report-coded, Coded}
 use Rattle.bounds.proofs.TreeRows.{Kinded}
 
 pub below-wider : (n m : ℕ) (l : List ℕ) → n ≤ m → Below n l → Below m l
@@ -45,11 +45,6 @@ reports-coded (node k m m′ a i o) c = simp reports-append (coded-append (repor
 reports-coded (ignored m m′ a i o) c = simp reports-append (coded-append (reports (pushes a)) _ (reports-coded a (c .0)) (coded-append (reports (pushes i)) _ (reports-coded i (c .1)) (reports-coded o (c .2))))
 reports-coded (report r o) c = (c .0, reports-coded o (c .1))
 reports-coded (over m o) c = reports-coded o c
-
-pub pool-below : (l : List Report) → All-coded l → Below CODES (pool l)
-unfolding pool
-pool-below [] c = tt
-pool-below (r ∷ l) c = below-append CODES (r .pool) (pool l) (c .0 .pool) (pool-below l (c .1))
 
 -- m: a bound on the tokens, the bytes and the expectations
 module _ (m n b : ℕ) (most : CODES ≤ m) (tokens : n < m) (input : b < m) where

@@ -16,7 +16,7 @@ use Rattle.definitions.specs.Place.{Tree, nil, leaf, subtree, root, count, rows
 use Rattle.definitions.specs.Report.{Push, pushes, reports, report-numbers, pool}
 use Rattle.definitions.specs.Strict.{Name-at}
 use Rattle.definitions.specs.Call.{Buffers, Answer, Result, run-entry, names-of, call}
-use Rattle.laws.specs.Pushes.{event-count, None-exceeded}
+use Rattle.laws.specs.Pushes.{event-count}
 
 -- ---------------------------------------------------------------- for n tokens
 
@@ -26,9 +26,9 @@ most-events n = 13 * n + 1
 abbrev pub most-reports : ℕ → ℕ
 most-reports n = 3 * n + 1
 
--- 256 in each report
+-- 69 in each report
 abbrev pub most-expectations : ℕ → ℕ
-most-expectations n = 768 * n + 256
+most-expectations n = 207 * n + 69
 
 -- leaves and nodes, the root's row too
 abbrev pub most-rows : ℕ → ℕ
@@ -69,8 +69,7 @@ pub record Bounded (e : Entry) (ts : List Token) : Type 0 where
   -- its pushes, and any first pushes l of them: so also what a run has made when it is refused
   pub events-so-far : (l m : List Push) → pushes (run-entry e ts) ≡ l ++ m → event-count l ≤ most-events (length ts)
   pub reports-so-far : (l m : List Push) → pushes (run-entry e ts) ≡ l ++ m → length (reports l) ≤ most-reports (length ts)
-  -- as long as there is no refusal 5 among them
-  pub pool-so-far : (l m : List Push) → pushes (run-entry e ts) ≡ l ++ m → None-exceeded l
+  pub pool-so-far : (l m : List Push) → pushes (run-entry e ts) ≡ l ++ m
       → length (pool (reports l)) ≤ most-expectations (length ts)
   -- the numbers of its tree rows, and the counts in them
   pub tree-rows : length (rows (root (root-kind e) (run-entry e ts) ts)) ≤ TREE-ROW * most-rows (length ts)
@@ -95,8 +94,7 @@ pub record Within-limits (ts : List Token) : Type 0 where
   pub tokens : length ts ≤ MOST-TOKENS
   pub input : byte-count ts ≤ MOST-BYTES
 
--- when a run has made the pushes l, without a refusal 5: how many numbers were written, and that they are words
--- themselves
+-- when a run has made the pushes l: how many numbers were written, and that they are words themselves
 pub record So-far (ts : List Token) (l : List Push) : Type 0 where
   pub events-written : EVENT-ROW * event-count l < TWO-TO-32
   pub reports-written : REPORT-ROW * length (reports l) < TWO-TO-32
@@ -107,8 +105,7 @@ pub record So-far (ts : List Token) (l : List Push) : Type 0 where
 -- for every entry, and any first pushes l of its run
 abbrev pub Words-so-far : Type 0
 Words-so-far =
-    (e : Entry) (ts : List Token) → Within-limits ts → (l m : List Push) → pushes (run-entry e ts) ≡ l ++ m
-    → None-exceeded l → So-far ts l
+    (e : Entry) (ts : List Token) → Within-limits ts → (l m : List Push) → pushes (run-entry e ts) ≡ l ++ m → So-far ts l
 
 -- every number in a call's buffers
 pub record Words (b : Buffers) : Type 0 where

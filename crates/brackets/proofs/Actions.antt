@@ -6,12 +6,11 @@ use mathlib.Core.List.{List, [], _∷_}
 use lib.Dec.{ltb, eqb}
 use lib.ListN.{length}
 use borrow.Author.Tests.{eqb-true}
-use Rattle.definitions.specs.Layout.{MOST-PENDING}
 use Rattle.definitions.specs.TokenKind as K
 use Rattle.definitions.specs.Prog.{Ans, no, yes, also, again, Act, silent-at, at-end, immediate, immediate-next, add-expected, bump, bump-name, bump-argument, emit, emit-unclosed, less}
 use Rattle.definitions.specs.Token.{Token, is-error, seen, trivia, drop-trivia, first-in, past, ended}
 use Rattle.definitions.specs.Skeleton.{Label, token, done, _⧺_}
-use Rattle.definitions.specs.Run.{State, Out, mark-of, peeked, truth, replies, makes, taken, do-bump, stretch-of, do-name, add, at-depth, do-argument, do-emit, over-unless, do-expected, perform}
+use Rattle.definitions.specs.Run.{State, Out, peeked, truth, replies, makes, taken, do-bump, stretch-of, do-name, add, at-depth, do-argument, do-emit, do-expected, perform}
 use Rattle.basics.proofs.Tests.{cond-with}
 use Rattle.laws.proofs.Trivia.{drop-none, drop-twice}
 use Rattle.laws.proofs.Analysis.{get}
@@ -130,11 +129,6 @@ argument-gives n m q s o a h =
 
 -- ---------------------------------------------------------------- all of them
 
-pub room-made : (b : Bool) (m : ℕ) → flat (over-unless b m) ≡ end
-unfolding over-unless flat
-room-made true m = refl
-room-made false m = refl
-
 pub act-gives : (b : Label) (a : Act) (n : List Bool) (m : Sum) (q : Outline) (s : State) → Known n m q s → Gives (look-act a n m) q (perform b a s)
 unfolding look-act perform replies makes do-expected do-emit shut flat
 act-gives b (silent-at ks) n m q s h =
@@ -143,8 +137,7 @@ act-gives b at-end n m q s h =
     peeked-test n some-left none-left m q s (ended (peeked s .rest)) h (λ e. allows-there (drop-trivia (s .rest)) (unfold peeked in e)) (λ e. allows-ended (drop-trivia (s .rest)) (unfold peeked in e))
 act-gives b (immediate k) n m q s h = by-truth (fact n m) (fact n m) (first-in (k ∷ []) (s .rest)) (q ⊞ end) s (λ _. still n m q s s refl h) (λ _. still n m q s s refl h)
 act-gives b (immediate-next k) n m q s h = by-truth (fact n m) (fact n m) (first-in (k ∷ []) (past (s .rest))) (q ⊞ end) s (λ _. still n m q s s refl h) (λ _. still n m q s s refl h)
-act-gives b (add-expected k) n m q s h =
-    subst (λ (x : Outline). Known n m (q ⊞ x) (perform b (add-expected k) s .state)) (sym (room-made (ltb (length (s .pending)) MOST-PENDING) (mark-of s))) (still n m q s (perform b (add-expected k) s .state) refl h)
+act-gives b (add-expected k) n m q s h = still n m q s (perform b (add-expected k) s .state) refl h
 act-gives b bump n m q s h = unfold peeked in bump-gives n m q s (drop-trivia (s .rest)) refl h
 act-gives b (bump-name ks) n m q s h = unfold peeked in name-gives ks n m q s (drop-trivia (s .rest)) refl h
 act-gives b bump-argument n m q s h = argument-gives n m q s (do-argument 0 s (s .rest)) (argued 0 s (s .rest)) h

@@ -2,25 +2,23 @@
 use Prim.Native.Nat.{ℕ, zero, suc, _≤_, _-_}
 use mathlib.Core.Path.{_≡_, refl, ap, sym, _∙_, subst}
 use mathlib.Core.Bool.{true}
-use mathlib.Core.List.{List, [], _∷_, _++_}
-use lib.Dec.{ltb}
+use mathlib.Core.List.{List, [], _∷_}
 use lib.ListN.{length}
 use borrow.Author.Tests.{lt-ltb}
-use Rattle.definitions.specs.Layout.{MOST-PENDING}
 use Rattle.definitions.specs.Errors as E
 use Rattle.definitions.specs.NodeKind as N
 use Rattle.definitions.specs.Token.{Token, seen, drop-trivia}
 use Rattle.definitions.specs.Prog.{choose, Rule, Prog, _⨟_, loop}
 use Rattle.definitions.specs.Check.{in-node, error! }
 use Rattle.definitions.specs.Grammar.{left-over, left-over-turn}
+use Rattle.definitions.specs.Once.{pushed-once}
 use Rattle.definitions.specs.Skeleton.{Label, done, token, _⧺_}
-use Rattle.definitions.specs.Run.{State, Out, mark-of, peeked, replies, makes, taken, do-emit, do-expected, over-unless, perform, add, marked, is-again, goes-on, iter, exec}
+use Rattle.definitions.specs.Run.{State, Out, peeked, replies, makes, taken, do-emit, do-expected, perform, add, marked, is-again, goes-on, iter, exec}
 use Rattle.laws.proofs.Trivia.{drop-twice, drop-trivia-length}
 use Rattle.laws.proofs.Swept.{turn-ends, turn-takes}
 use Rattle.brackets.specs.Brackets.{Outline, end, leaves-only, first-leaf}
 use Rattle.brackets.specs.Brackets as B
 use Rattle.brackets.proofs.Flat.{_⊞_, beside-end, flat, flat-join, shut}
-use Rattle.brackets.proofs.Actions.{room-made}
 
 -- leaves, of which the first is k
 pub record Leaves (k : ℕ) (c : Outline) : Type 0 where
@@ -77,11 +75,6 @@ module _ (ask : Rule → State → Out) (b : Label) where
       → (c : Outline) × Leaves (seen t) c × (flat (exec ask b left-over s .made) ≡ B.node N.ParseError c end)
   unfolding left-over exec perform choose replies peeked add _⧺_ _⊞_ do-expected makes
   some-left-over s t ts e =
-      let u : State = record { rest = t ∷ ts; since = s .since; pending = s .pending ++ (E.End ∷ []) } in
+      let u : State = record { rest = t ∷ ts; since = s .since; pending = pushed-once E.End (s .pending) } in
       let d : drop-trivia (t ∷ ts) ≡ t ∷ ts = ap drop-trivia (sym e) ∙ drop-twice (s .rest) ∙ e in
-      let made = exec ask b (in-node N.ParseError inner) u .made in
-      let r = over-unless (ltb (length (s .pending)) MOST-PENDING) (mark-of s) in (
-        flat (exec ask b inner u .made),
-        inner-leaves u t ts d,
-        rw e (flat-join r made ∙ ap (_⊞ flat made) (room-made (ltb (length (s .pending)) MOST-PENDING) (mark-of s)) ∙ node-flat (N.ParseError - 1) inner u),
-      )
+      (flat (exec ask b inner u .made), inner-leaves u t ts d, rw e (node-flat (N.ParseError - 1) inner u))

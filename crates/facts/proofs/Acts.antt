@@ -13,6 +13,7 @@ use Rattle.definitions.specs.Prog.{Ans, no, yes, also, again, Act, silent-at, i
 use Rattle.definitions.specs.Prog as P
 use Rattle.definitions.specs.Token.{Token, is-error, seen, trivia, drop-trivia, past, ended, one-of, first-in}
 use Rattle.definitions.specs.Skeleton.{Label, done, token}
+use Rattle.definitions.specs.Once.{pushed-once}
 use Rattle.definitions.specs.Run.{State, Out, mark-of, peeked, truth, replies, makes, taken, do-bump, stretch-of, do-name, add, at-depth, do-argument, do-emit, do-expected, perform}
 use Rattle.basics.proofs.Tests.{cond-all, cond-with, and-left, and-right}
 use Rattle.laws.proofs.Trivia.{drop-none, drop-trivium, drop-twice, drop-trivia-length}
@@ -20,10 +21,11 @@ use Rattle.laws.proofs.Kept.{run-of-split}
 use Rattle.laws.proofs.FactsHold.{first-there}
 use Rattle.facts.proofs.Known.{kinds-within, inside, Known, known, some, nothing, is-among, within, seen-in, not-in, at-end, not-at-end, knows}
 use Rattle.facts.proofs.Knowing.{kinds-weaken, knows-seen, knows-not, knows-end, knows-more}
-use Rattle.facts.proofs.Facts.{Pend, empty, pend-from, By, pick, map, nowhere, cleared, each, by-pushed, may-push, Fact, fact, over, fact-within}
+use Rattle.facts.proofs.Facts.{Pend, empty, push, pend-from, By, pick, map, nowhere, cleared, each, by-pushed, may-push, Fact, fact, over, fact-within}
 use Rattle.facts.proofs.May.{meets, asserts, token-there, both-ways, may-act}
 use Rattle.facts.proofs.Look.{get, tested, done-so, bumped, argued, ended-or-in, immediate-look, act-look}
-use Rattle.facts.proofs.Holds.{Told, told-map, told-each, told-pushed, pend-append, Right, Way, fresh-way, took-way, Holds, right-left, right-right, right-nowhere, holds-by, holds-weaken}
+use Rattle.facts.proofs.Pushing.{pend-once, repeat-other}
+use Rattle.facts.proofs.Holds.{Told, told-map, told-each, told-pushed, Right, Way, fresh-way, took-way, Holds, right-left, right-right, right-nowhere, holds-by, holds-weaken}
 
 -- ---------------------------------------------------------------- nothing taken
 
@@ -124,14 +126,15 @@ name-holds ks d s₀ s (t ∷ ts) e _ h =
 -- ---------------------------------------------------------------- one expectation more
 
 holds-pushed : (b : Label) (k : ℕ) (d : Fact) (s₀ s : State) → both-ways (may-push k) d ≡ true → Holds d s₀ s → Holds (over (by-pushed k) d) s₀ (perform b (add-expected k) s .state)
-unfolding perform do-expected makes both-ways
+unfolding perform do-expected replies both-ways
 holds-pushed b k d s₀ s e h =
     holds-to d (over (by-pushed k) d) s₀ s (perform b (add-expected k) s .state) refl (le-refl _) (one (d .fresh) (and-left (may-push k (d .fresh)) _ e)) (one (d .took) (and-right (may-push k (d .fresh)) _ e)) h
   where
     one : (f : By) → may-push k f ≡ true → Right f s → Right (by-pushed k f) (perform b (add-expected k) s .state)
     one f m r =
+        let same : pend-from empty (pushed-once k (s .pending)) ≡ push k (pend-from empty (s .pending)) = pend-once k (s .pending) (repeat-other f (drop-trivia (s .rest)) (s .pending) k m (r .told)) in
         record {
-          told = subst (λ (x : Pend). Told x (by-pushed k f) (drop-trivia (s .rest))) (sym (pend-append empty (s .pending) k)) (told-pushed k (pend-from empty (s .pending)) f (drop-trivia (s .rest)) m (r .told));
+          told = subst (λ (x : Pend). Told x (by-pushed k f) (drop-trivia (s .rest))) (sym same) (told-pushed k (pend-from empty (s .pending)) f (drop-trivia (s .rest)) m (r .told));
         }
 
 -- ---------------------------------------------------------------- a bracket right at the cursor

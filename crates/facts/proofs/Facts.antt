@@ -9,39 +9,28 @@ use Rattle.facts.proofs.Known.{Known, never, _∪_, within, is-never}
 
 -- ---------------------------------------------------------------- what is pending
 
--- nothing; [Semicolon]; [Comma]; [Comma, Semicolon]; a list that will not be one of these whatever is dropped or
--- pushed; any other
+-- nothing; [Semicolon]; [Comma]; [Comma, Semicolon]; any other list, which will be none of these whatever is pushed
 pub data Pend : Type 0 where
-  empty semi comma both other bad : Pend
+  empty semi comma both other : Pend
 
--- one expectation more
+-- one expectation more, at the end of the list
 unfoldable pub push-semi : Pend → Pend
 push-semi empty = semi
-push-semi semi = bad
+push-semi semi = other
 push-semi comma = both
-push-semi both = bad
+push-semi both = other
 push-semi other = other
-push-semi bad = bad
 
 unfoldable pub push-comma : Pend → Pend
 push-comma empty = comma
 push-comma semi = other
-push-comma comma = bad
-push-comma both = bad
+push-comma comma = other
+push-comma both = other
 push-comma other = other
-push-comma bad = bad
-
-unfoldable pub push-else : Pend → Pend
-push-else empty = other
-push-else semi = other
-push-else comma = other
-push-else both = other
-push-else other = other
-push-else bad = bad
 
 unfoldable pub push : ℕ → Pend → Pend
-unfolding push-semi push-comma push-else
-push k m = cond (eqb k K.Semicolon) (push-semi m) (cond (eqb k K.Comma) (push-comma m) (push-else m))
+unfolding push-semi push-comma
+push k m = cond (eqb k K.Semicolon) (push-semi m) (cond (eqb k K.Comma) (push-comma m) other)
 
 unfoldable pub pend-from : Pend → List ℕ → Pend
 unfolding push
@@ -71,7 +60,6 @@ pick-five semi f = f .if-semi
 pick-five comma f = f .if-comma
 pick-five both f = f .if-both
 pick-five other f = f .if-other
-pick-five bad f = never
 
 unfoldable pub pick : Pend → By → Known
 pick m nowhere = never
@@ -110,7 +98,7 @@ by-within (these f) (these g) =
     within (f .if-empty) (g .if-empty)
     && (within (f .if-semi) (g .if-semi) && (within (f .if-comma) (g .if-comma) && (within (f .if-both) (g .if-both) && within (f .if-other) (g .if-other))))
 
--- what is known after a push, and whether it makes no list that is bad
+-- what is known after a push
 abbrev pub five-pushed : Bool → Bool → Five → By
 five-pushed true c f = by never (f .if-empty) never (f .if-comma) (f .if-other)
 five-pushed false true f = by never never (f .if-empty) never (f .if-semi ∪ f .if-other)
@@ -121,6 +109,9 @@ unfolding _∪_
 by-pushed k nowhere = nowhere
 by-pushed k (these f) = five-pushed (eqb k K.Semicolon) (eqb k K.Comma) f
 
+-- whether it may be pushed: not a separator that is pending already among separators alone. It is not pushed again
+-- (`Once.pushed-once`), so the test of a range (`Run.only-separators`) would go on to say yes, where with the separator
+-- twice it says no (crates/pending).
 abbrev pub five-may : Bool → Bool → Five → Bool
 five-may true c f = is-never (f .if-semi) && is-never (f .if-both)
 five-may false true f = is-never (f .if-comma) && is-never (f .if-both)

@@ -12,7 +12,7 @@ use Rattle.definitions.specs.Run.{State, mark-of}
 use Rattle.basics.proofs.Tests.{and-left, and-right}
 use Rattle.facts.proofs.Known.{Known, never, within, kinds-within, inside, is-never, knows}
 use Rattle.facts.proofs.Knowing.{never-knows, knows-left, knows-right, knows-weaken}
-use Rattle.facts.proofs.Facts.{Pend, empty, semi, comma, both, other, bad, push-semi, push-comma, push-else, push, pend-from, Five, By, nowhere, these, pick-five, pick, map, meet, each-five, each, by-within, five-pushed, by-pushed, five-may, may-push, Fact, unreached, _⊔_, fact-within, by-never, fact-never, if-fresh, if-took, taken-before}
+use Rattle.facts.proofs.Facts.{Pend, empty, semi, comma, both, other, push-semi, push-comma, push, pend-from, Five, By, nowhere, these, pick-five, pick, map, meet, each-five, each, by-within, five-pushed, by-pushed, five-may, may-push, Fact, unreached, _⊔_, fact-within, by-never, fact-never, if-fresh, if-took, taken-before}
 
 -- ---------------------------------------------------------------- by what is pending
 
@@ -31,7 +31,6 @@ five-left semi f g l h = knows-left (f .if-semi) (g .if-semi) l h
 five-left comma f g l h = knows-left (f .if-comma) (g .if-comma) l h
 five-left both f g l h = knows-left (f .if-both) (g .if-both) l h
 five-left other f g l h = knows-left (f .if-other) (g .if-other) l h
-five-left bad f g l h = h
 
 five-right : (m : Pend) (f g : Five) (l : List Token) → knows (pick-five m g) l ≡ true → Told m (meet (these f) (these g)) l
 unfolding pick meet
@@ -40,7 +39,6 @@ five-right semi f g l h = knows-right (f .if-semi) (g .if-semi) l h
 five-right comma f g l h = knows-right (f .if-comma) (g .if-comma) l h
 five-right both f g l h = knows-right (f .if-both) (g .if-both) l h
 five-right other f g l h = knows-right (f .if-other) (g .if-other) l h
-five-right bad f g l h = h
 
 pub told-left : (m : Pend) (f g : By) (l : List Token) → Told m f l → Told m (meet f g) l
 unfolding pick meet
@@ -62,7 +60,6 @@ five-map semi g f l l′ k h = k (f .if-semi) h
 five-map comma g f l l′ k h = k (f .if-comma) h
 five-map both g f l l′ k h = k (f .if-both) h
 five-map other g f l l′ k h = k (f .if-other) h
-five-map bad g f l l′ k h = not-never l h
 
 pub told-map : (m : Pend) (g : Known → Known) (f : By) (l l′ : List Token) → ((k : Known) → knows k l ≡ true → knows (g k) l′ ≡ true) → Told m f l → Told m (map g f) l′
 unfolding pick map
@@ -70,18 +67,17 @@ told-map m g nowhere l l′ k h = not-never l h
 told-map m g (these f) l l′ k h = five-map m g f l l′ k h
 
 -- a test that each of them passes
-five-each : (m : Pend) (t : Known → Bool) (f : Five) → t never ≡ true → each-five t f ≡ true → t (pick-five m f) ≡ true
-five-each empty t f n e = and-left (t (f .if-empty)) _ e
-five-each semi t f n e = and-left (t (f .if-semi)) _ (and-right (t (f .if-empty)) _ e)
-five-each comma t f n e = and-left (t (f .if-comma)) _ (and-right (t (f .if-semi)) _ (and-right (t (f .if-empty)) _ e))
-five-each both t f n e = and-left (t (f .if-both)) _ (and-right (t (f .if-comma)) _ (and-right (t (f .if-semi)) _ (and-right (t (f .if-empty)) _ e)))
-five-each other t f n e = and-right (t (f .if-both)) _ (and-right (t (f .if-comma)) _ (and-right (t (f .if-semi)) _ (and-right (t (f .if-empty)) _ e)))
-five-each bad t f n e = n
+five-each : (m : Pend) (t : Known → Bool) (f : Five) → each-five t f ≡ true → t (pick-five m f) ≡ true
+five-each empty t f e = and-left (t (f .if-empty)) _ e
+five-each semi t f e = and-left (t (f .if-semi)) _ (and-right (t (f .if-empty)) _ e)
+five-each comma t f e = and-left (t (f .if-comma)) _ (and-right (t (f .if-semi)) _ (and-right (t (f .if-empty)) _ e))
+five-each both t f e = and-left (t (f .if-both)) _ (and-right (t (f .if-comma)) _ (and-right (t (f .if-semi)) _ (and-right (t (f .if-empty)) _ e)))
+five-each other t f e = and-right (t (f .if-both)) _ (and-right (t (f .if-comma)) _ (and-right (t (f .if-semi)) _ (and-right (t (f .if-empty)) _ e)))
 
 pub told-each : (m : Pend) (t : Known → Bool) (f : By) → t never ≡ true → each t f ≡ true → t (pick m f) ≡ true
 unfolding pick each
 told-each m t nowhere n e = n
-told-each m t (these f) n e = five-each m t f n e
+told-each m t (these f) n e = five-each m t f e
 
 five-within : (m : Pend) (f g : Five) → by-within (these f) (these g) ≡ true → within (pick-five m f) (pick-five m g) ≡ true
 unfolding by-within within kinds-within inside
@@ -94,33 +90,22 @@ five-within both f g e =
 five-within other f g e =
     and-right (within (f .if-both) (g .if-both)) _
     (and-right (within (f .if-comma) (g .if-comma)) _ (and-right (within (f .if-semi) (g .if-semi)) _ (and-right (within (f .if-empty) (g .if-empty)) _ e)))
-five-within bad f g e = refl
 
 -- what is ruled out
-ruled-out : (d : Known) (l : List Token) → {A : Type 0} → is-never d ≡ true → knows d l ≡ true → A
+pub ruled-out : (d : Known) (l : List Token) → {A : Type 0} → is-never d ≡ true → knows d l ≡ true → A
 unfolding is-never
 ruled-out d l e h = not-never l (knows-weaken d never l e h)
-
-never-never : is-never never ≡ true
-unfolding is-never within kinds-within inside
-never-never = refl
 
 pub told-weaken : (m : Pend) (f g : By) (l : List Token) → by-within f g ≡ true → Told m f l → Told m g l
 unfolding pick by-within
 told-weaken m nowhere g l e h = not-never l h
-told-weaken m (these f) nowhere l e h = ruled-out (pick-five m f) l (five-each m is-never f never-never e) h
+told-weaken m (these f) nowhere l e h = ruled-out (pick-five m f) l (five-each m is-never f e) h
 told-weaken m (these f) (these g) l e h = knows-weaken (pick-five m f) (pick-five m g) l (five-within m f g e) h
 
 -- nothing is known to be nowhere
 pub told-nowhere : (m : Pend) (l : List Token) → {A : Type 0} → Told m nowhere l → A
 unfolding pick
 told-nowhere m l h = not-never l h
-
--- nothing bad is pending
-pub told-good : (m : Pend) (f : By) (l : List Token) → Told m f l → m ≡ bad → ⊥
-unfolding pick
-told-good m nowhere l h e = not-never l h
-told-good m (these f) l h e = not-never l (subst (λ (x : Pend). knows (pick-five x f) l ≡ true) e h)
 
 -- ---------------------------------------------------------------- an expectation more
 
@@ -132,7 +117,6 @@ pushed-semi semi f l e h = ruled-out (f .if-semi) l (and-left (is-never (f .if-s
 pushed-semi comma f l e h = h
 pushed-semi both f l e h = ruled-out (f .if-both) l (and-right (is-never (f .if-semi)) _ e) h
 pushed-semi other f l e h = h
-pushed-semi bad f l e h = h
 
 pushed-comma : (m : Pend) (f : Five) (l : List Token) → (is-never (f .if-comma) && is-never (f .if-both)) ≡ true → knows (pick-five m f) l ≡ true
     → Told (push-comma m) (five-pushed false true f) l
@@ -142,31 +126,24 @@ pushed-comma semi f l e h = knows-left (f .if-semi) (f .if-other) l h
 pushed-comma comma f l e h = ruled-out (f .if-comma) l (and-left (is-never (f .if-comma)) _ e) h
 pushed-comma both f l e h = ruled-out (f .if-both) l (and-right (is-never (f .if-comma)) _ e) h
 pushed-comma other f l e h = knows-right (f .if-semi) (f .if-other) l h
-pushed-comma bad f l e h = h
 
-pushed-else : (m : Pend) (f : Five) (l : List Token) → knows (pick-five m f) l ≡ true → Told (push-else m) (five-pushed false false f) l
-unfolding pick push-else
+pushed-else : (m : Pend) (f : Five) (l : List Token) → knows (pick-five m f) l ≡ true → Told other (five-pushed false false f) l
+unfolding pick
 pushed-else empty f l h = knows-left (f .if-empty) _ l h
 pushed-else semi f l h = knows-right (f .if-empty) _ l (knows-left (f .if-semi) _ l h)
 pushed-else comma f l h = knows-right (f .if-empty) _ l (knows-right (f .if-semi) _ l (knows-left (f .if-comma) _ l h))
 pushed-else both f l h = knows-right (f .if-empty) _ l (knows-right (f .if-semi) _ l (knows-right (f .if-comma) _ l (knows-left (f .if-both) _ l h)))
 pushed-else other f l h = knows-right (f .if-empty) _ l (knows-right (f .if-semi) _ l (knows-right (f .if-comma) _ l (knows-right (f .if-both) _ l h)))
-pushed-else bad f l h = h
 
 pub told-pushed : (k : ℕ) (m : Pend) (f : By) (l : List Token) → may-push k f ≡ true → Told m f l → Told (push k m) (by-pushed k f) l
 unfolding pick push by-pushed may-push
 told-pushed k m nowhere l e h = not-never l h
 told-pushed k m (these f) l e h = go (eqb k K.Semicolon) (eqb k K.Comma) e
   where
-    go : (a b : Bool) → five-may a b f ≡ true → Told (cond a (push-semi m) (cond b (push-comma m) (push-else m))) (five-pushed a b f) l
+    go : (a b : Bool) → five-may a b f ≡ true → Told (cond a (push-semi m) (cond b (push-comma m) other)) (five-pushed a b f) l
     go true b i = pushed-semi m f l i h
     go false true i = pushed-comma m f l i h
     go false false i = pushed-else m f l h
-
-pub pend-append : (m : Pend) (ks : List ℕ) (k : ℕ) → pend-from m (ks ++ (k ∷ [])) ≡ push k (pend-from m ks)
-unfolding pend-from
-pend-append m [] k = refl
-pend-append m (j ∷ ks) k = pend-append (push j m) ks k
 
 -- ---------------------------------------------------------------- at a state
 

@@ -1,5 +1,6 @@
 -- Where a program may begin, by what is known there: a token is taken where one is there, and a name where one of its
--- set is; a push makes no bad list; and a program that asserts a token begins where that token is next.
+-- set is; a separator is pushed where it is not pending among separators alone (`may-push`); and a program that asserts
+-- a token begins where that token is next.
 use Prim.Native.Nat.{ℕ}
 use mathlib.Core.Bool.{Bool, true, cond, not, _&&_}
 use mathlib.Core.List.{[], _∷_}

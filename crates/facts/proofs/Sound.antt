@@ -6,7 +6,7 @@ use mathlib.Core.Bool.{Bool, true, false, cond, _&&_}
 use mathlib.Core.List.{List, [], _∷_, _++_}
 use lib.Dec.{ltb}
 use lib.ListN.{length}
-use Rattle.definitions.specs.Layout.{MOST-OPEN-CALLS, MOST-PENDING}
+use Rattle.definitions.specs.Layout.{MOST-OPEN-CALLS}
 use Rattle.definitions.specs.Token.{Token, drop-trivia}
 use Rattle.definitions.specs.Prog.{choose, Ans, no, yes, also, again, Rule, Act, silent-at, immediate, immediate-next, add-expected, bump, bump-name, bump-argument, emit, emit-unclosed, less, Prog, ret, act, _⨟_, case, in-marker, loop, chain, brace, open-call}
 use Rattle.definitions.specs.Prog as P
@@ -15,7 +15,7 @@ use Rattle.definitions.specs.Skeleton.{Label, no-label, Skeleton, done}
 use Rattle.definitions.specs.Run.{State, Out, mark-of, makes, add, taken, perform, marked, is-again, iter, unlinked, links, chained, here, exec, run}
 use Rattle.basics.proofs.Tests.{and-left, and-right}
 use Rattle.laws.proofs.Sound.{is-again-eq}
-use Rattle.run_steps.specs.Steps.{Step, branched, Every-step, iter-steps, links-steps, exceeds, act-steps, steps, run-steps, entry-steps}
+use Rattle.run_steps.specs.Steps.{Step, branched, Every-step, iter-steps, links-steps, steps, run-steps, entry-steps}
 use Rattle.facts.proofs.Facts.{Fact, pend-from, pick, fact-within, fact-never}
 use Rattle.facts.proofs.May.{may-act, may-begin}
 use Rattle.facts.proofs.Look.{Look, get, only, any-of, and-ok, either, unshaped, stopped, act-look, from, turns, joined, again-of, left-over, moves, settled, looped, look, looks-within}
@@ -36,25 +36,6 @@ gives-first l m s₀ o ss g = gives-by l (either l m) s₀ o ss (in-first s₀ (
 
 gives-second : (l m : Look) (s₀ : State) (o : Out) (ss : List Step) → Gives m s₀ o ss → Gives (either l m) s₀ o ss
 gives-second l m s₀ o ss g = gives-by m (either l m) s₀ o ss (in-second s₀ (o .state) l m (o .ans) (o .shape)) g
-
-exceeds-each : (b : Bool) → Every-step Good (exceeds b)
-unfolding exceeds
-exceeds-each true = tt
-exceeds-each false = tt
-
-act-each : (a : Act) (s : State) → Every-step Good (act-steps a s)
-unfolding act-steps
-act-each (silent-at ks) s = tt
-act-each P.at-end s = tt
-act-each (immediate k) s = tt
-act-each (immediate-next k) s = tt
-act-each (add-expected k) s = exceeds-each (ltb (length (s .pending)) MOST-PENDING)
-act-each bump s = tt
-act-each (bump-name ks) s = tt
-act-each bump-argument s = tt
-act-each (emit m h) s = tt
-act-each emit-unclosed s = tt
-act-each (less m n) s = tt
 
 gives-marked : (l : Look) (s₀ s : State) (o : Out) (ss : List Step) → Gives l s₀ o ss → Gives (unshaped l) s₀ (marked s o) ss
 unfolding marked makes
@@ -169,8 +150,8 @@ module _ (ask : Rule → State → Out) (inner : Rule → State → List Step) (
   exec-gives b (ret k a) d s₀ s m h = gives-begun (ret k a) d s₀ s (only a k d) _ [] refl h (record { each = tt; facts = λ _. in-only s₀ s a k d h })
   exec-gives b (act a) d s₀ s m h =
       let may : may-act a d ≡ true = and-left (may-act a d) _ m in
-      gives-begun (act a) d s₀ s (and-ok (may-act a d) (act-look a d)) (perform b a s) (act-steps a s) may h
-      (gives-and (may-act a d) (act-look a d) s₀ (perform b a s) (act-steps a s) (record { each = act-each a s; facts = λ _. act-holds b a d s₀ s may h }))
+      gives-begun (act a) d s₀ s (and-ok (may-act a d) (act-look a d)) (perform b a s) [] may h
+      (gives-and (may-act a d) (act-look a d) s₀ (perform b a s) [] (record { each = tt; facts = λ _. act-holds b a d s₀ s may h }))
   exec-gives b (p ⨟ q) d s₀ s m h =
       let l : Look = look t p d in
       let c : (may-begin (p ⨟ q) d && l .ok) ≡ true = and-left (may-begin (p ⨟ q) d && l .ok) _ m in

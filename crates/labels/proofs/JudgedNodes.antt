@@ -4,15 +4,15 @@ use Prim.Native.Nat.{ℕ, zero, suc}
 use mathlib.Core.Path.{_≡_, refl, ap, sym, _∙_}
 use mathlib.Core.Bool.{Bool, true, false, not, _&&_, _||_, false≢true}
 use mathlib.Core.List.{List, [], _∷_}
-use lib.Dec.{ltb, eqb}
+use lib.Dec.{eqb}
 use lib.ListN.{length}
-use Rattle.definitions.specs.Layout.{MOST-OPEN-CALLS, MOST-PENDING}
+use Rattle.definitions.specs.Layout.{MOST-OPEN-CALLS}
 use Rattle.definitions.specs.TokenKind as K
 use Rattle.definitions.specs.Token.{Token, trivia, drop-trivia}
 use Rattle.definitions.specs.Prog.{choose, Ans, no, yes, also, again, Rule, item, propvalues, eat-cell, expr-binding-power, Act, silent-at, at-end, immediate, immediate-next, add-expected, bump, bump-name, bump-argument, emit, emit-unclosed, less, Prog, ret, act, _⨟_, case, in-marker, loop, chain, brace, open-call}
 use Rattle.definitions.specs.Grammar.{grammar, Entry, SourceFile, ReferenceNoamp, PropValues, Cells, whole, root-kind}
 use Rattle.definitions.specs.Skeleton.{Label, no-label, Skeleton, done, token, name, node, ignored, report, over, _⧺_}
-use Rattle.definitions.specs.Run.{State, Out, mark-of, peeked, replies, makes, taken, do-bump, do-name, add, at-depth, do-argument, do-emit, over-unless, do-expected, perform, closed, marked, unlinked, here, exec, run}
+use Rattle.definitions.specs.Run.{State, Out, mark-of, peeked, replies, makes, taken, do-bump, do-name, add, at-depth, do-argument, do-emit, do-expected, perform, closed, marked, unlinked, here, exec, run}
 use Rattle.definitions.specs.Call.{run-entry}
 use Rattle.basics.proofs.Tests.{cond-all, and-left, and-right}
 use Rattle.laws.proofs.Engine.{Composes, iter-all, chained-all}
@@ -144,18 +144,13 @@ argument-made c n s (t ∷ ts) =
     (cond-all (Made c s) (eqb (t .kind) K.RParen) (depth-made c s n _ _ (stay no) go)
     (cond-all (Made c s) (eqb (t .kind) K.Comma) (depth-made c s n _ _ (stay yes) (λ m. go (suc m))) (go n))))
 
-room-plain : (b : Bool) (m : ℕ) → Plain (over-unless b m)
-unfolding over-unless Plain
-room-plain true m = tt
-room-plain false m = tt
-
 act-made : (c : Bool) (b : Label) (a : Act) (s : State) → Made c s (perform b a s)
 unfolding perform peeked do-expected do-emit Plain
 act-made c b (silent-at ks) s = idle c s _ _
 act-made c b at-end s = idle c s _ _
 act-made c b (immediate k) s = idle c s _ _
 act-made c b (immediate-next k) s = idle c s _ _
-act-made c b (add-expected k) s = bare c s yes _ _ (room-plain (ltb (length (s .pending)) MOST-PENDING) (mark-of s))
+act-made c b (add-expected k) s = idle c s _ _
 act-made c b bump s = bump-made c s (peeked s) (drop-trivia (s .rest))
 act-made c b (bump-name ks) s = name-made c ks s (peeked s) (drop-trivia (s .rest))
 act-made c b bump-argument s = argument-made c 0 s (s .rest)

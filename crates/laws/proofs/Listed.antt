@@ -237,7 +237,7 @@ unfolding kinds-from others-from
 held-none = record { words = words-none }
 
 -- an expectation is a kind, or it is not and is one of the others
-by-code : (P : Type 0) (k : ℕ) → is-expectation k ≡ true → (is-kind k ≡ true → P) → (is-kind k ≡ false → is-other k ≡ true → P) → P
+pub by-code : (P : Type 0) (k : ℕ) → is-expectation k ≡ true → (is-kind k ≡ true → P) → (is-kind k ≡ false → is-other k ≡ true → P) → P
 unfolding is-expectation
 by-code P k e p q = by-test (is-kind k) refl e
   where

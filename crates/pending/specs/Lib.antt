@@ -1,2 +1,6 @@
--- The range of a report, and repeats among what is pending.
-pub mod Pending
+-- Each expectation once (document 02, 6/14): the run as it is, the run as it was, and the run with the Rust's list.
+pub mod RunBy
+pub mod Once
+pub mod Before
+pub mod Rust
+pub mod AsBefore

@@ -2,18 +2,17 @@
 -- no marker as a DtExpr.
 use Prim.Native.Nat.{ℕ, zero, suc, _≤_}
 use mathlib.Core.Path.{_≡_, refl, sym, _∙_, ap}
-use mathlib.Core.Bool.{Bool, true, false, not, true≢false}
+use mathlib.Core.Bool.{Bool, true, not, true≢false}
 use mathlib.Core.List.{List, [], _∷_}
-use lib.Dec.{eqb, ltb}
+use lib.Dec.{eqb}
 use lib.ListN.{length, drop}
 use borrow.Author.Tests.{eq-eqb}
-use Rattle.definitions.specs.Layout.{MOST-PENDING}
 use Rattle.definitions.specs.TokenKind as K
 use Rattle.definitions.specs.NodeKind as N
 use Rattle.definitions.specs.Token.{Token, trivia, drop-trivia, past}
 use Rattle.definitions.specs.Prog.{Ans, no, yes, Act, silent-at, at-end, immediate, immediate-next, add-expected, bump, bump-name, bump-argument, emit, emit-unclosed, less, act}
 use Rattle.definitions.specs.Skeleton.{Label, Skeleton, done, token, name, node, ignored, report, over, _⧺_}
-use Rattle.definitions.specs.Run.{State, Out, mark-of, peeked, replies, makes, taken, do-bump, do-name, add, at-depth, do-argument, do-emit, over-unless, do-expected, perform, closed, exec, run}
+use Rattle.definitions.specs.Run.{State, Out, mark-of, peeked, replies, makes, taken, do-bump, do-name, add, at-depth, do-argument, do-emit, do-expected, perform, closed, exec, run}
 use Rattle.definitions.specs.Place.{after}
 use Rattle.definitions.specs.Report.{pushes}
 use Rattle.basics.proofs.Tests.{cond-all}
@@ -113,18 +112,13 @@ simple-argument n s (t ∷ ts) =
     (cond-all Simple (eqb (t .kind) K.RParen) (simple-depth n _ _ (simple-answer no _) go)
     (cond-all Simple (eqb (t .kind) K.Comma) (simple-depth n _ _ (simple-answer yes _) (λ m. go (suc m))) (go n))))
 
-simple-room : (b : Bool) (m : ℕ) → Nodeless (over-unless b m)
-unfolding over-unless
-simple-room true m = tt
-simple-room false m = tt
-
 simple-act : (b : Label) (a : Act) (s : State) → Simple (perform b a s)
 unfolding perform do-expected do-emit makes
 simple-act b (silent-at ks) s = simple-answer _ _
 simple-act b at-end s = simple-answer _ _
 simple-act b (immediate k) s = simple-answer _ _
 simple-act b (immediate-next k) s = simple-answer _ _
-simple-act b (add-expected k) s = record { shape-is = refl; nodeless = simple-room (ltb (length (s .pending)) MOST-PENDING) (mark-of s) }
+simple-act b (add-expected k) s = simple-answer _ _
 simple-act b bump s = simple-bump (peeked s) (peeked s .rest)
 simple-act b (bump-name ks) s = simple-name ks (peeked s) (peeked s .rest)
 simple-act b bump-argument s = simple-argument 0 s (s .rest)

@@ -13,20 +13,20 @@ use Rattle.definitions.specs.Prog.{no, yes, Rule, immediate, add-expected, Prog
 use Rattle.definitions.specs.Check.{tell, not!, bump!, of-kind, at, expect}
 use Rattle.definitions.specs.Grammar.{macro-argument-turn, macro-invocation}
 use Rattle.definitions.specs.Skeleton.{Label, Skeleton, done, token, _⧺_}
-use Rattle.definitions.specs.Run.{State, Out, mark-of, truth, replies, makes, taken, add, perform, closed as closed-marker, marked, exec}
+use Rattle.definitions.specs.Run.{State, Out, mark-of, truth, replies, makes, taken, add, do-expected, perform, closed as closed-marker, marked, exec}
 use Rattle.definitions.specs.C.{Symbol, symbols}
 use Rattle.definitions.specs.C as C
 use Rattle.laws.proofs.Trivia.{drop-none}
 use Rattle.laws.proofs.Skeleton.{join-done}
-use Rattle.laws.proofs.Kept.{Stands, stands-taken}
+use Rattle.laws.proofs.Kept.{Stands, expecting, stands-taken}
 use Rattle.precedence.specs.Nodes.{one, nodes, argument, split, argument-list, expr-nodes}
 use Rattle.precedence.proofs.Pratt.{Res, Args, closed, unclosed, args, invoked, named}
 use Rattle.precedence.proofs.Pratt as P
 use Rattle.precedence.proofs.Sound.{ArgsOf, args-of}
-use Rattle.precedence.proofs.Pushed.{quiet-done, clear-first}
+use Rattle.precedence.proofs.Pushed.{quiet-done}
 use Rattle.precedence.proofs.Same.{same-refl}
 use Rattle.precedence.proofs.Symbols.{symbols-end, symbols-next, symbols-past, symbols-arguments, symbols-apart, bracket-solid, test-one, Tail, tail-refl, tail-next}
-use Rattle.precedence.proofs.Rules.{pick, took, expecting, Onward, Ends, ends-map, seq, inside, ends-ret, Tests, test-case, on-test, loud-is, expected-is, test-tell, after-bump}
+use Rattle.precedence.proofs.Rules.{pick, took, Onward, Ends, ends-map, seq, inside, ends-ret, Tests, test-case, on-test, loud-is, test-tell, after-bump}
 use Rattle.precedence.proofs.Follow.{Done, Noted, Follows, done-join, done-closed, done-token, done-from, noted-second, noted-inside, noted-from, Expected, found, missing, expects}
 use Rattle.precedence.proofs.Arguments.{Ended, Looped, arguments-loop}
 
@@ -161,20 +161,10 @@ module _ (ask : Rule → State → Out) (b : Label) where
   -- a bracket directly after the name, nothing having been peeked yet
   glued : (ts : List Token) (x : Bool) → first-in (K.LParen ∷ []) ts ≡ x
       → Tests ask b (act (add-expected K.LParen) ⨟ act (immediate K.LParen)) (taken ts) (truth x)
-  unfolding exec add replies perform _⧺_
+  unfolding exec add replies perform do-expected _⧺_
   glued ts x g =
-      record {
-        tells = λ c.
-            let u = expecting K.LParen (taken ts) in
-            let p = exec ask b (act (add-expected K.LParen)) (taken ts) in
-            let e : p ≡ replies yes u = expected-is ask b K.LParen (taken ts) (clear-first (p .made) (exec ask b (act (immediate K.LParen)) (p .state) .made) c) in
-            record {
-              to = u;
-              is = ap (λ (o : Out). add o (exec ask b (act (immediate K.LParen)) (o .state))) e ∙ ap (λ (y : Bool). replies (truth y) u) g;
-              stands = record { passed = stands-taken ts .passed };
-              since-is = refl;
-            };
-      }
+      let u = expecting (taken ts) K.LParen in
+      record { to = u; is = ap (λ (y : Bool). replies (truth y) u) g; stands = record { passed = stands-taken ts .passed }; since-is = refl }
 
   -- after the name: e is made of it and of p
   abbrev Behind : State → Res → Out → Type 0

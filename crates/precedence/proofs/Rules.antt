@@ -1,20 +1,19 @@
--- Programs step by step, as long as no limit is exceeded: tests that make nothing, a token taken, a sequence, a branch,
--- a marker.
+-- Programs step by step: tests, which make nothing; and, as long as no limit is exceeded, a token taken, a sequence, a
+-- branch, a marker.
 use Prim.Native.Nat.{ℕ}
 use mathlib.Core.Path.{_≡_, refl, sym, _∙_, ap, subst}
-use mathlib.Core.Bool.{Bool, true, false}
-use mathlib.Core.List.{List, [], _∷_, _++_}
+use mathlib.Core.Bool.{Bool}
+use mathlib.Core.List.{List, [], _∷_}
 use lib.Dec.{ltb}
 use lib.ListN.{length}
-use Rattle.definitions.specs.Layout.{MOST-PENDING}
 use Rattle.definitions.specs.Token.{Token, drop-trivia, first-in}
 use Rattle.definitions.specs.Prog.{choose, Ans, no, yes, also, again, Rule, silent-at, immediate, add-expected, bump, less, Prog, ret, act, _⨟_, case, in-marker}
 use Rattle.definitions.specs.Check.{push-all}
-use Rattle.definitions.specs.Skeleton.{Label, Skeleton, done, token, _⧺_}
-use Rattle.definitions.specs.Run.{State, Out, mark-of, peeked, truth, replies, makes, taken, do-bump, add, over-unless, do-expected, perform, marked, exec}
+use Rattle.definitions.specs.Skeleton.{Label, done, token, _⧺_}
+use Rattle.definitions.specs.Run.{State, Out, mark-of, peeked, truth, replies, makes, taken, do-bump, add, do-expected, perform, marked, exec}
 use Rattle.definitions.specs.Report.{pushes}
 use Rattle.laws.proofs.Trivia.{passes-drop}
-use Rattle.laws.proofs.Kept.{Stands, stands-peeked}
+use Rattle.laws.proofs.Kept.{Stands, expecting, stands-peeked}
 use Rattle.laws.specs.Pushes.{None-exceeded}
 use Rattle.precedence.proofs.Pushed.{clear-first, clear-second, clear-inside}
 
@@ -28,10 +27,6 @@ pick again n y a = y
 -- where a peek comes to
 pub ahead : (s : State) → Stands s → drop-trivia (s .rest) ≡ drop-trivia (s .since)
 ahead s h = sym (passes-drop (s .since) (s .rest) (h .passed))
-
--- the state with one expectation more
-abbrev pub expecting : ℕ → State → State
-expecting k s = record { rest = s .rest; since = s .since; pending = s .pending ++ (k ∷ []) }
 
 -- a token taken
 abbrev pub took : Token → List Token → Out
@@ -99,89 +94,58 @@ module _ (ask : Rule → State → Out) (b : Label) where
   -- ---------------------------------------------------------------- tests
 
   -- it answers a, makes nothing and takes nothing
-  pub record Test (p : Prog) (s : State) (a : Ans) : Type 0 where
+  pub record Tests (p : Prog) (s : State) (a : Ans) : Type 0 where
     pub to : State
     pub is : exec ask b p s ≡ replies a to
     pub stands : Stands to
     pub since-is : to .since ≡ s .since
 
-  pub record Tests (p : Prog) (s : State) (a : Ans) : Type 0 where
-    pub tells : None-exceeded (pushes (exec ask b p s .made)) → Test p s a
-
   pub test-seq : {p q : Prog} {s : State} {a a′ : Ans} → Tests p s a → Onward s (λ to. Tests q to a′) → Tests (p ⨟ q) s a′
   unfolding exec add replies _⧺_
-  test-seq {p} {q} {s} {a} {a′} h g =
+  test-seq {p} {q} {s} {a} {a′} t g =
+      let u : Tests q (t .to) a′ = g (t .to) (t .stands) (t .since-is) in
       record {
-        tells = λ c.
-            let t : Test p s a = h .tells (clear-first (exec ask b p s .made) (exec ask b q (exec ask b p s .state) .made) c) in
-            let d : None-exceeded (pushes (exec ask b q (t .to) .made)) =
-            subst (λ (o : Out). None-exceeded (pushes (exec ask b q (o .state) .made))) (t .is)
-            (clear-second (exec ask b p s .made) (exec ask b q (exec ask b p s .state) .made) c) in
-            let u : Test q (t .to) a′ = g (t .to) (t .stands) (t .since-is) .tells d in
-            record {
-              to = u .to;
-              is = ap (λ (o : Out). add o (exec ask b q (o .state))) (t .is) ∙ u .is;
-              stands = u .stands;
-              since-is = u .since-is ∙ t .since-is;
-            };
+        to = u .to;
+        is = ap (λ (o : Out). add o (exec ask b q (o .state))) (t .is) ∙ u .is;
+        stands = u .stands;
+        since-is = u .since-is ∙ t .since-is;
       }
 
   pub after-test : {p q : Prog} {s : State} {a : Ans} {Q : Out → Type 0} → Tests p s a → Onward s (λ to. Ends q to Q) → Ends (p ⨟ q) s Q
   unfolding exec add replies _⧺_
-  after-test {p} {q} {s} {a} {Q} h g =
-      record {
-        holds = λ c.
-            let t : Test p s a = h .tells (clear-first (exec ask b p s .made) (exec ask b q (exec ask b p s .state) .made) c) in
-            let d : None-exceeded (pushes (exec ask b q (t .to) .made)) =
-            subst (λ (o : Out). None-exceeded (pushes (exec ask b q (o .state) .made))) (t .is)
-            (clear-second (exec ask b p s .made) (exec ask b q (exec ask b p s .state) .made) c) in
-            subst (λ (o : Out). Q (add o (exec ask b q (o .state)))) (sym (t .is)) (g (t .to) (t .stands) (t .since-is) .holds d);
-      }
+  after-test {p} {q} {s} {a} {Q} t g =
+      let f : Out → Out = λ o. add o (exec ask b q (o .state)) in
+      record { holds = subst (λ (o : Out). None-exceeded (pushes (f o .made)) → Q (f o)) (sym (t .is)) (g (t .to) (t .stands) (t .since-is) .holds) }
 
   pub on-test : {c n y z : Prog} {s : State} {a : Ans} {Q : Out → Type 0} → Tests c s a → Onward s (λ to. Ends (pick a n y z) to Q) → Ends (case c n y z) s Q
   unfolding add replies _⧺_
-  on-test {c} {n} {y} {z} {s} {a} {Q} h g =
+  on-test {c} {n} {y} {z} {s} {a} {Q} t g =
       let f : Out → Out = λ o. add o (exec ask b (pick (o .ans) n y z) (o .state)) in
       record {
         holds =
-            subst (λ (x : Out). None-exceeded (pushes (x .made)) → Q x) (sym (exec-case c n y z s))
-            λ k.
-            let o : Out = exec ask b c s in
-            let t : Test c s a = h .tells (clear-first (o .made) (exec ask b (pick (o .ans) n y z) (o .state) .made) k) in
-            subst (λ (x : Out). Q (f x)) (sym (t .is))
-            (g (t .to) (t .stands) (t .since-is) .holds (subst (λ (x : Out). None-exceeded (pushes (f x .made))) (t .is) k));
+            subst (λ (x : Out). None-exceeded (pushes (x .made)) → Q x) (sym (exec-case c n y z s ∙ ap f (t .is)))
+            (g (t .to) (t .stands) (t .since-is) .holds);
       }
 
   pub test-case : {c n y z : Prog} {s : State} {a a′ : Ans} → Tests c s a → Onward s (λ to. Tests (pick a n y z) to a′) → Tests (case c n y z) s a′
   unfolding add replies _⧺_
-  test-case {c} {n} {y} {z} {s} {a} {a′} h g =
+  test-case {c} {n} {y} {z} {s} {a} {a′} t g =
       let f : Out → Out = λ o. add o (exec ask b (pick (o .ans) n y z) (o .state)) in
-      record {
-        tells = λ k.
-            let o : Out = exec ask b c s in
-            let e : exec ask b (case c n y z) s ≡ f o = exec-case c n y z s in
-            let k′ : None-exceeded (pushes (f o .made)) = subst (λ (x : Out). None-exceeded (pushes (x .made))) e k in
-            let t : Test c s a = h .tells (clear-first (o .made) (exec ask b (pick (o .ans) n y z) (o .state) .made) k′) in
-            let d : None-exceeded (pushes (f (replies a (t .to)) .made)) = subst (λ (x : Out). None-exceeded (pushes (f x .made))) (t .is) k′ in
-            let u : Test (pick a n y z) (t .to) a′ = g (t .to) (t .stands) (t .since-is) .tells d in
-            record { to = u .to; is = e ∙ ap f (t .is) ∙ u .is; stands = u .stands; since-is = u .since-is ∙ t .since-is };
-      }
+      let u : Tests (pick a n y z) (t .to) a′ = g (t .to) (t .stands) (t .since-is) in
+      record { to = u .to; is = exec-case c n y z s ∙ ap f (t .is) ∙ u .is; stands = u .stands; since-is = u .since-is ∙ t .since-is }
 
   pub test-tell : {a : Ans} {s : State} → Stands s → Tests (ret 0 a) s a
   unfolding exec replies
-  test-tell {a} {s} h = record { tells = λ c. record { to = s; is = refl; stands = h; since-is = refl } }
+  test-tell {a} {s} h = record { to = s; is = refl; stands = h; since-is = refl }
 
   pub test-silent : {ks : List ℕ} {s : State} (l : List Token) → Stands s → drop-trivia (s .since) ≡ l → Tests (act (silent-at ks)) s (truth (first-in ks l))
   unfolding exec perform peeked replies
   test-silent {ks} {s} l h e =
       record {
-        tells = λ c.
-            record {
-              to = peeked s;
-              is = ap (λ (r : List Token). replies (truth (first-in ks r)) (peeked s)) (ahead s h ∙ e);
-              stands = stands-peeked s h;
-              since-is = refl;
-            };
+        to = peeked s;
+        is = ap (λ (r : List Token). replies (truth (first-in ks r)) (peeked s)) (ahead s h ∙ e);
+        stands = stands-peeked s h;
+        since-is = refl;
       }
 
   -- a test that is known to come out so
@@ -191,27 +155,16 @@ module _ (ask : Rule → State → Out) (b : Label) where
 
   pub test-less : {m n : ℕ} {s : State} → Stands s → Tests (act (less m n)) s (truth (ltb m n))
   unfolding exec perform replies
-  test-less {s = s} h = record { tells = λ c. record { to = s; is = refl; stands = h; since-is = refl } }
+  test-less {s = s} h = record { to = s; is = refl; stands = h; since-is = refl }
 
   -- the token at the cursor
   pub test-immediate : {k : ℕ} {s : State} → Stands s → Tests (act (immediate k)) s (truth (first-in (k ∷ []) (s .rest)))
   unfolding exec perform replies
-  test-immediate {s = s} h = record { tells = λ c. record { to = s; is = refl; stands = h; since-is = refl } }
-
-  room-clear : (x : Bool) (m : ℕ) → None-exceeded (pushes (over-unless x m)) → over-unless x m ≡ done
-  unfolding over-unless pushes
-  room-clear true m c = refl
-  room-clear false m c = absurd c
-
-  pub expected-is : (k : ℕ) (s : State) → None-exceeded (pushes (exec ask b (act (add-expected k)) s .made))
-      → exec ask b (act (add-expected k)) s ≡ replies yes (expecting k s)
-  unfolding exec perform do-expected makes replies
-  expected-is k s c =
-      ap (λ (p : Skeleton). makes yes p (expecting k s)) (room-clear (ltb (length (s .pending)) MOST-PENDING) (mark-of s) c)
+  test-immediate {s = s} h = record { to = s; is = refl; stands = h; since-is = refl }
 
   pub test-expected : {k : ℕ} {s : State} → Stands s → Tests (act (add-expected k)) s yes
-  test-expected {k} {s} h =
-      record { tells = λ c. record { to = expecting k s; is = expected-is k s c; stands = record { passed = h .passed }; since-is = refl } }
+  unfolding exec perform do-expected
+  test-expected {k} {s} h = record { to = expecting s k; is = refl; stands = record { passed = h .passed }; since-is = refl }
 
   -- a loud test of a kind
   pub loud-is : {k : ℕ} {s : State} {ks : List ℕ} (l : List Token) (x : Bool) → Stands s → drop-trivia (s .since) ≡ l → first-in ks l ≡ x

@@ -3,16 +3,13 @@
 use Prim.Native.Nat.{ℕ, zero, suc, _≤_}
 use native.Mathlib.Nat.{le-trans, le-refl}
 use mathlib.Core.Path.{_≡_, sym, _∙_, ap, subst}
-use mathlib.Core.Bool.{Bool, true, false}
 use mathlib.Core.List.{List, _∷_, _++_}
-use lib.Dec.{ltb}
 use lib.ListN.{length, drop}
 use lib.Seq.{drop-append-seam}
-use Rattle.definitions.specs.Layout.{MOST-PENDING}
 use Rattle.definitions.specs.Token.{Token, drop-trivia, past}
 use Rattle.definitions.specs.Prog.{Prog}
 use Rattle.definitions.specs.Skeleton.{Label, Skeleton, done, token, name, _⧺_}
-use Rattle.definitions.specs.Run.{State, mark-of, over-unless, closed, exec, run}
+use Rattle.definitions.specs.Run.{State, mark-of, closed, exec, run}
 use Rattle.definitions.specs.Place.{after}
 use Rattle.laws.proofs.Trivia.{drop-twice, drop-trivia-length}
 use Rattle.laws.proofs.Skeleton.{after-join}
@@ -31,11 +28,6 @@ record Leaves (s : State) (p : Skeleton) (u : State) : Type 0 where
 still : (a : List Token) → Short a done (length a)
 unfolding after
 still a ts e l = l
-
-short-room : (b : Bool) (m : ℕ) (a : List Token) → Short a (over-unless b m) (length a)
-unfolding over-unless after
-short-room true m a ts e l = l
-short-room false m a ts e l = l
 
 short-token : (t : Token) (us a : List Token) → drop-trivia a ≡ t ∷ us → Short a (token t (length us) done) (length us)
 unfolding after
@@ -60,7 +52,7 @@ unfolding after
 leaves-kept =
     record {
       pass = λ s ts h p. record { takes = reads-kept .pass s ts h p; short = still (s .since) };
-      expect = λ s k h. record { takes = reads-kept .expect s k h; short = short-room (ltb (length (s .pending)) MOST-PENDING) (mark-of s) (s .since) };
+      expect = λ s k h. record { takes = reads-kept .expect s k h; short = still (s .since) };
       token = λ s t ts h e d. record { takes = reads-kept .token s t ts h e d; short = short-token t ts (s .since) (stands-first s t ts h e d) };
       name = λ s ks t raw ts h e d i. record { takes = reads-kept .name s ks t raw ts h e d i; short = short-name (t ∷ raw) ts (s .since) (stands-first s t (raw ++ ts) h e d) };
       report = λ s m k l h d. record { takes = reads-kept .report s m k l h d; short = λ ts e x. x };

@@ -7,13 +7,12 @@ use mathlib.Core.List.{List, [], _∷_}
 use lib.Dec.{ltb, eqb}
 use lib.ListN.{length}
 use borrow.Author.Tests.{eqb-true}
-use Rattle.definitions.specs.Layout.{MOST-PENDING}
 use Rattle.definitions.specs.TokenKind as K
 use Rattle.definitions.specs.Errors as E
 use Rattle.definitions.specs.Token.{Token, seen, trivia, drop-trivia, past, ended, one-of, first-in}
 use Rattle.definitions.specs.Prog.{Ans, no, yes, also, again, Act, silent-at, at-end, immediate, immediate-next, add-expected, bump, bump-name, bump-argument, emit, emit-unclosed, less}
 use Rattle.definitions.specs.Skeleton.{Label, no-label, Skeleton, done, token}
-use Rattle.definitions.specs.Run.{State, Out, mark-of, peeked, truth, replies, makes, taken, do-bump, do-name, add, at-depth, do-argument, do-emit, over-unless, do-expected, perform}
+use Rattle.definitions.specs.Run.{State, Out, peeked, truth, replies, makes, taken, do-bump, do-name, add, at-depth, do-argument, do-emit, do-expected, perform}
 use Rattle.definitions.specs.Place.{Tree, nil, leaf, _⊕_, lead, front, after, place}
 use Rattle.definitions.specs.Report.{pushes, reports}
 use Rattle.basics.proofs.Tests.{and-left, and-right, cond-all}
@@ -149,11 +148,6 @@ module _ (h : Bool) (s : State) (ts : List Token) (A : At s ts) (x : Head h s) w
         part = before-quiet ts _ tt;
       }
 
-room-placed : (b : Bool) (m : ℕ) (ts : List Token) → place (over-unless b m) ts ≡ nil
-unfolding over-unless place
-room-placed true m ts = refl
-room-placed false m ts = refl
-
 -- no action shapes a marker
 argument-shape : (n : ℕ) (s : State) (ts : List Token) → do-argument n s ts .shape ≡ 0
 unfolding do-argument replies makes add at-depth
@@ -210,7 +204,7 @@ module _ (P : Post) (h : Bool) (s : State) (ts : List Token) (A : At s ts) (x : 
       (λ z. looks _ s (peeked s) ts done refl (λ y. ended-none (drop-trivia (peeked s .rest)) (unfold peeked in ap ended (drop-twice (s .rest)) ∙ z) y))
   act-ends b (immediate k) e = asked-still (first-in (k ∷ []) (s .rest)) e
   act-ends b (immediate-next k) e = asked-still (first-in (k ∷ []) (past (s .rest))) e
-  act-ends b (add-expected k) e = record { known = know h low low; post = e; holds = looks h s _ ts _ (room-placed (ltb (length (s .pending)) MOST-PENDING) (mark-of s) ts) x }
+  act-ends b (add-expected k) e = record { known = know h low low; post = e; holds = looks h s _ ts done refl x }
   act-ends b bump e = record { known = know true (ends h) low; post = bump-yes P _ (peeked s) (peeked s .rest) e; holds = bump-holds h s ts A x (peeked s .rest) (unfold peeked in refl) (peeked s) }
   act-ends b (bump-name ks) e = record { known = know true low low; post = name-yes P _ ks (peeked s) (peeked s .rest) e; holds = name-holds h s ts A x ks (peeked s .rest) (peeked s) }
   act-ends b bump-argument e =

@@ -3,17 +3,16 @@ use Prim.Native.Nat.{ℕ, zero, suc, _+_, _-_, _≤_, zero-le}
 use native.Mathlib.Nat.{le-trans, le-refl}
 use native.Mathlib.Omega.{arith}
 use mathlib.Core.Path.{_≡_, refl, ap, sym, subst}
-use mathlib.Core.Bool.{Bool, true, false}
 use mathlib.Core.List.{List, [], _∷_}
-use lib.Dec.{ltb, eqb}
+use lib.Dec.{eqb}
 use lib.ListN.{length}
-use Rattle.definitions.specs.Layout.{MOST-OPEN-CALLS, MOST-PENDING}
+use Rattle.definitions.specs.Layout.{MOST-OPEN-CALLS}
 use Rattle.definitions.specs.TokenKind as K
 use Rattle.definitions.specs.Token.{Token, trivia, byte-count}
 use Rattle.definitions.specs.Prog.{Ans, yes, Rule, Act, silent-at, at-end, immediate, immediate-next, add-expected, bump, bump-name, bump-argument, emit, emit-unclosed, less, Prog, ret, act, _⨟_, case, in-marker, loop, chain, brace, open-call}
 use Rattle.definitions.specs.Grammar.{grammar, Entry, whole}
 use Rattle.definitions.specs.Skeleton.{Span, Label, no-label, label, Report, Skeleton, done, token, name, report, over, _⧺_}
-use Rattle.definitions.specs.Run.{State, Out, mark-of, peeked, replies, makes, taken, do-bump, do-name, add, at-depth, do-argument, only-separators, error-range, do-emit, over-unless, do-expected, perform, closed, marked, unlinked, here, exec, run}
+use Rattle.definitions.specs.Run.{State, Out, mark-of, peeked, replies, makes, taken, do-bump, do-name, add, at-depth, do-argument, only-separators, error-range, do-emit, do-expected, perform, closed, marked, unlinked, here, exec, run}
 use Rattle.definitions.specs.Report.{pushes, reports}
 use Rattle.definitions.specs.Call.{run-entry}
 use Rattle.basics.proofs.Tests.{cond-all}
@@ -22,11 +21,6 @@ use Rattle.laws.proofs.Engine.{Composes, choose-all, iter-all, chained-all}
 use Rattle.laws.proofs.Kept.{Stands, stands-taken, Kept, run-kept, exec-kept}
 use Rattle.laws.proofs.Marks.{entry-marks}
 use Rattle.recovery.proofs.Told.{All, all-append, told, told-all, told-closed, all-map, falls-below}
-
-room-told : (b : Bool) (m : ℕ) → told (over-unless b m) ≡ []
-unfolding over-unless pushes reports
-room-told true m = refl
-room-told false m = refl
 
 -- ---------------------------------------------------------------- ranges
 
@@ -55,7 +49,7 @@ ranges-kept b =
     let P : Report → Type 0 = λ r. Range-in b (r .range) in
     record {
       pass = λ s ts h p. record { less = le-refl _; ranges = λ _. tt };
-      expect = λ s k h. record { less = le-refl _; ranges = λ _. subst (All P) (sym (room-told (ltb (length (s .pending)) MOST-PENDING) (mark-of s))) tt };
+      expect = λ s k h. record { less = le-refl _; ranges = λ _. tt };
       token = λ s t ts h e d. let w : byte-count (s .rest) ≤ byte-count (s .since) = stands-bytes s h in record { less = omega (arith, ap byte-count e); ranges = λ _. tt };
       name = λ s ks t raw ts h e d i. let w : byte-count (s .rest) ≤ byte-count (s .since) = stands-bytes s h in record { less = omega (arith, simp bytes-append at (ap byte-count e)); ranges = λ _. tt };
       report = λ s m k l h d. record { less = le-refl _; ranges = λ g. (range-in b s (s .rest) g (le-trans (stands-bytes s h) g), tt) };
@@ -159,7 +153,7 @@ module _ (b : ℕ) where
   act-labels l w at-end s = tt
   act-labels l w (immediate k) s = tt
   act-labels l w (immediate-next k) s = tt
-  act-labels l w (add-expected k) s = subst (All P) (sym (room-told (ltb (length (s .pending)) MOST-PENDING) (mark-of s))) tt
+  act-labels l w (add-expected k) s = tt
   act-labels l w bump s = subst (All P) (sym (bump-told (peeked s) (peeked s .rest))) tt
   act-labels l w (bump-name ks) s = subst (All P) (sym (name-told ks (peeked s) (peeked s .rest))) tt
   act-labels l w bump-argument s = subst (All P) (sym (argument-told 0 s (s .rest))) tt

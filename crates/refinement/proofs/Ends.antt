@@ -19,7 +19,7 @@ use Rattle.definitions.specs.RowCauses.{check-input}
 use Rattle.definitions.specs.Grammar.{Entry, root-kind}
 use Rattle.definitions.specs.Call.{Buffers, refusal, cleared, Sheets, sheets, kept, delivered, forward-mark, unless-refused, outcome, room-of, run-entry, names-of, parse}
 use Rattle.laws.proofs.Input.{Checked, checked-input}
-use Rattle.laws.proofs.Scan.{fits-clear, fits-left}
+use Rattle.laws.proofs.Scan.{fits-left}
 use Rattle.laws.proofs.Decode.{rows-length}
 use Rattle.laws.proofs.LexicalErrors.{errors-length}
 use Rattle.bounds.proofs.Numbers.{bounded}
@@ -201,7 +201,7 @@ module _ (setting : ℕ) (e : Entry) (bytes tokens : List ℕ) (b : Buffers) (m 
   pool-low g =
       let c : Checked bytes tokens = checked-input bytes tokens ok in
       let k : m .pool .count ≡ expectations = g .whole .pool-holds .count in
-      let n : expectations ≤ _ = bounded e ts .pool-so-far (pushes o) [] (sym (append-nil (pushes o))) (fits-clear (pushes o) (room-of b) (g .left) (g .fitted)) in
+      let n : expectations ≤ _ = bounded e ts .pool-so-far (pushes o) [] (sym (append-nil (pushes o))) in
       ap low k ∙ mod-eq-of-lt (omega (arith, c .pairs, c .numbers-limit))
 
   module _ (g : Went) (s : Sunk) (w : Names) (trees errors reports′ : List ℕ) (after : After-run setting e bytes tokens b m s w trees errors reports′) where

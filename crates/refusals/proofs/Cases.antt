@@ -12,7 +12,7 @@ use Rattle.definitions.specs.Token.{tokens-of, byte-count}
 use Rattle.definitions.specs.Grammar.{SourceFile, Cells}
 use Rattle.definitions.specs.Call.{Buffers, Answer, call}
 use Rattle.basics.proofs.Tests.{and-left, and-right}
-use Rattle.refusals.specs.Trace.{call-opened, expectation-pushed, event-pushed, report-written, trace}
+use Rattle.refusals.specs.Trace.{call-opened, event-pushed, report-written, trace}
 use Rattle.refusals.specs.Refusals.{Good-row, happens, Cause, over-size, short-total}
 use Rattle.refusals.proofs.Firsts.{each-nil}
 use Rattle.refusals.proofs.Refusals.{refusals}
@@ -44,13 +44,17 @@ in-setting s e bytes tokens b n p = record { entry = e; setting = s; bytes = byt
 abbrev on : ℕ → List ℕ → List ℕ → Buffers → ℕ → ℕ → Case
 on = in-setting 0
 
--- #if fifty times, and then: conditionals, each inside the one before. Where they end each pushes expectations, and
+-- #if so many times, and then: conditionals, each inside the one before. Where they end each pushes expectations, and
 -- nothing is taken
-abbrev directives : List ℕ → List ℕ
-directives = times 50 (35 ∷ 105 ∷ 102 ∷ [])
+abbrev directives : ℕ → List ℕ → List ℕ
+directives n = times n (35 ∷ 105 ∷ 102 ∷ [])
 
-abbrev directive-rows : List ℕ → List ℕ
-directive-rows = times 50 (4 ∷ 3 ∷ [])
+abbrev directive-rows : ℕ → List ℕ → List ℕ
+directive-rows n = times n (4 ∷ 3 ∷ [])
+
+-- and then `;`
+abbrev only-directives : ℕ → ℕ → ℕ → Case
+only-directives n = on 4 (directives n (59 ∷ [])) (directive-rows n (29 ∷ 1 ∷ [])) enough
 
 -- 1 in so many brackets
 abbrev brackets : ℕ → List ℕ
@@ -110,9 +114,13 @@ unlabelled =
     ∷ on 1 (97 ∷ 98 ∷ []) (29 ∷ 1 ∷ []) enough 13 1
     -- 4: a row of kind Semicolon whose byte is not `;`
     ∷ on 1 (97 ∷ 98 ∷ []) (27 ∷ 1 ∷ 29 ∷ 1 ∷ []) enough 4 1
-    -- 5: 256 and 257 pending; 64 and 65 open calls
-    ∷ on 4 (directives (97 ∷ 59 ∷ [])) (directive-rows (27 ∷ 1 ∷ 29 ∷ 1 ∷ [])) enough 0 0
-    ∷ on 4 (directives (40 ∷ 49 ∷ 59 ∷ [])) (directive-rows (41 ∷ 1 ∷ 35 ∷ 1 ∷ 29 ∷ 1 ∷ [])) enough 5 52
+    -- 5: 64 and 65 open calls, of brackets and of directives; and fewer, however often something is expected
+    ∷ only-directives 51 0 0
+    ∷ only-directives 63 0 0
+    ∷ only-directives 64 5 64
+    ∷ on 4 (directives 50 (40 ∷ 49 ∷ 59 ∷ [])) (directive-rows 50 (41 ∷ 1 ∷ 35 ∷ 1 ∷ 29 ∷ 1 ∷ [])) enough 0 0
+    ∷ on 4 (directives 63 (97 ∷ 59 ∷ [])) (directive-rows 63 (27 ∷ 1 ∷ 29 ∷ 1 ∷ [])) enough 0 0
+    ∷ on 4 (directives 64 (97 ∷ 59 ∷ [])) (directive-rows 64 (27 ∷ 1 ∷ 29 ∷ 1 ∷ [])) enough 5 64
     ∷ on 4 (brackets 63) (bracket-rows 63) enough 0 0
     ∷ on 4 (brackets 64) (bracket-rows 64) enough 5 64
     -- 6 to 8: `a;` and an error token, with just enough room, and with one number fewer of each
@@ -122,6 +130,11 @@ unlabelled =
     ∷ with-error (room 36 24 3 9 10) 7 2
     ∷ with-error (room 36 23 3 9 11) 8 0
     ∷ with-error (room 36 24 2 9 11) 8 0
+    -- 7, by different expectations: `#else` is reported with one; cells, `;`, are reported twice, with four each time
+    ∷ on 1 (35 ∷ 101 ∷ 108 ∷ 115 ∷ 101 ∷ []) (10 ∷ 5 ∷ []) (room 99 99 0 18 1) 0 0
+    ∷ on 1 (35 ∷ 101 ∷ 108 ∷ 115 ∷ 101 ∷ []) (10 ∷ 5 ∷ []) (room 99 99 0 18 0) 7 1
+    ∷ on 4 (59 ∷ []) (29 ∷ 1 ∷ []) (room 99 99 0 18 8) 0 0
+    ∷ on 4 (59 ∷ []) (29 ∷ 1 ∷ []) (room 99 99 0 18 7) 7 0
     -- of two that do not fit, the one that is met first: the ninth event is the report's, before its row; 8 comes last
     ∷ with-error (room 26 24 3 0 0) 6 2
     ∷ with-error (room 27 24 3 0 0) 7 2
@@ -217,6 +230,12 @@ all-only (c ∷ l) h = (only c (and-left (right c) _ h), all-only l (and-right (
 pub cases-hold : All-only cases
 cases-hold = all-only cases computed
 
+-- 5 is said of open calls alone: of 51 directives at no place
+pub not-five : (place : ℕ) → ¬ Cause 4 0 (directives 51 (59 ∷ [])) (directive-rows 51 (29 ∷ 1 ∷ [])) enough 5 place
+unfolding call
+not-five place c =
+    let e : _≡_ {A = ℕ} 0 5 = refusals 4 0 (directives 51 (59 ∷ [])) (directive-rows 51 (29 ∷ 1 ∷ [])) enough 5 place .1 c .0 in omega (arith, e)
+
 -- both sides of the limit on bytes, which are too many to compute with: one too many; and none too many, where no row
 -- covers them
 pub bytes-over : (setting : ℕ) (bytes : List ℕ) (b : Buffers) → length bytes ≡ 1048577 → call 1 setting bytes [] b .answer .number ≡ 2
@@ -229,12 +248,11 @@ bytes-kept setting bytes b h =
 
 -- ---------------------------------------------------------------- what happens in a run, written out
 
--- cells, `;`: the call of `eat_cell` leaves four expectations and reports; the end of input is expected, and what is
--- left over is reported
+-- cells, `;`: a report with four expectations, the end of input among them; the end of input is expected once more,
+-- and what is left over is reported with the same four
 pub semicolon-in-cells :
     happens Cells (29 ∷ 1 ∷ [])
-    ≡ call-opened 1 1 ∷ expectation-pushed 1 1 ∷ expectation-pushed 2 1 ∷ expectation-pushed 3 1 ∷ expectation-pushed 4 1 ∷ event-pushed 1 ∷ report-written 4 1
-    ∷ expectation-pushed 5 1 ∷ event-pushed 1 ∷ event-pushed 1 ∷ report-written 5 1 ∷ event-pushed 0 ∷ event-pushed 0 ∷ []
+    ≡ call-opened 1 1 ∷ event-pushed 1 ∷ report-written 4 1 ∷ event-pushed 1 ∷ event-pushed 1 ∷ report-written 4 1 ∷ event-pushed 0 ∷ event-pushed 0 ∷ []
 unfolding trace tokens-of
 semicolon-in-cells = refl
 

@@ -18,10 +18,10 @@ use Rattle.definitions.specs.Strict.{names-fit}
 use Rattle.definitions.specs.Call.{Buffers, Result, untouched, cleared, kept, delivered, forward-mark, unless-refused, outcome, room-of, run-entry, parse, Asked, entry-of, checked, asked, call}
 use Rattle.basics.proofs.TokenRows.{tokens-length}
 use Rattle.refusals.specs.First.{Each, First}
-use Rattle.refusals.specs.Trace.{Happening, call-opened, expectation-pushed, event-pushed, report-written}
-use Rattle.refusals.specs.Refusals.{Passes-1, Sizes, Passes-2, Whole-rows, Passes-3, Good-row, Passes-13, Passes-4, Unrefused, happens, from-start, named, to-write, Tree-fits, First-met, Passes-7, Cause, unknown-entry, over-size, odd-count, bad-kind, zero-length, past-input, short-total, wrong-text, call-too-many, expectation-too-many, no-event-room, no-report-room, no-name-room, no-tree-room, none}
+use Rattle.refusals.specs.Trace.{Happening, call-opened, event-pushed, report-written}
+use Rattle.refusals.specs.Refusals.{Passes-1, Sizes, Passes-2, Whole-rows, Passes-3, Good-row, Passes-13, Passes-4, Unrefused, happens, from-start, named, to-write, Tree-fits, First-met, Passes-7, Cause, unknown-entry, over-size, odd-count, bad-kind, zero-length, past-input, short-total, wrong-text, call-too-many, no-event-room, no-report-room, no-name-room, no-tree-room, none}
 use Rattle.refusals.specs.Answered.{Before-the-parse, In-the-parse, Returns}
-use Rattle.refusals.proofs.Climbs.{the-65th, the-257th}
+use Rattle.refusals.proofs.Climbs.{the-65th}
 use Rattle.refusals.proofs.Judged.{refusal-for, Ends, all-fits, first-stops, run-ends}
 use Rattle.refusals.proofs.Named.{Names, all-reported, first-left, judged-names}
 use Rattle.refusals.proofs.Ends.{left-as-it-was, left-zero, left-written}
@@ -49,8 +49,6 @@ module _ (n setting : ℕ) (bytes tokens : List ℕ) (b : Buffers) where
   unfolding forward-mark number-of place-of
   first-found e p before (call-opened c m) f = zero-found (too-deep (from-start tokens m)) (omega arith, omega arith)
       (call-too-many e p before m (subst (λ (k : ℕ). First-met e tokens b before (call-opened k m)) (the-65th b e tokens before c m f) f))
-  first-found e p before (expectation-pushed c m) f = zero-found (too-deep (from-start tokens m)) (omega arith, omega arith)
-      (expectation-too-many e p before m (subst (λ (k : ℕ). First-met e tokens b before (expectation-pushed k m)) (the-257th b e tokens before c m f) f))
   first-found e p before (event-pushed m) f = zero-found (R.no-event-room (from-start tokens m)) (omega arith, omega arith) (no-event-room e p before m f)
   first-found e p before (report-written c m) f = zero-found (R.no-report-room (from-start tokens m)) (omega arith, omega arith) (no-report-room e p before c m f)
 

@@ -16,8 +16,8 @@ use Rattle.definitions.specs.Report.{Push, event, reported, exceeded, pushes, R
 use Rattle.definitions.specs.Refusal.{Refusal, too-deep, no-event-room, no-report-room}
 use Rattle.definitions.specs.Call.{Buffers, room-of, run-entry}
 use Rattle.refusals.specs.First.{Each, First}
-use Rattle.refusals.specs.Trace.{Happening, call-opened, expectation-pushed, event-pushed, report-written}
-use Rattle.refusals.specs.Refusals.{MAX-OPEN, MAX-PENDING, events-in, reports-in, expectations-in, Unrefused, happens}
+use Rattle.refusals.specs.Trace.{Happening, call-opened, event-pushed, report-written}
+use Rattle.refusals.specs.Refusals.{MAX-OPEN, events-in, reports-in, expectations-in, Unrefused, happens}
 use Rattle.refusals.proofs.Firsts.{Each-after, First-after, each-nil, each-cons, first-here, first-later, from-nothing}
 use Rattle.refusals.proofs.Steps.{Step, an-event, a-row, too-many, if-broken, told, flat}
 use Rattle.refusals.proofs.Told.{entry-tells}
@@ -46,7 +46,6 @@ events-more : (l : List Happening) (x : Happening) → events-in (l ++ (x ∷ []
 unfolding events-in
 events-more [] x = sym (zero-add (events-in (x ∷ [])))
 events-more (call-opened c m ∷ l) x = events-more l x
-events-more (expectation-pushed c m ∷ l) x = events-more l x
 events-more (event-pushed m ∷ l) x = let h : events-in (l ++ (x ∷ [])) ≡ events-in l + events-in (x ∷ []) = events-more l x in omega arith
 events-more (report-written c m ∷ l) x = events-more l x
 
@@ -54,7 +53,6 @@ reports-more : (l : List Happening) (x : Happening) → reports-in (l ++ (x ∷ 
 unfolding reports-in
 reports-more [] x = sym (zero-add (reports-in (x ∷ [])))
 reports-more (call-opened c m ∷ l) x = reports-more l x
-reports-more (expectation-pushed c m ∷ l) x = reports-more l x
 reports-more (event-pushed m ∷ l) x = reports-more l x
 reports-more (report-written c m ∷ l) x = let h : reports-in (l ++ (x ∷ [])) ≡ reports-in l + reports-in (x ∷ []) = reports-more l x in omega arith
 
@@ -62,7 +60,6 @@ expectations-more : (l : List Happening) (x : Happening) → expectations-in (l 
 unfolding expectations-in
 expectations-more [] x = sym (zero-add (expectations-in (x ∷ [])))
 expectations-more (call-opened c m ∷ l) x = expectations-more l x
-expectations-more (expectation-pushed c m ∷ l) x = expectations-more l x
 expectations-more (event-pushed m ∷ l) x = expectations-more l x
 expectations-more (report-written c m ∷ l) x = let h : expectations-in (l ++ (x ∷ [])) ≡ expectations-in l + expectations-in (x ∷ []) = expectations-more l x in omega arith
 
@@ -78,7 +75,6 @@ record Left (b : Buffers) (pre : List Happening) (z : Room) : Type 0 where
 -- the refusal for what is not allowed
 abbrev pub refusal-for : Happening → Refusal
 refusal-for (call-opened c m) = too-deep m
-refusal-for (expectation-pushed c m) = too-deep m
 refusal-for (event-pushed m) = no-event-room m
 refusal-for (report-written c m) = no-report-room m
 
@@ -108,12 +104,12 @@ left-more b pre x z y w e r p i =
       within = omega (arith, i, expectations-more pre x);
     }
 
--- a limit, broken or not
-limit-walk : (b : Buffers) (pre l : List Happening) (x : Happening) (m : ℕ) (t : Bool) (z : Room) → refusal-for x ≡ too-deep m → (t ≡ true → Unrefused b pre x) → (t ≡ false → ¬ Unrefused b pre x)
-    → Judged b (pre ++ (x ∷ [])) l (judge (told l) z) → Judged b pre (x ∷ l) (judge (if-broken t m ++ told l) z)
+-- a call, allowed or not
+call-walk : (b : Buffers) (pre l : List Happening) (c m : ℕ) (t : Bool) (z : Room) → leb c MAX-OPEN ≡ t
+    → Judged b (pre ++ (call-opened c m ∷ [])) l (judge (told l) z) → Judged b pre (call-opened c m ∷ l) (judge (if-broken t m ++ told l) z)
 unfolding judge
-limit-walk b pre l x m true z e h g j = later b pre l x (judge (told l) z) (h refl) j
-limit-walk b pre l x m false z e h g j = subst (λ (r : Refusal). Judged b pre (x ∷ l) (stops r)) e (here b pre l x (g refl))
+call-walk b pre l c m true z e j = later b pre l (call-opened c m) (judge (told l) z) (leb-true c MAX-OPEN e) j
+call-walk b pre l c m false z e j = let h : MAX-OPEN < c = leb-false c MAX-OPEN e in here b pre l (call-opened c m) (λ (a : c ≤ MAX-OPEN). omega (arith, a, h))
 
 event-walk : (b : Buffers) (pre l : List Happening) (m e : ℕ) (z : Room) → Left b pre z → z .events ≡ e
     → ((y : Room) → Left b (pre ++ (event-pushed m ∷ [])) y → Judged b (pre ++ (event-pushed m ∷ [])) l (judge (told l) y))
@@ -150,11 +146,8 @@ walk : (b : Buffers) (pre l : List Happening) (z : Room) → Left b pre z → Ju
 unfolding judge told events-in reports-in expectations-in
 walk b pre [] z w = all z (subst (λ (l : List Happening). Rows-left b l z) (sym (append-nil pre)) (w .reports)) (each-nil (Unrefused b) pre)
 walk b pre (call-opened c m ∷ l) z w =
-    limit-walk b pre l (call-opened c m) m (leb c MAX-OPEN) z refl (leb-true c MAX-OPEN) (λ e (a : c ≤ MAX-OPEN). let h : MAX-OPEN < c = leb-false c MAX-OPEN e in omega (arith, a, h))
+    call-walk b pre l c m (leb c MAX-OPEN) z refl
     (walk b (pre ++ (call-opened c m ∷ [])) l z (left-more b pre (call-opened c m) z z w (omega arith) (omega arith) (omega arith) (omega (arith, w .within))))
-walk b pre (expectation-pushed c m ∷ l) z w =
-    limit-walk b pre l (expectation-pushed c m) m (leb c MAX-PENDING) z refl (leb-true c MAX-PENDING) (λ e (a : c ≤ MAX-PENDING). let h : MAX-PENDING < c = leb-false c MAX-PENDING e in omega (arith, a, h))
-    (walk b (pre ++ (expectation-pushed c m ∷ [])) l z (left-more b pre (expectation-pushed c m) z z w (omega arith) (omega arith) (omega arith) (omega (arith, w .within))))
 walk b pre (event-pushed m ∷ l) z w = event-walk b pre l m (z .events) z w refl (walk b (pre ++ (event-pushed m ∷ [])) l)
 walk b pre (report-written c m ∷ l) z w = report-walk b pre l c m (z .reports) z w refl (walk b (pre ++ (report-written c m ∷ [])) l)
 

@@ -11,7 +11,7 @@ use Rattle.definitions.specs.Refusal.{Verdict, accepted, check-sizes}
 use Rattle.definitions.specs.RowCauses.{check-count, check-rows, check-input}
 use Rattle.definitions.specs.Call.{Buffers, call}
 use Rattle.refusals.specs.First.{Each}
-use Rattle.refusals.specs.Refusals.{Passes-1, Sizes, Whole-rows, Good-row, Covers, Right-text, Cause, unknown-entry, over-size, odd-count, bad-kind, zero-length, past-input, short-total, wrong-text, call-too-many, expectation-too-many, no-event-room, no-report-room, no-name-room, no-tree-room, none}
+use Rattle.refusals.specs.Refusals.{Passes-1, Sizes, Whole-rows, Good-row, Covers, Right-text, Cause, unknown-entry, over-size, odd-count, bad-kind, zero-length, past-input, short-total, wrong-text, call-too-many, no-event-room, no-report-room, no-name-room, no-tree-room, none}
 use Rattle.refusals.specs.Answered.{In-the-parse}
 use Rattle.refusals.proofs.Firsts.{first-each}
 use Rattle.refusals.proofs.Rows.{Rows, good-rows, bad-one, too-short, judged-rows}
@@ -66,7 +66,6 @@ module _ (n setting : ℕ) (bytes tokens : List ℕ) (b : Buffers) where
   by-cause e h s k p (short-total f q g x) = absurd (omega (arith, x, s .covers))
   by-cause e h s k p (wrong-text f q before t x) = absurd (first-each (Right-text bytes) (tokens-of tokens) before t x (s .texts))
   by-cause e h s k p (call-too-many f q before m x) = inr (omega arith, omega arith)
-  by-cause e h s k p (expectation-too-many f q before m x) = inr (omega arith, omega arith)
   by-cause e h s k p (no-event-room f q before m x) = inr (omega arith, omega arith)
   by-cause e h s k p (no-report-room f q before c m x) = inr (omega arith, omega arith)
   by-cause e h s k p (no-name-room f q g before y x) = inr (omega arith, omega arith)

@@ -4,8 +4,7 @@
 -- 2. The run. Steps: what is pushed (definitions) and what happens (specs/Trace.antt) are both brought to one list of
 --    steps. Told: the two lists are equal, by one induction over programs. Judged: so what `scan` finds is the first of
 --    what happens that is not allowed. Named: after the run, what `names-fit` finds is the first Name whose report does
---    not fit. Climbs: open calls and pending expectations grow one by one, so that the first too many is the 65th or
---    the 257th.
+--    not fit. Climbs: open calls grow one by one, so that the first too many is the 65th.
 -- 3. The input. Tests: a test of the definitions decides a type of the statement. Rows and Texts: what causes 2, 3,
 --    11 to 13 and 4 find. Entries: 1.
 -- 4. The call. Ends: what each end of a call leaves in the buffers. Found: every way that a call goes, once, has its

@@ -15,8 +15,8 @@ use Rattle.definitions.specs.Refusal as R
 use Rattle.definitions.specs.Call.{Buffers, Result, untouched, cleared, kept, delivered, forward-mark, unless-refused, outcome, room-of, run-entry, parse, Asked, checked, asked, call}
 use Rattle.basics.proofs.TokenRows.{tokens-length}
 use Rattle.refusals.specs.First.{Each, First}
-use Rattle.refusals.specs.Trace.{Happening, call-opened, expectation-pushed, event-pushed, report-written}
-use Rattle.refusals.specs.Refusals.{MAX-OPEN, MAX-PENDING, Passes-1, Sizes, Passes-2, Whole-rows, Passes-3, Good-row, Covers, Passes-13, Right-text, Passes-4, Unrefused, happens, named, to-write, Passes-7, Cause, unknown-entry, over-size, odd-count, bad-kind, zero-length, past-input, short-total, wrong-text, call-too-many, expectation-too-many, no-event-room, no-report-room, no-name-room, no-tree-room, none, Refusals}
+use Rattle.refusals.specs.Trace.{Happening, call-opened, event-pushed, report-written}
+use Rattle.refusals.specs.Refusals.{MAX-OPEN, Passes-1, Sizes, Passes-2, Whole-rows, Passes-3, Good-row, Covers, Passes-13, Right-text, Passes-4, Unrefused, happens, named, to-write, Passes-7, Cause, unknown-entry, over-size, odd-count, bad-kind, zero-length, past-input, short-total, wrong-text, call-too-many, no-event-room, no-report-room, no-name-room, no-tree-room, none, Refusals}
 use Rattle.refusals.specs.Answered.{Answered}
 use Rattle.refusals.proofs.Firsts.{only-first, first-each}
 use Rattle.refusals.proofs.Named.{Names, judged-names, names-pass, names-fail}
@@ -158,7 +158,6 @@ module _ (n setting : ℕ) (bytes tokens : List ℕ) (b : Buffers) where
   returns k p (short-total e q h c) = input-13 e q (R.short-total (length (tokens-of tokens))) (rows-short bytes tokens h c)
   returns k p (wrong-text e q before t f) = refuses e (q .0 .0 .0) (bad-text (length before)) (input-4 e q (refused (bad-text (length before))) (texts-fail bytes tokens before t f))
   returns k p (call-too-many e q before m f) = stops-at e q before (call-opened (suc MAX-OPEN) m) f
-  returns k p (expectation-too-many e q before m f) = stops-at e q before (expectation-pushed (suc MAX-PENDING) m) f
   returns k p (no-event-room e q before m f) = stops-at e q before (event-pushed m) f
   returns k p (no-report-room e q before c m f) = stops-at e q before (report-written c m) f
   returns k p (no-name-room e q h before x f) =

@@ -1,29 +1,28 @@
--- What a run makes and what happens in it, both brought to steps, in which a call or an expectation that breaks its
--- limit stands as the definitions mark it, and one that breaks none does not stand at all. For each action the two are
--- the same.
+-- What a run makes and what happens in it, both brought to steps, in which a call that is one too many stands as the
+-- definitions mark it, and no other call stands at all. For each action the two are the same.
 use Prim.Native.Nat.{ℕ, zero, suc}
 use mathlib.Core.Path.{_≡_, refl, sym, ap, _∙_}
 use mathlib.Core.Bool.{Bool, true, false}
 use mathlib.Core.List.{List, [], _∷_, _++_, append-assoc}
-use lib.Dec.{leb, ltb, eqb}
+use lib.Dec.{leb, eqb}
 use lib.ListN.{length}
 use Rattle.definitions.specs.TokenKind as K
 use Rattle.definitions.specs.Token.{Token, trivia}
 use Rattle.definitions.specs.Prog.{Act, silent-at, at-end, immediate, immediate-next, add-expected, bump, bump-name, bump-argument, emit, emit-unclosed, less}
 use Rattle.definitions.specs.Skeleton.{Label, Skeleton, done, token, name, node, ignored, report, over, _⧺_}
-use Rattle.definitions.specs.Run.{State, Out, mark-of, peeked, replies, makes, taken, do-bump, do-name, add, at-depth, do-argument, do-emit, over-unless, do-expected, perform, closed}
+use Rattle.definitions.specs.Run.{State, Out, peeked, replies, makes, taken, do-bump, do-name, add, at-depth, do-argument, do-emit, do-expected, perform, closed}
 use Rattle.definitions.specs.Report.{Push, event, reported, exceeded, pushes}
 use Rattle.laws.proofs.Skeleton.{pushes-join, pushes-closed}
 use Rattle.basics.proofs.Tests.{cond-all}
-use Rattle.refusals.specs.Trace.{Happening, call-opened, expectation-pushed, event-pushed, report-written, made-by, act-trace}
-use Rattle.refusals.specs.Refusals.{MAX-OPEN, MAX-PENDING}
+use Rattle.refusals.specs.Trace.{Happening, call-opened, event-pushed, report-written, made-by, act-trace}
+use Rattle.refusals.specs.Refusals.{MAX-OPEN}
 
 pub data Step : Type 0 where
   an-event : ℕ → Step
   a-row : ℕ → ℕ → Step
   too-many : ℕ → Step
 
--- a limit that is not broken leaves nothing
+-- a call that is allowed leaves nothing
 abbrev pub if-broken : Bool → ℕ → List Step
 if-broken true m = []
 if-broken false m = too-many m ∷ []
@@ -32,7 +31,6 @@ if-broken false m = too-many m ∷ []
 unfoldable pub told : List Happening → List Step
 told [] = []
 told (call-opened c m ∷ l) = if-broken (leb c MAX-OPEN) m ++ told l
-told (expectation-pushed c m ∷ l) = if-broken (leb c MAX-PENDING) m ++ told l
 told (event-pushed m ∷ l) = an-event m ∷ told l
 told (report-written c m ∷ l) = a-row c m ∷ told l
 
@@ -47,7 +45,6 @@ pub told-append : (l m : List Happening) → told (l ++ m) ≡ told l ++ told m
 unfolding told
 told-append [] m = refl
 told-append (call-opened c x ∷ l) m = ap (if-broken (leb c MAX-OPEN) x ++_) (told-append l m) ∙ sym (append-assoc (if-broken (leb c MAX-OPEN) x) (told l) (told m))
-told-append (expectation-pushed c x ∷ l) m = ap (if-broken (leb c MAX-PENDING) x ++_) (told-append l m) ∙ sym (append-assoc (if-broken (leb c MAX-PENDING) x) (told l) (told m))
 told-append (event-pushed x ∷ l) m = ap (an-event x ∷_) (told-append l m)
 told-append (report-written c x ∷ l) m = ap (a-row c x ∷_) (told-append l m)
 
@@ -119,18 +116,13 @@ argument-plain n s (t ∷ ts) =
     (cond-all Plain-out (eqb (t .kind) K.RParen) (depth-plain n _ _ tt (λ m. argument-plain m (taken ts) ts))
     (cond-all Plain-out (eqb (t .kind) K.Comma) (depth-plain n _ _ tt (λ m. argument-plain (suc m) (taken ts) ts)) (argument-plain n (taken ts) ts))))
 
-room-told : (b : Bool) (m : ℕ) → steps (over-unless b m) ≡ if-broken b m ++ []
-unfolding over-unless pushes flat
-room-told true m = refl
-room-told false m = refl
-
 pub act-told : (b : Label) (a : Act) (s : State) → steps (perform b a s .made) ≡ told (act-trace b a s)
 unfolding perform act-trace replies makes do-expected do-emit pushes flat told made-by
 act-told b (silent-at ks) s = refl
 act-told b at-end s = refl
 act-told b (immediate k) s = refl
 act-told b (immediate-next k) s = refl
-act-told b (add-expected k) s = room-told (ltb (length (s .pending)) MAX-PENDING) (mark-of s)
+act-told b (add-expected k) s = refl
 act-told b bump s = plain-told (do-bump (peeked s) (peeked s .rest) .made) (bump-plain (peeked s) (peeked s .rest))
 act-told b (bump-name ks) s = plain-told (do-name ks (peeked s) (peeked s .rest) .made) (name-plain ks (peeked s) (peeked s .rest))
 act-told b bump-argument s = plain-told (do-argument 0 s (s .rest) .made) (argument-plain 0 s (s .rest))

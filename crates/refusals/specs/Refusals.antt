@@ -1,6 +1,7 @@
--- REFUSALS: document 01's table of causes, with document 02's of the strict setting and of token rows. Each of the
--- numbers 0 to 8 and 11 to 13 is returned, with its place, if and only if its condition holds. It excludes refusing
--- everything, a limit that is one off, "does not fit" before a buffer is used up, and causes tried in another order.
+-- REFUSALS: document 01's table of causes, with document 02's of the strict setting, of token rows and of expectations.
+-- Each of the numbers 0 to 8 and 11 to 13 is returned, with its place, if and only if its condition holds. It excludes
+-- refusing everything, a limit that is one off, "does not fit" before a buffer is used up, and causes tried in another
+-- order.
 use Prim.Native.Nat.{ℕ, suc, _+_, _-_, _*_, _≤_, _<_}
 use mathlib.Core.Path.{_≡_}
 use mathlib.Core.Logic.{_↔_}
@@ -15,7 +16,7 @@ use Rattle.definitions.specs.Strict.{Name-at}
 use Rattle.definitions.specs.Call.{Buffers, Sheets, sheets, run-entry, names-of}
 use Rattle.definitions.specs.Call as Call
 use Rattle.refusals.specs.First.{Each, First}
-use Rattle.refusals.specs.Trace.{Happening, call-opened, expectation-pushed, event-pushed, report-written, trace}
+use Rattle.refusals.specs.Trace.{Happening, call-opened, event-pushed, report-written, trace}
 
 -- ---------------------------------------------------------------- document 01's limits
 
@@ -29,9 +30,6 @@ MAX-NUMBERS = 131072
 
 abbrev pub MAX-OPEN : ℕ
 MAX-OPEN = 64
-
-abbrev pub MAX-PENDING : ℕ
-MAX-PENDING = 256
 
 -- ---------------------------------------------------------------- causes 1 to 4 and 11 to 13: what passes each of them
 
@@ -85,35 +83,30 @@ Right-text bytes before t =
 abbrev pub Passes-4 : ℕ → List ℕ → List ℕ → Entry → Type 0
 Passes-4 n bytes tokens e = Passes-13 n bytes tokens e × Each (Right-text bytes) (tokens-of tokens)
 
--- ---------------------------------------------------------------- causes 5 to 8: the limits and the room
+-- ---------------------------------------------------------------- causes 5 to 8: the limit and the room
 
 unfoldable pub events-in : List Happening → ℕ
 events-in [] = 0
 events-in (call-opened c m ∷ l) = events-in l
-events-in (expectation-pushed c m ∷ l) = events-in l
 events-in (event-pushed m ∷ l) = suc (events-in l)
 events-in (report-written c m ∷ l) = events-in l
 
 unfoldable pub reports-in : List Happening → ℕ
 reports-in [] = 0
 reports-in (call-opened c m ∷ l) = reports-in l
-reports-in (expectation-pushed c m ∷ l) = reports-in l
 reports-in (event-pushed m ∷ l) = reports-in l
 reports-in (report-written c m ∷ l) = suc (reports-in l)
 
 unfoldable pub expectations-in : List Happening → ℕ
 expectations-in [] = 0
 expectations-in (call-opened c m ∷ l) = expectations-in l
-expectations-in (expectation-pushed c m ∷ l) = expectations-in l
 expectations-in (event-pushed m ∷ l) = expectations-in l
 expectations-in (report-written c m ∷ l) = c + expectations-in l
 
--- What happens breaks no limit and fits: with this one the open calls are at most 64, the pending expectations at most
--- 256; with those before it the event rows, the report rows and the expectations written are no more than their buffer
--- holds.
+-- What happens breaks no limit and fits: with this one the open calls are at most 64; with those before it the event
+-- rows, the report rows and the expectations written are no more than their buffer holds.
 abbrev pub Unrefused : Buffers → List Happening → Happening → Type 0
 Unrefused b before (call-opened c m) = c ≤ MAX-OPEN
-Unrefused b before (expectation-pushed c m) = c ≤ MAX-PENDING
 Unrefused b before (event-pushed m) = EVENT-ROW * suc (events-in before) ≤ length (b .events)
 Unrefused b before (report-written c m) =
     (REPORT-ROW * suc (reports-in before) ≤ length (b .reports)) × (expectations-in before + c ≤ length (b .pool))
@@ -183,13 +176,9 @@ pub data Cause (n setting : ℕ) (bytes tokens : List ℕ) (b : Buffers) : ℕ �
   -- bytes of a kind with a static text differ from it: the first such row
   wrong-text : (e : Entry) → Passes-13 n bytes tokens e → (before : List Token) (t : Token)
       → First (Right-text bytes) (tokens-of tokens) before t → Cause n setting bytes tokens b 4 (length before)
-  -- a 65th open call
+  -- a 65th open call; document 02, 6/14: 5 comes from open calls only
   call-too-many : (e : Entry) → Passes-4 n bytes tokens e → (before : List Happening) (m : ℕ)
       → First-met e tokens b before (call-opened (suc MAX-OPEN) m) → Cause n setting bytes tokens b 5 (from-start tokens m)
-  -- a 257th pending expectation
-  expectation-too-many : (e : Entry) → Passes-4 n bytes tokens e → (before : List Happening) (m : ℕ)
-      → First-met e tokens b before (expectation-pushed (suc MAX-PENDING) m)
-      → Cause n setting bytes tokens b 5 (from-start tokens m)
   -- the next event does not fit
   no-event-room : (e : Entry) → Passes-4 n bytes tokens e → (before : List Happening) (m : ℕ)
       → First-met e tokens b before (event-pushed m) → Cause n setting bytes tokens b 6 (from-start tokens m)

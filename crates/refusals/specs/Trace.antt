@@ -1,6 +1,6 @@
--- What happens in a run, in order: calls are opened, expectations and events are pushed, report rows are written. It
--- follows `exec`, `iter`, `links`, `chained` and `run` of the definitions, step by step, and says nothing of limits and
--- buffers, by which specs/Refusals.antt judges it.
+-- What happens in a run, in order: calls are opened, events are pushed, report rows are written. It follows `exec`,
+-- `iter`, `links`, `chained` and `run` of the definitions, step by step, and says nothing of limits and buffers, by
+-- which specs/Refusals.antt judges it.
 use Prim.Native.Nat.{ℕ, zero, suc}
 use mathlib.Core.Bool.{cond}
 use mathlib.Core.List.{List, [], _∷_, _++_}
@@ -12,11 +12,9 @@ use Rattle.definitions.specs.Skeleton.{Label, no-label, Skeleton, done, token, 
 use Rattle.definitions.specs.Run.{State, Out, mark-of, taken, perform, is-again, goes-on, by-shape, here, exec, run}
 
 -- Each with the mark at which it happens, counted from the end of the file as the definitions count it. call-opened:
--- with how many calls are open then. expectation-pushed: with how many are pending then. report-written: a report's
--- row, with its number of expectations.
+-- with how many calls are open then. report-written: a report's row, with its number of expectations.
 pub data Happening : Type 0 where
   call-opened : ℕ → ℕ → Happening
-  expectation-pushed : ℕ → ℕ → Happening
   event-pushed : ℕ → Happening
   report-written : ℕ → ℕ → Happening
 
@@ -41,7 +39,7 @@ act-trace b (silent-at ks) s = []
 act-trace b at-end s = []
 act-trace b (immediate k) s = []
 act-trace b (immediate-next k) s = []
-act-trace b (add-expected k) s = expectation-pushed (suc (length (s .pending))) (mark-of s) ∷ []
+act-trace b (add-expected k) s = []
 act-trace b bump s = made-by (perform b bump s .made)
 act-trace b (bump-name ks) s = made-by (perform b (bump-name ks) s .made)
 act-trace b bump-argument s = made-by (perform b bump-argument s .made)

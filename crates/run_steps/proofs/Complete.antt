@@ -3,21 +3,21 @@ use Prim.Native.Nat.{ℕ, zero, suc}
 use mathlib.Core.Path.{_≡_, refl, sym, ap, _∙_}
 use mathlib.Core.Bool.{Bool, true, false, cond}
 use mathlib.Core.List.{List, [], _∷_, _++_, append-assoc, append-nil}
-use lib.Dec.{eqb, ltb}
+use lib.Dec.{eqb}
 use lib.ListN.{length}
-use Rattle.definitions.specs.Layout.{MOST-OPEN-CALLS, MOST-PENDING}
+use Rattle.definitions.specs.Layout.{MOST-OPEN-CALLS}
 use Rattle.definitions.specs.TokenKind as K
 use Rattle.definitions.specs.Token.{Token, trivia}
 use Rattle.definitions.specs.Prog.{choose, Ans, no, yes, also, again, Rule, Act, silent-at, at-end, immediate, immediate-next, add-expected, bump, bump-name, bump-argument, emit, emit-unclosed, less, Prog, ret, act, _⨟_, case, in-marker, loop, chain, brace, open-call}
 use Rattle.definitions.specs.Grammar.{grammar, whole}
 use Rattle.definitions.specs.Skeleton.{Label, no-label, Skeleton, done, token, _⧺_}
-use Rattle.definitions.specs.Run.{State, Out, mark-of, peeked, replies, makes, taken, do-bump, do-name, add, at-depth, do-argument, do-emit, over-unless, do-expected, perform, closed, marked, is-again, goes-on, iter, unlinked, by-shape, links, chained, here, exec, run}
+use Rattle.definitions.specs.Run.{State, Out, mark-of, peeked, replies, makes, taken, do-bump, do-name, add, at-depth, do-argument, do-emit, do-expected, perform, closed, marked, is-again, goes-on, iter, unlinked, by-shape, links, chained, here, exec, run}
 use Rattle.definitions.specs.Report.{Push, event, reported, exceeded, pushes}
 use Rattle.definitions.specs.Call.{run-entry}
 use Rattle.basics.proofs.Tests.{cond-all}
 use Rattle.laws.proofs.Skeleton.{pushes-join, pushes-closed}
 use Rattle.laws.proofs.Fuel.{turn-of}
-use Rattle.run_steps.specs.Steps.{Step, begun, branched, turned, linked, spent, iter-steps, links-steps, exceeds, act-steps, steps, run-steps, entry-steps}
+use Rattle.run_steps.specs.Steps.{Step, begun, branched, turned, linked, spent, iter-steps, links-steps, steps, run-steps, entry-steps}
 use Rattle.run_steps.specs.Steps as Steps
 use Rattle.run_steps.specs.Signs.{Sign, told, refused, signs, program-signs, step-signs, Complete}
 
@@ -101,18 +101,13 @@ argument-silent n s (t ∷ ts) =
     (cond-all Silent (eqb (t .kind) K.LParen) (go (suc n))
     (cond-all Silent (eqb (t .kind) K.RParen) (depth-silent n _ _ refl go) (cond-all Silent (eqb (t .kind) K.Comma) (depth-silent n _ _ refl (λ m. go (suc m))) (go n))))
 
-room-tells : (b : Bool) (m : ℕ) → step-signs (exceeds b) ≡ made-signs (over-unless b m)
-unfolding exceeds over-unless step-signs pushes signs
-room-tells true m = refl
-room-tells false m = refl
-
-act-tells : (b : Label) (a : Act) (s : State) → Tells (perform b a s) (begun (act a) s ∷ act-steps a s)
-unfolding perform act-steps step-signs program-signs replies makes do-emit do-expected pushes signs
+act-tells : (b : Label) (a : Act) (s : State) → Tells (perform b a s) (begun (act a) s ∷ [])
+unfolding perform step-signs program-signs replies makes do-emit do-expected pushes signs
 act-tells b (silent-at ks) s = record { same = refl }
 act-tells b at-end s = record { same = refl }
 act-tells b (immediate k) s = record { same = refl }
 act-tells b (immediate-next k) s = record { same = refl }
-act-tells b (add-expected k) s = record { same = room-tells (ltb (length (s .pending)) MOST-PENDING) (mark-of s) }
+act-tells b (add-expected k) s = record { same = refl }
 act-tells b bump s = record { same = bump-silent (peeked s) (peeked s .rest) }
 act-tells b (bump-name ks) s = record { same = name-silent ks (peeked s) (peeked s .rest) }
 act-tells b bump-argument s = record { same = argument-silent 0 s (s .rest) }

@@ -2,13 +2,12 @@
 -- loop and each link of a chain. With these a statement can speak of every step at which the definitions have a clause
 -- that no run is to use.
 use Prim.Native.Nat.{ℕ, zero, suc}
-use mathlib.Core.Bool.{Bool, true, false, cond}
+use mathlib.Core.Bool.{cond}
 use mathlib.Core.List.{List, [], _∷_, _++_}
-use lib.Dec.{ltb}
 use lib.ListN.{length}
-use Rattle.definitions.specs.Layout.{MOST-OPEN-CALLS, MOST-PENDING}
+use Rattle.definitions.specs.Layout.{MOST-OPEN-CALLS}
 use Rattle.definitions.specs.Token.{Token}
-use Rattle.definitions.specs.Prog.{Ans, no, yes, also, again, choose, Rule, Act, silent-at, at-end, immediate, immediate-next, add-expected, bump, bump-name, bump-argument, emit, emit-unclosed, less, Prog, ret, act, _⨟_, case, in-marker, loop, chain, brace, open-call}
+use Rattle.definitions.specs.Prog.{Ans, no, yes, also, again, choose, Rule, Prog, ret, act, _⨟_, case, in-marker, loop, chain, brace, open-call}
 use Rattle.definitions.specs.Grammar.{grammar, Entry, whole}
 use Rattle.definitions.specs.Skeleton.{Label, no-label}
 use Rattle.definitions.specs.Run.{State, Out, taken, is-again, goes-on, by-shape, here, exec, run}
@@ -17,7 +16,7 @@ use Rattle.definitions.specs.Run.{State, Out, taken, is-again, goes-on, by-shap
 -- turned: a turn of a loop, begun at the state, gave this. linked: the same of a link of a chain.
 -- spent: a loop or a chain is to go on, and no turn is left of those that it may make (one more than tokens are left
 -- when it begins).
--- exceeded: one open call or one pending expectation too many. The run is refused here, with number 5.
+-- exceeded: one open call too many. The run is refused here, with number 5.
 pub data Step : Type 0 where
   begun : Prog → State → Step
   branched : Ans → Step
@@ -41,31 +40,11 @@ links-steps (suc n) f g s =
     g s ++ (linked s (f s) ∷ (let more = links-steps n f g (f s .state) in by-shape (f s .shape) []
     (cond (goes-on s (f s)) more [])))
 
--- whether there is room
-unfoldable pub exceeds : Bool → List Step
-exceeds true = []
-exceeds false = exceeded ∷ []
-
--- an action that pushes an expectation may be refused
-unfoldable pub act-steps : Act → State → List Step
-unfolding exceeds
-act-steps (silent-at ks) s = []
-act-steps at-end s = []
-act-steps (immediate k) s = []
-act-steps (immediate-next k) s = []
-act-steps (add-expected k) s = exceeds (ltb (length (s .pending)) MOST-PENDING)
-act-steps bump s = []
-act-steps (bump-name ks) s = []
-act-steps bump-argument s = []
-act-steps (emit m h) s = []
-act-steps emit-unclosed s = []
-act-steps (less m n) s = []
-
--- ask: what a call does. inside: its steps.
+-- ask: what a call does. in-call: its steps.
 unfoldable pub steps : (Rule → State → Out) → (Rule → State → List Step) → Label → Prog → State → List Step
-unfolding exec is-again choose iter-steps links-steps act-steps
+unfolding exec is-again choose iter-steps links-steps
 steps ask in-call b (ret k a) s = begun (ret k a) s ∷ []
-steps ask in-call b (act a) s = begun (act a) s ∷ act-steps a s
+steps ask in-call b (act a) s = begun (act a) s ∷ []
 steps ask in-call b (p ⨟ q) s = begun (p ⨟ q) s ∷ (steps ask in-call b p s ++ steps ask in-call b q (exec ask b p s .state))
 steps ask in-call b (case c n y a) s =
     let o = exec ask b c s in

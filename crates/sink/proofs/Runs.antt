@@ -1,16 +1,15 @@
 -- Every run's skeleton is chained: what a marker was made to precede is one node.
 use Prim.Native.Nat.{ℕ, zero, suc}
 use mathlib.Core.Path.{refl}
-use mathlib.Core.Bool.{Bool, true, false}
 use mathlib.Core.List.{List, [], _∷_}
-use lib.Dec.{ltb, eqb}
+use lib.Dec.{eqb}
 use lib.ListN.{length}
 use Rattle.definitions.specs.Layout.{MOST-OPEN-CALLS}
 use Rattle.definitions.specs.TokenKind as K
 use Rattle.definitions.specs.Token.{Token, trivia}
 use Rattle.definitions.specs.Prog.{yes, Act, silent-at, at-end, immediate, immediate-next, add-expected, bump, bump-name, bump-argument, emit, emit-unclosed, less}
 use Rattle.definitions.specs.Skeleton.{Label, no-label, Skeleton, done, token, _⧺_}
-use Rattle.definitions.specs.Run.{State, Out, mark-of, peeked, replies, makes, taken, do-bump, do-name, add, at-depth, do-argument, do-emit, over-unless, do-expected, perform, closed, marked, unlinked, run}
+use Rattle.definitions.specs.Run.{State, Out, mark-of, peeked, replies, makes, taken, do-bump, do-name, add, at-depth, do-argument, do-emit, do-expected, perform, closed, marked, unlinked, run}
 use Rattle.definitions.specs.Grammar.{Entry, whole}
 use Rattle.definitions.specs.Call.{run-entry}
 use Rattle.basics.proofs.Tests.{cond-all}
@@ -47,18 +46,13 @@ argument-chained n s (t ∷ ts) =
     (cond-all made (eqb (t .kind) K.RParen) (depth-chained n _ go tt gone)
     (cond-all made (eqb (t .kind) K.Comma) (depth-chained n _ (λ m. go (suc m)) tt (λ m. gone (suc m))) (gone n))))
 
-fits-chained : (b : Bool) (m : ℕ) → Chained (over-unless b m)
-unfolding over-unless Chained
-fits-chained true m = tt
-fits-chained false m = tt
-
 act-chained : (b : Label) (a : Act) (s : State) → Chained (perform b a s .made)
 unfolding perform replies makes do-emit do-expected Chained
 act-chained b (silent-at ks) s = tt
 act-chained b at-end s = tt
 act-chained b (immediate k) s = tt
 act-chained b (immediate-next k) s = tt
-act-chained b (add-expected k) s = fits-chained (ltb (length (s .pending)) 256) (mark-of s)
+act-chained b (add-expected k) s = tt
 act-chained b bump s = bump-chained (peeked s) (peeked s .rest)
 act-chained b (bump-name ks) s = name-chained ks (peeked s) (peeked s .rest)
 act-chained b bump-argument s = argument-chained 0 s (s .rest)

@@ -11,7 +11,7 @@ use native.Mathlib.Omega.{arith}
 use denote.Enum.Declared.{tagOf}
 use types.Run.{OneOf}
 use Rattle.basics.proofs.Tests.{cond-all}
-use Rattle.definitions.specs.Layout.{PLACEHOLDER, START-NODE, TOO-DEEP, MOST-PENDING}
+use Rattle.definitions.specs.Layout.{PLACEHOLDER, START-NODE, TOO-DEEP}
 use Rattle.definitions.specs.Token.{Token, first-in}
 use Rattle.definitions.specs.Skeleton.{Span}
 use Rattle.definitions.specs.Prog.{choose, Ans, no, yes, also, again, Rule, silent-at, Prog, ret, act, _⨟_, case, in-marker, loop, brace}
@@ -197,7 +197,7 @@ module _ (ask : Rule → Machine → Walked) (ts : List Token) (b : Span) where
 
   expected-ahead : (k : ℕ) (m : Machine) → Few ts → ahead ts (M.expect-code k m) ≤ ahead ts m
   unfolding M.expect-code
-  expected-ahead k m h = cond-all (λ x. ahead ts x ≤ ahead ts m) (ltb (length (m .pending)) MOST-PENDING) (omega arith) (omega (arith, refuse-ahead ts TOO-DEEP m h))
+  expected-ahead k m h = omega arith
 
   -- `eat_starting` of a kind
   pub starting-some : (k : ℕ) (m x : Machine) (z : M.Marker) (t : Bool) → Few ts → starting ask ts b (C.of-kind k) m ≡ record { yes = t; marker = z; on = x } → t ≡ true → 0 < ahead ts m
