@@ -196,7 +196,7 @@ FIRST-OTHER = 101
 abbrev pub OTHER-CODES : ℕ
 OTHER-CODES = 8
 
--- No limit of a call: each is pending once (document 02, 6/14), so that there are never more (`Limits` of crates/laws).
+-- No limit of a call: each is pending once (document 02, 6/14), so that there are never more (`Once` of crates/laws).
 abbrev pub MOST-PENDING : ℕ
 MOST-PENDING = KIND-CODES + OTHER-CODES
 

@@ -8,7 +8,7 @@ use lib.ListN.{length, getD, drop}
 use Rattle.basics.specs.Word.{low}
 use Rattle.definitions.specs.Layout.{TOKEN-ROW, TOKEN-LENGTH}
 use Rattle.definitions.specs.Token.{Token, tokens-of, trivia}
-use Rattle.machine.specs.Machine.{Machine, Buffer, none-expected, with-cursor, skip, range-at}
+use Rattle.machine.specs.Machine.{Machine, Buffer, none-pending, with-cursor, skip, range-at}
 use Rattle.machine.specs.Machine as M
 use Rattle.token_rows.specs.declared.token.Seat.{Seat}
 use Rattle.token_rows.proofs.Seen.{end-row}
@@ -38,7 +38,7 @@ resting byte =
       byte = byte;
       mark = 0;
       mark-byte = 0;
-      expected = none-expected;
+      pending = none-pending;
       events = no-numbers;
       reports = no-numbers;
       pool = no-numbers;

@@ -17,7 +17,7 @@ use Rattle.definitions.specs.Run.{pool-of}
 use Rattle.basics.specs.WordSet.{in-word, put-in-word}
 use Rattle.laws.specs.Once.{is-kind, is-other, is-expectation}
 use Rattle.laws.proofs.Listed.{kinds-of, others-of, other-digit, kinds-append, others-append, Other-code, other-code, Held, by-code, held-append, held-listed}
-use Rattle.machine.specs.Machine.{Expected, arrived, expect-kind, expect-other, expect, pool-count}
+use Rattle.machine.specs.Machine.{Pending, arrived, expect-kind, expect-other, expect, pool-count}
 use Rattle.machine.proofs.Image.{held-of}
 
 -- there is room for one that is not there
@@ -27,19 +27,19 @@ arrives l k h =
     ap (λ (b : Bool). cond b (l ++ (k ∷ [])) l) (lt-ltb (length l) MOST-PENDING (omega (arith, n, held-listed (l ++ (k ∷ [])) h .few)))
 
 -- the same list and the same words
-same : (l l′ : List ℕ) (x x′ y y′ : ℕ) → l ≡ l′ → x ≡ x′ → y ≡ y′ → _≡_ {A = Expected} (record { codes = l; kinds = x; others = y }) (record { codes = l′; kinds = x′; others = y′ })
+same : (l l′ : List ℕ) (x x′ y y′ : ℕ) → l ≡ l′ → x ≡ x′ → y ≡ y′ → _≡_ {A = Pending} (record { codes = l; kinds = x; others = y }) (record { codes = l′; kinds = x′; others = y′ })
 same l l′ x x′ y y′ e f g = rw (e, f, g)
 
 module _ (l : List ℕ) (k : ℕ) (h : Held l) (e : is-expectation k ≡ true) where
   -- it is there, or it is not
-  pushed : (b : Bool) → one-of l k ≡ b → (x : Expected) → (one-of l k ≡ false → x ≡ held-of (l ++ (k ∷ []))) → cond b (held-of l) x ≡ held-of (cond b l (l ++ (k ∷ [])))
+  pushed : (b : Bool) → one-of l k ≡ b → (x : Pending) → (one-of l k ≡ false → x ≡ held-of (l ++ (k ∷ []))) → cond b (held-of l) x ≡ held-of (cond b l (l ++ (k ∷ [])))
   pushed true f x p = refl
   pushed false f x p = p f
 
   kind-is : is-kind k ≡ true → expect-kind k (held-of l) ≡ held-of (pushed-once k l)
   unfolding pushed-once
   kind-is g =
-      let x : Expected = record { codes = arrived k l; kinds = put-in-word k (kinds-of l); others = others-of l } in
+      let x : Pending = record { codes = arrived k l; kinds = put-in-word k (kinds-of l); others = others-of l } in
       ap (λ (b : Bool). cond b (held-of l) x) (h .words .kind k g)
       ∙ pushed (one-of l k) refl x
       (λ f. same _ _ _ _ _ _ (arrives l k (held-append l k h e f))
@@ -49,7 +49,7 @@ module _ (l : List ℕ) (k : ℕ) (h : Held l) (e : is-expectation k ≡ true) w
   other-is : is-kind k ≡ false → is-other k ≡ true → expect-other k (held-of l) ≡ held-of (pushed-once k l)
   unfolding pushed-once
   other-is g o =
-      let x : Expected = record { codes = arrived k l; kinds = kinds-of l; others = put-in-word (other-digit k) (others-of l) } in
+      let x : Pending = record { codes = arrived k l; kinds = kinds-of l; others = put-in-word (other-digit k) (others-of l) } in
       ap (λ (b : Bool). cond b (held-of l) x) (h .words .other k o)
       ∙ pushed (one-of l k) refl x
       (λ f. same _ _ _ _ _ _ (arrives l k (held-append l k h e f))
@@ -59,9 +59,9 @@ module _ (l : List ℕ) (k : ℕ) (h : Held l) (e : is-expectation k ≡ true) w
   pub expect-is : expect k (held-of l) ≡ held-of (pushed-once k l)
   unfolding expect is-kind
   expect-is =
-      let x : Expected = held-of l in
-      let other : Expected = cond (ltb k (FIRST-OTHER + OTHER-CODES)) (expect-other k x) x in
-      let else : Expected = cond (leb FIRST-OTHER k) other x in
+      let x : Pending = held-of l in
+      let other : Pending = cond (ltb k (FIRST-OTHER + OTHER-CODES)) (expect-other k x) x in
+      let else : Pending = cond (leb FIRST-OTHER k) other x in
       by-code (expect k x ≡ held-of (pushed-once k l)) k e
       (λ g. ap (λ (b : Bool). cond b (expect-kind k x) else) g ∙ kind-is g)
       (λ g o.

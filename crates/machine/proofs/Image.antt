@@ -12,7 +12,7 @@ use Rattle.definitions.specs.Run.{State, taken, peeked}
 use Rattle.definitions.specs.Report.{pool}
 use Rattle.basics.specs.Word.{low}
 use Rattle.laws.proofs.Listed.{kinds-from, others-from, kinds-of, others-of, Held, held-none}
-use Rattle.machine.specs.Machine.{Buffer, Expected, Machine, rest, passed, took}
+use Rattle.machine.specs.Machine.{Buffer, Pending, Machine, rest, passed, took}
 use Rattle.machine.specs.Outcome.{Input-limits, onto}
 use Rattle.machine.proofs.Coded.{low-rows}
 use Rattle.machine.proofs.Suffix.{Suffix, suffix-length, suffix-bytes, suffix-drop, suffix-trivia, bytes-trivia}
@@ -30,11 +30,11 @@ abbrev pub written : List ℕ → List ℕ → Buffer
 written l b = record { count = length l; numbers = onto l b }
 
 -- the pending expectations, with their words
-abbrev pub held-of : List ℕ → Expected
+abbrev pub held-of : List ℕ → Pending
 held-of ks = record { codes = ks; kinds = kinds-of ks; others = others-of ks }
 
 abbrev pub machine-at : ℕ → ℕ → ℕ → ℕ → List ℕ → Buffer → Buffer → Buffer → Machine
-machine-at c a m b ks e r p = record { cursor = c; byte = a; mark = m; mark-byte = b; expected = held-of ks; events = e; reports = r; pool = p; refusal = 0; place = 0 }
+machine-at c a m b ks e r p = record { cursor = c; byte = a; mark = m; mark-byte = b; pending = held-of ks; events = e; reports = r; pool = p; refusal = 0; place = 0 }
 
 -- the report numbers of a list of reports
 abbrev pub rows-of : Ground → List Report → List ℕ

@@ -19,7 +19,7 @@ use Rattle.laws.specs.Once.{is-expectation}
 use Rattle.laws.proofs.Listed.{held-push}
 use Rattle.laws.proofs.Scan.{and-then, scan-append}
 use Rattle.basics.specs.Word.{low}
-use Rattle.machine.specs.Machine.{Machine, Expected, with-expected, rest, peek, took, refuse, expect-code, push, bump-first, name-stretch, name-first}
+use Rattle.machine.specs.Machine.{Machine, Pending, with-pending, rest, peek, took, refuse, expect-code, push, bump-first, name-stretch, name-first}
 use Rattle.machine.specs.Machine as M
 use Rattle.machine.specs.Walk.{Walked, said}
 use Rattle.machine.specs.Outcome.{Refused}
@@ -78,7 +78,7 @@ pub expected-sim : (g : Ground) (k : ℕ) → is-expectation k ≡ true → Trac
 unfolding do-expected replies expect-code image
 expected-sim g k e c s f i =
     quiet g c yes 0 (expecting s k) _ f (record { rest = i .rest; since = i .since; order = i .order; held = held-push (s .pending) k (i .held) e })
-    (ap (λ (x : Expected). said yes (with-expected x (stand g c s))) (expect-is (s .pending) k (i .held) e))
+    (ap (λ (x : Pending). said yes (with-pending x (stand g c s))) (expect-is (s .pending) k (i .held) e))
 
 -- ---------------------------------------------------------------- a token, a name
 

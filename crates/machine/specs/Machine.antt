@@ -23,13 +23,13 @@ pub record Buffer : Type 0 where
 
 -- The pending expectations. codes: in the order of their arrival. kinds, others: which kinds and which of the other
 -- expectations are among them, each a word (`in-word`).
-pub record Expected : Type 0 where
+pub record Pending : Type 0 where
   pub codes : List ℕ
   pub kinds : ℕ
   pub others : ℕ
 
-abbrev pub none-expected : Expected
-none-expected = record { codes = []; kinds = 0; others = 0 }
+abbrev pub none-pending : Pending
+none-pending = record { codes = []; kinds = 0; others = 0 }
 
 -- cursor and mark: token indexes. byte: the first byte of the token at the cursor. mark-byte: the end of the last token
 -- taken.
@@ -39,7 +39,7 @@ pub record Machine : Type 0 where
   pub byte : ℕ
   pub mark : ℕ
   pub mark-byte : ℕ
-  pub expected : Expected
+  pub pending : Pending
   pub events : Buffer
   pub reports : Buffer
   pub pool : Buffer
@@ -59,7 +59,7 @@ with-cursor c b m =
       byte = b;
       mark = m .mark;
       mark-byte = m .mark-byte;
-      expected = m .expected;
+      pending = m .pending;
       events = m .events;
       reports = m .reports;
       pool = m .pool;
@@ -74,7 +74,7 @@ with-taken c b m =
       byte = b;
       mark = c;
       mark-byte = b;
-      expected = none-expected;
+      pending = none-pending;
       events = m .events;
       reports = m .reports;
       pool = m .pool;
@@ -82,14 +82,14 @@ with-taken c b m =
       place = m .place;
     }
 
-abbrev pub with-expected : Expected → Machine → Machine
-with-expected x m =
+abbrev pub with-pending : Pending → Machine → Machine
+with-pending x m =
     record {
       cursor = m .cursor;
       byte = m .byte;
       mark = m .mark;
       mark-byte = m .mark-byte;
-      expected = x;
+      pending = x;
       events = m .events;
       reports = m .reports;
       pool = m .pool;
@@ -104,7 +104,7 @@ with-events e m =
       byte = m .byte;
       mark = m .mark;
       mark-byte = m .mark-byte;
-      expected = m .expected;
+      pending = m .pending;
       events = e;
       reports = m .reports;
       pool = m .pool;
@@ -119,7 +119,7 @@ with-reports r p m =
       byte = m .byte;
       mark = m .mark;
       mark-byte = m .mark-byte;
-      expected = m .expected;
+      pending = m .pending;
       events = m .events;
       reports = r;
       pool = p;
@@ -134,7 +134,7 @@ with-refusal n p m =
       byte = m .byte;
       mark = m .mark;
       mark-byte = m .mark-byte;
-      expected = m .expected;
+      pending = m .pending;
       events = m .events;
       reports = m .reports;
       pool = m .pool;
@@ -181,25 +181,25 @@ abbrev pub arrived : ℕ → List ℕ → List ℕ
 arrived k l = cond (ltb (length l) MOST-PENDING) (l ++ (k ∷ [])) l
 
 -- a kind, and one of the others: its digit says whether it is there
-abbrev pub expect-kind : ℕ → Expected → Expected
+abbrev pub expect-kind : ℕ → Pending → Pending
 expect-kind k x =
     cond (in-word k (x .kinds)) x
     (record { codes = arrived k (x .codes); kinds = put-in-word k (x .kinds); others = x .others })
 
-abbrev pub expect-other : ℕ → Expected → Expected
+abbrev pub expect-other : ℕ → Pending → Pending
 expect-other k x =
     cond (in-word (k - FIRST-OTHER) (x .others)) x
     (record { codes = arrived k (x .codes); kinds = x .kinds; others = put-in-word (k - FIRST-OTHER) (x .others) })
 
 -- `add_expected`; a number that is neither is no expectation
-unfoldable pub expect : ℕ → Expected → Expected
+unfoldable pub expect : ℕ → Pending → Pending
 expect k x =
     cond (ltb k KIND-CODES) (expect-kind k x)
     (cond (leb FIRST-OTHER k) (cond (ltb k (FIRST-OTHER + OTHER-CODES)) (expect-other k x) x) x)
 
 unfoldable pub expect-code : ℕ → Machine → Machine
 unfolding expect
-expect-code k m = with-expected (expect k (m .expected)) m
+expect-code k m = with-pending (expect k (m .pending)) m
 
 -- whether n more numbers fit a buffer after those that are written
 abbrev pub fits : ℕ → ℕ → ℕ → Bool
@@ -282,7 +282,7 @@ unfoldable pub error-range : List Token → Machine → Span
 unfolding range-at only-separators
 error-range [] m = record { from = m .byte - 1; to = m .byte }
 error-range (t ∷ ts) m =
-    cond (only-separators (m .expected .codes)) (record { from = m .mark-byte; to = low (m .mark-byte + 1) }) (range-at (t ∷ ts) m)
+    cond (only-separators (m .pending .codes)) (record { from = m .mark-byte; to = low (m .mark-byte + 1) }) (range-at (t ∷ ts) m)
 
 -- a report's row: message, range, mark, first pool place, pool count, hint, label
 abbrev pub report-row : ℕ → ℕ → Span → Span → ℕ → ℕ → ℕ → List ℕ
@@ -290,17 +290,17 @@ report-row message hint range lab mark first n =
     message ∷ range .from ∷ range .to ∷ low mark ∷ low first ∷ low n ∷ hint ∷ lab .from ∷ lab .to ∷ []
 
 -- the row's pool count: the number of different ones, by the digits of the two words
-abbrev pub how-many : Expected → ℕ
+abbrev pub how-many : Pending → ℕ
 how-many x = ones (x .kinds) + ones (x .others)
 
-unfoldable pub pool-count : ℕ → Expected → ℕ
+unfoldable pub pool-count : ℕ → Pending → ℕ
 pool-count message x = cond (eqb message msg-expected) (how-many x) 0
 
 -- the row and its expectations: both fit, or neither is written
 unfoldable pub write-report : ℕ → ℕ → Span → Span → Machine → Machine
 unfolding refuse pool-of pool-count
 write-report message hint range lab m =
-    let codes = pool-of message (m .expected .codes) in
+    let codes = pool-of message (m .pending .codes) in
     let n = length codes in
     cond (eqb (m .refusal) 0)
     (cond (fits (length (m .reports .numbers)) (m .reports .count) REPORT-ROW && fits (length (m .pool .numbers)) (m .pool .count) n)
@@ -308,7 +308,7 @@ write-report message hint range lab m =
     (record {
       count = m .reports .count + REPORT-ROW;
       numbers = sets (m .reports .numbers) (m .reports .count)
-          (report-row message hint range lab (m .mark) (m .pool .count) (pool-count message (m .expected)));
+          (report-row message hint range lab (m .mark) (m .pool .count) (pool-count message (m .pending)));
     })
     (record { count = m .pool .count + n; numbers = sets (m .pool .numbers) (m .pool .count) codes })
     m)

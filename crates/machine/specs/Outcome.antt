@@ -15,7 +15,7 @@ use Rattle.definitions.specs.Report.{Room, Fit, fits, stops, scan, pushes, repo
 use Rattle.definitions.specs.Report as Report
 use Rattle.definitions.specs.Grammar.{Entry, whole}
 use Rattle.definitions.specs.Call.{forward-mark, run-entry}
-use Rattle.machine.specs.Machine.{Buffer, none-expected, Machine}
+use Rattle.machine.specs.Machine.{Buffer, none-pending, Machine}
 use Rattle.machine.specs.Walk.{unlabelled, walk-prog}
 use Rattle.machine.specs.Encode.{encode}
 
@@ -47,7 +47,7 @@ fresh events reports pool =
       byte = 0;
       mark = 0;
       mark-byte = 0;
-      expected = none-expected;
+      pending = none-pending;
       events = unwritten events;
       reports = unwritten reports;
       pool = unwritten pool;

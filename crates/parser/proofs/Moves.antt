@@ -17,7 +17,7 @@ use Rattle.definitions.specs.Prog.{Ans, yes, silent-at, at-end, add-expected, b
 use Rattle.definitions.specs.Run.{truth}
 use Rattle.basics.specs.Word.{low}
 use Rattle.basics.specs.WordSet.{in-word, put-in-word}
-use Rattle.machine.specs.Machine.{Machine, Marker, Expected, with-taken, with-expected, with-events, arrived, expect-kind, expect-other, took, range-at, fits, put-start, put-link}
+use Rattle.machine.specs.Machine.{Machine, Marker, Pending, with-taken, with-pending, with-events, arrived, expect-kind, expect-other, took, range-at, fits, put-start, put-link}
 use Rattle.machine.specs.Machine as M
 use Rattle.machine.specs.Walk.{Walked, said, perform}
 use Rattle.parser.specs.View.{view, parser-view, tokens-left, take-first}
@@ -91,62 +91,54 @@ code-arrives codes l n k long e = e ∙ ap (λ (b : Bool). cond b (take n codes 
     by-room false f = sym (pending-full codes n long (omega (arith, long, ltb-false n (length codes) f)))
 
 -- a kind that is there, and one that arrives
-pub kind-there : (k : ℕ) (m : Machine) → in-word k (m .expected .kinds) ≡ true → m ≡ with-expected (expect-kind k (m .expected)) m
-kind-there k m e =
-    sym (ap (λ (b : Bool). with-expected (cond b (m .expected) (record { codes = arrived k (m .expected .codes); kinds = put-in-word k (m .expected .kinds); others = m .expected .others })) m) e)
+pub kind-there : (k : ℕ) (x : Pending) → in-word k (x .kinds) ≡ true → x ≡ expect-kind k x
+kind-there k x e = sym (ap (λ (b : Bool). cond b x (record { codes = arrived k (x .codes); kinds = put-in-word k (x .kinds); others = x .others })) e)
 
-pub kind-new : (k : ℕ) (codes : List ℕ) (kinds : ℕ) (m : Machine) → in-word k (m .expected .kinds) ≡ false → codes ≡ arrived k (m .expected .codes) → kinds ≡ put-in-word k (m .expected .kinds)
-    → with-expected (record { codes = codes; kinds = kinds; others = m .expected .others }) m ≡ with-expected (expect-kind k (m .expected)) m
-kind-new k codes kinds m e f g =
-    ap (λ (l : List ℕ). with-expected (record { codes = l; kinds = kinds; others = m .expected .others }) m) f
-    ∙ ap (λ (x : ℕ). with-expected (record { codes = arrived k (m .expected .codes); kinds = x; others = m .expected .others }) m) g
-    ∙ sym (ap (λ (b : Bool). with-expected (cond b (m .expected) (record { codes = arrived k (m .expected .codes); kinds = put-in-word k (m .expected .kinds); others = m .expected .others })) m) e)
+pub kind-new : (k : ℕ) (l : List ℕ) (y : ℕ) (x : Pending) → in-word k (x .kinds) ≡ false → l ≡ arrived k (x .codes) → y ≡ put-in-word k (x .kinds)
+    → record { codes = l; kinds = y; others = x .others } ≡ expect-kind k x
+kind-new k l y x e f g =
+    rw (f, g) (sym (ap (λ (b : Bool). cond b x (record { codes = arrived k (x .codes); kinds = put-in-word k (x .kinds); others = x .others })) e))
 
 -- the same of one of the others
-pub other-there : (k : ℕ) (m : Machine) → in-word (k - FIRST-OTHER) (m .expected .others) ≡ true → m ≡ with-expected (expect-other k (m .expected)) m
-other-there k m e =
-    sym (ap (λ (b : Bool). with-expected (cond b (m .expected) (record { codes = arrived k (m .expected .codes); kinds = m .expected .kinds; others = put-in-word (k - FIRST-OTHER) (m .expected .others) })) m) e)
+pub other-there : (k : ℕ) (x : Pending) → in-word (k - FIRST-OTHER) (x .others) ≡ true → x ≡ expect-other k x
+other-there k x e =
+    sym (ap (λ (b : Bool). cond b x (record { codes = arrived k (x .codes); kinds = x .kinds; others = put-in-word (k - FIRST-OTHER) (x .others) })) e)
 
-pub other-new : (k : ℕ) (codes : List ℕ) (others : ℕ) (m : Machine) → in-word (k - FIRST-OTHER) (m .expected .others) ≡ false → codes ≡ arrived k (m .expected .codes)
-    → others ≡ put-in-word (k - FIRST-OTHER) (m .expected .others)
-    → with-expected (record { codes = codes; kinds = m .expected .kinds; others = others }) m ≡ with-expected (expect-other k (m .expected)) m
-other-new k codes others m e f g =
-    ap (λ (l : List ℕ). with-expected (record { codes = l; kinds = m .expected .kinds; others = others }) m) f
-    ∙ ap (λ (x : ℕ). with-expected (record { codes = arrived k (m .expected .codes); kinds = m .expected .kinds; others = x }) m) g
-    ∙ sym (ap (λ (b : Bool). with-expected (cond b (m .expected) (record { codes = arrived k (m .expected .codes); kinds = m .expected .kinds; others = put-in-word (k - FIRST-OTHER) (m .expected .others) })) m) e)
+pub other-new : (k : ℕ) (l : List ℕ) (y : ℕ) (x : Pending) → in-word (k - FIRST-OTHER) (x .others) ≡ false → l ≡ arrived k (x .codes) → y ≡ put-in-word (k - FIRST-OTHER) (x .others)
+    → record { codes = l; kinds = x .kinds; others = y } ≡ expect-other k x
+other-new k l y x e f g =
+    rw (f, g) (sym (ap (λ (b : Bool). cond b x (record { codes = arrived k (x .codes); kinds = x .kinds; others = put-in-word (k - FIRST-OTHER) (x .others) })) e))
 
 -- which of them a code is
-module _ (ts : List Token) (b : Span) (k : ℕ) (m : Machine) where
-  abbrev other : Expected
-  other = cond (ltb k (FIRST-OTHER + OTHER-CODES)) (expect-other k (m .expected)) (m .expected)
+module _ (k : ℕ) (x : Pending) where
+  abbrev other : Pending
+  other = cond (ltb k (FIRST-OTHER + OTHER-CODES)) (expect-other k x) x
 
-  abbrev else : Expected
-  else = cond (leb FIRST-OTHER k) other (m .expected)
+  abbrev else : Pending
+  else = cond (leb FIRST-OTHER k) other x
 
-  pub adds-kind : (r : Machine) → ltb k KIND-CODES ≡ true → r ≡ with-expected (expect-kind k (m .expected)) m → said yes r ≡ perform ts b (add-expected k) m
-  unfolding perform M.expect-code M.expect
-  adds-kind r e f = ap (said yes) (f ∙ sym (ap (λ (c : Bool). with-expected (cond c (expect-kind k (m .expected)) else) m) e))
+  pub adds-kind : (r : Pending) → ltb k KIND-CODES ≡ true → r ≡ expect-kind k x → r ≡ M.expect k x
+  unfolding M.expect
+  adds-kind r e f = f ∙ sym (ap (λ (c : Bool). cond c (expect-kind k x) else) e)
 
-  pub adds-other : (r : Machine) → ltb k KIND-CODES ≡ false → leb FIRST-OTHER k ≡ true → ltb k (FIRST-OTHER + OTHER-CODES) ≡ true → r ≡ with-expected (expect-other k (m .expected)) m
-      → said yes r ≡ perform ts b (add-expected k) m
-  unfolding perform M.expect-code M.expect
+  pub adds-other : (r : Pending) → ltb k KIND-CODES ≡ false → leb FIRST-OTHER k ≡ true → ltb k (FIRST-OTHER + OTHER-CODES) ≡ true → r ≡ expect-other k x → r ≡ M.expect k x
+  unfolding M.expect
   adds-other r e f g h =
-      ap (said yes)
-      (h ∙ sym (ap (λ (c : Bool). with-expected (cond c (expect-kind k (m .expected)) else) m) e ∙ ap (λ (c : Bool). with-expected (cond c other (m .expected)) m) f
-      ∙ ap (λ (c : Bool). with-expected (cond c (expect-other k (m .expected)) (m .expected)) m) g))
+      h ∙ sym (ap (λ (c : Bool). cond c (expect-kind k x) else) e ∙ ap (λ (c : Bool). cond c other x) f ∙ ap (λ (c : Bool). cond c (expect-other k x) x) g)
 
   -- no expectation
-  pub adds-none : ltb k KIND-CODES ≡ false → leb FIRST-OTHER k ≡ false → said yes m ≡ perform ts b (add-expected k) m
-  unfolding perform M.expect-code M.expect
-  adds-none e f =
-      ap (said yes) (sym (ap (λ (c : Bool). with-expected (cond c (expect-kind k (m .expected)) else) m) e ∙ ap (λ (c : Bool). with-expected (cond c other (m .expected)) m) f))
+  pub adds-none : ltb k KIND-CODES ≡ false → leb FIRST-OTHER k ≡ false → x ≡ M.expect k x
+  unfolding M.expect
+  adds-none e f = sym (ap (λ (c : Bool). cond c (expect-kind k x) else) e ∙ ap (λ (c : Bool). cond c other x) f)
 
-  pub adds-past : ltb k KIND-CODES ≡ false → leb FIRST-OTHER k ≡ true → ltb k (FIRST-OTHER + OTHER-CODES) ≡ false → said yes m ≡ perform ts b (add-expected k) m
-  unfolding perform M.expect-code M.expect
-  adds-past e f g =
-      ap (said yes)
-      (sym (ap (λ (c : Bool). with-expected (cond c (expect-kind k (m .expected)) else) m) e ∙ ap (λ (c : Bool). with-expected (cond c other (m .expected)) m) f
-      ∙ ap (λ (c : Bool). with-expected (cond c (expect-other k (m .expected)) (m .expected)) m) g))
+  pub adds-past : ltb k KIND-CODES ≡ false → leb FIRST-OTHER k ≡ true → ltb k (FIRST-OTHER + OTHER-CODES) ≡ false → x ≡ M.expect k x
+  unfolding M.expect
+  adds-past e f g = sym (ap (λ (c : Bool). cond c (expect-kind k x) else) e ∙ ap (λ (c : Bool). cond c other x) f ∙ ap (λ (c : Bool). cond c (expect-other k x) x) g)
+
+-- pushed, on the machine
+pub expected-is : (ts : List Token) (b : Span) (k : ℕ) (x : Pending) (m : Machine) → x ≡ M.expect k (m .pending) → said yes (with-pending x m) ≡ perform ts b (add-expected k) m
+unfolding perform M.expect-code
+expected-is ts b k x m e = ap (λ (y : Pending). said yes (with-pending y m)) e
 
 -- ---------------------------------------------------------------- events
 

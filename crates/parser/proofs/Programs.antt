@@ -17,10 +17,10 @@ use Rattle.definitions.specs.Errors as E
 use Rattle.definitions.specs.NodeKind as N
 use Rattle.definitions.specs.Grammar.{silent-at-macro-invocation-with-args}
 use Rattle.definitions.specs.Run.{truth}
-use Rattle.machine.specs.Machine.{Machine, Marker}
+use Rattle.machine.specs.Machine.{Pending, Machine, with-pending, Marker}
 use Rattle.machine.specs.Machine as M
 use Rattle.machine.specs.Walk.{Walked, said, perform, walk, close, marked, next-marker, unlabelled}
-use Rattle.parser.specs.View.{Starting, starting, by-answer, matcher-of, kinds-of, error-prog}
+use Rattle.parser.specs.View.{Starting, starting, by-answer, matcher-of, expect-matcher, kinds-of, error-prog}
 use Rattle.parser.specs.declared.matcher.Matcher.{Matcher}
 use Rattle.parser.specs.declared.matcher.Matcher.the-variants as Of
 use Rattle.parser.specs.declared.errors.Bump.{Bump}
@@ -93,21 +93,16 @@ module _ (ask : Rule → Machine → Walked) (ts : List Token) (b : Span) where
   matches-is Of.Name m = refl
   matches-is Of.LabelName m = refl
 
-  pub push-kind : (s : Matcher) (a : ℕ) (m : Machine) (w : Walked) → s ≡ Of.Kind a → w ≡ perform ts b (add-expected a) m → w ≡ walk ask ts b (matcher-of s .push-expected) m
-  push-kind s a m w e f = f ∙ walk-act (add-expected a) m ∙ ap (λ (x : Matcher). walk ask ts b (matcher-of x .push-expected) m) (sym e)
+  -- a matcher's expectations pushed, on the machine
+  pushes-matcher : (s : Matcher) (m : Machine) → said yes (with-pending (expect-matcher s (m .pending)) m) ≡ walk ask ts b (matcher-of s .push-expected) m
+  unfolding walk perform M.expect-code
+  pushes-matcher (Of.Kind a) m = refl
+  pushes-matcher (Of.Either a d) m = refl
+  pushes-matcher Of.Name m = refl
+  pushes-matcher Of.LabelName m = refl
 
-  pub push-either : (s : Matcher) (a d : ℕ) (m p q : Machine) → s ≡ Of.Either a d → said yes p ≡ perform ts b (add-expected a) m → said yes q ≡ perform ts b (add-expected d) p
-      → said yes q ≡ walk ask ts b (matcher-of s .push-expected) m
-  push-either s a d m p q e f g =
-      walk-then (expected a) (expected d ⨟ tell yes) m (said yes p) (said yes q) (sym (f ∙ walk-act (add-expected a) m))
-      (walk-then (expected d) (tell yes) p (said yes q) (said yes q) (sym (g ∙ walk-act (add-expected d) p)) (walk-tell yes q))
-      ∙ ap (λ (x : Matcher). walk ask ts b (matcher-of x .push-expected) m) (sym e)
-
-  pub push-name : (s : Matcher) (m : Machine) (w : Walked) → s ≡ Of.Name → w ≡ perform ts b (add-expected K.Name) m → w ≡ walk ask ts b (matcher-of s .push-expected) m
-  push-name s m w e f = f ∙ walk-act (add-expected K.Name) m ∙ ap (λ (x : Matcher). walk ask ts b (matcher-of x .push-expected) m) (sym e)
-
-  pub push-label : (s : Matcher) (m : Machine) (w : Walked) → s ≡ Of.LabelName → w ≡ perform ts b (add-expected E.LabelName) m → w ≡ walk ask ts b (matcher-of s .push-expected) m
-  push-label s m w e f = f ∙ walk-act (add-expected E.LabelName) m ∙ ap (λ (x : Matcher). walk ask ts b (matcher-of x .push-expected) m) (sym e)
+  pub push-matcher : (s : Matcher) (x : Pending) (m : Machine) → x ≡ expect-matcher s (m .pending) → said yes (with-pending x m) ≡ walk ask ts b (matcher-of s .push-expected) m
+  push-matcher s x m e = ap (λ (y : Pending). said yes (with-pending y m)) e ∙ pushes-matcher s m
 
   pub take-kind : (s : Matcher) (a : ℕ) (m : Machine) (w : Walked) → s ≡ Of.Kind a → w ≡ perform ts b bump m → w ≡ walk ask ts b (matcher-of s .consume) m
   take-kind s a m w e f = f ∙ walk-act bump m ∙ ap (λ (x : Matcher). walk ask ts b (matcher-of x .consume) m) (sym e)

@@ -13,12 +13,13 @@ use Rattle.definitions.specs.Prog.{Ans, no, yes, also, again, Rule, Act, Prog}
 use Rattle.definitions.specs.Run.{truth}
 use Rattle.definitions.specs.Check.{NAME-SET, LABEL-NAME-SET}
 use Rattle.definitions.specs.Check as C
-use Rattle.machine.specs.Machine.{Expected, Machine, with-expected}
+use Rattle.machine.specs.Machine.{Pending, Machine}
 use Rattle.machine.specs.Machine as M
 use Rattle.machine.specs.Walk.{Walked, said, perform, walk, next-marker, marked, unlabelled, walk-prog, walk-rule}
 use lib.Seq.{sets}
 use denote.Ref.{RefT, now}
 use denote.Triple.Both.{Both}
+use Rattle.parser.specs.declared.pending.Pending.{Pending as CodePending}
 use Rattle.parser.specs.declared.State.{State}
 use Rattle.parser.specs.declared.Parser.{Parser}
 use Rattle.parser.specs.declared.StateTested.{StateTested}
@@ -33,8 +34,8 @@ use Rattle.parser.specs.declared.matcher.Matcher.{Matcher}
 use Rattle.parser.specs.declared.matcher.Matcher.the-variants as Of
 
 -- the pending expectations
-abbrev pub expected-of : State → List ℕ → Expected
-expected-of s codes = record { codes = take (s .pending) codes; kinds = s .kinds; others = s .others }
+abbrev pub pending-of : CodePending → List ℕ → Pending
+pending-of x codes = record { codes = take (x .count) codes; kinds = x .kinds; others = x .others }
 
 -- the numbers, the pending codes and the lent buffers
 abbrev pub view : State → List ℕ → List ℕ → List ℕ → List ℕ → Machine
@@ -44,7 +45,7 @@ view s codes events reports pool =
       byte = s .byte .0;
       mark = s .mark .0;
       mark-byte = s .«mark_byte» .0;
-      expected = expected-of s codes;
+      pending = pending-of (s .pending) codes;
       events = record { count = s .«events_written»; numbers = events };
       reports = record { count = s .«reports_written»; numbers = reports };
       pool = record { count = s .«pool_written»; numbers = pool };
@@ -97,6 +98,13 @@ first-code (Of.Kind a) = a
 first-code (Of.Either a b) = a
 first-code Of.Name = K.Name
 first-code Of.LabelName = E.LabelName
+
+-- its expectations, onto what is pending
+abbrev pub expect-matcher : Matcher → Pending → Pending
+expect-matcher (Of.Kind a) x = M.expect a x
+expect-matcher (Of.Either a b) x = M.expect b (M.expect a x)
+expect-matcher Of.Name x = M.expect K.Name x
+expect-matcher Of.LabelName x = M.expect E.LabelName x
 
 -- the kinds that it matches
 abbrev pub kinds-of : Matcher → List ℕ
@@ -155,13 +163,6 @@ says a s codes events reports pool = said a (view s codes events reports pool)
 -- f of the machine before it, whatever the buffers hold: none is written
 abbrev pub becomes : (Machine → Machine) → State → State → Type 0
 becomes f s r = (codes events reports pool : List ℕ) → view r codes events reports pool ≡ f (view s codes events reports pool)
-
--- f of the pending expectations, and nothing else
-abbrev pub arrives : (Expected → Expected) → State → State → Lent → Type 0
-arrives f s r codes =
-    (events reports pool : List ℕ)
-    → view r (now (codes .exit)) events reports pool
-    ≡ with-expected (f (expected-of s (now (codes .entry)))) (view s (now (codes .entry)) events reports pool)
 
 -- the same: events are written, and nothing else
 abbrev pub writes-events : (Machine → Machine) → State → State → Lent → Type 0

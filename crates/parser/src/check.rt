@@ -6,25 +6,17 @@ use crate::errors::Bump;
 use crate::marker::Marker;
 use crate::matcher::Matcher;
 use crate::source::is_matched_at;
-use layout::expected::FIRST_OTHER;
-use layout::expected::KIND_CODES;
-use layout::expected::PAST_OTHERS;
 use layout::hint::NO_HINT;
 use layout::limit::Codes;
 use layout::message::EXPECTED;
-use layout::word_set;
 use token_rows::token::is_at;
 ghost use mathlib.Core.Path.{_≡_};
-ghost use mathlib.Core.Bool.{true, cond};
-ghost use mathlib.Core.List.{List, [], _∷_, _++_};
+ghost use mathlib.Core.Bool.{true};
+ghost use mathlib.Core.List.{List};
 ghost use Prim.Native.Nat.{ℕ, _-_, _≤_, _<_};
-ghost use lib.Dec.{ltb};
-ghost use lib.ListN.{length, take};
-ghost use Rattle.definitions.specs.Layout.{FIRST-OTHER};
 ghost use Rattle.definitions.specs.Prog.{yes, silent-at, immediate, add-expected, act, _⨟_};
 ghost use Rattle.definitions.specs.Check.{expected, silent-eat as silent-eat-prog, at as at-prog, eat as eat-prog, expect as expect-prog, expect-recoverable as expect-recoverable-prog};
-ghost use Rattle.machine.specs.Machine.{expect-kind, expect-other};
-ghost use Rattle.parser.specs.View.{arrives, tokens-left, state-tested, matcher-of, kinds-of, looks, moves, walks, adds, eats, starts, tests, says};
+ghost use Rattle.parser.specs.View.{tokens-left, state-tested, matcher-of, kinds-of, looks, moves, walks, adds, eats, starts, tests, says};
 
 // What `eat_starting` gives: on a match, the marker that was started before the token.
 pub struct Started {
@@ -33,75 +25,15 @@ pub struct Started {
     pub yes: bool,
 }
 
-// Stores a code after the first n, if there is room; how many there are then.
-fn put_code(codes: &mut [u8], n: usize, code: u8) -> usize
-    ensures { λ r. ⌜ take r (now (codes .exit))
-        ≡ cond (ltb n (length (now (codes .entry)))) (take n (now (codes .entry)) ++ (code ∷ [])) (take n (now (codes .entry))) ⌝ }
-{
-    let enough = n < codes.len();
-    if enough {
-        codes[n] = code;
-        return n + 1;
-    }
-    n
-}
-
 impl State {
-    // A kind, if it is not pending.
-    fn add_kind(self, codes: &mut Codes, code: u8) -> State
-        ensures { λ r. ⌜ arrives (expect-kind code) self r codes ⌝ }
-        ensures { λ r. ⌜ ((tokens : List ℕ) → tokens-left tokens r ≤ tokens-left tokens self) ⌝ }
-    {
-        let there = word_set::contains(self.kinds, code);
-        if there {
-            return self;
-        }
-        let n = put_code(codes, self.pending, code);
-        let kinds = word_set::with(self.kinds, code);
-        let mut q = self;
-        q.pending = n;
-        q.kinds = kinds;
-        q
-    }
-
-    // One of the others, if it is not pending.
-    fn add_other(self, codes: &mut Codes, code: u8) -> State
-        requires { ⌜ FIRST-OTHER ≤ code ⌝ }
-        ensures { λ r. ⌜ arrives (expect-other code) self r codes ⌝ }
-        ensures { λ r. ⌜ ((tokens : List ℕ) → tokens-left tokens r ≤ tokens-left tokens self) ⌝ }
-    {
-        let digit = code - FIRST_OTHER;
-        let there = word_set::contains(self.others, digit);
-        if there {
-            return self;
-        }
-        let n = put_code(codes, self.pending, code);
-        let others = word_set::with(self.others, digit);
-        let mut q = self;
-        q.pending = n;
-        q.others = others;
-        q
-    }
-
-    // An expectation that is pending already is not pushed again. A number that is no expectation is not pushed: the
-    // kinds' word has no digit for a lexical error.
     pub fn add_expected(self, codes: &mut Codes, code: u8) -> State
         ensures { λ r. ⌜ adds (add-expected code) self (says yes r) codes ⌝ }
         ensures { λ r. ⌜ ((tokens : List ℕ) → tokens-left tokens r ≤ tokens-left tokens self) ⌝ }
     {
-        let kind = code < KIND_CODES;
-        if kind {
-            return self.add_kind(codes, code);
-        }
-        let from = FIRST_OTHER <= code;
-        if from {
-            let other = code < PAST_OTHERS;
-            if other {
-                return self.add_other(codes, code);
-            }
-            return self;
-        }
-        self
+        let pending = self.pending.add(codes, code);
+        let mut q = self;
+        q.pending = pending;
+        q
     }
 
     // `check(matcher).silent().at()`

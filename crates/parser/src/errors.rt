@@ -20,7 +20,6 @@ use layout::row::TOKEN_ROW;
 use layout::token_kind;
 use layout::word;
 use layout::word::low32;
-use layout::word_set;
 use token_rows::fit::fits;
 ghost use mathlib.Core.Path.{_≡_};
 ghost use mathlib.Core.List.{List, [], _∷_};
@@ -34,7 +33,7 @@ ghost use Rattle.definitions.specs.NodeKind as N;
 ghost use Rattle.definitions.specs.Run.{only-separators, pool-of};
 ghost use Rattle.machine.specs.Machine.{pool-count, error-range};
 ghost use Rattle.machine.specs.Walk.{unlabelled};
-ghost use Rattle.parser.specs.View.{expected-of, view, tokens-left, span-of, error-prog, takes, stored, walks, moves, says, emits, writes-report};
+ghost use Rattle.parser.specs.View.{pending-of, view, tokens-left, span-of, error-prog, takes, stored, walks, moves, says, emits, writes-report};
 ghost use lib.Seq.{sets};
 
 pub struct TextRange {
@@ -148,15 +147,13 @@ fn put_report(
 }
 
 impl State {
-    // The pool count of a report with this message: the set kinds and the few others.
+    // The pool count of a report with this message: the number of different ones.
     fn pool_count(self, message: u32) -> u32
-        ensures { λ r. ⌜ ((codes : List ℕ) → r ≡ low (pool-count message (expected-of self codes))) ⌝ }
+        ensures { λ r. ⌜ ((codes : List ℕ) → r ≡ low (pool-count message (pending-of (self .pending) codes))) ⌝ }
     {
         let expectations = message == EXPECTED;
         if expectations {
-            let kinds = word_set::count(self.kinds);
-            let others = word_set::count(self.others);
-            low32(kinds + others)
+            low32(self.pending.different())
         } else {
             0
         }
@@ -171,7 +168,7 @@ impl State {
         let at = self.cursor.0;
         let exists = at < tokens.len() / TOKEN_ROW;
         if exists {
-            let lone = ends_statement(codes, self.pending);
+            let lone = ends_statement(codes, self.pending.count);
             if lone {
                 let start = self.mark_byte;
                 let end = ByteOffset(word::add(start.0, 1));
@@ -208,7 +205,7 @@ impl State {
     {
         let index = self.reports_written;
         let first = self.pool_written;
-        let n = code_count(message, codes, self.pending);
+        let n = code_count(message, codes, self.pending.count);
         let enough = fits(reports.len(), index, REPORT_ROW);
         if enough {
             let pool_fits = fits(pool.len(), first, n);

@@ -7,12 +7,14 @@ pub mod errors;
 pub mod event;
 pub mod marker;
 pub mod matcher;
+pub mod pending;
 pub mod source;
 
 use crate::errors::Bump;
 use crate::errors::TextRange;
 use crate::marker::Marker;
 use crate::matcher::Matcher;
+use crate::pending::Pending;
 use layout::ByteOffset;
 use layout::TokenIndex;
 use layout::limit::Codes;
@@ -38,12 +40,8 @@ pub struct State {
     pub mark: TokenIndex,
     // The mark at the first refusal.
     pub place: TokenIndex,
-    // How many expectations are pending: those pushed since the last token or name was taken, each once.
-    pub pending: usize,
-    // Which kinds are among them, and which of the others, as words: whether one is there is a digit, and how many
-    // there are the digits that are set.
-    pub kinds: u64,
-    pub others: u64,
+    // The expectations pushed since the last token or name was taken.
+    pub pending: Pending,
     // How many numbers of these buffers are written.
     pub events_written: usize,
     pub reports_written: usize,
@@ -96,13 +94,12 @@ impl State {
         ensures { λ r. ⌜ ((codes events reports pool : List ℕ) → view r codes events reports pool
             ≡ fresh events reports pool) ⌝ }
     {
+        let none = Pending::none();
         State {
             cursor: TokenIndex(0),
             mark: TokenIndex(0),
             place: TokenIndex(0),
-            pending: 0,
-            kinds: 0,
-            others: 0,
+            pending: none,
             events_written: 0,
             reports_written: 0,
             pool_written: 0,

@@ -1,6 +1,7 @@
 // `TokenMatcher` of parser/mod.rs, as an enum: which kinds match, what is pushed where they do not, how they are taken.
 // The grammar's own matchers (a name that may be a macro, a unit address, a reference) stand with the grammar.
 use crate::State;
+use crate::pending::Pending;
 use layout::expected;
 use layout::limit::Codes;
 use layout::set::LABEL_NAME_SET;
@@ -12,7 +13,7 @@ ghost use mathlib.Core.List.{List};
 ghost use Prim.Native.Nat.{ℕ, _≤_, _-_};
 ghost use Rattle.definitions.specs.Token.{one-of};
 ghost use Rattle.definitions.specs.Prog.{yes};
-ghost use Rattle.parser.specs.View.{tokens-left, first-code, matcher-of, kinds-of, moves, says, expects};
+ghost use Rattle.parser.specs.View.{pending-of, tokens-left, first-code, expect-matcher, matcher-of, kinds-of, moves, says, expects};
 
 pub enum Matcher {
     Kind(u8),
@@ -49,18 +50,28 @@ impl Matcher {
         }
     }
 
+    // Its expectations, onto what is pending.
+    fn add(self, pending: Pending, codes: &mut Codes) -> Pending
+        ensures { λ r. ⌜ pending-of r (now (codes .exit)) ≡ expect-matcher self (pending-of pending (now (codes .entry))) ⌝ }
+    {
+        let code = self.first_code();
+        let x = pending.add(codes, code);
+        match self {
+            Matcher::Kind(_) => x,
+            Matcher::Either(_, b) => x.add(codes, b),
+            Matcher::Name => x,
+            Matcher::LabelName => x,
+        }
+    }
+
     pub fn push_expected(self, s: State, codes: &mut Codes) -> State
         ensures { λ r. ⌜ expects (matcher-of self .push-expected) s (says yes r) codes ⌝ }
         ensures { λ r. ⌜ ((tokens : List ℕ) → tokens-left tokens r ≤ tokens-left tokens s) ⌝ }
     {
-        let code = self.first_code();
-        let q = s.add_expected(codes, code);
-        match self {
-            Matcher::Kind(_) => q,
-            Matcher::Either(_, b) => q.add_expected(codes, b),
-            Matcher::Name => q,
-            Matcher::LabelName => q,
-        }
+        let pending = self.add(s.pending, codes);
+        let mut q = s;
+        q.pending = pending;
+        q
     }
 
     // The matcher has matched.

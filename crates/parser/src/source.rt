@@ -3,6 +3,7 @@ use crate::State;
 use crate::StateTested;
 use crate::errors::TextRange;
 use crate::matcher::Matcher;
+use crate::pending::Pending;
 use layout::ByteOffset;
 use layout::TokenIndex;
 use layout::row::TOKEN_ROW;
@@ -131,14 +132,13 @@ impl State {
         if exists {
             let next = TokenIndex(at + 1);
             let end = ByteOffset(end_at(tokens, at, self.byte.0));
+            let none = Pending::none();
             let mut q = self;
             q.cursor = next;
             q.byte = end;
             q.mark = next;
             q.mark_byte = end;
-            q.pending = 0;
-            q.kinds = 0;
-            q.others = 0;
+            q.pending = none;
             q
         } else {
             self

@@ -195,9 +195,9 @@ module _ (ask : Rule → Machine → Walked) (ts : List Token) (b : Span) where
           let z : _≡_ {A = ℕ} 1 0 = ap (λ (t : Bool). number (truth t)) (sym h) ∙ ap (λ (w : Walked). number (w .ans)) (f ∙ q) in
           absurd (omega (arith, z))
 
-  expected-ahead : (k : ℕ) (m : Machine) → Few ts → ahead ts (M.expect-code k m) ≤ ahead ts m
+  expected-ahead : (k : ℕ) (m : Machine) → ahead ts (M.expect-code k m) ≤ ahead ts m
   unfolding M.expect-code
-  expected-ahead k m h = omega arith
+  expected-ahead k m = omega arith
 
   -- `eat_starting` of a kind
   pub starting-some : (k : ℕ) (m x : Machine) (z : M.Marker) (t : Bool) → Few ts → starting ask ts b (C.of-kind k) m ≡ record { yes = t; marker = z; on = x } → t ≡ true → 0 < ahead ts m
@@ -205,7 +205,7 @@ module _ (ask : Rule → Machine → Walked) (ts : List Token) (b : Span) where
   starting-some k m x z t w e h = go (first-in (k ∷ []) (rest ts (peek ts (M.expect-code k m)))) refl (e ∙ ap (λ (t : Bool). record { yes = t; marker = z; on = x }) h)
     where
       go : (y : Bool) → first-in (k ∷ []) (rest ts (peek ts (M.expect-code k m))) ≡ y → started ask ts b (truth (first-in (k ∷ []) (rest ts (peek ts (M.expect-code k m))))) (C.of-kind k) (peek ts (M.expect-code k m)) ≡ record { yes = true; marker = z; on = x } → 0 < ahead ts m
-      go true i f = omega (arith, first-some (k ∷ []) (rest ts (peek ts (M.expect-code k m))) i, peek-ahead ts (M.expect-code k m), expected-ahead k m w)
+      go true i f = omega (arith, first-some (k ∷ []) (rest ts (peek ts (M.expect-code k m))) i, peek-ahead ts (M.expect-code k m), expected-ahead k m)
       go false i f =
           absurd (false≢true (sym (ap (λ (y : Bool). started ask ts b (truth y) (C.of-kind k) (peek ts (M.expect-code k m)) .yes) i) ∙ ap (λ (r : Starting). r .yes) f))
 
