@@ -1,8 +1,8 @@
 #!/bin/sh
 # Puts one fault after another into the library (faults/) and sees that the fuzzer finds it: 1 to 30 in calls over token
 # rows, 31 to 60 in calls over texts, 61 to 63 in expressions, 64 to 95 among all lists of a few rows and, but for 90
-# and 91, which are of cause 2's limit, in calls over token rows too, 96 to 142 in queries. With numbers as arguments
-# those faults alone.
+# and 91, which are of cause 2's limit, in calls over token rows too, 96 to 142 in queries, 143 to 152, of lists of
+# expectations, in calls over token rows. With numbers as arguments those faults alone.
 set -eu
 here=$(cd "$(dirname "$0")" && pwd)
 good=$("$here/../tools/static-library")
@@ -39,11 +39,11 @@ if [ $# -eq 0 ]; then
     try expressions 0
     try rows 0
     try carets 0
-    set -- $(seq 1 142)
+    set -- $(seq 1 152)
 fi
 for fault in "$@"; do
     case $fault in
-    [1-9] | [12]? | 30) try run "$fault" ;;
+    [1-9] | [12]? | 30 | 14[3-9] | 15?) try run "$fault" ;;
     3? | 4? | 5? | 60) try text "$fault" ;;
     6[1-3]) try expressions "$fault" ;;
     90 | 91) try rows "$fault" ;;

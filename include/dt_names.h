@@ -60,7 +60,7 @@ static inline const char *dt_refusal_text(uint32_t number)
     case DT_REFUSAL_TOO_LONG: return "over 1,048,576 bytes or 131,072 token numbers";
     case DT_REFUSAL_ODD_COUNT: return "odd count of token numbers";
     case DT_REFUSAL_BAD_TEXT: return "bytes of a kind with a `static_text` differ from it";
-    case DT_REFUSAL_TOO_DEEP: return "a 65th open call, or a 257th pending expectation";
+    case DT_REFUSAL_TOO_DEEP: return "a 65th open call";
     case DT_REFUSAL_NO_EVENT_ROOM: return "next event doesn't fit";
     case DT_REFUSAL_NO_REPORT_ROOM: return "report row or its expectations don't fit";
     case DT_REFUSAL_NO_TREE_ROOM: return "tree, lexical errors or the list of a query don't fit";
@@ -298,7 +298,7 @@ static inline const char *dt_message_name(uint32_t message)
     }
 }
 
-/* The message; of DT_MESSAGE_EXPECTED its first word. The expectations follow it, each once:
+/* The message; of DT_MESSAGE_EXPECTED its first word. The report's part of the pool follows it:
  * `Expected A, B or C, but found D`, or `.., but reached end of input` (examples/c/print.c). */
 static inline const char *dt_message_text(uint32_t message)
 {

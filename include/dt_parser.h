@@ -3,15 +3,16 @@
  * does so with a text (dt_parse_text), and two queries of a source file, which also list rows of its tree: those under
  * a caret (dt_caret), and the top-level parts that share a byte with a range (dt_parts_in_range).
  *
- * "Document 01" is docs/01-scope.md; the strict setting, the text call, the causes of bad token rows and the queries
- * are document 02's requests 1/14, 2/14, 4/14 and 5/14. What a call answers and what each buffer holds afterwards is in
- * crates/definitions/specs, Call.antt, Text.antt and Caret.antt. tools/check-header compares every number below with
- * the definitions and the code. The names and message texts of the numbers are in dt_names.h.
+ * "Document 01" is docs/01-scope.md; the strict setting, the text call, the causes of bad token rows, the queries and
+ * that a report lists each expectation once are document 02's requests 1/14, 2/14, 4/14, 5/14 and 6/14. What a call
+ * answers and what each buffer holds afterwards is in crates/definitions/specs, Call.antt, Text.antt and Caret.antt.
+ * tools/check-header compares every number below with the definitions and the code. The names and message texts of the
+ * numbers are in dt_names.h.
  *
  * Link: libdt_parser.a (`rt staticlib dt_parser` writes target/staticlib/libdt_parser.a), x86-64 Linux. It needs the C
  * library (memcpy, memmove, memset) and nothing else. `tools/install-library PREFIX` puts library, headers and a file
  * for pkg-config in their places. A call allocates nothing, keeps nothing and has no state: calls in several threads at
- * once are safe if each has its own lent buffers. The deepest inputs take 0.8 MiB of stack (bench/stack.c): a thread
+ * once are safe if each has its own lent buffers. The deepest inputs take 0.5 MiB of stack (bench/stack.c): a thread
  * that calls should have 2 MiB.
  *
  * All rows are of uint32_t numbers. A length is a count of elements (bytes or numbers), never of rows.
@@ -29,9 +30,9 @@
  * new minor number says that something a caller relies on has changed, for instance how many numbers a row has.
  */
 #define DT_PARSER_VERSION_MAJOR 0
-#define DT_PARSER_VERSION_MINOR 6
+#define DT_PARSER_VERSION_MINOR 7
 #define DT_PARSER_VERSION_PATCH 0
-/* As one number, to compare in an #if: 0.6.0 is 600, 1.2.3 is 10203. */
+/* As one number, to compare in an #if: 0.7.0 is 700, 1.2.3 is 10203. */
 #define DT_PARSER_VERSION (10000 * DT_PARSER_VERSION_MAJOR + 100 * DT_PARSER_VERSION_MINOR + DT_PARSER_VERSION_PATCH)
 
 #ifdef __cplusplus
@@ -73,7 +74,7 @@ enum dt_refusal {
     DT_REFUSAL_ODD_COUNT = 3,      /* an odd count of token numbers, so that one is left over; place: the count of whole
                                       rows. Nothing else is said of the rows */
     DT_REFUSAL_BAD_TEXT = 4,       /* a fixed text is not there; place: that row */
-    DT_REFUSAL_TOO_DEEP = 5,       /* a 65th open call or a 257th expectation; place: the mark */
+    DT_REFUSAL_TOO_DEEP = 5,       /* a 65th open call; place: the mark */
     DT_REFUSAL_NO_EVENT_ROOM = 6,  /* the next event does not fit; place: the mark */
     DT_REFUSAL_NO_REPORT_ROOM = 7, /* a report or its expectations do not fit; place: the mark. A report of the strict
                                       setting is tried after the run, whether the tree fits or not: so before 8 */
@@ -90,12 +91,12 @@ enum dt_refusal {
                                       of rows */
 };
 
-/* Limits. Above the first two a call is refused with 2, above the others with 5. */
+/* Limits. Above the first two a call is refused with 2, above the third with 5. The fourth refuses nothing. */
 enum dt_limit {
     DT_MAX_BYTES = 1048576,
     DT_MAX_TOKEN_NUMBERS = 131072, /* 65,536 rows */
     DT_MAX_OPEN_CALLS = 64,        /* nested items, values, cells and expressions */
-    DT_MAX_EXPECTATIONS = 256      /* pending at once */
+    DT_MAX_EXPECTATIONS = 69       /* so many different ones there are: a report lists no more (crates/laws) */
 };
 
 /* How many numbers a row has. An expectation in the pool is one number. */
@@ -131,7 +132,7 @@ enum dt_report_column {
     DT_COL_REPORT_MARK = 3,        /* the index just past the last token taken; of DT_MESSAGE_NOT_A_LABEL that of the
                                       name's first token */
     DT_COL_REPORT_POOL_FIRST = 4,  /* index of its first expectation in the pool */
-    DT_COL_REPORT_POOL_COUNT = 5,  /* how many it has; 0 unless the message is 1 */
+    DT_COL_REPORT_POOL_COUNT = 5,  /* how many different ones it has; 0 unless the message is 1 */
     DT_COL_REPORT_HINT = 6,        /* enum dt_hint */
     DT_COL_REPORT_LABEL_START = 7, /* 0, 0: no label */
     DT_COL_REPORT_LABEL_END = 8
@@ -336,7 +337,7 @@ enum dt_hint {
     DT_HINT_MISSING_LEFT_SIDE = 6     /* recovered as an expression without its left side */
 };
 
-/* Expectations beside the token kinds. */
+/* Expectations beside the token kinds. A report lists each once, in the order in which they first came up. */
 enum dt_expected {
     DT_EXPECTED_PREPROCESSOR_DIRECTIVE = 101,
     DT_EXPECTED_PREPROCESSOR_DEFINED_OPERATOR = 102, /* never appears */
@@ -350,15 +351,15 @@ enum dt_expected {
 
 /*
  * Lengths that suffice for n token rows in either setting (crates/bounds has the proof), so that 6, 7 and 8 cannot be
- * met: 3 n + 1 reports of the run, and in the strict setting at most n more. Files without errors need far less; a
- * caller may start small and grow what refusal 6 (events), 7 (reports, pool) or 8 (trees, errors) names, as
- * examples/c/parse.c does.
+ * met: 3 n + 1 reports of the run, each with at most DT_MAX_EXPECTATIONS in the pool, and in the strict setting at most
+ * n more reports, without expectations. Files without errors need far less; a caller may start small and grow what
+ * refusal 6 (events), 7 (reports, pool) or 8 (trees, errors) names, as examples/c/parse.c does.
  */
 #define DT_EVENTS_FOR(n) (DT_ROW_EVENT * (13 * (size_t)(n) + 1))
 #define DT_TREES_FOR(n) (DT_ROW_TREE * (6 * (size_t)(n) + 1))
 #define DT_ERRORS_FOR(n) (DT_ROW_ERROR * (size_t)(n))
 #define DT_REPORTS_FOR(n) (DT_ROW_REPORT * (4 * (size_t)(n) + 1))
-#define DT_POOL_FOR(n) (768 * (size_t)(n) + 256)
+#define DT_POOL_FOR(n) (207 * (size_t)(n) + 69)
 
 /*
  * Of dt_parse_text: a length of tokens that suffices for so many bytes, so that 2 is met only for a text that is too
@@ -409,7 +410,8 @@ struct dt_list_answer {
  * trees           tree rows
  * errors          lexical errors
  * reports         reports
- * pool            the reports' expectations
+ * pool            the reports' expectations: of each report those that its row names, each once, in the order in which
+ *                 they first came up
  *
  * Whose memory: all seven stay the caller's. They are lent for the time of the call; nothing points into them
  * afterwards, and the call frees nothing.

@@ -142,28 +142,14 @@ static const char *found_text(const struct parsed *p, size_t token)
     return NULL;
 }
 
-/* Whether the code with this index in a list stands in it before. */
-static int is_repeat(const uint32_t *codes, uint32_t index)
-{
-    uint32_t i;
-    for (i = 0; i < index; i++)
-        if (codes[i] == codes[index])
-            return 1;
-    return 0;
-}
-
-/* ` A, B or C, but found D`, each expectation once. */
+/* ` A, B or C, but found D`. */
 static void print_expected(const struct parsed *p, const struct dt_report_row *report)
 {
     const uint32_t *codes = p->pool + report->pool_first;
     const char *found = found_text(p, report->mark);
-    uint32_t i, last = 0;
+    uint32_t i;
     for (i = 0; i < report->pool_count; i++)
-        if (!is_repeat(codes, i))
-            last = i;
-    for (i = 0; i < report->pool_count; i++)
-        if (!is_repeat(codes, i))
-            printf("%s%s", i == 0 ? " " : i == last ? " or " : ", ", dt_expected_text(codes[i]));
+        printf("%s%s", i == 0 ? " " : i + 1 == report->pool_count ? " or " : ", ", dt_expected_text(codes[i]));
     if (found)
         printf(", but found %s", found);
     else

@@ -1,5 +1,5 @@
-/* A library with a fault, to see that the fuzzer finds it: 1 to 30 and 61 to 95, of dt_parse. The real call is
- * dt_parse_good. */
+/* A library with a fault, to see that the fuzzer finds it: 1 to 30, 61 to 95 and 143 to 152, of dt_parse. The real call
+ * is dt_parse_good. */
 #include "../../include/dt_parser.h"
 #include "fault.h"
 #include "levels.h"
@@ -7,6 +7,7 @@
 extern __typeof__(dt_parse) dt_parse_good;
 
 #include "rows.h"
+#include "once.h"
 
 /* Faults of the last report of an accepted call. */
 static void damage_report(struct dt_report_row *report)
@@ -242,6 +243,15 @@ struct dt_answer dt_parse(uint32_t entry, uint32_t setting, const uint8_t *bytes
         damage_kept(&a, trees, trees_len);
         return a;
     }
+    struct lists lists = {&a, entry, (const struct dt_token_row *)tokens, tokens_len / DT_ROW_TOKEN,
+                          (struct dt_tree_row *)trees, (struct dt_report_row *)reports, pool, pool_len};
+    old = refused_for_lists(&lists);
+    if (old.number != DT_ACCEPTED) {
+        clear(events, events_len), clear(trees, trees_len), clear(errors, errors_len);
+        clear(reports, reports_len), clear(pool, pool_len);
+        return old;
+    }
+    damage_lists(&lists);
     if (a.report_count && ((struct dt_report_row *)reports)[a.report_count - 1].message == DT_MESSAGE_NOT_A_LABEL)
         damage_labels(&a, (struct dt_tree_row *)trees, (struct dt_report_row *)reports, bytes);
     else if (a.report_count)

@@ -1,6 +1,7 @@
 //! One call against the Rust, in the strict setting with the reports that it lacks: the answer and every buffer whole.
 use crate::buffers::{Buffers, Held};
 use crate::call::Call;
+use crate::once::{self, Repeats};
 use crate::row_causes;
 use crate::strict::{self, Broken, is_strict};
 use crate::unchanged::Unchanged;
@@ -15,6 +16,8 @@ use oracle::token::ascii;
 #[derive(Default)]
 pub struct Judge {
     run: Run,
+    /// Of the run: how many lists the Rust had with repeats.
+    pub repeats: Repeats,
     /// The labels of the run that the strict setting reports, and what an accepted call then writes.
     pub broken: Vec<Broken>,
     strict_rows: [Vec<u32>; BUFFERS],
@@ -44,14 +47,30 @@ pub enum Wrong {
     List,
     /// The bytes or the tokens were written to.
     Input,
-    /// The unchanged Rust and the patched copy differ.
+    /// The unchanged Rust and the patched copy differ, or a list in a text of the unchanged one and the pool.
     Oracle,
+    /// The rows and what request 6/14 makes of all that the Rust pushed differ: a list, its place or a range.
+    Lists,
     /// The Rust's own search for what stands at an offset and the reading of request 5/14 differ.
     Finder,
     /// Document 01's cause 3 and what request 4/14 makes of it are not related as the request says.
     Readings,
     /// The patched copy panicked.
     Panic(String),
+}
+
+impl Wrong {
+    /// What to say of what was found before the library was called; none of what the call did.
+    pub fn before_call(&self) -> Option<String> {
+        Some(match self {
+            Wrong::Panic(text) => format!("the patched Rust panics: {text}"),
+            Wrong::Oracle => "the patched and the unchanged Rust differ, or a list in its texts and the pool".into(),
+            Wrong::Lists => "the rows and what request 6/14 makes of the Rust's lists do not agree".into(),
+            Wrong::Readings => "the readings of bad rows by document 01 and by request 4/14 do not agree".into(),
+            Wrong::Finder => "the Rust's own search finds another leaf at one of the offsets".into(),
+            Wrong::Answer | Wrong::Buffer(_) | Wrong::Tokens | Wrong::List | Wrong::Input => return None,
+        })
+    }
 }
 
 /// A cause that is met before a parse and leaves every buffer as it was: each but 5 to 8.
@@ -74,11 +93,13 @@ impl Judge {
             return Err(Wrong::Readings);
         }
         if let Some((number, place)) = refused {
+            self.repeats = Repeats::default();
             return Ok((Input::Bad(number, place), None));
         }
         // the Rust takes text, and a row may cut a character
         let (entry, rows, text) = (call.entry, &call.rows(), &ascii(&call.bytes));
         let parsed = self.run.of(entry, rows, text, false).map_err(Wrong::Panic)?;
+        self.repeats = once::read(&self.run.rows, rows).ok_or(Wrong::Lists)?;
         self.add_labels(&call.bytes);
         let unchanged = also.then(|| Unchanged::of(&self.run, &parsed, entry, rows, text));
         if unchanged == Some(Unchanged::Differs) { Err(Wrong::Oracle) } else { Ok((Input::Parsed, unchanged)) }

@@ -9,7 +9,9 @@ mod exact;
 mod expressions;
 mod judge;
 mod levels;
+mod lists;
 mod make;
+mod once;
 mod rng;
 mod row_causes;
 mod rows;
@@ -24,6 +26,7 @@ mod text;
 mod texts;
 mod unchanged;
 mod unwritten;
+mod words;
 
 use oracle::case::unesc;
 use oracle::parsers::on_large_stack;
@@ -36,6 +39,8 @@ fuzz repeat 'LINE'
     one call, as a difference prints it
 fuzz small [--tokens N]
     every list of up to N tokens (default 4) that labels and references are made of
+fuzz lists [--tokens N]
+    every list of up to N tokens (default 3) of all sorts, in every length of the pool
 fuzz expressions [--operators N]
     every expression of up to N operators (default 3)
 fuzz rows [--rows N]
@@ -81,6 +86,7 @@ fn command(args: &[String]) -> bool {
             exact::run(seed, cases) && texts::exact::run(seed, cases) && carets::exact::run(seed, cases)
         }
         Some("small") => small::run(number("--tokens", 4) as u32),
+        Some("lists") => lists::run(number("--tokens", 3) as u32),
         Some("expressions") => expressions::run(number("--operators", 3) as u32),
         Some("rows") => rows::run(number("--rows", 3) as u32),
         Some("texts") => texts::every::run(number("--bytes", 4) as u32, bytes_of(args, "--of").as_deref()),

@@ -29,7 +29,7 @@ pub fn run(plan: &Plan) -> bool {
         let also = plan.unchanged > 0 && i % plan.unchanged == 0;
         call.setting = SETTING_OLD;
         let good = judge.input(&call, also).is_ok_and(|(input, unchanged)| {
-            tally.case(way, &call, unchanged);
+            tally.case(way, &call, unchanged, judge.repeats);
             [SETTING_OLD, make::strict_setting(&mut r)].into_iter().all(|setting| {
                 call.setting = setting;
                 one(&mut r, &mut judge, &mut tally, input, &mut call)

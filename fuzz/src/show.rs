@@ -50,23 +50,23 @@ pub fn expected_buffer(judge: &Judge, setting: u32, expected: Answer, i: usize) 
 pub fn both(judge: &mut Judge, call: &Call) -> bool {
     println!("call: {}", call.line());
     let v = judge.whole(call, true);
-    match &v.wrong {
-        None => println!("both: {}", answer(&v.given)),
-        Some(Wrong::Panic(text)) => println!("the patched Rust panics: {text}"),
-        Some(Wrong::Oracle) => println!("the patched and the unchanged Rust differ"),
-        Some(Wrong::Readings) => println!("the readings of bad rows by document 01 and by request 4/14 do not agree"),
-        Some(w) => {
-            println!("expected: {}\nlibrary:  {}", answer(&v.expected), answer(&v.given));
-            match w {
-                Wrong::Buffer(i) => println!("the buffer that differs, or a number around it: {}", buffer_name(*i)),
-                Wrong::Input => println!("the library wrote to its input"),
-                _ => {}
-            }
-            println!("expected buffers:");
-            (0..BUFFERS).for_each(|i| expected_buffer(judge, call.setting, v.expected, i));
-            println!("the library's buffers, whole:");
-            (0..BUFFERS).for_each(|i| rows(i, judge.buffers.get(i)))
-        }
+    let Some(wrong) = &v.wrong else {
+        println!("both: {}", answer(&v.given));
+        return true;
+    };
+    if let Some(said) = wrong.before_call() {
+        println!("{said}");
+        return false;
     }
-    v.wrong.is_none()
+    println!("expected: {}\nlibrary:  {}", answer(&v.expected), answer(&v.given));
+    match wrong {
+        Wrong::Buffer(i) => println!("the buffer that differs, or a number around it: {}", buffer_name(*i)),
+        Wrong::Input => println!("the library wrote to its input"),
+        _ => {}
+    }
+    println!("expected buffers:");
+    (0..BUFFERS).for_each(|i| expected_buffer(judge, call.setting, v.expected, i));
+    println!("the library's buffers, whole:");
+    (0..BUFFERS).for_each(|i| rows(i, judge.buffers.get(i)));
+    false
 }

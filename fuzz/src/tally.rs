@@ -1,5 +1,6 @@
 //! Figures of a run.
 use crate::call::Call;
+use crate::once::Repeats;
 use crate::seen::Seen;
 use crate::strict::is_strict;
 use crate::unchanged::Unchanged;
@@ -26,6 +27,7 @@ pub struct Tally {
     with_labels: u64,
     unchanged: u64,
     panics: u64,
+    repeats: Repeats,
     pub seen: Seen,
 }
 
@@ -47,6 +49,7 @@ impl Tally {
             with_labels: 0,
             unchanged: 0,
             panics: 0,
+            repeats: Repeats::default(),
             seen: Seen::default(),
         }
     }
@@ -59,8 +62,9 @@ impl Tally {
         self.with_labels += (strict && labels > 0) as u64
     }
 
-    pub fn case(&mut self, way: usize, call: &Call, unchanged: Option<Unchanged>) {
+    pub fn case(&mut self, way: usize, call: &Call, unchanged: Option<Unchanged>, repeats: Repeats) {
         self.cases += 1;
+        self.repeats.add(repeats);
         self.tokens += (call.tokens.len() / ROW_TOKEN) as u64;
         self.bytes += call.bytes.len() as u64;
         self.by_entry[if call.entry <= ENTRY_CELLS { call.entry as usize } else { 0 }] += 1;
@@ -107,6 +111,10 @@ impl Tally {
             println!("  {name}: {n}")
         }
         self.seen.write();
+        let Repeats { reports, longest, most } = self.repeats;
+        println!(
+            "reports whose list the Rust had with repeats: {reports}; its longest list {longest}, of the rows {most}"
+        );
         println!("with the unchanged Rust too: {} the same, {} where it panics", self.unchanged, self.panics)
     }
 }

@@ -1,4 +1,5 @@
 //! The unchanged Rust against the patched copy.
+use crate::words;
 use dt_parser_layout::TREES;
 use oracle::case::Rows;
 use oracle::doc01::Run;
@@ -14,12 +15,14 @@ pub enum Unchanged {
 }
 
 impl Unchanged {
-    /// Tree, lexical errors, texts, ranges and labels against those of the patched copy's run, which gave `parsed`.
+    /// Tree, lexical errors, texts, ranges and labels against those of the patched copy's run, which gave `parsed`; and
+    /// the lists in its texts, which have no repeats, against the run's pool.
     pub fn of(run: &Run, parsed: &Parsed, entry: u32, toks: &Rows, text: &str) -> Unchanged {
         let Ok(q) = rust::parse(entry, toks, text) else { return Unchanged::Panics };
         let mut tree = Vec::with_capacity(run.rows[TREES].len());
         q.tree_rows(toks, &mut tree);
         let same = tree == run.rows[TREES] && q.lexical == parsed.lexical && q.reports == parsed.reports;
+        let same = same && words::agree(&q.reports, &run.rows);
         if same { Unchanged::Same } else { Unchanged::Differs }
     }
 }

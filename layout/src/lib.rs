@@ -31,7 +31,7 @@ pub fn bound(n: usize) -> Lengths {
     rows[TREES] = 6 * n + 1;
     rows[ERRORS] = n;
     rows[REPORTS] = 4 * n + 1;
-    rows[POOL] = 768 * n + 256;
+    rows[POOL] = 207 * n + 69;
     std::array::from_fn(|i| ROW[i] * rows[i])
 }
 
@@ -69,13 +69,14 @@ pub const ENTRY_CELLS: u32 = 4;
 pub const SETTING_OLD: u32 = 0;
 pub const SETTING_STRICT: u32 = 1;
 
-/// Limits of a call: over the first two it is refused with 2, over the others with 5.
+/// Limits of a call: over the first two it is refused with 2, over the third with 5.
 pub const MAX_BYTES: usize = 1_048_576;
 pub const MAX_TOKEN_NUMBERS: usize = 131_072;
 pub const MAX_OPEN_CALLS: usize = 64;
-pub const MAX_EXPECTATIONS: usize = 256;
 /// The second as a count of rows.
 pub const MAX_TOKENS: usize = MAX_TOKEN_NUMBERS / ROW_TOKEN;
+/// No limit: there are so many different expectations, and each is pending once (document 02, 6/14).
+pub const MAX_EXPECTATIONS: usize = 69;
 
 /// The answer's number: 0, or why a call was refused.
 pub const ACCEPTED: u32 = 0;

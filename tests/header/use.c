@@ -1,6 +1,6 @@
 /* What a caller in C or C++ relies on, without the library: the structs lie over the rows, the calls are declared, the
-   names are there, dt_after_subtree goes from sibling to sibling, and the lengths of a token buffer and a list are
-   enough. Compiled as C and as C++. */
+   names are there, dt_after_subtree goes from sibling to sibling, and the lengths of a token buffer, a list and a pool
+   are enough. Compiled as C and as C++. */
 #include "../random.h"
 #include "dt_names.h"
 #include <stdio.h>
@@ -129,6 +129,17 @@ static void check_list_room(void)
     expect(DT_LIST_FOR(1 ? 8 : 4) == 2, "DT_LIST_FOR: an expression");
 }
 
+/* As many different expectations as there are in each report of the run; and a constant, as above. */
+static void check_pool_room(void)
+{
+    static uint32_t pool[DT_POOL_FOR(100)];
+    size_t tokens;
+    expect(sizeof pool == 20769 * sizeof *pool, "DT_POOL_FOR: an array's length");
+    for (tokens = 0; tokens < 100; tokens++)
+        expect(DT_POOL_FOR(tokens) == (3 * tokens + 1) * DT_MAX_EXPECTATIONS, "DT_POOL_FOR");
+    expect(DT_POOL_FOR(1 ? 2 : 4) == 483, "DT_POOL_FOR: an expression");
+}
+
 /* The numbers from first to last have names that differ from each other, and no other number has one. */
 static void check_names(const char *(*name)(uint32_t), uint32_t first, uint32_t last, const char *what)
 {
@@ -158,6 +169,7 @@ static void check_all_names(void)
     expect(strcmp(dt_refusal_name(3), "odd-count") == 0, "dt_refusal_name");
     expect(strcmp(dt_refusal_name(13), "bad-end") == 0, "dt_refusal_name");
     expect(strcmp(dt_refusal_text(3), "odd count of token numbers") == 0, "dt_refusal_text");
+    expect(strcmp(dt_refusal_text(5), "a 65th open call") == 0, "dt_refusal_text");
     expect(strcmp(dt_expected_name(DT_EXPECTED_END), "End") == 0, "dt_expected_name");
     expect(strcmp(dt_expected_text(DT_TOKEN_COMMA), dt_token_text(DT_TOKEN_COMMA)) == 0, "dt_expected_text");
     expect(strcmp(dt_expected_text(100), "?") == 0 && strcmp(dt_expected_text(109), "?") == 0, "dt_expected_text");
@@ -171,6 +183,7 @@ int main(void)
     check_trees();
     check_token_room();
     check_list_room();
+    check_pool_room();
     check_all_names();
     return 0;
 }

@@ -56,6 +56,24 @@ static void check_labels(const char *name, uint32_t setting, const struct dt_rep
     }
 }
 
+/* A report's part of the pool follows that of the one before it, and lists each expectation once. */
+static void check_lists(const char *name, const struct dt_report_row *reports, const uint32_t *pool, struct dt_answer a)
+{
+    size_t first = 0;
+    for (size_t i = 0; i < a.report_count; i++) {
+        const uint32_t *codes = pool + first, count = reports[i].pool_count;
+        if (reports[i].pool_first != first || count > DT_MAX_EXPECTATIONS || count > a.expectation_count - first)
+            fail(name, "not the report's part of the pool");
+        for (uint32_t k = 1; k < count; k++)
+            for (uint32_t before = 0; before < k; before++)
+                if (codes[before] == codes[k])
+                    fail(name, "an expectation twice in one report");
+        first += count;
+    }
+    if (first != a.expectation_count)
+        fail(name, "expectations of no report");
+}
+
 /* Number, place, counts and buffers agree with one another and with the early causes. Gives the answer. */
 static struct dt_answer checked(const char *name, uint32_t entry, const uint8_t *bytes, size_t n,
                                 const uint32_t *tokens, size_t t, struct buffer *b)
@@ -73,6 +91,8 @@ static struct dt_answer checked(const char *name, uint32_t entry, const uint8_t 
         fail(name, "a refused call that counts something");
     if (a.number == DT_ACCEPTED)
         check_labels(name, setting, (const struct dt_report_row *)b[REPORTS].numbers, a, bytes, n);
+    if (a.number == DT_ACCEPTED)
+        check_lists(name, (const struct dt_report_row *)b[REPORTS].numbers, b[POOL].numbers, a);
     if (a.number == DT_ACCEPTED)
         check_root(name, (const struct dt_tree_row *)b[TREES].numbers, a.tree_count, n);
     for (int i = 0; i < BUFFERS; i++) {
@@ -205,6 +225,36 @@ static void row_limit(void)
     free(bytes);
 }
 
+/* So many conditionals in cells, one inside the other, and a `;` that ends them all, in buffers that suffice. */
+static void expect_conditionals(const char *name, uint32_t count, uint32_t number, size_t place)
+{
+    enum { MOST = DT_MAX_OPEN_CALLS + 1 };
+    static const size_t lengths[BUFFERS] = {DT_EVENTS_FOR(MOST), DT_TREES_FOR(MOST), DT_ERRORS_FOR(MOST),
+                                            DT_REPORTS_FOR(MOST), DT_POOL_FOR(MOST)};
+    struct dt_token_row rows[MOST];
+    uint8_t bytes[MOST];
+    struct buffer b[BUFFERS];
+    for (uint32_t i = 0; i <= count; i++) {
+        rows[i] = (struct dt_token_row){i < count ? DT_TOKEN_IF_DIRECTIVE : DT_TOKEN_SEMICOLON, 1};
+        bytes[i] = ';';
+    }
+    lend_all(b, lengths, BUFFERS);
+    struct dt_answer a =
+        checked(name, DT_ENTRY_CELLS, bytes, count + 1, (const uint32_t *)rows, DT_ROW_TOKEN * (count + 1), b);
+    if (a.place != place)
+        fail(name, "another place");
+    expect(name, a.number, number);
+}
+
+/* Each level has the same expected again, and none of it is pending twice: only open calls are limited. */
+static void conditionals(void)
+{
+    expect_conditionals("50 conditionals", 50, DT_ACCEPTED, 0);
+    expect_conditionals("51 conditionals", 51, DT_ACCEPTED, 0);
+    expect_conditionals("63 conditionals", 63, DT_ACCEPTED, 0);
+    expect_conditionals("64 conditionals", 64, DT_REFUSAL_TOO_DEEP, 64);
+}
+
 /* The order of causes, and sums that are exact where 32 bits would wrap. */
 static void row_causes(void)
 {
@@ -269,6 +319,7 @@ int main(void)
     size_t met[ANSWERS] = {0}, met_by_text[TEXT_ANSWERS] = {0}, short_totals = 0;
     byte_limit();
     row_limit();
+    conditionals();
     row_causes();
     text_limits();
     for (int i = 0; i < 200000; i++)

@@ -48,7 +48,7 @@ NODE, LEAF = 0, 1
 # limits of causes 2 and 5
 MOST_BYTES, MOST_NUMBERS = 1048576, 131072
 MOST_ROWS = MOST_NUMBERS // TOKEN_ROW
-MOST_OPEN, MOST_PENDING = 64, 256
+MOST_OPEN = 64
 # lexical errors, which are kinds of token rows too
 FIRST_ERROR, LAST_ERROR = 64, 74
 ERRORS = range(FIRST_ERROR, LAST_ERROR + 1)

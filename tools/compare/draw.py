@@ -1,11 +1,11 @@
 """Random cases from a seed."""
 import random
 
-from compare.case import ERRORS, FIRST_ERROR, LAST_ERROR, MOST_OPEN, MOST_PENDING, MOST_ROWS, ROW
+from compare.case import ERRORS, FIRST_ERROR, LAST_ERROR, MOST_OPEN, MOST_ROWS, ROW
 from compare.case import Case, Row, read_line, rows_of
 from compare.oracle import NO_TREE
-from compare.tables import BAD_ENTRIES, BAD_KINDS, CONDITIONAL_HEADS, CONDITIONALS, ENTRIES, FULL_HEADS, FULL_TAILS, HEADS, LEVELS
-from compare.tables import NESTS, OVER_TAIL, PIECES, PREFIX, STATEMENTS, STOPS, TAILS, TRIVIA, UNITS
+from compare.tables import BAD_ENTRIES, BAD_KINDS, CONDITIONAL_HEADS, CONDITIONALS, ENTRIES, HEADS, LEVELS, MANY, NESTS
+from compare.tables import PIECES, PREFIX, REPEATING_HEADS, REPEATING_TAILS, STATEMENTS, STOPS, TAILS, TRIVIA, UNITS
 
 MOST_DEEP_ROWS = 160
 
@@ -152,19 +152,21 @@ class Drawer:
         return out[:count]
 
     def full(self):
-        """At a limit and one past it: 64 and 65 open calls through one function, or 256 and 257 pending
-        expectations."""
-        r = self.random
-        if r.random() < 0.5:
-            entry, head, unit = r.choice(NESTS)
-            lists = [self.nested(entry, head, self.named(unit), k, "") for k in range(60, 67)]
-        else:
-            (entry, head), unit = r.choice(FULL_HEADS), self.named(r.choice(CONDITIONALS))
-            lists = [self.nested(entry, head, unit, 50, tail) for tail in (r.choice(FULL_TAILS), OVER_TAIL)]
+        """At the limit and one past it: 64 and 65 open calls through one function."""
+        entry, head, unit = self.random.choice(NESTS)
+        lists = [self.nested(entry, head, self.named(unit), k, "") for k in range(60, 67)]
         said = self.oracle.ask(lists, NO_TREE)
         at = next(i for i, p in enumerate(said) if p.number == 5)
-        assert at and (said[at - 1].most_open == MOST_OPEN or said[at - 1].most_pending == MOST_PENDING)
+        assert at and said[at - 1].most_open == MOST_OPEN
         return lists[at - 1 : at + 1]
+
+    def repeating(self):
+        """Two lists in which the Rust has many expectations pending, all but a few of them again."""
+        r = self.random
+        (entry, head), unit = r.choice(REPEATING_HEADS), self.named(r.choice(CONDITIONALS))
+        lists = [self.nested(entry, head, unit, k, r.choice(REPEATING_TAILS)) for k in (50, 51)]
+        assert all(p.most_pending >= MANY and p.number != 5 for p in self.oracle.ask(lists, NO_TREE))
+        return lists
 
     # ------------------------------------------------------------ bad input: causes 1 to 4 and 11 to 13
 
@@ -248,7 +250,8 @@ class Drawer:
         lists += [Case(r.choice(ENTRIES), self.random_tokens(r.randint(0, 10))) for _ in range(rest)]
         cases = self.lend(lists) + [self.lend_damaged(c) for c in bad]
         r.shuffle(cases)
-        full = self.lend([case for _ in range(part(1) // 2) for case in self.full()])
+        pairs = [self.full() if r.random() < 0.5 else self.repeating() for _ in range(part(1) // 2)]
+        full = self.lend([case for pair in pairs for case in pair])
         return largest + cases[: len(cases) - len(full)] + full
 
     def lend_damaged(self, case):

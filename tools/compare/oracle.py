@@ -19,7 +19,7 @@ class Parsed:
         self.rows, self.lexical, self.reports, self.pool = [], [], [], []
         # events, reports and expectations pushed before a limit stopped the run
         self.pushed = 0, 0, 0
-        # the most open calls and pending expectations that the run came to
+        # the most open calls that the run came to, and the most pending expectations of the Rust, with repeats
         self.most_open = self.most_pending = 0
         self.number = None
         for line in lines:

@@ -19,7 +19,7 @@ MESSAGES = {
 ADDED_MESSAGES = {
     "not-a-label": "Label names can only hold letters, digits and underscores, and can't start with a digit",
 }
-# Causes of document 02: those that it adds to document 01's table, and what it makes of causes 3 and 8 there.
+# Causes of document 02: those that it adds to document 01's table, and what it makes of causes 3, 5 and 8 there.
 ADDED_CAUSES = {
     "high-byte": "byte of 128 or more",
     "directive": "preprocessor directive at a token start",
@@ -29,6 +29,7 @@ ADDED_CAUSES = {
 }
 CHANGED_CAUSES = {
     "odd-count": "odd count of token numbers",
+    "too-deep": "a 65th open call",
     "no-tree-room": "tree, lexical errors or the list of a query don't fit",
 }
 HINTS = {
@@ -64,7 +65,7 @@ extern "C" {
 #endif
 """
 
-MESSAGE_COMMENT = """The message; of DT_MESSAGE_EXPECTED its first word. The expectations follow it, each once:
+MESSAGE_COMMENT = """The message; of DT_MESSAGE_EXPECTED its first word. The report's part of the pool follows it:
  * `Expected A, B or C, but found D`, or `.., but reached end of input` (examples/c/print.c)."""
 
 END = """

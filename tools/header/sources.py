@@ -28,8 +28,10 @@ class Repository:
         return (self.root / path).read_text()
 
     def spec(self, path):
-        """The numbers of a file of definitions."""
-        return {n: int(v) for n, v in re.findall(r"^([\w-]+) = (\d+)$", self.text(path), re.M)}
+        """The numbers of a file of definitions, and sums of two of them."""
+        table = {n: int(v) for n, v in re.findall(r"^([\w-]+) = (\d+)$", self.text(path), re.M)}
+        sums = re.findall(r"^([\w-]+) = ([\w-]+) \+ ([\w-]+)$", self.text(path), re.M)
+        return table | {n: table[a] + table[b] for n, a, b in sums if a in table and b in table}
 
     def code(self, path):
         """The constants of a file of code, in Rattle or in Rust."""

@@ -1,1 +1,1 @@
-"""Parts of search: where the Rust's step counter panics and document 01 accepts."""
+"""Parts of search: where the Rust's step counter panics and the call is accepted."""

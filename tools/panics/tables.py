@@ -1,17 +1,18 @@
 """The lines of docs/DIFFERENCES.md, section 1, for FRONT (`#if` and a line feed)×k BACK: entry, front, back, the first
-k at which the Rust panics, and the last k that document 01 accepts."""
+k at which the Rust panics, and the last k that is accepted."""
 
 IF = "#if\\n"
 
 CELLS = [
-    (4, "", ">", 35, 41),
-    *((4, "", back, 38, 50) for back in (";", "{", "}", ",", "=", "@", ")", '"s"', "[0]", "/bits/", "/omit-if-no-ref/")),
-    *((4, "", back, 38, 50) for back in ("/memreserve/", "/delete-node/", "/delete-property/", "/dts-v1/", "/plugin/", "\\\\")),
-    *((3, front, ">", 36, 41) for front in ("<", "/bits/ 8 <")),
-    *((3, front, back, 38, 50) for front, back in (("<", ";"), ("<", ","), ("/bits/ 8 <", ";"))),
-    *((1, front, ">", 36, 41) for front in ("a=<", "a=/bits/ 8 <", "/{a=<")),
-    *((1, front, back, 37, 49) for front, back in (("a=<", ";"), ("a=<", "{"), ("a=/bits/ 8 <", ";"), ("/{a=<", ";"))),
-    *((1, front, back, 38, 50) for front, back in (("a=<", "}"), ("a=<", ","), ("/{a=<", "}"))),
+    (4, "", ">", 35, 63),
+    *((4, "", back, 38, 63) for back in (";", "{", "}", ",", "=", "@", ")", '"s"', "[0]", "/bits/", "/omit-if-no-ref/")),
+    *((4, "", back, 38, 63) for back in ("/memreserve/", "/delete-node/", "/delete-property/", "/dts-v1/", "/plugin/", "\\\\")),
+    *((3, front, ">", 36, 62) for front in ("<", "/bits/ 8 <")),
+    *((3, front, back, 38, 62) for front, back in (("<", ";"), ("<", ","), ("/bits/ 8 <", ";"))),
+    *((1, front, ">", 36, 61) for front in ("a=<", "a=/bits/ 8 <")),
+    *((1, front, back, 37, 61) for front, back in (("a=<", ";"), ("a=<", "{"), ("a=/bits/ 8 <", ";"))),
+    *((1, "a=<", back, 38, 61) for back in ("}", ",")),
+    *((1, "/{a=<", back, first, 60) for back, first in ((">", 36), (";", 37), ("}", 38))),
 ]
 
 VALUES = [

@@ -15,7 +15,7 @@ class Answer:
         self.name, self.case, self.early = name, case, early
         self.parsed = None if early else Parsed(lines)
         self.number = early[0] if early else self.parsed.number
-        # the most open calls and pending expectations that the run reached
+        # the most open calls that the run reached, and the most expectations that the Rust had pending, with repeats
         reached = next((l.split()[1:] for l in lines if l.startswith("S ")), [])
         self.reached = dict(zip(reached[::2], map(int, reached[1::2])))
 

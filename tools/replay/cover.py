@@ -47,7 +47,9 @@ def table(answers):
         counted("node kinds", Counter(r.kind for r in tree if r.class_ == NODE)),
         counted("leaf kinds", Counter(r.kind for r in tree if r.class_ == LEAF)),
         "deepest nesting: %d nodes" % max(depth(a.parsed.rows) for a in good),
-        "most open calls: %d, most pending: %d" % tuple(max(a.reached[w] for a in good) for w in ("open", "pending")),
+        "most open calls: %d" % max(a.reached["open"] for a in good),
+        "most expectations of a report: %d; most pending in the Rust, with repeats: %d"
+        % (max(r.pool_count for r in reports), max(a.reached["pending"] for a in good)),
         "most tokens: %d, tree rows: %d, reports: %d" % (max(len(a.case.rows) for a in answers), len(tree), len(reports)),
     ]
     return "\n".join(lines) + "\n"

@@ -1,22 +1,23 @@
-"""Cases at the limits of refusal 5 and of the Rust's step counter (docs/DIFFERENCES.md, section 1)."""
+"""Cases at the limit of refusal 5, 64 open calls, and of the Rust's step counter (docs/DIFFERENCES.md, section 1); and
+those around 256 expectations that the Rust has pending with their repeats, which document 01 limited."""
 
 IF = "#if\\n"
 
 # entry, front, unit, back, and how often the unit stands there
 FAMILIES = [
-    (4, "", IF, ">", (35, 42)),
-    (4, "", IF, ";", (50, 51)),
+    (4, "", IF, ">", (35, 42, 63, 64)),
+    (4, "", IF, ";", (50, 51, 63, 64)),
     (4, "", IF, "}", (51,)),
     (4, "", IF, "{", (51,)),
     (4, "", IF, ",", (51,)),
     (4, "", IF, '"s"', (51,)),
-    (3, "<", IF, ">", (36, 42)),
+    (3, "<", IF, ">", (36, 42, 62, 63)),
     (3, "<", IF, ";", (51,)),
     (3, "/bits/ 8 <", IF, ">", (42,)),
-    (1, "a=<", IF, ">", (41, 42)),
+    (1, "a=<", IF, ">", (41, 42, 61, 62)),
     (1, "a=<", IF, ";", (50,)),
     (1, "a=<", IF, "}", (51,)),
-    (1, "/{a=<", IF, ";", (37, 50)),
+    (1, "/{a=<", IF, ";", (37, 50, 60, 61)),
     (3, "", IF, "", (64, 65)),
     (3, "", IF, '"s"', (64,)),
     (3, "", IF, "<", (63,)),
@@ -40,7 +41,7 @@ FAMILIES = [
     (1, "a=<", "(", "1" + ")" * 60 + ">;", (60, 61, 62)),
     (2, "", "{/", "", (40,)),
     (2, "", "M(", "", (80,)),
-    # exactly 256 pending, and 257
+    # exactly 256 pending in the Rust, and 257
     (4, "", IF, "a;", (50,)),
     (4, "", IF, "(1;", (50,)),
     # 64 and 65 open calls of eat_cell alone; those of the other three functions are above

@@ -11,29 +11,37 @@ def toks(kinds, text):
     return "toks %s %s" % (",".join(kinds), text)
 
 
-def accepted(reports=None, pool=None, nodes=(), branches=None, pending=None, calls=None):
-    """Claims of an accepted call: each report's message and range; all expectations by name; kind and width of nodes
-    that are there; how many nodes are branches of a conditional; how many expectations were pending, and how many calls
-    open, at most. None: nothing is claimed."""
-    claims = dict(reports=reports, pool=pool, nodes=nodes, branches=branches, pending=pending, calls=calls)
-    return dict(number=0, place=0, **claims)
+CLAIMS = "reports", "pool", "lists", "longest", "nodes", "branches", "pending", "calls"
+
+
+def accepted(**claims):
+    """Claims of an accepted call, of which any may be left out: each report's message and range (reports); all
+    expectations by name (pool), those of each report (lists), and how many one has at most (longest); kind and width of
+    nodes that are there (nodes); how many nodes are branches of a conditional (branches); how many expectations the
+    Rust had pending, repeats counted, and how many calls were open, at most (pending, calls)."""
+    assert {*claims} <= {*CLAIMS}
+    return {"number": 0, "place": 0, **dict.fromkeys(CLAIMS), **claims}
 
 
 def refused(number, place):
     return dict(number=number, place=place)
 
 
-# "a 65th open call .. or a 257th pending expectation", each from both sides; the place is the mark: so many tokens are
-# taken. The first four are the document's own.
+# "a 65th open call", from both sides; the place is the mark: so many tokens are taken. The first four are the
+# document's own. It has a limit of 256 pending expectations too, which can no longer be met: "document 01's 51 rows are
+# accepted" (document 02, 6/14).
 LIMITS = [
     # a cell, and an expression for each bracket: 64 calls
     ("63-brackets", 4, "text " + "(" * 63 + "1" + ")" * 63, ROOM, accepted(reports=[], calls=64)),
     ("64-brackets", 4, "text " + "(" * 64 + "1" + ")" * 64, ROOM, refused(5, 64)),
-    ("50-conditionals", 4, toks([IF] * 50 + ["Semicolon"], "x" * 50 + ";"), ROOM, accepted(pending=255)),
-    ("51-conditionals", 4, toks([IF] * 51 + ["Semicolon"], "x" * 51 + ";"), ROOM, refused(5, 51)),
-    # conditionals leave five at a time; a name after them makes one more, and an expression that ends too soon a 257th
-    ("256-pending", 4, toks([IF] * 50 + ["Ident", "Semicolon"], "x" * 50 + "a;"), ROOM, accepted(pending=256)),
-    ("257-pending", 4, toks([IF] * 50 + ["LParen", "Number", "Semicolon"], "x" * 50 + "(1;"), ROOM, refused(5, 52)),
+    ("50-conditionals", 4, toks([IF] * 50 + ["Semicolon"], "x" * 50 + ";"), ROOM, accepted(pending=255, longest=5)),
+    ("51-conditionals", 4, toks([IF] * 51 + ["Semicolon"], "x" * 51 + ";"), ROOM, accepted(pending=260, longest=5)),
+    # conditionals have five pending each, the same ones; a name after them makes one more, and an expression that ends
+    # too soon two
+    ("256-pushed", 4, toks([IF] * 50 + ["Ident", "Semicolon"], "x" * 50 + "a;"), ROOM,
+     accepted(pending=256, longest=6)),
+    ("257-pushed", 4, toks([IF] * 50 + ["LParen", "Number", "Semicolon"], "x" * 50 + "(1;"), ROOM,
+     accepted(pending=257, longest=7)),
     # item alone: a node inside a node, and a conditional inside a conditional
     ("64-nodes", 1, "text " + "/{" * 64 + "};" * 64, ROOM, accepted(reports=[], calls=64)),
     ("65-nodes", 1, "text " + "/{" * 65 + "};" * 65, ROOM, refused(5, 128)),

@@ -27,7 +27,7 @@ class Words:
         """The Rust's text of a report row."""
         if row.message != self.expected:
             return self.messages[row.message]
-        words = [self.words[code] for code in dict.fromkeys(pool)]
+        words = [self.words[code] for code in pool]
         text = self.first + " " + (", ".join(words[:-1]) + " or " if words[1:] else "") + words[-1]
         rest = [r.kind for r in case.rows[row.mark :] if r.kind not in self.trivia]
         if not rest:

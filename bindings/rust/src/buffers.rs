@@ -79,9 +79,10 @@ impl Room {
     }
 
     /// What so many tokens can need: the theorem of crates/bounds, 13 n + 1 events, 6 n + 1 tree rows, 3 n + 1 reports,
-    /// n more in the strict setting, and 768 n + 256 expectations.
+    /// n more in the strict setting, and 207 n + 69 expectations: [`Input::MAX_EXPECTATIONS`] in each of the run's
+    /// reports.
     const fn bound(n: usize) -> Self {
-        Self { tokens: 0, events: 13 * n + 1, trees: 6 * n + 1, errors: n, reports: 4 * n + 1, pool: 768 * n + 256 }
+        Self { tokens: 0, events: 13 * n + 1, trees: 6 * n + 1, errors: n, reports: 4 * n + 1, pool: 207 * n + 69 }
     }
 
     fn at_most(self, most: Self) -> Self {
@@ -135,7 +136,7 @@ mod tests {
     fn room_grows_up_to_the_theorem_and_no_further() {
         let most = Room::most(&blanks(100));
         assert_eq!((most.events, most.trees, most.errors), (1301, 601, 0));
-        assert_eq!((most.reports, most.pool), (401, 77056));
+        assert_eq!((most.reports, most.pool), (401, 20769));
         for refusal in [Refusal::NoEventRoom(0), Refusal::NoReportRoom(0), Refusal::NoTreeRoom] {
             let mut room = Room::first(&blanks(100));
             let mut turns = 0;
@@ -164,6 +165,7 @@ mod tests {
                 let bound = bound(name);
                 assert_eq!(room, bound[0] * n + bound[1], "{name}");
             }
+            assert_eq!(most.pool, (3 * n + 1) * Input::MAX_EXPECTATIONS);
         }
     }
 

@@ -16,8 +16,7 @@ pub enum Refusal {
     OddCount(usize),
     /// 4: this token's bytes are not the one text of its kind.
     BadText(usize),
-    /// 5: over [`Input::MAX_OPEN_CALLS`] open calls or over [`Input::MAX_EXPECTATIONS`] pending expectations, after so
-    /// many tokens.
+    /// 5: over [`Input::MAX_OPEN_CALLS`] open calls, after so many tokens.
     TooDeep(usize),
     /// 6: no room for the next event, after so many tokens.
     NoEventRoom(usize),
@@ -136,10 +135,7 @@ impl fmt::Display for Refusal {
             }
             Self::OddCount(row) => write!(f, "row {row}, counted from 0, has a kind and no length"),
             Self::BadText(row) => write!(f, "token {row}, counted from 0, has other bytes than its kind always has"),
-            Self::TooDeep(mark) => {
-                let (calls, expectations) = (Input::MAX_OPEN_CALLS, Input::MAX_EXPECTATIONS);
-                write!(f, "over {calls} calls are open or over {expectations} expectations pending after {mark} tokens")
-            }
+            Self::TooDeep(mark) => write!(f, "over {} calls are open after {mark} tokens", Input::MAX_OPEN_CALLS),
             Self::NoEventRoom(mark) => write!(f, "no room for an event after {mark} tokens"),
             Self::NoReportRoom(mark) => write!(f, "no room for a report or its expectations after {mark} tokens"),
             Self::NoTreeRoom => f.write_str("no room for the tree, the lexical errors or the list of a query"),
@@ -244,8 +240,7 @@ mod tests {
     #[test]
     fn limits_stand_in_the_texts() {
         assert_eq!(Refusal::TooLong.to_string(), "the input is over 1,048,576 bytes or over 65,536 tokens");
-        let deep = "over 64 calls are open or over 256 expectations pending after 7 tokens";
-        assert_eq!(Refusal::TooDeep(7).to_string(), deep);
+        assert_eq!(Refusal::TooDeep(7).to_string(), "over 64 calls are open after 7 tokens");
         assert_eq!([0, 999, 1000, 1_000_007].map(grouped), ["0", "999", "1,000", "1,000,007"]);
     }
 

@@ -15,7 +15,16 @@ pub struct Report {
     /// The index just past the last token that had been taken; for [`Message::NotALabel`] that of the name's first
     /// token.
     pub mark: usize,
-    /// What would have been taken, in order, with repeats. Empty except for [`Message::Expected`].
+    /// What would have been taken, each once, in the order in which it first came up. Empty except for
+    /// [`Message::Expected`].
+    ///
+    /// ```
+    /// # use dt_parser::{Entrypoint, Expected, Input, Token, TokenKind};
+    /// # let input = Input::new(b"#else", vec![Token::new(TokenKind::ElseDirective, 5)]);
+    /// let parse = Entrypoint::SourceFile.parse(&input)?; // of `#else`
+    /// assert_eq!(parse.reports[1].expected, [Expected::Kind(TokenKind::EndifDirective)]);
+    /// # Ok::<(), dt_parser::Error>(())
+    /// ```
     pub expected: Vec<Expected>,
     /// What stands at the mark, blanks and comments passed over; none at the end of the input.
     pub found: Option<TokenKind>,
@@ -35,28 +44,6 @@ pub struct Label {
 }
 
 impl Report {
-    /// What would have been taken, each once, as the message lists it.
-    ///
-    /// ```
-    /// # use dt_parser::{Entrypoint, Expected, Input, Token, TokenKind};
-    /// # let input = Input::new(b"#else", vec![Token::new(TokenKind::ElseDirective, 5)]);
-    /// let parse = Entrypoint::SourceFile.parse(&input)?; // of `#else`
-    /// let endif = Expected::Kind(TokenKind::EndifDirective);
-    /// assert_eq!(parse.reports[1].expected, [endif, endif]);
-    /// assert_eq!(parse.reports[1].expected_once(), [endif]);
-    /// # Ok::<(), dt_parser::Error>(())
-    /// ```
-    #[must_use]
-    pub fn expected_once(&self) -> Vec<Expected> {
-        let mut once = Vec::new();
-        for expected in &self.expected {
-            if !once.contains(expected) {
-                once.push(*expected);
-            }
-        }
-        once
-    }
-
     /// The message's text, as in dt-tools.
     #[must_use]
     pub fn text(&self) -> String {
@@ -82,11 +69,10 @@ impl Report {
 
     fn write_expected(&self, f: &mut fmt::Formatter<'_>) -> fmt::Result {
         f.write_str("Expected ")?;
-        let list = self.expected_once();
-        for (i, expected) in list.iter().enumerate() {
+        for (i, expected) in self.expected.iter().enumerate() {
             match i {
                 0 => {}
-                _ if i + 1 == list.len() => f.write_str(" or ")?,
+                _ if i + 1 == self.expected.len() => f.write_str(" or ")?,
                 _ => f.write_str(", ")?,
             }
             write!(f, "{expected}")?;

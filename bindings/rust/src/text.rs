@@ -42,7 +42,7 @@ pub enum TextError {
     },
     /// 2: over [`Input::MAX_TOKENS`] tokens.
     TooManyTokens,
-    /// 5: over [`Input::MAX_OPEN_CALLS`] open calls or over [`Input::MAX_EXPECTATIONS`] pending expectations.
+    /// 5: over [`Input::MAX_OPEN_CALLS`] open calls.
     TooDeep {
         /// How many tokens had been taken.
         tokens: usize,

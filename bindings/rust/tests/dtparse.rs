@@ -609,9 +609,7 @@ fn a_refusal_has_status_2_and_its_reason_is_reported() {
     let (open, many) = ("(".repeat(64), "LParen 1\n".repeat(64));
     assert_eq!(
         refused(&format!("entry Cells\nrows 64\n{many}text 64\n{open}")),
-        format!(
-            "{start} 5: over 64 calls are open or over 256 expectations pending after 64 tokens, the last of them at 1:64 of the text\n"
-        )
+        format!("{start} 5: over 64 calls are open after 64 tokens, the last of them at 1:64 of the text\n")
     );
     let blanks = 65_537;
     let file = format!("rows {blanks}\n{}text {blanks}\n{}", "0 1\n".repeat(blanks), " ".repeat(blanks));

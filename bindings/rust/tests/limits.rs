@@ -22,16 +22,22 @@ fn sixty_four_open_calls_are_the_most() {
     assert_eq!(brackets(64), Err(Error::Refused(Refusal::TooDeep(64))));
 }
 
+/// Conditionals in cells, one inside the other: token rows of kind 4 with no trivia between, and `;`.
+fn conditionals(count: usize) -> Result<usize, Error> {
+    let text = "#".repeat(count) + ";";
+    let tokens = [repeated(TokenKind::IfDirective, count), repeated(TokenKind::Semicolon, 1)].concat();
+    let input = Input::new(text.as_bytes(), tokens);
+    let parse = Entrypoint::Cells.parse(&input)?;
+    Ok(parse.reports.iter().map(|report| report.expected.len()).max().unwrap_or(0))
+}
+
+/// Each level that ends at the `;` has the same expected again: 51 levels push 260 expectations.
 #[test]
-fn two_hundred_fifty_six_expectations_are_the_most() {
-    let cells = |count: usize| {
-        let text = "#".repeat(count) + ";";
-        let tokens = [repeated(TokenKind::IfDirective, count), repeated(TokenKind::Semicolon, 1)].concat();
-        let input = Input::new(text.as_bytes(), tokens);
-        Entrypoint::Cells.parse(&input).map(|_| ())
-    };
-    assert_eq!(cells(50), Ok(()));
-    assert_eq!(cells(51), Err(Error::Refused(Refusal::TooDeep(51))));
+fn the_same_expected_again_meets_no_limit() {
+    for count in [2, 50, 51, 63] {
+        assert_eq!(conditionals(count), Ok(5), "{count}");
+    }
+    assert_eq!(conditionals(64), Err(Error::Refused(Refusal::TooDeep(64))));
 }
 
 #[test]

@@ -41,6 +41,27 @@ fn the_strict_setting_only_adds_reports_of_labels() {
     assert!(found > 0 || std::env::var_os("DT_ORACLE_ANSWERS").is_some(), "no case has such a label");
 }
 
+/// Document 02, 6/14.
+fn lists_each_once(report: &Report) -> bool {
+    let all = &report.expected;
+    all.len() <= Input::MAX_EXPECTATIONS && all.iter().enumerate().all(|(i, one)| !all[..i].contains(one))
+}
+
+#[test]
+fn no_report_lists_an_expectation_twice() {
+    let mut parser = Parser::new();
+    let mut longest = 0;
+    for case in answers::all() {
+        let input = Input::new(&case.text, case.tokens.clone());
+        for setting in [Setting::Old, Setting::Strict] {
+            let parse = parser.parse_in(setting, case.entry, &input).unwrap();
+            assert!(parse.reports.iter().all(lists_each_once), "{}: {:?}", case.line, parse.reports);
+            longest = parse.reports.iter().map(|report| report.expected.len()).fold(longest, usize::max);
+        }
+    }
+    assert!(longest > 10, "{longest}");
+}
+
 /// The answer in the oracle's lines.
 fn lines(parse: &Parse<'_>) -> String {
     let mut out = String::new();

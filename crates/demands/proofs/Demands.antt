@@ -3,6 +3,7 @@ use Rattle.demands.specs.Demands.{Demands}
 use Rattle.refusals.proofs.Refusals as refusals
 use Rattle.laws.proofs.Lossless as lossless
 use Rattle.laws.proofs.Limits as limits
+use Rattle.laws.proofs.Once as once
 use Rattle.precedence.proofs.Theorem as precedence
 use Rattle.precedence.proofs.Listed as listed
 use Rattle.brackets.proofs.Theorem as brackets
@@ -27,7 +28,7 @@ use Rattle.queries.proofs.Suffice as suffice
 use Rattle.queries.proofs.Answered as answered
 use Rattle.run_steps.proofs.Complete as complete
 use Rattle.turns.proofs.Turns as turns
-use Rattle.pending.proofs.Repeats as pending
+use Rattle.pending.proofs.AsBefore as pending
 
 pub demands : Demands
 demands =
@@ -71,6 +72,7 @@ demands =
             caret-answered = answered.caret-answered;
             parts-answered = answered.parts-answered;
           };
+      expectations = record { once = once.once; as-before = pending.as-before };
       beside =
           record {
             limits = limits.limits;
@@ -79,7 +81,6 @@ demands =
             numbers-fit = bounds.numbers-fit;
             turns = turns.turns;
             steps-complete = complete.complete;
-            repeats = pending.repeats;
             as-listed = listed.as-listed;
           };
     }

@@ -1,11 +1,13 @@
 -- THE DEMANDS: the three promises, of every call of the definitions in either setting, what the strict setting
--- promises, what calls over texts promise, what was refusal 3, and what holds beside them. Each line names the file
+-- promises, what calls over texts promise, what was refusal 3, what queries list, that each expectation is pending
+-- once, and what holds beside them. Each line names the file
 -- that words it. The exported routines answer as the definitions do (crates/dt_parser/src/lib.rt, text.rt), so all of
 -- this holds of them too.
 use Rattle.refusals.specs.Refusals.{Refusals}
 use Rattle.refusals.specs.Answered.{Answered}
 use Rattle.laws.specs.Lossless.{Nothing-lost}
 use Rattle.laws.specs.Limits.{Limits}
+use Rattle.laws.specs.Once.{Once}
 use Rattle.precedence.specs.Precedence.{C-table, One-tree}
 use Rattle.precedence.specs.Listed.{As-listed}
 use Rattle.brackets.specs.Brackets.{Brackets-proper}
@@ -30,7 +32,7 @@ use Rattle.queries.specs.UnderCaret.{Caret-answered}
 use Rattle.queries.specs.PartsListed.{Parts-answered}
 use Rattle.run_steps.specs.Signs.{Complete}
 use Rattle.turns.specs.Turns.{Turns}
-use Rattle.pending.specs.Pending.{Repeats}
+use Rattle.pending.specs.AsBefore.{As-before}
 
 -- PROMISE 1. Every call, with any bytes and numbers, gets a tree with its reports or one of the listed refusals,
 -- each under its listed condition only, and every lent buffer then holds what document 01 says.
@@ -127,10 +129,18 @@ pub record Queries : Type 0 where
   -- queries/specs/PartsListed.antt.
   pub parts-answered : Parts-answered
 
+-- Document 02's request 6/14: each expectation once.
+pub record Expectations : Type 0 where
+  -- At every moment of every run each pending expectation is a kind or one of the others, and none is pending twice, so
+  -- that there are at most 69; and so are the expectations of each report. laws/specs/Once.antt.
+  pub once : Once
+  -- Tree, events and reports are as they were, each list without its repeats; ranges too. It is the run with the Rust's
+  -- list. pending/specs/AsBefore.antt.
+  pub as-before : As-before
+
 -- What holds beside the promises, of the definitions and of all that the code can meet.
 pub record Beside : Type 0 where
-  -- In an accepted call at most 64 calls are open and at most 256 expectations are pending, at every moment of a run.
-  -- laws/specs/Limits.antt.
+  -- In an accepted call at most 64 calls are open, at every moment of its run. laws/specs/Limits.antt.
   pub limits : Limits
   -- A run makes at most a fixed multiple of the number of its tokens, of events, reports, expectations and tree rows; a
   -- setting reports at most one Name for each token; and no number of a call passes 32 bits.
@@ -142,11 +152,9 @@ pub record Beside : Type 0 where
   -- used.
   -- turns/specs/Turns.antt, over run_steps/specs/Steps.antt.
   pub turns : Turns
-  -- The steps of which the line above and the one below speak leave out no report and no refusal 5.
+  -- The steps of which the line above speaks leave out no report and no refusal 5.
   -- run_steps/specs/Signs.antt.
   pub steps-complete : Complete
-  -- Repeats among the pending expectations move no report's range. pending/specs/Pending.antt.
-  pub repeats : Repeats
   -- Document 02's request 3/14 changes no answer: the binding powers that are worked out are those of document 01's
   -- list, and every call's run is what it is with the list. precedence/specs/Listed.antt.
   pub as-listed : As-listed
@@ -159,4 +167,5 @@ pub record Demands : Type 0 where
   pub texts : Texts
   pub row-causes : Row-causes
   pub queries : Queries
+  pub expectations : Expectations
   pub beside : Beside

@@ -72,7 +72,7 @@ push-other k = same (eqb k K.Semicolon) (eqb k K.Comma)
     same false true = refl
     same false false = refl
 
--- a list that is pushed once is told apart as one that is pushed each time, if it is `other` where the push is left out
+-- after `pushed-once` a list counts as after a plain push, if it counts as `other` where the push is left out
 pub pend-once : (k : ℕ) (l : List ℕ) → (one-of l k ≡ true → pend-from empty l ≡ other) → pend-from empty (pushed-once k l) ≡ push k (pend-from empty l)
 unfolding pushed-once pend-from
 pend-once k l h =

@@ -1,5 +1,5 @@
-// The parser's refusals at their exact boundary: what just fits, and one number fewer. (A 65th open call, the other way
-// to refusal 5, is the grammar's.)
+// What is pending when every number of a byte is pushed, and the parser's refusals at their exact boundary: what just
+// fits, and one number fewer. (Refusal 5, a 65th open call, is the grammar's.)
 use cases::scan::least;
 use cases::show;
 use layout::token_kind;
@@ -30,24 +30,30 @@ fn say_reports(reports: usize, pool: usize) {
     show::number(pool as u64);
 }
 
-// So many expectations more.
+// So many numbers more, from 0 on and after 255 from 0 again.
 fn pushed(p: Parser, n: usize) -> Parser {
     let mut q = p;
     let mut i: usize = 0;
     while i < n {
-        q = q.add_expected(token_kind::SEMICOLON);
+        let code = (i % 256) as u8;
+        q = q.add_expected(code);
         i += 1;
     }
     q
 }
 
-// So many expectations after a token.
+// So many numbers pushed after a token: how many are pending, and how many of them are different.
 fn expectations(n: usize) {
     let mut events = [0u32; 3];
     let taken = Parser::new().bump(&TOKENS, &mut events);
     let p = pushed(taken, n);
-    show::text(b"expectations");
+    show::text(b"numbers pushed");
     show::number(n as u64);
+    show::text(b", pending");
+    show::number(p.s.pending.count as u64);
+    show::text(b", different");
+    let different = p.s.pending.different();
+    show::number(different as u64);
     say(p.s);
 }
 
@@ -88,8 +94,12 @@ fn report_on(event_numbers: usize, report_numbers: usize, codes: usize) {
 }
 
 fn main() {
+    // The kinds; lexical errors and what else is no expectation; the others; every number, and every number twice.
+    expectations(61);
+    expectations(101);
+    expectations(109);
     expectations(256);
-    expectations(257);
+    expectations(512);
     // Both events, one number fewer, the first event alone, and one number fewer.
     events_on(6);
     events_on(5);

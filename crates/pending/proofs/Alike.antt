@@ -1,8 +1,8 @@
--- What two runs make, side by side. First the run as it is, then one with another pending list: the same pieces, and the
--- reports alike. `refused` and `after`: whether refusal 5 has come before these pieces, and after them; from then on
--- nothing is said of the ranges.
+-- What two runs make, side by side: first the run as it is, then one with another pending list. The pieces are the
+-- same, and the reports alike. Of `Alike`'s two flags the first says whether this run was refused 5 before these
+-- pieces, and the second whether it was after them; once it was, nothing is said of the ranges.
 use Prim.Native.Nat.{ℕ, zero, suc}
-use mathlib.Core.Path.{_≡_, refl, ap, _∙_}
+use mathlib.Core.Path.{_≡_, ap, _∙_}
 use mathlib.Core.Bool.{Bool, true, false}
 use mathlib.Core.List.{List}
 use Rattle.definitions.specs.Token.{Token}
@@ -10,7 +10,8 @@ use Rattle.definitions.specs.Skeleton.{Span, Report, Skeleton, done, token, nam
 use Rattle.definitions.specs.Run.{closed}
 use Rattle.pending.specs.AsBefore.{unranged}
 
--- how the two compare: what became of a report's list, and whether the other run may be refused where this one is not
+-- How the two compare. list: the list of a report here, by that of the other run. Limited: whether the other run may be
+-- refused 5 where this one is not.
 pub record Terms : Type 1 where
   pub list : List ℕ → List ℕ
   pub Limited : Type 0
@@ -30,7 +31,7 @@ pub data Alike (c : Terms) : Bool → Bool → Skeleton → Skeleton → Type 0 
   ignoreds : {f g h j : Bool} {a b i o p q : Skeleton} (m m′ : ℕ) → Alike c f g a b → Alike c g h i o → Alike c h j p q → Alike c f j (ignored m m′ a i p) (ignored m m′ b o q)
   reports : {f g : Bool} {p q : Skeleton} {r s : Report} → Reports c f r s → Alike c f g p q → Alike c f g (report r p) (report s q)
   overs : {f g : Bool} {p q : Skeleton} (m : ℕ) → Alike c true g p q → Alike c f g (over m p) (over m q)
-  -- an expectation too many
+  -- an expectation too many, in the other run
   limit : {f g : Bool} {p q : Skeleton} (m : ℕ) → c .Limited → Alike c f g p q → Alike c f g p (over m q)
 
 -- one after the other
@@ -55,5 +56,5 @@ alike-closed (suc k) m m′ x y = nodes (suc k) m m′ x y no-more
 abbrev ranged : Span → Report → Report
 ranged s r = record { message = r .message; range = s; mark = r .mark; hint = r .hint; labelled = r .labelled; pool = r .pool }
 
-pub reports-same : (c : Terms) (r q : Report) → Reports c false r q → r ≡ listed c q
-reports-same c r q h = ap (λ (s : Span). ranged s (unranged r)) (h .range refl) ∙ ap (ranged (q .range)) (h .but-range)
+pub reports-same : {c : Terms} {f : Bool} {r q : Report} → f ≡ false → Reports c f r q → r ≡ listed c q
+reports-same {r} {q} e h = ap (λ (s : Span). ranged s (unranged r)) (h .range e) ∙ ap (ranged (q .range)) (h .but-range)

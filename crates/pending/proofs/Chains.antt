@@ -13,6 +13,10 @@ use Rattle.pending.proofs.Alike.{Terms, Alike, no-more, alike-join, ali
 use Rattle.pending.proofs.Steps.{each-first, each-second, free-both}
 use Rattle.pending.proofs.Together.{shrunk, Settled, as-of, Piece, Together, Follows, by-steps, later, then, idle}
 
+-- the steps of a chain whose first program gave n by the steps ss. G, T: what a link does, and its steps.
+abbrev pub chain-steps : (State → Out) → (State → List Step) → List Step → Out → List Step
+chain-steps G T ss n = ss ++ cond (is-again (n .ans)) (links-steps (suc (length (n .state .rest))) G T (n .state)) []
+
 -- ---------------------------------------------------------------- loops
 
 module _ (c : Terms) (F G : State → Out) (T : State → List Step) (S : Follows c F G T) where
@@ -107,11 +111,8 @@ module _ (c : Terms) (F G : State → Out) (T : State → List Step) (S : Follow
       (linked-so k (links-follows k) f g h m a b i j α β s (F s) (w .what) (w .piece) (F s .shape) (goes-on s (F s))) e
 
   -- a chain whose first program, from s, gave o
-  abbrev pub chain-steps : List Step → Out → List Step
-  chain-steps ss n = ss ++ cond (is-again (n .ans)) (links-steps (suc (length (n .state .rest))) G T (n .state)) []
-
-  pub chained-so : (f : Bool) (s : State) (ss : List Step) (o : Out) (p : Skeleton) → Piece c f f ss o p → (f ≡ false → Every-step Good (chain-steps ss (as-of o p)))
-      → Together c f f (chain-steps ss (as-of o p)) (chained F s o) (chained G (shrunk s) (as-of o p))
+  pub chained-so : (f : Bool) (s : State) (ss : List Step) (o : Out) (p : Skeleton) → Piece c f f ss o p → (f ≡ false → Every-step Good (chain-steps G T ss (as-of o p)))
+      → Together c f f (chain-steps G T ss (as-of o p)) (chained F s o) (chained G (shrunk s) (as-of o p))
   unfolding chained
   chained-so f s ss o p w = go (is-again (o .ans))
     where
@@ -123,4 +124,3 @@ module _ (c : Terms) (F G : State → Out) (T : State → List Step) (S : Follow
           later c f f ss _ o p w _ _
           (links-follows (suc (length (o .state .rest))) f f (w .after) (mark-of s) done done p (o .made) no-more (w .made) (o .state) (w .settled) (λ q. each-second Good ss _ (e (w .free q .0)) (w .free q .1)))
       go false e = ended f f f (w .after) (mark-of s) done done p (o .made) _ (o .ans) (o .state) no-more (w .made) (w .settled) (λ q. (w .free q .0, free-both ss [] (w .free q .1) tt))
-

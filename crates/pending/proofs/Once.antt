@@ -1,5 +1,5 @@
--- A list without repeats: dropping them twice is dropping them once, and pushing onto it what is not in it (`pushed-once`)
--- is pushing first and dropping then.
+-- A list without repeats: dropping them twice is dropping them once, and to push onto it what is not in it (the
+-- definitions' `pushed-once`) is to push first and to drop then.
 use Prim.Native.Nat.{ℕ, suc, _≤_}
 use native.Mathlib.Nat.{le-refl}
 use native.Mathlib.Omega.{arith}

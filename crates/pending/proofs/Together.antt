@@ -18,8 +18,8 @@ use Rattle.pending.proofs.Steps.{each-second, free-both}
 abbrev pub shrunk : State → State
 shrunk s = record { rest = s .rest; since = s .since; pending = once (s .pending) }
 
--- unless the run is refused before: the test for separators comes out alike on the two lists, and goes on to whatever is
--- pushed
+-- unless the run was refused 5 before: the test for separators comes out alike on the two lists, and goes on to
+-- whatever is pushed
 pub record Settled (refused : Bool) (l : List ℕ) : Type 0 where
   pub test : refused ≡ false → (u : List ℕ) → only-separators (once l ++ u) ≡ only-separators (l ++ u)
 
@@ -100,7 +100,6 @@ module _ (c : Terms) where
   more f ss o n w x y u e k =
       subst (λ (z : Out). (f ≡ false → Every-step Good (ss ++ u z)) → Together c f f (ss ++ u z) (add o x) (add z (y z))) (sym (w .same))
       (λ i. then f f ss (u (as-of o (w .what))) o x (y (as-of o (w .what))) (w .what) (w .piece) i (k (w .what) (w .piece .after) (w .piece .settled))) e
-
 
   -- in a marker
   pub in-mark : (f : Bool) (ss : List Step) (s : State) (o n : Out) → Together c f f ss o n → Together c f f ss (marked s o) (marked (shrunk s) n)

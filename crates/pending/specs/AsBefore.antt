@@ -1,13 +1,14 @@
--- AS BEFORE (document 02, 6/14). Each expectation is now pending once. The run of every entry over every list of tokens
--- is compared with the run as it was (specs/Before.antt):
---   whatever becomes of the call, the events, the tree and the reports are the same, but that each report's list has lost
---   its repeats, first arrivals in their order;
---   up to refusal 5, where the run meets it, the ranges of the reports are the same too (after it no call is answered
---   from them);
---   a call that was not refused 5 is not, one that fitted the lent buffers fits, and no expectation is one too many.
--- And with the Rust's list (specs/Rust.antt) the run is the same in everything, so that it is no matter when repeats are
--- dropped. It excludes a grammar that pushes a Semicolon or a Comma a second time where only separators are pending.
-use Prim.Native.Nat.{ℕ, _≤_}
+-- AS BEFORE (document 02, 6/14). Each expectation is now pending once. Here the run of every entry over every list of
+-- tokens is compared with the run as it was (specs/Before.antt), whatever becomes of the call:
+--   it has the same events, the same tree and the same reports, each report's list without its repeats, first arrivals
+--   in their order;
+--   the ranges of the reports are the same too: of all that come before refusal 5, if the run meets it (of those after
+--   it nothing is said, and no call is answered from them);
+--   a call that was not refused 5 is not refused 5, and one that fitted the lent buffers fits.
+-- And where it is not refused 5, it is the run with the Rust's list (specs/Rust.antt) in everything: it is no matter
+-- when repeats are dropped. It excludes a grammar that pushes a Semicolon or a Comma a second time where separators
+-- alone are pending.
+use Prim.Native.Nat.{_≤_}
 use mathlib.Core.Path.{_≡_}
 use mathlib.Core.Bool.{false}
 use mathlib.Core.List.{List, [], _∷_, map}
@@ -70,21 +71,25 @@ before-refusal (exceeded m ∷ l) = []
 
 -- ---------------------------------------------------------------- the statement
 
--- more room than y is left: as many events and reports, and for at least as many expectations
+-- y: the room that was left. z: the room that is left, the same but that it may be for more expectations.
 pub record Roomier (y z : Room) : Type 0 where
   pub events : z .events ≡ y .events
   pub reports : z .reports ≡ y .reports
   pub pool : y .pool ≤ z .pool
 
--- old: what the run made before. new: what it makes.
+-- old: what the run made. new: what it makes.
 pub record Compared (e : Entry) (ts : List Token) (old new : Skeleton) : Type 0 where
   pub same-events : events false new ≡ events false old
   pub same-tree : root (root-kind e) new ts ≡ root (root-kind e) old ts
+  -- every report, but for its range
   pub same-reports : map unranged (reports (pushes new)) ≡ map (λ r. unranged (thin r)) (reports (pushes old))
-  pub same-ranges : before-refusal (pushes new) ≡ take (length (before-refusal (pushes new))) (map thin (reports (pushes old)))
-  pub all-ranges : None-exceeded (pushes new) → reports (pushes new) ≡ map thin (reports (pushes old))
+  -- with its range, each that comes before refusal 5; so all of them, where that does not come
+  pub first-reports : before-refusal (pushes new) ≡ take (length (before-refusal (pushes new))) (map thin (reports (pushes old)))
+  pub all-reports : None-exceeded (pushes new) → reports (pushes new) ≡ map thin (reports (pushes old))
+  -- what was not refused 5 is not, and is as it was, the lists apart
   pub not-refused : None-exceeded (pushes old) → None-exceeded (pushes new)
-  pub unlimited : None-exceeded (pushes old) → new ≡ thinned old
+  pub same-made : None-exceeded (pushes old) → new ≡ thinned old
+  -- what fitted fits
   pub fitting : (x y : Room) → scan (pushes old) x ≡ fits y → (z : Room) × (scan (pushes new) x ≡ fits z) × Roomier y z
 
 pub record Same-as (e : Entry) (ts : List Token) : Type 0 where

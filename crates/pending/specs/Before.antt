@@ -1,6 +1,6 @@
--- THE RUN AS IT WAS before 6/14, to compare the run with (specs/AsBefore.antt): an expectation was pushed whether it was
--- pending or not, and a 257th pending one was refusal 5. `over-unless` and `do-expected` are the definitions of then,
--- letter by letter.
+-- THE RUN AS IT WAS before 6/14. It is here only for the comparison (specs/AsBefore.antt), and no crate uses it for
+-- anything else. An expectation was pushed whether it was pending or not, and a 257th pending one was refusal 5.
+-- `over-unless` and `do-expected` are the definitions of then, letter by letter.
 use Prim.Native.Nat.{ℕ}
 use mathlib.Core.Bool.{Bool, true, false}
 use mathlib.Core.List.{List, [], _∷_, _++_}
@@ -31,5 +31,5 @@ abbrev pub before : Way
 before = record { push = do-expected; write = λ m s. s }
 
 unfoldable pub run-entry : Entry → List Token → Skeleton
-unfolding RunBy.run-entry
+unfolding RunBy.run-entry do-expected
 run-entry e ts = RunBy.run-entry before e ts

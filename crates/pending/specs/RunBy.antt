@@ -1,6 +1,6 @@
--- A RUN WITH ANOTHER PENDING LIST: `Run.perform`, `Run.exec`, `Run.run` and `Call.run-entry`, clause by clause, with what
--- is done to the pending list as an argument. Runs of two such lists (specs/Before.antt, specs/Rust.antt) differ in
--- nothing else.
+-- A RUN WITH ANOTHER PENDING LIST: `Run.perform`, `Run.exec`, `Run.run` and `Call.run-entry`, clause by clause, with
+-- what is done to the pending list as an argument. So the runs that are compared (specs/Before.antt, specs/Rust.antt)
+-- differ in that and in nothing else.
 use Prim.Native.Nat.{ℕ, zero, suc}
 use mathlib.Core.List.{List, [], _∷_}
 use lib.Dec.{ltb}
@@ -13,7 +13,7 @@ use Rattle.definitions.specs.Grammar.{grammar, Entry, whole}
 use Rattle.definitions.specs.Skeleton.{Label, no-label, Skeleton, done, over}
 use Rattle.definitions.specs.Run.{State, Out, mark-of, peeked, truth, replies, makes, taken, do-bump, do-name, do-argument, do-emit, add, marked, iter, chained, here}
 
--- push: pushes an expectation. write: the state in which a report with a message is made, by the state before.
+-- push: pushes an expectation. write: the state in which a report with a message is made, by the one before it.
 pub record Way : Type 0 where
   pub push : ℕ → State → Out
   pub write : ℕ → State → State

@@ -1,6 +1,7 @@
--- THE RUN WITH THE RUST'S LIST, to compare the run with (specs/AsBefore.antt). The Rust pushes an expectation whether it
--- is pending or not (`add_expected`), without limit. Where it writes message 1 it drops the repeats from its list
--- (`fmt_expected_message`), and then tests what is left for the range (`current_token_error_range`).
+-- THE RUN WITH THE RUST'S LIST, for the comparison (specs/AsBefore.antt). The Rust pushes an expectation whether it is
+-- pending or not (`add_expected`), without limit. Where it writes message 1 it drops the repeats from its list
+-- (`fmt_expected_message`), and then tests what is left for the range (`current_token_error_range`). The limit of open
+-- calls is document 01's.
 use Prim.Native.Nat.{ℕ}
 use mathlib.Core.Bool.{cond}
 use mathlib.Core.List.{List, [], _∷_, _++_}
@@ -27,5 +28,5 @@ abbrev pub rust : Way
 rust = record { push = do-expected; write = written }
 
 unfoldable pub run-entry : Entry → List Token → Skeleton
-unfolding RunBy.run-entry
+unfolding RunBy.run-entry do-expected written
 run-entry e ts = RunBy.run-entry rust e ts

@@ -1,2 +1,2 @@
-// A report's range and the repeats in the pending list: see specs/ for the statement and proofs/ for the rest. There is
-// no code here.
+// Each expectation once: the run compared with the run as it was before. See specs/ for the statement and proofs/ for
+// the rest. There is no code here.

@@ -76,7 +76,7 @@ impl Run {
     fn file(&mut self, r: &mut Rng, way: usize, call: &mut QueryCall, also: bool) -> bool {
         call.parse.setting = SETTING_OLD;
         let Ok((input, unchanged)) = self.judge.input(&call.parse, also) else { return false };
-        self.tally.case(way, &call.parse, unchanged);
+        self.tally.case(way, &call.parse, unchanged, self.judge.parse.repeats);
         let few = matches!(input, Input::Bad(..)) || call.parse.bytes.len() > MOST;
         [SETTING_OLD, make::strict_setting(r)].into_iter().all(|setting| {
             call.parse.setting = setting;

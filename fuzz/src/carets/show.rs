@@ -36,35 +36,34 @@ pub fn line(call: &QueryCall) -> String {
 pub fn both(judge: &mut QueryJudge, call: &QueryCall) -> bool {
     println!("call: {}", line(call));
     let v = judge.whole(call, true);
-    match &v.wrong {
-        None => println!("both: {}", list_answer(&v.given)),
-        Some(Wrong::Panic(text)) => println!("the patched Rust panics: {text}"),
-        Some(Wrong::Oracle) => println!("the patched and the unchanged Rust differ"),
-        Some(Wrong::Readings) => println!("the readings of bad rows by document 01 and by request 4/14 do not agree"),
-        Some(Wrong::Finder) => println!("the Rust's own search finds another leaf at one of the offsets"),
-        Some(w) => {
-            println!("expected: {}\nlibrary:  {}", list_answer(&v.expected.answer), list_answer(&v.given));
-            match w {
-                Wrong::Buffer(i) => println!("the buffer that differs, or a number around it: {}", buffer_name(*i)),
-                Wrong::List => println!("the buffer that differs, or a number around it: list"),
-                Wrong::Input => println!("the library wrote to its input"),
-                _ => {}
-            }
-            if call.parse.bytes.len() > MOST {
-                return false;
-            }
-            println!("expected buffers:");
-            match judge.held_list(&v.expected) {
-                Held::AsItWas => println!("  list: as it was"),
-                Held::Rows(all) => list(all),
-                Held::Zero => println!("  list: all zero"),
-            }
-            let answer = v.expected.answer.answer;
-            (0..BUFFERS).for_each(|i| expected_buffer(&judge.parse, call.parse.setting, answer, i));
-            println!("the library's buffers, whole:");
-            list(judge.list.get());
-            (0..BUFFERS).for_each(|i| rows(i, judge.parse.buffers.get(i)))
-        }
+    let Some(wrong) = &v.wrong else {
+        println!("both: {}", list_answer(&v.given));
+        return true;
+    };
+    if let Some(said) = wrong.before_call() {
+        println!("{said}");
+        return false;
     }
-    v.wrong.is_none()
+    println!("expected: {}\nlibrary:  {}", list_answer(&v.expected.answer), list_answer(&v.given));
+    match wrong {
+        Wrong::Buffer(i) => println!("the buffer that differs, or a number around it: {}", buffer_name(*i)),
+        Wrong::List => println!("the buffer that differs, or a number around it: list"),
+        Wrong::Input => println!("the library wrote to its input"),
+        _ => {}
+    }
+    if call.parse.bytes.len() > MOST {
+        return false;
+    }
+    println!("expected buffers:");
+    match judge.held_list(&v.expected) {
+        Held::AsItWas => println!("  list: as it was"),
+        Held::Rows(all) => list(all),
+        Held::Zero => println!("  list: all zero"),
+    }
+    let answer = v.expected.answer.answer;
+    (0..BUFFERS).for_each(|i| expected_buffer(&judge.parse, call.parse.setting, answer, i));
+    println!("the library's buffers, whole:");
+    list(judge.list.get());
+    (0..BUFFERS).for_each(|i| rows(i, judge.parse.buffers.get(i)));
+    false
 }

@@ -1,4 +1,4 @@
-//! Nesting around the limit of 64 open calls, and runs of one pattern around the limit of 256 expectations.
+//! Nesting around the limit of 64 open calls.
 use super::corpus::{Corpus, Tok};
 use crate::rng::Rng;
 use oracle::token::TokenKind::{self, *};
@@ -47,17 +47,5 @@ pub fn tokens(r: &mut Rng, c: &Corpus, entry: u32, out: &mut Vec<Tok>) {
     let kept = if r.p(60) { levels.len() } else { r.n(levels.len() + 1) };
     for l in levels.iter().rev().take(kept) {
         l.2.iter().for_each(|&k| out.push(c.kind(r, k)))
-    }
-}
-
-/// One to three tokens again and again, then up to two others.
-pub fn run(r: &mut Rng, c: &Corpus, out: &mut Vec<Tok>) {
-    let unit: Vec<Tok> = (0..1 + r.n(3)).map(|_| if r.p(30) { c.kind(r, IfDirective) } else { c.sample(r) }).collect();
-    let times = if r.p(70) { 1 + r.n(20) } else { 36 + r.n(20) };
-    for _ in 0..times {
-        out.extend_from_slice(&unit)
-    }
-    for _ in 0..r.n(3) {
-        out.push(c.sample(r))
     }
 }

@@ -15,6 +15,7 @@ mod expr;
 mod labels;
 pub mod lengths;
 mod limits;
+mod repeats;
 pub mod texts;
 
 /// The ways of making an input, with how many of a thousand cases are made so.
@@ -26,7 +27,7 @@ const WAYS: &[(&str, usize)] = &[
     ("rows that no lexer gives", 80),
     ("damaged text, lexed", 60),
     ("deep nesting", 50),
-    ("runs of one pattern", 48),
+    ("the same expected again", 48),
     ("whole files, damaged", 2),
     ("labels and references", 150),
 ];
@@ -117,7 +118,8 @@ impl Maker {
             3 => expr::tokens(r, c, entry, t),
             4 => c.unlexable(r, t),
             6 => deep::tokens(r, c, entry, t),
-            7 => deep::run(r, c, t),
+            7 if r.p(50) => repeats::levels(r, c, entry, t),
+            7 => repeats::run(r, c, t),
             9 => labels::tokens(r, c, entry, t),
             _ => c.file(r, t),
         }

@@ -4,6 +4,7 @@ use super::call::TextCall;
 use crate::buffers::{Buffer, Held};
 use crate::call::{Call, flat};
 use crate::judge::{Input, Judge, Wrong, is_early};
+use crate::once::Repeats;
 use crate::text::{self, Refusal};
 use crate::unchanged::Unchanged;
 use dt_parser_ffi::{self as ffi, Answer, TextAnswer};
@@ -51,6 +52,11 @@ impl TextJudge {
     /// None if the text is refused before a parse, whatever is lent.
     pub fn is_parsed(&self) -> bool {
         self.refused.is_none()
+    }
+
+    /// Of the parse: how many lists the Rust had with repeats.
+    pub fn repeats(&self) -> Repeats {
+        if self.is_parsed() { self.parse.repeats } else { Repeats::default() }
     }
 
     pub fn token_numbers(&self) -> usize {

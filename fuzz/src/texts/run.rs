@@ -22,7 +22,7 @@ pub fn run(plan: &Plan) -> bool {
         let also = plan.unchanged > 0 && i % plan.unchanged == 0;
         call.setting = SETTING_OLD;
         let good = judge.input(&call, also).is_ok_and(|unchanged| {
-            tally.case(way, &judge.of_tokens, unchanged);
+            tally.case(way, &judge.of_tokens, unchanged, judge.repeats());
             [SETTING_OLD, strict_setting(&mut r)].into_iter().all(|setting| {
                 call.setting = setting;
                 one(&mut r, &mut judge, &mut tally, &mut call)

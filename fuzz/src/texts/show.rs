@@ -28,32 +28,33 @@ pub fn line(call: &TextCall) -> String {
 pub fn both(judge: &mut TextJudge, call: &TextCall) -> bool {
     println!("call: {}", line(call));
     let v = judge.whole(call, true);
-    match &v.wrong {
-        None => println!("both: {}", text_answer(&v.given)),
-        Some(Wrong::Panic(text)) => println!("the patched Rust panics: {text}"),
-        Some(Wrong::Oracle) => println!("the patched and the unchanged Rust differ"),
-        Some(w) => {
-            println!("expected: {}\nlibrary:  {}", text_answer(&v.expected), text_answer(&v.given));
-            match w {
-                Wrong::Buffer(i) => println!("the buffer that differs, or a number around it: {}", buffer_name(*i)),
-                Wrong::Tokens => println!("the buffer that differs, or a number around it: tokens"),
-                Wrong::Input => println!("the library wrote to its input"),
-                _ => {}
-            }
-            if call.bytes.len() > MOST {
-                return false;
-            }
-            println!("expected buffers:");
-            match judge.held_tokens(v.expected) {
-                Held::AsItWas => println!("  tokens: as it was"),
-                Held::Rows(all) => token_rows(all),
-                Held::Zero => println!("  tokens: all zero"),
-            }
-            (0..BUFFERS).for_each(|i| expected_buffer(&judge.parse, call.setting, v.expected.answer, i));
-            println!("the library's buffers, whole:");
-            token_rows(judge.token_buffer.get());
-            (0..BUFFERS).for_each(|i| rows(i, judge.parse.buffers.get(i)))
-        }
+    let Some(wrong) = &v.wrong else {
+        println!("both: {}", text_answer(&v.given));
+        return true;
+    };
+    if let Some(said) = wrong.before_call() {
+        println!("{said}");
+        return false;
     }
-    v.wrong.is_none()
+    println!("expected: {}\nlibrary:  {}", text_answer(&v.expected), text_answer(&v.given));
+    match wrong {
+        Wrong::Buffer(i) => println!("the buffer that differs, or a number around it: {}", buffer_name(*i)),
+        Wrong::Tokens => println!("the buffer that differs, or a number around it: tokens"),
+        Wrong::Input => println!("the library wrote to its input"),
+        _ => {}
+    }
+    if call.bytes.len() > MOST {
+        return false;
+    }
+    println!("expected buffers:");
+    match judge.held_tokens(v.expected) {
+        Held::AsItWas => println!("  tokens: as it was"),
+        Held::Rows(all) => token_rows(all),
+        Held::Zero => println!("  tokens: all zero"),
+    }
+    (0..BUFFERS).for_each(|i| expected_buffer(&judge.parse, call.setting, v.expected.answer, i));
+    println!("the library's buffers, whole:");
+    token_rows(judge.token_buffer.get());
+    (0..BUFFERS).for_each(|i| rows(i, judge.parse.buffers.get(i)));
+    false
 }

@@ -13,6 +13,9 @@ abbrev μ-loop : tie.MeasureT-loop
 loop-holds : tie.Need-loop-holds Inv-loop μ-loop
 loop-holds c = omega arith
 
+cast-code : tie.Need-cast-code Inv-loop μ-loop
+cast-code c = omega arith
+
 add-expected-requires : tie.Need-add-expected-requires Inv-loop μ-loop
 add-expected-requires c κs = tt
 
@@ -29,4 +32,4 @@ returns : tie.Need-returns Inv-loop μ-loop
 returns c = tt
 
 pub pushed-spec : {M : Type 1} → statement M
-pushed-spec = tie.close (tie.spec Inv-loop μ-loop loop-holds add-expected-requires add-i loop-less loop-again returns)
+pushed-spec = tie.close (tie.spec Inv-loop μ-loop loop-holds cast-code add-expected-requires add-i loop-less loop-again returns)

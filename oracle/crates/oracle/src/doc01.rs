@@ -1,11 +1,13 @@
-//! A run of the patched copy as document 01's numbers, and what becomes of it in buffers of given lengths.
-//! Entry, bytes and tokens were found good before (`checks`).
+//! A run of the patched copy as document 01's numbers, each expectation once, and what becomes of it in buffers of
+//! given lengths. Entry, bytes and tokens were found good before (`checks`).
 use crate::case::Rows;
+use crate::once::once;
 use crate::parsed::{Parsed, Report};
-use crate::parsers::patched::{self, Added};
+use crate::parsers::patched;
 use dt_parser_layout::{
     self as layout, BUFFERS, ERRORS, EVENTS, Lengths, POOL, REPORTS, ROW, ROW_EVENT, ROW_REPORT, TREES,
 };
+pub use parser_doc01::record::Report as Recorded;
 use parser_doc01::record::{self, Step};
 
 #[derive(Default)]
@@ -22,15 +24,18 @@ impl Run {
         record::reset(unit_immediate);
         let answer = patched::parse(entry, toks, text);
         self.pushed = pushed();
-        let (parsed, added) = answer?;
+        let parsed = answer?;
         self.rows.iter_mut().for_each(Vec::clear);
         let [_, trees, errors, reports, pool] = &mut self.rows;
         parsed.tree_rows(toks, trees);
         errors.extend_from_slice(&parsed.lexical);
-        for (r, a) in parsed.reports.iter().zip(&added) {
-            reports.extend(report_row(r, a, pool.len()));
-            pool.extend_from_slice(a.pool.as_deref().unwrap_or(&[]))
-        }
+        let mut of_rust = parsed.reports.iter();
+        for_reports(|recorded| {
+            let (report, codes) = (of_rust.next().expect("each is recorded once"), listed(recorded));
+            reports.extend(report_row(report, recorded, pool.len(), codes.len()));
+            pool.extend(codes)
+        });
+        assert!(of_rust.next().is_none(), "each is recorded");
         Ok(parsed)
     }
 
@@ -50,8 +55,25 @@ impl Run {
     }
 }
 
-fn report_row(r: &Report, a: &Added, first: usize) -> [u32; ROW_REPORT] {
-    let message = if a.pool.is_some() { layout::MESSAGE_EXPECTED } else { message_number(&r.message) };
+/// What was recorded of each report of the last run, in order.
+pub fn for_reports(mut f: impl FnMut(&Recorded)) {
+    record::with_log(|log| {
+        for step in log {
+            if let Step::Report(recorded) = step {
+                f(recorded)
+            }
+        }
+    })
+}
+
+/// A report's part of the pool: "its pool count is the pending list's length for message 1 and 0 for every other
+/// message".
+fn listed(recorded: &Recorded) -> Vec<u32> {
+    if recorded.lists { once(&recorded.pending) } else { vec![] }
+}
+
+fn report_row(r: &Report, recorded: &Recorded, first: usize, count: usize) -> [u32; ROW_REPORT] {
+    let message = if recorded.lists { layout::MESSAGE_EXPECTED } else { message_number(&r.message) };
     let (mut hint, mut label) = (layout::HINT_NONE, (0, 0));
     for (range, text) in &r.labels {
         match hint_number(text) {
@@ -59,9 +81,8 @@ fn report_row(r: &Report, a: &Added, first: usize) -> [u32; ROW_REPORT] {
             None => label = (range.start as u32, range.end as u32),
         }
     }
-    let count = a.pool.as_ref().map_or(0, Vec::len);
     let (start, end) = (r.range.start as u32, r.range.end as u32);
-    [message, start, end, a.mark as u32, first as u32, count as u32, hint, label.0, label.1]
+    [message, start, end, recorded.mark as u32, first as u32, count as u32, hint, label.0, label.1]
 }
 
 fn pushed() -> [usize; BUFFERS] {
@@ -71,9 +92,9 @@ fn pushed() -> [usize; BUFFERS] {
             match step {
                 Step::Limit(_) => break,
                 Step::Event(_) => n[EVENTS] += 1,
-                Step::Report(_, count) => {
+                Step::Report(recorded) => {
                     n[REPORTS] += 1;
-                    n[POOL] += count
+                    n[POOL] += listed(recorded).len()
                 }
             }
         }
@@ -92,10 +113,10 @@ pub fn first_misfit(lengths: Lengths) -> Option<(u32, usize)> {
                 events += ROW_EVENT;
                 (events > event_len).then_some((layout::REFUSAL_NO_EVENT_ROOM, *mark))
             }
-            Step::Report(mark, count) => {
+            Step::Report(recorded) => {
                 reports += ROW_REPORT;
-                pool += count;
-                (reports > report_len || pool > pool_len).then_some((layout::REFUSAL_NO_REPORT_ROOM, *mark))
+                pool += listed(recorded).len();
+                (reports > report_len || pool > pool_len).then_some((layout::REFUSAL_NO_REPORT_ROOM, recorded.mark))
             }
         })
     })

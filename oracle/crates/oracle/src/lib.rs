@@ -6,6 +6,7 @@ pub mod doc01;
 pub mod generate;
 pub mod lines;
 pub mod offset;
+pub mod once;
 pub mod parsed;
 pub mod parsers;
 pub mod rng;

@@ -1,7 +1,7 @@
 //! Answers as lines of text; ../../../README.md has their form.
 use crate::case::{Rows, esc};
 use crate::checks::bad_input;
-use crate::doc01::{Run, first_misfit};
+use crate::doc01::{Run, first_misfit, for_reports};
 use crate::parsed::Parsed;
 use crate::parsers::{patched, rust};
 use dt_parser_layout::{COL_REPORT_POOL_COUNT, COL_REPORT_POOL_FIRST, EVENTS, Lengths, POOL, REPORTS};
@@ -24,7 +24,7 @@ pub fn of_rust(entry: u32, toks: &Rows, text: &str, opts: &Opts, out: &mut Strin
 /// The patched copy's answer in the Rust's lines, to be compared with the Rust's own.
 pub fn of_patched(entry: u32, toks: &Rows, text: &str, opts: &Opts, unit_immediate: bool, out: &mut String) {
     record::reset(unit_immediate);
-    answer(patched::parse(entry, toks, text).map(|p| p.0), toks, opts, out)
+    answer(patched::parse(entry, toks, text), toks, opts, out)
 }
 
 /// Lines T, R, X, E and L, or PANIC.
@@ -83,6 +83,13 @@ fn write_stats(run: &Run, out: &mut String) {
     writeln!(out, "events {} reports {} pool {}", n[EVENTS], n[REPORTS], n[POOL]).unwrap()
 }
 
+/// How the patched copy is asked.
+pub struct Doc01Opts {
+    pub unit_immediate: bool,
+    /// Lines Q are written too.
+    pub pushed: bool,
+}
+
 /// Document 01's answer by the patched copy: REFUSED, or OK with all rows. The entry and the lengths of input and token
 /// list (causes 1 and 2) are not looked at, and a case has whole rows.
 pub fn of_doc01(
@@ -90,7 +97,7 @@ pub fn of_doc01(
     toks: &Rows,
     bytes: &[u8],
     text: &str,
-    unit_immediate: bool,
+    opts: &Doc01Opts,
     lengths: Lengths,
     out: &mut String,
 ) {
@@ -98,20 +105,21 @@ pub fn of_doc01(
         return refused(bad, out);
     }
     let mut run = Run::default();
-    let parsed = run.of(entry, toks, text, unit_immediate);
+    let parsed = run.of(entry, toks, text, opts.unit_immediate);
     write_stats(&run, out);
     match (first_misfit(lengths), parsed) {
         (Some(misfit), _) => refused(misfit, out),
         (None, Err(text)) => panicked(&text, out),
         (None, Ok(_)) => match run.refusal(lengths) {
             Some(misfit) => refused(misfit, out),
-            None => accepted(&run, out),
+            None => accepted(&run, opts.pushed, out),
         },
     }
 }
 
-/// Lines OK, R, X and P; a report's expectations stand after a bar.
-fn accepted(run: &Run, out: &mut String) {
+/// Lines OK, R, X and P; a report's expectations stand after a bar. Then, if wanted, a line Q of each report: all that
+/// the Rust had pushed, with repeats.
+fn accepted(run: &Run, pushed: bool, out: &mut String) {
     let [_, trees, errors, reports, pool] = &run.rows;
     write!(out, "OK 0 0 tree {} lexical {} ", trees.len() / ROW_TREE, errors.len() / ROW_ERROR).unwrap();
     writeln!(out, "reports {} pool {}", reports.len() / ROW_REPORT, pool.len()).unwrap();
@@ -121,5 +129,8 @@ fn accepted(run: &Run, out: &mut String) {
         let first = row[COL_REPORT_POOL_FIRST] as usize;
         let codes = &pool[first..first + row[COL_REPORT_POOL_COUNT] as usize];
         writeln!(out, "P{} |{}", numbers(row), numbers(codes)).unwrap()
+    }
+    if pushed {
+        for_reports(|recorded| writeln!(out, "Q{}", numbers(&recorded.pending)).unwrap())
     }
 }

@@ -74,16 +74,7 @@ pub mod rust {
 pub mod patched {
     parser!(parser_doc01);
 
-    /// What document 01 adds to a report: its mark, and its expectations where the message lists them.
-    pub struct Added {
-        pub mark: usize,
-        pub pool: Option<Vec<u32>>,
-    }
-
-    /// The second list is as long as the reports.
-    pub fn parse(entry: u32, toks: &super::Rows, text: &str) -> Result<(Parsed, Vec<Added>), String> {
-        let mut p = super::over(toks, || entrypoint(entry).parse(text))?;
-        let added = p.errors.iter_mut().map(|r| Added { mark: r.mark, pool: r.pool.take() }).collect();
-        Ok((parsed(p), added))
+    pub fn parse(entry: u32, toks: &super::Rows, text: &str) -> Result<Parsed, String> {
+        super::over(toks, || entrypoint(entry).parse(text)).map(parsed)
     }
 }

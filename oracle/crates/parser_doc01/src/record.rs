@@ -1,16 +1,25 @@
 //! What document 01 adds to the Rust, recorded while the patched parser runs. Hand-written.
 use crate::parser::{Event, Expected};
-use dt_parser_layout::{self as layout, MAX_EXPECTATIONS, MAX_OPEN_CALLS};
+use dt_parser_layout::{self as layout, MAX_OPEN_CALLS};
 use std::cell::{Cell, RefCell};
 
 /// What the run does, in order. Refusals 5 to 7 under given buffer sizes follow from it.
 pub enum Step {
-    /// A 65th open call or a 257th pending expectation, with the mark.
+    /// A 65th open call, with the mark.
     Limit(usize),
     /// An event pushed, with the mark.
     Event(usize),
-    /// A report row and the number of its expectations, with the mark.
-    Report(usize, usize),
+    /// A report row.
+    Report(Report),
+}
+
+/// What a report's row has beside the Rust's own fields.
+pub struct Report {
+    pub mark: usize,
+    /// Whether its message lists what is pending: message 1.
+    pub lists: bool,
+    /// All that was pushed since a token or name was taken, as document 01's numbers: with its repeats.
+    pub pending: Vec<u32>,
 }
 
 thread_local! {
@@ -27,6 +36,7 @@ thread_local! {
 #[derive(Clone, Copy)]
 pub struct Most {
     pub open: usize,
+    /// With repeats.
     pub pending: usize,
     /// Steps without progress; the unchanged Rust panics at 1,000.
     pub steps: u32,
@@ -66,8 +76,8 @@ pub(crate) fn steps(n: u32) {
     MOST.with_borrow_mut(|m| m.steps = m.steps.max(n))
 }
 
-pub(crate) fn report(mark: usize, pool: usize) {
-    log(Step::Report(mark, pool))
+pub(crate) fn report(mark: usize, lists: bool, pending: Vec<u32>) {
+    log(Step::Report(Report { mark, lists, pending }))
 }
 
 pub(crate) fn unit_immediate() -> bool {
@@ -119,17 +129,15 @@ impl std::ops::DerefMut for Events {
     }
 }
 
-/// The pending expectations with their repeats, which the Rust drops when it formats a message.
+/// The pending expectations with their repeats, which the Rust drops when it formats a message. Document 02 drops them
+/// too (6/14), but not here: this is what the Rust pushed, and `oracle::once` reads the request over it.
 #[derive(Debug, Default)]
 pub(crate) struct Pending(Vec<Expected>);
 
 impl Pending {
     pub(crate) fn push(&mut self, e: Expected) {
         self.0.push(e);
-        MOST.with_borrow_mut(|m| m.pending = m.pending.max(self.0.len()));
-        if self.0.len() > MAX_EXPECTATIONS {
-            log(Step::Limit(MARK.get()))
-        }
+        MOST.with_borrow_mut(|m| m.pending = m.pending.max(self.0.len()))
     }
     pub(crate) fn extend(&mut self, it: impl Iterator<Item = Expected>) {
         for e in it {

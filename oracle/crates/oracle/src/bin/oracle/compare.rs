@@ -43,9 +43,10 @@ struct Tally {
     cases: u64,
     differ: u64,
     panic: u64,
-    /// Panics of the Rust on cases that document 01 accepts.
+    /// Panics of the Rust on cases that are accepted.
     panic_only: u64,
     refused: u64,
+    /// With repeats.
     most_pending: usize,
     most_steps: u32,
     found: Vec<(usize, String)>,
@@ -71,7 +72,7 @@ impl Tally {
                 self.panic += 1;
                 self.panic_only += !refused as u64;
                 let limits = format!("open {} pending {} steps {}", most.open, most.pending, most.steps);
-                let verdict = if refused { "refused 5 by document 01" } else { "accepted by document 01" };
+                let verdict = if refused { "refused 5" } else { "accepted" };
                 self.found
                     .push((toks.len(), format!("PANICS, {verdict}, {limits}: {} -- {}", line(), esc(p.as_bytes()))))
             }
@@ -85,7 +86,7 @@ impl Tally {
         }
         writeln!(
             out,
-            "{} cases: {} differ, {} panic in the Rust ({} of them accepted by document 01), {} refused 5; most pending {}, most steps {}",
+            "{} cases: {} differ, {} panic in the Rust ({} of them accepted), {} refused 5; most pending {} with repeats, most steps {}",
             self.cases, self.differ, self.panic, self.panic_only, self.refused, self.most_pending, self.most_steps
         )
         .unwrap()

@@ -1,7 +1,7 @@
 //! The oracle: answers of the Rust parser (`rows`) and of its patched copy (`doc01`) to cases, and comparisons of the
 //! two. ../../../../../README.md has the commands, the form of a case and the lines that come out.
 use oracle::case::{Case, Line, ROOM, case_line, esc, parse_lengths, parse_line};
-use oracle::lines::{self, Opts};
+use oracle::lines::{self, Doc01Opts, Opts};
 use oracle::parsers::on_large_stack;
 use oracle::{generate, token};
 use std::io::{BufRead, Read, StdoutLock, Write};
@@ -58,7 +58,7 @@ fn rows(a: &Args, out: &mut Out) {
 
 fn doc01(a: &Args, out: &mut Out) {
     let all = a.value("--caps").map_or(ROOM, parse_lengths);
-    let unit_immediate = a.has("--unit-immediate");
+    let opts = Doc01Opts { unit_immediate: a.has("--unit-immediate"), pushed: a.has("--pushed") };
     for (n, l) in cases(a.word(1)) {
         let (t, s) = token::rows(&l.case);
         let bytes = match &l.case {
@@ -66,7 +66,7 @@ fn doc01(a: &Args, out: &mut Out) {
             Case::Toks(_, b) => b,
         };
         let mut o = format!("CASE {n} entry {} tokens {} bytes {}\n", l.entry, t.len(), bytes.len());
-        lines::of_doc01(l.entry, &t, bytes, &s, unit_immediate, l.lengths.unwrap_or(all), &mut o);
+        lines::of_doc01(l.entry, &t, bytes, &s, &opts, l.lengths.unwrap_or(all), &mut o);
         writeln!(out, "{o}END").unwrap();
     }
 }
