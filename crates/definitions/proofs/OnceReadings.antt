@@ -30,10 +30,10 @@ once-readings =
     -- `#if ;` as cells: the turn after the first report expects the same again and then the end, so "first arrivals keep
     -- their order" and the end comes last
     ∷ lists-of Cells (K.IfDirective ∷ K.Semicolon ∷ [])
-        ((K.EndifDirective ∷ E.Cell ∷ K.DtIncludeDirective ∷ E.PreprocessorDirective ∷ [])
-        ∷ (K.EndifDirective ∷ E.Cell ∷ K.DtIncludeDirective ∷ E.PreprocessorDirective ∷ E.End ∷ [])
-        ∷ (K.EndifDirective ∷ E.Cell ∷ K.DtIncludeDirective ∷ E.PreprocessorDirective ∷ E.End ∷ [])
-        ∷ [])
+    ((K.EndifDirective ∷ E.Cell ∷ K.DtIncludeDirective ∷ E.PreprocessorDirective ∷ [])
+    ∷ (K.EndifDirective ∷ E.Cell ∷ K.DtIncludeDirective ∷ E.PreprocessorDirective ∷ E.End ∷ [])
+    ∷ (K.EndifDirective ∷ E.Cell ∷ K.DtIncludeDirective ∷ E.PreprocessorDirective ∷ E.End ∷ [])
+    ∷ [])
     -- a name and a label's name are different ones: `/delete-node/;` expects a Name, `&;` a LabelName
     ∷ lists-of SourceFile (K.DeleteNodeDirective ∷ K.Semicolon ∷ []) ((K.Ampersand ∷ K.Name ∷ []) ∷ [])
     ∷ lists-of SourceFile (K.Ampersand ∷ K.Semicolon ∷ []) ((K.LCurly ∷ E.LabelName ∷ []) ∷ (K.LCurly ∷ []) ∷ [])

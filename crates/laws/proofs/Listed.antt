@@ -248,12 +248,16 @@ by-code P k e p q = by-test (is-kind k) refl e
 pub held-append : (l : List ℕ) (k : ℕ) → Held l → is-expectation k ≡ true → one-of l k ≡ false → Held (l ++ (k ∷ []))
 held-append l k h e f =
     by-code (Held (l ++ (k ∷ []))) k e
-    (λ g. record { words = retold (words-kind l (kinds-of l) (others-of l) k (h .words) g f)
-        (kinds-append 0 l k ∙ ap (λ (b : Bool). cond b (put-in-word k (kinds-of l)) (kinds-of l)) g)
-        (others-append 0 l k ∙ ap (λ (b : Bool). cond b (others-of l) (put-in-word (other-digit k) (others-of l))) g) })
-    (λ g i. record { words = retold (words-other l (kinds-of l) (others-of l) k (h .words) i f)
-        (kinds-append 0 l k ∙ ap (λ (b : Bool). cond b (put-in-word k (kinds-of l)) (kinds-of l)) g)
-        (others-append 0 l k ∙ ap (λ (b : Bool). cond b (others-of l) (put-in-word (other-digit k) (others-of l))) g) })
+    (λ g. record {
+      words = retold (words-kind l (kinds-of l) (others-of l) k (h .words) g f)
+          (kinds-append 0 l k ∙ ap (λ (b : Bool). cond b (put-in-word k (kinds-of l)) (kinds-of l)) g)
+          (others-append 0 l k ∙ ap (λ (b : Bool). cond b (others-of l) (put-in-word (other-digit k) (others-of l))) g);
+    })
+    (λ g i. record {
+      words = retold (words-other l (kinds-of l) (others-of l) k (h .words) i f)
+          (kinds-append 0 l k ∙ ap (λ (b : Bool). cond b (put-in-word k (kinds-of l)) (kinds-of l)) g)
+          (others-append 0 l k ∙ ap (λ (b : Bool). cond b (others-of l) (put-in-word (other-digit k) (others-of l))) g);
+    })
   where
     retold : {x y : ℕ} → Words (l ++ (k ∷ [])) x y → kinds-of (l ++ (k ∷ [])) ≡ x → others-of (l ++ (k ∷ [])) ≡ y → Words (l ++ (k ∷ [])) (kinds-of (l ++ (k ∷ []))) (others-of (l ++ (k ∷ [])))
     retold {x} {y} w p q = subst (λ (u : ℕ). Words (l ++ (k ∷ [])) u (others-of (l ++ (k ∷ [])))) (sym p) (subst (λ (v : ℕ). Words (l ++ (k ∷ [])) x v) (sym q) w)
