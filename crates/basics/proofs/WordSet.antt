@@ -8,7 +8,7 @@ use lib.Dec.{ltb, eqb}
 use lib.Bits.{bitOr, or-zero-r, or-lt, or-shr, or-mod}
 use lib.Pow.{pow-pos, pow-lt, pow-add, shl-shr}
 use lib.Count.{ones, ones-step}
-use borrow.Author.Tests.{eqb-true, eqb-false, ltb-true, ltb-false}
+use borrow.Author.Tests.{eqb-false, ltb-true, ltb-false}
 use Rattle.basics.specs.WordSet.{WORD-BITS, digit-of, in-word, put-in-word}
 
 -- ---------------------------------------------------------------- the digits of a power, and of two numbers joined

@@ -3,14 +3,13 @@
 use Prim.Native.Nat.{ℕ}
 use mathlib.Core.Path.{_≡_, refl}
 use mathlib.Core.List.{List, [], _∷_}
-use lib.ListN.{replicate}
 use Rattle.definitions.specs.TokenKind as K
 use Rattle.definitions.specs.Errors as E
 use Rattle.definitions.specs.Token.{Token}
 use Rattle.definitions.specs.Skeleton.{Report}
-use Rattle.definitions.specs.Grammar.{Entry, SourceFile, ReferenceNoamp, PropValues, Cells}
+use Rattle.definitions.specs.Grammar.{Entry, SourceFile, Cells}
 use Rattle.definitions.specs.Report.{pushes, reports}
-use Rattle.definitions.specs.Call.{Buffers, run-entry, call}
+use Rattle.definitions.specs.Call.{run-entry}
 
 -- entry and kinds, each token of one byte; the expectations of each report
 pub record Once-reading : Type 0 where
@@ -25,7 +24,7 @@ abbrev pub once-readings : List Once-reading
 once-readings =
     -- `#else` is message 5, and the branch without an end expects `#endif` twice: "isn't pushed again"
     lists-of SourceFile (K.ElseDirective ∷ []) ([] ∷ (K.EndifDirective ∷ []) ∷ [])
-    -- two of them: the second report is of the inner branch, and what it expects is pending in the outer one too
+    -- of two `#if` the inner one expects its `#endif` first, and the outer one finds it pending
     ∷ lists-of SourceFile (K.IfDirective ∷ K.IfDirective ∷ K.Semicolon ∷ []) ([] ∷ (K.EndifDirective ∷ []) ∷ (K.EndifDirective ∷ []) ∷ [])
     -- `#if ;` as cells: the turn after the first report expects the same again and then the end, so "first arrivals keep
     -- their order" and the end comes last

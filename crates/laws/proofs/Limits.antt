@@ -1,7 +1,6 @@
 -- At most 64 open calls: the statement of specs/Limits.antt, proved for every run without refusal 5, and so for every
 -- accepted call.
 use Prim.Native.Nat.{ℕ, zero, suc, zero-le, suc-le-suc}
-use mathlib.Core.Path.{_≡_, refl}
 use mathlib.Core.Bool.{Bool, true, false, cond}
 use mathlib.Core.List.{List, [], _∷_, _++_}
 use lib.ListN.{length}

@@ -1,22 +1,21 @@
 -- Lists of expectations without repeats: kept by a push, and never more than 69. The codes of such a list are counted
 -- by the digits of two words, one for the kinds and one for the others, as the code keeps them.
-use Prim.Native.Nat.{ℕ, zero, suc, _+_, _-_, _^_, _≤_, _<_}
+use Prim.Native.Nat.{ℕ, suc, _+_, _-_, _^_, _≤_, _<_}
 use native.Mathlib.Omega.{arith}
-use native.Mathlib.Nat.{add-suc, zero-lt-suc}
 use mathlib.Core.Path.{_≡_, refl, sym, ap, subst, _∙_}
-use mathlib.Core.Bool.{Bool, true, false, cond, _&&_, _||_, true≢false}
+use mathlib.Core.Bool.{Bool, true, false, cond, _||_, true≢false}
 use mathlib.Core.List.{List, [], _∷_, _++_}
-use lib.Dec.{ltb, leb, eqb}
+use lib.Dec.{leb, eqb}
 use lib.ListN.{length, length-append}
 use lib.Count.{ones, ones-le}
 use lib.Pow.{pow-pos}
 use borrow.Author.Tests.{ltb-true, leb-true, eqb-true, eqb-false}
-use Rattle.definitions.specs.Layout.{KIND-CODES, FIRST-OTHER, OTHER-CODES, MOST-PENDING}
+use Rattle.definitions.specs.Layout.{KIND-CODES, FIRST-OTHER, OTHER-CODES}
 use Rattle.definitions.specs.Token.{one-of}
 use Rattle.definitions.specs.Once.{pushed-once}
 use Rattle.basics.specs.WordSet.{WORD-BITS, in-word, put-in-word}
 use Rattle.basics.proofs.WordSet.{in-put, in-put-other, in-nothing, put-below, put-counts}
-use Rattle.basics.proofs.Tests.{cond-all, cond-with, and-left, and-right, eqb-swap}
+use Rattle.basics.proofs.Tests.{cond-with, and-left, and-right, eqb-swap}
 use Rattle.laws.specs.Once.{is-kind, is-other, is-expectation, Expectations, Different, Listed}
 
 -- ---------------------------------------------------------------- a code at the end of a list

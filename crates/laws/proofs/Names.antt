@@ -5,7 +5,6 @@ use mathlib.Core.Path.{_≡_, refl, ap, sym, _∙_, subst}
 use mathlib.Core.Bool.{Bool, true, false, cond, false≢true}
 use mathlib.Core.List.{List, [], _∷_, _++_}
 use lib.Dec.{ltb, eqb}
-use lib.ListN.{length}
 use borrow.Author.Tests.{eqb-true}
 use Rattle.definitions.specs.Layout.{MOST-OPEN-CALLS}
 use Rattle.definitions.specs.TokenKind as K
@@ -14,7 +13,7 @@ use Rattle.definitions.specs.Check.{NAME-SET}
 use Rattle.definitions.specs.Token.{Token, seen, trivia, drop-trivia, one-of, first-in, past, ended}
 use Rattle.definitions.specs.Grammar.{grammar, Entry, whole}
 use Rattle.definitions.specs.Skeleton.{Label, no-label, Skeleton, done, token, name, node, ignored, report, over, _⧺_}
-use Rattle.definitions.specs.Run.{State, Out, mark-of, peeked, truth, replies, makes, taken, do-bump, stretch-of, do-name, add, at-depth, do-argument, do-emit, do-expected, perform, closed, run}
+use Rattle.definitions.specs.Run.{State, Out, peeked, truth, replies, makes, taken, do-bump, stretch-of, do-name, add, at-depth, do-argument, do-emit, do-expected, perform, closed, run}
 use Rattle.definitions.specs.Call.{run-entry}
 use Rattle.laws.specs.Lossless.{Of-name}
 use Rattle.basics.proofs.Tests.{cond-all, and-left, and-right}

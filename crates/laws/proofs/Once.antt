@@ -1,8 +1,8 @@
 -- Each expectation once: the statement of specs/Once.antt. The grammar names no other codes than expectations', by a test
 -- that the checker computes; a push keeps a list without repeats; so it holds of every list that a run comes to.
 use Prim.Native.Nat.{ℕ, zero, suc}
-use mathlib.Core.Path.{_≡_, refl, sym, subst, _∙_}
-use mathlib.Core.Bool.{Bool, true, false, cond, _&&_}
+use mathlib.Core.Path.{_≡_, refl, sym, subst}
+use mathlib.Core.Bool.{Bool, true, false, cond}
 use mathlib.Core.List.{List, [], _∷_, _++_, append-nil}
 use lib.Dec.{eqb}
 use lib.ListN.{length}
@@ -12,12 +12,12 @@ use Rattle.definitions.specs.Errors as E
 use Rattle.definitions.specs.Token.{Token, trivia, drop-trivia}
 use Rattle.definitions.specs.Prog.{choose, Ans, no, yes, also, again, Rule, item, propvalues, eat-cell, expr-binding-power, Act, silent-at, at-end, immediate, immediate-next, add-expected, bump, bump-name, bump-argument, emit, emit-unclosed, less, Prog, ret, act, _⨟_, case, in-marker, loop, chain, brace, open-call}
 use Rattle.definitions.specs.Grammar.{grammar, Entry, SourceFile, ReferenceNoamp, PropValues, Cells, whole}
-use Rattle.definitions.specs.Skeleton.{Label, no-label, Report, Skeleton, done, token, name, node, report, over, _⧺_}
+use Rattle.definitions.specs.Skeleton.{Label, no-label, Report, Skeleton, done, token, _⧺_}
 use Rattle.definitions.specs.Run.{State, Out, mark-of, peeked, replies, makes, taken, do-bump, do-name, add, at-depth, do-argument, pool-of, do-emit, do-expected, perform, closed, marked, is-again, goes-on, iter, unlinked, by-shape, links, chained, here, exec, run}
-use Rattle.definitions.specs.Report.{event, reported, exceeded, pushes, reports}
+use Rattle.definitions.specs.Report.{event, reported, pushes, reports}
 use Rattle.definitions.specs.Call.{run-entry}
 use Rattle.laws.specs.Limits.{Moment, moment, deeper, iter-moments, links-moments, moments, run-moments, entry-moments}
-use Rattle.laws.specs.Once.{is-expectation, Listed, Listed-at-each, Listed-in-each, Each-once, Once}
+use Rattle.laws.specs.Once.{is-expectation, Listed, Listed-at-each, Listed-in-each, Once}
 use Rattle.laws.proofs.Engine.{Composes, only, exec-only}
 use Rattle.laws.proofs.Fuel.{turn-of}
 use Rattle.laws.proofs.Skeleton.{pushes-join, pushes-closed, reports-append}

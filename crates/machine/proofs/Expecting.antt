@@ -1,6 +1,6 @@
 -- Each expectation once: the machine's list and words, while each word holds what is in the list, are those of the list
 -- with the expectation pushed; and the digits of the words are as many as the list is long.
-use Prim.Native.Nat.{ℕ, _+_, _<_}
+use Prim.Native.Nat.{ℕ, _+_}
 use native.Mathlib.Omega.{arith}
 use mathlib.Core.Path.{_≡_, refl, sym, ap, _∙_}
 use mathlib.Core.Bool.{Bool, true, false, cond}
@@ -9,12 +9,12 @@ use lib.Dec.{ltb, leb, eqb}
 use lib.Count.{ones}
 use lib.ListN.{length, length-append}
 use borrow.Author.Tests.{lt-ltb, le-leb}
-use Rattle.definitions.specs.Layout.{KIND-CODES, FIRST-OTHER, OTHER-CODES, MOST-PENDING}
+use Rattle.definitions.specs.Layout.{FIRST-OTHER, OTHER-CODES, MOST-PENDING}
 use Rattle.definitions.specs.Errors as E
 use Rattle.definitions.specs.Token.{one-of}
 use Rattle.definitions.specs.Once.{pushed-once}
 use Rattle.definitions.specs.Run.{pool-of}
-use Rattle.basics.specs.WordSet.{in-word, put-in-word}
+use Rattle.basics.specs.WordSet.{put-in-word}
 use Rattle.laws.specs.Once.{is-kind, is-other, is-expectation}
 use Rattle.laws.proofs.Listed.{kinds-of, others-of, other-digit, kinds-append, others-append, Other-code, other-code, Held, by-code, held-append, held-listed}
 use Rattle.machine.specs.Machine.{Pending, arrived, expect-kind, expect-other, expect, pool-count}

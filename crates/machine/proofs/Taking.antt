@@ -2,9 +2,8 @@
 use Prim.Native.Nat.{ℕ, _+_, _-_}
 use native.Mathlib.Omega.{arith}
 use mathlib.Core.Path.{_≡_, refl, sym, ap, _∙_, subst}
-use mathlib.Core.Bool.{Bool, true, false, cond}
+use mathlib.Core.Bool.{true}
 use mathlib.Core.List.{List, [], _∷_, _++_}
-use lib.Dec.{ltb}
 use lib.ListN.{length}
 use Rattle.definitions.specs.Layout.{ADD-TOKEN, ADD-COMBINED-TOKEN, TOO-DEEP}
 use Rattle.definitions.specs.Token.{Token, drop-trivia}

@@ -10,7 +10,7 @@ use lib.Seq.{sets}
 use lib.Count.{ones}
 use Rattle.basics.specs.Word.{low}
 use Rattle.basics.specs.WordSet.{in-word, put-in-word}
-use Rattle.definitions.specs.Layout.{EVENT-ROW, EVENT-DISTANCE, REPORT-ROW, PLACEHOLDER, ADD-TOKEN, ADD-COMBINED-TOKEN, FINISH-NODE, ERROR, TOO-DEEP, NO-EVENT-ROOM, NO-REPORT-ROOM, KIND-CODES, FIRST-OTHER, OTHER-CODES, MOST-PENDING, TWO-TO-64}
+use Rattle.definitions.specs.Layout.{EVENT-ROW, EVENT-DISTANCE, REPORT-ROW, PLACEHOLDER, ADD-TOKEN, ADD-COMBINED-TOKEN, FINISH-NODE, ERROR, NO-EVENT-ROOM, NO-REPORT-ROOM, KIND-CODES, FIRST-OTHER, OTHER-CODES, MOST-PENDING, TWO-TO-64}
 use Rattle.definitions.specs.Errors.{msg-expected}
 use Rattle.definitions.specs.Token.{Token, seen, trivia, one-of}
 use Rattle.definitions.specs.Skeleton.{Span}

@@ -13,7 +13,6 @@ use Rattle.definitions.specs.Skeleton.{Span}
 use Rattle.definitions.specs.Prog.{choose, Ans, no, yes, Rule, Act, silent-at, at-end, immediate, immediate-next, add-expected, bump, bump-name, emit, Prog, act, _⨟_, case}
 use Rattle.definitions.specs.Check.{tell, if_then_else_, in-node, end?, expected}
 use Rattle.definitions.specs.Check as C
-use Rattle.definitions.specs.Errors as E
 use Rattle.definitions.specs.NodeKind as N
 use Rattle.definitions.specs.Grammar.{silent-at-macro-invocation-with-args}
 use Rattle.definitions.specs.Run.{truth}

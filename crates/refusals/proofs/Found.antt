@@ -1,5 +1,5 @@
 -- From what a call returns to its cause, and to what it leaves in the buffers: every way that a call goes, once.
-use Prim.Native.Nat.{ℕ, _/_, _≤_}
+use Prim.Native.Nat.{ℕ, _/_}
 use native.Mathlib.Omega.{arith}
 use mathlib.Core.Path.{_≡_, refl, subst}
 use mathlib.Core.Logic.{inl, inr}

@@ -1,5 +1,5 @@
 -- A call over input that passes causes 1 to 4 and 11 to 13 is accepted, or refused in its parse: 0, or 5 to 8.
-use Prim.Native.Nat.{ℕ, _≤_}
+use Prim.Native.Nat.{ℕ}
 use native.Mathlib.Omega.{arith}
 use mathlib.Core.Path.{_≡_, refl}
 use mathlib.Core.Logic.{_⊎_, inl, inr}

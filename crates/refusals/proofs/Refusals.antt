@@ -2,7 +2,7 @@
 use Prim.Native.Nat.{ℕ, suc, _/_, _<_}
 use native.Mathlib.Omega.{arith}
 use mathlib.Core.Path.{_≡_, refl, sym, ap, subst₂, _∙_}
-use mathlib.Core.Bool.{Bool, true, false, cond}
+use mathlib.Core.Bool.{Bool, cond}
 use mathlib.Core.List.{List}
 use lib.ListN.{length}
 use Rattle.definitions.specs.Layout.{TOKEN-ROW}
@@ -16,7 +16,7 @@ use Rattle.definitions.specs.Call.{Buffers, Result, untouched, cleared, kept, d
 use Rattle.basics.proofs.TokenRows.{tokens-length}
 use Rattle.refusals.specs.First.{Each, First}
 use Rattle.refusals.specs.Trace.{Happening, call-opened, event-pushed, report-written}
-use Rattle.refusals.specs.Refusals.{MAX-OPEN, Passes-1, Sizes, Passes-2, Whole-rows, Passes-3, Good-row, Covers, Passes-13, Right-text, Passes-4, Unrefused, happens, named, to-write, Passes-7, Cause, unknown-entry, over-size, odd-count, bad-kind, zero-length, past-input, short-total, wrong-text, call-too-many, no-event-room, no-report-room, no-name-room, no-tree-room, none, Refusals}
+use Rattle.refusals.specs.Refusals.{MAX-OPEN, Passes-1, Sizes, Whole-rows, Passes-3, Good-row, Covers, Passes-13, Right-text, Passes-4, Unrefused, happens, named, to-write, Passes-7, Cause, unknown-entry, over-size, odd-count, bad-kind, zero-length, past-input, short-total, wrong-text, call-too-many, no-event-room, no-report-room, no-name-room, no-tree-room, none, Refusals}
 use Rattle.refusals.specs.Answered.{Answered}
 use Rattle.refusals.proofs.Firsts.{only-first, first-each}
 use Rattle.refusals.proofs.Named.{Names, judged-names, names-pass, names-fail}

@@ -10,8 +10,7 @@ use lib.ListN.{length}
 use native.Mathlib.Omega.{arith}
 use denote.Enum.Declared.{tagOf}
 use types.Run.{OneOf}
-use Rattle.basics.proofs.Tests.{cond-all}
-use Rattle.definitions.specs.Layout.{PLACEHOLDER, START-NODE, TOO-DEEP}
+use Rattle.definitions.specs.Layout.{PLACEHOLDER, START-NODE}
 use Rattle.definitions.specs.Token.{Token, first-in}
 use Rattle.definitions.specs.Skeleton.{Span}
 use Rattle.definitions.specs.Prog.{choose, Ans, no, yes, also, again, Rule, silent-at, Prog, ret, act, _⨟_, case, in-marker, loop, brace}
@@ -21,8 +20,7 @@ use Rattle.definitions.specs.Run.{truth, is-again}
 use Rattle.machine.specs.Machine.{Machine, rest, peek, push, range-at}
 use Rattle.machine.specs.Machine as M
 use Rattle.machine.specs.Walk.{Walked, said, perform, next-marker, close, marked, walk}
-use lib.Dec.{ltb}
-use Rattle.machine.proofs.Turns.{ahead, Few, peek-ahead, refuse-ahead, turn-again, turn-last}
+use Rattle.machine.proofs.Turns.{ahead, Few, peek-ahead, turn-again, turn-last}
 use Rattle.parser.specs.declared.StateAnswered.{StateAnswered}
 use Rattle.parser.specs.declared.State.{State}
 use Rattle.parser.specs.declared.ParserTested.{ParserTested}

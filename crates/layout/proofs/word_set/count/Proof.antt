@@ -1,5 +1,5 @@
 -- `count`: a word has no more digits than 64.
-use Prim.Native.Nat.{_≤_, _<_, _^_}
+use Prim.Native.Nat.{_≤_}
 use native.Mathlib.Omega.{arith}
 use mathlib.Core.Path.{refl}
 use lib.Count.{ones, ones-le}

@@ -1,5 +1,5 @@
 -- `pool_count`: the number of different ones for message 1, else none.
-use mathlib.Core.Path.{_≡_, sym, ap, _∙_}
+use mathlib.Core.Path.{sym, ap, _∙_}
 use mathlib.Core.Bool.{Bool, cond}
 use Rattle.basics.specs.Word.{low}
 use Rattle.machine.specs.Machine.{how-many, pool-count}

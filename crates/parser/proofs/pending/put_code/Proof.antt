@@ -1,6 +1,6 @@
 -- `put_code`: a store after the first n, if the place is inside.
 use Rattle.basics.proofs.Flags.{flags}
-use mathlib.Core.Path.{_≡_, sym, ap, _∙_}
+use mathlib.Core.Path.{sym, ap, _∙_}
 use mathlib.Core.Bool.{Bool, cond}
 use mathlib.Core.List.{[], _∷_, _++_}
 use lib.ListN.{take, length-set}

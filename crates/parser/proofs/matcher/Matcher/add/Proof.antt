@@ -1,7 +1,7 @@
 -- `add`: each matcher's codes, the first for all matchers alike.
 use Prim.Native.Nat.{ℕ}
 use mathlib.Core.Path.{sym, _∙_, ap}
-use Rattle.machine.specs.Machine.{Pending, expect}
+use Rattle.machine.specs.Machine.{expect}
 use Rattle.parser.specs.View.{pending-of, first-code, expect-matcher}
 use Rattle.parser.specs.declared.matcher.Matcher.{Matcher}
 use Rattle.parser.proofs.matcher.Matcher.add.Statement.{statement}
