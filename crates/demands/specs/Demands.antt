@@ -1,8 +1,7 @@
 -- THE DEMANDS: the three promises, of every call of the definitions in either setting, what the strict setting
 -- promises, what calls over texts promise, what was refusal 3, what queries list, that each expectation is pending
--- once, and what holds beside them. Each line names the file
--- that words it. The exported routines answer as the definitions do (crates/dt_parser/src/lib.rt, text.rt), so all of
--- this holds of them too.
+-- once, and what holds beside them. Each line names the file that words it. The exported routines answer as the
+-- definitions do (crates/dt_parser/src/lib.rt, text.rt, query.rt), so all of this holds of them too.
 use Rattle.refusals.specs.Refusals.{Refusals}
 use Rattle.refusals.specs.Answered.{Answered}
 use Rattle.laws.specs.Lossless.{Nothing-lost}
