@@ -21,10 +21,6 @@ pub fn answer(a: &Answer) -> String {
     )
 }
 
-pub fn buffer_name(i: usize) -> &'static str {
-    NAMES[i]
-}
-
 /// A buffer's numbers, so many on a line.
 pub fn numbers(name: &str, all: &[u32], size: usize) {
     println!("  {name}: {} numbers", all.len());
@@ -46,23 +42,34 @@ pub fn expected_buffer(judge: &Judge, setting: u32, expected: Answer, i: usize) 
     }
 }
 
+/// Both answers, and what differs. None: the buffers are to follow; else whether the two are the same.
+pub fn answers(wrong: &Option<Wrong>, expected: &str, given: &str) -> Option<bool> {
+    let Some(wrong) = wrong else {
+        println!("both: {given}");
+        return Some(true);
+    };
+    if let Some(said) = wrong.before_call() {
+        println!("{said}");
+        return Some(false);
+    }
+    println!("expected: {expected}\nlibrary:  {given}");
+    let differs = |name: &str| println!("the buffer that differs, or a number around it: {name}");
+    match wrong {
+        Wrong::Buffer(i) => differs(NAMES[*i]),
+        Wrong::Tokens => differs("tokens"),
+        Wrong::List => differs("list"),
+        Wrong::Input => println!("the library wrote to its input"),
+        _ => {}
+    }
+    None
+}
+
 /// True if the two are the same.
 pub fn both(judge: &mut Judge, call: &Call) -> bool {
     println!("call: {}", call.line());
     let v = judge.whole(call, true);
-    let Some(wrong) = &v.wrong else {
-        println!("both: {}", answer(&v.given));
-        return true;
-    };
-    if let Some(said) = wrong.before_call() {
-        println!("{said}");
-        return false;
-    }
-    println!("expected: {}\nlibrary:  {}", answer(&v.expected), answer(&v.given));
-    match wrong {
-        Wrong::Buffer(i) => println!("the buffer that differs, or a number around it: {}", buffer_name(*i)),
-        Wrong::Input => println!("the library wrote to its input"),
-        _ => {}
+    if let Some(same) = answers(&v.wrong, &answer(&v.expected), &answer(&v.given)) {
+        return same;
     }
     println!("expected buffers:");
     (0..BUFFERS).for_each(|i| expected_buffer(judge, call.setting, v.expected, i));

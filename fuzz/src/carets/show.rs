@@ -2,8 +2,7 @@
 use super::call::QueryCall;
 use super::judge::QueryJudge;
 use crate::buffers::Held;
-use crate::judge::Wrong;
-use crate::show::{answer, buffer_name, expected_buffer, numbers, rows};
+use crate::show::{answer, answers, expected_buffer, numbers, rows};
 use dt_parser_ffi::{ListAnswer, Query};
 use dt_parser_layout::BUFFERS;
 
@@ -36,20 +35,8 @@ pub fn line(call: &QueryCall) -> String {
 pub fn both(judge: &mut QueryJudge, call: &QueryCall) -> bool {
     println!("call: {}", line(call));
     let v = judge.whole(call, true);
-    let Some(wrong) = &v.wrong else {
-        println!("both: {}", list_answer(&v.given));
-        return true;
-    };
-    if let Some(said) = wrong.before_call() {
-        println!("{said}");
-        return false;
-    }
-    println!("expected: {}\nlibrary:  {}", list_answer(&v.expected.answer), list_answer(&v.given));
-    match wrong {
-        Wrong::Buffer(i) => println!("the buffer that differs, or a number around it: {}", buffer_name(*i)),
-        Wrong::List => println!("the buffer that differs, or a number around it: list"),
-        Wrong::Input => println!("the library wrote to its input"),
-        _ => {}
+    if let Some(same) = answers(&v.wrong, &list_answer(&v.expected.answer), &list_answer(&v.given)) {
+        return same;
     }
     if call.parse.bytes.len() > MOST {
         return false;

@@ -2,8 +2,7 @@
 use super::call::TextCall;
 use super::judge::TextJudge;
 use crate::buffers::Held;
-use crate::judge::Wrong;
-use crate::show::{answer, buffer_name, expected_buffer, numbers, rows};
+use crate::show::{answer, answers, expected_buffer, numbers, rows};
 use dt_parser_ffi::TextAnswer;
 use dt_parser_layout::{BUFFERS, ROW_TOKEN};
 
@@ -28,20 +27,8 @@ pub fn line(call: &TextCall) -> String {
 pub fn both(judge: &mut TextJudge, call: &TextCall) -> bool {
     println!("call: {}", line(call));
     let v = judge.whole(call, true);
-    let Some(wrong) = &v.wrong else {
-        println!("both: {}", text_answer(&v.given));
-        return true;
-    };
-    if let Some(said) = wrong.before_call() {
-        println!("{said}");
-        return false;
-    }
-    println!("expected: {}\nlibrary:  {}", text_answer(&v.expected), text_answer(&v.given));
-    match wrong {
-        Wrong::Buffer(i) => println!("the buffer that differs, or a number around it: {}", buffer_name(*i)),
-        Wrong::Tokens => println!("the buffer that differs, or a number around it: tokens"),
-        Wrong::Input => println!("the library wrote to its input"),
-        _ => {}
+    if let Some(same) = answers(&v.wrong, &text_answer(&v.expected), &text_answer(&v.given)) {
+        return same;
     }
     if call.bytes.len() > MOST {
         return false;
