@@ -15,7 +15,8 @@ use Rattle.definitions.specs.Token.{Token, tokens-of, byte-count}
 use Rattle.definitions.specs.Grammar.{Entry}
 use Rattle.definitions.specs.Skeleton.{Skeleton}
 use Rattle.definitions.specs.Event.{events}
-use Rattle.definitions.specs.Place.{rows, lexical-errors}
+use Rattle.definitions.specs.Place.{lexical-errors}
+use Rattle.definitions.specs.Parent.{rows}
 use Rattle.definitions.specs.Report.{Push, pushes, reports, report-numbers, pool, Fit, fits, stops, scan}
 use Rattle.definitions.specs.Strict.{name-numbers, names-fit}
 use Rattle.definitions.specs.Refusal.{Refusal, unknown-entry, no-tree-room, place-of, Verdict, accepted, refused}

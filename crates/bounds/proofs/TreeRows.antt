@@ -9,7 +9,8 @@ use Rattle.definitions.specs.TokenKind as K
 use Rattle.definitions.specs.Token.{Token, is-error, seen, trivia, drop-trivia, past, byte-count}
 use Rattle.definitions.specs.Skeleton.{Skeleton, done, token, name, node, ignored, report, over}
 use Rattle.definitions.specs.Grammar.{Entry, SourceFile, ReferenceNoamp, PropValues, Cells, root-kind}
-use Rattle.definitions.specs.Place.{Tree, nil, leaf, subtree, _⊕_, lead, front, after, place, root, width, count, rows, row-count}
+use Rattle.definitions.specs.Place.{Tree, nil, leaf, subtree, _⊕_, lead, front, after, place, root, width, count, row-count}
+use Rattle.definitions.specs.Parent.{rows, rows-under}
 use Rattle.definitions.specs.Call.{run-entry}
 use Rattle.laws.specs.Lossless.{Kind-of, one-token, a-name}
 use Rattle.basics.proofs.Tests.{cond-all}
@@ -176,7 +177,7 @@ few-children e ts = counts-within (most-rows (length ts)) (tree e ts) (rw lossle
 -- b: a bound on the width, on the number of raw tokens and on the number of rows
 module _ (b : ℕ) (most : CODES ≤ b) where
   tree-below : (t : Tree) → Right t → Nodes-coded t → Kinded (leaves t) → width t < b → length (leaves t) < b → row-count t ≤ b → Below b (rows t)
-  unfolding rows Right Nodes-coded leaves width row-count
+  unfolding rows-under Right Nodes-coded leaves width row-count
   tree-below nil r n k w l c = tt
   tree-below (leaf x raw f) r n k w l c =
       let g : Kinded raw × Kinded (leaves f) = kinded-append raw (leaves f) k in

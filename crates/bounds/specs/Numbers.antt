@@ -12,7 +12,8 @@ use Rattle.definitions.specs.Layout.{EVENT-ROW, TREE-ROW, REPORT-ROW, TWO-TO-32
 use Rattle.definitions.specs.Token.{Token, byte-count}
 use Rattle.definitions.specs.Grammar.{Entry, root-kind}
 use Rattle.definitions.specs.Event.{Event, StartNode, AddToken, AddCombinedToken, FinishNode, Placeholder, Error, events}
-use Rattle.definitions.specs.Place.{Tree, nil, leaf, subtree, root, count, rows}
+use Rattle.definitions.specs.Place.{Tree, nil, leaf, subtree, root, count}
+use Rattle.definitions.specs.Parent.{rows}
 use Rattle.definitions.specs.Report.{Push, pushes, reports, report-numbers, pool}
 use Rattle.definitions.specs.Strict.{Name-at}
 use Rattle.definitions.specs.Call.{Buffers, Answer, Result, run-entry, names-of, call}

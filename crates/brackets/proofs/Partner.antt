@@ -10,7 +10,8 @@ use Rattle.definitions.specs.Layout.{TREE-ROW}
 use Rattle.definitions.specs.TokenKind as K
 use Rattle.definitions.specs.Token.{Token, seen, tokens-of}
 use Rattle.definitions.specs.NodeKind as N
-use Rattle.definitions.specs.Place.{Tree, nil, leaf, subtree, rows}
+use Rattle.definitions.specs.Place.{Tree, nil, leaf, subtree}
+use Rattle.definitions.specs.Parent.{rows}
 use Rattle.definitions.specs.Call.{Result, call}
 use Rattle.laws.specs.TreeRows.{read}
 use Rattle.laws.proofs.Tree.{leaves}

@@ -42,17 +42,16 @@ pub fn tokens() -> [u32; NUMBERS] {
     tokens
 }
 
-// A number of the leaves: a leaf's row is its class, its kind, its width 1 and its count 1.
+// A number of the leaves: a leaf's row is its class, its kind, its width 1, its count 1 and the root's row.
 fn number(i: usize) -> u32 {
     let column = i % TREE_ROW;
     if column == 0 {
         return row::LEAF;
     }
     if column == row::TREE_KIND {
-        WHITESPACE
-    } else {
-        1
+        return WHITESPACE;
     }
+    if column == row::TREE_PARENT { 0 } else { 1 }
 }
 
 // How many rows after the root's are a leaf of one blank, up to the first that is not.

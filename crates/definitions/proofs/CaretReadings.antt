@@ -125,42 +125,42 @@ bytes = 32 ∷ 97 ∷ 59 ∷ []
 abbrev pub tokens : List ℕ
 tokens = 0 ∷ 1 ∷ 27 ∷ 1 ∷ 29 ∷ 1 ∷ []
 
-pub with-room : asks (caret 1) 0 bytes tokens (lent 22 9) 5 ≡ with-rows (call 1 0 bytes tokens (lent 22 9)) 3 (0 ∷ 2 ∷ 3 ∷ 0 ∷ 0 ∷ [])
+pub with-room : asks (caret 1) 0 bytes tokens (lent 27 9) 5 ≡ with-rows (call 1 0 bytes tokens (lent 27 9)) 3 (0 ∷ 2 ∷ 3 ∷ 0 ∷ 0 ∷ [])
 unfolding query-call call
 with-room = refl
 
-pub just-room : asks (range 0 3) 0 bytes tokens (lent 22 9) 2 ≡ with-rows (call 1 0 bytes tokens (lent 22 9)) 2 (1 ∷ 2 ∷ [])
+pub just-room : asks (range 0 3) 0 bytes tokens (lent 27 9) 2 ≡ with-rows (call 1 0 bytes tokens (lent 27 9)) 2 (1 ∷ 2 ∷ [])
 unfolding query-call call
 just-room = refl
 
-pub no-room : asks (caret 1) 0 bytes tokens (lent 22 9) 2 ≡ with-rows (record { answer = refusal 8 0; buffers = zero-buffers 22 9 }) 0 (0 ∷ 0 ∷ [])
+pub no-room : asks (caret 1) 0 bytes tokens (lent 27 9) 2 ≡ with-rows (record { answer = refusal 8 0; buffers = zero-buffers 27 9 }) 0 (0 ∷ 0 ∷ [])
 unfolding query-call
 no-room = refl
 
 -- an empty list needs no room; the root does
-pub past-the-end : asks (caret 4) 0 bytes tokens (lent 22 9) 0 ≡ with-rows (call 1 0 bytes tokens (lent 22 9)) 0 []
+pub past-the-end : asks (caret 4) 0 bytes tokens (lent 27 9) 0 ≡ with-rows (call 1 0 bytes tokens (lent 27 9)) 0 []
 unfolding query-call call
 past-the-end = refl
 
-pub root-fits : asks (caret 0) 0 [] [] (lent 4 0) 1 ≡ with-rows (call 1 0 [] [] (lent 4 0)) 1 (0 ∷ [])
+pub root-fits : asks (caret 0) 0 [] [] (lent 5 0) 1 ≡ with-rows (call 1 0 [] [] (lent 5 0)) 1 (0 ∷ [])
 unfolding query-call call
 root-fits = refl
 
-pub root-does-not : asks (caret 0) 0 [] [] (lent 4 0) 0 ≡ with-rows (record { answer = refusal 8 0; buffers = zero-buffers 4 0 }) 0 []
+pub root-does-not : asks (caret 0) 0 [] [] (lent 5 0) 0 ≡ with-rows (record { answer = refusal 8 0; buffers = zero-buffers 5 0 }) 0 []
 unfolding query-call
 root-does-not = refl
 
 -- "with the parser's refusals": before the parse every buffer is as it was, after it all are zero
-pub bad-kind : asks (caret 1) 0 bytes (0 ∷ 1 ∷ 26 ∷ 2 ∷ []) (lent 22 9) 2 ≡ with-rows (record { answer = refusal 11 1; buffers = lent 22 9 }) 0 (7 ∷ 7 ∷ [])
+pub bad-kind : asks (caret 1) 0 bytes (0 ∷ 1 ∷ 26 ∷ 2 ∷ []) (lent 27 9) 2 ≡ with-rows (record { answer = refusal 11 1; buffers = lent 27 9 }) 0 (7 ∷ 7 ∷ [])
 unfolding query-call
 bad-kind = refl
 
-pub no-tree-room : asks (caret 1) 0 bytes tokens (lent 19 9) 5 ≡ with-rows (record { answer = refusal 8 0; buffers = zero-buffers 19 9 }) 0 (0 ∷ 0 ∷ 0 ∷ 0 ∷ 0 ∷ [])
+pub no-tree-room : asks (caret 1) 0 bytes tokens (lent 24 9) 5 ≡ with-rows (record { answer = refusal 8 0; buffers = zero-buffers 24 9 }) 0 (0 ∷ 0 ∷ 0 ∷ 0 ∷ 0 ∷ [])
 unfolding query-call
 no-tree-room = refl
 
 -- and before a list that does not fit: `1a:c{};` in the strict setting has a report, its mark 0
-pub no-report-room : asks (caret 1) 1 (49 ∷ 97 ∷ 58 ∷ 99 ∷ 123 ∷ 125 ∷ 59 ∷ []) (35 ∷ 1 ∷ 27 ∷ 1 ∷ 31 ∷ 1 ∷ 27 ∷ 1 ∷ 37 ∷ 1 ∷ 38 ∷ 1 ∷ 29 ∷ 1 ∷ []) (lent 40 8) 1
-    ≡ with-rows (record { answer = refusal 7 0; buffers = zero-buffers 40 8 }) 0 (0 ∷ [])
+pub no-report-room : asks (caret 1) 1 (49 ∷ 97 ∷ 58 ∷ 99 ∷ 123 ∷ 125 ∷ 59 ∷ []) (35 ∷ 1 ∷ 27 ∷ 1 ∷ 31 ∷ 1 ∷ 27 ∷ 1 ∷ 37 ∷ 1 ∷ 38 ∷ 1 ∷ 29 ∷ 1 ∷ []) (lent 45 8) 1
+    ≡ with-rows (record { answer = refusal 7 0; buffers = zero-buffers 45 8 }) 0 (0 ∷ [])
 unfolding query-call
 no-report-room = refl

@@ -106,7 +106,7 @@ parsed rows =
 
 -- `a;` and its tree
 abbrev pub property : List ℕ
-property = 0 ∷ 0 ∷ 2 ∷ 1 ∷ 0 ∷ 16 ∷ 2 ∷ 2 ∷ 1 ∷ 26 ∷ 1 ∷ 1 ∷ 1 ∷ 29 ∷ 1 ∷ 1 ∷ []
+property = 0 ∷ 0 ∷ 2 ∷ 1 ∷ 0 ∷ 0 ∷ 16 ∷ 2 ∷ 2 ∷ 0 ∷ 1 ∷ 26 ∷ 1 ∷ 1 ∷ 1 ∷ 1 ∷ 29 ∷ 1 ∷ 1 ∷ 1 ∷ []
 
 abbrev pub text-readings : List Text-reading
 text-readings =
@@ -116,7 +116,7 @@ text-readings =
     -- "for token numbers, over the limit or the buffer": refusal 2, "unchanged"
     ∷ ends 1 (ascii "a;") (refusal 2 0) 0 (replicate 3 7) (full-of 7 20)
     -- "all of it zero at refusals 5 to 8": the tree does not fit
-    ∷ ends 1 (ascii "a;") (refusal 8 0) 0 (replicate 5 0) (full-of 0 15)
+    ∷ ends 1 (ascii "a;") (refusal 8 0) 0 (replicate 5 0) (full-of 0 19)
     -- 1 comes first
     ∷ ends 5 (128 ∷ []) (refusal 1 0) 0 (replicate 4 7) (full-of 7 15)
     -- "`#` at a token start", wherever that is
@@ -129,11 +129,11 @@ text-readings =
     ∷ refused-at 10 0 (ascii "#iface")
     ∷ refused-at 10 0 (ascii "#undefx")
     -- not inside an Ident, a string or a comment, and not after a line end
-    ∷ ends 2 (ascii "a#if") (answer 2 0 0 0) 1 (27 ∷ 4 ∷ []) (parsed (0 ∷ 21 ∷ 4 ∷ 1 ∷ 1 ∷ 26 ∷ 4 ∷ 1 ∷ []))
-    ∷ ends 2 (ascii "##if") (answer 2 0 0 0) 1 (27 ∷ 4 ∷ []) (parsed (0 ∷ 21 ∷ 4 ∷ 1 ∷ 1 ∷ 26 ∷ 4 ∷ 1 ∷ []))
-    ∷ ends 3 (ascii "\"#if\"") (answer 2 0 0 0) 1 (33 ∷ 5 ∷ []) (parsed (0 ∷ 2 ∷ 5 ∷ 1 ∷ 1 ∷ 33 ∷ 5 ∷ 1 ∷ []))
-    ∷ ends 1 (ascii "//#if") (answer 2 0 0 0) 1 (3 ∷ 5 ∷ []) (parsed (0 ∷ 0 ∷ 5 ∷ 1 ∷ 1 ∷ 3 ∷ 5 ∷ 1 ∷ []))
-    ∷ ends 2 (ascii "#") (answer 2 0 0 0) 1 (27 ∷ 1 ∷ []) (parsed (0 ∷ 21 ∷ 1 ∷ 1 ∷ 1 ∷ 26 ∷ 1 ∷ 1 ∷ []))
+    ∷ ends 2 (ascii "a#if") (answer 2 0 0 0) 1 (27 ∷ 4 ∷ []) (parsed (0 ∷ 21 ∷ 4 ∷ 1 ∷ 0 ∷ 1 ∷ 26 ∷ 4 ∷ 1 ∷ 0 ∷ []))
+    ∷ ends 2 (ascii "##if") (answer 2 0 0 0) 1 (27 ∷ 4 ∷ []) (parsed (0 ∷ 21 ∷ 4 ∷ 1 ∷ 0 ∷ 1 ∷ 26 ∷ 4 ∷ 1 ∷ 0 ∷ []))
+    ∷ ends 3 (ascii "\"#if\"") (answer 2 0 0 0) 1 (33 ∷ 5 ∷ []) (parsed (0 ∷ 2 ∷ 5 ∷ 1 ∷ 0 ∷ 1 ∷ 33 ∷ 5 ∷ 1 ∷ 0 ∷ []))
+    ∷ ends 1 (ascii "//#if") (answer 2 0 0 0) 1 (3 ∷ 5 ∷ []) (parsed (0 ∷ 0 ∷ 5 ∷ 1 ∷ 0 ∷ 1 ∷ 3 ∷ 5 ∷ 1 ∷ 0 ∷ []))
+    ∷ ends 2 (ascii "#") (answer 2 0 0 0) 1 (27 ∷ 1 ∷ []) (parsed (0 ∷ 21 ∷ 1 ∷ 1 ∷ 0 ∷ 1 ∷ 26 ∷ 1 ∷ 1 ∷ 0 ∷ []))
     -- "9, byte of 128 or more, place its offset", also in a comment and in a string
     ∷ refused-at 9 2 (ascii "//" ++ 128 ∷ [])
     ∷ refused-at 9 1 (ascii "\"" ++ 255 ∷ ascii "\"")

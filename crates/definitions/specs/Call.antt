@@ -9,7 +9,8 @@ use Rattle.definitions.specs.Token.{Token, tokens-of, byte-count}
 use Rattle.definitions.specs.Grammar.{Entry, SourceFile, ReferenceNoamp, PropValues, Cells, whole, root-kind}
 use Rattle.definitions.specs.Skeleton.{no-label, Skeleton}
 use Rattle.definitions.specs.Run.{taken, exec, run}
-use Rattle.definitions.specs.Place.{root, rows, lexical-errors}
+use Rattle.definitions.specs.Place.{root, lexical-errors}
+use Rattle.definitions.specs.Parent.{rows, rows-under}
 use Rattle.definitions.specs.Report.{Room, Fit, fits, stops, pushes, scan, reports, report-numbers, pool}
 use Rattle.definitions.specs.Strict.{Name-at, reported-names, name-numbers, names-fit}
 use Rattle.definitions.specs.Refusal.{Refusal, unknown-entry, too-long, odd-count, bad-kind, zero-length, past-input, short-total, bad-text, too-deep, no-event-room, no-report-room, no-tree-room, number-of, place-of, Verdict, accepted, refused}
@@ -78,7 +79,7 @@ pub record Sheets : Type 0 where
 
 -- l: the Names that the setting reports; their reports follow all others
 unfoldable pub sheets : Entry → List Token → Skeleton → List Name-at → Sheets
-unfolding root rows lexical-errors reports report-numbers name-numbers pool root-kind byte-count
+unfolding root rows-under lexical-errors reports report-numbers name-numbers pool root-kind byte-count
 sheets e ts o l =
     let r = reports (pushes o) in
     record {

@@ -12,9 +12,9 @@ TOKEN-ROW = 2
 abbrev pub EVENT-ROW : ℕ
 EVENT-ROW = 3
 
--- class, kind, width, count
+-- class, kind, width, count, the parent's row
 abbrev pub TREE-ROW : ℕ
-TREE-ROW = 4
+TREE-ROW = 5
 
 -- number, start, end
 abbrev pub ERROR-ROW : ℕ
@@ -48,6 +48,9 @@ TREE-WIDTH = 2
 
 abbrev pub TREE-COUNT : ℕ
 TREE-COUNT = 3
+
+abbrev pub TREE-PARENT : ℕ
+TREE-PARENT = 4
 
 abbrev pub ERROR-START : ℕ
 ERROR-START = 1

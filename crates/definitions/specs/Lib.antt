@@ -16,6 +16,7 @@ pub mod Once
 pub mod Run
 pub mod Event
 pub mod Place
+pub mod Parent
 pub mod Refusal
 pub mod RowCauses
 pub mod Report

@@ -2,9 +2,8 @@
 -- the end.
 use Prim.Native.Nat.{ℕ, suc, _+_}
 use mathlib.Core.Bool.{cond}
-use mathlib.Core.List.{List, [], _∷_, _++_}
+use mathlib.Core.List.{List, [], _∷_}
 use lib.ListN.{length, take, drop}
-use Rattle.definitions.specs.Layout.{NODE, LEAF}
 use Rattle.definitions.specs.TokenKind as K
 use Rattle.definitions.specs.Token.{Token, is-error, seen, trivia, drop-trivia, byte-count, past}
 use Rattle.definitions.specs.Skeleton.{Skeleton, done, token, name, node, ignored, report, over}
@@ -66,7 +65,7 @@ unfoldable pub root : ℕ → Skeleton → List Token → Tree
 unfolding _⊕_ lead after place
 root k o ts = subtree k (place o ts ⊕ lead (after o ts)) nil
 
--- ---------------------------------------------------------------- rows
+-- ---------------------------------------------------------------- what the rows say
 
 unfoldable pub width : Tree → ℕ
 unfolding byte-count
@@ -79,18 +78,7 @@ count nil = 0
 count (leaf k ts f) = suc (count f)
 count (subtree k c f) = suc (count f)
 
--- a tree row: class, kind, width, count (children of a node, raw tokens of a leaf)
-abbrev pub tree-row : ℕ → ℕ → ℕ → ℕ → List ℕ → List ℕ
-tree-row c k w n l = c ∷ k ∷ w ∷ n ∷ l
-
--- in preorder
-unfoldable pub rows : Tree → List ℕ
-unfolding byte-count width count
-rows nil = []
-rows (leaf k ts f) = tree-row LEAF k (byte-count ts) (length ts) (rows f)
-rows (subtree k c f) = tree-row NODE k (width c) (count c) (rows c ++ rows f)
-
--- how many rows these are: row numbers are counted in preorder, from the root's 0
+-- how many rows there are: a row for each leaf and each node (Parent has the rows)
 unfoldable pub row-count : Tree → ℕ
 row-count nil = 0
 row-count (leaf k ts f) = suc (row-count f)

@@ -6,7 +6,8 @@ use mathlib.Core.List.{List, [], _++_, append-assoc, append-nil}
 use lib.ListN.{length, length-append}
 use Rattle.definitions.specs.Layout.{NODE, LEAF, TREE-ROW}
 use Rattle.definitions.specs.Token.{byte-count}
-use Rattle.definitions.specs.Place.{Tree, nil, leaf, subtree, width, count, rows, row-count, tree-row}
+use Rattle.definitions.specs.Place.{Tree, nil, leaf, subtree, width, count, row-count}
+use Rattle.definitions.specs.Parent.{rows, tree-row, rows-under}
 use Rattle.laws.specs.TreeRows.{Rows, end, node, preorder, siblings, widths, Counts, Widths, first-rows, later-rows, read-row, read}
 use Rattle.laws.specs.TreeRows as R
 
@@ -67,7 +68,7 @@ shown (leaf k ts f) = R.leaf k (byte-count ts) (length ts) (shown f)
 shown (subtree k c f) = node k (width c) (count c) (shown c) (shown f)
 
 pub shown-preorder : (t : Tree) → preorder (shown t) ≡ rows t
-unfolding shown preorder rows
+unfolding shown preorder rows-under
 shown-preorder nil = refl
 shown-preorder (leaf k ts f) = ap (tree-row LEAF k (byte-count ts) (length ts)) (shown-preorder f)
 shown-preorder (subtree k c f) =
@@ -98,7 +99,7 @@ shown-widths (leaf k ts f) = shown-widths f
 shown-widths (subtree k c f) = (width-widths c, shown-widths c, shown-widths f)
 
 pub rows-length : (t : Tree) → length (rows t) ≡ TREE-ROW * row-count t
-unfolding rows row-count
+unfolding rows-under row-count
 rows-length nil = refl
 rows-length (leaf k ts f) = let h : length (rows f) ≡ TREE-ROW * row-count f = rows-length f in omega arith
 rows-length (subtree k c f) =

@@ -10,7 +10,8 @@ use lib.Seq.{take-at}
 use Rattle.definitions.specs.Layout.{TREE-ROW}
 use Rattle.definitions.specs.Token.{Token, tokens-of, byte-count}
 use Rattle.definitions.specs.Grammar.{Entry, root-kind}
-use Rattle.definitions.specs.Place.{Tree, lead, after, place, _⊕_, root, width, count, rows, row-count}
+use Rattle.definitions.specs.Place.{Tree, lead, after, place, _⊕_, root, width, count, row-count}
+use Rattle.definitions.specs.Parent.{rows}
 use Rattle.definitions.specs.Strict.{Name-at}
 use Rattle.definitions.specs.Call.{Buffers, sheets, kept, run-entry, names-of}
 use Rattle.laws.specs.TreeRows.{end, node, preorder, read}

@@ -12,7 +12,8 @@ use Rattle.definitions.specs.Token.{Token, drop-trivia, past, byte-count}
 use Rattle.definitions.specs.Skeleton.{Skeleton, done, token, name, node, ignored, report, over, _⧺_}
 use Rattle.laws.proofs.Skeleton.{bytes-append}
 use Rattle.definitions.specs.Strict.{token-count}
-use Rattle.definitions.specs.Place.{Tree, nil, leaf, subtree, _⊕_, lead, front, after, place, width, count, rows, tree-row}
+use Rattle.definitions.specs.Place.{Tree, nil, leaf, subtree, _⊕_, lead, front, after, place, width, count}
+use Rattle.definitions.specs.Parent.{rows, tree-row, rows-under}
 
 pub beside-nil : (f : Tree) → f ⊕ nil ≡ f
 unfolding _⊕_
@@ -39,7 +40,7 @@ count-beside (leaf k ts f) g = let h : count (f ⊕ g) ≡ count f + count g = c
 count-beside (subtree k c f) g = let h : count (f ⊕ g) ≡ count f + count g = count-beside f g in omega arith
 
 pub rows-beside : (f g : Tree) → rows (f ⊕ g) ≡ rows f ++ rows g
-unfolding _⊕_ rows
+unfolding _⊕_ rows-under
 rows-beside nil g = refl
 rows-beside (leaf k ts f) g = ap (tree-row LEAF k (byte-count ts) (length ts)) (rows-beside f g)
 rows-beside (subtree k c f) g = ap (λ (l : List ℕ). tree-row NODE k (width c) (count c) (rows c ++ l)) (rows-beside f g) ∙ ap (tree-row NODE k (width c) (count c)) (sym (append-assoc (rows c) (rows f) (rows g)))

@@ -6,8 +6,8 @@ pub const TOKEN_ROW: usize = 2;
 // Tag, argument, distance.
 pub const EVENT_ROW: usize = 3;
 
-// Class, kind, width, count.
-pub const TREE_ROW: usize = 4;
+// Class, kind, width, count, the parent's row.
+pub const TREE_ROW: usize = 5;
 
 // Number, start, end.
 pub const ERROR_ROW: usize = 3;
@@ -31,6 +31,8 @@ pub const TREE_KIND: usize = 1;
 pub const TREE_WIDTH: usize = 2;
 
 pub const TREE_COUNT: usize = 3;
+
+pub const TREE_PARENT: usize = 4;
 
 pub const ERROR_START: usize = 1;
 

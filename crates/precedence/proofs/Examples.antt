@@ -9,7 +9,8 @@ use lib.ListN.{length, take, drop, replicate}
 use Rattle.definitions.specs.TokenKind as K
 use Rattle.definitions.specs.Token.{tokens-of}
 use Rattle.definitions.specs.Skeleton.{_⧺_}
-use Rattle.definitions.specs.Place.{place, rows}
+use Rattle.definitions.specs.Place.{place}
+use Rattle.definitions.specs.Parent.{rows, rows-under}
 use Rattle.definitions.specs.C.{plain, Expr, literal, invocation, prefix, binary, ternary}
 use Rattle.definitions.specs.Call.{Buffers, Result, call}
 use Rattle.precedence.specs.Nodes.{cell}
@@ -85,7 +86,7 @@ examples =
 
 -- the rows of a cell that holds a tree
 tree-rows : Tree → List ℕ → ℕ → List ℕ
-unfolding rows place _⧺_
+unfolding rows-under place _⧺_
 tree-rows (holds e) tokens i = rows (place (cell e) (drop i (tokens-of tokens)))
 tree-rows nothing tokens i = []
 

@@ -17,7 +17,8 @@ use Rattle.definitions.specs.BindingPower.{Level, binary-levels, left-power, ri
 use Rattle.definitions.specs.Grammar.{infix-levels, infix-turn, expr-binding-power-body, grammar, Entry, Cells, whole}
 use Rattle.definitions.specs.Skeleton.{no-label, Skeleton}
 use Rattle.definitions.specs.Run.{State, Out, taken, exec, run}
-use Rattle.definitions.specs.Place.{root, rows}
+use Rattle.definitions.specs.Place.{root}
+use Rattle.definitions.specs.Parent.{rows, rows-under}
 use Rattle.definitions.specs.Call.{run-entry}
 use Rattle.precedence.specs.Listed.{Pair, pair, listed-ternary, listed, binary-turn, turn-with, grammar-with, run-with, entry-with, As-listed}
 use Rattle.precedence.proofs.Witnesses.{token}
@@ -65,7 +66,7 @@ powers-by left right (l ∷ ls) = pair (left (l .number)) (right (l .number)) (l
 
 -- 2 × level + 2 for both sides: `1-2-3` groups from the right, so that the first operand is a literal
 not-both-two : ((e : Entry) (ts : List Token) → run-entry e ts ≡ entry-with listed-ternary (powers-by right-power right-power binary-levels) e ts) → ⊥
-unfolding run-entry entry-with rows root
+unfolding run-entry entry-with rows-under root
 not-both-two h =
     let ts = cell (K.Number ∷ K.Minus ∷ K.Number ∷ K.Minus ∷ K.Number ∷ []) in
     let n : _≡_ {A = ℕ} N.InfixExpr N.LiteralExpr = ap (first-operand ts) (h Cells ts) in omega arith
@@ -77,7 +78,7 @@ exchanged n = cond (eqb n 3) 5 (cond (eqb n 5) 3 n)
 not-exchanged : ((e : Entry) (ts : List Token)
     → run-entry e ts ≡ entry-with listed-ternary (powers-by (λ n. left-power (exchanged n)) (λ n. right-power (exchanged n)) binary-levels) e ts)
     → ⊥
-unfolding run-entry entry-with rows root
+unfolding run-entry entry-with rows-under root
 not-exchanged h =
     let ts = cell (K.Number ∷ K.BitwiseOr ∷ K.Number ∷ K.Ampersand ∷ K.Number ∷ []) in
     let n : _≡_ {A = ℕ} N.LiteralExpr N.InfixExpr = ap (first-operand ts) (h Cells ts) in omega arith
@@ -87,7 +88,7 @@ abbrev level-zero : Pair
 level-zero = pair (left-power 0) (right-power 0) (K.QuestionMark ∷ [])
 
 not-level-zero : ((e : Entry) (ts : List Token) → run-entry e ts ≡ entry-with level-zero listed e ts) → ⊥
-unfolding run-entry entry-with rows root
+unfolding run-entry entry-with rows-under root
 not-level-zero h =
     let ts = cell (K.Number ∷ K.QuestionMark ∷ K.Number ∷ K.Colon ∷ K.Number ∷ K.QuestionMark ∷ K.Number ∷ K.Colon ∷ K.Number ∷ []) in
     let n : _≡_ {A = ℕ} N.LiteralExpr N.InfixExpr = ap (first-operand ts) (h Cells ts) in omega arith

@@ -10,7 +10,8 @@ use lib.ListN.{getD}
 use Rattle.definitions.specs.TokenKind as K
 use Rattle.definitions.specs.Token.{Token, tokens-of}
 use Rattle.definitions.specs.Skeleton.{_⧺_}
-use Rattle.definitions.specs.Place.{place, rows}
+use Rattle.definitions.specs.Place.{place}
+use Rattle.definitions.specs.Parent.{rows, rows-under}
 use Rattle.definitions.specs.C.{symbols, line-in, Expr, binary, Gives}
 use Rattle.definitions.specs.Call.{Result}
 use Rattle.precedence.specs.Precedence.{tokens-before, mark-in, Starts-cell, Between, Holds-tree, Judged}
@@ -46,12 +47,12 @@ abbrev wrong : List ℕ
 wrong = 0 ∷ 3 ∷ 7 ∷ 1 ∷ 0 ∷ 18 ∷ 7 ∷ 3 ∷ 1 ∷ 41 ∷ 1 ∷ 1 ∷ 0 ∷ 6 ∷ 5 ∷ 3 ∷ 0 ∷ 6 ∷ 3 ∷ 3 ∷ 0 ∷ 9 ∷ 1 ∷ 1 ∷ 1 ∷ 35 ∷ 1 ∷ 1 ∷ 1 ∷ 43 ∷ 1 ∷ 1 ∷ 0 ∷ 9 ∷ 1 ∷ 1 ∷ 1 ∷ 35 ∷ 1 ∷ 1 ∷ 1 ∷ 45 ∷ 1 ∷ 1 ∷ 0 ∷ 9 ∷ 1 ∷ 1 ∷ 1 ∷ 35 ∷ 1 ∷ 1 ∷ 1 ∷ 42 ∷ 1 ∷ 1 ∷ []
 
 not-held : Holds-tree (tokens-of numbers) its-brackets (wrote 14 right 0 []) 1 sum-first → ⊥
-unfolding its-brackets rows place _⧺_
+unfolding its-brackets rows-under place _⧺_
 not-held h = let n : _≡_ {A = ℕ} 9 6 = ap (λ (l : List ℕ). getD l 13 0) (h .rows-are) in omega arith
 
 -- the table gives the brackets a tree, and their DtExpr holds the other
 another-tree : Judged (tokens-of numbers) its-brackets (wrote 14 wrong 0 []) 1 → ⊥
-unfolding its-brackets rows place _⧺_
+unfolding its-brackets rows-under place _⧺_
 another-tree j = let n : _≡_ {A = ℕ} 6 9 = ap (λ (l : List ℕ). getD l 13 0) (j .tree _ its-tree .1 .rows-are) in omega arith
 
 -- ---------------------------------------------------------------- reports

@@ -17,7 +17,8 @@ use Rattle.definitions.specs.NodeKind as N
 use Rattle.definitions.specs.Token.{Token, tokens-of, is-error, seen, byte-count}
 use Rattle.definitions.specs.Grammar.{Entry, root-kind}
 use Rattle.definitions.specs.Skeleton.{Report, _⧺_}
-use Rattle.definitions.specs.Place.{Tree, nil, subtree, _⊕_, lead, after, place, root, rows, row-count}
+use Rattle.definitions.specs.Place.{Tree, nil, subtree, _⊕_, lead, after, place, root, row-count}
+use Rattle.definitions.specs.Parent.{rows, rows-under}
 use Rattle.definitions.specs.Report.{Push, pushes, reports, report-numbers, pool}
 use Rattle.definitions.specs.Strict.{Name-at, judged, name-numbers}
 use Rattle.definitions.specs.C.{symbols, Expr}
@@ -167,7 +168,7 @@ module _ (setting : ℕ) (e : Entry) (bytes : List ℕ) (ts : List Token) (l : B
   -- ---------------------------------------------------------------- it starts a cell
 
   starts : (p : ℕ) → DtExpr-at p r → Starts-cell ts p r
-  unfolding rows byte-count
+  unfolding rows-under byte-count
   starts p d =
       let f = found p d in
       let s = f .fact .0 in

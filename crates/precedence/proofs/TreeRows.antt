@@ -13,7 +13,8 @@ use lib.Seq.{drop-drop, drop-append-add}
 use Rattle.definitions.specs.Layout.{TREE-ROW}
 use Rattle.definitions.specs.NodeKind as N
 use Rattle.definitions.specs.Token.{Token, byte-count}
-use Rattle.definitions.specs.Place.{Tree, nil, leaf, subtree, width, count, rows, row-count}
+use Rattle.definitions.specs.Place.{Tree, nil, leaf, subtree, width, count, row-count}
+use Rattle.definitions.specs.Parent.{rows, rows-under}
 use Rattle.laws.proofs.Tree.{leaves}
 use Rattle.laws.proofs.Decode.{rows-length}
 use Rattle.precedence.specs.Precedence.{tree-row-at, tokens-before}
@@ -33,7 +34,7 @@ drop-rows f l q =
     ∙ drop-append-add (rows f) l (TREE-ROW * q)
 
 tokens-after : (f : Tree) (l : List ℕ) (q : ℕ) → tokens-before (row-count f + q) (rows f ++ l) ≡ length (leaves f) + tokens-before q l
-unfolding rows row-count leaves tokens-before
+unfolding rows-under row-count leaves tokens-before
 tokens-after nil l q = ap (λ (n : ℕ). tokens-before n l) (zero-add q) ∙ sym (zero-add (tokens-before q l))
 tokens-after (leaf k ts f) l q =
     let h = tokens-after f l q in
@@ -110,7 +111,7 @@ module _ (Q : List Token → Tree → Type 0) where
       go false e = let g = ltb-false q (row-count c) e in beyond (q - row-count c) (omega arith) (omega arith)
 
   pub find : (f : Tree) → Finds f
-  unfolding Each rows row-count tokens-before
+  unfolding Each rows-under row-count tokens-before
   find nil l ts p h g i = absurd (omega arith)
   find (leaf k raw f) l ts zero h g i = let z : _≡_ {A = ℕ} 1 0 = cc (i .2) in absurd (omega arith)
   find (leaf k raw f) l ts (suc q) h g i =

@@ -13,7 +13,8 @@ use Rattle.definitions.specs.TokenKind as K
 use Rattle.definitions.specs.NodeKind as N
 use Rattle.definitions.specs.Token.{Token, tokens-of}
 use Rattle.definitions.specs.C.{Symbol, symbols, Balanced, Expr, Gives}
-use Rattle.definitions.specs.Place.{place, rows}
+use Rattle.definitions.specs.Place.{place}
+use Rattle.definitions.specs.Parent.{rows}
 use Rattle.definitions.specs.Call.{Buffers, Result, call}
 use Rattle.precedence.specs.Nodes.{cell}
 

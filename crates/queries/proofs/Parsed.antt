@@ -10,7 +10,8 @@ use lib.Seq.{take-at}
 use Rattle.definitions.specs.Layout.{TREE-ROW}
 use Rattle.definitions.specs.Token.{tokens-of}
 use Rattle.definitions.specs.Grammar.{Entry, SourceFile}
-use Rattle.definitions.specs.Place.{rows, row-count}
+use Rattle.definitions.specs.Place.{row-count}
+use Rattle.definitions.specs.Parent.{rows}
 use Rattle.definitions.specs.Refusal.{Verdict, accepted}
 use Rattle.definitions.specs.RowCauses.{check-input}
 use Rattle.definitions.specs.Call.{Buffers, Result, Sheets, sheets, kept, parse, for, entry-of, checked, asked, call}

@@ -11,7 +11,8 @@ use Rattle.basics.specs.Word.{low}
 use Rattle.definitions.specs.Layout.{TREE-ROW, ERROR-ROW, REPORT-ROW}
 use Rattle.definitions.specs.Token.{Token, tokens-of, byte-count}
 use Rattle.definitions.specs.Skeleton.{Skeleton}
-use Rattle.definitions.specs.Place.{root, rows, lexical-errors}
+use Rattle.definitions.specs.Place.{root, lexical-errors}
+use Rattle.definitions.specs.Parent.{rows}
 use Rattle.definitions.specs.Strict.{Name-at, name-numbers, names-fit}
 use Rattle.definitions.specs.Report.{Room, Fit, fits, stops, scan, pushes, reports, report-numbers, pool}
 use Rattle.definitions.specs.Refusal.{Refusal, unknown-entry, too-long, odd-count, bad-kind, zero-length, past-input, short-total, bad-text, too-deep, no-event-room, no-report-room, no-tree-room, number-of, place-of, Verdict, accepted, refused}

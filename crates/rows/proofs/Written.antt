@@ -9,7 +9,8 @@ use lib.ListN.{length, take, drop, replicate, length-append}
 use lib.Seq.{take-at, drop-at}
 use Rattle.definitions.specs.Layout.{TREE-ROW}
 use Rattle.definitions.specs.Token.{byte-count}
-use Rattle.definitions.specs.Place.{Tree, nil, leaf, subtree, _⊕_, width, count, rows}
+use Rattle.definitions.specs.Place.{Tree, nil, leaf, subtree, _⊕_, width, count}
+use Rattle.definitions.specs.Parent.{rows, rows-under}
 use Rattle.definitions.specs.Call.{written}
 use Rattle.laws.proofs.Skeleton.{bytes-append}
 use Rattle.laws.proofs.Tree.{leaves}
@@ -76,7 +77,7 @@ rows-wide (leaf k ts f) = (refl, rows-wide f)
 rows-wide (subtree k c f) = (refl, wide-append TREE-ROW (rows-of c) (rows-of f) (rows-wide c) (rows-wide f))
 
 pub rows-flat : (f : Tree) → rows f ≡ flat (rows-of f)
-unfolding rows-of rows flat
+unfolding rows-of rows-under flat
 rows-flat nil = refl
 rows-flat (leaf k ts f) = ap (λ (l : List ℕ). 1 ∷ k ∷ byte-count ts ∷ length ts ∷ l) (rows-flat f)
 rows-flat (subtree k c f) =

@@ -12,7 +12,7 @@ use Rattle.basics.specs.Word.{low}
 use Rattle.definitions.specs.Layout.{TREE-ROW, EVENT-ROW, EVENT-TAG, EVENT-ARGUMENT, EVENT-DISTANCE, FINISH-NODE, LINKED-START-NODE, TWO-TO-32}
 use Rattle.definitions.specs.Skeleton.{Skeleton, done, token, name, node, ignored, report, over}
 use Rattle.definitions.specs.Event.{forward, events as events-of}
-use Rattle.definitions.specs.Place.{tree-row}
+use Rattle.definitions.specs.Parent.{tree-row}
 use Rattle.machine.specs.Encode.{start-tag, encode}
 use Rattle.sink.specs.Encode.{Alone, Chained}
 use Rattle.sink_rows.specs.Rows.{put, field, link, linksN, links, open-rows}

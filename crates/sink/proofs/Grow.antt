@@ -10,7 +10,8 @@ use borrow.Author.Tests.{le-leb}
 use Rattle.basics.specs.Word.{low}
 use Rattle.definitions.specs.Layout.{TREE-ROW, LEAF, TWO-TO-32}
 use Rattle.definitions.specs.Token.{Token, byte-count}
-use Rattle.definitions.specs.Place.{Tree, nil, leaf, _⊕_, width, count, rows, tree-row, row-count}
+use Rattle.definitions.specs.Place.{Tree, nil, leaf, _⊕_, width, count, row-count}
+use Rattle.definitions.specs.Parent.{rows, tree-row, rows-under}
 use Rattle.laws.proofs.Tree.{rows-beside, width-beside, count-beside}
 use Rattle.sink_rows.specs.Rows.{put, tree-field}
 use Rattle.sink.specs.Model.{On, on, moved, leaf-on}
@@ -62,7 +63,7 @@ grow-grow f g s =
     )
 
 pub grow-nil : (s : Filled) → grow nil s ≡ s
-unfolding grow rows width count raw row-count
+unfolding grow rows-under width count raw row-count
 grow-nil s =
     let p : s .cursor + 0 ≡ s .cursor = omega arith in
     let q : s .byte + 0 ≡ s .byte = omega arith in
@@ -123,7 +124,7 @@ field-seam row j t x e h =
 
 module _ (k : ℕ) (ts : List Token) (n w : ℕ) (hn : length ts ≡ n) (hw : byte-count ts ≡ w) (s : Filled) (r : Fits (leaf k ts nil) s) where
   pub leaf-runs : leaf-on k w n (moved (s .cursor + n) (state s)) ≡ state (grow (leaf k ts nil) s)
-  unfolding rows width count raw row-count grow state leaf-on
+  unfolding rows-under width count raw row-count grow state leaf-on
   leaf-runs =
       let b : low (s .byte + w) ≡ s .byte + (byte-count ts + 0) = low-small (s .byte + w) (omega (arith, r .byte)) ∙ (let z : s .byte + w ≡ s .byte + (byte-count ts + 0) = omega arith in z) in
       let m : low (s .rows + 1) ≡ s .rows + 1 = low-small (s .rows + 1) (omega (arith, r .rows)) in

@@ -14,7 +14,8 @@ use Rattle.definitions.specs.TokenKind as K
 use Rattle.definitions.specs.Token.{Token, drop-trivia, past}
 use Rattle.definitions.specs.Skeleton.{Skeleton, done, token, name, node, ignored, report, over}
 use Rattle.definitions.specs.Event.{events as events-of}
-use Rattle.definitions.specs.Place.{Tree, nil, leaf, subtree, _⊕_, lead, front, after, place, width, rows, row-count}
+use Rattle.definitions.specs.Place.{Tree, nil, leaf, subtree, _⊕_, lead, front, after, place, width, row-count}
+use Rattle.definitions.specs.Parent.{rows, rows-under}
 use Rattle.laws.proofs.Trivia.{Solid, dropped-solid, drop-twice}
 use Rattle.machine.specs.Encode.{start-tag, encode}
 use Rattle.sink.specs.Encode.{event-row, Alone, Chained}
@@ -86,7 +87,7 @@ place-alone k m m′ a i o ts h s d = rw (h, d, lead-solid ts s)
 
 -- what is inside an open node fits where the node does
 pub fits-inside : (k : ℕ) (f : Tree) (s : Filled) → Fits (subtree k f nil) s → Fits f (inside k s)
-unfolding inside rows width row-count
+unfolding inside rows-under width row-count
 fits-inside k f s r =
     record {
       free = omega (arith, r .free, length-append (rows f) [], length-drop TREE-ROW (s .free));

@@ -15,7 +15,8 @@ use Rattle.definitions.specs.Layout.{TOKEN-ROW, TOKEN-LENGTH, TREE-ROW, NODE, T
 use Rattle.definitions.specs.LexError as L
 use Rattle.definitions.specs.TokenKind as K
 use Rattle.definitions.specs.Token.{Token, tokens-of, is-error, seen, trivia, byte-count}
-use Rattle.definitions.specs.Place.{Tree, nil, leaf, subtree, _⊕_, lead, front, width, count, rows, tree-row, row-count}
+use Rattle.definitions.specs.Place.{Tree, nil, leaf, subtree, _⊕_, lead, front, width, count, row-count}
+use Rattle.definitions.specs.Parent.{rows, tree-row, rows-under}
 use Rattle.sink_rows.specs.Rows.{PARENT, KIND, FIRST-BYTE, CHILDREN-BEFORE}
 use Rattle.sink_tokens.specs.Tokens.{kind-seen, trivia-here, at-most, widthN}
 use Rattle.sink.specs.Model.{sink-of, trivia-on, token-on, combined-on, finish-on}
@@ -198,7 +199,7 @@ inside k s =
 
 -- AN OPEN ROW AND THE ROWS INSIDE IT BECOME A CLOSED ROW AND THE ROWS INSIDE IT
 pub finish-runs : (k : ℕ) (f : Tree) (s : Filled) → Fits (subtree k f nil) s → finish-on (state (grow f (inside k s))) ≡ state (grow (subtree k f nil) s)
-unfolding state grow inside finish-on rows width count raw row-count
+unfolding state grow inside finish-on rows-under width count raw row-count
 finish-runs k f s r =
     let T = s .written in
     let o : List ℕ = tree-row (s .node) k (s .byte) (s .children) [] in

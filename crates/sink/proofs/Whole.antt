@@ -11,7 +11,8 @@ use Rattle.definitions.specs.Layout.{TREE-ROW, EVENT-ROW, ERROR-ROW}
 use Rattle.definitions.specs.Token.{Token, tokens-of}
 use Rattle.definitions.specs.Skeleton.{Skeleton}
 use Rattle.definitions.specs.Refusal.{no-tree-room, number-of}
-use Rattle.definitions.specs.Place.{nil, subtree, _⊕_, lead, after, place, root, count, rows, tree-row, lexical-errors, row-count}
+use Rattle.definitions.specs.Place.{nil, subtree, _⊕_, lead, after, place, root, count, lexical-errors, row-count}
+use Rattle.definitions.specs.Parent.{rows, tree-row}
 use Rattle.laws.specs.Lossless.{errors-in}
 use Rattle.basics.proofs.Tests.{and-left, and-right}
 use Rattle.sink.specs.declared.Sunk.{Sunk}

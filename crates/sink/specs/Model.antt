@@ -6,10 +6,10 @@ use mathlib.Core.List.{List, []}
 use lib.ListN.{length, getD}
 use lib.Dec.{ltb, leb, eqb}
 use Rattle.basics.specs.Word.{low}
-use Rattle.definitions.specs.Layout.{TOKEN-ROW, TOKEN-LENGTH, TREE-ROW, NODE, LEAF, EVENT-ROW, EVENT-TAG, EVENT-ARGUMENT, ERROR-ROW, START-NODE, ADD-TOKEN, ADD-COMBINED-TOKEN, FINISH-NODE}
-use Rattle.definitions.specs.Place.{tree-row}
+use Rattle.definitions.specs.Layout.{TOKEN-ROW, TOKEN-LENGTH, TREE-ROW, TREE-KIND, TREE-PARENT, NODE, LEAF, EVENT-ROW, EVENT-TAG, EVENT-ARGUMENT, ERROR-ROW, START-NODE, ADD-TOKEN, ADD-COMBINED-TOKEN, FINISH-NODE}
+use Rattle.definitions.specs.Parent.{tree-row}
 use Rattle.definitions.specs.TokenKind as K
-use Rattle.sink_rows.specs.Rows.{PARENT, KIND, FIRST-BYTE, CHILDREN-BEFORE, put, tree-field, field, links, open-rows}
+use Rattle.sink_rows.specs.Rows.{FIRST-BYTE, CHILDREN-BEFORE, put, tree-field, field, links, open-rows}
 use Rattle.sink_tokens.specs.Tokens.{kind-seen, trivia-here, at-most, widthN, Log, log, errors-on}
 use Rattle.sink.specs.declared.Sink.{Sink}
 use Rattle.sink.specs.declared.Sunk.{Sunk}
@@ -30,7 +30,7 @@ unfoldable pub leaf-on : ℕ → ℕ → ℕ → On → On
 unfolding put
 leaf-on k w n (on s trees) =
     on (record { cursor = s .cursor; byte = low (s .byte + w); rows = low (s .rows + 1); node = s .node; children = low (s .children + 1) })
-    (put (s .rows) (tree-row LEAF k w n []) trees)
+    (put (s .rows) (tree-row LEAF k w n (s .node) []) trees)
 
 unfoldable pub token-on : List ℕ → On → On
 unfolding kind-seen leaf-on
@@ -69,11 +69,11 @@ finish-on (on s trees) =
       cursor = s .cursor;
       byte = s .byte;
       rows = s .rows;
-      node = tree-field (s .node) PARENT trees;
+      node = tree-field (s .node) TREE-PARENT trees;
       children = low (tree-field (s .node) CHILDREN-BEFORE trees + 1);
     })
-    (put (s .node) (tree-row NODE (tree-field (s .node) KIND trees) (s .byte - tree-field (s .node) FIRST-BYTE trees)
-    (s .children) []) trees)
+    (put (s .node) (tree-row NODE (tree-field (s .node) TREE-KIND trees) (s .byte - tree-field (s .node) FIRST-BYTE trees)
+    (s .children) (tree-field (s .node) TREE-PARENT trees) []) trees)
 
 unfoldable pub event-on : List ℕ → List ℕ → ℕ → On → On
 unfolding field trivia-on start-on token-on combined-on finish-on
@@ -92,7 +92,7 @@ eventsN (suc n) tokens events i x = eventsN n tokens events (i + 1) (event-on to
 
 unfoldable pub root-on : ℕ → List ℕ → On
 unfolding put
-root-on k trees = on (record { cursor = 0; byte = 0; rows = 1; node = 0; children = 0 }) (put 0 (tree-row 0 k 0 0 []) trees)
+root-on k trees = on (record { cursor = 0; byte = 0; rows = 1; node = 0; children = 0 }) (put 0 (tree-row NODE k 0 0 0 []) trees)
 
 unfoldable pub events-on : ℕ → List ℕ → List ℕ → List ℕ → On
 unfolding finish-on trivia-on eventsN root-on

@@ -11,7 +11,8 @@ use Rattle.definitions.specs.Token.{tokens-of, byte-count}
 use Rattle.definitions.specs.Skeleton.{Skeleton}
 use Rattle.definitions.specs.Event.{events}
 use Rattle.definitions.specs.Refusal.{no-tree-room, number-of}
-use Rattle.definitions.specs.Place.{root, rows, lexical-errors}
+use Rattle.definitions.specs.Place.{root, lexical-errors}
+use Rattle.definitions.specs.Parent.{rows}
 use Rattle.sink.specs.declared.Sunk.{Sunk}
 use Rattle.sink.specs.declared.Sunk.the-variants.{Written, NoRoom}
 use Rattle.machine.specs.Encode.{encode}

@@ -38,7 +38,7 @@ fn leaf(s: Sink, trees: &mut [u32], kind: u32, width: u32, count: u32) -> Sink
         ≡ leaf-on kind width count (on s (now (trees .entry))) ⌝ }
     ensures { λ r. ⌜ r .cursor ≡ s .cursor ⌝ }
 {
-    tree_row::write_row(trees, s.rows, row::LEAF, kind, width, count);
+    tree_row::write_row(trees, s.rows, row::LEAF, kind, width, count, s.node);
     let mut q = s;
     q.byte = word::add(s.byte, width);
     q.rows = word::add(s.rows, 1);
@@ -105,14 +105,14 @@ fn start_node(s: Sink, events: &[u32], trees: &mut [u32], i: usize) -> Sink
     q
 }
 
-// `FinishNode`: the open node's row gets its class, width and count, and its parent is the open node again.
+// `FinishNode`: the open node's row gets its width and count, and its parent is the open node again.
 fn finish_node(s: Sink, trees: &mut [u32]) -> Sink
     ensures { λ r. ⌜ on r (now (trees .exit))
         ≡ finish-on (on s (now (trees .entry))) ⌝ }
 {
     let node = s.node;
-    let parent = tree_row::field(trees, node, tree_row::PARENT);
-    let kind = tree_row::field(trees, node, tree_row::KIND);
+    let parent = tree_row::field(trees, node, row::TREE_PARENT);
+    let kind = tree_row::field(trees, node, row::TREE_KIND);
     let first = tree_row::field(trees, node, tree_row::FIRST_BYTE);
     let children = tree_row::field(trees, node, tree_row::CHILDREN_BEFORE);
     tree_row::write_row(
@@ -122,6 +122,7 @@ fn finish_node(s: Sink, trees: &mut [u32]) -> Sink
         kind,
         word::minus(s.byte, first),
         s.children,
+        parent,
     );
     let mut q = s;
     q.node = parent;
@@ -159,12 +160,12 @@ fn one_event(s: Sink, tokens: &[u32], events: &[u32], trees: &mut [u32], i: usiz
     s
 }
 
-// The root's row, open.
+// The root's row, open. It is its own parent.
 fn root_node(trees: &mut [u32], kind: u32) -> Sink
     ensures { λ r. ⌜ on r (now (trees .exit))
         ≡ root-on kind (now (trees .entry)) ⌝ }
 {
-    tree_row::write_row(trees, 0, 0, kind, 0, 0);
+    tree_row::write_row(trees, 0, row::NODE, kind, 0, 0, 0);
     Sink {
         cursor: 0,
         byte: 0,

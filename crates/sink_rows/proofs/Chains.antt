@@ -8,7 +8,7 @@ use lib.Seq.{sets}
 use borrow.Author.Tests.{lt-ltb}
 use Rattle.basics.specs.Word.{low}
 use Rattle.definitions.specs.Layout.{EVENT-ROW, EVENT-ARGUMENT}
-use Rattle.definitions.specs.Place.{tree-row}
+use Rattle.definitions.specs.Parent.{tree-row}
 use Rattle.sink_rows.specs.Rows.{put, field, link, links, linksN, open-rows}
 
 -- ---------------------------------------------------------------- rows

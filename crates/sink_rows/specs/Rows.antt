@@ -7,8 +7,8 @@ use lib.ListN.{length, getD}
 use lib.Seq.{sets}
 use lib.Dec.{ltb, leb, eqb}
 use Rattle.basics.specs.Word.{low}
-use Rattle.definitions.specs.Layout.{TREE-ROW, TREE-KIND, TREE-WIDTH, TREE-COUNT, EVENT-ROW, EVENT-TAG, EVENT-ARGUMENT, EVENT-DISTANCE, LINKED-START-NODE}
-use Rattle.definitions.specs.Place.{tree-row}
+use Rattle.definitions.specs.Layout.{TREE-ROW, TREE-WIDTH, TREE-COUNT, NODE, EVENT-ROW, EVENT-TAG, EVENT-ARGUMENT, EVENT-DISTANCE, LINKED-START-NODE}
+use Rattle.definitions.specs.Parent.{tree-row}
 
 -- ---------------------------------------------------------------- tree rows
 
@@ -20,15 +20,8 @@ put row r trees = cond (leb (row * TREE-ROW + TREE-ROW) (length trees)) (sets tr
 unfoldable pub tree-field : ℕ → ℕ → List ℕ → ℕ
 tree-field row j trees = cond (leb (row * TREE-ROW + TREE-ROW) (length trees)) (getD trees (row * TREE-ROW + j) 0) 0
 
--- the numbers of an open row: its parent's row, its kind, its first byte, and how many children its parent had before
--- it.
--- Those of the finished row take their places.
-abbrev pub PARENT : ℕ
-PARENT = 0
-
-abbrev pub KIND : ℕ
-KIND = TREE-KIND
-
+-- the numbers of an open row that those of the finished row replace: its first byte, and how many children its parent
+-- had before it
 abbrev pub FIRST-BYTE : ℕ
 FIRST-BYTE = TREE-WIDTH
 
@@ -60,8 +53,8 @@ links events j = linksN (length events / EVENT-ROW) events j
 unfoldable pub open-rows : ℕ → List ℕ → ℕ → ℕ → ℕ → ℕ → ℕ → List ℕ → List ℕ
 unfolding put field link
 open-rows zero events j first byte parent children trees =
-    put first (tree-row parent (field events j EVENT-ARGUMENT) byte children []) trees
+    put first (tree-row NODE (field events j EVENT-ARGUMENT) byte children parent []) trees
 open-rows (suc n) events j first byte parent children trees =
     let up = low (first + n) in
     open-rows n events (j + link events j) first byte parent children
-    (put (low (up + 1)) (tree-row up (field events j EVENT-ARGUMENT) byte 0 []) trees)
+    (put (low (up + 1)) (tree-row NODE (field events j EVENT-ARGUMENT) byte 0 up []) trees)

@@ -1,9 +1,12 @@
-// Tree rows. A finished row: class, kind, width, count. The row of an open node holds what its end needs: its parent's
-// row, its kind, its first byte, and how many children its parent had before it.
+// Tree rows. A finished row: class, kind, width, count, the parent's row. The row of an open node has its class, kind and
+// parent already; in the place of width and count it holds what its end needs: its first byte, and how many children its
+// parent had before it.
 use crate::event_row;
 use layout::row::EVENT_ARGUMENT;
+use layout::row::NODE;
 use layout::row::TREE_COUNT;
 use layout::row::TREE_KIND;
+use layout::row::TREE_PARENT;
 use layout::row::TREE_ROW;
 use layout::row::TREE_WIDTH;
 use layout::word;
@@ -12,14 +15,10 @@ ghost use mathlib.Core.List.{[]};
 ghost use Prim.Native.Nat.{_+_, _*_, _<_};
 ghost use lib.Dec.{leb};
 ghost use Rattle.definitions.specs.Layout.{TREE-ROW};
-ghost use Rattle.definitions.specs.Place.{tree-row};
+ghost use Rattle.definitions.specs.Parent.{tree-row};
 ghost use Rattle.sink_rows.specs.Rows.{put, tree-field, open-rows};
 
-// The numbers of an open row. Those of the finished row take their places.
-pub const PARENT: usize = 0;
-
-pub const KIND: usize = TREE_KIND;
-
+// The numbers of an open row that those of the finished row replace.
 pub const FIRST_BYTE: usize = TREE_WIDTH;
 
 pub const CHILDREN_BEFORE: usize = TREE_COUNT;
@@ -32,8 +31,16 @@ pub fn rows_fit(len: usize, rows: u32) -> bool
 }
 
 // Nothing is written where the row does not fit.
-pub fn write_row(trees: &mut [u32], row: u32, class: u32, kind: u32, width: u32, count: u32)
-    ensures { λ _. ⌜ now (trees .exit) ≡ put row (tree-row class kind width count []) (now (trees .entry)) ⌝ }
+pub fn write_row(
+    trees: &mut [u32],
+    row: u32,
+    class: u32,
+    kind: u32,
+    width: u32,
+    count: u32,
+    parent: u32,
+)
+    ensures { λ _. ⌜ now (trees .exit) ≡ put row (tree-row class kind width count parent []) (now (trees .entry)) ⌝ }
 {
     let index = word::wide(row) * TREE_ROW;
     let enough = index + TREE_ROW <= trees.len();
@@ -42,6 +49,7 @@ pub fn write_row(trees: &mut [u32], row: u32, class: u32, kind: u32, width: u32,
         trees[index + TREE_KIND] = kind;
         trees[index + TREE_WIDTH] = width;
         trees[index + TREE_COUNT] = count;
+        trees[index + TREE_PARENT] = parent;
     }
 }
 
@@ -76,9 +84,9 @@ pub fn open_rows(
         let up = word::add(first, left);
         let inner = word::add(up, 1);
         let kind = event_row::field(events, j, EVENT_ARGUMENT);
-        write_row(trees, inner, up, kind, byte, 0);
+        write_row(trees, inner, NODE, kind, byte, 0, up);
         j += event_row::link(events, j);
     }
     let kind = event_row::field(events, j, EVENT_ARGUMENT);
-    write_row(trees, first, parent, kind, byte, children);
+    write_row(trees, first, NODE, kind, byte, children, parent);
 }

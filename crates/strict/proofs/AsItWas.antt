@@ -6,7 +6,8 @@ use lib.ListN.{length}
 use Rattle.definitions.specs.Token.{Token, tokens-of, byte-count}
 use Rattle.definitions.specs.Grammar.{Entry}
 use Rattle.definitions.specs.Skeleton.{Skeleton}
-use Rattle.definitions.specs.Place.{root, rows, lexical-errors}
+use Rattle.definitions.specs.Place.{root, lexical-errors}
+use Rattle.definitions.specs.Parent.{rows}
 use Rattle.definitions.specs.Grammar.{root-kind}
 use Rattle.definitions.specs.Report.{Fit, fits, stops, pushes, scan, reports, report-numbers, pool}
 use Rattle.definitions.specs.Refusal.{Verdict, accepted, refused}

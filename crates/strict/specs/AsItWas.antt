@@ -10,7 +10,8 @@ use lib.ListN.{length}
 use Rattle.definitions.specs.Token.{Token, tokens-of, byte-count}
 use Rattle.definitions.specs.Grammar.{Entry, root-kind}
 use Rattle.definitions.specs.Skeleton.{Skeleton}
-use Rattle.definitions.specs.Place.{root, rows, lexical-errors}
+use Rattle.definitions.specs.Place.{root, lexical-errors}
+use Rattle.definitions.specs.Parent.{rows, rows-under}
 use Rattle.definitions.specs.Report.{Fit, fits, stops, pushes, scan, reports, report-numbers, pool}
 use Rattle.definitions.specs.Refusal.{unknown-entry, number-of, place-of, Verdict, accepted, refused}
 use Rattle.definitions.specs.RowCauses.{check-input}
@@ -18,7 +19,7 @@ use Rattle.definitions.specs.Call.{Buffers, Result, untouched, cleared, run-ent
 use Rattle.definitions.specs.Call as D
 
 unfoldable pub sheets : Entry → List Token → Skeleton → Sheets
-unfolding root rows lexical-errors reports report-numbers pool root-kind byte-count
+unfolding root rows-under lexical-errors reports report-numbers pool root-kind byte-count
 sheets e ts o =
     let l = reports (pushes o) in
     record {
