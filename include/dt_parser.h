@@ -3,11 +3,11 @@
  * does so with a text (dt_parse_text), and two queries of a source file, which also list rows of its tree: those under
  * a caret (dt_caret), and the top-level parts that share a byte with a range (dt_parts_in_range).
  *
- * "Document 01" is docs/01-scope.md; the strict setting, the text call, the causes of bad token rows, the queries and
- * that a report lists each expectation once are document 02's requests 1/14, 2/14, 4/14, 5/14 and 6/14. What a call
- * answers and what each buffer holds afterwards is in crates/definitions/specs, Call.antt, Text.antt and Caret.antt.
- * tools/check-header compares every number below with the definitions and the code. The names and message texts of the
- * numbers are in dt_names.h.
+ * "Document 01" is docs/01-scope.md; the strict setting, the text call, the causes of bad token rows, the queries, that
+ * a report lists each expectation once and that a tree row names its parent are document 02's requests 1/14, 2/14 and
+ * 4/14 to 7/14. What a call answers and what each buffer holds afterwards is in crates/definitions/specs, Call.antt,
+ * Text.antt and Caret.antt. tools/check-header compares every number below with the definitions and the code. The names
+ * and message texts of the numbers are in dt_names.h.
  *
  * Link: libdt_parser.a (`rt staticlib dt_parser` writes target/staticlib/libdt_parser.a), x86-64 Linux. It needs the C
  * library (memcpy, memmove, memset) and nothing else. `tools/install-library PREFIX` puts library, headers and a file
@@ -30,9 +30,9 @@
  * new minor number says that something a caller relies on has changed, for instance how many numbers a row has.
  */
 #define DT_PARSER_VERSION_MAJOR 0
-#define DT_PARSER_VERSION_MINOR 7
+#define DT_PARSER_VERSION_MINOR 8
 #define DT_PARSER_VERSION_PATCH 0
-/* As one number, to compare in an #if: 0.7.0 is 700, 1.2.3 is 10203. */
+/* As one number, to compare in an #if: 0.8.0 is 800, 1.2.3 is 10203. */
 #define DT_PARSER_VERSION (10000 * DT_PARSER_VERSION_MAJOR + 100 * DT_PARSER_VERSION_MINOR + DT_PARSER_VERSION_PATCH)
 
 #ifdef __cplusplus
@@ -103,7 +103,7 @@ enum dt_limit {
 enum dt_row_size {
     DT_ROW_TOKEN = 2,
     DT_ROW_EVENT = 3,
-    DT_ROW_TREE = 4,
+    DT_ROW_TREE = 5,
     DT_ROW_ERROR = 3,
     DT_ROW_REPORT = 9
 };
@@ -111,12 +111,19 @@ enum dt_row_size {
 /* The numbers of a token row. */
 enum dt_token_column { DT_COL_TOKEN_KIND = 0, DT_COL_TOKEN_LENGTH = 1 };
 
-/* The numbers of a tree row. Rows are in preorder: a node's children follow it. */
+/*
+ * The numbers of a tree row. Rows are in preorder: a node's children follow it. A row's number is its place among the
+ * rows, counted from 0, which is the root's; so row r starts at number DT_ROW_TREE * r of the buffer.
+ *
+ * The parent is given by its row number. It is a node before the row, of whose children the row is one; the root has
+ * none, and names itself with 0. So going from parent to parent ends at row 0, the only row that is its own parent.
+ */
 enum dt_tree_column {
     DT_COL_TREE_CLASS = 0, /* DT_CLASS_NODE or DT_CLASS_LEAF */
     DT_COL_TREE_KIND = 1,  /* of a node enum dt_node, of a leaf enum dt_token */
     DT_COL_TREE_WIDTH = 2, /* in bytes */
-    DT_COL_TREE_COUNT = 3  /* children of a node, raw tokens of a leaf */
+    DT_COL_TREE_COUNT = 3, /* children of a node, raw tokens of a leaf */
+    DT_COL_TREE_PARENT = 4 /* the parent's row number; of the root its own, 0 */
 };
 
 enum dt_class { DT_CLASS_NODE = 0, DT_CLASS_LEAF = 1 };
@@ -153,6 +160,7 @@ struct dt_tree_row {
     uint32_t kind;   /* of a node enum dt_node, of a leaf enum dt_token */
     uint32_t width;  /* in bytes */
     uint32_t count;  /* children of a node, raw tokens of a leaf */
+    uint32_t parent; /* the parent's row number; of the root its own, 0 */
 };
 
 struct dt_error_row {
@@ -192,16 +200,21 @@ DT_ASSERT_ROW(dt_report_row, DT_ROW_REPORT);
  *   size_t child = node + 1;
  *   for (uint32_t i = 0; i < trees[node].count; i++, child = dt_after_subtree(trees, tree_count, child))
  *       visit(&trees[child]);
+ *
+ * The nodes around a row, the nearest first and the root last, need no function:
+ *
+ *   while (row != 0) {
+ *       row = trees[row].parent;
+ *       visit(&trees[row]);
+ *   }
  */
 static inline size_t dt_after_subtree(const struct dt_tree_row *trees, size_t tree_count, size_t row)
 {
-    size_t open = 1; /* subtrees that have still to end */
-    for (; open > 0 && row < tree_count; row++) {
-        open--;
-        if (trees[row].class_ == DT_CLASS_NODE)
-            open += trees[row].count;
-    }
-    return row;
+    size_t next = row;
+    /* what lies below the row has its parent there: the row itself, or one after it */
+    while (next < tree_count && (next == row || trees[next].parent >= row))
+        next++;
+    return next;
 }
 
 /* Token kinds, of a token row, a leaf or an expectation. After a kind: its fixed text, which the bytes must be. */
@@ -471,8 +484,8 @@ struct dt_text_answer dt_parse_text(uint32_t entry, uint32_t setting,
  * What is under a caret in a source file: the tree rows from the root to the leaf there. The file is parsed first, as
  * dt_parse does it with DT_ENTRY_SOURCE_FILE; one with reports is answered too.
  *
- * The list has numbers of tree rows, the root's, 0, first and the leaf's last. Number i of it is the row
- * `(const struct dt_tree_row *)trees + list[i]`, whose children and text are found as for any row.
+ * The list has numbers of tree rows, the root's, 0, first and the leaf's last; each is the parent of the next. Number i
+ * of it is the row `(const struct dt_tree_row *)trees + list[i]`, whose children and text are found as for any row.
  *
  * A leaf owns its first byte and not its end, which is the next leaf's. So, for a file that is not empty:
  *   offset < bytes_len     the leaf that owns the byte at the offset, and the nodes around it

@@ -17,7 +17,7 @@ pub type Lengths = [usize; BUFFERS];
 /// Numbers in a row.
 pub const ROW_TOKEN: usize = 2;
 pub const ROW_EVENT: usize = 3;
-pub const ROW_TREE: usize = 4;
+pub const ROW_TREE: usize = 5;
 pub const ROW_ERROR: usize = 3;
 pub const ROW_REPORT: usize = 9;
 
@@ -42,6 +42,7 @@ pub const COL_TREE_CLASS: usize = 0;
 pub const COL_TREE_KIND: usize = 1;
 pub const COL_TREE_WIDTH: usize = 2;
 pub const COL_TREE_COUNT: usize = 3;
+pub const COL_TREE_PARENT: usize = 4;
 pub const COL_ERROR_NUMBER: usize = 0;
 pub const COL_ERROR_START: usize = 1;
 pub const COL_ERROR_END: usize = 2;

@@ -7,8 +7,8 @@ use lib.ListN.{length, length-append}
 use Rattle.definitions.specs.Layout.{NODE, LEAF, TREE-ROW}
 use Rattle.definitions.specs.Token.{byte-count}
 use Rattle.definitions.specs.Place.{Tree, nil, leaf, subtree, width, count, row-count}
-use Rattle.definitions.specs.Parent.{rows, tree-row, rows-under}
-use Rattle.laws.specs.TreeRows.{Rows, end, node, preorder, siblings, widths, Counts, Widths, first-rows, later-rows, read-row, read}
+use Rattle.definitions.specs.Parent.{rows-under, tree-row}
+use Rattle.laws.specs.TreeRows.{Rows, end, node, preorder, preorder-under, row-total, siblings, widths, Counts, Widths, first-rows, later-rows, read-row, read}
 use Rattle.laws.specs.TreeRows as R
 
 -- ---------------------------------------------------------------- reading
@@ -38,13 +38,16 @@ later-of (R.leaf k w n f) g = later-of f g
 later-of (node k w n c f) g = later-of f g
 
 -- rows with true counts are read as what they are, whatever follows
-pub read-preorder : (r : Rows) (l : List ℕ) → Counts r → read (preorder r ++ l) ≡ r ⊞ read l
-unfolding read preorder Counts read-row _⊞_
-read-preorder end l h = refl
-read-preorder (R.leaf k w n f) l h = ap (R.leaf k w n) (read-preorder f l h)
-read-preorder (node k w n c f) l h =
-    let e : read ((preorder c ++ preorder f) ++ l) ≡ c ⊞ (f ⊞ read l) =
-    ap read (append-assoc (preorder c) (preorder f) l) ∙ read-preorder c (preorder f ++ l) (h .1) ∙ ap (c ⊞_) (read-preorder f l (h .2)) in
+pub read-preorder : (r : Rows) (p i : ℕ) (l : List ℕ) → Counts r → read (preorder-under p i r ++ l) ≡ r ⊞ read l
+unfolding read preorder-under Counts read-row _⊞_
+read-preorder end p i l h = refl
+read-preorder (R.leaf k w n f) p i l h = ap (R.leaf k w n) (read-preorder f p (suc i) l h)
+read-preorder (node k w n c f) p i l h =
+    let j = suc i + row-total c in
+    let C : List ℕ = preorder-under i (suc i) c in
+    let F : List ℕ = preorder-under p j f in
+    let e : read ((C ++ F) ++ l) ≡ c ⊞ (f ⊞ read l) =
+    ap read (append-assoc C F l) ∙ read-preorder c i (suc i) (F ++ l) (h .1) ∙ ap (c ⊞_) (read-preorder f p j l (h .2)) in
     ap (λ (x : Rows). node k w n (first-rows n x) (later-rows n x)) e
     ∙ ap (λ (m : ℕ). node k w n (first-rows m (c ⊞ (f ⊞ read l))) (later-rows m (c ⊞ (f ⊞ read l)))) (h .0)
     ∙ ap (λ (x : Rows). node k w n x (later-rows (siblings c) (c ⊞ (f ⊞ read l)))) (first-of c (f ⊞ read l))
@@ -53,7 +56,7 @@ read-preorder (node k w n c f) l h =
 -- READ BACK
 pub read-back : (r : Rows) → Counts r → read (preorder r) ≡ r
 unfolding read
-read-back r h = ap read (sym (append-nil (preorder r))) ∙ read-preorder r [] h ∙ beside-end r
+read-back r h = ap read (sym (append-nil (preorder r))) ∙ read-preorder r 0 0 [] h ∙ beside-end r
 
 -- ONLY ONE: two trees with true counts and the same rows are the same
 pub preorder-once : (r q : Rows) → Counts r → Counts q → preorder r ≡ preorder q → r ≡ q
@@ -67,12 +70,18 @@ shown nil = end
 shown (leaf k ts f) = R.leaf k (byte-count ts) (length ts) (shown f)
 shown (subtree k c f) = node k (width c) (count c) (shown c) (shown f)
 
-pub shown-preorder : (t : Tree) → preorder (shown t) ≡ rows t
-unfolding shown preorder rows-under
-shown-preorder nil = refl
-shown-preorder (leaf k ts f) = ap (tree-row LEAF k (byte-count ts) (length ts)) (shown-preorder f)
-shown-preorder (subtree k c f) =
-    ap (λ (l : List ℕ). tree-row NODE k (width c) (count c) (l ++ preorder (shown f))) (shown-preorder c) ∙ ap (λ (l : List ℕ). tree-row NODE k (width c) (count c) (rows c ++ l)) (shown-preorder f)
+total-count : (t : Tree) → row-total (shown t) ≡ row-count t
+unfolding shown row-total row-count
+total-count nil = refl
+total-count (leaf k ts f) = ap suc (total-count f)
+total-count (subtree k c f) = rw (total-count c, total-count f)
+
+pub shown-preorder : (t : Tree) (p i : ℕ) → preorder-under p i (shown t) ≡ rows-under p i t
+unfolding shown preorder-under rows-under
+shown-preorder nil p i = refl
+shown-preorder (leaf k ts f) p i = ap (tree-row LEAF k (byte-count ts) (length ts) p) (shown-preorder f p (suc i))
+shown-preorder (subtree k c f) p i =
+    rw (total-count c, shown-preorder c i (suc i), shown-preorder f p (suc i + row-count c))
 
 count-number : (t : Tree) → count t ≡ siblings (shown t)
 unfolding shown count siblings
@@ -98,11 +107,14 @@ shown-widths nil = tt
 shown-widths (leaf k ts f) = shown-widths f
 shown-widths (subtree k c f) = (width-widths c, shown-widths c, shown-widths f)
 
-pub rows-length : (t : Tree) → length (rows t) ≡ TREE-ROW * row-count t
+pub rows-length : (t : Tree) (p i : ℕ) → length (rows-under p i t) ≡ TREE-ROW * row-count t
 unfolding rows-under row-count
-rows-length nil = refl
-rows-length (leaf k ts f) = let h : length (rows f) ≡ TREE-ROW * row-count f = rows-length f in omega arith
-rows-length (subtree k c f) =
-    let h : length (rows c) ≡ TREE-ROW * row-count c = rows-length c in
-    let g : length (rows f) ≡ TREE-ROW * row-count f = rows-length f in
+rows-length nil p i = refl
+rows-length (leaf k ts f) p i =
+    let h : length (rows-under p (suc i) f) ≡ TREE-ROW * row-count f = rows-length f p (suc i) in
+    omega arith
+rows-length (subtree k c f) p i =
+    let j = suc i + row-count c in
+    let h : length (rows-under i (suc i) c) ≡ TREE-ROW * row-count c = rows-length c i (suc i) in
+    let g : length (rows-under p j f) ≡ TREE-ROW * row-count f = rows-length f p j in
     simp length-append (omega arith)

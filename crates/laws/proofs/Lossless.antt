@@ -51,7 +51,7 @@ module _ (e : Entry) (bytes : List ℕ) (ts : List Token) (b : Buffers) (full : 
   t = root (root-kind e) (run-entry e ts) ts
 
   pub in-front : take (TREE-ROW * (length (rows t) / TREE-ROW)) (rows t ++ replicate (length (b .trees) - length (rows t)) 0) ≡ preorder (shown t)
-  in-front = rows-in-front 3 (row-count t) (rows t) _ (rows-length t) ∙ sym (shown-preorder t)
+  in-front = rows-in-front 4 (row-count t) (rows t) _ (rows-length t 0 0) ∙ sym (shown-preorder t 0 0)
 
   -- the root's width is the length of the input
   root-width : width t ≡ length bytes

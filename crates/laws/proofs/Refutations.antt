@@ -12,7 +12,7 @@ use Rattle.definitions.specs.NodeKind as N
 use Rattle.definitions.specs.Token.{Token, is-error, seen, one-of, byte-count}
 use Rattle.definitions.specs.Grammar.{SourceFile, root-kind}
 use Rattle.definitions.specs.Call.{Result}
-use Rattle.laws.specs.TreeRows.{Rows, end, leaf, node, Counts, Widths, preorder, read}
+use Rattle.laws.specs.TreeRows.{Rows, end, leaf, node, Counts, Widths, preorder, preorder-under, read}
 use Rattle.laws.specs.Lossless.{Leaf, leaves, Of-name, Kind-of, one-token, a-name, Stands-for, Leaves-are, errors-in, Lossless}
 use Rattle.laws.specs.Limits.{Moment, Limited}
 use Rattle.laws.specs.Once.{is-expectation, Listed, Listed-at-each}
@@ -112,42 +112,51 @@ root-widths (leaf k w n f) = w
 root-widths (node k w n c f) = w
 
 -- a root of another kind
-another-root : Answers (0 ∷ N.EntryCells ∷ 2 ∷ 1 ∷ 0 ∷ 16 ∷ 2 ∷ 2 ∷ 1 ∷ 26 ∷ 1 ∷ 1 ∷ 1 ∷ 29 ∷ 1 ∷ 1 ∷ []) → ⊥
+another-root : Answers (0 ∷ N.EntryCells ∷ 2 ∷ 1 ∷ 0 ∷ 0 ∷ 16 ∷ 2 ∷ 2 ∷ 0 ∷ 1 ∷ 26 ∷ 1 ∷ 1 ∷ 1 ∷ 1 ∷ 29 ∷ 1 ∷ 1 ∷ 1 ∷ []) → ⊥
 unfolding read root-kind root-kinds
 another-root x = let e : N.EntryCells ≡ N.SourceFile = ap root-kinds (x .read-back ∙ x .root) in omega arith
 
 -- the right rows, for an input of another length
-another-length : Lossless SourceFile (97 ∷ 59 ∷ 32 ∷ []) tokens (wrote 4 (0 ∷ 0 ∷ 2 ∷ 1 ∷ 0 ∷ 16 ∷ 2 ∷ 2 ∷ 1 ∷ 26 ∷ 1 ∷ 1 ∷ 1 ∷ 29 ∷ 1 ∷ 1 ∷ []) 0 []) → ⊥
+another-length : Lossless SourceFile (97 ∷ 59 ∷ 32 ∷ []) tokens (wrote 4 (0 ∷ 0 ∷ 2 ∷ 1 ∷ 0 ∷ 0 ∷ 16 ∷ 2 ∷ 2 ∷ 0 ∷ 1 ∷ 26 ∷ 1 ∷ 1 ∷ 1 ∷ 1 ∷ 29 ∷ 1 ∷ 1 ∷ 1 ∷ []) 0 []) → ⊥
 unfolding read root-widths
 another-length x = let e : _≡_ {A = ℕ} 2 3 = ap root-widths (x .read-back ∙ x .root) in omega arith
 
 -- a property of three children that has two
-invented-count : Answers (0 ∷ 0 ∷ 2 ∷ 1 ∷ 0 ∷ 16 ∷ 2 ∷ 3 ∷ 1 ∷ 26 ∷ 1 ∷ 1 ∷ 1 ∷ 29 ∷ 1 ∷ 1 ∷ []) → ⊥
+invented-count : Answers (0 ∷ 0 ∷ 2 ∷ 1 ∷ 0 ∷ 0 ∷ 16 ∷ 2 ∷ 3 ∷ 0 ∷ 1 ∷ 26 ∷ 1 ∷ 1 ∷ 1 ∷ 1 ∷ 29 ∷ 1 ∷ 1 ∷ 1 ∷ []) → ⊥
 unfolding read Counts
 invented-count x = let e : _≡_ {A = ℕ} 3 2 = subst Counts (sym (x .read-back)) (x .counts) .1 .0 in omega arith
 
 -- a property that is narrower than its leaves
-invented-width : Answers (0 ∷ 0 ∷ 2 ∷ 1 ∷ 0 ∷ 16 ∷ 1 ∷ 2 ∷ 1 ∷ 26 ∷ 1 ∷ 1 ∷ 1 ∷ 29 ∷ 1 ∷ 1 ∷ []) → ⊥
+invented-width : Answers (0 ∷ 0 ∷ 2 ∷ 1 ∷ 0 ∷ 0 ∷ 16 ∷ 1 ∷ 2 ∷ 0 ∷ 1 ∷ 26 ∷ 1 ∷ 1 ∷ 1 ∷ 1 ∷ 29 ∷ 1 ∷ 1 ∷ 1 ∷ []) → ⊥
 unfolding read Widths
 invented-width x = let e : _≡_ {A = ℕ} 2 1 = subst Widths (sym (x .read-back)) (x .widths) .0 in omega arith
 
 -- the semicolon lost, its byte given to the name
-lost-token : Lossless SourceFile (97 ∷ 59 ∷ []) tokens (wrote 3 (0 ∷ 0 ∷ 2 ∷ 1 ∷ 0 ∷ 16 ∷ 2 ∷ 1 ∷ 1 ∷ 26 ∷ 2 ∷ 1 ∷ []) 0 []) → ⊥
+lost-token : Lossless SourceFile (97 ∷ 59 ∷ []) tokens (wrote 3 (0 ∷ 0 ∷ 2 ∷ 1 ∷ 0 ∷ 0 ∷ 16 ∷ 2 ∷ 1 ∷ 0 ∷ 1 ∷ 26 ∷ 2 ∷ 1 ∷ 1 ∷ []) 0 []) → ⊥
 unfolding read leaves Leaves-are byte-count
 lost-token x = let e : _≡_ {A = ℕ} 2 1 = subst (λ (t : Rows). Leaves-are (leaves t) tokens) (sym (x .read-back)) (x .covers) .0 .width in omega arith
 
 -- a row that is neither a node nor a leaf
-third-class : Answers (0 ∷ 0 ∷ 2 ∷ 1 ∷ 0 ∷ 16 ∷ 2 ∷ 2 ∷ 1 ∷ 26 ∷ 1 ∷ 1 ∷ 2 ∷ 29 ∷ 1 ∷ 1 ∷ []) → ⊥
-unfolding read preorder
-third-class x = let e : _≡_ {A = ℕ} 2 1 = ap (λ (l : List ℕ). getD l 12 0) (x .written ∙ ap preorder (sym (x .read-back))) in omega arith
+third-class : Answers (0 ∷ 0 ∷ 2 ∷ 1 ∷ 0 ∷ 0 ∷ 16 ∷ 2 ∷ 2 ∷ 0 ∷ 1 ∷ 26 ∷ 1 ∷ 1 ∷ 1 ∷ 2 ∷ 29 ∷ 1 ∷ 1 ∷ 1 ∷ []) → ⊥
+unfolding read preorder-under
+third-class x = let e : _≡_ {A = ℕ} 2 1 = ap (λ (l : List ℕ). getD l 15 0) (x .written ∙ ap preorder (sym (x .read-back))) in omega arith
+
+-- the row before in the place of the parent; a root that does not name itself
+row-before : Answers (0 ∷ 0 ∷ 2 ∷ 1 ∷ 0 ∷ 0 ∷ 16 ∷ 2 ∷ 2 ∷ 0 ∷ 1 ∷ 26 ∷ 1 ∷ 1 ∷ 1 ∷ 1 ∷ 29 ∷ 1 ∷ 1 ∷ 2 ∷ []) → ⊥
+unfolding read preorder-under
+row-before x = let e : _≡_ {A = ℕ} 2 1 = ap (λ (l : List ℕ). getD l 19 0) (x .written ∙ ap preorder (sym (x .read-back))) in omega arith
+
+root-names-another : Answers (0 ∷ 0 ∷ 2 ∷ 1 ∷ 1 ∷ 0 ∷ 16 ∷ 2 ∷ 2 ∷ 0 ∷ 1 ∷ 26 ∷ 1 ∷ 1 ∷ 1 ∷ 1 ∷ 29 ∷ 1 ∷ 1 ∷ 1 ∷ []) → ⊥
+unfolding read preorder-under
+root-names-another x = let e : _≡_ {A = ℕ} 1 0 = ap (λ (l : List ℕ). getD l 4 0) (x .written ∙ ap preorder (sym (x .read-back))) in omega arith
 
 -- a lexical error too many, and one whose range is not its token's
-invented-error : Lossless SourceFile (97 ∷ 59 ∷ []) tokens (wrote 4 (0 ∷ 0 ∷ 2 ∷ 1 ∷ 0 ∷ 16 ∷ 2 ∷ 2 ∷ 1 ∷ 26 ∷ 1 ∷ 1 ∷ 1 ∷ 29 ∷ 1 ∷ 1 ∷ []) 1 (74 ∷ 0 ∷ 1 ∷ [])) → ⊥
+invented-error : Lossless SourceFile (97 ∷ 59 ∷ []) tokens (wrote 4 (0 ∷ 0 ∷ 2 ∷ 1 ∷ 0 ∷ 0 ∷ 16 ∷ 2 ∷ 2 ∷ 0 ∷ 1 ∷ 26 ∷ 1 ∷ 1 ∷ 1 ∷ 1 ∷ 29 ∷ 1 ∷ 1 ∷ 1 ∷ []) 1 (74 ∷ 0 ∷ 1 ∷ [])) → ⊥
 unfolding errors-in
 invented-error x = omega (arith, x .error-count)
 
 -- (`ab` and a backtick, the error said to start at its token's index)
-shifted-error : Lossless SourceFile (97 ∷ 98 ∷ 96 ∷ []) (token K.Ident 2 ∷ token 74 1 ∷ []) (wrote 3 (0 ∷ 0 ∷ 3 ∷ 2 ∷ 1 ∷ 27 ∷ 2 ∷ 1 ∷ 1 ∷ 25 ∷ 1 ∷ 1 ∷ []) 1 (74 ∷ 1 ∷ 2 ∷ [])) → ⊥
+shifted-error : Lossless SourceFile (97 ∷ 98 ∷ 96 ∷ []) (token K.Ident 2 ∷ token 74 1 ∷ []) (wrote 3 (0 ∷ 0 ∷ 3 ∷ 2 ∷ 0 ∷ 1 ∷ 27 ∷ 2 ∷ 1 ∷ 0 ∷ 1 ∷ 25 ∷ 1 ∷ 1 ∷ 0 ∷ []) 1 (74 ∷ 1 ∷ 2 ∷ [])) → ⊥
 unfolding is-error errors-in byte-count
 shifted-error x = let e : _≡_ {A = ℕ} 1 2 = ap (λ (l : List ℕ). getD l 1 0) (x .error-rows (token K.Ident 2 ∷ []) [] (token 74 1) refl refl) in omega arith
 

@@ -1,6 +1,6 @@
 -- Trees side by side: width, number, rows and leaves of a join are those of its pieces in turn, and a join is placed
 -- piece by piece.
-use Prim.Native.Nat.{ℕ, _+_}
+use Prim.Native.Nat.{ℕ, suc, _+_}
 use native.Mathlib.Nat.{zero-add}
 use native.Mathlib.Omega.{arith}
 use mathlib.Core.Path.{_≡_, refl, ap, sym, _∙_}
@@ -12,8 +12,8 @@ use Rattle.definitions.specs.Token.{Token, drop-trivia, past, byte-count}
 use Rattle.definitions.specs.Skeleton.{Skeleton, done, token, name, node, ignored, report, over, _⧺_}
 use Rattle.laws.proofs.Skeleton.{bytes-append}
 use Rattle.definitions.specs.Strict.{token-count}
-use Rattle.definitions.specs.Place.{Tree, nil, leaf, subtree, _⊕_, lead, front, after, place, width, count}
-use Rattle.definitions.specs.Parent.{rows, tree-row, rows-under}
+use Rattle.definitions.specs.Place.{Tree, nil, leaf, subtree, _⊕_, lead, front, after, place, width, count, row-count}
+use Rattle.definitions.specs.Parent.{rows-under, tree-row}
 
 pub beside-nil : (f : Tree) → f ⊕ nil ≡ f
 unfolding _⊕_
@@ -39,11 +39,24 @@ count-beside nil g = sym (zero-add (count g))
 count-beside (leaf k ts f) g = let h : count (f ⊕ g) ≡ count f + count g = count-beside f g in omega arith
 count-beside (subtree k c f) g = let h : count (f ⊕ g) ≡ count f + count g = count-beside f g in omega arith
 
-pub rows-beside : (f g : Tree) → rows (f ⊕ g) ≡ rows f ++ rows g
-unfolding _⊕_ rows-under
-rows-beside nil g = refl
-rows-beside (leaf k ts f) g = ap (tree-row LEAF k (byte-count ts) (length ts)) (rows-beside f g)
-rows-beside (subtree k c f) g = ap (λ (l : List ℕ). tree-row NODE k (width c) (count c) (rows c ++ l)) (rows-beside f g) ∙ ap (tree-row NODE k (width c) (count c)) (sym (append-assoc (rows c) (rows f) (rows g)))
+pub row-count-beside : (f g : Tree) → row-count (f ⊕ g) ≡ row-count f + row-count g
+unfolding _⊕_ row-count
+row-count-beside nil g = sym (zero-add (row-count g))
+row-count-beside (leaf k ts f) g = let h : row-count (f ⊕ g) ≡ row-count f + row-count g = row-count-beside f g in omega arith
+row-count-beside (subtree k c f) g = let h : row-count (f ⊕ g) ≡ row-count f + row-count g = row-count-beside f g in omega arith
+
+-- the rows of the second piece are numbered on from those of the first, under the same parent
+pub rows-beside : (f g : Tree) (p i : ℕ) → rows-under p i (f ⊕ g) ≡ rows-under p i f ++ rows-under p (i + row-count f) g
+unfolding _⊕_ rows-under row-count
+rows-beside nil g p i = let e : i + 0 ≡ i = omega arith in rw e
+rows-beside (leaf k ts f) g p i =
+    let e : suc i + row-count f ≡ i + suc (row-count f) = omega arith in
+    ap (tree-row LEAF k (byte-count ts) (length ts) p) (rows-beside f g p (suc i) ∙ rw e)
+rows-beside (subtree k c f) g p i =
+    let n = suc i + row-count c in
+    let e : n + row-count f ≡ i + suc (row-count c + row-count f) = omega arith in
+    ap (λ (l : List ℕ). tree-row NODE k (width c) (count c) p (rows-under i (suc i) c ++ l)) (rows-beside f g p n ∙ rw e)
+    ∙ ap (tree-row NODE k (width c) (count c) p) (sym (append-assoc (rows-under i (suc i) c) (rows-under p n f) _))
 
 -- the raw tokens of a tree's leaves, in order
 unfoldable pub leaves : Tree → List Token

@@ -1,4 +1,4 @@
--- Tree rows as a reader of the buffer finds them: numbers in fours, in preorder, and the tree that they are read as.
+-- Tree rows as a reader of the buffer finds them: numbers in fives, in preorder, and the tree that they are read as.
 use Prim.Native.Nat.{ℕ, zero, suc, _+_}
 use mathlib.Core.Path.{_≡_}
 use mathlib.Core.Bool.{Bool, cond}
@@ -13,11 +13,24 @@ pub data Rows : Type 0 where
   leaf : ℕ → ℕ → ℕ → Rows → Rows
   node : ℕ → ℕ → ℕ → Rows → Rows → Rows
 
--- the numbers of rows in preorder: class, kind, width, count
-unfoldable pub preorder : Rows → List ℕ
-preorder end = []
-preorder (leaf k w n f) = LEAF ∷ k ∷ w ∷ n ∷ preorder f
-preorder (node k w n c f) = NODE ∷ k ∷ w ∷ n ∷ (preorder c ++ preorder f)
+-- how many there are, those under a node counted
+unfoldable pub row-total : Rows → ℕ
+row-total end = 0
+row-total (leaf k w n f) = suc (row-total f)
+row-total (node k w n c f) = suc (row-total c + row-total f)
+
+-- the numbers of rows in preorder: class, kind, width, count, the parent's row. parent: the row whose children these
+-- are; row: the number of the first of them
+unfoldable pub preorder-under : ℕ → ℕ → Rows → List ℕ
+unfolding row-total
+preorder-under parent row end = []
+preorder-under parent row (leaf k w n f) = LEAF ∷ k ∷ w ∷ n ∷ parent ∷ preorder-under parent (suc row) f
+preorder-under parent row (node k w n c f) =
+    NODE ∷ k ∷ w ∷ n ∷ parent ∷ (preorder-under row (suc row) c ++ preorder-under parent (suc row + row-total c) f)
+
+-- of a whole tree: the root is row 0 and its own parent
+abbrev pub preorder : Rows → List ℕ
+preorder r = preorder-under 0 0 r
 
 -- how many rows stand side by side, those under a node not counted
 unfoldable pub siblings : Rows → ℕ
@@ -65,11 +78,13 @@ unfoldable pub read-row : Bool → ℕ → ℕ → ℕ → Rows → Rows
 unfolding first-rows later-rows
 read-row is-node k w n f = cond is-node (node k w n (first-rows n f) (later-rows n f)) (leaf k w n f)
 
--- numbers read as rows in preorder; fewer than four at the end are not a row
+-- Numbers read as rows in preorder, by classes and counts; the parents are not looked at. Fewer than five at the end are
+-- not a row.
 unfoldable pub read : List ℕ → Rows
 unfolding read-row
 read [] = end
 read (c ∷ []) = end
 read (c ∷ k ∷ []) = end
 read (c ∷ k ∷ w ∷ []) = end
-read (c ∷ k ∷ w ∷ n ∷ l) = read-row (eqb c NODE) k w n (read l)
+read (c ∷ k ∷ w ∷ n ∷ []) = end
+read (c ∷ k ∷ w ∷ n ∷ p ∷ l) = read-row (eqb c NODE) k w n (read l)

@@ -9,7 +9,7 @@ use lib.Seq.{drop-drop, getD-drop, drop-at, length-take-le}
 use lib.Dec.{ltb, eqb}
 use borrow.Author.Tests.{ltb-true, eqb-true, lt-ltb, eq-eqb, ne-eqb}
 use Rattle.basics.specs.Word.{low}
-use Rattle.definitions.specs.Layout.{TREE-ROW, EVENT-ROW, EVENT-TAG, EVENT-ARGUMENT, EVENT-DISTANCE, FINISH-NODE, LINKED-START-NODE, TWO-TO-32}
+use Rattle.definitions.specs.Layout.{TREE-ROW, NODE, EVENT-ROW, EVENT-TAG, EVENT-ARGUMENT, EVENT-DISTANCE, FINISH-NODE, LINKED-START-NODE, TWO-TO-32}
 use Rattle.definitions.specs.Skeleton.{Skeleton, done, token, name, node, ignored, report, over}
 use Rattle.definitions.specs.Event.{forward, events as events-of}
 use Rattle.definitions.specs.Parent.{tree-row}
@@ -71,12 +71,12 @@ opened-all (over m o) k ks s = refl
 -- ---------------------------------------------------------------- the rows of open nodes
 
 abbrev open-numbers : ℕ → ℕ → ℕ → ℕ → ℕ → List ℕ → List ℕ
-open-numbers first b up n k [] = tree-row up k b n []
-open-numbers first b up n k (j ∷ ks) = open-numbers first b up n j ks ++ tree-row (first + length ks) k b 0 []
+open-numbers first b up n k [] = tree-row NODE k b n up []
+open-numbers first b up n k (j ∷ ks) = open-numbers first b up n j ks ++ tree-row NODE k b 0 (first + length ks) []
 
 open-length : (first b up n k : ℕ) (ks : List ℕ) → length (open-numbers first b up n k ks) ≡ (length ks + 1) * TREE-ROW
 open-length first b up n k [] = refl
-open-length first b up n k (j ∷ ks) = omega (arith, open-length first b up n j ks, length-append (open-numbers first b up n j ks) (tree-row (first + length ks) k b 0 []))
+open-length first b up n k (j ∷ ks) = omega (arith, open-length first b up n j ks, length-append (open-numbers first b up n j ks) (tree-row NODE k b 0 (first + length ks) []))
 
 abbrev opened-at : ℕ → List ℕ → Filled → Filled
 opened-at k ks s =
@@ -98,7 +98,7 @@ open-all-at k (j ∷ ks) s =
     let p : s .rows + length ks + 1 ≡ s .rows + suc (length ks) = omega arith in
     let q : (length ks + 1) * TREE-ROW + TREE-ROW ≡ (suc (length ks) + 1) * TREE-ROW = omega arith in
     ap (λ z. inside k z) (open-all-at j ks s)
-    ∙ rw (append-assoc (s .written) R (tree-row (s .rows + length ks) k (s .byte) 0 []), drop-drop TREE-ROW ((length ks + 1) * TREE-ROW) (s .free), q, p)
+    ∙ rw (append-assoc (s .written) R (tree-row NODE k (s .byte) 0 (s .rows + length ks) []), drop-drop TREE-ROW ((length ks + 1) * TREE-ROW) (s .free), q, p)
 
 -- how far on a link leads
 abbrev pub far : Bool → Skeleton → ℕ
@@ -236,17 +236,17 @@ module _ (events : List ℕ) where
   -- ---------------------------------------------------------------- the rows that opening a chain writes
 
   open-suc : (n j first b up c : ℕ) (t : List ℕ)
-      → open-rows (suc n) events j first b up c t ≡ open-rows n events (j + link events j) first b up c (put (low (low (first + n) + 1)) (tree-row (low (first + n)) (field events j EVENT-ARGUMENT) b 0 []) t)
+      → open-rows (suc n) events j first b up c t ≡ open-rows n events (j + link events j) first b up c (put (low (low (first + n) + 1)) (tree-row NODE (field events j EVENT-ARGUMENT) b 0 (low (first + n)) []) t)
   unfolding open-rows
   open-suc n j first b up c t = refl
 
   open-of : (ks : List ℕ) (j k first : ℕ) (T D : List ℕ) (b up n : ℕ) → Chain j k ks → length T ≡ first * TREE-ROW → (length ks + 1) * TREE-ROW ≤ length D → first + length ks + 1 < TWO-TO-32
       → open-rows (length ks) events j first b up n (T ++ D) ≡ T ++ (open-numbers first b up n k ks ++ drop ((length ks + 1) * TREE-ROW) D)
   unfolding open-rows
-  open-of [] j k first T D b up n c w h sm = rw (c .0) (put-seam first T (tree-row up k b n []) D w refl (omega arith))
+  open-of [] j k first T D b up n c w h sm = rw (c .0) (put-seam first T (tree-row NODE k b n up []) D w refl (omega arith))
   open-of (x ∷ ks) j k first T D b up n c w h sm =
       let m = (length ks + 1) * TREE-ROW in
-      let row : List ℕ = tree-row (first + length ks) k b 0 [] in
+      let row : List ℕ = tree-row NODE k b 0 (first + length ks) [] in
       let D′ : List ℕ = take m D ++ (row ++ drop TREE-ROW (drop m D)) in
       let lt : length (take m D) ≡ m = length-take-le m D (omega arith) in
       let p : length (T ++ take m D) ≡ (first + length ks + 1) * TREE-ROW = omega (arith, length-append T (take m D)) in
@@ -260,7 +260,7 @@ module _ (events : List ℕ) where
       let z : m + TREE-ROW ≡ (suc (length ks) + 1) * TREE-ROW = omega arith in
       let dd : drop m D′ ≡ row ++ drop ((suc (length ks) + 1) * TREE-ROW) D =
       drop-at (take m D) (row ++ drop TREE-ROW (drop m D)) m lt ∙ ap (λ l. row ++ l) (drop-drop TREE-ROW m D ∙ ap (λ y. drop y D) z) in
-      let pw : put (low (low (first + length ks) + 1)) (tree-row (low (first + length ks)) (field events j EVENT-ARGUMENT) b 0 []) (T ++ D) ≡ T ++ D′ = rw (c .0, u, v) pt in
+      let pw : put (low (low (first + length ks) + 1)) (tree-row NODE (field events j EVENT-ARGUMENT) b 0 (low (first + length ks)) []) (T ++ D) ≡ T ++ D′ = rw (c .0, u, v) pt in
       open-suc (length ks) j first b up n (T ++ D)
       ∙ ap (λ t. open-rows (length ks) events (j + link events j) first b up n t) pw
       ∙ open-of ks (j + link events j) x first T D′ b up n (c .1 .1) w (omega arith) (omega arith)

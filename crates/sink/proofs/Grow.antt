@@ -11,12 +11,12 @@ use Rattle.basics.specs.Word.{low}
 use Rattle.definitions.specs.Layout.{TREE-ROW, LEAF, TWO-TO-32}
 use Rattle.definitions.specs.Token.{Token, byte-count}
 use Rattle.definitions.specs.Place.{Tree, nil, leaf, _⊕_, width, count, row-count}
-use Rattle.definitions.specs.Parent.{rows, tree-row, rows-under}
-use Rattle.laws.proofs.Tree.{rows-beside, width-beside, count-beside}
+use Rattle.definitions.specs.Parent.{tree-row, rows-under}
+use Rattle.laws.proofs.Tree.{rows-beside, row-count-beside, width-beside, count-beside}
 use Rattle.sink_rows.specs.Rows.{put, tree-field}
 use Rattle.sink.specs.Model.{On, on, moved, leaf-on}
 use Rattle.laws.proofs.Decode.{rows-length}
-use Rattle.sink.proofs.Trees.{raw, raw-beside, row-count-beside, rows-add}
+use Rattle.sink.proofs.Trees.{raw, raw-beside}
 
 -- written: the numbers written. free: the rest of the buffer. The other fields are the sink's.
 pub record Filled : Type 0 where
@@ -31,12 +31,12 @@ pub record Filled : Type 0 where
 unfoldable pub state : Filled → On
 state s = on (record { cursor = s .cursor; byte = s .byte; rows = s .rows; node = s .node; children = s .children }) (s .written ++ s .free)
 
--- with a forest's rows after what is written
+-- with a forest's rows after what is written, as children of the open node
 unfoldable pub grow : Tree → Filled → Filled
 grow f s =
     record {
-      written = s .written ++ rows f;
-      free = drop (length (rows f)) (s .free);
+      written = s .written ++ rows-under (s .node) (s .rows) f;
+      free = drop (TREE-ROW * row-count f) (s .free);
       cursor = s .cursor + raw f;
       byte = s .byte + width f;
       rows = s .rows + row-count f;
@@ -51,15 +51,16 @@ grow-grow f g s =
     let q : s .byte + width f + width g ≡ s .byte + width (f ⊕ g) = omega (arith, width-beside f g) in
     let n : s .rows + row-count f + row-count g ≡ s .rows + row-count (f ⊕ g) = omega (arith, row-count-beside f g) in
     let r : s .children + count f + count g ≡ s .children + count (f ⊕ g) = omega (arith, count-beside f g) in
+    let d : TREE-ROW * row-count f + TREE-ROW * row-count g ≡ TREE-ROW * row-count (f ⊕ g) = omega (arith, row-count-beside f g) in
     rw (
       p,
       q,
       n,
       r,
-      drop-drop (length (rows g)) (length (rows f)) (s .free),
-      append-assoc (s .written) (rows f) (rows g),
-      ← (length-append (rows f) (rows g)),
-      ← (rows-beside f g),
+      drop-drop (TREE-ROW * row-count g) (TREE-ROW * row-count f) (s .free),
+      d,
+      append-assoc (s .written) (rows-under (s .node) (s .rows) f) (rows-under (s .node) (s .rows + row-count f) g),
+      ← (rows-beside f g (s .node) (s .rows)),
     )
 
 pub grow-nil : (s : Filled) → grow nil s ≡ s
@@ -73,7 +74,7 @@ grow-nil s =
 
 -- A forest fits, and no tree-field in it is too large. What is written are whole rows.
 pub record Fits (f : Tree) (s : Filled) : Type 0 where
-  pub free : length (rows f) ≤ length (s .free)
+  pub free : TREE-ROW * row-count f ≤ length (s .free)
   pub whole : length (s .written) ≡ s .rows * TREE-ROW
   pub byte : s .byte + width f < TWO-TO-32
   pub rows : s .rows + row-count f < TWO-TO-32
@@ -82,7 +83,7 @@ pub record Fits (f : Tree) (s : Filled) : Type 0 where
 pub fits-front : (f g : Tree) (s : Filled) → Fits (f ⊕ g) s → Fits f s
 fits-front f g s r =
     record {
-      free = omega (arith, r .free, rows-add f g);
+      free = omega (arith, r .free, row-count-beside f g);
       whole = r .whole;
       byte = omega (arith, r .byte, width-beside f g);
       rows = omega (arith, r .rows, row-count-beside f g);
@@ -93,8 +94,8 @@ pub fits-back : (f g : Tree) (s : Filled) → Fits (f ⊕ g) s → Fits g (grow 
 unfolding grow
 fits-back f g s r =
     record {
-      free = omega (arith, r .free, rows-add f g, length-drop (length (rows f)) (s .free));
-      whole = omega (arith, r .whole, rows-length f, length-append (s .written) (rows f));
+      free = omega (arith, r .free, row-count-beside f g, length-drop (TREE-ROW * row-count f) (s .free));
+      whole = omega (arith, r .whole, rows-length f (s .node) (s .rows), length-append (s .written) (rows-under (s .node) (s .rows) f));
       byte = omega (arith, r .byte, width-beside f g);
       rows = omega (arith, r .rows, row-count-beside f g);
       children = omega (arith, r .children, count-beside f g);
@@ -131,12 +132,12 @@ module _ (k : ℕ) (ts : List Token) (n w : ℕ) (hn : length ts ≡ n) (hw : by
       let c : low (s .children + 1) ≡ s .children + 1 = low-small (s .children + 1) (omega (arith, r .children)) in
       let a : s .cursor + n ≡ s .cursor + (length ts + 0) = omega arith in
       rw (
-        put-seam (s .rows) (s .written) (tree-row LEAF k w n []) (s .free) (r .whole) refl (r .free),
+        put-seam (s .rows) (s .written) (tree-row LEAF k w n (s .node) []) (s .free) (r .whole) refl (r .free),
         b,
         m,
         c,
         a,
         ← hn,
         ← hw,
-        append-assoc (s .written) (tree-row LEAF k (byte-count ts) (length ts) []) (drop TREE-ROW (s .free)),
+        append-assoc (s .written) (tree-row LEAF k (byte-count ts) (length ts) (s .node) []) (drop TREE-ROW (s .free)),
       )

@@ -9,21 +9,20 @@ use lib.Seq.{drop-drop, drop-length, length-take-le, take-all}
 use lib.Dec.{leb}
 use borrow.Author.Tests.{leb-true}
 use Rattle.basics.proofs.Flags.{flags}
-use Rattle.definitions.specs.Layout.{START-NODE, TREE-ROW, EVENT-ROW, EVENT-TAG, EVENT-ARGUMENT, PLACEHOLDER, ADD-TOKEN, ADD-COMBINED-TOKEN, FINISH-NODE, ERROR, LINKED-START-NODE, TWO-TO-32}
+use Rattle.definitions.specs.Layout.{START-NODE, TREE-ROW, NODE, EVENT-ROW, EVENT-TAG, EVENT-ARGUMENT, PLACEHOLDER, ADD-TOKEN, ADD-COMBINED-TOKEN, FINISH-NODE, ERROR, LINKED-START-NODE, TWO-TO-32}
 use Rattle.definitions.specs.TokenKind as K
 use Rattle.definitions.specs.Token.{Token, drop-trivia, past}
 use Rattle.definitions.specs.Skeleton.{Skeleton, done, token, name, node, ignored, report, over}
 use Rattle.definitions.specs.Event.{events as events-of}
 use Rattle.definitions.specs.Place.{Tree, nil, leaf, subtree, _⊕_, lead, front, after, place, width, row-count}
-use Rattle.definitions.specs.Parent.{rows, rows-under}
 use Rattle.laws.proofs.Trivia.{Solid, dropped-solid, drop-twice}
 use Rattle.machine.specs.Encode.{start-tag, encode}
 use Rattle.sink.specs.Encode.{event-row, Alone, Chained}
 use Rattle.sink_rows.specs.Rows.{field}
 use Rattle.sink.specs.Model.{On, token-on, trivia-on, combined-on, start-on, finish-on, event-on, eventsN}
 use Rattle.sink.proofs.Encode.{event-count, events-length, encode-count}
-use Rattle.laws.proofs.Decode.{rows-length}
-use Rattle.sink.proofs.Trees.{raw, raw-beside, row-count-beside, count-rows, raw-lead, raw-place}
+use Rattle.laws.proofs.Tree.{row-count-beside}
+use Rattle.sink.proofs.Trees.{raw, raw-beside, count-rows, raw-lead, raw-place}
 use Rattle.sink.proofs.Grow.{Filled, state, grow, grow-grow, grow-nil, Fits, fits-front, fits-back}
 use Rattle.sink.proofs.Steps.{From, from-grown, token-runs, trivia-runs, name-runs, inside, finish-runs}
 use Rattle.sink.proofs.Chain.{opened, depth, far, encode-alone, ev-past, ev-field, ev-other, start-runs}
@@ -87,11 +86,11 @@ place-alone k m m′ a i o ts h s d = rw (h, d, lead-solid ts s)
 
 -- what is inside an open node fits where the node does
 pub fits-inside : (k : ℕ) (f : Tree) (s : Filled) → Fits (subtree k f nil) s → Fits f (inside k s)
-unfolding inside rows-under width row-count
+unfolding inside width row-count
 fits-inside k f s r =
     record {
-      free = omega (arith, r .free, length-append (rows f) [], length-drop TREE-ROW (s .free));
-      whole = omega (arith, r .whole, length-append (s .written) (s .node ∷ k ∷ s .byte ∷ s .children ∷ []));
+      free = omega (arith, r .free, length-drop TREE-ROW (s .free));
+      whole = omega (arith, r .whole, length-append (s .written) (NODE ∷ k ∷ s .byte ∷ s .children ∷ s .node ∷ []));
       byte = omega (arith, r .byte);
       rows = omega (arith, r .rows);
       children = omega (arith, r .rows, count-rows f);
@@ -292,7 +291,7 @@ module _ (tokens events : List ℕ) (small : length tokens < TWO-TO-32) where
       let dp : depth a ≤ row-count (A ⊕ I) = omega (arith, depth-size a us, row-count-beside A I) in
       ev-start j (state s) t ∙ ap (λ q. start-on events j q) (trivia-runs tokens ts s fr r0)
       ∙ start-runs events a k w l (encode false i ++ (FINISH-NODE ∷ 0 ∷ 0 ∷ x)) j (grow (lead ts) s) al ca e (λ _. ev-other events (j + event-count a + suc (suc w)) x e2 ne)
-      (r1 .whole) (omega (arith, r1 .free, rows-length (subtree k (A ⊕ I) nil))) (omega (arith, r1 .rows))
+      (r1 .whole) (omega (arith, r1 .free)) (omega (arith, r1 .rows))
 
   sinks-node : (k m m′ : ℕ) (a i o : Skeleton) → Befores a → Sinks i → Sinks o → Sinks (node k m m′ a i o)
   unfolding Befores Sinks Chained event-count encode place

@@ -11,13 +11,13 @@ use borrow.Author.Tests.{leb-true, lt-ltb, le-ltb, lt-leb}
 use Rattle.basics.specs.Word.{low}
 use Rattle.basics.proofs.Flags.{flags}
 use Rattle.basics.proofs.TokenRows.{tokens-length, tokens-drop}
-use Rattle.definitions.specs.Layout.{TOKEN-ROW, TOKEN-LENGTH, TREE-ROW, NODE, TWO-TO-32}
+use Rattle.definitions.specs.Layout.{TOKEN-ROW, TOKEN-LENGTH, TREE-ROW, TREE-KIND, TREE-PARENT, NODE, TWO-TO-32}
 use Rattle.definitions.specs.LexError as L
 use Rattle.definitions.specs.TokenKind as K
 use Rattle.definitions.specs.Token.{Token, tokens-of, is-error, seen, trivia, byte-count}
 use Rattle.definitions.specs.Place.{Tree, nil, leaf, subtree, _⊕_, lead, front, width, count, row-count}
-use Rattle.definitions.specs.Parent.{rows, tree-row, rows-under}
-use Rattle.sink_rows.specs.Rows.{PARENT, KIND, FIRST-BYTE, CHILDREN-BEFORE}
+use Rattle.definitions.specs.Parent.{tree-row, rows-under}
+use Rattle.sink_rows.specs.Rows.{FIRST-BYTE, CHILDREN-BEFORE}
 use Rattle.sink_tokens.specs.Tokens.{kind-seen, trivia-here, at-most, widthN}
 use Rattle.sink.specs.Model.{sink-of, trivia-on, token-on, combined-on, finish-on}
 use Rattle.sink.proofs.Loops.{trivia-more, trivia-done}
@@ -184,11 +184,11 @@ module _ (tokens : List ℕ) where
 
 -- ---------------------------------------------------------------- the open node
 
--- with a node of kind k open: its row holds the open node before it and that node's children
+-- with a node of kind k open: its row has the open node before it as its parent, and holds that node's children
 unfoldable pub inside : ℕ → Filled → Filled
 inside k s =
     record {
-      written = s .written ++ tree-row (s .node) k (s .byte) (s .children) [];
+      written = s .written ++ tree-row NODE k (s .byte) (s .children) (s .node) [];
       free = drop TREE-ROW (s .free);
       cursor = s .cursor;
       byte = s .byte;
@@ -202,26 +202,29 @@ pub finish-runs : (k : ℕ) (f : Tree) (s : Filled) → Fits (subtree k f nil) s
 unfolding state grow inside finish-on rows-under width count raw row-count
 finish-runs k f s r =
     let T = s .written in
-    let o : List ℕ = tree-row (s .node) k (s .byte) (s .children) [] in
-    let c : List ℕ = tree-row NODE k (width f) (count f) [] in
-    let D : List ℕ = drop (length (rows f)) (drop TREE-ROW (s .free)) in
-    let Z : List ℕ = rows f ++ D in
-    let t : ((T ++ o) ++ rows f) ++ D ≡ T ++ (o ++ Z) = simp append-assoc in
+    let o : List ℕ = tree-row NODE k (s .byte) (s .children) (s .node) [] in
+    let c : List ℕ = tree-row NODE k (width f) (count f) (s .node) [] in
+    let F : List ℕ = rows-under (s .rows) (suc (s .rows)) f in
+    let D : List ℕ = drop (TREE-ROW * row-count f) (drop TREE-ROW (s .free)) in
+    let Z : List ℕ = F ++ D in
+    let i : s .rows + 1 ≡ suc (s .rows) = omega arith in
+    let t : ((T ++ o) ++ F) ++ D ≡ T ++ (o ++ Z) = simp append-assoc in
     let w : s .byte + width f - s .byte ≡ width f = omega arith in
     let n : 0 + count f ≡ count f = omega arith in
     let lc : low (s .children + 1) ≡ s .children + 1 = low-small (s .children + 1) (omega (arith, r .children)) in
-    let d : D ≡ drop (length (c ++ (rows f ++ []))) (s .free) =
-    (let y : 4 + length (rows f) ≡ length (c ++ (rows f ++ [])) = omega (arith, length-append (rows f) []) in
-    drop-drop (length (rows f)) TREE-ROW (s .free) ∙ ap (λ m. drop m (s .free)) y) in
-    let z : T ++ (c ++ Z) ≡ (T ++ (c ++ (rows f ++ []))) ++ drop (length (c ++ (rows f ++ []))) (s .free) =
-    ap (λ q. T ++ (c ++ (rows f ++ q))) d ∙ (rw (append-nil (rows f)) (sym (append-assoc T (c ++ rows f) _))) in
+    let d : D ≡ drop (TREE-ROW * suc (row-count f + 0)) (s .free) =
+    (let y : TREE-ROW + TREE-ROW * row-count f ≡ TREE-ROW * suc (row-count f + 0) = omega arith in
+    drop-drop (TREE-ROW * row-count f) TREE-ROW (s .free) ∙ ap (λ m. drop m (s .free)) y) in
+    let z : T ++ (c ++ Z) ≡ (T ++ (c ++ (F ++ []))) ++ drop (TREE-ROW * suc (row-count f + 0)) (s .free) =
+    ap (λ q. T ++ (c ++ (F ++ q))) d ∙ (rw (append-nil F) (sym (append-assoc T (c ++ F) _))) in
     let a : s .cursor + raw f ≡ s .cursor + (raw f + 0) = omega arith in
     let b : s .byte + width f ≡ s .byte + (width f + 0) = omega arith in
-    let m : s .rows + 1 + row-count f ≡ s .rows + suc (row-count f + 0) = omega arith in
+    let m : suc (s .rows) + row-count f ≡ s .rows + suc (row-count f + 0) = omega arith in
     rw (
+      i,
       t,
-      field-seam (s .rows) PARENT T (o ++ Z) (r .whole) (omega arith),
-      field-seam (s .rows) KIND T (o ++ Z) (r .whole) (omega arith),
+      field-seam (s .rows) TREE-PARENT T (o ++ Z) (r .whole) (omega arith),
+      field-seam (s .rows) TREE-KIND T (o ++ Z) (r .whole) (omega arith),
       field-seam (s .rows) FIRST-BYTE T (o ++ Z) (r .whole) (omega arith),
       field-seam (s .rows) CHILDREN-BEFORE T (o ++ Z) (r .whole) (omega arith),
       w,

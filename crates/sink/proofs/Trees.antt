@@ -10,9 +10,8 @@ use Rattle.definitions.specs.TokenKind as K
 use Rattle.definitions.specs.Token.{Token, trivia, drop-trivia, past, byte-count}
 use Rattle.definitions.specs.Skeleton.{Skeleton, done, token, name, node, ignored, report, over}
 use Rattle.definitions.specs.Place.{Tree, nil, leaf, subtree, _⊕_, lead, front, after, place, root, width, count, row-count}
-use Rattle.definitions.specs.Parent.{rows}
 use Rattle.laws.proofs.Skeleton.{bytes-append}
-use Rattle.laws.proofs.Tree.{rows-beside, width-beside, leaves, width-leaves}
+use Rattle.laws.proofs.Tree.{row-count-beside, width-beside, leaves, width-leaves}
 use Rattle.laws.proofs.Placed.{lead-whole, place-whole}
 use Rattle.sink.proofs.Encode.{event-count}
 
@@ -27,15 +26,6 @@ unfolding raw _⊕_
 raw-beside nil g = omega arith
 raw-beside (leaf k ts f) g = omega (arith, raw-beside f g)
 raw-beside (subtree k c f) g = omega (arith, raw-beside f g)
-
-pub row-count-beside : (f g : Tree) → row-count (f ⊕ g) ≡ row-count f + row-count g
-unfolding row-count _⊕_
-row-count-beside nil g = omega arith
-row-count-beside (leaf k ts f) g = omega (arith, row-count-beside f g)
-row-count-beside (subtree k c f) g = omega (arith, row-count-beside f g)
-
-pub rows-add : (f g : Tree) → length (rows (f ⊕ g)) ≡ length (rows f) + length (rows g)
-rows-add f g = ap length (rows-beside f g) ∙ length-append (rows f) (rows g)
 
 pub count-rows : (f : Tree) → count f ≤ row-count f
 unfolding count row-count

@@ -7,7 +7,7 @@ use mathlib.Core.Bool.{Bool, true, false, cond, _&&_}
 use lib.ListN.{length, drop, replicate, length-replicate}
 use lib.Dec.{leb}
 use borrow.Author.Tests.{leb-true}
-use Rattle.definitions.specs.Layout.{TREE-ROW, EVENT-ROW, ERROR-ROW}
+use Rattle.definitions.specs.Layout.{TREE-ROW, NODE, EVENT-ROW, ERROR-ROW}
 use Rattle.definitions.specs.Token.{Token, tokens-of}
 use Rattle.definitions.specs.Skeleton.{Skeleton}
 use Rattle.definitions.specs.Refusal.{no-tree-room, number-of}
@@ -57,7 +57,7 @@ number-of-cond false n m = refl
 
 root-runs : (k : ℕ) (t : List ℕ) → TREE-ROW ≤ length t → root-on k t ≡ state (inside k (begin t))
 unfolding root-on state inside
-root-runs k t h = rw (put-seam 0 [] (tree-row 0 k 0 0 []) t refl refl h)
+root-runs k t h = rw (put-seam 0 [] (tree-row NODE k 0 0 0 []) t refl refl h)
 
 root-count : (k : ℕ) (o : Skeleton) (ts : List Token) → count (root k o ts) ≡ 1
 unfolding root count
@@ -75,7 +75,7 @@ module _ (k : ℕ) (o : Skeleton) (tokens : List ℕ) (c : Chained o) (small : S
   root-fits : (t : List ℕ) → length (rows (root k o (tokens-of tokens))) ≤ length t → Fits (root k o (tokens-of tokens)) (begin t)
   root-fits t h =
       record {
-        free = h;
+        free = omega (arith, rows-length (root k o (tokens-of tokens)) 0 0);
         whole = refl;
         byte = omega (arith, small .bytes, root-width k o (tokens-of tokens));
         rows = omega (arith, small .rows, root-rows-most k o (tokens-of tokens), events-length false o);
@@ -94,7 +94,7 @@ module _ (k : ℕ) (o : Skeleton) (tokens : List ℕ) (c : Chained o) (small : S
       let n = event-count o in
       let rw0 : Fits (subtree k (P ⊕ lead us) nil) (begin t) = root-fits t h in
       let r : Fits (P ⊕ lead us) q = fits-inside k (P ⊕ lead us) (begin t) rw0 in
-      let h4 : TREE-ROW ≤ length t = omega (arith, rows-length (root k o ts), root-rows k o ts) in
+      let h4 : TREE-ROW ≤ length t = omega (arith, rows-length (root k o ts) 0 0, root-rows k o ts) in
       let fr : From tokens (q .cursor) ts = from-begin k t tokens in
       let m : length events / EVENT-ROW ≡ n + 0 = omega (arith, encode-count false o) in
       let ran : eventsN (length events / EVENT-ROW) tokens events 0 (state q) ≡ state (grow P q) =
@@ -117,7 +117,7 @@ module _ (k : ℕ) (o : Skeleton) (tokens : List ℕ) (c : Chained o) (small : S
       rows-alike tokens k (encode false o) t zeros ∙ ap (λ x. sink-of x .rows) (tree-written zeros n) ∙ z
 
   count-is : row-count (root k o (tokens-of tokens)) ≡ length (rows (root k o (tokens-of tokens))) / TREE-ROW
-  count-is = omega (arith, rows-length (root k o (tokens-of tokens)))
+  count-is = omega (arith, rows-length (root k o (tokens-of tokens)) 0 0)
 
   found-is : errors-in (tokens-of tokens) ≡ length (lexical-errors 0 (tokens-of tokens)) / ERROR-ROW
   found-is = omega (arith, errors-length 0 (tokens-of tokens))
@@ -128,7 +128,7 @@ module _ (k : ℕ) (o : Skeleton) (tokens : List ℕ) (c : Chained o) (small : S
   unfolding finish-all finished-in
   answer-is t e =
       answered-is (length t) (length e) (events-on k tokens (encode false o) t) (errors-on tokens e) (row-count (root k o (tokens-of tokens))) (errors-in (tokens-of tokens)) (tree-count t) (errors-count tokens e (small .numbers))
-      ∙ (let z : row-count (root k o (tokens-of tokens)) * TREE-ROW ≡ length (rows (root k o (tokens-of tokens))) = omega (arith, rows-length (root k o (tokens-of tokens))) in
+      ∙ (let z : row-count (root k o (tokens-of tokens)) * TREE-ROW ≡ length (rows (root k o (tokens-of tokens))) = omega (arith, rows-length (root k o (tokens-of tokens)) 0 0) in
       let y : errors-in (tokens-of tokens) * ERROR-ROW ≡ length (lexical-errors 0 (tokens-of tokens)) = omega (arith, errors-length 0 (tokens-of tokens)) in
       rw (z, y))
 
@@ -154,7 +154,7 @@ module _ (k : ℕ) (o : Skeleton) (tokens : List ℕ) (c : Chained o) (small : S
             let q : length L ≤ length e = leb-true (length L) (length e) (and-right (leb (length R) (length t)) (leb (length L) (length e)) h) in
             record {
               counts = says ∙ ap (λ b. cond b (Written (row-count (root k o (tokens-of tokens))) (errors-in (tokens-of tokens))) NoRoom) h ∙ rw (count-is, found-is);
-              rows = ap trees-of (g ∙ whole-written t e p q);
+              rows = ap trees-of (g ∙ whole-written t e p q) ∙ ap (λ (m : ℕ). R ++ drop m t) (sym (rows-length (root k o (tokens-of tokens)) 0 0));
               lexical = ap errors-of (g ∙ whole-written t e p q);
             };
         lacks = λ h. says ∙ ap (λ b. cond b (Written (row-count (root k o (tokens-of tokens))) (errors-in (tokens-of tokens))) NoRoom) h;

@@ -7,18 +7,19 @@ use lib.ListN.{length, set}
 use lib.Seq.{sets}
 use borrow.Author.Tests.{lt-ltb}
 use Rattle.basics.specs.Word.{low}
-use Rattle.definitions.specs.Layout.{EVENT-ROW, EVENT-ARGUMENT}
+use Rattle.definitions.specs.Layout.{NODE, EVENT-ROW, EVENT-ARGUMENT}
 use Rattle.definitions.specs.Parent.{tree-row}
 use Rattle.sink_rows.specs.Rows.{put, field, link, links, linksN, open-rows}
 
 -- ---------------------------------------------------------------- rows
 
-pub stores4 : (t : List ℕ) (n a b c d : ℕ) → set (set (set (set t n a) (n + 1) b) (n + 2) c) (n + 3) d ≡ sets t n (a ∷ b ∷ c ∷ d ∷ [])
-stores4 t n a b c d =
+pub stores5 : (t : List ℕ) (n a b c d e : ℕ) → set (set (set (set (set t n a) (n + 1) b) (n + 2) c) (n + 3) d) (n + 4) e ≡ sets t n (a ∷ b ∷ c ∷ d ∷ e ∷ [])
+stores5 t n a b c d e =
     let p : n + 1 ≡ suc n = omega arith in
     let q : n + 2 ≡ suc (suc n) = omega arith in
     let r : n + 3 ≡ suc (suc (suc n)) = omega arith in
-    rw (p, q, r)
+    let s : n + 4 ≡ suc (suc (suc (suc n))) = omega arith in
+    rw (p, q, r, s)
 
 -- ---------------------------------------------------------------- links
 
@@ -47,7 +48,7 @@ links-done events i j m d n p e z = let g : link events j ≡ 0 = omega arith in
 -- ---------------------------------------------------------------- the open rows of a chain
 
 pub open-again : (n : ℕ) (events : List ℕ) (j first byte parent children up row d k : ℕ) (t u g : List ℕ)
-    → up ≡ low (first + (n - 1)) → row ≡ low (up + 1) → k ≡ field events j EVENT-ARGUMENT → d ≡ link events j → u ≡ put row (tree-row up k byte 0 []) t → 0 < n
+    → up ≡ low (first + (n - 1)) → row ≡ low (up + 1) → k ≡ field events j EVENT-ARGUMENT → d ≡ link events j → u ≡ put row (tree-row NODE k byte 0 up []) t → 0 < n
     → open-rows n events j first byte parent children t ≡ g → open-rows (n - 1) events (j + d) first byte parent children u ≡ g
 unfolding open-rows
 open-again n events j first byte parent children up row d k t u g e1 e2 e3 e4 e5 h p =
@@ -55,7 +56,7 @@ open-again n events j first byte parent children up row d k t u g e1 e2 e3 e4 e5
     rw (e5, e2, e1, e3, e4) (sym (ap (λ m. open-rows m events j first byte parent children t) l) ∙ p)
 
 pub open-end : (n : ℕ) (events : List ℕ) (j first byte parent children k : ℕ) (t u g : List ℕ)
-    → k ≡ field events j EVENT-ARGUMENT → u ≡ put first (tree-row parent k byte children []) t → n ≡ 0
+    → k ≡ field events j EVENT-ARGUMENT → u ≡ put first (tree-row NODE k byte children parent []) t → n ≡ 0
     → open-rows n events j first byte parent children t ≡ g → u ≡ g
 unfolding open-rows
 open-end n events j first byte parent children k t u g e1 e2 z p = rw (e2, e1) (sym (ap (λ m. open-rows m events j first byte parent children t) z) ∙ p)

@@ -1,6 +1,6 @@
 //! What a parse gave, in types that the Rust and its patched copy share.
 use crate::case::Rows;
-use dt_parser_layout::{CLASS_LEAF, CLASS_NODE};
+use dt_parser_layout::{CLASS_LEAF, CLASS_NODE, ROW_TREE};
 use dt_tools_parser::TextRange;
 pub use dt_tools_parser::cst::NodeKind;
 use dt_tools_parser::cst::{GreenItem, GreenNode};
@@ -25,20 +25,26 @@ pub struct Report {
 }
 
 impl Parsed {
-    /// Writes the tree as document 01's rows. Gives how many of the tokens are in its leaves.
+    /// Writes the tree as rows: document 01's four numbers and the parent's row, which is document 02's request 7/14; the
+    /// root names itself. `out` is empty. Gives how many of the tokens are in its leaves.
     pub fn tree_rows(&self, toks: &Rows, out: &mut Vec<u32>) -> usize {
         let mut taken = 0;
-        node_rows(&self.green, toks, &mut taken, out);
+        node_rows(&self.green, ROOT, toks, &mut taken, out);
         taken
     }
 }
 
-/// In preorder: class, kind, width, count. A leaf's count of raw tokens is read off `toks` by its width.
-fn node_rows(n: &GreenNode, toks: &Rows, at: &mut usize, out: &mut Vec<u32>) {
-    out.extend([CLASS_NODE, n.kind as u32, n.width as u32, n.children.len() as u32]);
+/// The root's row.
+const ROOT: u32 = 0;
+
+/// In preorder: class, kind, width, count, parent. The parent is the row of the node in whose children the walk is; no
+/// count is looked at for it. A leaf's count of raw tokens is read off `toks` by its width.
+fn node_rows(n: &GreenNode, parent: u32, toks: &Rows, at: &mut usize, out: &mut Vec<u32>) {
+    let own = (out.len() / ROW_TREE) as u32;
+    out.extend([CLASS_NODE, n.kind as u32, n.width as u32, n.children.len() as u32, parent]);
     for child in &n.children {
         match child {
-            GreenItem::Node(n) => node_rows(n, toks, at, out),
+            GreenItem::Node(n) => node_rows(n, own, toks, at, out),
             GreenItem::Token(t) => {
                 let (mut width, mut count) = (toks[*at].1, 1);
                 *at += 1;
@@ -47,7 +53,7 @@ fn node_rows(n: &GreenNode, toks: &Rows, at: &mut usize, out: &mut Vec<u32>) {
                     *at += 1;
                     count += 1
                 }
-                out.extend([CLASS_LEAF, t.kind as u32, width as u32, count])
+                out.extend([CLASS_LEAF, t.kind as u32, width as u32, count, own])
             }
         }
     }

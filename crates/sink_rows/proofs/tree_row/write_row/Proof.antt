@@ -1,6 +1,6 @@
--- `write_row`: its four stores are those of `put`.
+-- `write_row`: its five stores are those of `put`.
 use native.Mathlib.Omega.{arith}
-use Rattle.sink_rows.proofs.Chains.{stores4}
+use Rattle.sink_rows.proofs.Chains.{stores5}
 use Rattle.basics.proofs.Flags.{flags}
 use Prim.Native.Nat.{_*_}
 use lib.ListN.{length-set}
@@ -51,12 +51,21 @@ mul-trees-4 c = omega arith
 slice-write-trees-4 : tie.Need-slice-write-trees-4
 slice-write-trees-4 c = simp length-set (omega (flags, c .before .wide .ensures .1))
 
+add-trees-4 : tie.Need-add-trees-4
+add-trees-4 c = omega arith
+
+mul-trees-5 : tie.Need-mul-trees-5
+mul-trees-5 c = omega arith
+
+slice-write-trees-5 : tie.Need-slice-write-trees-5
+slice-write-trees-5 c = simp length-set (omega (flags, c .before .wide .ensures .1))
+
 same-length : tie.Need-same-length
 same-length c = simp length-set
 
 returns : tie.Need-returns
 unfolding put
-returns c = rw (← (c .before .wide .ensures .0), c .if1 .taken) (stores4 (c .before .before .before .args .trees .now) (c .before .wide .result * TREE-ROW) (c .before .before .before .args .class) (c .before .before .before .args .kind) (c .before .before .before .args .width) (c .before .before .before .args .count))
+returns c = rw (← (c .before .wide .ensures .0), c .if1 .taken) (stores5 (c .before .before .before .args .trees .now) (c .before .wide .result * TREE-ROW) (c .before .before .before .args .class) (c .before .before .before .args .kind) (c .before .before .before .args .width) (c .before .before .before .args .count) (c .before .before .before .args .parent))
 
 returns-2 : tie.Need-returns-2
 unfolding put
@@ -80,6 +89,9 @@ write-row-spec =
     add-trees-3
     mul-trees-4
     slice-write-trees-4
+    add-trees-4
+    mul-trees-5
+    slice-write-trees-5
     same-length
     returns
     returns-2)
