@@ -18,6 +18,8 @@ class TreeRow(NamedTuple):
     kind: int
     width: int
     count: int
+    # the parent's row; the root names itself (document 02, 7/14)
+    parent: int
 
 
 class ErrorRow(NamedTuple):

@@ -36,7 +36,7 @@ class Words:
 
     def lines(self, parsed, case):
         """The Rust's lines for an accepted call. It has no reports of labels."""
-        out = ["R %d %d %d %d" % row for row in rows(TreeRow, parsed.rows)]
+        out = ["R %d %d %d %d %d" % row for row in rows(TreeRow, parsed.rows)]
         out += ["X %d %d %d" % row for row in rows(ErrorRow, parsed.lexical)]
         for row in (r for r in rows(ReportRow, parsed.reports) if r.message != NOT_A_LABEL):
             pool = parsed.pool[row.pool_first : row.pool_first + row.pool_count]

@@ -115,15 +115,12 @@ impl<'i> Tree<'i> {
     /// Not part of the interface: public for tests/navigate.rs alone, which reads trees that no text has.
     #[doc(hidden)]
     pub fn read(rows: &[[u32; TreeRow::SIZE]], input: &Input<'i>) -> Result<Self, Error> {
-        let mut reader = Reader { input, rows: Vec::with_capacity(rows.len()), open: Vec::new(), byte: 0, token: 0 };
-        for (i, numbers) in rows.iter().enumerate() {
-            if i > 0 && reader.open.is_empty() {
-                return Err(Error::BadAnswer { what: TREE_ROW, row: Some(i), expected: "under the root" });
-            }
-            reader.add(numbers)?;
+        let mut reader = Reader { input, given: rows, rows: Vec::with_capacity(rows.len()), byte: 0, token: 0 };
+        for numbers in rows {
+            reader.add((*numbers).into())?;
         }
-        let whole = !rows.is_empty() && reader.open.is_empty();
-        if whole && reader.byte == input.text.len() && reader.token == input.tokens.len() {
+        reader.end_up_to(None)?;
+        if !rows.is_empty() && reader.byte == input.text.len() && reader.token == input.tokens.len() {
             Ok(Self { text: Cow::Borrowed(input.text), rows: reader.rows })
         } else {
             Err(Error::BadAnswer { what: "tree", row: None, expected: "one over all tokens" })
@@ -131,41 +128,43 @@ impl<'i> Tree<'i> {
     }
 }
 
-/// Where a number stands that cannot be.
-const TREE_ROW: &str = "tree row";
+/// A number of a tree row that cannot be.
+const fn bad(row: usize, expected: &'static str) -> Error {
+    Error::BadAnswer { what: "tree row", row: Some(row), expected }
+}
 
 /// A tree that is being read.
 struct Reader<'r, 'i> {
     input: &'r Input<'i>,
+    given: &'r [[u32; TreeRow::SIZE]],
+    /// The rows so far. The last one and those above it have not ended yet.
     rows: Vec<Row>,
-    /// The nodes around the next row, and how many children each still gets.
-    open: Vec<(usize, usize)>,
     /// The bytes and raw tokens so far.
     byte: usize,
     token: usize,
 }
 
 impl Reader<'_, '_> {
-    fn add(&mut self, numbers: &[u32; TreeRow::SIZE]) -> Result<(), Error> {
-        let row = self.rows.len();
-        let bad = |expected| Error::BadAnswer { what: TREE_ROW, row: Some(row), expected };
-        let TreeRow { class, kind, width, count } = (*numbers).into();
-        let parent = self.open.last_mut().map_or(row, |(parent, left)| {
-            *left -= 1;
-            *parent
-        });
+    fn add(&mut self, TreeRow { class, kind, width, count, parent }: TreeRow) -> Result<(), Error> {
+        let (row, parent) = (self.rows.len(), parent as usize);
+        self.end_up_to((row > 0).then_some(parent))?;
+        let is_under_node = self.rows.get(parent).is_some_and(|above| matches!(above.kind, RowKind::Node(_)));
+        if !is_under_node && (row, parent, class) != (0, 0, rows::NODE) {
+            return Err(bad(row, "under a node, or the root, which names itself"));
+        }
         let (kind, tokens) = match class {
-            rows::NODE => (RowKind::Node(NodeKind::from_number(kind).ok_or(bad("a node kind"))?), 0),
-            rows::LEAF => (RowKind::Leaf(TokenKind::from_number(kind).ok_or(bad("a token kind"))?), count as usize),
-            _ => return Err(bad("a node or a leaf")),
+            rows::NODE => (RowKind::Node(NodeKind::from_number(kind).ok_or(bad(row, "a node kind"))?), 0),
+            rows::LEAF => {
+                (RowKind::Leaf(TokenKind::from_number(kind).ok_or(bad(row, "a token kind"))?), count as usize)
+            }
+            _ => return Err(bad(row, "a node or a leaf")),
         };
         let (start, token, width) = (self.byte, self.token, width as usize);
         self.rows.push(Row { kind, start, width, parent, next: row + 1, token, tokens });
-        match class {
-            rows::NODE => self.open.push((row, count as usize)),
-            _ => self.take(width, tokens).ok_or(bad("a leaf of tokens"))?,
+        match kind {
+            RowKind::Node(_) => Ok(()),
+            RowKind::Leaf(_) => self.take(width, tokens).ok_or(bad(row, "a leaf of tokens")),
         }
-        self.close()
     }
 
     /// Passes a leaf's tokens, whose lengths must add up to its width.
@@ -177,20 +176,30 @@ impl Reader<'_, '_> {
         (sum == width && tokens > 0).then_some(())
     }
 
-    /// Closes every node that has all its children.
-    fn close(&mut self) -> Result<(), Error> {
-        while let Some(&(row, 0)) = self.open.last() {
-            self.open.pop();
-            let next = self.rows.len();
-            let node = &mut self.rows[row];
-            node.next = next;
-            node.tokens = self.token - node.token;
-            if node.width != self.byte - node.start {
-                let expected = "a node as wide as what is under it";
-                return Err(Error::BadAnswer { what: TREE_ROW, row: Some(row), expected });
-            }
+    /// Ends the last row and those above it, up to one that goes on; without that all, the root last.
+    fn end_up_to(&mut self, open: Option<usize>) -> Result<(), Error> {
+        let mut last = self.rows.len().checked_sub(1);
+        while last != open {
+            let row = last.ok_or(bad(self.rows.len(), "under the row before it or one above that"))?;
+            self.end(row)?;
+            last = Some(self.rows[row].parent).filter(|_| row > 0);
         }
         Ok(())
+    }
+
+    /// Ends a row: no other lies below it.
+    fn end(&mut self, row: usize) -> Result<(), Error> {
+        let RowKind::Node(_) = self.rows[row].kind else { return Ok(()) };
+        let next = self.rows.len();
+        let children = std::iter::successors(Some(row + 1), |child| Some(self.rows[*child].next));
+        let children = children.take_while(|child| *child < next).count();
+        if children != TreeRow::from(self.given[row]).count as usize {
+            return Err(bad(row, "a node of as many children as name it"));
+        }
+        let node = &mut self.rows[row];
+        node.next = next;
+        node.tokens = self.token - node.token;
+        if node.width == self.byte - node.start { Ok(()) } else { Err(bad(row, "a node as wide as what is under it")) }
     }
 }
 

@@ -34,34 +34,34 @@ unfolding chain-to-last
 last-append c [] m = refl
 last-append c (x ∷ l) m = last-append (x .chain) l m
 
-pub last-holding : (f : Tree) (c₀ above : List ℕ) (i start : ℕ) (l : List Row) → Leaves-wide f → 0 < width f
-    → chain-to-last c₀ (leaves-at above i start f) ≡ above ++ holding i (width f - 1) (rows-of f ++ l)
+pub last-holding : (f : Tree) (p : ℕ) (c₀ above : List ℕ) (i start : ℕ) (l : List Row) → Leaves-wide f → 0 < width f
+    → chain-to-last c₀ (leaves-at above i start f) ≡ above ++ holding i (width f - 1) (rows-of p i f ++ l)
 unfolding Leaves-wide leaves-at chain-to-last width rows-of holding
-last-holding nil c₀ above i start l h p = absurd (omega arith)
-last-holding (leaf k ts f) c₀ above i start l h p =
-    go (ltb 0 (width f)) refl (λ q. last-holding f (above ++ (i ∷ [])) above (suc i) (start + byte-count ts) l (h .1) q)
+last-holding nil p c₀ above i start l h g = absurd (omega arith)
+last-holding (leaf k ts f) p c₀ above i start l h g =
+    go (ltb 0 (width f)) refl (λ q. last-holding f p (above ++ (i ∷ [])) above (suc i) (start + byte-count ts) l (h .1) q)
   where
     go : (b : Bool) → ltb 0 (width f) ≡ b
-        → (0 < width f → chain-to-last (above ++ (i ∷ [])) (leaves-at above (suc i) (start + byte-count ts) f) ≡ above ++ holding (suc i) (width f - 1) (rows-of f ++ l))
-        → chain-to-last c₀ (leaves-at above i start (leaf k ts f)) ≡ above ++ holding i (width (leaf k ts f) - 1) (rows-of (leaf k ts f) ++ l)
+        → (0 < width f → chain-to-last (above ++ (i ∷ [])) (leaves-at above (suc i) (start + byte-count ts) f) ≡ above ++ holding (suc i) (width f - 1) (rows-of p (suc i) f ++ l))
+        → chain-to-last c₀ (leaves-at above i start (leaf k ts f)) ≡ above ++ holding i (width (leaf k ts f) - 1) (rows-of p i (leaf k ts f) ++ l)
     go true e rec =
         let q = ltb-true 0 (width f) e in
         let w = h .0 in
         rw (le-ltb (byte-count ts + width f - 1) (byte-count ts) (omega arith))
-        (rec q ∙ ap (above ++_) (holding-at (rows-of f ++ l) refl (omega arith)))
+        (rec q ∙ ap (above ++_) (holding-at (rows-of p (suc i) f ++ l) refl (omega arith)))
     go false e rec =
         let q = ltb-false 0 (width f) e in
         let w = h .0 in
         rw (no-leaf f above (suc i) (start + byte-count ts) (h .1) (omega arith), lt-ltb (byte-count ts + width f - 1) (byte-count ts) (omega arith)) refl
-last-holding (subtree k c f) c₀ above i start l h p =
+last-holding (subtree k c f) p c₀ above i start l h g =
     go (ltb 0 (width f)) refl
-    (λ q. last-holding c c₀ (above ++ (i ∷ [])) (suc i) start (rows-of f ++ l) (h .0) q)
-    (λ x q. last-holding f x above (suc i + row-count c) (start + width c) l (h .1) q)
+    (λ q. last-holding c i c₀ (above ++ (i ∷ [])) (suc i) start (rows-of p (suc i + row-count c) f ++ l) (h .0) q)
+    (λ x q. last-holding f p x above (suc i + row-count c) (start + width c) l (h .1) q)
   where
     go : (b : Bool) → ltb 0 (width f) ≡ b
-        → (0 < width c → chain-to-last c₀ (leaves-at (above ++ (i ∷ [])) (suc i) start c) ≡ (above ++ (i ∷ [])) ++ holding (suc i) (width c - 1) (rows-of c ++ (rows-of f ++ l)))
-        → ((x : List ℕ) → 0 < width f → chain-to-last x (leaves-at above (suc i + row-count c) (start + width c) f) ≡ above ++ holding (suc i + row-count c) (width f - 1) (rows-of f ++ l))
-        → chain-to-last c₀ (leaves-at above i start (subtree k c f)) ≡ above ++ holding i (width (subtree k c f) - 1) (rows-of (subtree k c f) ++ l)
+        → (0 < width c → chain-to-last c₀ (leaves-at (above ++ (i ∷ [])) (suc i) start c) ≡ (above ++ (i ∷ [])) ++ holding (suc i) (width c - 1) (rows-of i (suc i) c ++ (rows-of p (suc i + row-count c) f ++ l)))
+        → ((x : List ℕ) → 0 < width f → chain-to-last x (leaves-at above (suc i + row-count c) (start + width c) f) ≡ above ++ holding (suc i + row-count c) (width f - 1) (rows-of p (suc i + row-count c) f ++ l))
+        → chain-to-last c₀ (leaves-at above i start (subtree k c f)) ≡ above ++ holding i (width (subtree k c f) - 1) (rows-of p i (subtree k c f) ++ l)
     go true e inner after =
         let q = ltb-true 0 (width f) e in
         let inside = leaves-at (above ++ (i ∷ [])) (suc i) start c in
@@ -70,9 +70,9 @@ last-holding (subtree k c f) c₀ above i start l h p =
         ∙ after (chain-to-last c₀ inside) q
         ∙ ap (above ++_)
         (sym
-        (ap (holding (suc i) (width c + width f - 1 - 0)) (append-assoc (rows-of c) (rows-of f) l)
-        ∙ holding-past c (suc i) (width c + width f - 1 - 0) (rows-of f ++ l) (omega arith)
-        ∙ holding-at (rows-of f ++ l) refl (omega arith))))
+        (ap (holding (suc i) (width c + width f - 1 - 0)) (append-assoc (rows-of i (suc i) c) (rows-of p (suc i + row-count c) f) l)
+        ∙ holding-past c i (suc i) (width c + width f - 1 - 0) (rows-of p (suc i + row-count c) f ++ l) (omega arith)
+        ∙ holding-at (rows-of p (suc i + row-count c) f ++ l) refl (omega arith))))
     go false e inner after =
         let q = ltb-false 0 (width f) e in
         let x : width c + width f - 1 ≡ width c - 1 = omega arith in
@@ -80,5 +80,5 @@ last-holding (subtree k c f) c₀ above i start l h p =
         (ap (chain-to-last c₀) (append-nil (leaves-at (above ++ (i ∷ [])) (suc i) start c))
         ∙ inner (omega arith)
         ∙ above-one above i _
-        ∙ ap (λ (y : List ℕ). above ++ (i ∷ y)) (holding-at (rows-of c ++ (rows-of f ++ l)) refl (sym x))
-        ∙ ap (λ (y : List Row). above ++ (i ∷ holding (suc i) (width c + width f - 1) y)) (sym (append-assoc (rows-of c) (rows-of f) l)))
+        ∙ ap (λ (y : List ℕ). above ++ (i ∷ y)) (holding-at (rows-of i (suc i) c ++ (rows-of p (suc i + row-count c) f ++ l)) refl (sym x))
+        ∙ ap (λ (y : List Row). above ++ (i ∷ holding (suc i) (width c + width f - 1) y)) (sym (append-assoc (rows-of i (suc i) c) (rows-of p (suc i + row-count c) f) l)))

@@ -24,20 +24,20 @@ span-none [] = refl
 span-none (r ∷ l) = refl
 
 -- the rows of a tree are the subtrees of its parts
-pub span-rows : (f : Tree) (n : ℕ) (l : List Row) → span (count f + n) (rows-of f ++ l) ≡ row-count f + span n l
+pub span-rows : (f : Tree) (p i : ℕ) (n : ℕ) (l : List Row) → span (count f + n) (rows-of p i f ++ l) ≡ row-count f + span n l
 unfolding rows-of span count row-count
-span-rows nil n l = span-at l (omega arith) ∙ (let z : span n l ≡ 0 + span n l = omega arith in z)
-span-rows (leaf k ts f) n l =
+span-rows nil p i n l = span-at l (omega arith) ∙ (let z : span n l ≡ 0 + span n l = omega arith in z)
+span-rows (leaf k ts f) p i n l =
     let e : suc (count f) + n ≡ suc (count f + n) = omega arith in
-    let g : span (0 + (count f + n)) (rows-of f ++ l) ≡ row-count f + span n l = span-at (rows-of f ++ l) (omega arith) ∙ span-rows f n l in
-    span-at (rows-of (leaf k ts f) ++ l) e ∙ ap suc g ∙ (let z : suc (row-count f + span n l) ≡ suc (row-count f) + span n l = omega arith in z)
-span-rows (subtree k c f) n l =
+    let g : span (0 + (count f + n)) (rows-of p (suc i) f ++ l) ≡ row-count f + span n l = span-at (rows-of p (suc i) f ++ l) (omega arith) ∙ span-rows f p (suc i) n l in
+    span-at (rows-of p i (leaf k ts f) ++ l) e ∙ ap suc g ∙ (let z : suc (row-count f + span n l) ≡ suc (row-count f) + span n l = omega arith in z)
+span-rows (subtree k c f) p i n l =
     let e : suc (count f) + n ≡ suc (count f + n) = omega arith in
-    let g : span (count c + (count f + n)) ((rows-of c ++ rows-of f) ++ l) ≡ row-count c + (row-count f + span n l) =
-    ap (span (count c + (count f + n))) (append-assoc (rows-of c) (rows-of f) l)
-    ∙ span-rows c (count f + n) (rows-of f ++ l)
-    ∙ ap (row-count c +_) (span-rows f n l) in
-    span-at (rows-of (subtree k c f) ++ l) e ∙ ap suc g ∙ (let z : suc (row-count c + (row-count f + span n l)) ≡ suc (row-count c + row-count f) + span n l = omega arith in z)
+    let g : span (count c + (count f + n)) ((rows-of i (suc i) c ++ rows-of p (suc i + row-count c) f) ++ l) ≡ row-count c + (row-count f + span n l) =
+    ap (span (count c + (count f + n))) (append-assoc (rows-of i (suc i) c) (rows-of p (suc i + row-count c) f) l)
+    ∙ span-rows c i (suc i) (count f + n) (rows-of p (suc i + row-count c) f ++ l)
+    ∙ ap (row-count c +_) (span-rows f p (suc i + row-count c) n l) in
+    span-at (rows-of p i (subtree k c f) ++ l) e ∙ ap suc g ∙ (let z : suc (row-count c + (row-count f + span n l)) ≡ suc (row-count c + row-count f) + span n l = omega arith in z)
 
 -- more subtrees span no fewer rows, and no more than there are
 pub span-more : (m n : ℕ) (l : List Row) → span m l ≤ span (m + n) l

@@ -7,10 +7,10 @@ use mathlib.Core.Path.{_≡_, refl, ap, sym, _∙_}
 use mathlib.Core.List.{List, [], _∷_, _++_, append-assoc}
 use lib.ListN.{length, take, drop, replicate, length-append}
 use lib.Seq.{take-at, drop-at}
-use Rattle.definitions.specs.Layout.{TREE-ROW}
+use Rattle.definitions.specs.Layout.{TREE-ROW, NODE, LEAF}
 use Rattle.definitions.specs.Token.{byte-count}
-use Rattle.definitions.specs.Place.{Tree, nil, leaf, subtree, _⊕_, width, count}
-use Rattle.definitions.specs.Parent.{rows, rows-under}
+use Rattle.definitions.specs.Place.{Tree, nil, leaf, subtree, _⊕_, width, count, row-count}
+use Rattle.definitions.specs.Parent.{tree-row, rows-under}
 use Rattle.definitions.specs.Call.{written}
 use Rattle.laws.proofs.Skeleton.{bytes-append}
 use Rattle.laws.proofs.Tree.{leaves}
@@ -64,37 +64,57 @@ written-rows w l m b pos h e =
 
 -- ---------------------------------------------------------------- the rows
 
-unfoldable pub rows-of : Tree → List Row
-unfolding byte-count width count
-rows-of nil = []
-rows-of (leaf k ts f) = (1 ∷ k ∷ byte-count ts ∷ length ts ∷ []) ∷ rows-of f
-rows-of (subtree k c f) = (0 ∷ k ∷ width c ∷ count c ∷ []) ∷ (rows-of c ++ rows-of f)
+-- `rows-under` (Parent), row by row
+unfoldable pub rows-of : ℕ → ℕ → Tree → List Row
+unfolding byte-count width count row-count
+rows-of p i nil = []
+rows-of p i (leaf k ts f) = tree-row LEAF k (byte-count ts) (length ts) p [] ∷ rows-of p (suc i) f
+rows-of p i (subtree k c f) = tree-row NODE k (width c) (count c) p [] ∷ (rows-of i (suc i) c ++ rows-of p (suc i + row-count c) f)
 
-pub rows-wide : (f : Tree) → Wide TREE-ROW (rows-of f)
+pub rows-wide : (f : Tree) (p i : ℕ) → Wide TREE-ROW (rows-of p i f)
 unfolding rows-of
-rows-wide nil = tt
-rows-wide (leaf k ts f) = (refl, rows-wide f)
-rows-wide (subtree k c f) = (refl, wide-append TREE-ROW (rows-of c) (rows-of f) (rows-wide c) (rows-wide f))
+rows-wide nil p i = tt
+rows-wide (leaf k ts f) p i = (refl, rows-wide f p (suc i))
+rows-wide (subtree k c f) p i =
+    (refl, wide-append TREE-ROW (rows-of i (suc i) c) (rows-of p (suc i + row-count c) f) (rows-wide c i (suc i)) (rows-wide f p (suc i + row-count c)))
 
-pub rows-flat : (f : Tree) → rows f ≡ flat (rows-of f)
+pub rows-flat : (f : Tree) (p i : ℕ) → rows-under p i f ≡ flat (rows-of p i f)
 unfolding rows-of rows-under flat
-rows-flat nil = refl
-rows-flat (leaf k ts f) = ap (λ (l : List ℕ). 1 ∷ k ∷ byte-count ts ∷ length ts ∷ l) (rows-flat f)
-rows-flat (subtree k c f) =
-    ap (λ (l : List ℕ). 0 ∷ k ∷ width c ∷ count c ∷ l) ((λ i. rows-flat c i ++ rows-flat f i) ∙ sym (flat-append (rows-of c) (rows-of f)))
+rows-flat nil p i = refl
+rows-flat (leaf k ts f) p i = ap (tree-row LEAF k (byte-count ts) (length ts) p) (rows-flat f p (suc i))
+rows-flat (subtree k c f) p i =
+    let n = suc i + row-count c in
+    ap (tree-row NODE k (width c) (count c) p)
+    ((λ j. rows-flat c i (suc i) j ++ rows-flat f p n j) ∙ sym (flat-append (rows-of i (suc i) c) (rows-of p n f)))
 
-pub rows-beside : (f g : Tree) → rows-of (f ⊕ g) ≡ rows-of f ++ rows-of g
-unfolding rows-of _⊕_
-rows-beside nil g = refl
-rows-beside (leaf k ts f) g = ap ((1 ∷ k ∷ byte-count ts ∷ length ts ∷ []) ∷_) (rows-beside f g)
-rows-beside (subtree k c f) g = ap (λ (l : List Row). (0 ∷ k ∷ width c ∷ count c ∷ []) ∷ (rows-of c ++ l)) (rows-beside f g) ∙ ap ((0 ∷ k ∷ width c ∷ count c ∷ []) ∷_) (sym (append-assoc (rows-of c) (rows-of f) (rows-of g)))
+-- as many as are counted
+pub rows-counted : (f : Tree) (p i : ℕ) → length (rows-of p i f) ≡ row-count f
+unfolding rows-of row-count
+rows-counted nil p i = refl
+rows-counted (leaf k ts f) p i = ap suc (rows-counted f p (suc i))
+rows-counted (subtree k c f) p i =
+    ap suc (length-append (rows-of i (suc i) c) (rows-of p (suc i + row-count c) f)
+    ∙ (λ j. rows-counted c i (suc i) j + rows-counted f p (suc i + row-count c) j))
+
+pub rows-beside : (f g : Tree) (p i : ℕ) → rows-of p i (f ⊕ g) ≡ rows-of p i f ++ rows-of p (i + row-count f) g
+unfolding rows-of _⊕_ row-count
+rows-beside nil g p i = let e : i + 0 ≡ i = omega arith in rw e
+rows-beside (leaf k ts f) g p i =
+    let e : suc i + row-count f ≡ i + suc (row-count f) = omega arith in
+    ap (tree-row LEAF k (byte-count ts) (length ts) p [] ∷_) (rows-beside f g p (suc i) ∙ rw e)
+rows-beside (subtree k c f) g p i =
+    let n = suc i + row-count c in
+    let e : n + row-count f ≡ i + suc (row-count c + row-count f) = omega arith in
+    let r : Row = tree-row NODE k (width c) (count c) p [] in
+    ap (λ (l : List Row). r ∷ (rows-of i (suc i) c ++ l)) (rows-beside f g p n ∙ rw e)
+    ∙ ap (r ∷_) (sym (append-assoc (rows-of i (suc i) c) (rows-of p n f) _))
 
 -- the rows of a tree are those of its parts
-pub rows-parts : (f : Tree) → Subtrees (count f) (rows-of f)
+pub rows-parts : (f : Tree) (p i : ℕ) → Subtrees (count f) (rows-of p i f)
 unfolding rows-of count
-rows-parts nil = S.none
-rows-parts (leaf k ts f) = S.leaf refl (rows-parts f)
-rows-parts (subtree k c f) = S.node refl (rows-parts c) (rows-parts f)
+rows-parts nil p i = S.none
+rows-parts (leaf k ts f) p i = S.leaf refl (rows-parts f p (suc i))
+rows-parts (subtree k c f) p i = S.node refl (rows-parts c i (suc i)) (rows-parts f p (suc i + row-count c))
 
 -- ---------------------------------------------------------------- raw tokens
 
@@ -104,20 +124,20 @@ over-append f [] m = let e : over-leaves f m ≡ 0 + over-leaves f m = omega ari
 over-append f (r ∷ l) m = let e : over-leaves f (l ++ m) ≡ over-leaves f l + over-leaves f m = over-append f l m in omega arith
 
 -- the raw tokens and bytes of a tree's rows are those of its leaves
-pub tokens-counted : (f : Tree) → raw-tokens (rows-of f) ≡ length (leaves f)
+pub tokens-counted : (f : Tree) (p i : ℕ) → raw-tokens (rows-of p i f) ≡ length (leaves f)
 unfolding rows-of over-leaves leaves
-tokens-counted nil = refl
-tokens-counted (leaf k ts f) = let e : over-leaves S.count (rows-of f) ≡ length (leaves f) = tokens-counted f in simp length-append (omega arith)
-tokens-counted (subtree k c f) =
-    let d : over-leaves S.count (rows-of c) ≡ length (leaves c) = tokens-counted c in
-    let e : over-leaves S.count (rows-of f) ≡ length (leaves f) = tokens-counted f in
+tokens-counted nil p i = refl
+tokens-counted (leaf k ts f) p i = let e : over-leaves S.count (rows-of p (suc i) f) ≡ length (leaves f) = tokens-counted f p (suc i) in simp length-append (omega arith)
+tokens-counted (subtree k c f) p i =
+    let d : over-leaves S.count (rows-of i (suc i) c) ≡ length (leaves c) = tokens-counted c i (suc i) in
+    let e : over-leaves S.count (rows-of p (suc i + row-count c) f) ≡ length (leaves f) = tokens-counted f p (suc i + row-count c) in
     simp (length-append, over-append) (omega arith)
 
-pub bytes-counted : (f : Tree) → raw-bytes (rows-of f) ≡ byte-count (leaves f)
+pub bytes-counted : (f : Tree) (p i : ℕ) → raw-bytes (rows-of p i f) ≡ byte-count (leaves f)
 unfolding rows-of over-leaves leaves byte-count
-bytes-counted nil = refl
-bytes-counted (leaf k ts f) = let e : over-leaves S.width (rows-of f) ≡ byte-count (leaves f) = bytes-counted f in simp bytes-append (omega arith)
-bytes-counted (subtree k c f) =
-    let d : over-leaves S.width (rows-of c) ≡ byte-count (leaves c) = bytes-counted c in
-    let e : over-leaves S.width (rows-of f) ≡ byte-count (leaves f) = bytes-counted f in
+bytes-counted nil p i = refl
+bytes-counted (leaf k ts f) p i = let e : over-leaves S.width (rows-of p (suc i) f) ≡ byte-count (leaves f) = bytes-counted f p (suc i) in simp bytes-append (omega arith)
+bytes-counted (subtree k c f) p i =
+    let d : over-leaves S.width (rows-of i (suc i) c) ≡ byte-count (leaves c) = bytes-counted c i (suc i) in
+    let e : over-leaves S.width (rows-of p (suc i + row-count c) f) ≡ byte-count (leaves f) = bytes-counted f p (suc i + row-count c) in
     simp (bytes-append, over-append) (omega arith)

@@ -49,7 +49,8 @@ tree-rows-of [] = []
 tree-rows-of (c ∷ []) = []
 tree-rows-of (c ∷ k ∷ []) = []
 tree-rows-of (c ∷ k ∷ w ∷ []) = []
-tree-rows-of (c ∷ k ∷ w ∷ n ∷ l) = (c ∷ k ∷ w ∷ n ∷ []) ∷ tree-rows-of l
+tree-rows-of (c ∷ k ∷ w ∷ n ∷ []) = []
+tree-rows-of (c ∷ k ∷ w ∷ n ∷ p ∷ l) = (c ∷ k ∷ w ∷ n ∷ p ∷ []) ∷ tree-rows-of l
 
 -- ---------------------------------------------------------------- what makes one pass sound
 

@@ -5,7 +5,7 @@ use mathlib.Core.Bool.{cond}
 use mathlib.Core.List.{List, [], _∷_, _++_}
 use lib.Dec.{eqb}
 use lib.ListN.{take, drop, getD}
-use Rattle.definitions.specs.Layout.{TREE-ROW, TREE-KIND, TREE-WIDTH, TREE-COUNT, NODE, LEAF, ERROR-ROW}
+use Rattle.definitions.specs.Layout.{TREE-ROW, TREE-KIND, TREE-WIDTH, TREE-COUNT, TREE-PARENT, NODE, LEAF, ERROR-ROW}
 use Rattle.definitions.specs.Layout.{REPORT-ROW, REPORT-START, REPORT-END, REPORT-MARK, REPORT-POOL-FIRST, REPORT-POOL-COUNT, REPORT-HINT}
 use Rattle.definitions.specs.Layout.{REPORT-LABEL-START, REPORT-LABEL-END}
 use Rattle.definitions.specs.Call.{Result}
@@ -38,7 +38,7 @@ expectations r = take (r .answer .expectation-count) (r .buffers .pool)
 
 -- ---------------------------------------------------------------- the numbers of a row, by name
 
--- a tree row: class, kind, width, count (children of a node, raw tokens of a leaf)
+-- a tree row: class, kind, width, count (children of a node, raw tokens of a leaf), the parent's row
 abbrev pub class : Row → ℕ
 class r = getD r 0 0
 
@@ -50,6 +50,9 @@ width r = getD r TREE-WIDTH 0
 
 abbrev pub count : Row → ℕ
 count r = getD r TREE-COUNT 0
+
+abbrev pub parent : Row → ℕ
+parent r = getD r TREE-PARENT 0
 
 -- a lexical error: number, start, end
 abbrev pub number : Row → ℕ

@@ -7,6 +7,7 @@ pub mod generate;
 pub mod lines;
 pub mod offset;
 pub mod once;
+pub mod parents;
 pub mod parsed;
 pub mod parsers;
 pub mod rng;
