@@ -1,13 +1,16 @@
 """Random cases from a seed."""
 import random
 
-from compare.case import ERRORS, FIRST_ERROR, LAST_ERROR, MOST_OPEN, MOST_ROWS, ROW
+from compare.case import ERRORS, FIRST_ERROR, LAST_ERROR, MOST_OPEN, MOST_ROWS, ROW, TREE_ROW
 from compare.case import Case, Row, read_line, rows_of
 from compare.oracle import NO_TREE
 from compare.tables import BAD_ENTRIES, BAD_KINDS, CONDITIONAL_HEADS, CONDITIONALS, ENTRIES, HEADS, LEVELS, MANY, NESTS
 from compare.tables import PIECES, PREFIX, REPEATING_HEADS, REPEATING_TAILS, STATEMENTS, STOPS, TAILS, TRIVIA, UNITS
 
 MOST_DEEP_ROWS = 160
+# what a cut tree buffer has after its whole rows; there are four as when a tree row had four numbers, so that the lists
+# of crates/replay_run are drawn as they were
+RESTS = 0, 1, 2, TREE_ROW - 1
 
 
 class Drawer:
@@ -224,8 +227,15 @@ class Drawer:
         full = [b for b in range(5) if needs[b]]
         for b in r.sample(full, min(len(full), r.choice((0, 0, 1, 1, 1, 2)))):
             n = needs[b]
-            lengths[b] = r.choice((n - 1, n - 1, max(n - ROW[b], 0), n - n % ROW[b] - 1, r.randrange(n), 0))
+            lengths[b] = r.choice((n - 1, n - 1, max(n - ROW[b], 0), n - n % ROW[b] - 1, self.cut(n, ROW[b]), 0))
         return tuple(max(n, 0) for n in lengths)
+
+    def cut(self, need, row):
+        """Any length below what is needed; of a tree so many whole rows and one of RESTS."""
+        if row != TREE_ROW:
+            return self.random.randrange(need)
+        whole, rest = divmod(self.random.randrange(need // TREE_ROW * len(RESTS)), len(RESTS))
+        return TREE_ROW * whole + RESTS[rest]
 
     def lend(self, cases):
         """The cases with buffers, by what each needs."""

@@ -201,7 +201,7 @@ PARSED = [
     ("no-report-room", 0, BRACE, at(0), dict(reports=8, list=5), (7, 0)),
     ("no-pool-room", 0, NO_VALUE, to(0, 5), dict(pool=3, list=5), (7, 3)),
     ("no-label-room", 1, LABEL, at(0), dict(reports=8, list=5), (7, 0)),
-    ("no-tree-room", 0, PROPERTY, at(1), dict(trees=19, list=5), (8, 0)),
+    ("no-tree-room", 0, PROPERTY, at(1), dict(trees=24, list=5), (8, 0)),
     ("no-error-room", 0, ERROR, at(0), dict(errors=2, list=5), (8, 0)),
     # the parse's refusals come first, whatever does not fit
     ("bad-kind-before-the-list", 0, ([61, 1], b"a"), at(0), dict(list=0), (11, 0)),
@@ -209,7 +209,7 @@ PARSED = [
     ("events-before-the-list", 0, TWO, at(1), dict(events=2, list=0), (6, 0)),
     ("reports-before-the-list", 0, BRACE, at(0), dict(reports=8, list=0), (7, 0)),
     ("label-before-the-list", 1, LABEL, at(0), dict(reports=8, list=1), (7, 0)),
-    ("tree-and-list", 0, PROPERTY, to(0, 3), dict(trees=19, list=0), (8, 0)),
+    ("tree-and-list", 0, PROPERTY, to(0, 3), dict(trees=24, list=0), (8, 0)),
 ]
 
 READINGS = OWNS + LENGTH + PAST + PARTS + FIT + PARSED

@@ -24,8 +24,8 @@ macro_rules! steps {
             /// ```
             #[must_use]
             pub fn next_sibling(self) -> Option<Item<'t>> {
-                let (parent, next) = (self.parent()?, self.data().next);
-                (next < parent.data().next).then(|| self.tree().item_at_row(next))
+                let row = self.data();
+                self.tree().item(row.next).filter(|item| item.data().parent == row.parent)
             }
 
             /// The child of the same parent before it; none for the first and for the root.

@@ -44,8 +44,9 @@ row! {
 }
 
 row! {
-    /// A node or a leaf of the tree, in preorder. The count is of a node's children, or of a leaf's raw tokens.
-    TreeRow { class, kind, width, count, }
+    /// A node or a leaf of the tree, in preorder. The count is of a node's children, or of a leaf's raw tokens; the
+    /// parent is a row number, the root's its own, 0.
+    TreeRow { class, kind, width, count, parent, }
 }
 
 row! {
@@ -112,7 +113,7 @@ mod tests {
 
     #[test]
     fn rows_are_read_as_they_are_written() {
-        let row = TreeRow { class: LEAF, kind: 29, width: 1, count: 1 };
+        let row = TreeRow { class: LEAF, kind: 29, width: 1, count: 1, parent: 1 };
         assert_eq!(TreeRow::from(<[u32; TreeRow::SIZE]>::from(row)), row);
         assert_eq!(front::<2>(&[1, 2, 3, 4, 5], 2), Some([[1, 2], [3, 4]].as_slice()));
         assert_eq!(front::<2>(&[1, 2, 3, 4, 5], 3), None);

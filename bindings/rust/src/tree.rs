@@ -115,7 +115,8 @@ impl<'i> Tree<'i> {
     /// Not part of the interface: public for tests/navigate.rs alone, which reads trees that no text has.
     #[doc(hidden)]
     pub fn read(rows: &[[u32; TreeRow::SIZE]], input: &Input<'i>) -> Result<Self, Error> {
-        let mut reader = Reader { input, given: rows, rows: Vec::with_capacity(rows.len()), byte: 0, token: 0 };
+        let made = Vec::with_capacity(rows.len());
+        let mut reader = Reader { input, given: rows, rows: made, open: None, byte: 0, token: 0 };
         for numbers in rows {
             reader.add((*numbers).into())?;
         }
@@ -128,17 +129,19 @@ impl<'i> Tree<'i> {
     }
 }
 
-/// A number of a tree row that cannot be.
-const fn bad(row: usize, expected: &'static str) -> Error {
-    Error::BadAnswer { what: "tree row", row: Some(row), expected }
+/// The rows from one on, up to an end, of which each follows the subtree of the one before.
+pub(crate) fn side_by_side(rows: &[Row], first: usize, end: usize) -> impl Iterator<Item = usize> {
+    let within = move |row: usize| (row < end).then_some(row);
+    std::iter::successors(within(first), move |row| within(rows[*row].next))
 }
 
 /// A tree that is being read.
 struct Reader<'r, 'i> {
     input: &'r Input<'i>,
     given: &'r [[u32; TreeRow::SIZE]],
-    /// The rows so far. The last one and those above it have not ended yet.
     rows: Vec<Row>,
+    /// The innermost node that has not ended: the next row may lie under it or under a node above it.
+    open: Option<usize>,
     /// The bytes and raw tokens so far.
     byte: usize,
     token: usize,
@@ -146,25 +149,23 @@ struct Reader<'r, 'i> {
 
 impl Reader<'_, '_> {
     fn add(&mut self, TreeRow { class, kind, width, count, parent }: TreeRow) -> Result<(), Error> {
-        let (row, parent) = (self.rows.len(), parent as usize);
-        self.end_up_to((row > 0).then_some(parent))?;
-        let is_under_node = self.rows.get(parent).is_some_and(|above| matches!(above.kind, RowKind::Node(_)));
-        if !is_under_node && (row, parent, class) != (0, 0, rows::NODE) {
-            return Err(bad(row, "under a node, or the root, which names itself"));
+        let (row, width, parent) = (self.rows.len(), width as usize, parent as usize);
+        if row == 0 && (class, parent) != (rows::NODE, 0) {
+            return Err(bad(row, "a node that names itself"));
         }
+        self.end_up_to((row > 0).then_some(parent))?;
         let (kind, tokens) = match class {
-            rows::NODE => (RowKind::Node(NodeKind::from_number(kind).ok_or(bad(row, "a node kind"))?), 0),
-            rows::LEAF => {
-                (RowKind::Leaf(TokenKind::from_number(kind).ok_or(bad(row, "a token kind"))?), count as usize)
-            }
+            rows::NODE => (NodeKind::from_number(kind).map(RowKind::Node), 0),
+            rows::LEAF => (TokenKind::from_number(kind).map(RowKind::Leaf), count as usize),
             _ => return Err(bad(row, "a node or a leaf")),
         };
-        let (start, token, width) = (self.byte, self.token, width as usize);
-        self.rows.push(Row { kind, start, width, parent, next: row + 1, token, tokens });
+        let kind = kind.ok_or(bad(row, "of a kind that there is"))?;
+        self.rows.push(Row { kind, start: self.byte, width, parent, next: row + 1, token: self.token, tokens });
         match kind {
-            RowKind::Node(_) => Ok(()),
-            RowKind::Leaf(_) => self.take(width, tokens).ok_or(bad(row, "a leaf of tokens")),
+            RowKind::Node(_) => self.open = Some(row),
+            RowKind::Leaf(_) => self.take(width, tokens).ok_or(bad(row, "a leaf of tokens"))?,
         }
+        Ok(())
     }
 
     /// Passes a leaf's tokens, whose lengths must add up to its width.
@@ -176,31 +177,35 @@ impl Reader<'_, '_> {
         (sum == width && tokens > 0).then_some(())
     }
 
-    /// Ends the last row and those above it, up to one that goes on; without that all, the root last.
-    fn end_up_to(&mut self, open: Option<usize>) -> Result<(), Error> {
-        let mut last = self.rows.len().checked_sub(1);
-        while last != open {
-            let row = last.ok_or(bad(self.rows.len(), "under the row before it or one above that"))?;
+    /// Ends open nodes, the innermost first, up to the parent of the next row; all of them where there is none.
+    fn end_up_to(&mut self, parent: Option<usize>) -> Result<(), Error> {
+        while self.open != parent {
+            let row = self.open.ok_or(bad(self.rows.len(), "under a node that has not ended"))?;
             self.end(row)?;
-            last = Some(self.rows[row].parent).filter(|_| row > 0);
+            self.open = (row > 0).then_some(self.rows[row].parent);
         }
         Ok(())
     }
 
-    /// Ends a row: no other lies below it.
     fn end(&mut self, row: usize) -> Result<(), Error> {
-        let RowKind::Node(_) = self.rows[row].kind else { return Ok(()) };
         let next = self.rows.len();
-        let children = std::iter::successors(Some(row + 1), |child| Some(self.rows[*child].next));
-        let children = children.take_while(|child| *child < next).count();
-        if children != TreeRow::from(self.given[row]).count as usize {
-            return Err(bad(row, "a node of as many children as name it"));
-        }
+        let children = side_by_side(&self.rows, row + 1, next).count();
         let node = &mut self.rows[row];
         node.next = next;
         node.tokens = self.token - node.token;
-        if node.width == self.byte - node.start { Ok(()) } else { Err(bad(row, "a node as wide as what is under it")) }
+        if children != TreeRow::from(self.given[row]).count as usize {
+            return Err(bad(row, "a node of as many children as name it"));
+        }
+        if node.width != self.byte - node.start {
+            return Err(bad(row, "a node as wide as what is under it"));
+        }
+        Ok(())
     }
+}
+
+/// The error for a row whose numbers cannot be.
+const fn bad(row: usize, expected: &'static str) -> Error {
+    Error::BadAnswer { what: "tree row", row: Some(row), expected }
 }
 
 impl fmt::Debug for Tree<'_> {
@@ -227,7 +232,7 @@ mod tests {
     use crate::Token;
 
     /// `a;` as SourceFile(DtProperty(Name, Semicolon)).
-    const ROWS: [[u32; TreeRow::SIZE]; 4] = [[0, 0, 2, 1], [0, 16, 2, 2], [1, 26, 1, 1], [1, 29, 1, 1]];
+    const ROWS: [[u32; TreeRow::SIZE]; 4] = [[0, 0, 2, 1, 0], [0, 16, 2, 2, 0], [1, 26, 1, 1, 1], [1, 29, 1, 1, 1]];
 
     fn input() -> Input<'static> {
         Input::new(b"a;", vec![Token::new(TokenKind::Ident, 1), Token::new(TokenKind::Semicolon, 1)])
@@ -258,5 +263,44 @@ mod tests {
                 }
             }
         }
+    }
+
+    #[test]
+    fn every_other_parent_is_refused() {
+        for (row, numbers) in ROWS.into_iter().enumerate() {
+            for parent in (0..9).chain([200, u32::MAX]) {
+                let mut rows = ROWS;
+                rows[row][4] = parent;
+                assert_eq!(Tree::read(&rows, &input()).is_ok(), parent == numbers[4], "{rows:?}");
+            }
+        }
+    }
+
+    #[test]
+    fn what_is_wrong_with_a_parent_is_said() {
+        let [root, property, name, semicolon] = ROWS;
+        let under = |parent, [class, kind, width, count, _]: [u32; TreeRow::SIZE]| [class, kind, width, count, parent];
+        let says = |rows: &[[u32; TreeRow::SIZE]], row: usize, what: &str| {
+            let said = Tree::read(rows, &input()).unwrap_err().to_string();
+            assert_eq!(said.strip_suffix(": the linked library is not the proved one").unwrap(), bad_row(row, what));
+        };
+        for root in [under(1, root), under(0, name)] {
+            says(&[root, property, name, semicolon], 0, "a node that names itself");
+        }
+        // the `;` under the Name, itself and the root, so that the property has one child
+        for parent in [2, 3, 0] {
+            says(&[root, property, name, under(parent, semicolon)], 1, "a node of as many children as name it");
+        }
+        // a property that has ended, and a node under it or past the rows
+        let rows = [[0, 0, 2, 2, 0], [0, 16, 1, 1, 0], name, under(0, semicolon)];
+        assert!(Tree::read(&rows, &input()).is_ok());
+        for parent in [1, 4, 9] {
+            let more = [rows.as_slice(), &[[0, 10, 0, 0, parent]]].concat();
+            says(&more, 4, "under a node that has not ended");
+        }
+    }
+
+    fn bad_row(row: usize, expected: &str) -> String {
+        format!("tree row {row} of the answer is not {expected}")
     }
 }

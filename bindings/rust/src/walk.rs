@@ -1,6 +1,6 @@
 //! Nodes and leaves of a tree, and the ways through it.
 
-use crate::tree::{Row, RowKind};
+use crate::tree::{Row, RowKind, side_by_side};
 use crate::{NodeKind, TextRange, TokenKind, Tree};
 use std::borrow::Cow;
 use std::fmt;
@@ -82,6 +82,15 @@ macro_rules! placed {
             }
 
             /// The nodes that it lies in, the nearest first and the root last. It is not one of them itself.
+            ///
+            /// ```
+            /// # use dt_parser::Entrypoint;
+            /// let parse = Entrypoint::SourceFile.parse_text(b"a{b;};")?.parse;
+            /// let name = parse.tree.leaf_at(2).expect("the `b`");
+            /// let above: Vec<String> = name.nodes_above().map(|node| node.to_string()).collect();
+            /// assert_eq!(above, ["DtProperty@2..4", "DtNode@0..6", "SourceFile@0..6"]);
+            /// # Ok::<(), dt_parser::TextError>(())
+            /// ```
             pub fn nodes_above(self) -> impl Iterator<Item = Node<'t>> + use<'t> {
                 std::iter::successors(self.parent(), |node| node.parent())
             }
@@ -119,10 +128,8 @@ impl<'t> Node<'t> {
 
     /// Its children, in order: nodes and leaves just below it.
     pub fn children(self) -> impl Iterator<Item = Item<'t>> + use<'t> {
-        let (tree, end) = (self.tree, self.data().next);
-        let within = move |row: usize| (row < end).then_some(row);
-        std::iter::successors(within(self.row + 1), move |row| within(tree.rows[*row].next))
-            .map(|row| tree.item_at_row(row))
+        let tree = self.tree;
+        side_by_side(&tree.rows, self.row + 1, self.data().next).map(|row| tree.item_at_row(row))
     }
 
     /// Its children that are nodes.
@@ -178,14 +185,18 @@ impl<'t> Node<'t> {
     /// Itself and all that lies below it, each with its depth below this node, which is 0 for itself. No recursion,
     /// however deep the tree is.
     pub fn walk(self) -> impl Iterator<Item = (Item<'t>, usize)> + use<'t> {
-        let mut ends: Vec<usize> = Vec::new();
-        let tree = self.tree;
-        (self.row..self.data().next).map(move |row| {
-            while ends.last().is_some_and(|end| *end <= row) {
-                ends.pop();
+        let (tree, first) = (self.tree, self.row);
+        let mut depth = 0;
+        (first..self.data().next).map(move |row| {
+            if row > first {
+                // the parent is the row before it or lies above that
+                let (parent, mut above) = (tree.rows[row].parent, row - 1);
+                depth += 1;
+                while above != parent {
+                    above = tree.rows[above].parent;
+                    depth -= 1;
+                }
             }
-            let depth = ends.len();
-            ends.push(tree.rows[row].next);
             (tree.item_at_row(row), depth)
         })
     }

@@ -1,7 +1,7 @@
 -- The statement's definitions, computed: on document 01's reading of `a;}` and `b,c;}`, on a richer pair of files, and
 -- on a pair in the strict setting.
 use mathlib.Core.Path.{_≡_, refl}
-use Prim.Native.Nat.{ℕ}
+use Prim.Native.Nat.{ℕ, suc, _+_}
 use native.Mathlib.Omega.{arith}
 use mathlib.Core.List.{List, [], _∷_}
 use lib.Dec.{leb}
@@ -9,7 +9,7 @@ use lib.ListN.{length, replicate}
 use Rattle.definitions.specs.Token.{tokens-of}
 use Rattle.definitions.specs.Call.{Buffers, call}
 use Rattle.rows.specs.ResultRows.{Row, mark, tree-rows, error-rows, report-rows, expectations, none, leaf, node, over-leaves}
-use Rattle.recovery.specs.Recovery.{File, result, is-statement, Semicolon, token-index, start-byte, Alike, those, later-error, later-report, pool-before, later-errors, later-reports, Pairwise, none as no-more, more, no-label, label, ErrorMoved, ReportMoved, places, Shared}
+use Rattle.recovery.specs.Recovery.{File, result, is-statement, Semicolon, token-index, start-byte, row-number, Alike, those, later-error, later-report, pool-before, later-errors, later-reports, Pairwise, none as no-more, more, no-label, label, root, row, TreeMoved, ErrorMoved, ReportMoved, places, Shared}
 use Rattle.recovery.proofs.Local.{stays-local}
 use Rattle.recovery.proofs.Witnesses.{first}
 
@@ -27,19 +27,19 @@ short = record { setting = 0; bytes = 97 ∷ 59 ∷ 125 ∷ []; tokens = 27 ∷ 
 abbrev long : File
 long = record { setting = 0; bytes = 98 ∷ 44 ∷ 99 ∷ 59 ∷ 125 ∷ []; tokens = 27 ∷ 1 ∷ 2 ∷ 1 ∷ 27 ∷ 1 ∷ 29 ∷ 1 ∷ 38 ∷ 1 ∷ []; buffers = lent 80 }
 
-abbrev stray : List Row
-stray = (0 ∷ 10 ∷ 1 ∷ 1 ∷ []) ∷ (1 ∷ 38 ∷ 1 ∷ 1 ∷ []) ∷ []
+abbrev stray : ℕ → List Row
+stray n = (0 ∷ 10 ∷ 1 ∷ 1 ∷ 0 ∷ []) ∷ (1 ∷ 38 ∷ 1 ∷ 1 ∷ n ∷ []) ∷ []
 
 unfoldable in-short : Semicolon (tree-rows (result short))
 unfolding tree-rows call is-statement
 in-short =
     record {
-      root = (0 ∷ 0 ∷ 3 ∷ 2 ∷ []);
+      root = (0 ∷ 0 ∷ 3 ∷ 2 ∷ 0 ∷ []);
       before = [];
-      part = (0 ∷ 16 ∷ 2 ∷ 2 ∷ []);
-      inside = (1 ∷ 26 ∷ 1 ∷ 1 ∷ []) ∷ [];
-      leaf = (1 ∷ 29 ∷ 1 ∷ 1 ∷ []);
-      later = stray;
+      part = (0 ∷ 16 ∷ 2 ∷ 2 ∷ 0 ∷ []);
+      inside = (1 ∷ 26 ∷ 1 ∷ 1 ∷ 1 ∷ []) ∷ [];
+      leaf = (1 ∷ 29 ∷ 1 ∷ 1 ∷ 1 ∷ []);
+      later = stray 4;
       is = refl;
       parts-before = 0;
       before-whole = none;
@@ -56,12 +56,12 @@ unfoldable in-long : Semicolon (tree-rows (result long))
 unfolding tree-rows call is-statement
 in-long =
     record {
-      root = (0 ∷ 0 ∷ 5 ∷ 2 ∷ []);
+      root = (0 ∷ 0 ∷ 5 ∷ 2 ∷ 0 ∷ []);
       before = [];
-      part = (0 ∷ 16 ∷ 4 ∷ 2 ∷ []);
-      inside = (1 ∷ 26 ∷ 3 ∷ 3 ∷ []) ∷ [];
-      leaf = (1 ∷ 29 ∷ 1 ∷ 1 ∷ []);
-      later = stray;
+      part = (0 ∷ 16 ∷ 4 ∷ 2 ∷ 0 ∷ []);
+      inside = (1 ∷ 26 ∷ 3 ∷ 3 ∷ 1 ∷ []) ∷ [];
+      leaf = (1 ∷ 29 ∷ 1 ∷ 1 ∷ 1 ∷ []);
+      later = stray 4;
       is = refl;
       parts-before = 0;
       before-whole = none;
@@ -116,19 +116,19 @@ two =
       buffers = lent 220;
     }
 
-abbrev rest : List Row
-rest = (1 ∷ 0 ∷ 1 ∷ 1 ∷ []) ∷ (0 ∷ 10 ∷ 1 ∷ 1 ∷ []) ∷ (1 ∷ 25 ∷ 1 ∷ 1 ∷ []) ∷ (0 ∷ 15 ∷ 5 ∷ 3 ∷ []) ∷ (1 ∷ 46 ∷ 1 ∷ 1 ∷ []) ∷ (1 ∷ 37 ∷ 1 ∷ 1 ∷ []) ∷ (0 ∷ 16 ∷ 3 ∷ 3 ∷ []) ∷ (1 ∷ 26 ∷ 1 ∷ 1 ∷ []) ∷ (1 ∷ 28 ∷ 1 ∷ 1 ∷ []) ∷ (0 ∷ 20 ∷ 1 ∷ 1 ∷ []) ∷ (0 ∷ 10 ∷ 1 ∷ 1 ∷ []) ∷ (1 ∷ 29 ∷ 1 ∷ 1 ∷ []) ∷ []
+abbrev rest : ℕ → List Row
+rest n = (1 ∷ 0 ∷ 1 ∷ 1 ∷ 0 ∷ []) ∷ (0 ∷ 10 ∷ 1 ∷ 1 ∷ 0 ∷ []) ∷ (1 ∷ 25 ∷ 1 ∷ 1 ∷ (n + 1) ∷ []) ∷ (0 ∷ 15 ∷ 5 ∷ 3 ∷ 0 ∷ []) ∷ (1 ∷ 46 ∷ 1 ∷ 1 ∷ (n + 3) ∷ []) ∷ (1 ∷ 37 ∷ 1 ∷ 1 ∷ (n + 3) ∷ []) ∷ (0 ∷ 16 ∷ 3 ∷ 3 ∷ (n + 3) ∷ []) ∷ (1 ∷ 26 ∷ 1 ∷ 1 ∷ (n + 6) ∷ []) ∷ (1 ∷ 28 ∷ 1 ∷ 1 ∷ (n + 6) ∷ []) ∷ (0 ∷ 20 ∷ 1 ∷ 1 ∷ (n + 6) ∷ []) ∷ (0 ∷ 10 ∷ 1 ∷ 1 ∷ (n + 9) ∷ []) ∷ (1 ∷ 29 ∷ 1 ∷ 1 ∷ (n + 10) ∷ []) ∷ []
 
 unfoldable in-one : Semicolon (tree-rows (result one))
 unfolding tree-rows call is-statement
 in-one =
     record {
-      root = (0 ∷ 0 ∷ 22 ∷ 4 ∷ []);
+      root = (0 ∷ 0 ∷ 22 ∷ 4 ∷ 0 ∷ []);
       before = [];
-      part = (0 ∷ 11 ∷ 15 ∷ 4 ∷ []);
-      inside = (1 ∷ 20 ∷ 12 ∷ 1 ∷ []) ∷ (1 ∷ 0 ∷ 1 ∷ 1 ∷ []) ∷ (0 ∷ 12 ∷ 1 ∷ 1 ∷ []) ∷ (1 ∷ 35 ∷ 1 ∷ 1 ∷ []) ∷ [];
-      leaf = (1 ∷ 29 ∷ 1 ∷ 1 ∷ []);
-      later = rest;
+      part = (0 ∷ 11 ∷ 15 ∷ 4 ∷ 0 ∷ []);
+      inside = (1 ∷ 20 ∷ 12 ∷ 1 ∷ 1 ∷ []) ∷ (1 ∷ 0 ∷ 1 ∷ 1 ∷ 1 ∷ []) ∷ (0 ∷ 12 ∷ 1 ∷ 1 ∷ 1 ∷ []) ∷ (1 ∷ 35 ∷ 1 ∷ 1 ∷ 4 ∷ []) ∷ [];
+      leaf = (1 ∷ 29 ∷ 1 ∷ 1 ∷ 1 ∷ []);
+      later = rest 7;
       is = refl;
       parts-before = 0;
       before-whole = none;
@@ -145,12 +145,12 @@ unfoldable in-two : Semicolon (tree-rows (result two))
 unfolding tree-rows call is-statement
 in-two =
     record {
-      root = (0 ∷ 0 ∷ 17 ∷ 5 ∷ []);
-      before = (0 ∷ 10 ∷ 1 ∷ 1 ∷ []) ∷ (1 ∷ 25 ∷ 1 ∷ 1 ∷ []) ∷ [];
-      part = (0 ∷ 16 ∷ 9 ∷ 4 ∷ []);
-      inside = (1 ∷ 26 ∷ 1 ∷ 1 ∷ []) ∷ (1 ∷ 28 ∷ 1 ∷ 1 ∷ []) ∷ (0 ∷ 20 ∷ 6 ∷ 2 ∷ []) ∷ (1 ∷ 33 ∷ 3 ∷ 1 ∷ []) ∷ (1 ∷ 33 ∷ 3 ∷ 1 ∷ []) ∷ [];
-      leaf = (1 ∷ 29 ∷ 1 ∷ 1 ∷ []);
-      later = rest;
+      root = (0 ∷ 0 ∷ 17 ∷ 5 ∷ 0 ∷ []);
+      before = (0 ∷ 10 ∷ 1 ∷ 1 ∷ 0 ∷ []) ∷ (1 ∷ 25 ∷ 1 ∷ 1 ∷ 1 ∷ []) ∷ [];
+      part = (0 ∷ 16 ∷ 9 ∷ 4 ∷ 0 ∷ []);
+      inside = (1 ∷ 26 ∷ 1 ∷ 1 ∷ 3 ∷ []) ∷ (1 ∷ 28 ∷ 1 ∷ 1 ∷ 3 ∷ []) ∷ (0 ∷ 20 ∷ 6 ∷ 2 ∷ 3 ∷ []) ∷ (1 ∷ 33 ∷ 3 ∷ 1 ∷ 6 ∷ []) ∷ (1 ∷ 33 ∷ 3 ∷ 1 ∷ 6 ∷ []) ∷ [];
+      leaf = (1 ∷ 29 ∷ 1 ∷ 1 ∷ 3 ∷ []);
+      later = rest 10;
       is = refl;
       parts-before = 1;
       before-whole = node refl (leaf refl none) none;
@@ -163,9 +163,11 @@ in-two =
       leaf-kind = refl;
     }
 
-places-found : (token-index in-one ≡ 3) × (start-byte in-one ≡ 14) × (token-index in-two ≡ 5) × (start-byte in-two ≡ 9)
-unfolding token-index start-byte over-leaves in-one in-two
-places-found = (refl, refl, refl, refl)
+places-found :
+    ((token-index in-one ≡ 3) × (start-byte in-one ≡ 14) × (row-number in-one ≡ 6))
+    × (token-index in-two ≡ 5) × (start-byte in-two ≡ 9) × (row-number in-two ≡ 9)
+unfolding token-index start-byte row-number over-leaves in-one in-two
+places-found = ((refl, refl, refl), refl, refl, refl)
 
 alike : Alike one two in-one in-two
 unfolding token-index start-byte over-leaves tokens-of in-one in-two
@@ -200,6 +202,30 @@ later-in-one = (refl, refl, refl, refl)
 later-in-two : (later-errors two in-two ≡ errors-two) × (later-reports two in-two ≡ reports-two) × (expectations (result two) ≡ pool-two) × (places two in-two ≡ record { byte = 9; index = 5; pool-place = 13 })
 unfolding those later-error later-report pool-before token-index start-byte over-leaves error-rows report-rows expectations call in-two
 later-in-two = (refl, refl, refl, refl)
+
+-- the same rows from number 7 on and from 10 on, row by row: a parent moves by 3, and the root stays
+top : (c k w n : ℕ) → TreeMoved 6 9 (c ∷ k ∷ w ∷ n ∷ 0 ∷ []) (c ∷ k ∷ w ∷ n ∷ 0 ∷ [])
+top c k w n = record { same-class = refl; same-kind = refl; same-width = refl; same-count = refl; parent-moves = root refl refl }
+
+below : (c k w n p : ℕ) → TreeMoved 6 9 (c ∷ k ∷ w ∷ n ∷ suc p ∷ []) (c ∷ k ∷ w ∷ n ∷ suc p + 3 ∷ [])
+below c k w n p =
+    record { same-class = refl; same-kind = refl; same-width = refl; same-count = refl; parent-moves = row (λ e. omega (arith, e)) (λ e. omega (arith, e)) (omega arith) }
+
+rows-moved : Pairwise (TreeMoved 6 9) (in-one .later) (in-two .later)
+unfolding in-one in-two
+rows-moved =
+    more (top 1 0 1 1)
+    (more (top 0 10 1 1)
+    (more (below 1 25 1 1 7)
+    (more (top 0 15 5 3)
+    (more (below 1 46 1 1 9)
+    (more (below 1 37 1 1 9)
+    (more (below 0 16 3 3 9)
+    (more (below 1 26 1 1 12)
+    (more (below 1 28 1 1 12)
+    (more (below 0 20 1 1 12)
+    (more (below 0 10 1 1 15)
+    (more (below 1 29 1 1 16) no-more)))))))))))
 
 -- these lists are what the promise says, number by number
 errors-moved : Pairwise (ErrorMoved 14 9) errors-one errors-two
@@ -264,16 +290,16 @@ mistaken =
       buffers = lent 200;
     }
 
-abbrev labelled-node : List Row
-labelled-node = (0 ∷ 15 ∷ 16 ∷ 6 ∷ []) ∷ (0 ∷ 19 ∷ 3 ∷ 2 ∷ []) ∷ (1 ∷ 26 ∷ 2 ∷ 2 ∷ []) ∷ (1 ∷ 31 ∷ 1 ∷ 1 ∷ []) ∷ (1 ∷ 26 ∷ 1 ∷ 1 ∷ []) ∷ (1 ∷ 37 ∷ 1 ∷ 1 ∷ []) ∷ (0 ∷ 16 ∷ 9 ∷ 4 ∷ []) ∷ (1 ∷ 26 ∷ 1 ∷ 1 ∷ []) ∷ (1 ∷ 28 ∷ 1 ∷ 1 ∷ []) ∷ (0 ∷ 20 ∷ 6 ∷ 2 ∷ []) ∷ (1 ∷ 33 ∷ 3 ∷ 1 ∷ []) ∷ (1 ∷ 33 ∷ 3 ∷ 1 ∷ []) ∷ (1 ∷ 29 ∷ 1 ∷ 1 ∷ []) ∷ (1 ∷ 38 ∷ 1 ∷ 1 ∷ []) ∷ (1 ∷ 29 ∷ 1 ∷ 1 ∷ []) ∷ []
+abbrev labelled-node : ℕ → List Row
+labelled-node n = (0 ∷ 15 ∷ 16 ∷ 6 ∷ 0 ∷ []) ∷ (0 ∷ 19 ∷ 3 ∷ 2 ∷ n ∷ []) ∷ (1 ∷ 26 ∷ 2 ∷ 2 ∷ (n + 1) ∷ []) ∷ (1 ∷ 31 ∷ 1 ∷ 1 ∷ (n + 1) ∷ []) ∷ (1 ∷ 26 ∷ 1 ∷ 1 ∷ n ∷ []) ∷ (1 ∷ 37 ∷ 1 ∷ 1 ∷ n ∷ []) ∷ (0 ∷ 16 ∷ 9 ∷ 4 ∷ n ∷ []) ∷ (1 ∷ 26 ∷ 1 ∷ 1 ∷ (n + 6) ∷ []) ∷ (1 ∷ 28 ∷ 1 ∷ 1 ∷ (n + 6) ∷ []) ∷ (0 ∷ 20 ∷ 6 ∷ 2 ∷ (n + 6) ∷ []) ∷ (1 ∷ 33 ∷ 3 ∷ 1 ∷ (n + 9) ∷ []) ∷ (1 ∷ 33 ∷ 3 ∷ 1 ∷ (n + 9) ∷ []) ∷ (1 ∷ 29 ∷ 1 ∷ 1 ∷ (n + 6) ∷ []) ∷ (1 ∷ 38 ∷ 1 ∷ 1 ∷ n ∷ []) ∷ (1 ∷ 29 ∷ 1 ∷ 1 ∷ n ∷ []) ∷ []
 
 unfoldable in-plain : Semicolon (tree-rows (result plain))
 unfolding tree-rows call is-statement
-in-plain = first (0 ∷ 0 ∷ 20 ∷ 2 ∷ []) (0 ∷ 15 ∷ 4 ∷ 4 ∷ []) ((1 ∷ 46 ∷ 1 ∷ 1 ∷ []) ∷ (1 ∷ 37 ∷ 1 ∷ 1 ∷ []) ∷ (1 ∷ 38 ∷ 1 ∷ 1 ∷ []) ∷ []) labelled-node 3 refl refl refl (leaf refl (leaf refl (leaf refl none))) refl
+in-plain = first (0 ∷ 0 ∷ 20 ∷ 2 ∷ 0 ∷ []) (0 ∷ 15 ∷ 4 ∷ 4 ∷ 0 ∷ []) ((1 ∷ 46 ∷ 1 ∷ 1 ∷ 1 ∷ []) ∷ (1 ∷ 37 ∷ 1 ∷ 1 ∷ 1 ∷ []) ∷ (1 ∷ 38 ∷ 1 ∷ 1 ∷ 1 ∷ []) ∷ []) (labelled-node 6) 3 refl refl refl (leaf refl (leaf refl (leaf refl none))) refl
 
 unfoldable in-mistaken : Semicolon (tree-rows (result mistaken))
 unfolding tree-rows call is-statement
-in-mistaken = first (0 ∷ 0 ∷ 28 ∷ 2 ∷ []) (0 ∷ 16 ∷ 12 ∷ 5 ∷ []) ((0 ∷ 19 ∷ 3 ∷ 2 ∷ []) ∷ (1 ∷ 26 ∷ 2 ∷ 2 ∷ []) ∷ (1 ∷ 31 ∷ 1 ∷ 1 ∷ []) ∷ (1 ∷ 26 ∷ 1 ∷ 1 ∷ []) ∷ (1 ∷ 28 ∷ 1 ∷ 1 ∷ []) ∷ (0 ∷ 20 ∷ 6 ∷ 2 ∷ []) ∷ (1 ∷ 33 ∷ 3 ∷ 1 ∷ []) ∷ (1 ∷ 33 ∷ 3 ∷ 1 ∷ []) ∷ []) labelled-node 4 refl refl refl (node refl (leaf refl (leaf refl none)) (leaf refl (leaf refl (node refl (leaf refl (leaf refl none)) none)))) refl
+in-mistaken = first (0 ∷ 0 ∷ 28 ∷ 2 ∷ 0 ∷ []) (0 ∷ 16 ∷ 12 ∷ 5 ∷ 0 ∷ []) ((0 ∷ 19 ∷ 3 ∷ 2 ∷ 1 ∷ []) ∷ (1 ∷ 26 ∷ 2 ∷ 2 ∷ 2 ∷ []) ∷ (1 ∷ 31 ∷ 1 ∷ 1 ∷ 2 ∷ []) ∷ (1 ∷ 26 ∷ 1 ∷ 1 ∷ 1 ∷ []) ∷ (1 ∷ 28 ∷ 1 ∷ 1 ∷ 1 ∷ []) ∷ (0 ∷ 20 ∷ 6 ∷ 2 ∷ 1 ∷ []) ∷ (1 ∷ 33 ∷ 3 ∷ 1 ∷ 7 ∷ []) ∷ (1 ∷ 33 ∷ 3 ∷ 1 ∷ 7 ∷ []) ∷ []) (labelled-node 11) 4 refl refl refl (node refl (leaf refl (leaf refl none)) (leaf refl (leaf refl (node refl (leaf refl (leaf refl none)) none)))) refl
 
 strict-alike : Alike plain mistaken in-plain in-mistaken
 unfolding token-index start-byte over-leaves tokens-of in-plain in-mistaken

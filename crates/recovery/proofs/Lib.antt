@@ -10,8 +10,8 @@
 -- 4. Reports have places inside the file, counted from the end (`Inside`), and the Names that the strict setting
 --    reports after the semicolon are those that the later tokens have by themselves, moved (`NamesApart`). So one file
 --    can be taken apart at the semicolon (`Tail`, `tail`).
--- 5. Two files: which errors and reports are later, and how they move (`LaterErrors`, `LaterReports`, `LaterNames`);
---    all joined: `Local`, `stays-local`.
+-- 5. Two files: which errors and reports are later, and how they move (`LaterErrors`, `LaterReports`, `LaterNames`), and
+--    how the parents of the later rows do (`LaterRows`); all joined: `Local`, `stays-local`.
 -- 6. What guards the statement: `Examples` (computed), `Witnesses` (its premises can be met), `Refutations` (wrong rows
 --    do not pass).
 pub mod Analysis
@@ -30,6 +30,7 @@ pub mod Tail
 pub mod LaterErrors
 pub mod LaterReports
 pub mod LaterNames
+pub mod LaterRows
 pub mod Local
 pub mod Examples
 pub mod Witnesses

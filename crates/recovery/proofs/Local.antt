@@ -12,13 +12,14 @@ use Rattle.definitions.specs.Strict.{Name-at}
 use Rattle.definitions.specs.Call.{run-entry, names-of}
 use Rattle.laws.proofs.Skeleton.{bytes-append, pool-append}
 use Rattle.rows.specs.ResultRows.{Row, tree-rows, report-rows, expectations, mark}
-use Rattle.recovery.specs.Recovery.{File, result, Accepted, Semicolon, token-index, start-byte, those, later-error, later-report, pool-before, Moved, Pairwise, ErrorMoved, ReportMoved, later-errors, later-reports, places, Stays-local}
+use Rattle.recovery.specs.Recovery.{File, result, Accepted, Semicolon, token-index, start-byte, row-number, those, later-error, later-report, pool-before, Moved, Pairwise, TreeMoved, ErrorMoved, ReportMoved, later-errors, later-reports, places, Stays-local}
 use Rattle.recovery.proofs.Told.{All, all-map, told}
 use Rattle.recovery.proofs.Inside.{Inside, entry-inside}
 use Rattle.recovery.proofs.Turns.{children}
 use Rattle.rows.proofs.Written.{rows-of}
 use Rattle.recovery.proofs.Written.{errors-of, reports-of, name-rows, file-tokens, told-of, Wrote, wrote}
 use Rattle.recovery.proofs.Tail.{Tail, tail}
+use Rattle.recovery.proofs.LaterRows.{stays, rows-moved}
 use Rattle.recovery.proofs.LaterErrors.{those-append, errors-later, errors-moved}
 use Rattle.recovery.proofs.NamesApart.{shift, names-same, Names-apart}
 use Rattle.recovery.proofs.LaterReports.{reports-later, reports-before, reports-moved}
@@ -42,7 +43,7 @@ late-rows i p early rest l =
 -- what one file has after its semicolon
 pub record Later (f : File) (s : Semicolon (tree-rows (result f))) (rest : List Token) : Type 0 where
   pub tokens-after : drop (suc (token-index s)) (file-tokens f) ≡ rest
-  pub parts : s .later ≡ rows-of (children (run-entry SourceFile rest) rest)
+  pub parts : s .later ≡ rows-of 0 (suc (row-number s)) (children (run-entry SourceFile rest) rest)
   pub errors : later-errors f s ≡ errors-of (suc (start-byte s)) rest
   pub early : List ℕ
   pub reports : later-reports f s ≡ late-rows (token-index s) (start-byte s) early rest (own-names f (start-byte s) rest)
@@ -107,7 +108,10 @@ stays-local f g S hf hg a b A =
     let same-names : own-names g (start-byte b) us ≡ names = names-same (g .setting) (f .setting) (drop (suc (start-byte b)) (g .bytes)) (drop (suc (start-byte a)) (f .bytes)) us (sym S) (sym (A .same-bytes)) in
     let after : Moved (places f a .pool-place) (places g b .pool-place) (length (X .early ++ pool late)) (length (Y .early ++ pool late)) = omega (arith, length-append (X .early) (pool late), length-append (Y .early) (pool late)) in
     record {
-      parts = X .parts ∙ sym (Y .parts);
+      parts =
+          subst (λ l. Pairwise (TreeMoved (row-number a) (row-number b)) l (b .later)) (sym (X .parts))
+          (subst (Pairwise (TreeMoved (row-number a) (row-number b)) _) (sym (Y .parts))
+          (rows-moved (row-number a) (row-number b) (children (run-entry SourceFile us) us) 0 0 (suc (row-number a)) (suc (row-number b)) (stays refl refl) (omega arith) (omega arith) (omega arith)));
       errors = subst (λ l. Pairwise (ErrorMoved (start-byte a) (start-byte b)) l (later-errors g b)) (sym (X .errors)) (subst (Pairwise (ErrorMoved (start-byte a) (start-byte b)) (errors-of (suc (start-byte a)) us)) (sym (Y .errors)) (errors-moved (start-byte a) (start-byte b) (suc (start-byte a)) (suc (start-byte b)) (omega arith) us));
       reports =
           subst (λ l. Pairwise (ReportMoved (places f a) (places g b) p q) l (later-reports g b)) (sym (X .reports))

@@ -9,8 +9,8 @@ use mathlib.Core.Logic.{_⊎_, inl, inr}
 use lib.ListN.{length, getD}
 use Rattle.definitions.specs.Token.{one-of}
 use Rattle.definitions.specs.Call.{call}
-use Rattle.rows.specs.ResultRows.{Row, tree-rows, error-rows, report-rows, leaf, none as none-inside, over-leaves, label-start, label-end}
-use Rattle.recovery.specs.Recovery.{File, result, is-statement, Semicolon, token-index, start-byte, those, later-error, later-report, Shared, Moved, Pairwise, none, more, ErrorMoved, LabelMoved, no-label, label, ReportMoved}
+use Rattle.rows.specs.ResultRows.{Row, tree-rows, error-rows, report-rows, leaf, none as none-inside, over-leaves, label-start, label-end, parent}
+use Rattle.recovery.specs.Recovery.{File, result, is-statement, Semicolon, token-index, start-byte, those, later-error, later-report, Shared, Moved, Pairwise, none, more, ParentMoved, root, row, TreeMoved, ErrorMoved, LabelMoved, no-label, label, ReportMoved}
 use Rattle.recovery.proofs.Witnesses.{lent, first}
 
 -- ---------------------------------------------------------------- which statements
@@ -40,6 +40,68 @@ invented e = let n = as-many e in omega arith
 -- and each to each
 first-of : {R : Row → Row → Type 0} {x y : Row} {l m : List Row} → Pairwise R (x ∷ l) (y ∷ m) → R x y
 first-of (more r e) = r
+
+rest-of : {R : Row → Row → Type 0} {x y : Row} {l m : List Row} → Pairwise R (x ∷ l) (y ∷ m) → Pairwise R l m
+rest-of (more r e) = e
+
+-- ---------------------------------------------------------------- tree rows
+
+-- all that can be said of two parents: both the root, or neither, and moved
+abbrev Two-parents : ℕ → ℕ → ℕ → ℕ → Type 0
+Two-parents a b p q = ((p ≡ 0) × (q ≡ 0)) ⊎ ((p ≡ 0 → ⊥) × (q ≡ 0 → ⊥) × Moved a b p q)
+
+two-parents : {a b : ℕ} {x y : Row} → ParentMoved a b x y → Two-parents a b (parent x) (parent y)
+two-parents (root p q) = inl (p, q)
+two-parents (row p q m) = inr (p, q, m)
+
+-- a leaf under a row
+abbrev under : ℕ → Row
+under p = 1 ∷ 38 ∷ 1 ∷ 1 ∷ p ∷ []
+
+-- under row 8, where the semicolon of one file is row 6 and that of the other row 9
+abbrev Row-is : Row → Type 0
+Row-is = TreeMoved 6 9 (under 8)
+
+right-row : Row-is (under 11)
+right-row = record { same-class = refl; same-kind = refl; same-width = refl; same-count = refl; parent-moves = row (λ e. omega (arith, e)) (λ e. omega (arith, e)) refl }
+
+another-class : Row-is (0 ∷ 38 ∷ 1 ∷ 1 ∷ 11 ∷ []) → ⊥
+another-class r = omega (arith, r .same-class)
+
+another-kind : Row-is (1 ∷ 37 ∷ 1 ∷ 1 ∷ 11 ∷ []) → ⊥
+another-kind r = omega (arith, r .same-kind)
+
+another-width : Row-is (1 ∷ 38 ∷ 2 ∷ 1 ∷ 11 ∷ []) → ⊥
+another-width r = omega (arith, r .same-width)
+
+another-count : Row-is (1 ∷ 38 ∷ 1 ∷ 2 ∷ 11 ∷ []) → ⊥
+another-count r = omega (arith, r .same-count)
+
+-- not where it was, not moved the other way, and not the root
+parent-stays : Row-is (under 8) → ⊥
+parent-stays r = go (two-parents (r .parent-moves)) where
+  go : Two-parents 6 9 8 8 → ⊥
+  go (inl z) = omega arith
+  go (inr m) = omega arith
+
+parent-backwards : Row-is (under 5) → ⊥
+parent-backwards r = go (two-parents (r .parent-moves)) where
+  go : Two-parents 6 9 8 5 → ⊥
+  go (inl z) = omega arith
+  go (inr m) = omega arith
+
+parent-lost : Row-is (under 0) → ⊥
+parent-lost r = go (two-parents (r .parent-moves)) where
+  go : Two-parents 6 9 8 0 → ⊥
+  go (inl z) = omega arith
+  go (inr m) = m .1 refl
+
+-- "a parent which is the root stays 0"
+root-moved : TreeMoved 6 9 (under 0) (under 3) → ⊥
+root-moved r = go (two-parents (r .parent-moves)) where
+  go : Two-parents 6 9 0 3 → ⊥
+  go (inl z) = omega arith
+  go (inr m) = m .0 refl
 
 -- ---------------------------------------------------------------- lexical errors
 
@@ -190,37 +252,37 @@ by-position e = omega (arith, first-of e .same-message)
 abbrev with-last : ℕ → ℕ → File
 with-last b k = record { setting = 0; bytes = 97 ∷ 59 ∷ b ∷ []; tokens = 27 ∷ 1 ∷ 29 ∷ 1 ∷ k ∷ 1 ∷ []; buffers = lent 60 }
 
-abbrev its-semicolon : (f : File) (later : List Row) → tree-rows (result f) ≡ (0 ∷ 0 ∷ 3 ∷ 2 ∷ []) ∷ (0 ∷ 16 ∷ 2 ∷ 2 ∷ []) ∷ (1 ∷ 26 ∷ 1 ∷ 1 ∷ []) ∷ (1 ∷ 29 ∷ 1 ∷ 1 ∷ []) ∷ later → Semicolon (tree-rows (result f))
+abbrev its-semicolon : (f : File) (later : List Row) → tree-rows (result f) ≡ (0 ∷ 0 ∷ 3 ∷ 2 ∷ 0 ∷ []) ∷ (0 ∷ 16 ∷ 2 ∷ 2 ∷ 0 ∷ []) ∷ (1 ∷ 26 ∷ 1 ∷ 1 ∷ 1 ∷ []) ∷ (1 ∷ 29 ∷ 1 ∷ 1 ∷ 1 ∷ []) ∷ later → Semicolon (tree-rows (result f))
 unfolding is-statement
-its-semicolon f later e = first (0 ∷ 0 ∷ 3 ∷ 2 ∷ []) (0 ∷ 16 ∷ 2 ∷ 2 ∷ []) ((1 ∷ 26 ∷ 1 ∷ 1 ∷ []) ∷ []) later 1 e refl refl (leaf refl none-inside) refl
+its-semicolon f later e = first (0 ∷ 0 ∷ 3 ∷ 2 ∷ 0 ∷ []) (0 ∷ 16 ∷ 2 ∷ 2 ∷ 0 ∷ []) ((1 ∷ 26 ∷ 1 ∷ 1 ∷ 1 ∷ []) ∷ []) later 1 e refl refl (leaf refl none-inside) refl
 
 abbrev in-error : List Row → List Row
-in-error l = (0 ∷ 10 ∷ 1 ∷ 1 ∷ []) ∷ l
+in-error l = (0 ∷ 10 ∷ 1 ∷ 1 ∷ 0 ∷ []) ∷ l
 
 brace : Semicolon (tree-rows (result (with-last 125 38)))
 unfolding tree-rows call
-brace = its-semicolon (with-last 125 38) (in-error ((1 ∷ 38 ∷ 1 ∷ 1 ∷ []) ∷ [])) refl
+brace = its-semicolon (with-last 125 38) (in-error ((1 ∷ 38 ∷ 1 ∷ 1 ∷ 4 ∷ []) ∷ [])) refl
 
 bracket : Semicolon (tree-rows (result (with-last 41 42)))
 unfolding tree-rows call
-bracket = its-semicolon (with-last 41 42) (in-error ((1 ∷ 42 ∷ 1 ∷ 1 ∷ []) ∷ [])) refl
+bracket = its-semicolon (with-last 41 42) (in-error ((1 ∷ 42 ∷ 1 ∷ 1 ∷ 4 ∷ []) ∷ [])) refl
 
 blank : Semicolon (tree-rows (result (with-last 32 0)))
 unfolding tree-rows call
-blank = its-semicolon (with-last 32 0) ((1 ∷ 0 ∷ 1 ∷ 1 ∷ []) ∷ []) refl
+blank = its-semicolon (with-last 32 0) ((1 ∷ 0 ∷ 1 ∷ 1 ∷ 0 ∷ []) ∷ []) refl
 
 error-74 : Semicolon (tree-rows (result (with-last 96 74)))
 unfolding tree-rows call
-error-74 = its-semicolon (with-last 96 74) (in-error ((1 ∷ 25 ∷ 1 ∷ 1 ∷ []) ∷ [])) refl
+error-74 = its-semicolon (with-last 96 74) (in-error ((1 ∷ 25 ∷ 1 ∷ 1 ∷ 4 ∷ []) ∷ [])) refl
 
 error-73 : Semicolon (tree-rows (result (with-last 96 73)))
 unfolding tree-rows call
-error-73 = its-semicolon (with-last 96 73) (in-error ((1 ∷ 25 ∷ 1 ∷ 1 ∷ []) ∷ [])) refl
+error-73 = its-semicolon (with-last 96 73) (in-error ((1 ∷ 25 ∷ 1 ∷ 1 ∷ 4 ∷ []) ∷ [])) refl
 
 -- `}` and `)` are other parts
 other-parts : Shared (with-last 125 38) (with-last 41 42) brace bracket → ⊥
 unfolding its-semicolon brace bracket
-other-parts s = let n : _≡_ {A = ℕ} 38 42 = ap (λ (l : List Row). getD (getD l 1 []) 1 0) (s .parts) in omega arith
+other-parts s = omega (arith, first-of (rest-of (s .parts)) .same-kind)
 
 -- two errors of the lexer are two lexical errors, though the parts are the same
 other-errors : Shared (with-last 96 74) (with-last 96 73) error-74 error-73 → ⊥
@@ -238,11 +300,11 @@ with-label s b =
     record { setting = s; bytes = 97 ∷ 59 ∷ b ∷ 97 ∷ 58 ∷ 98 ∷ 123 ∷ 125 ∷ 59 ∷ []; tokens = 27 ∷ 1 ∷ 29 ∷ 1 ∷ 27 ∷ 2 ∷ 31 ∷ 1 ∷ 27 ∷ 1 ∷ 37 ∷ 1 ∷ 38 ∷ 1 ∷ 29 ∷ 1 ∷ []; buffers = lent 80 }
 
 abbrev its-node : List Row
-its-node = (0 ∷ 15 ∷ 7 ∷ 5 ∷ []) ∷ (0 ∷ 19 ∷ 3 ∷ 2 ∷ []) ∷ (1 ∷ 26 ∷ 2 ∷ 1 ∷ []) ∷ (1 ∷ 31 ∷ 1 ∷ 1 ∷ []) ∷ (1 ∷ 26 ∷ 1 ∷ 1 ∷ []) ∷ (1 ∷ 37 ∷ 1 ∷ 1 ∷ []) ∷ (1 ∷ 38 ∷ 1 ∷ 1 ∷ []) ∷ (1 ∷ 29 ∷ 1 ∷ 1 ∷ []) ∷ []
+its-node = (0 ∷ 15 ∷ 7 ∷ 5 ∷ 0 ∷ []) ∷ (0 ∷ 19 ∷ 3 ∷ 2 ∷ 4 ∷ []) ∷ (1 ∷ 26 ∷ 2 ∷ 1 ∷ 5 ∷ []) ∷ (1 ∷ 31 ∷ 1 ∷ 1 ∷ 5 ∷ []) ∷ (1 ∷ 26 ∷ 1 ∷ 1 ∷ 4 ∷ []) ∷ (1 ∷ 37 ∷ 1 ∷ 1 ∷ 4 ∷ []) ∷ (1 ∷ 38 ∷ 1 ∷ 1 ∷ 4 ∷ []) ∷ (1 ∷ 29 ∷ 1 ∷ 1 ∷ 4 ∷ []) ∷ []
 
-abbrev before-label : (f : File) → tree-rows (result f) ≡ (0 ∷ 0 ∷ 9 ∷ 2 ∷ []) ∷ (0 ∷ 16 ∷ 2 ∷ 2 ∷ []) ∷ (1 ∷ 26 ∷ 1 ∷ 1 ∷ []) ∷ (1 ∷ 29 ∷ 1 ∷ 1 ∷ []) ∷ its-node → Semicolon (tree-rows (result f))
+abbrev before-label : (f : File) → tree-rows (result f) ≡ (0 ∷ 0 ∷ 9 ∷ 2 ∷ 0 ∷ []) ∷ (0 ∷ 16 ∷ 2 ∷ 2 ∷ 0 ∷ []) ∷ (1 ∷ 26 ∷ 1 ∷ 1 ∷ 1 ∷ []) ∷ (1 ∷ 29 ∷ 1 ∷ 1 ∷ 1 ∷ []) ∷ its-node → Semicolon (tree-rows (result f))
 unfolding is-statement
-before-label f e = first (0 ∷ 0 ∷ 9 ∷ 2 ∷ []) (0 ∷ 16 ∷ 2 ∷ 2 ∷ []) ((1 ∷ 26 ∷ 1 ∷ 1 ∷ []) ∷ []) its-node 1 e refl refl (leaf refl none-inside) refl
+before-label f e = first (0 ∷ 0 ∷ 9 ∷ 2 ∷ 0 ∷ []) (0 ∷ 16 ∷ 2 ∷ 2 ∷ 0 ∷ []) ((1 ∷ 26 ∷ 1 ∷ 1 ∷ 1 ∷ []) ∷ []) its-node 1 e refl refl (leaf refl none-inside) refl
 
 strict-1a : Semicolon (tree-rows (result (with-label 1 49)))
 unfolding tree-rows call

@@ -1,6 +1,6 @@
 -- One file, taken apart at the semicolon: the tokens before and after it, and that what is written of those after it is
 -- what they make by themselves.
-use Prim.Native.Nat.{ℕ, _+_, _≤_}
+use Prim.Native.Nat.{ℕ, suc, _+_, _≤_}
 use native.Mathlib.Omega.{arith}
 use mathlib.Core.Path.{_≡_, refl, ap, sym, _∙_, subst}
 use mathlib.Core.Bool.{Bool, true, false, cond, _&&_, false≢true}
@@ -28,7 +28,7 @@ use Rattle.laws.proofs.Names.{entry-names}
 use Rattle.laws.proofs.Leaves.{Right, right-root}
 use Rattle.laws.proofs.Input.{Texts-fit, Checked, checked-input}
 use Rattle.rows.specs.ResultRows.{Row, raw-tokens, raw-bytes, tree-rows}
-use Rattle.recovery.specs.Recovery.{File, result, Accepted, is-statement, Semicolon, token-index, start-byte}
+use Rattle.recovery.specs.Recovery.{File, result, Accepted, is-statement, Semicolon, token-index, start-byte, row-number}
 use Rattle.recovery.proofs.Told.{All, told, told-join, Above}
 use Rattle.recovery.proofs.Meaning.{ends-in, closes, ends-beside}
 use Rattle.recovery.proofs.Turns.{children, Part, part-here, Found, find-in}
@@ -126,14 +126,15 @@ pub record Tail (f : File) (s : Semicolon (tree-rows (result f))) : Type 0 where
   pub no-error : is-error (semicolon .kind) ≡ false
   pub at-index : token-index s ≡ length head
   pub at-byte : start-byte s ≡ byte-count head
-  pub parts : s .later ≡ rows-of (children (run-entry SourceFile rest) rest)
+  pub parts : s .later ≡ rows-of 0 (suc (row-number s)) (children (run-entry SourceFile rest) rest)
   pub early : List Report
   pub reports : told-of f ≡ early ++ told (run-entry SourceFile rest)
   pub above : All (Above (length rest)) early
   pub names : Names-apart (f .setting) (f .bytes) (file-tokens f) rest (length head) (byte-count head)
 
-counted : (m : Tree → ℕ) (g : List Row → ℕ) → ((x : Tree) → g (rows-of x) ≡ m x) → (f i : Tree) (l n : List Row) → rows-of f ≡ l → rows-of i ≡ n → g l + g n ≡ m f + m i
-counted m g e f i l n p q = rw (← p, ← q, e f, e i) refl
+counted : (m : Tree → ℕ) (g : List Row → ℕ) → ((x : Tree) (p i : ℕ) → g (rows-of p i x) ≡ m x) → (f h : Tree) (p i q j : ℕ) (l n : List Row) → rows-of p i f ≡ l → rows-of q j h ≡ n
+    → g l + g n ≡ m f + m h
+counted m g e f h p i q j l n x y = rw (← x, ← y, e f p i, e h q j) refl
 
 -- ONE FILE
 pub tail : (f : File) → Accepted f → (s : Semicolon (tree-rows (result f))) → Tail f s
@@ -165,12 +166,12 @@ tail f h s =
       one-byte-long = w;
       no-error = ap (leb L.UnexpectedEndIncbin) (O .kind);
       at-index =
-          counted (λ (x : Tree). length (leaves x)) raw-tokens tokens-counted (P .before) (P .inside) (s .before) (s .inside) (P .rows-before) (P .rows-inside)
+          counted (λ (x : Tree). length (leaves x)) raw-tokens tokens-counted (P .before) (P .inside) 0 1 _ _ (s .before) (s .inside) (P .rows-before) (P .rows-inside)
           ∙ sym (length-append (leaves (P .before)) (leaves (P .inside)));
       at-byte =
-          counted (λ (x : Tree). byte-count (leaves x)) raw-bytes bytes-counted (P .before) (P .inside) (s .before) (s .inside) (P .rows-before) (P .rows-inside)
+          counted (λ (x : Tree). byte-count (leaves x)) raw-bytes bytes-counted (P .before) (P .inside) 0 1 _ _ (s .before) (s .inside) (P .rows-before) (P .rows-inside)
           ∙ sym (bytes-append (leaves (P .before)) (leaves (P .inside)));
-      parts = sym (P .rows-later) ∙ ap rows-of (F .beyond);
+      parts = sym (P .rows-later) ∙ ap (rows-of 0 (suc (row-number s))) (F .beyond);
       early = told (F .first);
       reports = ap told (F .is) ∙ told-join (F .first) (run-entry SourceFile (F .rest));
       above = F .above;

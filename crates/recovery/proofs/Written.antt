@@ -118,7 +118,7 @@ reports-in f = reports-of (length (file-tokens f)) (byte-count (file-tokens f)) 
 
 pub record Wrote (f : File) : Type 0 where
   pub input : check-input (f .bytes) (f .tokens) ≡ accepted
-  pub trees : tree-rows (result f) ≡ rows-of (subtree N.SourceFile (children (made-of f) (file-tokens f)) nil)
+  pub trees : tree-rows (result f) ≡ rows-of 0 0 (subtree N.SourceFile (children (made-of f) (file-tokens f)) nil)
   pub errors : error-rows (result f) ≡ errors-of 0 (file-tokens f)
   pub reports : S.report-rows (result f) ≡ reports-in f
   pub pool : expectations (result f) ≡ pool (told-of f)
@@ -148,7 +148,7 @@ wrote f h =
     let t : Tree = subtree N.SourceFile (children (made-of f) ts) nil in
     record {
       input = A .input;
-      trees = ap tree-rows is ∙ written-rows TREE-ROW (rows-of t) (z .trees) (f .buffers .trees) (omega arith) (rows-wide t) (rows-flat t);
+      trees = ap tree-rows is ∙ written-rows TREE-ROW (rows-of 0 0 t) (z .trees) (f .buffers .trees) (omega arith) (rows-wide t 0 0) (rows-flat t 0 0);
       errors = ap error-rows is ∙ written-rows ERROR-ROW (errors-of 0 ts) (z .errors) (f .buffers .errors) (omega arith) (errors-wide 0 ts) (errors-flat 0 ts);
       reports = ap S.report-rows is ∙ written-rows REPORT-ROW (reports-in f) (z .reports) (f .buffers .reports) (omega arith) (reports-written f .0) (reports-written f .1);
       pool = ap expectations is ∙ take-append-seam (z .pool) (replicate (length (f .buffers .pool) - length (z .pool)) 0);

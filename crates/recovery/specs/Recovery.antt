@@ -1,19 +1,20 @@
 -- The third promise: recovery stays local. Two accepted source files that are alike after a semicolon, where it ends a
 -- top-level property, node or directive in both, have the same parts, lexical errors and reports after it; only places
 -- are moved. Document 02, 1/14: "Demand 3 compares two calls in the same setting; in strict setting two files with the
--- same tail also share these reports, shifted."
+-- same tail also share these reports, shifted." 7/14: "Rows after a shared semicolon now agree once row numbers are moved
+-- too, except that a parent which is the root stays 0."
 use mathlib.Core.Path.{_≡_}
 use Prim.Native.Nat.{ℕ, suc, _+_}
 use mathlib.Core.Bool.{Bool, true, cond, not}
 use mathlib.Core.List.{List, [], _∷_, _++_}
 use lib.Dec.{ltb, eqb}
-use lib.ListN.{take, drop}
+use lib.ListN.{length, take, drop}
 use Rattle.definitions.specs.Layout.{NODE, LEAF, OLD-SETTING}
 use Rattle.definitions.specs.TokenKind as K
 use Rattle.definitions.specs.NodeKind as N
 use Rattle.definitions.specs.Token.{tokens-of, one-of}
 use Rattle.definitions.specs.Call.{Buffers, Result, call}
-use Rattle.rows.specs.ResultRows.{Row, tree-rows, error-rows, report-rows, expectations, class, kind, count, number, start, end, message, mark, first-place, pool-count, hint, label-start, label-end, Subtrees, raw-tokens, raw-bytes}
+use Rattle.rows.specs.ResultRows.{Row, tree-rows, error-rows, report-rows, expectations, class, kind, width, count, parent, number, start, end, message, mark, first-place, pool-count, hint, label-start, label-end, Subtrees, raw-tokens, raw-bytes}
 
 -- ---------------------------------------------------------------- two files
 
@@ -73,6 +74,10 @@ token-index s = raw-tokens (s .before) + raw-tokens (s .inside)
 unfoldable pub start-byte : {l : List Row} → Semicolon l → ℕ
 start-byte s = raw-bytes (s .before) + raw-bytes (s .inside)
 
+-- its row number: as many rows stand before it, the root's and the part's among them
+unfoldable pub row-number : {l : List Row} → Semicolon l → ℕ
+row-number s = suc (length (s .before)) + suc (length (s .inside))
+
 -- document 01: tokens and bytes after two semicolons are alike (a semicolon is one byte long)
 pub record Alike (f g : File) (a : Semicolon (tree-rows (result f))) (b : Semicolon (tree-rows (result g))) : Type 0 where
   pub same-tokens : drop (suc (token-index a)) (tokens-of (f .tokens)) ≡ drop (suc (token-index b)) (tokens-of (g .tokens))
@@ -112,6 +117,19 @@ Moved a b x y = x + b ≡ y + a
 pub data Pairwise (R : Row → Row → Type 0) : List Row → List Row → Type 0 where
   none : Pairwise R [] []
   more : {x y : Row} {l m : List Row} → R x y → Pairwise R l m → Pairwise R (x ∷ l) (y ∷ m)
+
+-- "once row numbers are moved too, except that a parent which is the root stays 0"
+pub data ParentMoved (a b : ℕ) (x y : Row) : Type 0 where
+  root : parent x ≡ 0 → parent y ≡ 0 → ParentMoved a b x y
+  row : (parent x ≡ 0 → ⊥) → (parent y ≡ 0 → ⊥) → Moved a b (parent x) (parent y) → ParentMoved a b x y
+
+-- a tree row, with row numbers moved by b less a
+pub record TreeMoved (a b : ℕ) (x y : Row) : Type 0 where
+  pub same-class : class x ≡ class y
+  pub same-kind : kind x ≡ kind y
+  pub same-width : width x ≡ width y
+  pub same-count : count x ≡ count y
+  pub parent-moves : ParentMoved a b x y
 
 -- a lexical error at bytes moved by b less a
 pub record ErrorMoved (a b : ℕ) (x y : Row) : Type 0 where
@@ -162,7 +180,7 @@ places f s = record { byte = start-byte s; index = token-index s; pool-place = p
 
 -- later parts, later lexical errors and later reports
 pub record Shared (f g : File) (a : Semicolon (tree-rows (result f))) (b : Semicolon (tree-rows (result g))) : Type 0 where
-  pub parts : a .later ≡ b .later
+  pub parts : Pairwise (TreeMoved (row-number a) (row-number b)) (a .later) (b .later)
   pub errors : Pairwise (ErrorMoved (start-byte a) (start-byte b)) (later-errors f a) (later-errors g b)
   pub reports : Pairwise (ReportMoved (places f a) (places g b) (expectations (result f)) (expectations (result g)))
       (later-reports f a) (later-reports g b)

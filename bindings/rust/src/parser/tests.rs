@@ -99,9 +99,9 @@ fn an_answer_that_cannot_be_is_reported() {
         (12, 0, "the place of the answer is not that of what is refused"),
         (13, 0, "the place of the answer is not that of what is refused"),
         (0, 0, "the tree of the answer is not one over all tokens"),
-        // rows of zeros: a file without text, and another after it
+        // rows of zeros: a file without text, and another in it, which it does not count
         (0, 1, "the tree of the answer is not one over all tokens"),
-        (0, 2, "tree row 1 of the answer is not under the root"),
+        (0, 2, "tree row 0 of the answer is not a node of as many children as name it"),
         (0, 1 << 40, "the count of tree rows of the answer is not at most what fits the lent buffer"),
     ] {
         let (error, calls) = parse_by(number, trees);

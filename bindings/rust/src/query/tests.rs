@@ -12,7 +12,7 @@ fn query_by(number: u32, tree_count: usize, list_count: usize, list: &[u32]) -> 
     let mut calls = 0;
     let call = |_: Query, _: u32, _: &[u8], _: &[u32], lent: &mut Buffers| {
         calls += 1;
-        assert_eq!(lent.list.len(), lent.trees.len() / 4, "room for as many numbers as tree rows");
+        assert_eq!(lent.list.len(), lent.trees.len() / 5, "room for as many numbers as tree rows");
         lent.list[..list.len()].copy_from_slice(list);
         let answer = Answer { number, place: 0, tree_count, error_count: 0, report_count: 0, expectation_count: 0 };
         ListAnswer { answer, list_count }
