@@ -5,8 +5,8 @@ use crate::judge::Judge;
 use crate::levels::{joined, operators, power};
 use crate::show;
 use dt_parser_layout::{
-    CLASS_LEAF, CLASS_NODE, COL_TREE_CLASS, COL_TREE_COUNT, COL_TREE_KIND, COL_TREE_WIDTH, ENTRY_CELLS, ROW_TREE,
-    SETTING_OLD, TREES,
+    CLASS_LEAF, CLASS_NODE, COL_TREE_CLASS, COL_TREE_COUNT, COL_TREE_KIND, COL_TREE_PARENT, COL_TREE_WIDTH,
+    ENTRY_CELLS, ROW_TREE, SETTING_OLD, TREES,
 };
 use oracle::parsed::NodeKind;
 use oracle::token::TokenKind::{self, *};
@@ -14,7 +14,7 @@ use oracle::token::fixed_text;
 
 const PREFIXES: [TokenKind; 4] = [Plus, Minus, BitwiseNot, LogicalNot];
 
-/// Tree rows of a leaf, or of a node with all below it.
+/// Tree rows of a leaf, or of a node with all below it. They are numbered from the first, whose parent is 0 yet.
 struct Part {
     rows: Vec<u32>,
     width: u32,
@@ -41,7 +41,12 @@ fn leaf(kind: TokenKind) -> Part {
 fn node(kind: NodeKind, parts: Vec<Part>) -> Part {
     let width = parts.iter().map(|p| p.width).sum();
     let mut rows = row(CLASS_NODE, kind as u32, width, parts.len() as u32);
-    parts.into_iter().for_each(|p| rows.extend(p.rows));
+    for mut part in parts {
+        // its first row names this node, and all others move with it
+        let first = (rows.len() / ROW_TREE) as u32;
+        part.rows.chunks_exact_mut(ROW_TREE).skip(1).for_each(|row| row[COL_TREE_PARENT] += first);
+        rows.extend(part.rows)
+    }
     Part { rows, width }
 }
 

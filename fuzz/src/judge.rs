@@ -2,12 +2,13 @@
 use crate::buffers::{Buffers, Held};
 use crate::call::Call;
 use crate::once::{self, Repeats};
+use crate::parent;
 use crate::row_causes;
 use crate::strict::{self, Broken, is_strict};
 use crate::unchanged::Unchanged;
 use dt_parser_ffi::{self as ffi, Answer};
 use dt_parser_layout::{
-    ACCEPTED, BUFFERS, Lengths, POOL, REFUSAL_NO_TREE_ROOM, REFUSAL_TOO_DEEP, REPORTS, ROW_REPORT, TREES,
+    ACCEPTED, BUFFERS, Lengths, POOL, REFUSAL_NO_TREE_ROOM, REFUSAL_TOO_DEEP, REPORTS, ROW_REPORT, ROW_TREE, TREES,
 };
 use oracle::checks::refusal;
 use oracle::doc01::{Run, first_misfit};
@@ -47,6 +48,8 @@ pub enum Wrong {
     List,
     /// The bytes or the tokens were written to.
     Input,
+    /// The parents in the tree rows are not as request 7/14 has them, by the rows alone; or a list and they disagree.
+    Parents(&'static str),
     /// The unchanged Rust and the patched copy differ, or a list in a text of the unchanged one and the pool.
     Oracle,
     /// The rows and what request 6/14 makes of all that the Rust pushed differ: a list, its place or a range.
@@ -68,7 +71,9 @@ impl Wrong {
             Wrong::Lists => "the rows and what request 6/14 makes of the Rust's lists do not agree".into(),
             Wrong::Readings => "the readings of bad rows by document 01 and by request 4/14 do not agree".into(),
             Wrong::Finder => "the Rust's own search finds another leaf at one of the offsets".into(),
-            Wrong::Answer | Wrong::Buffer(_) | Wrong::Tokens | Wrong::List | Wrong::Input => return None,
+            Wrong::Answer | Wrong::Buffer(_) | Wrong::Tokens | Wrong::List | Wrong::Input | Wrong::Parents(_) => {
+                return None;
+            }
         })
     }
 }
@@ -168,9 +173,21 @@ impl Judge {
         } else if self.tokens != call.tokens || self.bytes != call.bytes {
             Some(Wrong::Input)
         } else {
-            self.buffers.wrong(self.held(call.setting, expected)).map(Wrong::Buffer)
+            self.wrong_buffer(call.setting, expected)
         };
         Verdict { expected, given, wrong }
+    }
+
+    /// The tree rows that the library wrote with that answer.
+    pub fn written_trees(&self, answer: Answer) -> &[u32] {
+        &self.buffers.get(TREES)[..ROW_TREE * answer.tree_count]
+    }
+
+    /// What is wrong with the buffers beside an answer that is right: first by the rows alone, then against the Rust.
+    pub fn wrong_buffer(&self, setting: u32, answer: Answer) -> Option<Wrong> {
+        let parents = (answer.number == ACCEPTED).then(|| parent::wrong(self.written_trees(answer))).flatten();
+        let against_rust = || self.buffers.wrong(self.held(setting, answer)).map(Wrong::Buffer);
+        parents.map(Wrong::Parents).or_else(against_rust)
     }
 
     /// Everything for a call whose buffers are chosen.

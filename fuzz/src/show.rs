@@ -59,6 +59,7 @@ pub fn answers(wrong: &Option<Wrong>, expected: &str, given: &str) -> Option<boo
         Wrong::Tokens => differs("tokens"),
         Wrong::List => differs("list"),
         Wrong::Input => println!("the library wrote to its input"),
+        Wrong::Parents(what) => println!("the tree rows are not as request 7/14 has them: {what}"),
         _ => {}
     }
     None

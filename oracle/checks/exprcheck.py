@@ -118,12 +118,16 @@ def width(tree):
     return len(tree) if isinstance(tree, str) else sum(map(width, tree[1]))
 
 
-def rows(tree):
+def rows(tree, own=0, parent=0):
+    """The oracle's lines of a tree whose own row and whose parent's row are these."""
     if isinstance(tree, str):
         kind = ORACLE.kinds["Unrecognized"] if KINDS[tree] == LAST_ERROR else KINDS[tree]
-        return [f"R 1 {kind} {len(tree)} 1"]
+        return [f"R 1 {kind} {len(tree)} 1 {parent}"]
     kind, children = tree
-    return [f"R 0 {kind} {width(tree)} {len(children)}"] + [r for c in children for r in rows(c)]
+    out = [f"R 0 {kind} {width(tree)} {len(children)} {parent}"]
+    for child in children:
+        out += rows(child, own + len(out), own)
+    return out
 
 
 def expected(tokens):

@@ -1,6 +1,7 @@
 #!/usr/bin/env python3
 """Promise 3 by running: two source files with the same tail after a top-level ending semicolon. Later parts, lexical
-errors and reports are those of document 01 (`oracle doc01`), and must move alike.    tailcheck.py SEED COUNT"""
+errors and reports are those of document 01 (`oracle doc01`), and must move alike; of tree rows the parent, by document
+02's request 7/14.    tailcheck.py SEED COUNT"""
 import random
 import sys
 
@@ -72,6 +73,12 @@ def boundary(rows, tokens):
     return (parts, row) if ends and last and (last.class_, last.kind) == (LEAF, SEMICOLON) else None
 
 
+def moved_rows(rows, first):
+    """The rows from the first later one on, with their parents counted from it; one that is the root stays 0."""
+    assert all(r.parent == 0 or r.parent >= first for r in rows[first:])
+    return [r._replace(parent=r.parent and r.parent - first + 1) for r in rows[first:]]
+
+
 def later(answer, head):
     """What is later than the head's semicolon, counted from it; None if it ends no such part."""
     rows, lexical, reports = answer
@@ -88,7 +95,7 @@ def later(answer, head):
         moved.append((message, a - start, b - start, mark - len(head), first - pool, count, hint, label, codes))
     errors = [(number, a - start, b - start) for number, a, b in lexical if a >= start]
     in_order = early == [r for r, _ in reports[: len(early)]]
-    return rows[0].count - parts, rows[row:], errors, moved, in_order
+    return rows[0].count - parts, moved_rows(rows, row), errors, moved, in_order
 
 
 def main():

@@ -1,6 +1,6 @@
 #!/usr/bin/env python3
-"""The Rust's trees on random cases: lossless, widths and counts right, lexical errors in order. Says how often a
-ParseError stands in a tree without any report.    widths.py SEED COUNT"""
+"""The Rust's trees on random cases: lossless, widths, counts and parents right, lexical errors in order. Says how often
+a ParseError stands in a tree without any report.    widths.py SEED COUNT"""
 import sys
 
 sys.dont_write_bytecode = True
@@ -13,22 +13,23 @@ NAME_KINDS = [KINDS[name] for name in ("Ident", "Number", "Comma", "Minus")]
 
 
 def leaves_of(rows):
-    """The leaves in order; each node's width and count are checked on the way."""
+    """The leaves in order; each node's width and count, and each row's parent, are checked on the way."""
     leaves = []
 
-    def walk(i):
+    def walk(i, parent):
         row = rows[i]
+        assert row.parent == parent, row
         if row.class_ == LEAF:
             leaves.append(row)
             return i + 1, row.width
         child, total = i + 1, 0
         for _ in range(row.count):
-            child, w = walk(child)
+            child, w = walk(child, i)
             total += w
         assert total == row.width, row
         return child, row.width
 
-    end, _ = walk(0)
+    end, _ = walk(0, 0)
     assert end == len(rows)
     return leaves
 
@@ -38,7 +39,7 @@ def check(lines):
     tokens, rows = numbers(lines, "T"), [TreeRow(*row) for row in numbers(lines, "R")]
     at = offset = 0
     lexical = []
-    for _, kind, width, count in leaves_of(rows):
+    for _, kind, width, count, _ in leaves_of(rows):
         under = tokens[at : at + count]
         assert sum(n for _, n in under) == width
         if kind == KINDS["Name"]:
@@ -60,8 +61,8 @@ def main():
     found = [check(lines) for lines in ORACLE.blocks(["rows", "any"], given)]
     silent = [line for line, (error, report) in zip(given, found) if error and not report]
     wrong = sum(error for error, _ in found)
-    print(f"{len(found)} cases lossless, widths, counts, lexical errors right; {wrong} with a ParseError node, "
-          f"{len(silent)} of them with no report at all")
+    print(f"{len(found)} cases lossless, widths, counts, parents, lexical errors right; {wrong} with a ParseError "
+          f"node, {len(silent)} of them with no report at all")
     for line in sorted(silent, key=len)[:5]:
         print("  no report:", line)
 

@@ -70,7 +70,7 @@ module _ (e : Entry) (ts : List Token) where
         events-so-far = few-pushed;
         reports-so-far = few-reported;
         pool-so-far = few-pool;
-        tree-rows = omega (arith, rows-length (tree e ts), few-rows e ts);
+        tree-rows = omega (arith, rows-length (tree e ts) 0 0, few-rows e ts);
         counts = few-children e ts;
         names = λ setting bytes. omega (arith, few-names setting e bytes ts);
         names-inside = λ setting bytes. names-within setting e bytes ts;

@@ -176,27 +176,29 @@ few-children e ts = counts-within (most-rows (length ts)) (tree e ts) (rw lossle
 
 -- b: a bound on the width, on the number of raw tokens and on the number of rows
 module _ (b : ℕ) (most : CODES ≤ b) where
-  tree-below : (t : Tree) → Right t → Nodes-coded t → Kinded (leaves t) → width t < b → length (leaves t) < b → row-count t ≤ b → Below b (rows t)
+  tree-below : (t : Tree) (p i : ℕ) → Right t → Nodes-coded t → Kinded (leaves t) → width t < b → length (leaves t) < b → p < b → i + row-count t ≤ b → Below b (rows-under p i t)
   unfolding rows-under Right Nodes-coded leaves width row-count
-  tree-below nil r n k w l c = tt
-  tree-below (leaf x raw f) r n k w l c =
+  tree-below nil p i r n k w l u c = tt
+  tree-below (leaf x raw f) p i r n k w l u c =
       let g : Kinded raw × Kinded (leaves f) = kinded-append raw (leaves f) k in
       let h : length raw + length (leaves f) < b = simp length-append at l in
       let j : x < CODES = leaf-small x raw (r .0) (g .0) in
-      (omega arith, (omega arith, (omega arith, (omega arith, tree-below f (r .1) n (g .1) (omega arith) (omega arith) (omega arith)))))
-  tree-below (subtree x i f) r n k w l c =
-      let g : Kinded (leaves i) × Kinded (leaves f) = kinded-append (leaves i) (leaves f) k in
-      let h : length (leaves i) + length (leaves f) < b = simp length-append at l in
+      (omega arith, (omega arith, (omega arith, (omega arith, (u, tree-below f p (suc i) (r .1) n (g .1) (omega arith) (omega arith) u (omega arith))))))
+  tree-below (subtree x d f) p i r n k w l u c =
+      let g : Kinded (leaves d) × Kinded (leaves f) = kinded-append (leaves d) (leaves f) k in
+      let h : length (leaves d) + length (leaves f) < b = simp length-append at l in
+      let m = suc i + row-count d in
       let j : x < CODES = n .0 in
-      let p : Below b (rows i) = tree-below i (r .0) (n .1) (g .0) (omega arith) (omega arith) (omega arith) in
-      let q : Below b (rows f) = tree-below f (r .1) (n .2) (g .1) (omega arith) (omega arith) (omega arith) in
-      (omega arith, (omega arith, (omega arith, (omega (arith, count-le i), below-append b (rows i) (rows f) p q))))
+      let y : Below b (rows-under i (suc i) d) = tree-below d i (suc i) (r .0) (n .1) (g .0) (omega arith) (omega arith) (omega arith) (omega arith) in
+      let z : Below b (rows-under p m f) = tree-below f p m (r .1) (n .2) (g .1) (omega arith) (omega arith) u (omega arith) in
+      (omega arith, (omega arith, (omega arith, (omega (arith, count-le d), (u, below-append b (rows-under i (suc i) d) (rows-under p m f) y z)))))
 
   -- EVERY NUMBER IN THE TREE ROWS
   pub rows-below : (e : Entry) (ts : List Token) → Kinded ts → byte-count ts < b → length ts < b → most-rows (length ts) ≤ b → Below b (rows (tree e ts))
   rows-below e ts k w l c =
-      tree-below (tree e ts) (tree-right e ts) (tree-coded e ts)
+      tree-below (tree e ts) 0 0 (tree-right e ts) (tree-coded e ts)
       (subst Kinded (sym (lossless e ts)) k)
       (rw (width-leaves, lossless) w)
       (rw lossless l)
-      (le-trans (few-rows e ts) c)
+      (omega arith)
+      (omega (arith, few-rows e ts))

@@ -21,7 +21,7 @@ abbrev numbers : List ℕ
 numbers = 38 ∷ 1 ∷ []
 
 abbrev lent : Buffers
-lent = let l : List ℕ = replicate 12 7 in record { events = l; trees = l; errors = l; reports = l; pool = l }
+lent = let l : List ℕ = replicate 15 7 in record { events = l; trees = l; errors = l; reports = l; pool = l }
 
 accepted : call 1 0 (125 ∷ []) numbers lent .answer .number ≡ 0
 unfolding call
@@ -32,7 +32,7 @@ sevens zero = tt
 sevens (suc n) = (omega arith, sevens n)
 
 fits : Fits (call 1 0 (125 ∷ []) numbers lent)
-fits = numbers-fit 1 0 (125 ∷ []) numbers lent (record { events = sevens 12; trees = sevens 12; errors = sevens 12; reports = sevens 12; pool = sevens 12 })
+fits = numbers-fit 1 0 (125 ∷ []) numbers lent (record { events = sevens 15; trees = sevens 15; errors = sevens 15; reports = sevens 15; pool = sevens 15 })
 
 within : Within-limits (tokens-of numbers)
 unfolding tokens-of byte-count

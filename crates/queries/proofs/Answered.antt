@@ -69,12 +69,12 @@ module _ (q : Query) (setting : ℕ) (bytes tokens : List ℕ) (b : Buffers) (li
   left = what-is-left setting bytes tokens b parse-accepted
 
   -- the rows beside it
-  pub rows-are : rows-left x ≡ rows-of (source-tree ts)
+  pub rows-are : rows-left x ≡ rows-of 0 0 (source-tree ts)
   unfolding tree-rows
   rows-are =
       (λ i. tree-rows (record { answer = all-kept .0 i; buffers = all-kept .1 .0 i }))
       ∙ ap tree-rows (left .returns)
-      ∙ written-rows TREE-ROW (rows-of (source-tree ts)) (left .sheets-are .trees) (b .trees) (omega arith) (rows-wide (source-tree ts)) (left .trees-are ∙ rows-flat (source-tree ts))
+      ∙ written-rows TREE-ROW (rows-of 0 0 (source-tree ts)) (left .sheets-are .trees) (b .trees) (omega arith) (rows-wide (source-tree ts) 0 0) (left .trees-are ∙ rows-flat (source-tree ts) 0 0)
 
   pub of-file : File-rows bytes ts
   of-file = file-rows bytes tokens (left .input)
@@ -88,11 +88,11 @@ caret-answered offset setting bytes tokens b list ok =
     let k = root-kind SourceFile in
     let e = tree-is ts in
     let t = subtree k (inside ts) nil in
-    let u : Under-caret (rows-of t) (length bytes) offset (on-list (query-call q setting bytes tokens b list)) =
-    under-caret k (inside ts) (length bytes) (ap (λ (y : Tree). raw-bytes (rows-of y)) (sym e) ∙ f .bytes-in) (ap width (sym e) ∙ f .size) (subst Leaves-wide e (f .wide)) offset _
-    (listed-is q setting bytes tokens b list ok ∙ sym (f .lists q) ∙ ap (λ (y : Tree). found q (length bytes) (rows-of y)) e) in
+    let u : Under-caret (rows-of 0 0 t) (length bytes) offset (on-list (query-call q setting bytes tokens b list)) =
+    under-caret k (inside ts) (length bytes) (ap (λ (y : Tree). raw-bytes (rows-of 0 0 y)) (sym e) ∙ f .bytes-in) (ap width (sym e) ∙ f .size) (subst Leaves-wide e (f .wide)) offset _
+    (listed-is q setting bytes tokens b list ok ∙ sym (f .lists q) ∙ ap (λ (y : Tree). found q (length bytes) (rows-of 0 0 y)) e) in
     subst (λ (y : List Row). Under-caret y (length bytes) offset (on-list (query-call q setting bytes tokens b list)))
-    (ap rows-of (sym e) ∙ sym (rows-are q setting bytes tokens b list ok)) u
+    (ap (rows-of 0 0) (sym e) ∙ sym (rows-are q setting bytes tokens b list ok)) u
 
 -- THE PARTS IN A RANGE
 pub parts-answered : Parts-answered
@@ -102,11 +102,11 @@ parts-answered from to setting bytes tokens b list ok =
     let ts = tokens-of tokens in
     let k = root-kind SourceFile in
     let e = tree-is ts in
-    let u : Parts-listed (rows-of (subtree k (inside ts) nil)) from to (listed q (length bytes) (subtree k (inside ts) nil)) = parts-listed k from to (inside ts) in
+    let u : Parts-listed (rows-of 0 0 (subtree k (inside ts) nil)) from to (listed q (length bytes) (subtree k (inside ts) nil)) = parts-listed k from to (inside ts) in
     (moved (sym e) (rows-are q setting bytes tokens b list ok) (listed-is q setting bytes tokens b list ok) u)
   where
-    moved : {t y : Tree} {a : List Row} {o : List ℕ} → t ≡ y → a ≡ rows-of y → o ≡ listed (range from to) (length bytes) y
-        → Parts-listed (rows-of t) from to (listed (range from to) (length bytes) t) → Parts-listed a from to o
+    moved : {t y : Tree} {a : List Row} {o : List ℕ} → t ≡ y → a ≡ rows-of 0 0 y → o ≡ listed (range from to) (length bytes) y
+        → Parts-listed (rows-of 0 0 t) from to (listed (range from to) (length bytes) t) → Parts-listed a from to o
     moved {t} {y} {a} {o} e f g h =
         subst (λ (z : List Row). Parts-listed z from to o) (sym f)
-        (subst (Parts-listed (rows-of y) from to) (sym g) (subst (λ (z : Tree). Parts-listed (rows-of z) from to (listed (range from to) (length bytes) z)) e h))
+        (subst (Parts-listed (rows-of 0 0 y) from to) (sym g) (subst (λ (z : Tree). Parts-listed (rows-of 0 0 z) from to (listed (range from to) (length bytes) z)) e h))

@@ -7,7 +7,7 @@ use mathlib.Core.List.{List, [], _∷_, _++_}
 use lib.Dec.{ltb}
 use borrow.Author.Tests.{ltb-true, ltb-false, lt-ltb, le-ltb, eq-eqb, ne-eqb}
 use Rattle.definitions.specs.Layout.{LEAF}
-use Rattle.definitions.specs.Place.{Tree, nil, leaf, subtree, width}
+use Rattle.definitions.specs.Place.{Tree, nil, leaf, subtree, width, row-count}
 use Rattle.definitions.specs.Caret.{caret}
 use Rattle.rows.specs.ResultRows.{Row, class, raw-bytes}
 use Rattle.rows.specs.ResultRows as S
@@ -18,7 +18,8 @@ use Rattle.rows.proofs.Spans.{one-chain}
 use Rattle.rows.proofs.Bytes.{leaf-ends, leaf-within}
 use Rattle.rows.proofs.Last.{Leaves-wide}
 use Rattle.queries.specs.UnderCaret.{To-leaf, Under-caret}
-use Rattle.queries.proofs.Leads.{under-root, first-one, Leads, leads}
+use Rattle.rows.proofs.Placed.{under-root, first-one}
+use Rattle.queries.proofs.Leads.{Leads, leads}
 
 -- ---------------------------------------------------------------- leaves
 
@@ -40,11 +41,12 @@ wide-append : (l m : List Row) → Wide-rows l → Wide-rows m → Wide-rows (l 
 wide-append [] m h g = g
 wide-append (r ∷ l) m h g = (h .0, wide-append l m (h .1) g)
 
-wide-rows : (f : Tree) → Leaves-wide f → Wide-rows (rows-of f)
+wide-rows : (f : Tree) (p i : ℕ) → Leaves-wide f → Wide-rows (rows-of p i f)
 unfolding Leaves-wide rows-of
-wide-rows nil h = tt
-wide-rows (leaf k ts f) h = (λ e. h .0, wide-rows f (h .1))
-wide-rows (subtree k c f) h = (λ e. absurd (omega (arith, e)), wide-append (rows-of c) (rows-of f) (wide-rows c (h .0)) (wide-rows f (h .1)))
+wide-rows nil p i h = tt
+wide-rows (leaf k ts f) p i h = (λ e. h .0, wide-rows f p (suc i) (h .1))
+wide-rows (subtree k c f) p i h =
+    (λ e. absurd (omega (arith, e)), wide-append (rows-of i (suc i) c) (rows-of p (suc i + row-count c) f) (wide-rows c i (suc i) (h .0)) (wide-rows f p (suc i + row-count c) (h .1)))
 
 wide-at : (l : List Row) (i : ℕ) → Wide-rows l → Is-leaf l i → 0 < S.width (row l i)
 wide-at [] i h x = absurd (let z = x .0 in omega (arith, z))
@@ -53,20 +55,20 @@ wide-at (r ∷ l) (suc i) h x = wide-at l i (h .1) (let z = x .0 in omega (arith
 
 -- ---------------------------------------------------------------- a file's tree
 
-module _ (k : ℕ) (c : Tree) (size : ℕ) (e : raw-bytes (rows-of (subtree k c nil)) ≡ size) (wt : width (subtree k c nil) ≡ size) (wide : Leaves-wide (subtree k c nil)) where
+module _ (k : ℕ) (c : Tree) (size : ℕ) (e : raw-bytes (rows-of 0 0 (subtree k c nil)) ≡ size) (wt : width (subtree k c nil) ≡ size) (wide : Leaves-wide (subtree k c nil)) where
   abbrev all : List Row
-  all = rows-of (subtree k c nil)
+  all = rows-of 0 0 (subtree k c nil)
 
   -- the root has every byte
-  root-holds : (byte : ℕ) → byte < size → holding 0 byte all ≡ 0 ∷ holding 1 byte (rows-of c ++ [])
+  root-holds : (byte : ℕ) → byte < size → holding 0 byte all ≡ 0 ∷ holding 1 byte (rows-of 0 1 c ++ [])
   unfolding rows-of holding width
   root-holds byte h = rw (lt-ltb byte (width c) (omega (arith, h, wt))) refl
 
-  to-byte : (byte : ℕ) → byte < size → Leads all 0 byte (holding 1 byte (rows-of c ++ []))
+  to-byte : (byte : ℕ) → byte < size → Leads all 0 byte (holding 1 byte (rows-of 0 1 c ++ []))
   unfolding width
   to-byte byte h =
       let z : first-byte all 1 + byte ≡ byte = (let f = first-one k c in omega (arith, f)) in
-      subst (λ (n : ℕ). Leads all 0 n (holding 1 byte (rows-of c ++ []))) z (leads all c [] 1 0 0 byte (under-root k c) (omega (arith, h, wt)))
+      subst (λ (n : ℕ). Leads all 0 n (holding 1 byte (rows-of 0 1 c ++ []))) z (leads all c [] 1 0 0 byte (under-root k c) (omega (arith, h, wt)))
 
   module _ (offset : ℕ) (rows : List ℕ) (is : rows ≡ found (caret offset) size all) where
     -- the byte whose leaf it is: at the end of the file the last one
@@ -75,19 +77,19 @@ module _ (k : ℕ) (c : Tree) (size : ℕ) (e : raw-bytes (rows-of (subtree k c 
         let p = to-byte byte h in
         let j = p .end-leaf in
         record {
-          below = holding 1 byte (rows-of c ++ []);
+          below = holding 1 byte (rows-of 0 1 c ++ []);
           from-root = r ∙ root-holds byte h;
           leaf = j;
           is-leaf = p .is-leaf;
           chain = p .chain;
-          only-one = λ other x. one-chain all 0 j (holding 1 byte (rows-of c ++ [])) other (p .chain) x;
+          only-one = λ other x. one-chain all 0 j (holding 1 byte (rows-of 0 1 c ++ [])) other (p .chain) x;
           owns = λ x. subst (Has-byte all j) (inside (omega (arith, x))) (p .has);
           alone = λ x i y z. one-leaf all i j offset y (p .is-leaf) z (subst (Has-byte all j) (inside x) (p .has));
           last = λ x i y. not-after (end x) i y;
           ends = λ x. (let a = leaf-within all j (p .is-leaf) in omega (arith, a, p .has .1, e, end x));
         }
       where
-        p′ : Leads all 0 byte (holding 1 byte (rows-of c ++ []))
+        p′ : Leads all 0 byte (holding 1 byte (rows-of 0 1 c ++ []))
         p′ = to-byte byte h
 
         not-after : suc byte ≡ size → (i : ℕ) → Is-leaf all i → i ≤ p′ .end-leaf
@@ -97,7 +99,7 @@ module _ (k : ℕ) (c : Tree) (size : ℕ) (e : raw-bytes (rows-of (subtree k c 
             go true f =
                 let a = leaf-ends all (p′ .end-leaf) i (p′ .is-leaf) (ltb-true _ _ f) in
                 let b = leaf-within all i y in
-                let w = wide-at all i (wide-rows (subtree k c nil) wide) y in
+                let w = wide-at all i (wide-rows (subtree k c nil) 0 0 wide) y in
                 absurd (omega (arith, a, b, w, p′ .has .1, e, end))
             go false f = ltb-false _ _ f
 

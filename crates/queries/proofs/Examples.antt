@@ -24,14 +24,14 @@ abbrev tokens : List ℕ
 tokens = 0 ∷ 1 ∷ 27 ∷ 1 ∷ 29 ∷ 1 ∷ []
 
 abbrev lent : Buffers
-lent = record { events = replicate 60 7; trees = replicate 22 7; errors = []; reports = []; pool = [] }
+lent = record { events = replicate 60 7; trees = replicate 27 7; errors = []; reports = []; pool = [] }
 
 abbrev asks : Query → List-result
 asks q = query-call q 0 bytes tokens lent (replicate 5 7)
 
 -- the root, the space, a property, its Name and its semicolon
 abbrev rows : List Row
-rows = (0 ∷ 0 ∷ 3 ∷ 2 ∷ []) ∷ (1 ∷ 0 ∷ 1 ∷ 1 ∷ []) ∷ (0 ∷ 16 ∷ 2 ∷ 2 ∷ []) ∷ (1 ∷ 26 ∷ 1 ∷ 1 ∷ []) ∷ (1 ∷ 29 ∷ 1 ∷ 1 ∷ []) ∷ []
+rows = (0 ∷ 0 ∷ 3 ∷ 2 ∷ 0 ∷ []) ∷ (1 ∷ 0 ∷ 1 ∷ 1 ∷ 0 ∷ []) ∷ (0 ∷ 16 ∷ 2 ∷ 2 ∷ 0 ∷ []) ∷ (1 ∷ 26 ∷ 1 ∷ 1 ∷ 2 ∷ []) ∷ (1 ∷ 29 ∷ 1 ∷ 1 ∷ 2 ∷ []) ∷ []
 
 -- both queries are accepted, and leave these rows
 pub caret-accepted : asks (caret 1) .answer .number ≡ 0
@@ -79,18 +79,18 @@ row-skipped t =
     not-child (c .0 .before) (c .0 .among) (c .0 .is)
 
 -- where a row starts in the buffer, in the place of its number
-pub offsets-for-numbers : To-leaf rows 3 1 (0 ∷ 8 ∷ 12 ∷ []) → ⊥
+pub offsets-for-numbers : To-leaf rows 3 1 (0 ∷ 10 ∷ 15 ∷ []) → ⊥
 unfolding Chain
 offsets-for-numbers t =
-    let c : Chain rows 0 (8 ∷ 12 ∷ []) (t .leaf) = subst (λ (x : List ℕ). Chain rows 0 x (t .leaf)) (sym (rest-same (t .from-root))) (t .chain) in
+    let c : Chain rows 0 (10 ∷ 15 ∷ []) (t .leaf) = subst (λ (x : List ℕ). Chain rows 0 x (t .leaf)) (sym (rest-same (t .from-root))) (t .chain) in
     omega (arith, c .0 .exists)
 
 -- `/delete-node/`: the last row is a node of width 0, under the directive
 abbrev directive : List Row
-directive = (0 ∷ 0 ∷ 13 ∷ 1 ∷ []) ∷ (0 ∷ 11 ∷ 13 ∷ 2 ∷ []) ∷ (1 ∷ 21 ∷ 13 ∷ 1 ∷ []) ∷ (0 ∷ 12 ∷ 0 ∷ 0 ∷ []) ∷ []
+directive = (0 ∷ 0 ∷ 13 ∷ 1 ∷ 0 ∷ []) ∷ (0 ∷ 11 ∷ 13 ∷ 2 ∷ 0 ∷ []) ∷ (1 ∷ 21 ∷ 13 ∷ 1 ∷ 1 ∷ []) ∷ (0 ∷ 12 ∷ 0 ∷ 0 ∷ 1 ∷ []) ∷ []
 
 pub directive-rows : rows-left (query-call (caret 13) 0 (47 ∷ 100 ∷ 101 ∷ 108 ∷ 101 ∷ 116 ∷ 101 ∷ 45 ∷ 110 ∷ 111 ∷ 100 ∷ 101 ∷ 47 ∷ []) (21 ∷ 13 ∷ [])
-    (record { events = replicate 60 7; trees = replicate 22 7; errors = []; reports = replicate 40 7; pool = replicate 40 7 }) (replicate 5 7)) ≡ directive
+    (record { events = replicate 60 7; trees = replicate 27 7; errors = []; reports = replicate 40 7; pool = replicate 40 7 }) (replicate 5 7)) ≡ directive
 unfolding query-call tree-rows cut-rows
 directive-rows = refl
 

@@ -58,18 +58,18 @@ module _ (setting : ℕ) (bytes tokens : List ℕ) (b : Buffers) (r : Result) (w
   count-is =
       ap (λ (x : Result). x .answer .tree-count) (w .returns)
       ∙ ap (λ (l : List ℕ). length l / TREE-ROW) (w .trees-are)
-      ∙ div-eq-of-eq-mul-right (lit< tt) (rows-length (source-tree (tokens-of tokens)))
+      ∙ div-eq-of-eq-mul-right (lit< tt) (rows-length (source-tree (tokens-of tokens)) 0 0)
 
   numbers-are : length (w .sheets-are .trees) ≡ TREE-ROW * r .answer .tree-count
-  numbers-are = ap length (w .trees-are) ∙ rows-length (source-tree (tokens-of tokens)) ∙ ap (TREE-ROW *_) (sym count-is)
+  numbers-are = ap length (w .trees-are) ∙ rows-length (source-tree (tokens-of tokens)) 0 0 ∙ ap (TREE-ROW *_) (sym count-is)
 
   pub rows-fit : TREE-ROW * r .answer .tree-count ≤ length (b .trees)
   rows-fit = omega (arith, numbers-are, w .trees-fit)
 
   -- read from the buffer they are the rows of the tree
-  pub rows-read : tree-rows-of (take (TREE-ROW * r .answer .tree-count) (r .buffers .trees)) ≡ rows-of (source-tree (tokens-of tokens))
+  pub rows-read : tree-rows-of (take (TREE-ROW * r .answer .tree-count) (r .buffers .trees)) ≡ rows-of 0 0 (source-tree (tokens-of tokens))
   rows-read =
       ap (λ (l : List ℕ). tree-rows-of (take (TREE-ROW * r .answer .tree-count) l)) (ap (λ (x : Result). x .buffers .trees) (w .returns))
       ∙ ap tree-rows-of (take-at (w .sheets-are .trees) (replicate (length (b .trees) - length (w .sheets-are .trees)) 0) (TREE-ROW * r .answer .tree-count) numbers-are)
-      ∙ ap tree-rows-of (w .trees-are ∙ rows-flat (source-tree (tokens-of tokens)))
-      ∙ rows-flat-of (rows-of (source-tree (tokens-of tokens))) (rows-wide (source-tree (tokens-of tokens)))
+      ∙ ap tree-rows-of (w .trees-are ∙ rows-flat (source-tree (tokens-of tokens)) 0 0)
+      ∙ rows-flat-of (rows-of 0 0 (source-tree (tokens-of tokens))) (rows-wide (source-tree (tokens-of tokens)) 0 0)

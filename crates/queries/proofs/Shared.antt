@@ -17,7 +17,7 @@ use Rattle.rows.specs.ResultRows.{Row}
 use Rattle.rows.specs.RowTree.{span, Child, first-byte, end-byte}
 use Rattle.queries.specs.PartsListed.{On, Ascending, Shares, Parts-listed}
 use Rattle.rows.proofs.Written.{rows-of}
-use Rattle.queries.proofs.Leads.{under-root, first-one, root-count, Placed, leaf-child, leaf-before, leaf-width, after-leaf, leaf-next, node-child, node-before, node-width, after-node, node-next}
+use Rattle.rows.proofs.Placed.{under-root, first-one, root-count, Placed, leaf-child, leaf-before, leaf-width, after-leaf, leaf-next, node-child, node-before, node-width, after-node, node-next}
 
 -- ---------------------------------------------------------------- a byte in both
 
@@ -143,9 +143,9 @@ lists all from to (subtree k c f) l s before start w e =
     (share from to start (start + width c)) refl
 
 -- ALL THE PARTS of a root
-pub parts-listed : (k from to : ℕ) (c : Tree) → Parts-listed (rows-of (subtree k c nil)) from to (sharing from to 1 0 c)
+pub parts-listed : (k from to : ℕ) (c : Tree) → Parts-listed (rows-of 0 0 (subtree k c nil)) from to (sharing from to 1 0 c)
 parts-listed k from to c =
-    let all = rows-of (subtree k c nil) in
+    let all = rows-of 0 0 (subtree k c nil) in
     let r = lists all from to c [] 1 0 0 (under-root k c) (first-one k c) in
     record {
       part = r .part;

@@ -19,7 +19,7 @@ use Rattle.laws.proofs.Lossless.{lossless}
 use Rattle.bounds.proofs.TreeRows.{tree-right, few-rows}
 use Rattle.rows.specs.ResultRows.{Row, over-leaves, raw-bytes}
 use Rattle.rows.specs.OnePass.{found, Classes, Adds-up, Sound}
-use Rattle.rows.proofs.Written.{rows-of, bytes-counted}
+use Rattle.rows.proofs.Written.{rows-of, rows-counted, bytes-counted}
 use Rattle.rows.proofs.Last.{Leaves-wide}
 use Rattle.rows.proofs.Parts.{adds-parts}
 use Rattle.queries.proofs.Found.{found-listed}
@@ -55,21 +55,16 @@ unfolding Classes
 classes-append [] m h g = g
 classes-append (r ∷ l) m h g = (h .0, classes-append l m (h .1) g)
 
-classes-rows : (f : Tree) → Classes (rows-of f)
+classes-rows : (f : Tree) (p i : ℕ) → Classes (rows-of p i f)
 unfolding Classes rows-of
-classes-rows nil = tt
-classes-rows (leaf k ts f) = (omega arith, classes-rows f)
-classes-rows (subtree k c f) = (omega arith, classes-append (rows-of c) (rows-of f) (classes-rows c) (classes-rows f))
+classes-rows nil p i = tt
+classes-rows (leaf k ts f) p i = (omega arith, classes-rows f p (suc i))
+classes-rows (subtree k c f) p i =
+    (omega arith, classes-append (rows-of i (suc i) c) (rows-of p (suc i + row-count c) f) (classes-rows c i (suc i)) (classes-rows f p (suc i + row-count c)))
 
-pub rows-counted : (f : Tree) → length (rows-of f) ≡ row-count f
-unfolding rows-of row-count
-rows-counted nil = refl
-rows-counted (leaf k ts f) = ap suc (rows-counted f)
-rows-counted (subtree k c f) = ap suc (length-append (rows-of c) (rows-of f) ∙ (λ i. rows-counted c i + rows-counted f i))
-
-parts-add : (k size : ℕ) (c : Tree) → width (subtree k c nil) ≡ size → Adds-up 0 size (rows-of c ++ [])
+parts-add : (k size : ℕ) (c : Tree) → width (subtree k c nil) ≡ size → Adds-up 0 size (rows-of 0 1 c ++ [])
 unfolding Adds-up width
-parts-add k size c e = adds-parts c size [] (omega (arith, e)) refl
+parts-add k size c e = adds-parts c 0 1 size [] (omega (arith, e)) refl
 
 -- ---------------------------------------------------------------- a source file
 
@@ -81,21 +76,21 @@ pub tree-is : (ts : List Token) → source-tree ts ≡ subtree (root-kind Source
 unfolding source-tree root
 tree-is ts = refl
 
-parts-of : (ts : List Token) (size : ℕ) → width (source-tree ts) ≡ size → Adds-up 0 size (drop 1 (rows-of (source-tree ts)))
+parts-of : (ts : List Token) (size : ℕ) → width (source-tree ts) ≡ size → Adds-up 0 size (drop 1 (rows-of 0 0 (source-tree ts)))
 unfolding source-tree root rows-of
 parts-of ts size e = parts-add (root-kind SourceFile) size (inside ts) e
 
 -- the root's own bytes are none
-under-bytes : (ts : List Token) → raw-bytes (rows-of (source-tree ts)) ≡ raw-bytes (drop 1 (rows-of (source-tree ts)))
+under-bytes : (ts : List Token) → raw-bytes (rows-of 0 0 (source-tree ts)) ≡ raw-bytes (drop 1 (rows-of 0 0 (source-tree ts)))
 unfolding source-tree root rows-of over-leaves
 under-bytes ts = omega arith
 
 pub record File-rows (bytes : List ℕ) (ts : List Token) : Type 0 where
   pub wide : Leaves-wide (source-tree ts)
   pub size : width (source-tree ts) ≡ length bytes
-  pub bytes-in : raw-bytes (rows-of (source-tree ts)) ≡ length bytes
-  pub sound : Sound (length bytes) (rows-of (source-tree ts))
-  pub lists : (q : Query) → found q (length bytes) (rows-of (source-tree ts)) ≡ listed q (length bytes) (source-tree ts)
+  pub bytes-in : raw-bytes (rows-of 0 0 (source-tree ts)) ≡ length bytes
+  pub sound : Sound (length bytes) (rows-of 0 0 (source-tree ts))
+  pub lists : (q : Query) → found q (length bytes) (rows-of 0 0 (source-tree ts)) ≡ listed q (length bytes) (source-tree ts)
 
 pub file-rows : (bytes tokens : List ℕ) → check-input bytes tokens ≡ accepted → File-rows bytes (tokens-of tokens)
 unfolding source-tree
@@ -106,16 +101,16 @@ file-rows bytes tokens ok =
     let e : leaves t ≡ ts = lossless SourceFile ts in
     let wide : Leaves-wide t = wide-leaves t (tree-right SourceFile ts) (subst All-good (sym e) (c .good)) in
     let size : width t ≡ length bytes = width-leaves t ∙ ap byte-count e ∙ c .covered in
-    let raw : raw-bytes (rows-of t) ≡ length bytes = bytes-counted t ∙ ap byte-count e ∙ c .covered in
+    let raw : raw-bytes (rows-of 0 0 t) ≡ length bytes = bytes-counted t 0 0 ∙ ap byte-count e ∙ c .covered in
     let few = few-rows SourceFile ts in
-    let n = rows-counted t in
+    let n = rows-counted t 0 0 in
     record {
       wide = wide;
       size = size;
       bytes-in = raw;
       sound =
           record {
-            classes = classes-rows t;
+            classes = classes-rows t 0 0;
             covered = omega (arith, raw);
             under-root = (let u = under-bytes ts in omega (arith, raw, u));
             parts = parts-of ts (length bytes) size;

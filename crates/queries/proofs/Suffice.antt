@@ -14,9 +14,9 @@ use Rattle.definitions.specs.Call.{Answer, call}
 use Rattle.definitions.specs.Caret.{Query, caret, range, share, source-tree}
 use Rattle.rows.specs.ResultRows.{Row, class, width}
 use Rattle.rows.specs.OnePass.{own, holding, starting, found}
-use Rattle.rows.proofs.Written.{rows-of}
+use Rattle.rows.proofs.Written.{rows-of, rows-counted}
 use Rattle.queries.specs.AsParsed.{Rows-suffice}
-use Rattle.queries.proofs.SoundRows.{rows-counted, File-rows, file-rows}
+use Rattle.queries.proofs.SoundRows.{File-rows, file-rows}
 use Rattle.queries.proofs.Parsed.{Left, what-is-left, count-is}
 use Rattle.queries.proofs.Ending.{as-parsed}
 
@@ -56,7 +56,7 @@ file-few : (q : Query) (size : ℕ) (l : List Row) → 0 < length l → At-most 
 file-few q size [] h = absurd (omega (arith, h))
 file-few q size (r ∷ l) h = found-few q size r l
 
-rooted : (ts : List Token) → 0 < length (rows-of (source-tree ts))
+rooted : (ts : List Token) → 0 < length (rows-of 0 0 (source-tree ts))
 unfolding rows-of source-tree root
 rooted ts = omega arith
 
@@ -66,9 +66,9 @@ rows-suffice q setting bytes tokens b list ok room =
     let r = call 1 setting bytes tokens b in
     let left : Left setting bytes tokens b r = what-is-left setting bytes tokens b ok in
     let f : File-rows bytes ts = file-rows bytes tokens (left .input) in
-    let n = rows-counted (source-tree ts) in
+    let n = rows-counted (source-tree ts) 0 0 in
     let c = count-is setting bytes tokens b r left in
-    let some : 0 < length (rows-of (source-tree ts)) = rooted ts in
-    let few = file-few q (length bytes) (rows-of (source-tree ts)) some in
+    let some : 0 < length (rows-of 0 0 (source-tree ts)) = rooted ts in
+    let few = file-few q (length bytes) (rows-of 0 0 (source-tree ts)) some in
     let same = ap length (f .lists q) in
     ap (λ (a : Answer). a .number) (as-parsed q setting bytes tokens b list .kept ok (omega (arith, few, same, n, c, room)) .0) ∙ ok

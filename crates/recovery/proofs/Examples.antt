@@ -207,7 +207,7 @@ later-in-two = (refl, refl, refl, refl)
 top : (c k w n : ℕ) → TreeMoved 6 9 (c ∷ k ∷ w ∷ n ∷ 0 ∷ []) (c ∷ k ∷ w ∷ n ∷ 0 ∷ [])
 top c k w n = record { same-class = refl; same-kind = refl; same-width = refl; same-count = refl; parent-moves = root refl refl }
 
-below : (c k w n p : ℕ) → TreeMoved 6 9 (c ∷ k ∷ w ∷ n ∷ suc p ∷ []) (c ∷ k ∷ w ∷ n ∷ suc p + 3 ∷ [])
+below : (c k w n p : ℕ) → TreeMoved 6 9 (c ∷ k ∷ w ∷ n ∷ suc p ∷ []) (c ∷ k ∷ w ∷ n ∷ (suc p + 3) ∷ [])
 below c k w n p =
     record { same-class = refl; same-kind = refl; same-width = refl; same-count = refl; parent-moves = row (λ e. omega (arith, e)) (λ e. omega (arith, e)) (omega arith) }
 

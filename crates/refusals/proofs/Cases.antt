@@ -124,20 +124,20 @@ unlabelled =
     ∷ on 4 (brackets 63) (bracket-rows 63) enough 0 0
     ∷ on 4 (brackets 64) (bracket-rows 64) enough 5 64
     -- 6 to 8: `a;` and an error token, with just enough room, and with one number fewer of each
-    ∷ with-error (room 36 24 3 9 11) 0 0
-    ∷ with-error (room 35 24 3 9 11) 6 3
-    ∷ with-error (room 36 24 3 8 11) 7 2
-    ∷ with-error (room 36 24 3 9 10) 7 2
-    ∷ with-error (room 36 23 3 9 11) 8 0
-    ∷ with-error (room 36 24 2 9 11) 8 0
+    ∷ with-error (room 36 30 3 9 11) 0 0
+    ∷ with-error (room 35 30 3 9 11) 6 3
+    ∷ with-error (room 36 30 3 8 11) 7 2
+    ∷ with-error (room 36 30 3 9 10) 7 2
+    ∷ with-error (room 36 29 3 9 11) 8 0
+    ∷ with-error (room 36 30 2 9 11) 8 0
     -- 7, by different expectations: `#else` is reported with one; cells, `;`, are reported twice, with four each time
     ∷ on 1 (35 ∷ 101 ∷ 108 ∷ 115 ∷ 101 ∷ []) (10 ∷ 5 ∷ []) (room 99 99 0 18 1) 0 0
     ∷ on 1 (35 ∷ 101 ∷ 108 ∷ 115 ∷ 101 ∷ []) (10 ∷ 5 ∷ []) (room 99 99 0 18 0) 7 1
     ∷ on 4 (59 ∷ []) (29 ∷ 1 ∷ []) (room 99 99 0 18 8) 0 0
     ∷ on 4 (59 ∷ []) (29 ∷ 1 ∷ []) (room 99 99 0 18 7) 7 0
     -- of two that do not fit, the one that is met first: the ninth event is the report's, before its row; 8 comes last
-    ∷ with-error (room 26 24 3 0 0) 6 2
-    ∷ with-error (room 27 24 3 0 0) 7 2
+    ∷ with-error (room 26 30 3 0 0) 6 2
+    ∷ with-error (room 27 30 3 0 0) 7 2
     ∷ with-error (room 36 0 0 9 10) 7 2
     ∷ with-error (room 2 0 0 0 0) 6 0
     ∷ []
@@ -151,15 +151,15 @@ labels =
     ∷ labelled 1 (room 99 3 0 9 0) 7 4
     ∷ labelled 1 (room 99 3 0 8 0) 7 0
     ∷ labelled 1 (room 99 3 0 18 0) 8 0
-    ∷ labelled 1 (room 99 43 0 18 0) 8 0
-    ∷ labelled 1 (room 99 44 0 18 0) 0 0
+    ∷ labelled 1 (room 99 54 0 18 0) 8 0
+    ∷ labelled 1 (room 99 55 0 18 0) 0 0
     -- 6 before it
     ∷ labelled 1 (room 2 3 0 17 0) 6 0
     -- any number but 0 is that setting, and 0 reports no Name
     ∷ labelled 4294967295 (room 99 3 0 17 0) 7 4
-    ∷ labelled 4294967295 (room 99 44 0 18 0) 0 0
+    ∷ labelled 4294967295 (room 99 55 0 18 0) 0 0
     ∷ labelled 0 (room 99 3 0 17 0) 8 0
-    ∷ labelled 0 (room 99 44 0 0 0) 0 0
+    ∷ labelled 0 (room 99 55 0 0 0) 0 0
     -- the run's own report comes first, and its row takes room
     ∷ after-report 1 (room 99 3 0 8 0) 7 6
     ∷ after-report 1 (room 99 3 0 17 0) 7 0

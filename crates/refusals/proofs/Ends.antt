@@ -178,7 +178,7 @@ module _ (n setting : ℕ) (bytes tokens : List ℕ) (b : Buffers) where
       w : Written (to-write setting e bytes tokens) b (kept (to-write setting e bytes tokens) b)
       w =
           record {
-            trees = filled TREE-ROW _ (to-write setting e bytes tokens .trees) (b .trees) (omega (arith, rows-length (root (root-kind e) (run-entry e (tokens-of tokens)) (tokens-of tokens)))) (t .0);
+            trees = filled TREE-ROW _ (to-write setting e bytes tokens .trees) (b .trees) (omega (arith, rows-length (root (root-kind e) (run-entry e (tokens-of tokens)) (tokens-of tokens)) 0 0)) (t .0);
             errors = filled ERROR-ROW _ (to-write setting e bytes tokens .errors) (b .errors) (omega (arith, errors-length 0 (tokens-of tokens))) (t .1);
             reports =
                 filled REPORT-ROW _ (to-write setting e bytes tokens .reports) (b .reports) (omega (arith, s))

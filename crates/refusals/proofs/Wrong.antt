@@ -13,7 +13,7 @@ use Rattle.refusals.specs.Answered.{Written, Before-the-parse, In-the-pa
 
 -- an empty source file in buffers that are not zero: one tree row, and one number left over
 abbrev lent : Buffers
-lent = record { events = 7 ∷ []; trees = 7 ∷ 7 ∷ 7 ∷ 7 ∷ 7 ∷ []; errors = 7 ∷ []; reports = 7 ∷ []; pool = 7 ∷ [] }
+lent = record { events = 7 ∷ []; trees = 7 ∷ 7 ∷ 7 ∷ 7 ∷ 7 ∷ 7 ∷ []; errors = 7 ∷ []; reports = 7 ∷ []; pool = 7 ∷ [] }
 
 abbrev gives : Answer → List ℕ → List ℕ → Result
 gives a trees errors = record { answer = a; buffers = record { events = 0 ∷ []; trees = trees; errors = errors; reports = 0 ∷ []; pool = 0 ∷ [] } }
@@ -22,7 +22,7 @@ abbrev answers : ℕ → ℕ → ℕ → Answer
 answers n p t = record { number = n; place = p; tree-count = t; error-count = 0; report-count = 0; expectation-count = 0 }
 
 -- the right one
-pub right : call 1 0 [] [] lent ≡ gives (answers 0 0 1) (0 ∷ 0 ∷ 0 ∷ 0 ∷ 0 ∷ []) (0 ∷ [])
+pub right : call 1 0 [] [] lent ≡ gives (answers 0 0 1) (0 ∷ 0 ∷ 0 ∷ 0 ∷ 0 ∷ 0 ∷ []) (0 ∷ [])
 unfolding call
 right = refl
 
@@ -33,10 +33,10 @@ not-listed k l h (inr (inl (inl g))) = omega (arith, l, g .1)
 not-listed k l h (inr (inl (inr g))) = h g
 not-listed k l h (inr (inr g)) = omega (arith, l, g .1)
 
-pub number-9 : ¬ Returns 1 0 [] [] lent (gives (answers 9 0 0) (0 ∷ 0 ∷ 0 ∷ 0 ∷ 0 ∷ []) (0 ∷ []))
+pub number-9 : ¬ Returns 1 0 [] [] lent (gives (answers 9 0 0) (0 ∷ 0 ∷ 0 ∷ 0 ∷ 0 ∷ 0 ∷ []) (0 ∷ []))
 number-9 h = not-listed 9 (omega arith) (λ g. omega (arith, g .0)) (h .listed)
 
-pub number-14 : ¬ Returns 1 0 [] [] lent (gives (answers 14 0 0) (0 ∷ 0 ∷ 0 ∷ 0 ∷ 0 ∷ []) (0 ∷ []))
+pub number-14 : ¬ Returns 1 0 [] [] lent (gives (answers 14 0 0) (0 ∷ 0 ∷ 0 ∷ 0 ∷ 0 ∷ 0 ∷ []) (0 ∷ []))
 number-14 h = not-listed 14 (omega arith) (λ g. omega (arith, g .1)) (h .listed)
 
 -- refusals 1, 4 and 13 that clear, and a refusal 5 that does not
@@ -57,20 +57,20 @@ unfolding number-of
 untouched-5 h = let e : _≡_ {A = ℕ} 7 0 = ap (λ (l : List ℕ). getD l 0 0) (h .all-zero (omega arith, omega arith) .pool) in omega (arith, e)
 
 -- a refusal that counts a row; places with 0, 2 and 8
-pub counted-1 : ¬ Returns 1 0 [] [] lent (gives (answers 1 0 1) (7 ∷ 7 ∷ 7 ∷ 7 ∷ 7 ∷ []) (7 ∷ []))
+pub counted-1 : ¬ Returns 1 0 [] [] lent (gives (answers 1 0 1) (7 ∷ 7 ∷ 7 ∷ 7 ∷ 7 ∷ 7 ∷ []) (7 ∷ []))
 counted-1 h = omega (arith, h .no-counts (omega arith) .tree-count)
 
-pub place-0 : ¬ Returns 1 0 [] [] lent (gives (answers 0 1 1) (0 ∷ 0 ∷ 0 ∷ 0 ∷ 0 ∷ []) (0 ∷ []))
+pub place-0 : ¬ Returns 1 0 [] [] lent (gives (answers 0 1 1) (0 ∷ 0 ∷ 0 ∷ 0 ∷ 0 ∷ 0 ∷ []) (0 ∷ []))
 place-0 h = omega (arith, h .no-place .0 (omega arith))
 
-pub place-2 : ¬ Returns 1 0 [] [] lent (gives (answers 2 1 0) (7 ∷ 7 ∷ 7 ∷ 7 ∷ 7 ∷ []) (7 ∷ []))
+pub place-2 : ¬ Returns 1 0 [] [] lent (gives (answers 2 1 0) (7 ∷ 7 ∷ 7 ∷ 7 ∷ 7 ∷ 7 ∷ []) (7 ∷ []))
 place-2 h = omega (arith, h .no-place .0 (omega arith))
 
-pub place-8 : ¬ Returns 1 0 [] [] lent (gives (answers 8 1 0) (0 ∷ 0 ∷ 0 ∷ 0 ∷ 0 ∷ []) (0 ∷ []))
+pub place-8 : ¬ Returns 1 0 [] [] lent (gives (answers 8 1 0) (0 ∷ 0 ∷ 0 ∷ 0 ∷ 0 ∷ 0 ∷ []) (0 ∷ []))
 place-8 h = omega (arith, h .no-place .1 refl)
 
 -- a buffer one number longer
-pub longer : ¬ Returns 1 0 [] [] lent (gives (answers 8 0 0) (0 ∷ 0 ∷ 0 ∷ 0 ∷ 0 ∷ 0 ∷ []) (0 ∷ []))
+pub longer : ¬ Returns 1 0 [] [] lent (gives (answers 8 0 0) (0 ∷ 0 ∷ 0 ∷ 0 ∷ 0 ∷ 0 ∷ 0 ∷ []) (0 ∷ []))
 longer h = omega (arith, h .lengths .trees)
 
 -- ---------------------------------------------------------------- accepted
@@ -86,19 +86,19 @@ source-file r e h = by (h .accepted e .0) (h .accepted e .1) (h .accepted e .2)
     by Cells q w = absurd (omega (arith, q))
 
 -- a count other than that of the rows; a number left after the row; a row that is not the run's; a lexical error left
-pub two-rows : ¬ Returns 1 0 [] [] lent (gives (answers 0 0 2) (0 ∷ 0 ∷ 0 ∷ 0 ∷ 0 ∷ []) (0 ∷ []))
+pub two-rows : ¬ Returns 1 0 [] [] lent (gives (answers 0 0 2) (0 ∷ 0 ∷ 0 ∷ 0 ∷ 0 ∷ 0 ∷ []) (0 ∷ []))
 unfolding call
 two-rows h = omega (arith, source-file _ refl h .trees .whole-rows)
 
-pub left-over : ¬ Returns 1 0 [] [] lent (gives (answers 0 0 1) (0 ∷ 0 ∷ 0 ∷ 0 ∷ 7 ∷ []) (0 ∷ []))
+pub left-over : ¬ Returns 1 0 [] [] lent (gives (answers 0 0 1) (0 ∷ 0 ∷ 0 ∷ 0 ∷ 0 ∷ 7 ∷ []) (0 ∷ []))
 unfolding call
-left-over h = let e : _≡_ {A = ℕ} 7 0 = ap (λ (l : List ℕ). getD l 4 0) (source-file _ refl h .trees .then-zeros) in omega (arith, e)
+left-over h = let e : _≡_ {A = ℕ} 7 0 = ap (λ (l : List ℕ). getD l 5 0) (source-file _ refl h .trees .then-zeros) in omega (arith, e)
 
-pub other-row : ¬ Returns 1 0 [] [] lent (gives (answers 0 0 1) (0 ∷ 1 ∷ 0 ∷ 0 ∷ 0 ∷ []) (0 ∷ []))
+pub other-row : ¬ Returns 1 0 [] [] lent (gives (answers 0 0 1) (0 ∷ 1 ∷ 0 ∷ 0 ∷ 0 ∷ 0 ∷ []) (0 ∷ []))
 unfolding call
 other-row h = let e : _≡_ {A = ℕ} 1 0 = ap (λ (l : List ℕ). getD l 1 0) (source-file _ refl h .trees .then-zeros) in omega (arith, e)
 
-pub errors-left : ¬ Returns 1 0 [] [] lent (gives (answers 0 0 1) (0 ∷ 0 ∷ 0 ∷ 0 ∷ 0 ∷ []) (7 ∷ []))
+pub errors-left : ¬ Returns 1 0 [] [] lent (gives (answers 0 0 1) (0 ∷ 0 ∷ 0 ∷ 0 ∷ 0 ∷ 0 ∷ []) (7 ∷ []))
 unfolding call
 errors-left h = let e : _≡_ {A = ℕ} 7 0 = ap (λ (l : List ℕ). getD l 0 0) (source-file _ refl h .errors .then-zeros) in omega (arith, e)
 
@@ -106,14 +106,14 @@ errors-left h = let e : _≡_ {A = ℕ} 7 0 = ap (λ (l : List ℕ). getD l 0 0)
 
 -- entry 2, an Ident over `1a`, in buffers with room for its two tree rows and its report
 abbrev label-lent : Buffers
-label-lent = record { events = replicate 12 7; trees = replicate 8 7; errors = []; reports = replicate 10 7; pool = [] }
+label-lent = record { events = replicate 12 7; trees = replicate 10 7; errors = []; reports = replicate 10 7; pool = [] }
 
 -- with so many reports in the answer, and these numbers in the buffer
 abbrev reports-so : ℕ → List ℕ → Result
 reports-so n reports =
     record {
       answer = record { number = 0; place = 0; tree-count = 2; error-count = 0; report-count = n; expectation-count = 0 };
-      buffers = record { events = replicate 12 0; trees = 0 ∷ 21 ∷ 2 ∷ 1 ∷ 1 ∷ 26 ∷ 2 ∷ 1 ∷ []; errors = []; reports = reports; pool = [] };
+      buffers = record { events = replicate 12 0; trees = 0 ∷ 21 ∷ 2 ∷ 1 ∷ 0 ∷ 1 ∷ 26 ∷ 2 ∷ 1 ∷ 0 ∷ []; errors = []; reports = reports; pool = [] };
     }
 
 -- the right ones: message 8 over the name, mark 0, no expectations, hint or label; and nothing in the old setting

@@ -5,6 +5,7 @@ use crate::buffers::{Buffer, Held};
 use crate::call::Call;
 use crate::caret::File;
 use crate::judge::{Input, Judge, Wrong, is_early};
+use crate::parent;
 use crate::unchanged::Unchanged;
 use dt_parser_ffi::{self as ffi, Answer, ListAnswer, Query};
 use dt_parser_layout::{ACCEPTED, REFUSAL_NO_TREE_ROOM, SETTING_OLD, TREES};
@@ -93,17 +94,24 @@ impl QueryJudge {
         let (lent, list) = (self.parse.buffers.lent(null), self.list.lent(null));
         // Safety: each lent buffer has its length, and they are six vectors
         let given = unsafe { ffi::query_lent(call.query, parse.setting, &self.bytes, &self.tokens, lent, list) };
-        let held = self.parse.held(parse.setting, expected.answer.answer);
+        let answer = expected.answer.answer;
         let wrong = if given != expected.answer {
             Some(Wrong::Answer)
         } else if self.tokens != parse.tokens || self.bytes != parse.bytes {
             Some(Wrong::Input)
         } else if !self.list.is_right(self.held_list(&expected)) {
             Some(Wrong::List)
+        } else if answer.number == ACCEPTED && !self.agree(call.query, expected.answer) {
+            Some(Wrong::Parents("the list of the query has other parents"))
         } else {
-            self.parse.buffers.wrong(held).map(Wrong::Buffer)
+            self.parse.wrong_buffer(parse.setting, answer)
         };
         QueryVerdict { expected, given, wrong }
+    }
+
+    /// Whether the library's list and the parents in its rows agree.
+    fn agree(&self, query: Query, given: ListAnswer) -> bool {
+        parent::agrees(self.parse.written_trees(given.answer), query, &self.list.get()[..given.list_count])
     }
 
     /// Everything for a call whose buffers are chosen.

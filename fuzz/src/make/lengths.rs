@@ -64,7 +64,7 @@ pub fn short_of_labels(r: &mut Rng, needs: Lengths, labels: usize) -> Lengths {
         0 => l[TREES] = short(r, needs[TREES], ROW_TREE),
         1 => (0..BUFFERS).filter(|&i| i != REPORTS).for_each(|i| l[i] += slack(r, ROW[i])),
         2 => {
-            l[TREES] = r.n(5);
+            l[TREES] = r.n(ROW_TREE + 1);
             l[ERRORS] = short(r, needs[ERRORS], ROW_ERROR)
         }
         _ => {}

@@ -2,7 +2,7 @@
 use crate::call::{Call, flat};
 use crate::rng::Rng;
 use corpus::{Corpus, Tok};
-use dt_parser_layout::{ENTRY_SOURCE_FILE, SETTING_STRICT};
+use dt_parser_layout::{ENTRY_SOURCE_FILE, ROW_TOKEN, SETTING_STRICT};
 use oracle::case::Case;
 use oracle::{generate, token};
 
@@ -92,6 +92,15 @@ impl Maker {
         }
         call.entry = ENTRY_SOURCE_FILE;
         way
+    }
+
+    /// Good rows of a source file, no more than so many.
+    pub fn good_file(&mut self, r: &mut Rng, most: usize, call: &mut Call) {
+        self.call_of(r, ENTRY_SOURCE_FILE, call);
+        while call.tokens.len() > ROW_TOKEN * most {
+            self.call_of(r, ENTRY_SOURCE_FILE, call);
+        }
+        call.entry = ENTRY_SOURCE_FILE
     }
 
     /// Good rows that suit an entry; the oracle's generator has its own.

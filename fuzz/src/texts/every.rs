@@ -1,17 +1,18 @@
 //! Every text of a few bytes over an alphabet of telling ones. Of each length but the longest, whole answers in each
 //! entry and both settings against the Rust, where all just fits and where one token number does not. Of the longest,
 //! one entry and setting: the tokens against the lexer of the Rust, and all else against `dt_parse` of those tokens,
-//! which is quicker.
+//! which is quicker; and the parents in the tree rows by the rows alone.
 use super::call::TextCall;
 use super::judge::TextJudge;
 use super::show;
 use crate::buffers::{Buffer, Buffers, Held};
 use crate::call::flat;
+use crate::parent;
 use crate::text;
 use dt_parser_ffi::{self as ffi, Answer, TextAnswer};
 use dt_parser_layout::{
-    ACCEPTED, ANSWERS, BUFFERS, ENTRY_CELLS, ENTRY_SOURCE_FILE, Lengths, POOL, ROW_TOKEN, SETTING_OLD, SETTING_STRICT,
-    bound,
+    ACCEPTED, ANSWERS, BUFFERS, ENTRY_CELLS, ENTRY_SOURCE_FILE, Lengths, POOL, ROW_TOKEN, ROW_TREE, SETTING_OLD,
+    SETTING_STRICT, TREES, bound,
 };
 use oracle::case::esc;
 use std::time::Instant;
@@ -133,7 +134,10 @@ impl Every {
                 let same = given == TextAnswer { answer, token_count: rows.len() / ROW_TOKEN };
                 let [of_text, of_tokens] = &self.buffers;
                 let others = (0..BUFFERS).all(|i| of_text.get(i) == of_tokens.get(i));
-                (answer, answer.number == ACCEPTED && same && self.tokens.is_right(Held::Rows(&rows)) && others)
+                let trees = of_text.get(TREES).get(..ROW_TREE * answer.tree_count);
+                let parents = trees.is_some_and(|trees| parent::wrong(trees).is_none());
+                let same = same && self.tokens.is_right(Held::Rows(&rows)) && others;
+                (answer, answer.number == ACCEPTED && same && parents)
             }
         };
         let call = TextCall { entry, setting, bytes: bytes.to_vec(), room, lengths: self.lengths };

@@ -98,7 +98,6 @@ impl TextJudge {
         let (tokens, lent) = (self.token_buffer.lent(null), self.parse.buffers.lent(null));
         // Safety: each lent buffer has its length, and they are six vectors
         let given = unsafe { ffi::parse_text_lent(call.entry, call.setting, &self.bytes, tokens, lent) };
-        let held = self.parse.held(call.setting, expected.answer);
         let wrong = if given != expected {
             Some(Wrong::Answer)
         } else if self.bytes != call.bytes {
@@ -106,7 +105,7 @@ impl TextJudge {
         } else if !self.token_buffer.is_right(self.held_tokens(expected)) {
             Some(Wrong::Tokens)
         } else {
-            self.parse.buffers.wrong(held).map(Wrong::Buffer)
+            self.parse.wrong_buffer(call.setting, expected.answer)
         };
         TextVerdict { expected, given, wrong }
     }
