@@ -54,6 +54,8 @@ fuzz carets [--seed N] [--count N] [--first N] [--unchanged N]
     every offset of so many random files (default 100000), and ranges
 fuzz files FILE..
     every offset of these, sources or files of token rows
+fuzz tails [--seed N] [--cases N] [--first N]
+    pairs of random files that agree after a semicolon: what is later agrees, once places are moved
 fuzz exact [--seed N] [--cases N]
     calls over memory that was never written, each buffer as long as it says: for valgrind";
 
@@ -84,6 +86,7 @@ fn command(args: &[String]) -> bool {
         Some("text") => texts::run::run(&plan("--cases")),
         Some("carets") => carets::run::run(&plan("--count")),
         Some("files") => carets::files::run(&args[1..]),
+        Some("tails") => tails::run::run(&plan("--cases")),
         Some("exact") => {
             let cases = number("--cases", 2_000);
             exact::run(seed, cases) && texts::exact::run(seed, cases) && carets::exact::run(seed, cases)

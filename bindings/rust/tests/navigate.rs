@@ -12,19 +12,13 @@ mod random;
 use dt_parser::{Input, NodeKind, OwnedParse, Parser, TextRange, Token, TokenKind, Tree};
 use random::Random;
 
-/// The rows of an answer: its lines `R class kind width count`.
-fn rows(answer: &str) -> Vec<Vec<u32>> {
-    let lines = answer.lines().filter_map(|line| line.strip_prefix("R "));
-    lines.map(|line| line.split(' ').map(|number| number.parse().unwrap()).collect()).collect()
-}
-
 /// All parses, after the texts that they were made from have gone.
 fn parses() -> Vec<(OwnedParse, Vec<Vec<u32>>)> {
     let mut parser = Parser::new();
     let parse = |case: answers::Case| {
         let input = Input::new(&case.text, case.tokens);
         let parse = parser.parse(case.entry, &input).unwrap_or_else(|why| panic!("{}: {why}", case.line));
-        (parse.into_owned(), rows(&case.answer))
+        (parse.into_owned(), answers::tree_rows(&case.answer))
     };
     answers::all().into_iter().map(parse).collect()
 }
@@ -67,29 +61,29 @@ fn the_innermost_node_and_the_parts_of_a_range_are_found() {
     }
 }
 
-/// Class, kind, width, count.
-type Row = [u32; 4];
+/// Class, kind, width, count, parent.
+type Row = [u32; 5];
 
-fn node(width: u32, count: u32) -> Row {
-    [0, NodeKind::DtNode.number(), width, count]
+fn node(parent: usize, width: u32, count: u32) -> Row {
+    [0, NodeKind::DtNode.number(), width, count, parent as u32]
 }
 
-fn leaf(width: u32) -> Row {
-    [1, TokenKind::Ident.number(), width, 1]
+fn leaf(parent: usize, width: u32) -> Row {
+    [1, TokenKind::Ident.number(), width, 1, parent as u32]
 }
 
 /// A random subtree, added to the rows. Nodes may be empty; leaves have one to three bytes. Gives its width.
-fn add_subtree(random: &mut Random, depth: usize, rows: &mut Vec<Row>) -> u32 {
+fn add_subtree(random: &mut Random, depth: usize, parent: usize, rows: &mut Vec<Row>) -> u32 {
     if depth == 0 || (depth < 6 && random.below(3) == 0) {
         let width = 1 + random.below(3) as u32;
-        rows.push(leaf(width));
+        rows.push(leaf(parent, width));
         return width;
     }
     let count = if random.below(6) == 0 { 0 } else { 1 + random.below(4) as u32 };
     let row = rows.len();
-    rows.push(node(0, count));
-    let width = (0..count).map(|_| add_subtree(random, depth - 1, rows)).sum();
-    rows[row] = node(width, count);
+    rows.push(node(parent, 0, count));
+    let width = (0..count).map(|_| add_subtree(random, depth - 1, row, rows)).sum();
+    rows[row] = node(parent, width, count);
     width
 }
 
@@ -118,7 +112,7 @@ fn random_trees_are_walked_as_the_model_says() {
         let mut rows = Vec::new();
         while rows.first().is_none_or(|root: &Row| root[0] == 1) {
             rows.clear();
-            add_subtree(&mut random, 1 + turn % 5, &mut rows);
+            add_subtree(&mut random, 1 + turn % 5, 0, &mut rows);
         }
         items += check(&rows);
     }
@@ -127,9 +121,10 @@ fn random_trees_are_walked_as_the_model_says() {
 
 #[test]
 fn nodes_without_text_are_passed_by() {
-    check(&[node(0, 0)]);
-    check(&[node(0, 2), node(0, 0), node(0, 1), node(0, 0)]);
-    check(&[node(3, 5), node(0, 0), leaf(1), node(0, 0), node(2, 2), leaf(2), node(0, 0), node(0, 0)]);
+    check(&[node(0, 0, 0)]);
+    check(&[node(0, 0, 2), node(0, 0, 0), node(0, 0, 1), node(2, 0, 0)]);
+    let front = [node(0, 3, 5), node(0, 0, 0), leaf(0, 1), node(0, 0, 0)];
+    check(&[front.as_slice(), &[node(0, 2, 2), leaf(4, 2), node(4, 0, 0), node(0, 0, 0)]].concat());
 }
 
 #[test]

@@ -6,7 +6,7 @@
 #[path = "common/answers.rs"]
 mod answers;
 
-use dt_parser::{Input, Item, Message, Parse, Parser, Report, Setting};
+use dt_parser::{Input, Item, Message, Node, Parse, Parser, Report, Setting};
 use std::fmt::Write;
 
 #[test]
@@ -70,7 +70,9 @@ fn lines(parse: &Parse<'_>) -> String {
             Item::Node(node) => (0, node.kind().number(), node.children().count()),
             Item::Leaf(leaf) => (1, leaf.kind().number(), leaf.tokens().len()),
         };
-        writeln!(out, "R {class} {kind} {} {count}", item.range().len()).unwrap();
+        // the root has no parent, and its row names itself
+        let parent = item.parent().map_or(item.row(), Node::row);
+        writeln!(out, "R {class} {kind} {} {count} {parent}", item.range().len()).unwrap();
     }
     write!(out, "{}", parse.tree).unwrap();
     for error in &parse.lexical_errors {

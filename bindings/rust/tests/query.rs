@@ -82,8 +82,7 @@ fn a_tree_answers_as_the_proved_calls_do_in_the_oracles_cases() {
     for case in answers::all().into_iter().filter(|case| case.entry == Entrypoint::SourceFile) {
         let input = Input::new(&case.text, case.tokens);
         let mut source = Source::new(&input);
-        let rows_there = case.answer.lines().filter(|line| line.starts_with("R ")).count();
-        assert_eq!(source.trees[0].item_count(), rows_there, "{}", case.line);
+        assert_eq!(source.trees[0].item_count(), answers::tree_rows(&case.answer).len(), "{}", case.line);
         source.check_offsets(None);
         source.check_ranges(&mut random, 60);
         cases += 1;

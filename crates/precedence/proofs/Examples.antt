@@ -6,11 +6,12 @@ use mathlib.Core.Bool.{Bool, true, false, _&&_}
 use mathlib.Core.List.{List, [], _∷_, _++_}
 use lib.Dec.{eqb}
 use lib.ListN.{length, take, drop, replicate}
+use Rattle.definitions.specs.Layout.{TREE-ROW}
 use Rattle.definitions.specs.TokenKind as K
 use Rattle.definitions.specs.Token.{tokens-of}
 use Rattle.definitions.specs.Skeleton.{_⧺_}
 use Rattle.definitions.specs.Place.{place}
-use Rattle.definitions.specs.Parent.{rows, rows-under}
+use Rattle.definitions.specs.Parent.{rows-under}
 use Rattle.definitions.specs.C.{plain, Expr, literal, invocation, prefix, binary, ternary}
 use Rattle.definitions.specs.Call.{Buffers, Result, call}
 use Rattle.precedence.specs.Nodes.{cell}
@@ -28,13 +29,14 @@ record Example : Type 0 where
   input : List ℕ
   numbers : List ℕ
   row : ℕ
+  parent : ℕ
   tree : Tree
   before : ℕ
   marks : List ℕ
   strict-marks : List ℕ
 
-example : ℕ → List ℕ → List ℕ → ℕ → Tree → ℕ → List ℕ → List ℕ → Example
-example n i k p t b m s = record { entry = n; input = i; numbers = k; row = p; tree = t; before = b; marks = m; strict-marks = s }
+example : ℕ → List ℕ → List ℕ → ℕ → ℕ → Tree → ℕ → List ℕ → List ℕ → Example
+example n i k p u t b m s = record { entry = n; input = i; numbers = k; row = p; parent = u; tree = t; before = b; marks = m; strict-marks = s }
 
 one : Expr
 one = literal K.Number
@@ -57,38 +59,38 @@ examples : List Example
 unfolding example one labelled-bytes labelled-numbers referring-bytes referring-numbers
 examples =
     -- entry 4, `(1?1:1?1:1)`: the ternary groups from right to left, and is one InfixExpr of five parts
-    example 4 (40 ∷ 49 ∷ 63 ∷ 49 ∷ 58 ∷ 49 ∷ 63 ∷ 49 ∷ 58 ∷ 49 ∷ 41 ∷ []) (41 ∷ 1 ∷ 35 ∷ 1 ∷ 60 ∷ 1 ∷ 35 ∷ 1 ∷ 31 ∷ 1 ∷ 35 ∷ 1 ∷ 60 ∷ 1 ∷ 35 ∷ 1 ∷ 31 ∷ 1 ∷ 35 ∷ 1 ∷ 42 ∷ 1 ∷ []) 1 (holds (ternary one one (ternary one one one))) 0 [] []
+    example 4 (40 ∷ 49 ∷ 63 ∷ 49 ∷ 58 ∷ 49 ∷ 63 ∷ 49 ∷ 58 ∷ 49 ∷ 41 ∷ []) (41 ∷ 1 ∷ 35 ∷ 1 ∷ 60 ∷ 1 ∷ 35 ∷ 1 ∷ 31 ∷ 1 ∷ 35 ∷ 1 ∷ 60 ∷ 1 ∷ 35 ∷ 1 ∷ 31 ∷ 1 ∷ 35 ∷ 1 ∷ 42 ∷ 1 ∷ []) 1 0 (holds (ternary one one (ternary one one one))) 0 [] []
     -- entry 4, `( 1 - 1*1 -1)`: minus groups from left to right; trivia stand before the nodes that follow them
-    ∷ example 4 (40 ∷ 32 ∷ 49 ∷ 32 ∷ 45 ∷ 32 ∷ 49 ∷ 42 ∷ 49 ∷ 32 ∷ 45 ∷ 49 ∷ 41 ∷ []) (41 ∷ 1 ∷ 0 ∷ 1 ∷ 35 ∷ 1 ∷ 0 ∷ 1 ∷ 44 ∷ 1 ∷ 0 ∷ 1 ∷ 35 ∷ 1 ∷ 45 ∷ 1 ∷ 35 ∷ 1 ∷ 0 ∷ 1 ∷ 44 ∷ 1 ∷ 35 ∷ 1 ∷ 42 ∷ 1 ∷ []) 1 (holds (binary (binary one K.Minus (binary one K.Asterisk one)) K.Minus one)) 0 [] []
+    ∷ example 4 (40 ∷ 32 ∷ 49 ∷ 32 ∷ 45 ∷ 32 ∷ 49 ∷ 42 ∷ 49 ∷ 32 ∷ 45 ∷ 49 ∷ 41 ∷ []) (41 ∷ 1 ∷ 0 ∷ 1 ∷ 35 ∷ 1 ∷ 0 ∷ 1 ∷ 44 ∷ 1 ∷ 0 ∷ 1 ∷ 35 ∷ 1 ∷ 45 ∷ 1 ∷ 35 ∷ 1 ∷ 0 ∷ 1 ∷ 44 ∷ 1 ∷ 35 ∷ 1 ∷ 42 ∷ 1 ∷ []) 1 0 (holds (binary (binary one K.Minus (binary one K.Asterisk one)) K.Minus one)) 0 [] []
     -- entry 3, `<(-1)>`
-    ∷ example 3 (60 ∷ 40 ∷ 45 ∷ 49 ∷ 41 ∷ 62 ∷ []) (39 ∷ 1 ∷ 41 ∷ 1 ∷ 44 ∷ 1 ∷ 35 ∷ 1 ∷ 42 ∷ 1 ∷ 40 ∷ 1 ∷ []) 3 (holds (prefix K.Minus one)) 1 [] []
+    ∷ example 3 (60 ∷ 40 ∷ 45 ∷ 49 ∷ 41 ∷ 62 ∷ []) (39 ∷ 1 ∷ 41 ∷ 1 ∷ 44 ∷ 1 ∷ 35 ∷ 1 ∷ 42 ∷ 1 ∷ 40 ∷ 1 ∷ []) 3 1 (holds (prefix K.Minus one)) 1 [] []
     -- entry 1, `a=<(f(1,))>;`: an argument list, the second argument empty
-    ∷ example 1 (97 ∷ 61 ∷ 60 ∷ 40 ∷ 102 ∷ 40 ∷ 49 ∷ 44 ∷ 41 ∷ 41 ∷ 62 ∷ 59 ∷ []) (27 ∷ 1 ∷ 28 ∷ 1 ∷ 39 ∷ 1 ∷ 41 ∷ 1 ∷ 27 ∷ 1 ∷ 41 ∷ 1 ∷ 35 ∷ 1 ∷ 2 ∷ 1 ∷ 42 ∷ 1 ∷ 42 ∷ 1 ∷ 40 ∷ 1 ∷ 29 ∷ 1 ∷ []) 7 (holds (invocation (plain K.Number ∷ plain K.Comma ∷ []))) 3 [] []
+    ∷ example 1 (97 ∷ 61 ∷ 60 ∷ 40 ∷ 102 ∷ 40 ∷ 49 ∷ 44 ∷ 41 ∷ 41 ∷ 62 ∷ 59 ∷ []) (27 ∷ 1 ∷ 28 ∷ 1 ∷ 39 ∷ 1 ∷ 41 ∷ 1 ∷ 27 ∷ 1 ∷ 41 ∷ 1 ∷ 35 ∷ 1 ∷ 2 ∷ 1 ∷ 42 ∷ 1 ∷ 42 ∷ 1 ∷ 40 ∷ 1 ∷ 29 ∷ 1 ∷ []) 7 5 (holds (invocation (plain K.Number ∷ plain K.Comma ∷ []))) 3 [] []
     -- entry 1, `a=<(f (1))>;`: a blank before the bracket, so no argument list and no tree; a report between 3 and 9
-    ∷ example 1 (97 ∷ 61 ∷ 60 ∷ 40 ∷ 102 ∷ 32 ∷ 40 ∷ 49 ∷ 41 ∷ 41 ∷ 62 ∷ 59 ∷ []) (27 ∷ 1 ∷ 28 ∷ 1 ∷ 39 ∷ 1 ∷ 41 ∷ 1 ∷ 27 ∷ 1 ∷ 0 ∷ 1 ∷ 41 ∷ 1 ∷ 35 ∷ 1 ∷ 42 ∷ 1 ∷ 42 ∷ 1 ∷ 40 ∷ 1 ∷ 29 ∷ 1 ∷ []) 7 nothing 3 (5 ∷ 9 ∷ []) []
+    ∷ example 1 (97 ∷ 61 ∷ 60 ∷ 40 ∷ 102 ∷ 32 ∷ 40 ∷ 49 ∷ 41 ∷ 41 ∷ 62 ∷ 59 ∷ []) (27 ∷ 1 ∷ 28 ∷ 1 ∷ 39 ∷ 1 ∷ 41 ∷ 1 ∷ 27 ∷ 1 ∷ 0 ∷ 1 ∷ 41 ∷ 1 ∷ 35 ∷ 1 ∷ 42 ∷ 1 ∷ 42 ∷ 1 ∷ 40 ∷ 1 ∷ 29 ∷ 1 ∷ []) 7 5 nothing 3 (5 ∷ 9 ∷ []) []
     -- entry 4, `#if (1+1) #endif` without the blanks: a cell in a conditional
-    ∷ example 4 (35 ∷ 105 ∷ 102 ∷ 40 ∷ 49 ∷ 43 ∷ 49 ∷ 41 ∷ 35 ∷ 101 ∷ 110 ∷ 100 ∷ 105 ∷ 102 ∷ []) (4 ∷ 3 ∷ 41 ∷ 1 ∷ 35 ∷ 1 ∷ 43 ∷ 1 ∷ 35 ∷ 1 ∷ 42 ∷ 1 ∷ 11 ∷ 6 ∷ []) 4 (holds (binary one K.Plus one)) 1 [] []
+    ∷ example 4 (35 ∷ 105 ∷ 102 ∷ 40 ∷ 49 ∷ 43 ∷ 49 ∷ 41 ∷ 35 ∷ 101 ∷ 110 ∷ 100 ∷ 105 ∷ 102 ∷ []) (4 ∷ 3 ∷ 41 ∷ 1 ∷ 35 ∷ 1 ∷ 43 ∷ 1 ∷ 35 ∷ 1 ∷ 42 ∷ 1 ∷ 11 ∷ 6 ∷ []) 4 3 (holds (binary one K.Plus one)) 1 [] []
     -- entry 4, `(1(1)`: the second cell is sound, and the report for the first has its mark at the second's LParen, not
     -- above
-    ∷ example 4 (40 ∷ 49 ∷ 40 ∷ 49 ∷ 41 ∷ []) (41 ∷ 1 ∷ 35 ∷ 1 ∷ 41 ∷ 1 ∷ 35 ∷ 1 ∷ 42 ∷ 1 ∷ []) 5 (holds one) 2 (2 ∷ []) []
+    ∷ example 4 (40 ∷ 49 ∷ 40 ∷ 49 ∷ 41 ∷ []) (41 ∷ 1 ∷ 35 ∷ 1 ∷ 41 ∷ 1 ∷ 35 ∷ 1 ∷ 42 ∷ 1 ∷ []) 5 0 (holds one) 2 (2 ∷ []) []
     -- entry 4, `(1+)`: the report's mark is the RParen's index
-    ∷ example 4 (40 ∷ 49 ∷ 43 ∷ 41 ∷ []) (41 ∷ 1 ∷ 35 ∷ 1 ∷ 43 ∷ 1 ∷ 42 ∷ 1 ∷ []) 1 nothing 0 (3 ∷ []) []
+    ∷ example 4 (40 ∷ 49 ∷ 43 ∷ 41 ∷ []) (41 ∷ 1 ∷ 35 ∷ 1 ∷ 43 ∷ 1 ∷ 42 ∷ 1 ∷ []) 1 0 nothing 0 (3 ∷ []) []
     -- entry 1, `/{1a:b=<(1+2)>;};`: a label that starts with a digit, before a sound cell; in the strict setting a
     -- report, with its mark at the label
-    ∷ example 1 labelled-bytes labelled-numbers 13 (holds (binary one K.Plus one)) 8 [] (2 ∷ [])
+    ∷ example 1 labelled-bytes labelled-numbers 13 11 (holds (binary one K.Plus one)) 8 [] (2 ∷ [])
     -- entry 1, `a=<(1+2) &1b>;`: a reference, after it; the mark is the name's, not that of `&`
-    ∷ example 1 referring-bytes referring-numbers 7 (holds (binary one K.Plus one)) 3 [] (10 ∷ [])
+    ∷ example 1 referring-bytes referring-numbers 7 5 (holds (binary one K.Plus one)) 3 [] (10 ∷ [])
     -- entry 4, `&1a(1)&2b`: on both sides, and no blank between
-    ∷ example 4 (38 ∷ 49 ∷ 97 ∷ 40 ∷ 49 ∷ 41 ∷ 38 ∷ 50 ∷ 98 ∷ []) (30 ∷ 1 ∷ 35 ∷ 1 ∷ 27 ∷ 1 ∷ 41 ∷ 1 ∷ 35 ∷ 1 ∷ 42 ∷ 1 ∷ 30 ∷ 1 ∷ 35 ∷ 1 ∷ 27 ∷ 1 ∷ []) 4 (holds one) 3 [] (1 ∷ 7 ∷ [])
+    ∷ example 4 (38 ∷ 49 ∷ 97 ∷ 40 ∷ 49 ∷ 41 ∷ 38 ∷ 50 ∷ 98 ∷ []) (30 ∷ 1 ∷ 35 ∷ 1 ∷ 27 ∷ 1 ∷ 41 ∷ 1 ∷ 35 ∷ 1 ∷ 42 ∷ 1 ∷ 30 ∷ 1 ∷ 35 ∷ 1 ∷ 27 ∷ 1 ∷ []) 4 0 (holds one) 3 [] (1 ∷ 7 ∷ [])
     -- entry 4, `(1+)&1b`: no tree; the report between the brackets is there in both settings, and comes first
-    ∷ example 4 (40 ∷ 49 ∷ 43 ∷ 41 ∷ 38 ∷ 49 ∷ 98 ∷ []) (41 ∷ 1 ∷ 35 ∷ 1 ∷ 43 ∷ 1 ∷ 42 ∷ 1 ∷ 30 ∷ 1 ∷ 35 ∷ 1 ∷ 27 ∷ 1 ∷ []) 1 nothing 0 (3 ∷ []) (5 ∷ [])
+    ∷ example 4 (40 ∷ 49 ∷ 43 ∷ 41 ∷ 38 ∷ 49 ∷ 98 ∷ []) (41 ∷ 1 ∷ 35 ∷ 1 ∷ 43 ∷ 1 ∷ 42 ∷ 1 ∷ 30 ∷ 1 ∷ 35 ∷ 1 ∷ 27 ∷ 1 ∷ []) 1 0 nothing 0 (3 ∷ []) (5 ∷ [])
     ∷ []
 
--- the rows of a cell that holds a tree
-tree-rows : Tree → List ℕ → ℕ → List ℕ
+-- the rows of a cell that holds a tree: row p, under row u
+tree-rows : Tree → ℕ → ℕ → List ℕ → ℕ → List ℕ
 unfolding rows-under place _⧺_
-tree-rows (holds e) tokens i = rows (place (cell e) (drop i (tokens-of tokens)))
-tree-rows nothing tokens i = []
+tree-rows (holds e) u p tokens i = rows-under u p (place (cell e) (drop i (tokens-of tokens)))
+tree-rows nothing u p tokens i = []
 
 mark-list : ℕ → List ℕ → List ℕ
 mark-list zero l = []
@@ -97,7 +99,7 @@ mark-list (suc q) l = mark-list q l ++ (mark-in q l ∷ [])
 -- the tokens before the row, the marks, and as many numbers from the row on
 found : ℕ → ℕ → Result → List ℕ
 unfolding mark-list tokens-before
-found p size r = tokens-before p (r .buffers .trees) ∷ (mark-list (r .answer .report-count) (r .buffers .reports) ++ take size (drop (4 * p) (r .buffers .trees)))
+found p size r = tokens-before p (r .buffers .trees) ∷ (mark-list (r .answer .report-count) (r .buffers .reports) ++ take size (drop (TREE-ROW * p) (r .buffers .trees)))
 
 -- buffers with room enough
 lent : Buffers
@@ -107,14 +109,14 @@ called : List Example → List (List ℕ)
 unfolding found tree-rows call lent
 called [] = []
 called (x ∷ l) =
-    let size = length (tree-rows (x .tree) (x .numbers) (x .before)) in
+    let size = length (tree-rows (x .tree) (x .parent) (x .row) (x .numbers) (x .before)) in
     found (x .row) size (call (x .entry) 0 (x .input) (x .numbers) lent) ∷ found (x .row) size (call (x .entry) 1 (x .input) (x .numbers) lent) ∷ called l
 
 wanted : List Example → List (List ℕ)
 unfolding tree-rows
 wanted [] = []
 wanted (x ∷ l) =
-    let rows-of = tree-rows (x .tree) (x .numbers) (x .before) in
+    let rows-of = tree-rows (x .tree) (x .parent) (x .row) (x .numbers) (x .before) in
     (x .before ∷ (x .marks ++ rows-of)) ∷ (x .before ∷ ((x .marks ++ x .strict-marks) ++ rows-of)) ∷ wanted l
 
 -- number by number: the two sides are computed, and not compared as terms

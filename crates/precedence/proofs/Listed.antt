@@ -57,7 +57,7 @@ cell ks = token K.LParen ∷ bracketed ks
 -- the kind of what the outermost operator of a cell starts with: row 4, after the root, the DtExpr, the LParen and the
 -- operator's own row
 abbrev first-operand : List Token → Skeleton → ℕ
-first-operand ts o = getD (rows (root N.EntryCells o ts)) 17 0
+first-operand ts o = getD (rows (root N.EntryCells o ts)) 21 0
 
 -- by another left and another right of a level
 abbrev powers-by : (ℕ → ℕ) → (ℕ → ℕ) → List Level → List Pair

@@ -11,7 +11,7 @@ use Rattle.definitions.specs.TokenKind as K
 use Rattle.definitions.specs.Token.{Token, tokens-of}
 use Rattle.definitions.specs.Skeleton.{_⧺_}
 use Rattle.definitions.specs.Place.{place}
-use Rattle.definitions.specs.Parent.{rows, rows-under}
+use Rattle.definitions.specs.Parent.{rows-under}
 use Rattle.definitions.specs.C.{symbols, line-in, Expr, binary, Gives}
 use Rattle.definitions.specs.Call.{Result}
 use Rattle.precedence.specs.Precedence.{tokens-before, mark-in, Starts-cell, Between, Holds-tree, Judged}
@@ -41,19 +41,19 @@ not-given g = omega (arith, g .well-formed .3)
 
 -- the rows of the right tree, and those of the other
 abbrev right : List ℕ
-right = 0 ∷ 3 ∷ 7 ∷ 1 ∷ 0 ∷ 18 ∷ 7 ∷ 3 ∷ 1 ∷ 41 ∷ 1 ∷ 1 ∷ 0 ∷ 6 ∷ 5 ∷ 3 ∷ 0 ∷ 9 ∷ 1 ∷ 1 ∷ 1 ∷ 35 ∷ 1 ∷ 1 ∷ 1 ∷ 43 ∷ 1 ∷ 1 ∷ 0 ∷ 6 ∷ 3 ∷ 3 ∷ 0 ∷ 9 ∷ 1 ∷ 1 ∷ 1 ∷ 35 ∷ 1 ∷ 1 ∷ 1 ∷ 45 ∷ 1 ∷ 1 ∷ 0 ∷ 9 ∷ 1 ∷ 1 ∷ 1 ∷ 35 ∷ 1 ∷ 1 ∷ 1 ∷ 42 ∷ 1 ∷ 1 ∷ []
+right = 0 ∷ 3 ∷ 7 ∷ 1 ∷ 0 ∷ 0 ∷ 18 ∷ 7 ∷ 3 ∷ 0 ∷ 1 ∷ 41 ∷ 1 ∷ 1 ∷ 1 ∷ 0 ∷ 6 ∷ 5 ∷ 3 ∷ 1 ∷ 0 ∷ 9 ∷ 1 ∷ 1 ∷ 3 ∷ 1 ∷ 35 ∷ 1 ∷ 1 ∷ 4 ∷ 1 ∷ 43 ∷ 1 ∷ 1 ∷ 3 ∷ 0 ∷ 6 ∷ 3 ∷ 3 ∷ 3 ∷ 0 ∷ 9 ∷ 1 ∷ 1 ∷ 7 ∷ 1 ∷ 35 ∷ 1 ∷ 1 ∷ 8 ∷ 1 ∷ 45 ∷ 1 ∷ 1 ∷ 7 ∷ 0 ∷ 9 ∷ 1 ∷ 1 ∷ 7 ∷ 1 ∷ 35 ∷ 1 ∷ 1 ∷ 11 ∷ 1 ∷ 42 ∷ 1 ∷ 1 ∷ 1 ∷ []
 
 abbrev wrong : List ℕ
-wrong = 0 ∷ 3 ∷ 7 ∷ 1 ∷ 0 ∷ 18 ∷ 7 ∷ 3 ∷ 1 ∷ 41 ∷ 1 ∷ 1 ∷ 0 ∷ 6 ∷ 5 ∷ 3 ∷ 0 ∷ 6 ∷ 3 ∷ 3 ∷ 0 ∷ 9 ∷ 1 ∷ 1 ∷ 1 ∷ 35 ∷ 1 ∷ 1 ∷ 1 ∷ 43 ∷ 1 ∷ 1 ∷ 0 ∷ 9 ∷ 1 ∷ 1 ∷ 1 ∷ 35 ∷ 1 ∷ 1 ∷ 1 ∷ 45 ∷ 1 ∷ 1 ∷ 0 ∷ 9 ∷ 1 ∷ 1 ∷ 1 ∷ 35 ∷ 1 ∷ 1 ∷ 1 ∷ 42 ∷ 1 ∷ 1 ∷ []
+wrong = 0 ∷ 3 ∷ 7 ∷ 1 ∷ 0 ∷ 0 ∷ 18 ∷ 7 ∷ 3 ∷ 0 ∷ 1 ∷ 41 ∷ 1 ∷ 1 ∷ 1 ∷ 0 ∷ 6 ∷ 5 ∷ 3 ∷ 1 ∷ 0 ∷ 6 ∷ 3 ∷ 3 ∷ 3 ∷ 0 ∷ 9 ∷ 1 ∷ 1 ∷ 4 ∷ 1 ∷ 35 ∷ 1 ∷ 1 ∷ 5 ∷ 1 ∷ 43 ∷ 1 ∷ 1 ∷ 4 ∷ 0 ∷ 9 ∷ 1 ∷ 1 ∷ 4 ∷ 1 ∷ 35 ∷ 1 ∷ 1 ∷ 8 ∷ 1 ∷ 45 ∷ 1 ∷ 1 ∷ 3 ∷ 0 ∷ 9 ∷ 1 ∷ 1 ∷ 3 ∷ 1 ∷ 35 ∷ 1 ∷ 1 ∷ 11 ∷ 1 ∷ 42 ∷ 1 ∷ 1 ∷ 1 ∷ []
 
 not-held : Holds-tree (tokens-of numbers) its-brackets (wrote 14 right 0 []) 1 sum-first → ⊥
 unfolding its-brackets rows-under place _⧺_
-not-held h = let n : _≡_ {A = ℕ} 9 6 = ap (λ (l : List ℕ). getD l 13 0) (h .rows-are) in omega arith
+not-held h = let n : _≡_ {A = ℕ} 9 6 = ap (λ (l : List ℕ). getD l 16 0) (h .rows-are) in omega arith
 
 -- the table gives the brackets a tree, and their DtExpr holds the other
 another-tree : Judged (tokens-of numbers) its-brackets (wrote 14 wrong 0 []) 1 → ⊥
 unfolding its-brackets rows-under place _⧺_
-another-tree j = let n : _≡_ {A = ℕ} 6 9 = ap (λ (l : List ℕ). getD l 13 0) (j .tree _ its-tree .1 .rows-are) in omega arith
+another-tree j = let n : _≡_ {A = ℕ} 6 9 = ap (λ (l : List ℕ). getD l 16 0) (j .tree _ its-tree .1 .rows-are) in omega arith
 
 -- ---------------------------------------------------------------- reports
 
@@ -113,7 +113,7 @@ name-beside j = go (j .no-tree no-tree .0) (j .no-tree no-tree .1) where
 -- ---------------------------------------------------------------- cells
 
 -- a DtExpr whose first child is not its bracket
-bracket-lost : Starts-cell (tokens-of numbers) 1 (wrote 3 (0 ∷ 3 ∷ 1 ∷ 1 ∷ 0 ∷ 18 ∷ 1 ∷ 1 ∷ 1 ∷ 35 ∷ 1 ∷ 1 ∷ []) 0 []) → ⊥
+bracket-lost : Starts-cell (tokens-of numbers) 1 (wrote 3 (0 ∷ 3 ∷ 1 ∷ 1 ∷ 0 ∷ 0 ∷ 18 ∷ 1 ∷ 1 ∷ 0 ∷ 1 ∷ 35 ∷ 1 ∷ 1 ∷ 1 ∷ []) 0 []) → ⊥
 bracket-lost s = let n : K.Number ≡ K.LParen = ap (λ (l : List ℕ). getD l 1 0) (s .row) in omega arith
 
 -- the right rows, where the token at their place is not a bracket

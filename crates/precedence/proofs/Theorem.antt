@@ -73,8 +73,9 @@ pub record Answered (ts : List Token) (p : ℕ) (r : Result) : Type 0 where
   pub starts : drop (tokens-before p (r .buffers .trees)) ts ≡ bracket ∷ beyond
   pub is-bracket : seen bracket ≡ K.LParen
   pub children : Tree
+  pub parent : ℕ
   pub more : List ℕ
-  pub rows-are : drop (TREE-ROW * p) (r .buffers .trees) ≡ rows (subtree N.DtExpr children nil) ++ more
+  pub rows-are : drop (TREE-ROW * p) (r .buffers .trees) ≡ rows-under parent p (subtree N.DtExpr children nil) ++ more
   pub paired : Partner beyond ⊎ ((q : ℕ) × Tells r (tokens-before p (r .buffers .trees)) children q)
 
 -- ---------------------------------------------------------------- a cell's rows
@@ -104,7 +105,7 @@ module _ (setting : ℕ) (e : Entry) (bytes : List ℕ) (ts : List Token) (l : B
 
   trees-count : r .answer .tree-count ≡ row-count tree
   unfolding sheets
-  trees-count = div-eq-of-eq-mul-right (omega arith) (rows-length tree)
+  trees-count = div-eq-of-eq-mul-right (omega arith) (rows-length tree 0 0)
 
   -- the rows of the run's reports, and those of the Names
   abbrev run-rows : List ℕ
@@ -158,12 +159,19 @@ module _ (setting : ℕ) (e : Entry) (bytes : List ℕ) (ts : List Token) (l : B
   abbrev Fact : List Token → Tree → Type 0
   Fact us c = Settled all us c × Apart names (length ts) us c
 
-  found : (p : ℕ) → DtExpr-at p r → Found Fact ts p (r .buffers .trees)
+  found : (p : ℕ) → DtExpr-at p r → Found Fact ts 0 p (r .buffers .trees)
   unfolding sheets
   found p d =
-      find Fact tree (replicate (length (l .trees) - length (rows tree)) 0) ts p
+      find Fact tree 0 0 (replicate (length (l .trees) - length (rows tree)) 0) ts p
       (each-both (Settled all) (Apart names (length ts)) tree ts (entry-settled e ts clear) (reported-apart setting bytes tree ts (lossless e ts)))
-      (omega (arith, trees-count, d .written)) (d .width, d .count, d .row)
+      (omega (arith, trees-count, d .written)) (d .width, d .count, d .parent, d .row)
+
+  -- a buffer's first row is row 0
+  at-row : (p : ℕ) (f : Found Fact ts 0 p (r .buffers .trees))
+      → drop (TREE-ROW * p) (r .buffers .trees) ≡ rows-under (f .parent) p (subtree N.DtExpr (f .children) nil) ++ f .more
+  at-row p f =
+      let z : 0 + p ≡ p = omega arith in
+      f .rows-are ∙ ap (λ (n : ℕ). rows-under (f .parent) n (subtree N.DtExpr (f .children) nil) ++ f .more) z
 
   -- ---------------------------------------------------------------- it starts a cell
 
@@ -175,10 +183,11 @@ module _ (setting : ℕ) (e : Entry) (bytes : List ℕ) (ts : List Token) (l : B
       let l = r .buffers .trees in
       let next : drop (TREE-ROW * suc p) l ≡ drop TREE-ROW (drop (TREE-ROW * p) l) =
       ap (λ (n : ℕ). drop n l) (let z : TREE-ROW * suc p ≡ TREE-ROW * p + TREE-ROW = omega arith in z) ∙ sym (drop-drop TREE-ROW (TREE-ROW * p) l) in
-      let there : drop TREE-ROW (drop (TREE-ROW * p) l) ≡ rows (f .children) ++ f .more = ap (drop TREE-ROW) (f .rows-are) ∙ rw (append-nil (rows (f .children))) in
+      let there : drop TREE-ROW (drop (TREE-ROW * p) l) ≡ rows-under p (suc p) (f .children) ++ f .more =
+      ap (drop TREE-ROW) (at-row p f) ∙ rw (append-nil (rows-under p (suc p) (f .children))) in
       record {
         width = byte-count (s .bracket ∷ []);
-        row = ap (take TREE-ROW) (next ∙ there ∙ ap (λ (c : Tree). rows c ++ f .more) (s .begins));
+        row = ap (take TREE-ROW) (next ∙ there ∙ ap (λ (c : Tree). rows-under p (suc p) c ++ f .more) (s .begins));
         bracket = s .bracket;
         after = s .beyond;
         token-is = s .starts;
@@ -207,8 +216,9 @@ module _ (setting : ℕ) (e : Entry) (bytes : List ℕ) (ts : List Token) (l : B
         starts = s .starts;
         is-bracket = s .is-bracket;
         children = f .children;
+        parent = f .parent;
         more = f .more;
-        rows-are = f .rows-are;
+        rows-are = at-row p f;
         paired = tells k (drop k ts) (s .beyond) (f .children) total (ap length (s .starts)) (s .paired);
       }
 
@@ -263,8 +273,9 @@ module _ (setting : ℕ) (e : Entry) (bytes : List ℕ) (ts : List Token) (l : B
           let c = ap (λ (us : List Token). place (one ⧺ (expr-nodes f ⧺ one)) us) tokens-are in
           let w = cell-rows f (b .opening) (b .inner ++ (b .closing ∷ b .after)) (seen-of (b .opening) K.LParen (b .opens) refl) in
           record {
+            parent = found p d .parent;
             more = found p d .more;
-            rows-are = found p d .rows-are ∙ ap (λ (x : Tree). rows x ++ found p d .more) (ap (λ (y : Tree). subtree N.DtExpr y nil) (h ∙ c) ∙ sym w);
+            rows-are = at-row p (found p d) ∙ ap (λ (x : Tree). rows-under (found p d .parent) p x ++ found p d .more) (ap (λ (y : Tree). subtree N.DtExpr y nil) (h ∙ c) ∙ sym w);
           }
 
       -- MESSAGE 8 IN NO BRACKETS that C's table gives a tree: no node of the tree judges a Name, and the tree reaches

@@ -51,7 +51,7 @@ its-brackets =
 
 its-row : DtExpr-at 1 parsed
 unfolding call
-its-row = record { written = omega arith; width = 7; count = 3; row = refl }
+its-row = record { written = omega arith; width = 7; count = 3; parent = 0; row = refl }
 
 -- product before sum
 pub its-tree : Gives (symbols false (its-brackets .inner)) (binary one K.Plus (binary one K.Asterisk one))
@@ -96,7 +96,7 @@ inside-a-file =
 
 file-judgement : Judged (tokens-of file-numbers) inside-a-file (call 1 0 file-input file-numbers lent) 7
 unfolding call inside-a-file tokens-before
-file-judgement = c-table 1 0 file-input file-numbers lent refl 7 (record { written = omega arith; width = 5; count = 3; row = refl }) .1 inside-a-file refl
+file-judgement = c-table 1 0 file-input file-numbers lent refl 7 (record { written = omega arith; width = 5; count = 3; parent = 5; row = refl }) .1 inside-a-file refl
 
 bracketed-one : Gives (symbols false (inside-a-file .inner)) (bracketed one)
 unfolding inside-a-file symbols one-of
@@ -131,7 +131,7 @@ short-brackets =
 
 short-judgement : Judged (tokens-of short-numbers) short-brackets short-parsed 1
 unfolding call short-brackets tokens-before
-short-judgement = c-table 4 0 (40 ∷ 49 ∷ 43 ∷ 41 ∷ []) short-numbers lent refl 1 (record { written = omega arith; width = 4; count = 3; row = refl }) .1 short-brackets refl
+short-judgement = c-table 4 0 (40 ∷ 49 ∷ 43 ∷ 41 ∷ []) short-numbers lent refl 1 (record { written = omega arith; width = 4; count = 3; parent = 0; row = refl }) .1 short-brackets refl
 
 its-report : Between (tokens-of short-numbers) short-brackets short-parsed 0
 unfolding call short-brackets
@@ -177,7 +177,7 @@ strict-tree = record { well-formed = (omega arith, refl, refl, omega arith, omeg
 
 strict-judgement : Judged (tokens-of strict-numbers) strict-brackets strict-parsed 1
 unfolding call strict-brackets tokens-before
-strict-judgement = c-table 4 1 strict-input strict-numbers lent refl 1 (record { written = omega arith; width = 5; count = 3; row = refl }) .1 strict-brackets refl
+strict-judgement = c-table 4 1 strict-input strict-numbers lent refl 1 (record { written = omega arith; width = 5; count = 3; parent = 0; row = refl }) .1 strict-brackets refl
 
 strict-answer : ((q : ℕ) → Between (tokens-of strict-numbers) strict-brackets strict-parsed q → ⊥) × Holds-tree (tokens-of strict-numbers) strict-brackets strict-parsed 1 (binary one K.Plus one)
 strict-answer = strict-judgement .tree _ strict-tree
@@ -227,7 +227,7 @@ faulty-brackets =
 
 faulty-judgement : Judged (tokens-of faulty-numbers) faulty-brackets faulty-parsed 4
 unfolding call faulty-brackets tokens-before
-faulty-judgement = c-table 4 1 faulty-input faulty-numbers lent refl 4 (record { written = omega arith; width = 4; count = 3; row = refl }) .1 faulty-brackets refl
+faulty-judgement = c-table 4 1 faulty-input faulty-numbers lent refl 4 (record { written = omega arith; width = 4; count = 3; parent = 0; row = refl }) .1 faulty-brackets refl
 
 faulty-report : (q : ℕ) × Between (tokens-of faulty-numbers) faulty-brackets faulty-parsed q
 unfolding faulty-brackets short-brackets

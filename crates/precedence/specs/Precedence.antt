@@ -14,13 +14,13 @@ use Rattle.definitions.specs.NodeKind as N
 use Rattle.definitions.specs.Token.{Token, tokens-of}
 use Rattle.definitions.specs.C.{Symbol, symbols, Balanced, Expr, Gives}
 use Rattle.definitions.specs.Place.{place}
-use Rattle.definitions.specs.Parent.{rows}
+use Rattle.definitions.specs.Parent.{rows-under}
 use Rattle.definitions.specs.Call.{Buffers, Result, call}
 use Rattle.precedence.specs.Nodes.{cell}
 
 -- ---------------------------------------------------------------- rows
 
--- the numbers of tree row p: class, kind, width, count
+-- the numbers of tree row p: class, kind, width, count, the parent's row
 abbrev pub tree-row-at : ℕ → List ℕ → List ℕ
 tree-row-at p l = take TREE-ROW (drop (TREE-ROW * p) l)
 
@@ -31,7 +31,8 @@ tokens-before (suc p) [] = 0
 tokens-before (suc p) (c ∷ []) = 0
 tokens-before (suc p) (c ∷ k ∷ []) = 0
 tokens-before (suc p) (c ∷ k ∷ w ∷ []) = 0
-tokens-before (suc p) (c ∷ k ∷ w ∷ n ∷ l) = cond (eqb c LEAF) n 0 + tokens-before p l
+tokens-before (suc p) (c ∷ k ∷ w ∷ n ∷ []) = 0
+tokens-before (suc p) (c ∷ k ∷ w ∷ n ∷ parent ∷ l) = cond (eqb c LEAF) n 0 + tokens-before p l
 
 -- the mark in report row q
 abbrev pub mark-in : ℕ → List ℕ → ℕ
@@ -44,13 +45,14 @@ pub record DtExpr-at (p : ℕ) (r : Result) : Type 0 where
   pub written : p < r .answer .tree-count
   pub width : ℕ
   pub count : ℕ
-  pub row : tree-row-at p (r .buffers .trees) ≡ NODE ∷ N.DtExpr ∷ width ∷ count ∷ []
+  pub parent : ℕ
+  pub row : tree-row-at p (r .buffers .trees) ≡ NODE ∷ N.DtExpr ∷ width ∷ count ∷ parent ∷ []
 
 -- "Starts a cell": the DtExpr's first child is the leaf of an LParen, and the index of that LParen is the number of
 -- tokens before the DtExpr.
 pub record Starts-cell (ts : List Token) (p : ℕ) (r : Result) : Type 0 where
   pub width : ℕ
-  pub row : tree-row-at (suc p) (r .buffers .trees) ≡ LEAF ∷ K.LParen ∷ width ∷ 1 ∷ []
+  pub row : tree-row-at (suc p) (r .buffers .trees) ≡ LEAF ∷ K.LParen ∷ width ∷ 1 ∷ p ∷ []
   pub bracket : Token
   pub after : List Token
   pub token-is : drop (tokens-before p (r .buffers .trees)) ts ≡ bracket ∷ after
@@ -81,12 +83,13 @@ pub record Between (ts : List Token) (b : Brackets ts) (r : Result) (q : ℕ) : 
   pub above : opening-index ts b < mark-in q (r .buffers .reports)
   pub at-most : mark-in q (r .buffers .reports) ≤ closing-index ts b
 
--- the rows from p on are those of the DtExpr that holds the tree e, the trivia among the tokens being where the sink
--- puts them
+-- the rows from p on are those of the DtExpr that holds the tree e, whoever its parent is, the trivia among the tokens
+-- being where the sink puts them
 pub record Holds-tree (ts : List Token) (b : Brackets ts) (r : Result) (p : ℕ) (e : Expr) : Type 0 where
+  pub parent : ℕ
   pub more : List ℕ
   pub rows-are : drop (TREE-ROW * p) (r .buffers .trees)
-      ≡ rows (place (cell e) (b .opening ∷ (b .inner ++ (b .closing ∷ b .after)))) ++ more
+      ≡ rows-under parent p (place (cell e) (b .opening ∷ (b .inner ++ (b .closing ∷ b .after)))) ++ more
 
 -- the judgement of the tokens between the brackets
 pub record Judged (ts : List Token) (b : Brackets ts) (r : Result) (p : ℕ) : Type 0 where

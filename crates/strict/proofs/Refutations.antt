@@ -17,12 +17,12 @@ use Rattle.strict.proofs.Witnesses.{room, two, two-rows, reference-brea
 -- ---------------------------------------------------------------- as it was
 
 -- the strict setting is not as it was
-strict-is-new : call 1 1 two two-rows (room 44 18) ≡ W.call 1 two two-rows (room 44 18) → ⊥
+strict-is-new : call 1 1 two two-rows (room 55 18) ≡ W.call 1 two two-rows (room 55 18) → ⊥
 unfolding call W.call
 strict-is-new e = let n : _≡_ {A = ℕ} 2 0 = ap (λ (r : Result). r .answer .report-count) e in omega arith
 
 -- nor is the old one strict
-two-settings : call 1 1 two two-rows (room 44 18) ≡ call 1 0 two two-rows (room 44 18) → ⊥
+two-settings : call 1 1 two two-rows (room 55 18) ≡ call 1 0 two two-rows (room 55 18) → ⊥
 unfolding call
 two-settings e = let n : _≡_ {A = ℕ} 2 0 = ap (λ (r : Result). r .answer .report-count) e in omega arith
 
@@ -121,7 +121,7 @@ says nt trees nr reports =
 
 -- `1a:&2b{};`, whose tree rows are right
 abbrev with-reports : ℕ → List ℕ → Result
-with-reports = says 11 (0 ∷ 0 ∷ 9 ∷ 1 ∷ 0 ∷ 15 ∷ 9 ∷ 5 ∷ 0 ∷ 19 ∷ 3 ∷ 2 ∷ 1 ∷ 26 ∷ 2 ∷ 2 ∷ 1 ∷ 31 ∷ 1 ∷ 1 ∷ 0 ∷ 21 ∷ 3 ∷ 2 ∷ 1 ∷ 30 ∷ 1 ∷ 1 ∷ 1 ∷ 26 ∷ 2 ∷ 2 ∷ 1 ∷ 37 ∷ 1 ∷ 1 ∷ 1 ∷ 38 ∷ 1 ∷ 1 ∷ 1 ∷ 29 ∷ 1 ∷ 1 ∷ [])
+with-reports = says 11 (0 ∷ 0 ∷ 9 ∷ 1 ∷ 0 ∷ 0 ∷ 15 ∷ 9 ∷ 5 ∷ 0 ∷ 0 ∷ 19 ∷ 3 ∷ 2 ∷ 1 ∷ 1 ∷ 26 ∷ 2 ∷ 2 ∷ 2 ∷ 1 ∷ 31 ∷ 1 ∷ 1 ∷ 2 ∷ 0 ∷ 21 ∷ 3 ∷ 2 ∷ 1 ∷ 1 ∷ 30 ∷ 1 ∷ 1 ∷ 5 ∷ 1 ∷ 26 ∷ 2 ∷ 2 ∷ 5 ∷ 1 ∷ 37 ∷ 1 ∷ 1 ∷ 1 ∷ 1 ∷ 38 ∷ 1 ∷ 1 ∷ 1 ∷ 1 ∷ 29 ∷ 1 ∷ 1 ∷ 1 ∷ [])
 
 abbrev first-name : List ℕ
 first-name = 8 ∷ 0 ∷ 2 ∷ 0 ∷ 0 ∷ 0 ∷ 0 ∷ 0 ∷ 0 ∷ []
@@ -194,7 +194,7 @@ none-in-leaves (leaf k w n f) l h = none-in-leaves f l (judged-ways h .4)
 none-in-leaves (node k w n c f) l h = l
 
 -- entry 2, `{1a}`: the reference is braced
-braced : Exact (123 ∷ 49 ∷ 97 ∷ 125 ∷ []) 0 (says 4 (0 ∷ 21 ∷ 4 ∷ 3 ∷ 1 ∷ 37 ∷ 1 ∷ 1 ∷ 1 ∷ 26 ∷ 2 ∷ 2 ∷ 1 ∷ 38 ∷ 1 ∷ 1 ∷ []) 1 (8 ∷ 1 ∷ 3 ∷ 1 ∷ 0 ∷ 0 ∷ 0 ∷ 0 ∷ 0 ∷ [])) → ⊥
+braced : Exact (123 ∷ 49 ∷ 97 ∷ 125 ∷ []) 0 (says 4 (0 ∷ 21 ∷ 4 ∷ 3 ∷ 0 ∷ 1 ∷ 37 ∷ 1 ∷ 1 ∷ 0 ∷ 1 ∷ 26 ∷ 2 ∷ 2 ∷ 0 ∷ 1 ∷ 38 ∷ 1 ∷ 1 ∷ 0 ∷ []) 1 (8 ∷ 1 ∷ 3 ∷ 1 ∷ 0 ∷ 0 ∷ 0 ∷ 0 ∷ 0 ∷ [])) → ⊥
 unfolding read Unbraced
 braced x = let w = x .each-report 0 (omega arith) (omega arith) in go (judged-ways (w .3 .judged))
   where
@@ -205,7 +205,7 @@ braced x = let w = x .each-report 0 (omega arith) (omega arith) in go (judged-wa
     go (inr (inr h)) = none-in-leaves end tt (h .4)
 
 -- `1a{};`: the name of a node
-node-name : Exact (49 ∷ 97 ∷ 123 ∷ 125 ∷ 59 ∷ []) 0 (says 6 (0 ∷ 0 ∷ 5 ∷ 1 ∷ 0 ∷ 15 ∷ 5 ∷ 4 ∷ 1 ∷ 26 ∷ 2 ∷ 2 ∷ 1 ∷ 37 ∷ 1 ∷ 1 ∷ 1 ∷ 38 ∷ 1 ∷ 1 ∷ 1 ∷ 29 ∷ 1 ∷ 1 ∷ []) 1 (8 ∷ 0 ∷ 2 ∷ 0 ∷ 0 ∷ 0 ∷ 0 ∷ 0 ∷ 0 ∷ [])) → ⊥
+node-name : Exact (49 ∷ 97 ∷ 123 ∷ 125 ∷ 59 ∷ []) 0 (says 6 (0 ∷ 0 ∷ 5 ∷ 1 ∷ 0 ∷ 0 ∷ 15 ∷ 5 ∷ 4 ∷ 0 ∷ 1 ∷ 26 ∷ 2 ∷ 2 ∷ 1 ∷ 1 ∷ 37 ∷ 1 ∷ 1 ∷ 1 ∷ 1 ∷ 38 ∷ 1 ∷ 1 ∷ 1 ∷ 1 ∷ 29 ∷ 1 ∷ 1 ∷ 1 ∷ []) 1 (8 ∷ 0 ∷ 2 ∷ 0 ∷ 0 ∷ 0 ∷ 0 ∷ 0 ∷ 0 ∷ [])) → ⊥
 unfolding read
 node-name x = let w = x .each-report 0 (omega arith) (omega arith) in in-file (judged-ways (w .3 .judged))
   where
@@ -222,7 +222,7 @@ node-name x = let w = x .each-report 0 (omega arith) (omega arith) in in-file (j
     in-file (inr (inr h)) = none-in-leaves end tt (h .4)
 
 -- `_:c{};`: a label that keeps the rule
-kept-label : Exact (95 ∷ 58 ∷ 99 ∷ 123 ∷ 125 ∷ 59 ∷ []) 0 (says 9 (0 ∷ 0 ∷ 6 ∷ 1 ∷ 0 ∷ 15 ∷ 6 ∷ 5 ∷ 0 ∷ 19 ∷ 2 ∷ 2 ∷ 1 ∷ 26 ∷ 1 ∷ 1 ∷ 1 ∷ 31 ∷ 1 ∷ 1 ∷ 1 ∷ 26 ∷ 1 ∷ 1 ∷ 1 ∷ 37 ∷ 1 ∷ 1 ∷ 1 ∷ 38 ∷ 1 ∷ 1 ∷ 1 ∷ 29 ∷ 1 ∷ 1 ∷ []) 1 (8 ∷ 0 ∷ 1 ∷ 0 ∷ 0 ∷ 0 ∷ 0 ∷ 0 ∷ 0 ∷ [])) → ⊥
+kept-label : Exact (95 ∷ 58 ∷ 99 ∷ 123 ∷ 125 ∷ 59 ∷ []) 0 (says 9 (0 ∷ 0 ∷ 6 ∷ 1 ∷ 0 ∷ 0 ∷ 15 ∷ 6 ∷ 5 ∷ 0 ∷ 0 ∷ 19 ∷ 2 ∷ 2 ∷ 1 ∷ 1 ∷ 26 ∷ 1 ∷ 1 ∷ 2 ∷ 1 ∷ 31 ∷ 1 ∷ 1 ∷ 2 ∷ 1 ∷ 26 ∷ 1 ∷ 1 ∷ 1 ∷ 1 ∷ 37 ∷ 1 ∷ 1 ∷ 1 ∷ 1 ∷ 38 ∷ 1 ∷ 1 ∷ 1 ∷ 1 ∷ 29 ∷ 1 ∷ 1 ∷ 1 ∷ []) 1 (8 ∷ 0 ∷ 1 ∷ 0 ∷ 0 ∷ 0 ∷ 0 ∷ 0 ∷ 0 ∷ [])) → ⊥
 unfolding In-label Leading-digit
 kept-label x =
     let w = x .each-report 0 (omega arith) (omega arith) in

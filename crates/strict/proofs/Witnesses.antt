@@ -41,37 +41,37 @@ own-rows = 35 ∷ 1 ∷ 27 ∷ 1 ∷ 31 ∷ 1 ∷ 27 ∷ 1 ∷ 38 ∷ 1 ∷ []
 
 -- their calls, in the old setting and in the strict one
 abbrev old-own : Result
-old-own = call 1 0 own own-rows (room 44 18)
+old-own = call 1 0 own own-rows (room 55 18)
 
 abbrev new-own : Result
-new-own = call 1 1 own own-rows (room 44 18)
+new-own = call 1 1 own own-rows (room 55 18)
 
 abbrev new-two : Result
-new-two = call 1 1 two two-rows (room 44 18)
+new-two = call 1 1 two two-rows (room 55 18)
 
 -- ---------------------------------------------------------------- as it was
 
 -- the call as it was accepts, and refuses
-was : (W.call 1 own own-rows (room 44 18) .answer ≡ accepts 7 1 5) × (W.call 1 own own-rows (room 44 8) .answer ≡ refuses 7 4) × (W.call 1 two two-rows (room 43 18) .answer ≡ refuses 8 0) × (W.call 5 two two-rows (room 43 18) .answer ≡ refuses 1 0) × (W.call 1 two (35 ∷ []) (room 43 18) .answer ≡ refuses 3 0)
+was : (W.call 1 own own-rows (room 55 18) .answer ≡ accepts 7 1 5) × (W.call 1 own own-rows (room 55 8) .answer ≡ refuses 7 4) × (W.call 1 two two-rows (room 54 18) .answer ≡ refuses 8 0) × (W.call 5 two two-rows (room 54 18) .answer ≡ refuses 1 0) × (W.call 1 two (35 ∷ []) (room 54 18) .answer ≡ refuses 3 0)
 unfolding W.call
 was = (refl, refl, refl, refl, refl)
 
-is-as-it-was : old-own ≡ W.call 1 own own-rows (room 44 18)
-is-as-it-was = as-it-was 1 own own-rows (room 44 18)
+is-as-it-was : old-own ≡ W.call 1 own own-rows (room 55 18)
+is-as-it-was = as-it-was 1 own own-rows (room 55 18)
 
 -- ---------------------------------------------------------------- two settings
 
 -- in the old one, and in two others
-counted : (old-own .answer ≡ accepts 7 1 5) × (new-own .answer ≡ accepts 7 2 5) × (call 1 4294967295 own own-rows (room 44 18) .answer ≡ accepts 7 2 5)
+counted : (old-own .answer ≡ accepts 7 1 5) × (new-own .answer ≡ accepts 7 2 5) × (call 1 4294967295 own own-rows (room 55 18) .answer ≡ accepts 7 2 5)
 unfolding call
 counted = (refl, refl, refl)
 
-one : new-own ≡ call 1 4294967295 own own-rows (room 44 18)
-one = one-strict-setting 1 1 4294967295 own own-rows (room 44 18) (λ e. omega arith) (λ e. omega arith)
+one : new-own ≡ call 1 4294967295 own own-rows (room 55 18)
+one = one-strict-setting 1 1 4294967295 own own-rows (room 55 18) (λ e. omega arith) (λ e. omega arith)
 
 same : Same-tree new-own old-own
 unfolding call
-same = leaves-tree-alone 1 1 own own-rows (room 44 18) refl
+same = leaves-tree-alone 1 1 own own-rows (room 55 18) refl
 
 -- what it says of them
 same-numbers : (old-own .answer .number ≡ 0) × (old-own .buffers .trees ≡ new-own .buffers .trees) × (old-own .buffers .errors ≡ new-own .buffers .errors) × (old-own .buffers .pool ≡ new-own .buffers .pool) × (old-own .buffers .events ≡ new-own .buffers .events)
@@ -86,13 +86,13 @@ unfolding call
 first-report = (same .first-reports, refl)
 
 -- refused: 8 in both; 8 and 7; accepted and 7; and 7 in both
-refused : (call 1 0 two two-rows (room 43 18) .answer ≡ refuses 8 0) × (call 1 1 two two-rows (room 43 18) .answer ≡ refuses 8 0) × (call 1 0 two two-rows (room 3 17) .answer ≡ refuses 8 0) × (call 1 1 two two-rows (room 3 17) .answer ≡ refuses 7 4) × (call 1 0 two two-rows (room 44 8) .answer ≡ accepts 11 0 0) × (call 1 1 two two-rows (room 44 8) .answer ≡ refuses 7 0) × (call 1 0 own own-rows (room 44 8) .answer ≡ refuses 7 4) × (call 1 1 own own-rows (room 44 8) .answer ≡ refuses 7 4)
+refused : (call 1 0 two two-rows (room 54 18) .answer ≡ refuses 8 0) × (call 1 1 two two-rows (room 54 18) .answer ≡ refuses 8 0) × (call 1 0 two two-rows (room 3 17) .answer ≡ refuses 8 0) × (call 1 1 two two-rows (room 3 17) .answer ≡ refuses 7 4) × (call 1 0 two two-rows (room 55 8) .answer ≡ accepts 11 0 0) × (call 1 1 two two-rows (room 55 8) .answer ≡ refuses 7 0) × (call 1 0 own own-rows (room 55 8) .answer ≡ refuses 7 4) × (call 1 1 own own-rows (room 55 8) .answer ≡ refuses 7 4)
 unfolding call
 refused = (refl, refl, refl, refl, refl, refl, refl, refl)
 
-same-eight : call 1 0 two two-rows (room 43 18) ≡ call 1 1 two two-rows (room 43 18)
+same-eight : call 1 0 two two-rows (room 54 18) ≡ call 1 1 two two-rows (room 54 18)
 unfolding call
-same-eight = same-refusals 1 1 two two-rows (room 43 18) (λ e. omega arith) (λ e. omega arith)
+same-eight = same-refusals 1 1 two two-rows (room 54 18) (λ e. omega arith) (λ e. omega arith)
 
 -- the old setting's 8, which is a 7 here: it is the second alternative that holds
 eight-or-seven : (call 1 1 two two-rows (room 3 17) ≡ call 1 0 two two-rows (room 3 17)) ⊎ ((call 1 0 two two-rows (room 3 17) .answer .number ≡ 8) × (call 1 1 two two-rows (room 3 17) .answer .number ≡ 7))
@@ -132,7 +132,7 @@ reference-breaks = record { judged = deeper (deeper (past-node (in-phandle (past
 
 said : Exact two 0 new-two
 unfolding call
-said = exactly 1 1 two two-rows (room 44 18) (λ e. omega arith) refl
+said = exactly 1 1 two two-rows (room 55 18) (λ e. omega arith) refl
 
 -- each has its report
 has-report : (q : ℕ) × (0 ≤ q) × (q < 2) × (report-row new-two q ≡ 8 ∷ 4 ∷ 6 ∷ 4 ∷ 0 ∷ 0 ∷ 0 ∷ 0 ∷ 0 ∷ [])
@@ -152,7 +152,7 @@ ordered = said .in-order 0 1 (omega arith) (omega arith) (omega arith)
 
 -- entry 2, `1a`: the root is the parent
 abbrev root-call : Result
-root-call = call 2 1 (49 ∷ 97 ∷ []) (35 ∷ 1 ∷ 27 ∷ 1 ∷ []) (room 8 9)
+root-call = call 2 1 (49 ∷ 97 ∷ []) (35 ∷ 1 ∷ 27 ∷ 1 ∷ []) (room 10 9)
 
 root-breaks : Breaks (49 ∷ 97 ∷ []) (tree-of root-call) 0 0 2
 unfolding call read Unbraced
@@ -160,21 +160,21 @@ root-breaks = record { judged = in-phandle here (λ e. omega arith, tt); breaks 
 
 root-report : (q : ℕ) × (0 ≤ q) × (q < 1) × (report-row root-call q ≡ 8 ∷ 0 ∷ 2 ∷ 0 ∷ 0 ∷ 0 ∷ 0 ∷ 0 ∷ 0 ∷ [])
 unfolding call
-root-report = exactly 2 1 (49 ∷ 97 ∷ []) (35 ∷ 1 ∷ 27 ∷ 1 ∷ []) (room 8 9) (λ e. omega arith) refl .each-name 0 0 2 root-breaks
+root-report = exactly 2 1 (49 ∷ 97 ∷ []) (35 ∷ 1 ∷ 27 ∷ 1 ∷ []) (room 10 9) (λ e. omega arith) refl .each-name 0 0 2 root-breaks
 
 -- entry 2, `{1a}`: no report, so no Name breaks the rule there
 abbrev braced-call : Result
-braced-call = call 2 1 (123 ∷ 49 ∷ 97 ∷ 125 ∷ []) (37 ∷ 1 ∷ 35 ∷ 1 ∷ 27 ∷ 1 ∷ 38 ∷ 1 ∷ []) (room 16 9)
+braced-call = call 2 1 (123 ∷ 49 ∷ 97 ∷ 125 ∷ []) (37 ∷ 1 ∷ 35 ∷ 1 ∷ 27 ∷ 1 ∷ 38 ∷ 1 ∷ []) (room 20 9)
 
 none-braced : (at byte width : ℕ) → Breaks (123 ∷ 49 ∷ 97 ∷ 125 ∷ []) (tree-of braced-call) at byte width → ⊥
 unfolding call
 none-braced at byte width h =
-    let w = exactly 2 1 (123 ∷ 49 ∷ 97 ∷ 125 ∷ []) (37 ∷ 1 ∷ 35 ∷ 1 ∷ 27 ∷ 1 ∷ 38 ∷ 1 ∷ []) (room 16 9) (λ e. omega arith) refl .each-name at byte width h in
+    let w = exactly 2 1 (123 ∷ 49 ∷ 97 ∷ 125 ∷ []) (37 ∷ 1 ∷ 35 ∷ 1 ∷ 27 ∷ 1 ∷ 38 ∷ 1 ∷ []) (room 20 9) (λ e. omega arith) refl .each-name at byte width h in
     omega (arith, w .2)
 
 -- `_:c{};`: judged, and the rule is kept
 abbrev underscore-call : Result
-underscore-call = call 1 1 (95 ∷ 58 ∷ 99 ∷ 123 ∷ 125 ∷ 59 ∷ []) (27 ∷ 1 ∷ 31 ∷ 1 ∷ 27 ∷ 1 ∷ 37 ∷ 1 ∷ 38 ∷ 1 ∷ 29 ∷ 1 ∷ []) (room 36 9)
+underscore-call = call 1 1 (95 ∷ 58 ∷ 99 ∷ 123 ∷ 125 ∷ 59 ∷ []) (27 ∷ 1 ∷ 31 ∷ 1 ∷ 27 ∷ 1 ∷ 37 ∷ 1 ∷ 38 ∷ 1 ∷ 29 ∷ 1 ∷ []) (room 45 9)
 
 underscore-judged : Judged 1 0 0 (tree-of underscore-call)
 unfolding call read
@@ -186,8 +186,8 @@ underscore-kept = (record { holds = (inl (underscore refl), tt); leads = λ d. o
 
 -- `a,b:c{};`: three raw tokens, and a comma
 abbrev comma-call : Result
-comma-call = call 1 1 (97 ∷ 44 ∷ 98 ∷ 58 ∷ 99 ∷ 123 ∷ 125 ∷ 59 ∷ []) (27 ∷ 1 ∷ 2 ∷ 1 ∷ 27 ∷ 1 ∷ 31 ∷ 1 ∷ 27 ∷ 1 ∷ 37 ∷ 1 ∷ 38 ∷ 1 ∷ 29 ∷ 1 ∷ []) (room 36 9)
+comma-call = call 1 1 (97 ∷ 44 ∷ 98 ∷ 58 ∷ 99 ∷ 123 ∷ 125 ∷ 59 ∷ []) (27 ∷ 1 ∷ 2 ∷ 1 ∷ 27 ∷ 1 ∷ 31 ∷ 1 ∷ 27 ∷ 1 ∷ 37 ∷ 1 ∷ 38 ∷ 1 ∷ 29 ∷ 1 ∷ []) (room 45 9)
 
 comma-name : (at : ℕ) × (byte : ℕ) × (width : ℕ) × Breaks (97 ∷ 44 ∷ 98 ∷ 58 ∷ 99 ∷ 123 ∷ 125 ∷ 59 ∷ []) (tree-of comma-call) at byte width × (8 ∷ 0 ∷ 3 ∷ 0 ∷ 0 ∷ 0 ∷ 0 ∷ 0 ∷ 0 ∷ [] ≡ 8 ∷ byte ∷ (byte + width) ∷ at ∷ 0 ∷ 0 ∷ 0 ∷ 0 ∷ 0 ∷ [])
 unfolding call
-comma-name = exactly 1 1 (97 ∷ 44 ∷ 98 ∷ 58 ∷ 99 ∷ 123 ∷ 125 ∷ 59 ∷ []) (27 ∷ 1 ∷ 2 ∷ 1 ∷ 27 ∷ 1 ∷ 31 ∷ 1 ∷ 27 ∷ 1 ∷ 37 ∷ 1 ∷ 38 ∷ 1 ∷ 29 ∷ 1 ∷ []) (room 36 9) (λ e. omega arith) refl .each-report 0 (omega arith) (omega arith)
+comma-name = exactly 1 1 (97 ∷ 44 ∷ 98 ∷ 58 ∷ 99 ∷ 123 ∷ 125 ∷ 59 ∷ []) (27 ∷ 1 ∷ 2 ∷ 1 ∷ 27 ∷ 1 ∷ 31 ∷ 1 ∷ 27 ∷ 1 ∷ 37 ∷ 1 ∷ 38 ∷ 1 ∷ 29 ∷ 1 ∷ []) (room 45 9) (λ e. omega arith) refl .each-report 0 (omega arith) (omega arith)

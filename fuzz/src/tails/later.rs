@@ -53,7 +53,8 @@ fn tokens_in(rows: &[u32]) -> usize {
 fn ends_in_semicolon(trees: &[u32], ends: &[usize], part: usize) -> bool {
     let row = |i: usize| &trees[ROW_TREE * i..ROW_TREE * (i + 1)];
     let named = [NodeKind::DtProperty, NodeKind::DtNode, NodeKind::DtsDirective];
-    let is_named = row(part)[COL_TREE_CLASS] == CLASS_NODE && named.iter().any(|&k| row(part)[COL_TREE_KIND] == k as u32);
+    let is_named =
+        row(part)[COL_TREE_CLASS] == CLASS_NODE && named.iter().any(|&k| row(part)[COL_TREE_KIND] == k as u32);
     let (mut child, mut last) = (part + 1, part);
     for _ in 0..children(row(part)) {
         (last, child) = (child, ends[child])
@@ -61,22 +62,24 @@ fn ends_in_semicolon(trees: &[u32], ends: &[usize], part: usize) -> bool {
     is_named && row(last)[..=COL_TREE_KIND] == [CLASS_LEAF, TokenKind::Semicolon as u32]
 }
 
+/// The first later row, and how many of the root's children are later. None if the token with this index is no semicolon
+/// that ends a top-level property, node or directive.
+fn first_later(trees: &[u32], token: usize) -> Option<(usize, usize)> {
+    let ends = ends(trees)?;
+    let (mut part, mut first, mut parts, mut taken) = (0, 1, children(trees), 0);
+    while taken <= token && first < ends[0] {
+        part = first;
+        first = ends[part];
+        taken += tokens_in(&trees[ROW_TREE * part..ROW_TREE * first]);
+        parts -= 1
+    }
+    (taken == token + 1 && ends_in_semicolon(trees, &ends, part)).then_some((first, parts))
+}
+
 impl Later {
-    /// Of an accepted source file, after the semicolon with this token index and start. None if that ends no top-level
-    /// property, node or directive.
+    /// Of an accepted source file, after the semicolon with this token index and start. None as of `first_later`.
     pub fn of(rows: &[&[u32]; BUFFERS], token: u32, byte: u32) -> Option<(Places, Later)> {
-        let trees = rows[TREES];
-        let ends = ends(trees)?;
-        let (mut part, mut first, mut parts, mut taken) = (0, 1, *trees.get(COL_TREE_COUNT)? as usize, 0);
-        while taken <= token as usize && first < ends[0] {
-            part = first;
-            first = ends[part];
-            taken += tokens_in(&trees[ROW_TREE * part..ROW_TREE * first]);
-            parts -= 1
-        }
-        if taken != token as usize + 1 || !ends_in_semicolon(trees, &ends, part) {
-            return None;
-        }
+        let (first, parts) = first_later(rows[TREES], token as usize)?;
         let all = rows[REPORTS].chunks_exact(ROW_REPORT);
         let (later, others): (Vec<_>, Vec<_>) = all.partition(|report| report[COL_REPORT_MARK] > token);
         let codes = later.iter().map(|report| {
@@ -86,7 +89,7 @@ impl Later {
         let errors = rows[ERRORS].chunks_exact(ROW_ERROR).filter(|error| error[COL_ERROR_START] > byte);
         let later = Later {
             parts,
-            trees: trees[ROW_TREE * first..].to_vec(),
+            trees: rows[TREES][ROW_TREE * first..].to_vec(),
             errors: errors.flatten().copied().collect(),
             codes: codes.flatten().copied().collect(),
             reports: later.concat(),

@@ -1,6 +1,7 @@
 //! The call with a text in token buffers of every length, and what each buffer holds after it and after refused rows.
-//! Queries are in tests/queries.rs.
+//! Queries are in tests/queries.rs, tree rows with their parents in tests/parents.rs.
 
+mod parents;
 mod queries;
 
 use super::*;
@@ -124,7 +125,7 @@ fn refusals_of_the_parse_clear_every_buffer() {
         assert_eq!(call_text(entry, OLD, text, &mut buffers).answer.number, number);
         assert!(buffers.all_hold(0), "{number}");
     }
-    for (reports, trees, errors, number) in [(8, ROOM, ROOM, 7), (ROOM, 11, ROOM, 8), (ROOM, ROOM, 2, 8)] {
+    for (reports, trees, errors, number) in [(8, ROOM, ROOM, 7), (ROOM, 14, ROOM, 8), (ROOM, ROOM, 2, 8)] {
         let mut buffers = lent(201, ROOM);
         buffers.reports.truncate(reports);
         buffers.trees.truncate(trees);

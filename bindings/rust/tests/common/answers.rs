@@ -12,6 +12,13 @@ pub struct Case {
     pub answer: String,
 }
 
+/// The tree rows of an answer: its lines `R class kind width count parent`.
+#[allow(dead_code)] // not every test reads them
+pub fn tree_rows(answer: &str) -> Vec<Vec<u32>> {
+    let lines = answer.lines().filter_map(|line| line.strip_prefix("R "));
+    lines.map(|line| line.split(' ').map(|number| number.parse().unwrap()).collect()).collect()
+}
+
 /// All cases of the file, or of the one that `DT_ORACLE_ANSWERS` names.
 pub fn all() -> Vec<Case> {
     let file = std::env::var("DT_ORACLE_ANSWERS");

@@ -15,7 +15,8 @@ pub struct Known {
     pub is_leaf: bool,
 }
 
-/// Reads rows, by recursion. Their first numbers are class, kind, width and count.
+/// Reads rows, by recursion. Their first numbers are class, kind, width and count; the fifth is the parent's row, which
+/// is not looked at: a parent is the row from whose count of children a row is read.
 pub fn read(rows: &[impl AsRef<[u32]>]) -> Vec<Known> {
     let mut known = Vec::new();
     read_subtree(rows, None, 0, 0, &mut known);

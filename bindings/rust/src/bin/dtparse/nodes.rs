@@ -15,18 +15,17 @@ pub fn print(page: &Page) -> String {
         return String::new();
     };
     let gutter = line(page, last).to_string().len();
-    let errors = errors_inside(page, &nodes);
-    let rows: Vec<(usize, String, usize)> =
-        nodes.iter().zip(errors).map(|(node, errors)| (line(page, node), name(*node), errors)).collect();
-    let widest = rows.iter().map(|(_, name, _)| name.chars().count()).max().unwrap_or(0).min(60);
+    let errors = errors_inside(page);
+    let names: Vec<String> = nodes.iter().copied().map(name).collect();
+    let widest = names.iter().map(|name| name.chars().count()).max().unwrap_or(0).min(60);
     let mut out = page.style.paint(Ink::Strong, "nodes, with the line that each starts on:") + "\n";
-    for (line, name, errors) in rows {
-        let number = page.style.paint(Ink::Frame, &format!("{line:>gutter$} |"));
-        if errors == 0 {
-            out += &format!("{number} {name}\n");
-        } else {
-            let count = page.style.paint(Ink::Error, &format!("<- {}", plural(errors, "error", "errors")));
+    for (node, name) in nodes.iter().zip(names) {
+        let number = page.style.paint(Ink::Frame, &format!("{:>gutter$} |", line(page, node)));
+        if let Some(errors) = errors.get(node) {
+            let count = page.style.paint(Ink::Error, &format!("<- {}", plural(*errors, "error", "errors")));
             out += &format!("{number} {name:widest$}  {count}\n");
+        } else {
+            out += &format!("{number} {name}\n");
         }
     }
     out
@@ -41,21 +40,15 @@ fn is_dt_node(node: &Node) -> bool {
     node.kind() == NodeKind::DtNode
 }
 
-/// How many reports and lexical errors start in each node and in no node inside it.
-fn errors_inside(page: &Page, nodes: &[Node]) -> Vec<usize> {
+/// How many reports and lexical errors start in a node and in no node inside it; nodes without any are left out.
+fn errors_inside<'p>(page: &Page<'p>) -> HashMap<Node<'p>, usize> {
     let reports = page.parse.reports.iter().map(|report| report.range.start);
     let lexical = page.parse.lexical_errors.iter().map(|error| error.range.start);
-    let index: HashMap<Node, usize> = nodes.iter().copied().zip(0..).collect();
-    let mut counts = vec![0; nodes.len()];
-    for offset in reports.chain(lexical) {
-        // The last node that starts before the offset, or the nearest one around it that has the offset.
-        let before = nodes.partition_point(|node| node.range().start <= offset);
-        let last = nodes[..before].last().copied();
-        let mut around = last.into_iter().chain(last.into_iter().flat_map(Node::nodes_above));
-        let inner = around.find(|node| is_dt_node(node) && node.range().contains(offset));
-        if let Some(index) = inner.and_then(|node| index.get(&node)) {
-            counts[*index] += 1;
-        }
+    let mut counts = HashMap::new();
+    // up from the token there; what starts at the end of the text is in no node
+    let leaves = reports.chain(lexical).filter_map(|offset| page.parse.tree.leaf_at(offset));
+    for node in leaves.filter_map(|leaf| leaf.nodes_above().find(is_dt_node)) {
+        *counts.entry(node).or_default() += 1;
     }
     counts
 }

@@ -44,6 +44,11 @@ fn listed(query: Query, setting: u32, text: &[u8], rows: &[u32]) -> Vec<u32> {
     assert!(asked.list[answer.list_count..].iter().all(|n| *n == 0), "zeros after the list");
     let list = asked.list[..answer.list_count].to_vec();
     assert!(list.is_sorted_by(|a, b| a < b) && list.iter().all(|row| (*row as usize) < answer.answer.tree_count));
+    let parent = |row: u32| asked.trees[5 * row as usize + 4];
+    assert!(match query {
+        Query::Caret(_) => list.windows(2).all(|two| parent(two[1]) == two[0]),
+        Query::Parts(_) => list.iter().all(|part| parent(*part) == 0),
+    });
     assert_eq!((asked.events, asked.trees, asked.errors), (parsed.events, parsed.trees, parsed.errors));
     assert_eq!((asked.reports, asked.pool), (parsed.reports, parsed.pool));
     list
@@ -155,7 +160,7 @@ fn the_parse_is_refused_before_the_list_and_all_is_cleared() {
         let room = |events, trees, errors, reports| refused(query, b"\\;1:;", [events, trees, errors, reports], list);
         assert_eq!(room(2, ROOM, ROOM, ROOM)[0], 6);
         assert_eq!(room(ROOM, ROOM, ROOM, 8)[0], 7);
-        assert_eq!([room(ROOM, 11, ROOM, ROOM), room(ROOM, ROOM, 2, ROOM)], [[8, 0], [8, 0]]);
+        assert_eq!([room(ROOM, 14, ROOM, ROOM), room(ROOM, ROOM, 2, ROOM)], [[8, 0], [8, 0]]);
     }
     // 7 of the strict setting, for a report of the label, comes before the list's 8
     assert_eq!(refused(Query::Caret(0), b"1a:c{};", [ROOM, ROOM, ROOM, 8], 1), [7, 0]);
