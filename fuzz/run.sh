@@ -1,5 +1,5 @@
 #!/bin/sh
-# Builds and runs the fuzzer: fuzz/run.sh run|text|carets|files|repeat|small|lists|expressions|rows|texts|exact ..
+# Builds and runs the fuzzer: fuzz/run.sh run|text|carets|files|tails|repeat|small|lists|expressions|rows|texts|exact ..
 # (docs/FUZZING.md).
 # Without arguments: 10,000,000 cases over token rows.
 set -eu

@@ -2,7 +2,9 @@
 # Puts one fault after another into the library (faults/) and sees that the fuzzer finds it: 1 to 30 in calls over token
 # rows, 31 to 60 in calls over texts, 61 to 63 in expressions, 64 to 95 among all lists of a few rows and, but for 90
 # and 91, which are of cause 2's limit, in calls over token rows too, 96 to 142 in queries, 143 to 152, of lists of
-# expectations, in calls over token rows. With numbers as arguments those faults alone.
+# expectations, in calls over token rows. 153 to 175 are of the parent in tree rows: up to 169 in calls over token rows,
+# but for 165, which is of row numbers past 16 bits and found among the lists of `rows`; some also in pairs of files
+# (`tails`); 170 in calls over texts, and from 171 on in queries. With numbers as arguments those faults alone.
 set -eu
 here=$(cd "$(dirname "$0")" && pwd)
 good=$("$here/../tools/static-library")
@@ -39,14 +41,19 @@ if [ $# -eq 0 ]; then
     try expressions 0
     try rows 0
     try carets 0
-    set -- $(seq 1 152)
+    try tails 0
+    set -- $(seq 1 175)
 fi
 for fault in "$@"; do
     case $fault in
-    [1-9] | [12]? | 30 | 14[3-9] | 15?) try run "$fault" ;;
-    3? | 4? | 5? | 60) try text "$fault" ;;
+    154 | 155 | 160 | 161)
+        try run "$fault"
+        try tails "$fault"
+        ;;
+    90 | 91 | 165) try rows "$fault" ;;
+    [1-9] | [12]? | 30 | 14[3-9] | 15? | 16?) try run "$fault" ;;
+    3? | 4? | 5? | 60 | 170) try text "$fault" ;;
     6[1-3]) try expressions "$fault" ;;
-    90 | 91) try rows "$fault" ;;
     9[6-9] | 1??) try carets "$fault" ;;
     *)
         try rows "$fault"

@@ -1,7 +1,6 @@
 #include "print.h"
 #include "dt_names.h"
 #include <stdio.h>
-#include <stdlib.h>
 #include <string.h>
 
 void print_text(const uint8_t *bytes, size_t from, size_t to)
@@ -40,36 +39,44 @@ static size_t print_row(const struct input *in, const struct dt_tree_row *row, s
     return end;
 }
 
-/* A tree can be as deep as it has rows, so this does not call itself. left[d]: children still to come at depth d. */
-int print_tree(const struct input *in, const struct parsed *p)
+/* The depth of a row, from that of the row before it: the parent is that row, or lies above it. */
+static size_t depth_of(const struct dt_tree_row *trees, size_t row, size_t depth_before)
 {
-    size_t depth = 0, start = 0, i;
-    uint32_t *left = (uint32_t *)malloc((p->answer.tree_count + 1) * sizeof *left);
-    if (!left)
-        return 0;
-    for (i = 0; i < p->answer.tree_count; i++) {
-        const struct dt_tree_row *row = &p->trees[i];
-        indent(depth);
-        start = print_row(in, row, start);
-        if (row->class_ == DT_CLASS_NODE)
-            left[depth++] = row->count;
-        else if (depth > 0)
-            left[depth - 1]--;
-        /* a node without children left ends, and is a child of the one above it */
-        while (depth > 0 && left[depth - 1] == 0) {
-            depth--;
-            if (depth > 0)
-                left[depth - 1]--;
-        }
-    }
-    free(left);
-    return 1;
+    size_t above, depth = depth_before + 1;
+    for (above = row - 1; above != trees[row].parent; above = trees[above].parent)
+        depth--;
+    return depth;
 }
 
-/* Where the bytes before a node's brace end, without the blanks before it. The node starts at byte `start`. */
-static size_t head_end(const struct input *in, const struct parsed *p, size_t node, size_t start)
+/* A tree can be as deep as it has rows, so this does not call itself. */
+void print_tree(const struct input *in, const struct parsed *p)
 {
-    size_t child = node + 1, end = start;
+    size_t depth = 0, start = 0, row;
+    for (row = 0; row < p->answer.tree_count; row++) {
+        depth = row == 0 ? 0 : depth_of(p->trees, row, depth);
+        indent(depth);
+        start = print_row(in, &p->trees[row], start);
+    }
+}
+
+static int is_dt_node(const struct dt_tree_row *row)
+{
+    return row->class_ == DT_CLASS_NODE && row->kind == DT_NODE_DT_NODE;
+}
+
+/* Where a row starts: the leaves before it. */
+static size_t start_of(const struct parsed *p, size_t row)
+{
+    size_t start = 0, i;
+    for (i = 0; i < row; i++)
+        start += p->trees[i].class_ == DT_CLASS_LEAF ? p->trees[i].width : 0;
+    return start;
+}
+
+/* What stands before a node's brace, without the blanks before it. */
+static void print_head(const struct input *in, const struct parsed *p, size_t node)
+{
+    size_t child = node + 1, start = start_of(p, node), end = start;
     uint32_t i;
     for (i = 0; i < p->trees[node].count; i++) {
         const struct dt_tree_row *row = &p->trees[child];
@@ -80,46 +87,51 @@ static size_t head_end(const struct input *in, const struct parsed *p, size_t no
     }
     while (end > start && strchr(" \t\r\n", in->bytes[end - 1]))
         end--;
-    return end;
+    print_text(in->bytes, start, end);
+    putchar('\n');
 }
 
-/* The children of a row that starts at this byte. It calls itself for a node in a node, which is at most
-   DT_MAX_OPEN_CALLS deep. */
-static void print_children(const struct input *in, const struct parsed *p, size_t parent, size_t start, size_t depth)
+/* The nearest devicetree node around a row, found by going up from parent to parent; the root where there is none. */
+static size_t node_around(const struct dt_tree_row *trees, size_t row)
 {
-    size_t child = parent + 1;
-    uint32_t i;
-    for (i = 0; i < p->trees[parent].count; i++) {
-        const struct dt_tree_row *row = &p->trees[child];
-        if (row->class_ == DT_CLASS_NODE && row->kind == DT_NODE_DT_NODE) {
-            indent(depth + 1);
-            print_text(in->bytes, start, head_end(in, p, child, start));
-            putchar('\n');
-            print_children(in, p, child, start, depth + 1);
-        }
-        start += row->width;
-        child = dt_after_subtree(p->trees, p->answer.tree_count, child);
-    }
+    do
+        row = trees[row].parent;
+    while (row != 0 && !is_dt_node(&trees[row]));
+    return row;
 }
 
 void print_nodes(const struct input *in, const struct parsed *p)
 {
+    size_t row, above;
     puts("nodes:");
-    print_children(in, p, 0, 0, 0);
+    for (row = 0; row < p->answer.tree_count; row++) {
+        if (!is_dt_node(&p->trees[row]))
+            continue;
+        indent(1);
+        for (above = node_around(p->trees, row); above != 0; above = node_around(p->trees, above))
+            indent(1);
+        print_head(in, p, row);
+    }
 }
 
-/* The list's numbers are in the order of the rows, so that one walk over the rows finds where each starts. */
+void print_way_up(const struct input *in, const struct parsed *p, size_t row)
+{
+    for (row = node_around(p->trees, row); row != 0; row = node_around(p->trees, row)) {
+        fputs("in ", stdout);
+        print_head(in, p, row);
+    }
+}
+
 void print_list(const struct input *in, const struct parsed *p)
 {
     enum { LONGEST = 40 };
-    size_t start = 0, row = 0, i;
+    size_t i;
     for (i = 0; i < p->list_count; i++) {
         const struct dt_tree_row *listed = p->trees + p->list[i];
         int is_node = listed->class_ == DT_CLASS_NODE, is_long = listed->width > LONGEST;
         const char *name = is_node ? dt_node_name(listed->kind) : dt_token_name(listed->kind);
-        for (; row < p->list[i]; row++)
-            start += p->trees[row].class_ == DT_CLASS_LEAF ? p->trees[row].width : 0;
-        printf("row %zu: %s@%zu..%zu \"", row, name, start, start + listed->width);
+        size_t start = start_of(p, p->list[i]);
+        printf("row %u: %s@%zu..%zu \"", p->list[i], name, start, start + listed->width);
         print_text(in->bytes, start, start + (is_long ? (size_t)LONGEST : listed->width));
         puts(is_long ? "\".." : "\"");
     }

@@ -4,11 +4,14 @@
 
 #include "parse.h"
 
-/* Every node and leaf with its range, each leaf with its text. 0 if there was no memory. */
-int print_tree(const struct input *in, const struct parsed *p);
+/* Every node and leaf with its range, each leaf with its text. */
+void print_tree(const struct input *in, const struct parsed *p);
 
-/* The devicetree nodes, each with what stands before its brace. */
+/* The devicetree nodes, each with what stands before its brace, under the node that it lies in. */
 void print_nodes(const struct input *in, const struct parsed *p);
+
+/* The devicetree nodes around a row, the nearest first. */
+void print_way_up(const struct input *in, const struct parsed *p, size_t row);
 
 /* The rows of a query's list, each with its number, its range and how its text begins. */
 void print_list(const struct input *in, const struct parsed *p);

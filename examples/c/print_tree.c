@@ -27,9 +27,8 @@ static int run(const struct input *in)
     } else if (p.answer.number != DT_ACCEPTED) {
         print_refusal(in, &p);
         status = 1;
-    } else if (!print_tree(in, &p)) {
-        status = fail("no memory");
     } else {
+        print_tree(in, &p);
         print_nodes(in, &p);
         print_messages(&p);
     }

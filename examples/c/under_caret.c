@@ -2,7 +2,8 @@
  * Asks what is under a caret in a devicetree source, or which of its top-level parts a range touches, and prints the
  * rows of the tree: as an editor does that wants to say what stands there, or to work on what is on the screen.
  *
- *   under_caret FILE OFFSET      the rows from the root to the leaf at a byte
+ *   under_caret FILE OFFSET      the rows from the root to the leaf at a byte; then the devicetree nodes on the way up
+ *                                from the leaf, as an outline shows them
  *   under_caret FILE START END   the parts that share a byte with the range from START up to END
  *
  * FILE is a source in plain ASCII, as ../board.dts, or a file of token rows (docs/TOKENS.md), as ../overlay.rows.
@@ -19,21 +20,26 @@ static int fail(const char *what)
     return 2;
 }
 
-/* Prints what a call gave, if it was accepted: the rows that it lists, none of a parse. */
-static int show(const struct input *in, const struct parsed *p)
+static int refused(const struct input *in, const struct parsed *p)
 {
-    if (p->answer.number != DT_ACCEPTED) {
-        print_refusal(in, p);
-        return 1;
-    }
+    print_refusal(in, p);
+    return 1;
+}
+
+static int show(const struct input *in, const struct query *q, const struct parsed *p)
+{
     print_list(in, p);
+    if (q->is_caret && p->list_count > 0)
+        print_way_up(in, p, p->list[p->list_count - 1]);
     return 0;
 }
 
 static int ask(const struct input *in, const struct query *q)
 {
     struct parsed p;
-    int status = query(in, q, &p) ? show(in, &p) : fail("no memory");
+    int status = !query(in, q, &p)                 ? fail("no memory")
+                 : p.answer.number != DT_ACCEPTED ? refused(in, &p)
+                                                  : show(in, q, &p);
     free_parsed(&p);
     return status;
 }

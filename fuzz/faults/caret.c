@@ -1,10 +1,13 @@
-/* As faults.c: 96 to 142, of dt_caret and dt_parts_in_range. The real calls are dt_caret_good and
+/* As faults.c: 96 to 142 and 171 to 175, of dt_caret and dt_parts_in_range. The real calls are dt_caret_good and
  * dt_parts_in_range_good. */
 #include "../../include/dt_parser.h"
 #include "fault.h"
 #include <string.h>
 
 #include "walks.h"
+
+/* The numbers of a tree row before there were parents. */
+enum { OLD_ROW = 4 };
 
 extern __typeof__(dt_parse) dt_parse_good;
 extern __typeof__(dt_caret) dt_caret_good;
@@ -142,6 +145,15 @@ static void damage_chain(const struct query_call *c, struct dt_list_answer *a)
         if (c->first == c->bytes_len)
             a->list_count = walked(c, a->list_count, a->answer.tree_count, around_last_row);
         break;
+    case 171: /* over four numbers a row */
+        a->list_count = walked_by(OLD_ROW, c, a->list_count, a->answer.tree_count, at_caret);
+        break;
+    case 173: /* the root twice: it is its own parent */
+        if (a->list_count < c->list.len) {
+            memmove(c->list.numbers + 1, c->list.numbers, a->list_count * sizeof *c->list.numbers);
+            a->list_count++;
+        }
+        break;
     }
 }
 
@@ -163,6 +175,9 @@ static void damage_parts(const struct query_call *c, struct dt_list_answer *a)
         break;
     case 121: /* what is inside a part is one */
         a->list_count = walked(c, a->list_count, a->answer.tree_count, at_any_level);
+        break;
+    case 172: /* over four numbers a row */
+        a->list_count = walked_by(OLD_ROW, c, a->list_count, a->answer.tree_count, at_top_level);
         break;
     }
 }
@@ -186,6 +201,10 @@ static void damage_list(const struct query_call *c, struct dt_list_answer *a)
     case 125: /* a row number in 8 bits */
         for (size_t i = 0; i < a->list_count; i++)
             list[i] &= 255;
+        break;
+    case 174: /* the parent of each row */
+        for (size_t i = 0; i < a->list_count; i++)
+            list[i] = c->trees.numbers[DT_ROW_TREE * list[i] + DT_COL_TREE_PARENT];
         break;
     }
     if (c->is_caret && a->list_count)
@@ -221,6 +240,10 @@ static void damage_rest(const struct query_call *c, struct dt_list_answer *a, co
     case 131: /* the file is written */
         if (c->bytes_len > 4)
             ((uint8_t *)c->bytes)[4] |= 32;
+        break;
+    case 175: /* no parents in the tree of a query */
+        for (size_t i = 0; i < a->answer.tree_count; i++)
+            c->trees.numbers[DT_ROW_TREE * i + DT_COL_TREE_PARENT] = 0;
         break;
     }
 }

@@ -1,4 +1,4 @@
-/* A library with a fault, to see that the fuzzer finds it: 1 to 30, 61 to 95 and 143 to 152, of dt_parse. The real call
+/* A library with a fault, to see that the fuzzer finds it: 1 to 30, 61 to 95 and 143 to 169, of dt_parse. The real call
  * is dt_parse_good. */
 #include "../../include/dt_parser.h"
 #include "fault.h"
@@ -8,6 +8,7 @@ extern __typeof__(dt_parse) dt_parse_good;
 
 #include "rows.h"
 #include "once.h"
+#include "parents.h"
 
 /* Faults of the last report of an accepted call. */
 static void damage_report(struct dt_report_row *report)
@@ -122,7 +123,7 @@ static void damage_kept(const struct dt_answer *a, uint32_t *trees, size_t trees
 {
     static const uint32_t numbers[] = {DT_REFUSAL_ODD_COUNT, DT_REFUSAL_BAD_KIND, DT_REFUSAL_ZERO_LENGTH,
                                        DT_REFUSAL_BAD_END};
-    if (fault() >= 92 && a->number == numbers[fault() - 92] && trees_len)
+    if (fault() >= 92 && fault() <= 95 && a->number == numbers[fault() - 92] && trees_len)
         trees[0] = 0;
 }
 
@@ -213,6 +214,23 @@ static struct dt_answer parse_exchanged(const struct operators *two, uint32_t en
     return a;
 }
 
+/* Fault 167: whether a tree fits is told by four numbers a row. The call was refused with 8; a tree that fits so is
+ * given as far as there is room. */
+static struct dt_answer parse_by_fours(uint32_t entry, uint32_t setting, const uint8_t *bytes, size_t bytes_len,
+                                       const uint32_t *tokens, size_t tokens_len, uint32_t *events, size_t events_len,
+                                       uint32_t *trees, size_t trees_len, uint32_t *errors, size_t errors_len,
+                                       uint32_t *reports, size_t reports_len, uint32_t *pool, size_t pool_len)
+{
+    size_t longer_len = trees_len / OLD_ROW * DT_ROW_TREE;
+    uint32_t *longer = malloc((longer_len + 1) * sizeof *longer);
+    struct dt_answer a = dt_parse_good(entry, setting, bytes, bytes_len, tokens, tokens_len, events, events_len, longer,
+                                       longer_len, errors, errors_len, reports, reports_len, pool, pool_len);
+    if (a.number == DT_ACCEPTED)
+        memcpy(trees, longer, trees_len * sizeof *trees);
+    free(longer);
+    return a;
+}
+
 struct dt_answer dt_parse(uint32_t entry, uint32_t setting, const uint8_t *bytes, size_t bytes_len,
                           const uint32_t *tokens, size_t tokens_len, uint32_t *events, size_t events_len,
                           uint32_t *trees, size_t trees_len, uint32_t *errors, size_t errors_len, uint32_t *reports,
@@ -238,6 +256,9 @@ struct dt_answer dt_parse(uint32_t entry, uint32_t setting, const uint8_t *bytes
         if (fault() == 30 && old.number == DT_ACCEPTED)
             return old; /* a label's report that does not fit is left out */
     }
+    if (fault() == 167 && a.number == DT_REFUSAL_NO_TREE_ROOM)
+        return parse_by_fours(entry, setting, bytes, bytes_len, tokens, tokens_len, events, events_len, trees,
+                              trees_len, errors, errors_len, reports, reports_len, pool, pool_len);
     if (a.number != DT_ACCEPTED) {
         damage_refusal(&a, trees, trees_len, pool, pool_len);
         damage_kept(&a, trees, trees_len);
@@ -246,6 +267,8 @@ struct dt_answer dt_parse(uint32_t entry, uint32_t setting, const uint8_t *bytes
     struct lists lists = {&a, entry, (const struct dt_token_row *)tokens, tokens_len / DT_ROW_TOKEN,
                           (struct dt_tree_row *)trees, (struct dt_report_row *)reports, pool, pool_len};
     old = refused_for_lists(&lists);
+    if (fault() == 168 && trees_len / DT_ROW_TREE == a.tree_count)
+        old = refused(DT_REFUSAL_NO_TREE_ROOM, 0); /* a tree that just fits */
     if (old.number != DT_ACCEPTED) {
         clear(events, events_len), clear(trees, trees_len), clear(errors, errors_len);
         clear(reports, reports_len), clear(pool, pool_len);
@@ -258,5 +281,6 @@ struct dt_answer dt_parse(uint32_t entry, uint32_t setting, const uint8_t *bytes
         damage_report((struct dt_report_row *)reports + a.report_count - 1);
     damage_rest(&a, events, events_len, reports, reports_len, pool, pool_len);
     damage_rows(&a, (struct dt_tree_row *)trees, (struct dt_error_row *)errors, pool);
+    damage_trees(trees, a.tree_count);
     return a;
 }

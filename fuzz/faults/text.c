@@ -1,4 +1,4 @@
-/* As faults.c: 31 to 60, of dt_parse_text. The real call is dt_parse_text_good. */
+/* As faults.c: 31 to 60 and 170, of dt_parse_text. The real call is dt_parse_text_good. */
 #include "../../include/dt_parser.h"
 #include "fault.h"
 #include <string.h>
@@ -239,6 +239,10 @@ static struct text_answer damaged_rows(const struct text_call *c, struct text_an
     case 60: /* the text is written */
         if (c->bytes_len > 4)
             ((uint8_t *)c->bytes)[4] |= 32;
+        break;
+    case 170: /* no parents in the tree of a text */
+        for (size_t i = 0; i < a.answer.tree_count; i++)
+            c->trees.numbers[DT_ROW_TREE * i + DT_COL_TREE_PARENT] = 0;
         break;
     }
     return a;

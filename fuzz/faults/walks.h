@@ -1,4 +1,4 @@
-/* Rows that a query with a fault lists: faults 119 to 121. */
+/* Rows that a query with a fault lists: faults 119 to 121, 171 and 172. */
 
 /* A query: an offset, or a range from the first number to the second; and its buffers as they are lent. */
 struct query_call {
@@ -20,6 +20,8 @@ struct span {
     const struct dt_tree_row *tree;
     size_t count, row;
     uint64_t start, end;
+    /* it begins where the part before it ends */
+    int is_part;
 };
 
 /* Nodes of width 0 are in a chain too. */
@@ -43,19 +45,37 @@ static int at_any_level(const struct query_call *c, const struct span *s)
     return s->row && c->first < c->second && s->start < c->second && c->first < s->end && s->start < s->end;
 }
 
-/* The rows that are wanted, in place of those that stand in the list. A list that they do not fit stays. */
-static size_t walked(const struct query_call *c, size_t list_count, size_t tree_count,
-                     int wanted(const struct query_call *, const struct span *))
+/* What has the byte under the caret. */
+static int at_caret(const struct query_call *c, const struct span *s)
 {
-    const struct dt_tree_row *tree = (const struct dt_tree_row *)c->trees.numbers;
-    struct span s = {tree, tree_count, 0, 0, 0};
+    uint64_t byte = c->first - (c->first == c->bytes_len && c->bytes_len);
+    return s->start <= byte && (byte < s->end || c->bytes_len == 0);
+}
+
+/* A part in the range. */
+static int at_top_level(const struct query_call *c, const struct span *s)
+{
+    return s->is_part && at_any_level(c, s);
+}
+
+/* The rows that are wanted, of so many numbers each, in place of those that stand in the list. A list that they do not
+ * fit stays. */
+static size_t walked_by(size_t size, const struct query_call *c, size_t list_count, size_t tree_count,
+                        int wanted(const struct query_call *, const struct span *))
+{
+    struct span s = {(const struct dt_tree_row *)c->trees.numbers, tree_count, 0, 0, 0, 0};
+    uint64_t part_end = 0;
     uint32_t *found = malloc((tree_count + 1) * sizeof *found);
     size_t count = 0;
     for (; s.row < tree_count; s.row++) {
-        s.end = s.start + tree[s.row].width;
+        const uint32_t *row = c->trees.numbers + size * s.row;
+        s.end = s.start + row[DT_COL_TREE_WIDTH];
+        s.is_part = s.row && s.start >= part_end;
+        if (s.is_part)
+            part_end = s.end;
         if (wanted(c, &s))
             found[count++] = (uint32_t)s.row;
-        if (tree[s.row].class_ == DT_CLASS_LEAF)
+        if (row[DT_COL_TREE_CLASS] == DT_CLASS_LEAF)
             s.start = s.end;
     }
     if (count <= c->list.len) {
@@ -65,4 +85,10 @@ static size_t walked(const struct query_call *c, size_t list_count, size_t tree_
     }
     free(found);
     return list_count;
+}
+
+static size_t walked(const struct query_call *c, size_t list_count, size_t tree_count,
+                     int wanted(const struct query_call *, const struct span *))
+{
+    return walked_by(DT_ROW_TREE, c, list_count, tree_count, wanted);
 }

@@ -1,8 +1,8 @@
-//! Request 7/14 of document 02, the parent in every tree row, as a plain reading of its words over the rows of an answer
+//! Request 7/14 of document 02, the parent in every tree row, as a plain reading of its words over an answer's rows
 //! alone. It shares nothing with the definitions, and looks at no tree of the Rust.
 //!
-//! "A tree row becomes five numbers, the fifth being the parent's row, and the root names itself. Every user of tree rows
-//! follows, the caret query and document 01's readings included."
+//! "A tree row becomes five numbers, the fifth being the parent's row, and the root names itself. Every user of tree
+//! rows follows, the caret query and document 01's readings included."
 //!
 //! Which rows are a node's children is said by the child counts too, so the column is held against these.
 use crate::subtrees::{children, ends};
@@ -105,8 +105,8 @@ pub fn wrong(trees: &[u32]) -> Option<&'static str> {
     statements.into_iter().find(|(_, holds)| !holds).map(|(said, _)| said)
 }
 
-/// Whether what a query lists agrees with the parents in those rows: a chain begins with the root, and each later row of
-/// it names the one before; a part names the root.
+/// Whether what a query lists agrees with the parents in those rows: a chain begins with the root, and each later row
+/// of it names the one before; a part names the root.
 pub fn agrees(trees: &[u32], query: Query, list: &[u32]) -> bool {
     let names = |row: u32, parent: u32| trees.get(ROW_TREE * row as usize + COL_TREE_PARENT) == Some(&parent);
     let root = ROOT as u32;

@@ -1,6 +1,7 @@
 //! Every list of a few token rows over telling kinds and lengths, with a number over and without, over short texts; and
 //! counts of numbers and bytes at the limits of cause 2. Most are refused: the library is compared with the reading of
 //! document 02's request 4/14 (oracle::checks), where the rows are good with the Rust, in both settings, buffers whole.
+//! As many semicolons as a call takes have twice as many tree rows: their numbers, and so parents, pass 16 bits.
 use crate::call::Call;
 use crate::judge::{Input, Judge};
 use crate::show;
@@ -8,7 +9,7 @@ use dt_parser_layout::{
     ANSWERS, BUFFERS, COL_TOKEN_KIND, COL_TOKEN_LENGTH, ENTRY_CELLS, ENTRY_SOURCE_FILE, MAX_BYTES, MAX_TOKEN_NUMBERS,
     ROW_TOKEN, SETTING_OLD, SETTING_STRICT, TOKEN_FIRST_LEX_ERROR, TOKEN_LAST_LEX_ERROR,
 };
-use oracle::token::TokenKind::{Ident, Name, QuestionMark, Semicolon, String, Unrecognized, Whitespace};
+use oracle::token::TokenKind::{self, Ident, Name, QuestionMark, Semicolon, String, Unrecognized, Whitespace};
 use std::ops::RangeInclusive;
 
 /// Both ends of each range that rows may have, the numbers beside these, a fixed text of one byte, and numbers that are
@@ -126,8 +127,13 @@ impl Every {
             let changes = [0, last].map(|row| {
                 [(row + COL_TOKEN_KIND, u32::MAX), (row + COL_TOKEN_LENGTH, 0), (row + COL_TOKEN_LENGTH, 2)]
             });
+            if !self.both(&mut repeated(numbers, Semicolon, b';')) {
+                println!("a count of {numbers} numbers, of semicolons, differs");
+                println!("call: semicolons");
+                return false;
+            }
             for change in changes.as_flattened().iter().map(Some).chain([None]) {
-                let mut call = blanks(numbers);
+                let mut call = repeated(numbers, Whitespace, b' ');
                 change.into_iter().for_each(|&(index, number)| call.tokens[index] = number);
                 if !self.both(&mut call) {
                     println!("a count of {numbers} numbers differs");
@@ -152,9 +158,9 @@ impl Every {
     }
 }
 
-/// So many numbers of rows of a blank each; after an odd count a byte has no row.
-fn blanks(numbers: usize) -> Call {
-    let tokens = (0..numbers).map(|i| if i % ROW_TOKEN == COL_TOKEN_KIND { Whitespace as u32 } else { 1 }).collect();
-    let bytes = vec![b' '; numbers.div_ceil(ROW_TOKEN)];
+/// So many numbers of rows of one such token each, a byte long; after an odd count a byte has no row.
+fn repeated(numbers: usize, kind: TokenKind, byte: u8) -> Call {
+    let tokens = (0..numbers).map(|i| if i % ROW_TOKEN == COL_TOKEN_KIND { kind as u32 } else { 1 }).collect();
+    let bytes = vec![byte; numbers.div_ceil(ROW_TOKEN)];
     Call { entry: ENTRY_SOURCE_FILE, tokens, bytes, ..Call::default() }
 }

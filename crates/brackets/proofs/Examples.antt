@@ -8,6 +8,7 @@ use mathlib.Core.List.{List, [], _∷_, _++_}
 use lib.Dec.{eqb, lit<}
 use lib.ListN.{take, replicate}
 use borrow.Author.Tests.{eq-eqb}
+use Rattle.definitions.specs.Layout.{TREE-ROW}
 use Rattle.definitions.specs.TokenKind as K
 use Rattle.definitions.specs.NodeKind as N
 use Rattle.definitions.specs.Token.{Token, tokens-of}
@@ -84,7 +85,7 @@ record Seen : Type 0 where
 
 seen-of : Result → Seen
 unfolding outline read tree-proper
-seen-of r = let t = outline (read (take (4 * r .answer .tree-count) (r .buffers .trees))) in record { number = r .answer .number; tree = t; fits = tree-proper t }
+seen-of r = let t = outline (read (take (TREE-ROW * r .answer .tree-count) (r .buffers .trees))) in record { number = r .answer .number; tree = t; fits = tree-proper t }
 
 called : List Example → List Seen
 unfolding seen-of call lent
@@ -163,7 +164,7 @@ wrong-refused = refl
 
 -- nor do the rows of a parser for which a `(` followed by a block comment is a leaf of the list, of `(/**/1)` in entry
 -- 4
-bare-leaf : tree-proper (outline (read (0 ∷ 3 ∷ 7 ∷ 4 ∷ 1 ∷ 41 ∷ 1 ∷ 1 ∷ 1 ∷ 1 ∷ 4 ∷ 1 ∷ 1 ∷ 35 ∷ 1 ∷ 1 ∷ 1 ∷ 42 ∷ 1 ∷ 1 ∷ []))) ≡ false
+bare-leaf : tree-proper (outline (read (0 ∷ 3 ∷ 7 ∷ 4 ∷ 0 ∷ 1 ∷ 41 ∷ 1 ∷ 1 ∷ 0 ∷ 1 ∷ 1 ∷ 4 ∷ 1 ∷ 0 ∷ 1 ∷ 35 ∷ 1 ∷ 1 ∷ 0 ∷ 1 ∷ 42 ∷ 1 ∷ 1 ∷ 0 ∷ []))) ≡ false
 unfolding tree-proper outline read
 bare-leaf = refl
 
@@ -184,7 +185,7 @@ accepted = refl
 -- row 1 is a DtExpr
 is-cell : DtExpr-at 1 open-call
 unfolding open-call
-is-cell = record { written = lit< tt; width = 2; count = 2; row = refl }
+is-cell = record { written = lit< tt; width = 2; count = 2; parent = 0; row = refl }
 
 -- an RParen is among the tokens
 closed-in : List Token → Bool
@@ -260,7 +261,7 @@ strict-met = record { written = lit< tt; above = lit< tt; at-most = omega arith 
 strict-by-theorem : (q : ℕ) × Reported 4 strict-call q
 unfolding strict-call closed-in tokens-of
 strict-by-theorem =
-    missed 4 1 (38 ∷ 49 ∷ 98 ∷ 40 ∷ 49 ∷ []) strict-numbers lent refl 4 (record { written = lit< tt; width = 2; count = 2; row = refl })
+    missed 4 1 (38 ∷ 49 ∷ 98 ∷ 40 ∷ 49 ∷ []) strict-numbers lent refl 4 (record { written = lit< tt; width = 2; count = 2; parent = 0; row = refl })
     (λ b i. none-closes (tokens-of strict-numbers) refl b)
 
 -- the other theorem, of this call in any setting
@@ -268,7 +269,7 @@ abbrev in-setting : ℕ → Result
 in-setting setting = call 4 setting (38 ∷ 49 ∷ 98 ∷ 40 ∷ 49 ∷ []) strict-numbers lent
 
 proper-in-any : (setting : ℕ) → in-setting setting .answer .number ≡ 0
-    → tree-proper (outline (read (take (4 * in-setting setting .answer .tree-count) (in-setting setting .buffers .trees)))) ≡ true
+    → tree-proper (outline (read (take (TREE-ROW * in-setting setting .answer .tree-count) (in-setting setting .buffers .trees)))) ≡ true
 proper-in-any setting = brackets-proper 4 setting (38 ∷ 49 ∷ 98 ∷ 40 ∷ 49 ∷ []) strict-numbers lent
 
 -- there are two report rows, and the name's is not one that answers

@@ -11,7 +11,7 @@ use Rattle.definitions.specs.TokenKind as K
 use Rattle.definitions.specs.Token.{Token, seen, tokens-of}
 use Rattle.definitions.specs.NodeKind as N
 use Rattle.definitions.specs.Place.{Tree, nil, leaf, subtree}
-use Rattle.definitions.specs.Parent.{rows}
+use Rattle.definitions.specs.Parent.{rows-under}
 use Rattle.definitions.specs.Call.{Result, call}
 use Rattle.laws.specs.TreeRows.{read}
 use Rattle.laws.proofs.Tree.{leaves}
@@ -47,18 +47,18 @@ in-rows nil = refl
 in-rows (leaf k ts f) = let h = in-rows f in omega (arith, length-append ts (leaves f))
 in-rows (subtree k c f) = let h = in-rows c in let g = in-rows f in omega (arith, length-append (leaves c) (leaves f))
 
-first-row : (k : ℕ) (c : Tree) (l : List ℕ) → tokens-first (read (rows (subtree k c nil) ++ l)) ≡ length (leaves c)
+first-row : (k : ℕ) (c : Tree) (u p : ℕ) (l : List ℕ) → tokens-first (read (rows-under u p (subtree k c nil) ++ l)) ≡ length (leaves c)
 unfolding tokens-first shown _⊞_
-first-row k c l =
-    ap (λ (x : List ℕ). tokens-first (read (x ++ l))) (sym (shown-preorder (subtree k c nil)))
-    ∙ ap tokens-first (read-preorder (shown (subtree k c nil)) l (shown-counts (subtree k c nil)))
+first-row k c u p l =
+    ap (λ (x : List ℕ). tokens-first (read (x ++ l))) (sym (shown-preorder (subtree k c nil) u p))
+    ∙ ap tokens-first (read-preorder (shown (subtree k c nil)) u p l (shown-counts (subtree k c nil)))
     ∙ in-rows c
 
 missed-in : (ts : List Token) (p : ℕ) (r : Result) → Answered ts p r → No-partner ts p r → (q : ℕ) × Reported p r q
 missed-in ts p r a none = go (a .paired)
   where
     cell : tokens-first (read (drop (TREE-ROW * p) (r .buffers .trees))) ≡ length (leaves (a .children))
-    cell = ap (λ (l : List ℕ). tokens-first (read l)) (a .rows-are) ∙ first-row N.DtExpr (a .children) (a .more)
+    cell = ap (λ (l : List ℕ). tokens-first (read l)) (a .rows-are) ∙ first-row N.DtExpr (a .children) (a .parent) p (a .more)
 
     go : Partner (a .beyond) ⊎ ((q : ℕ) × Tells r (tokens-before p (r .buffers .trees)) (a .children) q) → (q : ℕ) × Reported p r q
     go (inl c) = let b = brackets-of ts (tokens-before p (r .buffers .trees)) (a .bracket) (a .beyond) (a .starts) (a .is-bracket) c in absurd (none (b .0) (b .1))

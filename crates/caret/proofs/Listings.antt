@@ -99,7 +99,8 @@ no-rows [] h = refl
 no-rows (a ∷ []) h = refl
 no-rows (a ∷ b ∷ []) h = refl
 no-rows (a ∷ b ∷ c ∷ []) h = refl
-no-rows (a ∷ b ∷ c ∷ d ∷ l) h = absurd (omega (arith, h))
+no-rows (a ∷ b ∷ c ∷ d ∷ []) h = refl
+no-rows (a ∷ b ∷ c ∷ d ∷ e ∷ l) h = absurd (omega (arith, h))
 
 all-listed : {fr to : ℕ} {goal trees list₀ list : List ℕ} {index start count : ℕ} (w : Listing fr to goal trees list₀ list index start count)
     → starting fr to (w .row) 0 start (rows-from trees index) ≡ [] → (count ≡ length goal) × (list ≡ laid goal list₀)

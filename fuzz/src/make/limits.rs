@@ -2,7 +2,7 @@
 use crate::call::Call;
 use crate::rng::Rng;
 use dt_parser_layout::{COL_TOKEN_KIND, COL_TOKEN_LENGTH, MAX_BYTES, MAX_TOKENS, ROW_TOKEN};
-use oracle::token::TokenKind::{Ident, Number, String, Whitespace};
+use oracle::token::TokenKind::{Ident, Number, Semicolon, String, Whitespace};
 
 /// One string of so many bytes, or so many rows of a byte each; in half of the draws an odd count, which is refused after
 /// cause 2, and now and then with a bad row, which is refused after both.
@@ -16,9 +16,9 @@ pub fn huge(r: &mut Rng, call: &mut Call) {
         call.tokens.extend([String as u32, n as u32])
     } else {
         let rows = MAX_TOKENS + over - 1;
-        let kind = r.pick(&[Whitespace, Ident, Number]) as u32;
-        call.bytes = vec![b'1'; rows];
-        (0..rows).for_each(|_| call.tokens.extend([kind, 1]))
+        let (kind, byte) = r.pick(&[(Whitespace, b'1'), (Ident, b'1'), (Number, b'1'), (Semicolon, b';')]);
+        call.bytes = vec![byte; rows];
+        (0..rows).for_each(|_| call.tokens.extend([kind as u32, 1]))
     }
     match r.n(4) {
         0 => call.tokens.truncate(call.tokens.len() - 1),
