@@ -64,19 +64,24 @@ static int is_dt_node(const struct dt_tree_row *row)
     return row->class_ == DT_CLASS_NODE && row->kind == DT_NODE_DT_NODE;
 }
 
-/* Where a row starts: the leaves before it. */
-static size_t start_of(const struct parsed *p, size_t row)
+/* How many bytes the next row starts after this one: those of a leaf. A node's are its leaves'. */
+static size_t own_bytes(const struct dt_tree_row *row)
+{
+    return row->class_ == DT_CLASS_LEAF ? row->width : 0;
+}
+
+static size_t start_of(const struct dt_tree_row *trees, size_t row)
 {
     size_t start = 0, i;
     for (i = 0; i < row; i++)
-        start += p->trees[i].class_ == DT_CLASS_LEAF ? p->trees[i].width : 0;
+        start += own_bytes(&trees[i]);
     return start;
 }
 
-/* What stands before a node's brace, without the blanks before it. */
-static void print_head(const struct input *in, const struct parsed *p, size_t node)
+/* What stands before the brace of a node that starts at this byte, without the blanks before it. */
+static void print_head(const struct input *in, const struct parsed *p, size_t node, size_t start)
 {
-    size_t child = node + 1, start = start_of(p, node), end = start;
+    size_t child = node + 1, end = start;
     uint32_t i;
     for (i = 0; i < p->trees[node].count; i++) {
         const struct dt_tree_row *row = &p->trees[child];
@@ -91,26 +96,28 @@ static void print_head(const struct input *in, const struct parsed *p, size_t no
     putchar('\n');
 }
 
-/* The nearest devicetree node around a row, found by going up from parent to parent; the root where there is none. */
+/* The nearest devicetree node around a row, found by going from parent to parent; the root where there is none. */
 static size_t node_around(const struct dt_tree_row *trees, size_t row)
 {
-    do
+    while (row != 0) {
         row = trees[row].parent;
-    while (row != 0 && !is_dt_node(&trees[row]));
+        if (is_dt_node(&trees[row]))
+            break;
+    }
     return row;
 }
 
 void print_nodes(const struct input *in, const struct parsed *p)
 {
-    size_t row, above;
+    size_t start = 0, row, above;
     puts("nodes:");
     for (row = 0; row < p->answer.tree_count; row++) {
-        if (!is_dt_node(&p->trees[row]))
-            continue;
-        indent(1);
-        for (above = node_around(p->trees, row); above != 0; above = node_around(p->trees, above))
-            indent(1);
-        print_head(in, p, row);
+        if (is_dt_node(&p->trees[row])) {
+            for (above = row; above != 0; above = node_around(p->trees, above))
+                indent(1);
+            print_head(in, p, row, start);
+        }
+        start += own_bytes(&p->trees[row]);
     }
 }
 
@@ -118,20 +125,22 @@ void print_way_up(const struct input *in, const struct parsed *p, size_t row)
 {
     for (row = node_around(p->trees, row); row != 0; row = node_around(p->trees, row)) {
         fputs("in ", stdout);
-        print_head(in, p, row);
+        print_head(in, p, row, start_of(p->trees, row));
     }
 }
 
+/* The list's numbers are in the order of the rows, so that one walk over the rows finds where each starts. */
 void print_list(const struct input *in, const struct parsed *p)
 {
     enum { LONGEST = 40 };
-    size_t i;
+    size_t start = 0, row = 0, i;
     for (i = 0; i < p->list_count; i++) {
         const struct dt_tree_row *listed = p->trees + p->list[i];
         int is_node = listed->class_ == DT_CLASS_NODE, is_long = listed->width > LONGEST;
         const char *name = is_node ? dt_node_name(listed->kind) : dt_token_name(listed->kind);
-        size_t start = start_of(p, p->list[i]);
-        printf("row %u: %s@%zu..%zu \"", p->list[i], name, start, start + listed->width);
+        for (; row < p->list[i]; row++)
+            start += own_bytes(&p->trees[row]);
+        printf("row %zu: %s@%zu..%zu \"", row, name, start, start + listed->width);
         print_text(in->bytes, start, start + (is_long ? (size_t)LONGEST : listed->width));
         puts(is_long ? "\".." : "\"");
     }

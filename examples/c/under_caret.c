@@ -20,14 +20,13 @@ static int fail(const char *what)
     return 2;
 }
 
-static int refused(const struct input *in, const struct parsed *p)
-{
-    print_refusal(in, p);
-    return 1;
-}
-
+/* Prints what a call gave, if it was accepted: the rows that it lists, none of a parse; and of a caret the way up. */
 static int show(const struct input *in, const struct query *q, const struct parsed *p)
 {
+    if (p->answer.number != DT_ACCEPTED) {
+        print_refusal(in, p);
+        return 1;
+    }
     print_list(in, p);
     if (q->is_caret && p->list_count > 0)
         print_way_up(in, p, p->list[p->list_count - 1]);
@@ -37,9 +36,7 @@ static int show(const struct input *in, const struct query *q, const struct pars
 static int ask(const struct input *in, const struct query *q)
 {
     struct parsed p;
-    int status = !query(in, q, &p)                 ? fail("no memory")
-                 : p.answer.number != DT_ACCEPTED ? refused(in, &p)
-                                                  : show(in, q, &p);
+    int status = query(in, q, &p) ? show(in, q, &p) : fail("no memory");
     free_parsed(&p);
     return status;
 }
@@ -49,7 +46,7 @@ static int ask(const struct input *in, const struct query *q)
 static int ask_source(const struct input *in, const struct query *q)
 {
     struct parsed p;
-    int status = parse(in, &p) ? show(in, &p) : fail("no memory");
+    int status = parse(in, &p) ? show(in, q, &p) : fail("no memory");
     if (status == 0) {
         struct input with_tokens = *in;
         with_tokens.tokens = p.tokens;

@@ -50,7 +50,8 @@ pub enum Wrong {
     Input,
     /// The parents in the tree rows are not as request 7/14 has them, by the rows alone; or a list and they disagree.
     Parents(&'static str),
-    /// The unchanged Rust and the patched copy differ, or a list in a text of the unchanged one and the pool.
+    /// The unchanged Rust and the patched copy differ, or a list in a text of the unchanged one and the pool, or the
+    /// parents in its rows and in its red tree.
     Oracle,
     /// The rows and what request 6/14 makes of all that the Rust pushed differ: a list, its place or a range.
     Lists,
@@ -67,7 +68,9 @@ impl Wrong {
     pub fn before_call(&self) -> Option<String> {
         Some(match self {
             Wrong::Panic(text) => format!("the patched Rust panics: {text}"),
-            Wrong::Oracle => "the patched and the unchanged Rust differ, or a list in its texts and the pool".into(),
+            Wrong::Oracle => "the patched and the unchanged Rust differ, or a list in its texts and the pool, or the \
+                              parents in its rows and in its red tree"
+                .into(),
             Wrong::Lists => "the rows and what request 6/14 makes of the Rust's lists do not agree".into(),
             Wrong::Readings => "the readings of bad rows by document 01 and by request 4/14 do not agree".into(),
             Wrong::Finder => "the Rust's own search finds another leaf at one of the offsets".into(),

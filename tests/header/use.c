@@ -1,6 +1,6 @@
 /* What a caller in C or C++ relies on, without the library: the structs lie over the rows, the calls are declared, the
-   names are there, dt_after_subtree goes from sibling to sibling, and the lengths of a token buffer, a list and a pool
-   are enough. Compiled as C and as C++. */
+   names are there, dt_after_subtree goes from sibling to sibling and parents lead up to the root, and the lengths of a
+   tree, a token buffer, a list and a pool are enough. Compiled as C and as C++. */
 #include "../random.h"
 #include "dt_names.h"
 #include <stdio.h>
@@ -16,6 +16,7 @@ COLUMN(dt_tree_row, class_, DT_COL_TREE_CLASS);
 COLUMN(dt_tree_row, kind, DT_COL_TREE_KIND);
 COLUMN(dt_tree_row, width, DT_COL_TREE_WIDTH);
 COLUMN(dt_tree_row, count, DT_COL_TREE_COUNT);
+COLUMN(dt_tree_row, parent, DT_COL_TREE_PARENT);
 COLUMN(dt_error_row, number, DT_COL_ERROR_NUMBER);
 COLUMN(dt_error_row, start, DT_COL_ERROR_START);
 COLUMN(dt_error_row, end, DT_COL_ERROR_END);
@@ -65,10 +66,11 @@ static void expect(int holds, const char *what)
 }
 
 /* A random subtree. A leaf's count is of tokens, and must not be taken for children. */
-static void make_subtree(uint32_t depth)
+static void make_subtree(uint32_t depth, size_t parent)
 {
     size_t row = made++;
     uint32_t i;
+    rows[row].parent = (uint32_t)parent;
     if (depth == 0 || made > ROWS / 2 || below(3) == 0) {
         rows[row].class_ = DT_CLASS_LEAF;
         rows[row].count = 1 + below(4);
@@ -76,9 +78,35 @@ static void make_subtree(uint32_t depth)
         rows[row].class_ = DT_CLASS_NODE;
         rows[row].count = below(5);
         for (i = 0; i < rows[row].count; i++)
-            make_subtree(depth - 1);
+            make_subtree(depth - 1, row);
     }
     ends[row] = made;
+}
+
+/* As the header says it: the rows around a row are those whose subtrees it is in, the nearest first. */
+static void check_way_up(size_t row)
+{
+    size_t around = row, own = row;
+    while (row != 0) {
+        row = rows[row].parent;
+        do
+            around--;
+        while (ends[around] <= own);
+        expect(row == around, "parent: not the next row around it");
+    }
+    expect(around == 0, "parent: the way up does not end at the root");
+}
+
+/* As the header says it: as many children as the row counts, each of which names it. */
+static void check_children(size_t node)
+{
+    size_t child = node + 1;
+    uint32_t i;
+    if (rows[node].class_ != DT_CLASS_NODE)
+        return;
+    for (i = 0; i < rows[node].count; i++, child = dt_after_subtree(rows, made, child))
+        expect(rows[child].parent == node, "dt_after_subtree: not a child");
+    expect(child == ends[node], "dt_after_subtree: not past the last child");
 }
 
 static void check_trees(void)
@@ -87,15 +115,19 @@ static void check_trees(void)
     size_t row;
     for (turn = 0; turn < 20000; turn++) {
         made = 0;
-        make_subtree(1 + below(8));
-        for (row = 0; row < made; row++)
+        make_subtree(1 + below(8), 0);
+        for (row = 0; row < made; row++) {
             expect(dt_after_subtree(rows, made, row) == ends[row], "dt_after_subtree: not the row after the subtree");
+            check_way_up(row);
+            check_children(row);
+        }
     }
     for (turn = 0; turn < 20000; turn++) {
         size_t count = below(20);
         for (row = 0; row < count; row++) {
             rows[row].class_ = below(3);
             rows[row].count = below(2) ? below(4) : 4294967295u;
+            rows[row].parent = below(2) ? below(20) : 4294967295u;
         }
         for (row = 0; row <= count; row++)
             expect(dt_after_subtree(rows, count, row) <= count, "dt_after_subtree: past the rows");
@@ -117,6 +149,16 @@ static void check_token_room(void)
     expect(DT_TOKENS_FOR(1 ? 3 : 4) == 6, "DT_TOKENS_FOR: an expression");
 }
 
+/* Five numbers for each row that there can be; a constant, as above, and no more bytes than as many structs. */
+static void check_tree_room(void)
+{
+    static struct dt_tree_row trees[601];
+    static uint32_t numbers[DT_TREES_FOR(100)];
+    expect(sizeof numbers == 3005 * sizeof *numbers, "DT_TREES_FOR: an array's length");
+    expect(sizeof numbers == sizeof trees, "DT_TREES_FOR: the rows as structs");
+    expect(DT_TREES_FOR(0) == 5 && DT_TREES_FOR(1 ? 2 : 4) == 65, "DT_TREES_FOR: an expression");
+}
+
 /* A number for each whole row of a tree buffer; and a constant, as above. */
 static void check_list_room(void)
 {
@@ -124,9 +166,9 @@ static void check_list_room(void)
     size_t numbers;
     expect(sizeof list == 601 * sizeof *list, "DT_LIST_FOR: an array's length");
     for (numbers = 0; numbers < 100; numbers++)
-        expect(DT_LIST_FOR(numbers) == numbers / 4, "DT_LIST_FOR");
-    expect(DT_LIST_FOR(SIZE_MAX) == SIZE_MAX / 4, "DT_LIST_FOR: the longest buffer");
-    expect(DT_LIST_FOR(1 ? 8 : 4) == 2, "DT_LIST_FOR: an expression");
+        expect(DT_LIST_FOR(numbers) == numbers / 5, "DT_LIST_FOR");
+    expect(DT_LIST_FOR(SIZE_MAX) == SIZE_MAX / 5, "DT_LIST_FOR: the longest buffer");
+    expect(DT_LIST_FOR(1 ? 10 : 5) == 2, "DT_LIST_FOR: an expression");
 }
 
 /* As many different expectations as there are in each report of the run; and a constant, as above. */
@@ -182,6 +224,7 @@ int main(void)
 {
     check_trees();
     check_token_room();
+    check_tree_room();
     check_list_room();
     check_pool_room();
     check_all_names();

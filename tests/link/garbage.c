@@ -1,29 +1,13 @@
 /* Calls with random numbers in place of entry, setting, bytes, token rows and buffer lengths, calls with random texts,
    and calls at the limits of size.
    The causes that come before a parse are worked out again, those of rows in rows.h and those of a text in text.h; of
-   every call it is checked what the buffers hold afterwards. */
+   every call it is checked what the buffers hold afterwards, of an accepted one that its tree is one (tree.h). */
 #include "random_rows.h"
 #include "rows.h"
 #include "text.h"
 
 /* Numbers that an answer can have, of dt_parse and of dt_parse_text. */
 enum { ANSWERS = DT_REFUSAL_BAD_END + 1, TEXT_ANSWERS = DT_REFUSAL_DIRECTIVE + 1 };
-
-/* The rows, read as a caller reads them, are one tree over all of the input. */
-static void check_root(const char *name, const struct dt_tree_row *trees, size_t count, size_t n)
-{
-    if (count == 0 || trees[0].class_ != DT_CLASS_NODE || trees[0].width != n)
-        fail(name, "the root is not a node as wide as the input");
-    if (dt_after_subtree(trees, count, 0) != count)
-        fail(name, "the rows are not one tree");
-    size_t child = 1, width = 0;
-    for (uint32_t i = 0; i < trees[0].count; i++) {
-        width += trees[child].width;
-        child = dt_after_subtree(trees, count, child);
-    }
-    if (child != count || width != n)
-        fail(name, "the root's children are not side by side");
-}
 
 static int is_digit(uint8_t byte)
 {
@@ -89,12 +73,11 @@ static struct dt_answer checked(const char *name, uint32_t entry, const uint8_t 
         fail(name, "a number or a place that there is not");
     if (a.number && (a.tree_count || a.error_count || a.report_count || a.expectation_count))
         fail(name, "a refused call that counts something");
-    if (a.number == DT_ACCEPTED)
+    if (a.number == DT_ACCEPTED) {
         check_labels(name, setting, (const struct dt_report_row *)b[REPORTS].numbers, a, bytes, n);
-    if (a.number == DT_ACCEPTED)
         check_lists(name, (const struct dt_report_row *)b[REPORTS].numbers, b[POOL].numbers, a);
-    if (a.number == DT_ACCEPTED)
-        check_root(name, (const struct dt_tree_row *)b[TREES].numbers, a.tree_count, n);
+        check_tree(name, b[TREES].numbers, a.tree_count, n);
+    }
     for (int i = 0; i < BUFFERS; i++) {
         int left = b[i].length > used[i] && (is_early(a.number) || a.number == DT_REFUSAL_BAD_TEXT);
         if (used[i] > b[i].length || rest(b[i], used[i]) != left)
@@ -300,7 +283,7 @@ static void text_limits(void)
     expect_text("a text of 65,536 comments", "/**/", ROWS, 0, NUMBERS, TREE, DT_ACCEPTED);
     expect_text("the same, one token number fewer", "/**/", ROWS, 0, NUMBERS - 1, TREE, DT_REFUSAL_TOO_LONG);
     expect_text("the same, one number of the tree fewer", "/**/", ROWS, 0, NUMBERS, TREE - 1, DT_REFUSAL_NO_TREE_ROOM);
-    expect_text("a text of 65,537 comments", "/**/", ROWS + 1, 0, NUMBERS + 2, TREE + 4, DT_REFUSAL_TOO_LONG);
+    expect_text("a text of 65,537 comments", "/**/", ROWS + 1, 0, NUMBERS + 2, TREE + DT_ROW_TREE, DT_REFUSAL_TOO_LONG);
     expect_text("the same, the last a byte of 128", "/**/", ROWS + 1, HIGH, NUMBERS + 2, TREE, DT_REFUSAL_HIGH_BYTE);
     expect_text("a token without room for it", ",", 1, 0, 0, SMALL, DT_REFUSAL_TOO_LONG);
     expect_text("a text of 65 open nodes", "a{", 65, 0, NUMBERS, TREE, DT_REFUSAL_TOO_DEEP);

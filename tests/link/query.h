@@ -39,13 +39,21 @@ static size_t leaf_at(const struct dt_tree_row *trees, size_t count, uint64_t of
     return found;
 }
 
-/* The rows from the root to the leaf at an offset. Gives how many they are. */
+/* The rows from the root to the leaf at an offset: the way up from the leaf by the parents, backwards. Gives how many
+   they are. */
 static size_t chain_to(const struct dt_tree_row *trees, size_t count, uint64_t offset, size_t n, uint32_t *list)
 {
-    size_t leaf = leaf_at(trees, count, offset, n), found = 0;
-    for (size_t row = 0; offset <= n && row <= leaf; row++)
-        if (dt_after_subtree(trees, count, row) > leaf)
-            list[found++] = (uint32_t)row;
+    uint32_t row = (uint32_t)leaf_at(trees, count, offset, n);
+    size_t found = 0;
+    if (count == 0 || offset > n)
+        return 0;
+    for (list[found++] = row; row != 0; list[found++] = row)
+        row = trees[row].parent;
+    for (size_t i = 0; i < found / 2; i++) {
+        uint32_t other = list[found - 1 - i];
+        list[found - 1 - i] = list[i];
+        list[i] = other;
+    }
     return found;
 }
 

@@ -1,5 +1,6 @@
 /* Runs the cases of a list, in the form that crates/replay says, and prints what the gate's program prints. Each
-   accepted call is made again with buffers that just hold its answer, and with one number fewer of each.
+   accepted call has its tree checked as tree.h says, and is made again with buffers that just hold its answer, and with
+   one number fewer of each.
    With --text: takes the bytes of each case as a text, checks the call as text.h says, in token buffers that just fit,
    that are one number short and one too long, and prints how often each answer was given.
    With --queries: asks each case as a source file at every offset, and for ranges from there, checks the query as
@@ -105,8 +106,10 @@ static void run_case(const struct one *c)
     struct buffer b[BUFFERS];
     struct dt_answer a = call_one(c, c->head + 4, b);
     print(c, a, b);
-    if (a.number == DT_ACCEPTED)
+    if (a.number == DT_ACCEPTED) {
+        check_tree(c->name, b[TREES].numbers, a.tree_count, c->head[1]);
         at_the_edge(c, a, b);
+    }
     for (int i = 0; i < BUFFERS; i++)
         give_back(c->name, b[i]);
 }

@@ -1,6 +1,6 @@
 /* Calls with a text: what must hold of each, worked out here from the header's words. Which tokens a text has is not
    known here: they must be the text when joined, and dt_parse must give for them what the text's call gave. */
-#include "lent.h"
+#include "tree.h"
 
 /* A call with a text. */
 struct text {
@@ -149,6 +149,8 @@ static void check_parsed(const struct text *t, struct dt_text_answer a, const st
         check_tokens(t, (const struct dt_token_row *)own[TOKENS].numbers, read.token_count);
         check_parse(t, own[TOKENS].numbers, numbers, a.answer, b);
     }
+    if (a.answer.number == DT_ACCEPTED)
+        check_tree(t->name, b[TREES].numbers, a.answer.tree_count, t->n);
     if (a.answer.number == DT_ACCEPTED && (a.token_count != read.token_count ||
                                            memcmp(b[TOKENS].numbers, own[TOKENS].numbers, numbers * sizeof(uint32_t))))
         fail(t->name, "other tokens than for another entry");

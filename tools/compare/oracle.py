@@ -1,9 +1,10 @@
 """The expected result of a case. Causes 1, 2 and 4 and the buffers' final contents are document 01's table, written
 here in a few lines; what is wrong with the rows, between 2 and 4, is row_causes.py; everything else is the answer of
 oracle/ (`oracle doc01 any`: the patched copy of the Rust), in the strict setting with the reports that strict.py
-adds."""
+adds. The parents in its tree rows must be those of parents.py."""
 from compare.case import ERROR_ROW, ERRORS, EVENT_ROW, MOST_BYTES, MOST_NUMBERS, REPORT_ROW, TREE_ROW
 from compare.case import Result, case_line
+from compare.parents import are_right
 from compare.row_causes import bad_rows
 from compare.strict import with_labels
 from oracle_program import Program
@@ -38,6 +39,8 @@ class Parsed:
                 self.pool += map(int, rest[bar + 1 :])
         if self.number is None:
             raise SystemExit("the oracle gave no answer: " + " / ".join(lines))
+        if not are_right(self.rows):
+            raise SystemExit("the oracle's tree rows have other parents: " + " / ".join(lines))
 
     def needs(self):
         """Buffer lengths that just suffice for what is pushed, and for the rows if the answer has them."""

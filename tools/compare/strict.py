@@ -1,6 +1,7 @@
 """The strict setting of request 1/14 (document 02), as a plain reading of its words over the tree rows that the oracle
 gives. The Rust has no such setting. fuzz/src/strict.rs reads the same words in Rust."""
 from compare.case import LEAF, NODE, REPORT_ROW, TreeRow, rows, rows_of
+from compare.parents import parents
 
 # by document 01's order of NodeKind and TokenKind; message 8 is document 02's
 DT_LABEL, DT_PHANDLE = 19, 21
@@ -14,20 +15,6 @@ DIGITS = b"0123456789"
 def breaks_rule(text):
     """A label may "hold letters, digits and underscores", and "a leading digit" is forbidden."""
     return any(b not in LETTERS + DIGITS + b"_" for b in text) or text[:1] in [bytes([d]) for d in DIGITS]
-
-
-def parents(tree):
-    """Of each row the row number of its parent; the root has none."""
-    out, open_nodes = [], []
-    for i, row in enumerate(tree):
-        while open_nodes and open_nodes[-1][1] == 0:
-            open_nodes.pop()
-        out.append(open_nodes[-1][0] if open_nodes else None)
-        if open_nodes:
-            open_nodes[-1][1] -= 1
-        if row.class_ == NODE:
-            open_nodes.append([i, row.count])
-    return out
 
 
 def reported(data, numbers):

@@ -11,14 +11,15 @@ def toks(kinds, text):
     return "toks %s %s" % (",".join(kinds), text)
 
 
-CLAIMS = "reports", "pool", "lists", "longest", "nodes", "branches", "pending", "calls"
+CLAIMS = "reports", "pool", "lists", "longest", "nodes", "branches", "parents", "pending", "calls"
 
 
 def accepted(**claims):
     """Claims of an accepted call, of which any may be left out: each report's message and range (reports); all
     expectations by name (pool), those of each report (lists), and how many one has at most (longest); kind and width of
-    nodes that are there (nodes); how many nodes are branches of a conditional (branches); how many expectations the
-    Rust had pending, repeats counted, and how many calls were open, at most (pending, calls)."""
+    nodes that are there (nodes); how many nodes are branches of a conditional (branches); the parent of each row
+    (parents, document 02, 7/14); how many expectations the Rust had pending, repeats counted, and how many calls were
+    open, at most (pending, calls)."""
     assert {*claims} <= {*CLAIMS}
     return {"number": 0, "place": 0, **dict.fromkeys(CLAIMS), **claims}
 
@@ -58,9 +59,11 @@ LIMITS = [
     ("63-prefixes", 4, "text (" + "-" * 63 + "1)", ROOM, refused(5, 64)),
 ]
 
+# the semicolon is row 3 in both
+TAIL = [0, 0, 1, 1, 0, 4]
 SHARED_TAIL = [
-    ("a;}", 1, "text a;}", ROOM, accepted(reports=[(2, 2, 3)], nodes=[("ParseError", 1)])),
-    ("b,c;}", 1, "text b,c;}", ROOM, accepted(reports=[(2, 4, 5)], nodes=[("ParseError", 1)])),
+    ("a;}", 1, "text a;}", ROOM, accepted(reports=[(2, 2, 3)], nodes=[("ParseError", 1)], parents=TAIL)),
+    ("b,c;}", 1, "text b,c;}", ROOM, accepted(reports=[(2, 4, 5)], nodes=[("ParseError", 1)], parents=TAIL)),
 ]
 
 # A ParseError without a report; pending expectations that outlive a statement; `#else` after a comma; the semicolon of

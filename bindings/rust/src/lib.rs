@@ -87,7 +87,8 @@
 //!
 //! [`Tree::at_offset`] has the items from the root to the leaf at an offset, and [`Tree::parts_in`] the top-level parts
 //! that share a byte with a range. Both are proved calls of their own too, which a [`Parser`] makes without a tree in
-//! Rust: [`Parser::query`] gives the same rows, by number.
+//! Rust: [`Parser::query`] gives the same rows, by number. The way up, as an outline goes it, is [`Item::nodes_above`]:
+//! every row names its parent.
 //!
 //! ```
 //! use dt_parser::{Entrypoint, Parser, Query};
@@ -99,6 +100,9 @@
 //!
 //! let rows: Vec<usize> = items.iter().map(|item| item.row()).collect();
 //! assert_eq!(Parser::new().query(Query::Caret(14), &read.input)?, rows);
+//!
+//! let up: Vec<usize> = items[3].nodes_above().map(|node| node.row()).collect();
+//! assert!(up.iter().rev().eq(&rows[..3]));
 //! # Ok::<(), Box<dyn std::error::Error>>(())
 //! ```
 //!

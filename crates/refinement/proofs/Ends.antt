@@ -166,7 +166,7 @@ module _ (setting : ℕ) (e : Entry) (bytes tokens : List ℕ) (b : Buffers) (m 
   -- the rows of a tree, of lexical errors and of reports are whole
   trees-in : (c : List ℕ) → c ≡ onto R (b .trees) → Rows-in TREE-ROW (length R / TREE-ROW) R c
   trees-in c h =
-      let w : length R / TREE-ROW * TREE-ROW ≡ length R = omega (arith, rows-length (root (root-kind e) o ts)) in
+      let w : length R / TREE-ROW * TREE-ROW ≡ length R = omega (arith, rows-length (root (root-kind e) o ts) 0 0) in
       record { count = refl; whole = w; numbers = onto-front R (b .trees) c _ h w }
 
   errors-in : (c : List ℕ) → c ≡ onto L (b .errors) → Rows-in ERROR-ROW (length L / ERROR-ROW) L c

@@ -27,10 +27,10 @@ pub record Placed (all : List Row) (f : Tree) (l : List Row) (s p before : ℕ) 
 
 -- the first part, a leaf, and the parts after it
 module _ (all : List Row) (k : ℕ) (ts : List _) (f : Tree) (l : List Row) (s p before : ℕ) (w : Placed all (leaf k ts f) l s p before) where
-  abbrev leaf-row : Row
+  abbrev pub leaf-row : Row
   leaf-row = tree-row LEAF k (byte-count ts) (length ts) p []
 
-  leaf-stands : Stands all s leaf-row (rows-of p (suc s) f ++ l)
+  pub leaf-stands : Stands all s leaf-row (rows-of p (suc s) f ++ l)
   unfolding rows-of
   leaf-stands = stands all s leaf-row (rows-of p (suc s) f ++ l) (w .here)
 
@@ -68,14 +68,14 @@ module _ (all : List Row) (k : ℕ) (ts : List _) (f : Tree) (l : List Row) (s p
 
 -- the first part, a node, what is under it, and the parts after it
 module _ (all : List Row) (k : ℕ) (c f : Tree) (l : List Row) (s p before : ℕ) (w : Placed all (subtree k c f) l s p before) where
-  abbrev node-row : Row
+  abbrev pub node-row : Row
   node-row = tree-row NODE k (width c) (count c) p []
 
   node-front : drop s all ≡ node-row ∷ (rows-of s (suc s) c ++ (rows-of p (suc s + row-count c) f ++ l))
   unfolding rows-of
   node-front = w .here ∙ ap (node-row ∷_) (append-assoc (rows-of s (suc s) c) (rows-of p (suc s + row-count c) f) l)
 
-  node-stands : Stands all s node-row (rows-of s (suc s) c ++ (rows-of p (suc s + row-count c) f ++ l))
+  pub node-stands : Stands all s node-row (rows-of s (suc s) c ++ (rows-of p (suc s + row-count c) f ++ l))
   node-stands = stands all s node-row (rows-of s (suc s) c ++ (rows-of p (suc s + row-count c) f ++ l)) node-front
 
   pub node-child : Child all p s

@@ -4,10 +4,10 @@
 //! "Past a semicolon shared in this way, the later parts are the root's children after the part it ends, with every
 //! tree row under them; the later lexical errors are those of the tokens after it; the later reports are those whose
 //! mark is greater than its token index. The difference is the second semicolon's start less the first's for bytes, and
-//! its token index less the first's for marks. Start, end and mark move; a label moves unless it is 0, 0; message, hint,
-//! pool count and the expectations are equal, and the first pool place moves by the second file's sum of pool counts
-//! over the reports that aren't later, less the first's." "Rows after a shared semicolon now agree once row numbers are
-//! moved too, except that a parent which is the root stays 0."
+//! its token index less the first's for marks. Start, end and mark move; a label moves unless it is 0, 0; message,
+//! hint, pool count and the expectations are equal, and the first pool place moves by the second file's sum of pool
+//! counts over the reports that aren't later, less the first's." "Rows after a shared semicolon now agree once row
+//! numbers are moved too, except that a parent which is the root stays 0."
 use crate::subtrees::{children, ends};
 use dt_parser_layout::{
     BUFFERS, CLASS_LEAF, CLASS_NODE, COL_ERROR_END, COL_ERROR_START, COL_REPORT_END, COL_REPORT_LABEL_END,
@@ -62,8 +62,8 @@ fn ends_in_semicolon(trees: &[u32], ends: &[usize], part: usize) -> bool {
     is_named && row(last)[..=COL_TREE_KIND] == [CLASS_LEAF, TokenKind::Semicolon as u32]
 }
 
-/// The first later row, and how many of the root's children are later. None if the token with this index is no semicolon
-/// that ends a top-level property, node or directive.
+/// The first later row, and how many of the root's children are later. None if the token with this index is no
+/// semicolon that ends a top-level property, node or directive.
 fn first_later(trees: &[u32], token: usize) -> Option<(usize, usize)> {
     let ends = ends(trees)?;
     let (mut part, mut first, mut parts, mut taken) = (0, 1, children(trees), 0);

@@ -1,5 +1,5 @@
-//! The Rust's own way up: the `parent` of each node and token of its red tree (cst.rs). The rows have theirs from the way
-//! down (`parsed`), so that one can be held against the other.
+//! The Rust's own way up: the `parent` of each node and token of its red tree (cst.rs). The rows have theirs from the
+//! way down (`parsed`), so that one can be held against the other.
 use crate::parsed::Parsed;
 use dt_tools_parser::cst::{RedItem, RedNode};
 use std::collections::HashMap;

@@ -25,7 +25,7 @@ pub struct Report {
 }
 
 impl Parsed {
-    /// Writes the tree as rows: document 01's four numbers and the parent's row, which is document 02's request 7/14; the
+    /// Writes the tree as rows: document 01's four numbers and, by document 02's request 7/14, the parent's row; the
     /// root names itself. `out` is empty. Gives how many of the tokens are in its leaves.
     pub fn tree_rows(&self, toks: &Rows, out: &mut Vec<u32>) -> usize {
         let mut taken = 0;
