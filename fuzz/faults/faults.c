@@ -231,6 +231,34 @@ static struct dt_answer parse_by_fours(uint32_t entry, uint32_t setting, const u
     return a;
 }
 
+/* Faults of an accepted call. */
+static struct dt_answer damaged_accepted(struct dt_answer a, uint32_t entry, const uint8_t *bytes,
+                                         const uint32_t *tokens, size_t tokens_len, uint32_t *events,
+                                         size_t events_len, uint32_t *trees, size_t trees_len, uint32_t *errors,
+                                         size_t errors_len, uint32_t *reports, size_t reports_len, uint32_t *pool,
+                                         size_t pool_len)
+{
+    struct lists lists = {&a, entry, (const struct dt_token_row *)tokens, tokens_len / DT_ROW_TOKEN,
+                          (struct dt_tree_row *)trees, (struct dt_report_row *)reports, pool, pool_len};
+    struct dt_answer other = refused_for_lists(&lists);
+    if (fault() == 168 && trees_len / DT_ROW_TREE == a.tree_count)
+        other = refused(DT_REFUSAL_NO_TREE_ROOM, 0); /* a tree that just fits */
+    if (other.number != DT_ACCEPTED) {
+        clear(events, events_len), clear(trees, trees_len), clear(errors, errors_len);
+        clear(reports, reports_len), clear(pool, pool_len);
+        return other;
+    }
+    damage_lists(&lists);
+    if (a.report_count && ((struct dt_report_row *)reports)[a.report_count - 1].message == DT_MESSAGE_NOT_A_LABEL)
+        damage_labels(&a, (struct dt_tree_row *)trees, (struct dt_report_row *)reports, bytes);
+    else if (a.report_count)
+        damage_report((struct dt_report_row *)reports + a.report_count - 1);
+    damage_rest(&a, events, events_len, reports, reports_len, pool, pool_len);
+    damage_rows(&a, (struct dt_tree_row *)trees, (struct dt_error_row *)errors, pool);
+    damage_trees(trees, a.tree_count);
+    return a;
+}
+
 struct dt_answer dt_parse(uint32_t entry, uint32_t setting, const uint8_t *bytes, size_t bytes_len,
                           const uint32_t *tokens, size_t tokens_len, uint32_t *events, size_t events_len,
                           uint32_t *trees, size_t trees_len, uint32_t *errors, size_t errors_len, uint32_t *reports,
@@ -264,23 +292,6 @@ struct dt_answer dt_parse(uint32_t entry, uint32_t setting, const uint8_t *bytes
         damage_kept(&a, trees, trees_len);
         return a;
     }
-    struct lists lists = {&a, entry, (const struct dt_token_row *)tokens, tokens_len / DT_ROW_TOKEN,
-                          (struct dt_tree_row *)trees, (struct dt_report_row *)reports, pool, pool_len};
-    old = refused_for_lists(&lists);
-    if (fault() == 168 && trees_len / DT_ROW_TREE == a.tree_count)
-        old = refused(DT_REFUSAL_NO_TREE_ROOM, 0); /* a tree that just fits */
-    if (old.number != DT_ACCEPTED) {
-        clear(events, events_len), clear(trees, trees_len), clear(errors, errors_len);
-        clear(reports, reports_len), clear(pool, pool_len);
-        return old;
-    }
-    damage_lists(&lists);
-    if (a.report_count && ((struct dt_report_row *)reports)[a.report_count - 1].message == DT_MESSAGE_NOT_A_LABEL)
-        damage_labels(&a, (struct dt_tree_row *)trees, (struct dt_report_row *)reports, bytes);
-    else if (a.report_count)
-        damage_report((struct dt_report_row *)reports + a.report_count - 1);
-    damage_rest(&a, events, events_len, reports, reports_len, pool, pool_len);
-    damage_rows(&a, (struct dt_tree_row *)trees, (struct dt_error_row *)errors, pool);
-    damage_trees(trees, a.tree_count);
-    return a;
+    return damaged_accepted(a, entry, bytes, tokens, tokens_len, events, events_len, trees, trees_len, errors,
+                            errors_len, reports, reports_len, pool, pool_len);
 }

@@ -197,7 +197,26 @@ static struct text_answer damaged_size(const struct text_call *c, struct text_an
     return a;
 }
 
-/* Faults of counts and of what the buffers hold. */
+/* Faults of what the text and the parse's buffers hold. */
+static void damage_others(const struct text_call *c, const struct text_answer *a)
+{
+    switch (fault()) {
+    case 52: /* events not zero at 5 to 8 */
+        if (is_zeroing(a->answer.number) && c->events.len)
+            c->events.numbers[c->events.len - 1] = 1;
+        break;
+    case 60: /* the text is written */
+        if (c->bytes_len > 4)
+            ((uint8_t *)c->bytes)[4] |= 32;
+        break;
+    case 170: /* no parents in the tree of a text */
+        for (size_t i = 0; i < a->answer.tree_count; i++)
+            c->trees.numbers[DT_ROW_TREE * i + DT_COL_TREE_PARENT] = 0;
+        break;
+    }
+}
+
+/* Faults of counts and of what the token buffer holds. */
 static struct text_answer damaged_rows(const struct text_call *c, struct text_answer a)
 {
     uint32_t *tokens = c->tokens.numbers;
@@ -216,10 +235,6 @@ static struct text_answer damaged_rows(const struct text_call *c, struct text_an
         if (!accepted && !is_zeroing(number) && c->tokens.len)
             tokens[0] = 0;
         break;
-    case 52: /* events not zero at 5 to 8 */
-        if (is_zeroing(number) && c->events.len)
-            c->events.numbers[c->events.len - 1] = 1;
-        break;
     case 53: /* a count of a refused call */
         a.token_count += number == DT_REFUSAL_NO_EVENT_ROOM;
         break;
@@ -235,14 +250,6 @@ static struct text_answer damaged_rows(const struct text_call *c, struct text_an
             tokens[1]++;
             tokens[3]--;
         }
-        break;
-    case 60: /* the text is written */
-        if (c->bytes_len > 4)
-            ((uint8_t *)c->bytes)[4] |= 32;
-        break;
-    case 170: /* no parents in the tree of a text */
-        for (size_t i = 0; i < a.answer.tree_count; i++)
-            c->trees.numbers[DT_ROW_TREE * i + DT_COL_TREE_PARENT] = 0;
         break;
     }
     return a;
@@ -265,5 +272,7 @@ struct text_answer faulty_text(uint32_t entry, uint32_t setting, const uint8_t *
     free(copy);
     if (a.answer.number == HIGH_BYTE || a.answer.number == DIRECTIVE)
         a = damaged_place(&c, a);
-    return damaged_rows(&c, damaged_size(&c, a));
+    a = damaged_rows(&c, damaged_size(&c, a));
+    damage_others(&c, &a);
+    return a;
 }

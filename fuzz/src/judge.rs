@@ -68,9 +68,7 @@ impl Wrong {
     pub fn before_call(&self) -> Option<String> {
         Some(match self {
             Wrong::Panic(text) => format!("the patched Rust panics: {text}"),
-            Wrong::Oracle => "the patched and the unchanged Rust differ, or a list in its texts and the pool, or the \
-                              parents in its rows and in its red tree"
-                .into(),
+            Wrong::Oracle => "the unchanged Rust differs from the patched copy, the pool or the parents in rows".into(),
             Wrong::Lists => "the rows and what request 6/14 makes of the Rust's lists do not agree".into(),
             Wrong::Readings => "the readings of bad rows by document 01 and by request 4/14 do not agree".into(),
             Wrong::Finder => "the Rust's own search finds another leaf at one of the offsets".into(),

@@ -1,6 +1,6 @@
 //! The static library against the Rust, and in the strict setting, over texts, for binding powers, for bad rows, for
-//! what is under the caret and for parents against a plain reading of their requests, in one process; and two files with
-//! a shared tail against each other. ../docs/FUZZING.md says what is compared and how it is run.
+//! what is under the caret and for parents against a plain reading of their requests, in one process; and two files
+//! with a shared tail against each other. ../docs/FUZZING.md says what is compared and how it is run.
 mod buffers;
 mod call;
 mod caret;

@@ -38,7 +38,7 @@ class Ends:
         """The tree rows of an answer as (whether it is a node, kind by name, width, count)."""
         for line in lines:
             if line.startswith("R "):
-                class_, kind, width, count = map(int, line.split()[1:])
+                class_, kind, width, count, _ = map(int, line.split()[1:])
                 names = self.node_names if class_ == NODE else self.token_names
                 yield class_ == NODE, names[kind], width, count
 

@@ -26,6 +26,8 @@ use Rattle.row_causes.proofs.ToldApart as row-causes
 use Rattle.queries.proofs.Ending as ending
 use Rattle.queries.proofs.Suffice as suffice
 use Rattle.queries.proofs.Answered as answered
+use Rattle.parents.proofs.Upwards as upwards
+use Rattle.parents.proofs.FirstFour as first-four
 use Rattle.run_steps.proofs.Complete as complete
 use Rattle.turns.proofs.Turns as turns
 use Rattle.pending.proofs.AsBefore as pending
@@ -73,6 +75,7 @@ demands =
             parts-answered = answered.parts-answered;
           };
       expectations = record { once = once.once; as-before = pending.as-before };
+      tree-parents = record { parents = upwards.parents; only-parents-new = first-four.only-parents-new };
       beside =
           record {
             limits = limits.limits;

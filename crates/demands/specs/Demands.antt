@@ -1,6 +1,6 @@
 -- THE DEMANDS: the three promises, of every call of the definitions in either setting, what the strict setting
 -- promises, what calls over texts promise, what was refusal 3, what queries list, that each expectation is pending
--- once, and what holds beside them. Each line names the file that words it. The exported routines answer as the
+-- once, what the parents in tree rows say, and what holds beside them. Each line names the file that words it. The exported routines answer as the
 -- definitions do (crates/dt_parser/src/lib.rt, text.rt, query.rt), so all of this holds of them too.
 use Rattle.refusals.specs.Refusals.{Refusals}
 use Rattle.refusals.specs.Answered.{Answered}
@@ -29,6 +29,8 @@ use Rattle.row_causes.specs.ToldApart.{Told-apart}
 use Rattle.queries.specs.AsParsed.{As-parsed, Rows-suffice}
 use Rattle.queries.specs.UnderCaret.{Caret-answered}
 use Rattle.queries.specs.PartsListed.{Parts-answered}
+use Rattle.parents.specs.Upwards.{Parents}
+use Rattle.parents.specs.Before.{Only-parents-new}
 use Rattle.run_steps.specs.Signs.{Complete}
 use Rattle.turns.specs.Turns.{Turns}
 use Rattle.pending.specs.AsBefore.{As-before}
@@ -65,7 +67,8 @@ pub record Promise-2 : Type 0 where
   pub partner-missed : Partner-missed
 
 -- PROMISE 3. Two accepted source files that agree after a semicolon ending a top-level property, node or directive
--- agree in all later parts, lexical errors and reports, once places are moved: two calls in the same setting.
+-- agree in all later parts, lexical errors and reports, once places and row numbers are moved: two calls in the same
+-- setting.
 -- recovery/specs/Recovery.antt, over ResultRows.antt.
 pub record Promise-3 : Type 0 where
   pub stays-local : Stays-local
@@ -137,6 +140,15 @@ pub record Expectations : Type 0 where
   -- list. pending/specs/AsBefore.antt.
   pub as-before : As-before
 
+-- Document 02's request 7/14: the parent in every tree row. How the parents of later rows move is in promise 3.
+pub record Tree-parents : Type 0 where
+  -- The root names itself, and every other row an earlier row whose subtree holds it; the way up ends at the root. Parents
+  -- and child counts say the same tree, and either gives the other back. parents/specs/Upwards.antt, over
+  -- rows/specs/RowTree.antt.
+  pub parents : Parents
+  -- The other four numbers of each row are what they were. parents/specs/Before.antt.
+  pub only-parents-new : Only-parents-new
+
 -- What holds beside the promises, of the definitions and of all that the code can meet.
 pub record Beside : Type 0 where
   -- In an accepted call at most 64 calls are open, at every moment of its run. laws/specs/Limits.antt.
@@ -167,4 +179,5 @@ pub record Demands : Type 0 where
   pub row-causes : Row-causes
   pub queries : Queries
   pub expectations : Expectations
+  pub tree-parents : Tree-parents
   pub beside : Beside

@@ -97,7 +97,7 @@ module _ (q : Query) (setting : ℕ) (bytes tokens : List ℕ) (b : Buffers) (li
     numbers : a .«tree_count» * TREE-ROW ≡ TREE-ROW * a .«tree_count»
     numbers = omega arith
 
-    rows-are : tree-rows-of (take (a .«tree_count» * TREE-ROW) (c .trees)) ≡ rows-of (source-tree (tokens-of tokens))
+    rows-are : tree-rows-of (take (a .«tree_count» * TREE-ROW) (c .trees)) ≡ rows-of 0 0 (source-tree (tokens-of tokens))
     rows-are = ap (λ (k : ℕ). tree-rows-of (take k (c .trees))) numbers ∙ rows-read setting bytes tokens b (result-of a c) left
 
     -- what the walk needs

@@ -41,7 +41,7 @@ upwards k t =
     from-counts (suc c) h = sym (parent-holds _ _ (suc c) (names-child k t (suc c) (omega arith) h))
 
 -- what an accepted call wrote, whatever Names are reported
-written : (e : Entry) (ts : List Token) (l : List Name-at) (b : Buffers) → tree-rows (kept (sheets e ts (run-entry e ts) l) b) ≡ rows-of 0 0 (root (root-kind e) (run-entry e ts) ts)
+pub written : (e : Entry) (ts : List Token) (l : List Name-at) (b : Buffers) → tree-rows (kept (sheets e ts (run-entry e ts) l) b) ≡ rows-of 0 0 (root (root-kind e) (run-entry e ts) ts)
 unfolding tree-rows sheets
 written e ts l b = let t = root (root-kind e) (run-entry e ts) ts in written-rows TREE-ROW (rows-of 0 0 t) _ (b .trees) (omega arith) (rows-wide t 0 0) (rows-flat t 0 0)
 

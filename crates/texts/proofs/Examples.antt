@@ -238,15 +238,15 @@ abbrev long : Text-file
 long = text (ascii "b,c;}") 80
 
 abbrev stray : List Row
-stray = (0 ∷ 10 ∷ 1 ∷ 1 ∷ []) ∷ (1 ∷ 38 ∷ 1 ∷ 1 ∷ []) ∷ []
+stray = (0 ∷ 10 ∷ 1 ∷ 1 ∷ 0 ∷ []) ∷ (1 ∷ 38 ∷ 1 ∷ 1 ∷ 4 ∷ []) ∷ []
 
 in-short : Semicolon (tree-rows (result (of-tokens short)))
 unfolding tree-rows call is-statement lex-after numbers-of
-in-short = first (0 ∷ 0 ∷ 3 ∷ 2 ∷ []) (0 ∷ 16 ∷ 2 ∷ 2 ∷ []) ((1 ∷ 26 ∷ 1 ∷ 1 ∷ []) ∷ []) stray 1 refl refl refl (leaf refl none) refl
+in-short = first (0 ∷ 0 ∷ 3 ∷ 2 ∷ 0 ∷ []) (0 ∷ 16 ∷ 2 ∷ 2 ∷ 0 ∷ []) ((1 ∷ 26 ∷ 1 ∷ 1 ∷ 1 ∷ []) ∷ []) stray 1 refl refl refl (leaf refl none) refl
 
 in-long : Semicolon (tree-rows (result (of-tokens long)))
 unfolding tree-rows call is-statement lex-after numbers-of
-in-long = first (0 ∷ 0 ∷ 5 ∷ 2 ∷ []) (0 ∷ 16 ∷ 4 ∷ 2 ∷ []) ((1 ∷ 26 ∷ 3 ∷ 3 ∷ []) ∷ []) stray 1 refl refl refl (leaf refl none) refl
+in-long = first (0 ∷ 0 ∷ 5 ∷ 2 ∷ 0 ∷ []) (0 ∷ 16 ∷ 4 ∷ 2 ∷ 0 ∷ []) ((1 ∷ 26 ∷ 3 ∷ 3 ∷ 1 ∷ []) ∷ []) stray 1 refl refl refl (leaf refl none) refl
 
 alike : Shared (of-tokens short) (of-tokens long) in-short in-long
 unfolding text-call in-short in-long start-byte over-leaves
