@@ -8,7 +8,7 @@ pub const TOKENS: usize = 2048;
 
 pub const EVENTS: usize = 4096;
 
-pub const TREES: usize = 4096;
+pub const TREES: usize = 5120;
 
 pub const ERRORS: usize = 128;
 

@@ -13,7 +13,8 @@ const NUMBERS: usize = MOST_TOKEN_NUMBERS + TOKEN_ROW;
 
 const BLANKS: usize = NUMBERS / TOKEN_ROW;
 
-const TREE: usize = BLANKS * TREE_ROW;
+// The numbers of a tree of a root and as many blanks as a call takes.
+pub const TREE: usize = BLANKS * TREE_ROW;
 
 pub fn bytes() -> [u8; BLANKS] {
     [32u8; BLANKS]

@@ -1,5 +1,5 @@
 -- What is proved of the definitions alone, without a theorem: document 01's readings, and those of document 02's 1/14
--- to 6/14.
+-- to 7/14.
 pub mod Readings
 pub mod StrictReadings
 pub mod TextReadings
@@ -7,3 +7,4 @@ pub mod PowerReadings
 pub mod RowReadings
 pub mod CaretReadings
 pub mod OnceReadings
+pub mod ParentReadings

@@ -1,7 +1,7 @@
 -- NOTHING LOST. For every accepted call of each of the four entries, in either setting, what holds of the numbers that
 -- it leaves in the buffers. It is a claim about the rows, not about a tree inside the definitions: the tree here is
 -- the one that a reader of the rows finds. It excludes a parser that drops or doubles a token or trivia, invents a
--- width or a child count, or loses or shifts a lexical error.
+-- width, a child count or a parent, or loses or shifts a lexical error.
 use Prim.Native.Nat.{ℕ, suc, _+_, _*_}
 use mathlib.Core.Path.{_≡_}
 use mathlib.Core.Bool.{true, cond}
@@ -73,7 +73,7 @@ Errors-of ts l =
 pub record Lossless (e : Entry) (bytes : List ℕ) (ts : List Token) (r : Result) : Type 0 where
   -- the tree that the rows are
   pub tree : Rows
-  -- the rows that the call says it has written are that tree's, in preorder
+  -- the rows that the call says it has written are that tree's, in preorder, each with its parent's row
   pub written : take (TREE-ROW * r .answer .tree-count) (r .buffers .trees) ≡ preorder tree
   -- read as a preorder they give it back, and no other tree with true counts has these rows
   pub read-back : read (take (TREE-ROW * r .answer .tree-count) (r .buffers .trees)) ≡ tree

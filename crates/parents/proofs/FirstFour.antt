@@ -33,8 +33,7 @@ pub only-parents-new : Only-parents-new
 only-parents-new n setting bytes tokens b h =
     let a : Accepted n setting bytes tokens b = accepted-call n setting bytes tokens b h in
     let ts : List Token = tokens-of tokens in
-    let t = root (root-kind (a .entry)) (run-entry (a .entry) ts) ts in
-    (
+    let t = root (root-kind (a .entry)) (run-entry (a .entry) ts) ts in (
       a .entry,
       a .asked-for,
       ap first-four (ap tree-rows (a .returns) ∙ written (a .entry) ts (names-of setting (a .entry) bytes ts) b) ∙ four-rows t 0 0,

@@ -1,4 +1,4 @@
-// `1+1+1+..` with 20,000 operators: one forward chain of as many nodes. Each large array is made by a function of its
+// `1+1+1+..` with 16,000 operators: one forward chain of as many nodes. Each large array is made by a function of its
 // own.
 use crate::print;
 
@@ -15,7 +15,7 @@ const LINK: [u32; 12] = [6, 6, 8, 2, 0, 0, 0, 0, 0, 1, 9, 0];
 const LINK_END: [u32; 12] = [2, 0, 0, 4, 0, 0, 0, 0, 0, 4, 0, 0];
 
 // The rows of the chain end here: the marker that precedes the last node is ignored, so two rows of zeros follow.
-const CHAIN: usize = 480009;
+const CHAIN: usize = 384009;
 
 fn token(i: usize) -> u32 {
     OPERATION[i % 4]
@@ -57,16 +57,16 @@ fn fill_events(events: &mut [u32]) {
     }
 }
 
-fn no_tokens() -> [u32; 80002] {
-    [0u32; 80002]
+fn no_tokens() -> [u32; 64002] {
+    [0u32; 64002]
 }
 
-fn no_events() -> [u32; 480015] {
-    [0u32; 480015]
+fn no_events() -> [u32; 384015] {
+    [0u32; 384015]
 }
 
-fn no_trees() -> [u32; 320013] {
-    [7u32; 320013]
+fn no_trees() -> [u32; 320016] {
+    [7u32; 320016]
 }
 
 // What the sink answers, the outermost rows, those around the innermost node, and the last.
@@ -74,10 +74,10 @@ fn sunk(tokens: &[u32], events: &[u32]) {
     let mut trees = no_trees();
     let mut errors = [7u32; 1];
     let a = sink::finish(3, tokens, events, &mut trees, &mut errors);
-    print::answer(b"20,000 operators", a);
-    print::tree(&trees, 0, 20);
-    print::tree(&trees, 79996, 80032);
-    print::tree(&trees, 319996, 320013);
+    print::answer(b"16,000 operators", a);
+    print::tree(&trees, 0, 25);
+    print::tree(&trees, 79995, 80040);
+    print::tree(&trees, 319995, 320016);
     print::errors(&errors);
 }
 

@@ -1,7 +1,7 @@
 // Runs the sink and prints what it answers and leaves. Each line of standard input is a case: a name; the root's kind,
 // the lengths of the two lent buffers, and how many token numbers and event numbers follow; token rows; event rows. The
 // first twelve are document 01's readings that are marked P, then come buffers that just fit or are too short, and last
-// rows that no parser writes. After them: `1+1+1+..` with 20,000 operators.
+// rows that no parser writes. After them: `1+1+1+..` with 16,000 operators.
 mod deep;
 mod print;
 
@@ -27,9 +27,9 @@ fn sunk(
 
 // One case, on so many numbers of buffers full of sevens.
 fn sized(name: &[u8], sizes: [u32; 5], tokens: &[u32], events: &[u32]) {
-    let mut trees = [7u32; 64];
+    let mut trees = [7u32; 80];
     let mut errors = [7u32; 8];
-    let r = at_most(sizes[1], 64);
+    let r = at_most(sizes[1], 80);
     let l = at_most(sizes[2], 8);
     let t = at_most(sizes[3], tokens.len());
     let e = at_most(sizes[4], events.len());

@@ -1,8 +1,9 @@
 -- AS IT WAS. The call as it was before 1/14, and that the old setting is this call, for every entry, input and buffers.
 -- It excludes a setting 0 that answers anything else than callers have had so far.
 -- What 1/14 changed of definitions/specs/Call.antt stands here letter by letter as it was; the rest is cited from it,
--- the checks of the input and the run too: what 4/14 changed of the checks is crates/row_causes, and 6/14 changed how
--- often an expectation is pending (`Once` of crates/laws).
+-- the checks of the input, the run and the tree rows too: what 4/14 changed of the checks is crates/row_causes, 6/14
+-- changed how often an expectation is pending (`Once` of crates/laws), and 7/14 put the parent into each tree row
+-- (crates/parents).
 use Prim.Native.Nat.{ℕ}
 use mathlib.Core.Path.{_≡_}
 use mathlib.Core.List.{List}
