@@ -1,5 +1,5 @@
--- Readings of document 02, 7/14: the fifth numbers of the rows of some trees, worked out by hand, one table and one proof
--- over it; and how many numbers a tree needs. Document 01's readings have them too (Readings).
+-- Readings of document 02, 7/14: the fifth numbers of the rows of some trees, worked out by hand, one table and one
+-- proof over it; and how many numbers a tree needs. Document 01's readings have them too (Readings).
 use Prim.Native.Nat.{ℕ}
 use mathlib.Core.Path.{_≡_, refl}
 use mathlib.Core.List.{List, [], _∷_}
@@ -35,7 +35,8 @@ parent-readings =
     ∷ parents-are SourceFile
     (K.Slash ∷ K.LCurly ∷ K.Ident ∷ K.LCurly ∷ K.Ident ∷ K.Semicolon ∷ K.RCurly ∷ K.Semicolon ∷ K.RCurly ∷ K.Semicolon ∷ [])
     (0 ∷ 0 ∷ 1 ∷ 1 ∷ 1 ∷ 4 ∷ 4 ∷ 4 ∷ 7 ∷ 7 ∷ 4 ∷ 4 ∷ 1 ∷ 1 ∷ [])
-    -- cells `(1-2-3)`: nodes that start together, outermost first; the inner minus (row 4) is under the outer one (row 3)
+    -- cells `(1-2-3)`: nodes that start together, outermost first; the inner minus (row 4) is under the outer one
+    -- (row 3)
     ∷ parents-are Cells (K.LParen ∷ K.Number ∷ K.Minus ∷ K.Number ∷ K.Minus ∷ K.Number ∷ K.RParen ∷ [])
     (0 ∷ 0 ∷ 1 ∷ 1 ∷ 3 ∷ 4 ∷ 5 ∷ 4 ∷ 4 ∷ 8 ∷ 3 ∷ 3 ∷ 11 ∷ 1 ∷ [])
     -- a node without a token, after `/delete-node/`, has a parent as any other

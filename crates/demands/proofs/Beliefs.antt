@@ -32,8 +32,8 @@ pub pending-goes-on :
 unfolding call
 pending-goes-on = refl
 
--- `#else` after a comma in values starts no branch: in `#if a=<1>,#else"s";#endif` it is a plain leaf (1 10 5 1 7) of the
--- PropValueList, and the conditional has one PreprocessorBranch.
+-- `#else` after a comma in values starts no branch: in `#if a=<1>,#else"s";#endif` it is a plain leaf (1 10 5 1 7) of
+-- the PropValueList, and the conditional has one PreprocessorBranch.
 pub else-is-plain :
     call 1 0 (35 ∷ 105 ∷ 102 ∷ 97 ∷ 61 ∷ 60 ∷ 49 ∷ 62 ∷ 44 ∷ 35 ∷ 101 ∷ 108 ∷ 115 ∷ 101 ∷ 34 ∷ 115 ∷ 34 ∷ 59 ∷ 35 ∷ 101 ∷ 110 ∷ 100 ∷ 105 ∷ 102 ∷ []) (4 ∷ 3 ∷ 27 ∷ 1 ∷ 28 ∷ 1 ∷ 39 ∷ 1 ∷ 35 ∷ 1 ∷ 40 ∷ 1 ∷ 2 ∷ 1 ∷ 10 ∷ 5 ∷ 33 ∷ 3 ∷ 29 ∷ 1 ∷ 11 ∷ 6 ∷ []) (lent 85 9 2)
     ≡ result 17 1 2 (0 ∷ 0 ∷ 24 ∷ 1 ∷ 0 ∷ 0 ∷ 13 ∷ 24 ∷ 3 ∷ 0 ∷ 1 ∷ 4 ∷ 3 ∷ 1 ∷ 1 ∷ 0 ∷ 14 ∷ 15 ∷ 1 ∷ 1 ∷ 0 ∷ 16 ∷ 15 ∷ 4 ∷ 3 ∷ 1 ∷ 26 ∷ 1 ∷ 1 ∷ 4 ∷ 1 ∷ 28 ∷ 1 ∷ 1 ∷ 4 ∷ 0 ∷ 20 ∷ 12 ∷ 4 ∷ 4 ∷ 0 ∷ 17 ∷ 3 ∷ 3 ∷ 7 ∷ 1 ∷ 39 ∷ 1 ∷ 1 ∷ 8 ∷ 1 ∷ 35 ∷ 1 ∷ 1 ∷ 8 ∷ 1 ∷ 40 ∷ 1 ∷ 1 ∷ 8 ∷ 1 ∷ 2 ∷ 1 ∷ 1 ∷ 7 ∷ 1 ∷ 10 ∷ 5 ∷ 1 ∷ 7 ∷ 1 ∷ 33 ∷ 3 ∷ 1 ∷ 7 ∷ 1 ∷ 29 ∷ 1 ∷ 1 ∷ 4 ∷ 1 ∷ 11 ∷ 6 ∷ 1 ∷ 1 ∷ []) (1 ∷ 14 ∷ 15 ∷ 8 ∷ 0 ∷ 2 ∷ 0 ∷ 0 ∷ 0 ∷ []) (2 ∷ 29 ∷ [])

@@ -1,7 +1,8 @@
 -- THE DEMANDS: the three promises, of every call of the definitions in either setting, what the strict setting
 -- promises, what calls over texts promise, what was refusal 3, what queries list, that each expectation is pending
--- once, what the parents in tree rows say, and what holds beside them. Each line names the file that words it. The exported routines answer as the
--- definitions do (crates/dt_parser/src/lib.rt, text.rt, query.rt), so all of this holds of them too.
+-- once, what the parents in tree rows say, and what holds beside them. Each line names the file that words it. The
+-- exported routines answer as the definitions do (crates/dt_parser/src/lib.rt, text.rt, query.rt), so all of this
+-- holds of them too.
 use Rattle.refusals.specs.Refusals.{Refusals}
 use Rattle.refusals.specs.Answered.{Answered}
 use Rattle.laws.specs.Lossless.{Nothing-lost}
@@ -120,8 +121,9 @@ pub record Row-causes : Type 0 where
 
 -- THE TWO QUERIES, document 02's request 5/14.
 pub record Queries : Type 0 where
-  -- Both parse first: any query is refused as the parse of its file is, or with 8 where its list does not fit; all else
-  -- is what the parse leaves. A list for as many numbers as there are tree rows always fits. queries/specs/AsParsed.antt.
+  -- Both parse first: any query is refused as the parse of its file is, or with 8 where its list does not fit; all
+  -- else is what the parse leaves. A list for as many numbers as there are tree rows always fits.
+  -- queries/specs/AsParsed.antt.
   pub as-parsed : As-parsed
   pub rows-suffice : Rows-suffice
   -- The rows under the caret are the one chain from the root to the leaf that owns the offset, and no other leaf does;
@@ -142,8 +144,8 @@ pub record Expectations : Type 0 where
 
 -- Document 02's request 7/14: the parent in every tree row. How the parents of later rows move is in promise 3.
 pub record Tree-parents : Type 0 where
-  -- The root names itself, and every other row an earlier row whose subtree holds it; the way up ends at the root. Parents
-  -- and child counts say the same tree, and either gives the other back. parents/specs/Upwards.antt, over
+  -- The root names itself, and every other row an earlier row whose subtree holds it; the way up ends at the root.
+  -- Parents and child counts say the same tree, and either gives the other back. parents/specs/Upwards.antt, over
   -- rows/specs/RowTree.antt.
   pub parents : Parents
   -- The other four numbers of each row are what they were. parents/specs/Before.antt.

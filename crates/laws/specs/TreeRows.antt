@@ -78,8 +78,8 @@ unfoldable pub read-row : Bool → ℕ → ℕ → ℕ → Rows → Rows
 unfolding first-rows later-rows
 read-row is-node k w n f = cond is-node (node k w n (first-rows n f) (later-rows n f)) (leaf k w n f)
 
--- Numbers read as rows in preorder, by classes and counts; the parents are not looked at. Fewer than five at the end are
--- not a row.
+-- Numbers read as rows in preorder, by classes and counts; the parents are not looked at. Fewer than five at the end
+-- are not a row.
 unfoldable pub read : List ℕ → Rows
 unfolding read-row
 read [] = end

@@ -1,4 +1,4 @@
--- The statements on ` a;` and `/{};`: the rows that the calls leave meet them, and rows with one wrong number do not.
+-- The statements on ` a;`: the rows that the call leaves meet them, and rows with one wrong number do not.
 use Prim.Native.Nat.{ℕ}
 use native.Mathlib.Omega.{arith}
 use mathlib.Core.Path.{_≡_, refl, subst}
@@ -6,8 +6,8 @@ use mathlib.Core.List.{List, [], _∷_}
 use lib.ListN.{replicate}
 use Rattle.definitions.specs.Call.{Buffers, Result, call}
 use Rattle.rows.specs.ResultRows.{Row, tree-rows, cut-rows}
-use Rattle.rows.specs.RowTree.{span, subtree-end, Chain}
-use Rattle.parents.specs.Upwards.{parent-of, up, Names-up, naming, holder, Upwards}
+use Rattle.rows.specs.RowTree.{span}
+use Rattle.parents.specs.Upwards.{up, Names-up, naming, holder, Upwards}
 use Rattle.parents.specs.Before.{first-four}
 use Rattle.parents.proofs.Upwards.{parents}
 
@@ -56,6 +56,15 @@ computed-holders = (refl, refl, refl, refl)
 computed-before : first-four rows ≡ 0 ∷ 0 ∷ 3 ∷ 2 ∷ 1 ∷ 0 ∷ 1 ∷ 1 ∷ 0 ∷ 16 ∷ 2 ∷ 2 ∷ 1 ∷ 26 ∷ 1 ∷ 1 ∷ 1 ∷ 29 ∷ 1 ∷ 1 ∷ []
 unfolding first-four
 computed-before = refl
+
+-- the rows that the caret lists in the Name, the root aside; a chain that leaves the property out is none
+computed-chain : Names-up rows 0 (2 ∷ 3 ∷ [])
+unfolding Names-up
+computed-chain = (refl, (refl, tt))
+
+row-left-out : Names-up rows 0 (3 ∷ []) → ⊥
+unfolding Names-up
+row-left-out h = omega (arith, h .0)
 
 -- ---------------------------------------------------------------- rows that are excluded
 

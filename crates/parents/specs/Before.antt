@@ -28,4 +28,5 @@ abbrev pub Only-parents-new : Type 0
 Only-parents-new =
     (n setting : ℕ) (bytes tokens : List ℕ) (b : Buffers) → call n setting bytes tokens b .answer .number ≡ 0
     → (e : Entry) × (entry-of n ≡ for e)
-    × (first-four (tree-rows (call n setting bytes tokens b)) ≡ rows-before (root (root-kind e) (run-entry e (tokens-of tokens)) (tokens-of tokens)))
+    × (first-four (tree-rows (call n setting bytes tokens b))
+    ≡ rows-before (root (root-kind e) (run-entry e (tokens-of tokens)) (tokens-of tokens)))

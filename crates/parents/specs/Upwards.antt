@@ -1,8 +1,8 @@
--- THE WAY UP. What a reader who walks upwards relies on, of the tree rows that an accepted call leaves in its buffer, for
--- each of the four entries in either setting. Document 02, 7/14: "A tree row becomes five numbers, the fifth being the
--- parent's row, and the root names itself." `Child`, `Chain` and `subtree-end` (crates/rows) know classes and child counts
--- alone, so that the two ways to say a tree are held against each other. It excludes the row before in the place of the
--- parent, a distance, where the parent's numbers start in the buffer, and a parent that is only an ancestor.
+-- THE WAY UP. What a reader who walks upwards relies on, of the tree rows that an accepted call leaves in its buffer,
+-- for each of the four entries in either setting. Document 02, 7/14: "A tree row becomes five numbers, the fifth being
+-- the parent's row, and the root names itself." `Child`, `Chain` and `subtree-end` (crates/rows) know classes and child
+-- counts alone, so that the two ways to say a tree are held against each other. It excludes the row before in the place
+-- of the parent, a distance, where the parent's numbers start in the buffer, and a parent that is only an ancestor.
 use Prim.Native.Nat.{ℕ, zero, suc, _+_, _≤_, _<_}
 use mathlib.Core.Path.{_≡_}
 use mathlib.Core.Bool.{cond}

@@ -1,5 +1,5 @@
--- What guards the statements: queries that meet their premises, computed, and answers that they exclude, each refuted by
--- the line that rules it out.
+-- What guards the statements: queries that meet their premises, computed, and answers that they exclude, each refuted
+-- by the line that rules it out.
 use Prim.Native.Nat.{ℕ, zero, suc, _+_, _<_}
 use native.Mathlib.Omega.{arith}
 use mathlib.Core.Path.{_≡_, refl, ap, sym, subst}

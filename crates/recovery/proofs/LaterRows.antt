@@ -1,5 +1,5 @@
--- The rows of a tree, written from two row numbers on: all that differs is the parents, which move as the numbers do, and
--- the root's, which stays.
+-- The rows of a tree, written from two row numbers on: all that differs is the parents, which move as the numbers do,
+-- and the root's, which stays.
 use Prim.Native.Nat.{ℕ, suc, _+_, _<_}
 use native.Mathlib.Omega.{arith}
 use mathlib.Core.Path.{_≡_, refl}

@@ -1,8 +1,8 @@
 -- The third promise: recovery stays local. Two accepted source files that are alike after a semicolon, where it ends a
 -- top-level property, node or directive in both, have the same parts, lexical errors and reports after it; only places
 -- are moved. Document 02, 1/14: "Demand 3 compares two calls in the same setting; in strict setting two files with the
--- same tail also share these reports, shifted." 7/14: "Rows after a shared semicolon now agree once row numbers are moved
--- too, except that a parent which is the root stays 0."
+-- same tail also share these reports, shifted." 7/14: "Rows after a shared semicolon now agree once row numbers are
+-- moved too, except that a parent which is the root stays 0."
 use mathlib.Core.Path.{_≡_}
 use Prim.Native.Nat.{ℕ, suc, _+_}
 use mathlib.Core.Bool.{Bool, true, cond, not}

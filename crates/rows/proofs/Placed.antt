@@ -1,5 +1,5 @@
--- A part of a tree among all rows: where its rows stand, and as children of which row. Its laws step over a leaf, into a
--- node and past a node, so an induction over the tree needs no other fact about row numbers.
+-- A part of a tree among all rows: where its rows stand, and as children of which row. Its laws step over a leaf,
+-- into a node and past a node, so an induction over the tree needs no other fact about row numbers.
 use Prim.Native.Nat.{ℕ, suc, _+_, _≤_}
 use native.Mathlib.Omega.{arith}
 use mathlib.Core.Path.{_≡_, refl, ap, sym, _∙_}

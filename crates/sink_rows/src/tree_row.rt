@@ -1,6 +1,6 @@
-// Tree rows. A finished row: class, kind, width, count, the parent's row. The row of an open node has its class, kind and
-// parent already; in the place of width and count it holds what its end needs: its first byte, and how many children its
-// parent had before it.
+// Tree rows. A finished row: class, kind, width, count, the parent's row. The row of an open node has its class, kind
+// and parent already; in the place of width and count it holds what its end needs: its first byte, and how many
+// children its parent had before it.
 use crate::event_row;
 use layout::row::EVENT_ARGUMENT;
 use layout::row::NODE;
