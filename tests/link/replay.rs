@@ -1,6 +1,6 @@
 //! Runs the cases of a list, in the form that crates/replay says, over the static library and prints what the gate's
 //! program prints.
-use dt_parser_ffi::{Answer, parse};
+use dt_parser_ffi::{Answer, Counts, parse};
 use dt_parser_layout::BUFFERS;
 use std::io::Write;
 

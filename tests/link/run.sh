@@ -26,7 +26,7 @@ done
 # makes those calls.
 for list in replay_run readings_run; do
     sed '/^65536-blanks /,$d' "$root/crates/$list/stdout" >"$work/expected"
-    for program in "$work/replay" "$here/target/release/replay"; do
+    for program in "$work/replay" "$root/tests/target/release/replay"; do
         $check "$program" "$root/crates/$list/stdin" >"$work/wrote"
         cmp "$work/expected" "$work/wrote"
         if [ "$program" = "$work/replay" ]; then language=C; else language=Rust; fi

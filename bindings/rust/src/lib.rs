@@ -131,6 +131,8 @@ mod numbered;
 mod parser;
 mod query;
 mod range;
+#[allow(unsafe_code)]
+pub mod raw;
 mod report;
 mod row_error;
 mod rows;

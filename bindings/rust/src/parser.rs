@@ -1,8 +1,9 @@
 //! A call with owned buffers.
 
 use crate::buffers::{Buffers, Room};
+use crate::raw::{Answer, TextAnswer};
 use crate::rows::TokenRow;
-use crate::sys::{self, Answer, TextAnswer};
+use crate::sys;
 use crate::{Entrypoint, Error, Input, LexicalError, Refusal, Report, RowError, Setting, TextError, TextParse, Tree};
 use crate::{input, lexical, report, rows, text};
 

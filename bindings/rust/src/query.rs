@@ -3,7 +3,8 @@
 
 use crate::buffers::Buffers;
 use crate::parser::bad_count;
-use crate::sys::{self, ListAnswer};
+use crate::raw::ListAnswer;
+use crate::sys;
 use crate::{Error, Input, Parser, Setting, TextRange};
 
 /// What is asked of a source file. [`Parser::query`] gives the rows, by number.

@@ -1,5 +1,5 @@
 //! Steps and walks against a plain reading of the tree rows (common/model.rs): in the trees of files, which are the
-//! oracle's snippets and cases, the examples and the seeds of fuzz/, with the rows that the Rust gave
+//! oracle's snippets and cases, the examples and the seeds of tests/fuzz/, with the rows that the Rust gave
 //! (tests/oracle/answers.txt); and in random trees.
 
 #[path = "common/answers.rs"]

@@ -1,5 +1,5 @@
 -- What each of the four counted functions costs, and that the grammar's programs keep to it: computed.
--- tools/cost_table.py finds the numbers.
+-- tools/proofs/cost_table.py finds the numbers.
 use Prim.Native.Nat.{ℕ, _+_}
 use mathlib.Core.Path.{_≡_, refl}
 use mathlib.Core.Bool.{true, false}

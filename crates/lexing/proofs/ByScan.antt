@@ -1,5 +1,5 @@
 -- A call over a text, with one scan in the place of the search for the longest match, which is quicker to compute
--- (tools/compare-definitions). It is `text-call`: `by-scan`.
+-- (tests/compare-definitions). It is `text-call`: `by-scan`.
 use Prim.Native.Nat.{ℕ, zero, suc, pred}
 use mathlib.Core.Path.{_≡_, refl, sym, ap, _∙_}
 use mathlib.Core.List.{List, [], _∷_}

@@ -5,7 +5,7 @@
 // two 32-bit numbers, high then low: an offset and 0, or first byte and end), and the token numbers. Printed is what
 // crates/replay prints of a call, and then a line q: how many row numbers are listed, what their buffer holds after
 // them (`lend::tail`), and the numbers.
-//  tools/replay/queries makes the cases and what must be printed. Those of 65,537 blanks are here: that is one row more
+//  tests/replay/queries makes the cases and what must be printed. Those of 65,537 blanks are here: that is one row more
 // than a call takes, and every buffer is left as it was, the list too.
 use call::list::ListAnswer;
 use cases::arrays;

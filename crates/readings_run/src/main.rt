@@ -1,6 +1,6 @@
 // Document 01's readings on the code, and those of the strict setting, of row causes, of each expectation once and of
 // parents. Those of a few tokens are cases on standard input, in the form that crates/replay says;
-// tools/replay/readings makes them and what must be printed, from the documents and the oracle. Those of 65,536 blanks
+// tests/replay/readings makes them and what must be printed, from the documents and the oracle. Those of 65,536 blanks
 // are here: a source file of 65,536 rows of one blank each is accepted, one of 65,537 is refused; an entry that there
 // is not comes before that; and an odd count of numbers comes after it.
 use cases::blanks;

@@ -3,7 +3,7 @@
 // how many token numbers are lent, how many bytes there are, the entry, the setting, and how many numbers of each other
 // buffer are lent (events, trees, errors, reports, pool). Printed is what crates/replay prints of a call, and then a
 // line k: how many token rows there are, what their buffer holds after them (`lend::tail`), and the rows.
-// tools/replay/raw_texts makes the cases and what must be printed.
+// tests/replay/raw_texts makes the cases and what must be printed.
 use cases::arrays;
 use cases::lend::LENT;
 use cases::lend::tail;

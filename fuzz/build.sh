@@ -1,9 +1,0 @@
-#!/bin/sh
-# Builds the fuzzer over the static library (tools/static-library says which) and prints the program's path.
-set -eu
-here=$(cd "$(dirname "$0")" && pwd)
-DT_PARSER_LIB=$("$here/../tools/static-library") # here and not by cargo alone, which would not show what is waited for
-export DT_PARSER_LIB
-"$here/../oracle/build.sh" --copies
-(cd "$here" && cargo build --release --offline --quiet) >&2
-echo "$here/target/release/fuzz"
