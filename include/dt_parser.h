@@ -30,7 +30,7 @@
  * new minor number says that something a caller relies on has changed, for instance how many numbers a row has.
  */
 #define DT_PARSER_VERSION_MAJOR 0
-#define DT_PARSER_VERSION_MINOR 8
+#define DT_PARSER_VERSION_MINOR 9
 #define DT_PARSER_VERSION_PATCH 0
 /* As one number, to compare in an #if: 0.8.0 is 800, 1.2.3 is 10203. */
 #define DT_PARSER_VERSION (10000 * DT_PARSER_VERSION_MAJOR + 100 * DT_PARSER_VERSION_MINOR + DT_PARSER_VERSION_PATCH)
@@ -81,8 +81,8 @@ enum dt_refusal {
     DT_REFUSAL_NO_TREE_ROOM = 8,   /* the tree or the lexical errors do not fit, or the list of a query; place 0 */
     DT_REFUSAL_HIGH_BYTE = 9,      /* of a text: a byte of 128 or more, wherever it stands; place: its offset */
     DT_REFUSAL_DIRECTIVE = 10,     /* of a text: # where a token starts, any spaces or tabs, then what begins with if,
-                                      elif, else, endif, pragma, define, undef, include or error, as #ifdef and the
-                                      name #iface-cells do; place: the offset of the # */
+                                      elif, else, endif, pragma, define, undef, include or error, as #ifdef and the name
+                                      #iface-cells do; place: the offset of the # */
     DT_REFUSAL_BAD_KIND = 11,      /* a token row whose kind is none of 0 to 24, 27 to 60 and 64 to 74; place: that
                                       row */
     DT_REFUSAL_ZERO_LENGTH = 12,   /* a token row of length 0; place: that row */
@@ -176,7 +176,7 @@ struct dt_report_row {
     uint32_t mark;
     uint32_t pool_first;
     uint32_t pool_count;
-    uint32_t hint; /* enum dt_hint */
+    uint32_t hint;    /* enum dt_hint */
     uint32_t label_start;
     uint32_t label_end;
 };
