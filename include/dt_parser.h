@@ -6,8 +6,8 @@
  * "Document 01" is docs/01-scope.md; the strict setting, the text call, the causes of bad token rows, the queries, that
  * a report lists each expectation once and that a tree row names its parent are document 02's requests 1/14, 2/14 and
  * 4/14 to 7/14. What a call answers and what each buffer holds afterwards is in crates/definitions/specs, Call.antt,
- * Text.antt and Caret.antt. tools/check-header compares every number below with the definitions and the code. The names
- * and message texts of the numbers are in dt_names.h.
+ * Text.antt and Caret.antt. tools/numbers prints every number below from the definitions, and the calls from the code.
+ * The names and message texts of the numbers are in dt_names.h.
  *
  * Link: libdt_parser.a (`rt staticlib dt_parser` writes target/staticlib/libdt_parser.a), x86-64 Linux. It needs the C
  * library (memcpy, memmove, memset) and nothing else. `tools/install-library PREFIX` puts library, headers and a file
@@ -32,7 +32,7 @@
 #define DT_PARSER_VERSION_MAJOR 0
 #define DT_PARSER_VERSION_MINOR 9
 #define DT_PARSER_VERSION_PATCH 0
-/* As one number, to compare in an #if: 0.8.0 is 800, 1.2.3 is 10203. */
+/* As one number, to compare in an #if: 1.2.3 is 10203. */
 #define DT_PARSER_VERSION (10000 * DT_PARSER_VERSION_MAJOR + 100 * DT_PARSER_VERSION_MINOR + DT_PARSER_VERSION_PATCH)
 
 #ifdef __cplusplus

@@ -11,8 +11,9 @@ BOUNDS = "crates/bounds/specs/Numbers.antt"
 PACKAGE = "bindings/rust/Cargo.toml"
 # A row's first column has no number in the definitions, since the row starts with it.
 FIRST_COLUMNS = {"TOKEN": "KIND", "TREE": "CLASS", "ERROR": "NUMBER", "REPORT": "MESSAGE"}
-# What crates/bounds calls the rows of each buffer.
+# What crates/bounds calls the rows of each buffer, and how it bounds the reports of the strict setting.
 BOUNDED = {"EVENTS": "events", "TREES": "rows", "REPORTS": "reports", "POOL": "expectations"}
+NAMES_BOUND = "length (names-of setting e bytes ts) ≤ length ts"
 
 
 class Numbers:
@@ -89,7 +90,8 @@ class Numbers:
             proved = self.repo.found(r"^most-%s n = (\d+) \* n \+ (\d+)$" % BOUNDED[name], BOUNDS)
             table[name] = int(proved[1]), int(proved[2])
         # beside the run's own reports the strict setting has at most as many as there are tokens
-        self.repo.found(re.escape("length (names-of setting e bytes ts) ≤ length ts"), BOUNDS)
+        if NAMES_BOUND not in self.repo.text(BOUNDS):
+            raise SourceFault(f"{BOUNDS}: nothing like {NAMES_BOUND}")
         times, more = table["REPORTS"]
         return table | {"REPORTS": (times + 1, more)}
 

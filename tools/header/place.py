@@ -18,13 +18,13 @@ class Edit(typing.NamedTuple):
 
 def edited(text, edits):
     """The text with all edits made."""
-    parts, at = [], 0
+    parts, last = [], Edit("", 0, 0, "")
     for edit in sorted(edits, key=lambda edit: (edit.start, edit.end)):
-        if edit.start < at:
-            raise Unplaced(f"{edit.what} starts inside of what else is printed")
-        parts += [text[at : edit.start], edit.text]
-        at = edit.end
-    return "".join([*parts, text[at:]])
+        if edit.start < last.end:
+            raise Unplaced(f"{last.what} does not stand in one place: {edit.what} is between its lines")
+        parts += [text[last.end : edit.start], edit.text]
+        last = edit
+    return "".join([*parts, text[last.end :]])
 
 
 def found(text, what, pattern, start=0, end=None):
