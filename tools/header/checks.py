@@ -102,7 +102,7 @@ def token_length(numbers):
 
 
 def list_length(numbers):
-    """A list for as many numbers as there are tree rows always fits: so one for as many as the tree's buffer has rows."""
+    """A list for as many numbers as there are tree rows always fits: so one for the rows of the tree's buffer."""
     path = "crates/queries/specs/AsParsed.antt"
     proved = "→ call 1 setting bytes tokens b .answer .tree-count ≤ length list\n" in numbers.repo.text(path)
     yield from length(numbers, "DT_LIST_FOR(trees_len)", "((size_t)(trees_len) / DT_ROW_TREE)", path, proved)

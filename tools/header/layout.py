@@ -1,5 +1,5 @@
-"""What is printed in crates/layout/src, which is code, and in tests/layout/src/lib.rs, for programs that test: constants.
-A comment above a constant stays with it, by its name."""
+"""The constants that are printed in crates/layout/src, which is code, and in tests/layout/src/lib.rs, for programs that
+test. A comment above a constant stays with it, by its name."""
 import functools
 
 from header.numbers import LAYOUT

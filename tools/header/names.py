@@ -177,7 +177,7 @@ def cases(prefix, table, texts=None):
     """The constants of a table of numbers, each with its text; without texts, with its name."""
     for name in table:
         if texts is not None and name not in texts:
-            raise SourceFault(f"no text for {name}")
+            raise SourceFault(f"no text for {name}: tools/header/names.py says where texts are from")
         yield prefix + snake(name), name if texts is None else texts[name]
 
 

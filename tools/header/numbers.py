@@ -30,7 +30,8 @@ class Numbers:
         self.refusals = repo.numbers(LAYOUT, "document 01's causes")
         # the strict setting is every other number
         self.settings = {"old": repo.numbers(LAYOUT)["OLD-SETTING"], "strict": 1}
-        self.row_sizes = {n.removesuffix("-ROW"): v for n, v in repo.numbers(LAYOUT, "how many numbers a row has").items()}
+        sizes = repo.numbers(LAYOUT, "how many numbers a row has")
+        self.row_sizes = {n.removesuffix("-ROW"): v for n, v in sizes.items()}
         self.places = repo.numbers(LAYOUT, "where a number stands")
         self.calls, self.answers = calls(repo), structs(repo)
 

@@ -47,9 +47,9 @@ def inside(text, what, first, last):
 
 
 def listed(text, what, item, wanted, span=None, apart=""):
-    """A list with an item on a line, whose name is the pattern's first group. What stands above an item and below the one
-    before it, such as a comment, goes where the item goes. Without a span the list is from its first item on, and what
-    stands above that is no part of it. apart: what stands above an item that is new."""
+    """A list with an item on a line, whose name is the pattern's first group. What stands above an item and below the
+    one before it, such as a comment, goes where the item goes. Without a span the list is from its first item on, and
+    what stands above that is no part of it. apart: what stands above an item that is new."""
     start, end = span or (0, len(text))
     places = [*re.compile(item, re.M).finditer(text, start, end)]
     if not places:

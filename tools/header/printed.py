@@ -48,8 +48,14 @@ def differences(text, edit):
     made = (text[start : edit.start] + edit.text + text[edit.end : end]).split("\n")
     first = text.count("\n", 0, start) + 1
     for tag, i, j, k, m in difflib.SequenceMatcher(None, ours, made, False).get_opcodes():
-        if tag != "equal":
-            yield first + i, f"has {shown(ours[i:j])}, and must have {shown(made[k:m])}"
+        if tag == "replace" and j - i == m - k:
+            yield from ((first + n, against(ours[n : n + 1], made[n + k - i : n + k - i + 1])) for n in range(i, j))
+        elif tag != "equal":
+            yield first + i, against(ours[i:j], made[k:m])
+
+
+def against(ours, made):
+    return f"has {shown(ours)}, and must have {shown(made)}"
 
 
 def shown(lines):

@@ -1,5 +1,5 @@
-"""What is printed in bindings/rust: cases, constants, rows, calls and the version. A comment above a case or a member stays
-with it, by its name. Beside it the columns that tests/header/use.c names."""
+"""What is printed in bindings/rust: cases, constants, rows, calls and the version. A comment above a case or a member
+stays with it, by its name. Beside it the columns that tests/header/use.c names."""
 import re
 
 from header.layout import grouped, rows
@@ -24,7 +24,7 @@ def range_of(table):
 
 
 def numbered(enum, table_of):
-    """The edits of `numbered! { .. ENUM { .. } }`: its cases, and the range of their numbers where its comment has it."""
+    """The edits of `numbered! { .. ENUM { .. } }`: its cases, and the range of their numbers in its comment."""
 
     def edits(numbers, text):
         table = cased(table_of(numbers))

@@ -35,7 +35,10 @@ class Repository:
         if path in self.changed:
             return self.changed[path]
         if path not in self.read:
-            self.read[path] = (self.root / path).read_text()
+            try:
+                self.read[path] = (self.root / path).read_text()
+            except OSError as why:
+                raise SourceFault(f"{path}: {why.strerror}") from why
         return self.read[path]
 
     def files(self, pattern):
@@ -49,7 +52,7 @@ class Repository:
         return said
 
     def numbers(self, path, heading=None):
-        """The numbers of a file of definitions, or of its part under a heading; sums and quotients of two of them too."""
+        """The numbers of a file of definitions, sums and quotients of two of them too; or those under a heading."""
         table = {}
         for name, said in re.findall(r"^([\w-]+) = ([\w-]+(?: [+/] [\w-]+)?)$", self.text(path), re.M):
             value = worth(said.split(), table)
@@ -57,8 +60,10 @@ class Repository:
                 table[name] = value
         if heading is None:
             return table
-        part = self.found(r"^-- (?:-+ )?%s.*?(?=^-- (?:-{9}|hints|messages)|\Z)" % re.escape(heading), path)[0]
-        return {name: table[name] for name in re.findall(r"^([\w-]+) = ", part, re.M) if name in table}
+        part = re.search(r"^-- (?:-+ )?%s(.*?)(?=^-- (?:-{9}|hints|messages)|\Z)" % heading, self.text(path), re.M | re.S)
+        if not part:
+            raise SourceFault(f"{path}: no heading `{heading}`")
+        return {name: table[name] for name in re.findall(r"^([\w-]+) = ", part[1], re.M) if name in table}
 
     def rust_enum(self, path, name):
         """The cases of one of the Rust's enums, in their order."""
