@@ -29,8 +29,11 @@ WRITTEN = [
     ("tests/Cargo.lock", r'dt_parser"\n(version) = "0\.(\d+)\.'),
 ]
 
-# Where types are printed, and what another one is.
-TYPED = "include/dt_parser.h", "bindings/rust/src/raw.rs"
+# Where structs and calls are declared, with what must be named; and what is another type.
+DECLARED = {
+    "include/dt_parser.h": r"^struct (dt_\w+) \{\n.*?^\};$|^struct \w+ (dt_\w+)\([^;]*\);$",
+    "bindings/rust/src/raw.rs": r"^pub struct (\w+) \{\n.*?^\}$|^    pub fn (\w+)\([^;]*;$",
+}
 TYPES = [
     ("uint32_t", "uint16_t"), ("size_t", "uint32_t"), ("uint64_t", "uint32_t"), ("const uint", "uint"), ("*", ""),
     (": u32", ": u8"), (": usize", ": u32"), (": u64", ": u32"), ("const ", "mut "), ("mut ", "const "),

@@ -28,8 +28,7 @@ def lines(table, kind, spelled=str):
 
 def tables(numbers):
     """Of each file the constants with their types."""
-    refused, limits = numbers.refusals, {n: v for n, v in numbers.limits.items() if n != "TOKENS"}
-    most = {f"MOST-{n.replace('EXPECTATIONS', 'PENDING')}": v for n, v in limits.items()}
+    most = {f"MOST-{n.replace('EXPECTATIONS', 'PENDING')}": v for n, v in numbers.limits.items() if n != "TOKENS"}
     hints = {n.replace("none", "no-hint"): v for n, v in numbers.hints.items()}
     sizes = {f"{row}-ROW": size for row, size in numbers.row_sizes.items()}
     codes = numbers.repo.numbers(LAYOUT)
@@ -38,7 +37,7 @@ def tables(numbers):
     yield "lex_error", [(numbers.made_lex_errors, "u32")]
     yield "node_kind", [(numbers.node_kinds, "u32")]
     yield "event_tag", [(numbers.event_tags, "u32")]
-    yield "refusal", [(refused, "u32")]
+    yield "refusal", [(numbers.refusals, "u32")]
     yield "message", [(numbers.messages, "u32")]
     yield "hint", [(hints, "u32")]
     yield "expected", [(numbers.expectations, "u8"), (ends, "u8")]

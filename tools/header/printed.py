@@ -60,7 +60,9 @@ def against(ours, made):
 
 def shown(lines):
     said = " / ".join(line.strip() for line in lines[:SHOWN] if line.strip())
-    return f"`{said}`{' ..' if len(lines) > SHOWN else ''}" if said else "nothing"
+    if said:
+        return f"`{said}`{' ..' if len(lines) > SHOWN else ''}"
+    return "an empty line" if lines else "nothing"
 
 
 def unprinted(text, edits, constant):

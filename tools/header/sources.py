@@ -36,7 +36,7 @@ class Repository:
             return self.changed[path]
         if path not in self.read:
             try:
-                self.read[path] = (self.root / path).read_text()
+                self.read[path] = (self.root / path).read_text("utf-8")
             except OSError as why:
                 raise SourceFault(f"{path}: {why.strerror}") from why
         return self.read[path]
@@ -60,7 +60,8 @@ class Repository:
                 table[name] = value
         if heading is None:
             return table
-        part = re.search(r"^-- (?:-+ )?%s(.*?)(?=^-- (?:-{9}|hints|messages)|\Z)" % heading, self.text(path), re.M | re.S)
+        under = r"^-- (?:-+ )?%s(.*?)(?=^-- (?:-{9}|hints|messages)|\Z)" % heading
+        part = re.search(under, self.text(path), re.M | re.S)
         if not part:
             raise SourceFault(f"{path}: no heading `{heading}`")
         return {name: table[name] for name in re.findall(r"^([\w-]+) = ", part[1], re.M) if name in table}
