@@ -265,7 +265,9 @@ fn a_text_that_is_too_long_or_too_deep_has_status_2() {
     let start = "dtparse: -: refusal";
     let said = no_answer(run_on(&b" ".repeat(1_048_577), &[]));
     assert!(
-        said.starts_with(&format!("{start} 2: the text has 1048577 bytes, and at most 1048576 are taken\n")),
+        said.starts_with(&format!(
+            "{start} 2: the text has more than 1048576 bytes\nThe text is too long for one call"
+        )),
         "{said}"
     );
     let said = no_answer(run_on(&b",".repeat(65_537), &[]));
@@ -487,7 +489,6 @@ fn invalid_arguments_have_status_2() {
     assert_eq!(no_answer(run(&["--all", "x"])), "dtparse: --all is not an option\nTry `dtparse --help`.\n");
     assert!(no_answer(run(&["no/such.rows"])).starts_with("dtparse: no/such.rows: No such file"));
     assert!(no_answer(run(&["no/such.dts"])).starts_with("dtparse: no/such.dts: No such file"));
-    assert!(no_answer(run(&["examples"])).starts_with("dtparse: examples: Is a directory"));
     assert_eq!(run(&["--help"]).0, Some(0));
     assert!(run(&["--help"]).1.starts_with("dtparse shows"));
     assert!(run(&["--help"]).1.contains(&format!("{} FILE.dts | ./dtparse -", TextError::PREPROCESSOR)));
