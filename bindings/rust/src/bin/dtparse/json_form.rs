@@ -80,7 +80,7 @@ fn byte_numbers(json: &mut Json, bytes: &[u8]) {
 }
 
 fn refusal(json: &mut Json, refused: &Refused, bytes: &[u8]) {
-    json.object(Layout::Line);
+    json.object(Layout::Lines);
     json.key("number").option(refused.refusal, |json, refusal| json.number(refusal.number() as usize));
     json.key("name").option(refused.name(), |json, name| json.string(&name));
     json.key("place").option(refused.refusal, |json, refusal| json.number(refusal.place()));
@@ -111,7 +111,7 @@ pub fn range(json: &mut Json, lines: &Lines, range: TextRange) {
 }
 
 fn counts(json: &mut Json, counts: &Counts) {
-    json.object(Layout::Line);
+    json.object(Layout::Lines);
     json.key("reports").number(counts.reports);
     json.key("lexical_errors").number(counts.lexical_errors);
     json.key("not_understood").number(counts.notes);

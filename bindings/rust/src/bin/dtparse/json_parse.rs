@@ -56,17 +56,13 @@ fn of_parsed(json: &mut Json, parsed: &Parsed, args: &Args) {
 }
 
 fn report(json: &mut Json, report: &Report, parsed: &Parsed) {
-    json.object(Layout::Line);
+    json.object(Layout::Lines);
     json.key("number").number(report.message.number() as usize);
     json.key("name").string(report.message.name());
     json.key("text").string(&report.text());
     range(json.key("range"), &parsed.lines, report.range);
     json.key("mark").number(report.mark);
-    json.key("expected").list(Layout::Line);
-    for one in &report.expected {
-        expected(json, *one);
-    }
-    json.end();
+    json.key("expected").each(&report.expected, |json, one| expected(json, *one));
     json.key("found").option(report.found, |json, kind| named(json, kind.number(), kind.name(), &kind.to_string()));
     json.key("hint").option(report.hint, |json, hint| named(json, hint.number(), hint.name(), hint.text()));
     json.key("label").option(report.label, |json, label| range(json, &parsed.lines, label));
