@@ -44,7 +44,7 @@ fn its_commands_print_what_it_says() {
 #[test]
 fn its_fields_are_those_of_the_output() {
     let document = std::fs::read_to_string(root().join("docs/DTPARSE.md")).unwrap();
-    let arguments = ["--json", "--tree", "--at=1:1", "examples/c/broken.dts"];
+    let arguments = ["--json", "--tree", "--at=1:1", "bindings/rust/tests/golden/mistakes.dts"];
     let mut printed = crate::run(&arguments).1;
     printed += &crate::run(&["--json", "examples/overlay.dts", "no/such"]).1;
     let rows = document.lines().filter_map(|line| line.strip_prefix("| `"));

@@ -1,12 +1,15 @@
 //! Lines, silence, and errors at the same place.
 
 use crate::{dtparse, golden, no_answer, run, run_on};
-use std::io::Write;
+use std::io::{Read, Write};
 use std::process::{Command, Stdio};
+
+/// A source with mistakes of several sorts.
+const MISTAKES: &str = "bindings/rust/tests/golden/mistakes.dts";
 
 #[test]
 fn reports_and_refusals_are_a_line_each() {
-    let files = ["examples/c/broken.dts", "examples/overlay.dts", "examples/labels.dts", "examples/board.dts"];
+    let files = [MISTAKES, "examples/overlay.dts", "examples/labels.dts", "examples/board.dts"];
     let (status, out, err) = run(&[["--lines", "--strict"].as_slice(), &files].concat());
     golden("lines.txt", &out);
     assert_eq!((status, err.as_str()), (Some(2), ""));
@@ -91,11 +94,11 @@ fn a_note_is_apart_from_an_error_at_its_place() {
 
 #[test]
 fn a_hint_is_kept_where_an_error_without_one_has_the_same_place() {
-    let (_, out, _) = run(&["--reports", "examples/c/broken.dts"]);
+    let (_, out, _) = run(&["--reports", MISTAKES]);
     let expected = "\
 error: Unexpected input, or end of input
 error: Expected cell, ‘/include/‘, preprocessor directive or ‘>’, but found unrecognized token
- --> examples/c/broken.dts:7:9
+ --> bindings/rust/tests/golden/mistakes.dts:7:9
   |
 7 |     x = <1 \\>;
   |            ^ in cells()
@@ -117,9 +120,12 @@ fn a_terminal_is_told_that_it_is_waited_for() {
         println!("no script");
         return;
     };
-    child.stdin.take().unwrap().write_all(b"a;\n\x04").unwrap();
-    let said = String::from_utf8_lossy(&child.wait_with_output().unwrap().stdout).into_owned();
-    assert!(said.contains("dtparse: waiting for a source on the standard input; Ctrl-D "), "{said}");
+    // its input stays open: `script` does not wait for the output at the end of it
+    child.stdin.as_mut().unwrap().write_all(b"\x04").unwrap();
+    let mut said = String::new();
+    child.stdout.take().unwrap().read_to_string(&mut said).unwrap();
+    child.wait().unwrap();
+    assert!(said.starts_with("dtparse: waiting for a source on the standard input; Ctrl-D "), "{said:?}");
     assert_eq!(run_on(b"a;\n", &["-q"]).2, "", "and a pipe is not");
 }
 

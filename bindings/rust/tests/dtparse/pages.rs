@@ -1,6 +1,6 @@
 //! Help, man page and completions: printed from one table, and taken by those who read them.
 
-use crate::{piped, run};
+use crate::{folder, golden, piped, run};
 use std::process::Command;
 
 const SHELLS: [&str; 3] = ["bash", "zsh", "fish"];
@@ -18,6 +18,15 @@ fn options() -> Vec<String> {
     let names: Vec<String> = lines.map(|line| line.split([' ', ',']).next().unwrap().to_string()).collect();
     assert!(names.len() > 12, "{names:?}");
     names
+}
+
+#[test]
+fn the_pages_are_these() {
+    golden("help.txt", &run(&["--help"]).1);
+    for shell in SHELLS {
+        golden(&format!("completions.{shell}"), &page(shell));
+    }
+    golden("man.1", &page("man").replace(env!("CARGO_PKG_VERSION"), "VERSION"));
 }
 
 #[test]
@@ -93,8 +102,12 @@ fn bash_completes_options_words_and_files() {
     assert_eq!(completed(&["dtparse", "--color", "a"]), ["auto", "always"]);
     assert_eq!(completed(&["dtparse", "--color", "=", "n"]), ["never"], "as bash splits --color=n");
     assert_eq!(completed(&["dtparse", "--entry", "="]).len(), 4);
-    let mut files = completed(&["dtparse", "--tree", "examples/"]);
-    files.sort();
-    let expected = ["board.dts", "board.rows", "c", "cpp", "labels.dts", "labels.rows", "overlay.dts", "overlay.rows"];
-    assert_eq!(files, expected.map(|name| format!("examples/{name}")));
+    let below = folder("completed");
+    std::fs::create_dir(below.join("soc")).unwrap();
+    for name in ["a b.dts", "b.dtsi", "c.rows", "c.txt", "dts"] {
+        std::fs::write(below.join(name), "").unwrap();
+    }
+    let start = format!("{}/", below.display());
+    let files = completed(&["dtparse", "--tree", &start]);
+    assert_eq!(files, ["soc", "a b.dts", "b.dtsi", "c.rows"].map(|name| format!("{start}{name}")));
 }

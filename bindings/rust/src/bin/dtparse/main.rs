@@ -109,19 +109,17 @@ fn show(args: &Args, output: &mut Output) -> u8 {
 fn show_one(source: &Source, parser: &mut Parser, speaker: &mut Speaker, totals: &mut Totals) -> (Said, u8) {
     let args = speaker.args;
     read::tell_that_it_waits(source);
-    let (bytes, outcome) = match read::read(source) {
-        Ok((bytes, is_rows)) => (bytes, Ok(is_rows)),
-        Err(message) => (Vec::new(), Err(Unreadable { message, line: None })),
-    };
-    let outcome = match outcome {
-        Ok(is_rows) => outcome::of(source, &bytes, is_rows, args, parser),
-        Err(why) => Outcome::Unreadable(why),
+    let read = read::read(source);
+    let outcome = match &read {
+        Ok((bytes, is_rows)) => outcome::of(source, bytes, *is_rows, args, parser),
+        Err(why) => Outcome::Unreadable(Unreadable { message: why.clone(), line: None }),
     };
     let counts = match &outcome {
         Outcome::Parsed(parsed) if args.form != Form::Quiet => Counts::of(&parsed.parse),
         _ => Counts::default(),
     };
-    let shown = Shown { source, bytes: &bytes, outcome, counts };
+    let bytes = read.as_ref().map_or([].as_slice(), |(bytes, _)| bytes);
+    let shown = Shown { source, bytes, outcome, counts };
     totals.add(&shown);
     (speaker.file(&shown), shown.status(args))
 }

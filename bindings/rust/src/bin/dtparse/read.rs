@@ -2,10 +2,11 @@
 
 use crate::files::Source;
 use crate::name::escaped;
+use crate::output::complain;
 use dt_parser::Input;
 use dt_parser::rowsfile::is_rows;
 use std::fs::File;
-use std::io::{self, IsTerminal, Read, Write};
+use std::io::{self, IsTerminal, Read};
 
 /// The most bytes that a file of token rows can have. The longest that the parser takes, of 65,536 rows with the longest
 /// names over 1,048,576 bytes, has less than a quarter of it.
@@ -49,7 +50,7 @@ pub fn tell_that_it_waits(source: &Source) {
     if *source == Source::StandardInput && io::stdin().is_terminal() {
         let text = "waiting for a source on the standard input; Ctrl-D on a line of its own ends it, `dtparse --help` \
                     says more";
-        let _ = writeln!(io::stderr(), "dtparse: {text}");
+        complain(&format!("dtparse: {text}\n"));
     }
 }
 
