@@ -13,6 +13,8 @@ mod json;
 mod names;
 #[path = "dtparse/pages.rs"]
 mod pages;
+#[path = "dtparse/reader.rs"]
+mod reader;
 
 use dt_parser::rowsfile::RowsFile;
 use dt_parser::{Entrypoint, Input, LexError, TextError, Token, TokenKind};

@@ -41,19 +41,14 @@ pub fn zsh() -> String {
     for option in all() {
         let value = option.value.as_ref().map_or(String::new(), |value| {
             let words = if value.words.is_empty() { " ".to_string() } else { format!("({})", value.words.join(" ")) };
-            format!(":{}:{words}", zsh_word(value.name))
+            format!(":{}:{words}", value.name.replace(':', "\\:"))
         });
         let equals = if option.value.is_some() { "=" } else { "" };
-        let brief = zsh_word(option.brief);
+        let brief = option.brief;
         let short = option.short.map_or(String::new(), |short| format!("  '*-{short}[{brief}]' \\\n"));
         out += &format!("{short}  '*--{}{equals}[{brief}]{value}' \\\n", option.long);
     }
     out + &format!("  '*:file:_files -g \"*.({})(-.)\"'\n", ENDINGS.join("|"))
-}
-
-/// A word of a specification of `_arguments`, in single quotes.
-fn zsh_word(text: &str) -> String {
-    text.replace('\\', "\\\\").replace('[', "\\[").replace(']', "\\]").replace(':', "\\:").replace('\'', "'\\''")
 }
 
 pub fn fish() -> String {
@@ -65,8 +60,7 @@ pub fn fish() -> String {
             Some(value) if value.words.is_empty() => " -x".to_string(),
             Some(value) => format!(" -x -a '{}'", value.words.join(" ")),
         };
-        let brief = option.brief.replace('\\', "\\\\").replace('\'', "\\'");
-        out += &format!("complete -c dtparse{short} -l {}{value} -d '{brief}'\n", option.long);
+        out += &format!("complete -c dtparse{short} -l {}{value} -d '{}'\n", option.long, option.brief);
     }
     out
 }

@@ -115,7 +115,7 @@ fn show_one(source: &Source, parser: &mut Parser, speaker: &mut Speaker, totals:
         Err(why) => Outcome::Unreadable(Unreadable { message: why.clone(), line: None }),
     };
     let counts = match &outcome {
-        Outcome::Parsed(parsed) if args.form != Form::Quiet => Counts::of(&parsed.parse),
+        Outcome::Parsed(parsed) if matches!(args.form, Form::Text | Form::Json) => Counts::of(&parsed.parse),
         _ => Counts::default(),
     };
     let bytes = read.as_ref().map_or([].as_slice(), |(bytes, _)| bytes);

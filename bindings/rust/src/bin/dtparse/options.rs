@@ -37,7 +37,7 @@ pub struct Opt {
     pub long: &'static str,
     pub short: Option<char>,
     pub value: Option<Value>,
-    /// What it does in a few words, for completions too.
+    /// What it does in a few words, for completions too; without signs that a shell could take for its own.
     pub brief: &'static str,
     /// What else there is to say, right after that.
     pub more: &'static str,
@@ -125,8 +125,9 @@ pub const GROUPS: &[Group] = &[
             plain(
                 Action::Lines,
                 "lines",
-                "a line for each report, FILE:LINE:COLUMN: error: TEXT",
-                ", and so for each refusal; notes have note: there. Nothing else is printed, for editors and grep",
+                "a line for each report",
+                ", FILE:LINE:COLUMN: error: TEXT, and so for each refusal; notes have note: there. Nothing else is \
+                 printed, for editors and grep",
             ),
             plain(
                 Action::Json,
@@ -182,7 +183,7 @@ pub const GROUPS: &[Group] = &[
                 long: "print",
                 short: None,
                 value: Some(Value { name: "WHAT", words: &["man", "bash", "zsh", "fish"] }),
-                brief: "the man page or a shell's completions",
+                brief: "the man page, or completions for a shell",
                 more: ": man, bash, zsh or fish",
             },
             short(Action::Version, "version", 'V', "name and version", ""),
@@ -206,6 +207,12 @@ mod tests {
         for name in ["--", "-", "", "--q", "-quiet", "quiet", "--Tree"] {
             assert!(find(name).is_none(), "{name}");
         }
+    }
+
+    #[test]
+    fn completions_have_no_sign_to_quote() {
+        let is_plain = |c: char| c.is_ascii_alphanumeric() || " ,".contains(c);
+        assert!(all().all(|option| option.brief.chars().all(is_plain)));
     }
 
     #[test]
