@@ -81,31 +81,38 @@ class Answer:
 
     def shape(self):
         """The tree by names: a node's children in brackets."""
-        return self._told(lambda row, below: self.name(row) + (f"({' '.join(below)})" if below else ""))
 
-    def grouped(self):
-        """The text of the tree, with square brackets around each operation."""
-        place = 0
-
-        def tell(row, below):
-            nonlocal place
-            if row.class_:
-                place += row.width
-                return self._call.data[place - row.width : place].decode("latin-1")
-            text = "".join(below)
-            return f"[{text}]" if self.name(row) in OPERATIONS else text
+        def tell(number, below):
+            return self.name(self.trees[number]) + (f"({' '.join(below)})" if below else "")
 
         return self._told(tell)
 
+    def grouped(self):
+        """The text of the tree, with square brackets around each operation."""
+        leaves = iter(reversed(self._leaves()))
+
+        def tell(number, below):
+            row = self.trees[number]
+            text = next(leaves) if row.class_ else "".join(below)
+            return f"[{text}]" if row.class_ == 0 and self.name(row) in OPERATIONS else text
+
+        return self._told(tell)
+
+    def _leaves(self):
+        """The text of each leaf."""
+        place, out = 0, []
+        for row in self.trees:
+            if row.class_:
+                out.append(self._call.data[place : place + row.width].decode("latin-1"))
+                place += row.width
+        return out
+
     def _told(self, tell):
-        """The root's text, where `tell` gives a row's from those of its children."""
-
-        def told(number):
-            row, at = self.trees[number], number + 1
-            below = []
-            while row.class_ == 0 and len(below) < row.count:
-                text, at = told(at)
-                below.append(text)
-            return tell(row, below), at
-
-        return told(0)[0] if self.trees else "nothing"
+        """The root's text, where `tell` gives a row's from those of its children. The last row comes first."""
+        below = [[] for _ in self.trees]
+        for number in reversed(range(len(self.trees))):
+            text = tell(number, below[number][::-1])
+            if number == 0:
+                return text
+            below[self.trees[number].parent].append(text)
+        return "nothing"

@@ -1,7 +1,7 @@
 """Runs the inputs that documents show, and compares what is said of each with the library's answer."""
 from . import claims
 from .document import cells
-from .inputs import START, Fault, case
+from .inputs import FAMILY, START, Fault, case
 
 # the head of a table's column whose cells have nothing but inputs, or say where one stands
 COLUMN = "and answer"
@@ -22,13 +22,20 @@ def cases(document, faults):
     for start, text in texts(document):
         before = None
         for match in START.finditer(text):
-            if before and match.start() < before.end:
+            inside = before and match.start() < before.end
+            if inside or FAMILY.search(text, match.start(), start_after(text, match.end())):
                 continue
             try:
                 before = case(text, match.start(), before)
                 yield start + match.start(), before
             except Fault as why:
                 faults.append(f"{document.at(start + match.start())}: an input that cannot be read: {why}")
+
+
+def start_after(text, place):
+    """Where the next input starts, or the end."""
+    following = START.search(text, place)
+    return following.start() if following else len(text)
 
 
 def columns(document, faults):

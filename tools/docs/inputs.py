@@ -4,11 +4,14 @@ from typing import NamedTuple
 
 NUMBER = r"\d+"
 SETTING = r"(?: strict| setting \d+)?"
-HEAD = rf"(?:{NUMBER}(?: text)?{SETTING}|caret {NUMBER}{SETTING}|parts {NUMBER}\.\.{NUMBER}{SETTING})"
-INPUT = r"(?=[`(]|nothing\b|the same\b|numbers \d|rows \d|LF\b|CR\b|TAB\b|blank\b|byte \d)"
+HEAD = rf"(?:\d(?: text)?{SETTING}|caret {NUMBER}{SETTING}|parts {NUMBER}\.\.{NUMBER}{SETTING})"
+PIECE = r"[`(]|(?:LF|CR|TAB|blank|I)\b|byte \d"
+INPUT = rf"(?={PIECE}|nothing\b|the same\b|numbers \d|rows \d)"
 # where an input starts; no word, number or colon stands directly before it
 START = re.compile(rf"(?<![\w.:]){HEAD}: {INPUT}")
-LETTERS = {"LF": b"\n", "CR": b"\r", "TAB": b"\t", "blank": b" "}
+LETTERS = {"LF": b"\n", "CR": b"\r", "TAB": b"\t", "blank": b" ", "I": b"#if\n"}
+# an input that stands for many, one for each k or n, is no input here
+FAMILY = re.compile(r"×[kn]\b")
 BUFFERS = ("event", "tree", "error", "report", "pool", "token", "list")
 
 
@@ -84,12 +87,12 @@ def piece(reader):
     """A text in backquotes, a byte, or several of these in brackets; repeated or not."""
     if got := reader.take(r"`([^`]+)`"):
         data = got[1].encode("latin-1")
-    elif got := reader.take(r"(LF|CR|TAB|blank)\b"):
+    elif got := reader.take(r"(LF|CR|TAB|blank|I)\b"):
         data = LETTERS[got[1]]
     elif got := reader.take(r"byte (\d+)"):
         data = bytes([int(got[1])])
     else:
-        reader.need(r"\(", "a text, LF, CR, TAB, blank, byte N or brackets")
+        reader.need(r"\(", "a text, LF, CR, TAB, blank, I, byte N or brackets")
         data = pieces(reader)
         reader.need(r"\)", "a closing bracket")
     return data * times(reader)
@@ -97,7 +100,7 @@ def piece(reader):
 
 def pieces(reader):
     data = piece(reader)
-    while reader.take(r" (?=[`(]|LF\b|CR\b|TAB\b|blank\b|byte \d)"):
+    while reader.take(rf" (?={PIECE})"):
         data += piece(reader)
     return data
 
@@ -155,7 +158,7 @@ def claims(reader):
     reader.need(": ", "a colon and what is answered")
     end = re.compile(r"\.(?=\s|$)|$").search(reader.text, reader.place).start()
     # a shape has brackets too, directly after a name; a remark has a blank before it
-    said = re.sub(r" \([^()]*\)(?=[;.]|$)", "", reader.text[reader.place:end])
+    said = re.sub(r" \((?:[^()`]|`[^`]*`)*\)(?=[;.]|$)", "", " ".join(reader.text[reader.place:end].split()))
     reader.place = end
     return tuple(claim.strip() for claim in said.split("; "))
 

@@ -96,6 +96,6 @@ def walked(root):
 def is_source(path):
     if path.startswith("docs/0"):
         return True
-    if path.endswith(".md") or not (path.startswith(TOP_SOURCES) or "/" not in path):
+    if path.endswith(".md") or path.startswith("tools/docs/") or not (path.startswith(TOP_SOURCES) or "/" not in path):
         return False
     return os.path.splitext(path)[1] in SOURCES or "." not in os.path.basename(path)
