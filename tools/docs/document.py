@@ -14,10 +14,10 @@ class Block(NamedTuple):
 
 
 class Document:
-    def __init__(self, root, path):
+    def __init__(self, root, path, changed=None):
         self.path = path
         with open(os.path.join(root, path), encoding="utf8") as file:
-            self.text = file.read()
+            self.text = file.read() if changed is None else changed(file.read())
         self._ends = [m.start() for m in re.finditer("\n", self.text)]
         self.blocks = list(self._blocks())
 

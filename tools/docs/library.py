@@ -10,6 +10,7 @@ class Library:
 
     def __init__(self, root):
         self.root, self.names, self.program = root, Names(root), None
+        self.known = {}
 
     def build(self):
         command = ["cargo", "build", "--release", "--offline", "--quiet", "-p", "replay", "--bin", "ask"]
@@ -17,10 +18,12 @@ class Library:
         self.program = os.path.join(self.root, "tests", "target", "release", "ask")
 
     def ask(self, calls):
-        """An answer for each call."""
+        """An answer for each call. One that was asked before is known."""
         if not self.program:
             self.build()
-        lines = "".join(call.line() + "\n" for call in calls)
+        new = [call for call in dict.fromkeys(calls) if call not in self.known]
+        lines = "".join(call.line() + "\n" for call in new)
         said = subprocess.run([self.program], input=lines, stdout=subprocess.PIPE, text=True, check=True).stdout
-        answers = said.splitlines()
-        return [Answer(self.names, self.ask, call, line) for call, line in zip(calls, answers)]
+        for call, line in zip(new, said.splitlines()):
+            self.known[call] = Answer(self.names, self.ask, call, line)
+        return [self.known[call] for call in calls]

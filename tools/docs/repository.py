@@ -12,6 +12,8 @@ COMMENT = {".rt": re.compile(r"//.*"), ".antt": re.compile(r"(?:^|(?<=\s))--(?=\
 SOURCES = (
     ".antt .rt .rs .c .h .in .py .sh .toml .txt .edit .patch .dts .dtsi .rows .1 .json .css .svg .md".split()
 )
+# names in these are those of faults and exceptions
+NO_SOURCES = ("tools/docs/", "tests/test-check-docs")
 TOP_SOURCES = ("crates/", "include/", "bindings/", "tests/", "tools/", "examples/", "docs/src/", ".ci/", "lib/")
 
 
@@ -96,6 +98,6 @@ def walked(root):
 def is_source(path):
     if path.startswith("docs/0"):
         return True
-    if path.endswith(".md") or path.startswith("tools/docs/") or not (path.startswith(TOP_SOURCES) or "/" not in path):
+    if path.endswith(".md") or path.startswith(NO_SOURCES) or not (path.startswith(TOP_SOURCES) or "/" not in path):
         return False
     return os.path.splitext(path)[1] in SOURCES or "." not in os.path.basename(path)
