@@ -3,15 +3,13 @@ import os
 import re
 import subprocess
 
-# what a build makes is not looked at, nor are the copies of docs/src that the oracle's build makes
+# what a build makes need not be there
 BUILT = ("target/", "tests/target/", "bindings/rust/target/", "examples/c/target/")
 WORD = re.compile(r"[A-Za-z_][\w'-]*")
 # what a comment says of a name does not make it one of the file
 COMMENT = {".rt": re.compile(r"//.*"), ".antt": re.compile(r"(?:^|(?<=\s))--(?=\s).*", re.M)}
 # sources in whose text a name may stand
-SOURCES = (
-    ".antt .rt .rs .c .h .in .py .sh .toml .txt .edit .patch .dts .dtsi .rows .1 .json .css .svg .md".split()
-)
+SOURCES = ".antt .rt .rs .c .h .in .py .sh .toml .txt .edit .patch .dts .dtsi .rows .1".split()
 # names in these are those of faults and exceptions
 NO_SOURCES = ("tools/docs/", "tests/test-check-docs")
 TOP_SOURCES = ("crates/", "include/", "bindings/", "tests/", "tools/", "examples/", "docs/src/", ".ci/", "lib/")
@@ -50,8 +48,8 @@ class Repository:
         return self._words
 
     def words_of(self, path):
-        """The words of a file, or of all files of a folder. Names may have dashes; the parts of one count too, since Rust
-        and C have none."""
+        """The words of a file, or of all files of a folder. Names may have dashes; the parts of one count too, since
+        Rust and C have none."""
         if path not in self._words_of:
             files = [path] if path in self.files else [name for name in self.files if name.startswith(path + "/")]
             found = {word for name in files for word in WORD.findall(self.code(name))}
