@@ -5,6 +5,7 @@
 //! LENGTHS are those of the five lent buffers and of the token rows' (`text`) or the list's (queries), with commas; `-`
 //! is room enough. TOKENS are the numbers of token rows with commas, `none`, or `-` for those that the text has. BYTES
 //! are in hexadecimal.
+use dt_parser::TokenKind;
 use dt_parser_ffi::{Answer, Counts, Lent, Query, parse_lent, parse_text_lent, query_lent};
 use dt_parser_layout::*;
 use std::io::{BufRead, Write};
@@ -13,23 +14,6 @@ use std::io::{BufRead, Write};
 const LENT: u32 = 4042322160;
 const ALL: usize = BUFFERS + 1;
 const NAMES: [&str; ALL] = ["events", "trees", "errors", "reports", "pool", "list"];
-/// The words of directives, the longer of two that begin alike first, with the kinds of their tokens.
-const DIRECTIVES: [(&str, u32); 13] = [
-    ("ifdef", 5),
-    ("ifndef", 6),
-    ("if", 4),
-    ("elifdef", 8),
-    ("elifndef", 9),
-    ("elif", 7),
-    ("else", 10),
-    ("endif", 11),
-    ("pragma", 12),
-    ("define", 13),
-    ("undef", 14),
-    ("include", 15),
-    ("error", 16),
-];
-
 type Buffers = [Vec<u32>; ALL];
 
 struct Call<'a> {
@@ -90,12 +74,14 @@ fn plain_tokens(bytes: &[u8]) -> Result<Vec<u32>, Answer> {
     if answer.number == ACCEPTED { Ok(buffers[BUFFERS][..used].to_vec()) } else { Err(answer) }
 }
 
-/// The kind and length of the directive that stands at the start: one token, up to the end of its line.
+/// The kind and length of the directive that stands at the start: one token, up to the end of its line. Of words that
+/// begin alike the longest.
 fn directive(bytes: &[u8]) -> [u32; ROW_TOKEN] {
     let end = bytes.iter().position(|&b| b == b'\n').unwrap_or(bytes.len());
     let word = bytes[1..end].trim_ascii_start();
-    let kind = DIRECTIVES.iter().find(|d| word.starts_with(d.0.as_bytes())).expect("a directive").1;
-    [kind, end as u32]
+    let name = |kind: &TokenKind| kind.preprocessor_directive_name().filter(|n| word.starts_with(n.as_bytes()));
+    let kind = TokenKind::ALL.iter().max_by_key(|kind| name(kind).map_or(0, str::len)).expect("kinds");
+    [kind.number(), end as u32]
 }
 
 /// The tokens of a text that may have directives, at which the library's own reading stops.
