@@ -102,12 +102,13 @@ fn tokens_of(mut bytes: &[u8]) -> Vec<u32> {
     }
 }
 
-/// What stands after the counted rows: 0 zeros or nothing, 1 only what was lent, 2 anything else.
-fn rest(after: &[u32]) -> u32 {
+/// What stands after the counted rows.
+fn rest(after: &[u32]) -> &'static str {
     match after {
-        b if b.iter().all(|&n| n == 0) => 0,
-        b if b.iter().all(|&n| n == LENT) => 1,
-        _ => 2,
+        [] => "nothing",
+        b if b.iter().all(|&n| n == 0) => "zero",
+        b if b.iter().all(|&n| n == LENT) => "as lent",
+        _ => "other numbers",
     }
 }
 
@@ -118,7 +119,7 @@ fn print(tokens: &[u32], a: Answer, listed: usize, buffers: &Buffers) -> String 
     for ((buffer, used), name) in buffers.iter().zip(used).zip(NAMES) {
         out += &format!(",\"{name}\":{:?}", &buffer[..used]);
     }
-    let after: Vec<u32> = buffers.iter().zip(used).map(|(b, n)| rest(&b[n..])).collect();
+    let after: Vec<&str> = buffers.iter().zip(used).map(|(b, n)| rest(&b[n..])).collect();
     out + &format!(",\"after\":{after:?}}}")
 }
 

@@ -48,11 +48,10 @@ def _(answer: Answer, claim):
     return same(answer.again(setting=int(claim[1])).whole, answer.whole)
 
 
-@form(r"buffers as lent|buffers zero")
+@form(r"buffers (as lent|zero)")
 def _(answer: Answer, claim):
-    kept = answer.number not in (0, 5, 6, 7, 8)
-    said = "buffers as lent" if kept and set(answer.after) <= {0, 1} and 1 in answer.after else "buffers zero"
-    return same(claim[0], said if set(answer.after) in ({0}, {0, 1}, {1}) else "neither")
+    """All that is lent, or what of it is past the rows."""
+    return same({claim[1]}, set(answer.after) - {"nothing"})
 
 
 @form(r"(no|\d+) (report|lexical error|tree row|expectation|token row)s?")

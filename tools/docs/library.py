@@ -1,8 +1,11 @@
 """Asks the proved library, through the program `ask` (tests/link/ask.rs)."""
 import os
 import subprocess
+import sys
 
 from .answer import Answer, Names
+
+BUILD = "cargo build --release --offline --quiet -p replay --bin ask".split()
 
 
 class Library:
@@ -13,17 +16,21 @@ class Library:
         self.known = {}
 
     def build(self):
-        command = ["cargo", "build", "--release", "--offline", "--quiet", "-p", "replay", "--bin", "ask"]
-        subprocess.run(command, cwd=os.path.join(self.root, "tests"), check=True)
-        self.program = os.path.join(self.root, "tests", "target", "release", "ask")
+        folder = os.path.join(self.root, "tests")
+        if subprocess.run(BUILD, cwd=folder, check=False).returncode:
+            sys.exit(f"check-docs: `{' '.join(BUILD)}` in tests/ fails; DT_PARSER_LIB names the library to link")
+        self.program = os.path.join(folder, "target", "release", "ask")
 
     def ask(self, calls):
         """An answer for each call. One that was asked before is known."""
         if not self.program:
             self.build()
         new = [call for call in dict.fromkeys(calls) if call not in self.known]
-        lines = "".join(call.line() + "\n" for call in new)
-        said = subprocess.run([self.program], input=lines, stdout=subprocess.PIPE, text=True, check=True).stdout
-        for call, line in zip(new, said.splitlines()):
+        lines = [call.line() for call in new]
+        said = subprocess.run([self.program], input="\n".join(lines), stdout=subprocess.PIPE, text=True, check=False)
+        answers = said.stdout.splitlines()
+        if len(answers) < len(lines):
+            sys.exit(f"check-docs: no answer to `{lines[len(answers)][:200]}` ({self.program})")
+        for call, line in zip(new, answers):
             self.known[call] = Answer(self.names, self.ask, call, line)
         return [self.known[call] for call in calls]
