@@ -114,13 +114,12 @@ def memory(rows):
 
 
 def clearing(rows):
-    head = ["Input", "Port, instructions per token", "as callgrind counts `rep stosb`",
+    head = ["Input", "Port, instructions per token, as callgrind counts `rep stosb`",
             "Time in buffers by the bound / time in buffers that just suffice"]
     out = []
     for c in rows:
         slower = TIMES.spread(c.name, "port_in_bound_buffers_ns")[1] / TIMES.spread(c.name, "port_ns")[1]
-        each = [f"{c.each(k):,.0f}" for k in ("port_instructions", "port_instructions_with_rep")]
-        out.append([c.name, *each, f"{slower:.1f}"])
+        out.append([c.name, f"{c.each('port_instructions_with_rep'):,.0f}", f"{slower:.1f}"])
     return table(head, out)
 
 
