@@ -178,7 +178,7 @@ impl TextError {
         Some(match self {
             Self::TooManyBytes { .. } | Self::TooManyTokens => {
                 "the limit is fixed, and blanks and comments count: parse the text in parts, cut after a `;` that ends a \
-                 top-level node; each part is read as it would be in the whole"
+                 top-level node"
                     .to_string()
             }
             Self::TooDeep { .. } => "the limit is fixed: nest less deep".to_string(),

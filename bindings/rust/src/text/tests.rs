@@ -68,7 +68,7 @@ fn sizes_are_said() {
     assert_eq!(tokens, TextError::TooManyTokens);
     assert_eq!(tokens.to_string(), "refusal 2: the text has more than 65536 tokens");
     let help = "the limit is fixed, and blanks and comments count: parse the text in parts, cut after a `;` that ends a \
-                top-level node; each part is read as it would be in the whole";
+                top-level node";
     for error in [bytes, tokens] {
         assert_eq!((error.help().as_deref(), error.position()), (Some(help), None));
     }

@@ -89,7 +89,7 @@ fn help(source: &Source, text: &[u8], why: &TextError) -> Option<String> {
 /// True of a source as it is written and of one that the preprocessor has made long.
 const TOO_LONG: &str = "\
 The text is too long for one call, and the limit is fixed; blanks and comments count too. It can be\n\
-parsed in parts: cut after a `;` that ends a top-level node, each is read as it would be in the whole.";
+parsed in parts, cut after a `;` that ends a top-level node.";
 
 /// A text with a capital and a full stop.
 pub fn sentence(text: &str) -> String {
