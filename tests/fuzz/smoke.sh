@@ -48,5 +48,5 @@ for kind in run text carets tails small lists expressions rows texts files; do
     echo "$kind: $(calls "$work/$kind") calls"
 done
 cd "$work"
-echo "fuzz: $(calls run text carets tails small lists expressions rows texts files) calls of $passed kinds, $failed differences"
+echo "fuzz: $(calls run text carets tails small lists expressions rows texts files) calls, $failed differences"
 [ "$failed" -eq 0 ]

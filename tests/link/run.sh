@@ -42,7 +42,12 @@ shows() {
     check "$@"
     [ "$failed" -ne "$before" ] || echo "$1: answers by number: $(grep ' 0: ' "$work/why")"
 }
-asked() { wait "$asking" && cat "$work/asked"; }
+asked() {
+    found=0
+    wait "$asking" || found=$?
+    cat "$work/asked"
+    return "$found"
+}
 
 # on the other processor, as it takes longer than all else
 "$work/replay" --queries "$step" "$root/crates/replay_run/stdin" >"$work/asked" 2>&1 &
