@@ -2,7 +2,8 @@
 # Builds the fuzzer over the static library (tools/static-library says which) and prints the program's path.
 set -eu
 here=$(cd "$(dirname "$0")" && pwd)
-DT_PARSER_LIB=$("$here/../../tools/static-library") # here and not by cargo alone, which would not show what is waited for
+# here and not by cargo alone, which would not show what is waited for
+DT_PARSER_LIB=$("$here/../../tools/static-library")
 export DT_PARSER_LIB
 "$here/../oracle/build.sh" --copies
 (cd "$here" && cargo build --release --offline --quiet) >&2

@@ -1,7 +1,8 @@
 #!/bin/sh
-# Builds and runs the fuzzer: tests/fuzz/run.sh run|text|carets|files|tails|repeat|small|lists|expressions|rows|texts|exact ..
-# (docs/FUZZING.md). tests/fuzz/run.sh smoke [CASES]: a short time of each.
-# Without arguments: 10,000,000 cases over token rows.
+# Builds and runs the fuzzer (docs/FUZZING.md):
+#   tests/fuzz/run.sh run|text|carets|files|tails|repeat|small|lists|expressions|rows|texts|exact ..
+#   tests/fuzz/run.sh smoke [CASES]   each kind for a short time
+#   tests/fuzz/run.sh                 10,000,000 cases over token rows
 set -eu
 here=$(dirname "$0")
 if [ "${1:-}" = smoke ]; then

@@ -1,7 +1,7 @@
 #!/bin/sh
-# Every kind of the fuzzer, each for a short time: tests/fuzz/run.sh smoke [CASES]. So many random calls, texts and pairs
-# of files (50,000), a tenth as many files that are asked at every offset; every list, expression and text of a few
-# parts; and the examples. Two kinds at a time.
+# Every kind of the fuzzer, each for a short time: tests/fuzz/run.sh smoke [CASES]. So many random calls, texts and
+# pairs of files (50,000), a tenth as many files that are asked at every offset; every list, expression and text of a
+# few parts; and the examples. Two kinds at a time.
 set -eu
 here=$(cd "$(dirname "$0")" && pwd)
 root=$(dirname "$(dirname "$here")")

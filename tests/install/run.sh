@@ -29,7 +29,8 @@ is_found() {
 
 has_version() {
     printf '#include "dt_parser.h"\nDT_PARSER_VERSION_MAJOR.DT_PARSER_VERSION_MINOR.DT_PARSER_VERSION_PATCH\n' |
-        gcc -E -P -I "$root/include" - | tr -d ' ' | grep -qx "$(sed -n 's/^Version: //p' "$1/lib/pkgconfig/dt_parser.pc")"
+        gcc -E -P -I "$root/include" - | tr -d ' ' |
+        grep -qx "$(sed -n 's/^Version: //p' "$1/lib/pkgconfig/dt_parser.pc")"
 }
 
 # STATUS LINE COMMAND..: that exit status, a message with that line, and nothing at $work/refused.
@@ -54,8 +55,8 @@ check_library() {
 }
 
 check_prefixes() {
-    for name in plain 'a b' ' a' 'a  b' 'a"b' "a'b" 'a#b' 'a\b' 'a\\ b' 'a|b' 'a&b' 'a;b' 'a*b' 'a?b' 'a[b]' 'a{b}' 'a<b>' \
-        'a!b' 'a%b' 'a`b' 'a~b' 'a^b' 'a=b' 'a,b' 'a@b' 'aéb' '@PREFIX@' '@VERSION@'; do
+    for name in plain 'a b' ' a' 'a  b' 'a"b' "a'b" 'a#b' 'a\b' 'a\\ b' 'a|b' 'a&b' 'a;b' 'a*b' 'a?b' 'a[b]' 'a{b}' \
+        'a<b>' 'a!b' 'a%b' 'a`b' 'a~b' 'a^b' 'a=b' 'a,b' 'a@b' 'aéb' '@PREFIX@' '@VERSION@'; do
         check "the prefix '$name'" install --library-only "$work/$name"
         check "pkg-config over the prefix '$name'" is_found "$work/$name"
     done
@@ -71,7 +72,7 @@ check_refused() {
     check "an unknown option" says 2 "$usage" install --library "$work/refused"
     for name in 'a$b' 'a${b}' 'a(b' 'a)b' 'a ' 'a	b' 'a
 b'; do
-        check "the prefix '$name'" says 2 'pkg-config cannot' install --library-only "$work/refused/$name"
+        check "the prefix '$name'" says 2 'pkg-config cannot have' install --library-only "$work/refused/$name"
     done
     check "no library" says 2 'no static library' env DT_PARSER_LIB="$work/none.a" \
         "$root/tools/install-library" --library-only "$work/refused"
@@ -92,10 +93,11 @@ END
 chmod +x "$work/stub/cargo"
 stub() { env PATH="$work/stub:$PATH" CARGO_TARGET_DIR="$work/target" "$@"; }
 
-COMMAND_FILES="755:bin 755:bin/dtparse $C_FILES 755:share 755:share/bash-completion 755:share/bash-completion/completions \
-644:share/bash-completion/completions/dtparse 755:share/fish 755:share/fish/vendor_completions.d \
-644:share/fish/vendor_completions.d/dtparse.fish 755:share/man 755:share/man/man1 644:share/man/man1/dtparse.1 755:share/zsh \
-755:share/zsh/site-functions 644:share/zsh/site-functions/_dtparse"
+COMMAND_FILES="755:bin 755:bin/dtparse $C_FILES 755:share \
+755:share/bash-completion 755:share/bash-completion/completions 644:share/bash-completion/completions/dtparse \
+755:share/fish 755:share/fish/vendor_completions.d 644:share/fish/vendor_completions.d/dtparse.fish \
+755:share/man 755:share/man/man1 644:share/man/man1/dtparse.1 \
+755:share/zsh 755:share/zsh/site-functions 644:share/zsh/site-functions/_dtparse"
 prints_of() { # PREFIX
     (cd "$1/share" && grep -qx -e '--print man' man/man1/dtparse.1 && grep -qx -e '--print fish' fish/*/dtparse.fish &&
         grep -qx -e '--print bash' bash-completion/*/dtparse && grep -qx -e '--print zsh' zsh/*/_dtparse)

@@ -22,8 +22,8 @@ DT_PARSER_LIB=$("$root/tools/static-library")
 export DT_PARSER_LIB
 
 for program in replay garbage queries; do
-    check "$program.c does not compile or link" \
-        gcc -std=c11 -O2 -Wall -Wextra -Werror -I "$root/include" -o "$work/$program" "$here/$program.c" "$DT_PARSER_LIB"
+    check "$program.c does not compile or link" gcc -std=c11 -O2 -Wall -Wextra -Werror -I "$root/include" \
+        -o "$work/$program" "$here/$program.c" "$DT_PARSER_LIB"
 done
 check "replay.rs does not compile or link" \
     cargo build --release --offline --quiet --manifest-path "$here/Cargo.toml" --target-dir "$root/tests/target"

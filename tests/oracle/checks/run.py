@@ -1,4 +1,5 @@
-"""What the checks beside this file share: the oracle's program, run as the other tools run it, and how each is called."""
+"""What the checks beside this file share: the oracle's program, run as the other tools run it, how each is called, and
+how it ends."""
 import os
 import sys
 
