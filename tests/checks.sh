@@ -15,8 +15,8 @@ check() {
     fi
 }
 
-# The last line, and whether all is well: NAME
+# The last line, and whether all is well, which needs a check at least: NAME
 all_counted() {
     echo "$1: $passed passed, $failed failed"
-    [ "$failed" -eq 0 ]
+    [ "$failed" -eq 0 ] && [ "$passed" -gt 0 ]
 }

@@ -76,7 +76,7 @@ static const char *read_rows(FILE *file, uint32_t rows, struct rowsfile *out)
             return "expected a token's kind and length";
         *blank = 0;
         if (!kind_of(line, &row->kind) || !number(blank + 1, &row->length))
-            return "not a token's kind and length";
+            return "not a token's kind and length: a name or a number, and a number, below 4294967296";
     }
     return NULL;
 }

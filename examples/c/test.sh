@@ -91,7 +91,9 @@ check_files() {
     fails "Is a directory" "$program" .. "$@"
     prints 1 too_long.txt timeout 20 "$program" /dev/zero "$@"
     sed 's/^Colon 1$/Colon 4294967296/' broken.rows >"$work/edited"
-    fails "not a token's kind and length" "$program" "$work/edited" "$@"
+    fails "not a token's kind and length: a name or a number, and a number, below 4294967296" "$program" "$work/edited" "$@"
+    prints 1 too_long.txt "$program" "$work/rows.rows" "$@"
+    prints 1 too_long.txt "$program" "$work/text.rows" "$@"
     if [ -c /dev/full ]; then
         found=0
         "$program" ../board.dts "$@" >/dev/full 2>"$work/said" || found=$?
@@ -124,7 +126,15 @@ check_offsets() {
     fails "usage: under_caret FILE OFFSET, or FILE START END" "$1" ../board.dts
 }
 
+# Files of token rows that say that they have more rows, or a longer text, than fit into memory.
+make_long() {
+    awk 'BEGIN { print "devicetree tokens 1\nrows 4294967295"; for (; i < 65537; i++) print "Semicolon 1" }' \
+        >"$work/rows.rows"
+    printf 'devicetree tokens 1\nrows 1\nWhitespace 1\ntext 4294967295\n%1048577s' '' >"$work/text.rows"
+}
+
 [ $# -gt 0 ] || { echo "usage: test.sh FOLDER.." >&2; exit 2; }
+make_long
 head -n -4 labels.txt >"$work/labels.txt"
 for folder; do
     check_trees "$folder/print_tree"

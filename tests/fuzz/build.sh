@@ -6,5 +6,6 @@ here=$(cd "$(dirname "$0")" && pwd)
 DT_PARSER_LIB=$("$here/../../tools/static-library")
 export DT_PARSER_LIB
 "$here/../oracle/build.sh" --copies
-(cd "$here" && cargo build --release --offline --quiet) >&2
-echo "$(dirname "$here")/target/release/fuzz"
+target=$(dirname "$here")/target
+cargo build --release --offline --quiet --manifest-path "$here/Cargo.toml" --target-dir "$target" >&2
+echo "$target/release/fuzz"

@@ -25,5 +25,6 @@ for file in $(cd "$src" && find . -name '*.rs' ! -name ast.rs); do
 done
 
 [ "${1:-}" != --copies ] || exit 0
-cargo build --release --offline --quiet -p oracle
-echo "built $(dirname "$(pwd)")/target/release/oracle"
+target=$(dirname "$(pwd)")/target
+cargo build --release --offline --quiet -p oracle --target-dir "$target"
+echo "built $target/release/oracle"
