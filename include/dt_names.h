@@ -2,8 +2,7 @@
  * The numbers of dt_parser.h as text: their names, and the texts that dt-tools has for them. The one message that
  * dt-tools lacks, DT_MESSAGE_NOT_A_LABEL, has a text of the same style.
  *
- * Written by tools/make-names from docs/src, docs/01-scope.md and crates/definitions: change those, not this file.
- * tools/check-header compares.
+ * Written by tools/numbers from docs/src, docs/01-scope.md and crates/definitions: change those, not this file.
  *
  * Names are those of docs/src where it has one (`Semicolon`), else those of the definitions (`unclosed-node`). Texts
  * are UTF-8. No function returns NULL: for a number that has no name or text it is "?".

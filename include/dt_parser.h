@@ -6,14 +6,14 @@
  * "Document 01" is docs/01-scope.md; the strict setting, the text call, the causes of bad token rows, the queries, that
  * a report lists each expectation once and that a tree row names its parent are document 02's requests 1/14, 2/14 and
  * 4/14 to 7/14. What a call answers and what each buffer holds afterwards is in crates/definitions/specs, Call.antt,
- * Text.antt and Caret.antt. tools/check-header compares every number below with the definitions and the code. The names
- * and message texts of the numbers are in dt_names.h.
+ * Text.antt and Caret.antt. tools/numbers prints every number below from the definitions, and the calls from the code.
+ * The names and message texts of the numbers are in dt_names.h.
  *
  * Link: libdt_parser.a (`rt staticlib dt_parser` writes target/staticlib/libdt_parser.a), x86-64 Linux. It needs the C
  * library (memcpy, memmove, memset) and nothing else. `tools/install-library PREFIX` puts library, headers and a file
  * for pkg-config in their places. A call allocates nothing, keeps nothing and has no state: calls in several threads at
- * once are safe if each has its own lent buffers. The deepest inputs take 0.5 MiB of stack (tests/bench/stack.c): a thread
- * that calls should have 2 MiB.
+ * once are safe if each has its own lent buffers. The deepest inputs take 0.5 MiB of stack (tests/bench/stack.c): a
+ * thread that calls should have 2 MiB.
  *
  * All rows are of uint32_t numbers. A length is a count of elements (bytes or numbers), never of rows.
  *
@@ -30,9 +30,9 @@
  * new minor number says that something a caller relies on has changed, for instance how many numbers a row has.
  */
 #define DT_PARSER_VERSION_MAJOR 0
-#define DT_PARSER_VERSION_MINOR 8
+#define DT_PARSER_VERSION_MINOR 9
 #define DT_PARSER_VERSION_PATCH 0
-/* As one number, to compare in an #if: 0.8.0 is 800, 1.2.3 is 10203. */
+/* As one number, to compare in an #if: 1.2.3 is 10203. */
 #define DT_PARSER_VERSION (10000 * DT_PARSER_VERSION_MAJOR + 100 * DT_PARSER_VERSION_MINOR + DT_PARSER_VERSION_PATCH)
 
 #ifdef __cplusplus
@@ -81,8 +81,8 @@ enum dt_refusal {
     DT_REFUSAL_NO_TREE_ROOM = 8,   /* the tree or the lexical errors do not fit, or the list of a query; place 0 */
     DT_REFUSAL_HIGH_BYTE = 9,      /* of a text: a byte of 128 or more, wherever it stands; place: its offset */
     DT_REFUSAL_DIRECTIVE = 10,     /* of a text: # where a token starts, any spaces or tabs, then what begins with if,
-                                      elif, else, endif, pragma, define, undef, include or error, as #ifdef and the
-                                      name #iface-cells do; place: the offset of the # */
+                                      elif, else, endif, pragma, define, undef, include or error, as #ifdef and the name
+                                      #iface-cells do; place: the offset of the # */
     DT_REFUSAL_BAD_KIND = 11,      /* a token row whose kind is none of 0 to 24, 27 to 60 and 64 to 74; place: that
                                       row */
     DT_REFUSAL_ZERO_LENGTH = 12,   /* a token row of length 0; place: that row */
@@ -176,7 +176,7 @@ struct dt_report_row {
     uint32_t mark;
     uint32_t pool_first;
     uint32_t pool_count;
-    uint32_t hint; /* enum dt_hint */
+    uint32_t hint;    /* enum dt_hint */
     uint32_t label_start;
     uint32_t label_end;
 };

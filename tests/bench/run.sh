@@ -1,6 +1,6 @@
 #!/bin/sh
 # Measures both parsers and writes tests/bench/results, the plot (docs/benchmark.svg, docs/benchmark.png) and the tables of
-# docs/BENCHMARK.md, docs/FIGURES.md and README.md. Some minutes, most of them under callgrind.
+# docs/BENCHMARK.md. Some minutes, most of them under callgrind.
 #   tests/bench/run.sh [RUNS] [ROUNDS] [MACHINE]    so many timed runs (5) of so many interleaved rounds each (31), added to
 #                                             those in tests/bench/results; the machine's name
 #   tests/bench/run.sh tables                       tables and plot again, from tests/bench/results

@@ -1,5 +1,5 @@
 """tables.py RESULTS ROOT: prints the figures in short, and writes the tables between the lines `<!-- NAME -->` and
-`<!-- end -->` of README.md, docs/FIGURES.md and docs/BENCHMARK.md."""
+`<!-- end -->` of docs/BENCHMARK.md."""
 import re
 import sys
 
@@ -146,8 +146,6 @@ def put(path, tables):
 
 def main():
     short = {"speed": summary()}
-    put("README.md", short)
-    put("docs/FIGURES.md", short)
     put("docs/BENCHMARK.md", short | {
         "machines": machines(), "board": cost(BOARD), "worst": cost(WORST), "memory": memory(LARGEST),
         "texts": board_texts(TEXTS["text"]), "worst texts": worst_texts(), "queries": asked(QUERIES),

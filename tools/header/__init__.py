@@ -1,1 +1,1 @@
-"""Parts of ../check-header and ../make-names: what the sources say, and the text of include/dt_names.h."""
+"""Parts of ../numbers and ../check-header: what the sources say, and where it is printed."""

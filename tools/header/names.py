@@ -1,8 +1,10 @@
 """The text of include/dt_names.h: for each number of dt_parser.h its name and, where the Rust has one, its text."""
 import re
 
-from header.sources import RUST, SPECS, plain
+from header.place import Edit
+from header.sources import RUST, SourceFault, camel, snake
 
+PATH = "include/dt_names.h"
 LEXER, ERRORS = RUST + "lexer.rs", RUST + "parser/errors.rs"
 GRAMMAR, EXPR, DIRECTIVES = RUST + "grammar.rs", RUST + "grammar/expr.rs", RUST + "grammar/preprocessor_directive.rs"
 
@@ -15,10 +17,8 @@ MESSAGES = {
     "at-sign-in-label": (GRAMMAR, "eat_node_or_prop_prefix", 0),
     "unclosed-node": (GRAMMAR, "dt_node_body", 0),
 }
-# Messages that the Rust lacks, with a text in the style of its own.
-ADDED_MESSAGES = {
-    "not-a-label": "Label names can only hold letters, digits and underscores, and can't start with a digit",
-}
+# Messages that the Rust lacks, and where they have a text in the style of its own.
+ADDED_MESSAGES, ADDED_TEXTS = ["not-a-label"], "bindings/rust/src/message.rs"
 # Causes of document 02: those that it adds to document 01's table, and what it makes of causes 3, 5 and 8 there.
 ADDED_CAUSES = {
     "high-byte": "byte of 128 or more",
@@ -41,16 +41,12 @@ HINTS = {
     "missing-left-side": (EXPR, "lhs", 0),
 }
 LABEL = GRAMMAR, "dt_node_body", 0
-# The two codes of Errors.antt that the Rust has no text for.
-EXPECTED = "msg-expected"
-NO_HINT = "no-hint"
 
 TOP = """/*
  * The numbers of dt_parser.h as text: their names, and the texts that dt-tools has for them. The one message that
  * dt-tools lacks, DT_MESSAGE_NOT_A_LABEL, has a text of the same style.
  *
- * Written by tools/make-names from docs/src, docs/01-scope.md and crates/definitions: change those, not this file.
- * tools/check-header compares.
+ * Written by tools/numbers from docs/src, docs/01-scope.md and crates/definitions: change those, not this file.
  *
  * Names are those of docs/src where it has one (`Semicolon`), else those of the definitions (`unclosed-node`). Texts
  * are UTF-8. No function returns NULL: for a number that has no name or text it is "?".
@@ -75,10 +71,6 @@ END = """
 
 #endif
 """
-
-
-class SourceFault(Exception):
-    """A source does not have what the header is made from."""
 
 
 # ---------------------------------------------------------------- texts of the sources
@@ -146,11 +138,10 @@ def expectation_words(repo):
     return arms(repo, ERRORS, "impl core::fmt::Display for Expected", "Expected")
 
 
-def chosen(codes, names):
-    missing = [name for name in names if name not in codes]
-    if missing:
-        raise SourceFault(f"{SPECS}Errors.antt: no {', '.join(missing)}")
-    return {name: codes[name] for name in names}
+def added_texts(repo):
+    """The messages that the Rust lacks."""
+    found = {name: r'Self::%s => \{?\s*"([^"]*)"' % camel(name) for name in ADDED_MESSAGES}
+    return {name: repo.found(pattern, ADDED_TEXTS)[1] for name, pattern in found.items()}
 
 
 def first_word(repo):
@@ -182,69 +173,59 @@ def escaped(text):
     return text.replace("\\", "\\\\").replace('"', '\\"')
 
 
-class Names:
-    """Writes the header. constants: the names of dt_parser.h with their numbers."""
-
-    def __init__(self, repo, constants):
-        self.repo, self.constants = repo, constants
-
-    def cases(self, prefix, table, texts=None):
-        """The constants of a table of numbers in their order, each with its text; without texts, with its name."""
-        known = {plain(c[len(prefix) :]): c for c in self.constants if c.startswith(prefix)}
-        for name, number in sorted(table.items(), key=lambda item: item[1]):
-            constant = known.get(plain(name))
-            if constant is None or self.constants[constant] != number:
-                raise SourceFault(f"dt_parser.h has no {prefix}.. for {name} = {number}")
-            if texts is not None and name not in texts:
-                raise SourceFault(f"no text for {name}")
-            yield constant, name if texts is None else texts[name]
-
-    def calls(self):
-        entries, refusals, cause = self.repo.entries(), self.repo.refusals(), causes(self.repo)
-        accepted = [("DT_ACCEPTED", "accepted")]
-        texts = {name: cause[number] for name, number in refusals.items() if number in cause}
-        texts |= CHANGED_CAUSES | ADDED_CAUSES
-        yield function("dt_entry_name", "entry", "What is parsed, of enum dt_entry.", self.cases("DT_ENTRY_", entries))
-        yield function("dt_refusal_name", "number", "Why a call was refused, of enum dt_refusal.",
-                       [*accepted, *self.cases("DT_REFUSAL_", refusals)])
-        yield function("dt_refusal_text", "number", "The cause as documents 01 and 02 have it.",
-                       [*accepted, *self.cases("DT_REFUSAL_", refusals, texts)])
-
-    def kinds(self):
-        repo = self.repo
-        tokens, errors = repo.token_kinds(), repo.lex_errors()
-        yield function("dt_token_name", "kind", "A token's kind, of enum dt_token.", self.cases("DT_TOKEN_", tokens))
-        yield function("dt_token_text", "kind", "The words for it in a message, with quotes where dt-tools has them.",
-                       self.cases("DT_TOKEN_", tokens, token_words(repo)))
-        yield function("dt_lex_error_name", "number", "A lexical error, of enum dt_lex_error.",
-                       self.cases("DT_LEX_ERROR_", errors))
-        yield function("dt_lex_error_text", "number", "The message for it.",
-                       self.cases("DT_LEX_ERROR_", errors, doc_comments(repo, LEXER, "LexError")))
-        yield function("dt_node_name", "kind", "A node's kind, of enum dt_node.",
-                       self.cases("DT_NODE_", repo.node_kinds()))
-
-    def reports(self):
-        codes = self.repo.spec(SPECS + "Errors.antt")
-        texts = {"expected": first_word(self.repo), **message_texts(self.repo), **ADDED_MESSAGES}
-        messages = {"expected": chosen(codes, [EXPECTED])[EXPECTED], **chosen(codes, [*MESSAGES, *ADDED_MESSAGES])}
-        hints = {"none": chosen(codes, [NO_HINT])[NO_HINT], **chosen(codes, HINTS)}
-        yield function("dt_message_name", "message", "A report's message, of enum dt_message.",
-                       self.cases("DT_MESSAGE_", messages))
-        yield function("dt_message_text", "message", MESSAGE_COMMENT, self.cases("DT_MESSAGE_", messages, texts))
-        yield function("dt_label_text", "message", "What a message says at its label; empty for one that has no label.",
-                       [("DT_MESSAGE_UNCLOSED_NODE", label_text(self.repo))], '""')
-        yield function("dt_hint_name", "hint", "A report's hint, of enum dt_hint.", self.cases("DT_HINT_", hints))
-        yield function("dt_hint_text", "hint", "What it adds to the message; empty for DT_HINT_NONE.",
-                       self.cases("DT_HINT_", hints, {"none": "", **hint_texts(self.repo)}))
-
-    def expectations(self):
-        expected = self.repo.expectations()
-        yield function("dt_expected_name", "code", "An expectation: of enum dt_expected, or a token's kind.",
-                       self.cases("DT_EXPECTED_", expected), "dt_token_name(code)")
-        yield function("dt_expected_text", "code", "The words for it in a message.",
-                       self.cases("DT_EXPECTED_", expected, expectation_words(self.repo)), "dt_token_text(code)")
-
-    def header(self):
-        return TOP + "".join([*self.calls(), *self.kinds(), *self.reports(), *self.expectations()]) + END
+def cases(prefix, table, texts=None):
+    """The constants of a table of numbers, each with its text; without texts, with its name."""
+    for name in table:
+        if texts is not None and name not in texts:
+            raise SourceFault(f"no text for {name}: tools/header/names.py says where texts are from")
+        yield prefix + snake(name), name if texts is None else texts[name]
 
 
+def of_calls(numbers):
+    cause, refusals = causes(numbers.repo), {name.lower(): number for name, number in numbers.refusals.items()}
+    accepted = [("DT_ACCEPTED", "accepted")]
+    texts = {name: cause[number] for name, number in refusals.items() if number in cause}
+    texts |= CHANGED_CAUSES | ADDED_CAUSES
+    yield function("dt_entry_name", "entry", "What is parsed, of enum dt_entry.", cases("DT_ENTRY_", numbers.entries))
+    yield function("dt_refusal_name", "number", "Why a call was refused, of enum dt_refusal.",
+                   [*accepted, *cases("DT_REFUSAL_", refusals)])
+    yield function("dt_refusal_text", "number", "The cause as documents 01 and 02 have it.",
+                   [*accepted, *cases("DT_REFUSAL_", refusals, texts)])
+
+
+def of_kinds(numbers):
+    repo, tokens, errors = numbers.repo, numbers.token_kinds, numbers.lex_errors
+    yield function("dt_token_name", "kind", "A token's kind, of enum dt_token.", cases("DT_TOKEN_", tokens))
+    yield function("dt_token_text", "kind", "The words for it in a message, with quotes where dt-tools has them.",
+                   cases("DT_TOKEN_", tokens, token_words(repo)))
+    yield function("dt_lex_error_name", "number", "A lexical error, of enum dt_lex_error.",
+                   cases("DT_LEX_ERROR_", errors))
+    yield function("dt_lex_error_text", "number", "The message for it.",
+                   cases("DT_LEX_ERROR_", errors, doc_comments(repo, LEXER, "LexError")))
+    yield function("dt_node_name", "kind", "A node's kind, of enum dt_node.", cases("DT_NODE_", numbers.node_kinds))
+
+
+def of_reports(numbers):
+    repo, messages, hints = numbers.repo, numbers.messages, numbers.hints
+    texts = {"expected": first_word(repo), **message_texts(repo), **added_texts(repo)}
+    yield function("dt_message_name", "message", "A report's message, of enum dt_message.",
+                   cases("DT_MESSAGE_", messages))
+    yield function("dt_message_text", "message", MESSAGE_COMMENT, cases("DT_MESSAGE_", messages, texts))
+    yield function("dt_label_text", "message", "What a message says at its label; empty for one that has no label.",
+                   [("DT_MESSAGE_UNCLOSED_NODE", label_text(repo))], '""')
+    yield function("dt_hint_name", "hint", "A report's hint, of enum dt_hint.", cases("DT_HINT_", hints))
+    yield function("dt_hint_text", "hint", "What it adds to the message; empty for DT_HINT_NONE.",
+                   cases("DT_HINT_", hints, {"none": "", **hint_texts(repo)}))
+
+
+def of_expectations(numbers):
+    expected = numbers.expectations
+    yield function("dt_expected_name", "code", "An expectation: of enum dt_expected, or a token's kind.",
+                   cases("DT_EXPECTED_", expected), "dt_token_name(code)")
+    yield function("dt_expected_text", "code", "The words for it in a message.",
+                   cases("DT_EXPECTED_", expected, expectation_words(numbers.repo)), "dt_token_text(code)")
+
+
+def edits(numbers, text):
+    functions = [*of_calls(numbers), *of_kinds(numbers), *of_reports(numbers), *of_expectations(numbers)]
+    yield Edit("the file", 0, len(text), TOP + "".join(functions) + END)

@@ -1,95 +1,82 @@
-"""What the definitions, the code and the Rust say: tables from names to numbers, in their files' own spelling."""
-import collections
+"""The files that numbers are read from: definitions, the Rust, and code."""
 import pathlib
 import re
 
 SPECS = "crates/definitions/specs/"
-LAYOUT = "crates/layout/src/"
 RUST = "docs/src/crates/parser/src/"
 
 
-def plain(name):
-    """A name without its separators, so that QuestionMark, QUESTION_MARK and question-mark are one."""
-    return re.sub("[-_]", "", name).upper()
+class SourceFault(Exception):
+    """A source does not have what is printed from it."""
 
 
-def header_constants(text):
-    """The constants of a C header with their numbers, in order; one that stands twice is there twice."""
-    return [(name, int(number)) for name, number in re.findall(r"\b(DT_[A-Z0-9_]+) = (\d+)\b", text)]
+def snake(name):
+    """QuestionMark and question-mark as QUESTION_MARK."""
+    return re.sub("([a-z0-9])([A-Z])", r"\1_\2", name).replace("-", "_").upper()
+
+
+def camel(name):
+    """question-mark and QUESTION-MARK as QuestionMark."""
+    words = re.split("-", name.lower())
+    return "".join("RCurly" if word == "rcurly" else word.capitalize() for word in words)
 
 
 class Repository:
-    """The files under a root, read by what they are."""
+    """The files under a root, some of them with another text than they have there."""
 
-    def __init__(self, root):
-        self.root = pathlib.Path(root)
+    def __init__(self, root, changed=None, read=None):
+        self.root, self.changed = pathlib.Path(root), changed or {}
+        self.read = {} if read is None else read
+
+    def changing(self, path, text):
+        return Repository(self.root, {**self.changed, path: text}, self.read)
 
     def text(self, path):
-        return (self.root / path).read_text()
+        if path in self.changed:
+            return self.changed[path]
+        if path not in self.read:
+            try:
+                self.read[path] = (self.root / path).read_text("utf-8")
+            except OSError as why:
+                raise SourceFault(f"{path}: {why.strerror}") from why
+        return self.read[path]
 
-    def spec(self, path):
-        """The numbers of a file of definitions, and sums of two of them."""
-        table = {n: int(v) for n, v in re.findall(r"^([\w-]+) = (\d+)$", self.text(path), re.M)}
-        sums = re.findall(r"^([\w-]+) = ([\w-]+) \+ ([\w-]+)$", self.text(path), re.M)
-        return table | {n: table[a] + table[b] for n, a, b in sums if a in table and b in table}
+    def files(self, pattern):
+        return sorted(str(path.relative_to(self.root)) for path in self.root.glob(pattern))
 
-    def code(self, path):
-        """The constants of a file of code, in Rattle or in Rust."""
-        return {n: int(v) for n, v in re.findall(r"\bconst (\w+): u\w+ = ([\d_]+);", self.text(path))}
-
-    def rust_enum(self, path, name, first):
-        """The cases of one of the Rust's enums, numbered in their order."""
-        body = re.search(r"\benum %s \{\n(.*?)\n\}" % name, self.text(path), re.S)[1]
-        cases = re.findall(r"^    ([A-Z]\w*)(?:\([^)]*\))?,", body, re.M)
-        return {n: first + i for i, n in enumerate(cases)}
-
-    def token_kinds(self):
-        return self.rust_enum(RUST + "lexer.rs", "TokenKind", 0)
-
-    def lex_errors(self):
-        return self.rust_enum(RUST + "lexer.rs", "LexError", 64)
-
-    def node_kinds(self):
-        return self.rust_enum(RUST + "cst.rs", "NodeKind", 0)
-
-    def expectations(self):
-        """Those that are not a token's kind."""
-        cases = self.rust_enum(RUST + "parser/errors.rs", "Expected", 100)
-        return {n: v for n, v in cases.items() if n != "Kind"}
-
-    def entries(self):
-        """The entries of a call, by name."""
-        found = re.findall(r"eqb n (\d)\) \(for (\w+)\)", self.text(SPECS + "Call.antt"))
-        return {n: int(v) for v, n in found}
-
-    def refusals(self):
-        """The numbers of the refusals, by their names in the definitions."""
-        return {**self.numbered(SPECS + "Refusal.antt", "number-of"), **self.text_refusals()}
-
-    def text_refusals(self):
-        """Those of a text; what it is refused for is said there as `has-..`."""
-        return self.numbered(SPECS + "Text.antt", "text-number")
-
-    def numbered(self, path, function):
-        """The cases of a function from refusals to the numbers of Layout.antt. Cases that share a number are one cause,
-        by the number's own name there."""
-        found = re.findall(r"^%s \(?(?:has-)?([\w-]+).*= ([A-Z-]+)$" % function, self.text(path), re.M)
-        numbers, cases = self.spec(SPECS + "Layout.antt"), collections.Counter(v for _, v in found)
-        return {n if cases[v] == 1 else v.lower(): numbers[v] for n, v in found}
-
-    def row_kinds(self):
-        """The kinds that a token row may have, as ranges of numbers."""
-        said = re.search(r"^is-kind k = \(leb k K\.(\w+)(.*)\) \|\| \(leb L\.(\w+) k && leb k L\.(\w+)\)$",
-                         self.text(SPECS + "RowCauses.antt"), re.M)
+    def found(self, pattern, path):
+        """What a pattern finds in a file, which must have it."""
+        said = re.search(pattern, self.text(path), re.M | re.S)
         if not said:
-            return []
-        kinds, errors = self.spec(SPECS + "TokenKind.antt"), self.spec(SPECS + "LexError.antt")
-        left_out = {kinds[n] for n in re.findall(r" && not \(eqb k K\.(\w+)\)", said[2])}
-        allowed = sorted({*range(kinds[said[1]] + 1)} - left_out | {*range(errors[said[3]], errors[said[4]] + 1)})
-        first = [k for k in allowed if k - 1 not in allowed]
-        return [*zip(first, [k for k in allowed if k + 1 not in allowed])]
+            raise SourceFault(f"{path}: nothing like {pattern}")
+        return said
 
-    def directive_words(self):
-        """The words after a # that a text is refused for."""
-        body = re.search(r"^directive-words =\n(.*?)\[\]", self.text(SPECS + "Text.antt"), re.M | re.S)
-        return re.findall(r'ascii "(\w+)"', body[1] if body else "")
+    def numbers(self, path, heading=None):
+        """The numbers of a file of definitions, sums and quotients of two of them too; or those under a heading."""
+        table = {}
+        for name, said in re.findall(r"^([\w-]+) = ([\w-]+(?: [+/] [\w-]+)?)$", self.text(path), re.M):
+            value = worth(said.split(), table)
+            if value is not None:
+                table[name] = value
+        if heading is None:
+            return table
+        under = r"^-- (?:-+ )?%s(.*?)(?=^-- (?:-{9}|hints|messages)|\Z)" % heading
+        part = re.search(under, self.text(path), re.M | re.S)
+        if not part:
+            raise SourceFault(f"{path}: no heading `{heading}`")
+        return {name: table[name] for name in re.findall(r"^([\w-]+) = ", part[1], re.M) if name in table}
+
+    def rust_enum(self, path, name):
+        """The cases of one of the Rust's enums, in their order."""
+        body = self.found(r"\benum %s \{\n(.*?)\n\}" % name, path)[1]
+        return re.findall(r"^    ([A-Z]\w*)(?:\([^)]*\))?,", body, re.M)
+
+
+def worth(words, table):
+    """The number that words of a definition stand for; none where they are not about numbers."""
+    numbers = [int(word) if word.isdigit() else table.get(word) for word in words[::2]]
+    if None in numbers:
+        return None
+    if words[1:2] == ["/"]:
+        return numbers[0] // numbers[1] if numbers[1] else None
+    return sum(numbers)

@@ -78,9 +78,8 @@ impl Room {
         Self { tokens: 0, events: 2 * n + 16, trees: 2 * n + 8, errors: n, reports: n / 8 + 8, pool: n / 2 + 64 }
     }
 
-    /// What so many tokens can need: the theorem of crates/bounds, 13 n + 1 events, 6 n + 1 tree rows, 3 n + 1 reports,
-    /// n more in the strict setting, and 207 n + 69 expectations: [`Input::MAX_EXPECTATIONS`] in each of the run's
-    /// reports.
+    /// What so many tokens can need: the theorem of crates/bounds. Of the reports n are those of the strict setting, and
+    /// each of the others has at most [`Input::MAX_EXPECTATIONS`] in the pool.
     const fn bound(n: usize) -> Self {
         Self { tokens: 0, events: 13 * n + 1, trees: 6 * n + 1, errors: n, reports: 4 * n + 1, pool: 207 * n + 69 }
     }
@@ -148,24 +147,11 @@ mod tests {
         }
     }
 
-    /// `#define DT_EVENTS_FOR(n) (DT_ROW_EVENT * (13 * (size_t)(n) + 1))`: 13 and 1.
-    fn bound(name: &str) -> Vec<usize> {
-        let text = std::fs::read_to_string(concat!(env!("CARGO_MANIFEST_DIR"), "/../../include/dt_parser.h")).unwrap();
-        let line = text.lines().find(|line| line.contains(&format!("DT_{name}_FOR(n)"))).unwrap();
-        line.split(|c: char| !c.is_alphanumeric() && c != '_').filter_map(|word| word.parse().ok()).collect()
-    }
-
     #[test]
-    fn the_bounds_are_those_of_the_c_header() {
+    fn the_pool_has_room_for_every_expectation_of_each_report_of_a_run() {
         for n in [0, 1, 1000] {
             let most = Room::most(&blanks(n));
-            let rooms =
-                [("EVENTS", most.events), ("TREES", most.trees), ("REPORTS", most.reports), ("POOL", most.pool)];
-            for (name, room) in rooms {
-                let bound = bound(name);
-                assert_eq!(room, bound[0] * n + bound[1], "{name}");
-            }
-            assert_eq!(most.pool, (3 * n + 1) * Input::MAX_EXPECTATIONS);
+            assert_eq!(most.pool, (most.reports - n) * Input::MAX_EXPECTATIONS);
         }
     }
 

@@ -3,7 +3,7 @@
 use crate::TokenKind;
 use std::fmt;
 
-/// Something that the parser would have taken: a kind of token, or one of eight other things, 101 to 108 in the pool.
+/// Something that the parser would have taken: a kind of token, or one of the other things, 101 to 108 in the pool.
 ///
 /// ```
 /// use dt_parser::{Expected, TokenKind};

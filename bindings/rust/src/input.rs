@@ -76,8 +76,8 @@ impl<'i> Input<'i> {
     pub const MAX_TOKENS: usize = 65_536;
     /// The most items, values, cells and expressions that may be nested.
     pub const MAX_OPEN_CALLS: usize = 64;
-    /// How many different expectations there are: 61 kinds of token and eight others. A [`Report`](crate::Report) lists
-    /// no more, since it has each once.
+    /// How many different expectations there are: each kind of token, and [the others](crate::Expected::OTHERS). A
+    /// [`Report`](crate::Report) lists no more, since it has each once.
     pub const MAX_EXPECTATIONS: usize = 69;
 
     /// A text with its tokens.

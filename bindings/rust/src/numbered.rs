@@ -1,4 +1,4 @@
-//! The macro for every enum whose cases document 01 numbers.
+//! The macro for every enum whose cases document 01 numbers. `tools/numbers` prints the numbers from the definitions.
 
 /// Makes a plain enum, its table of cases, and the way from a number to a case and back.
 macro_rules! numbered {

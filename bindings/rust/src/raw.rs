@@ -1,7 +1,8 @@
 //! The exported calls as C has them, for callers who lend memory of their own and for what tests the library.
 //!
 //! `include/dt_parser.h` says what each argument is, what each buffer holds after a call, and what the memory must be. A
-//! slice is a pointer and a length in elements. [`Parser`](crate::Parser) makes the same calls, without `unsafe`.
+//! slice is a pointer and a length in elements. [`Parser`](crate::Parser) makes the same calls, without `unsafe`. The
+//! declarations are printed from the code by `tools/numbers`.
 
 /// What the call returns: its number (0, or a refusal's), a place, and the counts of rows that it wrote.
 #[repr(C)]

@@ -1,5 +1,5 @@
 //! The layout of rows: which numbers each has and in what order. No other file knows it, so that a row can get another
-//! number here. The tests below compare it with include/dt_parser.h.
+//! number here. tools/numbers prints it, as it prints include/dt_parser.h.
 
 /// Numbers in an event, which is the call's own work space.
 pub(crate) const EVENT_ROW: usize = 3;
@@ -18,10 +18,8 @@ macro_rules! row {
         }
 
         impl $name {
-            /// The names of its numbers.
-            pub const COLUMNS: &'static [&'static str] = &[$(stringify!($member),)*];
             /// How many numbers it has.
-            pub const SIZE: usize = Self::COLUMNS.len();
+            pub const SIZE: usize = [$(stringify!($member),)*].len();
         }
 
         impl From<$name> for [u32; $name::SIZE] {
@@ -68,48 +66,6 @@ pub(crate) fn front<const SIZE: usize>(buffer: &[u32], count: usize) -> Option<&
 #[cfg(test)]
 mod tests {
     use super::*;
-
-    /// The constants of include/dt_parser.h that begin so, in order: what follows the prefix, in lower case, and the
-    /// number.
-    fn header(prefix: &str) -> Vec<(String, usize)> {
-        let path = concat!(env!("CARGO_MANIFEST_DIR"), "/../../include/dt_parser.h");
-        let text = std::fs::read_to_string(path).unwrap();
-        let words: Vec<&str> =
-            text.split(|c: char| c.is_whitespace() || c == ',').filter(|word| !word.is_empty()).collect();
-        let named = words.windows(3).filter(|three| three[1] == "=" && three[0].starts_with(prefix));
-        named.map(|three| (three[0][prefix.len()..].to_lowercase(), three[2].parse().unwrap())).collect()
-    }
-
-    #[test]
-    fn sizes_and_columns_are_those_of_the_c_header() {
-        let rows = [
-            ("TOKEN", TokenRow::COLUMNS),
-            ("TREE", TreeRow::COLUMNS),
-            ("ERROR", ErrorRow::COLUMNS),
-            ("REPORT", ReportRow::COLUMNS),
-        ];
-        let sizes = header("DT_ROW_");
-        assert_eq!(sizes.len(), rows.len() + 1);
-        assert!(sizes.contains(&("event".to_string(), EVENT_ROW)));
-        for (name, columns) in rows {
-            let ours: Vec<(String, usize)> = columns.iter().map(ToString::to_string).zip(0..).collect();
-            assert_eq!(header(&format!("DT_COL_{name}_")), ours);
-            assert!(sizes.contains(&(name.to_lowercase(), columns.len())), "{name}");
-        }
-        assert_eq!(header("DT_CLASS_"), [("node".to_string(), NODE as usize), ("leaf".to_string(), LEAF as usize)]);
-    }
-
-    #[test]
-    fn the_limits_are_those_of_the_c_header() {
-        use crate::Input;
-        let ours = [
-            ("bytes", Input::MAX_BYTES),
-            ("token_numbers", TokenRow::SIZE * Input::MAX_TOKENS),
-            ("open_calls", Input::MAX_OPEN_CALLS),
-            ("expectations", Input::MAX_EXPECTATIONS),
-        ];
-        assert_eq!(header("DT_MAX_"), ours.map(|(name, number)| (name.to_string(), number)));
-    }
 
     #[test]
     fn rows_are_read_as_they_are_written() {

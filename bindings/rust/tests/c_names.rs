@@ -1,7 +1,7 @@
-//! include/dt_names.h, which tools/make-names writes, against this crate, whose names and texts are written by hand
-//! (tests/texts.rs compares them with docs/src).
+//! The texts of include/dt_names.h, which tools/numbers prints from docs/src, against this crate's, which are written by
+//! hand: each number has the same one.
 
-use dt_parser::{Entrypoint, Expected, Hint, Input, LexError, Message, NodeKind, Refusal, Token, TokenKind};
+use dt_parser::{Entrypoint, Expected, Hint, Input, LexError, Message, Token, TokenKind};
 use std::collections::HashMap;
 
 fn include(name: &str) -> String {
@@ -28,51 +28,24 @@ fn function(name: &str) -> Vec<(u32, String)> {
     body.lines().filter_map(case).collect()
 }
 
-/// A name without its separators.
-fn plain(name: &str) -> String {
-    name.replace('-', "").to_lowercase()
-}
-
 #[track_caller]
 fn same(name: &str, ours: impl Iterator<Item = (u32, String)>) {
     assert_eq!(function(name), ours.collect::<Vec<_>>(), "{name}");
 }
 
-#[track_caller]
-fn same_but_for_separators(name: &str, ours: impl Iterator<Item = (u32, String)>) {
-    let theirs: Vec<_> = function(name).into_iter().map(|(number, name)| (number, plain(&name))).collect();
-    assert_eq!(theirs, ours.map(|(number, name)| (number, plain(&name))).collect::<Vec<_>>(), "{name}");
-}
-
 #[test]
-fn kinds_have_the_same_names_and_words() {
-    same("dt_token_name", TokenKind::ALL.iter().map(|kind| (kind.number(), kind.name().to_string())));
+fn kinds_and_expectations_have_the_same_words() {
     same("dt_token_text", TokenKind::ALL.iter().map(|kind| (kind.number(), kind.to_string())));
-    same("dt_node_name", NodeKind::ALL.iter().map(|kind| (kind.number(), kind.name().to_string())));
-    same("dt_lex_error_name", LexError::ALL.iter().map(|error| (error.number(), error.name().to_string())));
     same("dt_lex_error_text", LexError::ALL.iter().map(|error| (error.number(), error.to_string())));
-    same("dt_entry_name", Entrypoint::ALL.iter().map(|entry| (entry.number(), entry.name().to_string())));
-}
-
-#[test]
-fn expectations_have_the_same_names_and_words() {
-    same("dt_expected_name", Expected::OTHERS.iter().map(|expected| (expected.number(), format!("{expected:?}"))));
     same("dt_expected_text", Expected::OTHERS.iter().map(|expected| (expected.number(), expected.to_string())));
 }
 
 #[test]
 fn messages_and_hints_have_the_same_texts() {
-    let messages = || Message::ALL.iter().copied();
-    same_but_for_separators("dt_message_name", messages().map(|one| (one.number(), one.name().to_string())));
     let text = |message: Message| message.fixed_text().unwrap_or("Expected").to_string();
-    same("dt_message_text", messages().map(|message| (message.number(), text(message))));
-    let none = |text: &str| std::iter::once((0, text.to_string()));
-    let hints = || Hint::ALL.iter().copied();
-    same_but_for_separators(
-        "dt_hint_name",
-        none("none").chain(hints().map(|hint| (hint.number(), hint.name().to_string()))),
-    );
-    same("dt_hint_text", none("").chain(hints().map(|hint| (hint.number(), hint.text().to_string()))));
+    same("dt_message_text", Message::ALL.iter().map(|message| (message.number(), text(*message))));
+    let none = std::iter::once((0, String::new()));
+    same("dt_hint_text", none.chain(Hint::ALL.iter().map(|hint| (hint.number(), hint.text().to_string()))));
 }
 
 #[test]
@@ -81,13 +54,4 @@ fn the_label_of_an_open_node_has_the_same_text() {
     let parse = Entrypoint::SourceFile.parse(&input).unwrap();
     let open = parse.reports.iter().find(|report| report.message == Message::UnclosedNode).unwrap();
     same("dt_label_text", std::iter::once((open.message.number(), open.labels()[0].text.to_string())));
-}
-
-#[test]
-fn refusals_have_the_same_names() {
-    let name = |refusal: Refusal| format!("{refusal:?}").split('(').next().unwrap().to_string();
-    let refusals = || (1..).map_while(|number| Refusal::from_number(number, 0));
-    let ours = || std::iter::once((0, "accepted".to_string())).chain(refusals().map(|one| (one.number(), name(one))));
-    same_but_for_separators("dt_refusal_name", ours());
-    assert_eq!(function("dt_refusal_text").len(), ours().count());
 }

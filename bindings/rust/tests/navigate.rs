@@ -26,7 +26,7 @@ fn parses() -> Vec<(OwnedParse, Vec<Vec<u32>>)> {
 #[test]
 fn every_source_of_the_project_is_among_the_cases() {
     let texts: Vec<Vec<u8>> = answers::stored().into_iter().map(|case| case.text).collect();
-    for folder in ["examples", "oracle/snippets", "fuzz/seeds"] {
+    for folder in ["examples", "tests/oracle/snippets", "tests/fuzz/seeds"] {
         for file in std::fs::read_dir(format!("{}/../../{folder}", env!("CARGO_MANIFEST_DIR"))).unwrap() {
             let path = file.unwrap().path();
             if path.extension().is_some_and(|extension| extension == "dts") {

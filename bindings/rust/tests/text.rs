@@ -267,7 +267,7 @@ fn the_tokens_of_sources_are_those_of_the_rust() {
     let cases = answers::stored();
     let mut parser = Parser::new();
     let (mut read, mut refused) = (0, 0);
-    for folder in ["examples", "oracle/snippets", "fuzz/seeds"] {
+    for folder in ["examples", "tests/oracle/snippets", "tests/fuzz/seeds"] {
         for file in std::fs::read_dir(format!("{}/../../{folder}", env!("CARGO_MANIFEST_DIR"))).unwrap() {
             let path = file.unwrap().path();
             if path.extension().is_none_or(|extension| extension != "dts") {

@@ -1,6 +1,6 @@
 //! The numbers of include/dt_parser.h, for the programs in Rust that try the parser: ffi, oracle, fuzz, bench and
-//! tests/link. A constant `NAME` is `DT_NAME` there, and tools/check-header compares. Kinds of tokens and nodes and
-//! lexical errors are not here: the Rust has them by name. bindings/rust, which is for callers, has rows of its own.
+//! tests/link. A constant `NAME` is `DT_NAME` there; tools/numbers prints both. Kinds of tokens and nodes and lexical
+//! errors are not here: the Rust has them by name. bindings/rust, which is for callers, has rows of its own.
 
 /// The lent buffers, in the order in which a call takes them.
 pub const EVENTS: usize = 0;

@@ -99,7 +99,7 @@ fn every_short_text_is_read_as_it_stands() {
 #[test]
 fn the_project_s_sources_are_read_as_they_stand() {
     let mut count = 0;
-    for folder in ["examples", "examples/c", "oracle/snippets", "fuzz/seeds"] {
+    for folder in ["examples", "examples/c", "tests/oracle/snippets", "tests/fuzz/seeds"] {
         let path = format!("{}/../../{folder}", env!("CARGO_MANIFEST_DIR"));
         for file in std::fs::read_dir(path).unwrap() {
             let path = file.unwrap().path();

@@ -1,7 +1,7 @@
 //! What comes of answers that a library could give to a query.
 
 use super::*;
-use crate::sys::Answer;
+use crate::raw::Answer;
 use crate::{Refusal, RowErrorKind};
 
 const ROWS: [u32; 4] = [27, 1, 29, 1];
