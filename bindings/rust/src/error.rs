@@ -1,5 +1,6 @@
 //! Why there is no answer: the refusals of documents 01 and 02, and what must not happen.
 
+use crate::row_error::counted;
 use crate::{Input, RowError};
 use std::fmt;
 
@@ -135,9 +136,13 @@ impl fmt::Display for Refusal {
             }
             Self::OddCount(row) => write!(f, "row {row}, counted from 0, has a kind and no length"),
             Self::BadText(row) => write!(f, "token {row}, counted from 0, has other bytes than its kind always has"),
-            Self::TooDeep(mark) => write!(f, "over {} calls are open after {mark} tokens", Input::MAX_OPEN_CALLS),
-            Self::NoEventRoom(mark) => write!(f, "no room for an event after {mark} tokens"),
-            Self::NoReportRoom(mark) => write!(f, "no room for a report or its expectations after {mark} tokens"),
+            Self::TooDeep(mark) => {
+                write!(f, "over {} calls are open after {}", Input::MAX_OPEN_CALLS, counted(*mark, "token"))
+            }
+            Self::NoEventRoom(mark) => write!(f, "no room for an event after {}", counted(*mark, "token")),
+            Self::NoReportRoom(mark) => {
+                write!(f, "no room for a report or its expectations after {}", counted(*mark, "token"))
+            }
             Self::NoTreeRoom => f.write_str("no room for the tree, the lexical errors or the list of a query"),
             Self::HighByte(offset) => write!(f, "the byte at offset {offset} is not ASCII"),
             Self::Directive(offset) => write!(f, "a preprocessor directive starts at offset {offset}"),
@@ -204,8 +209,9 @@ impl fmt::Display for Error {
             Self::BadRows(why) => why.fmt(f),
             Self::LimitPassed { refusal, tokens } => write!(
                 f,
-                "refusal {}: {refusal}, with room for all that {tokens} tokens can give: the linked library is not the proved one",
-                refusal.number()
+                "refusal {}: {refusal}, with room for all that {} can give: the linked library is not the proved one",
+                refusal.number(),
+                counted(*tokens, "token")
             ),
             Self::BadAnswer { what, row, expected } => {
                 match row {
@@ -241,6 +247,7 @@ mod tests {
     fn limits_stand_in_the_texts() {
         assert_eq!(Refusal::TooLong.to_string(), "the input is over 1,048,576 bytes or over 65,536 tokens");
         assert_eq!(Refusal::TooDeep(7).to_string(), "over 64 calls are open after 7 tokens");
+        assert_eq!(Refusal::NoEventRoom(1).to_string(), "no room for an event after 1 token");
         assert_eq!([0, 999, 1000, 1_000_007].map(grouped), ["0", "999", "1,000", "1,000,007"]);
     }
 

@@ -168,7 +168,7 @@ fn covered(rows: &[[u32; TokenRow::SIZE]]) -> Option<usize> {
 }
 
 /// `1 byte`, `2 bytes`.
-fn counted(count: usize, what: &str) -> String {
+pub(crate) fn counted(count: usize, what: &str) -> String {
     format!("{count} {what}{}", if count == 1 { "" } else { "s" })
 }
 

@@ -11,6 +11,7 @@
 //! a;
 //! ```
 
+use crate::row_error::counted;
 use crate::rows::TokenRow;
 use crate::{Entrypoint, Input, LexError, TokenKind};
 use std::fmt;
@@ -178,8 +179,17 @@ impl<'i> Lines<'i> {
         name.and_then(Entrypoint::from_name).ok_or_else(|| self.bad(expected, quoted(value)))
     }
 
+    /// The count after `rows` or `text`.
     fn number(&self, after: &str, value: &[u8]) -> Result<usize, BadFile> {
-        decimal(value).ok_or_else(|| self.bad(format!("a decimal number after `{after}`"), quoted(value)))
+        match decimal(value) {
+            Decimal::Number(number) => Ok(number as usize),
+            Decimal::TooLarge => Err(self.too_large("a count", value)),
+            Decimal::Other => Err(self.bad(format!("a decimal number after `{after}`"), quoted(value))),
+        }
+    }
+
+    fn too_large(&self, what: &str, digits: &[u8]) -> BadFile {
+        self.bad(format!("{what} of at most {}", u32::MAX), format!("{}, which is too large", quoted(digits)))
     }
 
     /// A kind and a length.
@@ -187,12 +197,12 @@ impl<'i> Lines<'i> {
         let expected = format!("row {} of {count}, a kind and a length", i + 1);
         let line = self.next(&expected)?;
         let (kind, length) = split(line);
-        let number = kind_number(kind);
-        let length = decimal(length).and_then(|n| u32::try_from(n).ok());
-        match (number, length) {
-            (Some(kind), Some(length)) => Ok(TokenRow { kind, length }),
-            (None, Some(_)) => Err(self.bad("a token's kind, by name or number", quoted(kind))),
-            _ => Err(self.bad(expected, quoted(line))),
+        match (kind_number(kind), decimal(length)) {
+            (Decimal::Number(kind), Decimal::Number(length)) => Ok(TokenRow { kind, length }),
+            (_, Decimal::Other) => Err(self.bad(expected, quoted(line))),
+            (Decimal::TooLarge, _) => Err(self.too_large("a kind", kind)),
+            (Decimal::Other, _) => Err(self.bad("a token's kind, by name or number", quoted(kind))),
+            (_, Decimal::TooLarge) => Err(self.too_large("a length", length)),
         }
     }
 
@@ -208,7 +218,8 @@ impl<'i> Lines<'i> {
         if count == self.rest.len() {
             return Ok(self.rest);
         }
-        Err(self.bad(format!("{count} bytes after this line, up to the end of the file"), self.rest.len().to_string()))
+        let expected = format!("{} after this line, up to the end of the file", counted(count, "byte"));
+        Err(self.bad(expected, self.rest.len().to_string()))
     }
 }
 
@@ -220,23 +231,35 @@ fn split(line: &[u8]) -> (&[u8], &[u8]) {
     }
 }
 
+/// What a word is as a number.
+enum Decimal {
+    Number(u32),
+    /// Digits for more than a row's numbers can be.
+    TooLarge,
+    Other,
+}
+
 /// Digits alone: no sign, no blank.
-fn decimal(digits: &[u8]) -> Option<usize> {
-    let text = std::str::from_utf8(digits).ok()?;
-    text.bytes().all(|byte| byte.is_ascii_digit()).then(|| text.parse().ok())?
+fn decimal(digits: &[u8]) -> Decimal {
+    match std::str::from_utf8(digits) {
+        Ok(text) if !text.is_empty() && text.bytes().all(|byte| byte.is_ascii_digit()) => {
+            text.parse().map_or(Decimal::TooLarge, Decimal::Number)
+        }
+        _ => Decimal::Other,
+    }
 }
 
 /// What an error token's name begins with.
 const LEX_ERROR: &str = "LexError::";
 
 /// The number of a kind or a lexical error, by name; or any number.
-fn kind_number(word: &[u8]) -> Option<u32> {
-    let name = std::str::from_utf8(word).ok()?;
-    if let Some(error) = name.strip_prefix(LEX_ERROR) {
-        return LexError::from_name(error).map(LexError::number);
-    }
-    let number = decimal(word).and_then(|number| u32::try_from(number).ok());
-    number.or_else(|| TokenKind::from_name(name).map(TokenKind::number))
+fn kind_number(word: &[u8]) -> Decimal {
+    let name = std::str::from_utf8(word).unwrap_or_default();
+    let named = match name.strip_prefix(LEX_ERROR) {
+        Some(error) => LexError::from_name(error).map(LexError::number),
+        None => TokenKind::from_name(name).map(TokenKind::number),
+    };
+    named.map_or_else(|| decimal(word), Decimal::Number)
 }
 
 /// The name of a kind or a lexical error, or the number where it has none.

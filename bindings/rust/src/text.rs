@@ -177,7 +177,9 @@ impl TextError {
         let preprocessor = Self::PREPROCESSOR;
         Some(match self {
             Self::TooManyBytes { .. } | Self::TooManyTokens => {
-                "the limits are fixed: parse the source in parts, for instance each included file by itself".to_string()
+                "the limit is fixed, and blanks and comments count: parse the text in parts, cut after a `;` that ends a \
+                 top-level node; each part is read as it would be in the whole"
+                    .to_string()
             }
             Self::TooDeep { .. } => "the limit is fixed: nest less deep".to_string(),
             Self::HighByte { character: Some(BYTE_ORDER_MARK), .. } => {

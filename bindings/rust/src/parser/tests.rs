@@ -32,7 +32,7 @@ fn room_is_tried_up_to_the_limit_and_then_reported() {
         assert!(
             error
                 .to_string()
-                .ends_with("with room for all that 1 tokens can give: the linked library is not the proved one")
+                .ends_with("with room for all that 1 token can give: the linked library is not the proved one")
         );
     }
 }

@@ -57,13 +57,25 @@ fn a_bad_row_is_reported_with_its_line() {
         complaint(&after_first("rows 1\nIdent\n")),
         "line 3: expected row 1 of 1, a kind and a length, found `Ident`"
     );
-    for kind in ["Idents", "name", "LexError::None", "LexError::74", "4294967296", "-1", "\u{e9}"] {
+    for kind in ["Idents", "name", "LexError::None", "LexError::74", "-1", "\u{e9}"] {
         let said = complaint(&after_first(&format!("rows 1\n{kind} 1\n")));
         assert!(said.starts_with("line 3: expected a token's kind, by name or number, found `"), "{said}");
     }
-    assert!(complaint(&after_first("rows 1\nIdent 4294967296\n")).starts_with("line 3: expected row 1 of 1"));
-    assert!(complaint(&after_first("rows 99999999999999999999\n")).starts_with("line 2: expected a decimal"));
-    assert!(complaint(&after_first("rows 1234567890123\nIdent 1\n")).starts_with("line 4: expected row 2 of"));
+    assert!(complaint(&after_first("rows 4294967295\nIdent 1\n")).starts_with("line 4: expected row 2 of"));
+}
+
+#[test]
+fn a_number_of_33_bits_is_too_large() {
+    for number in ["4294967296", "99999999999999999999999"] {
+        let found = format!("at most 4294967295, found `{number}`, which is too large");
+        let said = |lines: String| complaint(&after_first(&lines));
+        assert_eq!(said(format!("rows 1\nIdent {number}\n")), format!("line 3: expected a length of {found}"));
+        assert_eq!(said(format!("rows 1\n{number} 1\n")), format!("line 3: expected a kind of {found}"));
+        assert_eq!(said(format!("rows {number}\n")), format!("line 2: expected a count of {found}"));
+        assert_eq!(said(format!("rows 0\ntext {number}\n")), format!("line 3: expected a count of {found}"));
+    }
+    let file = after_first("rows 1\n0000000000004294967295 04294967295\ntext 00\n");
+    assert_eq!(RowsFile::read(&file).unwrap().rows, [u32::MAX, u32::MAX]);
 }
 
 #[test]
@@ -71,6 +83,7 @@ fn the_text_has_the_length_that_is_given() {
     let expected = "line 3: expected 3 bytes after this line, up to the end of the file, found ";
     assert_eq!(complaint(&after_first("rows 0\ntext 3\na;")), format!("{expected}2"));
     assert_eq!(complaint(&after_first("rows 0\ntext 3\na;b\n")), format!("{expected}4"));
+    assert!(complaint(&after_first("rows 0\ntext 1\n")).contains(" expected 1 byte after this line, "));
     assert!(complaint(&after_first("rows 0\nIdent 1\n")).starts_with("line 3: expected `text` and the number"));
     assert!(complaint(&after_first("rows 0\n")).starts_with("line 3: expected `text` and the number"));
 }

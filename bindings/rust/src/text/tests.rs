@@ -67,7 +67,11 @@ fn sizes_are_said() {
     let tokens = refused(&b",".repeat(Input::MAX_TOKENS + 1));
     assert_eq!(tokens, TextError::TooManyTokens);
     assert_eq!(tokens.to_string(), "refusal 2: the text has more than 65536 tokens");
-    assert!([bytes, tokens].iter().all(|error| error.help().is_some() && error.position().is_none()));
+    let help = "the limit is fixed, and blanks and comments count: parse the text in parts, cut after a `;` that ends a \
+                top-level node; each part is read as it would be in the whole";
+    for error in [bytes, tokens] {
+        assert_eq!((error.help().as_deref(), error.position()), (Some(help), None));
+    }
 }
 
 #[test]

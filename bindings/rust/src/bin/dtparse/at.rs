@@ -1,9 +1,10 @@
 //! What stands at a position: the rows of the tree from the root to the token, a line for each.
 
-use crate::Page;
+use crate::lines::Lines;
+use crate::page::Page;
 use crate::style::Ink;
 use crate::tree::ink;
-use dt_parser::{Item, Position};
+use dt_parser::{Item, Parse, Position};
 
 /// Longer texts are cut after so many characters.
 const LONGEST: usize = 40;
@@ -17,9 +18,14 @@ struct Line {
     ink: Option<Ink>,
 }
 
+/// The items from the root to the token; or why the text has no such position.
+pub fn items<'p>(lines: &Lines, parse: &'p Parse<'p>, position: Position) -> Result<Vec<Item<'p>>, String> {
+    Ok(parse.tree.at_offset(lines.offset(position)?))
+}
+
 pub fn print(page: &Page, position: Position) -> Result<String, String> {
-    let offset = page.lines.offset(position).map_err(|why| format!("--at {position}: {why}"))?;
-    let lines: Vec<Line> = page.parse.tree.at_offset(offset).into_iter().map(|item| line(page, item)).collect();
+    let items = items(page.lines, page.parse, position).map_err(|why| format!("--at {position}: {why}"))?;
+    let lines: Vec<Line> = items.into_iter().map(|item| line(page, item)).collect();
     let widest = |of: fn(&Line) -> usize| lines.iter().map(of).max().unwrap_or(0);
     let gutter = widest(|line| line.row).to_string().len();
     let (kinds, ranges) = (widest(|line| line.kind.len()), widest(|line| line.range.len()));

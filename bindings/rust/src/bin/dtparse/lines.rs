@@ -1,6 +1,6 @@
 //! The lines of a text, for people.
 
-use crate::problems::plural;
+use crate::counts::plural;
 use dt_parser::{Columns, LineIndex, Position};
 
 /// A text with its line index. A line ends in LF; a CR before it belongs to the end.

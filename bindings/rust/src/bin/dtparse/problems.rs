@@ -1,17 +1,19 @@
 //! Reports, lexical errors and what has no report, each with its source lines; and the summary.
 
-use crate::Page;
+use crate::counts::{Counts, plural};
+use crate::page::Page;
 use crate::snippet::{Underline, snippet};
 use crate::style::Ink;
-use dt_parser::{LexicalError, Node, NodeKind, Report, TextRange};
+use dt_parser::{LexicalError, Node, Parse, Report, TextRange};
 
-const UNREPORTED: &str = "Not understood. The parser makes no report for this part; often a `;` is missing after it";
+pub const UNREPORTED: &str =
+    "Not understood. The parser makes no report for this part; often a `;` is missing after it";
 
 /// A problem to print: its heading, and the ranges with what is said there. The first range is its own.
-struct Problem {
-    ink: Ink,
-    text: String,
-    underlines: Vec<Underline>,
+pub struct Problem {
+    pub ink: Ink,
+    pub text: String,
+    pub underlines: Vec<Underline>,
 }
 
 impl Problem {
@@ -40,43 +42,60 @@ impl Problem {
     fn of_unreported(node: &Node) -> Self {
         Self::new(Ink::Note, UNREPORTED.to_string(), node.range())
     }
+
+    pub fn range(&self) -> TextRange {
+        self.underlines[0].range
+    }
+
+    pub const fn word(&self) -> &'static str {
+        if matches!(self.ink, Ink::Note) { "note" } else { "error" }
+    }
 }
 
 /// All problems in the order of the text.
-pub fn print(page: &Page) -> String {
-    let parse = page.parse;
+pub fn all(parse: &Parse) -> Vec<Problem> {
     let mut problems: Vec<Problem> = parse.lexical_errors.iter().map(Problem::of_lexical_error).collect();
     problems.extend(parse.reports.iter().map(Problem::of_report));
     problems.extend(parse.unreported().iter().map(Problem::of_unreported));
-    problems.sort_by_key(|problem| problem.underlines[0].range.start);
-    let printed: Vec<String> = problems.iter().map(|problem| print_one(problem, page)).collect();
+    problems.sort_by_key(|problem| problem.range().start);
+    problems
+}
+
+/// Errors at the same place are shown together: one mistake often has several.
+pub fn print(page: &Page) -> String {
+    let problems = all(page.parse);
+    let together = |a: &Problem, b: &Problem| a.range().start == b.range().start && a.ink == b.ink;
+    let printed: Vec<String> = problems.chunk_by(together).map(|group| print_group(group, page)).collect();
     printed.join("\n")
 }
 
-fn print_one(problem: &Problem, page: &Page) -> String {
-    let word = if problem.ink == Ink::Note { "note" } else { "error" };
-    let heading = page.style.paint(Ink::Strong, &format!(": {}", problem.text));
-    let lines = snippet(&page.name, &page.lines, &problem.underlines, page.style);
-    format!("{}{heading}\n{lines}", page.style.paint(problem.ink, word))
+fn print_group(group: &[Problem], page: &Page) -> String {
+    let heading = |problem: &Problem| {
+        let text = page.style.paint(Ink::Strong, &format!(": {}", problem.text));
+        format!("{}{text}\n", page.style.paint(problem.ink, problem.word()))
+    };
+    let headings: String = group.iter().map(heading).collect();
+    headings + &snippet(page.name, page.lines, &underlines(group), page.style)
+}
+
+/// The underlines of all, each once; one without a text only where no other has its range.
+fn underlines(group: &[Problem]) -> Vec<&Underline> {
+    let all: Vec<&Underline> = group.iter().flat_map(|problem| &problem.underlines).collect();
+    let mut kept: Vec<&Underline> = Vec::new();
+    for one in &all {
+        let is_said = one.text.is_empty() && all.iter().any(|other| other.range == one.range && !other.text.is_empty());
+        if !is_said && !kept.contains(one) {
+            kept.push(one);
+        }
+    }
+    kept
 }
 
 /// One line: how many errors, what was read, and how much was not.
-pub fn summary(page: &Page) -> String {
-    let parse = page.parse;
-    let of_kind = |kind| parse.tree.root().nodes_below().filter(|node| node.kind() == kind).count();
-    let errors = match parse.reports.len() + parse.lexical_errors.len() {
+pub fn summary(page: &Page, counts: &Counts) -> String {
+    let errors = match counts.errors() {
         0 => page.style.paint(Ink::Strong, "no errors"),
         n => page.style.paint(Ink::Error, &plural(n, "error", "errors")),
     };
-    let nodes = plural(of_kind(NodeKind::DtNode), "node", "nodes");
-    let properties = plural(of_kind(NodeKind::DtProperty), "property", "properties");
-    let lost: usize = parse.outermost_errors().iter().map(|node| node.range().len()).sum();
-    let bytes = parse.tree.text().len();
-    let rest = if lost == 0 { String::new() } else { format!("; {lost} of {bytes} bytes not understood") };
-    format!("{}: {errors}; {nodes} and {properties} read{rest}\n", page.name)
-}
-
-/// A count with its word.
-pub fn plural(n: usize, one: &str, more: &str) -> String {
-    format!("{n} {}", if n == 1 { one } else { more })
+    format!("{}: {errors}; {}\n", page.name, counts.text())
 }

@@ -1,49 +1,71 @@
-//! Why a source has no answer, with the line that the reason lies on.
+//! Why a call on a file is refused: what every form of the output is made from. Of sources; token rows are in
+//! refused_rows.rs.
 
-use crate::args::STANDARD_INPUT;
-use crate::lines::Lines;
-use crate::shown;
-use crate::snippet::{Underline, snippet};
-use crate::style::{Ink, Style};
-use dt_parser::TextError;
+use crate::files::Source;
+use crate::name::shell_word;
+use crate::{own_name, shown};
+use dt_parser::{Input, Refusal, TextError, TextRange};
 
-/// What is said of a source that still has the preprocessor's marks, as a reason for its reports.
-pub const LINE_MARKS: &str =
-    "\nnote: Lines such as `# 1 \"board.dts\"` are the preprocessor's own; `cpp -P` leaves them out\n";
-
-/// Whether a line is such a mark.
-pub fn has_line_marks(text: &[u8]) -> bool {
-    text.split(|byte| *byte == b'\n').any(|line| matches!(line, [b'#', b' ', digit, ..] if digit.is_ascii_digit()))
+/// A refused call.
+pub struct Refused {
+    /// None where the library is not the proved one.
+    pub refusal: Option<Refusal>,
+    pub message: String,
+    /// What of the file it is about.
+    pub range: Option<TextRange>,
+    /// What can be done or what is allowed, in sentences.
+    pub help: Option<String>,
 }
 
-/// What is wrong with a source, its line with a caret under the byte, and what to do.
-pub fn explain_text(file: &str, name: &str, text: &[u8], why: &TextError, style: Style) -> String {
-    let mut out = match why.refusal() {
-        Some(refusal) => format!("{file}: refusal {}: {}", refusal.number(), shown::plain(&why.message())),
-        None => format!("{file}: {why}"),
+impl Refused {
+    /// `refusal 10: `#define` is a preprocessor directive`.
+    pub fn text(&self) -> String {
+        match self.refusal {
+            Some(refusal) => format!("refusal {}: {}", refusal.number(), self.message),
+            None => self.message.clone(),
+        }
+    }
+
+    /// The refusal's name, as it is written in Rust: all before its place.
+    pub fn name(&self) -> Option<String> {
+        let written = format!("{:?}", self.refusal?);
+        written.split('(').next().map(String::from)
+    }
+}
+
+/// What is said of a source that still has the preprocessor's marks, as a reason for its reports.
+pub const LINE_MARKS: &str = "Lines such as `# 1 \"board.dts\"` are the preprocessor's own; `cpp -P` leaves them out";
+
+/// The first line that is such a mark, from 0.
+pub fn line_mark(text: &[u8]) -> Option<usize> {
+    let is_mark = |line: &[u8]| matches!(line, [b'#', b' ', digit, ..] if digit.is_ascii_digit());
+    text.split(|byte| *byte == b'\n').position(is_mark)
+}
+
+/// The refusal of a source.
+pub fn of_text(source: &Source, text: &[u8], why: &TextError) -> Refused {
+    let message = match why {
+        // no more of it was read
+        TextError::TooManyBytes { .. } => format!("the text has more than {} bytes", Input::MAX_BYTES),
+        _ => shown::plain(&why.message()),
     };
-    if let Some(offset) = why.offset() {
-        let range = (offset..offset + 1).into();
-        let underline = Underline { range, text: String::new(), ink: Ink::Error };
-        out += "\n";
-        out += snippet(name, &Lines::new(text), &[underline], style).trim_end();
-    }
-    if let Some(help) = help(file, text, why) {
-        out += "\n";
-        out += &help;
-    }
-    out
+    let range = why.offset().map(|offset| TextRange::from(offset..offset + 1));
+    Refused { refusal: why.refusal(), message, range, help: help(source, text, why) }
 }
 
 /// What a compiled devicetree begins with.
 const DTB: [u8; 4] = [0xd0, 0x0d, 0xfe, 0xed];
 
 /// What to do, with a command to copy where there is one.
-fn help(file: &str, text: &[u8], why: &TextError) -> Option<String> {
-    let file = if file == STANDARD_INPUT { "FILE.dts".to_string() } else { shell_word(file) };
-    let command = format!("    {} {file} | ./dtparse -", TextError::PREPROCESSOR);
+fn help(source: &Source, text: &[u8], why: &TextError) -> Option<String> {
+    let file = match source {
+        Source::StandardInput => "FILE.dts".to_string(),
+        _ => shell_word(source.name()),
+    };
+    let command = format!("    {} {file} | {} -", TextError::PREPROCESSOR, own_name());
     let general = why.help()?;
     Some(match (why, why.ascii_escape()) {
+        (TextError::TooManyBytes { .. } | TextError::TooManyTokens, _) => TOO_LONG.to_string(),
         (TextError::HighByte { .. }, _) if text.starts_with(&DTB) => {
             format!("This is a compiled devicetree; `dtc -I dtb -O dts {file}` makes a source of it.")
         }
@@ -64,20 +86,15 @@ fn help(file: &str, text: &[u8], why: &TextError) -> Option<String> {
     })
 }
 
+/// True of a source as it is written and of one that the preprocessor has made long.
+const TOO_LONG: &str = "\
+The text is too long for one call, and the limit is fixed; blanks and comments count too. It can be\n\
+parsed in parts: cut after a `;` that ends a top-level node, each is read as it would be in the whole.";
+
 /// A text with a capital and a full stop.
 pub fn sentence(text: &str) -> String {
     let (first, rest) = text.split_at(text.len().min(1));
     format!("{}{rest}.", first.to_ascii_uppercase())
-}
-
-/// A file's name as a shell takes it.
-fn shell_word(name: &str) -> String {
-    let is_plain = |c: char| c.is_alphanumeric() || "_-./+,@%:=".contains(c);
-    match name {
-        _ if name.starts_with('-') => shell_word(&format!("./{name}")),
-        _ if name.chars().all(is_plain) => name.to_string(),
-        _ => format!("'{}'", shown::plain(name).replace('\'', "'\\''")),
-    }
 }
 
 #[cfg(test)]
@@ -85,16 +102,16 @@ mod tests {
     use super::*;
 
     #[test]
-    fn names_are_written_for_a_shell() {
-        assert_eq!(shell_word("boards/a-1.dts"), "boards/a-1.dts");
-        assert_eq!(shell_word("my board's.dts"), "'my board'\\''s.dts'");
-        assert_eq!(shell_word("-a.dts"), "./-a.dts");
-        assert_eq!(shell_word("$(a)"), "'$(a)'");
+    fn marks_of_lines_are_known() {
+        assert_eq!(line_mark(b"a;\n# 1 \"board.dts\"\n"), Some(1));
+        assert_eq!(line_mark(b"#address-cells = <1>;\n # 1\na # 1"), None);
     }
 
     #[test]
-    fn marks_of_lines_are_known() {
-        assert!(has_line_marks(b"a;\n# 1 \"board.dts\"\n"));
-        assert!(!has_line_marks(b"#address-cells = <1>;\n # 1\na # 1"));
+    fn a_refusal_has_its_name() {
+        let name = |refusal| Refused { refusal, message: String::new(), range: None, help: None }.name();
+        assert_eq!(name(Some(Refusal::HighByte(7))).as_deref(), Some("HighByte"));
+        assert_eq!(name(Some(Refusal::TooLong)).as_deref(), Some("TooLong"));
+        assert_eq!(name(None), None);
     }
 }

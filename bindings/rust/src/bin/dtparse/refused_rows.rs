@@ -1,18 +1,13 @@
-//! Why a file of token rows has no answer, with the line of the file that has the row.
+//! Why a call on a file of token rows is refused, with the place in the file that has the row.
 
+use crate::counts::plural;
 use crate::lines::Lines;
-use crate::refused::sentence;
-use crate::snippet::{Underline, snippet};
-use crate::style::{Ink, Style};
+use crate::refused::{Refused, sentence};
 use dt_parser::rowsfile::RowsFile;
 use dt_parser::{Error, Input, Refusal, RowError, RowErrorKind, TextRange};
 
 /// A file of token rows: its bytes, and what was read of them.
 pub struct Rows<'f> {
-    /// The file as it was asked for.
-    pub path: &'f str,
-    /// Its name in positions.
-    pub name: &'f str,
     pub bytes: &'f [u8],
     pub file: &'f RowsFile<'f>,
 }
@@ -25,42 +20,41 @@ enum Word {
 }
 
 impl Rows<'_> {
-    /// What is wrong, the line of the row with the word in question underlined, and what is allowed there.
-    pub fn explain(&self, why: Error, style: Style) -> String {
-        let refused =
-            |refusal: Refusal, reason: String| format!("{}: refusal {}: {reason}", self.path, refusal.number());
+    /// What is wrong, the word of the row in question, and what is allowed there.
+    pub fn explain(&self, why: Error) -> Refused {
         match why {
-            Error::BadRows(why) => {
-                let line = self.underlined(why.row(), word(why.kind()), style);
-                refused(why.refusal(), format!("{}\n{line}\n{}", why.message(), allowed(why)))
-            }
-            Error::Refused(refusal) => refused(refusal, self.reason(refusal, style)),
-            _ => format!("{}: {why}", self.path),
+            Error::BadRows(why) => Refused {
+                refusal: Some(why.refusal()),
+                message: why.message(),
+                range: Some(self.word(why.row(), word(why.kind()))),
+                help: Some(allowed(why)),
+            },
+            Error::Refused(refusal) => self.refused(refusal),
+            _ => Refused { refusal: None, message: why.to_string(), range: None, help: None },
         }
     }
 
     /// What is wrong, where it is not the numbers of the rows.
-    fn reason(&self, refusal: Refusal, style: Style) -> String {
-        match refusal {
-            Refusal::TooLong => self.too_long(),
-            Refusal::BadText(row) => format!("{}\n{}", self.bad_text(row), self.underlined(row, Word::First, style)),
-            Refusal::TooDeep(mark) => self.too_deep(mark),
-            _ => refusal.to_string(),
-        }
+    fn refused(&self, refusal: Refusal) -> Refused {
+        let (message, range) = match refusal {
+            Refusal::TooLong => (self.too_long(), None),
+            Refusal::BadText(row) => (self.bad_text(row), Some(self.word(row, Word::First))),
+            Refusal::TooDeep(mark) => (self.too_deep(mark), None),
+            _ => (refusal.to_string(), None),
+        };
+        Refused { refusal: Some(refusal), message, range, help: None }
     }
 
-    /// The line of a row, with a word of it underlined. After the last row comes the line with the text's length.
-    fn underlined(&self, row: usize, word: Word, style: Style) -> String {
+    /// A word of a row's line. After the last row comes the line with the text's length.
+    fn word(&self, row: usize, word: Word) -> TextRange {
         let lines = Lines::new(self.bytes);
         let line = self.file.first_row_line - 1 + row;
         let (start, bytes) = (lines.start(line), lines.line(line));
         let blank = bytes.iter().position(|byte| *byte == b' ').unwrap_or(bytes.len());
-        let range = match word {
+        TextRange::from(match word {
             Word::First => start..start + blank,
             Word::Second => start + (blank + 1).min(bytes.len())..start + bytes.len(),
-        };
-        let underline = Underline { range: TextRange::from(range), text: String::new(), ink: Ink::Error };
-        snippet(self.name, &lines, &[underline], style).trim_end().to_string()
+        })
     }
 
     /// The text and its tokens, which rows are if the refusal is 4 or 5.
@@ -81,9 +75,9 @@ impl Rows<'_> {
 
     fn too_long(&self) -> String {
         format!(
-            "{} bytes and {} tokens; at most {} bytes and {} tokens are taken",
-            self.file.text.len(),
-            self.file.row_count(),
+            "{} and {}; at most {} bytes and {} tokens are taken",
+            plural(self.file.text.len(), "byte", "bytes"),
+            plural(self.file.row_count(), "token", "tokens"),
             Input::MAX_BYTES,
             Input::MAX_TOKENS
         )

@@ -49,7 +49,7 @@ fn push(out: &mut String, character: char, column: usize) -> usize {
 }
 
 /// Characters that are not seen and can change what is seen around them.
-const fn is_hidden(character: char) -> bool {
+pub const fn is_hidden(character: char) -> bool {
     matches!(character as u32, 0x80..=0x9f | 0x200b..=0x200f | 0x2028..=0x202e | 0x2060..=0x206f | 0xfeff)
 }
 

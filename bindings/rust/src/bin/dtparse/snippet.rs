@@ -11,6 +11,7 @@ const BEFORE: usize = 60;
 const AFTER: usize = 100;
 
 /// A range to underline, and what to say there.
+#[derive(PartialEq, Eq)]
 pub struct Underline {
     pub range: TextRange,
     pub text: String,
@@ -27,7 +28,7 @@ struct Piece<'u> {
 }
 
 /// The lines that have underlines, with the position of the first underline above them.
-pub fn snippet(name: &str, lines: &Lines, underlines: &[Underline], style: Style) -> String {
+pub fn snippet(name: &str, lines: &Lines, underlines: &[&Underline], style: Style) -> String {
     let mut pieces: Vec<Piece> = underlines.iter().flat_map(|underline| pieces(underline, lines)).collect();
     pieces.sort_by_key(|piece| piece.line);
     let last = pieces.last().map_or(0, |piece| piece.line);
@@ -100,7 +101,7 @@ mod tests {
 
     fn one(text: &[u8], start: usize, end: usize) -> String {
         let underline = Underline { range: TextRange { start, end }, text: "here".into(), ink: Ink::Error };
-        snippet("x", &Lines::new(text), &[underline], Style::new(false))
+        snippet("x", &Lines::new(text), &[&underline], Style::new(false))
     }
 
     #[test]
@@ -129,7 +130,7 @@ mod tests {
     #[test]
     fn a_label_has_its_own_line() {
         let underline = |start, end, ink| Underline { range: TextRange { start, end }, text: "t".into(), ink };
-        let both = [underline(5, 6, Ink::Error), underline(1, 2, Ink::Frame)];
+        let both = [&underline(5, 6, Ink::Error), &underline(1, 2, Ink::Frame)];
         let said = snippet("x", &Lines::new(b"/{\na;\n"), &both, Style::new(false));
         assert_eq!(said, " --> x:2:3\n  |\n1 | /{\n  |  - t\n2 | a;\n  |   ^ t\n");
     }

@@ -1,6 +1,6 @@
 //! The whole tree, a line for each node and leaf.
 
-use crate::Page;
+use crate::page::Page;
 use crate::style::Ink;
 use dt_parser::{Item, NodeKind, TokenKind};
 
