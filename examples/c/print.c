@@ -19,10 +19,21 @@ void print_text(const uint8_t *bytes, size_t from, size_t to)
     }
 }
 
+int all_printed(void)
+{
+    return fflush(stdout) == 0 && !ferror(stdout);
+}
+
+/* Two blanks a level. A tree can be as deep as it has rows: past 32 levels the depth stands there as a number, so that
+   the output grows with the rows and not with their square. */
 static void indent(size_t depth)
 {
-    for (; depth > 0; depth--)
+    enum { DEEPEST = 32 };
+    size_t level;
+    for (level = 0; level < depth && level < DEEPEST; level++)
         fputs("  ", stdout);
+    if (depth > DEEPEST)
+        printf("[%zu] ", depth);
 }
 
 /* Prints a row that starts at this byte, and gives the byte that the next row starts at. */
@@ -39,7 +50,8 @@ static size_t print_row(const struct input *in, const struct dt_tree_row *row, s
     return end;
 }
 
-/* The depth of a row, from that of the row before it: the parent is that row, or lies above it. */
+/* The depth of a row, from that of the row before it: the parent is that row, or lies above it. A step up here goes
+   back a step down, so that all rows together take no more steps than there are rows. */
 static size_t depth_of(const struct dt_tree_row *trees, size_t row, size_t depth_before)
 {
     size_t above, depth = depth_before + 1;
@@ -90,7 +102,7 @@ static void print_head(const struct input *in, const struct parsed *p, size_t no
         end += row->width;
         child = dt_after_subtree(p->trees, p->answer.tree_count, child);
     }
-    while (end > start && strchr(" \t\r\n", in->bytes[end - 1]))
+    while (end > start && memchr(" \t\r\n", in->bytes[end - 1], 4))
         end--;
     print_text(in->bytes, start, end);
     putchar('\n');
@@ -107,14 +119,23 @@ static size_t node_around(const struct dt_tree_row *trees, size_t row)
     return row;
 }
 
+/* How many devicetree nodes a node is in, itself too: no more than DT_MAX_OPEN_CALLS, so that going up to the root for
+   each is no long way. */
+static size_t node_depth(const struct dt_tree_row *trees, size_t row)
+{
+    size_t depth = 0;
+    for (; row != 0; row = node_around(trees, row))
+        depth++;
+    return depth;
+}
+
 void print_nodes(const struct input *in, const struct parsed *p)
 {
-    size_t start = 0, row, above;
+    size_t start = 0, row;
     puts("nodes:");
     for (row = 0; row < p->answer.tree_count; row++) {
         if (is_dt_node(&p->trees[row])) {
-            for (above = row; above != 0; above = node_around(p->trees, above))
-                indent(1);
+            indent(node_depth(p->trees, row));
             print_head(in, p, row, start);
         }
         start += own_bytes(&p->trees[row]);

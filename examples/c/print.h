@@ -4,7 +4,8 @@
 
 #include "parse.h"
 
-/* Every node and leaf with its range, each leaf with its text. */
+/* Every node and leaf with its range, each leaf with its text, two blanks in for each level up to the 32nd; on those
+   below it the level's number stands too. */
 void print_tree(const struct input *in, const struct parsed *p);
 
 /* The devicetree nodes, each with what stands before its brace, under the node that it lies in. */
@@ -21,5 +22,8 @@ void print_messages(const struct parsed *p);
 
 /* Bytes of a text on one line. */
 void print_text(const uint8_t *bytes, size_t from, size_t to);
+
+/* Whether all that was printed could be written. */
+int all_printed(void);
 
 #endif

@@ -55,8 +55,9 @@ static int run_file(const char *name, uint32_t setting)
 
 int main(int argc, char **argv)
 {
-    int strict = argc == 3 && strcmp(argv[1], "--strict") == 0;
-    if (argc > 2 + strict)
+    int strict = argc > 1 && strcmp(argv[1], "--strict") == 0, status;
+    if (argc > 2 + strict || (strict && argc == 2))
         return fail("usage: print_tree [[--strict] FILE]");
-    return argc == 1 ? run_example() : run_file(argv[argc - 1], strict ? DT_SETTING_STRICT : DT_SETTING_OLD);
+    status = argc == 1 ? run_example() : run_file(argv[argc - 1], strict ? DT_SETTING_STRICT : DT_SETTING_OLD);
+    return all_printed() ? status : fail("the output cannot be written");
 }

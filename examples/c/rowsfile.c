@@ -1,10 +1,12 @@
 /* Reads files of token rows (docs/TOKENS.md). */
 #include "rowsfile.h"
 #include "dt_names.h"
+#include "number.h"
 #include <stdlib.h>
 #include <string.h>
 
-enum { LINE = 4096 };
+/* No more is kept than one row, or one byte, over what a call takes: it is then refused for that. */
+enum { LINE = 4096, MOST_ROWS = DT_MAX_TOKEN_NUMBERS / DT_ROW_TOKEN };
 
 /* The next line without its line feed. */
 static int next_line(FILE *file, char *line)
@@ -26,12 +28,11 @@ static const char *after(const char *line, const char *word)
     return strncmp(line, word, n) == 0 && line[n] == ' ' ? line + n + 1 : NULL;
 }
 
-/* A number up to the end of the text. */
-static int number(const char *text, uint32_t most, uint32_t *out)
+/* A number of 32 bits up to the end of the text. */
+static int number(const char *text, uint32_t *out)
 {
-    char *end;
-    unsigned long n = strtoul(text, &end, 10);
-    if (*text < '0' || *text > '9' || *end || n > most)
+    uint64_t n;
+    if (!read_number(text, UINT32_MAX, &n))
         return 0;
     *out = (uint32_t)n;
     return 1;
@@ -54,7 +55,7 @@ static int kind_of(const char *word, uint32_t *kind)
 {
     static const char error[] = "LexError::";
     const size_t n = sizeof error - 1;
-    if (number(word, UINT32_MAX, kind))
+    if (number(word, kind))
         return 1;
     if (strncmp(word, error, n) == 0)
         return named(dt_lex_error_name, DT_TOKEN_FIRST_LEX_ERROR, DT_TOKEN_LAST_LEX_ERROR, word + n, kind);
@@ -65,17 +66,17 @@ static const char *read_rows(FILE *file, uint32_t rows, struct rowsfile *out)
 {
     char line[LINE], *blank;
     uint32_t i;
-    out->tokens_count = rows;
+    out->tokens_count = rows <= MOST_ROWS ? rows : MOST_ROWS + 1;
     out->tokens = (struct dt_token_row *)malloc(out->tokens_count * sizeof *out->tokens + 1);
     if (!out->tokens)
         return "no memory";
-    for (i = 0; i < rows; i++) {
+    for (i = 0; i < out->tokens_count; i++) {
         struct dt_token_row *row = &out->tokens[i];
         if (!next_line(file, line) || !(blank = strchr(line, ' ')))
             return "expected a token's kind and length";
         *blank = 0;
-        if (!kind_of(line, &row->kind) || !number(blank + 1, UINT32_MAX, &row->length))
-            return "not a token's kind and length";
+        if (!kind_of(line, &row->kind) || !number(blank + 1, &row->length))
+            return "not a token's kind and length: a name or a number, and a number, below 4294967296";
     }
     return NULL;
 }
@@ -85,22 +86,20 @@ static const char *read_text(FILE *file, struct rowsfile *out)
     char line[LINE];
     const char *rest;
     uint32_t n;
-    if (!next_line(file, line) || !(rest = after(line, "text")) || !number(rest, INT32_MAX, &n))
+    int is_whole;
+    if (!next_line(file, line) || !(rest = after(line, "text")) || !number(rest, &n))
         return "expected the text's length";
-    out->bytes_len = n;
+    out->bytes_len = n <= DT_MAX_BYTES ? n : DT_MAX_BYTES + 1;
     out->bytes = (uint8_t *)malloc(out->bytes_len + 1);
     if (!out->bytes)
         return "no memory";
-    return fread(out->bytes, 1, n, file) == n && fgetc(file) == EOF ? NULL : "the text's length is wrong";
+    is_whole = fread(out->bytes, 1, out->bytes_len, file) == out->bytes_len;
+    return is_whole && (n > DT_MAX_BYTES || fgetc(file) == EOF) ? NULL : "the text's length is wrong";
 }
 
-int is_rowsfile(FILE *file)
+int is_rowsfile(const uint8_t *start, size_t len)
 {
-    static const char words[] = "devicetree tokens";
-    char found[sizeof words - 1];
-    int is_one = fread(found, 1, sizeof found, file) == sizeof found && memcmp(found, words, sizeof found) == 0;
-    rewind(file);
-    return is_one;
+    return len == ROWSFILE_START && memcmp(start, "devicetree tokens", len) == 0;
 }
 
 const char *read_rowsfile(FILE *file, struct rowsfile *out)
@@ -110,7 +109,7 @@ const char *read_rowsfile(FILE *file, struct rowsfile *out)
     uint32_t rows;
     memset(out, 0, sizeof *out);
     out->entry = DT_ENTRY_SOURCE_FILE;
-    if (!next_line(file, line) || strcmp(line, "devicetree tokens 1") != 0)
+    if (!next_line(file, line) || strcmp(line, " 1") != 0)
         return "not a file of token rows";
     while (next_line(file, line)) {
         if (after(line, "file"))
@@ -118,9 +117,9 @@ const char *read_rowsfile(FILE *file, struct rowsfile *out)
         if ((rest = after(line, "entry"))) {
             if (!named(dt_entry_name, DT_ENTRY_SOURCE_FILE, DT_ENTRY_CELLS, rest, &out->entry))
                 return "unknown entry";
-        } else if ((rest = after(line, "rows")) && number(rest, INT32_MAX, &rows)) {
+        } else if ((rest = after(line, "rows")) && number(rest, &rows)) {
             wrong = read_rows(file, rows, out);
-            return wrong ? wrong : read_text(file, out);
+            return wrong || rows > MOST_ROWS ? wrong : read_text(file, out);
         } else {
             break;
         }

@@ -13,10 +13,12 @@ struct rowsfile {
     size_t bytes_len;
 };
 
-/* Whether a file is one of token rows, by its first words; it is then read from its start again. */
-int is_rowsfile(FILE *file);
+/* Whether a file is one of token rows, by its first bytes: so many of them, unless the file is shorter. */
+enum { ROWSFILE_START = 17 };
+int is_rowsfile(const uint8_t *start, size_t len);
 
-/* NULL, or what is wrong. Whether rows and bytes fit is the parser's to say. The arrays are the caller's to free. */
+/* What follows these first bytes. NULL, or what is wrong. Whether rows and bytes fit is the parser's to say. The arrays
+   are the caller's to free. */
 const char *read_rowsfile(FILE *file, struct rowsfile *out);
 
 #endif

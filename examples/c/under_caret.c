@@ -9,10 +9,10 @@
  * FILE is a source in plain ASCII, as ../board.dts, or a file of token rows (docs/TOKENS.md), as ../overlay.rows.
  */
 #include "file.h"
+#include "number.h"
 #include "print.h"
 #include "refusal.h"
 #include <stdio.h>
-#include <stdlib.h>
 
 static int fail(const char *what)
 {
@@ -57,12 +57,9 @@ static int ask_source(const struct input *in, const struct query *q)
     return status;
 }
 
-/* A byte offset: any number of 64 bits. */
 static int read_offset(const char *text, uint64_t *out)
 {
-    char *end;
-    *out = strtoull(text, &end, 10);
-    return *text >= '0' && *text <= '9' && *end == 0;
+    return read_number(text, UINT64_MAX, out);
 }
 
 int main(int argc, char **argv)
@@ -71,12 +68,14 @@ int main(int argc, char **argv)
     struct input in;
     const char *wrong;
     int status;
-    if (argc < 3 || argc > 4 || !read_offset(argv[2], &q.start) || (argc == 4 && !read_offset(argv[3], &q.end)))
+    if (argc < 3 || argc > 4)
         return fail("usage: under_caret FILE OFFSET, or FILE START END");
+    if (!read_offset(argv[2], &q.start) || (argc == 4 && !read_offset(argv[3], &q.end)))
+        return fail("an offset is a number from 0 to 18446744073709551615, in decimal digits");
     wrong = read_input(argv[1], DT_SETTING_OLD, &in);
     if (!wrong && in.entry != DT_ENTRY_SOURCE_FILE)
         wrong = "the file is not a source file";
     status = wrong ? fail(wrong) : in.tokens ? ask(&in, &q) : ask_source(&in, &q);
     free_input(&in);
-    return status;
+    return all_printed() ? status : fail("the output cannot be written");
 }

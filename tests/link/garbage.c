@@ -1,5 +1,5 @@
 /* Calls with random numbers in place of entry, setting, bytes, token rows and buffer lengths, calls with random texts,
-   and calls at the limits of size.
+   and calls at the limits of size: garbage COUNT, so many of the first two.
    The causes that come before a parse are worked out again, those of rows in rows.h and those of a text in text.h; of
    every call it is checked what the buffers hold afterwards, of an accepted one that its tree is one (tree.h). */
 #include "random_rows.h"
@@ -297,25 +297,26 @@ static void print_met(const char *what, const size_t *met, int count)
     printf("\n");
 }
 
-int main(void)
+int main(int argc, char **argv)
 {
+    const int count = argc == 2 ? atoi(argv[1]) : 0;
     size_t met[ANSWERS] = {0}, met_by_text[TEXT_ANSWERS] = {0}, short_totals = 0;
     byte_limit();
     row_limit();
     conditionals();
     row_causes();
     text_limits();
-    for (int i = 0; i < 200000; i++)
+    for (int i = 0; i < count; i++)
         random_call(met, &short_totals);
-    print_met("200000 calls with random numbers", met, ANSWERS);
+    print_met("calls with random numbers", met, ANSWERS);
     printf("of 13 for a short total: %zu\n", short_totals);
     for (uint32_t i = 0; i < ANSWERS; i++)
         if (is_early(i) && i != DT_REFUSAL_TOO_LONG && met[i] == 0)
             fail("random numbers", "a cause was never met");
     if (short_totals == 0 || short_totals == met[DT_REFUSAL_BAD_END])
         fail("random numbers", "only one of the two causes of 13 was met");
-    for (int i = 0; i < 200000; i++)
+    for (int i = 0; i < count; i++)
         random_text(met_by_text);
-    print_met("200000 random texts, some in several lengths of the token buffer", met_by_text, TEXT_ANSWERS);
+    print_met("random texts, some in several lengths of the token buffer", met_by_text, TEXT_ANSWERS);
     return 0;
 }

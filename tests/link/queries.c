@@ -1,5 +1,5 @@
 /* Queries with random numbers in place of offsets, setting, bytes, token rows and buffer lengths, and queries at the
-   limits of size. Of every one the answer, the list and all buffers are checked (query.h). */
+   limits of size: queries COUNT, so many of the first. Of every one the answer, the list and all buffers are checked (query.h). */
 #include "query.h"
 #include "random_rows.h"
 
@@ -95,14 +95,15 @@ static void check_met(const size_t *met)
     }
 }
 
-int main(void)
+int main(int argc, char **argv)
 {
+    const int count = argc == 2 ? atoi(argv[1]) : 0;
     size_t met[ANSWERS] = {0}, rows = 0;
     byte_limit();
     row_limit();
-    for (int i = 0; i < 200000; i++)
+    for (int i = 0; i < count; i++)
         random_query(met, &rows);
-    printf("200000 random queries, most in several lengths of the list, which had %zu rows:", rows);
+    printf("random queries, most in several lengths of the list, which had %zu rows:", rows);
     for (uint32_t i = 0; i < ANSWERS; i++)
         printf(" %u: %zu", i, met[i]);
     printf("\n");

@@ -3,8 +3,9 @@
    one number fewer of each.
    With --text: takes the bytes of each case as a text, checks the call as text.h says, in token buffers that just fit,
    that are one number short and one too long, and prints how often each answer was given.
-   With --queries: asks each case as a source file at every offset, and for ranges from there, checks the query as
-   query.h says, in lists that just fit and that are one number short, and prints how often each answer was given. */
+   With --queries STEP: asks each case as a source file at every offset, or every STEPth, and for ranges from there,
+   checks the query as query.h says, in lists that just fit and that are one number short, and prints how often each
+   answer was given. */
 #include "query.h"
 #include "text.h"
 
@@ -155,10 +156,12 @@ static void run_query(const struct one *c, int is_caret, uint64_t start, uint64_
     }
 }
 
-static void run_queries(const struct one *c)
+/* Each case starts at another offset than the one before it. */
+static void run_queries(const struct one *c, size_t step)
 {
+    static size_t cases;
     size_t n = c->head[1];
-    for (size_t offset = 0; offset < n + 2; offset++) {
+    for (size_t offset = cases++ % step; offset < n + 2; offset += step) {
         run_query(c, 1, offset, 0);
         run_query(c, 0, offset, offset + offset % 9);
     }
@@ -169,16 +172,16 @@ static void run_queries(const struct one *c)
 int main(int argc, char **argv)
 {
     int is_text = argc == 3 && strcmp(argv[1], "--text") == 0;
-    int is_query = argc == 3 && strcmp(argv[1], "--queries") == 0;
-    FILE *f = argc == 2 + (is_text || is_query) ? fopen(argv[argc - 1], "rb") : NULL;
+    int is_query = argc == 4 && strcmp(argv[1], "--queries") == 0 && atoi(argv[2]) > 0;
+    FILE *f = argc == 2 + is_text + 2 * is_query ? fopen(argv[argc - 1], "rb") : NULL;
     if (!f)
-        fail("usage", "replay [--text | --queries] LIST");
+        fail("usage", "replay [--text | --queries STEP] LIST");
     struct one c;
     while (read_one(f, &c)) {
         if (is_text)
             run_texts(&c);
         else if (is_query)
-            run_queries(&c);
+            run_queries(&c, (size_t)atoi(argv[2]));
         else
             run_case(&c);
         free(c.tokens);

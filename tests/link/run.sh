@@ -2,40 +2,65 @@
 # Links the static library from C and from Rust, and runs every case of the gate's two lists through both: whole
 # answers, in buffers full of garbage; from C also with guards beside each buffer, each accepted call again in buffers
 # that just fit and with one number fewer, the bytes of each case as a text, queries of each case at every offset,
-# random numbers, texts and queries in place of the input, and the limits of size. Not part of the gate. Needs gcc,
-# cargo, and `rt` where DT_PARSER_LIB does not name a library.
-#   tests/link/run.sh                          over the library that the kit makes (tools/static-library)
-#   DT_PARSER_LIB=FILE tests/link/run.sh       over another archive
+# random numbers, texts and queries in place of the input, and the limits of size. Needs gcc and cargo.
+#   tests/link/run.sh                          over the library that tools/static-library names
+#   tests/link/run.sh --short                  every eighth offset, and a tenth of what is random
 #   tests/link/run.sh --memcheck               the lists under valgrind, but for the queries, which are too many
 set -eu
-check=
-if [ "${1:-}" = --memcheck ]; then check='valgrind -q --error-exitcode=9'; fi
 here=$(cd "$(dirname "$0")" && pwd)
 root=$(dirname "$(dirname "$here")")
+. "$here/../checks.sh"
+count=200000 step=1 memcheck=
+case $#${1:-} in
+0) ;;
+1--short) count=20000 step=8 ;;
+1--memcheck) memcheck='valgrind -q --error-exitcode=9' ;;
+*) echo "usage: tests/link/run.sh [--short | --memcheck]" >&2 && exit 2 ;;
+esac
+[ -z "$memcheck" ] || command -v valgrind >/dev/null || { echo "no valgrind" >&2 && exit 2; }
 DT_PARSER_LIB=$("$root/tools/static-library")
 export DT_PARSER_LIB
-work=$(mktemp -d)
-trap 'rm -rf "$work"' EXIT
 
 for program in replay garbage queries; do
-    gcc -std=c11 -O2 -Wall -Wextra -Werror -I "$root/include" -o "$work/$program" "$here/$program.c" "$DT_PARSER_LIB"
+    check "$program.c does not compile or link" gcc -std=c11 -O2 -Wall -Wextra -Werror -I "$root/include" \
+        -o "$work/$program" "$here/$program.c" "$DT_PARSER_LIB"
 done
-(cd "$here" && cargo build --release --offline --quiet)
+check "replay.rs does not compile or link" \
+    cargo build --release --offline --quiet --manifest-path "$here/Cargo.toml" --target-dir "$root/tests/target"
+[ "$failed" -eq 0 ] || { all_counted "linked from C and from Rust"; exit 1; }
 
-# What the gate's program prints of a list. The lines of readings_run on 65,536 blanks belong to no list: garbage.c
-# makes those calls.
+# What is printed of a list, against what the gate's program prints: PROGRAM LIST. The lines of readings_run on 65,536
+# blanks belong to no list: garbage.c makes those calls.
+replays() {
+    sed '/^65536-blanks /,$d' "$root/crates/$2/stdout" >"$work/expected"
+    # shellcheck disable=SC2086
+    $memcheck "$1" "$root/crates/$2/stdin" >"$work/wrote" && cmp "$work/expected" "$work/wrote"
+}
+# A check of which the answers by number are shown: WHAT COMMAND..
+shows() {
+    before=$failed
+    check "$@"
+    [ "$failed" -ne "$before" ] || echo "$1: answers by number: $(grep ' 0: ' "$work/why")"
+}
+asked() {
+    found=0
+    wait "$asking" || found=$?
+    cat "$work/asked"
+    return "$found"
+}
+
+# on the other processor, as it takes longer than all else
+"$work/replay" --queries "$step" "$root/crates/replay_run/stdin" >"$work/asked" 2>&1 &
+asking=$!
 for list in replay_run readings_run; do
-    sed '/^65536-blanks /,$d' "$root/crates/$list/stdout" >"$work/expected"
-    for program in "$work/replay" "$root/tests/target/release/replay"; do
-        $check "$program" "$root/crates/$list/stdin" >"$work/wrote"
-        cmp "$work/expected" "$work/wrote"
-        if [ "$program" = "$work/replay" ]; then language=C; else language=Rust; fi
-        echo "$list from $language: $(grep -vc '^[txre] ' "$work/wrote") cases, every number as expected"
-    done
-    answers=$($check "$work/replay" --text "$root/crates/$list/stdin")
-    echo "$list as texts from C, answers by number:$answers"
-    echo "$list asked from C, answers by number:$("$work/replay" --queries "$root/crates/$list/stdin")"
+    check "$list from C" replays "$work/replay" $list
+    check "$list from Rust" replays "$root/tests/target/release/replay" $list
+    echo "$list: $(grep -vc '^[txre] ' "$work/expected") cases"
+    # shellcheck disable=SC2086
+    shows "$list as texts" $memcheck "$work/replay" --text "$root/crates/$list/stdin"
 done
-"$work/garbage"
-"$work/queries"
-echo "linked from C and from Rust: all as expected"
+shows "readings_run asked" "$work/replay" --queries "$step" "$root/crates/readings_run/stdin"
+shows "limits of size and random calls" "$work/garbage" "$count"
+shows "limits of size and random queries" "$work/queries" "$count"
+shows "replay_run asked" asked
+all_counted "linked from C and from Rust"

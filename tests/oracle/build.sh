@@ -1,9 +1,9 @@
 #!/bin/sh
-# Builds the oracle: copies the Rust of ../../docs/src to its places, once unchanged and once, as far as doc01.patch has to
-# do with it, patched; then `cargo build --release --offline` (about 10 s, no registry needed). The library is
-# crates/oracle, the program over it ../target/release/oracle. tests/oracle/build.sh --copies makes the copies alone, for those
-# who build over the library. ast.rs is left out, since it needs crates which are not in the repository: the build
-# reaches no registry (docs/DECISIONS.md, section 7). crates/parser/src/ast.rs stands in for it.
+# Builds the oracle: copies the Rust of ../../docs/src to its places, once unchanged and once, as far as doc01.patch has
+# to do with it, patched; then `cargo build --release --offline` (about 10 s, no registry needed). The library is
+# crates/oracle, the program over it ../target/release/oracle. tests/oracle/build.sh --copies makes the copies alone,
+# for those who build over the library. ast.rs is left out, since it needs crates which are not in the repository: the
+# build reaches no registry (docs/DECISIONS.md, section 7). crates/parser/src/ast.rs stands in for it.
 set -eu
 cd "$(dirname "$0")"
 src=../../docs/src/crates/parser/src
@@ -25,5 +25,6 @@ for file in $(cd "$src" && find . -name '*.rs' ! -name ast.rs); do
 done
 
 [ "${1:-}" != --copies ] || exit 0
-cargo build --release --offline --quiet -p oracle
-echo "built $(dirname "$(pwd)")/target/release/oracle"
+target=$(dirname "$(pwd)")/target
+cargo build --release --offline --quiet -p oracle --target-dir "$target"
+echo "built $target/release/oracle"

@@ -1,12 +1,12 @@
 #!/usr/bin/env python3
 """Promise 2 on expressions, by running: C's table by levels (no binding powers), against the Rust's tree rows for entry
 4, and: a report with a mark above the LParen's index and at most the RParen's exists exactly if C gives no tree.
-    exprcheck.py SEED COUNT"""
+    exprcheck.py [SEED [COUNT]]"""
 import random
 import sys
 
 sys.dont_write_bytecode = True
-from run import ORACLE, numbers
+from run import ORACLE, end, numbers, seed_and_count
 
 from compare.case import LAST_ERROR, ReportRow
 
@@ -206,8 +206,9 @@ def verdict(tokens, rust, doc01):
 
 
 def main():
-    random.seed(int(sys.argv[1]))
-    cases = [case() for _ in range(int(sys.argv[2]))]
+    seed, count = seed_and_count(10000)
+    random.seed(seed)
+    cases = [case() for _ in range(count)]
     lines = [line_of(t) for t in cases]
     rust, doc01 = (ORACLE.blocks([mode, "any", "--no-tokens"], lines) for mode in ("rows", "doc01"))
     trees = refused = 0
@@ -221,10 +222,7 @@ def main():
         if wrong:
             fails.append((len(tokens), wrong, "".join(tokens)))
     without = len(cases) - trees - refused
-    print(f"{len(cases)} cases, {trees} with a C tree, {without} without, {refused} refused; {len(fails)} failures")
-    for fail in sorted(fails)[:6]:
-        print(*fail)
-    sys.exit(1 if fails else 0)
+    end(fails, 6, f"expressions: {len(cases)} cases, {trees} with a C tree, {without} without, {refused} refused")
 
 
 main()

@@ -1,12 +1,12 @@
 #!/usr/bin/env python3
 """Promise 3 by running: two source files with the same tail after a top-level ending semicolon. Later parts, lexical
 errors and reports are those of document 01 (`oracle doc01`), and must move alike; of tree rows the parent, by document
-02's request 7/14.    tailcheck.py SEED COUNT"""
+02's request 7/14.    tailcheck.py [SEED [COUNT]]"""
 import random
 import sys
 
 sys.dont_write_bytecode = True
-from run import ORACLE
+from run import ORACLE, end, seed_and_count
 
 from compare.case import LEAF, NODE, Case, ErrorRow, ReportRow, TreeRow, case_line, read_line
 from compare.oracle import ROOM
@@ -21,7 +21,7 @@ def line_of(tokens):
 
 def pairs(seed, count):
     """Two heads that end in a semicolon, and a tail."""
-    cases = ORACLE.run(["totoks"], ORACLE.run(["gen", seed, str(count), "1"])).splitlines()
+    cases = ORACLE.run(["totoks"], ORACLE.run(["gen", str(seed), str(count), "1"])).splitlines()
     files = [t for t in (read_line(case).rows for case in cases) if len(t) < 80]
     ends = [(t, [i for i, x in enumerate(t) if x.kind == SEMICOLON]) for t in files]
     heads = [t[: random.choice(at) + 1] for t, at in ends if at]
@@ -99,8 +99,8 @@ def later(answer, head):
 
 
 def main():
-    seed, count = sys.argv[1], int(sys.argv[2])
-    random.seed(int(seed))
+    seed, count = seed_and_count(3000)
+    random.seed(seed)
     drawn = pairs(seed, count)
     given = [line_of(head + tail) for a, b, tail in drawn for head in (a, b)]
     answers = [load(lines) for lines in ORACLE.blocks(["doc01", "any"], given)]
@@ -116,10 +116,7 @@ def main():
         with_reports += bool(first[3])
         if first != second or not first[4]:
             fails.append((len(a) + len(b) + len(tail), line_of(a + tail), line_of(b + tail), first, second))
-    print(f"{count} pairs, {used} of the named kind, {with_reports} with later reports, {len(fails)} failures")
-    for fail in sorted(fails)[:3]:
-        print(*fail, sep="\n ")
-    sys.exit(1 if fails else 0)
+    end(fails, 3, f"shared tails: {count} pairs, {used} of the named kind, {with_reports} with later reports")
 
 
 main()

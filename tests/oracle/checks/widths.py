@@ -1,10 +1,10 @@
 #!/usr/bin/env python3
 """The Rust's trees on random cases: lossless, widths, counts and parents right, lexical errors in order. Says how often
-a ParseError stands in a tree without any report.    widths.py SEED COUNT"""
+a ParseError stands in a tree without any report.    widths.py [SEED [COUNT]]"""
 import sys
 
 sys.dont_write_bytecode = True
-from run import ORACLE, numbers
+from run import ORACLE, end, numbers, seed_and_count
 
 from compare.case import ERRORS, LEAF, NODE, TreeRow
 
@@ -56,15 +56,22 @@ def check(lines):
     return bool(errors), any(l.startswith("E ") for l in lines)
 
 
+def verdict(case, lines):
+    """What check found; and of a tree that is not as it should be the case."""
+    try:
+        return *check(lines), None
+    except AssertionError as wrong:
+        return False, False, (len(case), case, f"not as it should be: {wrong}")
+
+
 def main():
-    given = ORACLE.run(["gen", sys.argv[1], sys.argv[2]]).splitlines()
-    found = [check(lines) for lines in ORACLE.blocks(["rows", "any"], given)]
-    silent = [line for line, (error, report) in zip(given, found) if error and not report]
-    wrong = sum(error for error, _ in found)
-    print(f"{len(found)} cases lossless, widths, counts, parents, lexical errors right; {wrong} with a ParseError "
-          f"node, {len(silent)} of them with no report at all")
-    for line in sorted(silent, key=len)[:5]:
-        print("  no report:", line)
+    seed, count = seed_and_count(10000)
+    given = ORACLE.run(["gen", str(seed), str(count)]).splitlines()
+    found = [verdict(*each) for each in zip(given, ORACLE.blocks(["rows", "any"], given), strict=True)]
+    silent = sum(error and not report for error, report, _ in found)
+    wrong = sum(error for error, _, _ in found)
+    end([fail for _, _, fail in found if fail], 5, "trees (lossless, widths, counts, parents, lexical errors): "
+        f"{len(found)} cases, {wrong} with a ParseError node, {silent} of them with no report at all")  # fmt: skip
 
 
 main()
