@@ -4,7 +4,7 @@ import subprocess
 import sys
 
 sys.path.insert(0, os.path.join(os.path.dirname(os.path.abspath(__file__)), "..", "tools"))
-from header.sources import Repository
+from header.sources import RUST, Repository
 
 
 class Program:
@@ -21,8 +21,11 @@ class Program:
                 self.texts[int(number)] = text.encode()
         # the kinds of tokens: the other two are of leaves alone
         self.inputs = [n for name, n in self.kinds.items() if name not in ("Unrecognized", "Name")]
-        repository = Repository(root)
-        self.nodes, self.expectations = repository.node_kinds(), repository.expectations()
+        # by the Rust's own order: what is asked here is not taken from the definitions
+        rust = Repository(root).rust_enum
+        self.nodes = {name: i for i, name in enumerate(rust(RUST + "cst.rs", "NodeKind"))}
+        cases = enumerate(rust(RUST + "parser/errors.rs", "Expected"), 100)
+        self.expectations = {name: number for number, name in cases if name != "Kind"}
 
     def run(self, words, given=""):
         """What the program writes, given these words and this standard input."""

@@ -3,8 +3,9 @@ Rust's own message text and labels. The words are read out of docs/src, as tools
 from compare.case import FIRST_ERROR, ErrorRow, ReportRow, TreeRow, rows
 from compare.strict import NOT_A_LABEL
 from compare.tables import TRIVIA
-from header.names import EXPECTED, expectation_words, first_word, hint_texts, label_text, message_texts, token_words
-from header.sources import SPECS, Repository
+from header.names import expectation_words, first_word, hint_texts, label_text, message_texts, token_words
+from header.numbers import Numbers
+from header.sources import Repository
 
 
 class Words:
@@ -12,13 +13,13 @@ class Words:
 
     def __init__(self, root, kinds):
         repository = Repository(root)
-        codes = repository.spec(SPECS + "Errors.antt")
-        self.expected, self.first = codes[EXPECTED], first_word(repository)
-        self.messages = {codes[name]: text for name, text in message_texts(repository).items()}
-        self.hints = {codes[name]: text for name, text in hint_texts(repository).items()}
+        numbers = Numbers(repository)
+        self.expected, self.first = numbers.messages["expected"], first_word(repository)
+        self.messages = {numbers.messages[name]: text for name, text in message_texts(repository).items()}
+        self.hints = {numbers.hints[name]: text for name, text in hint_texts(repository).items()}
         self.label = label_text(repository)
         others = expectation_words(repository)
-        self.words = {number: others[name] for name, number in repository.expectations().items()}
+        self.words = {number: others[name] for name, number in numbers.expectations.items()}
         named = token_words(repository)
         self.words.update((number, named[name]) for name, number in kinds.items())
         self.trivia, self.unrecognized = {kinds[name] for name in TRIVIA}, kinds["Unrecognized"]
