@@ -28,5 +28,5 @@ if [ "${1:-}" != tables ]; then
     "$python" "$here/text_counts.py" "$built/release" "$results/text_counts.csv"
     "$python" "$here/query_counts.py" "$built/release" "$results/query_counts.csv"
 fi
-"$python" "$here/tables.py" "$results" "$root"
 "$python" "$here/plot.py" "$results" "$root/docs/benchmark"
+"$python" "$here/tables.py" "$results" "$root"

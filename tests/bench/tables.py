@@ -1,5 +1,6 @@
 """tables.py RESULTS ROOT: prints the figures in short, and writes the tables between the lines `<!-- NAME -->` and
 `<!-- end -->` of docs/BENCHMARK.md."""
+import glob
 import re
 import sys
 
@@ -151,6 +152,8 @@ def main():
         "clearing": clearing(BOARD), "stack": stack()})
     print("\n\n".join([summary(), machines(), cost(COUNTS), board_texts(TEXTS["text"]), worst_texts(),
                        asked(QUERIES)]))
+    measured = [len(read(path)) for path in glob.glob(f"{RESULTS}/*.csv")]
+    print(f"\nbench: {sum(measured)} results of {len(measured)} files, as docs/BENCHMARK.md has them")
 
 
 main()

@@ -41,7 +41,7 @@ pub fn run(plan: &Plan) -> bool {
         tally.progress(plan.cases)
     }
     tally.write();
-    println!("no difference");
+    println!("{} cases, no difference", plan.cases);
     true
 }
 

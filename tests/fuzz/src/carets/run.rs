@@ -67,7 +67,7 @@ pub fn run(plan: &Plan) -> bool {
     }
     run.tally.write();
     run.figures.write();
-    println!("no difference");
+    println!("{} files, no difference", plan.cases);
     true
 }
 

@@ -109,7 +109,7 @@ pub fn run(plan: &Plan) -> bool {
         }
     }
     figures.write(start.elapsed().as_secs_f64());
-    println!("no difference");
+    println!("{} pairs, no difference", figures.pairs);
     true
 }
 

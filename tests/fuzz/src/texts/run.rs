@@ -34,7 +34,7 @@ pub fn run(plan: &Plan) -> bool {
         tally.progress(plan.cases)
     }
     tally.write();
-    println!("no difference");
+    println!("{} texts, no difference", plan.cases);
     true
 }
 
