@@ -9,9 +9,9 @@
  * Text.antt and Caret.antt. tools/numbers prints every number below from the definitions, and the calls from the code.
  * The names and message texts of the numbers are in dt_names.h.
  *
- * Link: libdt_parser.a (`rt staticlib dt_parser` writes target/staticlib/libdt_parser.a), x86-64 Linux. It needs the C
- * library (memcpy, memmove, memset) and nothing else. `tools/install-library PREFIX` puts library, headers and a file
- * for pkg-config in their places. A call allocates nothing, keeps nothing and has no state: calls in several threads at
+ * Link: libdt_parser.a, x86-64 Linux; lib/ has it, and `./x prove` proves it from the sources. It needs the C library
+ * (memcpy, memmove, memset) and nothing else. `tools/install-library PREFIX` puts library, headers and a file for
+ * pkg-config in their places. A call allocates nothing, keeps nothing and has no state: calls in several threads at
  * once are safe if each has its own lent buffers. The deepest inputs take 0.5 MiB of stack (tests/bench/stack.c): a
  * thread that calls should have 2 MiB.
  *

@@ -1,8 +1,8 @@
 //! Finds the static library that the proved crate `dt_parser` is made into, and has it linked.
 //!
-//! tools/static-library of the repository, two levels up, prints its path: that of `DT_PARSER_LIB`, or of the library
-//! that the kit makes after it has proved what changed since the last time. A copy is linked, so that the build stays
-//! good when the library is removed.
+//! tools/static-library of the repository, two levels up, prints its path: that of `DT_PARSER_LIB`; of the library that
+//! is kept in lib/, if it is this checkout's; or of one that the kit makes after it has proved what changed. A copy is
+//! linked, so that the build stays good when the library is removed.
 
 use std::env;
 use std::path::{Path, PathBuf};

@@ -3,21 +3,7 @@
 # programs, built as another dialect. `make test` builds them and runs this.
 set -eu
 cd "$(dirname "$0")"
-work=$(mktemp -d)
-trap 'rm -rf "$work"' EXIT
-passed=0
-failed=0
-
-# Counts a check, and says what is wrong with it: WHAT, then a command that holds if all is well.
-check() {
-    what=$1
-    shift
-    if "$@" >"$work/why" 2>&1; then passed=$((passed + 1)); else
-        failed=$((failed + 1))
-        echo "FAILED: $what"
-        head -n 20 "$work/why"
-    fi
-}
+. ../../tests/checks.sh
 
 # The exit status is this, and what is printed is that file: STATUS FILE PROGRAM ARGUMENT..
 prints() {

@@ -2,33 +2,10 @@
 import json
 import os
 import re
-from typing import NamedTuple
+import sys
 
-
-class TreeRow(NamedTuple):
-    class_: int
-    kind: int
-    width: int
-    count: int
-    parent: int
-
-
-class ErrorRow(NamedTuple):
-    number: int
-    start: int
-    end: int
-
-
-class ReportRow(NamedTuple):
-    message: int
-    start: int
-    end: int
-    mark: int
-    pool_first: int
-    pool_count: int
-    hint: int
-    label_start: int
-    label_end: int
+sys.path.insert(0, os.path.join(os.path.dirname(os.path.abspath(__file__)), "..", "..", "tests"))
+from compare.case import ErrorRow, ReportRow, TreeRow, rows
 
 
 class Names:
@@ -47,11 +24,6 @@ HEADERS = ("dt_parser.h", "dt_names.h")
 TOKENS = ("DT_TOKEN_", "DT_LEX_ERROR_")
 # the kinds of nodes that are shown in brackets: an operator with its operands
 OPERATIONS = ("InfixExpr", "PrefixExpr")
-
-
-def rows(row, numbers):
-    size = len(row._fields)
-    return [row(*numbers[i : i + size]) for i in range(0, len(numbers), size)]
 
 
 class Answer:

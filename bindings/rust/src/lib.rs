@@ -110,7 +110,7 @@
 //!
 //! The calls that this crate makes are proved to answer every input as the definitions say (docs/READING.md). Not proved
 //! is what is written here in Rust: it passes slices, gives names to numbers and checks that the rows are one tree. The
-//! three `unsafe` blocks are in src/sys.rs.
+//! three `unsafe` blocks are in src/sys.rs; [`raw`] declares the calls.
 
 #![deny(unsafe_op_in_unsafe_fn)]
 #![deny(unsafe_code)]
