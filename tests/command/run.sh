@@ -10,12 +10,14 @@ unset DT_PARSER_LIB
 copy=$work/copy
 mkdir -p "$copy/bindings/rust"
 cp -R "$root/crates" "$root/crates.txt" "$root/dtparse" "$root/lib" "$root/tools" "$root/examples" "$root/.ci" "$copy/"
-for part in src build.rs Cargo.toml Cargo.lock README.md; do cp -R "$root/bindings/rust/$part" "$copy/bindings/rust/"; done
+for part in src build.rs Cargo.toml Cargo.lock README.md; do
+    cp -R "$root/bindings/rust/$part" "$copy/bindings/rust/"
+done
 cd "$copy"
 # A path without rt, so that nothing can be proved: links to all else that is needed.
 mkdir "$work/bin"
-for tool in sh bash cargo rustc cc gcc ld ar awk sed find sort xargs sha256sum cut dirname basename cat cmp cp mkdir mktemp \
-    rm env tail head grep touch dd; do
+for tool in sh bash cargo rustc cc gcc ld ar awk sed find sort xargs sha256sum cut dirname basename cat cmp cp mkdir \
+    mktemp rm env tail head grep touch dd; do
     found=$(command -v "$tool") && ln -s "$found" "$work/bin/$tool"
 done
 PATH=$work/bin
@@ -48,7 +50,8 @@ touch crates/definitions/specs/.Layout.antt.swp
 check "an editor's hidden file is no source" tools/kept-library
 
 printf 'x' | dd of=lib/libdt_parser.a bs=1 seek=100000 conv=notrunc 2>/dev/null
-check "a changed byte of the archive is refused" says 2 'is not the archive that lib/PROVED names' ./dtparse examples/board.dts
+check "a changed byte of the archive is refused" \
+    says 2 'is not the archive that lib/PROVED names' ./dtparse examples/board.dts
 check "and what renews it is said" says 2 './x prove --keep' tools/static-library
 rm lib/libdt_parser.a lib/PROVED
 check "without a kept library it is proved first" says 2 "no 'rt'" ./dtparse examples/board.dts
