@@ -138,4 +138,4 @@ expect_recoverable m recovery = if eat m then tell yes else (if act (silent_at r
 infixr 20 eat_starting◌inside◌else◌
 unfoldable pub eat_starting◌inside◌else◌ : Matcher → Prog → Prog → Prog
 unfolding at
-eat-starting m inside p else q = if at m then in_marker (m.consume ⨟ p) else q
+eat_starting m inside p else q = if at m then in_marker (m.consume ⨟ p) else q

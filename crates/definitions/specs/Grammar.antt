@@ -217,7 +217,7 @@ dt_expr = in_node N.DtExpr (assert_eat K.LParen ⨟ open_call (expr_binding_powe
 
 unfoldable pub eat_dts_include : Prog
 unfolding eat_starting◌inside◌else◌ expect
-eat_dts_include = eat-starting of_kind K.DtIncludeDirective inside expect (of_kind K.String) ⨟ ret N.DtsDirective yes else tell no
+eat_dts_include = eat_starting of_kind K.DtIncludeDirective inside expect (of_kind K.String) ⨟ ret N.DtsDirective yes else tell no
 
 unfoldable pub eat_cell_body : Bool → Prog
 unfolding silent silent_eat at macro_invocation Reference dt_expr eat_dts_include eat_preprocessor_directive
@@ -347,7 +347,7 @@ dt_node_body =
 unfoldable pub prefix_turn : Ans → Prog
 unfolding eat silent eat_starting◌inside◌else◌ MacroSubstitutableName UnitAddress Reference
 prefix_turn own_name =
-    eat-starting MacroSubstitutableName inside
+    eat_starting MacroSubstitutableName inside
     (if eat (of_kind K.Colon) then ret N.DtLabel again
     else if eat UnitAddress and silent (of_kind K.Colon) then error_bump E.at_sign_in_label E.no_hint ⨟ ret N.ParseError again
     else ret N.NO_NODE own_name)
@@ -386,13 +386,13 @@ eat_node_or_prop =
 unfoldable pub eat_dts_directive : Prog
 unfolding eat expect expect_recoverable eat_starting◌inside◌else◌ eat_dts_include Reference MacroSubstitutableName UnitAddress
 eat_dts_directive =
-    eat-starting set (K.V1Directive ∷ K.PluginDirective ∷ []) inside
+    eat_starting set (K.V1Directive ∷ K.PluginDirective ∷ []) inside
     (expect_recoverable (of_kind K.Semicolon) ITEM_RECOVERY_SET ⨟ ret N.DtsDirective yes)
     else if eat_dts_include then tell yes
-    else eat-starting of_kind K.MemreserveDirective inside
+    else eat_starting of_kind K.MemreserveDirective inside
     (in_node N.DtsDirectiveArguments (expect (of_kind K.Number) ⨟ expect (of_kind K.Number))
     ⨟ expect_recoverable (of_kind K.Semicolon) ITEM_RECOVERY_SET ⨟ ret N.DtsDirective yes)
-    else eat-starting set (K.DeleteNodeDirective ∷ K.DeletePropertyDirective ∷ []) inside
+    else eat_starting set (K.DeleteNodeDirective ∷ K.DeletePropertyDirective ∷ []) inside
     (in_node N.DtsDirectiveArguments
     (if eat Reference then tell yes
     else if eat MacroSubstitutableName then eat UnitAddress

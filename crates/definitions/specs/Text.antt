@@ -84,8 +84,8 @@ pub data TextVerdict : Type 0 where
 
 infixr 20 ◌or_then◌
 unfoldable pub ◌or_then◌ : TextVerdict → TextVerdict → TextVerdict
-sound or-then v = v
-unsound r or-then v = unsound r
+sound or_then v = v
+unsound r or_then v = unsound r
 
 abbrev pub fit : Bool → TextVerdict
 fit true = sound
@@ -109,8 +109,8 @@ unfolding ◌or_then◌ high_byte directive lower numbers_of
 check_text bytes ts room =
     let n = length (numbers_of ts) in
     fit (leb (length bytes) MOST_BYTES)
-    or-then lower (high_byte 0 bytes) (directive 0 bytes ts)
-    or-then fit (leb n MOST_TOKEN_NUMBERS && leb n room)
+    or_then lower (high_byte 0 bytes) (directive 0 bytes ts)
+    or_then fit (leb n MOST_TOKEN_NUMBERS && leb n room)
 
 -- ---------------------------------------------------------------- the call
 

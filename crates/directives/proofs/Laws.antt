@@ -8,7 +8,7 @@ use Rattle.definitions.specs.Grammar.{eat_dts_include, eat_dts_directive}
 use Rattle.directives.specs.Subprograms.{directive_end, directive_with_arguments}
 
 pub directive_is : eat_dts_directive
-    ≡ (eat-starting set (K.V1Directive ∷ K.PluginDirective ∷ []) inside directive_end
+    ≡ (eat_starting set (K.V1Directive ∷ K.PluginDirective ∷ []) inside directive_end
     else if eat_dts_include then tell yes
     else directive_with_arguments)
 unfolding eat_dts_directive

@@ -26,6 +26,6 @@ delete_arguments = in_node N.DtsDirectiveArguments deleted
 -- the last cases of `eat_dts_directive`: those with arguments
 abbrev pub directive_with_arguments : Prog
 directive_with_arguments =
-    eat-starting of_kind K.MemreserveDirective inside memreserve_arguments ⨟ directive_end
-    else eat-starting set (K.DeleteNodeDirective ∷ K.DeletePropertyDirective ∷ []) inside delete_arguments ⨟ directive_end
+    eat_starting of_kind K.MemreserveDirective inside memreserve_arguments ⨟ directive_end
+    else eat_starting set (K.DeleteNodeDirective ∷ K.DeletePropertyDirective ∷ []) inside delete_arguments ⨟ directive_end
     else tell no

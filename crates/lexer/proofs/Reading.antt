@@ -30,7 +30,7 @@ is_sound (unsound x) = 0
 not_both : {x : TextRefusal} → sound ≡ unsound x → ⊥
 not_both e = let z : ◌≡◌ {A = ℕ} 1 0 = ap is_sound e in absurd (omega (arith, z))
 
-sound_parts : (few allowed fits : Bool) (o d : Offset) → sound ≡ (fit few or-then lower o d or-then fit (allowed && fits))
+sound_parts : (few allowed fits : Bool) (o d : Offset) → sound ≡ (fit few or_then lower o d or_then fit (allowed && fits))
     → (few ≡ true) × (d ≡ nowhere) × (allowed ≡ true) × (fits ≡ true)
 unfolding ◌or_then◌ lower
 sound_parts true true true nowhere nowhere e = (refl, refl, refl, refl)
@@ -40,7 +40,7 @@ sound_parts true a x nowhere (found_at j) e = absurd (not_both e)
 sound_parts true a x (found_at i) nowhere e = absurd (not_both e)
 sound_parts true a x (found_at i) (found_at j) e = absurd (go (leb i j) e)
   where
-    go : (b : Bool) → sound ≡ (cond b (unsound (has_high_byte i)) (unsound (has_directive j)) or-then fit (a && x)) → ⊥
+    go : (b : Bool) → sound ≡ (cond b (unsound (has_high_byte i)) (unsound (has_directive j)) or_then fit (a && x)) → ⊥
     go true f = not_both f
     go false f = not_both f
 sound_parts false a x o d e = absurd (not_both e)

@@ -36,7 +36,7 @@ module _ (at high end room : ℕ) where
   directive_first e = record { verdict = go (ltb high end); counted = λ n i. cc }
     where
       go : (b : Bool)
-          → verdict_of (C.Directive at) ≡ (lower (cond b (found_at high) nowhere) (found_at at) or-then fit (leb 0 MOST_TOKEN_NUMBERS && leb 0 room))
+          → verdict_of (C.Directive at) ≡ (lower (cond b (found_at high) nowhere) (found_at at) or_then fit (leb 0 MOST_TOKEN_NUMBERS && leb 0 room))
       go true = rw (lt-leb high at (ltb-true at high e))
       go false = refl
 
@@ -65,7 +65,7 @@ unfolding check_text
 many_bytes bytes room e = record { verdict = rw e; counted = λ n i. cc }
 
 -- where a directive is found, the numbers do not matter
-ends_there : (o : Offset) (i : ℕ) (v w : TextVerdict) → (lower o (found_at i) or-then v) ≡ (lower o (found_at i) or-then w)
+ends_there : (o : Offset) (i : ℕ) (v w : TextVerdict) → (lower o (found_at i) or_then v) ≡ (lower o (found_at i) or_then w)
 unfolding lower ◌or_then◌
 ends_there nowhere i v w = refl
 ends_there (found_at j) i v w = go (leb j i)
@@ -73,13 +73,13 @@ ends_there (found_at j) i v w = go (leb j i)
     here : Bool → TextVerdict
     here b = cond b (unsound (has_high_byte j)) (unsound (has_directive i))
 
-    go : (b : Bool) → (here b or-then v) ≡ (here b or-then w)
+    go : (b : Bool) → (here b or_then v) ≡ (here b or_then w)
     go true = refl
     go false = refl
 
 counted_as : (lexed : Lexed) (o : Offset) (m room : ℕ) → ((n : ℕ) → lexed ≡ Numbers n → n ≡ m)
-    → (lower o (directive_of lexed) or-then fit (leb (numbers_in lexed) MOST_TOKEN_NUMBERS && leb (numbers_in lexed) room))
-    ≡ (lower o (directive_of lexed) or-then fit (leb m MOST_TOKEN_NUMBERS && leb m room))
+    → (lower o (directive_of lexed) or_then fit (leb (numbers_in lexed) MOST_TOKEN_NUMBERS && leb (numbers_in lexed) room))
+    ≡ (lower o (directive_of lexed) or_then fit (leb m MOST_TOKEN_NUMBERS && leb m room))
 counted_as (Directive i) o m room h = ends_there o i _ _
 counted_as (Numbers n) o m room h = rw (h n refl)
 

@@ -85,7 +85,7 @@ numbers_in (Numbers n) = n
 pub record Lower (lexed : Lexed) (high end room : ℕ) (r : Checked) : Type 0 where
   pub verdict : verdict_of r
       ≡ (lower (cond (ltb high end) (found_at high) nowhere) (directive_of lexed)
-      or-then fit (leb (numbers_in lexed) MOST_TOKEN_NUMBERS && leb (numbers_in lexed) room))
+      or_then fit (leb (numbers_in lexed) MOST_TOKEN_NUMBERS && leb (numbers_in lexed) room))
   pub counted : (n : ℕ) → r ≡ C.Sound n → lexed ≡ Numbers n
 
 -- the verdict on a text, and for a sound one how many token numbers it has

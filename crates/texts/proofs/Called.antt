@@ -43,7 +43,7 @@ unfolding check_text ◌or_then◌
 checked bytes tokens = by _ _ _ (leb_decides (length bytes) 1048576) (judged bytes) (room_decides bytes tokens)
   where
     by : (s : Bool) (v : TextVerdict) (t : Bool) → Decides (length bytes ≤ 1048576) s → Judged bytes v → Decides (Room bytes tokens) t
-        → Checked bytes tokens (fit s or-then v or-then fit t)
+        → Checked bytes tokens (fit s or_then v or_then fit t)
     by s v t (not_so h) j r = many_bytes h
     by s v t (holds h) (high i x m n) r = high_first h i x m n
     by s v t (holds h) (directs i x m n) r = directive_first h i x m n

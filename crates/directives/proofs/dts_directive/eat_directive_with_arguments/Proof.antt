@@ -23,21 +23,21 @@ same_length c =
     let a = c.before.before.before.before.before.before in
     let d = a.before.before.before.before.before.before.before.before.before.before.before in
     let e = d.before.before.before.before.before.before.before.before in
-    omega (arith, e.eat-starting.auto, d.memreserve_arguments.auto, a.directive_end.auto)
+    omega (arith, e.eat_starting.auto, d.memreserve_arguments.auto, a.directive_end.auto)
 
 same-length-2 : tie.Need-same-length-2
 same-length-2 c =
     let a = c.before.before.before.before.before.before in
     let d = a.before.before.before.before.before.before.before.before.before.before.before in
     let e = d.before.before.before.before.before.before.before.before in
-    omega (arith, e.eat-starting.auto, d.memreserve_arguments.auto, a.directive_end.auto)
+    omega (arith, e.eat_starting.auto, d.memreserve_arguments.auto, a.directive_end.auto)
 
 same-length-3 : tie.Need-same-length-3
 same-length-3 c =
     let a = c.before.before.before.before.before.before in
     let d = a.before.before.before.before.before.before.before.before.before.before.before in
     let e = d.before.before.before.before.before.before.before.before in
-    omega (arith, e.eat-starting.auto, d.memreserve_arguments.auto, a.directive_end.auto)
+    omega (arith, e.eat_starting.auto, d.memreserve_arguments.auto, a.directive_end.auto)
 
 returns : tie.Need-returns
 unfolding eat_starting◌inside◌else◌
@@ -46,7 +46,7 @@ returns c =
     let d = a.before.before.before.before.before.before.before.before.before.before.before in
     let e = d.before.before.before.before.before in
     let f = e.before.before.before in
-    (λ ask b. (c-started (of_kind K.MemreserveDirective) (f.eat-starting.ensures.0 ask b _ _) e.if1.true (c-seq (c-walk (d.memreserve_arguments.ensures.0 ask b)) c-any) (closing (a.directive_end.ensures.0 ask b))).is, (omega (arith, f.eat-starting.ensures.1.0, f.eat-starting.ensures.1.1 e.if1.true, d.memreserve_arguments.ensures.1, a.directive_end.ensures.1), λ h. omega (arith, f.eat-starting.ensures.1.0, f.eat-starting.ensures.1.1 e.if1.true, d.memreserve_arguments.ensures.1, a.directive_end.ensures.1)))
+    (λ ask b. (c-started (of_kind K.MemreserveDirective) (f.eat_starting.ensures.0 ask b _ _) e.if1.true (c-seq (c-walk (d.memreserve_arguments.ensures.0 ask b)) c-any) (closing (a.directive_end.ensures.0 ask b))).is, (omega (arith, f.eat_starting.ensures.1.0, f.eat_starting.ensures.1.1 e.if1.true, d.memreserve_arguments.ensures.1, a.directive_end.ensures.1), λ h. omega (arith, f.eat_starting.ensures.1.0, f.eat_starting.ensures.1.1 e.if1.true, d.memreserve_arguments.ensures.1, a.directive_end.ensures.1)))
 
 eat-starting-requires-2 : tie.Need-eat-starting-requires-2
 eat-starting-requires-2 c κs = tt
@@ -63,7 +63,7 @@ same-length-4 c =
     let d = a.before.before.before.before.before.before.before.before.before.before.before in
     let e = d.before.before.before.before.before.before.before.before in
     let f = e.before.before.before.before.before.before in
-    omega (arith, f.eat-starting.auto, e.eat-starting2.auto, d.delete_arguments.auto, a.directive-end2.auto)
+    omega (arith, f.eat_starting.auto, e.eat-starting2.auto, d.delete_arguments.auto, a.directive-end2.auto)
 
 same-length-5 : tie.Need-same-length-5
 same-length-5 c =
@@ -71,7 +71,7 @@ same-length-5 c =
     let d = a.before.before.before.before.before.before.before.before.before.before.before in
     let e = d.before.before.before.before.before.before.before.before in
     let f = e.before.before.before.before.before.before in
-    omega (arith, f.eat-starting.auto, e.eat-starting2.auto, d.delete_arguments.auto, a.directive-end2.auto)
+    omega (arith, f.eat_starting.auto, e.eat-starting2.auto, d.delete_arguments.auto, a.directive-end2.auto)
 
 same-length-6 : tie.Need-same-length-6
 same-length-6 c =
@@ -79,7 +79,7 @@ same-length-6 c =
     let d = a.before.before.before.before.before.before.before.before.before.before.before in
     let e = d.before.before.before.before.before.before.before.before in
     let f = e.before.before.before.before.before.before in
-    omega (arith, f.eat-starting.auto, e.eat-starting2.auto, d.delete_arguments.auto, a.directive-end2.auto)
+    omega (arith, f.eat_starting.auto, e.eat-starting2.auto, d.delete_arguments.auto, a.directive-end2.auto)
 
 returns-2 : tie.Need-returns-2
 unfolding eat_starting◌inside◌else◌
@@ -90,13 +90,13 @@ returns-2 c =
     let f = e.before.before.before in
     let g = f.before.before.before in
     let i = g.before.before.before in
-    (λ ask b. (c-unstarted (of_kind K.MemreserveDirective) (i.eat-starting.ensures.0 ask b _ _) g.if1.false (c-started (set (K.DeleteNodeDirective ∷ K.DeletePropertyDirective ∷ [])) (f.eat-starting2.ensures.0 ask b _ _) e.if2.true (c-seq (c-walk (d.delete_arguments.ensures.0 ask b)) c-any) (closing (a.directive-end2.ensures.0 ask b)))).is, (omega (arith, i.eat-starting.ensures.1.0, f.eat-starting2.ensures.1.0, f.eat-starting2.ensures.1.1 e.if2.true, d.delete_arguments.ensures.1, a.directive-end2.ensures.1), λ h. omega (arith, i.eat-starting.ensures.1.0, f.eat-starting2.ensures.1.0, f.eat-starting2.ensures.1.1 e.if2.true, d.delete_arguments.ensures.1, a.directive-end2.ensures.1)))
+    (λ ask b. (c-unstarted (of_kind K.MemreserveDirective) (i.eat_starting.ensures.0 ask b _ _) g.if1.false (c-started (set (K.DeleteNodeDirective ∷ K.DeletePropertyDirective ∷ [])) (f.eat-starting2.ensures.0 ask b _ _) e.if2.true (c-seq (c-walk (d.delete_arguments.ensures.0 ask b)) c-any) (closing (a.directive-end2.ensures.0 ask b)))).is, (omega (arith, i.eat_starting.ensures.1.0, f.eat-starting2.ensures.1.0, f.eat-starting2.ensures.1.1 e.if2.true, d.delete_arguments.ensures.1, a.directive-end2.ensures.1), λ h. omega (arith, i.eat_starting.ensures.1.0, f.eat-starting2.ensures.1.0, f.eat-starting2.ensures.1.1 e.if2.true, d.delete_arguments.ensures.1, a.directive-end2.ensures.1)))
 
 same-length-7 : tie.Need-same-length-7
 same-length-7 c =
     let a = c.before.before.before.before in
     let d = a.before.before.before.before.before.before in
-    omega (arith, d.eat-starting.auto, a.eat-starting2.auto)
+    omega (arith, d.eat_starting.auto, a.eat-starting2.auto)
 
 returns-3 : tie.Need-returns-3
 unfolding eat_starting◌inside◌else◌
@@ -105,7 +105,7 @@ returns-3 c =
     let d = a.before.before.before in
     let e = d.before.before.before in
     let f = e.before.before.before in
-    (λ ask b. (c-unstarted (of_kind K.MemreserveDirective) (f.eat-starting.ensures.0 ask b _ _) e.if1.false (c-unstarted (set (K.DeleteNodeDirective ∷ K.DeletePropertyDirective ∷ [])) (d.eat-starting2.ensures.0 ask b _ _) a.if2.false c-ret)).is, (omega (arith, f.eat-starting.ensures.1.0, d.eat-starting2.ensures.1.0), λ h. absurd (false≢true h)))
+    (λ ask b. (c-unstarted (of_kind K.MemreserveDirective) (f.eat_starting.ensures.0 ask b _ _) e.if1.false (c-unstarted (set (K.DeleteNodeDirective ∷ K.DeletePropertyDirective ∷ [])) (d.eat-starting2.ensures.0 ask b _ _) a.if2.false c-ret)).is, (omega (arith, f.eat_starting.ensures.1.0, d.eat-starting2.ensures.1.0), λ h. absurd (false≢true h)))
 
 pub eat_directive_with_arguments_spec : {M : Type 1} → statement M
 eat_directive_with_arguments_spec = tie.close (tie.spec eat-starting-requires memreserve-arguments-requires directive-end-requires same_length same-length-2 same-length-3 returns eat-starting-requires-2 delete-arguments-requires directive-end-requires-2 same-length-4 same-length-5 same-length-6 returns-2 same-length-7 returns-3)

@@ -19,19 +19,19 @@ same_length : tie.Need-same-length
 same_length c =
     let a = c.before.before.before.before.before.before in
     let d = a.before.before.before.before.before.before.before.before in
-    omega (arith, d.eat-starting.auto, a.directive_end.auto)
+    omega (arith, d.eat_starting.auto, a.directive_end.auto)
 
 same-length-2 : tie.Need-same-length-2
 same-length-2 c =
     let a = c.before.before.before.before.before.before in
     let d = a.before.before.before.before.before.before.before.before in
-    omega (arith, d.eat-starting.auto, a.directive_end.auto)
+    omega (arith, d.eat_starting.auto, a.directive_end.auto)
 
 same-length-3 : tie.Need-same-length-3
 same-length-3 c =
     let a = c.before.before.before.before.before.before in
     let d = a.before.before.before.before.before.before.before.before in
-    omega (arith, d.eat-starting.auto, a.directive_end.auto)
+    omega (arith, d.eat_starting.auto, a.directive_end.auto)
 
 returns : tie.Need-returns
 unfolding eat_dts_directive eat_starting◌inside◌else◌
@@ -39,7 +39,7 @@ returns c =
     let a = c.before.before.before.before.before.before in
     let d = a.before.before.before.before.before in
     let e = d.before.before.before in
-    (λ ask b. (c-started (set (K.V1Directive ∷ K.PluginDirective ∷ [])) (e.eat-starting.ensures.0 ask b _ _) d.if1.true c-any (closing (a.directive_end.ensures.0 ask b))).is, (omega (arith, e.eat-starting.ensures.1.0, e.eat-starting.ensures.1.1 d.if1.true, a.directive_end.ensures.1), λ h. omega (arith, e.eat-starting.ensures.1.0, e.eat-starting.ensures.1.1 d.if1.true, a.directive_end.ensures.1)))
+    (λ ask b. (c-started (set (K.V1Directive ∷ K.PluginDirective ∷ [])) (e.eat_starting.ensures.0 ask b _ _) d.if1.true c-any (closing (a.directive_end.ensures.0 ask b))).is, (omega (arith, e.eat_starting.ensures.1.0, e.eat_starting.ensures.1.1 d.if1.true, a.directive_end.ensures.1), λ h. omega (arith, e.eat_starting.ensures.1.0, e.eat_starting.ensures.1.1 d.if1.true, a.directive_end.ensures.1)))
 
 eat-dts-include-requires : tie.Need-eat-dts-include-requires
 eat-dts-include-requires c κs = tt
@@ -48,19 +48,19 @@ same-length-4 : tie.Need-same-length-4
 same-length-4 c =
     let a = c.before.before.before.before.before.before.before in
     let d = a.before.before.before.before.before.before.before.before in
-    omega (arith, d.eat-starting.auto, a.eat_dts_include.auto)
+    omega (arith, d.eat_starting.auto, a.eat_dts_include.auto)
 
 same-length-5 : tie.Need-same-length-5
 same-length-5 c =
     let a = c.before.before.before.before.before.before.before in
     let d = a.before.before.before.before.before.before.before.before in
-    omega (arith, d.eat-starting.auto, a.eat_dts_include.auto)
+    omega (arith, d.eat_starting.auto, a.eat_dts_include.auto)
 
 same-length-6 : tie.Need-same-length-6
 same-length-6 c =
     let a = c.before.before.before.before.before.before.before in
     let d = a.before.before.before.before.before.before.before.before in
-    omega (arith, d.eat-starting.auto, a.eat_dts_include.auto)
+    omega (arith, d.eat_starting.auto, a.eat_dts_include.auto)
 
 returns-2 : tie.Need-returns-2
 unfolding eat_dts_directive eat_starting◌inside◌else◌
@@ -69,7 +69,7 @@ returns-2 c =
     let d = a.before.before.before.before.before.before.before in
     let e = d.before.before.before.before.before in
     let f = e.before.before.before in
-    (λ ask b. (c-unstarted (set (K.V1Directive ∷ K.PluginDirective ∷ [])) (f.eat-starting.ensures.0 ask b _ _) e.if1.false (c-yes (c-walk (d.eat_dts_include.ensures.0 ask b)) a.if2.true (c-ret-yes a.if2.true))).is, (omega (arith, f.eat-starting.ensures.1.0, d.eat_dts_include.ensures.1.0, d.eat_dts_include.ensures.1.1 a.if2.true), λ h. omega (arith, f.eat-starting.ensures.1.0, d.eat_dts_include.ensures.1.0, d.eat_dts_include.ensures.1.1 a.if2.true)))
+    (λ ask b. (c-unstarted (set (K.V1Directive ∷ K.PluginDirective ∷ [])) (f.eat_starting.ensures.0 ask b _ _) e.if1.false (c-yes (c-walk (d.eat_dts_include.ensures.0 ask b)) a.if2.true (c-ret-yes a.if2.true))).is, (omega (arith, f.eat_starting.ensures.1.0, d.eat_dts_include.ensures.1.0, d.eat_dts_include.ensures.1.1 a.if2.true), λ h. omega (arith, f.eat_starting.ensures.1.0, d.eat_dts_include.ensures.1.0, d.eat_dts_include.ensures.1.1 a.if2.true)))
 
 eat-directive-with-arguments-requires : tie.Need-eat-directive-with-arguments-requires
 eat-directive-with-arguments-requires c κs = tt
@@ -79,21 +79,21 @@ same-length-7 c =
     let a = c.before.before.before.before.before.before in
     let d = a.before.before.before.before.before.before.before.before.before.before.before.before in
     let e = d.before.before.before.before.before.before.before.before in
-    omega (arith, e.eat-starting.auto, d.eat_dts_include.auto, a.eat-directive-with-arguments.auto)
+    omega (arith, e.eat_starting.auto, d.eat_dts_include.auto, a.eat-directive-with-arguments.auto)
 
 same-length-8 : tie.Need-same-length-8
 same-length-8 c =
     let a = c.before.before.before.before.before.before in
     let d = a.before.before.before.before.before.before.before.before.before.before.before.before in
     let e = d.before.before.before.before.before.before.before.before in
-    omega (arith, e.eat-starting.auto, d.eat_dts_include.auto, a.eat-directive-with-arguments.auto)
+    omega (arith, e.eat_starting.auto, d.eat_dts_include.auto, a.eat-directive-with-arguments.auto)
 
 same-length-9 : tie.Need-same-length-9
 same-length-9 c =
     let a = c.before.before.before.before.before.before in
     let d = a.before.before.before.before.before.before.before.before.before.before.before.before in
     let e = d.before.before.before.before.before.before.before.before in
-    omega (arith, e.eat-starting.auto, d.eat_dts_include.auto, a.eat-directive-with-arguments.auto)
+    omega (arith, e.eat_starting.auto, d.eat_dts_include.auto, a.eat-directive-with-arguments.auto)
 
 returns-3 : tie.Need-returns-3
 unfolding eat_dts_directive eat_starting◌inside◌else◌
@@ -103,7 +103,7 @@ returns-3 c =
     let e = d.before.before.before.before.before.before.before in
     let f = e.before.before.before.before.before in
     let g = f.before.before.before in
-    (λ ask b. (c-unstarted (set (K.V1Directive ∷ K.PluginDirective ∷ [])) (g.eat-starting.ensures.0 ask b _ _) f.if1.false (c-no (c-walk (e.eat_dts_include.ensures.0 ask b)) d.if2.false (c-walk (a.eat-directive-with-arguments.ensures.0 ask b)))).is, (omega (arith, g.eat-starting.ensures.1.0, e.eat_dts_include.ensures.1.0, a.eat-directive-with-arguments.ensures.1.0), λ h. omega (arith, g.eat-starting.ensures.1.0, e.eat_dts_include.ensures.1.0, a.eat-directive-with-arguments.ensures.1.0, a.eat-directive-with-arguments.ensures.1.1 h)))
+    (λ ask b. (c-unstarted (set (K.V1Directive ∷ K.PluginDirective ∷ [])) (g.eat_starting.ensures.0 ask b _ _) f.if1.false (c-no (c-walk (e.eat_dts_include.ensures.0 ask b)) d.if2.false (c-walk (a.eat-directive-with-arguments.ensures.0 ask b)))).is, (omega (arith, g.eat_starting.ensures.1.0, e.eat_dts_include.ensures.1.0, a.eat-directive-with-arguments.ensures.1.0), λ h. omega (arith, g.eat_starting.ensures.1.0, e.eat_dts_include.ensures.1.0, a.eat-directive-with-arguments.ensures.1.0, a.eat-directive-with-arguments.ensures.1.1 h)))
 
 pub eat_dts_directive_spec : {M : Type 1} → statement M
 eat_dts_directive_spec = tie.close (tie.spec eat-starting-requires directive-end-requires same_length same-length-2 same-length-3 returns eat-dts-include-requires same-length-4 same-length-5 same-length-6 returns-2 eat-directive-with-arguments-requires same-length-7 same-length-8 same-length-9 returns-3)

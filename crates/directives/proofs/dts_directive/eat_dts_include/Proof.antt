@@ -30,21 +30,21 @@ same_length c =
     let a = c.before.before in
     let d = a.before.before.before.before.before.before.before.before in
     let e = d.before.before.before.before.before.before.before.before in
-    omega (arith, e.eat-starting.auto, d.expect.auto, a.complete.auto)
+    omega (arith, e.eat_starting.auto, d.expect.auto, a.complete.auto)
 
 same-length-2 : tie.Need-same-length-2
 same-length-2 c =
     let a = c.before.before in
     let d = a.before.before.before.before.before.before.before.before in
     let e = d.before.before.before.before.before.before.before.before in
-    omega (arith, e.eat-starting.auto, d.expect.auto, a.complete.auto)
+    omega (arith, e.eat_starting.auto, d.expect.auto, a.complete.auto)
 
 same-length-3 : tie.Need-same-length-3
 same-length-3 c =
     let a = c.before.before in
     let d = a.before.before.before.before.before.before.before.before in
     let e = d.before.before.before.before.before.before.before.before in
-    omega (arith, e.eat-starting.auto, d.expect.auto, a.complete.auto)
+    omega (arith, e.eat_starting.auto, d.expect.auto, a.complete.auto)
 
 returns : tie.Need-returns
 unfolding eat_dts_include eat_starting◌inside◌else◌
@@ -54,19 +54,19 @@ returns c =
     let e = d.before.before.before.before.before in
     let f = e.before.before.before in
     let s = f.before.before.before.before.before.before.before in
-    (λ ask b. (c-started (of_kind K.DtIncludeDirective) (f.eat-starting.ensures.0 ask b _ _) e.if1.true (c-seq (c-walk (d.expect.ensures.0 ask b)) c-ret) (completed (a.complete.ensures.0 _ _ _))).is, (omega (arith, f.eat-starting.ensures.1.0, f.eat-starting.ensures.1.1 e.if1.true, d.expect.ensures.1.0, a.complete.ensures.1 s.args.tokens.now), λ h. omega (arith, f.eat-starting.ensures.1.0, f.eat-starting.ensures.1.1 e.if1.true, d.expect.ensures.1.0, a.complete.ensures.1 s.args.tokens.now, some_left s.args.tokens.now s.args.s (starting-some (λ (r : Rule) (m : Machine). said no m) (tokens_of s.args.tokens.now) unlabelled K.DtIncludeDirective _ _ _ f.eat-starting.result.yes (few_rows s.args.tokens.now (omega arith)) (f.eat-starting.ensures.0 (λ (r : Rule) (m : Machine). said no m) unlabelled [] []) e.if1.true))))
+    (λ ask b. (c-started (of_kind K.DtIncludeDirective) (f.eat_starting.ensures.0 ask b _ _) e.if1.true (c-seq (c-walk (d.expect.ensures.0 ask b)) c-ret) (completed (a.complete.ensures.0 _ _ _))).is, (omega (arith, f.eat_starting.ensures.1.0, f.eat_starting.ensures.1.1 e.if1.true, d.expect.ensures.1.0, a.complete.ensures.1 s.args.tokens.now), λ h. omega (arith, f.eat_starting.ensures.1.0, f.eat_starting.ensures.1.1 e.if1.true, d.expect.ensures.1.0, a.complete.ensures.1 s.args.tokens.now, some_left s.args.tokens.now s.args.s (starting-some (λ (r : Rule) (m : Machine). said no m) (tokens_of s.args.tokens.now) unlabelled K.DtIncludeDirective _ _ _ f.eat_starting.result.yes (few_rows s.args.tokens.now (omega arith)) (f.eat_starting.ensures.0 (λ (r : Rule) (m : Machine). said no m) unlabelled [] []) e.if1.true))))
 
 same-length-4 : tie.Need-same-length-4
 same-length-4 c =
     let a = c.before.before.before.before in
-    omega (arith, a.eat-starting.auto)
+    omega (arith, a.eat_starting.auto)
 
 returns-2 : tie.Need-returns-2
 unfolding eat_dts_include eat_starting◌inside◌else◌
 returns-2 c =
     let a = c.before in
     let d = a.before.before.before in
-    (λ ask b. (c-unstarted (of_kind K.DtIncludeDirective) (d.eat-starting.ensures.0 ask b _ _) a.if1.false c-ret).is, (omega (arith, d.eat-starting.ensures.1.0), λ h. absurd (false≢true h)))
+    (λ ask b. (c-unstarted (of_kind K.DtIncludeDirective) (d.eat_starting.ensures.0 ask b _ _) a.if1.false c-ret).is, (omega (arith, d.eat_starting.ensures.1.0), λ h. absurd (false≢true h)))
 
 pub eat_dts_include_spec : {M : Type 1} → statement M
 eat_dts_include_spec = tie.close (tie.spec eat-starting-requires expect-requires complete-requires same_length same-length-2 same-length-3 returns same-length-4 returns-2)
