@@ -80,27 +80,27 @@ ternary_powers k e = let i = sym (eqb-true k K.QuestionMark e) in (ap left_of i,
 
 -- a kind that is not the ternary's, and its level
 module _ (k n : ℕ) (small : k < 256) (other : eqb k K.QuestionMark ≡ false) (e : n ≡ level_in binary_levels k) where
-  not-ternary : one_of (K.QuestionMark ∷ []) k ≡ false
+  not_ternary : one_of (K.QuestionMark ∷ []) k ≡ false
   unfolding one_of
-  not-ternary = ap (λ (b : Bool). cond b true false) (ne_eqb K.QuestionMark k (λ i. eqb-false k K.QuestionMark other (sym i)))
+  not_ternary = ap (λ (b : Bool). cond b true false) (ne_eqb K.QuestionMark k (λ i. eqb-false k K.QuestionMark other (sym i)))
 
-  from-level : (t : ℕ) (power : ℕ → ℕ) → worked_out power n ≡ cond (one_of (K.QuestionMark ∷ []) k) t (worked_out power (level_in binary_levels k))
-  from-level t power =
-      ap (worked_out power) e ∙ ap (λ (b : Bool). cond b t (worked_out power (level_in binary_levels k))) (sym not-ternary)
+  from_level : (t : ℕ) (power : ℕ → ℕ) → worked_out power n ≡ cond (one_of (K.QuestionMark ∷ []) k) t (worked_out power (level_in binary_levels k))
+  from_level t power =
+      ap (worked_out power) e ∙ ap (λ (b : Bool). cond b t (worked_out power (level_in binary_levels k))) (sym not_ternary)
 
-  binary-level : cond (eqb n 0) false true ≡ is_binary k
+  binary_level : cond (eqb n 0) false true ≡ is_binary k
   unfolding binary
-  binary-level =
+  binary_level =
       ap (λ (n : ℕ). cond (eqb n 0) false true) e
       ∙ sym (same_true (is_binary k) (cond (eqb (level_in binary_levels k) 0) false true) (at_below binary 256 k all_binary small))
 
   -- by the outcome of the test for 0
-  pub level-powers : (none : Bool) → eqb n 0 ≡ none → PowersAre k (cond none 0 (left_power n)) (cond none 0 (right_power n)) (cond none false true)
+  pub level_powers : (none : Bool) → eqb n 0 ≡ none → PowersAre k (cond none 0 (left_power n)) (cond none 0 (right_power n)) (cond none false true)
   unfolding left_of right_of
-  level-powers none z = (
-    ap (λ (b : Bool). cond b 0 (left_power n)) (sym z) ∙ from-level 2 left_power,
+  level_powers none z = (
+    ap (λ (b : Bool). cond b 0 (left_power n)) (sym z) ∙ from_level 2 left_power,
     (
-      ap (λ (b : Bool). cond b 0 (right_power n)) (sym z) ∙ from-level 1 right_power,
-      ap (λ (b : Bool). cond b false true) (sym z) ∙ binary-level,
+      ap (λ (b : Bool). cond b 0 (right_power n)) (sym z) ∙ from_level 1 right_power,
+      ap (λ (b : Bool). cond b false true) (sym z) ∙ binary_level,
     ),
   )

@@ -18,7 +18,7 @@ use Rattle.definitions.specs.Run.{makes, taken, exec, run}
 use Rattle.basics.proofs.Tests.{and_left, and_right}
 use Rattle.bounds.proofs.Row.{Key, still, there, took, Row, get}
 use Rattle.bounds.proofs.Cost.{Price, Bill, here, side, bill, keys, every, within, meets, refuses, keeps, ends}
-use Rattle.bounds.proofs.Paid.{counted, cost, Fits, widen, weaken, here-paid, Sound}
+use Rattle.bounds.proofs.Paid.{counted, cost, Fits, widen, weaken, here_paid, Sound}
 use Rattle.bounds.proofs.CostSound.{exec_fits}
 use Rattle.bounds.proofs.CostActs.{acts}
 
@@ -53,14 +53,14 @@ module _ (w : Price) (one : 1 ≤ w.base) (worth : w.leaf ≤ w.credit) where
 
     pub run_fits : (n : ℕ) (r : Rule) → Sound w (t r) (run n r)
     unfolding run makes cost
-    run_fits zero r d s k = record { key = here d; paid = weaken w (refused r d) (here-paid w d s one k) }
+    run_fits zero r d s k = record { key = here d; paid = weaken w (refused r d) (here_paid w d s one k) }
     run_fits (suc n) r d s k =
         widen w (sides r d (exec (run n) no_label (grammar r) s).ans)
         (exec_fits w one t (run n) (acts w one worth t) (run_fits n) (grammar r) (and_left _ (within (bill w t (grammar r)).cold (t r).cold && within (bill w t (grammar r)).warm (t r).warm) (and_right (refuses w (t r)) _ (H r))) no_label d s k)
 
-    pub entry-cost : (v : ℕ) (e : Entry) → ends v (bill w t (whole e)) ≡ true → (ts : List Token) → cost w (run_entry e ts) + w.base ≤ v + w.credit * length ts
+    pub entry_cost : (v : ℕ) (e : Entry) → ends v (bill w t (whole e)) ≡ true → (ts : List Token) → cost w (run_entry e ts) + w.base ≤ v + w.credit * length ts
     unfolding run_entry
-    entry-cost v e h ts =
+    entry_cost v e h ts =
         let o = exec (run MOST_OPEN_CALLS) no_label (whole e) (taken ts) in
         let f : Fits w (get (bill w t (whole e)).cold o.ans) (taken ts) o.state (cost w o.made) = exec_fits w one t (run MOST_OPEN_CALLS) (acts w one worth t) (run_fits MOST_OPEN_CALLS) (whole e) (and_left _ (every (λ a κ. leb (get (bill w t (whole e)).cold a κ) v)) h) no_label false (taken ts) tt in
         let c : get (bill w t (whole e)).cold o.ans f.key ≤ v = leb-true _ _ (every_all (λ a κ. leb (get (bill w t (whole e)).cold a κ) v) (and_right (bill w t (whole e)).ok _ h) o.ans f.key) in

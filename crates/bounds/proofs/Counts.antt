@@ -14,7 +14,7 @@ use Rattle.laws.specs.Pushes.{event_count}
 use Rattle.laws.proofs.Skeleton.{event_count_append, reports_append}
 use Rattle.bounds.proofs.Tables as T
 use Rattle.bounds.proofs.Paid.{cost}
-use Rattle.bounds.proofs.CostRuns.{entry-cost}
+use Rattle.bounds.proofs.CostRuns.{entry_cost}
 
 one : (c : T.Count) → 1 ≤ (T.price c).base
 one T.events = omega arith
@@ -29,7 +29,7 @@ worth T.nodes = omega arith
 -- AT MOST SO MANY A TOKEN, for every entry and every list of tokens
 pub counted : (c : T.Count) (e : Entry) (ts : List Token) → cost (T.price c) (run_entry e ts) ≤ (T.price c).credit * length ts + T.extra c
 counted c e ts =
-    let h : cost (T.price c) (run_entry e ts) + (T.price c).base ≤ (T.price c).base + T.extra c + (T.price c).credit * length ts = entry-cost (T.price c) (one c) (worth c) (T.table c) (T.kept c) ((T.price c).base + T.extra c) e (T.ended c e) ts in
+    let h : cost (T.price c) (run_entry e ts) + (T.price c).base ≤ (T.price c).base + T.extra c + (T.price c).credit * length ts = entry_cost (T.price c) (one c) (worth c) (T.table c) (T.kept c) ((T.price c).base + T.extra c) e (T.ended c e) ts in
     omega arith
 
 -- ---------------------------------------------------------------- what the counts count

@@ -35,10 +35,10 @@ use Rattle.bounds.proofs.Pools.{entry_listed, few_expected, pool_below}
 use Rattle.bounds.proofs.Codes.{CODES, below_append}
 use Rattle.bounds.proofs.CodedRuns.{entry_coded}
 use Rattle.bounds.proofs.Events.{events_fit}
-use Rattle.bounds.proofs.TreeRows.{Kinded, tree, few_rows, few_children, rows-below}
-use Rattle.bounds.proofs.Written.{below_wider, below_zeros, AllCoded, coded_left, reports_coded, report-numbers-below, errors_most, errors_below}
-use Rattle.bounds.proofs.Places.{number_small, Placed, input_placed, Stopped, scan-stopped}
-use Rattle.bounds.proofs.StrictNames.{few-names, names-within, name_numbers_below, names_placed}
+use Rattle.bounds.proofs.TreeRows.{Kinded, tree, few_rows, few_children, rows_below}
+use Rattle.bounds.proofs.Written.{below_wider, below_zeros, AllCoded, coded_left, reports_coded, report_numbers_below, errors_most, errors_below}
+use Rattle.bounds.proofs.Places.{number_small, Placed, input_placed, Stopped, scan_stopped}
+use Rattle.bounds.proofs.StrictNames.{few_names, names_within, name_numbers_below, names_placed}
 use Rattle.laws.proofs.ReportNumbers.{report_numbers_length, name_numbers_length}
 
 -- ---------------------------------------------------------------- a run
@@ -47,33 +47,33 @@ module _ (e : Entry) (ts : List Token) where
   abbrev o : Skeleton
   o = run_entry e ts
 
-  pub few-events : length (events false o) ≤ most_events (length ts)
-  few-events = omega (arith, events_length false o, events_cost o, counted T.events e ts)
+  pub few_events : length (events false o) ≤ most_events (length ts)
+  few_events = omega (arith, events_length false o, events_cost o, counted T.events e ts)
 
-  few-pushed : (l m : List Push) → pushes o ≡ l ++ m → event_count l ≤ most_events (length ts)
-  few-pushed l m h = omega (arith, ap event_count h ∙ event_count_append l m, events_cost o, counted T.events e ts)
+  few_pushed : (l m : List Push) → pushes o ≡ l ++ m → event_count l ≤ most_events (length ts)
+  few_pushed l m h = omega (arith, ap event_count h ∙ event_count_append l m, events_cost o, counted T.events e ts)
 
-  few-reported : (l m : List Push) → pushes o ≡ l ++ m → length (reports l) ≤ most_reports (length ts)
-  few-reported l m h =
+  few_reported : (l m : List Push) → pushes o ≡ l ++ m → length (reports l) ≤ most_reports (length ts)
+  few_reported l m h =
       let j : length (reports (pushes o)) ≡ length (reports l) + length (reports m) = ap (λ (x : List Push). length (reports x)) h ∙ simp (reports_append, length-append) in
       omega (arith, reports_cost o, counted T.reports e ts)
 
-  few-pool : (l m : List Push) → pushes o ≡ l ++ m → length (pool (reports l)) ≤ most_expectations (length ts)
-  few-pool l m h = omega (arith, few_expected (reports l) (entry_listed e ts l m h), few-reported l m h)
+  few_pool : (l m : List Push) → pushes o ≡ l ++ m → length (pool (reports l)) ≤ most_expectations (length ts)
+  few_pool l m h = omega (arith, few_expected (reports l) (entry_listed e ts l m h), few_reported l m h)
 
   -- A RUN IS BOUNDED
   pub bounded : Bounded e ts
   bounded =
       record {
-        all_events = few-events;
-        distances = events_fit (most_events (length ts)) (length ts) false o ts (entry_coded e ts) ((entry_reads e ts).reads ts refl) (le_refl _) few-events;
-        events_so_far = few-pushed;
-        reports_so_far = few-reported;
-        pool_so_far = few-pool;
+        all_events = few_events;
+        distances = events_fit (most_events (length ts)) (length ts) false o ts (entry_coded e ts) ((entry_reads e ts).reads ts refl) (le_refl _) few_events;
+        events_so_far = few_pushed;
+        reports_so_far = few_reported;
+        pool_so_far = few_pool;
         tree_rows = omega (arith, rows_length (tree e ts) 0 0, few_rows e ts);
         counts = few_children e ts;
-        names = λ setting bytes. omega (arith, few-names setting e bytes ts);
-        names_inside = λ setting bytes. names-within setting e bytes ts;
+        names = λ setting bytes. omega (arith, few_names setting e bytes ts);
+        names_inside = λ setting bytes. names_within setting e bytes ts;
       }
 
 pub runs_bounded : RunsBounded
@@ -104,15 +104,15 @@ pub so_far : WordsSoFar
 so_far e ts w l m h =
     let n : length ts ≤ MOST_TOKENS = w.tokens in
     let i : byte_count ts ≤ MOST_BYTES = w.input in
-    let a : event_count l ≤ most_events (length ts) = few-pushed e ts l m h in
-    let b : length (reports l) ≤ most_reports (length ts) = few-reported e ts l m h in
-    let p : length (pool (reports l)) ≤ most_expectations (length ts) = few-pool e ts l m h in
+    let a : event_count l ≤ most_events (length ts) = few_pushed e ts l m h in
+    let b : length (reports l) ≤ most_reports (length ts) = few_reported e ts l m h in
+    let p : length (pool (reports l)) ≤ most_expectations (length ts) = few_pool e ts l m h in
     let r : AllCoded (reports l) = coded_left (reports l) (reports m) (subst AllCoded (ap reports h ∙ reports_append l m) (reports_coded (run_entry e ts) (entry_coded e ts))) in
     record {
       events_written = omega arith;
       reports_written = omega arith;
       pool_written = omega arith;
-      report_words = report-numbers-below TWO_TO_32 (length ts) (byte_count ts) (omega arith) (omega arith) (omega arith) 0 (reports l) r (omega arith);
+      report_words = report_numbers_below TWO_TO_32 (length ts) (byte_count ts) (omega arith) (omega arith) (omega arith) 0 (reports l) r (omega arith);
       pool_words = below_wider CODES TWO_TO_32 (pool (reports l)) (omega arith) (pool_below (reports l) (entry_listed e ts l m h));
     }
 
@@ -126,21 +126,21 @@ module _ (setting : ℕ) (e : Entry) (bytes : List ℕ) (ts : List Token) (limit
   judged = name_numbers (length (pool (reports (pushes (run_entry e ts))))) (names_of setting e bytes ts)
 
   -- how many numbers they are
-  few-report-numbers : length (reported ++ judged) < TWO_TO_32
-  few-report-numbers =
+  few_report_numbers : length (reported ++ judged) < TWO_TO_32
+  few_report_numbers =
       let n : length ts ≤ MOST_TOKENS = limits.tokens in
       omega (
         arith,
         length-append reported judged,
         report_numbers_length (length ts) (byte_count ts) 0 (reports (pushes (run_entry e ts))),
-        few-reported e ts (pushes (run_entry e ts)) [] (sym (append-nil (pushes (run_entry e ts)))),
+        few_reported e ts (pushes (run_entry e ts)) [] (sym (append-nil (pushes (run_entry e ts)))),
         name_numbers_length (length (pool (reports (pushes (run_entry e ts))))) (names_of setting e bytes ts),
-        few-names setting e bytes ts,
+        few_names setting e bytes ts,
       )
 
-  pub sheets-fit : (b : Buffers) → Fits (kept (sheets e ts (run_entry e ts) (names_of setting e bytes ts)) b)
+  pub sheets_fit : (b : Buffers) → Fits (kept (sheets e ts (run_entry e ts) (names_of setting e bytes ts)) b)
   unfolding sheets
-  sheets-fit b =
+  sheets_fit b =
       let l = reports (pushes (run_entry e ts)) in
       let x = lexical_errors 0 ts in
       let n : length ts ≤ MOST_TOKENS = limits.tokens in
@@ -154,17 +154,17 @@ module _ (setting : ℕ) (e : Entry) (bytes : List ℕ) (ts : List Token) (limit
               place = omega arith;
               tree_count = omega (arith, div-le_self (length (rows (tree e ts))) TREE_ROW);
               error_count = omega (arith, errors_most 0 ts, div-le_self (length x) ERROR_ROW);
-              report_count = omega (arith, few-report-numbers, div-le_self (length (reported ++ judged)) REPORT_ROW);
+              report_count = omega (arith, few_report_numbers, div-le_self (length (reported ++ judged)) REPORT_ROW);
               expectation_count = s.pool_written;
             };
         buffers =
             record {
               events = below_zeros TWO_TO_32 (length b.events) (omega arith);
-              trees = below_written (rows (tree e ts)) b.trees (rows-below TWO_TO_32 (omega arith) e ts k (omega arith) (omega arith) (omega arith));
+              trees = below_written (rows (tree e ts)) b.trees (rows_below TWO_TO_32 (omega arith) e ts k (omega arith) (omega arith) (omega arith));
               errors = below_written x b.errors (errors_below TWO_TO_32 0 ts (omega arith) k (omega arith));
               reports =
                   below_written (reported ++ judged) b.reports
-                  (below_append TWO_TO_32 reported judged s.report_words (name_numbers_below TWO_TO_32 (length ts) (byte_count ts) (length (pool l)) (names_of setting e bytes ts) (omega arith) (omega arith) (omega arith) s.pool_written (names-within setting e bytes ts)));
+                  (below_append TWO_TO_32 reported judged s.report_words (name_numbers_below TWO_TO_32 (length ts) (byte_count ts) (length (pool l)) (names_of setting e bytes ts) (omega arith) (omega arith) (omega arith) s.pool_written (names_within setting e bytes ts)));
               pool = below_written (pool l) b.pool s.pool_words;
             };
       }
@@ -187,31 +187,31 @@ module _ (setting : ℕ) (bytes tokens : List ℕ) (b : Buffers) (w : Words b) w
       let i : Checked bytes tokens = checked_input bytes tokens a in
       let s : Sheets = sheets e (tokens_of tokens) (run_entry e (tokens_of tokens)) (names_of setting e bytes (tokens_of tokens)) in
       cond-all Fits (leb (length s.trees) (length b.trees) && leb (length s.errors) (length b.errors))
-      (sheets-fit setting e bytes (tokens_of tokens) (record { tokens = omega (arith, i.pairs, i.numbers_limit); input = omega (arith, i.covered, i.bytes_limit) }) (good_kinded (tokens_of tokens) i.good) b)
+      (sheets_fit setting e bytes (tokens_of tokens) (record { tokens = omega (arith, i.pairs, i.numbers_limit); input = omega (arith, i.covered, i.bytes_limit) }) (good_kinded (tokens_of tokens) i.good) b)
       (cleared_fits no_tree_room b (omega arith))
 
-  parse-fits : (e : Entry) → check_input bytes tokens ≡ accepted → (f : Fit) → scan (pushes (run_entry e (tokens_of tokens))) (room_of b) ≡ f
+  parse_fits : (e : Entry) → check_input bytes tokens ≡ accepted → (f : Fit) → scan (pushes (run_entry e (tokens_of tokens))) (room_of b) ≡ f
       → Fits (outcome f e (tokens_of tokens) (run_entry e (tokens_of tokens)) (names_of setting e bytes (tokens_of tokens)) b)
   unfolding outcome place_of
-  parse-fits e a (stops r) q =
+  parse_fits e a (stops r) q =
       let i : Checked bytes tokens = checked_input bytes tokens a in
-      let s : place_of (forward_mark (length (tokens_of tokens)) r) ≤ length (tokens_of tokens) = subst (Stopped (length (tokens_of tokens))) q (scan-stopped (length (tokens_of tokens)) (pushes (run_entry e (tokens_of tokens))) (room_of b)) in
+      let s : place_of (forward_mark (length (tokens_of tokens)) r) ≤ length (tokens_of tokens) = subst (Stopped (length (tokens_of tokens))) q (scan_stopped (length (tokens_of tokens)) (pushes (run_entry e (tokens_of tokens))) (room_of b)) in
       cleared_fits (forward_mark (length (tokens_of tokens)) r) b (omega (arith, i.pairs, i.numbers_limit))
-  parse-fits e a (fits z) q =
+  parse_fits e a (fits z) q =
       names_fitted e a (names_fit z.reports (names_of setting e bytes (tokens_of tokens)))
-      (names_placed (length (tokens_of tokens)) (byte_count (tokens_of tokens)) z.reports (names_of setting e bytes (tokens_of tokens)) (names-within setting e bytes (tokens_of tokens)))
+      (names_placed (length (tokens_of tokens)) (byte_count (tokens_of tokens)) z.reports (names_of setting e bytes (tokens_of tokens)) (names_within setting e bytes (tokens_of tokens)))
 
-  checked-fits : (e : Entry) (v : Verdict) → check_input bytes tokens ≡ v → Fits (checked v e setting bytes tokens b)
+  checked_fits : (e : Entry) (v : Verdict) → check_input bytes tokens ≡ v → Fits (checked v e setting bytes tokens b)
   unfolding checked parse
-  checked-fits e accepted a = parse-fits e a _ refl
-  checked-fits e (refused r) a = let p : place_of r ≤ MOST_TOKEN_NUMBERS = subst (Placed MOST_TOKEN_NUMBERS) a (input_placed bytes tokens) in record { answer = refusal_fits r (omega arith); buffers = w }
+  checked_fits e accepted a = parse_fits e a _ refl
+  checked_fits e (refused r) a = let p : place_of r ≤ MOST_TOKEN_NUMBERS = subst (Placed MOST_TOKEN_NUMBERS) a (input_placed bytes tokens) in record { answer = refusal_fits r (omega arith); buffers = w }
 
-  asked-fits : (x : Asked) → Fits (asked x setting bytes tokens b)
+  asked_fits : (x : Asked) → Fits (asked x setting bytes tokens b)
   unfolding asked place_of
-  asked-fits unknown = record { answer = refusal_fits unknown_entry (omega arith); buffers = w }
-  asked-fits (for e) = checked-fits e (check_input bytes tokens) refl
+  asked_fits unknown = record { answer = refusal_fits unknown_entry (omega arith); buffers = w }
+  asked_fits (for e) = checked_fits e (check_input bytes tokens) refl
 
 -- NUMBERS FIT
 pub numbers_fit : NumbersFit
 unfolding call
-numbers_fit n setting bytes tokens b w = asked-fits setting bytes tokens b w (entry_of n)
+numbers_fit n setting bytes tokens b w = asked_fits setting bytes tokens b w (entry_of n)

@@ -12,7 +12,7 @@ use Rattle.definitions.specs.Prog.{Ans}
 use Rattle.definitions.specs.Run.{State, Out, closed}
 use Rattle.bounds.proofs.Row.{Key, still, there, took, Row, get, glue, lift, at, ◌⊔◌, raise, then}
 use Rattle.bounds.proofs.Cost.{Price, Bill, here, side}
-use Rattle.bounds.proofs.RowLaws.{get_tab, least_left, least_right, pick_top, at_self, glue_can, glue_pays, lift_pays, then-still, then-there, then-took}
+use Rattle.bounds.proofs.RowLaws.{get_tab, least_left, least_right, pick_top, at_self, glue_can, glue_pays, lift_pays, then_still, then_there, then_took}
 
 -- ---------------------------------------------------------------- what a key says
 
@@ -84,10 +84,10 @@ cost_join w (report r p) q = let h : cost w (p ⧺ q) ≡ cost w p + cost w q = 
 cost_join w (over m p) q = cost_join w p q
 
 module _ (w : Price) where
-  pub closed-cost : (k m m' : ℕ) (a i : Skeleton) → cost w (closed k m m' a i) ≡ w.marker + (cost w a + cost w i)
+  pub closed_cost : (k m m' : ℕ) (a i : Skeleton) → cost w (closed k m m' a i) ≡ w.marker + (cost w a + cost w i)
   unfolding closed cost
-  closed-cost zero m m' a i = omega arith
-  closed-cost (suc k) m m' a i = omega arith
+  closed_cost zero m m' a i = omega arith
+  closed_cost (suc k) m m' a i = omega arith
 
   -- n was paid on the way from s₀ to s, at the key κ and the number v
   pub record Paid (κ : Key) (v : ℕ) (s₀ s : State) (n : ℕ) : Type 0 where
@@ -132,13 +132,13 @@ module _ (w : Price) where
   pub or_right : (f g : Row) (a : Ans) {s₀ s : State} {n : ℕ} → Fits (get g a) s₀ s n → Fits (get (f ⊔ g) a) s₀ s n
   or_right f g a h = widen (least_right f g a) h
 
-  pub fits-at : (a : Ans) {κ : Key} {v : ℕ} {s₀ s : State} {n : ℕ} → Paid κ v s₀ s n → Fits (get (at a κ v) a) s₀ s n
-  fits-at a {κ} {v} p = record { key = κ; paid = rw (at_self a κ v) p }
+  pub fits_at : (a : Ans) {κ : Key} {v : ℕ} {s₀ s : State} {n : ℕ} → Paid κ v s₀ s n → Fits (get (at a κ v) a) s₀ s n
+  fits_at a {κ} {v} p = record { key = κ; paid = rw (at_self a κ v) p }
 
   -- a whole that costs at most r more
-  pub raise-fits : (r : ℕ) (f : Row) (a : Ans) {s₀ s : State} {n n' : ℕ} → n' ≤ r + n → Fits (get f a) s₀ s n → Fits (get (raise r f) a) s₀ s n'
+  pub raise_fits : (r : ℕ) (f : Row) (a : Ans) {s₀ s : State} {n n' : ℕ} → n' ≤ r + n → Fits (get f a) s₀ s n → Fits (get (raise r f) a) s₀ s n'
   unfolding raise
-  raise-fits r f a {s₀} {s} {n} {n'} h g =
+  raise_fits r f a {s₀} {s} {n} {n'} h g =
       let p = g.paid in
       let l = lift_pays r (get f a g.key) n n' w.base (w.credit * counted g.key p.steps) p.can p.enough h in
       record { key = g.key; paid = rw (get_tab (λ b κ. lift r (get f b κ)) a g.key) (record { steps = p.steps; left = p.left; holds = p.holds; can = l.0; enough = l.1 }) }
@@ -153,15 +153,15 @@ module _ (w : Price) where
   Sound q Q = (d : Bool) (s : State) → Known d s → Fits (get (side q d) (Q s).ans) s (Q s).state (cost w (Q s).made)
 
   pub then_at : (j : Key) (x : Key → ℕ) (q : Bill) (a : Ans) {s₀ s s' : State} {n n' : ℕ} → Paid j (x j) s₀ s n → Goes q a s s' n' → Fits (get (then w.base (x still) (x there) (x took) q.cold q.warm) a) s₀ s' (n + n')
-  then_at still x q a p g = let f = g false tt in record { key = f.key; paid = weaken (then-still w.base _ _ _ q.cold q.warm a f.key) (after p f.paid) }
-  then_at there x q a p g = let f = g true p.holds in record { key = f.key; paid = weaken (then-there w.base _ _ _ q.cold q.warm a f.key) (after p f.paid) }
+  then_at still x q a p g = let f = g false tt in record { key = f.key; paid = weaken (then_still w.base _ _ _ q.cold q.warm a f.key) (after p f.paid) }
+  then_at there x q a p g = let f = g true p.holds in record { key = f.key; paid = weaken (then_there w.base _ _ _ q.cold q.warm a f.key) (after p f.paid) }
   then_at took x q a p g =
       let f = g false tt in
-      record { key = took; paid = weaken (then-took w.base _ _ _ q.cold q.warm a) (after p (weaken (pick_top (get q.cold a) f.key) f.paid)) }
+      record { key = took; paid = weaken (then_took w.base _ _ _ q.cold q.warm a) (after p (weaken (pick_top (get q.cold a) f.key) f.paid)) }
 
-  pub then-fits : (x : Key → ℕ) (q : Bill) (a : Ans) {s₀ s s' : State} {n n' : ℕ} → Fits x s₀ s n → Goes q a s s' n' → Fits (get (then w.base (x still) (x there) (x took) q.cold q.warm) a) s₀ s' (n + n')
-  then-fits x q a f g = then_at f.key x q a f.paid g
+  pub then_fits : (x : Key → ℕ) (q : Bill) (a : Ans) {s₀ s s' : State} {n n' : ℕ} → Fits x s₀ s n → Goes q a s s' n' → Fits (get (then w.base (x still) (x there) (x took) q.cold q.warm) a) s₀ s' (n + n')
+  then_fits x q a f g = then_at f.key x q a f.paid g
 
-  pub here-paid : (d : Bool) (s : State) → 1 ≤ w.base → Known d s → Paid (here d) w.base s s 0
-  here-paid false s b k = record { steps = 0; left = omega arith; holds = tt; can = b; enough = omega arith }
-  here-paid true s b k = record { steps = 0; left = omega arith; holds = k; can = b; enough = omega arith }
+  pub here_paid : (d : Bool) (s : State) → 1 ≤ w.base → Known d s → Paid (here d) w.base s s 0
+  here_paid false s b k = record { steps = 0; left = omega arith; holds = tt; can = b; enough = omega arith }
+  here_paid true s b k = record { steps = 0; left = omega arith; holds = k; can = b; enough = omega arith }

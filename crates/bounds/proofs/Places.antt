@@ -100,22 +100,22 @@ Stopped n (fits z) = Unit {0}
 Stopped n (stops r) = place_of (forward_mark n r) ≤ n
 
 module _ (n : ℕ) where
-  event-stopped : (m e r p : ℕ) (k : Room → Fit) → ((z : Room) → Stopped n (k z)) → Stopped n (one_event m e r p k)
+  event_stopped : (m e r p : ℕ) (k : Room → Fit) → ((z : Room) → Stopped n (k z)) → Stopped n (one_event m e r p k)
   unfolding one_event forward_mark place_of
-  event-stopped m zero r p k h = omega arith
-  event-stopped m (suc e) r p k h = h _
+  event_stopped m zero r p k h = omega arith
+  event_stopped m (suc e) r p k h = h _
 
-  report-stopped : (m c e r p : ℕ) (k : Room → Fit) → ((z : Room) → Stopped n (k z)) → Stopped n (one_report m c e r p k)
+  report_stopped : (m c e r p : ℕ) (k : Room → Fit) → ((z : Room) → Stopped n (k z)) → Stopped n (one_report m c e r p k)
   unfolding one_report forward_mark place_of
-  report-stopped m c e zero p k h = omega arith
-  report-stopped m c e (suc r) p k h =
+  report_stopped m c e zero p k h = omega arith
+  report_stopped m c e (suc r) p k h =
       cond-all (Stopped n) (leb c p) {x = k (record { events = e; reports = r; pool = p - c })} {y = stops (no_report_room m)} (h _) (omega arith)
 
-  pub scan-stopped : (l : List Push) (z : Room) → Stopped n (scan l z)
+  pub scan_stopped : (l : List Push) (z : Room) → Stopped n (scan l z)
   unfolding scan forward_mark place_of
-  scan-stopped [] z = tt
-  scan-stopped (event m ∷ l) z = event-stopped m z.events z.reports z.pool (scan l) (scan-stopped l)
-  scan-stopped (reported r ∷ l) z =
-      event-stopped r.mark z.events z.reports z.pool _
-      (λ y. report-stopped r.mark (length r.pool) y.events y.reports y.pool (scan l) (scan-stopped l))
-  scan-stopped (exceeded m ∷ l) z = omega arith
+  scan_stopped [] z = tt
+  scan_stopped (event m ∷ l) z = event_stopped m z.events z.reports z.pool (scan l) (scan_stopped l)
+  scan_stopped (reported r ∷ l) z =
+      event_stopped r.mark z.events z.reports z.pool _
+      (λ y. report_stopped r.mark (length r.pool) y.events y.reports y.pool (scan l) (scan_stopped l))
+  scan_stopped (exceeded m ∷ l) z = omega arith

@@ -103,18 +103,18 @@ module _ (m a b c : ℕ) (u k : Row) (x : Ans) where
   unfolding then
   then_is κ = get_tab (then_entry m a b c u k) x κ
 
-  pub then-still : (κ : Key) → glue m a (get u x κ) ≤ get (then m a b c u k) x κ
-  then-still still = rw then_is (le-max_left _ _)
-  then-still there = rw then_is (le-max_left _ _)
-  then-still took = rw then_is (le_trans (le-max_left _ _) (le-max_left _ _))
+  pub then_still : (κ : Key) → glue m a (get u x κ) ≤ get (then m a b c u k) x κ
+  then_still still = rw then_is (le-max_left _ _)
+  then_still there = rw then_is (le-max_left _ _)
+  then_still took = rw then_is (le_trans (le-max_left _ _) (le-max_left _ _))
 
-  pub then-there : (κ : Key) → glue m b (get k x κ) ≤ get (then m a b c u k) x κ
-  then-there still = rw then_is (le-max_right _ _)
-  then-there there = rw then_is (le-max_right _ _)
-  then-there took = rw then_is (le_trans (le-max_right _ _) (le-max_left _ _))
+  pub then_there : (κ : Key) → glue m b (get k x κ) ≤ get (then m a b c u k) x κ
+  then_there still = rw then_is (le-max_right _ _)
+  then_there there = rw then_is (le-max_right _ _)
+  then_there took = rw then_is (le_trans (le-max_right _ _) (le-max_left _ _))
 
-  pub then-took : glue m c (top (get u x)) ≤ get (then m a b c u k) x took
-  then-took = rw then_is (le-max_right _ _)
+  pub then_took : glue m c (top (get u x)) ≤ get (then m a b c u k) x took
+  then_took = rw then_is (le-max_right _ _)
 
 pub in_any : (f : Row) (a : Ans) (κ : Key) → get f a κ ≤ any f κ
 in_any f no κ = omega arith

@@ -40,27 +40,27 @@ judged_few under at byte (subtree k c f) r =
 
 -- n tokens and b bytes: those of the file
 module _ (n b : ℕ) where
-  within-append : (l m : List NameAt) → NamesWithin n b l → NamesWithin n b m → NamesWithin n b (l ++ m)
-  within-append [] m h g = g
-  within-append (x ∷ l) m h g = (h.0, h.1, h.2, within-append l m h.3 g)
+  within_append : (l m : List NameAt) → NamesWithin n b l → NamesWithin n b m → NamesWithin n b (l ++ m)
+  within_append [] m h g = g
+  within_append (x ∷ l) m h g = (h.0, h.1, h.2, within_append l m h.3 g)
 
-  judged-within : (under : Bool) (at byte : ℕ) (t : Tree) → Right t → at + token_count t ≤ n → byte + width t ≤ b → NamesWithin n b (judged under at byte t)
+  judged_within : (under : Bool) (at byte : ℕ) (t : Tree) → Right t → at + token_count t ≤ n → byte + width t ≤ b → NamesWithin n b (judged under at byte t)
   unfolding Right judged token_count width
-  judged-within under at byte nil r h g = tt
-  judged-within under at byte (leaf k raw f) r h g =
-      let more : NamesWithin n b (judged under (at + length raw) (byte + byte_count raw) f) = judged-within under (at + length raw) (byte + byte_count raw) f r.1 (omega arith) (omega arith) in
+  judged_within under at byte nil r h g = tt
+  judged_within under at byte (leaf k raw f) r h g =
+      let more : NamesWithin n b (judged under (at + length raw) (byte + byte_count raw) f) = judged_within under (at + length raw) (byte + byte_count raw) f r.1 (omega arith) (omega arith) in
       cond-all (NamesWithin n b) (under && eqb k K.Name)
       {x = record { first_token = at; start = byte; end = byte + byte_count raw } ∷ judged under (at + length raw) (byte + byte_count raw) f} {y = judged under (at + length raw) (byte + byte_count raw) f}
       (omega (arith, some_token k raw r.0), omega arith, omega arith, more) more
-  judged-within under at byte (subtree k c f) r h g =
-      within-append (judged (judges k c) at byte c) _ (judged-within (judges k c) at byte c r.0 (omega arith) (omega arith))
-      (judged-within under (at + token_count c) (byte + width c) f r.1 (omega arith) (omega arith))
+  judged_within under at byte (subtree k c f) r h g =
+      within_append (judged (judges k c) at byte c) _ (judged_within (judges k c) at byte c r.0 (omega arith) (omega arith))
+      (judged_within under (at + token_count c) (byte + width c) f r.1 (omega arith) (omega arith))
 
-  breaking-within : (bytes : List ℕ) (l : List NameAt) → NamesWithin n b l → NamesWithin n b (breaking bytes l)
+  breaking_within : (bytes : List ℕ) (l : List NameAt) → NamesWithin n b l → NamesWithin n b (breaking bytes l)
   unfolding breaking
-  breaking-within bytes [] h = tt
-  breaking-within bytes (x ∷ l) h =
-      let more : NamesWithin n b (breaking bytes l) = breaking-within bytes l h.3 in
+  breaking_within bytes [] h = tt
+  breaking_within bytes (x ∷ l) h =
+      let more : NamesWithin n b (breaking bytes l) = breaking_within bytes l h.3 in
       cond-all (NamesWithin n b) (keeps_rule (take (x.end - x.start) (drop x.start bytes))) {x = breaking bytes l} {y = x ∷ breaking bytes l} more (h.0, h.1, h.2, more)
 
 breaking_few : (bytes : List ℕ) (l : List NameAt) → length (breaking bytes l) ≤ length l
@@ -73,28 +73,28 @@ breaking_few bytes (x ∷ l) =
 -- ---------------------------------------------------------------- those of a run
 
 module _ (setting : ℕ) (e : Entry) (bytes : List ℕ) (ts : List Token) where
-  tree-tokens : token_count (tree e ts) ≡ length ts
-  tree-tokens = rw (tokens_leaves, lossless)
+  tree_tokens : token_count (tree e ts) ≡ length ts
+  tree_tokens = rw (tokens_leaves, lossless)
 
-  tree-width : width (tree e ts) ≡ byte_count ts
-  tree-width = rw (width_leaves, lossless)
+  tree_width : width (tree e ts) ≡ byte_count ts
+  tree_width = rw (width_leaves, lossless)
 
   -- HOW MANY NAMES
-  pub few-names : length (names_of setting e bytes ts) ≤ length ts
+  pub few_names : length (names_of setting e bytes ts) ≤ length ts
   unfolding reported_names
-  few-names =
+  few_names =
       let l : List NameAt = judged false 0 0 (tree e ts) in
       cond-all (λ (m : List NameAt). length m ≤ length ts) (eqb setting OLD_SETTING) {x = []} {y = breaking bytes l} (omega arith)
-      (omega (arith, breaking_few bytes l, judged_few false 0 0 (tree e ts) (tree_right e ts), tree-tokens))
+      (omega (arith, breaking_few bytes l, judged_few false 0 0 (tree e ts) (tree_right e ts), tree_tokens))
 
   -- WHERE THEY STAND
-  pub names-within : NamesWithin (length ts) (byte_count ts) (names_of setting e bytes ts)
+  pub names_within : NamesWithin (length ts) (byte_count ts) (names_of setting e bytes ts)
   unfolding reported_names
-  names-within =
+  names_within =
       let l : List NameAt = judged false 0 0 (tree e ts) in
       cond-all (NamesWithin (length ts) (byte_count ts)) (eqb setting OLD_SETTING) {x = []} {y = breaking bytes l} tt
-      (breaking-within (length ts) (byte_count ts) bytes l
-      (judged-within (length ts) (byte_count ts) false 0 0 (tree e ts) (tree_right e ts) (omega (arith, tree-tokens)) (omega (arith, tree-width))))
+      (breaking_within (length ts) (byte_count ts) bytes l
+      (judged_within (length ts) (byte_count ts) false 0 0 (tree e ts) (tree_right e ts) (omega (arith, tree_tokens)) (omega (arith, tree_width))))
 
 -- ---------------------------------------------------------------- their report rows
 

@@ -176,27 +176,27 @@ few_children e ts = counts_within (most_rows (length ts)) (tree e ts) (rw lossle
 
 -- b: a bound on the width, on the number of raw tokens and on the number of rows
 module _ (b : ℕ) (most : CODES ≤ b) where
-  tree-below : (t : Tree) (p i : ℕ) → Right t → NodesCoded t → Kinded (leaves t) → width t < b → length (leaves t) < b → p < b → i + row_count t ≤ b → Below b (rows_under p i t)
+  tree_below : (t : Tree) (p i : ℕ) → Right t → NodesCoded t → Kinded (leaves t) → width t < b → length (leaves t) < b → p < b → i + row_count t ≤ b → Below b (rows_under p i t)
   unfolding rows_under Right NodesCoded leaves width row_count
-  tree-below nil p i r n k w l u c = tt
-  tree-below (leaf x raw f) p i r n k w l u c =
+  tree_below nil p i r n k w l u c = tt
+  tree_below (leaf x raw f) p i r n k w l u c =
       let g : Kinded raw × Kinded (leaves f) = kinded_append raw (leaves f) k in
       let h : length raw + length (leaves f) < b = simp length-append at l in
       let j : x < CODES = leaf_small x raw r.0 g.0 in
-      (omega arith, (omega arith, (omega arith, (omega arith, (u, tree-below f p (suc i) r.1 n g.1 (omega arith) (omega arith) u (omega arith))))))
-  tree-below (subtree x d f) p i r n k w l u c =
+      (omega arith, (omega arith, (omega arith, (omega arith, (u, tree_below f p (suc i) r.1 n g.1 (omega arith) (omega arith) u (omega arith))))))
+  tree_below (subtree x d f) p i r n k w l u c =
       let g : Kinded (leaves d) × Kinded (leaves f) = kinded_append (leaves d) (leaves f) k in
       let h : length (leaves d) + length (leaves f) < b = simp length-append at l in
       let m = suc i + row_count d in
       let j : x < CODES = n.0 in
-      let y : Below b (rows_under i (suc i) d) = tree-below d i (suc i) r.0 n.1 g.0 (omega arith) (omega arith) (omega arith) (omega arith) in
-      let z : Below b (rows_under p m f) = tree-below f p m r.1 n.2 g.1 (omega arith) (omega arith) u (omega arith) in
+      let y : Below b (rows_under i (suc i) d) = tree_below d i (suc i) r.0 n.1 g.0 (omega arith) (omega arith) (omega arith) (omega arith) in
+      let z : Below b (rows_under p m f) = tree_below f p m r.1 n.2 g.1 (omega arith) (omega arith) u (omega arith) in
       (omega arith, (omega arith, (omega arith, (omega (arith, count_le d), (u, below_append b (rows_under i (suc i) d) (rows_under p m f) y z)))))
 
   -- EVERY NUMBER IN THE TREE ROWS
-  pub rows-below : (e : Entry) (ts : List Token) → Kinded ts → byte_count ts < b → length ts < b → most_rows (length ts) ≤ b → Below b (rows (tree e ts))
-  rows-below e ts k w l c =
-      tree-below (tree e ts) 0 0 (tree_right e ts) (tree_coded e ts)
+  pub rows_below : (e : Entry) (ts : List Token) → Kinded ts → byte_count ts < b → length ts < b → most_rows (length ts) ≤ b → Below b (rows (tree e ts))
+  rows_below e ts k w l c =
+      tree_below (tree e ts) 0 0 (tree_right e ts) (tree_coded e ts)
       (subst Kinded (sym (lossless e ts)) k)
       (rw (width_leaves, lossless) w)
       (rw lossless l)

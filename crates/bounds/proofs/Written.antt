@@ -48,19 +48,19 @@ reports_coded (over m o) c = reports_coded o c
 
 -- m: a bound on the tokens, the bytes and the expectations
 module _ (m n b : ℕ) (most : CODES ≤ m) (tokens : n < m) (input : b < m) where
-  label-below : (x : Label) (l : List ℕ) → Below m l → Below m (label_numbers b x l)
-  label-below no_label l h = (omega arith, (omega arith, h))
-  label-below (label s) l h = (omega arith, (omega arith, h))
+  label_below : (x : Label) (l : List ℕ) → Below m l → Below m (label_numbers b x l)
+  label_below no_label l h = (omega arith, (omega arith, h))
+  label_below (label s) l h = (omega arith, (omega arith, h))
 
   -- EVERY NUMBER IN THE REPORT ROWS
-  pub report-numbers-below : (first : ℕ) (l : List Report) → AllCoded l → first + length (pool l) < m → Below m (report_numbers n b first l)
+  pub report_numbers_below : (first : ℕ) (l : List Report) → AllCoded l → first + length (pool l) < m → Below m (report_numbers n b first l)
   unfolding report_numbers pool
-  report-numbers-below first [] c h = tt
-  report-numbers-below first (r ∷ l) c h =
+  report_numbers_below first [] c h = tt
+  report_numbers_below first (r ∷ l) c h =
       let p : first + (length r.pool + length (pool l)) < m = simp length-append at h in
       let g : r.message < CODES = c.0.message in
       let k : r.hint < CODES = c.0.hint in
-      (omega arith, (omega arith, (omega arith, (omega arith, (omega arith, (omega arith, (omega arith, label-below r.labelled _ (report-numbers-below (first + length r.pool) l c.1 (omega arith)))))))))
+      (omega arith, (omega arith, (omega arith, (omega arith, (omega arith, (omega arith, (omega arith, label_below r.labelled _ (report_numbers_below (first + length r.pool) l c.1 (omega arith)))))))))
 
 -- ---------------------------------------------------------------- lexical errors
 

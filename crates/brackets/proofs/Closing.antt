@@ -84,40 +84,40 @@ module _ (m : Sum) (c : Outline) (h : Sums m c) (fit : proper elsewhere c ≡ tr
   abbrev flag : (i : ℕ) → at i (bits m) ≡ true → at i (bits (exact c)) ≡ true
   flag i e = h.flags.holds i e
 
-  pub within-fits : (x : ListOf) → within m x ≡ true → proper x c ≡ true
+  pub within_fits : (x : ListOf) → within m x ≡ true → proper x c ≡ true
   unfolding exact
-  within-fits cells e = flag 10 e
-  within-fits values e = flag 11 e
-  within-fits cell-branches e = flag 12 e
-  within-fits value-branches e = flag 13 e
-  within-fits expression e = flag 14 e
-  within-fits elsewhere e = fit
+  within_fits cells e = flag 10 e
+  within_fits values e = flag 11 e
+  within_fits cell-branches e = flag 12 e
+  within_fits value-branches e = flag 13 e
+  within_fits expression e = flag 14 e
+  within_fits elsewhere e = fit
 
-  node-in-fits : (x : ListOf) (k : ℕ) → node_in x k m ≡ true → proper (list_below x k (has_angle c)) c ≡ true
+  node_in_fits : (x : ListOf) (k : ℕ) → node_in x k m ≡ true → proper (list_below x k (has_angle c)) c ≡ true
   unfolding node_in exact no_angle
-  node-in-fits x k e = go (has_angle c) refl
+  node_in_fits x k e = go (has_angle c) refl
     where
       none : has_angle c ≡ true → m.angleless ≡ true → proper (list_below x k true) c ≡ true
       none z a = absurd (false≢true (sym (ap not z) ∙ flag 9 a))
 
       go : (b : Bool) → has_angle c ≡ b → proper (list_below x k b) c ≡ true
-      go false z = within-fits (list_below x k false) (and_left (within m (list_below x k false)) _ e)
+      go false z = within_fits (list_below x k false) (and_left (within m (list_below x k false)) _ e)
       go true z =
           or_cases m.angleless (within m (list_below x k true)) (and_right (within m (list_below x k false)) _ e) (none z)
-          (λ a. within-fits (list_below x k true) a)
+          (λ a. within_fits (list_below x k true) a)
 
-  children-fits : (k : ℕ) → children_ok k m ≡ true → children_proper k c ≡ true
+  children_fits : (k : ℕ) → children_ok k m ≡ true → children_proper k c ≡ true
   unfolding children_ok children_proper exact
-  children-fits k e =
+  children_fits k e =
       cond_map (one_of (N.DtExpr ∷ N.ParenExpr ∷ []) k) (flag 2)
       (cond_map (eqb k N.MacroInvocation) (λ z. or_cases m.free m.called z (λ a. free_named c (flag 1 a)) (λ a. called_named c (flag 4 a)))
       (cond_map (eqb k N.MacroArgument) (λ z. z) (cond_map (eqb k N.ParseError) (flag 5) (flag 1))))
       e
 
   -- the node, where it stands
-  node-fit : (x : ListOf) (k : ℕ) → children_ok k m ≡ true → node_proper x k c ≡ true → node_in x k m ≡ true → proper x (node k c end) ≡ true
+  node_fit : (x : ListOf) (k : ℕ) → children_ok k m ≡ true → node_proper x k c ≡ true → node_in x k m ≡ true → proper x (node k c end) ≡ true
   unfolding proper
-  node-fit x k o e g = and_both e (and_both (children-fits k o) (and_both (node-in-fits x k g) refl))
+  node_fit x k o e g = and_both e (and_both (children_fits k o) (and_both (node_in_fits x k g) refl))
 
   starts : (k : ℕ) → (m.plain || (eqb k N.DtExpr && m.begun)) ≡ true → node_proper cells k c ≡ true
   unfolding exact starts_plain starts_open
@@ -129,14 +129,14 @@ module _ (m : Sum) (c : Outline) (h : Sums m c) (fit : proper elsewhere c ≡ tr
   unfolding exact
   swept k e = or_cases (not (eqb k N.ParseError)) m.free e (λ a. or_left _ _ a) (λ a. or_right (not (eqb k N.ParseError)) _ (flag 1 a))
 
-  pub closes-fit : (k : ℕ) → closing_ok k m ≡ true → proper elsewhere (node k c end) ≡ true
+  pub closes_fit : (k : ℕ) → closing_ok k m ≡ true → proper elsewhere (node k c end) ≡ true
   unfolding closing_ok
-  closes-fit k o = node-fit elsewhere k (and_left (children_ok k m) _ o) refl (and_right (children_ok k m) _ o)
+  closes_fit k o = node_fit elsewhere k (and_left (children_ok k m) _ o) refl (and_right (children_ok k m) _ o)
 
   -- THE FLAGS OF A NODE
-  pub sums-close : (k : ℕ) → closing_ok k m ≡ true → Sums (close k m) (node k c end)
+  pub sums_close : (k : ℕ) → closing_ok k m ≡ true → Sums (close k m) (node k c end)
   unfolding closing_ok close exact is_end no_bracket first_only lone_name named last_only begins starts_plain first_leaf no_angle has_angle
-  sums-close k o =
+  sums_close k o =
       let ok = and_left (children_ok k m) _ o in
       record {
         flags =
@@ -150,9 +150,9 @@ module _ (m : Sum) (c : Outline) (h : Sums m c) (fit : proper elsewhere c ≡ tr
             (below_cons (flag 7)
             (below_cons (flag 8)
             (below_cons (λ e. refl)
-            (below_cons (λ e. let s = m.plain || (eqb k N.DtExpr && m.begun) in node-fit cells k ok (starts k (and_left s _ e)) (and_right s _ e))
-            (below_cons (λ e. node-fit values k ok refl e)
-            (below_cons (λ e. node-fit cell-branches k ok refl e)
-            (below_cons (λ e. node-fit value-branches k ok refl e)
-            (below_cons (λ e. let s = not (eqb k N.ParseError) || m.free in node-fit expression k ok (swept k (and_left s _ e)) (and_right s _ e)) (below_nil _)))))))))))))));
+            (below_cons (λ e. let s = m.plain || (eqb k N.DtExpr && m.begun) in node_fit cells k ok (starts k (and_left s _ e)) (and_right s _ e))
+            (below_cons (λ e. node_fit values k ok refl e)
+            (below_cons (λ e. node_fit cell-branches k ok refl e)
+            (below_cons (λ e. node_fit value-branches k ok refl e)
+            (below_cons (λ e. let s = not (eqb k N.ParseError) || m.free in node_fit expression k ok (swept k (and_left s _ e)) (and_right s _ e)) (below_nil _)))))))))))))));
       }

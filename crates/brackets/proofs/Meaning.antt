@@ -14,7 +14,7 @@ use Rattle.brackets.specs.Brackets.{Outline, end, node, proper, elsewhere}
 use Rattle.brackets.proofs.Bits.{any, at_left, at_right, at_any, below, below_holds, below_then}
 use Rattle.brackets.proofs.Flat.{◌⊞◌, beside_assoc, flat, flat_join, shut}
 use Rattle.brackets.proofs.Summary.{Sum, bits, exact, Sums, sums_join, fits_join}
-use Rattle.brackets.proofs.Closing.{closing_ok, close, closes-fit, sums-close}
+use Rattle.brackets.proofs.Closing.{closing_ok, close, closes_fit, sums_close}
 use Rattle.brackets.proofs.Ahead.{class, Allows}
 use Rattle.brackets.proofs.Taken.{sums_left, sums_right, sums_exact}
 use Rattle.brackets.proofs.Look.{Fact, never, fact, kept, ◌∪◌, within, only, any_of, then_look, of_two, looks_within, from, joined, joined_all, returned}
@@ -174,7 +174,7 @@ returned_gives (suc k) a never q s ok h = absurd h
 returned_gives (suc k) a (fact n m) q s ok h = go a ok
   where
     closed : closing_ok (suc k) m ≡ true → Known n (close (suc k) m) (node (suc k) q end) s
-    closed e = record { ahead = h.ahead; sums = sums-close m q h.sums h.fit (suc k) e; fit = closes-fit m q h.sums h.fit (suc k) e }
+    closed e = record { ahead = h.ahead; sums = sums_close m q h.sums h.fit (suc k) e; fit = closes_fit m q h.sums h.fit (suc k) e }
 
     go : (a : Ans) → (only a (closing_ok (suc k) m) (fact n (close (suc k) m))).ok ≡ true
         → Holds (get (only a (closing_ok (suc k) m) (fact n (close (suc k) m))) a) (node (suc k) q end) s

@@ -21,8 +21,8 @@ use Rattle.brackets.proofs.Summary.{exact}
 use Rattle.brackets.proofs.Ahead.{class, Allows, anything, none_left, some_left, allows_anything, allows_ended, allows_there}
 use Rattle.brackets.proofs.Look.{Fact, fact, looks_within, look, shapeless}
 use Rattle.brackets.proofs.Meaning.{Holds, out_same, weaken_look, open_gives}
-use Rattle.brackets.proofs.Shapes.{exec-shape}
-use Rattle.brackets.proofs.Sound.{exec-gives}
+use Rattle.brackets.proofs.Shapes.{exec_shape}
+use Rattle.brackets.proofs.Sound.{exec_gives}
 use Rattle.brackets.proofs.Scopes.{Inner, begun}
 use Rattle.brackets.proofs.Table.{by_rule, table, cell_look, cell_at_end, table_holds, cell_holds, entry_fact, entry_holds, grammar_shapeless, entry_shapeless}
 
@@ -30,7 +30,7 @@ use Rattle.brackets.proofs.Table.{by_rule, table, cell_look, cell_at_end, table_
 pub run_shape : (n : ℕ) (r : Rule) (s : State) → (run n r s).shape ≡ 0
 unfolding run makes
 run_shape zero r s = refl
-run_shape (suc n) r s = exec-shape (run n) (run_shape n) no_label (grammar r) s (grammar_shapeless r)
+run_shape (suc n) r s = exec_shape (run n) (run_shape n) no_label (grammar r) s (grammar_shapeless r)
 
 -- where no token may stand ahead, none does
 none_ahead : (k : List Bool) (l : List Token) → any (both k some_left) ≡ false → Allows k l → Allows none_left l
@@ -51,28 +51,28 @@ unfolding ◌⊞◌
 exec_known n g p plain j l f s h a w =
     let o = exec (run n) no_label p s in
     weaken_look (look table p (fact j (exact end))) l f o.ans (flat o.made) o.state
-    (open_gives (look table p (fact j (exact end))) end o (exec-shape (run n) (run_shape n) no_label p s plain)
-    (exec-gives n g (run_shape n) no_label p (fact j (exact end)) end s (and_left (look table p (fact j (exact end))).ok _ f) h (begun j s a) w))
+    (open_gives (look table p (fact j (exact end))) end o (exec_shape (run n) (run_shape n) no_label p s plain)
+    (exec_gives n g (run_shape n) no_label p (fact j (exact end)) end s (and_left (look table p (fact j (exact end))).ok _ f) h (begun j s a) w))
 
 module _ (n : ℕ) (g : Given n) (s : State) (h : Stands s) where
-  by-look : (r : Rule) (j : List Bool) → Allows j (drop_trivia s.rest) → (l : Look Fact) → looks_within (look table (grammar r) (fact j (exact end))) l ≡ true
+  by_look : (r : Rule) (j : List Bool) → Allows j (drop_trivia s.rest) → (l : Look Fact) → looks_within (look table (grammar r) (fact j (exact end))) l ≡ true
       → BelowLimits (run (suc n) r s).made → Holds (get l (run (suc n) r s).ans) (flat (run (suc n) r s).made) (run (suc n) r s).state
   unfolding run
-  by-look r j a l f w = exec_known n g (grammar r) (grammar_shapeless r) j l f s h a w
+  by_look r j a l f w = exec_known n g (grammar r) (grammar_shapeless r) j l f s h a w
 
   -- a cell, by whether a token may be there
-  cell-by : (b : Bool) (k : List Bool) → Allows k (drop_trivia s.rest) → BelowLimits (run (suc n) (eat_cell b) s).made → (x : Bool) → any (both k some_left) ≡ x
+  cell_by : (b : Bool) (k : List Bool) → Allows k (drop_trivia s.rest) → BelowLimits (run (suc n) (eat_cell b) s).made → (x : Bool) → any (both k some_left) ≡ x
       → Holds (get (cond x cell_look cell_at_end) (run (suc n) (eat_cell b) s).ans) (flat (run (suc n) (eat_cell b) s).made) (run (suc n) (eat_cell b) s).state
-  cell-by b k a w true z = by-look (eat_cell b) anything (allows_anything _) cell_look (table_holds (eat_cell b)) w
-  cell-by b k a w false z = by-look (eat_cell b) none_left (none_ahead k (drop_trivia s.rest) z a) cell_at_end (cell_holds b) w
+  cell_by b k a w true z = by_look (eat_cell b) anything (allows_anything _) cell_look (table_holds (eat_cell b)) w
+  cell_by b k a w false z = by_look (eat_cell b) none_left (none_ahead k (drop_trivia s.rest) z a) cell_at_end (cell_holds b) w
 
   by_kind : (r : Rule) (k : List Bool) → Allows k (drop_trivia s.rest) → BelowLimits (run (suc n) r s).made
       → Holds (get (by_rule r k) (run (suc n) r s).ans) (flat (run (suc n) r s).made) (run (suc n) r s).state
-  by_kind item k a w = by-look item anything (allows_anything _) (by_rule item anything) (table_holds item) w
-  by_kind (propvalues b) k a w = by-look (propvalues b) anything (allows_anything _) (by_rule (propvalues b) anything) (table_holds (propvalues b)) w
-  by_kind (eat_cell b) k a w = cell-by b k a w (any (both k some_left)) refl
+  by_kind item k a w = by_look item anything (allows_anything _) (by_rule item anything) (table_holds item) w
+  by_kind (propvalues b) k a w = by_look (propvalues b) anything (allows_anything _) (by_rule (propvalues b) anything) (table_holds (propvalues b)) w
+  by_kind (eat_cell b) k a w = cell_by b k a w (any (both k some_left)) refl
   by_kind (expr_binding_power m) k a w =
-      by-look (expr_binding_power m) anything (allows_anything _) (by_rule (expr_binding_power m) anything) (table_holds (expr_binding_power m)) w
+      by_look (expr_binding_power m) anything (allows_anything _) (by_rule (expr_binding_power m) anything) (table_holds (expr_binding_power m)) w
 
 -- EVERY CALL
 pub run_gives : (n : ℕ) (r : Rule) (s : State) → Stands s → BelowLimits (run n r s).made → Inner (table r) s (run n r s)

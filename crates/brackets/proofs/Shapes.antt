@@ -13,16 +13,16 @@ use Rattle.brackets.proofs.Actions.{act_shape}
 
 module _ (ask : Rule → State → Out) (plain : (r : Rule) (s : State) → (ask r s).shape ≡ 0) where
   -- a program that completes no marker around
-  pub exec-shape : (b : Label) (p : Prog) (s : State) → shapeless p ≡ true → (exec ask b p s).shape ≡ 0
+  pub exec_shape : (b : Label) (p : Prog) (s : State) → shapeless p ≡ true → (exec ask b p s).shape ≡ 0
   unfolding exec shapeless add marked makes choose
-  exec-shape b (ret zero a) s e = refl
-  exec-shape b (ret (suc k) a) s e = absurd (false≢true e)
-  exec-shape b (act a) s e = act_shape b a s
-  exec-shape b (p ⨟ q) s e = exec-shape b q (exec ask b p s).state e
-  exec-shape b (case c n y a) s e =
+  exec_shape b (ret zero a) s e = refl
+  exec_shape b (ret (suc k) a) s e = absurd (false≢true e)
+  exec_shape b (act a) s e = act_shape b a s
+  exec_shape b (p ⨟ q) s e = exec_shape b q (exec ask b p s).state e
+  exec_shape b (case c n y a) s e =
       let u = (exec ask b c s).state in
       let e₁ = and_right (shapeless n) _ e in
-      go (exec ask b c s).ans (exec-shape b n u (and_left (shapeless n) _ e)) (exec-shape b y u (and_left (shapeless y) _ e₁)) (exec-shape b a u (and_right (shapeless y) _ e₁))
+      go (exec ask b c s).ans (exec_shape b n u (and_left (shapeless n) _ e)) (exec_shape b y u (and_left (shapeless y) _ e₁)) (exec_shape b a u (and_right (shapeless y) _ e₁))
     where
       go : (x : Ans) → (exec ask b n (exec ask b c s).state).shape ≡ 0 → (exec ask b y (exec ask b c s).state).shape ≡ 0 → (exec ask b a (exec ask b c s).state).shape ≡ 0
           → (choose x (exec ask b n) (exec ask b y) (exec ask b a) (exec ask b c s).state).shape ≡ 0
@@ -30,8 +30,8 @@ module _ (ask : Rule → State → Out) (plain : (r : Rule) (s : State) → (ask
       go yes p q r = q
       go also p q r = r
       go again p q r = q
-  exec-shape b (in_marker p) s e = refl
-  exec-shape b (loop p) s e = iter_shape (suc (length s.rest)) (exec ask b p) s
-  exec-shape b (chain p q) s e = chained_shape (exec ask b q) s (exec ask b p s)
-  exec-shape b (brace p) s e = exec-shape (here s.rest) p s e
-  exec-shape b (open_call r) s e = plain r s
+  exec_shape b (in_marker p) s e = refl
+  exec_shape b (loop p) s e = iter_shape (suc (length s.rest)) (exec ask b p) s
+  exec_shape b (chain p q) s e = chained_shape (exec ask b q) s (exec ask b p s)
+  exec_shape b (brace p) s e = exec_shape (here s.rest) p s e
+  exec_shape b (open_call r) s e = plain r s

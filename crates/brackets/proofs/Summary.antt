@@ -239,46 +239,46 @@ module _ (m n : Sum) (p q : Outline) (h : Sums m p) (g : Sums n q) where
   abbrev ga : (i : ℕ) → at i (bits n) ≡ true → at i (bits (exact q)) ≡ true
   ga i e = g.flags.holds i e
 
-  first-flag : (concat m n).first ≡ true → first_only (p ⊞ q) ≡ true
+  first_flag : (concat m n).first ≡ true → first_only (p ⊞ q) ≡ true
   unfolding concat exact
-  first-flag e =
+  first_flag e =
       or_cases (m.first && n.free) (m.empty && n.first) e (λ z. pair _ _ z (λ a b. first_join p q (ha 2 a) (ga 1 b)))
       (λ z. pair _ _ z (λ a b. before_it first_only p q (ha 0 a) (ga 2 b)))
 
-  lone-flag : (concat m n).lone ≡ true → lone_name (p ⊞ q) ≡ true
+  lone_flag : (concat m n).lone ≡ true → lone_name (p ⊞ q) ≡ true
   unfolding concat exact
-  lone-flag e =
+  lone_flag e =
       or_cases (m.lone && n.empty) (m.empty && n.lone) e (λ z. pair _ _ z (λ a b. after_it lone_name p q (ga 0 b) (ha 3 a)))
       (λ z. pair _ _ z (λ a b. before_it lone_name p q (ha 0 a) (ga 3 b)))
 
-  called-flag : (concat m n).called ≡ true → named (p ⊞ q) ≡ true
+  called_flag : (concat m n).called ≡ true → named (p ⊞ q) ≡ true
   unfolding concat exact
-  called-flag e =
+  called_flag e =
       or_cases (m.called && n.free) ((m.lone && n.first) || (m.empty && n.called)) e (λ z. pair _ _ z (λ a b. named_join p q (ha 4 a) (ga 1 b)))
       (λ y. or_cases (m.lone && n.first) (m.empty && n.called) y (λ z. pair _ _ z (λ a b. lone_join p q (ha 3 a) (ga 2 b)))
       (λ z. pair _ _ z (λ a b. before_it named p q (ha 0 a) (ga 4 b))))
 
-  last-flag : (concat m n).last ≡ true → last_only (p ⊞ q) ≡ true
+  last_flag : (concat m n).last ≡ true → last_only (p ⊞ q) ≡ true
   unfolding concat exact
-  last-flag e =
+  last_flag e =
       or_cases (m.free && n.last) (m.last && n.empty) e (λ z. pair _ _ z (λ a b. last_join p q (ha 1 a) (ga 5 b)))
       (λ z. pair _ _ z (λ a b. after_it last_only p q (ga 0 b) (ha 5 a)))
 
-  begun-flag : (concat m n).begun ≡ true → begins (p ⊞ q) ≡ true
+  begun_flag : (concat m n).begun ≡ true → begins (p ⊞ q) ≡ true
   unfolding concat exact
-  begun-flag e =
+  begun_flag e =
       or_cases m.begun (m.empty && n.begun) e (λ a. begins_join p q (ha 6 a)) (λ z. pair _ _ z (λ a b. before_it begins p q (ha 0 a) (ga 6 b)))
 
-  plain-flag : (concat m n).plain ≡ true → starts_plain K.Whitespace (p ⊞ q) ≡ true
+  plain_flag : (concat m n).plain ≡ true → starts_plain K.Whitespace (p ⊞ q) ≡ true
   unfolding concat exact starts_plain
-  plain-flag e =
+  plain_flag e =
       starts_join K.Whitespace p q
       (or_cases m.leads (m.plain && n.plain) e (λ a. leads_always p (first_leaf q K.Whitespace) (ha 8 a))
       (λ z. pair _ _ z (λ a b. plain_after p (first_leaf q K.Whitespace) (ha 7 a) (ga 7 b))))
 
-  leads-flag : (concat m n).leads ≡ true → starts_plain K.LParen (p ⊞ q) ≡ true
+  leads_flag : (concat m n).leads ≡ true → starts_plain K.LParen (p ⊞ q) ≡ true
   unfolding concat exact starts_plain
-  leads-flag e =
+  leads_flag e =
       starts_join K.LParen p q
       (or_cases m.leads (m.plain && n.leads) e (λ a. leads_always p (first_leaf q K.LParen) (ha 8 a))
       (λ z. pair _ _ z (λ a b. plain_after p (first_leaf q K.LParen) (ha 7 a) (ga 8 b))))
@@ -291,13 +291,13 @@ module _ (m n : Sum) (p q : Outline) (h : Sums m p) (g : Sums n q) where
         flags =
             below_cons (λ e. pair _ _ e (λ a b. empty_join p q (ha 0 a) (ga 0 b)))
             (below_cons (λ e. pair _ _ e (λ a b. free_join p q (ha 1 a) (ga 1 b)))
-            (below_cons first-flag
-            (below_cons lone-flag
-            (below_cons called-flag
-            (below_cons last-flag
-            (below_cons begun-flag
-            (below_cons plain-flag
-            (below_cons leads-flag
+            (below_cons first_flag
+            (below_cons lone_flag
+            (below_cons called_flag
+            (below_cons last_flag
+            (below_cons begun_flag
+            (below_cons plain_flag
+            (below_cons leads_flag
             (below_cons (λ e. pair _ _ e (λ a b. angle_join p q (ha 9 a) (ga 9 b)))
             (below_cons (λ e. pair _ _ e (λ a b. fits_join cells p q (ha 10 a) (ga 10 b)))
             (below_cons (λ e. pair _ _ e (λ a b. fits_join values p q (ha 11 a) (ga 11 b)))

@@ -34,7 +34,7 @@ use Rattle.brackets.proofs.Ahead.{by_class, class_of, class, none_left, Allows}
 use Rattle.brackets.proofs.Meaning.{Holds}
 use Rattle.brackets.proofs.Table.{no_paren, entry_fact}
 use Rattle.brackets.proofs.Runs.{entry_gives}
-use Rattle.brackets.proofs.LeftOver.{Leaves, none-left-over, some-left-over}
+use Rattle.brackets.proofs.LeftOver.{Leaves, none_left_over, some_left_over}
 
 -- ---------------------------------------------------------------- the root's children
 
@@ -103,14 +103,14 @@ module _ (e : Entry) (ts : List Token) where
   abbrev left : Out
   left = exec (run MOST_OPEN_CALLS) no_label left_over made.state
 
-  left-fit : Holds (entry_fact e) (flat made.made) made.state → root_proper (root_kind e) (flat left.made) ≡ true
+  left_fit : Holds (entry_fact e) (flat made.made) made.state → root_proper (root_kind e) (flat left.made) ≡ true
   unfolding root_proper is_end
-  left-fit h = go (drop_trivia made.state.rest) refl
+  left_fit h = go (drop_trivia made.state.rest) refl
     where
       go : (l : List Token) → drop_trivia made.state.rest ≡ l → root_proper (root_kind e) (flat left.made) ≡ true
-      go [] z = ap (root_proper (root_kind e)) (none-left-over (run MOST_OPEN_CALLS) no_label made.state z)
+      go [] z = ap (root_proper (root_kind e)) (none_left_over (run MOST_OPEN_CALLS) no_label made.state z)
       go (t ∷ us) z =
-          let d = some-left-over (run MOST_OPEN_CALLS) no_label made.state t us z in
+          let d = some_left_over (run MOST_OPEN_CALLS) no_label made.state t us z in
           ap (root_proper (root_kind e)) d.2
           ∙ and_both (or_left _ _ (left_fits e (seen t) d.0 d.1 (starts e (flat made.made) made.state t us z h))) refl
 
@@ -120,11 +120,11 @@ module _ (e : Entry) (ts : List Token) where
   run_fits w =
       let h = entry_gives e ts (join_within made.made left.made w).0 in
       ap (root_proper (root_kind e)) (flat_join made.made left.made)
-      ∙ root_join (root_kind e) (flat made.made) (flat left.made) (free_of e (flat made.made) made.state h) (fits_of e (flat made.made) made.state h) (left-fit h)
+      ∙ root_join (root_kind e) (flat made.made) (flat left.made) (free_of e (flat made.made) made.state h) (fits_of e (flat made.made) made.state h) (left_fit h)
 
-  tree-fit : BelowLimits (run_entry e ts) → tree_proper (outline (shown (root (root_kind e) (run_entry e ts) ts))) ≡ true
+  tree_fit : BelowLimits (run_entry e ts) → tree_proper (outline (shown (root (root_kind e) (run_entry e ts) ts))) ≡ true
   unfolding root shown outline tree_proper is_end
-  tree-fit w = ap (root_proper (root_kind e)) (kinds_inside (run_entry e ts) ts (after (run_entry e ts) ts) ((entry_reads e ts).reads ts refl)) ∙ run_fits w
+  tree_fit w = ap (root_proper (root_kind e)) (kinds_inside (run_entry e ts) ts (after (run_entry e ts) ts) ((entry_reads e ts).reads ts refl)) ∙ run_fits w
 
 -- WHERE AN LPAREN STANDS
 pub brackets_proper : BracketsProper
@@ -135,4 +135,4 @@ brackets_proper n setting bytes tokens b h =
     let t = root (root_kind a.entry) o (tokens_of tokens) in
     let w : BelowLimits o = record { clear = fits_clear (pushes o) _ a.left a.fitted } in
     subst (λ (r : Result). tree_proper (outline (read (take (TREE_ROW * r.answer.tree_count) r.buffers.trees))) ≡ true) (sym a.returns)
-    (unfold sheets in (ap (λ (l : List ℕ). tree_proper (outline (read l))) (in_front a.entry bytes (tokens_of tokens) b c.covered) ∙ ap (λ r. tree_proper (outline r)) (read_back (shown t) (shown_counts t)) ∙ tree-fit a.entry (tokens_of tokens) w))
+    (unfold sheets in (ap (λ (l : List ℕ). tree_proper (outline (read l))) (in_front a.entry bytes (tokens_of tokens) b c.covered) ∙ ap (λ r. tree_proper (outline r)) (read_back (shown t) (shown_counts t)) ∙ tree_fit a.entry (tokens_of tokens) w))

@@ -52,22 +52,22 @@ module _ (setting : ℕ) (e : Entry) (bytes tokens : List ℕ) (b : Buffers) (m 
   events_inside q = omega (arith, ends.events_inside (eqb-true m.refusal 0 q))
 
   -- the buffers after the run
-  abbrev run-buffers : Buffers
-  run-buffers = after_all b.trees b.errors m.reports.numbers m
+  abbrev run_buffers : Buffers
+  run_buffers = after_all b.trees b.errors m.reports.numbers m
 
   module _ (lr : length m.reports.numbers ≡ length b.reports) (lp : length m.pool.numbers ≡ length b.pool) (k : ℕ) (root : k ≡ root_kind e) (x : Result)
-      (h : Ended m.refusal m.place k setting m.events.count m.reports.count m.pool.count bytes tokens run-buffers x) where
+      (h : Ended m.refusal m.place k setting m.events.count m.reports.count m.pool.count bytes tokens run_buffers x) where
     abbrev c : Buffers
     c = after_all h.trees h.errors h.reports m
 
-    same-lengths : SameLengths b c
-    same-lengths = record { events = le; trees = h.trees_length; errors = h.errors_length; reports = h.reports_length ∙ lr; pool = lp }
+    same_lengths : SameLengths b c
+    same_lengths = record { events = le; trees = h.trees_length; errors = h.errors_length; reports = h.reports_length ∙ lr; pool = lp }
 
-    by-refusal : (q : Bool) → eqb m.refusal 0 ≡ q → swept (answer_of h.answer) c ≡ parse e setting bytes (tokens_of tokens) b
-    by-refusal false q =
+    by_refusal : (q : Bool) → eqb m.refusal 0 ≡ q → swept (answer_of h.answer) c ≡ parse e setting bytes (tokens_of tokens) b
+    by_refusal false q =
         ap (λ (y : Answer). swept (answer_of y) c) (h.of_parse.stopped q)
-        ∙ ends.refused (eqb-false m.refusal 0 q) c same-lengths
-    by-refusal true q =
+        ∙ ends.refused (eqb-false m.refusal 0 q) c same_lengths
+    by_refusal true q =
         let s : AnswerOfRun k setting m.events.count m.reports.count m.pool.count bytes tokens m.events.numbers b.trees b.errors m.reports.numbers h.answer h.trees h.errors h.reports = h.of_parse.ran q in
         ap (λ (y : Answer). swept (answer_of y) c) s.answer
         ∙ ap (λ (y : _). swept y c) (same_answer s.sunk s.names m)
@@ -81,7 +81,7 @@ module _ (setting : ℕ) (e : Entry) (bytes tokens : List ℕ) (b : Buffers) (m 
         })
 
     pub finished : x ≡ parse e setting bytes (tokens_of tokens) b
-    finished = sym h.once_cleared ∙ by-refusal (eqb m.refusal 0) refl
+    finished = sym h.once_cleared ∙ by_refusal (eqb m.refusal 0) refl
 
 -- ---------------------------------------------------------------- around it
 
@@ -91,17 +91,17 @@ module _ (e : Entry) (setting : ℕ) (bytes tokens : List ℕ) (b : Buffers) (n 
   known_entry h = h ∙ ap (λ (w : Asked). asked w setting bytes tokens b) k
 
   -- entries 1 to 4: the checks of the input, and the parse
-  pub refused-call : (a : Answer) → x ≡ result_of a b → Refused a bytes tokens → x ≡ call n setting bytes tokens b
+  pub refused_call : (a : Answer) → x ≡ result_of a b → Refused a bytes tokens → x ≡ call n setting bytes tokens b
   unfolding checked
-  refused-call a h r =
+  refused_call a h r =
       known_entry
       (h
       ∙ ap (λ (y : _). record { answer = y; buffers = b }) r.answer
       ∙ sym (ap (λ (w : Verdict). checked w e setting bytes tokens b) r.verdict))
 
-  pub sound-call : check_input bytes tokens ≡ accepted → x ≡ parse e setting bytes (tokens_of tokens) b → x ≡ call n setting bytes tokens b
+  pub sound_call : check_input bytes tokens ≡ accepted → x ≡ parse e setting bytes (tokens_of tokens) b → x ≡ call n setting bytes tokens b
   unfolding checked
-  sound-call v h = known_entry (h ∙ sym (ap (λ (w : Verdict). checked w e setting bytes tokens b) v))
+  sound_call v h = known_entry (h ∙ sym (ap (λ (w : Verdict). checked w e setting bytes tokens b) v))
 
 -- cause 1
 pub other_entry : (setting : ℕ) (bytes tokens : List ℕ) (b : Buffers) (n : ℕ) (a : Answer) → unknown ≡ entry_of n → answer_of a ≡ refusal unknown_entry → result_of a b ≡ call n setting bytes tokens b

@@ -74,9 +74,9 @@ module _ (k setting n r p : ℕ) (bytes tokens events trees errors reports trees
   fitted q e f = answered (e ∙ sym (ap (λ (b : Bool). cond b (sunk_with s w.written p) (refused_with w.refusal w.place)) q)) f
 
   -- cause 7
-  pub not-fitted : eqb w.refusal 0 ≡ false → a ≡ refused_with w.refusal w.place
+  pub not_fitted : eqb w.refusal 0 ≡ false → a ≡ refused_with w.refusal w.place
       → AnswerOfRun k setting n r p bytes tokens events trees errors reports a trees' errors' reports'
-  not-fitted q e =
+  not_fitted q e =
       answered (e ∙ sym (ap (λ (b : Bool). cond b (sunk_with s w.written p) (refused_with w.refusal w.place)) q))
       (subst CountsFit (sym e) (none_fit w.refusal w.place))
 

@@ -162,34 +162,34 @@ walk_starts byte trees list h c =
     record { done = []; row = 0; at = refl; going = record { bytes = h; classes = c }; counted = refl; few = omega arith; on_list = refl; whole = refl }
 
 module _ {byte : ℕ} {trees list₀ list : List ℕ} {index left count : ℕ} (w : Walked byte trees list₀ list index left count) where
-  abbrev pub spot-here : Spot
-  spot-here = seek_from index left (rows_from trees index)
+  abbrev pub spot_here : Spot
+  spot_here = seek_from index left (rows_from trees index)
 
-  pub sought : Found trees w.row index left spot-here
+  pub sought : Found trees w.row index left spot_here
   sought = found_row trees w.row index left w.at w.going
 
   -- the row's number, worked out from its index
-  pub number-here : spot-here.index / TREE_ROW ≡ sought.number
-  number-here = omega (arith, sought.at)
+  pub number_here : spot_here.index / TREE_ROW ≡ sought.number
+  number_here = omega (arith, sought.at)
 
   -- put on the list
-  put-here : set list count (spot-here.index / TREE_ROW) ≡ laid (w.done ++ (sought.number ∷ [])) list₀
-  put-here =
-      ap (set list count) number-here
+  put_here : set list count (spot_here.index / TREE_ROW) ≡ laid (w.done ++ (sought.number ∷ [])) list₀
+  put_here =
+      ap (set list count) number_here
       ∙ ap (λ (l : List ℕ). set l count sought.number) w.on_list
       ∙ ap (λ (n : ℕ). set (laid w.done list₀) n sought.number) w.counted
       ∙ laid_put w.done list₀ sought.number
 
-  pub walk_ends : get_or trees spot-here.index 0 ≡ LEAF
-      → (count + 1 ≡ length (holding 0 byte (tree_rows_of trees))) × (set list count (spot-here.index / TREE_ROW) ≡ laid (holding 0 byte (tree_rows_of trees)) list₀)
+  pub walk_ends : get_or trees spot_here.index 0 ≡ LEAF
+      → (count + 1 ≡ length (holding 0 byte (tree_rows_of trees))) × (set list count (spot_here.index / TREE_ROW) ≡ laid (holding 0 byte (tree_rows_of trees)) list₀)
   walk_ends e =
       let all : w.done ++ (sought.number ∷ []) ≡ holding 0 byte (tree_rows_of trees) = ap (w.done ++◌) (sym (sought.here e)) ∙ w.whole in
       let n : length (w.done ++ (sought.number ∷ [])) ≡ length w.done + 1 = length-append w.done (sought.number ∷ []) in
-      (omega (arith, w.counted, n, ap length all), put-here ∙ ap (λ (l : List ℕ). laid l list₀) all)
+      (omega (arith, w.counted, n, ap length all), put_here ∙ ap (λ (l : List ℕ). laid l list₀) all)
 
-  pub walk-on : (get_or trees spot-here.index 0 ≡ LEAF → ⊥)
-      → Walked byte trees list₀ (set list count (spot-here.index / TREE_ROW)) (spot-here.index + TREE_ROW) spot-here.left (count + 1)
-  walk-on e =
+  pub walk_on : (get_or trees spot_here.index 0 ≡ LEAF → ⊥)
+      → Walked byte trees list₀ (set list count (spot_here.index / TREE_ROW)) (spot_here.index + TREE_ROW) spot_here.left (count + 1)
+  walk_on e =
       let n : length (w.done ++ (sought.number ∷ [])) ≡ length w.done + 1 = length-append w.done (sought.number ∷ []) in
       record {
         done = w.done ++ (sought.number ∷ []);
@@ -198,14 +198,14 @@ module _ {byte : ℕ} {trees list₀ list : List ℕ} {index left count : ℕ} (
         going = (sought.deeper e).1;
         counted = omega (arith, w.counted, n);
         few = omega (arith, w.few, w.at, sought.at, sought.later);
-        on_list = put-here;
+        on_list = put_here;
         whole = append_assoc w.done (sought.number ∷ []) _ ∙ ap (w.done ++◌) (sym (sought.deeper e).0) ∙ w.whole;
       }
 
   -- the same of a spot that the code was given, and the list that it was put on
-  module _ (s : Spot) (e : s ≡ spot-here) where
-    pub at-hand : Found trees w.row index left s
-    at-hand = subst (Found trees w.row index left) (sym e) sought
+  module _ (s : Spot) (e : s ≡ spot_here) where
+    pub at_hand : Found trees w.row index left s
+    at_hand = subst (Found trees w.row index left) (sym e) sought
 
     pub ends_at : (list' : List ℕ) → list' ≡ set list count (s.index / TREE_ROW) → get_or trees s.index 0 ≡ LEAF
         → (count + 1 ≡ length (holding 0 byte (tree_rows_of trees))) × (list' ≡ laid (holding 0 byte (tree_rows_of trees)) list₀)
@@ -213,9 +213,9 @@ module _ {byte : ℕ} {trees list₀ list : List ℕ} {index left count : ℕ} (
         let z = walk_ends (ap (λ (x : Spot). get_or trees x.index 0) (sym e) ∙ h) in
         (z.0, p ∙ ap (λ (x : Spot). set list count (x.index / TREE_ROW)) e ∙ z.1)
 
-    pub on-from : (list' : List ℕ) → list' ≡ set list count (s.index / TREE_ROW) → (get_or trees s.index 0 ≡ LEAF → ⊥)
+    pub on_from : (list' : List ℕ) → list' ≡ set list count (s.index / TREE_ROW) → (get_or trees s.index 0 ≡ LEAF → ⊥)
         → Walked byte trees list₀ list' (s.index + TREE_ROW) s.left (count + 1)
-    on-from list' p h =
-        let z = walk-on (λ q. h (ap (λ (x : Spot). get_or trees x.index 0) e ∙ q)) in
+    on_from list' p h =
+        let z = walk_on (λ q. h (ap (λ (x : Spot). get_or trees x.index 0) e ∙ q)) in
         subst (λ (l : List ℕ). Walked byte trees list₀ l (s.index + TREE_ROW) s.left (count + 1)) (sym p)
         (subst (λ (x : Spot). Walked byte trees list₀ (set list count (x.index / TREE_ROW)) (x.index + TREE_ROW) x.left (count + 1)) (sym e) z)

@@ -147,9 +147,9 @@ pub record Turn (trees : List ℕ) (index room : ℕ) : Type 0 where
   pub is : rows_from trees index ≡ row_from trees index ∷ rows_from trees (index + TREE_ROW)
 
 module _ {fr to : ℕ} {goal trees list₀ list : List ℕ} {index start count : ℕ} (w : Listing fr to goal trees list₀ list index start count) (h : index + TREE_ROW ≤ length trees) where
-  pub turn-here : Turn trees index w.room
+  pub turn_here : Turn trees index w.room
   unfolding Classes AddsUp
-  turn-here =
+  turn_here =
       let e : rows_from trees index ≡ row_from trees index ∷ rows_from trees (index + TREE_ROW) = rows_cons trees index h in
       let c : Classes (row_from trees index ∷ rows_from trees (index + TREE_ROW)) = subst Classes e w.classes in
       let a : AddsUp 0 w.room (row_from trees index ∷ rows_from trees (index + TREE_ROW)) = subst (AddsUp 0 w.room) e w.adds in
@@ -162,48 +162,48 @@ module _ {fr to : ℕ} {goal trees list₀ list : List ℕ} {index start count :
         is = e;
       }
 
-  pub few-here : index / TREE_ROW < length (tree_rows_of trees)
-  few-here = let z = rows_number trees in omega (arith, z, h, w.at)
+  pub few_here : index / TREE_ROW < length (tree_rows_of trees)
+  few_here = let z = rows_number trees in omega (arith, z, h, w.at)
 
   abbrev wide : ℕ
   wide = get_or trees (index + TREE_WIDTH) 0
 
-  abbrev left-inside : ℕ
-  left-inside = wide - get_or trees index 0 * wide
+  abbrev left_inside : ℕ
+  left_inside = wide - get_or trees index 0 * wide
 
   abbrev listed_here : Bool
   listed_here = share fr to start (start + wide)
 
-  same-inside : left-inside ≡ wide - own (row_from trees index)
-  same-inside = ap (wide -◌) turn-here.product
+  same_inside : left_inside ≡ wide - own (row_from trees index)
+  same_inside = ap (wide -◌) turn_here.product
 
   abbrev row_done : List ℕ
   row_done = cond listed_here (w.done ++ (w.row ∷ [])) w.done
 
-  put-done : (b : Bool) → cond b (set list count (index / TREE_ROW)) list ≡ laid (cond b (w.done ++ (w.row ∷ [])) w.done) list₀
-  put-done true =
+  put_done : (b : Bool) → cond b (set list count (index / TREE_ROW)) list ≡ laid (cond b (w.done ++ (w.row ∷ [])) w.done) list₀
+  put_done true =
       let e : index / TREE_ROW ≡ w.row = omega (arith, w.at) in
       ap (set list count) e
       ∙ ap (λ (l : List ℕ). set l count w.row) w.on_list
       ∙ ap (λ (n : ℕ). set (laid w.done list₀) n w.row) w.counted
       ∙ laid_put w.done list₀ w.row
-  put-done false = w.on_list
+  put_done false = w.on_list
 
-  count-done : (b : Bool) → cond b (suc count) count ≡ length (cond b (w.done ++ (w.row ∷ [])) w.done)
-  count-done true = let n : length (w.done ++ (w.row ∷ [])) ≡ length w.done + 1 = length-append w.done (w.row ∷ []) in omega (arith, w.counted, n)
-  count-done false = w.counted
+  count_done : (b : Bool) → cond b (suc count) count ≡ length (cond b (w.done ++ (w.row ∷ [])) w.done)
+  count_done true = let n : length (w.done ++ (w.row ∷ [])) ≡ length w.done + 1 = length-append w.done (w.row ∷ []) in omega (arith, w.counted, n)
+  count_done false = w.counted
 
-  count-few : (b : Bool) → cond b (suc count) count ≤ suc count
-  count-few true = omega arith
-  count-few false = omega arith
+  count_few : (b : Bool) → cond b (suc count) count ≤ suc count
+  count_few true = omega arith
+  count_few false = omega arith
 
-  whole-done : (b : Bool) (more : List ℕ) → cond b (w.done ++ (w.row ∷ [])) w.done ++ more ≡ w.done ++ cond b (w.row ∷ more) more
-  whole-done true more = append_assoc w.done (w.row ∷ []) more
-  whole-done false more = refl
+  whole_done : (b : Bool) (more : List ℕ) → cond b (w.done ++ (w.row ∷ [])) w.done ++ more ≡ w.done ++ cond b (w.row ∷ more) more
+  whole_done true more = append_assoc w.done (w.row ∷ []) more
+  whole_done false more = refl
 
   -- the rows of the part that starts here are passed
   abbrev many : ℕ
-  many = passed left-inside (rows_from trees (index + TREE_ROW))
+  many = passed left_inside (rows_from trees (index + TREE_ROW))
 
   rows_on : rows_from trees (index + TREE_ROW + TREE_ROW * many) ≡ drop many (rows_from trees (index + TREE_ROW))
   rows_on = ap tree_rows_of (sym (drop-drop (TREE_ROW * many) (index + TREE_ROW) trees)) ∙ rows_drop many (drop (index + TREE_ROW) trees)
@@ -213,16 +213,16 @@ module _ {fr to : ℕ} {goal trees list₀ list : List ℕ} {index start count :
       (starting fr to (suc w.row + many) 0 (start + wide) (drop many (rows_from trees (index + TREE_ROW))))
   unfolding starting
   unfolded =
-      ap (starting fr to w.row 0 start) turn-here.is
+      ap (starting fr to w.row 0 start) turn_here.is
       ∙ ap (λ (l : List ℕ). cond listed_here (w.row ∷ l) l)
-      (ap (λ (n : ℕ). starting fr to (suc w.row) n (start + wide) (rows_from trees (index + TREE_ROW))) (sym same-inside)
-      ∙ starting_passed fr to (suc w.row) left-inside (start + wide) (rows_from trees (index + TREE_ROW)))
+      (ap (λ (n : ℕ). starting fr to (suc w.row) n (start + wide) (rows_from trees (index + TREE_ROW))) (sym same_inside)
+      ∙ starting_passed fr to (suc w.row) left_inside (start + wide) (rows_from trees (index + TREE_ROW)))
 
-  pub listing-on : (index' count' : ℕ) (list' : List ℕ) → index' ≡ index + TREE_ROW + TREE_ROW * many → count' ≡ cond listed_here (suc count) count
+  pub listing_on : (index' count' : ℕ) (list' : List ℕ) → index' ≡ index + TREE_ROW + TREE_ROW * many → count' ≡ cond listed_here (suc count) count
       → list' ≡ cond listed_here (set list count (index / TREE_ROW)) list → Listing fr to goal trees list₀ list' index' (start + wide) count'
-  listing-on index' count' list' e f g =
-      let t = turn-here in
-      let n = passed_within left-inside (rows_from trees (index + TREE_ROW)) in
+  listing_on index' count' list' e f g =
+      let t = turn_here in
+      let n = passed_within left_inside (rows_from trees (index + TREE_ROW)) in
       let k = rows_number (drop (index + TREE_ROW) trees) in
       let d = length-drop (index + TREE_ROW) trees in
       let r : rows_from trees index' ≡ drop many (rows_from trees (index + TREE_ROW)) = ap (rows_from trees) e ∙ rows_on in
@@ -231,21 +231,21 @@ module _ {fr to : ℕ} {goal trees list₀ list : List ℕ} {index start count :
         row = suc w.row + many;
         at = omega (arith, e, w.at);
         inside = omega (arith, e, n, k, d, h);
-        counted = f ∙ count-done listed_here;
-        few = (let x = count-few listed_here in omega (arith, f, x, w.few));
-        on_list = g ∙ put-done listed_here;
+        counted = f ∙ count_done listed_here;
+        few = (let x = count_few listed_here in omega (arith, f, x, w.few));
+        on_list = g ∙ put_done listed_here;
         classes = subst Classes (sym r) (classes_drop many (rows_from trees (index + TREE_ROW)) t.classes);
         room = w.room - wide;
         small = omega (arith, w.small, t.fits);
         adds = subst (AddsUp 0 (w.room - wide)) (sym r)
-            (adds_passed left-inside (w.room - wide) (rows_from trees (index + TREE_ROW)) (subst (λ (x : ℕ). AddsUp x (w.room - wide) (rows_from trees (index + TREE_ROW))) (sym same-inside) t.adds));
+            (adds_passed left_inside (w.room - wide) (rows_from trees (index + TREE_ROW)) (subst (λ (x : ℕ). AddsUp x (w.room - wide) (rows_from trees (index + TREE_ROW))) (sym same_inside) t.adds));
         whole =
             ap (λ (l : List Row). row_done ++ starting fr to (suc w.row + many) 0 (start + wide) l) r
-            ∙ whole-done listed_here _
+            ∙ whole_done listed_here _
             ∙ ap (w.done ++◌) (sym unfolded)
             ∙ w.whole;
       }
 
   -- what `past` is lent
-  pub inside-here : Classes (rows_from trees (index + TREE_ROW)) × ((room : ℕ) × AddsUp left-inside room (rows_from trees (index + TREE_ROW)))
-  inside-here = (turn-here.classes, (w.room - wide, subst (λ (x : ℕ). AddsUp x (w.room - wide) (rows_from trees (index + TREE_ROW))) (sym same-inside) turn-here.adds))
+  pub inside_here : Classes (rows_from trees (index + TREE_ROW)) × ((room : ℕ) × AddsUp left_inside room (rows_from trees (index + TREE_ROW)))
+  inside_here = (turn_here.classes, (w.room - wide, subst (λ (x : ℕ). AddsUp x (w.room - wide) (rows_from trees (index + TREE_ROW))) (sym same_inside) turn_here.adds))

@@ -11,17 +11,17 @@ use Rattle.rows.specs.OnePass.{holding, found}
 use Rattle.caret.specs.Walk.{laid}
 
 module _ (offset size : ℕ) (l : List Row) where
-  pub at-inside : ltb offset size ≡ true → found (caret offset) size l ≡ holding 0 offset l
+  pub at_inside : ltb offset size ≡ true → found (caret offset) size l ≡ holding 0 offset l
   unfolding found
-  at-inside e = rw e refl
+  at_inside e = rw e refl
 
-  pub at-past : ltb offset size ≡ false → eqb offset size ≡ false → found (caret offset) size l ≡ []
+  pub at_past : ltb offset size ≡ false → eqb offset size ≡ false → found (caret offset) size l ≡ []
   unfolding found
-  at-past e f = rw (e, f) refl
+  at_past e f = rw (e, f) refl
 
-  pub at-empty : ltb offset size ≡ false → eqb offset size ≡ true → eqb size 0 ≡ true → found (caret offset) size l ≡ 0 ∷ []
+  pub at_empty : ltb offset size ≡ false → eqb offset size ≡ true → eqb size 0 ≡ true → found (caret offset) size l ≡ 0 ∷ []
   unfolding found
-  at-empty e f g = rw (e, f, g) refl
+  at_empty e f g = rw (e, f, g) refl
 
   pub at_end : ltb offset size ≡ false → eqb offset size ≡ true → eqb size 0 ≡ false → found (caret offset) size l ≡ holding 0 (size - 1) l
   unfolding found

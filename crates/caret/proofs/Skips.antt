@@ -121,38 +121,38 @@ skips fr to (r ∷ l) i index (suc n) room pos left e h b a =
 -- ---------------------------------------------------------------- in the numbers of a file's rows
 
 module _ (fr to size : ℕ) (trees : List ℕ) (s : Sound size (tree_rows_of trees)) (h : fr < size) where
-  rows-after : rows_from trees TREE_ROW ≡ drop 1 (tree_rows_of trees)
-  rows-after = rows_drop 1 trees
+  rows_after : rows_from trees TREE_ROW ≡ drop 1 (tree_rows_of trees)
+  rows_after = rows_drop 1 trees
 
   -- what `seek` is lent
-  pub seek-there : (fr < raw_bytes (rows_from trees TREE_ROW)) × Classes (rows_from trees TREE_ROW)
-  seek-there = (
-    subst (λ (l : List Row). fr < raw_bytes l) (sym rows-after) (omega (arith, h, s.under_root)),
-    subst Classes (sym rows-after) (classes_drop 1 (tree_rows_of trees) s.classes),
+  pub seek_there : (fr < raw_bytes (rows_from trees TREE_ROW)) × Classes (rows_from trees TREE_ROW)
+  seek_there = (
+    subst (λ (l : List Row). fr < raw_bytes l) (sym rows_after) (omega (arith, h, s.under_root)),
+    subst Classes (sym rows_after) (classes_drop 1 (tree_rows_of trees) s.classes),
   )
 
-  abbrev spot-there : Spot
-  spot-there = seek_from TREE_ROW fr (rows_from trees TREE_ROW)
+  abbrev spot_there : Spot
+  spot_there = seek_from TREE_ROW fr (rows_from trees TREE_ROW)
 
-  skipped : Skipped fr to (rows_from trees TREE_ROW) 1 TREE_ROW 0 size (0 + 0) spot-there
+  skipped : Skipped fr to (rows_from trees TREE_ROW) 1 TREE_ROW 0 size (0 + 0) spot_there
   skipped =
-      skips fr to (rows_from trees TREE_ROW) 1 TREE_ROW 0 size 0 fr (omega arith) (omega arith) seek-there.0 (subst (AddsUp 0 size) (sym rows-after) s.parts)
+      skips fr to (rows_from trees TREE_ROW) 1 TREE_ROW 0 size 0 fr (omega arith) (omega arith) seek_there.0 (subst (AddsUp 0 size) (sym rows_after) s.parts)
 
-  rows-there : rows_from trees spot-there.index ≡ drop skipped.passed_rows (rows_from trees TREE_ROW)
-  rows-there =
+  rows_there : rows_from trees spot_there.index ≡ drop skipped.passed_rows (rows_from trees TREE_ROW)
+  rows_there =
       ap (rows_from trees) skipped.at
       ∙ ap tree_rows_of (sym (drop-drop (TREE_ROW * skipped.passed_rows) TREE_ROW trees))
       ∙ rows_drop skipped.passed_rows (drop TREE_ROW trees)
 
   -- of a spot that the code was given
-  module _ (x : Spot) (e : x ≡ spot-there) where
+  module _ (x : Spot) (e : x ≡ spot_there) where
     pub left_less : x.left ≤ fr
     left_less = subst (λ (y : Spot). y.left ≤ fr) (sym e) skipped.less
 
-    pub starts-there : Starts trees x.index (fr - x.left)
-    starts-there = subst (λ (y : Spot). Starts trees y.index (fr - y.left)) (sym e) here
+    pub starts_there : Starts trees x.index (fr - x.left)
+    starts_there = subst (λ (y : Spot). Starts trees y.index (fr - y.left)) (sym e) here
       where
-        here : Starts trees spot-there.index (fr - spot-there.left)
+        here : Starts trees spot_there.index (fr - spot_there.left)
         here =
             let n = rows_number (drop TREE_ROW trees) in
             let d = length-drop TREE_ROW trees in
@@ -160,17 +160,17 @@ module _ (fr to size : ℕ) (trees : List ℕ) (s : Sound size (tree_rows_of tre
               row = suc skipped.passed_rows;
               at = omega (arith, skipped.at);
               inside = omega (arith, skipped.at, skipped.some, n, d);
-              classes = subst Classes (sym rows-there) (classes_drop skipped.passed_rows (rows_from trees TREE_ROW) seek-there.1);
+              classes = subst Classes (sym rows_there) (classes_drop skipped.passed_rows (rows_from trees TREE_ROW) seek_there.1);
               room = skipped.room_left;
               small = omega (arith, skipped.fits, s.small);
-              adds = subst (AddsUp 0 skipped.room_left) (sym rows-there) skipped.adds;
+              adds = subst (AddsUp 0 skipped.room_left) (sym rows_there) skipped.adds;
             }
 
     pub all_there : found (range fr to) size (tree_rows_of trees) ≡ starting fr to (x.index / TREE_ROW) 0 (fr - x.left) (rows_from trees x.index)
     all_there =
-        let n : spot-there.index / TREE_ROW ≡ 1 + skipped.passed_rows = omega (arith, skipped.at) in
+        let n : spot_there.index / TREE_ROW ≡ 1 + skipped.passed_rows = omega (arith, skipped.at) in
         found_range fr to size (tree_rows_of trees)
-        ∙ ap (starting fr to 1 0 0) (sym rows-after)
+        ∙ ap (starting fr to 1 0 0) (sym rows_after)
         ∙ skipped.same
-        ∙ sym (λ j. starting fr to (n j) 0 (fr - spot-there.left) (rows-there j))
+        ∙ sym (λ j. starting fr to (n j) 0 (fr - spot_there.left) (rows_there j))
         ∙ ap (λ (y : Spot). starting fr to (y.index / TREE_ROW) 0 (fr - y.left) (rows_from trees y.index)) (sym e)

@@ -82,48 +82,48 @@ pub record Seeking (trees : List ℕ) (index left i rest w : ℕ) : Type 0 where
   pub fewer : rest ≤ left
 
 module _ {trees : List ℕ} {index left i rest w : ℕ} (s : Seeking trees index left i rest w) where
-  pub row-there : i + TREE_ROW ≤ length trees
-  row-there = there trees i rest s.going
+  pub row_there : i + TREE_ROW ≤ length trees
+  row_there = there trees i rest s.going
 
   pub found_here : rest < w → spot i rest ≡ seek_from index left (rows_from trees index)
   found_here h = sym (here trees i rest s.going (omega (arith, h, s.read))) ∙ s.same
 
   -- past the first row of a turn
   module _ (h : w ≤ rest) where
-    abbrev rest-1 : ℕ
-    rest-1 = rest - get_or trees i 0 * w
+    abbrev rest_1 : ℕ
+    rest_1 = rest - get_or trees i 0 * w
 
     past_first : Past trees i rest (get_or trees i 0 * w)
     past_first = subst (λ (x : ℕ). Past trees i rest (get_or trees i 0 * x)) (sym s.read) (past_row trees i rest s.going (omega (arith, h, s.read)))
 
-    pub first-less : get_or trees i 0 * w ≤ rest
-    first-less = past_first.less
+    pub first_less : get_or trees i 0 * w ≤ rest
+    first_less = past_first.less
 
-    pub second-there : i + TREE_ROW + TREE_ROW ≤ length trees
-    second-there = there trees (i + TREE_ROW) rest-1 past_first.going
+    pub second_there : i + TREE_ROW + TREE_ROW ≤ length trees
+    second_there = there trees (i + TREE_ROW) rest_1 past_first.going
 
-    pub found-second : rest-1 < get_or trees (i + TREE_ROW + TREE_WIDTH) 0 → spot (i + TREE_ROW) rest-1 ≡ seek_from index left (rows_from trees index)
-    found-second q = sym (here trees (i + TREE_ROW) rest-1 past_first.going q) ∙ sym past_first.same ∙ s.same
+    pub found_second : rest_1 < get_or trees (i + TREE_ROW + TREE_WIDTH) 0 → spot (i + TREE_ROW) rest_1 ≡ seek_from index left (rows_from trees index)
+    found_second q = sym (here trees (i + TREE_ROW) rest_1 past_first.going q) ∙ sym past_first.same ∙ s.same
 
     -- and past the second
-    module _ (q : get_or trees (i + TREE_ROW + TREE_WIDTH) 0 ≤ rest-1) where
+    module _ (q : get_or trees (i + TREE_ROW + TREE_WIDTH) 0 ≤ rest_1) where
       abbrev moved : ℕ
       moved = get_or trees (i + TREE_ROW) 0 * get_or trees (i + TREE_ROW + TREE_WIDTH) 0
 
-      past-second : Past trees (i + TREE_ROW) rest-1 moved
-      past-second = past_row trees (i + TREE_ROW) rest-1 past_first.going q
+      past_second : Past trees (i + TREE_ROW) rest_1 moved
+      past_second = past_row trees (i + TREE_ROW) rest_1 past_first.going q
 
-      pub second-less : moved ≤ rest-1
-      second-less = past-second.less
+      pub second_less : moved ≤ rest_1
+      second_less = past_second.less
 
-      pub third-there : i + TREE_ROW + TREE_ROW + TREE_ROW ≤ length trees
-      third-there = there trees (i + TREE_ROW + TREE_ROW) (rest-1 - moved) past-second.going
+      pub third_there : i + TREE_ROW + TREE_ROW + TREE_ROW ≤ length trees
+      third_there = there trees (i + TREE_ROW + TREE_ROW) (rest_1 - moved) past_second.going
 
-      pub both-past : (j : ℕ) → j ≡ i + TREE_ROW + TREE_ROW → Seeking trees index left j (rest-1 - moved) (get_or trees (j + TREE_WIDTH) 0)
-      both-past j e =
+      pub both_past : (j : ℕ) → j ≡ i + TREE_ROW + TREE_ROW → Seeking trees index left j (rest_1 - moved) (get_or trees (j + TREE_WIDTH) 0)
+      both_past j e =
           record {
-            same = ap (λ (k : ℕ). seek_from k (rest-1 - moved) (rows_from trees k)) e ∙ sym past-second.same ∙ sym past_first.same ∙ s.same;
-            going = subst (λ (k : ℕ). Going trees k (rest-1 - moved)) (sym e) past-second.going;
+            same = ap (λ (k : ℕ). seek_from k (rest_1 - moved) (rows_from trees k)) e ∙ sym past_second.same ∙ sym past_first.same ∙ s.same;
+            going = subst (λ (k : ℕ). Going trees k (rest_1 - moved)) (sym e) past_second.going;
             read = refl;
             fewer = omega (arith, s.fewer);
           }

@@ -24,7 +24,7 @@ use Rattle.call.specs.declared.Answer.{Answer}
 use Rattle.call.specs.declared.text.TextAnswer.{TextAnswer}
 use Rattle.call.specs.Result.{answer_of, result_of, text_result_of}
 use Rattle.call.specs.Text.{refused_text_with, rows_kept, rows_left}
-use Rattle.call.proofs.Called.{sound-call}
+use Rattle.call.proofs.Called.{sound_call}
 use Rattle.call.proofs.TextRows.{rows_and_zeros, all_zeros}
 use Rattle.grammar.specs.declared.entry.Entrypoint.{Entrypoint}
 use Rattle.grammar.specs.Subprograms.{entry_for}
@@ -74,9 +74,9 @@ pub front_passes : (bytes tokens tokens' : List ℕ) (n : ℕ) → RowsRead byte
 front_passes bytes tokens tokens' n w = ap (check_input bytes) w.front ∙ w.passes
 
 module _ (e : Entrypoint) (setting : ℕ) (bytes tokens tokens' tokens'' : List ℕ) (b b' : Buffers) (n : ℕ) (a : Answer) (x : TextAnswer) (w : RowsRead bytes tokens tokens' n) where
-  kept-as : text_result_of (rows_kept a n) (rows_left a n tokens') b' ≡ with_rows (numbers_of (lex bytes)) tokens (result_of a b')
+  kept_as : text_result_of (rows_kept a n) (rows_left a n tokens') b' ≡ with_rows (numbers_of (lex bytes)) tokens (result_of a b')
   unfolding with_rows
-  kept-as =
+  kept_as =
       λ i. record {
         answer = answer_of a;
         token_count = cond (eqb a.number 0) (w.count i / TOKEN_ROW) 0;
@@ -84,11 +84,11 @@ module _ (e : Entrypoint) (setting : ℕ) (bytes tokens tokens' tokens'' : List 
         buffers = b';
       }
 
-  pub parsed-entry : result_of a b' ≡ Call.parse (entry_for e) setting bytes (tokens_of (take n tokens')) b → x ≡ rows_kept a n → tokens'' ≡ rows_left a n tokens'
+  pub parsed_entry : result_of a b' ≡ Call.parse (entry_for e) setting bytes (tokens_of (take n tokens')) b → x ≡ rows_kept a n → tokens'' ≡ rows_left a n tokens'
       → text_result_of x tokens'' b' ≡ entry_text e setting bytes tokens b
   unfolding entry_text entry_checked
-  parsed-entry p f g =
-      (λ i. text_result_of (f i) (g i) b') ∙ kept-as
+  parsed_entry p f g =
+      (λ i. text_result_of (f i) (g i) b') ∙ kept_as
       ∙ ap (with_rows (numbers_of (lex bytes)) tokens) (p ∙ ap (λ (l : List ℕ). Call.parse (entry_for e) setting bytes (tokens_of l) b) w.front)
       ∙ ap (λ (v : TextVerdict). entry_checked v e setting bytes (numbers_of (lex bytes)) tokens b) w.is_sound
 
@@ -113,4 +113,4 @@ known_entry e setting bytes tokens b n x k h = h ∙ go (check_text bytes (lex b
     go (unsound q) f = refl
     go sound f =
         let s = sound_text bytes (length tokens) (sym f) in
-        ap (with_rows rows tokens) (sound-call (entry_for e) setting bytes rows b n (Call.parse (entry_for e) setting bytes (tokens_of rows) b) k (rows_pass bytes s.few s.allowed) refl)
+        ap (with_rows rows tokens) (sound_call (entry_for e) setting bytes rows b n (Call.parse (entry_for e) setting bytes (tokens_of rows) b) k (rows_pass bytes s.few s.allowed) refl)

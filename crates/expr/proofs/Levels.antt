@@ -23,7 +23,7 @@ use Rattle.token_rows.specs.Tokens.{SEEN_AT_END, kind_of}
 use Rattle.binding_power.specs.Power.{level_in, worked_out, left_of, right_of, is_binary}
 use Rattle.basics.proofs.Tests.{and_left, and_right}
 use Rattle.expr.specs.Subprograms.{ternary_rhs}
-use Rattle.machine.proofs.Way.{Way, c-walk, c-act, c-ret, c-yes, c-no}
+use Rattle.machine.proofs.Way.{Way, c_walk, c_act, c_ret, c_yes, c_no}
 
 -- ---------------------------------------------------------------- a second peek moves nothing
 
@@ -76,8 +76,8 @@ infix_choice min =
 
 module _ (ask : Rule → Machine → Walked) (ts : List Token) (b : Span) (min : ℕ) (m : Machine) where
   -- an operator of this level
-  abbrev level-arm : ℕ → Walked
-  level-arm n = cond (eqb n 0) (said yes m) (cond (ltb (left_power n) min) (said yes m) (walk ask ts b (bump! ⨟ rhs (right_power n)) m))
+  abbrev level_arm : ℕ → Walked
+  level_arm n = cond (eqb n 0) (said yes m) (cond (ltb (left_power n) min) (said yes m) (walk ask ts b (bump! ⨟ rhs (right_power n)) m))
 
   -- an operator with these powers, of a level or the ternary
   abbrev pub arm : ℕ → ℕ → Walked
@@ -86,7 +86,7 @@ module _ (ask : Rule → Machine → Walked) (ts : List Token) (b : Span) (min :
   -- a test of a set, by what is seen
   looks : peek ts m ≡ m → (ks : List ℕ) (t : Bool) → first_in ks (rest ts m) ≡ t → Way ask ts b (silent (set ks)) m (said (truth t) m)
   unfolding silent perform
-  looks still ks t e = c-act (ap (λ (t : Bool). said (truth t) m) (sym e) ∙ ap (λ (x : Machine). said (truth (first_in ks (rest ts x))) x) (sym still))
+  looks still ks t e = c_act (ap (λ (t : Bool). said (truth t) m) (sym e) ∙ ap (λ (x : Machine). said (truth (first_in ks (rest ts x))) x) (sym still))
 
   -- the power test of an operator that is there
   stronger : (l : ℕ) (p : Prog) → Way ask ts b (if act (less l min) then tell yes else p) m (cond (ltb l min) (said yes m) (walk ask ts b p m))
@@ -94,36 +94,36 @@ module _ (ask : Rule → Machine → Walked) (ts : List Token) (b : Span) (min :
   stronger l p = by (ltb l min) refl
     where
       by : (t : Bool) → ltb l min ≡ t → Way ask ts b (if act (less l min) then tell yes else p) m (cond t (said yes m) (walk ask ts b p m))
-      by true e = c-yes (c-act (ap (λ (t : Bool). said (truth t) m) (sym e))) refl c-ret
-      by false e = c-no (c-act (ap (λ (t : Bool). said (truth t) m) (sym e))) refl (c-walk refl)
+      by true e = c_yes (c_act (ap (λ (t : Bool). said (truth t) m) (sym e))) refl c_ret
+      by false e = c_no (c_act (ap (λ (t : Bool). said (truth t) m) (sym e))) refl (c_walk refl)
 
   -- at the end of the tokens no level matches
-  no-level : peek ts m ≡ m → rest ts m ≡ [] → (ls : List Level) → Way ask ts b (infix_levels min ls) m (said yes m)
+  no_level : peek ts m ≡ m → rest ts m ≡ [] → (ls : List Level) → Way ask ts b (infix_levels min ls) m (said yes m)
   unfolding infix_levels first_in
-  no-level still e [] = c-ret
-  no-level still e (l ∷ ls) = c-no (looks still l.kinds false (ap (first_in l.kinds) e)) refl (no-level still e ls)
+  no_level still e [] = c_ret
+  no_level still e (l ∷ ls) = c_no (looks still l.kinds false (ap (first_in l.kinds) e)) refl (no_level still e ls)
 
   -- at a token, its level does, or none
   some_level : peek ts m ≡ m → (t : Token) (l : List Token) → rest ts m ≡ t ∷ l → (ls : List Level) → numbered ls ≡ true
-      → Way ask ts b (infix_levels min ls) m (level-arm (level_in ls (seen t)))
+      → Way ask ts b (infix_levels min ls) m (level_arm (level_in ls (seen t)))
   unfolding infix_levels first_in level_in numbered
-  some_level still t l e [] h = c-ret
+  some_level still t l e [] h = c_ret
   some_level still t l e (x ∷ ls) h = by (one_of x.kinds (seen t)) refl (some_level still t l e ls (and_right (ltb 0 x.number) (numbered ls) h))
     where
       positive : eqb x.number 0 ≡ false
       positive = let q = ltb-true 0 x.number (and_left (ltb 0 x.number) (numbered ls) h) in ne_eqb x.number 0 (λ z. absurd (omega (arith, q, z)))
 
-      by : (c : Bool) → one_of x.kinds (seen t) ≡ c → Way ask ts b (infix_levels min ls) m (level-arm (level_in ls (seen t)))
-          → Way ask ts b (infix_levels min (x ∷ ls)) m (level-arm (cond c x.number (level_in ls (seen t))))
+      by : (c : Bool) → one_of x.kinds (seen t) ≡ c → Way ask ts b (infix_levels min ls) m (level_arm (level_in ls (seen t)))
+          → Way ask ts b (infix_levels min (x ∷ ls)) m (level_arm (cond c x.number (level_in ls (seen t))))
       by true f r =
           let n = x.number in
-          c-yes (looks still x.kinds true (ap (first_in x.kinds) e ∙ f)) refl
-          (c-walk (ap (λ (c : Bool). cond c (said yes m) (cond (ltb (left_power n) min) (said yes m) (walk ask ts b (bump! ⨟ rhs (right_power n)) m))) positive
+          c_yes (looks still x.kinds true (ap (first_in x.kinds) e ∙ f)) refl
+          (c_walk (ap (λ (c : Bool). cond c (said yes m) (cond (ltb (left_power n) min) (said yes m) (walk ask ts b (bump! ⨟ rhs (right_power n)) m))) positive
           ∙ (stronger (left_power n) (bump! ⨟ rhs (right_power n))).is))
-      by false f r = c-no (looks still x.kinds false (ap (first_in x.kinds) e ∙ f)) refl r
+      by false f r = c_no (looks still x.kinds false (ap (first_in x.kinds) e ∙ f)) refl r
 
   -- a level's left power is odd, so it is neither 0, which means no operator, nor 2, the ternary's
-  apart : (n : ℕ) → arm (worked_out left_power n) (worked_out right_power n) ≡ level-arm n
+  apart : (n : ℕ) → arm (worked_out left_power n) (worked_out right_power n) ≡ level_arm n
   apart n = by (eqb n 0)
     where
       by : (c : Bool) → arm (cond c 0 (left_power n)) (cond c 0 (right_power n))
@@ -137,23 +137,23 @@ module _ (ask : Rule → Machine → Walked) (ts : List Token) (b : Span) (min :
           ∙ ap inner (ne_eqb (left_power n) 2 (λ z. absurd (omega (arith, z))))
 
   -- at a token: the ternary, or its level
-  choice-token : peek ts m ≡ m → (t : Token) (l : List Token) → rest ts m ≡ t ∷ l → (c : Bool) → one_of (K.QuestionMark ∷ []) (seen t) ≡ c
+  choice_token : peek ts m ≡ m → (t : Token) (l : List Token) → rest ts m ≡ t ∷ l → (c : Bool) → one_of (K.QuestionMark ∷ []) (seen t) ≡ c
       → Way ask ts b (infix_choice min) m
       (arm (cond c ternary_left (worked_out left_power (level_in binary_levels (seen t)))) (cond c ternary_right (worked_out right_power (level_in binary_levels (seen t)))))
   unfolding first_in silent
-  choice-token still t l e true f = c-yes (looks still (K.QuestionMark ∷ []) true (ap (first_in (K.QuestionMark ∷ [])) e ∙ f)) refl (stronger ternary_left (bump! ⨟ ternary_rhs))
-  choice-token still t l e false f =
-      c-no (looks still (K.QuestionMark ∷ []) false (ap (first_in (K.QuestionMark ∷ [])) e ∙ f)) refl
-      (c-walk (apart (level_in binary_levels (seen t)) ∙ (some_level still t l e binary_levels binary_levels_numbered).is))
+  choice_token still t l e true f = c_yes (looks still (K.QuestionMark ∷ []) true (ap (first_in (K.QuestionMark ∷ [])) e ∙ f)) refl (stronger ternary_left (bump! ⨟ ternary_rhs))
+  choice_token still t l e false f =
+      c_no (looks still (K.QuestionMark ∷ []) false (ap (first_in (K.QuestionMark ∷ [])) e ∙ f)) refl
+      (c_walk (apart (level_in binary_levels (seen t)) ∙ (some_level still t l e binary_levels binary_levels_numbered).is))
 
-  choice-at : peek ts m ≡ m → (l : List Token) → rest ts m ≡ l → Way ask ts b (infix_choice min) m (arm (left_of (kind_of l)) (right_of (kind_of l)))
+  choice_at : peek ts m ≡ m → (l : List Token) → rest ts m ≡ l → Way ask ts b (infix_choice min) m (arm (left_of (kind_of l)) (right_of (kind_of l)))
   unfolding left_of right_of level_in kind_of first_in one_of silent
-  choice-at still [] e = c-no (looks still (K.QuestionMark ∷ []) false (ap (first_in (K.QuestionMark ∷ [])) e)) refl (no-level still e binary_levels)
-  choice-at still (t ∷ l) e = choice-token still t l e (one_of (K.QuestionMark ∷ []) (seen t)) refl
+  choice_at still [] e = c_no (looks still (K.QuestionMark ∷ []) false (ap (first_in (K.QuestionMark ∷ [])) e)) refl (no_level still e binary_levels)
+  choice_at still (t ∷ l) e = choice_token still t l e (one_of (K.QuestionMark ∷ []) (seen t)) refl
 
   -- which arm a turn takes
   pub choice : peek ts m ≡ m → Way ask ts b (infix_choice min) m (arm (left_of (kind_of (rest ts m))) (right_of (kind_of (rest ts m))))
-  choice still = choice-at still (rest ts m) refl
+  choice still = choice_at still (rest ts m) refl
 
 -- ---------------------------------------------------------------- a turn, as the code finds the operator
 
@@ -182,33 +182,33 @@ module _ {ask : Rule → Machine → Walked} {ts : List Token} {b : Span} {m x :
       }
 
   -- no operator; one that binds too weakly; the ternary; any other
-  pub turn-none : eqb l 0 ≡ true → Way ask ts b (infix_turn min) m (said yes x)
-  turn-none e =
-      c-walk
+  pub turn_none : eqb l 0 ≡ true → Way ask ts b (infix_turn min) m (said yes x)
+  turn_none e =
+      c_walk
       (sym (ap (λ (c : Bool). cond c (said yes x) (cond (ltb l min) (said yes x) (cond (eqb l 2) (walk ask ts b (bump! ⨟ ternary_rhs) x) (walk ask ts b (bump! ⨟ rhs r) x)))) e)
       ∙ turn.is)
 
-  pub turn-weaker : eqb l 0 ≡ false → ltb l min ≡ true → Way ask ts b (infix_turn min) m (said yes x)
-  turn-weaker e f =
-      c-walk
+  pub turn_weaker : eqb l 0 ≡ false → ltb l min ≡ true → Way ask ts b (infix_turn min) m (said yes x)
+  turn_weaker e f =
+      c_walk
       (sym (ap (λ (c : Bool). cond c (said yes x) (cond (eqb l 2) (walk ask ts b (bump! ⨟ ternary_rhs) x) (walk ask ts b (bump! ⨟ rhs r) x))) f)
       ∙ sym (ap (λ (c : Bool). cond c (said yes x) (cond (ltb l min) (said yes x) (cond (eqb l 2) (walk ask ts b (bump! ⨟ ternary_rhs) x) (walk ask ts b (bump! ⨟ rhs r) x)))) e)
       ∙ turn.is)
 
   taken : eqb l 0 ≡ false → ltb l min ≡ false → Way ask ts b (infix_turn min) m (cond (eqb l 2) (walk ask ts b (bump! ⨟ ternary_rhs) x) (walk ask ts b (bump! ⨟ rhs r) x))
   taken e f =
-      c-walk
+      c_walk
       (sym (ap (λ (c : Bool). cond c (said yes x) (cond (eqb l 2) (walk ask ts b (bump! ⨟ ternary_rhs) x) (walk ask ts b (bump! ⨟ rhs r) x))) f)
       ∙ sym (ap (λ (c : Bool). cond c (said yes x) (cond (ltb l min) (said yes x) (cond (eqb l 2) (walk ask ts b (bump! ⨟ ternary_rhs) x) (walk ask ts b (bump! ⨟ rhs r) x)))) e)
       ∙ turn.is)
 
-  pub turn-ternary : {w : Walked} → eqb l 0 ≡ false → ltb l min ≡ false → eqb l 2 ≡ true → Way ask ts b (bump! ⨟ ternary_rhs) x w → Way ask ts b (infix_turn min) m w
-  turn-ternary e f g h =
-      c-walk (h.is ∙ sym (ap (λ (c : Bool). cond c (walk ask ts b (bump! ⨟ ternary_rhs) x) (walk ask ts b (bump! ⨟ rhs r) x)) g) ∙ (taken e f).is)
+  pub turn_ternary : {w : Walked} → eqb l 0 ≡ false → ltb l min ≡ false → eqb l 2 ≡ true → Way ask ts b (bump! ⨟ ternary_rhs) x w → Way ask ts b (infix_turn min) m w
+  turn_ternary e f g h =
+      c_walk (h.is ∙ sym (ap (λ (c : Bool). cond c (walk ask ts b (bump! ⨟ ternary_rhs) x) (walk ask ts b (bump! ⨟ rhs r) x)) g) ∙ (taken e f).is)
 
-  pub turn-binary : {w : Walked} → eqb l 0 ≡ false → ltb l min ≡ false → eqb l 2 ≡ false → Way ask ts b (bump! ⨟ rhs r) x w → Way ask ts b (infix_turn min) m w
-  turn-binary e f g h =
-      c-walk (h.is ∙ sym (ap (λ (c : Bool). cond c (walk ask ts b (bump! ⨟ ternary_rhs) x) (walk ask ts b (bump! ⨟ rhs r) x)) g) ∙ (taken e f).is)
+  pub turn_binary : {w : Walked} → eqb l 0 ≡ false → ltb l min ≡ false → eqb l 2 ≡ false → Way ask ts b (bump! ⨟ rhs r) x w → Way ask ts b (infix_turn min) m w
+  turn_binary e f g h =
+      c_walk (h.is ∙ sym (ap (λ (c : Bool). cond c (walk ask ts b (bump! ⨟ ternary_rhs) x) (walk ask ts b (bump! ⨟ rhs r) x)) g) ∙ (taken e f).is)
 
 -- ---------------------------------------------------------------- `InfixOp::at` where an expression has no left side
 
@@ -223,6 +223,6 @@ pub at_binary : {ask : Rule → Machine → Walked} {ts : List Token} {b : Span}
     → Way ask ts b (expected E.InfixOperator ⨟ silent (set INFIX_BUT_TERNARY)) m (said (truth c) x)
 unfolding walk perform silent
 at_binary {ts = ts} {x = x} c ex ec =
-    c-walk
+    c_walk
     (ap (λ (t : Bool). said (truth t) x) (ec ∙ sym (binary_first (rest ts x)))
     ∙ ap (λ (y : Machine). said (truth (first_in INFIX_BUT_TERNARY (rest ts y))) y) ex)

@@ -179,11 +179,11 @@ kind_seen k t ts n r e =
 knows_bracket : (d : Known) (l : List Token) → (first_in (K.RParen ∷ []) l || ended l) ≡ true → knows d l ≡ true → knows (ended_or_in (K.RParen ∷ []) d) l ≡ true
 unfolding ended_or_in knows seen_in
 knows_bracket d [] t h = h
-knows_bracket d (x ∷ xs) t h = knows_seen (K.RParen ∷ []) d (x ∷ xs) (or-false (first_in (K.RParen ∷ []) (x ∷ xs)) t) h
+knows_bracket d (x ∷ xs) t h = knows_seen (K.RParen ∷ []) d (x ∷ xs) (or_false (first_in (K.RParen ∷ []) (x ∷ xs)) t) h
   where
-    or-false : (b : Bool) → (b || false) ≡ true → b ≡ true
-    or-false true e = refl
-    or-false false e = e
+    or_false : (b : Bool) → (b || false) ≡ true → b ≡ true
+    or_false true e = refl
+    or_false false e = e
 
 -- what is known after it
 abbrev Argument : Fact → State → Out → Type 0
@@ -197,29 +197,29 @@ module _ (d : Fact) (s₀ s : State) (l : List Token) (e : drop_trivia s.rest �
   shorter : length l ≤ length s.rest
   shorter = omega (arith, ap length e, drop_trivia_length s.rest)
 
-  again-dropped : drop_trivia l ≡ drop_trivia s.rest
-  again-dropped = ap drop_trivia (sym e) ∙ drop_twice s.rest
+  again_dropped : drop_trivia l ≡ drop_trivia s.rest
+  again_dropped = ap drop_trivia (sym e) ∙ drop_twice s.rest
 
-  right-stays : (g : Known → Known) (f : By) → ((k : Known) → knows k l ≡ true → knows (g k) l ≡ true) → Right f s → Right (map g f) stays
-  right-stays g f k r =
+  right_stays : (g : Known → Known) (f : By) → ((k : Known) → knows k l ≡ true → knows (g k) l ≡ true) → Right f s → Right (map g f) stays
+  right_stays g f k r =
       record {
-        told = subst (λ (x : List Token). Told (pend_from empty s.pending) (map g f) x) (sym (again-dropped ∙ e))
+        told = subst (λ (x : List Token). Told (pend_from empty s.pending) (map g f) x) (sym (again_dropped ∙ e))
             (told_map (pend_from empty s.pending) g f l l k (subst (λ (x : List Token). Told (pend_from empty s.pending) f x) e r.told));
       }
 
-  holds-stays : (k : Known) (g : Known → Known) → ((x : Known) → knows x l ≡ true → knows (g x) l ≡ true) → Holds (argued k g d) s₀ stays
+  holds_stays : (k : Known) (g : Known → Known) → ((x : Known) → knows x l ≡ true → knows (g x) l ≡ true) → Holds (argued k g d) s₀ stays
   unfolding argued
-  holds-stays k g p =
-      holds_to d (argued k g d) s₀ s stays refl shorter (right-stays g d.fresh p) (λ r. right_right (cleared k) (map g d.took) stays (right-stays g d.took p r)) h
+  holds_stays k g p =
+      holds_to d (argued k g d) s₀ s stays refl shorter (right_stays g d.fresh p) (λ r. right_right (cleared k) (map g d.took) stays (right_stays g d.took p r)) h
 
   -- it ends at a comma; at a bracket or at the end
-  stops-comma : first_in (K.Comma ∷ []) l ≡ true → Argument d s₀ (replies yes stays)
+  stops_comma : first_in (K.Comma ∷ []) l ≡ true → Argument d s₀ (replies yes stays)
   unfolding act_look get replies
-  stops-comma i = holds-stays (known false (some (K.Comma ∷ []))) (seen_in (K.Comma ∷ [])) (λ x. knows_seen (K.Comma ∷ []) x l i)
+  stops_comma i = holds_stays (known false (some (K.Comma ∷ []))) (seen_in (K.Comma ∷ [])) (λ x. knows_seen (K.Comma ∷ []) x l i)
 
-  stops-bracket : (first_in (K.RParen ∷ []) l || ended l) ≡ true → Argument d s₀ (replies no stays)
+  stops_bracket : (first_in (K.RParen ∷ []) l || ended l) ≡ true → Argument d s₀ (replies no stays)
   unfolding act_look get replies
-  stops-bracket i = holds-stays (known true (some (K.RParen ∷ []))) (ended_or_in (K.RParen ∷ [])) (λ x. knows_bracket x l i)
+  stops_bracket i = holds_stays (known true (some (K.RParen ∷ []))) (ended_or_in (K.RParen ∷ [])) (λ x. knows_bracket x l i)
 
 -- some of it was taken
 holds_argued : (k : Known) (g : Known → Known) (d : Fact) (s₀ s : State) → fact_within (argued k g bumped) (fact nowhere (cleared k)) ≡ true → Holds (argued k g bumped) s₀ s → Holds (argued k g d) s₀ s
@@ -260,7 +260,7 @@ at_the_end = refl
 
 argument_holds : (n : ℕ) (d : Fact) (s₀ s : State) (ts : List Token) → drop_trivia s.rest ≡ drop_trivia ts → length ts ≤ length s.rest → Holds d s₀ s → Argument d s₀ (do_argument n s ts)
 unfolding do_argument
-argument_holds n d s₀ s [] e l h = stops-bracket d s₀ s [] (e ∙ none_left) h at_the_end
+argument_holds n d s₀ s [] e l h = stops_bracket d s₀ s [] (e ∙ none_left) h at_the_end
 argument_holds n d s₀ s (t ∷ ts) e l h =
     cond-with (Argument d s₀) (trivia t)
     (λ i. argument_holds n d s₀ s ts (e ∙ drop_trivium t ts i) (omega arith) h)
@@ -272,10 +272,10 @@ argument_holds n d s₀ s (t ∷ ts) e l h =
     (argument_holds m bumped s₀ (taken ts) ts refl (le_refl _) (holds_taken d s₀ s ts (omega arith) h))) in
     cond-all (Argument d s₀) (eqb t.kind K.LParen) (go (suc n))
     (cond-with (Argument d s₀) (eqb t.kind K.RParen)
-    (λ j. depth_argument d s₀ n _ _ (stops-bracket d s₀ s (t ∷ ts) f h (ap (◌|| false) (kind_seen K.RParen t ts (unfold is_error in refl) refl j))) go)
+    (λ j. depth_argument d s₀ n _ _ (stops_bracket d s₀ s (t ∷ ts) f h (ap (◌|| false) (kind_seen K.RParen t ts (unfold is_error in refl) refl j))) go)
     (λ _.
     cond-with (Argument d s₀) (eqb t.kind K.Comma)
-    (λ j. depth_argument d s₀ n _ _ (stops-comma d s₀ s (t ∷ ts) f h (kind_seen K.Comma t ts (unfold is_error in refl) refl j)) (λ m. go (suc m)))
+    (λ j. depth_argument d s₀ n _ _ (stops_comma d s₀ s (t ∷ ts) f h (kind_seen K.Comma t ts (unfold is_error in refl) refl j)) (λ m. go (suc m)))
     (λ _. go n))))
 
 -- ---------------------------------------------------------------- every action

@@ -52,24 +52,24 @@ module _ (s₀ s : State) where
   in_any l again (suc k) h = holds_right l.if_no _ s₀ s (holds_right l.if_yes _ s₀ s (holds_right l.if_also _ s₀ s (holds_right l.if_again _ s₀ s h)))
 
   -- again, whatever it shapes
-  pub in-again : (l : Look) (k : ℕ) → Holds (get l again k) s₀ s → Holds (again_of l) s₀ s
+  pub in_again : (l : Look) (k : ℕ) → Holds (get l again k) s₀ s → Holds (again_of l) s₀ s
   unfolding get
-  in-again l zero h = holds_left l.if_again l.if_linked s₀ s h
-  in-again l (suc k) h = holds_right l.if_again l.if_linked s₀ s h
+  in_again l zero h = holds_left l.if_again l.if_linked s₀ s h
+  in_again l (suc k) h = holds_right l.if_again l.if_linked s₀ s h
 
-  pub in-unshaped : (l : Look) (a : Ans) (k : ℕ) → Holds (get l a k) s₀ s → Holds (get (unshaped l) a 0) s₀ s
+  pub in_unshaped : (l : Look) (a : Ans) (k : ℕ) → Holds (get l a k) s₀ s → Holds (get (unshaped l) a 0) s₀ s
   unfolding get
-  in-unshaped l no k h = h
-  in-unshaped l yes k h = h
-  in-unshaped l also k h = h
-  in-unshaped l again k h = in-again l k h
+  in_unshaped l no k h = h
+  in_unshaped l yes k h = h
+  in_unshaped l also k h = h
+  in_unshaped l again k h = in_again l k h
 
-  pub in-stopped : (l : Look) (a : Ans) (k j : ℕ) → is_again a ≡ false → Holds (get l a k) s₀ s → Holds (get (stopped l) a j) s₀ s
+  pub in_stopped : (l : Look) (a : Ans) (k j : ℕ) → is_again a ≡ false → Holds (get l a k) s₀ s → Holds (get (stopped l) a j) s₀ s
   unfolding get is_again
-  in-stopped l no k j e h = h
-  in-stopped l yes k j e h = h
-  in-stopped l also k j e h = h
-  in-stopped l again k j e h = absurd (true≢false e)
+  in_stopped l no k j e h = h
+  in_stopped l yes k j e h = h
+  in_stopped l also k j e h = h
+  in_stopped l again k j e h = absurd (true≢false e)
 
   pub in_later : (l : Look) (a : Ans) (k : ℕ) → Holds (taken_before (get l a k)) s₀ s → Holds (get (later l) a k) s₀ s
   unfolding get
@@ -79,19 +79,19 @@ module _ (s₀ s : State) where
   in_later l again zero h = h
   in_later l again (suc k) h = h
 
-  pub in-weaken : (l m : Look) → looks_within l m ≡ true → (a : Ans) (k : ℕ) → Holds (get l a k) s₀ s → Holds (get m a k) s₀ s
+  pub in_weaken : (l m : Look) → looks_within l m ≡ true → (a : Ans) (k : ℕ) → Holds (get l a k) s₀ s → Holds (get m a k) s₀ s
   unfolding looks_within get
-  in-weaken l m e no k h = holds_weaken l.if_no m.if_no s₀ s (and_left (fact_within l.if_no m.if_no) _ (and_right l.ok _ e)) h
-  in-weaken l m e yes k h =
+  in_weaken l m e no k h = holds_weaken l.if_no m.if_no s₀ s (and_left (fact_within l.if_no m.if_no) _ (and_right l.ok _ e)) h
+  in_weaken l m e yes k h =
       holds_weaken l.if_yes m.if_yes s₀ s (and_left (fact_within l.if_yes m.if_yes) _ (and_right (fact_within l.if_no m.if_no) _ (and_right l.ok _ e))) h
-  in-weaken l m e also k h =
+  in_weaken l m e also k h =
       holds_weaken l.if_also m.if_also s₀ s
       (and_left (fact_within l.if_also m.if_also) _ (and_right (fact_within l.if_yes m.if_yes) _ (and_right (fact_within l.if_no m.if_no) _ (and_right l.ok _ e)))) h
-  in-weaken l m e again zero h =
+  in_weaken l m e again zero h =
       holds_weaken l.if_again m.if_again s₀ s
       (and_left (fact_within l.if_again m.if_again) _
       (and_right (fact_within l.if_also m.if_also) _ (and_right (fact_within l.if_yes m.if_yes) _ (and_right (fact_within l.if_no m.if_no) _ (and_right l.ok _ e))))) h
-  in-weaken l m e again (suc k) h =
+  in_weaken l m e again (suc k) h =
       holds_weaken l.if_linked m.if_linked s₀ s
       (and_right (fact_within l.if_again m.if_again) _
       (and_right (fact_within l.if_also m.if_also) _ (and_right (fact_within l.if_yes m.if_yes) _ (and_right (fact_within l.if_no m.if_no) _ (and_right l.ok _ e))))) h

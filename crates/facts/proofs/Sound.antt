@@ -20,9 +20,9 @@ use Rattle.facts.proofs.Look.{Look, get, only, any_of, and_ok, either, unshaped,
 use Rattle.facts.proofs.Table.{calls_in, calls_out, wide_in, wide_out, calls_by, calls, table, calls_hold, wide_holds, start, whole_looks}
 use Rattle.facts.proofs.Holds.{fresh_way, Holds, holds_left, holds_weaken, holds_never}
 use Rattle.facts.proofs.Acts.{nothing_knows, act_holds}
-use Rattle.facts.proofs.Looks.{in_only, in_and, in_first, in_second, in_any, in-again, in-unshaped, in-stopped, in-weaken}
+use Rattle.facts.proofs.Looks.{in_only, in_and, in_first, in_second, in_any, in_again, in_unshaped, in_stopped, in_weaken}
 use Rattle.facts.proofs.Good.{Good, Free, each_append, free_append, Gives, Sound, gives_by, gives_begun, gives_add}
-use Rattle.facts.proofs.Turns.{from_sound, joined-sound, iter-gives, links-gives}
+use Rattle.facts.proofs.Turns.{from_sound, joined_sound, iter_gives, links_gives}
 
 -- ---------------------------------------------------------------- pieces of programs
 
@@ -37,34 +37,34 @@ gives_second l m s₀ o ss g = gives_by m (either l m) s₀ o ss (in_second s₀
 
 gives_marked : (l : Look) (s₀ s : State) (o : Out) (ss : List Step) → Gives l s₀ o ss → Gives (unshaped l) s₀ (marked s o) ss
 unfolding marked makes
-gives_marked l s₀ s o ss g = record { each = g.each; facts = λ f. in-unshaped s₀ o.state l o.ans o.shape (g.facts f) }
+gives_marked l s₀ s o ss g = record { each = g.each; facts = λ f. in_unshaped s₀ o.state l o.ans o.shape (g.facts f) }
 
 -- the three ways on from an answer
 module _ (l : Look) (n y a : Fact → Look) (N Y B : State → Out) (TN TY TB : State → List Step) (p : Sound n N TN) (q : Sound y Y TY) (r : Sound a B TB) where
-  abbrev on-no : Look
-  on-no = from l.if_no n
+  abbrev on_no : Look
+  on_no = from l.if_no n
 
-  abbrev on-yes : Look
-  on-yes = from l.if_yes y
+  abbrev on_yes : Look
+  on_yes = from l.if_yes y
 
-  abbrev on-also : Look
-  on-also = from l.if_also a
+  abbrev on_also : Look
+  on_also = from l.if_also a
 
-  ways : (x : Ans) (k : ℕ) (s₀ s : State) → (either on-no (either on-yes on-also)).ok ≡ true → fact_never (again_of l) ≡ true → Holds (get l x k) s₀ s
-      → (is_again x ≡ false) × Gives (either on-no (either on-yes on-also)) s₀ (choose x N Y B s) (choose x TN TY TB s)
+  ways : (x : Ans) (k : ℕ) (s₀ s : State) → (either on_no (either on_yes on_also)).ok ≡ true → fact_never (again_of l) ≡ true → Holds (get l x k) s₀ s
+      → (is_again x ≡ false) × Gives (either on_no (either on_yes on_also)) s₀ (choose x N Y B s) (choose x TN TY TB s)
   unfolding choose get is_again
-  ways no k s₀ s m e h = (refl, gives_first on-no (either on-yes on-also) s₀ (N s) (TN s) (from_sound n N TN p l.if_no s₀ s (and_left on-no.ok _ m) h))
+  ways no k s₀ s m e h = (refl, gives_first on_no (either on_yes on_also) s₀ (N s) (TN s) (from_sound n N TN p l.if_no s₀ s (and_left on_no.ok _ m) h))
   ways yes k s₀ s m e h = (
     refl,
-    gives_second on-no (either on-yes on-also) s₀ (Y s) (TY s)
-        (gives_first on-yes on-also s₀ (Y s) (TY s) (from_sound y Y TY q l.if_yes s₀ s (and_left on-yes.ok _ (and_right on-no.ok _ m)) h)),
+    gives_second on_no (either on_yes on_also) s₀ (Y s) (TY s)
+        (gives_first on_yes on_also s₀ (Y s) (TY s) (from_sound y Y TY q l.if_yes s₀ s (and_left on_yes.ok _ (and_right on_no.ok _ m)) h)),
   )
   ways also k s₀ s m e h = (
     refl,
-    gives_second on-no (either on-yes on-also) s₀ (B s) (TB s)
-        (gives_second on-yes on-also s₀ (B s) (TB s) (from_sound a B TB r l.if_also s₀ s (and_right on-yes.ok _ (and_right on-no.ok _ m)) h)),
+    gives_second on_no (either on_yes on_also) s₀ (B s) (TB s)
+        (gives_second on_yes on_also s₀ (B s) (TB s) (from_sound a B TB r l.if_also s₀ s (and_right on_yes.ok _ (and_right on_no.ok _ m)) h)),
   )
-  ways again k s₀ s m e h = holds_never (again_of l) s₀ s e (in-again s₀ s l k h)
+  ways again k s₀ s m e h = holds_never (again_of l) s₀ s e (in_again s₀ s l k h)
 
 -- a condition and what follows it
 gives_case : (l m : Look) (s₀ : State) (o x : Out) (ss us : List Step) → Gives l s₀ o ss
@@ -86,40 +86,40 @@ module _ (f : Fact → Look) (G : State → Out) (T : State → List Step) (S : 
   abbrev kept : Fact → Bool
   kept i = fact_within (left_over (turns i f)) i
 
-  looped-gives : (i : Fact) (s₀ s : State) → (looped i (turns i f)).ok ≡ true → Holds i s₀ s
+  looped_gives : (i : Fact) (s₀ s : State) → (looped i (turns i f)).ok ≡ true → Holds i s₀ s
       → Gives (looped i (turns i f)) s₀ (iter (suc (length s.rest)) G s) (iter_steps (suc (length s.rest)) G T s)
   unfolding looped
-  looped-gives i s₀ s m h =
+  looped_gives i s₀ s m h =
       let c : (moving i && kept i) ≡ true = and_left (moving i && kept i) _ m in
       gives_and (moving i && kept i) (stopped (joined (turns i f))) s₀ _ _
-      (iter-gives i f G T S (unfold joined in (and_right (moving i && kept i) _ m)) (and_left (moving i) (kept i) c) (and_right (moving i) (kept i) c) (suc (length s.rest)) s₀ s (le_refl _) h)
+      (iter_gives i f G T S (unfold joined in (and_right (moving i && kept i) _ m)) (and_left (moving i) (kept i) c) (and_right (moving i) (kept i) c) (suc (length s.rest)) s₀ s (le_refl _) h)
 
-  linked-gives : (i : Fact) (s₀ s : State) (m : ℕ) (a p : Skeleton) → (looped i (turns i f)).ok ≡ true → fact_never (turns i f).first.if_again ≡ true → fact_never (turns i f).after.if_again ≡ true → Holds i s₀ s
+  linked_gives : (i : Fact) (s₀ s : State) (m : ℕ) (a p : Skeleton) → (looped i (turns i f)).ok ≡ true → fact_never (turns i f).first.if_again ≡ true → fact_never (turns i f).after.if_again ≡ true → Holds i s₀ s
       → Gives (looped i (turns i f)) s₀ (links (suc (length s.rest)) G m a p s) (links_steps (suc (length s.rest)) G T s)
   unfolding looped
-  linked-gives i s₀ s m a p ok u v h =
+  linked_gives i s₀ s m a p ok u v h =
       let c : (moving i && kept i) ≡ true = and_left (moving i && kept i) _ ok in
       gives_and (moving i && kept i) (stopped (joined (turns i f))) s₀ _ _
-      (links-gives i f G T S (unfold joined in (and_right (moving i && kept i) _ ok)) (and_left (moving i) (kept i) c) (and_right (moving i) (kept i) c) u v (suc (length s.rest)) s₀ s m a p (le_refl _) h)
+      (links_gives i f G T S (unfold joined in (and_right (moving i && kept i) _ ok)) (and_left (moving i) (kept i) c) (and_right (moving i) (kept i) c) u v (suc (length s.rest)) s₀ s m a p (le_refl _) h)
 
-  settled-holds : (d : Fact) (s₀ s : State) → Holds d s₀ s → Holds (settled d f) s₀ s
+  settled_holds : (d : Fact) (s₀ s : State) → Holds d s₀ s → Holds (settled d f) s₀ s
   unfolding settled
-  settled-holds d s₀ s h = holds_left d (left_over (turns d f)) s₀ s h
+  settled_holds d s₀ s h = holds_left d (left_over (turns d f)) s₀ s h
 
   -- a chain whose first program, from s, gave o
-  chained-gives : (l : Look) (s₀ s : State) (o : Out) (ss : List Step) → Gives l s₀ o ss → (looped (settled (again_of l) f) (turns (settled (again_of l) f) f)).ok ≡ true
+  chained_gives : (l : Look) (s₀ s : State) (o : Out) (ss : List Step) → Gives l s₀ o ss → (looped (settled (again_of l) f) (turns (settled (again_of l) f) f)).ok ≡ true
       → fact_never (turns (settled (again_of l) f) f).first.if_again ≡ true → fact_never (turns (settled (again_of l) f) f).after.if_again ≡ true
       → Gives (either (stopped l) (looped (settled (again_of l) f) (turns (settled (again_of l) f) f))) s₀ (chained G s o)
       (ss ++ cond (is_again o.ans) (links_steps (suc (length o.state.rest)) G T o.state) [])
   unfolding chained
-  chained-gives l s₀ s o ss g ok u v = go (is_again o.ans) refl
+  chained_gives l s₀ s o ss g ok u v = go (is_again o.ans) refl
     where
       head : is_again o.ans ≡ true → Free ss → Holds (settled (again_of l) f) s₀ o.state
       head e x =
-          settled-holds (again_of l) s₀ o.state (in-again s₀ o.state l o.shape (subst (λ (a : Ans). Holds (get l a o.shape) s₀ o.state) (is_again_eq o.ans e) (g.facts x)))
+          settled_holds (again_of l) s₀ o.state (in_again s₀ o.state l o.shape (subst (λ (a : Ans). Holds (get l a o.shape) s₀ o.state) (is_again_eq o.ans e) (g.facts x)))
 
       rest : is_again o.ans ≡ true → Free ss → Gives (looped (settled (again_of l) f) (turns (settled (again_of l) f) f)) s₀ (links (suc (length o.state.rest)) G (mark_of s) done o.made o.state) (links_steps (suc (length o.state.rest)) G T o.state)
-      rest e x = linked-gives (settled (again_of l) f) s₀ o.state (mark_of s) done o.made ok u v (head e x)
+      rest e x = linked_gives (settled (again_of l) f) s₀ o.state (mark_of s) done o.made ok u v (head e x)
 
       go : (b : Bool) → is_again o.ans ≡ b
           → Gives (either (stopped l) (looped (settled (again_of l) f) (turns (settled (again_of l) f) f))) s₀
@@ -137,43 +137,43 @@ module _ (f : Fact → Look) (G : State → Out) (T : State → List Step) (S : 
             each = each_append Good ss [] g.each (λ x. tt);
             facts = λ x.
                 in_first s₀ o.state (stopped l) (looped (settled (again_of l) f) (turns (settled (again_of l) f) f)) o.ans 0
-                (in-stopped s₀ o.state l o.ans o.shape 0 e (g.facts (free_append ss [] x).0));
+                (in_stopped s₀ o.state l o.ans o.shape 0 e (g.facts (free_append ss [] x).0));
           })
 
 -- ---------------------------------------------------------------- every program
 
 module _ (ask : Rule → State → Out) (inner : Rule → State → List Step) (t : Rule → Fact → Look) (sound : (r : Rule) → Sound (t r) (ask r) (inner r)) where
-  pub exec-gives : (b : Label) (p : Prog) → Sound (look t p) (exec ask b p) (steps ask inner b p)
+  pub exec_gives : (b : Label) (p : Prog) → Sound (look t p) (exec ask b p) (steps ask inner b p)
   unfolding exec look steps may_begin
-  exec-gives b (ret k a) d s₀ s m h = gives_begun (ret k a) d s₀ s (only a k d) _ [] refl h (record { each = tt; facts = λ _. in_only s₀ s a k d h })
-  exec-gives b (act a) d s₀ s m h =
+  exec_gives b (ret k a) d s₀ s m h = gives_begun (ret k a) d s₀ s (only a k d) _ [] refl h (record { each = tt; facts = λ _. in_only s₀ s a k d h })
+  exec_gives b (act a) d s₀ s m h =
       let may : may_act a d ≡ true = and_left (may_act a d) _ m in
       gives_begun (act a) d s₀ s (and_ok (may_act a d) (act_look a d)) (perform b a s) [] may h
       (gives_and (may_act a d) (act_look a d) s₀ (perform b a s) [] (record { each = tt; facts = λ _. act_holds b a d s₀ s may h }))
-  exec-gives b (p ⨟ q) d s₀ s m h =
+  exec_gives b (p ⨟ q) d s₀ s m h =
       let l : Look = look t p d in
       let c : (may_begin (p ⨟ q) d && l.ok) ≡ true = and_left (may_begin (p ⨟ q) d && l.ok) _ m in
       gives_begun (p ⨟ q) d s₀ s _ _ _ (and_left (may_begin (p ⨟ q) d) l.ok c) h
       (gives_and (may_begin (p ⨟ q) d && l.ok) (from (any_of l) (look t q)) s₀ _ _
       (gives_add l (from (any_of l) (look t q)) s₀ (exec ask b p s) (exec ask b q (exec ask b p s).state) (steps ask inner b p s) (steps ask inner b q (exec ask b p s).state)
-      (exec-gives b p d s₀ s (and_right (may_begin (p ⨟ q) d) l.ok c) h)
-      (λ g. from_sound (look t q) (exec ask b q) (steps ask inner b q) (exec-gives b q) (any_of l) s₀ (exec ask b p s).state (and_right (may_begin (p ⨟ q) d && l.ok) _ m)
+      (exec_gives b p d s₀ s (and_right (may_begin (p ⨟ q) d) l.ok c) h)
+      (λ g. from_sound (look t q) (exec ask b q) (steps ask inner b q) (exec_gives b q) (any_of l) s₀ (exec ask b p s).state (and_right (may_begin (p ⨟ q) d && l.ok) _ m)
       (in_any s₀ (exec ask b p s).state l (exec ask b p s).ans (exec ask b p s).shape g))))
-  exec-gives b (case c n y a) d s₀ s m h =
+  exec_gives b (case c n y a) d s₀ s m h =
       let l : Look = look t c d in
       let e : (l.ok && fact_never (again_of l)) ≡ true = and_left (l.ok && fact_never (again_of l)) _ m in
       gives_begun (case c n y a) d s₀ s _ _ _ refl h
       (gives_and (l.ok && fact_never (again_of l)) (either (from l.if_no (look t n)) (either (from l.if_yes (look t y)) (from l.if_also (look t a)))) s₀ _ _
-      (gives_case l _ s₀ (exec ask b c s) _ (steps ask inner b c s) _ (exec-gives b c d s₀ s (and_left l.ok _ e) h)
-      (λ g. ways l (look t n) (look t y) (look t a) (exec ask b n) (exec ask b y) (exec ask b a) (steps ask inner b n) (steps ask inner b y) (steps ask inner b a) (exec-gives b n) (exec-gives b y) (exec-gives b a)
+      (gives_case l _ s₀ (exec ask b c s) _ (steps ask inner b c s) _ (exec_gives b c d s₀ s (and_left l.ok _ e) h)
+      (λ g. ways l (look t n) (look t y) (look t a) (exec ask b n) (exec ask b y) (exec ask b a) (steps ask inner b n) (steps ask inner b y) (steps ask inner b a) (exec_gives b n) (exec_gives b y) (exec_gives b a)
       (exec ask b c s).ans (exec ask b c s).shape s₀ (exec ask b c s).state (and_right (l.ok && fact_never (again_of l)) _ m) (and_right l.ok _ e) g)))
-  exec-gives b (in_marker p) d s₀ s m h =
+  exec_gives b (in_marker p) d s₀ s m h =
       gives_begun (in_marker p) d s₀ s _ _ _ (and_left (may_begin (in_marker p) d) _ m) h
-      (gives_and (may_begin (in_marker p) d) (unshaped (look t p d)) s₀ _ _ (gives_marked (look t p d) s₀ s (exec ask b p s) (steps ask inner b p s) (exec-gives b p d s₀ s (and_right (may_begin (in_marker p) d) _ m) h)))
-  exec-gives b (loop p) d s₀ s m h =
+      (gives_and (may_begin (in_marker p) d) (unshaped (look t p d)) s₀ _ _ (gives_marked (look t p d) s₀ s (exec ask b p s) (steps ask inner b p s) (exec_gives b p d s₀ s (and_right (may_begin (in_marker p) d) _ m) h)))
+  exec_gives b (loop p) d s₀ s m h =
       gives_begun (loop p) d s₀ s _ _ _ refl h
-      (looped-gives (look t p) (exec ask b p) (steps ask inner b p) (exec-gives b p) (settled d (look t p)) s₀ s m (settled-holds (look t p) (exec ask b p) (steps ask inner b p) (exec-gives b p) d s₀ s h))
-  exec-gives b (chain p q) d s₀ s m h =
+      (looped_gives (look t p) (exec ask b p) (steps ask inner b p) (exec_gives b p) (settled d (look t p)) s₀ s m (settled_holds (look t p) (exec ask b p) (steps ask inner b p) (exec_gives b p) d s₀ s h))
+  exec_gives b (chain p q) d s₀ s m h =
       let l : Look = look t p d in
       let f : Fact → Look = look t q in
       let i : Fact = settled (again_of (look t p d)) (look t q) in
@@ -181,13 +181,13 @@ module _ (ask : Rule → State → Out) (inner : Rule → State → List Step) (
       let v : (fact_never (turns i f).first.if_again && fact_never (turns i f).after.if_again) ≡ true = and_right l.ok _ u in
       gives_begun (chain p q) d s₀ s _ _ _ refl h
       (gives_and (l.ok && (fact_never (turns i f).first.if_again && fact_never (turns i f).after.if_again)) (either (stopped l) (looped i (turns i f))) s₀ _ _
-      (chained-gives f (exec ask b q) (steps ask inner b q) (exec-gives b q) l s₀ s (exec ask b p s) (steps ask inner b p s) (exec-gives b p d s₀ s (and_left l.ok _ u) h)
+      (chained_gives f (exec ask b q) (steps ask inner b q) (exec_gives b q) l s₀ s (exec ask b p s) (steps ask inner b p s) (exec_gives b p d s₀ s (and_left l.ok _ u) h)
       (and_right l.ok _ (and_right (l.ok && (fact_never (turns i f).first.if_again && fact_never (turns i f).after.if_again)) _ m))
       (and_left (fact_never (turns i f).first.if_again) _ v) (and_right (fact_never (turns i f).first.if_again) _ v)))
-  exec-gives b (brace p) d s₀ s m h =
+  exec_gives b (brace p) d s₀ s m h =
       gives_begun (brace p) d s₀ s _ _ _ (and_left (may_begin (brace p) d) _ m) h
-      (gives_and (may_begin (brace p) d) (look t p d) s₀ _ _ (exec-gives (here s.rest) p d s₀ s (and_right (may_begin (brace p) d) _ m) h))
-  exec-gives b (open_call r) d s₀ s m h = gives_begun (open_call r) d s₀ s _ _ _ refl h (sound r d s₀ s m h)
+      (gives_and (may_begin (brace p) d) (look t p d) s₀ _ _ (exec_gives (here s.rest) p d s₀ s (and_right (may_begin (brace p) d) _ m) h))
+  exec_gives b (open_call r) d s₀ s m h = gives_begun (open_call r) d s₀ s _ _ _ refl h (sound r d s₀ s m h)
 
 -- ---------------------------------------------------------------- the counted functions
 
@@ -196,8 +196,8 @@ calls_give : (r : Rule) (n : ℕ) → ((q : Rule) → Sound (table q) (run n q) 
     → (s₀ s : State) → Holds i s₀ s → Gives l s₀ (run (suc n) r s) (run_steps (suc n) r s)
 unfolding run run_steps
 calls_give r n S i l e s₀ s h =
-    gives_by (look table (grammar r) i) l s₀ (exec (run n) no_label (grammar r) s) (steps (run n) (run_steps n) no_label (grammar r) s) (in-weaken s₀ _ (look table (grammar r) i) l e _ _)
-    (exec-gives (run n) (run_steps n) table S no_label (grammar r) i s₀ s (unfold looks_within in (and_left (look table (grammar r) i).ok _ e)) h)
+    gives_by (look table (grammar r) i) l s₀ (exec (run n) no_label (grammar r) s) (steps (run n) (run_steps n) no_label (grammar r) s) (in_weaken s₀ _ (look table (grammar r) i) l e _ _)
+    (exec_gives (run n) (run_steps n) table S no_label (grammar r) i s₀ s (unfold looks_within in (and_left (look table (grammar r) i).ok _ e)) h)
 
 -- a function that is called where it may be
 called : (n : ℕ) (r : Rule) → ((q : Rule) → Sound (table q) (run n q) (run_steps n q)) → (d : Fact) (s₀ s : State) (b : Bool) → fact_within d (calls_in r) ≡ b → (calls_by b r d).ok ≡ true → Holds d s₀ s
@@ -212,12 +212,12 @@ calls_sound : (n : ℕ) (r : Rule) → Sound (calls r) (run n r) (run_steps n r)
 unfolding calls run_steps table
 calls_sound zero r d s₀ s m h = record { each = tt; facts = λ f. absurd f }
 calls_sound (suc n) r d s₀ s m h =
-    called n r (λ q. joined-sound (calls q) (run n q) (run_steps n q) (calls_sound n q)) d s₀ s (fact_within d (calls_in r)) refl m h
+    called n r (λ q. joined_sound (calls q) (run n q) (run_steps n q) (calls_sound n q)) d s₀ s (fact_within d (calls_in r)) refl m h
 
 -- EVERY CALL does what the table says, with any number of open calls allowed
 pub run_gives : (n : ℕ) (r : Rule) → Sound (table r) (run n r) (run_steps n r)
 unfolding table
-run_gives n r = joined-sound (calls r) (run n r) (run_steps n r) (calls_sound n r)
+run_gives n r = joined_sound (calls r) (run n r) (run_steps n r) (calls_sound n r)
 
 -- ---------------------------------------------------------------- every run
 
@@ -228,4 +228,4 @@ starts ts = record { within = le_refl _; below = le_refl _; way = fresh_way refl
 -- EACH STEP OF A RUN is good, for every entry and every list of tokens
 pub entry_good : (e : Entry) (ts : List Token) → EveryStep Good (entry_steps e ts)
 unfolding entry_steps
-entry_good e ts = (exec-gives (run MOST_OPEN_CALLS) (run_steps MOST_OPEN_CALLS) table (run_gives MOST_OPEN_CALLS) no_label (whole e) start (taken ts) (taken ts) (whole_looks e) (starts ts)).each
+entry_good e ts = (exec_gives (run MOST_OPEN_CALLS) (run_steps MOST_OPEN_CALLS) table (run_gives MOST_OPEN_CALLS) no_label (whole e) start (taken ts) (taken ts) (whole_looks e) (starts ts)).each

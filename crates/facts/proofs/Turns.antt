@@ -19,7 +19,7 @@ use Rattle.run_steps.specs.Steps.{Step, turned, linked, EveryStep, iter_steps, l
 use Rattle.facts.proofs.Facts.{by_never, nowhere, Fact, fact_within, fact_never, if_fresh, if_took}
 use Rattle.facts.proofs.Look.{Look, get, stopped, later, entering, from, Turns, turns, joined, again_of, left_over, moves}
 use Rattle.facts.proofs.Holds.{Right, Way, fresh_way, took_way, Holds, right_left, right_right, right_weaken, right_nowhere, holds_weaken, holds_never, begins_fresh, ends_fresh, begins_took, ends_took}
-use Rattle.facts.proofs.Looks.{in_first, in_second, in-stopped, in_later}
+use Rattle.facts.proofs.Looks.{in_first, in_second, in_stopped, in_later}
 use Rattle.facts.proofs.Good.{Good, Free, each_append, free_append, Gives, Sound}
 
 -- a program is looked at only where it is reached
@@ -90,9 +90,9 @@ module _ (i : Fact) (t : Turns) (closed-under : fact_within (left_over t) i ≡ 
 
 -- a turn, begun anew where no token was taken or where one was
 module _ (i : Fact) (f : Fact → Look) (G : State → Out) (T : State → List Step) (S : Sound f G T) where
-  pub turn-gives : (s₀ s : State) → ((turns i f).first.ok && (turns i f).after.ok) ≡ true → (moves (turns i f).first && moves (turns i f).after) ≡ true
+  pub turn_gives : (s₀ s : State) → ((turns i f).first.ok && (turns i f).after.ok) ≡ true → (moves (turns i f).first && moves (turns i f).after) ≡ true
       → fact_within (left_over (turns i f)) i ≡ true → Holds i s₀ s → Turned i (turns i f) s₀ s (G s) (T s)
-  turn-gives s₀ s ok mv cl h = go h.way
+  turn_gives s₀ s ok mv cl h = go h.way
     where
       go : Way i s₀ s → Turned i (turns i f) s₀ s (G s) (T s)
       go (fresh_way m r) =
@@ -111,9 +111,9 @@ module _ (i : Fact) (f : Fact → Look) (G : State → Out) (T : State → List 
 
 -- a call begins anew too
 module _ (f : Fact → Look) (G : State → Out) (T : State → List Step) (S : Sound f G T) where
-  pub joined-sound : (d : Fact) (s₀ s : State) → (joined (turns d f)).ok ≡ true → Holds d s₀ s → Gives (joined (turns d f)) s₀ (G s) (T s)
+  pub joined_sound : (d : Fact) (s₀ s : State) → (joined (turns d f)).ok ≡ true → Holds d s₀ s → Gives (joined (turns d f)) s₀ (G s) (T s)
   unfolding joined turns
-  joined-sound d s₀ s ok h = go h.way
+  joined_sound d s₀ s ok h = go h.way
     where
       go : Way d s₀ s → Gives (joined (turns d f)) s₀ (G s) (T s)
       go (fresh_way m r) =
@@ -154,53 +154,53 @@ goes_again s o e = and_left (is_again o.ans) _ e
 
 module _ (i : Fact) (t : Turns) (s₀ s : State) (o : Out) (ss : List Step) (w : Turned i t s₀ s o ss) where
   -- the last turn
-  last-facts : goes_on s o ≡ false → Free ss → (j : ℕ) → Holds (get (stopped (joined t)) o.ans j) s₀ o.state
-  last-facts e f j = in-stopped s₀ o.state (joined t) o.ans o.shape j (stops s o e (w.moved f)) (w.facts f)
+  last_facts : goes_on s o ≡ false → Free ss → (j : ℕ) → Holds (get (stopped (joined t)) o.ans j) s₀ o.state
+  last_facts e f j = in_stopped s₀ o.state (joined t) o.ans o.shape j (stops s o e (w.moved f)) (w.facts f)
 
   -- x and us: what the other turns give, and their steps
-  pub one-turn : (x : Out) (us : List Step) → (length o.state.rest < length s.rest → Holds i s₀ o.state → Gives (stopped (joined t)) s₀ x us) → (b : Bool) → goes_on s o ≡ b
+  pub one_turn : (x : Out) (us : List Step) → (length o.state.rest < length s.rest → Holds i s₀ o.state → Gives (stopped (joined t)) s₀ x us) → (b : Bool) → goes_on s o ≡ b
       → Gives (stopped (joined t)) s₀ (cond b (add (turn_of o) x) (turn_of o)) (ss ++ (turned s o ∷ cond b us []))
   unfolding makes add
-  one-turn x us k true e =
+  one_turn x us k true e =
       record {
         each = each_append Good ss (turned s o ∷ us) w.each (λ f. (w.moved f, (k (w.moved f (goes_again s o e)) (w.onward f (goes_again s o e))).each));
         facts = λ f.
             let v : Free ss × Free us = free_append ss (turned s o ∷ us) f in
             (k (w.moved v.0 (goes_again s o e)) (w.onward v.0 (goes_again s o e))).facts v.1;
       }
-  one-turn x us k false e =
+  one_turn x us k false e =
       record {
         each = each_append Good ss (turned s o ∷ []) w.each (λ f. (w.moved f, tt));
-        facts = λ f. last-facts e (free_append ss (turned s o ∷ []) f).0 0;
+        facts = λ f. last_facts e (free_append ss (turned s o ∷ []) f).0 0;
       }
 
   -- a link: its marker is completed, and it goes on or not
-  pub on-link : (m : ℕ) (a p : Skeleton) (x : Out) (us : List Step) → (Free ss → is_again o.ans ≡ true → 0 < o.shape)
+  pub on_link : (m : ℕ) (a p : Skeleton) (x : Out) (us : List Step) → (Free ss → is_again o.ans ≡ true → 0 < o.shape)
       → (length o.state.rest < length s.rest → Holds i s₀ o.state → Gives (stopped (joined t)) s₀ x us) → (b : Bool) → goes_on s o ≡ b
       → Gives (stopped (joined t)) s₀ (cond b x (unlinked m a p o.ans o.state)) (ss ++ (linked s o ∷ cond b us []))
   unfolding unlinked makes
-  on-link m a p x us h k true e =
+  on_link m a p x us h k true e =
       record {
         each = each_append Good ss (linked s o ∷ us) w.each (λ f. (λ g. (w.moved f g, h f g), (k (w.moved f (goes_again s o e)) (w.onward f (goes_again s o e))).each));
         facts = λ f.
             let v : Free ss × Free us = free_append ss (linked s o ∷ us) f in
             (k (w.moved v.0 (goes_again s o e)) (w.onward v.0 (goes_again s o e))).facts v.1;
       }
-  on-link m a p x us h k false e =
+  on_link m a p x us h k false e =
       record {
         each = each_append Good ss (linked s o ∷ []) w.each (λ f. (λ g. (w.moved f g, h f g), tt));
-        facts = λ f. last-facts e (free_append ss (linked s o ∷ []) f).0 0;
+        facts = λ f. last_facts e (free_append ss (linked s o ∷ []) f).0 0;
       }
 
   -- a link that shapes no marker is the last
-  off-link : (m : ℕ) (a p : Skeleton) → (Free ss → is_again o.ans ≡ true → ⊥) → Gives (stopped (joined t)) s₀ (unlinked m a p o.ans o.state) (ss ++ (linked s o ∷ []))
+  off_link : (m : ℕ) (a p : Skeleton) → (Free ss → is_again o.ans ≡ true → ⊥) → Gives (stopped (joined t)) s₀ (unlinked m a p o.ans o.state) (ss ++ (linked s o ∷ []))
   unfolding unlinked makes
-  off-link m a p h =
+  off_link m a p h =
       record {
         each = each_append Good ss (linked s o ∷ []) w.each (λ f. (λ g. absurd (h f g), tt));
         facts = λ f.
             let v : Free ss = (free_append ss (linked s o ∷ []) f).0 in
-            in-stopped s₀ o.state (joined t) o.ans o.shape 0 (not_again (is_again o.ans) (h v)) (w.facts v);
+            in_stopped s₀ o.state (joined t) o.ans o.shape 0 (not_again (is_again o.ans) (h v)) (w.facts v);
       }
     where
       not_again : (b : Bool) → (b ≡ true → ⊥) → b ≡ false
@@ -212,29 +212,29 @@ module _ (i : Fact) (t : Turns) (s₀ s : State) (o : Out) (ss : List Step) (w :
       → Gives (stopped (joined t)) s₀ (by_shape k (unlinked m a p o.ans o.state) (cond (goes_on s o) x (unlinked m' a' p' o.ans o.state)))
       (ss ++ (linked s o ∷ by_shape k [] (cond (goes_on s o) us [])))
   unfolding by_shape
-  one_link m a p m' a' p' x us h k zero e = off-link m a p (λ f g. not-zero (subst (λ (n : ℕ). 0 < n) e (h f g)))
+  one_link m a p m' a' p' x us h k zero e = off_link m a p (λ f g. not_zero (subst (λ (n : ℕ). 0 < n) e (h f g)))
     where
-      not-zero : 0 < 0 → ⊥
-      not-zero q = omega arith
-  one_link m a p m' a' p' x us h k (suc j) e = on-link m' a' p' x us h k (goes_on s o) refl
+      not_zero : 0 < 0 → ⊥
+      not_zero q = omega arith
+  one_link m a p m' a' p' x us h k (suc j) e = on_link m' a' p' x us h k (goes_on s o) refl
 
 -- every loop and every chain whose head is i
 module _ (i : Fact) (f : Fact → Look) (G : State → Out) (T : State → List Step) (S : Sound f G T)
     (ok : ((turns i f).first.ok && (turns i f).after.ok) ≡ true) (mv : (moves (turns i f).first && moves (turns i f).after) ≡ true) (cl : fact_within (left_over (turns i f)) i ≡ true) where
-  pub iter-gives : (n : ℕ) (s₀ s : State) → length s.rest < n → Holds i s₀ s → Gives (stopped (joined (turns i f))) s₀ (iter n G s) (iter_steps n G T s)
+  pub iter_gives : (n : ℕ) (s₀ s : State) → length s.rest < n → Holds i s₀ s → Gives (stopped (joined (turns i f))) s₀ (iter n G s) (iter_steps n G T s)
   unfolding iter iter_steps makes
-  iter-gives zero s₀ s l h = absurd (not-suc-le-zero l)
-  iter-gives (suc n) s₀ s l h =
-      one-turn i (turns i f) s₀ s (G s) (T s) (turn-gives i f G T S s₀ s ok mv cl h) (iter n G (G s).state) (iter_steps n G T (G s).state)
-      (λ e g. iter-gives n s₀ (G s).state (omega arith) g) (goes_on s (G s)) refl
+  iter_gives zero s₀ s l h = absurd (not-suc-le-zero l)
+  iter_gives (suc n) s₀ s l h =
+      one_turn i (turns i f) s₀ s (G s) (T s) (turn_gives i f G T S s₀ s ok mv cl h) (iter n G (G s).state) (iter_steps n G T (G s).state)
+      (λ e g. iter_gives n s₀ (G s).state (omega arith) g) (goes_on s (G s)) refl
 
-  pub links-gives : fact_never (turns i f).first.if_again ≡ true → fact_never (turns i f).after.if_again ≡ true → (n : ℕ) (s₀ s : State) (m : ℕ) (a p : Skeleton) → length s.rest < n → Holds i s₀ s
+  pub links_gives : fact_never (turns i f).first.if_again ≡ true → fact_never (turns i f).after.if_again ≡ true → (n : ℕ) (s₀ s : State) (m : ℕ) (a p : Skeleton) → length s.rest < n → Holds i s₀ s
       → Gives (stopped (joined (turns i f))) s₀ (links n G m a p s) (links_steps n G T s)
   unfolding links links_steps
-  links-gives u v zero s₀ s m a p l h = absurd (not-suc-le-zero l)
-  links-gives u v (suc n) s₀ s m a p l h =
-      let w : Turned i (turns i f) s₀ s (G s) (T s) = turn-gives i f G T S s₀ s ok mv cl h in
+  links_gives u v zero s₀ s m a p l h = absurd (not-suc-le-zero l)
+  links_gives u v (suc n) s₀ s m a p l h =
+      let w : Turned i (turns i f) s₀ s (G s) (T s) = turn_gives i f G T S s₀ s ok mv cl h in
       let m' : ℕ = mark_of (G s).state in
       let a' : Skeleton = closed (G s).shape m (mark_of (G s).state) a (p ⧺ (G s).made) in
       one_link i (turns i f) s₀ s (G s) (T s) w m a (p ⧺ (G s).made) m' a' done (links n G m' a' done (G s).state) (links_steps n G T (G s).state) (w.shaped u v)
-      (λ e g. links-gives u v n s₀ (G s).state m' a' done (omega arith) g) (G s).shape refl
+      (λ e g. links_gives u v n s₀ (G s).state m' a' done (omega arith) g) (G s).shape refl

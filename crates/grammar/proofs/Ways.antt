@@ -25,50 +25,50 @@ use Rattle.definitions.specs.Prog.{choose, Ans, no, yes, also, again, Rule, Prog
 use Rattle.machine.specs.Machine.{Machine, Marker}
 use Rattle.machine.specs.Walk.{Walked, said, marked, walk, walk_rule, walk_prog, unlabelled}
 use Rattle.machine.proofs.Turns.{ahead}
-use Rattle.machine.proofs.Way.{Way, Closes, c-case}
-use Rattle.steps.proofs.Ways.{turns, stops-yes, stops-no}
-use Rattle.steps.proofs.Steps.{c-on}
+use Rattle.machine.proofs.Way.{Way, Closes, c_case}
+use Rattle.steps.proofs.Ways.{turns, stops_yes, stops_no}
+use Rattle.steps.proofs.Steps.{c_on}
 use Rattle.grammar.proofs.Laws.{sequence_is}
 
 module _ (n : ℕ) {ts : List Token} where
   -- what a subprogram comes to, whatever that is
-  pub c-same : {p : Prog} {m : Machine} → Way (walk_rule n ts) ts unlabelled p m (walk_prog n ts unlabelled p m)
+  pub c_same : {p : Prog} {m : Machine} → Way (walk_rule n ts) ts unlabelled p m (walk_prog n ts unlabelled p m)
   unfolding walk_prog
-  c-same = record { is = refl }
+  c_same = record { is = refl }
 
-  pub c-prog : {b : Span} {p : Prog} {m : Machine} {w : Walked} → w ≡ walk_prog n ts b p m → Way (walk_rule n ts) ts b p m w
+  pub c_prog : {b : Span} {p : Prog} {m : Machine} {w : Walked} → w ≡ walk_prog n ts b p m → Way (walk_rule n ts) ts b p m w
   unfolding walk_prog
-  c-prog e = record { is = e }
+  c_prog e = record { is = e }
 
-  pub c-call-on : {b : Span} {r : Rule} {q : Prog} {m x : Machine} {w : Walked} → x ≡ (walk_rule n ts r m).on → Way (walk_rule n ts) ts b q x w → Way (walk_rule n ts) ts b (open_call r ⨟ q) m w
+  pub c_call_on : {b : Span} {r : Rule} {q : Prog} {m x : Machine} {w : Walked} → x ≡ (walk_rule n ts r m).on → Way (walk_rule n ts) ts b q x w → Way (walk_rule n ts) ts b (open_call r ⨟ q) m w
   unfolding walk
-  c-call-on e f = c-on e f
+  c_call_on e f = c_on e f
 
-  pub c-prog-on : {p q : Prog} {m x : Machine} {w : Walked} → x ≡ (walk_prog n ts unlabelled p m).on → Way (walk_rule n ts) ts unlabelled q x w → Way (walk_rule n ts) ts unlabelled (p ⨟ q) m w
+  pub c_prog_on : {p q : Prog} {m x : Machine} {w : Walked} → x ≡ (walk_prog n ts unlabelled p m).on → Way (walk_rule n ts) ts unlabelled q x w → Way (walk_rule n ts) ts unlabelled (p ⨟ q) m w
   unfolding walk_prog
-  c-prog-on e f = c-on e f
+  c_prog_on e f = c_on e f
 
   -- a function that closes its caller's marker
   pub closes : {p : Prog} {k : Marker} {m : Machine} {v w : Walked} → Way (walk_rule n ts) ts unlabelled p m v → Closes k v w → w ≡ marked k (walk_prog n ts unlabelled p m)
   unfolding walk_prog
   closes {k = k} f g = g.is ∙ ap (marked k) f.is
 
-  pub prog-on : {p : Prog} {m : Machine} {w : Walked} → Way (walk_rule n ts) ts unlabelled p m w → w.on ≡ (walk_prog n ts unlabelled p m).on
+  pub prog_on : {p : Prog} {m : Machine} {w : Walked} → Way (walk_rule n ts) ts unlabelled p m w → w.on ≡ (walk_prog n ts unlabelled p m).on
   unfolding walk_prog
-  prog-on f = ap (λ (w : Walked). w.on) f.is
+  prog_on f = ap (λ (w : Walked). w.on) f.is
 
 module _ (n : ℕ) {ts : List Token} {b : Span} {p : Prog} {m m' : Machine} where
-  pub again-prog : Way (walk_rule n ts) ts b p m (said again m') → ahead ts m' < ahead ts m → walk_prog n ts b (loop p) m' ≡ walk_prog n ts b (loop p) m
+  pub again_prog : Way (walk_rule n ts) ts b p m (said again m') → ahead ts m' < ahead ts m → walk_prog n ts b (loop p) m' ≡ walk_prog n ts b (loop p) m
   unfolding walk_prog
-  again-prog w l = turns w l
+  again_prog w l = turns w l
 
-  pub last-yes : Way (walk_rule n ts) ts b p m (said yes m') → said yes m' ≡ walk_prog n ts b (loop p) m
+  pub last_yes : Way (walk_rule n ts) ts b p m (said yes m') → said yes m' ≡ walk_prog n ts b (loop p) m
   unfolding walk_prog
-  last-yes w = stops-yes w
+  last_yes w = stops_yes w
 
-  pub last-no : Way (walk_rule n ts) ts b p m (said no m') → said no m' ≡ walk_prog n ts b (loop p) m
+  pub last_no : Way (walk_rule n ts) ts b p m (said no m') → said no m' ≡ walk_prog n ts b (loop p) m
   unfolding walk_prog
-  last-no w = stops-no w
+  last_no w = stops_no w
 
 -- a test's own result returned
 pub as_yes : {t : Bool} {m : Machine} {w : Walked} → t ≡ true → said yes m ≡ w → said (truth t) m ≡ w
@@ -96,12 +96,12 @@ c_said_other A.No e h f = absurd (neither h)
   where
     neither : OneOf (1 ∷ 3 ∷ []) (tag_of the_type A.No) → ⊥
     neither h = elim h [ inl i ↦ omega (arith, i, no_tag) | inr i ↦ omega (arith, i, no_tag) ]
-c_said_other A.Yes e h f = c-case e f.is
+c_said_other A.Yes e h f = c_case e f.is
 c_said_other A.Also e h f = absurd (neither h)
   where
     neither : OneOf (1 ∷ 3 ∷ []) (tag_of the_type A.Also) → ⊥
     neither h = elim h [ inl i ↦ omega (arith, i, also_tag) | inr i ↦ omega (arith, i, also_tag) ]
-c_said_other A.Again e h f = c-case e f.is
+c_said_other A.Again e h f = c_case e f.is
 
 -- No and Also, and it is not Also
 pub other_no : (r : Answered) → (ans_of r ≡ also → ⊥) → OneOf (0 ∷ 2 ∷ []) (tag_of the_type r) → ans_of r ≡ no

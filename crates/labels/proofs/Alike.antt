@@ -96,9 +96,9 @@ module _ (F : File) where
 
   -- ---------------------------------------------------------------- alike before, alike after
 
-  push-alike : (start end at : ℕ) (r q : Rep) → Alike r q → Alike (pushed F start end at r) (pushed F start end at q)
+  push_alike : (start end at : ℕ) (r q : Rep) → Alike r q → Alike (pushed F start end at r) (pushed F start end at q)
   unfolding pushed
-  push-alike start end at r q a =
+  push_alike start end at r q a =
       let same-q : q ≡ same Q = rw (a.written, a.refusal, a.place) refl in
       let rooms : fits (length Q) w REPORT_ROW ≡ fits (length R) w REPORT_ROW = ap (λ n. fits n w REPORT_ROW) (sym a.size) in
       mathlib.Core.Path.subst (λ (p : Rep). Alike (pushed F start end at r) (pushed F start end at p)) (sym same-q)
@@ -148,16 +148,16 @@ module _ (F : File) where
       go true false false e f = record { written = refl; refusal = refl; place = refl; size = a.size; rows = a.rows }
       go false c d e f = record { written = refl; refusal = refl; place = refl; size = a.size; rows = a.rows }
 
-  pub emits-alike : (l : List Back) (r q : Rep) → Alike r q → Alike (emits F l r) (emits F l q)
+  pub emits_alike : (l : List Back) (r q : Rep) → Alike r q → Alike (emits F l r) (emits F l q)
   unfolding emits emit
-  emits-alike [] r q a = a
-  emits-alike (x ∷ l) r q a = emits-alike l (emit F x r) (emit F x q) (go (breaks F.bytes (byte_count all - x.bytes_left) (byte_count all - x.bytes_after)))
+  emits_alike [] r q a = a
+  emits_alike (x ∷ l) r q a = emits_alike l (emit F x r) (emit F x q) (go (breaks F.bytes (byte_count all - x.bytes_left) (byte_count all - x.bytes_after)))
     where
       one : Rep → Rep
       one p = pushed F (byte_count all - x.bytes_left) (byte_count all - x.bytes_after) (length all - x.tokens_left) p
 
       go : (b : Bool) → Alike (cond b (one r) r) (cond b (one q) q)
-      go true = push-alike _ _ _ r q a
+      go true = push_alike _ _ _ r q a
       go false = a
 
   -- ---------------------------------------------------------------- what was written is not counted
@@ -171,9 +171,9 @@ module _ (F : File) where
     pub rows : take n q.reports ≡ take n r.reports
     pub further : n ≤ q.written
 
-  push-past : (n start end at : ℕ) (r : Rep) → n ≤ r.written → Past n r (pushed F start end at r)
+  push_past : (n start end at : ℕ) (r : Rep) → n ≤ r.written → Past n r (pushed F start end at r)
   unfolding pushed
-  push-past n start end at r l = go (eqb r.refusal 0) (fits (length r.reports) r.written REPORT_ROW)
+  push_past n start end at r l = go (eqb r.refusal 0) (fits (length r.reports) r.written REPORT_ROW)
     where
       more : Rep
       more = record { written = r.written + REPORT_ROW; refusal = r.refusal; place = r.place; reports = put_row r.written start end (low at) first r.reports }
@@ -187,10 +187,10 @@ module _ (F : File) where
       go true false = record { size = refl; rows = refl; further = l }
       go false c = record { size = refl; rows = refl; further = l }
 
-  emits-past : (n : ℕ) (l : List Back) (r : Rep) → n ≤ r.written → Past n r (emits F l r)
+  emits_past : (n : ℕ) (l : List Back) (r : Rep) → n ≤ r.written → Past n r (emits F l r)
   unfolding emits emit
-  emits-past n [] r h = record { size = refl; rows = refl; further = h }
-  emits-past n (x ∷ l) r h = go (breaks F.bytes (byte_count all - x.bytes_left) (byte_count all - x.bytes_after)) (λ q g. emits-past n l q g)
+  emits_past n [] r h = record { size = refl; rows = refl; further = h }
+  emits_past n (x ∷ l) r h = go (breaks F.bytes (byte_count all - x.bytes_left) (byte_count all - x.bytes_after)) (λ q g. emits_past n l q g)
     where
       one : Rep
       one = pushed F (byte_count all - x.bytes_left) (byte_count all - x.bytes_after) (length all - x.tokens_left) r
@@ -198,11 +198,11 @@ module _ (F : File) where
       go : (b : Bool) → ((q : Rep) → n ≤ q.written → Past n q (emits F l q)) → Past n r (emits F l (cond b one r))
       go false k = k r h
       go true k =
-          let p : Past n r one = push-past n _ _ _ r h in
+          let p : Past n r one = push_past n _ _ _ r h in
           let q : Past n one (emits F l one) = k one p.further in
           record { size = q.size ∙ p.size; rows = q.rows ∙ p.rows; further = q.further }
 
-  pub emits-undone : (l : List Back) (r : Rep) → Alike r (back_to r (emits F l r).reports)
-  emits-undone l r =
-      let p : Past r.written r (emits F l r) = emits-past r.written l r (omega arith) in
+  pub emits_undone : (l : List Back) (r : Rep) → Alike r (back_to r (emits F l r).reports)
+  emits_undone l r =
+      let p : Past r.written r (emits F l r) = emits_past r.written l r (omega arith) in
       record { written = refl; refusal = refl; place = refl; size = sym p.size; rows = sym p.rows }

@@ -78,10 +78,10 @@ module _ (F : File) (covered : byte_count F.all ≡ length F.bytes) where
     pub place : q.place ≡ m
 
   -- once refused, nothing changes
-  emits-stopped : (l : List Back) (m : ℕ) (q : Rep) → Stopped m q → Stopped m (emits F l q)
+  emits_stopped : (l : List Back) (m : ℕ) (q : Rep) → Stopped m q → Stopped m (emits F l q)
   unfolding emits emit pushed
-  emits-stopped [] m q h = h
-  emits-stopped (x ∷ l) m q h = emits-stopped l m (emit F x q) (subst (Stopped m) (sym (same (breaks bytes (byte_count all - x.bytes_left) (byte_count all - x.bytes_after)))) h)
+  emits_stopped [] m q h = h
+  emits_stopped (x ∷ l) m q h = emits_stopped l m (emit F x q) (subst (Stopped m) (sym (same (breaks bytes (byte_count all - x.bytes_left) (byte_count all - x.bytes_after)))) h)
     where
       no : eqb q.refusal 0 ≡ false
       no = ap (λ n. eqb n 0) h.refusal
@@ -103,9 +103,9 @@ module _ (F : File) (covered : byte_count F.all ≡ length F.bytes) where
       let f : leb REPORT_ROW (length r.reports - r.written) ≡ true = le-leb REPORT_ROW (length r.reports - r.written) (omega (arith, h)) in
       rw (e, f) (sets-eq (name_row n.start n.end n.first_token first) r.reports r.written h)
 
-  followed-one : (n : NameAt) (l : List NameAt) (r q : Rep) → r.written + REPORT_ROW ≤ length r.reports → Followed (fitted n r) l q → Followed r (n ∷ l) q
+  followed_one : (n : NameAt) (l : List NameAt) (r q : Rep) → r.written + REPORT_ROW ≤ length r.reports → Followed (fitted n r) l q → Followed r (n ∷ l) q
   unfolding name_numbers
-  followed-one n l r q h f =
+  followed_one n l r q h f =
       let R : List ℕ = r.reports in
       let w : ℕ = r.written in
       let row : List ℕ = name_row n.start n.end n.first_token first in
@@ -130,8 +130,8 @@ module _ (F : File) (covered : byte_count F.all ≡ length F.bytes) where
             ∙ append_assoc (take w R) row (name_numbers first l ++ drop (w + suc (length l) * REPORT_ROW) R);
       }
 
-  leaves-less : (n : NameAt) (r : Rep) (room : ℕ) → Leaves r.written (suc room) r.reports → Leaves (fitted n r).written room (fitted n r).reports
-  leaves-less n r room h =
+  leaves_less : (n : NameAt) (r : Rep) (room : ℕ) → Leaves r.written (suc room) r.reports → Leaves (fitted n r).written room (fitted n r).reports
+  leaves_less n r room h =
       let e : length (fitted n r).reports ≡ length r.reports = put_size r.written n.start n.end n.first_token first r.reports in
       record { enough = omega (arith, h.enough); no_more = omega (arith, h.no_more) }
 
@@ -139,20 +139,20 @@ module _ (F : File) (covered : byte_count F.all ≡ length F.bytes) where
   abbrev name_of : Back → NameAt
   name_of x = forward (length all) (byte_count all) x
 
-  push-fits : (x : Back) (r : Rep) (room : ℕ) → r.refusal ≡ 0 → Leaves r.written (suc room) r.reports
+  push_fits : (x : Back) (r : Rep) (room : ℕ) → r.refusal ≡ 0 → Leaves r.written (suc room) r.reports
       → pushed F (name_of x).start (name_of x).end (name_of x).first_token r ≡ fitted (name_of x) r
   unfolding pushed
-  push-fits x r room z h =
+  push_fits x r room z h =
       let e : leb r.written (length r.reports) ≡ true = le-leb r.written (length r.reports) (omega (arith, h.enough)) in
       let f : leb REPORT_ROW (length r.reports - r.written) ≡ true = le-leb REPORT_ROW (length r.reports - r.written) (omega (arith, h.enough)) in
       let g : low (length all - x.tokens_left) ≡ length all - x.tokens_left = mod-eq_of_lt (omega (arith, F.many)) in
       let y : eqb r.refusal 0 ≡ true = ap (λ n. eqb n 0) z in
       rw (y, e, f, g) refl
 
-  push-stops : (x : Back) (r : Rep) → r.refusal ≡ 0 → Leaves r.written 0 r.reports
+  push_stops : (x : Back) (r : Rep) → r.refusal ≡ 0 → Leaves r.written 0 r.reports
       → Stopped (name_of x).first_token (pushed F (name_of x).start (name_of x).end (name_of x).first_token r)
   unfolding pushed
-  push-stops x r z h =
+  push_stops x r z h =
       let e : leb r.written (length r.reports) ≡ true = le-leb r.written (length r.reports) (omega (arith, h.enough)) in
       let f : leb REPORT_ROW (length r.reports - r.written) ≡ false = lt-leb REPORT_ROW (length r.reports - r.written) (omega (arith, h.no_more)) in
       let y : eqb r.refusal 0 ≡ true = ap (λ n. eqb n 0) z in
@@ -162,44 +162,44 @@ module _ (F : File) (covered : byte_count F.all ≡ length F.bytes) where
   abbrev test : Back → Bool
   test x = breaks bytes (name_of x).start (name_of x).end
 
-  named-cons : (x : Back) (l : List Back) (c : Bool) → test x ≡ c → named (x ∷ l) ≡ cond c (name_of x ∷ named l) (named l)
+  named_cons : (x : Back) (l : List Back) (c : Bool) → test x ≡ c → named (x ∷ l) ≡ cond c (name_of x ∷ named l) (named l)
   unfolding forwards
-  named-cons x l c e = breaks_or bytes (name_of x) (forwards (length all) (byte_count all) l) c (sym (breaks_rule bytes (name_of x).start (name_of x).end (omega (arith, covered))) ∙ e)
+  named_cons x l c e = breaks_or bytes (name_of x) (forwards (length all) (byte_count all) l) c (sym (breaks_rule bytes (name_of x).start (name_of x).end (omega (arith, covered))) ∙ e)
 
   abbrev one : Back → Rep → Rep
   one x r = pushed F (name_of x).start (name_of x).end (name_of x).first_token r
 
-  emits-cons : (x : Back) (l : List Back) (r : Rep) (c : Bool) → test x ≡ c → emits F (x ∷ l) r ≡ emits F l (cond c (one x r) r)
+  emits_cons : (x : Back) (l : List Back) (r : Rep) (c : Bool) → test x ≡ c → emits F (x ∷ l) r ≡ emits F l (cond c (one x r) r)
   unfolding emits emit
-  emits-cons x l r c e = ap (λ (b : Bool). emits F l (cond b (one x r) r)) e
+  emits_cons x l r c e = ap (λ (b : Bool). emits F l (cond b (one x r) r)) e
 
   -- ALL FIT
-  pub all-follow : (l : List Back) (room : ℕ) (r : Rep) → r.refusal ≡ 0 → Leaves r.written room r.reports → names_fit room (named l) ≡ accepted
+  pub all_follow : (l : List Back) (room : ℕ) (r : Rep) → r.refusal ≡ 0 → Leaves r.written room r.reports → names_fit room (named l) ≡ accepted
       → Followed r (named l) (emits F l r)
   unfolding names_fit emits forwards breaking name_numbers
-  all-follow [] room r z h f =
+  all_follow [] room r z h f =
       let w : r.written + 0 * REPORT_ROW ≡ r.written = omega arith in
       record {
         written = sym w;
         refusal = z;
         reports = sym (lib.ListN.take-append-drop r.written r.reports) ∙ ap (λ k. take r.written r.reports ++ drop k r.reports) (sym w);
       }
-  all-follow (x ∷ l) room r z h f = go (test x) refl room h f (λ s m g e. all-follow l m s g e)
+  all_follow (x ∷ l) room r z h f = go (test x) refl room h f (λ s m g e. all_follow l m s g e)
     where
       go : (c : Bool) → test x ≡ c → (room : ℕ) → Leaves r.written room r.reports → names_fit room (named (x ∷ l)) ≡ accepted
           → ((s : Rep) (m : ℕ) → s.refusal ≡ 0 → Leaves s.written m s.reports → names_fit m (named l) ≡ accepted → Followed s (named l) (emits F l s))
           → Followed r (named (x ∷ l)) (emits F (x ∷ l) r)
       go false e room h f k =
-          subst (λ (v : List NameAt). Followed r v (emits F (x ∷ l) r)) (sym (named-cons x l false e))
-          (subst (Followed r (named l)) (sym (emits-cons x l r false e)) (k r room z h (ap (names_fit room) (sym (named-cons x l false e)) ∙ f)))
+          subst (λ (v : List NameAt). Followed r v (emits F (x ∷ l) r)) (sym (named_cons x l false e))
+          (subst (Followed r (named l)) (sym (emits_cons x l r false e)) (k r room z h (ap (names_fit room) (sym (named_cons x l false e)) ∙ f)))
       go true e zero h f k =
-          let y : refused (no_report_room (name_of x).first_token) ≡ accepted = ap (names_fit 0) (sym (named-cons x l true e)) ∙ f in
+          let y : refused (no_report_room (name_of x).first_token) ≡ accepted = ap (names_fit 0) (sym (named_cons x l true e)) ∙ f in
           absurd (refused_not _ y)
       go true e (suc room) h f k =
-          subst (λ (v : List NameAt). Followed r v (emits F (x ∷ l) r)) (sym (named-cons x l true e))
-          (subst (Followed r (name_of x ∷ named l)) (sym (emits-cons x l r true e ∙ ap (emits F l) (push-fits x r room z h)))
-          (followed-one (name_of x) (named l) r _ (omega (arith, h.enough))
-          (k (fitted (name_of x) r) room z (leaves-less (name_of x) r room h) (ap (names_fit (suc room)) (sym (named-cons x l true e)) ∙ f))))
+          subst (λ (v : List NameAt). Followed r v (emits F (x ∷ l) r)) (sym (named_cons x l true e))
+          (subst (Followed r (name_of x ∷ named l)) (sym (emits_cons x l r true e ∙ ap (emits F l) (push_fits x r room z h)))
+          (followed_one (name_of x) (named l) r _ (omega (arith, h.enough))
+          (k (fitted (name_of x) r) room z (leaves_less (name_of x) r room h) (ap (names_fit (suc room)) (sym (named_cons x l true e)) ∙ f))))
 
   -- THE FIRST THAT DOES NOT FIT
   pub first_stops : (l : List Back) (room : ℕ) (r : Rep) (m : ℕ) → r.refusal ≡ 0 → Leaves r.written room r.reports → names_fit room (named l) ≡ refused (no_report_room m)
@@ -215,10 +215,10 @@ module _ (F : File) (covered : byte_count F.all ≡ length F.bytes) where
       go : (c : Bool) → test x ≡ c → (room : ℕ) → Leaves r.written room r.reports → names_fit room (named (x ∷ l)) ≡ refused (no_report_room m)
           → ((s : Rep) (n : ℕ) → s.refusal ≡ 0 → Leaves s.written n s.reports → names_fit n (named l) ≡ refused (no_report_room m) → Stopped m (emits F l s))
           → Stopped m (emits F (x ∷ l) r)
-      go false e room h f k = subst (Stopped m) (sym (emits-cons x l r false e)) (k r room z h (ap (names_fit room) (sym (named-cons x l false e)) ∙ f))
+      go false e room h f k = subst (Stopped m) (sym (emits_cons x l r false e)) (k r room z h (ap (names_fit room) (sym (named_cons x l false e)) ∙ f))
       go true e zero h f k =
-          let y : (name_of x).first_token ≡ m = ap place_in (ap (names_fit 0) (sym (named-cons x l true e)) ∙ f) in
-          subst (Stopped m) (sym (emits-cons x l r true e)) (emits-stopped l m (one x r) (subst (λ k. Stopped k (one x r)) y (push-stops x r z h)))
+          let y : (name_of x).first_token ≡ m = ap place_in (ap (names_fit 0) (sym (named_cons x l true e)) ∙ f) in
+          subst (Stopped m) (sym (emits_cons x l r true e)) (emits_stopped l m (one x r) (subst (λ k. Stopped k (one x r)) y (push_stops x r z h)))
       go true e (suc room) h f k =
-          subst (Stopped m) (sym (emits-cons x l r true e ∙ ap (emits F l) (push-fits x r room z h)))
-          (k (fitted (name_of x) r) room z (leaves-less (name_of x) r room h) (ap (names_fit (suc room)) (sym (named-cons x l true e)) ∙ f))
+          subst (Stopped m) (sym (emits_cons x l r true e ∙ ap (emits F l) (push_fits x r room z h)))
+          (k (fitted (name_of x) r) room z (leaves_less (name_of x) r room h) (ap (names_fit (suc room)) (sym (named_cons x l true e)) ∙ f))

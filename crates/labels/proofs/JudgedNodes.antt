@@ -15,7 +15,7 @@ use Rattle.definitions.specs.Skeleton.{Label, no_label, Skeleton, done, token, n
 use Rattle.definitions.specs.Run.{State, Out, mark_of, peeked, replies, makes, taken, do_bump, do_name, add, at_depth, do_argument, do_emit, do_expected, perform, closed, marked, unlinked, here, exec, run}
 use Rattle.definitions.specs.Call.{run_entry}
 use Rattle.basics.proofs.Tests.{cond-all, and_left, and_right}
-use Rattle.laws.proofs.Engine.{Composes, iter-all, chained-all}
+use Rattle.laws.proofs.Engine.{Composes, iter_all, chained_all}
 use Rattle.laws.proofs.Leaves.{or_cases}
 use Rattle.labels.specs.Model.{judged_kind}
 
@@ -246,10 +246,10 @@ exec_fits c t ask h b (in_marker p) s e =
     (λ f. (composed c).mark s _ (to_made c s _ (exec_fits c false ask h b p s f)))
     (λ f. mark_made c s _ (and_left c _ f) (exec_fits false true ask (λ g. absurd (false≢true g)) b p s (and_right c _ f))))
 exec_fits c t ask h b (loop p) s e =
-    of_made c t s _ (iter-all (Made c) (Chain c) (composed c) (suc (length s.rest)) (exec ask b p) (λ u. to_made c u _ (exec_fits c false ask h b p u e)) s)
+    of_made c t s _ (iter_all (Made c) (Chain c) (composed c) (suc (length s.rest)) (exec ask b p) (λ u. to_made c u _ (exec_fits c false ask h b p u e)) s)
 exec_fits c t ask h b (chain p q) s e =
     of_made c t s _
-    (chained-all (Made c) (Chain c) (composed c) (exec ask b q) (λ u. to_made c u _ (exec_fits c false ask h b q u (and_right (fits c false p) _ e))) s (exec ask b p s)
+    (chained_all (Made c) (Chain c) (composed c) (exec ask b q) (λ u. to_made c u _ (exec_fits c false ask h b q u (and_right (fits c false p) _ e))) s (exec ask b p s)
     (to_made c s _ (exec_fits c false ask h b p s (and_left _ _ e))))
 exec_fits c t ask h b (brace p) s e = exec_fits c t ask h (here s.rest) p s e
 exec_fits c t ask h b (open_call r) s e = of_made c t s _ (h e r s)

@@ -28,13 +28,13 @@ use Rattle.labels.specs.Model.{shown, seat, solid_after, Out, out, begun, judged
 use Rattle.labels.specs.Promise.{Leaves, Follow, Stop, Named, Promise}
 use Rattle.labels.proofs.JudgedNodes.{entry_flat, entry_plain}
 use Rattle.labels.proofs.Taken.{entry_taken}
-use Rattle.labels.proofs.Standing.{Rep, names_of, held, File, Part, seated, beyond, solid_shorter, solid-there, emits}
+use Rattle.labels.proofs.Standing.{Rep, names_of, held, File, Part, seated, beyond, solid_shorter, solid_there, emits}
 use Rattle.labels.proofs.Alike.{Alike}
 use Rattle.labels.proofs.Told.{told, told_run}
-use Rattle.labels.proofs.Walks.{not_under, no_more, Node-judged, node-judged}
+use Rattle.labels.proofs.Walks.{not_under, no_more, Node-judged, node_judged}
 use Rattle.labels.proofs.Scans.{Stands, Reached, scan}
 use Rattle.labels.proofs.Fitting as Fit
-use Rattle.labels.proofs.Fitting.{Followed, Stopped, all-follow, first_stops}
+use Rattle.labels.proofs.Fitting.{Followed, Stopped, all_follow, first_stops}
 
 module _ (e : Entry) (bytes tokens : List ℕ) (written first : ℕ) (reports : List ℕ) (ok : check_input bytes tokens ≡ accepted) where
   abbrev ts : List Token
@@ -46,8 +46,8 @@ module _ (e : Entry) (bytes tokens : List ℕ) (written first : ℕ) (reports : 
   abbrev k : ℕ
   k = root_kind e
 
-  passed-input : Checked bytes tokens
-  passed-input = checked_input bytes tokens ok
+  passed_input : Checked bytes tokens
+  passed_input = checked_input bytes tokens ok
 
   -- the file
   abbrev F : File
@@ -55,8 +55,8 @@ module _ (e : Entry) (bytes tokens : List ℕ) (written first : ℕ) (reports : 
       record {
         bytes = bytes;
         all = ts;
-        few = omega (arith, passed-input.covered, passed-input.bytes_limit);
-        many = omega (arith, passed-input.pairs, passed-input.numbers_limit);
+        few = omega (arith, passed_input.covered, passed_input.bytes_limit);
+        many = omega (arith, passed_input.pairs, passed_input.numbers_limit);
         first = first;
       }
 
@@ -76,8 +76,8 @@ module _ (e : Entry) (bytes tokens : List ℕ) (written first : ℕ) (reports : 
     alike : Alike (emits F names start) last
     runs : strict_on k bytes ts first (told o) (out (begun written) reports) ≡ held last
 
-  first-seat : seat 0 0 ≡ seated F ts
-  first-seat =
+  first_seat : seat 0 0 ≡ seated F ts
+  first_seat =
       let a : length ts - length ts ≡ 0 = omega arith in
       let b : byte_count ts - byte_count ts ≡ 0 = omega arith in
       rw (a, b) refl
@@ -88,8 +88,8 @@ module _ (e : Entry) (bytes tokens : List ℕ) (written first : ℕ) (reports : 
       record {
         from = ts;
         here = whole;
-        at-is = omega arith;
-        byte-is = omega arith;
+        at_is = omega arith;
+        byte_is = omega arith;
         comes = refl;
         room = omega (arith, solid_shorter ts);
       }
@@ -102,7 +102,7 @@ module _ (e : Entry) (bytes tokens : List ℕ) (written first : ℕ) (reports : 
       place = solid_after 0 ts (seat 0 0)
 
       there : place ≡ seated F (drop_trivia ts)
-      there = unfold beyond in ap (solid_after 0 ts) first-seat ∙ solid-there F 0 ts whole
+      there = unfold beyond in ap (solid_after 0 ts) first_seat ∙ solid_there F 0 ts whole
 
       by : (d : Bool) → judged_kind k ≡ d
           → strict_on k bytes ts first (told o) (out (begun written) reports)
@@ -111,7 +111,7 @@ module _ (e : Entry) (bytes tokens : List ℕ) (written first : ℕ) (reports : 
 
       go : (d : Bool) → judged_kind k ≡ d → Strictly
       go true h =
-          let n : Node-judged F k o ts [] start = node-judged F k o ts [] start h whole (entry_chained e ts) (entry_plain e ts h) (entry_taken e ts) (no_more F) in
+          let n : Node-judged F k o ts [] start = node_judged F k o ts [] start h whole (entry_chained e ts) (entry_plain e ts h) (entry_taken e ts) (no_more F) in
           record {
             last = n.last;
             alike = n.alike;
@@ -137,10 +137,10 @@ module _ (e : Entry) (bytes tokens : List ℕ) (written first : ℕ) (reports : 
   strict_names : (setting : ℕ) → eqb setting OLD_SETTING ≡ false → reported_names setting bytes (root k o ts) ≡ l
   unfolding reported_names
   strict_names setting h =
-      ap (λ (b : Bool). cond b [] (breaking bytes (judged false 0 0 (root k o ts)))) h ∙ ap (breaking bytes) (root_found k o ts (unnamed_input ts passed-input.good))
+      ap (λ (b : Bool). cond b [] (breaking bytes (judged false 0 0 (root k o ts)))) h ∙ ap (breaking bytes) (root_found k o ts (unnamed_input ts passed_input.good))
 
-  strict-named : Named l first written reports (names_of strictly.last) strictly.last.reports
-  strict-named = record { fits = all_fit; lacks = one-lacks }
+  strict_named : Named l first written reports (names_of strictly.last) strictly.last.reports
+  strict_named = record { fits = all_fit; lacks = one_lacks }
     where
       q : Rep
       q = strictly.last
@@ -150,7 +150,7 @@ module _ (e : Entry) (bytes tokens : List ℕ) (written first : ℕ) (reports : 
 
       all_fit : (room : ℕ) → Leaves written room reports → names_fit room l ≡ accepted → Follow l first written reports (names_of q) q.reports
       all_fit room h f =
-          let a : Followed F passed-input.covered start l (emits F names start) = all-follow F passed-input.covered names room start refl h f in
+          let a : Followed F passed_input.covered start l (emits F names start) = all_follow F passed_input.covered names room start refl h f in
           let n : ℕ = written + length l * REPORT_ROW in
           let w : q.written ≡ n = sym same.written ∙ a.written in
           let t : length (take written reports) ≡ written = length-take-le written reports (omega (arith, h.enough)) in
@@ -167,15 +167,15 @@ module _ (e : Entry) (bytes tokens : List ℕ) (written first : ℕ) (reports : 
                 ∙ take_at (take written reports ++ name_numbers first l) (drop n reports) n m;
           }
 
-      one-lacks : (room mark : ℕ) → Leaves written room reports → names_fit room l ≡ refused (no_report_room mark) → Stop mark (names_of q)
-      one-lacks room mark h f =
-          let a : Stopped F passed-input.covered mark (emits F names start) = first_stops F passed-input.covered names room start mark refl h f in
+      one_lacks : (room mark : ℕ) → Leaves written room reports → names_fit room l ≡ refused (no_report_room mark) → Stop mark (names_of q)
+      one_lacks room mark h f =
+          let a : Stopped F passed_input.covered mark (emits F names start) = first_stops F passed_input.covered names room start mark refl h f in
           record { refusal = sym same.refusal ∙ a.refusal; place = sym same.place ∙ a.place }
 
   -- the old setting does nothing
-  old-named : (setting : ℕ) → eqb setting OLD_SETTING ≡ true → Named (reported_names setting bytes (root k o ts)) first written reports (begun written) reports
+  old_named : (setting : ℕ) → eqb setting OLD_SETTING ≡ true → Named (reported_names setting bytes (root k o ts)) first written reports (begun written) reports
   unfolding reported_names names_fit name_numbers
-  old-named setting h =
+  old_named setting h =
       let z : written + 0 * REPORT_ROW ≡ written = omega arith in
       rw h
       (record {
@@ -214,23 +214,23 @@ kept_promise setting k bytes tokens written first events reports s reports' h e 
         → out s reports' ≡ cond b (out (begun written) reports) (strict_on k bytes ts first (shown events) (out (begun written) reports))
     by b g = h ∙ ap (λ (c : Bool). cond c (out (begun written) reports) (strict_on k bytes ts first (shown events) (out (begun written) reports))) g
 
-    told-are : shown events ≡ told o
-    told-are = ap shown run ∙ told_run o
+    told_are : shown events ≡ told o
+    told_are = ap shown run ∙ told_run o
 
     go : (b : Bool) → eqb setting OLD_SETTING ≡ b → Named are first written reports s reports'
     go true g =
         from (out (begun written) reports) (by true g)
-        (subst (λ (j : ℕ). Named (reported_names setting bytes (root j o ts)) first written reports (begun written) reports) (sym root_is) (old-named e bytes tokens written first reports ok setting g))
+        (subst (λ (j : ℕ). Named (reported_names setting bytes (root j o ts)) first written reports (begun written) reports) (sym root_is) (old_named e bytes tokens written first reports ok setting g))
     go false g =
         let n : Strictly e bytes tokens written first reports ok = strictly e bytes tokens written first reports ok in
         from (held n.last)
         (by false g
-        ∙ ap (λ (x : List Event). strict_on k bytes ts first x (out (begun written) reports)) told-are
+        ∙ ap (λ (x : List Event). strict_on k bytes ts first x (out (begun written) reports)) told_are
         ∙ ap (λ (j : ℕ). strict_on j bytes ts first (told o) (out (begun written) reports)) root_is
         ∙ n.runs)
         (subst (λ (j : ℕ). Named (reported_names setting bytes (root j o ts)) first written reports (names_of n.last) n.last.reports) (sym root_is)
         (subst (λ (x : List NameAt). Named x first written reports (names_of n.last) n.last.reports) (sym (strict_names e bytes tokens written first reports ok setting g))
-        (strict-named e bytes tokens written first reports ok)))
+        (strict_named e bytes tokens written first reports ok)))
 
 -- the same, beside what is known of any buffers
 pub with_promise : (setting k : ℕ) (bytes tokens : List ℕ) (written first : ℕ) (events reports : List ℕ) (s : Names) (reports' : List ℕ)

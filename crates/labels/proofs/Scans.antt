@@ -21,10 +21,10 @@ use Rattle.labels.specs.Model.{seat, solid_after, Out, judged_kind, node_on, nod
 use Rattle.labels.proofs.JudgedNodes.{Plain, Flat}
 use Rattle.labels.proofs.Taken.{Firsts, Taken}
 use Rattle.labels.proofs.Alone.{alone_curly, alone_found}
-use Rattle.labels.proofs.Standing.{Rep, held, File, Part, part-tokens, part-past, part-drop, part-solid, part-after, seated, solid-there, beyond, beyond_more, beyond_firsts, past_drop, firsts_length, solid_shorter, emits, emits-append}
-use Rattle.labels.proofs.Alike.{Alike, alike_self, alike_by, alike_then, emits-alike}
+use Rattle.labels.proofs.Standing.{Rep, held, File, Part, part_tokens, part_past, part_drop, part_solid, part_after, seated, solid_there, beyond, beyond_more, beyond_firsts, past_drop, firsts_length, solid_shorter, emits, emits_append}
+use Rattle.labels.proofs.Alike.{Alike, alike_self, alike_by, alike_then, emits_alike}
 use Rattle.labels.proofs.Told.{told}
-use Rattle.labels.proofs.Walks.{not_under, plain_none, finishes, Node-judged, node-judged}
+use Rattle.labels.proofs.Walks.{not_under, plain_none, finishes, Node-judged, node_judged}
 
 -- what a node holds: what it was made to precede, what is inside, what follows
 node_found : (k m m' : ℕ) (a i o : Skeleton) (ts : List Token) → Alone a
@@ -56,18 +56,18 @@ module _ (F : File) where
   pub record Stands (b at byte : ℕ) (ts : List Token) : Type 0 where
     pub from : List Token
     pub here : Part F from
-    pub at-is : at ≡ length all - length from
-    pub byte-is : byte ≡ byte_count all - byte_count from
+    pub at_is : at ≡ length all - length from
+    pub byte_is : byte ≡ byte_count all - byte_count from
     pub comes : drop_trivia (beyond b from) ≡ drop_trivia ts
     pub room : b + length (drop_trivia ts) ≤ length all
 
-  stands-solid : (b at byte : ℕ) (ts : List Token) → Stands b at byte ts → Stands b at byte (drop_trivia ts)
-  stands-solid b at byte ts s =
+  stands_solid : (b at byte : ℕ) (ts : List Token) → Stands b at byte ts → Stands b at byte (drop_trivia ts)
+  stands_solid b at byte ts s =
       record {
         from = s.from;
         here = s.here;
-        at-is = s.at-is;
-        byte-is = s.byte-is;
+        at_is = s.at_is;
+        byte_is = s.byte_is;
         comes = s.comes ∙ sym (drop_twice ts);
         room = let e : length (drop_trivia (drop_trivia ts)) ≡ length (drop_trivia ts) = ap length (drop_twice ts) in omega (arith, s.room);
       }
@@ -76,11 +76,11 @@ module _ (F : File) where
   pub stands_at : (ts : List Token) → Part F ts → Stands 0 (seated F (drop_trivia ts)).at (seated F (drop_trivia ts)).byte ts
   unfolding beyond
   stands_at ts h =
-      let g : Part F (drop_trivia ts) = part-solid F ts h in
-      record { from = drop_trivia ts; here = g; at-is = refl; byte-is = refl; comes = drop_twice ts; room = omega (arith, part-tokens F (drop_trivia ts) g) }
+      let g : Part F (drop_trivia ts) = part_solid F ts h in
+      record { from = drop_trivia ts; here = g; at_is = refl; byte_is = refl; comes = drop_twice ts; room = omega (arith, part_tokens F (drop_trivia ts) g) }
 
-  stands-seat : (b at byte : ℕ) (ts : List Token) → Stands b at byte ts → solid_after b all (seat at byte) ≡ seated F (drop_trivia ts)
-  stands-seat b at byte ts s = rw (s.at-is, s.byte-is) (solid-there F b s.from s.here ∙ ap (seated F) s.comes)
+  stands_seat : (b at byte : ℕ) (ts : List Token) → Stands b at byte ts → solid_after b all (seat at byte) ≡ seated F (drop_trivia ts)
+  stands_seat b at byte ts s = rw (s.at_is, s.byte_is) (solid_there F b s.from s.here ∙ ap (seated F) s.comes)
 
   -- n more of them are taken
   pub record More (n b at byte : ℕ) (ts : List Token) : Type 0 where
@@ -98,8 +98,8 @@ module _ (F : File) where
             record {
               from = s.from;
               here = s.here;
-              at-is = s.at-is;
-              byte-is = s.byte-is;
+              at_is = s.at_is;
+              byte_is = s.byte_is;
               comes = beyond_more b n s.from ts s.comes ∙ ap drop_trivia (beyond_firsts n v f);
               room = omega (arith, s.room);
             };
@@ -116,8 +116,8 @@ module _ (F : File) where
     pub runs : nodes (told o ++ es) b at byte (held r) ≡ nodes es b' at' byte' (held last)
 
   -- one after the other
-  both-alike : (l m : List Back) (r q p : Rep) → Alike (emits F l r) q → Alike (emits F m q) p → Alike (emits F (l ++ m) r) p
-  both-alike l m r q p a b = alike_then _ _ _ (alike_by _ _ (emits-append F l m r)) (alike_then _ _ _ (emits-alike F m (emits F l r) q a) b)
+  both_alike : (l m : List Back) (r q p : Rep) → Alike (emits F l r) q → Alike (emits F m q) p → Alike (emits F (l ++ m) r) p
+  both_alike l m r q p a b = alike_then _ _ _ (alike_by _ _ (emits_append F l m r)) (alike_then _ _ _ (emits_alike F m (emits F l r) q a) b)
 
   -- ---------------------------------------------------------------- a node
 
@@ -163,7 +163,7 @@ module _ (F : File) where
         place = solid_after b all (seat at byte)
 
         there : place ≡ seated F (drop_trivia v)
-        there = stands-seat b at byte v s
+        there = stands_seat b at byte v s
 
         judge : Seat → Out
         judge y = node_on bytes all first k (told i ++ end) y.at y.byte (held q)
@@ -185,7 +185,7 @@ module _ (F : File) where
               rest = λ y z. alike_then _ _ _ (alike_by _ _ (ap (λ (l : List Back). emits F l q) u)) z;
             }
         go true e =
-            let n : Node-judged F k i v end q = node-judged F k i v end q e h c (p e) t (finishes F (told o ++ es)) in
+            let n : Node-judged F k i v end q = node_judged F k i v end q e h c (p e) t (finishes F (told o ++ es)) in
             record {
               b' = 0;
               at' = (seated F (drop_trivia v)).at;
@@ -207,7 +207,7 @@ module _ (F : File) where
       let v : List Token = drop_trivia ts in
       let n : More 1 b at byte ts = more 1 b at byte ts g s in
       let p : Stands (b + 1) at byte (past v) = subst (Stands (b + 1) at byte) (past_drop v) n.stands in
-      let q : Reached o (past v) (b + 1) at byte r es = scan o (past v) (b + 1) at byte r es c f t (part-past F v (part-solid F ts h)) p in
+      let q : Reached o (past v) (b + 1) at byte r es = scan o (past v) (b + 1) at byte r es c f t (part_past F v (part_solid F ts h)) p in
       record {
         b' = q.b';
         at' = q.at';
@@ -221,7 +221,7 @@ module _ (F : File) where
       let v : List Token = drop_trivia ts in
       let k : ℕ = length raw in
       let n : More k b at byte ts = more k b at byte ts g s in
-      let q : Reached o (drop k v) (b + k) at byte r es = scan o (drop k v) (b + k) at byte r es c f t (part-drop F k v (part-solid F ts h)) n.stands in
+      let q : Reached o (drop k v) (b + k) at byte r es = scan o (drop k v) (b + k) at byte r es c f t (part_drop F k v (part_solid F ts h)) n.stands in
       record {
         b' = q.b';
         at' = q.at';
@@ -235,13 +235,13 @@ module _ (F : File) where
       let w : List Token = drop_trivia ts in
       let v : List Token = after a w in
       let x : List Token = after i v in
-      let hw : Part F w = part-solid F ts h in
-      let hv : Part F v = part-after F a w hw in
+      let hw : Part F w = part_solid F ts h in
+      let hv : Part F v = part_after F a w hw in
       let end : List Event = Finish ∷ (told o ++ es) in
-      let A : Reached a w b at byte r (Start k ∷ (told i ++ end)) = scan a w b at byte r (Start k ∷ (told i ++ end)) ca fa ta hw (stands-solid b at byte ts s) in
+      let A : Reached a w b at byte r (Start k ∷ (told i ++ end)) = scan a w b at byte r (Start k ∷ (told i ++ end)) ca fa ta hw (stands_solid b at byte ts s) in
       let S : Started k m m' a i o ts r es A.b' A.at' A.byte' A.last = started k m m' a i o ts r es A.b' A.at' A.byte' A.last hv ci ti fk A.stands in
       let I : Reached i v S.b' S.at' S.byte' S.last end = scan i v S.b' S.at' S.byte' S.last end ci fi ti hv S.stands in
-      let O : Reached o x I.b' I.at' I.byte' I.last es = scan o x I.b' I.at' I.byte' I.last es co fo to (part-after F i v hv) I.stands in
+      let O : Reached o x I.b' I.at' I.byte' I.last es = scan o x I.b' I.at' I.byte' I.last es co fo to (part_after F i v hv) I.stands in
       record {
         b' = O.b';
         at' = O.at';
@@ -250,18 +250,18 @@ module _ (F : File) where
         stands = O.stands;
         alike =
             alike_then _ _ _ (alike_by _ _ (ap (λ (l : List Back). emits F l r) (node_found k m m' a i o ts alone)))
-            (both-alike (found false a w) _ r A.last O.last A.alike
-            (both-alike (found (under k (curly i v)) i v) (found false o x) A.last I.last O.last (S.rest I.last I.alike) O.alike));
+            (both_alike (found false a w) _ r A.last O.last A.alike
+            (both_alike (found (under k (curly i v)) i v) (found false o x) A.last I.last O.last (S.rest I.last I.alike) O.alike));
         runs = ap (λ (l : List Event). nodes l b at byte (held r)) (split k m m' a i o ts r es) ∙ A.runs ∙ S.runs ∙ I.runs ∙ O.runs;
       }
   scan (ignored m m' a i o) ts b at byte r es (alone, (ca, (ci, co))) (fa, (fi, fo)) (ta, (ti, to)) h s =
       let v : List Token = after a ts in
       let x : List Token = after i v in
-      let hv : Part F v = part-after F a ts h in
+      let hv : Part F v = part_after F a ts h in
       let end : List Event = Other ∷ (told o ++ es) in
       let A : Reached a ts b at byte r (Other ∷ (told i ++ end)) = scan a ts b at byte r (Other ∷ (told i ++ end)) ca fa ta h s in
       let I : Reached i v A.b' A.at' A.byte' A.last end = scan i v A.b' A.at' A.byte' A.last end ci fi ti hv A.stands in
-      let O : Reached o x I.b' I.at' I.byte' I.last es = scan o x I.b' I.at' I.byte' I.last es co fo to (part-after F i v hv) I.stands in
+      let O : Reached o x I.b' I.at' I.byte' I.last es = scan o x I.b' I.at' I.byte' I.last es co fo to (part_after F i v hv) I.stands in
       record {
         b' = O.b';
         at' = O.at';
@@ -269,8 +269,8 @@ module _ (F : File) where
         last = O.last;
         stands = O.stands;
         alike =
-            both-alike (found false a ts) _ r A.last O.last A.alike
-            (both-alike (found false i v) (found false o x) A.last I.last O.last I.alike O.alike);
+            both_alike (found false a ts) _ r A.last O.last A.alike
+            (both_alike (found false i v) (found false o x) A.last I.last O.last I.alike O.alike);
         runs =
             ap (λ (l : List Event). nodes l b at byte (held r)) (append_assoc (told a) (Other ∷ (told i ++ (Other ∷ told o))) es)
             ∙ ap (λ (l : List Event). nodes (told a ++ (Other ∷ l)) b at byte (held r)) (append_assoc (told i) (Other ∷ told o) es)

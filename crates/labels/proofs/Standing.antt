@@ -140,98 +140,98 @@ module _ (F : File) where
     pub before : List Token
     pub split : before ++ ts ≡ all
 
-  pub part-tokens : (ts : List Token) → Part ts → length ts ≤ length all
-  part-tokens ts h = let q : length all ≡ length h.before + length ts = ap length (sym h.split) ∙ length-append h.before ts in omega arith
+  pub part_tokens : (ts : List Token) → Part ts → length ts ≤ length all
+  part_tokens ts h = let q : length all ≡ length h.before + length ts = ap length (sym h.split) ∙ length-append h.before ts in omega arith
 
   part_bytes : (ts : List Token) → Part ts → byte_count ts ≤ byte_count all
   part_bytes ts h = let q : byte_count all ≡ byte_count h.before + byte_count ts = ap byte_count (sym h.split) ∙ bytes_append h.before ts in omega arith
 
-  part-next : (t : Token) (ts : List Token) → Part (t ∷ ts) → Part ts
-  part-next t ts h = record { before = h.before ++ (t ∷ []); split = append_assoc h.before (t ∷ []) ts ∙ h.split }
+  part_next : (t : Token) (ts : List Token) → Part (t ∷ ts) → Part ts
+  part_next t ts h = record { before = h.before ++ (t ∷ []); split = append_assoc h.before (t ∷ []) ts ∙ h.split }
 
-  pub part-drop : (n : ℕ) (ts : List Token) → Part ts → Part (drop n ts)
-  part-drop n ts h =
+  pub part_drop : (n : ℕ) (ts : List Token) → Part ts → Part (drop n ts)
+  part_drop n ts h =
       record { before = h.before ++ take n ts; split = append_assoc h.before (take n ts) (drop n ts) ∙ ap (h.before ++◌) (take-append-drop n ts) ∙ h.split }
 
-  pub part-past : (ts : List Token) → Part ts → Part (past ts)
-  part-past [] h = h
-  part-past (t ∷ ts) h = part-next t ts h
+  pub part_past : (ts : List Token) → Part ts → Part (past ts)
+  part_past [] h = h
+  part_past (t ∷ ts) h = part_next t ts h
 
-  pub part-solid : (ts : List Token) → Part ts → Part (drop_trivia ts)
+  pub part_solid : (ts : List Token) → Part ts → Part (drop_trivia ts)
   unfolding drop_trivia
-  part-solid [] h = h
-  part-solid (t ∷ ts) h = Rattle.basics.proofs.Tests.cond-all Part (trivia t) {x = drop_trivia ts} {y = t ∷ ts} (part-solid ts (part-next t ts h)) h
+  part_solid [] h = h
+  part_solid (t ∷ ts) h = Rattle.basics.proofs.Tests.cond-all Part (trivia t) {x = drop_trivia ts} {y = t ∷ ts} (part_solid ts (part_next t ts h)) h
 
-  pub part-after : (o : Skeleton) (ts : List Token) → Part ts → Part (after o ts)
+  pub part_after : (o : Skeleton) (ts : List Token) → Part ts → Part (after o ts)
   unfolding after
-  part-after done ts h = h
-  part-after (token t m o) ts h = part-after o _ (part-past _ (part-solid ts h))
-  part-after (name raw m o) ts h = part-after o _ (part-drop (length raw) _ (part-solid ts h))
-  part-after (node k m m' a i o) ts h = part-after o _ (part-after i _ (part-after a _ (part-solid ts h)))
-  part-after (ignored m m' a i o) ts h = part-after o _ (part-after i _ (part-after a ts h))
-  part-after (report r o) ts h = part-after o ts h
-  part-after (over m o) ts h = part-after o ts h
+  part_after done ts h = h
+  part_after (token t m o) ts h = part_after o _ (part_past _ (part_solid ts h))
+  part_after (name raw m o) ts h = part_after o _ (part_drop (length raw) _ (part_solid ts h))
+  part_after (node k m m' a i o) ts h = part_after o _ (part_after i _ (part_after a _ (part_solid ts h)))
+  part_after (ignored m m' a i o) ts h = part_after o _ (part_after i _ (part_after a ts h))
+  part_after (report r o) ts h = part_after o ts h
+  part_after (over m o) ts h = part_after o ts h
 
   abbrev pub seated : List Token → Seat
   seated ts = record { at = length all - length ts; byte = byte_count all - byte_count ts }
 
-  pub seat-there : (ts : List Token) → Part ts → drop (length all - length ts) all ≡ ts
-  seat-there ts h =
+  pub seat_there : (ts : List Token) → Part ts → drop (length all - length ts) all ≡ ts
+  seat_there ts h =
       let q : length all ≡ length h.before + length ts = ap length (sym h.split) ∙ length-append h.before ts in
       let n : length h.before ≡ length all - length ts = omega arith in
       ap (drop (length all - length ts)) (sym h.split) ∙ drop_at h.before ts (length all - length ts) n
 
-  seat-next : (t : Token) (ts : List Token) → Part (t ∷ ts) → next_seat t (seated (t ∷ ts)) ≡ seated ts
+  seat_next : (t : Token) (ts : List Token) → Part (t ∷ ts) → next_seat t (seated (t ∷ ts)) ≡ seated ts
   unfolding byte_count
-  seat-next t ts h =
-      let n : suc (length ts) ≤ length all = part-tokens (t ∷ ts) h in
+  seat_next t ts h =
+      let n : suc (length ts) ≤ length all = part_tokens (t ∷ ts) h in
       let m : t.len + byte_count ts ≤ byte_count all = part_bytes (t ∷ ts) h in
       let p : length all - suc (length ts) + 1 ≡ length all - length ts = omega arith in
       let q : byte_count all - (t.len + byte_count ts) + t.len ≡ byte_count all - byte_count ts = omega arith in
       let s : low (byte_count all - (t.len + byte_count ts) + t.len) ≡ byte_count all - byte_count ts = ap low q ∙ mod-eq_of_lt (omega (arith, few)) in
       rw (p, s) refl
 
-  pub passed-seat : (n : ℕ) (ts : List Token) → Part ts → passed n ts (seated ts) ≡ seated (drop n ts)
+  pub passed_seat : (n : ℕ) (ts : List Token) → Part ts → passed n ts (seated ts) ≡ seated (drop n ts)
   unfolding passed
-  passed-seat zero ts h = refl
-  passed-seat (suc n) [] h = refl
-  passed-seat (suc n) (t ∷ ts) h = ap (passed n ts) (seat-next t ts h) ∙ passed-seat n ts (part-next t ts h)
+  passed_seat zero ts h = refl
+  passed_seat (suc n) [] h = refl
+  passed_seat (suc n) (t ∷ ts) h = ap (passed n ts) (seat_next t ts h) ∙ passed_seat n ts (part_next t ts h)
 
   solid_seat : (ts : List Token) → Part ts → first_solid ts (seated ts) ≡ seated (drop_trivia ts)
   unfolding first_solid drop_trivia
   solid_seat [] h = refl
-  solid_seat (t ∷ ts) h = go (trivia t) (ap (first_solid ts) (seat-next t ts h) ∙ solid_seat ts (part-next t ts h))
+  solid_seat (t ∷ ts) h = go (trivia t) (ap (first_solid ts) (seat_next t ts h) ∙ solid_seat ts (part_next t ts h))
     where
       go : (b : Bool) → first_solid ts (next_seat t (seated (t ∷ ts))) ≡ seated (drop_trivia ts)
           → cond b (first_solid ts (next_seat t (seated (t ∷ ts)))) (seated (t ∷ ts)) ≡ seated (cond b (drop_trivia ts) (t ∷ ts))
       go true e = e
       go false e = refl
 
-  beyond-seat : (n : ℕ) (ts : List Token) → Part ts → past_solid n ts (seated ts) ≡ seated (beyond n ts)
+  beyond_seat : (n : ℕ) (ts : List Token) → Part ts → past_solid n ts (seated ts) ≡ seated (beyond n ts)
   unfolding past_solid beyond
-  beyond-seat zero ts h = refl
-  beyond-seat (suc n) [] h = refl
-  beyond-seat (suc n) (t ∷ ts) h =
-      let g : Part ts = part-next t ts h in
-      go (trivia t) (ap (past_solid (suc n) ts) (seat-next t ts h) ∙ beyond-seat (suc n) ts g) (ap (past_solid n ts) (seat-next t ts h) ∙ beyond-seat n ts g)
+  beyond_seat zero ts h = refl
+  beyond_seat (suc n) [] h = refl
+  beyond_seat (suc n) (t ∷ ts) h =
+      let g : Part ts = part_next t ts h in
+      go (trivia t) (ap (past_solid (suc n) ts) (seat_next t ts h) ∙ beyond_seat (suc n) ts g) (ap (past_solid n ts) (seat_next t ts h) ∙ beyond_seat n ts g)
     where
       go : (b : Bool) → past_solid (suc n) ts (next_seat t (seated (t ∷ ts))) ≡ seated (beyond (suc n) ts) → past_solid n ts (next_seat t (seated (t ∷ ts))) ≡ seated (beyond n ts)
           → cond b (past_solid (suc n) ts (next_seat t (seated (t ∷ ts)))) (past_solid n ts (next_seat t (seated (t ∷ ts)))) ≡ seated (cond b (beyond (suc n) ts) (beyond n ts))
       go true p q = p
       go false p q = q
 
-  part-beyond : (n : ℕ) (ts : List Token) → Part ts → Part (beyond n ts)
+  part_beyond : (n : ℕ) (ts : List Token) → Part ts → Part (beyond n ts)
   unfolding beyond
-  part-beyond zero ts h = h
-  part-beyond (suc n) [] h = h
-  part-beyond (suc n) (t ∷ ts) h =
-      Rattle.basics.proofs.Tests.cond-all Part (trivia t) {x = beyond (suc n) ts} {y = beyond n ts} (part-beyond (suc n) ts (part-next t ts h)) (part-beyond n ts (part-next t ts h))
+  part_beyond zero ts h = h
+  part_beyond (suc n) [] h = h
+  part_beyond (suc n) (t ∷ ts) h =
+      Rattle.basics.proofs.Tests.cond-all Part (trivia t) {x = beyond (suc n) ts} {y = beyond n ts} (part_beyond (suc n) ts (part_next t ts h)) (part_beyond n ts (part_next t ts h))
 
-  pub solid-there : (n : ℕ) (ts : List Token) → Part ts → solid_after n all (seated ts) ≡ seated (drop_trivia (beyond n ts))
+  pub solid_there : (n : ℕ) (ts : List Token) → Part ts → solid_after n all (seated ts) ≡ seated (drop_trivia (beyond n ts))
   unfolding solid_after
-  solid-there n ts h =
-      let g : Part (beyond n ts) = part-beyond n ts h in
-      rw (seat-there ts h, beyond-seat n ts h, seat-there (beyond n ts) g) (solid_seat (beyond n ts) g)
+  solid_there n ts h =
+      let g : Part (beyond n ts) = part_beyond n ts h in
+      rw (seat_there ts h, beyond_seat n ts h, seat_there (beyond n ts) g) (solid_seat (beyond n ts) g)
 
   -- ---------------------------------------------------------------- reports
 
@@ -254,14 +254,14 @@ module _ (F : File) where
   emits [] r = r
   emits (x ∷ l) r = emits l (emit x r)
 
-  pub emits-append : (l m : List Back) (r : Rep) → emits (l ++ m) r ≡ emits m (emits l r)
+  pub emits_append : (l m : List Back) (r : Rep) → emits (l ++ m) r ≡ emits m (emits l r)
   unfolding emits
-  emits-append [] m r = refl
-  emits-append (x ∷ l) m r = emits-append l m (emit x r)
+  emits_append [] m r = refl
+  emits_append (x ∷ l) m r = emits_append l m (emit x r)
 
-  pub reported-held : (r : Rep) (start end at : ℕ) → reported start end at first (held r) ≡ held (pushed start end at r)
+  pub reported_held : (r : Rep) (start end at : ℕ) → reported start end at first (held r) ≡ held (pushed start end at r)
   unfolding reported pushed
-  reported-held r start end at = go (eqb r.refusal 0) (fits (length r.reports) r.written REPORT_ROW)
+  reported_held r start end at = go (eqb r.refusal 0) (fits (length r.reports) r.written REPORT_ROW)
     where
       more : Rep
       more = record { written = r.written + REPORT_ROW; refusal = r.refusal; place = r.place; reports = put_row r.written start end (low at) first r.reports }

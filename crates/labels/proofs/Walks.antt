@@ -21,8 +21,8 @@ use Rattle.labels.specs.Model.{breaks, out, judged_kind, On, on, with_names, tok
 use Rattle.labels.proofs.JudgedNodes.{Plain}
 use Rattle.labels.proofs.Taken.{Firsts, Taken}
 use Rattle.labels.proofs.Alone.{alone_curly, alone_found}
-use Rattle.labels.proofs.Standing.{Rep, names_of, held, File, Part, part-past, part-drop, part-solid, part-after, seated, seat-there, passed-seat, solid-there, beyond, beyond_firsts, curly_first, past_drop, pushed, emit, emits, emits-append, reported-held}
-use Rattle.labels.proofs.Alike.{Alike, alike_self, emits-undone}
+use Rattle.labels.proofs.Standing.{Rep, names_of, held, File, Part, part_past, part_drop, part_solid, part_after, seated, seat_there, passed_seat, solid_there, beyond, beyond_firsts, curly_first, past_drop, pushed, emit, emits, emits_append, reported_held}
+use Rattle.labels.proofs.Alike.{Alike, alike_self, emits_undone}
 use Rattle.labels.proofs.Told.{told}
 
 pub not_under : (k : ℕ) (c : Bool) → judged_kind k ≡ false → under k c ≡ false
@@ -90,35 +90,35 @@ module _ (F : File) where
   abbrev brace : ℕ → Bool → Bool → Bool
   brace d c b = cond (eqb d 0) (cond c true b) b
 
-  token-walk : (ts : List Token) (d : ℕ) (b : Bool) (r : Rep) → Part F ts → Firsts 1 (drop_trivia ts)
+  token_walk : (ts : List Token) (d : ℕ) (b : Bool) (r : Rep) → Part F ts → Firsts 1 (drop_trivia ts)
       → token_on all (walking (drop_trivia ts) d b r) ≡ walking (drop_trivia (past (drop_trivia ts))) d (brace d (first_curly (drop_trivia ts)) b) r
   unfolding token_on
-  token-walk ts d b r h f =
+  token_walk ts d b r h f =
       let v : List Token = drop_trivia ts in
-      let g : Part F v = part-solid F ts h in
+      let g : Part F v = part_solid F ts h in
       let e : beyond 1 v ≡ past v = beyond_firsts 1 v f ∙ past_drop v in
-      rw (solid-there F 1 v g, seat-there F v g, curly_first v, e) refl
+      rw (solid_there F 1 v g, seat_there F v g, curly_first v, e) refl
 
-  name-end : (n : ℕ) (v : List Token) → Part F v → Rattle.labels.specs.Model.solid_after 0 all (seated F (drop n v)) ≡ seated F (drop_trivia (drop n v))
+  name_end : (n : ℕ) (v : List Token) → Part F v → Rattle.labels.specs.Model.solid_after 0 all (seated F (drop n v)) ≡ seated F (drop_trivia (drop n v))
   unfolding beyond
-  name-end n v g = solid-there F 0 (drop n v) (part-drop F n v g)
+  name_end n v g = solid_there F 0 (drop n v) (part_drop F n v g)
 
   -- deep in the node, or directly in it
-  name-deep : (n : ℕ) (ts : List Token) (d : ℕ) (b : Bool) (r : Rep) → Part F ts
+  name_deep : (n : ℕ) (ts : List Token) (d : ℕ) (b : Bool) (r : Rep) → Part F ts
       → name_on bytes all first n (state (drop_trivia ts) (suc d) b r) ≡ state (drop_trivia (drop n (drop_trivia ts))) (suc d) b r
   unfolding name_on
-  name-deep n ts d b r h =
+  name_deep n ts d b r h =
       let v : List Token = drop_trivia ts in
-      let g : Part F v = part-solid F ts h in
-      rw (deeper d, seat-there F v g, passed-seat F n v g, name-end n v g) refl
+      let g : Part F v = part_solid F ts h in
+      rw (deeper d, seat_there F v g, passed_seat F n v g, name_end n v g) refl
 
-  name-direct : (n : ℕ) (ts : List Token) (b : Bool) (r : Rep) → Part F ts
+  name_direct : (n : ℕ) (ts : List Token) (b : Bool) (r : Rep) → Part F ts
       → name_on bytes all first n (state (drop_trivia ts) 0 b r)
       ≡ state (drop_trivia (drop n (drop_trivia ts))) 0 b (emit F (back (drop_trivia ts) (drop n (drop_trivia ts))) r)
   unfolding name_on emit
-  name-direct n ts b r h =
-      let g : Part F v = part-solid F ts h in
-      rw (seat-there F v g, passed-seat F n v g, name-end n v g) (go (breaks bytes start end))
+  name_direct n ts b r h =
+      let g : Part F v = part_solid F ts h in
+      rw (seat_there F v g, passed_seat F n v g, name_end n v g) (go (breaks bytes start end))
     where
       v : List Token
       v = drop_trivia ts
@@ -138,7 +138,7 @@ module _ (F : File) where
       go : (c : Bool)
           → cond c (with_names (walking (drop_trivia u) 0 b r) (Rattle.labels.specs.Model.reported start end at first (held r))) (state (drop_trivia u) 0 b r)
           ≡ state (drop_trivia u) 0 b (cond c (pushed F start end at r) r)
-      go true = ap (with_names (walking (drop_trivia u) 0 b r)) (reported-held F r start end at)
+      go true = ap (with_names (walking (drop_trivia u) 0 b r)) (reported_held F r start end at)
       go false = refl
 
   -- ---------------------------------------------------------------- deep in it
@@ -149,18 +149,18 @@ module _ (F : File) where
   deep done ts d b r es h t = refl
   deep (token x m o) ts d b r es h (f, t) =
       let v : List Token = drop_trivia ts in
-      ap (λ (w : Walk). inside (told o ++ es) (on w r.reports)) (token-walk ts (suc d) b r h f)
+      ap (λ (w : Walk). inside (told o ++ es) (on w r.reports)) (token_walk ts (suc d) b r h f)
       ∙ ap (λ (c : Bool). inside (told o ++ es) (state (drop_trivia (past v)) (suc d) (cond c (cond (first_curly v) true b) b) r)) (deeper d)
-      ∙ deep o (past v) d b r es (part-past F v (part-solid F ts h)) t
+      ∙ deep o (past v) d b r es (part_past F v (part_solid F ts h)) t
   deep (name raw m o) ts d b r es h (f, t) =
       let v : List Token = drop_trivia ts in
-      ap (inside (told o ++ es)) (name-deep (length raw) ts d b r h)
-      ∙ deep o (drop (length raw) v) d b r es (part-drop F (length raw) v (part-solid F ts h)) t
+      ap (inside (told o ++ es)) (name_deep (length raw) ts d b r h)
+      ∙ deep o (drop (length raw) v) d b r es (part_drop F (length raw) v (part_solid F ts h)) t
   deep (node k m m' a i o) ts d b r es h (ta, (ti, to)) =
       let w : List Token = drop_trivia ts in
       let v : List Token = after a w in
-      let hw : Part F w = part-solid F ts h in
-      let hv : Part F v = part-after F a w hw in
+      let hw : Part F w = part_solid F ts h in
+      let hv : Part F v = part_after F a w hw in
       let end : List Event = Finish ∷ (told o ++ es) in
       let up : suc d + 1 ≡ suc (suc d) = omega arith in
       let down : suc (suc d) - 1 ≡ suc d = omega arith in
@@ -172,58 +172,58 @@ module _ (F : File) where
       ∙ deep i v (suc d) b r end hv ti
       ∙ ap (λ (c : Bool). cond c (state (drop_trivia (after i v)) (suc (suc d)) b r) (inside (told o ++ es) (state (drop_trivia (after i v)) (suc (suc d) - 1) b r))) (deeper (suc d))
       ∙ ap (λ n. inside (told o ++ es) (state (drop_trivia (after i v)) n b r)) down
-      ∙ deep o (after i v) d b r es (part-after F i v hv) to
+      ∙ deep o (after i v) d b r es (part_after F i v hv) to
   deep (ignored m m' a i o) ts d b r es h (ta, (ti, to)) =
       let v : List Token = after a ts in
-      let hv : Part F v = part-after F a ts h in
+      let hv : Part F v = part_after F a ts h in
       let end : List Event = Other ∷ (told o ++ es) in
       ap (λ (l : List Event). inside l (state (drop_trivia ts) (suc d) b r)) (append_assoc (told a) (Other ∷ (told i ++ (Other ∷ told o))) es)
       ∙ ap (λ (l : List Event). inside (told a ++ (Other ∷ l)) (state (drop_trivia ts) (suc d) b r)) (append_assoc (told i) (Other ∷ told o) es)
       ∙ deep a ts d b r (Other ∷ (told i ++ end)) h ta
       ∙ deep i v d b r end hv ti
-      ∙ deep o (after i v) d b r es (part-after F i v hv) to
+      ∙ deep o (after i v) d b r es (part_after F i v hv) to
   deep (report x o) ts d b r es h t = deep o ts d b r es h t
   deep (over m o) ts d b r es h t = deep o ts d b r es h t
 
   -- ---------------------------------------------------------------- directly in it
 
-  or-cond : (c b : Bool) → cond c true b ≡ (b || c)
-  or-cond true true = refl
-  or-cond true false = refl
-  or-cond false true = refl
-  or-cond false false = refl
+  or_cond : (c b : Bool) → cond c true b ≡ (b || c)
+  or_cond true true = refl
+  or_cond true false = refl
+  or_cond false true = refl
+  or_cond false false = refl
 
-  or-again : (a b c : Bool) → ((a || b) || c) ≡ (a || (b || c))
-  or-again true b c = refl
-  or-again false b c = refl
+  or_again : (a b c : Bool) → ((a || b) || c) ≡ (a || (b || c))
+  or_again true b c = refl
+  or_again false b c = refl
 
-  or-none : (b c : Bool) → c ≡ false → (b || c) ≡ b
-  or-none true c e = refl
-  or-none false c e = e
+  or_none : (b c : Bool) → c ≡ false → (b || c) ≡ b
+  or_none true c e = refl
+  or_none false c e = e
 
   -- what stands directly there is seen, and its Names are judged
   direct : (o : Skeleton) (ts : List Token) (b : Bool) (r : Rep) (es : List Event) → Part F ts → Chained o → Plain o → Taken o ts
       → inside (told o ++ es) (state (drop_trivia ts) 0 b r) ≡ inside es (state (drop_trivia (after o ts)) 0 (b || curly o ts) (emits F (found true o ts) r))
   unfolding told after Taken Chained Plain curly found emits inside_on event_on
-  direct done ts b r es h c p t = ap (λ (x : Bool). inside es (state (drop_trivia ts) 0 x r)) (sym (or-none b false refl))
+  direct done ts b r es h c p t = ap (λ (x : Bool). inside es (state (drop_trivia ts) 0 x r)) (sym (or_none b false refl))
   direct (token x m o) ts b r es h c p (f, t) =
       let v : List Token = drop_trivia ts in
       let q : Bool = first_curly v in
-      ap (λ (w : Walk). inside (told o ++ es) (on w r.reports)) (token-walk ts 0 b r h f)
-      ∙ ap (λ (x : Bool). inside (told o ++ es) (state (drop_trivia (past v)) 0 x r)) (or-cond q b)
-      ∙ direct o (past v) (b || q) r es (part-past F v (part-solid F ts h)) c p t
-      ∙ ap (λ (x : Bool). inside es (state (drop_trivia (after o (past v))) 0 x (emits F (found true o (past v)) r))) (or-again b q (curly o (past v)))
+      ap (λ (w : Walk). inside (told o ++ es) (on w r.reports)) (token_walk ts 0 b r h f)
+      ∙ ap (λ (x : Bool). inside (told o ++ es) (state (drop_trivia (past v)) 0 x r)) (or_cond q b)
+      ∙ direct o (past v) (b || q) r es (part_past F v (part_solid F ts h)) c p t
+      ∙ ap (λ (x : Bool). inside es (state (drop_trivia (after o (past v))) 0 x (emits F (found true o (past v)) r))) (or_again b q (curly o (past v)))
   direct (name raw m o) ts b r es h c p (f, t) =
       let v : List Token = drop_trivia ts in
       let u : List Token = drop (length raw) v in
-      ap (inside (told o ++ es)) (name-direct (length raw) ts b r h)
-      ∙ direct o u b (emit F (back v u) r) es (part-drop F (length raw) v (part-solid F ts h)) c p t
+      ap (inside (told o ++ es)) (name_direct (length raw) ts b r h)
+      ∙ direct o u b (emit F (back v u) r) es (part_drop F (length raw) v (part_solid F ts h)) c p t
   direct (node k m m' a i o) ts b r es h (alone, (ca, (ci, co))) (pk, (pa, (pi, po))) (ta, (ti, to)) =
       let w : List Token = drop_trivia ts in
       let v : List Token = after a w in
       let x : List Token = after i v in
-      let hw : Part F w = part-solid F ts h in
-      let hv : Part F v = part-after F a w hw in
+      let hw : Part F w = part_solid F ts h in
+      let hv : Part F v = part_after F a w hw in
       let end : List Event = Finish ∷ (told o ++ es) in
       let none-a : found true a w ≡ [] = alone_found true false a w alone ∙ plain_none a w pa in
       let all_found : found true (node k m m' a i o) ts ≡ found true o x = plain_node true k m m' a i o ts pk pa pi in
@@ -231,15 +231,15 @@ module _ (F : File) where
       ∙ ap (λ (l : List Event). inside (told a ++ (Start k ∷ l)) (state w 0 b r)) (append_assoc (told i) (Finish ∷ told o) es)
       ∙ ap (λ (l : List Token). inside (told a ++ (Start k ∷ (told i ++ end))) (state l 0 b r)) (sym (drop_twice ts))
       ∙ direct a w b r (Start k ∷ (told i ++ end)) hw ca pa ta
-      ∙ ap (λ (y : Bool). inside (Start k ∷ (told i ++ end)) (state (drop_trivia v) 0 y (emits F (found true a w) r))) (or-none b (curly a w) (alone_curly a w alone))
+      ∙ ap (λ (y : Bool). inside (Start k ∷ (told i ++ end)) (state (drop_trivia v) 0 y (emits F (found true a w) r))) (or_none b (curly a w) (alone_curly a w alone))
       ∙ ap (λ (l : List Back). inside (Start k ∷ (told i ++ end)) (state (drop_trivia v) 0 b (emits F l r))) none-a
       ∙ deep i v 0 b r end hv ti
-      ∙ direct o x b r es (part-after F i v hv) co po to
+      ∙ direct o x b r es (part_after F i v hv) co po to
       ∙ ap (λ (l : List Back). inside es (state (drop_trivia (after o x)) 0 (b || curly o x) (emits F l r))) (sym all_found)
   direct (ignored m m' a i o) ts b r es h (alone, (ca, (ci, co))) (pa, (pi, po)) (ta, (ti, to)) =
       let v : List Token = after a ts in
       let x : List Token = after i v in
-      let hv : Part F v = part-after F a ts h in
+      let hv : Part F v = part_after F a ts h in
       let end : List Event = Other ∷ (told o ++ es) in
       let f : List Back = found true a ts in
       let g : List Back = found true i v in
@@ -248,11 +248,11 @@ module _ (F : File) where
       ∙ ap (λ (l : List Event). inside (told a ++ (Other ∷ l)) (state (drop_trivia ts) 0 b r)) (append_assoc (told i) (Other ∷ told o) es)
       ∙ direct a ts b r (Other ∷ (told i ++ end)) h ca pa ta
       ∙ direct i v (b || curly a ts) (emits F f r) end hv ci pi ti
-      ∙ direct o x ((b || curly a ts) || curly i v) (emits F g (emits F f r)) es (part-after F i v hv) co po to
+      ∙ direct o x ((b || curly a ts) || curly i v) (emits F g (emits F f r)) es (part_after F i v hv) co po to
       ∙ ap (λ (y : Bool). inside es (state (drop_trivia (after o x)) 0 y (emits F k (emits F g (emits F f r)))))
-      (or-again (b || curly a ts) (curly i v) (curly o x) ∙ or-again b (curly a ts) (curly i v || curly o x))
+      (or_again (b || curly a ts) (curly i v) (curly o x) ∙ or_again b (curly a ts) (curly i v || curly o x))
       ∙ ap (λ (q : Rep). inside es (state (drop_trivia (after o x)) 0 (b || (curly a ts || (curly i v || curly o x))) q))
-      (sym (emits-append F f (g ++ k) r ∙ emits-append F g k (emits F f r)))
+      (sym (emits_append F f (g ++ k) r ∙ emits_append F g k (emits F f r)))
   direct (report y o) ts b r es h c p t = direct o ts b r es h c p t
   direct (over m o) ts b r es h c p t = direct o ts b r es h c p t
 
@@ -276,10 +276,10 @@ module _ (F : File) where
     pub alike : Alike (emits F (found (under k (curly i ts)) i ts) r) last
     pub runs : node_on bytes all first k (told i ++ es) (seated F (drop_trivia ts)).at (seated F (drop_trivia ts)).byte (held r) ≡ held last
 
-  pub node-judged : (k : ℕ) (i : Skeleton) (ts : List Token) (es : List Event) (r : Rep) → judged_kind k ≡ true → Part F ts → Chained i → Plain i → Taken i ts → Closes es
+  pub node_judged : (k : ℕ) (i : Skeleton) (ts : List Token) (es : List Event) (r : Rep) → judged_kind k ≡ true → Part F ts → Chained i → Plain i → Taken i ts → Closes es
       → Node-judged k i ts es r
   unfolding node_on emits
-  node-judged k i ts es r jk h c p t e = go (eqb k N.DtLabel) refl (eqb k N.DtPhandle) refl (curly i ts) refl jk
+  node_judged k i ts es r jk h c p t e = go (eqb k N.DtLabel) refl (eqb k N.DtPhandle) refl (curly i ts) refl jk
     where
       names : Rep
       names = emits F (found true i ts) r
@@ -302,7 +302,7 @@ module _ (F : File) where
       go false a true f true g q =
           record {
             last = Rattle.labels.proofs.Alike.back_to F r names.reports;
-            alike = rw (a, f, g, plain_none i ts p) (emits-undone F (found true i ts) r);
+            alike = rw (a, f, g, plain_none i ts p) (emits_undone F (found true i ts) r);
             runs = by true true f g;
           }
       go false a false f z g q = absurd (mathlib.Core.Bool.false≢true q)

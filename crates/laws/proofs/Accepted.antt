@@ -73,11 +73,11 @@ module _ (n setting : ℕ) (bytes tokens : List ℕ) (b : Buffers) (e : Entry) (
   unfolding outcome
   after x f = called ∙ ap (λ (q : Fit). outcome q e (tokens_of tokens) o l b) f
 
-  by-room : (x : Room) → scan (pushes o) (room_of b) ≡ fits x → names_fit x.reports l ≡ accepted
+  by_room : (x : Room) → scan (pushes o) (room_of b) ≡ fits x → names_fit x.reports l ≡ accepted
       → (y : Bool) → (leb (length z.trees) (length b.trees) && leb (length z.errors) (length b.errors)) ≡ y
       → (call n setting bytes tokens b).answer.number ≡ 0 → Accepted n setting bytes tokens b
   unfolding unless_refused delivered number_of
-  by-room x f g true t h =
+  by_room x f g true t h =
       record {
         entry = e;
         asked_for = for-e;
@@ -89,7 +89,7 @@ module _ (n setting : ℕ) (bytes tokens : List ℕ) (b : Buffers) (e : Entry) (
         errors_fit = leb-true _ _ (and_right (leb (length z.trees) (length b.trees)) _ t);
         returns = after x f ∙ ap (λ (v : Verdict). unless_refused v z b) g ∙ ap (λ (q : Bool). cond q (kept z b) (cleared no_tree_room b)) t;
       }
-  by-room x f g false t h =
+  by_room x f g false t h =
       absurd
       (refusal_number no_tree_room
       (sym (ap (λ (r : Result). r.answer.number) (after x f ∙ ap (λ (v : Verdict). unless_refused v z b) g ∙ ap (λ (q : Bool). cond q (kept z b) (cleared no_tree_room b)) t)) ∙ h))
@@ -97,13 +97,13 @@ module _ (n setting : ℕ) (bytes tokens : List ℕ) (b : Buffers) (e : Entry) (
   by_names : (x : Room) → scan (pushes o) (room_of b) ≡ fits x → (v : Verdict) → names_fit x.reports l ≡ v
       → (call n setting bytes tokens b).answer.number ≡ 0 → Accepted n setting bytes tokens b
   unfolding unless_refused
-  by_names x f accepted g h = by-room x f g _ refl h
+  by_names x f accepted g h = by_room x f g _ refl h
   by_names x f (refused r) g h = absurd (refusal_number r (sym (ap (λ (q : Result). q.answer.number) (after x f ∙ ap (λ (v : Verdict). unless_refused v z b) g)) ∙ h))
 
-  by-fit : (f : Fit) → scan (pushes o) (room_of b) ≡ f → (call n setting bytes tokens b).answer.number ≡ 0 → Accepted n setting bytes tokens b
+  by_fit : (f : Fit) → scan (pushes o) (room_of b) ≡ f → (call n setting bytes tokens b).answer.number ≡ 0 → Accepted n setting bytes tokens b
   unfolding outcome
-  by-fit (fits x) f h = by_names x f _ refl h
-  by-fit (stops r) f h =
+  by_fit (fits x) f h = by_names x f _ refl h
+  by_fit (stops r) f h =
       absurd (refusal_number (forward_mark (length (tokens_of tokens)) r) (sym (ap (λ (q : Result). q.answer.number) (called ∙ ap (λ (q : Fit). outcome q e (tokens_of tokens) o l b) f)) ∙ h))
 
 -- AN ACCEPTED CALL is one that returns number 0
@@ -111,10 +111,10 @@ pub accepted_call : (n setting : ℕ) (bytes tokens : List ℕ) (b : Buffers) �
 unfolding call asked checked
 accepted_call n setting bytes tokens b h = by_entry (entry_of n) refl
   where
-    by-input : (e : Entry) → entry_of n ≡ for e → (v : Verdict) → check_input bytes tokens ≡ v → Accepted n setting bytes tokens b
-    by-input e for-e accepted ok = by-fit n setting bytes tokens b e for-e ok _ refl h
-    by-input e for-e (refused r) bad = absurd (refusal_number r (sym (ap (λ (x : Asked). (asked x setting bytes tokens b).answer.number) for-e ∙ ap (λ (v : Verdict). (checked v e setting bytes tokens b).answer.number) bad) ∙ h))
+    by_input : (e : Entry) → entry_of n ≡ for e → (v : Verdict) → check_input bytes tokens ≡ v → Accepted n setting bytes tokens b
+    by_input e for-e accepted ok = by_fit n setting bytes tokens b e for-e ok _ refl h
+    by_input e for-e (refused r) bad = absurd (refusal_number r (sym (ap (λ (x : Asked). (asked x setting bytes tokens b).answer.number) for-e ∙ ap (λ (v : Verdict). (checked v e setting bytes tokens b).answer.number) bad) ∙ h))
 
     by_entry : (x : Asked) → entry_of n ≡ x → Accepted n setting bytes tokens b
-    by_entry (for e) for-e = by-input e for-e (check_input bytes tokens) refl
+    by_entry (for e) for-e = by_input e for-e (check_input bytes tokens) refl
     by_entry unknown none = absurd (refusal_number unknown_entry (sym (ap (λ (x : Asked). (asked x setting bytes tokens b).answer.number) none) ∙ h))

@@ -14,7 +14,7 @@ use Rattle.definitions.specs.Run.{State, Out, mark_of, makes, add, marked, is_ag
 use Rattle.definitions.specs.Report.{pushes}
 use Rattle.definitions.specs.Call.{run_entry}
 use Rattle.laws.proofs.Fuel.{turn_of}
-use Rattle.laws.proofs.Pieces.{turn-pieces, linked, link, link-pieces, links-pieces, chained-pieces}
+use Rattle.laws.proofs.Pieces.{turn_pieces, linked, link, link_pieces, links_pieces, chained_pieces}
 use Rattle.laws.proofs.Clear.{BelowLimits, join_within, closed_within, within_pieces}
 
 -- g does what f does wherever f meets no refusal 5
@@ -31,7 +31,7 @@ iter_agrees : (n : ℕ) (f g : State → Out) → Agrees f g → Agrees (iter n 
 unfolding iter makes
 iter_agrees zero f g a s h = refl
 iter_agrees (suc n) f g a s h =
-    ap (λ (o : Out). cond (goes_on s o) (add (turn_of o) (iter n g o.state)) (turn_of o)) (a s (turn-pieces BelowLimits within_pieces (goes_on s (f s)) (f s) (iter n f (f s).state) h))
+    ap (λ (o : Out). cond (goes_on s o) (add (turn_of o) (iter n g o.state)) (turn_of o)) (a s (turn_pieces BelowLimits within_pieces (goes_on s (f s)) (f s) (iter n f (f s).state) h))
     ∙ turn_agrees (goes_on s (f s)) (f s) (iter n f (f s).state) (iter n g (f s).state) h (λ w. iter_agrees n f g a (f s).state w)
 
 link_agrees : (m : ℕ) (a i : Skeleton) (s : State) (o x y : Out) → BelowLimits (link m a i s o x).made → (BelowLimits x.made → y ≡ x) → link m a i s o y ≡ link m a i s o x
@@ -50,7 +50,7 @@ unfolding links
 links_agrees zero f g h m a i s w = refl
 links_agrees (suc n) f g h m a i s w =
     let c : BelowLimits a × BelowLimits i × BelowLimits (f s).made =
-    link-pieces BelowLimits within_pieces m a i s (f s) (links n f (mark_of (f s).state) (linked m a i (f s)) done (f s).state) (λ v. (links-pieces BelowLimits within_pieces n f (mark_of (f s).state) (linked m a i (f s)) done (f s).state v).0) w in
+    link_pieces BelowLimits within_pieces m a i s (f s) (links n f (mark_of (f s).state) (linked m a i (f s)) done (f s).state) (λ v. (links_pieces BelowLimits within_pieces n f (mark_of (f s).state) (linked m a i (f s)) done (f s).state v).0) w in
     ap (λ (o : Out). link m a i s o (links n g (mark_of o.state) (linked m a i o) done o.state)) (h s c.2)
     ∙ link_agrees m a i s (f s) (links n f (mark_of (f s).state) (linked m a i (f s)) done (f s).state) (links n g (mark_of (f s).state) (linked m a i (f s)) done (f s).state) w
     (λ v. links_agrees n f g h (mark_of (f s).state) (linked m a i (f s)) done (f s).state v)
@@ -95,7 +95,7 @@ exec_agrees ask more h b (in_marker p) s w =
 exec_agrees ask more h b (loop p) s w = iter_agrees (suc (length s.rest)) (exec ask b p) (exec more b p) (exec_agrees ask more h b p) s w
 exec_agrees ask more h b (chain p q) s w =
     let o : Out = exec ask b p s in
-    ap (chained (exec more b q) s) (exec_agrees ask more h b p s (chained-pieces BelowLimits within_pieces (exec ask b q) s o w))
+    ap (chained (exec more b q) s) (exec_agrees ask more h b p s (chained_pieces BelowLimits within_pieces (exec ask b q) s o w))
     ∙ chained_agrees (exec ask b q) (exec more b q) (exec_agrees ask more h b q) s o w
 exec_agrees ask more h b (brace p) s w = exec_agrees ask more h (here s.rest) p s w
 exec_agrees ask more h b (open_call r) s w = h r s w

@@ -16,7 +16,7 @@ use Rattle.definitions.specs.Place.{after}
 use Rattle.definitions.specs.Call.{run_entry}
 use Rattle.laws.proofs.Trivia.{drop_twice, drop_none, passes_drop}
 use Rattle.laws.proofs.Skeleton.{after_join}
-use Rattle.laws.proofs.Kept.{Stands, Kept, run-kept, exec_kept, whole-kept}
+use Rattle.laws.proofs.Kept.{Stands, Kept, run_kept, exec_kept, whole_kept}
 
 -- each token of p is the first of ts that is not trivia where p comes to it, each name the first ones; each with the
 -- mark after it
@@ -111,12 +111,12 @@ reads_kept =
 
 -- EVERY CALL reads what it takes
 pub run_reads : (n : ℕ) (r : Rule) (s : State) → Stands s → Between (run n r s).made s.since (run n r s).state.since
-run_reads n r s h = (run-kept Taking reads_kept n r s h).1.takes
+run_reads n r s h = (run_kept Taking reads_kept n r s h).1.takes
 
 -- and every program over such calls
 pub exec_reads : (n : ℕ) (b : Label) (p : Prog) (s : State) → Stands s → Between (exec (run n) b p s).made s.since (exec (run n) b p s).state.since
-exec_reads n b p s h = (exec_kept Taking reads_kept (run n) (run-kept Taking reads_kept n) b p s h).1.takes
+exec_reads n b p s h = (exec_kept Taking reads_kept (run n) (run_kept Taking reads_kept n) b p s h).1.takes
 
 -- and a whole file
 pub entry_reads : (e : Entry) (ts : List Token) → Between (run_entry e ts) ts (exec (run MOST_OPEN_CALLS) no_label (whole e) (taken ts)).state.since
-entry_reads e ts = (whole-kept Taking reads_kept e ts).takes
+entry_reads e ts = (whole_kept Taking reads_kept e ts).takes

@@ -40,46 +40,46 @@ pub record Steady (Q : State → Out → Type 0) (C : State → ℕ → Skeleton
 
 module _ (Q : State → Out → Type 0) (C : State → ℕ → Skeleton → Skeleton → State → Type 0) (S : Composes Q C) where
   -- whichever way a branch goes
-  pub choose-all : (x : Ans) (n y a : State → Out) → ((s : State) → Q s (n s)) → ((s : State) → Q s (y s)) → ((s : State) → Q s (a s)) → (s : State) → Q s (choose x n y a s)
+  pub choose_all : (x : Ans) (n y a : State → Out) → ((s : State) → Q s (n s)) → ((s : State) → Q s (y s)) → ((s : State) → Q s (a s)) → (s : State) → Q s (choose x n y a s)
   unfolding choose
-  choose-all no n y a p q r s = p s
-  choose-all yes n y a p q r s = q s
-  choose-all also n y a p q r s = r s
-  choose-all again n y a p q r s = q s
+  choose_all no n y a p q r s = p s
+  choose_all yes n y a p q r s = q s
+  choose_all also n y a p q r s = r s
+  choose_all again n y a p q r s = q s
 
   -- every loop
-  pub iter-all : (n : ℕ) (f : State → Out) → ((s : State) → Q s (f s)) → (s : State) → Q s (iter n f s)
+  pub iter_all : (n : ℕ) (f : State → Out) → ((s : State) → Q s (f s)) → (s : State) → Q s (iter n f s)
   unfolding iter replies
-  iter-all zero f h s = S.idle again s
-  iter-all (suc n) f h s =
+  iter_all zero f h s = S.idle again s
+  iter_all (suc n) f h s =
       let turn : Q s (makes (f s).ans (f s).made (f s).state) = S.turn s (f s) (h s) in
-      cond-all (Q s) (goes_on s (f s)) (S.add s _ _ (unfold makes in turn) (iter-all n f h (f s).state)) turn
+      cond-all (Q s) (goes_on s (f s)) (S.add s _ _ (unfold makes in turn) (iter_all n f h (f s).state)) turn
 
-  by-shape-all : (s : State) (k : ℕ) (x y : Out) → Q s x → ((j : ℕ) → k ≡ suc j → Q s y) → Q s (by_shape k x y)
+  by_shape_all : (s : State) (k : ℕ) (x y : Out) → Q s x → ((j : ℕ) → k ≡ suc j → Q s y) → Q s (by_shape k x y)
   unfolding by_shape
-  by-shape-all s zero x y p q = p
-  by-shape-all s (suc k) x y p q = q k refl
+  by_shape_all s zero x y p q = p
+  by_shape_all s (suc k) x y p q = q k refl
 
   -- every chain, from a marker on
-  pub links-all : (n : ℕ) (f : State → Out) → ((s : State) → Q s (f s)) → (s u : State) (m : ℕ) (a i : Skeleton) → C s m a i u → Q s (links n f m a i u)
+  pub links_all : (n : ℕ) (f : State → Out) → ((s : State) → Q s (f s)) → (s u : State) (m : ℕ) (a i : Skeleton) → C s m a i u → Q s (links n f m a i u)
   unfolding links closed
-  links-all zero f h s u m a i c = S.last s u m a i again c
-  links-all (suc n) f h s u m a i c =
+  links_all zero f h s u m a i c = S.last s u m a i again c
+  links_all (suc n) f h s u m a i c =
       let o : Out = f u in
       let d : C s m a (i ⧺ o.made) o.state = S.more s u m a i o c (h u) in
-      by-shape-all s o.shape _ _ (S.last s o.state m a (i ⧺ o.made) o.ans d)
+      by_shape_all s o.shape _ _ (S.last s o.state m a (i ⧺ o.made) o.ans d)
       (λ j e.
       let l : C s (mark_of o.state) (closed o.shape m (mark_of o.state) a (i ⧺ o.made)) done o.state =
       subst (λ (k : ℕ). C s (mark_of o.state) (closed k m (mark_of o.state) a (i ⧺ o.made)) done o.state) (sym e) (S.link s u m j a i o c (h u) e d) in
-      cond-all (Q s) (goes_on u o) (links-all n f h s o.state (mark_of o.state) _ done l) (S.last s o.state (mark_of o.state) _ done o.ans l))
+      cond-all (Q s) (goes_on u o) (links_all n f h s o.state (mark_of o.state) _ done l) (S.last s o.state (mark_of o.state) _ done o.ans l))
 
   -- every chain
-  pub chained-all : (f : State → Out) → ((s : State) → Q s (f s)) → (s : State) (o : Out) → Q s o → Q s (chained f s o)
+  pub chained_all : (f : State → Out) → ((s : State) → Q s (f s)) → (s : State) (o : Out) → Q s o → Q s (chained f s o)
   unfolding chained
-  chained-all f h s o q =
+  chained_all f h s o q =
       let c : C s (mark_of s) done o.made o.state = S.first s o q in
       cond-all (Q s) (is_again o.ans)
-      (links-all (suc (length o.state.rest)) f h s o.state (mark_of s) done o.made c)
+      (links_all (suc (length o.state.rest)) f h s o.state (mark_of s) done o.made c)
       (S.last s o.state (mark_of s) done o.made o.ans c)
 
 -- every marker of the program is ignored or completed as a kind of which f holds, and g holds of every action
@@ -111,12 +111,12 @@ module _ (Q : State → Out → Type 0) (C : State → ℕ → Skeleton → Skel
       let e₁ = and_right (only f g c) _ e in
       let e₂ = and_right (only f g n) _ e₁ in
       S.add s _ _ (exec_only ask h b c s (and_left _ _ e))
-      (choose-all Q C S (exec ask b c s).ans (exec ask b n) (exec ask b y) (exec ask b a) (λ u. exec_only ask h b n u (and_left _ _ e₁))
+      (choose_all Q C S (exec ask b c s).ans (exec ask b n) (exec ask b y) (exec ask b a) (λ u. exec_only ask h b n u (and_left _ _ e₁))
       (λ u. exec_only ask h b y u (and_left _ _ e₂)) (λ u. exec_only ask h b a u (and_right (only f g y) _ e₂)) (exec ask b c s).state)
   exec_only ask h b (in_marker p) s e = S.mark s _ (exec_only ask h b p s e)
-  exec_only ask h b (loop p) s e = iter-all Q C S (suc (length s.rest)) (exec ask b p) (λ u. exec_only ask h b p u e) s
+  exec_only ask h b (loop p) s e = iter_all Q C S (suc (length s.rest)) (exec ask b p) (λ u. exec_only ask h b p u e) s
   exec_only ask h b (chain p q) s e =
-      chained-all Q C S (exec ask b q) (λ u. exec_only ask h b q u (and_right (only f g p) _ e)) s (exec ask b p s) (exec_only ask h b p s (and_left _ _ e))
+      chained_all Q C S (exec ask b q) (λ u. exec_only ask h b q u (and_right (only f g p) _ e)) s (exec ask b p s) (exec_only ask h b p s (and_left _ _ e))
   exec_only ask h b (brace p) s e = exec_only ask h (here s.rest) p s e
   exec_only ask h b (open_call r) s e = h r s
 
@@ -137,11 +137,11 @@ only_any (open_call r) = refl
 
 module _ (Q : State → Out → Type 0) (C : State → ℕ → Skeleton → Skeleton → State → Type 0) (S : Steady Q C) where
   -- every program, if it holds of what the calls do
-  pub exec-all : (ask : Rule → State → Out) → ((r : Rule) (s : State) → Q s (ask r s)) → (b : Label) (p : Prog) (s : State) → Q s (exec ask b p s)
-  exec-all ask h b p s = exec_only Q C S.composes any_kind any_act (λ k a u e. S.ret k a u) (λ c a e u. S.act c a u) ask h b p s (only_any p)
+  pub exec_all : (ask : Rule → State → Out) → ((r : Rule) (s : State) → Q s (ask r s)) → (b : Label) (p : Prog) (s : State) → Q s (exec ask b p s)
+  exec_all ask h b p s = exec_only Q C S.composes any_kind any_act (λ k a u e. S.ret k a u) (λ c a e u. S.act c a u) ask h b p s (only_any p)
 
   -- every call, with any number of open calls allowed
-  pub run-all : (n : ℕ) (r : Rule) (s : State) → Q s (run n r s)
+  pub run_all : (n : ℕ) (r : Rule) (s : State) → Q s (run n r s)
   unfolding run
-  run-all zero r s = S.deep s
-  run-all (suc n) r s = exec-all (run n) (run-all n) no_label (grammar r) s
+  run_all zero r s = S.deep s
+  run_all (suc n) r s = exec_all (run n) (run_all n) no_label (grammar r) s

@@ -13,7 +13,7 @@ use Rattle.definitions.specs.Skeleton.{Label}
 use Rattle.definitions.specs.Run.{State, mark_of, peeked, truth, replies, makes, taken, do_bump, stretch_of, do_name, do_emit, do_expected, perform}
 use Rattle.basics.proofs.Tests.{and_left, and_right}
 use Rattle.laws.proofs.Trivia.{drop_twice, drop_trivia_length}
-use Rattle.laws.proofs.Kept.{Stands, stands_taken, stands_peeked, run_of_split, act-ran}
+use Rattle.laws.proofs.Kept.{Stands, stands_taken, stands_peeked, run_of_split, act_ran}
 use Rattle.laws.proofs.Onward.{Onward, onward_kept}
 use Rattle.laws.proofs.Clear.{BelowLimits, within_pieces}
 use Rattle.laws.proofs.Analysis.{get}
@@ -208,7 +208,7 @@ act_holds b (add_expected k) d s₀ s h = held d s₀ s (perform b (add_expected
 act_holds b bump d s₀ s h = bump_holds d s₀ s (drop_trivia s.rest) refl h
 act_holds b (bump_name ks) d s₀ s h = name_holds d ks s₀ s (drop_trivia s.rest) refl h
 act_holds b bump_argument d s₀ s h =
-    let g : Stands (perform b bump_argument s).state × Onward s (perform b bump_argument s).made (perform b bump_argument s).state = act-ran Onward onward_kept b bump_argument s h.stands in
+    let g : Stands (perform b bump_argument s).state × Onward s (perform b bump_argument s).made (perform b bump_argument s).state = act_ran Onward onward_kept b bump_argument s h.stands in
     in_same taking_tokens taking_means true anything (perform b bump_argument s).ans s₀ (perform b bump_argument s).state (in_anything s₀ (perform b bump_argument s).state g.0 (le_trans g.1.rest h.below))
 act_holds b (emit m k) d s₀ s h = peek_holds d s₀ s h
 act_holds b emit_unclosed d s₀ s h = peek_holds d s₀ s h

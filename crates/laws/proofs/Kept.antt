@@ -17,7 +17,7 @@ use Rattle.definitions.specs.Run.{State, Out, mark_of, peeked, replies, makes, t
 use Rattle.definitions.specs.Call.{run_entry}
 use Rattle.basics.proofs.Tests.{cond-all, cond-with}
 use Rattle.laws.proofs.Trivia.{Solid, dropped_solid, Passes, passes_none, passes_one, passes_then, passes_all}
-use Rattle.laws.proofs.Engine.{Composes, Steady, exec-all, run-all}
+use Rattle.laws.proofs.Engine.{Composes, Steady, exec_all, run_all}
 
 -- ---------------------------------------------------------------- where a run stands
 
@@ -90,78 +90,78 @@ module _ (R : State → Skeleton → State → Type 0) (kept : Kept R) where
   abbrev pub Ran : State → Out → Type 0
   Ran s o = Stands s → Stands o.state × R s o.made o.state
 
-  ran-add : (s : State) (o o' : Out) → Ran s o → Ran o.state o' → Ran s (add o o')
+  ran_add : (s : State) (o o' : Out) → Ran s o → Ran o.state o' → Ran s (add o o')
   unfolding add
-  ran-add s o o' p q h =
+  ran_add s o o' p q h =
       let a : Stands o.state × R s o.made o.state = p h in
       let b : Stands o'.state × R o.state o'.made o'.state = q a.0 in
       (b.0, kept.join s o.state o'.state o.made o'.made a.1 b.1)
 
-  ran-answer : (a : Ans) (s : State) (ts : List Token) → Passes s.rest ts → Ran s (replies a (moved s ts))
+  ran_answer : (a : Ans) (s : State) (ts : List Token) → Passes s.rest ts → Ran s (replies a (moved s ts))
   unfolding replies
-  ran-answer a s ts p h = (stands_moved s ts h p, kept.pass s ts h p)
+  ran_answer a s ts p h = (stands_moved s ts h p, kept.pass s ts h p)
 
   -- after a peek that came to ts
-  bump-ran : (s : State) (ts : List Token) → Passes s.rest ts → Solid ts → Ran s (do_bump (moved s ts) ts)
+  bump_ran : (s : State) (ts : List Token) → Passes s.rest ts → Solid ts → Ran s (do_bump (moved s ts) ts)
   unfolding do_bump replies makes ◌⧺◌
-  bump-ran s [] p d h = ran-answer yes s [] p h
-  bump-ran s (t ∷ ts) p d h =
+  bump_ran s [] p d h = ran_answer yes s [] p h
+  bump_ran s (t ∷ ts) p d h =
       (stands_taken ts, kept.join s (moved s (t ∷ ts)) (taken ts) done (token t (length ts) done) (kept.pass s (t ∷ ts) h p) (kept.token (moved s (t ∷ ts)) t ts (stands_moved s (t ∷ ts) h p) refl d))
 
-  name-ran : (ks : List ℕ) (s : State) (ts : List Token) → Passes s.rest ts → Solid ts → Ran s (do_name ks (moved s ts) ts)
+  name_ran : (ks : List ℕ) (s : State) (ts : List Token) → Passes s.rest ts → Solid ts → Ran s (do_name ks (moved s ts) ts)
   unfolding do_name replies makes ◌⧺◌
-  name-ran ks s [] p d h = ran-answer yes s [] p h
-  name-ran ks s (t ∷ ts) p d h =
+  name_ran ks s [] p d h = ran_answer yes s [] p h
+  name_ran ks s (t ∷ ts) p d h =
       let r : Stretch = stretch_of ks ts in (
         stands_taken r.after,
         kept.join s (moved s (t ∷ ts)) (taken r.after) done (name (t ∷ r.raw) (length r.after) done) (kept.pass s (t ∷ ts) h p)
             (kept.name (moved s (t ∷ ts)) ks t r.raw r.after (stands_moved s (t ∷ ts) h p) (ap (t ∷◌) (run_of_split ks ts)) d (run_of_in ks ts)),
       )
 
-  depth-ran : (s : State) (n : ℕ) (o : Out) (f : ℕ → Out) → Ran s o → ((m : ℕ) → Ran s (f m)) → Ran s (at_depth n o f)
+  depth_ran : (s : State) (n : ℕ) (o : Out) (f : ℕ → Out) → Ran s o → ((m : ℕ) → Ran s (f m)) → Ran s (at_depth n o f)
   unfolding at_depth
-  depth-ran s zero o f p q = p
-  depth-ran s (suc n) o f p q = q n
+  depth_ran s zero o f p q = p
+  depth_ran s (suc n) o f p q = q n
 
-  argument-ran : (n : ℕ) (s : State) (ts : List Token) → Passes s.rest ts → Ran s (do_argument n s ts)
+  argument_ran : (n : ℕ) (s : State) (ts : List Token) → Passes s.rest ts → Ran s (do_argument n s ts)
   unfolding do_argument
-  argument-ran n s [] p = ran-answer no s [] p
-  argument-ran n s (t ∷ ts) p =
+  argument_ran n s [] p = ran_answer no s [] p
+  argument_ran n s (t ∷ ts) p =
       cond-with (Ran s) (trivia t)
-      (λ e. argument-ran n s ts (passes_then s.rest (t ∷ ts) ts p (passes_one t ts e)))
+      (λ e. argument_ran n s ts (passes_then s.rest (t ∷ ts) ts p (passes_one t ts e)))
       (λ e.
       let go : (m : ℕ) → Ran s (add (makes yes (token t (length ts) done) (taken ts)) (do_argument m (taken ts) ts)) =
-      λ m. ran-add s (makes yes (token t (length ts) done) (taken ts)) (do_argument m (taken ts) ts) (unfold do_bump makes in bump-ran s (t ∷ ts) p e) (unfold makes in argument-ran m (taken ts) ts (passes_none ts)) in
-      let stay : (a : Ans) → Ran s (replies a (moved s (t ∷ ts))) = λ a. ran-answer a s (t ∷ ts) p in
+      λ m. ran_add s (makes yes (token t (length ts) done) (taken ts)) (do_argument m (taken ts) ts) (unfold do_bump makes in bump_ran s (t ∷ ts) p e) (unfold makes in argument_ran m (taken ts) ts (passes_none ts)) in
+      let stay : (a : Ans) → Ran s (replies a (moved s (t ∷ ts))) = λ a. ran_answer a s (t ∷ ts) p in
       cond-all (Ran s) (eqb t.kind K.LParen) (go (suc n))
-      (cond-all (Ran s) (eqb t.kind K.RParen) (depth-ran s n _ _ (stay no) go)
-      (cond-all (Ran s) (eqb t.kind K.Comma) (depth-ran s n _ _ (stay yes) (λ m. go (suc m))) (go n))))
+      (cond-all (Ran s) (eqb t.kind K.RParen) (depth_ran s n _ _ (stay no) go)
+      (cond-all (Ran s) (eqb t.kind K.Comma) (depth_ran s n _ _ (stay yes) (λ m. go (suc m))) (go n))))
 
-  peek-ran : (a : Ans) (s : State) → Ran s (replies a (peeked s))
+  peek_ran : (a : Ans) (s : State) → Ran s (replies a (peeked s))
   unfolding peeked
-  peek-ran a s = ran-answer a s (drop_trivia s.rest) (passes_all s.rest)
+  peek_ran a s = ran_answer a s (drop_trivia s.rest) (passes_all s.rest)
 
-  emit-ran : (m k : ℕ) (l : Label) (s : State) → Ran s (do_emit m k l (peeked s))
+  emit_ran : (m k : ℕ) (l : Label) (s : State) → Ran s (do_emit m k l (peeked s))
   unfolding do_emit makes peeked ◌⧺◌
-  emit-ran m k l s h =
+  emit_ran m k l s h =
       let p : Passes s.rest (drop_trivia s.rest) = passes_all s.rest in
       let g : Stands (peeked s) = stands_peeked s h in
       (g, kept.join s (peeked s) (peeked s) done _ (kept.pass s (drop_trivia s.rest) h p) (kept.report (peeked s) m k l g (dropped_solid s.rest)))
 
   -- (the answer is not used here)
-  pub act-ran : (b : Label) (a : Act) (s : State) → Ran s (perform b a s)
+  pub act_ran : (b : Label) (a : Act) (s : State) → Ran s (perform b a s)
   unfolding perform peeked replies do_expected makes
-  act-ran b (silent_at ks) s = peek-ran yes s
-  act-ran b at_end s = peek-ran yes s
-  act-ran b (immediate k) s = ran-answer yes s s.rest (passes_none s.rest)
-  act-ran b (immediate_next k) s = ran-answer yes s s.rest (passes_none s.rest)
-  act-ran b (add_expected k) s = λ h. (record { passed = h.passed }, kept.expect s k h)
-  act-ran b bump s = bump-ran s (drop_trivia s.rest) (passes_all s.rest) (dropped_solid s.rest)
-  act-ran b (bump_name ks) s = name-ran ks s (drop_trivia s.rest) (passes_all s.rest) (dropped_solid s.rest)
-  act-ran b bump_argument s = argument-ran 0 s s.rest (passes_none s.rest)
-  act-ran b (emit m h) s = emit-ran m h no_label s
-  act-ran b emit_unclosed s = emit-ran E.unclosed_node E.no_hint b s
-  act-ran b (less m n) s = ran-answer yes s s.rest (passes_none s.rest)
+  act_ran b (silent_at ks) s = peek_ran yes s
+  act_ran b at_end s = peek_ran yes s
+  act_ran b (immediate k) s = ran_answer yes s s.rest (passes_none s.rest)
+  act_ran b (immediate_next k) s = ran_answer yes s s.rest (passes_none s.rest)
+  act_ran b (add_expected k) s = λ h. (record { passed = h.passed }, kept.expect s k h)
+  act_ran b bump s = bump_ran s (drop_trivia s.rest) (passes_all s.rest) (dropped_solid s.rest)
+  act_ran b (bump_name ks) s = name_ran ks s (drop_trivia s.rest) (passes_all s.rest) (dropped_solid s.rest)
+  act_ran b bump_argument s = argument_ran 0 s s.rest (passes_none s.rest)
+  act_ran b (emit m h) s = emit_ran m h no_label s
+  act_ran b emit_unclosed s = emit_ran E.unclosed_node E.no_hint b s
+  act_ran b (less m n) s = ran_answer yes s s.rest (passes_none s.rest)
 
   -- ---------------------------------------------------------------- chains and programs
 
@@ -181,7 +181,7 @@ module _ (R : State → Skeleton → State → Type 0) (kept : Kept R) where
   composed =
       record {
         idle = λ a s h. (h, idle s h);
-        add = ran-add;
+        add = ran_add;
         mark = λ s o p h. ((p h).0, kept.close s s o.state o.shape done o.made (idle s h) (p h).1);
         turn = λ s o p h. p h;
         first = λ s o p h. record { at = s; pushed = refl; stands = (p h).0; before = idle s h; since = (p h).1 };
@@ -210,19 +210,19 @@ module _ (R : State → Skeleton → State → Type 0) (kept : Kept R) where
       record {
         composes = composed;
         ret = λ k a s h. (h, idle s h);
-        act = act-ran;
+        act = act_ran;
         deep = λ s h. (h, kept.over s h);
       }
 
   -- every call, with any number of open calls allowed
-  pub run-kept : (n : ℕ) (r : Rule) (s : State) → Ran s (run n r s)
-  run-kept n r s = run-all Ran _ steady n r s
+  pub run_kept : (n : ℕ) (r : Rule) (s : State) → Ran s (run n r s)
+  run_kept n r s = run_all Ran _ steady n r s
 
   -- every program, if it holds of what the calls do
   pub exec_kept : (ask : Rule → State → Out) → ((r : Rule) (s : State) → Ran s (ask r s)) → (b : Label) (p : Prog) (s : State) → Ran s (exec ask b p s)
-  exec_kept ask h b p s = exec-all Ran _ steady ask h b p s
+  exec_kept ask h b p s = exec_all Ran _ steady ask h b p s
 
   -- every program of the grammar, from the tokens of a file on
-  pub whole-kept : (e : Entry) (ts : List Token) → R (taken ts) (run_entry e ts) (exec (run MOST_OPEN_CALLS) no_label (whole e) (taken ts)).state
+  pub whole_kept : (e : Entry) (ts : List Token) → R (taken ts) (run_entry e ts) (exec (run MOST_OPEN_CALLS) no_label (whole e) (taken ts)).state
   unfolding run_entry
-  whole-kept e ts = (exec_kept (run MOST_OPEN_CALLS) (run-kept MOST_OPEN_CALLS) no_label (whole e) (taken ts) (stands_taken ts)).1
+  whole_kept e ts = (exec_kept (run MOST_OPEN_CALLS) (run_kept MOST_OPEN_CALLS) no_label (whole e) (taken ts) (stands_taken ts)).1

@@ -15,7 +15,7 @@ use Rattle.definitions.specs.Call.{Buffers, run_entry}
 use Rattle.laws.specs.Pushes.{NoneExceeded}
 use Rattle.laws.specs.Limits.{Moment, moment, deeper, iter_moments, links_moments, moments, run_moments, entry_moments, Limited, Limits}
 use Rattle.laws.proofs.Fuel.{turn_of}
-use Rattle.laws.proofs.Pieces.{linked, closed-pieces, links-pieces}
+use Rattle.laws.proofs.Pieces.{linked, closed_pieces, links_pieces}
 use Rattle.laws.proofs.Clear.{BelowLimits, join_within, closed_within, within_pieces}
 use Rattle.laws.proofs.Scan.{fits_clear}
 use Rattle.laws.proofs.Accepted.{Accepted, accepted_call}
@@ -55,11 +55,11 @@ link_keeps : (n k m : ℕ) (b : Bool) (a i : Skeleton) (o x : Out) (l q : List M
     → BelowLimits (by_shape k (unlinked m a (i ⧺ o.made) o.ans o.state) (cond b x (unlinked (mark_of o.state) (linked m a i o) done o.ans o.state))).made
     → Limited n (l ++ by_shape k [] (cond b q []))
 unfolding by_shape unlinked makes
-link_keeps n zero m b a i o x l q t f g w = limited_append n l [] (f (closed-pieces BelowLimits within_pieces 0 m (mark_of o.state) a i o.made w).2) tt
-link_keeps n (suc k) m true a i o x l q t f g w = limited_append n l q (f (closed-pieces BelowLimits within_pieces o.shape m (mark_of o.state) a i o.made (t w)).2) (g w)
+link_keeps n zero m b a i o x l q t f g w = limited_append n l [] (f (closed_pieces BelowLimits within_pieces 0 m (mark_of o.state) a i o.made w).2) tt
+link_keeps n (suc k) m true a i o x l q t f g w = limited_append n l q (f (closed_pieces BelowLimits within_pieces o.shape m (mark_of o.state) a i o.made (t w)).2) (g w)
 link_keeps n (suc k) m false a i o x l q t f g w =
     limited_append n l []
-    (f (closed-pieces BelowLimits within_pieces o.shape m (mark_of o.state) a i o.made (closed_within 0 (mark_of o.state) (mark_of o.state) (linked m a i o) done w).0).2) tt
+    (f (closed_pieces BelowLimits within_pieces o.shape m (mark_of o.state) a i o.made (closed_within 0 (mark_of o.state) (mark_of o.state) (linked m a i o) done w).0).2) tt
 
 links_keeps : (n k : ℕ) (f : State → Out) (g : State → List Moment) → Keeps n f g → (m : ℕ) (a i : Skeleton) → Keeps n (links k f m a i) (links_moments k f g)
 unfolding links links_moments unlinked makes
@@ -67,7 +67,7 @@ links_keeps n zero f g K m a i s w = tt
 links_keeps n (suc k) f g K m a i s w =
     let o : Out = f s in
     link_keeps n o.shape m (goes_on s o) a i o (links k f (mark_of o.state) (linked m a i o) done o.state) (g s) (links_moments k f g o.state)
-    (λ v. (links-pieces BelowLimits within_pieces k f (mark_of o.state) (linked m a i o) done o.state v).0) (K s) (links_keeps n k f g K (mark_of o.state) (linked m a i o) done o.state) w
+    (λ v. (links_pieces BelowLimits within_pieces k f (mark_of o.state) (linked m a i o) done o.state v).0) (K s) (links_keeps n k f g K (mark_of o.state) (linked m a i o) done o.state) w
 
 chained_keeps : (n : ℕ) (f : State → Out) (g : State → List Moment) → Keeps n f g → (s : State) (o : Out) (l : List Moment) → (BelowLimits o.made → Limited n l)
     → BelowLimits (chained f s o).made → Limited n (l ++ cond (is_again o.ans) (links_moments (suc (length o.state.rest)) f g o.state) [])
@@ -78,7 +78,7 @@ chained_keeps n f g K s o l p = go (is_again o.ans)
         → Limited n (l ++ cond b (links_moments (suc (length o.state.rest)) f g o.state) [])
     go true w =
         limited_append n l (links_moments (suc (length o.state.rest)) f g o.state)
-        (p (links-pieces BelowLimits within_pieces (suc (length o.state.rest)) f (mark_of s) done o.made o.state w).1)
+        (p (links_pieces BelowLimits within_pieces (suc (length o.state.rest)) f (mark_of s) done o.made o.state w).1)
         (links_keeps n (suc (length o.state.rest)) f g K (mark_of s) done o.made o.state w)
     go false w = limited_append n l [] (p (closed_within 0 (mark_of s) (mark_of o.state) done o.made w).1) tt
 

@@ -120,11 +120,11 @@ other_code k e = record { from = leb-true FIRST_OTHER k (and_left _ _ e); to = l
 
 -- a kind is not another expectation
 apart : (j k : ℕ) → is_kind j ≡ true → is_other k ≡ true → eqb k j ≡ false
-apart j k e f = by-test (eqb k j) refl
+apart j k e f = by_test (eqb k j) refl
   where
-    by-test : (b : Bool) → eqb k j ≡ b → eqb k j ≡ false
-    by-test true g = absurd (let h : k ≡ j = eqb-true k j g in omega (arith, kind_below j e, (other_code k f).from, h))
-    by-test false g = g
+    by_test : (b : Bool) → eqb k j ≡ b → eqb k j ≡ false
+    by_test true g = absurd (let h : k ≡ j = eqb-true k j g in omega (arith, kind_below j e, (other_code k f).from, h))
+    by_test false g = g
 
 pub words_none : Words [] 0 0
 unfolding one_of ones
@@ -141,19 +141,19 @@ words_none =
 
 -- what is in a word once n is put in
 in_word_put : (m n x : ℕ) → m < WORD_BITS → n < WORD_BITS → in_word m (put_in_word n x) ≡ in_word m x || eqb m n
-in_word_put m n x h k = by-test (eqb m n) refl
+in_word_put m n x h k = by_test (eqb m n) refl
   where
-    or-true : (c : Bool) → c || true ≡ true
-    or-true true = refl
-    or-true false = refl
+    or_true : (c : Bool) → c || true ≡ true
+    or_true true = refl
+    or_true false = refl
 
-    or-false : (c : Bool) → c || false ≡ c
-    or-false true = refl
-    or-false false = refl
+    or_false : (c : Bool) → c || false ≡ c
+    or_false true = refl
+    or_false false = refl
 
-    by-test : (b : Bool) → eqb m n ≡ b → in_word m (put_in_word n x) ≡ in_word m x || b
-    by-test true e = ap (λ (i : ℕ). in_word i (put_in_word n x)) (eqb-true m n e) ∙ in_put n x k ∙ sym (or-true (in_word m x))
-    by-test false e = in_put_other m n x h k e ∙ sym (or-false (in_word m x))
+    by_test : (b : Bool) → eqb m n ≡ b → in_word m (put_in_word n x) ≡ in_word m x || b
+    by_test true e = ap (λ (i : ℕ). in_word i (put_in_word n x)) (eqb-true m n e) ∙ in_put n x k ∙ sym (or_true (in_word m x))
+    by_test false e = in_put_other m n x h k e ∙ sym (or_false (in_word m x))
 
 -- a code that is put in is in the list, and so is no other
 in_list : (l : List ℕ) (k j : ℕ) (b : Bool) → b ≡ one_of l j → b || eqb j k ≡ one_of (l ++ (k ∷ [])) j
@@ -161,21 +161,21 @@ in_list l k j b e = ap (λ (c : Bool). c || eqb j k) e ∙ ap (λ (c : Bool). on
 
 -- a code of the other word leaves this one alone
 not_in_list : (l : List ℕ) (k j : ℕ) (b : Bool) → eqb k j ≡ false → b ≡ one_of l j → b ≡ one_of (l ++ (k ∷ [])) j
-not_in_list l k j b f e = e ∙ sym (or-false (one_of l j)) ∙ ap (λ (c : Bool). one_of l j || c) (sym f) ∙ sym (one_of_append l k j)
+not_in_list l k j b f e = e ∙ sym (or_false (one_of l j)) ∙ ap (λ (c : Bool). one_of l j || c) (sym f) ∙ sym (one_of_append l k j)
   where
-    or-false : (c : Bool) → c || false ≡ c
-    or-false true = refl
-    or-false false = refl
+    or_false : (c : Bool) → c || false ≡ c
+    or_false true = refl
+    or_false false = refl
 
 -- the digits of two others are the same exactly if they are
 same_digit : (j k : ℕ) → OtherCode j → OtherCode k → eqb (other_digit j) (other_digit k) ≡ eqb j k
-same_digit j k p q = by-test (eqb j k) (eqb (other_digit j) (other_digit k)) refl refl
+same_digit j k p q = by_test (eqb j k) (eqb (other_digit j) (other_digit k)) refl refl
   where
-    by-test : (b c : Bool) → eqb j k ≡ b → eqb (other_digit j) (other_digit k) ≡ c → c ≡ b
-    by-test true true e f = refl
-    by-test true false e f = absurd (eqb-false (other_digit j) (other_digit k) f (ap other_digit (eqb-true j k e)))
-    by-test false true e f = absurd (let g : other_digit j ≡ other_digit k = eqb-true (other_digit j) (other_digit k) f in omega (arith, p.from, q.from, g, eqb-false j k e))
-    by-test false false e f = refl
+    by_test : (b c : Bool) → eqb j k ≡ b → eqb (other_digit j) (other_digit k) ≡ c → c ≡ b
+    by_test true true e f = refl
+    by_test true false e f = absurd (eqb-false (other_digit j) (other_digit k) f (ap other_digit (eqb-true j k e)))
+    by_test false true e f = absurd (let g : other_digit j ≡ other_digit k = eqb-true (other_digit j) (other_digit k) f in omega (arith, p.from, q.from, g, eqb-false j k e))
+    by_test false false e f = refl
 
 pub words_kind : (l : List ℕ) (x y k : ℕ) → Words l x y → is_kind k ≡ true → one_of l k ≡ false → Words (l ++ (k ∷ [])) (put_in_word k x) y
 unfolding is_expectation
@@ -238,11 +238,11 @@ held_none = record { words = words_none }
 -- an expectation is a kind, or it is not and is one of the others
 pub by_code : (P : Type 0) (k : ℕ) → is_expectation k ≡ true → (is_kind k ≡ true → P) → (is_kind k ≡ false → is_other k ≡ true → P) → P
 unfolding is_expectation
-by_code P k e p q = by-test (is_kind k) refl e
+by_code P k e p q = by_test (is_kind k) refl e
   where
-    by-test : (b : Bool) → is_kind k ≡ b → b || is_other k ≡ true → P
-    by-test true f h = p f
-    by-test false f h = q f h
+    by_test : (b : Bool) → is_kind k ≡ b → b || is_other k ≡ true → P
+    by_test true f h = p f
+    by_test false f h = q f h
 
 pub held_append : (l : List ℕ) (k : ℕ) → Held l → is_expectation k ≡ true → one_of l k ≡ false → Held (l ++ (k ∷ []))
 held_append l k h e f =

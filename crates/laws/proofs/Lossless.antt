@@ -60,14 +60,14 @@ module _ (e : Entry) (bytes : List ℕ) (ts : List Token) (b : Buffers) (full : 
   abbrev inside : Tree
   inside = place (run_entry e ts) ts ⊕ lead (after (run_entry e ts) ts)
 
-  root-shown : shown t ≡ node (root_kind e) (length bytes) (count inside) (shown inside) end
+  root_shown : shown t ≡ node (root_kind e) (length bytes) (count inside) (shown inside) end
   unfolding shown root width
-  root-shown = ap (λ (w : ℕ). node (root_kind e) w (count inside) (shown inside) end) (sym (add-zero (width inside)) ∙ root_width)
+  root_shown = ap (λ (w : ℕ). node (root_kind e) w (count inside) (shown inside) end) (sym (add-zero (width inside)) ∙ root_width)
 
   -- whatever Names are reported
-  pub writes-lossless : (l : List NameAt) → Lossless e bytes ts (kept (sheets e ts (run_entry e ts) l) b)
+  pub writes_lossless : (l : List NameAt) → Lossless e bytes ts (kept (sheets e ts (run_entry e ts) l) b)
   unfolding sheets
-  writes-lossless l =
+  writes_lossless l =
       record {
         tree = shown t;
         written = in_front;
@@ -75,7 +75,7 @@ module _ (e : Entry) (bytes : List ℕ) (ts : List Token) (b : Buffers) (full : 
         only_one = λ other h q. preorder_once other (shown t) h (shown_counts t) (q ∙ in_front);
         root_count = count inside;
         root_children = shown inside;
-        root = root-shown;
+        root = root_shown;
         widths = shown_widths t;
         counts = shown_counts t;
         covers = root_covers e ts;
@@ -88,4 +88,4 @@ pub nothing_lost : NothingLost
 nothing_lost n setting bytes tokens b h =
     let a : Accepted n setting bytes tokens b = accepted_call n setting bytes tokens b h in
     let c : Checked bytes tokens = checked_input bytes tokens a.input in
-    (a.entry, a.asked_for, subst (Lossless a.entry bytes (tokens_of tokens)) (sym a.returns) (writes-lossless a.entry bytes (tokens_of tokens) b c.covered (names_of setting a.entry bytes (tokens_of tokens))))
+    (a.entry, a.asked_for, subst (Lossless a.entry bytes (tokens_of tokens)) (sym a.returns) (writes_lossless a.entry bytes (tokens_of tokens) b c.covered (names_of setting a.entry bytes (tokens_of tokens))))

@@ -16,7 +16,7 @@ use Rattle.definitions.specs.Report.{Push, event, reported, exceeded, pushes}
 use Rattle.definitions.specs.Call.{run_entry}
 use Rattle.laws.proofs.Trivia.{passes_length}
 use Rattle.laws.proofs.Skeleton.{pushes_join, pushes_closed}
-use Rattle.laws.proofs.Kept.{Stands, Kept, run-kept, exec_kept, whole-kept}
+use Rattle.laws.proofs.Kept.{Stands, Kept, run_kept, exec_kept, whole_kept}
 
 -- a push's mark
 abbrev pub push_mark : Push → ℕ
@@ -89,12 +89,12 @@ marks_kept =
 
 -- MARKS NEVER FALL: of every call
 pub run_marks : (n : ℕ) (r : Rule) (s : State) → Stands s → Falls (mark_of s) (pushes (run n r s).made) (mark_of (run n r s).state)
-run_marks n r s h = (run-kept Down marks_kept n r s h).1.falls
+run_marks n r s h = (run_kept Down marks_kept n r s h).1.falls
 
 -- of every program over such calls
 pub exec_marks : (n : ℕ) (b : Label) (p : Prog) (s : State) → Stands s → Falls (mark_of s) (pushes (exec (run n) b p s).made) (mark_of (exec (run n) b p s).state)
-exec_marks n b p s h = (exec_kept Down marks_kept (run n) (run-kept Down marks_kept n) b p s h).1.falls
+exec_marks n b p s h = (exec_kept Down marks_kept (run n) (run_kept Down marks_kept n) b p s h).1.falls
 
 -- and of a whole file
 pub entry_marks : (e : Entry) (ts : List Token) → Falls (length ts) (pushes (run_entry e ts)) (mark_of (exec (run MOST_OPEN_CALLS) no_label (whole e) (taken ts)).state)
-entry_marks e ts = (whole-kept Down marks_kept e ts).falls
+entry_marks e ts = (whole_kept Down marks_kept e ts).falls

@@ -21,7 +21,7 @@ use Rattle.laws.proofs.Trivia.{drop_twice}
 use Rattle.laws.proofs.Kept.{AllIn, run_of_in}
 use Rattle.laws.proofs.Onward.{run_goes}
 use Rattle.laws.proofs.Analysis.{Look, get}
-use Rattle.laws.proofs.Sound.{Meaning, Sound, Acts, in_same, exec-gives}
+use Rattle.laws.proofs.Sound.{Meaning, Sound, Acts, in_same, exec_gives}
 use Rattle.laws.proofs.NameLook.{Known, never, nothing, among, ◌∪◌, says_less, inside, may_name, tested, done_so, look_act, look_from, names, calls, grammar_looks, whole_looks}
 
 -- ---------------------------------------------------------------- names in a skeleton
@@ -246,12 +246,12 @@ pub run_names : (n : ℕ) (r : Rule) (s : State) → Named (run n r s).made
 unfolding run makes Named
 run_names zero r s = tt
 run_names (suc n) r s =
-    (exec-gives names names_mean names_acts (run n) (run_goes n) calls (λ q d s₀ u m h w. (run_names n q u, in_same names names_mean true nothing (run n q u).ans s₀ (run n q u).state tt)) no_label
+    (exec_gives names names_mean names_acts (run n) (run_goes n) calls (λ q d s₀ u m h w. (run_names n q u, in_same names names_mean true nothing (run n q u).ans s₀ (run n q u).state tt)) no_label
     (grammar r) nothing s s (grammar_looks r) tt tt).0
 
 -- and in a whole file
 pub entry_names : (e : Entry) (ts : List Token) → Named (run_entry e ts)
 unfolding run_entry
 entry_names e ts =
-    (exec-gives names names_mean names_acts (run MOST_OPEN_CALLS) (run_goes MOST_OPEN_CALLS) calls (λ q d s₀ u m h w. (run_names MOST_OPEN_CALLS q u, in_same names names_mean true nothing (run MOST_OPEN_CALLS q u).ans s₀ (run MOST_OPEN_CALLS q u).state tt)) no_label
+    (exec_gives names names_mean names_acts (run MOST_OPEN_CALLS) (run_goes MOST_OPEN_CALLS) calls (λ q d s₀ u m h w. (run_names MOST_OPEN_CALLS q u, in_same names names_mean true nothing (run MOST_OPEN_CALLS q u).ans s₀ (run MOST_OPEN_CALLS q u).state tt)) no_label
     (whole e) nothing (taken ts) (taken ts) (whole_looks e) tt tt).0

@@ -175,18 +175,18 @@ module _ (n b : ℕ) where
     pub bytes : byte_count ts ≤ b
     pub unnamed : Unnamed ts
 
-  pub within-back : (l m ts : List Token) → l ++ m ≡ ts → Within ts → Within m
-  within-back l m ts e h =
+  pub within_back : (l m ts : List Token) → l ++ m ≡ ts → Within ts → Within m
+  within_back l m ts e h =
       let p : length ts ≡ length l + length m = ap length (sym e) ∙ length-append l m in
       let q : byte_count ts ≡ byte_count l + byte_count m = ap byte_count (sym e) ∙ bytes_append l m in
       record { tokens = omega (arith, h.tokens); bytes = omega (arith, h.bytes); unnamed = unnamed_back l m (subst Unnamed (sym e) h.unnamed) }
 
   -- the Names of trees that stand where these tokens start
-  abbrev pub judged-at : Bool → List Token → Tree → List NameAt
-  judged-at u ts f = judged u (n - length ts) (b - byte_count ts) f
+  abbrev pub judged_at : Bool → List Token → Tree → List NameAt
+  judged_at u ts f = judged u (n - length ts) (b - byte_count ts) f
 
-  judged-then : (u : Bool) (f g : Tree) (ts us : List Token) → Within ts → leaves f ++ us ≡ ts → judged-at u ts (f ⊕ g) ≡ judged-at u ts f ++ judged-at u us g
-  judged-then u f g ts us h e =
+  judged_then : (u : Bool) (f g : Tree) (ts us : List Token) → Within ts → leaves f ++ us ≡ ts → judged_at u ts (f ⊕ g) ≡ judged_at u ts f ++ judged_at u us g
+  judged_then u f g ts us h e =
       let p : length ts ≡ length (leaves f) + length us = ap length (sym e) ∙ length-append (leaves f) us in
       let q : byte_count ts ≡ byte_count (leaves f) + byte_count us = ap byte_count (sym e) ∙ bytes_append (leaves f) us in
       let x : n - length ts + token_count f ≡ n - length us = omega (arith, tokens_leaves f, h.tokens) in
@@ -194,14 +194,14 @@ module _ (n b : ℕ) where
       judged_beside u (n - length ts) (b - byte_count ts) f g ∙ rw (x, y) refl
 
   -- trivia first
-  judged-past : (u : Bool) (g : Tree) (ts : List Token) → Within ts → judged-at u ts (lead ts ⊕ g) ≡ judged-at u (drop_trivia ts) g
-  judged-past u g ts h = judged-then u (lead ts) g ts (drop_trivia ts) h (lead_whole ts) ∙ ap (◌++ judged-at u (drop_trivia ts) g) (lead_judged u _ _ ts)
+  judged_past : (u : Bool) (g : Tree) (ts : List Token) → Within ts → judged_at u ts (lead ts ⊕ g) ≡ judged_at u (drop_trivia ts) g
+  judged_past u g ts h = judged_then u (lead ts) g ts (drop_trivia ts) h (lead_whole ts) ∙ ap (◌++ judged_at u (drop_trivia ts) g) (lead_judged u _ _ ts)
 
   -- a Name leaf
-  judged-name : (u : Bool) (r : ℕ) (g : Tree) (ts : List Token) → Within ts
-      → judged-at u ts (leaf K.Name (take r ts) g) ≡ cond u (forward n b (back ts (drop r ts)) ∷ judged-at u (drop r ts) g) (judged-at u (drop r ts) g)
+  judged_name : (u : Bool) (r : ℕ) (g : Tree) (ts : List Token) → Within ts
+      → judged_at u ts (leaf K.Name (take r ts) g) ≡ cond u (forward n b (back ts (drop r ts)) ∷ judged_at u (drop r ts) g) (judged_at u (drop r ts) g)
   unfolding judged
-  judged-name u r g ts h =
+  judged_name u r g ts h =
       let e : take r ts ++ drop r ts ≡ ts = take-append-drop r ts in
       let p : length ts ≡ length (take r ts) + length (drop r ts) = ap length (sym e) ∙ length-append (take r ts) (drop r ts) in
       let q : byte_count ts ≡ byte_count (take r ts) + byte_count (drop r ts) = ap byte_count (sym e) ∙ bytes_append (take r ts) (drop r ts) in
@@ -209,76 +209,76 @@ module _ (n b : ℕ) where
       let y : b - byte_count ts + byte_count (take r ts) ≡ b - byte_count (drop r ts) = omega (arith, h.bytes) in
       rw (x, y) (go u)
     where
-      go : (c : Bool) → cond (c && true) (forward n b (back ts (drop r ts)) ∷ judged-at u (drop r ts) g) (judged-at u (drop r ts) g)
-          ≡ cond c (forward n b (back ts (drop r ts)) ∷ judged-at u (drop r ts) g) (judged-at u (drop r ts) g)
+      go : (c : Bool) → cond (c && true) (forward n b (back ts (drop r ts)) ∷ judged_at u (drop r ts) g) (judged_at u (drop r ts) g)
+          ≡ cond c (forward n b (back ts (drop r ts)) ∷ judged_at u (drop r ts) g) (judged_at u (drop r ts) g)
       go true = refl
       go false = refl
 
   -- THE JUDGED NAMES of what is placed are those of the skeleton
-  pub judged-found : (u : Bool) (o : Skeleton) (ts : List Token) → Within ts → judged-at u ts (place o ts) ≡ forwards n b (found u o ts)
+  pub judged_found : (u : Bool) (o : Skeleton) (ts : List Token) → Within ts → judged_at u ts (place o ts) ≡ forwards n b (found u o ts)
   unfolding place found forwards judged after judges ◌⊕◌
-  judged-found u done ts h = refl
-  judged-found u (token t m o) ts h =
+  judged_found u done ts h = refl
+  judged_found u (token t m o) ts h =
       let v : List Token = drop_trivia ts in
-      let hv : Within v = within-back (leaves (lead ts)) v ts (lead_whole ts) h in
-      let hp : Within (past v) = within-back (leaves (front v)) (past v) v (front_whole v) hv in
-      judged-past u (front v ⊕ place o (past v)) ts h
-      ∙ judged-then u (front v) (place o (past v)) v (past v) hv (front_whole v)
-      ∙ ap (◌++ judged-at u (past v) (place o (past v))) (front_judged u _ _ v hv.unnamed)
-      ∙ judged-found u o (past v) hp
-  judged-found u (name raw m o) ts h =
+      let hv : Within v = within_back (leaves (lead ts)) v ts (lead_whole ts) h in
+      let hp : Within (past v) = within_back (leaves (front v)) (past v) v (front_whole v) hv in
+      judged_past u (front v ⊕ place o (past v)) ts h
+      ∙ judged_then u (front v) (place o (past v)) v (past v) hv (front_whole v)
+      ∙ ap (◌++ judged_at u (past v) (place o (past v))) (front_judged u _ _ v hv.unnamed)
+      ∙ judged_found u o (past v) hp
+  judged_found u (name raw m o) ts h =
       let v : List Token = drop_trivia ts in
-      let hv : Within v = within-back (leaves (lead ts)) v ts (lead_whole ts) h in
+      let hv : Within v = within_back (leaves (lead ts)) v ts (lead_whole ts) h in
       let w : List Token = drop (length raw) v in
-      let hw : Within w = within-back (take (length raw) v) w v (take-append-drop (length raw) v) hv in
-      judged-past u (leaf K.Name (take (length raw) v) (place o w)) ts h
-      ∙ judged-name u (length raw) (place o w) v hv
-      ∙ ap (λ (l : List NameAt). cond u (forward n b (back v w) ∷ l) l) (judged-found u o w hw)
+      let hw : Within w = within_back (take (length raw) v) w v (take-append-drop (length raw) v) hv in
+      judged_past u (leaf K.Name (take (length raw) v) (place o w)) ts h
+      ∙ judged_name u (length raw) (place o w) v hv
+      ∙ ap (λ (l : List NameAt). cond u (forward n b (back v w) ∷ l) l) (judged_found u o w hw)
       ∙ go u (found u o w) (back v w)
     where
       go : (c : Bool) (l : List Back) (x : Back) → cond c (forward n b x ∷ forwards n b l) (forwards n b l) ≡ forwards n b (cond c (x ∷ l) l)
       go true l x = refl
       go false l x = refl
-  judged-found u (node k m m' a i o) ts h =
+  judged_found u (node k m m' a i o) ts h =
       let w : List Token = drop_trivia ts in
-      let hw : Within w = within-back (leaves (lead ts)) w ts (lead_whole ts) h in
+      let hw : Within w = within_back (leaves (lead ts)) w ts (lead_whole ts) h in
       let v : List Token = after a w in
-      let hv : Within v = within-back (leaves (place a w)) v w (place_whole a w) hw in
+      let hv : Within v = within_back (leaves (place a w)) v w (place_whole a w) hw in
       let x : List Token = after i v in
-      let hx : Within x = within-back (leaves (place i v)) x v (place_whole i v) hv in
+      let hx : Within x = within_back (leaves (place i v)) x v (place_whole i v) hv in
       let below : Bool = under k (curly a w || curly i v) in
       let c : Tree = place a w ⊕ place i v in
       let same : judges k c ≡ below = ap (under k) (children_curly a i w) in
       let whole : leaves c ++ x ≡ w = ap (◌++ x) (leaves_beside (place a w) (place i v)) ∙ append_assoc (leaves (place a w)) (leaves (place i v)) x
       ∙ ap (leaves (place a w) ++◌) (place_whole i v) ∙ place_whole a w in
-      let inside : judged-at (judges k c) w c ≡ forwards n b (found below a w ++ found below i v) =
-      ap (λ (q : Bool). judged-at q w c) same
-      ∙ judged-then below (place a w) (place i v) w v hw (place_whole a w)
-      ∙ rw (judged-found below a w hw, judged-found below i v hv) (sym (forwards_append n b (found below a w) (found below i v))) in
-      judged-past u (subtree k c (place o x)) ts h
-      ∙ judged-node u k c (place o x) w x hw whole
-      ∙ rw (inside, judged-found u o x hx)
+      let inside : judged_at (judges k c) w c ≡ forwards n b (found below a w ++ found below i v) =
+      ap (λ (q : Bool). judged_at q w c) same
+      ∙ judged_then below (place a w) (place i v) w v hw (place_whole a w)
+      ∙ rw (judged_found below a w hw, judged_found below i v hv) (sym (forwards_append n b (found below a w) (found below i v))) in
+      judged_past u (subtree k c (place o x)) ts h
+      ∙ judged_node u k c (place o x) w x hw whole
+      ∙ rw (inside, judged_found u o x hx)
       (sym (forwards_append n b (found below a w ++ found below i v) (found u o x)) ∙ ap (forwards n b) (append_assoc (found below a w) (found below i v) (found u o x)))
     where
-      judged-node : (q : Bool) (j : ℕ) (c g : Tree) (vs us : List Token) → Within vs → leaves c ++ us ≡ vs
-          → judged-at q vs (subtree j c g) ≡ judged-at (judges j c) vs c ++ judged-at q us g
-      judged-node q j c g vs us hv e =
+      judged_node : (q : Bool) (j : ℕ) (c g : Tree) (vs us : List Token) → Within vs → leaves c ++ us ≡ vs
+          → judged_at q vs (subtree j c g) ≡ judged_at (judges j c) vs c ++ judged_at q us g
+      judged_node q j c g vs us hv e =
           let p : length vs ≡ length (leaves c) + length us = ap length (sym e) ∙ length-append (leaves c) us in
           let r : byte_count vs ≡ byte_count (leaves c) + byte_count us = ap byte_count (sym e) ∙ bytes_append (leaves c) us in
           let x : n - length vs + token_count c ≡ n - length us = omega (arith, tokens_leaves c, hv.tokens) in
           let y : b - byte_count vs + width c ≡ b - byte_count us = omega (arith, width_leaves c, hv.bytes) in
           rw (x, y) refl
-  judged-found u (ignored m m' a i o) ts h =
+  judged_found u (ignored m m' a i o) ts h =
       let v : List Token = after a ts in
-      let hv : Within v = within-back (leaves (place a ts)) v ts (place_whole a ts) h in
+      let hv : Within v = within_back (leaves (place a ts)) v ts (place_whole a ts) h in
       let x : List Token = after i v in
-      let hx : Within x = within-back (leaves (place i v)) x v (place_whole i v) hv in
-      judged-then u (place a ts) (place i v ⊕ place o x) ts v h (place_whole a ts)
-      ∙ ap (judged-at u ts (place a ts) ++◌) (judged-then u (place i v) (place o x) v x hv (place_whole i v))
-      ∙ rw (judged-found u a ts h, judged-found u i v hv, judged-found u o x hx)
+      let hx : Within x = within_back (leaves (place i v)) x v (place_whole i v) hv in
+      judged_then u (place a ts) (place i v ⊕ place o x) ts v h (place_whole a ts)
+      ∙ ap (judged_at u ts (place a ts) ++◌) (judged_then u (place i v) (place o x) v x hv (place_whole i v))
+      ∙ rw (judged_found u a ts h, judged_found u i v hv, judged_found u o x hx)
       (ap (forwards n b (found u a ts) ++◌) (sym (forwards_append n b (found u i v) (found u o x))) ∙ sym (forwards_append n b (found u a ts) (found u i v ++ found u o x)))
-  judged-found u (report r o) ts h = judged-found u o ts h
-  judged-found u (over m o) ts h = judged-found u o ts h
+  judged_found u (report r o) ts h = judged_found u o ts h
+  judged_found u (over m o) ts h = judged_found u o ts h
 
 -- and of a whole tree: its root is one of the nodes
 pub root_found : (k : ℕ) (o : Skeleton) (ts : List Token) → Unnamed ts
@@ -290,21 +290,21 @@ root_found k o ts h =
     let w : Within (length ts) (byte_count ts) ts = record { tokens = omega arith; bytes = omega arith; unnamed = h } in
     let f : Tree = place o ts in
     let g : Tree = lead (after o ts) in
-    let c : has_lcurly (f ⊕ g) ≡ curly o ts = lcurly_beside f g ∙ rw (place_curly o ts, lead_curly (after o ts)) (or-false (curly o ts)) in
+    let c : has_lcurly (f ⊕ g) ≡ curly o ts = lcurly_beside f g ∙ rw (place_curly o ts, lead_curly (after o ts)) (or_false (curly o ts)) in
     let u : Bool = under k (curly o ts) in
-    append-none (judged (judges k (f ⊕ g)) 0 0 (f ⊕ g))
+    append_none (judged (judges k (f ⊕ g)) 0 0 (f ⊕ g))
     ∙ ap (λ (q : Bool). judged q 0 0 (f ⊕ g)) (ap (under k) c)
     ∙ judged_beside u 0 0 f g
     ∙ ap (judged u 0 0 f ++◌) (lead_judged u _ _ (after o ts))
-    ∙ append-none (judged u 0 0 f)
+    ∙ append_none (judged u 0 0 f)
     ∙ ap (λ (q : ℕ). judged u q 0 f) (sym z)
     ∙ ap (λ (q : ℕ). judged u (length ts - length ts) q f) (sym y)
-    ∙ judged-found (length ts) (byte_count ts) u o ts w
+    ∙ judged_found (length ts) (byte_count ts) u o ts w
   where
-    or-false : (a : Bool) → (a || false) ≡ a
-    or-false true = refl
-    or-false false = refl
+    or_false : (a : Bool) → (a || false) ≡ a
+    or_false true = refl
+    or_false false = refl
 
-    append-none : (l : List NameAt) → l ++ [] ≡ l
-    append-none [] = refl
-    append-none (x ∷ l) = ap (x ∷◌) (append-none l)
+    append_none : (l : List NameAt) → l ++ [] ≡ l
+    append_none [] = refl
+    append_none (x ∷ l) = ap (x ∷◌) (append_none l)

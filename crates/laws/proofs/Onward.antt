@@ -9,7 +9,7 @@ use Rattle.definitions.specs.Prog.{Rule, Prog}
 use Rattle.definitions.specs.Skeleton.{Label, Skeleton}
 use Rattle.definitions.specs.Run.{State, Out, mark_of, exec, run}
 use Rattle.laws.proofs.Trivia.{passes_length}
-use Rattle.laws.proofs.Kept.{Kept, Ran, run-kept, exec_kept}
+use Rattle.laws.proofs.Kept.{Kept, Ran, run_kept, exec_kept}
 use Rattle.laws.proofs.Marks.{stands_within}
 
 -- from s to u
@@ -39,7 +39,7 @@ Goes s o = Ran Onward onward_kept s o
 
 -- every call
 pub run_goes : (n : ℕ) (r : Rule) (s : State) → Goes s (run n r s)
-run_goes n r s = run-kept Onward onward_kept n r s
+run_goes n r s = run_kept Onward onward_kept n r s
 
 -- every program, if the calls do
 pub exec_goes : (ask : Rule → State → Out) → ((r : Rule) (s : State) → Goes s (ask r s)) → (b : Label) (p : Prog) (s : State) → Goes s (exec ask b p s)

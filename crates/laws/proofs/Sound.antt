@@ -11,7 +11,7 @@ use Rattle.definitions.specs.Run.{State, Out, mark_of, makes, add, perform, clos
 use Rattle.basics.proofs.Tests.{cond-with, and_left, and_right}
 use Rattle.laws.proofs.Onward.{Goes, exec_goes}
 use Rattle.laws.proofs.Fuel.{goes_on_shorter, turn_of}
-use Rattle.laws.proofs.Pieces.{Pieces, linked, closed-pieces, links-pieces}
+use Rattle.laws.proofs.Pieces.{Pieces, linked, closed_pieces, links_pieces}
 use Rattle.laws.proofs.Analysis.{Look, get, same, Domain, only, any_of, then_look, either, stopped, settled, look, looks_within}
 
 -- ---------------------------------------------------------------- what facts mean
@@ -80,12 +80,12 @@ module _ (D : Domain) (M : Meaning D) where
   in_same b d also s₀ s h = h
   in_same b d again s₀ s h = h
 
-  in-stopped : (l : Look D.Fact) (a : Ans) (s₀ s : State) → is_again a ≡ false → M.Holds (get l a) s₀ s → M.Holds (get (stopped D l) a) s₀ s
+  in_stopped : (l : Look D.Fact) (a : Ans) (s₀ s : State) → is_again a ≡ false → M.Holds (get l a) s₀ s → M.Holds (get (stopped D l) a) s₀ s
   unfolding is_again
-  in-stopped l no s₀ s e h = h
-  in-stopped l yes s₀ s e h = h
-  in-stopped l also s₀ s e h = h
-  in-stopped l again s₀ s e h = absurd (true≢false e)
+  in_stopped l no s₀ s e h = h
+  in_stopped l yes s₀ s e h = h
+  in_stopped l also s₀ s e h = h
+  in_stopped l again s₀ s e h = absurd (true≢false e)
 
   gives_first : (l m : Look D.Fact) (s₀ : State) (o : Out) → Gives l s₀ o → Gives (either D l m) s₀ o
   gives_first l m s₀ o g w = let x : M.Post o.made × M.Holds (get l o.ans) s₀ o.state = g w in (x.0, in_first l m o.ans s₀ o.state x.1)
@@ -134,104 +134,104 @@ is_again_eq again e = refl
 
 module _ (D : Domain) (M : Meaning D) (A : Acts D M) where
   -- what is settled for a loop's head holds before the loop, and after a turn that goes on
-  settled-closed : (d : D.Fact) (f : D.Fact → Look D.Fact) → D.within (D.from (settled D d f) f).if_again (settled D d f) ≡ true
+  settled_closed : (d : D.Fact) (f : D.Fact → Look D.Fact) → D.within (D.from (settled D d f) f).if_again (settled D d f) ≡ true
   unfolding settled
-  settled-closed d f =
+  settled_closed d f =
       cond-with (λ (i : D.Fact). D.within (D.from i f).if_again i ≡ true) (D.within (D.from (D.join d (D.from d f).if_again) f).if_again (D.join d (D.from d f).if_again))
       (λ e. e) (λ e. M.unknown_within (D.from D.unknown f).if_again)
 
-  settled-start : (d : D.Fact) (f : D.Fact → Look D.Fact) (s₀ s : State) → M.Holds d s₀ s → M.Holds (settled D d f) s₀ s
+  settled_start : (d : D.Fact) (f : D.Fact → Look D.Fact) (s₀ s : State) → M.Holds d s₀ s → M.Holds (settled D d f) s₀ s
   unfolding settled
-  settled-start d f s₀ s h =
+  settled_start d f s₀ s h =
       cond-with (λ (i : D.Fact). M.Holds i s₀ s) (D.within (D.from (D.join d (D.from d f).if_again) f).if_again (D.join d (D.from d f).if_again))
       (λ e. M.left d (D.from d f).if_again s₀ s h) (λ e. M.forget d s₀ s h)
 
   module _ (i : D.Fact) (f : D.Fact → Look D.Fact) (stable : D.within (D.from i f).if_again i ≡ true) (ok : (D.from i f).ok ≡ true)
       (G : State → Out) (S : Sound D M f G) (goes : (s : State) → Goes s (G s)) where
     -- a turn from the head
-    turn-gives : (s₀ s : State) → M.Holds i s₀ s → Gives D M (D.from i f) s₀ (G s)
-    turn-gives s₀ s h = A.enter f G S goes i s₀ s ok h
+    turn_gives : (s₀ s : State) → M.Holds i s₀ s → Gives D M (D.from i f) s₀ (G s)
+    turn_gives s₀ s h = A.enter f G S goes i s₀ s ok h
 
     -- where the loop goes on, the head's fact holds again
-    head-again : (s₀ s : State) → goes_on s (G s) ≡ true → M.Holds (get (D.from i f) (G s).ans) s₀ (G s).state → M.Holds i s₀ (G s).state
+    head_again : (s₀ s : State) → goes_on s (G s) ≡ true → M.Holds (get (D.from i f) (G s).ans) s₀ (G s).state → M.Holds i s₀ (G s).state
     unfolding goes_on
-    head-again s₀ s e h =
+    head_again s₀ s e h =
         M.weaken (D.from i f).if_again i s₀ (G s).state stable (subst (λ (a : Ans). M.Holds (get (D.from i f) a) s₀ (G s).state) (is_again_eq (G s).ans (and_left (is_again (G s).ans) _ e)) h)
 
-    iter-gives : (n : ℕ) (s₀ s : State) → length s.rest < n → M.Holds i s₀ s → Gives D M (D.from i f) s₀ (iter n G s)
+    iter_gives : (n : ℕ) (s₀ s : State) → length s.rest < n → M.Holds i s₀ s → Gives D M (D.from i f) s₀ (iter n G s)
     unfolding iter makes add
-    iter-gives zero s₀ s l h = absurd (not-suc-le-zero l)
-    iter-gives (suc n) s₀ s l h =
+    iter_gives zero s₀ s l h = absurd (not-suc-le-zero l)
+    iter_gives (suc n) s₀ s l h =
         cond-with (Gives D M (D.from i f) s₀) (goes_on s (G s)) {x = add (turn_of (G s)) (iter n G (G s).state)} {y = turn_of (G s)}
         (λ e w.
         let c : M.Pre (G s).made × M.Pre (iter n G (G s).state).made = M.pieces.join (G s).made (iter n G (G s).state).made w in
-        let p : M.Post (G s).made × M.Holds (get (D.from i f) (G s).ans) s₀ (G s).state = turn-gives s₀ s h c.0 in
+        let p : M.Post (G s).made × M.Holds (get (D.from i f) (G s).ans) s₀ (G s).state = turn_gives s₀ s h c.0 in
         let m : length (G s).state.rest < length s.rest = goes_on_shorter s (G s) e in
         let q : M.Post (iter n G (G s).state).made × M.Holds (get (D.from i f) (iter n G (G s).state).ans) s₀ (iter n G (G s).state).state =
-        iter-gives n s₀ (G s).state (omega arith) (head-again s₀ s e p.1) c.1 in
+        iter_gives n s₀ (G s).state (omega arith) (head_again s₀ s e p.1) c.1 in
         (M.post_join (G s).made (iter n G (G s).state).made p.0 q.0, q.1))
-        (λ e w. turn-gives s₀ s h w)
+        (λ e w. turn_gives s₀ s h w)
 
     -- Chains. a and p, made before, are right if what is assumed of them is met.
     abbrev Fine : Skeleton → Type 0
     Fine a = M.Pre a → M.Post a
 
     -- the chain's end, with its last marker closed
-    end-gives : (s₀ : State) (k m m' : ℕ) (a p : Skeleton) (o : Out) → Fine a → Fine p → Gives D M (D.from i f) s₀ o → M.Pre (closed k m m' a (p ⧺ o.made))
+    end_gives : (s₀ : State) (k m m' : ℕ) (a p : Skeleton) (o : Out) → Fine a → Fine p → Gives D M (D.from i f) s₀ o → M.Pre (closed k m m' a (p ⧺ o.made))
         → M.Post (closed k m m' a (p ⧺ o.made)) × M.Holds (get (D.from i f) o.ans) s₀ o.state
-    end-gives s₀ k m m' a p o x y g w =
-        let c : M.Pre a × M.Pre p × M.Pre o.made = closed-pieces M.Pre M.pieces k m m' a p o.made w in
+    end_gives s₀ k m m' a p o x y g w =
+        let c : M.Pre a × M.Pre p × M.Pre o.made = closed_pieces M.Pre M.pieces k m m' a p o.made w in
         let q : M.Post o.made × M.Holds (get (D.from i f) o.ans) s₀ o.state = g c.2 in
         (M.post_closed k m m' a (p ⧺ o.made) (x c.0) (M.post_join p o.made (y c.1) q.0), q.1)
 
-    shape-gives : (s₀ : State) (k : ℕ) (x y : Out) → Gives D M (D.from i f) s₀ x → Gives D M (D.from i f) s₀ y → Gives D M (D.from i f) s₀ (by_shape k x y)
+    shape_gives : (s₀ : State) (k : ℕ) (x y : Out) → Gives D M (D.from i f) s₀ x → Gives D M (D.from i f) s₀ y → Gives D M (D.from i f) s₀ (by_shape k x y)
     unfolding by_shape
-    shape-gives s₀ zero x y p q = p
-    shape-gives s₀ (suc k) x y p q = q
+    shape_gives s₀ zero x y p q = p
+    shape_gives s₀ (suc k) x y p q = q
 
-    links-gives : (n : ℕ) (s₀ s : State) (m : ℕ) (a p : Skeleton) → length s.rest < n → Fine a → Fine p → M.Holds i s₀ s → Gives D M (D.from i f) s₀ (links n G m a p s)
+    links_gives : (n : ℕ) (s₀ s : State) (m : ℕ) (a p : Skeleton) → length s.rest < n → Fine a → Fine p → M.Holds i s₀ s → Gives D M (D.from i f) s₀ (links n G m a p s)
     unfolding links unlinked makes
-    links-gives zero s₀ s m a p l x y h = absurd (not-suc-le-zero l)
-    links-gives (suc n) s₀ s m a p l x y h =
+    links_gives zero s₀ s m a p l x y h = absurd (not-suc-le-zero l)
+    links_gives (suc n) s₀ s m a p l x y h =
         let o : Out = G s in
         let m' : ℕ = mark_of (G s).state in
         let node : Skeleton = linked m a p (G s) in
         let whole : M.Pre (linked m a p (G s)) → M.Post (linked m a p (G s)) × M.Holds (get (D.from i f) (G s).ans) s₀ (G s).state =
-        end-gives s₀ (G s).shape m m' a p (G s) x y (turn-gives s₀ s h) in
-        shape-gives s₀ o.shape _ _ (end-gives s₀ 0 m m' a p o x y (turn-gives s₀ s h))
+        end_gives s₀ (G s).shape m m' a p (G s) x y (turn_gives s₀ s h) in
+        shape_gives s₀ o.shape _ _ (end_gives s₀ 0 m m' a p o x y (turn_gives s₀ s h))
         (cond-with (Gives D M (D.from i f) s₀) (goes_on s o) {x = links n G m' node done o.state} {y = unlinked m' node done o.ans o.state}
         (λ e w.
         let d : length (G s).state.rest < length s.rest = goes_on_shorter s (G s) e in
-        let q : M.Post node × M.Holds (get (D.from i f) (G s).ans) s₀ (G s).state = whole (links-pieces M.Pre M.pieces n G m' node done (G s).state w).0 in
-        links-gives n s₀ (G s).state m' node done (omega arith) (λ v. (whole v).0) (λ _. M.post_done) (head-again s₀ s e q.1) w)
+        let q : M.Post node × M.Holds (get (D.from i f) (G s).ans) s₀ (G s).state = whole (links_pieces M.Pre M.pieces n G m' node done (G s).state w).0 in
+        links_gives n s₀ (G s).state m' node done (omega arith) (λ v. (whole v).0) (λ _. M.post_done) (head_again s₀ s e q.1) w)
         (λ e w.
         let c : M.Pre node × M.Pre done = M.pieces.closing 0 m' m' node done w in
         let q : M.Post node × M.Holds (get (D.from i f) (G s).ans) s₀ (G s).state = whole c.0 in
         (M.post_closed 0 m' m' node done q.0 M.post_done, q.1)))
 
   -- a chain: o is what its first program gave
-  chained-gives : (l : Look D.Fact) (f : D.Fact → Look D.Fact) → (D.from (settled D l.if_again f) f).ok ≡ true → (G : State → Out) → Sound D M f G → ((s : State) → Goes s (G s))
+  chained_gives : (l : Look D.Fact) (f : D.Fact → Look D.Fact) → (D.from (settled D l.if_again f) f).ok ≡ true → (G : State → Out) → Sound D M f G → ((s : State) → Goes s (G s))
       → (s₀ s : State) (o : Out) → Gives D M l s₀ o → Gives D M (either D (stopped D l) (D.from (settled D l.if_again f) f)) s₀ (chained G s o)
   unfolding chained unlinked makes
-  chained-gives l f ok G S goes s₀ s o g =
+  chained_gives l f ok G S goes s₀ s o g =
       let i : D.Fact = settled D l.if_again f in
       cond-with (Gives D M (either D (stopped D l) (D.from (settled D l.if_again f) f)) s₀) (is_again o.ans)
       {x = links (suc (length o.state.rest)) G (mark_of s) done o.made o.state} {y = unlinked (mark_of s) done o.made o.ans o.state}
       (λ e w.
       let n : ℕ = suc (length o.state.rest) in
-      let q : M.Post o.made × M.Holds (get l o.ans) s₀ o.state = g (links-pieces M.Pre M.pieces n G (mark_of s) done o.made o.state w).1 in
+      let q : M.Post o.made × M.Holds (get l o.ans) s₀ o.state = g (links_pieces M.Pre M.pieces n G (mark_of s) done o.made o.state w).1 in
       let h : M.Holds l.if_again s₀ o.state = subst (λ (a : Ans). M.Holds (get l a) s₀ o.state) (is_again_eq o.ans e) q.1 in
       gives_second D M (stopped D l) (D.from i f) s₀ (links n G (mark_of s) done o.made o.state)
-      (links-gives i f (settled-closed l.if_again f) ok G S goes n s₀ o.state (mark_of s) done o.made (le_refl _) (λ _. M.post_done) (λ _. q.0) (settled-start l.if_again f s₀ o.state h))
+      (links_gives i f (settled_closed l.if_again f) ok G S goes n s₀ o.state (mark_of s) done o.made (le_refl _) (λ _. M.post_done) (λ _. q.0) (settled_start l.if_again f s₀ o.state h))
       w)
       (λ e w.
       let c : M.Pre done × M.Pre o.made = M.pieces.closing 0 (mark_of s) (mark_of o.state) done o.made w in
       let q : M.Post o.made × M.Holds (get l o.ans) s₀ o.state = g c.1 in
-      (M.post_closed 0 (mark_of s) (mark_of o.state) done o.made M.post_done q.0, in_first D M (stopped D l) (D.from i f) o.ans s₀ o.state (in-stopped D M l o.ans s₀ o.state e q.1)))
+      (M.post_closed 0 (mark_of s) (mark_of o.state) done o.made M.post_done q.0, in_first D M (stopped D l) (D.from i f) o.ans s₀ o.state (in_stopped D M l o.ans s₀ o.state e q.1)))
 
-  mark-gives : (l : Look D.Fact) (s₀ s : State) (o : Out) → Gives D M l s₀ o → Gives D M l s₀ (marked s o)
+  mark_gives : (l : Look D.Fact) (s₀ s : State) (o : Out) → Gives D M l s₀ o → Gives D M l s₀ (marked s o)
   unfolding marked makes
-  mark-gives l s₀ s o g w =
+  mark_gives l s₀ s o g w =
       let c : M.Pre done × M.Pre o.made = M.pieces.closing o.shape (mark_of s) (mark_of o.state) done o.made w in
       let q : M.Post o.made × M.Holds (get l o.ans) s₀ o.state = g c.1 in
       (M.post_closed o.shape (mark_of s) (mark_of o.state) done o.made M.post_done q.0, q.1)
@@ -239,57 +239,57 @@ module _ (D : Domain) (M : Meaning D) (A : Acts D M) where
   -- the three ways on from an answer
   module _ (l : Look D.Fact) (n y a : D.Fact → Look D.Fact) (N Y B : State → Out) (p : Sound D M n N) (q : Sound D M y Y) (r : Sound D M a B)
       (P : (s : State) → Goes s (N s)) (Q : (s : State) → Goes s (Y s)) (R : (s : State) → Goes s (B s)) where
-    abbrev on-no : Look D.Fact
-    on-no = D.from l.if_no n
+    abbrev on_no : Look D.Fact
+    on_no = D.from l.if_no n
 
-    abbrev on-yes : Look D.Fact
-    on-yes = D.from (D.join l.if_yes l.if_again) y
+    abbrev on_yes : Look D.Fact
+    on_yes = D.from (D.join l.if_yes l.if_again) y
 
-    abbrev on-also : Look D.Fact
-    on-also = D.from l.if_also a
+    abbrev on_also : Look D.Fact
+    on_also = D.from l.if_also a
 
-    ways : (x : Ans) (s₀ s : State) → (either D on-no (either D on-yes on-also)).ok ≡ true → M.Holds (get l x) s₀ s → Gives D M (either D on-no (either D on-yes on-also)) s₀ (choose x N Y B s)
+    ways : (x : Ans) (s₀ s : State) → (either D on_no (either D on_yes on_also)).ok ≡ true → M.Holds (get l x) s₀ s → Gives D M (either D on_no (either D on_yes on_also)) s₀ (choose x N Y B s)
     unfolding choose
-    ways no s₀ s m h = gives_first D M on-no (either D on-yes on-also) s₀ (N s) (A.enter n N p P l.if_no s₀ s (and_left on-no.ok _ m) h)
+    ways no s₀ s m h = gives_first D M on_no (either D on_yes on_also) s₀ (N s) (A.enter n N p P l.if_no s₀ s (and_left on_no.ok _ m) h)
     ways yes s₀ s m h =
-        gives_second D M on-no (either D on-yes on-also) s₀ (Y s)
-        (gives_first D M on-yes on-also s₀ (Y s) (A.enter y Y q Q (D.join l.if_yes l.if_again) s₀ s (and_left on-yes.ok _ (and_right on-no.ok _ m)) (M.left l.if_yes l.if_again s₀ s h)))
+        gives_second D M on_no (either D on_yes on_also) s₀ (Y s)
+        (gives_first D M on_yes on_also s₀ (Y s) (A.enter y Y q Q (D.join l.if_yes l.if_again) s₀ s (and_left on_yes.ok _ (and_right on_no.ok _ m)) (M.left l.if_yes l.if_again s₀ s h)))
     ways also s₀ s m h =
-        gives_second D M on-no (either D on-yes on-also) s₀ (B s) (gives_second D M on-yes on-also s₀ (B s) (A.enter a B r R l.if_also s₀ s (and_right on-yes.ok _ (and_right on-no.ok _ m)) h))
+        gives_second D M on_no (either D on_yes on_also) s₀ (B s) (gives_second D M on_yes on_also s₀ (B s) (A.enter a B r R l.if_also s₀ s (and_right on_yes.ok _ (and_right on_no.ok _ m)) h))
     ways again s₀ s m h =
-        gives_second D M on-no (either D on-yes on-also) s₀ (Y s)
-        (gives_first D M on-yes on-also s₀ (Y s) (A.enter y Y q Q (D.join l.if_yes l.if_again) s₀ s (and_left on-yes.ok _ (and_right on-no.ok _ m)) (M.right l.if_yes l.if_again s₀ s h)))
+        gives_second D M on_no (either D on_yes on_also) s₀ (Y s)
+        (gives_first D M on_yes on_also s₀ (Y s) (A.enter y Y q Q (D.join l.if_yes l.if_again) s₀ s (and_left on_yes.ok _ (and_right on_no.ok _ m)) (M.right l.if_yes l.if_again s₀ s h)))
 
   -- ---------------------------------------------------------------- every program
 
   -- AN ANALYSIS IS SOUND for every program, if it is for what the calls do
   module _ (ask : Rule → State → Out) (goes : (r : Rule) (s : State) → Goes s (ask r s)) (t : Rule → D.Fact → Look D.Fact) (calls : (r : Rule) → Sound D M (t r) (ask r)) where
-    goes-all : (b : Label) (p : Prog) (s : State) → Goes s (exec ask b p s)
-    goes-all b p s = exec_goes ask goes b p s
+    goes_all : (b : Label) (p : Prog) (s : State) → Goes s (exec ask b p s)
+    goes_all b p s = exec_goes ask goes b p s
 
-    pub exec-gives : (b : Label) (p : Prog) → Sound D M (look D t p) (exec ask b p)
+    pub exec_gives : (b : Label) (p : Prog) → Sound D M (look D t p) (exec ask b p)
     unfolding exec look
-    exec-gives b (ret k a) d s₀ s m h w = (M.post_done, in_only D M a d s₀ s h)
-    exec-gives b (act a) d s₀ s m h w = A.act b a d s₀ s m h w
-    exec-gives b (p ⨟ q) d s₀ s m h w =
+    exec_gives b (ret k a) d s₀ s m h w = (M.post_done, in_only D M a d s₀ s h)
+    exec_gives b (act a) d s₀ s m h w = A.act b a d s₀ s m h w
+    exec_gives b (p ⨟ q) d s₀ s m h w =
         let l : Look D.Fact = look D t p d in
-        gives_add D M l (D.from (any_of D l) (look D t q)) s₀ (exec ask b p s) (exec ask b q (exec ask b p s).state) (exec-gives b p d s₀ s (and_left l.ok _ m) h)
-        (λ g. A.enter (look D t q) (exec ask b q) (exec-gives b q) (goes-all b q) (any_of D l) s₀ (exec ask b p s).state (and_right l.ok _ m) (in_any D M l (exec ask b p s).ans s₀ (exec ask b p s).state g))
+        gives_add D M l (D.from (any_of D l) (look D t q)) s₀ (exec ask b p s) (exec ask b q (exec ask b p s).state) (exec_gives b p d s₀ s (and_left l.ok _ m) h)
+        (λ g. A.enter (look D t q) (exec ask b q) (exec_gives b q) (goes_all b q) (any_of D l) s₀ (exec ask b p s).state (and_right l.ok _ m) (in_any D M l (exec ask b p s).ans s₀ (exec ask b p s).state g))
         w
-    exec-gives b (case c n y a) d s₀ s m h w =
+    exec_gives b (case c n y a) d s₀ s m h w =
         let l : Look D.Fact = look D t c d in
-        gives_add D M l _ s₀ (exec ask b c s) (choose (exec ask b c s).ans (exec ask b n) (exec ask b y) (exec ask b a) (exec ask b c s).state) (exec-gives b c d s₀ s (and_left l.ok _ m) h)
-        (λ g. ways l (look D t n) (look D t y) (look D t a) (exec ask b n) (exec ask b y) (exec ask b a) (exec-gives b n) (exec-gives b y) (exec-gives b a) (goes-all b n) (goes-all b y) (goes-all b a)
+        gives_add D M l _ s₀ (exec ask b c s) (choose (exec ask b c s).ans (exec ask b n) (exec ask b y) (exec ask b a) (exec ask b c s).state) (exec_gives b c d s₀ s (and_left l.ok _ m) h)
+        (λ g. ways l (look D t n) (look D t y) (look D t a) (exec ask b n) (exec ask b y) (exec ask b a) (exec_gives b n) (exec_gives b y) (exec_gives b a) (goes_all b n) (goes_all b y) (goes_all b a)
         (exec ask b c s).ans s₀ (exec ask b c s).state (and_right l.ok _ m) g)
         w
-    exec-gives b (in_marker p) d s₀ s m h w = mark-gives (look D t p d) s₀ s (exec ask b p s) (exec-gives b p d s₀ s m h) w
-    exec-gives b (loop p) d s₀ s m h w =
-        iter-gives (settled D d (look D t p)) (look D t p) (settled-closed d (look D t p)) m (exec ask b p) (exec-gives b p) (goes-all b p) (suc (length s.rest)) s₀ s (le_refl _)
-        (settled-start d (look D t p) s₀ s h) w
-    exec-gives b (chain p q) d s₀ s m h w =
+    exec_gives b (in_marker p) d s₀ s m h w = mark_gives (look D t p d) s₀ s (exec ask b p s) (exec_gives b p d s₀ s m h) w
+    exec_gives b (loop p) d s₀ s m h w =
+        iter_gives (settled D d (look D t p)) (look D t p) (settled_closed d (look D t p)) m (exec ask b p) (exec_gives b p) (goes_all b p) (suc (length s.rest)) s₀ s (le_refl _)
+        (settled_start d (look D t p) s₀ s h) w
+    exec_gives b (chain p q) d s₀ s m h w =
         let l : Look D.Fact = look D t p d in
         gives_then D M l _ s₀ (chained (exec ask b q) s (exec ask b p s))
-        (chained-gives l (look D t q) (and_right l.ok _ (and_right l.ok _ m)) (exec ask b q) (exec-gives b q) (goes-all b q) s₀ s (exec ask b p s) (exec-gives b p d s₀ s (and_left l.ok _ m) h))
+        (chained_gives l (look D t q) (and_right l.ok _ (and_right l.ok _ m)) (exec ask b q) (exec_gives b q) (goes_all b q) s₀ s (exec ask b p s) (exec_gives b p d s₀ s (and_left l.ok _ m) h))
         w
-    exec-gives b (brace p) d s₀ s m h w = exec-gives (here s.rest) p d s₀ s m h w
-    exec-gives b (open_call r) d s₀ s m h w = calls r d s₀ s m h w
+    exec_gives b (brace p) d s₀ s m h w = exec_gives (here s.rest) p d s₀ s m h w
+    exec_gives b (open_call r) d s₀ s m h w = calls r d s₀ s m h w

@@ -17,7 +17,7 @@ use Rattle.definitions.specs.Run.{State, Out, peeked, replies, makes, taken, do_
 use Rattle.definitions.specs.Place.{after}
 use Rattle.definitions.specs.Call.{run_entry}
 use Rattle.laws.proofs.Trivia.{drop_twice, drop_trivia_length, passes_drop}
-use Rattle.laws.proofs.Kept.{Stands, stands_taken, moved, exec_kept, run-kept}
+use Rattle.laws.proofs.Kept.{Stands, stands_taken, moved, exec_kept, run_kept}
 use Rattle.laws.proofs.Between.{Taking, reads_kept, entry_reads}
 
 -- nothing but trivia is left
@@ -25,14 +25,14 @@ abbrev pub Ended : Out → Type 0
 Ended o = drop_trivia o.state.rest ≡ []
 
 module _ (ask : Rule → State → Out) (b : Label) where
-  pub turn-ends : (s : State) → drop_trivia s.rest ≡ [] → exec ask b left_over_turn s ≡ record { ans = yes; shape = 0; made = done; state = moved s [] }
+  pub turn_ends : (s : State) → drop_trivia s.rest ≡ [] → exec ask b left_over_turn s ≡ record { ans = yes; shape = 0; made = done; state = moved s [] }
   unfolding left_over_turn exec perform choose replies peeked add ◌⧺◌
-  turn-ends s e = rw e refl
+  turn_ends s e = rw e refl
 
-  pub turn-takes : (s : State) (t : Token) (ts : List Token) → drop_trivia s.rest ≡ t ∷ ts
+  pub turn_takes : (s : State) (t : Token) (ts : List Token) → drop_trivia s.rest ≡ t ∷ ts
       → exec ask b left_over_turn s ≡ record { ans = again; shape = 0; made = token t (length ts) done; state = taken ts }
   unfolding left_over_turn exec perform choose replies makes peeked add do_bump ◌⧺◌
-  turn-takes s t ts e =
+  turn_takes s t ts e =
       let e' : drop_trivia (t ∷ ts) ≡ t ∷ ts = ap drop_trivia (sym e) ∙ drop_twice s.rest ∙ e in
       rw (e, e') refl
 
@@ -42,15 +42,15 @@ module _ (ask : Rule → State → Out) (b : Label) where
   sweeps (suc n) s h = go (drop_trivia s.rest) refl (λ (u : State) g. sweeps n u g)
     where
       go : (l : List Token) → drop_trivia s.rest ≡ l → ((u : State) → length u.rest < n → Ended (iter n (exec ask b left_over_turn) u)) → Ended (iter (suc n) (exec ask b left_over_turn) s)
-      go [] e ih = rw (turn-ends s e) refl
+      go [] e ih = rw (turn_ends s e) refl
       go (t ∷ ts) e ih =
           let l : length (t ∷ ts) ≤ length s.rest = subst (λ (x : List Token). length x ≤ length s.rest) e (drop_trivia_length s.rest) in
-          rw (turn-takes s t ts e, lt-ltb (length ts) (length s.rest) l) (ih (taken ts) (omega arith))
+          rw (turn_takes s t ts e, lt-ltb (length ts) (length s.rest) l) (ih (taken ts) (omega arith))
 
   -- `Entrypoint::parse` takes what is left over
-  pub left-over-ends : (s : State) → Ended (exec ask b left_over s)
+  pub left_over_ends : (s : State) → Ended (exec ask b left_over s)
   unfolding left_over exec perform choose replies makes peeked add marked do_expected do_emit
-  left-over-ends s = go (drop_trivia s.rest) refl
+  left_over_ends s = go (drop_trivia s.rest) refl
     where
       go : (l : List Token) → drop_trivia s.rest ≡ l → Ended (exec ask b left_over s)
       go [] e = rw e refl
@@ -59,11 +59,11 @@ module _ (ask : Rule → State → Out) (b : Label) where
 -- A WHOLE RUN ENDS AT THE END
 pub whole_ends : (e : Entry) (ts : List Token) → Ended (exec (run MOST_OPEN_CALLS) no_label (whole e) (taken ts))
 unfolding whole exec add
-whole_ends e ts = left-over-ends (run MOST_OPEN_CALLS) no_label (exec (run MOST_OPEN_CALLS) no_label (entry e) (taken ts)).state
+whole_ends e ts = left_over_ends (run MOST_OPEN_CALLS) no_label (exec (run MOST_OPEN_CALLS) no_label (entry e) (taken ts)).state
 
 -- and so its skeleton leaves nothing but trivia
 pub entry_leaves : (e : Entry) (ts : List Token) → drop_trivia (after (run_entry e ts) ts) ≡ []
 entry_leaves e ts =
     let u : State = (exec (run MOST_OPEN_CALLS) no_label (whole e) (taken ts)).state in
-    let h : Stands u = (exec_kept Taking reads_kept (run MOST_OPEN_CALLS) (run-kept Taking reads_kept MOST_OPEN_CALLS) no_label (whole e) (taken ts) (stands_taken ts)).0 in
+    let h : Stands u = (exec_kept Taking reads_kept (run MOST_OPEN_CALLS) (run_kept Taking reads_kept MOST_OPEN_CALLS) no_label (whole e) (taken ts) (stands_taken ts)).0 in
     (entry_reads e ts).leaves ts refl ∙ passes_drop u.since u.rest h.passed ∙ whole_ends e ts

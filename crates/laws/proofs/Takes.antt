@@ -16,7 +16,7 @@ use Rattle.laws.proofs.Kept.{Stands}
 use Rattle.laws.proofs.Onward.{Onward, Goes, run_goes}
 use Rattle.laws.proofs.Clear.{BelowLimits}
 use Rattle.laws.proofs.Analysis.{Look, get, same, look}
-use Rattle.laws.proofs.Sound.{Gives, Sound, Acts, in_same, weaken_look, exec-gives}
+use Rattle.laws.proofs.Sound.{Gives, Sound, Acts, in_same, weaken_look, exec_gives}
 use Rattle.laws.proofs.Progress.{Fact, fact, taking, standing, anything, or_took, or_took_all, fresh, facts_from, taking_tokens, there_table, by_there, table, table_holds, part_facts}
 use Rattle.laws.proofs.FactsHold.{There, Gone, Taken, Case, took_case, there_case, gone_case, Holds, or_left, in_right, in_anything, taking_means, act_holds}
 
@@ -39,16 +39,16 @@ in_fresh t l also s₀ s h = or_took_case t l.if_also s₀ s h
 in_fresh t l again s₀ s h = or_took_case t l.if_again s₀ s h
 
 module _ (f : Fact → Look Fact) (G : State → Out) (S : Sound taking_tokens taking_means f G) (s₀ s : State) (k : Stands s) (b : length s.rest ≤ length s₀.rest) where
-  fresh-there : (h g : Bool) → (fresh h g f).ok ≡ true → h ≡ true → There s → Gives taking_tokens taking_means (fresh h g f) s₀ (G s)
+  fresh_there : (h g : Bool) → (fresh h g f).ok ≡ true → h ≡ true → There s → Gives taking_tokens taking_means (fresh h g f) s₀ (G s)
   unfolding fresh
-  fresh-there true g m e x = S (fact false true g) s₀ s m (record { stands = k; below = b; case = there_case refl x })
-  fresh-there false g m e x = absurd (false≢true e)
+  fresh_there true g m e x = S (fact false true g) s₀ s m (record { stands = k; below = b; case = there_case refl x })
+  fresh_there false g m e x = absurd (false≢true e)
 
-  fresh-gone : (h g : Bool) → (fresh h g f).ok ≡ true → g ≡ true → Gone s → Gives taking_tokens taking_means (fresh h g f) s₀ (G s)
+  fresh_gone : (h g : Bool) → (fresh h g f).ok ≡ true → g ≡ true → Gone s → Gives taking_tokens taking_means (fresh h g f) s₀ (G s)
   unfolding fresh
-  fresh-gone true g m e x = S (fact false true g) s₀ s m (record { stands = k; below = b; case = gone_case e x })
-  fresh-gone false true m e x = S (fact false false true) s₀ s m (record { stands = k; below = b; case = gone_case refl x })
-  fresh-gone false false m e x = absurd (false≢true e)
+  fresh_gone true g m e x = S (fact false true g) s₀ s m (record { stands = k; below = b; case = gone_case e x })
+  fresh_gone false true m e x = S (fact false false true) s₀ s m (record { stands = k; below = b; case = gone_case refl x })
+  fresh_gone false false m e x = absurd (false≢true e)
 
 enter : (f : Fact → Look Fact) (G : State → Out) → Sound taking_tokens taking_means f G → ((s : State) → Goes s (G s)) → Sound taking_tokens taking_means (λ d. facts_from d f) G
 unfolding facts_from
@@ -59,9 +59,9 @@ enter f G S goes d s₀ s m h w = (tt, go h.case)
         let g : Stands (G s).state × Onward s (G s).made (G s).state = goes s h.stands in
         in_took d.took (fresh d.there d.gone f) (G s).ans s₀ (G s).state i g.0 (le_trans g.1.rest h.below) (omega (arith, g.1.marks))
     go (there_case i t) =
-        in_fresh d.took (fresh d.there d.gone f) (G s).ans s₀ (G s).state (fresh-there f G S s₀ s h.stands h.below d.there d.gone m i t w).1
+        in_fresh d.took (fresh d.there d.gone f) (G s).ans s₀ (G s).state (fresh_there f G S s₀ s h.stands h.below d.there d.gone m i t w).1
     go (gone_case i t) =
-        in_fresh d.took (fresh d.there d.gone f) (G s).ans s₀ (G s).state (fresh-gone f G S s₀ s h.stands h.below d.there d.gone m i t w).1
+        in_fresh d.took (fresh d.there d.gone f) (G s).ans s₀ (G s).state (fresh_gone f G S s₀ s h.stands h.below d.there d.gone m i t w).1
 
 pub taking_acts : Acts taking_tokens taking_means
 taking_acts = record { act = λ b a d s₀ s m h w. (tt, act_holds b a d s₀ s h); enter = enter }
@@ -98,7 +98,7 @@ unfolding run makes pushes
 run_takes zero r s₀ s h w = absurd w.clear
 run_takes (suc n) r s₀ s h w =
     (weaken_look taking_tokens taking_means (look taking_tokens table (grammar r) standing) (there_table r) (table_holds r) s₀ (exec (run n) no_label (grammar r) s)
-    (exec-gives taking_tokens taking_means taking_acts (run n) (run_goes n) table (λ q. table_gives q n (λ u₀ u x v. (tt, run_takes n q u₀ u x v))) no_label (grammar r) standing s₀ s
+    (exec_gives taking_tokens taking_means taking_acts (run n) (run_goes n) table (λ q. table_gives q n (λ u₀ u x v. (tt, run_takes n q u₀ u x v))) no_label (grammar r) standing s₀ s
     (and_left (look taking_tokens table (grammar r) standing).ok _ (table_holds r)) h)
     w).1
 
@@ -135,6 +135,6 @@ part_takes n b s h t w =
     let o : Out = exec (run n) b sourcefile_part s in
     surely_taken o.ans s o.state
     (weaken_look taking_tokens taking_means (look taking_tokens table sourcefile_part standing) (same true taking) part_facts s o
-    (exec-gives taking_tokens taking_means taking_acts (run n) (run_goes n) table (λ q. table_gives q n (λ u₀ u x v. (tt, run_takes n q u₀ u x v))) b sourcefile_part standing s s
+    (exec_gives taking_tokens taking_means taking_acts (run n) (run_goes n) table (λ q. table_gives q n (λ u₀ u x v. (tt, run_takes n q u₀ u x v))) b sourcefile_part standing s s
     (and_left (look taking_tokens table sourcefile_part standing).ok _ part_facts) (starts s h t))
     w).1

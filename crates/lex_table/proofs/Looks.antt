@@ -12,11 +12,11 @@ use Rattle.lex_table.proofs.Parts.{table_class, class_below}
 
 -- a byte's class, read at j from t
 module _ (t : List ℕ) (j b c : ℕ) (held : t ≡ table) (e : j ≡ b) (f : c ≡ get_or t (j + 5376) 0) where
-  pub class-read : c ≡ get_or table (b + 5376) 0
-  class-read = f ∙ ap (λ (i : ℕ). get_or t (i + 5376) 0) e ∙ ap (λ (l : List ℕ). get_or l (b + 5376) 0) held
+  pub class_read : c ≡ get_or table (b + 5376) 0
+  class_read = f ∙ ap (λ (i : ℕ). get_or t (i + 5376) 0) e ∙ ap (λ (l : List ℕ). get_or l (b + 5376) 0) held
 
-  pub class-small : b < 256 → c < 31
-  class-small h = let k = class_below b h in omega (arith, k, class-read ∙ table_class b (b + 5376) h (omega arith))
+  pub class_small : b < 256 → c < 31
+  class_small h = let k = class_below b h in omega (arith, k, class_read ∙ table_class b (b + 5376) h (omega arith))
 
 -- r: what is read
 pub long_read : (t : List ℕ) (row j b r : ℕ) → t ≡ table → row < 5376 → j ≡ b → r ≡ get_or t (row + j) 0 → r ≡ row_after row b

@@ -111,9 +111,9 @@ module _ (bytes : List ℕ) (at n row best end next : ℕ) (s : Scanned bytes at
   m : Match
   m = match_of s.best_state s.best_len
 
-  next-held : next ≡ j * 256
+  next_held : next ≡ j * 256
   unfolding j
-  next-held = e ∙ ap (λ (r : ℕ). row_after r (get_or bytes n 0)) s.held ∙ row_next s.state (get_or bytes n 0) s.goes_on f
+  next_held = e ∙ ap (λ (r : ℕ). row_after r (get_or bytes n 0)) s.held ∙ row_next s.state (get_or bytes n 0) s.goes_on f
 
   reached : (1 ≤ j) × (j < 133)
   unfolding j
@@ -132,10 +132,10 @@ module _ (bytes : List ℕ) (at n row best end next : ℕ) (s : Scanned bytes at
       ≡ longest (length (drop at bytes)) (drop at bytes)
   turned_by t g = ap (λ (x : Bool). scan (st j) (suc s.read) (cond x (match_of j (suc s.read)) m) (drop (suc n) bytes)) (sym g) ∙ turned
 
-  pub turn-dead : next ≡ 33792 → Found bytes at best end
+  pub turn_dead : next ≡ 33792 → Found bytes at best end
   unfolding m
-  turn-dead d =
-      let k : j ≡ 132 = omega (arith, d, next-held) in
+  turn_dead d =
+      let k : j ≡ 132 = omega (arith, d, next_held) in
       let g : accepting j ≡ false = rw k in
       record {
         state = s.best_state;
@@ -146,15 +146,15 @@ module _ (bytes : List ℕ) (at n row best end next : ℕ) (s : Scanned bytes at
         known = s.best_known;
       }
 
-  pub turn-final : 24576 ≤ next → (next ≡ 33792 → ⊥) → Found bytes at next (n + 1)
-  turn-final d x =
-      let k : 96 ≤ j = omega (arith, d, next-held) in
-      let l : j < 132 = omega (arith, x, next-held, reached.1) in
+  pub turn_final : 24576 ≤ next → (next ≡ 33792 → ⊥) → Found bytes at next (n + 1)
+  turn_final d x =
+      let k : 96 ≤ j = omega (arith, d, next_held) in
+      let l : j < 132 = omega (arith, x, next_held, reached.1) in
       let g : accepting j ≡ true = rw (le-ltb j 21 (omega (arith, k)), le-leb 96 j k, lt-ltb j 132 l) in
       record {
         state = j;
         len = suc s.read;
-        held = next-held;
+        held = next_held;
         ends = omega (arith, s.reads);
         it = sym (ends_here j (suc s.read) _ (drop (suc n) bytes) k reached.1) ∙ turned_by true g;
         known = l;
@@ -162,18 +162,18 @@ module _ (bytes : List ℕ) (at n row best end next : ℕ) (s : Scanned bytes at
 
   pub turn_match : next < 5376 → Scanned bytes at (n + 1) next next (n + 1)
   turn_match d =
-      let k : j < 21 = omega (arith, d, next-held) in
+      let k : j < 21 = omega (arith, d, next_held) in
       let g : accepting j ≡ true = rw (lt-ltb j 21 k, lt-ltb 0 j reached.0) in
       let p : suc n ≡ n + 1 = omega arith in
       record {
         state = j;
         read = suc s.read;
-        held = next-held;
+        held = next_held;
         reads = omega (arith, s.reads);
         goes_on = omega (arith, k);
         best_state = j;
         best_len = suc s.read;
-        best_held = next-held;
+        best_held = next_held;
         best_ends = omega (arith, s.reads);
         best_known = omega (arith, k);
         left = ap (λ (x : ℕ). scan (st j) (suc s.read) (match_of j (suc s.read)) (drop x bytes)) (sym p) ∙ turned_by true g;
@@ -182,14 +182,14 @@ module _ (bytes : List ℕ) (at n row best end next : ℕ) (s : Scanned bytes at
   pub turn_on : 5376 ≤ next → next < 24576 → Scanned bytes at (n + 1) next best end
   unfolding m
   turn_on d x =
-      let k : 21 ≤ j = omega (arith, d, next-held) in
-      let l : j < 96 = omega (arith, x, next-held) in
+      let k : 21 ≤ j = omega (arith, d, next_held) in
+      let l : j < 96 = omega (arith, x, next_held) in
       let g : accepting j ≡ false = rw (le-ltb j 21 k, lt-leb 96 j l) in
       let p : suc n ≡ n + 1 = omega arith in
       record {
         state = j;
         read = suc s.read;
-        held = next-held;
+        held = next_held;
         reads = omega (arith, s.reads);
         goes_on = l;
         best_state = s.best_state;

@@ -15,20 +15,20 @@ use Rattle.lexer.specs.Words.{conditional_word, other_word}
 -- ---------------------------------------------------------------- blanks
 
 module _ (bytes : List ℕ) (i : ℕ) where
-  first-blank : i < length bytes
+  first_blank : i < length bytes
       → after_blanks (drop i bytes) ≡ cond (eqb (get_or bytes i 0) 32 || eqb (get_or bytes i 0) 9) (after_blanks (drop (i + 1) bytes)) (drop i bytes)
   unfolding after_blanks
-  first-blank h = rw (add-one i, drop-cons bytes i 0 h)
+  first_blank h = rw (add-one i, drop-cons bytes i 0 h)
 
-  pub past-space : i < length bytes → eqb (get_or bytes i 0) 32 ≡ true → after_blanks (drop i bytes) ≡ after_blanks (drop (i + 1) bytes)
-  past-space h e = rw (first-blank h, e)
+  pub past_space : i < length bytes → eqb (get_or bytes i 0) 32 ≡ true → after_blanks (drop i bytes) ≡ after_blanks (drop (i + 1) bytes)
+  past_space h e = rw (first_blank h, e)
 
-  pub past-tab : i < length bytes → eqb (get_or bytes i 0) 32 ≡ false → eqb (get_or bytes i 0) 9 ≡ true
+  pub past_tab : i < length bytes → eqb (get_or bytes i 0) 32 ≡ false → eqb (get_or bytes i 0) 9 ≡ true
       → after_blanks (drop i bytes) ≡ after_blanks (drop (i + 1) bytes)
-  past-tab h e f = rw (first-blank h, e, f)
+  past_tab h e f = rw (first_blank h, e, f)
 
-  pub no-blank : i < length bytes → eqb (get_or bytes i 0) 32 ≡ false → eqb (get_or bytes i 0) 9 ≡ false → drop i bytes ≡ after_blanks (drop i bytes)
-  no-blank h e f = rw (first-blank h, e, f)
+  pub no_blank : i < length bytes → eqb (get_or bytes i 0) 32 ≡ false → eqb (get_or bytes i 0) 9 ≡ false → drop i bytes ≡ after_blanks (drop i bytes)
+  no_blank h e f = rw (first_blank h, e, f)
 
   pub no_more : length bytes ≤ i → drop i bytes ≡ after_blanks (drop i bytes)
   unfolding after_blanks
@@ -37,15 +37,15 @@ module _ (bytes : List ℕ) (i : ℕ) where
 -- ---------------------------------------------------------------- a word
 
 module _ (word s : List ℕ) (i j : ℕ) (h : i < length word) (k : j < length s) where
-  first-letter : begins_with (drop i word) (drop j s) ≡ (eqb (get_or s j 0) (get_or word i 0) && begins_with (drop (i + 1) word) (drop (j + 1) s))
+  first_letter : begins_with (drop i word) (drop j s) ≡ (eqb (get_or s j 0) (get_or word i 0) && begins_with (drop (i + 1) word) (drop (j + 1) s))
   unfolding begins_with
-  first-letter = rw (add-one i, add-one j, drop-cons word i 0 h, drop-cons s j 0 k)
+  first_letter = rw (add-one i, add-one j, drop-cons word i 0 h, drop-cons s j 0 k)
 
-  pub same-letter : eqb (get_or s j 0) (get_or word i 0) ≡ true → begins_with (drop i word) (drop j s) ≡ begins_with (drop (i + 1) word) (drop (j + 1) s)
-  same-letter e = rw (first-letter, e)
+  pub same_letter : eqb (get_or s j 0) (get_or word i 0) ≡ true → begins_with (drop i word) (drop j s) ≡ begins_with (drop (i + 1) word) (drop (j + 1) s)
+  same_letter e = rw (first_letter, e)
 
-  pub other-letter : eqb (get_or s j 0) (get_or word i 0) ≡ false → false ≡ begins_with (drop i word) (drop j s)
-  other-letter e = rw (first-letter, e)
+  pub other_letter : eqb (get_or s j 0) (get_or word i 0) ≡ false → false ≡ begins_with (drop i word) (drop j s)
+  other_letter e = rw (first_letter, e)
 
 pub whole_word : (word s : List ℕ) (i : ℕ) → length word ≤ i → true ≡ begins_with (drop i word) s
 unfolding begins_with
@@ -88,9 +88,9 @@ module _ (bytes : List ℕ) (at : ℕ) (h : at < length bytes) where
   unfolding is_directive
   first_of = rw (add-one at, drop-cons bytes at 0 h)
 
-  pub after-hash : (word : ℕ) → eqb (get_or bytes at 0) 35 ≡ true → drop word bytes ≡ after_blanks (drop (at + 1) bytes)
+  pub after_hash : (word : ℕ) → eqb (get_or bytes at 0) 35 ≡ true → drop word bytes ≡ after_blanks (drop (at + 1) bytes)
       → is_directive (drop at bytes) ≡ (conditional_word (drop word bytes) || other_word (drop word bytes))
-  after-hash word e d = first_of ∙ rw (e, ← d, words (drop word bytes))
+  after_hash word e d = first_of ∙ rw (e, ← d, words (drop word bytes))
 
-  pub no-hash : eqb (get_or bytes at 0) 35 ≡ false → false ≡ is_directive (drop at bytes)
-  no-hash e = rw (first_of, e)
+  pub no_hash : eqb (get_or bytes at 0) 35 ≡ false → false ≡ is_directive (drop at bytes)
+  no_hash e = rw (first_of, e)

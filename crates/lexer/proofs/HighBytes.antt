@@ -27,9 +27,9 @@ module _ (bytes : List ℕ) (i : ℕ) where
         inside = omega (arith, h);
       }
 
-  pub past-low : i < length bytes → leb 128 (get_or bytes i 0) ≡ false
+  pub past_low : i < length bytes → leb 128 (get_or bytes i 0) ≡ false
       → high_byte i (drop i bytes) ≡ high_byte (i + 1) (drop (i + 1) bytes)
-  past-low h e = rw (first_byte h, e)
+  past_low h e = rw (first_byte h, e)
 
   at_end : i ≡ length bytes → HighFrom bytes i i
   unfolding high_byte
@@ -64,7 +64,7 @@ past_many bytes (suc n) i h f =
     let l : get_or bytes i 0 < 128 = rw z at (f 0 (omega arith)) in
     let g : (k : ℕ) → k < n → get_or bytes (i + 1 + k) 0 < 128 =
     λ k j. let e : i + 1 + k ≡ i + suc k = omega arith in rw e (f (suc k) (omega (arith, j))) in
-    past-low bytes i (omega (arith, h)) (lt-leb 128 (get_or bytes i 0) l) ∙ rw e (past_many bytes n (i + 1) (omega (arith, h)) g)
+    past_low bytes i (omega (arith, h)) (lt-leb 128 (get_or bytes i 0) l) ∙ rw e (past_many bytes n (i + 1) (omega (arith, h)) g)
 
 -- eight bytes, one after the other
 pub eight : (bytes : List ℕ) (at : ℕ) → get_or bytes at 0 < 128 → get_or bytes (at + 1) 0 < 128 → get_or bytes (at + 2) 0 < 128

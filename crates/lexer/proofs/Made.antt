@@ -124,9 +124,9 @@ module _ (bytes : List ℕ) (at row end : ℕ) (h : at < length bytes) (s : Hits
       plain : ltb (row / 256) 128 ≡ true → callback_of (row / 256) ≡ no_callback
       plain q = rw q
 
-  pub called-here : (k kind' end' : ℕ) → eqb row 0 ≡ false → k ≡ kind_of_row row
+  pub called_here : (k kind' end' : ℕ) → eqb row 0 ≡ false → k ≡ kind_of_row row
       → a_token kind' end' ≡ finish end k (callback_of (row / 256)) (drop end bytes) → TokenHere bytes at kind' end'
-  called-here k kind' end' z e f =
+  called_here k kind' end' z e f =
       let t = finish s.len k (callback_of (row / 256)) (drop end bytes) in
       let g : a_token kind' end' ≡ from_before at t =
       f ∙ ap (λ (i : ℕ). finish i k (callback_of (row / 256)) (drop end bytes)) s.ends

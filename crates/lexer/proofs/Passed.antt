@@ -26,19 +26,19 @@ length_put rows i kind len = go (ltb (i + 1) (length rows))
     go false = refl
 
 module _ (rows : List ℕ) (i kind len : ℕ) (h : i + 1 < length rows) where
-  put-fits : put_row rows i kind len ≡ set (set rows i kind) (i + 1) len
+  put_fits : put_row rows i kind len ≡ set (set rows i kind) (i + 1) len
   unfolding put_row
-  put-fits = rw (lt-ltb (i + 1) (length rows) h)
+  put_fits = rw (lt-ltb (i + 1) (length rows) h)
 
-  put-taken : take (i + 2) (put_row rows i kind len) ≡ take i rows ++ kind ∷ len ∷ []
-  put-taken =
+  put_taken : take (i + 2) (put_row rows i kind len) ≡ take i rows ++ kind ∷ len ∷ []
+  put_taken =
       let e : i + 2 ≡ suc (suc i) = omega arith in
       let f : i + 1 ≡ suc i = omega arith in
       let g : suc i < length (set rows i kind) = rw (length-set rows i kind) (omega (arith, h)) in
-      rw (put-fits, e, f, take-suc-set (set rows i kind) (suc i) len g, take-suc-set rows i kind (omega (arith, h)), append_assoc)
+      rw (put_fits, e, f, take-suc-set (set rows i kind) (suc i) len g, take-suc-set rows i kind (omega (arith, h)), append_assoc)
 
-  put-left : drop (i + 2) (put_row rows i kind len) ≡ drop (i + 2) rows
-  put-left = rw put-fits (drop-set-lt (i + 2) (set rows i kind) (i + 1) len (omega arith) ∙ drop-set-lt (i + 2) rows i kind (omega arith))
+  put_left : drop (i + 2) (put_row rows i kind len) ≡ drop (i + 2) rows
+  put_left = rw put_fits (drop-set-lt (i + 2) (set rows i kind) (i + 1) len (omega arith) ∙ drop-set-lt (i + 2) rows i kind (omega arith))
 
 -- ---------------------------------------------------------------- what the loop holds
 
@@ -96,23 +96,23 @@ module _ (bytes rows₀ rows : List ℕ) (at index : ℕ) (p : Passed bytes rows
         same_length = length_put rows index k n ∙ p.same_length;
         found = sym (further k n t ∙ rw d) ∙ p.found;
         counted = c;
-        written = λ f. rw (put-taken rows index k n (omega (arith, f, c, p.same_length)), append_assoc) (rw (← s) (p.written f));
+        written = λ f. rw (put_taken rows index k n (omega (arith, f, c, p.same_length)), append_assoc) (rw (← s) (p.written f));
         rest = λ f.
-            put-left rows index k n (omega (arith, f, c, p.same_length)) ∙ sym (drop-drop 2 index rows) ∙ ap (drop 2) (p.rest f)
+            put_left rows index k n (omega (arith, f, c, p.same_length)) ∙ sym (drop-drop 2 index rows) ∙ ap (drop 2) (p.rest f)
             ∙ drop-drop 2 index rows₀;
       }
 
-  pub past-token : (kind end : ℕ) → TokenHere bytes at kind end → false ≡ is_directive (drop at bytes)
+  pub past_token : (kind end : ℕ) → TokenHere bytes at kind end → false ≡ is_directive (drop at bytes)
       → Passed bytes rows₀ (put_row rows index kind (end - at)) end (index + 2)
-  past-token kind end t d =
+  past_token kind end t d =
       let e : end ≡ at + t.len = t.ends in
       let n : end - at ≡ t.len = omega (arith, e) in
       let q : Passed bytes rows₀ (put_row rows index kind t.len) (at + t.len) (index + 2) =
       past kind t.len (here kind t.len t.token) (sym d) in
       rw (n, e) q
 
-  pub at-directive : true ≡ is_directive (drop at bytes) → Lexes bytes rows₀ rows (Directive at)
-  at-directive d =
+  pub at_directive : true ≡ is_directive (drop at bytes) → Lexes bytes rows₀ rows (Directive at)
+  at_directive d =
       let t = next_token (drop at bytes) in
       let z : (n : ℕ) → Directive at ≡ Numbers n → ⊥ = λ n e. let z : ◌≡◌ {A = ℕ} 0 1 = cc in omega arith in
       record {

@@ -66,10 +66,10 @@ module _ (q : Query) (setting : ℕ) (bytes tokens : List ℕ) (b : Buffers) (li
   wanted = with_list lists list b
 
   -- refused by the parse
-  pub parse-refused : (x : ListAnswer) (list' : List ℕ) → eqb a.number 0 ≡ false → x ≡ counted a 0 → list' ≡ wiped 0 list
+  pub parse_refused : (x : ListAnswer) (list' : List ℕ) → eqb a.number 0 ≡ false → x ≡ counted a 0 → list' ≡ wiped 0 list
       → list_result_of x list' c ≡ wanted (parse SourceFile setting bytes (tokens_of tokens) b)
   unfolding with_list
-  parse-refused x list' n e f =
+  parse_refused x list' n e f =
       (λ i. list_result_of (e i) (f i) c)
       ∙ ap (λ (l : List ℕ). list_result_of (counted a 0) l c) (all_zeros list list refl)
       ∙ sym
@@ -91,8 +91,8 @@ module _ (q : Query) (setting : ℕ) (bytes tokens : List ℕ) (b : Buffers) (li
         subst (Left setting bytes tokens b) (sym is_call)
         (what_is_left setting bytes tokens b (ap (λ (r : Result). r.answer.number) (sym is_call) ∙ eqb-true a.number 0 n))
 
-    of-file : FileRows bytes (tokens_of tokens)
-    of-file = file_rows bytes tokens ok
+    of_file : FileRows bytes (tokens_of tokens)
+    of_file = file_rows bytes tokens ok
 
     numbers : a.tree_count * TREE_ROW ≡ TREE_ROW * a.tree_count
     numbers = omega arith
@@ -101,47 +101,47 @@ module _ (q : Query) (setting : ℕ) (bytes tokens : List ℕ) (b : Buffers) (li
     rows_are = ap (λ (k : ℕ). tree_rows_of (take k c.trees)) numbers ∙ rows_read setting bytes tokens b (result_of a c) left
 
     -- what the walk needs
-    pub walk-needs : length c.trees ≡ length b.trees
+    pub walk_needs : length c.trees ≡ length b.trees
         → (a.tree_count * TREE_ROW ≤ length c.trees) × Sound (length bytes) (tree_rows_of (take (a.tree_count * TREE_ROW) c.trees))
-    walk-needs e = (
+    walk_needs e = (
       (let f = rows_fit setting bytes tokens b (result_of a c) left in omega (arith, f, e)),
-      subst (Sound (length bytes)) (sym rows_are) of-file.sound,
+      subst (Sound (length bytes)) (sym rows_are) of_file.sound,
     )
 
-    found-is : found q (length bytes) (tree_rows_of (take (a.tree_count * TREE_ROW) c.trees)) ≡ lists
-    found-is = ap (found q (length bytes)) rows_are ∙ of-file.lists q
+    found_is : found q (length bytes) (tree_rows_of (take (a.tree_count * TREE_ROW) c.trees)) ≡ lists
+    found_is = ap (found q (length bytes)) rows_are ∙ of_file.lists q
 
-    events-zero : c.events ≡ zeros b.events
-    events-zero = ap (λ (r : Result). r.buffers.events) left.returns
+    events_zero : c.events ≡ zeros b.events
+    events_zero = ap (λ (r : Result). r.buffers.events) left.returns
 
-    by-room : (s : SameLengths b c) (t : Bool) → leb (length lists) (length list) ≡ t
+    by_room : (s : SameLengths b c) (t : Bool) → leb (length lists) (length list) ≡ t
         → with_events c.events (cond t (list_result_of (counted a (length lists)) (wiped (length lists) (laid lists list)) (buffers_of [] c.trees c.errors c.reports c.pool))
         (list_result_of (counted (refused_with NO_TREE_ROOM 0) 0) (wiped 0 (laid lists list)) (buffers_of [] (wiped 0 c.trees) (wiped 0 c.errors) (wiped 0 c.reports) (wiped 0 c.pool))))
         ≡ cond t (record { answer = answer_of a; list_count = length lists; list = written lists list; buffers = c }) (listless (cleared no_tree_room b) (zeros list))
     unfolding number_of place_of
-    by-room s true e =
+    by_room s true e =
         ap (λ (l : List ℕ). list_result_of (counted a (length lists)) l c)
         (rows_and_zeros lists list (laid lists list) (length lists) (front_laid lists list (leb-true _ _ e)) refl (laid_length lists list))
-    by-room s false e =
+    by_room s false e =
         λ i.
         list_result_of (counted (refused_with NO_TREE_ROOM 0) 0) (all_zeros list (laid lists list) (laid_length lists list) i)
-        (buffers_of (events-zero i) (all_zeros b.trees c.trees s.trees i) (all_zeros b.errors c.errors s.errors i) (all_zeros b.reports c.reports s.reports i) (all_zeros b.pool c.pool s.pool i))
+        (buffers_of (events_zero i) (all_zeros b.trees c.trees s.trees i) (all_zeros b.errors c.errors s.errors i) (all_zeros b.reports c.reports s.reports i) (all_zeros b.pool c.pool s.pool i))
 
     -- accepted: its list is kept, or nothing is
-    pub parse-listed : (s : SameLengths b c) (x : ListAnswer) (list' : List ℕ) (d : Buffers) → d.events ≡ c.events
+    pub parse_listed : (s : SameLengths b c) (x : ListAnswer) (list' : List ℕ) (d : Buffers) → d.events ≡ c.events
         → list_result_of x list' (buffers_of [] d.trees d.errors d.reports d.pool) ≡ list_ends q a (length bytes) list (buffers_of [] c.trees c.errors c.reports c.pool)
         → list_result_of x list' d ≡ wanted (parse SourceFile setting bytes (tokens_of tokens) b)
     unfolding with_list
-    parse-listed s x list' d ev e =
+    parse_listed s x list' d ev e =
         ap (λ (l : List ℕ). list_result_of x list' (buffers_of l d.trees d.errors d.reports d.pool)) ev
-        ∙ ap (with_events c.events) (e ∙ ap (λ (l : List ℕ). ended a (length l) (laid l list) (buffers_of [] c.trees c.errors c.reports c.pool)) found-is)
+        ∙ ap (with_events c.events) (e ∙ ap (λ (l : List ℕ). ended a (length l) (laid l list) (buffers_of [] c.trees c.errors c.reports c.pool)) found_is)
         ∙ ap
         (λ (k : ℕ).
         with_events c.events
         (cond (leb (length lists) k) (list_result_of (counted a (length lists)) (wiped (length lists) (laid lists list)) (buffers_of [] c.trees c.errors c.reports c.pool))
         (list_result_of (counted (refused_with NO_TREE_ROOM 0) 0) (wiped 0 (laid lists list)) (buffers_of [] (wiped 0 c.trees) (wiped 0 c.errors) (wiped 0 c.reports) (wiped 0 c.pool)))))
         (laid_length lists list)
-        ∙ by-room s (leb (length lists) (length list)) refl
+        ∙ by_room s (leb (length lists) (length list)) refl
         ∙ sym
         (ap
         (λ (t : Bool).
@@ -154,14 +154,14 @@ module _ (q : Query) (setting : ℕ) (bytes tokens : List ℕ) (b : Buffers) (li
 -- ---------------------------------------------------------------- the checks before it
 
 module _ (q : Query) (setting : ℕ) (bytes tokens : List ℕ) (b : Buffers) (list : List ℕ) where
-  pub sound-query : check_input bytes tokens ≡ accepted
+  pub sound_query : check_input bytes tokens ≡ accepted
       → with_list (listed q (length bytes) (source_tree (tokens_of tokens))) list b (parse SourceFile setting bytes (tokens_of tokens) b) ≡ query_call q setting bytes tokens b list
   unfolding query_call checked_query
-  sound-query ok = sym (ap (λ (v : Verdict). checked_query v q setting bytes tokens b list) ok)
+  sound_query ok = sym (ap (λ (v : Verdict). checked_query v q setting bytes tokens b list) ok)
 
-  pub refused-query : (a : Answer) (x : ListAnswer) → Refused a bytes tokens → x ≡ counted a 0 → list_result_of x list b ≡ query_call q setting bytes tokens b list
+  pub refused_query : (a : Answer) (x : ListAnswer) → Refused a bytes tokens → x ≡ counted a 0 → list_result_of x list b ≡ query_call q setting bytes tokens b list
   unfolding query_call checked_query
-  refused-query a x r e =
+  refused_query a x r e =
       ap (λ (y : ListAnswer). list_result_of y list b) e
       ∙ ap (λ (y : _). listless (record { answer = y; buffers = b }) list) r.answer
       ∙ sym (ap (λ (v : Verdict). checked_query v q setting bytes tokens b list) r.verdict)

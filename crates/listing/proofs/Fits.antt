@@ -21,14 +21,14 @@ module _ (a : Answer) (n : ℕ) (list : List ℕ) (b : Buffers) where
       list_result_of (counted (refused_with NO_TREE_ROOM 0) 0) (wiped 0 list)
       (buffers_of b.events (wiped 0 b.trees) (wiped 0 b.errors) (wiped 0 b.reports) (wiped 0 b.pool))
 
-  pub fits-list : (list' : List ℕ) → leb n (length list) ≡ true → list' ≡ wiped n list → list_result_of (counted a n) list' b ≡ ended a n list b
-  fits-list list' t e =
+  pub fits_list : (list' : List ℕ) → leb n (length list) ≡ true → list' ≡ wiped n list → list_result_of (counted a n) list' b ≡ ended a n list b
+  fits_list list' t e =
       ap (λ (l : List ℕ). list_result_of (counted a n) l b) e ∙ ap (λ (x : Bool). cond x (list_result_of (counted a n) (wiped n list) b) full) (sym t)
 
-  pub full-list : (x : ListAnswer) (r : Answer) (list' trees errors reports pool : List ℕ) → leb n (length list) ≡ false → x ≡ counted r 0 → r ≡ refused_with NO_TREE_ROOM 0
+  pub full_list : (x : ListAnswer) (r : Answer) (list' trees errors reports pool : List ℕ) → leb n (length list) ≡ false → x ≡ counted r 0 → r ≡ refused_with NO_TREE_ROOM 0
       → list' ≡ wiped 0 list → trees ≡ wiped 0 b.trees → errors ≡ wiped 0 b.errors → reports ≡ wiped 0 b.reports → pool ≡ wiped 0 b.pool
       → list_result_of x list' (buffers_of b.events trees errors reports pool) ≡ ended a n list b
-  full-list x r list' trees errors reports pool t e f g h i j k =
+  full_list x r list' trees errors reports pool t e f g h i j k =
       (λ s. list_result_of (e s) (g s) (buffers_of b.events (h s) (i s) (j s) (k s)))
       ∙ ap (λ (y : Answer). list_result_of (counted y 0) (wiped 0 list) (buffers_of b.events (wiped 0 b.trees) (wiped 0 b.errors) (wiped 0 b.reports) (wiped 0 b.pool))) f
       ∙ ap (λ (y : Bool). cond y (list_result_of (counted a n) (wiped n list) b) full) (sym t)

@@ -22,7 +22,7 @@ use Rattle.machine.specs.Machine as M
 use Rattle.machine.specs.Walk.{Walked, said, at_depth, argument}
 use Rattle.machine.proofs.Image.{Ground, Inside, moved, rest_is, inside_peeked}
 use Rattle.machine.proofs.Moves.{peek_is}
-use Rattle.machine.proofs.Sticky.{s-argument}
+use Rattle.machine.proofs.Sticky.{s_argument}
 use Rattle.machine.proofs.Meets.{Sofar, Fitting, stand, grow, Sim, Tracks}
 use Rattle.machine.proofs.Taking.{quiet, bump_sim}
 use Rattle.machine.proofs.Sequences.{seq_with}
@@ -98,37 +98,37 @@ module _ (g : Ground) (f : ℕ) (again : Argues g f) (c : Sofar) (s : State) (t 
   unfolding peeked do_bump
   taking = subst (λ (u : List Token). Sim g c (do_bump (moved s u) u) (said yes (M.bump g.tokens p))) (drop_none t l solid) (bump_sim g c (moved s (t ∷ l)) fit i)
 
-  goes-sim : (k : ℕ) → Sim g c (goes_in t l k) (go k)
+  goes_sim : (k : ℕ) → Sim g c (goes_in t l k) (go k)
   unfolding makes
-  goes-sim k =
+  goes_sim k =
       seq_with g c (makes yes (token t (length l) done) (taken l)) (do_argument k (taken l) l) (said yes (M.bump g.tokens p)) (λ v. argument f g.tokens k v.on) taking
       (λ fit' i'. again k (grow c (token t (length l) done)) (taken l) l fit' i' short)
-      (λ r h. s-argument g.tokens r f k (M.bump g.tokens p) h)
+      (λ r h. s_argument g.tokens r f k (M.bump g.tokens p) h)
 
-  stays-sim : (a : Ans) → Sim g c (stays s t l a) (said a p)
+  stays_sim : (a : Ans) → Sim g c (stays s t l a) (said a p)
   unfolding replies
-  stays-sim a = quiet g c a 0 (moved s (t ∷ l)) (said a p) fit i refl
+  stays_sim a = quiet g c a 0 (moved s (t ∷ l)) (said a p) fit i refl
 
-  depth-sim : (n : ℕ) (a : Ans) (h : ℕ → ℕ) → Sim g c (R.at_depth n (stays s t l a) (λ m. goes_in t l (h m))) (at_depth n (said a p) (λ k. go (h k)))
+  depth_sim : (n : ℕ) (a : Ans) (h : ℕ → ℕ) → Sim g c (R.at_depth n (stays s t l a) (λ m. goes_in t l (h m))) (at_depth n (said a p) (λ k. go (h k)))
   unfolding R.at_depth
-  depth-sim zero a h = stays-sim a
-  depth-sim (suc n) a h = goes-sim (h n)
+  depth_sim zero a h = stays_sim a
+  depth_sim (suc n) a h = goes_sim (h n)
 
-  either-sim : (b : Bool) (o o' : Out) (w w' : Walked) → Sim g c o w → Sim g c o' w' → Sim g c (cond b o o') (cond b w w')
-  either-sim true o o' w w' x y = x
-  either-sim false o o' w w' x y = y
+  either_sim : (b : Bool) (o o' : Out) (w w' : Walked) → Sim g c o w → Sim g c o' w' → Sim g c (cond b o o') (cond b w w')
+  either_sim true o o' w w' x y = x
+  either_sim false o o' w w' x y = y
 
-  token-sim : (n : ℕ) → Sim g c (at_token n s t l) (step g f n p (t ∷ l))
-  token-sim n =
+  token_sim : (n : ℕ) → Sim g c (at_token n s t l) (step g f n p (t ∷ l))
+  token_sim n =
       rw (same_test K.LParen t l (omega arith) refl, same_test K.RParen t l (omega arith) refl, same_test K.Comma t l (omega arith) refl)
-      (either-sim (eqb t.kind K.LParen) _ _ _ _ (goes-sim (suc n))
-      (either-sim (eqb t.kind K.RParen) _ _ _ _ (depth-sim n no (λ k. k)) (either-sim (eqb t.kind K.Comma) _ _ _ _ (depth-sim n yes suc) (goes-sim n))))
+      (either_sim (eqb t.kind K.LParen) _ _ _ _ (goes_sim (suc n))
+      (either_sim (eqb t.kind K.RParen) _ _ _ _ (depth_sim n no (λ k. k)) (either_sim (eqb t.kind K.Comma) _ _ _ _ (depth_sim n yes suc) (goes_sim n))))
 
 step_sim : (g : Ground) (f n : ℕ) → Argues g f → (c : Sofar) (s : State) (u : List Token) → Fitting g c → Inside g (moved s u) → Solid u → length u < suc f → Sim g c (do_argument n s u) (step g f n (stand g c (moved s u)) u)
 unfolding do_argument replies
 step_sim g f n again c s [] fit i solid short = quiet g c no 0 (moved s []) _ fit i refl
 step_sim g f n again c s (t ∷ l) fit i solid short =
-    subst (λ (o : Out). Sim g c o (step g f n (stand g c (moved s (t ∷ l))) (t ∷ l))) (sym (argument_solid n s t l solid)) (token-sim g f again c s t l fit i solid (omega arith) n)
+    subst (λ (o : Out). Sim g c o (step g f n (stand g c (moved s (t ∷ l))) (t ∷ l))) (sym (argument_solid n s t l solid)) (token_sim g f again c s t l fit i solid (omega arith) n)
 
 argues : (g : Ground) (f : ℕ) → Argues g f
 unfolding argument peeked

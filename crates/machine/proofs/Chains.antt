@@ -19,9 +19,9 @@ use Rattle.machine.specs.Encode.{start_tag}
 use Rattle.machine.specs.Outcome.{Refused}
 use Rattle.machine.proofs.Coded.{coded}
 use Rattle.machine.proofs.Image.{Ground, image, Inside}
-use Rattle.machine.proofs.Sticky.{Sticks, either, s-push, s-precede, s-links, s-turn, s-chained}
-use Rattle.machine.proofs.Meets.{Sofar, Fitting, stand, Meets, grow, Sim, Tracks, Begins, begins_with, begins_then, begins_after, push-meets, meets_then}
-use Rattle.machine.proofs.Markers.{opened, opened_grow, ignore-sim, complete-sim, begins_closed, start_index, linked_length, precede-sim}
+use Rattle.machine.proofs.Sticky.{Sticks, either, s_push, s_precede, s_links, s_turn, s_chained}
+use Rattle.machine.proofs.Meets.{Sofar, Fitting, stand, Meets, grow, Sim, Tracks, Begins, begins_with, begins_then, begins_after, push_meets, meets_then}
+use Rattle.machine.proofs.Markers.{opened, opened_grow, ignore_sim, complete_sim, begins_closed, start_index, linked_length, precede_sim}
 use Rattle.machine.proofs.Loops.{left_is, goes_on_is}
 
 -- ---------------------------------------------------------------- what a chain pushes
@@ -81,30 +81,30 @@ module _ (g : Ground) (f : State → Out) (h : Machine → Walked) (st : Sticks 
   ts = g.tokens
 
   -- the chain's last marker
-  last-sim : (c : Sofar) (m : ℕ) (a i : Skeleton) (x : Ans) (s : State) → Fitting g (opened c a m i) → Inside g s → Sim g c (unlinked m a i x s) (said x (push PLACEHOLDER 0 (stand g (opened c a m i) s)))
+  last_sim : (c : Sofar) (m : ℕ) (a i : Skeleton) (x : Ans) (s : State) → Fitting g (opened c a m i) → Inside g s → Sim g c (unlinked m a i x s) (said x (push PLACEHOLDER 0 (stand g (opened c a m i) s)))
   unfolding unlinked makes closed
-  last-sim c m a i x s fit j = ignore-sim g c a m i s fit j x
+  last_sim c m a i x s fit j = ignore_sim g c a m i s fit j x
 
   -- the machine after a link that came to v, its marker completed
   abbrev next : ℕ → Bool → Marker → Ans → Machine → Walked
   next n b k x v = cond b (W.links ts n h (next_marker LINKED_START_NODE v) (precede k v)) (said x (push PLACEHOLDER 0 (precede k v)))
 
   -- after the new marker
-  onward-sim : (n : ℕ) → Links g f h n → (c : Sofar) (N : Skeleton) (k : Marker) (b : Bool) (x : Ans) (s : State) → k.index ≡ length (c.numbers ++ coded true N) → k.tag ≡ start_tag N
+  onward_sim : (n : ℕ) → Links g f h n → (c : Sofar) (N : Skeleton) (k : Marker) (b : Bool) (x : Ans) (s : State) → k.index ≡ length (c.numbers ++ coded true N) → k.tag ≡ start_tag N
       → Fitting g (opened c N (mark_of s) done) → Inside g s
       → Sim g c (onward f n b (mark_of s) N x s) (cond b (W.links ts n h k (stand g (opened c N (mark_of s) done) s)) (said x (push PLACEHOLDER 0 (stand g (opened c N (mark_of s) done) s))))
-  onward-sim n more c N k true x s e t fit j = more c (mark_of s) N done s k e t fit j
-  onward-sim n more c N k false x s e t fit j = last-sim c (mark_of s) N done x s fit j
+  onward_sim n more c N k true x s e t fit j = more c (mark_of s) N done s k e t fit j
+  onward_sim n more c N k false x s e t fit j = last_sim c (mark_of s) N done x s fit j
 
-  s-next : (r : Refusal) (n : ℕ) (b : Bool) (k k' : Marker) (x : Ans) (p : Machine) → Refused ts r p → Refused ts r (cond b (W.links ts n h k' p) (said x (push PLACEHOLDER 0 p))).on
-  s-next r n b k k' x p q = either ts r b (W.links ts n h k' p) (said x (push PLACEHOLDER 0 p)) (s-links ts r n h (st r) k' p q) (s-push ts r PLACEHOLDER 0 p q)
+  s_next : (r : Refusal) (n : ℕ) (b : Bool) (k k' : Marker) (x : Ans) (p : Machine) → Refused ts r p → Refused ts r (cond b (W.links ts n h k' p) (said x (push PLACEHOLDER 0 p))).on
+  s_next r n b k k' x p q = either ts r b (W.links ts n h k' p) (said x (push PLACEHOLDER 0 p)) (s_links ts r n h (st r) k' p q) (s_push ts r PLACEHOLDER 0 p q)
 
   -- from a link on
-  link-sim : (n : ℕ) → Links g f h n → (c : Sofar) (m : ℕ) (a i : Skeleton) (k : Marker) (kind : ℕ) (b : Bool) (x : Ans) (s : State) → k.index ≡ length (c.numbers ++ coded true a) → k.tag ≡ start_tag a
+  link_sim : (n : ℕ) → Links g f h n → (c : Sofar) (m : ℕ) (a i : Skeleton) (k : Marker) (kind : ℕ) (b : Bool) (x : Ans) (s : State) → k.index ≡ length (c.numbers ++ coded true a) → k.tag ≡ start_tag a
       → Fitting g (opened c a m i) → Inside g s
       → Sim g c (onward f n b (mark_of s) (node kind m (mark_of s) a i done) x s) (next n b k x (complete k kind (stand g (opened c a m i) s)))
   unfolding pushes image
-  link-sim n more c m a i k kind b x s e t fit j =
+  link_sim n more c m a i k kind b x s e t fit j =
       let m' = mark_of s in
       let N = node kind m m' a i done in
       let D = onward f n b m' N x s in
@@ -116,16 +116,16 @@ module _ (g : Ground) (f : State → Out) (h : Machine → Walked) (st : Sticks 
       let b₂ : Begins c₂.pushed end.pushed = begins_after c.pushed (pushes N ++ (event m' ∷ [])) (pushes D.made) (begins_onward f n (begins_links f n) b m' N x s) in
       let b₁ : Begins c₁.pushed c₂.pushed = begins_after c.pushed (pushes N) (pushes N ++ (event m' ∷ [])) (begins_with (pushes N) (event m' ∷ [])) in
       meets_then g c₁ end x D.ans 0 D.shape s D.state (said x v) (next n b k x v) (begins_then c₁.pushed c₂.pushed end.pushed b₁ b₂)
-      (complete-sim g c a m i s fit j x k kind e t)
+      (complete_sim g c a m i s fit j x k kind e t)
       (λ fit₁ j₁ e₁.
       subst (λ (w : Walked). Meets g end D.ans D.shape D.state (next n b k x w.on)) (sym e₁)
       (meets_then g c₂ end x D.ans 0 D.shape s D.state (said x (precede k (stand g c₁ s))) (next n b k x (stand g c₁ s)) b₂
-      (precede-sim g c kind m m' a i s fit₁ j₁ x k e)
+      (precede_sim g c kind m m' a i s fit₁ j₁ x k e)
       (λ fit₂ j₂ e₂.
       subst (λ (w : Walked). Meets g end D.ans D.shape D.state (cond b (W.links ts n h K w.on) (said x (push PLACEHOLDER 0 w.on)))) (sym e₂)
-      (onward-sim n more c N K b x s (linked_length c kind m m' a i) refl fit₂ j₂))
-      (λ r q. s-next r n b k K x (precede k (stand g c₁ s)) q)))
-      (λ r q. s-next r n b k (next_marker LINKED_START_NODE v) x (precede k v) (s-precede ts r k v q))
+      (onward_sim n more c N K b x s (linked_length c kind m m' a i) refl fit₂ j₂))
+      (λ r q. s_next r n b k K x (precede k (stand g c₁ s)) q)))
+      (λ r q. s_next r n b k (next_marker LINKED_START_NODE v) x (precede k v) (s_precede ts r k v q))
 
   -- a turn that was not refused
   turn_sim : (n : ℕ) → Links g f h n → (c : Sofar) (m : ℕ) (a i : Skeleton) (k : Marker) (s : State) (o : Out) (b : Bool) → k.index ≡ length (c.numbers ++ coded true a) → k.tag ≡ start_tag a
@@ -138,13 +138,13 @@ module _ (g : Ground) (f : State → Out) (h : Machine → Walked) (st : Sticks 
       by : (z : ℕ)
           → Sim g c (by_shape z (unlinked m a i o.ans o.state) (onward f n b (mark_of o.state) (closed z m (mark_of o.state) a i) o.ans o.state))
           (by_shape z (said o.ans (push PLACEHOLDER 0 (stand g (opened c a m i) o.state))) (next n b k o.ans (complete k z (stand g (opened c a m i) o.state))))
-      by zero = last-sim c m a i o.ans o.state fit j
-      by (suc z) = link-sim n more c m a i k (suc z) b o.ans o.state e t fit j
+      by zero = last_sim c m a i o.ans o.state fit j
+      by (suc z) = link_sim n more c m a i k (suc z) b o.ans o.state e t fit j
 
-  pub links-sim : Tracks g f h → (n : ℕ) → Links g f h n
+  pub links_sim : Tracks g f h → (n : ℕ) → Links g f h n
   unfolding links W.links link
-  links-sim tr zero c m a i s k e t fit j = last-sim c m a i again s fit j
-  links-sim tr (suc n) c m a i s k e t fit j =
+  links_sim tr zero c m a i s k e t fit j = last_sim c m a i again s fit j
+  links_sim tr (suc n) c m a i s k e t fit j =
       let M = stand g (opened c a m i) s in
       let o = f s in
       let w = h M in
@@ -160,8 +160,8 @@ module _ (g : Ground) (f : State → Out) (h : Machine → Walked) (st : Sticks 
       (λ fit₁ j₁ e₁.
       subst (λ (y : Walked). Meets g end D.ans D.shape D.state (out (W.goes_on ts M y) y)) (sym e₁)
       (subst (λ (x : Bool). Meets g end D.ans D.shape D.state (out x v)) (sym (goes_on_is g (opened c a m i) mid s o j j₁))
-      (turn_sim n (links-sim tr n) c m a I k s o (goes_on s o) e t fit₁ j₁)))
-      (λ r q. s-turn ts r n h (st r) k M w q)
+      (turn_sim n (links_sim tr n) c m a I k s o (goes_on s o) e t fit₁ j₁)))
+      (λ r q. s_turn ts r n h (st r) k M w q)
 
 -- ---------------------------------------------------------------- a chain from its first marker on
 
@@ -178,12 +178,12 @@ module _ (g : Ground) (f f₀ : State → Out) (h h₀ : Machine → Walked) (tr
   first_sim : (c : Sofar) (m : ℕ) (i : Skeleton) (k : Marker) (b : Bool) (x : Ans) (s : State) → k.index ≡ length (c.numbers ++ coded true done) → k.tag ≡ START_NODE
       → Fitting g (opened c done m i) → Inside g s
       → Sim g c (linked_on f b m i x s) (cond b (W.links g.tokens (suc (length s.rest)) h k (stand g (opened c done m i) s)) (said x (push PLACEHOLDER 0 (stand g (opened c done m i) s))))
-  first_sim c m i k true x s e t fit j = links-sim g f h st tr (suc (length s.rest)) c m done i s k e t fit j
-  first_sim c m i k false x s e t fit j = last-sim g f h st c m done i x s fit j
+  first_sim c m i k true x s e t fit j = links_sim g f h st tr (suc (length s.rest)) c m done i s k e t fit j
+  first_sim c m i k false x s e t fit j = last_sim g f h st c m done i x s fit j
 
-  pub chain-sim : Tracks g (λ s. chained f s (f₀ s)) (λ m. W.chained g.tokens h (next_marker START_NODE m) (h₀ (push PLACEHOLDER 0 m)))
+  pub chain_sim : Tracks g (λ s. chained f s (f₀ s)) (λ m. W.chained g.tokens h (next_marker START_NODE m) (h₀ (push PLACEHOLDER 0 m)))
   unfolding chained W.chained coded pushes ◌⧺◌
-  chain-sim c s fit j =
+  chain_sim c s fit j =
       let M = stand g c s in
       let k = next_marker START_NODE M in
       let m = mark_of s in
@@ -200,7 +200,7 @@ module _ (g : Ground) (f f₀ : State → Out) (h h₀ : Machine → Walked) (tr
       let b₂ : Begins mid.pushed end.pushed = begins_after c.pushed (event m ∷ pushes o.made) (pushes D.made) (begins_chain f (is_again o.ans) m o.made o.ans o.state) in
       let b₁ : Begins one.pushed mid.pushed = begins_after c.pushed (event m ∷ []) (event m ∷ pushes o.made) (begins_with (event m ∷ []) (pushes o.made)) in
       meets_then g one end yes D.ans 0 D.shape s D.state (said yes p) z (begins_then one.pushed mid.pushed end.pushed b₁ b₂)
-      (push-meets g c fit s PLACEHOLDER 0 yes 0 j)
+      (push_meets g c fit s PLACEHOLDER 0 yes 0 j)
       (λ fit₁ j₁ e₁.
       meets_then g mid end o.ans D.ans o.shape D.shape o.state D.state w z b₂
       (subst (λ (y : Walked). Meets g mid o.ans o.shape o.state (h₀ y.on)) (sym e₁)
@@ -209,5 +209,5 @@ module _ (g : Ground) (f f₀ : State → Out) (h h₀ : Machine → Walked) (tr
       subst (λ (y : Walked). Meets g end D.ans D.shape D.state (out (length (rest g.tokens y.on)) y)) (sym e₂)
       (subst (λ (n : ℕ). Meets g end D.ans D.shape D.state (out n v)) (sym (left_is g mid o.state j₂))
       (first_sim c m o.made k (is_again o.ans) o.ans o.state (start_index g c s) refl fit₂ j₂)))
-      (λ r q. s-chained g.tokens r h (st r) k w q))
-      (λ r q. s-chained g.tokens r h (st r) k w (st₀ r p q))
+      (λ r q. s_chained g.tokens r h (st r) k w q))
+      (λ r q. s_chained g.tokens r h (st r) k w (st₀ r p q))

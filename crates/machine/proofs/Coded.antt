@@ -116,8 +116,8 @@ low_rows_small n b first (r ∷ l) h =
 -- nine numbers for a report
 pub low_row_length : (n b first : ℕ) (r : Report) → length (low_rows n b first (r ∷ [])) ≡ REPORT_ROW
 unfolding low_rows
-low_row_length n b first r = by-label r.labelled
+low_row_length n b first r = by_label r.labelled
   where
-    by-label : (x : Label) → suc (suc (suc (suc (suc (suc (suc (length (label_numbers b x [])))))))) ≡ REPORT_ROW
-    by-label no_label = refl
-    by-label (label s) = refl
+    by_label : (x : Label) → suc (suc (suc (suc (suc (suc (suc (length (label_numbers b x [])))))))) ≡ REPORT_ROW
+    by_label no_label = refl
+    by_label (label s) = refl

@@ -28,7 +28,7 @@ use Rattle.machine.proofs.Suffix.{suffix_bytes, suffix_filled}
 use Rattle.machine.proofs.Image.{Ground, held_of, image, rows_of, Inside, moved, rest_is, inside_peeked, byte}
 use Rattle.machine.proofs.Moves.{peek_is}
 use Rattle.machine.proofs.Expecting.{count_is}
-use Rattle.machine.proofs.Stores.{push-fits, push-full, report_fits, report-full, no_row, no-codes}
+use Rattle.machine.proofs.Stores.{push_fits, push_full, report_fits, report_full, no_row, no_codes}
 use Rattle.machine.proofs.Sticky.{s_write}
 use Rattle.machine.proofs.Meets.{Sofar, Fitting, stand, Meets, goes, stop, grow, Sim, Tracks, room_at_first, room_left, refused_event}
 
@@ -89,11 +89,11 @@ row_is n b first m h mark x lab codes few =
     let e : low (n - mark) ≡ n - mark = mod-eq_of_lt (omega arith) in
     ap (λ (k : ℕ). m ∷ (b - x.from) ∷ (b - x.to) ∷ k ∷ low first ∷ low (length codes) ∷ h ∷ (span_of b lab).from ∷ (span_of b lab).to ∷ []) e
     ∙ ap (λ (k : ℕ). m ∷ (b - x.from) ∷ (b - x.to) ∷ (n - mark) ∷ low k ∷ low (length codes) ∷ h ∷ (span_of b lab).from ∷ (span_of b lab).to ∷ []) (sym (zero-add first))
-    ∙ ap (λ (l : List ℕ). m ∷ (b - x.from) ∷ (b - x.to) ∷ (n - mark) ∷ low (0 + first) ∷ low (length codes) ∷ h ∷ l) (by-label lab)
+    ∙ ap (λ (l : List ℕ). m ∷ (b - x.from) ∷ (b - x.to) ∷ (n - mark) ∷ low (0 + first) ∷ low (length codes) ∷ h ∷ l) (by_label lab)
   where
-    by-label : (y : Label) → (span_of b y).from ∷ (span_of b y).to ∷ [] ≡ label_numbers b y []
-    by-label no_label = refl
-    by-label (label y) = refl
+    by_label : (y : Label) → (span_of b y).from ∷ (span_of b y).to ∷ [] ≡ label_numbers b y []
+    by_label no_label = refl
+    by_label (label y) = refl
 
 -- ---------------------------------------------------------------- what `scan` says of a report
 
@@ -144,47 +144,47 @@ module _ (g : Ground) (m h : ℕ) (lab : Label) (c : Sofar) (s : State) (f : Fit
   abbrev B : ℕ
   B = byte_count g.tokens
 
-  scan-is : scan (c.pushed ++ (reported r ∷ [])) (room_at_first g) ≡ told r (room_left g c.numbers l).events (room_left g c.numbers l).reports (room_left g c.numbers l).pool
-  scan-is = scan_append c.pushed (reported r ∷ []) (room_at_first g) ∙ ap (λ (x : Fit). and_then x (scan (reported r ∷ []))) f.room
+  scan_is : scan (c.pushed ++ (reported r ∷ [])) (room_at_first g) ≡ told r (room_left g c.numbers l).events (room_left g c.numbers l).reports (room_left g c.numbers l).pool
+  scan_is = scan_append c.pushed (reported r ∷ []) (room_at_first g) ∙ ap (λ (x : Fit). and_then x (scan (reported r ∷ []))) f.room
 
-  reports-are : reports (c.pushed ++ (reported r ∷ [])) ≡ l ++ (r ∷ [])
+  reports_are : reports (c.pushed ++ (reported r ∷ [])) ≡ l ++ (r ∷ [])
   unfolding reports
-  reports-are = reports_append c.pushed (reported r ∷ [])
+  reports_are = reports_append c.pushed (reported r ∷ [])
 
   rows_grow : length (rows_of g (l ++ (r ∷ []))) ≡ length (rows_of g l) + REPORT_ROW
   rows_grow =
       let N = length g.tokens in
       ap length (low_rows_append N B 0 l (r ∷ [])) ∙ length-append (rows_of g l) (low_rows N B (0 + length (pool l)) (r ∷ [])) ∙ ap (λ (k : ℕ). length (rows_of g l) + k) (low_row_length N B (0 + length (pool l)) r)
 
-  pool-grows : length (pool (l ++ (r ∷ []))) ≡ length (pool l) + n
+  pool_grows : length (pool (l ++ (r ∷ []))) ≡ length (pool l) + n
   unfolding pool
-  pool-grows = ap length (pool_append l (r ∷ [])) ∙ length-append (pool l) (r.pool ++ []) ∙ ap (λ (k : ℕ). length (pool l) + k) (length-append r.pool [] ∙ native.Mathlib.Nat.add-zero n)
+  pool_grows = ap length (pool_append l (r ∷ [])) ∙ length-append (pool l) (r.pool ++ []) ∙ ap (λ (k : ℕ). length (pool l) + k) (length-append r.pool [] ∙ native.Mathlib.Nat.add-zero n)
 
   -- the event fits: the row and the expectations fit or not
-  after-event : (b d : Bool) → length c.numbers + EVENT_ROW ≤ length g.events
+  after_event : (b d : Bool) → length c.numbers + EVENT_ROW ≤ length g.events
       → leb (length (rows_of g l) + REPORT_ROW) (length g.reports) ≡ b → leb (length (pool l) + n) (length g.pool) ≡ d
       → Meets g (grow c (report r done)) yes 0 s (said yes (write_report m h range (span_of B lab) (image g e' l s)))
   unfolding coded pushes
-  after-event false d fit p q =
+  after_event false d fit p q =
       let more : length g.reports < length (rows_of g l) + REPORT_ROW = leb-false _ _ p in
       let event_room : (room_left g c.numbers l).events ≡ suc ((length g.events - (length c.numbers + EVENT_ROW)) / EVENT_ROW) = omega arith in
       let report_room : (room_left g c.numbers l).reports ≡ 0 = omega (arith, f.rows) in
-      stop (no_report_room (mark_of s)) (scan-is ∙ no_report r _ _ _ _ event_room report_room)
-      (subst (Refused g.tokens (no_report_room (mark_of s))) (sym (report-full g l s e' m h range (span_of B lab) (no_row g l s n f.rows more))) (refused_report g e' l s))
-  after-event true false fit p q =
+      stop (no_report_room (mark_of s)) (scan_is ∙ no_report r _ _ _ _ event_room report_room)
+      (subst (Refused g.tokens (no_report_room (mark_of s))) (sym (report_full g l s e' m h range (span_of B lab) (no_row g l s n f.rows more))) (refused_report g e' l s))
+  after_event true false fit p q =
       let rows : length (rows_of g l) + REPORT_ROW ≤ length g.reports = leb-true _ _ p in
       let more : length g.pool < length (pool l) + n = leb-false _ _ q in
       let event_room : (room_left g c.numbers l).events ≡ suc ((length g.events - (length c.numbers + EVENT_ROW)) / EVENT_ROW) = omega arith in
       let report_room : (room_left g c.numbers l).reports ≡ suc ((length g.reports - (length (rows_of g l) + REPORT_ROW)) / REPORT_ROW) = omega arith in
-      stop (no_report_room (mark_of s)) (scan-is ∙ no_pool r _ _ _ _ _ event_room report_room (omega (arith, f.codes)))
-      (subst (Refused g.tokens (no_report_room (mark_of s))) (sym (report-full g l s e' m h range (span_of B lab) (no-codes g l s n rows f.codes more))) (refused_report g e' l s))
-  after-event true true fit p q =
+      stop (no_report_room (mark_of s)) (scan_is ∙ no_pool r _ _ _ _ _ event_room report_room (omega (arith, f.codes)))
+      (subst (Refused g.tokens (no_report_room (mark_of s))) (sym (report_full g l s e' m h range (span_of B lab) (no_codes g l s n rows f.codes more))) (refused_report g e' l s))
+  after_event true true fit p q =
       let rows : length (rows_of g l) + REPORT_ROW ≤ length g.reports = leb-true _ _ p in
       let codes : length (pool l) + n ≤ length g.pool = leb-true _ _ q in
       let el : length e' ≡ length c.numbers + EVENT_ROW = length-append c.numbers (ERROR ∷ 0 ∷ 0 ∷ []) in
       let event_room : (room_left g c.numbers l).events ≡ suc ((length g.events - length e') / EVENT_ROW) = omega arith in
       let report_room : (room_left g c.numbers l).reports ≡ suc ((length g.reports - length (rows_of g (l ++ (r ∷ [])))) / REPORT_ROW) = omega (arith, rows_grow) in
-      let pool-room : (room_left g c.numbers l).pool - n ≡ length g.pool - length (pool (l ++ (r ∷ []))) = omega (arith, pool-grows) in
+      let pool-room : (room_left g c.numbers l).pool - n ≡ length g.pool - length (pool (l ++ (r ∷ []))) = omega (arith, pool_grows) in
       let row : report_row m h range (span_of B lab) (length g.tokens - length s.since) (length (pool l)) (pool_count m (held_of s.pending)) ≡ low_rows (length g.tokens) B (0 + length (pool l)) (r ∷ []) =
       ap (λ (j : ℕ). report_row m h range (span_of B lab) (length g.tokens - length s.since) (length (pool l)) j) (count_is m s.pending i.held)
       ∙ ap (λ (x : Span). report_row m h x (span_of B lab) (length g.tokens - length s.since) (length (pool l)) n) (range_is g c.numbers l s i)
@@ -192,29 +192,29 @@ module _ (g : Ground) (m h : ℕ) (lab : Label) (c : Sofar) (s : State) (f : Fit
       goes
       (record {
         events = omega arith;
-        rows = subst (λ (u : List Report). length (rows_of g u) ≤ length g.reports) (sym reports-are) (omega (arith, rows_grow));
-        codes = subst (λ (u : List Report). length (pool u) ≤ length g.pool) (sym reports-are) (omega (arith, pool-grows));
+        rows = subst (λ (u : List Report). length (rows_of g u) ≤ length g.reports) (sym reports_are) (omega (arith, rows_grow));
+        codes = subst (λ (u : List Report). length (pool u) ≤ length g.pool) (sym reports_are) (omega (arith, pool_grows));
         room =
-            scan-is ∙ all_told r _ _ _ _ _ event_room report_room (omega (arith, f.codes))
+            scan_is ∙ all_told r _ _ _ _ _ event_room report_room (omega (arith, f.codes))
             ∙ ap (λ (k : ℕ). fits (record { events = (length g.events - length e') / EVENT_ROW; reports = (length g.reports - length (rows_of g (l ++ (r ∷ [])))) / REPORT_ROW; pool = k })) pool-room
-            ∙ ap (λ (u : List Report). fits (room_left g e' u)) (sym reports-are);
+            ∙ ap (λ (u : List Report). fits (room_left g e' u)) (sym reports_are);
       })
       i
-      (ap (λ (x : Machine). said yes x) (report_fits g l s e' m h range (span_of B lab) r refl row rows codes ∙ ap (λ (u : List Report). image g e' u s) (sym reports-are)))
+      (ap (λ (x : Machine). said yes x) (report_fits g l s e' m h range (span_of B lab) r refl row rows codes ∙ ap (λ (u : List Report). image g e' u s) (sym reports_are)))
 
-  by-event : (b : Bool) → leb (length c.numbers + EVENT_ROW) (length g.events) ≡ b
+  by_event : (b : Bool) → leb (length c.numbers + EVENT_ROW) (length g.events) ≡ b
       → Meets g (grow c (report r done)) yes 0 s (said yes (write_report m h range (span_of B lab) (push ERROR 0 (stand g c s))))
   unfolding pushes
-  by-event true p =
+  by_event true p =
       let fit : length c.numbers + EVENT_ROW ≤ length g.events = leb-true _ _ p in
-      subst (λ (x : Machine). Meets g (grow c (report r done)) yes 0 s (said yes (write_report m h range (span_of B lab) x))) (sym (push-fits g l s c.numbers ERROR 0 fit))
-      (after-event _ _ fit refl refl)
-  by-event false p =
+      subst (λ (x : Machine). Meets g (grow c (report r done)) yes 0 s (said yes (write_report m h range (span_of B lab) x))) (sym (push_fits g l s c.numbers ERROR 0 fit))
+      (after_event _ _ fit refl refl)
+  by_event false p =
       let more : length g.events < length c.numbers + EVENT_ROW = leb-false _ _ p in
       let event_room : (room_left g c.numbers l).events ≡ 0 = omega (arith, f.events) in
-      stop (no_event_room (mark_of s)) (scan-is ∙ no_event r _ _ _ event_room)
+      stop (no_event_room (mark_of s)) (scan_is ∙ no_event r _ _ _ event_room)
       (s_write g.tokens (no_event_room (mark_of s)) m h range (span_of B lab) (push ERROR 0 (stand g c s))
-      (subst (Refused g.tokens (no_event_room (mark_of s))) (sym (push-full g l s c.numbers ERROR 0 f.events more)) (refused_event g c.numbers l s)))
+      (subst (Refused g.tokens (no_event_room (mark_of s))) (sym (push_full g l s c.numbers ERROR 0 f.events more)) (refused_event g c.numbers l s)))
 
 pub emit_sim : (g : Ground) (m h : ℕ) (lab : Label) → Tracks g (λ s. do_emit m h lab (peeked s)) (λ x. said yes (M.emit g.tokens m h (span_of (byte_count g.tokens) lab) x))
 unfolding M.emit do_emit makes
@@ -226,4 +226,4 @@ emit_sim g m h lab c s f i =
     let o = do_emit m h lab (peeked s) in
     subst (λ (x : Machine). Sim g c o (said yes (write_report m h (M.error_range (rest g.tokens x) x) (span_of B lab) (push ERROR 0 x)))) (sym (peek_is g e l s i))
     (subst (λ (x : List Token). Sim g c o (said yes (write_report m h (M.error_range x (stand g c (peeked s))) (span_of B lab) (push ERROR 0 (stand g c (peeked s)))))) (sym (rest_is g e l (peeked s) j))
-    (by-event g m h lab c (peeked s) f j _ refl))
+    (by_event g m h lab c (peeked s) f j _ refl))

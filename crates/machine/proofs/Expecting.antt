@@ -46,9 +46,9 @@ module _ (l : List ℕ) (k : ℕ) (h : Held l) (e : is_expectation k ≡ true) w
       (sym (kinds_append 0 l k ∙ ap (λ (b : Bool). cond b (put_in_word k (kinds_of l)) (kinds_of l)) g))
       (sym (others_append 0 l k ∙ ap (λ (b : Bool). cond b (others_of l) (put_in_word (other_digit k) (others_of l))) g)))
 
-  other-is : is_kind k ≡ false → is_other k ≡ true → expect_other k (held_of l) ≡ held_of (pushed_once k l)
+  other_is : is_kind k ≡ false → is_other k ≡ true → expect_other k (held_of l) ≡ held_of (pushed_once k l)
   unfolding pushed_once
-  other-is g o =
+  other_is g o =
       let x : Pending = record { codes = arrived k l; kinds = kinds_of l; others = put_in_word (other_digit k) (others_of l) } in
       ap (λ (b : Bool). cond b (held_of l) x) (h.words.other k o)
       ∙ pushed (one_of l k) refl x
@@ -69,13 +69,13 @@ module _ (l : List ℕ) (k : ℕ) (h : Held l) (e : is_expectation k ≡ true) w
       ap (λ (b : Bool). cond b (expect_kind k x) else) g
       ∙ ap (λ (b : Bool). cond b other x) (le-leb FIRST_OTHER k c.from)
       ∙ ap (λ (b : Bool). cond b (expect_other k x) x) (lt-ltb k (FIRST_OTHER + OTHER_CODES) c.to)
-      ∙ other-is g o)
+      ∙ other_is g o)
 
 -- THE ROW'S COUNT is the number of different ones
 pub count_is : (message : ℕ) (l : List ℕ) → Held l → pool_count message (held_of l) ≡ length (pool_of message l)
 unfolding pool_count pool_of
-count_is message l h = by-message (eqb message E.msg_expected)
+count_is message l h = by_message (eqb message E.msg_expected)
   where
-    by-message : (b : Bool) → cond b (ones (kinds_of l) + ones (others_of l)) 0 ≡ length (cond b l [])
-    by-message true = h.words.count
-    by-message false = refl
+    by_message : (b : Bool) → cond b (ones (kinds_of l) + ones (others_of l)) 0 ≡ length (cond b l [])
+    by_message true = h.words.count
+    by_message false = refl

@@ -86,10 +86,10 @@ module _ (g : Ground) (e : List ℕ) (l : List Report) (s : State) (t : Token) (
   unfolding byte_count
   byte = next_byte (byte_count g.tokens) (byte_count ts) t.len (suffix_bytes g.tokens (t ∷ ts) p) g.limits.short
 
-  pub pass-is : passed t (image g e l (moved s (t ∷ ts))) ≡ image g e l (moved s ts)
+  pub pass_is : passed t (image g e l (moved s (t ∷ ts))) ≡ image g e l (moved s ts)
   unfolding image
-  pass-is = rw (index, byte)
+  pass_is = rw (index, byte)
 
-  pub took-is : took t (image g e l (moved s (t ∷ ts))) ≡ image g e l (taken ts)
+  pub took_is : took t (image g e l (moved s (t ∷ ts))) ≡ image g e l (taken ts)
   unfolding image kinds_from others_from
-  took-is = rw (index, byte)
+  took_is = rw (index, byte)

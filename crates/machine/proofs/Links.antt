@@ -79,10 +79,10 @@ module _ (ask : Rule → Machine → Walked) (ts : List Token) (b : Span) (q : P
   came w e = ap (turned ts (ahead ts m) (walk ask ts b q) k m) e
 
   -- a turn that answers again with a kind and moved the cursor: the chain from here is the chain from there
-  pub link-again : (kind : ℕ) → Few ts → record { ans = again; shape = suc kind; on = m' } ≡ walk ask ts b q m → ahead ts m' < ahead ts m
+  pub link_again : (kind : ℕ) → Few ts → record { ans = again; shape = suc kind; on = m' } ≡ walk ask ts b q m → ahead ts m' < ahead ts m
       → linked ask ts b q (next_marker LINKED_START_NODE (complete k (suc kind) m')) (link k (suc kind) m') ≡ linked ask ts b q k m
   unfolding linked goes_on is_again by_shape
-  link-again kind w e h =
+  link_again kind w e h =
       let l = link_ahead ts k (suc kind) m' w in
       let next = next_marker LINKED_START_NODE (complete k (suc kind) m') in
       let x = link k (suc kind) m' in
@@ -91,27 +91,27 @@ module _ (ask : Rule → Machine → Walked) (ts : List Token) (b : Span) (q : P
       ∙ came (record { ans = again; shape = suc kind; on = m' }) e
 
   -- a turn with a kind that answers anything else: one more link, and the chain ends
-  pub link-last : (kind : ℕ) (a : Ans) → is_again a ≡ false → record { ans = a; shape = suc kind; on = m' } ≡ walk ask ts b q m → said a (push PLACEHOLDER 0 (link k (suc kind) m')) ≡ linked ask ts b q k m
+  pub link_last : (kind : ℕ) (a : Ans) → is_again a ≡ false → record { ans = a; shape = suc kind; on = m' } ≡ walk ask ts b q m → said a (push PLACEHOLDER 0 (link k (suc kind) m')) ≡ linked ask ts b q k m
   unfolding goes_on by_shape
-  link-last kind a i e =
+  link_last kind a i e =
       let x = link k (suc kind) m' in
       sym (ap (λ (g : Bool). cond (g && ltb (ahead ts m') (ahead ts m)) (links ts (ahead ts m) (walk ask ts b q) (next_marker LINKED_START_NODE (complete k (suc kind) m')) x) (said a (push PLACEHOLDER 0 x))) i)
       ∙ came (record { ans = a; shape = suc kind; on = m' }) e
 
   -- a turn without a kind ends the chain
-  pub link-stop : (a : Ans) → said a m' ≡ walk ask ts b q m → said a (push PLACEHOLDER 0 m') ≡ linked ask ts b q k m
+  pub link_stop : (a : Ans) → said a m' ≡ walk ask ts b q m → said a (push PLACEHOLDER 0 m') ≡ linked ask ts b q k m
   unfolding by_shape
-  link-stop a e = came (said a m') e
+  link_stop a e = came (said a m') e
 
 module _ (ask : Rule → Machine → Walked) (ts : List Token) (b : Span) (p q : Prog) (m m' : Machine) where
   -- the first program answers again: the links follow
-  pub chain-on : said again m' ≡ walk ask ts b p (push PLACEHOLDER 0 m) → linked ask ts b q (next_marker START_NODE m) m' ≡ walk ask ts b (chain p q) m
+  pub chain_on : said again m' ≡ walk ask ts b p (push PLACEHOLDER 0 m) → linked ask ts b q (next_marker START_NODE m) m' ≡ walk ask ts b (chain p q) m
   unfolding walk chained linked is_again
-  chain-on e = ap (chained ts (walk ask ts b q) (next_marker START_NODE m)) e
+  chain_on e = ap (chained ts (walk ask ts b q) (next_marker START_NODE m)) e
 
   -- it answers anything else: there are none
-  pub chain-off : (a : Ans) → is_again a ≡ false → said a m' ≡ walk ask ts b p (push PLACEHOLDER 0 m) → said a (push PLACEHOLDER 0 m') ≡ walk ask ts b (chain p q) m
+  pub chain_off : (a : Ans) → is_again a ≡ false → said a m' ≡ walk ask ts b p (push PLACEHOLDER 0 m) → said a (push PLACEHOLDER 0 m') ≡ walk ask ts b (chain p q) m
   unfolding walk chained
-  chain-off a i e =
+  chain_off a i e =
       sym (ap (λ (g : Bool). cond g (links ts (suc (ahead ts m')) (walk ask ts b q) (next_marker START_NODE m) m') (said a (push PLACEHOLDER 0 m'))) i)
       ∙ ap (chained ts (walk ask ts b q) (next_marker START_NODE m)) e

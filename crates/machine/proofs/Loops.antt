@@ -12,7 +12,7 @@ use Rattle.machine.specs.Machine.{Machine, rest}
 use Rattle.machine.specs.Walk.{Walked, said}
 use Rattle.machine.specs.Walk as W
 use Rattle.machine.proofs.Image.{Ground, Inside, rest_is}
-use Rattle.machine.proofs.Sticky.{Sticks, either, s-iter}
+use Rattle.machine.proofs.Sticky.{Sticks, either, s_iter}
 use Rattle.machine.proofs.Meets.{Sofar, Fitting, stand, Meets, goes, grow, grow_join, Sim, Tracks, Begins, begins_after, meets_then}
 use Rattle.machine.proofs.Taking.{quiet}
 use Rattle.machine.proofs.Sequences.{begins_join}
@@ -48,10 +48,10 @@ module _ (g : Ground) (f : State → Out) (h : Machine → Walked) (t : Tracks g
       subst (λ (x : Sofar). Meets g x u.ans u.shape u.state (W.iter g.tokens n h (stand g (grow c o.made) o.state))) (grow_join c o.made u.made) (more (grow c o.made) o.state fit i)
   turned n more c o false fit i = goes fit i refl
 
-  pub iter-sim : (n : ℕ) → Tracks g (iter n f) (W.iter g.tokens n h)
+  pub iter_sim : (n : ℕ) → Tracks g (iter n f) (W.iter g.tokens n h)
   unfolding iter W.iter replies
-  iter-sim zero c s fit i = quiet g c again 0 s _ fit i refl
-  iter-sim (suc n) c s fit i =
+  iter_sim zero c s fit i = quiet g c again 0 s _ fit i refl
+  iter_sim (suc n) c s fit i =
       let ts = g.tokens in
       let M = stand g c s in
       let o = f s in
@@ -66,9 +66,9 @@ module _ (g : Ground) (f : State → Out) (h : Machine → Walked) (t : Tracks g
       (t c s fit i)
       (λ fit₁ i₁ e. subst (λ (v : Walked). Meets g end D.ans D.shape D.state (out (W.goes_on ts M v) v)) (sym e)
       (subst (λ (x : Bool). Meets g end D.ans D.shape D.state (out x (record { ans = o.ans; shape = o.shape; on = stand g (grow c o.made) o.state }))) (sym (goes_on_is g c (grow c o.made) s o i i₁))
-      (turned n (iter-sim n) c o b fit₁ i₁)))
-      (λ r q. either ts r (W.goes_on ts M w) (W.iter ts n h w.on) (said w.ans w.on) (s-iter ts r n h (st r) w.on q) q)
+      (turned n (iter_sim n) c o b fit₁ i₁)))
+      (λ r q. either ts r (W.goes_on ts M w) (W.iter ts n h w.on) (said w.ans w.on) (s_iter ts r n h (st r) w.on q) q)
 
-  pub loop-sim : Tracks g (λ s. iter (suc (length s.rest)) f s) (λ m. W.iter g.tokens (suc (length (rest g.tokens m))) h m)
-  loop-sim c s fit i =
-      subst (λ (n : ℕ). Sim g c (iter (suc (length s.rest)) f s) (W.iter g.tokens (suc n) h (stand g c s))) (sym (left_is g c s i)) (iter-sim (suc (length s.rest)) c s fit i)
+  pub loop_sim : Tracks g (λ s. iter (suc (length s.rest)) f s) (λ m. W.iter g.tokens (suc (length (rest g.tokens m))) h m)
+  loop_sim c s fit i =
+      subst (λ (n : ℕ). Sim g c (iter (suc (length s.rest)) f s) (W.iter g.tokens (suc n) h (stand g c s))) (sym (left_is g c s i)) (iter_sim (suc (length s.rest)) c s fit i)

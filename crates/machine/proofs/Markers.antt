@@ -23,9 +23,9 @@ use Rattle.machine.specs.Encode.{start_tag}
 use Rattle.machine.specs.Outcome.{Refused}
 use Rattle.machine.proofs.Coded.{coded, coded_join, coded_length}
 use Rattle.machine.proofs.Image.{Ground, image, rows_of, Inside}
-use Rattle.machine.proofs.Stores.{complete-is, precede-fits, precede-full}
-use Rattle.machine.proofs.Sticky.{Sticks, s-closed}
-use Rattle.machine.proofs.Meets.{Sofar, Fitting, stand, Meets, goes, stop, grow, Tracks, room_at_first, Begins, begins_with, begins_then, begins_after, put, same_sofar, no_report, refused_event, event-full, event_fits, push-meets, meets_then}
+use Rattle.machine.proofs.Stores.{complete_is, precede_fits, precede_full}
+use Rattle.machine.proofs.Sticky.{Sticks, s_closed}
+use Rattle.machine.proofs.Meets.{Sofar, Fitting, stand, Meets, goes, stop, grow, Tracks, room_at_first, Begins, begins_with, begins_then, begins_after, put, same_sofar, no_report, refused_event, event_full, event_fits, push_meets, meets_then}
 
 -- ---------------------------------------------------------------- an open marker
 
@@ -78,31 +78,31 @@ module _ (g : Ground) (c : Sofar) (a : Skeleton) (m : ℕ) (i : Skeleton) (s : S
   abbrev l : List Report
   l = reports (opened c a m i).pushed
 
-  pub ignore-sim : Meets g (grow c (ignored m (mark_of s) a i done)) x 0 s (said x (push PLACEHOLDER 0 (stand g (opened c a m i) s)))
-  ignore-sim =
-      subst (λ (y : Sofar). Meets g y x 0 s (said x (push PLACEHOLDER 0 (stand g (opened c a m i) s)))) (opened_ignored c a m i (mark_of s)) (push-meets g (opened c a m i) f s PLACEHOLDER 0 x 0 h)
+  pub ignore_sim : Meets g (grow c (ignored m (mark_of s) a i done)) x 0 s (said x (push PLACEHOLDER 0 (stand g (opened c a m i) s)))
+  ignore_sim =
+      subst (λ (y : Sofar). Meets g y x 0 s (said x (push PLACEHOLDER 0 (stand g (opened c a m i) s)))) (opened_ignored c a m i (mark_of s)) (push_meets g (opened c a m i) f s PLACEHOLDER 0 x 0 h)
 
-  pub complete-sim : (k : Marker) (kind : ℕ) → k.index ≡ length (c.numbers ++ coded true a) → k.tag ≡ start_tag a
+  pub complete_sim : (k : Marker) (kind : ℕ) → k.index ≡ length (c.numbers ++ coded true a) → k.tag ≡ start_tag a
       → Meets g (grow c (node kind m (mark_of s) a i done)) x 0 s (said x (complete k kind (stand g (opened c a m i) s)))
-  complete-sim k kind e t =
+  complete_sim k kind e t =
       let p = c.numbers ++ coded true a in
       let q : (y z : ℕ) → p ++ (y ∷ z ∷ 0 ∷ coded false i) ≡ c.numbers ++ (coded true a ++ (y ∷ z ∷ 0 ∷ coded false i)) = λ y z. append_assoc c.numbers (coded true a) (y ∷ z ∷ 0 ∷ coded false i) in
       let n : length (opened c a m i).numbers ≡ length (started c a m i kind).numbers = simp length-append in
       let is : complete k kind (stand g (opened c a m i) s) ≡ push FINISH_NODE 0 (stand g (started c a m i kind) s) =
       ap (λ (u : List ℕ). complete k kind (image g u l s)) (sym (q 0 0))
-      ∙ complete-is g l s p (coded false i) k kind e (subst (λ (u : List ℕ). length u ≤ length g.events) (sym (q 0 0)) f.events)
+      ∙ complete_is g l s p (coded false i) k kind e (subst (λ (u : List ℕ). length u ≤ length g.events) (sym (q 0 0)) f.events)
       ∙ ap (λ (y : ℕ). push FINISH_NODE 0 (image g (p ++ (y ∷ kind ∷ 0 ∷ coded false i)) l s)) t
       ∙ ap (λ (u : List ℕ). push FINISH_NODE 0 (image g u l s)) (q (start_tag a) kind) in
       subst (λ (w : Machine). Meets g (grow c (node kind m (mark_of s) a i done)) x 0 s (said x w)) (sym is)
       (subst (λ (y : Sofar). Meets g y x 0 s (said x (push FINISH_NODE 0 (stand g (started c a m i kind) s)))) (started_node c a m i kind (mark_of s))
-      (push-meets g (started c a m i kind) (fitting_alike g (opened c a m i).numbers (started c a m i kind).numbers (opened c a m i).pushed n f) s FINISH_NODE 0 x 0 h))
+      (push_meets g (started c a m i kind) (fitting_alike g (opened c a m i).numbers (started c a m i kind).numbers (opened c a m i).pushed n f) s FINISH_NODE 0 x 0 h))
 
   -- completed or ignored
-  pub close-sim : (k : Marker) (shape : ℕ) → k.index ≡ length (c.numbers ++ coded true a) → k.tag ≡ start_tag a
+  pub close_sim : (k : Marker) (shape : ℕ) → k.index ≡ length (c.numbers ++ coded true a) → k.tag ≡ start_tag a
       → Meets g (grow c (closed shape m (mark_of s) a i)) x 0 s (W.marked k (record { ans = x; shape = shape; on = stand g (opened c a m i) s }))
   unfolding closed W.marked close
-  close-sim k zero e t = ignore-sim
-  close-sim k (suc n) e t = complete-sim k (suc n) e t
+  close_sim k zero e t = ignore_sim
+  close_sim k (suc n) e t = complete_sim k (suc n) e t
 
 -- ---------------------------------------------------------------- mark
 
@@ -130,15 +130,15 @@ mark_sim g f h t st c s fit i =
     let b₁ : Begins (opened c done m done).pushed mid.pushed = begins_after c.pushed (event m ∷ []) (event m ∷ pushes o.made) (begins_with (event m ∷ []) (pushes o.made)) in
     meets_then g (opened c done m done) end yes o.ans 0 0 s o.state (said yes (push PLACEHOLDER 0 M)) w
     (begins_then (opened c done m done).pushed mid.pushed end.pushed b₁ b₂)
-    (push-meets g c fit s PLACEHOLDER 0 yes 0 i)
+    (push_meets g c fit s PLACEHOLDER 0 yes 0 i)
     (λ fit₁ i₁ e₁.
     meets_then g mid end o.ans o.ans o.shape 0 o.state o.state (h (push PLACEHOLDER 0 M)) w b₂
     (subst (λ (v : Walked). Meets g mid o.ans o.shape o.state (h v.on)) (sym e₁)
     (subst (λ (y : Sofar). Meets g y o.ans o.shape o.state (h (stand g (opened c done m done) s))) (opened_grow c done m done o.made) (t (opened c done m done) s fit₁ i₁)))
     (λ fit₂ i₂ e₂. subst (λ (v : Walked). Meets g end o.ans 0 o.state (W.marked k v)) (sym e₂)
-    (close-sim g c done m o.made o.state fit₂ i₂ o.ans k o.shape (start_index g c s) refl))
-    (λ r q. s-closed g.tokens r k (h (push PLACEHOLDER 0 M)) q))
-    (λ r q. s-closed g.tokens r k (h (push PLACEHOLDER 0 M)) (st r (push PLACEHOLDER 0 M) q))
+    (close_sim g c done m o.made o.state fit₂ i₂ o.ans k o.shape (start_index g c s) refl))
+    (λ r q. s_closed g.tokens r k (h (push PLACEHOLDER 0 M)) q))
+    (λ r q. s_closed g.tokens r k (h (push PLACEHOLDER 0 M)) (st r (push PLACEHOLDER 0 M) q))
 
 -- ---------------------------------------------------------------- precede
 
@@ -162,39 +162,39 @@ module _ (g : Ground) (c : Sofar) (kind m m' : ℕ) (a i : Skeleton) (s : State)
   next = opened c N (mark_of s) done
 
   -- what is pushed is pushed after
-  pushed-is : (grow c N).pushed ++ (event (mark_of s) ∷ []) ≡ next.pushed
+  pushed_is : (grow c N).pushed ++ (event (mark_of s) ∷ []) ≡ next.pushed
   unfolding pushes
-  pushed-is = append_assoc c.pushed (pushes N) (event (mark_of s) ∷ [])
+  pushed_is = append_assoc c.pushed (pushes N) (event (mark_of s) ∷ [])
 
-  precede-is : length (grow c N).numbers + EVENT_ROW ≤ length g.events → precede k (stand g (grow c N) s) ≡ stand g next s
+  precede_is : length (grow c N).numbers + EVENT_ROW ≤ length g.events → precede k (stand g (grow c N) s) ≡ stand g next s
   unfolding coded pushes
-  precede-is enough =
+  precede_is enough =
       let p = c.numbers ++ coded true a in
       let fi = coded false i ++ (FINISH_NODE ∷ 0 ∷ 0 ∷ []) in
       let q : (z : ℕ) → p ++ (start_tag a ∷ kind ∷ z ∷ fi) ≡ c.numbers ++ (coded true a ++ (start_tag a ∷ kind ∷ z ∷ fi)) = λ z. append_assoc c.numbers (coded true a) (start_tag a ∷ kind ∷ z ∷ fi) in
-      let r : reports (grow c N).pushed ≡ reports next.pushed = sym (no_report (grow c N).pushed (mark_of s)) ∙ ap reports pushed-is in
+      let r : reports (grow c N).pushed ≡ reports next.pushed = sym (no_report (grow c N).pushed (mark_of s)) ∙ ap reports pushed_is in
       let d = low (suc (suc (length (events false i)))) in
       ap (λ (u : List ℕ). precede k (image g u lp s)) (sym (q 0))
-      ∙ precede-fits g lp s p fi (start_tag a) kind 0 k e (subst (λ (u : List ℕ). length u + EVENT_ROW ≤ length g.events) (sym (q 0)) enough)
+      ∙ precede_fits g lp s p fi (start_tag a) kind 0 k e (subst (λ (u : List ℕ). length u + EVENT_ROW ≤ length g.events) (sym (q 0)) enough)
       ∙ ap (λ (z : ℕ). image g ((p ++ (start_tag a ∷ kind ∷ low z ∷ fi)) ++ (PLACEHOLDER ∷ 0 ∷ 0 ∷ [])) lp s) (distance i)
       ∙ ap (λ (u : List ℕ). image g (u ++ (PLACEHOLDER ∷ 0 ∷ 0 ∷ [])) lp s) (q d)
       ∙ ap (λ (u : List ℕ). image g u lp s) (append_assoc c.numbers (coded true a ++ (start_tag a ∷ kind ∷ d ∷ fi)) (PLACEHOLDER ∷ 0 ∷ 0 ∷ []))
       ∙ ap (λ (u : List Report). image g next.numbers u s) r
 
-  precede-fitting : length (grow c N).numbers + EVENT_ROW ≤ length g.events → Fitting g next
+  precede_fitting : length (grow c N).numbers + EVENT_ROW ≤ length g.events → Fitting g next
   unfolding coded
-  precede-fitting enough =
+  precede_fitting enough =
       let n : length ((grow c N).numbers ++ (PLACEHOLDER ∷ 0 ∷ 0 ∷ [])) ≡ length next.numbers = simp length-append (omega arith) in
-      subst (λ (u : List Push). Fitting g (record { numbers = next.numbers; pushed = u })) pushed-is
+      subst (λ (u : List Push). Fitting g (record { numbers = next.numbers; pushed = u })) pushed_is
       (fitting_alike g ((grow c N).numbers ++ (PLACEHOLDER ∷ 0 ∷ 0 ∷ [])) next.numbers ((grow c N).pushed ++ (event (mark_of s) ∷ [])) n (event_fits g (grow c N) f PLACEHOLDER 0 0 (mark_of s) enough))
 
-  pub precede-sim : Meets g next x 0 s (said x (precede k (stand g (grow c N) s)))
-  precede-sim = by-fit (leb (length (grow c N).numbers + EVENT_ROW) (length g.events)) refl
+  pub precede_sim : Meets g next x 0 s (said x (precede k (stand g (grow c N) s)))
+  precede_sim = by_fit (leb (length (grow c N).numbers + EVENT_ROW) (length g.events)) refl
     where
-      by-fit : (b : Bool) → leb (length (grow c N).numbers + EVENT_ROW) (length g.events) ≡ b → Meets g next x 0 s (said x (precede k (stand g (grow c N) s)))
-      by-fit true q = let enough : length (grow c N).numbers + EVENT_ROW ≤ length g.events = leb-true _ _ q in goes (precede-fitting enough) h (ap (λ (w : Machine). said x w) (precede-is enough))
-      by-fit false q =
+      by_fit : (b : Bool) → leb (length (grow c N).numbers + EVENT_ROW) (length g.events) ≡ b → Meets g next x 0 s (said x (precede k (stand g (grow c N) s)))
+      by_fit true q = let enough : length (grow c N).numbers + EVENT_ROW ≤ length g.events = leb-true _ _ q in goes (precede_fitting enough) h (ap (λ (w : Machine). said x w) (precede_is enough))
+      by_fit false q =
           let full : length g.events < length (grow c N).numbers + EVENT_ROW = leb-false _ _ q in
           stop (no_event_room (mark_of s))
-          (ap (λ (u : List Push). scan u (room_at_first g)) (sym pushed-is) ∙ event-full g (grow c N) f (mark_of s) full)
-          (subst (Refused g.tokens (no_event_room (mark_of s))) (sym (precede-full g lp s (grow c N).numbers k f.events full)) (refused_event g (grow c N).numbers lp s))
+          (ap (λ (u : List Push). scan u (room_at_first g)) (sym pushed_is) ∙ event_full g (grow c N) f (mark_of s) full)
+          (subst (Refused g.tokens (no_event_room (mark_of s))) (sym (precede_full g lp s (grow c N).numbers k f.events full)) (refused_event g (grow c N).numbers lp s))

@@ -23,7 +23,7 @@ use Rattle.machine.specs.Walk.{Walked}
 use Rattle.machine.specs.Outcome.{Refused, room_in}
 use Rattle.machine.proofs.Coded.{coded, coded_join}
 use Rattle.machine.proofs.Image.{Ground, image, rows_of, Inside}
-use Rattle.machine.proofs.Stores.{push-fits, push-full}
+use Rattle.machine.proofs.Stores.{push_fits, push_full}
 
 pub record Sofar : Type 0 where
   pub numbers : List ℕ
@@ -111,9 +111,9 @@ unfolding refuse image number_of place_of forward_mark
 refused_event g e l s = record { refusal = refl; some = omega arith; place = refl }
 
 module _ (g : Ground) (c : Sofar) (f : Fitting g c) where
-  pub event-full : (m : ℕ) → length g.events < length c.numbers + EVENT_ROW → scan (c.pushed ++ (event m ∷ [])) (room_at_first g) ≡ stops (no_event_room m)
+  pub event_full : (m : ℕ) → length g.events < length c.numbers + EVENT_ROW → scan (c.pushed ++ (event m ∷ [])) (room_at_first g) ≡ stops (no_event_room m)
   unfolding scan one_event
-  event-full m h =
+  event_full m h =
       let n : (length g.events - length c.numbers) / EVENT_ROW ≡ 0 = omega (arith, f.events) in
       scan_append c.pushed (event m ∷ []) (room_at_first g)
       ∙ ap (λ (x : Fit). and_then x (scan (event m ∷ []))) f.room
@@ -138,21 +138,21 @@ module _ (g : Ground) (c : Sofar) (f : Fitting g c) where
       }
 
   -- an event pushed, or refusal 6
-  pub push-meets : (s : State) (tag v : ℕ) (a : Ans) (k : ℕ) → Inside g s → Meets g (put c tag v 0 (mark_of s)) a k s (record { ans = a; shape = k; on = push tag v (stand g c s) })
-  push-meets s tag v a k i = by-fit (leb (length c.numbers + EVENT_ROW) (length g.events)) refl
+  pub push_meets : (s : State) (tag v : ℕ) (a : Ans) (k : ℕ) → Inside g s → Meets g (put c tag v 0 (mark_of s)) a k s (record { ans = a; shape = k; on = push tag v (stand g c s) })
+  push_meets s tag v a k i = by_fit (leb (length c.numbers + EVENT_ROW) (length g.events)) refl
     where
-      said-so : Machine → Walked
-      said-so m = record { ans = a; shape = k; on = m }
+      said_so : Machine → Walked
+      said_so m = record { ans = a; shape = k; on = m }
 
-      by-fit : (b : Bool) → leb (length c.numbers + EVENT_ROW) (length g.events) ≡ b → Meets g (put c tag v 0 (mark_of s)) a k s (said-so (push tag v (stand g c s)))
-      by-fit true e =
+      by_fit : (b : Bool) → leb (length c.numbers + EVENT_ROW) (length g.events) ≡ b → Meets g (put c tag v 0 (mark_of s)) a k s (said_so (push tag v (stand g c s)))
+      by_fit true e =
           let h : length c.numbers + EVENT_ROW ≤ length g.events = leb-true _ _ e in
           goes (event_fits tag v 0 (mark_of s) h) i
-          (ap said-so (push-fits g (reports c.pushed) s c.numbers tag v h ∙ ap (λ (u : List Report). image g (c.numbers ++ (tag ∷ v ∷ 0 ∷ [])) u s) (sym (no_report c.pushed (mark_of s)))))
-      by-fit false e =
+          (ap said_so (push_fits g (reports c.pushed) s c.numbers tag v h ∙ ap (λ (u : List Report). image g (c.numbers ++ (tag ∷ v ∷ 0 ∷ [])) u s) (sym (no_report c.pushed (mark_of s)))))
+      by_fit false e =
           let h : length g.events < length c.numbers + EVENT_ROW = leb-false _ _ e in
-          stop (no_event_room (mark_of s)) (event-full (mark_of s) h)
-          (subst (Refused g.tokens (no_event_room (mark_of s))) (sym (push-full g (reports c.pushed) s c.numbers tag v f.events h)) (refused_event g c.numbers (reports c.pushed) s))
+          stop (no_event_room (mark_of s)) (event_full (mark_of s) h)
+          (subst (Refused g.tokens (no_event_room (mark_of s))) (sym (push_full g (reports c.pushed) s c.numbers tag v f.events h)) (refused_event g c.numbers (reports c.pushed) s))
 
 -- ---------------------------------------------------------------- one after the other
 

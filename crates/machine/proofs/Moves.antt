@@ -14,7 +14,7 @@ use Rattle.basics.proofs.Tests.{cond-all}
 use Rattle.basics.specs.Word.{low}
 use Rattle.machine.specs.Machine.{Machine, rest, skip, peek, name_stretch}
 use Rattle.machine.proofs.Suffix.{Suffix, suffix_tail, suffix_length}
-use Rattle.machine.proofs.Image.{Ground, image, Inside, moved, rest_is, pass-is, took-is}
+use Rattle.machine.proofs.Image.{Ground, image, Inside, moved, rest_is, pass_is, took_is}
 
 -- ---------------------------------------------------------------- past trivia
 
@@ -22,7 +22,7 @@ pub skip_is : (g : Ground) (e : List ℕ) (l : List Report) (s : State) (ts : Li
 unfolding skip drop_trivia
 skip_is g e l s [] p = refl
 skip_is g e l s (t ∷ ts) p =
-    ap (λ (m : Machine). cond (trivia t) (skip ts m) (image g e l (moved s (t ∷ ts)))) (pass-is g e l s t ts p)
+    ap (λ (m : Machine). cond (trivia t) (skip ts m) (image g e l (moved s (t ∷ ts)))) (pass_is g e l s t ts p)
     ∙ ap (λ (m : Machine). cond (trivia t) m (image g e l (moved s (t ∷ ts)))) (skip_is g e l s ts (suffix_tail g.tokens ts t p))
     ∙ pick (trivia t)
   where
@@ -54,7 +54,7 @@ pub name_run_is : (g : Ground) (e : List ℕ) (l : List Report) (ks : List ℕ) 
 unfolding name_stretch stretch_of
 name_run_is g e l ks [] p = refl
 name_run_is g e l ks (t ∷ ts) p =
-    ap (λ (m : Machine). cond (one_of ks (seen t)) (name_stretch ks ts m) (image g e l (taken (t ∷ ts)))) (took-is g e l (taken (t ∷ ts)) t ts p)
+    ap (λ (m : Machine). cond (one_of ks (seen t)) (name_stretch ks ts m) (image g e l (taken (t ∷ ts)))) (took_is g e l (taken (t ∷ ts)) t ts p)
     ∙ ap (λ (m : Machine). cond (one_of ks (seen t)) m (image g e l (taken (t ∷ ts)))) (name_run_is g e l ks ts (suffix_tail g.tokens ts t p))
     ∙ pick (one_of ks (seen t))
   where

@@ -18,15 +18,15 @@ use Rattle.machine.specs.Machine.{Machine, rest}
 use Rattle.machine.specs.Walk.{Walked, walk, walk_rule}
 use Rattle.machine.specs.Walk as W
 use Rattle.machine.proofs.Image.{Ground}
-use Rattle.machine.proofs.Sticky.{Sticks, s-walk, s-rule}
+use Rattle.machine.proofs.Sticky.{Sticks, s_walk, s_rule}
 use Rattle.machine.proofs.Meets.{stand, Sim, Tracks}
 use Rattle.machine.proofs.Taking.{peek_sim, here_sim, fixed_sim, over_sim, expected_sim, bump_sim, bump_name_sim}
 use Rattle.machine.proofs.Emitting.{span_of, here_is, emit_sim}
 use Rattle.machine.proofs.Arguments.{argument_sim}
 use Rattle.machine.proofs.Sequences.{seq_sim, case_sim}
 use Rattle.machine.proofs.Markers.{mark_sim}
-use Rattle.machine.proofs.Loops.{loop-sim}
-use Rattle.machine.proofs.Chains.{chain-sim}
+use Rattle.machine.proofs.Loops.{loop_sim}
+use Rattle.machine.proofs.Chains.{chain_sim}
 
 -- a label, in the machine's numbers
 abbrev pub lab : Ground → Label → Span
@@ -48,35 +48,35 @@ act_sim g b (less m n) e = fixed_sim g (truth (ltb m n)) 0
 
 module _ (g : Ground) (ask : Rule → State → Out) (ask' : Rule → Machine → Walked) (calls : (r : Rule) → Tracks g (ask r) (ask' r)) (stuck : (r : Rule) → Sticks g.tokens (ask' r)) where
   sticks : (b : Span) (p : Prog) → Sticks g.tokens (walk ask' g.tokens b p)
-  sticks b p r m q = s-walk g.tokens r ask' (λ c x h. stuck c r x h) b p m q
+  sticks b p r m q = s_walk g.tokens r ask' (λ c x h. stuck c r x h) b p m q
 
-  pub exec-sim : (b : Label) (p : Prog) → only any_kind expects_codes p ≡ true → Tracks g (exec ask b p) (walk ask' g.tokens (lab g b) p)
+  pub exec_sim : (b : Label) (p : Prog) → only any_kind expects_codes p ≡ true → Tracks g (exec ask b p) (walk ask' g.tokens (lab g b) p)
   unfolding exec walk only
-  exec-sim b (ret k a) e c s f i = fixed_sim g a k c s f i
-  exec-sim b (act a) e c s f i = act_sim g b a e c s f i
-  exec-sim b (p ⨟ q) e c s f i =
-      seq_sim g c (exec ask b p s) (walk ask' g.tokens (lab g b) p (stand g c s)) (exec ask b q) (walk ask' g.tokens (lab g b) q) (exec-sim b p (and_left _ _ e) c s f i) (exec-sim b q (and_right (only any_kind expects_codes p) _ e)) (sticks (lab g b) q)
-  exec-sim b (case x n y a) e c s f i =
+  exec_sim b (ret k a) e c s f i = fixed_sim g a k c s f i
+  exec_sim b (act a) e c s f i = act_sim g b a e c s f i
+  exec_sim b (p ⨟ q) e c s f i =
+      seq_sim g c (exec ask b p s) (walk ask' g.tokens (lab g b) p (stand g c s)) (exec ask b q) (walk ask' g.tokens (lab g b) q) (exec_sim b p (and_left _ _ e) c s f i) (exec_sim b q (and_right (only any_kind expects_codes p) _ e)) (sticks (lab g b) q)
+  exec_sim b (case x n y a) e c s f i =
       let e₁ = and_right (only any_kind expects_codes x) _ e in
       let e₂ = and_right (only any_kind expects_codes n) _ e₁ in
       case_sim g c (exec ask b x s) (walk ask' g.tokens (lab g b) x (stand g c s)) (exec ask b n) (exec ask b y) (exec ask b a)
       (walk ask' g.tokens (lab g b) n) (walk ask' g.tokens (lab g b) y) (walk ask' g.tokens (lab g b) a)
-      (exec-sim b x (and_left _ _ e) c s f i) (exec-sim b n (and_left _ _ e₁)) (exec-sim b y (and_left _ _ e₂)) (exec-sim b a (and_right (only any_kind expects_codes y) _ e₂)) (sticks (lab g b) n) (sticks (lab g b) y) (sticks (lab g b) a)
-  exec-sim b (in_marker p) e c s f i = mark_sim g (exec ask b p) (walk ask' g.tokens (lab g b) p) (exec-sim b p e) (sticks (lab g b) p) c s f i
-  exec-sim b (loop p) e c s f i = loop-sim g (exec ask b p) (walk ask' g.tokens (lab g b) p) (exec-sim b p e) (sticks (lab g b) p) c s f i
-  exec-sim b (chain p q) e c s f i =
-      chain-sim g (exec ask b q) (exec ask b p) (walk ask' g.tokens (lab g b) q) (walk ask' g.tokens (lab g b) p) (exec-sim b q (and_right (only any_kind expects_codes p) _ e)) (sticks (lab g b) q) (exec-sim b p (and_left _ _ e)) (sticks (lab g b) p) c s f i
-  exec-sim b (brace p) e c s f i =
-      subst (λ (x : Span). Sim g c (exec ask (here s.rest) p s) (walk ask' g.tokens x p (stand g c s))) (sym (here_is g c.numbers (reports c.pushed) s i)) (exec-sim (here s.rest) p e c s f i)
-  exec-sim b (open_call r) e c s f i = calls r c s f i
+      (exec_sim b x (and_left _ _ e) c s f i) (exec_sim b n (and_left _ _ e₁)) (exec_sim b y (and_left _ _ e₂)) (exec_sim b a (and_right (only any_kind expects_codes y) _ e₂)) (sticks (lab g b) n) (sticks (lab g b) y) (sticks (lab g b) a)
+  exec_sim b (in_marker p) e c s f i = mark_sim g (exec ask b p) (walk ask' g.tokens (lab g b) p) (exec_sim b p e) (sticks (lab g b) p) c s f i
+  exec_sim b (loop p) e c s f i = loop_sim g (exec ask b p) (walk ask' g.tokens (lab g b) p) (exec_sim b p e) (sticks (lab g b) p) c s f i
+  exec_sim b (chain p q) e c s f i =
+      chain_sim g (exec ask b q) (exec ask b p) (walk ask' g.tokens (lab g b) q) (walk ask' g.tokens (lab g b) p) (exec_sim b q (and_right (only any_kind expects_codes p) _ e)) (sticks (lab g b) q) (exec_sim b p (and_left _ _ e)) (sticks (lab g b) p) c s f i
+  exec_sim b (brace p) e c s f i =
+      subst (λ (x : Span). Sim g c (exec ask (here s.rest) p s) (walk ask' g.tokens x p (stand g c s))) (sym (here_is g c.numbers (reports c.pushed) s i)) (exec_sim (here s.rest) p e c s f i)
+  exec_sim b (open_call r) e c s f i = calls r c s f i
 
 -- a rule, with any number of open calls left
 pub run_sim : (g : Ground) (n : ℕ) (r : Rule) → Tracks g (run n r) (walk_rule n g.tokens r)
 unfolding run walk_rule expects
 run_sim g zero r c s f i = over_sim g c s f i
-run_sim g (suc n) r c s f i = exec-sim g (run n) (walk_rule n g.tokens) (run_sim g n) (λ x q m h. s-rule g.tokens q n x m h) no_label (grammar r) (grammar_expects r) c s f i
+run_sim g (suc n) r c s f i = exec_sim g (run n) (walk_rule n g.tokens) (run_sim g n) (λ x q m h. s_rule g.tokens q n x m h) no_label (grammar r) (grammar_expects r) c s f i
 
 -- a program, with any number of open calls left
 pub prog_sim : (g : Ground) (n : ℕ) (b : Label) (p : Prog) → expects p ≡ true → Tracks g (exec (run n) b p) (W.walk_prog n g.tokens (lab g b) p)
 unfolding W.walk_prog expects
-prog_sim g n b p e = exec-sim g (run n) (walk_rule n g.tokens) (run_sim g n) (λ x q m h. s-rule g.tokens q n x m h) b p e
+prog_sim g n b p e = exec_sim g (run n) (walk_rule n g.tokens) (run_sim g n) (λ x q m h. s_rule g.tokens q n x m h) b p e

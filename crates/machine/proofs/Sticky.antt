@@ -42,178 +42,178 @@ module _ (ts : List Token) (r : Refusal) where
 
   -- ---------------------------------------------------------------- primitives
 
-  s-skip : (l : List Token) (m : Machine) → Refused ts r m → Refused ts r (skip l m)
+  s_skip : (l : List Token) (m : Machine) → Refused ts r m → Refused ts r (skip l m)
   unfolding skip
-  s-skip [] m h = h
-  s-skip (t ∷ l) m h = cond-all (Refused ts r) (trivia t) {x = skip l (passed t m)} {y = m} (s-skip l (passed t m) (record { refusal = h.refusal; some = h.some; place = h.place })) h
+  s_skip [] m h = h
+  s_skip (t ∷ l) m h = cond-all (Refused ts r) (trivia t) {x = skip l (passed t m)} {y = m} (s_skip l (passed t m) (record { refusal = h.refusal; some = h.some; place = h.place })) h
 
-  s-peek : (m : Machine) → Refused ts r m → Refused ts r (peek ts m)
+  s_peek : (m : Machine) → Refused ts r m → Refused ts r (peek ts m)
   unfolding peek
-  s-peek m h = s-skip (rest ts m) m h
+  s_peek m h = s_skip (rest ts m) m h
 
-  s-refuse : (n : ℕ) (m : Machine) → Refused ts r m → Refused ts r (refuse n m)
+  s_refuse : (n : ℕ) (m : Machine) → Refused ts r m → Refused ts r (refuse n m)
   unfolding refuse
-  s-refuse n m h = let i : Refused ts r (cond (eqb m.refusal 0) (with_refusal n m.mark m) m) = idle m (with_refusal n m.mark m) h in record { refusal = i.refusal; some = i.some; place = i.place }
+  s_refuse n m h = let i : Refused ts r (cond (eqb m.refusal 0) (with_refusal n m.mark m) m) = idle m (with_refusal n m.mark m) h in record { refusal = i.refusal; some = i.some; place = i.place }
 
-  s-expect : (k : ℕ) (m : Machine) → Refused ts r m → Refused ts r (expect_code k m)
+  s_expect : (k : ℕ) (m : Machine) → Refused ts r m → Refused ts r (expect_code k m)
   unfolding expect_code
-  s-expect k m h = record { refusal = h.refusal; some = h.some; place = h.place }
+  s_expect k m h = record { refusal = h.refusal; some = h.some; place = h.place }
 
-  pub s-push : (tag v : ℕ) (m : Machine) → Refused ts r m → Refused ts r (push tag v m)
+  pub s_push : (tag v : ℕ) (m : Machine) → Refused ts r m → Refused ts r (push tag v m)
   unfolding push
-  s-push tag v m h = idle m (push_row tag v m) h
+  s_push tag v m h = idle m (push_row tag v m) h
 
-  pub s-complete : (k : Marker) (kind : ℕ) (m : Machine) → Refused ts r m → Refused ts r (complete k kind m)
+  pub s_complete : (k : Marker) (kind : ℕ) (m : Machine) → Refused ts r m → Refused ts r (complete k kind m)
   unfolding complete
-  s-complete k kind m h = idle m _ h
+  s_complete k kind m h = idle m _ h
 
-  pub s-precede : (k : Marker) (m : Machine) → Refused ts r m → Refused ts r (precede k m)
+  pub s_precede : (k : Marker) (m : Machine) → Refused ts r m → Refused ts r (precede k m)
   unfolding precede
-  s-precede k m h = idle (push PLACEHOLDER 0 m) _ (s-push PLACEHOLDER 0 m h)
+  s_precede k m h = idle (push PLACEHOLDER 0 m) _ (s_push PLACEHOLDER 0 m h)
 
-  pub s-link : (k : Marker) (kind : ℕ) (m : Machine) → Refused ts r m → Refused ts r (link k kind m)
+  pub s_link : (k : Marker) (kind : ℕ) (m : Machine) → Refused ts r m → Refused ts r (link k kind m)
   unfolding link
-  s-link k kind m h = s-precede k (complete k kind m) (s-complete k kind m h)
+  s_link k kind m h = s_precede k (complete k kind m) (s_complete k kind m h)
 
   -- ---------------------------------------------------------------- actions
 
-  s-first : (l : List Token) (m : Machine) → Refused ts r m → Refused ts r (bump_first l m)
+  s_first : (l : List Token) (m : Machine) → Refused ts r m → Refused ts r (bump_first l m)
   unfolding bump_first
-  s-first [] m h = h
-  s-first (t ∷ l) m h = s-push ADD_TOKEN 0 (took t m) (record { refusal = h.refusal; some = h.some; place = h.place })
+  s_first [] m h = h
+  s_first (t ∷ l) m h = s_push ADD_TOKEN 0 (took t m) (record { refusal = h.refusal; some = h.some; place = h.place })
 
-  s-bump : (m : Machine) → Refused ts r m → Refused ts r (M.bump ts m)
+  s_bump : (m : Machine) → Refused ts r m → Refused ts r (M.bump ts m)
   unfolding M.bump
-  s-bump m h = s-first (rest ts (peek ts m)) (peek ts m) (s-peek m h)
+  s_bump m h = s_first (rest ts (peek ts m)) (peek ts m) (s_peek m h)
 
-  s-run : (ks : List ℕ) (l : List Token) (m : Machine) → Refused ts r m → Refused ts r (name_stretch ks l m)
+  s_run : (ks : List ℕ) (l : List Token) (m : Machine) → Refused ts r m → Refused ts r (name_stretch ks l m)
   unfolding name_stretch
-  s-run ks [] m h = h
-  s-run ks (t ∷ l) m h = cond-all (Refused ts r) (one_of ks (seen t)) {x = name_stretch ks l (took t m)} {y = m} (s-run ks l (took t m) (record { refusal = h.refusal; some = h.some; place = h.place })) h
+  s_run ks [] m h = h
+  s_run ks (t ∷ l) m h = cond-all (Refused ts r) (one_of ks (seen t)) {x = name_stretch ks l (took t m)} {y = m} (s_run ks l (took t m) (record { refusal = h.refusal; some = h.some; place = h.place })) h
 
-  s-name : (ks : List ℕ) (l : List Token) (m : Machine) → Refused ts r m → Refused ts r (name_first ks l m)
+  s_name : (ks : List ℕ) (l : List Token) (m : Machine) → Refused ts r m → Refused ts r (name_first ks l m)
   unfolding name_first
-  s-name ks [] m h = h
-  s-name ks (t ∷ l) m h = s-push ADD_COMBINED_TOKEN _ (name_stretch ks l (took t m)) (s-run ks l (took t m) (record { refusal = h.refusal; some = h.some; place = h.place }))
+  s_name ks [] m h = h
+  s_name ks (t ∷ l) m h = s_push ADD_COMBINED_TOKEN _ (name_stretch ks l (took t m)) (s_run ks l (took t m) (record { refusal = h.refusal; some = h.some; place = h.place }))
 
-  s-bump-name : (ks : List ℕ) (m : Machine) → Refused ts r m → Refused ts r (M.bump_name ks ts m)
+  s_bump_name : (ks : List ℕ) (m : Machine) → Refused ts r m → Refused ts r (M.bump_name ks ts m)
   unfolding M.bump_name
-  s-bump-name ks m h = s-name ks (rest ts (peek ts m)) (peek ts m) (s-peek m h)
+  s_bump_name ks m h = s_name ks (rest ts (peek ts m)) (peek ts m) (s_peek m h)
 
   pub s_write : (n h : ℕ) (range lab : Span) (m : Machine) → Refused ts r m → Refused ts r (write_report n h range lab m)
   unfolding write_report
   s_write n h range lab m i = idle m _ i
 
-  s-emit : (n h : ℕ) (lab : Span) (m : Machine) → Refused ts r m → Refused ts r (M.emit ts n h lab m)
+  s_emit : (n h : ℕ) (lab : Span) (m : Machine) → Refused ts r m → Refused ts r (M.emit ts n h lab m)
   unfolding M.emit
-  s-emit n h lab m i = s_write n h _ lab (push ERROR 0 (peek ts m)) (s-push ERROR 0 (peek ts m) (s-peek m i))
+  s_emit n h lab m i = s_write n h _ lab (push ERROR 0 (peek ts m)) (s_push ERROR 0 (peek ts m) (s_peek m i))
 
   pub either : (b : Bool) (x y : Walked) → Refused ts r x.on → Refused ts r y.on → Refused ts r (cond b x y).on
   either true x y f g = f
   either false x y f g = g
 
-  s-depth : (n : ℕ) (w : Walked) (f : ℕ → Walked) → Refused ts r w.on → ((k : ℕ) → Refused ts r (f k).on) → Refused ts r (at_depth n w f).on
-  s-depth zero w f h g = h
-  s-depth (suc n) w f h g = g n
+  s_depth : (n : ℕ) (w : Walked) (f : ℕ → Walked) → Refused ts r w.on → ((k : ℕ) → Refused ts r (f k).on) → Refused ts r (at_depth n w f).on
+  s_depth zero w f h g = h
+  s_depth (suc n) w f h g = g n
 
-  pub s-argument : (f n : ℕ) (m : Machine) → Refused ts r m → Refused ts r (argument f ts n m).on
+  pub s_argument : (f n : ℕ) (m : Machine) → Refused ts r m → Refused ts r (argument f ts n m).on
   unfolding argument
-  s-argument zero n m h = h
-  s-argument (suc f) n m h =
+  s_argument zero n m h = h
+  s_argument (suc f) n m h =
       let p = peek ts m in
-      let q : Refused ts r p = s-peek m h in
+      let q : Refused ts r p = s_peek m h in
       let go : ℕ → Walked = λ k. argument f ts k (M.bump ts p) in
-      let all : (k : ℕ) → Refused ts r (go k).on = λ k. s-argument f k (M.bump ts p) (s-bump p q) in
+      let all : (k : ℕ) → Refused ts r (go k).on = λ k. s_argument f k (M.bump ts p) (s_bump p q) in
       let bracket = at_depth n (said no p) go in
       let comma = at_depth n (said yes p) (λ k. go (suc k)) in
       let y = cond (first_in (K.Comma ∷ []) (rest ts p)) comma (go n) in
       let x = cond (first_in (K.RParen ∷ []) (rest ts p)) bracket y in
       either (ended (rest ts p)) (said no p) (cond (first_in (K.LParen ∷ []) (rest ts p)) (go (suc n)) x) q
       (either (first_in (K.LParen ∷ []) (rest ts p)) (go (suc n)) x (all (suc n))
-      (either (first_in (K.RParen ∷ []) (rest ts p)) bracket y (s-depth n (said no p) go q all)
-      (either (first_in (K.Comma ∷ []) (rest ts p)) comma (go n) (s-depth n (said yes p) (λ k. go (suc k)) q (λ k. all (suc k))) (all n))))
+      (either (first_in (K.RParen ∷ []) (rest ts p)) bracket y (s_depth n (said no p) go q all)
+      (either (first_in (K.Comma ∷ []) (rest ts p)) comma (go n) (s_depth n (said yes p) (λ k. go (suc k)) q (λ k. all (suc k))) (all n))))
 
-  s-perform : (b : Span) (a : Act) (m : Machine) → Refused ts r m → Refused ts r (perform ts b a m).on
+  s_perform : (b : Span) (a : Act) (m : Machine) → Refused ts r m → Refused ts r (perform ts b a m).on
   unfolding perform
-  s-perform b (silent_at ks) m h = s-peek m h
-  s-perform b at_end m h = s-peek m h
-  s-perform b (immediate k) m h = h
-  s-perform b (immediate_next k) m h = h
-  s-perform b (add_expected k) m h = s-expect k m h
-  s-perform b bump m h = s-bump m h
-  s-perform b (bump_name ks) m h = s-bump-name ks m h
-  s-perform b bump_argument m h = s-argument (suc (length (rest ts m))) 0 m h
-  s-perform b (emit n k) m h = s-emit n k unlabelled m h
-  s-perform b emit_unclosed m h = s-emit E.unclosed_node E.no_hint b m h
-  s-perform b (less l n) m h = h
+  s_perform b (silent_at ks) m h = s_peek m h
+  s_perform b at_end m h = s_peek m h
+  s_perform b (immediate k) m h = h
+  s_perform b (immediate_next k) m h = h
+  s_perform b (add_expected k) m h = s_expect k m h
+  s_perform b bump m h = s_bump m h
+  s_perform b (bump_name ks) m h = s_bump_name ks m h
+  s_perform b bump_argument m h = s_argument (suc (length (rest ts m))) 0 m h
+  s_perform b (emit n k) m h = s_emit n k unlabelled m h
+  s_perform b emit_unclosed m h = s_emit E.unclosed_node E.no_hint b m h
+  s_perform b (less l n) m h = h
 
   -- ---------------------------------------------------------------- programs
 
-  pub s-closed : (k : Marker) (w : Walked) → Refused ts r w.on → Refused ts r (marked k w).on
+  pub s_closed : (k : Marker) (w : Walked) → Refused ts r w.on → Refused ts r (marked k w).on
   unfolding marked close
-  s-closed k w h = by w.shape
+  s_closed k w h = by w.shape
     where
       by : (n : ℕ) → Refused ts r (close k n w.on)
-      by zero = s-push PLACEHOLDER 0 w.on h
-      by (suc n) = s-complete k (suc n) w.on h
+      by zero = s_push PLACEHOLDER 0 w.on h
+      by (suc n) = s_complete k (suc n) w.on h
 
-  s-choose : (a : Ans) (n y z : Machine → Walked) → ((m : Machine) → Refused ts r m → Refused ts r (n m).on) → ((m : Machine) → Refused ts r m → Refused ts r (y m).on) → ((m : Machine) → Refused ts r m → Refused ts r (z m).on)
+  s_choose : (a : Ans) (n y z : Machine → Walked) → ((m : Machine) → Refused ts r m → Refused ts r (n m).on) → ((m : Machine) → Refused ts r m → Refused ts r (y m).on) → ((m : Machine) → Refused ts r m → Refused ts r (z m).on)
       → (m : Machine) → Refused ts r m → Refused ts r (choose a n y z m).on
   unfolding choose
-  s-choose no n y z p q t m h = p m h
-  s-choose yes n y z p q t m h = q m h
-  s-choose also n y z p q t m h = t m h
-  s-choose again n y z p q t m h = q m h
+  s_choose no n y z p q t m h = p m h
+  s_choose yes n y z p q t m h = q m h
+  s_choose also n y z p q t m h = t m h
+  s_choose again n y z p q t m h = q m h
 
-  pub s-iter : (n : ℕ) (f : Machine → Walked) → ((m : Machine) → Refused ts r m → Refused ts r (f m).on) → (m : Machine) → Refused ts r m → Refused ts r (iter ts n f m).on
+  pub s_iter : (n : ℕ) (f : Machine → Walked) → ((m : Machine) → Refused ts r m → Refused ts r (f m).on) → (m : Machine) → Refused ts r m → Refused ts r (iter ts n f m).on
   unfolding iter
-  s-iter zero f k m h = h
-  s-iter (suc n) f k m h = either (goes_on ts m (f m)) (iter ts n f (f m).on) (said (f m).ans (f m).on) (s-iter n f k (f m).on (k m h)) (k m h)
+  s_iter zero f k m h = h
+  s_iter (suc n) f k m h = either (goes_on ts m (f m)) (iter ts n f (f m).on) (said (f m).ans (f m).on) (s_iter n f k (f m).on (k m h)) (k m h)
 
   shaped : (j : ℕ) (x y : Walked) → Refused ts r x.on → Refused ts r y.on → Refused ts r (by_shape j x y).on
   unfolding by_shape
   shaped zero x y f g = f
   shaped (suc j) x y f g = g
 
-  s-turn-with : (n : ℕ) (f : Machine → Walked) → ((k : Marker) (m : Machine) → Refused ts r m → Refused ts r (links ts n f k m).on) → (k : Marker) (m : Machine) (w : Walked) → Refused ts r w.on → Refused ts r (turn ts n f k m w).on
-  s-turn-with n f g k m w h =
+  s_turn_with : (n : ℕ) (f : Machine → Walked) → ((k : Marker) (m : Machine) → Refused ts r m → Refused ts r (links ts n f k m).on) → (k : Marker) (m : Machine) (w : Walked) → Refused ts r w.on → Refused ts r (turn ts n f k m w).on
+  s_turn_with n f g k m w h =
       let x = link k w.shape w.on in
-      let q : Refused ts r x = s-link k w.shape w.on h in
+      let q : Refused ts r x = s_link k w.shape w.on h in
       let next = next_marker LINKED_START_NODE (complete k w.shape w.on) in
       let more = links ts n f next x in
       let last : Walked = said w.ans (push PLACEHOLDER 0 x) in
-      shaped w.shape (said w.ans (push PLACEHOLDER 0 w.on)) (cond (goes_on ts m w) more last) (s-push PLACEHOLDER 0 w.on h)
-      (either (goes_on ts m w) more last (g next x q) (s-push PLACEHOLDER 0 x q))
+      shaped w.shape (said w.ans (push PLACEHOLDER 0 w.on)) (cond (goes_on ts m w) more last) (s_push PLACEHOLDER 0 w.on h)
+      (either (goes_on ts m w) more last (g next x q) (s_push PLACEHOLDER 0 x q))
 
-  pub s-links : (n : ℕ) (f : Machine → Walked) → ((m : Machine) → Refused ts r m → Refused ts r (f m).on) → (k : Marker) (m : Machine) → Refused ts r m → Refused ts r (links ts n f k m).on
+  pub s_links : (n : ℕ) (f : Machine → Walked) → ((m : Machine) → Refused ts r m → Refused ts r (f m).on) → (k : Marker) (m : Machine) → Refused ts r m → Refused ts r (links ts n f k m).on
   unfolding links
-  s-links zero f g k m h = s-push PLACEHOLDER 0 m h
-  s-links (suc n) f g k m h = s-turn-with n f (s-links n f g) k m (f m) (g m h)
+  s_links zero f g k m h = s_push PLACEHOLDER 0 m h
+  s_links (suc n) f g k m h = s_turn_with n f (s_links n f g) k m (f m) (g m h)
 
-  pub s-turn : (n : ℕ) (f : Machine → Walked) → ((m : Machine) → Refused ts r m → Refused ts r (f m).on) → (k : Marker) (m : Machine) (w : Walked) → Refused ts r w.on → Refused ts r (turn ts n f k m w).on
-  s-turn n f g k m w h = s-turn-with n f (s-links n f g) k m w h
+  pub s_turn : (n : ℕ) (f : Machine → Walked) → ((m : Machine) → Refused ts r m → Refused ts r (f m).on) → (k : Marker) (m : Machine) (w : Walked) → Refused ts r w.on → Refused ts r (turn ts n f k m w).on
+  s_turn n f g k m w h = s_turn_with n f (s_links n f g) k m w h
 
-  pub s-chained : (f : Machine → Walked) → ((m : Machine) → Refused ts r m → Refused ts r (f m).on) → (k : Marker) (w : Walked) → Refused ts r w.on → Refused ts r (chained ts f k w).on
+  pub s_chained : (f : Machine → Walked) → ((m : Machine) → Refused ts r m → Refused ts r (f m).on) → (k : Marker) (w : Walked) → Refused ts r w.on → Refused ts r (chained ts f k w).on
   unfolding chained
-  s-chained f g k w h =
+  s_chained f g k w h =
       either (is_again w.ans) (links ts (suc (length (rest ts w.on))) f k w.on) (said w.ans (push PLACEHOLDER 0 w.on))
-      (s-links (suc (length (rest ts w.on))) f g k w.on h) (s-push PLACEHOLDER 0 w.on h)
+      (s_links (suc (length (rest ts w.on))) f g k w.on h) (s_push PLACEHOLDER 0 w.on h)
 
-  pub s-walk : (ask : Rule → Machine → Walked) → ((c : Rule) (m : Machine) → Refused ts r m → Refused ts r (ask c m).on) → (b : Span) (p : Prog) (m : Machine) → Refused ts r m → Refused ts r (walk ask ts b p m).on
+  pub s_walk : (ask : Rule → Machine → Walked) → ((c : Rule) (m : Machine) → Refused ts r m → Refused ts r (ask c m).on) → (b : Span) (p : Prog) (m : Machine) → Refused ts r m → Refused ts r (walk ask ts b p m).on
   unfolding walk
-  s-walk ask k b (ret j a) m h = h
-  s-walk ask k b (act a) m h = s-perform b a m h
-  s-walk ask k b (p ⨟ q) m h = s-walk ask k b q (walk ask ts b p m).on (s-walk ask k b p m h)
-  s-walk ask k b (case c n y a) m h =
-      s-choose (walk ask ts b c m).ans (walk ask ts b n) (walk ask ts b y) (walk ask ts b a) (s-walk ask k b n) (s-walk ask k b y) (s-walk ask k b a) (walk ask ts b c m).on (s-walk ask k b c m h)
-  s-walk ask k b (in_marker p) m h = s-closed (next_marker START_NODE m) (walk ask ts b p (push PLACEHOLDER 0 m)) (s-walk ask k b p (push PLACEHOLDER 0 m) (s-push PLACEHOLDER 0 m h))
-  s-walk ask k b (loop p) m h = s-iter (suc (length (rest ts m))) (walk ask ts b p) (s-walk ask k b p) m h
-  s-walk ask k b (chain p q) m h =
-      s-chained (walk ask ts b q) (s-walk ask k b q) (next_marker START_NODE m) (walk ask ts b p (push PLACEHOLDER 0 m)) (s-walk ask k b p (push PLACEHOLDER 0 m) (s-push PLACEHOLDER 0 m h))
-  s-walk ask k b (brace p) m h = s-walk ask k (range_at (rest ts m) m) p m h
-  s-walk ask k b (open_call c) m h = k c m h
+  s_walk ask k b (ret j a) m h = h
+  s_walk ask k b (act a) m h = s_perform b a m h
+  s_walk ask k b (p ⨟ q) m h = s_walk ask k b q (walk ask ts b p m).on (s_walk ask k b p m h)
+  s_walk ask k b (case c n y a) m h =
+      s_choose (walk ask ts b c m).ans (walk ask ts b n) (walk ask ts b y) (walk ask ts b a) (s_walk ask k b n) (s_walk ask k b y) (s_walk ask k b a) (walk ask ts b c m).on (s_walk ask k b c m h)
+  s_walk ask k b (in_marker p) m h = s_closed (next_marker START_NODE m) (walk ask ts b p (push PLACEHOLDER 0 m)) (s_walk ask k b p (push PLACEHOLDER 0 m) (s_push PLACEHOLDER 0 m h))
+  s_walk ask k b (loop p) m h = s_iter (suc (length (rest ts m))) (walk ask ts b p) (s_walk ask k b p) m h
+  s_walk ask k b (chain p q) m h =
+      s_chained (walk ask ts b q) (s_walk ask k b q) (next_marker START_NODE m) (walk ask ts b p (push PLACEHOLDER 0 m)) (s_walk ask k b p (push PLACEHOLDER 0 m) (s_push PLACEHOLDER 0 m h))
+  s_walk ask k b (brace p) m h = s_walk ask k (range_at (rest ts m) m) p m h
+  s_walk ask k b (open_call c) m h = k c m h
 
-  pub s-rule : (n : ℕ) (c : Rule) (m : Machine) → Refused ts r m → Refused ts r (walk_rule n ts c m).on
+  pub s_rule : (n : ℕ) (c : Rule) (m : Machine) → Refused ts r m → Refused ts r (walk_rule n ts c m).on
   unfolding walk_rule
-  s-rule zero c m h = s-refuse TOO_DEEP m h
-  s-rule (suc n) c m h = s-walk (walk_rule n ts) (s-rule n) unlabelled (grammar c) m h
+  s_rule zero c m h = s_refuse TOO_DEEP m h
+  s_rule (suc n) c m h = s_walk (walk_rule n ts) (s_rule n) unlabelled (grammar c) m h

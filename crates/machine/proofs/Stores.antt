@@ -40,16 +40,16 @@ row_after l vs b n e h =
 module _ (g : Ground) (l : List Report) (s : State) where
   -- ---------------------------------------------------------------- an event pushed
 
-  pub push-fits : (e : List ℕ) (tag v : ℕ) → length e + EVENT_ROW ≤ length g.events → push tag v (image g e l s) ≡ image g (e ++ (tag ∷ v ∷ 0 ∷ [])) l s
+  pub push_fits : (e : List ℕ) (tag v : ℕ) → length e + EVENT_ROW ≤ length g.events → push tag v (image g e l s) ≡ image g (e ++ (tag ∷ v ∷ 0 ∷ [])) l s
   unfolding image push push_row
-  push-fits e tag v h =
+  push_fits e tag v h =
       let t : fits (length (onto e g.events)) (length e) EVENT_ROW ≡ true = fits_true (length (onto e g.events)) (length e) EVENT_ROW (rw (length_onto e g.events (omega arith)) h) in
       ap (λ (b : Bool). cond b (with_events (record { count = length e + EVENT_ROW; numbers = sets (onto e g.events) (length e) (tag ∷ v ∷ 0 ∷ []) }) (image g e l s)) (refuse NO_EVENT_ROOM (image g e l s))) t
       ∙ ap (λ (x : Buffer). with_events x (image g e l s)) (row_after e (tag ∷ v ∷ 0 ∷ []) g.events EVENT_ROW refl h)
 
-  pub push-full : (e : List ℕ) (tag v : ℕ) → length e ≤ length g.events → length g.events < length e + EVENT_ROW → push tag v (image g e l s) ≡ refuse NO_EVENT_ROOM (image g e l s)
+  pub push_full : (e : List ℕ) (tag v : ℕ) → length e ≤ length g.events → length g.events < length e + EVENT_ROW → push tag v (image g e l s) ≡ refuse NO_EVENT_ROOM (image g e l s)
   unfolding image push push_row
-  push-full e tag v k h =
+  push_full e tag v k h =
       let t : fits (length (onto e g.events)) (length e) EVENT_ROW ≡ false = fits_false (length (onto e g.events)) (length e) EVENT_ROW (rw (length_onto e g.events k) k) (rw (length_onto e g.events k) h) in
       ap (λ (b : Bool). cond b (with_events (record { count = length e + EVENT_ROW; numbers = sets (onto e g.events) (length e) (tag ∷ v ∷ 0 ∷ []) }) (image g e l s)) (refuse NO_EVENT_ROOM (image g e l s))) t
 
@@ -72,10 +72,10 @@ module _ (g : Ground) (l : List Report) (s : State) where
       ap (λ (x : List ℕ). with_events (record { count = length (p ++ (PLACEHOLDER ∷ 0 ∷ 0 ∷ f)); numbers = x }) m) t
       ∙ ap (λ (i : ℕ). with_events (record { count = i; numbers = onto (p ++ (k.tag ∷ kind ∷ 0 ∷ f)) g.events }) m) c
 
-  pub complete-is : (p f : List ℕ) (k : Marker) (kind : ℕ) → k.index ≡ length p → length (p ++ (PLACEHOLDER ∷ 0 ∷ 0 ∷ f)) ≤ length g.events
+  pub complete_is : (p f : List ℕ) (k : Marker) (kind : ℕ) → k.index ≡ length p → length (p ++ (PLACEHOLDER ∷ 0 ∷ 0 ∷ f)) ≤ length g.events
       → complete k kind (image g (p ++ (PLACEHOLDER ∷ 0 ∷ 0 ∷ f)) l s) ≡ push FINISH_NODE 0 (image g (p ++ (k.tag ∷ kind ∷ 0 ∷ f)) l s)
   unfolding complete push image
-  complete-is p f k kind e h = ap (λ (m : Machine). push_row FINISH_NODE 0 m) (start_is p f k kind e h)
+  complete_is p f k kind e h = ap (λ (m : Machine). push_row FINISH_NODE 0 m) (start_is p f k kind e h)
 
   -- ---------------------------------------------------------------- a marker preceded
 
@@ -105,25 +105,25 @@ module _ (g : Ground) (l : List Report) (s : State) where
       ∙ ap (λ (u : List ℕ). onto u g.events) (sym (v d))
       ∙ ap (λ (i : ℕ). onto ((p ++ (x ∷ y ∷ low i ∷ f)) ++ r) g.events) (gap p f x y z)
 
-  pub precede-fits : (p f : List ℕ) (x y z : ℕ) (k : Marker) → k.index ≡ length p → length (p ++ (x ∷ y ∷ z ∷ f)) + EVENT_ROW ≤ length g.events
+  pub precede_fits : (p f : List ℕ) (x y z : ℕ) (k : Marker) → k.index ≡ length p → length (p ++ (x ∷ y ∷ z ∷ f)) + EVENT_ROW ≤ length g.events
       → precede k (image g (p ++ (x ∷ y ∷ z ∷ f)) l s) ≡ image g ((p ++ (x ∷ y ∷ low (suc (length f / EVENT_ROW)) ∷ f)) ++ (PLACEHOLDER ∷ 0 ∷ 0 ∷ [])) l s
   unfolding precede image
-  precede-fits p f x y z k e h =
+  precede_fits p f x y z k e h =
       let E = p ++ (x ∷ y ∷ z ∷ f) in
       let r : List ℕ = PLACEHOLDER ∷ 0 ∷ 0 ∷ [] in
       let D = p ++ (x ∷ y ∷ low (suc (length f / EVENT_ROW)) ∷ f) in
       let m = image g (E ++ r) l s in
       let c : length (E ++ r) ≡ length (D ++ r) = simp length-append in
       let b : length (E ++ r) ≤ length g.events = omega (arith, h, length-append E r) in
-      ap (λ (q : Machine). cond (eqb q.refusal 0) (with_events (record { count = q.events.count; numbers = put_link k.index (length E) q.events.numbers }) q) q) (push-fits E PLACEHOLDER 0 h)
+      ap (λ (q : Machine). cond (eqb q.refusal 0) (with_events (record { count = q.events.count; numbers = put_link k.index (length E) q.events.numbers }) q) q) (push_fits E PLACEHOLDER 0 h)
       ∙ ap (λ (i : ℕ). with_events (record { count = length (E ++ r); numbers = put_link i (length E) (onto (E ++ r) g.events) }) m) e
       ∙ ap (λ (o : List ℕ). with_events (record { count = length (E ++ r); numbers = o }) m) (link_is p f x y z b)
       ∙ ap (λ (i : ℕ). with_events (record { count = i; numbers = onto (D ++ r) g.events }) m) c
 
-  pub precede-full : (e : List ℕ) (k : Marker) → length e ≤ length g.events → length g.events < length e + EVENT_ROW → precede k (image g e l s) ≡ refuse NO_EVENT_ROOM (image g e l s)
+  pub precede_full : (e : List ℕ) (k : Marker) → length e ≤ length g.events → length g.events < length e + EVENT_ROW → precede k (image g e l s) ≡ refuse NO_EVENT_ROOM (image g e l s)
   unfolding precede image refuse
-  precede-full e k a h =
-      ap (λ (q : Machine). cond (eqb q.refusal 0) (with_events (record { count = q.events.count; numbers = put_link k.index (length e) q.events.numbers }) q) q) (push-full e PLACEHOLDER 0 a h)
+  precede_full e k a h =
+      ap (λ (q : Machine). cond (eqb q.refusal 0) (with_events (record { count = q.events.count; numbers = put_link k.index (length e) q.events.numbers }) q) q) (push_full e PLACEHOLDER 0 a h)
 
   -- ---------------------------------------------------------------- a report written
 
@@ -153,11 +153,11 @@ module _ (g : Ground) (l : List Report) (s : State) where
       ∙ ap (λ (x : List ℕ). with_reports (written (rows_of g (l ++ (r ∷ []))) g.reports) (written x g.pool) m) v
 
   -- no room for the row, or none for its expectations
-  pub report-full : (e : List ℕ) (message hint : ℕ) (range lab : Span)
+  pub report_full : (e : List ℕ) (message hint : ℕ) (range lab : Span)
       → (fits (length (onto (rows_of g l) g.reports)) (length (rows_of g l)) REPORT_ROW && fits (length (onto (pool l) g.pool)) (length (pool l)) (length (pool_of message s.pending))) ≡ false
       → write_report message hint range lab (image g e l s) ≡ refuse NO_REPORT_ROOM (image g e l s)
   unfolding write_report image
-  report-full e message hint range lab c =
+  report_full e message hint range lab c =
       let codes = pool_of message s.pending in
       let m = image g e l s in
       let rows = rows_of g l in
@@ -170,7 +170,7 @@ module _ (g : Ground) (l : List Report) (s : State) where
       → (fits (length (onto (rows_of g l) g.reports)) (length (rows_of g l)) REPORT_ROW && fits (length (onto (pool l) g.pool)) (length (pool l)) n) ≡ false
   no_row n h k = rw (length_onto (rows_of g l) g.reports h, fits_false (length g.reports) (length (rows_of g l)) REPORT_ROW h k)
 
-  pub no-codes : (n : ℕ) → length (rows_of g l) + REPORT_ROW ≤ length g.reports → length (pool l) ≤ length g.pool → length g.pool < length (pool l) + n
+  pub no_codes : (n : ℕ) → length (rows_of g l) + REPORT_ROW ≤ length g.reports → length (pool l) ≤ length g.pool → length g.pool < length (pool l) + n
       → (fits (length (onto (rows_of g l) g.reports)) (length (rows_of g l)) REPORT_ROW && fits (length (onto (pool l) g.pool)) (length (pool l)) n) ≡ false
-  no-codes n h k j =
+  no_codes n h k j =
       rw (length_onto (rows_of g l) g.reports (omega arith), length_onto (pool l) g.pool k, fits_true (length g.reports) (length (rows_of g l)) REPORT_ROW h, fits_false (length g.pool) (length (pool l)) n k j)

@@ -24,10 +24,10 @@ use Rattle.machine.specs.Walk.{Walked, said}
 use Rattle.machine.specs.Outcome.{Refused}
 use Rattle.machine.proofs.Coded.{coded}
 use Rattle.machine.proofs.Suffix.{Suffix, suffix_tail}
-use Rattle.machine.proofs.Image.{Ground, image, Inside, moved, rest_is, inside_taken, inside_peeked, took-is}
+use Rattle.machine.proofs.Image.{Ground, image, Inside, moved, rest_is, inside_taken, inside_peeked, took_is}
 use Rattle.machine.proofs.Expecting.{expect_is}
 use Rattle.machine.proofs.Moves.{peek_is, run_suffix, name_run_is, name_count}
-use Rattle.machine.proofs.Meets.{Sofar, Fitting, stand, Meets, goes, stop, grow, grow_done, Sim, Tracks, room_at_first, push-meets}
+use Rattle.machine.proofs.Meets.{Sofar, Fitting, stand, Meets, goes, stop, grow, grow_done, Sim, Tracks, room_at_first, push_meets}
 
 -- nothing written
 pub quiet : (g : Ground) (c : Sofar) (a : Ans) (k : ℕ) (s : State) (w : Walked) → Fitting g c → Inside g s → w ≡ record { ans = a; shape = k; on = stand g c s } → Meets g (grow c done) a k s w
@@ -87,8 +87,8 @@ unfolding do_bump replies makes bump_first coded pushes
 first_sim g c s [] f i = quiet g c yes 0 (moved s []) _ f i refl
 first_sim g c s (t ∷ l) f i =
     let p : Suffix g.tokens l = suffix_tail g.tokens l t i.rest in
-    subst (λ (m : Machine). Meets g (grow c (token t (length l) done)) yes 0 (taken l) (said yes (push ADD_TOKEN 0 m))) (sym (took-is g c.numbers (reports c.pushed) s t l i.rest))
-    (push-meets g c f (taken l) ADD_TOKEN 0 yes 0 (inside_taken g l p))
+    subst (λ (m : Machine). Meets g (grow c (token t (length l) done)) yes 0 (taken l) (said yes (push ADD_TOKEN 0 m))) (sym (took_is g c.numbers (reports c.pushed) s t l i.rest))
+    (push_meets g c f (taken l) ADD_TOKEN 0 yes 0 (inside_taken g l p))
 
 name_sim : (g : Ground) (ks : List ℕ) (c : Sofar) (s : State) (l : List Token) → Fitting g c → Inside g (moved s l) → Sim g c (do_name ks (moved s l) l) (said yes (name_first ks l (stand g c (moved s l))))
 unfolding do_name replies makes name_first coded pushes
@@ -100,10 +100,10 @@ name_sim g ks c s (t ∷ l) f i =
     let r = stretch_of ks l in
     let o = name (t ∷ r.raw) (length r.after) done in
     let is : name_stretch ks l (took t (stand g c (moved s (t ∷ l)))) ≡ stand g c (taken r.after) =
-    ap (name_stretch ks l) (took-is g e u s t l i.rest) ∙ name_run_is g e u ks l p in
+    ap (name_stretch ks l) (took_is g e u s t l i.rest) ∙ name_run_is g e u ks l p in
     subst (λ (m : Machine). Meets g (grow c o) yes 0 (taken r.after) (said yes (push ADD_COMBINED_TOKEN (low (m.cursor - (stand g c (moved s (t ∷ l))).cursor)) m))) (sym is)
     (subst (λ (n : ℕ). Meets g (grow c o) yes 0 (taken r.after) (said yes (push ADD_COMBINED_TOKEN n (stand g c (taken r.after))))) (sym (name_count g e u s ks t l i.rest))
-    (push-meets g c f (taken r.after) ADD_COMBINED_TOKEN (length (t ∷ r.raw)) yes 0 (inside_taken g r.after (run_suffix g ks l p))))
+    (push_meets g c f (taken r.after) ADD_COMBINED_TOKEN (length (t ∷ r.raw)) yes 0 (inside_taken g r.after (run_suffix g ks l p))))
 
 pub bump_sim : (g : Ground) → Tracks g (λ s. do_bump (peeked s) (peeked s).rest) (λ m. said yes (M.bump g.tokens m))
 unfolding M.bump peeked

@@ -91,9 +91,9 @@ iter_fuel ts (suc n) (suc k) f m h g =
 
 module _ (ask : Rule → Machine → Walked) (ts : List Token) (b : Span) (p : Prog) (m m' : Machine) where
   -- a turn that answers again and moved the cursor: the loop from here is the loop from there
-  pub turn-again : said again m' ≡ walk ask ts b p m → ahead ts m' < ahead ts m → walk ask ts b (loop p) m' ≡ walk ask ts b (loop p) m
+  pub turn_again : said again m' ≡ walk ask ts b p m → ahead ts m' < ahead ts m → walk ask ts b (loop p) m' ≡ walk ask ts b (loop p) m
   unfolding walk iter goes_on is_again
-  turn-again e h = rw (← e, lt-ltb _ _ h) (iter_fuel ts (suc (ahead ts m')) (ahead ts m) (walk ask ts b p) m' (omega arith) h)
+  turn_again e h = rw (← e, lt-ltb _ _ h) (iter_fuel ts (suc (ahead ts m')) (ahead ts m) (walk ask ts b p) m' (omega arith) h)
 
   -- a turn that answers anything else ends the loop
   pub turn_last : (a : Ans) → is_again a ≡ false → said a m' ≡ walk ask ts b p m → said a m' ≡ walk ask ts b (loop p) m

@@ -23,57 +23,57 @@ pub record Closes (k : Marker) (v w : Walked) : Type 0 where
   pub is : w ≡ marked k v
 
 module _ {ask : Rule → Machine → Walked} {ts : List Token} {b : Span} where
-  pub c-walk : {p : Prog} {m : Machine} {w : Walked} → w ≡ walk ask ts b p m → Way ask ts b p m w
-  c-walk e = record { is = e }
+  pub c_walk : {p : Prog} {m : Machine} {w : Walked} → w ≡ walk ask ts b p m → Way ask ts b p m w
+  c_walk e = record { is = e }
 
-  pub c-act : {a : Act} {m : Machine} {w : Walked} → w ≡ perform ts b a m → Way ask ts b (act a) m w
+  pub c_act : {a : Act} {m : Machine} {w : Walked} → w ≡ perform ts b a m → Way ask ts b (act a) m w
   unfolding walk
-  c-act e = record { is = e }
+  c_act e = record { is = e }
 
-  pub c-ret : {k : ℕ} {a : Ans} {m : Machine} → Way ask ts b (ret k a) m (record { ans = a; shape = k; on = m })
+  pub c_ret : {k : ℕ} {a : Ans} {m : Machine} → Way ask ts b (ret k a) m (record { ans = a; shape = k; on = m })
   unfolding walk
-  c-ret = record { is = refl }
+  c_ret = record { is = refl }
 
-  pub c-seq : {p q : Prog} {m : Machine} {v w : Walked} → Way ask ts b p m v → Way ask ts b q v.on w → Way ask ts b (p ⨟ q) m w
+  pub c_seq : {p q : Prog} {m : Machine} {v w : Walked} → Way ask ts b p m v → Way ask ts b q v.on w → Way ask ts b (p ⨟ q) m w
   unfolding walk
-  c-seq {q = q} e f = record { is = f.is ∙ ap (λ (v : Walked). walk ask ts b q v.on) e.is }
+  c_seq {q = q} e f = record { is = f.is ∙ ap (λ (v : Walked). walk ask ts b q v.on) e.is }
 
   -- a branch on an answer
-  pub c-case : {c n y a : Prog} {m : Machine} {v w : Walked} → Way ask ts b c m v → w ≡ choose v.ans (walk ask ts b n) (walk ask ts b y) (walk ask ts b a) v.on → Way ask ts b (case c n y a) m w
+  pub c_case : {c n y a : Prog} {m : Machine} {v w : Walked} → Way ask ts b c m v → w ≡ choose v.ans (walk ask ts b n) (walk ask ts b y) (walk ask ts b a) v.on → Way ask ts b (case c n y a) m w
   unfolding walk
-  c-case {n = n} {y = y} {a = a} e f =
+  c_case {n = n} {y = y} {a = a} e f =
       record { is = f ∙ ap (λ (v : Walked). choose v.ans (walk ask ts b n) (walk ask ts b y) (walk ask ts b a) v.on) e.is }
 
   -- a test that held, and one that did not
-  pub c-yes : {c n y a : Prog} {m x : Machine} {s : ℕ} {t : Bool} {w : Walked} → Way ask ts b c m (record { ans = truth t; shape = s; on = x }) → t ≡ true → Way ask ts b y x w → Way ask ts b (case c n y a) m w
+  pub c_yes : {c n y a : Prog} {m x : Machine} {s : ℕ} {t : Bool} {w : Walked} → Way ask ts b c m (record { ans = truth t; shape = s; on = x }) → t ≡ true → Way ask ts b y x w → Way ask ts b (case c n y a) m w
   unfolding choose
-  c-yes {n = n} {y = y} {a = a} {x = x} e h f =
-      c-case e (f.is ∙ sym (ap (λ (t : Bool). choose (truth t) (walk ask ts b n) (walk ask ts b y) (walk ask ts b a) x) h))
+  c_yes {n = n} {y = y} {a = a} {x = x} e h f =
+      c_case e (f.is ∙ sym (ap (λ (t : Bool). choose (truth t) (walk ask ts b n) (walk ask ts b y) (walk ask ts b a) x) h))
 
-  pub c-no : {c n y a : Prog} {m x : Machine} {s : ℕ} {t : Bool} {w : Walked} → Way ask ts b c m (record { ans = truth t; shape = s; on = x }) → t ≡ false → Way ask ts b n x w → Way ask ts b (case c n y a) m w
+  pub c_no : {c n y a : Prog} {m x : Machine} {s : ℕ} {t : Bool} {w : Walked} → Way ask ts b c m (record { ans = truth t; shape = s; on = x }) → t ≡ false → Way ask ts b n x w → Way ask ts b (case c n y a) m w
   unfolding choose
-  c-no {n = n} {y = y} {a = a} {x = x} e h f =
-      c-case e (f.is ∙ sym (ap (λ (t : Bool). choose (truth t) (walk ask ts b n) (walk ask ts b y) (walk ask ts b a) x) h))
+  c_no {n = n} {y = y} {a = a} {x = x} e h f =
+      c_case e (f.is ∙ sym (ap (λ (t : Bool). choose (truth t) (walk ask ts b n) (walk ask ts b y) (walk ask ts b a) x) h))
 
   -- an answer told on with a kind
-  pub c-told : (t : Bool) {c : Prog} {k : ℕ} {m x : Machine} → Way ask ts b c m (said (truth t) x) → Way ask ts b (case c (ret k no) (ret k yes) (ret k yes)) m (record { ans = truth t; shape = k; on = x })
-  c-told true e = c-yes {t = true} e refl c-ret
-  c-told false e = c-no {t = false} e refl c-ret
+  pub c_told : (t : Bool) {c : Prog} {k : ℕ} {m x : Machine} → Way ask ts b c m (said (truth t) x) → Way ask ts b (case c (ret k no) (ret k yes) (ret k yes)) m (record { ans = truth t; shape = k; on = x })
+  c_told true e = c_yes {t = true} e refl c_ret
+  c_told false e = c_no {t = false} e refl c_ret
 
-  pub c-again : (t : Bool) {c : Prog} {k : ℕ} {m x : Machine} → Way ask ts b c m (said (truth t) x) → Way ask ts b (case c (ret k yes) (ret k again) (ret k again)) m (record { ans = cond t again yes; shape = k; on = x })
-  c-again true e = c-yes {t = true} e refl c-ret
-  c-again false e = c-no {t = false} e refl c-ret
+  pub c_again : (t : Bool) {c : Prog} {k : ℕ} {m x : Machine} → Way ask ts b c m (said (truth t) x) → Way ask ts b (case c (ret k yes) (ret k again) (ret k again)) m (record { ans = cond t again yes; shape = k; on = x })
+  c_again true e = c_yes {t = true} e refl c_ret
+  c_again false e = c_no {t = false} e refl c_ret
 
   -- the same, past a program that is walked in either case
-  pub c-told-past : (t : Bool) {c p : Prog} {k : ℕ} {m x : Machine} {v : Walked} → Way ask ts b c m (said (truth t) x) → Way ask ts b p x v
+  pub c_told_past : (t : Bool) {c p : Prog} {k : ℕ} {m x : Machine} {v : Walked} → Way ask ts b c m (said (truth t) x) → Way ask ts b p x v
       → Way ask ts b (case c (p ⨟ ret k no) (p ⨟ ret k yes) (p ⨟ ret k yes)) m (record { ans = truth t; shape = k; on = v.on })
-  c-told-past true e f = c-yes {t = true} e refl (c-seq f c-ret)
-  c-told-past false e f = c-no {t = false} e refl (c-seq f c-ret)
+  c_told_past true e f = c_yes {t = true} e refl (c_seq f c_ret)
+  c_told_past false e f = c_no {t = false} e refl (c_seq f c_ret)
 
   -- a marker: x, after it was pushed, and v, where it is closed
-  pub c-mark : {p : Prog} {k : Marker} {m x : Machine} {v w : Walked} → k ≡ next_marker START_NODE m → x ≡ push PLACEHOLDER 0 m → Way ask ts b p x v → Closes k v w → Way ask ts b (in_marker p) m w
+  pub c_mark : {p : Prog} {k : Marker} {m x : Machine} {v w : Walked} → k ≡ next_marker START_NODE m → x ≡ push PLACEHOLDER 0 m → Way ask ts b p x v → Closes k v w → Way ask ts b (in_marker p) m w
   unfolding walk
-  c-mark {p = p} {k = k} {m = m} {v = v} i e f g =
+  c_mark {p = p} {k = k} {m = m} {v = v} i e f g =
       record { is = g.is ∙ ap (λ (k : Marker). marked k v) i ∙ ap (marked (next_marker START_NODE m)) (f.is ∙ ap (walk ask ts b p) e) }
 
 -- completed as a node: its kind is not NO-NODE
@@ -87,9 +87,9 @@ module _ (n : ℕ) {ts : List Token} where
   c_call e = record { is = e }
 
   -- a function that is held to a program, called or returned from
-  pub c-fn : {p : Prog} {m : Machine} {w : Walked} → w ≡ walk_prog n ts unlabelled p m → Way (walk_rule n ts) ts unlabelled p m w
+  pub c_fn : {p : Prog} {m : Machine} {w : Walked} → w ≡ walk_prog n ts unlabelled p m → Way (walk_rule n ts) ts unlabelled p m w
   unfolding walk_prog
-  c-fn e = record { is = e }
+  c_fn e = record { is = e }
 
   pub way : {p : Prog} {m : Machine} {w : Walked} → Way (walk_rule n ts) ts unlabelled p m w → w ≡ walk_prog n ts unlabelled p m
   unfolding walk_prog

@@ -115,15 +115,15 @@ module _ (ts : List Token) (n : ℕ) (m p : Machine) (few : Few ts) (e : p ≡ p
       ∙ argue_one ts n m few
 
   -- the comma after it, its end, and a token of it
-  pub argue-comma : x ≡ Comma → said yes p ≡ argue ts n m
-  argue-comma g = ap (λ (y : Role). role_as y p (λ k. argue ts k (bump ts p))) (sym g) ∙ argued
+  pub argue_comma : x ≡ Comma → said yes p ≡ argue ts n m
+  argue_comma g = ap (λ (y : Role). role_as y p (λ k. argue ts k (bump ts p))) (sym g) ∙ argued
 
-  pub argue-end : x ≡ End → said no p ≡ argue ts n m
-  argue-end g = ap (λ (y : Role). role_as y p (λ k. argue ts k (bump ts p))) (sym g) ∙ argued
+  pub argue_end : x ≡ End → said no p ≡ argue ts n m
+  argue_end g = ap (λ (y : Role). role_as y p (λ k. argue ts k (bump ts p))) (sym g) ∙ argued
 
-  pub argue-on : (b : Span) (k : ℕ) (q : Machine) → x ≡ Inside k → said yes q ≡ perform ts b P.bump p → argue ts k q ≡ argue ts n m
+  pub argue_on : (b : Span) (k : ℕ) (q : Machine) → x ≡ Inside k → said yes q ≡ perform ts b P.bump p → argue ts k q ≡ argue ts n m
   unfolding perform
-  argue-on b k q g h = ap (λ (w : Walked). argue ts k w.on) h ∙ ap (λ (y : Role). role_as y p (λ j. argue ts j (bump ts p))) (sym g) ∙ argued
+  argue_on b k q g h = ap (λ (w : Walked). argue ts k w.on) h ∙ ap (λ (y : Role). role_as y p (λ j. argue ts j (bump ts p))) (sym g) ∙ argued
 
 pub argue_whole : (ts : List Token) (b : Span) (m : Machine) → argue ts 0 m ≡ perform ts b bump_argument m
 unfolding perform argue

@@ -10,7 +10,7 @@ use lib.Seq.{drop-drop}
 use borrow.Author.Tests.{ltb-true, ltb-false, lt-ltb, le-ltb}
 use Rattle.rows.specs.ResultRows.{Row}
 use Rattle.rows.specs.RowTree.{span, subtree_end, Child}
-use Rattle.rows.proofs.Spans.{span_inside, child_after, child-inside, row_inside}
+use Rattle.rows.proofs.Spans.{span_inside, child_after, child_inside, row_inside}
 use Rattle.parents.specs.Upwards.{holder}
 
 module _ (l : List Row) (p c : ℕ) (h : Child l p c) where
@@ -37,10 +37,10 @@ module _ (l : List Row) (p c : ℕ) (h : Child l p c) where
       go false e rec =
           let g = ltb-false p n e in
           let z : n ≡ p = omega (arith, g, x) in
-          let i = child-inside l p c h in
+          let i = child_inside l p c h in
           let r = row_inside l c h.exists in
           rw (z, lt-ltb c (subtree_end l p) (omega (arith, i, r)))
 
   -- THE PARENT
-  pub parent-holds : holder l c c ≡ p
-  parent-holds = held c (child_after l p c h) (omega arith)
+  pub parent_holds : holder l c c ≡ p
+  parent_holds = held c (child_after l p c h) (omega arith)

@@ -12,8 +12,8 @@ use Rattle.definitions.specs.Place.{Tree, nil, leaf, subtree, row_count}
 use Rattle.rows.specs.ResultRows.{Row, parent}
 use Rattle.rows.specs.RowTree.{row, children, subtree_end, Child, Chain}
 use Rattle.rows.proofs.Written.{rows_of, rows_counted}
-use Rattle.rows.proofs.Spans.{one_parent, child_after, child-inside, row_inside}
-use Rattle.rows.proofs.Placed.{Placed, leaf-row, leaf-stands, leaf-child, after-leaf, node_row, node-stands, node-child, under-node, after-node, under_root}
+use Rattle.rows.proofs.Spans.{one_parent, child_after, child_inside, row_inside}
+use Rattle.rows.proofs.Placed.{Placed, leaf_row, leaf_stands, leaf_child, after_leaf, node_row, node_stands, node_child, under_node, after_node, under_root}
 use Rattle.parents.specs.Upwards.{parent_of, up, NamesUp}
 
 -- row j is a child of the row that it names
@@ -28,24 +28,24 @@ named : (all : List Row) (f : Tree) (l : List Row) (s p before : ℕ) → Placed
 unfolding row_count
 named all nil l s p before w j h g = absurd (omega arith)
 named all (leaf k ts f) l s p before w j h g =
-    go (ltb s j) refl (λ x. named all f l (suc s) p (suc before) (after-leaf all k ts f l s p before w) j (omega (arith, x)) (omega (arith, g)))
+    go (ltb s j) refl (λ x. named all f l (suc s) p (suc before) (after_leaf all k ts f l s p before w) j (omega (arith, x)) (omega (arith, g)))
   where
     go : (b : Bool) → ltb s j ≡ b → (s < j → Named all j) → Named all j
     go true e rec = rec (ltb-true s j e)
     go false e rec =
         let x = ltb-false s j e in
         let z : s ≡ j = omega (arith, x, h) in
-        subst (Named all) z (named_as all p s (ap parent (leaf-stands all k ts f l s p before w).is) (leaf-child all k ts f l s p before w))
+        subst (Named all) z (named_as all p s (ap parent (leaf_stands all k ts f l s p before w).is) (leaf_child all k ts f l s p before w))
 named all (subtree k c f) l s p before w j h g =
     go (ltb s j) (ltb j (suc s + row_count c)) refl refl
-    (λ x y. named all c _ (suc s) s 0 (under-node all k c f l s p before w) j (omega (arith, x)) y)
-    (λ y. named all f l (suc s + row_count c) p (suc before) (after-node all k c f l s p before w) j y (omega (arith, g)))
+    (λ x y. named all c _ (suc s) s 0 (under_node all k c f l s p before w) j (omega (arith, x)) y)
+    (λ y. named all f l (suc s + row_count c) p (suc before) (after_node all k c f l s p before w) j y (omega (arith, g)))
   where
     go : (a b : Bool) → ltb s j ≡ a → ltb j (suc s + row_count c) ≡ b → (s < j → j < suc s + row_count c → Named all j) → (suc s + row_count c ≤ j → Named all j) → Named all j
     go false b e d inner after =
         let x = ltb-false s j e in
         let z : s ≡ j = omega (arith, x, h) in
-        subst (Named all) z (named_as all p s (ap parent (node-stands all k c f l s p before w).is) (node-child all k c f l s p before w))
+        subst (Named all) z (named_as all p s (ap parent (node_stands all k c f l s p before w).is) (node_child all k c f l s p before w))
     go true true e d inner after = inner (ltb-true s j e) (ltb-true j (suc s + row_count c) d)
     go true false e d inner after = after (ltb-false j (suc s + row_count c) d)
 
@@ -69,7 +69,7 @@ module _ (l : List Row) (all : AllNamed l) where
 
   pub inside : (c : ℕ) → 0 < c → c < length l → (c < subtree_end l (parent_of l c)) × (subtree_end l c ≤ subtree_end l (parent_of l c))
   inside c h g =
-      let x = child-inside l (parent_of l c) c (all c h g) in
+      let x = child_inside l (parent_of l c) c (all c h g) in
       let y = row_inside l c g in
       (omega (arith, x, y), x)
 

@@ -16,7 +16,7 @@ use Rattle.rows.proofs.Written.{rows_of, rows_wide, rows_flat, written_rows}
 use Rattle.parents.specs.Upwards.{parent_of, holder, Upwards, Parents}
 use Rattle.parents.proofs.Named.{names_child, child_names, earlier, inside, chains, to_root}
 use Rattle.parents.proofs.Counted.{counts}
-use Rattle.parents.proofs.Held.{parent-holds}
+use Rattle.parents.proofs.Held.{parent_holds}
 
 -- the rows of a root and what is under it
 pub upwards : (k : ℕ) (t : Tree) → Upwards (rows_of 0 0 (subtree k t nil))
@@ -33,12 +33,12 @@ upwards k t =
       names_child = all;
       chains = chains l all;
       counts = counts k t;
-      parents = from-counts;
+      parents = from_counts;
     }
   where
-    from-counts : (c : ℕ) → c < length (rows_of 0 0 (subtree k t nil)) → parent_of (rows_of 0 0 (subtree k t nil)) c ≡ holder (rows_of 0 0 (subtree k t nil)) c c
-    from-counts zero h = refl
-    from-counts (suc c) h = sym (parent-holds _ _ (suc c) (names_child k t (suc c) (omega arith) h))
+    from_counts : (c : ℕ) → c < length (rows_of 0 0 (subtree k t nil)) → parent_of (rows_of 0 0 (subtree k t nil)) c ≡ holder (rows_of 0 0 (subtree k t nil)) c c
+    from_counts zero h = refl
+    from_counts (suc c) h = sym (parent_holds _ _ (suc c) (names_child k t (suc c) (omega arith) h))
 
 -- what an accepted call wrote, whatever Names are reported
 pub written : (e : Entry) (ts : List Token) (l : List NameAt) (b : Buffers) → tree_rows (kept (sheets e ts (run_entry e ts) l) b) ≡ rows_of 0 0 (root (root_kind e) (run_entry e ts) ts)

@@ -84,11 +84,11 @@ took_nothing tokens m h = sym (ap (λ (l : List Token). take_first l m) (tokens_
 
 -- the codes after `put_code`: at the end of the list, if it is not full
 pub code_arrives : (codes l : List ℕ) (n k : ℕ) → length codes ≡ MOST_PENDING → l ≡ cond (ltb n (length codes)) (take n codes ++ (k ∷ [])) (take n codes) → l ≡ arrived k (take n codes)
-code_arrives codes l n k long e = e ∙ ap (λ (b : Bool). cond b (take n codes ++ (k ∷ [])) (take n codes)) (by-room (ltb n (length codes)) refl)
+code_arrives codes l n k long e = e ∙ ap (λ (b : Bool). cond b (take n codes ++ (k ∷ [])) (take n codes)) (by_room (ltb n (length codes)) refl)
   where
-    by-room : (b : Bool) → ltb n (length codes) ≡ b → b ≡ ltb (length (take n codes)) MOST_PENDING
-    by-room true f = sym (pending_few codes n long (omega (arith, long, ltb-true n (length codes) f)))
-    by-room false f = sym (pending_full codes n long (omega (arith, long, ltb-false n (length codes) f)))
+    by_room : (b : Bool) → ltb n (length codes) ≡ b → b ≡ ltb (length (take n codes)) MOST_PENDING
+    by_room true f = sym (pending_few codes n long (omega (arith, long, ltb-true n (length codes) f)))
+    by_room false f = sym (pending_full codes n long (omega (arith, long, ltb-false n (length codes) f)))
 
 -- a kind that is there, and one that arrives
 pub kind_there : (k : ℕ) (x : Pending) → in_word k x.kinds ≡ true → x ≡ expect_kind k x
@@ -117,13 +117,13 @@ module _ (k : ℕ) (x : Pending) where
   abbrev else : Pending
   else = cond (leb FIRST_OTHER k) other x
 
-  pub adds-kind : (r : Pending) → ltb k KIND_CODES ≡ true → r ≡ expect_kind k x → r ≡ M.expect k x
+  pub adds_kind : (r : Pending) → ltb k KIND_CODES ≡ true → r ≡ expect_kind k x → r ≡ M.expect k x
   unfolding M.expect
-  adds-kind r e f = f ∙ sym (ap (λ (c : Bool). cond c (expect_kind k x) else) e)
+  adds_kind r e f = f ∙ sym (ap (λ (c : Bool). cond c (expect_kind k x) else) e)
 
-  pub adds-other : (r : Pending) → ltb k KIND_CODES ≡ false → leb FIRST_OTHER k ≡ true → ltb k (FIRST_OTHER + OTHER_CODES) ≡ true → r ≡ expect_other k x → r ≡ M.expect k x
+  pub adds_other : (r : Pending) → ltb k KIND_CODES ≡ false → leb FIRST_OTHER k ≡ true → ltb k (FIRST_OTHER + OTHER_CODES) ≡ true → r ≡ expect_other k x → r ≡ M.expect k x
   unfolding M.expect
-  adds-other r e f g h =
+  adds_other r e f g h =
       h ∙ sym (ap (λ (c : Bool). cond c (expect_kind k x) else) e ∙ ap (λ (c : Bool). cond c other x) f ∙ ap (λ (c : Bool). cond c (expect_other k x) x) g)
 
   -- no expectation
@@ -131,9 +131,9 @@ module _ (k : ℕ) (x : Pending) where
   unfolding M.expect
   adds_none e f = sym (ap (λ (c : Bool). cond c (expect_kind k x) else) e ∙ ap (λ (c : Bool). cond c other x) f)
 
-  pub adds-past : ltb k KIND_CODES ≡ false → leb FIRST_OTHER k ≡ true → ltb k (FIRST_OTHER + OTHER_CODES) ≡ false → x ≡ M.expect k x
+  pub adds_past : ltb k KIND_CODES ≡ false → leb FIRST_OTHER k ≡ true → ltb k (FIRST_OTHER + OTHER_CODES) ≡ false → x ≡ M.expect k x
   unfolding M.expect
-  adds-past e f g = sym (ap (λ (c : Bool). cond c (expect_kind k x) else) e ∙ ap (λ (c : Bool). cond c other x) f ∙ ap (λ (c : Bool). cond c (expect_other k x) x) g)
+  adds_past e f g = sym (ap (λ (c : Bool). cond c (expect_kind k x) else) e ∙ ap (λ (c : Bool). cond c other x) f ∙ ap (λ (c : Bool). cond c (expect_other k x) x) g)
 
 -- pushed, on the machine
 pub expected_is : (ts : List Token) (b : Span) (k : ℕ) (x : Pending) (m : Machine) → x ≡ M.expect k m.pending → said yes (with_pending x m) ≡ perform ts b (add_expected k) m

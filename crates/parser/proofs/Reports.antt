@@ -98,8 +98,8 @@ module _ (message hint : ℕ) (range lab : Span) (m : Machine) (codes : List ℕ
   size = length-take-le n codes few
 
   -- the pool's test, of the list itself
-  pools-of : z ≡ fits (length m.pool.numbers) m.pool.count (length (take n codes))
-  pools-of = pools ∙ ap (fits (length m.pool.numbers) m.pool.count) (sym size)
+  pools_of : z ≡ fits (length m.pool.numbers) m.pool.count (length (take n codes))
+  pools_of = pools ∙ ap (fits (length m.pool.numbers) m.pool.count) (sym size)
 
   abbrev both : Machine
   both =
@@ -109,7 +109,7 @@ module _ (message hint : ℕ) (range lab : Span) (m : Machine) (codes : List ℕ
       m
 
   tested : (b c : Bool) → y ≡ b → z ≡ c → written message hint range lab m (take n codes) ≡ cond (b && c) both (M.refuse NO_REPORT_ROOM m)
-  tested b c e f = ap (λ (v : Bool). written_if v message hint range lab m (take n codes)) (sym rows ∙ e) ∙ ap (λ (v : Bool). cond (b && v) both (M.refuse NO_REPORT_ROOM m)) (sym pools-of ∙ f)
+  tested b c e f = ap (λ (v : Bool). written_if v message hint range lab m (take n codes)) (sym rows ∙ e) ∙ ap (λ (v : Bool). cond (b && v) both (M.refuse NO_REPORT_ROOM m)) (sym pools_of ∙ f)
 
   pub report_fits : (reports pool : List ℕ) (mark first count : ℕ) → y ≡ true → z ≡ true → mark ≡ low m.mark → first ≡ low m.pool.count → count ≡ low (pool_count message m.pending)
       → reports ≡ stored m.reports.count (message ∷ range.from ∷ range.to ∷ mark ∷ first ∷ count ∷ hint ∷ lab.from ∷ lab.to ∷ []) m.reports.numbers
@@ -127,8 +127,8 @@ module _ (message hint : ℕ) (range lab : Span) (m : Machine) (codes : List ℕ
       ∙ ap (λ (k : ℕ). with_reports (record { count = at + REPORT_ROW; numbers = sets l at (report_row message hint range lab m.mark m.pool.count (pool_count message m.pending)) }) (record { count = m.pool.count + k; numbers = sets m.pool.numbers m.pool.count (take n codes) }) m) (sym size)
       ∙ sym (tested true true e f) ∙ report_on message hint range lab m (take n codes) quiet has
 
-  pub report-no-pool : (r : Machine) → y ≡ true → z ≡ false → r ≡ M.refuse NO_REPORT_ROOM m → r ≡ write_report message hint range lab m
-  report-no-pool r e f g = g ∙ sym (tested true false e f) ∙ report_on message hint range lab m (take n codes) quiet has
+  pub report_no_pool : (r : Machine) → y ≡ true → z ≡ false → r ≡ M.refuse NO_REPORT_ROOM m → r ≡ write_report message hint range lab m
+  report_no_pool r e f g = g ∙ sym (tested true false e f) ∙ report_on message hint range lab m (take n codes) quiet has
 
 pub report_no_row : (message hint : ℕ) (range lab : Span) (m r : Machine) (y : Bool) → m.refusal ≡ 0 → y ≡ fits (length m.reports.numbers) m.reports.count REPORT_ROW → y ≡ false → r ≡ M.refuse NO_REPORT_ROOM m
     → r ≡ write_report message hint range lab m

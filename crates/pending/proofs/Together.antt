@@ -47,8 +47,8 @@ Follows c F G T = (f : Bool) (s : State) → Settled f s.pending → (f ≡ fals
 
 module _ (c : Terms) where
   -- other steps, with refusal 5 among them only if it is among those
-  pub by-steps : (f g : Bool) (ss us : List Step) (o n : Out) → (Free ss → Free us) → Together c f g ss o n → Together c f g us o n
-  by-steps f g ss us o n h w =
+  pub by_steps : (f g : Bool) (ss us : List Step) (o n : Out) → (Free ss → Free us) → Together c f g ss o n → Together c f g us o n
+  by_steps f g ss us o n h w =
       record {
         what = w.what;
         same = w.same;
@@ -102,9 +102,9 @@ module _ (c : Terms) where
       (λ i. then f f ss (u (as_of o w.what)) o x (y (as_of o w.what)) w.what w.piece i (k w.what w.piece.after w.piece.settled)) e
 
   -- in a marker
-  pub in-mark : (f : Bool) (ss : List Step) (s : State) (o n : Out) → Together c f f ss o n → Together c f f ss (marked s o) (marked (shrunk s) n)
+  pub in_mark : (f : Bool) (ss : List Step) (s : State) (o n : Out) → Together c f f ss o n → Together c f f ss (marked s o) (marked (shrunk s) n)
   unfolding marked makes
-  in-mark f ss s o n w =
+  in_mark f ss s o n w =
       record {
         what = closed o.shape (mark_of s) (mark_of o.state) done w.what;
         same = ap (marked (shrunk s)) w.same;

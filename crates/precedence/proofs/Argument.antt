@@ -59,29 +59,29 @@ module _ (s : State) (t : Token) (ts : List Token) (first : drop_trivia s.since 
   stopped_more p =
       record { stands = p.stands; tail = tail_trans o.state.since ts s.since p.tail (tail_next s.since t ts first); shape_is = p.shape_is }
 
-  argued-more : (sp : Split) → Argued (taken ts) sp o → Argued s (taking sp) (add (took t ts) o)
+  argued_more : (sp : Split) → Argued (taken ts) sp o → Argued s (taking sp) (add (took t ts) o)
   unfolding add makes pushes
-  argued-more sp p =
+  argued_more sp p =
       record {
         same = same_join (token t (length ts) done) o.made one sp.first (same_one t (length ts)) p.same;
         quiet = quiet_join (token t (length ts) done) o.made tt p.quiet;
       }
 
-  closing-more : (sp : Split) (vs : List Symbol) → Closing (taken ts) sp vs o → Closing s (taking sp) vs (add (took t ts) o)
+  closing_more : (sp : Split) (vs : List Symbol) → Closing (taken ts) sp vs o → Closing s (taking sp) vs (add (took t ts) o)
   unfolding add
-  closing-more sp vs (at_comma c cs xs p q a e h l) = at_comma c cs xs (stopped_more p) (argued-more sp q) a e h l
-  closing-more sp vs (at_close p q a e l) = at_close (stopped_more p) (argued-more sp q) a e l
+  closing_more sp vs (at_comma c cs xs p q a e h l) = at_comma c cs xs (stopped_more p) (argued_more sp q) a e h l
+  closing_more sp vs (at_close p q a e l) = at_close (stopped_more p) (argued_more sp q) a e l
 
-  opening-more : Opening (taken ts) o → Opening s (add (took t ts) o)
+  opening_more : Opening (taken ts) o → Opening s (add (took t ts) o)
   unfolding add
-  opening-more (at_comma c cs p a e h) = at_comma c cs (stopped_more p) a e h
-  opening-more (at_end p a e) = at_end (stopped_more p) a e
+  opening_more (at_comma c cs p a e h) = at_comma c cs (stopped_more p) a e h
+  opening_more (at_end p a e) = at_end (stopped_more p) a e
 
   -- x is its symbol, and takes the count from n to m
-  takes-more : (x : Symbol) (n m : ℕ) → ((f : ℕ → Split) → split_change (change x) x f n ≡ taking (f m)) → (y : Args) → Takes (taken ts) m y o
+  takes_more : (x : Symbol) (n m : ℕ) → ((f : ℕ → Split) → split_change (change x) x f n ≡ taking (f m)) → (y : Args) → Takes (taken ts) m y o
       → Takes s n (push x y) (add (took t ts) o)
-  takes-more x n m e (closed xs vs) h = rw (e (split xs)) (closing-more (split xs m) vs h)
-  takes-more x n m e unclosed h = opening-more h
+  takes_more x n m e (closed xs vs) h = rw (e (split xs)) (closing_more (split xs m) vs h)
+  takes_more x n m e unclosed h = opening_more h
 
 -- ---------------------------------------------------------------- where it stops
 
@@ -102,19 +102,19 @@ unfolding replies drop_trivia
 takes_end s n p = at_end (stopped_here no s [] p) refl (symbols_end s.since (passes_drop s.since [] p))
 
 module _ (s : State) (t : Token) (ts : List Token) (p : Passes s.since (t ∷ ts)) (first : drop_trivia s.since ≡ t ∷ ts) where
-  takes-close : seen t ≡ K.RParen → Takes s 0 (closed [] (symbols (eqb (seen t) K.Ident) ts)) (stay no s (t ∷ ts))
+  takes_close : seen t ≡ K.RParen → Takes s 0 (closed [] (symbols (eqb (seen t) K.Ident) ts)) (stay no s (t ∷ ts))
   unfolding replies
-  takes-close e =
+  takes_close e =
       at_close (stopped_here no s (t ∷ ts) p) (argued_none no s (t ∷ ts) (split [] 0) refl) refl
       (symbols_next s.since t ts first ∙ ap (λ (k : ℕ). plain k ∷ symbols (eqb (seen t) K.Ident) ts) e) refl
 
-  takes-comma : (x : Symbol) → is_comma x ≡ true → change x ≡ keeps → (y : Args) → args (symbols false ts) 0 ≡ y → Takes s 0 (push x y) (stay yes s (t ∷ ts))
+  takes_comma : (x : Symbol) → is_comma x ≡ true → change x ≡ keeps → (y : Args) → args (symbols false ts) 0 ≡ y → Takes s 0 (push x y) (stay yes s (t ∷ ts))
   unfolding replies
-  takes-comma x c k (closed xs vs) h =
+  takes_comma x c k (closed xs vs) h =
       let e : split (x ∷ xs) 0 ≡ next_argument (split xs 0) = rw (k, c) refl in
       rw e
       (at_comma t ts xs (stopped_here yes s (t ∷ ts) p) (argued_none yes s (t ∷ ts) (next_argument (split xs 0)) refl) refl first h refl)
-  takes-comma x c k unclosed h = at_comma t ts (stopped_here yes s (t ∷ ts) p) refl first h
+  takes_comma x c k unclosed h = at_comma t ts (stopped_here yes s (t ∷ ts) p) refl first h
 
 -- ---------------------------------------------------------------- all cases
 
@@ -134,45 +134,45 @@ module _ (s : State) (t : Token) (ts : List Token) (b : Bool) (p : Passes s.sinc
   abbrev Case : ℕ → Symbol → Out → Type 0
   Case n x o = Takes s n (args_turn (change x) x (args us) us n) o
 
-  case-opens : (n : ℕ) (x : Symbol) → change x ≡ opens → Case n x (go (suc n))
-  case-opens n x e =
-      rw e (takes-more s t ts first (do_argument (suc n) (taken ts) ts) x n (suc n) (λ f. rw e) (args us (suc n)) (later (suc n)))
+  case_opens : (n : ℕ) (x : Symbol) → change x ≡ opens → Case n x (go (suc n))
+  case_opens n x e =
+      rw e (takes_more s t ts first (do_argument (suc n) (taken ts) ts) x n (suc n) (λ f. rw e) (args us (suc n)) (later (suc n)))
 
-  case-closes : (n : ℕ) (x : Symbol) → change x ≡ closes → seen t ≡ K.RParen → Case n x (at_depth n (stay no s (t ∷ ts)) go)
+  case_closes : (n : ℕ) (x : Symbol) → change x ≡ closes → seen t ≡ K.RParen → Case n x (at_depth n (stay no s (t ∷ ts)) go)
   unfolding at_depth
-  case-closes zero x e k = rw e (takes-close s t ts p first k)
-  case-closes (suc n) x e k =
-      rw e (takes-more s t ts first (do_argument n (taken ts) ts) x (suc n) n (λ f. rw e) (args us n) (later n))
+  case_closes zero x e k = rw e (takes_close s t ts p first k)
+  case_closes (suc n) x e k =
+      rw e (takes_more s t ts first (do_argument n (taken ts) ts) x (suc n) n (λ f. rw e) (args us n) (later n))
 
-  case-keeps : (n : ℕ) (x : Symbol) → change x ≡ keeps → ((f : ℕ → Split) → split_change keeps x f n ≡ taking (f n)) → Case n x (go n)
-  case-keeps n x e h =
-      rw e (takes-more s t ts first (do_argument n (taken ts) ts) x n n (λ f. rw e (h f)) (args us n) (later n))
+  case_keeps : (n : ℕ) (x : Symbol) → change x ≡ keeps → ((f : ℕ → Split) → split_change keeps x f n ≡ taking (f n)) → Case n x (go n)
+  case_keeps n x e h =
+      rw e (takes_more s t ts first (do_argument n (taken ts) ts) x n n (λ f. rw e (h f)) (args us n) (later n))
 
-  case-comma : (n : ℕ) (x : Symbol) → change x ≡ keeps → is_comma x ≡ true → eqb (seen t) K.Ident ≡ false
+  case_comma : (n : ℕ) (x : Symbol) → change x ≡ keeps → is_comma x ≡ true → eqb (seen t) K.Ident ≡ false
       → Case n x (at_depth n (stay yes s (t ∷ ts)) (λ m. go (suc m)))
   unfolding at_depth
-  case-comma zero x e c i = rw (e, i) (takes-comma s t ts p first x c e (args (symbols false ts) 0) refl)
-  case-comma (suc n) x e c i = case-keeps (suc n) x e (λ f. refl)
+  case_comma zero x e c i = rw (e, i) (takes_comma s t ts p first x c e (args (symbols false ts) 0) refl)
+  case_comma (suc n) x e c i = case_keeps (suc n) x e (λ f. refl)
 
-  case-plain : (n : ℕ) (x : Symbol) → change x ≡ keeps → is_comma x ≡ false → Case n x (go n)
-  case-plain zero x e c = case-keeps zero x e (λ f. rw c)
-  case-plain (suc n) x e c = case-keeps (suc n) x e (λ f. refl)
+  case_plain : (n : ℕ) (x : Symbol) → change x ≡ keeps → is_comma x ≡ false → Case n x (go n)
+  case_plain zero x e c = case_keeps zero x e (λ f. rw c)
+  case_plain (suc n) x e c = case_keeps (suc n) x e (λ f. refl)
 
-  by-comma : (n : ℕ) (z : Bool) → eqb (seen t) K.Comma ≡ z → eqb (seen t) K.LParen ≡ false → eqb (seen t) K.RParen ≡ false
+  by_comma : (n : ℕ) (z : Bool) → eqb (seen t) K.Comma ≡ z → eqb (seen t) K.LParen ≡ false → eqb (seen t) K.RParen ≡ false
       → Case n (plain (seen t)) (cond z (at_depth n (stay yes s (t ∷ ts)) (λ m. go (suc m))) (go n))
-  by-comma n true e l r = case-comma n (plain (seen t)) (rw (l, r)) e (ap (λ (k : ℕ). eqb k K.Ident) (eqb-true (seen t) K.Comma e))
-  by-comma n false e l r = case-plain n (plain (seen t)) (rw (l, r)) e
+  by_comma n true e l r = case_comma n (plain (seen t)) (rw (l, r)) e (ap (λ (k : ℕ). eqb k K.Ident) (eqb-true (seen t) K.Comma e))
+  by_comma n false e l r = case_plain n (plain (seen t)) (rw (l, r)) e
 
-  by-close : (n : ℕ) (z : Bool) → eqb (seen t) K.RParen ≡ z → eqb (seen t) K.LParen ≡ false
+  by_close : (n : ℕ) (z : Bool) → eqb (seen t) K.RParen ≡ z → eqb (seen t) K.LParen ≡ false
       → Case n (plain (seen t))
       (cond z (at_depth n (stay no s (t ∷ ts)) go) (cond (eqb (seen t) K.Comma) (at_depth n (stay yes s (t ∷ ts)) (λ m. go (suc m))) (go n)))
-  by-close n true e l = case-closes n (plain (seen t)) (rw (l, e)) (eqb-true (seen t) K.RParen e)
-  by-close n false e l = by-comma n (eqb (seen t) K.Comma) refl l e
+  by_close n true e l = case_closes n (plain (seen t)) (rw (l, e)) (eqb-true (seen t) K.RParen e)
+  by_close n false e l = by_comma n (eqb (seen t) K.Comma) refl l e
 
-  by-open : (n : ℕ) (z : Bool) → eqb (seen t) K.LParen ≡ z
+  by_open : (n : ℕ) (z : Bool) → eqb (seen t) K.LParen ≡ z
       → Case n (symbol b t) (kinds z (eqb (seen t) K.RParen) (eqb (seen t) K.Comma) n (go (suc n)) go (λ a. stay a s (t ∷ ts)))
-  by-open n true e = case-opens n (symbol b t) (turn_opens b t e)
-  by-open n false e = rw (symbol_kind b t e) (by-close n (eqb (seen t) K.RParen) refl e)
+  by_open n true e = case_opens n (symbol b t) (turn_opens b t e)
+  by_open n false e = rw (symbol_kind b t e) (by_close n (eqb (seen t) K.RParen) refl e)
 
 solid_takes : (s : State) (t : Token) (ts : List Token) (b : Bool) (n : ℕ) → Passes s.since (t ∷ ts) → trivia t ≡ false
     → ((m : ℕ) → Takes (taken ts) m (args (symbols (eqb (seen t) K.Ident) ts) m) (do_argument m (taken ts) ts))
@@ -187,7 +187,7 @@ solid_takes s t ts b n p e later =
       raw_kind t K.RParen (omega arith) (λ z. omega arith),
       raw_kind t K.Comma (omega arith) (λ z. omega arith),
     )
-    (by-open s t ts b p first later n (eqb (seen t) K.LParen) refl)
+    (by_open s t ts b p first later n (eqb (seen t) K.LParen) refl)
 
 -- `bump_argument` from the tokens ts at the cursor on; b: an Ident stands directly before them
 pub takes : (ts : List Token) (n : ℕ) (s : State) (b : Bool) → Passes s.since ts → Takes s n (args (symbols b ts) n) (do_argument n s ts)

@@ -27,7 +27,7 @@ use Rattle.laws.specs.Pushes.{NoneExceeded}
 use Rattle.precedence.proofs.Pushed.{Quiet, quiet_done, quiet_join, quiet_closed, clear_first, clear_second}
 use Rattle.precedence.proofs.Same.{Same, same_join, same_one, same_node, same_path}
 use Rattle.precedence.proofs.Symbols.{symbols_drop, Tail, tail_trans, tail_next, ahead_length}
-use Rattle.precedence.proofs.Rules.{pick, ahead, took, Ends, branch, inside, ends-ret, after-bump}
+use Rattle.precedence.proofs.Rules.{pick, ahead, took, Ends, branch, inside, ends_ret, after_bump}
 use Rattle.precedence.proofs.Follow.{Done, done_join}
 use Rattle.precedence.proofs.Argument.{Stopped, Argued, Closing, Opening, at_comma, at_close, at_end, Takes, takes}
 use Rattle.precedence.proofs.Argument as A
@@ -70,9 +70,9 @@ Looped s (closed xs vs) o = Done s (argument (split xs 0)) (C.plain K.RParen ∷
 Looped s unclosed o = Ended s o.state
 
 module _ (ask : Rule → State → Out) (b : Label) where
-  taken-argument : (s : State) → Stands s → Ends ask b (act bump_argument) s (Takes s 0 (args (symbols false s.since) 0))
+  taken_argument : (s : State) → Stands s → Ends ask b (act bump_argument) s (Takes s 0 (args (symbols false s.since) 0))
   unfolding exec perform
-  taken-argument s h =
+  taken_argument s h =
       let e : symbols false s.rest ≡ symbols false s.since =
       symbols_drop s.rest ∙ ap (symbols false) (ahead s h) ∙ sym (symbols_drop s.since) in
       record { holds = λ c. rw (← e) (takes s.rest 0 s false h.passed) }
@@ -81,90 +81,90 @@ module _ (ask : Rule → State → Out) (b : Label) where
   abbrev noded : Ans → State → Out → Out
   noded a s o = marked s (add o (record { ans = a; shape = N.MacroArgument; made = done; state = o.state }))
 
-  stopped-node : (a : Ans) (s : State) (o : Out) → Stopped s o → Stopped s (noded a s o)
+  stopped_node : (a : Ans) (s : State) (o : Out) → Stopped s o → Stopped s (noded a s o)
   unfolding marked makes add
-  stopped-node a s o p = record { stands = p.stands; tail = p.tail; shape_is = refl }
+  stopped_node a s o p = record { stands = p.stands; tail = p.tail; shape_is = refl }
 
-  argued-node : (a : Ans) (s : State) (sp : Split) (o : Out) → Argued s sp o → Argued s (wrapped sp) (noded a s o)
+  argued_node : (a : Ans) (s : State) (sp : Split) (o : Out) → Argued s sp o → Argued s (wrapped sp) (noded a s o)
   unfolding marked makes add closed_marker ◌⧺◌
-  argued-node a s sp o p =
+  argued_node a s sp o p =
       record {
         same = rw join_done (same_node N.MacroArgument (mark_of s) (mark_of o.state) done o.made sp.first p.same);
         quiet = rw join_done (quiet_closed N.MacroArgument (mark_of s) (mark_of o.state) done o.made quiet_done p.quiet);
       }
 
-  closing-node : (a : Ans) (s : State) (sp : Split) (vs : List Symbol) (o : Out) → o.ans ≡ a → Closing s sp vs o → Closing s (wrapped sp) vs (noded a s o)
+  closing_node : (a : Ans) (s : State) (sp : Split) (vs : List Symbol) (o : Out) → o.ans ≡ a → Closing s sp vs o → Closing s (wrapped sp) vs (noded a s o)
   unfolding marked makes add
-  closing-node a s sp vs o e (at_comma c cs xs p q x d h l) =
-      at_comma c cs xs (stopped-node a s o p) (argued-node a s sp o q) (sym e ∙ x) d h l
-  closing-node a s sp vs o e (at_close p q x d l) = at_close (stopped-node a s o p) (argued-node a s sp o q) (sym e ∙ x) d l
+  closing_node a s sp vs o e (at_comma c cs xs p q x d h l) =
+      at_comma c cs xs (stopped_node a s o p) (argued_node a s sp o q) (sym e ∙ x) d h l
+  closing_node a s sp vs o e (at_close p q x d l) = at_close (stopped_node a s o p) (argued_node a s sp o q) (sym e ∙ x) d l
 
-  opening-node : (a : Ans) (s : State) (o : Out) → o.ans ≡ a → Opening s o → Opening s (noded a s o)
+  opening_node : (a : Ans) (s : State) (o : Out) → o.ans ≡ a → Opening s o → Opening s (noded a s o)
   unfolding marked makes add
-  opening-node a s o e (A.at_comma c cs p x d h) = A.at_comma c cs (stopped-node a s o p) (sym e ∙ x) d h
-  opening-node a s o e (at_end p x d) = at_end (stopped-node a s o p) (sym e ∙ x) d
+  opening_node a s o e (A.at_comma c cs p x d h) = A.at_comma c cs (stopped_node a s o p) (sym e ∙ x) d h
+  opening_node a s o e (at_end p x d) = at_end (stopped_node a s o p) (sym e ∙ x) d
 
-  closing-answers : (s : State) (sp : Split) (vs : List Symbol) (o : Out) → Closing s sp vs o → (o.ans ≡ yes) ⊎ (o.ans ≡ no)
-  closing-answers s sp vs o (at_comma c cs xs p q x d h l) = inl x
-  closing-answers s sp vs o (at_close p q x d l) = inr x
+  closing_answers : (s : State) (sp : Split) (vs : List Symbol) (o : Out) → Closing s sp vs o → (o.ans ≡ yes) ⊎ (o.ans ≡ no)
+  closing_answers s sp vs o (at_comma c cs xs p q x d h l) = inl x
+  closing_answers s sp vs o (at_close p q x d l) = inr x
 
-  opening-answers : (s : State) (o : Out) → Opening s o → (o.ans ≡ yes) ⊎ (o.ans ≡ no)
-  opening-answers s o (A.at_comma c cs p x d h) = inl x
-  opening-answers s o (at_end p x d) = inr x
+  opening_answers : (s : State) (o : Out) → Opening s o → (o.ans ≡ yes) ⊎ (o.ans ≡ no)
+  opening_answers s o (A.at_comma c cs p x d h) = inl x
+  opening_answers s o (at_end p x d) = inr x
 
-  node-then : (s : State) (o : Out) (Q : Out → Type 0) → (o.ans ≡ yes) ⊎ (o.ans ≡ no) → ((a : Ans) → o.ans ≡ a → Q (noded a s o))
+  node_then : (s : State) (o : Out) (Q : Out → Type 0) → (o.ans ≡ yes) ⊎ (o.ans ≡ no) → ((a : Ans) → o.ans ≡ a → Q (noded a s o))
       → Ends ask b (pick o.ans (ret N.MacroArgument no) (ret N.MacroArgument yes) (ret N.MacroArgument yes)) o.state (λ o'. Q (marked s (add o o')))
   unfolding add
-  node-then s o Q (inl e) f = rw e (ends-ret ask b (f yes e))
-  node-then s o Q (inr e) f = rw e (ends-ret ask b (f no e))
+  node_then s o Q (inl e) f = rw e (ends_ret ask b (f yes e))
+  node_then s o Q (inr e) f = rw e (ends_ret ask b (f no e))
 
   node_by : (s : State) (y : Args) (o : Out) → Takes s 0 y o
       → Ends ask b (pick o.ans (ret N.MacroArgument no) (ret N.MacroArgument yes) (ret N.MacroArgument yes)) o.state (λ o'. Noded s y (marked s (add o o')))
   node_by s (closed xs vs) o h =
-      node-then s o (Closing s (wrapped (split xs 0)) vs) (closing-answers s (split xs 0) vs o h) (λ a e. closing-node a s (split xs 0) vs o e h)
-  node_by s unclosed o h = node-then s o (Opening s) (opening-answers s o h) (λ a e. opening-node a s o e h)
+      node_then s o (Closing s (wrapped (split xs 0)) vs) (closing_answers s (split xs 0) vs o h) (λ a e. closing_node a s (split xs 0) vs o e h)
+  node_by s unclosed o h = node_then s o (Opening s) (opening_answers s o h) (λ a e. opening_node a s o e h)
 
-  argument-node : (s : State) → Stands s
+  argument_node : (s : State) → Stands s
       → Ends ask b (in_marker (case (act bump_argument) (ret N.MacroArgument no) (ret N.MacroArgument yes) (ret N.MacroArgument yes))) s
       (Noded s (args (symbols false s.since) 0))
-  argument-node s h = inside ask b (branch ask b (taken-argument s h) (node_by s (args (symbols false s.since) 0)))
+  argument_node s h = inside ask b (branch ask b (taken_argument s h) (node_by s (args (symbols false s.since) 0)))
 
   -- ---------------------------------------------------------------- a turn: an argument, and the comma after it
 
   -- a comma that stands ahead is after the cursor
-  comma-moved : (s : State) → Stands s → (r : List Token) (c : Token) (cs : List Token) → Tail r s.since → drop_trivia r ≡ c ∷ cs → length cs < length s.rest
-  comma-moved s h r c cs t e =
+  comma_moved : (s : State) → Stands s → (r : List Token) (c : Token) (cs : List Token) → Tail r s.since → drop_trivia r ≡ c ∷ cs → length cs < length s.rest
+  comma_moved s h r c cs t e =
       let l = ahead_length r s.since t in
       let m = drop_trivia_length s.rest in
       omega (arith, ap length e, ap length (ahead s h))
 
   -- the argument's node o, and the comma c
-  abbrev with-comma : Out → Token → List Token → Out
-  with-comma o c cs = add o (add (took c cs) (record { ans = again; shape = 0; made = done; state = taken cs }))
+  abbrev with_comma : Out → Token → List Token → Out
+  with_comma o c cs = add o (add (took c cs) (record { ans = again; shape = 0; made = done; state = taken cs }))
 
-  round-of : (s : State) → Stands s → (o : Out) (c : Token) (cs : List Token) → Stopped s o → drop_trivia o.state.since ≡ c ∷ cs → Round s cs (with-comma o c cs)
+  round_of : (s : State) → Stands s → (o : Out) (c : Token) (cs : List Token) → Stopped s o → drop_trivia o.state.since ≡ c ∷ cs → Round s cs (with_comma o c cs)
   unfolding add
-  round-of s h o c cs p e =
+  round_of s h o c cs p e =
       record {
         answers = refl;
         comes_to = refl;
         tail = tail_trans cs o.state.since s.since (tail_next o.state.since c cs e) p.tail;
-        moved = comma-moved s h o.state.since c cs p.tail e;
+        moved = comma_moved s h o.state.since c cs p.tail e;
       }
 
-  round-closing : (s : State) → Stands s → (xs vs : List Symbol) (o : Out) → Closing s (wrapped (split xs 0)) vs o
+  round_closing : (s : State) → Stands s → (xs vs : List Symbol) (o : Out) → Closing s (wrapped (split xs 0)) vs o
       → Ends ask b (pick o.ans (tell yes) (bump! ⨟ tell again) (bump! ⨟ tell again)) o.state (λ o'. Rounds s (closed xs vs) (add o o'))
   unfolding add makes ◌⧺◌ pushes
-  round-closing s h xs vs o (at_comma c cs ys p q x e k l) =
+  round_closing s h xs vs o (at_comma c cs ys p q x e k l) =
       subst (λ (a : Ans). Ends ask b (pick a (tell yes) (bump! ⨟ tell again) (bump! ⨟ tell again)) o.state (λ o'. Rounds s (closed xs vs) (add o o'))) (sym x)
-      (after-bump ask b c cs p.stands e
-      (ends-ret ask b
-      (more_closed cs ys (round-of s h o c cs p e)
+      (after_bump ask b c cs p.stands e
+      (ends_ret ask b
+      (more_closed cs ys (round_of s h o c cs p e)
       (same_join o.made (token c (length cs) done) (nodes N.MacroArgument (split xs 0).first) one q.same (same_one c (length cs)))
       (quiet_join o.made (token c (length cs) done) q.quiet tt) k l)))
-  round-closing s h xs vs o (at_close p q x e l) =
+  round_closing s h xs vs o (at_close p q x e l) =
       subst (λ (a : Ans). Ends ask b (pick a (tell yes) (bump! ⨟ tell again) (bump! ⨟ tell again)) o.state (λ o'. Rounds s (closed xs vs) (add o o'))) (sym x)
-      (ends-ret ask b
+      (ends_ret ask b
       (last_closed refl
       (record {
         same = same_join o.made done (nodes N.MacroArgument (split xs 0).first) (split xs 0).later q.same (same_path done (split xs 0).later (sym l));
@@ -174,24 +174,24 @@ module _ (ask : Rule → State → Out) (b : Label) where
         tail = p.tail;
       })))
 
-  round-opening : (s : State) → Stands s → (o : Out) → Opening s o
+  round_opening : (s : State) → Stands s → (o : Out) → Opening s o
       → Ends ask b (pick o.ans (tell yes) (bump! ⨟ tell again) (bump! ⨟ tell again)) o.state (λ o'. Rounds s unclosed (add o o'))
   unfolding add
-  round-opening s h o (A.at_comma c cs p x e k) =
+  round_opening s h o (A.at_comma c cs p x e k) =
       subst (λ (a : Ans). Ends ask b (pick a (tell yes) (bump! ⨟ tell again) (bump! ⨟ tell again)) o.state (λ o'. Rounds s unclosed (add o o'))) (sym x)
-      (after-bump ask b c cs p.stands e (ends-ret ask b (more_open cs (round-of s h o c cs p e) k)))
-  round-opening s h o (at_end p x e) =
+      (after_bump ask b c cs p.stands e (ends_ret ask b (more_open cs (round_of s h o c cs p e) k)))
+  round_opening s h o (at_end p x e) =
       subst (λ (a : Ans). Ends ask b (pick a (tell yes) (bump! ⨟ tell again) (bump! ⨟ tell again)) o.state (λ o'. Rounds s unclosed (add o o'))) (sym x)
-      (ends-ret ask b (last_open refl p.stands e p.tail))
+      (ends_ret ask b (last_open refl p.stands e p.tail))
 
   round_by : (s : State) → Stands s → (y : Args) (o : Out) → Noded s y o
       → Ends ask b (pick o.ans (tell yes) (bump! ⨟ tell again) (bump! ⨟ tell again)) o.state (λ o'. Rounds s y (add o o'))
-  round_by s h (closed xs vs) o p = round-closing s h xs vs o p
-  round_by s h unclosed o p = round-opening s h o p
+  round_by s h (closed xs vs) o p = round_closing s h xs vs o p
+  round_by s h unclosed o p = round_opening s h o p
 
   rounds : (s : State) → Stands s → Ends ask b macro_argument_turn s (Rounds s (args (symbols false s.since) 0))
   unfolding macro_argument_turn
-  rounds s h = branch ask b (argument-node s h) (round_by s h (args (symbols false s.since) 0))
+  rounds s h = branch ask b (argument_node s h) (round_by s h (args (symbols false s.since) 0))
 
   -- ---------------------------------------------------------------- the loop over the arguments
 
@@ -205,23 +205,23 @@ module _ (ask : Rule → State → Out) (b : Label) where
   abbrev Later : ℕ → Type 0
   Later n = (u : State) → Stands u → length u.rest < n → NoneExceeded (pushes (iter n turn u).made) → Looped u (args (symbols false u.since) 0) (iter n turn u)
 
-  round-goes : (s : State) (cs : List Token) (o : Out) → Round s cs o → goes_on s o ≡ true
+  round_goes : (s : State) (cs : List Token) (o : Out) → Round s cs o → goes_on s o ≡ true
   unfolding goes_on is_again
-  round-goes s cs o r = rw (r.answers, r.comes_to, lt-ltb (length cs) (length s.rest) r.moved)
+  round_goes s cs o r = rw (r.answers, r.comes_to, lt-ltb (length cs) (length s.rest) r.moved)
 
-  last-stops : (s : State) (o : Out) → o.ans ≡ yes → goes_on s o ≡ false
+  last_stops : (s : State) (o : Out) → o.ans ≡ yes → goes_on s o ≡ false
   unfolding goes_on is_again
-  last-stops s o e = rw e
+  last_stops s o e = rw e
 
-  looped-more : (n : ℕ) (s : State) (cs : List Token) (o : Out) → Round s cs o
+  looped_more : (n : ℕ) (s : State) (cs : List Token) (o : Out) → Round s cs o
       → looped n s o ≡ add (makes o.ans o.made (taken cs)) (iter n turn (taken cs))
-  looped-more n s cs o r =
-      ap (λ (x : Bool). cond x (add (makes o.ans o.made o.state) (iter n turn o.state)) (makes o.ans o.made o.state)) (round-goes s cs o r)
+  looped_more n s cs o r =
+      ap (λ (x : Bool). cond x (add (makes o.ans o.made o.state) (iter n turn o.state)) (makes o.ans o.made o.state)) (round_goes s cs o r)
       ∙ ap (λ (u : State). add (makes o.ans o.made u) (iter n turn u)) r.comes_to
 
-  looped-last : (n : ℕ) (s : State) (o : Out) → o.ans ≡ yes → looped n s o ≡ makes o.ans o.made o.state
-  looped-last n s o e =
-      ap (λ (x : Bool). cond x (add (makes o.ans o.made o.state) (iter n turn o.state)) (makes o.ans o.made o.state)) (last-stops s o e)
+  looped_last : (n : ℕ) (s : State) (o : Out) → o.ans ≡ yes → looped n s o ≡ makes o.ans o.made o.state
+  looped_last n s o e =
+      ap (λ (x : Bool). cond x (add (makes o.ans o.made o.state) (iter n turn o.state)) (makes o.ans o.made o.state)) (last_stops s o e)
 
   done_more : (s : State) (cs : List Token) (xs ys vs : List Symbol) (o o' : Out) → Round s cs o
       → Same o.made (nodes N.MacroArgument (split xs 0).first ⧺ one) → Quiet (pushes o.made) → (split xs 0).later ≡ one ⧺ argument (split ys 0)
@@ -235,39 +235,39 @@ module _ (ask : Rule → State → Out) (b : Label) where
       subst (λ (z : Skeleton). Done s z (C.plain K.RParen ∷ vs) (o.made ⧺ o'.made) o'.state) e
       (done_join s (taken cs) o'.state (first ⧺ one) (argument (split ys 0)) (symbols false cs) (C.plain K.RParen ∷ vs) o.made o'.made a d)
 
-  loop-step : (n : ℕ) (s : State) (y : Args) (o : Out) → Rounds s y o → length s.rest < suc n → Later n → NoneExceeded (pushes (looped n s o).made)
+  loop_step : (n : ℕ) (s : State) (y : Args) (o : Out) → Rounds s y o → length s.rest < suc n → Later n → NoneExceeded (pushes (looped n s o).made)
       → Looped s y (looped n s o)
   unfolding add makes
-  loop-step n s (closed xs vs) o (more_closed cs ys r p q k l) h later c =
-      let e = looped-more n s cs o r in
+  loop_step n s (closed xs vs) o (more_closed cs ys r p q k l) h later c =
+      let e = looped_more n s cs o r in
       let c' : NoneExceeded (pushes (o.made ⧺ (iter n turn (taken cs)).made)) = subst (λ (x : Out). NoneExceeded (pushes x.made)) e c in
       let d = later (taken cs) (stands_taken cs) (omega (arith, r.moved)) (clear_second o.made (iter n turn (taken cs)).made c') in
       subst (Looped s (closed xs vs)) (sym e)
       (done_more s cs xs ys vs o (iter n turn (taken cs)) r p q l (subst (λ (z : Args). Looped (taken cs) z (iter n turn (taken cs))) k d))
-  loop-step n s (closed xs vs) o (last_closed a d) h later c = subst (Looped s (closed xs vs)) (sym (looped-last n s o a)) d
-  loop-step n s unclosed o (more_open cs r k) h later c =
-      let e = looped-more n s cs o r in
+  loop_step n s (closed xs vs) o (last_closed a d) h later c = subst (Looped s (closed xs vs)) (sym (looped_last n s o a)) d
+  loop_step n s unclosed o (more_open cs r k) h later c =
+      let e = looped_more n s cs o r in
       let c' : NoneExceeded (pushes (o.made ⧺ (iter n turn (taken cs)).made)) = subst (λ (x : Out). NoneExceeded (pushes x.made)) e c in
       let d = later (taken cs) (stands_taken cs) (omega (arith, r.moved)) (clear_second o.made (iter n turn (taken cs)).made c') in
       let z : Ended (taken cs) (iter n turn (taken cs)).state = subst (λ (z : Args). Looped (taken cs) z (iter n turn (taken cs))) k d in
       subst (Looped s unclosed) (sym e)
       (record { stands = z.stands; left = z.left; tail = tail_trans (iter n turn (taken cs)).state.since cs s.since z.tail r.tail })
-  loop-step n s unclosed o (last_open a st e t) h later c =
-      subst (Looped s unclosed) (sym (looped-last n s o a)) (record { stands = st; left = e; tail = t })
+  loop_step n s unclosed o (last_open a st e t) h later c =
+      subst (Looped s unclosed) (sym (looped_last n s o a)) (record { stands = st; left = e; tail = t })
 
-  looped-clear : (n : ℕ) (s : State) (o : Out) (x : Bool)
+  looped_clear : (n : ℕ) (s : State) (o : Out) (x : Bool)
       → NoneExceeded (pushes (cond x (add (makes o.ans o.made o.state) (iter n turn o.state)) (makes o.ans o.made o.state)).made) → NoneExceeded (pushes o.made)
   unfolding add makes
-  looped-clear n s o true c = clear_first o.made (iter n turn o.state).made c
-  looped-clear n s o false c = c
+  looped_clear n s o true c = clear_first o.made (iter n turn o.state).made c
+  looped_clear n s o false c = c
 
   later : (n : ℕ) → Later n
   unfolding iter
   later zero u h l c = absurd (omega arith)
   later (suc n) u h l c =
-      loop-step n u (args (symbols false u.since) 0) (turn u) ((rounds u h).holds (looped-clear n u (turn u) (goes_on u (turn u)) c)) l (later n) c
+      loop_step n u (args (symbols false u.since) 0) (turn u) ((rounds u h).holds (looped_clear n u (turn u) (goes_on u (turn u)) c)) l (later n) c
 
   -- `loop macro_argument_turn`
-  pub arguments-loop : (s : State) → Stands s → Ends ask b (loop macro_argument_turn) s (Looped s (args (symbols false s.since) 0))
+  pub arguments_loop : (s : State) → Stands s → Ends ask b (loop macro_argument_turn) s (Looped s (args (symbols false s.since) 0))
   unfolding exec
-  arguments-loop s h = record { holds = later (suc (length s.rest)) s h (omega arith) }
+  arguments_loop s h = record { holds = later (suc (length s.rest)) s h (omega arith) }

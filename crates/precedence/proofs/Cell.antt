@@ -29,9 +29,9 @@ use Rattle.precedence.proofs.Partner.{Paired, partner_of}
 use Rattle.precedence.proofs.Pushed.{Quiet, Reported, reported_second}
 use Rattle.precedence.proofs.Same.{Same}
 use Rattle.precedence.proofs.Symbols.{symbols_split, tail_length, still_there, gone_by}
-use Rattle.precedence.proofs.Rules.{Ends, ends-map, ends-any, seq, inside, ends-ret, after-bump}
+use Rattle.precedence.proofs.Rules.{Ends, ends_map, ends_any, seq, inside, ends_ret, after_bump}
 use Rattle.precedence.proofs.Follow.{Done, Noted, Follows, done_join, done_token, noted_first, noted_second, noted_from, Expected, found, missing, expects}
-use Rattle.precedence.proofs.Operands.{done-after}
+use Rattle.precedence.proofs.Operands.{done_after}
 use Rattle.precedence.proofs.Loop.{calls}
 
 -- ---------------------------------------------------------------- the run
@@ -45,32 +45,32 @@ CellRun s refused o = ⊥
 CellRun s spent o = Unit {0}
 
 module _ (n : ℕ) (b : Label) where
-  close-by : (s : State) (e : Expr) (vs : List Symbol) (o : Out) → Done s (expr_nodes e) vs o.made o.state → (o' : Out) → Expected (run n) b K.RParen refl o.state o'
+  close_by : (s : State) (e : Expr) (vs : List Symbol) (o : Out) → Done s (expr_nodes e) vs o.made o.state → (o' : Out) → Expected (run n) b K.RParen refl o.state o'
       → CellRun s (P.expect K.RParen vs (λ ws. P.done e ws)) (add o o')
   unfolding add makes
-  close-by s e vs o d o' (found t ts z p f) =
+  close_by s e vs o d o' (found t ts z p f) =
       let q : Done o.state one (symbols false ts) o'.made o'.state = rw p (done_token o.state t ts z) in
       let g : P.expect K.RParen vs (λ ws. P.done e ws) ≡ P.done e (symbols false ts) =
       ap (λ (l : List Symbol). P.expect K.RParen l (λ ws. P.done e ws)) (sym d.left) ∙ f (λ ws. P.done e ws) in
       rw g (done_join s o.state o'.state (expr_nodes e) one vs (symbols false ts) o.made o'.made d q)
-  close-by s e vs o d o' (missing x m f) =
+  close_by s e vs o d o' (missing x m f) =
       let g : P.expect K.RParen vs (λ ws. P.done e ws) ≡ P.report vs =
       ap (λ (l : List Symbol). P.expect K.RParen l (λ ws. P.done e ws)) (sym d.left) ∙ f (λ ws. P.done e ws) ∙ ap P.report d.left in
       rw g
       (noted_second s vs o.made o'.made
       (noted_from s o.state vs o'.made d.tail (subst (λ (l : List Symbol). Noted o.state l o'.made) d.left m)))
 
-  cell-by : (s : State) (x : Res) (o : Out) → Follows s expr_nodes x o
+  cell_by : (s : State) (x : Res) (o : Out) → Follows s expr_nodes x o
       → Ends (run n) b (expect (of_kind K.RParen)) o.state (λ o'. CellRun s (bind x (λ e vs. P.expect K.RParen vs (λ ws. P.done e ws))) (add o o'))
   unfolding add
-  cell-by s (P.done e vs) o d = ends-map (run n) b (expects (run n) b K.RParen refl o.state d.1.stands) (close-by s e vs o d.1)
-  cell-by s (P.report vs) o m = ends-any (run n) b (λ o'. noted_first s vs o.made o'.made m)
-  cell-by s refused o d = absurd d
-  cell-by s spent o d = ends-any (run n) b (λ o'. tt)
+  cell_by s (P.done e vs) o d = ends_map (run n) b (expects (run n) b K.RParen refl o.state d.1.stands) (close_by s e vs o d.1)
+  cell_by s (P.report vs) o m = ends_any (run n) b (λ o'. noted_first s vs o.made o'.made m)
+  cell_by s refused o d = absurd d
+  cell_by s spent o d = ends_any (run n) b (λ o'. tt)
 
-  cell-runs : (s : State) → Stands s
+  cell_runs : (s : State) → Stands s
       → Ends (run n) b (open_call (expr_binding_power 0) ⨟ expect (of_kind K.RParen)) s (CellRun s (P.cell n (symbols false s.since)))
-  cell-runs s h = seq (run n) b (calls n b 0 s h) (cell-by s (reader n 0 (symbols false s.since)))
+  cell_runs s h = seq (run n) b (calls n b 0 s h) (cell_by s (reader n 0 (symbols false s.since)))
 
 -- ---------------------------------------------------------------- the judgement
 
@@ -103,7 +103,7 @@ judge_by : (s : State) (t : Token) (ts : List Token) → drop_trivia s.since ≡
     → Verdict (symbols false inner) (symbols false after) x → (a : ℕ) → Fin a R x
     → Good inner close after (mark_of o.state) (token t (length ts) done ⧺ o.made) ⊎ Bad inner close after ts (token t (length ts) done ⧺ o.made)
 judge_by s t ts ahead inner close after e k R (P.done f vs) o d v a g =
-    let r = done-after s t ts ahead (expr_nodes f ⧺ one) vs o.made o.state d in
+    let r = done_after s t ts ahead (expr_nodes f ⧺ one) vs o.made o.state d in
     inl (record {
       tree = f;
       gives = v.0;
@@ -166,10 +166,10 @@ module _ (n : ℕ) (b : Label) where
       judge_by s t ts ahead inner close after e k (n ≤ length (xs ++ (C.plain K.RParen ∷ ys))) (P.cell n (xs ++ (C.plain K.RParen ∷ ys))) o (rw z at r)
       (verdict n xs ys bal) (length (xs ++ (C.plain K.RParen ∷ ys))) (cell_fin n (xs ++ (C.plain K.RParen ∷ ys)))
 
-  cell-of : (s : State) (t : Token) (ts : List Token) → drop_trivia s.since ≡ t ∷ ts → seen t ≡ K.LParen → (o : Out) → CellRun (taken ts) (P.cell n (symbols false ts)) o
+  cell_of : (s : State) (t : Token) (ts : List Token) → drop_trivia s.since ≡ t ∷ ts → seen t ≡ K.LParen → (o : Out) → CellRun (taken ts) (P.cell n (symbols false ts)) o
       → CellOf (mark_of s) (mark_of o.state) (token t (length ts) done ⧺ o.made) (drop_trivia s.since)
   unfolding ◌⧺◌
-  cell-of s t ts ahead k o r =
+  cell_of s t ts ahead k o r =
       record {
         bracket = t;
         beyond = ts;
@@ -189,7 +189,7 @@ module _ (n : ℕ) (b : Label) where
   cells s h t ts ahead k =
       let beyond : Ends (run n) b (bump! ⨟ open_call (expr_binding_power 0) ⨟ expect (of_kind K.RParen)) s
       (λ o. CellOf (mark_of s) (mark_of o.state) o.made (drop_trivia s.since)) =
-      after-bump (run n) b t ts h ahead (ends-map (run n) b (cell-runs n b (taken ts) (stands_taken ts)) (cell-of s t ts ahead k)) in
+      after_bump (run n) b t ts h ahead (ends_map (run n) b (cell_runs n b (taken ts) (stands_taken ts)) (cell_of s t ts ahead k)) in
       inside (run n) b
       (seq (run n) b beyond
-      (λ o c. ends-ret (run n) b (record { i = o.made; made_is = rw (join_done o.made); cell = c })))
+      (λ o c. ends_ret (run n) b (record { i = o.made; made_is = rw (join_done o.made); cell = c })))

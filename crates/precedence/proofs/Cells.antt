@@ -17,7 +17,7 @@ use Rattle.definitions.specs.Place.{after}
 use Rattle.definitions.specs.Report.{pushes}
 use Rattle.basics.proofs.Tests.{cond-all}
 use Rattle.laws.proofs.Trivia.{drop_twice, passes_none}
-use Rattle.laws.proofs.Kept.{Stands, run-kept, exec_kept}
+use Rattle.laws.proofs.Kept.{Stands, run_kept, exec_kept}
 use Rattle.laws.proofs.Between.{Taking, reads_kept}
 use Rattle.laws.specs.Pushes.{NoneExceeded}
 use Rattle.precedence.proofs.Pushed.{clear_first, clear_second, clear_inside, clear_before}
@@ -142,11 +142,11 @@ unfolding exec
 celled_act b a s =
     let q = simple_act b a s in
     let k : Stands s → Stands (perform b a s).state × Taking s (perform b a s).made (perform b a s).state =
-    exec_kept Taking reads_kept (run 0) (run-kept Taking reads_kept 0) b (act a) s in
+    exec_kept Taking reads_kept (run 0) (run_kept Taking reads_kept 0) b (act a) s in
     record {
       shape = ap no_cell q.shape_is;
       stands = λ h. (k h).0;
-      makes-it = λ h. record { takes = (k h).1; cells = λ c ts e. nodeless_cells (perform b a s).made ts q.nodeless };
+      makes_it = λ h. record { takes = (k h).1; cells = λ c ts e. nodeless_cells (perform b a s).made ts q.nodeless };
     }
 
 celled_join : (s u v : State) (p q : Skeleton) → Celled s p u → Celled u q v → Celled s (p ⧺ q) v

@@ -14,7 +14,7 @@ use Rattle.definitions.specs.C.{Symbol, plain, arguments, Change, opens, closes,
 use Rattle.precedence.proofs.Pratt.{Operand, prefixes, brackets, names, literals, operand, Operator, asks, binds, operator, is, Res, done, spent, Reader, bind, expect, Args, closed, push, args_turn, args, named, lhs_by, bind_if, ask_if, step_by, step, loop, reader}
 use Rattle.precedence.proofs.Pratt as P
 use Rattle.precedence.proofs.Tables.{Powers, OperatorOf, operator_of, prefix_operand, literal_operand}
-use Rattle.precedence.proofs.Powers.{lb, rb, powers, under-prefix', as-left', as-right', as-condition', as-branch}
+use Rattle.precedence.proofs.Powers.{lb, rb, powers, under_prefix', as_left', as_right', as_condition', as_branch}
 use Rattle.precedence.proofs.Base.{onto, not_none, Below, Stop, stop_all, stop_weaken, Post, post_bind}
 
 -- no argument list begins here
@@ -90,31 +90,31 @@ binds_of : (k : ℕ) → 1 ≤ line_of k → (l : ℕ) × (r : ℕ) × (operator
 binds_of k n = binds_from k (operator (plain k)) refl (operator_of k) n
 
 module _ (D : Expr → List Symbol → Type 0) (rec : Reader) (m : ℕ) (e : Expr) (us vs : List Symbol) where
-  bind-go : (k l r : ℕ) (f : Expr) (ts : List Symbol) (more : Expr → List Symbol → Res) → m ≤ l → Post (Is f vs) Never (rec r us)
+  bind_go : (k l r : ℕ) (f : Expr) (ts : List Symbol) (more : Expr → List Symbol → Res) → m ≤ l → Post (Is f vs) Never (rec r us)
       → Post D Never (more (binary e k f) vs) → (b : Bool) → ltb l m ≡ b → Post D Never (bind_if b more rec e k r ts us)
-  bind-go k l r f ts more h x g true t = absurd (omega (arith, ltb-true l m t))
-  bind-go k l r f ts more h x g false t = post_then D f vs (rec r us) (λ f' ws. more (binary e k f') ws) x g
+  bind_go k l r f ts more h x g true t = absurd (omega (arith, ltb-true l m t))
+  bind_go k l r f ts more h x g false t = post_then D f vs (rec r us) (λ f' ws. more (binary e k f') ws) x g
 
-  round-binary : (k l r : ℕ) (f : Expr) → operator (plain k) ≡ binds k l r → m ≤ l → Post (Is f vs) Never (rec r us)
+  round_binary : (k l r : ℕ) (f : Expr) → operator (plain k) ≡ binds k l r → m ≤ l → Post (Is f vs) Never (rec r us)
       → ((n : ℕ) → Post D Never (loop rec n m (binary e k f) vs)) → (n : ℕ) → Post D Never (loop rec n m e (plain k ∷ us))
-  round-binary k l r f o h x g zero = rw o (bind-go k l r f (plain k ∷ us) (λ e' us'. spent) h x tt (ltb l m) refl)
-  round-binary k l r f o h x g (suc n) = rw o (bind-go k l r f (plain k ∷ us) (loop rec n m) h x (g n) (ltb l m) refl)
+  round_binary k l r f o h x g zero = rw o (bind_go k l r f (plain k ∷ us) (λ e' us'. spent) h x tt (ltb l m) refl)
+  round_binary k l r f o h x g (suc n) = rw o (bind_go k l r f (plain k ∷ us) (loop rec n m) h x (g n) (ltb l m) refl)
 
-  ask-go : (a : Expr) (ws : List Symbol) (b : Expr) (ts : List Symbol) (more : Expr → List Symbol → Res) → m ≤ 2
+  ask_go : (a : Expr) (ws : List Symbol) (b : Expr) (ts : List Symbol) (more : Expr → List Symbol → Res) → m ≤ 2
       → Post (Is a (plain K.Colon ∷ ws)) Never (rec 0 us) → Post (Is b vs) Never (rec 1 ws)
       → Post D Never (more (ternary e a b) vs) → (t : Bool) → ltb 2 m ≡ t → Post D Never (ask_if t more rec e ts us)
   unfolding is one_of
-  ask-go a ws b ts more h x y g true t = absurd (omega (arith, ltb-true 2 m t))
-  ask-go a ws b ts more h x y g false t =
+  ask_go a ws b ts more h x y g true t = absurd (omega (arith, ltb-true 2 m t))
+  ask_go a ws b ts more h x y g false t =
       post_then D a (plain K.Colon ∷ ws) (rec 0 us)
       (λ a' zs. expect K.Colon zs (λ xs. bind (rec 1 xs) (λ b' ys. more (ternary e a' b') ys))) x
       (post_then D b vs (rec 1 ws) (λ b' ys. more (ternary e a b') ys) y g)
 
-  round-ask : (a : Expr) (ws : List Symbol) (b : Expr) → m ≤ 2 → Post (Is a (plain K.Colon ∷ ws)) Never (rec 0 us) → Post (Is b vs) Never (rec 1 ws)
+  round_ask : (a : Expr) (ws : List Symbol) (b : Expr) → m ≤ 2 → Post (Is a (plain K.Colon ∷ ws)) Never (rec 0 us) → Post (Is b vs) Never (rec 1 ws)
       → ((n : ℕ) → Post D Never (loop rec n m (ternary e a b) vs)) → (n : ℕ) → Post D Never (loop rec n m e (plain K.QuestionMark ∷ us))
   unfolding operator one_of
-  round-ask a ws b h x y g zero = ask-go a ws b (plain K.QuestionMark ∷ us) (λ e' us'. spent) h x y tt (ltb 2 m) refl
-  round-ask a ws b h x y g (suc n) = ask-go a ws b (plain K.QuestionMark ∷ us) (loop rec n m) h x y (g n) (ltb 2 m) refl
+  round_ask a ws b h x y g zero = ask_go a ws b (plain K.QuestionMark ∷ us) (λ e' us'. spent) h x y tt (ltb 2 m) refl
+  round_ask a ws b h x y g (suc n) = ask_go a ws b (plain K.QuestionMark ∷ us) (loop rec n m) h x y (g n) (ltb 2 m) refl
 
 -- ---------------------------------------------------------------- a whole expression
 
@@ -148,23 +148,23 @@ reads (bracketed e) a d m h us s c D g =
 reads (prefix k e) a d m h us s c D g =
     lhs_then D d m (prefixes k) (plain k) (onto e us) (prefix k e) us (prefix_operand k a.0)
     (post_then (Is (prefix k e) us) e us (reader d 23 (onto e us)) (λ e' vs. done (prefix k e') vs)
-    (exact e a.1 (reads e a.1) d 23 (under-prefix' e (powers e a.1) a.2) us (stop_all 23 (omega arith) us) c) (refl, refl)) g
+    (exact e a.1 (reads e a.1) d 23 (under_prefix' e (powers e a.1) a.2) us (stop_all 23 (omega arith) us) c) (refl, refl)) g
 reads (binary l k r) a d m h us s c D g =
     let o = binds_of k a.0 in
     let lp = o.0 in
     let rp = o.1 in
     let pw = o.3 in
-    let q = as-left' l (powers l a.1) (line_of k) lp rp pw a.3 in
+    let q = as_left' l (powers l a.1) (line_of k) lp rp pw a.3 in
     let rb-is : rb (binary l k r) ≡ rp = omega arith in
     reads l a.1 d m (omega arith) (plain k ∷ onto r us) (rw o.2 q.0) tt D
-    (round-binary D (reader d) m l (onto r us) us k lp rp r o.2 (omega arith)
-    (exact r a.2 (reads r a.2) d rp (as-right' r (powers r a.2) (line_of k) lp rp pw a.4) us (rw rb-is at s) c) g)
+    (round_binary D (reader d) m l (onto r us) us k lp rp r o.2 (omega arith)
+    (exact r a.2 (reads r a.2) d rp (as_right' r (powers r a.2) (line_of k) lp rp pw a.4) us (rw rb-is at s) c) g)
 reads (ternary x y z) a d m h us s c D g =
-    let q = as-condition' x (powers x a.0) a.3 in
+    let q = as_condition' x (powers x a.0) a.3 in
     reads x a.0 d m (omega arith) (plain K.QuestionMark ∷ onto y (plain K.Colon ∷ onto z us)) q.0 tt D
-    (round-ask D (reader d) m x (onto y (plain K.Colon ∷ onto z us)) us y (onto z us) z h
+    (round_ask D (reader d) m x (onto y (plain K.Colon ∷ onto z us)) us y (onto z us) z h
     (exact y a.1 (reads y a.1) d 0 (omega arith) (plain K.Colon ∷ onto z us) tt tt)
-    (exact z a.2 (reads z a.2) d 1 (as-branch z (powers z a.2)) us s c) g)
+    (exact z a.2 (reads z a.2) d 1 (as_branch z (powers z a.2)) us s c) g)
 
 -- at the lowest minimum
 pub reads_exactly : (e : Expr) → WellFormed e → (d : ℕ) (us : List Symbol) → Stop 0 us → NoCall us → Post (Is e us) Never (reader d 0 (onto e us))

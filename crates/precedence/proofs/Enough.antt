@@ -70,40 +70,40 @@ named_fin (plain k ∷ us) R = omega arith
 named_fin (arguments ∷ us) R = invoked_fin (length us) (suc (suc (length us))) R (args us 0) (short us 0) (omega arith)
 
 module _ (d : ℕ) (rec : Reader) (ends : (m : ℕ) (us : List Symbol) → Fin (length us) (d ≤ length us) (rec m us)) where
-  lhs-from : (y : Operand) (x : Symbol) (us : List Symbol) → Fin (suc (length us)) (suc d ≤ suc (length us)) (lhs_by y rec x us)
-  lhs-from (prefixes k) x us =
+  lhs_from : (y : Operand) (x : Symbol) (us : List Symbol) → Fin (suc (length us)) (suc d ≤ suc (length us)) (lhs_by y rec x us)
+  lhs_from (prefixes k) x us =
       fin_bind (length us) (suc (length us)) (d ≤ length us) (suc d ≤ suc (length us)) (rec 23 us) (λ e vs. done (prefix k e) vs)
       (ends 23 us) (λ h. omega arith) (λ e vs h. omega arith)
-  lhs-from brackets x us =
+  lhs_from brackets x us =
       fin_bind (length us) (suc (length us)) (d ≤ length us) (suc d ≤ suc (length us)) (rec 0 us)
       (λ e vs. expect K.RParen vs (λ ws. done (bracketed e) ws)) (ends 0 us) (λ h. omega arith)
       λ e vs h. fin_expect (suc (length us)) (suc d ≤ suc (length us)) K.RParen vs (λ ws. done (bracketed e) ws) (λ ws l. omega arith)
-  lhs-from names x us = named_fin us (suc d ≤ suc (length us))
-  lhs-from (literals k) x us = omega arith
-  lhs-from nothing x us = tt
+  lhs_from names x us = named_fin us (suc d ≤ suc (length us))
+  lhs_from (literals k) x us = omega arith
+  lhs_from nothing x us = tt
 
-  lhs-fin : (us : List Symbol) → Fin (length us) (suc d ≤ length us) (lhs rec us)
-  lhs-fin [] = tt
-  lhs-fin (x ∷ us) = lhs-from (operand x) x us
+  lhs_fin : (us : List Symbol) → Fin (length us) (suc d ≤ length us) (lhs rec us)
+  lhs_fin [] = tt
+  lhs_fin (x ∷ us) = lhs_from (operand x) x us
 
   -- ---------------------------------------------------------------- the loop
 
   module _ (n : ℕ) (more : Expr → List Symbol → Res)
       (goes : (e : Expr) (us : List Symbol) → length us ≤ n → Fin (suc (length us)) (d ≤ length us) (more e us)) where
-    bind-fin : (e : Expr) (k r : ℕ) (x : Symbol) (us : List Symbol) → length us ≤ n → (b : Bool)
+    bind_fin : (e : Expr) (k r : ℕ) (x : Symbol) (us : List Symbol) → length us ≤ n → (b : Bool)
         → Fin (suc (suc (length us))) (d ≤ suc (length us)) (bind_if b more rec e k r (x ∷ us) us)
-    bind-fin e k r x us h true = omega arith
-    bind-fin e k r x us h false =
+    bind_fin e k r x us h true = omega arith
+    bind_fin e k r x us h false =
         fin_bind (length us) (suc (suc (length us))) (d ≤ length us) (d ≤ suc (length us)) (rec r us) (λ f vs. more (binary e k f) vs)
         (ends r us) (λ l. omega arith)
         λ f vs l.
         fin_weaken (suc (length vs)) (suc (suc (length us))) (d ≤ length vs) (d ≤ suc (length us)) (more (binary e k f) vs)
         (goes (binary e k f) vs (omega arith)) (omega arith) (λ z. omega arith)
 
-    ask-fin : (e : Expr) (x : Symbol) (us : List Symbol) → length us ≤ n → (b : Bool)
+    ask_fin : (e : Expr) (x : Symbol) (us : List Symbol) → length us ≤ n → (b : Bool)
         → Fin (suc (suc (length us))) (d ≤ suc (length us)) (ask_if b more rec e (x ∷ us) us)
-    ask-fin e x us h true = omega arith
-    ask-fin e x us h false =
+    ask_fin e x us h true = omega arith
+    ask_fin e x us h false =
         let b = suc (suc (length us)) in
         let S = d ≤ suc (length us) in
         fin_bind (length us) b (d ≤ length us) S (rec 0 us)
@@ -117,27 +117,27 @@ module _ (d : ℕ) (rec : Reader) (ends : (m : ℕ) (us : List Symbol) → Fin (
 
     step_from : (y : Operator) (m : ℕ) (e : Expr) (x : Symbol) (us : List Symbol) → length us ≤ n
         → Fin (suc (suc (length us))) (d ≤ suc (length us)) (step_by y more rec m e x us)
-    step_from asks m e x us h = ask-fin e x us h (ltb 2 m)
-    step_from (binds k l r) m e x us h = bind-fin e k r x us h (ltb l m)
+    step_from asks m e x us h = ask_fin e x us h (ltb 2 m)
+    step_from (binds k l r) m e x us h = bind_fin e k r x us h (ltb l m)
     step_from P.none m e x us h = omega arith
 
-    step-fin : (m : ℕ) (e : Expr) (us : List Symbol) → length us ≤ suc n → Fin (suc (length us)) (d ≤ length us) (step more rec m e us)
-    step-fin m e [] h = omega arith
-    step-fin m e (x ∷ us) h = step_from (operator x) m e x us (omega arith)
+    step_fin : (m : ℕ) (e : Expr) (us : List Symbol) → length us ≤ suc n → Fin (suc (length us)) (d ≤ length us) (step more rec m e us)
+    step_fin m e [] h = omega arith
+    step_fin m e (x ∷ us) h = step_from (operator x) m e x us (omega arith)
 
-  loop-fin : (n m : ℕ) (e : Expr) (us : List Symbol) → length us ≤ n → Fin (suc (length us)) (d ≤ length us) (loop rec n m e us)
-  loop-fin zero m e [] h = omega arith
-  loop-fin zero m e (x ∷ us) h = absurd (omega arith)
-  loop-fin (suc n) m e us h = step-fin n (loop rec n m) (loop-fin n m) m e us h
+  loop_fin : (n m : ℕ) (e : Expr) (us : List Symbol) → length us ≤ n → Fin (suc (length us)) (d ≤ length us) (loop rec n m e us)
+  loop_fin zero m e [] h = omega arith
+  loop_fin zero m e (x ∷ us) h = absurd (omega arith)
+  loop_fin (suc n) m e us h = step_fin n (loop rec n m) (loop_fin n m) m e us h
 
 pub reader_fin : (d m : ℕ) (us : List Symbol) → Fin (length us) (d ≤ length us) (reader d m us)
 reader_fin zero m us = omega arith
 reader_fin (suc d) m us =
     fin_bind (length us) (length us) (suc d ≤ length us) (suc d ≤ length us) (lhs (reader d) us) (λ e vs. loop (reader d) (length vs) m e vs)
-    (lhs-fin d (reader d) (reader_fin d) us) (λ h. h)
+    (lhs_fin d (reader d) (reader_fin d) us) (λ h. h)
     λ e vs l.
     fin_weaken (suc (length vs)) (length us) (d ≤ length vs) (suc d ≤ length us) (loop (reader d) (length vs) m e vs)
-    (loop-fin d (reader d) (reader_fin d) (length vs) m e vs (omega arith)) l (λ z. omega arith)
+    (loop_fin d (reader d) (reader_fin d) (length vs) m e vs (omega arith)) l (λ z. omega arith)
 
 pub cell_fin : (d : ℕ) (us : List Symbol) → Fin (length us) (d ≤ length us) (cell d us)
 cell_fin d us =

@@ -20,7 +20,7 @@ use Rattle.definitions.specs.Report.{pushes}
 use Rattle.definitions.specs.Call.{run_entry}
 use Rattle.laws.proofs.Trivia.{drop_twice, drop_trivia_length, passes_drop}
 use Rattle.laws.proofs.Skeleton.{join_done}
-use Rattle.laws.proofs.Kept.{Stands, stands_taken, run-kept, exec_kept}
+use Rattle.laws.proofs.Kept.{Stands, stands_taken, run_kept, exec_kept}
 use Rattle.laws.proofs.Between.{Taking, reads_kept}
 use Rattle.laws.specs.Pushes.{NoneExceeded}
 use Rattle.precedence.proofs.Pushed.{clear_inside, clear_first}
@@ -28,7 +28,7 @@ use Rattle.precedence.proofs.Symbols.{test_one}
 use Rattle.precedence.proofs.Short.{exec_short}
 use Rattle.precedence.proofs.Cell.{CellOf, CellNode, cells}
 use Rattle.laws.proofs.Engine.{only, any_act}
-use Rattle.precedence.proofs.Only.{Ran, ran-add, ran-ret, ran-choose, ran-exec}
+use Rattle.precedence.proofs.Only.{Ran, ran_add, ran_ret, ran_choose, ran_exec}
 use Rattle.precedence.proofs.Cells.{no_cell, Celled, celled}
 use Rattle.precedence.proofs.Cells as Cs
 
@@ -43,18 +43,18 @@ module _ (n : ℕ) (below : (r : Rule) (s : State) → Made s (run n r s)) (b : 
   Fine p = (s : State) → Made s (does p s)
 
   plain : (p : Prog) → only no_cell any_act p ≡ true → Fine p
-  plain p e s = ran-exec no_cell Celled celled (run n) below b p s e
+  plain p e s = ran_exec no_cell Celled celled (run n) below b p s e
 
-  fine-seq : (p q : Prog) → Fine p → Fine q → Fine (p ⨟ q)
+  fine_seq : (p q : Prog) → Fine p → Fine q → Fine (p ⨟ q)
   unfolding exec
-  fine-seq p q f g s = ran-add no_cell Celled celled s (does p s) (does q (does p s).state) (f s) (g (does p s).state)
+  fine_seq p q f g s = ran_add no_cell Celled celled s (does p s) (does q (does p s).state) (f s) (g (does p s).state)
 
-  fine-case : (c x y z : Prog) → Fine c → Fine x → Fine y → Fine z → Fine (case c x y z)
+  fine_case : (c x y z : Prog) → Fine c → Fine x → Fine y → Fine z → Fine (case c x y z)
   unfolding exec
-  fine-case c x y z f g h i s =
+  fine_case c x y z f g h i s =
       let o = does c s in
-      ran-add no_cell Celled celled s o (choose o.ans (does x) (does y) (does z) o.state) (f s)
-      (ran-choose no_cell Celled celled o.ans (does x) (does y) (does z) o.state (g o.state) (h o.state) (i o.state))
+      ran_add no_cell Celled celled s o (choose o.ans (does x) (does y) (does z) o.state) (f s)
+      (ran_choose no_cell Celled celled o.ans (does x) (does y) (does z) o.state (g o.state) (h o.state) (i o.state))
 
   -- ---------------------------------------------------------------- the cell
 
@@ -65,16 +65,16 @@ module _ (n : ℕ) (below : (r : Rule) (s : State) → Made s (run n r s)) (b : 
   inside_is : (m m' : ℕ) (i j : Skeleton) → node N.DtExpr m m' done (j ⧺ done) done ≡ node N.DtExpr m m' done i done → j ≡ i
   inside_is m m' i j e = let z : j ⧺ done ≡ i = cc in sym (join_done j) ∙ z
 
-  cell-celled : (s : State) (t : Token) (ts : List Token) → drop_trivia s.rest ≡ t ∷ ts → seen t ≡ K.LParen → Stands s
+  cell_celled : (s : State) (t : Token) (ts : List Token) → drop_trivia s.rest ≡ t ∷ ts → seen t ≡ K.LParen → Stands s
       → NoneExceeded (pushes (does dt_expr s).made) → (l : List Token) → drop_trivia l ≡ drop_trivia s.since → Cs.Cells (does dt_expr s).made l
   unfolding dt_expr exec marked makes add closed Cs.Cells only
-  cell-celled s t ts e k h c l z =
+  cell_celled s t ts e k h c l z =
       let ahead : drop_trivia s.since ≡ t ∷ ts = passes_drop s.since s.rest h.passed ∙ e in
       let d : CellNode s (does dt_expr s) = (cells n b s h t ts ahead k).holds c in
       let i : (does inside s).made ≡ d.i = inside_is (mark_of s) (mark_of (does dt_expr s).state) d.i (does inside s).made d.made_is in
       let g : NoneExceeded (pushes (does inside s).made) =
       clear_first (does inside s).made done (clear_inside N.DtExpr (mark_of s) (mark_of (does dt_expr s).state) done ((does inside s).made ⧺ done) c) in
-      let w : Cs.Cells d.i (drop_trivia l) = subst (λ (p : Skeleton). Cs.Cells p (drop_trivia l)) i (((plain inside refl s).makes-it h).cells g (drop_trivia l) (drop_twice l ∙ z)) in
+      let w : Cs.Cells d.i (drop_trivia l) = subst (λ (p : Skeleton). Cs.Cells p (drop_trivia l)) i (((plain inside refl s).makes_it h).cells g (drop_trivia l) (drop_twice l ∙ z)) in
       subst (λ (p : Skeleton). Cs.Cells p l) (sym d.made_is) (
         λ y. (
           refl,
@@ -87,15 +87,15 @@ module _ (n : ℕ) (below : (r : Rule) (s : State) → Made s (run n r s)) (b : 
         tt,
       )
 
-  cell-made : (s : State) (t : Token) (ts : List Token) → drop_trivia s.rest ≡ t ∷ ts → seen t ≡ K.LParen → Made s (does dt_expr s)
+  cell_made : (s : State) (t : Token) (ts : List Token) → drop_trivia s.rest ≡ t ∷ ts → seen t ≡ K.LParen → Made s (does dt_expr s)
   unfolding dt_expr exec marked makes
-  cell-made s t ts e k =
+  cell_made s t ts e k =
       let q : Stands s → Stands (does dt_expr s).state × Taking s (does dt_expr s).made (does dt_expr s).state =
-      exec_kept Taking reads_kept (run n) (run-kept Taking reads_kept n) b dt_expr s in
+      exec_kept Taking reads_kept (run n) (run_kept Taking reads_kept n) b dt_expr s in
       record {
         shape = refl;
         stands = λ h. (q h).0;
-        makes-it = λ h. record { takes = (q h).1; cells = cell-celled s t ts e k h };
+        makes_it = λ h. record { takes = (q h).1; cells = cell_celled s t ts e k h };
       }
 
   -- where an LParen was seen, a cell; else some other program
@@ -105,15 +105,15 @@ module _ (n : ℕ) (below : (r : Rule) (s : State) → Made s (run n r s)) (b : 
   seen_by s l false e g p f = f s
   seen_by s [] true e g p f = absurd (false≢true g)
   seen_by s (t ∷ ts) true e g p f =
-      ran-add no_cell Celled celled s (does dt_expr s) (does (tell yes) (does dt_expr s).state) (cell-made s t ts e (test_one K.LParen (seen t) g))
-      (ran-ret no_cell Celled celled 0 yes (does dt_expr s).state refl)
+      ran_add no_cell Celled celled s (does dt_expr s) (does (tell yes) (does dt_expr s).state) (cell_made s t ts e (test_one K.LParen (seen t) g))
+      (ran_ret no_cell Celled celled 0 yes (does dt_expr s).state refl)
 
-  fine-cell : (p : Prog) → Fine p → Fine (if silent (of_kind K.LParen) then dt_expr ⨟ tell yes else p)
+  fine_cell : (p : Prog) → Fine p → Fine (if silent (of_kind K.LParen) then dt_expr ⨟ tell yes else p)
   unfolding silent exec perform replies peeked only
-  fine-cell p f s =
+  fine_cell p f s =
       let u = peeked s in
       let x = first_in (K.LParen ∷ []) u.rest in
-      ran-add no_cell Celled celled s (replies (truth x) u) (choose (truth x) (does p) (does (dt_expr ⨟ tell yes)) (does (dt_expr ⨟ tell yes)) u)
+      ran_add no_cell Celled celled s (replies (truth x) u) (choose (truth x) (does p) (does (dt_expr ⨟ tell yes)) (does (dt_expr ⨟ tell yes)) u)
       (plain (act (silent_at (K.LParen ∷ []))) refl s)
       (seen_by u u.rest x (drop_twice s.rest) refl p f)
 
@@ -126,18 +126,18 @@ module _ (n : ℕ) (below : (r : Rule) (s : State) → Made s (run n r s)) (b : 
       else if silent (set OPERATORS_SET) and not! (at (of_kind K.RAngle)) then error_wrap E.msg_expected E.missing_parentheses ⨟ tell yes
       else tell no
 
-  no-bracket-fine : (at_end : Bool) → Fine (no_bracket at_end)
+  no_bracket_fine : (at_end : Bool) → Fine (no_bracket at_end)
   unfolding only eat_dts_include eat_preprocessor_directive silent at
-  no-bracket-fine true = plain (no_bracket true) refl
-  no-bracket-fine false = plain (no_bracket false) refl
+  no_bracket_fine true = plain (no_bracket true) refl
+  no_bracket_fine false = plain (no_bracket false) refl
 
-  eat-cell-fine : (at_end : Bool) → Fine (eat_cell_body at_end)
+  eat_cell_fine : (at_end : Bool) → Fine (eat_cell_body at_end)
   unfolding only eat_cell_body silent silent_eat macro_invocation Reference
-  eat-cell-fine at_end =
-      fine-seq (expected E.Cell) _ (plain (expected E.Cell) refl)
-      (fine-case (silent_eat (set (K.Number ∷ K.Char ∷ []))) _ (tell yes) (tell yes) (plain (silent_eat (set (K.Number ∷ K.Char ∷ []))) refl)
-      (fine-case (silent (of_kind K.Ident)) _ (macro_invocation ⨟ tell yes) (macro_invocation ⨟ tell yes) (plain (silent (of_kind K.Ident)) refl)
-      (fine-case (silent_eat Reference) _ (tell yes) (tell yes) (plain (silent_eat Reference) refl) (fine-cell (no_bracket at_end) (no-bracket-fine at_end)) (plain (tell yes) refl) (plain (tell yes) refl))
+  eat_cell_fine at_end =
+      fine_seq (expected E.Cell) _ (plain (expected E.Cell) refl)
+      (fine_case (silent_eat (set (K.Number ∷ K.Char ∷ []))) _ (tell yes) (tell yes) (plain (silent_eat (set (K.Number ∷ K.Char ∷ []))) refl)
+      (fine_case (silent (of_kind K.Ident)) _ (macro_invocation ⨟ tell yes) (macro_invocation ⨟ tell yes) (plain (silent (of_kind K.Ident)) refl)
+      (fine_case (silent_eat Reference) _ (tell yes) (tell yes) (plain (silent_eat Reference) refl) (fine_cell (no_bracket at_end) (no_bracket_fine at_end)) (plain (tell yes) refl) (plain (tell yes) refl))
       (plain (macro_invocation ⨟ tell yes) refl) (plain (macro_invocation ⨟ tell yes) refl))
       (plain (tell yes) refl) (plain (tell yes) refl))
 
@@ -171,13 +171,13 @@ plain_whole Cells = refl
 run_celled : (n : ℕ) (r : Rule) (s : State) → Made s (run n r s)
 unfolding run makes grammar Cs.Cells
 run_celled zero r s =
-    record { shape = refl; stands = λ h. h; makes-it = λ h. record { takes = reads_kept.over s h; cells = λ c ts e. tt } }
+    record { shape = refl; stands = λ h. h; makes_it = λ h. record { takes = reads_kept.over s h; cells = λ c ts e. tt } }
 run_celled (suc n) item s = plain n (run_celled n) no_label (grammar item) plain_item s
 run_celled (suc n) (propvalues semicolon) s = plain n (run_celled n) no_label (grammar (propvalues semicolon)) (plain_values semicolon) s
-run_celled (suc n) (eat_cell at_end) s = eat-cell-fine n (run_celled n) no_label at_end s
+run_celled (suc n) (eat_cell at_end) s = eat_cell_fine n (run_celled n) no_label at_end s
 run_celled (suc n) (expr_binding_power m) s = plain n (run_celled n) no_label (grammar (expr_binding_power m)) (plain_expr m) s
 
 -- EVERY DTEXPR of a whole run is a judged cell, if no limit was exceeded
 pub entry_cells : (e : Entry) (ts : List Token) → NoneExceeded (pushes (run_entry e ts)) → Cs.Cells (run_entry e ts) ts
 unfolding run_entry
-entry_cells e ts c = ((plain MOST_OPEN_CALLS (run_celled MOST_OPEN_CALLS) no_label (whole e) (plain_whole e) (taken ts)).makes-it (stands_taken ts)).cells c ts refl
+entry_cells e ts c = ((plain MOST_OPEN_CALLS (run_celled MOST_OPEN_CALLS) no_label (whole e) (plain_whole e) (taken ts)).makes_it (stands_taken ts)).cells c ts refl

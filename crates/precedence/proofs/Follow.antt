@@ -22,7 +22,7 @@ use Rattle.precedence.proofs.Pratt as P
 use Rattle.precedence.proofs.Pushed.{Quiet, quiet_join, quiet_closed, Reported, here, reported_first, reported_second, reported_inside}
 use Rattle.precedence.proofs.Same.{Same, same_join, same_one, same_node}
 use Rattle.precedence.proofs.Symbols.{test_one, symbols_end, symbols_next, symbols_past, Tail, tail_refl, tail_trans, tail_next}
-use Rattle.precedence.proofs.Rules.{took, Ends, ends-map, branch, ends-ret, Tests, test-seq, test-case, on_test, silent_is, test-expected, test-tell, after-bump}
+use Rattle.precedence.proofs.Rules.{took, Ends, ends_map, branch, ends_ret, Tests, test_seq, test_case, on_test, silent_is, test_expected, test_tell, after_bump}
 
 -- p was made from s to u without a report, up to trivia and marks, and vs is left
 pub record Done (s : State) (p : Skeleton) (vs : List Symbol) (made : Skeleton) (u : State) : Type 0 where
@@ -121,23 +121,23 @@ follows_from s s' shape e spent o d = tt
 
 module _ (ask : Rule → State → Out) (b : Label) where
   -- a report made here
-  pub emit-notes : (m h : ℕ) (s : State) → Noted s (symbols false s.since) (exec ask b (act (emit m h)) s).made
+  pub emit_notes : (m h : ℕ) (s : State) → Noted s (symbols false s.since) (exec ask b (act (emit m h)) s).made
   unfolding exec perform do_emit makes peeked pushes
-  emit-notes m h s = record { rep = _; among = here; raw = s.since; mark_is = refl; left = refl; tail = tail_refl s.since }
+  emit_notes m h s = record { rep = _; among = here; raw = s.since; mark_is = refl; left = refl; tail = tail_refl s.since }
 
   -- and whatever is made after it
-  pub emit-first : {m h : ℕ} {q : Prog} {s : State} → Ends ask b (act (emit m h) ⨟ q) s (λ o. Noted s (symbols false s.since) o.made)
+  pub emit_first : {m h : ℕ} {q : Prog} {s : State} → Ends ask b (act (emit m h) ⨟ q) s (λ o. Noted s (symbols false s.since) o.made)
   unfolding exec add
-  emit-first {m} {h} {q} {s} =
+  emit_first {m} {h} {q} {s} =
       record {
         holds = λ c.
             noted_first s (symbols false s.since) (exec ask b (act (emit m h)) s).made (exec ask b q (exec ask b (act (emit m h)) s).state).made
-            (emit-notes m h s);
+            (emit_notes m h s);
       }
 
-  pub emit-no : {m h : ℕ} {s : State} → Ends ask b (act (emit m h) ⨟ ret 0 no) s (λ o. (o.ans ≡ no) × Noted s (symbols false s.since) o.made)
+  pub emit_no : {m h : ℕ} {s : State} → Ends ask b (act (emit m h) ⨟ ret 0 no) s (λ o. (o.ans ≡ no) × Noted s (symbols false s.since) o.made)
   unfolding exec add
-  emit-no {m} {h} {s} = record { holds = λ c. (refl, (emit-first {m = m} {h = h} {q = ret 0 no} {s = s}).holds c) }
+  emit_no {m} {h} {s} = record { holds = λ c. (refl, (emit_first {m = m} {h = h} {q = ret 0 no} {s = s}).holds c) }
 
 -- ---------------------------------------------------------------- `p.expect(k)`
 
@@ -165,37 +165,37 @@ module _ (ask : Rule → State → Out) (b : Label) (k : ℕ) (plain : eqb k K.I
     missing : o.ans ≡ no → Noted s (symbols false s.since) o.made
         → ((f : List Symbol → Res) → P.expect k (symbols false s.since) f ≡ P.report (symbols false s.since)) → Expected s o
 
-  eat-found : (s : State) (t : Token) (ts : List Token) → Stands s → drop_trivia s.since ≡ t ∷ ts → first_in (k ∷ []) (t ∷ ts) ≡ true
+  eat_found : (s : State) (t : Token) (ts : List Token) → Stands s → drop_trivia s.since ≡ t ∷ ts → first_in (k ∷ []) (t ∷ ts) ≡ true
       → Ends ask b (eat (of_kind k)) s (λ o. o ≡ took t ts)
   unfolding eat add makes ◌⧺◌
-  eat-found s t ts h e g =
-      on_test ask b (silent_is ask b (t ∷ ts) true h e g) λ to st si. after-bump ask b t ts st (ap drop_trivia si ∙ e) (ends-ret ask b refl)
+  eat_found s t ts h e g =
+      on_test ask b (silent_is ask b (t ∷ ts) true h e g) λ to st si. after_bump ask b t ts st (ap drop_trivia si ∙ e) (ends_ret ask b refl)
 
-  expect-found : (s : State) (t : Token) (ts : List Token) → Stands s → drop_trivia s.since ≡ t ∷ ts → first_in (k ∷ []) (t ∷ ts) ≡ true
+  expect_found : (s : State) (t : Token) (ts : List Token) → Stands s → drop_trivia s.since ≡ t ∷ ts → first_in (k ∷ []) (t ∷ ts) ≡ true
       → Ends ask b (expect (of_kind k)) s (λ o. o ≡ took t ts)
   unfolding expect add makes ◌⧺◌
-  expect-found s t ts h e g = branch ask b (eat-found s t ts h e g) λ o p. rw p (ends-ret ask b refl)
+  expect_found s t ts h e g = branch ask b (eat_found s t ts h e g) λ o p. rw p (ends_ret ask b refl)
 
-  eat-missing : (s : State) (l : List Token) → Stands s → drop_trivia s.since ≡ l → first_in (k ∷ []) l ≡ false → Tests ask b (eat (of_kind k)) s no
+  eat_missing : (s : State) (l : List Token) → Stands s → drop_trivia s.since ≡ l → first_in (k ∷ []) l ≡ false → Tests ask b (eat (of_kind k)) s no
   unfolding eat
-  eat-missing s l h e g =
-      test-case ask b (silent_is ask b l false h e g) λ to st si. test-seq ask b (test-expected ask b st) λ to' st' si'. test-tell ask b st'
+  eat_missing s l h e g =
+      test_case ask b (silent_is ask b l false h e g) λ to st si. test_seq ask b (test_expected ask b st) λ to' st' si'. test_tell ask b st'
 
-  expect-missing : (s : State) (l : List Token) → Stands s → drop_trivia s.since ≡ l → first_in (k ∷ []) l ≡ false
+  expect_missing : (s : State) (l : List Token) → Stands s → drop_trivia s.since ≡ l → first_in (k ∷ []) l ≡ false
       → Ends ask b (expect (of_kind k)) s (λ o. (o.ans ≡ no) × Noted s (symbols false s.since) o.made)
   unfolding expect
-  expect-missing s l h e g =
-      on_test ask b (eat-missing s l h e g) λ to st si. ends-map ask b (emit-no ask b) λ o p. (p.0, noted_at s to o.made si p.1)
+  expect_missing s l h e g =
+      on_test ask b (eat_missing s l h e g) λ to st si. ends_map ask b (emit_no ask b) λ o p. (p.0, noted_at s to o.made si p.1)
 
-  expect-by : (s : State) (l : List Token) (x : Bool) → Stands s → drop_trivia s.since ≡ l → first_in (k ∷ []) l ≡ x
+  expect_by : (s : State) (l : List Token) (x : Bool) → Stands s → drop_trivia s.since ≡ l → first_in (k ∷ []) l ≡ x
       → Ends ask b (expect (of_kind k)) s (Expected s)
   unfolding first_in
-  expect-by s l false h e g =
-      ends-map ask b (expect-missing s l h e g) λ o p. missing p.0 p.1 (reads_missing k s.since l e g)
-  expect-by s [] true h e g = absurd (false≢true g)
-  expect-by s (t ∷ ts) true h e g =
-      ends-map ask b (expect-found s t ts h e g) λ o p. found t ts e p (reads_found k s.since t ts plain e g)
+  expect_by s l false h e g =
+      ends_map ask b (expect_missing s l h e g) λ o p. missing p.0 p.1 (reads_missing k s.since l e g)
+  expect_by s [] true h e g = absurd (false≢true g)
+  expect_by s (t ∷ ts) true h e g =
+      ends_map ask b (expect_found s t ts h e g) λ o p. found t ts e p (reads_found k s.since t ts plain e g)
 
   -- `p.expect` does what the reader's does
   pub expects : (s : State) → Stands s → Ends ask b (expect (of_kind k)) s (Expected s)
-  expects s h = expect-by s (drop_trivia s.since) (first_in (k ∷ []) (drop_trivia s.since)) h refl refl
+  expects s h = expect_by s (drop_trivia s.since) (first_in (k ∷ []) (drop_trivia s.since)) h refl refl

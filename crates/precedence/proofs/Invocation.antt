@@ -26,9 +26,9 @@ use Rattle.precedence.proofs.Sound.{ArgsOf, args_of}
 use Rattle.precedence.proofs.Pushed.{quiet_done}
 use Rattle.precedence.proofs.Same.{same_refl}
 use Rattle.precedence.proofs.Symbols.{symbols_end, symbols_next, symbols_past, symbols_arguments, symbols_apart, bracket_solid, test_one, Tail, tail_refl, tail_next}
-use Rattle.precedence.proofs.Rules.{pick, took, Onward, Ends, ends-map, seq, inside, ends-ret, Tests, test-case, on_test, loud-is, test-tell, after-bump}
+use Rattle.precedence.proofs.Rules.{pick, took, Onward, Ends, ends_map, seq, inside, ends_ret, Tests, test_case, on_test, loud_is, test_tell, after_bump}
 use Rattle.precedence.proofs.Follow.{Done, Noted, Follows, done_join, done_closed, done_token, done_from, noted_second, noted_inside, noted_from, Expected, found, missing, expects}
-use Rattle.precedence.proofs.Arguments.{Ended, Looped, arguments-loop}
+use Rattle.precedence.proofs.Arguments.{Ended, Looped, arguments_loop}
 
 module _ (ask : Rule → State → Out) (b : Label) where
   -- ---------------------------------------------------------------- what stands between the brackets
@@ -38,20 +38,20 @@ module _ (ask : Rule → State → Out) (b : Label) where
   Listed s unclosed o = Ended s o.state
 
   -- whether the bracket follows at once
-  not-close : (s : State) (l : List Token) (x : Bool) → Stands s → drop_trivia s.since ≡ l → first_in (K.RParen ∷ []) l ≡ x
+  not_close : (s : State) (l : List Token) (x : Bool) → Stands s → drop_trivia s.since ≡ l → first_in (K.RParen ∷ []) l ≡ x
       → Tests ask b (not! (at (of_kind K.RParen))) s (truth (not x))
   unfolding at
-  not-close s l x h e g =
-      test-case ask b (loud-is ask b l x h e g) (by x)
+  not_close s l x h e g =
+      test_case ask b (loud_is ask b l x h e g) (by x)
     where
       by : (y : Bool) → Onward s (λ to. Tests ask b (pick (truth y) (tell yes) (tell no) (tell no)) to (truth (not y)))
-      by true to st si = test-tell ask b st
-      by false to st si = test-tell ask b st
+      by true to st si = test_tell ask b st
+      by false to st si = test_tell ask b st
 
   -- at once: no argument
-  listed-none : (s : State) (t : Token) (ts : List Token) → drop_trivia s.since ≡ t ∷ ts → seen t ≡ K.RParen → (to : State) → Stands to → to.since ≡ s.since
+  listed_none : (s : State) (t : Token) (ts : List Token) → drop_trivia s.since ≡ t ∷ ts → seen t ≡ K.RParen → (to : State) → Stands to → to.since ≡ s.since
       → Listed s (args (symbols false s.since) 0) (record { ans = yes; shape = 0; made = done; state = to })
-  listed-none s t ts e k to st si =
+  listed_none s t ts e k to st si =
       let z : symbols false s.since ≡ C.plain K.RParen ∷ symbols false ts =
       symbols_past s.since t ts e (ap (λ (j : ℕ). eqb j K.Ident) k) ∙ ap (λ (j : ℕ). C.plain j ∷ symbols false ts) k in
       rw z
@@ -64,43 +64,43 @@ module _ (ask : Rule → State → Out) (b : Label) where
       })
 
   -- not at once: at least one
-  listed-some : (s : State) (l : List Token) → drop_trivia s.since ≡ l → first_in (K.RParen ∷ []) l ≡ false → (y : Args) → args (symbols false s.since) 0 ≡ y
+  listed_some : (s : State) (l : List Token) → drop_trivia s.since ≡ l → first_in (K.RParen ∷ []) l ≡ false → (y : Args) → args (symbols false s.since) 0 ≡ y
       → (o : Out) → Looped s y o → Listed s y o
   unfolding first_in one_of
-  listed-some s l e g (closed (x ∷ xs) vs) h o d = d
-  listed-some s [] e g (closed [] vs) h o d =
+  listed_some s l e g (closed (x ∷ xs) vs) h o d = d
+  listed_some s [] e g (closed [] vs) h o d =
       let z : args [] 0 ≡ closed [] vs = subst (λ (us : List Symbol). args us 0 ≡ closed [] vs) (symbols_end s.since e) h in
       let w : ◌≡◌ {A = ℕ} 0 1 = cc in
       absurd (omega arith)
-  listed-some s (t ∷ ts) e g (closed [] vs) h o d =
+  listed_some s (t ∷ ts) e g (closed [] vs) h o d =
       let z : symbols false s.since ≡ C.plain K.RParen ∷ vs = (subst (ArgsOf (symbols false s.since) 0) h (args_of (symbols false s.since) 0)).0 in
       let w : C.plain (seen t) ≡ C.plain K.RParen = cc (symbols_next s.since t ts e) in
       let k : seen t ≡ K.RParen = cc in
       absurd (true≢false (sym (ap (λ (j : ℕ). one_of (K.RParen ∷ []) j) k) ∙ g))
-  listed-some s l e g unclosed h o d = d
+  listed_some s l e g unclosed h o d = d
 
-  looped-from : (s to : State) → to.since ≡ s.since → (y : Args) (o : Out) → Looped to y o → Looped s y o
-  looped-from s to e (closed xs vs) o d = done_from s to o.state (argument (split xs 0)) (C.plain K.RParen ∷ vs) o.made e d
-  looped-from s to e unclosed o d = record { stands = d.stands; left = d.left; tail = subst (Tail o.state.since) e d.tail }
+  looped_from : (s to : State) → to.since ≡ s.since → (y : Args) (o : Out) → Looped to y o → Looped s y o
+  looped_from s to e (closed xs vs) o d = done_from s to o.state (argument (split xs 0)) (C.plain K.RParen ∷ vs) o.made e d
+  looped_from s to e unclosed o d = record { stands = d.stands; left = d.left; tail = subst (Tail o.state.since) e d.tail }
 
-  between-by : (s : State) (l : List Token) (x : Bool) → Stands s → drop_trivia s.since ≡ l → first_in (K.RParen ∷ []) l ≡ x
+  between_by : (s : State) (l : List Token) (x : Bool) → Stands s → drop_trivia s.since ≡ l → first_in (K.RParen ∷ []) l ≡ x
       → Ends ask b (case (not! (at (of_kind K.RParen))) (tell yes) (loop macro_argument_turn) (loop macro_argument_turn)) s (Listed s (args (symbols false s.since) 0))
   unfolding first_in
-  between-by s [] true h e g = absurd (false≢true g)
-  between-by s (t ∷ ts) true h e g =
-      on_test ask b (not-close s (t ∷ ts) true h e g)
-      (λ to st si. ends-ret ask b (listed-none s t ts e (test_one K.RParen (seen t) g) to st si))
-  between-by s l false h e g =
-      on_test ask b (not-close s l false h e g)
+  between_by s [] true h e g = absurd (false≢true g)
+  between_by s (t ∷ ts) true h e g =
+      on_test ask b (not_close s (t ∷ ts) true h e g)
+      (λ to st si. ends_ret ask b (listed_none s t ts e (test_one K.RParen (seen t) g) to st si))
+  between_by s l false h e g =
+      on_test ask b (not_close s l false h e g)
       λ to st si.
-      ends-map ask b (arguments-loop ask b to st)
+      ends_map ask b (arguments_loop ask b to st)
       λ o p.
-      listed-some s l e g (args (symbols false s.since) 0) refl o
-      (looped-from s to si (args (symbols false s.since) 0) o (subst (λ (r : List Token). Looped to (args (symbols false r) 0) o) si p))
+      listed_some s l e g (args (symbols false s.since) 0) refl o
+      (looped_from s to si (args (symbols false s.since) 0) o (subst (λ (r : List Token). Looped to (args (symbols false r) 0) o) si p))
 
   between : (s : State) → Stands s
       → Ends ask b (case (not! (at (of_kind K.RParen))) (tell yes) (loop macro_argument_turn) (loop macro_argument_turn)) s (Listed s (args (symbols false s.since) 0))
-  between s h = between-by s (drop_trivia s.since) (first_in (K.RParen ∷ []) (drop_trivia s.since)) h refl refl
+  between s h = between_by s (drop_trivia s.since) (first_in (K.RParen ∷ []) (drop_trivia s.since)) h refl refl
 
   -- ---------------------------------------------------------------- the bracket that closes
 
@@ -109,43 +109,43 @@ module _ (ask : Rule → State → Out) (b : Label) where
   Bracketed s unclosed o = Noted s [] o.made
 
   -- the reader finds the bracket where it stands
-  close-found : (us vs : List Symbol) → us ≡ C.plain K.RParen ∷ vs → (ws : List Symbol) → ((f : List Symbol → Res) → P.expect K.RParen us f ≡ f ws) → ws ≡ vs
+  close_found : (us vs : List Symbol) → us ≡ C.plain K.RParen ∷ vs → (ws : List Symbol) → ((f : List Symbol → Res) → P.expect K.RParen us f ≡ f ws) → ws ≡ vs
   unfolding P.is one_of
-  close-found us vs e ws h =
+  close_found us vs e ws h =
       let z : P.expect K.RParen us (λ zs. P.report zs) ≡ P.report vs = ap (λ (l : List Symbol). P.expect K.RParen l (λ zs. P.report zs)) e in
       let w : P.report ws ≡ P.report vs = sym (h (λ zs. P.report zs)) ∙ z in
       cc
 
-  close-not-missing : (us vs : List Symbol) → us ≡ C.plain K.RParen ∷ vs → ((f : List Symbol → Res) → P.expect K.RParen us f ≡ P.report us) → ⊥
+  close_not_missing : (us vs : List Symbol) → us ≡ C.plain K.RParen ∷ vs → ((f : List Symbol → Res) → P.expect K.RParen us f ≡ P.report us) → ⊥
   unfolding P.is one_of
-  close-not-missing us vs e h =
+  close_not_missing us vs e h =
       let z : P.expect K.RParen us (λ zs. P.spent) ≡ P.spent = ap (λ (l : List Symbol). P.expect K.RParen l (λ zs. P.spent)) e in
       let w : P.report us ≡ P.spent = sym (h (λ zs. P.spent)) ∙ z in
       let n : ◌≡◌ {A = ℕ} 0 1 = cc in
       omega arith
 
-  end-not-found : (us ws : List Symbol) → us ≡ [] → ((f : List Symbol → Res) → P.expect K.RParen us f ≡ f ws) → ⊥
-  end-not-found us ws e h =
+  end_not_found : (us ws : List Symbol) → us ≡ [] → ((f : List Symbol → Res) → P.expect K.RParen us f ≡ f ws) → ⊥
+  end_not_found us ws e h =
       let z : P.expect K.RParen us (λ zs. P.spent) ≡ P.report [] = ap (λ (l : List Symbol). P.expect K.RParen l (λ zs. P.spent)) e in
       let w : P.spent ≡ P.report [] = sym (h (λ zs. P.spent)) ∙ z in
       let n : ◌≡◌ {A = ℕ} 0 1 = cc in
       omega arith
 
-  bracket-by : (s : State) (y : Args) (o : Out) → Listed s y o → (o' : Out) → Expected ask b K.RParen refl o.state o' → Bracketed s y (add o o')
+  bracket_by : (s : State) (y : Args) (o : Out) → Listed s y o → (o' : Out) → Expected ask b K.RParen refl o.state o' → Bracketed s y (add o o')
   unfolding add makes
-  bracket-by s (closed xs vs) o d o' (found t ts e p h) =
+  bracket_by s (closed xs vs) o d o' (found t ts e p h) =
       let t-done : Done o.state one vs o'.made o'.state =
-      rw (p, ← (close-found (symbols false o.state.since) vs d.left (symbols false ts) h)) (done_token o.state t ts e) in
+      rw (p, ← (close_found (symbols false o.state.since) vs d.left (symbols false ts) h)) (done_token o.state t ts e) in
       done_join s o.state o'.state (argument_list xs) one (C.plain K.RParen ∷ vs) vs o.made o'.made d t-done
-  bracket-by s (closed xs vs) o d o' (missing a n h) = absurd (close-not-missing (symbols false o.state.since) vs d.left h)
-  bracket-by s unclosed o d o' (found t ts e p h) = absurd (end-not-found (symbols false o.state.since) (symbols false ts) d.left h)
-  bracket-by s unclosed o d o' (missing a n h) =
+  bracket_by s (closed xs vs) o d o' (missing a n h) = absurd (close_not_missing (symbols false o.state.since) vs d.left h)
+  bracket_by s unclosed o d o' (found t ts e p h) = absurd (end_not_found (symbols false o.state.since) (symbols false ts) d.left h)
+  bracket_by s unclosed o d o' (missing a n h) =
       noted_second s [] o.made o'.made
       (noted_from s o.state [] o'.made d.tail (subst (λ (vs : List Symbol). Noted o.state vs o'.made) d.left n))
 
-  listed-stands : (s : State) (y : Args) (o : Out) → Listed s y o → Stands o.state
-  listed-stands s (closed xs vs) o d = d.stands
-  listed-stands s unclosed o d = d.stands
+  listed_stands : (s : State) (y : Args) (o : Out) → Listed s y o → Stands o.state
+  listed_stands s (closed xs vs) o d = d.stands
+  listed_stands s unclosed o d = d.stands
 
   bracketed : (s : State) → Stands s
       → Ends ask b (case (not! (at (of_kind K.RParen))) (tell yes) (loop macro_argument_turn) (loop macro_argument_turn) ⨟ expect (of_kind K.RParen)) s
@@ -153,8 +153,8 @@ module _ (ask : Rule → State → Out) (b : Label) where
   bracketed s h =
       seq ask b (between s h)
       λ o d.
-      ends-map ask b (expects ask b K.RParen refl o.state (listed-stands s (args (symbols false s.since) 0) o d))
-      (bracket-by s (args (symbols false s.since) 0) o d)
+      ends_map ask b (expects ask b K.RParen refl o.state (listed_stands s (args (symbols false s.since) 0) o d))
+      (bracket_by s (args (symbols false s.since) 0) o d)
 
   -- ---------------------------------------------------------------- the name
 
@@ -173,18 +173,18 @@ module _ (ask : Rule → State → Out) (b : Label) where
   Behind s P.refused o = ⊥
   Behind s P.spent o = Unit {0}
 
-  name-alone : (ts : List Token) → named (symbols false ts) ≡ P.done C.name (symbols false ts)
-  name-alone ts = go (drop_trivia ts) refl
+  name_alone : (ts : List Token) → named (symbols false ts) ≡ P.done C.name (symbols false ts)
+  name_alone ts = go (drop_trivia ts) refl
     where
       go : (l : List Token) → drop_trivia ts ≡ l → named (symbols false ts) ≡ P.done C.name (symbols false ts)
       go [] e = rw (symbols_end ts e)
       go (t ∷ us) e = rw (symbols_next ts t us e)
 
-  after-alone : (ts : List Token) → first_in (K.LParen ∷ []) ts ≡ false → (to : State) → Stands to → to.since ≡ ts
+  after_alone : (ts : List Token) → first_in (K.LParen ∷ []) ts ≡ false → (to : State) → Stands to → to.since ≡ ts
       → Behind (taken ts) (named (symbols true ts)) (record { ans = yes; shape = 0; made = done; state = to })
   unfolding ◌⧺◌
-  after-alone ts g to st si =
-      rw (symbols_apart ts g, name-alone ts) (
+  after_alone ts g to st si =
+      rw (symbols_apart ts g, name_alone ts) (
         done,
         refl,
         record {
@@ -197,22 +197,22 @@ module _ (ask : Rule → State → Out) (b : Label) where
       )
 
   -- the brackets, after the opening one
-  after-args : (t : Token) (ts : List Token) (s : State) → drop_trivia s.since ≡ t ∷ ts → (y : Args) (o : Out) → Bracketed (taken ts) y o
+  after_args : (t : Token) (ts : List Token) (s : State) → drop_trivia s.since ≡ t ∷ ts → (y : Args) (o : Out) → Bracketed (taken ts) y o
       → Behind s (invoked y) (add (took t ts) o)
   unfolding add makes ◌⧺◌
-  after-args t ts s e (closed xs vs) o d = (
+  after_args t ts s e (closed xs vs) o d = (
     one ⧺ (argument_list xs ⧺ one),
     refl,
     done_join s (taken ts) o.state one (argument_list xs ⧺ one) (symbols false ts) vs (token t (length ts) done) o.made (done_token s t ts e) d,
   )
-  after-args t ts s e unclosed o n =
+  after_args t ts s e unclosed o n =
       noted_second s [] (token t (length ts) done) o.made (noted_from s (taken ts) [] o.made (tail_next s.since t ts e) n)
 
-  after-from : (s to : State) → to.since ≡ s.since → (x : Res) (o : Out) → Behind to x o → Behind s x o
-  after-from s to e (P.done f vs) o d = (d.0, d.1, done_from s to o.state d.0 vs o.made e d.2)
-  after-from s to e (P.report vs) o n = noted_from s to vs o.made (rw e (tail_refl s.since)) n
-  after-from s to e P.refused o d = d
-  after-from s to e P.spent o d = tt
+  after_from : (s to : State) → to.since ≡ s.since → (x : Res) (o : Out) → Behind to x o → Behind s x o
+  after_from s to e (P.done f vs) o d = (d.0, d.1, done_from s to o.state d.0 vs o.made e d.2)
+  after_from s to e (P.report vs) o n = noted_from s to vs o.made (rw e (tail_refl s.since)) n
+  after_from s to e P.refused o d = d
+  after_from s to e P.spent o d = tt
 
   -- what stands after a name
   abbrev after_name : Prog
@@ -221,20 +221,20 @@ module _ (ask : Rule → State → Out) (b : Label) where
       (bump! ⨟ (case (not! (at (of_kind K.RParen))) (tell yes) (loop macro_argument_turn) (loop macro_argument_turn) ⨟ expect (of_kind K.RParen)))
       (bump! ⨟ (case (not! (at (of_kind K.RParen))) (tell yes) (loop macro_argument_turn) (loop macro_argument_turn) ⨟ expect (of_kind K.RParen)))
 
-  after-by : (ts : List Token) (x : Bool) → first_in (K.LParen ∷ []) ts ≡ x → Ends ask b after_name (taken ts) (Behind (taken ts) (named (symbols true ts)))
+  after_by : (ts : List Token) (x : Bool) → first_in (K.LParen ∷ []) ts ≡ x → Ends ask b after_name (taken ts) (Behind (taken ts) (named (symbols true ts)))
   unfolding first_in
-  after-by ts false g = on_test ask b (glued ts false g) (λ to st si. ends-ret ask b (after-alone ts g to st si))
-  after-by [] true g = absurd (false≢true g)
-  after-by (t ∷ ts) true g =
+  after_by ts false g = on_test ask b (glued ts false g) (λ to st si. ends_ret ask b (after_alone ts g to st si))
+  after_by [] true g = absurd (false≢true g)
+  after_by (t ∷ ts) true g =
       let solid : drop_trivia (t ∷ ts) ≡ t ∷ ts = drop_none t ts (bracket_solid t (test_one K.LParen (seen t) g)) in
       on_test ask b (glued (t ∷ ts) true g)
       λ to st si.
       let e : drop_trivia to.since ≡ t ∷ ts = ap drop_trivia si ∙ solid in
-      after-bump ask b t ts st e
-      (ends-map ask b (bracketed (taken ts) (stands_taken ts))
+      after_bump ask b t ts st e
+      (ends_map ask b (bracketed (taken ts) (stands_taken ts))
       λ o d.
-      after-from (taken (t ∷ ts)) to si (named (symbols true (t ∷ ts))) (add (took t ts) o)
-      (rw (symbols_arguments t ts g) (after-args t ts to e (args (symbols false ts) 0) o d)))
+      after_from (taken (t ∷ ts)) to si (named (symbols true (t ∷ ts))) (add (took t ts) o)
+      (rw (symbols_arguments t ts g) (after_args t ts to e (args (symbols false ts) 0) o d)))
 
   -- the name and what stands after it: e's node has the children p
   abbrev Named : State → Res → Out → Type 0
@@ -272,16 +272,16 @@ module _ (ask : Rule → State → Out) (b : Label) where
   node_of s P.refused o d = d
   node_of s P.spent o d = tt
 
-  node-follows : (s : State) → Stands s → (t : Token) (ts : List Token) → drop_trivia s.since ≡ t ∷ ts
+  node_follows : (s : State) → Stands s → (t : Token) (ts : List Token) → drop_trivia s.since ≡ t ∷ ts
       → Ends ask b macro_invocation s (λ o. Follows s expr_nodes (named (symbols true ts)) (add o (record { ans = yes; shape = 0; made = done; state = o.state })))
   unfolding macro_invocation marked makes add
-  node-follows s h t ts e =
+  node_follows s h t ts e =
       let x = named (symbols true ts) in
       let name : Ends ask b (bump! ⨟ after_name) s (Named s x) =
-      after-bump ask b t ts h e (ends-map ask b (after-by ts (first_in (K.LParen ∷ []) ts) refl) (named_by s t ts e x)) in
-      inside ask b (seq ask b name (λ o d. ends-ret ask b (node_of s x o d)))
+      after_bump ask b t ts h e (ends_map ask b (after_by ts (first_in (K.LParen ∷ []) ts) refl) (named_by s t ts e x)) in
+      inside ask b (seq ask b name (λ o d. ends_ret ask b (node_of s x o d)))
 
   -- an Ident where an operand is due
-  pub name-follows : (s : State) → Stands s → (t : Token) (ts : List Token) → drop_trivia s.since ≡ t ∷ ts
+  pub name_follows : (s : State) → Stands s → (t : Token) (ts : List Token) → drop_trivia s.since ≡ t ∷ ts
       → Ends ask b (macro_invocation ⨟ tell yes) s (Follows s expr_nodes (named (symbols true ts)))
-  name-follows s h t ts e = seq ask b (node-follows s h t ts e) (λ o d. ends-ret ask b d)
+  name_follows s h t ts e = seq ask b (node_follows s h t ts e) (λ o d. ends_ret ask b d)

@@ -92,9 +92,9 @@ module _ (names : List NameAt) where
     side = λ n a. ⊎_elim (λ g. inl (omega arith)) (⊎_elim (λ g. ⊎_elim (λ e. inl (omega arith)) (λ m. inr (inl m)) (of_leaf n under at byte k ts f g)) (λ g. inr (inr (omega arith)))) (h.side n a);
   }
 
-  in-children : (under : Bool) (at byte k : ℕ) (c f : Tree) → Known under at byte (subtree k c f) → Known (judges k c) at byte c
+  in_children : (under : Bool) (at byte k : ℕ) (c f : Tree) → Known under at byte (subtree k c f) → Known (judges k c) at byte c
   unfolding token_count
-  in-children under at byte k c f h =
+  in_children under at byte k c f h =
       record {
         side = λ n a.
             ⊎_elim (λ g. inl g)
@@ -120,8 +120,8 @@ module _ (names : List NameAt) where
       ((at byte : ℕ) → judged false at byte c ≡ []) → (n : NameAt) → Among n names → total < n.first_token + length ts
       → n.first_token + length ts < total + length (leaves c) → ⊥
 
-  apart-cell : (at byte : ℕ) (c : Tree) (total : ℕ) (ts : List Token) → total ≡ at + length ts → Known false at byte c → Apart total ts c
-  apart-cell at byte c total ts e h none n a low high =
+  apart_cell : (at byte : ℕ) (c : Tree) (total : ℕ) (ts : List Token) → total ≡ at + length ts → Known false at byte c → Apart total ts c
+  apart_cell at byte c total ts e h none n a low high =
       ⊎_elim (λ g. omega arith) (⊎_elim (λ g. subst (Among n) (none at byte) g) (λ g. omega (arith, tokens_leaves c))) (h.side n a)
 
   apart : (under : Bool) (at byte : ℕ) (t : Tree) (total : ℕ) (ts : List Token) → total ≡ at + length ts → length (leaves t) ≤ length ts → Known under at byte t → Each (Apart total) ts t
@@ -135,8 +135,8 @@ module _ (names : List NameAt) where
       let x = length-append (leaves c) (leaves f) in
       let y = length-drop (length (leaves c)) ts in
       let z = tokens_leaves c in (
-        λ d. apart-cell at byte c total ts e (subst (λ (j : ℕ). Known (judges j c) at byte c) d (in-children under at byte k c f h)),
-        apart (judges k c) at byte c total ts e (omega arith) (in-children under at byte k c f h),
+        λ d. apart_cell at byte c total ts e (subst (λ (j : ℕ). Known (judges j c) at byte c) d (in_children under at byte k c f h)),
+        apart (judges k c) at byte c total ts e (omega arith) (in_children under at byte k c f h),
         apart under (at + token_count c) (byte + width c) f total (drop (length (leaves c)) ts) (omega arith) (omega arith) (past_node under at byte k c f h),
       )
 

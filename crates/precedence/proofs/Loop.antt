@@ -24,9 +24,9 @@ use Rattle.laws.proofs.Clear.{clear_append}
 use Rattle.precedence.proofs.Pushed.{Quiet, quiet_done, quiet_join, quiet_closed, Reported, there, reported_left, reported_right}
 use Rattle.precedence.proofs.Same.{Same, same_join, same_node, same_ignored}
 use Rattle.precedence.proofs.Symbols.{Tail, tail_trans}
-use Rattle.precedence.proofs.Rules.{pick, Ends, ends-any, branch, ends-ret}
+use Rattle.precedence.proofs.Rules.{pick, Ends, ends_any, branch, ends_ret}
 use Rattle.precedence.proofs.Follow.{Done, Noted, Follows, noted_first, noted_from}
-use Rattle.precedence.proofs.Operands.{lhs-follows}
+use Rattle.precedence.proofs.Operands.{lhs_follows}
 use Rattle.precedence.proofs.Turns.{Turned, stops, goes, turn_of, then_more, step_turn, Linked, Turns, turns}
 
 -- ---------------------------------------------------------------- what links push
@@ -70,9 +70,9 @@ module _ (n : ℕ) (f : State → Out) (m : ℕ) (a i : Skeleton) (s : State) (o
   abbrev linking : Out
   linking = by_shape o.shape (unlinked m a (i ⧺ o.made) o.ans o.state) (going_on (goes_on s o))
 
-  link-pushes : ((m' : ℕ) (b j : Skeleton) (u : State) → Pushes m' b j (pushes (links n f m' b j u).made)) → Pushes m a (i ⧺ o.made) (pushes linking.made)
+  link_pushes : ((m' : ℕ) (b j : Skeleton) (u : State) → Pushes m' b j (pushes (links n f m' b j u).made)) → Pushes m a (i ⧺ o.made) (pushes linking.made)
   unfolding by_shape
-  link-pushes later = by o.shape (goes_on s o)
+  link_pushes later = by o.shape (goes_on s o)
     where
       on : (x : Bool) → Pushes m a (i ⧺ o.made) (pushes (going_on x).made)
       on true = pushes_linked o.shape m (mark_of o.state) a (i ⧺ o.made) linked done _ refl (later (mark_of o.state) linked done o.state)
@@ -87,23 +87,23 @@ unfolding links
 links_pushes zero f m a i s = unlinked_pushes m a i again s
 links_pushes (suc n) f m a i s =
     let o = f s in
-    let p = pushes_since m a i o.made (pushes (linking n f m a i s o).made) (link-pushes n f m a i s o (λ m' b j u. links_pushes n f m' b j u)) in
+    let p = pushes_since m a i o.made (pushes (linking n f m a i s o).made) (link_pushes n f m a i s o (λ m' b j u. links_pushes n f m' b j u)) in
     record { rest = pushes o.made ++ p.0; is = p.1 }
 
 -- so what the link made is pushed
 module _ (n : ℕ) (f : State → Out) (m : ℕ) (a i : Skeleton) (s : State) (o : Out) where
-  link-made : (r : List Push) × (pushes (linking n f m a i s o).made ≡ pushes a ++ (event m ∷ (pushes i ++ (pushes o.made ++ r))))
-  link-made = pushes_since m a i o.made (pushes (linking n f m a i s o).made) (link-pushes n f m a i s o (links_pushes n f))
+  link_made : (r : List Push) × (pushes (linking n f m a i s o).made ≡ pushes a ++ (event m ∷ (pushes i ++ (pushes o.made ++ r))))
+  link_made = pushes_since m a i o.made (pushes (linking n f m a i s o).made) (link_pushes n f m a i s o (links_pushes n f))
 
-  link-clear : NoneExceeded (pushes (linking n f m a i s o).made) → NoneExceeded (pushes o.made)
-  link-clear c =
-      let r = link-made in
+  link_clear : NoneExceeded (pushes (linking n f m a i s o).made) → NoneExceeded (pushes o.made)
+  link_clear c =
+      let r = link_made in
       let d : NoneExceeded (pushes a ++ (event m ∷ (pushes i ++ (pushes o.made ++ r.0)))) = subst NoneExceeded r.1 c in
       (clear_append (pushes o.made) r.0 (clear_append (pushes i) (pushes o.made ++ r.0) (clear_append (pushes a) (event m ∷ (pushes i ++ (pushes o.made ++ r.0))) d).1).1).0
 
-  link-noted : (z : State) (vs : List Symbol) → Noted z vs o.made → Noted z vs (linking n f m a i s o).made
-  link-noted z vs p =
-      let r = link-made in
+  link_noted : (z : State) (vs : List Symbol) → Noted z vs o.made → Noted z vs (linking n f m a i s o).made
+  link_noted z vs p =
+      let r = link_made in
       record {
         rep = p.rep;
         among = subst (Reported p.rep) (sym r.1) (reported_right (pushes a) (there (reported_right (pushes i) (reported_left r.0 p.among))));
@@ -196,32 +196,32 @@ module _ (ask : Rule → State → Out) (b : Label) (rec : Reader)
   Goes more = (n m : ℕ) (a i : Skeleton) (s : State) (e : Expr) (us : List Symbol) → Holds z e us a i s → length s.rest < n
       → NoneExceeded (pushes (links n turn m a i s).made) → Follows z expr_nodes (more e us) (links n turn m a i s)
 
-  link-by : (more : Expr → List Symbol → Res) → Goes more → (n m : ℕ) (a i : Skeleton) (s : State) (e : Expr) (us : List Symbol) → Holds z e us a i s
+  link_by : (more : Expr → List Symbol → Res) → Goes more → (n m : ℕ) (a i : Skeleton) (s : State) (e : Expr) (us : List Symbol) → Holds z e us a i s
       → length s.rest < suc n → (x : Turned) (o : Out) → Turns s e x o → NoneExceeded (pushes (linking n turn m a i s o).made)
       → Follows z expr_nodes (then_more x more e us) (linking n turn m a i s o)
   unfolding by_shape replies closed
-  link-by more later n m a i s e us h l stops o t c =
+  link_by more later n m a i s e us h l stops o t c =
       let g : Follows z expr_nodes (P.done e us) (linking n turn m a i s (replies yes t.to)) =
       ends_chain z e us m a (i ⧺ done) t.to (still_holds z e us a i s t.to t.stands t.since_is h) in
       subst (λ (o' : Out). Follows z expr_nodes (P.done e us) (linking n turn m a i s o')) (sym t.is) g
-  link-by more later n m a i s e us h l (goes (P.done f vs)) o t c =
+  link_by more later n m a i s e us h l (goes (P.done f vs)) o t c =
       let q = link_is n turn m a i s e f vs o t in
       subst (Follows z expr_nodes (more f vs)) (sym q)
       (later n (mark_of o.state) (node N.InfixExpr m (mark_of o.state) a (i ⧺ o.made) done) done o.state f vs (link_holds z e f us vs m a i s o h t)
       (omega (arith, t.moved)) (subst (λ (o' : Out). NoneExceeded (pushes o'.made)) q c))
-  link-by more later n m a i s e us h l (goes (P.report vs)) o t c =
-      noted_from z s vs (linking n turn m a i s o).made h.tail (link-noted n turn m a i s o s vs t)
-  link-by more later n m a i s e us h l (goes refused) o t c = absurd t
-  link-by more later n m a i s e us h l (goes spent) o t c = tt
+  link_by more later n m a i s e us h l (goes (P.report vs)) o t c =
+      noted_from z s vs (linking n turn m a i s o).made h.tail (link_noted n turn m a i s o s vs t)
+  link_by more later n m a i s e us h l (goes refused) o t c = absurd t
+  link_by more later n m a i s e us h l (goes spent) o t c = tt
 
   steps : (more : Expr → List Symbol → Res) → Goes more → Goes (step more rec min)
   unfolding links
   steps more later zero m a i s e us h l c = absurd (omega arith)
   steps more later (suc n) m a i s e us h l c =
       let t : Turns s e (turn_of rec min e us) (turn s) =
-      subst (λ (vs : List Symbol). Turns s e (turn_of rec min e vs) (turn s)) h.left ((turns ask b rec below min e s h.stands).holds (link-clear n turn m a i s (turn s) c)) in
+      subst (λ (vs : List Symbol). Turns s e (turn_of rec min e vs) (turn s)) h.left ((turns ask b rec below min e s h.stands).holds (link_clear n turn m a i s (turn s) c)) in
       subst (λ (x : Res). Follows z expr_nodes x (linking n turn m a i s (turn s))) (sym (step_turn more rec min e us))
-      (link-by more later n m a i s e us h l (turn_of rec min e us) (turn s) t c)
+      (link_by more later n m a i s e us h l (turn_of rec min e us) (turn s) t c)
 
   loops : (k : ℕ) → Goes (loop rec k min)
   loops zero = steps (λ f vs. spent) (λ n m a i s e us h l c. tt)
@@ -239,34 +239,34 @@ Begins s spent o = Unit {0}
 module _ (ask : Rule → State → Out) (b : Label) (rec : Reader)
     (below : (m : ℕ) (s : State) → Stands s → Ends ask b (open_call (expr_binding_power m)) s (Follows s expr_nodes (rec m (symbols false s.since))))
     (min : ℕ) where
-  begin-by : (s : State) (x : Res) (o : Out) → Follows s expr_nodes x o → Ends ask b (pick o.ans (tell no) (tell again) (tell again)) o.state (λ o'. Begins s x (add o o'))
+  begin_by : (s : State) (x : Res) (o : Out) → Follows s expr_nodes x o → Ends ask b (pick o.ans (tell no) (tell again) (tell again)) o.state (λ o'. Begins s x (add o o'))
   unfolding add
-  begin-by s (P.done e vs) o d = rw d.0 (ends-ret ask b (refl, rw (join_done o.made) d.1))
-  begin-by s (P.report vs) o n = ends-any ask b (λ o'. noted_first s vs o.made o'.made n)
-  begin-by s refused o d = absurd d
-  begin-by s spent o d = ends-any ask b (λ o'. tt)
+  begin_by s (P.done e vs) o d = rw d.0 (ends_ret ask b (refl, rw (join_done o.made) d.1))
+  begin_by s (P.report vs) o n = ends_any ask b (λ o'. noted_first s vs o.made o'.made n)
+  begin_by s refused o d = absurd d
+  begin_by s spent o d = ends_any ask b (λ o'. tt)
 
   begins : (s : State) → Stands s → Ends ask b (if lhs then tell again else tell no) s (Begins s (P.lhs rec (symbols false s.since)))
-  begins s h = branch ask b (lhs-follows ask b rec below s h) (begin-by s (P.lhs rec (symbols false s.since)))
+  begins s h = branch ask b (lhs_follows ask b rec below s h) (begin_by s (P.lhs rec (symbols false s.since)))
 
   -- the chain that begins with o
-  abbrev chain-of : State → Out → Bool → Out
-  chain-of s o x =
+  abbrev chain_of : State → Out → Bool → Out
+  chain_of s o x =
       cond x (links (suc (length o.state.rest)) (exec ask b (infix_turn min)) (mark_of s) done o.made o.state)
       (unlinked (mark_of s) done o.made o.ans o.state)
 
-  chain-pushes : (s : State) (o : Out) (x : Bool) → Pushes (mark_of s) done o.made (pushes (chain-of s o x).made)
-  chain-pushes s o true = links_pushes (suc (length o.state.rest)) (exec ask b (infix_turn min)) (mark_of s) done o.made o.state
-  chain-pushes s o false = unlinked_pushes (mark_of s) done o.made o.ans o.state
+  chain_pushes : (s : State) (o : Out) (x : Bool) → Pushes (mark_of s) done o.made (pushes (chain_of s o x).made)
+  chain_pushes s o true = links_pushes (suc (length o.state.rest)) (exec ask b (infix_turn min)) (mark_of s) done o.made o.state
+  chain_pushes s o false = unlinked_pushes (mark_of s) done o.made o.ans o.state
 
-  chain-clear : (s : State) (o : Out) (x : Bool) → NoneExceeded (pushes (chain-of s o x).made) → NoneExceeded (pushes o.made)
+  chain_clear : (s : State) (o : Out) (x : Bool) → NoneExceeded (pushes (chain_of s o x).made) → NoneExceeded (pushes o.made)
   unfolding pushes
-  chain-clear s o x c = let p = chain-pushes s o x in (clear_append (pushes o.made) p.rest (subst NoneExceeded p.is c)).0
+  chain_clear s o x c = let p = chain_pushes s o x in (clear_append (pushes o.made) p.rest (subst NoneExceeded p.is c)).0
 
-  chain-noted : (s : State) (o : Out) (x : Bool) (vs : List Symbol) → Noted s vs o.made → Noted s vs (chain-of s o x).made
+  chain_noted : (s : State) (o : Out) (x : Bool) (vs : List Symbol) → Noted s vs o.made → Noted s vs (chain_of s o x).made
   unfolding pushes
-  chain-noted s o x vs n =
-      let p = chain-pushes s o x in
+  chain_noted s o x vs n =
+      let p = chain_pushes s o x in
       record {
         rep = n.rep;
         among = subst (Reported n.rep) (sym p.is) (there (reported_left p.rest n.among));
@@ -276,28 +276,28 @@ module _ (ask : Rule → State → Out) (b : Label) (rec : Reader)
         tail = n.tail;
       }
 
-  chain_by : (s : State) (x : Res) (o : Out) → Begins s x o → NoneExceeded (pushes (chain-of s o (is_again o.ans)).made)
-      → Follows s expr_nodes (bind x (λ e vs. loop rec (length vs) min e vs)) (chain-of s o (is_again o.ans))
+  chain_by : (s : State) (x : Res) (o : Out) → Begins s x o → NoneExceeded (pushes (chain_of s o (is_again o.ans)).made)
+      → Follows s expr_nodes (bind x (λ e vs. loop rec (length vs) min e vs)) (chain_of s o (is_again o.ans))
   unfolding is_again pushes ◌⧺◌
   chain_by s (P.done e vs) o d c =
       let q : is_again o.ans ≡ true = ap is_again d.0 in
       let h : Holds s e vs done o.made o.state =
       record { same = d.1.same; quiet_a = tt; quiet_i = d.1.quiet; stands = d.1.stands; left = d.1.left; tail = d.1.tail } in
-      subst (λ (x : Bool). Follows s expr_nodes (loop rec (length vs) min e vs) (chain-of s o x)) (sym q)
+      subst (λ (x : Bool). Follows s expr_nodes (loop rec (length vs) min e vs) (chain_of s o x)) (sym q)
       (loops ask b rec below min s (length vs) (suc (length o.state.rest)) (mark_of s) done o.made o.state e vs h (omega arith)
-      (subst (λ (x : Bool). NoneExceeded (pushes (chain-of s o x).made)) q c))
-  chain_by s (P.report vs) o n c = chain-noted s o (is_again o.ans) vs n
+      (subst (λ (x : Bool). NoneExceeded (pushes (chain_of s o x).made)) q c))
+  chain_by s (P.report vs) o n c = chain_noted s o (is_again o.ans) vs n
   chain_by s refused o d c = absurd d
   chain_by s spent o d c = tt
 
-  body-follows : (s : State) → Stands s
+  body_follows : (s : State) → Stands s
       → Ends ask b (expr_binding_power_body min) s (Follows s expr_nodes (bind (P.lhs rec (symbols false s.since)) (λ e vs. loop rec (length vs) min e vs)))
   unfolding expr_binding_power_body exec chained
-  body-follows s h =
+  body_follows s h =
       let o = exec ask b (if lhs then tell again else tell no) s in
       record {
         holds = λ c.
-            chain_by s (P.lhs rec (symbols false s.since)) o ((begins s h).holds (chain-clear s o (is_again o.ans) c)) c;
+            chain_by s (P.lhs rec (symbols false s.since)) o ((begins s h).holds (chain_clear s o (is_again o.ans) c)) c;
       }
 
 -- `expr_binding_power`, with so many more open calls allowed, does what the reader does
@@ -305,4 +305,4 @@ pub calls : (n : ℕ) (b : Label) (m : ℕ) (s : State) → Stands s
     → Ends (run n) b (open_call (expr_binding_power m)) s (Follows s expr_nodes (reader n m (symbols false s.since)))
 unfolding exec run grammar makes pushes
 calls zero b m s h = record { holds = λ c. absurd c }
-calls (suc n) b m s h = record { holds = (body-follows (run n) no_label (reader n) (calls n no_label) m s h).holds }
+calls (suc n) b m s h = record { holds = (body_follows (run n) no_label (reader n) (calls n no_label) m s h).holds }

@@ -14,7 +14,7 @@ module _ (f : ℕ → Bool) (R : State → Skeleton → State → Type 0) where
   pub record Ran (s : State) (o : Out) : Type 0 where
     pub shape : f o.shape ≡ true
     pub stands : Stands s → Stands o.state
-    pub makes-it : Stands s → R s o.made o.state
+    pub makes_it : Stands s → R s o.made o.state
 
   -- what has to be shown of R
   pub record Holds : Type 0 where
@@ -25,24 +25,24 @@ module _ (f : ℕ → Bool) (R : State → Skeleton → State → Type 0) where
     pub close : (s u v : State) (k : ℕ) (a i : Skeleton) → f k ≡ true → R s a u → R u i v → R s (closed k (mark_of u) (mark_of v) a i) v
 
 module _ (f : ℕ → Bool) (R : State → Skeleton → State → Type 0) (H : Holds f R) where
-  pub ran-add : (s : State) (o o' : Out) → Ran f R s o → Ran f R o.state o' → Ran f R s (add o o')
+  pub ran_add : (s : State) (o o' : Out) → Ran f R s o → Ran f R o.state o' → Ran f R s (add o o')
   unfolding add
-  ran-add s o o' p q =
+  ran_add s o o' p q =
       record {
         shape = q.shape;
         stands = λ h. q.stands (p.stands h);
-        makes-it = λ h. H.join s o.state o'.state o.made o'.made (p.makes-it h) (q.makes-it (p.stands h));
+        makes_it = λ h. H.join s o.state o'.state o.made o'.made (p.makes_it h) (q.makes_it (p.stands h));
       }
 
-  pub ran-ret : (k : ℕ) (a : Ans) (s : State) → f k ≡ true → Ran f R s (record { ans = a; shape = k; made = done; state = s })
-  ran-ret k a s e = record { shape = e; stands = λ h. h; makes-it = H.idle s }
+  pub ran_ret : (k : ℕ) (a : Ans) (s : State) → f k ≡ true → Ran f R s (record { ans = a; shape = k; made = done; state = s })
+  ran_ret k a s e = record { shape = e; stands = λ h. h; makes_it = H.idle s }
 
-  pub ran-choose : (x : Ans) (n y a : State → Out) (s : State) → Ran f R s (n s) → Ran f R s (y s) → Ran f R s (a s) → Ran f R s (choose x n y a s)
+  pub ran_choose : (x : Ans) (n y a : State → Out) (s : State) → Ran f R s (n s) → Ran f R s (y s) → Ran f R s (a s) → Ran f R s (choose x n y a s)
   unfolding choose
-  ran-choose no n y a s p q r = p
-  ran-choose yes n y a s p q r = q
-  ran-choose also n y a s p q r = r
-  ran-choose again n y a s p q r = q
+  ran_choose no n y a s p q r = p
+  ran_choose yes n y a s p q r = q
+  ran_choose also n y a s p q r = r
+  ran_choose again n y a s p q r = q
 
   -- a chain under way: its open marker was pushed at some state between
   record Under (s : State) (m : ℕ) (a i : Skeleton) (u : State) : Type 0 where
@@ -60,16 +60,16 @@ module _ (f : ℕ → Bool) (R : State → Skeleton → State → Type 0) (H : H
   unfolding marked makes unlinked
   composed =
       record {
-        idle = λ a s. ran-ret 0 a s H.ignored;
-        add = ran-add;
+        idle = λ a s. ran_ret 0 a s H.ignored;
+        add = ran_add;
         mark = λ s o p.
             record {
               shape = H.ignored;
               stands = p.stands;
-              makes-it = λ h. H.close s s o.state o.shape done o.made p.shape (H.idle s h) (p.makes-it h);
+              makes_it = λ h. H.close s s o.state o.shape done o.made p.shape (H.idle s h) (p.makes_it h);
             };
-        turn = λ s o p. record { shape = H.ignored; stands = p.stands; makes-it = p.makes-it };
-        first = λ s o p h. record { at = s; pushed = refl; stands = p.stands h; before = H.idle s h; since = p.makes-it h };
+        turn = λ s o p. record { shape = H.ignored; stands = p.stands; makes_it = p.makes_it };
+        first = λ s o p h. record { at = s; pushed = refl; stands = p.stands h; before = H.idle s h; since = p.makes_it h };
         more = λ s u m a i o c p h.
             let d : Under s m a i u = c h in
             record {
@@ -77,7 +77,7 @@ module _ (f : ℕ → Bool) (R : State → Skeleton → State → Type 0) (H : H
               pushed = d.pushed;
               stands = p.stands d.stands;
               before = d.before;
-              since = H.join d.at u o.state i o.made d.since (p.makes-it d.stands);
+              since = H.join d.at u o.state i o.made d.since (p.makes_it d.stands);
             };
         link = λ s u m k a i o b q e c h.
             let d : Under s m a (i ⧺ o.made) o.state = c h in
@@ -88,9 +88,9 @@ module _ (f : ℕ → Bool) (R : State → Skeleton → State → Type 0) (H : H
               before = unfold closed in closes s m a (i ⧺ o.made) o.state (suc k) (subst (λ (j : ℕ). f j ≡ true) e q.shape) d;
               since = H.idle o.state d.stands;
             };
-        last = λ s u m a i x c. record { shape = H.ignored; stands = λ h. (c h).stands; makes-it = λ h. closes s m a i u 0 H.ignored (c h) };
+        last = λ s u m a i x c. record { shape = H.ignored; stands = λ h. (c h).stands; makes_it = λ h. closes s m a i u 0 H.ignored (c h) };
       }
 
   -- every such program
-  pub ran-exec : (ask : Rule → State → Out) → ((r : Rule) (s : State) → Ran f R s (ask r s)) → (b : Label) (p : Prog) (s : State) → only f any_act p ≡ true → Ran f R s (exec ask b p s)
-  ran-exec ask asked b p s e = exec_only (Ran f R) _ composed f any_act ran-ret (λ c a e u. H.act c a u) ask asked b p s e
+  pub ran_exec : (ask : Rule → State → Out) → ((r : Rule) (s : State) → Ran f R s (ask r s)) → (b : Label) (p : Prog) (s : State) → only f any_act p ≡ true → Ran f R s (exec ask b p s)
+  ran_exec ask asked b p s e = exec_only (Ran f R) _ composed f any_act ran_ret (λ c a e u. H.act c a u) ask asked b p s e

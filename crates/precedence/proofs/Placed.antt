@@ -20,7 +20,7 @@ use Rattle.laws.specs.Pushes.{NoneExceeded}
 use Rattle.precedence.proofs.Cell.{CellOf}
 use Rattle.precedence.proofs.Cells.{Cells}
 use Rattle.precedence.proofs.Everywhere.{entry_cells}
-use Rattle.precedence.proofs.Settle.{Settled, settle-cell, Each, each-then, each-lead, each-front, each-branch, place-then}
+use Rattle.precedence.proofs.Settle.{Settled, settle_cell, Each, each_then, each_lead, each_front, each_branch, place_then}
 
 drop_take : (n : ℕ) (l : List Token) → drop (length (take n l)) l ≡ drop n l
 drop_take zero l = refl
@@ -32,77 +32,77 @@ module _ (pre a i o post : List Push) (x y : Push) where
   around : List Push
   around = pre ++ ((a ++ (x ∷ (i ++ (y ∷ o)))) ++ post)
 
-  around-a : around ≡ pre ++ (a ++ (x ∷ (i ++ (y ∷ (o ++ post)))))
+  around_a : around ≡ pre ++ (a ++ (x ∷ (i ++ (y ∷ (o ++ post)))))
   unfolding around
-  around-a = simp append_assoc
+  around_a = simp append_assoc
 
-  around-i : around ≡ (pre ++ (a ++ (x ∷ []))) ++ (i ++ (y ∷ (o ++ post)))
+  around_i : around ≡ (pre ++ (a ++ (x ∷ []))) ++ (i ++ (y ∷ (o ++ post)))
   unfolding around
-  around-i = simp append_assoc
+  around_i = simp append_assoc
 
-  around-o : around ≡ (pre ++ (a ++ (x ∷ (i ++ (y ∷ []))))) ++ (o ++ post)
+  around_o : around ≡ (pre ++ (a ++ (x ∷ (i ++ (y ∷ []))))) ++ (o ++ post)
   unfolding around
-  around-o = simp append_assoc
+  around_o = simp append_assoc
 
 module _ (all : List Push) (from to : ℕ) (falls : Falls from all to) where
   -- where p was made in the course of the whole
   Part : List Push → Type 0
   Part l = (pre : List Push) × (post : List Push) × (all ≡ pre ++ (l ++ post))
 
-  part-next : (x : Push) (l : List Push) → Part (x ∷ l) → Part l
+  part_next : (x : Push) (l : List Push) → Part (x ∷ l) → Part l
   unfolding Part
-  part-next x l p = (p.0 ++ (x ∷ []), p.1, p.2 ∙ simp append_assoc)
+  part_next x l p = (p.0 ++ (x ∷ []), p.1, p.2 ∙ simp append_assoc)
 
   module _ (a i o : List Push) (x y : Push) (p : Part (a ++ (x ∷ (i ++ (y ∷ o))))) where
-    part-a : Part a
+    part_a : Part a
     unfolding Part around
-    part-a = (p.0, x ∷ (i ++ (y ∷ (o ++ p.1))), p.2 ∙ around-a p.0 a i o p.1 x y)
+    part_a = (p.0, x ∷ (i ++ (y ∷ (o ++ p.1))), p.2 ∙ around_a p.0 a i o p.1 x y)
 
-    part-i : Part i
+    part_i : Part i
     unfolding Part around
-    part-i = (p.0 ++ (a ++ (x ∷ [])), y ∷ (o ++ p.1), p.2 ∙ around-i p.0 a i o p.1 x y)
+    part_i = (p.0 ++ (a ++ (x ∷ [])), y ∷ (o ++ p.1), p.2 ∙ around_i p.0 a i o p.1 x y)
 
-    part-o : Part o
+    part_o : Part o
     unfolding Part around
-    part-o = (p.0 ++ (a ++ (x ∷ (i ++ (y ∷ [])))), p.1, p.2 ∙ around-o p.0 a i o p.1 x y)
+    part_o = (p.0 ++ (a ++ (x ∷ (i ++ (y ∷ [])))), p.1, p.2 ∙ around_o p.0 a i o p.1 x y)
 
   -- a DtExpr's children
-  settle-node : (k m m' : ℕ) (a i o : Skeleton) (u : List Token) → Part (pushes a ++ (event m ∷ (pushes i ++ (event m' ∷ pushes o))))
+  settle_node : (k m m' : ℕ) (a i o : Skeleton) (u : List Token) → Part (pushes a ++ (event m ∷ (pushes i ++ (event m' ∷ pushes o))))
       → (k ≡ N.DtExpr → (a ≡ done) × CellOf m m' i u × (length (after i u) ≤ m')) → k ≡ N.DtExpr → Settled all u (place a u ⊕ place i (after a u))
   unfolding Part around pushes place after ◌⊕◌
-  settle-node k m m' a i o u p c e =
+  settle_node k m m' a i o u p c e =
       let d = c e in
-      let q : all ≡ p.0 ++ (pushes a ++ (event m ∷ (pushes i ++ (event m' ∷ (pushes o ++ p.1))))) = p.2 ∙ around-a p.0 (pushes a) (pushes i) (pushes o) p.1 (event m) (event m') in
+      let q : all ≡ p.0 ++ (pushes a ++ (event m ∷ (pushes i ++ (event m' ∷ (pushes o ++ p.1))))) = p.2 ∙ around_a p.0 (pushes a) (pushes i) (pushes o) p.1 (event m) (event m') in
       let z : all ≡ p.0 ++ (event m ∷ (pushes i ++ (event m' ∷ (pushes o ++ p.1)))) =
       subst (λ (s : Skeleton). all ≡ p.0 ++ (pushes s ++ (event m ∷ (pushes i ++ (event m' ∷ (pushes o ++ p.1)))))) d.0 q in
-      subst (λ (s : Skeleton). Settled all u (place s u ⊕ place i (after s u))) (sym d.0) (settle-cell all from to falls m m' i p.0 (pushes o ++ p.1) z u d.1 d.2)
+      subst (λ (s : Skeleton). Settled all u (place s u ⊕ place i (after s u))) (sym d.0) (settle_cell all from to falls m m' i p.0 (pushes o ++ p.1) z u d.1 d.2)
 
   settle : (p : Skeleton) (ts : List Token) → Part (pushes p) → Cells p ts → Each (Settled all) ts (place p ts)
   unfolding Cells place pushes after Each ◌⊕◌
   settle done ts w h = tt
   settle (token t m o) ts w h =
       let u = drop_trivia ts in
-      each-then (Settled all) (lead ts) (front u ⊕ place o (past u)) ts u (lead_whole ts) (each-lead (Settled all) ts ts)
-      (each-then (Settled all) (front u) (place o (past u)) u (past u) (front_whole u) (each-front (Settled all) u u) (settle o (past u) (part-next (event m) (pushes o) w) h))
+      each_then (Settled all) (lead ts) (front u ⊕ place o (past u)) ts u (lead_whole ts) (each_lead (Settled all) ts ts)
+      (each_then (Settled all) (front u) (place o (past u)) u (past u) (front_whole u) (each_front (Settled all) u u) (settle o (past u) (part_next (event m) (pushes o) w) h))
   settle (name raw m o) ts w h =
       let u = drop_trivia ts in
-      each-then (Settled all) (lead ts) (leaf K.Name (take (length raw) u) (place o (drop (length raw) u))) ts u (lead_whole ts) (each-lead (Settled all) ts ts)
+      each_then (Settled all) (lead ts) (leaf K.Name (take (length raw) u) (place o (drop (length raw) u))) ts u (lead_whole ts) (each_lead (Settled all) ts ts)
       (subst (λ (l : List Token). Each (Settled all) l (place o (drop (length raw) u))) (sym (drop_take (length raw) u))
-      (settle o (drop (length raw) u) (part-next (event m) (pushes o) w) h))
+      (settle o (drop (length raw) u) (part_next (event m) (pushes o) w) h))
   settle (node k m m' a i o) ts w h =
       let u = drop_trivia ts in
-      each-branch (Settled all) k a i (place o (after i (after a u))) ts (settle-node k m m' a i o u w h.0)
-      (settle a u (part-a (pushes a) (pushes i) (pushes o) (event m) (event m') w) h.1)
-      (settle i (after a u) (part-i (pushes a) (pushes i) (pushes o) (event m) (event m') w) h.2)
-      (settle o (after i (after a u)) (part-o (pushes a) (pushes i) (pushes o) (event m) (event m') w) h.3)
+      each_branch (Settled all) k a i (place o (after i (after a u))) ts (settle_node k m m' a i o u w h.0)
+      (settle a u (part_a (pushes a) (pushes i) (pushes o) (event m) (event m') w) h.1)
+      (settle i (after a u) (part_i (pushes a) (pushes i) (pushes o) (event m) (event m') w) h.2)
+      (settle o (after i (after a u)) (part_o (pushes a) (pushes i) (pushes o) (event m) (event m') w) h.3)
   settle (ignored m m' a i o) ts w h =
-      place-then (Settled all) a (place i (after a ts) ⊕ place o (after i (after a ts))) ts
-      (settle a ts (part-a (pushes a) (pushes i) (pushes o) (event m) (event m') w) h.0)
-      (place-then (Settled all) i (place o (after i (after a ts))) (after a ts)
-      (settle i (after a ts) (part-i (pushes a) (pushes i) (pushes o) (event m) (event m') w) h.1)
-      (settle o (after i (after a ts)) (part-o (pushes a) (pushes i) (pushes o) (event m) (event m') w) h.2))
-  settle (report r o) ts w h = settle o ts (part-next (reported r) (pushes o) w) h
-  settle (over m o) ts w h = settle o ts (part-next (exceeded m) (pushes o) w) h
+      place_then (Settled all) a (place i (after a ts) ⊕ place o (after i (after a ts))) ts
+      (settle a ts (part_a (pushes a) (pushes i) (pushes o) (event m) (event m') w) h.0)
+      (place_then (Settled all) i (place o (after i (after a ts))) (after a ts)
+      (settle i (after a ts) (part_i (pushes a) (pushes i) (pushes o) (event m) (event m') w) h.1)
+      (settle o (after i (after a ts)) (part_o (pushes a) (pushes i) (pushes o) (event m) (event m') w) h.2))
+  settle (report r o) ts w h = settle o ts (part_next (reported r) (pushes o) w) h
+  settle (over m o) ts w h = settle o ts (part_next (exceeded m) (pushes o) w) h
 
 -- no entry's root is a DtExpr
 root_other : (e : Entry) → root_kind e ≡ N.DtExpr → ⊥
@@ -120,4 +120,4 @@ entry_settled e ts c =
     let all = pushes o in
     let last = mark_of (exec (run MOST_OPEN_CALLS) no_label (whole e) (taken ts)).state in
     let made : Each (Settled all) ts (place o ts) = settle all (length ts) last (entry_marks e ts) o ts ([], [], sym (append-nil all)) (entry_cells e ts c) in
-    (λ k. absurd (root_other e k), place-then (Settled all) o (lead (after o ts)) ts made (each-lead (Settled all) (after o ts) (after o ts)), tt)
+    (λ k. absurd (root_other e k), place_then (Settled all) o (lead (after o ts)) ts made (each_lead (Settled all) (after o ts) (after o ts)), tt)

@@ -63,64 +63,64 @@ powers (ternary c x b) a = inr (record { left_is = refl; right_is = refl; number
 
 -- what a place asks of what stands there, given the powers l, r of the operator k
 module _ (e : Expr) (has : Has e) where
-  pub under-prefix : 23 ≤ lb e → precedence e ≤ 2
-  under-prefix h = go has
+  pub under_prefix : 23 ≤ lb e → precedence e ≤ 2
+  under_prefix h = go has
     where
       go : Has e → precedence e ≤ 2
       go (inl p) = omega arith
       go (inr p) = omega arith
 
-  pub under-prefix' : precedence e ≤ 2 → 23 ≤ lb e
-  under-prefix' h = go has
+  pub under_prefix' : precedence e ≤ 2 → 23 ≤ lb e
+  under_prefix' h = go has
     where
       go : Has e → 23 ≤ lb e
       go (inl p) = omega arith
       go (inr p) = omega arith
 
-  pub as-left : (n l r : ℕ) → Powers n l r → l < rb e → precedence e ≤ n
-  as-left n l r q h = go has
+  pub as_left : (n l r : ℕ) → Powers n l r → l < rb e → precedence e ≤ n
+  as_left n l r q h = go has
     where
       go : Has e → precedence e ≤ n
       go (inl p) = omega arith
       go (inr p) = omega arith
 
-  pub as-left' : (n l r : ℕ) → Powers n l r → precedence e ≤ n → (l < rb e) × (l ≤ lb e)
-  as-left' n l r q h = go has
+  pub as_left' : (n l r : ℕ) → Powers n l r → precedence e ≤ n → (l < rb e) × (l ≤ lb e)
+  as_left' n l r q h = go has
     where
       go : Has e → (l < rb e) × (l ≤ lb e)
       go (inl p) = omega arith
       go (inr p) = omega arith
 
-  pub as-right : (n l r : ℕ) → Powers n l r → r ≤ lb e → precedence e < n
-  as-right n l r q h = go has
+  pub as_right : (n l r : ℕ) → Powers n l r → r ≤ lb e → precedence e < n
+  as_right n l r q h = go has
     where
       go : Has e → precedence e < n
       go (inl p) = omega arith
       go (inr p) = omega arith
 
-  pub as-right' : (n l r : ℕ) → Powers n l r → precedence e < n → r ≤ lb e
-  as-right' n l r q h = go has
+  pub as_right' : (n l r : ℕ) → Powers n l r → precedence e < n → r ≤ lb e
+  as_right' n l r q h = go has
     where
       go : Has e → r ≤ lb e
       go (inl p) = omega arith
       go (inr p) = omega arith
 
-  pub as-condition : 2 < rb e → precedence e < 13
-  as-condition h = go has
+  pub as_condition : 2 < rb e → precedence e < 13
+  as_condition h = go has
     where
       go : Has e → precedence e < 13
       go (inl p) = omega arith
       go (inr p) = omega arith
 
-  pub as-condition' : precedence e < 13 → (2 < rb e) × (2 ≤ lb e)
-  as-condition' h = go has
+  pub as_condition' : precedence e < 13 → (2 < rb e) × (2 ≤ lb e)
+  as_condition' h = go has
     where
       go : Has e → (2 < rb e) × (2 ≤ lb e)
       go (inl p) = omega arith
       go (inr p) = omega arith
 
-  pub as-branch : 1 ≤ lb e
-  as-branch = go has
+  pub as_branch : 1 ≤ lb e
+  as_branch = go has
     where
       go : Has e → 1 ≤ lb e
       go (inl p) = omega arith

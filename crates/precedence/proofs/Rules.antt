@@ -41,26 +41,26 @@ module _ (ask : Rule → State → Out) (b : Label) where
   pub record Ends (p : Prog) (s : State) (Q : Out → Type 0) : Type 0 where
     pub holds : NoneExceeded (pushes (exec ask b p s).made) → Q (exec ask b p s)
 
-  choose-pick : (x : Ans) (n y a : Prog) (s : State) → choose x (exec ask b n) (exec ask b y) (exec ask b a) s ≡ exec ask b (pick x n y a) s
+  choose_pick : (x : Ans) (n y a : Prog) (s : State) → choose x (exec ask b n) (exec ask b y) (exec ask b a) s ≡ exec ask b (pick x n y a) s
   unfolding choose
-  choose-pick no n y a s = refl
-  choose-pick yes n y a s = refl
-  choose-pick also n y a s = refl
-  choose-pick again n y a s = refl
+  choose_pick no n y a s = refl
+  choose_pick yes n y a s = refl
+  choose_pick also n y a s = refl
+  choose_pick again n y a s = refl
 
-  exec-case : (c n y a : Prog) (s : State)
+  exec_case : (c n y a : Prog) (s : State)
       → exec ask b (case c n y a) s ≡ add (exec ask b c s) (exec ask b (pick (exec ask b c s).ans n y a) (exec ask b c s).state)
   unfolding exec
-  exec-case c n y a s = ap (add (exec ask b c s)) (choose-pick (exec ask b c s).ans n y a (exec ask b c s).state)
+  exec_case c n y a s = ap (add (exec ask b c s)) (choose_pick (exec ask b c s).ans n y a (exec ask b c s).state)
 
   -- ---------------------------------------------------------------- sequences, branches, markers
 
-  pub ends-map : {p : Prog} {s : State} {P Q : Out → Type 0} → Ends p s P → ((o : Out) → P o → Q o) → Ends p s Q
-  ends-map {p} {s} h g = record { holds = λ c. g (exec ask b p s) (h.holds c) }
+  pub ends_map : {p : Prog} {s : State} {P Q : Out → Type 0} → Ends p s P → ((o : Out) → P o → Q o) → Ends p s Q
+  ends_map {p} {s} h g = record { holds = λ c. g (exec ask b p s) (h.holds c) }
 
   -- whatever it comes to
-  pub ends-any : {p : Prog} {s : State} {Q : Out → Type 0} → ((o : Out) → Q o) → Ends p s Q
-  ends-any {p} {s} h = record { holds = λ c. h (exec ask b p s) }
+  pub ends_any : {p : Prog} {s : State} {Q : Out → Type 0} → ((o : Out) → Q o) → Ends p s Q
+  ends_any {p} {s} h = record { holds = λ c. h (exec ask b p s) }
 
   pub seq : {p q : Prog} {s : State} {P Q : Out → Type 0} → Ends p s P → ((o : Out) → P o → Ends q o.state (λ o'. Q (add o o'))) → Ends (p ⨟ q) s Q
   unfolding exec add
@@ -77,7 +77,7 @@ module _ (ask : Rule → State → Out) (b : Label) where
       let o' : Out = exec ask b (pick o.ans n y a) o.state in
       record {
         holds =
-            subst (λ (x : Out). NoneExceeded (pushes x.made) → Q x) (sym (exec-case c n y a s))
+            subst (λ (x : Out). NoneExceeded (pushes x.made) → Q x) (sym (exec_case c n y a s))
             (λ z. (g o (h.holds (clear_first o.made o'.made z))).holds (clear_second o.made o'.made z));
       }
 
@@ -87,9 +87,9 @@ module _ (ask : Rule → State → Out) (b : Label) where
       let o : Out = exec ask b p s in
       record { holds = λ c. h.holds (clear_inside o.shape (mark_of s) (mark_of o.state) done o.made c) }
 
-  pub ends-ret : {k : ℕ} {a : Ans} {s : State} {Q : Out → Type 0} → Q (record { ans = a; shape = k; made = done; state = s }) → Ends (ret k a) s Q
+  pub ends_ret : {k : ℕ} {a : Ans} {s : State} {Q : Out → Type 0} → Q (record { ans = a; shape = k; made = done; state = s }) → Ends (ret k a) s Q
   unfolding exec
-  ends-ret h = record { holds = λ c. h }
+  ends_ret h = record { holds = λ c. h }
 
   -- ---------------------------------------------------------------- tests
 
@@ -100,9 +100,9 @@ module _ (ask : Rule → State → Out) (b : Label) where
     pub stands : Stands to
     pub since_is : to.since ≡ s.since
 
-  pub test-seq : {p q : Prog} {s : State} {a a' : Ans} → Tests p s a → Onward s (λ to. Tests q to a') → Tests (p ⨟ q) s a'
+  pub test_seq : {p q : Prog} {s : State} {a a' : Ans} → Tests p s a → Onward s (λ to. Tests q to a') → Tests (p ⨟ q) s a'
   unfolding exec add replies ◌⧺◌
-  test-seq {p} {q} {s} {a} {a'} t g =
+  test_seq {p} {q} {s} {a} {a'} t g =
       let u : Tests q t.to a' = g t.to t.stands t.since_is in
       record {
         to = u.to;
@@ -123,24 +123,24 @@ module _ (ask : Rule → State → Out) (b : Label) where
       let f : Out → Out = λ o. add o (exec ask b (pick o.ans n y z) o.state) in
       record {
         holds =
-            subst (λ (x : Out). NoneExceeded (pushes x.made) → Q x) (sym (exec-case c n y z s ∙ ap f t.is))
+            subst (λ (x : Out). NoneExceeded (pushes x.made) → Q x) (sym (exec_case c n y z s ∙ ap f t.is))
             (g t.to t.stands t.since_is).holds;
       }
 
-  pub test-case : {c n y z : Prog} {s : State} {a a' : Ans} → Tests c s a → Onward s (λ to. Tests (pick a n y z) to a') → Tests (case c n y z) s a'
+  pub test_case : {c n y z : Prog} {s : State} {a a' : Ans} → Tests c s a → Onward s (λ to. Tests (pick a n y z) to a') → Tests (case c n y z) s a'
   unfolding add replies ◌⧺◌
-  test-case {c} {n} {y} {z} {s} {a} {a'} t g =
+  test_case {c} {n} {y} {z} {s} {a} {a'} t g =
       let f : Out → Out = λ o. add o (exec ask b (pick o.ans n y z) o.state) in
       let u : Tests (pick a n y z) t.to a' = g t.to t.stands t.since_is in
-      record { to = u.to; is = exec-case c n y z s ∙ ap f t.is ∙ u.is; stands = u.stands; since_is = u.since_is ∙ t.since_is }
+      record { to = u.to; is = exec_case c n y z s ∙ ap f t.is ∙ u.is; stands = u.stands; since_is = u.since_is ∙ t.since_is }
 
-  pub test-tell : {a : Ans} {s : State} → Stands s → Tests (ret 0 a) s a
+  pub test_tell : {a : Ans} {s : State} → Stands s → Tests (ret 0 a) s a
   unfolding exec replies
-  test-tell {a} {s} h = record { to = s; is = refl; stands = h; since_is = refl }
+  test_tell {a} {s} h = record { to = s; is = refl; stands = h; since_is = refl }
 
-  pub test-silent : {ks : List ℕ} {s : State} (l : List Token) → Stands s → drop_trivia s.since ≡ l → Tests (act (silent_at ks)) s (truth (first_in ks l))
+  pub test_silent : {ks : List ℕ} {s : State} (l : List Token) → Stands s → drop_trivia s.since ≡ l → Tests (act (silent_at ks)) s (truth (first_in ks l))
   unfolding exec perform peeked replies
-  test-silent {ks} {s} l h e =
+  test_silent {ks} {s} l h e =
       record {
         to = peeked s;
         is = ap (λ (r : List Token). replies (truth (first_in ks r)) (peeked s)) (ahead s h ∙ e);
@@ -151,42 +151,42 @@ module _ (ask : Rule → State → Out) (b : Label) where
   -- a test that is known to come out so
   pub silent_is : {ks : List ℕ} {s : State} (l : List Token) (x : Bool) → Stands s → drop_trivia s.since ≡ l → first_in ks l ≡ x
       → Tests (act (silent_at ks)) s (truth x)
-  silent_is {ks} {s} l x h e g = subst (λ (y : Bool). Tests (act (silent_at ks)) s (truth y)) g (test-silent l h e)
+  silent_is {ks} {s} l x h e g = subst (λ (y : Bool). Tests (act (silent_at ks)) s (truth y)) g (test_silent l h e)
 
-  pub test-less : {m n : ℕ} {s : State} → Stands s → Tests (act (less m n)) s (truth (ltb m n))
+  pub test_less : {m n : ℕ} {s : State} → Stands s → Tests (act (less m n)) s (truth (ltb m n))
   unfolding exec perform replies
-  test-less {s = s} h = record { to = s; is = refl; stands = h; since_is = refl }
+  test_less {s = s} h = record { to = s; is = refl; stands = h; since_is = refl }
 
   -- the token at the cursor
-  pub test-immediate : {k : ℕ} {s : State} → Stands s → Tests (act (immediate k)) s (truth (first_in (k ∷ []) s.rest))
+  pub test_immediate : {k : ℕ} {s : State} → Stands s → Tests (act (immediate k)) s (truth (first_in (k ∷ []) s.rest))
   unfolding exec perform replies
-  test-immediate {s = s} h = record { to = s; is = refl; stands = h; since_is = refl }
+  test_immediate {s = s} h = record { to = s; is = refl; stands = h; since_is = refl }
 
-  pub test-expected : {k : ℕ} {s : State} → Stands s → Tests (act (add_expected k)) s yes
+  pub test_expected : {k : ℕ} {s : State} → Stands s → Tests (act (add_expected k)) s yes
   unfolding exec perform do_expected
-  test-expected {k} {s} h = record { to = expecting s k; is = refl; stands = record { passed = h.passed }; since_is = refl }
+  test_expected {k} {s} h = record { to = expecting s k; is = refl; stands = record { passed = h.passed }; since_is = refl }
 
   -- a loud test of a kind
-  pub loud-is : {k : ℕ} {s : State} {ks : List ℕ} (l : List Token) (x : Bool) → Stands s → drop_trivia s.since ≡ l → first_in ks l ≡ x
+  pub loud_is : {k : ℕ} {s : State} {ks : List ℕ} (l : List Token) (x : Bool) → Stands s → drop_trivia s.since ≡ l → first_in ks l ≡ x
       → Tests (act (add_expected k) ⨟ act (silent_at ks)) s (truth x)
-  loud-is l x h e g = test-seq (test-expected h) (λ to st si. silent_is l x st (ap drop_trivia si ∙ e) g)
+  loud_is l x h e g = test_seq (test_expected h) (λ to st si. silent_is l x st (ap drop_trivia si ∙ e) g)
 
-  pub test-push-all : (ks : List ℕ) {s : State} → Stands s → Tests (push_all ks) s yes
-  test-push-all [] h = test-tell h
-  test-push-all (k ∷ ks) h = test-seq (test-expected h) (λ to g e. test-push-all ks g)
+  pub test_push_all : (ks : List ℕ) {s : State} → Stands s → Tests (push_all ks) s yes
+  test_push_all [] h = test_tell h
+  test_push_all (k ∷ ks) h = test_seq (test_expected h) (λ to g e. test_push_all ks g)
 
   -- ---------------------------------------------------------------- a token taken
 
-  pub bump-is : (s : State) (t : Token) (ts : List Token) → Stands s → drop_trivia s.since ≡ t ∷ ts → exec ask b (act bump) s ≡ took t ts
+  pub bump_is : (s : State) (t : Token) (ts : List Token) → Stands s → drop_trivia s.since ≡ t ∷ ts → exec ask b (act bump) s ≡ took t ts
   unfolding exec perform do_bump peeked
-  bump-is s t ts h e = ap (do_bump (peeked s)) (ahead s h ∙ e)
+  bump_is s t ts h e = ap (do_bump (peeked s)) (ahead s h ∙ e)
 
-  pub after-bump : {q : Prog} {s : State} {Q : Out → Type 0} (t : Token) (ts : List Token) → Stands s → drop_trivia s.since ≡ t ∷ ts
+  pub after_bump : {q : Prog} {s : State} {Q : Out → Type 0} (t : Token) (ts : List Token) → Stands s → drop_trivia s.since ≡ t ∷ ts
       → Ends q (taken ts) (λ o. Q (add (took t ts) o)) → Ends (act bump ⨟ q) s Q
   unfolding exec add makes
-  after-bump {q} {s} {Q} t ts h e g =
+  after_bump {q} {s} {Q} t ts h e g =
       record {
         holds =
-            subst (λ (o : Out). NoneExceeded (pushes (add o (exec ask b q o.state)).made) → Q (add o (exec ask b q o.state))) (sym (bump-is s t ts h e))
+            subst (λ (o : Out). NoneExceeded (pushes (add o (exec ask b q o.state)).made) → Q (add o (exec ask b q o.state))) (sym (bump_is s t ts h e))
             (λ c. g.holds (clear_second (token t (length ts) done) (exec ask b q (taken ts)).made c));
       }

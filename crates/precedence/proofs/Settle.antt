@@ -108,23 +108,23 @@ module _ (whole : List Push) (from to : ℕ) (falls : Falls from whole to) where
       by_last f (there g) =
           omega (arith, falls_under m' to post (falls_from m to (pushes i) (event m') post (falls_from from to pre (event m) (pushes i ++ (event m' ∷ post)) f)) g)
 
-      by-inside : Falls from (pre ++ (event m ∷ (pushes i ++ (event m' ∷ post)))) to → Reported rep (pushes i) ⊎ Reported rep (event m' ∷ post) → ⊥
-      by-inside f (inl g) = quiet_none (pushes i) q g
-      by-inside f (inr g) = by_last f g
+      by_inside : Falls from (pre ++ (event m ∷ (pushes i ++ (event m' ∷ post)))) to → Reported rep (pushes i) ⊎ Reported rep (event m' ∷ post) → ⊥
+      by_inside f (inl g) = quiet_none (pushes i) q g
+      by_inside f (inr g) = by_last f g
 
       by_side : Falls from (pre ++ (event m ∷ (pushes i ++ (event m' ∷ post)))) to → Reported rep pre ⊎ Reported rep (event m ∷ (pushes i ++ (event m' ∷ post))) → ⊥
       by_side f (inl g) = omega (arith, falls_before from to pre (event m) (pushes i ++ (event m' ∷ post)) f g)
-      by_side f (inr (there g)) = by-inside f (reported_parts (pushes i) (event m' ∷ post) g)
+      by_side f (inr (there g)) = by_inside f (reported_parts (pushes i) (event m' ∷ post) g)
 
   -- the tokens from u on are those of the cell's tree, and those that are left after it
   reached : (m' : ℕ) (i : Skeleton) (u : List Token) → length (after i u) ≤ m' → length u ≤ m' + length (leaves (place i u))
   reached m' i u l = omega (arith, l, ap length (place_whole i u), length-append (leaves (place i u)) (after i u))
 
-  settle-by : (m m' : ℕ) (i : Skeleton) (pre post : List Push) → whole ≡ pre ++ (event m ∷ (pushes i ++ (event m' ∷ post))) → (v : List Token) → (d : CellOf m m' i v)
+  settle_by : (m m' : ℕ) (i : Skeleton) (pre post : List Push) → whole ≡ pre ++ (event m ∷ (pushes i ++ (event m' ∷ post))) → (v : List Token) → (d : CellOf m m' i v)
       → length v ≤ m' + length (leaves (place i v)) → (inner : List Token) (close : Token) (after : List Token)
       → Good inner close after m' i ⊎ Bad inner close after d.beyond i
       → Clean whole inner close after d.beyond v (place i v) ⊎ Faulty whole inner close after d.beyond
-  settle-by m m' i pre post e v d l inner close after (inl g) =
+  settle_by m m' i pre post e v d l inner close after (inl g) =
       let z : length v ≡ suc (length d.beyond) = ap length d.starts in
       inl (record {
         tree = g.tree;
@@ -133,7 +133,7 @@ module _ (whole : List Push) (from to : ℕ) (falls : Falls from whole to) where
         holds = g.same.placed v;
         reaches = omega (arith, l, g.past);
       })
-  settle-by m m' i pre post e v d l inner close after (inr b) =
+  settle_by m m' i pre post e v d l inner close after (inr b) =
       inr (record {
         no_tree = b.no_tree;
         rep = b.rep;
@@ -143,10 +143,10 @@ module _ (whole : List Push) (from to : ℕ) (falls : Falls from whole to) where
       })
 
   -- a report of the cell is one of the whole
-  pair-in : (m m' : ℕ) (i : Skeleton) (pre post : List Push) → whole ≡ pre ++ (event m ∷ (pushes i ++ (event m' ∷ post))) → (beyond : List Token)
+  pair_in : (m m' : ℕ) (i : Skeleton) (pre post : List Push) → whole ≡ pre ++ (event m ∷ (pushes i ++ (event m' ∷ post))) → (beyond : List Token)
       → Paired (pushes i) beyond → Partner beyond ⊎ HeardInside whole beyond m'
-  pair-in m m' i pre post e beyond (inl p) = inl p
-  pair-in m m' i pre post e beyond (inr h) =
+  pair_in m m' i pre post e beyond (inl p) = inl p
+  pair_in m m' i pre post e beyond (inr h) =
       let f : Falls from (pre ++ (event m ∷ (pushes i ++ (event m' ∷ post)))) to = subst (λ (l : List Push). Falls from l to) e falls in
       inr (record {
         rep = h.rep;
@@ -155,14 +155,14 @@ module _ (whole : List Push) (from to : ℕ) (falls : Falls from whole to) where
         high = falls_before m to (pushes i) (event m') post (falls_from from to pre (event m) (pushes i ++ (event m' ∷ post)) f) h.among;
       })
 
-  reported-by : (m' : ℕ) (u beyond : List Token) (c : Tree) → length u ≤ m' + length (leaves c) → Partner beyond ⊎ HeardInside whole beyond m'
+  reported_by : (m' : ℕ) (u beyond : List Token) (c : Tree) → length u ≤ m' + length (leaves c) → Partner beyond ⊎ HeardInside whole beyond m'
       → Partner beyond ⊎ ((end : ℕ) × (length u ≤ end + length (leaves c)) × HeardInside whole beyond end)
-  reported-by m' u beyond c l (inl p) = inl p
-  reported-by m' u beyond c l (inr w) = inr (m', l, w)
+  reported_by m' u beyond c l (inl p) = inl p
+  reported_by m' u beyond c l (inr w) = inr (m', l, w)
 
-  pub settle-cell : (m m' : ℕ) (i : Skeleton) (pre post : List Push) → whole ≡ pre ++ (event m ∷ (pushes i ++ (event m' ∷ post))) → (u : List Token) → CellOf m m' i u
+  pub settle_cell : (m m' : ℕ) (i : Skeleton) (pre post : List Push) → whole ≡ pre ++ (event m ∷ (pushes i ++ (event m' ∷ post))) → (u : List Token) → CellOf m m' i u
       → length (after i u) ≤ m' → Settled whole u (place i u)
-  settle-cell m m' i pre post e u d l =
+  settle_cell m m' i pre post e u d l =
       record {
         bracket = d.bracket;
         beyond = d.beyond;
@@ -173,8 +173,8 @@ module _ (whole : List Push) (from to : ℕ) (falls : Falls from whole to) where
             ap (λ (p : Skeleton). place p u) d.begins
             ∙ ap (place (token d.bracket (length d.beyond) d.rest)) d.starts
             ∙ first_child d.bracket d.beyond (length d.beyond) d.rest d.is_bracket;
-        judged = λ inner close after b k h. settle-by m m' i pre post e u d (reached m' i u l) inner close after (d.judged inner close after b k h);
-        paired = reported-by m' u d.beyond (place i u) (reached m' i u l) (pair-in m m' i pre post e d.beyond d.paired);
+        judged = λ inner close after b k h. settle_by m m' i pre post e u d (reached m' i u l) inner close after (d.judged inner close after b k h);
+        paired = reported_by m' u d.beyond (place i u) (reached m' i u l) (pair_in m m' i pre post e d.beyond d.paired);
       }
 
 -- ---------------------------------------------------------------- every DtExpr of a placed tree
@@ -194,60 +194,60 @@ each_both Q R (leaf k raw f) ts h i = each_both Q R f (drop (length raw) ts) h i
 each_both Q R (subtree k c f) ts h i = (λ e. (h.0 e, i.0 e), each_both Q R c ts h.1 i.1, each_both Q R f (drop (length (leaves c)) ts) h.2 i.2)
 
 module _ (Q : List Token → Tree → Type 0) where
-  each-beside : (f g : Tree) (ts : List Token) → Each Q ts f → Each Q (drop (length (leaves f)) ts) g → Each Q ts (f ⊕ g)
+  each_beside : (f g : Tree) (ts : List Token) → Each Q ts f → Each Q (drop (length (leaves f)) ts) g → Each Q ts (f ⊕ g)
   unfolding Each ◌⊕◌ leaves
-  each-beside nil g ts h i = i
-  each-beside (leaf k raw f) g ts h i =
+  each_beside nil g ts h i = i
+  each_beside (leaf k raw f) g ts h i =
       let e : drop (length (raw ++ leaves f)) ts ≡ drop (length (leaves f)) (drop (length raw) ts) =
       ap (λ (n : ℕ). drop n ts) (length-append raw (leaves f)) ∙ sym (drop-drop (length (leaves f)) (length raw) ts) in
-      each-beside f g (drop (length raw) ts) h (subst (λ (l : List Token). Each Q l g) e i)
-  each-beside (subtree k c f) g ts h i =
+      each_beside f g (drop (length raw) ts) h (subst (λ (l : List Token). Each Q l g) e i)
+  each_beside (subtree k c f) g ts h i =
       let e : drop (length (leaves c ++ leaves f)) ts ≡ drop (length (leaves f)) (drop (length (leaves c)) ts) =
       ap (λ (n : ℕ). drop n ts) (length-append (leaves c) (leaves f)) ∙ sym (drop-drop (length (leaves f)) (length (leaves c)) ts) in
-      (h.0, h.1, each-beside f g (drop (length (leaves c)) ts) h.2 (subst (λ (l : List Token). Each Q l g) e i))
+      (h.0, h.1, each_beside f g (drop (length (leaves c)) ts) h.2 (subst (λ (l : List Token). Each Q l g) e i))
 
   -- f covers ts up to us
-  pub each-then : (f g : Tree) (ts us : List Token) → leaves f ++ us ≡ ts → Each Q ts f → Each Q us g → Each Q ts (f ⊕ g)
-  each-then f g ts us e h i =
-      each-beside f g ts h (subst (λ (l : List Token). Each Q l g) (sym (drop-append_seam (leaves f) us) ∙ ap (drop (length (leaves f))) e) i)
+  pub each_then : (f g : Tree) (ts us : List Token) → leaves f ++ us ≡ ts → Each Q ts f → Each Q us g → Each Q ts (f ⊕ g)
+  each_then f g ts us e h i =
+      each_beside f g ts h (subst (λ (l : List Token). Each Q l g) (sym (drop-append_seam (leaves f) us) ∙ ap (drop (length (leaves f))) e) i)
 
-  pub each-lead : (ts us : List Token) → Each Q us (lead ts)
+  pub each_lead : (ts us : List Token) → Each Q us (lead ts)
   unfolding Each lead
-  each-lead [] us = tt
-  each-lead (t ∷ ts) us = go (trivia t) (each-lead ts (drop 1 us))
+  each_lead [] us = tt
+  each_lead (t ∷ ts) us = go (trivia t) (each_lead ts (drop 1 us))
     where
       go : (b : Bool) → Each Q (drop 1 us) (lead ts) → Each Q us (cond b (leaf t.kind (t ∷ []) (lead ts)) nil)
       go true h = h
       go false h = tt
 
-  pub each-front : (ts us : List Token) → Each Q us (front ts)
+  pub each_front : (ts us : List Token) → Each Q us (front ts)
   unfolding Each front
-  each-front [] us = tt
-  each-front (t ∷ ts) us = tt
+  each_front [] us = tt
+  each_front (t ∷ ts) us = tt
 
   -- ---------------------------------------------------------------- placed
 
-  pub place-then : (p : Skeleton) (g : Tree) (ts : List Token) → Each Q ts (place p ts) → Each Q (after p ts) g → Each Q ts (place p ts ⊕ g)
-  place-then p g ts h i = each-then (place p ts) g ts (after p ts) (place_whole p ts) h i
+  pub place_then : (p : Skeleton) (g : Tree) (ts : List Token) → Each Q ts (place p ts) → Each Q (after p ts) g → Each Q ts (place p ts ⊕ g)
+  place_then p g ts h i = each_then (place p ts) g ts (after p ts) (place_whole p ts) h i
 
-  both-whole : (a i : Skeleton) (u : List Token) → leaves (place a u ⊕ place i (after a u)) ++ after i (after a u) ≡ u
-  both-whole a i u =
+  both_whole : (a i : Skeleton) (u : List Token) → leaves (place a u ⊕ place i (after a u)) ++ after i (after a u) ≡ u
+  both_whole a i u =
       ap (◌++ after i (after a u)) (leaves_beside (place a u) (place i (after a u)))
       ∙ append_assoc (leaves (place a u)) (leaves (place i (after a u))) (after i (after a u))
       ∙ ap (leaves (place a u) ++◌) (place_whole i (after a u))
       ∙ place_whole a u
 
   -- a node, its children and what follows it
-  pub each-branch : (k : ℕ) (a i : Skeleton) (g : Tree) (ts : List Token)
+  pub each_branch : (k : ℕ) (a i : Skeleton) (g : Tree) (ts : List Token)
       → (k ≡ N.DtExpr → Q (drop_trivia ts) (place a (drop_trivia ts) ⊕ place i (after a (drop_trivia ts))))
       → Each Q (drop_trivia ts) (place a (drop_trivia ts)) → Each Q (after a (drop_trivia ts)) (place i (after a (drop_trivia ts)))
       → Each Q (after i (after a (drop_trivia ts))) g
       → Each Q ts (lead ts ⊕ subtree k (place a (drop_trivia ts) ⊕ place i (after a (drop_trivia ts))) nil ⊕ g)
   unfolding Each ◌⊕◌
-  each-branch k a i g ts q x y z =
+  each_branch k a i g ts q x y z =
       let u = drop_trivia ts in
       let c = place a u ⊕ place i (after a u) in
       let w : drop (length (leaves c)) u ≡ after i (after a u) =
-      ap (drop (length (leaves c))) (sym (both-whole a i u)) ∙ drop-append_seam (leaves c) (after i (after a u)) in
-      each-then (lead ts) (subtree k c g) ts u (lead_whole ts) (each-lead ts ts)
-      (q, place-then a (place i (after a u)) u x y, subst (λ (l : List Token). Each Q l g) (sym w) z)
+      ap (drop (length (leaves c))) (sym (both_whole a i u)) ∙ drop-append_seam (leaves c) (after i (after a u)) in
+      each_then (lead ts) (subtree k c g) ts u (lead_whole ts) (each_lead ts ts)
+      (q, place_then a (place i (after a u)) u x y, subst (λ (l : List Token). Each Q l g) (sym w) z)

@@ -13,7 +13,7 @@ use Rattle.definitions.specs.Run.{State, mark_of, closed, exec, run}
 use Rattle.definitions.specs.Place.{after}
 use Rattle.laws.proofs.Trivia.{drop_twice, drop_trivia_length}
 use Rattle.laws.proofs.Skeleton.{after_join}
-use Rattle.laws.proofs.Kept.{Stands, Kept, run-kept, exec_kept}
+use Rattle.laws.proofs.Kept.{Stands, Kept, run_kept, exec_kept}
 use Rattle.laws.proofs.Between.{Between, stands_first, Taking, reads_kept}
 
 -- from tokens that differ from those after s's last one by trivia in front at most
@@ -68,4 +68,4 @@ leaves_kept =
 
 -- EVERY PROGRAM
 pub exec_short : (n : ℕ) (b : Label) (p : Prog) (s : State) → Stands s → Short s.since (exec (run n) b p s).made (mark_of (exec (run n) b p s).state)
-exec_short n b p s h = (exec_kept Leaves leaves_kept (run n) (run-kept Leaves leaves_kept n) b p s h).1.short
+exec_short n b p s h = (exec_kept Leaves leaves_kept (run n) (run_kept Leaves leaves_kept n) b p s h).1.short

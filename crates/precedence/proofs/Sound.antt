@@ -14,7 +14,7 @@ use Rattle.definitions.specs.C.{Symbol, plain, arguments, Change, opens, closes,
 use Rattle.precedence.proofs.Pratt.{Operand, prefixes, brackets, names, literals, nothing, operand, Operator, asks, binds, operator, Res, done, spent, Reader, bind, expect, Args, closed, unclosed, push, args_turn, args, invoked, named, lhs_by, lhs, bind_if, ask_if, step_by, step, loop, reader}
 use Rattle.precedence.proofs.Pratt as P
 use Rattle.precedence.proofs.Tables.{Powers, OperatorOf, operator_of, OperandOf, operand_of}
-use Rattle.precedence.proofs.Powers.{lb, rb, powers, under-prefix, as-left, as-right, as-condition}
+use Rattle.precedence.proofs.Powers.{lb, rb, powers, under_prefix, as_left, as_right, as_condition}
 use Rattle.precedence.proofs.Base.{onto, not_none, open_up, flat_binary, flat_prefix_of, Before, before_refl, before_flat, before_open, before_onto, Stop, stop_all, Post, post_bind, post_expect}
 
 -- e was read from us at the minimum m, and vs is left
@@ -94,20 +94,20 @@ named_sound (plain k ∷ us) = record { well_formed = tt; tight = omega arith; t
 named_sound (arguments ∷ us) = invoked_sound us (args us 0) (args_of us 0)
 
 module _ (rec : Reader) (sound : Sound rec) where
-  prefix-sound : (k : ℕ) (us : List Symbol) → OperandOf (plain k) (prefixes k) → FirstOf (plain k ∷ us) (lhs_by (prefixes k) rec (plain k) us)
-  prefix-sound k us h =
+  prefix_sound : (k : ℕ) (us : List Symbol) → OperandOf (plain k) (prefixes k) → FirstOf (plain k ∷ us) (lhs_by (prefixes k) rec (plain k) us)
+  prefix_sound k us h =
       post_bind (Read 23 us) (Before us) (First (plain k ∷ us)) (Before (plain k ∷ us)) (rec 23 us)
       (λ e vs. done (prefix k e) vs) (sound 23 (omega arith) us) (λ q b. before_flat (plain k) us q (flat_prefix_of k h.1) b)
       λ e vs r.
       record {
-        well_formed = (h.1, r.well_formed, under-prefix e (powers e r.well_formed) r.power);
+        well_formed = (h.1, r.well_formed, under_prefix e (powers e r.well_formed) r.power);
         tight = omega arith;
         tight' = omega arith;
         symbols_are = rw r.symbols_are;
       }
 
-  bracket-sound : (us : List Symbol) → FirstOf (plain K.LParen ∷ us) (lhs_by brackets rec (plain K.LParen) us)
-  bracket-sound us =
+  bracket_sound : (us : List Symbol) → FirstOf (plain K.LParen ∷ us) (lhs_by brackets rec (plain K.LParen) us)
+  bracket_sound us =
       post_bind (Read 0 us) (Before us) (First (plain K.LParen ∷ us)) (Before (plain K.LParen ∷ us)) (rec 0 us)
       (λ e vs. expect K.RParen vs (λ ws. done (bracketed e) ws)) (sound 0 (omega arith) us) (λ q b. before_open us q b)
       λ e vs r.
@@ -117,26 +117,26 @@ module _ (rec : Reader) (sound : Sound rec) where
       let y = r.symbols_are in
       record { well_formed = r.well_formed; tight = omega arith; tight' = omega arith; symbols_are = cc }
 
-  lhs-from : (y : Operand) (x : Symbol) (us : List Symbol) → OperandOf x y → FirstOf (x ∷ us) (lhs_by y rec x us)
-  lhs-from (prefixes k) x us h = rw h.0 (prefix-sound k us (refl, h.1))
-  lhs-from brackets x us h = rw h (bracket-sound us)
-  lhs-from names x us h = rw h (named_sound us)
-  lhs-from (literals k) x us h = rw h.0 (record { well_formed = h.1; tight = omega arith; tight' = omega arith; symbols_are = refl })
-  lhs-from nothing x us h = before_refl (x ∷ us)
+  lhs_from : (y : Operand) (x : Symbol) (us : List Symbol) → OperandOf x y → FirstOf (x ∷ us) (lhs_by y rec x us)
+  lhs_from (prefixes k) x us h = rw h.0 (prefix_sound k us (refl, h.1))
+  lhs_from brackets x us h = rw h (bracket_sound us)
+  lhs_from names x us h = rw h (named_sound us)
+  lhs_from (literals k) x us h = rw h.0 (record { well_formed = h.1; tight = omega arith; tight' = omega arith; symbols_are = refl })
+  lhs_from nothing x us h = before_refl (x ∷ us)
 
-  lhs-sound : (us : List Symbol) → FirstOf us (lhs rec us)
-  lhs-sound [] = before_refl []
-  lhs-sound (x ∷ us) = lhs-from (operand x) x us (operand_of x)
+  lhs_sound : (us : List Symbol) → FirstOf us (lhs rec us)
+  lhs_sound [] = before_refl []
+  lhs_sound (x ∷ us) = lhs_from (operand x) x us (operand_of x)
 
   -- ---------------------------------------------------------------- the loop
 
   module _ (m : ℕ) (small : m ≤ 23) (more : Expr → List Symbol → Res)
       (goes : (e : Expr) (us : List Symbol) → WellFormed e → m ≤ lb e → Stop (rb e) us → Post (Read m (onto e us)) (Before (onto e us)) (more e us)) where
-    bind-sound : (e : Expr) (k l r : ℕ) (us : List Symbol) → WellFormed e → m ≤ lb e → l < rb e → Powers (line_of k) l r
+    bind_sound : (e : Expr) (k l r : ℕ) (us : List Symbol) → WellFormed e → m ≤ lb e → l < rb e → Powers (line_of k) l r
         → (l < m → Stop m (plain k ∷ us)) → (b : Bool) → ltb l m ≡ b
         → Post (Read m (onto e (plain k ∷ us))) (Before (onto e (plain k ∷ us))) (bind_if b more rec e k r (plain k ∷ us) us)
-    bind-sound e k l r us a h s pw st true t = record { well_formed = a; power = h; symbols_are = refl; stops = st (ltb-true l m t) }
-    bind-sound e k l r us a h s pw st false t =
+    bind_sound e k l r us a h s pw st true t = record { well_formed = a; power = h; symbols_are = refl; stops = st (ltb-true l m t) }
+    bind_sound e k l r us a h s pw st false t =
         let low : 1 ≤ line_of k = omega arith in
         let ml = ltb-false l m t in
         post_bind (Read r us) (Before us) (Read m (onto e (plain k ∷ us))) (Before (onto e (plain k ∷ us))) (rec r us)
@@ -144,15 +144,15 @@ module _ (rec : Reader) (sound : Sound rec) where
         (λ q b. before_onto e a (plain k ∷ us) q (before_flat (plain k) us q (flat_binary k low) b))
         λ f vs d.
         let ok : WellFormed (binary e k f) =
-        (low, a, d.well_formed, as-left e (powers e a) (line_of k) l r pw s, as-right f (powers f d.well_formed) (line_of k) l r pw d.power) in
+        (low, a, d.well_formed, as_left e (powers e a) (line_of k) l r pw s, as_right f (powers f d.well_formed) (line_of k) l r pw d.power) in
         let lb-is : l ≡ lb (binary e k f) = omega arith in
         let rb-is : r ≡ rb (binary e k f) = omega arith in
         rw d.symbols_are (goes (binary e k f) vs ok (omega arith) (rw rb-is at d.stops))
 
-    ask-sound : (e : Expr) (us : List Symbol) → WellFormed e → m ≤ lb e → 2 < rb e → (2 < m → Stop m (plain K.QuestionMark ∷ us)) → (b : Bool) → ltb 2 m ≡ b
+    ask_sound : (e : Expr) (us : List Symbol) → WellFormed e → m ≤ lb e → 2 < rb e → (2 < m → Stop m (plain K.QuestionMark ∷ us)) → (b : Bool) → ltb 2 m ≡ b
         → Post (Read m (onto e (plain K.QuestionMark ∷ us))) (Before (onto e (plain K.QuestionMark ∷ us))) (ask_if b more rec e (plain K.QuestionMark ∷ us) us)
-    ask-sound e us a h s st true t = record { well_formed = a; power = h; symbols_are = refl; stops = st (ltb-true 2 m t) }
-    ask-sound e us a h s st false t =
+    ask_sound e us a h s st true t = record { well_formed = a; power = h; symbols_are = refl; stops = st (ltb-true 2 m t) }
+    ask_sound e us a h s st false t =
         let D : Expr → List Symbol → Type 0 = Read m (onto e (plain K.QuestionMark ∷ us)) in
         let Q : List Symbol → Type 0 = Before (onto e (plain K.QuestionMark ∷ us)) in
         post_bind (Read 0 us) (Before us) D Q (rec 0 us)
@@ -169,34 +169,34 @@ module _ (rec : Reader) (sound : Sound rec) where
         (beyond x d.well_formed us ws q d.symbols_are (rw z (before_flat (plain K.Colon) xs q refl b)))))
         λ b ys g.
         rw (d.symbols_are, z, g.symbols_are)
-        (goes (ternary e x b) ys (a, d.well_formed, g.well_formed, as-condition e (powers e a) s) (ltb-false 2 m t) g.stops)
+        (goes (ternary e x b) ys (a, d.well_formed, g.well_formed, as_condition e (powers e a) s) (ltb-false 2 m t) g.stops)
 
     step_from : (y : Operator) (k : ℕ) (e : Expr) (us : List Symbol) → operator (plain k) ≡ y → OperatorOf k y → WellFormed e → m ≤ lb e
         → Stop (rb e) (plain k ∷ us) → Post (Read m (onto e (plain k ∷ us))) (Before (onto e (plain k ∷ us))) (step_by y more rec m e (plain k) us)
     step_from asks k e us o h a p s =
         let stops : 2 < m → Stop m (plain k ∷ us) = λ l. rw o l in
-        rw h.0 (ask-sound e us a p (rw o at s) (rw h.0 at stops) (ltb 2 m) refl)
+        rw h.0 (ask_sound e us a p (rw o at s) (rw h.0 at stops) (ltb 2 m) refl)
     step_from (binds j l r) k e us o h a p s =
-        rw h.0 (bind-sound e k l r us a p (rw o at s) h.1 (λ z. rw o z) (ltb l m) refl)
+        rw h.0 (bind_sound e k l r us a p (rw o at s) h.1 (λ z. rw o z) (ltb l m) refl)
     step_from P.none k e us o h a p s = record { well_formed = a; power = p; symbols_are = refl; stops = rw o tt }
 
-    step-sound : (e : Expr) (us : List Symbol) → WellFormed e → m ≤ lb e → Stop (rb e) us
+    step_sound : (e : Expr) (us : List Symbol) → WellFormed e → m ≤ lb e → Stop (rb e) us
         → Post (Read m (onto e us)) (Before (onto e us)) (step more rec m e us)
     unfolding operator
-    step-sound e [] a p s = record { well_formed = a; power = p; symbols_are = refl; stops = tt }
-    step-sound e (plain k ∷ us) a p s = step_from (operator (plain k)) k e us refl (operator_of k) a p s
-    step-sound e (arguments ∷ us) a p s = record { well_formed = a; power = p; symbols_are = refl; stops = tt }
+    step_sound e [] a p s = record { well_formed = a; power = p; symbols_are = refl; stops = tt }
+    step_sound e (plain k ∷ us) a p s = step_from (operator (plain k)) k e us refl (operator_of k) a p s
+    step_sound e (arguments ∷ us) a p s = record { well_formed = a; power = p; symbols_are = refl; stops = tt }
 
-  loop-sound : (n m : ℕ) → m ≤ 23 → (e : Expr) (us : List Symbol) → WellFormed e → m ≤ lb e → Stop (rb e) us
+  loop_sound : (n m : ℕ) → m ≤ 23 → (e : Expr) (us : List Symbol) → WellFormed e → m ≤ lb e → Stop (rb e) us
       → Post (Read m (onto e us)) (Before (onto e us)) (loop rec n m e us)
-  loop-sound zero m small = step-sound m small (λ e us. spent) (λ e us a h s. tt)
-  loop-sound (suc n) m small = step-sound m small (loop rec n m) (loop-sound n m small)
+  loop_sound zero m small = step_sound m small (λ e us. spent) (λ e us a h s. tt)
+  loop_sound (suc n) m small = step_sound m small (loop rec n m) (loop_sound n m small)
 
 pub reader_sound : (d : ℕ) → Sound (reader d)
 reader_sound zero m small us = tt
 reader_sound (suc d) m small us =
     post_bind (First us) (Before us) (Read m us) (Before us) (lhs (reader d) us) (λ e vs. loop (reader d) (length vs) m e vs)
-    (lhs-sound (reader d) (reader_sound d) us) (λ p b. b)
+    (lhs_sound (reader d) (reader_sound d) us) (λ p b. b)
     λ e vs f.
     rw f.symbols_are
-    (loop-sound (reader d) (reader_sound d) (length vs) m small e vs f.well_formed (omega arith) (stop_all (rb e) (omega arith) vs))
+    (loop_sound (reader d) (reader_sound d) (length vs) m small e vs f.well_formed (omega arith) (stop_all (rb e) (omega arith) vs))

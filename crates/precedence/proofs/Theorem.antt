@@ -103,9 +103,9 @@ module _ (setting : ℕ) (e : Entry) (bytes : List ℕ) (ts : List Token) (l : B
   abbrev r : Result
   r = kept (sheets e ts (run_entry e ts) names) l
 
-  trees-count : r.answer.tree_count ≡ row_count tree
+  trees_count : r.answer.tree_count ≡ row_count tree
   unfolding sheets
-  trees-count = div-eq_of_eq-mul_right (omega arith) (rows_length tree 0 0)
+  trees_count = div-eq_of_eq-mul_right (omega arith) (rows_length tree 0 0)
 
   -- the rows of the run's reports, and those of the Names
   abbrev run_rows : List ℕ
@@ -114,9 +114,9 @@ module _ (setting : ℕ) (e : Entry) (bytes : List ℕ) (ts : List Token) (l : B
   abbrev name_rows : List ℕ
   name_rows = name_numbers (length (pool (reports all))) names
 
-  reports-count : r.answer.report_count ≡ length (reports all) + length names
+  reports_count : r.answer.report_count ≡ length (reports all) + length names
   unfolding sheets
-  reports-count =
+  reports_count =
       div-eq_of_eq-mul_right (omega arith)
       (length-append run_rows name_rows
       ∙ omega (arith, report_numbers_length (length ts) (byte_count ts) 0 (reports all), name_numbers_length (length (pool (reports all))) names))
@@ -125,35 +125,35 @@ module _ (setting : ℕ) (e : Entry) (bytes : List ℕ) (ts : List Token) (l : B
   abbrev after_run : List ℕ
   after_run = name_rows ++ replicate (length l.reports - length (run_rows ++ name_rows)) 0
 
-  row-mark : (q : ℕ) → mark_in q r.buffers.reports ≡ mark_in q (run_rows ++ after_run)
+  row_mark : (q : ℕ) → mark_in q r.buffers.reports ≡ mark_in q (run_rows ++ after_run)
   unfolding sheets
-  row-mark q = ap (mark_in q) (append_assoc run_rows name_rows _)
+  row_mark q = ap (mark_in q) (append_assoc run_rows name_rows _)
 
   -- report row q is a report's, or a Name's
-  abbrev By-report : ℕ → Type 0
-  By-report q = (rep : Report) × Reported rep all × (mark_in q r.buffers.reports ≡ length ts - rep.mark)
+  abbrev ByReport : ℕ → Type 0
+  ByReport q = (rep : Report) × Reported rep all × (mark_in q r.buffers.reports ≡ length ts - rep.mark)
 
-  abbrev By-name : ℕ → Type 0
-  By-name q = (n : NameAt) × Among n names × (mark_in q r.buffers.reports ≡ n.first_token)
+  abbrev ByName : ℕ → Type 0
+  ByName q = (n : NameAt) × Among n names × (mark_in q r.buffers.reports ≡ n.first_token)
 
-  row-report : (q : ℕ) → q < r.answer.report_count → By-report q ⊎ By-name q
-  row-report q h = go (ltb q (length (reports all))) refl
+  row_report : (q : ℕ) → q < r.answer.report_count → ByReport q ⊎ ByName q
+  row_report q h = go (ltb q (length (reports all))) refl
     where
-      go : (b : Bool) → ltb q (length (reports all)) ≡ b → By-report q ⊎ By-name q
+      go : (b : Bool) → ltb q (length (reports all)) ≡ b → ByReport q ⊎ ByName q
       go true f =
           let g = nth_there q (reports all) (ltb-true q (length (reports all)) f) in
-          inl (g.0, nth_reported q all g.1, row-mark q ∙ nth_mark (length ts) (byte_count ts) 0 q (reports all) after_run g.1)
+          inl (g.0, nth_reported q all g.1, row_mark q ∙ nth_mark (length ts) (byte_count ts) 0 q (reports all) after_run g.1)
       go false f =
           let k = q - length (reports all) in
           let e : q ≡ length (reports all) + k = omega (arith, ltb-false q (length (reports all)) f) in
-          let g = name_mark (length (pool (reports all))) k names (replicate (length l.reports - length (run_rows ++ name_rows)) 0) (omega (arith, reports-count)) in
-          inr (g.0, g.1, row-mark q ∙ ap (λ (j : ℕ). mark_in j (run_rows ++ after_run)) e ∙ mark_past (length ts) (byte_count ts) 0 k (reports all) after_run ∙ g.2)
+          let g = name_mark (length (pool (reports all))) k names (replicate (length l.reports - length (run_rows ++ name_rows)) 0) (omega (arith, reports_count)) in
+          inr (g.0, g.1, row_mark q ∙ ap (λ (j : ℕ). mark_in j (run_rows ++ after_run)) e ∙ mark_past (length ts) (byte_count ts) 0 k (reports all) after_run ∙ g.2)
 
   -- and each report has a row
   report_row : (rep : Report) → Reported rep all → (q : ℕ) × (q < r.answer.report_count) × (mark_in q r.buffers.reports ≡ length ts - rep.mark)
   report_row rep h =
       let g = reported_nth all h in
-      (g.0, omega (arith, reports-count, nth_less g.0 (reports all) g.1), row-mark g.0 ∙ nth_mark (length ts) (byte_count ts) 0 g.0 (reports all) _ g.1)
+      (g.0, omega (arith, reports_count, nth_less g.0 (reports all) g.1), row_mark g.0 ∙ nth_mark (length ts) (byte_count ts) 0 g.0 (reports all) _ g.1)
 
   -- what holds of each DtExpr: it is settled, and the Names stand apart
   abbrev Fact : List Token → Tree → Type 0
@@ -164,7 +164,7 @@ module _ (setting : ℕ) (e : Entry) (bytes : List ℕ) (ts : List Token) (l : B
   found p d =
       find Fact tree 0 0 (replicate (length l.trees - length (rows tree)) 0) ts p
       (each_both (Settled all) (Apart names (length ts)) tree ts (entry_settled e ts clear) (reported_apart setting bytes tree ts (lossless e ts)))
-      (omega (arith, trees-count, d.written)) (d.width, d.count, d.parent, d.row)
+      (omega (arith, trees_count, d.written)) (d.width, d.count, d.parent, d.row)
 
   -- a buffer's first row is row 0
   at_row : (p : ℕ) (f : Found Fact ts 0 p r.buffers.trees)
@@ -225,8 +225,8 @@ module _ (setting : ℕ) (e : Entry) (bytes : List ℕ) (ts : List Token) (l : B
   -- ---------------------------------------------------------------- it is judged
 
   module _ (b : Brackets ts) where
-    abbrev from-opening : List Token
-    from-opening = b.opening ∷ (b.inner ++ (b.closing ∷ b.after))
+    abbrev from_opening : List Token
+    from_opening = b.opening ∷ (b.inner ++ (b.closing ∷ b.after))
 
     -- marks counted from the end, and from the start
     total : length ts ≡ length b.before + suc (length b.inner + suc (length b.after))
@@ -236,21 +236,21 @@ module _ (setting : ℕ) (e : Entry) (bytes : List ℕ) (ts : List Token) (l : B
     after_length beyond e = ap length e ∙ simp length-append
 
     -- the first token of no Name that the setting reports is after the LParen and up to the RParen
-    abbrev Names-outside : Type 0
-    Names-outside = (n : NameAt) → Among n names → opening_index ts b < n.first_token → n.first_token ≤ closing_index ts b → ⊥
+    abbrev NamesOutside : Type 0
+    NamesOutside = (n : NameAt) → Among n names → opening_index ts b < n.first_token → n.first_token ≤ closing_index ts b → ⊥
 
     -- no report row between the brackets
     none_between : (beyond : List Token) → beyond ≡ b.inner ++ (b.closing ∷ b.after)
-        → ((rep : Report) → Reported rep all → length (b.closing ∷ b.after) ≤ rep.mark → rep.mark ≤ length beyond → ⊥) → Names-outside → (q : ℕ) → Between ts b r q → ⊥
+        → ((rep : Report) → Reported rep all → length (b.closing ∷ b.after) ≤ rep.mark → rep.mark ≤ length beyond → ⊥) → NamesOutside → (q : ℕ) → Between ts b r q → ⊥
     none_between beyond e h o q x =
         ⊎_elim
         (λ g. h g.0 g.1 (omega (arith, total, g.2, x.above, x.at_most)) (omega (arith, total, after_length beyond e, g.2, x.above, x.at_most)))
         (λ g. o g.0 g.1 (omega (arith, g.2, x.above)) (omega (arith, g.2, x.at_most)))
-        (row-report q x.written)
+        (row_report q x.written)
 
-    some-between : (beyond : List Token) → beyond ≡ b.inner ++ (b.closing ∷ b.after) → (rep : Report) → Reported rep all
+    some_between : (beyond : List Token) → beyond ≡ b.inner ++ (b.closing ∷ b.after) → (rep : Report) → Reported rep all
         → length (b.closing ∷ b.after) ≤ rep.mark → rep.mark ≤ length beyond → (q : ℕ) × Between ts b r q
-    some-between beyond e rep h low high =
+    some_between beyond e rep h low high =
         let g = report_row rep h in (
           g.0,
           record {
@@ -262,8 +262,8 @@ module _ (setting : ℕ) (e : Entry) (bytes : List ℕ) (ts : List Token) (l : B
 
     module _ (p : ℕ) (d : DtExprAt p r) (index : opening_index ts b ≡ tokens_before p r.buffers.trees) where
       -- the tokens from the DtExpr on are those from the opening bracket on
-      tokens_are : drop (tokens_before p r.buffers.trees) ts ≡ from-opening
-      tokens_are = ap (λ (n : ℕ). drop n ts) (sym index) ∙ ap (drop (length b.before)) b.tokens_are ∙ drop-append_seam b.before from-opening
+      tokens_are : drop (tokens_before p r.buffers.trees) ts ≡ from_opening
+      tokens_are = ap (λ (n : ℕ). drop n ts) (sym index) ∙ ap (drop (length b.before)) b.tokens_are ∙ drop-append_seam b.before from_opening
 
       after_is : (found p d).fact.0.beyond ≡ b.inner ++ (b.closing ∷ b.after)
       after_is = let x = (found p d).fact.0.starts in let y = tokens_are in cc
@@ -280,33 +280,33 @@ module _ (setting : ℕ) (e : Entry) (bytes : List ℕ) (ts : List Token) (l : B
 
       -- MESSAGE 8 IN NO BRACKETS that C's table gives a tree: no node of the tree judges a Name, and the tree reaches
       -- to the RParen
-      names-outside : Clean all b.inner b.closing b.after (found p d).fact.0.beyond (drop (tokens_before p r.buffers.trees) ts) (found p d).children → Names-outside
-      names-outside c n a low high =
+      names_outside : Clean all b.inner b.closing b.after (found p d).fact.0.beyond (drop (tokens_before p r.buffers.trees) ts) (found p d).children → NamesOutside
+      names_outside c n a low high =
           let us = drop (tokens_before p r.buffers.trees) ts in
           let z : length us ≡ suc (length b.inner + suc (length b.after)) = ap length tokens_are ∙ simp length-append in
           (found p d).fact.1
           (λ at byte. ap (judged false at byte) c.holds ∙ none_judged (place (one ⧺ (expr_nodes c.tree ⧺ one)) us) ((bare_between (expr_nodes c.tree) (bare_expr c.tree)).placed us) at byte)
           n a (omega (arith, total)) (omega (arith, total, c.reaches))
 
-      by-verdict : Clean all b.inner b.closing b.after (found p d).fact.0.beyond (drop (tokens_before p r.buffers.trees) ts) (found p d).children
+      by_verdict : Clean all b.inner b.closing b.after (found p d).fact.0.beyond (drop (tokens_before p r.buffers.trees) ts) (found p d).children
           ⊎ Faulty all b.inner b.closing b.after (found p d).fact.0.beyond → Judged ts b r p
-      by-verdict (inl c) =
+      by_verdict (inl c) =
           record {
             tree = λ f g. (
-              none_between (found p d).fact.0.beyond after_is c.silent (names-outside c),
+              none_between (found p d).fact.0.beyond after_is c.silent (names_outside c),
               subst (HoldsTree ts b r p) (unique (symbols false b.inner) c.tree f c.gives g) (holds c.tree c.holds),
             );
             no_tree = λ h. absurd (h c.tree c.gives);
           }
-      by-verdict (inr c) =
+      by_verdict (inr c) =
           record {
             tree = λ f g. absurd (c.no_tree f g);
-            no_tree = λ h. some-between (found p d).fact.0.beyond after_is c.rep c.among c.high c.low;
+            no_tree = λ h. some_between (found p d).fact.0.beyond after_is c.rep c.among c.high c.low;
           }
 
       judges : Judged ts b r p
       judges =
-          by-verdict
+          by_verdict
           ((found p d).fact.0.judged b.inner b.closing b.after after_is (seen_of b.closing K.RParen b.closes refl) b.balanced)
 
 -- ---------------------------------------------------------------- the theorems

@@ -68,9 +68,9 @@ module _ (Q : List Token → Tree → Type 0) where
       → Found Q ts i p (rows_under u i f ++ l)
 
   -- a row earlier
-  found-next : (c k w n u i q : ℕ) (l : List ℕ) (ts us : List Token) → drop (tokens_before q l) us ≡ drop (tokens_before (suc q) (tree_row c k w n u l)) ts
+  found_next : (c k w n u i q : ℕ) (l : List ℕ) (ts us : List Token) → drop (tokens_before q l) us ≡ drop (tokens_before (suc q) (tree_row c k w n u l)) ts
       → Found Q us (suc i) q l → Found Q ts i (suc q) (tree_row c k w n u l)
-  found-next c k w n u i q l ts us e d =
+  found_next c k w n u i q l ts us e d =
       let z : suc i + q ≡ i + suc q = omega arith in
       record {
         children = d.children;
@@ -80,13 +80,13 @@ module _ (Q : List Token → Tree → Type 0) where
         rows_are = drop_row c k w n u q l ∙ d.rows_are ∙ ap (λ (m : ℕ). rows_under d.parent m (subtree N.DtExpr d.children nil) ++ d.more) z;
       }
 
-  cell-next : (c k w n u q : ℕ) (l : List ℕ) → IsCell (suc q) (tree_row c k w n u l) → IsCell q l
-  cell-next c k w n u q l h = (h.0, h.1, h.2, ap (take TREE_ROW) (sym (drop_row c k w n u q l)) ∙ h.3)
+  cell_next : (c k w n u q : ℕ) (l : List ℕ) → IsCell (suc q) (tree_row c k w n u l) → IsCell q l
+  cell_next c k w n u q l h = (h.0, h.1, h.2, ap (take TREE_ROW) (sym (drop_row c k w n u q l)) ∙ h.3)
 
   -- rows of a tree earlier
-  found-past : (f : Tree) (u i : ℕ) (l : List ℕ) (ts us : List Token) (q : ℕ) → us ≡ drop (length (leaves f)) ts → Found Q us (i + row_count f) q l
+  found_past : (f : Tree) (u i : ℕ) (l : List ℕ) (ts us : List Token) (q : ℕ) → us ≡ drop (length (leaves f)) ts → Found Q us (i + row_count f) q l
       → Found Q ts i (row_count f + q) (rows_under u i f ++ l)
-  found-past f u i l ts us q e d =
+  found_past f u i l ts us q e d =
       let z : i + row_count f + q ≡ i + (row_count f + q) = omega arith in
       record {
         children = d.children;
@@ -101,20 +101,20 @@ module _ (Q : List Token → Tree → Type 0) where
         rows_are = drop_rows f u i l q ∙ d.rows_are ∙ ap (λ (m : ℕ). rows_under d.parent m (subtree N.DtExpr d.children nil) ++ d.more) z;
       }
 
-  cell-past : (f : Tree) (u i : ℕ) (l : List ℕ) (q : ℕ) → IsCell (row_count f + q) (rows_under u i f ++ l) → IsCell q l
-  cell-past f u i l q h = (h.0, h.1, h.2, ap (take TREE_ROW) (sym (drop_rows f u i l q)) ∙ h.3)
+  cell_past : (f : Tree) (u i : ℕ) (l : List ℕ) (q : ℕ) → IsCell (row_count f + q) (rows_under u i f ++ l) → IsCell q l
+  cell_past f u i l q h = (h.0, h.1, h.2, ap (take TREE_ROW) (sym (drop_rows f u i l q)) ∙ h.3)
 
   -- among the children of row i, or after them
-  find-both : (c f : Tree) (u i : ℕ) (l : List ℕ) (ts : List Token) (q : ℕ) → Each Q ts c → Each Q (drop (length (leaves c)) ts) f → q < row_count c + row_count f
+  find_both : (c f : Tree) (u i : ℕ) (l : List ℕ) (ts : List Token) (q : ℕ) → Each Q ts c → Each Q (drop (length (leaves c)) ts) f → q < row_count c + row_count f
       → IsCell q (rows_under i (suc i) c ++ (rows_under u (suc i + row_count c) f ++ l)) → Finds c → Finds f
       → Found Q ts (suc i) q (rows_under i (suc i) c ++ (rows_under u (suc i + row_count c) f ++ l))
-  find-both c f u i l ts q x y h j find-c find-f = go (ltb q (row_count c)) refl
+  find_both c f u i l ts q x y h j find-c find-f = go (ltb q (row_count c)) refl
     where
       beyond : (k : ℕ) → q ≡ row_count c + k → k < row_count f → Found Q ts (suc i) q (rows_under i (suc i) c ++ (rows_under u (suc i + row_count c) f ++ l))
       beyond k e g =
           subst (λ (m : ℕ). Found Q ts (suc i) m (rows_under i (suc i) c ++ (rows_under u (suc i + row_count c) f ++ l))) (sym e)
-          (found-past c i (suc i) (rows_under u (suc i + row_count c) f ++ l) ts (drop (length (leaves c)) ts) k refl
-          (find-f u (suc i + row_count c) l (drop (length (leaves c)) ts) k y g (cell-past c i (suc i) (rows_under u (suc i + row_count c) f ++ l) k (subst (λ (m : ℕ). IsCell m (rows_under i (suc i) c ++ (rows_under u (suc i + row_count c) f ++ l))) e j))))
+          (found_past c i (suc i) (rows_under u (suc i + row_count c) f ++ l) ts (drop (length (leaves c)) ts) k refl
+          (find-f u (suc i + row_count c) l (drop (length (leaves c)) ts) k y g (cell_past c i (suc i) (rows_under u (suc i + row_count c) f ++ l) k (subst (λ (m : ℕ). IsCell m (rows_under i (suc i) c ++ (rows_under u (suc i + row_count c) f ++ l))) e j))))
 
       go : (b : Bool) → ltb q (row_count c) ≡ b → Found Q ts (suc i) q (rows_under i (suc i) c ++ (rows_under u (suc i + row_count c) f ++ l))
       go true e = find-c i (suc i) (rows_under u (suc i + row_count c) f ++ l) ts q x (ltb-true q (row_count c) e) j
@@ -126,8 +126,8 @@ module _ (Q : List Token → Tree → Type 0) where
   find (leaf k raw f) u i l ts zero h g j = let z : ◌≡◌ {A = ℕ} 1 0 = cc j.3 in absurd (omega arith)
   find (leaf k raw f) u i l ts (suc q) h g j =
       let F : List ℕ = rows_under u (suc i) f ++ l in
-      found-next 1 k (byte_count raw) (length raw) u i q F ts (drop (length raw) ts) (drop-drop (tokens_before q F) (length raw) ts)
-      (find f u (suc i) l (drop (length raw) ts) q h (omega arith) (cell-next 1 k (byte_count raw) (length raw) u q F j))
+      found_next 1 k (byte_count raw) (length raw) u i q F ts (drop (length raw) ts) (drop-drop (tokens_before q F) (length raw) ts)
+      (find f u (suc i) l (drop (length raw) ts) q h (omega arith) (cell_next 1 k (byte_count raw) (length raw) u q F j))
   find (subtree k c f) u i l ts zero h g j =
       let z : k ≡ N.DtExpr = cc j.3 in
       let y : i + 0 ≡ i = omega arith in
@@ -144,6 +144,6 @@ module _ (Q : List Token → Tree → Type 0) where
       let C : List ℕ = rows_under i (suc i) c in
       let F : List ℕ = rows_under u (suc i + row_count c) f in
       rw (append_assoc C F l)
-      (found-next 0 k (width c) (count c) u i q (C ++ (F ++ l)) ts ts (ap (λ (m : ℕ). drop m ts) (sym (zero-add (tokens_before q (C ++ (F ++ l))))))
-      (find-both c f u i l ts q h.1 h.2 (omega arith)
-      (cell-next 0 k (width c) (count c) u q (C ++ (F ++ l)) (rw (append_assoc C F l) at j)) (find c) (find f)))
+      (found_next 0 k (width c) (count c) u i q (C ++ (F ++ l)) ts ts (ap (λ (m : ℕ). drop m ts) (sym (zero-add (tokens_before q (C ++ (F ++ l))))))
+      (find_both c f u i l ts q h.1 h.2 (omega arith)
+      (cell_next 0 k (width c) (count c) u q (C ++ (F ++ l)) (rw (append_assoc C F l) at j)) (find c) (find f)))

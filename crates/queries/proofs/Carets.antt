@@ -60,25 +60,25 @@ module _ (k : ℕ) (c : Tree) (size : ℕ) (e : raw_bytes (rows_of 0 0 (subtree 
   all = rows_of 0 0 (subtree k c nil)
 
   -- the root has every byte
-  root-holds : (byte : ℕ) → byte < size → holding 0 byte all ≡ 0 ∷ holding 1 byte (rows_of 0 1 c ++ [])
+  root_holds : (byte : ℕ) → byte < size → holding 0 byte all ≡ 0 ∷ holding 1 byte (rows_of 0 1 c ++ [])
   unfolding rows_of holding width
-  root-holds byte h = rw (lt-ltb byte (width c) (omega (arith, h, wt))) refl
+  root_holds byte h = rw (lt-ltb byte (width c) (omega (arith, h, wt))) refl
 
-  to-byte : (byte : ℕ) → byte < size → Leads all 0 byte (holding 1 byte (rows_of 0 1 c ++ []))
+  to_byte : (byte : ℕ) → byte < size → Leads all 0 byte (holding 1 byte (rows_of 0 1 c ++ []))
   unfolding width
-  to-byte byte h =
+  to_byte byte h =
       let z : first_byte all 1 + byte ≡ byte = (let f = first_one k c in omega (arith, f)) in
       subst (λ (n : ℕ). Leads all 0 n (holding 1 byte (rows_of 0 1 c ++ []))) z (leads all c [] 1 0 0 byte (under_root k c) (omega (arith, h, wt)))
 
   module _ (offset : ℕ) (rows : List ℕ) (is : rows ≡ found (caret offset) size all) where
     -- the byte whose leaf it is: at the end of the file the last one
-    to-leaf : (byte : ℕ) → byte < size → rows ≡ holding 0 byte all → (offset < size → byte ≡ offset) → (offset ≡ size → suc byte ≡ size) → ToLeaf all size offset rows
-    to-leaf byte h r inside end =
-        let p = to-byte byte h in
+    to_leaf : (byte : ℕ) → byte < size → rows ≡ holding 0 byte all → (offset < size → byte ≡ offset) → (offset ≡ size → suc byte ≡ size) → ToLeaf all size offset rows
+    to_leaf byte h r inside end =
+        let p = to_byte byte h in
         let j = p.end_leaf in
         record {
           below = holding 1 byte (rows_of 0 1 c ++ []);
-          from_root = r ∙ root-holds byte h;
+          from_root = r ∙ root_holds byte h;
           leaf = j;
           is_leaf = p.is_leaf;
           chain = p.chain;
@@ -90,7 +90,7 @@ module _ (k : ℕ) (c : Tree) (size : ℕ) (e : raw_bytes (rows_of 0 0 (subtree 
         }
       where
         p' : Leads all 0 byte (holding 1 byte (rows_of 0 1 c ++ []))
-        p' = to-byte byte h
+        p' = to_byte byte h
 
         not_after : suc byte ≡ size → (i : ℕ) → IsLeaf all i → i ≤ p'.end_leaf
         not_after end i y = go (ltb p'.end_leaf i) refl
@@ -103,20 +103,20 @@ module _ (k : ℕ) (c : Tree) (size : ℕ) (e : raw_bytes (rows_of 0 0 (subtree 
                 absurd (omega (arith, a, b, w, p'.has.1, e, end))
             go false f = ltb-false _ _ f
 
-    inside-file : offset < size → ToLeaf all size offset rows
+    inside_file : offset < size → ToLeaf all size offset rows
     unfolding found
-    inside-file h = to-leaf offset h (is ∙ rw (lt-ltb offset size h) refl) (λ x. refl) (λ x. absurd (omega (arith, h, x)))
+    inside_file h = to_leaf offset h (is ∙ rw (lt-ltb offset size h) refl) (λ x. refl) (λ x. absurd (omega (arith, h, x)))
 
-    at-file-end : 0 < size → offset ≡ size → ToLeaf all size offset rows
+    at_file_end : 0 < size → offset ≡ size → ToLeaf all size offset rows
     unfolding found
-    at-file-end p h =
-        to-leaf (size - 1) (omega (arith, p)) (is ∙ rw (le-ltb offset size (omega (arith, h)), eq-eqb offset size h, ne_eqb size 0 (λ x. omega (arith, p, x))) refl)
+    at_file_end p h =
+        to_leaf (size - 1) (omega (arith, p)) (is ∙ rw (le-ltb offset size (omega (arith, h)), eq-eqb offset size h, ne_eqb size 0 (λ x. omega (arith, p, x))) refl)
         (λ x. absurd (omega (arith, h, x))) (λ x. omega (arith, p))
 
     -- WHAT IS UNDER THE CARET
-    pub under-caret : UnderCaret all size offset rows
+    pub under_caret : UnderCaret all size offset rows
     unfolding found
-    under-caret =
+    under_caret =
         record {
           there = λ p h. by (ltb offset size) refl p h;
           empty = λ p h. is ∙ rw (le-ltb offset size (omega (arith, p)), eq-eqb offset size (h ∙ sym p), eq-eqb size 0 p) refl;
@@ -124,5 +124,5 @@ module _ (k : ℕ) (c : Tree) (size : ℕ) (e : raw_bytes (rows_of 0 0 (subtree 
         }
       where
         by : (t : Bool) → ltb offset size ≡ t → 0 < size → offset ≤ size → ToLeaf all size offset rows
-        by true f p h = inside-file (ltb-true offset size f)
-        by false f p h = at-file-end p (let z = ltb-false offset size f in omega (arith, h, z))
+        by true f p h = inside_file (ltb-true offset size f)
+        by false f p h = at_file_end p (let z = ltb-false offset size f in omega (arith, h, z))

@@ -80,9 +80,9 @@ module _ (q : Query) (setting : ℕ) (bytes tokens : List ℕ) (b : Buffers) (li
   ended v = EndsAsParsed b list l (checked v SourceFile setting bytes tokens b) (checked_query v q setting bytes tokens b list)
 
   -- refused before the parse
-  by-checks : (r : Refusal) → BeforeTheParse (number_of r) → ended (refused r)
+  by_checks : (r : Refusal) → BeforeTheParse (number_of r) → ended (refused r)
   unfolding checked checked_query
-  by-checks r h =
+  by_checks r h =
       record {
         refused = λ n. (refl, (refl, refl));
         left_alone = λ n. refl;
@@ -91,13 +91,13 @@ module _ (q : Query) (setting : ℕ) (bytes tokens : List ℕ) (b : Buffers) (li
         full = λ n f. absurd (refusal_number r n);
       }
 
-  abbrev with-parse : Result → Type 0
-  with-parse r = EndsAsParsed b list l r (with_list l list b r)
+  abbrev WithParse : Result → Type 0
+  WithParse r = EndsAsParsed b list l r (with_list l list b r)
 
   -- refused by the parse
-  stopped-parse : (r : Result) → eqb r.answer.number 0 ≡ false → InTheParse r.answer.number → with-parse r
+  stopped_parse : (r : Result) → eqb r.answer.number 0 ≡ false → InTheParse r.answer.number → WithParse r
   unfolding with_list
-  stopped-parse r e h =
+  stopped_parse r e h =
       let n = eqb-false r.answer.number 0 e in
       rw e record {
         refused = λ x. (refl, (refl, refl));
@@ -108,7 +108,7 @@ module _ (q : Query) (setting : ℕ) (bytes tokens : List ℕ) (b : Buffers) (li
       }
 
   -- accepted
-  parsed : (r : Result) → eqb r.answer.number 0 ≡ true → with-parse r
+  parsed : (r : Result) → eqb r.answer.number 0 ≡ true → WithParse r
   unfolding with_list number_of place_of
   parsed r e =
       let z = eqb-true r.answer.number 0 e in
@@ -123,22 +123,22 @@ module _ (q : Query) (setting : ℕ) (bytes tokens : List ℕ) (b : Buffers) (li
         );
       }
 
-  by-parse : (r : Result) → Late r.answer.number → with-parse r
-  by-parse r h = go (eqb r.answer.number 0) refl
+  by_parse : (r : Result) → Late r.answer.number → WithParse r
+  by_parse r h = go (eqb r.answer.number 0) refl
     where
-      go : (t : Bool) → eqb r.answer.number 0 ≡ t → with-parse r
+      go : (t : Bool) → eqb r.answer.number 0 ≡ t → WithParse r
       go true e = parsed r e
-      go false e = stopped-parse r e (⊎_elim (λ x. absurd (eqb-false r.answer.number 0 e x)) (λ x. x) h)
+      go false e = stopped_parse r e (⊎_elim (λ x. absurd (eqb-false r.answer.number 0 e x)) (λ x. x) h)
 
-  by-verdict : (v : Verdict) → check_input bytes tokens ≡ v → Early v → ended v
+  by_verdict : (v : Verdict) → check_input bytes tokens ≡ v → Early v → ended v
   unfolding checked checked_query
-  by-verdict (refused r) e h = by-checks r h
-  by-verdict accepted e h =
+  by_verdict (refused r) e h = by_checks r h
+  by_verdict accepted e h =
       let c = checked_input bytes tokens e in
       let k = late 1 setting bytes tokens b SourceFile refl (c.bytes_limit, c.numbers_limit) e in
-      by-parse (parse SourceFile setting bytes (tokens_of tokens) b) (subst (λ (r : Result). Late r.answer.number) (parse_is_call setting bytes tokens b e) k)
+      by_parse (parse SourceFile setting bytes (tokens_of tokens) b) (subst (λ (r : Result). Late r.answer.number) (parse_is_call setting bytes tokens b e) k)
 
 -- BOTH PARSE FIRST
 pub as_parsed : AsParsed
 unfolding call asked entry_of query_call
-as_parsed q setting bytes tokens b list = by-verdict q setting bytes tokens b list (check_input bytes tokens) refl (early_input bytes tokens)
+as_parsed q setting bytes tokens b list = by_verdict q setting bytes tokens b list (check_input bytes tokens) refl (early_input bytes tokens)

@@ -19,7 +19,7 @@ use Rattle.rows.specs.RowTree.{row, children, span, Child, Chain, first_byte, en
 use Rattle.rows.specs.OnePass.{own, holding}
 use Rattle.rows.proofs.Written.{rows_of, bytes_counted}
 use Rattle.rows.proofs.Spans.{span_none, span_rows, span_add}
-use Rattle.rows.proofs.Placed.{Placed, leaf-child, leaf-is, leaf-width, after-leaf, leaf-next, node-child, under-node, same_start, after-node, node-next}
+use Rattle.rows.proofs.Placed.{Placed, leaf_child, leaf_is, leaf_width, after_leaf, leaf_next, node_child, under_node, same_start, after_node, node_next}
 use Rattle.rows.proofs.Passes.{holding_at, holding_past}
 
 -- rows below row p lead to a leaf that has a byte
@@ -38,7 +38,7 @@ unfolding rows_of holding width Chain
 leads all nil l s p before left w h = absurd (omega arith)
 leads all (leaf k ts f) l s p before left w h =
     go (ltb left (byte_count ts)) refl
-    (λ x. leads all f l (suc s) p (suc before) (left - byte_count ts) (after-leaf all k ts f l s p before w) x)
+    (λ x. leads all f l (suc s) p (suc before) (left - byte_count ts) (after_leaf all k ts f l s p before w) x)
   where
     go : (b : Bool) → ltb left (byte_count ts) ≡ b
         → (left - byte_count ts < width f → Leads all p (first_byte all (suc s) + (left - byte_count ts)) (holding (suc s) (left - byte_count ts) (rows_of p (suc s) f ++ l)))
@@ -47,18 +47,18 @@ leads all (leaf k ts f) l s p before left w h =
         let x = ltb-true left (byte_count ts) e in
         rw e record {
           end_leaf = s;
-          chain = (leaf-child all k ts f l s p before w, refl);
-          is_leaf = leaf-is all k ts f l s p before w;
-          has = (omega arith, (let n = leaf-width all k ts f l s p before w in omega (arith, n, x)));
+          chain = (leaf_child all k ts f l s p before w, refl);
+          is_leaf = leaf_is all k ts f l s p before w;
+          has = (omega arith, (let n = leaf_width all k ts f l s p before w in omega (arith, n, x)));
         }
     go false e rec =
         let x = ltb-false left (byte_count ts) e in
-        let n = leaf-next all k ts f l s p before w in
+        let n = leaf_next all k ts f l s p before w in
         rw e (leads_at all p _ _ _ (omega (arith, n, x)) (rec (omega (arith, h, x))))
 leads all (subtree k c f) l s p before left w h =
     go (ltb left (width c)) refl
-    (λ x. leads all c (rows_of p (suc s + row_count c) f ++ l) (suc s) s 0 left (under-node all k c f l s p before w) x)
-    (λ x. leads all f l (suc s + row_count c) p (suc before) (left - width c) (after-node all k c f l s p before w) x)
+    (λ x. leads all c (rows_of p (suc s + row_count c) f ++ l) (suc s) s 0 left (under_node all k c f l s p before w) x)
+    (λ x. leads all f l (suc s + row_count c) p (suc before) (left - width c) (after_node all k c f l s p before w) x)
   where
     go : (b : Bool) → ltb left (width c) ≡ b
         → (left < width c → Leads all s (first_byte all (suc s) + left) (holding (suc s) left (rows_of s (suc s) c ++ (rows_of p (suc s + row_count c) f ++ l))))
@@ -70,10 +70,10 @@ leads all (subtree k c f) l s p before left w h =
         let same : holding (suc s) left (rows_of s (suc s) c ++ (rows_of p (suc s + row_count c) f ++ l)) ≡ holding (suc s) left ((rows_of s (suc s) c ++ rows_of p (suc s + row_count c) f) ++ l) = ap (holding (suc s) left) (sym (append_assoc (rows_of s (suc s) c) (rows_of p (suc s + row_count c) f) l)) in
         let q : Leads all s (first_byte all s + left) (holding (suc s) left ((rows_of s (suc s) c ++ rows_of p (suc s + row_count c) f) ++ l)) =
         subst (Leads all s (first_byte all s + left)) same (leads_at all s _ _ _ (omega (arith, n)) r) in
-        rw e record { end_leaf = q.end_leaf; chain = (node-child all k c f l s p before w, q.chain); is_leaf = q.is_leaf; has = q.has }
+        rw e record { end_leaf = q.end_leaf; chain = (node_child all k c f l s p before w, q.chain); is_leaf = q.is_leaf; has = q.has }
     go false e inner after =
         let x = ltb-false left (width c) e in
-        let n = node-next all k c f l s p before w in
+        let n = node_next all k c f l s p before w in
         let same : holding (suc s + row_count c) (left - width c) (rows_of p (suc s + row_count c) f ++ l) ≡ holding (suc s) (left - 0) ((rows_of s (suc s) c ++ rows_of p (suc s + row_count c) f) ++ l) =
         sym
         (ap (holding (suc s) (left - 0)) (append_assoc (rows_of s (suc s) c) (rows_of p (suc s + row_count c) f) l)

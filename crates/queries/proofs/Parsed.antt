@@ -60,16 +60,16 @@ module _ (setting : ℕ) (bytes tokens : List ℕ) (b : Buffers) (r : Result) (w
       ∙ ap (λ (l : List ℕ). length l / TREE_ROW) w.trees_are
       ∙ div-eq_of_eq-mul_right (lit< tt) (rows_length (source_tree (tokens_of tokens)) 0 0)
 
-  numbers-are : length w.sheets_are.trees ≡ TREE_ROW * r.answer.tree_count
-  numbers-are = ap length w.trees_are ∙ rows_length (source_tree (tokens_of tokens)) 0 0 ∙ ap (TREE_ROW *◌) (sym count_is)
+  numbers_are : length w.sheets_are.trees ≡ TREE_ROW * r.answer.tree_count
+  numbers_are = ap length w.trees_are ∙ rows_length (source_tree (tokens_of tokens)) 0 0 ∙ ap (TREE_ROW *◌) (sym count_is)
 
   pub rows_fit : TREE_ROW * r.answer.tree_count ≤ length b.trees
-  rows_fit = omega (arith, numbers-are, w.trees_fit)
+  rows_fit = omega (arith, numbers_are, w.trees_fit)
 
   -- read from the buffer they are the rows of the tree
   pub rows_read : tree_rows_of (take (TREE_ROW * r.answer.tree_count) r.buffers.trees) ≡ rows_of 0 0 (source_tree (tokens_of tokens))
   rows_read =
       ap (λ (l : List ℕ). tree_rows_of (take (TREE_ROW * r.answer.tree_count) l)) (ap (λ (x : Result). x.buffers.trees) w.returns)
-      ∙ ap tree_rows_of (take_at w.sheets_are.trees (replicate (length b.trees - length w.sheets_are.trees) 0) (TREE_ROW * r.answer.tree_count) numbers-are)
+      ∙ ap tree_rows_of (take_at w.sheets_are.trees (replicate (length b.trees - length w.sheets_are.trees) 0) (TREE_ROW * r.answer.tree_count) numbers_are)
       ∙ ap tree_rows_of (w.trees_are ∙ rows_flat (source_tree (tokens_of tokens)) 0 0)
       ∙ rows_flat_of (rows_of 0 0 (source_tree (tokens_of tokens))) (rows_wide (source_tree (tokens_of tokens)) 0 0)

@@ -17,7 +17,7 @@ use Rattle.rows.specs.ResultRows.{Row}
 use Rattle.rows.specs.RowTree.{span, Child, first_byte, end_byte}
 use Rattle.queries.specs.PartsListed.{On, Ascending, Shares, PartsListed}
 use Rattle.rows.proofs.Written.{rows_of}
-use Rattle.rows.proofs.Placed.{under_root, first_one, root_count, Placed, leaf-child, leaf-before, leaf-width, after-leaf, leaf-next, node-child, node-before, node-width, after-node, node-next}
+use Rattle.rows.proofs.Placed.{under_root, first_one, root_count, Placed, leaf_child, leaf_before, leaf_width, after_leaf, leaf_next, node_child, node_before, node_width, after_node, node_next}
 
 -- ---------------------------------------------------------------- a byte in both
 
@@ -50,8 +50,8 @@ later_below a b c x y = go (ltb a b)
     go false = x
 
 module _ (all : List Row) (from to i start end : ℕ) (s : first_byte all i ≡ start) (e : end_byte all i ≡ end) where
-  pub share-byte : share from to start end ≡ true → Shares all from to i
-  share-byte h =
+  pub share_byte : share from to start end ≡ true → Shares all from to i
+  share_byte h =
       let abc = and_left (ltb from to && ltb from end && ltb start to) (ltb start end) h in
       let ab = and_left (ltb from to && ltb from end) (ltb start to) abc in
       let a : from < to = ltb-true from to (and_left (ltb from to) (ltb from end) ab) in
@@ -67,8 +67,8 @@ module _ (all : List Row) (from to i start end : ℕ) (s : first_byte all i ≡ 
         has = (omega (arith, y, s), (let z = later_below from start end b d in omega (arith, z, e)));
       }
 
-  pub byte-share : Shares all from to i → share from to start end ≡ true
-  byte-share h =
+  pub byte_share : Shares all from to i → share from to start end ≡ true
+  byte_share h =
       rw (
         lt-ltb from to (omega (arith, h.after_start, h.before_end)),
         lt-ltb from end (omega (arith, h.after_start, h.has.1, e)),
@@ -97,30 +97,30 @@ module _ (all : List Row) (from to s next before many start end : ℕ) (c : Chil
   same_row : (i : ℕ) (h : Child all 0 i) → h.before ≡ before → i ≡ s
   same_row i h e = h.is ∙ ap (λ (n : ℕ). 1 + span n (drop 1 all)) (e ∙ sym cb) ∙ sym c.is
 
-  first-or-later : (i : ℕ) (h : Child all 0 i) → before ≤ h.before → (i ≡ s) ⊎ (suc before ≤ h.before)
-  first-or-later i h x = go (eqb h.before before) refl
+  first_or_later : (i : ℕ) (h : Child all 0 i) → before ≤ h.before → (i ≡ s) ⊎ (suc before ≤ h.before)
+  first_or_later i h x = go (eqb h.before before) refl
     where
       go : (t : Bool) → eqb h.before before ≡ t → (i ≡ s) ⊎ (suc before ≤ h.before)
       go true e = inl (same_row i h (eqb-true _ _ e))
       go false e = inr (let z = eqb-false h.before before e in omega (arith, x, z))
 
-  listed-first : (t : Bool) → share from to start end ≡ t → Lists all from to s before (suc many) (cond t (s ∷ more) more)
-  listed-first true e =
+  listed_first : (t : Bool) → share from to start end ≡ t → Lists all from to s before (suc many) (cond t (s ∷ more) more)
+  listed_first true e =
       record {
         part = λ i x. ⊎_elim (λ y. subst (Child all 0) (sym y) c) (λ y. r.part i y) x;
-        shares = λ i x. ⊎_elim (λ y. subst (Shares all from to) (sym y) (share-byte all from to s start end fs es e)) (λ y. r.shares i y) x;
+        shares = λ i x. ⊎_elim (λ y. subst (Shares all from to) (sym y) (share_byte all from to s start end fs es e)) (λ y. r.shares i y) x;
         not_before = λ i x. ⊎_elim (λ y. (let z : s ≤ i = omega (arith, y) in z)) (λ y. (let q = r.not_before i y in let z : s ≤ i = omega (arith, q, sn) in z)) x;
-        all_of = λ i h x y z. ⊎_elim (λ w. inl w) (λ w. inr (r.all_of i h w (omega (arith, y)) z)) (first-or-later i h x);
+        all_of = λ i h x y z. ⊎_elim (λ w. inl w) (λ w. inr (r.all_of i h w (omega (arith, y)) z)) (first_or_later i h x);
         in_order = ascending_cons s more (λ i x. let z = r.not_before i x in omega (arith, z, sn)) r.in_order;
       }
-  listed-first false e =
+  listed_first false e =
       record {
         part = r.part;
         shares = r.shares;
         not_before = λ i x. let z = r.not_before i x in omega (arith, z, sn);
         all_of = λ i h x y z.
-            ⊎_elim (λ w. absurd (false≢true (sym e ∙ byte-share all from to s start end fs es (subst (Shares all from to) w z)))) (λ w. r.all_of i h w (omega (arith, y)) z)
-            (first-or-later i h x);
+            ⊎_elim (λ w. absurd (false≢true (sym e ∙ byte_share all from to s start end fs es (subst (Shares all from to) w z)))) (λ w. r.all_of i h w (omega (arith, y)) z)
+            (first_or_later i h x);
         in_order = r.in_order;
       }
 
@@ -130,16 +130,16 @@ unfolding sharing count
 lists all from to nil l s before start w e =
     record { part = λ i x. absurd x; shares = λ i x. absurd x; not_before = λ i x. absurd x; all_of = λ i h x y z. absurd (omega (arith, x, y)); in_order = tt }
 lists all from to (leaf k ts f) l s before start w e =
-    let n = leaf-next all k ts f l s 0 before w in
-    listed-first all from to s (suc s) before (count f) start (start + byte_count ts) (leaf-child all k ts f l s 0 before w) (leaf-before all k ts f l s 0 before w) e
-    (leaf-width all k ts f l s 0 before w ∙ ap (◌+ byte_count ts) e) (omega arith) (sharing from to (suc s) (start + byte_count ts) f)
-    (lists all from to f l (suc s) (suc before) (start + byte_count ts) (after-leaf all k ts f l s 0 before w) (n ∙ ap (◌+ byte_count ts) e))
+    let n = leaf_next all k ts f l s 0 before w in
+    listed_first all from to s (suc s) before (count f) start (start + byte_count ts) (leaf_child all k ts f l s 0 before w) (leaf_before all k ts f l s 0 before w) e
+    (leaf_width all k ts f l s 0 before w ∙ ap (◌+ byte_count ts) e) (omega arith) (sharing from to (suc s) (start + byte_count ts) f)
+    (lists all from to f l (suc s) (suc before) (start + byte_count ts) (after_leaf all k ts f l s 0 before w) (n ∙ ap (◌+ byte_count ts) e))
     (share from to start (start + byte_count ts)) refl
 lists all from to (subtree k c f) l s before start w e =
-    let n = node-next all k c f l s 0 before w in
-    listed-first all from to s (suc s + row_count c) before (count f) start (start + width c) (node-child all k c f l s 0 before w) (node-before all k c f l s 0 before w) e
-    (node-width all k c f l s 0 before w ∙ ap (◌+ width c) e) (omega arith) (sharing from to (suc s + row_count c) (start + width c) f)
-    (lists all from to f l (suc s + row_count c) (suc before) (start + width c) (after-node all k c f l s 0 before w) (n ∙ ap (◌+ width c) e))
+    let n = node_next all k c f l s 0 before w in
+    listed_first all from to s (suc s + row_count c) before (count f) start (start + width c) (node_child all k c f l s 0 before w) (node_before all k c f l s 0 before w) e
+    (node_width all k c f l s 0 before w ∙ ap (◌+ width c) e) (omega arith) (sharing from to (suc s + row_count c) (start + width c) f)
+    (lists all from to f l (suc s + row_count c) (suc before) (start + width c) (after_node all k c f l s 0 before w) (n ∙ ap (◌+ width c) e))
     (share from to start (start + width c)) refl
 
 -- ALL THE PARTS of a root

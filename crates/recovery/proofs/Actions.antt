@@ -113,9 +113,9 @@ none_tail true A = inl refl
 none_tail false A = refl
 
 module _ (h : Bool) (s : State) (ts : List Token) (A : At s ts) (x : Head h s) where
-  token-holds : (t : Token) (us : List Token) → t ∷ us ≡ drop_trivia s.rest → Holds (know true (ends h) low) s ts (token t (length us) done) (taken us)
+  token_holds : (t : Token) (us : List Token) → t ∷ us ≡ drop_trivia s.rest → Holds (know true (ends h) low) s ts (token t (length us) done) (taken us)
   unfolding place front ◌⊕◌ Quiet ends_in
-  token-holds t us e =
+  token_holds t us e =
       let d : drop_trivia ts ≡ t ∷ us = at_first s ts (t ∷ us) A e in
       let l : suc (length us) ≤ length s.rest = subst (λ (v : List Token). length v ≤ length s.rest) (sym e) (drop_trivia_length s.rest) in
       let q : place (token t (length us) done) ts ≡ lead ts ⊕ leaf (seen t) (t ∷ []) nil = ap (λ (v : List Token). lead ts ⊕ front v ⊕ nil) d in
@@ -128,14 +128,14 @@ module _ (h : Bool) (s : State) (ts : List Token) (A : At s ts) (x : Head h s) w
         part = subst Quiet (sym q) (before_quiet ts _ tt);
       }
 
-  none-holds : (u : State) → Holds (know true (ends h) low) s ts done u
+  none_holds : (u : State) → Holds (know true (ends h) low) s ts done u
   unfolding place Quiet
-  none-holds u = record { still = λ y. absurd (false≢true y); head = λ _. refl; tail = none_tail h _; part = tt }
+  none_holds u = record { still = λ y. absurd (false≢true y); head = λ _. refl; tail = none_tail h _; part = tt }
 
   bump_holds : (us : List Token) → us ≡ drop_trivia s.rest → (u : State) → Holds (know true (ends h) low) s ts (do_bump u us).made (do_bump u us).state
   unfolding do_bump replies makes
-  bump_holds [] e u = none-holds u
-  bump_holds (t ∷ us) e u = token-holds t us e
+  bump_holds [] e u = none_holds u
+  bump_holds (t ∷ us) e u = token_holds t us e
 
   name_holds : (ks : List ℕ) (us : List Token) (u : State) → Holds (know true low low) s ts (do_name ks u us).made (do_name ks u us).state
   unfolding do_name replies makes place ◌⊕◌ ends_in Quiet
@@ -181,39 +181,39 @@ asked P s u ts n y false e p q = record { known = n; post = and_left (P 0 no n) 
 
 module _ (P : Post) (h : Bool) (s : State) (ts : List Token) (A : At s ts) (x : Head h s) where
   -- a question that moves nothing
-  asked-still : (b : Bool) → P 0 no (idle h) && P 0 yes (idle h) ≡ true → Ending P s ts (replies (truth b) s)
+  asked_still : (b : Bool) → P 0 no (idle h) && P 0 yes (idle h) ≡ true → Ending P s ts (replies (truth b) s)
   unfolding replies
-  asked-still b e = asked P s s ts (idle h) (idle h) b e (λ _. stays h s ts x) (λ _. stays h s ts x)
+  asked_still b e = asked P s s ts (idle h) (idle h) b e (λ _. stays h s ts x) (λ _. stays h s ts x)
 
-  emit-ends : (m k : ℕ) (l : Label) → P 0 yes (know h low low) ≡ true → Ending P s ts (do_emit m k l (peeked s))
+  emit_ends : (m k : ℕ) (l : Label) → P 0 yes (know h low low) ≡ true → Ending P s ts (do_emit m k l (peeked s))
   unfolding do_emit makes place
-  emit-ends m k l e = record { known = know h low low; post = e; holds = looks h s (peeked s) ts _ refl (peek_head h s x) }
+  emit_ends m k l e = record { known = know h low low; post = e; holds = looks h s (peeked s) ts _ refl (peek_head h s x) }
 
-  pub act-ends : (b : Label) (a : Act) → act_surely a P h ≡ true → Ending P s ts (perform b a s)
+  pub act_ends : (b : Label) (a : Act) → act_surely a P h ≡ true → Ending P s ts (perform b a s)
   unfolding act_surely perform replies do_expected makes place
-  act-ends b (silent_at ks) e =
+  act_ends b (silent_at ks) e =
       asked P s (peeked s) ts _ _ (first_in ks (peeked s).rest) e
-      (λ z. looks _ s (peeked s) ts done refl (λ y. both h _ (peek_head h s x y) (ap not (sym (first_semicolon ks (peeked s).rest (at-peeked y)) ∙ z))))
-      (λ z. looks _ s (peeked s) ts done refl (λ y. both h _ (peek_head h s x y) (sym (first_semicolon ks (peeked s).rest (at-peeked y)) ∙ z)))
+      (λ z. looks _ s (peeked s) ts done refl (λ y. both h _ (peek_head h s x y) (ap not (sym (first_semicolon ks (peeked s).rest (at_peeked y)) ∙ z))))
+      (λ z. looks _ s (peeked s) ts done refl (λ y. both h _ (peek_head h s x y) (sym (first_semicolon ks (peeked s).rest (at_peeked y)) ∙ z)))
     where
-      at-peeked : first_in (K.Semicolon ∷ []) (drop_trivia (peeked s).rest) ≡ true → first_in (K.Semicolon ∷ []) (peeked s).rest ≡ true
-      at-peeked y = unfold peeked in ap (first_in (K.Semicolon ∷ [])) (sym (drop_twice s.rest)) ∙ y
-  act-ends b at_end e =
+      at_peeked : first_in (K.Semicolon ∷ []) (drop_trivia (peeked s).rest) ≡ true → first_in (K.Semicolon ∷ []) (peeked s).rest ≡ true
+      at_peeked y = unfold peeked in ap (first_in (K.Semicolon ∷ [])) (sym (drop_twice s.rest)) ∙ y
+  act_ends b at_end e =
       asked P s (peeked s) ts _ _ (ended (peeked s).rest) e
       (λ z. looks _ s (peeked s) ts done refl (peek_head h s x))
       (λ z. looks _ s (peeked s) ts done refl (λ y. ended_none (drop_trivia (peeked s).rest) (unfold peeked in ap ended (drop_twice s.rest) ∙ z) y))
-  act-ends b (immediate k) e = asked-still (first_in (k ∷ []) s.rest) e
-  act-ends b (immediate_next k) e = asked-still (first_in (k ∷ []) (past s.rest)) e
-  act-ends b (add_expected k) e = record { known = know h low low; post = e; holds = looks h s _ ts done refl x }
-  act-ends b bump e = record { known = know true (ends h) low; post = bump_yes P _ (peeked s) (peeked s).rest e; holds = bump_holds h s ts A x (peeked s).rest (unfold peeked in refl) (peeked s) }
-  act-ends b (bump_name ks) e = record { known = know true low low; post = name_yes P _ ks (peeked s) (peeked s).rest e; holds = name_holds h s ts A x ks (peeked s).rest (peeked s) }
-  act-ends b bump_argument e =
+  act_ends b (immediate k) e = asked_still (first_in (k ∷ []) s.rest) e
+  act_ends b (immediate_next k) e = asked_still (first_in (k ∷ []) (past s.rest)) e
+  act_ends b (add_expected k) e = record { known = know h low low; post = e; holds = looks h s _ ts done refl x }
+  act_ends b bump e = record { known = know true (ends h) low; post = bump_yes P _ (peeked s) (peeked s).rest e; holds = bump_holds h s ts A x (peeked s).rest (unfold peeked in refl) (peeked s) }
+  act_ends b (bump_name ks) e = record { known = know true low low; post = name_yes P _ ks (peeked s) (peeked s).rest e; holds = name_holds h s ts A x ks (peeked s).rest (peeked s) }
+  act_ends b bump_argument e =
       let o : Out = do_argument 0 s s.rest in
       record {
         known = know true high high;
         post = ap (λ (k : ℕ). P k o.ans (know true high high)) (argument_shape 0 s s.rest) ∙ any_of (λ z. P 0 z (know true high high)) e o.ans;
         holds = unknown s o.state ts o.made;
       }
-  act-ends b (emit m k) e = emit-ends m k no_label e
-  act-ends b emit_unclosed e = emit-ends E.unclosed_node E.no_hint b e
-  act-ends b (less m n) e = asked-still (ltb m n) e
+  act_ends b (emit m k) e = emit_ends m k no_label e
+  act_ends b emit_unclosed e = emit_ends E.unclosed_node E.no_hint b e
+  act_ends b (less m n) e = asked_still (ltb m n) e

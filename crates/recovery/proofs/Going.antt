@@ -8,7 +8,7 @@ use Rattle.definitions.specs.Prog.{yes, Prog, ret}
 use Rattle.definitions.specs.Skeleton.{Label, no_label, Skeleton, done, ◌⧺◌}
 use Rattle.definitions.specs.Run.{State, exec, run}
 use Rattle.definitions.specs.Place.{after}
-use Rattle.laws.proofs.Kept.{Stands, run-kept, exec_kept}
+use Rattle.laws.proofs.Kept.{Stands, run_kept, exec_kept}
 use Rattle.laws.proofs.Marks.{Down, marks_kept}
 use Rattle.laws.proofs.Onward.{Onward, onward_kept}
 use Rattle.laws.proofs.Between.{Taking, reads_kept}
@@ -32,10 +32,10 @@ goes_then s u v p q f g =
 pub exec_goes : (n : ℕ) (b : Label) (p : Prog) (s : State) → Stands s → Goes s (exec (run n) b p s).made (exec (run n) b p s).state
 exec_goes n b p s h =
     record {
-      stands = (exec_kept Down marks_kept (run n) (run-kept Down marks_kept n) b p s h).0;
-      down = (exec_kept Down marks_kept (run n) (run-kept Down marks_kept n) b p s h).1;
-      taking = (exec_kept Taking reads_kept (run n) (run-kept Taking reads_kept n) b p s h).1;
-      onward = (exec_kept Onward onward_kept (run n) (run-kept Onward onward_kept n) b p s h).1;
+      stands = (exec_kept Down marks_kept (run n) (run_kept Down marks_kept n) b p s h).0;
+      down = (exec_kept Down marks_kept (run n) (run_kept Down marks_kept n) b p s h).1;
+      taking = (exec_kept Taking reads_kept (run n) (run_kept Taking reads_kept n) b p s h).1;
+      onward = (exec_kept Onward onward_kept (run n) (run_kept Onward onward_kept n) b p s h).1;
     }
 
 pub goes_nowhere : (s : State) → Stands s → Goes s done s

@@ -17,8 +17,8 @@ use Rattle.definitions.specs.Report.{pushes, reports}
 use Rattle.definitions.specs.Call.{run_entry}
 use Rattle.basics.proofs.Tests.{cond-all}
 use Rattle.laws.proofs.Skeleton.{bytes_append}
-use Rattle.laws.proofs.Engine.{Composes, choose-all, iter-all, chained-all}
-use Rattle.laws.proofs.Kept.{Stands, stands_taken, Kept, run-kept, exec_kept}
+use Rattle.laws.proofs.Engine.{Composes, choose_all, iter_all, chained_all}
+use Rattle.laws.proofs.Kept.{Stands, stands_taken, Kept, run_kept, exec_kept}
 use Rattle.laws.proofs.Marks.{entry_marks}
 use Rattle.recovery.proofs.Told.{All, all_append, told, told_all, told_closed, all_map, falls_below}
 
@@ -94,20 +94,20 @@ module _ (b : ℕ) where
   abbrev C : State → ℕ → Skeleton → Skeleton → State → Type 0
   C s m a i u = Near s → Chaining u a i
 
-  closed-labels : (k m m' : ℕ) (a i : Skeleton) → All P (told a) → All P (told i) → All P (told (closed k m m' a i))
-  closed-labels k m m' a i h g = subst (All P) (sym (told_closed k m m' a i)) (all_append P (told a) (told i) h g)
+  closed_labels : (k m m' : ℕ) (a i : Skeleton) → All P (told a) → All P (told i) → All P (told (closed k m m' a i))
+  closed_labels k m m' a i h g = subst (All P) (sym (told_closed k m m' a i)) (all_append P (told a) (told i) h g)
 
   rets : (k : ℕ) (a : Ans) (s : State) → Q s (record { ans = a; shape = k; made = done; state = s })
   unfolding pushes reports
   rets k a s h = record { near = h; labels = tt }
 
-  labels-compose : Composes Q C
+  labels_compose : Composes Q C
   unfolding add marked makes unlinked pushes reports
-  labels-compose =
+  labels_compose =
       record {
         idle = rets 0;
         add = λ s o o' p q h. let x : Labels o = p h in let y : Labels o' = q x.near in record { near = y.near; labels = told_all P o.made o'.made x.labels y.labels };
-        mark = λ s o p h. let x : Labels o = p h in record { near = x.near; labels = closed-labels o.shape (mark_of s) (mark_of o.state) done o.made tt x.labels };
+        mark = λ s o p h. let x : Labels o = p h in record { near = x.near; labels = closed_labels o.shape (mark_of s) (mark_of o.state) done o.made tt x.labels };
         turn = λ s o p h. let x : Labels o = p h in record { near = x.near; labels = x.labels };
         first = λ s o p h. let x : Labels o = p h in record { near = x.near; before = tt; since = x.labels };
         more = λ s u m a i o c p h.
@@ -117,78 +117,78 @@ module _ (b : ℕ) where
         link = λ s u m k a i o b q e c h.
             let v = o.state in
             let x : Chaining v a (i ⧺ o.made) = c h in
-            record { near = x.near; before = unfold closed in closed-labels (suc k) m (mark_of v) a (i ⧺ o.made) x.before x.since; since = tt };
-        last = λ s u m a i x c h. let y : Chaining u a i = c h in record { near = y.near; labels = closed-labels 0 m (mark_of u) a i y.before y.since };
+            record { near = x.near; before = unfold closed in closed_labels (suc k) m (mark_of v) a (i ⧺ o.made) x.before x.since; since = tt };
+        last = λ s u m a i x c h. let y : Chaining u a i = c h in record { near = y.near; labels = closed_labels 0 m (mark_of u) a i y.before y.since };
       }
 
   -- no action but the two that make reports makes one
-  depth-told : (n : ℕ) (o : Out) (f : ℕ → Out) → told o.made ≡ [] → ((m : ℕ) → told (f m).made ≡ []) → told (at_depth n o f).made ≡ []
+  depth_told : (n : ℕ) (o : Out) (f : ℕ → Out) → told o.made ≡ [] → ((m : ℕ) → told (f m).made ≡ []) → told (at_depth n o f).made ≡ []
   unfolding at_depth
-  depth-told zero o f p q = p
-  depth-told (suc n) o f p q = q n
+  depth_told zero o f p q = p
+  depth_told (suc n) o f p q = q n
 
-  argument-told : (n : ℕ) (s : State) (ts : List Token) → told (do_argument n s ts).made ≡ []
+  argument_told : (n : ℕ) (s : State) (ts : List Token) → told (do_argument n s ts).made ≡ []
   unfolding do_argument replies makes add pushes reports ◌⧺◌
-  argument-told n s [] = refl
-  argument-told n s (t ∷ ts) =
+  argument_told n s [] = refl
+  argument_told n s (t ∷ ts) =
       let Z : Out → Type 0 = λ (o : Out). told o.made ≡ [] in
-      let go : (m : ℕ) → Z (add (makes yes (token t (length ts) done) (taken ts)) (do_argument m (taken ts) ts)) = λ m. argument-told m (taken ts) ts in
-      cond-all Z (trivia t) (argument-told n s ts)
+      let go : (m : ℕ) → Z (add (makes yes (token t (length ts) done) (taken ts)) (do_argument m (taken ts) ts)) = λ m. argument_told m (taken ts) ts in
+      cond-all Z (trivia t) (argument_told n s ts)
       (cond-all Z (eqb t.kind K.LParen) (go (suc n))
-      (cond-all Z (eqb t.kind K.RParen) (depth-told n _ _ refl go) (cond-all Z (eqb t.kind K.Comma) (depth-told n _ _ refl (λ m. go (suc m))) (go n))))
+      (cond-all Z (eqb t.kind K.RParen) (depth_told n _ _ refl go) (cond-all Z (eqb t.kind K.Comma) (depth_told n _ _ refl (λ m. go (suc m))) (go n))))
 
-  bump-told : (s : State) (ts : List Token) → told (do_bump s ts).made ≡ []
+  bump_told : (s : State) (ts : List Token) → told (do_bump s ts).made ≡ []
   unfolding do_bump replies makes pushes reports
-  bump-told s [] = refl
-  bump-told s (t ∷ ts) = refl
+  bump_told s [] = refl
+  bump_told s (t ∷ ts) = refl
 
-  name-told : (ks : List ℕ) (s : State) (ts : List Token) → told (do_name ks s ts).made ≡ []
+  name_told : (ks : List ℕ) (s : State) (ts : List Token) → told (do_name ks s ts).made ≡ []
   unfolding do_name replies makes pushes reports
-  name-told ks s [] = refl
-  name-told ks s (t ∷ ts) = refl
+  name_told ks s [] = refl
+  name_told ks s (t ∷ ts) = refl
 
-  act-labels : (l : Label) → LabelIn b l → (a : Act) (s : State) → All P (told (perform l a s).made)
+  act_labels : (l : Label) → LabelIn b l → (a : Act) (s : State) → All P (told (perform l a s).made)
   unfolding perform replies do_expected do_emit makes pushes reports
-  act-labels l w (silent_at ks) s = tt
-  act-labels l w at_end s = tt
-  act-labels l w (immediate k) s = tt
-  act-labels l w (immediate_next k) s = tt
-  act-labels l w (add_expected k) s = tt
-  act-labels l w bump s = subst (All P) (sym (bump-told (peeked s) (peeked s).rest)) tt
-  act-labels l w (bump_name ks) s = subst (All P) (sym (name-told ks (peeked s) (peeked s).rest)) tt
-  act-labels l w bump_argument s = subst (All P) (sym (argument-told 0 s s.rest)) tt
-  act-labels l w (emit m h) s = (tt, tt)
-  act-labels l w emit_unclosed s = (w, tt)
-  act-labels l w (less m n) s = tt
+  act_labels l w (silent_at ks) s = tt
+  act_labels l w at_end s = tt
+  act_labels l w (immediate k) s = tt
+  act_labels l w (immediate_next k) s = tt
+  act_labels l w (add_expected k) s = tt
+  act_labels l w bump s = subst (All P) (sym (bump_told (peeked s) (peeked s).rest)) tt
+  act_labels l w (bump_name ks) s = subst (All P) (sym (name_told ks (peeked s) (peeked s).rest)) tt
+  act_labels l w bump_argument s = subst (All P) (sym (argument_told 0 s s.rest)) tt
+  act_labels l w (emit m h) s = (tt, tt)
+  act_labels l w emit_unclosed s = (w, tt)
+  act_labels l w (less m n) s = tt
 
   here_in : (s : State) (ts : List Token) → byte_count ts ≤ b → LabelIn b (here ts)
   unfolding byte_count
   here_in s [] h = (zero-le, zero-le)
   here_in s (t ∷ ts) h = (h, omega arith)
 
-  near-after : (n : ℕ) (l : Label) (p : Prog) (s : State) → Near s → Near (exec (run n) l p s).state
-  near-after n l p s h =
-      let g = exec_kept (Ranging b) (ranges_kept b) (run n) (run-kept (Ranging b) (ranges_kept b) n) l p s h.stands in
+  near_after : (n : ℕ) (l : Label) (p : Prog) (s : State) → Near s → Near (exec (run n) l p s).state
+  near_after n l p s h =
+      let g = exec_kept (Ranging b) (ranges_kept b) (run n) (run_kept (Ranging b) (ranges_kept b) n) l p s h.stands in
       record { stands = g.0; bytes_left = le_trans g.1.less h.bytes_left }
 
-  exec-labels : (n : ℕ) → ((r : Rule) (s : State) → Q s (run n r s)) → (l : Label) → LabelIn b l → (p : Prog) (s : State) → Q s (exec (run n) l p s)
+  exec_labels : (n : ℕ) → ((r : Rule) (s : State) → Q s (run n r s)) → (l : Label) → LabelIn b l → (p : Prog) (s : State) → Q s (exec (run n) l p s)
   unfolding exec
-  exec-labels n f l w (ret k a) s = rets k a s
-  exec-labels n f l w (act a) s = λ h. record { near = near-after n l (act a) s h; labels = act-labels l w a s }
-  exec-labels n f l w (p ⨟ q) s = labels-compose.add s _ _ (exec-labels n f l w p s) (exec-labels n f l w q (exec (run n) l p s).state)
-  exec-labels n f l w (case c m y a) s =
-      labels-compose.add s _ _ (exec-labels n f l w c s)
-      (choose-all Q C labels-compose (exec (run n) l c s).ans (exec (run n) l m) (exec (run n) l y) (exec (run n) l a) (exec-labels n f l w m) (exec-labels n f l w y) (exec-labels n f l w a) (exec (run n) l c s).state)
-  exec-labels n f l w (in_marker p) s = labels-compose.mark s _ (exec-labels n f l w p s)
-  exec-labels n f l w (loop p) s = iter-all Q C labels-compose (suc (length s.rest)) (exec (run n) l p) (exec-labels n f l w p) s
-  exec-labels n f l w (chain p q) s = chained-all Q C labels-compose (exec (run n) l q) (exec-labels n f l w q) s (exec (run n) l p s) (exec-labels n f l w p s)
-  exec-labels n f l w (brace p) s = λ h. exec-labels n f (here s.rest) (here_in s s.rest (le_trans (stands_bytes s h.stands) h.bytes_left)) p s h
-  exec-labels n f l w (open_call r) s = f r s
+  exec_labels n f l w (ret k a) s = rets k a s
+  exec_labels n f l w (act a) s = λ h. record { near = near_after n l (act a) s h; labels = act_labels l w a s }
+  exec_labels n f l w (p ⨟ q) s = labels_compose.add s _ _ (exec_labels n f l w p s) (exec_labels n f l w q (exec (run n) l p s).state)
+  exec_labels n f l w (case c m y a) s =
+      labels_compose.add s _ _ (exec_labels n f l w c s)
+      (choose_all Q C labels_compose (exec (run n) l c s).ans (exec (run n) l m) (exec (run n) l y) (exec (run n) l a) (exec_labels n f l w m) (exec_labels n f l w y) (exec_labels n f l w a) (exec (run n) l c s).state)
+  exec_labels n f l w (in_marker p) s = labels_compose.mark s _ (exec_labels n f l w p s)
+  exec_labels n f l w (loop p) s = iter_all Q C labels_compose (suc (length s.rest)) (exec (run n) l p) (exec_labels n f l w p) s
+  exec_labels n f l w (chain p q) s = chained_all Q C labels_compose (exec (run n) l q) (exec_labels n f l w q) s (exec (run n) l p s) (exec_labels n f l w p s)
+  exec_labels n f l w (brace p) s = λ h. exec_labels n f (here s.rest) (here_in s s.rest (le_trans (stands_bytes s h.stands) h.bytes_left)) p s h
+  exec_labels n f l w (open_call r) s = f r s
 
-  run-labels : (n : ℕ) (r : Rule) (s : State) → Q s (run n r s)
+  run_labels : (n : ℕ) (r : Rule) (s : State) → Q s (run n r s)
   unfolding run makes pushes reports
-  run-labels zero r s = λ h. record { near = h; labels = tt }
-  run-labels (suc n) r s = exec-labels n (λ q u. run-labels n q u) no_label tt (grammar r) s
+  run_labels zero r s = λ h. record { near = h; labels = tt }
+  run_labels (suc n) r s = exec_labels n (λ q u. run_labels n q u) no_label tt (grammar r) s
 
 -- ---------------------------------------------------------------- a whole file
 
@@ -210,5 +210,5 @@ entry_inside e ts =
     all_map _ (Inside (length ts) b) (λ r h. record { marked = h.0; ranged = h.1; labelled = h.2 }) (told (run_entry e ts))
     (all_three (λ r. r.mark ≤ length ts) (λ r. RangeIn b r.range) (λ r. LabelIn b r.labelled) (told (run_entry e ts))
     (falls_below (length ts) _ (run_entry e ts) (entry_marks e ts))
-    ((exec_kept (Ranging b) (ranges_kept b) (run MOST_OPEN_CALLS) (run-kept (Ranging b) (ranges_kept b) MOST_OPEN_CALLS) no_label (whole e) (taken ts) (stands_taken ts)).1.ranges (le_refl _))
-    (exec-labels b MOST_OPEN_CALLS (run-labels b MOST_OPEN_CALLS) no_label tt (whole e) (taken ts) (record { stands = stands_taken ts; bytes_left = le_refl _ })).labels)
+    ((exec_kept (Ranging b) (ranges_kept b) (run MOST_OPEN_CALLS) (run_kept (Ranging b) (ranges_kept b) MOST_OPEN_CALLS) no_label (whole e) (taken ts) (stands_taken ts)).1.ranges (le_refl _))
+    (exec_labels b MOST_OPEN_CALLS (run_labels b MOST_OPEN_CALLS) no_label tt (whole e) (taken ts) (record { stands = stands_taken ts; bytes_left = le_refl _ })).labels)

@@ -23,22 +23,22 @@ module _ (i p first : ℕ) (early late : List NameAt) (e : All (λ n. n.first_to
   abbrev moved : List NameAt
   moved = map (shift (suc i) (suc p)) late
 
-  not-later : (l : List NameAt) → All (λ n. n.first_token ≤ i) l → Every (λ r. later_report i r ≡ false) (name_rows first l)
+  not_later : (l : List NameAt) → All (λ n. n.first_token ≤ i) l → Every (λ r. later_report i r ≡ false) (name_rows first l)
   unfolding later_report
-  not-later [] h = tt
-  not-later (n ∷ l) h = (le-ltb i n.first_token h.0, not-later l h.1)
+  not_later [] h = tt
+  not_later (n ∷ l) h = (le-ltb i n.first_token h.0, not_later l h.1)
 
-  are-later : (l : List NameAt) → Every (λ r. later_report i r ≡ true) (name_rows first (map (shift (suc i) (suc p)) l))
+  are_later : (l : List NameAt) → Every (λ r. later_report i r ≡ true) (name_rows first (map (shift (suc i) (suc p)) l))
   unfolding later_report
-  are-later [] = tt
-  are-later (n ∷ l) = (lt-ltb i (suc i + n.first_token) (omega arith), are-later l)
+  are_later [] = tt
+  are_later (n ∷ l) = (lt-ltb i (suc i + n.first_token) (omega arith), are_later l)
 
-  pub names-later : those (later_report i) (name_rows first (early ++ moved)) ≡ name_rows first moved
-  names-later =
+  pub names_later : those (later_report i) (name_rows first (early ++ moved)) ≡ name_rows first moved
+  names_later =
       ap (those (later_report i)) (map-append (name_row first) early moved)
       ∙ those_append (later_report i) (name_rows first early) (name_rows first moved)
-      ∙ ap (◌++ those (later_report i) (name_rows first moved)) (those_none (later_report i) (name_rows first early) (not-later early e))
-      ∙ those_all (later_report i) (name_rows first moved) (are-later late)
+      ∙ ap (◌++ those (later_report i) (name_rows first moved)) (those_none (later_report i) (name_rows first early) (not_later early e))
+      ∙ those_all (later_report i) (name_rows first moved) (are_later late)
 
 -- whichever of them are taken, they have no expectations
 names_no_pool : (f : Row → Bool) (first : ℕ) (l : List NameAt) → pool_counts (those f (name_rows first l)) ≡ 0
@@ -74,8 +74,8 @@ module _ (a b : Places) (p q : List ℕ) (x y : ℕ) (h : Moved a.pool_place b.p
   abbrev row_at : Places → ℕ → NameAt → Row
   row_at d first n = name_row first (shift (suc d.index) (suc d.byte) n)
 
-  name-moved : (n : NameAt) → ReportMoved a b p q (row_at a x n) (row_at b y n)
-  name-moved n =
+  name_moved : (n : NameAt) → ReportMoved a b p q (row_at a x n) (row_at b y n)
+  name_moved n =
       record {
         same_message = refl;
         start_moves = omega arith;
@@ -91,6 +91,6 @@ module _ (a b : Places) (p q : List ℕ) (x y : ℕ) (h : Moved a.pool_place b.p
   abbrev rows_at : Places → ℕ → List NameAt → List Row
   rows_at d first l = name_rows first (map (shift (suc d.index) (suc d.byte)) l)
 
-  pub names-moved : (l : List NameAt) → Pairwise (ReportMoved a b p q) (rows_at a x l) (rows_at b y l)
-  names-moved [] = none
-  names-moved (n ∷ l) = more (name-moved n) (names-moved l)
+  pub names_moved : (l : List NameAt) → Pairwise (ReportMoved a b p q) (rows_at a x l) (rows_at b y l)
+  names_moved [] = none
+  names_moved (n ∷ l) = more (name_moved n) (names_moved l)

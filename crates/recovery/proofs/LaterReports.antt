@@ -41,13 +41,13 @@ module _ (i k b : ℕ) (early late : List Report) (e : All (Above k) early) (l :
   abbrev n : ℕ
   n = i + suc k
 
-  not-later : Every (λ r. later_report i r ≡ false) (reports_of n b 0 early)
+  not_later : Every (λ r. later_report i r ≡ false) (reports_of n b 0 early)
   unfolding later_report
-  not-later = reports_every (Above k) _ n b (λ first r h. le-ltb i (n - r.mark) (omega arith)) 0 early e
+  not_later = reports_every (Above k) _ n b (λ first r h. le-ltb i (n - r.mark) (omega arith)) 0 early e
 
-  are-later : (first : ℕ) → Every (λ r. later_report i r ≡ true) (reports_of n b first late)
+  are_later : (first : ℕ) → Every (λ r. later_report i r ≡ true) (reports_of n b first late)
   unfolding later_report
-  are-later first = reports_every (λ r. r.mark ≤ k) _ n b (λ first r h. lt-ltb i (n - r.mark) (omega arith)) first late l
+  are_later first = reports_every (λ r. r.mark ≤ k) _ n b (λ first r h. lt-ltb i (n - r.mark) (omega arith)) first late l
 
   abbrev rest : List Row
   rest = reports_of n b (length (pool early)) late
@@ -55,27 +55,27 @@ module _ (i k b : ℕ) (early late : List Report) (e : All (Above k) early) (l :
   both : reports_of n b 0 (early ++ late) ≡ reports_of n b 0 early ++ rest
   both = reports_append n b 0 early late ∙ ap (λ (x : ℕ). reports_of n b 0 early ++ reports_of n b x late) (let z : 0 + length (pool early) ≡ length (pool early) = omega arith in z)
 
-  every-not : (v w : Bool) → ((r : Row) → later_report i r ≡ v → not (later_report i r) ≡ w) → (m : List Row) → Every (λ r. later_report i r ≡ v) m → Every (λ r. not (later_report i r) ≡ w) m
-  every-not v w f [] h = tt
-  every-not v w f (r ∷ m) h = (f r h.0, every-not v w f m h.1)
+  every_not : (v w : Bool) → ((r : Row) → later_report i r ≡ v → not (later_report i r) ≡ w) → (m : List Row) → Every (λ r. later_report i r ≡ v) m → Every (λ r. not (later_report i r) ≡ w) m
+  every_not v w f [] h = tt
+  every_not v w f (r ∷ m) h = (f r h.0, every_not v w f m h.1)
 
-  pub reports-later : those (later_report i) (reports_of n b 0 (early ++ late)) ≡ rest
-  reports-later =
+  pub reports_later : those (later_report i) (reports_of n b 0 (early ++ late)) ≡ rest
+  reports_later =
       ap (those (later_report i)) both
       ∙ those_append (later_report i) (reports_of n b 0 early) rest
-      ∙ ap (◌++ those (later_report i) rest) (those_none (later_report i) (reports_of n b 0 early) not-later)
-      ∙ those_all (later_report i) rest (are-later (length (pool early)))
+      ∙ ap (◌++ those (later_report i) rest) (those_none (later_report i) (reports_of n b 0 early) not_later)
+      ∙ those_all (later_report i) rest (are_later (length (pool early)))
 
-  pub reports-before : pool_before i (reports_of n b 0 (early ++ late)) ≡ length (pool early)
+  pub reports_before : pool_before i (reports_of n b 0 (early ++ late)) ≡ length (pool early)
   unfolding pool_before
-  reports-before =
+  reports_before =
       let f : Row → Bool = λ r. not (later_report i r) in
       ap (λ (m : List Row). pool_counts (those f m)) both
       ∙ ap pool_counts
       (those_append f (reports_of n b 0 early) rest
-      ∙ ap (those f (reports_of n b 0 early) ++◌) (those_none f rest (every-not true false (λ r h. ap not h) rest (are-later (length (pool early)))))
+      ∙ ap (those f (reports_of n b 0 early) ++◌) (those_none f rest (every_not true false (λ r h. ap not h) rest (are_later (length (pool early)))))
       ∙ append-nil _
-      ∙ those_all f (reports_of n b 0 early) (every-not false true (λ r h. ap not h) (reports_of n b 0 early) not-later))
+      ∙ those_all f (reports_of n b 0 early) (every_not false true (λ r h. ap not h) (reports_of n b 0 early) not_later))
       ∙ reports_pool n b 0 early
 
 -- the late reports, in two files
@@ -84,11 +84,11 @@ module _ (k c : ℕ) (a b : Places) (p q : List ℕ) where
   abbrev row_at : Places → ℕ → Report → Row
   row_at d first r = report_row (d.index + suc k) (d.byte + suc c) first r
 
-  label-moved : {u₀ u₁ u₂ u₃ u₄ u₅ u₆ v₀ v₁ v₂ v₃ v₄ v₅ v₆ : ℕ} (x : Label) → LabelIn c x
+  label_moved : {u₀ u₁ u₂ u₃ u₄ u₅ u₆ v₀ v₁ v₂ v₃ v₄ v₅ v₆ : ℕ} (x : Label) → LabelIn c x
       → LabelMoved a.byte b.byte (u₀ ∷ u₁ ∷ u₂ ∷ u₃ ∷ u₄ ∷ u₅ ∷ u₆ ∷ label_numbers (a.byte + suc c) x [])
       (v₀ ∷ v₁ ∷ v₂ ∷ v₃ ∷ v₄ ∷ v₅ ∷ v₆ ∷ label_numbers (b.byte + suc c) x [])
-  label-moved no_label h = R.no_label refl refl refl refl
-  label-moved (label s) h =
+  label_moved no_label h = R.no_label refl refl refl refl
+  label_moved (label s) h =
       let f : s.from ≤ c = h.0 in
       let g : s.to ≤ c = h.1 in
       R.label (λ _ e. omega (arith, e)) (omega arith) (omega arith)
@@ -97,9 +97,9 @@ module _ (k c : ℕ) (a b : Places) (p q : List ℕ) where
   slice x m l = ap (take (length m)) (drop-append_seam x (m ++ l)) ∙ take-append_seam m l
 
   -- one report, after the expectations x in one file and y in the other
-  report-moved : (x y l : List ℕ) (r : Report) → Inside k c r → p ≡ x ++ (r.pool ++ l) → q ≡ y ++ (r.pool ++ l) → Moved a.pool_place b.pool_place (length x) (length y)
+  report_moved : (x y l : List ℕ) (r : Report) → Inside k c r → p ≡ x ++ (r.pool ++ l) → q ≡ y ++ (r.pool ++ l) → Moved a.pool_place b.pool_place (length x) (length y)
       → ReportMoved a b p q (row_at a (length x) r) (row_at b (length y) r)
-  report-moved x y l r I e f h =
+  report_moved x y l r I e f h =
       let from : r.range.from ≤ suc c = I.ranged.0 in
       let to : r.range.to ≤ suc c = I.ranged.1 in
       let m : r.mark ≤ k = I.marked in
@@ -111,7 +111,7 @@ module _ (k c : ℕ) (a b : Places) (p q : List ℕ) where
         first_place_moves = h;
         same_pool_count = refl;
         same_hint = refl;
-        label_moves = label-moved r.labelled I.labelled;
+        label_moves = label_moved r.labelled I.labelled;
         same_expected =
             ap (λ (z : List ℕ). take (length r.pool) (drop (length x) z)) e
             ∙ slice x r.pool l
@@ -121,15 +121,15 @@ module _ (k c : ℕ) (a b : Places) (p q : List ℕ) where
   abbrev rows_at : Places → ℕ → List Report → List Row
   rows_at d first l = reports_of (d.index + suc k) (d.byte + suc c) first l
 
-  abbrev All-moved : ℕ → ℕ → List Report → Type 0
-  All-moved i j l = Pairwise (ReportMoved a b p q) (rows_at a i l) (rows_at b j l)
+  abbrev AllMoved : ℕ → ℕ → List Report → Type 0
+  AllMoved i j l = Pairwise (ReportMoved a b p q) (rows_at a i l) (rows_at b j l)
 
-  pub reports_moved : (x y : List ℕ) (l : List Report) → All (Inside k c) l → p ≡ x ++ pool l → q ≡ y ++ pool l → Moved a.pool_place b.pool_place (length x) (length y) → All-moved (length x) (length y) l
+  pub reports_moved : (x y : List ℕ) (l : List Report) → All (Inside k c) l → p ≡ x ++ pool l → q ≡ y ++ pool l → Moved a.pool_place b.pool_place (length x) (length y) → AllMoved (length x) (length y) l
   unfolding reports_of pool
   reports_moved x y [] I e f h = none
   reports_moved x y (r ∷ l) I e f h =
-      let g : All-moved (length (x ++ r.pool)) (length (y ++ r.pool)) l =
+      let g : AllMoved (length (x ++ r.pool)) (length (y ++ r.pool)) l =
       reports_moved (x ++ r.pool) (y ++ r.pool) l I.1 (e ∙ sym (append_assoc x r.pool (pool l))) (f ∙ sym (append_assoc y r.pool (pool l)))
       (omega (arith, length-append x r.pool, length-append y r.pool)) in
-      more (report-moved x y (pool l) r I.0 e f h)
-      (subst (λ (j : ℕ). All-moved (length x + length r.pool) j l) (length-append y r.pool) (subst (λ (i : ℕ). All-moved i (length (y ++ r.pool)) l) (length-append x r.pool) g))
+      more (report_moved x y (pool l) r I.0 e f h)
+      (subst (λ (j : ℕ). AllMoved (length x + length r.pool) j l) (length-append y r.pool) (subst (λ (i : ℕ). AllMoved i (length (y ++ r.pool)) l) (length-append x r.pool) g))

@@ -22,8 +22,8 @@ use Rattle.recovery.proofs.Tail.{Tail, tail}
 use Rattle.recovery.proofs.LaterRows.{stays, rows_moved}
 use Rattle.recovery.proofs.LaterErrors.{those_append, errors_later, errors_moved}
 use Rattle.recovery.proofs.NamesApart.{shift, names_same, NamesApart}
-use Rattle.recovery.proofs.LaterReports.{reports-later, reports-before, reports_moved}
-use Rattle.recovery.proofs.LaterNames.{names-later, names_before, names-moved, pairwise_append}
+use Rattle.recovery.proofs.LaterReports.{reports_later, reports_before, reports_moved}
+use Rattle.recovery.proofs.LaterNames.{names_later, names_before, names_moved, pairwise_append}
 
 after_head : (ps : List Token) (t : Token) (us : List Token) → drop (suc (length ps)) (ps ++ (t ∷ us)) ≡ us
 after_head [] t us = refl
@@ -81,12 +81,12 @@ later f h s =
             ap (those (later_report (token_index s))) rows
             ∙ those_append (later_report (token_index s)) told-rows _
             ∙ (λ i.
-            reports-later (token_index s) (length us) (start_byte s + suc (byte_count us)) T.early late T.above inside i
-            ++ names-later (token_index s) (start_byte s) (length (pool T.early ++ pool late)) N.early (own_names f (start_byte s) us) N.not_after i);
+            reports_later (token_index s) (length us) (start_byte s + suc (byte_count us)) T.early late T.above inside i
+            ++ names_later (token_index s) (start_byte s) (length (pool T.early ++ pool late)) N.early (own_names f (start_byte s) us) N.not_after i);
         pool_before =
             ap (pool_before (token_index s)) rows
             ∙ names_before (token_index s) (length (pool T.early ++ pool late)) told-rows names
-            ∙ reports-before (token_index s) (length us) (start_byte s + suc (byte_count us)) T.early late T.above inside;
+            ∙ reports_before (token_index s) (length us) (start_byte s + suc (byte_count us)) T.early late T.above inside;
         pool = W.pool ∙ w;
       },
     )
@@ -118,5 +118,5 @@ stays_local f g S hf hg a b A =
           (subst (Pairwise (ReportMoved (places f a) (places g b) p q) _) (sym (Y.reports ∙ ap (late_rows (token_index b) (start_byte b) Y.early us) same_names))
           (pairwise_append (ReportMoved (places f a) (places g b) p q) _ _ _ _
           (reports_moved (length us) (byte_count us) (places f a) (places g b) p q X.early Y.early late (entry_inside SourceFile us) X.pool Y.pool moved)
-          (names-moved (places f a) (places g b) p q (length (X.early ++ pool late)) (length (Y.early ++ pool late)) after names)));
+          (names_moved (places f a) (places g b) p q (length (X.early ++ pool late)) (length (Y.early ++ pool late)) after names)));
     }

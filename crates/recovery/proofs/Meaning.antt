@@ -148,8 +148,8 @@ module _ (s u v : State) (ts : List Token) (p q : Skeleton) (g : Goes s p u) whe
   ends_join : ends_in false (place p ts) ≡ false → ends_in false (place (p ⧺ q) ts) ≡ ends_in false (place q (after p ts))
   ends_join e = ap (ends_in false) placed ∙ ends_beside false (place p ts) (place q (after p ts)) ∙ ap (λ (b : Bool). ends_in b (place q (after p ts))) e
 
-  sealed-then : Sealed u (after p ts) q v → Sealed s ts (p ⧺ q) v
-  sealed-then S =
+  sealed_then : Sealed u (after p ts) q v → Sealed s ts (p ⧺ q) v
+  sealed_then S =
       let w : length u.rest ≤ mark_of u = stands_within u g.stands in
       let x : length u.rest ≤ length s.rest = g.onward.rest in
       let y : length S.rest < length u.rest = S.less in
@@ -183,6 +183,6 @@ module _ (s u v : State) (ts : List Token) (p q : Skeleton) (g : Goes s p u) whe
           record {
             still = λ y. absurd (false≢true y);
             head = B.head;
-            tail = rank_then d.tail e.tail _ (λ h k. ends_join h ∙ k) (λ _ k. sealed-then k) A.tail B.tail;
-            part = rank_then d.part e.part _ quiet_then (λ h k. (last_then h k.0, sealed-then k.1)) A.part B.part;
+            tail = rank_then d.tail e.tail _ (λ h k. ends_join h ∙ k) (λ _ k. sealed_then k) A.tail B.tail;
+            part = rank_then d.part e.part _ quiet_then (λ h k. (last_then h k.0, sealed_then k.1)) A.part B.part;
           }

@@ -146,37 +146,37 @@ module _ (before : Tree) (k : ℕ) (inside : Tree) (t : Token) (later : Tree) (o
   tokens_before : token_count before + token_count inside ≡ i
   tokens_before = let e = tokens_leaves before in let f = tokens_leaves inside in omega (arith, length-append (leaves before) (leaves inside))
 
-  bytes-before : width before + width inside ≡ p
-  bytes-before = let e = width_leaves before in let f = width_leaves inside in omega (arith, bytes_append (leaves before) (leaves inside))
+  bytes_before : width before + width inside ≡ p
+  bytes_before = let e = width_leaves before in let f = width_leaves inside in omega (arith, bytes_append (leaves before) (leaves inside))
 
-  first-early : All (λ n. n.first_token ≤ i) first
-  first-early =
+  first_early : All (λ n. n.first_token ≤ i) first
+  first_early =
       all_append _ (judged false 0 0 before) _ (judged_up_to i false 0 0 before (omega (arith, tokens_before)))
       (judged_up_to i (judges k part) (0 + token_count before) (0 + width before) inside (omega (arith, tokens_before)))
 
   -- and after it
-  part-leaves : leaves part ≡ leaves inside ++ (t ∷ [])
+  part_leaves : leaves part ≡ leaves inside ++ (t ∷ [])
   unfolding leaves
-  part-leaves = leaves_beside inside (leaf K.Semicolon (t ∷ []) nil)
+  part_leaves = leaves_beside inside (leaf K.Semicolon (t ∷ []) nil)
 
-  after-tokens : 0 + token_count before + token_count part ≡ suc i + 0
-  after-tokens =
-      let e : token_count part ≡ length (leaves inside) + 1 = tokens_leaves part ∙ ap length part-leaves ∙ length-append (leaves inside) (t ∷ []) in
+  after_tokens : 0 + token_count before + token_count part ≡ suc i + 0
+  after_tokens =
+      let e : token_count part ≡ length (leaves inside) + 1 = tokens_leaves part ∙ ap length part_leaves ∙ length-append (leaves inside) (t ∷ []) in
       let f : token_count inside ≡ length (leaves inside) = tokens_leaves inside in
       omega (arith, tokens_before)
 
-  after-bytes : 0 + width before + width part ≡ suc p + 0
+  after_bytes : 0 + width before + width part ≡ suc p + 0
   unfolding byte_count
-  after-bytes =
-      let e : width part ≡ byte_count (leaves inside) + (t.len + 0) = width_leaves part ∙ ap byte_count part-leaves ∙ bytes_append (leaves inside) (t ∷ []) in
+  after_bytes =
+      let e : width part ≡ byte_count (leaves inside) + (t.len + 0) = width_leaves part ∙ ap byte_count part_leaves ∙ bytes_append (leaves inside) (t ∷ []) in
       let f : width inside ≡ byte_count (leaves inside) = width_leaves inside in
-      omega (arith, bytes-before, one_byte)
+      omega (arith, bytes_before, one_byte)
 
-  judged-apart : judged false 0 0 (before ⊕ subtree k part later) ≡ first ++ map (shift (suc i) (suc p)) (judged false 0 0 later)
+  judged_apart : judged false 0 0 (before ⊕ subtree k part later) ≡ first ++ map (shift (suc i) (suc p)) (judged false 0 0 later)
   unfolding judged
-  judged-apart =
+  judged_apart =
       judged_beside false 0 0 before (subtree k part later)
-      ∙ (λ j. judged false 0 0 before ++ (judged_semicolon (judges k part) (0 + token_count before) (0 + width before) inside (t ∷ []) j ++ judged false (after-tokens j) (after-bytes j) later))
+      ∙ (λ j. judged false 0 0 before ++ (judged_semicolon (judges k part) (0 + token_count before) (0 + width before) inside (t ∷ []) j ++ judged false (after_tokens j) (after_bytes j) later))
       ∙ sym (append_assoc (judged false 0 0 before) _ _)
       ∙ ap (first ++◌) (judged_shifted (suc i) (suc p) false 0 0 later)
 
@@ -188,7 +188,7 @@ module _ (before : Tree) (k : ℕ) (inside : Tree) (t : Token) (later : Tree) (o
       let ahead : NameAt → NameAt = shift (suc i) (suc p) in
       let late : List NameAt = breaking (drop (suc p) bytes) (judged false 0 0 later) in
       let both : breaking bytes (judged false 0 0 (before ⊕ subtree k part later)) ≡ breaking bytes first ++ map ahead late =
-      ap (breaking bytes) judged-apart
+      ap (breaking bytes) judged_apart
       ∙ breaking_append bytes first _
       ∙ ap (breaking bytes first ++◌) (breaking_shifted (suc i) (suc p) bytes (judged false 0 0 later)) in
       record {
@@ -199,5 +199,5 @@ module _ (before : Tree) (k : ℕ) (inside : Tree) (t : Token) (later : Tree) (o
             ∙ ap (cond old []) both
             ∙ unless_both ahead old (breaking bytes first) late
             ∙ ap (λ (l : List NameAt). cond old [] (breaking bytes first) ++ map ahead l) (ap (reported setting (drop (suc p) bytes)) f ∙ sym (names_reported setting (drop (suc p) bytes) rest));
-        not_after = cond-all (All (λ n. n.first_token ≤ i)) old {x = []} {y = breaking bytes first} tt (breaking_all _ bytes first first-early);
+        not_after = cond-all (All (λ n. n.first_token ≤ i)) old {x = []} {y = breaking bytes first} tt (breaking_all _ bytes first first_early);
       }

@@ -31,7 +31,7 @@ use Rattle.rows.specs.ResultRows.{Row, raw_tokens, raw_bytes, tree_rows}
 use Rattle.recovery.specs.Recovery.{File, result, Accepted, is_statement, Semicolon, token_index, start_byte, row_number}
 use Rattle.recovery.proofs.Told.{All, told, told_join, Above}
 use Rattle.recovery.proofs.Meaning.{ends_in, closes, ends_beside}
-use Rattle.recovery.proofs.Turns.{children, Part, part_here, Found, find-in}
+use Rattle.recovery.proofs.Turns.{children, Part, part_here, Found, find_in}
 use Rattle.rows.proofs.Written.{rows_of, tokens_counted, bytes_counted}
 use Rattle.recovery.proofs.Written.{file_tokens, made_of, told_of, Wrote, wrote}
 use Rattle.recovery.proofs.Cut.{Placed, placed}
@@ -147,7 +147,7 @@ tail f h s =
     let O : One P.raw = right_last P.before P.kind P.inside P.raw P.later (subst Right P.is (children_right ts)) in
     let i : Tree = P.inside ⊕ leaf K.Semicolon P.raw nil in
     let F : Found (taken ts) (made_of f) P.later =
-    find-in P.kind i P.later (statement_closes P.kind P.inside P.raw P.statement) ts
+    find_in P.kind i P.later (statement_closes P.kind P.inside P.raw P.statement) ts
     (subst (λ (x : Tree). Part x P.kind i P.later) (sym P.is) (part_here P.before P.kind i P.later)) in
     let t : X ≡ P.before ⊕ subtree P.kind (P.inside ⊕ leaf K.Semicolon (O.token ∷ []) nil) P.later =
     P.is ∙ ap (λ (r : List Token). P.before ⊕ subtree P.kind (P.inside ⊕ leaf K.Semicolon r nil) P.later) O.is in

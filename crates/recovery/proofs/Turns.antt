@@ -130,12 +130,12 @@ found_later s u p q v G F =
     }
 
 module _ (k : ℕ) (i v : Tree) (C : closes k i ≡ true) where
-  quiet-part : (f g : Tree) → Quiet f → Part (f ⊕ g) k i v → Part g k i v
+  quiet_part : (f g : Tree) → Quiet f → Part (f ⊕ g) k i v → Part g k i v
   unfolding Quiet Part ◌⊕◌
-  quiet-part nil g q h = h
-  quiet-part (leaf j us f) g q h = quiet-part f g q h
-  quiet-part (subtree j c f) g q (inl e) = absurd (true≢false (sym C ∙ ap (λ (n : ℕ). closes n i) (sym e.0) ∙ ap (closes j) (sym e.1) ∙ q.0))
-  quiet-part (subtree j c f) g q (inr h) = quiet-part f g q.1 h
+  quiet_part nil g q h = h
+  quiet_part (leaf j us f) g q h = quiet_part f g q h
+  quiet_part (subtree j c f) g q (inl e) = absurd (true≢false (sym C ∙ ap (λ (n : ℕ). closes n i) (sym e.0) ∙ ap (closes j) (sym e.1) ∙ q.0))
+  quiet_part (subtree j c f) g q (inr h) = quiet_part f g q.1 h
 
   quiet_none : (f : Tree) → Quiet f → Part f k i v → ⊥
   unfolding Quiet Part
@@ -145,8 +145,8 @@ module _ (k : ℕ) (i v : Tree) (C : closes k i ≡ true) where
   quiet_none (subtree j c f) q (inr h) = quiet_none f q.1 h
 
   -- the statement is the last part of f, or stands after it
-  last-part : (f g : Tree) → Last f → Part (f ⊕ g) k i v → (g ≡ v) ⊎ Part g k i v
-  last-part f g l h = go (quiet-part l.others (subtree l.kind l.inner nil ⊕ g) l.quiet (subst (λ (x : Tree). Part x k i v) (ap (◌⊕ g) l.is ∙ beside_assoc l.others _ g) h))
+  last_part : (f g : Tree) → Last f → Part (f ⊕ g) k i v → (g ≡ v) ⊎ Part g k i v
+  last_part f g l h = go (quiet_part l.others (subtree l.kind l.inner nil ⊕ g) l.quiet (subst (λ (x : Tree). Part x k i v) (ap (◌⊕ g) l.is ∙ beside_assoc l.others _ g) h))
     where
       go : Part (subtree l.kind l.inner nil ⊕ g) k i v → (g ≡ v) ⊎ Part g k i v
       go h = unfold Part ◌⊕◌ in ⊎_elim (λ e. inl e.2) (λ x. inr x) h
@@ -168,7 +168,7 @@ module _ (k : ℕ) (i v : Tree) (C : closes k i ≡ true) where
       let h' : Part (place p ts ⊕ children q (after p ts)) k i v = subst (λ (x : Tree). Part x k i v) (children_join p q ts) h in
       let on : Part (children q (after p ts)) k i v → Found s (p ⧺ q) v = λ x. found_later s u p q v (exec_goes MOST_OPEN_CALLS no_label sourcefile_turn s A.stands) (ih x) in
       ⊎_elim
-      (λ x. on (quiet-part (place p ts) _ x h'))
+      (λ x. on (quiet_part (place p ts) _ x h'))
       (λ x.
       let S : Sealed s ts p u = x.1 in
       let fresh : q ≡ run_entry SourceFile S.rest = ap (onward n) S.is ∙ onward_fresh n S.rest (subst (λ (w : State). length w.rest < n) S.is l) in
@@ -182,7 +182,7 @@ module _ (k : ℕ) (i v : Tree) (C : closes k i ≡ true) where
         less = S.less;
         beyond = sym e ∙ ap (children q) S.exact ∙ ap (λ (r : Skeleton). children r S.rest) fresh;
       })
-      on (last-part (place p ts) _ x.0 h'))
+      on (last_part (place p ts) _ x.0 h'))
       (parts_of s ts T)
 
   -- what is left over has no statement in it
@@ -190,7 +190,7 @@ module _ (k : ℕ) (i v : Tree) (C : closes k i ≡ true) where
   unfolding children
   swept s ts A h =
       let w : List Token = after (sweep s).made ts in
-      quiet_none (lead w) (lead_quiet w) (quiet-part (place (sweep s).made ts) (lead w) (left_over_holds s ts A).part h)
+      quiet_none (lead w) (lead_quiet w) (quiet_part (place (sweep s).made ts) (lead w) (left_over_holds s ts A).part h)
 
   -- a turn after which it does not
   stops : (s : State) (ts : List Token) → At s ts → Turned s ts → goes_on s (turn s) ≡ false → Part (children ((turn s).made ⧺ (sweep (turn s).state).made) ts) k i v → ⊥
@@ -198,7 +198,7 @@ module _ (k : ℕ) (i v : Tree) (C : closes k i ≡ true) where
       let p : Skeleton = (turn s).made in
       let u : State = (turn s).state in
       let A' : At u (after p ts) = at_after s u ts p A (exec_goes MOST_OPEN_CALLS no_label sourcefile_turn s A.stands) in
-      let quiet : Quiet (place p ts) → ⊥ = λ x. swept u (after p ts) A' (quiet-part (place p ts) _ x (subst (λ (z : Tree). Part z k i v) (children_join p (sweep u).made ts) h)) in
+      let quiet : Quiet (place p ts) → ⊥ = λ x. swept u (after p ts) A' (quiet_part (place p ts) _ x (subst (λ (z : Tree). Part z k i v) (children_join p (sweep u).made ts) h)) in
       ⊎_elim quiet
       (λ x.
       ⊎_elim
@@ -226,7 +226,7 @@ module _ (k : ℕ) (i v : Tree) (C : closes k i ≡ true) where
       (λ b. absurd (stops s ts A T b (subst (λ (r : Skeleton). Part (children r ts) k i v) (onward_last n s b) h)))
 
   -- WHAT FOLLOWS A STATEMENT in a file
-  pub find-in : (ts : List Token) → Part (children (run_entry SourceFile ts) ts) k i v → Found (taken ts) (run_entry SourceFile ts) v
-  find-in ts h =
+  pub find_in : (ts : List Token) → Part (children (run_entry SourceFile ts) ts) k i v → Found (taken ts) (run_entry SourceFile ts) v
+  find_in ts h =
       subst (λ (r : Skeleton). Found (taken ts) r v) (sym (entry_onward ts))
       (find (suc (length ts)) (taken ts) ts (record { stands = stands_taken ts; same = refl }) (le_refl _) (subst (λ (r : Skeleton). Part (children r ts) k i v) (entry_onward ts) h))

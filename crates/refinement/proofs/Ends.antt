@@ -118,23 +118,23 @@ module _ (setting : ℕ) (e : Entry) (bytes tokens : List ℕ) (b : Buffers) (m 
   ends : Ends ts o b.events b.reports b.pool (scan (pushes o) (room_of b)) m
   ends = subst (λ (x : Machine). Ends ts o b.events b.reports b.pool (scan (pushes o) (room_of b)) x) (sym parsed) (entry_ends e bytes tokens b.events b.reports b.pool ok)
 
-  parse-by : (f : Fit) → scan (pushes o) (room_of b) ≡ f → parse e setting bytes ts b ≡ outcome f e ts o l b
+  parse_by : (f : Fit) → scan (pushes o) (room_of b) ≡ f → parse e setting bytes ts b ≡ outcome f e ts o l b
   unfolding parse
-  parse-by f h = ap (λ (x : Fit). outcome x e ts o l b) h
+  parse_by f h = ap (λ (x : Fit). outcome x e ts o l b) h
 
   ends_by : (f : Fit) → scan (pushes o) (room_of b) ≡ f → Ends ts o b.events b.reports b.pool f m
   ends_by f h = subst (λ (x : Fit). Ends ts o b.events b.reports b.pool x m) h ends
 
   -- ---------------------------------------------------------------- causes 5 to 7
 
-  refused-ends : (f : Fit) → scan (pushes o) (room_of b) ≡ f → (m.refusal ≡ 0 → ⊥) → (c : Buffers) → SameLengths b c
+  refused_ends : (f : Fit) → scan (pushes o) (room_of b) ≡ f → (m.refusal ≡ 0 → ⊥) → (c : Buffers) → SameLengths b c
       → swept (refused_at m.refusal m.place) c ≡ parse e setting bytes ts b
   unfolding outcome
-  refused-ends (fits x) h n c s = let a : NotRefused ts o b.events b.reports b.pool m = ends_by (fits x) h in absurd (n a.refusal)
-  refused-ends (stops r) h n c s =
+  refused_ends (fits x) h n c s = let a : NotRefused ts o b.events b.reports b.pool m = ends_by (fits x) h in absurd (n a.refusal)
+  refused_ends (stops r) h n c s =
       let a : Refused ts r m = ends_by (stops r) h in
       swept_refused m.refusal m.place (forward_mark (length ts) r) b c (a.refusal ∙ sym (forward_number (length ts) r)) a.place s
-      ∙ sym (parse-by (stops r) h)
+      ∙ sym (parse_by (stops r) h)
 
   -- ---------------------------------------------------------------- nothing refused
 
@@ -147,12 +147,12 @@ module _ (setting : ℕ) (e : Entry) (bytes tokens : List ℕ) (b : Buffers) (m 
 
   went : (f : Fit) → scan (pushes o) (room_of b) ≡ f → m.refusal ≡ 0 → Went
   unfolding outcome
-  went (fits x) h q = record { left = x; fitted = h; whole = ends_by (fits x) h; parses = parse-by (fits x) h }
+  went (fits x) h q = record { left = x; fitted = h; whole = ends_by (fits x) h; parses = parse_by (fits x) h }
   went (stops r) h q = let a : Refused ts r m = ends_by (stops r) h in absurd (omega (arith, a.some))
 
   -- the events that the sink and the Names' reports are given encode the skeleton
-  given-events : NotRefused ts o b.events b.reports b.pool m → take m.events.count m.events.numbers ≡ encode false o
-  given-events a = held_front (encode false o) b.events m.events a.events_hold
+  given_events : NotRefused ts o b.events b.reports b.pool m → take m.events.count m.events.numbers ≡ encode false o
+  given_events a = held_front (encode false o) b.events m.events a.events_hold
 
   small : Small o tokens
   small =
@@ -164,8 +164,8 @@ module _ (setting : ℕ) (e : Entry) (bytes tokens : List ℕ) (b : Buffers) (m 
       }
 
   -- the rows of a tree, of lexical errors and of reports are whole
-  trees-in : (c : List ℕ) → c ≡ onto R b.trees → RowsIn TREE_ROW (length R / TREE_ROW) R c
-  trees-in c h =
+  trees_in : (c : List ℕ) → c ≡ onto R b.trees → RowsIn TREE_ROW (length R / TREE_ROW) R c
+  trees_in c h =
       let w : length R / TREE_ROW * TREE_ROW ≡ length R = omega (arith, rows_length (root (root_kind e) o ts) 0 0) in
       record { count = refl; whole = w; numbers = onto_front R b.trees c _ h w }
 
@@ -183,11 +183,11 @@ module _ (setting : ℕ) (e : Entry) (bytes tokens : List ℕ) (b : Buffers) (m 
   abbrev Q : List ℕ
   Q = name_numbers expectations l
 
-  P-length : length P ≡ REPORT_ROW * length (reports (pushes o))
-  P-length = report_numbers_length (length ts) (byte_count ts) 0 (reports (pushes o))
+  P_length : length P ≡ REPORT_ROW * length (reports (pushes o))
+  P_length = report_numbers_length (length ts) (byte_count ts) 0 (reports (pushes o))
 
-  Q-length : length Q ≡ REPORT_ROW * length l
-  Q-length = name_numbers_length expectations l
+  Q_length : length Q ≡ REPORT_ROW * length l
+  Q_length = name_numbers_length expectations l
 
   -- the report rows that the run left are those that still fit
   rows_left : (g : Went) → Leaves m.reports.count g.left.reports m.reports.numbers
@@ -195,11 +195,11 @@ module _ (setting : ℕ) (e : Entry) (bytes tokens : List ℕ) (b : Buffers) (m 
       let h : StartsWith P b.reports m.reports = g.whole.reports_hold in
       let f : length b.reports / REPORT_ROW ≡ g.left.reports + length (reports (pushes o)) = fits_left (pushes o) (room_of b) g.left g.fitted in
       let n : length m.reports.numbers ≡ length b.reports = held_length P b.reports m.reports h in
-      record { enough = omega (arith, h.count, P-length); no_more = omega (arith, h.count, P-length) }
+      record { enough = omega (arith, h.count, P_length); no_more = omega (arith, h.count, P_length) }
 
   -- the first pool place of the Names' reports is no large number
-  pool-low : (g : Went) → low m.pool.count ≡ expectations
-  pool-low g =
+  pool_low : (g : Went) → low m.pool.count ≡ expectations
+  pool_low g =
       let c : Checked bytes tokens = checked_input bytes tokens ok in
       let k : m.pool.count ≡ expectations = g.whole.pool_holds.count in
       let n : expectations ≤ _ = (bounded e ts).pool_so_far (pushes o) [] (sym (append-nil (pushes o))) in
@@ -209,8 +209,8 @@ module _ (setting : ℕ) (e : Entry) (bytes tokens : List ℕ) (b : Buffers) (m 
     abbrev c : Buffers
     c = after_all trees errors reports' m
 
-    same-lengths : SameLengths b c
-    same-lengths =
+    same_lengths : SameLengths b c
+    same_lengths =
         record {
           events = held_length (encode false o) b.events m.events g.whole.events_hold;
           trees = after.trees_length;
@@ -220,10 +220,10 @@ module _ (setting : ℕ) (e : Entry) (bytes tokens : List ℕ) (b : Buffers) (m 
         }
 
     named : Named l expectations m.reports.count m.reports.numbers w reports'
-    named = subst (λ (n : ℕ). Named l n m.reports.count m.reports.numbers w reports') (pool-low g) (after.named e refl ok (given-events g.whole))
+    named = subst (λ (n : ℕ). Named l n m.reports.count m.reports.numbers w reports') (pool_low g) (after.named e refl ok (given_events g.whole))
 
     placed : Placed (root_kind e) o tokens b.trees b.errors s trees errors
-    placed = after.sunk o (given-events g.whole) (entry_chained e ts) small
+    placed = after.sunk o (given_events g.whole) (entry_chained e ts) small
 
     -- all reports fit, and follow those of the run
     module _ (f : Follow l expectations m.reports.count m.reports.numbers w reports') where
@@ -233,53 +233,53 @@ module _ (setting : ℕ) (e : Entry) (bytes tokens : List ℕ) (b : Buffers) (m 
       reports_in : RowsIn REPORT_ROW (w.written / REPORT_ROW) (P ++ Q) reports'
       reports_in =
           let n : length (P ++ Q) ≡ length P + length Q = length-append P Q in
-          let k : w.written ≡ length (P ++ Q) = omega (arith, f.count, h.count, Q-length) in
-          let whole : w.written / REPORT_ROW * REPORT_ROW ≡ w.written = omega (arith, P-length, Q-length) in
+          let k : w.written ≡ length (P ++ Q) = omega (arith, f.count, h.count, Q_length) in
+          let whole : w.written / REPORT_ROW * REPORT_ROW ≡ w.written = omega (arith, P_length, Q_length) in
           record {
             count = omega arith;
             whole = whole ∙ k;
             numbers = ap (λ (x : ℕ). take x reports') whole ∙ f.rows ∙ ap (λ (x : List ℕ). x ++ Q) (held_front P b.reports m.reports h);
           }
 
-      sunk-ends : (x : Bool) → enough R L b.trees b.errors ≡ x
+      sunk_ends : (x : Bool) → enough R L b.trees b.errors ≡ x
           → swept (sunk_answer s w.written m.pool.count) c ≡ cond x (kept z b) (cleared no_tree_room b)
       unfolding sheets
-      sunk-ends true k =
+      sunk_ends true k =
           let out : WrittenOut R L b.trees b.errors s trees errors = placed.fits k in
           let q = g.whole.pool_holds in
           ap (λ (y : Sunk). swept (sunk_answer y w.written m.pool.count) c) out.counts
-          ∙ swept_kept z b c (length R / TREE_ROW) (length L / ERROR_ROW) (w.written / REPORT_ROW) m.pool.count same-lengths
-          (trees-in trees out.rows) (errors_in errors out.lexical) reports_in
+          ∙ swept_kept z b c (length R / TREE_ROW) (length L / ERROR_ROW) (w.written / REPORT_ROW) m.pool.count same_lengths
+          (trees_in trees out.rows) (errors_in errors out.lexical) reports_in
           q.count (held_front (pool (reports (pushes o))) b.pool m.pool q)
-      sunk-ends false k =
+      sunk_ends false k =
           ap (λ (y : Sunk). swept (sunk_answer y w.written m.pool.count) c) (placed.lacks k)
-          ∙ swept_refused (number_of no_tree_room) (place_of no_tree_room) no_tree_room b c refl refl same-lengths
+          ∙ swept_refused (number_of no_tree_room) (place_of no_tree_room) no_tree_room b c refl refl same_lengths
 
-      delivered-ends : swept (last_answer s w m) c ≡ delivered z b
+      delivered_ends : swept (last_answer s w m) c ≡ delivered z b
       unfolding delivered sheets
-      delivered-ends =
+      delivered_ends =
           ap (λ (n : ℕ). swept (cond (eqb n 0) (sunk_answer s w.written m.pool.count) (refused_at n w.place)) c) f.refusal
-          ∙ sunk-ends (enough R L b.trees b.errors) refl
+          ∙ sunk_ends (enough R L b.trees b.errors) refl
 
     by_names : (v : Verdict) → names_fit g.left.reports l ≡ v → swept (last_answer s w m) c ≡ unless_refused v z b
     unfolding unless_refused
-    by_names accepted v = delivered-ends (named.fits g.left.reports (rows_left g) v)
+    by_names accepted v = delivered_ends (named.fits g.left.reports (rows_left g) v)
     by_names (refused r) v =
         let q : (k : ℕ) × (r ≡ no_report_room k) = name_refused g.left.reports l r v in
         let t : Stop q.0 w = named.lacks g.left.reports q.0 (rows_left g) (v ∙ ap refused q.1) in
         ap (λ (n : ℕ). swept (cond (eqb n 0) (sunk_answer s w.written m.pool.count) (refused_at n w.place)) c) t.refusal
-        ∙ (unfold number_of place_of in swept_refused (number_of (no_report_room q.0)) w.place (no_report_room q.0) b c refl t.place same-lengths)
+        ∙ (unfold number_of place_of in swept_refused (number_of (no_report_room q.0)) w.place (no_report_room q.0) b c refl t.place same_lengths)
         ∙ ap (λ (y : Refusal). cleared y b) (sym q.1)
 
-    all-ended : swept (last_answer s w m) c ≡ parse e setting bytes ts b
-    all-ended = by_names (names_fit g.left.reports l) refl ∙ sym g.parses
+    all_ended : swept (last_answer s w m) c ≡ parse e setting bytes ts b
+    all_ended = by_names (names_fit g.left.reports l) refl ∙ sym g.parses
 
 -- THE CALL'S END
 pub calls_end : CallsEnd
 calls_end setting e bytes tokens b m ok parsed =
     let gone = went setting e bytes tokens b m ok parsed (scan (pushes (run_entry e (tokens_of tokens))) (room_of b)) refl in
     record {
-      refused = refused-ends setting e bytes tokens b m ok parsed (scan (pushes (run_entry e (tokens_of tokens))) (room_of b)) refl;
+      refused = refused_ends setting e bytes tokens b m ok parsed (scan (pushes (run_entry e (tokens_of tokens))) (room_of b)) refl;
       events_inside = λ q. let h = (gone q).whole.events_hold in omega (arith, h.count, h.inside);
-      ended = λ q. all-ended setting e bytes tokens b m ok parsed (gone q);
+      ended = λ q. all_ended setting e bytes tokens b m ok parsed (gone q);
     }

@@ -6,7 +6,7 @@
 -- 3. Ends: by what `scan` says. A refusal of 5 to 7 clears every buffer. Otherwise the event buffer encodes the
 --    skeleton, so the sink's promise (crates/sink) holds of it: both buffers are long enough, and each holds what
 --    `kept` says, or cause 8 clears them all.
--- The exported contract is then one step: `finished`, `sound-call` and their like of crates/call.
+-- The exported contract is then one step: `finished`, `sound_call` and their like of crates/call.
 pub mod Machine
 pub mod Wiped
 pub mod Ends

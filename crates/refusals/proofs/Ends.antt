@@ -51,8 +51,8 @@ not_0 k (inl h) = h.0
 not_0 k (inr h) = omega (arith, h.0)
 
 module _ (n setting : ℕ) (bytes tokens : List ℕ) (b : Buffers) where
-  pub left-as-it-was : (r : Refusal) → BeforeTheParse (number_of r) → Returns n setting bytes tokens b (untouched r b)
-  left-as-it-was r h =
+  pub left_as_it_was : (r : Refusal) → BeforeTheParse (number_of r) → Returns n setting bytes tokens b (untouched r b)
+  left_as_it_was r h =
       record {
         listed = inr (inl h);
         accepted = λ e. absurd (omega (arith, e, not_0 (number_of r) h));
@@ -63,8 +63,8 @@ module _ (n setting : ℕ) (bytes tokens : List ℕ) (b : Buffers) where
         lengths = record { events = refl; trees = refl; errors = refl; reports = refl; pool = refl };
       }
 
-  pub left-zero : (r : Refusal) → InTheParse (number_of r) → Returns n setting bytes tokens b (cleared r b)
-  left-zero r h =
+  pub left_zero : (r : Refusal) → InTheParse (number_of r) → Returns n setting bytes tokens b (cleared r b)
+  left_zero r h =
       record {
         listed = inr (inr h);
         accepted = λ e. absurd (omega (arith, e, h.0));
@@ -132,10 +132,10 @@ names_room zero (x ∷ l) h = let q : ◌≡◌ {A = ℕ} 0 1 = cc in absurd (om
 names_room (suc room) (x ∷ l) h = omega (arith, names_room room l h)
 
 module _ (n setting : ℕ) (bytes tokens : List ℕ) (b : Buffers) where
-  pub left-written : (e : Entry) → entry_number e ≡ n → (z : Room) → scan (pushes (run_entry e (tokens_of tokens))) (room_of b) ≡ fits z → names_fit z.reports (named setting e bytes tokens) ≡ accepted
+  pub left_written : (e : Entry) → entry_number e ≡ n → (z : Room) → scan (pushes (run_entry e (tokens_of tokens))) (room_of b) ≡ fits z → names_fit z.reports (named setting e bytes tokens) ≡ accepted
       → TreeFits setting e bytes tokens b → Returns n setting bytes tokens b (kept (to_write setting e bytes tokens) b)
   unfolding sheets
-  left-written e h z f v t =
+  left_written e h z f v t =
       record {
         listed = inl refl;
         accepted = λ q. (e, h, w);

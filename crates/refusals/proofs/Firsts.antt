@@ -7,30 +7,30 @@ use Rattle.refusals.specs.First.{Each, First}
 
 module _ {A : Type 0} (P : List A → A → Type 0) where
   -- the same two, of a list after other members
-  abbrev pub Each-after : List A → List A → Type 0
-  Each-after pre l = (before : List A) (x : A) (after : List A) → l ≡ before ++ (x ∷ after) → P (pre ++ before) x
+  abbrev pub EachAfter : List A → List A → Type 0
+  EachAfter pre l = (before : List A) (x : A) (after : List A) → l ≡ before ++ (x ∷ after) → P (pre ++ before) x
 
   pub record First-after (pre l before : List A) (x : A) : Type 0 where
     pub after : List A
     pub stands : l ≡ before ++ (x ∷ after)
-    pub each_before : Each-after pre before
+    pub each_before : EachAfter pre before
     pub fails : ¬ P (pre ++ before) x
 
-  pub each_nil : (pre : List A) → Each-after pre []
+  pub each_nil : (pre : List A) → EachAfter pre []
   each_nil pre [] x after e = absurd (none_some e)
   each_nil pre (y ∷ before) x after e = absurd (none_some e)
 
-  pub each-cons : (pre : List A) (x : A) (l : List A) → P pre x → Each-after (pre ++ (x ∷ [])) l → Each-after pre (x ∷ l)
-  each-cons pre x l h g [] y after e = subst₂ P (sym (append-nil pre)) (first_same e) h
-  each-cons pre x l h g (z ∷ before) y after e =
+  pub each_cons : (pre : List A) (x : A) (l : List A) → P pre x → EachAfter (pre ++ (x ∷ [])) l → EachAfter pre (x ∷ l)
+  each_cons pre x l h g [] y after e = subst₂ P (sym (append-nil pre)) (first_same e) h
+  each_cons pre x l h g (z ∷ before) y after e =
       subst (λ (w : List A). P w y) (append_assoc pre (x ∷ []) before ∙ ap (λ (w : A). pre ++ (w ∷ before)) (first_same e))
       (g before y after (rest_same e))
 
-  pub each-rest : (pre : List A) (x : A) (l : List A) → Each-after pre (x ∷ l) → Each-after (pre ++ (x ∷ [])) l
-  each-rest pre x l h before y after e = subst (λ (w : List A). P w y) (sym (append_assoc pre (x ∷ []) before)) (h (x ∷ before) y after (ap (x ∷◌) e))
+  pub each_rest : (pre : List A) (x : A) (l : List A) → EachAfter pre (x ∷ l) → EachAfter (pre ++ (x ∷ [])) l
+  each_rest pre x l h before y after e = subst (λ (w : List A). P w y) (sym (append_assoc pre (x ∷ []) before)) (h (x ∷ before) y after (ap (x ∷◌) e))
 
-  pub first-here : (pre : List A) (x : A) (l : List A) → ¬ P pre x → First-after pre (x ∷ l) [] x
-  first-here pre x l h =
+  pub first_here : (pre : List A) (x : A) (l : List A) → ¬ P pre x → First-after pre (x ∷ l) [] x
+  first_here pre x l h =
       record { after = l; stands = refl; each_before = each_nil pre; fails = λ (p : P (pre ++ []) x). h (subst (λ (w : List A). P w x) (append-nil pre) p) }
 
   pub first_later : (pre : List A) (x : A) (l before : List A) (y : A) → P pre x → First-after (pre ++ (x ∷ [])) l before y → First-after pre (x ∷ l) (x ∷ before) y
@@ -38,7 +38,7 @@ module _ {A : Type 0} (P : List A → A → Type 0) where
       record {
         after = f.after;
         stands = ap (x ∷◌) f.stands;
-        each_before = each-cons pre x before h f.each_before;
+        each_before = each_cons pre x before h f.each_before;
         fails = λ (p : P (pre ++ (x ∷ before)) y). f.fails (subst (λ (w : List A). P w y) (sym (append_assoc pre (x ∷ []) before)) p);
       }
 

@@ -23,8 +23,8 @@ use Rattle.refusals.specs.Refusals.{Passes1, Sizes, Passes2, WholeRows, Passes3,
 use Rattle.refusals.specs.Answered.{BeforeTheParse, InTheParse, Returns}
 use Rattle.refusals.proofs.Climbs.{the_65th}
 use Rattle.refusals.proofs.Judged.{refusal_for, Ends, all_fits, first_stops, run_ends}
-use Rattle.refusals.proofs.Named.{Names, all_reported, first_left, judged-names}
-use Rattle.refusals.proofs.Ends.{left-as-it-was, left-zero, left-written}
+use Rattle.refusals.proofs.Named.{Names, all_reported, first_left, judged_names}
+use Rattle.refusals.proofs.Ends.{left_as_it_was, left_zero, left_written}
 use Rattle.refusals.proofs.Tests.{Decides, holds, not_so, both, leb_decides}
 use Rattle.refusals.proofs.Rows.{sizes_decides, whole_decides, Wrong, its_kind, its_length, its_end, Rows, good_rows, bad_one, too_short, judged_rows}
 use Rattle.refusals.proofs.Texts.{Texts, right_texts, wrong_one, judged_texts}
@@ -39,75 +39,75 @@ module _ (n setting : ℕ) (bytes tokens : List ℕ) (b : Buffers) where
   Found x = Cause n setting bytes tokens b x.answer.number x.answer.place × Returns n setting bytes tokens b x
 
   -- a refusal whose cause is there, before the parse and in it
-  refused-found : (r : Refusal) → BeforeTheParse (number_of r) → Cause n setting bytes tokens b (number_of r) (place_of r) → Found (untouched r b)
-  refused-found r h c = (c, left-as-it-was n setting bytes tokens b r h)
+  refused_found : (r : Refusal) → BeforeTheParse (number_of r) → Cause n setting bytes tokens b (number_of r) (place_of r) → Found (untouched r b)
+  refused_found r h c = (c, left_as_it_was n setting bytes tokens b r h)
 
-  zero-found : (r : Refusal) → InTheParse (number_of r) → Cause n setting bytes tokens b (number_of r) (place_of r) → Found (cleared r b)
-  zero-found r h c = (c, left-zero n setting bytes tokens b r h)
+  zero_found : (r : Refusal) → InTheParse (number_of r) → Cause n setting bytes tokens b (number_of r) (place_of r) → Found (cleared r b)
+  zero_found r h c = (c, left_zero n setting bytes tokens b r h)
 
   first_found : (e : Entry) → Passes4 n bytes tokens e → (before : List Happening) (x : Happening) → First (Unrefused b) (happens e tokens) before x → Found (cleared (forward_mark (length (tokens_of tokens)) (refusal_for x)) b)
   unfolding forward_mark number_of place_of
-  first_found e p before (call_opened c m) f = zero-found (too_deep (from_start tokens m)) (omega arith, omega arith)
+  first_found e p before (call_opened c m) f = zero_found (too_deep (from_start tokens m)) (omega arith, omega arith)
       (call_too_many e p before m (subst (λ (k : ℕ). FirstMet e tokens b before (call_opened k m)) (the_65th b e tokens before c m f) f))
-  first_found e p before (event_pushed m) f = zero-found (R.no_event_room (from_start tokens m)) (omega arith, omega arith) (no_event_room e p before m f)
-  first_found e p before (report_written c m) f = zero-found (R.no_report_room (from_start tokens m)) (omega arith, omega arith) (no_report_room e p before c m f)
+  first_found e p before (event_pushed m) f = zero_found (R.no_event_room (from_start tokens m)) (omega arith, omega arith) (no_event_room e p before m f)
+  first_found e p before (report_written c m) f = zero_found (R.no_report_room (from_start tokens m)) (omega arith, omega arith) (no_report_room e p before c m f)
 
-  tree-found : (e : Entry) → Passes7 n setting bytes tokens b e → (z : Room) → scan (pushes (run_entry e (tokens_of tokens))) (room_of b) ≡ fits z → names_fit z.reports (named setting e bytes tokens) ≡ accepted
+  tree_found : (e : Entry) → Passes7 n setting bytes tokens b e → (z : Room) → scan (pushes (run_entry e (tokens_of tokens))) (room_of b) ≡ fits z → names_fit z.reports (named setting e bytes tokens) ≡ accepted
       → (t : Bool) → Decides (TreeFits setting e bytes tokens b) t
       → Found (cond t (kept (to_write setting e bytes tokens) b) (cleared R.no_tree_room b))
   unfolding number_of place_of
-  tree-found e p z q v t (holds g) = (none e p g, left-written n setting bytes tokens b e p.0.0.0.0.0 z q v g)
-  tree-found e p z q v t (not_so g) = zero-found R.no_tree_room (omega arith, omega arith) (no_tree_room e p g)
+  tree_found e p z q v t (holds g) = (none e p g, left_written n setting bytes tokens b e p.0.0.0.0.0 z q v g)
+  tree_found e p z q v t (not_so g) = zero_found R.no_tree_room (omega arith, omega arith) (no_tree_room e p g)
 
-  names-found : (e : Entry) → Passes4 n bytes tokens e → (z : Room) → scan (pushes (run_entry e (tokens_of tokens))) (room_of b) ≡ fits z → Each (Unrefused b) (happens e tokens)
+  names_found : (e : Entry) → Passes4 n bytes tokens e → (z : Room) → scan (pushes (run_entry e (tokens_of tokens))) (room_of b) ≡ fits z → Each (Unrefused b) (happens e tokens)
       → (v : Verdict) → names_fit z.reports (named setting e bytes tokens) ≡ v → Names e tokens b (named setting e bytes tokens) v → Found (unless_refused v (to_write setting e bytes tokens) b)
   unfolding unless_refused delivered number_of place_of
-  names-found e p z q h v w (all_reported g) = tree-found e (p, h, g) z q w _ (tree_decides setting bytes tokens b e)
-  names-found e p z q h v w (first_left before x f) = zero-found (R.no_report_room x.first_token) (omega arith, omega arith) (no_name_room e p h before x f)
+  names_found e p z q h v w (all_reported g) = tree_found e (p, h, g) z q w _ (tree_decides setting bytes tokens b e)
+  names_found e p z q h v w (first_left before x f) = zero_found (R.no_report_room x.first_token) (omega arith, omega arith) (no_name_room e p h before x f)
 
-  run-found : (e : Entry) → Passes4 n bytes tokens e → (f : Fit) → scan (pushes (run_entry e (tokens_of tokens))) (room_of b) ≡ f → Ends b (happens e tokens) f
+  run_found : (e : Entry) → Passes4 n bytes tokens e → (f : Fit) → scan (pushes (run_entry e (tokens_of tokens))) (room_of b) ≡ f → Ends b (happens e tokens) f
       → Found (outcome f e (tokens_of tokens) (run_entry e (tokens_of tokens)) (named setting e bytes tokens) b)
   unfolding outcome
-  run-found e p f q (all_fits z r h) =
-      names-found e p z q h (names_fit z.reports (named setting e bytes tokens)) refl (judged-names e tokens b z r (named setting e bytes tokens))
-  run-found e p f q (first_stops before x h) = first_found e p before x h
+  run_found e p f q (all_fits z r h) =
+      names_found e p z q h (names_fit z.reports (named setting e bytes tokens)) refl (judged_names e tokens b z r (named setting e bytes tokens))
+  run_found e p f q (first_stops before x h) = first_found e p before x h
 
-  texts-found : (e : Entry) → Passes13 n bytes tokens e → (v : Verdict) → Texts bytes (tokens_of tokens) v → Found (checked v e setting bytes tokens b)
+  texts_found : (e : Entry) → Passes13 n bytes tokens e → (v : Verdict) → Texts bytes (tokens_of tokens) v → Found (checked v e setting bytes tokens b)
   unfolding checked parse number_of place_of
-  texts-found e p v (right_texts h) = run-found e (p, h) _ refl (run_ends b e tokens)
-  texts-found e p v (wrong_one before t f) = refused-found (bad_text (length before)) (inl (omega arith, omega arith)) (wrong_text e p before t f)
+  texts_found e p v (right_texts h) = run_found e (p, h) _ refl (run_ends b e tokens)
+  texts_found e p v (wrong_one before t f) = refused_found (bad_text (length before)) (inl (omega arith, omega arith)) (wrong_text e p before t f)
 
-  wrong-found : (e : Entry) → Passes3 n bytes tokens e → (before : List Token) (t : Token) (r : Refusal) → First (GoodRow bytes) (tokens_of tokens) before t → Wrong bytes before t r
+  wrong_found : (e : Entry) → Passes3 n bytes tokens e → (before : List Token) (t : Token) (r : Refusal) → First (GoodRow bytes) (tokens_of tokens) before t → Wrong bytes before t r
       → Found (untouched r b)
   unfolding number_of place_of
-  wrong-found e p before t r f (its_kind h) = refused-found (R.bad_kind (length before)) (inr (omega arith, omega arith)) (bad_kind e p before t f h)
-  wrong-found e p before t r f (its_length k h) = refused-found (R.zero_length (length before)) (inr (omega arith, omega arith)) (zero_length e p before t f k h)
-  wrong-found e p before t r f (its_end k l h) = refused-found (R.past_input (length before)) (inr (omega arith, omega arith)) (past_input e p before t f k l h)
+  wrong_found e p before t r f (its_kind h) = refused_found (R.bad_kind (length before)) (inr (omega arith, omega arith)) (bad_kind e p before t f h)
+  wrong_found e p before t r f (its_length k h) = refused_found (R.zero_length (length before)) (inr (omega arith, omega arith)) (zero_length e p before t f k h)
+  wrong_found e p before t r f (its_end k l h) = refused_found (R.past_input (length before)) (inr (omega arith, omega arith)) (past_input e p before t f k l h)
 
-  rows-found : (e : Entry) → Passes3 n bytes tokens e → (v : Verdict) → Rows bytes (tokens_of tokens) v → Found (checked (v or_else check_texts 0 bytes (tokens_of tokens)) e setting bytes tokens b)
+  rows_found : (e : Entry) → Passes3 n bytes tokens e → (v : Verdict) → Rows bytes (tokens_of tokens) v → Found (checked (v or_else check_texts 0 bytes (tokens_of tokens)) e setting bytes tokens b)
   unfolding checked ◌or_else◌ number_of place_of
-  rows-found e p v (good_rows h c) = texts-found e (p, h, c) _ (judged_texts bytes (tokens_of tokens))
-  rows-found e p v (bad_one before t r f w) = wrong-found e p before t r f w
-  rows-found e p v (too_short h c) = refused-found (R.short_total (length (tokens_of tokens))) (inr (omega arith, omega arith)) (short_total e p h c)
+  rows_found e p v (good_rows h c) = texts_found e (p, h, c) _ (judged_texts bytes (tokens_of tokens))
+  rows_found e p v (bad_one before t r f w) = wrong_found e p before t r f w
+  rows_found e p v (too_short h c) = refused_found (R.short_total (length (tokens_of tokens))) (inr (omega arith, omega arith)) (short_total e p h c)
 
-  count-found : (e : Entry) → Passes2 n bytes tokens e → (t : Bool) → Decides (WholeRows tokens) t
+  count_found : (e : Entry) → Passes2 n bytes tokens e → (t : Bool) → Decides (WholeRows tokens) t
       → Found (checked (unless t (R.odd_count (length tokens / TOKEN_ROW)) or_else (check_rows 0 0 (length bytes) (tokens_of tokens) or_else check_texts 0 bytes (tokens_of tokens))) e setting bytes tokens b)
   unfolding checked ◌or_else◌ number_of place_of
-  count-found e p t (holds h) = rows-found e (p, h) _ (judged_rows bytes (tokens_of tokens))
-  count-found e p t (not_so h) =
-      refused-found (R.odd_count (length tokens / TOKEN_ROW)) (inl (omega arith, omega arith))
+  count_found e p t (holds h) = rows_found e (p, h) _ (judged_rows bytes (tokens_of tokens))
+  count_found e p t (not_so h) =
+      refused_found (R.odd_count (length tokens / TOKEN_ROW)) (inl (omega arith, omega arith))
       (subst (Cause n setting bytes tokens b 3) (tokens_length tokens) (odd_count e p h))
 
-  sizes-found : (e : Entry) → Passes1 n e → (t : Bool) → Decides (Sizes bytes tokens) t
+  sizes_found : (e : Entry) → Passes1 n e → (t : Bool) → Decides (Sizes bytes tokens) t
       → Found (checked (unless t too_long or_else (check_count tokens or_else (check_rows 0 0 (length bytes) (tokens_of tokens) or_else check_texts 0 bytes (tokens_of tokens)))) e setting bytes tokens b)
   unfolding checked ◌or_else◌ check_count number_of place_of
-  sizes-found e p t (holds h) = count-found e (p, h) _ (whole_decides tokens)
-  sizes-found e p t (not_so h) = refused-found too_long (inl (omega arith, omega arith)) (over_size e p h)
+  sizes_found e p t (holds h) = count_found e (p, h) _ (whole_decides tokens)
+  sizes_found e p t (not_so h) = refused_found too_long (inl (omega arith, omega arith)) (over_size e p h)
 
   entry_found : (x : Asked) → Asks n x → Found (asked x setting bytes tokens b)
   unfolding asked check_input check_sizes number_of place_of
-  entry_found x (known e p) = sizes-found e p _ (sizes_decides bytes tokens)
-  entry_found x (not_known h) = refused-found R.unknown_entry (inl (omega arith, omega arith)) (unknown_entry h)
+  entry_found x (known e p) = sizes_found e p _ (sizes_decides bytes tokens)
+  entry_found x (not_known h) = refused_found R.unknown_entry (inl (omega arith, omega arith)) (unknown_entry h)
 
   pub found : Found (call n setting bytes tokens b)
   unfolding call

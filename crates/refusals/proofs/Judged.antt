@@ -18,7 +18,7 @@ use Rattle.definitions.specs.Call.{Buffers, room_of, run_entry}
 use Rattle.refusals.specs.First.{Each, First}
 use Rattle.refusals.specs.Trace.{Happening, call_opened, event_pushed, report_written}
 use Rattle.refusals.specs.Refusals.{MAX_OPEN, events_in, reports_in, expectations_in, Unrefused, happens}
-use Rattle.refusals.proofs.Firsts.{Each-after, First-after, each_nil, each-cons, first-here, first_later, from_nothing}
+use Rattle.refusals.proofs.Firsts.{EachAfter, First-after, each_nil, each_cons, first_here, first_later, from_nothing}
 use Rattle.refusals.proofs.Steps.{Step, an_event, a_row, too_many, if_broken, told, flat}
 use Rattle.refusals.proofs.Told.{entry_tells}
 
@@ -83,14 +83,14 @@ abbrev pub RowsLeft : Buffers → List Happening → Room → Type 0
 RowsLeft b l z = z.reports ≡ length b.reports / REPORT_ROW - reports_in l
 
 data Judged (b : Buffers) (pre l : List Happening) : Fit → Type 0 where
-  all : (z : Room) → RowsLeft b (pre ++ l) z → Each-after (Unrefused b) pre l → Judged b pre l (fits z)
+  all : (z : Room) → RowsLeft b (pre ++ l) z → EachAfter (Unrefused b) pre l → Judged b pre l (fits z)
   first : (before : List Happening) (x : Happening) → First-after (Unrefused b) pre l before x → Judged b pre l (stops (refusal_for x))
 
 here : (b : Buffers) (pre l : List Happening) (x : Happening) → ¬ Unrefused b pre x → Judged b pre (x ∷ l) (stops (refusal_for x))
-here b pre l x h = first [] x (first-here (Unrefused b) pre x l h)
+here b pre l x h = first [] x (first_here (Unrefused b) pre x l h)
 
 later : (b : Buffers) (pre l : List Happening) (x : Happening) (f : Fit) → Unrefused b pre x → Judged b (pre ++ (x ∷ [])) l f → Judged b pre (x ∷ l) f
-later b pre l x f h (all z r g) = all z (subst (λ (w : List Happening). RowsLeft b w z) (append_assoc pre (x ∷ []) l) r) (each-cons (Unrefused b) pre x l h g)
+later b pre l x f h (all z r g) = all z (subst (λ (w : List Happening). RowsLeft b w z) (append_assoc pre (x ∷ []) l) r) (each_cons (Unrefused b) pre x l h g)
 later b pre l x f h (first before y g) = first (x ∷ before) y (first_later (Unrefused b) pre x l before y h g)
 
 -- the room after one more

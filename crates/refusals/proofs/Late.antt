@@ -38,9 +38,9 @@ module _ (n setting : ℕ) (bytes tokens : List ℕ) (b : Buffers) where
   rows_of v e (bad_one before t r f w) = let x : ◌≡◌ {A = ℕ} 0 1 = cc in absurd (omega arith)
   rows_of v e (too_short g c) = let x : ◌≡◌ {A = ℕ} 0 1 = cc in absurd (omega arith)
 
-  texts-of : (v : Verdict) → v ≡ accepted → Texts bytes (tokens_of tokens) v → Each (RightText bytes) (tokens_of tokens)
-  texts-of v e (right_texts g) = g
-  texts-of v e (wrong_one before t f) = let x : ◌≡◌ {A = ℕ} 0 1 = cc in absurd (omega arith)
+  texts_of : (v : Verdict) → v ≡ accepted → Texts bytes (tokens_of tokens) v → Each (RightText bytes) (tokens_of tokens)
+  texts_of v e (right_texts g) = g
+  texts_of v e (wrong_one before t f) = let x : ◌≡◌ {A = ℕ} 0 1 = cc in absurd (omega arith)
 
   passes : Sizes bytes tokens → check_input bytes tokens ≡ accepted → Passes
   unfolding check_input
@@ -53,7 +53,7 @@ module _ (n setting : ℕ) (bytes tokens : List ℕ) (b : Buffers) where
         whole = c.pairs;
         rows = g.0;
         covers = g.1;
-        texts = texts-of _ (or_else_right (check_rows 0 0 (length bytes) (tokens_of tokens)) _ rest) (judged_texts bytes (tokens_of tokens));
+        texts = texts_of _ (or_else_right (check_rows 0 0 (length bytes) (tokens_of tokens)) _ rest) (judged_texts bytes (tokens_of tokens));
       }
 
   by_cause : (e : Entry) → Passes1 n e → Passes → (k p : ℕ) → Cause n setting bytes tokens b k p → Late k

@@ -15,7 +15,7 @@ use Rattle.definitions.specs.RowCauses.{is_kind, check_row, check_rows}
 use Rattle.basics.proofs.TokenRows.{tokens_length}
 use Rattle.refusals.specs.First.{Each, First}
 use Rattle.refusals.specs.Refusals.{MAX_BYTES, MAX_NUMBERS, Sizes, WholeRows, InputKind, a_token, a_lexical_error, GoodRow}
-use Rattle.refusals.proofs.Firsts.{Each-after, First-after, each_nil, each-cons, first-here, first_later, from_nothing}
+use Rattle.refusals.proofs.Firsts.{EachAfter, First-after, each_nil, each_cons, first_here, first_later, from_nothing}
 use Rattle.refusals.proofs.Tests.{Decides, holds, not_so, both, leb_decides, eqb_decides, not_decides}
 
 kind_decides : (k : ℕ) → Decides (InputKind k) (is_kind k)
@@ -92,9 +92,9 @@ bytes_more (x ∷ pre) t = let h : byte_count (pre ++ (t ∷ [])) ≡ byte_count
 
 -- the rows after others
 data Judged (bytes : List ℕ) (pre ts : List Token) : Verdict → Type 0 where
-  good : Each-after (GoodRow bytes) pre ts → byte_count pre + byte_count ts ≡ length bytes → Judged bytes pre ts accepted
+  good : EachAfter (GoodRow bytes) pre ts → byte_count pre + byte_count ts ≡ length bytes → Judged bytes pre ts accepted
   bad : (before : List Token) (t : Token) (r : Refusal) → First-after (GoodRow bytes) pre ts before t → Wrong bytes (pre ++ before) t r → Judged bytes pre ts (refused r)
-  short : Each-after (GoodRow bytes) pre ts → byte_count pre + byte_count ts < length bytes → (i : ℕ) → i ≡ length pre + length ts → Judged bytes pre ts (refused (short_total i))
+  short : EachAfter (GoodRow bytes) pre ts → byte_count pre + byte_count ts < length bytes → (i : ℕ) → i ≡ length pre + length ts → Judged bytes pre ts (refused (short_total i))
 
 rows_end : (bytes : List ℕ) (pre : List Token) (t : Bool) → byte_count pre ≤ length bytes → Decides (byte_count pre ≡ length bytes) t → Judged bytes pre [] (unless t (short_total (length pre)))
 unfolding byte_count
@@ -104,17 +104,17 @@ rows_end bytes pre t p (not_so h) = short (each_nil (GoodRow bytes) pre) (omega 
 row_later : (bytes : List ℕ) (pre : List Token) (x : Token) (ts : List Token) (v : Verdict) → GoodRow bytes pre x
     → Judged bytes (pre ++ (x ∷ [])) ts v → Judged bytes pre (x ∷ ts) v
 unfolding byte_count
-row_later bytes pre x ts v h (good g c) = good (each-cons (GoodRow bytes) pre x ts h g) (omega (arith, c, bytes_more pre x))
+row_later bytes pre x ts v h (good g c) = good (each_cons (GoodRow bytes) pre x ts h g) (omega (arith, c, bytes_more pre x))
 row_later bytes pre x ts v h (bad before t r f w) =
     bad (x ∷ before) t r (first_later (GoodRow bytes) pre x ts before t h f) (subst (λ (l : List Token). Wrong bytes l t r) (append_assoc pre (x ∷ []) before) w)
 row_later bytes pre x ts v h (short g c i e) =
-    short (each-cons (GoodRow bytes) pre x ts h g) (omega (arith, c, bytes_more pre x)) i (omega (arith, e, length-append pre (x ∷ [])))
+    short (each_cons (GoodRow bytes) pre x ts h g) (omega (arith, c, bytes_more pre x)) i (omega (arith, e, length-append pre (x ∷ [])))
 
 after_row : (bytes : List ℕ) (pre : List Token) (x : Token) (ts : List Token) (v w : Verdict) → One bytes pre x v
     → (GoodRow bytes pre x → Judged bytes (pre ++ (x ∷ [])) ts w) → Judged bytes pre (x ∷ ts) (v or_else w)
 unfolding ◌or_else◌
 after_row bytes pre x ts v w (right h) j = row_later bytes pre x ts w h (j h)
-after_row bytes pre x ts v w (wrong r h d) j = bad [] x r (first-here (GoodRow bytes) pre x ts h) (subst (λ (l : List Token). Wrong bytes l x r) (sym (append-nil pre)) d)
+after_row bytes pre x ts v w (wrong r h d) j = bad [] x r (first_here (GoodRow bytes) pre x ts h) (subst (λ (l : List Token). Wrong bytes l x r) (sym (append-nil pre)) d)
 
 rows_walk : (bytes : List ℕ) (pre ts : List Token) → byte_count pre ≤ length bytes → Judged bytes pre ts (check_rows (length pre) (byte_count pre) (length bytes) ts)
 unfolding check_rows

@@ -14,7 +14,7 @@ use Rattle.definitions.specs.Refusal.{bad_text, Verdict, accepted, refused, chec
 use Rattle.basics.proofs.Tests.{and_left, and_right}
 use Rattle.refusals.specs.First.{Each, First}
 use Rattle.refusals.specs.Refusals.{RightText}
-use Rattle.refusals.proofs.Firsts.{Each-after, First-after, each_nil, each-cons, each-rest, first-here, first_later, from_nothing}
+use Rattle.refusals.proofs.Firsts.{EachAfter, First-after, each_nil, each_cons, each_rest, first_here, first_later, from_nothing}
 use Rattle.refusals.proofs.Tests.{Decides, holds, not_so, eqb_decides}
 use Rattle.refusals.proofs.Rows.{bytes_more}
 use Rattle.basics.proofs.Texts.{same_true, same_refl}
@@ -44,35 +44,35 @@ same_decides xs ys = by (same xs ys) refl
 abbrev Says : ℕ → List ℕ → List Text → Text → Type 0
 Says k ys above x = x.kind ≡ k → ys ≡ x.text
 
-absent_says : (k : ℕ) (ys : List ℕ) (pre l : List Text) → absent k l ≡ true → Each-after (Says k ys) pre l
+absent_says : (k : ℕ) (ys : List ℕ) (pre l : List Text) → absent k l ≡ true → EachAfter (Says k ys) pre l
 unfolding absent
 absent_says k ys pre [] e = each_nil (Says k ys) pre
 absent_says k ys pre (x ∷ l) e =
-    each-cons (Says k ys) pre x l (λ (h : x.kind ≡ k). absurd (eqb-false x.kind k (not-true _ (and_left (not (eqb x.kind k)) _ e)) h))
+    each_cons (Says k ys) pre x l (λ (h : x.kind ≡ k). absurd (eqb-false x.kind k (not-true _ (and_left (not (eqb x.kind k)) _ e)) h))
     (absent_says k ys (pre ++ (x ∷ [])) l (and_right (not (eqb x.kind k)) _ e))
 
-text_decides : (k : ℕ) (ys : List ℕ) (pre l : List Text) → once l ≡ true → Decides (Each-after (Says k ys) pre l) (fits_text l k ys)
+text_decides : (k : ℕ) (ys : List ℕ) (pre l : List Text) → once l ≡ true → Decides (EachAfter (Says k ys) pre l) (fits_text l k ys)
 unfolding fits_text once
 text_decides k ys pre [] e = holds (each_nil (Says k ys) pre)
 text_decides k ys pre (x ∷ l) e = by _ _ _ (eqb_decides x.kind k) (same_decides x.text ys) (text_decides k ys (pre ++ (x ∷ [])) l (and_right (absent x.kind l) _ e))
   where
-    head : Each-after (Says k ys) pre (x ∷ l) → x.kind ≡ k → ys ≡ x.text
+    head : EachAfter (Says k ys) pre (x ∷ l) → x.kind ≡ k → ys ≡ x.text
     head g = g [] x l refl
 
-    by : (s t u : Bool) → Decides (x.kind ≡ k) s → Decides (ys ≡ x.text) t → Decides (Each-after (Says k ys) (pre ++ (x ∷ [])) l) u
-        → Decides (Each-after (Says k ys) pre (x ∷ l)) (cond s t u)
+    by : (s t u : Bool) → Decides (x.kind ≡ k) s → Decides (ys ≡ x.text) t → Decides (EachAfter (Says k ys) (pre ++ (x ∷ [])) l) u
+        → Decides (EachAfter (Says k ys) pre (x ∷ l)) (cond s t u)
     by s t u (holds a) (holds c) d =
-        holds (each-cons (Says k ys) pre x l (λ h. c) (absent_says k ys (pre ++ (x ∷ [])) l (subst (λ (n : ℕ). absent n l ≡ true) a (and_left (absent x.kind l) _ e))))
+        holds (each_cons (Says k ys) pre x l (λ h. c) (absent_says k ys (pre ++ (x ∷ [])) l (subst (λ (n : ℕ). absent n l ≡ true) a (and_left (absent x.kind l) _ e))))
     by s t u (holds a) (not_so c) d = not_so (λ g. c (head g a))
-    by s t u (not_so a) c (holds d) = holds (each-cons (Says k ys) pre x l (λ h. absurd (a h)) d)
-    by s t u (not_so a) c (not_so d) = not_so (λ g. d (each-rest (Says k ys) pre x l g))
+    by s t u (not_so a) c (holds d) = holds (each_cons (Says k ys) pre x l (λ h. absurd (a h)) d)
+    by s t u (not_so a) c (not_so d) = not_so (λ g. d (each_rest (Says k ys) pre x l g))
 
 data TextsAfter (bytes : List ℕ) (pre ts : List Token) : Verdict → Type 0 where
-  right : Each-after (RightText bytes) pre ts → TextsAfter bytes pre ts accepted
+  right : EachAfter (RightText bytes) pre ts → TextsAfter bytes pre ts accepted
   wrong : (before : List Token) (t : Token) (i : ℕ) → First-after (RightText bytes) pre ts before t → i ≡ length pre + length before → TextsAfter bytes pre ts (refused (bad_text i))
 
 text_later : (bytes : List ℕ) (pre : List Token) (x : Token) (ts : List Token) (v : Verdict) → RightText bytes pre x → TextsAfter bytes (pre ++ (x ∷ [])) ts v → TextsAfter bytes pre (x ∷ ts) v
-text_later bytes pre x ts v h (right g) = right (each-cons (RightText bytes) pre x ts h g)
+text_later bytes pre x ts v h (right g) = right (each_cons (RightText bytes) pre x ts h g)
 text_later bytes pre x ts v h (wrong before t i f e) =
     let l : length (pre ++ (x ∷ [])) ≡ length pre + 1 = length-append pre (x ∷ []) in
     wrong (x ∷ before) t i (first_later (RightText bytes) pre x ts before t h f) (omega (arith, e, l))
@@ -80,7 +80,7 @@ text_later bytes pre x ts v h (wrong before t i f e) =
 one_text : (bytes : List ℕ) (pre : List Token) (i : ℕ) (x : Token) (ts : List Token) (t : Bool) (v : Verdict) → i ≡ length pre → Decides (RightText bytes pre x) t
     → TextsAfter bytes (pre ++ (x ∷ [])) ts v → TextsAfter bytes pre (x ∷ ts) (cond t v (refused (bad_text i)))
 one_text bytes pre i x ts t v p (holds h) j = text_later bytes pre x ts v h j
-one_text bytes pre i x ts t v p (not_so h) j = wrong [] x i (first-here (RightText bytes) pre x ts h) (omega (arith, p))
+one_text bytes pre i x ts t v p (not_so h) j = wrong [] x i (first_here (RightText bytes) pre x ts h) (omega (arith, p))
 
 texts_walk : (bytes : List ℕ) (pre : List Token) (i : ℕ) (rest : List ℕ) (ts : List Token) → i ≡ length pre → drop (byte_count pre) bytes ≡ rest → TextsAfter bytes pre ts (check_texts i rest ts)
 unfolding check_texts

@@ -14,12 +14,12 @@ use Rattle.rows.specs.OnePass.{starting, AddsUp}
 use Rattle.rows.proofs.Written.{rows_of}
 
 module _ (from to : ℕ) where
-  starting-at : {i j a b s t : ℕ} (l : List Row) → i ≡ j → a ≡ b → s ≡ t → starting from to i a s l ≡ starting from to j b t l
-  starting-at l e f g = rw (e, f, g)
+  starting_at : {i j a b s t : ℕ} (l : List Row) → i ≡ j → a ≡ b → s ≡ t → starting from to i a s l ≡ starting from to j b t l
+  starting_at l e f g = rw (e, f, g)
 
   -- nothing shares a byte with what has none
-  shares-none : (start end : ℕ) → end ≡ start → share from to start end ≡ false
-  shares-none start end e = rw (le-ltb start end (omega arith)) (go (ltb from to) (ltb from end) (ltb start to))
+  shares_none : (start end : ℕ) → end ≡ start → share from to start end ≡ false
+  shares_none start end e = rw (le-ltb start end (omega arith)) (go (ltb from to) (ltb from end) (ltb start to))
     where
       go : (a b c : Bool) → (a && b && c && false) ≡ false
       go true true true = refl
@@ -28,56 +28,56 @@ module _ (from to : ℕ) where
       go false b c = refl
 
   -- a tree inside a part
-  starting-inside : (f : Tree) (p : ℕ) (i inside start : ℕ) (l : List Row) → width f ≤ inside
+  starting_inside : (f : Tree) (p : ℕ) (i inside start : ℕ) (l : List Row) → width f ≤ inside
       → starting from to i inside start (rows_of p i f ++ l) ≡ starting from to (i + row_count f) (inside - width f) start l
   unfolding rows_of starting width row_count
-  starting-inside nil p i inside start l h = starting-at l (omega arith) (omega arith) refl
-  starting-inside (leaf k ts f) p i zero start l h =
-      rw (shares-none start (start + byte_count ts) (omega arith))
-      (starting-at (rows_of p (suc i) f ++ l) refl (omega arith) (omega arith)
-      ∙ starting-inside f p (suc i) 0 start l (omega arith)
-      ∙ starting-at l (omega arith) (omega arith) refl)
-  starting-inside (leaf k ts f) p i (suc n) start l h =
-      starting-inside f p (suc i) (suc n - byte_count ts) start l (omega arith) ∙ starting-at l (omega arith) (omega arith) refl
-  starting-inside (subtree k c f) p i zero start l h =
-      rw (shares-none start (start + width c) (omega arith))
+  starting_inside nil p i inside start l h = starting_at l (omega arith) (omega arith) refl
+  starting_inside (leaf k ts f) p i zero start l h =
+      rw (shares_none start (start + byte_count ts) (omega arith))
+      (starting_at (rows_of p (suc i) f ++ l) refl (omega arith) (omega arith)
+      ∙ starting_inside f p (suc i) 0 start l (omega arith)
+      ∙ starting_at l (omega arith) (omega arith) refl)
+  starting_inside (leaf k ts f) p i (suc n) start l h =
+      starting_inside f p (suc i) (suc n - byte_count ts) start l (omega arith) ∙ starting_at l (omega arith) (omega arith) refl
+  starting_inside (subtree k c f) p i zero start l h =
+      rw (shares_none start (start + width c) (omega arith))
       (ap (starting from to (suc i) (width c - 0) (start + width c)) (append_assoc (rows_of i (suc i) c) (rows_of p (suc i + row_count c) f) l)
-      ∙ starting-at (rows_of i (suc i) c ++ (rows_of p (suc i + row_count c) f ++ l)) refl (omega arith) (omega arith)
-      ∙ starting-inside c i (suc i) 0 start (rows_of p (suc i + row_count c) f ++ l) (omega arith)
-      ∙ starting-inside f p (suc i + row_count c) (0 - width c) start l (omega arith)
-      ∙ starting-at l (omega arith) (omega arith) refl)
-  starting-inside (subtree k c f) p i (suc n) start l h =
+      ∙ starting_at (rows_of i (suc i) c ++ (rows_of p (suc i + row_count c) f ++ l)) refl (omega arith) (omega arith)
+      ∙ starting_inside c i (suc i) 0 start (rows_of p (suc i + row_count c) f ++ l) (omega arith)
+      ∙ starting_inside f p (suc i + row_count c) (0 - width c) start l (omega arith)
+      ∙ starting_at l (omega arith) (omega arith) refl)
+  starting_inside (subtree k c f) p i (suc n) start l h =
       ap (starting from to (suc i) (suc n - 0) start) (append_assoc (rows_of i (suc i) c) (rows_of p (suc i + row_count c) f) l)
-      ∙ starting-inside c i (suc i) (suc n - 0) start (rows_of p (suc i + row_count c) f ++ l) (omega arith)
-      ∙ starting-inside f p (suc i + row_count c) (suc n - 0 - width c) start l (omega arith)
-      ∙ starting-at l (omega arith) (omega arith) refl
+      ∙ starting_inside c i (suc i) (suc n - 0) start (rows_of p (suc i + row_count c) f ++ l) (omega arith)
+      ∙ starting_inside f p (suc i + row_count c) (suc n - 0 - width c) start l (omega arith)
+      ∙ starting_at l (omega arith) (omega arith) refl
 
-  one-or-none : (b : Bool) (i : ℕ) (x y : List ℕ) → cond b (i ∷ (x ++ y)) (x ++ y) ≡ cond b (i ∷ x) x ++ y
-  one-or-none true i x y = refl
-  one-or-none false i x y = refl
+  one_or_none : (b : Bool) (i : ℕ) (x y : List ℕ) → cond b (i ∷ (x ++ y)) (x ++ y) ≡ cond b (i ∷ x) x ++ y
+  one_or_none true i x y = refl
+  one_or_none false i x y = refl
 
   -- PARTS SIDE BY SIDE
-  pub starting-sharing : (f : Tree) (p : ℕ) (i start : ℕ) (l : List Row)
+  pub starting_sharing : (f : Tree) (p : ℕ) (i start : ℕ) (l : List Row)
       → starting from to i 0 start (rows_of p i f ++ l) ≡ sharing from to i start f ++ starting from to (i + row_count f) 0 (start + width f) l
   unfolding rows_of starting sharing width row_count
-  starting-sharing nil p i start l = starting-at l (omega arith) refl (omega arith)
-  starting-sharing (leaf k ts f) p i start l =
+  starting_sharing nil p i start l = starting_at l (omega arith) refl (omega arith)
+  starting_sharing (leaf k ts f) p i start l =
       let b = share from to start (start + byte_count ts) in
       let e : starting from to (suc i) (byte_count ts - byte_count ts) (start + byte_count ts) (rows_of p (suc i) f ++ l)
       ≡ sharing from to (suc i) (start + byte_count ts) f ++ starting from to (i + suc (row_count f)) 0 (start + (byte_count ts + width f)) l =
-      starting-at (rows_of p (suc i) f ++ l) refl (omega arith) refl ∙ starting-sharing f p (suc i) (start + byte_count ts) l
-      ∙ ap (sharing from to (suc i) (start + byte_count ts) f ++◌) (starting-at l (omega arith) refl (omega arith)) in
-      ap (λ (x : List ℕ). cond b (i ∷ x) x) e ∙ one-or-none b i _ _
-  starting-sharing (subtree k c f) p i start l =
+      starting_at (rows_of p (suc i) f ++ l) refl (omega arith) refl ∙ starting_sharing f p (suc i) (start + byte_count ts) l
+      ∙ ap (sharing from to (suc i) (start + byte_count ts) f ++◌) (starting_at l (omega arith) refl (omega arith)) in
+      ap (λ (x : List ℕ). cond b (i ∷ x) x) e ∙ one_or_none b i _ _
+  starting_sharing (subtree k c f) p i start l =
       let b = share from to start (start + width c) in
       let e : starting from to (suc i) (width c - 0) (start + width c) ((rows_of i (suc i) c ++ rows_of p (suc i + row_count c) f) ++ l)
       ≡ sharing from to (suc i + row_count c) (start + width c) f ++ starting from to (i + suc (row_count c + row_count f)) 0 (start + (width c + width f)) l =
       ap (starting from to (suc i) (width c - 0) (start + width c)) (append_assoc (rows_of i (suc i) c) (rows_of p (suc i + row_count c) f) l)
-      ∙ starting-inside c i (suc i) (width c - 0) (start + width c) (rows_of p (suc i + row_count c) f ++ l) (omega arith)
-      ∙ starting-at (rows_of p (suc i + row_count c) f ++ l) refl (omega arith) refl
-      ∙ starting-sharing f p (suc i + row_count c) (start + width c) l
-      ∙ ap (sharing from to (suc i + row_count c) (start + width c) f ++◌) (starting-at l (omega arith) refl (omega arith)) in
-      ap (λ (x : List ℕ). cond b (i ∷ x) x) e ∙ one-or-none b i _ _
+      ∙ starting_inside c i (suc i) (width c - 0) (start + width c) (rows_of p (suc i + row_count c) f ++ l) (omega arith)
+      ∙ starting_at (rows_of p (suc i + row_count c) f ++ l) refl (omega arith) refl
+      ∙ starting_sharing f p (suc i + row_count c) (start + width c) l
+      ∙ ap (sharing from to (suc i + row_count c) (start + width c) f ++◌) (starting_at l (omega arith) refl (omega arith)) in
+      ap (λ (x : List ℕ). cond b (i ∷ x) x) e ∙ one_or_none b i _ _
 
 -- ---------------------------------------------------------------- the bytes of parts add up
 

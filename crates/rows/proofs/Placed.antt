@@ -27,98 +27,98 @@ pub record Placed (all : List Row) (f : Tree) (l : List Row) (s p before : ℕ) 
 
 -- the first part, a leaf, and the parts after it
 module _ (all : List Row) (k : ℕ) (ts : List _) (f : Tree) (l : List Row) (s p before : ℕ) (w : Placed all (leaf k ts f) l s p before) where
-  abbrev pub leaf-row : Row
-  leaf-row = tree_row LEAF k (byte_count ts) (length ts) p []
+  abbrev pub leaf_row : Row
+  leaf_row = tree_row LEAF k (byte_count ts) (length ts) p []
 
-  pub leaf-stands : Stands all s leaf-row (rows_of p (suc s) f ++ l)
+  pub leaf_stands : Stands all s leaf_row (rows_of p (suc s) f ++ l)
   unfolding rows_of
-  leaf-stands = stands all s leaf-row (rows_of p (suc s) f ++ l) w.here
+  leaf_stands = stands all s leaf_row (rows_of p (suc s) f ++ l) w.here
 
-  front : drop s all ≡ leaf-row ∷ (rows_of p (suc s) f ++ l)
+  front : drop s all ≡ leaf_row ∷ (rows_of p (suc s) f ++ l)
   unfolding rows_of
   front = w.here
 
-  pub leaf-child : Child all p s
+  pub leaf_child : Child all p s
   unfolding count
-  leaf-child = record { exists = leaf-stands.there; before = before; among = omega (arith, w.among); is = w.child }
+  leaf_child = record { exists = leaf_stands.there; before = before; among = omega (arith, w.among); is = w.child }
 
-  pub leaf-before : leaf-child.before ≡ before
-  unfolding leaf-child
-  leaf-before = refl
+  pub leaf_before : leaf_child.before ≡ before
+  unfolding leaf_child
+  leaf_before = refl
 
-  pub leaf-is : IsLeaf all s
-  leaf-is = (leaf-stands.there, ap class leaf-stands.is)
+  pub leaf_is : IsLeaf all s
+  leaf_is = (leaf_stands.there, ap class leaf_stands.is)
 
-  pub leaf-width : end_byte all s ≡ first_byte all s + byte_count ts
-  leaf-width = ap (λ (r : Row). first_byte all s + S.width r) leaf-stands.is
+  pub leaf_width : end_byte all s ≡ first_byte all s + byte_count ts
+  leaf_width = ap (λ (r : Row). first_byte all s + S.width r) leaf_stands.is
 
-  pub after-leaf : Placed all f l (suc s) p (suc before)
+  pub after_leaf : Placed all f l (suc s) p (suc before)
   unfolding count span
-  after-leaf =
+  after_leaf =
       let under = drop (suc p) all in
-      let d : drop (span before under) under ≡ leaf-row ∷ (rows_of p (suc s) f ++ l) = drop-drop (span before under) (suc p) all ∙ ap (λ (n : ℕ). drop n all) (sym w.child) ∙ front in
+      let d : drop (span before under) under ≡ leaf_row ∷ (rows_of p (suc s) f ++ l) = drop-drop (span before under) (suc p) all ∙ ap (λ (n : ℕ). drop n all) (sym w.child) ∙ front in
       let e : span (before + 1) under ≡ span before under + span 1 (drop (span before under) under) = span_add before 1 under in
       let g : span 1 (drop (span before under) under) ≡ suc (span (0 + 0) (rows_of p (suc s) f ++ l)) = ap (span 1) d in
       let z : span (0 + 0) (rows_of p (suc s) f ++ l) ≡ 0 = span_none (rows_of p (suc s) f ++ l) in
       let n : span (before + 1) under ≡ span (suc before) under = (let x : before + 1 ≡ suc before = omega arith in ap (λ (m : ℕ). span m under) x) in
-      record { here = leaf-stands.after; child = omega (arith, w.child, e, g, z, n); among = omega (arith, w.among) }
+      record { here = leaf_stands.after; child = omega (arith, w.child, e, g, z, n); among = omega (arith, w.among) }
 
-  pub leaf-next : first_byte all (suc s) ≡ first_byte all s + byte_count ts
-  leaf-next = first_next all s leaf-stands.there ∙ ap (λ (r : Row). first_byte all s + own r) leaf-stands.is
+  pub leaf_next : first_byte all (suc s) ≡ first_byte all s + byte_count ts
+  leaf_next = first_next all s leaf_stands.there ∙ ap (λ (r : Row). first_byte all s + own r) leaf_stands.is
 
 -- the first part, a node, what is under it, and the parts after it
 module _ (all : List Row) (k : ℕ) (c f : Tree) (l : List Row) (s p before : ℕ) (w : Placed all (subtree k c f) l s p before) where
   abbrev pub node_row : Row
   node_row = tree_row NODE k (width c) (count c) p []
 
-  node-front : drop s all ≡ node_row ∷ (rows_of s (suc s) c ++ (rows_of p (suc s + row_count c) f ++ l))
+  node_front : drop s all ≡ node_row ∷ (rows_of s (suc s) c ++ (rows_of p (suc s + row_count c) f ++ l))
   unfolding rows_of
-  node-front = w.here ∙ ap (node_row ∷◌) (append_assoc (rows_of s (suc s) c) (rows_of p (suc s + row_count c) f) l)
+  node_front = w.here ∙ ap (node_row ∷◌) (append_assoc (rows_of s (suc s) c) (rows_of p (suc s + row_count c) f) l)
 
-  pub node-stands : Stands all s node_row (rows_of s (suc s) c ++ (rows_of p (suc s + row_count c) f ++ l))
-  node-stands = stands all s node_row (rows_of s (suc s) c ++ (rows_of p (suc s + row_count c) f ++ l)) node-front
+  pub node_stands : Stands all s node_row (rows_of s (suc s) c ++ (rows_of p (suc s + row_count c) f ++ l))
+  node_stands = stands all s node_row (rows_of s (suc s) c ++ (rows_of p (suc s + row_count c) f ++ l)) node_front
 
-  pub node-child : Child all p s
+  pub node_child : Child all p s
   unfolding count
-  node-child = record { exists = node-stands.there; before = before; among = omega (arith, w.among); is = w.child }
+  node_child = record { exists = node_stands.there; before = before; among = omega (arith, w.among); is = w.child }
 
-  pub node-before : node-child.before ≡ before
-  unfolding node-child
-  node-before = refl
+  pub node_before : node_child.before ≡ before
+  unfolding node_child
+  node_before = refl
 
-  pub node-width : end_byte all s ≡ first_byte all s + width c
-  node-width = ap (λ (r : Row). first_byte all s + S.width r) node-stands.is
+  pub node_width : end_byte all s ≡ first_byte all s + width c
+  node_width = ap (λ (r : Row). first_byte all s + S.width r) node_stands.is
 
-  pub under-node : Placed all c (rows_of p (suc s + row_count c) f ++ l) (suc s) s 0
-  under-node =
-      let e : children (row all s) ≡ count c = ap children node-stands.is in
+  pub under_node : Placed all c (rows_of p (suc s + row_count c) f ++ l) (suc s) s 0
+  under_node =
+      let e : children (row all s) ≡ count c = ap children node_stands.is in
       let z = span_none (drop (suc s) all) in
-      record { here = node-stands.after; child = omega (arith, z); among = omega (arith, e) }
+      record { here = node_stands.after; child = omega (arith, z); among = omega (arith, e) }
 
   pub same_start : first_byte all (suc s) ≡ first_byte all s
   same_start =
-      let e : first_byte all (suc s) ≡ first_byte all s + 0 = first_next all s node-stands.there ∙ ap (λ (r : Row). first_byte all s + own r) node-stands.is in
+      let e : first_byte all (suc s) ≡ first_byte all s + 0 = first_next all s node_stands.there ∙ ap (λ (r : Row). first_byte all s + own r) node_stands.is in
       omega (arith, e)
 
-  pub after-node : Placed all f l (suc s + row_count c) p (suc before)
+  pub after_node : Placed all f l (suc s + row_count c) p (suc before)
   unfolding count span
-  after-node =
+  after_node =
       let under = drop (suc p) all in
-      let d : drop (span before under) under ≡ node_row ∷ (rows_of s (suc s) c ++ (rows_of p (suc s + row_count c) f ++ l)) = drop-drop (span before under) (suc p) all ∙ ap (λ (n : ℕ). drop n all) (sym w.child) ∙ node-front in
+      let d : drop (span before under) under ≡ node_row ∷ (rows_of s (suc s) c ++ (rows_of p (suc s + row_count c) f ++ l)) = drop-drop (span before under) (suc p) all ∙ ap (λ (n : ℕ). drop n all) (sym w.child) ∙ node_front in
       let e : span (before + 1) under ≡ span before under + span 1 (drop (span before under) under) = span_add before 1 under in
       let g : span 1 (drop (span before under) under) ≡ suc (span (count c + 0) (rows_of s (suc s) c ++ (rows_of p (suc s + row_count c) f ++ l))) = ap (span 1) d in
       let r : span (count c + 0) (rows_of s (suc s) c ++ (rows_of p (suc s + row_count c) f ++ l)) ≡ row_count c + span 0 (rows_of p (suc s + row_count c) f ++ l) = span_rows c s (suc s) 0 (rows_of p (suc s + row_count c) f ++ l) in
       let z : span 0 (rows_of p (suc s + row_count c) f ++ l) ≡ 0 = span_none (rows_of p (suc s + row_count c) f ++ l) in
       let n : span (before + 1) under ≡ span (suc before) under = (let x : before + 1 ≡ suc before = omega arith in ap (λ (m : ℕ). span m under) x) in
       record {
-        here = ap (λ (n : ℕ). drop (suc s + n) all) (sym (rows_counted c s (suc s))) ∙ drop_jump all (suc s) (rows_of s (suc s) c) (rows_of p (suc s + row_count c) f ++ l) node-stands.after;
+        here = ap (λ (n : ℕ). drop (suc s + n) all) (sym (rows_counted c s (suc s))) ∙ drop_jump all (suc s) (rows_of s (suc s) c) (rows_of p (suc s + row_count c) f ++ l) node_stands.after;
         child = omega (arith, w.child, e, g, r, z, n);
         among = omega (arith, w.among);
       }
 
-  pub node-next : first_byte all (suc s + row_count c) ≡ first_byte all s + width c
-  node-next =
-      let e : first_byte all (suc s + length (rows_of s (suc s) c)) ≡ first_byte all (suc s) + raw_bytes (rows_of s (suc s) c) = first_jump all (suc s) (rows_of s (suc s) c) (rows_of p (suc s + row_count c) f ++ l) node-stands.after in
+  pub node_next : first_byte all (suc s + row_count c) ≡ first_byte all s + width c
+  node_next =
+      let e : first_byte all (suc s + length (rows_of s (suc s) c)) ≡ first_byte all (suc s) + raw_bytes (rows_of s (suc s) c) = first_jump all (suc s) (rows_of s (suc s) c) (rows_of p (suc s + row_count c) f ++ l) node_stands.after in
       let b : raw_bytes (rows_of s (suc s) c) ≡ width c = bytes_counted c s (suc s) ∙ sym (width_leaves c) in
       let n : first_byte all (suc s + row_count c) ≡ first_byte all (suc s + length (rows_of s (suc s) c)) = ap (λ (m : ℕ). first_byte all (suc s + m)) (sym (rows_counted c s (suc s))) in
       omega (arith, e, b, n, same_start)

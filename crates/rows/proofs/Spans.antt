@@ -131,12 +131,12 @@ module _ (l : List Row) (p c : ℕ) (h : Child l p c) where
   abbrev under : List Row
   under = drop (suc p) l
 
-  parent-there : p < length l
-  parent-there = omega (arith, h.exists, child_after l p c h)
+  parent_there : p < length l
+  parent_there = omega (arith, h.exists, child_after l p c h)
 
   -- a child's subtree ends where one more of its parent's subtrees does
-  pub child-end : subtree_end l c ≡ suc p + span (suc h.before) under
-  child-end =
+  pub child_end : subtree_end l c ≡ suc p + span (suc h.before) under
+  child_end =
       let n = h.before in
       let d : drop c l ≡ drop (span n under) under = ap (λ (k : ℕ). drop k l) h.is ∙ sym (drop-drop (span n under) (suc p) l) in
       let e : span (n + 1) under ≡ span n under + span 1 (drop (span n under) under) = span_add n 1 under in
@@ -144,17 +144,17 @@ module _ (l : List Row) (p c : ℕ) (h : Child l p c) where
       let g : span 1 (drop c l) ≡ span 1 (drop (span n under) under) = ap (span 1) d in
       omega (arith, e, f, g, h.is)
 
-  parent-end : subtree_end l p ≡ suc p + span (children (row l p)) under
-  parent-end = let e = span_row l p parent-there in omega (arith, e)
+  parent_end : subtree_end l p ≡ suc p + span (children (row l p)) under
+  parent_end = let e = span_row l p parent_there in omega (arith, e)
 
   -- A CHILD'S SUBTREE is inside its parent's
-  pub child-inside : subtree_end l c ≤ subtree_end l p
-  child-inside =
+  pub child_inside : subtree_end l c ≤ subtree_end l p
+  child_inside =
       let n = h.before in
       let more : ℕ = children (row l p) - suc n in
       let e = span_more (suc n) more under in
       let f : span (suc n + more) under ≡ span (children (row l p)) under = span_at under (omega (arith, h.among)) in
-      omega (arith, e, f, child-end, parent-end)
+      omega (arith, e, f, child_end, parent_end)
 
 -- an earlier child's subtree ends before a later child
 pub children_apart : (l : List Row) (p c d : ℕ) (x : Child l p c) (y : Child l p d) → x.before < y.before → subtree_end l c ≤ d
@@ -163,7 +163,7 @@ children_apart l p c d x y h =
     let more : ℕ = y.before - suc x.before in
     let e = span_more (suc x.before) more under in
     let f : span (suc x.before + more) under ≡ span y.before under = span_at under (omega (arith, h)) in
-    let g = child-end l p c x in
+    let g = child_end l p c x in
     omega (arith, e, f, g, y.is)
 
 -- a row there is lies in its own subtree
@@ -176,7 +176,7 @@ unfolding Chain
 chain_inside l p i [] h e = (omega (arith, e), subst (λ (k : ℕ). k < subtree_end l p) e (row_inside l p h))
 chain_inside l p i (c ∷ rest) h x =
     let a = chain_inside l c i rest x.0.exists x.1 in
-    let b = child-inside l p c x.0 in
+    let b = child_inside l p c x.0 in
     (omega (arith, a.0, child_after l p c x.0), omega (arith, a.1, b))
 
 -- two children of one row that lead to one row are the same

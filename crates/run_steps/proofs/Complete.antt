@@ -135,38 +135,38 @@ module _ (f : State → Out) (g : State → List Step) (T : (s : State) → Tell
   Under a p o ss = (made_signs a ++ made_signs p) ++ step_signs ss ≡ made_signs o.made
 
   -- a link that made i takes in what was made before
-  link-signs : (k m m' : ℕ) (a p i : Skeleton) (l : List Sign) → (made_signs a ++ made_signs p) ++ (made_signs i ++ l) ≡ made_signs (closed k m m' a (p ⧺ i)) ++ l
-  link-signs k m m' a p i l =
+  link_signs : (k m m' : ℕ) (a p i : Skeleton) (l : List Sign) → (made_signs a ++ made_signs p) ++ (made_signs i ++ l) ≡ made_signs (closed k m m' a (p ⧺ i)) ++ l
+  link_signs k m m' a p i l =
       append_assoc (made_signs a) (made_signs p) (made_signs i ++ l)
       ∙ ap (made_signs a ++◌) (sym (append_assoc (made_signs p) (made_signs i) l))
       ∙ sym (append_assoc (made_signs a) (made_signs p ++ made_signs i) l)
       ∙ ap (λ (x : List Sign). (made_signs a ++ x) ++ l) (sym (join_signs p i))
       ∙ ap (◌++ l) (sym (closed_signs k m m' a (p ⧺ i)))
 
-  under-link : (s : State) (k m m' : ℕ) (a p : Skeleton) (us : List Step) (x : List Sign)
+  under_link : (s : State) (k m m' : ℕ) (a p : Skeleton) (us : List Step) (x : List Sign)
       → made_signs (closed k m m' a (p ⧺ (f s).made)) ++ step_signs us ≡ x → (made_signs a ++ made_signs p) ++ step_signs (g s ++ (linked s (f s) ∷ us)) ≡ x
   unfolding step_signs
-  under-link s k m m' a p us x e =
-      ap ((made_signs a ++ made_signs p) ++◌) (steps_append (g s) (linked s (f s) ∷ us) ∙ ap (◌++ step_signs us) (T s).same) ∙ link-signs k m m' a p (f s).made (step_signs us) ∙ e
+  under_link s k m m' a p us x e =
+      ap ((made_signs a ++ made_signs p) ++◌) (steps_append (g s) (linked s (f s) ∷ us) ∙ ap (◌++ step_signs us) (T s).same) ∙ link_signs k m m' a p (f s).made (step_signs us) ∙ e
 
   -- the last marker is ignored
-  unlinked-signs : (m : ℕ) (a p : Skeleton) (x : Ans) (s : State) → (made_signs a ++ made_signs p) ++ [] ≡ made_signs (unlinked m a p x s).made
+  unlinked_signs : (m : ℕ) (a p : Skeleton) (x : Ans) (s : State) → (made_signs a ++ made_signs p) ++ [] ≡ made_signs (unlinked m a p x s).made
   unfolding unlinked makes
-  unlinked-signs m a p x s = append-nil (made_signs a ++ made_signs p) ∙ sym (closed_signs 0 m (mark_of s) a p)
+  unlinked_signs m a p x s = append-nil (made_signs a ++ made_signs p) ∙ sym (closed_signs 0 m (mark_of s) a p)
 
   -- one link: k is its shape, b whether it goes on; x and us: what the other links make, and their steps
   link_tells : (s : State) (m m' : ℕ) (a p : Skeleton) (x : Out) (us : List Step) → Under (closed (f s).shape m m' a (p ⧺ (f s).made)) done x us → (k : ℕ) (b : Bool)
       → Under a p (by_shape k (unlinked m a (p ⧺ (f s).made) (f s).ans (f s).state) (cond b x (unlinked m' (closed (f s).shape m m' a (p ⧺ (f s).made)) done (f s).ans (f s).state)))
       (g s ++ (linked s (f s) ∷ by_shape k [] (cond b us [])))
   unfolding by_shape unlinked makes pushes signs step_signs
-  link_tells s m m' a p x us e zero b = under-link s 0 m (mark_of (f s).state) a p [] _ (append-nil _)
-  link_tells s m m' a p x us e (suc k) true = under-link s (f s).shape m m' a p us _ (ap (◌++ step_signs us) (sym (append-nil (made_signs (closed (f s).shape m m' a (p ⧺ (f s).made))))) ∙ e)
+  link_tells s m m' a p x us e zero b = under_link s 0 m (mark_of (f s).state) a p [] _ (append-nil _)
+  link_tells s m m' a p x us e (suc k) true = under_link s (f s).shape m m' a p us _ (ap (◌++ step_signs us) (sym (append-nil (made_signs (closed (f s).shape m m' a (p ⧺ (f s).made))))) ∙ e)
   link_tells s m m' a p x us e (suc k) false =
-      under-link s (f s).shape m m' a p [] _ (sym (closed_signs 0 m' (mark_of (f s).state) (closed (f s).shape m m' a (p ⧺ (f s).made)) done))
+      under_link s (f s).shape m m' a p [] _ (sym (closed_signs 0 m' (mark_of (f s).state) (closed (f s).shape m m' a (p ⧺ (f s).made)) done))
 
   links_tells : (n : ℕ) (m : ℕ) (a p : Skeleton) (s : State) → Under a p (links n f m a p s) (links_steps n f g s)
   unfolding links links_steps step_signs
-  links_tells zero m a p s = unlinked-signs m a p again s
+  links_tells zero m a p s = unlinked_signs m a p again s
   links_tells (suc n) m a p s =
       link_tells s m (mark_of (f s).state) a p (links n f (mark_of (f s).state) (closed (f s).shape m (mark_of (f s).state) a (p ⧺ (f s).made)) done (f s).state) (links_steps n f g (f s).state)
       (links_tells n (mark_of (f s).state) (closed (f s).shape m (mark_of (f s).state) a (p ⧺ (f s).made)) done (f s).state) (f s).shape (goes_on s (f s))
@@ -188,7 +188,7 @@ module _ (f : State → Out) (g : State → List Step) (T : (s : State) → Tell
             same = before (links_steps (suc (length o.state.rest)) f g o.state)
                 ∙ unfold pushes signs in (links_tells (suc (length o.state.rest)) (mark_of s) done o.made o.state);
           }
-      go false = record { same = unfold pushes signs step_signs in (before [] ∙ unlinked-signs (mark_of s) done o.made o.ans o.state) }
+      go false = record { same = unfold pushes signs step_signs in (before [] ∙ unlinked_signs (mark_of s) done o.made o.ans o.state) }
 
 -- ---------------------------------------------------------------- every program
 

@@ -131,22 +131,22 @@ encode_alone l k m m' a i o h = rw h
 
 module _ (events : List ℕ) where
   -- what stands so many rows further on
-  pub ev-past : (i m : ℕ) (y x : List ℕ) → drop (i * EVENT_ROW) events ≡ y ++ x → length y ≡ m * EVENT_ROW → drop ((i + m) * EVENT_ROW) events ≡ x
-  ev-past i m y x e h =
+  pub ev_past : (i m : ℕ) (y x : List ℕ) → drop (i * EVENT_ROW) events ≡ y ++ x → length y ≡ m * EVENT_ROW → drop ((i + m) * EVENT_ROW) events ≡ x
+  ev_past i m y x e h =
       let z : (i + m) * EVENT_ROW ≡ i * EVENT_ROW + m * EVENT_ROW = omega arith in
       rw z (sym (drop-drop (m * EVENT_ROW) (i * EVENT_ROW) events) ∙ ap (λ l. drop (m * EVENT_ROW) l) e ∙ drop_at y x (m * EVENT_ROW) h)
 
-  pub ev-inside : (i : ℕ) (x : List ℕ) → drop (i * EVENT_ROW) events ≡ x → EVENT_ROW ≤ length x → i < length events / EVENT_ROW
-  ev-inside i x e h = omega (arith, length-drop (i * EVENT_ROW) events, ap length e)
+  pub ev_inside : (i : ℕ) (x : List ℕ) → drop (i * EVENT_ROW) events ≡ x → EVENT_ROW ≤ length x → i < length events / EVENT_ROW
+  ev_inside i x e h = omega (arith, length-drop (i * EVENT_ROW) events, ap length e)
 
-  pub ev-field : (i j : ℕ) (x : List ℕ) → drop (i * EVENT_ROW) events ≡ x → EVENT_ROW ≤ length x → field events i j ≡ get_or x j 0
+  pub ev_field : (i j : ℕ) (x : List ℕ) → drop (i * EVENT_ROW) events ≡ x → EVENT_ROW ≤ length x → field events i j ≡ get_or x j 0
   unfolding field
-  ev-field i j x e h = rw (lt-ltb i (length events / EVENT_ROW) (ev-inside i x e h)) (sym (get_or-drop (i * EVENT_ROW) events j 0) ∙ ap (λ l. get_or l j 0) e)
+  ev_field i j x e h = rw (lt-ltb i (length events / EVENT_ROW) (ev_inside i x e h)) (sym (get_or-drop (i * EVENT_ROW) events j 0) ∙ ap (λ l. get_or l j 0) e)
 
   -- an event that is not a linked start
-  pub ev-other : (i : ℕ) (x : List ℕ) → drop (i * EVENT_ROW) events ≡ x → (get_or x 0 0 ≡ LINKED_START_NODE → ⊥) → field events i EVENT_TAG ≡ LINKED_START_NODE → ⊥
+  pub ev_other : (i : ℕ) (x : List ℕ) → drop (i * EVENT_ROW) events ≡ x → (get_or x 0 0 ≡ LINKED_START_NODE → ⊥) → field events i EVENT_TAG ≡ LINKED_START_NODE → ⊥
   unfolding field
-  ev-other i x e h = go (ltb i (length events / EVENT_ROW))
+  ev_other i x e h = go (ltb i (length events / EVENT_ROW))
     where
       go : (b : Bool) → cond b (get_or events (i * EVENT_ROW + EVENT_TAG) 0) 0 ≡ LINKED_START_NODE → ⊥
       go true g = h (sym (ap (λ l. get_or l 0 0) e) ∙ get_or-drop (i * EVENT_ROW) events 0 0 ∙ g)
@@ -164,81 +164,81 @@ module _ (events : List ℕ) where
   Rest l j [] = l ≡ true → field events j EVENT_TAG ≡ LINKED_START_NODE → ⊥
   Rest l j (k ∷ ks) = (l ≡ true) × ((field events j EVENT_TAG ≡ LINKED_START_NODE) × Chain j k ks)
 
-  field-inside : (m : ℕ) → field events m EVENT_TAG ≡ LINKED_START_NODE → m < length events / EVENT_ROW
+  field_inside : (m : ℕ) → field events m EVENT_TAG ≡ LINKED_START_NODE → m < length events / EVENT_ROW
   unfolding field
-  field-inside m h = go (ltb m (length events / EVENT_ROW)) refl h
+  field_inside m h = go (ltb m (length events / EVENT_ROW)) refl h
     where
       go : (b : Bool) → ltb m (length events / EVENT_ROW) ≡ b → cond b (get_or events (m * EVENT_ROW + EVENT_TAG) 0) 0 ≡ LINKED_START_NODE → m < length events / EVENT_ROW
       go true p g = ltb-true m (length events / EVENT_ROW) p
       go false p g = absurd (let z : ◌≡◌ {A = ℕ} 0 LINKED_START_NODE = g in omega arith)
 
-  link-inside : (j : ℕ) → 0 < link events j → j + link events j < length events / EVENT_ROW
+  link_inside : (j : ℕ) → 0 < link events j → j + link events j < length events / EVENT_ROW
   unfolding link
-  link-inside j h = go (ltb j (length events / EVENT_ROW)) (eqb (field events (j + get_or events (j * EVENT_ROW + EVENT_DISTANCE) 0) EVENT_TAG) LINKED_START_NODE) refl refl h
+  link_inside j h = go (ltb j (length events / EVENT_ROW)) (eqb (field events (j + get_or events (j * EVENT_ROW + EVENT_DISTANCE) 0) EVENT_TAG) LINKED_START_NODE) refl refl h
     where
       go : (b y : Bool) → ltb j (length events / EVENT_ROW) ≡ b → eqb (field events (j + get_or events (j * EVENT_ROW + EVENT_DISTANCE) 0) EVENT_TAG) LINKED_START_NODE ≡ y
           → 0 < cond b (cond y (get_or events (j * EVENT_ROW + EVENT_DISTANCE) 0) 0) 0 → j + cond b (cond y (get_or events (j * EVENT_ROW + EVENT_DISTANCE) 0) 0) 0 < length events / EVENT_ROW
-      go true true p q h = field-inside (j + get_or events (j * EVENT_ROW + EVENT_DISTANCE) 0) (eqb-true (field events (j + get_or events (j * EVENT_ROW + EVENT_DISTANCE) 0) EVENT_TAG) LINKED_START_NODE q)
+      go true true p q h = field_inside (j + get_or events (j * EVENT_ROW + EVENT_DISTANCE) 0) (eqb-true (field events (j + get_or events (j * EVENT_ROW + EVENT_DISTANCE) 0) EVENT_TAG) LINKED_START_NODE q)
       go true false p q h = absurd (omega arith)
       go false y p q h = absurd (omega arith)
 
-  chain-bound : (ks : List ℕ) (j k : ℕ) → j < length events / EVENT_ROW → Chain j k ks → j + length ks < length events / EVENT_ROW
-  chain-bound [] j k h c = omega arith
-  chain-bound (x ∷ ks) j k h c = omega (arith, chain-bound ks (j + link events j) x (link-inside j c.1.0) c.1.1, c.1.0)
+  chain_bound : (ks : List ℕ) (j k : ℕ) → j < length events / EVENT_ROW → Chain j k ks → j + length ks < length events / EVENT_ROW
+  chain_bound [] j k h c = omega arith
+  chain_bound (x ∷ ks) j k h c = omega (arith, chain_bound ks (j + link events j) x (link_inside j c.1.0) c.1.1, c.1.0)
 
-  chain-links : (ks : List ℕ) (j k n : ℕ) → Chain j k ks → length ks ≤ n → linksN n events j ≡ length ks
+  chain_links : (ks : List ℕ) (j k n : ℕ) → Chain j k ks → length ks ≤ n → linksN n events j ≡ length ks
   unfolding linksN
-  chain-links [] j k n c h = links_end n events j c.1
-  chain-links (x ∷ ks) j k zero c h = absurd (omega arith)
-  chain-links (x ∷ ks) j k (suc n) c h = rw (lt-ltb 0 (link events j) c.1.0, chain-links ks (j + link events j) x n c.1.1 (omega arith)) (omega arith)
+  chain_links [] j k n c h = links_end n events j c.1
+  chain_links (x ∷ ks) j k zero c h = absurd (omega arith)
+  chain_links (x ∷ ks) j k (suc n) c h = rw (lt-ltb 0 (link events j) c.1.0, chain_links ks (j + link events j) x n c.1.1 (omega arith)) (omega arith)
 
   -- ---------------------------------------------------------------- the links of encoded events
 
-  link-of : (j a k d : ℕ) (x : List ℕ) → drop (j * EVENT_ROW) events ≡ a ∷ k ∷ d ∷ x → link events j ≡ cond (eqb (field events (j + d) EVENT_TAG) LINKED_START_NODE) d 0
+  link_of : (j a k d : ℕ) (x : List ℕ) → drop (j * EVENT_ROW) events ≡ a ∷ k ∷ d ∷ x → link events j ≡ cond (eqb (field events (j + d) EVENT_TAG) LINKED_START_NODE) d 0
   unfolding link
-  link-of j a k d x e =
+  link_of j a k d x e =
       let f : get_or events (j * EVENT_ROW + EVENT_DISTANCE) 0 ≡ d = sym (get_or-drop (j * EVENT_ROW) events 2 0) ∙ ap (λ l. get_or l 2 0) e in
-      rw (lt-ltb j (length events / EVENT_ROW) (ev-inside j (a ∷ k ∷ d ∷ x) e (omega arith)), f)
+      rw (lt-ltb j (length events / EVENT_ROW) (ev_inside j (a ∷ k ∷ d ∷ x) e (omega arith)), f)
 
   cond_same : (b : Bool) (n : ℕ) → cond b n n ≡ n
   cond_same true n = refl
   cond_same false n = refl
 
   -- a start that is linked over n events and its own two
-  row-chain : (j a k n : ℕ) (l : Bool) (x ks : List ℕ) → drop (j * EVENT_ROW) events ≡ a ∷ k ∷ forward l (suc (suc n)) ∷ x → Rest l (j + suc (suc n)) ks → Chain j k ks
-  row-chain j a k n true x [] e r = (ev-field j EVENT_ARGUMENT _ e (omega arith), link-of j a k (suc (suc n)) x e ∙ rw (ne_eqb (field events (j + suc (suc n)) EVENT_TAG) LINKED_START_NODE (r refl)))
-  row-chain j a k n false x [] e r = (ev-field j EVENT_ARGUMENT _ e (omega arith), link-of j a k 0 x e ∙ cond_same (eqb (field events (j + 0) EVENT_TAG) LINKED_START_NODE) 0)
-  row-chain j a k n true x (y ∷ ks) e r =
-      let g : link events j ≡ suc (suc n) = link-of j a k (suc (suc n)) x e ∙ rw (eq-eqb (field events (j + suc (suc n)) EVENT_TAG) LINKED_START_NODE r.1.0) in
-      (ev-field j EVENT_ARGUMENT _ e (omega arith), (omega arith, rw g r.1.1))
-  row-chain j a k n false x (y ∷ ks) e r = absurd (false≢true r.0)
+  row_chain : (j a k n : ℕ) (l : Bool) (x ks : List ℕ) → drop (j * EVENT_ROW) events ≡ a ∷ k ∷ forward l (suc (suc n)) ∷ x → Rest l (j + suc (suc n)) ks → Chain j k ks
+  row_chain j a k n true x [] e r = (ev_field j EVENT_ARGUMENT _ e (omega arith), link_of j a k (suc (suc n)) x e ∙ rw (ne_eqb (field events (j + suc (suc n)) EVENT_TAG) LINKED_START_NODE (r refl)))
+  row_chain j a k n false x [] e r = (ev_field j EVENT_ARGUMENT _ e (omega arith), link_of j a k 0 x e ∙ cond_same (eqb (field events (j + 0) EVENT_TAG) LINKED_START_NODE) 0)
+  row_chain j a k n true x (y ∷ ks) e r =
+      let g : link events j ≡ suc (suc n) = link_of j a k (suc (suc n)) x e ∙ rw (eq-eqb (field events (j + suc (suc n)) EVENT_TAG) LINKED_START_NODE r.1.0) in
+      (ev_field j EVENT_ARGUMENT _ e (omega arith), (omega arith, rw g r.1.1))
+  row_chain j a k n false x (y ∷ ks) e r = absurd (false≢true r.0)
 
-  chain-of : (a : Skeleton) (k n : ℕ) (l : Bool) (x ks : List ℕ) (j : ℕ) → Alone a → Chained a → drop (j * EVENT_ROW) events ≡ encode true a ++ (start_tag a ∷ k ∷ forward l (suc (suc n)) ∷ x)
+  chain_of : (a : Skeleton) (k n : ℕ) (l : Bool) (x ks : List ℕ) (j : ℕ) → Alone a → Chained a → drop (j * EVENT_ROW) events ≡ encode true a ++ (start_tag a ∷ k ∷ forward l (suc (suc n)) ∷ x)
       → Rest l (j + event_count a + suc (suc n)) ks → Chain j (inner a k) (outer a k ks)
   unfolding event_count Chained encode
-  chain-of done k n l x ks j h c e r = let z : j + 0 + suc (suc n) ≡ j + suc (suc n) = omega arith in row-chain j 1 k n l x ks e (subst (λ m. Rest l m ks) z r)
-  chain-of (node q m m' a i o) k n l x ks j h c e r =
+  chain_of done k n l x ks j h c e r = let z : j + 0 + suc (suc n) ≡ j + suc (suc n) = omega arith in row_chain j 1 k n l x ks e (subst (λ m. Rest l m ks) z r)
+  chain_of (node q m m' a i o) k n l x ks j h c e r =
       let R : List ℕ = LINKED_START_NODE ∷ k ∷ forward l (suc (suc n)) ∷ x in
       let p = node q m m' a i o in
       let w = length (events_of false i) in
       let e' : drop (j * EVENT_ROW) events ≡ encode true a ++ (start_tag a ∷ q ∷ suc (suc w) ∷ ((encode false i ++ (FINISH_NODE ∷ 0 ∷ 0 ∷ [])) ++ R)) =
       e ∙ ap (λ y. y ++ R) (encode_alone true q m m' a i o h) ∙ append_assoc (encode true a) (start_tag a ∷ q ∷ suc (suc w) ∷ (encode false i ++ (FINISH_NODE ∷ 0 ∷ 0 ∷ []))) R in
-      let g : drop ((j + event_count p) * EVENT_ROW) events ≡ R = ev-past j (event_count p) (encode true p) R e (encode_count true p) in
+      let g : drop ((j + event_count p) * EVENT_ROW) events ≡ R = ev_past j (event_count p) (encode true p) R e (encode_count true p) in
       let z : j + event_count p ≡ j + event_count a + suc (suc w) = omega (arith, events_length false i, ap event_count h) in
-      chain-of a q w true ((encode false i ++ (FINISH_NODE ∷ 0 ∷ 0 ∷ [])) ++ R) (k ∷ ks) j c.0 c.1.0 e'
-      (subst (λ y. Rest true y (k ∷ ks)) z (refl, (ev-field (j + event_count p) EVENT_TAG R g (omega arith), row-chain (j + event_count p) 6 k n l x ks g r)))
-  chain-of (token t m o) k n l x ks j h c e r = absurd h
-  chain-of (name ts m o) k n l x ks j h c e r = absurd h
-  chain-of (ignored m m' a i o) k n l x ks j h c e r = absurd h
-  chain-of (report p o) k n l x ks j h c e r = absurd h
-  chain-of (over m o) k n l x ks j h c e r = absurd h
+      chain_of a q w true ((encode false i ++ (FINISH_NODE ∷ 0 ∷ 0 ∷ [])) ++ R) (k ∷ ks) j c.0 c.1.0 e'
+      (subst (λ y. Rest true y (k ∷ ks)) z (refl, (ev_field (j + event_count p) EVENT_TAG R g (omega arith), row_chain (j + event_count p) 6 k n l x ks g r)))
+  chain_of (token t m o) k n l x ks j h c e r = absurd h
+  chain_of (name ts m o) k n l x ks j h c e r = absurd h
+  chain_of (ignored m m' a i o) k n l x ks j h c e r = absurd h
+  chain_of (report p o) k n l x ks j h c e r = absurd h
+  chain_of (over m o) k n l x ks j h c e r = absurd h
 
   -- ---------------------------------------------------------------- the rows that opening a chain writes
 
-  open-suc : (n j first b up c : ℕ) (t : List ℕ)
+  open_suc : (n j first b up c : ℕ) (t : List ℕ)
       → open_rows (suc n) events j first b up c t ≡ open_rows n events (j + link events j) first b up c (put (low (low (first + n) + 1)) (tree_row NODE (field events j EVENT_ARGUMENT) b 0 (low (first + n)) []) t)
   unfolding open_rows
-  open-suc n j first b up c t = refl
+  open_suc n j first b up c t = refl
 
   open_of : (ks : List ℕ) (j k first : ℕ) (T D : List ℕ) (b up n : ℕ) → Chain j k ks → length T ≡ first * TREE_ROW → (length ks + 1) * TREE_ROW ≤ length D → first + length ks + 1 < TWO_TO_32
       → open_rows (length ks) events j first b up n (T ++ D) ≡ T ++ (open_numbers first b up n k ks ++ drop ((length ks + 1) * TREE_ROW) D)
@@ -261,18 +261,18 @@ module _ (events : List ℕ) where
       let dd : drop m D' ≡ row ++ drop ((suc (length ks) + 1) * TREE_ROW) D =
       drop_at (take m D) (row ++ drop TREE_ROW (drop m D)) m lt ∙ ap (λ l. row ++ l) (drop-drop TREE_ROW m D ∙ ap (λ y. drop y D) z) in
       let pw : put (low (low (first + length ks) + 1)) (tree_row NODE (field events j EVENT_ARGUMENT) b 0 (low (first + length ks)) []) (T ++ D) ≡ T ++ D' = rw (c.0, u, v) pt in
-      open-suc (length ks) j first b up n (T ++ D)
+      open_suc (length ks) j first b up n (T ++ D)
       ∙ ap (λ t. open_rows (length ks) events (j + link events j) first b up n t) pw
       ∙ open_of ks (j + link events j) x first T D' b up n c.1.1 w (omega arith) (omega arith)
       ∙ ap (λ l. T ++ (open_numbers first b up n x ks ++ l)) dd
       ∙ ap (λ l. T ++ l) (sym (append_assoc (open_numbers first b up n x ks) row (drop ((suc (length ks) + 1) * TREE_ROW) D)))
 
   -- the start of a chain opens its nodes
-  start-at : (ks : List ℕ) (j k : ℕ) (s : Filled) → Chain j k ks → j < length events / EVENT_ROW → length s.written ≡ s.rows * TREE_ROW
+  start_at : (ks : List ℕ) (j k : ℕ) (s : Filled) → Chain j k ks → j < length events / EVENT_ROW → length s.written ≡ s.rows * TREE_ROW
       → (length ks + 1) * TREE_ROW ≤ length s.free → s.rows + length ks + 1 < TWO_TO_32 → start_on events j (state s) ≡ state (open_all k ks s)
   unfolding start_on state links
-  start-at ks j k s c i w h sm =
-      let n : linksN (length events / EVENT_ROW) events j ≡ length ks = chain-links ks j k (length events / EVENT_ROW) c (omega (arith, chain-bound ks j k i c)) in
+  start_at ks j k s c i w h sm =
+      let n : linksN (length events / EVENT_ROW) events j ≡ length ks = chain_links ks j k (length events / EVENT_ROW) c (omega (arith, chain_bound ks j k i c)) in
       let u : low (length ks) ≡ length ks = low_small (length ks) (omega arith) in
       let v : low (s.rows + length ks) ≡ s.rows + length ks = low_small (s.rows + length ks) (omega arith) in
       let y : low (s.rows + length ks + 1) ≡ s.rows + length ks + 1 = low_small (s.rows + length ks + 1) (omega arith) in
@@ -287,12 +287,12 @@ module _ (events : List ℕ) where
       )
 
   -- the nodes of a
-  pub start-runs : (a : Skeleton) (k n : ℕ) (l : Bool) (x : List ℕ) (j : ℕ) (s : Filled) → Alone a → Chained a
+  pub start_runs : (a : Skeleton) (k n : ℕ) (l : Bool) (x : List ℕ) (j : ℕ) (s : Filled) → Alone a → Chained a
       → drop (j * EVENT_ROW) events ≡ encode true a ++ (start_tag a ∷ k ∷ forward l (suc (suc n)) ∷ x) → (l ≡ true → field events (j + event_count a + suc (suc n)) EVENT_TAG ≡ LINKED_START_NODE → ⊥)
       → length s.written ≡ s.rows * TREE_ROW → (depth a + 1) * TREE_ROW ≤ length s.free → s.rows + depth a + 1 < TWO_TO_32
       → start_on events j (state s) ≡ state (opened a (inside k s))
-  start-runs a k n l x j s h c e r w f sm =
+  start_runs a k n l x j s h c e r w f sm =
       let d : length (outer a k []) ≡ depth a = outer_length a k [] ∙ (let z : depth a + 0 ≡ depth a = omega arith in z) in
-      let i : j < length events / EVENT_ROW = ev-inside j (encode true a ++ (start_tag a ∷ k ∷ forward l (suc (suc n)) ∷ x)) e (omega (arith, length-append (encode true a) (start_tag a ∷ k ∷ forward l (suc (suc n)) ∷ x))) in
-      start-at (outer a k []) j (inner a k) s (chain-of a k n l x [] j h c e r) i w (omega arith) (omega arith)
+      let i : j < length events / EVENT_ROW = ev_inside j (encode true a ++ (start_tag a ∷ k ∷ forward l (suc (suc n)) ∷ x)) e (omega (arith, length-append (encode true a) (start_tag a ∷ k ∷ forward l (suc (suc n)) ∷ x))) in
+      start_at (outer a k []) j (inner a k) s (chain_of a k n l x [] j h c e r) i w (omega arith) (omega arith)
       ∙ ap state (opened_all a k [] s)

@@ -15,7 +15,7 @@ use Rattle.definitions.specs.Place.{lexical_errors}
 use Rattle.laws.specs.Lossless.{errors_in}
 use Rattle.sink_tokens.specs.Tokens.{put_error, Log, log, logged, errorsN, errors_on}
 use Rattle.sink.proofs.Grow.{low_small}
-use Rattle.sink.proofs.Steps.{From, from-kind, from-len, from_past}
+use Rattle.sink.proofs.Steps.{From, from_kind, from_len, from_past}
 
 abbrev pub found : Log → ℕ
 found (log n e) = n
@@ -42,7 +42,7 @@ module _ (tokens : List ℕ) where
   step : (t : Token) (ts : List Token) (at b : ℕ) (x : Log) → From tokens at (t ∷ ts)
       → errorsN (suc (length ts)) tokens at b x ≡ errorsN (length ts) tokens (at + 1) (low (b + t.len)) (logged t.kind b (low (b + t.len)) x)
   unfolding errorsN
-  step t ts at b x e = rw (← (from-kind tokens at t ts e), ← (from-len tokens at t ts e))
+  step t ts at b x e = rw (← (from_kind tokens at t ts e), ← (from_len tokens at t ts e))
 
   -- the count, whatever the buffer
   count_runs : (ts : List Token) (at b : ℕ) (x : Log) → From tokens at ts → found x + length ts < TWO_TO_32 → found (errorsN (length ts) tokens at b x) ≡ found x + errors_in ts
@@ -59,15 +59,15 @@ module _ (tokens : List ℕ) where
       go ih false p = rw p (ih (log n l) (omega arith))
 
   -- the rows, where they fit
-  log-runs : (ts : List Token) (at b n : ℕ) (L G : List ℕ) → From tokens at ts → length L ≡ n * ERROR_ROW → n + length ts < TWO_TO_32 → b + byte_count ts < TWO_TO_32 → length (lexical_errors b ts) ≤ length G
+  log_runs : (ts : List Token) (at b n : ℕ) (L G : List ℕ) → From tokens at ts → length L ≡ n * ERROR_ROW → n + length ts < TWO_TO_32 → b + byte_count ts < TWO_TO_32 → length (lexical_errors b ts) ≤ length G
       → errorsN (length ts) tokens at b (log n (L ++ G)) ≡ log (n + errors_in ts) ((L ++ lexical_errors b ts) ++ drop (length (lexical_errors b ts)) G)
   unfolding errors_in lexical_errors logged is_error byte_count errorsN
-  log-runs [] at b n L G e w h hb r = let z : n + 0 ≡ n = omega arith in rw (z, append-nil L)
-  log-runs (t ∷ ts) at b n L G e w h hb r =
+  log_runs [] at b n L G e w h hb r = let z : n + 0 ≡ n = omega arith in rw (z, append-nil L)
+  log_runs (t ∷ ts) at b n L G e w h hb r =
       let end : low (b + t.len) ≡ b + t.len = low_small (b + t.len) (omega arith) in
       step t ts at b (log n (L ++ G)) e
       ∙ ap (λ y. errorsN (length ts) tokens (at + 1) y (logged t.kind b y (log n (L ++ G)))) end
-      ∙ (go (λ m M H u v x. log-runs ts (at + 1) (b + t.len) m M H (from_past tokens at 1 (t ∷ ts) ts e refl) u v (omega arith) x) (is_error t.kind) refl r)
+      ∙ (go (λ m M H u v x. log_runs ts (at + 1) (b + t.len) m M H (from_past tokens at 1 (t ∷ ts) ts e refl) u v (omega arith) x) (is_error t.kind) refl r)
     where
       go : ((m : ℕ) (M H : List ℕ) → length M ≡ m * ERROR_ROW → m + length ts < TWO_TO_32 → length (lexical_errors (b + t.len) ts) ≤ length H
           → errorsN (length ts) tokens (at + 1) (b + t.len) (log m (M ++ H)) ≡ log (m + errors_in ts) ((M ++ lexical_errors (b + t.len) ts) ++ drop (length (lexical_errors (b + t.len) ts)) H))
@@ -88,15 +88,15 @@ module _ (tokens : List ℕ) where
 
   -- ---------------------------------------------------------------- over all tokens
 
-  pub errors-count : (e : List ℕ) → length tokens < TWO_TO_32 → found (errors_on tokens e) ≡ errors_in (tokens_of tokens)
+  pub errors_count : (e : List ℕ) → length tokens < TWO_TO_32 → found (errors_on tokens e) ≡ errors_in (tokens_of tokens)
   unfolding errors_on
-  errors-count e h =
+  errors_count e h =
       let z : 0 + errors_in (tokens_of tokens) ≡ errors_in (tokens_of tokens) = omega arith in
       ap (λ m. found (errorsN m tokens 0 0 (log 0 e))) (sym (tokens_length tokens)) ∙ count_runs (tokens_of tokens) 0 0 (log 0 e) refl (omega (arith, tokens_length tokens)) ∙ z
 
-  pub errors-written : (e : List ℕ) → length tokens < TWO_TO_32 → byte_count (tokens_of tokens) < TWO_TO_32 → length (lexical_errors 0 (tokens_of tokens)) ≤ length e
+  pub errors_written : (e : List ℕ) → length tokens < TWO_TO_32 → byte_count (tokens_of tokens) < TWO_TO_32 → length (lexical_errors 0 (tokens_of tokens)) ≤ length e
       → errors_on tokens e ≡ log (errors_in (tokens_of tokens)) (lexical_errors 0 (tokens_of tokens) ++ drop (length (lexical_errors 0 (tokens_of tokens))) e)
   unfolding errors_on
-  errors-written e h hb r =
+  errors_written e h hb r =
       let z : 0 + errors_in (tokens_of tokens) ≡ errors_in (tokens_of tokens) = omega arith in
-      ap (λ m. errorsN m tokens 0 0 (log 0 e)) (sym (tokens_length tokens)) ∙ log-runs (tokens_of tokens) 0 0 0 [] e refl refl (omega (arith, tokens_length tokens)) (omega arith) r ∙ rw z
+      ap (λ m. errorsN m tokens 0 0 (log 0 e)) (sym (tokens_length tokens)) ∙ log_runs (tokens_of tokens) 0 0 0 [] e refl refl (omega (arith, tokens_length tokens)) (omega arith) r ∙ rw z

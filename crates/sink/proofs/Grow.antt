@@ -124,9 +124,9 @@ field_seam row j t x e h =
 -- ---------------------------------------------------------------- a leaf
 
 module _ (k : ℕ) (ts : List Token) (n w : ℕ) (hn : length ts ≡ n) (hw : byte_count ts ≡ w) (s : Filled) (r : Fits (leaf k ts nil) s) where
-  pub leaf-runs : leaf_on k w n (moved (s.cursor + n) (state s)) ≡ state (grow (leaf k ts nil) s)
+  pub leaf_runs : leaf_on k w n (moved (s.cursor + n) (state s)) ≡ state (grow (leaf k ts nil) s)
   unfolding rows_under width count raw row_count grow state leaf_on
-  leaf-runs =
+  leaf_runs =
       let b : low (s.byte + w) ≡ s.byte + (byte_count ts + 0) = low_small (s.byte + w) (omega (arith, r.byte)) ∙ (let z : s.byte + w ≡ s.byte + (byte_count ts + 0) = omega arith in z) in
       let m : low (s.rows + 1) ≡ s.rows + 1 = low_small (s.rows + 1) (omega (arith, r.rows)) in
       let c : low (s.children + 1) ≡ s.children + 1 = low_small (s.children + 1) (omega (arith, r.children)) in

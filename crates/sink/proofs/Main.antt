@@ -24,8 +24,8 @@ use Rattle.sink.proofs.Encode.{event_count, events_length, encode_count}
 use Rattle.laws.proofs.Tree.{row_count_beside}
 use Rattle.sink.proofs.Trees.{raw, raw_beside, count_rows, raw_lead, raw_place}
 use Rattle.sink.proofs.Grow.{Filled, state, grow, grow_grow, grow_nil, Fits, fits_front, fits_back}
-use Rattle.sink.proofs.Steps.{From, from-grown, token-runs, trivia-runs, name_runs, inside, finish_runs}
-use Rattle.sink.proofs.Chain.{opened, depth, far, encode_alone, ev-past, ev-field, ev-other, start-runs}
+use Rattle.sink.proofs.Steps.{From, from_grown, token_runs, trivia_runs, name_runs, inside, finish_runs}
+use Rattle.sink.proofs.Chain.{opened, depth, far, encode_alone, ev_past, ev_field, ev_other, start_runs}
 
 -- ---------------------------------------------------------------- the raw tokens under what is placed
 
@@ -46,13 +46,13 @@ raw_name n ts = go (leb n (length ts)) refl
 
     go : (b : Bool) → leb n (length ts) ≡ b → drop (length (take n ts) + 0) ts ≡ drop n ts
     go true h = ap (λ m. drop m ts) (z ∙ length-take-le n ts (leb-true n (length ts) h))
-    go false h = ap (λ m. drop m ts) (z ∙ ap length (take_all n ts (omega flags))) ∙ drop-length ts ∙ sym (drop-over n ts (omega flags))
+    go false h = ap (λ m. drop m ts) (z ∙ ap length (take_all n ts (omega flags))) ∙ drop-length ts ∙ sym (drop_over n ts (omega flags))
       where
-        drop-over : (m : ℕ) (l : List Token) → length l ≤ m → drop m l ≡ []
-        drop-over zero [] g = refl
-        drop-over zero (x ∷ l) g = absurd (omega arith)
-        drop-over (suc m) [] g = refl
-        drop-over (suc m) (x ∷ l) g = drop-over m l (omega arith)
+        drop_over : (m : ℕ) (l : List Token) → length l ≤ m → drop m l ≡ []
+        drop_over zero [] g = refl
+        drop_over zero (x ∷ l) g = absurd (omega arith)
+        drop_over (suc m) [] g = refl
+        drop_over (suc m) (x ∷ l) g = drop_over m l (omega arith)
 
 raw_branch : (k : ℕ) (c : Tree) (ts us : List Token) → drop (raw c) ts ≡ us → drop (raw (subtree k c nil)) ts ≡ us
 unfolding raw
@@ -105,9 +105,9 @@ module _ (tokens events : List ℕ) (small : length tokens < TWO_TO_32) where
   unfolding Runs
   runs_none i x n = let p : 0 + n ≡ n = omega arith in let q : i + 0 ≡ i = omega arith in rw (p, q)
 
-  runs-one : (i : ℕ) (x y : On) → event_on tokens events i x ≡ y → Runs 1 i x y
+  runs_one : (i : ℕ) (x y : On) → event_on tokens events i x ≡ y → Runs 1 i x y
   unfolding Runs eventsN
-  runs-one i x y e n = let p : 1 + n ≡ suc n = omega arith in ap (λ m. eventsN m tokens events i x) p ∙ ap (λ z. eventsN n tokens events (i + 1) z) e
+  runs_one i x y e n = let p : 1 + n ≡ suc n = omega arith in ap (λ m. eventsN m tokens events i x) p ∙ ap (λ z. eventsN n tokens events (i + 1) z) e
 
   runs_then : (m p i : ℕ) (x y z : On) → Runs m i x y → Runs p (i + m) y z → Runs (m + p) i x z
   unfolding Runs
@@ -127,41 +127,41 @@ module _ (tokens events : List ℕ) (small : length tokens < TWO_TO_32) where
 
   module _ (i tag a b : ℕ) (x : List ℕ) (e : drop (i * EVENT_ROW) events ≡ tag ∷ a ∷ b ∷ x) where
     tag_is : field events i EVENT_TAG ≡ tag
-    tag_is = ev-field events i EVENT_TAG (tag ∷ a ∷ b ∷ x) e (omega arith)
+    tag_is = ev_field events i EVENT_TAG (tag ∷ a ∷ b ∷ x) e (omega arith)
 
     arg_is : field events i EVENT_ARGUMENT ≡ a
-    arg_is = ev-field events i EVENT_ARGUMENT (tag ∷ a ∷ b ∷ x) e (omega arith)
+    arg_is = ev_field events i EVENT_ARGUMENT (tag ∷ a ∷ b ∷ x) e (omega arith)
 
-    ev-take : (q : On) → tag ≡ ADD_TOKEN → event_on tokens events i q ≡ token_on tokens (trivia_on tokens q)
+    ev_take : (q : On) → tag ≡ ADD_TOKEN → event_on tokens events i q ≡ token_on tokens (trivia_on tokens q)
     unfolding event_on
-    ev-take q h = rw (tag_is, h)
+    ev_take q h = rw (tag_is, h)
 
-    ev-name : (q : On) → tag ≡ ADD_COMBINED_TOKEN → event_on tokens events i q ≡ combined_on tokens a (trivia_on tokens q)
+    ev_name : (q : On) → tag ≡ ADD_COMBINED_TOKEN → event_on tokens events i q ≡ combined_on tokens a (trivia_on tokens q)
     unfolding event_on
-    ev-name q h = rw (tag_is, arg_is, h)
+    ev_name q h = rw (tag_is, arg_is, h)
 
-    ev-finish : (q : On) → tag ≡ FINISH_NODE → event_on tokens events i q ≡ finish_on q
+    ev_finish : (q : On) → tag ≡ FINISH_NODE → event_on tokens events i q ≡ finish_on q
     unfolding event_on
-    ev-finish q h = rw (tag_is, h)
+    ev_finish q h = rw (tag_is, h)
 
-    ev-hole : (q : On) → tag ≡ PLACEHOLDER → event_on tokens events i q ≡ q
+    ev_hole : (q : On) → tag ≡ PLACEHOLDER → event_on tokens events i q ≡ q
     unfolding event_on
-    ev-hole q h = rw (tag_is, h)
+    ev_hole q h = rw (tag_is, h)
 
-    ev-error : (q : On) → tag ≡ ERROR → event_on tokens events i q ≡ q
+    ev_error : (q : On) → tag ≡ ERROR → event_on tokens events i q ≡ q
     unfolding event_on
-    ev-error q h = rw (tag_is, h)
+    ev_error q h = rw (tag_is, h)
 
-    ev-linked : (q : On) → tag ≡ LINKED_START_NODE → event_on tokens events i q ≡ q
+    ev_linked : (q : On) → tag ≡ LINKED_START_NODE → event_on tokens events i q ≡ q
     unfolding event_on
-    ev-linked q h = rw (tag_is, h)
+    ev_linked q h = rw (tag_is, h)
 
-    ev-next : drop ((i + 1) * EVENT_ROW) events ≡ x
-    ev-next = ev-past events i 1 (tag ∷ a ∷ b ∷ []) x e refl
+    ev_next : drop ((i + 1) * EVENT_ROW) events ≡ x
+    ev_next = ev_past events i 1 (tag ∷ a ∷ b ∷ []) x e refl
 
-  ev-start : (i : ℕ) (q : On) → field events i EVENT_TAG ≡ 1 → event_on tokens events i q ≡ start_on events i (trivia_on tokens q)
+  ev_start : (i : ℕ) (q : On) → field events i EVENT_TAG ≡ 1 → event_on tokens events i q ≡ start_on events i (trivia_on tokens q)
   unfolding event_on
-  ev-start i q t = rw t
+  ev_start i q t = rw t
 
   -- ---------------------------------------------------------------- first tags
 
@@ -177,18 +177,18 @@ module _ (tokens events : List ℕ) (small : length tokens < TWO_TO_32) where
   chain_first (over m o) k d x h c = absurd h
 
   -- no skeleton's events begin with a linked start
-  first-other : (l : Bool) (o : Skeleton) (e : List ℕ) → Chained o → (get_or e 0 0 ≡ LINKED_START_NODE → ⊥) → get_or (encode l o ++ e) 0 0 ≡ LINKED_START_NODE → ⊥
+  first_other : (l : Bool) (o : Skeleton) (e : List ℕ) → Chained o → (get_or e 0 0 ≡ LINKED_START_NODE → ⊥) → get_or (encode l o ++ e) 0 0 ≡ LINKED_START_NODE → ⊥
   unfolding encode Chained
-  first-other l done e c h g = h g
-  first-other l (token t m o) e c h g = let z : ◌≡◌ {A = ℕ} ADD_TOKEN LINKED_START_NODE = g in omega arith
-  first-other l (name ts m o) e c h g = let z : ◌≡◌ {A = ℕ} ADD_COMBINED_TOKEN LINKED_START_NODE = g in omega arith
-  first-other l (node k m m' a i o) e c h g =
+  first_other l done e c h g = h g
+  first_other l (token t m o) e c h g = let z : ◌≡◌ {A = ℕ} ADD_TOKEN LINKED_START_NODE = g in omega arith
+  first_other l (name ts m o) e c h g = let z : ◌≡◌ {A = ℕ} ADD_COMBINED_TOKEN LINKED_START_NODE = g in omega arith
+  first_other l (node k m m' a i o) e c h g =
       let z : ◌≡◌ {A = ℕ} START_NODE LINKED_START_NODE = sym (ap (λ q. get_or q 0 0) (append_assoc (encode true a) _ e) ∙ chain_first a k _ _ c.0 c.1.0) ∙ g in omega arith
-  first-other l (ignored m m' a i o) e c h g =
+  first_other l (ignored m m' a i o) e c h g =
       let y : List ℕ = event_row PLACEHOLDER 0 0 ((encode false i ++ event_row PLACEHOLDER 0 0 (encode l o)) ++ e) in
-      first-other true a y c.1.0 (λ z. omega arith) (sym (ap (λ q. get_or q 0 0) (append_assoc (encode true a) _ e)) ∙ g)
-  first-other l (report r o) e c h g = let z : ◌≡◌ {A = ℕ} ERROR LINKED_START_NODE = g in omega arith
-  first-other l (over m o) e c h g = first-other l o e c h g
+      first_other true a y c.1.0 (λ z. omega arith) (sym (ap (λ q. get_or q 0 0) (append_assoc (encode true a) _ e)) ∙ g)
+  first_other l (report r o) e c h g = let z : ◌≡◌ {A = ℕ} ERROR LINKED_START_NODE = g in omega arith
+  first_other l (over m o) e c h g = first_other l o e c h g
 
   -- ---------------------------------------------------------------- the statements of the induction
 
@@ -205,17 +205,17 @@ module _ (tokens events : List ℕ) (small : length tokens < TWO_TO_32) where
       (k d : ℕ) (x : List ℕ) (i : ℕ) (ts : List Token) (s : Filled) → Alone a → Chained a → drop (i * EVENT_ROW) events ≡ encode true a ++ (start_tag a ∷ k ∷ d ∷ x)
       → Solid ts → drop_trivia ts ≡ ts → From tokens s.cursor ts → Fits (place a ts) s → Runs (event_count a) (i + 1) (state (opened a s)) (state (grow (place a ts) s))
 
-  from-inside : (k : ℕ) (s : Filled) (ts : List Token) → From tokens s.cursor ts → From tokens (inside k s).cursor ts
+  from_inside : (k : ℕ) (s : Filled) (ts : List Token) → From tokens s.cursor ts → From tokens (inside k s).cursor ts
   unfolding inside
-  from-inside k s ts a = a
+  from_inside k s ts a = a
 
   -- a node once it is open: what stands before it, what is inside it, and its end
-  node-inside : (a i : Skeleton) → Befores a → Sinks i → (k d : ℕ) (x : List ℕ) (j : ℕ) (ts : List Token) (s : Filled) → Alone a → Chained a → Chained i
+  node_inside : (a i : Skeleton) → Befores a → Sinks i → (k d : ℕ) (x : List ℕ) (j : ℕ) (ts : List Token) (s : Filled) → Alone a → Chained a → Chained i
       → drop (j * EVENT_ROW) events ≡ encode true a ++ (start_tag a ∷ k ∷ d ∷ (encode false i ++ (FINISH_NODE ∷ 0 ∷ 0 ∷ x))) → Solid ts → drop_trivia ts ≡ ts → From tokens s.cursor ts
       → Fits (subtree k (place a ts ⊕ place i (after a ts)) nil) s
       → Runs (event_count a + (event_count i + 1)) (j + 1) (state (opened a (inside k s))) (state (grow (subtree k (place a ts ⊕ place i (after a ts)) nil) s))
   unfolding Sinks Befores
-  node-inside a i ba si k d x j ts s al ca ci e so dt fr r =
+  node_inside a i ba si k d x j ts s al ca ci e so dt fr r =
       let vs = after a ts in
       let A = place a ts in
       let I = place i vs in
@@ -224,30 +224,30 @@ module _ (tokens events : List ℕ) (small : length tokens < TWO_TO_32) where
       let n = event_count a in
       let p = event_count i in
       let y : List ℕ = encode false i ++ (FINISH_NODE ∷ 0 ∷ 0 ∷ x) in
-      let g0 : drop ((j + n) * EVENT_ROW) events ≡ start_tag a ∷ k ∷ d ∷ y = ev-past events j n (encode true a) (start_tag a ∷ k ∷ d ∷ y) e (encode_count true a) in
-      let g1 : drop ((j + 1 + n) * EVENT_ROW) events ≡ y = (let z : j + 1 + n ≡ j + n + 1 = omega arith in ap (λ v. drop (v * EVENT_ROW) events) z ∙ ev-next (j + n) (start_tag a) k d y g0) in
-      let g2 : drop ((j + 1 + n + p) * EVENT_ROW) events ≡ FINISH_NODE ∷ 0 ∷ 0 ∷ x = ev-past events (j + 1 + n) p (encode false i) (FINISH_NODE ∷ 0 ∷ 0 ∷ x) g1 (encode_count false i) in
+      let g0 : drop ((j + n) * EVENT_ROW) events ≡ start_tag a ∷ k ∷ d ∷ y = ev_past events j n (encode true a) (start_tag a ∷ k ∷ d ∷ y) e (encode_count true a) in
+      let g1 : drop ((j + 1 + n) * EVENT_ROW) events ≡ y = (let z : j + 1 + n ≡ j + n + 1 = omega arith in ap (λ v. drop (v * EVENT_ROW) events) z ∙ ev_next (j + n) (start_tag a) k d y g0) in
+      let g2 : drop ((j + 1 + n + p) * EVENT_ROW) events ≡ FINISH_NODE ∷ 0 ∷ 0 ∷ x = ev_past events (j + 1 + n) p (encode false i) (FINISH_NODE ∷ 0 ∷ 0 ∷ x) g1 (encode_count false i) in
       let g3 : drop ((j + 1 + (n + p)) * EVENT_ROW) events ≡ FINISH_NODE ∷ 0 ∷ 0 ∷ x = (let z : j + 1 + (n + p) ≡ j + 1 + n + p = omega arith in ap (λ v. drop (v * EVENT_ROW) events) z ∙ g2) in
       let rq : Fits (A ⊕ I) q = fits_inside k (A ⊕ I) s r in
-      let fq : From tokens q.cursor ts = from-inside k s ts fr in
+      let fq : From tokens q.cursor ts = from_inside k s ts fr in
       let before : Runs n (j + 1) (state (opened a q)) (state q1) = ba k d y j ts q al ca e so dt fq (fits_front A I q rq) in
       let within : Runs p (j + 1 + n) (state q1) (state (grow I q1)) =
-      si false (FINISH_NODE ∷ 0 ∷ 0 ∷ x) (j + 1 + n) vs q1 ci g1 (λ z. omega arith) (from-grown tokens A q ts vs fq (raw_place a ts)) (fits_back A I q rq) in
+      si false (FINISH_NODE ∷ 0 ∷ 0 ∷ x) (j + 1 + n) vs q1 ci g1 (λ z. omega arith) (from_grown tokens A q ts vs fq (raw_place a ts)) (fits_back A I q rq) in
       let both : Runs (n + p) (j + 1) (state (opened a q)) (state (grow (A ⊕ I) q)) =
       runs_as (n + p) (n + p) (j + 1) (j + 1) _ _ _ refl refl (ap state (grow_grow A I q)) (runs_then n p (j + 1) _ _ _ before within) in
       let end : Runs 1 (j + 1 + (n + p)) (state (grow (A ⊕ I) q)) (state (grow (subtree k (A ⊕ I) nil) s)) =
-      runs-one (j + 1 + (n + p)) _ _ (ev-finish (j + 1 + (n + p)) 4 0 0 x g3 (state (grow (A ⊕ I) q)) refl ∙ finish_runs k (A ⊕ I) s r) in
+      runs_one (j + 1 + (n + p)) _ _ (ev_finish (j + 1 + (n + p)) 4 0 0 x g3 (state (grow (A ⊕ I) q)) refl ∙ finish_runs k (A ⊕ I) s r) in
       runs_as (n + p + 1) (n + (p + 1)) (j + 1) (j + 1) _ _ _ (omega arith) refl refl (runs_then (n + p) 1 (j + 1) _ _ _ both end)
 
   -- ---------------------------------------------------------------- what stands before a marker
 
-  before-none : Befores done
+  before_none : Befores done
   unfolding Befores event_count place
-  before-none k d x i ts s al c e so dt fr r = runs_as 0 0 (i + 1) (i + 1) _ _ _ refl refl (ap state (sym (grow_nil s))) (runs_none (i + 1) (state s))
+  before_none k d x i ts s al c e so dt fr r = runs_as 0 0 (i + 1) (i + 1) _ _ _ refl refl (ap state (sym (grow_nil s))) (runs_none (i + 1) (state s))
 
-  before-node : (q m m' : ℕ) (a i o : Skeleton) → Befores a → Sinks i → Befores (node q m m' a i o)
+  before_node : (q m m' : ℕ) (a i o : Skeleton) → Befores a → Sinks i → Befores (node q m m' a i o)
   unfolding Befores Sinks Chained event_count
-  before-node q m m' a i o ba si k d x j ts s al c e so dt fr r =
+  before_node q m m' a i o ba si k d x j ts s al c e so dt fr r =
       let n = event_count a in
       let p = event_count i in
       let w = far true i in
@@ -258,23 +258,23 @@ module _ (tokens events : List ℕ) (small : length tokens < TWO_TO_32) where
       let e' : drop (j * EVENT_ROW) events ≡ encode true a ++ (start_tag a ∷ q ∷ w ∷ (encode false i ++ (FINISH_NODE ∷ 0 ∷ 0 ∷ R))) =
       e ∙ ap (λ y. y ++ R) (encode_alone true q m m' a i o al) ∙ append_assoc (encode true a) (start_tag a ∷ q ∷ w ∷ (encode false i ++ (FINISH_NODE ∷ 0 ∷ 0 ∷ []))) R
       ∙ ap (λ y. encode true a ++ (start_tag a ∷ q ∷ w ∷ y)) (append_assoc (encode false i) (FINISH_NODE ∷ 0 ∷ 0 ∷ []) R) in
-      let g : drop ((j + event_count p1) * EVENT_ROW) events ≡ R = ev-past events j (event_count p1) (encode true p1) R e (encode_count true p1) in
+      let g : drop ((j + event_count p1) * EVENT_ROW) events ≡ R = ev_past events j (event_count p1) (encode true p1) R e (encode_count true p1) in
       let t : j + event_count p1 ≡ j + 1 + (n + (p + 1)) = omega (arith, ap event_count al) in
       let rb : Fits B s = subst (λ f. Fits f s) b r in
-      let within : Runs (n + (p + 1)) (j + 1) (state (opened a (inside q s))) (state (grow B s)) = node-inside a i ba si q w R j ts s c.0 c.1.0 c.1.1.0 e' so dt fr rb in
+      let within : Runs (n + (p + 1)) (j + 1) (state (opened a (inside q s))) (state (grow B s)) = node_inside a i ba si q w R j ts s c.0 c.1.0 c.1.1.0 e' so dt fr rb in
       let skip : Runs 1 (j + 1 + (n + (p + 1))) (state (grow B s)) (state (grow B s)) =
-      runs_as 1 1 (j + event_count p1) (j + 1 + (n + (p + 1))) _ _ _ refl t refl (runs-one (j + event_count p1) _ _ (ev-linked (j + event_count p1) 6 k d x g (state (grow B s)) refl)) in
+      runs_as 1 1 (j + event_count p1) (j + 1 + (n + (p + 1))) _ _ _ refl t refl (runs_one (j + event_count p1) _ _ (ev_linked (j + event_count p1) 6 k d x g (state (grow B s)) refl)) in
       runs_as (n + (p + 1) + 1) (event_count p1) (j + 1) (j + 1) _ _ _ (omega (arith, ap event_count al)) refl (ap (λ f. state (grow f s)) (sym b)) (runs_then (n + (p + 1)) 1 (j + 1) _ _ _ within skip)
 
   -- ---------------------------------------------------------------- a node, and what follows it
 
   -- its first event: trivia, and its chain opened
-  start-event : (a i : Skeleton) (k : ℕ) (l : Bool) (x : List ℕ) (j : ℕ) (ts : List Token) (s : Filled) → Alone a → Chained a
+  start_event : (a i : Skeleton) (k : ℕ) (l : Bool) (x : List ℕ) (j : ℕ) (ts : List Token) (s : Filled) → Alone a → Chained a
       → drop (j * EVENT_ROW) events ≡ encode true a ++ (start_tag a ∷ k ∷ far l i ∷ (encode false i ++ (FINISH_NODE ∷ 0 ∷ 0 ∷ x))) → (get_or x 0 0 ≡ LINKED_START_NODE → ⊥) → From tokens s.cursor ts → Fits (lead ts) s
       → Fits (subtree k (place a (drop_trivia ts) ⊕ place i (after a (drop_trivia ts))) nil) (grow (lead ts) s)
       → event_on tokens events j (state s) ≡ state (opened a (inside k (grow (lead ts) s)))
   unfolding row_count
-  start-event a i k l x j ts s al ca e ne fr r0 r1 =
+  start_event a i k l x j ts s al ca e ne fr r0 r1 =
       let us = drop_trivia ts in
       let vs = after a us in
       let A = place a us in
@@ -282,20 +282,20 @@ module _ (tokens events : List ℕ) (small : length tokens < TWO_TO_32) where
       let w = length (events_of false i) in
       let y : List ℕ = start_tag a ∷ k ∷ far l i ∷ (encode false i ++ (FINISH_NODE ∷ 0 ∷ 0 ∷ x)) in
       let ly : length (encode true a ++ y) ≡ length (encode true a) + length y = length-append (encode true a) y in
-      let t : field events j EVENT_TAG ≡ 1 = ev-field events j EVENT_TAG (encode true a ++ y) e (omega arith) ∙ chain_first a k (far l i) (encode false i ++ (FINISH_NODE ∷ 0 ∷ 0 ∷ x)) al ca in
+      let t : field events j EVENT_TAG ≡ 1 = ev_field events j EVENT_TAG (encode true a ++ y) e (omega arith) ∙ chain_first a k (far l i) (encode false i ++ (FINISH_NODE ∷ 0 ∷ 0 ∷ x)) al ca in
       let z : List ℕ = start_tag a ∷ k ∷ far l i ∷ (encode false i ++ (FINISH_NODE ∷ 0 ∷ 0 ∷ [])) in
       let ye : y ≡ z ++ x = ap (λ q. start_tag a ∷ k ∷ far l i ∷ q) (sym (append_assoc (encode false i) (FINISH_NODE ∷ 0 ∷ 0 ∷ []) x)) in
-      let e1 : drop ((j + event_count a) * EVENT_ROW) events ≡ z ++ x = ev-past events j (event_count a) (encode true a) y e (encode_count true a) ∙ ye in
+      let e1 : drop ((j + event_count a) * EVENT_ROW) events ≡ z ++ x = ev_past events j (event_count a) (encode true a) y e (encode_count true a) ∙ ye in
       let lz : length z ≡ suc (suc w) * EVENT_ROW = omega (arith, length-append (encode false i) (FINISH_NODE ∷ 0 ∷ 0 ∷ []), encode_count false i, events_length false i) in
-      let e2 : drop ((j + event_count a + suc (suc w)) * EVENT_ROW) events ≡ x = ev-past events (j + event_count a) (suc (suc w)) z x e1 lz in
+      let e2 : drop ((j + event_count a + suc (suc w)) * EVENT_ROW) events ≡ x = ev_past events (j + event_count a) (suc (suc w)) z x e1 lz in
       let dp : depth a ≤ row_count (A ⊕ I) = omega (arith, depth_size a us, row_count_beside A I) in
-      ev-start j (state s) t ∙ ap (λ q. start_on events j q) (trivia-runs tokens ts s fr r0)
-      ∙ start-runs events a k w l (encode false i ++ (FINISH_NODE ∷ 0 ∷ 0 ∷ x)) j (grow (lead ts) s) al ca e (λ _. ev-other events (j + event_count a + suc (suc w)) x e2 ne)
+      ev_start j (state s) t ∙ ap (λ q. start_on events j q) (trivia_runs tokens ts s fr r0)
+      ∙ start_runs events a k w l (encode false i ++ (FINISH_NODE ∷ 0 ∷ 0 ∷ x)) j (grow (lead ts) s) al ca e (λ _. ev_other events (j + event_count a + suc (suc w)) x e2 ne)
       r1.whole (omega (arith, r1.free)) (omega (arith, r1.rows))
 
-  sinks-node : (k m m' : ℕ) (a i o : Skeleton) → Befores a → Sinks i → Sinks o → Sinks (node k m m' a i o)
+  sinks_node : (k m m' : ℕ) (a i o : Skeleton) → Befores a → Sinks i → Sinks o → Sinks (node k m m' a i o)
   unfolding Befores Sinks Chained event_count encode place
-  sinks-node k m m' a i o ba si so l e j ts s c h ne fr r =
+  sinks_node k m m' a i o ba si so l e j ts s c h ne fr r =
       let us = drop_trivia ts in
       let vs = after a us in
       let ws = after i vs in
@@ -312,19 +312,19 @@ module _ (tokens events : List ℕ) (small : length tokens < TWO_TO_32) where
       let r0 : Fits (lead ts) s = fits_front (lead ts) (B ⊕ P) s r in
       let r1 : Fits (B ⊕ P) q1 = fits_back (lead ts) (B ⊕ P) s r in
       let r2 : Fits B q1 = fits_front B P q1 r1 in
-      let f1 : From tokens q1.cursor us = from-grown tokens (lead ts) s ts us fr (raw_lead ts) in
-      let xo : get_or x 0 0 ≡ LINKED_START_NODE → ⊥ = first-other l o e c.1.1.1 ne in
-      let first : Runs 1 j (state s) (state (opened a (inside k q1))) = runs-one j _ _ (start-event a i k l x j ts s c.0 c.1.0 h' xo fr r0 r2) in
+      let f1 : From tokens q1.cursor us = from_grown tokens (lead ts) s ts us fr (raw_lead ts) in
+      let xo : get_or x 0 0 ≡ LINKED_START_NODE → ⊥ = first_other l o e c.1.1.1 ne in
+      let first : Runs 1 j (state s) (state (opened a (inside k q1))) = runs_one j _ _ (start_event a i k l x j ts s c.0 c.1.0 h' xo fr r0 r2) in
       let within : Runs (n + (p + 1)) (j + 1) (state (opened a (inside k q1))) (state q2) =
-      node-inside a i ba si k (far l i) x j us q1 c.0 c.1.0 c.1.1.0 h' (dropped_solid ts) (drop_twice ts) f1 r2 in
+      node_inside a i ba si k (far l i) x j us q1 c.0 c.1.0 c.1.1.0 h' (dropped_solid ts) (drop_twice ts) f1 r2 in
       let whole : Runs (1 + (n + (p + 1))) j (state s) (state q2) = runs_then 1 (n + (p + 1)) j _ _ _ first within in
       let z : List ℕ = start_tag a ∷ k ∷ far l i ∷ (encode false i ++ (FINISH_NODE ∷ 0 ∷ 0 ∷ [])) in
       let ye : encode true a ++ (start_tag a ∷ k ∷ far l i ∷ (encode false i ++ (FINISH_NODE ∷ 0 ∷ 0 ∷ x))) ≡ (encode true a ++ z) ++ x =
       ap (λ y. encode true a ++ (start_tag a ∷ k ∷ far l i ∷ y)) (sym (append_assoc (encode false i) (FINISH_NODE ∷ 0 ∷ 0 ∷ []) x)) ∙ sym (append_assoc (encode true a) z x) in
       let lz : length (encode true a ++ z) ≡ (1 + (n + (p + 1))) * EVENT_ROW =
       omega (arith, length-append (encode true a) z, length-append (encode false i) (FINISH_NODE ∷ 0 ∷ 0 ∷ []), encode_count true a, encode_count false i) in
-      let h2 : drop ((j + (1 + (n + (p + 1)))) * EVENT_ROW) events ≡ x = ev-past events j (1 + (n + (p + 1))) (encode true a ++ z) x (h' ∙ ye) lz in
-      let f2 : From tokens q2.cursor ws = from-grown tokens B q1 us ws f1 (raw_branch k (place a us ⊕ place i vs) us ws (drop_then (place a us) (place i vs) us vs ws (raw_place a us) (raw_place i vs))) in
+      let h2 : drop ((j + (1 + (n + (p + 1)))) * EVENT_ROW) events ≡ x = ev_past events j (1 + (n + (p + 1))) (encode true a ++ z) x (h' ∙ ye) lz in
+      let f2 : From tokens q2.cursor ws = from_grown tokens B q1 us ws f1 (raw_branch k (place a us ⊕ place i vs) us ws (drop_then (place a us) (place i vs) us vs ws (raw_place a us) (raw_place i vs))) in
       let rest : Runs (event_count o) (j + (1 + (n + (p + 1)))) (state q2) (state (grow P q2)) = so l e (j + (1 + (n + (p + 1)))) ws q2 c.1.1.1 h2 ne f2 (fits_back B P q1 r1) in
       runs_as (1 + (n + (p + 1)) + event_count o) (n + (p + event_count o + 2)) j j _ _ _ (omega arith) refl
       (ap state (grow_grow B P q1 ∙ grow_grow (lead ts) (B ⊕ P) s))
@@ -332,9 +332,9 @@ module _ (tokens events : List ℕ) (small : length tokens < TWO_TO_32) where
 
   -- ---------------------------------------------------------------- an ignored marker
 
-  sinks-ignored : (m m' : ℕ) (a i o : Skeleton) → Sinks a → Sinks i → Sinks o → Sinks (ignored m m' a i o)
+  sinks_ignored : (m m' : ℕ) (a i o : Skeleton) → Sinks a → Sinks i → Sinks o → Sinks (ignored m m' a i o)
   unfolding Sinks Chained event_count encode place
-  sinks-ignored m m' a i o sa si so l e j ts s c h ne fr r =
+  sinks_ignored m m' a i o sa si so l e j ts s c h ne fr r =
       let vs = after a ts in
       let ws = after i vs in
       let A = place a ts in
@@ -348,17 +348,17 @@ module _ (tokens events : List ℕ) (small : length tokens < TWO_TO_32) where
       let x : List ℕ = PLACEHOLDER ∷ 0 ∷ 0 ∷ (encode false i ++ y) in
       let h0 : drop (j * EVENT_ROW) events ≡ encode true a ++ x =
       h ∙ append_assoc (encode true a) (PLACEHOLDER ∷ 0 ∷ 0 ∷ (encode false i ++ (PLACEHOLDER ∷ 0 ∷ 0 ∷ encode l o))) e ∙ ap (λ z. encode true a ++ (PLACEHOLDER ∷ 0 ∷ 0 ∷ z)) (append_assoc (encode false i) (PLACEHOLDER ∷ 0 ∷ 0 ∷ encode l o) e) in
-      let h1 : drop ((j + n) * EVENT_ROW) events ≡ x = ev-past events j n (encode true a) x h0 (encode_count true a) in
-      let h2 : drop ((j + n + 1) * EVENT_ROW) events ≡ encode false i ++ y = ev-next (j + n) PLACEHOLDER 0 0 (encode false i ++ y) h1 in
-      let h3 : drop ((j + n + 1 + p) * EVENT_ROW) events ≡ y = ev-past events (j + n + 1) p (encode false i) y h2 (encode_count false i) in
-      let h4 : drop ((j + n + 1 + p + 1) * EVENT_ROW) events ≡ encode l o ++ e = ev-next (j + n + 1 + p) PLACEHOLDER 0 0 (encode l o ++ e) h3 in
+      let h1 : drop ((j + n) * EVENT_ROW) events ≡ x = ev_past events j n (encode true a) x h0 (encode_count true a) in
+      let h2 : drop ((j + n + 1) * EVENT_ROW) events ≡ encode false i ++ y = ev_next (j + n) PLACEHOLDER 0 0 (encode false i ++ y) h1 in
+      let h3 : drop ((j + n + 1 + p) * EVENT_ROW) events ≡ y = ev_past events (j + n + 1) p (encode false i) y h2 (encode_count false i) in
+      let h4 : drop ((j + n + 1 + p + 1) * EVENT_ROW) events ≡ encode l o ++ e = ev_next (j + n + 1 + p) PLACEHOLDER 0 0 (encode l o ++ e) h3 in
       let r1 : Fits (I ⊕ P) q1 = fits_back A (I ⊕ P) s r in
-      let f1 : From tokens q1.cursor vs = from-grown tokens A s ts vs fr (raw_place a ts) in
-      let f2 : From tokens q2.cursor ws = from-grown tokens I q1 vs ws f1 (raw_place i vs) in
+      let f1 : From tokens q1.cursor vs = from_grown tokens A s ts vs fr (raw_place a ts) in
+      let f2 : From tokens q2.cursor ws = from_grown tokens I q1 vs ws f1 (raw_place i vs) in
       let one : Runs n j (state s) (state q1) = sa true x j ts s c.1.0 h0 (λ z. omega arith) fr (fits_front A (I ⊕ P) s r) in
-      let two : Runs 1 (j + n) (state q1) (state q1) = runs-one (j + n) _ _ (ev-hole (j + n) PLACEHOLDER 0 0 (encode false i ++ y) h1 (state q1) refl) in
+      let two : Runs 1 (j + n) (state q1) (state q1) = runs_one (j + n) _ _ (ev_hole (j + n) PLACEHOLDER 0 0 (encode false i ++ y) h1 (state q1) refl) in
       let three : Runs p (j + n + 1) (state q1) (state q2) = si false y (j + n + 1) vs q1 c.1.1.0 h2 (λ z. omega arith) f1 (fits_front I P q1 r1) in
-      let four : Runs 1 (j + n + 1 + p) (state q2) (state q2) = runs-one (j + n + 1 + p) _ _ (ev-hole (j + n + 1 + p) PLACEHOLDER 0 0 (encode l o ++ e) h3 (state q2) refl) in
+      let four : Runs 1 (j + n + 1 + p) (state q2) (state q2) = runs_one (j + n + 1 + p) _ _ (ev_hole (j + n + 1 + p) PLACEHOLDER 0 0 (encode l o ++ e) h3 (state q2) refl) in
       let five : Runs (event_count o) (j + n + 1 + p + 1) (state q2) (state (grow P q2)) = so l e (j + n + 1 + p + 1) ws q2 c.1.1.1 h4 ne f2 (fits_back I P q1 r1) in
       runs_as (n + 1 + p + 1 + event_count o) (n + (p + event_count o + 2)) j j _ _ _ (omega arith) refl
       (ap state (grow_grow I P q1 ∙ grow_grow A (I ⊕ P) s))
@@ -368,48 +368,48 @@ module _ (tokens events : List ℕ) (small : length tokens < TWO_TO_32) where
 
   -- ---------------------------------------------------------------- a token, a name, and events that write nothing
 
-  leaf-then : (o : Skeleton) → Sinks o → (F : Tree) (vs : List Token) (l : Bool) (e : List ℕ) (j : ℕ) (ts : List Token) (s : Filled) → Chained o
+  leaf_then : (o : Skeleton) → Sinks o → (F : Tree) (vs : List Token) (l : Bool) (e : List ℕ) (j : ℕ) (ts : List Token) (s : Filled) → Chained o
       → drop ((j + 1) * EVENT_ROW) events ≡ encode l o ++ e → (get_or e 0 0 ≡ LINKED_START_NODE → ⊥) → From tokens s.cursor ts → drop (raw F) (drop_trivia ts) ≡ vs → Fits (lead ts ⊕ (F ⊕ place o vs)) s
       → (From tokens (grow (lead ts) s).cursor (drop_trivia ts) → Fits (lead ts) s → Fits F (grow (lead ts) s) → event_on tokens events j (state s) ≡ state (grow F (grow (lead ts) s)))
       → Runs (suc (event_count o)) j (state s) (state (grow (lead ts ⊕ (F ⊕ place o vs)) s))
   unfolding Sinks
-  leaf-then o so F vs l e j ts s c h ne fr rf r step =
+  leaf_then o so F vs l e j ts s c h ne fr rf r step =
       let us = drop_trivia ts in
       let P = place o vs in
       let q1 = grow (lead ts) s in
-      let f1 : From tokens q1.cursor us = from-grown tokens (lead ts) s ts us fr (raw_lead ts) in
+      let f1 : From tokens q1.cursor us = from_grown tokens (lead ts) s ts us fr (raw_lead ts) in
       let r1 : Fits (F ⊕ P) q1 = fits_back (lead ts) (F ⊕ P) s r in
-      let one : Runs 1 j (state s) (state (grow F q1)) = runs-one j _ _ (step f1 (fits_front (lead ts) (F ⊕ P) s r) (fits_front F P q1 r1)) in
+      let one : Runs 1 j (state s) (state (grow F q1)) = runs_one j _ _ (step f1 (fits_front (lead ts) (F ⊕ P) s r) (fits_front F P q1 r1)) in
       let rest : Runs (event_count o) (j + 1) (state (grow F q1)) (state (grow P (grow F q1))) =
-      so l e (j + 1) vs (grow F q1) c h ne (from-grown tokens F q1 us vs f1 rf) (fits_back F P q1 r1) in
+      so l e (j + 1) vs (grow F q1) c h ne (from_grown tokens F q1 us vs f1 rf) (fits_back F P q1 r1) in
       runs_as (1 + event_count o) (suc (event_count o)) j j _ _ _ (omega arith) refl
       (ap state (grow_grow F P q1 ∙ grow_grow (lead ts) (F ⊕ P) s)) (runs_then 1 (event_count o) j _ _ _ one rest)
 
-  sinks-token : (t : Token) (m : ℕ) (o : Skeleton) → Sinks o → Sinks (token t m o)
+  sinks_token : (t : Token) (m : ℕ) (o : Skeleton) → Sinks o → Sinks (token t m o)
   unfolding Sinks Chained event_count encode place
-  sinks-token t m o so l e j ts s c h ne fr r =
+  sinks_token t m o so l e j ts s c h ne fr r =
       let us = drop_trivia ts in
-      leaf-then o so (front us) (past us) l e j ts s c (ev-next j ADD_TOKEN 0 0 (encode l o ++ e) h) ne fr (raw_front us) r
-      (λ f1 r0 r1. ev-take j ADD_TOKEN 0 0 (encode l o ++ e) h (state s) refl ∙ ap (λ x. token_on tokens x) (trivia-runs tokens ts s fr r0) ∙ token-runs tokens (grow (lead ts) s) us f1 r1)
+      leaf_then o so (front us) (past us) l e j ts s c (ev_next j ADD_TOKEN 0 0 (encode l o ++ e) h) ne fr (raw_front us) r
+      (λ f1 r0 r1. ev_take j ADD_TOKEN 0 0 (encode l o ++ e) h (state s) refl ∙ ap (λ x. token_on tokens x) (trivia_runs tokens ts s fr r0) ∙ token_runs tokens (grow (lead ts) s) us f1 r1)
 
-  sinks-name : (raw_tokens : List Token) (m : ℕ) (o : Skeleton) → Sinks o → Sinks (name raw_tokens m o)
+  sinks_name : (raw_tokens : List Token) (m : ℕ) (o : Skeleton) → Sinks o → Sinks (name raw_tokens m o)
   unfolding Sinks Chained event_count encode place
-  sinks-name rt m o so l e j ts s c h ne fr r =
+  sinks_name rt m o so l e j ts s c h ne fr r =
       let us = drop_trivia ts in
       let n = length rt in
-      leaf-then o so (leaf K.Name (take n us) nil) (drop n us) l e j ts s c (ev-next j ADD_COMBINED_TOKEN n 0 (encode l o ++ e) h) ne fr (raw_name n us) r
-      (λ f1 r0 r1. ev-name j ADD_COMBINED_TOKEN n 0 (encode l o ++ e) h (state s) refl ∙ ap (λ x. combined_on tokens n x) (trivia-runs tokens ts s fr r0) ∙ name_runs tokens small n (grow (lead ts) s) us f1 r1)
+      leaf_then o so (leaf K.Name (take n us) nil) (drop n us) l e j ts s c (ev_next j ADD_COMBINED_TOKEN n 0 (encode l o ++ e) h) ne fr (raw_name n us) r
+      (λ f1 r0 r1. ev_name j ADD_COMBINED_TOKEN n 0 (encode l o ++ e) h (state s) refl ∙ ap (λ x. combined_on tokens n x) (trivia_runs tokens ts s fr r0) ∙ name_runs tokens small n (grow (lead ts) s) us f1 r1)
 
-  sinks-report : (o : Skeleton) → Sinks o → (l : Bool) (e : List ℕ) (j : ℕ) (ts : List Token) (s : Filled) → Chained o → drop (j * EVENT_ROW) events ≡ ERROR ∷ 0 ∷ 0 ∷ (encode l o ++ e)
+  sinks_report : (o : Skeleton) → Sinks o → (l : Bool) (e : List ℕ) (j : ℕ) (ts : List Token) (s : Filled) → Chained o → drop (j * EVENT_ROW) events ≡ ERROR ∷ 0 ∷ 0 ∷ (encode l o ++ e)
       → (get_or e 0 0 ≡ LINKED_START_NODE → ⊥) → From tokens s.cursor ts → Fits (place o ts) s → Runs (suc (event_count o)) j (state s) (state (grow (place o ts) s))
   unfolding Sinks
-  sinks-report o so l e j ts s c h ne fr r =
+  sinks_report o so l e j ts s c h ne fr r =
       runs_as (1 + event_count o) (suc (event_count o)) j j _ _ _ (omega arith) refl refl
-      (runs_then 1 (event_count o) j _ _ _ (runs-one j _ _ (ev-error j ERROR 0 0 (encode l o ++ e) h (state s) refl)) (so l e (j + 1) ts s c (ev-next j ERROR 0 0 (encode l o ++ e) h) ne fr r))
+      (runs_then 1 (event_count o) j _ _ _ (runs_one j _ _ (ev_error j ERROR 0 0 (encode l o ++ e) h (state s) refl)) (so l e (j + 1) ts s c (ev_next j ERROR 0 0 (encode l o ++ e) h) ne fr r))
 
-  sinks-done : Sinks done
+  sinks_done : Sinks done
   unfolding Sinks event_count place
-  sinks-done l e j ts s c h ne fr r = runs_as 0 0 j j _ _ _ refl refl (ap state (sym (grow_nil s))) (runs_none j (state s))
+  sinks_done l e j ts s c h ne fr r = runs_as 0 0 j j _ _ _ refl refl (ap state (sym (grow_nil s))) (runs_none j (state s))
 
   -- ---------------------------------------------------------------- the induction
 
@@ -417,17 +417,17 @@ module _ (tokens events : List ℕ) (small : length tokens < TWO_TO_32) where
     unfolding Sinks Befores Chained event_count encode place
 
     pub sinks : (o : Skeleton) → Sinks o
-    sinks done = sinks-done
-    sinks (token t m o) = sinks-token t m o (sinks o)
-    sinks (name ts m o) = sinks-name ts m o (sinks o)
-    sinks (node k m m' a i o) = sinks-node k m m' a i o (befores a) (sinks i) (sinks o)
-    sinks (ignored m m' a i o) = sinks-ignored m m' a i o (sinks a) (sinks i) (sinks o)
-    sinks (report r o) = λ l e j ts s c h ne fr q. sinks-report o (sinks o) l e j ts s c h ne fr q
+    sinks done = sinks_done
+    sinks (token t m o) = sinks_token t m o (sinks o)
+    sinks (name ts m o) = sinks_name ts m o (sinks o)
+    sinks (node k m m' a i o) = sinks_node k m m' a i o (befores a) (sinks i) (sinks o)
+    sinks (ignored m m' a i o) = sinks_ignored m m' a i o (sinks a) (sinks i) (sinks o)
+    sinks (report r o) = λ l e j ts s c h ne fr q. sinks_report o (sinks o) l e j ts s c h ne fr q
     sinks (over m o) = λ l e j ts s c h ne fr q. sinks o l e j ts s c h ne fr q
 
     befores : (a : Skeleton) → Befores a
-    befores done = before-none
-    befores (node k m m' a i o) = before-node k m m' a i o (befores a) (sinks i)
+    befores done = before_none
+    befores (node k m m' a i o) = before_node k m m' a i o (befores a) (sinks i)
     befores (token t m o) = λ k d x i ts s al c e so dt fr r. absurd al
     befores (name ts m o) = λ k d x i us s al c e so dt fr r. absurd al
     befores (ignored m m' a i o) = λ k d x j ts s al c e so dt fr r. absurd al

@@ -13,7 +13,7 @@ use Rattle.definitions.specs.Run.{State, Out, mark_of, peeked, replies, makes, t
 use Rattle.definitions.specs.Grammar.{Entry, whole}
 use Rattle.definitions.specs.Call.{run_entry}
 use Rattle.basics.proofs.Tests.{cond-all}
-use Rattle.laws.proofs.Engine.{Composes, Steady, exec-all, run-all}
+use Rattle.laws.proofs.Engine.{Composes, Steady, exec_all, run_all}
 use Rattle.sink.specs.Encode.{Alone, Chained}
 use Rattle.sink.proofs.Encode.{chained_join}
 
@@ -95,4 +95,4 @@ steady = record { composes = composes; ret = λ k a s. tt; act = act_chained; de
 -- EVERY RUN'S SKELETON IS CHAINED
 pub entry_chained : (e : Entry) (ts : List Token) → Chained (run_entry e ts)
 unfolding run_entry MadeChained
-entry_chained e ts = exec-all MadeChained UnderChained steady (run MOST_OPEN_CALLS) (run-all MadeChained UnderChained steady MOST_OPEN_CALLS) no_label (whole e) (taken ts)
+entry_chained e ts = exec_all MadeChained UnderChained steady (run MOST_OPEN_CALLS) (run_all MadeChained UnderChained steady MOST_OPEN_CALLS) no_label (whole e) (taken ts)

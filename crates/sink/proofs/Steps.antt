@@ -22,7 +22,7 @@ use Rattle.sink_tokens.specs.Tokens.{kind_seen, trivia_here, at_most, widthN}
 use Rattle.sink.specs.Model.{sink_of, trivia_on, token_on, combined_on, finish_on}
 use Rattle.sink.proofs.Loops.{trivia_more, trivia_done}
 use Rattle.sink.proofs.Trees.{raw}
-use Rattle.sink.proofs.Grow.{Filled, state, grow, grow_grow, grow_nil, Fits, fits_front, fits_back, low_small, put_seam, field_seam, leaf-runs}
+use Rattle.sink.proofs.Grow.{Filled, state, grow, grow_grow, grow_nil, Fits, fits_front, fits_back, low_small, put_seam, field_seam, leaf_runs}
 
 -- ---------------------------------------------------------------- token rows
 
@@ -51,59 +51,59 @@ module _ (tokens : List ℕ) where
   abbrev pub From : ℕ → List Token → Type 0
   From at ts = drop at (tokens_of tokens) ≡ ts
 
-  pub from-left : (at : ℕ) (ts : List Token) → From at ts → length tokens / TOKEN_ROW - at ≡ length ts
-  from-left at ts e = omega (arith, length-drop at (tokens_of tokens), ap length e, tokens_length tokens)
+  pub from_left : (at : ℕ) (ts : List Token) → From at ts → length tokens / TOKEN_ROW - at ≡ length ts
+  from_left at ts e = omega (arith, length-drop at (tokens_of tokens), ap length e, tokens_length tokens)
 
-  pub from-inside : (at : ℕ) (t : Token) (ts : List Token) → From at (t ∷ ts) → at < length tokens / TOKEN_ROW
-  from-inside at t ts e = omega (arith, from-left at (t ∷ ts) e)
+  pub from_inside : (at : ℕ) (t : Token) (ts : List Token) → From at (t ∷ ts) → at < length tokens / TOKEN_ROW
+  from_inside at t ts e = omega (arith, from_left at (t ∷ ts) e)
 
-  pub from-kind : (at : ℕ) (t : Token) (ts : List Token) → From at (t ∷ ts) → get_or tokens (at * TOKEN_ROW) 0 ≡ t.kind
-  from-kind at t ts e =
+  pub from_kind : (at : ℕ) (t : Token) (ts : List Token) → From at (t ∷ ts) → get_or tokens (at * TOKEN_ROW) 0 ≡ t.kind
+  from_kind at t ts e =
       let z : at * TOKEN_ROW + 0 ≡ at * TOKEN_ROW = omega arith in
       let g : get_or tokens (at * TOKEN_ROW + 0) 0 ≡ t.kind = sym (get_or-drop (at * TOKEN_ROW) tokens 0 0) ∙ first_kind (drop (at * TOKEN_ROW) tokens) t ts (tokens_drop at tokens ∙ e) in
       rw z at g
 
-  pub from-len : (at : ℕ) (t : Token) (ts : List Token) → From at (t ∷ ts) → get_or tokens (at * TOKEN_ROW + TOKEN_LENGTH) 0 ≡ t.len
-  from-len at t ts e = sym (get_or-drop (at * TOKEN_ROW) tokens 1 0) ∙ first_len (drop (at * TOKEN_ROW) tokens) t ts (tokens_drop at tokens ∙ e)
+  pub from_len : (at : ℕ) (t : Token) (ts : List Token) → From at (t ∷ ts) → get_or tokens (at * TOKEN_ROW + TOKEN_LENGTH) 0 ≡ t.len
+  from_len at t ts e = sym (get_or-drop (at * TOKEN_ROW) tokens 1 0) ∙ first_len (drop (at * TOKEN_ROW) tokens) t ts (tokens_drop at tokens ∙ e)
 
   pub from_past : (at n : ℕ) (ts us : List Token) → From at ts → drop n ts ≡ us → From (at + n) us
   from_past at n ts us e h = sym (drop-drop n at (tokens_of tokens)) ∙ ap (λ l. drop n l) e ∙ h
 
-  pub from-grown : (f : Tree) (s : Filled) (ts us : List Token) → From s.cursor ts → drop (raw f) ts ≡ us → From (grow f s).cursor us
+  pub from_grown : (f : Tree) (s : Filled) (ts us : List Token) → From s.cursor ts → drop (raw f) ts ≡ us → From (grow f s).cursor us
   unfolding grow
-  from-grown f s ts us e h = from_past s.cursor (raw f) ts us e h
+  from_grown f s ts us e h = from_past s.cursor (raw f) ts us e h
 
   -- ---------------------------------------------------------------- a token
 
-  token-one : (s : Filled) (t : Token) (ts : List Token) → From s.cursor (t ∷ ts) → Fits (leaf (seen t) (t ∷ []) nil) s
+  token_one : (s : Filled) (t : Token) (ts : List Token) → From s.cursor (t ∷ ts) → Fits (leaf (seen t) (t ∷ []) nil) s
       → token_on tokens (state s) ≡ state (grow (leaf (seen t) (t ∷ []) nil) s)
   unfolding token_on state kind_seen seen is_error byte_count
-  token-one s t ts e r =
-      rw (lt-ltb s.cursor (length tokens / TOKEN_ROW) (from-inside s.cursor t ts e), from-kind s.cursor t ts e, from-len s.cursor t ts e)
-      (leaf-runs (seen t) (t ∷ []) 1 t.len refl (omega arith) s r)
+  token_one s t ts e r =
+      rw (lt-ltb s.cursor (length tokens / TOKEN_ROW) (from_inside s.cursor t ts e), from_kind s.cursor t ts e, from_len s.cursor t ts e)
+      (leaf_runs (seen t) (t ∷ []) 1 t.len refl (omega arith) s r)
 
-  token-none : (s : Filled) → From s.cursor [] → token_on tokens (state s) ≡ state s
+  token_none : (s : Filled) → From s.cursor [] → token_on tokens (state s) ≡ state s
   unfolding token_on state
-  token-none s e = rw (le-ltb s.cursor (length tokens / TOKEN_ROW) (omega (arith, from-left s.cursor [] e)))
+  token_none s e = rw (le-ltb s.cursor (length tokens / TOKEN_ROW) (omega (arith, from_left s.cursor [] e)))
 
-  pub token-runs : (s : Filled) (ts : List Token) → From s.cursor ts → Fits (front ts) s → token_on tokens (state s) ≡ state (grow (front ts) s)
+  pub token_runs : (s : Filled) (ts : List Token) → From s.cursor ts → Fits (front ts) s → token_on tokens (state s) ≡ state (grow (front ts) s)
   unfolding front
-  token-runs s [] e r = token-none s e ∙ ap state (sym (grow_nil s))
-  token-runs s (t ∷ ts) e r = token-one s t ts e r
+  token_runs s [] e r = token_none s e ∙ ap state (sym (grow_nil s))
+  token_runs s (t ∷ ts) e r = token_one s t ts e r
 
   -- ---------------------------------------------------------------- trivia
 
-  trivia-is : (s : Filled) (t : Token) (ts : List Token) (b : Bool) → From s.cursor (t ∷ ts) → trivia t ≡ b → trivia_here tokens (sink_of (state s)).cursor ≡ b
+  trivia_is : (s : Filled) (t : Token) (ts : List Token) (b : Bool) → From s.cursor (t ∷ ts) → trivia t ≡ b → trivia_here tokens (sink_of (state s)).cursor ≡ b
   unfolding trivia_here state trivia
-  trivia-is s t ts b e h = rw (lt-ltb s.cursor (length tokens / TOKEN_ROW) (from-inside s.cursor t ts e), from-kind s.cursor t ts e) h
+  trivia_is s t ts b e h = rw (lt-ltb s.cursor (length tokens / TOKEN_ROW) (from_inside s.cursor t ts e), from_kind s.cursor t ts e) h
 
-  trivia-over : (s : Filled) → From s.cursor [] → trivia_here tokens (sink_of (state s)).cursor ≡ false
+  trivia_over : (s : Filled) → From s.cursor [] → trivia_here tokens (sink_of (state s)).cursor ≡ false
   unfolding trivia_here state
-  trivia-over s e = rw (le-ltb s.cursor (length tokens / TOKEN_ROW) (omega (arith, from-left s.cursor [] e)))
+  trivia_over s e = rw (le-ltb s.cursor (length tokens / TOKEN_ROW) (omega (arith, from_left s.cursor [] e)))
 
-  seen-trivia : (t : Token) → trivia t ≡ true → seen t ≡ t.kind
+  seen_trivia : (t : Token) → trivia t ≡ true → seen t ≡ t.kind
   unfolding seen is_error trivia
-  seen-trivia t h = go (eqb t.kind K.Whitespace) (eqb t.kind K.LineComment) (eqb t.kind K.BlockComment) refl refl refl h
+  seen_trivia t h = go (eqb t.kind K.Whitespace) (eqb t.kind K.LineComment) (eqb t.kind K.BlockComment) refl refl refl h
     where
       small : t.kind < L.UnexpectedEndIncbin → cond (leb L.UnexpectedEndIncbin t.kind) K.Unrecognized t.kind ≡ t.kind
       small g = rw (lt-leb L.UnexpectedEndIncbin t.kind g)
@@ -115,26 +115,26 @@ module _ (tokens : List ℕ) where
       go false false true p q r h = small (omega flags)
       go false false false p q r h = absurd (let z : ◌≡◌ {A = ℕ} 0 1 = cc in omega arith)
 
-  raw-one : (k : ℕ) (t : Token) (ts : List Token) → drop (raw (leaf k (t ∷ []) nil)) (t ∷ ts) ≡ ts
+  raw_one : (k : ℕ) (t : Token) (ts : List Token) → drop (raw (leaf k (t ∷ []) nil)) (t ∷ ts) ≡ ts
   unfolding raw
-  raw-one k t ts = refl
+  raw_one k t ts = refl
 
-  pub trivia-runs : (ts : List Token) (s : Filled) → From s.cursor ts → Fits (lead ts) s → trivia_on tokens (state s) ≡ state (grow (lead ts) s)
+  pub trivia_runs : (ts : List Token) (s : Filled) → From s.cursor ts → Fits (lead ts) s → trivia_on tokens (state s) ≡ state (grow (lead ts) s)
   unfolding lead ◌⊕◌
-  trivia-runs [] s e r = trivia_done tokens (state s) (trivia-over s e) ∙ ap state (sym (grow_nil s))
-  trivia-runs (t ∷ ts) s e r = go (λ q e' r'. trivia-runs ts q e' r') (trivia t) refl r
+  trivia_runs [] s e r = trivia_done tokens (state s) (trivia_over s e) ∙ ap state (sym (grow_nil s))
+  trivia_runs (t ∷ ts) s e r = go (λ q e' r'. trivia_runs ts q e' r') (trivia t) refl r
     where
       go : ((q : Filled) → From q.cursor ts → Fits (lead ts) q → trivia_on tokens (state q) ≡ state (grow (lead ts) q)) → (b : Bool) → trivia t ≡ b
           → Fits (cond b (leaf t.kind (t ∷ []) (lead ts)) nil) s → trivia_on tokens (state s) ≡ state (grow (cond b (leaf t.kind (t ∷ []) (lead ts)) nil) s)
-      go ih false h r = trivia_done tokens (state s) (trivia-is s t ts false e h) ∙ ap state (sym (grow_nil s))
+      go ih false h r = trivia_done tokens (state s) (trivia_is s t ts false e h) ∙ ap state (sym (grow_nil s))
       go ih true h r =
           let f = leaf t.kind (t ∷ []) nil in
-          let k : seen t ≡ t.kind = seen-trivia t h in
+          let k : seen t ≡ t.kind = seen_trivia t h in
           let one : token_on tokens (state s) ≡ state (grow f s) =
-          subst (λ n. Fits (leaf n (t ∷ []) nil) s → token_on tokens (state s) ≡ state (grow (leaf n (t ∷ []) nil) s)) k (token-one s t ts e) (fits_front f (lead ts) s r) in
-          sym (trivia_more tokens (state s) (trivia-is s t ts true e h))
+          subst (λ n. Fits (leaf n (t ∷ []) nil) s → token_on tokens (state s) ≡ state (grow (leaf n (t ∷ []) nil) s)) k (token_one s t ts e) (fits_front f (lead ts) s r) in
+          sym (trivia_more tokens (state s) (trivia_is s t ts true e h))
           ∙ ap (λ x. trivia_on tokens x) one
-          ∙ ih (grow f s) (from-grown f s (t ∷ ts) ts e (raw-one t.kind t ts)) (fits_back f (lead ts) s r)
+          ∙ ih (grow f s) (from_grown f s (t ∷ ts) ts e (raw_one t.kind t ts)) (fits_back f (lead ts) s r)
           ∙ ap state (grow_grow f (lead ts) s)
 
   -- ---------------------------------------------------------------- a name
@@ -146,11 +146,11 @@ module _ (tokens : List ℕ) where
   width_runs (suc k) (t ∷ ts) at sum e h b =
       let l : low (sum + t.len) ≡ sum + t.len = low_small (sum + t.len) (omega arith) in
       let a : sum + t.len + byte_count (take k ts) ≡ sum + (t.len + byte_count (take k ts)) = omega arith in
-      rw (from-len at t ts e, l) (width_runs k ts (at + 1) (sum + t.len) (from_past at 1 (t ∷ ts) ts e refl) (omega arith) (omega arith) ∙ a)
+      rw (from_len at t ts e, l) (width_runs k ts (at + 1) (sum + t.len) (from_past at 1 (t ∷ ts) ts e refl) (omega arith) (omega arith) ∙ a)
 
-  take-most : (n : ℕ) (ts : List Token) → take (at_most n (length ts)) ts ≡ take n ts
+  take_most : (n : ℕ) (ts : List Token) → take (at_most n (length ts)) ts ≡ take n ts
   unfolding at_most
-  take-most n ts = go (leb n (length ts)) refl
+  take_most n ts = go (leb n (length ts)) refl
     where
       go : (b : Bool) → leb n (length ts) ≡ b → take (cond b n (length ts)) ts ≡ take n ts
       go true h = refl
@@ -164,9 +164,9 @@ module _ (tokens : List ℕ) where
       go true h = length-take-le n ts (leb-true n (length ts) h)
       go false h = ap length (take_all n ts (omega flags))
 
-  most-le : (n m : ℕ) → at_most n m ≤ m
+  most_le : (n m : ℕ) → at_most n m ≤ m
   unfolding at_most
-  most-le n m = go (leb n m) refl
+  most_le n m = go (leb n m) refl
     where
       go : (b : Bool) → leb n m ≡ b → cond b n m ≤ m
       go true h = leb-true n m h
@@ -177,10 +177,10 @@ module _ (tokens : List ℕ) where
   unfolding combined_on state width
   name_runs small n s ts e r =
       let m = at_most n (length ts) in
-      let z : 0 + byte_count (take m ts) ≡ byte_count (take n ts) = (let z : 0 + byte_count (take m ts) ≡ byte_count (take m ts) = omega arith in z) ∙ ap byte_count (take-most n ts) in
-      let w : widthN m tokens s.cursor 0 ≡ byte_count (take n ts) = width_runs m ts s.cursor 0 e (most-le n (length ts)) (rw z (omega (arith, r.byte))) ∙ z in
-      let l : low m ≡ m = low_small m (omega (arith, most-le n (length ts), from-left s.cursor ts e)) in
-      rw (from-left s.cursor ts e, w, l) (leaf-runs K.Name (take n ts) m (byte_count (take n ts)) (length_most n ts) refl s r)
+      let z : 0 + byte_count (take m ts) ≡ byte_count (take n ts) = (let z : 0 + byte_count (take m ts) ≡ byte_count (take m ts) = omega arith in z) ∙ ap byte_count (take_most n ts) in
+      let w : widthN m tokens s.cursor 0 ≡ byte_count (take n ts) = width_runs m ts s.cursor 0 e (most_le n (length ts)) (rw z (omega (arith, r.byte))) ∙ z in
+      let l : low m ≡ m = low_small m (omega (arith, most_le n (length ts), from_left s.cursor ts e)) in
+      rw (from_left s.cursor ts e, w, l) (leaf_runs K.Name (take n ts) m (byte_count (take n ts)) (length_most n ts) refl s r)
 
 -- ---------------------------------------------------------------- the open node
 

@@ -26,10 +26,10 @@ use Rattle.sink.proofs.Encode.{event_count, events_length, encode_count}
 use Rattle.laws.proofs.Decode.{rows_length}
 use Rattle.sink.proofs.Trees.{raw_place, root_width, root_rows_most}
 use Rattle.sink.proofs.Grow.{Filled, state, grow, grow_grow, Fits, fits_front, fits_back, put_seam}
-use Rattle.sink.proofs.Steps.{From, from-grown, trivia-runs, inside, finish_runs}
+use Rattle.sink.proofs.Steps.{From, from_grown, trivia_runs, inside, finish_runs}
 use Rattle.sink.proofs.Main.{Runs, Sinks, sinks, fits_inside}
 use Rattle.sink.proofs.Same.{rows_alike}
-use Rattle.sink.proofs.Errors.{found, errors-count, errors-written}
+use Rattle.sink.proofs.Errors.{found, errors_count, errors_written}
 use Rattle.laws.proofs.LexicalErrors.{errors_length}
 
 -- nothing written yet
@@ -83,9 +83,9 @@ module _ (k : ℕ) (o : Skeleton) (tokens : List ℕ) (c : Chained o) (small : S
       }
 
   -- where the tree's rows fit
-  tree-written : (t : List ℕ) → length (rows (root k o (tokens_of tokens))) ≤ length t → events_on k tokens (encode false o) t ≡ state (grow (root k o (tokens_of tokens)) (begin t))
+  tree_written : (t : List ℕ) → length (rows (root k o (tokens_of tokens))) ≤ length t → events_on k tokens (encode false o) t ≡ state (grow (root k o (tokens_of tokens)) (begin t))
   unfolding events_on root Sinks Runs
-  tree-written t h =
+  tree_written t h =
       let events = encode false o in
       let ts = tokens_of tokens in
       let us = after o ts in
@@ -102,7 +102,7 @@ module _ (k : ℕ) (o : Skeleton) (tokens : List ℕ) (c : Chained o) (small : S
       ∙ sinks tokens events small.numbers o false [] 0 ts q c (sym (append-nil events)) (λ z. omega arith) fr (fits_front P (lead us) q r) 0 in
       ap (λ x. finish_on (trivia_on tokens (eventsN (length events / EVENT_ROW) tokens events 0 x))) (root_runs k t h4)
       ∙ ap (λ x. finish_on (trivia_on tokens x)) ran
-      ∙ ap (λ x. finish_on x) (trivia-runs tokens us (grow P q) (from-grown tokens P q ts us fr (raw_place o ts)) (fits_back P (lead us) q r))
+      ∙ ap (λ x. finish_on x) (trivia_runs tokens us (grow P q) (from_grown tokens P q ts us fr (raw_place o ts)) (fits_back P (lead us) q r))
       ∙ ap (λ s. finish_on (state s)) (grow_grow P (lead us) q)
       ∙ finish_runs k (P ⊕ lead us) (begin t) rw0
 
@@ -114,48 +114,48 @@ module _ (k : ℕ) (o : Skeleton) (tokens : List ℕ) (c : Chained o) (small : S
       let z : 0 + row_count (root k o (tokens_of tokens)) ≡ row_count (root k o (tokens_of tokens)) = omega arith in
       let zeros : List ℕ = replicate (length R) 0 in
       let n : length R ≤ length zeros = omega (arith, length-replicate {A = ℕ} (length R) 0) in
-      rows_alike tokens k (encode false o) t zeros ∙ ap (λ x. (sink_of x).rows) (tree-written zeros n) ∙ z
+      rows_alike tokens k (encode false o) t zeros ∙ ap (λ x. (sink_of x).rows) (tree_written zeros n) ∙ z
 
   count_is : row_count (root k o (tokens_of tokens)) ≡ length (rows (root k o (tokens_of tokens))) / TREE_ROW
   count_is = omega (arith, rows_length (root k o (tokens_of tokens)) 0 0)
 
-  found-is : errors_in (tokens_of tokens) ≡ length (lexical_errors 0 (tokens_of tokens)) / ERROR_ROW
-  found-is = omega (arith, errors_length 0 (tokens_of tokens))
+  found_is : errors_in (tokens_of tokens) ≡ length (lexical_errors 0 (tokens_of tokens)) / ERROR_ROW
+  found_is = omega (arith, errors_length 0 (tokens_of tokens))
 
   -- the answer: whether both fit
-  answer-is : (t e : List ℕ) → answer_of (finish_all k tokens (encode false o) t e)
+  answer_is : (t e : List ℕ) → answer_of (finish_all k tokens (encode false o) t e)
       ≡ cond (enough (rows (root k o (tokens_of tokens))) (lexical_errors 0 (tokens_of tokens)) t e) (Written (row_count (root k o (tokens_of tokens))) (errors_in (tokens_of tokens))) NoRoom
   unfolding finish_all finished_in
-  answer-is t e =
-      answered_is (length t) (length e) (events_on k tokens (encode false o) t) (errors_on tokens e) (row_count (root k o (tokens_of tokens))) (errors_in (tokens_of tokens)) (tree_count t) (errors-count tokens e small.numbers)
+  answer_is t e =
+      answered_is (length t) (length e) (events_on k tokens (encode false o) t) (errors_on tokens e) (row_count (root k o (tokens_of tokens))) (errors_in (tokens_of tokens)) (tree_count t) (errors_count tokens e small.numbers)
       ∙ (let z : row_count (root k o (tokens_of tokens)) * TREE_ROW ≡ length (rows (root k o (tokens_of tokens))) = omega (arith, rows_length (root k o (tokens_of tokens)) 0 0) in
       let y : errors_in (tokens_of tokens) * ERROR_ROW ≡ length (lexical_errors 0 (tokens_of tokens)) = omega (arith, errors_length 0 (tokens_of tokens)) in
       rw (z, y))
 
   -- where both fit
-  whole-written : (t e : List ℕ) → length (rows (root k o (tokens_of tokens))) ≤ length t → length (lexical_errors 0 (tokens_of tokens)) ≤ length e
+  whole_written : (t e : List ℕ) → length (rows (root k o (tokens_of tokens))) ≤ length t → length (lexical_errors 0 (tokens_of tokens)) ≤ length e
       → finish_all k tokens (encode false o) t e
       ≡ finished_in (length t) (length e) (state (grow (root k o (tokens_of tokens)) (begin t))) (log (errors_in (tokens_of tokens)) (lexical_errors 0 (tokens_of tokens) ++ drop (length (lexical_errors 0 (tokens_of tokens))) e))
   unfolding finish_all
-  whole-written t e p q =
-      ap (λ x. finished_in (length t) (length e) x (errors_on tokens e)) (tree-written t p)
-      ∙ ap (λ y. finished_in (length t) (length e) (state (grow (root k o (tokens_of tokens)) (begin t))) y) (errors-written tokens e small.numbers small.bytes q)
+  whole_written t e p q =
+      ap (λ x. finished_in (length t) (length e) x (errors_on tokens e)) (tree_written t p)
+      ∙ ap (λ y. finished_in (length t) (length e) (state (grow (root k o (tokens_of tokens)) (begin t))) y) (errors_written tokens e small.numbers small.bytes q)
 
   placed : (t e : List ℕ) (a : Sunk) (u f : List ℕ) → finished a u f ≡ finish_all k tokens (encode false o) t e → Placed k o tokens t e a u f
   unfolding finished_in state grow
   placed t e a u f g =
       let R = rows (root k o (tokens_of tokens)) in
       let L = lexical_errors 0 (tokens_of tokens) in
-      let says : a ≡ cond (enough R L t e) (Written (row_count (root k o (tokens_of tokens))) (errors_in (tokens_of tokens))) NoRoom = ap answer_of g ∙ answer-is t e in
+      let says : a ≡ cond (enough R L t e) (Written (row_count (root k o (tokens_of tokens))) (errors_in (tokens_of tokens))) NoRoom = ap answer_of g ∙ answer_is t e in
       record {
         fits =
             λ h.
             let p : length R ≤ length t = leb-true (length R) (length t) (and_left (leb (length R) (length t)) (leb (length L) (length e)) h) in
             let q : length L ≤ length e = leb-true (length L) (length e) (and_right (leb (length R) (length t)) (leb (length L) (length e)) h) in
             record {
-              counts = says ∙ ap (λ b. cond b (Written (row_count (root k o (tokens_of tokens))) (errors_in (tokens_of tokens))) NoRoom) h ∙ rw (count_is, found-is);
-              rows = ap trees_of (g ∙ whole-written t e p q) ∙ ap (λ (m : ℕ). R ++ drop m t) (sym (rows_length (root k o (tokens_of tokens)) 0 0));
-              lexical = ap errors_of (g ∙ whole-written t e p q);
+              counts = says ∙ ap (λ b. cond b (Written (row_count (root k o (tokens_of tokens))) (errors_in (tokens_of tokens))) NoRoom) h ∙ rw (count_is, found_is);
+              rows = ap trees_of (g ∙ whole_written t e p q) ∙ ap (λ (m : ℕ). R ++ drop m t) (sym (rows_length (root k o (tokens_of tokens)) 0 0));
+              lexical = ap errors_of (g ∙ whole_written t e p q);
             };
         lacks = λ h. says ∙ ap (λ b. cond b (Written (row_count (root k o (tokens_of tokens))) (errors_in (tokens_of tokens))) NoRoom) h;
         refusal = ap number says ∙ number_of_cond (enough R L t e) (row_count (root k o (tokens_of tokens))) (errors_in (tokens_of tokens));

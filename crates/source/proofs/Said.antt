@@ -64,14 +64,14 @@ module _ {M : Type 1} {𝓤 : Ura M} (𝓛 : Logic 𝓤) (mem : Memory → SProp
   abbrev pub Next : Contract 𝓤
   Next = triple_of 𝓛 next.signature (next.spec 𝓛 mem run)
 
-  pub new-said : (κ : Lft) (s : Bor (List ℕ)) (i : TokenIndex) (r : Source) → ent 𝓤 (ensured 𝓛 new.ended (new.clauses 𝓛 mem run) (κ, tt) (s, (i, tt)) tt r) (fact 𝓤 (Made s i r))
-  new-said κ s i r = ex_e 𝓤 _ (λ ws. snd∗ 𝓤 (sem 𝓛 (lasts new.ended (κ, tt) (s, (i, tt)) ws)) (fact 𝓤 (Made s i r)))
+  pub new_said : (κ : Lft) (s : Bor (List ℕ)) (i : TokenIndex) (r : Source) → ent 𝓤 (ensured 𝓛 new.ended (new.clauses 𝓛 mem run) (κ, tt) (s, (i, tt)) tt r) (fact 𝓤 (Made s i r))
+  new_said κ s i r = ex_e 𝓤 _ (λ ws. snd∗ 𝓤 (sem 𝓛 (lasts new.ended (κ, tt) (s, (i, tt)) ws)) (fact 𝓤 (Made s i r)))
 
-  pub peek-said : (κ : Lft) (r p : Source) → ent 𝓤 (ensured 𝓛 peek.ended (peek.clauses 𝓛 mem run) (κ, tt) (r, tt) tt p) (fact 𝓤 (Peeked r p))
-  peek-said κ r p = ex_e 𝓤 _ (λ ws. snd∗ 𝓤 (sem 𝓛 (lasts peek.ended (κ, tt) (r, tt) ws)) (fact 𝓤 (Peeked r p)))
+  pub peek_said : (κ : Lft) (r p : Source) → ent 𝓤 (ensured 𝓛 peek.ended (peek.clauses 𝓛 mem run) (κ, tt) (r, tt) tt p) (fact 𝓤 (Peeked r p))
+  peek_said κ r p = ex_e 𝓤 _ (λ ws. snd∗ 𝓤 (sem 𝓛 (lasts peek.ended (κ, tt) (r, tt) ws)) (fact 𝓤 (Peeked r p)))
 
-  pub immediate-said : (κ : Lft) (p : Source) (k : ℕ) → ent 𝓤 (ensured 𝓛 immediate.ended (immediate.clauses 𝓛 mem run) (κ, tt) (p, tt) tt k) (fact 𝓤 (KindSeen p k))
-  immediate-said κ p k = ex_e 𝓤 _ (λ ws. snd∗ 𝓤 (sem 𝓛 (lasts immediate.ended (κ, tt) (p, tt) ws)) (fact 𝓤 (KindSeen p k)))
+  pub immediate_said : (κ : Lft) (p : Source) (k : ℕ) → ent 𝓤 (ensured 𝓛 immediate.ended (immediate.clauses 𝓛 mem run) (κ, tt) (p, tt) tt k) (fact 𝓤 (KindSeen p k))
+  immediate_said κ p k = ex_e 𝓤 _ (λ ws. snd∗ 𝓤 (sem 𝓛 (lasts immediate.ended (κ, tt) (p, tt) ws)) (fact 𝓤 (KindSeen p k)))
 
-  pub next-said : (κ : Lft) (r n : Source) → ent 𝓤 (ensured 𝓛 next.ended (next.clauses 𝓛 mem run) (κ, tt) (r, tt) tt n) (fact 𝓤 (Taken r n))
-  next-said κ r n = ex_e 𝓤 _ (λ ws. snd∗ 𝓤 (sem 𝓛 (lasts next.ended (κ, tt) (r, tt) ws)) (fact 𝓤 (Taken r n)))
+  pub next_said : (κ : Lft) (r n : Source) → ent 𝓤 (ensured 𝓛 next.ended (next.clauses 𝓛 mem run) (κ, tt) (r, tt) tt n) (fact 𝓤 (Taken r n))
+  next_said κ r n = ex_e 𝓤 _ (λ ws. snd∗ 𝓤 (sem 𝓛 (lasts next.ended (κ, tt) (r, tt) ws)) (fact 𝓤 (Taken r n)))

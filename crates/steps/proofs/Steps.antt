@@ -20,7 +20,7 @@ use Rattle.definitions.specs.Run.{truth, is_again}
 use Rattle.machine.specs.Machine.{Machine, rest, peek, push, range_at}
 use Rattle.machine.specs.Machine as M
 use Rattle.machine.specs.Walk.{Walked, said, perform, next_marker, close, marked, walk}
-use Rattle.machine.proofs.Turns.{ahead, Few, peek_ahead, turn-again, turn_last}
+use Rattle.machine.proofs.Turns.{ahead, Few, peek_ahead, turn_again, turn_last}
 use Rattle.parser.specs.declared.StateAnswered.{StateAnswered}
 use Rattle.parser.specs.declared.State.{State}
 use Rattle.parser.specs.declared.ParserTested.{ParserTested}
@@ -30,45 +30,45 @@ use Rattle.parser.specs.declared.Ans.TheVariants as A
 use Rattle.parser.specs.contracts.Ans.{the_type}
 use Rattle.parser.specs.View.{view, parser_view, parser_tested, ans_of, Starting, by_answer, starting}
 use Rattle.steps.specs.View.{state_answered, parser_answered, took_if_again, took_unless_no}
-use Rattle.machine.proofs.Way.{Way, Closes, c-case}
+use Rattle.machine.proofs.Way.{Way, Closes, c_case}
 
 module _ {ask : Rule → Machine → Walked} {ts : List Token} {b : Span} where
   -- a subprogram of which only the machine after it is known
-  pub c-on : {p q : Prog} {m x : Machine} {w : Walked} → x ≡ (walk ask ts b p m).on → Way ask ts b q x w → Way ask ts b (p ⨟ q) m w
+  pub c_on : {p q : Prog} {m x : Machine} {w : Walked} → x ≡ (walk ask ts b p m).on → Way ask ts b q x w → Way ask ts b (p ⨟ q) m w
   unfolding walk
-  c-on {q = q} e f = record { is = f.is ∙ ap (walk ask ts b q) e }
+  c_on {q = q} e f = record { is = f.is ∙ ap (walk ask ts b q) e }
 
   -- a brace: its label is the range of the token that stands here
-  pub c-brace : {p : Prog} {m : Machine} {c : Span} {w : Walked} → c ≡ range_at (rest ts m) m → Way ask ts c p m w → Way ask ts b (brace p) m w
+  pub c_brace : {p : Prog} {m : Machine} {c : Span} {w : Walked} → c ≡ range_at (rest ts m) m → Way ask ts c p m w → Way ask ts b (brace p) m w
   unfolding walk
-  c-brace {p = p} {m = m} e f = record { is = f.is ∙ ap (λ (c : Span). walk ask ts c p m) e }
+  c_brace {p = p} {m = m} e f = record { is = f.is ∙ ap (λ (c : Span). walk ask ts c p m) e }
 
   -- by the answer that a match has told
   module _ {c n y a : Prog} {m x : Machine} {s : ℕ} {w : Walked} where
-    pub c-answer : (v : Ans) (r : CodeAns) → Way ask ts b c m (record { ans = ans_of r; shape = s; on = x }) → ans_of r ≡ v → w ≡ choose v (walk ask ts b n) (walk ask ts b y) (walk ask ts b a) x → Way ask ts b (case c n y a) m w
-    c-answer v r e h f = c-case e (f ∙ sym (ap (λ (v : Ans). choose v (walk ask ts b n) (walk ask ts b y) (walk ask ts b a) x) h))
+    pub c_answer : (v : Ans) (r : CodeAns) → Way ask ts b c m (record { ans = ans_of r; shape = s; on = x }) → ans_of r ≡ v → w ≡ choose v (walk ask ts b n) (walk ask ts b y) (walk ask ts b a) x → Way ask ts b (case c n y a) m w
+    c_answer v r e h f = c_case e (f ∙ sym (ap (λ (v : Ans). choose v (walk ask ts b n) (walk ask ts b y) (walk ask ts b a) x) h))
 
-    pub c-said-no : (r : CodeAns) → Way ask ts b c m (record { ans = ans_of r; shape = s; on = x }) → ans_of r ≡ no → Way ask ts b n x w → Way ask ts b (case c n y a) m w
+    pub c_said_no : (r : CodeAns) → Way ask ts b c m (record { ans = ans_of r; shape = s; on = x }) → ans_of r ≡ no → Way ask ts b n x w → Way ask ts b (case c n y a) m w
     unfolding choose
-    c-said-no r e h f = c-answer no r e h f.is
+    c_said_no r e h f = c_answer no r e h f.is
 
-    pub c-said-yes : (r : CodeAns) → Way ask ts b c m (record { ans = ans_of r; shape = s; on = x }) → ans_of r ≡ yes → Way ask ts b y x w → Way ask ts b (case c n y a) m w
+    pub c_said_yes : (r : CodeAns) → Way ask ts b c m (record { ans = ans_of r; shape = s; on = x }) → ans_of r ≡ yes → Way ask ts b y x w → Way ask ts b (case c n y a) m w
     unfolding choose
-    c-said-yes r e h f = c-answer yes r e h f.is
+    c_said_yes r e h f = c_answer yes r e h f.is
 
-    pub c-said-also : (r : CodeAns) → Way ask ts b c m (record { ans = ans_of r; shape = s; on = x }) → ans_of r ≡ also → Way ask ts b a x w → Way ask ts b (case c n y a) m w
+    pub c_said_also : (r : CodeAns) → Way ask ts b c m (record { ans = ans_of r; shape = s; on = x }) → ans_of r ≡ also → Way ask ts b a x w → Way ask ts b (case c n y a) m w
     unfolding choose
-    c-said-also r e h f = c-answer also r e h f.is
+    c_said_also r e h f = c_answer also r e h f.is
 
 -- `eat_starting`, by the answer of its test
 abbrev started : (Rule → Machine → Walked) → List Token → Span → Ans → C.Matcher → Machine → Starting
 started ask ts b v k x = by_answer v (record { yes = false; marker = next_marker START_NODE x; on = x }) (record { yes = true; marker = next_marker START_NODE x; on = (walk ask ts b k.consume (push PLACEHOLDER 0 x)).on })
 
 module _ {ask : Rule → Machine → Walked} {ts : List Token} {b : Span} (k : C.Matcher) where
-  pub c-started : {p q : Prog} {m x : Machine} {z : M.Marker} {t : Bool} {v w : Walked} → starting ask ts b k m ≡ record { yes = t; marker = z; on = x } → t ≡ true → Way ask ts b p x v → Closes z v w
+  pub c_started : {p q : Prog} {m x : Machine} {z : M.Marker} {t : Bool} {v w : Walked} → starting ask ts b k m ≡ record { yes = t; marker = z; on = x } → t ≡ true → Way ask ts b p x v → Closes z v w
       → Way ask ts b (case (at k) q (in_marker (k.consume ⨟ p)) (in_marker (k.consume ⨟ p))) m w
   unfolding starting walk choose
-  c-started {p = p} {q = q} {m = m} {x = x} {z = z} {t = t} {v = v} {w = w} e h f g =
+  c_started {p = p} {q = q} {m = m} {x = x} {z = z} {t = t} {v = v} {w = w} e h f g =
       record { is = go (walk ask ts b (at k) m).ans (walk ask ts b (at k) m).on (e ∙ ap (λ (t : Bool). record { yes = t; marker = z; on = x }) h) }
     where
       go : (a : Ans) (y : Machine) → started ask ts b a k y ≡ record { yes = true; marker = z; on = x }
@@ -78,10 +78,10 @@ module _ {ask : Rule → Machine → Walked} {ts : List Token} {b : Span} (k : C
       go also y i = g.is ∙ sym (ap (λ (r : Starting). marked r.marker v) i) ∙ ap (marked (next_marker START_NODE y)) (f.is ∙ sym (ap (λ (r : Starting). walk ask ts b p r.on) i))
       go again y i = g.is ∙ sym (ap (λ (r : Starting). marked r.marker v) i) ∙ ap (marked (next_marker START_NODE y)) (f.is ∙ sym (ap (λ (r : Starting). walk ask ts b p r.on) i))
 
-  pub c-unstarted : {p q : Prog} {m x : Machine} {z : M.Marker} {t : Bool} {w : Walked} → starting ask ts b k m ≡ record { yes = t; marker = z; on = x } → t ≡ false → Way ask ts b q x w
+  pub c_unstarted : {p q : Prog} {m x : Machine} {z : M.Marker} {t : Bool} {w : Walked} → starting ask ts b k m ≡ record { yes = t; marker = z; on = x } → t ≡ false → Way ask ts b q x w
       → Way ask ts b (case (at k) q (in_marker (k.consume ⨟ p)) (in_marker (k.consume ⨟ p))) m w
   unfolding starting walk choose
-  c-unstarted {p = p} {q = q} {m = m} {x = x} {z = z} {t = t} {w = w} e h f =
+  c_unstarted {p = p} {q = q} {m = m} {x = x} {z = z} {t = t} {w = w} e h f =
       record { is = go (walk ask ts b (at k) m).ans (walk ask ts b (at k) m).on (e ∙ ap (λ (t : Bool). record { yes = t; marker = z; on = x }) h) }
     where
       go : (a : Ans) (y : Machine) → started ask ts b a k y ≡ record { yes = false; marker = z; on = x }
@@ -95,11 +95,11 @@ module _ {ask : Rule → Machine → Walked} {ts : List Token} {b : Span} (k : C
 
 -- a turn whose answer a match has told
 module _ {ask : Rule → Machine → Walked} {ts : List Token} {b : Span} {p : Prog} {m m' : Machine} where
-  pub went-told : (r : CodeAns) → Way ask ts b p m (said (ans_of r) m') → ans_of r ≡ again → ahead ts m' < ahead ts m → walk ask ts b (loop p) m' ≡ walk ask ts b (loop p) m
-  went-told r w h l = turn-again ask ts b p m m' (sym (ap (λ (a : Ans). said a m') h) ∙ w.is) l
+  pub went_told : (r : CodeAns) → Way ask ts b p m (said (ans_of r) m') → ans_of r ≡ again → ahead ts m' < ahead ts m → walk ask ts b (loop p) m' ≡ walk ask ts b (loop p) m
+  went_told r w h l = turn_again ask ts b p m m' (sym (ap (λ (a : Ans). said a m') h) ∙ w.is) l
 
-  pub ended-told : (r : CodeAns) → Way ask ts b p m (said (ans_of r) m') → is_again (ans_of r) ≡ false → said (ans_of r) m' ≡ walk ask ts b (loop p) m
-  ended-told r w h = turn_last ask ts b p m m' (ans_of r) h w.is
+  pub ended_told : (r : CodeAns) → Way ask ts b p m (said (ans_of r) m') → is_again (ans_of r) ≡ false → said (ans_of r) m' ≡ walk ask ts b (loop p) m
+  ended_told r w h = turn_last ask ts b p m m' (ans_of r) h w.is
 
 -- ---------------------------------------------------------------- the tokens left where a test held
 
@@ -146,20 +146,20 @@ unless_no_one A.Again = omega arith
 -- ---------------------------------------------------------------- a test's own result returned
 
 module _ {ask : Rule → Machine → Walked} {ts : List Token} {b : Span} {m : Machine} {t : Bool} where
-  pub c-ret-yes : t ≡ true → Way ask ts b (ret 0 yes) m (said (truth t) m)
+  pub c_ret_yes : t ≡ true → Way ask ts b (ret 0 yes) m (said (truth t) m)
   unfolding walk
-  c-ret-yes h = record { is = ap (λ (t : Bool). said (truth t) m) h }
+  c_ret_yes h = record { is = ap (λ (t : Bool). said (truth t) m) h }
 
-  pub c-ret-no : t ≡ false → Way ask ts b (ret 0 no) m (said (truth t) m)
+  pub c_ret_no : t ≡ false → Way ask ts b (ret 0 no) m (said (truth t) m)
   unfolding walk
-  c-ret-no h = record { is = ap (λ (t : Bool). said (truth t) m) h }
+  c_ret_no h = record { is = ap (λ (t : Bool). said (truth t) m) h }
 
 -- ---------------------------------------------------------------- more
 
 module _ {ask : Rule → Machine → Walked} {ts : List Token} {b : Span} where
   -- what a subprogram comes to, whatever that is
-  pub c-any : {p : Prog} {m : Machine} → Way ask ts b p m (walk ask ts b p m)
-  c-any = record { is = refl }
+  pub c_any : {p : Prog} {m : Machine} → Way ask ts b p m (walk ask ts b p m)
+  c_any = record { is = refl }
 
 -- a marker closed by the function that it is handed to
 pub closing : {k : M.Marker} {v w : Walked} → w ≡ marked k v → Closes k v w
@@ -180,9 +180,9 @@ number again = 3
 
 module _ (ask : Rule → Machine → Walked) (ts : List Token) (b : Span) where
   -- `.silent().eat()`
-  pub taken-some : (ks : List ℕ) (k : C.Matcher) (m x : Machine) (y : Bool) → k.matches ≡ act (silent_at ks) → said (truth y) x ≡ walk ask ts b (C.silent_eat k) m → y ≡ true → 0 < ahead ts m
+  pub taken_some : (ks : List ℕ) (k : C.Matcher) (m x : Machine) (y : Bool) → k.matches ≡ act (silent_at ks) → said (truth y) x ≡ walk ask ts b (C.silent_eat k) m → y ≡ true → 0 < ahead ts m
   unfolding C.silent_eat walk perform choose number
-  taken-some ks k m x y e f h = go (first_in ks (rest ts (peek ts m))) refl
+  taken_some ks k m x y e f h = go (first_in ks (rest ts (peek ts m))) refl
     where
       go : (t : Bool) → first_in ks (rest ts (peek ts m)) ≡ t → 0 < ahead ts m
       go true i = omega (arith, first_some ks (rest ts (peek ts m)) i, peek_ahead ts m)
@@ -193,17 +193,17 @@ module _ (ask : Rule → Machine → Walked) (ts : List Token) (b : Span) where
           let z : ◌≡◌ {A = ℕ} 1 0 = ap (λ (t : Bool). number (truth t)) (sym h) ∙ ap (λ (w : Walked). number w.ans) (f ∙ q) in
           absurd (omega (arith, z))
 
-  expected-ahead : (k : ℕ) (m : Machine) → ahead ts (M.expect_code k m) ≤ ahead ts m
+  expected_ahead : (k : ℕ) (m : Machine) → ahead ts (M.expect_code k m) ≤ ahead ts m
   unfolding M.expect_code
-  expected-ahead k m = omega arith
+  expected_ahead k m = omega arith
 
   -- `eat_starting` of a kind
-  pub starting-some : (k : ℕ) (m x : Machine) (z : M.Marker) (t : Bool) → Few ts → starting ask ts b (C.of_kind k) m ≡ record { yes = t; marker = z; on = x } → t ≡ true → 0 < ahead ts m
+  pub starting_some : (k : ℕ) (m x : Machine) (z : M.Marker) (t : Bool) → Few ts → starting ask ts b (C.of_kind k) m ≡ record { yes = t; marker = z; on = x } → t ≡ true → 0 < ahead ts m
   unfolding starting at walk perform
-  starting-some k m x z t w e h = go (first_in (k ∷ []) (rest ts (peek ts (M.expect_code k m)))) refl (e ∙ ap (λ (t : Bool). record { yes = t; marker = z; on = x }) h)
+  starting_some k m x z t w e h = go (first_in (k ∷ []) (rest ts (peek ts (M.expect_code k m)))) refl (e ∙ ap (λ (t : Bool). record { yes = t; marker = z; on = x }) h)
     where
       go : (y : Bool) → first_in (k ∷ []) (rest ts (peek ts (M.expect_code k m))) ≡ y → started ask ts b (truth (first_in (k ∷ []) (rest ts (peek ts (M.expect_code k m))))) (C.of_kind k) (peek ts (M.expect_code k m)) ≡ record { yes = true; marker = z; on = x } → 0 < ahead ts m
-      go true i f = omega (arith, first_some (k ∷ []) (rest ts (peek ts (M.expect_code k m))) i, peek_ahead ts (M.expect_code k m), expected-ahead k m)
+      go true i f = omega (arith, first_some (k ∷ []) (rest ts (peek ts (M.expect_code k m))) i, peek_ahead ts (M.expect_code k m), expected_ahead k m)
       go false i f =
           absurd (false≢true (sym (ap (λ (y : Bool). (started ask ts b (truth y) (C.of_kind k) (peek ts (M.expect_code k m))).yes) i) ∙ ap (λ (r : Starting). r.yes) f))
 

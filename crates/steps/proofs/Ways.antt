@@ -13,7 +13,7 @@ use Rattle.definitions.specs.Prog.{choose, Ans, no, yes, again, Rule, emit_unclo
 use Rattle.definitions.specs.Run.{truth, is_again}
 use Rattle.machine.specs.Machine.{Machine, Marker, push, complete, emit}
 use Rattle.machine.specs.Walk.{Walked, said, perform, next_marker, close, marked, walk}
-use Rattle.machine.proofs.Turns.{ahead, turn-again, turn_last}
+use Rattle.machine.proofs.Turns.{ahead, turn_again, turn_last}
 use Rattle.machine.proofs.Way.{Way, Closes}
 
 module _ {ask : Rule → Machine → Walked} {ts : List Token} {b : Span} where
@@ -69,28 +69,28 @@ module _ {ask : Rule → Machine → Walked} {ts : List Token} {b : Span} where
 
   -- a turn that answers again and moved the cursor: the loop from here is the loop from there
   pub turns : {p : Prog} {m m' : Machine} → Way ask ts b p m (said again m') → ahead ts m' < ahead ts m → walk ask ts b (loop p) m' ≡ walk ask ts b (loop p) m
-  turns {p = p} {m = m} {m' = m'} e h = turn-again ask ts b p m m' e.is h
+  turns {p = p} {m = m} {m' = m'} e h = turn_again ask ts b p m m' e.is h
 
   -- a turn that ends the loop
-  pub stops-yes : {p : Prog} {m m' : Machine} → Way ask ts b p m (said yes m') → said yes m' ≡ walk ask ts b (loop p) m
+  pub stops_yes : {p : Prog} {m m' : Machine} → Way ask ts b p m (said yes m') → said yes m' ≡ walk ask ts b (loop p) m
   unfolding is_again
-  stops-yes {p = p} {m = m} {m' = m'} e = turn_last ask ts b p m m' yes refl e.is
+  stops_yes {p = p} {m = m} {m' = m'} e = turn_last ask ts b p m m' yes refl e.is
 
-  pub stops-no : {p : Prog} {m m' : Machine} → Way ask ts b p m (said no m') → said no m' ≡ walk ask ts b (loop p) m
+  pub stops_no : {p : Prog} {m m' : Machine} → Way ask ts b p m (said no m') → said no m' ≡ walk ask ts b (loop p) m
   unfolding is_again
-  stops-no {p = p} {m = m} {m' = m'} e = turn_last ask ts b p m m' no refl e.is
+  stops_no {p = p} {m = m} {m' = m'} e = turn_last ask ts b p m m' no refl e.is
 
   -- ---------------------------------------------------------------- a caller's marker, a flag, a brace
 
   -- a function that closes its caller's marker
-  pub closes-to : {p : Prog} {k : Marker} {m : Machine} {v w : Walked} → Way ask ts b p m v → Closes k v w → w ≡ marked k (walk ask ts b p m)
-  closes-to {k = k} f g = g.is ∙ ap (marked k) f.is
+  pub closes_to : {p : Prog} {k : Marker} {m : Machine} {v w : Walked} → Way ask ts b p m v → Closes k v w → w ≡ marked k (walk ask ts b p m)
+  closes_to {k = k} f g = g.is ∙ ap (marked k) f.is
 
   -- a program that a flag chooses
-  pub c-flag : (p : Bool → Prog) {t v : Bool} {m : Machine} {w : Walked} → t ≡ v → Way ask ts b (p v) m w → Way ask ts b (p t) m w
-  c-flag p {m = m} {w = w} h f = record { is = f.is ∙ sym (ap (λ (t : Bool). walk ask ts b (p t) m) h) }
+  pub c_flag : (p : Bool → Prog) {t v : Bool} {m : Machine} {w : Walked} → t ≡ v → Way ask ts b (p v) m w → Way ask ts b (p t) m w
+  c_flag p {m = m} {w = w} h f = record { is = f.is ∙ sym (ap (λ (t : Bool). walk ask ts b (p t) m) h) }
 
   -- the report of a node that is not closed, at its brace
-  pub c-unclosed : {m x : Machine} → x ≡ emit ts E.unclosed_node E.no_hint b m → Way ask ts b (act emit_unclosed) m (said yes x)
+  pub c_unclosed : {m x : Machine} → x ≡ emit ts E.unclosed_node E.no_hint b m → Way ask ts b (act emit_unclosed) m (said yes x)
   unfolding walk perform
-  c-unclosed e = record { is = ap (said yes) e }
+  c_unclosed e = record { is = ap (said yes) e }

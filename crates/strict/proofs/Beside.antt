@@ -60,40 +60,40 @@ module _ (n s : ℕ) (bytes tokens : List ℕ) (b : Buffers) (e : Entry) (for-e 
     unfolding outcome
     its v g = after s (fits x) f ∙ ap (λ (q : Verdict). unless_refused q (z s) b) g
 
-    by-room : (y : Bool) → (leb (length (z 0).trees) (length b.trees) && leb (length (z 0).errors) (length b.errors)) ≡ y
+    by_room : (y : Bool) → (leb (length (z 0).trees) (length b.trees) && leb (length (z 0).errors) (length b.errors)) ≡ y
         → names_fit x.reports (names_of s e bytes ts) ≡ accepted → Beside n s bytes tokens b
     unfolding unless_refused delivered sheets
-    by-room true h g = both e (its accepted g ∙ ap (λ (q : Bool). cond q (kept (z s) b) (cleared no_tree_room b)) h) (old ∙ ap (λ (q : Bool). cond q (kept (z 0) b) (cleared no_tree_room b)) h)
-    by-room false h g =
+    by_room true h g = both e (its accepted g ∙ ap (λ (q : Bool). cond q (kept (z s) b) (cleared no_tree_room b)) h) (old ∙ ap (λ (q : Bool). cond q (kept (z 0) b) (cleared no_tree_room b)) h)
+    by_room false h g =
         same
         ((its accepted g ∙ ap (λ (q : Bool). cond q (kept (z s) b) (cleared no_tree_room b)) h)
         ∙ sym (old ∙ ap (λ (q : Bool). cond q (kept (z 0) b) (cleared no_tree_room b)) h))
 
     by_names : (v : Verdict) → names_fit x.reports (names_of s e bytes ts) ≡ v → Beside n s bytes tokens b
     unfolding unless_refused
-    by_names accepted g = by-room _ refl g
+    by_names accepted g = by_room _ refl g
     by_names (refused r) g =
         let w : (m : ℕ) × (r ≡ no_report_room m) = refused_names x.reports (names_of s e bytes ts) r g in
         no_room w.0 (z 0) (its (refused r) g ∙ ap (λ (q : Refusal). cleared q b) w.1) old
 
-  by-fit : (f : Fit) → scan (pushes o) (room_of b) ≡ f → Beside n s bytes tokens b
+  by_fit : (f : Fit) → scan (pushes o) (room_of b) ≡ f → Beside n s bytes tokens b
   unfolding outcome
-  by-fit (fits x) h = by_names x h _ refl
-  by-fit (stops r) h = same (after s (stops r) h ∙ sym (after 0 (stops r) h))
+  by_fit (fits x) h = by_names x h _ refl
+  by_fit (stops r) h = same (after s (stops r) h ∙ sym (after 0 (stops r) h))
 
 pub beside : (n s : ℕ) (bytes tokens : List ℕ) (b : Buffers) → Beside n s bytes tokens b
 unfolding call asked checked
 beside n s bytes tokens b = by_entry (entry_of n) refl
   where
-    by-input : (e : Entry) → entry_of n ≡ for e → (v : Verdict) → check_input bytes tokens ≡ v → Beside n s bytes tokens b
-    by-input e h accepted ok = by-fit n s bytes tokens b e h ok _ refl
-    by-input e h (refused r) bad =
+    by_input : (e : Entry) → entry_of n ≡ for e → (v : Verdict) → check_input bytes tokens ≡ v → Beside n s bytes tokens b
+    by_input e h accepted ok = by_fit n s bytes tokens b e h ok _ refl
+    by_input e h (refused r) bad =
         let to : (t : ℕ) → call n t bytes tokens b ≡ checked (refused r) e t bytes tokens b =
         λ t. ap (λ (y : Asked). asked y t bytes tokens b) h ∙ ap (λ (v : Verdict). checked v e t bytes tokens b) bad in
         same (to s ∙ sym (to 0))
 
     by_entry : (x : Asked) → entry_of n ≡ x → Beside n s bytes tokens b
-    by_entry (for e) h = by-input e h _ refl
+    by_entry (for e) h = by_input e h _ refl
     by_entry unknown h =
         let to : (t : ℕ) → call n t bytes tokens b ≡ asked unknown t bytes tokens b = λ t. ap (λ (y : Asked). asked y t bytes tokens b) h in
         same (to s ∙ sym (to 0))

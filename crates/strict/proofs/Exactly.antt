@@ -58,22 +58,22 @@ module _ (s : ℕ) (strict : s ≡ 0 → ⊥) (e : Entry) (bytes : List ℕ) (ts
   abbrev names : List NameAt
   names = breaking bytes (judged false 0 0 t)
 
-  names-are : names_of s e bytes ts ≡ names
-  names-are = strict_names s bytes t strict
+  names_are : names_of s e bytes ts ≡ names
+  names_are = strict_names s bytes t strict
 
   tree_is : tree_of r ≡ shown t
   unfolding sheets
   tree_is = ap read (in_front e bytes ts b full) ∙ read_back (shown t) (shown_counts t)
 
   count_is : r.answer.report_count ≡ c + length names
-  count_is = all_count s e bytes ts ∙ ap (λ (l : List NameAt). c + length l) names-are
+  count_is = all_count s e bytes ts ∙ ap (λ (l : List NameAt). c + length l) names_are
 
   -- the row of the Name at an index
   row_is : {n : NameAt} {j : ℕ} → At n j names → report_row r (c + j) ≡ E.not_a_label ∷ n.start ∷ n.end ∷ n.first_token ∷ r.answer.expectation_count ∷ 0 ∷ E.no_hint ∷ 0 ∷ 0 ∷ []
   unfolding sheets
   row_is {n} {j} h =
       row_behind (run_rows e ts) (name_rows s e bytes ts) _ c j (run_rows_length e ts)
-      ∙ row_at (length (pool (run_reports e ts))) _ (subst (At n j) (sym names-are) h)
+      ∙ row_at (length (pool (run_reports e ts))) _ (subst (At n j) (sym names_are) h)
 
   -- a Name of the list is one that breaks the rule, and its row is its report
   record Told (q : ℕ) (n : NameAt) : Type 0 where

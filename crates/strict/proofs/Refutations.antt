@@ -207,7 +207,7 @@ braced x = let w = x.each_report 0 (omega arith) (omega arith) in go (judged_way
 -- `1a{};`: the name of a node
 node_name : Exact (49 ∷ 97 ∷ 123 ∷ 125 ∷ 59 ∷ []) 0 (says 6 (0 ∷ 0 ∷ 5 ∷ 1 ∷ 0 ∷ 0 ∷ 15 ∷ 5 ∷ 4 ∷ 0 ∷ 1 ∷ 26 ∷ 2 ∷ 2 ∷ 1 ∷ 1 ∷ 37 ∷ 1 ∷ 1 ∷ 1 ∷ 1 ∷ 38 ∷ 1 ∷ 1 ∷ 1 ∷ 1 ∷ 29 ∷ 1 ∷ 1 ∷ 1 ∷ []) 1 (8 ∷ 0 ∷ 2 ∷ 0 ∷ 0 ∷ 0 ∷ 0 ∷ 0 ∷ 0 ∷ [])) → ⊥
 unfolding read
-node_name x = let w = x.each_report 0 (omega arith) (omega arith) in in-file (judged_ways w.3.judged)
+node_name x = let w = x.each_report 0 (omega arith) (omega arith) in in_file (judged_ways w.3.judged)
   where
     in_node : {v a y : ℕ} → JudgedWays v a y (node 15 5 4 (leaf 26 2 2 (leaf 37 1 1 (leaf 38 1 1 (leaf 29 1 1 end)))) end) → ⊥
     in_node (inl (inl e, h)) = omega arith
@@ -215,11 +215,11 @@ node_name x = let w = x.each_report 0 (omega arith) (omega arith) in in-file (ju
     in_node (inr (inl h)) = none_in_leaves (leaf 26 2 2 (leaf 37 1 1 (leaf 38 1 1 (leaf 29 1 1 end)))) tt h
     in_node (inr (inr h)) = none_in_leaves end tt h.4
 
-    in-file : {v a y : ℕ} → JudgedWays v a y (node 0 5 1 (node 15 5 4 (leaf 26 2 2 (leaf 37 1 1 (leaf 38 1 1 (leaf 29 1 1 end)))) end) end) → ⊥
-    in-file (inl (inl e, h)) = omega arith
-    in-file (inl (inr e, h)) = omega (arith, e.0)
-    in-file (inr (inl h)) = in_node (judged_ways h)
-    in-file (inr (inr h)) = none_in_leaves end tt h.4
+    in_file : {v a y : ℕ} → JudgedWays v a y (node 0 5 1 (node 15 5 4 (leaf 26 2 2 (leaf 37 1 1 (leaf 38 1 1 (leaf 29 1 1 end)))) end) end) → ⊥
+    in_file (inl (inl e, h)) = omega arith
+    in_file (inl (inr e, h)) = omega (arith, e.0)
+    in_file (inr (inl h)) = in_node (judged_ways h)
+    in_file (inr (inr h)) = none_in_leaves end tt h.4
 
 -- `_:c{};`: a label that keeps the rule
 kept_label : Exact (95 ∷ 58 ∷ 99 ∷ 123 ∷ 125 ∷ 59 ∷ []) 0 (says 9 (0 ∷ 0 ∷ 6 ∷ 1 ∷ 0 ∷ 0 ∷ 15 ∷ 6 ∷ 5 ∷ 0 ∷ 0 ∷ 19 ∷ 2 ∷ 2 ∷ 1 ∷ 1 ∷ 26 ∷ 1 ∷ 1 ∷ 2 ∷ 1 ∷ 31 ∷ 1 ∷ 1 ∷ 2 ∷ 1 ∷ 26 ∷ 1 ∷ 1 ∷ 1 ∷ 1 ∷ 37 ∷ 1 ∷ 1 ∷ 1 ∷ 1 ∷ 38 ∷ 1 ∷ 1 ∷ 1 ∷ 1 ∷ 29 ∷ 1 ∷ 1 ∷ 1 ∷ []) 1 (8 ∷ 0 ∷ 1 ∷ 0 ∷ 0 ∷ 0 ∷ 0 ∷ 0 ∷ 0 ∷ [])) → ⊥

@@ -39,12 +39,12 @@ one_strict_setting n s t bytes tokens b h g = by_entry (entry_of n)
         ap (λ (l : List NameAt). outcome (scan (pushes (run_entry e ts)) (room_of b)) e ts (run_entry e ts) l b)
         (strict_names s bytes (root (root_kind e) (run_entry e ts) ts) h ∙ sym (strict_names t bytes (root (root_kind e) (run_entry e ts) ts) g))
 
-    by-input : (e : Entry) (v : Verdict) → checked v e s bytes tokens b ≡ checked v e t bytes tokens b
-    by-input e accepted = parsed e (tokens_of tokens)
-    by-input e (refused r) = refl
+    by_input : (e : Entry) (v : Verdict) → checked v e s bytes tokens b ≡ checked v e t bytes tokens b
+    by_input e accepted = parsed e (tokens_of tokens)
+    by_input e (refused r) = refl
 
     by_entry : (x : Asked) → asked x s bytes tokens b ≡ asked x t bytes tokens b
-    by_entry (for e) = by-input e (check_input bytes tokens)
+    by_entry (for e) = by_input e (check_input bytes tokens)
     by_entry unknown = refl
 
 -- ---------------------------------------------------------------- it leaves the tree alone
@@ -83,11 +83,11 @@ seven m b = refl
 -- what comes to cause 8 is accepted or it is 8
 delivered_number : (z : Sheets) (b : Buffers) → ((delivered z b).answer.number ≡ 0) ⊎ ((delivered z b).answer.number ≡ NO_TREE_ROOM)
 unfolding delivered number_of
-delivered_number z b = by-room (leb (length z.trees) (length b.trees) && leb (length z.errors) (length b.errors))
+delivered_number z b = by_room (leb (length z.trees) (length b.trees) && leb (length z.errors) (length b.errors))
   where
-    by-room : (q : Bool) → ((cond q (kept z b) (cleared no_tree_room b)).answer.number ≡ 0) ⊎ ((cond q (kept z b) (cleared no_tree_room b)).answer.number ≡ NO_TREE_ROOM)
-    by-room true = inl refl
-    by-room false = inr refl
+    by_room : (q : Bool) → ((cond q (kept z b) (cleared no_tree_room b)).answer.number ≡ 0) ⊎ ((cond q (kept z b) (cleared no_tree_room b)).answer.number ≡ NO_TREE_ROOM)
+    by_room true = inl refl
+    by_room false = inr refl
 
 -- a result is the same tree as itself
 itself : (r : Result) → r.answer.number ≡ 0 → SameTree r r
@@ -107,27 +107,27 @@ itself r h =
     }
 
 pub leaves_tree_alone : LeavesTreeAlone
-leaves_tree_alone n s bytes tokens b h = by-case (beside n s bytes tokens b)
+leaves_tree_alone n s bytes tokens b h = by_case (beside n s bytes tokens b)
   where
-    by-case : Beside n s bytes tokens b → SameTree (call n s bytes tokens b) (call n 0 bytes tokens b)
-    by-case (same e) = subst (SameTree (call n s bytes tokens b)) e (itself (call n s bytes tokens b) h)
-    by-case (no_room m z e f) = let x : (call n s bytes tokens b).answer.number ≡ NO_REPORT_ROOM = ap (λ (r : Result). r.answer.number) e ∙ seven m b in absurd (omega (arith, h, x))
-    by-case (both e f g) =
+    by_case : Beside n s bytes tokens b → SameTree (call n s bytes tokens b) (call n 0 bytes tokens b)
+    by_case (same e) = subst (SameTree (call n s bytes tokens b)) e (itself (call n s bytes tokens b) h)
+    by_case (no_room m z e f) = let x : (call n s bytes tokens b).answer.number ≡ NO_REPORT_ROOM = ap (λ (r : Result). r.answer.number) e ∙ seven m b in absurd (omega (arith, h, x))
+    by_case (both e f g) =
         subst (λ (r : Result). SameTree r (call n 0 bytes tokens b)) (sym f)
         (subst (SameTree (kept (written_by s e bytes (tokens_of tokens)) b)) (sym g) (kept_tree s e bytes (tokens_of tokens) b))
 
 -- ---------------------------------------------------------------- refusals
 
 pub same_refusals : SameRefusals
-same_refusals n s bytes tokens b h g = by-case (beside n s bytes tokens b)
+same_refusals n s bytes tokens b h g = by_case (beside n s bytes tokens b)
   where
-    by-case : Beside n s bytes tokens b → call n 0 bytes tokens b ≡ call n s bytes tokens b
-    by-case (same e) = sym e
-    by-case (no_room m z e f) = absurd (g (ap (λ (r : Result). r.answer.number) e ∙ seven m b))
-    by-case (both x e f) = absurd (h (ap (λ (r : Result). r.answer.number) e))
+    by_case : Beside n s bytes tokens b → call n 0 bytes tokens b ≡ call n s bytes tokens b
+    by_case (same e) = sym e
+    by_case (no_room m z e f) = absurd (g (ap (λ (r : Result). r.answer.number) e ∙ seven m b))
+    by_case (both x e f) = absurd (h (ap (λ (r : Result). r.answer.number) e))
 
 pub old_refusals : OldRefusals
-old_refusals n s bytes tokens b h = by-case (beside n s bytes tokens b)
+old_refusals n s bytes tokens b h = by_case (beside n s bytes tokens b)
   where
     Answers : Type 0
     Answers =
@@ -139,7 +139,7 @@ old_refusals n s bytes tokens b h = by-case (beside n s bytes tokens b)
     by_number m z e f (inl x) = absurd (h (ap (λ (r : Result). r.answer.number) f ∙ x))
     by_number m z e f (inr x) = inr (ap (λ (r : Result). r.answer.number) f ∙ x, ap (λ (r : Result). r.answer.number) e ∙ seven m b)
 
-    by-case : Beside n s bytes tokens b → Answers
-    by-case (same e) = inl e
-    by-case (no_room m z e f) = by_number m z e f (delivered_number z b)
-    by-case (both x e f) = absurd (h (ap (λ (r : Result). r.answer.number) f))
+    by_case : Beside n s bytes tokens b → Answers
+    by_case (same e) = inl e
+    by_case (no_room m z e f) = by_number m z e f (delivered_number z b)
+    by_case (both x e f) = absurd (h (ap (λ (r : Result). r.answer.number) f))

@@ -107,10 +107,10 @@ at_end = taken []
 -- a program whose loop stalls: it would go round for ever
 stalled : EveryStep Moves (steps (run 64) (run_steps 64) no_label (loop (ret 0 again)) at_number) → ⊥
 unfolding steps is_again
-stalled h = not-less (h.1.1.0 refl)
+stalled h = not_less (h.1.1.0 refl)
   where
-    not-less : 1 < 1 → ⊥
-    not-less e = omega arith
+    not_less : 1 < 1 → ⊥
+    not_less e = omega arith
 
 -- no turn left
 no_turn_left : Moves spent → ⊥
@@ -119,10 +119,10 @@ no_turn_left h = h
 -- a link that moved and did not complete its marker
 no_marker : Moves (linked at_number (record { ans = again; shape = 0; made = done; state = at_end })) → ⊥
 unfolding is_again
-no_marker h = not-less (h refl).1
+no_marker h = not_less (h refl).1
   where
-    not-less : 0 < 0 → ⊥
-    not-less e = omega arith
+    not_less : 0 < 0 → ⊥
+    not_less e = omega arith
 
 -- a condition that answers again
 asked_again : Answers (branched again) → ⊥

@@ -1,7 +1,7 @@
 -- `binding_power` works the powers out from the level.
 use mathlib.Core.Bool.{true, false}
 use native.Mathlib.Omega.{arith}
-use Rattle.binding_power.proofs.Powers.{level_small, ternary_powers, level-powers}
+use Rattle.binding_power.proofs.Powers.{level_small, ternary_powers, level_powers}
 use borrow.Author.Rules.{rules}
 use Rattle.binding_power.proofs.binding_power.Statement.{statement}
 use Rattle.binding_power.proofs.binding_power.Tie as tie
@@ -16,7 +16,7 @@ returns-2 : tie.Need-returns-2
 returns-2 c =
     let s = c.before.before.before in
     let level' = c.before.level in
-    level-powers s.args.k level'.result s.ranges.k.fits c.before.before.if1.false level'.ensures true c.if2.true
+    level_powers s.args.k level'.result s.ranges.k.fits c.before.before.if1.false level'.ensures true c.if2.true
 
 mul_left : tie.Need-overflow-mul-left
 mul_left c =
@@ -42,7 +42,7 @@ returns-3 : tie.Need-returns-3
 returns-3 c =
     let s = c.before.before.before in
     let level' = c.before.level in
-    let powers = level-powers s.args.k level'.result s.ranges.k.fits c.before.before.if1.false level'.ensures false c.if2.false in
+    let powers = level_powers s.args.k level'.result s.ranges.k.fits c.before.before.if1.false level'.ensures false c.if2.false in
     (omega (arith, powers.0), (omega (arith, powers.1.0), powers.1.1))
 
 pub binding_power_spec : {M : Type 1} → statement M

@@ -3,7 +3,7 @@ use mathlib.Core.Path.{refl, sym, ap, ◌∙◌}
 use borrow.Author.Rules.{rules}
 use Rattle.definitions.specs.Refusal.{number_of, place_of}
 use Rattle.call.specs.Result.{answer_of, buffers_of, result_of}
-use Rattle.call.proofs.Called.{other_entry, refused-call, sound-call}
+use Rattle.call.proofs.Called.{other_entry, refused_call, sound_call}
 use Rattle.dt_parser.specs.Asked.{asked_of}
 use Rattle.dt_parser.proofs.dt_parse.Statement.{statement}
 use Rattle.dt_parser.proofs.dt_parse.Tie as tie
@@ -58,7 +58,7 @@ returns-2 c =
     let check = c.before.before.before.before.before.before.before.before.before.before.before.before.before.before.before.before.before.before.check in
     let test = c.before.before.before.before.before.before.before.before.before.before.before.before.before.before.before.before.if1 in
     let parse = c.before.before.before.before.before.before.before.before.before.before.parse in
-    sound-call _ a.setting a.bytes.now a.tokens.now (buffers_of a.events.now a.trees.now a.errors.now a.reports.now a.pool.now) a.entry (result_of parse.result (buffers_of parse.new.1.1.1.1.0 parse.new.1.1.1.1.1.0 parse.new.1.1.1.1.1.1.0 parse.new.1.1.1.1.1.1.1.0 parse.new.1.1.1.1.1.1.1.1.0)) (sym (ap asked_of asked.given.1) ∙ entry_of.ensures) (check.ensures.sound test.true) parse.ensures
+    sound_call _ a.setting a.bytes.now a.tokens.now (buffers_of a.events.now a.trees.now a.errors.now a.reports.now a.pool.now) a.entry (result_of parse.result (buffers_of parse.new.1.1.1.1.0 parse.new.1.1.1.1.1.0 parse.new.1.1.1.1.1.1.0 parse.new.1.1.1.1.1.1.1.0 parse.new.1.1.1.1.1.1.1.1.0)) (sym (ap asked_of asked.given.1) ∙ entry_of.ensures) (check.ensures.sound test.true) parse.ensures
 
 returns-3 : tie.Need-returns-3
 returns-3 c =
@@ -67,7 +67,7 @@ returns-3 c =
     let asked = c.before.before.before.before.asked in
     let check = c.before.before.check in
     let test = c.if1 in
-    refused-call _ a.setting a.bytes.now a.tokens.now (buffers_of a.events.now a.trees.now a.errors.now a.reports.now a.pool.now) a.entry (result_of check.result (buffers_of a.events.now a.trees.now a.errors.now a.reports.now a.pool.now)) (sym (ap asked_of asked.given.1) ∙ entry_of.ensures) check.result refl (check.ensures.not_sound test.false)
+    refused_call _ a.setting a.bytes.now a.tokens.now (buffers_of a.events.now a.trees.now a.errors.now a.reports.now a.pool.now) a.entry (result_of check.result (buffers_of a.events.now a.trees.now a.errors.now a.reports.now a.pool.now)) (sym (ap asked_of asked.given.1) ∙ entry_of.ensures) check.result refl (check.ensures.not_sound test.false)
 
 pub dt_parse_spec : {M : Type 1} → statement M
 dt_parse_spec =

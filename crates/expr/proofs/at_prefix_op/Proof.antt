@@ -2,7 +2,7 @@
 use native.Mathlib.Omega.{arith}
 use Rattle.definitions.specs.Token.{tokens_of}
 use Rattle.definitions.specs.Check.{silent}
-use Rattle.machine.proofs.Way.{c-act, c-seq}
+use Rattle.machine.proofs.Way.{c_act, c_seq}
 use borrow.Author.Rules.{rules}
 use Rattle.expr.proofs.at_prefix_op.Statement.{statement}
 use Rattle.expr.proofs.at_prefix_op.Tie as tie
@@ -22,7 +22,7 @@ returns c =
     let add-expected' = c.before.before.add_expected in
     let silent-at-set' = c.silent-at-set in
     let s' = c.before.before.before.before in (
-      λ ask b events reports pool. (c-seq (c-act (add-expected'.ensures.0 (tokens_of s'.args.tokens.now) b events reports pool)) (c-act (silent-at-set'.ensures.0 b events reports pool))).is,
+      λ ask b events reports pool. (c_seq (c_act (add-expected'.ensures.0 (tokens_of s'.args.tokens.now) b events reports pool)) (c_act (silent-at-set'.ensures.0 b events reports pool))).is,
       (omega (arith, add-expected'.ensures.1 s'.args.tokens.now, silent-at-set'.ensures.1.0), silent-at-set'.ensures.1.1),
     )
 

@@ -3,7 +3,7 @@ use native.Mathlib.Omega.{arith}
 use Rattle.definitions.specs.Token.{tokens_of}
 use Rattle.definitions.specs.Grammar.{dt_expr}
 use Rattle.machine.specs.Walk.{walk_rule, unlabelled}
-use Rattle.machine.proofs.Way.{c-walk, c-act, c-ret, c-seq, c-mark, completed, c_call, way}
+use Rattle.machine.proofs.Way.{c_walk, c_act, c_ret, c_seq, c_mark, completed, c_call, way}
 use Rattle.expr.proofs.dt_expr.Statement.{statement}
 use Rattle.expr.proofs.dt_expr.Tie as tie
 
@@ -62,7 +62,7 @@ returns c =
     let g = f.before.before.before.before in
     let i = g.before.before in
     let s = i.before.before.before.before.before in
-    (way s.args.allowed (c-mark i.new.ensures (g.start.ensures.0 _ _) (c-seq (c-seq (c-act (f.bump.ensures.0 unlabelled _ _)) (c-seq (c_call s.args.allowed e.expr.ensures.0) (c-walk (d.expect.ensures.0 (walk_rule s.args.allowed (tokens_of s.args.tokens.now)) unlabelled)))) c-ret) (completed (a.complete.ensures.0 _ _))), omega (arith, g.start.ensures.1 s.args.tokens.now, f.bump.ensures.1, e.expr.ensures.1.0, d.expect.ensures.1.0, a.complete.ensures.1 s.args.tokens.now))
+    (way s.args.allowed (c_mark i.new.ensures (g.start.ensures.0 _ _) (c_seq (c_seq (c_act (f.bump.ensures.0 unlabelled _ _)) (c_seq (c_call s.args.allowed e.expr.ensures.0) (c_walk (d.expect.ensures.0 (walk_rule s.args.allowed (tokens_of s.args.tokens.now)) unlabelled)))) c_ret) (completed (a.complete.ensures.0 _ _))), omega (arith, g.start.ensures.1 s.args.tokens.now, f.bump.ensures.1, e.expr.ensures.1.0, d.expect.ensures.1.0, a.complete.ensures.1 s.args.tokens.now))
 
 pub dt_expr_spec : {M : Type 1} → statement M
 dt_expr_spec = tie.close (tie.spec new-requires start-requires bump-requires expr-requires expect-requires complete-requires same_length same-length-2 same-length-3 returns)

@@ -1,6 +1,6 @@
 -- `literal_expr` is the walk of a marker around one token.
 use native.Mathlib.Omega.{arith}
-use Rattle.machine.proofs.Way.{c-act, c-seq, c-ret, c-mark, completed}
+use Rattle.machine.proofs.Way.{c_act, c_seq, c_ret, c_mark, completed}
 use borrow.Author.Rules.{rules}
 use Rattle.expr.proofs.literal_expr.Statement.{statement}
 use Rattle.expr.proofs.literal_expr.Tie as tie
@@ -27,7 +27,7 @@ returns c =
     let bump' = c.before.before.before.before.before.before.bump in
     let complete' = c.before.before.complete in
     let s' = c.before.before.before.before.before.before.before.before.before.before.before.before.before.before.before in (
-      λ ask b reports pool. (c-mark new'.ensures (start'.ensures.0 reports pool) (c-seq (c-act (bump'.ensures.0 b reports pool)) c-ret) (completed (complete'.ensures.0 reports pool))).is,
+      λ ask b reports pool. (c_mark new'.ensures (start'.ensures.0 reports pool) (c_seq (c_act (bump'.ensures.0 b reports pool)) c_ret) (completed (complete'.ensures.0 reports pool))).is,
       omega (arith, start'.ensures.1 s'.args.tokens.now, bump'.ensures.1, complete'.ensures.1 s'.args.tokens.now),
     )
 

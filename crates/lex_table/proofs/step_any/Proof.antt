@@ -3,7 +3,7 @@ use Prim.Native.Nat.{◌<◌}
 use native.Mathlib.Omega.{arith}
 use borrow.Author.Rules.{rules}
 use Rattle.basics.proofs.Flags.{flags}
-use Rattle.lex_table.proofs.Looks.{class-read, class-small, short_read}
+use Rattle.lex_table.proofs.Looks.{class_read, class_small, short_read}
 use Rattle.lex_table.proofs.step_any.Statement.{statement}
 use Rattle.lex_table.proofs.step_any.Tie as tie
 use Rattle.lex_table.proofs.step_any.Reads as reads
@@ -47,7 +47,7 @@ small : (c : Read) → c.wide16.result < 31
 small c =
     let s = c.before.before.before.before in
     let j = c.before.before.wide8 in
-    class-small s.args.t.now j.result s.args.b c.wide16.result s.requires.0 j.ensures c.wide16.ensures (omega arith)
+    class_small s.args.t.now j.result s.args.b c.wide16.result s.requires.0 j.ensures c.wide16.ensures (omega arith)
 
 add-wide16-2 : tie.Need-overflow-add-wide16-2
 add-wide16-2 c = omega (flags, small c)
@@ -71,7 +71,7 @@ returns-2 c =
     let k = c.before.before.wide16 in
     let a = s.args in
     short_read a.t.now a.row a.b k.result c.wide162.result s.requires.0 c.before.before.before.before.before.if1.false
-    (class-read a.t.now j.result a.b k.result s.requires.0 j.ensures k.ensures) c.wide162.ensures
+    (class_read a.t.now j.result a.b k.result s.requires.0 j.ensures k.ensures) c.wide162.ensures
 
 pub step_any_spec : {M : Type 1} → statement M
 step_any_spec =

@@ -2,7 +2,7 @@
 use mathlib.Core.List.{[]}
 use borrow.Author.Rules.{rules}
 use Rattle.call.specs.Result.{buffers_of}
-use Rattle.listing.proofs.Fits.{fits-list, full-list}
+use Rattle.listing.proofs.Fits.{fits_list, full_list}
 use Rattle.listing.proofs.finish.Statement.{statement}
 use Rattle.listing.proofs.finish.Tie as tie
 use Rattle.listing.proofs.finish.Reads as reads
@@ -24,7 +24,7 @@ same_length c = search rules
 returns : tie.Need-returns
 returns c =
     let a = c.before.before.before.before.before.before.before.before.before.before.args in
-    fits-list a.a a.count a.list.now (buffers_of [] a.trees.now a.errors.now a.reports.now a.pool.now) c.before.before.clear.new.0 c.before.before.before.before.if1.true c.before.before.clear.ensures
+    fits_list a.a a.count a.list.now (buffers_of [] a.trees.now a.errors.now a.reports.now a.pool.now) c.before.before.clear.new.0 c.before.before.before.before.if1.true c.before.before.clear.ensures
 
 -- src/lib.rt:66:5
 clear-all-requires : tie.Need-clear-all-requires
@@ -63,7 +63,7 @@ returns-2 : tie.Need-returns-2
 returns-2 c =
     let a = c.before.before.before.before.before.before.before.before.before.before.before.before.before.before.before.before.before.before.before.before.before.before.before.before.args in
     let e = c.before.before.before.before.before.before.before.before.before.before.before.before.clear-all in
-    full-list a.a a.count a.list.now (buffers_of [] a.trees.now a.errors.now a.reports.now a.pool.now) c.without-list.result c.before.refused.result
+    full_list a.a a.count a.list.now (buffers_of [] a.trees.now a.errors.now a.reports.now a.pool.now) c.without-list.result c.before.refused.result
     e.new.1.1.1.1.0 e.new.0 e.new.1.0 e.new.1.1.0 e.new.1.1.1.0
     c.before.before.before.before.before.before.before.before.before.before.before.before.before.before.before.before.before.before.if1.false c.without-list.ensures c.before.refused.ensures e.ensures.1.1.1.1 e.ensures.0 e.ensures.1.0 e.ensures.1.1.0 e.ensures.1.1.1.0
 

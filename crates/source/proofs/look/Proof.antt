@@ -49,7 +49,7 @@ use Rattle.token_rows.specs.Tokens.{kind_of}
 use Rattle.source.specs.Cursor.{after_token}
 use Rattle.source.specs.declared.Sight.{Sight}
 use Rattle.source.specs.declared.Source.{Source}
-use Rattle.source.proofs.Said.{Made, Peeked, KindSeen, Taken, seen_here, seen_past, taken_from, New, Peek, Immediate, Next, new-said, peek-said, immediate-said, next-said}
+use Rattle.source.proofs.Said.{Made, Peeked, KindSeen, Taken, seen_here, seen_past, taken_from, New, Peek, Immediate, Next, new_said, peek_said, immediate_said, next_said}
 use Rattle.source.specs.contracts.Sight as K
 use Rattle.source.proofs.Sight.TheLaws as K'
 use Rattle.source.specs.contracts.Source as T
@@ -118,18 +118,18 @@ module _ {M : Type 1} {𝓤 : Ura M} (𝓛 : Logic 𝓤) (mem : Memory → SProp
   place : (r : Source) (u : Val) → Is B r (u ∷ []) → Is I.the_row r.cursor (I'.lowered r.cursor ∷ [])
   place r u is = (LL.owed (T.the_type α) (T'.the_laws α) r (u ∷ []) is).1.0
 
-  place-typed : (r : Source) (u : Val) → Is B r (u ∷ []) → Holds (has_ty I'.mir (I'.lowered r.cursor)) × WT (I'.lowered r.cursor)
-  place-typed r u is = ((LL.lawful I.the_type I'.the_laws 𝓛).typed r.cursor (I'.lowered r.cursor ∷ []) (place r u is)).0
+  place_typed : (r : Source) (u : Val) → Is B r (u ∷ []) → Holds (has_ty I'.mir (I'.lowered r.cursor)) × WT (I'.lowered r.cursor)
+  place_typed r u is = ((LL.lawful I.the_type I'.the_laws 𝓛).typed r.cursor (I'.lowered r.cursor ∷ []) (place r u is)).0
 
   -- what each callee is passed, and that the caller has what it asks. The three that take a view ask the same
-  abbrev to-new : (New 𝓛 mem run).Ghost
-  to-new = (((κ, tt), (q, tt), tt, (s, (i, tt)), passed), tt)
+  abbrev to_new : (New 𝓛 mem run).Ghost
+  to_new = (((κ, tt), (q, tt), tt, (s, (i, tt)), passed), tt)
 
-  goes-new : ent 𝓤 (on_entry 𝓛 looks.signature (κ, tt) (q, tt) (s, (i, tt)) passed) (sep 𝓤 ((New 𝓛 mem run).pre to-new) (sem 𝓛 Own))
-  goes-new =
+  goes_new : ent 𝓤 (on_entry 𝓛 looks.signature (κ, tt) (q, tt) (s, (i, tt)) passed) (sep 𝓤 ((New 𝓛 mem run).pre to_new) (sem 𝓛 Own))
+  goes_new =
       qed 𝓛 ((‵ (flft κ q) ⊛ ‵ ftrue) ∷ ‵ (owns (ShrSlice (named 0) κ u32 ∷ I.the_row ∷ []) (s, (i, tt)) passed) ∷ []) ∵
       move ! (1 ∷ []) $ fsplit ! $ use1 𝓛 (‵ Own ⊛ ‵ Own) ((shr_slice_copy 𝓛 (named 0) κ u32).twice s (v ∷ [])) $ split ! $
-      move ! (0 ∷ 2 ∷ []) $ fjoin ! $ move ! (2 ∷ 0 ∷ []) $ use2 𝓛 (raw ((New 𝓛 mem run).pre to-new)) (qed 𝓛 ((‵ (flft κ q) ⊛ ‵ ftrue) ∷ ‵ (owns (ShrSlice (named 0) κ u32 ∷ I.the_row ∷ []) (s, (i, tt)) passed) ∷ []) ∵ join ! $ frame ! $ done !) $ frame ! $ done !
+      move ! (0 ∷ 2 ∷ []) $ fjoin ! $ move ! (2 ∷ 0 ∷ []) $ use2 𝓛 (raw ((New 𝓛 mem run).pre to_new)) (qed 𝓛 ((‵ (flft κ q) ⊛ ‵ ftrue) ∷ ‵ (owns (ShrSlice (named 0) κ u32 ∷ I.the_row ∷ []) (s, (i, tt)) passed) ∷ []) ∵ join ! $ frame ! $ done !) $ frame ! $ done !
 
   abbrev to : Source → Val → (Peek 𝓛 mem run).Ghost
   to r u = (((κ, tt), (q, tt), tt, (r, tt), (u ∷ [], tt)), tt)
@@ -157,10 +157,10 @@ module _ {M : Type 1} {𝓤 : Ura M} (𝓛 : Logic 𝓤) (mem : Memory → SProp
         pass1 ! (init ! 20 refl ((shr_slice_Lawful 𝓛 (named 0) κ u32).typed s (v ∷ []) g).0) $ pass1 ! (init ! 18 refl ((LL.lawful I.the_type I'.the_laws 𝓛).typed i (I'.lowered i ∷ []) ok).0) $ pass0 ! $
         -- `new`, into _3. Before the locals then stand: [what the view owns, three times; the lifetime's token; what s
         -- owns]
-        move ! (24 ∷ []) $ use1 𝓛 (raw ((New 𝓛 mem run).pre to-new) ⊛ ‵ Own) goes-new $ split ! $
-        calls_at ! fm (New 𝓛 mem run) known-new to-new (and_then ! (load ! (from ! (stop !)) (look ! 22 refl)) (and_then ! (load ! (from ! (stop !)) (look ! 20 refl)) (no_more !))) (λ u.
+        move ! (24 ∷ []) $ use1 𝓛 (raw ((New 𝓛 mem run).pre to_new) ⊛ ‵ Own) goes_new $ split ! $
+        calls_at ! fm (New 𝓛 mem run) known-new to_new (and_then ! (load ! (from ! (stop !)) (look ! 22 refl)) (and_then ! (load ! (from ! (stop !)) (look ! 20 refl)) (no_more !))) (λ u.
         use1 𝓛 (later (some (λ (r : Source). ((‵ (flft κ q) ⊛ ‵ ftrue) ⊛ ‵ (B.own_val r (u ∷ []))) ⊛ raw (ensured 𝓛 new.ended (new.clauses 𝓛 mem run) (κ, tt) (s, (i, tt)) tt r)))) (id⊢ 𝓤 _) $ await ! tt $ pick ! (λ r.
-        split ! $ move ! (1 ∷ []) $ use1 𝓛 (raw (fact 𝓤 (Made s i r))) (new-said 𝓛 mem run κ s i r) $ heard ! (Made s i r) (λ e. split ! $ move ! (1 ∷ []) $
+        split ! $ move ! (1 ∷ []) $ use1 𝓛 (raw (fact 𝓤 (Made s i r))) (new_said 𝓛 mem run κ s i r) $ heard ! (Made s i r) (λ e. split ! $ move ! (1 ∷ []) $
         peeks ! B (Is B) (shows 𝓛 B) r (u ∷ []) (λ is. land ! (from ! (stop !)) (init ! 19 refl (typed r u is)) $
         use1 𝓛 (‵ (B.own_val r (u ∷ [])) ⊛ ‵ (B.own_val r (u ∷ []))) (twice r u) $ split ! $ use1 𝓛 (‵ (B.own_val r (u ∷ [])) ⊛ ‵ (B.own_val r (u ∷ []))) (twice r u) $ split ! $
         -- `next_token` of a copy, into _4
@@ -168,7 +168,7 @@ module _ {M : Type 1} {𝓤 : Ura M} (𝓛 : Logic 𝓤) (mem : Memory → SProp
         move ! (0 ∷ 3 ∷ []) $ use2 𝓛 (raw ((Next 𝓛 mem run).pre (to r u))) (goes r u) $
         calls_at ! fm (Next 𝓛 mem run) known_next (to r u) (and_then ! (load ! (from ! (stop !)) (look ! 16 refl)) (no_more !)) (λ w.
         use1 𝓛 (later (some (λ (n : Source). ((‵ (flft κ q) ⊛ ‵ ftrue) ⊛ ‵ (B.own_val n (w ∷ []))) ⊛ raw (ensured 𝓛 next.ended (next.clauses 𝓛 mem run) (κ, tt) (r, tt) tt n)))) (id⊢ 𝓤 _) $ await ! tt $ pick ! (λ n.
-        split ! $ move ! (1 ∷ []) $ use1 𝓛 (raw (fact 𝓤 (Taken r n))) (next-said 𝓛 mem run κ r n) $ heard ! (Taken r n) (λ en. split ! $ move ! (1 ∷ []) $
+        split ! $ move ! (1 ∷ []) $ use1 𝓛 (raw (fact 𝓤 (Taken r n))) (next_said 𝓛 mem run κ r n) $ heard ! (Taken r n) (λ en. split ! $ move ! (1 ∷ []) $
         peeks ! B (Is B) (shows 𝓛 B) n (w ∷ []) (λ isn. land ! (from ! (stop !)) (init ! 19 refl (typed n w isn)) $
         rewrite ! 19 (λ (x : Val). ‵ (fat full_share (T'.mir erased) l₄ 0 x)) (ap only (LL.tells (T.the_type α) (T'.the_laws α) n (w ∷ []) isn)) refl $ drop ! $
         -- `peek_kind_immediate` of a copy, into _6
@@ -176,7 +176,7 @@ module _ {M : Type 1} {𝓤 : Ura M} (𝓛 : Logic 𝓤) (mem : Memory → SProp
         move ! (1 ∷ 0 ∷ []) $ use2 𝓛 (raw ((Immediate 𝓛 mem run).pre (to r u))) (goes r u) $
         calls_at ! fm (Immediate 𝓛 mem run) known-immediate (to r u) (and_then ! (load ! (from ! (stop !)) (look ! 11 refl)) (no_more !)) (λ w₁.
         use1 𝓛 (later (some (λ (k : ℕ). ((‵ (flft κ q) ⊛ ‵ ftrue) ⊛ ‵ (u8.own_val k (w₁ ∷ []))) ⊛ raw (ensured 𝓛 immediate.ended (immediate.clauses 𝓛 mem run) (κ, tt) (r, tt) tt k)))) (id⊢ 𝓤 _) $ await ! tt $ pick ! (λ k.
-        split ! $ move ! (1 ∷ []) $ use1 𝓛 (raw (fact 𝓤 (KindSeen r k))) (immediate-said 𝓛 mem run κ r k) $ heard ! (KindSeen r k) (λ ek. split ! $ move ! (1 ∷ []) $
+        split ! $ move ! (1 ∷ []) $ use1 𝓛 (raw (fact 𝓤 (KindSeen r k))) (immediate_said 𝓛 mem run κ r k) $ heard ! (KindSeen r k) (λ ek. split ! $ move ! (1 ∷ []) $
         peeks ! u8 (Is u8) (shows 𝓛 u8) k (w₁ ∷ []) (λ isk. land ! (from ! (stop !)) (init ! 14 refl ((uint_Lawful 𝓛 w8).typed k _ isk).0) $
         rewrite ! 14 (λ (x : Val). ‵ (fat full_share (ty_int w8) l₆ 0 x)) (ap only isk.0) refl $ drop ! $
         -- `peek` of a copy, into _9, and `peek_kind_immediate` of that, into _8
@@ -184,18 +184,18 @@ module _ {M : Type 1} {𝓤 : Ura M} (𝓛 : Logic 𝓤) (mem : Memory → SProp
         move ! (1 ∷ 0 ∷ []) $ use2 𝓛 (raw ((Peek 𝓛 mem run).pre (to r u))) (goes r u) $
         calls_at ! fm (Peek 𝓛 mem run) known-peek (to r u) (and_then ! (load ! (from ! (stop !)) (look ! 4 refl)) (no_more !)) (λ w₂.
         use1 𝓛 (later (some (λ (p : Source). ((‵ (flft κ q) ⊛ ‵ ftrue) ⊛ ‵ (B.own_val p (w₂ ∷ []))) ⊛ raw (ensured 𝓛 peek.ended (peek.clauses 𝓛 mem run) (κ, tt) (r, tt) tt p)))) (id⊢ 𝓤 _) $ await ! tt $ pick ! (λ p.
-        split ! $ move ! (1 ∷ []) $ use1 𝓛 (raw (fact 𝓤 (Peeked r p))) (peek-said 𝓛 mem run κ r p) $ heard ! (Peeked r p) (λ ep. split ! $ move ! (1 ∷ []) $
+        split ! $ move ! (1 ∷ []) $ use1 𝓛 (raw (fact 𝓤 (Peeked r p))) (peek_said 𝓛 mem run κ r p) $ heard ! (Peeked r p) (λ ep. split ! $ move ! (1 ∷ []) $
         peeks ! B (Is B) (shows 𝓛 B) p (w₂ ∷ []) (λ isp. land ! (from ! (stop !)) (init ! 7 refl (typed p w₂ isp)) $
         use2 𝓛 (raw ((Immediate 𝓛 mem run).pre (to p w₂))) (goes p w₂) $
         calls_at ! fm (Immediate 𝓛 mem run) known-immediate (to p w₂) (and_then ! (load ! (from ! (stop !)) (look ! 6 refl)) (no_more !)) (λ w₃.
         use1 𝓛 (later (some (λ (j : ℕ). ((‵ (flft κ q) ⊛ ‵ ftrue) ⊛ ‵ (u8.own_val j (w₃ ∷ []))) ⊛ raw (ensured 𝓛 immediate.ended (immediate.clauses 𝓛 mem run) (κ, tt) (p, tt) tt j)))) (id⊢ 𝓤 _) $ await ! tt $ pick ! (λ j.
-        split ! $ move ! (1 ∷ []) $ use1 𝓛 (raw (fact 𝓤 (KindSeen p j))) (immediate-said 𝓛 mem run κ p j) $ heard ! (KindSeen p j) (λ ej. split ! $ move ! (1 ∷ []) $
+        split ! $ move ! (1 ∷ []) $ use1 𝓛 (raw (fact 𝓤 (KindSeen p j))) (immediate_said 𝓛 mem run κ p j) $ heard ! (KindSeen p j) (λ ej. split ! $ move ! (1 ∷ []) $
         peeks ! u8 (Is u8) (shows 𝓛 u8) j (w₃ ∷ []) (λ isj. land ! (from ! (stop !)) (init ! 9 refl ((uint_Lawful 𝓛 w8).typed j _ isj).0) $
         rewrite ! 9 (λ (x : Val). ‵ (fat full_share (ty_int w8) l₈ 0 x)) (ap only isj.0) refl $ drop ! $
         -- the place out of _4, and the result
-        assigns ! (of_opd ! (load ! (from ! (fld ! refl (stop !))) (look_in ! 16 (sub ! 1 refl (whole !))))) (from ! (stop !)) (init ! 2 refl (place-typed n w isn)) $
+        assigns ! (of_opd ! (load ! (from ! (fld ! refl (stop !))) (look_in ! 16 (sub ! 1 refl (whole !))))) (from ! (stop !)) (init ! 2 refl (place_typed n w isn)) $
         assigns ! (agg ! (and_then ! (load ! (from ! (stop !)) (look ! 12 refl)) (and_then ! (load ! (from ! (stop !)) (look ! 8 refl)) (and_then ! (load ! (from ! (stop !)) (look ! 2 refl)) (no_more !))))) (from ! (stop !))
-        (init ! 24 refl (tt, (record { fits = isk.1 }, (record { fits = isj.1 }, ((place-typed n w isn).1, tt))))) $
+        (init ! 24 refl (tt, (record { fits = isk.1 }, (record { fits = isj.1 }, ((place_typed n w isn).1, tt))))) $
         returns ! (look ! 24 refl) $ forget ! 2 refl $ forget ! 4 refl $ forget ! 6 refl $ forget ! 8 refl $ forget ! 10 refl $ forget ! 12 refl $ forget ! 14 refl $ forget ! 16 refl $ forget ! 18 refl $ forget ! 20 refl $ forget ! 22 refl $ forget ! 24 refl $
         move ! (24 ∷ 25 ∷ []) $ free1 ! $ move ! (22 ∷ 23 ∷ []) $ free1 ! $ move ! (20 ∷ 21 ∷ []) $ free1 ! $ move ! (18 ∷ 19 ∷ []) $ free1 ! $ move ! (16 ∷ 17 ∷ []) $ free1 ! $ move ! (14 ∷ 15 ∷ []) $ free1 ! $ move ! (12 ∷ 13 ∷ []) $ free1 ! $ move ! (10 ∷ 11 ∷ []) $ free1 ! $ move ! (8 ∷ 9 ∷ []) $ free1 ! $ move ! (6 ∷ 7 ∷ []) $ free1 ! $ move ! (4 ∷ 5 ∷ []) $ free1 ! $ move ! (2 ∷ 3 ∷ []) $ free1 ! $ free0 ! $
         by ! (exits k j n.cursor (seen_here s i r k e ek, seen_past s i r p j e ep ej, taken_from s i r n e en) isk.1 isj.1 (place n w isn))))))))))))))))))))))))))))))))))
@@ -203,9 +203,9 @@ module _ {M : Type 1} {𝓤 : Ura M} (𝓛 : Logic 𝓤) (mem : Memory → SProp
 module _ {M : Type 1} {𝓤 : Ura M} (𝓛 : Logic 𝓤) (mem : Memory → SProp 𝓤) (run : Routine → Fun 𝓤) where
   open 𝓛 use {H}
 
-  look-walks : (C : Calls 𝓤 H) (Λ : Loops 𝓤 H) → FmC 𝓤 H 𝓛.laws C → Triple 𝓤 (C #source·new) (New 𝓛 mem run) → Triple 𝓤 (C #source·peek) (Peek 𝓛 mem run) → Triple 𝓤 (C #source·immediate) (Immediate 𝓛 mem run) → Triple 𝓤 (C #source·next) (Next 𝓛 mem run)
+  look_walks : (C : Calls 𝓤 H) (Λ : Loops 𝓤 H) → FmC 𝓤 H 𝓛.laws C → Triple 𝓤 (C #source·new) (New 𝓛 mem run) → Triple 𝓤 (C #source·peek) (Peek 𝓛 mem run) → Triple 𝓤 (C #source·immediate) (Immediate 𝓛 mem run) → Triple 𝓤 (C #source·next) (Next 𝓛 mem run)
       → Walks 𝓛 looks.ended stayed (WpFn 𝓤 H C Λ code.function) (looks.clauses 𝓛 mem run)
-  look-walks C Λ fm known-new known-peek known-immediate known_next = walked 𝓛 looks.ended stayed (looks.clauses 𝓛 mem run) (WpFn 𝓤 H C Λ code.function)
+  look_walks C Λ fm known-new known-peek known-immediate known_next = walked 𝓛 looks.ended stayed (looks.clauses 𝓛 mem run) (WpFn 𝓤 H C Λ code.function)
       (λ κs. (shr_slice_vals, (LL.vals I.the_type I'.the_laws, tt))) (λ κs. (shr_slice_Tells (named 0) κs.0 u32, (LL.tells I.the_type I'.the_laws, tt)))
       (λ κs qs bounds a g are. via 𝓤 _ (fst∗ 𝓤 _ (emp 𝓤)) (walk 𝓛 mem run κs.0 qs.0 a.0 a.1.0 are.1.0 C Λ fm known-new known-peek known-immediate known_next are.0))
 
@@ -214,7 +214,7 @@ look_meets : {M : Type 1} {𝓤 : Ura M} (𝓛 : Logic 𝓤) (mem : Memory → S
     → Meets 𝓛 looks.signature (WpFn 𝓤 𝓛.H 𝓣.C 𝓣.Λ code.function) (looks.spec 𝓛 mem run)
 look_meets {𝓤 = 𝓤} 𝓛 mem run 𝓣 known-new known-peek known-immediate known_next =
     walk_Meets 𝓛 looks.ended stayed (Goes-none_slice 𝓛 1 (0 ∷ []) tt (plain (λ _. u32)) yes, (Goes-none 𝓛 1 (λ _. I.the_row) yes (λ κs x f. refl), tt)) (looks.clauses 𝓛 mem run) (WpFn 𝓤 𝓛.H 𝓣.C 𝓣.Λ code.function) (WpFn-mono 𝓤 𝓛.H 𝓛.laws 𝓣 code.function)
-    (look-walks 𝓛 mem run 𝓣.C 𝓣.Λ (fm_of 𝓤 𝓛.H 𝓛.laws 𝓣) known-new known-peek known-immediate known_next)
+    (look_walks 𝓛 mem run 𝓣.C 𝓣.Λ (fm_of 𝓤 𝓛.H 𝓛.laws 𝓣) known-new known-peek known-immediate known_next)
 
 pub look_spec : {M : Type 1} → stated.statement M
 unfolding code.routine tables_of

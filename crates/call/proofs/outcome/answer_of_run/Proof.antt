@@ -1,7 +1,7 @@
 -- `answer_of_run`: all reports of the setting fit, or one does not.
 use mathlib.Core.Path.{sym}
 use lib.Seq.{length-take-le}
-use Rattle.call.proofs.Ways.{fitted, not-fitted}
+use Rattle.call.proofs.Ways.{fitted, not_fitted}
 use borrow.Author.Rules.{rules}
 use Rattle.call.proofs.outcome.answer_of_run.Statement.{statement}
 use Rattle.call.proofs.outcome.answer_of_run.Tie as tie
@@ -63,7 +63,7 @@ returns-2 c =
     let names = c.before.before.before.before.before.report-names in
     let test = c.before.if1 in
     let refused = c.refused in
-    not-fitted a.root_kind a.setting a.events_written a.reports_written a.pool_written a.bytes.now a.tokens.now a.events.now a.trees.now a.errors.now a.reports.now sunk.new.1.1.1.0 sunk.new.1.1.1.1.0 names.new.1.1.1.1.1.0 sunk.result sunk.ensures.1 names.result first.result first.ensures names.ensures.1 refused.result test.false refused.ensures
+    not_fitted a.root_kind a.setting a.events_written a.reports_written a.pool_written a.bytes.now a.tokens.now a.events.now a.trees.now a.errors.now a.reports.now sunk.new.1.1.1.0 sunk.new.1.1.1.1.0 names.new.1.1.1.1.1.0 sunk.result sunk.ensures.1 names.result first.result first.ensures names.ensures.1 refused.result test.false refused.ensures
 
 pub answer_of_run_spec : {M : Type 1} → statement M
 answer_of_run_spec =

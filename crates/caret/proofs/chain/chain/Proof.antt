@@ -4,7 +4,7 @@ use native.Mathlib.Omega.{arith}
 use mathlib.Core.Path.{ap, ◌∙◌}
 use lib.ListN.{length}
 use borrow.Author.Tests.{eqb-true, eqb-false}
-use Rattle.caret.proofs.Chains.{laid_length, Walked, walk_starts, at-hand, ends_at, on-from}
+use Rattle.caret.proofs.Chains.{laid_length, Walked, walk_starts, at_hand, ends_at, on_from}
 use Rattle.caret.proofs.chain.chain.Statement.{statement}
 use Rattle.caret.proofs.chain.chain.Tie as tie
 use Rattle.caret.proofs.chain.chain.Reads as reads
@@ -32,7 +32,7 @@ cast-put c =
     let a = c.before.before.before.before.before.args in
     let l = c.before.before.loop in
     let k = c.before.seek in
-    let f = at-hand l.invariant k.result k.ensures in
+    let f = at_hand l.invariant k.result k.ensures in
     omega (arith, f.at, f.few, c.before.before.before.before.before.requires.2)
 
 put-requires : tie.Need-put-requires invariant-loop decreases-loop
@@ -44,7 +44,7 @@ add-count c =
     let a = c.before.before.before.before.before.before.before.before.args in
     let l = c.before.before.before.before.before.loop in
     let k = c.before.before.before.before.seek in
-    let f = at-hand l.invariant k.result k.ensures in
+    let f = at_hand l.invariant k.result k.ensures in
     omega (arith, l.invariant.few, l.invariant.at, f.at, f.later, f.numbers_there)
 
 mul-leaf : tie.Need-overflow-mul-leaf invariant-loop decreases-loop
@@ -52,7 +52,7 @@ mul-leaf c =
     let a = c.before.before.before.before.before.before.before.before.args in
     let l = c.before.before.before.before.before.loop in
     let k = c.before.before.before.before.seek in
-    let f = at-hand l.invariant k.result k.ensures in
+    let f = at_hand l.invariant k.result k.ensures in
     omega (arith, f.numbers_there)
 
 shared-slice-read-leaf : tie.Need-shared-slice-read-leaf invariant-loop decreases-loop
@@ -60,7 +60,7 @@ shared-slice-read-leaf c =
     let a = c.before.before.before.before.before.before.before.before.before.args in
     let l = c.before.before.before.before.before.before.loop in
     let k = c.before.before.before.before.before.seek in
-    let f = at-hand l.invariant k.result k.ensures in
+    let f = at_hand l.invariant k.result k.ensures in
     omega (arith, f.numbers_there)
 
 same_length : tie.Need-same-length invariant-loop decreases-loop
@@ -68,7 +68,7 @@ same_length c =
     let a = c.before.before.before.before.before.before.before.before.before.before.args in
     let l = c.before.before.before.before.before.before.before.loop in
     let k = c.before.before.before.before.before.before.seek in
-    let f = at-hand l.invariant k.result k.ensures in
+    let f = at_hand l.invariant k.result k.ensures in
     let n = ap length l.invariant.on_list ∙ laid_length l.invariant.done a.list.now in
     omega (arith, c.before.before.before.before.put.auto, n)
 
@@ -77,7 +77,7 @@ returns c =
     let a = c.before.before.before.before.before.before.before.before.before.before.args in
     let l = c.before.before.before.before.before.before.before.loop in
     let k = c.before.before.before.before.before.before.seek in
-    let f = at-hand l.invariant k.result k.ensures in
+    let f = at_hand l.invariant k.result k.ensures in
     let p = c.before.before.before.before.put in
     ends_at l.invariant k.result k.ensures p.new.0 p.ensures (eqb-true _ _ c.if1.true)
 
@@ -86,7 +86,7 @@ add-index c =
     let a = c.before.before.before.before.before.before.before.before.before.before.args in
     let l = c.before.before.before.before.before.before.before.loop in
     let k = c.before.before.before.before.before.before.seek in
-    let f = at-hand l.invariant k.result k.ensures in
+    let f = at_hand l.invariant k.result k.ensures in
     omega (arith, f.numbers_there)
 
 loop-less : tie.Need-loop-smaller invariant-loop decreases-loop
@@ -94,7 +94,7 @@ loop-less c =
     let a = c.before.before.before.before.before.before.before.before.before.before.args in
     let l = c.before.before.before.before.before.before.before.loop in
     let k = c.before.before.before.before.before.before.seek in
-    let f = at-hand l.invariant k.result k.ensures in
+    let f = at_hand l.invariant k.result k.ensures in
     omega (arith, f.later, f.numbers_there)
 
 loop-again : tie.Need-loop-preserved invariant-loop decreases-loop
@@ -102,9 +102,9 @@ loop-again c =
     let a = c.before.before.before.before.before.before.before.before.before.before.args in
     let l = c.before.before.before.before.before.before.before.loop in
     let k = c.before.before.before.before.before.before.seek in
-    let f = at-hand l.invariant k.result k.ensures in
+    let f = at_hand l.invariant k.result k.ensures in
     let p = c.before.before.before.before.put in
-    on-from l.invariant k.result k.ensures p.new.0 p.ensures (eqb-false _ _ c.if1.false)
+    on_from l.invariant k.result k.ensures p.new.0 p.ensures (eqb-false _ _ c.if1.false)
 
 pub chain_spec : {M : Type 1} → statement M
 chain_spec =

@@ -3,7 +3,7 @@ use native.Mathlib.Omega.{arith}
 use mathlib.Core.Path.{refl, ◌∙◌}
 use borrow.Author.Tests.{ltb-true, eqb-false, not-true, not-false}
 use borrow.Author.Rules.{rules}
-use Rattle.caret.proofs.Offsets.{at-inside, at-past, at-empty, at_end, as_found, laid_none, laid_one}
+use Rattle.caret.proofs.Offsets.{at_inside, at_past, at_empty, at_end, as_found, laid_none, laid_one}
 use Rattle.caret.proofs.chain.rows_at.Statement.{statement}
 use Rattle.caret.proofs.chain.rows_at.Tie as tie
 use Rattle.caret.proofs.chain.rows_at.Reads as reads
@@ -31,13 +31,13 @@ same_length c = search rules
 returns : tie.Need-returns
 returns c =
     let a = c.before.before.before.before.before.before.before.args in
-    as_found _ a.list.now _ (at-inside a.offset a.size _ c.before.before.before.before.if1.true) c.before.before.chain.ensures
+    as_found _ a.list.now _ (at_inside a.offset a.size _ c.before.before.before.before.if1.true) c.before.before.chain.ensures
 
 -- src/chain.rt:90:9
 returns-2 : tie.Need-returns-2
 returns-2 c =
     let a = c.before.before.before.before.args in
-    as_found 0 a.list.now _ (at-past a.offset a.size _ c.before.if1.false (not-true _ c.if2.true)) (refl, laid_none a.list.now)
+    as_found 0 a.list.now _ (at_past a.offset a.size _ c.before.if1.false (not-true _ c.if2.true)) (refl, laid_none a.list.now)
 
 -- src/chain.rt:94:9
 put-requires : tie.Need-put-requires
@@ -51,7 +51,7 @@ same-length-2 c = search rules
 returns-3 : tie.Need-returns-3
 returns-3 c =
     let a = c.before.before.before.before.before.before.before.before.before.args in
-    as_found 1 a.list.now _ (at-empty a.offset a.size _ c.before.before.before.before.before.before.if1.false (not-false _ c.before.before.before.before.before.if2.false) c.before.before.before.before.if3.true) (refl, c.before.before.put.ensures ∙ laid_one a.list.now 0)
+    as_found 1 a.list.now _ (at_empty a.offset a.size _ c.before.before.before.before.before.before.if1.false (not-false _ c.before.before.before.before.before.if2.false) c.before.before.before.before.if3.true) (refl, c.before.before.put.ensures ∙ laid_one a.list.now 0)
 
 -- src/chain.rt:97:12
 sub-chain : tie.Need-overflow-sub-chain

@@ -4,7 +4,7 @@ use native.Mathlib.Omega.{arith}
 use mathlib.Core.Path.{refl}
 use lib.ListN.{length}
 use borrow.Author.Tests.{ltb-true, ltb-false}
-use Rattle.caret.proofs.Turns.{there, Seeking, row-there, found_here, first-less, second-there, found-second, second-less, third-there, both-past}
+use Rattle.caret.proofs.Turns.{there, Seeking, row_there, found_here, first_less, second_there, found_second, second_less, third_there, both_past}
 use Rattle.caret.proofs.chain.seek.Statement.{statement}
 use Rattle.caret.proofs.chain.seek.Tie as tie
 
@@ -35,67 +35,67 @@ loop-holds c =
     record { same = refl; going = record { bytes = s.requires.0; classes = s.requires.1 }; read = refl; fewer = omega arith }
 
 mul-rest : tie.Need-overflow-mul-rest invariant-loop decreases-loop
-mul-rest c = omega (arith, row-there c.before.loop.invariant)
+mul-rest c = omega (arith, row_there c.before.loop.invariant)
 
 shared-slice-read-rest : tie.Need-shared-slice-read-rest invariant-loop decreases-loop
-shared-slice-read-rest c = omega (arith, row-there c.before.before.loop.invariant)
+shared-slice-read-rest c = omega (arith, row_there c.before.before.loop.invariant)
 
 mul-rest-2 : tie.Need-overflow-mul-rest-2 invariant-loop decreases-loop
-mul-rest-2 c = omega (arith, first-less c.before.before.loop.invariant c.before.loop-test.true, c.before.before.loop.invariant.fewer)
+mul-rest-2 c = omega (arith, first_less c.before.before.loop.invariant c.before.loop-test.true, c.before.before.loop.invariant.fewer)
 
 sub-rest : tie.Need-overflow-sub-rest invariant-loop decreases-loop
-sub-rest c = first-less c.before.before.loop.invariant c.before.loop-test.true
+sub-rest c = first_less c.before.before.loop.invariant c.before.loop-test.true
 
 add-next : tie.Need-overflow-add-next invariant-loop decreases-loop
-add-next c = omega (arith, second-there c.before.before.loop.invariant c.before.loop-test.true)
+add-next c = omega (arith, second_there c.before.before.loop.invariant c.before.loop-test.true)
 
 add-next-2 : tie.Need-overflow-add-next-2 invariant-loop decreases-loop
-add-next-2 c = omega (arith, second-there c.before.before.loop.invariant c.before.loop-test.true)
+add-next-2 c = omega (arith, second_there c.before.before.loop.invariant c.before.loop-test.true)
 
 mul_next : tie.Need-overflow-mul-next invariant-loop decreases-loop
-mul_next c = omega (arith, second-there c.before.before.loop.invariant c.before.loop-test.true)
+mul_next c = omega (arith, second_there c.before.before.loop.invariant c.before.loop-test.true)
 
 shared-slice-read-next : tie.Need-shared-slice-read-next invariant-loop decreases-loop
-shared-slice-read-next c = omega (arith, second-there c.before.before.before.loop.invariant c.before.before.loop-test.true)
+shared-slice-read-next c = omega (arith, second_there c.before.before.before.loop.invariant c.before.before.loop-test.true)
 
 add-t21 : tie.Need-overflow-add-t21 invariant-loop decreases-loop
-add-t21 c = omega (arith, second-there c.before.before.before.before.loop.invariant c.before.before.before.loop-test.true)
+add-t21 c = omega (arith, second_there c.before.before.before.before.loop.invariant c.before.before.before.loop-test.true)
 
 returns : tie.Need-returns invariant-loop decreases-loop
-returns c = found-second c.before.before.before.before.loop.invariant c.before.before.before.loop-test.true (ltb-true _ _ c.if1.true)
+returns c = found_second c.before.before.before.before.loop.invariant c.before.before.before.loop-test.true (ltb-true _ _ c.if1.true)
 
 add-rest : tie.Need-overflow-add-rest invariant-loop decreases-loop
-add-rest c = omega (arith, second-there c.before.before.before.before.loop.invariant c.before.before.before.loop-test.true)
+add-rest c = omega (arith, second_there c.before.before.before.before.loop.invariant c.before.before.before.loop-test.true)
 
 mul-rest-3 : tie.Need-overflow-mul-rest-3 invariant-loop decreases-loop
-mul-rest-3 c = omega (arith, second-there c.before.before.before.before.loop.invariant c.before.before.before.loop-test.true)
+mul-rest-3 c = omega (arith, second_there c.before.before.before.before.loop.invariant c.before.before.before.loop-test.true)
 
 shared-slice-read-rest-2 : tie.Need-shared-slice-read-rest-2 invariant-loop decreases-loop
-shared-slice-read-rest-2 c = omega (arith, second-there c.before.before.before.before.before.loop.invariant c.before.before.before.before.loop-test.true)
+shared-slice-read-rest-2 c = omega (arith, second_there c.before.before.before.before.before.loop.invariant c.before.before.before.before.loop-test.true)
 
 mul-rest-4 : tie.Need-overflow-mul-rest-4 invariant-loop decreases-loop
-mul-rest-4 c = omega (arith, second-less c.before.before.before.before.before.loop.invariant c.before.before.before.before.loop-test.true (ltb-false _ _ c.before.if1.false), c.before.before.before.before.before.loop.invariant.fewer)
+mul-rest-4 c = omega (arith, second_less c.before.before.before.before.before.loop.invariant c.before.before.before.before.loop-test.true (ltb-false _ _ c.before.if1.false), c.before.before.before.before.before.loop.invariant.fewer)
 
 sub-rest-2 : tie.Need-overflow-sub-rest-2 invariant-loop decreases-loop
-sub-rest-2 c = second-less c.before.before.before.before.before.loop.invariant c.before.before.before.before.loop-test.true (ltb-false _ _ c.before.if1.false)
+sub-rest-2 c = second_less c.before.before.before.before.before.loop.invariant c.before.before.before.before.loop-test.true (ltb-false _ _ c.before.if1.false)
 
 add-i : tie.Need-overflow-add-i invariant-loop decreases-loop
-add-i c = omega (arith, third-there c.before.before.before.before.before.loop.invariant c.before.before.before.before.loop-test.true (ltb-false _ _ c.before.if1.false))
+add-i c = omega (arith, third_there c.before.before.before.before.before.loop.invariant c.before.before.before.before.loop-test.true (ltb-false _ _ c.before.if1.false))
 
 add-width-2 : tie.Need-overflow-add-width-2 invariant-loop decreases-loop
-add-width-2 c = omega (arith, third-there c.before.before.before.before.before.loop.invariant c.before.before.before.before.loop-test.true (ltb-false _ _ c.before.if1.false))
+add-width-2 c = omega (arith, third_there c.before.before.before.before.before.loop.invariant c.before.before.before.before.loop-test.true (ltb-false _ _ c.before.if1.false))
 
 mul-width-2 : tie.Need-overflow-mul-width-2 invariant-loop decreases-loop
-mul-width-2 c = omega (arith, third-there c.before.before.before.before.before.loop.invariant c.before.before.before.before.loop-test.true (ltb-false _ _ c.before.if1.false))
+mul-width-2 c = omega (arith, third_there c.before.before.before.before.before.loop.invariant c.before.before.before.before.loop-test.true (ltb-false _ _ c.before.if1.false))
 
 shared-slice-read-width-2 : tie.Need-shared-slice-read-width-2 invariant-loop decreases-loop
-shared-slice-read-width-2 c = omega (arith, third-there c.before.before.before.before.before.before.loop.invariant c.before.before.before.before.before.loop-test.true (ltb-false _ _ c.before.before.if1.false))
+shared-slice-read-width-2 c = omega (arith, third_there c.before.before.before.before.before.before.loop.invariant c.before.before.before.before.before.loop-test.true (ltb-false _ _ c.before.before.if1.false))
 
 loop-less : tie.Need-loop-smaller invariant-loop decreases-loop
-loop-less c = omega (arith, third-there c.before.before.before.before.before.before.loop.invariant c.before.before.before.before.before.loop-test.true (ltb-false _ _ c.before.before.if1.false))
+loop-less c = omega (arith, third_there c.before.before.before.before.before.before.loop.invariant c.before.before.before.before.before.loop-test.true (ltb-false _ _ c.before.before.if1.false))
 
 loop-again : tie.Need-loop-preserved invariant-loop decreases-loop
-loop-again c = both-past c.before.before.before.before.before.before.loop.invariant c.before.before.before.before.before.loop-test.true (ltb-false _ _ c.before.before.if1.false) _ (omega arith)
+loop-again c = both_past c.before.before.before.before.before.before.loop.invariant c.before.before.before.before.before.loop-test.true (ltb-false _ _ c.before.before.if1.false) _ (omega arith)
 
 returns-2 : tie.Need-returns-2 invariant-loop decreases-loop
 returns-2 c = found_here c.before.loop.invariant (omega (arith, c.loop-test.false))

@@ -3,7 +3,7 @@ use native.Mathlib.Omega.{arith}
 use mathlib.Core.Path.{refl}
 use borrow.Author.Tests.{ltb-true, ltb-false}
 use borrow.Author.Rules.{rules}
-use Rattle.caret.proofs.Skips.{none_in_range, seek-there, left_less, starts-there, all_there}
+use Rattle.caret.proofs.Skips.{none_in_range, seek_there, left_less, starts_there, all_there}
 use Rattle.caret.proofs.Offsets.{as_found, laid_none}
 use Rattle.caret.proofs.parts.sharing.Statement.{statement}
 use Rattle.caret.proofs.parts.sharing.Tie as tie
@@ -26,7 +26,7 @@ seek-requires c κs =
     let s = c.before.before.before in
     let a = s.args in
     let h = ltb-true a.from a.size c.if1.true in
-    seek-there a.from a.to a.size a.trees.now s.requires h
+    seek_there a.from a.to a.size a.trees.now s.requires h
 
 -- src/parts.rt:89:33
 cast-first-byte : tie.Need-overflow-cast-first-byte
@@ -46,7 +46,7 @@ sharing-from-requires c κs =
     let s = c.before.before.before.before.before.before in
     let a = s.args in
     let h = ltb-true a.from a.size c.before.before.before.if1.true in
-    (starts-there a.from a.to a.size a.trees.now s.requires h c.before.before.seek.result c.before.before.seek.ensures, s.requires.few)
+    (starts_there a.from a.to a.size a.trees.now s.requires h c.before.before.seek.result c.before.before.seek.ensures, s.requires.few)
 
 -- src/parts.rt:90:9
 same_length : tie.Need-same-length

@@ -9,7 +9,7 @@ use Rattle.definitions.specs.Layout.{TREE_ROW}
 use Rattle.rows.specs.OnePass.{starting}
 use Rattle.caret.proofs.Turns.{rows_from}
 use Rattle.caret.proofs.Chains.{laid_length}
-use Rattle.caret.proofs.Listings.{Listing, listing_starts, listing_ends, listing_over, turn-here, few-here, inside-here, listing-on}
+use Rattle.caret.proofs.Listings.{Listing, listing_starts, listing_ends, listing_over, turn_here, few_here, inside_here, listing_on}
 use Rattle.caret.proofs.parts.sharing_from.Statement.{statement}
 use Rattle.caret.proofs.parts.sharing_from.Tie as tie
 use Rattle.caret.proofs.parts.sharing_from.Reads as reads
@@ -50,19 +50,19 @@ shared-slice-read-width c = omega (arith, c.before.before.loop-test.true)
 
 cast-end : tie.Need-overflow-cast-end invariant-loop decreases-loop
 cast-end c =
-    let t = turn-here c.before.before.before.loop.invariant c.before.before.loop-test.true in
+    let t = turn_here c.before.before.before.loop.invariant c.before.before.loop-test.true in
     omega (arith, t.fits, c.before.before.before.loop.invariant.small)
 
 add-end : tie.Need-overflow-add-end invariant-loop decreases-loop
 add-end c =
-    let t = turn-here c.before.before.before.loop.invariant c.before.before.loop-test.true in
+    let t = turn_here c.before.before.before.loop.invariant c.before.before.loop-test.true in
     omega (arith, t.fits, c.before.before.before.loop.invariant.small)
 
 shares-requires : tie.Need-shares-requires invariant-loop decreases-loop
 shares-requires c κs = tt
 
 cast-put-if : tie.Need-overflow-cast-put-if invariant-loop decreases-loop
-cast-put-if c = omega (arith, few-here c.before.before.before.before.before.loop.invariant c.before.before.before.before.loop-test.true, c.before.before.before.before.before.before.before.before.requires.1)
+cast-put-if c = omega (arith, few_here c.before.before.before.before.before.loop.invariant c.before.before.before.before.loop-test.true, c.before.before.before.before.before.before.before.before.requires.1)
 
 put-if-requires : tie.Need-put-if-requires invariant-loop decreases-loop
 put-if-requires c κs = omega (arith, c.before.before.before.before.before.loop.invariant.few, c.before.before.before.before.before.loop.invariant.at, c.before.before.before.before.loop-test.true)
@@ -78,16 +78,16 @@ shared-slice-read-past c = omega (arith, c.before.before.before.before.before.be
 
 mul-past-2 : tie.Need-overflow-mul-past-2 invariant-loop decreases-loop
 mul-past-2 c =
-    let t = turn-here c.before.before.before.before.before.before.before.before.before.loop.invariant c.before.before.before.before.before.before.before.before.loop-test.true in
+    let t = turn_here c.before.before.before.before.before.before.before.before.before.loop.invariant c.before.before.before.before.before.before.before.before.loop-test.true in
     omega (arith, t.product, t.own_less, t.fits, c.before.before.before.before.before.before.before.before.before.loop.invariant.small)
 
 sub-past : tie.Need-overflow-sub-past invariant-loop decreases-loop
 sub-past c =
-    let t = turn-here c.before.before.before.before.before.before.before.before.before.loop.invariant c.before.before.before.before.before.before.before.before.loop-test.true in
+    let t = turn_here c.before.before.before.before.before.before.before.before.before.loop.invariant c.before.before.before.before.before.before.before.before.loop-test.true in
     omega (arith, t.product, t.own_less, c.before.before.before.before.before.before.before.before.before.loop.invariant.small)
 
 past-requires : tie.Need-past-requires invariant-loop decreases-loop
-past-requires c κs = inside-here c.before.before.before.before.before.before.before.before.before.loop.invariant c.before.before.before.before.before.before.before.before.loop-test.true
+past-requires c κs = inside_here c.before.before.before.before.before.before.before.before.before.loop.invariant c.before.before.before.before.before.before.before.before.loop-test.true
 
 loop-less : tie.Need-loop-smaller invariant-loop decreases-loop
 loop-less c = omega (arith, c.before.before.before.before.before.before.before.before.before.loop-test.true, c.past.ensures)
@@ -97,7 +97,7 @@ loop-again c =
     let l = c.before.before.before.before.before.before.before.before.before.before.loop in
     let p = c.before.before.before.before.put_if in
     let shares = c.before.before.before.before.before.before.shares in
-    listing-on l.invariant c.before.before.before.before.before.before.before.before.before.loop-test.true c.past.result p.result p.new.1.0 c.past.ensures
+    listing_on l.invariant c.before.before.before.before.before.before.before.before.before.loop-test.true c.past.result p.result p.new.1.0 c.past.ensures
     (p.ensures.0 ∙ ap (λ (b : Bool). cond b (suc l.count) l.count) shares.ensures)
     (p.ensures.1 ∙ ap (λ (b : Bool). cond b (set l.list l.count (l.index / TREE_ROW)) l.list) shares.ensures)
 

@@ -1,6 +1,6 @@
 -- `delete_arguments` is the walk of its program, step by step.
 use native.Mathlib.Omega.{arith}
-use Rattle.machine.proofs.Way.{c-walk, c-ret, c-seq, c-mark, completed}
+use Rattle.machine.proofs.Way.{c_walk, c_ret, c_seq, c_mark, completed}
 use Rattle.directives.proofs.dts_directive.delete_arguments.Statement.{statement}
 use Rattle.directives.proofs.dts_directive.delete_arguments.Tie as tie
 
@@ -44,7 +44,7 @@ returns c =
     let e = d.before.before.before.before.before.before.before in
     let f = e.before.before in
     let s = f.before.before.before.before.before in
-    (λ ask b. (c-mark f.new.ensures (e.start.ensures.0 _ _ _) (c-seq (c-walk (d.eat-deleted.ensures.0 ask b)) c-ret) (completed (a.complete.ensures.0 _ _ _))).is, omega (arith, e.start.ensures.1 s.args.tokens.now, d.eat-deleted.ensures.1, a.complete.ensures.1 s.args.tokens.now))
+    (λ ask b. (c_mark f.new.ensures (e.start.ensures.0 _ _ _) (c_seq (c_walk (d.eat-deleted.ensures.0 ask b)) c_ret) (completed (a.complete.ensures.0 _ _ _))).is, omega (arith, e.start.ensures.1 s.args.tokens.now, d.eat-deleted.ensures.1, a.complete.ensures.1 s.args.tokens.now))
 
 pub delete_arguments_spec : {M : Type 1} → statement M
 delete_arguments_spec = tie.close (tie.spec new-requires start-requires eat-deleted-requires complete-requires same_length same-length-2 same-length-3 returns)

@@ -1,7 +1,7 @@
 -- `directive_end` is the walk of its program, step by step.
 use native.Mathlib.Omega.{arith}
-use Rattle.machine.proofs.Way.{c-walk, c-ret, c-seq, completed}
-use Rattle.steps.proofs.Ways.{closes-to}
+use Rattle.machine.proofs.Way.{c_walk, c_ret, c_seq, completed}
+use Rattle.steps.proofs.Ways.{closes_to}
 use borrow.Author.Rules.{rules}
 use Rattle.directives.proofs.dts_directive.directive_end.Statement.{statement}
 use Rattle.directives.proofs.dts_directive.directive_end.Tie as tie
@@ -38,7 +38,7 @@ returns c =
     let a = c.before.before in
     let d = a.before.before.before.before.before.before.before.before in
     let s = d.before.before.before.before.before.before.before.before.before.before in
-    (λ ask b. closes-to (c-seq (c-walk (d.expect_recoverable.ensures.0 ask b)) c-ret) (completed (a.complete.ensures.0 _ _ _)), omega (arith, d.expect_recoverable.ensures.1, a.complete.ensures.1 s.args.tokens.now))
+    (λ ask b. closes_to (c_seq (c_walk (d.expect_recoverable.ensures.0 ask b)) c_ret) (completed (a.complete.ensures.0 _ _ _)), omega (arith, d.expect_recoverable.ensures.1, a.complete.ensures.1 s.args.tokens.now))
 
 pub directive_end_spec : {M : Type 1} → statement M
 directive_end_spec = tie.close (tie.spec slice-aggregate-expect-recoverable expect-recoverable-requires complete-requires same_length same-length-2 same-length-3 returns)

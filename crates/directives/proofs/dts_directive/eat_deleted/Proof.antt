@@ -1,7 +1,7 @@
 -- `eat_deleted` is the walk of its program, step by step.
 use native.Mathlib.Omega.{arith}
-use Rattle.machine.proofs.Way.{c-walk, c-yes, c-no}
-use Rattle.steps.proofs.Steps.{c-ret-yes}
+use Rattle.machine.proofs.Way.{c_walk, c_yes, c_no}
+use Rattle.steps.proofs.Steps.{c_ret_yes}
 use Rattle.directives.proofs.dts_directive.eat_deleted.Statement.{statement}
 use Rattle.directives.proofs.dts_directive.eat_deleted.Tie as tie
 
@@ -27,7 +27,7 @@ returns : tie.Need-returns
 returns c =
     let a = c in
     let d = a.before.before.before.before.before.before.before in
-    (λ ask b. (c-yes (c-walk (d.eat.ensures.0 ask b)) a.if1.true (c-ret-yes a.if1.true)).is, omega (arith, d.eat.ensures.1.0, d.eat.ensures.1.1 a.if1.true))
+    (λ ask b. (c_yes (c_walk (d.eat.ensures.0 ask b)) a.if1.true (c_ret_yes a.if1.true)).is, omega (arith, d.eat.ensures.1.0, d.eat.ensures.1.1 a.if1.true))
 
 eat-requires-2 : tie.Need-eat-requires-2
 eat-requires-2 c κs = tt
@@ -63,7 +63,7 @@ returns-2 c =
     let e = d.before.before.before.before.before.before.before in
     let f = e.before.before.before.before.before in
     let g = f.before.before.before.before.before.before.before in
-    (λ ask b. (c-no (c-walk (g.eat.ensures.0 ask b)) f.if1.false (c-yes (c-walk (e.eat2.ensures.0 ask b)) d.if2.true (c-walk (a.eat3.ensures.0 ask b)))).is, omega (arith, g.eat.ensures.1.0, e.eat2.ensures.1.0, e.eat2.ensures.1.1 d.if2.true, a.eat3.ensures.1.0))
+    (λ ask b. (c_no (c_walk (g.eat.ensures.0 ask b)) f.if1.false (c_yes (c_walk (e.eat2.ensures.0 ask b)) d.if2.true (c_walk (a.eat3.ensures.0 ask b)))).is, omega (arith, g.eat.ensures.1.0, e.eat2.ensures.1.0, e.eat2.ensures.1.1 d.if2.true, a.eat3.ensures.1.0))
 
 error-requires : tie.Need-error-requires
 error-requires c κs = tt
@@ -96,7 +96,7 @@ returns-3 c =
     let e = d.before.before.before.before.before.before.before in
     let f = e.before.before.before.before.before in
     let g = f.before.before.before.before.before.before.before in
-    (λ ask b. (c-no (c-walk (g.eat.ensures.0 ask b)) f.if1.false (c-no (c-walk (e.eat2.ensures.0 ask b)) d.if2.false (c-walk (a.error.ensures.0 ask b)))).is, omega (arith, g.eat.ensures.1.0, e.eat2.ensures.1.0, a.error.ensures.1))
+    (λ ask b. (c_no (c_walk (g.eat.ensures.0 ask b)) f.if1.false (c_no (c_walk (e.eat2.ensures.0 ask b)) d.if2.false (c_walk (a.error.ensures.0 ask b)))).is, omega (arith, g.eat.ensures.1.0, e.eat2.ensures.1.0, a.error.ensures.1))
 
 pub eat_deleted_spec : {M : Type 1} → statement M
 eat_deleted_spec = tie.close (tie.spec eat-requires same_length same-length-2 same-length-3 returns eat-requires-2 eat-requires-3 same-length-4 same-length-5 same-length-6 returns-2 error-requires same-length-7 same-length-8 same-length-9 returns-3)

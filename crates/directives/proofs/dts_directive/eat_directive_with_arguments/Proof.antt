@@ -4,8 +4,8 @@ use mathlib.Core.Bool.{false≢true}
 use mathlib.Core.List.{[], ◌∷◌}
 use native.Mathlib.Omega.{arith}
 use Rattle.definitions.specs.Check.{set, of_kind, eat_starting◌inside◌else◌}
-use Rattle.machine.proofs.Way.{c-walk, c-ret, c-seq}
-use Rattle.steps.proofs.Steps.{c-started, c-unstarted, c-any, closing}
+use Rattle.machine.proofs.Way.{c_walk, c_ret, c_seq}
+use Rattle.steps.proofs.Steps.{c_started, c_unstarted, c_any, closing}
 use Rattle.directives.proofs.dts_directive.eat_directive_with_arguments.Statement.{statement}
 use Rattle.directives.proofs.dts_directive.eat_directive_with_arguments.Tie as tie
 
@@ -46,7 +46,7 @@ returns c =
     let d = a.before.before.before.before.before.before.before.before.before.before.before in
     let e = d.before.before.before.before.before in
     let f = e.before.before.before in
-    (λ ask b. (c-started (of_kind K.MemreserveDirective) (f.eat_starting.ensures.0 ask b _ _) e.if1.true (c-seq (c-walk (d.memreserve_arguments.ensures.0 ask b)) c-any) (closing (a.directive_end.ensures.0 ask b))).is, (omega (arith, f.eat_starting.ensures.1.0, f.eat_starting.ensures.1.1 e.if1.true, d.memreserve_arguments.ensures.1, a.directive_end.ensures.1), λ h. omega (arith, f.eat_starting.ensures.1.0, f.eat_starting.ensures.1.1 e.if1.true, d.memreserve_arguments.ensures.1, a.directive_end.ensures.1)))
+    (λ ask b. (c_started (of_kind K.MemreserveDirective) (f.eat_starting.ensures.0 ask b _ _) e.if1.true (c_seq (c_walk (d.memreserve_arguments.ensures.0 ask b)) c_any) (closing (a.directive_end.ensures.0 ask b))).is, (omega (arith, f.eat_starting.ensures.1.0, f.eat_starting.ensures.1.1 e.if1.true, d.memreserve_arguments.ensures.1, a.directive_end.ensures.1), λ h. omega (arith, f.eat_starting.ensures.1.0, f.eat_starting.ensures.1.1 e.if1.true, d.memreserve_arguments.ensures.1, a.directive_end.ensures.1)))
 
 eat-starting-requires-2 : tie.Need-eat-starting-requires-2
 eat-starting-requires-2 c κs = tt
@@ -90,7 +90,7 @@ returns-2 c =
     let f = e.before.before.before in
     let g = f.before.before.before in
     let i = g.before.before.before in
-    (λ ask b. (c-unstarted (of_kind K.MemreserveDirective) (i.eat_starting.ensures.0 ask b _ _) g.if1.false (c-started (set (K.DeleteNodeDirective ∷ K.DeletePropertyDirective ∷ [])) (f.eat-starting2.ensures.0 ask b _ _) e.if2.true (c-seq (c-walk (d.delete_arguments.ensures.0 ask b)) c-any) (closing (a.directive-end2.ensures.0 ask b)))).is, (omega (arith, i.eat_starting.ensures.1.0, f.eat-starting2.ensures.1.0, f.eat-starting2.ensures.1.1 e.if2.true, d.delete_arguments.ensures.1, a.directive-end2.ensures.1), λ h. omega (arith, i.eat_starting.ensures.1.0, f.eat-starting2.ensures.1.0, f.eat-starting2.ensures.1.1 e.if2.true, d.delete_arguments.ensures.1, a.directive-end2.ensures.1)))
+    (λ ask b. (c_unstarted (of_kind K.MemreserveDirective) (i.eat_starting.ensures.0 ask b _ _) g.if1.false (c_started (set (K.DeleteNodeDirective ∷ K.DeletePropertyDirective ∷ [])) (f.eat-starting2.ensures.0 ask b _ _) e.if2.true (c_seq (c_walk (d.delete_arguments.ensures.0 ask b)) c_any) (closing (a.directive-end2.ensures.0 ask b)))).is, (omega (arith, i.eat_starting.ensures.1.0, f.eat-starting2.ensures.1.0, f.eat-starting2.ensures.1.1 e.if2.true, d.delete_arguments.ensures.1, a.directive-end2.ensures.1), λ h. omega (arith, i.eat_starting.ensures.1.0, f.eat-starting2.ensures.1.0, f.eat-starting2.ensures.1.1 e.if2.true, d.delete_arguments.ensures.1, a.directive-end2.ensures.1)))
 
 same-length-7 : tie.Need-same-length-7
 same-length-7 c =
@@ -105,7 +105,7 @@ returns-3 c =
     let d = a.before.before.before in
     let e = d.before.before.before in
     let f = e.before.before.before in
-    (λ ask b. (c-unstarted (of_kind K.MemreserveDirective) (f.eat_starting.ensures.0 ask b _ _) e.if1.false (c-unstarted (set (K.DeleteNodeDirective ∷ K.DeletePropertyDirective ∷ [])) (d.eat-starting2.ensures.0 ask b _ _) a.if2.false c-ret)).is, (omega (arith, f.eat_starting.ensures.1.0, d.eat-starting2.ensures.1.0), λ h. absurd (false≢true h)))
+    (λ ask b. (c_unstarted (of_kind K.MemreserveDirective) (f.eat_starting.ensures.0 ask b _ _) e.if1.false (c_unstarted (set (K.DeleteNodeDirective ∷ K.DeletePropertyDirective ∷ [])) (d.eat-starting2.ensures.0 ask b _ _) a.if2.false c_ret)).is, (omega (arith, f.eat_starting.ensures.1.0, d.eat-starting2.ensures.1.0), λ h. absurd (false≢true h)))
 
 pub eat_directive_with_arguments_spec : {M : Type 1} → statement M
 eat_directive_with_arguments_spec = tie.close (tie.spec eat-starting-requires memreserve-arguments-requires directive-end-requires same_length same-length-2 same-length-3 returns eat-starting-requires-2 delete-arguments-requires directive-end-requires-2 same-length-4 same-length-5 same-length-6 returns-2 same-length-7 returns-3)

@@ -10,9 +10,9 @@ use Rattle.definitions.specs.Grammar.{eat_dts_include}
 use Rattle.machine.specs.Machine.{Machine}
 use Rattle.machine.specs.Walk.{said, unlabelled}
 use Rattle.machine.proofs.Turns.{few_rows}
-use Rattle.machine.proofs.Way.{c-walk, c-ret, c-seq, completed}
+use Rattle.machine.proofs.Way.{c_walk, c_ret, c_seq, completed}
 use Rattle.steps.proofs.Left.{some_left}
-use Rattle.steps.proofs.Steps.{c-started, c-unstarted, starting-some}
+use Rattle.steps.proofs.Steps.{c_started, c_unstarted, starting_some}
 use Rattle.directives.proofs.dts_directive.eat_dts_include.Statement.{statement}
 use Rattle.directives.proofs.dts_directive.eat_dts_include.Tie as tie
 
@@ -54,7 +54,7 @@ returns c =
     let e = d.before.before.before.before.before in
     let f = e.before.before.before in
     let s = f.before.before.before.before.before.before.before in
-    (λ ask b. (c-started (of_kind K.DtIncludeDirective) (f.eat_starting.ensures.0 ask b _ _) e.if1.true (c-seq (c-walk (d.expect.ensures.0 ask b)) c-ret) (completed (a.complete.ensures.0 _ _ _))).is, (omega (arith, f.eat_starting.ensures.1.0, f.eat_starting.ensures.1.1 e.if1.true, d.expect.ensures.1.0, a.complete.ensures.1 s.args.tokens.now), λ h. omega (arith, f.eat_starting.ensures.1.0, f.eat_starting.ensures.1.1 e.if1.true, d.expect.ensures.1.0, a.complete.ensures.1 s.args.tokens.now, some_left s.args.tokens.now s.args.s (starting-some (λ (r : Rule) (m : Machine). said no m) (tokens_of s.args.tokens.now) unlabelled K.DtIncludeDirective _ _ _ f.eat_starting.result.yes (few_rows s.args.tokens.now (omega arith)) (f.eat_starting.ensures.0 (λ (r : Rule) (m : Machine). said no m) unlabelled [] []) e.if1.true))))
+    (λ ask b. (c_started (of_kind K.DtIncludeDirective) (f.eat_starting.ensures.0 ask b _ _) e.if1.true (c_seq (c_walk (d.expect.ensures.0 ask b)) c_ret) (completed (a.complete.ensures.0 _ _ _))).is, (omega (arith, f.eat_starting.ensures.1.0, f.eat_starting.ensures.1.1 e.if1.true, d.expect.ensures.1.0, a.complete.ensures.1 s.args.tokens.now), λ h. omega (arith, f.eat_starting.ensures.1.0, f.eat_starting.ensures.1.1 e.if1.true, d.expect.ensures.1.0, a.complete.ensures.1 s.args.tokens.now, some_left s.args.tokens.now s.args.s (starting_some (λ (r : Rule) (m : Machine). said no m) (tokens_of s.args.tokens.now) unlabelled K.DtIncludeDirective _ _ _ f.eat_starting.result.yes (few_rows s.args.tokens.now (omega arith)) (f.eat_starting.ensures.0 (λ (r : Rule) (m : Machine). said no m) unlabelled [] []) e.if1.true))))
 
 same-length-4 : tie.Need-same-length-4
 same-length-4 c =
@@ -66,7 +66,7 @@ unfolding eat_dts_include eat_starting◌inside◌else◌
 returns-2 c =
     let a = c.before in
     let d = a.before.before.before in
-    (λ ask b. (c-unstarted (of_kind K.DtIncludeDirective) (d.eat_starting.ensures.0 ask b _ _) a.if1.false c-ret).is, (omega (arith, d.eat_starting.ensures.1.0), λ h. absurd (false≢true h)))
+    (λ ask b. (c_unstarted (of_kind K.DtIncludeDirective) (d.eat_starting.ensures.0 ask b _ _) a.if1.false c_ret).is, (omega (arith, d.eat_starting.ensures.1.0), λ h. absurd (false≢true h)))
 
 pub eat_dts_include_spec : {M : Type 1} → statement M
 eat_dts_include_spec = tie.close (tie.spec eat-starting-requires expect-requires complete-requires same_length same-length-2 same-length-3 returns same-length-4 returns-2)

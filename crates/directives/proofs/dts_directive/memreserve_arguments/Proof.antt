@@ -1,6 +1,6 @@
 -- `memreserve_arguments` is the walk of its program, step by step.
 use native.Mathlib.Omega.{arith}
-use Rattle.machine.proofs.Way.{c-walk, c-ret, c-seq, c-mark, completed}
+use Rattle.machine.proofs.Way.{c_walk, c_ret, c_seq, c_mark, completed}
 use Rattle.directives.proofs.dts_directive.memreserve_arguments.Statement.{statement}
 use Rattle.directives.proofs.dts_directive.memreserve_arguments.Tie as tie
 
@@ -51,7 +51,7 @@ returns c =
     let f = e.before.before.before.before.before.before.before in
     let g = f.before.before in
     let s = g.before.before.before.before.before in
-    (λ ask b. (c-mark g.new.ensures (f.start.ensures.0 _ _ _) (c-seq (c-seq (c-walk (e.expect.ensures.0 ask b)) (c-walk (d.expect2.ensures.0 ask b))) c-ret) (completed (a.complete.ensures.0 _ _ _))).is, omega (arith, f.start.ensures.1 s.args.tokens.now, e.expect.ensures.1.0, d.expect2.ensures.1.0, a.complete.ensures.1 s.args.tokens.now))
+    (λ ask b. (c_mark g.new.ensures (f.start.ensures.0 _ _ _) (c_seq (c_seq (c_walk (e.expect.ensures.0 ask b)) (c_walk (d.expect2.ensures.0 ask b))) c_ret) (completed (a.complete.ensures.0 _ _ _))).is, omega (arith, f.start.ensures.1 s.args.tokens.now, e.expect.ensures.1.0, d.expect2.ensures.1.0, a.complete.ensures.1 s.args.tokens.now))
 
 pub memreserve_arguments_spec : {M : Type 1} → statement M
 memreserve_arguments_spec = tie.close (tie.spec new-requires start-requires expect-requires expect-requires-2 complete-requires same_length same-length-2 same-length-3 returns)

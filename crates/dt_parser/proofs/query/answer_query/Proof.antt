@@ -3,7 +3,7 @@ use mathlib.Core.Path.{◌∙◌}
 use borrow.Author.Rules.{rules}
 use Rattle.caret.specs.Asked.{query_of}
 use Rattle.call.specs.Result.{buffers_of}
-use Rattle.listing.proofs.Ends.{sound-query, refused-query}
+use Rattle.listing.proofs.Ends.{sound_query, refused_query}
 use Rattle.dt_parser.proofs.query.answer_query.Statement.{statement}
 use Rattle.dt_parser.proofs.query.answer_query.Tie as tie
 use Rattle.dt_parser.proofs.query.answer_query.Reads as reads
@@ -48,7 +48,7 @@ same-length-6 c = search rules
 returns : tie.Need-returns
 returns c =
     let a = c.before.before.before.before.before.before.before.before.before.before.before.before.before.before.before.before.before.before.before.before.before.before.before.before.before.before.before.before.before.before.args in
-    c.before.before.before.before.before.before.before.before.before.before.before.before.parse-and-list.ensures ∙ sound-query (query_of a.query) a.setting a.bytes.now a.tokens.now (buffers_of a.events.now a.trees.now a.errors.now a.reports.now a.pool.now) a.list.now (c.before.before.before.before.before.before.before.before.before.before.before.before.before.before.before.before.before.before.before.before.before.check.ensures.sound c.before.before.before.before.before.before.before.before.before.before.before.before.before.before.before.before.before.before.before.if1.true)
+    c.before.before.before.before.before.before.before.before.before.before.before.before.parse-and-list.ensures ∙ sound_query (query_of a.query) a.setting a.bytes.now a.tokens.now (buffers_of a.events.now a.trees.now a.errors.now a.reports.now a.pool.now) a.list.now (c.before.before.before.before.before.before.before.before.before.before.before.before.before.before.before.before.before.before.before.before.before.check.ensures.sound c.before.before.before.before.before.before.before.before.before.before.before.before.before.before.before.before.before.before.before.if1.true)
 
 -- src/query.rt:118:5
 without-list-requires : tie.Need-without-list-requires
@@ -59,7 +59,7 @@ returns-2 : tie.Need-returns-2
 returns-2 c =
     let a = c.before.before.before.before.before.before.before.before.before.before.before.before.args in
     let k = c.before.before.before.check in
-    refused-query (query_of a.query) a.setting a.bytes.now a.tokens.now (buffers_of a.events.now a.trees.now a.errors.now a.reports.now a.pool.now) a.list.now k.result c.without-list.result (k.ensures.not_sound c.before.if1.false) c.without-list.ensures
+    refused_query (query_of a.query) a.setting a.bytes.now a.tokens.now (buffers_of a.events.now a.trees.now a.errors.now a.reports.now a.pool.now) a.list.now k.result c.without-list.result (k.ensures.not_sound c.before.if1.false) c.without-list.ensures
 
 pub answer_query_spec : {M : Type 1} → statement M
 answer_query_spec =

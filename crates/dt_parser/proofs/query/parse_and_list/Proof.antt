@@ -3,7 +3,7 @@ use mathlib.Core.Path.{refl}
 use borrow.Author.Rules.{rules}
 use Rattle.caret.specs.Asked.{query_of}
 use Rattle.call.specs.Result.{buffers_of}
-use Rattle.listing.proofs.Ends.{walk-needs, parse-listed, parse-refused}
+use Rattle.listing.proofs.Ends.{walk_needs, parse_listed, parse_refused}
 use Rattle.dt_parser.proofs.query.parse_and_list.Statement.{statement}
 use Rattle.dt_parser.proofs.query.parse_and_list.Tie as tie
 use Rattle.dt_parser.proofs.query.parse_and_list.Reads as reads
@@ -23,7 +23,7 @@ list-of-requires c κs =
     let s = c.before.before.before.before.before.before.before.before.before.before.before.before.before.before.before.before.before.before.before.before.before.before.before.before.before.before.before.before.before.before.before in
     let a = s.args in
     let p = c.before.before.before.before.before.before.before.before.before.before.before.before.before.before.before.before.before.parse in
-    walk-needs (query_of a.query) a.setting a.bytes.now a.tokens.now (buffers_of a.events.now a.trees.now a.errors.now a.reports.now a.pool.now) a.list.now s.requires p.result (buffers_of p.new.1.1.1.1.0 p.new.1.1.1.1.1.0 p.new.1.1.1.1.1.1.0 p.new.1.1.1.1.1.1.1.0 p.new.1.1.1.1.1.1.1.1.0) p.ensures c.before.before.before.before.before.if1.true p.auto.1.1.1.1.1.0
+    walk_needs (query_of a.query) a.setting a.bytes.now a.tokens.now (buffers_of a.events.now a.trees.now a.errors.now a.reports.now a.pool.now) a.list.now s.requires p.result (buffers_of p.new.1.1.1.1.0 p.new.1.1.1.1.1.0 p.new.1.1.1.1.1.1.0 p.new.1.1.1.1.1.1.1.0 p.new.1.1.1.1.1.1.1.1.0) p.ensures c.before.before.before.before.before.if1.true p.auto.1.1.1.1.1.0
 
 -- src/query.rt:80:9
 same_length : tie.Need-same-length
@@ -56,7 +56,7 @@ returns c =
     let a = s.args in
     let p = c.before.before.before.before.before.before.before.before.before.before.before.before.before.before.before.before.before.before.before.before.before.before.before.before.before.before.before.before.parse in
     let l = c.before.before.before.before.before.before.before.before.before.before.list_of in
-    parse-listed (query_of a.query) a.setting a.bytes.now a.tokens.now (buffers_of a.events.now a.trees.now a.errors.now a.reports.now a.pool.now) a.list.now s.requires p.result (buffers_of p.new.1.1.1.1.0 p.new.1.1.1.1.1.0 p.new.1.1.1.1.1.1.0 p.new.1.1.1.1.1.1.1.0 p.new.1.1.1.1.1.1.1.1.0) p.ensures c.before.before.before.before.before.before.before.before.before.before.before.before.before.before.before.before.if1.true
+    parse_listed (query_of a.query) a.setting a.bytes.now a.tokens.now (buffers_of a.events.now a.trees.now a.errors.now a.reports.now a.pool.now) a.list.now s.requires p.result (buffers_of p.new.1.1.1.1.0 p.new.1.1.1.1.1.0 p.new.1.1.1.1.1.1.0 p.new.1.1.1.1.1.1.1.0 p.new.1.1.1.1.1.1.1.1.0) p.ensures c.before.before.before.before.before.before.before.before.before.before.before.before.before.before.before.before.if1.true
     (record { trees = p.auto.1.1.1.1.1.0; errors = p.auto.1.1.1.1.1.1.0; reports = p.auto.1.1.1.1.1.1.1.0; pool = p.auto.1.1.1.1.1.1.1.1.0 })
     l.result l.new.1.1.1.1.1.1.1.0 (buffers_of p.new.1.1.1.1.0 l.new.1.1.1.0 l.new.1.1.1.1.0 l.new.1.1.1.1.1.0 l.new.1.1.1.1.1.1.0) refl l.ensures
 
@@ -98,7 +98,7 @@ returns-2 c =
     let s = c.before.before.before.before.before.before.before.before.before.before.before.before.before.before.before.before.before.before.before.before.before.before.before.before.before.before.before.before.before.before.before in
     let a = s.args in
     let p = c.before.before.before.before.before.before.before.before.before.before.before.before.before.before.before.before.before.parse in
-    parse-refused (query_of a.query) a.setting a.bytes.now a.tokens.now (buffers_of a.events.now a.trees.now a.errors.now a.reports.now a.pool.now) a.list.now s.requires p.result (buffers_of p.new.1.1.1.1.0 p.new.1.1.1.1.1.0 p.new.1.1.1.1.1.1.0 p.new.1.1.1.1.1.1.1.0 p.new.1.1.1.1.1.1.1.1.0) p.ensures c.without-list.result c.before.before.before.clear.new.0 c.before.before.before.before.before.if1.false c.without-list.ensures c.before.before.before.clear.ensures
+    parse_refused (query_of a.query) a.setting a.bytes.now a.tokens.now (buffers_of a.events.now a.trees.now a.errors.now a.reports.now a.pool.now) a.list.now s.requires p.result (buffers_of p.new.1.1.1.1.0 p.new.1.1.1.1.1.0 p.new.1.1.1.1.1.1.0 p.new.1.1.1.1.1.1.1.0 p.new.1.1.1.1.1.1.1.1.0) p.ensures c.without-list.result c.before.before.before.clear.new.0 c.before.before.before.before.before.if1.false c.without-list.ensures c.before.before.before.clear.ensures
 
 pub parse_and_list_spec : {M : Type 1} → statement M
 parse_and_list_spec =

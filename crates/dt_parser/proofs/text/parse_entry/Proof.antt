@@ -3,7 +3,7 @@ use mathlib.Core.Path.{refl, ◌∙◌}
 use borrow.Author.Rules.{rules}
 use Rattle.definitions.specs.Text.{too_long, has_high_byte, has_directive, text_number, text_place}
 use Rattle.call.specs.Result.{buffers_of}
-use Rattle.dt_parser.proofs.TextCalls.{refused_entry, rows_read, front_passes, parsed-entry}
+use Rattle.dt_parser.proofs.TextCalls.{refused_entry, rows_read, front_passes, parsed_entry}
 use Rattle.dt_parser.proofs.text.parse_entry.Statement.{statement}
 use Rattle.dt_parser.proofs.text.parse_entry.Tie as tie
 
@@ -96,7 +96,7 @@ returns-4 c =
     let front = c.before.before.before.before.before.before.before.before.before.before.before.before.before.before.parse-front in
     let finish = c.before.before.finish in
     let rows = rows_read a.bytes.now a.tokens.now read.new.1.0 read.result _ read.ensures c.before.before.before.before.before.before.before.before.before.before.before.before.before.before.before.before.before.before.before.before.before.before.checked3.given.1 in
-    parsed-entry a.e a.setting a.bytes.now a.tokens.now read.new.1.0 finish.new.1.0 (buffers_of a.events.now a.trees.now a.errors.now a.reports.now a.pool.now) (buffers_of front.new.1.1.1.1.1.0 front.new.1.1.1.1.1.1.0 front.new.1.1.1.1.1.1.1.0 front.new.1.1.1.1.1.1.1.1.0 front.new.1.1.1.1.1.1.1.1.1.0) _ front.result finish.result rows front.ensures finish.ensures.0 finish.ensures.1
+    parsed_entry a.e a.setting a.bytes.now a.tokens.now read.new.1.0 finish.new.1.0 (buffers_of a.events.now a.trees.now a.errors.now a.reports.now a.pool.now) (buffers_of front.new.1.1.1.1.1.0 front.new.1.1.1.1.1.1.0 front.new.1.1.1.1.1.1.1.0 front.new.1.1.1.1.1.1.1.1.0 front.new.1.1.1.1.1.1.1.1.1.0) _ front.result finish.result rows front.ensures finish.ensures.0 finish.ensures.1
 
 pub parse_entry_spec : {M : Type 1} → statement M
 parse_entry_spec =

@@ -3,8 +3,8 @@ use mathlib.Core.Path.{sym, ◌∙◌}
 use mathlib.Core.Bool.{true≢false}
 use native.Mathlib.Omega.{arith}
 use Rattle.definitions.specs.Check.{silent}
-use Rattle.machine.proofs.Way.{c-act, c-yes, c-no}
-use Rattle.steps.proofs.Steps.{c-ret-yes}
+use Rattle.machine.proofs.Way.{c_act, c_yes, c_no}
+use Rattle.steps.proofs.Steps.{c_ret_yes}
 use borrow.Author.Rules.{rules}
 use Rattle.ends.proofs.lists.at_cells_recovery.Statement.{statement}
 use Rattle.ends.proofs.lists.at_cells_recovery.Tie as tie
@@ -20,7 +20,7 @@ unfolding silent
 returns c =
     let a = c in
     let d = a.before in
-    (λ ask b codes events reports pool. (c-yes (c-act (d.silent-at-set.ensures.0 b _ _ _ _)) a.if1.true (c-ret-yes a.if1.true)).is, (omega (arith, d.silent-at-set.ensures.1.0, d.silent-at-set.ensures.1.1 a.if1.true), λ h. absurd (true≢false (sym a.if1.true ∙ h))))
+    (λ ask b codes events reports pool. (c_yes (c_act (d.silent-at-set.ensures.0 b _ _ _ _)) a.if1.true (c_ret_yes a.if1.true)).is, (omega (arith, d.silent-at-set.ensures.1.0, d.silent-at-set.ensures.1.1 a.if1.true), λ h. absurd (true≢false (sym a.if1.true ∙ h))))
 
 at-end-requires : tie.Need-at-end-requires
 at-end-requires c κs = tt
@@ -32,7 +32,7 @@ returns-2 c =
     let d = a.before in
     let e = d.before in
     let f = e.before in
-    (λ ask b codes events reports pool. (c-no (c-act (f.silent-at-set.ensures.0 b _ _ _ _)) e.if1.false (c-yes (c-act (d.at_end.ensures.0 b _ _ _ _)) a.if2.true (c-ret-yes a.if2.true))).is, (omega (arith, f.silent-at-set.ensures.1.0, d.at_end.ensures.1.0), λ h. absurd (true≢false (sym a.if2.true ∙ h))))
+    (λ ask b codes events reports pool. (c_no (c_act (f.silent-at-set.ensures.0 b _ _ _ _)) e.if1.false (c_yes (c_act (d.at_end.ensures.0 b _ _ _ _)) a.if2.true (c_ret_yes a.if2.true))).is, (omega (arith, f.silent-at-set.ensures.1.0, d.at_end.ensures.1.0), λ h. absurd (true≢false (sym a.if2.true ∙ h))))
 
 slice-aggregate-silent-at-set-2 : tie.Need-slice-aggregate-silent-at-set-2
 slice-aggregate-silent-at-set-2 c = search rules
@@ -49,7 +49,7 @@ returns-3 c =
     let f = e.before in
     let g = f.before in
     let i = g.before in
-    (λ ask b codes events reports pool. (c-no (c-act (i.silent-at-set.ensures.0 b _ _ _ _)) g.if1.false (c-no (c-act (f.at_end.ensures.0 b _ _ _ _)) e.if2.false (c-yes (c-act (d.silent-at-set2.ensures.0 b _ _ _ _)) a.if3.true (c-ret-yes a.if3.true)))).is, (omega (arith, i.silent-at-set.ensures.1.0, f.at_end.ensures.1.0, f.at_end.ensures.1.1.0 e.if2.false, d.silent-at-set2.ensures.1.0, d.silent-at-set2.ensures.1.1 a.if3.true), λ h. absurd (true≢false (sym a.if3.true ∙ h))))
+    (λ ask b codes events reports pool. (c_no (c_act (i.silent-at-set.ensures.0 b _ _ _ _)) g.if1.false (c_no (c_act (f.at_end.ensures.0 b _ _ _ _)) e.if2.false (c_yes (c_act (d.silent-at-set2.ensures.0 b _ _ _ _)) a.if3.true (c_ret_yes a.if3.true)))).is, (omega (arith, i.silent-at-set.ensures.1.0, f.at_end.ensures.1.0, f.at_end.ensures.1.1.0 e.if2.false, d.silent-at-set2.ensures.1.0, d.silent-at-set2.ensures.1.1 a.if3.true), λ h. absurd (true≢false (sym a.if3.true ∙ h))))
 
 silent-at-requires : tie.Need-silent-at-requires
 silent-at-requires c κs = tt
@@ -64,7 +64,7 @@ returns-4 c =
     let g = f.before in
     let i = g.before in
     let j = i.before in
-    (λ ask b codes events reports pool. (c-no (c-act (j.silent-at-set.ensures.0 b _ _ _ _)) i.if1.false (c-no (c-act (g.at_end.ensures.0 b _ _ _ _)) f.if2.false (c-no (c-act (e.silent-at-set2.ensures.0 b _ _ _ _)) d.if3.false (c-act (a.silent_at.ensures.0 b _ _ _ _))))).is, (omega (arith, j.silent-at-set.ensures.1.0, g.at_end.ensures.1.0, g.at_end.ensures.1.1.0 f.if2.false, e.silent-at-set2.ensures.1.0, a.silent_at.ensures.1.0), λ h. omega (arith, j.silent-at-set.ensures.1.0, g.at_end.ensures.1.0, g.at_end.ensures.1.1.0 f.if2.false, e.silent-at-set2.ensures.1.0, a.silent_at.ensures.1.0)))
+    (λ ask b codes events reports pool. (c_no (c_act (j.silent-at-set.ensures.0 b _ _ _ _)) i.if1.false (c_no (c_act (g.at_end.ensures.0 b _ _ _ _)) f.if2.false (c_no (c_act (e.silent-at-set2.ensures.0 b _ _ _ _)) d.if3.false (c_act (a.silent_at.ensures.0 b _ _ _ _))))).is, (omega (arith, j.silent-at-set.ensures.1.0, g.at_end.ensures.1.0, g.at_end.ensures.1.1.0 f.if2.false, e.silent-at-set2.ensures.1.0, a.silent_at.ensures.1.0), λ h. omega (arith, j.silent-at-set.ensures.1.0, g.at_end.ensures.1.0, g.at_end.ensures.1.1.0 f.if2.false, e.silent-at-set2.ensures.1.0, a.silent_at.ensures.1.0)))
 
 pub at_cells_recovery_spec : {M : Type 1} → statement M
 at_cells_recovery_spec = tie.close (tie.spec slice-aggregate-silent-at-set silent-at-set-requires returns at-end-requires returns-2 slice-aggregate-silent-at-set-2 silent-at-set-requires-2 returns-3 silent-at-requires returns-4)

@@ -1,8 +1,8 @@
 -- `at_values_end` is the walk of its program, step by step.
 use Rattle.definitions.specs.TokenKind as K
 use native.Mathlib.Omega.{arith}
-use Rattle.machine.proofs.Way.{c-walk, c-act}
-use Rattle.steps.proofs.Ways.{c-flag}
+use Rattle.machine.proofs.Way.{c_walk, c_act}
+use Rattle.steps.proofs.Ways.{c_flag}
 use Rattle.steps.proofs.Steps.{at_one, at_none}
 use Rattle.ends.specs.Subprograms.{at_values_end}
 use borrow.Author.Rules.{rules}
@@ -22,13 +22,13 @@ returns : tie.Need-returns
 returns c =
     let a = c in
     let d = a.before.before in
-    (λ ask b events reports pool. (c-flag at_values_end d.if1.true (at_one K.Semicolon (c-walk (a.at.ensures.0 ask b _ _ _)))).is, omega (arith, a.at.ensures.1.0))
+    (λ ask b events reports pool. (c_flag at_values_end d.if1.true (at_one K.Semicolon (c_walk (a.at.ensures.0 ask b _ _ _)))).is, omega (arith, a.at.ensures.1.0))
 
 returns-2 : tie.Need-returns-2
 returns-2 c =
     let a = c in
     let d = a.before.before in
-    (λ ask b events reports pool. (c-flag at_values_end d.if1.false (at_none (c-act (a.silent-at-set.ensures.0 b _ _ _ _)))).is, omega (arith, a.silent-at-set.ensures.1.0))
+    (λ ask b events reports pool. (c_flag at_values_end d.if1.false (at_none (c_act (a.silent-at-set.ensures.0 b _ _ _ _)))).is, omega (arith, a.silent-at-set.ensures.1.0))
 
 pub at_values_end_spec : {M : Type 1} → statement M
 at_values_end_spec = tie.close (tie.spec at-requires slice-aggregate-silent-at-set silent-at-set-requires returns returns-2)

@@ -3,8 +3,8 @@ use mathlib.Core.Path.{refl}
 use mathlib.Core.Bool.{true, false}
 use native.Mathlib.Omega.{arith}
 use Rattle.definitions.specs.Check.{silent}
-use Rattle.machine.proofs.Way.{c-walk, c-act, c-ret, c-seq, c-yes, c-no, completed}
-use Rattle.steps.proofs.Ways.{closes-to}
+use Rattle.machine.proofs.Way.{c_walk, c_act, c_ret, c_seq, c_yes, c_no, completed}
+use Rattle.steps.proofs.Ways.{closes_to}
 use borrow.Author.Rules.{rules}
 use Rattle.ends.proofs.lists.unfinished.Statement.{statement}
 use Rattle.ends.proofs.lists.unfinished.Tie as tie
@@ -47,7 +47,7 @@ returns c =
     let e = d.before in
     let f = e.before.before.before.before.before.before.before.before in
     let s = f.before.before.before.before.before.before.before.before in
-    (λ ask b. closes-to (c-seq (c-walk (f.error.ensures.0 ask b)) (c-seq (c-no {t = false} (c-no {t = false} (c-yes (c-act (e.silent-at-set.ensures.0 b _ _ _ _)) d.if1.true c-ret) refl c-ret) refl c-ret) c-ret)) (completed (a.complete.ensures.0 _ _ _)), omega (arith, f.error.ensures.1, e.silent-at-set.ensures.1.0, e.silent-at-set.ensures.1.1 d.if1.true, a.complete.ensures.1 s.args.tokens.now))
+    (λ ask b. closes_to (c_seq (c_walk (f.error.ensures.0 ask b)) (c_seq (c_no {t = false} (c_no {t = false} (c_yes (c_act (e.silent-at-set.ensures.0 b _ _ _ _)) d.if1.true c_ret) refl c_ret) refl c_ret) c_ret)) (completed (a.complete.ensures.0 _ _ _)), omega (arith, f.error.ensures.1, e.silent-at-set.ensures.1.0, e.silent-at-set.ensures.1.1 d.if1.true, a.complete.ensures.1 s.args.tokens.now))
 
 at-end-requires : tie.Need-at-end-requires
 at-end-requires c κs = tt
@@ -83,7 +83,7 @@ returns-2 c =
     let g = f.before in
     let i = g.before.before.before.before.before.before.before.before in
     let s = i.before.before.before.before.before.before.before.before in
-    (λ ask b. closes-to (c-seq (c-walk (i.error.ensures.0 ask b)) (c-seq (c-no {t = false} (c-yes {t = true} (c-no (c-act (g.silent-at-set.ensures.0 b _ _ _ _)) f.if1.false c-ret) refl (c-yes (c-act (e.at_end.ensures.0 b _ _ _ _)) d.if2.true c-ret)) refl c-ret) c-ret)) (completed (a.complete2.ensures.0 _ _ _)), omega (arith, i.error.ensures.1, g.silent-at-set.ensures.1.0, e.at_end.ensures.1.0, a.complete2.ensures.1 s.args.tokens.now))
+    (λ ask b. closes_to (c_seq (c_walk (i.error.ensures.0 ask b)) (c_seq (c_no {t = false} (c_yes {t = true} (c_no (c_act (g.silent-at-set.ensures.0 b _ _ _ _)) f.if1.false c_ret) refl (c_yes (c_act (e.at_end.ensures.0 b _ _ _ _)) d.if2.true c_ret)) refl c_ret) c_ret)) (completed (a.complete2.ensures.0 _ _ _)), omega (arith, i.error.ensures.1, g.silent-at-set.ensures.1.0, e.at_end.ensures.1.0, a.complete2.ensures.1 s.args.tokens.now))
 
 bump-requires : tie.Need-bump-requires
 bump-requires c κs = tt
@@ -123,7 +123,7 @@ returns-3 c =
     let i = g.before in
     let j = i.before.before.before.before.before.before.before.before in
     let s = j.before.before.before.before.before.before.before.before in
-    (λ ask b. closes-to (c-seq (c-walk (j.error.ensures.0 ask b)) (c-seq (c-yes {t = true} (c-yes {t = true} (c-no (c-act (i.silent-at-set.ensures.0 b _ _ _ _)) g.if1.false c-ret) refl (c-no (c-act (f.at_end.ensures.0 b _ _ _ _)) e.if2.false c-ret)) refl (c-act (d.bump.ensures.0 b _ _ _))) c-ret)) (completed (a.complete3.ensures.0 _ _ _)), omega (arith, j.error.ensures.1, i.silent-at-set.ensures.1.0, f.at_end.ensures.1.0, f.at_end.ensures.1.1.0 e.if2.false, d.bump.ensures.1, a.complete3.ensures.1 s.args.tokens.now))
+    (λ ask b. closes_to (c_seq (c_walk (j.error.ensures.0 ask b)) (c_seq (c_yes {t = true} (c_yes {t = true} (c_no (c_act (i.silent-at-set.ensures.0 b _ _ _ _)) g.if1.false c_ret) refl (c_no (c_act (f.at_end.ensures.0 b _ _ _ _)) e.if2.false c_ret)) refl (c_act (d.bump.ensures.0 b _ _ _))) c_ret)) (completed (a.complete3.ensures.0 _ _ _)), omega (arith, j.error.ensures.1, i.silent-at-set.ensures.1.0, f.at_end.ensures.1.0, f.at_end.ensures.1.1.0 e.if2.false, d.bump.ensures.1, a.complete3.ensures.1 s.args.tokens.now))
 
 pub unfinished_spec : {M : Type 1} → statement M
 unfinished_spec = tie.close (tie.spec error-requires slice-aggregate-silent-at-set silent-at-set-requires complete-requires same_length same-length-2 same-length-3 returns at-end-requires complete-requires-2 same-length-4 same-length-5 same-length-6 returns-2 bump-requires complete-requires-3 same-length-7 same-length-8 same-length-9 returns-3)

@@ -12,10 +12,10 @@ use Rattle.definitions.specs.Prog.{Rule, loop}
 use Rattle.definitions.specs.Grammar.{left_over_turn}
 use Rattle.machine.specs.Machine.{Machine}
 use Rattle.machine.specs.Walk.{Walked, walk}
-use Rattle.machine.proofs.Way.{c-act, c-ret, c-seq, c-yes, c-no}
+use Rattle.machine.proofs.Way.{c_act, c_ret, c_seq, c_yes, c_no}
 use Rattle.parser.specs.View.{parser_view, tokens_left}
 use Rattle.steps.proofs.Left.{ahead_falls}
-use Rattle.steps.proofs.Ways.{turns, stops-yes}
+use Rattle.steps.proofs.Ways.{turns, stops_yes}
 use Rattle.ends.proofs.nodes.bump_all.Statement.{statement}
 use Rattle.ends.proofs.nodes.bump_all.Tie as tie
 
@@ -42,7 +42,7 @@ returns c =
     let a = c.before in
     let d = a.before in
     let e = d.before in
-    (λ ask b reports pool. stops-yes (c-no {t = false} (c-yes (c-act (d.at_end.ensures.0 b _ reports pool)) a.if1.true c-ret) refl c-ret) ∙ e.loop.invariant.0 ask b reports pool, omega (arith, e.loop.invariant.1.0, d.at_end.ensures.1.0))
+    (λ ask b reports pool. stops_yes (c_no {t = false} (c_yes (c_act (d.at_end.ensures.0 b _ reports pool)) a.if1.true c_ret) refl c_ret) ∙ e.loop.invariant.0 ask b reports pool, omega (arith, e.loop.invariant.1.0, d.at_end.ensures.1.0))
 
 bump-requires : tie.Need-bump-requires invariant-loop decreases-loop
 bump-requires c κs = tt
@@ -63,7 +63,7 @@ loop-again c =
     let e = d.before in
     let f = e.before in
     let s = f.before.before.before in
-    (λ ask b reports pool. turns (c-yes {t = true} (c-no (c-act (e.at_end.ensures.0 b _ reports pool)) d.if1.false c-ret) refl (c-seq (c-act (a.bump.ensures.0 b reports pool)) c-ret)) (ahead_falls s.args.tokens.now f.loop.q.s a.bump.result.s (omega (arith, f.loop.invariant.1.0, e.at_end.ensures.1.0, e.at_end.ensures.1.1.0 d.if1.false, a.bump.ensures.1))) ∙ f.loop.invariant.0 ask b reports pool, (omega (arith, f.loop.invariant.1.0, e.at_end.ensures.1.0, e.at_end.ensures.1.1.0 d.if1.false, a.bump.ensures.1), omega (arith, f.loop.invariant.1.1, a.bump.auto)))
+    (λ ask b reports pool. turns (c_yes {t = true} (c_no (c_act (e.at_end.ensures.0 b _ reports pool)) d.if1.false c_ret) refl (c_seq (c_act (a.bump.ensures.0 b reports pool)) c_ret)) (ahead_falls s.args.tokens.now f.loop.q.s a.bump.result.s (omega (arith, f.loop.invariant.1.0, e.at_end.ensures.1.0, e.at_end.ensures.1.1.0 d.if1.false, a.bump.ensures.1))) ∙ f.loop.invariant.0 ask b reports pool, (omega (arith, f.loop.invariant.1.0, e.at_end.ensures.1.0, e.at_end.ensures.1.1.0 d.if1.false, a.bump.ensures.1), omega (arith, f.loop.invariant.1.1, a.bump.auto)))
 
 pub bump_all_spec : {M : Type 1} → statement M
 bump_all_spec = tie.close (tie.spec invariant-loop decreases-loop loop-holds at-end-requires same_length returns bump-requires loop-less loop-again)

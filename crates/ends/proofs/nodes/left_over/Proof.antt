@@ -2,7 +2,7 @@
 use native.Mathlib.Omega.{arith}
 use Rattle.definitions.specs.Token.{tokens_of}
 use Rattle.definitions.specs.Grammar.{left_over}
-use Rattle.machine.proofs.Way.{c-walk, c-act, c-ret, c-seq, c-yes, c-no, c-mark, completed}
+use Rattle.machine.proofs.Way.{c_walk, c_act, c_ret, c_seq, c_yes, c_no, c_mark, completed}
 use Rattle.ends.proofs.nodes.left_over.Statement.{statement}
 use Rattle.ends.proofs.nodes.left_over.Tie as tie
 
@@ -14,7 +14,7 @@ unfolding left_over
 returns c =
     let a = c.before in
     let d = a.before in
-    (λ ask b. (c-yes (c-act (d.at_end.ensures.0 b _ _ _)) a.if1.true c-ret).is, omega (arith, d.at_end.ensures.1.0))
+    (λ ask b. (c_yes (c_act (d.at_end.ensures.0 b _ _ _)) a.if1.true c_ret).is, omega (arith, d.at_end.ensures.1.0))
 
 add-expected-requires : tie.Need-add-expected-requires
 add-expected-requires c κs = tt
@@ -70,7 +70,7 @@ returns-2 c =
     let j = i.before in
     let l = j.before in
     let s = l.before.before.before.before.before in
-    (λ ask b. (c-no (c-act (l.at_end.ensures.0 b _ _ _)) j.if1.false (c-seq (c-act (i.add_expected.ensures.0 (tokens_of s.args.tokens.now) b _ _ _)) (c-mark g.new.ensures (f.start.ensures.0 _ _) (c-seq (c-seq (c-walk (e.error.ensures.0 ask b)) (c-walk (d.bump-all.ensures.0 ask b _ _))) c-ret) (completed (a.complete.ensures.0 _ _))))).is, omega (arith, l.at_end.ensures.1.0, l.at_end.ensures.1.1.0 j.if1.false, i.add_expected.ensures.1 s.args.tokens.now, f.start.ensures.1 s.args.tokens.now, e.error.ensures.1, d.bump-all.ensures.1, a.complete.ensures.1 s.args.tokens.now))
+    (λ ask b. (c_no (c_act (l.at_end.ensures.0 b _ _ _)) j.if1.false (c_seq (c_act (i.add_expected.ensures.0 (tokens_of s.args.tokens.now) b _ _ _)) (c_mark g.new.ensures (f.start.ensures.0 _ _) (c_seq (c_seq (c_walk (e.error.ensures.0 ask b)) (c_walk (d.bump-all.ensures.0 ask b _ _))) c_ret) (completed (a.complete.ensures.0 _ _))))).is, omega (arith, l.at_end.ensures.1.0, l.at_end.ensures.1.1.0 j.if1.false, i.add_expected.ensures.1 s.args.tokens.now, f.start.ensures.1 s.args.tokens.now, e.error.ensures.1, d.bump-all.ensures.1, a.complete.ensures.1 s.args.tokens.now))
 
 pub left_over_spec : {M : Type 1} → statement M
 left_over_spec = tie.close (tie.spec at-end-requires returns add-expected-requires new-requires start-requires error-requires bump-all-requires complete-requires same_length same-length-2 same-length-3 returns-2)

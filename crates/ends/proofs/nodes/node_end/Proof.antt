@@ -2,8 +2,8 @@
 use native.Mathlib.Omega.{arith}
 use borrow.Author.Rules.{rules}
 use Rattle.parser.specs.View.{span_of}
-use Rattle.machine.proofs.Way.{c-walk, c-act, c-ret, c-seq, c-yes, c-no, completed}
-use Rattle.steps.proofs.Ways.{closes-to, c-unclosed}
+use Rattle.machine.proofs.Way.{c_walk, c_act, c_ret, c_seq, c_yes, c_no, completed}
+use Rattle.steps.proofs.Ways.{closes_to, c_unclosed}
 use Rattle.ends.proofs.nodes.node_end.Statement.{statement}
 use Rattle.ends.proofs.nodes.node_end.Tie as tie
 
@@ -53,7 +53,7 @@ returns c =
     let if1' = emit'.before.before.before.before in
     let at-end' = if1'.before in
     let s' = at-end'.before.before.before.before.before in (
-      λ ask. closes-to (c-yes (c-act (at-end'.at_end.ensures.0 (span_of s'.args.lcurly-span) _ _ _)) if1'.if1.true (c-seq (c-unclosed emit'.emit.ensures.0) c-ret)) (completed (complete'.complete.ensures.0 _ _)),
+      λ ask. closes_to (c_yes (c_act (at-end'.at_end.ensures.0 (span_of s'.args.lcurly-span) _ _ _)) if1'.if1.true (c_seq (c_unclosed emit'.emit.ensures.0) c_ret)) (completed (complete'.complete.ensures.0 _ _)),
       omega (arith, at-end'.at_end.ensures.1.0, emit'.emit.ensures.1, complete'.complete.ensures.1 s'.args.tokens.now),
     )
 
@@ -86,7 +86,7 @@ returns-2 c =
     let if1' = expect'.before.before.before.before in
     let at-end' = if1'.before in
     let s' = at-end'.before.before.before.before.before in (
-      λ ask. closes-to (c-no (c-act (at-end'.at_end.ensures.0 (span_of s'.args.lcurly-span) _ _ _)) if1'.if1.false (c-seq (c-walk (expect'.expect.ensures.0 ask (span_of s'.args.lcurly-span))) (c-seq (c-walk (expect-recoverable'.expect_recoverable.ensures.0 ask (span_of s'.args.lcurly-span))) c-ret))) (completed (complete2'.complete2.ensures.0 _ _)),
+      λ ask. closes_to (c_no (c_act (at-end'.at_end.ensures.0 (span_of s'.args.lcurly-span) _ _ _)) if1'.if1.false (c_seq (c_walk (expect'.expect.ensures.0 ask (span_of s'.args.lcurly-span))) (c_seq (c_walk (expect-recoverable'.expect_recoverable.ensures.0 ask (span_of s'.args.lcurly-span))) c_ret))) (completed (complete2'.complete2.ensures.0 _ _)),
       omega (arith, at-end'.at_end.ensures.1.0, expect'.expect.ensures.1.0, expect-recoverable'.expect_recoverable.ensures.1, complete2'.complete2.ensures.1 s'.args.tokens.now),
     )
 

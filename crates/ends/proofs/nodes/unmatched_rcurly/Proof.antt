@@ -1,6 +1,6 @@
 -- `unmatched_rcurly`: a report, and the bracket in a node of its own.
 use native.Mathlib.Omega.{arith}
-use Rattle.machine.proofs.Way.{c-walk, c-act, c-ret, c-seq, c-mark, completed}
+use Rattle.machine.proofs.Way.{c_walk, c_act, c_ret, c_seq, c_mark, completed}
 use Rattle.ends.proofs.nodes.unmatched_rcurly.Statement.{statement}
 use Rattle.ends.proofs.nodes.unmatched_rcurly.Tie as tie
 
@@ -51,7 +51,7 @@ returns c =
     let f = e.before.before in
     let g = f.before.before.before.before.before.before.before in
     let s = g.before.before.before.before.before.before.before.before in
-    (λ ask b. (c-seq (c-walk (g.error.ensures.0 ask b)) (c-mark f.new.ensures (e.start.ensures.0 _ _) (c-seq (c-act (d.bump.ensures.0 b _ _)) c-ret) (completed (a.complete.ensures.0 _ _)))).is, omega (arith, g.error.ensures.1, e.start.ensures.1 s.args.tokens.now, d.bump.ensures.1, a.complete.ensures.1 s.args.tokens.now))
+    (λ ask b. (c_seq (c_walk (g.error.ensures.0 ask b)) (c_mark f.new.ensures (e.start.ensures.0 _ _) (c_seq (c_act (d.bump.ensures.0 b _ _)) c_ret) (completed (a.complete.ensures.0 _ _)))).is, omega (arith, g.error.ensures.1, e.start.ensures.1 s.args.tokens.now, d.bump.ensures.1, a.complete.ensures.1 s.args.tokens.now))
 
 pub unmatched_rcurly_spec : {M : Type 1} → statement M
 unmatched_rcurly_spec = tie.close (tie.spec error-requires new-requires start-requires bump-requires complete-requires same_length same-length-2 same-length-3 returns)

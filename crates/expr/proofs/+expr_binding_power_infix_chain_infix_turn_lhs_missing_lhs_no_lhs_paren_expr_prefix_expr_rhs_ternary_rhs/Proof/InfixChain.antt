@@ -7,9 +7,9 @@ use Rattle.definitions.specs.Token.{tokens_of}
 use Rattle.definitions.specs.Grammar.{infix_turn}
 use Rattle.parser.specs.View.{tokens_left, marker_of, parser_view}
 use Rattle.expr.specs.Chain.{links_from}
-use Rattle.machine.proofs.Way.{c-fn}
+use Rattle.machine.proofs.Way.{c_fn}
 use Rattle.steps.proofs.Left.{ahead_falls}
-use Rattle.expr.proofs.Chain.{linked-again, linked-last, linked_stop, step-again, step-last, step-none}
+use Rattle.expr.proofs.Chain.{linked_again, linked_last, linked_stop, step_again, step_last, step_none}
 use Rattle.expr.proofs.infix_chain.Reads as reads
 use Rattle.expr.proofs.+expr_binding_power_infix_chain_infix_turn_lhs_missing_lhs_no_lhs_paren_expr_prefix_expr_rhs_ternary_rhs.Lts-infix_chain as lts
 use Rattle.expr.proofs.+expr_binding_power_infix_chain_infix_turn_lhs_missing_lhs_no_lhs_paren_expr_prefix_expr_rhs_ternary_rhs.Proof.Measures.{infix_chain_at, infix_chain_claims}
@@ -68,7 +68,7 @@ loop-again t c =
           omega (arith, infix-turn'.infix_turn.auto, complete'.complete.auto, precede'.precede.auto, loop'.loop.invariant.1),
           (
             omega (arith, infix-turn'.infix_turn.auto, complete'.complete.auto, precede'.precede.auto, loop'.loop.invariant.1),
-            linked-again s'.args.allowed s'.args.tokens.now (infix_turn s'.args.min-bp) (marker_of loop'.loop.m) 5 (complete'.complete.ensures.0 _ _) (precede'.precede.ensures.0 _ _) linked'.linked.ensures s'.well_formed.1.0.0 (step-again (c-fn s'.args.allowed infix-turn'.infix_turn.ensures.0) if1'.if1.true c.if2.true) (ahead_falls s'.args.tokens.now loop'.loop.q.s infix-turn'.infix_turn.result.p.s (infix-turn'.infix_turn.ensures.1.1 if1'.if1.true)) ∙ loop'.loop.invariant.1.1.1.1,
+            linked_again s'.args.allowed s'.args.tokens.now (infix_turn s'.args.min-bp) (marker_of loop'.loop.m) 5 (complete'.complete.ensures.0 _ _) (precede'.precede.ensures.0 _ _) linked'.linked.ensures s'.well_formed.1.0.0 (step_again (c_fn s'.args.allowed infix-turn'.infix_turn.ensures.0) if1'.if1.true c.if2.true) (ahead_falls s'.args.tokens.now loop'.loop.q.s infix-turn'.infix_turn.result.p.s (infix-turn'.infix_turn.ensures.1.1 if1'.if1.true)) ∙ loop'.loop.invariant.1.1.1.1,
           ),
         ),
       ),
@@ -114,7 +114,7 @@ returns t c =
     let infix-turn' = if1'.before.before.before.before.before.before.before in
     let loop' = infix-turn'.before.before.before.before in
     let s' = loop'.before.before.before.before.before in (
-      linked-last s'.args.allowed s'.args.tokens.now (infix_turn s'.args.min-bp) (marker_of loop'.loop.m) 5 (complete'.complete.ensures.0 _ _) (precede'.precede.ensures.0 _ _) (ignore'.ignore.ensures.0 _ _) (step-last (c-fn s'.args.allowed infix-turn'.infix_turn.ensures.0) if1'.if1.true if2'.if2.false) ∙ loop'.loop.invariant.1.1.1.1,
+      linked_last s'.args.allowed s'.args.tokens.now (infix_turn s'.args.min-bp) (marker_of loop'.loop.m) 5 (complete'.complete.ensures.0 _ _) (precede'.precede.ensures.0 _ _) (ignore'.ignore.ensures.0 _ _) (step_last (c_fn s'.args.allowed infix-turn'.infix_turn.ensures.0) if1'.if1.true if2'.if2.false) ∙ loop'.loop.invariant.1.1.1.1,
       omega (arith, loop'.loop.invariant.0, infix-turn'.infix_turn.ensures.1.0, infix-turn'.infix_turn.ensures.1.1 if1'.if1.true, complete'.complete.ensures.1 s'.args.tokens.now, precede'.precede.ensures.1 s'.args.tokens.now, ignore'.ignore.ensures.1 s'.args.tokens.now),
     )
 
@@ -149,6 +149,6 @@ returns-2 t c =
     let infix-turn' = if1'.before.before.before.before.before.before.before in
     let loop' = infix-turn'.before.before.before.before in
     let s' = loop'.before.before.before.before.before in (
-      linked_stop s'.args.allowed (tokens_of s'.args.tokens.now) (infix_turn s'.args.min-bp) (marker_of loop'.loop.m) (ignore2'.ignore2.ensures.0 _ _) (step-none infix-turn'.infix_turn.result.again (c-fn s'.args.allowed infix-turn'.infix_turn.ensures.0) if1'.if1.false) ∙ loop'.loop.invariant.1.1.1.1,
+      linked_stop s'.args.allowed (tokens_of s'.args.tokens.now) (infix_turn s'.args.min-bp) (marker_of loop'.loop.m) (ignore2'.ignore2.ensures.0 _ _) (step_none infix-turn'.infix_turn.result.again (c_fn s'.args.allowed infix-turn'.infix_turn.ensures.0) if1'.if1.false) ∙ loop'.loop.invariant.1.1.1.1,
       omega (arith, loop'.loop.invariant.0, infix-turn'.infix_turn.ensures.1.0, ignore2'.ignore2.ensures.1 s'.args.tokens.now),
     )

@@ -4,8 +4,8 @@ use mathlib.Core.Bool.{false≢true}
 use native.Mathlib.Omega.{arith}
 use borrow.Author.Tests.{eqb-false}
 use Rattle.machine.specs.Walk.{unlabelled}
-use Rattle.machine.proofs.Way.{c-act, c-seq, c-fn, way}
-use Rattle.expr.proofs.Levels.{turn-none, turn-weaker, turn-ternary, turn-binary}
+use Rattle.machine.proofs.Way.{c_act, c_seq, c_fn, way}
+use Rattle.expr.proofs.Levels.{turn_none, turn_weaker, turn_ternary, turn_binary}
 use Rattle.expr.proofs.infix_turn.Reads as reads
 use Rattle.expr.proofs.+expr_binding_power_infix_chain_infix_turn_lhs_missing_lhs_no_lhs_paren_expr_prefix_expr_rhs_ternary_rhs.Lts-infix_turn as lts
 use Rattle.expr.proofs.+expr_binding_power_infix_chain_infix_turn_lhs_missing_lhs_no_lhs_paren_expr_prefix_expr_rhs_ternary_rhs.Proof.Measures.{infix_turn_at, infix_turn_claims}
@@ -18,7 +18,7 @@ returns t c =
     let if1' = c.before in
     let infix-op-at' = if1'.before.before in
     let s' = infix-op-at'.before.before.before.before.before in (
-      way s'.args.allowed (turn-none s'.args.min-bp infix-op-at'.infix-op-at.result.left infix-op-at'.infix-op-at.result.right (infix-op-at'.infix-op-at.ensures.0 _ _ _) infix-op-at'.infix-op-at.ensures.1.0 infix-op-at'.infix-op-at.ensures.1.1.0 if1'.if1.true),
+      way s'.args.allowed (turn_none s'.args.min-bp infix-op-at'.infix-op-at.result.left infix-op-at'.infix-op-at.result.right (infix-op-at'.infix-op-at.ensures.0 _ _ _) infix-op-at'.infix-op-at.ensures.1.0 infix-op-at'.infix-op-at.ensures.1.1.0 if1'.if1.true),
       (
         omega (arith, infix-op-at'.infix-op-at.ensures.1.1.1.1.0),
         λ e. absurd (false≢true e),
@@ -31,7 +31,7 @@ returns-2 t c =
     let if1' = if2'.before.before in
     let infix-op-at' = if1'.before.before in
     let s' = infix-op-at'.before.before.before.before.before in (
-      way s'.args.allowed (turn-weaker s'.args.min-bp infix-op-at'.infix-op-at.result.left infix-op-at'.infix-op-at.result.right (infix-op-at'.infix-op-at.ensures.0 _ _ _) infix-op-at'.infix-op-at.ensures.1.0 infix-op-at'.infix-op-at.ensures.1.1.0 if1'.if1.false if2'.if2.true),
+      way s'.args.allowed (turn_weaker s'.args.min-bp infix-op-at'.infix-op-at.result.left infix-op-at'.infix-op-at.result.right (infix-op-at'.infix-op-at.ensures.0 _ _ _) infix-op-at'.infix-op-at.ensures.1.0 infix-op-at'.infix-op-at.ensures.1.1.0 if1'.if1.false if2'.if2.true),
       (
         omega (arith, infix-op-at'.infix-op-at.ensures.1.1.1.1.0),
         λ e. absurd (false≢true e),
@@ -78,7 +78,7 @@ returns-3 t c =
     let if1' = if2'.before.before in
     let infix-op-at' = if1'.before.before in
     let s' = infix-op-at'.before.before.before.before.before in (
-      way s'.args.allowed (turn-ternary s'.args.min-bp infix-op-at'.infix-op-at.result.left infix-op-at'.infix-op-at.result.right (infix-op-at'.infix-op-at.ensures.0 _ _ _) infix-op-at'.infix-op-at.ensures.1.0 infix-op-at'.infix-op-at.ensures.1.1.0 if1'.if1.false if2'.if2.false if3'.if3.true (c-seq (c-act (bump'.bump.ensures.0 unlabelled _ _)) (c-fn s'.args.allowed ternary-rhs'.ternary_rhs.ensures.0))),
+      way s'.args.allowed (turn_ternary s'.args.min-bp infix-op-at'.infix-op-at.result.left infix-op-at'.infix-op-at.result.right (infix-op-at'.infix-op-at.ensures.0 _ _ _) infix-op-at'.infix-op-at.ensures.1.0 infix-op-at'.infix-op-at.ensures.1.1.0 if1'.if1.false if2'.if2.false if3'.if3.true (c_seq (c_act (bump'.bump.ensures.0 unlabelled _ _)) (c_fn s'.args.allowed ternary-rhs'.ternary_rhs.ensures.0))),
       (
         omega (arith, infix-op-at'.infix-op-at.ensures.1.1.1.1.0, bump'.bump.ensures.1, ternary-rhs'.ternary_rhs.ensures.1),
         λ e. omega (arith, infix-op-at'.infix-op-at.ensures.1.1.1.1.0, bump'.bump.ensures.1, ternary-rhs'.ternary_rhs.ensures.1, infix-op-at'.infix-op-at.ensures.1.1.1.1.1 (eqb-false infix-op-at'.infix-op-at.result.left 0 if1'.if1.false)),
@@ -112,7 +112,7 @@ returns-4 t c =
     let if1' = if2'.before.before in
     let infix-op-at' = if1'.before.before in
     let s' = infix-op-at'.before.before.before.before.before in (
-      way s'.args.allowed (turn-binary s'.args.min-bp infix-op-at'.infix-op-at.result.left infix-op-at'.infix-op-at.result.right (infix-op-at'.infix-op-at.ensures.0 _ _ _) infix-op-at'.infix-op-at.ensures.1.0 infix-op-at'.infix-op-at.ensures.1.1.0 if1'.if1.false if2'.if2.false if3'.if3.false (c-seq (c-act (bump'.bump.ensures.0 unlabelled _ _)) (c-fn s'.args.allowed rhs'.rhs.ensures.0))),
+      way s'.args.allowed (turn_binary s'.args.min-bp infix-op-at'.infix-op-at.result.left infix-op-at'.infix-op-at.result.right (infix-op-at'.infix-op-at.ensures.0 _ _ _) infix-op-at'.infix-op-at.ensures.1.0 infix-op-at'.infix-op-at.ensures.1.1.0 if1'.if1.false if2'.if2.false if3'.if3.false (c_seq (c_act (bump'.bump.ensures.0 unlabelled _ _)) (c_fn s'.args.allowed rhs'.rhs.ensures.0))),
       (
         omega (arith, infix-op-at'.infix-op-at.ensures.1.1.1.1.0, bump'.bump.ensures.1, rhs'.rhs.ensures.1),
         λ e. omega (arith, infix-op-at'.infix-op-at.ensures.1.1.1.1.0, bump'.bump.ensures.1, rhs'.rhs.ensures.1, infix-op-at'.infix-op-at.ensures.1.1.1.1.1 (eqb-false infix-op-at'.infix-op-at.result.left 0 if1'.if1.false)),

@@ -5,7 +5,7 @@ use native.Mathlib.Omega.{arith}
 use Rattle.definitions.specs.Token.{tokens_of}
 use Rattle.definitions.specs.Grammar.{lhs as lhs_prog}
 use Rattle.machine.specs.Walk.{walk_rule, unlabelled}
-use Rattle.machine.proofs.Way.{c-walk, c-ret, c-seq, c-yes, c-no, c-fn, way}
+use Rattle.machine.proofs.Way.{c_walk, c_ret, c_seq, c_yes, c_no, c_fn, way}
 use Rattle.expr.proofs.lhs.Reads as reads
 use Rattle.expr.proofs.+expr_binding_power_infix_chain_infix_turn_lhs_missing_lhs_no_lhs_paren_expr_prefix_expr_rhs_ternary_rhs.Lts-lhs as lts
 use Rattle.expr.proofs.+expr_binding_power_infix_chain_infix_turn_lhs_missing_lhs_no_lhs_paren_expr_prefix_expr_rhs_ternary_rhs.Proof.Measures.{lhs_at, lhs_claims}
@@ -40,7 +40,7 @@ returns t c =
     let if1' = prefix-expr'.before.before.before.before in
     let at-prefix-op' = if1'.before in
     let s' = at-prefix-op'.before.before.before.before.before in (
-      way s'.args.allowed (c-yes (c-walk (at-prefix-op'.at_prefix_op.ensures.0 (walk_rule s'.args.allowed (tokens_of s'.args.tokens.now)) unlabelled _ _ _)) if1'.if1.true (c-fn s'.args.allowed prefix-expr'.prefix_expr.ensures.0)),
+      way s'.args.allowed (c_yes (c_walk (at-prefix-op'.at_prefix_op.ensures.0 (walk_rule s'.args.allowed (tokens_of s'.args.tokens.now)) unlabelled _ _ _)) if1'.if1.true (c_fn s'.args.allowed prefix-expr'.prefix_expr.ensures.0)),
       (
         omega (arith, at-prefix-op'.at_prefix_op.ensures.1.0, at-prefix-op'.at_prefix_op.ensures.1.1 if1'.if1.true, prefix-expr'.prefix_expr.ensures.1),
         λ e. omega (arith, at-prefix-op'.at_prefix_op.ensures.1.0, at-prefix-op'.at_prefix_op.ensures.1.1 if1'.if1.true, prefix-expr'.prefix_expr.ensures.1),
@@ -79,7 +79,7 @@ returns-2 t c =
     let if1' = at'.before in
     let at-prefix-op' = if1'.before in
     let s' = at-prefix-op'.before.before.before.before.before in (
-      way s'.args.allowed (c-no (c-walk (at-prefix-op'.at_prefix_op.ensures.0 (walk_rule s'.args.allowed (tokens_of s'.args.tokens.now)) unlabelled _ _ _)) if1'.if1.false (c-yes (c-walk (at'.at.ensures.0 (walk_rule s'.args.allowed (tokens_of s'.args.tokens.now)) unlabelled _ _ _)) if2'.if2.true (c-fn s'.args.allowed paren-expr'.paren_expr.ensures.0))),
+      way s'.args.allowed (c_no (c_walk (at-prefix-op'.at_prefix_op.ensures.0 (walk_rule s'.args.allowed (tokens_of s'.args.tokens.now)) unlabelled _ _ _)) if1'.if1.false (c_yes (c_walk (at'.at.ensures.0 (walk_rule s'.args.allowed (tokens_of s'.args.tokens.now)) unlabelled _ _ _)) if2'.if2.true (c_fn s'.args.allowed paren-expr'.paren_expr.ensures.0))),
       (
         omega (arith, at-prefix-op'.at_prefix_op.ensures.1.0, at'.at.ensures.1.0, at'.at.ensures.1.1 if2'.if2.true, paren-expr'.paren_expr.ensures.1),
         λ e. omega (arith, at-prefix-op'.at_prefix_op.ensures.1.0, at'.at.ensures.1.0, at'.at.ensures.1.1 if2'.if2.true, paren-expr'.paren_expr.ensures.1),
@@ -118,7 +118,7 @@ returns-3 t c =
     let if1' = at'.before in
     let at-prefix-op' = if1'.before in
     let s' = at-prefix-op'.before.before.before.before.before in (
-      way s'.args.allowed (c-no (c-walk (at-prefix-op'.at_prefix_op.ensures.0 (walk_rule s'.args.allowed (tokens_of s'.args.tokens.now)) unlabelled _ _ _)) if1'.if1.false (c-no (c-walk (at'.at.ensures.0 (walk_rule s'.args.allowed (tokens_of s'.args.tokens.now)) unlabelled _ _ _)) if2'.if2.false (c-yes (c-walk (at2'.at2.ensures.0 (walk_rule s'.args.allowed (tokens_of s'.args.tokens.now)) unlabelled _ _ _)) if3'.if3.true (c-seq (c-walk (macro-invocation'.macro_invocation.ensures.0 (walk_rule s'.args.allowed (tokens_of s'.args.tokens.now)) unlabelled)) c-ret)))),
+      way s'.args.allowed (c_no (c_walk (at-prefix-op'.at_prefix_op.ensures.0 (walk_rule s'.args.allowed (tokens_of s'.args.tokens.now)) unlabelled _ _ _)) if1'.if1.false (c_no (c_walk (at'.at.ensures.0 (walk_rule s'.args.allowed (tokens_of s'.args.tokens.now)) unlabelled _ _ _)) if2'.if2.false (c_yes (c_walk (at2'.at2.ensures.0 (walk_rule s'.args.allowed (tokens_of s'.args.tokens.now)) unlabelled _ _ _)) if3'.if3.true (c_seq (c_walk (macro-invocation'.macro_invocation.ensures.0 (walk_rule s'.args.allowed (tokens_of s'.args.tokens.now)) unlabelled)) c_ret)))),
       (
         omega (arith, at-prefix-op'.at_prefix_op.ensures.1.0, at'.at.ensures.1.0, at2'.at2.ensures.1.0, at2'.at2.ensures.1.1 if3'.if3.true, macro-invocation'.macro_invocation.ensures.1),
         λ e. omega (arith, at-prefix-op'.at_prefix_op.ensures.1.0, at'.at.ensures.1.0, at2'.at2.ensures.1.0, at2'.at2.ensures.1.1 if3'.if3.true, macro-invocation'.macro_invocation.ensures.1),
@@ -149,7 +149,7 @@ returns-4 t c =
     let if1' = at'.before in
     let at-prefix-op' = if1'.before in
     let s' = at-prefix-op'.before.before.before.before.before in (
-      way s'.args.allowed (c-no (c-walk (at-prefix-op'.at_prefix_op.ensures.0 (walk_rule s'.args.allowed (tokens_of s'.args.tokens.now)) unlabelled _ _ _)) if1'.if1.false (c-no (c-walk (at'.at.ensures.0 (walk_rule s'.args.allowed (tokens_of s'.args.tokens.now)) unlabelled _ _ _)) if2'.if2.false (c-no (c-walk (at2'.at2.ensures.0 (walk_rule s'.args.allowed (tokens_of s'.args.tokens.now)) unlabelled _ _ _)) if3'.if3.false (c-yes (c-walk (at3'.at3.ensures.0 (walk_rule s'.args.allowed (tokens_of s'.args.tokens.now)) unlabelled _ _ _)) if4'.if4.true (c-walk (literal-expr'.literal_expr.ensures.0 (walk_rule s'.args.allowed (tokens_of s'.args.tokens.now)) unlabelled _ _)))))),
+      way s'.args.allowed (c_no (c_walk (at-prefix-op'.at_prefix_op.ensures.0 (walk_rule s'.args.allowed (tokens_of s'.args.tokens.now)) unlabelled _ _ _)) if1'.if1.false (c_no (c_walk (at'.at.ensures.0 (walk_rule s'.args.allowed (tokens_of s'.args.tokens.now)) unlabelled _ _ _)) if2'.if2.false (c_no (c_walk (at2'.at2.ensures.0 (walk_rule s'.args.allowed (tokens_of s'.args.tokens.now)) unlabelled _ _ _)) if3'.if3.false (c_yes (c_walk (at3'.at3.ensures.0 (walk_rule s'.args.allowed (tokens_of s'.args.tokens.now)) unlabelled _ _ _)) if4'.if4.true (c_walk (literal-expr'.literal_expr.ensures.0 (walk_rule s'.args.allowed (tokens_of s'.args.tokens.now)) unlabelled _ _)))))),
       (
         omega (arith, at-prefix-op'.at_prefix_op.ensures.1.0, at'.at.ensures.1.0, at2'.at2.ensures.1.0, at3'.at3.ensures.1.0, at3'.at3.ensures.1.1 if4'.if4.true, literal-expr'.literal_expr.ensures.1),
         λ e. omega (arith, at-prefix-op'.at_prefix_op.ensures.1.0, at'.at.ensures.1.0, at2'.at2.ensures.1.0, at3'.at3.ensures.1.0, at3'.at3.ensures.1.1 if4'.if4.true, literal-expr'.literal_expr.ensures.1),
@@ -189,7 +189,7 @@ returns-5 t c =
     let if1' = at'.before in
     let at-prefix-op' = if1'.before in
     let s' = at-prefix-op'.before.before.before.before.before in (
-      way s'.args.allowed (c-no (c-walk (at-prefix-op'.at_prefix_op.ensures.0 (walk_rule s'.args.allowed (tokens_of s'.args.tokens.now)) unlabelled _ _ _)) if1'.if1.false (c-no (c-walk (at'.at.ensures.0 (walk_rule s'.args.allowed (tokens_of s'.args.tokens.now)) unlabelled _ _ _)) if2'.if2.false (c-no (c-walk (at2'.at2.ensures.0 (walk_rule s'.args.allowed (tokens_of s'.args.tokens.now)) unlabelled _ _ _)) if3'.if3.false (c-no (c-walk (at3'.at3.ensures.0 (walk_rule s'.args.allowed (tokens_of s'.args.tokens.now)) unlabelled _ _ _)) if4'.if4.false (c-fn s'.args.allowed no-lhs'.no_lhs.ensures.0))))),
+      way s'.args.allowed (c_no (c_walk (at-prefix-op'.at_prefix_op.ensures.0 (walk_rule s'.args.allowed (tokens_of s'.args.tokens.now)) unlabelled _ _ _)) if1'.if1.false (c_no (c_walk (at'.at.ensures.0 (walk_rule s'.args.allowed (tokens_of s'.args.tokens.now)) unlabelled _ _ _)) if2'.if2.false (c_no (c_walk (at2'.at2.ensures.0 (walk_rule s'.args.allowed (tokens_of s'.args.tokens.now)) unlabelled _ _ _)) if3'.if3.false (c_no (c_walk (at3'.at3.ensures.0 (walk_rule s'.args.allowed (tokens_of s'.args.tokens.now)) unlabelled _ _ _)) if4'.if4.false (c_fn s'.args.allowed no-lhs'.no_lhs.ensures.0))))),
       (
         omega (arith, at-prefix-op'.at_prefix_op.ensures.1.0, at'.at.ensures.1.0, at2'.at2.ensures.1.0, at3'.at3.ensures.1.0, no-lhs'.no_lhs.ensures.1),
         λ e. absurd (false≢true e),

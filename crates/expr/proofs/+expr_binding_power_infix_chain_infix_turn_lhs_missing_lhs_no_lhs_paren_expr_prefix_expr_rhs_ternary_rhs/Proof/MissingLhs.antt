@@ -3,7 +3,7 @@ use Prim.Native.Nat.{ℕ}
 use native.Mathlib.Omega.{arith}
 use Rattle.definitions.specs.Token.{tokens_of}
 use Rattle.machine.specs.Walk.{walk_rule, unlabelled}
-use Rattle.machine.proofs.Way.{c-walk, c-act, c-ret, c-seq, c-mark, completed, c_call, way}
+use Rattle.machine.proofs.Way.{c_walk, c_act, c_ret, c_seq, c_mark, completed, c_call, way}
 use Rattle.expr.proofs.missing_lhs.Reads as reads
 use Rattle.expr.proofs.+expr_binding_power_infix_chain_infix_turn_lhs_missing_lhs_no_lhs_paren_expr_prefix_expr_rhs_ternary_rhs.Lts-missing_lhs as lts
 use Rattle.expr.proofs.+expr_binding_power_infix_chain_infix_turn_lhs_missing_lhs_no_lhs_paren_expr_prefix_expr_rhs_ternary_rhs.Proof.Measures.{missing_lhs_at, missing_lhs_claims}
@@ -64,6 +64,6 @@ returns t c =
     let new' = start'.before.before in
     let error' = new'.before.before.before.before.before.before.before in
     let s' = error'.before.before.before.before.before.before.before.before in (
-      way s'.args.allowed (c-seq (c-walk (error'.error.ensures.0 (walk_rule s'.args.allowed (tokens_of s'.args.tokens.now)) unlabelled)) (c-seq (c-mark new'.new.ensures (start'.start.ensures.0 _ _) (c-seq (c-seq (c-act (bump'.bump.ensures.0 unlabelled _ _)) (c_call s'.args.allowed expr-binding-power'.expr_binding_power.ensures.0)) c-ret) (completed (complete'.complete.ensures.0 _ _))) c-ret)),
+      way s'.args.allowed (c_seq (c_walk (error'.error.ensures.0 (walk_rule s'.args.allowed (tokens_of s'.args.tokens.now)) unlabelled)) (c_seq (c_mark new'.new.ensures (start'.start.ensures.0 _ _) (c_seq (c_seq (c_act (bump'.bump.ensures.0 unlabelled _ _)) (c_call s'.args.allowed expr-binding-power'.expr_binding_power.ensures.0)) c_ret) (completed (complete'.complete.ensures.0 _ _))) c_ret)),
       omega (arith, error'.error.ensures.1, start'.start.ensures.1 s'.args.tokens.now, bump'.bump.ensures.1, expr-binding-power'.expr_binding_power.ensures.1.0, complete'.complete.ensures.1 s'.args.tokens.now),
     )

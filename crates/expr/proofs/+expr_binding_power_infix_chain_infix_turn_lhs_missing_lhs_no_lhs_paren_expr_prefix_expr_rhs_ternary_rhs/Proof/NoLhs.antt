@@ -4,7 +4,7 @@ use native.Mathlib.Omega.{arith}
 use Rattle.definitions.specs.Token.{tokens_of}
 use Rattle.definitions.specs.Check.{silent}
 use Rattle.machine.specs.Walk.{walk_rule, unlabelled}
-use Rattle.machine.proofs.Way.{c-walk, c-act, c-ret, c-seq, c-yes, c-no, c-fn, way}
+use Rattle.machine.proofs.Way.{c_walk, c_act, c_ret, c_seq, c_yes, c_no, c_fn, way}
 use Rattle.expr.proofs.Levels.{at_binary}
 use Rattle.expr.proofs.no_lhs.Reads as reads
 use Rattle.expr.proofs.+expr_binding_power_infix_chain_infix_turn_lhs_missing_lhs_no_lhs_paren_expr_prefix_expr_rhs_ternary_rhs.Lts-no_lhs as lts
@@ -40,7 +40,7 @@ returns t c =
     let if1' = missing-lhs'.before.before.before.before in
     let infix-op-at' = if1'.before in
     let s' = infix-op-at'.before.before.before.before.before in (
-      way s'.args.allowed (c-yes (at_binary infix-op-at'.infix-op-at.result.binary (infix-op-at'.infix-op-at.ensures.0 _ _ _) infix-op-at'.infix-op-at.ensures.1.1.1.0) if1'.if1.true (c-fn s'.args.allowed missing-lhs'.missing_lhs.ensures.0)),
+      way s'.args.allowed (c_yes (at_binary infix-op-at'.infix-op-at.result.binary (infix-op-at'.infix-op-at.ensures.0 _ _ _) infix-op-at'.infix-op-at.ensures.1.1.1.0) if1'.if1.true (c_fn s'.args.allowed missing-lhs'.missing_lhs.ensures.0)),
       omega (arith, infix-op-at'.infix-op-at.ensures.1.1.1.1.0, missing-lhs'.missing_lhs.ensures.1),
     )
 
@@ -74,7 +74,7 @@ returns-2 t c =
     let if1' = silent-at'.before in
     let infix-op-at' = if1'.before in
     let s' = infix-op-at'.before.before.before.before.before in (
-      way s'.args.allowed (c-no (at_binary infix-op-at'.infix-op-at.result.binary (infix-op-at'.infix-op-at.ensures.0 _ _ _) infix-op-at'.infix-op-at.ensures.1.1.1.0) if1'.if1.false (c-yes (c-act (silent-at'.silent_at.ensures.0 unlabelled _ _ _)) if2'.if2.true (c-seq (c-walk (error'.error.ensures.0 (walk_rule s'.args.allowed (tokens_of s'.args.tokens.now)) unlabelled)) c-ret))),
+      way s'.args.allowed (c_no (at_binary infix-op-at'.infix-op-at.result.binary (infix-op-at'.infix-op-at.ensures.0 _ _ _) infix-op-at'.infix-op-at.ensures.1.1.1.0) if1'.if1.false (c_yes (c_act (silent-at'.silent_at.ensures.0 unlabelled _ _ _)) if2'.if2.true (c_seq (c_walk (error'.error.ensures.0 (walk_rule s'.args.allowed (tokens_of s'.args.tokens.now)) unlabelled)) c_ret))),
       omega (arith, infix-op-at'.infix-op-at.ensures.1.1.1.1.0, silent-at'.silent_at.ensures.1.0, silent-at'.silent_at.ensures.1.1 if2'.if2.true, error'.error.ensures.1),
     )
 
@@ -105,6 +105,6 @@ returns-3 t c =
     let if1' = silent-at'.before in
     let infix-op-at' = if1'.before in
     let s' = infix-op-at'.before.before.before.before.before in (
-      way s'.args.allowed (c-no (at_binary infix-op-at'.infix-op-at.result.binary (infix-op-at'.infix-op-at.ensures.0 _ _ _) infix-op-at'.infix-op-at.ensures.1.1.1.0) if1'.if1.false (c-no (c-act (silent-at'.silent_at.ensures.0 unlabelled _ _ _)) if2'.if2.false (c-seq (c-walk (error2'.error2.ensures.0 (walk_rule s'.args.allowed (tokens_of s'.args.tokens.now)) unlabelled)) c-ret))),
+      way s'.args.allowed (c_no (at_binary infix-op-at'.infix-op-at.result.binary (infix-op-at'.infix-op-at.ensures.0 _ _ _) infix-op-at'.infix-op-at.ensures.1.1.1.0) if1'.if1.false (c_no (c_act (silent-at'.silent_at.ensures.0 unlabelled _ _ _)) if2'.if2.false (c_seq (c_walk (error2'.error2.ensures.0 (walk_rule s'.args.allowed (tokens_of s'.args.tokens.now)) unlabelled)) c_ret))),
       omega (arith, infix-op-at'.infix-op-at.ensures.1.1.1.1.0, silent-at'.silent_at.ensures.1.0, error2'.error2.ensures.1),
     )

@@ -3,7 +3,7 @@ use Prim.Native.Nat.{ℕ}
 use native.Mathlib.Omega.{arith}
 use Rattle.definitions.specs.Token.{tokens_of}
 use Rattle.machine.specs.Walk.{walk_rule, unlabelled}
-use Rattle.machine.proofs.Way.{c-walk, c-act, c-seq, c-told-past, c-mark, completed, c_call, way}
+use Rattle.machine.proofs.Way.{c_walk, c_act, c_seq, c_told_past, c_mark, completed, c_call, way}
 use Rattle.expr.proofs.paren_expr.Reads as reads
 use Rattle.expr.proofs.+expr_binding_power_infix_chain_infix_turn_lhs_missing_lhs_no_lhs_paren_expr_prefix_expr_rhs_ternary_rhs.Lts-paren_expr as lts
 use Rattle.expr.proofs.+expr_binding_power_infix_chain_infix_turn_lhs_missing_lhs_no_lhs_paren_expr_prefix_expr_rhs_ternary_rhs.Proof.Measures.{paren_expr_at, paren_expr_claims}
@@ -64,6 +64,6 @@ returns t c =
     let start' = bump'.before.before.before.before in
     let new' = start'.before.before in
     let s' = new'.before.before.before.before.before in (
-      way s'.args.allowed (c-mark new'.new.ensures (start'.start.ensures.0 _ _) (c-seq (c-act (bump'.bump.ensures.0 unlabelled _ _)) (c-told-past expr-binding-power'.expr_binding_power.result.yes (c_call s'.args.allowed expr-binding-power'.expr_binding_power.ensures.0) (c-walk (expect'.expect.ensures.0 (walk_rule s'.args.allowed (tokens_of s'.args.tokens.now)) unlabelled)))) (completed (complete'.complete.ensures.0 _ _))),
+      way s'.args.allowed (c_mark new'.new.ensures (start'.start.ensures.0 _ _) (c_seq (c_act (bump'.bump.ensures.0 unlabelled _ _)) (c_told_past expr-binding-power'.expr_binding_power.result.yes (c_call s'.args.allowed expr-binding-power'.expr_binding_power.ensures.0) (c_walk (expect'.expect.ensures.0 (walk_rule s'.args.allowed (tokens_of s'.args.tokens.now)) unlabelled)))) (completed (complete'.complete.ensures.0 _ _))),
       omega (arith, start'.start.ensures.1 s'.args.tokens.now, bump'.bump.ensures.1, expr-binding-power'.expr_binding_power.ensures.1.0, expect'.expect.ensures.1.0, complete'.complete.ensures.1 s'.args.tokens.now),
     )

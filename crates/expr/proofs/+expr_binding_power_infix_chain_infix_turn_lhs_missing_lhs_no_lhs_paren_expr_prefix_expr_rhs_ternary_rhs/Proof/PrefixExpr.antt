@@ -2,7 +2,7 @@
 use Prim.Native.Nat.{ℕ}
 use native.Mathlib.Omega.{arith}
 use Rattle.machine.specs.Walk.{unlabelled}
-use Rattle.machine.proofs.Way.{c-act, c-seq, c-told, c-mark, completed, c_call, way}
+use Rattle.machine.proofs.Way.{c_act, c_seq, c_told, c_mark, completed, c_call, way}
 use Rattle.expr.proofs.prefix_expr.Reads as reads
 use Rattle.expr.proofs.+expr_binding_power_infix_chain_infix_turn_lhs_missing_lhs_no_lhs_paren_expr_prefix_expr_rhs_ternary_rhs.Lts-prefix_expr as lts
 use Rattle.expr.proofs.+expr_binding_power_infix_chain_infix_turn_lhs_missing_lhs_no_lhs_paren_expr_prefix_expr_rhs_ternary_rhs.Proof.Measures.{prefix_expr_at, prefix_expr_claims}
@@ -56,6 +56,6 @@ returns t c =
     let start' = bump'.before.before.before.before in
     let new' = start'.before.before in
     let s' = new'.before.before.before.before.before in (
-      way s'.args.allowed (c-mark new'.new.ensures (start'.start.ensures.0 _ _) (c-seq (c-act (bump'.bump.ensures.0 unlabelled _ _)) (c-told expr-binding-power'.expr_binding_power.result.yes (c_call s'.args.allowed expr-binding-power'.expr_binding_power.ensures.0))) (completed (complete'.complete.ensures.0 _ _))),
+      way s'.args.allowed (c_mark new'.new.ensures (start'.start.ensures.0 _ _) (c_seq (c_act (bump'.bump.ensures.0 unlabelled _ _)) (c_told expr-binding-power'.expr_binding_power.result.yes (c_call s'.args.allowed expr-binding-power'.expr_binding_power.ensures.0))) (completed (complete'.complete.ensures.0 _ _))),
       omega (arith, start'.start.ensures.1 s'.args.tokens.now, bump'.bump.ensures.1, expr-binding-power'.expr_binding_power.ensures.1.0, complete'.complete.ensures.1 s'.args.tokens.now),
     )

@@ -2,7 +2,7 @@
 use Prim.Native.Nat.{ℕ}
 use native.Mathlib.Omega.{arith}
 use Rattle.definitions.specs.Grammar.{rhs as rhs_prog}
-use Rattle.machine.proofs.Way.{c-again, c_call, way}
+use Rattle.machine.proofs.Way.{c_again, c_call, way}
 use Rattle.expr.proofs.rhs.Reads as reads
 use Rattle.expr.proofs.+expr_binding_power_infix_chain_infix_turn_lhs_missing_lhs_no_lhs_paren_expr_prefix_expr_rhs_ternary_rhs.Lts-rhs as lts
 use Rattle.expr.proofs.+expr_binding_power_infix_chain_infix_turn_lhs_missing_lhs_no_lhs_paren_expr_prefix_expr_rhs_ternary_rhs.Proof.Measures.{rhs_at, rhs_claims}
@@ -32,6 +32,6 @@ unfolding rhs_prog
 returns t c =
     let expr-binding-power' = c.before.before.before.before.before.before.before in
     let s' = expr-binding-power'.before.before.before.before.before.before.before.before in (
-      way s'.args.allowed (c-again expr-binding-power'.expr_binding_power.result.yes (c_call s'.args.allowed expr-binding-power'.expr_binding_power.ensures.0)),
+      way s'.args.allowed (c_again expr-binding-power'.expr_binding_power.result.yes (c_call s'.args.allowed expr-binding-power'.expr_binding_power.ensures.0)),
       omega (arith, expr-binding-power'.expr_binding_power.ensures.1.0),
     )

@@ -5,7 +5,7 @@ use mathlib.Core.Bool.{false}
 use native.Mathlib.Omega.{arith}
 use Rattle.definitions.specs.Token.{tokens_of}
 use Rattle.machine.specs.Walk.{walk_rule, unlabelled}
-use Rattle.machine.proofs.Way.{c-walk, c-ret, c-yes, c-no, c_call, c-fn, way}
+use Rattle.machine.proofs.Way.{c_walk, c_ret, c_yes, c_no, c_call, c_fn, way}
 use Rattle.expr.proofs.ternary_rhs.Reads as reads
 use Rattle.expr.proofs.+expr_binding_power_infix_chain_infix_turn_lhs_missing_lhs_no_lhs_paren_expr_prefix_expr_rhs_ternary_rhs.Lts-ternary_rhs as lts
 use Rattle.expr.proofs.+expr_binding_power_infix_chain_infix_turn_lhs_missing_lhs_no_lhs_paren_expr_prefix_expr_rhs_ternary_rhs.Proof.Measures.{ternary_rhs_at, ternary_rhs_claims}
@@ -52,7 +52,7 @@ returns t c =
     let if1' = expect'.before.before.before.before in
     let expr-binding-power' = if1'.before.before.before.before.before.before.before in
     let s' = expr-binding-power'.before.before.before.before.before.before.before.before in (
-      way s'.args.allowed (c-yes (c-yes (c_call s'.args.allowed expr-binding-power'.expr_binding_power.ensures.0) if1'.if1.true (c-walk (expect'.expect.ensures.0 (walk_rule s'.args.allowed (tokens_of s'.args.tokens.now)) unlabelled))) if2'.if2.true (c-fn s'.args.allowed rhs'.rhs.ensures.0)),
+      way s'.args.allowed (c_yes (c_yes (c_call s'.args.allowed expr-binding-power'.expr_binding_power.ensures.0) if1'.if1.true (c_walk (expect'.expect.ensures.0 (walk_rule s'.args.allowed (tokens_of s'.args.tokens.now)) unlabelled))) if2'.if2.true (c_fn s'.args.allowed rhs'.rhs.ensures.0)),
       omega (arith, expr-binding-power'.expr_binding_power.ensures.1.0, expr-binding-power'.expr_binding_power.ensures.1.1 if1'.if1.true, expect'.expect.ensures.1.0, expect'.expect.ensures.1.1 if2'.if2.true, rhs'.rhs.ensures.1),
     )
 
@@ -81,7 +81,7 @@ returns-2 t c =
     let if1' = expect'.before.before.before.before in
     let expr-binding-power' = if1'.before.before.before.before.before.before.before in
     let s' = expr-binding-power'.before.before.before.before.before.before.before.before in (
-      way s'.args.allowed (c-no (c-yes (c_call s'.args.allowed expr-binding-power'.expr_binding_power.ensures.0) if1'.if1.true (c-walk (expect'.expect.ensures.0 (walk_rule s'.args.allowed (tokens_of s'.args.tokens.now)) unlabelled))) if2'.if2.false c-ret),
+      way s'.args.allowed (c_no (c_yes (c_call s'.args.allowed expr-binding-power'.expr_binding_power.ensures.0) if1'.if1.true (c_walk (expect'.expect.ensures.0 (walk_rule s'.args.allowed (tokens_of s'.args.tokens.now)) unlabelled))) if2'.if2.false c_ret),
       omega (arith, expr-binding-power'.expr_binding_power.ensures.1.0, expr-binding-power'.expr_binding_power.ensures.1.1 if1'.if1.true, expect'.expect.ensures.1.0),
     )
 
@@ -105,6 +105,6 @@ returns-3 t c =
     let if1' = c.before in
     let expr-binding-power' = if1'.before.before.before.before.before.before.before in
     let s' = expr-binding-power'.before.before.before.before.before.before.before.before in (
-      way s'.args.allowed (c-no {t = false} (c-no (c_call s'.args.allowed expr-binding-power'.expr_binding_power.ensures.0) if1'.if1.false c-ret) refl c-ret),
+      way s'.args.allowed (c_no {t = false} (c_no (c_call s'.args.allowed expr-binding-power'.expr_binding_power.ensures.0) if1'.if1.false c_ret) refl c_ret),
       omega (arith, expr-binding-power'.expr_binding_power.ensures.1.0),
     )

@@ -4,9 +4,9 @@ use native.Mathlib.Omega.{arith}
 use Rattle.definitions.specs.Token.{tokens_of}
 use Rattle.definitions.specs.Grammar.{bits_value}
 use Rattle.machine.specs.Walk.{walk_rule, unlabelled}
-use Rattle.machine.proofs.Way.{c-walk, c-act, c-ret, c-seq, c-yes, c-no, c-mark, completed, way}
+use Rattle.machine.proofs.Way.{c_walk, c_act, c_ret, c_seq, c_yes, c_no, c_mark, completed, way}
 use Rattle.steps.proofs.Steps.{closing}
-use Rattle.grammar.proofs.Ways.{c-same}
+use Rattle.grammar.proofs.Ways.{c_same}
 use Rattle.grammar.proofs.bits.Reads as reads
 use Rattle.grammar.proofs.+bits_branch_cell_rest_cells_cond_branches_and_end_dt_cell_list_dt_node_body_dt_property_eat_cell_eat_inside_eat_node_or_prop_eat_pp_directive_item_item_rest_node_propvalues_value_value_rest.Lts-bits as lts
 use Rattle.grammar.proofs.+bits_branch_cell_rest_cells_cond_branches_and_end_dt_cell_list_dt_node_body_dt_property_eat_cell_eat_inside_eat_node_or_prop_eat_pp_directive_item_item_rest_node_propvalues_value_value_rest.Proof.Measures.{bits_at, bits_claims}
@@ -97,7 +97,7 @@ returns t c =
     let start' = new2'.before.before.before in
     let new' = start'.before.before in
     let s' = new'.before.before.before.before.before in (
-      way s'.args.allowed (c-mark new'.new.ensures (start'.start.ensures.0 _ _) (c-seq (c-mark new2'.new2.ensures (start2'.start2.ensures.0 _ _) (c-seq (c-seq (c-act (bump'.bump.ensures.0 unlabelled _ _)) (c-walk (expect'.expect.ensures.0 (walk_rule s'.args.allowed (tokens_of s'.args.tokens.now)) unlabelled))) c-ret) (completed (complete'.complete.ensures.0 _ _))) (c-yes (c-walk (at'.at.ensures.0 (walk_rule s'.args.allowed (tokens_of s'.args.tokens.now)) unlabelled _ _ _)) if1'.if1.true (c-same s'.args.allowed))) (closing dt-cell-list'.dt_cell_list.ensures.0)),
+      way s'.args.allowed (c_mark new'.new.ensures (start'.start.ensures.0 _ _) (c_seq (c_mark new2'.new2.ensures (start2'.start2.ensures.0 _ _) (c_seq (c_seq (c_act (bump'.bump.ensures.0 unlabelled _ _)) (c_walk (expect'.expect.ensures.0 (walk_rule s'.args.allowed (tokens_of s'.args.tokens.now)) unlabelled))) c_ret) (completed (complete'.complete.ensures.0 _ _))) (c_yes (c_walk (at'.at.ensures.0 (walk_rule s'.args.allowed (tokens_of s'.args.tokens.now)) unlabelled _ _ _)) if1'.if1.true (c_same s'.args.allowed))) (closing dt-cell-list'.dt_cell_list.ensures.0)),
       omega (arith, start'.start.ensures.1 s'.args.tokens.now, start2'.start2.ensures.1 s'.args.tokens.now, bump'.bump.ensures.1, expect'.expect.ensures.1.0, complete'.complete.ensures.1 s'.args.tokens.now, at'.at.ensures.1.0, at'.at.ensures.1.1 if1'.if1.true, dt-cell-list'.dt_cell_list.ensures.1),
     )
 
@@ -149,6 +149,6 @@ returns-2 t c =
     let start' = new2'.before.before.before in
     let new' = start'.before.before in
     let s' = new'.before.before.before.before.before in (
-      way s'.args.allowed (c-mark new'.new.ensures (start'.start.ensures.0 _ _) (c-seq (c-mark new2'.new2.ensures (start2'.start2.ensures.0 _ _) (c-seq (c-seq (c-act (bump'.bump.ensures.0 unlabelled _ _)) (c-walk (expect'.expect.ensures.0 (walk_rule s'.args.allowed (tokens_of s'.args.tokens.now)) unlabelled))) c-ret) (completed (complete'.complete.ensures.0 _ _))) (c-no (c-walk (at'.at.ensures.0 (walk_rule s'.args.allowed (tokens_of s'.args.tokens.now)) unlabelled _ _ _)) if1'.if1.false (c-seq (c-walk (error'.error.ensures.0 (walk_rule s'.args.allowed (tokens_of s'.args.tokens.now)) unlabelled)) c-ret))) (completed (complete2'.complete2.ensures.0 _ _))),
+      way s'.args.allowed (c_mark new'.new.ensures (start'.start.ensures.0 _ _) (c_seq (c_mark new2'.new2.ensures (start2'.start2.ensures.0 _ _) (c_seq (c_seq (c_act (bump'.bump.ensures.0 unlabelled _ _)) (c_walk (expect'.expect.ensures.0 (walk_rule s'.args.allowed (tokens_of s'.args.tokens.now)) unlabelled))) c_ret) (completed (complete'.complete.ensures.0 _ _))) (c_no (c_walk (at'.at.ensures.0 (walk_rule s'.args.allowed (tokens_of s'.args.tokens.now)) unlabelled _ _ _)) if1'.if1.false (c_seq (c_walk (error'.error.ensures.0 (walk_rule s'.args.allowed (tokens_of s'.args.tokens.now)) unlabelled)) c_ret))) (completed (complete2'.complete2.ensures.0 _ _))),
       omega (arith, start'.start.ensures.1 s'.args.tokens.now, start2'.start2.ensures.1 s'.args.tokens.now, bump'.bump.ensures.1, expect'.expect.ensures.1.0, complete'.complete.ensures.1 s'.args.tokens.now, at'.at.ensures.1.0, error'.error.ensures.1, complete2'.complete2.ensures.1 s'.args.tokens.now),
     )

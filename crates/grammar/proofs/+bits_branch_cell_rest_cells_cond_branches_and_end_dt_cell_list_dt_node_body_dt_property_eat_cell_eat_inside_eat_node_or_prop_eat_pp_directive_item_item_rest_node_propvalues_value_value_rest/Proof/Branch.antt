@@ -13,9 +13,9 @@ use Rattle.definitions.specs.Grammar.{branch_turn, branch}
 use Rattle.machine.specs.Walk.{walk_rule, walk_prog, unlabelled}
 use Rattle.parser.specs.View.{tokens_left, parser_view}
 use Rattle.grammar.specs.Subprograms.{inside_of}
-use Rattle.machine.proofs.Way.{c-walk, c-act, c-ret, c-yes, c-no, c-mark, completed, c-fn, way}
+use Rattle.machine.proofs.Way.{c_walk, c_act, c_ret, c_yes, c_no, c_mark, completed, c_fn, way}
 use Rattle.steps.proofs.Left.{ahead_falls}
-use Rattle.grammar.proofs.Ways.{c-prog, again-prog, last-yes, last-no}
+use Rattle.grammar.proofs.Ways.{c_prog, again_prog, last_yes, last_no}
 use Rattle.grammar.proofs.branch.Reads as reads
 use Rattle.grammar.proofs.+bits_branch_cell_rest_cells_cond_branches_and_end_dt_cell_list_dt_node_body_dt_property_eat_cell_eat_inside_eat_node_or_prop_eat_pp_directive_item_item_rest_node_propvalues_value_value_rest.Lts-branch as lts
 use Rattle.grammar.proofs.+bits_branch_cell_rest_cells_cond_branches_and_end_dt_cell_list_dt_node_body_dt_property_eat_cell_eat_inside_eat_node_or_prop_eat_pp_directive_item_item_rest_node_propvalues_value_value_rest.Proof.Measures.{branch_at, branch_claims}
@@ -77,7 +77,7 @@ returns t c =
     let start' = loop'.before.before.before in
     let new' = start'.before.before in
     let s' = new'.before.before.before.before.before in (
-      way s'.args.allowed (c-mark new'.new.ensures (start'.start.ensures.0 _ _) (c-no {t = false} (c-prog s'.args.allowed (last-no s'.args.allowed (c-yes {t = true} (c-yes (c-walk (at'.at.ensures.0 (walk_rule s'.args.allowed (tokens_of s'.args.tokens.now)) unlabelled _ _ _)) if1'.if1.true c-ret) refl c-ret) ∙ loop'.loop.invariant.1.1.1.1)) refl c-ret) (completed (complete'.complete.ensures.0 _ _))),
+      way s'.args.allowed (c_mark new'.new.ensures (start'.start.ensures.0 _ _) (c_no {t = false} (c_prog s'.args.allowed (last_no s'.args.allowed (c_yes {t = true} (c_yes (c_walk (at'.at.ensures.0 (walk_rule s'.args.allowed (tokens_of s'.args.tokens.now)) unlabelled _ _ _)) if1'.if1.true c_ret) refl c_ret) ∙ loop'.loop.invariant.1.1.1.1)) refl c_ret) (completed (complete'.complete.ensures.0 _ _))),
       (omega (arith, start'.start.ensures.1 s'.args.tokens.now, loop'.loop.invariant.0, at'.at.ensures.1.0, at'.at.ensures.1.1 if1'.if1.true, complete'.complete.ensures.1 s'.args.tokens.now), λ e. absurd (false≢true e)),
     )
 
@@ -120,7 +120,7 @@ returns-2 t c =
     let start' = loop'.before.before.before in
     let new' = start'.before.before in
     let s' = new'.before.before.before.before.before in (
-      way s'.args.allowed (c-mark new'.new.ensures (start'.start.ensures.0 _ _) (c-no {t = false} (c-prog s'.args.allowed (last-no s'.args.allowed (c-yes (c-no (c-walk (at'.at.ensures.0 (walk_rule s'.args.allowed (tokens_of s'.args.tokens.now)) unlabelled _ _ _)) if1'.if1.false (c-act (at-end'.at_end.ensures.0 unlabelled _ _ _))) if2'.if2.true c-ret) ∙ loop'.loop.invariant.1.1.1.1)) refl c-ret) (completed (complete2'.complete2.ensures.0 _ _))),
+      way s'.args.allowed (c_mark new'.new.ensures (start'.start.ensures.0 _ _) (c_no {t = false} (c_prog s'.args.allowed (last_no s'.args.allowed (c_yes (c_no (c_walk (at'.at.ensures.0 (walk_rule s'.args.allowed (tokens_of s'.args.tokens.now)) unlabelled _ _ _)) if1'.if1.false (c_act (at-end'.at_end.ensures.0 unlabelled _ _ _))) if2'.if2.true c_ret) ∙ loop'.loop.invariant.1.1.1.1)) refl c_ret) (completed (complete2'.complete2.ensures.0 _ _))),
       (omega (arith, start'.start.ensures.1 s'.args.tokens.now, loop'.loop.invariant.0, at'.at.ensures.1.0, at-end'.at_end.ensures.1.0, at-end'.at_end.ensures.1.1.1 if2'.if2.true, complete2'.complete2.ensures.1 s'.args.tokens.now), λ e. absurd (false≢true e)),
     )
 
@@ -168,7 +168,7 @@ returns-3 t c =
     let start' = loop'.before.before.before in
     let new' = start'.before.before in
     let s' = new'.before.before.before.before.before in (
-      way s'.args.allowed (c-mark new'.new.ensures (start'.start.ensures.0 _ _) (c-yes {t = true} (c-prog s'.args.allowed (last-yes s'.args.allowed (c-no (c-no (c-walk (at'.at.ensures.0 (walk_rule s'.args.allowed (tokens_of s'.args.tokens.now)) unlabelled _ _ _)) if1'.if1.false (c-act (at-end'.at_end.ensures.0 unlabelled _ _ _))) if2'.if2.false (c-yes (c-act (silent-at-set'.silent-at-set.ensures.0 unlabelled _ _ _)) if3'.if3.true c-ret)) ∙ loop'.loop.invariant.1.1.1.1)) refl c-ret) (completed (complete3'.complete3.ensures.0 _ _))),
+      way s'.args.allowed (c_mark new'.new.ensures (start'.start.ensures.0 _ _) (c_yes {t = true} (c_prog s'.args.allowed (last_yes s'.args.allowed (c_no (c_no (c_walk (at'.at.ensures.0 (walk_rule s'.args.allowed (tokens_of s'.args.tokens.now)) unlabelled _ _ _)) if1'.if1.false (c_act (at-end'.at_end.ensures.0 unlabelled _ _ _))) if2'.if2.false (c_yes (c_act (silent-at-set'.silent-at-set.ensures.0 unlabelled _ _ _)) if3'.if3.true c_ret)) ∙ loop'.loop.invariant.1.1.1.1)) refl c_ret) (completed (complete3'.complete3.ensures.0 _ _))),
       (omega (arith, start'.start.ensures.1 s'.args.tokens.now, loop'.loop.invariant.0, at'.at.ensures.1.0, at-end'.at_end.ensures.1.0, at-end'.at_end.ensures.1.1.0 if2'.if2.false, silent-at-set'.silent-at-set.ensures.1.0, silent-at-set'.silent-at-set.ensures.1.1 if3'.if3.true, complete3'.complete3.ensures.1 s'.args.tokens.now), λ e. omega (arith, start'.start.ensures.1 s'.args.tokens.now, loop'.loop.invariant.0, at'.at.ensures.1.0, at-end'.at_end.ensures.1.0, at-end'.at_end.ensures.1.1.0 if2'.if2.false, silent-at-set'.silent-at-set.ensures.1.0, silent-at-set'.silent-at-set.ensures.1.1 if3'.if3.true, complete3'.complete3.ensures.1 s'.args.tokens.now)),
     )
 
@@ -217,7 +217,7 @@ loop-again t c =
           omega (arith, start'.start.auto, eat-inside'.eat_inside.auto, loop'.loop.invariant.1),
           (
             omega (arith, start'.start.auto, eat-inside'.eat_inside.auto, loop'.loop.invariant.1),
-            again-prog s'.args.allowed (c-no (c-no (c-walk (at'.at.ensures.0 (walk_rule s'.args.allowed (tokens_of s'.args.tokens.now)) unlabelled _ _ _)) if1'.if1.false (c-act (at-end'.at_end.ensures.0 unlabelled _ _ _))) if2'.if2.false (c-no (c-act (silent-at-set'.silent-at-set.ensures.0 unlabelled _ _ _)) if3'.if3.false (c-yes (c-fn s'.args.allowed eat-inside'.eat_inside.ensures.0) if4'.if4.true c-ret))) (ahead_falls s'.args.tokens.now loop'.loop.q.s eat-inside'.eat_inside.result.p.s (omega (arith, start'.start.ensures.1 s'.args.tokens.now, loop'.loop.invariant.0, at'.at.ensures.1.0, at-end'.at_end.ensures.1.0, at-end'.at_end.ensures.1.1.0 if2'.if2.false, silent-at-set'.silent-at-set.ensures.1.0, eat-inside'.eat_inside.ensures.1.0, eat-inside'.eat_inside.ensures.1.1 if4'.if4.true))) ∙ loop'.loop.invariant.1.1.1.1,
+            again_prog s'.args.allowed (c_no (c_no (c_walk (at'.at.ensures.0 (walk_rule s'.args.allowed (tokens_of s'.args.tokens.now)) unlabelled _ _ _)) if1'.if1.false (c_act (at-end'.at_end.ensures.0 unlabelled _ _ _))) if2'.if2.false (c_no (c_act (silent-at-set'.silent-at-set.ensures.0 unlabelled _ _ _)) if3'.if3.false (c_yes (c_fn s'.args.allowed eat-inside'.eat_inside.ensures.0) if4'.if4.true c_ret))) (ahead_falls s'.args.tokens.now loop'.loop.q.s eat-inside'.eat_inside.result.p.s (omega (arith, start'.start.ensures.1 s'.args.tokens.now, loop'.loop.invariant.0, at'.at.ensures.1.0, at-end'.at_end.ensures.1.0, at-end'.at_end.ensures.1.1.0 if2'.if2.false, silent-at-set'.silent-at-set.ensures.1.0, eat-inside'.eat_inside.ensures.1.0, eat-inside'.eat_inside.ensures.1.1 if4'.if4.true))) ∙ loop'.loop.invariant.1.1.1.1,
           ),
         ),
       ),
@@ -266,6 +266,6 @@ returns-4 t c =
     let start' = loop'.before.before.before in
     let new' = start'.before.before in
     let s' = new'.before.before.before.before.before in (
-      way s'.args.allowed (c-mark new'.new.ensures (start'.start.ensures.0 _ _) (c-no {t = false} (c-prog s'.args.allowed (last-no s'.args.allowed (c-no (c-no (c-walk (at'.at.ensures.0 (walk_rule s'.args.allowed (tokens_of s'.args.tokens.now)) unlabelled _ _ _)) if1'.if1.false (c-act (at-end'.at_end.ensures.0 unlabelled _ _ _))) if2'.if2.false (c-no (c-act (silent-at-set'.silent-at-set.ensures.0 unlabelled _ _ _)) if3'.if3.false (c-no (c-fn s'.args.allowed eat-inside'.eat_inside.ensures.0) if4'.if4.false c-ret))) ∙ loop'.loop.invariant.1.1.1.1)) refl c-ret) (completed (complete4'.complete4.ensures.0 _ _))),
+      way s'.args.allowed (c_mark new'.new.ensures (start'.start.ensures.0 _ _) (c_no {t = false} (c_prog s'.args.allowed (last_no s'.args.allowed (c_no (c_no (c_walk (at'.at.ensures.0 (walk_rule s'.args.allowed (tokens_of s'.args.tokens.now)) unlabelled _ _ _)) if1'.if1.false (c_act (at-end'.at_end.ensures.0 unlabelled _ _ _))) if2'.if2.false (c_no (c_act (silent-at-set'.silent-at-set.ensures.0 unlabelled _ _ _)) if3'.if3.false (c_no (c_fn s'.args.allowed eat-inside'.eat_inside.ensures.0) if4'.if4.false c_ret))) ∙ loop'.loop.invariant.1.1.1.1)) refl c_ret) (completed (complete4'.complete4.ensures.0 _ _))),
       (omega (arith, start'.start.ensures.1 s'.args.tokens.now, loop'.loop.invariant.0, at'.at.ensures.1.0, at-end'.at_end.ensures.1.0, at-end'.at_end.ensures.1.1.0 if2'.if2.false, silent-at-set'.silent-at-set.ensures.1.0, eat-inside'.eat_inside.ensures.1.0, complete4'.complete4.ensures.1 s'.args.tokens.now), λ e. absurd (false≢true e)),
     )

@@ -7,8 +7,8 @@ use borrow.Author.Rules.{rules}
 use Rattle.definitions.specs.Token.{tokens_of}
 use Rattle.definitions.specs.Check.{silent}
 use Rattle.machine.specs.Walk.{walk_rule, unlabelled}
-use Rattle.machine.proofs.Way.{c-walk, c-act, c-ret, c-seq, c-yes, c-no, c-fn, way}
-use Rattle.steps.proofs.Steps.{c-ret-yes, c-ret-no}
+use Rattle.machine.proofs.Way.{c_walk, c_act, c_ret, c_seq, c_yes, c_no, c_fn, way}
+use Rattle.steps.proofs.Steps.{c_ret_yes, c_ret_no}
 use Rattle.grammar.proofs.cell_rest.Reads as reads
 use Rattle.grammar.proofs.+bits_branch_cell_rest_cells_cond_branches_and_end_dt_cell_list_dt_node_body_dt_property_eat_cell_eat_inside_eat_node_or_prop_eat_pp_directive_item_item_rest_node_propvalues_value_value_rest.Lts-cell_rest as lts
 use Rattle.grammar.proofs.+bits_branch_cell_rest_cells_cond_branches_and_end_dt_cell_list_dt_node_body_dt_property_eat_cell_eat_inside_eat_node_or_prop_eat_pp_directive_item_item_rest_node_propvalues_value_value_rest.Proof.Measures.{cell_rest_at, cell_rest_claims}
@@ -37,7 +37,7 @@ returns t c =
     let if1' = c in
     let eat-dts-include' = if1'.before.before.before.before.before.before.before in
     let s' = eat-dts-include'.before.before.before.before.before.before.before.before in (
-      way s'.args.allowed (c-yes {t = true} (c-yes (c-walk (eat-dts-include'.eat_dts_include.ensures.0 (walk_rule s'.args.allowed (tokens_of s'.args.tokens.now)) unlabelled)) if1'.if1.taken c-ret) refl (c-ret-yes if1'.if1.taken)),
+      way s'.args.allowed (c_yes {t = true} (c_yes (c_walk (eat-dts-include'.eat_dts_include.ensures.0 (walk_rule s'.args.allowed (tokens_of s'.args.tokens.now)) unlabelled)) if1'.if1.taken c_ret) refl (c_ret_yes if1'.if1.taken)),
       (omega (arith, eat-dts-include'.eat_dts_include.ensures.1.0, eat-dts-include'.eat_dts_include.ensures.1.1 if1'.if1.taken), λ e. omega (arith, eat-dts-include'.eat_dts_include.ensures.1.0, eat-dts-include'.eat_dts_include.ensures.1.1 if1'.if1.taken)),
     )
 
@@ -73,7 +73,7 @@ returns-2 t c =
     let if1' = eat-pp-directive'.before.before.before.before in
     let eat-dts-include' = if1'.before.before.before.before.before.before.before in
     let s' = eat-dts-include'.before.before.before.before.before.before.before.before in (
-      way s'.args.allowed (c-yes (c-no (c-walk (eat-dts-include'.eat_dts_include.ensures.0 (walk_rule s'.args.allowed (tokens_of s'.args.tokens.now)) unlabelled)) if1'.if1.left (c-fn s'.args.allowed eat-pp-directive'.eat_pp_directive.ensures.0)) if2'.if2.taken (c-ret-yes if2'.if2.taken)),
+      way s'.args.allowed (c_yes (c_no (c_walk (eat-dts-include'.eat_dts_include.ensures.0 (walk_rule s'.args.allowed (tokens_of s'.args.tokens.now)) unlabelled)) if1'.if1.left (c_fn s'.args.allowed eat-pp-directive'.eat_pp_directive.ensures.0)) if2'.if2.taken (c_ret_yes if2'.if2.taken)),
       (omega (arith, eat-dts-include'.eat_dts_include.ensures.1.0, eat-pp-directive'.eat_pp_directive.ensures.1.0, eat-pp-directive'.eat_pp_directive.ensures.1.1 if2'.if2.taken), λ e. omega (arith, eat-dts-include'.eat_dts_include.ensures.1.0, eat-pp-directive'.eat_pp_directive.ensures.1.0, eat-pp-directive'.eat_pp_directive.ensures.1.1 if2'.if2.taken)),
     )
 
@@ -116,7 +116,7 @@ returns-3 t c =
     let if1' = eat-pp-directive'.before.before.before.before in
     let eat-dts-include' = if1'.before.before.before.before.before.before.before in
     let s' = eat-dts-include'.before.before.before.before.before.before.before.before in (
-      way s'.args.allowed (c-no (c-no (c-walk (eat-dts-include'.eat_dts_include.ensures.0 (walk_rule s'.args.allowed (tokens_of s'.args.tokens.now)) unlabelled)) if1'.if1.false (c-fn s'.args.allowed eat-pp-directive'.eat_pp_directive.ensures.0)) if2'.if2.false (c-no {t = false} (c-yes (c-act (silent-at-set'.silent-at-set.ensures.0 unlabelled _ _ _)) if3'.if3.true (c-yes (c-walk (at'.at.ensures.0 (walk_rule s'.args.allowed (tokens_of s'.args.tokens.now)) unlabelled _ _ _)) if4'.if4.true c-ret)) refl c-ret)),
+      way s'.args.allowed (c_no (c_no (c_walk (eat-dts-include'.eat_dts_include.ensures.0 (walk_rule s'.args.allowed (tokens_of s'.args.tokens.now)) unlabelled)) if1'.if1.false (c_fn s'.args.allowed eat-pp-directive'.eat_pp_directive.ensures.0)) if2'.if2.false (c_no {t = false} (c_yes (c_act (silent-at-set'.silent-at-set.ensures.0 unlabelled _ _ _)) if3'.if3.true (c_yes (c_walk (at'.at.ensures.0 (walk_rule s'.args.allowed (tokens_of s'.args.tokens.now)) unlabelled _ _ _)) if4'.if4.true c_ret)) refl c_ret)),
       (omega (arith, eat-dts-include'.eat_dts_include.ensures.1.0, eat-pp-directive'.eat_pp_directive.ensures.1.0, silent-at-set'.silent-at-set.ensures.1.0, silent-at-set'.silent-at-set.ensures.1.1 if3'.if3.true, at'.at.ensures.1.0, at'.at.ensures.1.1 if4'.if4.true), λ e. absurd (false≢true e)),
     )
 
@@ -157,7 +157,7 @@ returns-4 t c =
     let if1' = eat-pp-directive'.before.before.before.before in
     let eat-dts-include' = if1'.before.before.before.before.before.before.before in
     let s' = eat-dts-include'.before.before.before.before.before.before.before.before in (
-      way s'.args.allowed (c-no (c-no (c-walk (eat-dts-include'.eat_dts_include.ensures.0 (walk_rule s'.args.allowed (tokens_of s'.args.tokens.now)) unlabelled)) if1'.if1.false (c-fn s'.args.allowed eat-pp-directive'.eat_pp_directive.ensures.0)) if2'.if2.false (c-yes {t = true} (c-yes (c-act (silent-at-set'.silent-at-set.ensures.0 unlabelled _ _ _)) if3'.if3.true (c-no (c-walk (at'.at.ensures.0 (walk_rule s'.args.allowed (tokens_of s'.args.tokens.now)) unlabelled _ _ _)) if4'.if4.false c-ret)) refl (c-seq (c-walk (error'.error.ensures.0 (walk_rule s'.args.allowed (tokens_of s'.args.tokens.now)) unlabelled)) c-ret))),
+      way s'.args.allowed (c_no (c_no (c_walk (eat-dts-include'.eat_dts_include.ensures.0 (walk_rule s'.args.allowed (tokens_of s'.args.tokens.now)) unlabelled)) if1'.if1.false (c_fn s'.args.allowed eat-pp-directive'.eat_pp_directive.ensures.0)) if2'.if2.false (c_yes {t = true} (c_yes (c_act (silent-at-set'.silent-at-set.ensures.0 unlabelled _ _ _)) if3'.if3.true (c_no (c_walk (at'.at.ensures.0 (walk_rule s'.args.allowed (tokens_of s'.args.tokens.now)) unlabelled _ _ _)) if4'.if4.false c_ret)) refl (c_seq (c_walk (error'.error.ensures.0 (walk_rule s'.args.allowed (tokens_of s'.args.tokens.now)) unlabelled)) c_ret))),
       (omega (arith, eat-dts-include'.eat_dts_include.ensures.1.0, eat-pp-directive'.eat_pp_directive.ensures.1.0, silent-at-set'.silent-at-set.ensures.1.0, silent-at-set'.silent-at-set.ensures.1.1 if3'.if3.true, at'.at.ensures.1.0, error'.error.ensures.1), λ e. omega (arith, eat-dts-include'.eat_dts_include.ensures.1.0, eat-pp-directive'.eat_pp_directive.ensures.1.0, silent-at-set'.silent-at-set.ensures.1.0, silent-at-set'.silent-at-set.ensures.1.1 if3'.if3.true, at'.at.ensures.1.0, error'.error.ensures.1)),
     )
 
@@ -189,6 +189,6 @@ returns-5 t c =
     let if1' = eat-pp-directive'.before.before.before.before in
     let eat-dts-include' = if1'.before.before.before.before.before.before.before in
     let s' = eat-dts-include'.before.before.before.before.before.before.before.before in (
-      way s'.args.allowed (c-no (c-no (c-walk (eat-dts-include'.eat_dts_include.ensures.0 (walk_rule s'.args.allowed (tokens_of s'.args.tokens.now)) unlabelled)) if1'.if1.left (c-fn s'.args.allowed eat-pp-directive'.eat_pp_directive.ensures.0)) if2'.if2.left (c-no {t = false} (c-no (c-act (silent-at-set'.silent-at-set.ensures.0 unlabelled _ _ _)) if3'.if3.left c-ret) refl (c-ret-no if3'.if3.left))),
+      way s'.args.allowed (c_no (c_no (c_walk (eat-dts-include'.eat_dts_include.ensures.0 (walk_rule s'.args.allowed (tokens_of s'.args.tokens.now)) unlabelled)) if1'.if1.left (c_fn s'.args.allowed eat-pp-directive'.eat_pp_directive.ensures.0)) if2'.if2.left (c_no {t = false} (c_no (c_act (silent-at-set'.silent-at-set.ensures.0 unlabelled _ _ _)) if3'.if3.left c_ret) refl (c_ret_no if3'.if3.left))),
       (omega (arith, eat-dts-include'.eat_dts_include.ensures.1.0, eat-pp-directive'.eat_pp_directive.ensures.1.0, silent-at-set'.silent-at-set.ensures.1.0), λ e. absurd (false≢true (sym if3'.if3.left ∙ e))),
     )

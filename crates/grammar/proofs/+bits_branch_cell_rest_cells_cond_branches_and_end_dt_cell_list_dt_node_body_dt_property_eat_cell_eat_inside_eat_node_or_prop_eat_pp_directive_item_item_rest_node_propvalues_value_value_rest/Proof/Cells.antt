@@ -10,9 +10,9 @@ use Rattle.definitions.specs.Check.{silent}
 use Rattle.definitions.specs.Grammar.{cells_turn, cells}
 use Rattle.machine.specs.Walk.{walk_rule, walk_prog, unlabelled}
 use Rattle.parser.specs.View.{tokens_left, parser_view}
-use Rattle.machine.proofs.Way.{c-walk, c-ret, c-seq, c-yes, c-no, c_call}
+use Rattle.machine.proofs.Way.{c_walk, c_ret, c_seq, c_yes, c_no, c_call}
 use Rattle.steps.proofs.Left.{ahead_falls}
-use Rattle.grammar.proofs.Ways.{again-prog, last-yes, last-no, as_yes}
+use Rattle.grammar.proofs.Ways.{again_prog, last_yes, last_no, as_yes}
 use Rattle.grammar.proofs.cells.Reads as reads
 use Rattle.grammar.proofs.+bits_branch_cell_rest_cells_cond_branches_and_end_dt_cell_list_dt_node_body_dt_property_eat_cell_eat_inside_eat_node_or_prop_eat_pp_directive_item_item_rest_node_propvalues_value_value_rest.Lts-cells as lts
 use Rattle.grammar.proofs.+bits_branch_cell_rest_cells_cond_branches_and_end_dt_cell_list_dt_node_body_dt_property_eat_cell_eat_inside_eat_node_or_prop_eat_pp_directive_item_item_rest_node_propvalues_value_value_rest.Proof.Measures.{cells_at, cells_claims}
@@ -58,7 +58,7 @@ loop-again t c =
           omega (arith, eat-cell'.eat_cell.auto, loop'.loop.invariant.1),
           (
             omega (arith, eat-cell'.eat_cell.auto, loop'.loop.invariant.1),
-            again-prog s'.args.allowed (c-yes (c_call s'.args.allowed eat-cell'.eat_cell.ensures.0) if1'.if1.true c-ret) (ahead_falls s'.args.tokens.now loop'.loop.q.s eat-cell'.eat_cell.result.p.s (omega (arith, loop'.loop.invariant.0, eat-cell'.eat_cell.ensures.1.0, eat-cell'.eat_cell.ensures.1.1 if1'.if1.true))) ∙ loop'.loop.invariant.1.1.1.1,
+            again_prog s'.args.allowed (c_yes (c_call s'.args.allowed eat-cell'.eat_cell.ensures.0) if1'.if1.true c_ret) (ahead_falls s'.args.tokens.now loop'.loop.q.s eat-cell'.eat_cell.result.p.s (omega (arith, loop'.loop.invariant.0, eat-cell'.eat_cell.ensures.1.0, eat-cell'.eat_cell.ensures.1.1 if1'.if1.true))) ∙ loop'.loop.invariant.1.1.1.1,
           ),
         ),
       ),
@@ -94,7 +94,7 @@ returns t c =
     let eat-cell' = if1'.before.before.before.before.before.before.before in
     let loop' = eat-cell'.before.before.before.before in
     let s' = loop'.before.before.before.before.before in (
-      as_yes if2'.if2.taken (last-yes s'.args.allowed (c-no (c_call s'.args.allowed eat-cell'.eat_cell.ensures.0) if1'.if1.left (c-yes (c-walk (at-cells-end'.at-cells-end.ensures.0 (walk_rule s'.args.allowed (tokens_of s'.args.tokens.now)) unlabelled _ _ _)) if2'.if2.taken c-ret))) ∙ loop'.loop.inv.1.1.1.1,
+      as_yes if2'.if2.taken (last_yes s'.args.allowed (c_no (c_call s'.args.allowed eat-cell'.eat_cell.ensures.0) if1'.if1.left (c_yes (c_walk (at-cells-end'.at-cells-end.ensures.0 (walk_rule s'.args.allowed (tokens_of s'.args.tokens.now)) unlabelled _ _ _)) if2'.if2.taken c_ret))) ∙ loop'.loop.inv.1.1.1.1,
       omega (arith, loop'.loop.inv.0, eat-cell'.eat_cell.ensures.1.0, at-cells-end'.at-cells-end.ensures.1),
     )
 
@@ -137,7 +137,7 @@ returns-2 t c =
     let eat-cell' = if1'.before.before.before.before.before.before.before in
     let loop' = eat-cell'.before.before.before.before in
     let s' = loop'.before.before.before.before.before in (
-      last-no s'.args.allowed (c-no (c_call s'.args.allowed eat-cell'.eat_cell.ensures.0) if1'.if1.false (c-no (c-walk (at-cells-end'.at-cells-end.ensures.0 (walk_rule s'.args.allowed (tokens_of s'.args.tokens.now)) unlabelled _ _ _)) if2'.if2.false (c-yes (c-walk (at-cells-recovery'.at_cells_recovery.ensures.0 (walk_rule s'.args.allowed (tokens_of s'.args.tokens.now)) unlabelled _ _ _)) if3'.if3.true (c-seq (c-walk (error'.error.ensures.0 (walk_rule s'.args.allowed (tokens_of s'.args.tokens.now)) unlabelled)) c-ret)))) ∙ loop'.loop.invariant.1.1.1.1,
+      last_no s'.args.allowed (c_no (c_call s'.args.allowed eat-cell'.eat_cell.ensures.0) if1'.if1.false (c_no (c_walk (at-cells-end'.at-cells-end.ensures.0 (walk_rule s'.args.allowed (tokens_of s'.args.tokens.now)) unlabelled _ _ _)) if2'.if2.false (c_yes (c_walk (at-cells-recovery'.at_cells_recovery.ensures.0 (walk_rule s'.args.allowed (tokens_of s'.args.tokens.now)) unlabelled _ _ _)) if3'.if3.true (c_seq (c_walk (error'.error.ensures.0 (walk_rule s'.args.allowed (tokens_of s'.args.tokens.now)) unlabelled)) c_ret)))) ∙ loop'.loop.invariant.1.1.1.1,
       omega (arith, loop'.loop.invariant.0, eat-cell'.eat_cell.ensures.1.0, at-cells-end'.at-cells-end.ensures.1, at-cells-recovery'.at_cells_recovery.ensures.1.0, error'.error.ensures.1),
     )
 
@@ -173,7 +173,7 @@ loop-again-2 t c =
           omega (arith, eat-cell'.eat_cell.auto, error2'.error2.auto, loop'.loop.invariant.1),
           (
             omega (arith, eat-cell'.eat_cell.auto, error2'.error2.auto, loop'.loop.invariant.1),
-            again-prog s'.args.allowed (c-no (c_call s'.args.allowed eat-cell'.eat_cell.ensures.0) if1'.if1.false (c-no (c-walk (at-cells-end'.at-cells-end.ensures.0 (walk_rule s'.args.allowed (tokens_of s'.args.tokens.now)) unlabelled _ _ _)) if2'.if2.false (c-no (c-walk (at-cells-recovery'.at_cells_recovery.ensures.0 (walk_rule s'.args.allowed (tokens_of s'.args.tokens.now)) unlabelled _ _ _)) if3'.if3.false (c-seq (c-walk (error2'.error2.ensures.0 (walk_rule s'.args.allowed (tokens_of s'.args.tokens.now)) unlabelled)) c-ret)))) (ahead_falls s'.args.tokens.now loop'.loop.q.s error2'.error2.result.s (omega (arith, loop'.loop.invariant.0, eat-cell'.eat_cell.ensures.1.0, at-cells-end'.at-cells-end.ensures.1, at-cells-recovery'.at_cells_recovery.ensures.1.0, at-cells-recovery'.at_cells_recovery.ensures.1.1 if3'.if3.false, error2'.error2.ensures.1))) ∙ loop'.loop.invariant.1.1.1.1,
+            again_prog s'.args.allowed (c_no (c_call s'.args.allowed eat-cell'.eat_cell.ensures.0) if1'.if1.false (c_no (c_walk (at-cells-end'.at-cells-end.ensures.0 (walk_rule s'.args.allowed (tokens_of s'.args.tokens.now)) unlabelled _ _ _)) if2'.if2.false (c_no (c_walk (at-cells-recovery'.at_cells_recovery.ensures.0 (walk_rule s'.args.allowed (tokens_of s'.args.tokens.now)) unlabelled _ _ _)) if3'.if3.false (c_seq (c_walk (error2'.error2.ensures.0 (walk_rule s'.args.allowed (tokens_of s'.args.tokens.now)) unlabelled)) c_ret)))) (ahead_falls s'.args.tokens.now loop'.loop.q.s error2'.error2.result.s (omega (arith, loop'.loop.invariant.0, eat-cell'.eat_cell.ensures.1.0, at-cells-end'.at-cells-end.ensures.1, at-cells-recovery'.at_cells_recovery.ensures.1.0, at-cells-recovery'.at_cells_recovery.ensures.1.1 if3'.if3.false, error2'.error2.ensures.1))) ∙ loop'.loop.invariant.1.1.1.1,
           ),
         ),
       ),

@@ -10,9 +10,9 @@ use Rattle.definitions.specs.Grammar.{cond_branches_turn, cond_branches_and_end}
 use Rattle.machine.specs.Walk.{walk_rule, walk_prog, unlabelled}
 use Rattle.parser.specs.View.{tokens_left, parser_view}
 use Rattle.grammar.specs.Subprograms.{inside_of}
-use Rattle.machine.proofs.Way.{c-walk, c-act, c-ret, c-seq, c-yes, c-no, c-fn}
+use Rattle.machine.proofs.Way.{c_walk, c_act, c_ret, c_seq, c_yes, c_no, c_fn}
 use Rattle.steps.proofs.Left.{ahead_falls}
-use Rattle.grammar.proofs.Ways.{c-prog, prog-on, again-prog, last-yes}
+use Rattle.grammar.proofs.Ways.{c_prog, prog_on, again_prog, last_yes}
 use Rattle.grammar.proofs.cond_branches_and_end.Reads as reads
 use Rattle.grammar.proofs.+bits_branch_cell_rest_cells_cond_branches_and_end_dt_cell_list_dt_node_body_dt_property_eat_cell_eat_inside_eat_node_or_prop_eat_pp_directive_item_item_rest_node_propvalues_value_value_rest.Lts-cond_branches_and_end as lts
 use Rattle.grammar.proofs.+bits_branch_cell_rest_cells_cond_branches_and_end_dt_cell_list_dt_node_body_dt_property_eat_cell_eat_inside_eat_node_or_prop_eat_pp_directive_item_item_rest_node_propvalues_value_value_rest.Proof.Measures.{cond_branches_and_end_at, cond_branches_and_end_claims}
@@ -63,7 +63,7 @@ loop-again t c =
           omega (arith, branch'.branch.auto, bump'.bump.auto, loop'.loop.invariant.1),
           (
             omega (arith, branch'.branch.auto, bump'.bump.auto, loop'.loop.invariant.1),
-            again-prog s'.args.allowed (c-yes (c-fn s'.args.allowed branch'.branch.ensures.0) if1'.if1.true (c-seq (c-act (bump'.bump.ensures.0 unlabelled _ _)) c-ret)) (ahead_falls s'.args.tokens.now loop'.loop.q.s bump'.bump.result.s (omega (arith, loop'.loop.invariant.0, branch'.branch.ensures.1.0, branch'.branch.ensures.1.1 if1'.if1.true, bump'.bump.ensures.1))) ∙ loop'.loop.invariant.1.1.1.1,
+            again_prog s'.args.allowed (c_yes (c_fn s'.args.allowed branch'.branch.ensures.0) if1'.if1.true (c_seq (c_act (bump'.bump.ensures.0 unlabelled _ _)) c_ret)) (ahead_falls s'.args.tokens.now loop'.loop.q.s bump'.bump.result.s (omega (arith, loop'.loop.invariant.0, branch'.branch.ensures.1.0, branch'.branch.ensures.1.1 if1'.if1.true, bump'.bump.ensures.1))) ∙ loop'.loop.invariant.1.1.1.1,
           ),
         ),
       ),
@@ -101,6 +101,6 @@ returns t c =
     let branch' = if1'.before.before.before.before.before.before.before in
     let loop' = branch'.before.before.before.before in
     let s' = loop'.before.before.before.before.before in (
-      prog-on s'.args.allowed (c-seq (c-prog s'.args.allowed (last-yes s'.args.allowed (c-no (c-fn s'.args.allowed branch'.branch.ensures.0) if1'.if1.false c-ret) ∙ loop'.loop.invariant.1.1.1.1)) (c-walk (expect'.expect.ensures.0 (walk_rule s'.args.allowed (tokens_of s'.args.tokens.now)) unlabelled))),
+      prog_on s'.args.allowed (c_seq (c_prog s'.args.allowed (last_yes s'.args.allowed (c_no (c_fn s'.args.allowed branch'.branch.ensures.0) if1'.if1.false c_ret) ∙ loop'.loop.invariant.1.1.1.1)) (c_walk (expect'.expect.ensures.0 (walk_rule s'.args.allowed (tokens_of s'.args.tokens.now)) unlabelled))),
       omega (arith, loop'.loop.invariant.0, branch'.branch.ensures.1.0, expect'.expect.ensures.1.0),
     )

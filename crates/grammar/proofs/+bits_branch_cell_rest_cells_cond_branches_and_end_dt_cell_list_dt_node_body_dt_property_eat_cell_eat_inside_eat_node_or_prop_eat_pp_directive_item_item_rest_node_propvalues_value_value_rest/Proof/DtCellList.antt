@@ -4,7 +4,7 @@ use native.Mathlib.Omega.{arith}
 use Rattle.definitions.specs.Token.{tokens_of}
 use Rattle.definitions.specs.Grammar.{dt_cell_list}
 use Rattle.machine.specs.Walk.{walk_rule, unlabelled}
-use Rattle.machine.proofs.Way.{c-walk, c-act, c-ret, c-seq, c-yes, c-no, completed, c-fn}
+use Rattle.machine.proofs.Way.{c_walk, c_act, c_ret, c_seq, c_yes, c_no, completed, c_fn}
 use Rattle.grammar.proofs.Ways.{closes}
 use Rattle.grammar.proofs.dt_cell_list.Reads as reads
 use Rattle.grammar.proofs.+bits_branch_cell_rest_cells_cond_branches_and_end_dt_cell_list_dt_node_body_dt_property_eat_cell_eat_inside_eat_node_or_prop_eat_pp_directive_item_item_rest_node_propvalues_value_value_rest.Lts-dt_cell_list as lts
@@ -61,7 +61,7 @@ returns t c =
     let cells' = if1'.before.before.before.before.before.before.before in
     let bump' = cells'.before.before.before.before.before.before in
     let s' = bump'.before.before.before.before.before.before in (
-      closes s'.args.allowed (c-seq (c-act (bump'.bump.ensures.0 unlabelled _ _)) (c-yes (c-fn s'.args.allowed cells'.cells.ensures.0) if1'.if1.true (c-seq (c-walk (expect'.expect.ensures.0 (walk_rule s'.args.allowed (tokens_of s'.args.tokens.now)) unlabelled)) c-ret))) (completed (complete'.complete.ensures.0 _ _)),
+      closes s'.args.allowed (c_seq (c_act (bump'.bump.ensures.0 unlabelled _ _)) (c_yes (c_fn s'.args.allowed cells'.cells.ensures.0) if1'.if1.true (c_seq (c_walk (expect'.expect.ensures.0 (walk_rule s'.args.allowed (tokens_of s'.args.tokens.now)) unlabelled)) c_ret))) (completed (complete'.complete.ensures.0 _ _)),
       omega (arith, bump'.bump.ensures.1, cells'.cells.ensures.1, expect'.expect.ensures.1.0, complete'.complete.ensures.1 s'.args.tokens.now),
     )
 
@@ -94,6 +94,6 @@ returns-2 t c =
     let cells' = if1'.before.before.before.before.before.before.before in
     let bump' = cells'.before.before.before.before.before.before in
     let s' = bump'.before.before.before.before.before.before in (
-      closes s'.args.allowed (c-seq (c-act (bump'.bump.ensures.0 unlabelled _ _)) (c-no (c-fn s'.args.allowed cells'.cells.ensures.0) if1'.if1.false c-ret)) (completed (complete2'.complete2.ensures.0 _ _)),
+      closes s'.args.allowed (c_seq (c_act (bump'.bump.ensures.0 unlabelled _ _)) (c_no (c_fn s'.args.allowed cells'.cells.ensures.0) if1'.if1.false c_ret)) (completed (complete2'.complete2.ensures.0 _ _)),
       omega (arith, bump'.bump.ensures.1, cells'.cells.ensures.1, complete2'.complete2.ensures.1 s'.args.tokens.now),
     )

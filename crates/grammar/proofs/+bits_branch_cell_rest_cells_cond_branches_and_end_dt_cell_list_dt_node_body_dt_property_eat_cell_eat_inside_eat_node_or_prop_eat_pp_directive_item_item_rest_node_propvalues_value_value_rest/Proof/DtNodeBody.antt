@@ -9,10 +9,10 @@ use Rattle.definitions.specs.Prog.{loop}
 use Rattle.definitions.specs.Grammar.{node_body_turn, dt_node_body}
 use Rattle.machine.specs.Walk.{walk_rule, walk_prog}
 use Rattle.parser.specs.View.{tokens_left, parser_view, span_of}
-use Rattle.machine.proofs.Way.{c-walk, c-act, c-ret, c-seq, c-yes, c-no}
+use Rattle.machine.proofs.Way.{c_walk, c_act, c_ret, c_seq, c_yes, c_no}
 use Rattle.steps.proofs.Left.{ahead_falls}
-use Rattle.steps.proofs.Steps.{c-brace, c-any, closing}
-use Rattle.grammar.proofs.Ways.{c-prog, c-call-on, closes, again-prog, last-yes}
+use Rattle.steps.proofs.Steps.{c_brace, c_any, closing}
+use Rattle.grammar.proofs.Ways.{c_prog, c_call_on, closes, again_prog, last_yes}
 use Rattle.grammar.proofs.dt_node_body.Reads as reads
 use Rattle.grammar.proofs.+bits_branch_cell_rest_cells_cond_branches_and_end_dt_cell_list_dt_node_body_dt_property_eat_cell_eat_inside_eat_node_or_prop_eat_pp_directive_item_item_rest_node_propvalues_value_value_rest.Lts-dt_node_body as lts
 use Rattle.grammar.proofs.+bits_branch_cell_rest_cells_cond_branches_and_end_dt_cell_list_dt_node_body_dt_property_eat_cell_eat_inside_eat_node_or_prop_eat_pp_directive_item_item_rest_node_propvalues_value_value_rest.Proof.Measures.{dt_node_body_at, dt_node_body_claims}
@@ -75,7 +75,7 @@ loop-again t c =
           omega (arith, bump'.bump.auto, item'.item.auto, loop'.loop.invariant.1),
           (
             omega (arith, bump'.bump.auto, item'.item.auto, loop'.loop.invariant.1),
-            again-prog s'.args.allowed (c-yes (c-walk (at-item'.at_item.ensures.0 (walk_rule s'.args.allowed (tokens_of s'.args.tokens.now)) (span_of range'.range.result) _ _ _)) if1'.if1.true (c-call-on s'.args.allowed item'.item.ensures.0 c-ret)) (ahead_falls s'.args.tokens.now loop'.loop.q.s item'.item.result.s (omega (arith, bump'.bump.ensures.1, loop'.loop.invariant.0, at-item'.at_item.ensures.1.0, at-item'.at_item.ensures.1.1 if1'.if1.true, item'.item.ensures.1))) ∙ loop'.loop.invariant.1.1.1.1,
+            again_prog s'.args.allowed (c_yes (c_walk (at-item'.at_item.ensures.0 (walk_rule s'.args.allowed (tokens_of s'.args.tokens.now)) (span_of range'.range.result) _ _ _)) if1'.if1.true (c_call_on s'.args.allowed item'.item.ensures.0 c_ret)) (ahead_falls s'.args.tokens.now loop'.loop.q.s item'.item.result.s (omega (arith, bump'.bump.ensures.1, loop'.loop.invariant.0, at-item'.at_item.ensures.1.0, at-item'.at_item.ensures.1.1 if1'.if1.true, item'.item.ensures.1))) ∙ loop'.loop.invariant.1.1.1.1,
           ),
         ),
       ),
@@ -115,6 +115,6 @@ returns t c =
     let bump' = loop'.before.before.before in
     let range' = bump'.before.before in
     let s' = range'.before.before.before.before.before in (
-      closes s'.args.allowed (c-brace (range'.range.ensures _ _ _ _) (c-seq (c-act (bump'.bump.ensures.0 (span_of range'.range.result) _ _)) (c-seq (c-prog s'.args.allowed (last-yes s'.args.allowed (c-no (c-walk (at-item'.at_item.ensures.0 (walk_rule s'.args.allowed (tokens_of s'.args.tokens.now)) (span_of range'.range.result) _ _ _)) if1'.if1.false c-ret) ∙ loop'.loop.invariant.1.1.1.1)) c-any))) (closing (node-end'.node_end.ensures.0 (walk_rule s'.args.allowed (tokens_of s'.args.tokens.now)))),
+      closes s'.args.allowed (c_brace (range'.range.ensures _ _ _ _) (c_seq (c_act (bump'.bump.ensures.0 (span_of range'.range.result) _ _)) (c_seq (c_prog s'.args.allowed (last_yes s'.args.allowed (c_no (c_walk (at-item'.at_item.ensures.0 (walk_rule s'.args.allowed (tokens_of s'.args.tokens.now)) (span_of range'.range.result) _ _ _)) if1'.if1.false c_ret) ∙ loop'.loop.invariant.1.1.1.1)) c_any))) (closing (node-end'.node_end.ensures.0 (walk_rule s'.args.allowed (tokens_of s'.args.tokens.now)))),
       omega (arith, bump'.bump.ensures.1, loop'.loop.invariant.0, at-item'.at_item.ensures.1.0, node-end'.node_end.ensures.1),
     )

@@ -5,7 +5,7 @@ use borrow.Author.Rules.{rules}
 use Rattle.definitions.specs.Token.{tokens_of}
 use Rattle.definitions.specs.Grammar.{dt_property}
 use Rattle.machine.specs.Walk.{walk_rule, unlabelled}
-use Rattle.machine.proofs.Way.{c-walk, c-act, c-ret, c-seq, c-yes, c-no, c-told, c-mark, completed, c_call}
+use Rattle.machine.proofs.Way.{c_walk, c_act, c_ret, c_seq, c_yes, c_no, c_told, c_mark, completed, c_call}
 use Rattle.grammar.proofs.Ways.{closes}
 use Rattle.grammar.proofs.dt_property.Reads as reads
 use Rattle.grammar.proofs.+bits_branch_cell_rest_cells_cond_branches_and_end_dt_cell_list_dt_node_body_dt_property_eat_cell_eat_inside_eat_node_or_prop_eat_pp_directive_item_item_rest_node_propvalues_value_value_rest.Lts-dt_property as lts
@@ -30,7 +30,7 @@ returns t c =
     let if1' = complete'.before.before in
     let eat' = if1'.before.before.before in
     let s' = eat'.before.before.before.before.before.before in (
-      closes s'.args.allowed (c-yes (c-walk (eat'.eat.ensures.0 (walk_rule s'.args.allowed (tokens_of s'.args.tokens.now)) unlabelled _ _)) if1'.if1.true c-ret) (completed (complete'.complete.ensures.0 _ _)),
+      closes s'.args.allowed (c_yes (c_walk (eat'.eat.ensures.0 (walk_rule s'.args.allowed (tokens_of s'.args.tokens.now)) unlabelled _ _)) if1'.if1.true c_ret) (completed (complete'.complete.ensures.0 _ _)),
       omega (arith, eat'.eat.ensures.1.0, eat'.eat.ensures.1.1 if1'.if1.true, complete'.complete.ensures.1 s'.args.tokens.now),
     )
 
@@ -113,7 +113,7 @@ returns-2 t c =
     let if1' = bump'.before.before in
     let eat' = if1'.before.before.before in
     let s' = eat'.before.before.before.before.before.before in (
-      closes s'.args.allowed (c-no (c-walk (eat'.eat.ensures.0 (walk_rule s'.args.allowed (tokens_of s'.args.tokens.now)) unlabelled _ _)) if1'.if1.false (c-seq (c-act (bump'.bump.ensures.0 unlabelled _ _)) (c-yes (c-mark new'.new.ensures (start'.start.ensures.0 _ _) (c-told propvalues'.propvalues.result.yes (c_call s'.args.allowed propvalues'.propvalues.ensures.0)) (completed (complete2'.complete2.ensures.0 _ _))) if2'.if2.true (c-seq (c-walk (expect-recoverable'.expect_recoverable.ensures.0 (walk_rule s'.args.allowed (tokens_of s'.args.tokens.now)) unlabelled)) c-ret)))) (completed (complete3'.complete3.ensures.0 _ _)),
+      closes s'.args.allowed (c_no (c_walk (eat'.eat.ensures.0 (walk_rule s'.args.allowed (tokens_of s'.args.tokens.now)) unlabelled _ _)) if1'.if1.false (c_seq (c_act (bump'.bump.ensures.0 unlabelled _ _)) (c_yes (c_mark new'.new.ensures (start'.start.ensures.0 _ _) (c_told propvalues'.propvalues.result.yes (c_call s'.args.allowed propvalues'.propvalues.ensures.0)) (completed (complete2'.complete2.ensures.0 _ _))) if2'.if2.true (c_seq (c_walk (expect-recoverable'.expect_recoverable.ensures.0 (walk_rule s'.args.allowed (tokens_of s'.args.tokens.now)) unlabelled)) c_ret)))) (completed (complete3'.complete3.ensures.0 _ _)),
       omega (arith, eat'.eat.ensures.1.0, bump'.bump.ensures.1, start'.start.ensures.1 s'.args.tokens.now, propvalues'.propvalues.ensures.1, complete2'.complete2.ensures.1 s'.args.tokens.now, expect-recoverable'.expect_recoverable.ensures.1, complete3'.complete3.ensures.1 s'.args.tokens.now),
     )
 
@@ -160,6 +160,6 @@ returns-3 t c =
     let if1' = bump'.before.before in
     let eat' = if1'.before.before.before in
     let s' = eat'.before.before.before.before.before.before in (
-      closes s'.args.allowed (c-no (c-walk (eat'.eat.ensures.0 (walk_rule s'.args.allowed (tokens_of s'.args.tokens.now)) unlabelled _ _)) if1'.if1.false (c-seq (c-act (bump'.bump.ensures.0 unlabelled _ _)) (c-no (c-mark new'.new.ensures (start'.start.ensures.0 _ _) (c-told propvalues'.propvalues.result.yes (c_call s'.args.allowed propvalues'.propvalues.ensures.0)) (completed (complete2'.complete2.ensures.0 _ _))) if2'.if2.false c-ret))) (completed (complete4'.complete4.ensures.0 _ _)),
+      closes s'.args.allowed (c_no (c_walk (eat'.eat.ensures.0 (walk_rule s'.args.allowed (tokens_of s'.args.tokens.now)) unlabelled _ _)) if1'.if1.false (c_seq (c_act (bump'.bump.ensures.0 unlabelled _ _)) (c_no (c_mark new'.new.ensures (start'.start.ensures.0 _ _) (c_told propvalues'.propvalues.result.yes (c_call s'.args.allowed propvalues'.propvalues.ensures.0)) (completed (complete2'.complete2.ensures.0 _ _))) if2'.if2.false c_ret))) (completed (complete4'.complete4.ensures.0 _ _)),
       omega (arith, eat'.eat.ensures.1.0, bump'.bump.ensures.1, start'.start.ensures.1 s'.args.tokens.now, propvalues'.propvalues.ensures.1, complete2'.complete2.ensures.1 s'.args.tokens.now, complete4'.complete4.ensures.1 s'.args.tokens.now),
     )

@@ -9,8 +9,8 @@ use Rattle.definitions.specs.Token.{tokens_of}
 use Rattle.definitions.specs.Prog.{no, eat_cell}
 use Rattle.definitions.specs.Grammar.{grammar}
 use Rattle.machine.specs.Walk.{said, walk_rule, unlabelled}
-use Rattle.machine.proofs.Way.{c-walk, c-act, c-ret, c-seq, c-yes, c-no, c-fn, way, rule_closed, rule_body}
-use Rattle.steps.proofs.Steps.{c-ret-yes}
+use Rattle.machine.proofs.Way.{c_walk, c_act, c_ret, c_seq, c_yes, c_no, c_fn, way, rule_closed, rule_body}
+use Rattle.steps.proofs.Steps.{c_ret_yes}
 use Rattle.grammar.proofs.Laws.{cell_body_is}
 use Rattle.grammar.proofs.eat_cell.Reads as reads
 use Rattle.grammar.proofs.+bits_branch_cell_rest_cells_cond_branches_and_end_dt_cell_list_dt_node_body_dt_property_eat_cell_eat_inside_eat_node_or_prop_eat_pp_directive_item_item_rest_node_propvalues_value_value_rest.Lts-eat_cell as lts
@@ -53,7 +53,7 @@ returns-2 t c =
     let eat-plain-cell' = if2'.before.before.before.before.before.before.before in
     let if1' = eat-plain-cell'.before.before.before.before in
     let s' = if1'.before.before.before.before.before in (
-      way (s'.args.allowed - 1) (c-yes (c-walk (eat-plain-cell'.eat-plain-cell.ensures.0 (walk_rule (s'.args.allowed - 1) (tokens_of s'.args.tokens.now)) unlabelled)) if2'.if2.taken (c-ret-yes if2'.if2.taken)) ∙ cell_body_is (s'.args.allowed - 1) (tokens_of s'.args.tokens.now) s'.args.until_end _ ∙ rule_body s'.args.allowed (tokens_of s'.args.tokens.now) (eat_cell s'.args.until_end) _ (omega (arith, eqb-false s'.args.allowed 0 if1'.if1.left)),
+      way (s'.args.allowed - 1) (c_yes (c_walk (eat-plain-cell'.eat-plain-cell.ensures.0 (walk_rule (s'.args.allowed - 1) (tokens_of s'.args.tokens.now)) unlabelled)) if2'.if2.taken (c_ret_yes if2'.if2.taken)) ∙ cell_body_is (s'.args.allowed - 1) (tokens_of s'.args.tokens.now) s'.args.until_end _ ∙ rule_body s'.args.allowed (tokens_of s'.args.tokens.now) (eat_cell s'.args.until_end) _ (omega (arith, eqb-false s'.args.allowed 0 if1'.if1.left)),
       (omega (arith, eat-plain-cell'.eat-plain-cell.ensures.1.0, eat-plain-cell'.eat-plain-cell.ensures.1.1 if2'.if2.taken, eqb-false s'.args.allowed 0 if1'.if1.left), λ e. omega (arith, eat-plain-cell'.eat-plain-cell.ensures.1.0, eat-plain-cell'.eat-plain-cell.ensures.1.1 if2'.if2.taken, eqb-false s'.args.allowed 0 if1'.if1.left)),
     )
 
@@ -97,7 +97,7 @@ returns-3 t c =
     let eat-plain-cell' = if2'.before.before.before.before.before.before.before in
     let if1' = eat-plain-cell'.before.before.before.before in
     let s' = if1'.before.before.before.before.before in (
-      way (s'.args.allowed - 1) (c-no (c-walk (eat-plain-cell'.eat-plain-cell.ensures.0 (walk_rule (s'.args.allowed - 1) (tokens_of s'.args.tokens.now)) unlabelled)) if2'.if2.false (c-yes (c-act (silent-at'.silent_at.ensures.0 unlabelled _ _ _)) if3'.if3.true (c-seq (c-fn (s'.args.allowed - 1) dt-expr'.dt_expr.ensures.0) c-ret))) ∙ cell_body_is (s'.args.allowed - 1) (tokens_of s'.args.tokens.now) s'.args.until_end _ ∙ rule_body s'.args.allowed (tokens_of s'.args.tokens.now) (eat_cell s'.args.until_end) _ (omega (arith, eqb-false s'.args.allowed 0 if1'.if1.false)),
+      way (s'.args.allowed - 1) (c_no (c_walk (eat-plain-cell'.eat-plain-cell.ensures.0 (walk_rule (s'.args.allowed - 1) (tokens_of s'.args.tokens.now)) unlabelled)) if2'.if2.false (c_yes (c_act (silent-at'.silent_at.ensures.0 unlabelled _ _ _)) if3'.if3.true (c_seq (c_fn (s'.args.allowed - 1) dt-expr'.dt_expr.ensures.0) c_ret))) ∙ cell_body_is (s'.args.allowed - 1) (tokens_of s'.args.tokens.now) s'.args.until_end _ ∙ rule_body s'.args.allowed (tokens_of s'.args.tokens.now) (eat_cell s'.args.until_end) _ (omega (arith, eqb-false s'.args.allowed 0 if1'.if1.false)),
       (omega (arith, eat-plain-cell'.eat-plain-cell.ensures.1.0, silent-at'.silent_at.ensures.1.0, silent-at'.silent_at.ensures.1.1 if3'.if3.true, dt-expr'.dt_expr.ensures.1, eqb-false s'.args.allowed 0 if1'.if1.false), λ e. omega (arith, eat-plain-cell'.eat-plain-cell.ensures.1.0, silent-at'.silent_at.ensures.1.0, silent-at'.silent_at.ensures.1.1 if3'.if3.true, dt-expr'.dt_expr.ensures.1, eqb-false s'.args.allowed 0 if1'.if1.false)),
     )
 
@@ -143,6 +143,6 @@ returns-4 t c =
     let eat-plain-cell' = if2'.before.before.before.before.before.before.before in
     let if1' = eat-plain-cell'.before.before.before.before in
     let s' = if1'.before.before.before.before.before in (
-      way (s'.args.allowed - 1) (c-no (c-walk (eat-plain-cell'.eat-plain-cell.ensures.0 (walk_rule (s'.args.allowed - 1) (tokens_of s'.args.tokens.now)) unlabelled)) if2'.if2.false (c-no (c-act (silent-at'.silent_at.ensures.0 unlabelled _ _ _)) if3'.if3.false (c-fn (s'.args.allowed - 1) cell-rest'.cell_rest.ensures.0))) ∙ cell_body_is (s'.args.allowed - 1) (tokens_of s'.args.tokens.now) s'.args.until_end _ ∙ rule_body s'.args.allowed (tokens_of s'.args.tokens.now) (eat_cell s'.args.until_end) _ (omega (arith, eqb-false s'.args.allowed 0 if1'.if1.false)),
+      way (s'.args.allowed - 1) (c_no (c_walk (eat-plain-cell'.eat-plain-cell.ensures.0 (walk_rule (s'.args.allowed - 1) (tokens_of s'.args.tokens.now)) unlabelled)) if2'.if2.false (c_no (c_act (silent-at'.silent_at.ensures.0 unlabelled _ _ _)) if3'.if3.false (c_fn (s'.args.allowed - 1) cell-rest'.cell_rest.ensures.0))) ∙ cell_body_is (s'.args.allowed - 1) (tokens_of s'.args.tokens.now) s'.args.until_end _ ∙ rule_body s'.args.allowed (tokens_of s'.args.tokens.now) (eat_cell s'.args.until_end) _ (omega (arith, eqb-false s'.args.allowed 0 if1'.if1.false)),
       (omega (arith, eat-plain-cell'.eat-plain-cell.ensures.1.0, silent-at'.silent_at.ensures.1.0, cell-rest'.cell_rest.ensures.1.0, eqb-false s'.args.allowed 0 if1'.if1.false), λ e. omega (arith, eat-plain-cell'.eat-plain-cell.ensures.1.0, silent-at'.silent_at.ensures.1.0, cell-rest'.cell_rest.ensures.1.0, eqb-false s'.args.allowed 0 if1'.if1.false, cell-rest'.cell_rest.ensures.1.1 e)),
     )

@@ -2,8 +2,8 @@
 use Prim.Native.Nat.{ℕ}
 use native.Mathlib.Omega.{arith}
 use Rattle.definitions.specs.Grammar.{eat_inside}
-use Rattle.machine.proofs.Way.{c-ret, c-seq, c_call, way}
-use Rattle.grammar.proofs.Ways.{c-call-on, c_inside}
+use Rattle.machine.proofs.Way.{c_ret, c_seq, c_call, way}
+use Rattle.grammar.proofs.Ways.{c_call_on, c_inside}
 use Rattle.grammar.proofs.eat_inside.Reads as reads
 use Rattle.grammar.proofs.+bits_branch_cell_rest_cells_cond_branches_and_end_dt_cell_list_dt_node_body_dt_property_eat_cell_eat_inside_eat_node_or_prop_eat_pp_directive_item_item_rest_node_propvalues_value_value_rest.Lts-eat_inside as lts
 use Rattle.grammar.proofs.+bits_branch_cell_rest_cells_cond_branches_and_end_dt_cell_list_dt_node_body_dt_property_eat_cell_eat_inside_eat_node_or_prop_eat_pp_directive_item_item_rest_node_propvalues_value_value_rest.Proof.Measures.{eat_inside_at, eat_inside_claims}
@@ -59,7 +59,7 @@ returns t c =
     let item' = c.before.before.before.before.before.before in
     let enum-told' = item'.before.before.before.before in
     let s' = enum-told'.before.before.before.before.before.before in (
-      way s'.args.allowed (c_inside enum-told'.enum_told.given.1 (c-call-on s'.args.allowed item'.item.ensures.0 c-ret)),
+      way s'.args.allowed (c_inside enum-told'.enum_told.given.1 (c_call_on s'.args.allowed item'.item.ensures.0 c_ret)),
       (omega (arith, item'.item.ensures.1), λ e. omega (arith, item'.item.ensures.1)),
     )
 
@@ -84,7 +84,7 @@ returns-2 t c =
     let propvalues' = c.before.before.before.before.before.before.before in
     let inside' = propvalues'.before.before.before.before.before in
     let s' = inside'.before.before.before.before.before.before in (
-      way s'.args.allowed (c_inside inside'.inside.given.1 (c-seq (c_call s'.args.allowed propvalues'.propvalues.ensures.0) c-ret)),
+      way s'.args.allowed (c_inside inside'.inside.given.1 (c_seq (c_call s'.args.allowed propvalues'.propvalues.ensures.0) c_ret)),
       (omega (arith, propvalues'.propvalues.ensures.1), λ e. omega (arith, propvalues'.propvalues.ensures.1)),
     )
 

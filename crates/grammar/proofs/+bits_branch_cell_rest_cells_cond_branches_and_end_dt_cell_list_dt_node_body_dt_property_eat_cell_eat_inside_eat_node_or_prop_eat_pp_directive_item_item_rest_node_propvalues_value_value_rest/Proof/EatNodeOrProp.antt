@@ -7,10 +7,10 @@ use Rattle.definitions.specs.Token.{tokens_of}
 use Rattle.definitions.specs.Grammar.{eat_node_or_prop}
 use Rattle.machine.specs.Walk.{walk_rule, unlabelled}
 use Rattle.parser.specs.View.{ans_of}
-use Rattle.machine.proofs.Way.{c-walk, c-ret, c-yes, c-no, c-mark, way}
+use Rattle.machine.proofs.Way.{c_walk, c_ret, c_yes, c_no, c_mark, way}
 use Rattle.steps.specs.View.{took_unless_no}
-use Rattle.steps.proofs.Steps.{c-said-no, c-said-also, closing, ignored}
-use Rattle.grammar.proofs.Ways.{c-same, c_said_other, unless_no_other}
+use Rattle.steps.proofs.Steps.{c_said_no, c_said_also, closing, ignored}
+use Rattle.grammar.proofs.Ways.{c_same, c_said_other, unless_no_other}
 use Rattle.grammar.proofs.eat_node_or_prop.Reads as reads
 use Rattle.grammar.proofs.+bits_branch_cell_rest_cells_cond_branches_and_end_dt_cell_list_dt_node_body_dt_property_eat_cell_eat_inside_eat_node_or_prop_eat_pp_directive_item_item_rest_node_propvalues_value_value_rest.Lts-eat_node_or_prop as lts
 use Rattle.grammar.proofs.+bits_branch_cell_rest_cells_cond_branches_and_end_dt_cell_list_dt_node_body_dt_property_eat_cell_eat_inside_eat_node_or_prop_eat_pp_directive_item_item_rest_node_propvalues_value_value_rest.Proof.Measures.{eat_node_or_prop_at, eat_node_or_prop_claims}
@@ -81,7 +81,7 @@ returns t c =
     let start' = eat-node-or-prop-prefix'.before.before.before.before.before.before in
     let new' = start'.before.before in
     let s' = new'.before.before.before.before.before in (
-      way s'.args.allowed (c-mark new'.new.ensures (start'.start.ensures.0 _ _) (c-said-also eat-node-or-prop-prefix'.eat_node_or_prop_prefix.result.ans (c-walk (eat-node-or-prop-prefix'.eat_node_or_prop_prefix.ensures.0 (walk_rule s'.args.allowed (tokens_of s'.args.tokens.now)) unlabelled)) (ap ans_of enum-told2'.enum-told2.given.1) (c-yes (c-walk (at'.at.ensures.0 (walk_rule s'.args.allowed (tokens_of s'.args.tokens.now)) unlabelled _ _ _)) if1'.if1.true (c-same s'.args.allowed))) (closing dt-property'.dt_property.ensures.0)),
+      way s'.args.allowed (c_mark new'.new.ensures (start'.start.ensures.0 _ _) (c_said_also eat-node-or-prop-prefix'.eat_node_or_prop_prefix.result.ans (c_walk (eat-node-or-prop-prefix'.eat_node_or_prop_prefix.ensures.0 (walk_rule s'.args.allowed (tokens_of s'.args.tokens.now)) unlabelled)) (ap ans_of enum-told2'.enum-told2.given.1) (c_yes (c_walk (at'.at.ensures.0 (walk_rule s'.args.allowed (tokens_of s'.args.tokens.now)) unlabelled _ _ _)) if1'.if1.true (c_same s'.args.allowed))) (closing dt-property'.dt_property.ensures.0)),
       (omega (arith, start'.start.ensures.1 s'.args.tokens.now, eat-node-or-prop-prefix'.eat_node_or_prop_prefix.ensures.1, at'.at.ensures.1.0, at'.at.ensures.1.1 if1'.if1.true, dt-property'.dt_property.ensures.1, ap took_unless_no enum-told2'.enum-told2.given.1), λ e. omega (arith, start'.start.ensures.1 s'.args.tokens.now, eat-node-or-prop-prefix'.eat_node_or_prop_prefix.ensures.1, at'.at.ensures.1.0, at'.at.ensures.1.1 if1'.if1.true, dt-property'.dt_property.ensures.1, ap took_unless_no enum-told2'.enum-told2.given.1)),
     )
 
@@ -130,7 +130,7 @@ returns-2 t c =
     let start' = eat-node-or-prop-prefix'.before.before.before.before.before.before in
     let new' = start'.before.before in
     let s' = new'.before.before.before.before.before in (
-      way s'.args.allowed (c-mark new'.new.ensures (start'.start.ensures.0 _ _) (c-said-no eat-node-or-prop-prefix'.eat_node_or_prop_prefix.result.ans (c-walk (eat-node-or-prop-prefix'.eat_node_or_prop_prefix.ensures.0 (walk_rule s'.args.allowed (tokens_of s'.args.tokens.now)) unlabelled)) (ap ans_of enum-told'.enum_told.given.1) c-ret) (ignored (ignore'.ignore.ensures.0 _ _))),
+      way s'.args.allowed (c_mark new'.new.ensures (start'.start.ensures.0 _ _) (c_said_no eat-node-or-prop-prefix'.eat_node_or_prop_prefix.result.ans (c_walk (eat-node-or-prop-prefix'.eat_node_or_prop_prefix.ensures.0 (walk_rule s'.args.allowed (tokens_of s'.args.tokens.now)) unlabelled)) (ap ans_of enum-told'.enum_told.given.1) c_ret) (ignored (ignore'.ignore.ensures.0 _ _))),
       (omega (arith, start'.start.ensures.1 s'.args.tokens.now, eat-node-or-prop-prefix'.eat_node_or_prop_prefix.ensures.1, ignore'.ignore.ensures.1 s'.args.tokens.now, ap took_unless_no enum-told'.enum_told.given.1), λ e. absurd (false≢true e)),
     )
 
@@ -166,7 +166,7 @@ returns-3 t c =
     let start' = eat-node-or-prop-prefix'.before.before.before.before.before.before in
     let new' = start'.before.before in
     let s' = new'.before.before.before.before.before in (
-      way s'.args.allowed (c-mark new'.new.ensures (start'.start.ensures.0 _ _) (c-said-also eat-node-or-prop-prefix'.eat_node_or_prop_prefix.result.ans (c-walk (eat-node-or-prop-prefix'.eat_node_or_prop_prefix.ensures.0 (walk_rule s'.args.allowed (tokens_of s'.args.tokens.now)) unlabelled)) (ap ans_of enum-told2'.enum-told2.given.1) (c-no (c-walk (at'.at.ensures.0 (walk_rule s'.args.allowed (tokens_of s'.args.tokens.now)) unlabelled _ _ _)) if1'.if1.false (c-same s'.args.allowed))) (closing node'.node.ensures.0)),
+      way s'.args.allowed (c_mark new'.new.ensures (start'.start.ensures.0 _ _) (c_said_also eat-node-or-prop-prefix'.eat_node_or_prop_prefix.result.ans (c_walk (eat-node-or-prop-prefix'.eat_node_or_prop_prefix.ensures.0 (walk_rule s'.args.allowed (tokens_of s'.args.tokens.now)) unlabelled)) (ap ans_of enum-told2'.enum-told2.given.1) (c_no (c_walk (at'.at.ensures.0 (walk_rule s'.args.allowed (tokens_of s'.args.tokens.now)) unlabelled _ _ _)) if1'.if1.false (c_same s'.args.allowed))) (closing node'.node.ensures.0)),
       (omega (arith, start'.start.ensures.1 s'.args.tokens.now, eat-node-or-prop-prefix'.eat_node_or_prop_prefix.ensures.1, at'.at.ensures.1.0, node'.node.ensures.1, ap took_unless_no enum-told2'.enum-told2.given.1), λ e. omega (arith, start'.start.ensures.1 s'.args.tokens.now, eat-node-or-prop-prefix'.eat_node_or_prop_prefix.ensures.1, at'.at.ensures.1.0, node'.node.ensures.1, ap took_unless_no enum-told2'.enum-told2.given.1)),
     )
 
@@ -200,6 +200,6 @@ returns-4 t c =
     let start' = eat-node-or-prop-prefix'.before.before.before.before.before.before in
     let new' = start'.before.before in
     let s' = new'.before.before.before.before.before in (
-      way s'.args.allowed (c-mark new'.new.ensures (start'.start.ensures.0 _ _) (c_said_other eat-node-or-prop-prefix'.eat_node_or_prop_prefix.result.ans (c-walk (eat-node-or-prop-prefix'.eat_node_or_prop_prefix.ensures.0 (walk_rule s'.args.allowed (tokens_of s'.args.tokens.now)) unlabelled)) match0'.match.keys3 (c-same s'.args.allowed)) (closing node2'.node2.ensures.0)),
+      way s'.args.allowed (c_mark new'.new.ensures (start'.start.ensures.0 _ _) (c_said_other eat-node-or-prop-prefix'.eat_node_or_prop_prefix.result.ans (c_walk (eat-node-or-prop-prefix'.eat_node_or_prop_prefix.ensures.0 (walk_rule s'.args.allowed (tokens_of s'.args.tokens.now)) unlabelled)) match0'.match.keys3 (c_same s'.args.allowed)) (closing node2'.node2.ensures.0)),
       (omega (arith, start'.start.ensures.1 s'.args.tokens.now, eat-node-or-prop-prefix'.eat_node_or_prop_prefix.ensures.1, node2'.node2.ensures.1, unless_no_other eat-node-or-prop-prefix'.eat_node_or_prop_prefix.result.ans match0'.match.keys3), λ e. omega (arith, start'.start.ensures.1 s'.args.tokens.now, eat-node-or-prop-prefix'.eat_node_or_prop_prefix.ensures.1, node2'.node2.ensures.1, unless_no_other eat-node-or-prop-prefix'.eat_node_or_prop_prefix.result.ans match0'.match.keys3)),
     )

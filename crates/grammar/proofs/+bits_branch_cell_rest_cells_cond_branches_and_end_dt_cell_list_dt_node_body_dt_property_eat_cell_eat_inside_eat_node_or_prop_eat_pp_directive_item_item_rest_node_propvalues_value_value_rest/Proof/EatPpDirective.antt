@@ -8,9 +8,9 @@ use Rattle.definitions.specs.Token.{tokens_of}
 use Rattle.definitions.specs.Check.{silent}
 use Rattle.definitions.specs.Grammar.{eat_preprocessor_directive}
 use Rattle.machine.specs.Walk.{unlabelled}
-use Rattle.machine.proofs.Way.{c-act, c-ret, c-seq, c-yes, c-no, c-mark, completed, way}
-use Rattle.steps.proofs.Steps.{c-ret-no}
-use Rattle.grammar.proofs.Ways.{c-prog-on, c_assoc}
+use Rattle.machine.proofs.Way.{c_act, c_ret, c_seq, c_yes, c_no, c_mark, completed, way}
+use Rattle.steps.proofs.Steps.{c_ret_no}
+use Rattle.grammar.proofs.Ways.{c_prog_on, c_assoc}
 use Rattle.grammar.proofs.eat_pp_directive.Reads as reads
 use Rattle.grammar.proofs.+bits_branch_cell_rest_cells_cond_branches_and_end_dt_cell_list_dt_node_body_dt_property_eat_cell_eat_inside_eat_node_or_prop_eat_pp_directive_item_item_rest_node_propvalues_value_value_rest.Lts-eat_pp_directive as lts
 use Rattle.grammar.proofs.+bits_branch_cell_rest_cells_cond_branches_and_end_dt_cell_list_dt_node_body_dt_property_eat_cell_eat_inside_eat_node_or_prop_eat_pp_directive_item_item_rest_node_propvalues_value_value_rest.Proof.Measures.{eat_pp_directive_at, eat_pp_directive_claims}
@@ -92,7 +92,7 @@ returns t c =
     let silent-at-set' = if1'.before in
     let add-expected' = silent-at-set'.before.before in
     let s' = add-expected'.before.before.before.before.before in (
-      way s'.args.allowed (c-seq (c-act (add-expected'.add_expected.ensures.0 (tokens_of s'.args.tokens.now) unlabelled _ _ _)) (c-no {t = false} (c-yes (c-act (silent-at-set'.silent-at-set.ensures.0 unlabelled _ _ _)) if1'.if1.true c-ret) refl (c-yes (c-act (silent-at-set2'.silent-at-set2.ensures.0 unlabelled _ _ _)) if2'.if2.true (c-seq (c-mark new'.new.ensures (start'.start.ensures.0 _ _) (c_assoc (c-seq (c-act (bump'.bump.ensures.0 unlabelled _ _)) (c-prog-on s'.args.allowed cond-branches-and-end'.cond_branches_and_end.ensures.0 c-ret))) (completed (complete'.complete.ensures.0 _ _))) c-ret)))),
+      way s'.args.allowed (c_seq (c_act (add-expected'.add_expected.ensures.0 (tokens_of s'.args.tokens.now) unlabelled _ _ _)) (c_no {t = false} (c_yes (c_act (silent-at-set'.silent-at-set.ensures.0 unlabelled _ _ _)) if1'.if1.true c_ret) refl (c_yes (c_act (silent-at-set2'.silent-at-set2.ensures.0 unlabelled _ _ _)) if2'.if2.true (c_seq (c_mark new'.new.ensures (start'.start.ensures.0 _ _) (c_assoc (c_seq (c_act (bump'.bump.ensures.0 unlabelled _ _)) (c_prog_on s'.args.allowed cond-branches-and-end'.cond_branches_and_end.ensures.0 c_ret))) (completed (complete'.complete.ensures.0 _ _))) c_ret)))),
       (omega (arith, add-expected'.add_expected.ensures.1 s'.args.tokens.now, silent-at-set'.silent-at-set.ensures.1.0, silent-at-set'.silent-at-set.ensures.1.1 if1'.if1.true, silent-at-set2'.silent-at-set2.ensures.1.0, silent-at-set2'.silent-at-set2.ensures.1.1 if2'.if2.true, start'.start.ensures.1 s'.args.tokens.now, bump'.bump.ensures.1, cond-branches-and-end'.cond_branches_and_end.ensures.1, complete'.complete.ensures.1 s'.args.tokens.now), λ e. omega (arith, add-expected'.add_expected.ensures.1 s'.args.tokens.now, silent-at-set'.silent-at-set.ensures.1.0, silent-at-set'.silent-at-set.ensures.1.1 if1'.if1.true, silent-at-set2'.silent-at-set2.ensures.1.0, silent-at-set2'.silent-at-set2.ensures.1.1 if2'.if2.true, start'.start.ensures.1 s'.args.tokens.now, bump'.bump.ensures.1, cond-branches-and-end'.cond_branches_and_end.ensures.1, complete'.complete.ensures.1 s'.args.tokens.now)),
     )
 
@@ -114,7 +114,7 @@ returns-2 t c =
     let silent-at-set' = if1'.before in
     let add-expected' = silent-at-set'.before.before in
     let s' = add-expected'.before.before.before.before.before in (
-      way s'.args.allowed (c-seq (c-act (add-expected'.add_expected.ensures.0 (tokens_of s'.args.tokens.now) unlabelled _ _ _)) (c-no {t = false} (c-yes (c-act (silent-at-set'.silent-at-set.ensures.0 unlabelled _ _ _)) if1'.if1.true c-ret) refl (c-no (c-act (silent-at-set2'.silent-at-set2.ensures.0 unlabelled _ _ _)) if2'.if2.false (c-seq (c-act (bump2'.bump2.ensures.0 unlabelled _ _)) c-ret)))),
+      way s'.args.allowed (c_seq (c_act (add-expected'.add_expected.ensures.0 (tokens_of s'.args.tokens.now) unlabelled _ _ _)) (c_no {t = false} (c_yes (c_act (silent-at-set'.silent-at-set.ensures.0 unlabelled _ _ _)) if1'.if1.true c_ret) refl (c_no (c_act (silent-at-set2'.silent-at-set2.ensures.0 unlabelled _ _ _)) if2'.if2.false (c_seq (c_act (bump2'.bump2.ensures.0 unlabelled _ _)) c_ret)))),
       (omega (arith, add-expected'.add_expected.ensures.1 s'.args.tokens.now, silent-at-set'.silent-at-set.ensures.1.0, silent-at-set'.silent-at-set.ensures.1.1 if1'.if1.true, silent-at-set2'.silent-at-set2.ensures.1.0, bump2'.bump2.ensures.1), λ e. omega (arith, add-expected'.add_expected.ensures.1 s'.args.tokens.now, silent-at-set'.silent-at-set.ensures.1.0, silent-at-set'.silent-at-set.ensures.1.1 if1'.if1.true, silent-at-set2'.silent-at-set2.ensures.1.0, bump2'.bump2.ensures.1)),
     )
 
@@ -125,6 +125,6 @@ returns-3 t c =
     let silent-at-set' = if1'.before in
     let add-expected' = silent-at-set'.before.before in
     let s' = add-expected'.before.before.before.before.before in (
-      way s'.args.allowed (c-seq (c-act (add-expected'.add_expected.ensures.0 (tokens_of s'.args.tokens.now) unlabelled _ _ _)) (c-yes {t = true} (c-no (c-act (silent-at-set'.silent-at-set.ensures.0 unlabelled _ _ _)) if1'.if1.left c-ret) refl (c-ret-no if1'.if1.left))),
+      way s'.args.allowed (c_seq (c_act (add-expected'.add_expected.ensures.0 (tokens_of s'.args.tokens.now) unlabelled _ _ _)) (c_yes {t = true} (c_no (c_act (silent-at-set'.silent-at-set.ensures.0 unlabelled _ _ _)) if1'.if1.left c_ret) refl (c_ret_no if1'.if1.left))),
       (omega (arith, add-expected'.add_expected.ensures.1 s'.args.tokens.now, silent-at-set'.silent-at-set.ensures.1.0), λ e. absurd (false≢true (sym if1'.if1.left ∙ e))),
     )

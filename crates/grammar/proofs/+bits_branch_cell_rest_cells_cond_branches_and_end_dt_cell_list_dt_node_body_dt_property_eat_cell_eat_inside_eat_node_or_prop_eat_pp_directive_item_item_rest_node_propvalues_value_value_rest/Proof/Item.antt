@@ -9,9 +9,9 @@ use Rattle.definitions.specs.Prog.{no, item}
 use Rattle.definitions.specs.Check.{silent}
 use Rattle.definitions.specs.Grammar.{item_body, grammar}
 use Rattle.machine.specs.Walk.{Walked, said, walk_rule, unlabelled}
-use Rattle.machine.proofs.Way.{c-walk, c-act, c-ret, c-seq, c-yes, c-no, c-mark, completed, c-fn, way, rule_closed, rule_body}
+use Rattle.machine.proofs.Way.{c_walk, c_act, c_ret, c_seq, c_yes, c_no, c_mark, completed, c_fn, way, rule_closed, rule_body}
 use Rattle.steps.proofs.Steps.{closing}
-use Rattle.grammar.proofs.Ways.{c-same}
+use Rattle.grammar.proofs.Ways.{c_same}
 use Rattle.grammar.proofs.item.Reads as reads
 use Rattle.grammar.proofs.+bits_branch_cell_rest_cells_cond_branches_and_end_dt_cell_list_dt_node_body_dt_property_eat_cell_eat_inside_eat_node_or_prop_eat_pp_directive_item_item_rest_node_propvalues_value_value_rest.Lts-item as lts
 use Rattle.grammar.proofs.+bits_branch_cell_rest_cells_cond_branches_and_end_dt_cell_list_dt_node_body_dt_property_eat_cell_eat_inside_eat_node_or_prop_eat_pp_directive_item_item_rest_node_propvalues_value_value_rest.Proof.Measures.{item_at, item_claims}
@@ -62,7 +62,7 @@ returns-2 t c =
     let eat-node-or-prop' = if2'.before.before.before.before.before.before.before in
     let if1' = eat-node-or-prop'.before.before.before.before in
     let s' = if1'.before.before.before.before.before in (
-      ap (λ (w : Walked). w.on) (way (s'.args.allowed - 1) (c-yes (c-fn (s'.args.allowed - 1) eat-node-or-prop'.eat_node_or_prop.ensures.0) if2'.if2.true c-ret) ∙ rule_body s'.args.allowed (tokens_of s'.args.tokens.now) item _ (omega (arith, eqb-false s'.args.allowed 0 if1'.if1.false))),
+      ap (λ (w : Walked). w.on) (way (s'.args.allowed - 1) (c_yes (c_fn (s'.args.allowed - 1) eat-node-or-prop'.eat_node_or_prop.ensures.0) if2'.if2.true c_ret) ∙ rule_body s'.args.allowed (tokens_of s'.args.tokens.now) item _ (omega (arith, eqb-false s'.args.allowed 0 if1'.if1.false))),
       omega (arith, eat-node-or-prop'.eat_node_or_prop.ensures.1.0, eat-node-or-prop'.eat_node_or_prop.ensures.1.1 if2'.if2.true, eqb-false s'.args.allowed 0 if1'.if1.false),
     )
 
@@ -151,7 +151,7 @@ returns-3 t c =
     let eat-node-or-prop' = if2'.before.before.before.before.before.before.before in
     let if1' = eat-node-or-prop'.before.before.before.before in
     let s' = if1'.before.before.before.before.before in (
-      ap (λ (w : Walked). w.on) (way (s'.args.allowed - 1) (c-no (c-fn (s'.args.allowed - 1) eat-node-or-prop'.eat_node_or_prop.ensures.0) if2'.if2.false (c-yes (c-act (silent-at'.silent_at.ensures.0 unlabelled _ _ _)) if3'.if3.true (c-mark new'.new.ensures (start'.start.ensures.0 _ _) (c-seq (c-seq (c-walk (error'.error.ensures.0 (walk_rule (s'.args.allowed - 1) (tokens_of s'.args.tokens.now)) unlabelled)) (c-mark new2'.new2.ensures (start2'.start2.ensures.0 _ _) (c-same (s'.args.allowed - 1)) (closing dt-property'.dt_property.ensures.0))) c-ret) (completed (complete'.complete.ensures.0 _ _))))) ∙ rule_body s'.args.allowed (tokens_of s'.args.tokens.now) item _ (omega (arith, eqb-false s'.args.allowed 0 if1'.if1.false))),
+      ap (λ (w : Walked). w.on) (way (s'.args.allowed - 1) (c_no (c_fn (s'.args.allowed - 1) eat-node-or-prop'.eat_node_or_prop.ensures.0) if2'.if2.false (c_yes (c_act (silent-at'.silent_at.ensures.0 unlabelled _ _ _)) if3'.if3.true (c_mark new'.new.ensures (start'.start.ensures.0 _ _) (c_seq (c_seq (c_walk (error'.error.ensures.0 (walk_rule (s'.args.allowed - 1) (tokens_of s'.args.tokens.now)) unlabelled)) (c_mark new2'.new2.ensures (start2'.start2.ensures.0 _ _) (c_same (s'.args.allowed - 1)) (closing dt-property'.dt_property.ensures.0))) c_ret) (completed (complete'.complete.ensures.0 _ _))))) ∙ rule_body s'.args.allowed (tokens_of s'.args.tokens.now) item _ (omega (arith, eqb-false s'.args.allowed 0 if1'.if1.false))),
       omega (arith, eat-node-or-prop'.eat_node_or_prop.ensures.1.0, silent-at'.silent_at.ensures.1.0, silent-at'.silent_at.ensures.1.1 if3'.if3.true, start'.start.ensures.1 s'.args.tokens.now, error'.error.ensures.1, start2'.start2.ensures.1 s'.args.tokens.now, dt-property'.dt_property.ensures.1, complete'.complete.ensures.1 s'.args.tokens.now, eqb-false s'.args.allowed 0 if1'.if1.false),
     )
 
@@ -243,7 +243,7 @@ returns-4 t c =
     let eat-node-or-prop' = if2'.before.before.before.before.before.before.before in
     let if1' = eat-node-or-prop'.before.before.before.before in
     let s' = if1'.before.before.before.before.before in (
-      ap (λ (w : Walked). w.on) (way (s'.args.allowed - 1) (c-no (c-fn (s'.args.allowed - 1) eat-node-or-prop'.eat_node_or_prop.ensures.0) if2'.if2.false (c-no (c-act (silent-at'.silent_at.ensures.0 unlabelled _ _ _)) if3'.if3.false (c-yes (c-act (silent-at2'.silent-at2.ensures.0 unlabelled _ _ _)) if4'.if4.true (c-mark new3'.new3.ensures (start3'.start3.ensures.0 _ _) (c-seq (c-seq (c-walk (error2'.error2.ensures.0 (walk_rule (s'.args.allowed - 1) (tokens_of s'.args.tokens.now)) unlabelled)) (c-mark new4'.new4.ensures (start4'.start4.ensures.0 _ _) (c-same (s'.args.allowed - 1)) (closing dt-node-body'.dt_node_body.ensures.0))) c-ret) (completed (complete2'.complete2.ensures.0 _ _)))))) ∙ rule_body s'.args.allowed (tokens_of s'.args.tokens.now) item _ (omega (arith, eqb-false s'.args.allowed 0 if1'.if1.false))),
+      ap (λ (w : Walked). w.on) (way (s'.args.allowed - 1) (c_no (c_fn (s'.args.allowed - 1) eat-node-or-prop'.eat_node_or_prop.ensures.0) if2'.if2.false (c_no (c_act (silent-at'.silent_at.ensures.0 unlabelled _ _ _)) if3'.if3.false (c_yes (c_act (silent-at2'.silent-at2.ensures.0 unlabelled _ _ _)) if4'.if4.true (c_mark new3'.new3.ensures (start3'.start3.ensures.0 _ _) (c_seq (c_seq (c_walk (error2'.error2.ensures.0 (walk_rule (s'.args.allowed - 1) (tokens_of s'.args.tokens.now)) unlabelled)) (c_mark new4'.new4.ensures (start4'.start4.ensures.0 _ _) (c_same (s'.args.allowed - 1)) (closing dt-node-body'.dt_node_body.ensures.0))) c_ret) (completed (complete2'.complete2.ensures.0 _ _)))))) ∙ rule_body s'.args.allowed (tokens_of s'.args.tokens.now) item _ (omega (arith, eqb-false s'.args.allowed 0 if1'.if1.false))),
       omega (arith, eat-node-or-prop'.eat_node_or_prop.ensures.1.0, silent-at'.silent_at.ensures.1.0, silent-at2'.silent-at2.ensures.1.0, silent-at2'.silent-at2.ensures.1.1 if4'.if4.true, start3'.start3.ensures.1 s'.args.tokens.now, error2'.error2.ensures.1, start4'.start4.ensures.1 s'.args.tokens.now, dt-node-body'.dt_node_body.ensures.1, complete2'.complete2.ensures.1 s'.args.tokens.now, eqb-false s'.args.allowed 0 if1'.if1.false),
     )
 
@@ -292,6 +292,6 @@ returns-5 t c =
     let eat-node-or-prop' = if2'.before.before.before.before.before.before.before in
     let if1' = eat-node-or-prop'.before.before.before.before in
     let s' = if1'.before.before.before.before.before in (
-      ap (λ (w : Walked). w.on) (way (s'.args.allowed - 1) (c-no (c-fn (s'.args.allowed - 1) eat-node-or-prop'.eat_node_or_prop.ensures.0) if2'.if2.false (c-no (c-act (silent-at'.silent_at.ensures.0 unlabelled _ _ _)) if3'.if3.false (c-no (c-act (silent-at2'.silent-at2.ensures.0 unlabelled _ _ _)) if4'.if4.false (c-fn (s'.args.allowed - 1) item-rest'.item_rest.ensures.0)))) ∙ rule_body s'.args.allowed (tokens_of s'.args.tokens.now) item _ (omega (arith, eqb-false s'.args.allowed 0 if1'.if1.false))),
+      ap (λ (w : Walked). w.on) (way (s'.args.allowed - 1) (c_no (c_fn (s'.args.allowed - 1) eat-node-or-prop'.eat_node_or_prop.ensures.0) if2'.if2.false (c_no (c_act (silent-at'.silent_at.ensures.0 unlabelled _ _ _)) if3'.if3.false (c_no (c_act (silent-at2'.silent-at2.ensures.0 unlabelled _ _ _)) if4'.if4.false (c_fn (s'.args.allowed - 1) item-rest'.item_rest.ensures.0)))) ∙ rule_body s'.args.allowed (tokens_of s'.args.tokens.now) item _ (omega (arith, eqb-false s'.args.allowed 0 if1'.if1.false))),
       omega (arith, eat-node-or-prop'.eat_node_or_prop.ensures.1.0, silent-at'.silent_at.ensures.1.0, silent-at2'.silent-at2.ensures.1.0, item-rest'.item_rest.ensures.1, eqb-false s'.args.allowed 0 if1'.if1.false),
     )

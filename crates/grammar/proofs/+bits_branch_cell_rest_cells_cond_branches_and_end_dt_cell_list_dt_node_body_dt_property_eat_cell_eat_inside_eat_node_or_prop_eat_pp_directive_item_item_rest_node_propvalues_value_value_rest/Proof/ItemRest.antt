@@ -6,7 +6,7 @@ use native.Mathlib.Omega.{arith}
 use Rattle.definitions.specs.Token.{tokens_of}
 use Rattle.definitions.specs.Check.{silent}
 use Rattle.machine.specs.Walk.{walk_rule, unlabelled}
-use Rattle.machine.proofs.Way.{c-walk, c-act, c-ret, c-yes, c-no, c-fn, way}
+use Rattle.machine.proofs.Way.{c_walk, c_act, c_ret, c_yes, c_no, c_fn, way}
 use Rattle.grammar.proofs.item_rest.Reads as reads
 use Rattle.grammar.proofs.+bits_branch_cell_rest_cells_cond_branches_and_end_dt_cell_list_dt_node_body_dt_property_eat_cell_eat_inside_eat_node_or_prop_eat_pp_directive_item_item_rest_node_propvalues_value_value_rest.Lts-item_rest as lts
 use Rattle.grammar.proofs.+bits_branch_cell_rest_cells_cond_branches_and_end_dt_cell_list_dt_node_body_dt_property_eat_cell_eat_inside_eat_node_or_prop_eat_pp_directive_item_item_rest_node_propvalues_value_value_rest.Proof.Measures.{item_rest_at, item_rest_claims}
@@ -39,7 +39,7 @@ returns t c =
     let if1' = error'.before.before.before.before in
     let silent-at' = if1'.before in
     let s' = silent-at'.before.before.before.before.before in (
-      way s'.args.allowed (c-yes (c-act (silent-at'.silent_at.ensures.0 unlabelled _ _ _)) if1'.if1.true (c-walk (error'.error.ensures.0 (walk_rule s'.args.allowed (tokens_of s'.args.tokens.now)) unlabelled))),
+      way s'.args.allowed (c_yes (c_act (silent-at'.silent_at.ensures.0 unlabelled _ _ _)) if1'.if1.true (c_walk (error'.error.ensures.0 (walk_rule s'.args.allowed (tokens_of s'.args.tokens.now)) unlabelled))),
       omega (arith, silent-at'.silent_at.ensures.1.0, silent-at'.silent_at.ensures.1.1 if1'.if1.true, error'.error.ensures.1),
     )
 
@@ -69,7 +69,7 @@ returns-2 t c =
     let if1' = eat-dts-directive'.before.before.before.before in
     let silent-at' = if1'.before in
     let s' = silent-at'.before.before.before.before.before in (
-      way s'.args.allowed (c-no (c-act (silent-at'.silent_at.ensures.0 unlabelled _ _ _)) if1'.if1.false (c-yes {t = true} (c-yes (c-walk (eat-dts-directive'.eat_dts_directive.ensures.0 (walk_rule s'.args.allowed (tokens_of s'.args.tokens.now)) unlabelled)) if2'.if2.true c-ret) refl c-ret)),
+      way s'.args.allowed (c_no (c_act (silent-at'.silent_at.ensures.0 unlabelled _ _ _)) if1'.if1.false (c_yes {t = true} (c_yes (c_walk (eat-dts-directive'.eat_dts_directive.ensures.0 (walk_rule s'.args.allowed (tokens_of s'.args.tokens.now)) unlabelled)) if2'.if2.true c_ret) refl c_ret)),
       omega (arith, silent-at'.silent_at.ensures.1.0, eat-dts-directive'.eat_dts_directive.ensures.1.0, eat-dts-directive'.eat_dts_directive.ensures.1.1 if2'.if2.true),
     )
 
@@ -108,7 +108,7 @@ returns-3 t c =
     let if1' = eat-dts-directive'.before.before.before.before in
     let silent-at' = if1'.before in
     let s' = silent-at'.before.before.before.before.before in (
-      way s'.args.allowed (c-no (c-act (silent-at'.silent_at.ensures.0 unlabelled _ _ _)) if1'.if1.false (c-yes (c-no (c-walk (eat-dts-directive'.eat_dts_directive.ensures.0 (walk_rule s'.args.allowed (tokens_of s'.args.tokens.now)) unlabelled)) if2'.if2.false (c-fn s'.args.allowed eat-pp-directive'.eat_pp_directive.ensures.0)) if3'.if3.true c-ret)),
+      way s'.args.allowed (c_no (c_act (silent-at'.silent_at.ensures.0 unlabelled _ _ _)) if1'.if1.false (c_yes (c_no (c_walk (eat-dts-directive'.eat_dts_directive.ensures.0 (walk_rule s'.args.allowed (tokens_of s'.args.tokens.now)) unlabelled)) if2'.if2.false (c_fn s'.args.allowed eat-pp-directive'.eat_pp_directive.ensures.0)) if3'.if3.true c_ret)),
       omega (arith, silent-at'.silent_at.ensures.1.0, eat-dts-directive'.eat_dts_directive.ensures.1.0, eat-pp-directive'.eat_pp_directive.ensures.1.0, eat-pp-directive'.eat_pp_directive.ensures.1.1 if3'.if3.true),
     )
 
@@ -147,6 +147,6 @@ returns-4 t c =
     let if1' = eat-dts-directive'.before.before.before.before in
     let silent-at' = if1'.before in
     let s' = silent-at'.before.before.before.before.before in (
-      way s'.args.allowed (c-no (c-act (silent-at'.silent_at.ensures.0 unlabelled _ _ _)) if1'.if1.false (c-no (c-no (c-walk (eat-dts-directive'.eat_dts_directive.ensures.0 (walk_rule s'.args.allowed (tokens_of s'.args.tokens.now)) unlabelled)) if2'.if2.false (c-fn s'.args.allowed eat-pp-directive'.eat_pp_directive.ensures.0)) if3'.if3.false (c-walk (error2'.error2.ensures.0 (walk_rule s'.args.allowed (tokens_of s'.args.tokens.now)) unlabelled)))),
+      way s'.args.allowed (c_no (c_act (silent-at'.silent_at.ensures.0 unlabelled _ _ _)) if1'.if1.false (c_no (c_no (c_walk (eat-dts-directive'.eat_dts_directive.ensures.0 (walk_rule s'.args.allowed (tokens_of s'.args.tokens.now)) unlabelled)) if2'.if2.false (c_fn s'.args.allowed eat-pp-directive'.eat_pp_directive.ensures.0)) if3'.if3.false (c_walk (error2'.error2.ensures.0 (walk_rule s'.args.allowed (tokens_of s'.args.tokens.now)) unlabelled)))),
       omega (arith, silent-at'.silent_at.ensures.1.0, eat-dts-directive'.eat_dts_directive.ensures.1.0, eat-pp-directive'.eat_pp_directive.ensures.1.0, error2'.error2.ensures.1),
     )

@@ -5,9 +5,9 @@ use Rattle.definitions.specs.Token.{tokens_of}
 use Rattle.definitions.specs.Check.{silent}
 use Rattle.definitions.specs.Grammar.{no_property}
 use Rattle.machine.specs.Walk.{walk_rule, unlabelled}
-use Rattle.machine.proofs.Way.{c-walk, c-act, c-ret, c-seq, c-yes, c-no, c-mark, completed}
-use Rattle.steps.proofs.Steps.{c-any, closing}
-use Rattle.grammar.proofs.Ways.{c-same, closes}
+use Rattle.machine.proofs.Way.{c_walk, c_act, c_ret, c_seq, c_yes, c_no, c_mark, completed}
+use Rattle.steps.proofs.Steps.{c_any, closing}
+use Rattle.grammar.proofs.Ways.{c_same, closes}
 use Rattle.grammar.proofs.node.Reads as reads
 use Rattle.grammar.proofs.+bits_branch_cell_rest_cells_cond_branches_and_end_dt_cell_list_dt_node_body_dt_property_eat_cell_eat_inside_eat_node_or_prop_eat_pp_directive_item_item_rest_node_propvalues_value_value_rest.Lts-node as lts
 use Rattle.grammar.proofs.+bits_branch_cell_rest_cells_cond_branches_and_end_dt_cell_list_dt_node_body_dt_property_eat_cell_eat_inside_eat_node_or_prop_eat_pp_directive_item_item_rest_node_propvalues_value_value_rest.Proof.Measures.{node_at, node_claims}
@@ -44,7 +44,7 @@ returns t c =
     let if1' = dt-node-body'.before.before.before.before in
     let at' = if1'.before in
     let s' = at'.before.before.before.before.before in (
-      closes s'.args.allowed (c-yes (c-walk (at'.at.ensures.0 (walk_rule s'.args.allowed (tokens_of s'.args.tokens.now)) unlabelled _ _ _)) if1'.if1.true (c-same s'.args.allowed)) (closing dt-node-body'.dt_node_body.ensures.0),
+      closes s'.args.allowed (c_yes (c_walk (at'.at.ensures.0 (walk_rule s'.args.allowed (tokens_of s'.args.tokens.now)) unlabelled _ _ _)) if1'.if1.true (c_same s'.args.allowed)) (closing dt-node-body'.dt_node_body.ensures.0),
       omega (arith, at'.at.ensures.1.0, at'.at.ensures.1.1 if1'.if1.true, dt-node-body'.dt_node_body.ensures.1),
     )
 
@@ -85,7 +85,7 @@ returns-2 t c =
     let if1' = silent-at'.before in
     let at' = if1'.before in
     let s' = at'.before.before.before.before.before in (
-      closes s'.args.allowed (c-no (c-walk (at'.at.ensures.0 (walk_rule s'.args.allowed (tokens_of s'.args.tokens.now)) unlabelled _ _ _)) if1'.if1.false (c-yes (c-act (silent-at'.silent_at.ensures.0 unlabelled _ _ _)) if2'.if2.true (c-seq (c-walk (error'.error.ensures.0 (walk_rule s'.args.allowed (tokens_of s'.args.tokens.now)) unlabelled)) c-ret))) (completed (complete'.complete.ensures.0 _ _)),
+      closes s'.args.allowed (c_no (c_walk (at'.at.ensures.0 (walk_rule s'.args.allowed (tokens_of s'.args.tokens.now)) unlabelled _ _ _)) if1'.if1.false (c_yes (c_act (silent-at'.silent_at.ensures.0 unlabelled _ _ _)) if2'.if2.true (c_seq (c_walk (error'.error.ensures.0 (walk_rule s'.args.allowed (tokens_of s'.args.tokens.now)) unlabelled)) c_ret))) (completed (complete'.complete.ensures.0 _ _)),
       omega (arith, at'.at.ensures.1.0, silent-at'.silent_at.ensures.1.0, silent-at'.silent_at.ensures.1.1 if2'.if2.true, error'.error.ensures.1, complete'.complete.ensures.1 s'.args.tokens.now),
     )
 
@@ -153,7 +153,7 @@ returns-3 t c =
     let if1' = silent-at'.before in
     let at' = if1'.before in
     let s' = at'.before.before.before.before.before in (
-      closes s'.args.allowed (c-no (c-walk (at'.at.ensures.0 (walk_rule s'.args.allowed (tokens_of s'.args.tokens.now)) unlabelled _ _ _)) if1'.if1.false (c-no (c-act (silent-at'.silent_at.ensures.0 unlabelled _ _ _)) if2'.if2.false (c-yes (c-walk (forbidden-property'.forbidden_property.ensures.0 (walk_rule s'.args.allowed (tokens_of s'.args.tokens.now)) unlabelled _ _ _)) if3'.if3.true (c-seq (c-walk (error2'.error2.ensures.0 (walk_rule s'.args.allowed (tokens_of s'.args.tokens.now)) unlabelled)) (c-seq (c-mark new'.new.ensures (start'.start.ensures.0 _ _) (c-same s'.args.allowed) (closing dt-property'.dt_property.ensures.0)) c-ret))))) (completed (complete2'.complete2.ensures.0 _ _)),
+      closes s'.args.allowed (c_no (c_walk (at'.at.ensures.0 (walk_rule s'.args.allowed (tokens_of s'.args.tokens.now)) unlabelled _ _ _)) if1'.if1.false (c_no (c_act (silent-at'.silent_at.ensures.0 unlabelled _ _ _)) if2'.if2.false (c_yes (c_walk (forbidden-property'.forbidden_property.ensures.0 (walk_rule s'.args.allowed (tokens_of s'.args.tokens.now)) unlabelled _ _ _)) if3'.if3.true (c_seq (c_walk (error2'.error2.ensures.0 (walk_rule s'.args.allowed (tokens_of s'.args.tokens.now)) unlabelled)) (c_seq (c_mark new'.new.ensures (start'.start.ensures.0 _ _) (c_same s'.args.allowed) (closing dt-property'.dt_property.ensures.0)) c_ret))))) (completed (complete2'.complete2.ensures.0 _ _)),
       omega (arith, at'.at.ensures.1.0, silent-at'.silent_at.ensures.1.0, forbidden-property'.forbidden_property.ensures.1, error2'.error2.ensures.1, start'.start.ensures.1 s'.args.tokens.now, dt-property'.dt_property.ensures.1, complete2'.complete2.ensures.1 s'.args.tokens.now),
     )
 
@@ -186,6 +186,6 @@ returns-4 t c =
     let if1' = silent-at'.before in
     let at' = if1'.before in
     let s' = at'.before.before.before.before.before in (
-      closes s'.args.allowed (c-no (c-walk (at'.at.ensures.0 (walk_rule s'.args.allowed (tokens_of s'.args.tokens.now)) unlabelled _ _ _)) if1'.if1.false (c-no (c-act (silent-at'.silent_at.ensures.0 unlabelled _ _ _)) if2'.if2.false (c-no (c-walk (forbidden-property'.forbidden_property.ensures.0 (walk_rule s'.args.allowed (tokens_of s'.args.tokens.now)) unlabelled _ _ _)) if3'.if3.false c-any))) (closing (unfinished'.unfinished.ensures.0 (walk_rule s'.args.allowed (tokens_of s'.args.tokens.now)) unlabelled)),
+      closes s'.args.allowed (c_no (c_walk (at'.at.ensures.0 (walk_rule s'.args.allowed (tokens_of s'.args.tokens.now)) unlabelled _ _ _)) if1'.if1.false (c_no (c_act (silent-at'.silent_at.ensures.0 unlabelled _ _ _)) if2'.if2.false (c_no (c_walk (forbidden-property'.forbidden_property.ensures.0 (walk_rule s'.args.allowed (tokens_of s'.args.tokens.now)) unlabelled _ _ _)) if3'.if3.false c_any))) (closing (unfinished'.unfinished.ensures.0 (walk_rule s'.args.allowed (tokens_of s'.args.tokens.now)) unlabelled)),
       omega (arith, at'.at.ensures.1.0, silent-at'.silent_at.ensures.1.0, forbidden-property'.forbidden_property.ensures.1, unfinished'.unfinished.ensures.1),
     )

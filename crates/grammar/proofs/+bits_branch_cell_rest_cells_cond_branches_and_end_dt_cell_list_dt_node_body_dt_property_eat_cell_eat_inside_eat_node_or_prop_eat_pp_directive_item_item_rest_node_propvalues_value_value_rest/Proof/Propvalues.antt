@@ -10,10 +10,10 @@ use Rattle.definitions.specs.Prog.{no, propvalues, loop}
 use Rattle.definitions.specs.Grammar.{propvalues_turn, propvalues_body, grammar}
 use Rattle.machine.specs.Walk.{said, walk_rule, walk_prog, unlabelled}
 use Rattle.parser.specs.View.{tokens_left, parser_view, ans_of}
-use Rattle.machine.proofs.Way.{c-walk, c-act, c-ret, c-yes, c-no, c-fn, rule_closed, rule_body}
+use Rattle.machine.proofs.Way.{c_walk, c_act, c_ret, c_yes, c_no, c_fn, rule_closed, rule_body}
 use Rattle.steps.proofs.Left.{ahead_falls}
-use Rattle.steps.proofs.Steps.{c-said-no, c-said-also}
-use Rattle.grammar.proofs.Ways.{again-prog, last-yes, last-no, as_yes, c_said_other, other_no, c_answered}
+use Rattle.steps.proofs.Steps.{c_said_no, c_said_also}
+use Rattle.grammar.proofs.Ways.{again_prog, last_yes, last_no, as_yes, c_said_other, other_no, c_answered}
 use Rattle.grammar.proofs.propvalues.Reads as reads
 use Rattle.grammar.proofs.+bits_branch_cell_rest_cells_cond_branches_and_end_dt_cell_list_dt_node_body_dt_property_eat_cell_eat_inside_eat_node_or_prop_eat_pp_directive_item_item_rest_node_propvalues_value_value_rest.Lts-propvalues as lts
 use Rattle.grammar.proofs.+bits_branch_cell_rest_cells_cond_branches_and_end_dt_cell_list_dt_node_body_dt_property_eat_cell_eat_inside_eat_node_or_prop_eat_pp_directive_item_item_rest_node_propvalues_value_value_rest.Proof.Measures.{propvalues_at, propvalues_claims}
@@ -70,7 +70,7 @@ returns-2 t c =
     let loop' = at-end'.before in
     let if1' = loop'.before in
     let s' = if1'.before.before.before.before.before in (
-      as_yes if2'.if2.taken (last-yes (s'.args.allowed - 1) (c-yes (c-act (at-end'.at_end.ensures.0 unlabelled _ _ _)) if2'.if2.taken c-ret)) ∙ loop'.loop.inv.1.1.1.1 ∙ rule_body s'.args.allowed (tokens_of s'.args.tokens.now) (propvalues s'.args.semicolon) _ (omega (arith, eqb-false s'.args.allowed 0 if1'.if1.left)),
+      as_yes if2'.if2.taken (last_yes (s'.args.allowed - 1) (c_yes (c_act (at-end'.at_end.ensures.0 unlabelled _ _ _)) if2'.if2.taken c_ret)) ∙ loop'.loop.inv.1.1.1.1 ∙ rule_body s'.args.allowed (tokens_of s'.args.tokens.now) (propvalues s'.args.semicolon) _ (omega (arith, eqb-false s'.args.allowed 0 if1'.if1.left)),
       omega (arith, loop'.loop.inv.0, at-end'.at_end.ensures.1.0, at-end'.at_end.ensures.1.1.1 if2'.if2.taken, eqb-false s'.args.allowed 0 if1'.if1.left),
     )
 
@@ -122,7 +122,7 @@ returns-3 t c =
     let loop' = at-end'.before in
     let if1' = loop'.before in
     let s' = if1'.before.before.before.before.before in (
-      last-no (s'.args.allowed - 1) (c-no (c-act (at-end'.at_end.ensures.0 unlabelled _ _ _)) if2'.if2.false (c-said-no value'.value.result.ans (c-fn (s'.args.allowed - 1) value'.value.ensures.0) (ap ans_of enum-told'.enum_told.given.1) c-ret)) ∙ loop'.loop.invariant.1.1.1.1 ∙ rule_body s'.args.allowed (tokens_of s'.args.tokens.now) (propvalues s'.args.semicolon) _ (omega (arith, eqb-false s'.args.allowed 0 if1'.if1.false)),
+      last_no (s'.args.allowed - 1) (c_no (c_act (at-end'.at_end.ensures.0 unlabelled _ _ _)) if2'.if2.false (c_said_no value'.value.result.ans (c_fn (s'.args.allowed - 1) value'.value.ensures.0) (ap ans_of enum-told'.enum_told.given.1) c_ret)) ∙ loop'.loop.invariant.1.1.1.1 ∙ rule_body s'.args.allowed (tokens_of s'.args.tokens.now) (propvalues s'.args.semicolon) _ (omega (arith, eqb-false s'.args.allowed 0 if1'.if1.false)),
       omega (arith, loop'.loop.invariant.0, at-end'.at_end.ensures.1.0, at-end'.at_end.ensures.1.1.0 if2'.if2.false, value'.value.ensures.1, eqb-false s'.args.allowed 0 if1'.if1.false),
     )
 
@@ -159,7 +159,7 @@ returns-4 t c =
     let loop' = at-end'.before in
     let if1' = loop'.before in
     let s' = if1'.before.before.before.before.before in (
-      last-yes (s'.args.allowed - 1) (c-no (c-act (at-end'.at_end.ensures.0 unlabelled _ _ _)) if2'.if2.false (c-said-also value'.value.result.ans (c-fn (s'.args.allowed - 1) value'.value.ensures.0) (ap ans_of enum-told2'.enum-told2.given.1) c-ret)) ∙ loop'.loop.invariant.1.1.1.1 ∙ rule_body s'.args.allowed (tokens_of s'.args.tokens.now) (propvalues s'.args.semicolon) _ (omega (arith, eqb-false s'.args.allowed 0 if1'.if1.false)),
+      last_yes (s'.args.allowed - 1) (c_no (c_act (at-end'.at_end.ensures.0 unlabelled _ _ _)) if2'.if2.false (c_said_also value'.value.result.ans (c_fn (s'.args.allowed - 1) value'.value.ensures.0) (ap ans_of enum-told2'.enum-told2.given.1) c_ret)) ∙ loop'.loop.invariant.1.1.1.1 ∙ rule_body s'.args.allowed (tokens_of s'.args.tokens.now) (propvalues s'.args.semicolon) _ (omega (arith, eqb-false s'.args.allowed 0 if1'.if1.false)),
       omega (arith, loop'.loop.invariant.0, at-end'.at_end.ensures.1.0, at-end'.at_end.ensures.1.1.0 if2'.if2.false, value'.value.ensures.1, eqb-false s'.args.allowed 0 if1'.if1.false),
     )
 
@@ -201,7 +201,7 @@ loop-again t c =
           omega (arith, value'.value.auto, after-propvalue'.after_propvalue.auto, loop'.loop.invariant.1),
           (
             omega (arith, value'.value.auto, after-propvalue'.after_propvalue.auto, loop'.loop.invariant.1),
-            again-prog (s'.args.allowed - 1) (c-no (c-act (at-end'.at_end.ensures.0 unlabelled _ _ _)) if2'.if2.false (c_said_other value'.value.result.ans (c-fn (s'.args.allowed - 1) value'.value.ensures.0) match0'.match.keys3 (c_answered (ap ans_of enum-told3'.enum-told3.given.1) (c-walk (after-propvalue'.after_propvalue.ensures.0 (walk_rule (s'.args.allowed - 1) (tokens_of s'.args.tokens.now)) unlabelled))))) (ahead_falls s'.args.tokens.now loop'.loop.q.s after-propvalue'.after_propvalue.result.p.s (omega (arith, loop'.loop.invariant.0, at-end'.at_end.ensures.1.0, at-end'.at_end.ensures.1.1.0 if2'.if2.false, value'.value.ensures.1, after-propvalue'.after_propvalue.ensures.1.0, eqb-false s'.args.allowed 0 if1'.if1.false))) ∙ loop'.loop.invariant.1.1.1.1,
+            again_prog (s'.args.allowed - 1) (c_no (c_act (at-end'.at_end.ensures.0 unlabelled _ _ _)) if2'.if2.false (c_said_other value'.value.result.ans (c_fn (s'.args.allowed - 1) value'.value.ensures.0) match0'.match.keys3 (c_answered (ap ans_of enum-told3'.enum-told3.given.1) (c_walk (after-propvalue'.after_propvalue.ensures.0 (walk_rule (s'.args.allowed - 1) (tokens_of s'.args.tokens.now)) unlabelled))))) (ahead_falls s'.args.tokens.now loop'.loop.q.s after-propvalue'.after_propvalue.result.p.s (omega (arith, loop'.loop.invariant.0, at-end'.at_end.ensures.1.0, at-end'.at_end.ensures.1.1.0 if2'.if2.false, value'.value.ensures.1, after-propvalue'.after_propvalue.ensures.1.0, eqb-false s'.args.allowed 0 if1'.if1.false))) ∙ loop'.loop.invariant.1.1.1.1,
           ),
         ),
       ),
@@ -245,7 +245,7 @@ returns-5 t c =
     let loop' = at-end'.before in
     let if1' = loop'.before in
     let s' = if1'.before.before.before.before.before in (
-      last-yes (s'.args.allowed - 1) (c-no (c-act (at-end'.at_end.ensures.0 unlabelled _ _ _)) if2'.if2.false (c_said_other value'.value.result.ans (c-fn (s'.args.allowed - 1) value'.value.ensures.0) match0'.match.keys3 (c_answered (ap ans_of enum-told4'.enum-told4.given.1) (c-walk (after-propvalue'.after_propvalue.ensures.0 (walk_rule (s'.args.allowed - 1) (tokens_of s'.args.tokens.now)) unlabelled))))) ∙ loop'.loop.invariant.1.1.1.1 ∙ rule_body s'.args.allowed (tokens_of s'.args.tokens.now) (propvalues s'.args.semicolon) _ (omega (arith, eqb-false s'.args.allowed 0 if1'.if1.false)),
+      last_yes (s'.args.allowed - 1) (c_no (c_act (at-end'.at_end.ensures.0 unlabelled _ _ _)) if2'.if2.false (c_said_other value'.value.result.ans (c_fn (s'.args.allowed - 1) value'.value.ensures.0) match0'.match.keys3 (c_answered (ap ans_of enum-told4'.enum-told4.given.1) (c_walk (after-propvalue'.after_propvalue.ensures.0 (walk_rule (s'.args.allowed - 1) (tokens_of s'.args.tokens.now)) unlabelled))))) ∙ loop'.loop.invariant.1.1.1.1 ∙ rule_body s'.args.allowed (tokens_of s'.args.tokens.now) (propvalues s'.args.semicolon) _ (omega (arith, eqb-false s'.args.allowed 0 if1'.if1.false)),
       omega (arith, loop'.loop.invariant.0, at-end'.at_end.ensures.1.0, at-end'.at_end.ensures.1.1.0 if2'.if2.false, value'.value.ensures.1, after-propvalue'.after_propvalue.ensures.1.0, eqb-false s'.args.allowed 0 if1'.if1.false),
     )
 
@@ -282,6 +282,6 @@ returns-6 t c =
     let loop' = at-end'.before in
     let if1' = loop'.before in
     let s' = if1'.before.before.before.before.before in (
-      last-no (s'.args.allowed - 1) (c-no (c-act (at-end'.at_end.ensures.0 unlabelled _ _ _)) if2'.if2.false (c_said_other value'.value.result.ans (c-fn (s'.args.allowed - 1) value'.value.ensures.0) match0'.match.keys3 (c_answered (other_no after-propvalue'.after_propvalue.result.ans after-propvalue'.after_propvalue.ensures.1.1 match2'.match2.keys3) (c-walk (after-propvalue'.after_propvalue.ensures.0 (walk_rule (s'.args.allowed - 1) (tokens_of s'.args.tokens.now)) unlabelled))))) ∙ loop'.loop.invariant.1.1.1.1 ∙ rule_body s'.args.allowed (tokens_of s'.args.tokens.now) (propvalues s'.args.semicolon) _ (omega (arith, eqb-false s'.args.allowed 0 if1'.if1.false)),
+      last_no (s'.args.allowed - 1) (c_no (c_act (at-end'.at_end.ensures.0 unlabelled _ _ _)) if2'.if2.false (c_said_other value'.value.result.ans (c_fn (s'.args.allowed - 1) value'.value.ensures.0) match0'.match.keys3 (c_answered (other_no after-propvalue'.after_propvalue.result.ans after-propvalue'.after_propvalue.ensures.1.1 match2'.match2.keys3) (c_walk (after-propvalue'.after_propvalue.ensures.0 (walk_rule (s'.args.allowed - 1) (tokens_of s'.args.tokens.now)) unlabelled))))) ∙ loop'.loop.invariant.1.1.1.1 ∙ rule_body s'.args.allowed (tokens_of s'.args.tokens.now) (propvalues s'.args.semicolon) _ (omega (arith, eqb-false s'.args.allowed 0 if1'.if1.false)),
       omega (arith, loop'.loop.invariant.0, at-end'.at_end.ensures.1.0, at-end'.at_end.ensures.1.1.0 if2'.if2.false, value'.value.ensures.1, after-propvalue'.after_propvalue.ensures.1.0, eqb-false s'.args.allowed 0 if1'.if1.false),
     )

@@ -6,9 +6,9 @@ use Rattle.definitions.specs.Token.{tokens_of}
 use Rattle.definitions.specs.Check.{silent}
 use Rattle.definitions.specs.Grammar.{propvalue}
 use Rattle.machine.specs.Walk.{walk_rule, unlabelled}
-use Rattle.machine.proofs.Way.{c-walk, c-act, c-ret, c-seq, c-yes, c-no, c-mark, c-fn, way}
+use Rattle.machine.proofs.Way.{c_walk, c_act, c_ret, c_seq, c_yes, c_no, c_mark, c_fn, way}
 use Rattle.steps.proofs.Steps.{closing, answered_is, answered_yes}
-use Rattle.grammar.proofs.Ways.{c-same, answered_left}
+use Rattle.grammar.proofs.Ways.{c_same, answered_left}
 use Rattle.grammar.proofs.value.Reads as reads
 use Rattle.grammar.proofs.+bits_branch_cell_rest_cells_cond_branches_and_end_dt_cell_list_dt_node_body_dt_property_eat_cell_eat_inside_eat_node_or_prop_eat_pp_directive_item_item_rest_node_propvalues_value_value_rest.Lts-value as lts
 use Rattle.grammar.proofs.+bits_branch_cell_rest_cells_cond_branches_and_end_dt_cell_list_dt_node_body_dt_property_eat_cell_eat_inside_eat_node_or_prop_eat_pp_directive_item_item_rest_node_propvalues_value_value_rest.Proof.Measures.{value_at, value_claims}
@@ -54,7 +54,7 @@ returns t c =
     let silent-at' = if1'.before in
     let add-expected' = silent-at'.before in
     let s' = add-expected'.before.before.before.before.before in (
-      answered_is answered'.answered.result bits'.bits.result _ _ _ answered'.answered.ensures.0 answered'.answered.ensures.1 ∙ way s'.args.allowed (c-seq (c-act (add-expected'.add_expected.ensures.0 (tokens_of s'.args.tokens.now) unlabelled _ _ _)) (c-yes (c-act (silent-at'.silent_at.ensures.0 unlabelled _ _ _)) if1'.if1.taken (c-fn s'.args.allowed bits'.bits.ensures.0))),
+      answered_is answered'.answered.result bits'.bits.result _ _ _ answered'.answered.ensures.0 answered'.answered.ensures.1 ∙ way s'.args.allowed (c_seq (c_act (add-expected'.add_expected.ensures.0 (tokens_of s'.args.tokens.now) unlabelled _ _ _)) (c_yes (c_act (silent-at'.silent_at.ensures.0 unlabelled _ _ _)) if1'.if1.taken (c_fn s'.args.allowed bits'.bits.ensures.0))),
       omega (arith, add-expected'.add_expected.ensures.1 s'.args.tokens.now, silent-at'.silent_at.ensures.1.0, silent-at'.silent_at.ensures.1.1 if1'.if1.taken, bits'.bits.ensures.1, answered_left s'.args.tokens.now answered'.answered.result bits'.bits.result answered'.answered.ensures.0),
     )
 
@@ -79,7 +79,7 @@ returns-2 t c =
     let silent-at' = if1'.before in
     let add-expected' = silent-at'.before in
     let s' = add-expected'.before.before.before.before.before in (
-      answered_yes answered2'.answered2.result silent-eat'.silent_eat.result _ _ _ answered2'.answered2.ensures.0 answered2'.answered2.ensures.1 if2'.if2.taken ∙ way s'.args.allowed (c-seq (c-act (add-expected'.add_expected.ensures.0 (tokens_of s'.args.tokens.now) unlabelled _ _ _)) (c-no (c-act (silent-at'.silent_at.ensures.0 unlabelled _ _ _)) if1'.if1.left (c-yes (c-walk (silent-eat'.silent_eat.ensures.0 (walk_rule s'.args.allowed (tokens_of s'.args.tokens.now)) unlabelled _ _)) if2'.if2.taken c-ret))),
+      answered_yes answered2'.answered2.result silent-eat'.silent_eat.result _ _ _ answered2'.answered2.ensures.0 answered2'.answered2.ensures.1 if2'.if2.taken ∙ way s'.args.allowed (c_seq (c_act (add-expected'.add_expected.ensures.0 (tokens_of s'.args.tokens.now) unlabelled _ _ _)) (c_no (c_act (silent-at'.silent_at.ensures.0 unlabelled _ _ _)) if1'.if1.left (c_yes (c_walk (silent-eat'.silent_eat.ensures.0 (walk_rule s'.args.allowed (tokens_of s'.args.tokens.now)) unlabelled _ _)) if2'.if2.taken c_ret))),
       omega (arith, add-expected'.add_expected.ensures.1 s'.args.tokens.now, silent-at'.silent_at.ensures.1.0, silent-eat'.silent_eat.ensures.1.0, silent-eat'.silent_eat.ensures.1.1 if2'.if2.taken, answered_left s'.args.tokens.now answered2'.answered2.result silent-eat'.silent_eat.result answered2'.answered2.ensures.0),
     )
 
@@ -142,7 +142,7 @@ returns-3 t c =
     let silent-at' = if1'.before in
     let add-expected' = silent-at'.before in
     let s' = add-expected'.before.before.before.before.before in (
-      answered_is answered3'.answered3.result dt-cell-list'.dt_cell_list.result _ _ _ answered3'.answered3.ensures.0 answered3'.answered3.ensures.1 ∙ way s'.args.allowed (c-seq (c-act (add-expected'.add_expected.ensures.0 (tokens_of s'.args.tokens.now) unlabelled _ _ _)) (c-no (c-act (silent-at'.silent_at.ensures.0 unlabelled _ _ _)) if1'.if1.left (c-no (c-walk (silent-eat'.silent_eat.ensures.0 (walk_rule s'.args.allowed (tokens_of s'.args.tokens.now)) unlabelled _ _)) if2'.if2.left (c-yes (c-act (silent-at2'.silent-at2.ensures.0 unlabelled _ _ _)) if3'.if3.taken (c-mark new'.new.ensures (start'.start.ensures.0 _ _) (c-same s'.args.allowed) (closing dt-cell-list'.dt_cell_list.ensures.0)))))),
+      answered_is answered3'.answered3.result dt-cell-list'.dt_cell_list.result _ _ _ answered3'.answered3.ensures.0 answered3'.answered3.ensures.1 ∙ way s'.args.allowed (c_seq (c_act (add-expected'.add_expected.ensures.0 (tokens_of s'.args.tokens.now) unlabelled _ _ _)) (c_no (c_act (silent-at'.silent_at.ensures.0 unlabelled _ _ _)) if1'.if1.left (c_no (c_walk (silent-eat'.silent_eat.ensures.0 (walk_rule s'.args.allowed (tokens_of s'.args.tokens.now)) unlabelled _ _)) if2'.if2.left (c_yes (c_act (silent-at2'.silent-at2.ensures.0 unlabelled _ _ _)) if3'.if3.taken (c_mark new'.new.ensures (start'.start.ensures.0 _ _) (c_same s'.args.allowed) (closing dt-cell-list'.dt_cell_list.ensures.0)))))),
       omega (arith, add-expected'.add_expected.ensures.1 s'.args.tokens.now, silent-at'.silent_at.ensures.1.0, silent-eat'.silent_eat.ensures.1.0, silent-at2'.silent-at2.ensures.1.0, silent-at2'.silent-at2.ensures.1.1 if3'.if3.taken, start'.start.ensures.1 s'.args.tokens.now, dt-cell-list'.dt_cell_list.ensures.1, answered_left s'.args.tokens.now answered3'.answered3.result dt-cell-list'.dt_cell_list.result answered3'.answered3.ensures.0),
     )
 
@@ -185,6 +185,6 @@ returns-4 t c =
     let silent-at' = if1'.before in
     let add-expected' = silent-at'.before in
     let s' = add-expected'.before.before.before.before.before in (
-      way s'.args.allowed (c-seq (c-act (add-expected'.add_expected.ensures.0 (tokens_of s'.args.tokens.now) unlabelled _ _ _)) (c-no (c-act (silent-at'.silent_at.ensures.0 unlabelled _ _ _)) if1'.if1.false (c-no (c-walk (silent-eat'.silent_eat.ensures.0 (walk_rule s'.args.allowed (tokens_of s'.args.tokens.now)) unlabelled _ _)) if2'.if2.false (c-no (c-act (silent-at2'.silent-at2.ensures.0 unlabelled _ _ _)) if3'.if3.false (c-fn s'.args.allowed value-rest'.value_rest.ensures.0))))),
+      way s'.args.allowed (c_seq (c_act (add-expected'.add_expected.ensures.0 (tokens_of s'.args.tokens.now) unlabelled _ _ _)) (c_no (c_act (silent-at'.silent_at.ensures.0 unlabelled _ _ _)) if1'.if1.false (c_no (c_walk (silent-eat'.silent_eat.ensures.0 (walk_rule s'.args.allowed (tokens_of s'.args.tokens.now)) unlabelled _ _)) if2'.if2.false (c_no (c_act (silent-at2'.silent-at2.ensures.0 unlabelled _ _ _)) if3'.if3.false (c_fn s'.args.allowed value-rest'.value_rest.ensures.0))))),
       omega (arith, add-expected'.add_expected.ensures.1 s'.args.tokens.now, silent-at'.silent_at.ensures.1.0, silent-eat'.silent_eat.ensures.1.0, silent-at2'.silent-at2.ensures.1.0, value-rest'.value_rest.ensures.1),
     )

@@ -6,7 +6,7 @@ use native.Mathlib.Omega.{arith}
 use Rattle.definitions.specs.Token.{tokens_of}
 use Rattle.definitions.specs.Check.{silent}
 use Rattle.machine.specs.Walk.{walk_rule, unlabelled}
-use Rattle.machine.proofs.Way.{c-walk, c-act, c-ret, c-seq, c-yes, c-no, c-fn, way}
+use Rattle.machine.proofs.Way.{c_walk, c_act, c_ret, c_seq, c_yes, c_no, c_fn, way}
 use Rattle.steps.proofs.Steps.{answered_yes}
 use Rattle.grammar.proofs.Ways.{answered_left}
 use Rattle.grammar.proofs.value_rest.Reads as reads
@@ -41,7 +41,7 @@ returns t c =
     let if1' = answered'.before in
     let silent-eat-reference' = if1'.before.before.before.before.before.before.before in
     let s' = silent-eat-reference'.before.before.before.before.before.before.before.before in (
-      answered_yes answered'.answered.result silent-eat-reference'.silent-eat-reference.result _ _ _ answered'.answered.ensures.0 answered'.answered.ensures.1 if1'.if1.taken ∙ way s'.args.allowed (c-yes (c-walk (silent-eat-reference'.silent-eat-reference.ensures.0 (walk_rule s'.args.allowed (tokens_of s'.args.tokens.now)) unlabelled)) if1'.if1.taken c-ret),
+      answered_yes answered'.answered.result silent-eat-reference'.silent-eat-reference.result _ _ _ answered'.answered.ensures.0 answered'.answered.ensures.1 if1'.if1.taken ∙ way s'.args.allowed (c_yes (c_walk (silent-eat-reference'.silent-eat-reference.ensures.0 (walk_rule s'.args.allowed (tokens_of s'.args.tokens.now)) unlabelled)) if1'.if1.taken c_ret),
       omega (arith, silent-eat-reference'.silent-eat-reference.ensures.1.0, silent-eat-reference'.silent-eat-reference.ensures.1.1 if1'.if1.taken, answered_left s'.args.tokens.now answered'.answered.result silent-eat-reference'.silent-eat-reference.result answered'.answered.ensures.0),
     )
 
@@ -78,7 +78,7 @@ returns-2 t c =
     let if1' = silent-at'.before in
     let silent-eat-reference' = if1'.before.before.before.before.before.before.before in
     let s' = silent-eat-reference'.before.before.before.before.before.before.before.before in (
-      way s'.args.allowed (c-no (c-walk (silent-eat-reference'.silent-eat-reference.ensures.0 (walk_rule s'.args.allowed (tokens_of s'.args.tokens.now)) unlabelled)) if1'.if1.false (c-yes (c-act (silent-at'.silent_at.ensures.0 unlabelled _ _ _)) if2'.if2.true (c-seq (c-walk (macro-invocation'.macro_invocation.ensures.0 (walk_rule s'.args.allowed (tokens_of s'.args.tokens.now)) unlabelled)) c-ret))),
+      way s'.args.allowed (c_no (c_walk (silent-eat-reference'.silent-eat-reference.ensures.0 (walk_rule s'.args.allowed (tokens_of s'.args.tokens.now)) unlabelled)) if1'.if1.false (c_yes (c_act (silent-at'.silent_at.ensures.0 unlabelled _ _ _)) if2'.if2.true (c_seq (c_walk (macro-invocation'.macro_invocation.ensures.0 (walk_rule s'.args.allowed (tokens_of s'.args.tokens.now)) unlabelled)) c_ret))),
       omega (arith, silent-eat-reference'.silent-eat-reference.ensures.1.0, silent-at'.silent_at.ensures.1.0, silent-at'.silent_at.ensures.1.1 if2'.if2.true, macro-invocation'.macro_invocation.ensures.1),
     )
 
@@ -117,7 +117,7 @@ returns-3 t c =
     let if1' = silent-at'.before in
     let silent-eat-reference' = if1'.before.before.before.before.before.before.before in
     let s' = silent-eat-reference'.before.before.before.before.before.before.before.before in (
-      answered_yes answered2'.answered2.result silent-eat'.silent_eat.result _ _ _ answered2'.answered2.ensures.0 answered2'.answered2.ensures.1 if3'.if3.taken ∙ way s'.args.allowed (c-no (c-walk (silent-eat-reference'.silent-eat-reference.ensures.0 (walk_rule s'.args.allowed (tokens_of s'.args.tokens.now)) unlabelled)) if1'.if1.left (c-no (c-act (silent-at'.silent_at.ensures.0 unlabelled _ _ _)) if2'.if2.left (c-yes {t = true} (c-yes (c-walk (silent-eat'.silent_eat.ensures.0 (walk_rule s'.args.allowed (tokens_of s'.args.tokens.now)) unlabelled _ _)) if3'.if3.taken c-ret) refl c-ret))),
+      answered_yes answered2'.answered2.result silent-eat'.silent_eat.result _ _ _ answered2'.answered2.ensures.0 answered2'.answered2.ensures.1 if3'.if3.taken ∙ way s'.args.allowed (c_no (c_walk (silent-eat-reference'.silent-eat-reference.ensures.0 (walk_rule s'.args.allowed (tokens_of s'.args.tokens.now)) unlabelled)) if1'.if1.left (c_no (c_act (silent-at'.silent_at.ensures.0 unlabelled _ _ _)) if2'.if2.left (c_yes {t = true} (c_yes (c_walk (silent-eat'.silent_eat.ensures.0 (walk_rule s'.args.allowed (tokens_of s'.args.tokens.now)) unlabelled _ _)) if3'.if3.taken c_ret) refl c_ret))),
       omega (arith, silent-eat-reference'.silent-eat-reference.ensures.1.0, silent-at'.silent_at.ensures.1.0, silent-eat'.silent_eat.ensures.1.0, silent-eat'.silent_eat.ensures.1.1 if3'.if3.taken, answered_left s'.args.tokens.now answered2'.answered2.result silent-eat'.silent_eat.result answered2'.answered2.ensures.0),
     )
 
@@ -161,7 +161,7 @@ returns-4 t c =
     let if1' = silent-at'.before in
     let silent-eat-reference' = if1'.before.before.before.before.before.before.before in
     let s' = silent-eat-reference'.before.before.before.before.before.before.before.before in (
-      answered_yes answered3'.answered3.result eat-dts-include'.eat_dts_include.result _ _ _ answered3'.answered3.ensures.0 answered3'.answered3.ensures.1 if4'.if4.taken ∙ way s'.args.allowed (c-no (c-walk (silent-eat-reference'.silent-eat-reference.ensures.0 (walk_rule s'.args.allowed (tokens_of s'.args.tokens.now)) unlabelled)) if1'.if1.left (c-no (c-act (silent-at'.silent_at.ensures.0 unlabelled _ _ _)) if2'.if2.left (c-yes {t = true} (c-no (c-walk (silent-eat'.silent_eat.ensures.0 (walk_rule s'.args.allowed (tokens_of s'.args.tokens.now)) unlabelled _ _)) if3'.if3.left (c-yes (c-walk (eat-dts-include'.eat_dts_include.ensures.0 (walk_rule s'.args.allowed (tokens_of s'.args.tokens.now)) unlabelled)) if4'.if4.taken c-ret)) refl c-ret))),
+      answered_yes answered3'.answered3.result eat-dts-include'.eat_dts_include.result _ _ _ answered3'.answered3.ensures.0 answered3'.answered3.ensures.1 if4'.if4.taken ∙ way s'.args.allowed (c_no (c_walk (silent-eat-reference'.silent-eat-reference.ensures.0 (walk_rule s'.args.allowed (tokens_of s'.args.tokens.now)) unlabelled)) if1'.if1.left (c_no (c_act (silent-at'.silent_at.ensures.0 unlabelled _ _ _)) if2'.if2.left (c_yes {t = true} (c_no (c_walk (silent-eat'.silent_eat.ensures.0 (walk_rule s'.args.allowed (tokens_of s'.args.tokens.now)) unlabelled _ _)) if3'.if3.left (c_yes (c_walk (eat-dts-include'.eat_dts_include.ensures.0 (walk_rule s'.args.allowed (tokens_of s'.args.tokens.now)) unlabelled)) if4'.if4.taken c_ret)) refl c_ret))),
       omega (arith, silent-eat-reference'.silent-eat-reference.ensures.1.0, silent-at'.silent_at.ensures.1.0, silent-eat'.silent_eat.ensures.1.0, eat-dts-include'.eat_dts_include.ensures.1.0, eat-dts-include'.eat_dts_include.ensures.1.1 if4'.if4.taken, answered_left s'.args.tokens.now answered3'.answered3.result eat-dts-include'.eat_dts_include.result answered3'.answered3.ensures.0),
     )
 
@@ -216,7 +216,7 @@ returns-5 t c =
     let if1' = silent-at'.before in
     let silent-eat-reference' = if1'.before.before.before.before.before.before.before in
     let s' = silent-eat-reference'.before.before.before.before.before.before.before.before in (
-      answered_yes answered4'.answered4.result eat-pp-directive'.eat_pp_directive.result _ _ _ answered4'.answered4.ensures.0 answered4'.answered4.ensures.1 if5'.if5.taken ∙ way s'.args.allowed (c-no (c-walk (silent-eat-reference'.silent-eat-reference.ensures.0 (walk_rule s'.args.allowed (tokens_of s'.args.tokens.now)) unlabelled)) if1'.if1.left (c-no (c-act (silent-at'.silent_at.ensures.0 unlabelled _ _ _)) if2'.if2.left (c-yes (c-no (c-walk (silent-eat'.silent_eat.ensures.0 (walk_rule s'.args.allowed (tokens_of s'.args.tokens.now)) unlabelled _ _)) if3'.if3.left (c-no (c-walk (eat-dts-include'.eat_dts_include.ensures.0 (walk_rule s'.args.allowed (tokens_of s'.args.tokens.now)) unlabelled)) if4'.if4.left (c-fn s'.args.allowed eat-pp-directive'.eat_pp_directive.ensures.0))) if5'.if5.taken c-ret))),
+      answered_yes answered4'.answered4.result eat-pp-directive'.eat_pp_directive.result _ _ _ answered4'.answered4.ensures.0 answered4'.answered4.ensures.1 if5'.if5.taken ∙ way s'.args.allowed (c_no (c_walk (silent-eat-reference'.silent-eat-reference.ensures.0 (walk_rule s'.args.allowed (tokens_of s'.args.tokens.now)) unlabelled)) if1'.if1.left (c_no (c_act (silent-at'.silent_at.ensures.0 unlabelled _ _ _)) if2'.if2.left (c_yes (c_no (c_walk (silent-eat'.silent_eat.ensures.0 (walk_rule s'.args.allowed (tokens_of s'.args.tokens.now)) unlabelled _ _)) if3'.if3.left (c_no (c_walk (eat-dts-include'.eat_dts_include.ensures.0 (walk_rule s'.args.allowed (tokens_of s'.args.tokens.now)) unlabelled)) if4'.if4.left (c_fn s'.args.allowed eat-pp-directive'.eat_pp_directive.ensures.0))) if5'.if5.taken c_ret))),
       omega (arith, silent-eat-reference'.silent-eat-reference.ensures.1.0, silent-at'.silent_at.ensures.1.0, silent-eat'.silent_eat.ensures.1.0, eat-dts-include'.eat_dts_include.ensures.1.0, eat-pp-directive'.eat_pp_directive.ensures.1.0, eat-pp-directive'.eat_pp_directive.ensures.1.1 if5'.if5.taken, answered_left s'.args.tokens.now answered4'.answered4.result eat-pp-directive'.eat_pp_directive.result answered4'.answered4.ensures.0),
     )
 
@@ -265,6 +265,6 @@ returns-6 t c =
     let if1' = silent-at'.before in
     let silent-eat-reference' = if1'.before.before.before.before.before.before.before in
     let s' = silent-eat-reference'.before.before.before.before.before.before.before.before in (
-      way s'.args.allowed (c-no (c-walk (silent-eat-reference'.silent-eat-reference.ensures.0 (walk_rule s'.args.allowed (tokens_of s'.args.tokens.now)) unlabelled)) if1'.if1.false (c-no (c-act (silent-at'.silent_at.ensures.0 unlabelled _ _ _)) if2'.if2.false (c-no (c-no (c-walk (silent-eat'.silent_eat.ensures.0 (walk_rule s'.args.allowed (tokens_of s'.args.tokens.now)) unlabelled _ _)) if3'.if3.false (c-no (c-walk (eat-dts-include'.eat_dts_include.ensures.0 (walk_rule s'.args.allowed (tokens_of s'.args.tokens.now)) unlabelled)) if4'.if4.false (c-fn s'.args.allowed eat-pp-directive'.eat_pp_directive.ensures.0))) if5'.if5.false (c-seq (c-walk (error'.error.ensures.0 (walk_rule s'.args.allowed (tokens_of s'.args.tokens.now)) unlabelled)) c-ret)))),
+      way s'.args.allowed (c_no (c_walk (silent-eat-reference'.silent-eat-reference.ensures.0 (walk_rule s'.args.allowed (tokens_of s'.args.tokens.now)) unlabelled)) if1'.if1.false (c_no (c_act (silent-at'.silent_at.ensures.0 unlabelled _ _ _)) if2'.if2.false (c_no (c_no (c_walk (silent-eat'.silent_eat.ensures.0 (walk_rule s'.args.allowed (tokens_of s'.args.tokens.now)) unlabelled _ _)) if3'.if3.false (c_no (c_walk (eat-dts-include'.eat_dts_include.ensures.0 (walk_rule s'.args.allowed (tokens_of s'.args.tokens.now)) unlabelled)) if4'.if4.false (c_fn s'.args.allowed eat-pp-directive'.eat_pp_directive.ensures.0))) if5'.if5.false (c_seq (c_walk (error'.error.ensures.0 (walk_rule s'.args.allowed (tokens_of s'.args.tokens.now)) unlabelled)) c_ret)))),
       omega (arith, silent-eat-reference'.silent-eat-reference.ensures.1.0, silent-at'.silent_at.ensures.1.0, silent-eat'.silent_eat.ensures.1.0, eat-dts-include'.eat_dts_include.ensures.1.0, eat-pp-directive'.eat_pp_directive.ensures.1.0, error'.error.ensures.1),
     )

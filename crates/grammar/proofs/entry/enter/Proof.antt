@@ -9,11 +9,11 @@ use Rattle.definitions.specs.Prog.{Rule}
 use Rattle.definitions.specs.Grammar.{entry}
 use Rattle.machine.specs.Machine.{Machine}
 use Rattle.machine.specs.Walk.{Walked, walk, walk_rule, unlabelled}
-use Rattle.machine.proofs.Way.{Way, c_call, c-fn}
-use Rattle.steps.proofs.Steps.{c-any}
+use Rattle.machine.proofs.Way.{Way, c_call, c_fn}
+use Rattle.steps.proofs.Steps.{c_any}
 use Rattle.grammar.specs.declared.entry.Entrypoint.{Entrypoint}
 use Rattle.grammar.specs.Subprograms.{entry_for}
-use Rattle.grammar.proofs.Ways.{prog-on}
+use Rattle.grammar.proofs.Ways.{prog_on}
 use Rattle.grammar.proofs.entry.enter.Statement.{statement}
 use Rattle.grammar.proofs.entry.enter.Tie as tie
 
@@ -73,7 +73,7 @@ unfolding entry
 returns c =
     let a = c.before.before.before.before.before.before in
     let d = a.before.before.before.before in
-    (prog-on MOST_OPEN_CALLS (entered d.enum_told.given.1 (c-fn MOST_OPEN_CALLS a.entry_sourcefile.ensures.0)), omega (arith, a.entry_sourcefile.ensures.1))
+    (prog_on MOST_OPEN_CALLS (entered d.enum_told.given.1 (c_fn MOST_OPEN_CALLS a.entry_sourcefile.ensures.0)), omega (arith, a.entry_sourcefile.ensures.1))
 
 same-length-4 : tie.Need-same-length-4
 same-length-4 c =
@@ -96,7 +96,7 @@ returns-2 c =
     let a = c.before.before.before.before.before.before in
     let d = a.before.before.before.before in
     let s = d.before.before.before.before.before.before in
-    (a.reference_noamp.ensures.0 (walk_rule MOST_OPEN_CALLS (tokens_of s.args.tokens.now)) unlabelled ∙ prog-on MOST_OPEN_CALLS (entered d.enum-told2.given.1 c-any), omega (arith, a.reference_noamp.ensures.1))
+    (a.reference_noamp.ensures.0 (walk_rule MOST_OPEN_CALLS (tokens_of s.args.tokens.now)) unlabelled ∙ prog_on MOST_OPEN_CALLS (entered d.enum-told2.given.1 c_any), omega (arith, a.reference_noamp.ensures.1))
 
 same-length-7 : tie.Need-same-length-7
 same-length-7 c =
@@ -118,7 +118,7 @@ unfolding entry
 returns-3 c =
     let a = c.before.before.before.before.before.before.before in
     let d = a.before.before.before.before in
-    (prog-on MOST_OPEN_CALLS (entered d.enum-told3.given.1 (c_call MOST_OPEN_CALLS a.propvalues.ensures.0)), omega (arith, a.propvalues.ensures.1))
+    (prog_on MOST_OPEN_CALLS (entered d.enum-told3.given.1 (c_call MOST_OPEN_CALLS a.propvalues.ensures.0)), omega (arith, a.propvalues.ensures.1))
 
 same-length-10 : tie.Need-same-length-10
 same-length-10 c =
@@ -140,7 +140,7 @@ unfolding entry
 returns-4 c =
     let a = c.before.before.before.before.before.before.before in
     let d = a.before.before.before.before in
-    (prog-on MOST_OPEN_CALLS (entered d.enum-told4.given.1 (c-fn MOST_OPEN_CALLS a.cells.ensures.0)), omega (arith, a.cells.ensures.1))
+    (prog_on MOST_OPEN_CALLS (entered d.enum-told4.given.1 (c_fn MOST_OPEN_CALLS a.cells.ensures.0)), omega (arith, a.cells.ensures.1))
 
 pub enter_spec : {M : Type 1} → statement M
 enter_spec = tie.close (tie.spec enum_told entry-sourcefile-requires enum-told-2 reference-noamp-requires enum-told-3 propvalues-requires enum-told-4 cells-requires same_length same-length-2 same-length-3 returns same-length-4 same-length-5 same-length-6 returns-2 same-length-7 same-length-8 same-length-9 returns-3 same-length-10 same-length-11 same-length-12 returns-4)

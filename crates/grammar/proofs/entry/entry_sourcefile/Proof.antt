@@ -9,10 +9,10 @@ use Rattle.definitions.specs.Layout.{MOST_OPEN_CALLS}
 use Rattle.definitions.specs.Token.{tokens_of}
 use Rattle.definitions.specs.Grammar.{sourcefile_turn, entry_sourcefile}
 use Rattle.machine.specs.Walk.{walk_prog, unlabelled}
-use Rattle.machine.proofs.Way.{c-act, c-ret, c-yes, c-no}
+use Rattle.machine.proofs.Way.{c_act, c_ret, c_yes, c_no}
 use Rattle.parser.specs.View.{tokens_left, parser_view}
 use Rattle.steps.proofs.Left.{ahead_falls}
-use Rattle.grammar.proofs.Ways.{c-prog-on, again-prog, last-yes}
+use Rattle.grammar.proofs.Ways.{c_prog_on, again_prog, last_yes}
 use Rattle.grammar.proofs.entry.entry_sourcefile.Statement.{statement}
 use Rattle.grammar.proofs.entry.entry_sourcefile.Tie as tie
 
@@ -49,7 +49,7 @@ returns c =
     let a = c.before in
     let d = a.before in
     let e = d.before in
-    (last-yes MOST_OPEN_CALLS (c-no {t = false} (c-yes (c-act (d.at_end.ensures.0 unlabelled _ _ _)) a.if1.true c-ret) refl c-ret) ∙ e.loop.invariant.0, omega (arith, e.loop.invariant.1.0, d.at_end.ensures.1.0))
+    (last_yes MOST_OPEN_CALLS (c_no {t = false} (c_yes (c_act (d.at_end.ensures.0 unlabelled _ _ _)) a.if1.true c_ret) refl c_ret) ∙ e.loop.invariant.0, omega (arith, e.loop.invariant.1.0, d.at_end.ensures.1.0))
 
 sourcefile-part-requires : tie.Need-sourcefile-part-requires invariant-loop decreases-loop
 sourcefile-part-requires c κs = tt
@@ -70,7 +70,7 @@ loop-again c =
     let e = d.before in
     let f = e.before in
     let s = f.before.before.before.before.before in
-    (again-prog MOST_OPEN_CALLS (c-yes {t = true} (c-no (c-act (e.at_end.ensures.0 unlabelled _ _ _)) d.if1.false c-ret) refl (c-prog-on MOST_OPEN_CALLS a.sourcefile_part.ensures.0 c-ret)) (ahead_falls s.args.tokens.now f.loop.q.s a.sourcefile_part.result.s (omega (arith, f.loop.invariant.1.0, e.at_end.ensures.1.0, e.at_end.ensures.1.1.0 d.if1.false, a.sourcefile_part.ensures.1))) ∙ f.loop.invariant.0, (omega (arith, f.loop.invariant.1.0, e.at_end.ensures.1.0, e.at_end.ensures.1.1.0 d.if1.false, a.sourcefile_part.ensures.1), (omega (arith, f.loop.invariant.1.1, a.sourcefile_part.auto), (omega (arith, f.loop.invariant.1.1, a.sourcefile_part.auto), omega (arith, f.loop.invariant.1.1, a.sourcefile_part.auto)))))
+    (again_prog MOST_OPEN_CALLS (c_yes {t = true} (c_no (c_act (e.at_end.ensures.0 unlabelled _ _ _)) d.if1.false c_ret) refl (c_prog_on MOST_OPEN_CALLS a.sourcefile_part.ensures.0 c_ret)) (ahead_falls s.args.tokens.now f.loop.q.s a.sourcefile_part.result.s (omega (arith, f.loop.invariant.1.0, e.at_end.ensures.1.0, e.at_end.ensures.1.1.0 d.if1.false, a.sourcefile_part.ensures.1))) ∙ f.loop.invariant.0, (omega (arith, f.loop.invariant.1.0, e.at_end.ensures.1.0, e.at_end.ensures.1.1.0 d.if1.false, a.sourcefile_part.ensures.1), (omega (arith, f.loop.invariant.1.1, a.sourcefile_part.auto), (omega (arith, f.loop.invariant.1.1, a.sourcefile_part.auto), omega (arith, f.loop.invariant.1.1, a.sourcefile_part.auto)))))
 
 pub entry_sourcefile_spec : {M : Type 1} → statement M
 entry_sourcefile_spec = tie.close (tie.spec invariant-loop decreases-loop loop-holds at-end-requires same_length same-length-2 same-length-3 returns sourcefile-part-requires loop-less loop-again)

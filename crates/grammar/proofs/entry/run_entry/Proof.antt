@@ -6,9 +6,9 @@ use Rattle.definitions.specs.Token.{tokens_of}
 use Rattle.definitions.specs.Grammar.{whole}
 use Rattle.machine.specs.Machine.{Machine}
 use Rattle.machine.specs.Walk.{walk_rule, walk_prog, unlabelled}
-use Rattle.machine.proofs.Way.{c-walk}
+use Rattle.machine.proofs.Way.{c_walk}
 use Rattle.grammar.specs.Subprograms.{entry_for}
-use Rattle.grammar.proofs.Ways.{c-prog-on, prog-on}
+use Rattle.grammar.proofs.Ways.{c_prog_on, prog_on}
 use Rattle.grammar.proofs.entry.run_entry.Statement.{statement}
 use Rattle.grammar.proofs.entry.run_entry.Tie as tie
 
@@ -46,7 +46,7 @@ returns c =
     let d = a.before.before.before.before.before.before.before.before.before.before in
     let e = d.before.before.before.before in
     let s = e.before.before.before.before.before in
-    prog-on MOST_OPEN_CALLS (c-prog-on MOST_OPEN_CALLS d.enter.ensures.0 (c-walk (a.left_over.ensures.0 (walk_rule MOST_OPEN_CALLS (tokens_of s.args.tokens.now)) unlabelled))) ∙ ap (λ (m : Machine). (walk_prog MOST_OPEN_CALLS (tokens_of s.args.tokens.now) unlabelled (whole (entry_for s.args.entrypoint)) m).on) (e.new.ensures _ _ _)
+    prog_on MOST_OPEN_CALLS (c_prog_on MOST_OPEN_CALLS d.enter.ensures.0 (c_walk (a.left_over.ensures.0 (walk_rule MOST_OPEN_CALLS (tokens_of s.args.tokens.now)) unlabelled))) ∙ ap (λ (m : Machine). (walk_prog MOST_OPEN_CALLS (tokens_of s.args.tokens.now) unlabelled (whole (entry_for s.args.entrypoint)) m).on) (e.new.ensures _ _ _)
 
 pub run_entry_spec : {M : Type 1} → statement M
 run_entry_spec = tie.close (tie.spec new-requires enter-requires left-over-requires same_length same-length-2 same-length-3 returns)

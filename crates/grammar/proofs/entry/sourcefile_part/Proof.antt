@@ -6,8 +6,8 @@ use Rattle.definitions.specs.Token.{tokens_of}
 use Rattle.definitions.specs.Check.{silent}
 use Rattle.definitions.specs.Grammar.{sourcefile_part}
 use Rattle.machine.specs.Walk.{walk_rule, unlabelled}
-use Rattle.machine.proofs.Way.{c-walk, c-act, c-ret, c-yes, c-no, c_call, c-fn}
-use Rattle.grammar.proofs.Ways.{prog-on}
+use Rattle.machine.proofs.Way.{c_walk, c_act, c_ret, c_yes, c_no, c_call, c_fn}
+use Rattle.grammar.proofs.Ways.{prog_on}
 use Rattle.grammar.proofs.entry.sourcefile_part.Statement.{statement}
 use Rattle.grammar.proofs.entry.sourcefile_part.Tie as tie
 
@@ -39,7 +39,7 @@ returns c =
     let d = a.before.before.before.before in
     let e = d.before in
     let s = e.before.before.before.before.before in
-    (prog-on MOST_OPEN_CALLS (c-yes (c-act (e.silent_at.ensures.0 unlabelled _ _ _)) d.if1.true (c-walk (a.unmatched_rcurly.ensures.0 (walk_rule MOST_OPEN_CALLS (tokens_of s.args.tokens.now)) unlabelled))), omega (arith, e.silent_at.ensures.1.0, e.silent_at.ensures.1.1 d.if1.true, a.unmatched_rcurly.ensures.1))
+    (prog_on MOST_OPEN_CALLS (c_yes (c_act (e.silent_at.ensures.0 unlabelled _ _ _)) d.if1.true (c_walk (a.unmatched_rcurly.ensures.0 (walk_rule MOST_OPEN_CALLS (tokens_of s.args.tokens.now)) unlabelled))), omega (arith, e.silent_at.ensures.1.0, e.silent_at.ensures.1.1 d.if1.true, a.unmatched_rcurly.ensures.1))
 
 catch-unmatched-pp-directive-requires : tie.Need-catch-unmatched-pp-directive-requires
 catch-unmatched-pp-directive-requires c κs = tt
@@ -66,7 +66,7 @@ returns-2 c =
     let d = a.before.before.before.before.before.before.before in
     let e = d.before.before.before.before in
     let f = e.before in
-    (prog-on MOST_OPEN_CALLS (c-no (c-act (f.silent_at.ensures.0 unlabelled _ _ _)) e.if1.false (c-yes (c-fn MOST_OPEN_CALLS d.catch_unmatched_pp_directive.ensures.0) a.if2.true c-ret)), omega (arith, f.silent_at.ensures.1.0, d.catch_unmatched_pp_directive.ensures.1.0, d.catch_unmatched_pp_directive.ensures.1.1 a.if2.true))
+    (prog_on MOST_OPEN_CALLS (c_no (c_act (f.silent_at.ensures.0 unlabelled _ _ _)) e.if1.false (c_yes (c_fn MOST_OPEN_CALLS d.catch_unmatched_pp_directive.ensures.0) a.if2.true c_ret)), omega (arith, f.silent_at.ensures.1.0, d.catch_unmatched_pp_directive.ensures.1.0, d.catch_unmatched_pp_directive.ensures.1.1 a.if2.true))
 
 item-requires : tie.Need-item-requires
 item-requires c κs = tt
@@ -97,7 +97,7 @@ returns-3 c =
     let e = d.before.before.before.before.before.before.before in
     let f = e.before.before.before.before in
     let g = f.before in
-    (a.item.ensures.0 ∙ prog-on MOST_OPEN_CALLS (c-no (c-act (g.silent_at.ensures.0 unlabelled _ _ _)) f.if1.false (c-no (c-fn MOST_OPEN_CALLS e.catch_unmatched_pp_directive.ensures.0) d.if2.false (c_call MOST_OPEN_CALLS refl))), omega (arith, g.silent_at.ensures.1.0, e.catch_unmatched_pp_directive.ensures.1.0, a.item.ensures.1))
+    (a.item.ensures.0 ∙ prog_on MOST_OPEN_CALLS (c_no (c_act (g.silent_at.ensures.0 unlabelled _ _ _)) f.if1.false (c_no (c_fn MOST_OPEN_CALLS e.catch_unmatched_pp_directive.ensures.0) d.if2.false (c_call MOST_OPEN_CALLS refl))), omega (arith, g.silent_at.ensures.1.0, e.catch_unmatched_pp_directive.ensures.1.0, a.item.ensures.1))
 
 pub sourcefile_part_spec : {M : Type 1} → statement M
 sourcefile_part_spec = tie.close (tie.spec silent-at-requires unmatched-rcurly-requires same_length same-length-2 same-length-3 returns catch-unmatched-pp-directive-requires same-length-4 same-length-5 same-length-6 returns-2 item-requires same-length-7 same-length-8 same-length-9 returns-3)

@@ -6,9 +6,9 @@ use Rattle.definitions.specs.Token.{tokens_of}
 use Rattle.definitions.specs.Check.{silent}
 use Rattle.definitions.specs.Grammar.{catch_unmatched_pp_directive}
 use Rattle.machine.specs.Walk.{walk_rule, unlabelled}
-use Rattle.machine.proofs.Way.{c-walk, c-act, c-ret, c-seq, c-yes, c-no, c-mark, completed, way}
-use Rattle.steps.proofs.Steps.{c-ret-no}
-use Rattle.grammar.proofs.Ways.{c-prog-on, c_assoc}
+use Rattle.machine.proofs.Way.{c_walk, c_act, c_ret, c_seq, c_yes, c_no, c_mark, completed, way}
+use Rattle.steps.proofs.Steps.{c_ret_no}
+use Rattle.grammar.proofs.Ways.{c_prog_on, c_assoc}
 use borrow.Author.Rules.{rules}
 use Rattle.grammar.proofs.preprocessor_directive.catch_unmatched_pp_directive.Statement.{statement}
 use Rattle.grammar.proofs.preprocessor_directive.catch_unmatched_pp_directive.Tie as tie
@@ -41,7 +41,7 @@ returns c =
     let d = a.before.before.before.before in
     let e = d.before in
     let s = e.before.before.before.before.before in
-    (way s.args.allowed (c-yes (c-act (e.silent_at.ensures.0 unlabelled _ _ _)) d.if1.true (c-seq (c-walk (a.error.ensures.0 (walk_rule s.args.allowed (tokens_of s.args.tokens.now)) unlabelled)) c-ret)), (omega (arith, e.silent_at.ensures.1.0, e.silent_at.ensures.1.1 d.if1.true, a.error.ensures.1), λ h. omega (arith, e.silent_at.ensures.1.0, e.silent_at.ensures.1.1 d.if1.true, a.error.ensures.1)))
+    (way s.args.allowed (c_yes (c_act (e.silent_at.ensures.0 unlabelled _ _ _)) d.if1.true (c_seq (c_walk (a.error.ensures.0 (walk_rule s.args.allowed (tokens_of s.args.tokens.now)) unlabelled)) c_ret)), (omega (arith, e.silent_at.ensures.1.0, e.silent_at.ensures.1.1 d.if1.true, a.error.ensures.1), λ h. omega (arith, e.silent_at.ensures.1.0, e.silent_at.ensures.1.1 d.if1.true, a.error.ensures.1)))
 
 slice-aggregate-silent-at-set : tie.Need-slice-aggregate-silent-at-set
 slice-aggregate-silent-at-set c = search rules
@@ -108,7 +108,7 @@ returns-2 c =
     let m = l.before.before in
     let n = m.before in
     let s = n.before.before.before.before.before in
-    (way s.args.allowed (c-no (c-act (n.silent_at.ensures.0 unlabelled _ _ _)) m.if1.false (c-yes (c-act (l.silent-at-set.ensures.0 unlabelled _ _ _)) j.if2.true (c-seq (c-walk (i.error2.ensures.0 (walk_rule s.args.allowed (tokens_of s.args.tokens.now)) unlabelled)) (c-seq (c-mark g.new.ensures (f.start.ensures.0 _ _) (c_assoc (c-seq (c-act (e.bump.ensures.0 unlabelled _ _)) (c-prog-on s.args.allowed d.cond_branches_and_end.ensures.0 c-ret))) (completed (a.complete.ensures.0 _ _))) c-ret)))), (omega (arith, n.silent_at.ensures.1.0, l.silent-at-set.ensures.1.0, l.silent-at-set.ensures.1.1 j.if2.true, i.error2.ensures.1, f.start.ensures.1 s.args.tokens.now, e.bump.ensures.1, d.cond_branches_and_end.ensures.1, a.complete.ensures.1 s.args.tokens.now), λ h. omega (arith, n.silent_at.ensures.1.0, l.silent-at-set.ensures.1.0, l.silent-at-set.ensures.1.1 j.if2.true, i.error2.ensures.1, f.start.ensures.1 s.args.tokens.now, e.bump.ensures.1, d.cond_branches_and_end.ensures.1, a.complete.ensures.1 s.args.tokens.now)))
+    (way s.args.allowed (c_no (c_act (n.silent_at.ensures.0 unlabelled _ _ _)) m.if1.false (c_yes (c_act (l.silent-at-set.ensures.0 unlabelled _ _ _)) j.if2.true (c_seq (c_walk (i.error2.ensures.0 (walk_rule s.args.allowed (tokens_of s.args.tokens.now)) unlabelled)) (c_seq (c_mark g.new.ensures (f.start.ensures.0 _ _) (c_assoc (c_seq (c_act (e.bump.ensures.0 unlabelled _ _)) (c_prog_on s.args.allowed d.cond_branches_and_end.ensures.0 c_ret))) (completed (a.complete.ensures.0 _ _))) c_ret)))), (omega (arith, n.silent_at.ensures.1.0, l.silent-at-set.ensures.1.0, l.silent-at-set.ensures.1.1 j.if2.true, i.error2.ensures.1, f.start.ensures.1 s.args.tokens.now, e.bump.ensures.1, d.cond_branches_and_end.ensures.1, a.complete.ensures.1 s.args.tokens.now), λ h. omega (arith, n.silent_at.ensures.1.0, l.silent-at-set.ensures.1.0, l.silent-at-set.ensures.1.1 j.if2.true, i.error2.ensures.1, f.start.ensures.1 s.args.tokens.now, e.bump.ensures.1, d.cond_branches_and_end.ensures.1, a.complete.ensures.1 s.args.tokens.now)))
 
 returns-3 : tie.Need-returns-3
 unfolding catch_unmatched_pp_directive silent
@@ -118,7 +118,7 @@ returns-3 c =
     let e = d.before.before in
     let f = e.before in
     let s = f.before.before.before.before.before in
-    (way s.args.allowed (c-no (c-act (f.silent_at.ensures.0 unlabelled _ _ _)) e.if1.false (c-no (c-act (d.silent-at-set.ensures.0 unlabelled _ _ _)) a.if2.false (c-ret-no a.if2.false))), (omega (arith, f.silent_at.ensures.1.0, d.silent-at-set.ensures.1.0), λ h. absurd (false≢true (sym a.if2.false ∙ h))))
+    (way s.args.allowed (c_no (c_act (f.silent_at.ensures.0 unlabelled _ _ _)) e.if1.false (c_no (c_act (d.silent-at-set.ensures.0 unlabelled _ _ _)) a.if2.false (c_ret_no a.if2.false))), (omega (arith, f.silent_at.ensures.1.0, d.silent-at-set.ensures.1.0), λ h. absurd (false≢true (sym a.if2.false ∙ h))))
 
 pub catch_unmatched_pp_directive_spec : {M : Type 1} → statement M
 catch_unmatched_pp_directive_spec = tie.close (tie.spec silent-at-requires error-requires same_length same-length-2 same-length-3 returns slice-aggregate-silent-at-set silent-at-set-requires error-requires-2 new-requires start-requires bump-requires cond-branches-and-end-requires complete-requires same-length-4 same-length-5 same-length-6 returns-2 returns-3)

@@ -5,7 +5,7 @@ use mathlib.Core.Path.{◌≡◌, sym, ◌∙◌}
 use lib.ListN.{length, drop, length-drop}
 use Rattle.basics.proofs.Flags.{flags}
 use Rattle.definitions.specs.Text.{begins_with}
-use Rattle.lexer.proofs.Directives.{same-letter, other-letter, whole_word, too_short}
+use Rattle.lexer.proofs.Directives.{same_letter, other_letter, whole_word, too_short}
 use Rattle.lexer.proofs.directive.begins_with.Statement.{statement}
 use Rattle.lexer.proofs.directive.begins_with.Tie as tie
 
@@ -45,7 +45,7 @@ loop-again c =
     let a = c.before.before.before.before.before.before.args in
     let l = c.before.before.before.before.loop in
     let e : a.from + (l.i + 1) ≡ a.from + l.i + 1 = omega arith in (
-      rw e (l.invariant.0 ∙ same-letter a.word.now a.bytes.now l.i (a.from + l.i) (omega flags) (omega flags) c.if2.true),
+      rw e (l.invariant.0 ∙ same_letter a.word.now a.bytes.now l.i (a.from + l.i) (omega flags) (omega flags) c.if2.true),
       omega flags,
       omega flags,
     )
@@ -54,7 +54,7 @@ returns : tie.Need-returns invariant-loop decreases-loop
 returns c =
     let a = c.before.before.before.before.before.before.args in
     let l = c.before.before.before.before.loop in
-    other-letter a.word.now a.bytes.now l.i (a.from + l.i) (omega flags) (omega flags) c.if2.false ∙ sym l.invariant.0
+    other_letter a.word.now a.bytes.now l.i (a.from + l.i) (omega flags) (omega flags) c.if2.false ∙ sym l.invariant.0
 
 returns-2 : tie.Need-returns-2 invariant-loop decreases-loop
 returns-2 c =

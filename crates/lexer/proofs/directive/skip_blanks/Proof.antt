@@ -4,7 +4,7 @@ use mathlib.Core.Path.{◌≡◌, refl, sym, ◌∙◌}
 use lib.ListN.{length, drop}
 use Rattle.basics.proofs.Flags.{flags}
 use Rattle.definitions.specs.Text.{after_blanks}
-use Rattle.lexer.proofs.Directives.{past-space, past-tab, no-blank, no_more}
+use Rattle.lexer.proofs.Directives.{past_space, past_tab, no_blank, no_more}
 use Rattle.lexer.proofs.directive.skip_blanks.Statement.{statement}
 use Rattle.lexer.proofs.directive.skip_blanks.Tie as tie
 
@@ -30,7 +30,7 @@ loop-again : tie.Need-loop-preserved invariant-loop decreases-loop
 loop-again c =
     let a = c.before.before.before.before.args in
     let l = c.before.before.before.loop in
-    (l.invariant.0 ∙ past-space a.bytes.now l.i (omega flags) c.if1.true, omega flags)
+    (l.invariant.0 ∙ past_space a.bytes.now l.i (omega flags) c.if1.true, omega flags)
 
 shared-slice-read-tab : tie.Need-shared-slice-read-tab invariant-loop decreases-loop
 shared-slice-read-tab c = omega flags
@@ -45,13 +45,13 @@ loop-again-2 : tie.Need-loop-preserved-2 invariant-loop decreases-loop
 loop-again-2 c =
     let a = c.before.before.before.before.before.before.args in
     let l = c.before.before.before.before.before.loop in
-    (l.invariant.0 ∙ past-tab a.bytes.now l.i (omega flags) c.before.before.if1.false c.if2.true, omega flags)
+    (l.invariant.0 ∙ past_tab a.bytes.now l.i (omega flags) c.before.before.if1.false c.if2.true, omega flags)
 
 returns : tie.Need-returns invariant-loop decreases-loop
 returns c =
     let a = c.before.before.before.before.before.before.args in
     let l = c.before.before.before.before.before.loop in
-    (omega flags, no-blank a.bytes.now l.i (omega flags) c.before.before.if1.false c.if2.false ∙ sym l.invariant.0)
+    (omega flags, no_blank a.bytes.now l.i (omega flags) c.before.before.if1.false c.if2.false ∙ sym l.invariant.0)
 
 returns-2 : tie.Need-returns-2 invariant-loop decreases-loop
 returns-2 c =

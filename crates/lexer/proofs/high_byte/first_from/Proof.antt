@@ -4,7 +4,7 @@ use mathlib.Core.Path.{◌≡◌, refl, ◌∙◌}
 use lib.ListN.{length, drop}
 use Rattle.basics.proofs.Flags.{flags}
 use Rattle.definitions.specs.Text.{high_byte}
-use Rattle.lexer.proofs.HighBytes.{past-low, found_here, found_none}
+use Rattle.lexer.proofs.HighBytes.{past_low, found_here, found_none}
 use Rattle.lexer.proofs.high_byte.first_from.Statement.{statement}
 use Rattle.lexer.proofs.high_byte.first_from.Tie as tie
 
@@ -36,7 +36,7 @@ loop-again : tie.Need-loop-preserved invariant-loop decreases-loop
 loop-again c =
     let a = c.before.before.before.before.args in
     let l = c.before.before.before.loop in
-    (l.invariant.0 ∙ past-low a.bytes.now l.i (omega flags) c.if1.false, omega flags)
+    (l.invariant.0 ∙ past_low a.bytes.now l.i (omega flags) c.if1.false, omega flags)
 
 returns-2 : tie.Need-returns-2 invariant-loop decreases-loop
 returns-2 c =

@@ -4,7 +4,7 @@ use native.Mathlib.Omega.{arith}
 use lib.ListN.{length}
 use borrow.Author.Tests.{eqb-true, eqb-false}
 use Rattle.basics.proofs.Flags.{flags}
-use Rattle.lex_table.proofs.Turns.{Scanned, scanned_none, scanned_all, row_below, turn-dead, turn-final, turn_match, turn_on}
+use Rattle.lex_table.proofs.Turns.{Scanned, scanned_none, scanned_all, row_below, turn_dead, turn_final, turn_match, turn_on}
 use Rattle.lexer.proofs.Hits.{hits}
 use Rattle.lexer.proofs.longest.longest_by_all.Statement.{statement}
 use Rattle.lexer.proofs.longest.longest_by_all.Tie as tie
@@ -35,7 +35,7 @@ returns c =
     let s = c.before.before.step-any in
     let f = c.before.before.before.before.before.before.shared-slice-known.given l.n in
     hits a.bytes.now a.at l.best l.end
-    (turn-dead a.bytes.now a.at l.n l.row l.best l.end s.result l.invariant.0 (omega flags) (omega (arith, f)) s.ensures
+    (turn_dead a.bytes.now a.at l.n l.row l.best l.end s.result l.invariant.0 (omega flags) (omega (arith, f)) s.ensures
     (eqb-true _ _ c.if2.true))
     (omega flags)
 
@@ -49,7 +49,7 @@ returns-2 c =
     let s = c.before.before.step-any in
     let f = c.before.before.before.before.before.before.shared-slice-known.given l.n in
     hits a.bytes.now a.at s.result (l.n + 1)
-    (turn-final a.bytes.now a.at l.n l.row l.best l.end s.result l.invariant.0 (omega flags) (omega (arith, f)) s.ensures
+    (turn_final a.bytes.now a.at l.n l.row l.best l.end s.result l.invariant.0 (omega flags) (omega (arith, f)) s.ensures
     (omega flags) (eqb-false _ _ c.if2.false))
     (omega flags)
 

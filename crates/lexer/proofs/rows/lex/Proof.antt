@@ -3,7 +3,7 @@ use Prim.Native.Nat.{◌-◌}
 use native.Mathlib.Omega.{arith}
 use mathlib.Core.Path.{sym, ◌∙◌}
 use lib.ListN.{length}
-use Rattle.lexer.proofs.Passed.{Passed, at_start, past-token, at-directive, at_last}
+use Rattle.lexer.proofs.Passed.{Passed, at_start, past_token, at_directive, at_last}
 use Rattle.lexer.proofs.rows.lex.Statement.{statement}
 use Rattle.lexer.proofs.rows.lex.Tie as tie
 
@@ -28,7 +28,7 @@ returns : tie.Need-returns invariant-loop decreases-loop
 returns c =
     let a = c.before.before.before.before.before.before.args in
     let l = c.before.before.before.loop in
-    at-directive a.bytes.now a.rows.now l.rows l.at l.index l.invariant (omega arith) (sym c.if1.true ∙ c.before.starts-at.ensures)
+    at_directive a.bytes.now a.rows.now l.rows l.at l.index l.invariant (omega arith) (sym c.if1.true ∙ c.before.starts-at.ensures)
 
 token-at-requires : tie.Need-token-at-requires invariant-loop decreases-loop
 token-at-requires c κs = (c.before.before.before.before.before.before.requires.0, omega arith)
@@ -51,7 +51,7 @@ loop-again c =
     let l = c.before.before.before.before.before.before.before.before.loop in
     let t = c.before.before.before.before.token_at in
     rw c.before.before.put.ensures
-    (past-token a.bytes.now a.rows.now l.rows l.at l.index l.invariant (omega arith) t.result.kind t.result.end t.ensures
+    (past_token a.bytes.now a.rows.now l.rows l.at l.index l.invariant (omega arith) t.result.kind t.result.end t.ensures
     (sym c.before.before.before.before.before.if1.false ∙ c.before.before.before.before.before.before.starts-at.ensures))
 
 same-length-2 : tie.Need-same-length-2 invariant-loop decreases-loop

@@ -1,6 +1,6 @@
 -- `token_at`: no match, a match without a callback, or with one.
 use borrow.Author.Rules.{rules}
-use Rattle.lexer.proofs.Made.{none_here, plain_here, called-here}
+use Rattle.lexer.proofs.Made.{none_here, plain_here, called_here}
 use Rattle.lexer.proofs.token.token_at.Statement.{statement}
 use Rattle.lexer.proofs.token.token_at.Tie as tie
 
@@ -44,7 +44,7 @@ returns-3 c =
     let k = c.before.before.before.kind_of in
     let z = c.before.before.before.before.if1.false in
     let r = c.Call-back in
-    called-here a.bytes.now a.at s.result.row s.result.end p.requires.1 s.ensures k.result r.result.kind
+    called_here a.bytes.now a.at s.result.row s.result.end p.requires.1 s.ensures k.result r.result.kind
     r.result.end z k.ensures r.ensures
 
 pub token_at_spec : {M : Type 1} → statement M

@@ -3,7 +3,7 @@ use mathlib.Core.Path.{refl, ap}
 use native.Mathlib.Omega.{arith}
 use Rattle.basics.proofs.Flags.{flags}
 use Rattle.definitions.specs.Run.{truth}
-use Rattle.machine.proofs.Way.{c-walk, c-act, c-ret, c-seq}
+use Rattle.machine.proofs.Way.{c_walk, c_act, c_ret, c_seq}
 use Rattle.steps.proofs.Ways.{ends, opened, if_no, if_yes}
 use Rattle.macros.proofs.Opened.{argument_list_is}
 use Rattle.macros.proofs.invocation.argument_list.Statement.{statement}
@@ -48,7 +48,7 @@ returns c =
     let d = a.before.before.before.before.before in
     let e = d.before in
     let f = e.before.before.before.before in
-    (λ ask b. ends (opened argument_list_is (c-seq (c-act (f.bump.ensures.0 b _ _ _)) (c-seq (if_no (if_yes (c-walk (e.at.ensures.0 ask b _ _ _)) (ap truth d.if1.true) c-ret) refl c-ret) (c-walk (a.expect.ensures.0 ask b))))), omega (flags, f.bump.ensures.1, e.at.ensures.1.0, e.at.ensures.1.1 d.if1.true, a.expect.ensures.1.0))
+    (λ ask b. ends (opened argument_list_is (c_seq (c_act (f.bump.ensures.0 b _ _ _)) (c_seq (if_no (if_yes (c_walk (e.at.ensures.0 ask b _ _ _)) (ap truth d.if1.true) c_ret) refl c_ret) (c_walk (a.expect.ensures.0 ask b))))), omega (flags, f.bump.ensures.1, e.at.ensures.1.0, e.at.ensures.1.1 d.if1.true, a.expect.ensures.1.0))
 
 same-length-4 : tie.Need-same-length-4
 same-length-4 c =
@@ -78,7 +78,7 @@ returns-2 c =
     let e = d.before.before in
     let f = e.before in
     let g = f.before.before.before.before in
-    (λ ask b. ends (opened argument_list_is (c-seq (c-act (g.bump.ensures.0 b _ _ _)) (c-seq (if_yes (if_no (c-walk (f.at.ensures.0 ask b _ _ _)) (ap truth e.if1.false) c-ret) refl (c-walk (d.arguments.ensures.0 ask b _ _ _))) (c-walk (a.expect2.ensures.0 ask b))))), omega (flags, g.bump.ensures.1, f.at.ensures.1.0, d.arguments.ensures.1, a.expect2.ensures.1.0))
+    (λ ask b. ends (opened argument_list_is (c_seq (c_act (g.bump.ensures.0 b _ _ _)) (c_seq (if_yes (if_no (c_walk (f.at.ensures.0 ask b _ _ _)) (ap truth e.if1.false) c_ret) refl (c_walk (d.arguments.ensures.0 ask b _ _ _))) (c_walk (a.expect2.ensures.0 ask b))))), omega (flags, g.bump.ensures.1, f.at.ensures.1.0, d.arguments.ensures.1, a.expect2.ensures.1.0))
 
 pub argument_list_spec : {M : Type 1} → statement M
 argument_list_spec = tie.close (tie.spec bump-requires at-requires expect-requires arguments-requires expect-requires-2 same_length same-length-2 same-length-3 returns same-length-4 same-length-5 same-length-6 returns-2)

@@ -14,9 +14,9 @@ use Rattle.definitions.specs.Run.{truth}
 use Rattle.definitions.specs.Grammar.{macro_argument_turn}
 use Rattle.machine.specs.Machine.{Machine}
 use Rattle.machine.specs.Walk.{Walked, walk}
-use Rattle.machine.proofs.Way.{c-act, c-ret, c-seq}
+use Rattle.machine.proofs.Way.{c_act, c_ret, c_seq}
 use Rattle.parser.specs.View.{view, tokens_left}
-use Rattle.steps.proofs.Ways.{opened, if_no, if_yes, completes, turns, stops-yes}
+use Rattle.steps.proofs.Ways.{opened, if_no, if_yes, completes, turns, stops_yes}
 use Rattle.steps.proofs.Left.{ahead_falls}
 use Rattle.macros.proofs.Opened.{macro_argument_turn_is}
 use Rattle.macros.proofs.invocation.arguments.Statement.{statement}
@@ -67,7 +67,7 @@ loop-again c =
     let i = g.before.before in
     let j = i.before in
     let s = j.before.before.before in
-    (λ ask b codes reports pool. turns (opened macro_argument_turn_is (if_yes (completes (lit< tt) i.new.ensures (g.start.ensures.0 _ _ _) (if_yes (c-act (f.bump_argument.ensures.0 b _ _ _)) (ap truth d.if1.true) c-ret) (e.complete.ensures.0 _ _ _)) refl (c-seq (c-act (a.bump.ensures.0 b codes reports pool)) c-ret))) (ahead_falls s.args.tokens.now j.loop.q a.bump.result (omega (flags, j.loop.invariant.1.0, g.start.ensures.1 s.args.tokens.now, f.bump_argument.ensures.1.0, f.bump_argument.ensures.1.1 d.if1.true, e.complete.ensures.1 s.args.tokens.now, a.bump.ensures.1))) ∙ j.loop.invariant.0 ask b codes reports pool, (omega (flags, j.loop.invariant.1.0, g.start.ensures.1 s.args.tokens.now, f.bump_argument.ensures.1.0, f.bump_argument.ensures.1.1 d.if1.true, e.complete.ensures.1 s.args.tokens.now, a.bump.ensures.1), omega (arith, j.loop.invariant.1.1, g.start.auto, f.bump_argument.auto, e.complete.auto, a.bump.auto)))
+    (λ ask b codes reports pool. turns (opened macro_argument_turn_is (if_yes (completes (lit< tt) i.new.ensures (g.start.ensures.0 _ _ _) (if_yes (c_act (f.bump_argument.ensures.0 b _ _ _)) (ap truth d.if1.true) c_ret) (e.complete.ensures.0 _ _ _)) refl (c_seq (c_act (a.bump.ensures.0 b codes reports pool)) c_ret))) (ahead_falls s.args.tokens.now j.loop.q a.bump.result (omega (flags, j.loop.invariant.1.0, g.start.ensures.1 s.args.tokens.now, f.bump_argument.ensures.1.0, f.bump_argument.ensures.1.1 d.if1.true, e.complete.ensures.1 s.args.tokens.now, a.bump.ensures.1))) ∙ j.loop.invariant.0 ask b codes reports pool, (omega (flags, j.loop.invariant.1.0, g.start.ensures.1 s.args.tokens.now, f.bump_argument.ensures.1.0, f.bump_argument.ensures.1.1 d.if1.true, e.complete.ensures.1 s.args.tokens.now, a.bump.ensures.1), omega (arith, j.loop.invariant.1.1, g.start.auto, f.bump_argument.auto, e.complete.auto, a.bump.auto)))
 
 same_length : tie.Need-same-length invariant-loop decreases-loop
 same_length c =
@@ -86,7 +86,7 @@ returns c =
     let g = f.before.before in
     let i = g.before in
     let s = i.before.before.before in
-    (λ ask b codes reports pool. stops-yes (opened macro_argument_turn_is (if_no (completes (lit< tt) g.new.ensures (f.start.ensures.0 _ _ _) (if_no (c-act (e.bump_argument.ensures.0 b _ _ _)) (ap truth a.if1.false) c-ret) (d.complete.ensures.0 _ _ _)) refl c-ret)) ∙ i.loop.invariant.0 ask b codes reports pool, omega (flags, i.loop.invariant.1.0, f.start.ensures.1 s.args.tokens.now, e.bump_argument.ensures.1.0, d.complete.ensures.1 s.args.tokens.now))
+    (λ ask b codes reports pool. stops_yes (opened macro_argument_turn_is (if_no (completes (lit< tt) g.new.ensures (f.start.ensures.0 _ _ _) (if_no (c_act (e.bump_argument.ensures.0 b _ _ _)) (ap truth a.if1.false) c_ret) (d.complete.ensures.0 _ _ _)) refl c_ret)) ∙ i.loop.invariant.0 ask b codes reports pool, omega (flags, i.loop.invariant.1.0, f.start.ensures.1 s.args.tokens.now, e.bump_argument.ensures.1.0, d.complete.ensures.1 s.args.tokens.now))
 
 pub arguments_spec : {M : Type 1} → statement M
 arguments_spec = tie.close (tie.spec invariant-loop decreases-loop loop-holds new-requires start-requires bump-argument-requires complete-requires bump-requires loop-less loop-again same_length returns)

@@ -12,7 +12,7 @@ use Rattle.machine.specs.Walk.{unlabelled}
 use Rattle.machine.proofs.Turns.{argue, few_rows}
 use Rattle.parser.specs.View.{view, tokens_left}
 use Rattle.macros.specs.Role.{role}
-use Rattle.macros.proofs.Arguments.{argue-comma, argue-end, argue-on, argue_whole, comma_some, inside_some, inside_most, row_left, few_left}
+use Rattle.macros.proofs.Arguments.{argue_comma, argue_end, argue_on, argue_whole, comma_some, inside_some, inside_most, row_left, few_left}
 use Rattle.macros.proofs.invocation.bump_argument.Statement.{statement}
 use Rattle.macros.proofs.invocation.bump_argument.Tie as tie
 
@@ -55,7 +55,7 @@ returns c =
     let f = e.before in
     let g = f.before in
     let s = g.before.before.before in
-    (λ b codes reports pool. argue-comma (tokens_of s.args.tokens.now) g.loop.level (view g.loop.q codes g.loop.events reports pool) (view f.peek.result codes g.loop.events reports pool) (few_rows s.args.tokens.now (omega arith)) (f.peek.ensures.0 codes g.loop.events reports pool) d.role-of.result (d.role-of.ensures ∙ ap (λ k. role k g.loop.level) e.kind_at.ensures.0) a.enum_told.given.1 ∙ g.loop.invariant.0 codes reports pool ∙ argue_whole (tokens_of s.args.tokens.now) b (view s.args.s codes s.args.events.now reports pool), (omega (flags, f.peek.ensures.1, g.loop.invariant.1.0), λ h. row_left s.args.tokens.now f.peek.result (e.kind_at.ensures.1 (comma_some e.kind_at.result g.loop.level d.role-of.result d.role-of.ensures a.enum_told.given.1))))
+    (λ b codes reports pool. argue_comma (tokens_of s.args.tokens.now) g.loop.level (view g.loop.q codes g.loop.events reports pool) (view f.peek.result codes g.loop.events reports pool) (few_rows s.args.tokens.now (omega arith)) (f.peek.ensures.0 codes g.loop.events reports pool) d.role-of.result (d.role-of.ensures ∙ ap (λ k. role k g.loop.level) e.kind_at.ensures.0) a.enum_told.given.1 ∙ g.loop.invariant.0 codes reports pool ∙ argue_whole (tokens_of s.args.tokens.now) b (view s.args.s codes s.args.events.now reports pool), (omega (flags, f.peek.ensures.1, g.loop.invariant.1.0), λ h. row_left s.args.tokens.now f.peek.result (e.kind_at.ensures.1 (comma_some e.kind_at.result g.loop.level d.role-of.result d.role-of.ensures a.enum_told.given.1))))
 
 enum-told-2 : tie.Need-enum-told-2 invariant-loop decreases-loop
 enum-told-2 c =
@@ -75,7 +75,7 @@ returns-2 c =
     let f = e.before in
     let g = f.before in
     let s = g.before.before.before in
-    (λ b codes reports pool. argue-end (tokens_of s.args.tokens.now) g.loop.level (view g.loop.q codes g.loop.events reports pool) (view f.peek.result codes g.loop.events reports pool) (few_rows s.args.tokens.now (omega arith)) (f.peek.ensures.0 codes g.loop.events reports pool) d.role-of.result (d.role-of.ensures ∙ ap (λ k. role k g.loop.level) e.kind_at.ensures.0) a.enum-told2.given.1 ∙ g.loop.invariant.0 codes reports pool ∙ argue_whole (tokens_of s.args.tokens.now) b (view s.args.s codes s.args.events.now reports pool), (omega (flags, f.peek.ensures.1, g.loop.invariant.1.0), λ h. absurd (false≢true h)))
+    (λ b codes reports pool. argue_end (tokens_of s.args.tokens.now) g.loop.level (view g.loop.q codes g.loop.events reports pool) (view f.peek.result codes g.loop.events reports pool) (few_rows s.args.tokens.now (omega arith)) (f.peek.ensures.0 codes g.loop.events reports pool) d.role-of.result (d.role-of.ensures ∙ ap (λ k. role k g.loop.level) e.kind_at.ensures.0) a.enum-told2.given.1 ∙ g.loop.invariant.0 codes reports pool ∙ argue_whole (tokens_of s.args.tokens.now) b (view s.args.s codes s.args.events.now reports pool), (omega (flags, f.peek.ensures.1, g.loop.invariant.1.0), λ h. absurd (false≢true h)))
 
 enum-known-here-is : tie.Need-enum-known-here-is invariant-loop decreases-loop
 enum-known-here-is c =
@@ -105,7 +105,7 @@ loop-again c =
     let g = f.before in
     let i = g.before in
     let s = i.before.before.before in
-    (λ codes reports pool. argue-on (tokens_of s.args.tokens.now) i.loop.level (view i.loop.q codes i.loop.events reports pool) (view g.peek.result codes i.loop.events reports pool) (few_rows s.args.tokens.now (omega arith)) (g.peek.ensures.0 codes i.loop.events reports pool) e.role-of.result (e.role-of.ensures ∙ ap (λ k. role k i.loop.level) f.kind_at.ensures.0) unlabelled d.here_is.given.0.0 (view a.bump.result codes _ reports pool) d.here_is.given.1 (a.bump.ensures.0 unlabelled codes reports pool) ∙ i.loop.invariant.0 codes reports pool, (omega (flags, row_left s.args.tokens.now g.peek.result (f.kind_at.ensures.1 (inside_some f.kind_at.result i.loop.level d.here_is.given.0.0 e.role-of.result e.role-of.ensures d.here_is.given.1)), inside_most f.kind_at.result i.loop.level d.here_is.given.0.0 e.role-of.result e.role-of.ensures d.here_is.given.1, g.peek.ensures.1, a.bump.ensures.1, i.loop.invariant.1.0), omega (arith, a.bump.auto, i.loop.invariant.1.1)))
+    (λ codes reports pool. argue_on (tokens_of s.args.tokens.now) i.loop.level (view i.loop.q codes i.loop.events reports pool) (view g.peek.result codes i.loop.events reports pool) (few_rows s.args.tokens.now (omega arith)) (g.peek.ensures.0 codes i.loop.events reports pool) e.role-of.result (e.role-of.ensures ∙ ap (λ k. role k i.loop.level) f.kind_at.ensures.0) unlabelled d.here_is.given.0.0 (view a.bump.result codes _ reports pool) d.here_is.given.1 (a.bump.ensures.0 unlabelled codes reports pool) ∙ i.loop.invariant.0 codes reports pool, (omega (flags, row_left s.args.tokens.now g.peek.result (f.kind_at.ensures.1 (inside_some f.kind_at.result i.loop.level d.here_is.given.0.0 e.role-of.result e.role-of.ensures d.here_is.given.1)), inside_most f.kind_at.result i.loop.level d.here_is.given.0.0 e.role-of.result e.role-of.ensures d.here_is.given.1, g.peek.ensures.1, a.bump.ensures.1, i.loop.invariant.1.0), omega (arith, a.bump.auto, i.loop.invariant.1.1)))
 
 pub bump_argument_spec : {M : Type 1} → statement M
 bump_argument_spec = tie.close (tie.spec invariant-loop decreases-loop loop-holds peek-requires kind-at-requires role-of-requires enum_told same_length returns enum-told-2 same-length-2 returns-2 enum-known-here-is bump-requires loop-less loop-again)

@@ -3,7 +3,7 @@ use mathlib.Core.Path.{ap}
 use native.Mathlib.Omega.{arith}
 use Rattle.basics.proofs.Flags.{flags}
 use Rattle.definitions.specs.Run.{truth}
-use Rattle.machine.proofs.Way.{c-walk, c-act}
+use Rattle.machine.proofs.Way.{c_walk, c_act}
 use Rattle.steps.proofs.Ways.{whole, opened, if_no, if_yes}
 use Rattle.names.proofs.Opened.{name_consume_is}
 use borrow.Author.Rules.{rules}
@@ -42,7 +42,7 @@ returns c =
     let a = c.before.before.before.before.before.before in
     let d = a.before.before.before.before.before in
     let e = d.before in
-    (λ ask b. whole (opened name_consume_is (if_yes (c-walk (e.silent_at_macro_invocation_with_args.ensures.0 ask b _ _ _ _)) (ap truth d.if1.true) (c-walk (a.macro_invocation.ensures.0 ask b)))), omega (flags, e.silent_at_macro_invocation_with_args.ensures.1.0, e.silent_at_macro_invocation_with_args.ensures.1.1 d.if1.true, a.macro_invocation.ensures.1))
+    (λ ask b. whole (opened name_consume_is (if_yes (c_walk (e.silent_at_macro_invocation_with_args.ensures.0 ask b _ _ _ _)) (ap truth d.if1.true) (c_walk (a.macro_invocation.ensures.0 ask b)))), omega (flags, e.silent_at_macro_invocation_with_args.ensures.1.0, e.silent_at_macro_invocation_with_args.ensures.1.1 d.if1.true, a.macro_invocation.ensures.1))
 
 same-length-4 : tie.Need-same-length-4
 same-length-4 c =
@@ -54,7 +54,7 @@ returns-2 c =
     let a = c.before.before in
     let d = a.before.before.before in
     let e = d.before in
-    (λ ask b. whole (opened name_consume_is (if_no (c-walk (e.silent_at_macro_invocation_with_args.ensures.0 ask b _ _ _ _)) (ap truth d.if1.false) (c-act (a.bump_name.ensures.0 b _ _ _)))), omega (flags, e.silent_at_macro_invocation_with_args.ensures.1.0, a.bump_name.ensures.1))
+    (λ ask b. whole (opened name_consume_is (if_no (c_walk (e.silent_at_macro_invocation_with_args.ensures.0 ask b _ _ _ _)) (ap truth d.if1.false) (c_act (a.bump_name.ensures.0 b _ _ _)))), omega (flags, e.silent_at_macro_invocation_with_args.ensures.1.0, a.bump_name.ensures.1))
 
 pub consume_spec : {M : Type 1} → statement M
 consume_spec = tie.close (tie.spec silent-at-macro-invocation-with-args-requires macro-invocation-requires slice-aggregate-bump-name bump-name-requires same_length same-length-2 same-length-3 returns same-length-4 returns-2)

@@ -6,7 +6,7 @@ use Rattle.basics.proofs.Flags.{flags}
 use Rattle.definitions.specs.Token.{tokens_of}
 use Rattle.definitions.specs.Run.{truth}
 use Rattle.definitions.specs.Grammar.{MacroSubstitutableName}
-use Rattle.machine.proofs.Way.{c-walk, c-act, c-ret, c-seq}
+use Rattle.machine.proofs.Way.{c_walk, c_act, c_ret, c_seq}
 use Rattle.steps.proofs.Ways.{whole, opened, if_no, if_yes}
 use Rattle.names.proofs.Opened.{eat_is, name_matches_is, name_expected_is}
 use Rattle.names.proofs.macro_substitutable_name.eat.Statement.{statement}
@@ -41,7 +41,7 @@ returns c =
     let a = c.before.before.before.before.before.before in
     let d = a.before.before.before.before.before in
     let e = d.before in
-    (λ ask b. whole (opened (eat_is MacroSubstitutableName) (if_yes (opened name_matches_is (c-act (e.silent.ensures.0 b _ _ _ _))) (ap truth d.if1.true) (c-seq (c-walk (a.consume.ensures.0 ask b)) c-ret))), (omega (flags, e.silent.ensures.1.0, e.silent.ensures.1.1 d.if1.true, a.consume.ensures.1), λ h. omega (flags, e.silent.ensures.1.0, e.silent.ensures.1.1 d.if1.true, a.consume.ensures.1)))
+    (λ ask b. whole (opened (eat_is MacroSubstitutableName) (if_yes (opened name_matches_is (c_act (e.silent.ensures.0 b _ _ _ _))) (ap truth d.if1.true) (c_seq (c_walk (a.consume.ensures.0 ask b)) c_ret))), (omega (flags, e.silent.ensures.1.0, e.silent.ensures.1.1 d.if1.true, a.consume.ensures.1), λ h. omega (flags, e.silent.ensures.1.0, e.silent.ensures.1.1 d.if1.true, a.consume.ensures.1)))
 
 returns-2 : tie.Need-returns-2
 returns-2 c =
@@ -49,7 +49,7 @@ returns-2 c =
     let d = a.before.before in
     let e = d.before in
     let s = e.before.before.before.before.before in
-    (λ ask b. whole (opened (eat_is MacroSubstitutableName) (if_no (opened name_matches_is (c-act (e.silent.ensures.0 b _ _ _ _))) (ap truth d.if1.false) (c-seq (opened name_expected_is (c-walk (a.push_expected.ensures.0 ask (tokens_of s.args.tokens.now) b _ _ _))) c-ret))), (omega (flags, e.silent.ensures.1.0, a.push_expected.ensures.1 s.args.tokens.now), λ h. absurd (false≢true h)))
+    (λ ask b. whole (opened (eat_is MacroSubstitutableName) (if_no (opened name_matches_is (c_act (e.silent.ensures.0 b _ _ _ _))) (ap truth d.if1.false) (c_seq (opened name_expected_is (c_walk (a.push_expected.ensures.0 ask (tokens_of s.args.tokens.now) b _ _ _))) c_ret))), (omega (flags, e.silent.ensures.1.0, a.push_expected.ensures.1 s.args.tokens.now), λ h. absurd (false≢true h)))
 
 pub eat_spec : {M : Type 1} → statement M
 eat_spec = tie.close (tie.spec silent-requires consume-requires push-expected-requires same_length same-length-2 same-length-3 returns returns-2)

@@ -4,7 +4,7 @@ use native.Mathlib.Omega.{arith}
 use Rattle.basics.proofs.Flags.{flags}
 use Rattle.definitions.specs.Run.{truth}
 use Rattle.definitions.specs.Grammar.{MacroSubstitutableName}
-use Rattle.machine.proofs.Way.{c-walk, c-ret, c-seq}
+use Rattle.machine.proofs.Way.{c_walk, c_ret, c_seq}
 use Rattle.steps.proofs.Ways.{ends, opened, if_no, if_yes}
 use Rattle.names.proofs.Opened.{expect_is}
 use Rattle.names.proofs.macro_substitutable_name.expect.Statement.{statement}
@@ -35,7 +35,7 @@ returns : tie.Need-returns
 returns c =
     let a = c.before in
     let d = a.before.before.before.before.before.before.before in
-    (λ ask b. ends (opened (expect_is MacroSubstitutableName) (if_yes (c-walk (d.eat.ensures.0 ask b)) (ap truth a.if1.true) c-ret)), omega (flags, d.eat.ensures.1.0, d.eat.ensures.1.1 a.if1.true))
+    (λ ask b. ends (opened (expect_is MacroSubstitutableName) (if_yes (c_walk (d.eat.ensures.0 ask b)) (ap truth a.if1.true) c_ret)), omega (flags, d.eat.ensures.1.0, d.eat.ensures.1.1 a.if1.true))
 
 same-length-4 : tie.Need-same-length-4
 same-length-4 c =
@@ -60,7 +60,7 @@ returns-2 c =
     let a = c.before.before.before.before.before.before in
     let d = a.before.before.before.before.before in
     let e = d.before.before.before.before.before.before.before in
-    (λ ask b. ends (opened (expect_is MacroSubstitutableName) (if_no (c-walk (e.eat.ensures.0 ask b)) (ap truth d.if1.false) (c-seq (c-walk (a.error.ensures.0 ask b)) c-ret))), omega (flags, e.eat.ensures.1.0, a.error.ensures.1))
+    (λ ask b. ends (opened (expect_is MacroSubstitutableName) (if_no (c_walk (e.eat.ensures.0 ask b)) (ap truth d.if1.false) (c_seq (c_walk (a.error.ensures.0 ask b)) c_ret))), omega (flags, e.eat.ensures.1.0, a.error.ensures.1))
 
 pub expect_spec : {M : Type 1} → statement M
 expect_spec = tie.close (tie.spec eat-requires error-requires same_length same-length-2 same-length-3 returns same-length-4 same-length-5 same-length-6 returns-2)

@@ -2,7 +2,7 @@
 use native.Mathlib.Omega.{arith}
 use lib.Dec.{lit<}
 use Rattle.basics.proofs.Flags.{flags}
-use Rattle.machine.proofs.Way.{c-act, c-ret, c-seq}
+use Rattle.machine.proofs.Way.{c_act, c_ret, c_seq}
 use Rattle.steps.proofs.Ways.{whole, opened, lands, completes}
 use Rattle.names.proofs.Opened.{reference_consume_is}
 use Rattle.names.proofs.reference.consume.Statement.{statement}
@@ -55,7 +55,7 @@ returns c =
     let f = e.before.before.before.before in
     let g = f.before.before in
     let s = g.before.before.before.before.before in
-    (λ ask b. whole (opened reference_consume_is (completes (lit< tt) g.new.ensures (f.start.ensures.0 _ _ _) (c-seq (c-seq (c-act (e.bump.ensures.0 b _ _ _)) (lands (d.reference_noamp.ensures.0 ask b))) c-ret) (a.complete.ensures.0 _ _ _))), omega (flags, f.start.ensures.1 s.args.tokens.now, e.bump.ensures.1, d.reference_noamp.ensures.1, a.complete.ensures.1 s.args.tokens.now))
+    (λ ask b. whole (opened reference_consume_is (completes (lit< tt) g.new.ensures (f.start.ensures.0 _ _ _) (c_seq (c_seq (c_act (e.bump.ensures.0 b _ _ _)) (lands (d.reference_noamp.ensures.0 ask b))) c_ret) (a.complete.ensures.0 _ _ _))), omega (flags, f.start.ensures.1 s.args.tokens.now, e.bump.ensures.1, d.reference_noamp.ensures.1, a.complete.ensures.1 s.args.tokens.now))
 
 pub consume_spec : {M : Type 1} → statement M
 consume_spec = tie.close (tie.spec new-requires start-requires bump-requires reference-noamp-requires complete-requires same_length same-length-2 same-length-3 returns)

@@ -3,7 +3,7 @@ use mathlib.Core.Path.{ap}
 use native.Mathlib.Omega.{arith}
 use Rattle.basics.proofs.Flags.{flags}
 use Rattle.definitions.specs.Run.{truth}
-use Rattle.machine.proofs.Way.{c-walk, c-ret, c-seq}
+use Rattle.machine.proofs.Way.{c_walk, c_ret, c_seq}
 use Rattle.steps.proofs.Ways.{ends, opened, lands, if_no, if_yes}
 use Rattle.names.proofs.Opened.{path_is}
 use Rattle.names.proofs.reference.path.Statement.{statement}
@@ -27,7 +27,7 @@ returns c =
     let d = a.before.before.before in
     let e = d.before.before.before in
     let f = e.before.before.before in
-    (λ ask b. ends (opened path_is (if_yes (c-walk (f.eat.ensures.0 ask b _ _)) (ap truth e.if1.true) (if_yes (c-walk (d.eat2.ensures.0 ask b _ _)) (ap truth a.if2.true) c-ret))), omega (flags, f.eat.ensures.1.0, f.eat.ensures.1.1 e.if1.true, d.eat2.ensures.1.0, d.eat2.ensures.1.1 a.if2.true))
+    (λ ask b. ends (opened path_is (if_yes (c_walk (f.eat.ensures.0 ask b _ _)) (ap truth e.if1.true) (if_yes (c_walk (d.eat2.ensures.0 ask b _ _)) (ap truth a.if2.true) c_ret))), omega (flags, f.eat.ensures.1.0, f.eat.ensures.1.1 e.if1.true, d.eat2.ensures.1.0, d.eat2.ensures.1.1 a.if2.true))
 
 path-segment-requires : tie.Need-path-segment-requires
 path-segment-requires c κs = tt
@@ -67,7 +67,7 @@ returns-2 c =
     let f = e.before.before.before in
     let g = f.before.before.before in
     let i = g.before.before.before in
-    (λ ask b. ends (opened path_is (if_yes (c-walk (i.eat.ensures.0 ask b _ _)) (ap truth g.if1.true) (if_no (c-walk (f.eat2.ensures.0 ask b _ _)) (ap truth e.if2.false) (c-seq (lands (d.path_segment.ensures.0 ask b)) (lands (a.path_rest.ensures.0 ask b)))))), omega (flags, i.eat.ensures.1.0, i.eat.ensures.1.1 g.if1.true, f.eat2.ensures.1.0, d.path_segment.ensures.1, a.path_rest.ensures.1))
+    (λ ask b. ends (opened path_is (if_yes (c_walk (i.eat.ensures.0 ask b _ _)) (ap truth g.if1.true) (if_no (c_walk (f.eat2.ensures.0 ask b _ _)) (ap truth e.if2.false) (c_seq (lands (d.path_segment.ensures.0 ask b)) (lands (a.path_rest.ensures.0 ask b)))))), omega (flags, i.eat.ensures.1.0, i.eat.ensures.1.1 g.if1.true, f.eat2.ensures.1.0, d.path_segment.ensures.1, a.path_rest.ensures.1))
 
 eat-requires-3 : tie.Need-eat-requires-3
 eat-requires-3 c κs = tt
@@ -103,7 +103,7 @@ returns-3 c =
     let e = d.before.before.before in
     let f = e.before.before.before in
     let g = f.before.before.before in
-    (λ ask b. ends (opened path_is (if_no (c-walk (g.eat.ensures.0 ask b _ _)) (ap truth f.if1.false) (c-seq (if_yes (c-walk (e.eat3.ensures.0 ask b _ _)) (ap truth d.if3.true) c-ret) (lands (a.path-rest2.ensures.0 ask b))))), omega (flags, g.eat.ensures.1.0, e.eat3.ensures.1.0, e.eat3.ensures.1.1 d.if3.true, a.path-rest2.ensures.1))
+    (λ ask b. ends (opened path_is (if_no (c_walk (g.eat.ensures.0 ask b _ _)) (ap truth f.if1.false) (c_seq (if_yes (c_walk (e.eat3.ensures.0 ask b _ _)) (ap truth d.if3.true) c_ret) (lands (a.path-rest2.ensures.0 ask b))))), omega (flags, g.eat.ensures.1.0, e.eat3.ensures.1.0, e.eat3.ensures.1.1 d.if3.true, a.path-rest2.ensures.1))
 
 error-requires : tie.Need-error-requires
 error-requires c κs = tt
@@ -143,7 +143,7 @@ returns-4 c =
     let f = e.before.before.before in
     let g = f.before.before.before in
     let i = g.before.before.before in
-    (λ ask b. ends (opened path_is (if_no (c-walk (i.eat.ensures.0 ask b _ _)) (ap truth g.if1.false) (c-seq (if_no (c-walk (f.eat3.ensures.0 ask b _ _)) (ap truth e.if3.false) (c-walk (d.error.ensures.0 ask b))) (lands (a.path-rest3.ensures.0 ask b))))), omega (flags, i.eat.ensures.1.0, f.eat3.ensures.1.0, d.error.ensures.1, a.path-rest3.ensures.1))
+    (λ ask b. ends (opened path_is (if_no (c_walk (i.eat.ensures.0 ask b _ _)) (ap truth g.if1.false) (c_seq (if_no (c_walk (f.eat3.ensures.0 ask b _ _)) (ap truth e.if3.false) (c_walk (d.error.ensures.0 ask b))) (lands (a.path-rest3.ensures.0 ask b))))), omega (flags, i.eat.ensures.1.0, f.eat3.ensures.1.0, d.error.ensures.1, a.path-rest3.ensures.1))
 
 pub path_spec : {M : Type 1} → statement M
 path_spec = tie.close (tie.spec eat-requires eat-requires-2 same_length returns path-segment-requires path-rest-requires same-length-2 same-length-3 same-length-4 returns-2 eat-requires-3 path-rest-requires-2 same-length-5 same-length-6 same-length-7 returns-3 error-requires path-rest-requires-3 same-length-8 same-length-9 same-length-10 returns-4)

@@ -1,7 +1,7 @@
 -- `path_rest`: the segments, and the RCurly.
 use native.Mathlib.Omega.{arith}
 use Rattle.basics.proofs.Flags.{flags}
-use Rattle.machine.proofs.Way.{c-walk, c-seq}
+use Rattle.machine.proofs.Way.{c_walk, c_seq}
 use Rattle.steps.proofs.Ways.{ends, opened}
 use Rattle.names.proofs.Opened.{path_rest_is}
 use Rattle.names.proofs.reference.path_rest.Statement.{statement}
@@ -35,7 +35,7 @@ returns : tie.Need-returns
 returns c =
     let a = c.before.before.before.before.before.before.before in
     let d = a.before.before.before.before.before.before.before.before.before.before.before in
-    (λ ask b. ends (opened path_rest_is (c-seq (c-walk (d.path-segments.ensures.0 ask b)) (c-walk (a.expect.ensures.0 ask b)))), omega (flags, d.path-segments.ensures.1, a.expect.ensures.1.0))
+    (λ ask b. ends (opened path_rest_is (c_seq (c_walk (d.path-segments.ensures.0 ask b)) (c_walk (a.expect.ensures.0 ask b)))), omega (flags, d.path-segments.ensures.1, a.expect.ensures.1.0))
 
 pub path_rest_spec : {M : Type 1} → statement M
 path_rest_spec = tie.close (tie.spec path-segments-requires expect-requires same_length same-length-2 same-length-3 returns)

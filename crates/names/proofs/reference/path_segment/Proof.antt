@@ -3,7 +3,7 @@ use mathlib.Core.Path.{ap}
 use native.Mathlib.Omega.{arith}
 use Rattle.basics.proofs.Flags.{flags}
 use Rattle.definitions.specs.Run.{truth}
-use Rattle.machine.proofs.Way.{c-walk}
+use Rattle.machine.proofs.Way.{c_walk}
 use Rattle.steps.proofs.Ways.{ends, opened, if_no, if_yes}
 use Rattle.names.proofs.Opened.{path_segment_is}
 use Rattle.names.proofs.reference.path_segment.Statement.{statement}
@@ -41,7 +41,7 @@ returns c =
     let a = c.before.before.before.before.before.before.before in
     let d = a.before.before.before.before.before in
     let e = d.before.before.before in
-    (λ ask b. ends (opened path_segment_is (if_yes (c-walk (e.eat.ensures.0 ask b _ _)) (ap truth d.if1.true) (c-walk (a.eat2.ensures.0 ask b)))), omega (flags, e.eat.ensures.1.0, e.eat.ensures.1.1 d.if1.true, a.eat2.ensures.1.0))
+    (λ ask b. ends (opened path_segment_is (if_yes (c_walk (e.eat.ensures.0 ask b _ _)) (ap truth d.if1.true) (c_walk (a.eat2.ensures.0 ask b)))), omega (flags, e.eat.ensures.1.0, e.eat.ensures.1.1 d.if1.true, a.eat2.ensures.1.0))
 
 same-length-4 : tie.Need-same-length-4
 same-length-4 c =
@@ -66,7 +66,7 @@ returns-2 c =
     let a = c.before.before.before.before.before.before in
     let d = a.before.before.before.before.before in
     let e = d.before.before.before in
-    (λ ask b. ends (opened path_segment_is (if_no (c-walk (e.eat.ensures.0 ask b _ _)) (ap truth d.if1.false) (c-walk (a.error.ensures.0 ask b)))), omega (flags, e.eat.ensures.1.0, a.error.ensures.1))
+    (λ ask b. ends (opened path_segment_is (if_no (c_walk (e.eat.ensures.0 ask b _ _)) (ap truth d.if1.false) (c_walk (a.error.ensures.0 ask b)))), omega (flags, e.eat.ensures.1.0, a.error.ensures.1))
 
 pub path_segment_spec : {M : Type 1} → statement M
 path_segment_spec = tie.close (tie.spec eat-requires eat-requires-2 error-requires same_length same-length-2 same-length-3 returns same-length-4 same-length-5 same-length-6 returns-2)

@@ -12,9 +12,9 @@ use Rattle.definitions.specs.Run.{truth}
 use Rattle.definitions.specs.Grammar.{path_turn}
 use Rattle.machine.specs.Machine.{Machine}
 use Rattle.machine.specs.Walk.{Walked, walk}
-use Rattle.machine.proofs.Way.{c-walk, c-ret, c-seq}
+use Rattle.machine.proofs.Way.{c_walk, c_ret, c_seq}
 use Rattle.parser.specs.View.{view, tokens_left}
-use Rattle.steps.proofs.Ways.{opened, lands, if_no, if_yes, turns, stops-yes}
+use Rattle.steps.proofs.Ways.{opened, lands, if_no, if_yes, turns, stops_yes}
 use Rattle.steps.proofs.Left.{ahead_falls}
 use Rattle.names.proofs.Opened.{path_turn_is}
 use Rattle.names.proofs.reference.path_segments.Statement.{statement}
@@ -55,7 +55,7 @@ loop-again c =
     let f = e.before in
     let g = f.before.before in
     let s = g.before.before.before.before.before in
-    (λ ask b. turns (opened path_turn_is (if_yes (c-walk (f.at_segment.ensures.0 ask b _ _ _)) (ap truth e.if1.true) (c-seq (c-seq (c-walk (d.expect.ensures.0 ask b)) (lands (a.path_segment.ensures.0 ask b))) c-ret))) (ahead_falls s.args.tokens.now g.loop.q a.path_segment.result (omega (flags, g.loop.invariant.1.0, f.at_segment.ensures.1.0, f.at_segment.ensures.1.1 e.if1.true, d.expect.ensures.1.0, a.path_segment.ensures.1))) ∙ g.loop.invariant.0 ask b, (omega (flags, g.loop.invariant.1.0, f.at_segment.ensures.1.0, f.at_segment.ensures.1.1 e.if1.true, d.expect.ensures.1.0, a.path_segment.ensures.1), (omega (arith, g.loop.invariant.1.1, d.expect.auto, a.path_segment.auto), (omega (arith, g.loop.invariant.1.1, d.expect.auto, a.path_segment.auto), omega (arith, g.loop.invariant.1.1, d.expect.auto, a.path_segment.auto)))))
+    (λ ask b. turns (opened path_turn_is (if_yes (c_walk (f.at_segment.ensures.0 ask b _ _ _)) (ap truth e.if1.true) (c_seq (c_seq (c_walk (d.expect.ensures.0 ask b)) (lands (a.path_segment.ensures.0 ask b))) c_ret))) (ahead_falls s.args.tokens.now g.loop.q a.path_segment.result (omega (flags, g.loop.invariant.1.0, f.at_segment.ensures.1.0, f.at_segment.ensures.1.1 e.if1.true, d.expect.ensures.1.0, a.path_segment.ensures.1))) ∙ g.loop.invariant.0 ask b, (omega (flags, g.loop.invariant.1.0, f.at_segment.ensures.1.0, f.at_segment.ensures.1.1 e.if1.true, d.expect.ensures.1.0, a.path_segment.ensures.1), (omega (arith, g.loop.invariant.1.1, d.expect.auto, a.path_segment.auto), (omega (arith, g.loop.invariant.1.1, d.expect.auto, a.path_segment.auto), omega (arith, g.loop.invariant.1.1, d.expect.auto, a.path_segment.auto)))))
 
 same_length : tie.Need-same-length invariant-loop decreases-loop
 same_length c =
@@ -77,7 +77,7 @@ returns c =
     let a = c.before in
     let d = a.before in
     let e = d.before.before in
-    (λ ask b. stops-yes (opened path_turn_is (if_no (c-walk (d.at_segment.ensures.0 ask b _ _ _)) (ap truth a.if1.false) c-ret)) ∙ e.loop.invariant.0 ask b, omega (flags, e.loop.invariant.1.0, d.at_segment.ensures.1.0))
+    (λ ask b. stops_yes (opened path_turn_is (if_no (c_walk (d.at_segment.ensures.0 ask b _ _ _)) (ap truth a.if1.false) c_ret)) ∙ e.loop.invariant.0 ask b, omega (flags, e.loop.invariant.1.0, d.at_segment.ensures.1.0))
 
 pub path_segments_spec : {M : Type 1} → statement M
 path_segments_spec = tie.close (tie.spec invariant-loop decreases-loop loop-holds at-segment-requires expect-requires path-segment-requires loop-less loop-again same_length same-length-2 same-length-3 returns)

@@ -5,7 +5,7 @@ use native.Mathlib.Omega.{arith}
 use Rattle.basics.proofs.Flags.{flags}
 use Rattle.definitions.specs.Run.{truth}
 use Rattle.definitions.specs.Grammar.{Reference}
-use Rattle.machine.proofs.Way.{c-walk, c-act, c-ret, c-seq}
+use Rattle.machine.proofs.Way.{c_walk, c_act, c_ret, c_seq}
 use Rattle.steps.proofs.Ways.{whole, opened, shown, if_no, if_yes}
 use Rattle.names.proofs.Opened.{silent_eat_is, reference_matches_is}
 use Rattle.names.proofs.reference.silent_eat.Statement.{statement}
@@ -37,13 +37,13 @@ returns c =
     let a = c.before.before.before.before.before.before in
     let d = a.before.before.before.before.before in
     let e = d.before in
-    (λ ask b. whole (opened (silent_eat_is Reference) (if_yes (opened reference_matches_is (c-act (e.silent_at.ensures.0 b _ _ _ _))) (ap truth d.if1.true) (c-seq (c-walk (a.consume.ensures.0 ask b)) c-ret))), (omega (flags, e.silent_at.ensures.1.0, e.silent_at.ensures.1.1 d.if1.true, a.consume.ensures.1), λ h. omega (flags, e.silent_at.ensures.1.0, e.silent_at.ensures.1.1 d.if1.true, a.consume.ensures.1)))
+    (λ ask b. whole (opened (silent_eat_is Reference) (if_yes (opened reference_matches_is (c_act (e.silent_at.ensures.0 b _ _ _ _))) (ap truth d.if1.true) (c_seq (c_walk (a.consume.ensures.0 ask b)) c_ret))), (omega (flags, e.silent_at.ensures.1.0, e.silent_at.ensures.1.1 d.if1.true, a.consume.ensures.1), λ h. omega (flags, e.silent_at.ensures.1.0, e.silent_at.ensures.1.1 d.if1.true, a.consume.ensures.1)))
 
 returns-2 : tie.Need-returns-2
 returns-2 c =
     let a = c in
     let d = a.before in
-    (λ ask b. whole (shown a.if1.false (opened (silent_eat_is Reference) (if_no (opened reference_matches_is (c-act (d.silent_at.ensures.0 b _ _ _ _))) (ap truth a.if1.false) c-ret))), (omega (flags, d.silent_at.ensures.1.0), λ h. absurd (false≢true (sym a.if1.false ∙ h))))
+    (λ ask b. whole (shown a.if1.false (opened (silent_eat_is Reference) (if_no (opened reference_matches_is (c_act (d.silent_at.ensures.0 b _ _ _ _))) (ap truth a.if1.false) c_ret))), (omega (flags, d.silent_at.ensures.1.0), λ h. absurd (false≢true (sym a.if1.false ∙ h))))
 
 pub silent_eat_spec : {M : Type 1} → statement M
 silent_eat_spec = tie.close (tie.spec silent-at-requires consume-requires same_length same-length-2 same-length-3 returns returns-2)

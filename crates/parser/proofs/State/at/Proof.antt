@@ -3,7 +3,7 @@ use Rattle.basics.proofs.Flags.{flags}
 use mathlib.Core.Path.{◌∙◌}
 use Rattle.definitions.specs.Token.{tokens_of}
 use Rattle.parser.specs.View.{view, matcher_of}
-use Rattle.parser.proofs.Programs.{matches-is, at-is}
+use Rattle.parser.proofs.Programs.{matches_is, at_is}
 use Rattle.parser.proofs.State.at.Statement.{statement}
 use Rattle.parser.proofs.State.at.Tie as tie
 
@@ -23,9 +23,9 @@ returns c =
     let push_expected = c.before.push_expected in
     let silent = c.silent in (
       λ ask b events reports pool.
-          at-is ask ts b (matcher_of args.m) (view self codes₀ events reports pool) (view push_expected.result _ events reports pool) _
+          at_is ask ts b (matcher_of args.m) (view self codes₀ events reports pool) (view push_expected.result _ events reports pool) _
           (push_expected.ensures.0 ask ts b events reports pool)
-          (silent.ensures.0 b _ events reports pool ∙ matches-is ask ts b args.m (view push_expected.result _ events reports pool)),
+          (silent.ensures.0 b _ events reports pool ∙ matches_is ask ts b args.m (view push_expected.result _ events reports pool)),
       (omega (flags, push_expected.ensures.1 tokens, silent.ensures.1.0), silent.ensures.1.1),
     )
 

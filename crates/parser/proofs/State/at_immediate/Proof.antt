@@ -2,7 +2,7 @@
 use Rattle.basics.proofs.Flags.{flags}
 use Rattle.definitions.specs.Token.{tokens_of}
 use Rattle.parser.specs.View.{view, tokens_left}
-use Rattle.parser.proofs.Programs.{immediate-is}
+use Rattle.parser.proofs.Programs.{immediate_is}
 use Rattle.parser.proofs.State.at_immediate.Statement.{statement}
 use Rattle.parser.proofs.State.at_immediate.Tie as tie
 
@@ -23,7 +23,7 @@ returns c =
     let add_expected = c.before.add_expected in
     let is_at = c.is_at in (
       λ ask b events reports pool.
-          immediate-is ask ts b args.k (view self codes₀ events reports pool) (view add_expected.result _ events reports pool) _
+          immediate_is ask ts b args.k (view self codes₀ events reports pool) (view add_expected.result _ events reports pool) _
           (add_expected.ensures.0 ts b events reports pool) is_at.ensures.0,
       (add_expected.ensures.1 tokens, λ e. omega (flags, is_at.ensures.1 e)),
     )

@@ -6,7 +6,7 @@ use Rattle.definitions.specs.Token.{tokens_of}
 use Rattle.definitions.specs.Prog.{bump}
 use Rattle.definitions.specs.Check.{bump! }
 use Rattle.parser.specs.View.{view}
-use Rattle.parser.proofs.Programs.{answered, walk-act, end-yes, end-no}
+use Rattle.parser.proofs.Programs.{answered, walk_act, end_yes, end_no}
 use borrow.Author.Rules.{rules}
 use Rattle.parser.proofs.State.bump_unless_at_end.Statement.{statement}
 use Rattle.parser.proofs.State.bump_unless_at_end.Tie as tie
@@ -27,7 +27,7 @@ returns c =
     let at_end = c.before.before.at_end in
     let if1 = c.before.if1 in (
       λ ask b codes reports pool.
-          end-yes ask ts b bump! (view self codes events₀ reports pool) (view at_end.result.s codes events₀ reports pool)
+          end_yes ask ts b bump! (view self codes events₀ reports pool) (view at_end.result.s codes events₀ reports pool)
           (answered _ true _ _ (at_end.ensures.0 b codes events₀ reports pool) if1.true),
       omega (flags, at_end.ensures.1.1.1 if1.true),
     )
@@ -46,9 +46,9 @@ returns-2 c =
     let if1 = c.before.before.before.before.if1 in
     let bump' = c.before.before.bump in (
       λ ask b codes reports pool.
-          end-no ask ts b bump! (view self codes events₀ reports pool) (view at_end.result.s codes events₀ reports pool) _
+          end_no ask ts b bump! (view self codes events₀ reports pool) (view at_end.result.s codes events₀ reports pool) _
           (answered _ false _ _ (at_end.ensures.0 b codes events₀ reports pool) if1.false)
-          (bump'.ensures.0 b codes reports pool ∙ walk-act ask ts b bump (view at_end.result.s codes events₀ reports pool)),
+          (bump'.ensures.0 b codes reports pool ∙ walk_act ask ts b bump (view at_end.result.s codes events₀ reports pool)),
       omega (flags, at_end.ensures.1.0, bump'.ensures.1),
     )
 

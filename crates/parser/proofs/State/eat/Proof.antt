@@ -4,7 +4,7 @@ use mathlib.Core.Path.{sym, ◌∙◌}
 use mathlib.Core.Bool.{true, false, false≢true}
 use Rattle.definitions.specs.Token.{tokens_of}
 use Rattle.parser.specs.View.{view, matcher_of}
-use Rattle.parser.proofs.Programs.{answered, matches-is, eat-yes, eat-no}
+use Rattle.parser.proofs.Programs.{answered, matches_is, eat_yes, eat_no}
 use borrow.Author.Rules.{rules}
 use Rattle.parser.proofs.State.eat.Statement.{statement}
 use Rattle.parser.proofs.State.eat.Tie as tie
@@ -33,8 +33,8 @@ returns c =
     let if1 = c.before.before.before.before.if1 in
     let consume = c.before.before.consume in (
       λ ask b reports pool.
-          eat-yes ask ts b (matcher_of args.m) (view self codes₀ events₀ reports pool) (view silent.result.s codes₀ events₀ reports pool) _
-          (sym (matches-is ask ts b args.m (view self codes₀ events₀ reports pool))
+          eat_yes ask ts b (matcher_of args.m) (view self codes₀ events₀ reports pool) (view silent.result.s codes₀ events₀ reports pool) _
+          (sym (matches_is ask ts b args.m (view self codes₀ events₀ reports pool))
           ∙ answered _ true _ _ (silent.ensures.0 b codes₀ events₀ reports pool) if1.true)
           (consume.ensures.0 ask b codes₀ reports pool),
       (omega (flags, silent.ensures.1.0, consume.ensures.1), λ e. omega (flags, silent.ensures.1.0, consume.ensures.1)),
@@ -52,8 +52,8 @@ returns-2 c =
     let if1 = c.before.before.if1 in
     let push_expected = c.push_expected in (
       λ ask b reports pool.
-          eat-no ask ts b (matcher_of args.m) (view self codes₀ events₀ reports pool) (view silent.result.s codes₀ events₀ reports pool) _
-          (sym (matches-is ask ts b args.m (view self codes₀ events₀ reports pool))
+          eat_no ask ts b (matcher_of args.m) (view self codes₀ events₀ reports pool) (view silent.result.s codes₀ events₀ reports pool) _
+          (sym (matches_is ask ts b args.m (view self codes₀ events₀ reports pool))
           ∙ answered _ false _ _ (silent.ensures.0 b codes₀ events₀ reports pool) if1.false)
           (push_expected.ensures.0 ask ts b events₀ reports pool),
       (omega (flags, silent.ensures.1.0, push_expected.ensures.1 tokens), λ e. absurd (false≢true e)),

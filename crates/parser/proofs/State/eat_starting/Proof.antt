@@ -3,7 +3,7 @@ use Rattle.basics.proofs.Flags.{flags}
 use mathlib.Core.Bool.{true, false, false≢true}
 use Rattle.definitions.specs.Token.{tokens_of}
 use Rattle.parser.specs.View.{view, matcher_of, marker_of}
-use Rattle.parser.proofs.Programs.{answered, starting-yes, starting-no}
+use Rattle.parser.proofs.Programs.{answered, starting_yes, starting_no}
 use borrow.Author.Rules.{rules}
 use Rattle.parser.proofs.State.eat_starting.Statement.{statement}
 use Rattle.parser.proofs.State.eat_starting.Tie as tie
@@ -37,7 +37,7 @@ returns c =
     let start' = c.before.before.before.before.before.before.start in
     let consume = c.before.before.consume in (
       λ ask b reports pool.
-          starting-yes ask ts b (matcher_of args.matcher) (view self codes₀ events₀ reports pool) (view at.result.s _ events₀ reports pool) _ _
+          starting_yes ask ts b (matcher_of args.matcher) (view self codes₀ events₀ reports pool) (view at.result.s _ events₀ reports pool) _ _
           (marker_of new.result) (answered _ true _ _ (at.ensures.0 ask b events₀ reports pool) if1.true) new.ensures
           (start'.ensures.0 _ reports pool) (consume.ensures.0 ask b _ reports pool),
       (
@@ -58,7 +58,7 @@ returns-2 c =
     let new = c.before.before.new in
     let if1 = c.before.if1 in (
       λ ask b reports pool.
-          starting-no ask ts b (matcher_of args.matcher) (view self codes₀ events₀ reports pool) (view at.result.s _ events₀ reports pool)
+          starting_no ask ts b (matcher_of args.matcher) (view self codes₀ events₀ reports pool) (view at.result.s _ events₀ reports pool)
           (marker_of new.result) (answered _ false _ _ (at.ensures.0 ask b events₀ reports pool) if1.false) new.ensures,
       (at.ensures.1.0, λ e. absurd (false≢true e)),
     )

@@ -3,7 +3,7 @@ use Rattle.basics.proofs.Flags.{flags}
 use mathlib.Core.Path.{ap}
 use Rattle.definitions.specs.Token.{tokens_of}
 use Rattle.parser.specs.View.{view, span_of, takes}
-use Rattle.parser.proofs.Programs.{error-alone, error-no, error-yes, error-wrapped}
+use Rattle.parser.proofs.Programs.{error_alone, error_no, error_yes, error_wrapped}
 use borrow.Author.Rules.{rules}
 use Rattle.parser.proofs.State.error.Statement.{statement}
 use Rattle.parser.proofs.State.error.Tie as tie
@@ -52,8 +52,8 @@ returns c =
     let emit = c.before.before.before.before.before.before.before.before.emit in
     let enum_told = c.enum_told in (
       λ ask b.
-          error-no ask ts b args.bump args.message args.hint (view self codes₀ events₀ reports₀ pool₀) _ enum_told.given.1
-          (error-alone ask ts b args.message args.hint (span_of no_label.result) (view self codes₀ events₀ reports₀ pool₀) _
+          error_no ask ts b args.bump args.message args.hint (view self codes₀ events₀ reports₀ pool₀) _ enum_told.given.1
+          (error_alone ask ts b args.message args.hint (span_of no_label.result) (view self codes₀ events₀ reports₀ pool₀) _
           no_label.ensures emit.ensures.0),
       omega (flags, emit.ensures.1, ap takes enum_told.given.1),
     )
@@ -82,8 +82,8 @@ returns-2 c =
     let enum-told2 = c.before.before.before.before.enum-told2 in
     let bump-unless-at-end = c.before.before.bump-unless-at-end in (
       λ ask b.
-          error-yes ask ts b args.bump args.message args.hint (view self codes₀ events₀ reports₀ pool₀) _ _ enum-told2.given.1
-          (error-alone ask ts b args.message args.hint (span_of no_label.result) (view self codes₀ events₀ reports₀ pool₀) _
+          error_yes ask ts b args.bump args.message args.hint (view self codes₀ events₀ reports₀ pool₀) _ _ enum-told2.given.1
+          (error_alone ask ts b args.message args.hint (span_of no_label.result) (view self codes₀ events₀ reports₀ pool₀) _
           no_label.ensures emit.ensures.0) (bump-unless-at-end.ensures.0 ask b codes₀ _ _),
       omega (flags, emit.ensures.1, bump-unless-at-end.ensures.1, ap takes enum-told2.given.1),
     )
@@ -112,8 +112,8 @@ returns-3 c =
     let enum-told3 = c.before.before.before.before.enum-told3 in
     let wrap-unless-at-end = c.before.before.wrap-unless-at-end in (
       λ ask b.
-          error-wrapped ask ts b args.bump args.message args.hint (view self codes₀ events₀ reports₀ pool₀) _ _ enum-told3.given.1
-          (error-alone ask ts b args.message args.hint (span_of no_label.result) (view self codes₀ events₀ reports₀ pool₀) _
+          error_wrapped ask ts b args.bump args.message args.hint (view self codes₀ events₀ reports₀ pool₀) _ _ enum-told3.given.1
+          (error_alone ask ts b args.message args.hint (span_of no_label.result) (view self codes₀ events₀ reports₀ pool₀) _
           no_label.ensures emit.ensures.0) (wrap-unless-at-end.ensures.0 ask b codes₀ _ _),
       omega (flags, emit.ensures.1, wrap-unless-at-end.ensures.1, ap takes enum-told3.given.1),
     )

@@ -3,7 +3,7 @@ use Rattle.basics.proofs.Flags.{flags}
 use mathlib.Core.Bool.{false, false≢true}
 use Rattle.definitions.specs.Token.{tokens_of}
 use Rattle.parser.specs.View.{view, matcher_of}
-use Rattle.parser.proofs.Programs.{answered, expect-yes, expect-no}
+use Rattle.parser.proofs.Programs.{answered, expect_yes, expect_no}
 use borrow.Author.Rules.{rules}
 use Rattle.parser.proofs.State.expect.Statement.{statement}
 use Rattle.parser.proofs.State.expect.Tie as tie
@@ -30,7 +30,7 @@ returns c =
     let eat = c.before.before.before.eat in
     let if1 = c.if1 in (
       λ ask b.
-          expect-yes ask ts b (matcher_of args.m) (view self codes₀ events₀ reports₀ pool₀) _ _ (eat.ensures.0 ask b reports₀ pool₀)
+          expect_yes ask ts b (matcher_of args.m) (view self codes₀ events₀ reports₀ pool₀) _ _ (eat.ensures.0 ask b reports₀ pool₀)
           if1.true,
       eat.ensures.1,
     )
@@ -58,7 +58,7 @@ returns-2 c =
     let if1 = c.before.before.before.before.before.before.before.before.before.before.before.if1 in
     let error = c.before.before.before.before.before.before.error in (
       λ ask b.
-          expect-no ask ts b (matcher_of args.m) (view self codes₀ events₀ reports₀ pool₀) (view eat.result.s _ _ reports₀ pool₀) _
+          expect_no ask ts b (matcher_of args.m) (view self codes₀ events₀ reports₀ pool₀) (view eat.result.s _ _ reports₀ pool₀) _
           (answered _ false _ _ (eat.ensures.0 ask b reports₀ pool₀) if1.false) (error.ensures.0 ask b),
       (omega (flags, eat.ensures.1.0, error.ensures.1), λ e. absurd (false≢true e)),
     )

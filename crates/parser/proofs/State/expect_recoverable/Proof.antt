@@ -3,7 +3,7 @@ use Rattle.basics.proofs.Flags.{flags}
 use mathlib.Core.Bool.{true, false}
 use Rattle.definitions.specs.Token.{tokens_of}
 use Rattle.parser.specs.View.{view, matcher_of}
-use Rattle.parser.proofs.Programs.{answered, recoverable-yes, recoverable-in, recoverable-out}
+use Rattle.parser.proofs.Programs.{answered, recoverable_yes, recoverable_in, recoverable_out}
 use borrow.Author.Rules.{rules}
 use Rattle.parser.proofs.State.expect_recoverable.Statement.{statement}
 use Rattle.parser.proofs.State.expect_recoverable.Tie as tie
@@ -28,7 +28,7 @@ returns c =
     let eat = c.before.before.before.eat in
     let if1 = c.if1 in (
       λ ask b.
-          recoverable-yes ask ts b (matcher_of args.m) recovery₀ (view self codes₀ events₀ reports₀ pool₀) _ _
+          recoverable_yes ask ts b (matcher_of args.m) recovery₀ (view self codes₀ events₀ reports₀ pool₀) _ _
           (eat.ensures.0 ask b reports₀ pool₀) if1.true,
       eat.ensures.1.0,
     )
@@ -65,7 +65,7 @@ returns-2 c =
     let if2 = c.before.before.before.before.before.before.before.before.before.before.before.if2 in
     let error = c.before.before.before.before.before.before.error in (
       λ ask b.
-          recoverable-in ask ts b (matcher_of args.m) recovery₀ (view self codes₀ events₀ reports₀ pool₀)
+          recoverable_in ask ts b (matcher_of args.m) recovery₀ (view self codes₀ events₀ reports₀ pool₀)
           (view eat.result.s _ _ reports₀ pool₀) (view silent-at-set.result.s _ _ reports₀ pool₀) _
           (answered _ false _ _ (eat.ensures.0 ask b reports₀ pool₀) if1.false)
           (answered _ true _ _ (silent-at-set.ensures.0 b _ _ reports₀ pool₀) if2.true) (error.ensures.0 ask b),
@@ -101,7 +101,7 @@ returns-3 c =
     let if2 = c.before.before.before.before.before.before.before.before.before.before.before.if2 in
     let error2 = c.before.before.before.before.before.before.error2 in (
       λ ask b.
-          recoverable-out ask ts b (matcher_of args.m) recovery₀ (view self codes₀ events₀ reports₀ pool₀)
+          recoverable_out ask ts b (matcher_of args.m) recovery₀ (view self codes₀ events₀ reports₀ pool₀)
           (view eat.result.s _ _ reports₀ pool₀) (view silent-at-set.result.s _ _ reports₀ pool₀) _
           (answered _ false _ _ (eat.ensures.0 ask b reports₀ pool₀) if1.false)
           (answered _ false _ _ (silent-at-set.ensures.0 b _ _ reports₀ pool₀) if2.false) (error2.ensures.0 ask b),

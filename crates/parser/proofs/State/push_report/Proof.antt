@@ -1,7 +1,7 @@
 -- `push_report`: the row and its codes, or refusal 7.
 use Rattle.basics.proofs.Flags.{flags}
 use Rattle.parser.specs.View.{view, tokens_left, span_of}
-use Rattle.parser.proofs.Reports.{report_fits, report-no-pool, report_no_row}
+use Rattle.parser.proofs.Reports.{report_fits, report_no_pool, report_no_row}
 use borrow.Author.Rules.{rules}
 use Rattle.parser.proofs.State.push_report.Statement.{statement}
 use Rattle.parser.proofs.State.push_report.Tie as tie
@@ -99,7 +99,7 @@ returns-2 c =
     let if2 = c.before.if2 in
     let refuse = c.refuse in (
       λ events quiet.
-          report-no-pool args.message args.hint (span_of args.range) (span_of args.label) (view self codes₀ events reports₀ pool₀)
+          report_no_pool args.message args.hint (span_of args.range) (span_of args.label) (view self codes₀ events reports₀ pool₀)
           codes₀ _ _ _ quiet code-count.ensures.0 code-count.ensures.1 fits2.ensures.0 fits3.ensures.0 _
           if1.true if2.false (refuse.ensures.0 codes₀ events reports₀ pool₀),
       refuse.ensures.1,

@@ -2,7 +2,7 @@
 use mathlib.Core.Bool.{true, false, false≢true}
 use Rattle.definitions.specs.Token.{tokens_of}
 use Rattle.parser.specs.View.{view}
-use Rattle.parser.proofs.Programs.{answered, macro-args-yes, macro-args-no}
+use Rattle.parser.proofs.Programs.{answered, macro_args_yes, macro_args_no}
 use Rattle.parser.proofs.State.silent_at_macro_invocation_with_args.Statement.{statement}
 use Rattle.parser.proofs.State.silent_at_macro_invocation_with_args.Tie as tie
 
@@ -22,7 +22,7 @@ returns c =
     let if1 = c.before.before.if1 in
     let is-next-at = c.is-next-at in (
       λ ask b codes events reports pool.
-          macro-args-yes ask ts b (view self codes events reports pool) (view silent_at.result.s codes events reports pool) _
+          macro_args_yes ask ts b (view self codes events reports pool) (view silent_at.result.s codes events reports pool) _
           (answered _ true _ _ (silent_at.ensures.0 b codes events reports pool) if1.true) is-next-at.ensures,
       (silent_at.ensures.1.0, λ e. silent_at.ensures.1.1 if1.true),
     )
@@ -36,7 +36,7 @@ returns-2 c =
     let silent_at = c.before.before.silent_at in
     let if1 = c.before.if1 in (
       λ ask b codes events reports pool.
-          macro-args-no ask ts b (view self codes events reports pool) (view silent_at.result.s codes events reports pool)
+          macro_args_no ask ts b (view self codes events reports pool) (view silent_at.result.s codes events reports pool)
           (answered _ false _ _ (silent_at.ensures.0 b codes events reports pool) if1.false),
       (silent_at.ensures.1.0, λ e. absurd (false≢true e)),
     )

@@ -6,7 +6,7 @@ use Rattle.definitions.specs.Token.{tokens_of}
 use Rattle.definitions.specs.Run.{truth}
 use Rattle.machine.specs.Walk.{said}
 use Rattle.parser.specs.View.{view, matcher_of}
-use Rattle.parser.proofs.Programs.{answered, matches-is, silent-eat-yes, silent-eat-no}
+use Rattle.parser.proofs.Programs.{answered, matches_is, silent_eat_yes, silent_eat_no}
 use borrow.Author.Rules.{rules}
 use Rattle.parser.proofs.State.silent_eat.Statement.{statement}
 use Rattle.parser.proofs.State.silent_eat.Tie as tie
@@ -31,8 +31,8 @@ returns c =
     let if1 = c.before.before.before.before.if1 in
     let consume = c.before.before.consume in (
       λ ask b codes reports pool.
-          silent-eat-yes ask ts b (matcher_of args.m) (view self codes events₀ reports pool) (view silent.result.s codes events₀ reports pool) _
-          (sym (matches-is ask ts b args.m (view self codes events₀ reports pool))
+          silent_eat_yes ask ts b (matcher_of args.m) (view self codes events₀ reports pool) (view silent.result.s codes events₀ reports pool) _
+          (sym (matches_is ask ts b args.m (view self codes events₀ reports pool))
           ∙ answered _ true _ _ (silent.ensures.0 b codes events₀ reports pool) if1.true) (consume.ensures.0 ask b codes reports pool),
       (omega (flags, silent.ensures.1.0, consume.ensures.1), λ e. omega (flags, silent.ensures.1.0, consume.ensures.1)),
     )
@@ -48,8 +48,8 @@ returns-2 c =
     let if1 = c.if1 in (
       λ ask b codes reports pool.
           ap (λ (y : Bool). said (truth y) (view silent.result.s codes events₀ reports pool)) if1.false
-          ∙ silent-eat-no ask ts b (matcher_of args.m) (view self codes events₀ reports pool) (view silent.result.s codes events₀ reports pool)
-          (sym (matches-is ask ts b args.m (view self codes events₀ reports pool))
+          ∙ silent_eat_no ask ts b (matcher_of args.m) (view self codes events₀ reports pool) (view silent.result.s codes events₀ reports pool)
+          (sym (matches_is ask ts b args.m (view self codes events₀ reports pool))
           ∙ answered _ false _ _ (silent.ensures.0 b codes events₀ reports pool) if1.false),
       (silent.ensures.1.0, λ e. absurd (true≢false (sym e ∙ if1.false))),
     )

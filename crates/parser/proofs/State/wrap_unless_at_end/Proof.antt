@@ -8,7 +8,7 @@ use Rattle.definitions.specs.Prog.{bump}
 use Rattle.definitions.specs.Check.{in_node, bump! }
 use Rattle.definitions.specs.NodeKind as N
 use Rattle.parser.specs.View.{view, marker_of}
-use Rattle.parser.proofs.Programs.{answered, walk-act, walk-node, end-yes, end-no}
+use Rattle.parser.proofs.Programs.{answered, walk_act, walk_node, end_yes, end_no}
 use borrow.Author.Rules.{rules}
 use Rattle.parser.proofs.State.wrap_unless_at_end.Statement.{statement}
 use Rattle.parser.proofs.State.wrap_unless_at_end.Tie as tie
@@ -38,7 +38,7 @@ returns c =
     let at_end = c.before.before.at_end in
     let if1 = c.before.if1 in (
       λ ask b codes reports pool.
-          end-yes ask ts b (in_node N.ParseError bump!) (view self codes events₀ reports pool) (view at_end.result.s codes events₀ reports pool)
+          end_yes ask ts b (in_node N.ParseError bump!) (view self codes events₀ reports pool) (view at_end.result.s codes events₀ reports pool)
           (answered _ true _ _ (at_end.ensures.0 b codes events₀ reports pool) if1.true),
       omega (flags, at_end.ensures.1.1.1 if1.true),
     )
@@ -60,11 +60,11 @@ returns-2 c =
     let bump' = c.before.before.before.before.before.before.bump in
     let complete = c.before.before.complete in (
       λ ask b codes reports pool.
-          end-no ask ts b (in_node N.ParseError bump!) (view self codes events₀ reports pool) (view at_end.result.s codes events₀ reports pool) _
+          end_no ask ts b (in_node N.ParseError bump!) (view self codes events₀ reports pool) (view at_end.result.s codes events₀ reports pool) _
           (answered _ false _ _ (at_end.ensures.0 b codes events₀ reports pool) if1.false)
-          (walk-node ask ts b N.ParseError bump! (marker_of new.result) (view at_end.result.s codes events₀ reports pool)
+          (walk_node ask ts b N.ParseError bump! (marker_of new.result) (view at_end.result.s codes events₀ reports pool)
           (view start'.result codes _ reports pool) _ _ (omega arith) new.ensures (start'.ensures.0 codes reports pool)
-          (sym (bump'.ensures.0 b codes reports pool ∙ walk-act ask ts b bump (view start'.result codes _ reports pool)))
+          (sym (bump'.ensures.0 b codes reports pool ∙ walk_act ask ts b bump (view start'.result codes _ reports pool)))
           (complete.ensures.0 codes reports pool)),
       omega (flags, at_end.ensures.1.0, start'.ensures.1 tokens, bump'.ensures.1, complete.ensures.1 tokens),
     )

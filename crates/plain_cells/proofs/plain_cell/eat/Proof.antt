@@ -9,9 +9,9 @@ use Rattle.definitions.specs.Check.{set, silent}
 use Rattle.definitions.specs.Grammar.{Reference}
 use Rattle.machine.specs.Machine.{Machine}
 use Rattle.machine.specs.Walk.{said, unlabelled}
-use Rattle.machine.proofs.Way.{c-walk, c-act, c-ret, c-seq, c-yes, c-no}
+use Rattle.machine.proofs.Way.{c_walk, c_act, c_ret, c_seq, c_yes, c_no}
 use Rattle.steps.proofs.Left.{some_left}
-use Rattle.steps.proofs.Steps.{c-ret-yes, taken-some}
+use Rattle.steps.proofs.Steps.{c_ret_yes, taken_some}
 use Rattle.plain_cells.proofs.plain_cell.eat.Statement.{statement}
 use Rattle.plain_cells.proofs.plain_cell.eat.Tie as tie
 
@@ -33,7 +33,7 @@ returns c =
     let d = a.before.before.before in
     let e = d.before.before in
     let s = e.before.before.before.before.before.before in
-    (λ ask b. (c-seq (c-act (e.add_expected.ensures.0 (tokens_of s.args.tokens.now) b _ _ _)) (c-yes (c-walk (d.silent_eat.ensures.0 ask b _ _ _)) a.if1.true (c-ret-yes a.if1.true))).is, (omega (arith, e.add_expected.ensures.1 s.args.tokens.now, d.silent_eat.ensures.1.0, d.silent_eat.ensures.1.1 a.if1.true), λ h. omega (arith, e.add_expected.ensures.1 s.args.tokens.now, d.silent_eat.ensures.1.0, d.silent_eat.ensures.1.1 a.if1.true, some_left s.args.tokens.now e.add_expected.result (taken-some (λ (r : Rule) (m : Machine). said no m) (tokens_of s.args.tokens.now) unlabelled (K.Number ∷ K.Char ∷ []) (set (K.Number ∷ K.Char ∷ [])) _ _ d.silent_eat.result.yes refl (d.silent_eat.ensures.0 (λ (r : Rule) (m : Machine). said no m) unlabelled [] [] []) a.if1.true))))
+    (λ ask b. (c_seq (c_act (e.add_expected.ensures.0 (tokens_of s.args.tokens.now) b _ _ _)) (c_yes (c_walk (d.silent_eat.ensures.0 ask b _ _ _)) a.if1.true (c_ret_yes a.if1.true))).is, (omega (arith, e.add_expected.ensures.1 s.args.tokens.now, d.silent_eat.ensures.1.0, d.silent_eat.ensures.1.1 a.if1.true), λ h. omega (arith, e.add_expected.ensures.1 s.args.tokens.now, d.silent_eat.ensures.1.0, d.silent_eat.ensures.1.1 a.if1.true, some_left s.args.tokens.now e.add_expected.result (taken_some (λ (r : Rule) (m : Machine). said no m) (tokens_of s.args.tokens.now) unlabelled (K.Number ∷ K.Char ∷ []) (set (K.Number ∷ K.Char ∷ [])) _ _ d.silent_eat.result.yes refl (d.silent_eat.ensures.0 (λ (r : Rule) (m : Machine). said no m) unlabelled [] [] []) a.if1.true))))
 
 silent-at-requires : tie.Need-silent-at-requires
 silent-at-requires c κs = tt
@@ -69,7 +69,7 @@ returns-2 c =
     let g = f.before.before.before in
     let i = g.before.before in
     let s = i.before.before.before.before.before.before in
-    (λ ask b. (c-seq (c-act (i.add_expected.ensures.0 (tokens_of s.args.tokens.now) b _ _ _)) (c-no (c-walk (g.silent_eat.ensures.0 ask b _ _ _)) f.if1.false (c-yes (c-act (e.silent_at.ensures.0 b _ _ _ _)) d.if2.true (c-seq (c-walk (a.macro_invocation.ensures.0 ask b)) c-ret)))).is, (omega (arith, i.add_expected.ensures.1 s.args.tokens.now, g.silent_eat.ensures.1.0, e.silent_at.ensures.1.0, e.silent_at.ensures.1.1 d.if2.true, a.macro_invocation.ensures.1), λ h. omega (arith, i.add_expected.ensures.1 s.args.tokens.now, g.silent_eat.ensures.1.0, e.silent_at.ensures.1.0, e.silent_at.ensures.1.1 d.if2.true, a.macro_invocation.ensures.1)))
+    (λ ask b. (c_seq (c_act (i.add_expected.ensures.0 (tokens_of s.args.tokens.now) b _ _ _)) (c_no (c_walk (g.silent_eat.ensures.0 ask b _ _ _)) f.if1.false (c_yes (c_act (e.silent_at.ensures.0 b _ _ _ _)) d.if2.true (c_seq (c_walk (a.macro_invocation.ensures.0 ask b)) c_ret)))).is, (omega (arith, i.add_expected.ensures.1 s.args.tokens.now, g.silent_eat.ensures.1.0, e.silent_at.ensures.1.0, e.silent_at.ensures.1.1 d.if2.true, a.macro_invocation.ensures.1), λ h. omega (arith, i.add_expected.ensures.1 s.args.tokens.now, g.silent_eat.ensures.1.0, e.silent_at.ensures.1.0, e.silent_at.ensures.1.1 d.if2.true, a.macro_invocation.ensures.1)))
 
 silent-eat-requires-2 : tie.Need-silent-eat-requires-2
 silent-eat-requires-2 c κs = tt
@@ -102,7 +102,7 @@ returns-3 c =
     let g = f.before.before.before in
     let i = g.before.before in
     let s = i.before.before.before.before.before.before in
-    (λ ask b. (c-seq (c-act (i.add_expected.ensures.0 (tokens_of s.args.tokens.now) b _ _ _)) (c-no (c-walk (g.silent_eat.ensures.0 ask b _ _ _)) f.if1.false (c-no (c-act (e.silent_at.ensures.0 b _ _ _ _)) d.if2.false (c-walk (a.silent-eat2.ensures.0 ask b))))).is, (omega (arith, i.add_expected.ensures.1 s.args.tokens.now, g.silent_eat.ensures.1.0, e.silent_at.ensures.1.0, a.silent-eat2.ensures.1.0), λ h. omega (arith, i.add_expected.ensures.1 s.args.tokens.now, g.silent_eat.ensures.1.0, e.silent_at.ensures.1.0, a.silent-eat2.ensures.1.0, a.silent-eat2.ensures.1.1 h, some_left s.args.tokens.now e.silent_at.result.s (taken-some (λ (r : Rule) (m : Machine). said no m) (tokens_of s.args.tokens.now) unlabelled (K.Ampersand ∷ []) Reference _ _ a.silent-eat2.result.yes refl (a.silent-eat2.ensures.0 (λ (r : Rule) (m : Machine). said no m) unlabelled) h))))
+    (λ ask b. (c_seq (c_act (i.add_expected.ensures.0 (tokens_of s.args.tokens.now) b _ _ _)) (c_no (c_walk (g.silent_eat.ensures.0 ask b _ _ _)) f.if1.false (c_no (c_act (e.silent_at.ensures.0 b _ _ _ _)) d.if2.false (c_walk (a.silent-eat2.ensures.0 ask b))))).is, (omega (arith, i.add_expected.ensures.1 s.args.tokens.now, g.silent_eat.ensures.1.0, e.silent_at.ensures.1.0, a.silent-eat2.ensures.1.0), λ h. omega (arith, i.add_expected.ensures.1 s.args.tokens.now, g.silent_eat.ensures.1.0, e.silent_at.ensures.1.0, a.silent-eat2.ensures.1.0, a.silent-eat2.ensures.1.1 h, some_left s.args.tokens.now e.silent_at.result.s (taken_some (λ (r : Rule) (m : Machine). said no m) (tokens_of s.args.tokens.now) unlabelled (K.Ampersand ∷ []) Reference _ _ a.silent-eat2.result.yes refl (a.silent-eat2.ensures.0 (λ (r : Rule) (m : Machine). said no m) unlabelled) h))))
 
 pub eat_spec : {M : Type 1} → statement M
 eat_spec = tie.close (tie.spec add-expected-requires silent-eat-requires same_length returns silent-at-requires macro-invocation-requires same-length-2 same-length-3 same-length-4 returns-2 silent-eat-requires-2 same-length-5 same-length-6 same-length-7 returns-3)

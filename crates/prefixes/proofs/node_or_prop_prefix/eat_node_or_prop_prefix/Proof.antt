@@ -1,7 +1,7 @@
 -- `eat_node_or_prop_prefix` is the walk of its program, step by step.
 use native.Mathlib.Omega.{arith}
 use Rattle.definitions.specs.Grammar.{eat_node_or_prop_prefix}
-use Rattle.machine.proofs.Way.{c-walk, c-yes, c-no}
+use Rattle.machine.proofs.Way.{c_walk, c_yes, c_no}
 use Rattle.prefixes.proofs.node_or_prop_prefix.eat_node_or_prop_prefix.Statement.{statement}
 use Rattle.prefixes.proofs.node_or_prop_prefix.eat_node_or_prop_prefix.Tie as tie
 
@@ -38,7 +38,7 @@ returns c =
     let a = c.before.before.before.before.before.before in
     let d = a.before.before.before.before.before in
     let e = d.before.before.before in
-    (λ ask b. (c-yes (c-walk (e.eat.ensures.0 ask b _ _)) d.if1.true (c-walk (a.labels_and_name.ensures.0 ask b))).is, omega (arith, e.eat.ensures.1.0, e.eat.ensures.1.1 d.if1.true, a.labels_and_name.ensures.1))
+    (λ ask b. (c_yes (c_walk (e.eat.ensures.0 ask b _ _)) d.if1.true (c_walk (a.labels_and_name.ensures.0 ask b))).is, omega (arith, e.eat.ensures.1.0, e.eat.ensures.1.1 d.if1.true, a.labels_and_name.ensures.1))
 
 same-length-4 : tie.Need-same-length-4
 same-length-4 c =
@@ -64,7 +64,7 @@ returns-2 c =
     let a = c.before.before.before.before.before.before in
     let d = a.before.before.before.before.before in
     let e = d.before.before.before in
-    (λ ask b. (c-no (c-walk (e.eat.ensures.0 ask b _ _)) d.if1.false (c-walk (a.labels-and-name2.ensures.0 ask b))).is, omega (arith, e.eat.ensures.1.0, a.labels-and-name2.ensures.1))
+    (λ ask b. (c_no (c_walk (e.eat.ensures.0 ask b _ _)) d.if1.false (c_walk (a.labels-and-name2.ensures.0 ask b))).is, omega (arith, e.eat.ensures.1.0, a.labels-and-name2.ensures.1))
 
 pub eat_node_or_prop_prefix_spec : {M : Type 1} → statement M
 eat_node_or_prop_prefix_spec = tie.close (tie.spec eat-requires labels-and-name-requires labels-and-name-requires-2 same_length same-length-2 same-length-3 returns same-length-4 same-length-5 same-length-6 returns-2)

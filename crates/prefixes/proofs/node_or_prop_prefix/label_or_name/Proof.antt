@@ -2,7 +2,7 @@
 use mathlib.Core.Path.{ap, ◌∙◌}
 use native.Mathlib.Omega.{arith}
 use Rattle.definitions.specs.Check.{silent}
-use Rattle.machine.proofs.Way.{c-walk, c-ret, c-seq, c-yes, c-no, c-mark, completed}
+use Rattle.machine.proofs.Way.{c_walk, c_ret, c_seq, c_yes, c_no, c_mark, completed}
 use Rattle.parser.specs.View.{tokens_left}
 use Rattle.steps.proofs.Steps.{ignored, some_is}
 use Rattle.prefixes.proofs.node_or_prop_prefix.label_or_name.Statement.{statement}
@@ -57,7 +57,7 @@ returns c =
     let g = f.before.before.before.before.before.before.before in
     let i = g.before.before in
     let s = i.before.before.before.before.before in
-    (λ ask b. (c-mark i.new.ensures (g.start.ensures.0 _ _ _) (c-seq (c-walk (f.consume.ensures.0 ask b)) (c-yes (c-walk (e.eat.ensures.0 ask b _ _)) d.if1.true c-ret)) (completed (a.complete.ensures.0 _ _ _))).is, omega (arith, g.start.ensures.1 s.args.tokens.now, f.consume.ensures.1, e.eat.ensures.1.0, e.eat.ensures.1.1 d.if1.true, a.complete.ensures.1 s.args.tokens.now))
+    (λ ask b. (c_mark i.new.ensures (g.start.ensures.0 _ _ _) (c_seq (c_walk (f.consume.ensures.0 ask b)) (c_yes (c_walk (e.eat.ensures.0 ask b _ _)) d.if1.true c_ret)) (completed (a.complete.ensures.0 _ _ _))).is, omega (arith, g.start.ensures.1 s.args.tokens.now, f.consume.ensures.1, e.eat.ensures.1.0, e.eat.ensures.1.1 d.if1.true, a.complete.ensures.1 s.args.tokens.now))
 
 eat-unit-address-and-at-colon-requires : tie.Need-eat-unit-address-and-at-colon-requires
 eat-unit-address-and-at-colon-requires c κs = tt
@@ -111,7 +111,7 @@ returns-2 c =
     let l = j.before.before.before.before.before.before.before in
     let m = l.before.before in
     let s = m.before.before.before.before.before in
-    (λ ask b. (c-mark m.new.ensures (l.start.ensures.0 _ _ _) (c-seq (c-walk (j.consume.ensures.0 ask b)) (c-no (c-walk (i.eat.ensures.0 ask b _ _)) g.if1.false (c-yes (c-walk (f.eat-unit-address-and-at-colon.ensures.0 ask b)) e.if2.true (c-seq (c-walk (d.error.ensures.0 ask b)) c-ret)))) (completed (a.complete2.ensures.0 _ _ _))).is, omega (arith, l.start.ensures.1 s.args.tokens.now, j.consume.ensures.1, i.eat.ensures.1.0, f.eat-unit-address-and-at-colon.ensures.1, d.error.ensures.1, a.complete2.ensures.1 s.args.tokens.now))
+    (λ ask b. (c_mark m.new.ensures (l.start.ensures.0 _ _ _) (c_seq (c_walk (j.consume.ensures.0 ask b)) (c_no (c_walk (i.eat.ensures.0 ask b _ _)) g.if1.false (c_yes (c_walk (f.eat-unit-address-and-at-colon.ensures.0 ask b)) e.if2.true (c_seq (c_walk (d.error.ensures.0 ask b)) c_ret)))) (completed (a.complete2.ensures.0 _ _ _))).is, omega (arith, l.start.ensures.1 s.args.tokens.now, j.consume.ensures.1, i.eat.ensures.1.0, f.eat-unit-address-and-at-colon.ensures.1, d.error.ensures.1, a.complete2.ensures.1 s.args.tokens.now))
 
 ignore-requires : tie.Need-ignore-requires
 ignore-requires c κs = tt
@@ -159,7 +159,7 @@ returns-3 c =
     let l = j.before.before.before.before.before.before.before in
     let m = l.before.before in
     let s = m.before.before.before.before.before in
-    (λ ask b. some_is a.some.result d.ignore.result _ _ _ _ _ a.some.ensures.0 a.some.ensures.1 ∙ (c-mark m.new.ensures (l.start.ensures.0 _ _ _) (c-seq (c-walk (j.consume.ensures.0 ask b)) (c-no (c-walk (i.eat.ensures.0 ask b _ _)) g.if1.false (c-no (c-walk (f.eat-unit-address-and-at-colon.ensures.0 ask b)) e.if2.false c-ret))) (ignored (d.ignore.ensures.0 _ _ _))).is, omega (arith, l.start.ensures.1 s.args.tokens.now, j.consume.ensures.1, i.eat.ensures.1.0, f.eat-unit-address-and-at-colon.ensures.1, d.ignore.ensures.1 s.args.tokens.now, ap (tokens_left s.args.tokens.now) a.some.ensures.0))
+    (λ ask b. some_is a.some.result d.ignore.result _ _ _ _ _ a.some.ensures.0 a.some.ensures.1 ∙ (c_mark m.new.ensures (l.start.ensures.0 _ _ _) (c_seq (c_walk (j.consume.ensures.0 ask b)) (c_no (c_walk (i.eat.ensures.0 ask b _ _)) g.if1.false (c_no (c_walk (f.eat-unit-address-and-at-colon.ensures.0 ask b)) e.if2.false c_ret))) (ignored (d.ignore.ensures.0 _ _ _))).is, omega (arith, l.start.ensures.1 s.args.tokens.now, j.consume.ensures.1, i.eat.ensures.1.0, f.eat-unit-address-and-at-colon.ensures.1, d.ignore.ensures.1 s.args.tokens.now, ap (tokens_left s.args.tokens.now) a.some.ensures.0))
 
 pub label_or_name_spec : {M : Type 1} → statement M
 label_or_name_spec = tie.close (tie.spec new-requires start-requires consume-requires eat-requires complete-requires same_length same-length-2 same-length-3 returns eat-unit-address-and-at-colon-requires error-requires complete-requires-2 same-length-4 same-length-5 same-length-6 returns-2 ignore-requires some-requires same-length-7 same-length-8 same-length-9 returns-3)

@@ -10,11 +10,11 @@ use Rattle.definitions.specs.Prog.{Rule, loop}
 use Rattle.definitions.specs.Grammar.{prefix_turn}
 use Rattle.machine.specs.Machine.{Machine}
 use Rattle.machine.specs.Walk.{Walked, walk}
-use Rattle.machine.proofs.Way.{c-walk}
+use Rattle.machine.proofs.Way.{c_walk}
 use Rattle.parser.specs.View.{view, tokens_left, ans_of}
 use Rattle.steps.specs.View.{own_name, took_if_again}
 use Rattle.steps.proofs.Left.{ahead_falls}
-use Rattle.steps.proofs.Steps.{went-told, ended-told, other_ends}
+use Rattle.steps.proofs.Steps.{went_told, ended_told, other_ends}
 use Rattle.prefixes.proofs.node_or_prop_prefix.labels_and_name.Statement.{statement}
 use Rattle.prefixes.proofs.node_or_prop_prefix.labels_and_name.Tie as tie
 
@@ -47,7 +47,7 @@ loop-again c =
     let d = a.before.before.before.before.before.before.before.before in
     let e = d.before.before.before.before.before in
     let s = e.before.before.before.before.before in
-    (λ ask b. went-told d.turn.result.ans (c-walk (d.turn.ensures.0 ask b)) (ap ans_of a.enum_told.given.1) (ahead_falls s.args.tokens.now e.loop.q d.turn.result.s (omega (arith, d.turn.ensures.1.0, ap took_if_again a.enum_told.given.1))) ∙ e.loop.invariant.0 ask b, (omega (arith, d.turn.ensures.1.0, ap took_if_again a.enum_told.given.1, e.loop.invariant.1.0), (omega (arith, e.loop.invariant.1.1, d.turn.auto), (omega (arith, e.loop.invariant.1.1, d.turn.auto), omega (arith, e.loop.invariant.1.1, d.turn.auto)))))
+    (λ ask b. went_told d.turn.result.ans (c_walk (d.turn.ensures.0 ask b)) (ap ans_of a.enum_told.given.1) (ahead_falls s.args.tokens.now e.loop.q d.turn.result.s (omega (arith, d.turn.ensures.1.0, ap took_if_again a.enum_told.given.1))) ∙ e.loop.invariant.0 ask b, (omega (arith, d.turn.ensures.1.0, ap took_if_again a.enum_told.given.1, e.loop.invariant.1.0), (omega (arith, e.loop.invariant.1.1, d.turn.auto), (omega (arith, e.loop.invariant.1.1, d.turn.auto), omega (arith, e.loop.invariant.1.1, d.turn.auto)))))
 
 same_length : tie.Need-same-length invariant-loop decreases-loop
 same_length c =
@@ -72,7 +72,7 @@ returns c =
     let a = c in
     let d = a.before.before.before.before.before.before.before in
     let e = d.before.before.before.before.before in
-    (λ ask b. ended-told d.turn.result.ans (c-walk (d.turn.ensures.0 ask b)) (other_ends d.turn.result.ans a.match.keys2) ∙ e.loop.invariant.0 ask b, omega (arith, d.turn.ensures.1.1, e.loop.invariant.1.0))
+    (λ ask b. ended_told d.turn.result.ans (c_walk (d.turn.ensures.0 ask b)) (other_ends d.turn.result.ans a.match.keys2) ∙ e.loop.invariant.0 ask b, omega (arith, d.turn.ensures.1.1, e.loop.invariant.1.0))
 
 pub labels_and_name_spec : {M : Type 1} → statement M
 labels_and_name_spec = tie.close (tie.spec invariant-loop decreases-loop loop-holds turn-requires enum_told loop-less loop-again same_length same-length-2 same-length-3 returns)

@@ -1,7 +1,7 @@
 -- `consume`: a token or a name.
 use Rattle.definitions.specs.Token.{tokens_of}
 use Rattle.parser.specs.View.{view}
-use Rattle.parser.proofs.Programs.{take-kind, take-either, take-name, take-label}
+use Rattle.parser.proofs.Programs.{take_kind, take_either, take_name, take_label}
 use borrow.Author.Rules.{rules}
 use Rattle.parser.proofs.matcher.Matcher.consume.Statement.{statement}
 use Rattle.parser.proofs.matcher.Matcher.consume.Tie as tie
@@ -49,7 +49,7 @@ returns c =
     let enum_told = c.before.before.before.before.enum_told in
     let bump = c.before.before.bump in (
       λ ask b codes reports pool.
-          take-kind ask ts b self enum_told.given.0.0 (view args.s codes events₀ reports pool) _ enum_told.given.1
+          take_kind ask ts b self enum_told.given.0.0 (view args.s codes events₀ reports pool) _ enum_told.given.1
           (bump.ensures.0 b codes reports pool),
       bump.ensures.1,
     )
@@ -67,7 +67,7 @@ returns-2 c =
     let enum-told2 = c.before.before.before.before.enum-told2 in
     let bump2 = c.before.before.bump2 in (
       λ ask b codes reports pool.
-          take-either ask ts b self enum-told2.given.0.0 enum-told2.given.0.1.0 (view args.s codes events₀ reports pool) _
+          take_either ask ts b self enum-told2.given.0.0 enum-told2.given.0.1.0 (view args.s codes events₀ reports pool) _
           enum-told2.given.1 (bump2.ensures.0 b codes reports pool),
       bump2.ensures.1,
     )
@@ -85,7 +85,7 @@ returns-3 c =
     let enum-told3 = c.before.before.before.before.before.enum-told3 in
     let bump_name = c.before.before.bump_name in (
       λ ask b codes reports pool.
-          take-name ask ts b self (view args.s codes events₀ reports pool) _ enum-told3.given.1 (bump_name.ensures.0 b codes reports pool),
+          take_name ask ts b self (view args.s codes events₀ reports pool) _ enum-told3.given.1 (bump_name.ensures.0 b codes reports pool),
       bump_name.ensures.1,
     )
 
@@ -102,7 +102,7 @@ returns-4 c =
     let enum-told4 = c.before.before.before.before.before.enum-told4 in
     let bump-name2 = c.before.before.bump-name2 in (
       λ ask b codes reports pool.
-          take-label ask ts b self (view args.s codes events₀ reports pool) _ enum-told4.given.1
+          take_label ask ts b self (view args.s codes events₀ reports pool) _ enum-told4.given.1
           (bump-name2.ensures.0 b codes reports pool),
       bump-name2.ensures.1,
     )

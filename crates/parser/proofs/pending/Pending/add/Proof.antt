@@ -1,7 +1,7 @@
 -- `add`: a kind, one of the others, or neither.
 use borrow.Author.Tests.{leb-true}
 use Rattle.parser.specs.View.{pending_of}
-use Rattle.parser.proofs.Moves.{adds-kind, adds-other, adds_none, adds-past}
+use Rattle.parser.proofs.Moves.{adds_kind, adds_other, adds_none, adds_past}
 use Rattle.parser.proofs.pending.Pending.add.Statement.{statement}
 use Rattle.parser.proofs.pending.Pending.add.Tie as tie
 
@@ -15,7 +15,7 @@ returns : tie.Need-returns
 returns c =
     let args = c.before.before.before.args in
     let if1 = c.before.before.if1 in
-    adds-kind args.code (pending_of args.self args.codes.now) _ if1.true c.add-kind.ensures
+    adds_kind args.code (pending_of args.self args.codes.now) _ if1.true c.add-kind.ensures
 
 returns-2 : tie.Need-returns-2
 returns-2 c =
@@ -23,7 +23,7 @@ returns-2 c =
     let if1 = c.before.before.before.before.if1 in
     let if2 = c.before.before.before.if2 in
     let if3 = c.before.before.if3 in
-    adds-other args.code (pending_of args.self args.codes.now) _ if1.false if2.true if3.true c.add-other.ensures
+    adds_other args.code (pending_of args.self args.codes.now) _ if1.false if2.true if3.true c.add-other.ensures
 
 returns-3 : tie.Need-returns-3
 returns-3 c =
@@ -31,7 +31,7 @@ returns-3 c =
     let if1 = c.before.before.if1 in
     let if2 = c.before.if2 in
     let if3 = c.if3 in
-    adds-past args.code (pending_of args.self args.codes.now) if1.false if2.true if3.false
+    adds_past args.code (pending_of args.self args.codes.now) if1.false if2.true if3.false
 
 returns-4 : tie.Need-returns-4
 returns-4 c =
