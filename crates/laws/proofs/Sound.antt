@@ -278,7 +278,7 @@ module _ (D : Domain) (M : Meaning D) (A : Acts D M) where
         w
     exec_gives b (case c n y a) d s₀ s m h w =
         let l : Look D.Fact = look D t c d in
-        gives_add D M l _ s₀ (exec ask b c s) (choose (exec ask b c s).ans (exec ask b n) (exec ask b y) (exec ask b a) (exec ask b c s).state) (exec_gives b c d s₀ s (and_left l.ok _ m) h)
+        gives_add D M l (either D (D.from l.if_no (look D t n)) (either D (D.from (D.join l.if_yes l.if_again) (look D t y)) (D.from l.if_also (look D t a)))) s₀ (exec ask b c s) (choose (exec ask b c s).ans (exec ask b n) (exec ask b y) (exec ask b a) (exec ask b c s).state) (exec_gives b c d s₀ s (and_left l.ok _ m) h)
         (λ g. ways l (look D t n) (look D t y) (look D t a) (exec ask b n) (exec ask b y) (exec ask b a) (exec_gives b n) (exec_gives b y) (exec_gives b a) (goes_all b n) (goes_all b y) (goes_all b a)
         (exec ask b c s).ans s₀ (exec ask b c s).state (and_right l.ok _ m) g)
         w
@@ -288,7 +288,7 @@ module _ (D : Domain) (M : Meaning D) (A : Acts D M) where
         (settled_start d (look D t p) s₀ s h) w
     exec_gives b (chain p q) d s₀ s m h w =
         let l : Look D.Fact = look D t p d in
-        gives_then D M l _ s₀ (chained (exec ask b q) s (exec ask b p s))
+        gives_then D M l (either D (stopped D l) (D.from (settled D l.if_again (look D t q)) (look D t q))) s₀ (chained (exec ask b q) s (exec ask b p s))
         (chained_gives l (look D t q) (and_right l.ok _ (and_right l.ok _ m)) (exec ask b q) (exec_gives b q) (goes_all b q) s₀ s (exec ask b p s) (exec_gives b p d s₀ s (and_left l.ok _ m) h))
         w
     exec_gives b (brace p) d s₀ s m h w = exec_gives (here s.rest) p d s₀ s m h w
