@@ -1,5 +1,7 @@
 // The binding powers of the operators, by kind: a table of the binary operators' levels, and the powers worked out from
 // a level.
+#![tactic(auto)]
+
 ghost use Rattle.std.specs.Prelude.{◌≡◌};
 ghost use Rattle.definitions.specs.BindingPower.{binary_levels};
 ghost use Rattle.binding_power.specs.Power.{level_in, left_of, right_of, is_binary};

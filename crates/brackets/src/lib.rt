@@ -1,1 +1,2 @@
 // Where an LParen stands in the tree: see specs/ for the statements and proofs/ for the rest. There is no code here.
+#![tactic(auto)]

@@ -1,5 +1,7 @@
 // A call's answer, in the documents' numbers. Beside it: what is checked before the parse, and what is done after it;
 // the answers to a call over a text and to a query.
+#![tactic(auto)]
+
 pub mod buffer;
 pub mod check_input;
 pub mod list;

@@ -1,4 +1,6 @@
 // Document 02, 5/14: the rows that a query lists, found in one pass over tree rows, without a stack.
+#![tactic(auto)]
+
 mod chain;
 mod list;
 mod parts;

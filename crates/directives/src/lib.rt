@@ -1,6 +1,8 @@
 // The devicetree's own directives, of grammar.rs: `/dts-v1/`, `/plugin/`, `/include/`, `/memreserve/`, `/delete-node/`,
 // `/delete-property/`. The functions here are for the cycle of calls, which holds the whole parser by value; the module
 // does the work.
+#![tactic(auto)]
+
 pub mod dts_directive;
 
 ghost use Rattle.std.specs.Prelude.{◌≡◌, true, ◌-◌, ◌≤◌, ◌<◌};

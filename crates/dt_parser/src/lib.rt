@@ -1,4 +1,6 @@
 // The exported call: checks, parse, and what every lent buffer holds afterwards.
+#![tactic(auto)]
+
 mod entrypoint;
 pub mod query;
 pub mod text;

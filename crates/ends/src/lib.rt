@@ -1,6 +1,8 @@
 // Where things end, of grammar.rs: lists of cells and values, items, nodes, and the tokens that an entry leaves over.
 // The functions here are for the cycle of calls, which holds the whole parser by value; the work is done in the
 // modules.
+#![tactic(auto)]
+
 pub mod lists;
 pub mod nodes;
 

@@ -1,4 +1,6 @@
 // grammar/expr.rs: expressions by binding power; and `dt_expr` of grammar.rs.
+#![tactic(auto)]
+
 ghost use Rattle.std.specs.Prelude.{◌≡◌, true, List, ℕ, ◌-◌, ◌≤◌, ◌<◌, drop};
 ghost use Rattle.definitions.specs.Errors as E;
 ghost use Rattle.definitions.specs.Token.{tokens_of};

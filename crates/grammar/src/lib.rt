@@ -6,6 +6,8 @@
 // the cycle's proof is named after all its members and a file's name ends at 249 bytes: `bits`, `value` and
 // `value_rest` are cases of `propvalues`, `cell_rest` of `eat_cell`, `item_rest` of `item`, `node` of
 // `eat_node_or_prop`, `branch` of `cond_branches_and_end`.
+#![tactic(auto)]
+
 pub mod entry;
 mod preprocessor_directive;
 

@@ -1,5 +1,7 @@
 // Causes 2, 3, 11 to 13 and 4 at their exact boundaries: each line is a cause and a place, 0 0 where the input is
 // sound. What is tried stands beside each call; the expected lines are in stdout.
+#![tactic(auto)]
+
 use input::causes;
 use input::causes::Checked;
 use layout::refusal;

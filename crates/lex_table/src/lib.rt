@@ -2,6 +2,8 @@
 // its number times 256: the start and the states that match and go on first, then those that do not match (from
 // FIRST_SILENT on), those that match and do not go on (from FIRST_FINAL on), of these last those with a callback
 // (from BLOCK_COMMENT on), and the one in which nothing can match any more.
+#![tactic(auto)]
+
 pub mod table;
 
 ghost use Rattle.std.specs.Prelude.{◌≡◌, ◌<◌};

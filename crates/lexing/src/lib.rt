@@ -1,1 +1,2 @@
 // Theorems about lexing: see specs/ for the statements and proofs/ for the rest. There is no code here.
+#![tactic(auto)]

@@ -1,4 +1,6 @@
 // The end of a query: its list is kept, with zeros after it, or nothing is.
+#![tactic(auto)]
+
 ghost use Rattle.std.specs.Prelude.{◌≡◌};
 ghost use Rattle.refinement.specs.Ends.{wiped};
 ghost use Rattle.call.specs.Result.{list_result_of};

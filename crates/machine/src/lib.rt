@@ -1,2 +1,3 @@
 // The literal machine that the parser's code is held to, and the theorem that it does what `definitions` says: see
 // specs/ and proofs/. There is no code here.
+#![tactic(auto)]

@@ -1,5 +1,7 @@
 // Macro invocations of grammar.rs. No open call can be under one. The function here is for the cycle of calls, which
 // holds the whole parser by value; the work is done in the module.
+#![tactic(auto)]
+
 pub mod invocation;
 
 ghost use Rattle.std.specs.Prelude.{◌-◌, ◌≤◌};

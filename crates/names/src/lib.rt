@@ -1,6 +1,8 @@
 // The grammar's own matchers of grammar.rs: names that may be macros, unit addresses and references. No open call can
 // be under any of these. The functions here are for the cycle of calls, which holds the whole parser by value; the
 // work is done in the modules.
+#![tactic(auto)]
+
 pub mod macro_substitutable_name;
 pub mod reference;
 pub mod unit_address;

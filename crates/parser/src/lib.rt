@@ -2,6 +2,8 @@
 // and writes is lent: token rows `tokens`, event rows `events`, report rows `reports`, expectations `pool`.
 // `State` has the numbers alone. Functions that no open call can be under take `State` by value and the pending codes
 // lent; the grammar's cycle of calls takes `Parser`, which holds both.
+#![tactic(auto)]
+
 pub mod check;
 pub mod errors;
 pub mod event;

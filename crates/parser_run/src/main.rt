@@ -1,5 +1,7 @@
 // What is pending when every number of a byte is pushed, and the parser's refusals at their exact boundary: what just
 // fits, and one number fewer. (Refusal 5, a 65th open call, is the grammar's.)
+#![tactic(auto)]
+
 use cases::scan::least;
 use cases::show;
 use layout::token_kind;

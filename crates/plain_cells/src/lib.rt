@@ -1,5 +1,7 @@
 // The cells that no call is opened for, of grammar.rs: numbers, characters, macro invocations and references. The
 // function here is for the cycle of calls, which holds the whole parser by value; the work is done in the module.
+#![tactic(auto)]
+
 pub mod plain_cell;
 
 ghost use Rattle.std.specs.Prelude.{◌≡◌, true, ◌≤◌, ◌<◌};

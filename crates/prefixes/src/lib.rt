@@ -1,5 +1,7 @@
 // What stands before a node's body or a property's value, of grammar.rs: labels, names with unit addresses, references.
 // The function here is for the cycle of calls, which holds the whole parser by value; the work is done in the module.
+#![tactic(auto)]
+
 pub mod node_or_prop_prefix;
 
 ghost use Rattle.std.specs.Prelude.{◌-◌, ◌≤◌};

@@ -7,6 +7,8 @@
 // them (`lend::tail`), and the numbers.
 //  tests/replay/queries makes the cases and what must be printed. Those of 65,537 blanks are here: that is one row more
 // than a call takes, and every buffer is left as it was, the list too.
+#![tactic(auto)]
+
 ghost use Rattle.std.specs.Prelude.{◌≤◌, length};
 
 use call::list::ListAnswer;

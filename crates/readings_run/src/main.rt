@@ -3,6 +3,8 @@
 // tests/replay/readings makes them and what must be printed, from the documents and the oracle. Those of 65,536 blanks
 // are here: a source file of 65,536 rows of one blank each is accepted, one of 65,537 is refused; an entry that there
 // is not comes before that; and an odd count of numbers comes after it.
+#![tactic(auto)]
+
 use cases::blanks;
 use layout::row::TREE_ROW;
 

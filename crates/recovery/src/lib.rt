@@ -1,1 +1,2 @@
 // The third promise: see specs/. There is no code here.
+#![tactic(auto)]

@@ -2,6 +2,8 @@
 //  A case is a line and then its bytes as they are, with a line end after each. The line has a name, nine numbers (how
 // many token numbers, how many bytes, the entry, the setting, and how many numbers of each buffer are lent: events,
 // trees, errors, reports, pool), and the token numbers.
+#![tactic(auto)]
+
 pub mod left;
 
 ghost use Rattle.std.specs.Prelude.{◌≤◌, length};

@@ -1,1 +1,2 @@
 // Laws about the rows that a call writes: see specs/ and proofs/. There is no code here.
+#![tactic(auto)]

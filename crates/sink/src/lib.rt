@@ -1,5 +1,7 @@
 // sink.rs: the `Sink` turns events and tokens into tree rows and lexical errors. There is no heap and no stack beside
 // the rows: while a node is open, its row holds what the sink returns to when the node is finished.
+#![tactic(auto)]
+
 ghost use Rattle.std.specs.Prelude.{◌≡◌, ◌-◌, ◌/◌, ◌≤◌, length};
 ghost use Rattle.definitions.specs.Layout.{TOKEN_ROW};
 ghost use Rattle.sink.specs.Promise.{Promise};

@@ -2,6 +2,8 @@
 // the lengths of the two lent buffers, and how many token numbers and event numbers follow; token rows; event rows. The
 // first twelve are document 01's readings that are marked P, then come buffers that just fit or are too short, and last
 // rows that no parser writes. After them: `1+1+1+..` with 16,000 operators.
+#![tactic(auto)]
+
 mod deep;
 mod print;
 

@@ -2,6 +2,8 @@
 // are few and short, since each is proved by hand: it takes the value apart and calls a function on token rows and a
 // token index. `look` has these two as its parameters, so that its callers' proofs do not have to know `Source`. The
 // parser's own cursor is a field of its state, beside the mark and the byte offsets, which a `Source` does not have.
+#![tactic(auto)]
+
 pub mod cursor;
 
 ghost use Rattle.std.specs.Prelude.{◌≡◌, drop};

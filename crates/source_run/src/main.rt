@@ -3,6 +3,8 @@
 // So each line of stdout is a token index, the kind of its row, the kind of the first row from there on that is not
 // trivia (0, 1, 3), and the index after that row. Past the last row the kind is 64, and an error token is seen as
 // Unrecognized, 25.
+#![tactic(auto)]
+
 use cases::show;
 use cases::show::number;
 use layout::TokenIndex;

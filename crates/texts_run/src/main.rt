@@ -4,6 +4,8 @@
 // buffer are lent (events, trees, errors, reports, pool). Printed is what crates/replay prints of a call, and then a
 // line k: how many token rows there are, what their buffer holds after them (`lend::tail`), and the rows.
 // tests/replay/raw_texts makes the cases and what must be printed.
+#![tactic(auto)]
+
 ghost use Rattle.std.specs.Prelude.{◌≤◌, length};
 
 use cases::lend::{LENT, tail};
