@@ -57,7 +57,7 @@ pub const PREFIX_POWER: u8 = 23;
 
 // `InfixOp::binding_power`: left and right, 0 and 0 where the kind is not an infix operator; and whether it is one
 // other than the ternary.
-#[derive(Drop)]
+#[derive(Clone, Copy)]
 pub struct BindingPower {
     pub left: u8,
     pub right: u8,

@@ -14,7 +14,7 @@ ghost use Rattle.call.specs.Ended.{refused_with, accepted_with};
 // The cause, or 0 for an accepted call; its place; and how many tree rows, lexical errors, reports and expectations
 // were written.
 #[repr(C)]
-#[derive(Drop)]
+#[derive(Clone, Copy)]
 pub struct Answer {
     pub number: u32,
     pub place: usize,

@@ -2,7 +2,7 @@
 use crate::Answer;
 
 #[repr(C)]
-#[derive(Drop)]
+#[derive(Clone, Copy)]
 pub struct ListAnswer {
     pub answer: Answer,
     pub list_count: usize,

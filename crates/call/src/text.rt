@@ -8,7 +8,7 @@ use crate::{Answer, refused};
 use layout::row::TOKEN_ROW;
 
 #[repr(C)]
-#[derive(Drop)]
+#[derive(Clone, Copy)]
 pub struct TextAnswer {
     pub answer: Answer,
     pub token_count: usize,

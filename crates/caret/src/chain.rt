@@ -11,7 +11,7 @@ use crate::list::put;
 use layout::row::{LEAF, TREE_ROW, TREE_WIDTH};
 
 // A row that has the byte: the index of its first number, and how far after the row's start the byte is.
-#[derive(Drop)]
+#[derive(Clone, Copy)]
 pub struct Spot {
     pub index: usize,
     pub left: u32,

@@ -11,7 +11,7 @@ ghost use Rattle.caret.specs.Walk.{laid};
 ghost use Rattle.caret.specs.Asked.{query_of};
 
 // A byte offset; or a range, from its first byte to its end.
-#[derive(Drop)]
+#[derive(Clone, Copy)]
 pub enum Query {
     Caret(u64),
     Range(u64, u64),

@@ -9,7 +9,7 @@ use grammar::entry::Entrypoint;
 use layout::node_kind;
 
 // What a call's first number asks for.
-#[derive(Drop)]
+#[derive(Clone, Copy)]
 pub enum Asked {
     For(Entrypoint),
     Unknown,

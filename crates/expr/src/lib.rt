@@ -27,7 +27,7 @@ use parser::{Parser, ParserTested};
 use token_rows::token::kind_at;
 
 // The operator at the cursor, if its left power is not 0.
-#[derive(Drop)]
+#[derive(Clone, Copy)]
 pub struct InfixOp {
     pub p: Parser,
     pub left: u8,
@@ -37,7 +37,7 @@ pub struct InfixOp {
 
 // What one turn of `expr_binding_power` did: whether it took an operator and so makes an InfixExpr of all before it,
 // and whether its right side was parsed.
-#[derive(Drop)]
+#[derive(Clone, Copy)]
 pub struct Turn {
     pub p: Parser,
     pub operator: bool,

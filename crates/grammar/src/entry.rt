@@ -17,7 +17,7 @@ use layout::token_kind;
 use names::reference_noamp;
 use parser::Parser;
 
-#[derive(Drop)]
+#[derive(Clone, Copy)]
 pub enum Entrypoint {
     SourceFile,
     ReferenceNoamp,

@@ -15,7 +15,7 @@ use parser::{Parser, ParserTested};
 
 // What a conditional's branch holds, in the place of the closures `eat_inside`: items, values (whether a semicolon ends
 // them), or cells (whether the end of input does).
-#[derive(Drop)]
+#[derive(Clone, Copy)]
 pub enum Inside {
     Item,
     Values(bool),

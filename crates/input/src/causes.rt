@@ -14,7 +14,7 @@ use layout::word::wide;
 use layout::{TokenIndex, row_kind};
 
 // What the checks find. A row's place is its index.
-#[derive(Drop)]
+#[derive(Clone, Copy)]
 pub enum Checked {
     Sound,
     // Cause 2.
@@ -34,7 +34,7 @@ pub enum Checked {
 }
 
 // A row index, or none.
-#[derive(Drop)]
+#[derive(Clone, Copy)]
 pub enum Found {
     At(usize),
     Nothing,

@@ -6,7 +6,7 @@ ghost use Rattle.labels.specs.Model.{event_of, event_at};
 use layout::event_tag;
 use layout::row::{EVENT_ARGUMENT, EVENT_ROW, EVENT_TAG};
 
-#[derive(Drop)]
+#[derive(Clone, Copy)]
 pub enum Event {
     // The start of a node of this kind.
     Start(u32),

@@ -13,7 +13,7 @@ use token_rows::token;
 use token_rows::token::Seat;
 
 // Where a walk through a node's events stands.
-#[derive(Drop)]
+#[derive(Clone, Copy)]
 pub struct Walk {
     // How many nodes are open inside the node.
     pub depth: usize,

@@ -13,7 +13,7 @@ use layout::word;
 use token_rows::fit::fits;
 
 // What has become of the reports so far.
-#[derive(Drop)]
+#[derive(Clone, Copy)]
 pub struct Names {
     // How many report numbers are written.
     pub written: usize,

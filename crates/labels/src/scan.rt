@@ -8,7 +8,7 @@ use crate::{event, node};
 use layout::row::{EVENT_ARGUMENT, EVENT_ROW};
 use layout::{event_tag, word};
 
-#[derive(Drop)]
+#[derive(Clone, Copy)]
 pub struct Found {
     // The event of its start; how many events there are if there is none.
     pub event: usize,

@@ -20,9 +20,9 @@ pub mod word;
 pub mod word_set;
 
 // A byte offset in the input. It never stands for a token index.
-#[derive(Drop)]
+#[derive(Clone, Copy)]
 pub struct ByteOffset(pub u32);
 
 // An index among the token rows. It never stands for a byte offset.
-#[derive(Drop)]
+#[derive(Clone, Copy)]
 pub struct TokenIndex(pub usize);

@@ -7,7 +7,7 @@ use crate::rows::Lexed;
 use crate::{high_byte, rows};
 use layout::limit::{MOST_BYTES, MOST_TOKEN_NUMBERS};
 
-#[derive(Drop)]
+#[derive(Clone, Copy)]
 pub enum Checked {
     // So many token numbers.
     Sound(usize),

@@ -6,7 +6,7 @@ ghost use Rattle.lexer.specs.Found.{Hits};
 use lex_table::{DEAD, FIRST_FINAL, FIRST_SILENT, step, step_any};
 
 // The row of the state that the match ends in, or 0, and the byte after the match.
-#[derive(Drop)]
+#[derive(Clone, Copy)]
 pub struct Hit {
     pub row: usize,
     pub end: usize,

@@ -9,7 +9,7 @@ use crate::token::token_at;
 use layout::row::{TOKEN_LENGTH, TOKEN_ROW};
 
 // What a pass over a text comes to.
-#[derive(Drop)]
+#[derive(Clone, Copy)]
 pub enum Lexed {
     // A directive starts at this byte: cause 10.
     Directive(usize),

@@ -11,7 +11,7 @@ use layout::lex_error;
 use lex_table::{BLOCK_COMMENT, CHAR, STRING, kind_of};
 
 // Its kind, and the byte after it.
-#[derive(Drop)]
+#[derive(Clone, Copy)]
 pub struct Tok {
     pub kind: u32,
     pub end: usize,

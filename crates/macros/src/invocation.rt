@@ -17,7 +17,7 @@ use parser::{State, StateTested};
 use token_rows::token::{SEEN_AT_END, kind_at};
 
 // What a token is to the argument that it is read in.
-#[derive(Drop)]
+#[derive(Clone, Copy)]
 pub enum Role {
     // The comma after it.
     Comma,

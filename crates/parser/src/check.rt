@@ -16,7 +16,7 @@ use layout::message::EXPECTED;
 use token_rows::token::is_at;
 
 // What `eat_starting` gives: on a match, the marker that was started before the token.
-#[derive(Drop)]
+#[derive(Clone, Copy)]
 pub struct Started {
     pub s: State,
     pub m: Marker,

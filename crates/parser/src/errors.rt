@@ -25,14 +25,14 @@ use layout::word::low32;
 use layout::{ByteOffset, node_kind, token_kind, word};
 use token_rows::fit::fits;
 
-#[derive(Drop)]
+#[derive(Clone, Copy)]
 pub struct TextRange {
     pub start: ByteOffset,
     pub end: ByteOffset,
 }
 
 // Whether a report takes the current token, as it stands or into a ParseError; at the end it takes nothing.
-#[derive(Drop)]
+#[derive(Clone, Copy)]
 pub enum Bump {
     No,
     Yes,

@@ -29,7 +29,7 @@ use layout::limit::{Codes, MOST_PENDING};
 use layout::{ByteOffset, TokenIndex};
 
 // The parser's numbers.
-#[derive(Drop)]
+#[derive(Clone, Copy)]
 pub struct State {
     // The token that is read next.
     pub cursor: TokenIndex,
@@ -50,7 +50,7 @@ pub struct State {
     pub mark_byte: ByteOffset,
 }
 
-#[derive(Drop)]
+#[derive(Clone, Copy)]
 pub struct Parser {
     // The pending expectations in the order of their arrival; past them, codes that no longer count.
     pub codes: Codes,
@@ -58,21 +58,21 @@ pub struct Parser {
 }
 
 // An answer, and the parser after it.
-#[derive(Drop)]
+#[derive(Clone, Copy)]
 pub struct ParserTested {
     pub p: Parser,
     pub yes: bool,
 }
 
 // An answer, and the numbers after it.
-#[derive(Drop)]
+#[derive(Clone, Copy)]
 pub struct StateTested {
     pub s: State,
     pub yes: bool,
 }
 
 // What a function of the grammar answers where yes and no are not enough.
-#[derive(Drop)]
+#[derive(Clone, Copy)]
 pub enum Ans {
     No,
     Yes,
@@ -80,13 +80,13 @@ pub enum Ans {
     Again,
 }
 
-#[derive(Drop)]
+#[derive(Clone, Copy)]
 pub struct ParserAnswered {
     pub p: Parser,
     pub ans: Ans,
 }
 
-#[derive(Drop)]
+#[derive(Clone, Copy)]
 pub struct StateAnswered {
     pub s: State,
     pub ans: Ans,

@@ -11,7 +11,7 @@ use layout::row::{EVENT_ARGUMENT, EVENT_DISTANCE, EVENT_ROW};
 use layout::word::low32;
 use token_rows::fit::fits;
 
-#[derive(Drop)]
+#[derive(Clone, Copy)]
 pub struct Marker(pub usize, pub u32);
 
 // The placeholder at this index becomes a start.

@@ -12,7 +12,7 @@ use layout::set::{LABEL_NAME_SET, NAME_SET};
 use layout::{expected, token_kind};
 use token_rows::token::one_of;
 
-#[derive(Drop)]
+#[derive(Clone, Copy)]
 pub enum Matcher {
     Kind(u8),
     Either(u8, u8),

@@ -10,7 +10,7 @@ use layout::expected::{FIRST_OTHER, KIND_CODES, PAST_OTHERS};
 use layout::limit::Codes;
 use layout::word_set;
 
-#[derive(Drop)]
+#[derive(Clone, Copy)]
 pub struct Pending {
     // How many there are: the place of the next to arrive.
     pub count: usize,

@@ -11,7 +11,7 @@ use layout::{event_tag, row, row_kind, word};
 use sink_rows::{event_row, tree_row};
 use sink_tokens::{lexical, token_row};
 
-#[derive(Drop)]
+#[derive(Clone, Copy)]
 pub struct Sink {
     // The raw token that is read next, and its first byte.
     pub cursor: usize,
@@ -24,7 +24,7 @@ pub struct Sink {
 }
 
 // The number of tree rows and of lexical errors, or that they do not fit: document 01's refusal 8.
-#[derive(Drop)]
+#[derive(Clone, Copy)]
 pub enum Sunk {
     Written(u32, u32),
     NoRoom,

@@ -15,7 +15,7 @@ use crate::cursor::{past_token, past_trivia};
 use layout::TokenIndex;
 use token_rows::token::kind_at;
 
-#[derive(Drop)]
+#[derive(Clone, Copy)]
 pub struct Source<'a> {
     pub tokens: &'a [u32],
     // The row that is read next.
@@ -58,7 +58,7 @@ impl<'a> Source<'a> {
 }
 
 // What is seen from a token index.
-#[derive(Drop)]
+#[derive(Clone, Copy)]
 pub struct Sight {
     // The kind of the token there.
     pub immediate: u8,

@@ -113,7 +113,7 @@ fn is_trivia_at(tokens: &[u32], at: usize) -> bool
 }
 
 // A row and its first byte.
-#[derive(Drop)]
+#[derive(Clone, Copy)]
 pub struct Seat {
     pub at: usize,
     pub byte: u32,
