@@ -13,7 +13,7 @@ use Rattle.machine.specs.Machine.{Pending, Machine}
 use Rattle.machine.specs.Machine as M
 use Rattle.machine.specs.Walk.{Walked, said, perform, walk, next_marker, marked, unlabelled, walk_prog, walk_rule}
 use Rattle.std.proofs.lemmas.List.Edits.{sets}
-use Rattle.std.specs.Borrow.{Bor}
+use Rattle.std.specs.Borrow.{Bor, MutBor}
 use denote.Triple.Both.{Both}
 use Rattle.parser.specs.declared.pending.Pending.{Pending as CodePending}
 use Rattle.parser.specs.declared.State.{State}
@@ -148,9 +148,13 @@ stored index row l = cond (M.fits (length l) index REPORT_ROW) (sets l index row
 
 -- ---------------------------------------------------------------- what a contract says of the machine before and after
 
--- a lent buffer, as an `ensures` names it: before the call and after it
+-- a buffer that is lent to be written, as an `ensures` names it: before the call and after it
 abbrev pub Lent : Type 0
-Lent = Both (Bor (List ℕ)) (Bor (List ℕ))
+Lent = Both (MutBor (List ℕ)) (MutBor (List ℕ))
+
+-- one that is lent to be read
+abbrev pub Shown : Type 0
+Shown = Both (Bor (List ℕ)) (Bor (List ℕ))
 
 -- an answer and the numbers after it
 abbrev pub says : Ans → State → List ℕ → List ℕ → List ℕ → List ℕ → Walked
@@ -167,7 +171,7 @@ WritesEvents f s r events =
     → view r codes events.exit.now reports pool ≡ f (view s codes events.entry.now reports pool)
 
 -- a report's row and its expectations, if nothing was refused before
-abbrev pub WritesReport : ℕ → ℕ → TextRange → TextRange → State → State → Lent → Lent → Lent → Type 0
+abbrev pub WritesReport : ℕ → ℕ → TextRange → TextRange → State → State → Shown → Lent → Lent → Type 0
 WritesReport message hint range label s r codes reports pool =
     (events : List ℕ) → s.refusal ≡ 0
     → view r codes.entry.now events reports.exit.now pool.exit.now
@@ -175,7 +179,7 @@ WritesReport message hint range label s r codes reports pool =
     (view s codes.entry.now events reports.entry.now pool.entry.now)
 
 -- a report's event, row and expectations
-abbrev pub Emits : ℕ → ℕ → TextRange → State → State → Lent → Lent → Lent → Lent → Lent → Type 0
+abbrev pub Emits : ℕ → ℕ → TextRange → State → State → Shown → Shown → Lent → Lent → Lent → Type 0
 Emits message hint label s r codes tokens events reports pool =
     view r codes.entry.now events.exit.now reports.exit.now pool.exit.now
     ≡ M.emit (tokens_of tokens.entry.now) message hint (span_of label)
@@ -184,13 +188,13 @@ Emits message hint label s r codes tokens events reports pool =
 -- ------------------------------------------------------- an action, from the state before a call to the state after it
 
 -- it writes nothing
-abbrev pub Tests : Act → State → (List ℕ → List ℕ → List ℕ → List ℕ → Walked) → Lent → Type 0
+abbrev pub Tests : Act → State → (List ℕ → List ℕ → List ℕ → List ℕ → Walked) → Shown → Type 0
 Tests a s r tokens =
     (b : Span) (codes events reports pool : List ℕ)
     → r codes events reports pool ≡ perform (tokens_of tokens.entry.now) b a (view s codes events reports pool)
 
 -- it writes events, and nothing else
-abbrev pub Bumps : Act → State → (List ℕ → List ℕ → List ℕ → List ℕ → Walked) → Lent → Lent → Type 0
+abbrev pub Bumps : Act → State → (List ℕ → List ℕ → List ℕ → List ℕ → Walked) → Shown → Lent → Type 0
 Bumps a s r tokens events =
     (b : Span) (codes reports pool : List ℕ)
     → r codes events.exit.now reports pool
@@ -205,15 +209,23 @@ Adds a s r codes =
 -- ---------------------------------------------- the walk of a term, from the state before a call to the state after it
 
 -- p walked from s comes to r, whatever an open call does and wherever the brace is
-abbrev pub Walks : Prog → State → (List ℕ → List ℕ → List ℕ → List ℕ → Walked) → Lent → Lent → Lent → Lent → Lent → Type 0
+abbrev pub Walks : Prog → State → (List ℕ → List ℕ → List ℕ → List ℕ → Walked) → Lent → Shown → Lent → Lent → Lent → Type 0
 Walks p s r codes tokens events reports pool =
     (ask : Rule → Machine → Walked) (b : Span)
     → r codes.exit.now events.exit.now reports.exit.now pool.exit.now
     ≡ walk ask (tokens_of tokens.entry.now) b p
     (view s codes.entry.now events.entry.now reports.entry.now pool.entry.now)
 
+-- the same, where the pending codes are lent to be read, and so stay
+abbrev pub WalksKept : Prog → State → (List ℕ → List ℕ → List ℕ → List ℕ → Walked) → Shown → Shown → Lent → Lent → Lent → Type 0
+WalksKept p s r codes tokens events reports pool =
+    (ask : Rule → Machine → Walked) (b : Span)
+    → r codes.exit.now events.exit.now reports.exit.now pool.exit.now
+    ≡ walk ask (tokens_of tokens.entry.now) b p
+    (view s codes.entry.now events.entry.now reports.entry.now pool.entry.now)
+
 -- the same, where the code does not know the answer
-abbrev pub WalksOn : Prog → State → State → Lent → Lent → Lent → Lent → Lent → Type 0
+abbrev pub WalksOn : Prog → State → State → Lent → Shown → Lent → Lent → Lent → Type 0
 WalksOn p s r codes tokens events reports pool =
     (ask : Rule → Machine → Walked) (b : Span)
     → view r codes.exit.now events.exit.now reports.exit.now pool.exit.now
@@ -221,7 +233,7 @@ WalksOn p s r codes tokens events reports pool =
     (view s codes.entry.now events.entry.now reports.entry.now pool.entry.now)).on
 
 -- the same, of a program whose marker m its caller made
-abbrev pub Closes : Marker → Prog → State → (List ℕ → List ℕ → List ℕ → List ℕ → Walked) → Lent → Lent → Lent → Lent → Lent → Type 0
+abbrev pub Closes : Marker → Prog → State → (List ℕ → List ℕ → List ℕ → List ℕ → Walked) → Lent → Shown → Lent → Lent → Lent → Type 0
 Closes m p s r codes tokens events reports pool =
     (ask : Rule → Machine → Walked) (b : Span)
     → r codes.exit.now events.exit.now reports.exit.now pool.exit.now
@@ -229,13 +241,13 @@ Closes m p s r codes tokens events reports pool =
     (view s codes.entry.now events.entry.now reports.entry.now pool.entry.now))
 
 -- a silent test: it writes nothing
-abbrev pub Sees : Prog → State → (List ℕ → List ℕ → List ℕ → List ℕ → Walked) → Lent → Type 0
+abbrev pub Sees : Prog → State → (List ℕ → List ℕ → List ℕ → List ℕ → Walked) → Shown → Type 0
 Sees p s r tokens =
     (ask : Rule → Machine → Walked) (b : Span) (codes events reports pool : List ℕ)
     → r codes events reports pool ≡ walk ask (tokens_of tokens.entry.now) b p (view s codes events reports pool)
 
 -- a test: it may push expectations, and writes nothing else
-abbrev pub Looks : Prog → State → (List ℕ → List ℕ → List ℕ → List ℕ → Walked) → Lent → Lent → Type 0
+abbrev pub Looks : Prog → State → (List ℕ → List ℕ → List ℕ → List ℕ → Walked) → Lent → Shown → Type 0
 Looks p s r codes tokens =
     (ask : Rule → Machine → Walked) (b : Span) (events reports pool : List ℕ)
     → r codes.exit.now events reports pool
@@ -248,21 +260,21 @@ Expects p s r codes =
     → r codes.exit.now events reports pool ≡ walk ask ts b p (view s codes.entry.now events reports pool)
 
 -- tokens taken: it writes events, and nothing else
-abbrev pub Moves : Prog → State → (List ℕ → List ℕ → List ℕ → List ℕ → Walked) → Lent → Lent → Type 0
+abbrev pub Moves : Prog → State → (List ℕ → List ℕ → List ℕ → List ℕ → Walked) → Shown → Lent → Type 0
 Moves p s r tokens events =
     (ask : Rule → Machine → Walked) (b : Span) (codes reports pool : List ℕ)
     → r codes events.exit.now reports pool
     ≡ walk ask (tokens_of tokens.entry.now) b p (view s codes events.entry.now reports pool)
 
 -- the same, or expectations pushed
-abbrev pub Eats : Prog → State → (List ℕ → List ℕ → List ℕ → List ℕ → Walked) → Lent → Lent → Lent → Type 0
+abbrev pub Eats : Prog → State → (List ℕ → List ℕ → List ℕ → List ℕ → Walked) → Lent → Shown → Lent → Type 0
 Eats p s r codes tokens events =
     (ask : Rule → Machine → Walked) (b : Span) (reports pool : List ℕ)
     → r codes.exit.now events.exit.now reports pool
     ≡ walk ask (tokens_of tokens.entry.now) b p (view s codes.entry.now events.entry.now reports pool)
 
 -- `eat_starting` of k: whether it matched, the marker m, and the numbers r after it
-abbrev pub Starts : C.Matcher → State → Bool → Marker → State → Lent → Lent → Lent → Type 0
+abbrev pub Starts : C.Matcher → State → Bool → Marker → State → Lent → Shown → Lent → Type 0
 Starts k s matched m r codes tokens events =
     (ask : Rule → Machine → Walked) (b : Span) (reports pool : List ℕ)
     → starting ask (tokens_of tokens.entry.now) b k (view s codes.entry.now events.entry.now reports pool)
@@ -287,17 +299,17 @@ abbrev pub ParserWritesEvents : (Machine → Machine) → Parser → Parser → 
 ParserWritesEvents f p r events =
     (reports pool : List ℕ) → parser_view r events.exit.now reports pool ≡ f (parser_view p events.entry.now reports pool)
 
-abbrev pub ParserEmits : ℕ → ℕ → TextRange → Parser → Parser → Lent → Lent → Lent → Lent → Type 0
+abbrev pub ParserEmits : ℕ → ℕ → TextRange → Parser → Parser → Shown → Lent → Lent → Lent → Type 0
 ParserEmits message hint label p r tokens events reports pool =
     leaving (parser_view r) events reports pool
     ≡ M.emit (tokens_of tokens.entry.now) message hint (span_of label) (entering (parser_view p) events reports pool)
 
-abbrev pub ParserTests : Act → Parser → (List ℕ → List ℕ → List ℕ → Walked) → Lent → Type 0
+abbrev pub ParserTests : Act → Parser → (List ℕ → List ℕ → List ℕ → Walked) → Shown → Type 0
 ParserTests a p r tokens =
     (b : Span) (events reports pool : List ℕ)
     → r events reports pool ≡ perform (tokens_of tokens.entry.now) b a (parser_view p events reports pool)
 
-abbrev pub ParserBumps : Act → Parser → (List ℕ → List ℕ → List ℕ → Walked) → Lent → Lent → Type 0
+abbrev pub ParserBumps : Act → Parser → (List ℕ → List ℕ → List ℕ → Walked) → Shown → Lent → Type 0
 ParserBumps a p r tokens events =
     (b : Span) (reports pool : List ℕ)
     → r events.exit.now reports pool
@@ -308,37 +320,37 @@ ParserAdds a p r =
     (ts : List Token) (b : Span) (events reports pool : List ℕ)
     → r events reports pool ≡ perform ts b a (parser_view p events reports pool)
 
-abbrev pub ParserWalks : Prog → Parser → (List ℕ → List ℕ → List ℕ → Walked) → Lent → Lent → Lent → Lent → Type 0
+abbrev pub ParserWalks : Prog → Parser → (List ℕ → List ℕ → List ℕ → Walked) → Shown → Lent → Lent → Lent → Type 0
 ParserWalks q p r tokens events reports pool =
     (ask : Rule → Machine → Walked) (b : Span)
     → leaving r events reports pool
     ≡ walk ask (tokens_of tokens.entry.now) b q (entering (parser_view p) events reports pool)
 
-abbrev pub ParserWalksOn : Prog → Parser → Parser → Lent → Lent → Lent → Lent → Type 0
+abbrev pub ParserWalksOn : Prog → Parser → Parser → Shown → Lent → Lent → Lent → Type 0
 ParserWalksOn q p r tokens events reports pool =
     (ask : Rule → Machine → Walked) (b : Span)
     → leaving (parser_view r) events reports pool
     ≡ (walk ask (tokens_of tokens.entry.now) b q (entering (parser_view p) events reports pool)).on
 
-abbrev pub ParserLooks : Prog → Parser → (List ℕ → List ℕ → List ℕ → Walked) → Lent → Type 0
+abbrev pub ParserLooks : Prog → Parser → (List ℕ → List ℕ → List ℕ → Walked) → Shown → Type 0
 ParserLooks q p r tokens =
     (ask : Rule → Machine → Walked) (b : Span) (events reports pool : List ℕ)
     → r events reports pool ≡ walk ask (tokens_of tokens.entry.now) b q (parser_view p events reports pool)
 
-abbrev pub ParserMoves : Prog → Parser → (List ℕ → List ℕ → List ℕ → Walked) → Lent → Lent → Type 0
+abbrev pub ParserMoves : Prog → Parser → (List ℕ → List ℕ → List ℕ → Walked) → Shown → Lent → Type 0
 ParserMoves q p r tokens events =
     (ask : Rule → Machine → Walked) (b : Span) (reports pool : List ℕ)
     → r events.exit.now reports pool
     ≡ walk ask (tokens_of tokens.entry.now) b q (parser_view p events.entry.now reports pool)
 
 -- a program whose marker m its caller made; the same with its brace at a span
-abbrev pub ParserCloses : Marker → Prog → Parser → (List ℕ → List ℕ → List ℕ → Walked) → Lent → Lent → Lent → Lent → Type 0
+abbrev pub ParserCloses : Marker → Prog → Parser → (List ℕ → List ℕ → List ℕ → Walked) → Shown → Lent → Lent → Lent → Type 0
 ParserCloses m q p r tokens events reports pool =
     (ask : Rule → Machine → Walked) (b : Span)
     → leaving r events reports pool
     ≡ marked (marker_of m) (walk ask (tokens_of tokens.entry.now) b q (entering (parser_view p) events reports pool))
 
-abbrev pub ParserClosesAt : TextRange → Marker → Prog → Parser → (List ℕ → List ℕ → List ℕ → Walked) → Lent → Lent → Lent → Lent → Type 0
+abbrev pub ParserClosesAt : TextRange → Marker → Prog → Parser → (List ℕ → List ℕ → List ℕ → Walked) → Shown → Lent → Lent → Lent → Type 0
 ParserClosesAt range m q p r tokens events reports pool =
     (ask : Rule → Machine → Walked)
     → leaving r events reports pool
@@ -347,27 +359,27 @@ ParserClosesAt range m q p r tokens events reports pool =
 
 -- --------------------- the same with n open calls allowed: a program, a rule, a program whose marker m its caller made
 
-abbrev pub WalksWithin : ℕ → Prog → Parser → (List ℕ → List ℕ → List ℕ → Walked) → Lent → Lent → Lent → Lent → Type 0
+abbrev pub WalksWithin : ℕ → Prog → Parser → (List ℕ → List ℕ → List ℕ → Walked) → Shown → Lent → Lent → Lent → Type 0
 WalksWithin n q p r tokens events reports pool =
     leaving r events reports pool
     ≡ walk_prog n (tokens_of tokens.entry.now) unlabelled q (entering (parser_view p) events reports pool)
 
-abbrev pub WalksWithinOn : ℕ → Prog → Parser → Parser → Lent → Lent → Lent → Lent → Type 0
+abbrev pub WalksWithinOn : ℕ → Prog → Parser → Parser → Shown → Lent → Lent → Lent → Type 0
 WalksWithinOn n q p r tokens events reports pool =
     leaving (parser_view r) events reports pool
     ≡ (walk_prog n (tokens_of tokens.entry.now) unlabelled q (entering (parser_view p) events reports pool)).on
 
-abbrev pub OpensWithin : ℕ → Rule → Parser → (List ℕ → List ℕ → List ℕ → Walked) → Lent → Lent → Lent → Lent → Type 0
+abbrev pub OpensWithin : ℕ → Rule → Parser → (List ℕ → List ℕ → List ℕ → Walked) → Shown → Lent → Lent → Lent → Type 0
 OpensWithin n q p r tokens events reports pool =
     leaving r events reports pool
     ≡ walk_rule n (tokens_of tokens.entry.now) q (entering (parser_view p) events reports pool)
 
-abbrev pub OpensWithinOn : ℕ → Rule → Parser → Parser → Lent → Lent → Lent → Lent → Type 0
+abbrev pub OpensWithinOn : ℕ → Rule → Parser → Parser → Shown → Lent → Lent → Lent → Type 0
 OpensWithinOn n q p r tokens events reports pool =
     leaving (parser_view r) events reports pool
     ≡ (walk_rule n (tokens_of tokens.entry.now) q (entering (parser_view p) events reports pool)).on
 
-abbrev pub ClosesWithin : ℕ → Marker → Prog → Parser → (List ℕ → List ℕ → List ℕ → Walked) → Lent → Lent → Lent → Lent → Type 0
+abbrev pub ClosesWithin : ℕ → Marker → Prog → Parser → (List ℕ → List ℕ → List ℕ → Walked) → Shown → Lent → Lent → Lent → Type 0
 ClosesWithin n m q p r tokens events reports pool =
     leaving r events reports pool
     ≡ marked (marker_of m)

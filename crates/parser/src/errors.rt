@@ -8,7 +8,7 @@ ghost use Rattle.definitions.specs.NodeKind as N;
 ghost use Rattle.definitions.specs.Run.{only_separators, pool_of};
 ghost use Rattle.machine.specs.Machine.{pool_count, error_range};
 ghost use Rattle.machine.specs.Walk.{unlabelled};
-ghost use Rattle.parser.specs.View.{pending_of, view, tokens_left, span_of, error_prog, takes, stored, Walks, Moves, says, Emits, WritesReport};
+ghost use Rattle.parser.specs.View.{pending_of, view, tokens_left, span_of, error_prog, takes, stored, WalksKept, Moves, says, Emits, WritesReport};
 ghost use Rattle.std.proofs.lemmas.List.Edits.{sets};
 
 use crate::State;
@@ -292,7 +292,7 @@ impl State {
         hint: u32,
         bump: Bump,
     ) -> State
-        ensures walks { Walks (error_prog bump message hint) self (says yes result) codes tokens events reports pool }
+        ensures walks { WalksKept (error_prog bump message hint) self (says yes result) codes tokens events reports pool }
         ensures result_bound { tokens_left tokens.now result ≤ tokens_left tokens.now self - takes bump }
     {
         let none = no_label();

@@ -1,0 +1,10 @@
+-- `expect`: with the codes lent.
+use borrow.Author.Rules.{rules}
+use Rattle.parser.proofs.Parser.expect.Goals as goal
+
+pub returns : goal.returns
+returns c = record {
+  parser_walks = c.expect-e.ensures.walks;
+  s_bound = c.expect-e.ensures.s_bound;
+  s_bound_2 = c.expect-e.ensures.s_bound_2;
+}
