@@ -1,4 +1,3 @@
 -- What the proofs of the functions share.
 pub mod Moves
-pub mod Held
 pub mod Said

@@ -1,0 +1,19 @@
+-- `past_token`: where a token taken after the parser's peek leaves its cursor.
+use mathlib.Core.Path.{ap}
+use mathlib.Core.List.{[]}
+use Rattle.definitions.specs.Token.{tokens_of}
+use Rattle.machine.specs.Machine.{Machine}
+use Rattle.parser.specs.View.{view}
+use Rattle.source.proofs.Moves.{token_goes}
+use Rattle.source.proofs.cursor.past_token.Goals as goal
+
+pub returns : goal.returns
+returns c =
+    let args = c.args in
+    let ts = tokens_of args.tokens.now in
+    let standing = c.standing in
+    let peek = c.peek in
+    let next_token = c.next_token-s in
+    let all = token_goes ts (view standing.result [] [] [] []) (view peek.result [] [] [] []) (view next_token.result [] [] [] []) args.at.0
+    (ap (λ (m : Machine). m.cursor) (standing.ensures [] [] [] [])) (peek.ensures.becomes [] [] [] []) (next_token.ensures.becomes [] [] [] []) in
+    record { result_value = all.0; tokens_value = all.1 }
