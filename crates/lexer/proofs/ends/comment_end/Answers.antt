@@ -2,7 +2,6 @@
 use Prim.Native.Nat.{ℕ, ◌+◌, ◌-◌, ◌<◌, ◌≤◌}
 use mathlib.Core.Path.{◌≡◌, refl, sym, ◌∙◌, ap}
 use mathlib.Core.Bool.{Bool, true, false, ◌&&◌}
-use mathlib.Core.Logic.{⊎_elim}
 use mathlib.Core.List.{List, [], ◌∷◌}
 use native.Mathlib.Omega.{arith}
 use lib.Dec.{eqb}
@@ -11,8 +10,8 @@ use lib.Seq.{drop-cons}
 use borrow.Author.Tests.{ltb-true, ltb-false, eqb-true}
 use Rattle.definitions.specs.Lex.{End, ended, unexpected_end, comment_end, starts_with}
 use Rattle.lexer.proofs.Search.{placed, reached, none, found, passed}
-use Rattle.lexer.proofs.ends.comment_end.Statement.{statement}
-use Rattle.lexer.proofs.ends.comment_end.Tie as tie
+use Rattle.lexer.proofs.ends.comment_end.Goals as goal
+use Rattle.lexer.proofs.ends.comment_end.Goals.{then-slash+else-star, else-slash}
 
 ruleset flags = (arith, ltb-true, ltb-false, eqb-true)
 
@@ -49,85 +48,64 @@ module _ (bytes : List ℕ) (n : ℕ) {g : End} (l : placed (n - 1) (comment_end
   at_last : length bytes ≤ n → unexpected_end ≡ g
   at_last h = let d = length-drop (n - 1) bytes in ap (placed (n - 1)) (sym (one_byte (drop (n - 1) bytes) (omega (arith, d, h)))) ∙ l
 
-abbrev invariant-loop : tie.invariant-loop
-invariant-loop bytes from n₀ n =
-    (placed (n - 1) (comment_end (drop (n - 1) bytes)) ≡ placed from (comment_end (drop from bytes)))
-    × (from < n) × (n ≤ length bytes + 1)
+pub overflow_add-n : goal.overflow_add-n
+overflow_add-n c = omega flags
 
-abbrev decreases-loop : tie.decreases-loop
-decreases-loop bytes from n₀ n = length bytes - n
+pub loop-n-init : goal.loop-n-init
+loop-n-init c = let z : c.args.from + 1 - 1 ≡ c.args.from = omega arith in (rw z, omega flags, omega flags)
 
-add-n : tie.Need-overflow-add-n invariant-loop decreases-loop
-add-n c = omega flags
+pub bounds-bytes-n : goal.bounds-bytes-n
+bounds-bytes-n c = omega flags
 
-loop-holds : tie.Need-loop-init invariant-loop decreases-loop
-loop-holds c = let z : c.args.from + 1 - 1 ≡ c.args.from = omega arith in (rw z, omega flags, omega flags)
+pub overflow_sub-star : goal.overflow_sub-star
+overflow_sub-star c = omega flags
 
-shared-slice-read-slash : tie.Need-shared-slice-read-slash invariant-loop decreases-loop
-shared-slice-read-slash c = omega flags
+pub bounds-bytes-n-then-slash : goal.bounds-bytes-n-then-slash
+bounds-bytes-n-then-slash c = omega flags
 
-sub-star : tie.Need-overflow-sub-star invariant-loop decreases-loop
-sub-star c = omega flags
+pub overflow_add-result : goal.overflow_add-result
+overflow_add-result c = omega flags
 
-shared-slice-read-star : tie.Need-shared-slice-read-star invariant-loop decreases-loop
-shared-slice-read-star c = omega flags
-
-add-result : tie.Need-overflow-add-result invariant-loop decreases-loop
-add-result c = omega flags
-
-returns : tie.Need-returns invariant-loop decreases-loop
-returns c =
-    let a = c.before.before.before.before.before.before.args in
-    let l = c.before.before.before.before.before.loop in
+pub returns-then-star : goal.returns-then-star
+returns-then-star c =
+    let a = c.args in
+    let l = c.loop-n in
     let bytes = a.bytes.now in
-    let e = ends_here bytes l.n l.invariant.0 (omega flags) (omega flags) c.before.before.if1.true c.if2.true in
+    let e = ends_here bytes l.n l.invariant.0 (omega flags) (omega flags) c.if-slash.true-raw c.if-star.true-raw in
     record {
       found = reached a.from (l.n + 1) (comment_end (drop a.from bytes)) (omega flags) e;
       inside = omega flags;
       after = λ _. omega flags;
     }
 
-add-n-2 : tie.Need-overflow-add-n-2 invariant-loop decreases-loop
-add-n-2 c = omega flags
+pub overflow_add-n-in-loop-n : goal.overflow_add-n-in-loop-n
+overflow_add-n-in-loop-n c = omega flags
 
-loop-less : tie.Need-loop-smaller invariant-loop decreases-loop
-loop-less c = omega flags
+pub loop-n-smaller : goal.loop-n-smaller
+loop-n-smaller c = omega flags
 
-loop-again : tie.Need-loop-preserved invariant-loop decreases-loop
-loop-again c =
-    let a = c.before.before.before.before.args in
-    let l = c.before.before.before.loop in
+pub loop-n-preserved : goal.loop-n-preserved
+loop-n-preserved c =
+    let a = c.args in
+    let l = c.loop-n in
     let bytes = a.bytes.now in
     let star = eqb (get_or bytes (l.n - 1) 0) 42 in
-    let go : (star && eqb (get_or bytes l.n 0) 47) ≡ false → _ = over bytes l.n l.invariant.0 (omega flags) (omega flags) in
-    let e = ⊎_elim (λ w. go (rw w.2.left)) (λ w. go (rw w.left (and_false star))) c.if1.branch in
-    (e, omega flags, omega flags)
+    let go : (star && eqb (get_or bytes l.n 0) 47) ≡ false → _ = over bytes l.n l.invariant.0 (omega flags) (omega flags) in (
+      elim c.if-slash.branch [
+        | then-slash+else-star w ↦ go (rw w.if-star.false-raw)
+        | else-slash w ↦ go (rw w.if-slash.false-raw (and_false star))
+      ],
+      omega flags,
+      omega flags,
+    )
 
-returns-2 : tie.Need-returns-2 invariant-loop decreases-loop
-returns-2 c =
-    let a = c.before.before.args in
-    let l = c.before.loop in
+pub returns : goal.returns
+returns c =
+    let a = c.args in
+    let l = c.loop-n in
     let bytes = a.bytes.now in
     record {
       found = none a.from (comment_end (drop a.from bytes)) (at_last bytes l.n l.invariant.0 (omega flags) (omega flags));
       inside = omega flags;
       after = λ h. absurd (h refl);
     }
-
-pub comment_end_spec : {M : Type 1} → statement M
-comment_end_spec =
-    tie.close
-    (tie.spec
-    invariant-loop
-    decreases-loop
-    add-n
-    loop-holds
-    shared-slice-read-slash
-    sub-star
-    shared-slice-read-star
-    add-result
-    returns
-    add-n-2
-    loop-less
-    loop-again
-    returns-2)
