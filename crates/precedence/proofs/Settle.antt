@@ -11,7 +11,7 @@ use lib.ListN.{length, drop, length-append}
 use lib.Seq.{drop-drop, drop-append_seam}
 use Rattle.definitions.specs.TokenKind as K
 use Rattle.definitions.specs.NodeKind as N
-use Rattle.definitions.specs.Token.{Token, seen, trivia, drop_trivia, past}
+use Rattle.definitions.specs.Token.{Token, seen, trivia, drop_trivia}
 use Rattle.definitions.specs.Skeleton.{Report, Skeleton, token, ◌⧺◌}
 use Rattle.definitions.specs.Place.{Tree, nil, leaf, subtree, ◌⊕◌, lead, front, after, place}
 use Rattle.definitions.specs.Report.{Push, event, reported, exceeded, pushes}
