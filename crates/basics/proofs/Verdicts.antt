@@ -7,7 +7,7 @@ use mathlib.Core.List.{List, ◌∷◌}
 use lib.Dec.{leb, eqb}
 use borrow.Author.Tests.{leb-true, leb-false, eqb-true, eqb-false, le-leb, lt-leb, eq-eqb, ne_eqb}
 use Rattle.definitions.specs.Token.{Token}
-use Rattle.definitions.specs.Refusal.{Refusal, bad_kind, zero_length, past_input, Verdict, accepted, refused, unless, ◌or_else◌}
+use Rattle.definitions.specs.Refusal.{Refusal, bad_kind, zero_length, Verdict, accepted, refused, unless, ◌or_else◌}
 use Rattle.definitions.specs.RowCauses.{is_kind, check_row, check_rows}
 
 pub cond_accepted : (b : Bool) (v : Verdict) (r : Refusal) → cond b v (refused r) ≡ accepted → (b ≡ true) × (v ≡ accepted)

@@ -7,7 +7,6 @@ use lib.ListN.{length, length-append}
 use Rattle.definitions.specs.Token.{Token}
 use Rattle.definitions.specs.Skeleton.{Skeleton, done, token, name, node, ignored, report, over}
 use Rattle.definitions.specs.Grammar.{Entry}
-use Rattle.definitions.specs.Event.{events}
 use Rattle.definitions.specs.Report.{pushes, reports}
 use Rattle.definitions.specs.Call.{run_entry}
 use Rattle.laws.specs.Pushes.{event_count}

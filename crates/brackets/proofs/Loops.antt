@@ -8,7 +8,7 @@ use mathlib.Core.Bool.{Bool, true, false, ◌&&◌, false≢true, true≢false}
 use lib.Dec.{ltb}
 use lib.ListN.{length}
 use borrow.Author.Tests.{lt-ltb}
-use Rattle.definitions.specs.Prog.{Ans, no, yes, also, again, Prog, case}
+use Rattle.definitions.specs.Prog.{Ans, no, yes, also, again, Prog}
 use Rattle.definitions.specs.Token.{drop_trivia, ended}
 use Rattle.definitions.specs.Skeleton.{Label, Skeleton, done, ◌⧺◌}
 use Rattle.definitions.specs.Run.{State, Out, mark_of, makes, add, closed, is_again, goes_on, iter, unlinked, by_shape, links, exec, run}
@@ -32,9 +32,8 @@ use Rattle.brackets.specs.Brackets.{Outline}
 use Rattle.brackets.proofs.Bits.{both, at_both}
 use Rattle.brackets.proofs.Flat.{◌⊞◌, beside_end, beside_assoc, flat, flat_join, shut, flat_closed}
 use Rattle.brackets.proofs.Ahead.{class, none_left, allows_ended}
-use Rattle.brackets.proofs.Look.{Fact, never, fact, within, from, goes_on_surely, at_end_only, turns, look}
+use Rattle.brackets.proofs.Look.{Fact, never, fact, within, from, goes_on_surely, at_end_only, turns}
 use Rattle.brackets.proofs.Meaning.{Holds, kept_holds, weaken, Sound, enter, open_gives}
-use Rattle.brackets.proofs.Table.{table}
 use Rattle.brackets.proofs.Scopes.{Open, open_add}
 
 module _ (n : ℕ) (b : Label) where

@@ -19,7 +19,7 @@ use Rattle.basics.proofs.Tests.{cond-all, cond-with, and_left, and_right}
 use Rattle.laws.proofs.Trivia.{drop_none, drop_trivium, drop_twice, drop_trivia_length}
 use Rattle.laws.proofs.Kept.{run_of_split}
 use Rattle.laws.proofs.FactsHold.{first_there}
-use Rattle.facts.proofs.Known.{kinds_within, inside, Known, known, some, nothing, is_among, within, seen_in, not_in, at_end, not_at_end, knows}
+use Rattle.facts.proofs.Known.{kinds_within, inside, Known, known, some, nothing, is_among, seen_in, not_in, at_end, not_at_end, knows}
 use Rattle.facts.proofs.Knowing.{kinds_weaken, knows_seen, knows_not, knows_end, knows_more}
 use Rattle.facts.proofs.Facts.{Pend, empty, push, pend_from, By, pick, map, nowhere, cleared, each, by_pushed, may_push, Fact, fact, over, fact_within}
 use Rattle.facts.proofs.May.{meets, asserts, token_there, both_ways, may_act}

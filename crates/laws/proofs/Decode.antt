@@ -4,7 +4,7 @@ use native.Mathlib.Omega.{arith}
 use mathlib.Core.Path.{◌≡◌, refl, ap, sym, ◌∙◌}
 use mathlib.Core.List.{List, [], ◌++◌, append_assoc, append-nil}
 use lib.ListN.{length, length-append}
-use Rattle.definitions.specs.Layout.{NODE, LEAF, TREE_ROW}
+use Rattle.definitions.specs.Layout.{LEAF, TREE_ROW}
 use Rattle.definitions.specs.Token.{byte_count}
 use Rattle.definitions.specs.Place.{Tree, nil, leaf, subtree, width, count, row_count}
 use Rattle.definitions.specs.Parent.{rows_under, tree_row}

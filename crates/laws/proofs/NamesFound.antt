@@ -1,6 +1,6 @@
 -- The Names that document 02, 1/14 judges, read off a skeleton and counted from the end of the file, so that code that
 -- follows a run's events can be held to them. Trivia that stand first change none of them.
-use Prim.Native.Nat.{ℕ, ◌+◌, ◌-◌}
+use Prim.Native.Nat.{ℕ, ◌-◌}
 use mathlib.Core.Path.{◌≡◌, refl, ap}
 use mathlib.Core.Bool.{Bool, false, cond, not, ◌&&◌, ◌||◌}
 use mathlib.Core.List.{List, [], ◌∷◌, ◌++◌}
@@ -8,7 +8,7 @@ use lib.Dec.{eqb}
 use lib.ListN.{length, drop}
 use Rattle.definitions.specs.TokenKind as K
 use Rattle.definitions.specs.NodeKind as N
-use Rattle.definitions.specs.Token.{Token, seen, trivia, drop_trivia, byte_count, past}
+use Rattle.definitions.specs.Token.{Token, seen, drop_trivia, byte_count, past}
 use Rattle.definitions.specs.Skeleton.{Skeleton, done, token, name, node, ignored, report, over}
 use Rattle.definitions.specs.Place.{after}
 use Rattle.definitions.specs.Strict.{NameAt}

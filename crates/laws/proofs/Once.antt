@@ -14,7 +14,7 @@ use Rattle.definitions.specs.Prog.{choose, Ans, no, yes, also, again, Rule, item
 use Rattle.definitions.specs.Grammar.{grammar, Entry, SourceFile, ReferenceNoamp, PropValues, Cells, whole}
 use Rattle.definitions.specs.Skeleton.{Label, no_label, Report, Skeleton, done, token, ◌⧺◌}
 use Rattle.definitions.specs.Run.{State, Out, mark_of, peeked, replies, makes, taken, do_bump, do_name, add, at_depth, do_argument, pool_of, do_emit, do_expected, perform, closed, marked, is_again, goes_on, iter, unlinked, by_shape, links, chained, here, exec, run}
-use Rattle.definitions.specs.Report.{event, reported, pushes, reports}
+use Rattle.definitions.specs.Report.{event, pushes, reports}
 use Rattle.definitions.specs.Call.{run_entry}
 use Rattle.laws.specs.Limits.{Moment, moment, deeper, iter_moments, links_moments, moments, run_moments, entry_moments}
 use Rattle.laws.specs.Once.{is_expectation, Listed, ListedAtEach, ListedInEach, Once}

@@ -6,7 +6,7 @@ use mathlib.Core.List.{List, [], ◌∷◌}
 use lib.ListN.{length}
 use Rattle.definitions.specs.Token.{Token}
 use Rattle.definitions.specs.Rules.{rules}
-use Rattle.definitions.specs.Lex.{Match, no_match, made_of, next_token, lex_after, lex}
+use Rattle.definitions.specs.Lex.{Match, no_match, made_of, lex_after, lex}
 use Rattle.definitions.specs.Call.{Buffers, Asked, for, unknown, entry_of}
 use Rattle.definitions.specs.Text.{TextResult, unknown_entry, unchanged, text_number, text_place, numbers_of, check_text, checked_text, asked_text, text_call}
 use Rattle.lexing.specs.Scan.{scan}

@@ -4,12 +4,12 @@ use Prim.Native.Nat.{ℕ}
 use Prim.Native.String.{String}
 use native.Mathlib.Omega.{arith}
 use mathlib.Core.Path.{◌≡◌, refl, ap, sym, ◌∙◌}
-use mathlib.Core.Bool.{Bool, true, false, ◌&&◌, false≢true}
+use mathlib.Core.Bool.{◌&&◌, false≢true}
 use mathlib.Core.List.{List, [], ◌∷◌}
 use lib.Dec.{leb}
 use lib.ListN.{length, take, drop, get_or}
 use borrow.Author.Tests.{leb-true}
-use Rattle.definitions.specs.Token.{Token, byte_count, tokens_of}
+use Rattle.definitions.specs.Token.{Token, byte_count}
 use Rattle.definitions.specs.Pattern.{within}
 use Rattle.definitions.specs.Rules.{Rule, rules, token, ascii}
 use Rattle.definitions.specs.Lex.{a_token, lex_after, lex}

@@ -12,7 +12,7 @@ use Rattle.definitions.specs.Skeleton.{Report}
 use Rattle.definitions.specs.Run.{State, taken, peeked, Stretch, stretch_of}
 use Rattle.basics.proofs.Tests.{cond-all}
 use Rattle.basics.specs.Word.{low}
-use Rattle.machine.specs.Machine.{Machine, rest, skip, peek, name_stretch}
+use Rattle.machine.specs.Machine.{Machine, skip, peek, name_stretch}
 use Rattle.machine.proofs.Suffix.{Suffix, suffix_tail, suffix_length}
 use Rattle.machine.proofs.Image.{Ground, image, Inside, moved, rest_is, pass_is, took_is}
 

@@ -14,7 +14,7 @@ use Rattle.definitions.specs.Report.{reports}
 use Rattle.laws.proofs.Engine.{only}
 use Rattle.laws.proofs.Once.{any_kind, expects_codes, expects, grammar_expects}
 use Rattle.basics.proofs.Tests.{and_left, and_right}
-use Rattle.machine.specs.Machine.{Machine, rest}
+use Rattle.machine.specs.Machine.{Machine}
 use Rattle.machine.specs.Walk.{Walked, walk, walk_rule}
 use Rattle.machine.specs.Walk as W
 use Rattle.machine.proofs.Image.{Ground}

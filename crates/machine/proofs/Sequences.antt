@@ -10,7 +10,6 @@ use Rattle.definitions.specs.Report.{pushes}
 use Rattle.laws.proofs.Skeleton.{pushes_join}
 use Rattle.machine.specs.Machine.{Machine}
 use Rattle.machine.specs.Walk.{Walked}
-use Rattle.machine.specs.Walk as W
 use Rattle.machine.specs.Outcome.{Refused}
 use Rattle.machine.proofs.Image.{Ground, Inside}
 use Rattle.machine.proofs.Sticky.{Sticks}

@@ -1,12 +1,12 @@
 -- The machine's interpreter: the same programs as `exec` and `run` of `definitions`, over the machine.
-use Rattle.std.specs.Prelude.{ℕ, zero, suc, ◌-◌, Bool, cond, ◌&&◌, List, [], ◌∷◌, ltb, length}
+use Rattle.std.specs.Prelude.{ℕ, zero, suc, Bool, cond, ◌&&◌, List, [], ◌∷◌, ltb, length}
 use Rattle.definitions.specs.NodeKind.{NO_NODE}
 use Rattle.definitions.specs.Layout.{PLACEHOLDER, START_NODE, LINKED_START_NODE, TOO_DEEP}
 use Rattle.definitions.specs.TokenKind as K
 use Rattle.definitions.specs.Errors as E
 use Rattle.definitions.specs.Token.{Token, past, ended, first_in}
 use Rattle.definitions.specs.Skeleton.{Span}
-use Rattle.definitions.specs.Prog.{Ans, no, yes, also, again, choose, Rule, Act, silent_at, at_end, immediate, immediate_next, add_expected, bump, bump_name, bump_argument, emit, emit_unclosed, less, Prog, ret, act, ◌⨟◌, case, in_marker, loop, chain, brace, open_call}
+use Rattle.definitions.specs.Prog.{Ans, no, yes, again, choose, Rule, Act, silent_at, at_end, immediate, immediate_next, add_expected, bump, bump_name, bump_argument, emit, emit_unclosed, less, Prog, ret, act, ◌⨟◌, case, in_marker, loop, chain, brace, open_call}
 use Rattle.definitions.specs.Grammar.{grammar}
 use Rattle.definitions.specs.Run.{truth, is_again, by_shape}
 use Rattle.machine.specs.Machine.{Machine, Marker, rest, peek, range_at, refuse, expect_code, push, complete, precede}

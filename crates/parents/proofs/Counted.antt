@@ -1,14 +1,14 @@
 -- How many rows of a tree name a row: as many as it has children.
 use Prim.Native.Nat.{ℕ, zero, suc, ◌+◌, ◌<◌}
 use native.Mathlib.Omega.{arith}
-use mathlib.Core.Path.{◌≡◌, refl, ap, sym, ◌∙◌}
+use mathlib.Core.Path.{◌≡◌, refl, ap, sym}
 use mathlib.Core.Bool.{Bool, true, false, cond}
 use mathlib.Core.List.{List, [], ◌∷◌, ◌++◌, append-nil}
 use lib.Dec.{eqb}
 use lib.ListN.{length, drop}
 use borrow.Author.Tests.{eq-eqb, ne_eqb}
 use Rattle.definitions.specs.Place.{Tree, nil, leaf, subtree, count, row_count}
-use Rattle.rows.specs.ResultRows.{Row, parent}
+use Rattle.rows.specs.ResultRows.{Row}
 use Rattle.rows.specs.RowTree.{row, children}
 use Rattle.rows.proofs.Written.{rows_of, rows_counted}
 use Rattle.parents.specs.Upwards.{naming}

@@ -1,19 +1,18 @@
 -- Each row of a tree but the root is a child of the row that it names, and so the way up from any row ends at the root.
-use Prim.Native.Nat.{ℕ, zero, suc, ◌+◌, ◌-◌, ◌≤◌, ◌<◌}
+use Prim.Native.Nat.{ℕ, zero, suc, ◌+◌, ◌≤◌, ◌<◌}
 use native.Mathlib.Omega.{arith}
-use mathlib.Core.Path.{◌≡◌, refl, ap, sym, ◌∙◌, subst}
+use mathlib.Core.Path.{◌≡◌, refl, ap, sym, subst}
 use mathlib.Core.Bool.{Bool, true, false}
-use mathlib.Core.List.{List, [], ◌∷◌, ◌++◌}
-use lib.Dec.{ltb, eqb}
-use lib.ListN.{length, drop}
-use borrow.Author.Tests.{ltb-true, ltb-false, eqb-true}
-use Rattle.basics.proofs.Flags.{flags}
+use mathlib.Core.List.{List, [], ◌∷◌}
+use lib.Dec.{ltb}
+use lib.ListN.{length}
+use borrow.Author.Tests.{ltb-true, ltb-false}
 use Rattle.definitions.specs.Place.{Tree, nil, leaf, subtree, row_count}
 use Rattle.rows.specs.ResultRows.{Row, parent}
-use Rattle.rows.specs.RowTree.{row, children, subtree_end, Child, Chain}
+use Rattle.rows.specs.RowTree.{subtree_end, Child, Chain}
 use Rattle.rows.proofs.Written.{rows_of, rows_counted}
 use Rattle.rows.proofs.Spans.{one_parent, child_after, child_inside, row_inside}
-use Rattle.rows.proofs.Placed.{Placed, leaf_row, leaf_stands, leaf_child, after_leaf, node_row, node_stands, node_child, under_node, after_node, under_root}
+use Rattle.rows.proofs.Placed.{Placed, leaf_stands, leaf_child, after_leaf, node_stands, node_child, under_node, after_node, under_root}
 use Rattle.parents.specs.Upwards.{parent_of, up, NamesUp}
 
 -- row j is a child of the row that it names

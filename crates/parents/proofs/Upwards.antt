@@ -2,16 +2,16 @@
 use Prim.Native.Nat.{ℕ, zero, suc, ◌<◌}
 use native.Mathlib.Omega.{arith}
 use mathlib.Core.Path.{◌≡◌, refl, ap, sym, ◌∙◌, subst}
-use mathlib.Core.List.{List, ◌∷◌, []}
+use mathlib.Core.List.{List}
 use lib.ListN.{length}
 use Rattle.definitions.specs.Layout.{TREE_ROW}
 use Rattle.definitions.specs.Token.{Token, tokens_of}
 use Rattle.definitions.specs.Grammar.{Entry, root_kind}
 use Rattle.definitions.specs.Place.{Tree, nil, subtree, ◌⊕◌, lead, after, place, root}
 use Rattle.definitions.specs.Strict.{NameAt}
-use Rattle.definitions.specs.Call.{Buffers, Result, sheets, kept, run_entry, names_of, call}
+use Rattle.definitions.specs.Call.{Buffers, sheets, kept, run_entry, names_of}
 use Rattle.laws.proofs.Accepted.{Accepted, accepted_call}
-use Rattle.rows.specs.ResultRows.{Row, tree_rows, parent}
+use Rattle.rows.specs.ResultRows.{Row, tree_rows}
 use Rattle.rows.proofs.Written.{rows_of, rows_wide, rows_flat, written_rows}
 use Rattle.parents.specs.Upwards.{parent_of, holder, Upwards, Parents}
 use Rattle.parents.proofs.Named.{names_child, child_names, earlier, inside, chains, to_root}

@@ -95,11 +95,11 @@ abbrev with_pending : ℕ → State
 with_pending n = record { rest = []; since = []; pending = replicate n 7 }
 
 last_pushed : (Before.do_expected 7 (with_pending 255)).made ≡ done
-unfolding Before.do_expected replicate
+unfolding Before.do_expected
 last_pushed = refl
 
 one_too_many : (Before.do_expected 7 (with_pending 256)).made ≡ over 0 done
-unfolding Before.do_expected replicate
+unfolding Before.do_expected
 one_too_many = refl
 
 -- `a=<1> }`: [Comma, Semicolon] is pending at its report, whose range is the byte after `>`

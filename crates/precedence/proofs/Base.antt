@@ -83,6 +83,7 @@ flat_prefix here = refl
 flat_prefix (there here) = refl
 flat_prefix (there (there here)) = refl
 flat_prefix (there (there (there here))) = refl
+flat_prefix (there (there (there (there h)))) = elim h [ ]
 
 -- no bracket is in C's table
 bracket_not : (k j : ℕ) → line_of j ≡ 0 → 1 ≤ line_of k → k ≡ j → ⊥
@@ -103,6 +104,7 @@ flat_prefix_of k h = flat_prefix (member prefix_operators k h)
 flat_literal : {k : ℕ} → Member k (K.Number ∷ K.Char ∷ []) → Flat (plain k)
 flat_literal here = refl
 flat_literal (there here) = refl
+flat_literal (there (there h)) = elim h [ ]
 
 pub open_onto : (e : Expr) → WellFormed e → (us : List Symbol) (n : ℕ) → open_after (onto e us) n ≡ open_after us n
 open_onto (literal k) a us n = flat_open (plain k) us n (flat_literal (member (K.Number ∷ K.Char ∷ []) k a))

@@ -13,7 +13,7 @@ use Rattle.definitions.specs.Token.{Token, seen, drop_trivia, first_in}
 use Rattle.definitions.specs.Prog.{choose, no, yes, Rule, item, propvalues, eat_cell, expr_binding_power, silent_at, Prog, act, ◌⨟◌, case, open_call}
 use Rattle.definitions.specs.Check.{tell, if◌then◌else◌, ◌and◌, ◌or◌, not!, bump!, expected, error_wrap, of_kind, set, silent, at, silent_eat, expect}
 use Rattle.definitions.specs.Grammar.{Cell, OPERATORS_SET, Reference, macro_invocation, dt_expr, eat_dts_include, eat_preprocessor_directive, eat_cell_body, grammar, Entry, SourceFile, ReferenceNoamp, PropValues, Cells, whole}
-use Rattle.definitions.specs.Skeleton.{Label, no_label, Skeleton, done, node, over, ◌⧺◌}
+use Rattle.definitions.specs.Skeleton.{Label, no_label, Skeleton, done, node, ◌⧺◌}
 use Rattle.definitions.specs.Run.{State, Out, mark_of, peeked, truth, replies, makes, taken, add, perform, closed, marked, exec, run}
 use Rattle.definitions.specs.Place.{after}
 use Rattle.definitions.specs.Report.{pushes}

@@ -10,7 +10,7 @@ use Rattle.definitions.specs.TokenKind as K
 use Rattle.definitions.specs.Token.{Token, seen, drop_trivia, one_of, first_in}
 use Rattle.definitions.specs.Prog.{no, yes, Rule, emit, Prog, ret, act, ◌⨟◌}
 use Rattle.definitions.specs.Check.{of_kind, expect, eat}
-use Rattle.definitions.specs.Skeleton.{Label, Report, Skeleton, done, token, report, ◌⧺◌}
+use Rattle.definitions.specs.Skeleton.{Label, Report, Skeleton, done, token, ◌⧺◌}
 use Rattle.definitions.specs.Run.{State, Out, peeked, makes, taken, add, do_emit, perform, closed, exec}
 use Rattle.definitions.specs.Report.{pushes}
 use Rattle.definitions.specs.C.{Symbol, symbols, Expr}

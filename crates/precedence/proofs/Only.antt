@@ -3,7 +3,7 @@
 use Prim.Native.Nat.{ℕ, suc}
 use mathlib.Core.Path.{◌≡◌, refl, sym, subst}
 use mathlib.Core.Bool.{Bool, true}
-use Rattle.definitions.specs.Prog.{choose, Ans, no, yes, also, again, Rule, Act, Prog, act}
+use Rattle.definitions.specs.Prog.{choose, Ans, no, yes, also, again, Rule, Act, Prog}
 use Rattle.definitions.specs.Skeleton.{Label, Skeleton, done, ◌⧺◌}
 use Rattle.definitions.specs.Run.{State, Out, mark_of, makes, add, perform, closed, marked, unlinked, exec}
 use Rattle.laws.proofs.Engine.{Composes, only, any_act, exec_only}

@@ -24,6 +24,7 @@ pub data Nth (r : Report) : ℕ → List Report → Type 0 where
 pub nth_less : {r : Report} (q : ℕ) (l : List Report) → Nth r q l → q < length l
 nth_less q (x ∷ l) first = omega arith
 nth_less (suc q) (x ∷ l) (later h) = let g = nth_less q l h in omega arith
+nth_less q [] h = elim h [ ]
 
 pub nth_there : (q : ℕ) (l : List Report) → q < length l → (r : Report) × Nth r q l
 nth_there q [] h = absurd (omega arith)
@@ -38,6 +39,7 @@ reported_nth (reported r ∷ l) here = (0, first)
 reported_nth (event m ∷ l) (there h) = reported_nth l h
 reported_nth (reported x ∷ l) (there h) = let g = reported_nth l h in (suc g.0, later g.1)
 reported_nth (exceeded m ∷ l) (there h) = reported_nth l h
+reported_nth [] h = elim h [ ]
 
 pub nth_reported : {r : Report} (q : ℕ) (l : List Push) → Nth r q (reports l) → Reported r l
 unfolding reports
@@ -69,6 +71,8 @@ unfolding report_numbers
 nth_mark n b f zero (r ∷ l) z first = refl
 nth_mark n b f (suc q) (x ∷ l) z (later h) =
     ap (λ (y : List ℕ). get_or y REPORT_MARK 0) (row_drop n b f q x l z) ∙ nth_mark n b (f + length x.pool) q l z h
+nth_mark n b f zero [] z h = elim h [ ]
+nth_mark n b f (suc q) [] z h = elim h [ ]
 
 -- ---------------------------------------------------------------- the rows of Names
 

@@ -11,7 +11,7 @@ use lib.ListN.{length, drop, length-append}
 use lib.Seq.{drop-drop, drop-append_seam}
 use Rattle.definitions.specs.TokenKind as K
 use Rattle.definitions.specs.NodeKind as N
-use Rattle.definitions.specs.Token.{Token, seen, trivia, drop_trivia, past}
+use Rattle.definitions.specs.Token.{Token, seen, trivia, drop_trivia}
 use Rattle.definitions.specs.Skeleton.{Report, Skeleton, token, ◌⧺◌}
 use Rattle.definitions.specs.Place.{Tree, nil, leaf, subtree, ◌⊕◌, lead, front, after, place}
 use Rattle.definitions.specs.Report.{Push, event, reported, exceeded, pushes}
@@ -42,6 +42,7 @@ quiet_none (reported r ∷ l) q here = q
 quiet_none (event m ∷ l) q (there h) = quiet_none l q h
 quiet_none (reported r ∷ l) q (there h) = q
 quiet_none (exceeded m ∷ l) q (there h) = quiet_none l q h
+quiet_none [] q h = elim h [ ]
 
 falls_to : (a b : ℕ) (k : List Push) (x : Push) (l : List Push) → Falls a (k ++ (x ∷ l)) b → push_mark x ≤ a
 falls_to a b [] x l f = f.0
@@ -55,11 +56,13 @@ falls_from a b (y ∷ k) x l f = falls_from (push_mark y) b k x l f.1
 falls_before : {r : Report} (a b : ℕ) (k : List Push) (x : Push) (l : List Push) → Falls a (k ++ (x ∷ l)) b → Reported r k → push_mark x ≤ r.mark
 falls_before a b (reported r ∷ k) x l f here = falls_to r.mark b k x l f.1
 falls_before a b (y ∷ k) x l f (there h) = falls_before (push_mark y) b k x l f.1 h
+falls_before a b [] x l f h = elim h [ ]
 
 -- and one after it no greater
 falls_under : {r : Report} (a b : ℕ) (l : List Push) → Falls a l b → Reported r l → r.mark ≤ a
 falls_under a b (reported r ∷ l) f here = f.0
 falls_under a b (y ∷ l) f (there h) = le_trans (falls_under (push_mark y) b l f.1 h) f.0
+falls_under a b [] f h = elim h [ ]
 
 -- ---------------------------------------------------------------- a cell in the whole
 

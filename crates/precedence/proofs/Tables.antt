@@ -133,6 +133,7 @@ member (x ∷ xs) k h = go (eqb x k) refl h (member xs k)
 
 pub member_one : {k j : ℕ} → Member k (j ∷ []) → k ≡ j
 member_one here = refl
+member_one (there h) = elim h [ ]
 
 -- ---------------------------------------------------------------- what an operand is
 
@@ -182,6 +183,7 @@ literal_member : {k : ℕ} → Member k (K.Number ∷ K.Char ∷ []) → operand
 unfolding operand one_of
 literal_member here = refl
 literal_member (there here) = refl
+literal_member (there (there h)) = elim h [ ]
 
 pub literal_operand : (k : ℕ) → one_of (K.Number ∷ K.Char ∷ []) k ≡ true → operand (plain k) ≡ literals k
 literal_operand k h = literal_member (member (K.Number ∷ K.Char ∷ []) k h)

@@ -14,7 +14,7 @@ use Rattle.definitions.specs.Prog.{no, yes, again, Rule, expr_binding_power, les
 use Rattle.definitions.specs.Check.{tell, if◌then◌else◌, ◌and◌, bump!, of_kind, silent, expect}
 use Rattle.definitions.specs.BindingPower.{Level, binary_levels, left_power, right_power, ternary_left, ternary_right}
 use Rattle.definitions.specs.Grammar.{rhs, infix_levels, infix_turn}
-use Rattle.definitions.specs.Skeleton.{Label, Skeleton, done, ◌⧺◌}
+use Rattle.definitions.specs.Skeleton.{Label, Skeleton, ◌⧺◌}
 use Rattle.definitions.specs.Run.{State, Out, truth, replies, makes, taken, add}
 use Rattle.definitions.specs.C.{Symbol, symbols, Expr, binary, ternary}
 use Rattle.definitions.specs.C as C

@@ -12,7 +12,7 @@ use Rattle.definitions.specs.Layout.{TREE_ROW}
 use Rattle.definitions.specs.Token.{Token, tokens_of}
 use Rattle.definitions.specs.Grammar.{SourceFile, root_kind}
 use Rattle.definitions.specs.Place.{Tree, nil, subtree, width}
-use Rattle.definitions.specs.Call.{Buffers, Answer, Result, kept, call}
+use Rattle.definitions.specs.Call.{Buffers, Answer, Result, call}
 use Rattle.definitions.specs.Caret.{Query, caret, range, listed, top_level, source_tree, ListResult, query_call}
 use Rattle.rows.specs.ResultRows.{Row, tree_rows, raw_bytes}
 use Rattle.rows.specs.OnePass.{found}

@@ -3,7 +3,7 @@ use Prim.Native.Nat.{ℕ, suc, ◌+◌, ◌/◌, ◌%◌}
 use native.Mathlib.Omega.{arith}
 use mathlib.Core.Path.{◌≡◌, refl, subst}
 use mathlib.Core.Bool.{Bool, true, false, ◌&&◌}
-use mathlib.Core.Logic.{◌⊎◌, inl, inr, ⊎_elim}
+use mathlib.Core.Logic.{inl, inr, ⊎_elim}
 use mathlib.Core.List.{List, [], ◌∷◌}
 use lib.Dec.{leb, eqb}
 use lib.ListN.{length, drop, take}
@@ -15,7 +15,7 @@ use Rattle.definitions.specs.StaticText.{static_texts, fits_text}
 use Rattle.definitions.specs.Grammar.{SourceFile}
 use Rattle.definitions.specs.Refusal.{Refusal, too_long, odd_count, bad_kind, zero_length, past_input, short_total, number_of, place_of, Verdict, accepted, refused, unless, ◌or_else◌, check_sizes, check_texts}
 use Rattle.definitions.specs.RowCauses.{check_count, is_kind, check_row, check_rows, check_input}
-use Rattle.definitions.specs.Call.{Buffers, Result, cleared, parse, call, asked, checked, entry_of}
+use Rattle.definitions.specs.Call.{Buffers, Result, parse, call, asked, checked, entry_of}
 use Rattle.definitions.specs.Caret.{Query, listed, source_tree, with_list, checked_query, query_call}
 use Rattle.laws.proofs.Accepted.{refusal_number}
 use Rattle.laws.proofs.Input.{checked_input}

@@ -1,24 +1,18 @@
 -- The rows that have a byte are a chain from the root to a leaf that has it: by induction over the tree whose rows they
 -- are, each part of which stands among all rows as a child of the row above.
-use Prim.Native.Nat.{ℕ, suc, ◌+◌, ◌-◌, ◌≤◌, ◌<◌}
+use Prim.Native.Nat.{ℕ, suc, ◌+◌, ◌-◌, ◌<◌}
 use native.Mathlib.Omega.{arith}
 use mathlib.Core.Path.{◌≡◌, refl, ap, sym, ◌∙◌, subst}
 use mathlib.Core.Bool.{Bool, true, false}
-use mathlib.Core.List.{List, [], ◌∷◌, ◌++◌, append_assoc}
+use mathlib.Core.List.{List, ◌++◌, append_assoc}
 use lib.Dec.{ltb}
-use lib.ListN.{length, drop}
-use lib.Seq.{drop-drop}
 use borrow.Author.Tests.{ltb-true, ltb-false}
-use Rattle.definitions.specs.Layout.{NODE, LEAF}
 use Rattle.definitions.specs.Token.{byte_count}
-use Rattle.definitions.specs.Place.{Tree, nil, leaf, subtree, width, count, row_count}
-use Rattle.laws.proofs.Tree.{width_leaves}
-use Rattle.rows.specs.ResultRows.{Row, class, raw_bytes, over_leaves}
-use Rattle.rows.specs.ResultRows as S
-use Rattle.rows.specs.RowTree.{row, children, span, Child, Chain, first_byte, end_byte, HasByte, IsLeaf}
-use Rattle.rows.specs.OnePass.{own, holding}
-use Rattle.rows.proofs.Written.{rows_of, bytes_counted}
-use Rattle.rows.proofs.Spans.{span_none, span_rows, span_add}
+use Rattle.definitions.specs.Place.{Tree, nil, leaf, subtree, width, row_count}
+use Rattle.rows.specs.ResultRows.{Row}
+use Rattle.rows.specs.RowTree.{Chain, first_byte, HasByte, IsLeaf}
+use Rattle.rows.specs.OnePass.{holding}
+use Rattle.rows.proofs.Written.{rows_of}
 use Rattle.rows.proofs.Placed.{Placed, leaf_child, leaf_is, leaf_width, after_leaf, leaf_next, node_child, under_node, same_start, after_node, node_next}
 use Rattle.rows.proofs.Passes.{holding_at, holding_past}
 

@@ -3,7 +3,7 @@ use Prim.Native.Nat.{ℕ, suc, ◌+◌, ◌<◌}
 use native.Mathlib.Omega.{arith}
 use mathlib.Core.Path.{◌≡◌, refl, ap, sym, ◌∙◌, subst}
 use mathlib.Core.List.{List, [], ◌∷◌, ◌++◌}
-use lib.ListN.{length, drop, length-append}
+use lib.ListN.{length, drop}
 use Rattle.definitions.specs.Token.{Token, tokens_of, byte_count}
 use Rattle.definitions.specs.Grammar.{SourceFile, root_kind}
 use Rattle.definitions.specs.Place.{Tree, nil, leaf, subtree, ◌⊕◌, lead, after, place, root, width, row_count}

@@ -11,7 +11,7 @@ use Rattle.definitions.specs.TokenKind as K
 use Rattle.definitions.specs.Token.{Token, trivia, byte_count}
 use Rattle.definitions.specs.Prog.{Ans, yes, Rule, Act, silent_at, at_end, immediate, immediate_next, add_expected, bump, bump_name, bump_argument, emit, emit_unclosed, less, Prog, ret, act, ◌⨟◌, case, in_marker, loop, chain, brace, open_call}
 use Rattle.definitions.specs.Grammar.{grammar, Entry, whole}
-use Rattle.definitions.specs.Skeleton.{Span, Label, no_label, label, Report, Skeleton, done, token, name, report, over, ◌⧺◌}
+use Rattle.definitions.specs.Skeleton.{Span, Label, no_label, label, Report, Skeleton, done, token, ◌⧺◌}
 use Rattle.definitions.specs.Run.{State, Out, mark_of, peeked, replies, makes, taken, do_bump, do_name, add, at_depth, do_argument, only_separators, error_range, do_emit, do_expected, perform, closed, marked, unlinked, here, exec, run}
 use Rattle.definitions.specs.Report.{pushes, reports}
 use Rattle.definitions.specs.Call.{run_entry}

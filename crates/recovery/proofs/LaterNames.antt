@@ -68,6 +68,8 @@ names_before i first l m =
 pub pairwise_append : (S : Row → Row → Type 0) (l m x y : List Row) → Pairwise S l m → Pairwise S x y → Pairwise S (l ++ x) (m ++ y)
 pairwise_append S [] [] x y none g = g
 pairwise_append S (r ∷ l) (s ∷ m) x y (more h k) g = more h (pairwise_append S l m x y k g)
+pairwise_append S [] (s ∷ m) x y h g = elim h [ ]
+pairwise_append S (r ∷ l) [] x y h g = elim h [ ]
 
 module _ (a b : Places) (p q : List ℕ) (x y : ℕ) (h : Moved a.pool_place b.pool_place x y) where
   -- one row, in a file with the semicolon at d

@@ -9,7 +9,7 @@ use lib.Seq.{take-append_seam, drop-append_seam}
 use borrow.Author.Tests.{lt-ltb, le-ltb}
 use Rattle.definitions.specs.Skeleton.{Label, no_label, label, Report}
 use Rattle.definitions.specs.Report.{label_numbers, pool}
-use Rattle.rows.specs.ResultRows.{Row, mark}
+use Rattle.rows.specs.ResultRows.{Row}
 use Rattle.recovery.specs.Recovery.{those, later_report, pool_counts, pool_before, Moved, Pairwise, none, more, LabelMoved, Places, ReportMoved}
 use Rattle.recovery.specs.Recovery as R
 use Rattle.recovery.proofs.Told.{All, Above}

@@ -11,7 +11,7 @@ use Rattle.definitions.specs.Report.{pool}
 use Rattle.definitions.specs.Strict.{NameAt}
 use Rattle.definitions.specs.Call.{run_entry, names_of}
 use Rattle.laws.proofs.Skeleton.{bytes_append, pool_append}
-use Rattle.rows.specs.ResultRows.{Row, tree_rows, report_rows, expectations, mark}
+use Rattle.rows.specs.ResultRows.{Row, tree_rows, report_rows, expectations}
 use Rattle.recovery.specs.Recovery.{File, result, Accepted, Semicolon, token_index, start_byte, row_number, those, later_error, later_report, pool_before, Moved, Pairwise, TreeMoved, ErrorMoved, ReportMoved, later_errors, later_reports, places, StaysLocal}
 use Rattle.recovery.proofs.Told.{All, all_map, told}
 use Rattle.recovery.proofs.Inside.{Inside, entry_inside}

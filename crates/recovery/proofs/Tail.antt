@@ -166,10 +166,10 @@ tail f h s =
       one_byte_long = w;
       no_error = ap (leb L.UnexpectedEndIncbin) O.kind;
       at_index =
-          counted (λ (x : Tree). length (leaves x)) raw_tokens tokens_counted P.before P.inside 0 1 _ _ s.before s.inside P.rows_before P.rows_Inside
+          counted (λ (x : Tree). length (leaves x)) raw_tokens tokens_counted P.before P.inside 0 1 _ _ s.before s.inside P.rows_before P.rows_inside
           ∙ sym (length-append (leaves P.before) (leaves P.inside));
       at_byte =
-          counted (λ (x : Tree). byte_count (leaves x)) raw_bytes bytes_counted P.before P.inside 0 1 _ _ s.before s.inside P.rows_before P.rows_Inside
+          counted (λ (x : Tree). byte_count (leaves x)) raw_bytes bytes_counted P.before P.inside 0 1 _ _ s.before s.inside P.rows_before P.rows_inside
           ∙ sym (bytes_append (leaves P.before) (leaves P.inside));
       parts = sym P.rows_later ∙ ap (rows_of 0 (suc (row_number s))) F.beyond;
       early = told F.first;

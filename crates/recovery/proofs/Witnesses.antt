@@ -2,7 +2,7 @@
 -- nodes and directives of different lengths, in different places, with different buffers, and after each the same `}`.
 -- A statement that leaves one of these pairs out is refused here.
 use mathlib.Core.Path.{◌≡◌, refl, sym, ◌∙◌}
-use Prim.Native.Nat.{ℕ, suc, ◌+◌}
+use Prim.Native.Nat.{ℕ, suc}
 use mathlib.Core.Bool.{Bool, true, false}
 use mathlib.Core.List.{List, [], ◌∷◌, ◌++◌}
 use lib.Dec.{eqb}

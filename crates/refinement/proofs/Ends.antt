@@ -18,7 +18,7 @@ use Rattle.definitions.specs.Report.{Room, Fit, fits, stops, scan, pushes, repor
 use Rattle.definitions.specs.Refusal.{Refusal, unknown_entry, too_long, odd_count, bad_kind, zero_length, past_input, short_total, bad_text, too_deep, no_event_room, no_report_room, no_tree_room, number_of, place_of, Verdict, accepted, refused}
 use Rattle.definitions.specs.RowCauses.{check_input}
 use Rattle.definitions.specs.Grammar.{Entry, root_kind}
-use Rattle.definitions.specs.Call.{Buffers, refusal, cleared, Sheets, sheets, kept, delivered, forward_mark, unless_refused, outcome, room_of, run_entry, names_of, parse}
+use Rattle.definitions.specs.Call.{Buffers, cleared, Sheets, sheets, kept, delivered, forward_mark, unless_refused, outcome, room_of, run_entry, names_of, parse}
 use Rattle.laws.proofs.Input.{Checked, checked_input}
 use Rattle.laws.proofs.Scan.{fits_left}
 use Rattle.laws.proofs.Decode.{rows_length}

@@ -9,7 +9,7 @@ use lib.ListN.{length, length-append}
 use Rattle.definitions.specs.Layout.{TOKEN_ROW, MOST_TOKEN_NUMBERS, MOST_BYTES}
 use Rattle.definitions.specs.LexError as L
 use Rattle.definitions.specs.TokenKind as K
-use Rattle.definitions.specs.Token.{Token, tokens_of, byte_count}
+use Rattle.definitions.specs.Token.{Token, byte_count}
 use Rattle.definitions.specs.Refusal.{Refusal, bad_kind, zero_length, past_input, short_total, Verdict, accepted, refused, unless, ◌or_else◌}
 use Rattle.definitions.specs.RowCauses.{is_kind, check_row, check_rows}
 use Rattle.basics.proofs.TokenRows.{tokens_length}

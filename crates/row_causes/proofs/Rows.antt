@@ -2,13 +2,13 @@
 -- odd count was refused at the first bad row or at the number left over.
 use Prim.Native.Nat.{ℕ, suc, ◌+◌, ◌-◌, ◌*◌, ◌≤◌}
 use native.Mathlib.Omega.{arith}
-use mathlib.Core.Path.{◌≡◌, refl, ap, sym, ◌∙◌, subst}
+use mathlib.Core.Path.{◌≡◌, refl}
 use mathlib.Core.Bool.{Bool, true, false, cond, ◌&&◌}
 use mathlib.Core.List.{List, [], ◌∷◌}
 use lib.Dec.{leb, eqb}
 use lib.ListN.{length}
 use borrow.Author.Tests.{leb-true}
-use Rattle.definitions.specs.Token.{Token, tokens_of}
+use Rattle.definitions.specs.Token.{tokens_of}
 use Rattle.definitions.specs.Refusal.{Refusal, bad_kind, zero_length, past_input, short_total, number_of, place_of, Verdict, accepted, refused, unless, ◌or_else◌}
 use Rattle.definitions.specs.RowCauses.{is_kind, check_row, check_rows}
 use Rattle.basics.proofs.Verdicts.{same_end, same_cover}

@@ -2,7 +2,7 @@
 use Prim.Native.Nat.{ℕ, ◌+◌, ◌-◌, ◌*◌, ◌≤◌, ◌<◌}
 use native.Mathlib.Omega.{arith}
 use mathlib.Core.Path.{◌≡◌, refl, ap, sym, ◌∙◌, subst}
-use mathlib.Core.Bool.{true, false, false≢true}
+use mathlib.Core.Bool.{false, false≢true}
 use mathlib.Core.List.{List, [], ◌∷◌}
 use lib.Dec.{lit<}
 use lib.ListN.{length, take, drop, get_or}
@@ -141,7 +141,7 @@ module _ (s : ℕ) (strict : s ≡ 0 → ⊥) (e : Entry) (bytes : List ℕ) (ts
       let x : Told p m.0 = told_at p h m.0 m.1 in
       let y : Told q n.0 = told_at q (omega arith) n.0 n.1 in
       let rise : m.0.first_token < n.0.first_token =
-      rising_two 0 _ names m.0 n.0 (p - c) (q - c) (rising_breaking bytes 0 _ (judged false 0 0 t) (rises false 0 0 t right)) m.1 n.1 (omega arith) in
+      rising_two m.0 n.0 0 _ names (p - c) (q - c) (rising_breaking bytes 0 _ (judged false 0 0 t) (rises false 0 0 t right)) m.1 n.1 (omega arith) in
       omega (arith, mark_in r p x.at x.byte x.width x.reports, mark_in r q y.at y.byte y.width y.reports, x.first, y.first, rise)
     where
       right : Right t

@@ -81,14 +81,14 @@ unfolding Rising
 rising_append lo mid hi [] m h g = rising_from mid lo hi m h g
 rising_append lo mid hi (n ∷ l) m h g = (h.0, rising_append (suc n.first_token) mid hi l m h.1 g)
 
-pub rising_at : (lo hi : ℕ) (l : List NameAt) (n : NameAt) (j : ℕ) → Rising lo hi l → At n j l → lo ≤ n.first_token
+pub rising_at : (n : NameAt) (lo hi : ℕ) (l : List NameAt) (j : ℕ) → Rising lo hi l → At n j l → lo ≤ n.first_token
 unfolding Rising
-rising_at lo hi _ n _ h first = h.0
-rising_at lo hi _ n _ h (later {y} {j} {l} g) = let w = rising_at (suc y.first_token) hi l n j h.1 g in omega (arith, h.0, w)
+rising_at n lo hi _ _ h first = h.0
+rising_at n lo hi _ _ h (later {y} {j} {l} g) = let w = rising_at n (suc y.first_token) hi l j h.1 g in omega (arith, h.0, w)
 
-pub rising_two : (lo hi : ℕ) (l : List NameAt) (n m : NameAt) (i j : ℕ) → Rising lo hi l → At n i l → At m j l → i < j → n.first_token < m.first_token
+pub rising_two : (n m : NameAt) (lo hi : ℕ) (l : List NameAt) (i j : ℕ) → Rising lo hi l → At n i l → At m j l → i < j → n.first_token < m.first_token
 unfolding Rising
-rising_two lo hi _ n m _ _ h first first e = absurd (omega arith)
-rising_two lo hi _ n m _ _ h first (later {j} {l} g) e = let w = rising_at (suc n.first_token) hi l m j h.1 g in omega (arith, w)
-rising_two lo hi _ n m _ _ h (later f) first e = absurd (omega arith)
-rising_two lo hi _ n m _ _ h (later {y} {j = i} {l} f) (later {j} g) e = rising_two (suc y.first_token) hi l n m i j h.1 f g (omega arith)
+rising_two n m lo hi _ _ _ h first first e = absurd (omega arith)
+rising_two n m lo hi _ _ _ h first (later {j} {l} g) e = let w = rising_at m (suc n.first_token) hi l j h.1 g in omega (arith, w)
+rising_two n m lo hi _ _ _ h (later f) first e = absurd (omega arith)
+rising_two n m lo hi _ _ _ h (later {y} {j = i} {l} f) (later {j} g) e = rising_two n m (suc y.first_token) hi l i j h.1 f g (omega arith)

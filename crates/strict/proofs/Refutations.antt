@@ -190,7 +190,7 @@ Leaves (node k w n c f) = ⊥
 
 none_in_leaves : {v a y : ℕ} (r : Rows) → Leaves r → Judged v a y r → ⊥
 none_in_leaves end l h = judged_ways h
-none_in_leaves (leaf k w n f) l h = none_in_leaves f l (judged_ways h).4
+none_in_leaves {v = v} {a = a} {y = y} (leaf k w n f) l h = let w = judged_ways h in none_in_leaves {v = v} {a = w.0} {y = w.1} f l w.4
 none_in_leaves (node k w n c f) l h = l
 
 -- entry 2, `{1a}`: the reference is braced

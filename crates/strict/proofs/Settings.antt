@@ -1,5 +1,5 @@
 -- The statements of specs/Settings.antt, by what a call is beside the old setting's (Beside).
-use Prim.Native.Nat.{ℕ, ◌+◌, ◌*◌, ◌/◌}
+use Prim.Native.Nat.{ℕ, ◌*◌, ◌/◌}
 use native.Mathlib.Omega.{arith}
 use mathlib.Core.Path.{◌≡◌, refl, ap, sym, ◌∙◌, subst}
 use mathlib.Core.Bool.{Bool, true, false, cond, ◌&&◌}
@@ -13,7 +13,7 @@ use Rattle.definitions.specs.Layout.{REPORT_ROW, NO_REPORT_ROOM, NO_TREE_ROOM}
 use Rattle.definitions.specs.Token.{Token, tokens_of}
 use Rattle.definitions.specs.Grammar.{Entry, root_kind}
 use Rattle.definitions.specs.Place.{Tree, root}
-use Rattle.definitions.specs.Report.{pushes, scan, reports, pool}
+use Rattle.definitions.specs.Report.{pushes, scan}
 use Rattle.definitions.specs.Refusal.{no_report_room, no_tree_room, number_of, Verdict, accepted, refused}
 use Rattle.definitions.specs.RowCauses.{check_input}
 use Rattle.definitions.specs.Strict.{NameAt, judged, breaking, reported_names}

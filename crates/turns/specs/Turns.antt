@@ -5,7 +5,7 @@ use Rattle.std.specs.Prelude.{ℕ, ◌<◌, ◌≡◌, true, false, List, [], �
 use Rattle.definitions.specs.TokenKind as K
 use Rattle.definitions.specs.NodeKind as N
 use Rattle.definitions.specs.Token.{Token, ended, first_in}
-use Rattle.definitions.specs.Prog.{choose, no, yes, Act, silent_at, at_end, immediate, immediate_next, add_expected, bump, bump_name, bump_argument, emit, emit_unclosed, less, Prog, ret, act, ◌⨟◌, case, in_marker, loop, chain, brace, open_call, propvalues}
+use Rattle.definitions.specs.Prog.{no, yes, Act, silent_at, at_end, immediate, immediate_next, add_expected, bump, bump_name, bump_argument, emit, emit_unclosed, less, Prog, ret, act, ◌⨟◌, case, in_marker, loop, chain, brace, open_call, propvalues}
 use Rattle.definitions.specs.Check.{if◌then◌else◌, of_kind, assert_eat, expect_recoverable}
 use Rattle.definitions.specs.Grammar.{Entry, ITEM_RECOVERY_SET, macro_invocation, dt_expr, dt_cell_list, dt_node_body}
 use Rattle.definitions.specs.Run.{State, peeked, is_again}
