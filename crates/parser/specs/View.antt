@@ -240,6 +240,14 @@ Closes m p s r codes tokens events reports pool =
     ≡ marked (marker_of m) (walk ask (tokens_of tokens.entry.now) b p
     (view s codes.entry.now events.entry.now reports.entry.now pool.entry.now))
 
+-- the same, where the pending codes are lent to be read, and so stay
+abbrev pub ClosesKept : Marker → Prog → State → (List ℕ → List ℕ → List ℕ → List ℕ → Walked) → Shown → Shown → Lent → Lent → Lent → Type 0
+ClosesKept m p s r codes tokens events reports pool =
+    (ask : Rule → Machine → Walked) (b : Span)
+    → r codes.exit.now events.exit.now reports.exit.now pool.exit.now
+    ≡ marked (marker_of m) (walk ask (tokens_of tokens.entry.now) b p
+    (view s codes.entry.now events.entry.now reports.entry.now pool.entry.now))
+
 -- a silent test: it writes nothing
 abbrev pub Sees : Prog → State → (List ℕ → List ℕ → List ℕ → List ℕ → Walked) → Shown → Type 0
 Sees p s r tokens =
