@@ -2,7 +2,7 @@
 ghost use Rattle.std.specs.Prelude.{◌≡◌, true, false, ◌≤◌, ◌<◌};
 ghost use Rattle.definitions.specs.Prog.{yes, also};
 ghost use Rattle.definitions.specs.Grammar.{cells_end, after_propvalue};
-ghost use Rattle.parser.specs.View.{tokens_left, state_tested, ans_of, Looks, Walks, Closes, Sees, says};
+ghost use Rattle.parser.specs.View.{tokens_left, state_tested, ans_of, Looks, Walks, ClosesKept, Sees, says};
 ghost use Rattle.steps.specs.View.{state_answered};
 ghost use Rattle.ends.specs.Subprograms.{at_item, at_cells_recovery, at_values_end, unfinished};
 
@@ -146,7 +146,7 @@ pub fn unfinished(
     pool: &mut [u32],
     m: Marker,
 ) -> State
-    ensures closes { Closes m unfinished s (says yes result) codes tokens events reports pool }
+    ensures closes { ClosesKept m unfinished s (says yes result) codes tokens events reports pool }
     ensures result_bound { tokens_left tokens.now result ≤ tokens_left tokens.now s }
 {
     let reported = s.error(
