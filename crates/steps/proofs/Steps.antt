@@ -5,11 +5,8 @@ use Prim.Native.Nat.{ℕ, ◌≤◌, ◌<◌}
 use mathlib.Core.Path.{◌≡◌, refl, sym, ap, ◌∙◌}
 use mathlib.Core.Bool.{Bool, true, false, true≢false, false≢true}
 use mathlib.Core.List.{List, [], ◌∷◌}
-use mathlib.Core.Logic.{inl, inr}
 use lib.ListN.{length}
 use native.Mathlib.Omega.{arith}
-use denote.Enum.Declared.{tag_of}
-use types.Run.{OneOf}
 use Rattle.definitions.specs.Layout.{PLACEHOLDER, START_NODE}
 use Rattle.definitions.specs.Token.{Token, first_in}
 use Rattle.definitions.specs.Skeleton.{Span}
@@ -27,7 +24,6 @@ use Rattle.parser.specs.declared.ParserTested.{ParserTested}
 use Rattle.parser.specs.declared.ParserAnswered.{ParserAnswered}
 use Rattle.parser.specs.declared.Ans.{Ans as CodeAns}
 use Rattle.parser.specs.declared.Ans.TheVariants as A
-use Rattle.parser.specs.contracts.Ans.{the_type}
 use Rattle.parser.specs.View.{view, parser_view, parser_tested, ans_of, Starting, by_answer, starting}
 use Rattle.steps.specs.View.{state_answered, parser_answered, took_if_again, took_unless_no}
 use Rattle.machine.proofs.Way.{Way, Closes, c_case}
@@ -118,17 +114,12 @@ pub answered_yes : (r : ParserAnswered) (k : ParserTested) (events reports pool 
 answered_yes r k events reports pool e f h = answered_is r k events reports pool e f ∙ ap (λ (t : Bool). said (truth t) (parser_view k.p events reports pool)) h
 
 -- what the last arm of a match is told where the others are for `Again`
-pub other_ends : (a : CodeAns) → OneOf (0 ∷ 1 ∷ 2 ∷ []) (tag_of the_type a) → is_again (ans_of a) ≡ false
+pub other_ends : (a : CodeAns) → (a ≡ A.Again → ⊥) → is_again (ans_of a) ≡ false
 unfolding is_again
 other_ends A.No h = refl
 other_ends A.Yes h = refl
 other_ends A.Also h = refl
-other_ends A.Again h = absurd (none h)
-  where
-    none : OneOf (0 ∷ 1 ∷ 2 ∷ []) (tag_of the_type A.Again) → ⊥
-    none (inl i) = omega (arith, i)
-    none (inr (inl i)) = omega (arith, i)
-    none (inr (inr i)) = omega (arith, i)
+other_ends A.Again h = absurd (h refl)
 
 -- at most one token is sure
 pub again_one : (a : CodeAns) → took_if_again a ≤ 1
