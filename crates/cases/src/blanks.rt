@@ -2,10 +2,12 @@
 // takes.
 use crate::lend::LENT;
 use crate::show;
+use crate::show::Out;
 use layout::limit::MOST_TOKEN_NUMBERS;
 use layout::row;
 use layout::row::{TOKEN_LENGTH, TOKEN_ROW, TREE_ROW};
 use layout::row_kind::WHITESPACE;
+use std::io;
 
 const NUMBERS: usize = MOST_TOKEN_NUMBERS + TOKEN_ROW;
 
@@ -65,8 +67,8 @@ fn leaves(trees: &[u32]) -> usize {
     i / TREE_ROW - 1
 }
 
-pub fn show_leaves(trees: &[u32]) {
-    show::text(b"blanks");
-    show::number(leaves(trees) as u64);
-    show::line_end();
+pub fn show_leaves(out: &mut Out, trees: &[u32]) -> io::Result<()> {
+    show::text(out, b"blanks")?;
+    show::number(out, leaves(trees) as u64)?;
+    show::line_end(out)
 }

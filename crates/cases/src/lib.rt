@@ -5,5 +5,6 @@
 pub mod arrays;
 pub mod blanks;
 pub mod lend;
+pub mod read;
 pub mod scan;
 pub mod show;

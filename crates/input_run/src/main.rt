@@ -5,25 +5,27 @@
 use input::causes;
 use input::causes::Checked;
 use layout::refusal;
+use std::io;
+use std::io::{BufWriter, Stdout, Write};
 
-fn line(number: u64, place: usize) {
-    let _a = io::print_decimal(1, number);
-    let _b = io::write_all(1, b" ");
-    let _c = io::print_decimal(1, place as u64);
-    let _d = io::write_all(1, b"\n");
+// Standard output behind a buffer.
+type Out = BufWriter<Stdout>;
+
+fn line(out: &mut Out, number: u64, place: usize) -> io::Result<()> {
+    writeln!(out, "{number} {place}")
 }
 
-fn show(bytes: &[u8], tokens: &[u32]) {
+fn show(out: &mut Out, bytes: &[u8], tokens: &[u32]) -> io::Result<()> {
     let checked = causes::check(bytes, tokens);
     match checked {
-        Checked::Sound => line(0, 0),
-        Checked::TooLong => line(refusal::TOO_LONG as u64, 0),
-        Checked::OddCount(i) => line(refusal::ODD_COUNT as u64, i.0),
-        Checked::BadKind(i) => line(refusal::BAD_KIND as u64, i.0),
-        Checked::ZeroLength(i) => line(refusal::ZERO_LENGTH as u64, i.0),
-        Checked::PastInput(i) => line(refusal::BAD_END as u64, i.0),
-        Checked::ShortTotal(i) => line(refusal::BAD_END as u64, i.0),
-        Checked::BadText(i) => line(refusal::BAD_TEXT as u64, i.0),
+        Checked::Sound => line(out, 0, 0),
+        Checked::TooLong => line(out, refusal::TOO_LONG as u64, 0),
+        Checked::OddCount(i) => line(out, refusal::ODD_COUNT as u64, i.0),
+        Checked::BadKind(i) => line(out, refusal::BAD_KIND as u64, i.0),
+        Checked::ZeroLength(i) => line(out, refusal::ZERO_LENGTH as u64, i.0),
+        Checked::PastInput(i) => line(out, refusal::BAD_END as u64, i.0),
+        Checked::ShortTotal(i) => line(out, refusal::BAD_END as u64, i.0),
+        Checked::BadText(i) => line(out, refusal::BAD_TEXT as u64, i.0),
     }
 }
 
@@ -42,76 +44,78 @@ fn rows_over_the_limit() -> [u32; 131073] {
     [1u32; 131073]
 }
 
-fn limits() {
+fn limits(out: &mut Out) -> io::Result<()> {
     let bytes = bytes_at_the_limit();
     let at = rows_at_the_limit();
-    show(&bytes, &at);
+    show(out, &bytes, &at)?;
     let over = rows_over_the_limit();
-    show(&bytes, &over);
+    show(out, &bytes, &over)
 }
 
 // One row of one byte.
-fn byte_of_kind(kind: u32) {
-    show(b"a", &[kind, 1]);
+fn byte_of_kind(out: &mut Out, kind: u32) -> io::Result<()> {
+    show(out, b"a", &[kind, 1])
 }
 
-fn kinds() {
-    show(b"?", &[60, 1]);
-    byte_of_kind(61);
-    byte_of_kind(63);
-    byte_of_kind(64);
-    byte_of_kind(74);
-    byte_of_kind(75);
-    byte_of_kind(25);
-    byte_of_kind(26);
-    byte_of_kind(27);
+fn kinds(out: &mut Out) -> io::Result<()> {
+    show(out, b"?", &[60, 1])?;
+    byte_of_kind(out, 61)?;
+    byte_of_kind(out, 63)?;
+    byte_of_kind(out, 64)?;
+    byte_of_kind(out, 74)?;
+    byte_of_kind(out, 75)?;
+    byte_of_kind(out, 25)?;
+    byte_of_kind(out, 26)?;
+    byte_of_kind(out, 27)
 }
 
 // Rows over the two bytes `ab`. Kind 27 is Ident, 26 Name, 29 Semicolon.
-fn one(kind: u32, n: u32) {
-    show(b"ab", &[kind, n]);
+fn one(out: &mut Out, kind: u32, n: u32) -> io::Result<()> {
+    show(out, b"ab", &[kind, n])
 }
 
-fn two(kind: u32, n: u32, next: u32, m: u32) {
-    show(b"ab", &[kind, n, next, m]);
+fn two(out: &mut Out, kind: u32, n: u32, next: u32, m: u32) -> io::Result<()> {
+    show(out, b"ab", &[kind, n, next, m])
 }
 
-fn rows() {
+fn rows(out: &mut Out) -> io::Result<()> {
     // Two rows that end with the input; a length of 0, first and last; an end one byte past the input, likewise.
-    two(27, 1, 27, 1);
-    two(27, 0, 27, 2);
-    two(27, 2, 27, 0);
-    one(27, 3);
-    two(27, 1, 27, 2);
+    two(out, 27, 1, 27, 1)?;
+    two(out, 27, 0, 27, 2)?;
+    two(out, 27, 2, 27, 0)?;
+    one(out, 27, 3)?;
+    two(out, 27, 1, 27, 2)?;
     // A total that is one byte short; a bad kind with a length of 0, and with an end past the input.
-    one(27, 1);
-    two(26, 0, 27, 2);
-    one(26, 3);
+    one(out, 27, 1)?;
+    two(out, 26, 0, 27, 2)?;
+    one(out, 26, 3)?;
     // Sums past 32 bits, in which they are what the input is long.
-    two(27, 4294967295, 27, 3);
-    two(27, 1, 27, 4294967295);
+    two(out, 27, 4294967295, 27, 3)?;
+    two(out, 27, 1, 27, 4294967295)?;
     // Cause 4 comes after a later bad row, and after a short total.
-    two(29, 1, 26, 1);
-    one(29, 1);
+    two(out, 29, 1, 26, 1)?;
+    one(out, 29, 1)?;
     // A number without a partner, after a bad row; nothing at all.
-    show(b"ab", &[26, 2, 27]);
-    show(b"", &[]);
+    show(out, b"ab", &[26, 2, 27])?;
+    show(out, b"", &[])
 }
 
 // A directive of this length and a Semicolon.
-fn directive(bytes: &[u8], length: u32) {
-    show(bytes, &[24, length, 29, 1]);
+fn directive(out: &mut Out, bytes: &[u8], length: u32) -> io::Result<()> {
+    show(out, bytes, &[24, length, 29, 1])
 }
 
-fn texts() {
-    directive(b"/plugin/;", 8);
-    directive(b"/plugin;", 7);
-    directive(b"/plugin/:", 8);
+fn texts(out: &mut Out) -> io::Result<()> {
+    directive(out, b"/plugin/;", 8)?;
+    directive(out, b"/plugin;", 7)?;
+    directive(out, b"/plugin/:", 8)
 }
 
-fn main() {
-    limits();
-    kinds();
-    rows();
-    texts();
+fn main(rt: HostRuntime) -> io::Result<()> {
+    let mut out = BufWriter::new(rt.alloc(), rt.stdout())?;
+    limits(&mut out)?;
+    kinds(&mut out)?;
+    rows(&mut out)?;
+    texts(&mut out)?;
+    out.flush()
 }

@@ -9,14 +9,16 @@
 // than a call takes, and every buffer is left as it was, the list too.
 #![tactic(auto)]
 
-ghost use Rattle.std.specs.Prelude.{◌≤◌, length};
+ghost use Rattle.std.specs.Prelude.{◌≤◌, length, IfOk};
 
 use call::list::ListAnswer;
 use cases::lend::{LENT, tail};
 use cases::scan::at_most;
-use cases::{arrays, blanks, scan, show};
+use cases::show::Out;
+use cases::{arrays, blanks, read, scan, show};
 use dt_parser::query::{dt_caret, dt_parts_in_range};
-use libc::STDIN_FILENO;
+use std::io;
+use std::io::{BufWriter, Write};
 
 // The numbers of a case before those of its tokens.
 const HEAD: usize = 14;
@@ -35,11 +37,11 @@ fn wide(high: u32, low: u32) -> u64 {
     high as u64 * 4294967296 + low as u64
 }
 
-fn show_list(list: &[u32], count: usize) {
-    show::text(b"q");
-    show::number(count as u64);
-    show::number(tail(list, count));
-    show::numbers(b"", list, 0, count);
+fn show_list(out: &mut Out, list: &[u32], count: usize) -> io::Result<()> {
+    show::text(out, b"q")?;
+    show::number(out, count as u64)?;
+    show::number(out, tail(list, count))?;
+    show::numbers(out, b"", list, 0, count)
 }
 
 fn parts(
@@ -84,6 +86,7 @@ fn asked(
 }
 
 fn called(
+    out: &mut Out,
     name: &[u8],
     head: [u32; HEAD],
     bytes: &[u8],
@@ -94,12 +97,13 @@ fn called(
     reports: &mut [u32],
     pool: &mut [u32],
     list: &mut [u32],
-) {
+) -> io::Result<()> {
     let a = asked(
         head, bytes, tokens, events, trees, errors, reports, pool, list,
     );
     let count = a.list_count;
     replay::left::show(
+        out,
         name,
         a.answer,
         arrays::TREES,
@@ -108,12 +112,18 @@ fn called(
         errors,
         reports,
         pool,
-    );
-    show_list(list, count);
+    )?;
+    show_list(out, list, count)
 }
 
 // A query on as much of the input and of each buffer as a case's numbers say.
-fn lent(name: &[u8], head: [u32; HEAD], bytes: &[u8], tokens: &[u32]) {
+fn lent(
+    out: &mut Out,
+    name: &[u8],
+    head: [u32; HEAD],
+    bytes: &[u8],
+    tokens: &[u32],
+) -> io::Result<()> {
     let mut events = arrays::events();
     let mut trees = arrays::trees();
     let mut errors = arrays::errors();
@@ -129,6 +139,7 @@ fn lent(name: &[u8], head: [u32; HEAD], bytes: &[u8], tokens: &[u32]) {
     let p = at_most(head[8], arrays::POOL);
     let l = at_most(head[9], LIST);
     called(
+        out,
         name,
         head,
         &bytes[..b],
@@ -143,10 +154,10 @@ fn lent(name: &[u8], head: [u32; HEAD], bytes: &[u8], tokens: &[u32]) {
 }
 
 // One case. Answers where its bytes end.
-fn case(text: &[u8], from: usize) -> usize
+fn case(out: &mut Out, text: &[u8], from: usize) -> io::Result<usize>
     requires { from ≤ length text.now }
-    ensures lower_bound { from ≤ result }
-    ensures upper_bound { result ≤ length text.now }
+    ensures lower_bound { IfOk result (λ end. from ≤ end) }
+    ensures upper_bound { IfOk result (λ end. end ≤ length text.now) }
 {
     let mut head = [0u32; HEAD];
     let mut tokens = arrays::tokens();
@@ -154,35 +165,40 @@ fn case(text: &[u8], from: usize) -> usize
     let head_end = scan::numbers(text, name_end, HEAD as u32, &mut head);
     let line_end = scan::numbers(text, head_end, head[0], &mut tokens);
     let start = scan::further(text, line_end, 1);
-    lent(&text[from..name_end], head, &text[start..], &tokens);
-    scan::further(text, start, head[1])
+    lent(out, &text[from..name_end], head, &text[start..], &tokens)?;
+    Ok(scan::further(text, start, head[1]))
 }
 
-fn cases(text: &[u8]) {
+fn cases(out: &mut Out, text: &[u8]) -> io::Result<()> {
     let mut byte: usize = 0;
     while byte < text.len() {
-        let end = case(text, byte);
+        let end = case(out, text, byte)?;
         byte = end + 1;
     }
+    Ok(())
 }
 
 // A query of blanks alone.
-fn blank_file(name: &[u8], head: [u32; HEAD]) {
+fn blank_file(out: &mut Out, name: &[u8], head: [u32; HEAD]) -> io::Result<()> {
     let bytes = blanks::bytes();
     let tokens = blanks::tokens();
-    lent(name, head, &bytes, &tokens);
+    lent(out, name, head, &bytes, &tokens)
 }
 
-fn main() {
+fn main(rt: HostRuntime) -> io::Result<()> {
+    let mut out = BufWriter::new(rt.alloc(), rt.stdout())?;
     let mut text = arrays::text();
-    let n = io::read_full(STDIN_FILENO, &mut text);
-    cases(&text[..n]);
+    let n = read::full(&mut rt.stdin(), &mut text)?;
+    cases(&mut out, &text[..n])?;
     blank_file(
+        &mut out,
         b"65537-blanks-caret",
         [131074, 65537, 1, 0, 9, 9, 9, 9, 9, 5, 0, 0, 0, 0],
-    );
+    )?;
     blank_file(
+        &mut out,
         b"65537-blanks-range",
         [131074, 65537, 2, 0, 9, 9, 9, 9, 9, 5, 0, 0, 0, 1],
-    );
+    )?;
+    out.flush()
 }

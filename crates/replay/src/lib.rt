@@ -6,14 +6,17 @@
 
 pub mod left;
 
-ghost use Rattle.std.specs.Prelude.{◌≤◌, length};
+ghost use Rattle.std.specs.Prelude.{◌≤◌, length, IfOk};
 
 use cases::scan::at_most;
-use cases::{arrays, scan};
-use libc::STDIN_FILENO;
+use cases::show::Out;
+use cases::{arrays, read, scan};
+use std::io;
+use std::io::Stdin;
 
 // One call, of which at most so many numbers of the tree are printed. Answers the call's number.
 fn called(
+    out: &mut Out,
     name: &[u8],
     entry: u32,
     setting: u32,
@@ -25,23 +28,24 @@ fn called(
     reports: &mut [u32],
     pool: &mut [u32],
     most: usize,
-) -> u32 {
+) -> io::Result<u32> {
     let a = dt_parser::dt_parse(
         entry, setting, bytes, tokens, events, trees, errors, reports, pool,
     );
-    left::show(name, a, most, events, trees, errors, reports, pool);
-    a.number
+    left::show(out, name, a, most, events, trees, errors, reports, pool)?;
+    Ok(a.number)
 }
 
 // A call on as much of the input and of each buffer as a case's numbers say.
 pub fn lent(
+    out: &mut Out,
     name: &[u8],
     head: [u32; 9],
     bytes: &[u8],
     tokens: &[u32],
     trees: &mut [u32],
     most: usize,
-) -> u32 {
+) -> io::Result<u32> {
     let mut events = arrays::events();
     let mut errors = arrays::errors();
     let mut reports = arrays::reports();
@@ -54,6 +58,7 @@ pub fn lent(
     let r = at_most(head[7], arrays::REPORTS);
     let p = at_most(head[8], arrays::POOL);
     called(
+        out,
         name,
         head[2],
         head[3],
@@ -69,10 +74,10 @@ pub fn lent(
 }
 
 // One case. Answers where its bytes end.
-fn case(text: &[u8], from: usize) -> usize
+fn case(out: &mut Out, text: &[u8], from: usize) -> io::Result<usize>
     requires { from ≤ length text.now }
-    ensures lower_bound { from ≤ result }
-    ensures upper_bound { result ≤ length text.now }
+    ensures lower_bound { IfOk result (λ end. from ≤ end) }
+    ensures upper_bound { IfOk result (λ end. end ≤ length text.now) }
 {
     let mut head = [0u32; 9];
     let mut tokens = arrays::tokens();
@@ -82,27 +87,29 @@ fn case(text: &[u8], from: usize) -> usize
     let line_end = scan::numbers(text, head_end, head[0], &mut tokens);
     let start = scan::further(text, line_end, 1);
     lent(
+        out,
         &text[from..name_end],
         head,
         &text[start..],
         &tokens,
         &mut trees,
         arrays::TREES,
-    );
-    scan::further(text, start, head[1])
+    )?;
+    Ok(scan::further(text, start, head[1]))
 }
 
-fn cases(text: &[u8]) {
+fn cases(out: &mut Out, text: &[u8]) -> io::Result<()> {
     let mut byte: usize = 0;
     while byte < text.len() {
-        let end = case(text, byte);
+        let end = case(out, text, byte)?;
         byte = end + 1;
     }
+    Ok(())
 }
 
 // All cases of standard input.
-pub fn run() {
+pub fn run(input: &mut Stdin, out: &mut Out) -> io::Result<()> {
     let mut text = arrays::text();
-    let n = io::read_full(STDIN_FILENO, &mut text);
-    cases(&text[..n]);
+    let n = read::full(input, &mut text)?;
+    cases(out, &text[..n])
 }

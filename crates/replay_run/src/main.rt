@@ -3,6 +3,11 @@
 // tests/replay/make makes the cases, and what must be printed, from the oracle's answers.
 #![tactic(auto)]
 
-fn main() {
-    replay::run();
+use std::io;
+use std::io::{BufWriter, Write};
+
+fn main(rt: HostRuntime) -> io::Result<()> {
+    let mut out = BufWriter::new(rt.alloc(), rt.stdout())?;
+    replay::run(&mut rt.stdin(), &mut out)?;
+    out.flush()
 }

@@ -1,6 +1,8 @@
 // `1+1+1+..` with 16,000 operators: one forward chain of as many nodes. Each large array is made by a function of its
 // own.
 use crate::print;
+use cases::show::Out;
+use std::io;
 
 // Number, Plus, each of one byte.
 const OPERATION: [u32; 4] = [35, 1, 43, 1];
@@ -70,21 +72,21 @@ fn no_trees() -> [u32; 320016] {
 }
 
 // What the sink answers, the outermost rows, those around the innermost node, and the last.
-fn sunk(tokens: &[u32], events: &[u32]) {
+fn sunk(out: &mut Out, tokens: &[u32], events: &[u32]) -> io::Result<()> {
     let mut trees = no_trees();
     let mut errors = [7u32; 1];
     let a = sink::finish(3, tokens, events, &mut trees, &mut errors);
-    print::answer(b"16,000 operators", a);
-    print::tree(&trees, 0, 25);
-    print::tree(&trees, 79995, 80040);
-    print::tree(&trees, 319995, 320016);
-    print::errors(&errors);
+    print::answer(out, b"16,000 operators", a)?;
+    print::tree(out, &trees, 0, 25)?;
+    print::tree(out, &trees, 79995, 80040)?;
+    print::tree(out, &trees, 319995, 320016)?;
+    print::errors(out, &errors)
 }
 
-pub fn run() {
+pub fn run(out: &mut Out) -> io::Result<()> {
     let mut tokens = no_tokens();
     let mut events = no_events();
     fill_tokens(&mut tokens);
     fill_events(&mut events);
-    sunk(&tokens, &events);
+    sunk(out, &tokens, &events)
 }

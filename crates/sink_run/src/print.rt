@@ -1,27 +1,29 @@
 // What a call of the sink answered and left, as text.
 use cases::show;
+use cases::show::Out;
 use sink::Sunk;
+use std::io;
 
-fn counts(trees: u32, errors: u32) {
-    show::text(b": rows");
-    show::number(trees as u64);
-    show::text(b", errors");
-    show::number(errors as u64);
+fn counts(out: &mut Out, trees: u32, errors: u32) -> io::Result<()> {
+    show::text(out, b": rows")?;
+    show::number(out, trees as u64)?;
+    show::text(out, b", errors")?;
+    show::number(out, errors as u64)
 }
 
-pub fn answer(name: &[u8], a: Sunk) {
-    show::text(name);
+pub fn answer(out: &mut Out, name: &[u8], a: Sunk) -> io::Result<()> {
+    show::text(out, name)?;
     match a {
-        Sunk::Written(trees, errors) => counts(trees, errors),
-        Sunk::NoRoom => show::text(b": no room"),
+        Sunk::Written(trees, errors) => counts(out, trees, errors)?,
+        Sunk::NoRoom => show::text(out, b": no room")?,
     }
-    show::line_end();
+    show::line_end(out)
 }
 
-pub fn tree(trees: &[u32], from: usize, to: usize) {
-    show::numbers(b"  tree", trees, from, to);
+pub fn tree(out: &mut Out, trees: &[u32], from: usize, to: usize) -> io::Result<()> {
+    show::numbers(out, b"  tree", trees, from, to)
 }
 
-pub fn errors(errors: &[u32]) {
-    show::numbers(b"  errors", errors, 0, errors.len());
+pub fn errors(out: &mut Out, errors: &[u32]) -> io::Result<()> {
+    show::numbers(out, b"  errors", errors, 0, errors.len())
 }

@@ -6,28 +6,31 @@
 // tests/replay/raw_texts makes the cases and what must be printed.
 #![tactic(auto)]
 
-ghost use Rattle.std.specs.Prelude.{◌≤◌, length};
+ghost use Rattle.std.specs.Prelude.{◌≤◌, length, IfOk};
 
 use cases::lend::{LENT, tail};
 use cases::scan::at_most;
-use cases::{arrays, scan, show};
+use cases::show::Out;
+use cases::{arrays, read, scan, show};
 use dt_parser::text::dt_parse_text;
 use layout::row::TOKEN_ROW;
-use libc::STDIN_FILENO;
+use std::io;
+use std::io::{BufWriter, Write};
 
 fn lent_rows() -> [u32; arrays::TOKENS] {
     [LENT; arrays::TOKENS]
 }
 
-fn show_rows(tokens: &[u32], count: usize) {
+fn show_rows(out: &mut Out, tokens: &[u32], count: usize) -> io::Result<()> {
     let n = count % arrays::TOKENS * TOKEN_ROW;
-    show::text(b"k");
-    show::number(count as u64);
-    show::number(tail(tokens, n));
-    show::numbers(b"", tokens, 0, n);
+    show::text(out, b"k")?;
+    show::number(out, count as u64)?;
+    show::number(out, tail(tokens, n))?;
+    show::numbers(out, b"", tokens, 0, n)
 }
 
 fn called(
+    out: &mut Out,
     name: &[u8],
     entry: u32,
     setting: u32,
@@ -38,12 +41,13 @@ fn called(
     errors: &mut [u32],
     reports: &mut [u32],
     pool: &mut [u32],
-) {
+) -> io::Result<()> {
     let a = dt_parse_text(
         entry, setting, bytes, tokens, events, trees, errors, reports, pool,
     );
     let count = a.token_count;
     replay::left::show(
+        out,
         name,
         a.answer,
         arrays::TREES,
@@ -52,12 +56,12 @@ fn called(
         errors,
         reports,
         pool,
-    );
-    show_rows(tokens, count);
+    )?;
+    show_rows(out, tokens, count)
 }
 
 // A call on as much of the text and of each buffer as a case's numbers say.
-fn lent(name: &[u8], head: [u32; 9], bytes: &[u8]) {
+fn lent(out: &mut Out, name: &[u8], head: [u32; 9], bytes: &[u8]) -> io::Result<()> {
     let mut tokens = lent_rows();
     let mut events = arrays::events();
     let mut trees = arrays::trees();
@@ -72,6 +76,7 @@ fn lent(name: &[u8], head: [u32; 9], bytes: &[u8]) {
     let r = at_most(head[7], arrays::REPORTS);
     let p = at_most(head[8], arrays::POOL);
     called(
+        out,
         name,
         head[2],
         head[3],
@@ -86,29 +91,32 @@ fn lent(name: &[u8], head: [u32; 9], bytes: &[u8]) {
 }
 
 // One case. Answers where its bytes end.
-fn case(text: &[u8], from: usize) -> usize
+fn case(out: &mut Out, text: &[u8], from: usize) -> io::Result<usize>
     requires { from ≤ length text.now }
-    ensures lower_bound { from ≤ result }
-    ensures upper_bound { result ≤ length text.now }
+    ensures lower_bound { IfOk result (λ end. from ≤ end) }
+    ensures upper_bound { IfOk result (λ end. end ≤ length text.now) }
 {
     let mut head = [0u32; 9];
     let name_end = scan::find(text, from, b' ');
     let head_end = scan::numbers(text, name_end, 9, &mut head);
     let start = scan::further(text, head_end, 1);
-    lent(&text[from..name_end], head, &text[start..]);
-    scan::further(text, start, head[1])
+    lent(out, &text[from..name_end], head, &text[start..])?;
+    Ok(scan::further(text, start, head[1]))
 }
 
-fn cases(text: &[u8]) {
+fn cases(out: &mut Out, text: &[u8]) -> io::Result<()> {
     let mut byte: usize = 0;
     while byte < text.len() {
-        let end = case(text, byte);
+        let end = case(out, text, byte)?;
         byte = end + 1;
     }
+    Ok(())
 }
 
-fn main() {
+fn main(rt: HostRuntime) -> io::Result<()> {
+    let mut out = BufWriter::new(rt.alloc(), rt.stdout())?;
     let mut text = arrays::text();
-    let n = io::read_full(STDIN_FILENO, &mut text);
-    cases(&text[..n]);
+    let n = read::full(&mut rt.stdin(), &mut text)?;
+    cases(&mut out, &text[..n])?;
+    out.flush()
 }
