@@ -14,25 +14,25 @@ tell a = ret N.NO_NODE a
 -- `else` and `⨟` bind alike and to the right: what follows `else`, sequences and further branches included, belongs to
 -- it up to the bracket that closes around the whole. A branch inside `then`, and one that something follows, stands in
 -- brackets.
-infixr 20 if◌then◌else◌
-abbrev pub if◌then◌else◌ : Prog → Prog → Prog → Prog
-if c then p else q = case c q p p
+infixr 20 when◌then◌else◌
+abbrev pub when◌then◌else◌ : Prog → Prog → Prog → Prog
+when c then p else q = case c q p p
 
 infixr 25 ◌and◌
 abbrev pub ◌and◌ : Prog → Prog → Prog
-p and q = if p then q else tell no
+p and q = when p then q else tell no
 
 infixr 24 ◌or◌
 abbrev pub ◌or◌ : Prog → Prog → Prog
-p or q = if p then tell yes else q
+p or q = when p then tell yes else q
 
 abbrev pub not! : Prog → Prog
-not! p = if p then tell no else tell yes
+not! p = when p then tell no else tell yes
 
 -- one turn of `while c { p }`
 infixr 20 while◌run◌
 abbrev pub while◌run◌ : Prog → Prog → Prog
-while c run p = if c then p ⨟ tell again else tell yes
+while c run p = when c then p ⨟ tell again else tell yes
 
 -- `let m = p.start(); p; m.complete(k)`
 abbrev pub in_node : ℕ → Prog → Prog
@@ -55,11 +55,11 @@ error m h = act (emit m h)
 
 -- `Bump::Yes`: a token is taken if not at the end
 abbrev pub error_bump : ℕ → ℕ → Prog
-error_bump m h = error m h ⨟ if end? then tell yes else bump!
+error_bump m h = error m h ⨟ when end? then tell yes else bump!
 
 -- `Bump::YesWrapErr`: the token taken lies in a ParseError
 abbrev pub error_wrap : ℕ → ℕ → Prog
-error_wrap m h = error m h ⨟ if end? then tell yes else in_node N.ParseError bump!
+error_wrap m h = error m h ⨟ when end? then tell yes else in_node N.ParseError bump!
 
 -- `p.error().msg_expected()` without a hint, in the three ways
 abbrev pub error! : Prog
@@ -116,10 +116,10 @@ at m = m.push_expected ⨟ m.matches
 
 -- `.silent().eat()`
 unfoldable pub silent_eat : Matcher → Prog
-silent_eat m = if m.matches then m.consume ⨟ tell yes else tell no
+silent_eat m = when m.matches then m.consume ⨟ tell yes else tell no
 
 unfoldable pub eat : Matcher → Prog
-eat m = if m.matches then m.consume ⨟ tell yes else m.push_expected ⨟ tell no
+eat m = when m.matches then m.consume ⨟ tell yes else m.push_expected ⨟ tell no
 
 -- `assert!(p.eat(k))`: the caller has seen the token, so the Rust's assertion holds and this is a plain take
 abbrev pub assert_eat : ℕ → Prog
@@ -127,15 +127,15 @@ assert_eat k = bump!
 
 unfoldable pub expect : Matcher → Prog
 unfolding eat
-expect m = if eat m then tell yes else error! ⨟ tell no
+expect m = when eat m then tell yes else error! ⨟ tell no
 
 unfoldable pub expect_recoverable : Matcher → List ℕ → Prog
 unfolding eat
-expect_recoverable m recovery = if eat m then tell yes else (if act (silent_at recovery) then error! else error_wrap!) ⨟ tell no
+expect_recoverable m recovery = when eat m then tell yes else (when act (silent_at recovery) then error! else error_wrap!) ⨟ tell no
 
 -- `if let Some(m) = p.eat_starting(M) { inside } else { rest }`: the marker is made only on a match, and `inside` says
 -- what it becomes
 infixr 20 eat_starting◌inside◌else◌
 unfoldable pub eat_starting◌inside◌else◌ : Matcher → Prog → Prog → Prog
 unfolding at
-eat_starting m inside p else q = if at m then in_marker (m.consume ⨟ p) else q
+eat_starting m inside p else q = when at m then in_marker (m.consume ⨟ p) else q

@@ -5,7 +5,7 @@
 -- caller's marker is a program whose ret says what the marker becomes.
 use Rattle.std.specs.Prelude.{ℕ, Bool, true, false, List, [], ◌∷◌, ◌++◌}
 use Rattle.definitions.specs.Prog.{Ans, no, yes, also, again, Rule, item, propvalues, eat_cell, expr_binding_power, silent_at, immediate, immediate_next, bump_argument, emit_unclosed, less, Prog, ret, act, ◌⨟◌, case, in_marker, loop, chain, brace, open_call}
-use Rattle.definitions.specs.Check.{tell, if◌then◌else◌, ◌and◌, ◌or◌, not!, while◌run◌, in_node, end?, bump!, expected, error, error_bump, error_wrap, error!, error_bump!, error_wrap!, Matcher, set, of_kind, NAME_SET, Name, LabelName, silent, at, silent_eat, eat, assert_eat, expect, expect_recoverable, eat_starting◌inside◌else◌}
+use Rattle.definitions.specs.Check.{tell, when◌then◌else◌, ◌and◌, ◌or◌, not!, while◌run◌, in_node, end?, bump!, expected, error, error_bump, error_wrap, error!, error_bump!, error_wrap!, Matcher, set, of_kind, NAME_SET, Name, LabelName, silent, at, silent_eat, eat, assert_eat, expect, expect_recoverable, eat_starting◌inside◌else◌}
 use Rattle.definitions.specs.BindingPower.{Level, binary_levels, left_power, right_power, ternary_left, ternary_right, prefix_power}
 use Rattle.definitions.specs.TokenKind as K
 use Rattle.definitions.specs.NodeKind as N
@@ -41,19 +41,19 @@ eat_inside (Cell until_end) = open_call (eat_cell until_end)
 unfoldable pub branch_turn : Inside → Prog
 unfolding at silent eat_inside
 branch_turn inner =
-    if at (of_kind K.EndifDirective) or end? then tell no
-    else if silent (set CONTINUE_COND_SET) then tell yes
-    else if eat_inside inner then tell again
+    when at (of_kind K.EndifDirective) or end? then tell no
+    else when silent (set CONTINUE_COND_SET) then tell yes
+    else when eat_inside inner then tell again
     else tell no
 
 -- one branch of `cond_branches_and_end`, up to a continuation (yes) or up to its end (no)
 unfoldable pub branch : Inside → Prog
 unfolding branch_turn
-branch inner = in_marker (if loop (branch_turn inner) then ret N.PreprocessorBranch yes else ret N.PreprocessorBranch no)
+branch inner = in_marker (when loop (branch_turn inner) then ret N.PreprocessorBranch yes else ret N.PreprocessorBranch no)
 
 unfoldable pub cond_branches_turn : Inside → Prog
 unfolding branch
-cond_branches_turn inner = if branch inner then bump! ⨟ tell again else tell yes
+cond_branches_turn inner = when branch inner then bump! ⨟ tell again else tell yes
 
 unfoldable pub cond_branches_and_end : Inside → Prog
 unfolding cond_branches_turn expect
@@ -63,15 +63,15 @@ unfoldable pub eat_preprocessor_directive : Inside → Prog
 unfolding silent cond_branches_and_end
 eat_preprocessor_directive inner =
     expected E.PreprocessorDirective
-    ⨟ if not! (silent (set PREPROCESSOR_DIRECTIVES)) then tell no
-    else if silent (set BEGIN_COND_SET) then in_node N.PreprocessorConditional (bump! ⨟ cond_branches_and_end inner) ⨟ tell yes
+    ⨟ when not! (silent (set PREPROCESSOR_DIRECTIVES)) then tell no
+    else when silent (set BEGIN_COND_SET) then in_node N.PreprocessorConditional (bump! ⨟ cond_branches_and_end inner) ⨟ tell yes
     else bump! ⨟ tell yes
 
 unfoldable pub catch_unmatched_pp_directive : Inside → Prog
 unfolding silent cond_branches_and_end
 catch_unmatched_pp_directive inner =
-    if silent (of_kind K.EndifDirective) then error_wrap E.unmatched_endif E.no_hint ⨟ tell yes
-    else if silent (set CONTINUE_COND_SET) then
+    when silent (of_kind K.EndifDirective) then error_wrap E.unmatched_endif E.no_hint ⨟ tell yes
+    else when silent (set CONTINUE_COND_SET) then
     (error E.stray_continuation E.no_hint ⨟ in_node N.ParseError (bump! ⨟ cond_branches_and_end inner) ⨟ tell yes)
     else tell no
 
@@ -80,7 +80,7 @@ catch_unmatched_pp_directive inner =
 -- an argument, and the comma after it
 unfoldable pub macro_argument_turn : Prog
 macro_argument_turn =
-    if in_marker (if act bump_argument then ret N.MacroArgument yes else ret N.MacroArgument no) then bump! ⨟ tell again
+    when in_marker (when act bump_argument then ret N.MacroArgument yes else ret N.MacroArgument no) then bump! ⨟ tell again
     else tell yes
 
 unfoldable pub macro_invocation : Prog
@@ -88,8 +88,8 @@ unfolding at expect macro_argument_turn
 macro_invocation =
     in_node N.MacroInvocation
     (assert_eat K.Ident
-    ⨟ if expected K.LParen ⨟ act (immediate K.LParen) then
-    (bump! ⨟ (if not! (at (of_kind K.RParen)) then loop macro_argument_turn else tell yes) ⨟ expect (of_kind K.RParen))
+    ⨟ when expected K.LParen ⨟ act (immediate K.LParen) then
+    (bump! ⨟ (when not! (at (of_kind K.RParen)) then loop macro_argument_turn else tell yes) ⨟ expect (of_kind K.RParen))
     else tell yes)
 
 -- parser/mod.rs
@@ -102,7 +102,7 @@ MacroSubstitutableName =
     record {
       matches = Name.matches;
       push_expected = Name.push_expected;
-      consume = if silent_at_macro_invocation_with_args then macro_invocation else Name.consume;
+      consume = when silent_at_macro_invocation_with_args then macro_invocation else Name.consume;
     }
 
 unfoldable pub UnitAddress : Matcher
@@ -116,7 +116,7 @@ UnitAddress =
 
 unfoldable pub path_segment : Prog
 unfolding eat UnitAddress
-path_segment = if eat Name then eat UnitAddress else error_wrap!
+path_segment = when eat Name then eat UnitAddress else error_wrap!
 
 unfoldable pub path_turn : Prog
 unfolding at silent expect path_segment
@@ -132,11 +132,11 @@ path_rest = loop path_turn ⨟ expect (of_kind K.RCurly)
 unfoldable pub reference_noamp : Prog
 unfolding eat path_segment path_rest silent_at_macro_invocation_with_args macro_invocation
 reference_noamp =
-    if eat (of_kind K.LCurly) then
-    (if eat (of_kind K.Slash) then (if eat (of_kind K.RCurly) then tell yes else path_segment ⨟ path_rest)
-    else ((if eat Name then tell yes else error_wrap!) ⨟ path_rest))
-    else if silent_at_macro_invocation_with_args then macro_invocation
-    else if eat LabelName then tell yes
+    when eat (of_kind K.LCurly) then
+    (when eat (of_kind K.Slash) then (when eat (of_kind K.RCurly) then tell yes else path_segment ⨟ path_rest)
+    else ((when eat Name then tell yes else error_wrap!) ⨟ path_rest))
+    else when silent_at_macro_invocation_with_args then macro_invocation
+    else when eat LabelName then tell yes
     else error_wrap!
 
 unfoldable pub Reference : Matcher
@@ -167,15 +167,15 @@ OPERATORS_SET = INFIX_OPERATORS_SET ++ (PREFIX_OPERATORS_SET ++ (K.Colon ∷ [])
 
 -- the right side, and the InfixExpr that it completes
 unfoldable pub rhs : ℕ → Prog
-rhs right = if open_call (expr_binding_power right) then ret N.InfixExpr again else ret N.InfixExpr yes
+rhs right = when open_call (expr_binding_power right) then ret N.InfixExpr again else ret N.InfixExpr yes
 
 -- an operator of a level, if its left power is at least the minimum
 unfoldable pub infix_levels : ℕ → List Level → Prog
 unfolding silent rhs
 infix_levels min-bp [] = tell yes
 infix_levels min-bp (l ∷ ls) =
-    if silent (set l.kinds) then
-    (if act (less (left_power l.number) min-bp) then tell yes else bump! ⨟ rhs (right_power l.number))
+    when silent (set l.kinds) then
+    (when act (less (left_power l.number) min-bp) then tell yes else bump! ⨟ rhs (right_power l.number))
     else infix_levels min-bp ls
 
 -- one turn of the loop over infix operators
@@ -183,31 +183,31 @@ unfoldable pub infix_turn : ℕ → Prog
 unfolding silent expect rhs infix_levels
 infix_turn min-bp =
     expected E.InfixOperator
-    ⨟ if silent (of_kind K.QuestionMark) then
-    (if act (less ternary_left min-bp) then tell yes
-    else (bump! ⨟ if open_call (expr_binding_power 0) and expect (of_kind K.Colon) then
+    ⨟ when silent (of_kind K.QuestionMark) then
+    (when act (less ternary_left min-bp) then tell yes
+    else (bump! ⨟ when open_call (expr_binding_power 0) and expect (of_kind K.Colon) then
     rhs ternary_right else ret N.InfixExpr yes))
     else infix_levels min-bp binary_levels
 
 unfoldable pub lhs : Prog
 unfolding silent at expect macro_invocation
 lhs =
-    if expected E.PrefixOperator ⨟ silent (set PREFIX_OPERATORS_SET) then
-    in_marker (bump! ⨟ if open_call (expr_binding_power prefix_power) then ret N.PrefixExpr yes else ret N.PrefixExpr no)
-    else if at (of_kind K.LParen) then
+    when expected E.PrefixOperator ⨟ silent (set PREFIX_OPERATORS_SET) then
+    in_marker (bump! ⨟ when open_call (expr_binding_power prefix_power) then ret N.PrefixExpr yes else ret N.PrefixExpr no)
+    else when at (of_kind K.LParen) then
     in_marker (bump!
-    ⨟ if open_call (expr_binding_power 0) then expect (of_kind K.RParen) ⨟ ret N.ParenExpr yes
+    ⨟ when open_call (expr_binding_power 0) then expect (of_kind K.RParen) ⨟ ret N.ParenExpr yes
     else expect (of_kind K.RParen) ⨟ ret N.ParenExpr no)
-    else if at (of_kind K.Ident) then macro_invocation ⨟ tell yes
-    else if at (set (K.Number ∷ K.Char ∷ [])) then in_node N.LiteralExpr bump!
-    else if expected E.InfixOperator ⨟ silent (set INFIX_BUT_TERNARY) then
+    else when at (of_kind K.Ident) then macro_invocation ⨟ tell yes
+    else when at (set (K.Number ∷ K.Char ∷ [])) then in_node N.LiteralExpr bump!
+    else when expected E.InfixOperator ⨟ silent (set INFIX_BUT_TERNARY) then
     error E.msg_expected E.missing_left_side ⨟ in_node N.ParseError (bump! ⨟ open_call (expr_binding_power 0)) ⨟ tell no
-    else if silent (of_kind K.RParen) then error! ⨟ tell no
+    else when silent (of_kind K.RParen) then error! ⨟ tell no
     else error_wrap! ⨟ tell no
 
 unfoldable pub expr_binding_power_body : ℕ → Prog
 unfolding lhs infix_turn
-expr_binding_power_body min-bp = chain (if lhs then tell again else tell no) (infix_turn min-bp)
+expr_binding_power_body min-bp = chain (when lhs then tell again else tell no) (infix_turn min-bp)
 
 -- ================================================================ grammar.rs: cells
 
@@ -223,12 +223,12 @@ unfoldable pub eat_cell_body : Bool → Prog
 unfolding silent silent_eat at macro_invocation Reference dt_expr eat_dts_include eat_preprocessor_directive
 eat_cell_body until_end =
     expected E.Cell
-    ⨟ if silent_eat (set (K.Number ∷ K.Char ∷ [])) then tell yes
-    else if silent (of_kind K.Ident) then macro_invocation ⨟ tell yes
-    else if silent_eat Reference then tell yes
-    else if silent (of_kind K.LParen) then dt_expr ⨟ tell yes
-    else if eat_dts_include or eat_preprocessor_directive (Cell until_end) then tell yes
-    else if silent (set OPERATORS_SET) and not! (at (of_kind K.RAngle)) then error_wrap E.msg_expected E.missing_parentheses ⨟ tell yes
+    ⨟ when silent_eat (set (K.Number ∷ K.Char ∷ [])) then tell yes
+    else when silent (of_kind K.Ident) then macro_invocation ⨟ tell yes
+    else when silent_eat Reference then tell yes
+    else when silent (of_kind K.LParen) then dt_expr ⨟ tell yes
+    else when eat_dts_include or eat_preprocessor_directive (Cell until_end) then tell yes
+    else when silent (set OPERATORS_SET) and not! (at (of_kind K.RAngle)) then error_wrap E.msg_expected E.missing_parentheses ⨟ tell yes
     else tell no
 
 -- whether cells end here, by `AT_END`
@@ -240,9 +240,9 @@ cells_end false = at (of_kind K.RAngle)
 unfoldable pub cells_turn : Bool → Prog
 unfolding silent cells_end
 cells_turn until_end =
-    if open_call (eat_cell until_end) then tell again
-    else if cells_end until_end then tell yes
-    else if silent (set (K.Semicolon ∷ K.LCurly ∷ K.RCurly ∷ [])) or end?
+    when open_call (eat_cell until_end) then tell again
+    else when cells_end until_end then tell yes
+    else when silent (set (K.Semicolon ∷ K.LCurly ∷ K.RCurly ∷ [])) or end?
     or silent (set CONTINUE_COND_SET) or silent (of_kind K.EndifDirective) then
     error! ⨟ tell no
     else error_wrap E.msg_expected E.in_cells ⨟ tell again
@@ -256,7 +256,7 @@ unfoldable pub dt_cell_list : Prog
 unfolding expect cells
 dt_cell_list =
     assert_eat K.LAngle
-    ⨟ if cells false then expect (of_kind K.RAngle) ⨟ ret N.DtCellList yes
+    ⨟ when cells false then expect (of_kind K.RAngle) ⨟ ret N.DtCellList yes
     else ret N.ParseError no
 
 -- ================================================================ grammar.rs: values and properties
@@ -282,34 +282,34 @@ unfolding at expect dt_cell_list
 bits_value =
     in_marker
     (in_node N.DtsDirective (bump! ⨟ expect (of_kind K.Number))
-    ⨟ if at (of_kind K.LAngle) then dt_cell_list else error_bump! ⨟ ret N.ParseError yes)
+    ⨟ when at (of_kind K.LAngle) then dt_cell_list else error_bump! ⨟ ret N.ParseError yes)
 
 -- one value. yes: it was there. also: it was not, and the loop breaks. no: `?` returned the cell list's error.
 unfoldable pub propvalue : Bool → Prog
 unfolding silent silent_eat bits_value dt_cell_list Reference macro_invocation eat_dts_include eat_preprocessor_directive
 propvalue semicolon =
     expected E.Value
-    ⨟ if silent (of_kind K.BitsDirective) then bits_value
-    else if silent_eat (of_kind K.String) then tell yes
-    else if silent (of_kind K.LAngle) then in_marker dt_cell_list
-    else if silent_eat Reference then tell yes
-    else if silent (of_kind K.Ident) then macro_invocation ⨟ tell yes
-    else if silent_eat (of_kind K.DtBytestring) or eat_dts_include or eat_preprocessor_directive (Values semicolon) then tell yes
+    ⨟ when silent (of_kind K.BitsDirective) then bits_value
+    else when silent_eat (of_kind K.String) then tell yes
+    else when silent (of_kind K.LAngle) then in_marker dt_cell_list
+    else when silent_eat Reference then tell yes
+    else when silent (of_kind K.Ident) then macro_invocation ⨟ tell yes
+    else when silent_eat (of_kind K.DtBytestring) or eat_dts_include or eat_preprocessor_directive (Values semicolon) then tell yes
     else error_wrap! ⨟ tell also
 
 -- what follows a value
 unfoldable pub after_propvalue : Bool → Prog
 unfolding silent eat at
 after_propvalue semicolon =
-    if eat (of_kind K.Comma) then tell again
-    else if at (set (ending_kinds semicolon)) then tell yes
-    else if silent (set PROPERTY_VALUE_RECOVERY_SET) then error! ⨟ tell again
+    when eat (of_kind K.Comma) then tell again
+    else when at (set (ending_kinds semicolon)) then tell yes
+    else when silent (set PROPERTY_VALUE_RECOVERY_SET) then error! ⨟ tell again
     else tell no
 
 unfoldable pub propvalues_turn : Bool → Prog
 unfolding propvalue after_propvalue
 propvalues_turn semicolon =
-    if end? then tell yes
+    when end? then tell yes
     else case (propvalue semicolon) (tell no) (after_propvalue semicolon) (tell yes)
 
 unfoldable pub propvalues_body : Bool → Prog
@@ -320,9 +320,9 @@ propvalues_body semicolon = loop (propvalues_turn semicolon)
 unfoldable pub dt_property : Prog
 unfolding eat expect_recoverable
 dt_property =
-    if eat (of_kind K.Semicolon) then ret N.DtProperty yes
+    when eat (of_kind K.Semicolon) then ret N.DtProperty yes
     else assert_eat K.Equals
-    ⨟ if in_marker (if open_call (propvalues true) then ret N.PropValueList yes else ret N.PropValueList no) then
+    ⨟ when in_marker (when open_call (propvalues true) then ret N.PropValueList yes else ret N.PropValueList no) then
     expect_recoverable (of_kind K.Semicolon) ITEM_RECOVERY_SET ⨟ ret N.DtProperty yes
     else ret N.ParseError yes
 
@@ -339,7 +339,7 @@ dt_node_body =
     brace
     (assert_eat K.LCurly
     ⨟ loop node_body_turn
-    ⨟ if end? then act emit_unclosed ⨟ ret N.DtNode yes
+    ⨟ when end? then act emit_unclosed ⨟ ret N.DtNode yes
     else expect (of_kind K.RCurly) ⨟ expect_recoverable (of_kind K.Semicolon) ITEM_RECOVERY_SET ⨟ ret N.DtNode yes)
 
 -- no: None. yes: Some(false). also: Some(true). `own_name`: the answer at a node's or property's own name, by
@@ -348,16 +348,16 @@ unfoldable pub prefix_turn : Ans → Prog
 unfolding eat silent eat_starting◌inside◌else◌ MacroSubstitutableName UnitAddress Reference
 prefix_turn own_name =
     eat_starting MacroSubstitutableName inside
-    (if eat (of_kind K.Colon) then ret N.DtLabel again
-    else if eat UnitAddress and silent (of_kind K.Colon) then error_bump E.at_sign_in_label E.no_hint ⨟ ret N.ParseError again
+    (when eat (of_kind K.Colon) then ret N.DtLabel again
+    else when eat UnitAddress and silent (of_kind K.Colon) then error_bump E.at_sign_in_label E.no_hint ⨟ ret N.ParseError again
     else ret N.NO_NODE own_name)
-    else if eat Reference then tell yes
-    else if eat (of_kind K.Slash) then tell yes
+    else when eat Reference then tell yes
+    else when eat (of_kind K.Slash) then tell yes
     else tell no
 
 unfoldable pub eat_node_or_prop_prefix : Prog
 unfolding eat prefix_turn
-eat_node_or_prop_prefix = if eat (of_kind K.OmitIfNoRefDirective) then loop (prefix_turn yes) else loop (prefix_turn also)
+eat_node_or_prop_prefix = when eat (of_kind K.OmitIfNoRefDirective) then loop (prefix_turn yes) else loop (prefix_turn also)
 
 -- `!allow_prop && ..`
 unfoldable pub forbidden_property : Bool → Prog
@@ -369,10 +369,10 @@ forbidden_property false = silent (set (K.Equals ∷ K.Semicolon ∷ []))
 unfoldable pub no_property : Bool → Prog
 unfolding silent at dt_node_body dt_property forbidden_property
 no_property allow-prop =
-    if at (of_kind K.LCurly) then dt_node_body
-    else if silent (of_kind K.RCurly) then (error_bump! ⨟ ret N.ParseError yes)
-    else if forbidden_property allow-prop then (error E.msg_expected E.property_not_allowed ⨟ in_marker dt_property ⨟ ret N.ParseError yes)
-    else (error! ⨟ (if not! (silent (set ITEM_RECOVERY_SET)) and not! end? then bump! else tell yes) ⨟ ret N.ParseError yes)
+    when at (of_kind K.LCurly) then dt_node_body
+    else when silent (of_kind K.RCurly) then (error_bump! ⨟ ret N.ParseError yes)
+    else when forbidden_property allow-prop then (error E.msg_expected E.property_not_allowed ⨟ in_marker dt_property ⨟ ret N.ParseError yes)
+    else (error! ⨟ (when not! (silent (set ITEM_RECOVERY_SET)) and not! end? then bump! else tell yes) ⨟ ret N.ParseError yes)
 
 unfoldable pub eat_node_or_prop : Prog
 unfolding at eat_node_or_prop_prefix no_property dt_property
@@ -381,21 +381,21 @@ eat_node_or_prop =
     (case eat_node_or_prop_prefix
     (ret N.NO_NODE no)
     (no_property false)
-    (if at (set (K.Equals ∷ K.Semicolon ∷ [])) then dt_property else no_property true))
+    (when at (set (K.Equals ∷ K.Semicolon ∷ [])) then dt_property else no_property true))
 
 unfoldable pub eat_dts_directive : Prog
 unfolding eat expect expect_recoverable eat_starting◌inside◌else◌ eat_dts_include Reference MacroSubstitutableName UnitAddress
 eat_dts_directive =
     eat_starting set (K.V1Directive ∷ K.PluginDirective ∷ []) inside
     (expect_recoverable (of_kind K.Semicolon) ITEM_RECOVERY_SET ⨟ ret N.DtsDirective yes)
-    else if eat_dts_include then tell yes
+    else when eat_dts_include then tell yes
     else eat_starting of_kind K.MemreserveDirective inside
     (in_node N.DtsDirectiveArguments (expect (of_kind K.Number) ⨟ expect (of_kind K.Number))
     ⨟ expect_recoverable (of_kind K.Semicolon) ITEM_RECOVERY_SET ⨟ ret N.DtsDirective yes)
     else eat_starting set (K.DeleteNodeDirective ∷ K.DeletePropertyDirective ∷ []) inside
     (in_node N.DtsDirectiveArguments
-    (if eat Reference then tell yes
-    else if eat MacroSubstitutableName then eat UnitAddress
+    (when eat Reference then tell yes
+    else when eat MacroSubstitutableName then eat UnitAddress
     else error!)
     ⨟ expect_recoverable (of_kind K.Semicolon) ITEM_RECOVERY_SET ⨟ ret N.DtsDirective yes)
     else tell no
@@ -403,11 +403,11 @@ eat_dts_directive =
 unfoldable pub item_body : Prog
 unfolding silent eat_node_or_prop dt_property dt_node_body eat_dts_directive eat_preprocessor_directive
 item_body =
-    if eat_node_or_prop then tell yes
-    else if silent (of_kind K.Equals) then in_node N.ParseError (error E.msg_expected E.unnamed_property ⨟ in_marker dt_property)
-    else if silent (of_kind K.LCurly) then in_node N.ParseError (error E.msg_expected E.unnamed_node ⨟ in_marker dt_node_body)
-    else if silent (of_kind K.Semicolon) then error_wrap E.unmatched_semicolon E.no_hint
-    else if eat_dts_directive or eat_preprocessor_directive Item then tell yes
+    when eat_node_or_prop then tell yes
+    else when silent (of_kind K.Equals) then in_node N.ParseError (error E.msg_expected E.unnamed_property ⨟ in_marker dt_property)
+    else when silent (of_kind K.LCurly) then in_node N.ParseError (error E.msg_expected E.unnamed_node ⨟ in_marker dt_node_body)
+    else when silent (of_kind K.Semicolon) then error_wrap E.unmatched_semicolon E.no_hint
+    else when eat_dts_directive or eat_preprocessor_directive Item then tell yes
     else error_wrap!
 
 -- the four counted functions
@@ -424,8 +424,8 @@ grammar (expr_binding_power min-bp) = expr_binding_power_body min-bp
 unfoldable pub sourcefile_part : Prog
 unfolding silent catch_unmatched_pp_directive
 sourcefile_part =
-    if silent (of_kind K.RCurly) then error E.unmatched_rcurly E.no_hint ⨟ in_node N.ParseError bump!
-    else if catch_unmatched_pp_directive Item then tell yes
+    when silent (of_kind K.RCurly) then error E.unmatched_rcurly E.no_hint ⨟ in_node N.ParseError bump!
+    else when catch_unmatched_pp_directive Item then tell yes
     else open_call item
 
 unfoldable pub sourcefile_turn : Prog
@@ -459,7 +459,7 @@ left_over_turn = while not! end? run bump!
 
 unfoldable pub left_over : Prog
 unfolding left_over_turn
-left_over = if end? then tell yes else expected E.End ⨟ in_node N.ParseError (error! ⨟ loop left_over_turn)
+left_over = when end? then tell yes else expected E.End ⨟ in_node N.ParseError (error! ⨟ loop left_over_turn)
 
 unfoldable pub whole : Entry → Prog
 unfolding entry left_over

@@ -4,7 +4,7 @@ use Rattle.std.specs.Prelude.{[], ◌∷◌}
 use Rattle.definitions.specs.TokenKind as K
 use Rattle.definitions.specs.NodeKind as N
 use Rattle.definitions.specs.Prog.{no, yes, Prog, ret, ◌⨟◌}
-use Rattle.definitions.specs.Check.{tell, if◌then◌else◌, in_node, error!, set, of_kind, eat, expect, expect_recoverable, eat_starting◌inside◌else◌}
+use Rattle.definitions.specs.Check.{tell, when◌then◌else◌, in_node, error!, set, of_kind, eat, expect, expect_recoverable, eat_starting◌inside◌else◌}
 use Rattle.definitions.specs.Grammar.{ITEM_RECOVERY_SET, MacroSubstitutableName, UnitAddress, Reference}
 
 -- a directive's semicolon; the caller's marker
@@ -16,8 +16,8 @@ memreserve_arguments = in_node N.DtsDirectiveArguments (expect (of_kind K.Number
 
 abbrev pub deleted : Prog
 deleted =
-    if eat Reference then tell yes
-    else if eat MacroSubstitutableName then eat UnitAddress
+    when eat Reference then tell yes
+    else when eat MacroSubstitutableName then eat UnitAddress
     else error!
 
 abbrev pub delete_arguments : Prog

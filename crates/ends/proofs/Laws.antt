@@ -4,7 +4,7 @@ use mathlib.Core.Bool.{Bool}
 use Rattle.definitions.specs.TokenKind as K
 use Rattle.definitions.specs.Errors as E
 use Rattle.definitions.specs.Prog.{no, yes, again, item, eat_cell, ◌⨟◌, open_call}
-use Rattle.definitions.specs.Check.{tell, if◌then◌else◌, while◌run◌, error!, error_wrap, set, of_kind, silent, eat}
+use Rattle.definitions.specs.Check.{tell, when◌then◌else◌, while◌run◌, error!, error_wrap, set, of_kind, silent, eat}
 use Rattle.definitions.specs.Grammar.{PROPERTY_VALUE_RECOVERY_SET, cells_end, cells_turn, after_propvalue, node_body_turn}
 use Rattle.ends.specs.Subprograms.{at_item, at_cells_recovery, at_values_end}
 
@@ -13,17 +13,17 @@ unfolding node_body_turn
 body_is = refl
 
 pub cells_is : (at_end : Bool) → cells_turn at_end
-    ≡ (if open_call (eat_cell at_end) then tell again
-    else if cells_end at_end then tell yes
-    else if at_cells_recovery then error! ⨟ tell no
+    ≡ (when open_call (eat_cell at_end) then tell again
+    else when cells_end at_end then tell yes
+    else when at_cells_recovery then error! ⨟ tell no
     else error_wrap E.msg_expected E.in_cells ⨟ tell again)
 unfolding cells_turn
 cells_is at_end = refl
 
 pub after_is : (semicolon : Bool) → after_propvalue semicolon
-    ≡ (if eat (of_kind K.Comma) then tell again
-    else if at_values_end semicolon then tell yes
-    else if silent (set PROPERTY_VALUE_RECOVERY_SET) then error! ⨟ tell again
+    ≡ (when eat (of_kind K.Comma) then tell again
+    else when at_values_end semicolon then tell yes
+    else when silent (set PROPERTY_VALUE_RECOVERY_SET) then error! ⨟ tell again
     else tell no)
 unfolding after_propvalue
 after_is semicolon = refl

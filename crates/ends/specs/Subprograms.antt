@@ -5,7 +5,7 @@ use Rattle.definitions.specs.TokenKind as K
 use Rattle.definitions.specs.NodeKind as N
 use Rattle.definitions.specs.Errors as E
 use Rattle.definitions.specs.Prog.{yes, emit_unclosed, Prog, ret, act, ◌⨟◌}
-use Rattle.definitions.specs.Check.{error, tell, if◌then◌else◌, ◌and◌, ◌or◌, not!, in_node, end?, bump!, error!, set, of_kind, silent, at, expect, expect_recoverable}
+use Rattle.definitions.specs.Check.{error, tell, when◌then◌else◌, ◌and◌, ◌or◌, not!, in_node, end?, bump!, error!, set, of_kind, silent, at, expect, expect_recoverable}
 use Rattle.definitions.specs.Grammar.{CONTINUE_COND_SET, ITEM_RECOVERY_SET, ending_kinds}
 
 -- whether a node's body goes on: the test of `node_body_turn`
@@ -25,13 +25,13 @@ at_values_end semicolon = at (set (ending_kinds semicolon))
 abbrev pub unfinished : Prog
 unfinished =
     error!
-    ⨟ (if not! (silent (set ITEM_RECOVERY_SET)) and not! end? then bump! else tell yes)
+    ⨟ (when not! (silent (set ITEM_RECOVERY_SET)) and not! end? then bump! else tell yes)
     ⨟ ret N.ParseError yes
 
 -- the end of `dt_node_body`; the caller's marker, and the brace's label
 abbrev pub node_end : Prog
 node_end =
-    if end? then act emit_unclosed ⨟ ret N.DtNode yes
+    when end? then act emit_unclosed ⨟ ret N.DtNode yes
     else expect (of_kind K.RCurly) ⨟ expect_recoverable (of_kind K.Semicolon) ITEM_RECOVERY_SET ⨟ ret N.DtNode yes
 
 -- the first case of `sourcefile_part`

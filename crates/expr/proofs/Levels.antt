@@ -13,7 +13,7 @@ use Rattle.definitions.specs.Errors as E
 use Rattle.definitions.specs.Token.{Token, seen, trivia, past, one_of, first_in}
 use Rattle.definitions.specs.Skeleton.{Span}
 use Rattle.definitions.specs.Prog.{choose, yes, Rule, less, Prog, act, ◌⨟◌, case}
-use Rattle.definitions.specs.Check.{tell, if◌then◌else◌, bump!, expected, set, of_kind, silent}
+use Rattle.definitions.specs.Check.{tell, when◌then◌else◌, bump!, expected, set, of_kind, silent}
 use Rattle.definitions.specs.BindingPower.{Level, binary_levels, left_power, right_power, ternary_left, ternary_right}
 use Rattle.definitions.specs.Grammar.{INFIX_BUT_TERNARY, rhs, infix_levels, infix_turn}
 use Rattle.definitions.specs.Run.{truth}
@@ -71,7 +71,7 @@ left_end = refl
 -- what follows the pushed expectation in a turn over infix operators
 abbrev pub infix_choice : ℕ → Prog
 infix_choice min =
-    if silent (of_kind K.QuestionMark) then (if act (less ternary_left min) then tell yes else bump! ⨟ ternary_rhs)
+    when silent (of_kind K.QuestionMark) then (when act (less ternary_left min) then tell yes else bump! ⨟ ternary_rhs)
     else infix_levels min binary_levels
 
 module _ (ask : Rule → Machine → Walked) (ts : List Token) (b : Span) (min : ℕ) (m : Machine) where
@@ -89,11 +89,11 @@ module _ (ask : Rule → Machine → Walked) (ts : List Token) (b : Span) (min :
   looks still ks t e = c_act (ap (λ (t : Bool). said (truth t) m) (sym e) ∙ ap (λ (x : Machine). said (truth (first_in ks (rest ts x))) x) (sym still))
 
   -- the power test of an operator that is there
-  stronger : (l : ℕ) (p : Prog) → Way ask ts b (if act (less l min) then tell yes else p) m (cond (ltb l min) (said yes m) (walk ask ts b p m))
+  stronger : (l : ℕ) (p : Prog) → Way ask ts b (when act (less l min) then tell yes else p) m (cond (ltb l min) (said yes m) (walk ask ts b p m))
   unfolding perform
   stronger l p = by (ltb l min) refl
     where
-      by : (t : Bool) → ltb l min ≡ t → Way ask ts b (if act (less l min) then tell yes else p) m (cond t (said yes m) (walk ask ts b p m))
+      by : (t : Bool) → ltb l min ≡ t → Way ask ts b (when act (less l min) then tell yes else p) m (cond t (said yes m) (walk ask ts b p m))
       by true e = c_yes (c_act (ap (λ (t : Bool). said (truth t) m) (sym e))) refl c_ret
       by false e = c_no (c_act (ap (λ (t : Bool). said (truth t) m) (sym e))) refl (c_walk refl)
 
@@ -171,7 +171,7 @@ module _ {ask : Rule → Machine → Walked} {ts : List Token} {b : Span} {m x :
   turn : Way ask ts b (infix_turn min) m (arm ask ts b min x l r)
   unfolding infix_turn walk perform
   turn =
-      let none = if act (less ternary_left min) then tell yes else bump! ⨟ ternary_rhs in
+      let none = when act (less ternary_left min) then tell yes else bump! ⨟ ternary_rhs in
       record {
         is =
             ap (λ (k : ℕ). arm ask ts b min x k r) el

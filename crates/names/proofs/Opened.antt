@@ -5,21 +5,21 @@ use mathlib.Core.List.{[], ◌∷◌}
 use Rattle.definitions.specs.TokenKind as K
 use Rattle.definitions.specs.NodeKind as N
 use Rattle.definitions.specs.Prog.{no, yes, silent_at, bump_name, act, ◌⨟◌, loop}
-use Rattle.definitions.specs.Check.{tell, if◌then◌else◌, ◌and◌, not!, while◌run◌, in_node, end?, bump!, expected, error!, error_wrap!, Matcher, of_kind, NAME_SET, Name, LabelName, silent, at, silent_eat, eat, expect}
+use Rattle.definitions.specs.Check.{tell, when◌then◌else◌, ◌and◌, not!, while◌run◌, in_node, end?, bump!, expected, error!, error_wrap!, Matcher, of_kind, NAME_SET, Name, LabelName, silent, at, silent_eat, eat, expect}
 use Rattle.definitions.specs.Grammar.{CONTINUE_COND_SET, macro_invocation, silent_at_macro_invocation_with_args, MacroSubstitutableName, UnitAddress, path_segment, path_turn, path_rest, reference_noamp, Reference}
 use Rattle.names.specs.Subprograms.{at_segment, path}
 
 -- ---------------------------------------------------------------- Check.antt
 
-pub silent_eat_is : (m : Matcher) → silent_eat m ≡ if m.matches then m.consume ⨟ tell yes else tell no
+pub silent_eat_is : (m : Matcher) → silent_eat m ≡ when m.matches then m.consume ⨟ tell yes else tell no
 unfolding silent_eat
 silent_eat_is m = refl
 
-pub eat_is : (m : Matcher) → eat m ≡ if m.matches then m.consume ⨟ tell yes else m.push_expected ⨟ tell no
+pub eat_is : (m : Matcher) → eat m ≡ when m.matches then m.consume ⨟ tell yes else m.push_expected ⨟ tell no
 unfolding eat
 eat_is m = refl
 
-pub expect_is : (m : Matcher) → expect m ≡ if eat m then tell yes else error! ⨟ tell no
+pub expect_is : (m : Matcher) → expect m ≡ when eat m then tell yes else error! ⨟ tell no
 unfolding expect
 expect_is m = refl
 
@@ -33,7 +33,7 @@ pub name_expected_is : MacroSubstitutableName.push_expected ≡ expected K.Name
 unfolding MacroSubstitutableName
 name_expected_is = refl
 
-pub name_consume_is : MacroSubstitutableName.consume ≡ if silent_at_macro_invocation_with_args then macro_invocation else act (bump_name NAME_SET)
+pub name_consume_is : MacroSubstitutableName.consume ≡ when silent_at_macro_invocation_with_args then macro_invocation else act (bump_name NAME_SET)
 unfolding MacroSubstitutableName
 name_consume_is = refl
 
@@ -67,7 +67,7 @@ reference_consume_is = refl
 
 -- ---------------------------------------------------------------- references
 
-pub path_segment_is : path_segment ≡ if eat Name then eat UnitAddress else error_wrap!
+pub path_segment_is : path_segment ≡ when eat Name then eat UnitAddress else error_wrap!
 unfolding path_segment
 path_segment_is = refl
 
@@ -84,15 +84,15 @@ pub path_rest_is : path_rest ≡ loop path_turn ⨟ expect (of_kind K.RCurly)
 unfolding path_rest
 path_rest_is = refl
 
-pub path_is : path ≡ if eat (of_kind K.Slash) then
-    (if eat (of_kind K.RCurly) then tell yes else path_segment ⨟ path_rest)
-    else (if eat Name then tell yes else error_wrap!) ⨟ path_rest
+pub path_is : path ≡ when eat (of_kind K.Slash) then
+    (when eat (of_kind K.RCurly) then tell yes else path_segment ⨟ path_rest)
+    else (when eat Name then tell yes else error_wrap!) ⨟ path_rest
 unfolding path
 path_is = refl
 
-pub reference_noamp_is : reference_noamp ≡ if eat (of_kind K.LCurly) then path
-    else if silent_at_macro_invocation_with_args then macro_invocation
-    else if eat LabelName then tell yes
+pub reference_noamp_is : reference_noamp ≡ when eat (of_kind K.LCurly) then path
+    else when silent_at_macro_invocation_with_args then macro_invocation
+    else when eat LabelName then tell yes
     else error_wrap!
 unfolding reference_noamp path
 reference_noamp_is = refl

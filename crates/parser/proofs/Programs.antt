@@ -11,7 +11,7 @@ use Rattle.definitions.specs.TokenKind as K
 use Rattle.definitions.specs.Token.{Token, past, first_in}
 use Rattle.definitions.specs.Skeleton.{Span}
 use Rattle.definitions.specs.Prog.{choose, Ans, no, yes, Rule, Act, silent_at, at_end, immediate, immediate_next, add_expected, bump, bump_name, emit, Prog, act, ◌⨟◌, case}
-use Rattle.definitions.specs.Check.{tell, if◌then◌else◌, in_node, end?, expected}
+use Rattle.definitions.specs.Check.{tell, when◌then◌else◌, in_node, end?, expected}
 use Rattle.definitions.specs.Check as C
 use Rattle.definitions.specs.NodeKind as N
 use Rattle.definitions.specs.Grammar.{silent_at_macro_invocation_with_args}
@@ -150,7 +150,7 @@ module _ (ask : Rule → Machine → Walked) (ts : List Token) (b : Span) where
   expect_no k m p q e f = walk_no (C.eat k) (C.error! ⨟ tell no) (tell yes) (tell yes) m p (said no q) e (walk_then C.error! (tell no) p (said yes q) (said no q) (sym f) (walk_tell no q))
 
   abbrev recovered : List ℕ → Prog
-  recovered ks = if act (silent_at ks) then C.error! else C.error_wrap!
+  recovered ks = when act (silent_at ks) then C.error! else C.error_wrap!
 
   pub recoverable_yes : (k : C.Matcher) (ks : List ℕ) (m p : Machine) (y : Bool) → said (truth y) p ≡ walk ask ts b (C.eat k) m → y ≡ true → said (truth y) p ≡ walk ask ts b (C.expect_recoverable k ks) m
   unfolding C.expect_recoverable
@@ -182,21 +182,21 @@ module _ (ask : Rule → Machine → Walked) (ts : List Token) (b : Span) where
   pub error_no : (k : Bump) (message hint : ℕ) (m : Machine) (w : Walked) → k ≡ Taking.No → w ≡ walk ask ts b (C.error message hint) m → w ≡ walk ask ts b (error_prog k message hint) m
   error_no k message hint m w e f = f ∙ ap (λ (x : Bump). walk ask ts b (error_prog x message hint) m) (sym e)
 
-  pub error_yes : (k : Bump) (message hint : ℕ) (m p : Machine) (w : Walked) → k ≡ Taking.Yes → said yes p ≡ walk ask ts b (C.error message hint) m → w ≡ walk ask ts b (if end? then tell yes else C.bump!) p
+  pub error_yes : (k : Bump) (message hint : ℕ) (m p : Machine) (w : Walked) → k ≡ Taking.Yes → said yes p ≡ walk ask ts b (C.error message hint) m → w ≡ walk ask ts b (when end? then tell yes else C.bump!) p
       → w ≡ walk ask ts b (error_prog k message hint) m
   error_yes k message hint m p w e f g =
-      walk_then (C.error message hint) (if end? then tell yes else C.bump!) m (said yes p) w (sym f) g ∙ ap (λ (x : Bump). walk ask ts b (error_prog x message hint) m) (sym e)
+      walk_then (C.error message hint) (when end? then tell yes else C.bump!) m (said yes p) w (sym f) g ∙ ap (λ (x : Bump). walk ask ts b (error_prog x message hint) m) (sym e)
 
   pub error_wrapped : (k : Bump) (message hint : ℕ) (m p : Machine) (w : Walked) → k ≡ Taking.YesWrapErr → said yes p ≡ walk ask ts b (C.error message hint) m
-      → w ≡ walk ask ts b (if end? then tell yes else in_node N.ParseError C.bump!) p → w ≡ walk ask ts b (error_prog k message hint) m
+      → w ≡ walk ask ts b (when end? then tell yes else in_node N.ParseError C.bump!) p → w ≡ walk ask ts b (error_prog k message hint) m
   error_wrapped k message hint m p w e f g =
-      walk_then (C.error message hint) (if end? then tell yes else in_node N.ParseError C.bump!) m (said yes p) w (sym f) g ∙ ap (λ (x : Bump). walk ask ts b (error_prog x message hint) m) (sym e)
+      walk_then (C.error message hint) (when end? then tell yes else in_node N.ParseError C.bump!) m (said yes p) w (sym f) g ∙ ap (λ (x : Bump). walk ask ts b (error_prog x message hint) m) (sym e)
 
   -- what follows a report unless the end is there
-  pub end_yes : (q : Prog) (m p : Machine) → perform ts b at_end m ≡ said yes p → said yes p ≡ walk ask ts b (if end? then tell yes else q) m
+  pub end_yes : (q : Prog) (m p : Machine) → perform ts b at_end m ≡ said yes p → said yes p ≡ walk ask ts b (when end? then tell yes else q) m
   end_yes q m p e = walk_yes end? q (tell yes) (tell yes) m p (said yes p) (sym (walk_act at_end m) ∙ e) (walk_tell yes p)
 
-  pub end_no : (q : Prog) (m p : Machine) (w : Walked) → perform ts b at_end m ≡ said no p → w ≡ walk ask ts b q p → w ≡ walk ask ts b (if end? then tell yes else q) m
+  pub end_no : (q : Prog) (m p : Machine) (w : Walked) → perform ts b at_end m ≡ said no p → w ≡ walk ask ts b q p → w ≡ walk ask ts b (when end? then tell yes else q) m
   end_no q m p w e f = walk_no end? q (tell yes) (tell yes) m p w (sym (walk_act at_end m) ∙ e) f
 
   -- ---------------------------------------------------------------- `eat_starting`

@@ -3,7 +3,7 @@ ghost use Rattle.std.specs.Prelude.{◌≡◌, List, [], ◌∷◌, ℕ, ◌+◌
 ghost use Rattle.basics.specs.Word.{low};
 ghost use Rattle.definitions.specs.Token.{tokens_of};
 ghost use Rattle.definitions.specs.Prog.{yes};
-ghost use Rattle.definitions.specs.Check.{if◌then◌else◌, end?, bump!, tell, in_node as node_prog};
+ghost use Rattle.definitions.specs.Check.{when◌then◌else◌, end?, bump!, tell, in_node as node_prog};
 ghost use Rattle.definitions.specs.NodeKind as N;
 ghost use Rattle.definitions.specs.Run.{only_separators, pool_of};
 ghost use Rattle.machine.specs.Machine.{pool_count, error_range};
@@ -253,7 +253,7 @@ impl State {
     }
 
     fn bump_unless_at_end(self, tokens: &[u32], events: &mut [u32]) -> State
-        ensures moves { Moves (if end? then tell yes else bump!) self (says yes result) tokens events }
+        ensures moves { Moves (when end? then tell yes else bump!) self (says yes result) tokens events }
         ensures result_bound { tokens_left tokens.now result ≤ tokens_left tokens.now self - 1 }
     {
         let end = self.at_end(tokens);
@@ -265,7 +265,7 @@ impl State {
     }
 
     fn wrap_unless_at_end(self, tokens: &[u32], events: &mut [u32]) -> State
-        ensures moves { Moves (if end? then tell yes else node_prog N.ParseError bump!) self (says yes result)
+        ensures moves { Moves (when end? then tell yes else node_prog N.ParseError bump!) self (says yes result)
             tokens events }
         ensures result_bound { tokens_left tokens.now result ≤ tokens_left tokens.now self - 1 }
     {

@@ -11,7 +11,7 @@ use Rattle.definitions.specs.NodeKind as N
 use Rattle.definitions.specs.Errors as E
 use Rattle.definitions.specs.Token.{Token, seen, drop_trivia, first_in}
 use Rattle.definitions.specs.Prog.{choose, no, yes, Rule, item, propvalues, eat_cell, expr_binding_power, silent_at, Prog, act, ◌⨟◌, case, open_call}
-use Rattle.definitions.specs.Check.{tell, if◌then◌else◌, ◌and◌, ◌or◌, not!, bump!, expected, error_wrap, of_kind, set, silent, at, silent_eat, expect}
+use Rattle.definitions.specs.Check.{tell, when◌then◌else◌, ◌and◌, ◌or◌, not!, bump!, expected, error_wrap, of_kind, set, silent, at, silent_eat, expect}
 use Rattle.definitions.specs.Grammar.{Cell, OPERATORS_SET, Reference, macro_invocation, dt_expr, eat_dts_include, eat_preprocessor_directive, eat_cell_body, grammar, Entry, SourceFile, ReferenceNoamp, PropValues, Cells, whole}
 use Rattle.definitions.specs.Skeleton.{Label, no_label, Skeleton, done, node, ◌⧺◌}
 use Rattle.definitions.specs.Run.{State, Out, mark_of, peeked, truth, replies, makes, taken, add, perform, closed, marked, exec, run}
@@ -108,7 +108,7 @@ module _ (n : ℕ) (below : (r : Rule) (s : State) → Made s (run n r s)) (b : 
       ran_add no_cell Celled celled s (does dt_expr s) (does (tell yes) (does dt_expr s).state) (cell_made s t ts e (test_one K.LParen (seen t) g))
       (ran_ret no_cell Celled celled 0 yes (does dt_expr s).state refl)
 
-  fine_cell : (p : Prog) → Fine p → Fine (if silent (of_kind K.LParen) then dt_expr ⨟ tell yes else p)
+  fine_cell : (p : Prog) → Fine p → Fine (when silent (of_kind K.LParen) then dt_expr ⨟ tell yes else p)
   unfolding silent exec perform replies peeked only
   fine_cell p f s =
       let u = peeked s in
@@ -122,8 +122,8 @@ module _ (n : ℕ) (below : (r : Rule) (s : State) → Made s (run n r s)) (b : 
   -- after the test for an LParen
   abbrev no_bracket : Bool → Prog
   no_bracket at_end =
-      if eat_dts_include or eat_preprocessor_directive (Cell at_end) then tell yes
-      else if silent (set OPERATORS_SET) and not! (at (of_kind K.RAngle)) then error_wrap E.msg_expected E.missing_parentheses ⨟ tell yes
+      when eat_dts_include or eat_preprocessor_directive (Cell at_end) then tell yes
+      else when silent (set OPERATORS_SET) and not! (at (of_kind K.RAngle)) then error_wrap E.msg_expected E.missing_parentheses ⨟ tell yes
       else tell no
 
   no_bracket_fine : (at_end : Bool) → Fine (no_bracket at_end)

@@ -8,7 +8,7 @@ use borrow.Author.Tests.{lt-ltb}
 use lib.ListN.{length}
 use Rattle.definitions.specs.NodeKind as N
 use Rattle.definitions.specs.Prog.{Ans, no, yes, again, Rule, expr_binding_power, open_call}
-use Rattle.definitions.specs.Check.{tell, if◌then◌else◌}
+use Rattle.definitions.specs.Check.{tell, when◌then◌else◌}
 use Rattle.definitions.specs.Grammar.{lhs, infix_turn, expr_binding_power_body, grammar}
 use Rattle.definitions.specs.Skeleton.{Label, no_label, Skeleton, done, node, ◌⧺◌}
 use Rattle.definitions.specs.Run.{State, Out, mark_of, replies, makes, add, closed, is_again, goes_on, unlinked, by_shape, links, chained, exec, run}
@@ -246,7 +246,7 @@ module _ (ask : Rule → State → Out) (b : Label) (rec : Reader)
   begin_by s refused o d = absurd d
   begin_by s spent o d = ends_any ask b (λ o'. tt)
 
-  begins : (s : State) → Stands s → Ends ask b (if lhs then tell again else tell no) s (Begins s (P.lhs rec (symbols false s.since)))
+  begins : (s : State) → Stands s → Ends ask b (when lhs then tell again else tell no) s (Begins s (P.lhs rec (symbols false s.since)))
   begins s h = branch ask b (lhs_follows ask b rec below s h) (begin_by s (P.lhs rec (symbols false s.since)))
 
   -- the chain that begins with o
@@ -294,7 +294,7 @@ module _ (ask : Rule → State → Out) (b : Label) (rec : Reader)
       → Ends ask b (expr_binding_power_body min) s (Follows s expr_nodes (bind (P.lhs rec (symbols false s.since)) (λ e vs. loop rec (length vs) min e vs)))
   unfolding expr_binding_power_body exec chained
   body_follows s h =
-      let o = exec ask b (if lhs then tell again else tell no) s in
+      let o = exec ask b (when lhs then tell again else tell no) s in
       record {
         holds = λ c.
             chain_by s (P.lhs rec (symbols false s.since)) o ((begins s h).holds (chain_clear s o (is_again o.ans) c)) c;

@@ -11,7 +11,7 @@ use Rattle.definitions.specs.NodeKind as N
 use Rattle.definitions.specs.Errors as E
 use Rattle.definitions.specs.Token.{Token, seen, drop_trivia, one_of, first_in}
 use Rattle.definitions.specs.Prog.{Ans, no, yes, Rule, expr_binding_power, Prog, ret, ◌⨟◌, in_marker, open_call}
-use Rattle.definitions.specs.Check.{tell, if◌then◌else◌, in_node, bump!, expected, error, error!, error_wrap!, of_kind, set, silent, at, expect}
+use Rattle.definitions.specs.Check.{tell, when◌then◌else◌, in_node, bump!, expected, error, error!, error_wrap!, of_kind, set, silent, at, expect}
 use Rattle.definitions.specs.BindingPower.{prefix_power}
 use Rattle.definitions.specs.Grammar.{macro_invocation, PREFIX_OPERATORS_SET, INFIX_BUT_TERNARY, lhs}
 use Rattle.definitions.specs.Skeleton.{Label, Skeleton, done, token, ◌⧺◌}
@@ -67,7 +67,7 @@ module _ (ask : Rule → State → Out) (b : Label) (rec : Reader)
     prefix_by k spent o d = ends_any ask b (λ o'. tt)
 
     prefix_follows : (k : ℕ)
-        → Ends ask b (in_marker (bump! ⨟ if open_call (expr_binding_power prefix_power) then ret N.PrefixExpr yes else ret N.PrefixExpr no)) s
+        → Ends ask b (in_marker (bump! ⨟ when open_call (expr_binding_power prefix_power) then ret N.PrefixExpr yes else ret N.PrefixExpr no)) s
         (Follows s expr_nodes (lhs_by (prefixes k) rec (C.plain k) (symbols false ts)))
     prefix_follows k =
         inside ask b
@@ -116,7 +116,7 @@ module _ (ask : Rule → State → Out) (b : Label) (rec : Reader)
     bracket_by refused o d = absurd d
     bracket_by spent o d = ends_any ask b (λ o'. tt)
 
-    bracket_follows : Ends ask b (in_marker (bump! ⨟ if open_call (expr_binding_power 0) then close yes else close no)) s
+    bracket_follows : Ends ask b (in_marker (bump! ⨟ when open_call (expr_binding_power 0) then close yes else close no)) s
         (Follows s expr_nodes (lhs_by brackets rec (C.plain K.LParen) (symbols false ts)))
     bracket_follows =
         inside ask b (after_bump ask b t ts h ahead (branch ask b (below 0 (taken ts) (stands_taken ts)) (bracket_by (rec 0 (symbols false ts)))))
@@ -135,9 +135,9 @@ module _ (ask : Rule → State → Out) (b : Label) (rec : Reader)
   -- `lhs` after its tests for an operand
   abbrev no_operand : Prog
   no_operand =
-      if expected E.InfixOperator ⨟ silent (set INFIX_BUT_TERNARY) then
+      when expected E.InfixOperator ⨟ silent (set INFIX_BUT_TERNARY) then
       error E.msg_expected E.missing_left_side ⨟ in_node N.ParseError (bump! ⨟ open_call (expr_binding_power 0)) ⨟ tell no
-      else if silent (of_kind K.RParen) then error! ⨟ tell no
+      else when silent (of_kind K.RParen) then error! ⨟ tell no
       else error_wrap! ⨟ tell no
 
   -- each way begins with a report
@@ -151,7 +151,7 @@ module _ (ask : Rule → State → Out) (b : Label) (rec : Reader)
 
   missing_by : (s : State) (x : Bool) → Onward s (λ to.
       Ends ask b
-      (pick (truth x) (if silent (of_kind K.RParen) then error! ⨟ tell no else error_wrap! ⨟ tell no)
+      (pick (truth x) (when silent (of_kind K.RParen) then error! ⨟ tell no else error_wrap! ⨟ tell no)
       (error E.msg_expected E.missing_left_side ⨟ in_node N.ParseError (bump! ⨟ open_call (expr_binding_power 0)) ⨟ tell no)
       (error E.msg_expected E.missing_left_side ⨟ in_node N.ParseError (bump! ⨟ open_call (expr_binding_power 0)) ⨟ tell no)) to
       (λ o. Noted s (symbols false s.since) o.made))
@@ -171,14 +171,14 @@ module _ (ask : Rule → State → Out) (b : Label) (rec : Reader)
 
   -- `lhs` from its second test on, and so forth
   abbrev from_literal : Prog
-  from_literal = if at (set (K.Number ∷ K.Char ∷ [])) then in_node N.LiteralExpr bump! else no_operand
+  from_literal = when at (set (K.Number ∷ K.Char ∷ [])) then in_node N.LiteralExpr bump! else no_operand
 
   abbrev from_name : Prog
-  from_name = if at (of_kind K.Ident) then macro_invocation ⨟ tell yes else from_literal
+  from_name = when at (of_kind K.Ident) then macro_invocation ⨟ tell yes else from_literal
 
   abbrev from_bracket : Prog
   from_bracket =
-      if at (of_kind K.LParen) then in_marker (bump! ⨟ if open_call (expr_binding_power 0) then expect (of_kind K.RParen) ⨟ ret N.ParenExpr yes else expect (of_kind K.RParen) ⨟ ret N.ParenExpr no)
+      when at (of_kind K.LParen) then in_marker (bump! ⨟ when open_call (expr_binding_power 0) then expect (of_kind K.RParen) ⨟ ret N.ParenExpr yes else expect (of_kind K.RParen) ⨟ ret N.ParenExpr no)
       else from_name
 
   -- what the reader makes of the first of l, from its second test on, and so forth

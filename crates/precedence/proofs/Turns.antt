@@ -11,7 +11,7 @@ use Rattle.definitions.specs.TokenKind as K
 use Rattle.definitions.specs.NodeKind as N
 use Rattle.definitions.specs.Token.{Token, seen, drop_trivia, one_of, first_in}
 use Rattle.definitions.specs.Prog.{no, yes, again, Rule, expr_binding_power, less, Prog, ret, act, ◌⨟◌, open_call}
-use Rattle.definitions.specs.Check.{tell, if◌then◌else◌, ◌and◌, bump!, of_kind, silent, expect}
+use Rattle.definitions.specs.Check.{tell, when◌then◌else◌, ◌and◌, bump!, of_kind, silent, expect}
 use Rattle.definitions.specs.BindingPower.{Level, binary_levels, left_power, right_power, ternary_left, ternary_right}
 use Rattle.definitions.specs.Grammar.{rhs, infix_levels, infix_turn}
 use Rattle.definitions.specs.Skeleton.{Label, Skeleton, ◌⧺◌}
@@ -250,7 +250,7 @@ module _ (ask : Rule → State → Out) (b : Label) (rec : Reader)
   ask_by spent o d = ends_any ask b (λ o'. tt)
 
   ask_turns : (to : State) → Stands to → to.since ≡ s.since
-      → Ends ask b (bump! ⨟ if open_call (expr_binding_power 0) and expect (of_kind K.Colon) then rhs ternary_right else ret N.InfixExpr yes) to
+      → Ends ask b (bump! ⨟ when open_call (expr_binding_power 0) and expect (of_kind K.Colon) then rhs ternary_right else ret N.InfixExpr yes) to
       (Turns s e (goes (ask_turn rec e (symbols false ts))))
   ask_turns to st si =
       after_bump ask b t ts st (ap drop_trivia si ∙ next) (branch ask b middle_follows (ask_by (middle (rec 0 (symbols false ts)))))
@@ -269,7 +269,7 @@ module _ (ask : Rule → State → Out) (b : Label) (rec : Reader)
   out_or_in p x m false f to st si = f to st si
 
   checked : (p : Prog) (x : Res) (l m : ℕ) → ((to : State) → Stands to → to.since ≡ s.since → Ends ask b p to (Turns s e (goes x)))
-      → (to : State) → Stands to → to.since ≡ s.since → Ends ask b (if act (less l m) then tell yes else p) to (Turns s e (kept_out (ltb l m) x))
+      → (to : State) → Stands to → to.since ≡ s.since → Ends ask b (when act (less l m) then tell yes else p) to (Turns s e (kept_out (ltb l m) x))
   checked p x l m f to st si = on_test ask b (test_less ask b st) (λ to' st' si'. out_or_in p x m (ltb l m) f to' st' (si' ∙ si))
 
   levels_turn : (m : ℕ) (ls : List Level) (to : State) → Stands to → to.since ≡ s.since
@@ -283,7 +283,7 @@ module _ (ask : Rule → State → Out) (b : Label) (rec : Reader)
       by : (x : Bool)
           → ((u : State) → Stands u → u.since ≡ s.since → Ends ask b (infix_levels m ls) u (Turns s e (turn_by (operator_in ls (seen t)) rec m e (symbols false ts))))
           → Onward to (λ u.
-          Ends ask b (pick (truth x) (infix_levels m ls) (if act (less (left_power l.number) m) then tell yes else bump! ⨟ rhs (right_power l.number)) (if act (less (left_power l.number) m) then tell yes else bump! ⨟ rhs (right_power l.number))) u
+          Ends ask b (pick (truth x) (infix_levels m ls) (when act (less (left_power l.number) m) then tell yes else bump! ⨟ rhs (right_power l.number)) (when act (less (left_power l.number) m) then tell yes else bump! ⨟ rhs (right_power l.number))) u
           (Turns s e (turn_by (cond x (binds (seen t) (left_power l.number) (right_power l.number)) (operator_in ls (seen t))) rec m e (symbols false ts))))
       by true f u g i =
           checked (bump! ⨟ rhs (right_power l.number)) (bind_turn rec e (seen t) (right_power l.number) (symbols false ts)) (left_power l.number) m
@@ -294,11 +294,11 @@ module _ (ask : Rule → State → Out) (b : Label) (rec : Reader)
   ternary_turn : (m : ℕ) (x : Bool) → Onward s (λ u.
       Ends ask b
       (pick (truth x) (infix_levels m binary_levels)
-      (if act (less ternary_left m) then tell yes else bump! ⨟ if open_call (expr_binding_power 0) and expect (of_kind K.Colon) then rhs ternary_right else ret N.InfixExpr yes)
-      (if act (less ternary_left m) then tell yes else bump! ⨟ if open_call (expr_binding_power 0) and expect (of_kind K.Colon) then rhs ternary_right else ret N.InfixExpr yes)) u
+      (when act (less ternary_left m) then tell yes else bump! ⨟ when open_call (expr_binding_power 0) and expect (of_kind K.Colon) then rhs ternary_right else ret N.InfixExpr yes)
+      (when act (less ternary_left m) then tell yes else bump! ⨟ when open_call (expr_binding_power 0) and expect (of_kind K.Colon) then rhs ternary_right else ret N.InfixExpr yes)) u
       (Turns s e (turn_by (cond x asks (operator_in binary_levels (seen t))) rec m e (symbols false ts))))
   ternary_turn m true u g i =
-      checked (bump! ⨟ if open_call (expr_binding_power 0) and expect (of_kind K.Colon) then rhs ternary_right else ret N.InfixExpr yes) (ask_turn rec e (symbols false ts)) ternary_left m ask_turns u g i
+      checked (bump! ⨟ when open_call (expr_binding_power 0) and expect (of_kind K.Colon) then rhs ternary_right else ret N.InfixExpr yes) (ask_turn rec e (symbols false ts)) ternary_left m ask_turns u g i
   ternary_turn m false u g i = levels_turn m binary_levels u g i
 
   -- an Ident is not an operator, so that what stands directly after it is not looked at

@@ -6,7 +6,7 @@ use Rattle.definitions.specs.TokenKind as K
 use Rattle.definitions.specs.NodeKind as N
 use Rattle.definitions.specs.Errors as E
 use Rattle.definitions.specs.Prog.{no, yes, again, Rule, item, propvalues, eat_cell, expr_binding_power, less, Prog, ret, act, ◌⨟◌, chain, open_call}
-use Rattle.definitions.specs.Check.{tell, if◌then◌else◌, ◌and◌, bump!, expected, set, of_kind, silent, expect}
+use Rattle.definitions.specs.Check.{tell, when◌then◌else◌, ◌and◌, bump!, expected, set, of_kind, silent, expect}
 use Rattle.definitions.specs.BindingPower.{Level, binary_levels, left_power, right_power, ternary_left, ternary_right, prefix_power}
 use Rattle.definitions.specs.Grammar.{rhs, lhs, grammar, Entry, whole}
 use Rattle.definitions.specs.Layout.{MOST_OPEN_CALLS}
@@ -54,17 +54,17 @@ unfoldable pub binary_turn : List Pair → ℕ → Prog
 unfolding silent rhs
 binary_turn [] min-bp = tell yes
 binary_turn (p ∷ ps) min-bp =
-    if silent (set p.operators) then
-    (if act (less p.left min-bp) then tell yes else bump! ⨟ rhs p.right)
+    when silent (set p.operators) then
+    (when act (less p.left min-bp) then tell yes else bump! ⨟ rhs p.right)
     else binary_turn ps min-bp
 
 unfoldable pub turn_with : Pair → List Pair → ℕ → Prog
 unfolding silent expect rhs binary_turn
 turn_with t ps min-bp =
     expected E.InfixOperator
-    ⨟ if silent (set t.operators) then
-    (if act (less t.left min-bp) then tell yes
-    else (bump! ⨟ if open_call (expr_binding_power 0) and expect (of_kind K.Colon) then
+    ⨟ when silent (set t.operators) then
+    (when act (less t.left min-bp) then tell yes
+    else (bump! ⨟ when open_call (expr_binding_power 0) and expect (of_kind K.Colon) then
     rhs t.right else ret N.InfixExpr yes))
     else binary_turn ps min-bp
 
@@ -73,7 +73,7 @@ unfolding grammar lhs turn_with
 grammar_with t ps item = grammar item
 grammar_with t ps (propvalues semicolon) = grammar (propvalues semicolon)
 grammar_with t ps (eat_cell until_end) = grammar (eat_cell until_end)
-grammar_with t ps (expr_binding_power min-bp) = chain (if lhs then tell again else tell no) (turn_with t ps min-bp)
+grammar_with t ps (expr_binding_power min-bp) = chain (when lhs then tell again else tell no) (turn_with t ps min-bp)
 
 unfoldable pub run_with : Pair → List Pair → ℕ → Rule → State → Out
 unfolding exec grammar_with makes

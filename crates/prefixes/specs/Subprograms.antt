@@ -4,7 +4,7 @@ use Rattle.definitions.specs.TokenKind as K
 use Rattle.definitions.specs.NodeKind as N
 use Rattle.definitions.specs.Errors as E
 use Rattle.definitions.specs.Prog.{Ans, again, Prog, ret, ◌⨟◌, in_marker, loop}
-use Rattle.definitions.specs.Check.{if◌then◌else◌, ◌and◌, error_bump, of_kind, silent, eat}
+use Rattle.definitions.specs.Check.{when◌then◌else◌, ◌and◌, error_bump, of_kind, silent, eat}
 use Rattle.definitions.specs.Grammar.{MacroSubstitutableName, UnitAddress, prefix_turn}
 
 -- the third test of `prefix_turn`
@@ -16,8 +16,8 @@ abbrev pub label_or_name : Ans → Prog
 label_or_name own_name =
     in_marker
     (MacroSubstitutableName.consume
-    ⨟ if eat (of_kind K.Colon) then ret N.DtLabel again
-    else if unit_address_and_colon then error_bump E.at_sign_in_label E.no_hint ⨟ ret N.ParseError again
+    ⨟ when eat (of_kind K.Colon) then ret N.DtLabel again
+    else when unit_address_and_colon then error_bump E.at_sign_in_label E.no_hint ⨟ ret N.ParseError again
     else ret N.NO_NODE own_name)
 
 -- the loop of `eat_node_or_prop_prefix`

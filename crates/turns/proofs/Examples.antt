@@ -8,7 +8,7 @@ use Rattle.definitions.specs.TokenKind as K
 use Rattle.definitions.specs.NodeKind as N
 use Rattle.definitions.specs.Token.{Token, drop_trivia, first_in}
 use Rattle.definitions.specs.Prog.{no, yes, again, bump, bump_name, Prog, ret, act, loop}
-use Rattle.definitions.specs.Check.{if◌then◌else◌, of_kind, eat}
+use Rattle.definitions.specs.Check.{when◌then◌else◌, of_kind, eat}
 use Rattle.definitions.specs.Grammar.{SourceFile, PropValues, Cells, macro_invocation, dt_expr, dt_cell_list, dt_node_body, dt_property}
 use Rattle.definitions.specs.Skeleton.{done, no_label}
 use Rattle.definitions.specs.Run.{State, taken, peeked, is_again, run}
@@ -56,7 +56,7 @@ two_links = refl
 -- ---------------------------------------------------------------- programs that assert
 
 -- the part of `dt_property` after its `if`
-its_value : dt_property ≡ (if eat (of_kind K.Semicolon) then ret N.DtProperty yes else assigned)
+its_value : dt_property ≡ (when eat (of_kind K.Semicolon) then ret N.DtProperty yes else assigned)
 unfolding dt_property assigned
 its_value = refl
 

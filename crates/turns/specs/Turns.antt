@@ -6,7 +6,7 @@ use Rattle.definitions.specs.TokenKind as K
 use Rattle.definitions.specs.NodeKind as N
 use Rattle.definitions.specs.Token.{Token, ended, first_in}
 use Rattle.definitions.specs.Prog.{no, yes, Act, silent_at, at_end, immediate, immediate_next, add_expected, bump, bump_name, bump_argument, emit, emit_unclosed, less, Prog, ret, act, ◌⨟◌, case, in_marker, loop, chain, brace, open_call, propvalues}
-use Rattle.definitions.specs.Check.{if◌then◌else◌, of_kind, assert_eat, expect_recoverable}
+use Rattle.definitions.specs.Check.{when◌then◌else◌, of_kind, assert_eat, expect_recoverable}
 use Rattle.definitions.specs.Grammar.{Entry, ITEM_RECOVERY_SET, macro_invocation, dt_expr, dt_cell_list, dt_node_body}
 use Rattle.definitions.specs.Run.{State, peeked, is_again}
 use Rattle.run_steps.specs.Steps.{Step, begun, branched, turned, linked, spent, exceeded, EveryStep, entry_steps}
@@ -76,7 +76,7 @@ unfoldable pub assigned : Prog
 unfolding expect_recoverable
 assigned =
     assert_eat K.Equals
-    ⨟ if in_marker (if open_call (propvalues true) then ret N.PropValueList yes else ret N.PropValueList no) then
+    ⨟ when in_marker (when open_call (propvalues true) then ret N.PropValueList yes else ret N.PropValueList no) then
     expect_recoverable (of_kind K.Semicolon) ITEM_RECOVERY_SET ⨟ ret N.DtProperty yes
     else ret N.ParseError yes
 

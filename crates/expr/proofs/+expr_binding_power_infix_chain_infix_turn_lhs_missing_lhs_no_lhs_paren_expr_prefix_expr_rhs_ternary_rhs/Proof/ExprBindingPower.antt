@@ -6,7 +6,7 @@ use native.Mathlib.Omega.{arith}
 use borrow.Author.Tests.{eqb-true, eqb-false}
 use Rattle.definitions.specs.Token.{tokens_of}
 use Rattle.definitions.specs.Prog.{no, again, expr_binding_power}
-use Rattle.definitions.specs.Check.{tell, if◌then◌else◌}
+use Rattle.definitions.specs.Check.{tell, when◌then◌else◌}
 use Rattle.definitions.specs.Grammar.{lhs as lhs_prog, infix_turn, expr_binding_power_body, grammar}
 use Rattle.machine.specs.Walk.{said}
 use Rattle.machine.proofs.Way.{c_ret, c_yes, c_no, c_fn, way, rule_closed, rule_body}
@@ -93,7 +93,7 @@ returns-2 t c =
     let new' = start'.before.before in
     let if1' = new'.before in
     let s' = if1'.before.before.before.before.before in (
-      way (s'.args.allowed - 1) (chained_on (s'.args.allowed - 1) (tokens_of s'.args.tokens.now) (if lhs_prog then tell again else tell no) (infix_turn s'.args.min-bp) new'.new.ensures (start'.start.ensures.0 _ _) (c_yes (c_fn (s'.args.allowed - 1) lhs'.lhs.ensures.0) if2'.if2.true c_ret) infix-chain'.infix_chain.ensures.0) ∙ rule_body s'.args.allowed (tokens_of s'.args.tokens.now) (expr_binding_power s'.args.min-bp) _ (omega (arith, eqb-false s'.args.allowed 0 if1'.if1.false)),
+      way (s'.args.allowed - 1) (chained_on (s'.args.allowed - 1) (tokens_of s'.args.tokens.now) (when lhs_prog then tell again else tell no) (infix_turn s'.args.min-bp) new'.new.ensures (start'.start.ensures.0 _ _) (c_yes (c_fn (s'.args.allowed - 1) lhs'.lhs.ensures.0) if2'.if2.true c_ret) infix-chain'.infix_chain.ensures.0) ∙ rule_body s'.args.allowed (tokens_of s'.args.tokens.now) (expr_binding_power s'.args.min-bp) _ (omega (arith, eqb-false s'.args.allowed 0 if1'.if1.false)),
       (
         omega (arith, start'.start.ensures.1 s'.args.tokens.now, lhs'.lhs.ensures.1.0, lhs'.lhs.ensures.1.1 if2'.if2.true, infix-chain'.infix_chain.ensures.1),
         λ e. omega (arith, start'.start.ensures.1 s'.args.tokens.now, lhs'.lhs.ensures.1.0, lhs'.lhs.ensures.1.1 if2'.if2.true, infix-chain'.infix_chain.ensures.1),
@@ -130,7 +130,7 @@ returns-3 t c =
     let start' = lhs'.before.before.before.before.before.before in
     let if1' = start'.before.before.before in
     let s' = if1'.before.before.before.before.before in (
-      way (s'.args.allowed - 1) (chained_off (s'.args.allowed - 1) (tokens_of s'.args.tokens.now) (if lhs_prog then tell again else tell no) (infix_turn s'.args.min-bp) (start'.start.ensures.0 _ _) (c_no (c_fn (s'.args.allowed - 1) lhs'.lhs.ensures.0) if2'.if2.false c_ret) (ignore'.ignore.ensures.0 _ _)) ∙ rule_body s'.args.allowed (tokens_of s'.args.tokens.now) (expr_binding_power s'.args.min-bp) _ (omega (arith, eqb-false s'.args.allowed 0 if1'.if1.false)),
+      way (s'.args.allowed - 1) (chained_off (s'.args.allowed - 1) (tokens_of s'.args.tokens.now) (when lhs_prog then tell again else tell no) (infix_turn s'.args.min-bp) (start'.start.ensures.0 _ _) (c_no (c_fn (s'.args.allowed - 1) lhs'.lhs.ensures.0) if2'.if2.false c_ret) (ignore'.ignore.ensures.0 _ _)) ∙ rule_body s'.args.allowed (tokens_of s'.args.tokens.now) (expr_binding_power s'.args.min-bp) _ (omega (arith, eqb-false s'.args.allowed 0 if1'.if1.false)),
       (
         omega (arith, start'.start.ensures.1 s'.args.tokens.now, lhs'.lhs.ensures.1.0, ignore'.ignore.ensures.1 s'.args.tokens.now),
         λ e. absurd (false≢true e),
