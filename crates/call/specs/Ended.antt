@@ -57,13 +57,13 @@ pub record AnswerOfParse (number place root_kind setting events_written reports_
   pub counts_fit : CountsFit a
 
 -- the same of lent buffers, as a contract has them
-abbrev pub AnswersRun : ℕ → ℕ → ℕ → ℕ → ℕ → Shown → Shown → Lent → Lent → Lent → Lent → Answer → Type 0
+abbrev pub AnswersRun : ℕ → ℕ → ℕ → ℕ → ℕ → Shown → Shown → Shown → Lent → Lent → Lent → Answer → Type 0
 AnswersRun root_kind setting events_written reports_written pool_written bytes tokens events trees errors reports a =
     AnswerOfRun root_kind setting events_written reports_written pool_written
     bytes.entry.now tokens.entry.now events.entry.now trees.entry.now errors.entry.now reports.entry.now
     a trees.exit.now errors.exit.now reports.exit.now
 
-abbrev pub AnswersParse : ℕ → ℕ → ℕ → ℕ → ℕ → ℕ → ℕ → Shown → Shown → Lent → Lent → Lent → Lent → Answer → Type 0
+abbrev pub AnswersParse : ℕ → ℕ → ℕ → ℕ → ℕ → ℕ → ℕ → Shown → Shown → Shown → Lent → Lent → Lent → Answer → Type 0
 AnswersParse number place root_kind setting events_written reports_written pool_written bytes tokens events trees errors reports a =
     AnswerOfParse number place root_kind setting events_written reports_written pool_written
     bytes.entry.now tokens.entry.now events.entry.now trees.entry.now errors.entry.now reports.entry.now

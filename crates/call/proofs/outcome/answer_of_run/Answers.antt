@@ -1,0 +1,31 @@
+-- `answer_of_run`: all reports of the setting fit, or one does not.
+use mathlib.Core.Path.{sym}
+use lib.Seq.{length-take-le}
+use Rattle.call.proofs.Ways.{fitted, not_fitted}
+use Rattle.call.proofs.outcome.answer_of_run.Goals as goal
+
+pub slice_bounds-finish-end : goal.slice_bounds-finish-end
+slice_bounds-finish-end c = sym (length-take-le c.args.events_written c.args.events.now c.requires)
+
+pub slice_bounds-report_names-end : goal.slice_bounds-report_names-end
+slice_bounds-report_names-end c = sym (length-take-le c.args.events_written c.args.events.now c.requires)
+
+pub returns-then-fitted : goal.returns-then-fitted
+returns-then-fitted c =
+    let a = c.args in
+    let sunk = c.finish-sunk in
+    let first = c.low32 in
+    let names = c.report_names-names in
+    let answer = c.answer_of_sink in
+    let test = c.if-fitted in
+    fitted a.root_kind a.setting a.events_written a.reports_written a.pool_written a.bytes.now a.tokens.now a.events.now a.trees.now a.errors.now a.reports.now sunk.new.trees sunk.new.errors names.new.reports sunk.result sunk.ensures.promise names.result first.result first.ensures names.ensures.promise answer.result test.true-raw answer.ensures.value answer.ensures.counts_fit
+
+pub returns-else-fitted : goal.returns-else-fitted
+returns-else-fitted c =
+    let a = c.args in
+    let sunk = c.finish-sunk in
+    let first = c.low32 in
+    let names = c.report_names-names in
+    let test = c.if-fitted in
+    let refused = c.refused in
+    not_fitted a.root_kind a.setting a.events_written a.reports_written a.pool_written a.bytes.now a.tokens.now a.events.now a.trees.now a.errors.now a.reports.now sunk.new.trees sunk.new.errors names.new.reports sunk.result sunk.ensures.promise names.result first.result first.ensures names.ensures.promise refused.result test.false-raw refused.ensures
