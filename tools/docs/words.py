@@ -10,8 +10,8 @@ NAME = re.compile(r"`((?:[A-Za-z][\w'-]*(?:::|\.))*[A-Za-z][\w'-]{2,})(?:\(\))?`
 AFTER_PATH = re.compile(r"`?,? (?:the contracts? of )?")
 BETWEEN = re.compile(r",? (?:and |to )?")
 BEFORE_PATH = re.compile(r"(?: in | \(|, )`?")
-# records of what was: their paths need only have been
-RECORDS = "docs/LANDINGS.md", "docs/PORT.md"
+# a record of what was: its paths need only have been
+RECORD = "docs/LANDINGS.md"
 
 
 class Checker:
@@ -35,7 +35,7 @@ class Checker:
                 files[found] = self.paths.resolve(found.path, self.document.path, self.crates)
                 if not files[found]:
                     self.lost(block.start + found.place, found.path)
-        if self.document.path not in RECORDS and block.kind != "code":
+        if self.document.path != RECORD and block.kind != "code":
             self.names(block, *by_place(block.text, files))
 
     def name_crates(self, block):
@@ -120,7 +120,7 @@ def was(path, name):
 
 
 def check(repository, document, exceptions, faults):
-    kind = RecordChecker if document.path in RECORDS else Checker
+    kind = RecordChecker if document.path == RECORD else Checker
     checker = kind(repository, document, exceptions, faults)
     for block in document.blocks:
         checker.block(block)
