@@ -4,8 +4,8 @@
  *
  * Written by tools/numbers from docs/src, docs/01-scope.md and crates/definitions: change those, not this file.
  *
- * Names are those of docs/src where it has one (`Semicolon`), else those of the definitions (`unclosed-node`). Texts
- * are UTF-8. No function returns NULL: for a number that has no name or text it is "?".
+ * Names are those of docs/src where it has one (`Semicolon`), else those of the definitions with hyphens
+ * (`unclosed-node`). Texts are UTF-8. No function returns NULL: for a number that has no name or text it is "?".
  */
 #ifndef DT_NAMES_H
 #define DT_NAMES_H

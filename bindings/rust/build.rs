@@ -52,14 +52,23 @@ fn library() -> Result<PathBuf, String> {
             help()
         )),
         given => {
-            let made_from = if given.is_none() { ["crates", "crates.txt"].as_slice() } else { &[] };
-            for file in made_from {
-                println!("cargo::rerun-if-changed={}", root.join(file).display());
+            for file in if given.is_none() { made_from(&root) } else { Vec::new() } {
+                println!("cargo::rerun-if-changed={}", file.display());
             }
             println!("cargo::rerun-if-changed={}", script.display());
             printed_by(&script)
         }
     }
+}
+
+/// The sources, without crates/NAME/out, where the kit keeps what it makes.
+fn made_from(root: &Path) -> Vec<PathBuf> {
+    let inside = |folder: &Path| -> Vec<PathBuf> {
+        std::fs::read_dir(folder).into_iter().flatten().flatten().map(|entry| entry.path()).collect()
+    };
+    let crates = inside(&root.join("crates"));
+    let parts = crates.iter().flat_map(|folder| inside(folder)).filter(|part| !part.ends_with("out"));
+    parts.chain([root.join("crates.txt")]).collect()
 }
 
 fn printed_by(script: &Path) -> Result<PathBuf, String> {

@@ -9,7 +9,8 @@ unset DT_PARSER_LIB
 
 copy=$work/copy
 mkdir -p "$copy/bindings/rust"
-cp -R "$root/crates" "$root/crates.txt" "$root/dtparse" "$root/lib" "$root/tools" "$root/examples" "$root/.ci" "$copy/"
+(cd "$root" && find crates -path 'crates/*/out' -prune -o -type f -exec cp --parents -t "$copy" {} +)
+cp -R "$root/crates.txt" "$root/dtparse" "$root/lib" "$root/tools" "$root/examples" "$root/.ci" "$copy/"
 for part in src build.rs Cargo.toml Cargo.lock README.md; do
     cp -R "$root/bindings/rust/$part" "$copy/bindings/rust/"
 done

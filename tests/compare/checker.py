@@ -1,7 +1,7 @@
-"""Has the checker compute the definitions. Each case becomes one line of a proof file, `call .. ≡ result`, `text-call ..
-≡ result` or `query-call .. ≡ result`, whose proof is `refl`: the checker accepts it exactly if computing `call` gives
-the result. A longer text is computed with one scan in the place of the search for the longest match (`by-scan` of crates/lexing
-proves that it is the same). The files stand in a temporary repository with a copy of crates/definitions (its specs;
+"""Has the checker compute the definitions. Each case becomes one line of a proof file, `call .. ≡ result`, `text_call ..
+≡ result` or `query_call .. ≡ result`, whose proof is `refl`: the checker accepts it exactly if computing `call` gives
+the result. A longer text is computed with one scan in the place of the search for the longest match (`by_scan` of
+crates/lexing proves that it is the same). The files stand in a temporary repository with a copy of crates/definitions (its specs;
 proofs about them are not needed) and of the crates that prove the scan."""
 import os
 import re
@@ -25,31 +25,29 @@ CRATES = {
 
 HOLE = "?"
 # how the definitions name the refusals of a text, which the checker prints
-REFUSALS = {"unknown-entry": UNKNOWN_ENTRY, "too-long": TOO_LONG, "has-high-byte": HIGH_BYTE, "has-directive": DIRECTIVE}
+REFUSALS = {"unknown_entry": UNKNOWN_ENTRY, "too_long": TOO_LONG, "has_high_byte": HIGH_BYTE, "has_directive": DIRECTIVE}
 
-HEAD = """use mathlib.Core.Path.{_≡_, refl, _∙_}
-use Prim.Native.Nat.{ℕ}
-use mathlib.Core.List.{List, [], _∷_, _++_}
-use lib.ListN.{replicate}
-use Rattle·definitions.specs.Call.{Buffers, Answer, Result, call}
-use Rattle·definitions.specs.Text.{Text-result, text-call}
-use Rattle·definitions.specs.Caret.{Query, caret, range, List-result, query-call}
-use Rattle·lexing.proofs.ByScan.{scan-after, call-of, by-scan}
+HEAD = """use mathlib.Core.Path.{◌≡◌, refl, ◌∙◌}
+use Rattle.std.specs.Prelude.{ℕ, List, [], ◌∷◌, ◌++◌, replicate}
+use Rattle.definitions.specs.Call.{Buffers, Answer, Result, call}
+use Rattle.definitions.specs.Text.{TextResult, text_call}
+use Rattle.definitions.specs.Caret.{Query, caret, range, ListResult, query_call}
+use Rattle.lexing.proofs.ByScan.{scan_after, call_of, by_scan}
 
 abbrev lent : List ℕ → List ℕ → List ℕ → List ℕ → List ℕ → Buffers
 lent e t x r p = record { events = e; trees = t; errors = x; reports = r; pool = p }
 
 abbrev answer : ℕ → ℕ → ℕ → ℕ → ℕ → ℕ → Answer
-answer n p t x r e = record { number = n; place = p; tree-count = t; error-count = x; report-count = r; expectation-count = e }
+answer n p t x r e = record { number = n; place = p; tree_count = t; error_count = x; report_count = r; expectation_count = e }
 
 abbrev result : Answer → Buffers → Result
 result a l = record { answer = a; buffers = l }
 
-abbrev text-result : Answer → ℕ → List ℕ → Buffers → Text-result
-text-result a c t l = record { answer = a; token-count = c; tokens = t; buffers = l }
+abbrev text_result : Answer → ℕ → List ℕ → Buffers → TextResult
+text_result a c t l = record { answer = a; token_count = c; tokens = t; buffers = l }
 
-abbrev list-result : Answer → ℕ → List ℕ → Buffers → List-result
-list-result a c t l = record { answer = a; list-count = c; list = t; buffers = l }
+abbrev list_result : Answer → ℕ → List ℕ → Buffers → ListResult
+list_result a c t l = record { answer = a; list_count = c; list = t; buffers = l }
 
 """
 
@@ -87,14 +85,14 @@ def text_statement(name, case, result, proof):
     tokens, *buffers = case.lent()
     given = "%d %d %s %s %s" % (case.entry, case.setting, data, antt_list(tokens), lent(buffers))
     counted = "%s %d" % (answer(result.answer), result.token_count)
-    after = "text-result %s %s %s" % (counted, antt_list(result.tokens), lent(result.buffers))
-    call, unfolding = "text-call " + given, "text-call"
+    after = "text_result %s %s %s" % (counted, antt_list(result.tokens), lent(result.buffers))
+    call, unfolding = "text_call " + given, "text_call"
     if len(case.data) > SHORT:
-        unfolding = "call-of scan-after"
+        unfolding = "call_of scan_after"
         if proof == HOLE:
-            call = "call-of (scan-after 0 %s) %s" % (data, given)
+            call = "call_of (scan_after 0 %s) %s" % (data, given)
         else:
-            proof = "by-scan %s ∙ %s" % (given, proof)
+            proof = "by_scan %s ∙ %s" % (given, proof)
     return "%s : %s ≡ %s\nunfolding %s\n%s = %s\n\n" % (name, call, after, unfolding, name, proof)
 
 
@@ -104,8 +102,8 @@ def query_statement(name, case, result, proof):
     data, numbers = antt_list(list(parse.data())), antt_list(parse.numbers())
     given = "%s %d %s %s %s %s" % (asked, parse.setting, data, numbers, lent(parse.lent()), antt_list(case.lent()))
     counted = "%s %d" % (answer(result.answer), result.list_count)
-    after = "list-result %s %s %s" % (counted, antt_list(result.list), lent(result.buffers))
-    return "%s : query-call %s ≡ %s\nunfolding query-call\n%s = %s\n\n" % (name, given, after, name, proof)
+    after = "list_result %s %s %s" % (counted, antt_list(result.list), lent(result.buffers))
+    return "%s : query_call %s ≡ %s\nunfolding query_call\n%s = %s\n\n" % (name, given, after, name, proof)
 
 
 STATEMENTS = {TextCase: text_statement, QueryCase: query_statement}
@@ -117,9 +115,8 @@ def statement(name, case, result, proof):
 
 
 class Checker:
-    def __init__(self, root, jobs, dev):
-        """dev: by `rt dev`, the quick check of the edit loop, and not by `rt check`."""
-        self.jobs, self.dev = jobs, dev
+    def __init__(self, root, jobs):
+        self.jobs = jobs
         self.folder = tempfile.mkdtemp(prefix="compare-definitions-")
         for crate in CRATES:
             for part in ("src", "specs") if crate == "definitions" else ("src", "specs", "proofs"):
@@ -130,7 +127,7 @@ class Checker:
         needed = dict(CRATES, **{name: "definitions lexing" for name in names})
         lines = ["%s: %s" % (name, of) for name, of in needed.items()]
         self.write(os.path.join(self.folder, "crates.txt"), "\n".join(lines) + "\n")
-        good, said = self.check(["lexing"])
+        good, said = self.check()
         if not good:
             self.close()
             raise SystemExit("crates/definitions, or what the scan rests on, does not check:\n" + said)
@@ -142,6 +139,7 @@ class Checker:
         self.write(self.path(name, "src", "lib.rt"), "// no code\n")
         self.write(self.path(name, "specs", "Lib.antt"), "")
         self.write(self.path(name, "proofs", "Lib.antt"), "pub mod %s\n" % module)
+        self.write(self.path(name, "proofs", "%s.antt" % module), HEAD)
 
     def close(self):
         shutil.rmtree(self.folder)
@@ -154,24 +152,25 @@ class Checker:
         with open(path, "w", encoding="utf-8") as f:
             f.write(text)
 
-    def rt(self, *words):
-        env = dict(os.environ, RT_JOBS=str(self.jobs), RT_CUT="0")
-        return subprocess.run(("rt",) + words, cwd=self.folder, env=env, text=True, stdout=subprocess.PIPE, stderr=subprocess.STDOUT)
+    def rt(self, folder, *words):
+        return subprocess.run(("rt",) + words, cwd=folder, text=True, stdout=subprocess.PIPE, stderr=subprocess.STDOUT)
 
-    def check(self, names):
-        """Whether these crates are proved, and what was said."""
-        runs = [self.rt("dev", name) for name in names] if self.dev else [self.rt("check", *names)]
-        return all(run.returncode == 0 for run in runs), "".join(run.stdout for run in runs)
+    def check(self):
+        """Whether the cases are proved, and what was said. What has not changed is kept from the check before."""
+        if self.jobs == 1:
+            run = self.rt(self.path("cases_0"), "check")
+        else:
+            run = self.rt(self.folder, "all", "check", "--jobs", str(self.jobs))
+        return run.returncode == 0, run.stdout
 
     def failing(self, pairs):
         """Which of the (case, result) pairs the checker does not accept, by index."""
         if not pairs:
             return []
-        used = min(self.jobs, len(pairs))
-        for j in range(used):
-            lines = [statement("c%d" % i, *pairs[i], "refl") for i in range(j, len(pairs), used)]
+        for j in range(self.jobs):
+            lines = [statement("c%d" % i, *pairs[i], "refl") for i in range(j, len(pairs), self.jobs)]
             self.write(self.path("cases_%d" % j, "proofs", "Cases.antt"), HEAD + "".join(lines))
-        good, said = self.check(["cases_%d" % j for j in range(used)])
+        good, said = self.check()
         if good:
             return []
         named = sorted({int(n) for n in re.findall(r"Cases\.antt:\d+:\d+: error: `c(\d+)`", said)})
@@ -187,11 +186,12 @@ class Checker:
         """What the definitions give, read off the goal that the checker prints at a hole; and what it said."""
         text = HEAD + statement("c0", case, result, HOLE)
         self.write(self.path("cases_0", "proofs", "Cases.antt"), text)
-        said = self.rt("dev", "cases_0", "--allow-holes").stdout
-        found = re.search(r"⊢ \S*unchanged\s+\(?\S*\b(%s)\b(?: (\d+))?" % "|".join(REFUSALS), said)
+        said = self.rt(self.path("cases_0"), "check", "--allow-holes").stdout
+        goal = re.sub(r"\s+", " ", said)
+        found = re.search(r"⊢ \S*unchanged \(?\S*\b(%s)\b(?: (\d+))?" % "|".join(REFUSALS), goal)
         if found:
             return unchanged(case, (REFUSALS[found.group(1)], int(found.group(2) or 0))), said
-        found = re.search(r"unfolded: Path (?:Text-r|List-r|R)esult record \{(.*?\})\} record", said)
+        found = re.search(r"unfolded: Path (?:Text|List)?Result record \{(.*?\})\} record", goal)
         if not found:
             return None, said
         front, back = found.group(1).split("buffers")

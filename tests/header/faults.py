@@ -1,7 +1,7 @@
 """The faults that ../test-check-header plants."""
 RUST, SPECS = "docs/src/crates/parser/src/", "crates/definitions/specs/"
 LAYOUT, BOUNDS = SPECS + "Layout.antt", "crates/bounds/specs/Numbers.antt"
-CODE, CRATE = "crates/layout/src/", "bindings/rust/src/"
+CODE, CRATE, EXPORTS = "crates/layout/src/", "bindings/rust/src/", "crates/dt_parser_c/src/lib.rt"
 
 # In which files a number stands so: what must be named, and the number.
 WRITTEN = [
@@ -60,34 +60,34 @@ SOURCES = [
     (SPECS + "StaticText.antt", "K.Semicolon (59", "K.Semicolon (58", "DT_TOKEN_SEMICOLON"),
     (SPECS + "Token.antt", " || eqb k K.BlockComment", "", "DT_TOKEN_BLOCK_COMMENT"),
     (SPECS + "Lex.antt", "L.UnexpectedEndChar", "L.UnexpectedEndString", "UNEXPECTED_END_CHAR"),
-    (SPECS + "Errors.antt", "abbrev pub no-hint", "new-message = 9\n\nabbrev pub no-hint", "new-message"),
-    (SPECS + "Errors.antt", "missing-left-side = 6", "missing-left-side = 6\nnew-hint = 7", "new-hint"),
-    (LAYOUT, "\n-- document 02's: of a token row", "\nNEW-CAUSE = 11\n", "new-cause"),
-    (LAYOUT, "EVENT-TAG = 0", "EVENT-TAG = 0\nEVENT-MORE = 3", "EVENT_MORE"),
+    (SPECS + "Errors.antt", "abbrev pub no_hint", "new_message = 9\n\nabbrev pub no_hint", "new_message"),
+    (SPECS + "Errors.antt", "missing_left_side = 6", "missing_left_side = 6\nnew_hint = 7", "new_hint"),
+    (LAYOUT, "\n-- document 02's: of a token row", "\nNEW_CAUSE = 11\n", "new_cause"),
+    (LAYOUT, "EVENT_TAG = 0", "EVENT_TAG = 0\nEVENT_MORE = 3", "EVENT_MORE"),
     (LAYOUT, "NODE = 0", "NODE = 0\nTWIG = 2", "DT_CLASS_TWIG"),
-    (LAYOUT, "MOST-OPEN-CALLS = 64", "MOST-OPEN-CALLS = 64\nMOST-ROWS = 9", "DT_MAX_ROWS"),
+    (LAYOUT, "MOST_OPEN_CALLS = 64", "MOST_OPEN_CALLS = 64\nMOST_ROWS = 9", "DT_MAX_ROWS"),
     (SPECS + "Text.antt", 'ascii "undef" ∷', 'ascii "undefine" ∷', "undefine"),
-    (SPECS + "Text.antt", "(has-directive i) =", "has-directive =", "Directive"),
+    (SPECS + "Text.antt", "(has_directive i) =", "has_directive =", "Directive"),
     (SPECS + "RowCauses.antt", " && not (eqb k K.Name)", "", "DT_REFUSAL_BAD_KIND"),
     (SPECS + "RowCauses.antt", "leb k K.QuestionMark", "leb k K.Comma", "DT_REFUSAL_BAD_KIND"),
     (SPECS + "RowCauses.antt", "leb k L.Default", "leb k L.UnexpectedEndChar", "DT_REFUSAL_BAD_KIND"),
-    (BOUNDS, "e bytes ts) ≤ length ts", "e bytes ts) ≤ 1 + length ts", "names-of"),
+    (BOUNDS, "e bytes ts) ≤ length ts", "e bytes ts) ≤ 1 + length ts", "names_of"),
     (BOUNDS, "events n = 13 * n", "events n = 12 * n", "DT_EVENTS_FOR"),
     (BOUNDS, "rows n = 6 * n + 1", "rows n = 6 * n + 2", "DT_TREES_FOR"),
     (BOUNDS, "reports n = 3 * n", "reports n = 2 * n", "DT_REPORTS_FOR"),
     (BOUNDS, "expectations n = 207 * n", "expectations n = 69 * n", "DT_POOL_FOR"),
-    ("crates/lexing/specs/Joined.antt", "→ 1 ≤ t .len", "→ 0 ≤ t .len", "DT_TOKENS_FOR"),
-    ("crates/queries/specs/AsParsed.antt", ".tree-count ≤ length list", ".tree-count - 1 ≤ length list", "DT_LIST_FOR"),
+    ("crates/lexing/specs/Joined.antt", "→ 1 ≤ t.len", "→ 0 ≤ t.len", "DT_TOKENS_FOR"),
+    ("crates/queries/specs/AsParsed.antt", ".tree_count ≤ length list", ".tree_count - 1 ≤ length list", "DT_LIST_FOR"),
     ("crates/call/src/text.rt", "pub token_count: usize", "pub token_count: u32", "dt_text_answer"),
     ("crates/call/src/text.rt", "#[repr(C)]", "", "TextAnswer"),
     ("crates/call/src/list.rt", "pub list_count: usize", "pub list_count: u32", "ListAnswer"),
-    ("crates/dt_parser/src/text.rt", "fn dt_parse_text(\n    entry: u32,\n    setting: u32,",
+    (EXPORTS, "fn dt_parse_text(\n    entry: u32,\n    setting: u32,",
      "fn dt_parse_text(\n    setting: u32,\n    entry: u32,", "dt_parse_text"),
-    ("crates/dt_parser/src/text.rt", "fn dt_parse_text(", "fn dt_parse_source(", "dt_parse_source"),
-    ("crates/dt_parser/src/query.rt", "    offset: u64,", "    offset: u32,", "dt_caret"),
-    ("crates/dt_parser/src/query.rt", "    start: u64,\n    end: u64,", "    end: u64,\n    start: u64,",
+    (EXPORTS, "fn dt_parse_text(", "fn dt_parse_source(", "dt_parse_source"),
+    (EXPORTS, "    offset: u64,", "    offset: u32,", "dt_caret"),
+    (EXPORTS, "    start: u64,\n    end: u64,", "    end: u64,\n    start: u64,",
      "dt_parts_in_range"),
-    ("crates/dt_parser/src/query.rt", "fn dt_parts_in_range(", "fn dt_parts(", "dt_parts"),
+    (EXPORTS, "fn dt_parts_in_range(", "fn dt_parts(", "dt_parts"),
     ("bindings/rust/Cargo.toml", '\nversion = "', '\nversion = "9', "DT_PARSER_VERSION"),
 ]
 

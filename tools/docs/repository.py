@@ -88,7 +88,7 @@ def above(path):
 
 def walked(root):
     for folder, folders, names in os.walk(root):
-        folders[:] = [name for name in folders if name not in ("target", ".git")]
+        folders[:] = [name for name in folders if name not in ("target", "out", ".git")]
         for name in names:
             yield os.path.relpath(os.path.join(folder, name), root)
 

@@ -4,7 +4,7 @@ import typing
 
 from header.sources import SourceFault
 
-EXPORTED, ANSWERS = "crates/dt_parser/src/*.rt", "crates/call/src/*.rt"
+EXPORTED, ANSWERS = "crates/dt_parser_c/src/*.rt", "crates/call/src/*.rt"
 # What the code's types are in C and, of a pointer, in Rust.
 IN_C = {
     "u32": "uint32_t ", "u64": "uint64_t ", "usize": "size_t ",
@@ -54,7 +54,7 @@ def structs(repo):
     """The answers' members with their types, by the structs' names."""
     found = {}
     for path in repo.files(ANSWERS):
-        for name, body in re.findall(r"#\[repr\(C\)\]\npub struct (\w+) \{\n(.*?)\n\}", repo.text(path), re.S):
+        for name, body in re.findall(r"#\[repr\(C\)\]\n(?:#\[[^\n]*\]\n)*pub struct (\w+) \{\n(.*?)\n\}", repo.text(path), re.S):
             found[name] = re.findall(r"^    pub (\w+): (\w+),$", body, re.M)
     for call in calls(repo).values():
         if call.answer not in found:

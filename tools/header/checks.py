@@ -35,7 +35,7 @@ def expectations(numbers):
     repo, others = numbers.repo, numbers.expectations
     ours = repo.numbers(SPECS + "Errors.antt", "`Expected`")
     yield from differing(SPECS + "Errors.antt", ours, {name: others.get(name) for name in ours})
-    counts = {"KIND-CODES": len(numbers.token_kinds), "FIRST-OTHER": 101, "OTHER-CODES": len(others)}
+    counts = {"KIND_CODES": len(numbers.token_kinds), "FIRST_OTHER": 101, "OTHER_CODES": len(others)}
     table = repo.numbers(LAYOUT)
     yield from differing(LAYOUT, {name: table.get(name) for name in counts}, counts)
 
@@ -70,7 +70,7 @@ def kinds_in_sentences(numbers):
 
 def row_kinds(numbers):
     """The kinds that a token row may have, as ranges of numbers."""
-    said = numbers.repo.found(r"^is-kind k = \(leb k K\.(\w+)([^\n]*)\) \|\| \(leb L\.(\w+) k && leb k L\.(\w+)\)$",
+    said = numbers.repo.found(r"^is_kind k = \(leb k K\.(\w+)([^\n]*)\) \|\| \(leb L\.(\w+) k && leb k L\.(\w+)\)$",
                               SPECS + "RowCauses.antt")
     kinds, errors = numbers.token_kinds, numbers.lex_errors
     left_out = {kinds[name] for name in re.findall(r" && not \(eqb k K\.(\w+)\)", said[2])}
@@ -83,7 +83,7 @@ def directive_words(numbers):
     """The words that DT_REFUSAL_DIRECTIVE lists are those that a text is refused for."""
     listed = re.search(r"DT_REFUSAL_DIRECTIVE = .*? begins with (.*?), as ", numbers.repo.text(HEADER), re.S)
     words = re.findall(r"\w+", listed[1].replace(" or ", " ") if listed else "")
-    body = numbers.repo.found(r"^directive-words =\n(.*?)\[\]", SPECS + "Text.antt")[1]
+    body = numbers.repo.found(r"^directive_words =\n(.*?)\[\]", SPECS + "Text.antt")[1]
     wanted = re.findall(r'ascii "(\w+)"', body)
     if words != wanted:
         yield f"{HEADER}: DT_REFUSAL_DIRECTIVE lists {words}, but {SPECS}Text.antt has {wanted}"
@@ -95,7 +95,7 @@ def directive_words(numbers):
 def token_length(numbers):
     """A token has a byte or more, and all of them have the text's: so there are no more tokens than bytes."""
     path = "crates/lexing/specs/Joined.antt"
-    proved = [said in numbers.repo.text(path) for said in ("→ 1 ≤ t .len", "byte-count (lex s) ≡ length s")]
+    proved = [said in numbers.repo.text(path) for said in ("→ 1 ≤ t.len", "byte_count (lex s) ≡ length s")]
     most = "(size_t)DT_MAX_TOKEN_NUMBERS"
     wanted = f"((size_t)(bytes) < {most} / DT_ROW_TOKEN ? DT_ROW_TOKEN * (size_t)(bytes) : {most})"
     yield from length(numbers, "DT_TOKENS_FOR(bytes)", wanted, path, all(proved))
@@ -104,7 +104,7 @@ def token_length(numbers):
 def list_length(numbers):
     """A list for as many numbers as there are tree rows always fits: so one for the rows of the tree's buffer."""
     path = "crates/queries/specs/AsParsed.antt"
-    proved = "→ call 1 setting bytes tokens b .answer .tree-count ≤ length list\n" in numbers.repo.text(path)
+    proved = "→ (call 1 setting bytes tokens b).answer.tree_count ≤ length list\n" in numbers.repo.text(path)
     yield from length(numbers, "DT_LIST_FOR(trees_len)", "((size_t)(trees_len) / DT_ROW_TREE)", path, proved)
 
 

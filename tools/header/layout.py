@@ -28,11 +28,11 @@ def lines(table, kind, spelled=str):
 
 def tables(numbers):
     """Of each file the constants with their types."""
-    most = {f"MOST-{n.replace('EXPECTATIONS', 'PENDING')}": v for n, v in numbers.limits.items() if n != "TOKENS"}
-    hints = {n.replace("none", "no-hint"): v for n, v in numbers.hints.items()}
-    sizes = {f"{row}-ROW": size for row, size in numbers.row_sizes.items()}
+    most = {f"MOST_{n.replace('EXPECTATIONS', 'PENDING')}": v for n, v in numbers.limits.items() if n != "TOKENS"}
+    hints = {n.replace("none", "no_hint"): v for n, v in numbers.hints.items()}
+    sizes = {f"{row}_ROW": size for row, size in numbers.row_sizes.items()}
     codes = numbers.repo.numbers(LAYOUT)
-    ends = {"KIND-CODES": codes["KIND-CODES"], "PAST-OTHERS": codes["FIRST-OTHER"] + codes["OTHER-CODES"]}
+    ends = {"KIND_CODES": codes["KIND_CODES"], "PAST_OTHERS": codes["FIRST_OTHER"] + codes["OTHER_CODES"]}
     yield "token_kind", [(numbers.token_kinds, "u8"), (lex_error_ends(numbers), "u32")]
     yield "lex_error", [(numbers.made_lex_errors, "u32")]
     yield "node_kind", [(numbers.node_kinds, "u32")]
@@ -61,7 +61,7 @@ FILES = {f"{CODE}{name}.rt": functools.partial(code_edits, name) for name in NAM
 
 
 def word_edits(numbers, text):
-    most = numbers.repo.numbers(LAYOUT)["TWO-TO-32"]
+    most = numbers.repo.numbers(LAYOUT)["TWO_TO_32"]
     yield put(text, "TWO_TO_32", r"^const TWO_TO_32: usize = \d+;$", f"const TWO_TO_32: usize = {most};", 0)
 
 

@@ -10,35 +10,35 @@ GRAMMAR, EXPR, DIRECTIVES = RUST + "grammar.rs", RUST + "grammar/expr.rs", RUST 
 
 # Where the Rust makes each message and hint of Errors.antt: file, function, and which of the function's, from 0.
 MESSAGES = {
-    "unmatched-rcurly": (GRAMMAR, "entry_sourcefile", 0),
-    "unmatched-semicolon": (GRAMMAR, "item", 0),
-    "unmatched-endif": (DIRECTIVES, "catch_unmatched_pp_directive", 0),
-    "stray-continuation": (DIRECTIVES, "catch_unmatched_pp_directive", 1),
-    "at-sign-in-label": (GRAMMAR, "eat_node_or_prop_prefix", 0),
-    "unclosed-node": (GRAMMAR, "dt_node_body", 0),
+    "unmatched_rcurly": (GRAMMAR, "entry_sourcefile", 0),
+    "unmatched_semicolon": (GRAMMAR, "item", 0),
+    "unmatched_endif": (DIRECTIVES, "catch_unmatched_pp_directive", 0),
+    "stray_continuation": (DIRECTIVES, "catch_unmatched_pp_directive", 1),
+    "at_sign_in_label": (GRAMMAR, "eat_node_or_prop_prefix", 0),
+    "unclosed_node": (GRAMMAR, "dt_node_body", 0),
 }
 # Messages that the Rust lacks, and where they have a text in the style of its own.
-ADDED_MESSAGES, ADDED_TEXTS = ["not-a-label"], "bindings/rust/src/message.rs"
+ADDED_MESSAGES, ADDED_TEXTS = ["not_a_label"], "bindings/rust/src/message.rs"
 # Causes of document 02: those that it adds to document 01's table, and what it makes of causes 3, 5 and 8 there.
 ADDED_CAUSES = {
-    "high-byte": "byte of 128 or more",
+    "high_byte": "byte of 128 or more",
     "directive": "preprocessor directive at a token start",
-    "bad-kind": "bad kind of a token row",
-    "zero-length": "token row of length 0",
-    "bad-end": "a token ends past the input, or the total is short",
+    "bad_kind": "bad kind of a token row",
+    "zero_length": "token row of length 0",
+    "bad_end": "a token ends past the input, or the total is short",
 }
 CHANGED_CAUSES = {
-    "odd-count": "odd count of token numbers",
-    "too-deep": "a 65th open call",
-    "no-tree-room": "tree, lexical errors or the list of a query don't fit",
+    "odd_count": "odd count of token numbers",
+    "too_deep": "a 65th open call",
+    "no_tree_room": "tree, lexical errors or the list of a query don't fit",
 }
 HINTS = {
-    "unnamed-property": (GRAMMAR, "item", 0),
-    "unnamed-node": (GRAMMAR, "item", 1),
-    "missing-parentheses": (GRAMMAR, "eat_cell", 0),
-    "in-cells": (GRAMMAR, "cells", 0),
-    "property-not-allowed": (GRAMMAR, "eat_node_or_prop", 0),
-    "missing-left-side": (EXPR, "lhs", 0),
+    "unnamed_property": (GRAMMAR, "item", 0),
+    "unnamed_node": (GRAMMAR, "item", 1),
+    "missing_parentheses": (GRAMMAR, "eat_cell", 0),
+    "in_cells": (GRAMMAR, "cells", 0),
+    "property_not_allowed": (GRAMMAR, "eat_node_or_prop", 0),
+    "missing_left_side": (EXPR, "lhs", 0),
 }
 LABEL = GRAMMAR, "dt_node_body", 0
 
@@ -48,8 +48,8 @@ TOP = """/*
  *
  * Written by tools/numbers from docs/src, docs/01-scope.md and crates/definitions: change those, not this file.
  *
- * Names are those of docs/src where it has one (`Semicolon`), else those of the definitions (`unclosed-node`). Texts
- * are UTF-8. No function returns NULL: for a number that has no name or text it is "?".
+ * Names are those of docs/src where it has one (`Semicolon`), else those of the definitions with hyphens
+ * (`unclosed-node`). Texts are UTF-8. No function returns NULL: for a number that has no name or text it is "?".
  */
 #ifndef DT_NAMES_H
 #define DT_NAMES_H
@@ -178,7 +178,7 @@ def cases(prefix, table, texts=None):
     for name in table:
         if texts is not None and name not in texts:
             raise SourceFault(f"no text for {name}: tools/header/names.py says where texts are from")
-        yield prefix + snake(name), name if texts is None else texts[name]
+        yield prefix + snake(name), name.replace("_", "-") if texts is None else texts[name]
 
 
 def of_calls(numbers):

@@ -13,7 +13,7 @@ PACKAGE = "bindings/rust/Cargo.toml"
 FIRST_COLUMNS = {"TOKEN": "KIND", "TREE": "CLASS", "ERROR": "NUMBER", "REPORT": "MESSAGE"}
 # What crates/bounds calls the rows of each buffer, and how it bounds the reports of the strict setting.
 BOUNDED = {"EVENTS": "events", "TREES": "rows", "REPORTS": "reports", "POOL": "expectations"}
-NAMES_BOUND = "length (names-of setting e bytes ts) ≤ length ts"
+NAMES_BOUND = "length (names_of setting e bytes ts) ≤ length ts"
 
 
 class Numbers:
@@ -21,24 +21,24 @@ class Numbers:
         self.repo = repo
         self.token_kinds = repo.numbers(SPECS + "TokenKind.antt")
         self.lex_errors = repo.numbers(SPECS + "LexError.antt")
-        # NO-NODE is what a program answers where it makes no node
-        self.node_kinds = {n: v for n, v in repo.numbers(SPECS + "NodeKind.antt").items() if n != "NO-NODE"}
-        self.messages = {n.removeprefix("msg-"): v for n, v in repo.numbers(ERRORS, "messages").items()}
-        self.hints = {"none" if n == "no-hint" else n: v for n, v in repo.numbers(ERRORS, "hints").items()}
+        # NO_NODE is what a program answers where it makes no node
+        self.node_kinds = {n: v for n, v in repo.numbers(SPECS + "NodeKind.antt").items() if n != "NO_NODE"}
+        self.messages = {n.removeprefix("msg_"): v for n, v in repo.numbers(ERRORS, "messages").items()}
+        self.hints = {"none" if n == "no_hint" else n: v for n, v in repo.numbers(ERRORS, "hints").items()}
         self.classes = repo.numbers(LAYOUT, "the first number of a tree row")
         self.event_tags = repo.numbers(LAYOUT, "event.rs")
         self.refusals = repo.numbers(LAYOUT, "document 01's causes")
         # the strict setting is every other number
-        self.settings = {"old": repo.numbers(LAYOUT)["OLD-SETTING"], "strict": 1}
+        self.settings = {"old": repo.numbers(LAYOUT)["OLD_SETTING"], "strict": 1}
         sizes = repo.numbers(LAYOUT, "how many numbers a row has")
-        self.row_sizes = {n.removesuffix("-ROW"): v for n, v in sizes.items()}
+        self.row_sizes = {n.removesuffix("_ROW"): v for n, v in sizes.items()}
         self.places = repo.numbers(LAYOUT, "where a number stands")
         self.calls, self.answers = calls(repo), structs(repo)
 
     @functools.cached_property
     def expectations(self):
         """Those that are not a token's kind. The Rust has one more than the definitions: 102 is never pending."""
-        first = self.repo.numbers(LAYOUT)["FIRST-OTHER"]
+        first = self.repo.numbers(LAYOUT)["FIRST_OTHER"]
         cases = [case for case in self.repo.rust_enum(RUST + "parser/errors.rs", "Expected") if case != "Kind"]
         return {case: first + i for i, case in enumerate(cases)}
 
@@ -51,13 +51,13 @@ class Numbers:
     def limits(self):
         """By their names in the header."""
         table = self.repo.numbers(LAYOUT, "the limits of a call") | self.repo.numbers(LAYOUT, "expectations")
-        limits = {n.removeprefix("MOST-"): v for n, v in table.items() if n.startswith("MOST-")}
+        limits = {n.removeprefix("MOST_"): v for n, v in table.items() if n.startswith("MOST_")}
         return {n.replace("PENDING", "EXPECTATIONS"): v for n, v in limits.items()}
 
     @functools.cached_property
     def placed(self):
         """The refusals that have a place."""
-        found = r"^(?:number-of|text-number) \([\w-]+ \w+\) = ([A-Z-]+)$"
+        found = r"^(?:number_of|text_number) \(\w+ \w+\) = ([A-Z_]+)$"
         return {name for path in (REFUSAL, TEXT) for name in re.findall(found, self.repo.text(path), re.M)}
 
     @functools.cached_property
@@ -65,13 +65,13 @@ class Numbers:
         """Of each row that a caller reads, the columns from the first on."""
         rows = {row: [first] for row, first in FIRST_COLUMNS.items()}
         for name, number in self.places.items():
-            row, column = name.split("-", 1)
+            row, column = name.split("_", 1)
             if row in rows and len(rows[row]) != number:
                 raise SourceFault(f"{LAYOUT}: {name} is {number}, and {len(rows[row])} columns stand before it")
             rows.get(row, []).append(column)
         for row, columns in rows.items():
             if len(columns) != self.row_sizes.get(row):
-                raise SourceFault(f"{LAYOUT}: {row}-ROW is {self.row_sizes.get(row)}, for the columns {columns}")
+                raise SourceFault(f"{LAYOUT}: {row}_ROW is {self.row_sizes.get(row)}, for the columns {columns}")
         return rows
 
     @functools.cached_property
@@ -88,7 +88,7 @@ class Numbers:
                 # a lexical error is that of a token
                 table[name] = 1, 0
                 continue
-            proved = self.repo.found(r"^most-%s n = (\d+) \* n \+ (\d+)$" % BOUNDED[name], BOUNDS)
+            proved = self.repo.found(r"^most_%s n = (\d+) \* n \+ (\d+)$" % BOUNDED[name], BOUNDS)
             table[name] = int(proved[1]), int(proved[2])
         # beside the run's own reports the strict setting has at most as many as there are tokens
         if NAMES_BOUND not in self.repo.text(BOUNDS):
@@ -104,7 +104,7 @@ class Numbers:
 
     @functools.cached_property
     def trivia(self):
-        said = self.repo.found(r"^is-trivia k = (.*?)$", SPECS + "Token.antt")[1]
+        said = self.repo.found(r"^is_trivia k = (.*?)$", SPECS + "Token.antt")[1]
         return re.findall(r"K\.(\w+)", said)
 
     @functools.cached_property

@@ -36,7 +36,7 @@ def enums(numbers):
 
 def lex_error_ends(numbers):
     errors = numbers.lex_errors.values()
-    return {"first-lex-error": min(errors), "last-lex-error": max(errors)}
+    return {"first_lex_error": min(errors), "last_lex_error": max(errors)}
 
 
 # ---------------------------------------------------------------- lists with comments

@@ -96,7 +96,7 @@ def room(numbers, text):
 
 
 def limits(numbers, text):
-    most = {f"MAX_{snake(name)}": number for name, number in numbers.limits.items() if name != "TOKEN-NUMBERS"}
+    most = {f"MAX_{snake(name)}": number for name, number in numbers.limits.items() if name != "TOKEN_NUMBERS"}
     wanted = [(name, f"    pub const {name}: usize = {grouped(number)};") for name, number in most.items()]
     yield listed(text, "the limits", r"^    pub const (MAX_\w+): usize = [\d_]+;$", wanted)
 

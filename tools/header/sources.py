@@ -11,13 +11,13 @@ class SourceFault(Exception):
 
 
 def snake(name):
-    """QuestionMark and question-mark as QUESTION_MARK."""
-    return re.sub("([a-z0-9])([A-Z])", r"\1_\2", name).replace("-", "_").upper()
+    """QuestionMark and question_mark as QUESTION_MARK."""
+    return re.sub("([a-z0-9])([A-Z])", r"\1_\2", name).upper()
 
 
 def camel(name):
-    """question-mark and QUESTION-MARK as QuestionMark."""
-    words = re.split("-", name.lower())
+    """question_mark and QUESTION_MARK as QuestionMark."""
+    words = name.lower().split("_")
     return "".join("RCurly" if word == "rcurly" else word.capitalize() for word in words)
 
 
@@ -54,7 +54,7 @@ class Repository:
     def numbers(self, path, heading=None):
         """The numbers of a file of definitions, sums and quotients of two of them too; or those under a heading."""
         table = {}
-        for name, said in re.findall(r"^([\w-]+) = ([\w-]+(?: [+/] [\w-]+)?)$", self.text(path), re.M):
+        for name, said in re.findall(r"^(\w+) = (\w+(?: [+/] \w+)?)$", self.text(path), re.M):
             value = worth(said.split(), table)
             if value is not None:
                 table[name] = value
@@ -64,7 +64,7 @@ class Repository:
         part = re.search(under, self.text(path), re.M | re.S)
         if not part:
             raise SourceFault(f"{path}: no heading `{heading}`")
-        return {name: table[name] for name in re.findall(r"^([\w-]+) = ", part[1], re.M) if name in table}
+        return {name: table[name] for name in re.findall(r"^(\w+) = ", part[1], re.M) if name in table}
 
     def rust_enum(self, path, name):
         """The cases of one of the Rust's enums, in their order."""

@@ -255,7 +255,7 @@ def bill_(t, p):
     if c == 'call': return t[p[1]]
 
 
-NAMES = {'item': 'item', 'vals': '(propvalues s)', 'cell': '(eat-cell b)', 'expr': '(expr-binding-power m)'}
+NAMES = {'item': 'item', 'vals': '(propvalues s)', 'cell': '(eat_cell b)', 'expr': '(expr_binding_power m)'}
 
 
 # the entries that `row` of Tables.antt writes down; the others must be 0

@@ -2,7 +2,7 @@
 """Writes the automaton of the lexer's rules: crates/lex_table/src/table.rt (the code's table), specs/States.antt (its
 parts, as lists) and proofs/Words.antt (for each state a text that leads to it; which bytes no rule tells apart).
 
-    tools/proofs/lex_table.py            in the repository's root
+    tools/proofs/lex_table.py            in the repository's root; then rt fmt in crates/lex_table
 
 The rules below are those of crates/definitions/specs/Rules.antt, in its order. Nothing here has to be believed: the
 checker compares every entry of the table with the rules (crates/lex_table/proofs/States.antt)."""
@@ -221,12 +221,11 @@ def main():
         out.write(
             f"""-- The automaton of the rules, as lists. {made}; that it is that of the
 -- rules is computed in proofs/States.antt.
-use Prim.Native.Nat.{{ℕ}}
-use mathlib.Core.List.{{List, [], _∷_}}
+use Rattle.std.specs.Prelude.{{ℕ, List, [], ◌∷◌}}
 
 -- the next state, by number: {long} rows, a state's {len(BYTES)} by byte
-unfoldable pub long-rows : List ℕ
-long-rows =
+unfoldable pub long_rows : List ℕ
+long_rows =
     {cons(longs)}
 
 -- a byte's class, for the rows below
@@ -235,8 +234,8 @@ classes =
     {cons(classes)}
 
 -- the next state: {going - long} rows, a state's {len(columns)} by class
-unfoldable pub short-rows : List ℕ
-short-rows =
+unfoldable pub short_rows : List ℕ
+short_rows =
     {cons(shorts)}
 
 -- the kind of the token that ends in a state
@@ -249,7 +248,7 @@ kinds =
         out.write(
             f"""-- What leads to each state, and which bytes no rule tells apart. {made}.
 use Prim.Native.Nat.{{ℕ}}
-use mathlib.Core.List.{{List, [], _∷_}}
+use mathlib.Core.List.{{List, [], ◌∷◌}}
 
 -- for each byte the first that stands in the same classes of the rules
 unfoldable pub firsts : List ℕ
@@ -269,14 +268,14 @@ words =
             f"""// The automaton of the rules: {long} rows of {len(BYTES)}, the classes of the bytes, {going - long} rows of {len(columns)}, the kinds.
 // {made}. It is made once for a call and lent: an array is built anew
 // wherever a function names it.
-ghost use mathlib.Core.Path.{{_≡_}};
-ghost use Rattle·lex_table·specs.specs.Table.{{table as the-table}};
+ghost use Rattle.std.specs.Prelude.{{◌≡◌}};
+ghost use Rattle.lex_table.specs.Table.{{table as the_table}};
 
 pub const TABLE: [u16; {len(table)}] = [
 {"".join(f"    {number},{chr(10)}" for number in table)}];
 
 pub fn table() -> [u16; {len(table)}]
-    ensures {{ λ r. ⌜ r ≡ the-table ⌝ }}
+    ensures {{ result ≡ the_table }}
 {{
     TABLE
 }}

@@ -59,8 +59,7 @@ fn parse(
 // The whole call, for any numbers in the lent slices: the answer and each element of every buffer are what `call` of
 // `definitions` gives. Entry, setting (0: the old one, any other: the strict one), input bytes, token rows; then the
 // buffers: events (work only), tree rows, lexical errors, reports, expectations.
-#[unsafe(no_mangle)]
-pub extern "C" fn dt_parse(
+pub fn dt_parse(
     entry: u32,
     setting: u32,
     bytes: &[u8],

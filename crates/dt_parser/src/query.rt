@@ -112,8 +112,7 @@ fn answer_query(
 // What is under the caret, for any bytes, numbers and lent slices: the answer and each element of every buffer are what
 // `query_call` of `definitions` gives. Setting, byte offset, input bytes, token rows; then the buffers: those of
 // `dt_parse`, and the list of row numbers.
-#[unsafe(no_mangle)]
-pub extern "C" fn dt_caret(
+pub fn dt_caret(
     setting: u32,
     offset: u64,
     bytes: &[u8],
@@ -144,8 +143,7 @@ pub extern "C" fn dt_caret(
 }
 
 // The same for the top-level parts that share a byte with a range, from its first byte to its end.
-#[unsafe(no_mangle)]
-pub extern "C" fn dt_parts_in_range(
+pub fn dt_parts_in_range(
     setting: u32,
     start: u64,
     end: u64,

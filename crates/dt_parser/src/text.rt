@@ -81,8 +81,7 @@ fn parse_entry(
 // The whole call over a text, for any bytes and lent slices: the answer and each element of every buffer are what
 // `text_call` of `definitions` gives. Entry, setting, input bytes; then the buffers: token rows, and those of
 // `dt_parse`.
-#[unsafe(no_mangle)]
-pub extern "C" fn dt_parse_text(
+pub fn dt_parse_text(
     entry: u32,
     setting: u32,
     bytes: &[u8],
