@@ -11,8 +11,8 @@ use Rattle.machine.proofs.Way.{c_fn}
 use Rattle.steps.proofs.Left.{ahead_falls}
 use Rattle.expr.proofs.Chain.{linked_again, linked_last, linked_stop, step_again, step_last, step_none}
 use Rattle.expr.proofs.infix_chain.Reads as reads
-use Rattle.expr.proofs.+expr_binding_power_infix_chain_infix_turn_lhs_missing_lhs_no_lhs_paren_expr_prefix_expr_rhs_ternary_rhs.Lts-infix_chain as lts
-use Rattle.expr.proofs.+expr_binding_power_infix_chain_infix_turn_lhs_missing_lhs_no_lhs_paren_expr_prefix_expr_rhs_ternary_rhs.Proof.Measures.{infix_chain_at, infix_chain_claims}
+use Rattle.expr.proofs.+expression.Lts-infix_chain as lts
+use Rattle.expr.proofs.+expression.Proof.Measures.{infix_chain_at, infix_chain_claims}
 
 -- the chain from here is the chain from the start
 abbrev pub Inv_loop : lts.invariant-loop

@@ -4,8 +4,8 @@ use native.Mathlib.Omega.{arith}
 use Rattle.machine.specs.Walk.{unlabelled}
 use Rattle.machine.proofs.Way.{c_act, c_seq, c_told, c_mark, completed, c_call, way}
 use Rattle.expr.proofs.prefix_expr.Reads as reads
-use Rattle.expr.proofs.+expr_binding_power_infix_chain_infix_turn_lhs_missing_lhs_no_lhs_paren_expr_prefix_expr_rhs_ternary_rhs.Lts-prefix_expr as lts
-use Rattle.expr.proofs.+expr_binding_power_infix_chain_infix_turn_lhs_missing_lhs_no_lhs_paren_expr_prefix_expr_rhs_ternary_rhs.Proof.Measures.{prefix_expr_at, prefix_expr_claims}
+use Rattle.expr.proofs.+expression.Lts-prefix_expr as lts
+use Rattle.expr.proofs.+expression.Proof.Measures.{prefix_expr_at, prefix_expr_claims}
 
 pub new-requires : (t : ℕ) → lts.Need-new-requires (prefix_expr_claims t) (prefix_expr_at t) reads.Post
 new-requires t c κs = tt

@@ -39,16 +39,16 @@ use Rattle.parser.proofs.Parser.silent_at.Reads as silent_at_reads
 use Rattle.parser.proofs.Parser.start.Reads as start_reads
 use Rattle.parser.proofs.marker.Marker.linked.Reads as linked_reads
 use Rattle.parser.proofs.marker.Marker.new.Reads as new_reads
-use Rattle.expr.proofs.+expr_binding_power_infix_chain_infix_turn_lhs_missing_lhs_no_lhs_paren_expr_prefix_expr_rhs_ternary_rhs.Lts-expr_binding_power as expr_binding_power_lts
-use Rattle.expr.proofs.+expr_binding_power_infix_chain_infix_turn_lhs_missing_lhs_no_lhs_paren_expr_prefix_expr_rhs_ternary_rhs.Lts-infix_chain as infix_chain_lts
-use Rattle.expr.proofs.+expr_binding_power_infix_chain_infix_turn_lhs_missing_lhs_no_lhs_paren_expr_prefix_expr_rhs_ternary_rhs.Lts-infix_turn as infix_turn_lts
-use Rattle.expr.proofs.+expr_binding_power_infix_chain_infix_turn_lhs_missing_lhs_no_lhs_paren_expr_prefix_expr_rhs_ternary_rhs.Lts-lhs as lhs_lts
-use Rattle.expr.proofs.+expr_binding_power_infix_chain_infix_turn_lhs_missing_lhs_no_lhs_paren_expr_prefix_expr_rhs_ternary_rhs.Lts-missing_lhs as missing_lhs_lts
-use Rattle.expr.proofs.+expr_binding_power_infix_chain_infix_turn_lhs_missing_lhs_no_lhs_paren_expr_prefix_expr_rhs_ternary_rhs.Lts-no_lhs as no_lhs_lts
-use Rattle.expr.proofs.+expr_binding_power_infix_chain_infix_turn_lhs_missing_lhs_no_lhs_paren_expr_prefix_expr_rhs_ternary_rhs.Lts-paren_expr as paren_expr_lts
-use Rattle.expr.proofs.+expr_binding_power_infix_chain_infix_turn_lhs_missing_lhs_no_lhs_paren_expr_prefix_expr_rhs_ternary_rhs.Lts-prefix_expr as prefix_expr_lts
-use Rattle.expr.proofs.+expr_binding_power_infix_chain_infix_turn_lhs_missing_lhs_no_lhs_paren_expr_prefix_expr_rhs_ternary_rhs.Lts-rhs as rhs_lts
-use Rattle.expr.proofs.+expr_binding_power_infix_chain_infix_turn_lhs_missing_lhs_no_lhs_paren_expr_prefix_expr_rhs_ternary_rhs.Lts-ternary_rhs as ternary_rhs_lts
+use Rattle.expr.proofs.+expression.Lts-expr_binding_power as expr_binding_power_lts
+use Rattle.expr.proofs.+expression.Lts-infix_chain as infix_chain_lts
+use Rattle.expr.proofs.+expression.Lts-infix_turn as infix_turn_lts
+use Rattle.expr.proofs.+expression.Lts-lhs as lhs_lts
+use Rattle.expr.proofs.+expression.Lts-missing_lhs as missing_lhs_lts
+use Rattle.expr.proofs.+expression.Lts-no_lhs as no_lhs_lts
+use Rattle.expr.proofs.+expression.Lts-paren_expr as paren_expr_lts
+use Rattle.expr.proofs.+expression.Lts-prefix_expr as prefix_expr_lts
+use Rattle.expr.proofs.+expression.Lts-rhs as rhs_lts
+use Rattle.expr.proofs.+expression.Lts-ternary_rhs as ternary_rhs_lts
 
 abbrev pub μ_expr_binding_power : Measures 4 expr_binding_power_kinds.ps ℕ
 μ_expr_binding_power κs a = a.1.1.1.1.1.0 * 8 + 0

@@ -12,8 +12,8 @@ use Rattle.machine.specs.Walk.{said}
 use Rattle.machine.proofs.Way.{c_ret, c_yes, c_no, c_fn, way, rule_closed, rule_body}
 use Rattle.expr.proofs.Chain.{chained_on, chained_off}
 use Rattle.expr.proofs.expr_binding_power.Reads as reads
-use Rattle.expr.proofs.+expr_binding_power_infix_chain_infix_turn_lhs_missing_lhs_no_lhs_paren_expr_prefix_expr_rhs_ternary_rhs.Lts-expr_binding_power as lts
-use Rattle.expr.proofs.+expr_binding_power_infix_chain_infix_turn_lhs_missing_lhs_no_lhs_paren_expr_prefix_expr_rhs_ternary_rhs.Proof.Measures.{expr_binding_power_at, expr_binding_power_claims}
+use Rattle.expr.proofs.+expression.Lts-expr_binding_power as lts
+use Rattle.expr.proofs.+expression.Proof.Measures.{expr_binding_power_at, expr_binding_power_claims}
 
 pub refuse-requires : (t : ℕ) → lts.Need-refuse-requires (expr_binding_power_claims t) (expr_binding_power_at t) reads.Post
 refuse-requires t c κs = tt

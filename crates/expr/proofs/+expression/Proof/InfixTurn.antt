@@ -7,8 +7,8 @@ use Rattle.machine.specs.Walk.{unlabelled}
 use Rattle.machine.proofs.Way.{c_act, c_seq, c_fn, way}
 use Rattle.expr.proofs.Levels.{turn_none, turn_weaker, turn_ternary, turn_binary}
 use Rattle.expr.proofs.infix_turn.Reads as reads
-use Rattle.expr.proofs.+expr_binding_power_infix_chain_infix_turn_lhs_missing_lhs_no_lhs_paren_expr_prefix_expr_rhs_ternary_rhs.Lts-infix_turn as lts
-use Rattle.expr.proofs.+expr_binding_power_infix_chain_infix_turn_lhs_missing_lhs_no_lhs_paren_expr_prefix_expr_rhs_ternary_rhs.Proof.Measures.{infix_turn_at, infix_turn_claims}
+use Rattle.expr.proofs.+expression.Lts-infix_turn as lts
+use Rattle.expr.proofs.+expression.Proof.Measures.{infix_turn_at, infix_turn_claims}
 
 pub infix-op-at-requires : (t : ℕ) → lts.Need-infix-op-at-requires (infix_turn_claims t) (infix_turn_at t) reads.Post
 infix-op-at-requires t c κs = tt

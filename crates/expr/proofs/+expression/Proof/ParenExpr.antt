@@ -5,8 +5,8 @@ use Rattle.definitions.specs.Token.{tokens_of}
 use Rattle.machine.specs.Walk.{walk_rule, unlabelled}
 use Rattle.machine.proofs.Way.{c_walk, c_act, c_seq, c_told_past, c_mark, completed, c_call, way}
 use Rattle.expr.proofs.paren_expr.Reads as reads
-use Rattle.expr.proofs.+expr_binding_power_infix_chain_infix_turn_lhs_missing_lhs_no_lhs_paren_expr_prefix_expr_rhs_ternary_rhs.Lts-paren_expr as lts
-use Rattle.expr.proofs.+expr_binding_power_infix_chain_infix_turn_lhs_missing_lhs_no_lhs_paren_expr_prefix_expr_rhs_ternary_rhs.Proof.Measures.{paren_expr_at, paren_expr_claims}
+use Rattle.expr.proofs.+expression.Lts-paren_expr as lts
+use Rattle.expr.proofs.+expression.Proof.Measures.{paren_expr_at, paren_expr_claims}
 
 pub new-requires : (t : ℕ) → lts.Need-new-requires (paren_expr_claims t) (paren_expr_at t) reads.Post
 new-requires t c κs = tt

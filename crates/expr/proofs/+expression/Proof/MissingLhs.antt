@@ -5,8 +5,8 @@ use Rattle.definitions.specs.Token.{tokens_of}
 use Rattle.machine.specs.Walk.{walk_rule, unlabelled}
 use Rattle.machine.proofs.Way.{c_walk, c_act, c_ret, c_seq, c_mark, completed, c_call, way}
 use Rattle.expr.proofs.missing_lhs.Reads as reads
-use Rattle.expr.proofs.+expr_binding_power_infix_chain_infix_turn_lhs_missing_lhs_no_lhs_paren_expr_prefix_expr_rhs_ternary_rhs.Lts-missing_lhs as lts
-use Rattle.expr.proofs.+expr_binding_power_infix_chain_infix_turn_lhs_missing_lhs_no_lhs_paren_expr_prefix_expr_rhs_ternary_rhs.Proof.Measures.{missing_lhs_at, missing_lhs_claims}
+use Rattle.expr.proofs.+expression.Lts-missing_lhs as lts
+use Rattle.expr.proofs.+expression.Proof.Measures.{missing_lhs_at, missing_lhs_claims}
 
 pub error-requires : (t : ℕ) → lts.Need-error-requires (missing_lhs_claims t) (missing_lhs_at t) reads.Post
 error-requires t c κs = tt

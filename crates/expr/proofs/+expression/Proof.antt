@@ -9,29 +9,29 @@ use Rattle.expr.proofs.paren_expr.Reads as paren_expr
 use Rattle.expr.proofs.prefix_expr.Reads as prefix_expr
 use Rattle.expr.proofs.rhs.Reads as rhs
 use Rattle.expr.proofs.ternary_rhs.Reads as ternary_rhs
-use Rattle.expr.proofs.+expr_binding_power_infix_chain_infix_turn_lhs_missing_lhs_no_lhs_paren_expr_prefix_expr_rhs_ternary_rhs.Lts-expr_binding_power as expr_binding_power_lts
-use Rattle.expr.proofs.+expr_binding_power_infix_chain_infix_turn_lhs_missing_lhs_no_lhs_paren_expr_prefix_expr_rhs_ternary_rhs.Lts-infix_chain as infix_chain_lts
-use Rattle.expr.proofs.+expr_binding_power_infix_chain_infix_turn_lhs_missing_lhs_no_lhs_paren_expr_prefix_expr_rhs_ternary_rhs.Lts-infix_turn as infix_turn_lts
-use Rattle.expr.proofs.+expr_binding_power_infix_chain_infix_turn_lhs_missing_lhs_no_lhs_paren_expr_prefix_expr_rhs_ternary_rhs.Lts-lhs as lhs_lts
-use Rattle.expr.proofs.+expr_binding_power_infix_chain_infix_turn_lhs_missing_lhs_no_lhs_paren_expr_prefix_expr_rhs_ternary_rhs.Lts-missing_lhs as missing_lhs_lts
-use Rattle.expr.proofs.+expr_binding_power_infix_chain_infix_turn_lhs_missing_lhs_no_lhs_paren_expr_prefix_expr_rhs_ternary_rhs.Lts-no_lhs as no_lhs_lts
-use Rattle.expr.proofs.+expr_binding_power_infix_chain_infix_turn_lhs_missing_lhs_no_lhs_paren_expr_prefix_expr_rhs_ternary_rhs.Lts-paren_expr as paren_expr_lts
-use Rattle.expr.proofs.+expr_binding_power_infix_chain_infix_turn_lhs_missing_lhs_no_lhs_paren_expr_prefix_expr_rhs_ternary_rhs.Lts-prefix_expr as prefix_expr_lts
-use Rattle.expr.proofs.+expr_binding_power_infix_chain_infix_turn_lhs_missing_lhs_no_lhs_paren_expr_prefix_expr_rhs_ternary_rhs.Lts-rhs as rhs_lts
-use Rattle.expr.proofs.+expr_binding_power_infix_chain_infix_turn_lhs_missing_lhs_no_lhs_paren_expr_prefix_expr_rhs_ternary_rhs.Lts-ternary_rhs as ternary_rhs_lts
-use Rattle.expr.proofs.+expr_binding_power_infix_chain_infix_turn_lhs_missing_lhs_no_lhs_paren_expr_prefix_expr_rhs_ternary_rhs.{statement}
-use Rattle.expr.proofs.+expr_binding_power_infix_chain_infix_turn_lhs_missing_lhs_no_lhs_paren_expr_prefix_expr_rhs_ternary_rhs.Tie.{close}
-use Rattle.expr.proofs.+expr_binding_power_infix_chain_infix_turn_lhs_missing_lhs_no_lhs_paren_expr_prefix_expr_rhs_ternary_rhs.Proof.Measures.{μ_expr_binding_power, μ_infix_chain, μ_infix_turn, μ_lhs, μ_missing_lhs, μ_no_lhs, μ_paren_expr, μ_prefix_expr, μ_rhs, μ_ternary_rhs, expr_binding_power_at, infix_chain_at, infix_turn_at, lhs_at, missing_lhs_at, no_lhs_at, paren_expr_at, prefix_expr_at, rhs_at, ternary_rhs_at, expr_binding_power_claims, infix_chain_claims, infix_turn_claims, lhs_claims, missing_lhs_claims, no_lhs_claims, paren_expr_claims, prefix_expr_claims, rhs_claims, ternary_rhs_claims}
-use Rattle.expr.proofs.+expr_binding_power_infix_chain_infix_turn_lhs_missing_lhs_no_lhs_paren_expr_prefix_expr_rhs_ternary_rhs.Proof.ExprBindingPower as ExprBindingPower
-use Rattle.expr.proofs.+expr_binding_power_infix_chain_infix_turn_lhs_missing_lhs_no_lhs_paren_expr_prefix_expr_rhs_ternary_rhs.Proof.InfixChain as InfixChain
-use Rattle.expr.proofs.+expr_binding_power_infix_chain_infix_turn_lhs_missing_lhs_no_lhs_paren_expr_prefix_expr_rhs_ternary_rhs.Proof.InfixTurn as InfixTurn
-use Rattle.expr.proofs.+expr_binding_power_infix_chain_infix_turn_lhs_missing_lhs_no_lhs_paren_expr_prefix_expr_rhs_ternary_rhs.Proof.Lhs as Lhs
-use Rattle.expr.proofs.+expr_binding_power_infix_chain_infix_turn_lhs_missing_lhs_no_lhs_paren_expr_prefix_expr_rhs_ternary_rhs.Proof.MissingLhs as MissingLhs
-use Rattle.expr.proofs.+expr_binding_power_infix_chain_infix_turn_lhs_missing_lhs_no_lhs_paren_expr_prefix_expr_rhs_ternary_rhs.Proof.NoLhs as NoLhs
-use Rattle.expr.proofs.+expr_binding_power_infix_chain_infix_turn_lhs_missing_lhs_no_lhs_paren_expr_prefix_expr_rhs_ternary_rhs.Proof.ParenExpr as ParenExpr
-use Rattle.expr.proofs.+expr_binding_power_infix_chain_infix_turn_lhs_missing_lhs_no_lhs_paren_expr_prefix_expr_rhs_ternary_rhs.Proof.PrefixExpr as PrefixExpr
-use Rattle.expr.proofs.+expr_binding_power_infix_chain_infix_turn_lhs_missing_lhs_no_lhs_paren_expr_prefix_expr_rhs_ternary_rhs.Proof.Rhs as Rhs
-use Rattle.expr.proofs.+expr_binding_power_infix_chain_infix_turn_lhs_missing_lhs_no_lhs_paren_expr_prefix_expr_rhs_ternary_rhs.Proof.TernaryRhs as TernaryRhs
+use Rattle.expr.proofs.+expression.Lts-expr_binding_power as expr_binding_power_lts
+use Rattle.expr.proofs.+expression.Lts-infix_chain as infix_chain_lts
+use Rattle.expr.proofs.+expression.Lts-infix_turn as infix_turn_lts
+use Rattle.expr.proofs.+expression.Lts-lhs as lhs_lts
+use Rattle.expr.proofs.+expression.Lts-missing_lhs as missing_lhs_lts
+use Rattle.expr.proofs.+expression.Lts-no_lhs as no_lhs_lts
+use Rattle.expr.proofs.+expression.Lts-paren_expr as paren_expr_lts
+use Rattle.expr.proofs.+expression.Lts-prefix_expr as prefix_expr_lts
+use Rattle.expr.proofs.+expression.Lts-rhs as rhs_lts
+use Rattle.expr.proofs.+expression.Lts-ternary_rhs as ternary_rhs_lts
+use Rattle.expr.proofs.+expression.{statement}
+use Rattle.expr.proofs.+expression.Tie.{close}
+use Rattle.expr.proofs.+expression.Proof.Measures.{μ_expr_binding_power, μ_infix_chain, μ_infix_turn, μ_lhs, μ_missing_lhs, μ_no_lhs, μ_paren_expr, μ_prefix_expr, μ_rhs, μ_ternary_rhs, expr_binding_power_at, infix_chain_at, infix_turn_at, lhs_at, missing_lhs_at, no_lhs_at, paren_expr_at, prefix_expr_at, rhs_at, ternary_rhs_at, expr_binding_power_claims, infix_chain_claims, infix_turn_claims, lhs_claims, missing_lhs_claims, no_lhs_claims, paren_expr_claims, prefix_expr_claims, rhs_claims, ternary_rhs_claims}
+use Rattle.expr.proofs.+expression.Proof.ExprBindingPower as ExprBindingPower
+use Rattle.expr.proofs.+expression.Proof.InfixChain as InfixChain
+use Rattle.expr.proofs.+expression.Proof.InfixTurn as InfixTurn
+use Rattle.expr.proofs.+expression.Proof.Lhs as Lhs
+use Rattle.expr.proofs.+expression.Proof.MissingLhs as MissingLhs
+use Rattle.expr.proofs.+expression.Proof.NoLhs as NoLhs
+use Rattle.expr.proofs.+expression.Proof.ParenExpr as ParenExpr
+use Rattle.expr.proofs.+expression.Proof.PrefixExpr as PrefixExpr
+use Rattle.expr.proofs.+expression.Proof.Rhs as Rhs
+use Rattle.expr.proofs.+expression.Proof.TernaryRhs as TernaryRhs
 mod Measures
 mod ExprBindingPower
 mod InfixChain
@@ -44,8 +44,8 @@ mod PrefixExpr
 mod Rhs
 mod TernaryRhs
 
-pub +expr_binding_power_infix_chain_infix_turn_lhs_missing_lhs_no_lhs_paren_expr_prefix_expr_rhs_ternary_rhs_spec : {M : Type 1} → statement M
-+expr_binding_power_infix_chain_infix_turn_lhs_missing_lhs_no_lhs_paren_expr_prefix_expr_rhs_ternary_rhs_spec =
+pub +expression_spec : {M : Type 1} → statement M
++expression_spec =
     close
     μ_expr_binding_power
     μ_infix_chain

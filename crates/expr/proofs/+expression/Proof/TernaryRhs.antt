@@ -7,8 +7,8 @@ use Rattle.definitions.specs.Token.{tokens_of}
 use Rattle.machine.specs.Walk.{walk_rule, unlabelled}
 use Rattle.machine.proofs.Way.{c_walk, c_ret, c_yes, c_no, c_call, c_fn, way}
 use Rattle.expr.proofs.ternary_rhs.Reads as reads
-use Rattle.expr.proofs.+expr_binding_power_infix_chain_infix_turn_lhs_missing_lhs_no_lhs_paren_expr_prefix_expr_rhs_ternary_rhs.Lts-ternary_rhs as lts
-use Rattle.expr.proofs.+expr_binding_power_infix_chain_infix_turn_lhs_missing_lhs_no_lhs_paren_expr_prefix_expr_rhs_ternary_rhs.Proof.Measures.{ternary_rhs_at, ternary_rhs_claims}
+use Rattle.expr.proofs.+expression.Lts-ternary_rhs as lts
+use Rattle.expr.proofs.+expression.Proof.Measures.{ternary_rhs_at, ternary_rhs_claims}
 
 pub expr-binding-power-requires : (t : ℕ) → lts.Need-expr-binding-power-requires (ternary_rhs_claims t) (ternary_rhs_at t) reads.Post
 expr-binding-power-requires t c κs =

@@ -7,8 +7,8 @@ use Rattle.definitions.specs.Grammar.{lhs as lhs_prog}
 use Rattle.machine.specs.Walk.{walk_rule, unlabelled}
 use Rattle.machine.proofs.Way.{c_walk, c_ret, c_seq, c_yes, c_no, c_fn, way}
 use Rattle.expr.proofs.lhs.Reads as reads
-use Rattle.expr.proofs.+expr_binding_power_infix_chain_infix_turn_lhs_missing_lhs_no_lhs_paren_expr_prefix_expr_rhs_ternary_rhs.Lts-lhs as lts
-use Rattle.expr.proofs.+expr_binding_power_infix_chain_infix_turn_lhs_missing_lhs_no_lhs_paren_expr_prefix_expr_rhs_ternary_rhs.Proof.Measures.{lhs_at, lhs_claims}
+use Rattle.expr.proofs.+expression.Lts-lhs as lts
+use Rattle.expr.proofs.+expression.Proof.Measures.{lhs_at, lhs_claims}
 
 pub at-prefix-op-requires : (t : ℕ) → lts.Need-at-prefix-op-requires (lhs_claims t) (lhs_at t) reads.Post
 at-prefix-op-requires t c κs = tt

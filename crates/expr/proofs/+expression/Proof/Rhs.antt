@@ -4,8 +4,8 @@ use native.Mathlib.Omega.{arith}
 use Rattle.definitions.specs.Grammar.{rhs as rhs_prog}
 use Rattle.machine.proofs.Way.{c_again, c_call, way}
 use Rattle.expr.proofs.rhs.Reads as reads
-use Rattle.expr.proofs.+expr_binding_power_infix_chain_infix_turn_lhs_missing_lhs_no_lhs_paren_expr_prefix_expr_rhs_ternary_rhs.Lts-rhs as lts
-use Rattle.expr.proofs.+expr_binding_power_infix_chain_infix_turn_lhs_missing_lhs_no_lhs_paren_expr_prefix_expr_rhs_ternary_rhs.Proof.Measures.{rhs_at, rhs_claims}
+use Rattle.expr.proofs.+expression.Lts-rhs as lts
+use Rattle.expr.proofs.+expression.Proof.Measures.{rhs_at, rhs_claims}
 
 pub expr-binding-power-requires : (t : ℕ) → lts.Need-expr-binding-power-requires (rhs_claims t) (rhs_at t) reads.Post
 expr-binding-power-requires t c κs =

@@ -7,8 +7,8 @@ use Rattle.machine.specs.Walk.{walk_rule, unlabelled}
 use Rattle.machine.proofs.Way.{c_walk, c_act, c_ret, c_seq, c_yes, c_no, c_fn, way}
 use Rattle.expr.proofs.Levels.{at_binary}
 use Rattle.expr.proofs.no_lhs.Reads as reads
-use Rattle.expr.proofs.+expr_binding_power_infix_chain_infix_turn_lhs_missing_lhs_no_lhs_paren_expr_prefix_expr_rhs_ternary_rhs.Lts-no_lhs as lts
-use Rattle.expr.proofs.+expr_binding_power_infix_chain_infix_turn_lhs_missing_lhs_no_lhs_paren_expr_prefix_expr_rhs_ternary_rhs.Proof.Measures.{no_lhs_at, no_lhs_claims}
+use Rattle.expr.proofs.+expression.Lts-no_lhs as lts
+use Rattle.expr.proofs.+expression.Proof.Measures.{no_lhs_at, no_lhs_claims}
 
 pub infix-op-at-requires : (t : ℕ) → lts.Need-infix-op-at-requires (no_lhs_claims t) (no_lhs_at t) reads.Post
 infix-op-at-requires t c κs = tt
